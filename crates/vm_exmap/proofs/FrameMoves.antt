@@ -1,10 +1,9 @@
 -- What steps leave of a view that move free frames alone: of one step, of several in a row, and that the pass may step on.
-use Rattle.vm_rule.specs.declared.view.Place.TheVariants as places
 use Rattle.vm_exmap.proofs.Prelude.{[], alone-silent, alone-then, ap, append-none, append_assoc, Bool, Brings, bundles_of, contents_at, Did, Each, each-both}
 use Rattle.vm_exmap.proofs.Prelude.{each-map, else-knows, else-then, has, HoldsPage, inr, IsAlone, IsAsideOf, IsBundleOf, IsLocking, IsReady, IsSamePass}
-use Rattle.vm_exmap.proofs.Prelude.{KnowsAsBefore, KnowsElse, last_in, List, MovesFrames, no_seat, None, Origin, Pass, Put, put_at, ReadsAsBefore, ready-on}
-use Rattle.vm_exmap.proofs.Prelude.{refl, Release, rules, runs-one, runs-then, RunsAlone, Seat, seat_of, Shape, starts-then, StartsWith, still-alone, subst}
-use Rattle.vm_exmap.proofs.Prelude.{sym, TableId, Tie, true, View, view, Within, ℕ, ◌++◌, ◌<◌, ◌∙◌, ◌∷◌, ◌≡◌, ◌≢◌}
+use Rattle.vm_exmap.proofs.Prelude.{KnowsAsBefore, KnowsElse, last_in, List, MovesFrames, no_seat, None, Origin, Pass, Place, Put, put_at, ReadsAsBefore}
+use Rattle.vm_exmap.proofs.Prelude.{ready-on, refl, Release, rules, runs-one, runs-then, RunsAlone, Seat, seat_of, Shape, starts-then, StartsWith, still-alone}
+use Rattle.vm_exmap.proofs.Prelude.{subst, sym, TableId, Tie, true, View, view, Within, ℕ, ◌++◌, ◌<◌, ◌∙◌, ◌∷◌, ◌≡◌, ◌≢◌}
 
 module _ {X : Type 0} where
   -- no step at all
@@ -12,7 +11,7 @@ module _ {X : Type 0} where
   moved-nothing v = search (rules, append-none)
 
   -- one step that changes the free frames and what is known of their words
-  pub moved-by : (did : Did) (g : ℕ) (frames : List ℕ) (contents : List (Put (List ℕ))) (v w : View X) → did.at ≡ places.Bundle g → g < bundles_of v.start.frames → Brings did [] [] v (record v { frames = frames; contents = contents }) w
+  pub moved-by : (did : Did) (g : ℕ) (frames : List ℕ) (contents : List (Put (List ℕ))) (v w : View X) → did.at ≡ Place.Bundle g → g < bundles_of v.start.frames → Brings did [] [] v (record v { frames = frames; contents = contents }) w
       → ((f : ℕ) → has f v.frames ≡ true → has f frames ≡ true → put_at [] contents f ≡ contents_at v f) → MovesFrames (did ∷ []) v w
   moved-by did g frames contents v w at inside b same =
       let seen : StartsWith w.seen v.seen = (b.others ++ [], ap (λ (x : View X). x.seen) b.view ∙ append_assoc v.seen b.others []) in
@@ -41,7 +40,7 @@ module _ {X : Type 0} where
       search (rules, append_assoc u.log a b, seen, releases, alone-then u v w f.parts f.alone g.alone, runs, steps, last, contents, table)
 
   -- none of the steps is on a page's state word
-  pub leaves-states : (done : List Did) (v w : View X) → MovesFrames done v w → Each (λ (d : Did). (p : ℕ) → d.at ≢ places.State p) done
+  pub leaves-states : (done : List Did) (v w : View X) → MovesFrames done v w → Each (λ (d : Did). (p : ℕ) → d.at ≢ Place.State p) done
   leaves-states done v w f = each-map _ _ (λ (d : Did) h. λ p e. subst (IsBundleOf v.start) e h) done f.steps
 
   -- such steps are aside of all pages: no read of theirs is another either

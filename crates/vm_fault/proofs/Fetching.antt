@@ -1,6 +1,5 @@
 -- The page was found evicted and locked, and its block was read: it is installed with the block's words and released, or released as evicted.
 use Rattle.vm_core.specs.Fn as fns
-use Rattle.vm_rule.specs.declared.view.Place.TheVariants as places
 use Rattle.vm_fault.proofs.Ending.{both-within, brought-at, brought-once, EndsAs, evicted-ends, failed-at, failed-once, IsHeldEmpty, page-within}
 use Rattle.vm_fault.proofs.Ending.{still-draft, still-free, still-last, still-owns, still-paid, unlocked-ends}
 use Rattle.vm_step.specs.steps.Owner.{OwnerTold}
@@ -116,21 +115,11 @@ module _ {X : Type 0} (p version : ℕ) (words : List ℕ) (before : List Did) (
             let unchanged = still-draft p version words before worked-did v x i h work-installed ∙ ap (λ (y : Version). y.words) (sym last) in
             let member : IsMember i p = record { page = subst (λ (y : Origin). p < y.pages) (sym work-installed.leaves.start) inside; owns = owns; free = still-free p version words before worked-did v x i h work-installed; claimed = λ tells. inl unchanged } in
             let first : IsFirst may_release p [] None i = record { members = (member, tt); apart = (refl, tt); few = omega arith; owner = λ tells. inl (refl, (unchanged, still-paid p version words before worked-did v x i h work-installed, tt)) } in
-            search (
-              rules,
-              ap,
-              owns,
-              subst (λ (y : Held). IsSome y.mapping) (sym held-installed) refl,
-              held-installed,
-              subst (λ (y : Held). y.fault ≡ y.block.count) (sym held-installed) (h.told ∙ sym o.slot.block.count ∙ sym (count-same u ok)),
-              not-out i out-installed,
-              ap (λ (y : Version). y.version) (sym last),
-              first,
-            )
+            search (rules, ap, owns, subst (λ (y : Held). IsSome y.mapping) (sym held-installed) refl, held-installed, subst (λ (y : Held). y.fault ≡ y.block.count) (sym held-installed) (h.told ∙ sym o.slot.block.count ∙ sym (count-same u ok)), not-out i out-installed, ap (λ (y : Version). y.version) (sym last), first)
 
         module _ (below : version < MAX_VERSION) (none : x.out ≡ None) (w : View X) (r : ReleaseTold p version [] None i w) (inside : p < x.start.pages) (frame : f < x.start.frames) where
           abbrev end-did : Did
-          end-did = did_store (places.State p) (version + 1)
+          end-did = did_store (Place.State p) (version + 1)
 
           ends : EndsAs p version words before worked-did v x i h work-installed UNLOCKED ((before ++ worked-did) ++ end-did ∷ []) w
           ends = unlocked-ends p version words before worked-did v x i h work-installed below w r
@@ -143,31 +132,19 @@ module _ {X : Type 0} (p version : ℕ) (words : List ℕ) (before : List Did) (
               let did : List Did = (before ++ worked-did) ++ end-did ∷ [] in
               let trans : ℕ = trans_word (Some (clean_in f)) in
               let inside-v = both-within v.start p f (subst (λ (y : Origin). p < y.pages) h.leaves.start inside) (subst (λ (y : Origin). f < y.frames) h.leaves.start frame) in
-              let put : HasWritten worked-did (places.Translation p) trans = record { earlier = filled-did; step = did_store (places.Translation p) trans; later = did_store (places.Owner f) (p + 1) ∷ []; cut = refl; place = refl; wrote = refl } in
-              let owner : HasWritten worked-did (places.Owner f) (p + 1) = record { earlier = filled-did ++ did_store (places.Translation p) trans ∷ []; step = did_store (places.Owner f) (p + 1); later = []; cut = sym (append_assoc filled-did (did_store (places.Translation p) trans ∷ []) (did_store (places.Owner f) (p + 1) ∷ [])); place = refl; wrote = refl } in
+              let put : HasWritten worked-did (Place.Translation p) trans = record { earlier = filled-did; step = did_store (Place.Translation p) trans; later = did_store (Place.Owner f) (p + 1) ∷ []; cut = refl; place = refl; wrote = refl } in
+              let owner : HasWritten worked-did (Place.Owner f) (p + 1) = record { earlier = filled-did ++ did_store (Place.Translation p) trans ∷ []; step = did_store (Place.Owner f) (p + 1); later = []; cut = sym (append_assoc filled-did (did_store (Place.Translation p) trans ∷ []) (did_store (Place.Owner f) (p + 1) ∷ [])); place = refl; wrote = refl } in
               let within : (at : Place) (n : ℕ) → HasWritten worked-did at n → HasWritten did at n = λ at n w. written-front (before ++ worked-did) (end-did ∷ []) at n (written-behind before worked-did at n w) in
               let stored = λ (tells : v.start.tells ≡ true) (k : ℕ) (l : k < 64).
               let told : x.start.tells ≡ true = ap (λ (y : Origin). y.tells) h.leaves.start ∙ tells in
-              subst (λ (ws : List ℕ). HasWritten did (places.Content f k) (slice_index ws k)) (given u ok told ∙ had-words told)
-              (within (places.Content f k) (slice_index page k)
-              (written-front filled-did (settle-did t named) (places.Content f k) (slice_index page k)
-              (written-behind called-did (stores-did f 0 page) (places.Content f k) (slice_index page k) (all-stored f page k (long u ok) l)))) in
+              subst (λ (ws : List ℕ). HasWritten did (Place.Content f k) (slice_index ws k)) (given u ok told ∙ had-words told)
+              (within (Place.Content f k) (slice_index page k)
+              (written-front filled-did (settle-did t named) (Place.Content f k) (slice_index page k)
+              (written-behind called-did (stores-did f 0 page) (Place.Content f k) (slice_index page k) (all-stored f page k (long u ok) l)))) in
               let frames = ap (λ (y : View X). y.frames) r.brings.view ∙ settle-frames t named ∙ ap (without f) (filled-as.frames ∙ moved.keeps.frames ∙ h.keeps.frames) in
               let notes = ap (λ (y : View X). y.notes) r.brings.view ∙ settle-notes t named ∙ filled-as.notes ∙ moved.keeps.notes ∙ h.keeps.notes in
-              search (
-                rules,
-                ends.aside (out-installed ∙ sym none ∙ h.out),
-                ends.released,
-                steps-are,
-                brought-once p before h.steps o.first o.second m.first m.second f trans (p + 1) (version + 1) page (long u ok),
-                ends.runs,
-                ends.knows (IsOfBoth p f) inside-v steps-are,
-                within (places.Translation p) trans put,
-                within (places.Owner f) (p + 1) owner,
-                stored,
-                frames,
-                notes,
-              )
+              let once = brought-once p before h.steps o.first o.second m.first m.second f trans (p + 1) (version + 1) page (long u ok) in
+              search (rules, ends.aside (out-installed ∙ sym none ∙ h.out), ends.released, steps-are, once, ends.runs, ends.knows (IsOfBoth p f) inside-v steps-are, within (Place.Translation p) trans put, within (Place.Owner f) (p + 1) owner, stored, frames, notes)
 
     -- ---- the read failed
 
@@ -179,7 +156,7 @@ module _ {X : Type 0} (p version : ℕ) (words : List ℕ) (before : List Did) (
 
     module _ (n : ℕ) (is : n ≡ new.count) (y : View X) (t : RaiseTold p n d y) where
       abbrev raise-did : Did
-      raise-did = did_store (places.Fault p) n
+      raise-did = did_store (Place.Fault p) n
 
       abbrev raised-did : List Did
       raised-did = called-did ++ raise-did ∷ []
@@ -200,7 +177,7 @@ module _ {X : Type 0} (p version : ℕ) (words : List ℕ) (before : List Did) (
 
       module _ (u : E) (err : result ≡ Err u) (bounded : new.count ≤ new.bound) (below : version < MAX_VERSION) (none : x.out ≡ None) (w : View X) (r : EvictTold p version y w) (inside : p < x.start.pages) where
         abbrev evict-did : Did
-        evict-did = did_store (places.State p) (word_of EVICTED (version + 1))
+        evict-did = did_store (Place.State p) (word_of EVICTED (version + 1))
 
         count : new.count ≡ count_more old.count
         count = read.count ∙ ap (λ (z : Result (Unit {0}) E). if is_ok z then old.count else count_more old.count) err
@@ -229,8 +206,8 @@ module _ {X : Type 0} (p version : ℕ) (words : List ℕ) (before : List Did) (
         pub failed : IsFailed p n v w
         failed =
             let inside-v = page-within v.start p (subst (λ (y : Origin). p < y.pages) h.leaves.start inside) in
-            let written : HasWritten raised-did (places.Fault p) n = record { earlier = called-did; step = raise-did; later = []; cut = refl; place = refl; wrote = refl } in
-            let raised = written-front (before ++ raised-did) (evict-did ∷ []) (places.Fault p) n (written-behind before raised-did (places.Fault p) n written) in
+            let written : HasWritten raised-did (Place.Fault p) n = record { earlier = called-did; step = raise-did; later = []; cut = refl; place = refl; wrote = refl } in
+            let raised = written-front (before ++ raised-did) (evict-did ∷ []) (Place.Fault p) n (written-behind before raised-did (Place.Fault p) n written) in
             let noted =
             ap (λ (z : View X). z.notes) r.brings.view
             ∙ ap (λ (z : View X). z.notes) t.brings.view

@@ -12,7 +12,7 @@ pub use Rattle.vm_rule.specs.Prelude.{MayPutInto, no_held, notes_of, out_at, Out
 pub use Rattle.vm_rule.specs.Prelude.{without}
 pub use Rattle.vm_rule.proofs.{Entries.each-map, Heard.each-both}
 pub use Rattle.vm_rule.proofs.WordFacts.{version-within, word-made, word-state, word-version}
-pub use Rattle.vm_step.specs.Evidence.{EvictedExpected}
+pub use Rattle.vm_step.specs.{declared.saw.At.At, Evidence.EvictedExpected}
 pub use Rattle.vm_step.specs.Prelude.{Did, HasGiven, HasWritten, IsAlone, IsAside, IsFirst, IsMember, IsNotOut, IsOfPage, KeepsFrames, known_word_at, KnowsElse}
 pub use Rattle.vm_step.specs.Prelude.{LeavesRest, MayEvict, MayGiveUp, MayRaise, MayTakeOut, Origin, Release, RunsAlone, StaysAlone, StaysHome, Stores, view}
 pub use Rattle.vm_step.specs.Prelude.{View, Works}

@@ -1,5 +1,4 @@
 -- What steps leave that work on some pages alone, that this holds of several in a row, and what a pass that is alone knows of the table then.
-use Rattle.vm_rule.specs.declared.view.Place.TheVariants as places
 use Rattle.vm_guard.proofs.{Groups.has-not, Groups.same-seat, QuietSteps.alone-of}
 use Rattle.vm_guard.proofs.Prelude.{[], alone-then, ap, append_assoc, at-then, cases_Bool, claim-brings, claim-others, ClaimTold, Did, did_exchange, did_load}
 use Rattle.vm_guard.proofs.Prelude.{Each, each-both, each-map, else-knows, false, follows-length, get_or-set_same, has, index_of, inr, IsAlone, IsAmid}
@@ -14,8 +13,8 @@ other p q pages e none same = true≢false (sym e ∙ ap (λ n. has n pages) (sy
 
 -- a place that is one of these pages' is one of more pages'
 place-within : (start : Origin) (less pages : List ℕ) (at : Place) → ((q : ℕ) → has q pages ≡ false → has q less ≡ false) → IsPlaceOf start less at → IsPlaceOf start pages at
-place-within start less pages (places.State p) in-it is = (is.0, ⊎_elim (λ e. e) (λ none. absurd (true≢false (sym is.1 ∙ in-it p none))) (cases_Bool (has p pages)))
-place-within start less pages (places.Translation p) in-it is = (is.0, ⊎_elim (λ e. e) (λ none. absurd (true≢false (sym is.1 ∙ in-it p none))) (cases_Bool (has p pages)))
+place-within start less pages (Place.State p) in-it is = (is.0, ⊎_elim (λ e. e) (λ none. absurd (true≢false (sym is.1 ∙ in-it p none))) (cases_Bool (has p pages)))
+place-within start less pages (Place.Translation p) in-it is = (is.0, ⊎_elim (λ e. e) (λ none. absurd (true≢false (sym is.1 ∙ in-it p none))) (cases_Bool (has p pages)))
 place-within start less pages at in-it is = is
 
 -- a pass that was alone is so after the call
@@ -40,7 +39,7 @@ module _ {X : Type 0} (pages : List ℕ) where
       search (rules, f.seats, f.loads, in-it, knows, each-map _ _ (λ (d : Did) is. place-within v.start less pages d.at in-it is) done f.places_are, f.runs)
 
   -- a call that changes no lock, and at most the open read of one of the pages
-  pub amid-reads : (p : ℕ) (done : List Did) (v w : View X) → has p pages ≡ true → p < v.start.pages → Each (λ (d : Did). d.at ≡ places.State p) done → IsQuiet p done v w → IsAmid pages done v w
+  pub amid-reads : (p : ℕ) (done : List Did) (v w : View X) → has p pages ≡ true → p < v.start.pages → Each (λ (d : Did). d.at ≡ Place.State p) done → IsQuiet p done v w → IsAmid pages done v w
   amid-reads p done v w e l at f =
       let seats = λ (q : ℕ) (none : has q pages ≡ false). let h = f.holds q in same-seat v w q h.shares h.exclusive h.writing (f.others q (other p q pages e none)).reading in
       let loads = λ (q : ℕ) (none : has q pages ≡ false). (f.others q (other p q pages e none)).loads in
@@ -85,18 +84,18 @@ module _ {X : Type 0} (pages : List ℕ) where
 
   -- ---- each kind of step
 
-  pub nload-silent : (found : ℕ) (v w : View X) → NextTold found v w → IsSilent (did_load places.Next found ∷ []) v w
+  pub nload-silent : (found : ℕ) (v w : View X) → NextTold found v w → IsSilent (did_load Place.Next found ∷ []) v w
   nload-silent found v w t = silent-of (nload-others t (λ q. has q pages ≡ true)) (ap (λ (y : View X). y.mine) t.brings.view) (ap (λ (y : View X). y.pending) t.brings.view) (tt, tt)
 
-  pub claim-silent : (x n found : ℕ) (v w : View X) → found ≡ x → ClaimTold x n found v w → IsSilent (did_exchange places.Next x found (x + n) ∷ []) v w
+  pub claim-silent : (x n found : ℕ) (v w : View X) → found ≡ x → ClaimTold x n found v w → IsSilent (did_exchange Place.Next x found (x + n) ∷ []) v w
   claim-silent x n found v w e t =
       let view = (claim-brings x n e t).view in
       silent-of (claim-others x n e t (λ q. has q pages ≡ true)) (ap (λ (y : View X). y.mine) view) (ap (λ (y : View X). y.pending) view) (tt, tt)
 
-  pub nload-amid : (found : ℕ) (v w : View X) → NextTold found v w → IsAmid pages (did_load places.Next found ∷ []) v w
+  pub nload-amid : (found : ℕ) (v w : View X) → NextTold found v w → IsAmid pages (did_load Place.Next found ∷ []) v w
   nload-amid found v w t = (nload-silent found v w t).0
 
-  pub claim-amid : (x n found : ℕ) (v w : View X) → found ≡ x → ClaimTold x n found v w → IsAmid pages (did_exchange places.Next x found (x + n) ∷ []) v w
+  pub claim-amid : (x n found : ℕ) (v w : View X) → found ≡ x → ClaimTold x n found v w → IsAmid pages (did_exchange Place.Next x found (x + n) ∷ []) v w
   claim-amid x n found v w e t = (claim-silent x n found v w e t).0
 
 -- ---- what a pass that is alone knows
@@ -111,15 +110,15 @@ module _ {X : Type 0} where
       both (d ∷ ds) inside are = ((inside.0, inr are.0), both ds inside.1 are.1)
 
   -- the next word, where no step left another
-  pub next-known : (pages : List ℕ) (done : List Did) (v w : View X) → IsAmid pages done v w → WritesNone places.Next done → IsAlone v → known_word_at w places.Next ≡ known_word_at v places.Next
-  next-known pages done v w f none a = (knows-after done f.own v w f.start f.runs).kept a places.Next tt none
+  pub next-known : (pages : List ℕ) (done : List Did) (v w : View X) → IsAmid pages done v w → WritesNone Place.Next done → IsAlone v → known_word_at w Place.Next ≡ known_word_at v Place.Next
+  next-known pages done v w f none a = (knows-after done f.own v w f.start f.runs).kept a Place.Next tt none
 
   -- what is known of the word of a page that is none of these is known on
-  pub known-on : (pages : List ℕ) (done : List Did) (v w : View X) (q word : ℕ) → IsAmid pages done v w → IsAlone v → q < v.start.pages → has q pages ≡ false → KnowsAt (places.State q) word v → KnowsAt (places.State q) word w
-  known-on pages done v w q word f a page none k = at-then (IsPlaceOf v.start pages) (places.State q) word v w f.start (others-known pages done v w f a) page (λ t. true≢false (sym t.1 ∙ none)) k
+  pub known-on : (pages : List ℕ) (done : List Did) (v w : View X) (q word : ℕ) → IsAmid pages done v w → IsAlone v → q < v.start.pages → has q pages ≡ false → KnowsAt (Place.State q) word v → KnowsAt (Place.State q) word w
+  known-on pages done v w q word f a page none k = at-then (IsPlaceOf v.start pages) (Place.State q) word v w f.start (others-known pages done v w f a) page (λ t. true≢false (sym t.1 ∙ none)) k
 
   -- of a state word too, where the steps leave those
-  pub known-states : (pages : List ℕ) (done : List Did) (v w : View X) (p word : ℕ) → IsAmid pages done v w → KnowsStates v w → IsAlone v → p < v.start.pages → KnowsAt (places.State p) word v → KnowsAt (places.State p) word w
+  pub known-states : (pages : List ℕ) (done : List Did) (v w : View X) (p word : ℕ) → IsAmid pages done v w → KnowsStates v w → IsAlone v → p < v.start.pages → KnowsAt (Place.State p) word v → KnowsAt (Place.State p) word w
   known-states pages done v w p word f same a page k l = same a p page ∙ k (subst (λ (n : ℕ). p < n) (follows-length v.start done v.snapshot.words w.snapshot.words (f.runs.words a.0 a.1)) l)
 
   -- the word that was put at a place

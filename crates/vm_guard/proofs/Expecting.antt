@@ -1,5 +1,4 @@
 -- The word that a lock expects of a page: the word seen itself, or the unlocked one at its version. A page that is to be given may be evicted.
-use Rattle.vm_guard.specs.declared.deny.Deny.TheVariants as denies
 use Rattle.vm_guard.proofs.OpenReads.{readable-state}
 use Rattle.vm_guard.proofs.Prelude.{AgainOrWorn, ap, arith, Deny, EVICTED, inl, is_readable, IsToExpect, IsToSeize, LOCKED, MARKED, MAX_VERSION, nat_tests}
 use Rattle.vm_guard.proofs.Prelude.{NotCrowded, refl, SameOrUnlocked, state_of, subst, sym, true, UNLOCKED, UnlockedExpected, version-within, version_of}
@@ -37,6 +36,6 @@ expect-resident word expects to kept ne =
 
 -- an answer that a page is to be tried again, or is worn, is not that it is crowded
 pub not-crowded : (d : Deny) → AgainOrWorn d → NotCrowded d
-not-crowded (denies.Again saw) kind = tt
-not-crowded (denies.Worn q) kind = tt
+not-crowded (Deny.Again saw) kind = tt
+not-crowded (Deny.Worn q) kind = tt
 not-crowded d kind = absurd kind

@@ -1,10 +1,8 @@
 -- A call for fresh pages that ends without them: a page that was locked and given up again leaves nothing, and the evidence of the call is that of
 -- its steps.
-use Rattle.vm_rule.specs.declared.view.Place.TheVariants as places
 use Rattle.vm_step.specs.Evidence.{guarded}
-use Rattle.vm_step.specs.declared.saw.At.TheVariants as ats
 use Rattle.vm_guard.proofs.Amid.{amid-reads, amid-then, amid-within, nload-amid, other}
-use Rattle.vm_guard.proofs.Prelude.{[], ap, append_assoc, arith, asked, Begins, Bool, cases_eq, Did, did_load, Each, each-both, each-map, expected, false}
+use Rattle.vm_guard.proofs.Prelude.{[], ap, append_assoc, arith, asked, At, Begins, Bool, cases_eq, Did, did_load, Each, each-both, each-map, expected, false}
 use Rattle.vm_guard.proofs.Prelude.{GivesBack, has, HasGiven, Held, holds-still, holds-then, HoldsPage, inl, inr, IsAmid, IsLocking, IsNil, IsQuiet, IsSaw}
 use Rattle.vm_guard.proofs.Prelude.{IsSeized, IsWorn, keeps-then, knows-then, KnowsAsBefore, List, Mapping, ne_eqb, NextTold, nload-others, None, NoWord}
 use Rattle.vm_guard.proofs.Prelude.{Option, Origin, Place, place_at, read, refl, rules, same, Saw, Seat, seat_of, Seizes, Some, still-locking, subst, sym, true}
@@ -26,27 +24,27 @@ begins-behind instead at first seen last pre earlier since (asked word k e i x) 
 begins-behind instead at first seen last pre earlier since (same e n) = same e n
 
 -- behind steps on other places, and before any others
-pub saw-within : (p : ℕ) (saw : Saw) (pre done post : List Did) → saw.at ≡ ats.Page p → Each (λ (d : Did). d.at ≢ places.State p) pre → IsSaw NoWord UnlockedExpected done saw → IsSaw NoWord UnlockedExpected (pre ++ (done ++ post)) saw
+pub saw-within : (p : ℕ) (saw : Saw) (pre done post : List Did) → saw.at ≡ At.Page p → Each (λ (d : Did). d.at ≢ Place.State p) pre → IsSaw NoWord UnlockedExpected done saw → IsSaw NoWord UnlockedExpected (pre ++ (done ++ post)) saw
 saw-within p saw pre done post at none s =
     let foreign = each-both _ pre s.earlier (each-map _ (λ (d : Did). d.at ≡ place_at saw.at → d.wrote ≢ Some saw.seen) (λ d ne here. absurd (ne (here ∙ ap place_at at))) pre none) s.foreign in
     search (rules, between-cut pre s.earlier s.later post s.last done s.cut, begins-behind UnlockedExpected _ saw.first saw.seen s.last pre s.earlier s.since s.begins, s, foreign)
 
-pub worn-within : (p : ℕ) (pre done post : List Did) → Each (λ (d : Did). d.at ≢ places.State p) pre → IsWorn done p → IsWorn (pre ++ (done ++ post)) p
+pub worn-within : (p : ℕ) (pre done post : List Did) → Each (λ (d : Did). d.at ≢ Place.State p) pre → IsWorn done p → IsWorn (pre ++ (done ++ post)) p
 worn-within p pre done post none s =
-    let given : HasGiven (pre ++ (done ++ post)) (places.State p) s.word = record { earlier = pre ++ s.given.earlier; step = s.given.step; later = s.given.later ++ post; cut = between-cut pre s.given.earlier s.given.later post s.given.step done s.given.cut; gives = s.given.gives } in
+    let given : HasGiven (pre ++ (done ++ post)) (Place.State p) s.word = record { earlier = pre ++ s.given.earlier; step = s.given.step; later = s.given.later ++ post; cut = between-cut pre s.given.earlier s.given.later post s.given.step done s.given.cut; gives = s.given.gives } in
     record { word = s.word; given = given; load = s.load; last = s.last; foreign = each-both _ pre s.given.earlier (each-map _ _ (λ d ne here. absurd (ne here)) pre none) s.foreign }
 
 -- the steps that lock a page are on its words
-pub not-next : (p : ℕ) (d : Did) → (d.at ≡ places.State p) ⊎ (d.at ≡ places.Translation p) → d.at ≢ places.Next
-not-next p d (inl a) e = absurd (let no : places.State p ≡ places.Next = sym a ∙ e in cc)
-not-next p d (inr a) e = absurd (let no : places.Translation p ≡ places.Next = sym a ∙ e in cc)
+pub not-next : (p : ℕ) (d : Did) → (d.at ≡ Place.State p) ⊎ (d.at ≡ Place.Translation p) → d.at ≢ Place.Next
+not-next p d (inl a) e = absurd (let no : Place.State p ≡ Place.Next = sym a ∙ e in cc)
+not-next p d (inr a) e = absurd (let no : Place.Translation p ≡ Place.Next = sym a ∙ e in cc)
 
-pub not-state : (p q : ℕ) → p ≢ q → (d : Did) → (d.at ≡ places.State p) ⊎ (d.at ≡ places.Translation p) → d.at ≢ places.State q
-not-state p q ne d (inl a) e = let k : places.State p ≡ places.State q = sym a ∙ e in let same : p ≡ q = cc in ne same
-not-state p q ne d (inr a) e = absurd (let no : places.Translation p ≡ places.State q = sym a ∙ e in cc)
+pub not-state : (p q : ℕ) → p ≢ q → (d : Did) → (d.at ≡ Place.State p) ⊎ (d.at ≡ Place.Translation p) → d.at ≢ Place.State q
+not-state p q ne d (inl a) e = let k : Place.State p ≡ Place.State q = sym a ∙ e in let same : p ≡ q = cc in ne same
+not-state p q ne d (inr a) e = absurd (let no : Place.Translation p ≡ Place.State q = sym a ∙ e in cc)
 
 -- so they leave the next word
-pub unmoved-at : (p : ℕ) (ds : List Did) → Each (λ (d : Did). (d.at ≡ places.State p) ⊎ (d.at ≡ places.Translation p)) ds → Each (λ (d : Did). d.at ≡ places.Next → d.wrote ≡ None) ds
+pub unmoved-at : (p : ℕ) (ds : List Did) → Each (λ (d : Did). (d.at ≡ Place.State p) ⊎ (d.at ≡ Place.Translation p)) ds → Each (λ (d : Did). d.at ≡ Place.Next → d.wrote ≡ None) ds
 unmoved-at p ds e = each-map _ _ (λ (d : Did) is. λ next. absurd (not-next p d is next)) ds e
 
 -- ---- calls that leave nothing
@@ -55,17 +53,17 @@ module _ {X : Type 0} where
   pub nil-then : (pages : List ℕ) (a b : List Did) (u v w : View X) → IsNil pages a u v → IsNil pages b v w → IsNil pages (a ++ b) u w
   nil-then pages a b u v w f g =
       let knows = λ (q : ℕ) (l : IsLocking (seat_of u q)). knows-then u v w q (f.knows q l) (g.knows q (still-locking u v q (f.holds q) l)) in
-      search (rules, amid-then pages a b u v w f.amid g.amid, keeps-then u v w f.keeps g.keeps, (λ (q : ℕ). holds-then u v w q (f.holds q) (g.holds q)), knows, each-both (λ (d : Did). d.at ≡ places.Next → d.wrote ≡ None) a b f.unmoved g.unmoved)
+      search (rules, amid-then pages a b u v w f.amid g.amid, keeps-then u v w f.keeps g.keeps, (λ (q : ℕ). holds-then u v w q (f.holds q) (g.holds q)), knows, each-both (λ (d : Did). d.at ≡ Place.Next → d.wrote ≡ None) a b f.unmoved g.unmoved)
 
   -- a load of the next word
-  pub nload-nil : (pages : List ℕ) (found : ℕ) (v w : View X) → NextTold found v w → IsNil pages (did_load places.Next found ∷ []) v w
+  pub nload-nil : (pages : List ℕ) (found : ℕ) (v w : View X) → NextTold found v w → IsNil pages (did_load Place.Next found ∷ []) v w
   nload-nil pages found v w t =
       let f = nload-amid [] found v w t in
       let holds : (q : ℕ) → HoldsPage v w q = λ q. holds-still q (f.seats q refl) in
       search (rules, nload-amid pages found v w t, (nload-others t (λ q. ⊥)).keeps, t.brings.view, holds, (λ (q : ℕ) (l : IsLocking (seat_of v q)). f.knows q refl l))
 
   -- a page that could not be locked
-  pub denied-nil : (pages : List ℕ) (p : ℕ) (done : List Did) (v w : View X) → has p pages ≡ true → p < v.start.pages → Each (λ (d : Did). d.at ≡ places.State p) done → IsQuiet p done v w → IsNil pages done v w
+  pub denied-nil : (pages : List ℕ) (p : ℕ) (done : List Did) (v w : View X) → has p pages ≡ true → p < v.start.pages → Each (λ (d : Did). d.at ≡ Place.State p) done → IsQuiet p done v w → IsNil pages done v w
   denied-nil pages p done v w e l at f = search (rules, amid-reads pages p done v w e l at f, f, unmoved-at p done (each-map _ _ (λ (d : Did) is. inl is) done at))
 
   -- a page that was locked, and given up after steps on other pages

@@ -1,5 +1,4 @@
 -- A page that was locked is put into a frame of zeros, where it stood in none.
-use Rattle.vm_rule.specs.declared.view.Place.TheVariants as places
 use Rattle.vm_guard.proofs.{Lockings.seized-holding, OpenReads.each-parts, Seizing.self-has}
 use Rattle.vm_guard.proofs.Amid.{IsSilent, leaves-silent, none-silent, other}
 use Rattle.vm_guard.proofs.Groups.{each-with, lacks}
@@ -9,7 +8,7 @@ use Rattle.vm_step.proofs.steps.Owner.{settle-did, settle-frames, settle-held, s
 use Rattle.vm_guard.proofs.Prelude.{[], ap, append-none, AreApart, AreHeld, arith, clean_in, contents_at, Did, Each, each-both, each-map, false, false≢true}
 use Rattle.vm_guard.proofs.Prelude.{filled, fills, Fills, FillTold, Furnishes, has, has-both, has-without_other, Held, held_at, inl, InstallTold, IsHolding}
 use Rattle.vm_guard.proofs.Prelude.{IsPlaceOf, IsSeized, knows-after, KnowsStates, last_of, length, length-replicate, List, Mapping, MayPutInto, no_held, None}
-use Rattle.vm_guard.proofs.Prelude.{or_parts, Origin, put_at, refl, replicate, rules, Seat, slice_set, Some, Stores, stores-did, subst, suc, sym, true}
+use Rattle.vm_guard.proofs.Prelude.{or_parts, Origin, Place, put_at, refl, replicate, rules, Seat, slice_set, Some, Stores, stores-did, subst, suc, sym, true}
 use Rattle.vm_guard.proofs.Prelude.{upd-other, View, without, Works, works-then, ℕ, ◌++◌, ◌+◌, ◌<◌, ◌∙◌, ◌∷◌, ◌≡◌, ◌≢◌, ◌≤◌}
 
 -- a list of different numbers that ends with f: the others are different numbers, and each is another one than f
@@ -102,10 +101,10 @@ module _ {X : Type 0} where
         -- no step is at a state word
         states-w : KnowsStates v w
         states-w a q l =
-            (knows-after done [] v w work.leaves.start work.alone).kept a (places.State q) l
-            (each-both (λ (d : Did). d.at ≡ places.State q → d.wrote ≡ None) (stores-did f 0 zeros) (settle-did t named)
-            (each-map (λ (d : Did). IsPlaceOf v.start [] d.at) (λ (d : Did). d.at ≡ places.State q → d.wrote ≡ None) (λ (d : Did) is at. absurd (false≢true (subst (IsPlaceOf v.start []) at is).1)) (stores-did f 0 zeros) (stores-places v.start [] f frame-own.0 0 zeros (omega arith)))
-            ((λ e. absurd (let no : places.Translation p ≡ places.State q = e in cc)), ((λ e. absurd (let no : places.Owner f ≡ places.State q = e in cc)), tt)))
+            (knows-after done [] v w work.leaves.start work.alone).kept a (Place.State q) l
+            (each-both (λ (d : Did). d.at ≡ Place.State q → d.wrote ≡ None) (stores-did f 0 zeros) (settle-did t named)
+            (each-map (λ (d : Did). IsPlaceOf v.start [] d.at) (λ (d : Did). d.at ≡ Place.State q → d.wrote ≡ None) (λ (d : Did) is at. absurd (false≢true (subst (IsPlaceOf v.start []) at is).1)) (stores-did f 0 zeros) (stores-places v.start [] f frame-own.0 0 zeros (omega arith)))
+            ((λ e. absurd (let no : Place.Translation p ≡ Place.State q = e in cc)), ((λ e. absurd (let no : Place.Owner f ≡ Place.State q = e in cc)), tt)))
 
         pub furnish-empty : Furnishes p f version false before after v w
         furnish-empty =
@@ -114,19 +113,8 @@ module _ {X : Type 0} where
             let last-w : last_of w p ≡ last_of v p = work.last (inl s.owns) in
             let frames-w : w.frames ≡ without f v.frames = settle-frames t named ∙ ap (without f) filling.frames in
             let told = ap (λ (h : Held). h.fault) held-w ∙ s.told ∙ ap (λ (h : Held). h.block.count) (sym held-w) in
-            let holding : IsHolding p f version false w = search (
-              rules,
-              ap,
-              subst (λ (o : Origin). p < o.pages) (sym work.leaves.start) s.page,
-              subst (λ (o : Origin). f < o.frames) (sym work.leaves.start) frame-own.0,
-              s.below,
-              ap (λ (k : Seat). k.exclusive) work.seat ∙ s.owns,
-              held-w,
-              told,
-              last-w,
-              ap (λ (l : List ℕ). length l) work.draft ∙ ap length s.draft ∙ s.size,
-              ap (has p) work.leaves.group.0 ∙ s.free,
-            ) in
+            let size = ap (λ (l : List ℕ). length l) work.draft ∙ ap length s.draft ∙ s.size in
+            let holding : IsHolding p f version false w = search (rules, ap, subst (λ (o : Origin). p < o.pages) (sym work.leaves.start) s.page, subst (λ (o : Origin). f < o.frames) (sym work.leaves.start) frame-own.0, s.below, ap (λ (k : Seat). k.exclusive) work.seat ∙ s.owns, held-w, told, last-w, size, ap (has p) work.leaves.group.0 ∙ s.free) in
             record {
               done = done;
               amid = steps.0;

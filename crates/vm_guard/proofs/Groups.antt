@@ -135,12 +135,9 @@ module _ {X : Type 0} where
   same-seat v w q shares exclusive writing reading i = record { shares = shares i; exclusive = exclusive i; writing = writing i; reading = reading i }
 
   pub given-up : (gs : List ExclusiveGuard) (v w : View X) → AreApart (pids_of gs) → Each (λ (g : ExclusiveGuard). has g.pid v.pending ≡ true) gs → AreGivenUp gs v w → IsRest gs v w
-  given-up [] v w apart due same = subst (IsRest [] v) same (record {
-    all = record { steps = others-none v; seats = λ k e. absurd (false≢true e); loads = λ k. refl };
-    mine = refl;
-    group = (refl, refl, refl);
-    current = λ e. e;
-  })
+  given-up [] v w apart due same =
+      let all : AreAllGiven [] v v = record { steps = others-none v; seats = λ k e. absurd (false≢true e); loads = λ k. refl } in
+      subst (IsRest [] v) same (search (rules, all))
   given-up (g ∷ gs) v w apart due k =
       let p : ℕ = g.pid in
       let u : View X = k.0 in
@@ -148,16 +145,10 @@ module _ {X : Type 0} where
       let pending : u.pending ≡ without p v.pending = ap (λ (y : View X). y.pending) t.brings.view ∙ cond-true (has p v.pending) (without p v.pending) v.pending due.0 in
       let rest : IsRest gs u w = given-up gs u w apart.1
       (each-map _ _ (λ (h : ExclusiveGuard) m. ap (has h.pid) pending ∙ has-without_other p h.pid v.pending m.0.0 ∙ m.1) gs (each-with _ _ gs (among p gs apart.0) due.1)) k.2 in
-      record {
-        all = all-then g gs [] None v u w t apart.0 rest.all;
-        mine = rest.mine ∙ ap (λ (y : View X). y.mine) t.brings.view ∙ append-none v.mine;
-        group = (
-          rest.group.0 ∙ ap (without_all (pids_of gs)) pending,
-          rest.group.1 ∙ ap (λ (y : View X). without_all (pids_of gs) y.owed) t.brings.view,
-          rest.group.2 ∙ ap (λ (y : View X). next_after_all (pids_of gs) y.next) t.brings.view,
-        );
-        current = λ _. rest.current (ap (λ (y : View X). y.current) t.brings.view);
-      }
+      let mine = rest.mine ∙ ap (λ (y : View X). y.mine) t.brings.view ∙ append-none v.mine in
+      let owed = rest.group.1 ∙ ap (λ (y : View X). without_all (pids_of gs) y.owed) t.brings.view in
+      let next = rest.group.2 ∙ ap (λ (y : View X). next_after_all (pids_of gs) y.next) t.brings.view in
+      search (rules, all-then g gs [] None v u w t apart.0 rest.all, mine, rest.group.0 ∙ ap (without_all (pids_of gs)) pending, owed, next)
 
   -- ---- each release of a group may be made
 

@@ -1,6 +1,5 @@
 -- What the calls on a page that is locked already leave of the view: a word read, a word set, a share given up, a release, and one to a share.
 use Rattle.std.proofs.Common.{get_or-set_other, get_or-set_same, length-set}
-use Rattle.vm_rule.specs.declared.view.Place.TheVariants as places
 use Rattle.vm_guard.proofs.Prelude.{[], alone-self, alone-then, ap, arith, Bool, Change, cond-false, Did, did_store, dirty-held, dirty-others, dirty-works}
 use Rattle.vm_guard.proofs.Prelude.{dirty_in, dirty_steps, DirtyTold, downgrade-last, downgrade-others, downgrade-seat, DowngradeTold, draft_of, Drafts}
 use Rattle.vm_guard.proofs.Prelude.{entries_of, Entry, false, has, HasShape, HasWritten, Held, held_at, holds-still, holds-then, HoldsPage, index_of, inl, inr}
@@ -79,7 +78,7 @@ module _ {X : Type 0} where
   dirties p f version dirty v w h e t =
       let k = dirty-works t in
       let others = dirty-others t (λ q. q ≡ p) refl in
-      let states : KnowsStates v w = λ a q l. stored-else (places.Translation p) (trans_word (Some (dirty_in f))) q v w k.alone a (λ (e : q ≡ v.start.pages + p). omega (arith, l, e)) in
+      let states : KnowsStates v w = λ a q l. stored-else (Place.Translation p) (trans_word (Some (dirty_in f))) q v w k.alone a (λ (e : q ≡ v.start.pages + p). omega (arith, l, e)) in
       let holds : HoldsPage v w p = holds-still p k.seat in
       search (rules, ap, sym (ap (dirty_steps p f) e), elsewhere-of others, k, alone-of others, holds, dirty-held t, k.last (inl h.owns), states)
 
@@ -91,26 +90,17 @@ module _ {X : Type 0} where
   sets p f version dirty i x v u w before d stores =
       let h : IsHolding p f version true u = holds-dirty p f version dirty v u before d in
       let t : StoreTold p f i x u w = stores.page p (drafts-of p f version u h) in
-      let did : Did = did_store (places.Content f i) x in
+      let did : Did = did_store (Place.Content f i) x in
       let k = store-others t (λ q. q ≡ p) refl in
       let own : LeavesOwn v w = own-then (record { mine = d.mine; group = d.group }) (store-own t) in
       let states : KnowsStates v w = λ a q l.
       let below : q < u.start.pages = subst (λ (o : Origin). q < o.pages) (sym d.elsewhere.steady.start) l in
-      stored-else (places.Content f i) x q u w k.runs (still-alone v u d.elsewhere.steady.parts d.alone.current a) (λ (e : q ≡ 3 * u.start.pages + (64 * f + i)). omega (arith, below, e))
+      stored-else (Place.Content f i) x q u w k.runs (still-alone v u d.elsewhere.steady.parts d.alone.current a) (λ (e : q ≡ 3 * u.start.pages + (64 * f + i)). omega (arith, below, e))
       ∙ d.states a q l in
-      search (
-        rules,
-        ap (λ (l : List Did). l ++ did ∷ []) d.steps,
-        elsewhere-then p d.done (did ∷ []) v u w d.elsewhere (elsewhere-of k),
-        own,
-        alone-then v u w d.elsewhere.steady.parts d.alone (alone-of k),
-        holds-then v u w p d.holds (holds-still p (store-seat t p)),
-        reads-then v u w p d.reads (record { reading = ap (λ s. s.reading) (store-seat t p); loads = store-loads t p }),
-        store-held t p,
-        store-last t p (inl h.owns),
-        store-draft t ∙ ap (λ (l : List ℕ). slice_set l i x) d.draft,
-        states,
-      )
+      let elsewhere = elsewhere-then p d.done (did ∷ []) v u w d.elsewhere (elsewhere-of k) in
+      let holds = holds-then v u w p d.holds (holds-still p (store-seat t p)) in
+      let reads = reads-then v u w p d.reads (record { reading = ap (λ s. s.reading) (store-seat t p); loads = store-loads t p }) in
+      search (rules, ap (λ (l : List Did). l ++ did ∷ []) d.steps, elsewhere, own, alone-then v u w d.elsewhere.steady.parts d.alone (alone-of k), holds, reads, store-held t p, store-last t p (inl h.owns), store-draft t ∙ ap (λ (l : List ℕ). slice_set l i x) d.draft, states)
 
   pub still-holding : (p f version : ℕ) (dirty : Bool) (i x : ℕ) (v w : View X) → IsHolding p f version dirty v → IsSet p f dirty i x v w → IsHolding p f version true w
   still-holding p f version dirty i x v w h s =
@@ -137,7 +127,7 @@ module _ {X : Type 0} where
       ap (λ (o : Origin). (last_in o w.releases q).words) e.start
       ∙ ap (λ (rs : List Release). (last_in v.start rs q).words) (e.runs.releases all k)
       ∙ ap (λ (x : Version). x.words) (releases-else v.start v.releases (release-own t ∷ []) q (ne, tt)) in
-      let wrote : HasWritten (did_store (places.State p) (version + 1) ∷ []) (places.State p) (version + 1) = record { earlier = []; step = did_store (places.State p) (version + 1); later = []; cut = refl; place = refl; wrote = refl } in
+      let wrote : HasWritten (did_store (Place.State p) (version + 1) ∷ []) (Place.State p) (version + 1) = record { earlier = []; step = did_store (Place.State p) (version + 1); later = []; cut = refl; place = refl; wrote = refl } in
       let free = λ (a : IsAlone v).
       let below : version < MAX_VERSION = h.below in
       subst (λ (l : List ℕ). IsUnlockedWord (slice_index l p) × (version_of (slice_index l p) ≤ version + 1)) (sym (e.runs.words a.0 a.1).1)

@@ -1,17 +1,15 @@
 -- What each kind of step leaves of a view that it does not speak of, in the words of the guards, and that this holds of several steps in a row.
-use Rattle.vm_core.specs.declared.event.ReadIs.TheVariants as read
-use Rattle.vm_rule.specs.declared.view.Place.TheVariants as places
 use Rattle.vm_guard.proofs.Prelude.{[], alone-then, ap, append_assoc, Brings, Did, did_exchange, did_load, entries_of, holds-still, holds-then, HoldsPage}
 use Rattle.vm_guard.proofs.Prelude.{IsElsewhere, IsLocking, IsQuiet, IsSteady, knows-then, KnowsAsBefore, last_of, LeavesOthers, LeavesOwn, left_at, List}
 use Rattle.vm_guard.proofs.Prelude.{load-holds, load-knows, load-others, load-own, LoadTold, LOCKED, locked_view, LockTold, look-holds, look-others, look-own}
-use Rattle.vm_guard.proofs.Prelude.{look-says, looked-knows, LookTold, lost-brings, None, one_share_more, Option, others-none, others-still, ReadIs, reads-then}
-use Rattle.vm_guard.proofs.Prelude.{refl, Release, rules, runs-then, seat_of, shared_view, ShareTold, Start, starts-then, state_of, stays-alone, StaysAlone}
-use Rattle.vm_guard.proofs.Prelude.{still-holds, still-knows, still-locking, still-own, sym, Tie, tload-holds, tload-knows, tload-others, tload-own}
+use Rattle.vm_guard.proofs.Prelude.{look-says, looked-knows, LookTold, lost-brings, None, one_share_more, Option, others-none, others-still, Place, ReadIs}
+use Rattle.vm_guard.proofs.Prelude.{reads-then, refl, Release, rules, runs-then, seat_of, shared_view, ShareTold, Start, starts-then, state_of, stays-alone}
+use Rattle.vm_guard.proofs.Prelude.{StaysAlone, still-holds, still-knows, still-locking, still-own, sym, Tie, tload-holds, tload-knows, tload-others, tload-own}
 use Rattle.vm_guard.proofs.Prelude.{TranslationTold, version_of, View, where_same, word_of, ℕ, ◌++◌, ◌∙◌, ◌∷◌, ◌≡◌, ◌≢◌}
 
 -- the other one, where the read does not stay
-pub where-other : {A : Type 0} (left : ReadIs) (x y : A) → left ≢ read.Same → where_same left x y ≡ y
-where-other read.Same x y ne = absurd (ne refl)
+pub where-other : {A : Type 0} (left : ReadIs) (x y : A) → left ≢ ReadIs.Same → where_same left x y ≡ y
+where-other ReadIs.Same x y ne = absurd (ne refl)
 where-other left x y ne = refl
 
 module _ {X : Type 0} where
@@ -66,19 +64,19 @@ module _ {X : Type 0} where
 
   -- a look that made no entry
   pub look-unsaid : (tied : Start → ℕ → List ℕ → ℕ → List ℕ → Type 0) (p : ℕ) (said : Option X) (found : ℕ) (v w : View X) → LookTold tied p said found v w
-      → where_same (left_at found (seat_of v p).reading) (entries_of v said) [] ≡ [] → IsQuiet p (did_load (places.State p) found ∷ []) v w
+      → where_same (left_at found (seat_of v p).reading) (entries_of v said) [] ≡ [] → IsQuiet p (did_load (Place.State p) found ∷ []) v w
   look-unsaid tied p said found v w t none = quiet-of (look-others t (λ q. q ≡ p) refl) (look-says t none) (look-holds t) (looked-knows t)
 
   -- a look without a word to say
-  pub look-quiet : (tied : Start → ℕ → List ℕ → ℕ → List ℕ → Type 0) (p found : ℕ) (v w : View X) → LookTold tied p None found v w → IsQuiet p (did_load (places.State p) found ∷ []) v w
+  pub look-quiet : (tied : Start → ℕ → List ℕ → ℕ → List ℕ → Type 0) (p found : ℕ) (v w : View X) → LookTold tied p None found v w → IsQuiet p (did_load (Place.State p) found ∷ []) v w
   look-quiet tied p found v w t = quiet-of (look-others t (λ q. q ≡ p) refl) (look-own t) (look-holds t) (looked-knows t)
 
   -- a load of a translation word
-  pub translation-quiet : (p found : ℕ) (v w : View X) → TranslationTold p found v w → IsQuiet p (did_load (places.Translation p) found ∷ []) v w
+  pub translation-quiet : (p found : ℕ) (v w : View X) → TranslationTold p found v w → IsQuiet p (did_load (Place.Translation p) found ∷ []) v w
   translation-quiet p found v w t = quiet-of (tload-others t (λ q. q ≡ p) refl) (tload-own t) (tload-holds t) (tload-knows t)
 
   -- a load of a word of a frame
-  pub load-quiet : (p f i found : ℕ) (v w : View X) → LoadTold p f i found v w → IsQuiet p (did_load (places.Content f i) found ∷ []) v w
+  pub load-quiet : (p f i found : ℕ) (v w : View X) → LoadTold p f i found v w → IsQuiet p (did_load (Place.Content f i) found ∷ []) v w
   load-quiet p f i found v w t = quiet-of (load-others t (λ q. q ≡ p) refl) (load-own t) (load-holds t) (load-knows t)
 
   -- a step that changes nothing
@@ -87,9 +85,9 @@ module _ {X : Type 0} where
 
   -- a lock that was lost
   pub lock-lost : (tied : Start → ℕ → List ℕ → ℕ → List ℕ → Type 0) (p expects found : ℕ) (v w : View X) → found ≢ expects → LockTold tied p expects found v w
-      → IsQuiet p (did_exchange (places.State p) expects found (word_of LOCKED (version_of expects)) ∷ []) v w
+      → IsQuiet p (did_exchange (Place.State p) expects found (word_of LOCKED (version_of expects)) ∷ []) v w
   lock-lost tied p expects found v w ne t = still-quiet (lost-brings (locked_view p t.held (last_of w p).words v) ne t.brings)
 
   pub share-lost : (tied : Start → ℕ → List ℕ → ℕ → List ℕ → Type 0) (p expects found : ℕ) (v w : View X) → found ≢ expects → ShareTold tied p expects found v w
-      → IsQuiet p (did_exchange (places.State p) expects found (word_of (one_share_more (state_of expects)) (version_of expects)) ∷ []) v w
+      → IsQuiet p (did_exchange (Place.State p) expects found (word_of (one_share_more (state_of expects)) (version_of expects)) ∷ []) v w
   share-lost tied p expects found v w ne t = still-quiet (lost-brings (shared_view p t.held v) ne t.brings)

@@ -1,12 +1,11 @@
 -- A page is locked that is to be given, resident or not, and given up again where the call ends without it.
-use Rattle.vm_rule.specs.declared.view.Place.TheVariants as places
 use Rattle.vm_guard.proofs.{Amid.amid-of, Amid.silent-of, GuardSteps.alone-first, GuardSteps.first-may}
 use Rattle.vm_guard.proofs.Lockings.{lock-did, lock-seized, lock-wrote, seat-then, seized-holding, unheld-same}
 use Rattle.vm_guard.proofs.Prelude.{[], ap, append-none, Bool, Change, cond-false, did_load, Entry, eq-eqb, evict-alone, evict-others, evict-seat, EvictTold}
 use Rattle.vm_guard.proofs.Prelude.{false, GivesBack, has, inl, inr, IsNotOut, IsSeized, IsToSeize, List, lock-others, lock-own, LockTold, look-holds}
 use Rattle.vm_guard.proofs.Prelude.{look-others, look-own, LookTold, Mapping, mapping_of, MayEvict, MayGiveUp, None, none-some, Option, Origin, others-then}
-use Rattle.vm_guard.proofs.Prelude.{own-then, refl, release-alone, release-others, release-seat, ReleaseTold, rules, Seizes, set_if, Some, Start, subst, sym}
-use Rattle.vm_guard.proofs.Prelude.{tload-others, tload-own, TranslationTold, true, version_of, View, without, without-none, ℕ, ◌<◌, ◌||◌, ◌∙◌, ◌∷◌, ◌≡◌}
+use Rattle.vm_guard.proofs.Prelude.{own-then, Place, refl, release-alone, release-others, release-seat, ReleaseTold, rules, Seizes, set_if, Some, Start, subst}
+use Rattle.vm_guard.proofs.Prelude.{sym, tload-others, tload-own, TranslationTold, true, version_of, View, without, without-none, ℕ, ◌<◌, ◌||◌, ◌∙◌, ◌∷◌, ◌≡◌}
 
 pub self-has : (p : ℕ) → has p (p ∷ []) ≡ true
 self-has p = ap (λ (b : Bool). b || false) (eq-eqb p p refl)
@@ -19,7 +18,7 @@ seizes tied p word expects said v u x w look lock load may page =
     let own = own-then (look-own look) (own-then (lock-own refl lock) (tload-own load)) in
     let silent = silent-of (p ∷ []) steps own.mine own.group.0 ((page, self-has p), ((page, self-has p), ((page, self-has p), tt))) in
     record {
-      done = did_load (places.State p) word ∷ lock-did p expects ∷ did_load (places.Translation p) said ∷ [];
+      done = did_load (Place.State p) word ∷ lock-did p expects ∷ did_load (Place.Translation p) said ∷ [];
       amid = silent.0;
       places_are = (inl refl, (inl refl, (inr refl, tt)));
       keeps = steps.keeps;
