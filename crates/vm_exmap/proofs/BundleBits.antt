@@ -1,9 +1,9 @@
 -- The bits of a bundle's word and the frames that they are of, gathered one at a time: the bits of a mask into a list, and a list into a
 -- mask. Some bits are asked of a word that is not 0.
-use Rattle.vm_exmap.proofs.Prelude.{[], ap, AreLowest, arith, bit_at, bit_at-lt, bit_at-pow_other, bit_at-pow_same, bit_at-zero, bit_at_or, bit_count}
-use Rattle.vm_exmap.proofs.Prelude.{bit_or, cases_eq, eq-eqb, eqb, false, frames_below, frames_in, has, has-both, if◌then◌else◌, in_mask, is_of}
-use Rattle.vm_exmap.proofs.Prelude.{length, length-append, List, max, nat_tests, ne_eqb, refl, same_from_bits_below, suc, sum_below, sum_below-at}
-use Rattle.vm_exmap.proofs.Prelude.{sym, zero, ℕ, ⊎_elim, ◌%◌, ◌&&◌, ◌*◌, ◌++◌, ◌+◌, ◌/◌, ◌<◌, ◌^◌, ◌||◌, ◌∙◌, ◌∷◌, ◌≡◌, ◌≢◌, ◌≤◌}
+use Rattle.vm_exmap.proofs.Prelude.{[], ap, AreLowest, arith, bit_at, bit_at-lt, bit_at-pow_other, bit_at-pow_same, bit_at-zero, bit_at_or, bit_count, bit_or}
+use Rattle.vm_exmap.proofs.Prelude.{cases_eq, eq-eqb, eqb, false, frames_below, frames_in, has, has-both, if◌then◌else◌, in_mask, is_of, length, length-append}
+use Rattle.vm_exmap.proofs.Prelude.{List, max, nat_tests, ne_eqb, refl, same_from_bits_below, suc, sum_below, sum_below-at, sym, zero, ℕ, ⊎_elim, ◌%◌, ◌&&◌}
+use Rattle.vm_exmap.proofs.Prelude.{◌*◌, ◌++◌, ◌+◌, ◌/◌, ◌<◌, ◌^◌, ◌||◌, ◌∙◌, ◌∷◌, ◌≡◌, ◌≢◌, ◌≤◌}
 
 -- ---- from a mask into a list
 

@@ -1,10 +1,9 @@
 -- What steps leave of a view that move free frames alone: of one step, of several in a row, and that the pass may step on.
-use Rattle.vm_rule.specs.declared.view.Place.TheVariants as places
-use Rattle.vm_exmap.proofs.Prelude.{[], alone-silent, alone-then, ap, append-none, append_assoc, Bool, Brings, bundles_of, contents_at, Did, Each}
-use Rattle.vm_exmap.proofs.Prelude.{each-both, each-map, else-knows, else-then, has, Held, inr, IsAlone, IsAsideOf, IsBundleOf, IsLocking}
-use Rattle.vm_exmap.proofs.Prelude.{IsReady, IsSamePass, KnowsElse, last_in, List, MovesFrames, no_held, no_seat, None, Origin, Pass, Put, put_at}
-use Rattle.vm_exmap.proofs.Prelude.{ready-on, refl, Release, rules, runs-one, runs-then, RunsAlone, Seat, seat_of, Shape, starts-then, StartsWith, still-alone, subst}
-use Rattle.vm_exmap.proofs.Prelude.{sym, TableId, true, View, view, Within, ℕ, ◌++◌, ◌<◌, ◌∙◌, ◌∷◌, ◌≡◌, ◌≢◌}
+use Rattle.vm_exmap.proofs.Prelude.{[], alone-silent, alone-then, ap, append-none, append_assoc, Bool, Brings, bundles_of, contents_at, Did, Each, each-both}
+use Rattle.vm_exmap.proofs.Prelude.{each-map, else-knows, else-then, has, HoldsPage, inr, IsAlone, IsAsideOf, IsBundleOf, IsLocking, IsReady, IsSamePass}
+use Rattle.vm_exmap.proofs.Prelude.{KnowsAsBefore, KnowsElse, last_in, List, MovesFrames, no_seat, None, Origin, Pass, Place, Put, put_at, ReadsAsBefore}
+use Rattle.vm_exmap.proofs.Prelude.{ready-on, refl, Release, rules, runs-one, runs-then, RunsAlone, Seat, seat_of, Shape, starts-then, StartsWith, still-alone}
+use Rattle.vm_exmap.proofs.Prelude.{subst, sym, TableId, Tie, true, View, view, Within, ℕ, ◌++◌, ◌<◌, ◌∙◌, ◌∷◌, ◌≡◌, ◌≢◌}
 
 module _ {X : Type 0} where
   -- no step at all
@@ -12,7 +11,7 @@ module _ {X : Type 0} where
   moved-nothing v = search (rules, append-none)
 
   -- one step that changes the free frames and what is known of their words
-  pub moved-by : (did : Did) (g : ℕ) (frames : List ℕ) (contents : List (Put (List ℕ))) (v w : View X) → did.at ≡ places.Bundle g → g < bundles_of v.start.frames → Brings did [] [] v (record v { frames = frames; contents = contents }) w
+  pub moved-by : (did : Did) (g : ℕ) (frames : List ℕ) (contents : List (Put (List ℕ))) (v w : View X) → did.at ≡ Place.Bundle g → g < bundles_of v.start.frames → Brings did [] [] v (record v { frames = frames; contents = contents }) w
       → ((f : ℕ) → has f v.frames ≡ true → has f frames ≡ true → put_at [] contents f ≡ contents_at v f) → MovesFrames (did ∷ []) v w
   moved-by did g frames contents v w at inside b same =
       let seen : StartsWith w.seen v.seen = (b.others ++ [], ap (λ (x : View X). x.seen) b.view ∙ append_assoc v.seen b.others []) in
@@ -41,29 +40,18 @@ module _ {X : Type 0} where
       search (rules, append_assoc u.log a b, seen, releases, alone-then u v w f.parts f.alone g.alone, runs, steps, last, contents, table)
 
   -- none of the steps is on a page's state word
-  pub leaves-states : (done : List Did) (v w : View X) → MovesFrames done v w → Each (λ (d : Did). (p : ℕ) → d.at ≢ places.State p) done
+  pub leaves-states : (done : List Did) (v w : View X) → MovesFrames done v w → Each (λ (d : Did). (p : ℕ) → d.at ≢ Place.State p) done
   leaves-states done v w f = each-map _ _ (λ (d : Did) h. λ p e. subst (IsBundleOf v.start) e h) done f.steps
 
   -- such steps are aside of all pages: no read of theirs is another either
   pub moved-aside : (touched : ℕ → Type 0) (done : List Did) (v w : View X) → MovesFrames done v w → IsAsideOf touched done v w
   moved-aside touched done v w f =
       let seat : (q : ℕ) → seat_of w q ≡ seat_of v q = λ q. ap (λ (seats : List (Put Seat)). put_at no_seat seats q) f.pages.0 in
-      record {
-        log = f.log;
-        live = f.live;
-        start = f.start;
-        parts = f.parts;
-        mine = f.mine;
-        seen = f.seen;
-        releases = f.releases;
-        out = f.out;
-        ties = ([], f.reads.1);
-        group = f.group;
-        holds = λ q. record { shares = ap (λ (s : Seat). s.shares) (seat q); exclusive = ap (λ (s : Seat). s.exclusive) (seat q); writing = ap (λ (s : Seat). s.writing) (seat q) };
-        knows = λ q l. record { held = ap (λ (t : List (Put Held)). put_at no_held t q) f.pages.2; draft = ap (λ (t : List (Put (List ℕ))). put_at [] t q) f.pages.3; last = f.last q l };
-        others = λ q ne. record { reading = ap (λ (s : Seat). s.reading) (seat q); loads = ap (λ (t : List (Put (List (ℕ × ℕ)))). put_at [] t q) f.pages.1 };
-        alone = f.alone;
-      }
+      let holds : (q : ℕ) → HoldsPage v w q = λ q. search (rules, ap, seat q) in
+      let knows : (q : ℕ) → IsLocking (seat_of v q) → KnowsAsBefore v w q = λ q l. search (rules, ap, f.pages, f.last q l) in
+      let reads : (q : ℕ) → ReadsAsBefore v w q = λ q. search (rules, ap, seat q, f.pages) in
+      let ties : (more : List Tie) × (w.ties ≡ more ++ v.ties) = ([], f.reads.1) in
+      search (rules, ties, holds, knows, reads)
 
 module _ {U X : Type 0} {o : _} (shape : Shape) (tells : Bool) (t : TableId) where
   -- the pass may step on

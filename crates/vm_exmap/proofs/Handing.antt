@@ -1,7 +1,7 @@
 -- Frames that a pass holds, as a list that is split: each part is held too, and what is in the one is not in the other.
-use Rattle.vm_exmap.proofs.Prelude.{[], ap, AreApart, AreGiven, AreHeld, cases_Bool, cases_eq, Each, eq-eqb, eqb, false, has, has-both, if◌then◌else◌}
-use Rattle.vm_exmap.proofs.Prelude.{List, ne_eqb, or_left, or_parts, or_right, refl, rules, subst, sym, true, true≢false, View, ℕ, ⊎_elim, ◌++◌, ◌<◌}
-use Rattle.vm_exmap.proofs.Prelude.{◌||◌, ◌∙◌, ◌∷◌, ◌≡◌}
+use Rattle.vm_exmap.proofs.Prelude.{[], ap, AreApart, AreGiven, AreHeld, cases_Bool, cases_eq, Each, eq-eqb, eqb, false, has, has-both, if◌then◌else◌, List}
+use Rattle.vm_exmap.proofs.Prelude.{ne_eqb, or_left, or_parts, or_right, refl, rules, subst, sym, true, true≢false, View, ℕ, ⊎_elim, ◌++◌, ◌<◌, ◌||◌, ◌∙◌, ◌∷◌}
+use Rattle.vm_exmap.proofs.Prelude.{◌≡◌}
 pub use Rattle.vm_step.proofs.HeldFrames.{held-on}
 pub use Rattle.vm_step.proofs.Releasing.{each-has as each-of}
 pub use Rattle.vm_rule.proofs.Heard.{each-both as each-join}

@@ -1,12 +1,11 @@
 -- Frames that go back to their bundles, a bundle at a time: those of the first bundles are given, the others are still held.
-use Rattle.vm_rule.specs.declared.view.Place.TheVariants as places
 use Rattle.vm_exmap.proofs.{FrameMoves.moved-by, FrameMoves.moved-then, Handing.each-of}
-use Rattle.vm_exmap.proofs.Prelude.{[], and_left, and_parts, and_right, ap, append-none, AreGiven, AreHeld, arith, at-then, bit_at, bit_at-zero}
-use Rattle.vm_exmap.proofs.Prelude.{bit_or, Bool, bundles_of, cases_Bool, cases_lt, Did, did_change, else-knows, eqb, eqb-true, false, found-known}
-use Rattle.vm_exmap.proofs.Prelude.{frames_in, GivesFromFirst, GiveTold, has, has-frames_in, has-without_all, if◌then◌else◌, in_mask, inl, inr, is_of}
-use Rattle.vm_exmap.proofs.Prelude.{IsAlone, known_word_at, KnowsElse, KnowsGiven, last-known, le-ltb, List, ltb, MovesFrames, nat_tests, none, None}
-use Rattle.vm_exmap.proofs.Prelude.{Origin, PassMayGive, refl, rules, some, still-alone, subst, suc, sym, true, View, without_all, ℕ, ⊎_elim, ◌%◌}
-use Rattle.vm_exmap.proofs.Prelude.{◌&&◌, ◌++◌, ◌+◌, ◌/◌, ◌<◌, ◌∙◌, ◌∷◌, ◌≡◌, ◌≢◌, ◌≤◌}
+use Rattle.vm_exmap.proofs.Prelude.{[], and_left, and_parts, and_right, ap, append-none, AreGiven, AreHeld, arith, at-then, bit_at, bit_at-zero, bit_or, Bool}
+use Rattle.vm_exmap.proofs.Prelude.{bundles_of, cases_Bool, cases_lt, Did, did_change, else-knows, eqb, eqb-true, false, found-known, frames_in, GivesFromFirst}
+use Rattle.vm_exmap.proofs.Prelude.{GiveTold, has, has-frames_in, has-without_all, if◌then◌else◌, in_mask, inl, inr, is_of, IsAlone, known_word_at, KnowsElse}
+use Rattle.vm_exmap.proofs.Prelude.{KnowsGiven, last-known, le-ltb, List, ltb, MovesFrames, nat_tests, none, None, Origin, PassMayGive, Place, refl, rules}
+use Rattle.vm_exmap.proofs.Prelude.{some, still-alone, subst, suc, sym, true, View, without_all, ℕ, ⊎_elim, ◌%◌, ◌&&◌, ◌++◌, ◌+◌, ◌/◌, ◌<◌, ◌∙◌, ◌∷◌, ◌≡◌, ◌≢◌}
+use Rattle.vm_exmap.proofs.Prelude.{◌≤◌}
 
 -- the frame is one of these, and of the first `count` bundles
 abbrev pub is_below : ℕ → List ℕ → ℕ → Bool
@@ -29,16 +28,16 @@ module _ {X : Type 0} where
     pub gives : GivesFromFirst frames count done
     pub left : (f : ℕ) → has f w.frames ≡ (if is_below count frames f then false else has f v.frames)
     pub table : IsAlone v → (g : ℕ) → g < count → g < bundles_of v.start.frames → KnowsGiven frames g v w
-    pub rest : IsAlone v → (g : ℕ) → count ≤ g → g < bundles_of v.start.frames → known_word_at w (places.Bundle g) ≡ known_word_at v (places.Bundle g)
+    pub rest : IsAlone v → (g : ℕ) → count ≤ g → g < bundles_of v.start.frames → known_word_at w (Place.Bundle g) ≡ known_word_at v (Place.Bundle g)
 
   -- a bundle that the next step is not on
-  given-on : (frames : List ℕ) (g j : ℕ) (u v w : View X) → w.start ≡ v.start → v.start ≡ u.start → KnowsElse (λ at. at ≡ places.Bundle g) v w → j < g → j < bundles_of u.start.frames → KnowsGiven frames j u v → KnowsGiven frames j u w
+  given-on : (frames : List ℕ) (g j : ℕ) (u v w : View X) → w.start ≡ v.start → v.start ≡ u.start → KnowsElse (λ at. at ≡ Place.Bundle g) v w → j < g → j < bundles_of u.start.frames → KnowsGiven frames j u v → KnowsGiven frames j u w
   given-on frames g j u v w start before others low inside k =
-      let ne : places.Bundle j ≡ places.Bundle g → ⊥ = λ e. (let same : j ≡ g = cc in omega (arith, low, same)) in
+      let ne : Place.Bundle j ≡ Place.Bundle g → ⊥ = λ e. (let same : j ≡ g = cc in omega (arith, low, same)) in
       let there : j < bundles_of v.start.frames = subst (λ (o : Origin). j < bundles_of o.frames) (sym before) inside in
       ⊎_elim
-      (λ none. inl (none.0, others.words (places.Bundle j) there ne ∙ none.1))
-      (λ some. inr (some.0, some.1, at-then (λ at. at ≡ places.Bundle g) (places.Bundle j) _ v w start others there ne some.2))
+      (λ none. inl (none.0, others.words (Place.Bundle j) there ne ∙ none.1))
+      (λ some. inr (some.0, some.1, at-then (λ at. at ≡ Place.Bundle g) (Place.Bundle j) _ v w start others there ne some.2))
       k
 
 module _ {X : Type 0} (frames : List ℕ) (g mask : ℕ) (u v : View X) (below : AreGivenBelow frames g u v) (bits : (f : ℕ) → in_mask g mask f ≡ is_of g frames f) where
@@ -55,7 +54,7 @@ module _ {X : Type 0} (frames : List ℕ) (g mask : ℕ) (u v : View X) (below :
   -- they go back by one step
   pub given-more : (found : ℕ) (w : View X) → g < bundles_of u.start.frames → GiveTold g mask found v w → AreGivenBelow frames (g + 1) u w
   given-more found w inside t =
-      let did : Did = did_change (places.Bundle g) found (bit_or found mask) in
+      let did : Did = did_change (Place.Bundle g) found (bit_or found mask) in
       let left : (f : ℕ) → has f w.frames ≡ (if is_of g frames f then false else has f v.frames) = λ f.
       ap (λ (x : View X). has f x.frames) t.brings.view
       ∙ has-without_all f (frames_in g mask) v.frames
@@ -63,8 +62,8 @@ module _ {X : Type 0} (frames : List ℕ) (g mask : ℕ) (u v : View X) (below :
       let moves : MovesFrames (did ∷ []) v w = moved-by did g (without_all (frames_in g mask) v.frames) v.contents v w refl (subst (λ (o : Origin). g < bundles_of o.frames) (sym below.moves.start) inside) t.brings (λ f a b. refl) in
       let next : suc g ≡ g + 1 = omega arith in
       let done : List Did = below.done ++ did ∷ [] in
-      let others : IsAlone v → KnowsElse (λ at. at ≡ places.Bundle g) v w =
-      λ a. else-knows (λ at. at ≡ places.Bundle g) (did ∷ []) [] v w moves.start moves.runs ((subst (λ (o : Origin). g < bundles_of o.frames) (sym below.moves.start) inside, inr refl), tt) a in
+      let others : IsAlone v → KnowsElse (λ at. at ≡ Place.Bundle g) v w =
+      λ a. else-knows (λ at. at ≡ Place.Bundle g) (did ∷ []) [] v w moves.start moves.runs ((subst (λ (o : Origin). g < bundles_of o.frames) (sym below.moves.start) inside, inr refl), tt) a in
       let now : IsAlone u → IsAlone v = still-alone u v below.moves.parts below.moves.alone.current in
       record {
         done = done;
@@ -76,13 +75,13 @@ module _ {X : Type 0} (frames : List ℕ) (g mask : ℕ) (u v : View X) (below :
             (λ (l : j < g). given-on frames g j u v w moves.start below.moves.start (others (now a)) l in' (below.table a j l in'))
             (λ (h : g ≤ j).
             let same : g ≡ j = omega (arith, low, h) in
-            let found-is : found ≡ known_word_at u (places.Bundle g) = found-known did found None [] [] v _ w t.brings refl (now a) ∙ below.rest a g (omega arith) inside in
+            let found-is : found ≡ known_word_at u (Place.Bundle g) = found-known did found None [] [] v _ w t.brings refl (now a) ∙ below.rest a g (omega arith) inside in
             subst (λ n. KnowsGiven frames n u w) same
             (inr (mask, bits, (λ inside-w. last-known [] did (bit_or found mask) [] v w moves.start moves.runs refl (now a) inside-w ∙ ap (λ n. bit_or n mask) found-is))))
             (cases_lt j g);
         rest = λ a j high in'.
-            let ne : places.Bundle j ≡ places.Bundle g → ⊥ = λ e. (let same : j ≡ g = cc in omega (arith, high, same)) in
-            (others (now a)).words (places.Bundle j) (subst (λ (o : Origin). j < bundles_of o.frames) (sym below.moves.start) in') ne ∙ below.rest a j (omega (arith, high)) in';
+            let ne : Place.Bundle j ≡ Place.Bundle g → ⊥ = λ e. (let same : j ≡ g = cc in omega (arith, high, same)) in
+            (others (now a)).words (Place.Bundle j) (subst (λ (o : Origin). j < bundles_of o.frames) (sym below.moves.start) in') ne ∙ below.rest a j (omega (arith, high)) in';
       }
 
   -- or there are none, and no step is made

@@ -1,29 +1,26 @@
 -- A page that was found evicted and locked: what the pass knows of it as it works on it, its release, and the places of all steps; and a page that could not be
 -- brought.
-use Rattle.vm_rule.specs.declared.view.Place.TheVariants as places
-use Rattle.vm_step.specs.declared.saw.At.TheVariants as ats
-use Rattle.vm_fault.proofs.Prelude.{[], alone-then, ap, append_assoc, arith, aside-of, Brings, cases_eq, cond-false, Did, did_exchange, did_load}
-use Rattle.vm_fault.proofs.Prelude.{did_store, draft_of, Each, each-both, each-map, else-knows, eqb, evict-alone, evict-last, evict-others}
-use Rattle.vm_fault.proofs.Prelude.{evict-seat, evict-silent, EVICTED, EvictedExpected, EvictTold, false, false≢true, follows-inside, found-known}
-use Rattle.vm_fault.proofs.Prelude.{given-front, has, HasGiven, HasWritten, Held, held_at, home-both, home-else, inl, inr, IsAlone, IsAside}
-use Rattle.vm_fault.proofs.Prelude.{IsFetchToTry, IsFetchWorn, IsFoundEvicted, IsHeldAt, IsLocking, IsOfBoth, IsOfPage, IsReleasedAs, IsUnheld}
-use Rattle.vm_fault.proofs.Prelude.{KeepsFrames, known_word_at, KnowsElse, KnowsReleased, last-known, last_in, last_of, leaves-then, LeavesOthers}
-use Rattle.vm_fault.proofs.Prelude.{LeavesOwn, LeavesRest, length, List, lock-brings, lock-draft, lock-held, lock-leaves, lock-others, lock-seat}
-use Rattle.vm_fault.proofs.Prelude.{LOCKED, locked_view, LockTold, look-leaves, look-only, LookTold, lost-only, lost-saw, Mapping, MAX_VERSION}
-use Rattle.vm_fault.proofs.Prelude.{ne_eqb, None, none-some, only-then, OnlyReads, Origin, Place, ReadsOnce, refl, Release, release-alone}
-use Rattle.vm_fault.proofs.Prelude.{release-last, release-others, release-seat, release-silent, ReleaseTold, rest-of, rules, runs-one, runs-then}
-use Rattle.vm_fault.proofs.Prelude.{RunsAlone, same-word, Seat, seat_of, Some, Start, state_of, stays-alone, StaysAlone, StaysHome, still-alone}
-use Rattle.vm_fault.proofs.Prelude.{stores-did, subst, sym, true, two-loads, UNLOCKED, Version, version-within, version_of, View, Within, word-made}
-use Rattle.vm_fault.proofs.Prelude.{word-state, word-version, word_of, words-known, Works, ℕ, ⊎_elim, ◌++◌, ◌+◌, ◌<◌, ◌∙◌, ◌∷◌, ◌≡◌, ◌≢◌, ◌≤◌, ◌⊎◌}
+use Rattle.vm_fault.proofs.Prelude.{[], alone-then, ap, append_assoc, arith, aside-of, At, Brings, cases_eq, cond-false, Did, did_exchange, did_load, did_store}
+use Rattle.vm_fault.proofs.Prelude.{draft_of, Each, each-both, each-map, else-knows, eqb, evict-alone, evict-last, evict-others, evict-seat, evict-silent}
+use Rattle.vm_fault.proofs.Prelude.{EVICTED, EvictedExpected, EvictTold, false, false≢true, follows-inside, found-known, given-front, has, HasGiven, HasWritten}
+use Rattle.vm_fault.proofs.Prelude.{Held, held_at, home-both, home-else, inl, inr, IsAlone, IsAside, IsFetchToTry, IsFetchWorn, IsFoundEvicted, IsHeldAt}
+use Rattle.vm_fault.proofs.Prelude.{IsLocking, IsLostTo, IsOfBoth, IsOfPage, IsReleasedAs, IsUnheld, IsWornIn, KeepsFrames, known_word_at, KnowsElse}
+use Rattle.vm_fault.proofs.Prelude.{KnowsReleased, last-known, last_in, last_of, leaves-then, LeavesOthers, LeavesOwn, LeavesRest, length, List, lock-brings}
+use Rattle.vm_fault.proofs.Prelude.{lock-draft, lock-held, lock-leaves, lock-others, lock-seat, LOCKED, locked_view, LockTold, look-leaves, look-only, LookTold}
+use Rattle.vm_fault.proofs.Prelude.{lost-only, lost-saw, Mapping, MAX_VERSION, ne_eqb, None, none-some, only-then, OnlyReads, Origin, Place, ReadsOnce, refl}
+use Rattle.vm_fault.proofs.Prelude.{Release, release-alone, release-last, release-others, release-seat, release-silent, ReleaseTold, rest-of, rules, runs-one}
+use Rattle.vm_fault.proofs.Prelude.{runs-then, RunsAlone, same-word, Seat, seat_of, Some, Start, state_of, stays-alone, StaysAlone, StaysHome, still-alone}
+use Rattle.vm_fault.proofs.Prelude.{stores-did, subst, sym, true, two-loads, UNLOCKED, Version, version-within, version_of, View, Within, word-made, word-state}
+use Rattle.vm_fault.proofs.Prelude.{word-version, word_of, words-known, Works, ℕ, ⊎_elim, ◌++◌, ◌+◌, ◌<◌, ◌∙◌, ◌∷◌, ◌≡◌, ◌≢◌, ◌≤◌, ◌⊎◌}
 
 module _ {X : Type 0} where
   -- the pass, which had none of page p at v, holds it exclusively at x: it is not resident, its draft is its last words, and its block has them
   pub record IsHeldEmpty (p version : ℕ) (words : List ℕ) (done : List Did) (v x : View X) : Type 0 where
     pub leaves : LeavesRest p done v x
     pub runs : RunsAlone done [] v x
-    pub steps : Each (λ d. d.at ≡ places.State p) done
-    pub known : IsAlone v → known_word_at v (places.State p) ≡ word_of EVICTED version
-    pub found : HasGiven done (places.State p) (word_of EVICTED version)
+    pub steps : Each (λ d. d.at ≡ Place.State p) done
+    pub known : IsAlone v → known_word_at v (Place.State p) ≡ word_of EVICTED version
+    pub found : HasGiven done (Place.State p) (word_of EVICTED version)
     pub before : ((seat_of v p).exclusive ≡ false) × ((seat_of v p).shares ≡ 0)
     pub shares : (seat_of x p).shares ≡ (seat_of v p).shares
     pub writing : (seat_of x p).writing ≡ (seat_of v p).writing
@@ -47,10 +44,10 @@ module _ {X : Type 0} where
     words = (last_of x p).words
 
     abbrev look-did : Did
-    look-did = did_load (places.State p) f.word
+    look-did = did_load (Place.State p) f.word
 
     abbrev lock-did : Did
-    lock-did = did_exchange (places.State p) expects expects (word_of LOCKED (version_of expects))
+    lock-did = did_exchange (Place.State p) expects expects (word_of LOCKED (version_of expects))
 
     looked : OnlyReads (λ q. q ≡ p) (look-did ∷ []) v f.between
     looked = look-only (λ q. q ≡ p) tied p f.word v f.between refl f.look
@@ -78,9 +75,9 @@ module _ {X : Type 0} where
         let runs = runs-then (look-did ∷ []) (lock-did ∷ []) [] [] v f.between x looked.aside.start looked.aside.parts (runs-one look-did None [] _ v _ f.between f.look.brings) (lock-others refl f.lock (λ q. q ≡ p) refl).runs in
         let known = λ (a : IsAlone v).
         let now : IsAlone f.between = still-alone v f.between looked.aside.parts looked.aside.alone.current a in
-        let there : expects ≡ known_word_at f.between (places.State p) = found-known lock-did expects None [] [] f.between _ x brings refl now in
-        sym (there ∙ same-word v f.between looked.aside.start (words-known look-did None [] _ v _ f.between f.look.brings refl a) (places.State p)) in
-        let found : HasGiven (look-did ∷ lock-did ∷ []) (places.State p) (word_of EVICTED version) = record { earlier = look-did ∷ []; step = lock-did; later = []; cut = refl; gives = (refl, refl) } in
+        let there : expects ≡ known_word_at f.between (Place.State p) = found-known lock-did expects None [] [] f.between _ x brings refl now in
+        sym (there ∙ same-word v f.between looked.aside.start (words-known look-did None [] _ v _ f.between f.look.brings refl a) (Place.State p)) in
+        let found : HasGiven (look-did ∷ lock-did ∷ []) (Place.State p) (word_of EVICTED version) = record { earlier = look-did ∷ []; step = lock-did; later = []; cut = refl; gives = (refl, refl) } in
         let last : last_of x p ≡ record { version = version; words = words } = ap (λ (n : ℕ). record { version = n; words = words }) {x = (last_of x p).version} {y = version} (f.lock.version ∙ word-version EVICTED version within) in
         let device = λ (tells : x.start.tells ≡ true). ap (λ (h : Held). h.block.words) (lock-held refl f.lock) ∙ stands.device (ap (λ (o : Origin). o.tells) (sym start-locked) ∙ tells) clean in
         let next = λ (e : x.next ≡ Some p). unheld.next (sym (ap (λ (y : View X). y.next) brings.view) ∙ e) in
@@ -97,13 +94,13 @@ other-state word version e ne gone = ne (sym (word-made word) ∙ ap (λ (s : �
 
 module _ {X : Type 0} (tied : Start → ℕ → List ℕ → ℕ → List ℕ → Type 0) (p word : ℕ) (v u : View X) (look : LookTold tied p None word v u) where
   abbrev try-did : Did
-  try-did = did_load (places.State p) word
+  try-did = did_load (Place.State p) word
 
   tried : OnlyReads (λ q. q ≡ p) (try-did ∷ []) v u
   tried = look-only (λ q. q ≡ p) tied p word v u refl look
 
   -- a pass that is alone finds the word that it knew
-  look-known : IsAlone v → (word ≡ known_word_at v (places.State p)) × (u.snapshot.words ≡ v.snapshot.words)
+  look-known : IsAlone v → (word ≡ known_word_at v (Place.State p)) × (u.snapshot.words ≡ v.snapshot.words)
   look-known a = (found-known try-did word None [] _ v _ u look.brings refl a, words-known try-did None [] _ v _ u look.brings refl a)
 
   look-runs : RunsAlone (try-did ∷ []) [] v u
@@ -122,51 +119,39 @@ module _ {X : Type 0} (tied : Start → ℕ → List ℕ → ℕ → List ℕ �
     known = λ a. sym (look-known a).0 ∙ e;
   }
 
-  pub worn-in : (first : ℕ) → first ≡ word_of EVICTED MAX_VERSION → version_of word ≡ MAX_VERSION → word ≢ first → IsFetchToTry p (record { at = ats.Page p; first = first; seen = word }) v u
-  worn-in first is last ne = record {
-    done = try-did ∷ [];
-    aside = tried.aside;
-    keeps = tried.keeps;
-    steps = (refl, tt);
-    alone = look-runs;
-    table = λ a. (look-known a).1;
-    at = refl;
-    why = inr record { given = record { earlier = []; step = try-did; later = []; cut = refl; gives = (refl, refl) }; foreign = tt; last = last; other = other-state word MAX_VERSION last (λ e. ne (e ∙ sym is)); first = is };
-    known = λ a. ((look-known a).0, other-state word MAX_VERSION last (λ e. ne (e ∙ sym is)));
-  }
+  pub worn-in : (first : ℕ) → first ≡ word_of EVICTED MAX_VERSION → version_of word ≡ MAX_VERSION → word ≢ first → IsFetchToTry p (record { at = At.Page p; first = first; seen = word }) v u
+  worn-in first is last ne =
+      let given : HasGiven (try-did ∷ []) (Place.State p) word = record { earlier = []; step = try-did; later = []; cut = refl; gives = (refl, refl) } in
+      let other = other-state word MAX_VERSION last (λ e. ne (e ∙ sym is)) in
+      let why : IsWornIn (try-did ∷ []) p (record { at = At.Page p; first = first; seen = word }) = record { given = given; foreign = tt; last = last; other = other; first = is } in
+      search (rules, tried, look-runs, (λ (a : IsAlone v). (look-known a).1), why, (λ (a : IsAlone v). (look-known a).0), other)
 
-  pub lost : (first found n : ℕ) (w : View X) → first ≡ word_of EVICTED n → version_of word ≡ n → found ≢ first → LockTold tied p first found u w → IsFetchToTry p (record { at = ats.Page p; first = first; seen = found }) v w
+  pub lost : (first found n : ℕ) (w : View X) → first ≡ word_of EVICTED n → version_of word ≡ n → found ≢ first → LockTold tied p first found u w → IsFetchToTry p (record { at = At.Page p; first = first; seen = found }) v w
   lost first found n w is at ne lock =
-      let did : Did = did_exchange (places.State p) first found (word_of LOCKED (version_of first)) in
+      let did : Did = did_exchange (Place.State p) first found (word_of LOCKED (version_of first)) in
       let as-evicted : word_of EVICTED (version_of word) ≡ first = ap (word_of EVICTED) at ∙ sym is in
       let from : (word ≡ first) ⊎ EvictedExpected word first
       = ⊎_elim (λ (gone : state_of word ≡ EVICTED). inl (sym (word-made word) ∙ ap (λ (s : ℕ). word_of s (version_of word)) gone ∙ as-evicted)) (λ not. inr (not, sym as-evicted)) (cases_eq (state_of word) EVICTED) in
       let k : OnlyReads (λ q. q ≡ p) (try-did ∷ did ∷ []) v w
       = only-then (λ q. q ≡ p) (try-did ∷ []) (did ∷ []) v u w tried (lost-only (λ q. q ≡ p) did first found u (locked_view p lock.held (last_of w p).words u) w ne lock.brings) in
-      record {
-        done = try-did ∷ did ∷ [];
-        aside = k.aside;
-        keeps = k.keeps;
-        steps = (refl, (refl, tt));
-        alone = runs-then (try-did ∷ []) (did ∷ []) [] [] v u w tried.aside.start tried.aside.parts look-runs (runs-one did None [] [] u _ w lock.brings);
-        table = λ a.
-            words-known did None [] [] u _ w lock.brings (cond-false (eqb found first) _ _ (ne_eqb found first ne)) (still-alone v u tried.aside.parts tried.aside.alone.current a) ∙ (look-known a).1;
-        at = refl;
-        why = inl record {
-          evidence = lost-saw EvictedExpected p word first found (word_of LOCKED (version_of first)) from ne;
-          earlier = try-did ∷ [];
-          step = did;
-          later = [];
-          cut = refl;
-          lost = record { gives = (refl, refl); expected = refl; other = ne; left = cond-false (eqb found first) _ _ (ne_eqb found first ne) };
-          first = ap state_of is ∙ word-state EVICTED n (subst (λ (k : ℕ). k ≤ MAX_VERSION) at (version-within word));
-        };
-        known = λ a.
-            let now : IsAlone u = still-alone v u tried.aside.parts tried.aside.alone.current a in
-            let there : found ≡ known_word_at v (places.State p) = found-known did found None [] [] u _ w lock.brings refl now ∙ same-word v u tried.aside.start (look-known a).1 (places.State p) in
-            let same : version_of found ≡ n = ap version_of (there ∙ sym (look-known a).0) ∙ at in
-            (there, other-state found n same (λ e. ne (e ∙ sym is)));
-      }
+      let unwritten = cond-false (eqb found first) (Some (word_of LOCKED (version_of first))) None (ne_eqb found first ne) in
+      let now : IsAlone v → IsAlone u = still-alone v u tried.aside.parts tried.aside.alone.current in
+      let runs = runs-then (try-did ∷ []) (did ∷ []) [] [] v u w tried.aside.start tried.aside.parts look-runs (runs-one did None [] [] u _ w lock.brings) in
+      let table = λ (a : IsAlone v). words-known did None [] [] u _ w lock.brings unwritten (now a) ∙ (look-known a).1 in
+      let why : IsLostTo (try-did ∷ did ∷ []) p (record { at = At.Page p; first = first; seen = found }) = record {
+        evidence = lost-saw EvictedExpected p word first found (word_of LOCKED (version_of first)) from ne;
+        earlier = try-did ∷ [];
+        step = did;
+        later = [];
+        cut = refl;
+        lost = record { gives = (refl, refl); expected = refl; other = ne; left = unwritten };
+        first = ap state_of is ∙ word-state EVICTED n (subst (λ (k : ℕ). k ≤ MAX_VERSION) at (version-within word));
+      } in
+      let known : IsAlone v → (found ≡ known_word_at v (Place.State p)) × (state_of found ≢ EVICTED) = λ a.
+      let there : found ≡ known_word_at v (Place.State p) = found-known did found None [] [] u _ w lock.brings refl (now a) ∙ same-word v u tried.aside.start (look-known a).1 (Place.State p) in
+      let same : version_of found ≡ n = ap version_of (there ∙ sym (look-known a).0) ∙ at in
+      (there, other-state found n same (λ e. ne (e ∙ sym is))) in
+      search (rules, k, runs, table, why, known)
 
 -- ---- The release of a page that was found evicted and locked: nothing but its version is another then, and the pass holds what it held.
 
@@ -221,7 +206,7 @@ module _ {X : Type 0} (p version : ℕ) (words : List ℕ) (before more : List D
 
   module _ (state wrote : ℕ) (spelled : wrote ≡ word_of state (version + 1)) (below : version < MAX_VERSION) (inner w : View X) where
     abbrev end-did : Did
-    end-did = did_store (places.State p) wrote
+    end-did = did_store (Place.State p) wrote
 
     abbrev end-release : Release
     end-release = record { page = p; version = version + 1; words = draft_of f p }
@@ -237,8 +222,8 @@ module _ {X : Type 0} (p version : ℕ) (words : List ℕ) (before more : List D
           subst (λ (l : List ℕ). RunsAlone all (record { page = p; version = version + 1; words = l } ∷ []) v w) still-draft
           (runs-then all-before (end-did ∷ []) [] (end-release ∷ []) v f w so-far.start so-far.parts (runs-then before more [] [] v x f h.leaves.start h.leaves.parts h.runs k.alone) others.runs)
 
-      given : HasGiven all (places.State p) (word_of EVICTED version)
-      given = given-front all-before (end-did ∷ []) (places.State p) (word_of EVICTED version) (given-front before more (places.State p) (word_of EVICTED version) h.found)
+      given : HasGiven all (Place.State p) (word_of EVICTED version)
+      given = given-front all-before (end-did ∷ []) (Place.State p) (word_of EVICTED version) (given-front before more (Place.State p) (word_of EVICTED version) h.found)
 
       start-now : w.start ≡ v.start
       start-now = others.start ∙ so-far.start
@@ -251,7 +236,7 @@ module _ {X : Type 0} (p version : ℕ) (words : List ℕ) (before more : List D
 
       released : IsReleasedAs state p version words all v w
       released =
-          let left : HasWritten all (places.State p) (word_of state (version + 1)) = record { earlier = all-before; step = end-did; later = []; cut = refl; place = refl; wrote = ap (λ (n : ℕ). Some n) spelled } in
+          let left : HasWritten all (Place.State p) (word_of state (version + 1)) = record { earlier = all-before; step = end-did; later = []; cut = refl; place = refl; wrote = ap (λ (n : ℕ). Some n) spelled } in
           let releases = ap (λ (y : View X). y.releases) b.view ∙ ap (λ (t : List Release). t ++ end-release ∷ []) known ∙ ap (λ (l : List ℕ). (v.releases ++ since) ++ record { page = p; version = version + 1; words = l } ∷ []) still-draft in
           let same = ap (λ (t : List Release). last_in v.start t p) (sym known) ∙ ap (λ (o : Origin). last_in o (f.releases ++ b.between) p) (sym so-far.start) ∙ b.kept p (inl still-owns) ∙ still-last in
           search (rules, below, given, left, releases, same, last ∙ ap (λ (l : List ℕ). record { version = version + 1; words = l }) still-draft)
@@ -270,7 +255,7 @@ module _ {X : Type 0} (p version : ℕ) (words : List ℕ) (before more : List D
         knows = λ touched inside steps a.
             let others : KnowsElse touched v w =
             else-knows touched all (record { page = p; version = version + 1; words = words } ∷ []) v w start-now ends-runs (each-map _ _ (λ (d : Did) t. (inside d.at t, inr t)) all steps) a in
-            let there : p < length v.snapshot.words = follows-inside v.start all v.snapshot.words w.snapshot.words (places.State p) (word_of EVICTED version) (ends-runs.words a.0 a.1) given (evicted-some version) in
+            let there : p < length v.snapshot.words = follows-inside v.start all v.snapshot.words w.snapshot.words (Place.State p) (word_of EVICTED version) (ends-runs.words a.0 a.1) given (evicted-some version) in
             record {
               before = h.known a;
               now = last-known all-before end-did wrote (record { page = p; version = version + 1; words = words } ∷ []) v w start-now ends-runs refl a (subst (λ (n : ℕ). p < n) (sym others.count) there) ∙ spelled;
@@ -281,11 +266,11 @@ module _ {X : Type 0} (p version : ℕ) (words : List ℕ) (before more : List D
   -- ---- the two releases
 
   module _ (below : version < MAX_VERSION) (w : View X) where
-    pub unlocked-ends : ReleaseTold p version [] None f w → EndsAs UNLOCKED (all-before ++ did_store (places.State p) (version + 1) ∷ []) w
+    pub unlocked-ends : ReleaseTold p version [] None f w → EndsAs UNLOCKED (all-before ++ did_store (Place.State p) (version + 1) ∷ []) w
     unlocked-ends t =
         ends UNLOCKED (version + 1) (unlocked-is (version + 1)) below _ w t.brings (ap (λ (y : View X). y.out) t.brings.view) (release-silent t still-free still-paid still-next) (release-others t (λ q. q ≡ p) refl) (release-seat t) (release-last t) (release-alone t)
 
-    pub evicted-ends : EvictTold p version f w → EndsAs EVICTED (all-before ++ did_store (places.State p) (word_of EVICTED (version + 1)) ∷ []) w
+    pub evicted-ends : EvictTold p version f w → EndsAs EVICTED (all-before ++ did_store (Place.State p) (word_of EVICTED (version + 1)) ∷ []) w
     evicted-ends t =
         ends EVICTED (word_of EVICTED (version + 1)) refl below _ w t.brings (ap (λ (y : View X). y.out) t.brings.view) (evict-silent t still-next) (evict-others t (λ q. q ≡ p) refl) (evict-seat t) (evict-last t) (evict-alone t)
 
@@ -293,13 +278,13 @@ module _ {X : Type 0} (p version : ℕ) (words : List ℕ) (before more : List D
 
 -- these are places of the table
 pub page-within : (start : Origin) (p : ℕ) → p < start.pages → (at : Place) → IsOfPage p at → Within start at
-page-within start p l (places.State q) e = subst (λ (n : ℕ). n < start.pages) (sym e) l
-page-within start p l (places.Translation q) e = subst (λ (n : ℕ). n < start.pages) (sym e) l
-page-within start p l (places.Fault q) e = subst (λ (n : ℕ). n < start.pages) (sym e) l
+page-within start p l (Place.State q) e = subst (λ (n : ℕ). n < start.pages) (sym e) l
+page-within start p l (Place.Translation q) e = subst (λ (n : ℕ). n < start.pages) (sym e) l
+page-within start p l (Place.Fault q) e = subst (λ (n : ℕ). n < start.pages) (sym e) l
 page-within start p l _ e = absurd e
 
 pub both-within : (start : Origin) (p f : ℕ) → p < start.pages → f < start.frames → (at : Place) → IsOfBoth p f at → Within start at
-both-within start p f l k at o = ⊎_elim (λ e. page-within start p l at e) (λ c. ⊎_elim (λ (e : at ≡ places.Owner f). subst (Within start) (sym e) k) (λ w. subst (Within start) (sym w.2) (k, w.1)) c) o
+both-within start p f l k at o = ⊎_elim (λ e. page-within start p l at e) (λ c. ⊎_elim (λ (e : at ≡ Place.Owner f). subst (Within start) (sym e) k) (λ w. subst (Within start) (sym w.2) (k, w.1)) c) o
 
 stores-at : (p f i : ℕ) (xs : List ℕ) → i + length xs ≤ 64 → Each (λ (d : Did). IsOfBoth p f d.at) (stores-did f i xs)
 stores-at p f i [] l = tt
@@ -310,10 +295,10 @@ stores-home : (p f i : ℕ) (xs : List ℕ) → StaysHome p (stores-did f i xs)
 stores-home p f i [] = tt
 stores-home p f i (x ∷ xs) = ((λ _. refl), stores-home p f (i + 1) xs)
 
-state-home : (p : ℕ) (done : List Did) → Each (λ (d : Did). d.at ≡ places.State p) done → StaysHome p done
-state-home p done steps = home-else p done (each-map (λ (d : Did). d.at ≡ places.State p) (λ (d : Did). d.at ≢ places.Fault p) (λ d at here. (let no : places.State p ≡ places.Fault p = sym at ∙ here in cc)) done steps)
+state-home : (p : ℕ) (done : List Did) → Each (λ (d : Did). d.at ≡ Place.State p) done → StaysHome p done
+state-home p done steps = home-else p done (each-map (λ (d : Did). d.at ≡ Place.State p) (λ (d : Did). d.at ≢ Place.Fault p) (λ d at here. (let no : Place.State p ≡ Place.Fault p = sym at ∙ here in cc)) done steps)
 
-module _ (p : ℕ) (before : List Did) (steps : Each (λ (d : Did). d.at ≡ places.State p) before) (a b c d : ℕ) where
+module _ (p : ℕ) (before : List Did) (steps : Each (λ (d : Did). d.at ≡ Place.State p) before) (a b c d : ℕ) where
   abbrev calls : List Did
   calls = two-loads p a b ++ two-loads p c d
 
@@ -324,13 +309,13 @@ module _ (p : ℕ) (before : List Did) (steps : Each (λ (d : Did). d.at ≡ pla
   -- the block was read, its words stored, the page put into the frame and named as its owner, and released with this word
   module _ (f trans owner word : ℕ) (page : List ℕ) (long : length page ≡ 64) where
     abbrev brought-did : List Did
-    brought-did = (before ++ ((calls ++ stores-did f 0 page) ++ did_store (places.Translation p) trans ∷ did_store (places.Owner f) owner ∷ [])) ++ did_store (places.State p) word ∷ []
+    brought-did = (before ++ ((calls ++ stores-did f 0 page) ++ did_store (Place.Translation p) trans ∷ did_store (Place.Owner f) owner ∷ [])) ++ did_store (Place.State p) word ∷ []
 
     pub brought-at : Each (λ (d : Did). IsOfBoth p f d.at) brought-did
     brought-at =
         let P : Did → Type 0 = λ d. IsOfBoth p f d.at in
-        let install : List Did = did_store (places.Translation p) trans ∷ did_store (places.Owner f) owner ∷ [] in
-        let end : List Did = did_store (places.State p) word ∷ [] in
+        let install : List Did = did_store (Place.Translation p) trans ∷ did_store (Place.Owner f) owner ∷ [] in
+        let end : List Did = did_store (Place.State p) word ∷ [] in
         let filled : List Did = calls ++ stores-did f 0 page in
         each-both P (before ++ (filled ++ install)) end
         (each-both P before (filled ++ install) (each-map _ P (λ (d : Did) e. inl (subst (IsOfPage p) (sym e) refl)) before steps)
@@ -339,25 +324,25 @@ module _ (p : ℕ) (before : List Did) (steps : Each (λ (d : Did). d.at ≡ pla
 
     pub brought-once : ReadsOnce p brought-did
     brought-once =
-        let install : List Did = did_store (places.Translation p) trans ∷ did_store (places.Owner f) owner ∷ [] in
-        let end : List Did = did_store (places.State p) word ∷ [] in
+        let install : List Did = did_store (Place.Translation p) trans ∷ did_store (Place.Owner f) owner ∷ [] in
+        let end : List Did = did_store (Place.State p) word ∷ [] in
         let home = home-both p (stores-did f 0 page ++ install) end (home-both p (stores-did f 0 page) install (stores-home p f 0 page) ((λ _. refl), ((λ _. refl), tt))) ((λ _. refl), tt) in
         read-once brought-did ((stores-did f 0 page ++ install) ++ end) (append_assoc before ((calls ++ stores-did f 0 page) ++ install) end) home
 
   -- the read failed: the fault word was raised, and the page released with this word
   module _ (count word : ℕ) where
     abbrev failed-did : List Did
-    failed-did = (before ++ (calls ++ did_store (places.Fault p) count ∷ [])) ++ did_store (places.State p) word ∷ []
+    failed-did = (before ++ (calls ++ did_store (Place.Fault p) count ∷ [])) ++ did_store (Place.State p) word ∷ []
 
     pub failed-at : Each (λ (d : Did). IsOfPage p d.at) failed-did
     failed-at =
         let P : Did → Type 0 = λ d. IsOfPage p d.at in
-        let raised : List Did = calls ++ did_store (places.Fault p) count ∷ [] in
-        each-both P (before ++ raised) (did_store (places.State p) word ∷ [])
+        let raised : List Did = calls ++ did_store (Place.Fault p) count ∷ [] in
+        each-both P (before ++ raised) (did_store (Place.State p) word ∷ [])
         (each-both P before raised (each-map _ P (λ (d : Did) e. subst (IsOfPage p) (sym e) refl) before steps) (refl, (refl, (refl, (refl, (refl, tt))))))
         (refl, tt)
 
     pub failed-once : ReadsOnce p failed-did
     failed-once =
-        read-once failed-did (did_store (places.Fault p) count ∷ did_store (places.State p) word ∷ [])
-        (append_assoc before (calls ++ did_store (places.Fault p) count ∷ []) (did_store (places.State p) word ∷ [])) ((λ _. refl), ((λ _. refl), tt))
+        read-once failed-did (did_store (Place.Fault p) count ∷ did_store (Place.State p) word ∷ [])
+        (append_assoc before (calls ++ did_store (Place.Fault p) count ∷ []) (did_store (Place.State p) word ∷ [])) ((λ _. refl), ((λ _. refl), tt))

@@ -1,20 +1,18 @@
 -- The page was found evicted and locked, and its block was read: it is installed with the block's words and released, or released as evicted.
 use Rattle.vm_core.specs.Fn as fns
-use Rattle.vm_rule.specs.declared.view.Place.TheVariants as places
 use Rattle.vm_fault.proofs.Ending.{both-within, brought-at, brought-once, EndsAs, evicted-ends, failed-at, failed-once, IsHeldEmpty, page-within}
 use Rattle.vm_fault.proofs.Ending.{still-draft, still-free, still-last, still-owns, still-paid, unlocked-ends}
 use Rattle.vm_step.specs.steps.Owner.{OwnerTold}
 use Rattle.vm_step.proofs.steps.Owner.{settle-did, settle-frames, settle-held, settle-notes, settle-out, settle-works, stands-installed}
 use Rattle.vm_rule.specs.Prelude.{StandsIn}
-use Rattle.vm_fault.proofs.Prelude.{[], all-stored, ap, arith, Bool, call-did, called, Change, clean_in, count_more, counts-one, Did, did_store, Each}
-use Rattle.vm_fault.proofs.Prelude.{Entry, Err, EVICTED, EvictTold, false, filled, fills, Fills, goes-out, has, HasWritten, Held, held_at, HomeTold}
-use Rattle.vm_fault.proofs.Prelude.{if◌then◌else◌, inl, InstallTold, is_ok, IsBrought, IsFailed, IsNotOut, IsOfBoth}
-use Rattle.vm_fault.proofs.Prelude.{IsOfPage, IsSome, length, List, MAX_VERSION, may-bring, MayBring, MayEvict, MayGiveUp, MayPutInto, MayRaise}
-use Rattle.vm_fault.proofs.Prelude.{MayTakeOut, Moves, no_held, None, none-some, noted-more, notes_of, Ok, OnOk, or_left, Origin, out_at, OutTold}
-use Rattle.vm_fault.proofs.Prelude.{put_at, raise-held, raise-works, RaiseTold, Reads, refl, ReleaseTold, Result, rules, Seat, seat_of, slice_index}
-use Rattle.vm_fault.proofs.Prelude.{Some, Start, Stored, Stores, stores-did, subst, sym, trans_word, true, two-loads, UNLOCKED, Version, View}
-use Rattle.vm_fault.proofs.Prelude.{without, word_of, Works, works-then, written-behind, written-front, ℕ, ◌++◌, ◌+◌, ◌<◌, ◌∙◌, ◌∷◌, ◌≡◌, ◌≤◌}
-use Rattle.vm_fault.proofs.Prelude.{append_assoc}
+use Rattle.vm_fault.proofs.Prelude.{[], all-stored, ap, append_assoc, arith, Bool, call-did, called, Change, clean_in, count_more, counts-one, Did, did_store}
+use Rattle.vm_fault.proofs.Prelude.{Each, Entry, Err, EVICTED, EvictTold, false, filled, fills, Fills, goes-out, has, HasWritten, Held, held_at, HomeTold}
+use Rattle.vm_fault.proofs.Prelude.{if◌then◌else◌, inl, InstallTold, is_ok, IsBrought, IsFailed, IsFirst, IsMember, IsNotOut, IsOfBoth, IsOfPage, IsSome}
+use Rattle.vm_fault.proofs.Prelude.{length, List, MAX_VERSION, may-bring, MayBring, MayEvict, MayGiveUp, MayPutInto, MayRaise, MayTakeOut, Moves, no_held, None}
+use Rattle.vm_fault.proofs.Prelude.{none-some, noted-more, notes_of, Ok, OnOk, or_left, Origin, out_at, OutTold, Place, put_at, raise-held, raise-works}
+use Rattle.vm_fault.proofs.Prelude.{RaiseTold, Reads, refl, ReleaseTold, Result, rules, Seat, seat_of, slice_index, Some, Start, Stored, Stores, stores-did}
+use Rattle.vm_fault.proofs.Prelude.{subst, sym, trans_word, true, two-loads, UNLOCKED, Version, View, without, word_of, Works, works-then, written-behind}
+use Rattle.vm_fault.proofs.Prelude.{written-front, ℕ, ◌++◌, ◌+◌, ◌<◌, ◌∙◌, ◌∷◌, ◌≡◌, ◌≤◌}
 
 module _ {X : Type 0} (p version : ℕ) (words : List ℕ) (before : List Did) (v x : View X) (h : IsHeldEmpty p version words before v x) where
   -- the block may be taken out
@@ -87,14 +85,11 @@ module _ {X : Type 0} (p version : ℕ) (words : List ℕ) (before : List Did) (
       empty-then = ap (λ (y : Held). y.mapping) held-filled ∙ h.empty
 
       pub may-put : MayPutInto e p f
-      may-put = record {
-        owns = still-owns p version words before filled-did v x e h work-filled;
-        empty = empty-then;
-        holds = ap (has f) (filled-as.frames ∙ moved.keeps.frames) ∙ holds;
-        loaded = λ tells.
-            let told : x.start.tells ≡ true = ap (λ (y : Origin). y.tells) (sym work-filled.leaves.start) ∙ tells in
-            filled f page d e (long u ok) s ∙ given u ok told ∙ sym (same u ok told) ∙ ap (λ (y : Held). y.block.words) (sym held-filled);
-      }
+      may-put =
+          let loaded = λ (tells : e.start.tells ≡ true).
+          let told : x.start.tells ≡ true = ap (λ (y : Origin). y.tells) (sym work-filled.leaves.start) ∙ tells in
+          filled f page d e (long u ok) s ∙ given u ok told ∙ sym (same u ok told) ∙ ap (λ (y : Held). y.block.words) (sym held-filled) in
+          search (rules, still-owns p version words before filled-did v x e h work-filled, empty-then, ap (has f) (filled-as.frames ∙ moved.keeps.frames) ∙ holds, loaded)
 
       pub may-own : (i : View X) → InstallTold p f e i → StandsIn i p f
       may-own i t = stands-installed may-put.owns t
@@ -117,26 +112,14 @@ module _ {X : Type 0} (p version : ℕ) (words : List ℕ) (before : List Did) (
         may-give_up may_release inside =
             let owns = still-owns p version words before worked-did v x i h work-installed in
             let last = still-last p version words before worked-did v x i h work-installed in
-            let paid = still-paid p version words before worked-did v x i h work-installed in
             let unchanged = still-draft p version words before worked-did v x i h work-installed ∙ ap (λ (y : Version). y.words) (sym last) in
-            record {
-              owns = owns;
-              resident = subst (λ (y : Held). IsSome y.mapping) (sym held-installed) refl;
-              owned = ap (λ (y : Held). y.owner) held-installed;
-              told = subst (λ (y : Held). y.fault ≡ y.block.count) (sym held-installed) (h.told ∙ sym o.slot.block.count ∙ sym (count-same u ok));
-              home = not-out i out-installed;
-              at = ap (λ (y : Version). y.version) (sym last);
-              group = inl record {
-                members = (record { page = subst (λ (y : Origin). p < y.pages) (sym work-installed.leaves.start) inside; owns = owns; free = still-free p version words before worked-did v x i h work-installed; claimed = λ tells. inl unchanged }, tt);
-                apart = (refl, tt);
-                few = omega arith;
-                owner = λ tells. inl (refl, (unchanged, paid, tt));
-              };
-            }
+            let member : IsMember i p = record { page = subst (λ (y : Origin). p < y.pages) (sym work-installed.leaves.start) inside; owns = owns; free = still-free p version words before worked-did v x i h work-installed; claimed = λ tells. inl unchanged } in
+            let first : IsFirst may_release p [] None i = record { members = (member, tt); apart = (refl, tt); few = omega arith; owner = λ tells. inl (refl, (unchanged, still-paid p version words before worked-did v x i h work-installed, tt)) } in
+            search (rules, ap, owns, subst (λ (y : Held). IsSome y.mapping) (sym held-installed) refl, held-installed, subst (λ (y : Held). y.fault ≡ y.block.count) (sym held-installed) (h.told ∙ sym o.slot.block.count ∙ sym (count-same u ok)), not-out i out-installed, ap (λ (y : Version). y.version) (sym last), first)
 
         module _ (below : version < MAX_VERSION) (none : x.out ≡ None) (w : View X) (r : ReleaseTold p version [] None i w) (inside : p < x.start.pages) (frame : f < x.start.frames) where
           abbrev end-did : Did
-          end-did = did_store (places.State p) (version + 1)
+          end-did = did_store (Place.State p) (version + 1)
 
           ends : EndsAs p version words before worked-did v x i h work-installed UNLOCKED ((before ++ worked-did) ++ end-did ∷ []) w
           ends = unlocked-ends p version words before worked-did v x i h work-installed below w r
@@ -145,38 +128,23 @@ module _ {X : Type 0} (p version : ℕ) (words : List ℕ) (before : List Did) (
           steps-are = brought-at p before h.steps o.first o.second m.first m.second f (trans_word (Some (clean_in f))) (p + 1) (version + 1) page (long u ok)
 
           pub brought : IsBrought p f v w
-          brought = record {
-            done = (before ++ worked-did) ++ end-did ∷ [];
-            aside = ends.aside (out-installed ∙ sym none ∙ h.out);
-            version = version;
-            words = words;
-            released = ends.released;
-            steps = steps-are;
-            block = brought-once p before h.steps o.first o.second m.first m.second f (trans_word (Some (clean_in f))) (p + 1) (version + 1) page (long u ok);
-            alone = ends.runs;
-            table = ends.knows (IsOfBoth p f)
-                (both-within v.start p f (subst (λ (y : Origin). p < y.pages) h.leaves.start inside) (subst (λ (y : Origin). f < y.frames) h.leaves.start frame)) steps-are;
-            mapped =
-                written-front (before ++ worked-did) (end-did ∷ []) (places.Translation p) (trans_word (Some (clean_in f)))
-                (written-behind before worked-did (places.Translation p) (trans_word (Some (clean_in f)))
-                record { earlier = filled-did; step = did_store (places.Translation p) (trans_word (Some (clean_in f))); later = did_store (places.Owner f) (p + 1) ∷ []; cut = refl; place = refl; wrote = refl });
-            owned =
-                written-front (before ++ worked-did) (end-did ∷ []) (places.Owner f) (p + 1)
-                (written-behind before worked-did (places.Owner f) (p + 1)
-                record { earlier = filled-did ++ did_store (places.Translation p) (trans_word (Some (clean_in f))) ∷ []; step = did_store (places.Owner f) (p + 1); later = []; cut = sym (append_assoc filled-did (did_store (places.Translation p) (trans_word (Some (clean_in f))) ∷ []) (did_store (places.Owner f) (p + 1) ∷ [])); place = refl; wrote = refl });
-            stored = λ tells k l.
-                let told : x.start.tells ≡ true = ap (λ (y : Origin). y.tells) h.leaves.start ∙ tells in
-                subst (λ (ws : List ℕ). HasWritten ((before ++ worked-did) ++ end-did ∷ []) (places.Content f k) (slice_index ws k)) (given u ok told ∙ had-words told)
-                (written-front (before ++ worked-did) (end-did ∷ []) (places.Content f k) (slice_index page k)
-                (written-behind before worked-did (places.Content f k) (slice_index page k)
-                (written-front filled-did (settle-did t named) (places.Content f k) (slice_index page k)
-                (written-behind called-did (stores-did f 0 page) (places.Content f k) (slice_index page k) (all-stored f page k (long u ok) l)))));
-            frames =
-                ap (λ (y : View X). y.frames) r.brings.view
-                ∙ settle-frames t named
-                ∙ ap (without f) (filled-as.frames ∙ moved.keeps.frames ∙ h.keeps.frames);
-            notes = ap (λ (y : View X). y.notes) r.brings.view ∙ settle-notes t named ∙ filled-as.notes ∙ moved.keeps.notes ∙ h.keeps.notes;
-          }
+          brought =
+              let did : List Did = (before ++ worked-did) ++ end-did ∷ [] in
+              let trans : ℕ = trans_word (Some (clean_in f)) in
+              let inside-v = both-within v.start p f (subst (λ (y : Origin). p < y.pages) h.leaves.start inside) (subst (λ (y : Origin). f < y.frames) h.leaves.start frame) in
+              let put : HasWritten worked-did (Place.Translation p) trans = record { earlier = filled-did; step = did_store (Place.Translation p) trans; later = did_store (Place.Owner f) (p + 1) ∷ []; cut = refl; place = refl; wrote = refl } in
+              let owner : HasWritten worked-did (Place.Owner f) (p + 1) = record { earlier = filled-did ++ did_store (Place.Translation p) trans ∷ []; step = did_store (Place.Owner f) (p + 1); later = []; cut = sym (append_assoc filled-did (did_store (Place.Translation p) trans ∷ []) (did_store (Place.Owner f) (p + 1) ∷ [])); place = refl; wrote = refl } in
+              let within : (at : Place) (n : ℕ) → HasWritten worked-did at n → HasWritten did at n = λ at n w. written-front (before ++ worked-did) (end-did ∷ []) at n (written-behind before worked-did at n w) in
+              let stored = λ (tells : v.start.tells ≡ true) (k : ℕ) (l : k < 64).
+              let told : x.start.tells ≡ true = ap (λ (y : Origin). y.tells) h.leaves.start ∙ tells in
+              subst (λ (ws : List ℕ). HasWritten did (Place.Content f k) (slice_index ws k)) (given u ok told ∙ had-words told)
+              (within (Place.Content f k) (slice_index page k)
+              (written-front filled-did (settle-did t named) (Place.Content f k) (slice_index page k)
+              (written-behind called-did (stores-did f 0 page) (Place.Content f k) (slice_index page k) (all-stored f page k (long u ok) l)))) in
+              let frames = ap (λ (y : View X). y.frames) r.brings.view ∙ settle-frames t named ∙ ap (without f) (filled-as.frames ∙ moved.keeps.frames ∙ h.keeps.frames) in
+              let notes = ap (λ (y : View X). y.notes) r.brings.view ∙ settle-notes t named ∙ filled-as.notes ∙ moved.keeps.notes ∙ h.keeps.notes in
+              let once = brought-once p before h.steps o.first o.second m.first m.second f trans (p + 1) (version + 1) page (long u ok) in
+              search (rules, ends.aside (out-installed ∙ sym none ∙ h.out), ends.released, steps-are, once, ends.runs, ends.knows (IsOfBoth p f) inside-v steps-are, within (Place.Translation p) trans put, within (Place.Owner f) (p + 1) owner, stored, frames, notes)
 
     -- ---- the read failed
 
@@ -188,7 +156,7 @@ module _ {X : Type 0} (p version : ℕ) (words : List ℕ) (before : List Did) (
 
     module _ (n : ℕ) (is : n ≡ new.count) (y : View X) (t : RaiseTold p n d y) where
       abbrev raise-did : Did
-      raise-did = did_store (places.Fault p) n
+      raise-did = did_store (Place.Fault p) n
 
       abbrev raised-did : List Did
       raised-did = called-did ++ raise-did ∷ []
@@ -209,7 +177,7 @@ module _ {X : Type 0} (p version : ℕ) (words : List ℕ) (before : List Did) (
 
       module _ (u : E) (err : result ≡ Err u) (bounded : new.count ≤ new.bound) (below : version < MAX_VERSION) (none : x.out ≡ None) (w : View X) (r : EvictTold p version y w) (inside : p < x.start.pages) where
         abbrev evict-did : Did
-        evict-did = did_store (places.State p) (word_of EVICTED (version + 1))
+        evict-did = did_store (Place.State p) (word_of EVICTED (version + 1))
 
         count : new.count ≡ count_more old.count
         count = read.count ∙ ap (λ (z : Result (Unit {0}) E). if is_ok z then old.count else count_more old.count) err
@@ -236,27 +204,15 @@ module _ {X : Type 0} (p version : ℕ) (words : List ℕ) (before : List Did) (
         steps-of = failed-at p before h.steps o.first o.second m.first m.second n (word_of EVICTED (version + 1))
 
         pub failed : IsFailed p n v w
-        failed = record {
-          done = (before ++ raised-did) ++ evict-did ∷ [];
-          aside = evicts.aside (out-raised ∙ sym none ∙ h.out);
-          version = version;
-          words = words;
-          released = evicts.released;
-          steps = steps-of;
-          block = failed-once p before h.steps o.first o.second m.first m.second n (word_of EVICTED (version + 1));
-          alone = evicts.runs;
-          table = evicts.knows (IsOfPage p) (page-within v.start p (subst (λ (y : Origin). p < y.pages) h.leaves.start inside)) steps-of;
-          raised =
-              written-front (before ++ raised-did) (evict-did ∷ []) (places.Fault p) n
-              (written-behind before raised-did (places.Fault p) n record { earlier = called-did; step = raise-did; later = []; cut = refl; place = refl; wrote = refl });
-          noted =
-              ap (λ (z : View X). z.notes) r.brings.view
-              ∙ ap (λ (z : View X). z.notes) t.brings.view
-              ∙ ap (λ l. d.notes ++ l) noted-once
-              ∙ ap (λ l. l ++ record { page = p; count = n } ∷ []) (moved.keeps.notes ∙ h.keeps.notes);
-          within = allowed;
-          frames = (
-            ap (λ (z : View X). z.frames) r.brings.view ∙ ap (λ (z : View X). z.frames) t.brings.view ∙ moved.keeps.frames ∙ h.keeps.frames,
-            ap (λ (z : View X). z.contents) r.brings.view ∙ ap (λ (z : View X). z.contents) t.brings.view ∙ moved.keeps.contents ∙ h.keeps.contents,
-          );
-        }
+        failed =
+            let inside-v = page-within v.start p (subst (λ (y : Origin). p < y.pages) h.leaves.start inside) in
+            let written : HasWritten raised-did (Place.Fault p) n = record { earlier = called-did; step = raise-did; later = []; cut = refl; place = refl; wrote = refl } in
+            let raised = written-front (before ++ raised-did) (evict-did ∷ []) (Place.Fault p) n (written-behind before raised-did (Place.Fault p) n written) in
+            let noted =
+            ap (λ (z : View X). z.notes) r.brings.view
+            ∙ ap (λ (z : View X). z.notes) t.brings.view
+            ∙ ap (λ l. d.notes ++ l) noted-once
+            ∙ ap (λ l. l ++ record { page = p; count = n } ∷ []) (moved.keeps.notes ∙ h.keeps.notes) in
+            let frames = ap (λ (z : View X). z.frames) r.brings.view ∙ ap (λ (z : View X). z.frames) t.brings.view ∙ moved.keeps.frames ∙ h.keeps.frames in
+            let contents = ap (λ (z : View X). z.contents) r.brings.view ∙ ap (λ (z : View X). z.contents) t.brings.view ∙ moved.keeps.contents ∙ h.keeps.contents in
+            search (rules, evicts.aside (out-raised ∙ sym none ∙ h.out), evicts.released, steps-of, failed-once p before h.steps o.first o.second m.first m.second n (word_of EVICTED (version + 1)), evicts.runs, evicts.knows (IsOfPage p) inside-v steps-of, raised, noted, allowed, frames, contents)

@@ -1,24 +1,23 @@
 -- What the proofs of this crate cite from the crates below and from its own specs, passed on from one place. Declares nothing.
-pub use Rattle.std.proofs.Common.{[], ap, append_assoc, arith, Bool, eqb, Err, false, if◌then◌else◌, inl, inr, is_ok, IsSome, length, List, None, Ok}
-pub use Rattle.std.proofs.Common.{OnOk, refl, Result, rules, slice_index, Some, subst, sym, true, ℕ, ⊎_elim, ◌++◌, ◌+◌, ◌<◌, ◌∙◌, ◌∷◌, ◌≡◌, ◌≢◌, ◌≤◌, ◌⊎◌}
+pub use Rattle.std.proofs.Common.{[], ap, append_assoc, arith, Bool, eqb, Err, false, if◌then◌else◌, inl, inr, is_ok, IsSome, length, List, None, Ok, OnOk}
+pub use Rattle.std.proofs.Common.{refl, Result, rules, slice_index, Some, subst, sym, true, ℕ, ⊎_elim, ◌++◌, ◌+◌, ◌<◌, ◌∙◌, ◌∷◌, ◌≡◌, ◌≢◌, ◌≤◌, ◌⊎◌}
 pub use Rattle.std.proofs.lemmas.Bool.{cases_eq, cond-false, false≢true, ne_eqb, or_left}
 pub use Rattle.std.proofs.lemmas.Option.{none-some}
 pub use Rattle.vm_block.specs.Blocks.{Reads}
 pub use Rattle.vm_core.specs.Prelude.{EVICTED, LOCKED, MAX_VERSION, trans_word, UNLOCKED, Version}
 pub use Rattle.vm_rule.specs.{declared.view.Held.Held, declared.view.Place.Place}
-pub use Rattle.vm_rule.specs.Prelude.{Brings, Change, clean_in, did_exchange, did_load, did_store, draft_of, Each, Entry, EvictTold, has, held_at}
-pub use Rattle.vm_rule.specs.Prelude.{HomeTold, InstallTold, IsHeldAt, IsLocking, IsUnheld, last_in, last_of, locked_view, LockTold, LookTold, Mapping}
-pub use Rattle.vm_rule.specs.Prelude.{MayBring, MayPutInto, no_held, notes_of, out_at, OutTold, put_at, RaiseTold, ReleaseTold, Seat, seat_of, Start}
-pub use Rattle.vm_rule.specs.Prelude.{Stored, Within, without}
+pub use Rattle.vm_rule.specs.Prelude.{Brings, Change, clean_in, did_exchange, did_load, did_store, draft_of, Each, Entry, EvictTold, has, held_at, HomeTold}
+pub use Rattle.vm_rule.specs.Prelude.{InstallTold, IsHeldAt, IsLocking, IsUnheld, last_in, last_of, locked_view, LockTold, LookTold, Mapping, MayBring}
+pub use Rattle.vm_rule.specs.Prelude.{MayPutInto, no_held, notes_of, out_at, OutTold, put_at, RaiseTold, ReleaseTold, Seat, seat_of, Start, Stored, Within}
+pub use Rattle.vm_rule.specs.Prelude.{without}
 pub use Rattle.vm_rule.proofs.{Entries.each-map, Heard.each-both}
 pub use Rattle.vm_rule.proofs.WordFacts.{version-within, word-made, word-state, word-version}
-pub use Rattle.vm_step.specs.Evidence.{EvictedExpected}
-pub use Rattle.vm_step.specs.Prelude.{Did, HasGiven, HasWritten, IsAlone, IsAside, IsNotOut, IsOfPage, KeepsFrames, known_word_at, KnowsElse, LeavesRest}
-pub use Rattle.vm_step.specs.Prelude.{MayEvict, MayGiveUp, MayRaise, MayTakeOut, Origin, Release, RunsAlone, StaysAlone, StaysHome, Stores, View, view}
-pub use Rattle.vm_step.specs.Prelude.{Works}
+pub use Rattle.vm_step.specs.{declared.saw.At.At, Evidence.EvictedExpected}
+pub use Rattle.vm_step.specs.Prelude.{Did, HasGiven, HasWritten, IsAlone, IsAside, IsFirst, IsMember, IsNotOut, IsOfPage, KeepsFrames, known_word_at, KnowsElse}
+pub use Rattle.vm_step.specs.Prelude.{LeavesRest, MayEvict, MayGiveUp, MayRaise, MayTakeOut, Origin, Release, RunsAlone, StaysAlone, StaysHome, Stores, view}
+pub use Rattle.vm_step.specs.Prelude.{View, Works}
 pub use Rattle.vm_step.proofs.{DeviceCalls.home-both, DeviceCalls.home-else, Saws.lost-saw, steps.Look.look-leaves, steps.Look.look-only}
-pub use Rattle.vm_step.proofs.{steps.Mapping.install-held, steps.Mapping.install-works, steps.Raise.raise-held, steps.Raise.raise-works}
-pub use Rattle.vm_step.proofs.{steps.Unchanged.lost-only}
+pub use Rattle.vm_step.proofs.{steps.Raise.raise-held, steps.Raise.raise-works, steps.Unchanged.lost-only}
 pub use Rattle.vm_step.proofs.Alone.{found-known, runs-one, runs-then, same-word, stays-alone, still-alone, words-known}
 pub use Rattle.vm_step.proofs.Asides.{alone-then, only-then, OnlyReads}
 pub use Rattle.vm_step.proofs.Device.{call-did, called, counts-one, goes-out, may-bring, Moves, noted-more, two-loads}
@@ -30,6 +29,6 @@ pub use Rattle.vm_step.proofs.steps.Leaving.{LeavesOthers, LeavesOwn, rest-of}
 pub use Rattle.vm_step.proofs.steps.Lock.{lock-brings, lock-draft, lock-held, lock-leaves, lock-others, lock-seat}
 pub use Rattle.vm_step.proofs.steps.Release.{evict-alone, evict-last, evict-others, evict-seat, evict-silent, release-alone, release-last, release-others}
 pub use Rattle.vm_step.proofs.steps.Release.{release-seat, release-silent}
-pub use Rattle.vm_fault.specs.Fetches.{IsBrought, IsFailed, IsFetched, IsFetchToTry, IsFetchWorn, IsFoundEvicted, IsOfBoth, IsReleasedAs, KnowsReleased}
-pub use Rattle.vm_fault.specs.Fetches.{ReadsOnce}
+pub use Rattle.vm_fault.specs.Fetches.{IsBrought, IsFailed, IsFetched, IsFetchToTry, IsFetchWorn, IsFoundEvicted, IsLostTo, IsOfBoth, IsReleasedAs, IsWornIn}
+pub use Rattle.vm_fault.specs.Fetches.{KnowsReleased, ReadsOnce}
 unfoldable pub use Rattle.vm_core.specs.Prelude.{count_more, state_of, version_of, word_of}

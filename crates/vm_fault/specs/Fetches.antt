@@ -5,18 +5,16 @@ use Rattle.vm_core.specs.Fn as fns
 use Rattle.vm_core.specs.Prelude.{EVICTED, MAX_VERSION, state_of, trans_word, UNLOCKED, version_of, word_of, WORDS}
 use Rattle.vm_rule.specs.Prelude.{clean_in, Each, last_in, last_of, LockTold, LookTold, Start, without}
 use Rattle.vm_rule.specs.declared.view.Place.{Place}
-use Rattle.vm_rule.specs.declared.view.Place.TheVariants as places
 use Rattle.vm_step.specs.{declared.saw.Saw.Saw, Evidence.EvictedExpected}
 use Rattle.vm_step.specs.Prelude.{Did, GoesOnce, HasGiven, HasWritten, IsAlone, IsAside, IsLost, IsOfPage, IsSaw, KeepsFrames, known_word_at}
 use Rattle.vm_step.specs.Prelude.{KnowsElse, KnowsSame, NoWord, Release, RunsAlone, View}
-use Rattle.vm_step.specs.declared.saw.At.TheVariants as ats
+use Rattle.vm_step.specs.declared.saw.At.{At}
 use Rattle.vm_fault.specs.declared.fault.Fetch.{Fetch}
-use Rattle.vm_fault.specs.declared.fault.Fetch.TheVariants as fetches
 
 -- the page was found at the last version, in a state other than evicted: no lock of it may be tried
 pub record IsWornIn (done : List Did) (p : ℕ) (saw : Saw) : Type 0 where
-  pub given : HasGiven done (places.State p) saw.seen
-  pub foreign : Each (λ d. d.at ≡ places.State p → d.wrote ≢ Some saw.seen) given.earlier
+  pub given : HasGiven done (Place.State p) saw.seen
+  pub foreign : Each (λ d. d.at ≡ Place.State p → d.wrote ≢ Some saw.seen) given.earlier
   pub last : version_of saw.seen ≡ MAX_VERSION
   pub other : state_of saw.seen ≢ EVICTED
   pub first : saw.first ≡ word_of EVICTED MAX_VERSION
@@ -28,12 +26,12 @@ pub record IsLostTo (done : List Did) (p : ℕ) (saw : Saw) : Type 0 where
   pub step : Did
   pub later : List Did
   pub cut : done ≡ earlier ++ step ∷ later
-  pub lost : IsLost step (places.State p) saw.first saw.seen
+  pub lost : IsLost step (Place.State p) saw.first saw.seen
   pub first : state_of saw.first ≡ EVICTED
 
 -- a place of page p, or one of frame f: its owner word, or one of its words
 abbrev pub IsOfBoth : ℕ → ℕ → Place → Type 0
-IsOfBoth p f at = IsOfPage p at ⊎ ((at ≡ places.Owner f) ⊎ ((i : ℕ) × (i < WORDS) × (at ≡ places.Content f i)))
+IsOfBoth p f at = IsOfPage p at ⊎ ((at ≡ Place.Owner f) ⊎ ((i : ℕ) × (i < WORDS) × (at ≡ Place.Content f i)))
 
 -- the block of page p went out once and came home once, with no step between: so its device was called once at most
 abbrev pub ReadsOnce : ℕ → List Did → Type 0
@@ -43,8 +41,8 @@ module _ {X : Type 0} where
   -- what a pass that was alone knows then: the page was evicted at this version, its word is this one at the next, and all words but those at
   -- the places touched are as before
   pub record KnowsReleased (touched : Place → Type 0) (state p version : ℕ) (v w : View X) : Type 0 where
-    pub before : known_word_at v (places.State p) ≡ word_of EVICTED version
-    pub now : known_word_at w (places.State p) ≡ word_of state (version + 1)
+    pub before : known_word_at v (Place.State p) ≡ word_of EVICTED version
+    pub now : known_word_at w (Place.State p) ≡ word_of state (version + 1)
     pub others : KnowsElse touched v w
 
   -- a look at page p led on from v, and then the lock of the page, which was evicted at this version, to w
@@ -56,13 +54,13 @@ module _ {X : Type 0} where
 
   -- the pass knows that page p is evicted below the last version
   abbrev pub IsKnownOut : ℕ → View X → Type 0
-  IsKnownOut p v = (state_of (known_word_at v (places.State p)) ≡ EVICTED) × (version_of (known_word_at v (places.State p)) < MAX_VERSION)
+  IsKnownOut p v = (state_of (known_word_at v (Place.State p)) ≡ EVICTED) × (version_of (known_word_at v (Place.State p)) < MAX_VERSION)
 
   -- page p was found evicted at this version, below the last, and was released with this word at the next one; its words are those that it had
   pub record IsReleasedAs (state p version : ℕ) (words : List ℕ) (done : List Did) (v w : View X) : Type 0 where
     pub below : version < MAX_VERSION
-    pub found : HasGiven done (places.State p) (word_of EVICTED version)
-    pub left : HasWritten done (places.State p) (word_of state (version + 1))
+    pub found : HasGiven done (Place.State p) (word_of EVICTED version)
+    pub left : HasWritten done (Place.State p) (word_of state (version + 1))
     pub between : List Release
     pub releases : w.releases ≡ (v.releases ++ between) ++ record { page = p; version = version + 1; words = words } ∷ []
     pub same : last_in v.start (v.releases ++ between) p ≡ record { version = version; words = words }
@@ -80,9 +78,9 @@ module _ {X : Type 0} where
     pub block : ReadsOnce p done
     pub alone : RunsAlone done (record { page = p; version = version + 1; words = words } ∷ []) v w
     pub table : IsAlone v → KnowsReleased (IsOfBoth p f) UNLOCKED p version v w
-    pub mapped : HasWritten done (places.Translation p) (trans_word (Some (clean_in f)))
-    pub owned : HasWritten done (places.Owner f) (p + 1)
-    pub stored : v.start.tells ≡ true → (i : ℕ) → i < WORDS → HasWritten done (places.Content f i) (slice_index words i)
+    pub mapped : HasWritten done (Place.Translation p) (trans_word (Some (clean_in f)))
+    pub owned : HasWritten done (Place.Owner f) (p + 1)
+    pub stored : v.start.tells ≡ true → (i : ℕ) → i < WORDS → HasWritten done (Place.Content f i) (slice_index words i)
     pub frames : w.frames ≡ without f v.frames
     pub notes : w.notes ≡ v.notes
 
@@ -98,7 +96,7 @@ module _ {X : Type 0} where
     pub block : ReadsOnce p done
     pub alone : RunsAlone done (record { page = p; version = version + 1; words = words } ∷ []) v w
     pub table : IsAlone v → KnowsReleased (IsOfPage p) EVICTED p version v w
-    pub raised : HasWritten done (places.Fault p) count
+    pub raised : HasWritten done (Place.Fault p) count
     pub noted : w.notes ≡ v.notes ++ record { page = p; count = count } ∷ []
     pub within : (1 ≤ count) × (count ≤ fns.at 0 v.start.bounds p)
     pub frames : (w.frames ≡ v.frames) × (w.contents ≡ v.contents)
@@ -108,30 +106,30 @@ module _ {X : Type 0} where
     pub done : List Did
     pub aside : IsAside p done v w
     pub keeps : KeepsFrames v w
-    pub steps : Each (λ d. d.at ≡ places.State p) done
+    pub steps : Each (λ d. d.at ≡ Place.State p) done
     pub alone : RunsAlone done [] v w
     pub table : KnowsSame v w
-    pub at : saw.at ≡ ats.Page p
+    pub at : saw.at ≡ At.Page p
     pub why : IsLostTo done p saw ⊎ IsWornIn done p saw
     -- a pass that is alone finds the word that it knew, which is not an evicted page's
-    pub known : IsAlone v → (saw.seen ≡ known_word_at v (places.State p)) × (state_of saw.seen ≢ EVICTED)
+    pub known : IsAlone v → (saw.seen ≡ known_word_at v (Place.State p)) × (state_of saw.seen ≢ EVICTED)
 
   -- it is evicted at the last version
   pub record IsFetchWorn (p : ℕ) (v w : View X) : Type 0 where
     pub done : List Did
     pub aside : IsAside p done v w
     pub keeps : KeepsFrames v w
-    pub steps : Each (λ d. d.at ≡ places.State p) done
+    pub steps : Each (λ d. d.at ≡ Place.State p) done
     pub alone : RunsAlone done [] v w
     pub table : KnowsSame v w
-    pub found : HasGiven done (places.State p) (word_of EVICTED MAX_VERSION)
-    pub foreign : Each (λ d. d.at ≡ places.State p → d.wrote ≢ Some (word_of EVICTED MAX_VERSION)) found.earlier
+    pub found : HasGiven done (Place.State p) (word_of EVICTED MAX_VERSION)
+    pub foreign : Each (λ d. d.at ≡ Place.State p → d.wrote ≢ Some (word_of EVICTED MAX_VERSION)) found.earlier
     -- so a pass that is alone knew
-    pub known : IsAlone v → known_word_at v (places.State p) ≡ word_of EVICTED MAX_VERSION
+    pub known : IsAlone v → known_word_at v (Place.State p) ≡ word_of EVICTED MAX_VERSION
 
   -- what `fault_in` of page p into frame f answers: on every answer but Brought the frame comes back
   abbrev pub IsFetched : ℕ → ℕ → View X → View X → Fetch → Type 0
-  IsFetched p f v w fetches.Brought = IsBrought p f v w
-  IsFetched p f v w (fetches.Again frame saw) = (frame ≡ f) × IsFetchToTry p saw v w
-  IsFetched p f v w (fetches.Worn frame pid) = (frame ≡ f) × (pid ≡ p) × IsFetchWorn p v w
-  IsFetched p f v w (fetches.Device frame pid count) = (frame ≡ f) × (pid ≡ p) × IsFailed p count v w
+  IsFetched p f v w Fetch.Brought = IsBrought p f v w
+  IsFetched p f v w (Fetch.Again frame saw) = (frame ≡ f) × IsFetchToTry p saw v w
+  IsFetched p f v w (Fetch.Worn frame pid) = (frame ≡ f) × (pid ≡ p) × IsFetchWorn p v w
+  IsFetched p f v w (Fetch.Device frame pid count) = (frame ≡ f) × (pid ≡ p) × IsFailed p count v w

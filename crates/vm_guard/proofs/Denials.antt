@@ -1,50 +1,36 @@
 -- A call that looked at a page's word and was denied: at once, or by an exchange that was lost.
-use Rattle.vm_rule.specs.declared.view.Place.TheVariants as places
-use Rattle.vm_step.specs.declared.saw.At.TheVariants as ats
-use Rattle.vm_guard.specs.declared.deny.Deny.TheVariants as denies
-use Rattle.vm_guard.proofs.Prelude.{[], Deny, Did, did_exchange, did_load, Each, inl, inr, IsDenied, IsEvidence, IsQuiet, IsSaw, List, LookTold}
-use Rattle.vm_guard.proofs.Prelude.{lost-saw, None, NoWord, one-given, refl, same, Saw, SaysWhy, Start, subst, sym, View, ℕ, ◌∙◌, ◌∷◌, ◌≡◌, ◌≢◌, ◌⊎◌}
+use Rattle.vm_guard.proofs.Prelude.{[], At, Deny, Did, did_exchange, did_load, Each, inl, inr, IsAlone, IsDenied, IsEvidence, IsQuiet, IsSaw, List, LookTold}
+use Rattle.vm_guard.proofs.Prelude.{lost-saw, None, NoWord, one-given, Place, refl, rules, same, Saw, SaysWhy, Start, subst, sym, View, ℕ, ◌++◌, ◌∙◌, ◌∷◌, ◌≡◌}
+use Rattle.vm_guard.proofs.Prelude.{◌≢◌, ◌⊎◌}
 use Rattle.vm_guard.proofs.QuietSteps.{look-quiet, quiet-then}
 use Rattle.vm_guard.proofs.Sure.{alone-on, look-current, look-leaves, lost-leaves}
 use Rattle.vm_guard.proofs.Unmarking.{load-unmarks, lost-unmarks, one-saw}
 
-word-shows : (kept : ℕ → Type 0) (expects : ℕ → ℕ → Type 0) (p word : ℕ) (d : Deny) → SaysWhy p word d → IsEvidence kept expects (did_load (places.State p) word ∷ []) p d
-word-shows kept expects p word (denies.Again saw) why =
-    subst (λ (s : Saw). (s.at ≡ ats.Page p) × IsSaw kept expects (did_load (places.State p) word ∷ []) s) (sym why.0)
-    (refl, one-saw kept expects p word word (did_load (places.State p) word) (refl, refl) (same refl refl) (inr (inl why.1)))
-word-shows kept expects p word (denies.Need q) why = (why.0, record { word = word; given = one-given p word; load = (refl, refl); evicted = why.1; foreign = tt })
-word-shows kept expects p word (denies.Crowded q) why = (why.0, record { word = word; given = one-given p word; load = (refl, refl); full = why.1; foreign = tt })
-word-shows kept expects p word (denies.Worn q) why = (why.0, record { word = word; given = one-given p word; load = (refl, refl); last = why.1; foreign = tt })
+word-shows : (kept : ℕ → Type 0) (expects : ℕ → ℕ → Type 0) (p word : ℕ) (d : Deny) → SaysWhy p word d → IsEvidence kept expects (did_load (Place.State p) word ∷ []) p d
+word-shows kept expects p word (Deny.Again saw) why =
+    subst (λ (s : Saw). (s.at ≡ At.Page p) × IsSaw kept expects (did_load (Place.State p) word ∷ []) s) (sym why.0)
+    (refl, one-saw kept expects p word word (did_load (Place.State p) word) (refl, refl) (same refl refl) (inr (inl why.1)))
+word-shows kept expects p word (Deny.Need q) why = (why.0, record { word = word; given = one-given p word; load = (refl, refl); evicted = why.1; foreign = tt })
+word-shows kept expects p word (Deny.Crowded q) why = (why.0, record { word = word; given = one-given p word; load = (refl, refl); full = why.1; foreign = tt })
+word-shows kept expects p word (Deny.Worn q) why = (why.0, record { word = word; given = one-given p word; load = (refl, refl); last = why.1; foreign = tt })
 
 -- such a call, all of whose steps are on the page's word
 module _ {X : Type 0} (tied : Start → ℕ → List ℕ → ℕ → List ℕ → Type 0) (allowed : Deny → Type 0) (instead : ℕ → ℕ → Type 0) where
   abbrev pub IsDeniedThere : (ℕ → Type 0) → ℕ → Deny → View X → View X → Type 0
-  IsDeniedThere kept p d v w = (f : IsDenied allowed kept instead p d v w) × Each (λ (k : Did). k.at ≡ places.State p) f.done
+  IsDeniedThere kept p d v w = (f : IsDenied allowed kept instead p d v w) × Each (λ (k : Did). k.at ≡ Place.State p) f.done
 
   pub denied-at-once : {kept : ℕ → Type 0} (p word : ℕ) (d : Deny) (v w : View X) → LookTold tied p None word v w → SaysWhy p word d → allowed d → IsDeniedThere kept p d v w
   denied-at-once {kept = kept} p word d v w t why kind =
-      let f : IsDenied allowed kept instead p d v w = record {
-        done = did_load (places.State p) word ∷ [];
-        quiet = look-quiet tied p word v w t;
-        evidence = word-shows kept instead p word d why;
-        kind = kind;
-        table = look-leaves tied p None word v w t;
-        leaves = (load-unmarks p (places.State p) word, tt);
-        current = look-current tied p None word v w t;
-      } in
+      let f : IsDenied allowed kept instead p d v w = search (rules, look-quiet tied p word v w t, word-shows kept instead p word d why, look-leaves tied p None word v w t, load-unmarks p (Place.State p) word, look-current tied p None word v w t) in
       (f, (refl, tt))
 
-  pub denied-lost : (p word expects found new : ℕ) (v u w : View X) → LookTold tied p None word v u → IsQuiet p (did_exchange (places.State p) expects found new ∷ []) u w
-      → (word ≡ expects) ⊎ instead word expects → found ≢ expects → allowed (denies.Again (record { at = ats.Page p; first = expects; seen = found }))
-      → IsDeniedThere NoWord p (denies.Again (record { at = ats.Page p; first = expects; seen = found })) v w
+  pub denied-lost : (p word expects found new : ℕ) (v u w : View X) → LookTold tied p None word v u → IsQuiet p (did_exchange (Place.State p) expects found new ∷ []) u w
+      → (word ≡ expects) ⊎ instead word expects → found ≢ expects → allowed (Deny.Again (record { at = At.Page p; first = expects; seen = found }))
+      → IsDeniedThere NoWord p (Deny.Again (record { at = At.Page p; first = expects; seen = found })) v w
   denied-lost p word expects found new v u w t quiet from ne kind =
-      let f : IsDenied allowed NoWord instead p (denies.Again (record { at = ats.Page p; first = expects; seen = found })) v w = record {
-        done = did_load (places.State p) word ∷ did_exchange (places.State p) expects found new ∷ [];
-        quiet = quiet-then p (did_load (places.State p) word ∷ []) (did_exchange (places.State p) expects found new ∷ []) v u w (look-quiet tied p word v u t) quiet;
-        evidence = (refl, lost-saw instead p word expects found new from ne);
-        kind = kind;
-        table = λ a. lost-leaves p expects found new u w quiet ne (alone-on tied p word v u t a) ∙ look-leaves tied p None word v u t a;
-        leaves = (load-unmarks p (places.State p) word, lost-unmarks p expects found new ne);
-        current = quiet.alone.current (look-current tied p None word v u t);
-      } in
+      let first : List Did = did_load (Place.State p) word ∷ [] in
+      let all : IsQuiet p (first ++ did_exchange (Place.State p) expects found new ∷ []) v w = quiet-then p first (did_exchange (Place.State p) expects found new ∷ []) v u w (look-quiet tied p word v u t) quiet in
+      let table = λ (a : IsAlone v). lost-leaves p expects found new u w quiet ne (alone-on tied p word v u t a) ∙ look-leaves tied p None word v u t a in
+      let f : IsDenied allowed NoWord instead p (Deny.Again (record { at = At.Page p; first = expects; seen = found })) v w =
+      search (rules, all, lost-saw instead p word expects found new from ne, table, load-unmarks p (Place.State p) word, lost-unmarks p expects found new ne, quiet.alone.current (look-current tied p None word v u t)) in
       (f, (refl, (refl, tt)))

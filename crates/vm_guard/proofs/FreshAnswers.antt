@@ -1,31 +1,27 @@
 -- What a call for one or two fresh pages answers where it gives none: why it is to be tried again, or that a page is worn or too few are left.
-use Rattle.vm_rule.specs.declared.view.Place.TheVariants as places
-use Rattle.vm_step.specs.declared.saw.At.TheVariants as ats
-use Rattle.vm_guard.specs.declared.deny.Deny.TheVariants as denies
-use Rattle.vm_guard.specs.declared.given.Fresh.TheVariants as answers
 use Rattle.vm_guard.proofs.Amid.{amid-reads, next-known, nload-amid, others-known}
 use Rattle.vm_guard.proofs.FreshNone.{bracket, denied-nil, nil-then, nload-nil, not-next, not-state, saw-within, seized-on, worn-within}
 use Rattle.vm_guard.proofs.FreshNumbers.{apart-first, both-first, both-second, numbers-one, numbers-two, within-second}
-use Rattle.vm_guard.proofs.Prelude.{[], AgainOrWorn, ap, append-none, append_assoc, AreHeld, arith, Bool, cases_eq, cond-false, cond-true, Deny, Did}
-use Rattle.vm_guard.proofs.Prelude.{did_load, Each, each-both, each-map, eq-eqb, eqb, false, Fresh, GivesBack, has, held-on, if◌then◌else◌, inl, inr}
-use Rattle.vm_guard.proofs.Prelude.{IsAmid, IsBegun, IsEvidence, IsFreshAnswer, IsFull, IsNil, IsNotSeized, IsQuiet, IsReady, IsSamePass, IsSaw}
-use Rattle.vm_guard.proofs.Prelude.{IsSeized, IsSpared, IsToTry, IsWornOut, List, Mapping, ne_eqb, next_after, next_view, NextTold, nload-others}
-use Rattle.vm_guard.proofs.Prelude.{None, none-some, NoWord, numbers, numbers-has, Option, Origin, Pass, read, ready-on, refl, same_Some, Saw, Seat}
-use Rattle.vm_guard.proofs.Prelude.{seat_of, Seizes, Shape, Some, subst, sym, TableId, true, true≢false, UnlockedExpected, View, view, words-known, ℕ}
-use Rattle.vm_guard.proofs.Prelude.{⊎_elim, ◌++◌, ◌+◌, ◌<◌, ◌||◌, ◌∙◌, ◌∷◌, ◌≡◌, ◌≢◌, ◌≤◌, ◌⊎◌}
+use Rattle.vm_guard.proofs.Prelude.{[], AgainOrWorn, ap, append-none, append_assoc, AreHeld, arith, At, Bool, cases_eq, cond-false, cond-true, Deny, Did}
+use Rattle.vm_guard.proofs.Prelude.{did_load, Each, each-both, each-map, eq-eqb, eqb, false, Fresh, GivesBack, has, held-on, if◌then◌else◌, inl, inr, IsAmid}
+use Rattle.vm_guard.proofs.Prelude.{IsBegun, IsEvidence, IsFreshAnswer, IsFull, IsNil, IsNotSeized, IsQuiet, IsReady, IsSamePass, IsSaw, IsSeized, IsSpared}
+use Rattle.vm_guard.proofs.Prelude.{IsToTry, IsWornOut, List, Mapping, ne_eqb, next_after, next_view, NextTold, nload-others, None, none-some, NoWord, numbers}
+use Rattle.vm_guard.proofs.Prelude.{numbers-has, Option, Origin, Pass, Place, read, ready-on, refl, same_Some, Saw, Seat, seat_of, Seizes, Shape, Some, subst}
+use Rattle.vm_guard.proofs.Prelude.{sym, TableId, true, true≢false, UnlockedExpected, View, view, words-known, ℕ, ⊎_elim, ◌++◌, ◌+◌, ◌<◌, ◌||◌, ◌∙◌, ◌∷◌, ◌≡◌}
+use Rattle.vm_guard.proofs.Prelude.{◌≢◌, ◌≤◌, ◌⊎◌}
 use Rattle.vm_guard.proofs.Seizing.{self-has}
 
 -- two loads of the next word that differ
-pub next-saw : (found again : ℕ) (mid post : List Did) → found ≢ again → Each (λ (d : Did). d.at ≢ places.Next) mid
-    → IsSaw NoWord UnlockedExpected (did_load places.Next found ∷ (mid ++ did_load places.Next again ∷ post)) (record { at = ats.Next; first = found; seen = again })
+pub next-saw : (found again : ℕ) (mid post : List Did) → found ≢ again → Each (λ (d : Did). d.at ≢ Place.Next) mid
+    → IsSaw NoWord UnlockedExpected (did_load Place.Next found ∷ (mid ++ did_load Place.Next again ∷ post)) (record { at = At.Next; first = found; seen = again })
 next-saw found again mid post ne apart = record {
-  earlier = did_load places.Next found ∷ mid;
-  last = did_load places.Next again;
+  earlier = did_load Place.Next found ∷ mid;
+  last = did_load Place.Next again;
   later = post;
   cut = refl;
   gives = (refl, refl);
   since = mid;
-  begins = read [] (did_load places.Next found) refl (refl, refl);
+  begins = read [] (did_load Place.Next found) refl (refl, refl);
   quiet = each-map _ _ (λ d other here. absurd (other here)) mid apart;
   foreign = ((λ at e. none-some again e), each-map _ _ (λ d other here. absurd (other here)) mid apart);
   why = ne;
@@ -42,7 +38,7 @@ next-else p q (Some y) e =
 
 -- what the call answers where a lock was denied so
 abbrev pub Answers : Deny → Fresh → Type 0
-Answers d r = ((saw : Saw) → d ≡ denies.Again saw → r ≡ answers.Again saw) × ((q : ℕ) → d ≡ denies.Worn q → r ≡ answers.Worn q)
+Answers d r = ((saw : Saw) → d ≡ Deny.Again saw → r ≡ Fresh.Again saw) × ((q : ℕ) → d ≡ Deny.Worn q → r ≡ Fresh.Worn q)
 
 -- who holds the page that was found knows it for the next one; who does not knows what it knew
 next-either : (owns : Bool) (found q : ℕ) (o : Option ℕ) → (if owns then Some found else o) ≡ Some q → ((owns ≡ true) × (q ≡ found)) ⊎ (o ≡ Some q)
@@ -69,30 +65,23 @@ module _ {X : Type 0} where
           absurd (true≢false (sym owned ∙ sym (ap (λ (y : View X). (seat_of y found).exclusive) t.brings.view) ∙ free))
 
   -- what a pass that is alone knows then
-  spares : (pages : List ℕ) (x : ℕ) (done : List Did) (v w : View X) → IsNil pages done v w → (more : List Did) × (done ≡ did_load places.Next x ∷ more) → ((q : ℕ) → w.next ≡ Some q → (seat_of v q).exclusive ≡ true) → w.current ≡ true → IsSpared pages x done v w
-  spares pages x done v w nil loaded next current = record {
-    nil = nil;
-    loaded = loaded;
-    next = next;
-    same_next = next-known pages done v w nil.amid nil.unmoved;
-    others = others-known pages done v w nil.amid;
-    current = current;
-  }
+  spares : (pages : List ℕ) (x : ℕ) (done : List Did) (v w : View X) → IsNil pages done v w → (more : List Did) × (done ≡ did_load Place.Next x ∷ more) → ((q : ℕ) → w.next ≡ Some q → (seat_of v q).exclusive ≡ true) → w.current ≡ true → IsSpared pages x done v w
+  spares pages x done v w nil loaded next current = search (next-known pages done v w nil.amid nil.unmoved, others-known pages done v w nil.amid)
 
   -- ---- the first page could not be locked
 
-  pub spared-first : (pages : List ℕ) (x p : ℕ) (done : List Did) (v u w : View X) → NextTold x v u → has p pages ≡ true → p < u.start.pages → Each (λ (d : Did). d.at ≡ places.State p) done → IsQuiet p done u w
-      → IsSpared pages x (did_load places.Next x ∷ done) v w
+  pub spared-first : (pages : List ℕ) (x p : ℕ) (done : List Did) (v u w : View X) → NextTold x v u → has p pages ≡ true → p < u.start.pages → Each (λ (d : Did). d.at ≡ Place.State p) done → IsQuiet p done u w
+      → IsSpared pages x (did_load Place.Next x ∷ done) v w
   spared-first pages x p done v u w t e l at f =
-      spares pages x (did_load places.Next x ∷ done) v w (nil-then pages (did_load places.Next x ∷ []) done v u w (nload-nil pages x v u t) (denied-nil pages p done u w e l at f))
+      spares pages x (did_load Place.Next x ∷ done) v w (nil-then pages (did_load Place.Next x ∷ []) done v u w (nload-nil pages x v u t) (denied-nil pages p done u w e l at f))
       (done, refl)
       (λ q k. next-kept x q v u t (sym f.group.2 ∙ k))
       (f.steady.alone.current (ap (λ (y : View X). y.current) t.brings.view))
 
   -- no page was asked for
-  pub spared-none : (x : ℕ) (v u : View X) → NextTold x v u → IsSpared [] x (did_load places.Next x ∷ []) v u
+  pub spared-none : (x : ℕ) (v u : View X) → NextTold x v u → IsSpared [] x (did_load Place.Next x ∷ []) v u
   spared-none x v u t =
-      spares [] x (did_load places.Next x ∷ []) v u (nload-nil [] x v u t) ([], refl)
+      spares [] x (did_load Place.Next x ∷ []) v u (nload-nil [] x v u t) ([], refl)
       (λ q k. next-kept x q v u t k)
       (ap (λ (y : View X). y.current) t.brings.view)
 
@@ -101,10 +90,10 @@ module _ {X : Type 0} where
   -- after steps on other pages that know the next page only where it is another one that the pass held
   pub spared-locked : (pages less : List ℕ) (x version : ℕ) (stands : Option Mapping) (done : List Did) (v v1 u z w : View X) → v.next ≡ None → NextTold x v v1 → has x pages ≡ true → has x less ≡ false → ((q : ℕ) → has q pages ≡ false → has q less ≡ false)
       → (s : Seizes x version stands v1 u) → IsNil less done u z → (g : GivesBack x z w) → ((q : ℕ) → q ≢ x → z.next ≡ Some q → (seat_of v q).exclusive ≡ true)
-      → IsSpared pages x (did_load places.Next x ∷ (s.done ++ (done ++ g.done))) v w
+      → IsSpared pages x (did_load Place.Next x ∷ (s.done ++ (done ++ g.done))) v w
   spared-locked pages less x version stands done v v1 u z w none t e apart within s f g knows =
-      spares pages x (did_load places.Next x ∷ (s.done ++ (done ++ g.done))) v w
-      (nil-then pages (did_load places.Next x ∷ []) (s.done ++ (done ++ g.done)) v v1 w (nload-nil pages x v v1 t) (bracket pages less x version stands done v1 u z w e apart within s f g))
+      spares pages x (did_load Place.Next x ∷ (s.done ++ (done ++ g.done))) v w
+      (nil-then pages (did_load Place.Next x ∷ []) (s.done ++ (done ++ g.done)) v v1 w (nload-nil pages x v v1 t) (bracket pages less x version stands done v1 u z w e apart within s f g))
       (s.done ++ (done ++ g.done), refl)
       (λ q k. let m = next-else x q z.next (sym g.group.1 ∙ k) in knows q m.0 m.1)
       (g.amid.alone.current (f.amid.alone.current (s.amid.alone.current (ap (λ (y : View X). y.current) t.brings.view))))
@@ -112,11 +101,11 @@ module _ {X : Type 0} where
   -- ---- the answer to a page that could not be locked
 
   pub answers-denied : (pages : List ℕ) (x n p : ℕ) (frames : List ℕ) (pre done post : List Did) (v w : View X) (d : Deny) (r : Fresh) → pages ≡ numbers x n → x + n ≤ v.start.pages → has p pages ≡ true
-      → Each (λ (k : Did). k.at ≢ places.State p) pre → IsSpared pages x (pre ++ (done ++ post)) v w → AgainOrWorn d → IsEvidence NoWord UnlockedExpected done p d → Answers d r → IsFreshAnswer n frames frames v w r
-  answers-denied pages x n p frames pre done post v w (denies.Again saw) r same inside e apart spared kind ev is =
+      → Each (λ (k : Did). k.at ≢ Place.State p) pre → IsSpared pages x (pre ++ (done ++ post)) v w → AgainOrWorn d → IsEvidence NoWord UnlockedExpected done p d → Answers d r → IsFreshAnswer n frames frames v w r
+  answers-denied pages x n p frames pre done post v w (Deny.Again saw) r same inside e apart spared kind ev is =
       let to : IsToTry pages x n saw v w = record { inside = inside; done = pre ++ (done ++ post); spared = spared; at = inr (p, ev.0, e); saw_is = saw-within p saw pre done post ev.0 apart ev.1 } in
       subst (IsFreshAnswer n frames frames v w) (sym (is.0 saw refl)) (refl, (x, subst (λ (l : List ℕ). IsToTry l x n saw v w) same to))
-  answers-denied pages x n p frames pre done post v w (denies.Worn q) r same inside e apart spared kind ev is =
+  answers-denied pages x n p frames pre done post v w (Deny.Worn q) r same inside e apart spared kind ev is =
       let out : IsWornOut pages x n p v w = record { inside = inside; among = e; done = pre ++ (done ++ post); spared = spared; worn = worn-within p pre done post apart ev.1 } in
       subst (IsFreshAnswer n frames frames v w) (sym (is.1 q refl)) (refl, (x, subst (λ (k : ℕ). IsWornOut (numbers x n) x n k v w) (sym ev.0) (subst (λ (l : List ℕ). IsWornOut l x n p v w) same out)))
   answers-denied pages x n p frames pre done post v w d r same inside e apart spared kind ev is = absurd kind
@@ -162,12 +151,12 @@ module _ {X : Type 0} where
   room-one x version stands v u b = room x version stands v u 1 b (let l = b.seizes.seized.page in omega (arith, l))
 
   pub again-one : (x version again : ℕ) (stands : Option Mapping) (v u z w : View X) → IsBegun x version stands v u → NextTold again u z → again ≢ x → GivesBack x z w
-      → IsToTry (numbers x 1) x 1 (record { at = ats.Next; first = x; seen = again }) v w
+      → IsToTry (numbers x 1) x 1 (record { at = At.Next; first = x; seen = again }) v w
   again-one x version again stands v u z w b t ne g =
-      subst (λ (l : List ℕ). IsToTry l x 1 (record { at = ats.Next; first = x; seen = again }) v w) (sym (numbers-one x)) (record {
+      subst (λ (l : List ℕ). IsToTry l x 1 (record { at = At.Next; first = x; seen = again }) v w) (sym (numbers-one x)) (record {
         inside = room-one x version stands v u b;
-        done = did_load places.Next x ∷ (b.seizes.done ++ (did_load places.Next again ∷ g.done));
-        spared = spared-locked (x ∷ []) [] x version stands (did_load places.Next again ∷ []) v b.between u z w b.none b.loaded (self-has x) refl (λ q none. refl) b.seizes (nload-nil [] again u z t) g
+        done = did_load Place.Next x ∷ (b.seizes.done ++ (did_load Place.Next again ∷ g.done));
+        spared = spared-locked (x ∷ []) [] x version stands (did_load Place.Next again ∷ []) v b.between u z w b.none b.loaded (self-has x) refl (λ q none. refl) b.seizes (nload-nil [] again u z t) g
             (λ q other e. ap (λ (s : Seat). s.exclusive) (sym (begun-else x version stands v u b q other)) ∙ next-kept again q u z t e);
         at = inl refl;
         saw_is = next-saw x again b.seizes.done g.done (λ e. ne (sym e)) (each-map _ _ (not-next x) b.seizes.done b.seizes.places_are);
@@ -183,7 +172,7 @@ module _ {X : Type 0} where
   second-denied x version stands frames v u z w d r b l n g is =
       let done : List Did = n.denied.done in
       let f : IsQuiet (x + 1) done u z = n.denied.quiet in
-      answers-denied (x ∷ (x + 1) ∷ []) x 2 (x + 1) frames (did_load places.Next x ∷ b.seizes.done) done g.done v w d r (sym (numbers-two x)) (room x version stands v u 2 b l) (both-second x)
+      answers-denied (x ∷ (x + 1) ∷ []) x 2 (x + 1) frames (did_load Place.Next x ∷ b.seizes.done) done g.done v w d r (sym (numbers-two x)) (room x version stands v u 2 b l) (both-second x)
       ((λ e. absurd (cc)), each-map _ _ (not-state x (x + 1) (λ e. absurd (omega (arith, e)))) b.seizes.done b.seizes.places_are)
       (spared-locked (x ∷ (x + 1) ∷ []) ((x + 1) ∷ []) x version stands done v b.between u z w b.none b.loaded (both-first x) (apart-first x) (within-second x) b.seizes (denied-nil ((x + 1) ∷ []) (x + 1) done u z (self-has (x + 1)) n.page n.places_are f) g
       (λ q ne e. absurd (none-some q (sym (f.group.2 ∙ begun-none x version stands v u b) ∙ e))))
@@ -191,20 +180,20 @@ module _ {X : Type 0} where
 
   -- the next word was another one, once both pages were locked
   pub again-two : (x version again : ℕ) (stands : Option Mapping) (e2 : ℕ) (s2 : Option Mapping) (v u u2 z w1 w : View X) → IsBegun x version stands v u → x + 2 ≤ u.start.pages → Seizes (x + 1) e2 s2 u u2 → NextTold again u2 z → again ≢ x → GivesBack (x + 1) z w1 → GivesBack x w1 w
-      → IsToTry (numbers x 2) x 2 (record { at = ats.Next; first = x; seen = again }) v w
+      → IsToTry (numbers x 2) x 2 (record { at = At.Next; first = x; seen = again }) v w
   again-two x version again stands e2 s2 v u u2 z w1 w b l a t ne g1 g =
-      let inner : IsNil ((x + 1) ∷ []) (a.done ++ ((did_load places.Next again ∷ []) ++ g1.done)) u w1 = bracket ((x + 1) ∷ []) [] (x + 1) e2 s2 (did_load places.Next again ∷ []) u u2 z w1 (self-has (x + 1)) refl (λ q none. refl) a (nload-nil [] again u2 z t) g1 in
-      let mid : List Did = a.done ++ (did_load places.Next again ∷ g1.done) in
-      subst (λ (ps : List ℕ). IsToTry ps x 2 (record { at = ats.Next; first = x; seen = again }) v w) (sym (numbers-two x)) (record {
+      let inner : IsNil ((x + 1) ∷ []) (a.done ++ ((did_load Place.Next again ∷ []) ++ g1.done)) u w1 = bracket ((x + 1) ∷ []) [] (x + 1) e2 s2 (did_load Place.Next again ∷ []) u u2 z w1 (self-has (x + 1)) refl (λ q none. refl) a (nload-nil [] again u2 z t) g1 in
+      let mid : List Did = a.done ++ (did_load Place.Next again ∷ g1.done) in
+      subst (λ (ps : List ℕ). IsToTry ps x 2 (record { at = At.Next; first = x; seen = again }) v w) (sym (numbers-two x)) (record {
         inside = room x version stands v u 2 b l;
-        done = did_load places.Next x ∷ (b.seizes.done ++ (mid ++ g.done));
+        done = did_load Place.Next x ∷ (b.seizes.done ++ (mid ++ g.done));
         spared = spared-locked (x ∷ (x + 1) ∷ []) ((x + 1) ∷ []) x version stands mid v b.between u w1 w b.none b.loaded (both-first x) (apart-first x) (within-second x) b.seizes inner g
             (λ q other e.
             let m = next-else (x + 1) q z.next (sym g1.group.1 ∙ e) in
             ap (λ (s : Seat). s.exclusive) (sym (a.amid.seats q (ap (λ (o : Bool). o || false) (ne_eqb q (x + 1) m.0)) ∙ begun-else x version stands v u b q other)) ∙ next-kept again q u2 z t m.1);
         at = inl refl;
-        saw_is = subst (λ (l : List Did). IsSaw NoWord UnlockedExpected (did_load places.Next x ∷ l) (record { at = ats.Next; first = x; seen = again }))
-            (append_assoc b.seizes.done a.done (did_load places.Next again ∷ (g1.done ++ g.done)) ∙ ap (λ (l : List Did). b.seizes.done ++ l) (sym (append_assoc a.done (did_load places.Next again ∷ g1.done) g.done)))
+        saw_is = subst (λ (l : List Did). IsSaw NoWord UnlockedExpected (did_load Place.Next x ∷ l) (record { at = At.Next; first = x; seen = again }))
+            (append_assoc b.seizes.done a.done (did_load Place.Next again ∷ (g1.done ++ g.done)) ∙ ap (λ (l : List Did). b.seizes.done ++ l) (sym (append_assoc a.done (did_load Place.Next again ∷ g1.done) g.done)))
             (next-saw x again (b.seizes.done ++ a.done) (g1.done ++ g.done) (λ e. ne (sym e))
             (each-both _ b.seizes.done a.done (each-map _ _ (not-next x) b.seizes.done b.seizes.places_are) (each-map _ _ (not-next (x + 1)) a.done a.places_are)));
       })
@@ -213,13 +202,13 @@ module _ {X : Type 0} where
 
   -- no page is left
   pub is-full : (n x : ℕ) (v u : View X) → NextTold x v u → v.start.pages < x + n → IsFull n v.start.pages x n v u
-  is-full n x v u t l = record { asked = refl; there = refl; full = l; done = did_load places.Next x ∷ []; spared = spared-none x v u t; table = words-known (did_load places.Next x) None [] [] v (next_view x v) u t.brings refl }
+  is-full n x v u t l = record { asked = refl; there = refl; full = l; done = did_load Place.Next x ∷ []; spared = spared-none x v u t; table = words-known (did_load Place.Next x) None [] [] v (next_view x v) u t.brings refl }
 
   -- the first page could not be locked
   pub first-denied : (n x : ℕ) (frames : List ℕ) (v u w : View X) (d : Deny) (r : Fresh) → NextTold x v u → 1 ≤ n → x + n ≤ v.start.pages → IsNotSeized x d u w → Answers d r → IsFreshAnswer n frames frames v w r
   first-denied n x frames v u w d r t some inside f is =
       let done : List Did = f.denied.done in
       let e : has x (numbers x n) ≡ true = numbers-has n x x (omega arith) (omega (arith, some)) in
-      answers-denied (numbers x n) x n x frames (did_load places.Next x ∷ []) done [] v w d r refl inside e ((λ k. absurd (cc)), tt)
-      (subst (λ (l : List Did). IsSpared (numbers x n) x (did_load places.Next x ∷ l) v w) (sym (append-none done)) (spared-first (numbers x n) x x done v u w t e f.page f.places_are f.denied.quiet))
+      answers-denied (numbers x n) x n x frames (did_load Place.Next x ∷ []) done [] v w d r refl inside e ((λ k. absurd (cc)), tt)
+      (subst (λ (l : List Did). IsSpared (numbers x n) x (did_load Place.Next x ∷ l) v w) (sym (append-none done)) (spared-first (numbers x n) x x done v u w t e f.page f.places_are f.denied.quiet))
       f.denied.kind f.denied.evidence is

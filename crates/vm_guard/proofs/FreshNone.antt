@@ -1,14 +1,12 @@
 -- A call for fresh pages that ends without them: a page that was locked and given up again leaves nothing, and the evidence of the call is that of
 -- its steps.
-use Rattle.vm_rule.specs.declared.view.Place.TheVariants as places
 use Rattle.vm_step.specs.Evidence.{guarded}
-use Rattle.vm_step.specs.declared.saw.At.TheVariants as ats
 use Rattle.vm_guard.proofs.Amid.{amid-reads, amid-then, amid-within, nload-amid, other}
-use Rattle.vm_guard.proofs.Prelude.{[], ap, append_assoc, arith, asked, Begins, Bool, cases_eq, Did, did_load, Each, each-both, each-map, expected}
-use Rattle.vm_guard.proofs.Prelude.{false, GivesBack, has, Held, holds-still, holds-then, HoldsPage, inl, inr, IsAmid, IsLocking, IsNil, IsQuiet}
-use Rattle.vm_guard.proofs.Prelude.{IsSaw, IsSeized, IsWorn, keeps-then, knows-then, length, List, Mapping, ne_eqb, NextTold, nload-others, None}
-use Rattle.vm_guard.proofs.Prelude.{NoWord, Option, Origin, Place, place_at, read, refl, same, Saw, Seat, seat_of, Seizes, still-locking, subst, sym}
-use Rattle.vm_guard.proofs.Prelude.{true, true≢false, UnlockedExpected, Version, View, ℕ, ⊎_elim, ◌++◌, ◌<◌, ◌||◌, ◌∙◌, ◌∷◌, ◌≡◌, ◌≢◌, ◌⊎◌}
+use Rattle.vm_guard.proofs.Prelude.{[], ap, append_assoc, arith, asked, At, Begins, Bool, cases_eq, Did, did_load, Each, each-both, each-map, expected, false}
+use Rattle.vm_guard.proofs.Prelude.{GivesBack, has, HasGiven, Held, holds-still, holds-then, HoldsPage, inl, inr, IsAmid, IsLocking, IsNil, IsQuiet, IsSaw}
+use Rattle.vm_guard.proofs.Prelude.{IsSeized, IsWorn, keeps-then, knows-then, KnowsAsBefore, List, Mapping, ne_eqb, NextTold, nload-others, None, NoWord}
+use Rattle.vm_guard.proofs.Prelude.{Option, Origin, Place, place_at, read, refl, rules, same, Saw, Seat, seat_of, Seizes, Some, still-locking, subst, sym, true}
+use Rattle.vm_guard.proofs.Prelude.{true≢false, UnlockedExpected, Version, View, ℕ, ⊎_elim, ◌++◌, ◌<◌, ◌||◌, ◌∙◌, ◌∷◌, ◌≡◌, ◌≢◌, ◌⊎◌}
 
 -- ---- evidence in a longer list of steps
 
@@ -26,79 +24,47 @@ begins-behind instead at first seen last pre earlier since (asked word k e i x) 
 begins-behind instead at first seen last pre earlier since (same e n) = same e n
 
 -- behind steps on other places, and before any others
-pub saw-within : (p : ℕ) (saw : Saw) (pre done post : List Did) → saw.at ≡ ats.Page p → Each (λ (d : Did). d.at ≢ places.State p) pre → IsSaw NoWord UnlockedExpected done saw → IsSaw NoWord UnlockedExpected (pre ++ (done ++ post)) saw
-saw-within p saw pre done post at none s = record {
-  earlier = pre ++ s.earlier;
-  last = s.last;
-  later = s.later ++ post;
-  cut = between-cut pre s.earlier s.later post s.last done s.cut;
-  gives = s.gives;
-  since = s.since;
-  begins = begins-behind UnlockedExpected _ saw.first saw.seen s.last pre s.earlier s.since s.begins;
-  quiet = s.quiet;
-  foreign = each-both _ pre s.earlier (each-map _ _ (λ d ne here. absurd (ne (here ∙ ap place_at at))) pre none) s.foreign;
-  why = s.why;
-}
+pub saw-within : (p : ℕ) (saw : Saw) (pre done post : List Did) → saw.at ≡ At.Page p → Each (λ (d : Did). d.at ≢ Place.State p) pre → IsSaw NoWord UnlockedExpected done saw → IsSaw NoWord UnlockedExpected (pre ++ (done ++ post)) saw
+saw-within p saw pre done post at none s =
+    let foreign = each-both _ pre s.earlier (each-map _ (λ (d : Did). d.at ≡ place_at saw.at → d.wrote ≢ Some saw.seen) (λ d ne here. absurd (ne (here ∙ ap place_at at))) pre none) s.foreign in
+    search (rules, between-cut pre s.earlier s.later post s.last done s.cut, begins-behind UnlockedExpected _ saw.first saw.seen s.last pre s.earlier s.since s.begins, s, foreign)
 
-pub worn-within : (p : ℕ) (pre done post : List Did) → Each (λ (d : Did). d.at ≢ places.State p) pre → IsWorn done p → IsWorn (pre ++ (done ++ post)) p
-worn-within p pre done post none s = record {
-  word = s.word;
-  given = record { earlier = pre ++ s.given.earlier; step = s.given.step; later = s.given.later ++ post; cut = between-cut pre s.given.earlier s.given.later post s.given.step done s.given.cut; gives = s.given.gives };
-  load = s.load;
-  last = s.last;
-  foreign = each-both _ pre s.given.earlier (each-map _ _ (λ d ne here. absurd (ne here)) pre none) s.foreign;
-}
+pub worn-within : (p : ℕ) (pre done post : List Did) → Each (λ (d : Did). d.at ≢ Place.State p) pre → IsWorn done p → IsWorn (pre ++ (done ++ post)) p
+worn-within p pre done post none s =
+    let given : HasGiven (pre ++ (done ++ post)) (Place.State p) s.word = record { earlier = pre ++ s.given.earlier; step = s.given.step; later = s.given.later ++ post; cut = between-cut pre s.given.earlier s.given.later post s.given.step done s.given.cut; gives = s.given.gives } in
+    record { word = s.word; given = given; load = s.load; last = s.last; foreign = each-both _ pre s.given.earlier (each-map _ _ (λ d ne here. absurd (ne here)) pre none) s.foreign }
 
 -- the steps that lock a page are on its words
-pub not-next : (p : ℕ) (d : Did) → (d.at ≡ places.State p) ⊎ (d.at ≡ places.Translation p) → d.at ≢ places.Next
-not-next p d (inl a) e = absurd (let no : places.State p ≡ places.Next = sym a ∙ e in cc)
-not-next p d (inr a) e = absurd (let no : places.Translation p ≡ places.Next = sym a ∙ e in cc)
+pub not-next : (p : ℕ) (d : Did) → (d.at ≡ Place.State p) ⊎ (d.at ≡ Place.Translation p) → d.at ≢ Place.Next
+not-next p d (inl a) e = absurd (let no : Place.State p ≡ Place.Next = sym a ∙ e in cc)
+not-next p d (inr a) e = absurd (let no : Place.Translation p ≡ Place.Next = sym a ∙ e in cc)
 
-pub not-state : (p q : ℕ) → p ≢ q → (d : Did) → (d.at ≡ places.State p) ⊎ (d.at ≡ places.Translation p) → d.at ≢ places.State q
-not-state p q ne d (inl a) e = let k : places.State p ≡ places.State q = sym a ∙ e in let same : p ≡ q = cc in ne same
-not-state p q ne d (inr a) e = absurd (let no : places.Translation p ≡ places.State q = sym a ∙ e in cc)
+pub not-state : (p q : ℕ) → p ≢ q → (d : Did) → (d.at ≡ Place.State p) ⊎ (d.at ≡ Place.Translation p) → d.at ≢ Place.State q
+not-state p q ne d (inl a) e = let k : Place.State p ≡ Place.State q = sym a ∙ e in let same : p ≡ q = cc in ne same
+not-state p q ne d (inr a) e = absurd (let no : Place.Translation p ≡ Place.State q = sym a ∙ e in cc)
 
 -- so they leave the next word
-pub unmoved-at : (p : ℕ) (ds : List Did) → Each (λ (d : Did). (d.at ≡ places.State p) ⊎ (d.at ≡ places.Translation p)) ds → Each (λ (d : Did). d.at ≡ places.Next → d.wrote ≡ None) ds
+pub unmoved-at : (p : ℕ) (ds : List Did) → Each (λ (d : Did). (d.at ≡ Place.State p) ⊎ (d.at ≡ Place.Translation p)) ds → Each (λ (d : Did). d.at ≡ Place.Next → d.wrote ≡ None) ds
 unmoved-at p ds e = each-map _ _ (λ (d : Did) is. λ next. absurd (not-next p d is next)) ds e
 
 -- ---- calls that leave nothing
 
 module _ {X : Type 0} where
   pub nil-then : (pages : List ℕ) (a b : List Did) (u v w : View X) → IsNil pages a u v → IsNil pages b v w → IsNil pages (a ++ b) u w
-  nil-then pages a b u v w f g = record {
-    amid = amid-then pages a b u v w f.amid g.amid;
-    keeps = keeps-then u v w f.keeps g.keeps;
-    owed = g.owed ∙ f.owed;
-    holds = λ q. holds-then u v w q (f.holds q) (g.holds q);
-    knows = λ q l. knows-then u v w q (f.knows q l) (g.knows q (still-locking u v q (f.holds q) l));
-    unmoved = each-both _ a b f.unmoved g.unmoved;
-  }
+  nil-then pages a b u v w f g =
+      let knows = λ (q : ℕ) (l : IsLocking (seat_of u q)). knows-then u v w q (f.knows q l) (g.knows q (still-locking u v q (f.holds q) l)) in
+      search (rules, amid-then pages a b u v w f.amid g.amid, keeps-then u v w f.keeps g.keeps, (λ (q : ℕ). holds-then u v w q (f.holds q) (g.holds q)), knows, each-both (λ (d : Did). d.at ≡ Place.Next → d.wrote ≡ None) a b f.unmoved g.unmoved)
 
   -- a load of the next word
-  pub nload-nil : (pages : List ℕ) (found : ℕ) (v w : View X) → NextTold found v w → IsNil pages (did_load places.Next found ∷ []) v w
+  pub nload-nil : (pages : List ℕ) (found : ℕ) (v w : View X) → NextTold found v w → IsNil pages (did_load Place.Next found ∷ []) v w
   nload-nil pages found v w t =
-      let b = t.brings in
       let f = nload-amid [] found v w t in
-      record {
-        amid = nload-amid pages found v w t;
-        keeps = (nload-others t (λ q. ⊥)).keeps;
-        owed = ap (λ (y : View X). y.owed) b.view;
-        holds = λ q. holds-still q (f.seats q refl);
-        knows = λ q l. f.knows q refl l;
-        unmoved = ((λ _. refl), tt);
-      }
+      let holds : (q : ℕ) → HoldsPage v w q = λ q. holds-still q (f.seats q refl) in
+      search (rules, nload-amid pages found v w t, (nload-others t (λ q. ⊥)).keeps, t.brings.view, holds, (λ (q : ℕ) (l : IsLocking (seat_of v q)). f.knows q refl l))
 
   -- a page that could not be locked
-  pub denied-nil : (pages : List ℕ) (p : ℕ) (done : List Did) (v w : View X) → has p pages ≡ true → p < v.start.pages → Each (λ (d : Did). d.at ≡ places.State p) done → IsQuiet p done v w → IsNil pages done v w
-  denied-nil pages p done v w e l at f = record {
-    amid = amid-reads pages p done v w e l at f;
-    keeps = record { frames = f.steady.frames.0; contents = f.steady.frames.1; notes = f.steady.notes };
-    owed = f.group.1;
-    holds = f.holds;
-    knows = f.knows;
-    unmoved = each-map _ _ (λ (d : Did) is. λ next. absurd (not-next p d (inl is) next)) done at;
-  }
+  pub denied-nil : (pages : List ℕ) (p : ℕ) (done : List Did) (v w : View X) → has p pages ≡ true → p < v.start.pages → Each (λ (d : Did). d.at ≡ Place.State p) done → IsQuiet p done v w → IsNil pages done v w
+  denied-nil pages p done v w e l at f = search (rules, amid-reads pages p done v w e l at f, f, unmoved-at p done (each-map _ _ (λ (d : Did) is. inl is) done at))
 
   -- a page that was locked, and given up after steps on other pages
   pub bracket : (pages less : List ℕ) (p version : ℕ) (stands : Option Mapping) (done : List Did) (v u z w : View X) → has p pages ≡ true → has p less ≡ false → ((q : ℕ) → has q pages ≡ false → has q less ≡ false)
@@ -107,27 +73,24 @@ module _ {X : Type 0} where
       let one : (q : ℕ) → has q pages ≡ false → has q (p ∷ []) ≡ false = λ q none. ap (λ (b : Bool). b || false) (ne_eqb q p (other p q pages e none)) in
       let seat : seat_of z p ≡ record (seat_of v p) { exclusive = true; reading = None } = f.amid.seats p apart ∙ s.seat in
       let last : seat_of w p ≡ record (seat_of v p) { exclusive = false; reading = None } = g.seat ∙ ap (λ (k : Seat). record k { exclusive = false }) seat in
-      record {
-        amid = amid-then pages s.done (done ++ g.done) v u w (amid-within pages (p ∷ []) s.done v u one s.amid)
-            (amid-then pages done g.done u z w (amid-within pages less done u z within f.amid) (amid-within pages (p ∷ []) g.done z w one g.amid));
-        keeps = keeps-then v u w s.keeps (keeps-then u z w f.keeps g.keeps);
-        owed = g.group.0 ∙ f.owed ∙ s.group.0;
-        holds = λ q.
-            ⊎_elim
-            (λ (h : q ≡ p). subst (λ n. HoldsPage v w n) (sym h) (record { shares = ap (λ (k : Seat). k.shares) last; exclusive = ap (λ (k : Seat). k.exclusive) last ∙ sym s.unheld.exclusive; writing = ap (λ (k : Seat). k.writing) last }))
-            (λ (ne : q ≢ p). holds-then v u w q (holds-still q (s.amid.seats q (alone q ne))) (holds-then u z w q (f.holds q) (holds-still q (g.amid.seats q (alone q ne)))))
-            (cases_eq q p);
-        knows = λ q l.
-            ⊎_elim
-            (λ (h : q ≡ p). absurd (held-by (subst (λ n. IsLocking (seat_of v n)) h l)))
-            (λ (ne : q ≢ p).
-            let l1 : IsLocking (seat_of u q) = subst (λ (k : Seat). IsLocking k) (sym (s.amid.seats q (alone q ne))) l in
-            let l2 : IsLocking (seat_of z q) = still-locking u z q (f.holds q) l1 in
-            knows-then v u w q (s.amid.knows q (alone q ne) l) (knows-then u z w q (f.knows q l1) (g.amid.knows q (alone q ne) l2)))
-            (cases_eq q p);
-        unmoved = each-both _ s.done (done ++ g.done) (unmoved-at p s.done s.places_are)
-            (each-both _ done g.done f.unmoved (each-map _ _ (λ (d : Did) is. λ next. absurd (not-next p d (inl is) next)) g.done g.places_are));
-      }
+      let amid = amid-then pages s.done (done ++ g.done) v u w (amid-within pages (p ∷ []) s.done v u one s.amid)
+      (amid-then pages done g.done u z w (amid-within pages less done u z within f.amid) (amid-within pages (p ∷ []) g.done z w one g.amid)) in
+      let holds : (q : ℕ) → HoldsPage v w q = λ q.
+      ⊎_elim
+      (λ (h : q ≡ p). subst (λ n. HoldsPage v w n) (sym h) (record { shares = ap (λ (k : Seat). k.shares) last; exclusive = ap (λ (k : Seat). k.exclusive) last ∙ sym s.unheld.exclusive; writing = ap (λ (k : Seat). k.writing) last }))
+      (λ (ne : q ≢ p). holds-then v u w q (holds-still q (s.amid.seats q (alone q ne))) (holds-then u z w q (f.holds q) (holds-still q (g.amid.seats q (alone q ne)))))
+      (cases_eq q p) in
+      let knows : (q : ℕ) → IsLocking (seat_of v q) → KnowsAsBefore v w q = λ q l.
+      ⊎_elim
+      (λ (h : q ≡ p). absurd (held-by (subst (λ n. IsLocking (seat_of v n)) h l)))
+      (λ (ne : q ≢ p).
+      let l1 : IsLocking (seat_of u q) = subst (λ (k : Seat). IsLocking k) (sym (s.amid.seats q (alone q ne))) l in
+      let l2 : IsLocking (seat_of z q) = still-locking u z q (f.holds q) l1 in
+      knows-then v u w q (s.amid.knows q (alone q ne) l) (knows-then u z w q (f.knows q l1) (g.amid.knows q (alone q ne) l2)))
+      (cases_eq q p) in
+      let given = unmoved-at p g.done (each-map _ _ (λ (d : Did) is. inl is) g.done g.places_are) in
+      let unmoved = each-both _ s.done (done ++ g.done) (unmoved-at p s.done s.places_are) (each-both _ done g.done f.unmoved given) in
+      search (rules, amid, keeps-then v u w s.keeps (keeps-then u z w f.keeps g.keeps), g.group.0 ∙ f.owed ∙ s.group.0, holds, knows, unmoved)
     where
       alone : (q : ℕ) → q ≢ p → has q (p ∷ []) ≡ false
       alone q ne = ap (λ (b : Bool). b || false) (ne_eqb q p ne)
@@ -137,20 +100,11 @@ module _ {X : Type 0} where
 
   -- a page that was locked stays so while the call works on others
   pub seized-on : {p version : ℕ} {stands : Option Mapping} {pages : List ℕ} {done : List Did} {v w : View X} → IsSeized p version stands v → IsAmid pages done v w → has p pages ≡ false → w.owed ≡ v.owed → IsSeized p version stands w
-  seized-on {p = p} s f none owed =
+  seized-on {p = p} {stands = stands} {v = v} {w = w} s f none owed =
       let k = f.knows p none (inl s.owns) in
-      record {
-        page = subst (λ (o : Origin). p < o.pages) (sym f.start) s.page;
-        below = s.below;
-        owns = ap (λ (x : Seat). x.exclusive) (f.seats p none) ∙ s.owns;
-        mapping = ap (λ (h : Held). h.mapping) k.held ∙ s.mapping;
-        inside = λ m e. subst (λ (o : Origin). m.frame < o.frames) (sym f.start) (s.inside m e);
-        owned = λ m e. ap (λ (h : Held). h.owner) k.held ∙ s.owned m e;
-        told = ap (λ (h : Held). h.fault) k.held ∙ s.told ∙ ap (λ (h : Held). h.block.count) (sym k.held);
-        at = ap (λ (x : Version). x.version) k.last ∙ s.at;
-        draft = k.draft ∙ s.draft ∙ ap (λ (x : Version). x.words) (sym k.last);
-        size = ap (λ (x : Version). length x.words) k.last ∙ s.size;
-        device = λ t e. ap (λ (h : Held). h.block.words) k.held ∙ s.device (ap (λ (o : Origin). o.tells) (sym f.start) ∙ t) e ∙ ap (λ (x : Version). x.words) (sym k.last);
-        free = ap (has p) f.pending ∙ s.free;
-        paid = ap (has p) owed ∙ s.paid;
-      }
+      let inside = λ (m : Mapping) (e : stands ≡ Some m). subst (λ (o : Origin). m.frame < o.frames) (sym f.start) (s.inside m e) in
+      let owned = λ (m : Mapping) (e : stands ≡ Some m). ap (λ (h : Held). h.owner) k.held ∙ s.owned m e in
+      let told = ap (λ (h : Held). h.fault) k.held ∙ s.told ∙ ap (λ (h : Held). h.block.count) (sym k.held) in
+      let draft = k.draft ∙ s.draft ∙ ap (λ (x : Version). x.words) (sym k.last) in
+      let device = λ (t : w.start.tells ≡ true) (e : stands ≡ None). ap (λ (h : Held). h.block.words) k.held ∙ s.device (ap (λ (o : Origin). o.tells) (sym f.start) ∙ t) e ∙ ap (λ (x : Version). x.words) (sym k.last) in
+      search (rules, ap, subst (λ (o : Origin). p < o.pages) (sym f.start) s.page, ap (λ (x : Seat). x.exclusive) (f.seats p none), k, inside, owned, told, draft, device, ap (has p) f.pending, ap (has p) owed)

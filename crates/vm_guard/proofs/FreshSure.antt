@@ -1,25 +1,23 @@
 -- A pass that is alone is given the fresh pages that it knows can be locked.
-use Rattle.vm_rule.specs.declared.view.Place.TheVariants as places
-use Rattle.vm_guard.specs.declared.given.Fresh.TheVariants as answers
 use Rattle.vm_guard.proofs.{FreshNone.unmoved-at, FreshNumbers.apart-second}
 use Rattle.vm_guard.proofs.Amid.{amid-alone, next-known, nload-amid, others-known}
-use Rattle.vm_guard.proofs.Prelude.{[], arith, did_load, found-known, Fresh, IsAlone, IsPages, IsPagesOrWorn, known_next, known_word, known_word_at}
-use Rattle.vm_guard.proofs.Prelude.{Mapping, next_view, NextTold, None, Option, Origin, Place, refl, same-word, Seizes, subst, sym, true≢false, View}
-use Rattle.vm_guard.proofs.Prelude.{words-known, ℕ, ◌+◌, ◌-◌, ◌<◌, ◌∙◌, ◌∷◌, ◌≡◌, ◌≤◌}
+use Rattle.vm_guard.proofs.Prelude.{[], arith, did_load, found-known, Fresh, IsAlone, IsPages, IsPagesOrWorn, known_next, known_word, known_word_at, Mapping}
+use Rattle.vm_guard.proofs.Prelude.{next_view, NextTold, None, Option, Origin, Place, refl, same-word, Seizes, subst, sym, true≢false, View, words-known, ℕ}
+use Rattle.vm_guard.proofs.Prelude.{◌+◌, ◌-◌, ◌<◌, ◌∙◌, ◌∷◌, ◌≡◌, ◌≤◌}
 
 -- pages that were given are an answer of pages, or that one is worn
 pub pages-settle : (f : Fresh) → IsPages f → IsPagesOrWorn f
-pages-settle (answers.Pages group) given = tt
+pages-settle (Fresh.Pages group) given = tt
 pages-settle f given = absurd given
 
 module _ {X : Type 0} where
   -- the next word that is loaded is the one that the pass knew
   pub next-found : {x : ℕ} {v u : View X} → NextTold x v u → IsAlone v → x ≡ known_next v
-  next-found {x = x} {v = v} {u = u} t a = found-known (did_load places.Next x) x None [] [] v (next_view x v) u t.brings refl a
+  next-found {x = x} {v = v} {u = u} t a = found-known (did_load Place.Next x) x None [] [] v (next_view x v) u t.brings refl a
 
   -- and the load leaves what it knows
   loaded-at : {x : ℕ} {v u : View X} → NextTold x v u → IsAlone v → (at : Place) → known_word_at u at ≡ known_word_at v at
-  loaded-at {x = x} {v = v} {u = u} t a at = same-word v u (nload-amid [] x v u t).start (words-known (did_load places.Next x) None [] [] v (next_view x v) u t.brings refl a) at
+  loaded-at {x = x} {v = v} {u = u} t a at = same-word v u (nload-amid [] x v u t).start (words-known (did_load Place.Next x) None [] [] v (next_view x v) u t.brings refl a) at
 
   pub loaded-alone : {x : ℕ} {v u : View X} → NextTold x v u → IsAlone v → IsAlone u
   loaded-alone {x = x} {v = v} {u = u} t a = amid-alone (nload-amid [] x v u t) a
@@ -39,11 +37,11 @@ module _ {X : Type 0} where
   pub next-now : {x pid version : ℕ} {stands : Option Mapping} {v u z : View X} → NextTold x v u → (pid ≡ x) × Seizes x version stands u z → IsAlone v → IsAlone z × (known_next z ≡ pid)
   next-now t taken a =
       let on = loaded-alone t a in
-      (amid-alone taken.1.amid on, seized-next taken.1 on ∙ loaded-at t a places.Next ∙ sym (next-found t a) ∙ sym taken.0)
+      (amid-alone taken.1.amid on, seized-next taken.1 on ∙ loaded-at t a Place.Next ∙ sym (next-found t a) ∙ sym taken.0)
 
   -- what the pass knows of the word of each page from the next one on, it knows of the first page once the next word is loaded
   pub first-word : (P : ℕ → Type 0) (n : ℕ) {x : ℕ} {v u : View X} → NextTold x v u → IsAlone v → ((q : ℕ) → known_next v ≤ q → q < known_next v + n → P (known_word q v)) → 1 ≤ n → P (known_word x u)
-  first-word P n {x = x} t a each some = subst P (sym (loaded-at t a (places.State x))) (each x (omega (arith, next-found t a)) (omega (arith, next-found t a, some)))
+  first-word P n {x = x} t a each some = subst P (sym (loaded-at t a (Place.State x))) (each x (omega (arith, next-found t a)) (omega (arith, next-found t a, some)))
 
   -- and of the second one once the first is locked
   pub second-word : (P : ℕ → Type 0) (n : ℕ) {x pid version : ℕ} {stands : Option Mapping} {v u z : View X} → NextTold x v u → (pid ≡ x) × Seizes x version stands u z → IsAlone v
@@ -52,5 +50,5 @@ module _ {X : Type 0} where
       let here : x ≡ known_next v = next-found t a in
       let page : x + 1 < v.start.pages = omega (arith, here, room, some) in
       let there : x + 1 < u.start.pages = subst (λ (o : Origin). x + 1 < o.pages) (sym (nload-amid [] x v u t).start) page in
-      let same = (others-known (x ∷ []) taken.1.done u z taken.1.amid (loaded-alone t a)).words (places.State (x + 1)) there (λ k. true≢false (sym k.1 ∙ apart-second x)) in
-      subst (λ p. P (known_word (p + 1) z)) (sym taken.0) (subst P (sym (same ∙ loaded-at t a (places.State (x + 1)))) (each (x + 1) (omega (arith, here)) (omega (arith, here, some))))
+      let same = (others-known (x ∷ []) taken.1.done u z taken.1.amid (loaded-alone t a)).words (Place.State (x + 1)) there (λ k. true≢false (sym k.1 ∙ apart-second x)) in
+      subst (λ p. P (known_word (p + 1) z)) (sym taken.0) (subst P (sym (same ∙ loaded-at t a (Place.State (x + 1)))) (each (x + 1) (omega (arith, here)) (omega (arith, here, some))))

@@ -1,17 +1,15 @@
 -- The fresh pages that a call gives, one or two: each is locked, put into a frame, and all are claimed together.
-use Rattle.vm_rule.specs.declared.view.Place.TheVariants as places
-use Rattle.vm_guard.proofs.{FreshNone.seized-on, Groups.each-page, Groups.or-none, GuardSteps.still-held, Lockings.unheld-same}
+use Rattle.vm_guard.proofs.{FreshNone.seized-on, Groups.each-page, GuardSteps.still-held, Lockings.unheld-same}
 use Rattle.vm_guard.proofs.Amid.{amid-alone, amid-then, claim-amid, claim-silent, IsSilent, known-on, known-states, nload-amid, nload-silent}
 use Rattle.vm_guard.proofs.Amid.{others-known, put-known, silent-then, silent-within}
 use Rattle.vm_guard.proofs.FreshNumbers.{apart-first, apart-second, numbers-one, numbers-two, within-first, within-second}
 use Rattle.vm_guard.proofs.Prelude.{[], ap, append_assoc, AreFresh, AreHeld, arith, Bool, cases_eq, claim-brings, claimed_view, ClaimTold, cond-true}
-use Rattle.vm_guard.proofs.Prelude.{contents_at, Did, did_exchange, did_load, draft_of, Each, each-map, eq-eqb, eqb, ExclusiveGuard, false, Furnishes}
-use Rattle.vm_guard.proofs.Prelude.{has, has-both, held-on, held_at, holds-still, if◌then◌else◌, index-below, inl, inr, IsAlone, IsAmid, IsHolding}
-use Rattle.vm_guard.proofs.Prelude.{IsSeized, IsSome, IsUnheld, keeps-then, KeepsFrames, known_word_at, KnowsAt, last-known, last_of, List, LOCKED}
-use Rattle.vm_guard.proofs.Prelude.{Mapping, NextTold, nload-others, None, none-some, numbers, Option, Origin, PassMayClaim, pids_of, Place, put_at}
-use Rattle.vm_guard.proofs.Prelude.{refl, replicate, reverse, reverse-append, Seat, seat_of, Seizes, Some, subst, sym, true, Version, View}
-use Rattle.vm_guard.proofs.Prelude.{wide-after, Within, without, without_all, word_of, written-behind, ℕ, ⊎_elim, ◌++◌, ◌+◌, ◌<◌, ◌==◌, ◌∙◌, ◌∷◌, ◌≡◌}
-use Rattle.vm_guard.proofs.Prelude.{◌≢◌, ◌≤◌}
+use Rattle.vm_guard.proofs.Prelude.{contents_at, Did, did_exchange, did_load, draft_of, Each, each-map, eq-eqb, eqb, ExclusiveGuard, false, Furnishes, has}
+use Rattle.vm_guard.proofs.Prelude.{has-both, held-on, held_at, holds-still, if◌then◌else◌, index-below, inl, inr, IsAlone, IsAmid, IsHolding, IsSeized, IsSome}
+use Rattle.vm_guard.proofs.Prelude.{IsUnheld, keeps-then, KeepsFrames, known_word_at, KnowsAt, last-known, last_of, List, LOCKED, Mapping, NextTold}
+use Rattle.vm_guard.proofs.Prelude.{nload-others, None, none-some, numbers, Option, or_parts, Origin, PassMayClaim, pids_of, Place, put_at, refl, replicate}
+use Rattle.vm_guard.proofs.Prelude.{reverse, reverse-append, rules, Seat, seat_of, Seizes, Some, subst, sym, true, Version, View, wide-after, Within, without}
+use Rattle.vm_guard.proofs.Prelude.{without_all, word_of, written-behind, ℕ, ⊎_elim, ◌++◌, ◌+◌, ◌<◌, ◌==◌, ◌∙◌, ◌∷◌, ◌≡◌, ◌≢◌, ◌≤◌}
 
 module _ {X : Type 0} where
   -- a page that is held stays so while the call works on others
@@ -21,14 +19,8 @@ module _ {X : Type 0} where
   -- a page that was not known before the first load
   unheld-before : (x : ℕ) (v v1 : View X) → v.next ≡ None → NextTold x v v1 → (p : ℕ) → IsUnheld v1 p → IsUnheld v p
   unheld-before x v v1 none t p h =
-      let e : seat_of v1 p ≡ seat_of v p = ap (λ (y : View X). seat_of y p) t.brings.view in
-      record {
-        exclusive = ap (λ (k : Seat). k.exclusive) (sym e) ∙ h.exclusive;
-        shares = ap (λ (k : Seat). k.shares) (sym e) ∙ h.shares;
-        writing = ap (λ (k : Seat). k.writing) (sym e) ∙ h.writing;
-        paid = ap (λ (y : View X). has p y.owed) (sym t.brings.view) ∙ h.paid;
-        next = λ k. none-some p (sym none ∙ k);
-      }
+      let e : seat_of v p ≡ seat_of v1 p = ap (λ (y : View X). seat_of y p) (sym t.brings.view) in
+      search (rules, ap, e, ap (λ (y : View X). has p y.owed) (sym t.brings.view), (λ (k : v.next ≡ Some p). none-some p (sym none ∙ k)))
 
   -- ---- the claim
 
@@ -69,7 +61,7 @@ module _ {X : Type 0} where
     pub group : (y.owed ≡ z.owed) × (y.next ≡ z.next)
 
   put-one : {p frame version : ℕ} {dirty : Bool} {before after : List ℕ} {z y : View X} → Furnishes p frame version dirty before after z y → ArePut before after z y
-  put-one f = record { taken = f.taken; cut = f.cut; frames = f.frames; own = f.own; contents = f.contents; group = f.group }
+  put-one f = search
 
   put-then : {before mid after : List ℕ} {z y w : View X} → ArePut before mid z y → ArePut mid after y w → ArePut before after z w
   put-then {after = after} {z = z} f g = record {
@@ -77,7 +69,7 @@ module _ {X : Type 0} where
     cut = f.cut ∙ ap (λ (l : List ℕ). l ++ reverse f.taken) g.cut ∙ append_assoc after (reverse g.taken) (reverse f.taken) ∙ ap (λ (l : List ℕ). after ++ l) (sym (reverse-append f.taken g.taken));
     frames = g.frames ∙ ap (without_all g.taken) f.frames ∙ both f.taken g.taken z.frames;
     own = g.own;
-    contents = λ q left. let none = or-none (has q f.taken) (has q g.taken) (sym (has-both q f.taken g.taken) ∙ left) in g.contents q none.1 ∙ f.contents q none.0;
+    contents = λ q left. let none = or_parts (has q f.taken) (has q g.taken) (sym (has-both q f.taken g.taken) ∙ left) in g.contents q none.1 ∙ f.contents q none.0;
     group = (g.group.0 ∙ f.group.0, g.group.1 ∙ f.group.1);
   }
     where
@@ -93,7 +85,7 @@ module _ {X : Type 0} where
     pub seat : seat_of w p ≡ record (seat_of v p) { exclusive = true; reading = None }
     pub held : IsHolding p frame version dirty w
     pub zero : v.start.tells ≡ true → (draft_of w p ≡ replicate 64 0) × ((last_of w p).words ≡ replicate 64 0)
-    pub locked : IsAlone v → KnowsAt (places.State p) (word_of LOCKED version) w
+    pub locked : IsAlone v → KnowsAt (Place.State p) (word_of LOCKED version) w
 
   -- it was locked after steps on other pages, put into a frame after more of them, and then others were
   given : {p e : ℕ} {stands : Option Mapping} (g : ExclusiveGuard) {before after ps qs rs : List ℕ} {da db dc : List Did} {v x u z y w : View X}
@@ -114,11 +106,11 @@ module _ {X : Type 0} where
             let alone-x = amid-alone a alone in
             let alone-u = amid-alone s.amid alone-x in
             let alone-z = amid-alone b alone-u in
-            subst (λ n. KnowsAt (places.State p) (word_of LOCKED n) w) same
+            subst (λ n. KnowsAt (Place.State p) (word_of LOCKED n) w) same
             (known-on rs dc y w p word c (amid-alone f.amid alone-z) f.holding.page nc
             (known-states (p ∷ []) f.done z y p word f.amid f.states alone-z locked.page
             (known-on qs db u z p word b alone-u s.seized.page nb
-            (put-known (places.State p) word x u s.amid.start (s.table alone-x)))));
+            (put-known (Place.State p) word x u s.amid.start (s.table alone-x)))));
       })
 
   -- ---- all of them
@@ -131,8 +123,8 @@ module _ {X : Type 0} where
       → x + n ≤ v.start.pages → IsSilent pages mid v1 y → Each (λ (g : ExclusiveGuard). IsGiven g.pid g.frame g.version g.dirty v w) gs → KeepsFrames v z → z.owed ≡ v.owed → ArePut before after z y
       → AreFresh (numbers x n) x n gs before after v w
   fresh-of x n pages gs before after c mid v v1 z y w first claim is same pids inside steps each keeps owed put =
-      let load : Did = did_load places.Next x in
-      let did : Did = did_exchange places.Next x c (x + n) in
+      let load : Did = did_load Place.Next x in
+      let did : Did = did_exchange Place.Next x c (x + n) in
       let rest : List Did = mid ++ did ∷ [] in
       let view = (claim-brings x n is claim).view in
       let written : did.wrote ≡ Some (x + n) = cond-true (eqb c x) (Some (x + n)) None (eq-eqb c x is) in
@@ -156,10 +148,10 @@ module _ {X : Type 0} where
         own = held-on after y w put.own (ap (λ (k : View X). k.start) view) (ap (λ (k : View X). k.frames) view);
         contents = λ f left. ap (λ (k : View X). contents_at k f) view ∙ put.contents f left ∙ ap (λ l. put_at [] l f) keeps.contents;
         loaded = (rest, refl);
-        claimed = written-behind (load ∷ mid) (did ∷ []) places.Next (x + n) (record { earlier = []; step = did; later = []; cut = refl; place = refl; wrote = written });
+        claimed = written-behind (load ∷ mid) (did ∷ []) Place.Next (x + n) (record { earlier = []; step = did; later = []; cut = refl; place = refl; wrote = written });
         silent = all.1;
-        locked = λ a. each-map _ _ (λ (g : ExclusiveGuard) k. now (places.State g.pid) (word_of LOCKED g.version) a k.held.page (k.locked a)) gs each;
-        moved = λ a. now places.Next (x + n) a tt (last-known (load ∷ mid) did (x + n) all.0.own v w all.0.start all.0.runs written a);
+        locked = λ a. each-map _ _ (λ (g : ExclusiveGuard) k. now (Place.State g.pid) (word_of LOCKED g.version) a k.held.page (k.locked a)) gs each;
+        moved = λ a. now Place.Next (x + n) a tt (last-known (load ∷ mid) did (x + n) all.0.own v w all.0.start all.0.runs written a);
         others = others-known pages (load ∷ rest) v w all.0;
         current = ap (λ (k : View X). k.current) view;
       })
@@ -171,7 +163,7 @@ module _ {X : Type 0} where
       → Furnishes x g.frame g.version g.dirty before after z y → ClaimTold x 1 c y w → g.pid ≡ x → x + 1 ≤ v.start.pages → AreFresh (numbers x 1) x 1 (g ∷ []) before after v w
   fresh-one x version stands g before after c v v1 u z y w none first s second f claim pid inside =
       let all : List ℕ = x ∷ [] in
-      let load : List Did = did_load places.Next x ∷ [] in
+      let load : List Did = did_load Place.Next x ∷ [] in
       let is : c ≡ x = finds-next 1 second s.seized.owns f.group.1 claim in
       let at-first = nload-amid [] x v v1 first in
       let at-second = nload-amid [] x u z second in
@@ -192,8 +184,8 @@ module _ {X : Type 0} where
       let one : List ℕ = x ∷ [] in
       let two : List ℕ = (x + 1) ∷ [] in
       let all : List ℕ = x ∷ (x + 1) ∷ [] in
-      let load : List Did = did_load places.Next x ∷ [] in
-      let did : List Did = did_exchange places.Next x c (x + 2) ∷ [] in
+      let load : List Did = did_load Place.Next x ∷ [] in
+      let did : List Did = did_exchange Place.Next x c (x + 2) ∷ [] in
       let is : c ≡ x = finds-next 2 second (ap (λ (k : Seat). k.exclusive) (b.amid.seats x (apart-first x)) ∙ a.seized.owns) (h.group.1 ∙ f.group.1) claim in
       let at-first = nload-amid [] x v v1 first in
       let at-second = nload-amid [] x u2 z second in

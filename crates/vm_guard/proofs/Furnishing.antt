@@ -1,23 +1,21 @@
 -- A page that was locked is put into a frame of zeros, where it stood in none.
-use Rattle.vm_rule.specs.declared.view.Place.TheVariants as places
 use Rattle.vm_guard.proofs.{Lockings.seized-holding, OpenReads.each-parts, Seizing.self-has}
 use Rattle.vm_guard.proofs.Amid.{IsSilent, leaves-silent, none-silent, other}
-use Rattle.vm_guard.proofs.Groups.{each-with, lacks, or-none}
+use Rattle.vm_guard.proofs.Groups.{each-with, lacks}
 use Rattle.vm_rule.specs.Prelude.{StandsIn}
 use Rattle.vm_step.specs.steps.Owner.{OwnerTold}
 use Rattle.vm_step.proofs.steps.Owner.{settle-did, settle-frames, settle-held, settle-notes, settle-out, settle-works, stands-installed}
-use Rattle.vm_guard.proofs.Prelude.{[], ap, append-none, AreApart, AreHeld, arith, clean_in, contents_at, Did, Each, each-both, each-map, false}
-use Rattle.vm_guard.proofs.Prelude.{false≢true, filled, fills, Fills, FillTold, Furnishes, has, has-both, has-without_other, Held, held_at, inl}
-use Rattle.vm_guard.proofs.Prelude.{InstallTold, IsPlaceOf, IsSeized, knows-after}
-use Rattle.vm_guard.proofs.Prelude.{KnowsStates, last_of, length, length-replicate, List, Mapping, MayPutInto, no_held, None, Origin, put_at, refl}
-use Rattle.vm_guard.proofs.Prelude.{replicate, Seat, slice_set, Some, Stores, stores-did, subst, suc, sym, true, upd-other, Version, View, without}
-use Rattle.vm_guard.proofs.Prelude.{Works, works-then, ℕ, ◌++◌, ◌+◌, ◌<◌, ◌∙◌, ◌∷◌, ◌≡◌, ◌≢◌, ◌≤◌}
+use Rattle.vm_guard.proofs.Prelude.{[], ap, append-none, AreApart, AreHeld, arith, clean_in, contents_at, Did, Each, each-both, each-map, false, false≢true}
+use Rattle.vm_guard.proofs.Prelude.{filled, fills, Fills, FillTold, Furnishes, has, has-both, has-without_other, Held, held_at, inl, InstallTold, IsHolding}
+use Rattle.vm_guard.proofs.Prelude.{IsPlaceOf, IsSeized, knows-after, KnowsStates, last_of, length, length-replicate, List, Mapping, MayPutInto, no_held, None}
+use Rattle.vm_guard.proofs.Prelude.{or_parts, Origin, Place, put_at, refl, replicate, rules, Seat, slice_set, Some, Stores, stores-did, subst, suc, sym, true}
+use Rattle.vm_guard.proofs.Prelude.{upd-other, View, without, Works, works-then, ℕ, ◌++◌, ◌+◌, ◌<◌, ◌∙◌, ◌∷◌, ◌≡◌, ◌≢◌, ◌≤◌}
 
 -- a list of different numbers that ends with f: the others are different numbers, and each is another one than f
 apart-front : (a : List ℕ) (f : ℕ) → AreApart (a ++ f ∷ []) → AreApart a × Each (λ g. g ≢ f) a
 apart-front [] f apart = (tt, tt)
 apart-front (q ∷ qs) f apart =
-    let k = or-none (has q qs) (has q (f ∷ [])) (sym (has-both q qs (f ∷ [])) ∙ apart.0) in
+    let k = or_parts (has q qs) (has q (f ∷ [])) (sym (has-both q qs (f ∷ [])) ∙ apart.0) in
     let rest = apart-front qs f apart.1 in
     ((k.0, rest.0), ((lacks q f [] k.1).0, rest.1))
 
@@ -78,14 +76,11 @@ module _ {X : Type 0} where
       held-u = ap (λ l. put_at no_held l p) filling.held
 
       pub may-install : MayPutInto u p f
-      may-install = record {
-        owns = ap (λ (k : Seat). k.exclusive) filling.works.seat ∙ s.owns;
-        empty = ap (λ (h : Held). h.mapping) held-u ∙ s.mapping;
-        holds = ap (has f) filling.frames ∙ frame-own.1;
-        loaded = λ t.
-            let told : v.start.tells ≡ true = ap (λ (o : Origin). o.tells) (sym filling.works.leaves.start) ∙ t in
-            filled f zeros v u (length-replicate {A = ℕ} 64 0) stores ∙ sym (zero told) ∙ sym (s.device told refl) ∙ ap (λ (h : Held). h.block.words) (sym held-u);
-      }
+      may-install =
+          let loaded = λ (t : u.start.tells ≡ true).
+          let told : v.start.tells ≡ true = ap (λ (o : Origin). o.tells) (sym filling.works.leaves.start) ∙ t in
+          filled f zeros v u (length-replicate {A = ℕ} 64 0) stores ∙ sym (zero told) ∙ sym (s.device told refl) ∙ ap (λ (h : Held). h.block.words) (sym held-u) in
+          search (rules, ap (λ (k : Seat). k.exclusive) filling.works.seat ∙ s.owns, ap (λ (h : Held). h.mapping) held-u ∙ s.mapping, ap (has f) filling.frames ∙ frame-own.1, loaded)
 
       pub may-own : (i : View X) → InstallTold p f u i → StandsIn i p f
       may-own i t = stands-installed may-install.owns t
@@ -106,10 +101,10 @@ module _ {X : Type 0} where
         -- no step is at a state word
         states-w : KnowsStates v w
         states-w a q l =
-            (knows-after done [] v w work.leaves.start work.alone).kept a (places.State q) l
-            (each-both (λ (d : Did). d.at ≡ places.State q → d.wrote ≡ None) (stores-did f 0 zeros) (settle-did t named)
-            (each-map (λ (d : Did). IsPlaceOf v.start [] d.at) (λ (d : Did). d.at ≡ places.State q → d.wrote ≡ None) (λ (d : Did) is at. absurd (false≢true (subst (IsPlaceOf v.start []) at is).1)) (stores-did f 0 zeros) (stores-places v.start [] f frame-own.0 0 zeros (omega arith)))
-            ((λ e. absurd (let no : places.Translation p ≡ places.State q = e in cc)), ((λ e. absurd (let no : places.Owner f ≡ places.State q = e in cc)), tt)))
+            (knows-after done [] v w work.leaves.start work.alone).kept a (Place.State q) l
+            (each-both (λ (d : Did). d.at ≡ Place.State q → d.wrote ≡ None) (stores-did f 0 zeros) (settle-did t named)
+            (each-map (λ (d : Did). IsPlaceOf v.start [] d.at) (λ (d : Did). d.at ≡ Place.State q → d.wrote ≡ None) (λ (d : Did) is at. absurd (false≢true (subst (IsPlaceOf v.start []) at is).1)) (stores-did f 0 zeros) (stores-places v.start [] f frame-own.0 0 zeros (omega arith)))
+            ((λ e. absurd (let no : Place.Translation p ≡ Place.State q = e in cc)), ((λ e. absurd (let no : Place.Owner f ≡ Place.State q = e in cc)), tt)))
 
         pub furnish-empty : Furnishes p f version false before after v w
         furnish-empty =
@@ -117,23 +112,15 @@ module _ {X : Type 0} where
             let held-w : held_at w p ≡ record (held_at v p) { mapping = Some (clean_in f); owner = p + 1 } = settle-held t named ∙ ap (λ (h : Held). record h { mapping = Some (clean_in f); owner = p + 1 }) held-u in
             let last-w : last_of w p ≡ last_of v p = work.last (inl s.owns) in
             let frames-w : w.frames ≡ without f v.frames = settle-frames t named ∙ ap (without f) filling.frames in
+            let told = ap (λ (h : Held). h.fault) held-w ∙ s.told ∙ ap (λ (h : Held). h.block.count) (sym held-w) in
+            let size = ap (λ (l : List ℕ). length l) work.draft ∙ ap length s.draft ∙ s.size in
+            let holding : IsHolding p f version false w = search (rules, ap, subst (λ (o : Origin). p < o.pages) (sym work.leaves.start) s.page, subst (λ (o : Origin). f < o.frames) (sym work.leaves.start) frame-own.0, s.below, ap (λ (k : Seat). k.exclusive) work.seat ∙ s.owns, held-w, told, last-w, size, ap (has p) work.leaves.group.0 ∙ s.free) in
             record {
               done = done;
               amid = steps.0;
               group = (work.leaves.group.1, work.leaves.group.2);
               seat = work.seat;
-              holding = record {
-                page = subst (λ (o : Origin). p < o.pages) (sym work.leaves.start) s.page;
-                frame_is = subst (λ (o : Origin). f < o.frames) (sym work.leaves.start) frame-own.0;
-                below = s.below;
-                owns = ap (λ (k : Seat). k.exclusive) work.seat ∙ s.owns;
-                stands = ap (λ (h : Held). h.mapping) held-w;
-                owned = ap (λ (h : Held). h.owner) held-w;
-                told = ap (λ (h : Held). h.fault) held-w ∙ s.told ∙ ap (λ (h : Held). h.block.count) (sym held-w);
-                at = ap (λ (y : Version). y.version) last-w ∙ s.at;
-                size = ap (λ (l : List ℕ). length l) work.draft ∙ ap length s.draft ∙ s.size;
-                free = ap (has p) work.leaves.group.0 ∙ s.free;
-              };
+              holding = holding;
               draft = work.draft;
               last = last-w;
               taken = f ∷ [];

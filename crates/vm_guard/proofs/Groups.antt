@@ -1,24 +1,19 @@
 -- A group is released: what each release leaves of the members that are still to be released, and what all of them leave together.
-use Rattle.vm_guard.proofs.Prelude.{[], ap, append-none, AreApart, AreGivenUp, Bool, cases_eq, Change, cond-false, cond-true, Each, each-map, Entry}
-use Rattle.vm_guard.proofs.Prelude.{eq-eqb, eqb, ExclusiveGuard, false, false≢true, GuardsHeld, has, has-both, has-left_of, has-without_other, Held}
-use Rattle.vm_guard.proofs.Prelude.{held_at, holds-still, if◌then◌else◌, inl, inr, IsBeside, IsClaimed, IsDue, IsFirst, IsMember, IsNotOut, IsSome}
-use Rattle.vm_guard.proofs.Prelude.{IsToldOf, last_of, LeavesOthers, length, List, loads_at, MAX_VERSION, MayGiveUp, MayReleaseAll, ne_eqb}
-use Rattle.vm_guard.proofs.Prelude.{next_after_all, None, Option, or_right, Origin, others-none, others-then, others-within, pids_of, put_at, refl}
-use Rattle.vm_guard.proofs.Prelude.{Release, release-loads, release-others, release-own, release-seat, release_steps, releases_of, ReleaseTold, Seat}
-use Rattle.vm_guard.proofs.Prelude.{seat_of, Start, subst, sym, true, true≢false, Version, View, without, without-none, without_all, ℕ, ⊎_elim, ◌++◌}
-use Rattle.vm_guard.proofs.Prelude.{◌+◌, ◌<◌, ◌||◌, ◌∙◌, ◌∷◌, ◌≡◌, ◌≢◌, ◌≤◌, ◌⊎◌}
+use Rattle.vm_guard.proofs.Prelude.{[], ap, append-none, AreApart, AreGivenUp, Bool, cases_eq, Change, cond-false, cond-true, Each, each-map, Entry, eq-eqb}
+use Rattle.vm_guard.proofs.Prelude.{eqb, ExclusiveGuard, false, false≢true, GuardsHeld, has, has-both, has-left_of, has-without_other, Held, held_at}
+use Rattle.vm_guard.proofs.Prelude.{holds-still, if◌then◌else◌, inl, inr, IsBeside, IsClaimed, IsDue, IsFirst, IsMember, IsNotOut, IsSome, IsToldOf, last_of}
+use Rattle.vm_guard.proofs.Prelude.{LeavesOthers, length, List, loads_at, MAX_VERSION, MayGiveUp, MayReleaseAll, ne_eqb, next_after_all, None, Option, or_parts}
+use Rattle.vm_guard.proofs.Prelude.{or_right, Origin, others-none, others-then, others-within, pids_of, put_at, refl, Release, release-loads, release-others}
+use Rattle.vm_guard.proofs.Prelude.{release-own, release-seat, release_steps, releases_of, ReleaseTold, rules, Seat, seat_of, Start, subst, sym, true}
+use Rattle.vm_guard.proofs.Prelude.{true≢false, View, without, without-none, without_all, ℕ, ⊎_elim, ◌++◌, ◌+◌, ◌<◌, ◌||◌, ◌∙◌, ◌∷◌, ◌≡◌, ◌≢◌, ◌≤◌, ◌⊎◌}
 use Rattle.vm_guard.proofs.QuietSteps.{elsewhere-of, steady-of}
-
-pub or-none : (a b : Bool) → (a || b) ≡ false → (a ≡ false) × (b ≡ false)
-or-none true b e = absurd (true≢false e)
-or-none false b e = (refl, e)
 
 pub has-not : (q : ℕ) (ps : List ℕ) → has q ps ≡ false → has q ps ≡ true → ⊥
 has-not q ps none e = true≢false (sym e ∙ none)
 
 -- a number that the list with p at its head lacks is another one, and the rest lacks it too
 pub lacks : (q p : ℕ) (ps : List ℕ) → has q (p ∷ ps) ≡ false → (q ≢ p) × (has q ps ≡ false)
-lacks q p ps e = let k = or-none (eqb q p) (has q ps) e in ((λ same. true≢false (sym (eq-eqb q p same) ∙ k.0)), k.1)
+lacks q p ps e = let k = or_parts (eqb q p) (has q ps) e in ((λ same. true≢false (sym (eq-eqb q p same) ∙ k.0)), k.1)
 
 -- numbers that are put before a list, and taken away, leave it
 pub without-front : (ps m : List ℕ) → AreApart ps → ((q : ℕ) → has q ps ≡ true → has q m ≡ false) → without_all ps (ps ++ m) ≡ m
@@ -70,15 +65,7 @@ module _ {X : Type 0} where
   first-of may_release g gs said v may few = record { members = members-of v (g ∷ gs) may.held may.claimed; apart = may.apart; few = few; owner = may.owner }
 
   pub later-may : (may_release : Start → List ℕ → List Change → List (Entry X) → Type 0) (p version : ℕ) (v : View X) → IsDue p version v → MayGiveUp may_release p version [] None v
-  later-may may_release p version v d = record {
-    owns = d.owns;
-    resident = d.resident;
-    owned = d.owned;
-    told = d.told;
-    home = d.home;
-    at = d.at;
-    group = inr (record { pending = d.pending; alone = refl; silent = refl });
-  }
+  later-may may_release p version v d = search rules
 
   -- ---- a member that is still to be released
 
@@ -88,17 +75,9 @@ module _ {X : Type 0} where
   due-else q version p other rest said v w t ne page below owns resident owned told home at pending =
       let e = elsewhere-of (release-others t (λ q. q ≡ p) refl) in
       let k = e.knows q ne (inl owns) in
-      record {
-        page = subst (λ (o : Origin). q < o.pages) (sym e.steady.start) page;
-        below = below;
-        owns = (e.holds q ne).exclusive ∙ owns;
-        resident = subst (λ (h : Held). IsSome h.mapping) (sym k.held) resident;
-        owned = ap (λ (h : Held). h.owner) k.held ∙ owned;
-        told = ap (λ (h : Held). h.fault) k.held ∙ told ∙ ap (λ (h : Held). h.block.count) (sym k.held);
-        home = λ o is. home o (sym e.steady.out ∙ is);
-        at = at ∙ ap (λ (x : Version). x.version) (sym k.last);
-        pending = pending;
-      }
+      let inside = subst (λ (o : Origin). q < o.pages) (sym e.steady.start) page in
+      let out : IsNotOut w q = λ o is. home o (sym e.steady.out ∙ is) in
+      search (rules, ap, inside, (e.holds q ne).exclusive, subst (λ (h : Held). IsSome h.mapping) (sym k.held) resident, k, out)
 
   -- ---- together
 
@@ -156,12 +135,9 @@ module _ {X : Type 0} where
   same-seat v w q shares exclusive writing reading i = record { shares = shares i; exclusive = exclusive i; writing = writing i; reading = reading i }
 
   pub given-up : (gs : List ExclusiveGuard) (v w : View X) → AreApart (pids_of gs) → Each (λ (g : ExclusiveGuard). has g.pid v.pending ≡ true) gs → AreGivenUp gs v w → IsRest gs v w
-  given-up [] v w apart due same = subst (IsRest [] v) same (record {
-    all = record { steps = others-none v; seats = λ k e. absurd (false≢true e); loads = λ k. refl };
-    mine = refl;
-    group = (refl, refl, refl);
-    current = λ e. e;
-  })
+  given-up [] v w apart due same =
+      let all : AreAllGiven [] v v = record { steps = others-none v; seats = λ k e. absurd (false≢true e); loads = λ k. refl } in
+      subst (IsRest [] v) same (search (rules, all))
   given-up (g ∷ gs) v w apart due k =
       let p : ℕ = g.pid in
       let u : View X = k.0 in
@@ -169,16 +145,10 @@ module _ {X : Type 0} where
       let pending : u.pending ≡ without p v.pending = ap (λ (y : View X). y.pending) t.brings.view ∙ cond-true (has p v.pending) (without p v.pending) v.pending due.0 in
       let rest : IsRest gs u w = given-up gs u w apart.1
       (each-map _ _ (λ (h : ExclusiveGuard) m. ap (has h.pid) pending ∙ has-without_other p h.pid v.pending m.0.0 ∙ m.1) gs (each-with _ _ gs (among p gs apart.0) due.1)) k.2 in
-      record {
-        all = all-then g gs [] None v u w t apart.0 rest.all;
-        mine = rest.mine ∙ ap (λ (y : View X). y.mine) t.brings.view ∙ append-none v.mine;
-        group = (
-          rest.group.0 ∙ ap (without_all (pids_of gs)) pending,
-          rest.group.1 ∙ ap (λ (y : View X). without_all (pids_of gs) y.owed) t.brings.view,
-          rest.group.2 ∙ ap (λ (y : View X). next_after_all (pids_of gs) y.next) t.brings.view,
-        );
-        current = λ _. rest.current (ap (λ (y : View X). y.current) t.brings.view);
-      }
+      let mine = rest.mine ∙ ap (λ (y : View X). y.mine) t.brings.view ∙ append-none v.mine in
+      let owed = rest.group.1 ∙ ap (λ (y : View X). without_all (pids_of gs) y.owed) t.brings.view in
+      let next = rest.group.2 ∙ ap (λ (y : View X). next_after_all (pids_of gs) y.next) t.brings.view in
+      search (rules, all-then g gs [] None v u w t apart.0 rest.all, mine, rest.group.0 ∙ ap (without_all (pids_of gs)) pending, owed, next)
 
   -- ---- each release of a group may be made
 

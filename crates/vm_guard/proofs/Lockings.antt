@@ -1,26 +1,19 @@
 -- A lock or a share that was taken: the look, the exchange, and the load of the translation word.
-use Rattle.vm_rule.specs.declared.view.Place.TheVariants as places
 use Rattle.vm_guard.proofs.{Leaving.older-read, QuietSteps.alone-of, QuietSteps.elsewhere-of}
 use Rattle.vm_guard.proofs.OpenReads.{frame-some, has-lock, validates-before}
-use Rattle.vm_guard.proofs.Prelude.{[], ap, arith, cond-true, Did, did_exchange, did_load, draft_of, Each, each-both, each-map, eq-eqb, eqb, frame_of}
-use Rattle.vm_guard.proofs.Prelude.{framed, has, has_lock, HasRoom, Held, held_at, HoldsPage, inl, inr, IsAlone, IsHolding, IsLocked, IsLocking}
-use Rattle.vm_guard.proofs.Prelude.{IsSeized, IsShared, IsSome, IsToExpect, IsUnheld, knows-then, KnowsAsBefore, KnowsSame, last_of, LeavesOthers}
-use Rattle.vm_guard.proofs.Prelude.{LeavesOwn, length, List, lock-draft, lock-held, lock-others, lock-own, lock-seat, LOCKED, LockTold, LockValidates}
-use Rattle.vm_guard.proofs.Prelude.{look-holds, look-others, look-own, looked-knows, LookTold, Mapping, mapping_of, MAX_VERSION, no_held, None}
-use Rattle.vm_guard.proofs.Prelude.{none-some, one_share_more, Open, Option, or_left, Origin, others-then, own-then, put, put_at, refl, Seat, seat_of}
-use Rattle.vm_guard.proofs.Prelude.{set_if, share-brings, share-last, share-others, share-own, share-seat, ShareTold, Some, Start, state_of}
-use Rattle.vm_guard.proofs.Prelude.{still-alone, still-locking, subst, sym, tload-holds, tload-knows, tload-others, tload-own, tload-seat}
-use Rattle.vm_guard.proofs.Prelude.{TranslationTold, true, Version, version_of, View, word_of, ℕ, ◌++◌, ◌+◌, ◌<◌, ◌∙◌, ◌∷◌, ◌≡◌, ◌≢◌, ◌≤◌}
+use Rattle.vm_guard.proofs.Prelude.{[], ap, arith, cond-true, Did, did_exchange, did_load, draft_of, Each, each-both, each-map, eq-eqb, eqb, frame_of, framed}
+use Rattle.vm_guard.proofs.Prelude.{has, has_lock, HasRoom, HasWritten, Held, held_at, HoldsPage, inl, inr, IsAlone, IsHolding, IsLocked, IsLocking, IsSeized}
+use Rattle.vm_guard.proofs.Prelude.{IsShared, IsSharing, IsSome, IsToExpect, IsUnheld, knows-then, KnowsAsBefore, KnowsSame, last_of, LeavesOthers, LeavesOwn}
+use Rattle.vm_guard.proofs.Prelude.{length, List, lock-draft, lock-held, lock-others, lock-own, lock-seat, LOCKED, LockTold, LockValidates, look-holds}
+use Rattle.vm_guard.proofs.Prelude.{look-others, look-own, looked-knows, LookTold, Mapping, mapping_of, MAX_VERSION, no_held, None, none-some, one_share_more}
+use Rattle.vm_guard.proofs.Prelude.{Open, Option, or_left, Origin, others-then, own-then, Place, put, put_at, refl, rules, Seat, seat_of, set_if, share-brings}
+use Rattle.vm_guard.proofs.Prelude.{share-last, share-others, share-own, share-seat, ShareTold, Some, Start, state_of, still-alone, still-locking, subst, sym}
+use Rattle.vm_guard.proofs.Prelude.{tload-holds, tload-knows, tload-others, tload-own, tload-seat, TranslationTold, true, Version, version_of, View, word_of, ℕ}
+use Rattle.vm_guard.proofs.Prelude.{◌++◌, ◌+◌, ◌<◌, ◌∙◌, ◌∷◌, ◌≡◌, ◌≢◌, ◌≤◌, ◌⊎◌}
 
 -- a page of which the pass has no lock after a call that left its locks was so before
 pub unheld-same : {X : Type 0} (p : ℕ) (v u : View X) → HoldsPage v u p → u.owed ≡ v.owed → u.next ≡ v.next → IsUnheld u p → IsUnheld v p
-unheld-same p v u h owed next un = record {
-  exclusive = sym h.exclusive ∙ un.exclusive;
-  shares = sym h.shares ∙ un.shares;
-  writing = sym h.writing ∙ un.writing;
-  paid = ap (has p) (sym owed) ∙ un.paid;
-  next = λ e. un.next (next ∙ e);
-}
+unheld-same p v u h owed next un = search (rules, ap (has p) (sym owed), (λ (e : v.next ≡ Some p). un.next (next ∙ e)))
 
 module _ {X : Type 0} {tied : Start → ℕ → List ℕ → ℕ → List ℕ → Type 0} {p expects : ℕ} {u x : View X} (t : LockTold tied p expects expects u x) where
   pub lock-owns : (seat_of x p).exclusive ≡ true
@@ -35,7 +28,7 @@ seized-holding {m = m} s = record { page = s.page; frame_is = s.inside m refl; b
 
 -- the exchange that locks the page, where it was not lost
 abbrev pub lock-did : ℕ → ℕ → Did
-lock-did p expects = did_exchange (places.State p) expects expects (word_of LOCKED (version_of expects))
+lock-did p expects = did_exchange (Place.State p) expects expects (word_of LOCKED (version_of expects))
 
 -- what the exchange and the load of the translation word leave
 module _ {X : Type 0} {tied : Start → ℕ → List ℕ → ℕ → List ℕ → Type 0} {p expects found : ℕ} {u x w : View X} (word : ℕ) (version : version_of word ≡ version_of expects) (below : version_of expects < MAX_VERSION) (t : LockTold tied p expects expects u x)
@@ -52,7 +45,7 @@ module _ {X : Type 0} {tied : Start → ℕ → List ℕ → ℕ → List ℕ �
   maps-then : (held_at w p).mapping ≡ mapping_of found
   maps-then = ap (λ (h : Held). h.mapping) lock-known.held ∙ sym (load.called (or_left (seat_of x p).exclusive (seat_of x p).writing (lock-owns t)))
 
-  lock-steps : LeavesOthers (λ q. q ≡ p) (lock-did p expects ∷ did_load (places.Translation p) found ∷ []) [] u w
+  lock-steps : LeavesOthers (λ q. q ≡ p) (lock-did p expects ∷ did_load (Place.Translation p) found ∷ []) [] u w
   lock-steps = others-then (lock-others refl t (λ q. q ≡ p) refl) (tload-others load (λ q. q ≡ p) refl)
 
   pub seat-then : {v : View X} → HoldsPage v u p → seat_of w p ≡ record (seat_of v p) { exclusive = true; reading = None }
@@ -62,62 +55,46 @@ module _ {X : Type 0} {tied : Start → ℕ → List ℕ → ℕ → List ℕ �
       ∙ (λ i. record { shares = h.shares i; exclusive = true; writing = h.writing i; reading = None })
 
   pub lock-seized : p < u.start.pages → IsSeized p (version_of word) (mapping_of found) w
-  lock-seized page = record {
-    page = subst (λ (o : Origin). p < o.pages) (sym lock-steps.start) page;
-    below = subst (λ (n : ℕ). n < MAX_VERSION) (sym version) below;
-    owns = (tload-holds load p).exclusive ∙ lock-owns t;
-    mapping = maps-then;
-    inside = λ m e. subst (λ (o : Origin). m.frame < o.frames) (sym (tload-others load (λ q. q ≡ p) refl).start) (load.inside m e);
-    owned = λ m e.
-        let stood : t.held.mapping ≡ Some m = ap (λ (h : Held). h.mapping) (sym held-then) ∙ maps-then ∙ e in
-        ap (λ (h : Held). h.owner) held-then ∙ (t.stands refl).owned (λ gone. none-some m (sym ((t.stands refl).empty gone) ∙ stood));
-    told = subst (λ (h : Held). h.fault ≡ h.block.count) (sym held-then) (t.stands refl).told;
-    at = ap (λ (y : Version). y.version) lock-known.last ∙ t.version ∙ sym version;
-    draft = lock-known.draft ∙ lock-draft refl t ∙ ap (λ (y : Version). y.words) (sym lock-known.last);
-    size = ap (λ (y : Version). length y.words) lock-known.last ∙ t.size;
-    device = λ tells none.
-        let empty : t.held.mapping ≡ None = ap (λ (h : Held). h.mapping) (sym held-then) ∙ maps-then ∙ none in
-        ap (λ (h : Held). h.block.words) held-then
-        ∙ (t.stands refl).device (ap (λ (o : Origin). o.tells) (sym lock-steps.start) ∙ tells) (λ m e. absurd (none-some m (sym empty ∙ e)))
-        ∙ ap (λ (y : Version). y.words) (sym lock-known.last);
-    free = ap (has p) ((tload-own load).group.0 ∙ (lock-own refl t).group.0) ∙ t.free refl;
-    paid = ap (has p) ((tload-own load).group.1 ∙ (lock-own refl t).group.1) ∙ (t.unheld refl).paid;
-  }
+  lock-seized page =
+      let inside = λ (m : Mapping) (e : mapping_of found ≡ Some m). subst (λ (o : Origin). m.frame < o.frames) (sym (tload-others load (λ q. q ≡ p) refl).start) (load.inside m e) in
+      let owned = λ (m : Mapping) (e : mapping_of found ≡ Some m).
+      let stood : t.held.mapping ≡ Some m = ap (λ (h : Held). h.mapping) (sym held-then) ∙ maps-then ∙ e in
+      ap (λ (h : Held). h.owner) held-then ∙ (t.stands refl).owned (λ gone. none-some m (sym ((t.stands refl).empty gone) ∙ stood)) in
+      let device = λ (tells : w.start.tells ≡ true) (none : mapping_of found ≡ None).
+      let empty : t.held.mapping ≡ None = ap (λ (h : Held). h.mapping) (sym held-then) ∙ maps-then ∙ none in
+      ap (λ (h : Held). h.block.words) held-then
+      ∙ (t.stands refl).device (ap (λ (o : Origin). o.tells) (sym lock-steps.start) ∙ tells) (λ m e. absurd (none-some m (sym empty ∙ e)))
+      ∙ ap (λ (y : Version). y.words) (sym lock-known.last) in
+      let told = subst (λ (h : Held). h.fault ≡ h.block.count) (sym held-then) (t.stands refl).told in
+      let at = ap (λ (y : Version). y.version) lock-known.last ∙ t.version ∙ sym version in
+      let free = ap (has p) ((tload-own load).group.0 ∙ (lock-own refl t).group.0) ∙ t.free refl in
+      let paid = ap (has p) ((tload-own load).group.1 ∙ (lock-own refl t).group.1) ∙ (t.unheld refl).paid in
+      search (rules, ap, subst (λ (o : Origin). p < o.pages) (sym lock-steps.start) page, subst (λ (n : ℕ). n < MAX_VERSION) (sym version) below, (tload-holds load p).exclusive ∙ lock-owns t, maps-then, inside, owned, told, at, lock-known, lock-draft refl t, t.size, device, free, paid)
 
   -- behind steps that left the locks and the words, and at most another open read of the page
   pub locked-after : {m : Mapping} {pre : List Did} {v : View X} → mapping_of found ≡ Some m → LeavesOthers (λ q. q ≡ p) pre [] v u → LeavesOwn v u → HoldsPage v u p → KnowsSame v u → p < v.start.pages
-      → ((o : Open) → (seat_of v p).reading ≡ Some o → o.version ≤ version_of word) → (v.start.tells ≡ true → LockValidates tied p (version_of word) (last_of x p).words v) → Each (λ (d : Did). d.at ≡ places.State p) pre
+      → ((o : Open) → (seat_of v p).reading ≡ Some o → o.version ≤ version_of word) → (v.start.tells ≡ true → LockValidates tied p (version_of word) (last_of x p).words v) → Each (λ (d : Did). d.at ≡ Place.State p) pre
       → IsLocked tied p m.frame (version_of word) m.dirty v w
   locked-after {pre = pre} {v = v} named before o h same page older validates at =
-      let third : Did = did_load (places.Translation p) found in
+      let third : Did = did_load (Place.Translation p) found in
+      let done : List Did = pre ++ lock-did p expects ∷ third ∷ [] in
       let all = others-then before lock-steps in
       let own : LeavesOwn v w = own-then o (own-then (lock-own refl t) (tload-own load)) in
       let seized = lock-seized (subst (λ (o : Origin). p < o.pages) (sym before.start) page) in
-      record {
-        done = pre ++ lock-did p expects ∷ third ∷ [];
-        elsewhere = elsewhere-of all;
-        mine = own.mine;
-        group = own.group;
-        alone = alone-of all;
-        before = unheld-same p v u h o.group.1 o.group.2 (t.unheld refl);
-        seat = seat-then h;
-        holding = seized-holding (subst (λ (o : Option Mapping). IsSeized p (version_of word) o w) named seized);
-        draft = seized.draft;
-        validates = λ tells. subst (λ (y : Version). LockValidates tied p (version_of word) y.words v) (sym lock-known.last) (validates tells);
-        older = older;
-        wrote = record { earlier = pre; step = lock-did p expects; later = third ∷ []; cut = refl; place = refl; wrote = lock-wrote };
-        table = λ a.
-            let b : IsAlone u = still-alone v u before.parts before.runs.current a in
-            (lock-steps.runs.words b.0 b.1).1.1 ∙ (λ i. set_if (lock-wrote i) p (same a i));
-        current = ap (λ (y : View X). y.current) load.brings.view;
-        places_are = each-both _ pre (lock-did p expects ∷ third ∷ []) (each-map _ _ (λ (d : Did) is. inl is) pre at) (inl refl, (inr refl, tt));
-      }
+      let wrote : HasWritten done (Place.State p) (word_of LOCKED (version_of word)) = record { earlier = pre; step = lock-did p expects; later = third ∷ []; cut = refl; place = refl; wrote = lock-wrote } in
+      let table = λ (a : IsAlone v).
+      let b : IsAlone u = still-alone v u before.parts before.runs.current a in
+      (lock-steps.runs.words b.0 b.1).1.1 ∙ (λ i. set_if (lock-wrote i) p (same a i)) in
+      let places_are : Each (λ (d : Did). (d.at ≡ Place.State p) ⊎ (d.at ≡ Place.Translation p)) done = each-both _ pre (lock-did p expects ∷ third ∷ []) (each-map _ _ (λ (d : Did) is. inl is) pre at) (inl refl, (inr refl, tt)) in
+      let holding = seized-holding (subst (λ (o : Option Mapping). IsSeized p (version_of word) o w) named seized) in
+      let validated = λ (tells : v.start.tells ≡ true). subst (λ (y : Version). LockValidates tied p (version_of word) y.words v) (sym lock-known.last) (validates tells) in
+      search (rules, elsewhere-of all, own, alone-of all, unheld-same p v u h o.group.1 o.group.2 (t.unheld refl), seat-then h, holding, seized.draft, validated, older, wrote, table, ap (λ (y : View X). y.current) load.brings.view, places_are)
 
 module _ {X : Type 0} (tied : Start → ℕ → List ℕ → ℕ → List ℕ → Type 0) where
   pub locked : (p word expects found : ℕ) (m : Mapping) (v u x w : View X) → LookTold tied p None word v u → IsToExpect word expects → LockTold tied p expects expects u x → TranslationTold p found x w
       → mapping_of found ≡ Some m → p < v.start.pages → IsLocked tied p m.frame (version_of word) m.dirty v w
   locked p word expects found m v u x w look to t load named page =
-      let before : LeavesOthers (λ q. q ≡ p) (did_load (places.State p) word ∷ []) [] v u = look-others look (λ q. q ≡ p) refl in
+      let before : LeavesOthers (λ q. q ≡ p) (did_load (Place.State p) word ∷ []) [] v u = look-others look (λ q. q ≡ p) refl in
       locked-after word to.version to.may_lock.version t load named before (look-own look) (look-holds look p) (λ a. (before.runs.words a.0 a.1).1) page (older-read word (seat_of v p).reading look.older)
       (λ tells. validates-before tied p word v u look to.open_word (last_of x p).words
       (subst (λ (n : ℕ). LockValidates tied p n (last_of x p).words u) (sym to.version) (t.validates (ap (λ (o : Origin). o.tells) before.start ∙ tells) refl)))
@@ -153,29 +130,16 @@ module _ {X : Type 0} (tied : Start → ℕ → List ℕ → ℕ → List ℕ �
       ∙ ap (λ (s : Seat). record s { reading = framed s.reading (mapping_of found) }) (share-seat refl t)
       ∙ (λ i. record { shares = before.shares i + 1; exclusive = before.exclusive i; writing = before.writing i; reading = None }) in
       let framed-w : frame_of (put_at no_held w.held p).mapping ≡ Some m.frame = ap (λ (h : Held). frame_of h.mapping) known.held ∙ sym (load.locked locking) ∙ ap frame_of named in
-      record {
-        done = _;
-        elsewhere = elsewhere-of all;
-        mine = own.mine;
-        group = own.group;
-        alone = alone-of all;
-        seat = seat-w;
-        knows = λ l. knows-then v u w p (looked-knows look p l) (knows-then u x w p (share-knows t (still-locking v u p before l)) known);
-        sharing = record {
-          page = subst (λ (o : Origin). p < o.pages) (sym all.start) page;
-          frame_is = subst (λ (o : Origin). m.frame < o.frames) (sym (tload-others load (λ q. q ≡ p) refl).start) (load.inside m named);
-          has_share = subst (λ (n : ℕ). 1 ≤ n) (sym (ap (λ (s : Seat). s.shares) seat-w)) (omega arith);
-          stands = frame-some (put_at no_held w.held p).mapping m.frame framed-w;
-        };
-        size = ap (λ (y : Version). length y.words) known.last ∙ t.size;
-        validates = λ tells.
-            subst (λ (y : Version). LockValidates tied p y.version y.words v) (sym known.last)
-            (subst (λ (n : ℕ). LockValidates tied p n (last_of x p).words v) (sym t.version)
-            (validates-before tied p word v u look room.open_word (last_of x p).words (t.validates (ap (λ (o : Origin). o.tells) (look-others look (λ q. q ≡ p) refl).start ∙ tells) refl)));
-        current = ap (λ (y : View X). y.current) load.brings.view;
-        table = λ a.
-            let steps = all.runs.words a.0 a.1 in
-            steps.1.1.1
-            ∙ ap (λ (o : Option ℕ). set_if o p v.snapshot.words)
-            (cond-true (eqb word word) (Some (word_of (one_share_more (state_of word)) (version_of word))) None (eq-eqb word word refl) ∙ ap (λ (n : ℕ). Some (word_of (one_share_more (state_of n)) (version_of n))) steps.0);
-      }
+      let frame-is = subst (λ (o : Origin). m.frame < o.frames) (sym (tload-others load (λ q. q ≡ p) refl).start) (load.inside m named) in
+      let sharing : IsSharing p m.frame w = search (rules, subst (λ (o : Origin). p < o.pages) (sym all.start) page, frame-is, subst (λ (n : ℕ). 1 ≤ n) (sym (ap (λ (s : Seat). s.shares) seat-w)) (omega arith), frame-some (put_at no_held w.held p).mapping m.frame framed-w) in
+      let knows = λ (l : IsLocking (seat_of v p)). knows-then v u w p (looked-knows look p l) (knows-then u x w p (share-knows t (still-locking v u p before l)) known) in
+      let validates = λ (tells : v.start.tells ≡ true).
+      subst (λ (y : Version). LockValidates tied p y.version y.words v) (sym known.last)
+      (subst (λ (n : ℕ). LockValidates tied p n (last_of x p).words v) (sym t.version)
+      (validates-before tied p word v u look room.open_word (last_of x p).words (t.validates (ap (λ (o : Origin). o.tells) (look-others look (λ q. q ≡ p) refl).start ∙ tells) refl))) in
+      let table = λ (a : IsAlone v).
+      let steps = all.runs.words a.0 a.1 in
+      steps.1.1.1
+      ∙ ap (λ (o : Option ℕ). set_if o p v.snapshot.words)
+      (cond-true (eqb word word) (Some (word_of (one_share_more (state_of word)) (version_of word))) None (eq-eqb word word refl) ∙ ap (λ (n : ℕ). Some (word_of (one_share_more (state_of n)) (version_of n))) steps.0) in
+      search (rules, elsewhere-of all, own, alone-of all, seat-w, knows, sharing, ap (λ (y : Version). length y.words) known.last ∙ t.size, validates, ap (λ (y : View X). y.current) load.brings.view, table)

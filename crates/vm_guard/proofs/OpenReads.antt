@@ -1,14 +1,12 @@
 -- What looks and loads leave of the open read of their page, when a look leaves it in place, and which frame a load under a lock reads.
-use Rattle.vm_core.specs.declared.event.ReadIs.TheVariants as read
 use Rattle.vm_core.proofs.PageFacts.{none-some}
-use Rattle.vm_guard.proofs.Prelude.{[], and_from, ap, arith, began_of, Bool, cases_Bool, cases_eq, cond-false, cond-true, Each, eq-eqb, eqb, EVICTED}
-use Rattle.vm_guard.proofs.Prelude.{false, frame_in, frame_of, frame_or, frame_read_by, framed, has_lock, HoldsPage, if◌then◌else◌, inl, inr}
-use Rattle.vm_guard.proofs.Prelude.{is_dirty, is_readable, is_some, IsLocking, kept_loads, left_at, left_open, List, loads_at, LoadsAre, LOCKED}
-use Rattle.vm_guard.proofs.Prelude.{LockValidates, look-loads, look-others, look-seat, LookTold, Mapping, mapping_at, mapping_of, NamesFrame, nat_lt}
-use Rattle.vm_guard.proofs.Prelude.{nat_tests, ne_eqb, no_held, None, Open, open_after, open_frame, Option, or_left, or_right, Origin, put_at, ReadIs}
-use Rattle.vm_guard.proofs.Prelude.{refl, Same, Seat, seat_of, Some, some-same, Start, state_of, subst, sym, Tie, tload-seat, Translation}
-use Rattle.vm_guard.proofs.Prelude.{translation_of, TranslationTold, true, true≢false, version_of, View, ℕ, ⊎_elim, ◌&&◌, ◌++◌, ◌<◌, ◌||◌, ◌∙◌, ◌∷◌}
-use Rattle.vm_guard.proofs.Prelude.{◌≡◌, ◌≢◌, ◌⊎◌}
+use Rattle.vm_guard.proofs.Prelude.{[], and_from, ap, arith, began_of, Bool, cases_Bool, cases_eq, cond-false, cond-true, Each, eq-eqb, eqb, EVICTED, false}
+use Rattle.vm_guard.proofs.Prelude.{frame_in, frame_of, frame_or, frame_read_by, framed, has_lock, HoldsPage, if◌then◌else◌, inl, inr, is_dirty, is_readable}
+use Rattle.vm_guard.proofs.Prelude.{is_some, IsLocking, kept_loads, left_at, left_open, List, loads_at, LoadsAre, LOCKED, LockValidates, look-loads}
+use Rattle.vm_guard.proofs.Prelude.{look-others, look-seat, LookTold, Mapping, mapping_at, mapping_of, NamesFrame, nat_lt, nat_tests, ne_eqb, no_held, None}
+use Rattle.vm_guard.proofs.Prelude.{Open, open_after, open_frame, Option, or_left, or_right, Origin, put_at, ReadIs, refl, Same, Seat, seat_of, Some, some-same}
+use Rattle.vm_guard.proofs.Prelude.{Start, state_of, subst, sym, Tie, tload-seat, Translation, translation_of, TranslationTold, true, true≢false, version_of}
+use Rattle.vm_guard.proofs.Prelude.{View, ℕ, ⊎_elim, ◌&&◌, ◌++◌, ◌<◌, ◌||◌, ◌∙◌, ◌∷◌, ◌≡◌, ◌≢◌, ◌⊎◌}
 
 -- ---- open reads alone
 
@@ -17,25 +15,25 @@ opened-at : (o : Option Open) (n : ℕ) → (x : Open) × (open_after (left_open
 opened-at None n = (record { version = n; frame = None }, refl, refl)
 opened-at (Some o) n =
     ⊎_elim
-    (λ (e : o.version ≡ n). (o, ap (λ l. open_after l (Some o) n) (cond-true (eqb o.version n) read.Same read.Moved (eq-eqb o.version n e)), e))
-    (λ ne. (record { version = n; frame = None }, ap (λ l. open_after l (Some o) n) (cond-false (eqb o.version n) read.Same read.Moved (ne_eqb o.version n ne)), refl))
+    (λ (e : o.version ≡ n). (o, ap (λ l. open_after l (Some o) n) (cond-true (eqb o.version n) ReadIs.Same ReadIs.Moved (eq-eqb o.version n e)), e))
+    (λ ne. (record { version = n; frame = None }, ap (λ l. open_after l (Some o) n) (cond-false (eqb o.version n) ReadIs.Same ReadIs.Moved (ne_eqb o.version n ne)), refl))
     (cases_eq o.version n)
 
 -- an open read at the version of the readable word stays
-pub left-same : (found : ℕ) (x : Open) → is_readable (state_of found) ≡ true → x.version ≡ version_of found → left_at found (Some x) ≡ read.Same
+pub left-same : (found : ℕ) (x : Open) → is_readable (state_of found) ≡ true → x.version ≡ version_of found → left_at found (Some x) ≡ ReadIs.Same
 left-same found x r e =
-    cond-true (is_readable (state_of found)) (left_open (Some x) (version_of found)) read.Closed r
-    ∙ cond-true (eqb x.version (version_of found)) read.Same read.Moved (eq-eqb x.version (version_of found) e)
+    cond-true (is_readable (state_of found)) (left_open (Some x) (version_of found)) ReadIs.Closed r
+    ∙ cond-true (eqb x.version (version_of found)) ReadIs.Same ReadIs.Moved (eq-eqb x.version (version_of found) e)
 
 -- one at another version does not, and neither does one of a page that can't be read
-pub left-other : (found : ℕ) (x : Open) → (x.version ≢ version_of found) ⊎ (is_readable (state_of found) ≡ false) → left_at found (Some x) ≢ read.Same
+pub left-other : (found : ℕ) (x : Open) → (x.version ≢ version_of found) ⊎ (is_readable (state_of found) ≡ false) → left_at found (Some x) ≢ ReadIs.Same
 left-other found x other same =
     ⊎_elim
     (λ t. ⊎_elim
-    (λ ne. let moved : read.Moved ≡ read.Same = sym (cond-false (eqb x.version (version_of found)) read.Same read.Moved (ne_eqb x.version (version_of found) ne)) ∙ sym (cond-true (is_readable (state_of found)) (left_open (Some x) (version_of found)) read.Closed t) ∙ same in cc)
+    (λ ne. let moved : ReadIs.Moved ≡ ReadIs.Same = sym (cond-false (eqb x.version (version_of found)) ReadIs.Same ReadIs.Moved (ne_eqb x.version (version_of found) ne)) ∙ sym (cond-true (is_readable (state_of found)) (left_open (Some x) (version_of found)) ReadIs.Closed t) ∙ same in cc)
     (λ f. true≢false (sym t ∙ f))
     other)
-    (λ f. let closed : read.Closed ≡ read.Same = sym (cond-false (is_readable (state_of found)) (left_open (Some x) (version_of found)) read.Closed f) ∙ same in cc)
+    (λ f. let closed : ReadIs.Closed ≡ ReadIs.Same = sym (cond-false (is_readable (state_of found)) (left_open (Some x) (version_of found)) ReadIs.Closed f) ∙ same in cc)
     (cases_Bool (is_readable (state_of found)))
 
 -- a state of 8 bits that is neither Locked nor Evicted is readable, and those two are not
@@ -113,13 +111,13 @@ module _ {X : Type 0} where
         let k = opened-at o (version_of found) in (
           k.0,
           looked-reading said found v w t
-              ∙ ap (λ l. open_after l o (version_of found)) (cond-true (is_readable (state_of found)) (left_open o (version_of found)) read.Closed r)
+              ∙ ap (λ l. open_after l o (version_of found)) (cond-true (is_readable (state_of found)) (left_open o (version_of found)) ReadIs.Closed r)
               ∙ k.1,
           k.2,
         )
 
     -- a look that leaves the open read in place leaves it as it was
-    pub looked-same : (said : Option X) (found : ℕ) (v w : View X) → LookTold tied p said found v w → left_at found (seat_of v p).reading ≡ read.Same → (seat_of w p).reading ≡ (seat_of v p).reading
+    pub looked-same : (said : Option X) (found : ℕ) (v w : View X) → LookTold tied p said found v w → left_at found (seat_of v p).reading ≡ ReadIs.Same → (seat_of w p).reading ≡ (seat_of v p).reading
     looked-same said found v w t same = looked-reading said found v w t ∙ ap (λ l. open_after l (seat_of v p).reading (version_of found)) same
 
   -- the open read after its page's translation word was loaded, and the frame that a later look at the same version ties it to
@@ -152,7 +150,7 @@ module _ {X : Type 0} where
       → (f : ℕ) × (frame_in word ≡ Some f) × (f < w.start.frames) × ((seat_of z p).reading ≡ Some (record { version = version_of seen; frame = Some f }))
   named tied p word seen v w z o reading t l readable at =
       let y = translated-reading p word v w o t reading in
-      let same : left_at seen (seat_of w p).reading ≡ read.Same = ap (left_at seen) y.1 ∙ left-same seen y.0 readable (y.2 ∙ at) in
+      let same : left_at seen (seat_of w p).reading ≡ ReadIs.Same = ap (left_at seen) y.1 ∙ left-same seen y.0 readable (y.2 ∙ at) in
       let all : Each (λ (t : Translation). t.page ≡ p → t.version ≡ version_of seen → NamesFrame w.start.frames t.word (seat_of w p).reading) (record { page = p; version = o.version; word = word } ∷ v.translations)
       = subst (λ ts. Each (λ (t : Translation). t.page ≡ p → t.version ≡ version_of seen → NamesFrame w.start.frames t.word (seat_of w p).reading) ts) (ap (λ (x : View X). x.translations) t.brings.view ∙ ap (λ r. translation_of p word r ++ v.translations) reading) (l.frames same) in
       let n : NamesFrame w.start.frames word (seat_of w p).reading = all.0 refl at in

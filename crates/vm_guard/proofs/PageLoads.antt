@@ -1,9 +1,7 @@
 -- Which words of pages the steps of an optimistic guard load: a word its own one, the looks none.
-use Rattle.vm_rule.specs.declared.view.Place.TheVariants as places
 use Rattle.vm_guard.specs.PageWords.{found_in_page, LoadsWords, page_words}
-use Rattle.vm_guard.proofs.Prelude.{[], ap, append_assoc, AreUnmarking, Did, did_exchange, did_load, IsUnmarked, List, LoadTold, look-others, LookTold}
-use Rattle.vm_guard.proofs.Prelude.{MARKED, None, Option, refl, Start, state_of, sym, TranslationTold, UNLOCKED, version_of, View, word_of, ℕ, ⊎_elim}
-use Rattle.vm_guard.proofs.Prelude.{◌++◌, ◌∙◌, ◌∷◌, ◌≡◌}
+use Rattle.vm_guard.proofs.Prelude.{[], ap, append_assoc, AreUnmarking, Did, did_load, IsUnmarked, List, LoadTold, look-others, LookTold, None, Option, Place}
+use Rattle.vm_guard.proofs.Prelude.{refl, Start, sym, TranslationTold, View, ℕ, ⊎_elim, ◌++◌, ◌∙◌, ◌∷◌, ◌≡◌}
 use Rattle.vm_guard.proofs.QuietSteps.{load-quiet, steady-of, translation-quiet}
 
 pub page_words-append : (a b : List Did) → page_words (a ++ b) ≡ page_words a ++ page_words b
@@ -24,10 +22,10 @@ module _ {X : Type 0} where
   }
 
   pub looked-words : (tied : Start → ℕ → List ℕ → ℕ → List ℕ → Type 0) (p : ℕ) (said : Option X) (found : ℕ) (v w : View X) → LookTold tied p said found v w → LoadsWords [] v w
-  looked-words tied p said found v w t = record { done = did_load (places.State p) found ∷ []; log = (steady-of (look-others t (λ q. q ≡ p) refl)).log; words = refl }
+  looked-words tied p said found v w t = record { done = did_load (Place.State p) found ∷ []; log = (steady-of (look-others t (λ q. q ≡ p) refl)).log; words = refl }
 
   pub loaded-words : (p frame i found : ℕ) (v w : View X) → LoadTold p frame i found v w → LoadsWords (found ∷ []) v w
-  loaded-words p frame i found v w t = record { done = did_load (places.Content frame i) found ∷ []; log = (load-quiet p frame i found v w t).steady.log; words = refl }
+  loaded-words p frame i found v w t = record { done = did_load (Place.Content frame i) found ∷ []; log = (load-quiet p frame i found v w t).steady.log; words = refl }
 
   -- the start of a guard: a look, a mark taken away, the translation word loaded, and a look again
   pub started-words : (tied : Start → ℕ → List ℕ → ℕ → List ℕ → Type 0) (p first word seen : ℕ) (u v y x w : View X)
@@ -35,4 +33,4 @@ module _ {X : Type 0} where
   started-words tied p first word seen u v y x w l c t m =
       words-then [] [] u v w (looked-words tied p None first u v l) (words-then [] [] v y w
       (record { done = c.done; log = c.quiet.steady.log; words = unmarking-loads p first c.done c.clears })
-      (words-then [] [] y x w (record { done = did_load (places.Translation p) word ∷ []; log = (translation-quiet p word y x t).steady.log; words = refl }) (looked-words tied p None seen x w m)))
+      (words-then [] [] y x w (record { done = did_load (Place.Translation p) word ∷ []; log = (translation-quiet p word y x t).steady.log; words = refl }) (looked-words tied p None seen x w m)))

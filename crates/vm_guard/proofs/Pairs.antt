@@ -1,9 +1,9 @@
 -- A caller of fresh pages and groups: which guards it got, that it may release them, and what the pages have then.
 use Rattle.vm_guard.proofs.{Amid.amid-alone, GuardSteps.still-held}
-use Rattle.vm_guard.proofs.Prelude.{[], ap, AreFresh, AreReleased, arith, began_of, Bool, Change, changes_of, draft_of, Entry, ExclusiveGuard, false}
-use Rattle.vm_guard.proofs.Prelude.{has, has-both, HasFirst, inl, inr, IsAlone, IsHolding, IsSet, length, length-append, List, MayReleaseAll, ne_eqb}
-use Rattle.vm_guard.proofs.Prelude.{None, none-some, numbers, numbers-has, pids_of, refl, replicate, slice_set, Start, still-alone, subst, suc, sym}
-use Rattle.vm_guard.proofs.Prelude.{true, Version, View, ℕ, ◌++◌, ◌+◌, ◌||◌, ◌∙◌, ◌∷◌, ◌≡◌, ◌≢◌}
+use Rattle.vm_guard.proofs.Prelude.{[], ap, AreFresh, AreReleased, arith, began_of, Bool, Change, changes_of, draft_of, Entry, ExclusiveGuard, false, has}
+use Rattle.vm_guard.proofs.Prelude.{has-both, HasFirst, inl, inr, IsAlone, IsHolding, IsSet, length, length-append, List, MayReleaseAll, ne_eqb, None}
+use Rattle.vm_guard.proofs.Prelude.{none-some, numbers, numbers-has, pids_of, refl, replicate, slice_set, Start, still-alone, subst, suc, sym, true, Version}
+use Rattle.vm_guard.proofs.Prelude.{View, ℕ, ◌++◌, ◌+◌, ◌||◌, ◌∙◌, ◌∷◌, ◌≡◌, ◌≢◌}
 
 pids-many : (gs : List ExclusiveGuard) → length (pids_of gs) ≡ length gs
 pids-many [] = refl

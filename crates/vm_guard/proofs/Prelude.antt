@@ -2,39 +2,37 @@
 pub use Rattle.std.specs.Option.{option_to_list}
 pub use Rattle.std.specs.Prelude.{Err, IfErr, IsOk, Ok, option_map, Result}
 pub use Rattle.std.proofs.{lemmas.Bool.Decides.nat_tests, lemmas.Option.none-some, lemmas.Option.same_Some}
-pub use Rattle.std.proofs.Common.{[], ap, append_assoc, arith, Bool, eqb, false, if◌then◌else◌, inl, inr, is_some, IsSome, length, List, nat_lt, None}
-pub use Rattle.std.proofs.Common.{Option, refl, replicate, reverse, slice_index, slice_set, Some, subst, suc, sym, take, true, true≢false, ℕ, ⊎_elim}
-pub use Rattle.std.proofs.Common.{◌&&◌, ◌*◌, ◌++◌, ◌+◌, ◌-◌, ◌<◌, ◌==◌, ◌^◌, ◌||◌, ◌∙◌, ◌∷◌, ◌≡◌, ◌≢◌, ◌≤◌, ◌⊎◌}
-pub use Rattle.std.proofs.lemmas.Bool.{and_from, cases_Bool, cases_eq, cases_lt, cond-false, cond-true, eq-eqb, false≢true, ne_eqb, or_left, or_right}
+pub use Rattle.std.proofs.Common.{[], ap, append_assoc, arith, Bool, eqb, false, if◌then◌else◌, inl, inr, is_some, IsSome, length, List, nat_lt, None, Option}
+pub use Rattle.std.proofs.Common.{refl, replicate, reverse, rules, slice_index, slice_set, Some, subst, suc, sym, take, true, true≢false, ℕ, ⊎_elim, ◌&&◌, ◌*◌}
+pub use Rattle.std.proofs.Common.{◌++◌, ◌+◌, ◌-◌, ◌<◌, ◌==◌, ◌^◌, ◌||◌, ◌∙◌, ◌∷◌, ◌≡◌, ◌≢◌, ◌≤◌, ◌⊎◌}
+pub use Rattle.std.proofs.lemmas.Bool.{and_from, cases_Bool, cases_eq, cases_lt, cond-false, cond-true, eq-eqb, false≢true, ne_eqb, or_left, or_parts, or_right}
 pub use Rattle.std.proofs.lemmas.List.{get_or-set_other, get_or-set_same, get_or_past, length-append, length-replicate, length-set, length-take-le}
 pub use Rattle.std.proofs.lemmas.List.{reverse-append, set-get_or, take_more_set}
 pub use Rattle.std.proofs.lemmas.Result.{err_from_is_err_and, IfErr-weaker, IfOk-weaker}
 pub use Rattle.vm_core.specs.{declared.event.ReadIs.TheVariants.Same, FrameActs.frame_or}
 pub use Rattle.vm_core.specs.Prelude.{EVICTED, frame_of, framed, History, is_readable, kept_loads, left_open, loads_more, LoadsAre, LOCKED, mapping_at}
-pub use Rattle.vm_core.specs.Prelude.{mapping_of, MARKED, MAX_VERSION, MayLock, MayShare, one_share_more, open_after, open_frame, trans_word, UNLOCKED}
-pub use Rattle.vm_core.specs.Prelude.{Version}
+pub use Rattle.vm_core.specs.Prelude.{mapping_of, MARKED, MAX_VERSION, MayLock, MayShare, one_share_more, open_after, open_frame, trans_word, UNLOCKED, Version}
 pub use Rattle.vm_core.proofs.{PageFacts.some-same, Upd.upd-other}
 pub use Rattle.vm_owner.proofs.NumberLemmas.{has-without_other, without-none}
 pub use Rattle.vm_rule.specs.{declared.view.Held.Held, declared.view.Place.Place, Looks.NamesFrame}
-pub use Rattle.vm_rule.specs.Prelude.{AreApart, at_state, began_of, Brings, Change, changes_of, claimed_view, ClaimTold, clean_in, contents_at}
-pub use Rattle.vm_rule.specs.Prelude.{did_change, did_exchange, did_load, did_store, dirty_in, DirtyTold, DowngradeTold, draft_of, Drafts, Each}
-pub use Rattle.vm_rule.specs.Prelude.{entries_of, Entry, EvictTold, FillTold, frame_read_by, has, has_lock, HasShape, held_at, index_of, InstallTold}
-pub use Rattle.vm_rule.specs.Prelude.{IsLocking, IsOlder, IsSince, IsSinceAll, IsUnheld, Kept, last_in, last_of, left_at, loads_at, LoadTold, locked_view}
-pub use Rattle.vm_rule.specs.Prelude.{LockTold, LockValidates, LookTold, Mapping, MarkTold, MayPutInto, next_after, next_view, NextTold, no_held, Open}
-pub use Rattle.vm_rule.specs.Prelude.{put, put_at, ReadIs, ReleaseTold, Seat, seat_of, set_if, shared_view, ShareTold, Start, StoresTold, StoreTold}
-pub use Rattle.vm_rule.specs.Prelude.{TableId, ties_below, translation_of, TranslationTold, UnshareTold, where_same, Within, without, without_all}
+pub use Rattle.vm_rule.specs.Prelude.{AreApart, at_state, began_of, Brings, Change, changes_of, claimed_view, ClaimTold, clean_in, contents_at, did_exchange}
+pub use Rattle.vm_rule.specs.Prelude.{did_load, did_store, dirty_in, DirtyTold, DowngradeTold, draft_of, Drafts, Each, entries_of, Entry, EvictTold, FillTold}
+pub use Rattle.vm_rule.specs.Prelude.{frame_read_by, has, has_lock, HasShape, held_at, index_of, InstallTold, IsLocking, IsOlder, IsSince, IsSinceAll, IsUnheld}
+pub use Rattle.vm_rule.specs.Prelude.{IsWhole, Kept, last_in, last_of, left_at, loads_at, LoadTold, locked_view, LockTold, LockValidates, LookTold, Mapping}
+pub use Rattle.vm_rule.specs.Prelude.{MarkTold, MayPutInto, next_after, next_view, NextTold, no_held, Open, put, put_at, ReadIs, ReleaseTold, Seat, seat_of}
+pub use Rattle.vm_rule.specs.Prelude.{set_if, shared_view, ShareTold, Start, StoresTold, StoreTold, TableId, ties_below, translation_of, TranslationTold}
+pub use Rattle.vm_rule.specs.Prelude.{UnshareTold, where_same, Within, without, without_all}
 pub use Rattle.vm_rule.proofs.{Entries.append-none, Entries.each-map, Facts.has-both, Heard.each-both, Worlds.last-is, Worlds.release-here}
 pub use Rattle.vm_rule.proofs.WordFacts.{bare-state, bare-version, version-within, word-state, word-version}
-pub use Rattle.vm_step.specs.{declared.saw.Saw.Saw, Evidence.Begins.guarded}
+pub use Rattle.vm_step.specs.{declared.saw.At.At, declared.saw.Saw.Saw, Evidence.Begins.guarded}
 pub use Rattle.vm_step.specs.Evidence.{asked, expected, Gives, read, same, WhyAgain}
-pub use Rattle.vm_step.specs.Prelude.{AreHeld, AreQuiet, Begins, Did, Follows, found_by, HoldsPage, IsAlone, IsClaimed, IsFirst, IsKeptNow, IsMember}
-pub use Rattle.vm_step.specs.Prelude.{IsNotOut, IsOf, IsReady, IsSamePass, IsSaw, IsToldOf, IsWorn, KeepsFrames, known_word_at, KnowsAsBefore, KnowsAt}
-pub use Rattle.vm_step.specs.Prelude.{KnowsSame, LeavesRest, LocksNone, MayDowngrade, MayEvict, MayGiveUp, MayStep, NoneExpected, NoWord, Origin, Pass}
-pub use Rattle.vm_step.specs.Prelude.{PassMayClaim, place_at, ReadsAsBefore, Release, RunsAlone, Shape, StaysAlone, Stores, Tie, Translation}
-pub use Rattle.vm_step.specs.Prelude.{UnlockedExpected, View, view, Works, WritesNone}
+pub use Rattle.vm_step.specs.Prelude.{AreHeld, AreQuiet, Begins, Did, Follows, found_by, HasGiven, HasWritten, HoldsPage, IsAlone, IsClaimed, IsFirst}
+pub use Rattle.vm_step.specs.Prelude.{IsKeptNow, IsMember, IsNotOut, IsOf, IsReady, IsSamePass, IsSaw, IsToldOf, IsWorn, KeepsFrames, known_word_at}
+pub use Rattle.vm_step.specs.Prelude.{KnowsAsBefore, KnowsAt, KnowsSame, LeavesRest, LocksNone, MayDowngrade, MayEvict, MayGiveUp, MayStep, NoneExpected}
+pub use Rattle.vm_step.specs.Prelude.{NoWord, Origin, Pass, PassMayClaim, place_at, ReadsAsBefore, Release, RunsAlone, Shape, StaysAlone, Stores, Tie}
+pub use Rattle.vm_step.specs.Prelude.{Translation, UnlockedExpected, View, view, Works, WritesNone}
 pub use Rattle.vm_step.proofs.{After.knows-after, After.wide-after, Evidenced.written-behind, Groups.has-left_of, Groups.has-without_all_same}
-pub use Rattle.vm_step.proofs.{HeldFrames.held-on, Leaves.ready-on, Leaves.works-then, Numbers.numbers-has, Saws.lost-saw, Saws.one-given}
-pub use Rattle.vm_step.proofs.{Written.index-below}
+pub use Rattle.vm_step.proofs.{HeldFrames.held-on, Leaves.ready-on, Leaves.works-then, Numbers.numbers-has, Saws.lost-saw, Saws.one-given, Written.index-below}
 pub use Rattle.vm_step.proofs.Alone.{found-known, runs-then, same-word, stays-alone, still-alone, words-known}
 pub use Rattle.vm_step.proofs.Asides.{alone-self, alone-then, holds-then, keeps-then, knows-then, reads-then, starts-then, still-locking}
 pub use Rattle.vm_step.proofs.Filling.{filled, fills, Fills, stores-did}
@@ -45,7 +43,7 @@ pub use Rattle.vm_step.proofs.steps.Leaving.{holds-still, LeavesOthers, LeavesOw
 pub use Rattle.vm_step.proofs.steps.Leaving.{releases-else}
 pub use Rattle.vm_step.proofs.steps.Lock.{lock-draft, lock-held, lock-others, lock-own, lock-seat}
 pub use Rattle.vm_step.proofs.steps.Look.{look-holds, look-loads, look-others, look-own, look-says, look-seat, looked-knows, same-both}
-pub use Rattle.vm_step.proofs.steps.Mapping.{dirty-held, dirty-others, dirty-works, install-did, install-frames, install-held, install-works}
+pub use Rattle.vm_step.proofs.steps.Mapping.{dirty-held, dirty-others, dirty-works}
 pub use Rattle.vm_step.proofs.steps.Next.{claim-brings, claim-others, nload-others}
 pub use Rattle.vm_step.proofs.steps.Release.{downgrade-last, downgrade-others, downgrade-seat, evict-alone, evict-others, evict-seat, release-alone}
 pub use Rattle.vm_step.proofs.steps.Release.{release-last, release-loads, release-others, release-own, release-seat}
@@ -53,15 +51,15 @@ pub use Rattle.vm_step.proofs.steps.Share.{share-brings, share-last, share-other
 pub use Rattle.vm_step.proofs.steps.Share.{unshare-own, unshare-seat}
 pub use Rattle.vm_step.proofs.steps.Translate.{tload-holds, tload-knows, tload-loads, tload-others, tload-own, tload-seat}
 pub use Rattle.vm_step.proofs.steps.Unchanged.{lost-brings, still-holds, still-knows, still-loads, still-own, still-seat}
-pub use Rattle.vm_guard.specs.{declared.deny.Deny.Deny, declared.exclusive.ExclusiveGuard.ExclusiveGuard, declared.given.Fresh.Fresh}
-pub use Rattle.vm_guard.specs.{Downgrades.IsDowngraded, FreshPlaces.IsPlaceOf, FreshPlaces.KnowsOthers, Pairs.HasFirst}
+pub use Rattle.vm_guard.specs.{declared.deny.Deny.Deny, declared.exclusive.ExclusiveGuard.ExclusiveGuard, declared.given.Fresh.Fresh, Downgrades.IsDowngraded}
+pub use Rattle.vm_guard.specs.{FreshPlaces.IsPlaceOf, FreshPlaces.KnowsOthers, Pairs.HasFirst}
 pub use Rattle.vm_guard.specs.Denied.{AgainOrNeed, AgainOrWorn, IsDenied, IsEvidence, KeptWord, NotCrowded, NotWorn, OnlyWorn, SameOrUnlocked}
 pub use Rattle.vm_guard.specs.Fresh.{AreFresh, Furnishes, GivesBack, IsAmid, IsBegun, IsFreshAnswer, IsFull, IsNil, IsNotSeized, IsPages, IsPagesOrWorn}
 pub use Rattle.vm_guard.specs.Fresh.{IsSeized, IsSpared, IsToSeize, IsToTry, IsWornOut, Seizes}
-pub use Rattle.vm_guard.specs.Groups.{AreGivenUp, AreReleased, guards_of, GuardsHeld, IsBeside, IsDue, IsGroupReleased, MayReleaseAll, next_after_all}
-pub use Rattle.vm_guard.specs.Groups.{pids_of, release_steps, released_words, releases_of}
-pub use Rattle.vm_guard.specs.Guards.{AreUnmarking, BeginsReading, dirty_steps, HasLeft, IsDirtied, IsElsewhere, IsHolding, IsLocked, IsReading}
-pub use Rattle.vm_guard.specs.Guards.{IsReleased, IsSet, IsShared, IsUnmarked, IsUnshared, IsValid, Loads, placed}
+pub use Rattle.vm_guard.specs.Groups.{AreGivenUp, AreReleased, guards_of, GuardsHeld, IsBeside, IsDue, IsGroupReleased, MayReleaseAll, next_after_all, pids_of}
+pub use Rattle.vm_guard.specs.Groups.{release_steps, released_words, releases_of}
+pub use Rattle.vm_guard.specs.Guards.{AreUnmarking, BeginsReading, dirty_steps, HasLeft, IsDirtied, IsElsewhere, IsHolding, IsLocked, IsReading, IsReleased}
+pub use Rattle.vm_guard.specs.Guards.{IsSet, IsShared, IsSharing, IsUnmarked, IsUnshared, IsValid, Loads, placed}
 pub use Rattle.vm_guard.specs.Quiet.{IsQuiet, IsSteady, OnlyUnmarks}
 pub use Rattle.vm_guard.specs.Sure.{IsKnownAt, IsKnownFree, IsUnlockedWord, known_next, known_word, KnowsStates, MayBeSeized, unmarked_word, words_with}
 pub use Rattle.vm_guard.specs.Takes.{HasRoom, IsToExpect, PassMayRelease, SaysWhy}

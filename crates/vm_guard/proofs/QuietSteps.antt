@@ -1,56 +1,37 @@
 -- What each kind of step leaves of a view that it does not speak of, in the words of the guards, and that this holds of several steps in a row.
-use Rattle.vm_core.specs.declared.event.ReadIs.TheVariants as read
-use Rattle.vm_rule.specs.declared.view.Place.TheVariants as places
-use Rattle.vm_guard.proofs.Prelude.{[], alone-then, ap, append_assoc, Brings, Did, did_exchange, did_load, entries_of, holds-still, holds-then}
-use Rattle.vm_guard.proofs.Prelude.{HoldsPage, IsElsewhere, IsLocking, IsQuiet, IsSteady, knows-then, KnowsAsBefore, last_of, LeavesOthers, LeavesOwn}
-use Rattle.vm_guard.proofs.Prelude.{left_at, List, load-holds, load-knows, load-others, load-own, LoadTold, LOCKED, locked_view, LockTold, look-holds}
-use Rattle.vm_guard.proofs.Prelude.{look-others, look-own, look-says, looked-knows, LookTold, lost-brings, None, one_share_more, Option, others-none}
-use Rattle.vm_guard.proofs.Prelude.{others-still, ReadIs, reads-then, refl, Release, runs-then, seat_of, shared_view, ShareTold, Start, starts-then}
-use Rattle.vm_guard.proofs.Prelude.{state_of, stays-alone, StaysAlone, still-holds, still-knows, still-locking, still-own, sym, Tie, tload-holds}
-use Rattle.vm_guard.proofs.Prelude.{tload-knows, tload-others, tload-own, TranslationTold, version_of, View, where_same, word_of, ℕ, ◌++◌, ◌∙◌, ◌∷◌}
-use Rattle.vm_guard.proofs.Prelude.{◌≡◌, ◌≢◌}
+use Rattle.vm_guard.proofs.Prelude.{[], alone-then, ap, append_assoc, Brings, Did, did_exchange, did_load, entries_of, holds-still, holds-then, HoldsPage}
+use Rattle.vm_guard.proofs.Prelude.{IsElsewhere, IsLocking, IsQuiet, IsSteady, knows-then, KnowsAsBefore, last_of, LeavesOthers, LeavesOwn, left_at, List}
+use Rattle.vm_guard.proofs.Prelude.{load-holds, load-knows, load-others, load-own, LoadTold, LOCKED, locked_view, LockTold, look-holds, look-others, look-own}
+use Rattle.vm_guard.proofs.Prelude.{look-says, looked-knows, LookTold, lost-brings, None, one_share_more, Option, others-none, others-still, Place, ReadIs}
+use Rattle.vm_guard.proofs.Prelude.{reads-then, refl, Release, rules, runs-then, seat_of, shared_view, ShareTold, Start, starts-then, state_of, stays-alone}
+use Rattle.vm_guard.proofs.Prelude.{StaysAlone, still-holds, still-knows, still-locking, still-own, sym, Tie, tload-holds, tload-knows, tload-others, tload-own}
+use Rattle.vm_guard.proofs.Prelude.{TranslationTold, version_of, View, where_same, word_of, ℕ, ◌++◌, ◌∙◌, ◌∷◌, ◌≡◌, ◌≢◌}
 
 -- the other one, where the read does not stay
-pub where-other : {A : Type 0} (left : ReadIs) (x y : A) → left ≢ read.Same → where_same left x y ≡ y
-where-other read.Same x y ne = absurd (ne refl)
+pub where-other : {A : Type 0} (left : ReadIs) (x y : A) → left ≢ ReadIs.Same → where_same left x y ≡ y
+where-other ReadIs.Same x y ne = absurd (ne refl)
 where-other left x y ne = refl
 
 module _ {X : Type 0} where
   -- ---- one after the other
 
   pub steady-then : (a b : List Did) (c d : List Release) (u v w : View X) → IsSteady a c u v → IsSteady b d v w → IsSteady (a ++ b) (c ++ d) u w
-  steady-then a b c d u v w f g = record {
-    log = g.log ∙ ap (λ (t : List Did). t ++ b) f.log ∙ append_assoc u.log a b;
-    live = g.live ∙ f.live;
-    start = g.start ∙ f.start;
-    parts = (g.parts.0 ∙ f.parts.0, g.parts.1 ∙ f.parts.1);
-    seen = starts-then u.seen v.seen w.seen f.seen g.seen;
-    releases = starts-then u.releases v.releases w.releases f.releases g.releases;
-    frames = (g.frames.0 ∙ f.frames.0, g.frames.1 ∙ f.frames.1);
-    out = g.out ∙ f.out;
-    notes = g.notes ∙ f.notes;
-    ties = (g.ties.0 ++ f.ties.0, g.ties.1 ∙ ap (λ (t : List Tie). g.ties.0 ++ t) f.ties.1 ∙ sym (append_assoc g.ties.0 f.ties.0 u.ties));
-    alone = runs-then a b c d u v w f.start f.parts f.alone g.alone;
-  }
+  steady-then a b c d u v w f g =
+      let ties : (more : List Tie) × (w.ties ≡ more ++ u.ties) = (g.ties.0 ++ f.ties.0, g.ties.1 ∙ ap (λ (t : List Tie). g.ties.0 ++ t) f.ties.1 ∙ sym (append_assoc g.ties.0 f.ties.0 u.ties)) in
+      search (rules, append_assoc u.log a b, starts-then u.seen v.seen w.seen f.seen g.seen, starts-then u.releases v.releases w.releases f.releases g.releases, ties, runs-then a b c d u v w f.start f.parts f.alone g.alone)
 
   pub quiet-then : (p : ℕ) (a b : List Did) (u v w : View X) → IsQuiet p a u v → IsQuiet p b v w → IsQuiet p (a ++ b) u w
-  quiet-then p a b u v w f g = record {
-    steady = steady-then a b [] [] u v w f.steady g.steady;
-    mine = g.mine ∙ f.mine;
-    group = (g.group.0 ∙ f.group.0, g.group.1 ∙ f.group.1, g.group.2 ∙ f.group.2);
-    holds = λ q. holds-then u v w q (f.holds q) (g.holds q);
-    knows = λ q l. knows-then u v w q (f.knows q l) (g.knows q (still-locking u v q (f.holds q) l));
-    others = λ q ne. reads-then u v w q (f.others q ne) (g.others q ne);
-    alone = alone-then u v w f.steady.parts f.alone g.alone;
-  }
+  quiet-then p a b u v w f g =
+      let holds = λ (q : ℕ). holds-then u v w q (f.holds q) (g.holds q) in
+      let knows = λ (q : ℕ) (l : IsLocking (seat_of u q)). knows-then u v w q (f.knows q l) (g.knows q (still-locking u v q (f.holds q) l)) in
+      let others = λ (q : ℕ) (ne : q ≢ p). reads-then u v w q (f.others q ne) (g.others q ne) in
+      search (rules, steady-then a b [] [] u v w f.steady g.steady, holds, knows, others, alone-then u v w f.steady.parts f.alone g.alone)
 
   pub elsewhere-then : (p : ℕ) (a b : List Did) {c d : List Release} (u v w : View X) → IsElsewhere p a c u v → IsElsewhere p b d v w → IsElsewhere p (a ++ b) (c ++ d) u w
-  elsewhere-then p a b {c = c} {d = d} u v w f g = record {
-    steady = steady-then a b c d u v w f.steady g.steady;
-    holds = λ q ne. holds-then u v w q (f.holds q ne) (g.holds q ne);
-    knows = λ q ne l. knows-then u v w q (f.knows q ne l) (g.knows q ne (still-locking u v q (f.holds q ne) l));
-    others = λ q ne. reads-then u v w q (f.others q ne) (g.others q ne);
-  }
+  elsewhere-then p a b {c = c} {d = d} u v w f g =
+      let holds = λ (q : ℕ) (ne : q ≢ p). holds-then u v w q (f.holds q ne) (g.holds q ne) in
+      let knows = λ (q : ℕ) (ne : q ≢ p) (l : IsLocking (seat_of u q)). knows-then u v w q (f.knows q ne l) (g.knows q ne (still-locking u v q (f.holds q ne) l)) in
+      search (rules, steady-then a b c d u v w f.steady g.steady, holds, knows, (λ (q : ℕ) (ne : q ≢ p). reads-then u v w q (f.others q ne) (g.others q ne)))
 
   pub quiet-elsewhere : (p : ℕ) (done : List Did) (v w : View X) → IsQuiet p done v w → IsElsewhere p done [] v w
   quiet-elsewhere p done v w f = record { steady = f.steady; holds = λ q ne. f.holds q; knows = λ q ne. f.knows q; others = f.others }
@@ -58,19 +39,7 @@ module _ {X : Type 0} where
   -- ---- by what steps leave of other pages
 
   pub steady-of : {touched : ℕ → Type 0} {done : List Did} {own : List Release} {v w : View X} → LeavesOthers touched done own v w → IsSteady done own v w
-  steady-of f = record {
-    log = f.log;
-    live = f.live;
-    start = f.start;
-    parts = f.parts;
-    seen = f.seen;
-    releases = f.releases;
-    frames = (f.keeps.frames, f.keeps.contents);
-    out = f.out;
-    notes = f.keeps.notes;
-    ties = f.ties;
-    alone = f.runs;
-  }
+  steady-of f = search
 
   pub elsewhere-of : {p : ℕ} {done : List Did} {own : List Release} {v w : View X} → LeavesOthers (λ q. q ≡ p) done own v w → IsElsewhere p done own v w
   elsewhere-of f = record {
@@ -95,19 +64,19 @@ module _ {X : Type 0} where
 
   -- a look that made no entry
   pub look-unsaid : (tied : Start → ℕ → List ℕ → ℕ → List ℕ → Type 0) (p : ℕ) (said : Option X) (found : ℕ) (v w : View X) → LookTold tied p said found v w
-      → where_same (left_at found (seat_of v p).reading) (entries_of v said) [] ≡ [] → IsQuiet p (did_load (places.State p) found ∷ []) v w
+      → where_same (left_at found (seat_of v p).reading) (entries_of v said) [] ≡ [] → IsQuiet p (did_load (Place.State p) found ∷ []) v w
   look-unsaid tied p said found v w t none = quiet-of (look-others t (λ q. q ≡ p) refl) (look-says t none) (look-holds t) (looked-knows t)
 
   -- a look without a word to say
-  pub look-quiet : (tied : Start → ℕ → List ℕ → ℕ → List ℕ → Type 0) (p found : ℕ) (v w : View X) → LookTold tied p None found v w → IsQuiet p (did_load (places.State p) found ∷ []) v w
+  pub look-quiet : (tied : Start → ℕ → List ℕ → ℕ → List ℕ → Type 0) (p found : ℕ) (v w : View X) → LookTold tied p None found v w → IsQuiet p (did_load (Place.State p) found ∷ []) v w
   look-quiet tied p found v w t = quiet-of (look-others t (λ q. q ≡ p) refl) (look-own t) (look-holds t) (looked-knows t)
 
   -- a load of a translation word
-  pub translation-quiet : (p found : ℕ) (v w : View X) → TranslationTold p found v w → IsQuiet p (did_load (places.Translation p) found ∷ []) v w
+  pub translation-quiet : (p found : ℕ) (v w : View X) → TranslationTold p found v w → IsQuiet p (did_load (Place.Translation p) found ∷ []) v w
   translation-quiet p found v w t = quiet-of (tload-others t (λ q. q ≡ p) refl) (tload-own t) (tload-holds t) (tload-knows t)
 
   -- a load of a word of a frame
-  pub load-quiet : (p f i found : ℕ) (v w : View X) → LoadTold p f i found v w → IsQuiet p (did_load (places.Content f i) found ∷ []) v w
+  pub load-quiet : (p f i found : ℕ) (v w : View X) → LoadTold p f i found v w → IsQuiet p (did_load (Place.Content f i) found ∷ []) v w
   load-quiet p f i found v w t = quiet-of (load-others t (λ q. q ≡ p) refl) (load-own t) (load-holds t) (load-knows t)
 
   -- a step that changes nothing
@@ -116,9 +85,9 @@ module _ {X : Type 0} where
 
   -- a lock that was lost
   pub lock-lost : (tied : Start → ℕ → List ℕ → ℕ → List ℕ → Type 0) (p expects found : ℕ) (v w : View X) → found ≢ expects → LockTold tied p expects found v w
-      → IsQuiet p (did_exchange (places.State p) expects found (word_of LOCKED (version_of expects)) ∷ []) v w
+      → IsQuiet p (did_exchange (Place.State p) expects found (word_of LOCKED (version_of expects)) ∷ []) v w
   lock-lost tied p expects found v w ne t = still-quiet (lost-brings (locked_view p t.held (last_of w p).words v) ne t.brings)
 
   pub share-lost : (tied : Start → ℕ → List ℕ → ℕ → List ℕ → Type 0) (p expects found : ℕ) (v w : View X) → found ≢ expects → ShareTold tied p expects found v w
-      → IsQuiet p (did_exchange (places.State p) expects found (word_of (one_share_more (state_of expects)) (version_of expects)) ∷ []) v w
+      → IsQuiet p (did_exchange (Place.State p) expects found (word_of (one_share_more (state_of expects)) (version_of expects)) ∷ []) v w
   share-lost tied p expects found v w ne t = still-quiet (lost-brings (shared_view p t.held v) ne t.brings)

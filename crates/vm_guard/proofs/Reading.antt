@@ -1,10 +1,9 @@
 -- An open read stays as it is over steps that leave its page, and over loads of its words.
-use Rattle.vm_rule.specs.declared.view.Place.TheVariants as places
 use Rattle.vm_guard.proofs.OpenReads.{still-read}
-use Rattle.vm_guard.proofs.Prelude.{[], ap, append-none, append_assoc, arith, Did, did_load, each-both, HoldsPage, IsElsewhere, IsLocking, IsQuiet}
-use Rattle.vm_guard.proofs.Prelude.{IsReading, length, length-take-le, List, load-loads, load-seat, Loads, loads_at, loads_more, LoadTold, no_held}
-use Rattle.vm_guard.proofs.Prelude.{None, open_frame, placed, put_at, refl, Release, seat_of, slice_set, still-alone, subst, suc, sym, take}
-use Rattle.vm_guard.proofs.Prelude.{take_more_set, View, ℕ, ◌++◌, ◌+◌, ◌<◌, ◌∙◌, ◌∷◌, ◌≡◌, ◌≢◌}
+use Rattle.vm_guard.proofs.Prelude.{[], ap, append-none, append_assoc, arith, Did, each-both, HoldsPage, IsAlone, IsElsewhere, IsLocking, IsReading, length}
+use Rattle.vm_guard.proofs.Prelude.{length-take-le, List, load-loads, load-seat, Loads, loads_at, loads_more, LoadTold, no_held, None, open_frame, placed}
+use Rattle.vm_guard.proofs.Prelude.{put_at, refl, Release, rules, seat_of, slice_set, still-alone, subst, suc, sym, take, take_more_set, View, ℕ, ◌++◌, ◌+◌}
+use Rattle.vm_guard.proofs.Prelude.{◌<◌, ◌∙◌, ◌∷◌, ◌≡◌, ◌≢◌}
 use Rattle.vm_guard.proofs.QuietSteps.{load-quiet, quiet-none, quiet-then}
 
 -- ---- words with their places
@@ -25,13 +24,8 @@ placed-taken i xs x l =
 module _ {X : Type 0} (p word frame : ℕ) where
   pub reading-kept : (v w : View X) → IsReading p word frame v → w.start ≡ v.start → HoldsPage v w p → (IsLocking (seat_of v p) → put_at no_held w.held p ≡ put_at no_held v.held p)
       → (seat_of w p).reading ≡ (seat_of v p).reading → IsReading p word frame w
-  reading-kept v w r start holds held reading = record {
-    page = subst (λ s. p < s.pages) (sym start) r.page;
-    frame_is = subst (λ s. frame < s.frames) (sym start) r.frame_is;
-    open_word = r.open_word;
-    reading = reading ∙ r.reading;
-    reads_from = still-read v w p frame holds held reading r.reads_from (ap open_frame r.reading);
-  }
+  reading-kept v w r start holds held reading =
+      search (rules, subst (λ s. p < s.pages) (sym start) r.page, subst (λ s. frame < s.frames) (sym start) r.frame_is, still-read v w p frame holds held reading r.reads_from (ap open_frame r.reading))
 
   -- calls that speak of another page leave it
   pub reading-elsewhere : (q : ℕ) (done : List Did) {own : List Release} (v w : View X) → p ≢ q → IsElsewhere q done own v w → IsReading p word frame v → IsReading p word frame w
@@ -40,15 +34,9 @@ module _ {X : Type 0} (p word frame : ℕ) where
   -- a word was loaded
   pub word-loaded : (i found : ℕ) (v w : View X) → IsReading p word frame v → LoadTold p frame i found v w → Loads p word frame ((i, found) ∷ []) v w
   word-loaded i found v w r t =
-      let quiet : IsQuiet p (did_load (places.Content frame i) found ∷ []) v w = load-quiet p frame i found v w t in
-      record {
-        done = did_load (places.Content frame i) found ∷ [];
-        quiet = quiet;
-        reads = reading-kept v w r quiet.steady.start (quiet.holds p) (λ l. (quiet.knows p l).held) (ap (λ s. s.reading) (load-seat t p));
-        loads = load-loads t ∙ ap (λ o. loads_more o (loads_at v p) i found) (ap open_frame r.reading);
-        table = λ a. (quiet.steady.alone.words a.0 a.1).1;
-        leaves = (refl, tt);
-      }
+      let quiet = load-quiet p frame i found v w t in
+      let reads = reading-kept v w r quiet.steady.start (quiet.holds p) (λ l. (quiet.knows p l).held) (ap (λ s. s.reading) (load-seat t p)) in
+      search (rules, quiet, reads, load-loads t ∙ ap (λ o. loads_more o (loads_at v p) i found) (ap open_frame r.reading), (λ (a : IsAlone v). (quiet.steady.alone.words a.0 a.1).1))
 
   -- no word was
   pub none-loaded : (v : View X) → IsReading p word frame v → Loads p word frame [] v v
@@ -56,11 +44,7 @@ module _ {X : Type 0} (p word frame : ℕ) where
 
   -- some words, and then others
   pub loaded-then : (a b : List (ℕ × ℕ)) (u v w : View X) → Loads p word frame a u v → Loads p word frame b v w → Loads p word frame (a ++ b) u w
-  loaded-then a b u v w f g = record {
-    done = f.done ++ g.done;
-    quiet = quiet-then p f.done g.done u v w f.quiet g.quiet;
-    reads = g.reads;
-    loads = g.loads ∙ ap (λ (l : List (ℕ × ℕ)). l ++ b) f.loads ∙ append_assoc (loads_at u p) a b;
-    table = λ alone. g.table (still-alone u v f.quiet.steady.parts f.quiet.alone.current alone) ∙ f.table alone;
-    leaves = each-both (λ (d : Did). d.wrote ≡ None) f.done g.done f.leaves g.leaves;
-  }
+  loaded-then a b u v w f g =
+      let loads = g.loads ∙ ap (λ (l : List (ℕ × ℕ)). l ++ b) f.loads ∙ append_assoc (loads_at u p) a b in
+      let table = λ (alone : IsAlone u). g.table (still-alone u v f.quiet.steady.parts f.quiet.alone.current alone) ∙ f.table alone in
+      search (rules, quiet-then p f.done g.done u v w f.quiet g.quiet, g.reads, loads, table, each-both (λ (d : Did). d.wrote ≡ None) f.done g.done f.leaves g.leaves)

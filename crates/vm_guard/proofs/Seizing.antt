@@ -1,13 +1,11 @@
 -- A page is locked that is to be given, resident or not, and given up again where the call ends without it.
-use Rattle.vm_rule.specs.declared.view.Place.TheVariants as places
 use Rattle.vm_guard.proofs.{Amid.amid-of, Amid.silent-of, GuardSteps.alone-first, GuardSteps.first-may}
 use Rattle.vm_guard.proofs.Lockings.{lock-did, lock-seized, lock-wrote, seat-then, seized-holding, unheld-same}
-use Rattle.vm_guard.proofs.Prelude.{[], ap, append-none, Bool, Change, cond-false, did_load, did_store, Entry, eq-eqb, evict-alone, evict-others}
-use Rattle.vm_guard.proofs.Prelude.{evict-seat, EVICTED, EvictTold, false, GivesBack, has, inl, inr, IsNotOut, IsSeized, IsToSeize, List, lock-others}
-use Rattle.vm_guard.proofs.Prelude.{lock-own, LockTold, look-holds, look-others, look-own, LookTold, Mapping, mapping_of, MayEvict, MayGiveUp, None}
-use Rattle.vm_guard.proofs.Prelude.{none-some, Option, Origin, others-then, own-then, refl, release-alone, release-others, release-seat, ReleaseTold}
-use Rattle.vm_guard.proofs.Prelude.{Seizes, set_if, Some, Start, subst, sym, tload-others, tload-own, TranslationTold, true, version_of, View}
-use Rattle.vm_guard.proofs.Prelude.{without, without-none, word_of, ℕ, ◌+◌, ◌<◌, ◌||◌, ◌∙◌, ◌∷◌, ◌≡◌}
+use Rattle.vm_guard.proofs.Prelude.{[], ap, append-none, Bool, Change, cond-false, did_load, Entry, eq-eqb, evict-alone, evict-others, evict-seat, EvictTold}
+use Rattle.vm_guard.proofs.Prelude.{false, GivesBack, has, inl, inr, IsNotOut, IsSeized, IsToSeize, List, lock-others, lock-own, LockTold, look-holds}
+use Rattle.vm_guard.proofs.Prelude.{look-others, look-own, LookTold, Mapping, mapping_of, MayEvict, MayGiveUp, None, none-some, Option, Origin, others-then}
+use Rattle.vm_guard.proofs.Prelude.{own-then, Place, refl, release-alone, release-others, release-seat, ReleaseTold, rules, Seizes, set_if, Some, Start, subst}
+use Rattle.vm_guard.proofs.Prelude.{sym, tload-others, tload-own, TranslationTold, true, version_of, View, without, without-none, ℕ, ◌<◌, ◌||◌, ◌∙◌, ◌∷◌, ◌≡◌}
 
 pub self-has : (p : ℕ) → has p (p ∷ []) ≡ true
 self-has p = ap (λ (b : Bool). b || false) (eq-eqb p p refl)
@@ -20,7 +18,7 @@ seizes tied p word expects said v u x w look lock load may page =
     let own = own-then (look-own look) (own-then (lock-own refl lock) (tload-own load)) in
     let silent = silent-of (p ∷ []) steps own.mine own.group.0 ((page, self-has p), ((page, self-has p), ((page, self-has p), tt))) in
     record {
-      done = did_load (places.State p) word ∷ lock-did p expects ∷ did_load (places.Translation p) said ∷ [];
+      done = did_load (Place.State p) word ∷ lock-did p expects ∷ did_load (Place.Translation p) said ∷ [];
       amid = silent.0;
       places_are = (inl refl, (inl refl, (inr refl, tt)));
       keeps = steps.keeps;
@@ -50,25 +48,13 @@ module _ {X : Type 0} where
   gives-released p version o v w s t =
       let f = release-others t (λ q. has q (p ∷ []) ≡ true) (self-has p) in
       let view = t.brings.view in
-      record {
-        done = did_store (places.State p) (version + 1) ∷ [];
-        amid = (amid-of (p ∷ []) f (ap (λ (y : View X). y.mine) view ∙ append-none v.mine) (ap (λ (y : View X). y.pending) view ∙ cond-false (has p v.pending) (without p v.pending) v.pending s.free)
-            (release-alone t s.draft) ((s.page, self-has p), tt)).0;
-        places_are = (refl, tt);
-        keeps = f.keeps;
-        group = (ap (λ (y : View X). y.owed) view ∙ without-none p v.owed s.paid, ap (λ (y : View X). y.next) view);
-        seat = release-seat t;
-      }
+      let pending = ap (λ (y : View X). y.pending) view ∙ cond-false (has p v.pending) (without p v.pending) v.pending s.free in
+      let all = amid-of (p ∷ []) f (ap (λ (y : View X). y.mine) view ∙ append-none v.mine) pending (release-alone t s.draft) ((s.page, self-has p), tt) in
+      search (rules, all.0, f.keeps, view, ap (λ (y : View X). y.owed) view ∙ without-none p v.owed s.paid, release-seat t)
 
   pub gives-evicted : (p version : ℕ) (v w : View X) → IsSeized p version None v → EvictTold p version v w → GivesBack p v w
   gives-evicted p version v w s t =
       let f = evict-others t (λ q. has q (p ∷ []) ≡ true) (self-has p) in
       let view = t.brings.view in
-      record {
-        done = did_store (places.State p) (word_of EVICTED (version + 1)) ∷ [];
-        amid = (amid-of (p ∷ []) f (ap (λ (y : View X). y.mine) view) (ap (λ (y : View X). y.pending) view) (evict-alone t s.draft) ((s.page, self-has p), tt)).0;
-        places_are = (refl, tt);
-        keeps = f.keeps;
-        group = (ap (λ (y : View X). y.owed) view, ap (λ (y : View X). y.next) view);
-        seat = evict-seat t;
-      }
+      let all = amid-of (p ∷ []) f (ap (λ (y : View X). y.mine) view) (ap (λ (y : View X). y.pending) view) (evict-alone t s.draft) ((s.page, self-has p), tt) in
+      search (rules, all.0, f.keeps, view, evict-seat t)

@@ -1,36 +1,33 @@
 -- A pass that is alone finds the words that it knows, so its calls are denied for no other reason than these words.
-use Rattle.vm_rule.specs.declared.view.Place.TheVariants as places
-use Rattle.vm_guard.specs.declared.deny.Deny.TheVariants as denies
 use Rattle.vm_guard.proofs.{OpenReads.locked-unreadable, QuietSteps.look-quiet, QuietSteps.translation-quiet}
 use Rattle.vm_guard.proofs.Prelude.{[], AgainOrWorn, ap, AreUnmarking, arith, bare-state, bare-version, cases_lt, cond-false, cond-true, Deny, Did}
-use Rattle.vm_guard.proofs.Prelude.{did_exchange, did_load, eq-eqb, eqb, Follows, found-known, get_or-set_same, get_or_past, inl, inr, is_readable}
-use Rattle.vm_guard.proofs.Prelude.{IsAlone, IsKnownAt, IsKnownFree, IsQuiet, IsUnlockedWord, IsUnmarked, known_word, length, length-set, List}
-use Rattle.vm_guard.proofs.Prelude.{LOCKED, LocksNone, LockTold, LookTold, MARKED, MAX_VERSION, MayBeSeized, MayLock, MayShare, ne_eqb, None}
-use Rattle.vm_guard.proofs.Prelude.{NotCrowded, NotWorn, OnlyWorn, Option, Origin, refl, same-word, SameOrUnlocked, SaysWhy, set-get_or, set_if}
-use Rattle.vm_guard.proofs.Prelude.{ShareTold, slice_index, slice_set, Some, Start, state_of, still-alone, subst, sym, TranslationTold, true}
-use Rattle.vm_guard.proofs.Prelude.{true≢false, UNLOCKED, unmarked_word, version-within, version_of, View, word-state, word-version, word_of}
-use Rattle.vm_guard.proofs.Prelude.{words-known, ℕ, ⊎_elim, ◌<◌, ◌∙◌, ◌∷◌, ◌≡◌, ◌≢◌, ◌≤◌, ◌⊎◌}
+use Rattle.vm_guard.proofs.Prelude.{did_exchange, did_load, eq-eqb, eqb, Follows, found-known, get_or-set_same, get_or_past, inl, inr, is_readable, IsAlone}
+use Rattle.vm_guard.proofs.Prelude.{IsKnownAt, IsKnownFree, IsQuiet, IsUnlockedWord, IsUnmarked, known_word, length, length-set, List, LOCKED, LocksNone}
+use Rattle.vm_guard.proofs.Prelude.{LockTold, LookTold, MARKED, MAX_VERSION, MayBeSeized, MayLock, MayShare, ne_eqb, None, NotCrowded, NotWorn, OnlyWorn}
+use Rattle.vm_guard.proofs.Prelude.{Option, Origin, Place, refl, same-word, SameOrUnlocked, SaysWhy, set-get_or, set_if, ShareTold, slice_index, slice_set}
+use Rattle.vm_guard.proofs.Prelude.{Some, Start, state_of, still-alone, subst, sym, TranslationTold, true, true≢false, UNLOCKED, unmarked_word, version-within}
+use Rattle.vm_guard.proofs.Prelude.{version_of, View, word-state, word-version, word_of, words-known, ℕ, ⊎_elim, ◌<◌, ◌∙◌, ◌∷◌, ◌≡◌, ◌≢◌, ◌≤◌, ◌⊎◌}
 
 -- a free page below the last version is no page that a lock is refused of at once
 pub free-refused : (p word : ℕ) (d : Deny) → SaysWhy p word d → NotCrowded d → IsUnlockedWord word → version_of word < MAX_VERSION → ⊥
-free-refused p word (denies.Crowded q) why kind free below = kind
+free-refused p word (Deny.Crowded q) why kind free below = kind
 free-refused p word d why kind free below = omega (arith, why.1)
 
 -- a page with room for a share is no page that a share is refused of at once
 pub room-refused : (p word : ℕ) (d : Deny) → SaysWhy p word d → NotWorn d → MayShare word → ⊥
-room-refused p word (denies.Worn q) why kind room = kind
+room-refused p word (Deny.Worn q) why kind room = kind
 room-refused p word d why kind room = omega (arith, why.1)
 
 -- a page that can be locked is not refused at once
 pub seize-refused : (p word : ℕ) (d : Deny) → SaysWhy p word d → AgainOrWorn d → MayBeSeized word → ⊥
-seize-refused p word (denies.Again saw) why kind may = omega (arith, why.1, may.0)
-seize-refused p word (denies.Worn q) why kind may = omega (arith, why.1, may.1)
+seize-refused p word (Deny.Again saw) why kind may = omega (arith, why.1, may.0)
+seize-refused p word (Deny.Worn q) why kind may = omega (arith, why.1, may.1)
 seize-refused p word d why kind may = kind
 
 -- one that is locked by nobody is refused at once where it is worn alone
 pub refused-worn : (p word : ℕ) (d : Deny) → SaysWhy p word d → AgainOrWorn d → LocksNone word → OnlyWorn d
-refused-worn p word (denies.Again saw) why kind none = omega (arith, why.1)
-refused-worn p word (denies.Worn q) why kind none = tt
+refused-worn p word (Deny.Again saw) why kind none = omega (arith, why.1)
+refused-worn p word (Deny.Worn q) why kind none = tt
 refused-worn p word d why kind none = kind
 
 -- a word that the look found to be locked by nobody is the one that the lock expects
@@ -49,7 +46,7 @@ pub same-expected : (word expects known : ℕ) → SameOrUnlocked word expects �
 same-expected word expects known kept may free is = grind (arith, may.state)
 
 -- an exchange that was lost leaves the words
-pub lost-leaves : {X : Type 0} (p expects found new : ℕ) (v w : View X) → IsQuiet p (did_exchange (places.State p) expects found new ∷ []) v w → found ≢ expects → IsAlone v → w.snapshot.words ≡ v.snapshot.words
+pub lost-leaves : {X : Type 0} (p expects found new : ℕ) (v w : View X) → IsQuiet p (did_exchange (Place.State p) expects found new ∷ []) v w → found ≢ expects → IsAlone v → w.snapshot.words ≡ v.snapshot.words
 lost-leaves p expects found new v w quiet ne a =
     (quiet.steady.alone.words a.0 a.1).1 ∙ ap (λ (o : Option ℕ). set_if o p v.snapshot.words) (cond-false (eqb found expects) (Some new) None (ne_eqb found expects ne))
 
@@ -108,8 +105,8 @@ unmarks start p word done old new steps follows is =
     ))
     (λ y. let bare : ℕ = word_of UNLOCKED (version_of word) in
     let found : ℕ = y.1.0 in
-    let told : (found ≡ slice_index old p) × (new ≡ set_if (did_exchange (places.State p) word found bare).wrote p old) = subst (λ (d : List Did). Follows start d old new) y.1.1 follows in
-    let wrote : (did_exchange (places.State p) word found bare).wrote ≡ Some bare = cond-true (eqb found word) (Some bare) None (eq-eqb found word (told.0 ∙ sym is)) in
+    let told : (found ≡ slice_index old p) × (new ≡ set_if (did_exchange (Place.State p) word found bare).wrote p old) = subst (λ (d : List Did). Follows start d old new) y.1.1 follows in
+    let wrote : (did_exchange (Place.State p) word found bare).wrote ≡ Some bare = cond-true (eqb found word) (Some bare) None (eq-eqb found word (told.0 ∙ sym is)) in
     let changed : new ≡ slice_set old p bare = told.1 ∙ ap (λ (o : Option ℕ). set_if o p old) wrote in
     let there : slice_index new p ≡ bare = ap (λ (l : List ℕ). slice_index l p) changed ∙ get_or-set_same old p bare 0 (state-inside p old (let marked : state_of (slice_index old p) ≡ 254 = ap state_of (sym is) ∙ y.0 in omega (arith, marked))) in (
       inr there,
@@ -121,11 +118,11 @@ unmarks start p word done old new steps follows is =
 module _ {X : Type 0} (tied : Start → ℕ → List ℕ → ℕ → List ℕ → Type 0) (p : ℕ) where
   -- a look finds the known word
   pub look-finds : (said : Option X) (word : ℕ) (v u : View X) → LookTold tied p said word v u → IsAlone v → word ≡ known_word p v
-  look-finds said word v u look a = found-known (did_load (places.State p) word) word None [] _ v _ u look.brings refl a
+  look-finds said word v u look a = found-known (did_load (Place.State p) word) word None [] _ v _ u look.brings refl a
 
   -- and leaves it
   pub look-leaves : (said : Option X) (word : ℕ) (v u : View X) → LookTold tied p said word v u → IsAlone v → u.snapshot.words ≡ v.snapshot.words
-  look-leaves said word v u look a = words-known (did_load (places.State p) word) None [] _ v _ u look.brings refl a
+  look-leaves said word v u look a = words-known (did_load (Place.State p) word) None [] _ v _ u look.brings refl a
 
   -- a page at the version of the guard's word, which is not locked, is validated
   pub valid-sure : (said : Option X) (word kept : ℕ) (v u : View X) → LookTold tied p said word v u → IsAlone v → (version_of word ≢ version_of kept) ⊎ (state_of word ≡ LOCKED) → IsKnownAt p kept v → ⊥
@@ -143,7 +140,7 @@ module _ {X : Type 0} (tied : Start → ℕ → List ℕ → ℕ → List ℕ �
   look-current said word v u look = ap (λ (x : View X). x.current) look.brings.view
 
   module _ (word : ℕ) (v u : View X) (look : LookTold tied p None word v u) (a : IsAlone v) where
-    after-look : IsQuiet p (did_load (places.State p) word ∷ []) v u
+    after-look : IsQuiet p (did_load (Place.State p) word ∷ []) v u
     after-look = look-quiet tied p word v u look
 
     pub alone-on : IsAlone u
@@ -151,7 +148,7 @@ module _ {X : Type 0} (tied : Start → ℕ → List ℕ → ℕ → List ℕ �
 
     -- so the word that is there after it is the one that it found
     finds-again : (found : ℕ) → found ≡ known_word p u → found ≡ word
-    finds-again found e = e ∙ same-word v u after-look.steady.start (look-leaves None word v u look a) (places.State p) ∙ sym (look-finds None word v u look a)
+    finds-again found e = e ∙ same-word v u after-look.steady.start (look-leaves None word v u look a) (Place.State p) ∙ sym (look-finds None word v u look a)
 
     -- what is known of the page's word holds of the word that the look found
     pub found-as : (P : ℕ → Type 0) → P (known_word p v) → P word
@@ -184,7 +181,7 @@ module _ {X : Type 0} (tied : Start → ℕ → List ℕ → ℕ → List ℕ �
         (sym (finds-again first u v l a (known_word p v) refl))
 
     same-x : x.snapshot.words ≡ y.snapshot.words
-    same-x = words-known (did_load (places.Translation p) word) None [] [] y _ x t.brings refl alone-y
+    same-x = words-known (did_load (Place.Translation p) word) None [] [] y _ x t.brings refl alone-y
 
     seen-left : seen ≡ known_word p y
     seen-left = look-finds None seen x w m alone-x ∙ ap (λ (s : List ℕ). slice_index s p) same-x

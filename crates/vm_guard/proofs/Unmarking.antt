@@ -1,13 +1,10 @@
 -- The mark of a page is taken away, or was not there: one exchange, or no step. It leaves the view, and the word that it leaves is none that
 -- a later look denies a call by; and which steps leave at most an Unlocked word on the page.
 use Rattle.vm_core.proofs.PageFacts.{none-some}
-use Rattle.vm_rule.specs.declared.view.Place.TheVariants as places
-use Rattle.vm_step.specs.declared.saw.At.TheVariants as ats
-use Rattle.vm_guard.proofs.Prelude.{[], ap, AreQuiet, AreUnmarking, arith, Begins, BeginsReading, cases_eq, cond-false, cond-true, Did, did_exchange}
-use Rattle.vm_guard.proofs.Prelude.{did_load, Each, each-both, eq-eqb, eqb, Gives, inl, inr, IsSaw, IsUnmarked, List, LOCKED, MARKED, MarkTold}
-use Rattle.vm_guard.proofs.Prelude.{ne_eqb, None, OnlyUnmarks, Place, refl, Some, some-same, state_of, still-loads, still-seat, subst, sym, UNLOCKED}
-use Rattle.vm_guard.proofs.Prelude.{version-within, version_of, View, WhyAgain, word-state, word-version, word_of, ℕ, ⊎_elim, ◌++◌, ◌∙◌, ◌∷◌, ◌≡◌}
-use Rattle.vm_guard.proofs.Prelude.{◌≢◌, ◌⊎◌}
+use Rattle.vm_guard.proofs.Prelude.{[], ap, AreQuiet, AreUnmarking, arith, At, Begins, cases_eq, cond-false, cond-true, Did, did_exchange, did_load, Each}
+use Rattle.vm_guard.proofs.Prelude.{each-both, eq-eqb, eqb, Gives, inr, IsQuiet, IsSaw, IsUnmarked, List, LOCKED, MARKED, MarkTold, ne_eqb, None, OnlyUnmarks}
+use Rattle.vm_guard.proofs.Prelude.{Place, refl, rules, Some, some-same, state_of, still-loads, still-seat, subst, sym, UNLOCKED, version-within, version_of}
+use Rattle.vm_guard.proofs.Prelude.{View, WhyAgain, word-state, word-version, word_of, ℕ, ⊎_elim, ◌++◌, ◌∙◌, ◌∷◌, ◌≡◌, ◌≢◌, ◌⊎◌}
 use Rattle.vm_guard.proofs.QuietSteps.{quiet-none, still-quiet}
 
 -- an exchange leaves no word but the new one
@@ -28,15 +25,15 @@ unlocked-other first seen why e =
     why
 
 -- so the steps that take the mark away leave a word that is seen later with another version, or locked, to those that come after
-pub unmarking-quiet : (p first seen : ℕ) (done more : List Did) → AreUnmarking p first done → (version_of first ≢ version_of seen) ⊎ (state_of seen ≡ LOCKED) → AreQuiet (places.State p) seen more
-    → AreQuiet (places.State p) seen (done ++ more)
+pub unmarking-quiet : (p first seen : ℕ) (done more : List Did) → AreUnmarking p first done → (version_of first ≢ version_of seen) ⊎ (state_of seen ≡ LOCKED) → AreQuiet (Place.State p) seen more
+    → AreQuiet (Place.State p) seen (done ++ more)
 unmarking-quiet p first seen done more steps why quiet =
     ⊎_elim
-    (λ n. subst (λ (d : List Did). AreQuiet (places.State p) seen (d ++ more)) (sym n.1) quiet)
+    (λ n. subst (λ (d : List Did). AreQuiet (Place.State p) seen (d ++ more)) (sym n.1) quiet)
     (λ y. let found : ℕ = y.1.0 in
     let new : ℕ = word_of UNLOCKED (version_of first) in
-    subst (λ (d : List Did). AreQuiet (places.State p) seen (d ++ more)) (sym y.1.1)
-    (λ here. ((λ e. unlocked-other first seen why (exchange-left (places.State p) first found new seen e)), λ none. absurd (none-some found (sym none))), quiet))
+    subst (λ (d : List Did). AreQuiet (Place.State p) seen (d ++ more)) (sym y.1.1)
+    (λ here. ((λ e. unlocked-other first seen why (exchange-left (Place.State p) first found new seen e)), λ none. absurd (none-some found (sym none))), quiet))
     steps
 
 -- steps that wrote no such word, and stored no next version, left no such word
@@ -45,22 +42,22 @@ quiet-foreign at seen [] quiet = tt
 quiet-foreign at seen (d ∷ ds) quiet = ((λ here. (quiet.0 here).0), quiet-foreign at seen ds quiet.1)
 
 -- one step that gave the word seen, which tells why a call may be tried again
-pub one-saw : (kept : ℕ → Type 0) (instead : ℕ → ℕ → Type 0) (p first seen : ℕ) (d : Did) → Gives d (places.State p) seen → Begins kept instead (places.State p) first seen d [] [] → WhyAgain (ats.Page p) first seen d
-    → IsSaw kept instead (d ∷ []) (record { at = ats.Page p; first = first; seen = seen })
+pub one-saw : (kept : ℕ → Type 0) (instead : ℕ → ℕ → Type 0) (p first seen : ℕ) (d : Did) → Gives d (Place.State p) seen → Begins kept instead (Place.State p) first seen d [] [] → WhyAgain (At.Page p) first seen d
+    → IsSaw kept instead (d ∷ []) (record { at = At.Page p; first = first; seen = seen })
 one-saw kept instead p first seen d gives begins why = record { earlier = []; last = d; later = []; cut = refl; gives = gives; since = []; begins = begins; quiet = tt; foreign = tt; why = why }
 
 -- ---- steps that leave at most an Unlocked word
 
 -- a load leaves none
-pub load-unmarks : (p : ℕ) (at : Place) (found x : ℕ) → (did_load at found).wrote ≡ Some x → ((did_load at found).at ≡ places.State p) × (state_of x ≡ UNLOCKED)
+pub load-unmarks : (p : ℕ) (at : Place) (found x : ℕ) → (did_load at found).wrote ≡ Some x → ((did_load at found).at ≡ Place.State p) × (state_of x ≡ UNLOCKED)
 load-unmarks p at found x e = absurd (none-some x e)
 
 -- nor does an exchange that was lost
-pub lost-unmarks : (p expects found new : ℕ) → found ≢ expects → OnlyUnmarks p (did_exchange (places.State p) expects found new ∷ [])
+pub lost-unmarks : (p expects found new : ℕ) → found ≢ expects → OnlyUnmarks p (did_exchange (Place.State p) expects found new ∷ [])
 lost-unmarks p expects found new ne = ((λ x e. absurd (none-some x (sym (cond-false (eqb found expects) (Some new) None (ne_eqb found expects ne)) ∙ e))), tt)
 
 pub unmarks-both : (p : ℕ) (a b : List Did) → OnlyUnmarks p a → OnlyUnmarks p b → OnlyUnmarks p (a ++ b)
-unmarks-both p = each-both (λ d. (x : ℕ) → d.wrote ≡ Some x → (d.at ≡ places.State p) × (state_of x ≡ UNLOCKED))
+unmarks-both p = each-both (λ d. (x : ℕ) → d.wrote ≡ Some x → (d.at ≡ Place.State p) × (state_of x ≡ UNLOCKED))
 
 -- the steps that take a mark away
 pub unmarking-unmarks : (p first : ℕ) (done : List Did) → AreUnmarking p first done → OnlyUnmarks p done
@@ -68,28 +65,17 @@ unmarking-unmarks p first done steps =
     ⊎_elim
     (λ n. subst (λ (d : List Did). OnlyUnmarks p d) (sym n.1) tt)
     (λ y. subst (λ (d : List Did). OnlyUnmarks p d) (sym y.1.1)
-    ((λ x e. (refl, ap state_of (sym (exchange-left (places.State p) first y.1.0 (word_of UNLOCKED (version_of first)) x e)) ∙ word-state UNLOCKED (version_of first) (version-within first))), tt))
+    ((λ x e. (refl, ap state_of (sym (exchange-left (Place.State p) first y.1.0 (word_of UNLOCKED (version_of first)) x e)) ∙ word-state UNLOCKED (version_of first) (version-within first))), tt))
     steps
-
--- so the steps of an optimistic guard that begins
-pub begun-unmarks : {X : Type 0} (p word frame : ℕ) (v w : View X) (b : BeginsReading p word frame v w) → OnlyUnmarks p b.done
-begun-unmarks p word frame v w b =
-    let later : List Did = did_load (places.Translation p) b.translation ∷ did_load (places.State p) word ∷ [] in
-    subst (λ (d : List Did). OnlyUnmarks p d) (sym b.cut) (
-      load-unmarks p (places.State p) b.first,
-      unmarks-both p b.clearing later (unmarking-unmarks p b.first b.clearing b.clears) (load-unmarks p (places.Translation p) b.translation, (load-unmarks p (places.State p) word, tt)),
-    )
 
 module _ {X : Type 0} where
   -- the exchange, whatever it found
   pub unmarked : (p word found : ℕ) (v w : View X) → state_of word ≡ MARKED → MarkTold p word found (word_of UNLOCKED (version_of word)) v w → IsUnmarked p word v w
-  unmarked p word found v w is t = record {
-    done = did_exchange (places.State p) word found (word_of UNLOCKED (version_of word)) ∷ [];
-    quiet = still-quiet t.brings;
-    reads = record { reading = ap (λ s. s.reading) (still-seat t.brings p); loads = still-loads t.brings p };
-    clears = inr (is, (found, refl));
-  }
+  unmarked p word found v w is t =
+      let quiet : IsQuiet p (did_exchange (Place.State p) word found (word_of UNLOCKED (version_of word)) ∷ []) v w = still-quiet t.brings in
+      let clears : AreUnmarking p word (did_exchange (Place.State p) word found (word_of UNLOCKED (version_of word)) ∷ []) = inr (is, (found, refl)) in
+      search (rules, quiet, ap (λ s. s.reading) (still-seat t.brings p), still-loads t.brings p, clears)
 
   -- no step
   pub not-marked : (p word : ℕ) (v : View X) → state_of word ≢ MARKED → IsUnmarked p word v v
-  not-marked p word v other = record { done = []; quiet = quiet-none p v; reads = record { reading = refl; loads = refl }; clears = inl (other, refl) }
+  not-marked p word v other = search (rules, quiet-none p v, other)

@@ -1,21 +1,19 @@
 -- An optimistic guard that becomes an exclusive one: what each answer proves.
-use Rattle.vm_rule.specs.declared.view.Place.TheVariants as places
 use Rattle.vm_step.specs.Evidence.Begins.{asked}
-use Rattle.vm_step.specs.declared.saw.At.TheVariants as ats
-use Rattle.vm_guard.specs.declared.deny.Deny.TheVariants as denies
-use Rattle.vm_guard.proofs.{Denials.denied-at-once, Expecting.expect-same, Leaving.older-read, Lockings.locked-after, QuietSteps.lock-lost}
+use Rattle.vm_guard.proofs.{Denials.denied-at-once, Expecting.expect-resident, Expecting.seize-same, Leaving.older-read, Lockings.locked-after, QuietSteps.lock-lost}
 use Rattle.vm_guard.proofs.{Sure.lost-leaves, Unmarking.lost-unmarks, Unmarking.one-saw, Validating.left-since}
-use Rattle.vm_guard.proofs.Prelude.{[], AgainOrWorn, ap, arith, cond-false, Did, did_exchange, eqb, guarded, HasLeft, inl, inr, IsDenied, IsLocked}
-use Rattle.vm_guard.proofs.Prelude.{IsOlder, IsReading, IsSince, IsToExpect, KeptWord, last_of, List, LOCKED, locked_view, LockTold, LookTold}
-use Rattle.vm_guard.proofs.Prelude.{lost-brings, Mapping, mapping_of, MAX_VERSION, ne_eqb, None, others-none, refl, SameOrUnlocked, seat_of, Some}
-use Rattle.vm_guard.proofs.Prelude.{Start, subst, sym, TranslationTold, UNLOCKED, UnlockedExpected, version-within, version_of, View, WhyAgain}
-use Rattle.vm_guard.proofs.Prelude.{word-state, word-version, word_of, ℕ, ⊎_elim, ◌<◌, ◌∙◌, ◌∷◌, ◌≡◌, ◌≢◌, ◌≤◌, ◌⊎◌}
+use Rattle.vm_guard.proofs.Prelude.{AgainOrWorn, ap, arith, At, cond-false, Deny, Did, did_exchange, eqb, guarded, HasLeft, inl, inr, IsDenied, IsLocked}
+use Rattle.vm_guard.proofs.Prelude.{IsOlder, IsReading, IsSince, IsToExpect, KeptWord, last_of, List, LOCKED, locked_view, LockTold, LookTold, lost-brings}
+use Rattle.vm_guard.proofs.Prelude.{Mapping, mapping_of, MAX_VERSION, ne_eqb, None, others-none, Place, refl, rules, SameOrUnlocked, seat_of, Some, Start}
+use Rattle.vm_guard.proofs.Prelude.{subst, sym, TranslationTold, UNLOCKED, UnlockedExpected, version-within, version_of, View, WhyAgain, word-state}
+use Rattle.vm_guard.proofs.Prelude.{word-version, word_of, ℕ, ⊎_elim, ◌<◌, ◌∙◌, ◌≡◌, ◌≢◌, ◌≤◌, ◌⊎◌}
 
 -- the unlocked word at a version below the last may be expected
 pub unlocked-word : (word : ℕ) → version_of word < MAX_VERSION → IsToExpect (word_of UNLOCKED (version_of word)) (word_of UNLOCKED (version_of word))
 unlocked-word word below =
-    expect-same (word_of UNLOCKED (version_of word)) (inl (word-state UNLOCKED (version_of word) (version-within word)))
-    (λ e. let same : version_of word ≡ MAX_VERSION = sym (word-version UNLOCKED (version_of word) (version-within word)) ∙ e in omega (arith, below, same))
+    let bare = word-state UNLOCKED (version_of word) (version-within word) in
+    let to = seize-same (word_of UNLOCKED (version_of word)) (inl bare) (λ e. let same : version_of word ≡ MAX_VERSION = sym (word-version UNLOCKED (version_of word) (version-within word)) ∙ e in omega (arith, below, same)) in
+    expect-resident _ _ to (inl refl) (λ gone. omega (arith, bare, gone))
 
 module _ {X : Type 0} (tied : Start → ℕ → List ℕ → ℕ → List ℕ → Type 0) (p word frame : ℕ) where
   -- the page is at no lower version than the guard
@@ -29,27 +27,22 @@ module _ {X : Type 0} (tied : Start → ℕ → List ℕ → ℕ → List ℕ �
       may
 
   -- the guard is at the last version, so the page is
-  pub worn : (found : ℕ) (v w : View X) → LookTold tied p None found v w → IsReading p word frame v ⊎ HasLeft p word v → version_of word ≡ MAX_VERSION → IsDenied AgainOrWorn (KeptWord word) UnlockedExpected p (denies.Worn p) v w
+  pub worn : (found : ℕ) (v w : View X) → LookTold tied p None found v w → IsReading p word frame v ⊎ HasLeft p word v → version_of word ≡ MAX_VERSION → IsDenied AgainOrWorn (KeptWord word) UnlockedExpected p (Deny.Worn p) v w
   worn found v w t may last =
       let low : version_of word ≤ version_of found = not-lower found v w t may in
       let high : version_of found ≤ MAX_VERSION = version-within found in
-      (denied-at-once tied AgainOrWorn UnlockedExpected p found (denies.Worn p) v w t (refl, omega (arith, low, high, last)) tt).0
+      (denied-at-once tied AgainOrWorn UnlockedExpected p found (Deny.Worn p) v w t (refl, omega (arith, low, high, last)) tt).0
 
   -- another word was found than the one expected
   pub lost : (expects found : ℕ) (v w : View X) → LockTold tied p expects found v w → found ≢ expects → SameOrUnlocked word expects
-      → IsDenied AgainOrWorn (KeptWord word) UnlockedExpected p (denies.Again (record { at = ats.Page p; first = expects; seen = found })) v w
+      → IsDenied AgainOrWorn (KeptWord word) UnlockedExpected p (Deny.Again (record { at = At.Page p; first = expects; seen = found })) v w
   lost expects found v w t ne kept =
-      let did : Did = did_exchange (places.State p) expects found (word_of LOCKED (version_of expects)) in
-      let why : WhyAgain (ats.Page p) expects found did = inr (inr record { gives = (refl, refl); expected = refl; other = ne; left = cond-false (eqb found expects) (Some (word_of LOCKED (version_of expects))) None (ne_eqb found expects ne) }) in
-      record {
-        done = did ∷ [];
-        quiet = lock-lost tied p expects found v w ne t;
-        evidence = (refl, one-saw (KeptWord word) UnlockedExpected p expects found did (refl, refl) (⊎_elim (λ (same : expects ≡ word). guarded same refl) (λ other. asked word refl refl other refl) kept) why);
-        kind = tt;
-        table = lost-leaves p expects found (word_of LOCKED (version_of expects)) v w (lock-lost tied p expects found v w ne t) ne;
-        leaves = lost-unmarks p expects found (word_of LOCKED (version_of expects)) ne;
-        current = ap (λ (x : View X). x.current) (lost-brings (locked_view p t.held (last_of w p).words v) ne t.brings).view;
-      }
+      let new : ℕ = word_of LOCKED (version_of expects) in
+      let did : Did = did_exchange (Place.State p) expects found new in
+      let why : WhyAgain (At.Page p) expects found did = inr (inr record { gives = (refl, refl); expected = refl; other = ne; left = cond-false (eqb found expects) (Some new) None (ne_eqb found expects ne) }) in
+      let quiet = lock-lost tied p expects found v w ne t in
+      let saw = one-saw (KeptWord word) UnlockedExpected p expects found did (refl, refl) (⊎_elim (λ (same : expects ≡ word). guarded same refl) (λ other. asked word refl refl other refl) kept) why in
+      search (rules, quiet, saw, lost-leaves p expects found new v w quiet ne, lost-unmarks p expects found new ne, ap (λ (x : View X). x.current) (lost-brings (locked_view p t.held (last_of w p).words v) ne t.brings).view)
 
 module _ {X : Type 0} (tied : Start → ℕ → List ℕ → ℕ → List ℕ → Type 0) (p expects found : ℕ) (m : Mapping) (v x w : View X) where
   -- the page is locked at the version expected, and stands where its translation word says

@@ -1,17 +1,13 @@
 -- The look that validates an optimistic guard: what it proves of each answer, and of a word that was loaded through the guard before.
-use Rattle.vm_core.specs.declared.event.ReadIs.TheVariants as opens
-use Rattle.vm_rule.specs.declared.view.Place.TheVariants as places
-use Rattle.vm_step.specs.declared.saw.At.TheVariants as ats
-use Rattle.vm_guard.specs.declared.deny.Deny.TheVariants as denies
 use Rattle.vm_guard.proofs.{Reading.reading-kept, Starting.each-at, Sure.look-current, Sure.look-leaves, Unmarking.load-unmarks, Unmarking.one-saw}
 use Rattle.vm_guard.proofs.OpenReads.{left-other, left-same, locked-unreadable, looked-same, readable-state}
-use Rattle.vm_guard.proofs.Prelude.{[], AgainOrNeed, alone-then, ap, arith, at_state, began_of, BeginsReading, cases_eq, Did, did_load, Each}
-use Rattle.vm_guard.proofs.Prelude.{entries_of, Entry, Err, EVICTED, false, guarded, HasLeft, IfErr, inl, inr, is_readable, IsAlone, IsDenied}
-use Rattle.vm_guard.proofs.Prelude.{IsKeptNow, IsKnownAt, IsOk, IsOlder, IsQuiet, IsReading, IsSince, IsSinceAll, IsValid, Kept, kept_loads, KeptWord}
-use Rattle.vm_guard.proofs.Prelude.{known_word, last_of, left_at, List, Loads, loads_at, LoadsAre, LOCKED, look-holds, look-loads, look-others}
-use Rattle.vm_guard.proofs.Prelude.{looked-knows, LookTold, None, NoneExpected, Ok, Option, ReadsAsBefore, refl, Result, same-both, seat_of}
-use Rattle.vm_guard.proofs.Prelude.{slice_index, Some, Start, state_of, StaysAlone, still-alone, subst, sym, Tie, ties_below, true, true≢false}
-use Rattle.vm_guard.proofs.Prelude.{version_of, View, where_same, ℕ, ⊎_elim, ◌++◌, ◌<◌, ◌∙◌, ◌∷◌, ◌≡◌, ◌≢◌, ◌≤◌, ◌⊎◌}
+use Rattle.vm_guard.proofs.Prelude.{[], AgainOrNeed, alone-then, ap, arith, At, at_state, began_of, BeginsReading, cases_eq, Deny, Did, did_load, Each}
+use Rattle.vm_guard.proofs.Prelude.{entries_of, Entry, Err, EVICTED, false, guarded, HasLeft, IfErr, inl, inr, is_readable, IsAlone, IsDenied, IsKeptNow}
+use Rattle.vm_guard.proofs.Prelude.{IsKnownAt, IsOk, IsOlder, IsQuiet, IsReading, IsSince, IsSinceAll, IsValid, Kept, kept_loads, KeptWord, known_word, last_of}
+use Rattle.vm_guard.proofs.Prelude.{left_at, List, Loads, loads_at, LoadsAre, LOCKED, LockValidates, look-holds, look-loads, look-others, looked-knows}
+use Rattle.vm_guard.proofs.Prelude.{LookTold, None, NoneExpected, Ok, Option, Place, ReadIs, ReadsAsBefore, refl, Result, rules, same-both, seat_of}
+use Rattle.vm_guard.proofs.Prelude.{slice_index, Some, Start, state_of, StaysAlone, still-alone, subst, sym, Tie, ties_below, true, true≢false, version_of}
+use Rattle.vm_guard.proofs.Prelude.{View, where_same, ℕ, ⊎_elim, ◌++◌, ◌<◌, ◌∙◌, ◌∷◌, ◌≡◌, ◌≢◌, ◌≤◌, ◌⊎◌}
 use Rattle.vm_guard.proofs.QuietSteps.{alone-of, elsewhere-of, look-unsaid, steady-of, where-other}
 
 -- the word found agrees with the one that a step of the pass found or left since the guard began
@@ -36,16 +32,11 @@ module _ {X : Type 0} (tied : Start → ℕ → List ℕ → ℕ → List ℕ �
       (λ h. subst (λ s. where_same (left_at seen (seat_of v p).reading) (entries_of v s) [] ≡ []) (sym h.1) (same-both (left_at seen (seat_of v p).reading) []))
       may
 
-  pub refused : MayValidate → (version_of seen ≢ version_of word) ⊎ (state_of seen ≡ LOCKED) → IsDenied AgainOrNeed (KeptWord word) NoneExpected p (denies.Again (record { at = ats.Page p; first = word; seen = seen })) v w
-  refused may why = record {
-    done = did_load (places.State p) seen ∷ [];
-    quiet = look-unsaid tied p said seen v w t (unsaid may (⊎_elim (λ ne. inl ne) (λ e. inr (locked-unreadable (state_of seen) e)) why));
-    evidence = (refl, one-saw (KeptWord word) NoneExpected p word seen (did_load (places.State p) seen) (refl, refl) (guarded refl refl) (⊎_elim (λ ne. inl (λ e. ne (sym e))) (λ e. inr (inl e)) why));
-    kind = tt;
-    table = look-leaves tied p said seen v w t;
-    leaves = (load-unmarks p (places.State p) seen, tt);
-    current = look-current tied p said seen v w t;
-  }
+  pub refused : MayValidate → (version_of seen ≢ version_of word) ⊎ (state_of seen ≡ LOCKED) → IsDenied AgainOrNeed (KeptWord word) NoneExpected p (Deny.Again (record { at = At.Page p; first = word; seen = seen })) v w
+  refused may why =
+      let quiet = look-unsaid tied p said seen v w t (unsaid may (⊎_elim (λ ne. inl ne) (λ e. inr (locked-unreadable (state_of seen) e)) why)) in
+      let saw = one-saw (KeptWord word) NoneExpected p word seen (did_load (Place.State p) seen) (refl, refl) (guarded refl refl) (⊎_elim (λ ne. inl (λ e. ne (sym e))) (λ e. inr (inl e)) why) in
+      search (rules, quiet, saw, look-leaves tied p said seen v w t, load-unmarks p (Place.State p) seen, look-current tied p said seen v w t)
 
   module _ (at : version_of seen ≡ version_of word) (unlocked : state_of seen ≢ LOCKED) (small : state_of seen < 256) where
     -- an open read at the version of an Evicted page there can't be
@@ -69,7 +60,7 @@ module _ {X : Type 0} (tied : Start → ℕ → List ℕ → ℕ → List ℕ �
     in-place may = ⊎_elim (λ r. r) (λ h. absurd (since-left h.0.other (left-since p word seen v h.0 t.since) h.0.gone)) may
 
     -- the look leaves the read open
-    pub stays-open : MayValidate → left_at seen (seat_of v p).reading ≡ opens.Same
+    pub stays-open : MayValidate → left_at seen (seat_of v p).reading ≡ ReadIs.Same
     stays-open may =
         let r : IsReading p word frame v = in-place may in
         ap (left_at seen) r.reading
@@ -78,36 +69,24 @@ module _ {X : Type 0} (tied : Start → ℕ → List ℕ → ℕ → List ℕ �
     pub validated : MayValidate → IsValid tied p word frame said v w
     validated may =
         let r : IsReading p word frame v = in-place may in
-        let same : left_at seen (seat_of v p).reading ≡ opens.Same = stays-open may in
+        let same : left_at seen (seat_of v p).reading ≡ ReadIs.Same = stays-open may in
         let k = look-others t (λ q. q ≡ p) refl in
+        let view = t.brings.view in
         let reading : (seat_of w p).reading ≡ (seat_of v p).reading = looked-same tied p said seen v w t same in
         let entries : where_same (left_at seen (seat_of v p).reading) (entries_of v said) [] ≡ entries_of v said = ap (λ l. where_same l (entries_of v said) []) same in
-        record {
-          done = did_load (places.State p) seen ∷ [];
-          steady = steady-of k;
-          mine = ap (λ (x : View X). x.mine) t.brings.view ∙ ap (λ (l : List (Entry X)). v.mine ++ l) entries;
-          entry = (t.brings.others, ap (λ (x : View X). x.seen) t.brings.view ∙ ap (λ (l : List (Entry X)). (v.seen ++ t.brings.others) ++ l) entries);
-          group = (ap (λ (x : View X). x.pending) t.brings.view, ap (λ (x : View X). x.owed) t.brings.view, ap (λ (x : View X). x.next) t.brings.view);
-          holds = look-holds t;
-          knows = looked-knows t;
-          reads = reading-kept p word frame v w r k.start (look-holds t p) (λ l. (looked-knows t p l).held) reading;
-          same_reads = λ q. ⊎_elim
-              (λ e. subst (λ n. ReadsAsBefore v w n) (sym e) (record { reading = reading; loads = look-loads t ∙ ap (λ l. kept_loads l (loads_at v p)) same }))
-              (λ ne. (elsewhere-of k).others q ne)
-              (cases_eq q p);
-          alone = alone-of k;
-          version = t.version ∙ at;
-          size = t.size;
-          ties = ap (λ (x : View X). x.ties) t.brings.view ∙ ap (λ l. where_same l (ties_below v.start.pages v p (last_of w p).words) [] ++ v.ties) same;
-          validates = λ tells. record {
-            valid = λ o e _. t.valid tells same;
-            holds = subst (λ n. Each (λ (x : Tie). x.page ≡ p → x.version ≡ n → tied (began_of v.start) x.of x.words p (last_of w p).words) v.ties) at (t.holds tells same);
-            itself = t.itself tells same;
-          };
-          table = look-leaves tied p said seen v w t;
-          leaves = (refl, tt);
-          current = look-current tied p said seen v w t;
-        }
+        let entry : (others : List (Entry X)) × (w.seen ≡ (v.seen ++ others) ++ entries_of v said) = (t.brings.others, ap (λ (x : View X). x.seen) view ∙ ap (λ (l : List (Entry X)). (v.seen ++ t.brings.others) ++ l) entries) in
+        let same-reads : (q : ℕ) → ReadsAsBefore v w q = λ q. ⊎_elim
+        (λ e. subst (λ n. ReadsAsBefore v w n) (sym e) (record { reading = reading; loads = look-loads t ∙ ap (λ l. kept_loads l (loads_at v p)) same }))
+        (λ ne. (elsewhere-of k).others q ne)
+        (cases_eq q p) in
+        let validates : v.start.tells ≡ true → LockValidates tied p (version_of word) (last_of w p).words v = λ tells. record {
+          valid = λ o e _. t.valid tells same;
+          holds = subst (λ n. Each (λ (x : Tie). x.page ≡ p → x.version ≡ n → tied (began_of v.start) x.of x.words p (last_of w p).words) v.ties) at (t.holds tells same);
+          itself = t.itself tells same;
+        } in
+        let reads = reading-kept p word frame v w r k.start (look-holds t p) (λ l. (looked-knows t p l).held) reading in
+        let ties = ap (λ l. where_same l (ties_below v.start.pages v p (last_of w p).words) [] ++ v.ties) same in
+        search (rules, ap, steady-of k, view, ap (λ (l : List (Entry X)). v.mine ++ l) entries, entry, look-holds t, looked-knows t, reads, same-reads, alone-of k, t.version ∙ at, ties, validates, look-leaves tied p said seen v w t, look-current tied p said seen v w t)
 
 -- what says why a call failed, and can't be, leaves that it did not fail
 pub ok-unless : {T E : Type 0} (r : Result T E) (P : E → Type 0) → ((e : E) → P e → ⊥) → IfErr r P → IsOk r

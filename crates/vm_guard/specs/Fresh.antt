@@ -4,14 +4,13 @@ use Rattle.std.specs.Prelude.{[], ◌++◌, ◌+◌, ◌<◌, ◌∷◌, ◌≡�
 use Rattle.vm_core.specs.Prelude.{LOCKED, MAX_VERSION, MayLock, version_of, word_of, WORDS}
 use Rattle.vm_rule.specs.Prelude.{contents_at, did_load, draft_of, Each, has, held_at, IsLocking, IsUnheld, last_of, loads_at, Mapping, next_after}
 use Rattle.vm_rule.specs.Prelude.{NextTold, numbers, seat_of, StartsWith, without_all}
-use Rattle.vm_rule.specs.declared.view.Place.TheVariants as places
+use Rattle.vm_rule.specs.declared.view.Place.{Place}
 use Rattle.vm_step.specs.Prelude.{AreHeld, Did, HasWritten, HoldsPage, IsAlone, IsSaw, IsToldOf, IsWorn, KeepsFrames, KnowsAsBefore, KnowsSame}
 use Rattle.vm_step.specs.Prelude.{NoWord, Release, RunsAlone, StaysAlone, Tie, UnlockedExpected, View}
-use Rattle.vm_step.specs.declared.saw.At.TheVariants as ats
+use Rattle.vm_step.specs.declared.saw.At.{At}
 use Rattle.vm_step.specs.declared.saw.Saw.{Saw}
 use Rattle.vm_guard.specs.{declared.deny.Deny.Deny, declared.exclusive.ExclusiveGuard.ExclusiveGuard, declared.given.Fresh.Fresh, Denied.AgainOrWorn}
 use Rattle.vm_guard.specs.{Denied.IsDenied, FreshPlaces.IsPlaceOf, FreshPlaces.KnowsOthers, Guards.IsHolding}
-use Rattle.vm_guard.specs.declared.given.Fresh.TheVariants as answers
 use Rattle.vm_guard.specs.Groups.{guards_of, GuardsHeld, pids_of}
 use Rattle.vm_guard.specs.Sure.{known_next, known_word, KnowsBut, KnowsStates}
 
@@ -64,7 +63,7 @@ module _ {X : Type 0} where
   pub record Seizes (p version : ℕ) (stands : Option Mapping) (v w : View X) : Type 0 where
     pub done : List Did
     pub amid : IsAmid (p ∷ []) done v w
-    pub places_are : Each (λ d. (d.at ≡ places.State p) ⊎ (d.at ≡ places.Translation p)) done
+    pub places_are : Each (λ d. (d.at ≡ Place.State p) ⊎ (d.at ≡ Place.Translation p)) done
     pub keeps : KeepsFrames v w
     pub group : (w.owed ≡ v.owed) × (w.next ≡ v.next)
     pub unheld : IsUnheld v p
@@ -78,7 +77,7 @@ module _ {X : Type 0} where
   pub record IsNotSeized (p : ℕ) (deny : Deny) (v w : View X) : Type 0 where
     pub page : p < v.start.pages
     pub denied : IsDenied AgainOrWorn NoWord UnlockedExpected p deny v w
-    pub places_are : Each (λ d. d.at ≡ places.State p) denied.done
+    pub places_are : Each (λ d. d.at ≡ Place.State p) denied.done
 
   -- the next page x was loaded, and then it was locked
   pub record IsBegun (x version : ℕ) (stands : Option Mapping) (v w : View X) : Type 0 where
@@ -91,7 +90,7 @@ module _ {X : Type 0} where
   pub record GivesBack (p : ℕ) (v w : View X) : Type 0 where
     pub done : List Did
     pub amid : IsAmid (p ∷ []) done v w
-    pub places_are : Each (λ d. d.at ≡ places.State p) done
+    pub places_are : Each (λ d. d.at ≡ Place.State p) done
     pub keeps : KeepsFrames v w
     pub group : (w.owed ≡ v.owed) × (w.next ≡ next_after p v.next)
     pub seat : seat_of w p ≡ record (seat_of v p) { exclusive = false }
@@ -135,8 +134,8 @@ module _ {X : Type 0} where
     -- the words of each other frame are as they were
     pub contents : (f : ℕ) → has f taken ≡ false → contents_at w f ≡ contents_at v f
     -- the first step loaded the next page x, and a later one claimed
-    pub loaded : (more : List Did) × (done ≡ did_load places.Next x ∷ more)
-    pub claimed : HasWritten done places.Next (x + n)
+    pub loaded : (more : List Did) × (done ≡ did_load Place.Next x ∷ more)
+    pub claimed : HasWritten done Place.Next (x + n)
     -- no page was released; a pass that was alone knows each page locked at its guard's version, the next word, and all others as they were
     pub silent : amid.own ≡ []
     pub locked : IsAlone v → Each (λ g. known_word g.pid w ≡ word_of LOCKED g.version) gs
@@ -152,12 +151,12 @@ module _ {X : Type 0} where
     pub holds : (q : ℕ) → HoldsPage v w q
     pub knows : (q : ℕ) → IsLocking (seat_of v q) → KnowsAsBefore v w q
     -- no step left another next word
-    pub unmoved : Each (λ d. d.at ≡ places.Next → d.wrote ≡ None) done
+    pub unmoved : Each (λ d. d.at ≡ Place.Next → d.wrote ≡ None) done
 
   -- its first step loaded the next page x, and it knows the next page at most where the pass held it before
   pub record IsSpared (pages : List ℕ) (x : ℕ) (done : List Did) (v w : View X) : Type 0 where
     pub nil : IsNil pages done v w
-    pub loaded : (more : List Did) × (done ≡ did_load places.Next x ∷ more)
+    pub loaded : (more : List Did) × (done ≡ did_load Place.Next x ∷ more)
     pub next : (q : ℕ) → w.next ≡ Some q → (seat_of v q).exclusive ≡ true
     -- a pass that was alone knows the next word, and all words but those of these pages, as they were
     pub same_next : IsAlone v → known_next w ≡ known_next v
@@ -169,7 +168,7 @@ module _ {X : Type 0} where
     pub inside : x + n ≤ v.start.pages
     pub done : List Did
     pub spared : IsSpared pages x done v w
-    pub at : (saw.at ≡ ats.Next) ⊎ ((p : ℕ) × (saw.at ≡ ats.Page p) × (has p pages ≡ true))
+    pub at : (saw.at ≡ At.Next) ⊎ ((p : ℕ) × (saw.at ≡ At.Page p) × (has p pages ≡ true))
     pub saw_is : IsSaw NoWord UnlockedExpected done saw
 
   -- a page that was to be given is at the last version
@@ -191,23 +190,23 @@ module _ {X : Type 0} where
 
   -- what a call for n fresh pages answers, with these frames before and after
   abbrev pub IsFreshAnswer : ℕ → List ℕ → List ℕ → View X → View X → Fresh → Type 0
-  IsFreshAnswer n before after v w (answers.Pages group) = (x : ℕ) × AreFresh (numbers x n) x n (guards_of group) before after v w
-  IsFreshAnswer n before after v w (answers.Again saw) = (after ≡ before) × ((x : ℕ) × IsToTry (numbers x n) x n saw v w)
-  IsFreshAnswer n before after v w (answers.Worn p) = (after ≡ before) × ((x : ℕ) × IsWornOut (numbers x n) x n p v w)
-  IsFreshAnswer n before after v w (answers.Full pages next need) = (after ≡ before) × IsFull n pages next need v w
+  IsFreshAnswer n before after v w (Fresh.Pages group) = (x : ℕ) × AreFresh (numbers x n) x n (guards_of group) before after v w
+  IsFreshAnswer n before after v w (Fresh.Again saw) = (after ≡ before) × ((x : ℕ) × IsToTry (numbers x n) x n saw v w)
+  IsFreshAnswer n before after v w (Fresh.Worn p) = (after ≡ before) × ((x : ℕ) × IsWornOut (numbers x n) x n p v w)
+  IsFreshAnswer n before after v w (Fresh.Full pages next need) = (after ≡ before) × IsFull n pages next need v w
 
 -- pages were given
 abbrev pub IsPages : Fresh → Type 0
-IsPages (answers.Pages group) = Unit {0}
+IsPages (Fresh.Pages group) = Unit {0}
 IsPages f = ⊥
 
 -- pages were given, or one is worn
 abbrev pub IsPagesOrWorn : Fresh → Type 0
-IsPagesOrWorn (answers.Pages group) = Unit {0}
-IsPagesOrWorn (answers.Worn p) = Unit {0}
+IsPagesOrWorn (Fresh.Pages group) = Unit {0}
+IsPagesOrWorn (Fresh.Worn p) = Unit {0}
 IsPagesOrWorn f = ⊥
 
 -- fewer pages were left
 abbrev pub IsFullAnswer : Fresh → Type 0
-IsFullAnswer (answers.Full pages next need) = Unit {0}
+IsFullAnswer (Fresh.Full pages next need) = Unit {0}
 IsFullAnswer f = ⊥

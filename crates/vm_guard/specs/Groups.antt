@@ -4,19 +4,17 @@ use Rattle.vm_core.specs.Prelude.{MAX_VERSION, version_of}
 use Rattle.vm_rule.specs.Prelude.{AreApart, AreUnchanged, began_of, Change, changes_of, did_store, draft_of, Each, entries_of, Entry, has, held_at}
 use Rattle.vm_rule.specs.Prelude.{IsLocking, Kept, last_of, loads_at, next_after, ReleaseTold, seat_of, Start, without_all}
 use Rattle.vm_rule.specs.declared.view.Place.{Place}
-use Rattle.vm_rule.specs.declared.view.Place.TheVariants as places
 use Rattle.vm_step.specs.Prelude.{Did, HoldsPage, IsAlone, IsClaimed, IsKeptNow, IsNotOut, IsToldOf, KnowsAsBefore, ReadsAsBefore, Release, View}
 use Rattle.vm_guard.specs.{declared.exclusive.ExclusiveGuard.ExclusiveGuard, declared.group.Group.Group, Guards.IsHolding, Quiet.IsSteady}
-use Rattle.vm_guard.specs.declared.group.Group.TheVariants as groups
 use Rattle.vm_guard.specs.Sure.{IsKnownFree, known_word, words_with}
 
 -- the guards of a group, in the order in which they were added
 abbrev pub guards_of : Group → List ExclusiveGuard
-guards_of groups.Empty = []
-guards_of (groups.One a) = a ∷ []
-guards_of (groups.Two a b) = a ∷ b ∷ []
-guards_of (groups.Three a b c) = a ∷ b ∷ c ∷ []
-guards_of (groups.Four a b c d) = a ∷ b ∷ c ∷ d ∷ []
+guards_of Group.Empty = []
+guards_of (Group.One a) = a ∷ []
+guards_of (Group.Two a b) = a ∷ b ∷ []
+guards_of (Group.Three a b c) = a ∷ b ∷ c ∷ []
+guards_of (Group.Four a b c d) = a ∷ b ∷ c ∷ d ∷ []
 
 -- their pages
 abbrev pub pids_of : List ExclusiveGuard → List ℕ
@@ -26,12 +24,12 @@ pids_of (g ∷ gs) = g.pid ∷ pids_of gs
 -- the steps that release them
 abbrev pub release_steps : List ExclusiveGuard → List Did
 release_steps [] = []
-release_steps (g ∷ gs) = did_store (places.State g.pid) (g.version + 1) ∷ release_steps gs
+release_steps (g ∷ gs) = did_store (Place.State g.pid) (g.version + 1) ∷ release_steps gs
 
 -- the state words that they leave
 abbrev pub released_words : List ExclusiveGuard → List (Place × ℕ)
 released_words [] = []
-released_words (g ∷ gs) = (places.State g.pid, g.version + 1) ∷ released_words gs
+released_words (g ∷ gs) = (Place.State g.pid, g.version + 1) ∷ released_words gs
 
 -- the loaded next word is no more known once one of these pages is given up
 abbrev pub next_after_all : List ℕ → Option ℕ → Option ℕ

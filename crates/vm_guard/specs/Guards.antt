@@ -6,7 +6,7 @@ use Rattle.vm_core.specs.Prelude.{unshared, version_of, word_of, WORDS}
 use Rattle.vm_rule.specs.Prelude.{did_exchange, did_load, did_store, dirty_in, draft_of, Each, entries_of, frame_read_by, has, IsLocking, IsUnheld}
 use Rattle.vm_rule.specs.Prelude.{IsWhole, last_of, loads_at, LockValidates, Mapping, next_after, no_held, Open, put_at, seat_of, Start, ties_below}
 use Rattle.vm_rule.specs.Prelude.{without}
-use Rattle.vm_rule.specs.declared.view.Place.TheVariants as places
+use Rattle.vm_rule.specs.declared.view.Place.{Place}
 use Rattle.vm_step.specs.Prelude.{Did, HasWritten, HoldsPage, IsAlone, KnowsAsBefore, KnowsSame, ReadsAsBefore, Release, StaysAlone, View}
 use Rattle.vm_guard.specs.Quiet.{IsQuiet, IsSteady, LeavesNone}
 use Rattle.vm_guard.specs.Sure.{IsKnownFree, known_word, KnowsBut, KnowsStates, unmarked_word}
@@ -20,12 +20,12 @@ placed i (x ∷ xs) = (i, x) ∷ placed (suc i) xs
 abbrev pub AreUnmarking : ℕ → ℕ → List Did → Type 0
 AreUnmarking p word done =
     ((state_of word ≢ MARKED) × (done ≡ []))
-    ⊎ ((state_of word ≡ MARKED) × ((found : ℕ) × (done ≡ did_exchange (places.State p) word found (word_of UNLOCKED (version_of word)) ∷ [])))
+    ⊎ ((state_of word ≡ MARKED) × ((found : ℕ) × (done ≡ did_exchange (Place.State p) word found (word_of UNLOCKED (version_of word)) ∷ [])))
 
 -- the steps that make page p dirty in this frame: none where it is dirty, else its translation word is written so
 abbrev pub dirty_steps : ℕ → ℕ → Bool → List Did
 dirty_steps p frame true = []
-dirty_steps p frame false = did_store (places.Translation p) (trans_word (Some (dirty_in frame))) ∷ []
+dirty_steps p frame false = did_store (Place.Translation p) (trans_word (Some (dirty_in frame))) ∷ []
 
 module _ {X : Type 0} where
   -- ---- optimistic guards
@@ -45,7 +45,7 @@ module _ {X : Type 0} where
     pub step : Did
     pub later : List Did
     pub cut : v.log ≡ earlier ++ step ∷ later
-    pub at : step.at ≡ places.State p
+    pub at : step.at ≡ Place.State p
     pub other : ℕ
     -- the guard's word could be read
     pub open_word : is_readable (state_of word) ≡ true
@@ -64,7 +64,7 @@ module _ {X : Type 0} where
     pub first : ℕ
     pub translation : ℕ
     pub clearing : List Did
-    pub cut : done ≡ did_load (places.State p) first ∷ (clearing ++ did_load (places.Translation p) translation ∷ did_load (places.State p) word ∷ [])
+    pub cut : done ≡ did_load (Place.State p) first ∷ (clearing ++ did_load (Place.Translation p) translation ∷ did_load (Place.State p) word ∷ [])
     -- a mark that the first look found was to be taken away next
     pub clears : AreUnmarking p first clearing
     -- both looks found the same version, and the guard's frame is the one that the translation word names
@@ -147,13 +147,13 @@ module _ {X : Type 0} where
     pub holding : IsHolding p frame version dirty w
     pub draft : draft_of w p ≡ (last_of w p).words
     pub validates : v.start.tells ≡ true → LockValidates tied p version (last_of w p).words v
-    pub wrote : HasWritten done (places.State p) (word_of LOCKED version)
+    pub wrote : HasWritten done (Place.State p) (word_of LOCKED version)
     pub table : KnowsBut p (word_of LOCKED version) v w
     pub current : w.current ≡ true
     -- the pass was reading the page at no later version
     pub older : (o : Open) → (seat_of v p).reading ≡ Some o → o.version ≤ version
     -- the steps are at the page's state word, and at its translation word
-    pub places_are : Each (λ d. (d.at ≡ places.State p) ⊎ (d.at ≡ places.Translation p)) done
+    pub places_are : Each (λ d. (d.at ≡ Place.State p) ⊎ (d.at ≡ Place.Translation p)) done
 
   -- page p, which the pass holds and which stood in this frame, is dirty there; nothing else has changed
   pub record IsDirtied (p frame : ℕ) (dirty : Bool) (v w : View X) : Type 0 where
@@ -173,7 +173,7 @@ module _ {X : Type 0} where
   -- word i of the draft of page p, which stood in this frame, is x now; the page was made dirty before, and nothing else has changed
   pub record IsSet (p frame : ℕ) (dirty : Bool) (i x : ℕ) (v w : View X) : Type 0 where
     pub done : List Did
-    pub steps : done ≡ dirty_steps p frame dirty ++ did_store (places.Content frame i) x ∷ []
+    pub steps : done ≡ dirty_steps p frame dirty ++ did_store (Place.Content frame i) x ∷ []
     pub elsewhere : IsElsewhere p done [] v w
     pub mine : w.mine ≡ v.mine
     pub group : (w.pending ≡ v.pending) × (w.owed ≡ v.owed) × (w.next ≡ v.next)
@@ -197,9 +197,9 @@ module _ {X : Type 0} where
     pub last : last_of w p ≡ record { version = version + 1; words = draft_of v p }
     -- a pass that is alone finds the last words of each other page as they were
     pub alone : IsWhole v → v.current ≡ true → (q : ℕ) → q ≢ p → (last_of w q).words ≡ (last_of v q).words
-    pub wrote : HasWritten done (places.State p) (version + 1)
+    pub wrote : HasWritten done (Place.State p) (version + 1)
     -- the steps are at the page's state word
-    pub places_are : Each (λ d. d.at ≡ places.State p) done
+    pub places_are : Each (λ d. d.at ≡ Place.State p) done
     pub table : KnowsBut p (version + 1) v w
     -- a pass that was alone knows the page to be free then, at no later version
     pub free : IsAlone v → IsKnownFree p w × (version_of (known_word p w) ≤ version + 1)

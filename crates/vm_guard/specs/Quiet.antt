@@ -3,7 +3,7 @@
 use Rattle.std.specs.Prelude.{[], ◌++◌, ◌≡◌, ◌≢◌, List, None, Some, ℕ}
 use Rattle.vm_core.specs.Prelude.{state_of, UNLOCKED}
 use Rattle.vm_rule.specs.Prelude.{Each, IsLocking, seat_of, StartsWith}
-use Rattle.vm_rule.specs.declared.view.Place.TheVariants as places
+use Rattle.vm_rule.specs.declared.view.Place.{Place}
 use Rattle.vm_step.specs.Prelude.{Did, HoldsPage, KnowsAsBefore, ReadsAsBefore, Release, RunsAlone, StaysAlone, Tie, View}
 
 -- the steps leave no word
@@ -12,7 +12,7 @@ LeavesNone done = Each (λ d. d.wrote ≡ None) done
 
 -- the steps leave no word but on the state word of page p, and there an Unlocked one
 abbrev pub OnlyUnmarks : ℕ → List Did → Type 0
-OnlyUnmarks p done = Each (λ d. (x : ℕ) → d.wrote ≡ Some x → (d.at ≡ places.State p) × (state_of x ≡ UNLOCKED)) done
+OnlyUnmarks p done = Each (λ d. (x : ℕ) → d.wrote ≡ Some x → (d.at ≡ Place.State p) × (state_of x ≡ UNLOCKED)) done
 
 module _ {X : Type 0} where
   -- the call made these steps and these releases, and leaves the parts of the view that only calls of other kinds change

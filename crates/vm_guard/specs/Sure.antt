@@ -3,7 +3,6 @@ use Rattle.std.specs.Prelude.{[], ◌+◌, ◌<◌, ◌==◌, ◌∷◌, ◌≡�
 use Rattle.vm_core.specs.Prelude.{EVICTED, LOCKED, MARKED, MAX_VERSION, state_of, UNLOCKED, version_of, word_of}
 use Rattle.vm_rule.specs.Prelude.{index_of}
 use Rattle.vm_rule.specs.declared.view.Place.{Place}
-use Rattle.vm_rule.specs.declared.view.Place.TheVariants as places
 use Rattle.vm_step.specs.Prelude.{IsAlone, known_word_at, LocksNone, Origin, View}
 pub use Rattle.vm_step.specs.Tables.{KnowsAt, KnowsSame}
 
@@ -27,7 +26,7 @@ words_with start (d ∷ ds) words = words_with start ds (slice_set words (index_
 module _ {X : Type 0} where
   -- the word of page p, as the pass knows the table
   abbrev pub known_word : ℕ → View X → ℕ
-  known_word p v = known_word_at v (places.State p)
+  known_word p v = known_word_at v (Place.State p)
 
   -- the pass knows page p to be resident, and locked by nobody
   abbrev pub IsKnownFree : ℕ → View X → Type 0
@@ -39,7 +38,7 @@ module _ {X : Type 0} where
 
   -- the next word, as the pass knows the table
   abbrev pub known_next : View X → ℕ
-  known_next v = known_word_at v places.Next
+  known_next v = known_word_at v Place.Next
 
   -- the pass knows that there are n pages from the next one on, and that each can be locked
   pub record MayBeGiven (n : ℕ) (v : View X) : Type 0 where
@@ -53,7 +52,7 @@ module _ {X : Type 0} where
 
   -- it knows them as they were, but for the word of page p, which is this one
   abbrev pub KnowsBut : ℕ → ℕ → View X → View X → Type 0
-  KnowsBut p word v w = IsAlone v → w.snapshot.words ≡ slice_set v.snapshot.words (index_of v.start (places.State p)) word
+  KnowsBut p word v w = IsAlone v → w.snapshot.words ≡ slice_set v.snapshot.words (index_of v.start (Place.State p)) word
 
   -- it knows the state words of all pages as they were
   abbrev pub KnowsStates : View X → View X → Type 0

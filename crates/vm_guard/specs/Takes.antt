@@ -3,16 +3,15 @@ use Rattle.std.specs.Prelude.{[], ◌∷◌, ◌≡◌, ◌≢◌, ◌⊎◌, Li
 use Rattle.vm_core.specs.Prelude.{EVICTED, is_readable, LOCKED, MAX_VERSION, MayLock, MayShare, state_of, version_of}
 use Rattle.vm_rule.specs.Prelude.{AreUnchanged, began_of, Change, change_of, entries_of, Entry, Start}
 use Rattle.vm_step.specs.Prelude.{View}
-use Rattle.vm_step.specs.declared.saw.At.TheVariants as ats
+use Rattle.vm_step.specs.declared.saw.At.{At}
 use Rattle.vm_guard.specs.declared.deny.Deny.{Deny}
-use Rattle.vm_guard.specs.declared.deny.Deny.TheVariants as denies
 
 -- why a call on page p that found this word is denied at once
 abbrev pub SaysWhy : ℕ → ℕ → Deny → Type 0
-SaysWhy p word (denies.Again saw) = (saw ≡ record { at = ats.Page p; first = word; seen = word }) × (state_of word ≡ LOCKED)
-SaysWhy p word (denies.Need q) = (q ≡ p) × (state_of word ≡ EVICTED)
-SaysWhy p word (denies.Crowded q) = (q ≡ p) × (state_of word ≡ 252)
-SaysWhy p word (denies.Worn q) = (q ≡ p) × (version_of word ≡ MAX_VERSION)
+SaysWhy p word (Deny.Again saw) = (saw ≡ record { at = At.Page p; first = word; seen = word }) × (state_of word ≡ LOCKED)
+SaysWhy p word (Deny.Need q) = (q ≡ p) × (state_of word ≡ EVICTED)
+SaysWhy p word (Deny.Crowded q) = (q ≡ p) × (state_of word ≡ 252)
+SaysWhy p word (Deny.Worn q) = (q ≡ p) × (version_of word ≡ MAX_VERSION)
 
 -- the word has room for one share more
 pub record HasRoom (word : ℕ) : Type 0 where

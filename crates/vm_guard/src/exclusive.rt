@@ -10,10 +10,11 @@ ghost use Rattle.vm_guard.specs.Guards.{IsDirtied, IsHolding, IsLocked, IsReleas
 ghost use Rattle.vm_guard.specs.Takes.{IsToExpect, PassMayRelease, SaysWhy};
 
 use crate::deny::Deny;
+use crate::fresh_pages;
 use crate::shared::SharedGuard;
 use crate::standing::{Lock, standing};
 use vm_block::Block;
-use vm_core::{MAX_VERSION, StateWord};
+use vm_core::StateWord;
 use vm_owner::Owner;
 use vm_page::WORDS;
 use vm_rule::words::{Pass, Words};
@@ -39,19 +40,10 @@ fn expected(word: u64, pid: u32) -> Result<u64, Deny>
     ensures kept { IfOk result (λ expects. SameOrUnlocked word expects) }
     ensures denied { IfErr result (λ d. SaysWhy pid word d × NotCrowded d) }
 {
-    let version = StateWord::version(word);
-    match StateWord::state(word) {
-        StateWord::EVICTED => Err(Deny::Need(pid)),
-        StateWord::LOCKED => Err(Deny::Again(Saw {
-            at: At::Page(pid),
-            first: word,
-            seen: word,
-        })),
-        _ if version == MAX_VERSION => Err(Deny::Worn(pid)),
-        StateWord::UNLOCKED => Ok(word),
-        StateWord::MARKED => Ok(word),
-        _ => Ok(StateWord::of(StateWord::UNLOCKED, version)),
+    if StateWord::state(word) == StateWord::EVICTED {
+        return Err(Deny::Need(pid));
     }
+    fresh_pages::expected(word, pid)
 }
 
 impl ExclusiveGuard {

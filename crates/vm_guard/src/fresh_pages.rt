@@ -44,7 +44,7 @@ fn mapping_said(word: u64) -> Option<Mapping>
 }
 
 /// The word that a lock is to expect of a page whose word is this one, resident or not: with shares, the unlocked word at its version.
-fn expected(word: u64, pid: u32) -> Result<u64, Deny>
+pub(crate) fn expected(word: u64, pid: u32) -> Result<u64, Deny>
     ensures ok { IfOk result (λ expects. IsToSeize word expects × SameOrUnlocked word expects) }
     ensures denied { IfErr result (λ d. SaysWhy pid word d × AgainOrWorn d) }
 {

@@ -1,6 +1,5 @@
 use Rattle.vm_exmap.proofs.BundleBits.{mask-more, mask-none, mask-same}
-use Rattle.vm_exmap.proofs.Prelude.{[], ap, arith, bit_or, get_or, in_mask, is_of, one_shl, suc, sym, take, take-suc, ℕ, ◌%◌, ◌++◌, ◌+◌, ◌^◌, ◌∙◌}
-use Rattle.vm_exmap.proofs.Prelude.{◌∷◌, ◌≡◌}
+use Rattle.vm_exmap.proofs.Prelude.{[], ap, arith, bit_or, get_or, in_mask, is_of, one_shl, suc, sym, take, take-suc, ℕ, ◌%◌, ◌++◌, ◌+◌, ◌^◌, ◌∙◌, ◌∷◌, ◌≡◌}
 use Rattle.vm_exmap.proofs.bits.mask_of.Goals as goal
 use Rattle.vm_exmap.proofs.bits.mask_of.Goals.{else-frame-g, then-frame-g}
 

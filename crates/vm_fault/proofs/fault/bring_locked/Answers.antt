@@ -1,8 +1,8 @@
 use Rattle.vm_fault.proofs.Ending.{held-empty}
 use Rattle.vm_fault.proofs.Fetching.{brought, failed, frames-called, may-evict, may-give_up, may-own, may-put, may-raise, may-take-out, work-called}
 use Rattle.vm_fault.proofs.Fetching.{work-raised}
-use Rattle.vm_fault.proofs.Prelude.{ap, arith, goes-out, has, MAX_VERSION, may-bring, Origin, ready-after, ready-on, refl, Seat, subst, sym, View, ℕ}
-use Rattle.vm_fault.proofs.Prelude.{◌<◌, ◌∙◌, ◌≤◌}
+use Rattle.vm_fault.proofs.Prelude.{ap, arith, goes-out, has, MAX_VERSION, may-bring, Origin, ready-after, ready-on, refl, Seat, subst, sym, View, ℕ, ◌<◌, ◌∙◌}
+use Rattle.vm_fault.proofs.Prelude.{◌≤◌}
 use Rattle.vm_fault.proofs.fault.bring_locked.Goals as goal
 
 within : (n : ℕ) → n < MAX_VERSION → n ≤ MAX_VERSION

@@ -1,6 +1,6 @@
 use Rattle.vm_fault.proofs.Ending.{lost, worn-in, worn-out}
-use Rattle.vm_fault.proofs.Prelude.{ap, arith, EVICTED, inr, IsFetched, LockTold, MAX_VERSION, refl, state_of, subst, sym, version-within, version_of}
-use Rattle.vm_fault.proofs.Prelude.{view, word-state, word-version, word_of, ℕ, ◌<◌, ◌∙◌, ◌≡◌, ◌≢◌, ◌≤◌}
+use Rattle.vm_fault.proofs.Prelude.{ap, arith, EVICTED, inr, IsFetched, LockTold, MAX_VERSION, refl, state_of, subst, sym, version-within, version_of, view}
+use Rattle.vm_fault.proofs.Prelude.{word-state, word-version, word_of, ℕ, ◌<◌, ◌∙◌, ◌≡◌, ◌≢◌, ◌≤◌}
 use Rattle.vm_fault.proofs.fault.fault_in.Goals as goal
 
 -- the version of a word

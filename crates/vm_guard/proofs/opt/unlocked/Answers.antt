@@ -1,6 +1,5 @@
 use Rattle.vm_guard.proofs.{Expecting.has-shares, Upgrading.unlocked-word}
-use Rattle.vm_guard.proofs.Prelude.{ap, arith, inr, IsToExpect, state_of, subst, sym, UNLOCKED, version-within, version_of, word-version, word_of, ℕ}
-use Rattle.vm_guard.proofs.Prelude.{◌∙◌, ◌≡◌}
+use Rattle.vm_guard.proofs.Prelude.{ap, arith, inr, IsToExpect, state_of, subst, sym, UNLOCKED, version-within, version_of, word-version, word_of, ℕ, ◌∙◌, ◌≡◌}
 use Rattle.vm_guard.proofs.opt.unlocked.Goals as goal
 
 pub returns-in_default-clause-expects : goal.returns-in_default-clause-expects

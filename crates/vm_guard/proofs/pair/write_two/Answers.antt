@@ -1,7 +1,6 @@
 -- The two guards are those of the pages given, and each release of them may be made.
 use Rattle.vm_guard.proofs.Pairs.{apart-of, fresh-both, holding-beside, may-pair, taken-both, two-many, written-pair}
-use Rattle.vm_guard.proofs.Prelude.{[], ap, arith, ExclusiveGuard, guards_of, HasFirst, length, length-append, refl, subst, sym, view, ℕ, ◌+◌, ◌∙◌}
-use Rattle.vm_guard.proofs.Prelude.{◌∷◌}
+use Rattle.vm_guard.proofs.Prelude.{[], ap, arith, ExclusiveGuard, guards_of, HasFirst, length, length-append, refl, subst, sym, view, ℕ, ◌+◌, ◌∙◌, ◌∷◌}
 use Rattle.vm_guard.proofs.pair.write_two.Goals as goal
 
 pub unreachable-requires : goal.unreachable-requires

@@ -1,7 +1,7 @@
 -- The looks, the mark that is taken away and the load of the translation word give each answer.
 use Rattle.vm_guard.proofs.{Denials.denied-at-once, OpenReads.locked-unreadable, Validating.kept-as}
-use Rattle.vm_guard.proofs.Prelude.{AgainOrNeed, ap, EVICTED, false≢true, inl, inr, is_readable, None, NoneExpected, refl, state_of, subst, sym}
-use Rattle.vm_guard.proofs.Prelude.{true≢false, ◌<◌, ◌∙◌, ◌≡◌}
+use Rattle.vm_guard.proofs.Prelude.{AgainOrNeed, ap, EVICTED, false≢true, inl, inr, is_readable, None, NoneExpected, refl, state_of, subst, sym, true≢false}
+use Rattle.vm_guard.proofs.Prelude.{◌<◌, ◌∙◌, ◌≡◌}
 use Rattle.vm_guard.proofs.Starting.{began, looks-same, moved, names-frame}
 use Rattle.vm_guard.proofs.Sure.{look-finds, start-open, start-version}
 use Rattle.vm_guard.proofs.PageLoads.{looked-words, started-words}

@@ -1,8 +1,8 @@
 -- The look, the exchange and the load of the translation word give each answer.
 use Rattle.vm_guard.proofs.{Denials.denied-at-once, Denials.denied-lost, GuardSteps.ready-from, Lockings.share-locking, Lockings.shared}
 use Rattle.vm_guard.proofs.{QuietSteps.share-lost}
-use Rattle.vm_guard.proofs.Prelude.{err_from_is_err_and, inl, MayShare, NoneExpected, NotWorn, one_share_more, refl, state_of, subst, sym, version_of}
-use Rattle.vm_guard.proofs.Prelude.{word_of, ◌<◌, ◌∙◌}
+use Rattle.vm_guard.proofs.Prelude.{err_from_is_err_and, inl, MayShare, NoneExpected, NotWorn, one_share_more, refl, state_of, subst, sym, version_of, word_of}
+use Rattle.vm_guard.proofs.Prelude.{◌<◌, ◌∙◌}
 use Rattle.vm_guard.proofs.Sure.{found-as, room-refused, share-sure}
 use Rattle.vm_guard.proofs.shared.SharedGuard.take.Goals as goal
 
