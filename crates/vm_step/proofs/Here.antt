@@ -107,9 +107,8 @@ module _ {X B : Type 0} (stored : B → Stored) (keeps : Start → Kept X → Ty
       -- a page that is not locked is tied to itself
       pub tied-itself : (p : ℕ) → p < start.pages → start.tells ≡ true → (world.core.pages p).state ≢ LOCKED → tied (began_of v.start) p (last p).words p (last p).words
       tied-itself p l t free =
-          let stays : is_pending s.views p ≡ false = not-pending stored keeps tied start tells s r p l free in
-          subst (λ (o : Origin). tied (began_of o) p (last p).words p (last p).words) (sym (r.heard id v there live).same_start)
-          (tied-now stored keeps tied start tells s r law t p p l l stays stays)
+          let stays = not-pending stored keeps tied start tells s r p l free in
+          subst (λ (o : Origin). tied (began_of o) p (last p).words p (last p).words) (sym (r.heard id v there live).same_start) (tied-now stored keeps tied start tells s r law t p p l l stays stays)
 
       -- a lock that is taken on the word validates the open read and the ties
       pub validates : (p expects : ℕ) → p < start.pages → slice_index s.words p ≡ expects → (world.core.pages p).state ≢ LOCKED → v.start.tells ≡ true → LockValidates tied p (version_of expects) (last p).words v

@@ -212,9 +212,6 @@ module _ {X B : Type 0} {stored : B → Stored} {keeps : Start → Kept X → Ty
   pub next-version : rel.version ≡ (last_in start rel.r.releases rel.p).version
   next-version = rel.at_last ∙ ap (λ (h : Version). h.version) (mine.latest rel.p (inl rel.owns) ∙ sym (last-is start rel.r.releases rel.r.drafts rel.p))
 
-  pub own-is : own ≡ release_of start rel.r.releases rel.r.drafts rel.p
-  own-is i = record { page = rel.p; version = next-version i + 1; words = draft-known rel.p rel.owns i }
-
   abbrev pub event : Event
   event = event_left rel.way rel.id rel.p
 
@@ -230,7 +227,7 @@ module _ {X B : Type 0} {stored : B → Stored} {keeps : Start → Kept X → Ty
 
   pub world-is : world_of stored start releases rel.r.drafts new ≡ world_after old event
   world-is =
-      ap (λ o. world_of stored start (rel.r.releases ++ o ∷ []) rel.r.drafts new) own-is
+      (λ i. world_of stored start (rel.r.releases ++ record { page = rel.p; version = next-version i + 1; words = draft-known rel.p rel.owns i } ∷ []) rel.r.drafts new)
       ∙ left-step stored start rel.way rel.s rel.r.releases rel.r.drafts rel.id rel.v left rel.p word rel.r.wide.0 rel.inside rel.there refl refl refl refl released-state released-version
 
   core-is : core_shown stored start new ≡ on_page old.core rel.p page
