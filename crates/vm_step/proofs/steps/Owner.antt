@@ -7,22 +7,18 @@ use Rattle.vm_core.proofs.OwnerWords.{word-elsewhere, word-written}
 use Rattle.vm_step.proofs.Leaves.{works-one, works-then}
 use Rattle.vm_step.proofs.Mine.{owner-inside}
 use Rattle.vm_step.proofs.steps.Mapping.{install-frames, install-held, install-works}
-use Rattle.vm_step.proofs.Prelude.{[], actor_of, after_step, AllowsStep, ap, at-bound, Bool, clean_in, core-still, core_shown, Did, did_store, Disown}
-use Rattle.vm_step.proofs.Prelude.{DisownIsItsEvent, each-upd, Event, false, get_elem?, Held, held_at, index_of, InstallTold, IsOwnerEvent, IsPlacedAt, IsSome}
-use Rattle.vm_step.proofs.Prelude.{Kept, KnowsOwner, KnowsOwners, KnowsPage, Legal, length, List, MayOwn, no_held, None, OLoad, OloadIsItsEvent, Option, Origin}
-use Rattle.vm_step.proofs.Prelude.{Own, owned, owned_view, owner-here, owner-step, OwnerLoadTold, OwnerTold, OwnIsItsEvent, put_at, refl, rested, Ruled, Seat}
-use Rattle.vm_step.proofs.Prelude.{seat-here, seat_of, seen, Shape, Shows, slice_set, Some, some, Stands, StandsIn, Start, State, steps, Stored, subst, sym}
-use Rattle.vm_step.proofs.Prelude.{Table, told_of, true, upd-other, upd-same, View, without, Works, World, world_after, world_of, ℕ, ◌+◌, ◌<◌, ◌∙◌, ◌∷◌, ◌≡◌}
-use Rattle.vm_step.proofs.Prelude.{◌≤◌}
+use Rattle.vm_step.proofs.Prelude.{[], actor_of, AllowsStep, ap, at-bound, Bool, clean_in, core-still, core_shown, Did, did_store, Disown, DisownIsItsEvent}
+use Rattle.vm_step.proofs.Prelude.{each-upd, Event, false, get_elem?, Held, held_at, index_of, InstallTold, IsOwnerEvent, IsPlacedAt, IsSome, Kept, KnowsOwner}
+use Rattle.vm_step.proofs.Prelude.{KnowsOwners, KnowsPage, Legal, length, List, MayOwn, no_held, None, OLoad, OloadIsItsEvent, Option, Origin, Own, owned}
+use Rattle.vm_step.proofs.Prelude.{owned_view, owner-here, owner-step, OwnerLoadTold, OwnerTold, OwnIsItsEvent, put_at, refl, rested, Ruled, Seat, seat-here}
+use Rattle.vm_step.proofs.Prelude.{seat_of, seen, Shape, slice_set, Some, some, Stands, StandsIn, Start, State, steps, Stored, subst, sym, Table, told_of, true}
+use Rattle.vm_step.proofs.Prelude.{upd-other, upd-same, View, without, Works, World, world_after, world_of, ℕ, ◌+◌, ◌<◌, ◌∙◌, ◌∷◌, ◌≡◌, ◌≤◌}
 use Rattle.vm_step.proofs.steps.Event.{is-event}
 
 module _ {X B : Type 0} (stored : B → Stored) (keeps : Start → Kept X → Type 0) (tied : Start → ℕ → List ℕ → ℕ → List ℕ → Type 0) (start : Origin) (tells : Bool) (s : Table (Option B) (View X)) (r : Ruled stored keeps tied start tells s)
     (id : ℕ) (v : View X) (there : get_elem? s.views id ≡ some v) (live : v.live ≡ true) where
   abbrev core : State
   core = core_shown stored start s
-
-  abbrev old : World
-  old = world_of stored start r.releases r.drafts s
 
   module _ (p f : ℕ) (stands : StandsIn v p f) where
     -- the page stands there
@@ -35,24 +31,6 @@ module _ {X B : Type 0} (stored : B → Stored) (keeps : Start → Kept X → Ty
       page = record { owns = ap (λ (y : Seat). y.exclusive) (seat-here stored start s id p v standing.0 there) ∙ stands.owns; resident = subst IsSome (sym standing.1) refl };
     }
 
-    -- the step shows itself, where it is this event: nothing is another but the word
-    owner-shows : (word : ℕ) (e : Event) → f < start.frames → Legal core e → world_after old e ≡ record old { core = owned core p word }
-        → Shows stored keeps tied start tells s r id v (slice_set s.words (index_of start (places.Owner f)) word) r.drafts [] [] (did_store (places.Owner f) word) (owned_view p word v) e
-    owner-shows word e lf legal is =
-        let did : Did = did_store (places.Owner f) word in
-        let words : List ℕ = slice_set s.words (index_of start (places.Owner f)) word in
-        let known = r.known id v there live in
-        held-shows stored keeps tied start tells s r id v words did (owned_view p word v).held v.frames v.contents e there live (word-left start s.words did word r.wide.0 r.spelled lf refl tt refl) legal
-        (owner-step stored start s r.releases r.drafts id v (after_step stored keeps tied start tells s r words [] [] did (owned_view p word v)) p f word r.wide.0 lf there refl refl refl refl (ap frame_of standing.1) ∙ sym is)
-        (ap (λ (y : World). y.core.next) is)
-        (λ q. subst (λ (y : World). KnowsPage (seat_of v q) (put_at no_held (owned_view p word v).held q) (y.core.pages q)) (sym is)
-        (each-upd (λ k (h : Held). KnowsPage (seat_of v k) h (core.pages k)) (put_at no_held v.held) p (record (held_at v p) { owner = word }) (record { calls = (known.knows p).calls; shares = (known.knows p).shares }) (λ k _. known.knows k) q))
-        (subst (λ (y : World). KnowsOwners y.core.owners (seat_of v) (put_at no_held (owned_view p word v).held)) (sym is)
-        (each-upd (λ k (h : Held). KnowsOwner (owned core p word).owners (seat_of v k) h) (put_at no_held v.held) p (record (held_at v p) { owner = word })
-        (λ m _ at. sym (ap (λ g. g m.frame) (word-written core.owners (core.pages p).trans m word (standing.1 ∙ sym stands.stands ∙ at)) ∙ upd-same core.owners m.frame word))
-        (λ q ne m calls at. known.owners q m calls at ∙ sym (word-elsewhere old p q word _ m r.inv standing.1 (sym ((known.knows q).calls calls).0 ∙ at) ne))))
-        (λ g x. known.contents g x ∙ sym (ap (λ (y : World). y.core.words g) is))
-
 module _ {X B : Type 0} (stored : B → Stored) (keeps : Start → Kept X → Type 0) (tied : Start → ℕ → List ℕ → ℕ → List ℕ → Type 0) (tells : Bool) where
   -- so every table that stands allows them
   owner-allows : (shape : Shape) (event : ℕ → ℕ → Event) (slots id : ℕ) (v : View X) (i p f word : ℕ)
@@ -64,8 +42,26 @@ module _ {X B : Type 0} (stored : B → Stored) (keeps : Start → Kept X → Ty
   owner-allows shape event slots id v i p f word legal actor is live number lf stands at =
       allows stored keeps tied shape tells slots id v i (places.Owner f) (λ _. word) (λ _. word) (λ _. OwnerTold p f word) live at (λ n. refl) (λ n w t. fit t.brings live)
       (λ start has s r there _.
-      let k = steps stored keeps tied start tells s r id v _ r.drafts [] [] _ (owned_view p word v) (event id p) there live number actor refl
-      (owner-shows stored keeps tied start tells s r id v there live p f stands word (event id p) (subst (λ n. f < n) (sym has.frames) lf) (legal start s r (may-own stored keeps tied start tells s r id v there live p f stands)) (is _)) in
+      let inside : f < start.frames = subst (λ n. f < n) (sym has.frames) lf in
+      let core : State = core_shown stored start s in
+      let stood = (standing stored keeps tied start tells s r id v there live p f stands).1 in
+      let known = r.known id v there live in
+      let did : Did = did_store (places.Owner f) word in
+      let words : List ℕ = slice_set s.words (index_of start (places.Owner f)) word in
+      let inner : View X = owned_view p word v in
+      -- nothing is another but the word
+      let led = is (world_of stored start r.releases r.drafts s) in
+      let k = steps stored keeps tied start tells s r id v words r.drafts [] [] did inner (event id p) there live number actor refl
+      (held-shows stored keeps tied start tells s r id v words did inner.held v.frames v.contents (event id p) there live (word-left start s.words did word r.wide.0 r.spelled inside refl tt refl) (legal start s r (may-own stored keeps tied start tells s r id v there live p f stands))
+      (owner-step stored start s r.releases r.drafts id v _ p f word r.wide.0 inside there refl refl refl refl (ap frame_of stood) ∙ sym led)
+      (ap (λ (y : World). y.core.next) led)
+      (λ q. subst (λ (y : World). KnowsPage (seat_of v q) (put_at no_held inner.held q) (y.core.pages q)) (sym led)
+      (each-upd (λ k (h : Held). KnowsPage (seat_of v k) h (core.pages k)) (put_at no_held v.held) p (record (held_at v p) { owner = word }) (record { calls = (known.knows p).calls; shares = (known.knows p).shares }) (λ k _. known.knows k) q))
+      (subst (λ (y : World). KnowsOwners y.core.owners (seat_of v) (put_at no_held inner.held)) (sym led)
+      (each-upd (λ k (h : Held). KnowsOwner (owned core p word).owners (seat_of v k) h) (put_at no_held v.held) p (record (held_at v p) { owner = word })
+      (λ m _ at. sym (ap (λ g. g m.frame) (word-written core.owners (core.pages p).trans m word (stood ∙ sym stands.stands ∙ at)) ∙ upd-same core.owners m.frame word))
+      (λ q ne m calls at. known.owners q m calls at ∙ sym (word-elsewhere (world_of stored start r.releases r.drafts s) p q word _ m r.inv stood (sym ((known.knows q).calls calls).0 ∙ at) ne))))
+      (λ g x. known.contents g x ∙ sym (ap (λ (y : World). y.core.words g) led))) in
       (_, k.0, record { brings = k.1 }))
 
   pub own-allows : (shape : Shape) (slots id : ℕ) (v : View X) (i p f : ℕ) → v.live ≡ true → 0 < length v.used → f < shape.frames → StandsIn v p f → IsPlacedAt shape (places.Owner f) i
