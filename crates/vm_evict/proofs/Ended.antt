@@ -8,8 +8,8 @@ use Rattle.vm_evict.proofs.Prelude.{[], alone-self, ap, append-none, append_asso
 use Rattle.vm_evict.proofs.Prelude.{DoesOne, Each, else-knows, Evicted, false, first_of, first_pair, frame_at, FramesCome, gathered, has, if◌then◌else◌}
 use Rattle.vm_evict.proofs.Prelude.{InPhases, IsAdded, IsAllowed, IsAlone, IsAsideOf, IsAt, IsBatch, IsEnd, IsOfAny, IsOver, IsPhaseMade, IsUnderWay}
 use Rattle.vm_evict.proofs.Prelude.{KnowsEvicted, KnowsStage, length, length-append, List, Looks, lost_at, None, none_of, Note, note_at, one_if, refl}
-use Rattle.vm_evict.proofs.Prelude.{release_at, Rests, rules, runs-self, RunsAlone, Stage, stage_at, subst, suc, sym, Tallies, true, View, Within, written_at}
-use Rattle.vm_evict.proofs.Prelude.{zero, ℕ, ⊎_elim, ◌++◌, ◌+◌, ◌<◌, ◌∙◌, ◌∷◌, ◌≡◌, ◌≤◌, ◌⊎◌}
+use Rattle.vm_evict.proofs.Prelude.{release_at, Rests, rules, runs-self, RunsAlone, Stage, stage_at, subst, suc, sym, Tallies, true, View, written_at, zero}
+use Rattle.vm_evict.proofs.Prelude.{ℕ, ⊎_elim, ◌++◌, ◌+◌, ◌<◌, ◌∙◌, ◌∷◌, ◌≡◌, ◌≤◌}
 use Rattle.vm_evict.proofs.Tables.{each-two}
 
 -- the first that failed stays the first
@@ -142,17 +142,15 @@ module _ {X : Type 0} where
         let others = λ (q : ℕ) (ne : has q (candidate_pages list) ≡ true → ⊥). (h.leaves.others q (⊎_elim (λ (e : has q (candidate_pages list) ≡ true). absurd (ne e)) (λ (e : has q (candidate_pages list) ≡ false). e) (cases_Bool (has q (candidate_pages list))))).1 in
         search (rules, h.home ∙ sym h.none, (λ (q : ℕ). (rests-all q).holds), (λ (q : ℕ). (rests-all q).knows), h.alone, others)
 
-    -- each step was on a word of the table, and left none but on a candidate's words
-    there : InPhases list done → Each (λ d. Within v.start d.at × ((d.wrote ≡ None) ⊎ IsOfAny (candidate_pages list) d.at)) done
-    there phases = each-two _ _ done h.runs.inside (phases-there list done phases)
-
     pub batch : ((n : ℕ) → n < length list → (candidate_at list n).0 < v.start.pages) → (looks : Looks) (e : Evicted) → Counts (length list) list looks ends e.report → e.frames ≡ gathered frame_at (length list) list ends → InPhases list done → IsBatch list looks v w e.report e.frames
     batch inside looks e counts frames phases =
         let all : length (gathered frame_at (length list) list ends) + (length (gathered note_at (length list) list ends) + length (gathered lost_at (length list) list ends)) ≡ length list = over-all (length list) list ends over in
         let total : e.report.freed + (e.report.failed + e.report.lost) ≡ length list = (let a = counts.freed in let b = counts.failed in let c = counts.lost in omega (arith, all, a, b, c)) in
         let each = λ (n : ℕ) (b : n < length list). (end-of (candidate_at list n) (stage_at ends n) done v w (over n b) (h.each n b)).0 in
         let allowed = gathered-each note_at list (λ (n : Note). IsAllowed v.start n.page n.count) (length list) ends (λ j b. allowed-of (candidate_at list j) (stage_at ends j) done v w (each j b)) in
-        let table : IsAlone v → KnowsEvicted list ends v w = λ a. record { each = λ n b. h.table a n b (inside n b); others = else-knows (IsOfAny (candidate_pages list)) done (gathered (release_at v) (length list) list ends) v w h.leaves.start h.runs (there phases) a } in
+        -- each step was on a word of the table, and left none but on a candidate's words
+        let there = each-two _ _ done h.runs.inside (phases-there list done phases) in
+        let table : IsAlone v → KnowsEvicted list ends v w = λ a. record { each = λ n b. h.table a n b (inside n b); others = else-knows (IsOfAny (candidate_pages list)) done (gathered (release_at v) (length list) list ends) v w h.leaves.start h.runs there a } in
         search (rules, phases, each, counts, total, ap length frames ∙ sym counts.freed, frames, aside, subst (λ (l : List ℕ). FramesCome l v w) (sym frames) h.frames, h.noted, allowed, h.runs, table)
 
 -- n candidates wait

@@ -8,17 +8,17 @@ use Rattle.vm_evict.proofs.Evidenced.{unsaved-both, unsaved-one, wrote-taken}
 use Rattle.vm_evict.proofs.Moving.{gives-nothing, GivesNothing, Quietly, quietly-then, quietly-to}
 use Rattle.vm_evict.proofs.Prelude.{[], Advances, ap, arith, Bool, Brings, by_share, cases_Bool, clean_in, Did, did_exchange, Does, Each, each-both, EVICTED}
 use Rattle.vm_evict.proofs.Prelude.{false, false≢true, frame_of, has, HasLockTaken, HasLost, HasNoLockOf, Held, held_at, if◌then◌else◌, inl, inr, IsAlone}
-use Rattle.vm_evict.proofs.Prelude.{IsLocking, IsLost, IsMissed, IsNotOut, IsOwning, IsSavedFrom, IsSeenClean, IsSome, IsToldOf, IsToShare, IsUnderWriteBack}
-use Rattle.vm_evict.proofs.Prelude.{IsUnheld, IsWaiting, IsWriting, known_word_at, KnowsKept, KnowsLocked, KnowsOn, KnowsStage, last_of, LeavesOthers}
-use Rattle.vm_evict.proofs.Prelude.{LeavesOwn, LeavesRest, length, List, lock-brings, lock-did, lock-draft, lock-held, lock-others, lock-own, lock-seat}
-use Rattle.vm_evict.proofs.Prelude.{LOCKED, LocksFrom, LockTold, lost-view, Mapping, mapping_at, mapping_of, MARKED, MAX_VERSION, MayEnd, MayRaiseLock}
-use Rattle.vm_evict.proofs.Prelude.{MayUnshare, no-fault, no_seat, None, none-some, once, Option, others-still, owning_seat, Phase, Raises, refl, rest-of}
-use Rattle.vm_evict.proofs.Prelude.{Rests, rules, RunsAlone, same_Some, Seat, seat_of, shares, Some, Stage, stands_dirty, Start, starts-then, state_of}
-use Rattle.vm_evict.proofs.Prelude.{still-own, still-works, subst, sym, Translation, true, Unreleased, unshare-did, unshare-others, unshare-own, unshare-seat}
-use Rattle.vm_evict.proofs.Prelude.{unshared, UnshareTold, upgrade-brings, upgrade-did, upgrade-draft, upgrade-held, upgrade-last, upgrade-others}
-use Rattle.vm_evict.proofs.Prelude.{upgrade-own, upgrade-seat, upgraded_view, UpgradeTold, version-within, version_of, View, word-state, word-version}
-use Rattle.vm_evict.proofs.Prelude.{word_of, WORDS, Works, write_lock-brings, write_lock-did, write_lock-held, write_lock-others, write_lock-own}
-use Rattle.vm_evict.proofs.Prelude.{write_lock-seat, WriteLockTold, writing_seat, ℕ, ⊎_elim, ◌++◌, ◌<◌, ◌==◌, ◌∙◌, ◌∷◌, ◌≡◌, ◌≢◌, ◌≤◌}
+use Rattle.vm_evict.proofs.Prelude.{IsLocking, IsLost, IsMissed, IsOwning, IsSavedFrom, IsSeenClean, IsSome, IsToldOf, IsToShare, IsUnderWriteBack, IsUnheld}
+use Rattle.vm_evict.proofs.Prelude.{IsWaiting, IsWriting, known_word_at, KnowsKept, KnowsLocked, KnowsOn, KnowsStage, last_of, LeavesOthers, LeavesOwn}
+use Rattle.vm_evict.proofs.Prelude.{LeavesRest, length, List, lock-brings, lock-did, lock-draft, lock-held, lock-others, lock-own, lock-seat, LOCKED}
+use Rattle.vm_evict.proofs.Prelude.{LocksFrom, LockTold, lost-view, Mapping, mapping_at, mapping_of, MARKED, MAX_VERSION, MayEnd, MayRaiseLock, MayUnshare}
+use Rattle.vm_evict.proofs.Prelude.{no-fault, no_seat, None, none-some, once, Option, others-still, owning_seat, Phase, Raises, refl, rest-of, Rests, rules}
+use Rattle.vm_evict.proofs.Prelude.{RunsAlone, same_Some, Seat, seat_of, shares, Some, Stage, stands_dirty, Start, starts-then, state_of, still-own}
+use Rattle.vm_evict.proofs.Prelude.{still-works, subst, sym, Translation, true, Unreleased, unshare-did, unshare-others, unshare-own, unshare-seat, unshared}
+use Rattle.vm_evict.proofs.Prelude.{UnshareTold, upgrade-brings, upgrade-did, upgrade-draft, upgrade-held, upgrade-last, upgrade-others, upgrade-own}
+use Rattle.vm_evict.proofs.Prelude.{upgrade-seat, upgraded_view, UpgradeTold, version-within, version_of, View, word-state, word-version, word_of, WORDS}
+use Rattle.vm_evict.proofs.Prelude.{Works, write_lock-brings, write_lock-did, write_lock-held, write_lock-others, write_lock-own, write_lock-seat}
+use Rattle.vm_evict.proofs.Prelude.{WriteLockTold, writing_seat, ℕ, ⊎_elim, ◌++◌, ◌<◌, ◌==◌, ◌∙◌, ◌∷◌, ◌≡◌, ◌≢◌, ◌≤◌}
 use Rattle.vm_evict.proofs.Tables.{found-first, kept-then, silent-page, state-left}
 
 module _ {X : Type 0} {tied : Start → ℕ → List ℕ → ℕ → List ℕ → Type 0} {p expects : ℕ} {v w : View X} (t : WriteLockTold tied p expects expects v w) where
@@ -43,10 +43,6 @@ frame-of-parts None dirty = refl
 frame-of-parts (Some f) dirty = refl
 
 module _ {X : Type 0} (p : ℕ) where
-  -- nothing is out
-  pub not-out : (v : View X) → v.out ≡ None → IsNotOut v p
-  not-out v none o is = absurd (none-some o (sym none ∙ is))
-
   -- a page that the pass has not locked, and had not at v
   pub was-free : (v x : View X) → Rests p v x → IsUnheld x p → HasNoLockOf v p
   was-free v x r u = record { shares = sym r.holds.shares ∙ u.shares; exclusive = sym r.holds.exclusive ∙ u.exclusive; writing = sym r.holds.writing ∙ u.writing }
@@ -199,9 +195,6 @@ module _ {X : Type 0} (tied : Start → ℕ → List ℕ → ℕ → List ℕ �
   lock-quiet : Quietly phases.Lock (p, word) (own-did ∷ []) x y
   lock-quiet = quiet-one p phases.Lock word (lock-others refl t (λ q. q ≡ p) refl) (lock-own refl t) [] (ap (λ (z : View X). z.translations) (lock-brings refl t).view) (word, refl)
 
-  lock-known : IsAlone x → p < x.start.pages → KnowsKept p v x → KnowsStage (p, word) (stages.Owned false) v y
-  lock-known alone page k = let l = exchange-known p word LOCKED v x y lock-quiet.moves.leaves lock-quiet.runs alone page k in (l.0, l.1)
-
   owning : IsOwning p word clean-frame.0 false (done ++ own-did ∷ []) v y
   owning = record {
     taken = lock-taken p word LOCKED v x y owning_seat done seen.waits lock-quiet.moves.leaves (t.unheld refl) (t.free refl) own-now t.version t.size (subst (λ (k : Held). k.fault ≡ k.block.count) (sym (lock-held refl t)) (t.stands refl).told);
@@ -218,7 +211,7 @@ module _ {X : Type 0} (tied : Start → ℕ → List ℕ → ℕ → List ℕ �
   pub locked-so : Advances phases.Lock (p, word) stages.Clean (stages.Owned false) done v x y
   locked-so =
       quietly-to phases.Lock (p, word) stages.Clean (stages.Owned false) done (own-did ∷ []) v x y lock-quiet (clean-frame.0, owning) tt (gives-nothing refl refl refl)
-      lock-known
+      (λ alone page k. let l = exchange-known p word LOCKED v x y lock-quiet.moves.leaves lock-quiet.runs alone page k in (l.0, l.1))
 
 -- ---- A page under write-back, which is clean, becomes held exclusively; or the exchange is lost, and the share is given up.
 

@@ -6,12 +6,12 @@ use Rattle.vm_evict.proofs.Gathering.{apart-at, gathered-set, has-page}
 use Rattle.vm_evict.proofs.Prelude.{[], Adds, Advances, alone-then, ap, append-none, append_assoc, AreApart, arith, Bool, candidate_at, candidate_pages}
 use Rattle.vm_evict.proofs.Prelude.{cases_eq, Did, Does, DoesOne, Each, each-both, each-map, EVICTED, false, false≢true, frame_at, FramesCome, gathered}
 use Rattle.vm_evict.proofs.Prelude.{get_or-set_other, get_or-set_same, has, HasLockTaken, HasNotSaved, HasReleased, Held, home-both, home-else, inl, inr}
-use Rattle.vm_evict.proofs.Prelude.{IsAlone, IsAt, IsCleanAt, IsEmptied, IsLocking, IsMissed, IsOwning, IsPageFreed, IsPhaseMade, IsSeenClean, IsSome}
-use Rattle.vm_evict.proofs.Prelude.{IsTakenOut, IsUnderWay, IsWaiting, IsWhole, IsWriteFailed, IsWriting, KnowsStage, last_of, LeavesAll, LeavesRest, length}
-use Rattle.vm_evict.proofs.Prelude.{List, MayBeginPhase, MayEnd, Moves, None, Note, note_at, once-front, Origin, owning_seat, Phase, reads-then}
-use Rattle.vm_evict.proofs.Prelude.{ReadsAsBefore, refl, Release, release_at, Rests, rules, runs-then, RunsAlone, Seat, slice_set, Some, Stage, stage_at}
-use Rattle.vm_evict.proofs.Prelude.{starts-then, StaysHome, still-alone, subst, sym, Tie, Translation, true, version_of, View, word_of, writing_seat}
-use Rattle.vm_evict.proofs.Prelude.{written-front, ℕ, ⊎_elim, ◌++◌, ◌+◌, ◌<◌, ◌∙◌, ◌∷◌, ◌≡◌, ◌≢◌, ◌≤◌, ◌⊎◌}
+use Rattle.vm_evict.proofs.Prelude.{IsAlone, IsAt, IsEmptied, IsLocking, IsMissed, IsOwning, IsPageFreed, IsPhaseMade, IsSeenClean, IsSome, IsTakenOut}
+use Rattle.vm_evict.proofs.Prelude.{IsUnderWay, IsWaiting, IsWhole, IsWriteFailed, IsWriting, KnowsStage, last_of, LeavesAll, LeavesRest, length, List}
+use Rattle.vm_evict.proofs.Prelude.{MayBeginPhase, MayEnd, Moves, None, Note, note_at, once-front, Origin, owning_seat, Phase, reads-then, ReadsAsBefore}
+use Rattle.vm_evict.proofs.Prelude.{refl, Release, release_at, Rests, rules, runs-then, RunsAlone, Seat, slice_set, Some, Stage, stage_at, starts-then}
+use Rattle.vm_evict.proofs.Prelude.{StaysHome, still-alone, subst, sym, Tie, Translation, true, version_of, View, word_of, writing_seat, written-front, ℕ}
+use Rattle.vm_evict.proofs.Prelude.{⊎_elim, ◌++◌, ◌+◌, ◌<◌, ◌∙◌, ◌∷◌, ◌≡◌, ◌≢◌, ◌≤◌, ◌⊎◌}
 use Rattle.vm_rule.specs.declared.view.Place.TheVariants as places
 use Rattle.vm_evict.proofs.Evidenced.{dirty-front, each-else, holds-same, locks-front, out-front, rests-on, saved-front, shared-front, step-front}
 
@@ -51,9 +51,6 @@ module _ {X : Type 0} (phase : Phase) (c : ℕ × ℕ) (more : List Did) (x y : 
   taken seat locks h =
       taken-on q c.0 word seat seat more v x y h m.leaves (m.leaves.last q ne (subst (λ (s : Seat). IsLocking s) (sym h.now) locks)) (m.leaves.seats q ne ∙ h.now)
       (subst (λ (k : Held). k.fault ≡ k.block.count) (sym (m.leaves.held q ne)) h.told)
-
-  clean-on : IsCleanAt q x → IsCleanAt q y
-  clean-on h = (h.0, ap (λ (k : Held). k.mapping) (m.leaves.held q ne) ∙ h.1)
 
   writing : (written : Bool) → IsWriting q word written done v x → IsWriting q word written (done ++ more) v y
   writing written h = record {
@@ -117,7 +114,7 @@ module _ {X : Type 0} (phase : Phase) (c : ℕ × ℕ) (more : List Did) (x y : 
   pub stays : (s : Stage) → IsAt (q, word) s done v x → IsAt (q, word) s (done ++ more) v y
   stays stages.Waiting h = waiting h
   stays stages.Clean h = seen h
-  stays (stages.Shared written) h = (writing written h.0, clean-on h.1)
+  stays (stages.Shared written) h = (writing written h.0, (h.1.0, ap (λ (k : Held). k.mapping) (m.leaves.held q ne) ∙ h.1.1))
   stays (stages.Owned written) h = (h.0, owning h.0 written h.1)
   stays (stages.Emptied frame written) h = emptied frame written h
   stays (stages.Freed frame written) h = (freed frame written h.0, rests h.1)
@@ -186,12 +183,6 @@ module _ {X : Type 0} (phase : Phase) (list : List (ℕ × ℕ)) (apart : AreApa
         comes-last more (give (candidate_at list j) (stage_at ends j))
         (⊎_elim (λ e. inl e) (λ e. inr (none (candidate_at list j) (stage_at ends j) (subst (λ (k : Phase). MayBeginPhase k (stage_at ends j)) e (later j up b)))) adds.when)
 
-    noted-now : gathered note_at (length list) list new ≡ gathered note_at (length list) list ends ++ a.notes
-    noted-now = gathered-set note_at list (length list) ends i s a.notes below long a.notes_are.is (at-last phases.Save a.notes note_at a.notes_are begin-note)
-
-    frames-now : gathered frame_at (length list) list new ≡ gathered frame_at (length list) list ends ++ a.frames
-    frames-now = gathered-set frame_at list (length list) ends i s a.frames below long a.frames_are.is (at-last phases.Empty a.frames frame_at a.frames_are begin-frame)
-
     released-now : (last_of x c.0).words ≡ (last_of v c.0).words → gathered (release_at v) (length list) list new ≡ gathered (release_at v) (length list) list ends ++ a.own
     released-now e =
         let adds : Adds (release_at v c) phase phases.Leave (stage_at ends i) s a.own
@@ -224,6 +215,8 @@ module _ {X : Type 0} (phase : Phase) (list : List (ℕ × ℕ)) (apart : AreApa
     pub under-way : IsUnderWay list new all v y
     under-way =
         let leaves = all-then list c.0 (has-page list i below) done a.more v x y h.leaves a.moves.leaves in
+        let noted-now = gathered-set note_at list (length list) ends i s a.notes below long a.notes_are.is (at-last phases.Save a.notes note_at a.notes_are begin-note) in
+        let frames-now = gathered-set frame_at list (length list) ends i s a.frames below long a.frames_are.is (at-last phases.Empty a.frames frame_at a.frames_are begin-frame) in
         let noted : y.notes ≡ v.notes ++ gathered note_at (length list) list new = a.noted ∙ ap (λ (l : List Note). l ++ a.notes) h.noted ∙ append_assoc v.notes (gathered note_at (length list) list ends) a.notes ∙ ap (λ (l : List Note). v.notes ++ l) (sym noted-now) in
         let frames = subst (λ (l : List ℕ). FramesCome l v y) (sym frames-now) (come-then (gathered frame_at (length list) list ends) a.frames v x y h.leaves.start h.frames a.come) in
         search (rules, leaves, h.none, a.moves.home h.home, each-now, runs-now, alone-then v x y h.leaves.parts h.alone a.alone, noted, frames, known-now)

@@ -22,7 +22,7 @@ pub use Rattle.vm_rule.proofs.WordFacts.{mapping-clean, version-within, word-mad
 pub use Rattle.vm_rule_laws.specs.Standing.{mapping_in, PageStands, state_in}
 pub use Rattle.vm_step.specs.{declared.choice.Looks.Looks, declared.took.Took.TheVariants.Lost, declared.took.Took.TheVariants.Taken, steps.Owner.OwnerTold}
 pub use Rattle.vm_step.specs.Prelude.{candidate_pages, Did, first_or, GoesOnce, HasGiven, HasWritten, HoldsPage, IsAlone, IsAsideOf, IsCalledOnce, IsCandidate}
-pub use Rattle.vm_step.specs.Prelude.{IsHeld, IsLost, IsNotOut, IsOfPage, IsReady, IsSamePass, IsToldOf, KeepsFrames, known_word_at, KnowsAsBefore, LeavesLast}
+pub use Rattle.vm_step.specs.Prelude.{IsHeld, IsLost, IsOfPage, IsReady, IsSamePass, IsToldOf, KeepsFrames, known_word_at, KnowsAsBefore, LeavesLast}
 pub use Rattle.vm_step.specs.Prelude.{LeavesRest, MayRaise, MayTakeOut, MayUnshare, Note, Origin, ReadsAsBefore, Release, RunsAlone, StaysHome, Tie}
 pub use Rattle.vm_step.specs.Prelude.{Translation, View, view, Works, WritesNone}
 pub use Rattle.vm_step.proofs.{After.knows-after, Alone.runs-one, Alone.runs-self, Alone.runs-then, Alone.stays-alone, Alone.still-alone, Asides.reads-then}

@@ -42,14 +42,11 @@ module _ {X : Type 0} (tied : Start → ℕ → List ℕ → ℕ → List ℕ �
   abbrev left : ReadIs
   left = left_at found (seat_of x p).reading
 
-  look-quiet : Quietly phases.Save (p, word) (look-did ∷ []) x a
-  look-quiet = quiet-one p phases.Save word (look-others look (λ q. q ≡ p) refl) (look-own look) [] (ap (λ (y : View X). y.translations) look.brings.view) (writes (reads (inl refl) refl refl))
-
-  load-quiet : Quietly phases.Save (p, word) (load-did ∷ []) a b
-  load-quiet = quiet-one p phases.Save word (tload-others load (λ q. q ≡ p) refl) (tload-own load) (translation_of p t (seat_of a p).reading) (ap (λ (y : View X). y.translations) load.brings.view) (writes (reads (inl refl) refl refl))
-
   pub looked : Quietly phases.Save (p, word) (look-did ∷ load-did ∷ []) x b
-  looked = quietly-then phases.Save (p, word) (look-did ∷ []) (load-did ∷ []) x a b look-quiet load-quiet
+  looked =
+      let look-quiet = quiet-one p phases.Save word (look-others look (λ q. q ≡ p) refl) (look-own look) [] (ap (λ (y : View X). y.translations) look.brings.view) (writes (reads (inl refl) refl refl)) in
+      let load-quiet = quiet-one p phases.Save word (tload-others load (λ q. q ≡ p) refl) (tload-own load) (translation_of p t (seat_of a p).reading) (ap (λ (y : View X). y.translations) load.brings.view) (writes (reads (inl refl) refl refl)) in
+      quietly-then phases.Save (p, word) (look-did ∷ []) (load-did ∷ []) x a b look-quiet load-quiet
 
   -- the page waits on
   pub waits-on : IsWaiting p (done ++ look-did ∷ load-did ∷ []) v b

@@ -134,9 +134,6 @@ module _ {X : Type 0} (p f : ℕ) (v0 v : View X) (x : IsFoundToWrite p f v0 v) 
   pub may-take-out : MayTakeOut v p
   may-take-out = record { calls = or_right (seat_of v p).exclusive (seat_of v p).writing (ap (λ (s : Seat). s.writing) seat-is); none = loaded.home }
 
-  reads-frame : frame_read_by v p ≡ Some f
-  reads-frame = ap (λ (s : Seat). frame-by s (held_at v p)) seat-is ∙ ap (λ (m : Option Mapping). frame-by writing_seat (record (held_at v p) { mapping = m })) stands
-
   module _ (old : Stored) (a : View X) (o : OutTold p old v a) where
     abbrev out-did : List Did
     out-did = two-loads p o.first o.second
@@ -145,7 +142,7 @@ module _ {X : Type 0} (p f : ℕ) (v0 v : View X) (x : IsFoundToWrite p f v0 v) 
     gone = goes-out p old v a o
 
     pub copies-frame : frame_read_by a p ≡ Some f
-    copies-frame = reads-same p v a gone.works.seat gone.known ∙ reads-frame
+    copies-frame = reads-same p v a gone.works.seat gone.known ∙ ap (λ (s : Seat). frame-by s (held_at v p)) seat-is ∙ ap (λ (m : Option Mapping). frame-by writing_seat (record (held_at v p) { mapping = m })) stands
 
     pub copies-shared : (1 ≤ (seat_of a p).shares) × ((seat_of a p).reading ≡ None)
     copies-shared = (subst (λ (s : Seat). 1 ≤ s.shares) (sym gone.works.seat) shares, ap (λ (s : Seat). s.reading) gone.works.seat ∙ ap (λ (s : Seat). s.reading) seat-is)
@@ -292,9 +289,6 @@ module _ {X : Type 0} (p f : ℕ) (v0 v : View X) (x : IsFoundToWrite p f v0 v) 
               abbrev raise-did : Did
               raise-did = did_store (places.Fault p) n
 
-              held-raised : held_at w p ≡ record held-called { fault = n }
-              held-raised = raise-held t ∙ ap (λ (h : Held). record h { fault = n }) held-is
-
               count : new.count ≡ count_more old.count
               count = write.count ∙ ap (λ (y : Result (Unit {0}) E). if is_ok y then old.count else count_more old.count) err
 
@@ -320,7 +314,7 @@ module _ {X : Type 0} (p f : ℕ) (v0 v : View X) (x : IsFoundToWrite p f v0 v) 
               refused = record {
                 done = load-of ∷ (called-did ++ raise-did ∷ []);
                 locked =
-                    locked-end raise-did w (raise-works t) (raises n refl) (ap (λ (y : View X). y.translations) t.brings.view) (subst (λ (h : Held). h.fault ≡ h.block.count) (sym held-raised) is)
+                    locked-end raise-did w (raise-works t) (raises n refl) (ap (λ (y : View X). y.translations) t.brings.view) (subst (λ (h : Held). h.fault ≡ h.block.count) (sym (raise-held t ∙ ap (λ (h : Held). record h { fault = n }) held-is)) is)
                     (ap (λ (y : View X). y.out) t.brings.view) (ap (λ (y : View X). y.frames) t.brings.view, ap (λ (y : View X). y.contents) t.brings.view);
                 frame = f;
                 dirty = found-dirty (called-did ++ raise-did ∷ []);
