@@ -47,7 +47,7 @@ module _ {X : Type 0} where
     worn : (home cap before after q : ℕ) (old new : List ℕ) → IsBring home cap p old new before after v w (brings.Worn q) → fault ≡ faults.Worn q → IsBringFault p fault v w
 
   -- page p was to be brought, once, and the answer names no fault
-  pub record IsFetched (p : ℕ) (v w : View X) : Type 0 where
+  pub record IsNoBringFault (p : ℕ) (v w : View X) : Type 0 where
     pub home : ℕ
     pub cap : ℕ
     pub old : List ℕ

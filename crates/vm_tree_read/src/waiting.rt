@@ -2,7 +2,7 @@
 ghost use Rattle.std.specs.Prelude.{◌<◌, ◌≡◌, ◌≤◌, IfErr, IfOk, None};
 ghost use Rattle.vm_map.specs.declared.call.Call.TheVariants.{Get, Window as ForWindow};
 ghost use Rattle.vm_step.specs.Prelude.{AreHeld, IsReady, IsSamePass, view};
-ghost use Rattle.vm_tree_read.specs.Waiting.{IsBringFault, IsFaulted, IsFetched, IsReplied, LosesNone, NamesFault, NamesNone, Waits};
+ghost use Rattle.vm_tree_read.specs.Waiting.{IsBringFault, IsFaulted, IsNoBringFault, IsReplied, LosesNone, NamesFault, NamesNone, Waits};
 
 use crate::read::{TryRead, look_up, try_window};
 use crossbeam_utils::Backoff;
@@ -53,7 +53,7 @@ pub fn fetch<B: Block>(
     ensures iface { (iface.new.home ≡ iface.old.home) × (iface.new.cap ≡ iface.old.cap) }
     ensures lost { LosesNone iface.old.frames (view pass.old) iface.new.frames (view pass.new) }
     ensures waits { Waits (view pass.old) (view pass.new) }
-    ensures ok { IfOk result (λ _. IsFetched pid (view pass.old) (view pass.new)) }
+    ensures ok { IfOk result (λ _. IsNoBringFault pid (view pass.old) (view pass.new)) }
     ensures err { IfErr result (λ fault. IsBringFault pid fault (view pass.old) (view pass.new)) }
 {
     let answer = pool.bring(pass, iface, pid);
