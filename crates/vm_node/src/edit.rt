@@ -54,18 +54,19 @@ impl Edit {
         }
     }
 
-    /// Makes the edit, word by word.
-    pub fn make(&self, page: &mut PageBuf)
+    /// Makes it.
+    pub(crate) fn make(&self, page: &mut PageBuf)
         ensures { page.new ≡ edited page.old self.now }
     {
-        for step in 0..WORDS {
-            // A pair that moves up is written before the one below it, and one that moves down before the one above it.
-            let i = match self {
-                Edit::Out { .. } => step,
-                _ => WORDS - 1 - step,
-            };
-            let word = self.word(page, i);
-            page.set(i, word);
+        match *self {
+            Edit::Over { at, value } => make_over(page, at, value),
+            Edit::Into {
+                at,
+                count,
+                key,
+                value,
+            } => make_into(page, at, count, key, value),
+            Edit::Out { at, count } => make_out(page, at, count),
         }
     }
 }
@@ -162,5 +163,36 @@ fn word_out(page: &PageBuf, at: usize, count: usize, i: usize) -> u64
         0
     } else {
         page.get(i)
+    }
+}
+
+// Writes the value over.
+fn make_over(page: &mut PageBuf, at: usize, value: u64)
+    ensures { page.new ≡ edited page.old (Edit.Over at value) }
+{
+    for i in 0..WORDS {
+        let word = word_over(page, at, value, i);
+        page.set(i, word);
+    }
+}
+
+// Puts the pair in; the words that move up are written from the last one down.
+fn make_into(page: &mut PageBuf, at: usize, count: usize, key: u64, value: u64)
+    ensures { page.new ≡ edited page.old (Edit.Into at count key value) }
+{
+    for done in 0..WORDS {
+        let i = WORDS - 1 - done;
+        let word = word_into(page, at, count, key, value, i);
+        page.set(i, word);
+    }
+}
+
+// Takes the pair out; the words that move down are written from the first one up.
+fn make_out(page: &mut PageBuf, at: usize, count: usize)
+    ensures { page.new ≡ edited page.old (Edit.Out at count) }
+{
+    for i in 0..WORDS {
+        let word = word_out(page, at, count, i);
+        page.set(i, word);
     }
 }
