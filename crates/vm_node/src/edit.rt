@@ -1,6 +1,6 @@
 //! Edits of a leaf's pairs, found in the page as it is: what each word becomes is told before any is written.
 
-ghost use Rattle.std.specs.Prelude.{◌≡◌, ℕ, ◌<◌, IfOk, IfSome, OnErr, MatchResult};
+ghost use Rattle.std.specs.Prelude.{◌*◌, ◌+◌, ◌&&◌, ◌<◌, ◌≡◌, false, IfOk, IfSome, List, MatchResult, min, nat_lt, not, OnErr, slice_index, ℕ};
 ghost use Rattle.std.specs.Option.{option_map};
 ghost use Rattle.vm_map.specs.Map.{Rises, lookup_at, del_pair};
 ghost use Rattle.vm_tree_model.specs.Node.{Covers};
@@ -51,6 +51,20 @@ impl Edit {
                 value,
             } => word_into(page, at, count, key, value, i),
             Edit::Out { at, count } => word_out(page, at, count, i),
+        }
+    }
+
+    /// Whether word `i` may be another afterwards, for `i` from 0 to 63: the count, or a word of a pair that is changed or moved.
+    pub fn touches(&self, i: usize) -> bool
+        requires { i < WORDS }
+        ensures { result ≡ false → (words : List ℕ) → edited_word words self.now i ≡ slice_index words i }
+    {
+        match *self {
+            Edit::Over { at, .. } => i == 9 + 2 * at.min(MOST_PAIRS),
+            Edit::Into { at, count, .. } => {
+                i == 1 || is_among(i, at, 10 + 2 * count.max(at).min(MOST_PAIRS))
+            }
+            Edit::Out { at, count } => i == 1 || is_among(i, at, 8 + 2 * count.min(MOST_PAIRS)),
         }
     }
 
@@ -111,6 +125,13 @@ pub fn del_edit(page: &PageBuf, key: u64) -> Option<(u64, Edit)>
     };
     let count = count_of(page);
     Some((value_at(page, at), Edit::Out { at, count }))
+}
+
+// Whether the word is one from this place's pair on, before the end.
+fn is_among(i: usize, at: usize, end: usize) -> bool
+    ensures { result ≡ (not (nat_lt i (8 + 2 * min at MOST_PAIRS)) && nat_lt i end) }
+{
+    8 + 2 * at.min(MOST_PAIRS) <= i && i < end
 }
 
 // The value at the place is written over.
