@@ -39,15 +39,16 @@ impl Wanted for PageBuf {
 }
 
 /// A page as an edit of it leaves it.
+#[derive(Drop)]
 pub struct Edited<'a> {
     pub page: &'a PageBuf,
     pub edit: Edit,
 }
 
 impl Wanted for Edited<'_> {
-    ghost words = { λ e. edited e.page e.edit };
+    ghost words = { λ e. edited e.page.now e.edit };
 
-    ghost made_of = { λ e before. e.page ≡ before };
+    ghost made_of = { λ e before. e.page.now ≡ before };
 
     fn change(&self, i: usize) -> Option<u64> {
         if self.edit.touches(i) {

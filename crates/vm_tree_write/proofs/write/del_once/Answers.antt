@@ -1,7 +1,6 @@
-use Rattle.std.proofs.Common.{◌∙◌, ap, List, refl, Some, subst, sym, ℕ}
+use Rattle.std.proofs.Common.{◌∙◌, ap, option_map, refl, Some, sym}
 use Rattle.std.proofs.lemmas.Bool.{false≢true}
-use Rattle.vm_map.specs.Map.{del_pair, lookup_at, Rises}
-use Rattle.vm_tree_model.specs.{Edits.IsLeafWith, Page.IsLeaf, Page.pairs_of}
+use Rattle.vm_node.specs.Edited.{edited}
 use Rattle.vm_step.specs.Prelude.{view}
 use Rattle.vm_guard.specs.Guards.{placed}
 use Rattle.vm_tree_read.proofs.Answering.{reply-whole}

@@ -1,8 +1,6 @@
-use Rattle.std.proofs.Common.{◌∙◌, ◌≡◌, length, List, subst, sym, ℕ}
+use Rattle.std.proofs.Common.{◌∙◌}
 use Rattle.std.proofs.lemmas.Bool.{false≢true}
-use Rattle.vm_map.specs.declared.window.TheConstants.{MOST_PAIRS}
-use Rattle.vm_tree_model.specs.{Edits.IsFullFor, Edits.PutsInLeaf, Node.Covers}
-use Rattle.vm_tree_model.specs.Page.{IsLeaf, node_of, pairs_of}
+use Rattle.vm_node.specs.Edited.{edited}
 use Rattle.vm_step.specs.Prelude.{view}
 use Rattle.vm_tree_laws.specs.Tied.{Tied}
 use Rattle.vm_tree_rule.proofs.{Readings.valid-reads, Surely.known-at, Surely.resident-same}
