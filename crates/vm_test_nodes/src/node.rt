@@ -50,7 +50,11 @@ fn is_covered(rt: &impl Abort, page: &PageBuf, key: u64, covered: bool) {
 fn edited_words(page: &PageBuf, edit: &Edit) -> [u64; 64] {
     let mut words = [0; 64];
     for i in 0..64 {
-        words[i] = edit.word(page, i);
+        words[i] = if edit.touches(i) {
+            edit.word(page, i)
+        } else {
+            page.get(i)
+        };
     }
     words
 }
