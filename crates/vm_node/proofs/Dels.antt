@@ -1,7 +1,7 @@
 -- A del leaves the node without the pair.
-use Rattle.std.proofs.Common.{◌≡◌, ℕ, suc, ◌+◌, ◌-◌, ◌*◌, ◌<◌, ◌≤◌, ◌⊎◌, List, ◌++◌, length, get_or, set, take, drop, min, None, sym, ap, ◌∙◌, subst, arith, length-set, get_or-set_other, get_or-set_same, inl, inr}
+use Rattle.std.proofs.Common.{◌≡◌, ◌≢◌, ℕ, suc, ◌+◌, ◌-◌, ◌*◌, ◌<◌, ◌≤◌, ◌⊎◌, List, ◌++◌, length, get_or, take, drop, min, None, sym, ap, ◌∙◌, subst, arith, inl, inr}
 use Rattle.std.proofs.lemmas.Bool.{cases_lt}
-use Rattle.std.proofs.lemmas.List.{take-take, drop-take, drop-set-lt}
+use Rattle.std.proofs.lemmas.List.{take-take, drop-take}
 use Rattle.std.proofs.Math.Seq.{take-add}
 use Rattle.vm_map.specs.Map.{Pairs, lookup_at, del_pair}
 use Rattle.vm_tree_model.specs.Page.{places, pairs_of, node_of, IsClean}
@@ -11,23 +11,21 @@ use Rattle.vm_node.specs.Takes.{TakesPair}
 use Rattle.vm_node.proofs.Indexes.{del-index, no_key-del}
 use Rattle.vm_node.proofs.Puts.{node_with, clean_with}
 
--- the words after the pair at `at` left
+-- the page after the pair at `at` left
 pub record IsShiftedOut (old new : List ℕ) (at n : ℕ) : Type 0 where
   pub old_length : length old ≡ 64
   pub new_length : length new ≡ 64
   pub count : n ≡ min (get_or old 1 0) 28
   pub place : at < n
-  pub below : (k : ℕ) → k < 8 + 2 * at → get_or new k 0 ≡ get_or old k 0
+  pub fewer : get_or new 1 0 ≡ n - 1
+  pub below : (k : ℕ) → k ≢ 1 → k < 8 + 2 * at → get_or new k 0 ≡ get_or old k 0
   pub moved : (k : ℕ) → 8 + 2 * at ≤ k → k < 6 + 2 * n → get_or new k 0 ≡ get_or old (k + 2) 0
   pub zero_above : (k : ℕ) → 6 + 2 * n ≤ k → k < 8 + 2 * n → get_or new k 0 ≡ 0
   pub rest : (k : ℕ) → 8 + 2 * n ≤ k → get_or new k 0 ≡ get_or old k 0
 
 module _ (old new : List ℕ) (at n key : ℕ) (s : IsShiftedOut old new at n) (is : at ≡ index_at (pairs_of old) key) where
-  after : List ℕ
-  after = set new 1 (n - 1)
-
   front : take at (places new) ≡ take at (places old)
-  front = places_same new old 0 0 at s.new_length s.old_length (omega (arith, s.place, s.count)) (omega (arith, s.place, s.count)) (λ k lt. s.below (8 + k) (omega arith))
+  front = places_same new old 0 0 at s.new_length s.old_length (omega (arith, s.place, s.count)) (omega (arith, s.place, s.count)) (λ k lt. s.below (8 + k) (omega arith) (omega arith))
 
   back : take (n - suc at) (drop at (places new)) ≡ take (n - suc at) (drop (suc at) (places old))
   back = places_same new old at (suc at) (n - suc at) s.new_length s.old_length (omega (arith, s.place, s.count)) (omega (arith, s.place, s.count))
@@ -45,33 +43,26 @@ module _ (old new : List ℕ) (at n key : ℕ) (s : IsShiftedOut old new at n) (
       let joined : take at (pairs_of old) ++ drop (suc at) (pairs_of old) ≡ del_pair (pairs_of old) key = subst (λ m. take m (pairs_of old) ++ drop (suc m) (pairs_of old) ≡ del_pair (pairs_of old) key) (sym is) gone in
       parts ∙ rw (front, back) (rw (← first, ← second) joined)
 
-  pub del_pairs_are : pairs_of (set new 1 (n - 1)) ≡ del_pair (pairs_of old) key
-  del_pairs_are =
-      let count : get_or (set new 1 (n - 1)) 1 0 ≡ n - 1 = get_or-set_same new 1 (n - 1) 0 (omega (arith, s.new_length)) in
-      let least : min (n - 1) 28 ≡ n - 1 = omega (arith, s.count) in
-      let kept : drop 8 (set new 1 (n - 1)) ≡ drop 8 new = drop-set-lt 8 new 1 (n - 1) (omega arith) in
-      rw (count, least, kept) left
+  del_pairs_are : pairs_of new ≡ del_pair (pairs_of old) key
+  del_pairs_are = let least : min (n - 1) 28 ≡ n - 1 = omega (arith, s.count) in rw (s.fewer, least) left
 
-  pub del_takes : TakesPair old (set new 1 (n - 1)) key
+  pub del_takes : TakesPair old new key
   del_takes = record {
     node = node_with _ _ _ tag header del_pairs_are;
     clean = λ clean. clean_with _ _ clean (record {
-      length = length-set new 1 (n - 1) ∙ s.new_length;
+      length = s.new_length;
       tag = tag;
-      count = rw counted (omega (arith, s.count));
+      count = rw s.fewer (omega (arith, s.count));
       header = header;
-      rest = λ i le. let le' = rw counted at le in get_or-set_other new 1 i (n - 1) 0 (omega arith) ∙ zero_at clean i (cases_lt i (8 + 2 * n)) (omega (arith, s.place));
+      rest = λ i le. let le' = rw s.fewer at le in zero_at clean i (cases_lt i (8 + 2 * n)) (omega (arith, s.place));
     });
   }
     where
-      counted : get_or (set new 1 (n - 1)) 1 0 ≡ n - 1
-      counted = get_or-set_same new 1 (n - 1) 0 (omega (arith, s.new_length))
+      tag : get_or new 0 0 ≡ get_or old 0 0
+      tag = s.below 0 (omega arith) (omega arith)
 
-      tag : get_or (set new 1 (n - 1)) 0 0 ≡ get_or old 0 0
-      tag = get_or-set_other new 1 0 (n - 1) 0 (omega arith) ∙ s.below 0 (omega arith)
-
-      header : (i : ℕ) → 2 ≤ i → i < 8 → get_or (set new 1 (n - 1)) i 0 ≡ get_or old i 0
-      header i ge lt = get_or-set_other new 1 i (n - 1) 0 (omega arith) ∙ s.below i (omega arith)
+      header : (i : ℕ) → 2 ≤ i → i < 8 → get_or new i 0 ≡ get_or old i 0
+      header i ge lt = s.below i (omega arith) (omega arith)
 
       zero_at : IsClean old → (i : ℕ) → (i < 8 + 2 * n) ⊎ (8 + 2 * n ≤ i) → 6 + 2 * n ≤ i → get_or new i 0 ≡ 0
       zero_at clean i (inl lt) ge = s.zero_above i ge lt

@@ -1,9 +1,10 @@
 pub mod PlaceLemmas
-pub mod Shifts
 pub mod Indexes
 pub mod Bounds
 pub mod Puts
 pub mod Dels
+pub mod Editing
+pub mod Making
 pub mod CutPairs
 pub mod Leaves
 mod WindowSteps

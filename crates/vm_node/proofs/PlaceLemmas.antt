@@ -1,5 +1,5 @@
--- Where a key stands among pairs, and what an edit there does.
-use Rattle.std.proofs.Common.{◌≡◌, ℕ, zero, suc, ◌+◌, ◌<◌, ◌≤◌, ◌≢◌, [], ◌∷◌, length, get_or, set, take, Some, None, refl, ap, arith, ltb, eqb, true, false, inl, inr}
+-- Where a key stands among pairs, and what a put there does.
+use Rattle.std.proofs.Common.{◌≡◌, ℕ, ◌+◌, ◌<◌, ◌≢◌, [], ◌∷◌, length, get_or, set, Some, None, refl, ap, arith, ltb, eqb, true, false, inl, inr}
 use Rattle.std.proofs.lemmas.Bool.{cases_lt}
 use Rattle.std.proofs.lemmas.Bool.Decides.{nat_tests}
 use Rattle.std.specs.List.{insert}
@@ -50,15 +50,3 @@ lookup-place (e ∷ es) k lt same = grind (arith, nat_tests, lookup-place es k)
 pub lookup-no_place : (m : Pairs) (low high k : ℕ) → Rises low high m → (place_of m k < length m → (get_or m (place_of m k) (0, 0)).0 ≢ k) → lookup_at m k ≡ None
 lookup-no_place [] low high k r other = refl
 lookup-no_place (e ∷ es) low high k r other = grind (arith, nat_tests, other, lookup-below es (e.0 + 1) high k r.2, lookup-no_place es (e.0 + 1) high k r.2)
-
--- one step of a shift: the pair that stood at j is carried on
-pub insert_carry : (m : Pairs) (j : ℕ) (x : ℕ × ℕ) → j < length m → insert (set m j x) (suc j) (get_or m j (0, 0)) ≡ insert m j x
-insert_carry [] j x lt = absurd (omega arith)
-insert_carry (e ∷ es) zero x lt = refl
-insert_carry (e ∷ es) (suc j) x lt = ap (λ (l : Pairs). e ∷ l) (insert_carry es j x (omega arith))
-
-pub take-insert : (m : Pairs) (n j : ℕ) (x : ℕ × ℕ) → j ≤ n → n ≤ length m → take (suc n) (insert m j x) ≡ insert (take n m) j x
-take-insert m n zero x le len = refl
-take-insert [] n (suc j) x le len = absurd (omega arith)
-take-insert (e ∷ es) zero (suc j) x le len = absurd (omega arith)
-take-insert (e ∷ es) (suc n) (suc j) x le len = ap (λ (l : Pairs). e ∷ l) (take-insert es n j x (omega arith) (omega arith))

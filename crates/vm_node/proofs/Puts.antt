@@ -1,10 +1,11 @@
 -- A put leaves the node with the pair: over the one that the key had, or with one more.
-use Rattle.std.proofs.Common.{◌≡◌, ℕ, zero, suc, ◌+◌, ◌*◌, ◌<◌, ◌≤◌, ◌≢◌, List, [], ◌∷◌, length, get_or, set, take, drop, min, Some, None, refl, sym, ap, ◌∙◌, subst, arith, length-set, get_or-set_other, get_or-set_same}
-use Rattle.std.proofs.lemmas.List.{set-get_or, drop-set-lt}
+use Rattle.std.proofs.Common.{◌≡◌, ℕ, zero, suc, ◌+◌, ◌-◌, ◌*◌, ◌<◌, ◌≤◌, ◌≢◌, List, [], ◌∷◌, ◌++◌, length, get_or, set, take, drop, min, Some, None, refl, sym, ap, ◌∙◌, subst, arith, length-set, get_or-set_other}
+use Rattle.std.proofs.lemmas.List.{set-get_or, take-take, drop-take}
+use Rattle.std.proofs.Math.Seq.{take-add, drop-cons}
 use Rattle.std.specs.List.{insert}
 use Rattle.vm_map.specs.Map.{Pairs, lookup_at, put_pair, Rises}
 use Rattle.vm_tree_model.specs.Page.{places, pairs_of, node_of, high_of, IsClean}
-use Rattle.vm_tree_model.proofs.PairWords.{length-pairs_of, pairs_of-at, places-set}
+use Rattle.vm_tree_model.proofs.PairWords.{length-places, length-pairs_of, pairs_of-at, places-at, places-set, places_same}
 use Rattle.vm_tree_model.specs.Edits.{AddsPair}
 use Rattle.vm_node.specs.Places.{place_of}
 use Rattle.vm_node.proofs.PlaceLemmas.{put-insert, put-set, lookup-place, lookup-no_place}
@@ -104,32 +105,64 @@ module _ (words : List ℕ) (len : length words ≡ 64) where
       pub absent : (low high : ℕ) → Rises low high (pairs_of words) → lookup_at (pairs_of words) key ≡ None
       absent low high rises = lookup-no_place (pairs_of words) low high key rises not_there
 
-      module _ (shifted : List ℕ) (len' : length shifted ≡ 64) (n : ℕ) (n_is : n ≡ min (get_or words 1 0) 28) (room : n < 28)
-          (after : take (n + 1) (places shifted) ≡ insert (take n (places words)) at (key, value))
-          (header : (i : ℕ) → i < 8 → get_or shifted i 0 ≡ get_or words i 0)
-          (rest : (i : ℕ) → 10 + 2 * n ≤ i → get_or shifted i 0 ≡ get_or words i 0) where
-        pub into_pairs : pairs_of (set shifted 1 (n + 1)) ≡ put_pair (pairs_of words) key value
-        into_pairs =
-            let count : get_or (set shifted 1 (n + 1)) 1 0 ≡ n + 1 = get_or-set_same shifted 1 (n + 1) 0 (omega arith) in
-            let least : min (n + 1) 28 ≡ n + 1 = omega arith in
-            let kept : drop 8 (set shifted 1 (n + 1)) ≡ drop 8 shifted = drop-set-lt 8 shifted 1 (n + 1) (omega arith) in
-            let put : insert (pairs_of words) (place_of (pairs_of words) key) (key, value) ≡ put_pair (pairs_of words) key value = put-insert (pairs_of words) key value not_there in
-            rw (count, least, kept) (after ∙ rw n_is (rw (← is) at put))
+-- the page after a pair went in at `at`
+pub record IsShiftedIn (old new : List ℕ) (at n key value : ℕ) : Type 0 where
+  pub old_length : length old ≡ 64
+  pub new_length : length new ≡ 64
+  pub count : n ≡ min (get_or old 1 0) 28
+  pub place : at ≤ n
+  pub room : n < 28
+  pub more : get_or new 1 0 ≡ n + 1
+  pub below : (k : ℕ) → k ≢ 1 → k < 8 + 2 * at → get_or new k 0 ≡ get_or old k 0
+  pub has_key : get_or new (8 + 2 * at) 0 ≡ key
+  pub has_value : get_or new (9 + 2 * at) 0 ≡ value
+  pub moved : (k : ℕ) → 8 + 2 * at ≤ k → k < 8 + 2 * n → get_or new (k + 2) 0 ≡ get_or old k 0
+  pub rest : (k : ℕ) → 10 + 2 * n ≤ k → get_or new k 0 ≡ get_or old k 0
 
-        into_tag : get_or (set shifted 1 (n + 1)) 0 0 ≡ get_or words 0 0
-        into_tag = get_or-set_other shifted 1 0 (n + 1) 0 (omega arith) ∙ header 0 (omega arith)
+module _ (old new : List ℕ) (at n key value : ℕ) (s : IsShiftedIn old new at n key value) where
+  front : take at (places new) ≡ take at (places old)
+  front = places_same new old 0 0 at s.new_length s.old_length (omega (arith, s.place, s.room)) (omega (arith, s.place, s.room)) (λ k lt. s.below (8 + k) (omega arith) (omega arith))
 
-        into_header : (i : ℕ) → 2 ≤ i → i < 8 → get_or (set shifted 1 (n + 1)) i 0 ≡ get_or words i 0
-        into_header i ge lt = get_or-set_other shifted 1 i (n + 1) 0 (omega arith) ∙ header i lt
+  back : take (n - at) (drop (suc at) (places new)) ≡ take (n - at) (drop at (places old))
+  back = places_same new old (suc at) at (n - at) s.new_length s.old_length (omega (arith, s.place, s.room)) (omega (arith, s.place, s.room))
+      (λ k lt. ap (λ i. get_or new i 0) (omega arith) ∙ s.moved (8 + 2 * at + k) (omega arith) (omega (arith, s.place)))
 
-        into_edit : IsClean words → KeepsHeader words (set shifted 1 (n + 1))
-        into_edit clean = record {
-          length = length-set shifted 1 (n + 1) ∙ len';
-          tag = into_tag;
-          count = rw (get_or-set_same shifted 1 (n + 1) 0 (omega arith)) (omega arith);
-          header = into_header;
-          rest = λ i le. let le' = rw (get_or-set_same shifted 1 (n + 1) 0 (omega arith)) at le in get_or-set_other shifted 1 i (n + 1) 0 (omega arith) ∙ rest i (omega arith) ∙ clean.rest i (omega (arith, n_is, clean.count));
-        }
+  here : get_or (places new) at (0, 0) ≡ (key, value)
+  here = places-at new s.new_length at (omega (arith, s.place, s.room)) ∙ rw (s.has_key, s.has_value) refl
 
-        pub into_node : AddsPair words (set shifted 1 (n + 1)) key value
-        into_node = record { not_full = λ full. omega (arith, full.count, length-pairs_of words len, n_is, room); node = node_with _ _ _ into_tag into_header into_pairs; clean = λ clean. clean_with _ _ clean (into_edit clean) }
+  -- the first n + 1 places are the pairs with the new one in
+  inside : take (n + 1) (places new) ≡ insert (pairs_of old) at (key, value)
+  inside =
+      let count : at + suc (n - at) ≡ n + 1 = omega (arith, s.place) in
+      let whole : at + (n - at) ≡ min (get_or old 1 0) 28 = omega (arith, s.place, s.count) in
+      let behind : drop at (places new) ≡ get_or (places new) at (0, 0) ∷ drop (suc at) (places new) = drop-cons (places new) at (0, 0) (omega (arith, length-places new s.new_length, s.place, s.room)) in
+      let first : take at (pairs_of old) ≡ take at (places old) = take-take at (min (get_or old 1 0) 28) (places old) (omega (arith, s.place, s.count)) in
+      let second : drop at (pairs_of old) ≡ take (n - at) (drop at (places old)) = subst (λ m. drop at (take m (places old)) ≡ take (n - at) (drop at (places old))) whole (drop-take at (n - at) (places old)) in
+      let parts : take (n + 1) (places new) ≡ take at (places new) ++ take (suc (n - at)) (drop at (places new)) = subst (λ m. take m (places new) ≡ take at (places new) ++ take (suc (n - at)) (drop at (places new))) count (take-add at (suc (n - at)) (places new)) in
+      parts ∙ rw (front, behind, here, back) (rw (first, second) refl)
+
+  module _ (is : at ≡ place_of (pairs_of old) key) (other : at < min (get_or old 1 0) 28 → get_or old (8 + 2 * at) 0 ≢ key) where
+    into_pairs : pairs_of new ≡ put_pair (pairs_of old) key value
+    into_pairs =
+        let least : min (n + 1) 28 ≡ n + 1 = omega (arith, s.room) in
+        let put : insert (pairs_of old) (place_of (pairs_of old) key) (key, value) ≡ put_pair (pairs_of old) key value = put-insert (pairs_of old) key value (not_there old s.old_length key value at is other) in
+        rw (s.more, least) (inside ∙ subst (λ m. insert (pairs_of old) m (key, value) ≡ put_pair (pairs_of old) key value) (sym is) put)
+
+    pub into_node : AddsPair old new key value
+    into_node = record {
+      not_full = λ full. omega (arith, full.count, length-pairs_of old s.old_length, s.count, s.room);
+      node = node_with _ _ _ tag header into_pairs;
+      clean = λ clean. clean_with _ _ clean (record {
+        length = s.new_length;
+        tag = tag;
+        count = rw s.more (omega (arith, s.room));
+        header = header;
+        rest = λ i le. let le' = rw s.more at le in s.rest i (omega arith) ∙ clean.rest i (omega (arith, s.count, clean.count));
+      });
+    }
+      where
+        tag : get_or new 0 0 ≡ get_or old 0 0
+        tag = s.below 0 (omega arith) (omega arith)
+
+        header : (i : ℕ) → 2 ≤ i → i < 8 → get_or new i 0 ≡ get_or old i 0
+        header i ge lt = s.below i (omega arith) (omega arith)

@@ -2,3 +2,4 @@ pub mod Places
 pub mod Takes
 pub mod Shows
 pub mod Loads
+pub mod Edited

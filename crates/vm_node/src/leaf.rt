@@ -1,4 +1,4 @@
-//! The calls on a leaf: which keys it answers for, and look-ups and edits of its pairs.
+//! The calls on a leaf: which keys it answers for, look-ups of its pairs, and edits made in a buffer.
 
 ghost use Rattle.std.specs.Prelude.{◌≡◌, ◌≢◌, ℕ, true, false, OnOk, OnErr, IfOk, MatchResult, IfNone};
 ghost use Rattle.vm_map.specs.Map.{Rises, lookup_at, del_pair};
@@ -8,13 +8,10 @@ ghost use Rattle.vm_tree_model.specs.Edits.{IsFullFor, AddsPair, IsRefused, Puts
 ghost use Rattle.vm_node.specs.Loads.{IsAnswer, Tells};
 ghost use Rattle.vm_node.specs.Takes.{TakesPair};
 
+use crate::edit::{del_edit, put_edit};
 use crate::full::Full;
-use crate::pairs::{
-    count_at, count_of, index_of, key_at, lower_bound, lower_bound_at, shift_in, shift_out,
-    value_at,
-};
+use crate::pairs::{count_at, lower_bound_at};
 use crate::place::{Place, in_buffer};
-use vm_map::window::MOST_PAIRS;
 use vm_page::PageBuf;
 
 /// Whether the page has a leaf's tag, from one word loaded.
@@ -84,19 +81,9 @@ pub fn put(page: &mut PageBuf, key: u64, value: u64) -> Result<Option<u64>, Full
     ensures full { IsLeaf page.old → MatchResult result (λ _. ¬ (IsFullFor page.old key)) (λ _. IsFullFor page.old key) }
     ensures leaf { IsLeaf page.old → Covers (node_of page.old) key → IfOk result (PutsInLeaf page.old page.new key value) }
 {
-    let count = count_of(page);
-    let at = lower_bound(page, key);
-    if at < count && key_at(page, at) == key {
-        let was = value_at(page, at);
-        page.set(9 + 2 * at, value);
-        return Ok(Some(was));
-    }
-    if count == MOST_PAIRS {
-        return Err(Full);
-    }
-    shift_in(page, at, count, key, value);
-    page.set(1, count as u64 + 1);
-    Ok(None)
+    let (was, edit) = put_edit(page, key, value)?;
+    edit.make(page);
+    Ok(was)
 }
 
 /// Takes the pair of the key out of any page whose keys rise, and gives its value. Where none is found the page is unchanged.
@@ -106,12 +93,7 @@ pub fn del(page: &mut PageBuf, key: u64) -> Option<u64>
     ensures none { IfNone result (page.new ≡ page.old) }
     ensures leaf { IsLeaf page.old → IsLeafWith page.old page.new (del_pair (pairs_of page.old) key) }
 {
-    let Some(at) = index_of(page, key) else {
-        return None;
-    };
-    let count = count_of(page);
-    let was = value_at(page, at);
-    shift_out(page, at, count);
-    page.set(1, count as u64 - 1);
+    let (was, edit) = del_edit(page, key)?;
+    edit.make(page);
     Some(was)
 }

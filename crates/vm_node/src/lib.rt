@@ -16,6 +16,7 @@
 //! where it stands; what it answers it tells of each page that has them.
 #![tactic(auto)]
 
+mod edit;
 mod full;
 mod halves;
 pub mod header;
@@ -24,6 +25,7 @@ pub mod pairs;
 mod place;
 mod shown;
 
+pub use edit::{Edit, del_edit, put_edit};
 pub use full::Full;
 pub use halves::split;
 pub use leaf::{covers, covers_at, del, find, find_at, is_leaf, is_leaf_at, put};

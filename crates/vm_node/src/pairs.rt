@@ -1,9 +1,8 @@
-//! The pairs of a node, read word by word, searched, and moved to make room for one more or to close a gap.
+//! The pairs of a node, read word by word and searched.
 
-ghost use Rattle.std.specs.Prelude.{◌≡◌, ℕ, ◌+◌, ◌*◌, ◌<◌, ◌≤◌, length, min, take, slice_index, slice_index_or, MatchOption, None};
-ghost use Rattle.std.specs.List.{insert};
+ghost use Rattle.std.specs.Prelude.{◌≡◌, ℕ, ◌+◌, ◌*◌, ◌<◌, ◌≤◌, length, min, slice_index, slice_index_or, MatchOption, None};
 ghost use Rattle.vm_map.specs.Map.{Rises, lookup_at};
-ghost use Rattle.vm_tree_model.specs.Page.{places, pairs_of};
+ghost use Rattle.vm_tree_model.specs.Page.{pairs_of};
 ghost use Rattle.vm_node.specs.Loads.{Tells};
 ghost use Rattle.vm_node.specs.Places.{HasKeyAt, IsBound, IsIndexOf, place_of};
 
@@ -106,49 +105,4 @@ pub(crate) fn index_of(page: &PageBuf, key: u64) -> Option<usize>
     } else {
         None
     }
-}
-
-/// Puts a pair at its place among the first `count`, and moves those from there on up by one.
-pub(crate) fn shift_in(page: &mut PageBuf, at: usize, count: usize, key: u64, value: u64)
-    requires words { length page.old ≡ WORDS }
-    requires place { at ≤ count }
-    requires room { count < MOST_PAIRS }
-    ensures places { take (count + 1) (places page.new) ≡ insert (take count (places page.old)) at (key, value) }
-    ensures header { (i : ℕ) → i < 8 → slice_index page.new i ≡ slice_index page.old i }
-    ensures rest { (i : ℕ) → 10 + 2 * count ≤ i → slice_index page.new i ≡ slice_index page.old i }
-    ensures words { length page.new ≡ WORDS }
-{
-    let mut carried_key = key;
-    let mut carried_value = value;
-    for j in at..count {
-        let next_key = page.get(8 + 2 * j);
-        let next_value = page.get(9 + 2 * j);
-        page.set(8 + 2 * j, carried_key);
-        page.set(9 + 2 * j, carried_value);
-        carried_key = next_key;
-        carried_value = next_value;
-    }
-    page.set(8 + 2 * count, carried_key);
-    page.set(9 + 2 * count, carried_value);
-}
-
-/// Moves the pairs behind a place down by one, over the pair there, and leaves zeros where the last one was.
-pub(crate) fn shift_out(page: &mut PageBuf, at: usize, count: usize)
-    requires words { length page.old ≡ WORDS }
-    requires place { at < count }
-    requires room { count ≤ MOST_PAIRS }
-    ensures below { (k : ℕ) → k < 8 + 2 * at → slice_index page.new k ≡ slice_index page.old k }
-    ensures moved { (k : ℕ) → 8 + 2 * at ≤ k → k < 6 + 2 * count → slice_index page.new k ≡ slice_index page.old (k + 2) }
-    ensures zero { (k : ℕ) → 6 + 2 * count ≤ k → k < 8 + 2 * count → slice_index page.new k ≡ 0 }
-    ensures rest { (k : ℕ) → 8 + 2 * count ≤ k → slice_index page.new k ≡ slice_index page.old k }
-    ensures words { length page.new ≡ WORDS }
-{
-    for j in at + 1..count {
-        let key = page.get(8 + 2 * j);
-        let value = page.get(9 + 2 * j);
-        page.set(6 + 2 * j, key);
-        page.set(7 + 2 * j, value);
-    }
-    page.set(6 + 2 * count, 0);
-    page.set(7 + 2 * count, 0);
 }

@@ -9,8 +9,8 @@ use vm_map::call::Pair;
 use vm_map::window::{Bound, Window};
 use vm_node::pairs::{count_at, count_of, lower_bound_at, upper_bound_at};
 use vm_node::{
-    Full, covers, covers_at, del, find, find_at, in_buffer, is_leaf, is_leaf_at, put, split,
-    window, window_at,
+    Edit, Full, covers, covers_at, del, del_edit, find, find_at, in_buffer, is_leaf, is_leaf_at,
+    put, put_edit, split, window, window_at,
 };
 use vm_page::PageBuf;
 
@@ -44,6 +44,19 @@ fn is_covered(rt: &impl Abort, page: &PageBuf, key: u64, covered: bool) {
     let mut place = none_loaded(page);
     assert_eq!(rt; covers_at(&mut place, key), covered, "at {key}");
     assert!(rt; place.loaded <= 3);
+}
+
+// The words of the page as the edit leaves it.
+fn edited_words(page: &PageBuf, edit: &Edit) -> [u64; 64] {
+    let mut words = [0; 64];
+    for i in 0..64 {
+        words[i] = if edit.touches(i) {
+            edit.word(page, i)
+        } else {
+            page.get(i)
+        };
+    }
+    words
 }
 
 // A window ends and shows this, in a buffer and in place, where two words a pair and nine at most are loaded.
@@ -116,6 +129,57 @@ fn pairs_stand_by_rising_key(rt: HostRuntime) {
     let mut wanted = node_words([2, 2, 0, 0, 1, 0, 0, 0], 0, 0);
     wanted[8..12].copy_from_slice(&[1, 10, 3, 31]);
     assert_eq!(rt; words_of(&page), wanted);
+}
+
+#[test]
+fn an_edit_is_found_and_not_made(rt: HostRuntime) {
+    let mut words = node_words([2, 3, 0, 0, 1, 0, 0, 0], 0, 0);
+    words[8..14].copy_from_slice(&[2, 20, 4, 40, 6, 60]);
+    let page = page_of(words);
+
+    let (was, edit) = put_edit(&page, 4, 41).expect(&rt, "the key is there");
+    assert_eq!(rt; was, Some(40));
+    let mut wanted = words;
+    wanted[11] = 41;
+    assert_eq!(rt; edited_words(&page, &edit), wanted);
+
+    let (was, edit) = put_edit(&page, 3, 30).expect(&rt, "there is room");
+    assert_eq!(rt; was, None);
+    let mut wanted = node_words([2, 4, 0, 0, 1, 0, 0, 0], 0, 0);
+    wanted[8..16].copy_from_slice(&[2, 20, 3, 30, 4, 40, 6, 60]);
+    assert_eq!(rt; edited_words(&page, &edit), wanted);
+
+    let (was, edit) = del_edit(&page, 2).expect(&rt, "the key is there");
+    assert_eq!(rt; was, 20);
+    let mut wanted = node_words([2, 2, 0, 0, 1, 0, 0, 0], 0, 0);
+    wanted[8..12].copy_from_slice(&[4, 40, 6, 60]);
+    assert_eq!(rt; edited_words(&page, &edit), wanted);
+
+    assert!(rt; del_edit(&page, 3).is_none());
+    assert_eq!(rt; words_of(&page), words);
+    let full = page_of(node_words([2, 28, 0, 0, 1, 0, 0, 0], 1, 28));
+    assert!(rt; put_edit(&full, 29, 29).is_err());
+    assert!(rt; put_edit(&full, 28, 0).is_ok());
+}
+
+#[test]
+fn no_edit_reaches_past_the_page(rt: HostRuntime) {
+    let full = page_of(node_words([2, 28, 0, 0, 1, 0, 0, 0], 1, 28));
+    let over = Edit::Over {
+        at: usize::MAX,
+        value: 7,
+    };
+    assert_eq!(rt; edited_words(&full, &over), words_of(&full));
+
+    // A count above 28 is read as 28: the first pair goes out of them, so that the last value moves down.
+    let out = Edit::Out {
+        at: 0,
+        count: usize::MAX,
+    };
+    assert_eq!(rt;
+        edited_words(&full, &out),
+        node_words([2, 27, 0, 0, 1, 0, 0, 0], 2, 27)
+    );
 }
 
 #[test]

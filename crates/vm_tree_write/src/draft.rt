@@ -1,5 +1,6 @@
-// The draft of a locked page becomes a page's words.
-ghost use Rattle.std.specs.Prelude.{◌≡◌, true};
+// The draft of a locked page becomes a page's words: those of a buffer, or of one as an edit leaves it, which needs no second buffer.
+ghost use Rattle.std.specs.Prelude.{◌<◌, ◌≡◌, IfNone, IfSome, length, List, slice_index, true, ℕ};
+ghost use Rattle.vm_node.specs.Edited.{edited};
 ghost use Rattle.vm_rule.specs.Prelude.{draft_of};
 ghost use Rattle.vm_step.specs.Prelude.{IsReady, IsSamePass, view};
 ghost use Rattle.vm_guard.specs.Guards.{IsHolding};
@@ -7,35 +8,83 @@ ghost use Rattle.vm_tree_write.specs.Drafts.{IsRedrafted, KnowsSameStates, SetsD
 
 use vm_block::Block;
 use vm_guard::ExclusiveGuard;
+use vm_node::Edit;
 use vm_owner::Owner;
 use vm_page::{PageBuf, WORDS};
 use vm_rule::words::{Pass, Words};
 
-/// Sets those words of the draft in which `after` is another page than `before`. The draft has the words of `before`, where blocks tell theirs, and
-/// then those of `after`.
-pub fn redraft<U: Owner, B: Block>(
+/// The words that a draft is to have, told word by word.
+pub trait Wanted {
+    ghost words: { Self → List ℕ };
+
+    /// They are made of these.
+    ghost made_of: { Self → List ℕ → Type 0 };
+
+    /// Word `i`, where it may be another than in the words that these are made of.
+    fn change(&self, i: usize) -> Option<u64>
+        requires i { i < WORDS }
+        ensures some { IfSome result (λ word. word ≡ slice_index (words self.now) i) }
+        ensures none { IfNone result ((before : List ℕ) → made_of self.now before → slice_index (words self.now) i ≡ slice_index before i) }
+        ensures size { length (words self.now) ≡ WORDS };
+}
+
+impl Wanted for PageBuf {
+    ghost words = { λ p. p };
+
+    ghost made_of = { λ p before. Unit {0} };
+
+    fn change(&self, i: usize) -> Option<u64> {
+        Some(self.get(i))
+    }
+}
+
+/// A page as an edit of it leaves it.
+#[derive(Drop)]
+pub struct Edited<'a> {
+    pub page: &'a PageBuf,
+    pub edit: Edit,
+}
+
+impl Wanted for Edited<'_> {
+    ghost words = { λ e. edited e.page.now e.edit };
+
+    ghost made_of = { λ e before. e.page.now ≡ before };
+
+    fn change(&self, i: usize) -> Option<u64> {
+        if self.edit.touches(i) {
+            return Some(self.edit.word(self.page, i));
+        }
+        None
+    }
+}
+
+/// Sets those words of the draft in which what is wanted is other than `before`. The draft has the words of `before`, where blocks tell theirs, and
+/// then those wanted.
+pub fn redraft<U: Owner, B: Block, W: Wanted>(
     words: &Words<U, B>,
     pass: &mut Pass<U>,
     guard: &mut ExclusiveGuard,
     before: &PageBuf,
-    after: &PageBuf,
+    after: &W,
 )
     requires ready { IsReady words.now.table.shared.key B.tells words.now.table.shared.table_id pass.old }
     requires holds { IsHolding guard.old.pid guard.old.frame guard.old.version guard.old.dirty (view pass.old) }
     requires draft { (view pass.old).start.tells ≡ true → draft_of (view pass.old) guard.old.pid ≡ before.now }
+    requires made_of { W.made_of after.now before.now }
     ensures pass { IsSamePass pass.old pass.new }
     ensures ready { IsReady words.now.table.shared.key B.tells words.now.table.shared.table_id pass.new }
     ensures holds { IsHolding guard.new.pid guard.new.frame guard.new.version guard.new.dirty (view pass.new) }
     ensures guard { (guard.new.pid ≡ guard.old.pid) × (guard.new.version ≡ guard.old.version) }
-    ensures draft { (view pass.old).start.tells ≡ true → draft_of (view pass.new) guard.old.pid ≡ after.now }
+    ensures draft { (view pass.old).start.tells ≡ true → draft_of (view pass.new) guard.old.pid ≡ W.words after.now }
     ensures redrafted { IsRedrafted guard.old.pid (view pass.old) (view pass.new) }
     ensures known { KnowsSameStates (view pass.old) (view pass.new) }
-    ensures differ { SetsDiffering before.now after.now (view pass.old) (view pass.new) }
+    ensures differ { SetsDiffering before.now (W.words after.now) (view pass.old) (view pass.new) }
 {
     for i in 0..WORDS {
-        let word = after.get(i);
-        if word != before.get(i) {
-            guard.set(words, pass, i, word);
+        if let Some(word) = after.change(i) {
+            if word != before.get(i) {
+                guard.set(words, pass, i, word);
+            }
         }
     }
 }

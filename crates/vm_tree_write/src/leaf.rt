@@ -1,6 +1,7 @@
 // The leaf is locked at the version at which it was read, written, and released with what is said.
 ghost use Rattle.std.specs.Prelude.{◌++◌, ◌≡◌, IfErr, IfOk, length, None};
 ghost use Rattle.vm_tree_model.specs.Page.{IsLeaf, node_of};
+ghost use Rattle.vm_node.specs.Edited.{edited};
 ghost use Rattle.vm_rule.specs.Prelude.{loads_at};
 ghost use Rattle.vm_step.specs.Prelude.{IsReady, IsSamePass, UnlockedExpected, view};
 ghost use Rattle.vm_guard.specs.Denied.{AgainOrWorn, IsDenied, KeptWord};
@@ -9,21 +10,22 @@ ghost use Rattle.vm_tree_laws.specs.May.{IsEdit};
 ghost use Rattle.vm_tree_rule.specs.Resident.{IsKnownNow, KnowsResident};
 ghost use Rattle.vm_tree_write.specs.Writes.{IsWriteDone, SaysWorn};
 
-use crate::draft::redraft;
+use crate::draft::{Edited, redraft};
 use vm_block::Block;
 use vm_guard::{Deny, OptGuard};
 use vm_map::call::Said;
+use vm_node::Edit;
 use vm_page::{PageBuf, WORDS};
 use vm_rule::words::{Pass, Words};
 use vm_tree_rule::Tree;
 
-/// Locks the leaf whose words stand in `before`, makes them those of `after`, and releases it: what is said becomes an entry there.
+/// Locks the leaf whose words stand in `before`, makes the edit, and releases it: what is said becomes an entry there.
 pub fn write_leaf<B: Block>(
     words: &Words<Tree, B>,
     pass: &mut Pass<Tree>,
     guard: OptGuard,
     before: &PageBuf,
-    after: &PageBuf,
+    edit: Edit,
     said: &Said,
 ) -> Result<(), Deny>
     requires ready { IsReady words.now.table.shared.key B.tells words.now.table.shared.table_id pass.old }
@@ -32,7 +34,7 @@ pub fn write_leaf<B: Block>(
     requires size { length before.now ≡ WORDS }
     requires loads { (earlier : _) × (loads_at (view pass.old) guard.pid ≡ earlier ++ placed 0 before.now) }
     requires leaf { (node_of before.now).tag ≡ 2 }
-    requires edit { IsLeaf before.now → IsEdit before.now after.now said.now.call said.now.reply }
+    requires edit { IsLeaf before.now → IsEdit before.now (edited before.now edit) said.now.call said.now.reply }
     ensures pass { IsSamePass pass.old pass.new }
     ensures ready { IsReady words.now.table.shared.key B.tells words.now.table.shared.table_id pass.new }
     ensures ok { IfOk result (λ _. (a : IsWriteDone said.now (view pass.old) (view pass.new)) × (a.old ≡ before.now)) }
@@ -44,7 +46,8 @@ pub fn write_leaf<B: Block>(
         Ok(held) => held,
         Err(deny) => return Err(deny),
     };
-    redraft(words, pass, &mut held, before, after);
+    let after = Edited { page: before, edit };
+    redraft(words, pass, &mut held, before, &after);
     held.release(words, pass, Some(said));
     Ok(())
 }

@@ -11,7 +11,7 @@ use crate::leaf::write_leaf;
 use vm_block::Block;
 use vm_guard::Deny;
 use vm_map::call::{Call, Reply, Said};
-use vm_node::{del, put};
+use vm_node::{del_edit, put_edit};
 use vm_page::PageBuf;
 use vm_rule::words::{Pass, Words};
 use vm_step::Saw;
@@ -93,9 +93,7 @@ pub(crate) fn put_once<B: Block>(
         Ok(guard) => guard,
         Err(turn) => return not_yet(turn),
     };
-    let mut after = PageBuf::zero();
-    after.copy_from(&page);
-    match put(&mut after, key, value) {
+    match put_edit(&page, key, value) {
         Err(_) => {
             let pid = guard.pid;
             match guard.validate_silently(words, pass) {
@@ -103,12 +101,12 @@ pub(crate) fn put_once<B: Block>(
                 Err(saw) => Tried::Again(saw),
             }
         }
-        Ok(was) => {
+        Ok((was, edit)) => {
             let said = Said {
                 call: Call::Put { key, value },
                 reply: Reply::Was(was),
             };
-            match write_leaf(words, pass, guard, &page, &after, &said) {
+            match write_leaf(words, pass, guard, &page, edit, &said) {
                 Ok(()) => Tried::Done(was),
                 Err(deny) => unwritten(deny),
             }
@@ -157,9 +155,7 @@ pub(crate) fn del_once<B: Block>(words: &Words<Tree, B>, pass: &mut Pass<Tree>, 
         Ok(guard) => guard,
         Err(turn) => return not_yet(turn),
     };
-    let mut after = PageBuf::zero();
-    after.copy_from(&page);
-    match del(&mut after, key) {
+    match del_edit(&page, key) {
         None => {
             let said = Said {
                 call: Call::Del { key },
@@ -170,12 +166,12 @@ pub(crate) fn del_once<B: Block>(words: &Words<Tree, B>, pass: &mut Pass<Tree>, 
                 Err(saw) => Tried::Again(saw),
             }
         }
-        Some(was) => {
+        Some((was, edit)) => {
             let said = Said {
                 call: Call::Del { key },
                 reply: Reply::Gone(Some(was)),
             };
-            match write_leaf(words, pass, guard, &page, &after, &said) {
+            match write_leaf(words, pass, guard, &page, edit, &said) {
                 Ok(()) => Tried::Done(Some(was)),
                 Err(deny) => unwritten(deny),
             }

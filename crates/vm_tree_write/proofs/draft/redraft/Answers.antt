@@ -3,7 +3,7 @@ use Rattle.std.proofs.lemmas.Grind.{same_number_lists}
 use Rattle.vm_rule.specs.Prelude.{draft_of}
 use Rattle.vm_step.specs.Prelude.{view}
 use Rattle.vm_guard.specs.Guards.{IsSet}
-use Rattle.vm_tree_write.proofs.draft.redraft.Goals.{else-word-get, then-word-get}
+use Rattle.vm_tree_write.proofs.draft.redraft.Goals.{in-Some+else-word-get, in-Some+then-word-get, in_default}
 use Rattle.vm_tree_write.proofs.draft.redraft.Goals as goal
 use Rattle.vm_tree_write.proofs.Drafting.{differs-more, differs-self, pages-more, pages-self, redrafted-self, same-below, set-above, set-below}
 use Rattle.vm_tree_write.proofs.Drafting.{set-more}
@@ -25,11 +25,11 @@ loop-i-init g c = record {
 pub loop-i-preserved : goal.loop-i-preserved
 loop-i-preserved g c =
     let i = c.loop-i.invariant in
-    let word = c.get-word.ensures.word in
-    elim c.if-word-get.branch [
-      | then-word-get w ↦ rw (w.pass-is, w.guard-is) (
-          let s : IsSet c.args.guard.now.pid c.loop-i.guard.frame c.loop-i.guard.dirty c.loop-i.i c.get-word.result (view c.loop-i.pass) (view w.set.new.pass) =
-          subst (λ (n : ℕ). IsSet n c.loop-i.guard.frame c.loop-i.guard.dirty c.loop-i.i c.get-word.result (view c.loop-i.pass) (view w.set.new.pass)) i.guard.0 w.set.ensures.set in
+    elim c.match-change.branch [
+      | in-Some+then-word-get w ↦ rw (w.pass-is, w.guard-is) (
+          let word = w.in-Some.ensures.some in
+          let s : IsSet c.args.guard.now.pid c.loop-i.guard.frame c.loop-i.guard.dirty c.loop-i.i w.in-Some.word (view c.loop-i.pass) (view w.set.new.pass) =
+          subst (λ (n : ℕ). IsSet n c.loop-i.guard.frame c.loop-i.guard.dirty c.loop-i.i w.in-Some.word (view c.loop-i.pass) (view w.set.new.pass)) i.guard.0 w.set.ensures.set in
           record {
             same = (w.set.ensures.pass.0 ∙ i.same.0, w.set.ensures.pass.1 ∙ i.same.1);
             ready = w.set.ensures.ready;
@@ -37,12 +37,12 @@ loop-i-preserved g c =
             guard = rw w.set.ensures.guard i.guard;
             redrafted = set-more _ _ _ _ _ _ _ _ i.redrafted s;
             known = pages-more _ _ _ _ _ (view c.args.pass.now) (view c.loop-i.pass) _ (subst (λ (n : ℕ). n < (view c.loop-i.pass).start.pages) i.guard.0 i.holds.page) i.holds.frame_is c.loop-i-test.true i.redrafted i.known s;
-            differ = differs-more c.args.before.now c.args.after.now _ _ _ c.loop-i.i c.get-word.result _ _ _ i.differ s word (λ e. w.if-word-get.true (word ∙ sym e ∙ sym c.get.ensures.word));
-            size = λ _. c.get-word.ensures.length;
-            below = λ tells. set-below c.loop-i.i c.get-word.result (draft_of (view c.loop-i.pass) c.args.guard.now.pid) (draft_of (view w.set.new.pass) c.args.guard.now.pid) c.args.after.now (ap (λ (n : ℕ). length (draft_of (view c.loop-i.pass) n)) (sym i.guard.0) ∙ i.holds.size) c.loop-i-test.true s.draft word (i.below tells);
-            above = λ tells. set-above c.loop-i.i c.get-word.result (draft_of (view c.loop-i.pass) c.args.guard.now.pid) (draft_of (view w.set.new.pass) c.args.guard.now.pid) c.args.before.now s.draft (i.above tells);
+            differ = differs-more c.args.before.now (g.W.Wanted.words c.args.after.now) _ _ _ c.loop-i.i w.in-Some.word _ _ _ i.differ s word (λ e. w.if-word-get.true (word ∙ sym e ∙ sym w.get.ensures.word));
+            size = λ _. c.change.ensures.size;
+            below = λ tells. set-below c.loop-i.i w.in-Some.word (draft_of (view c.loop-i.pass) c.args.guard.now.pid) (draft_of (view w.set.new.pass) c.args.guard.now.pid) (g.W.Wanted.words c.args.after.now) (ap (λ (n : ℕ). length (draft_of (view c.loop-i.pass) n)) (sym i.guard.0) ∙ i.holds.size) c.loop-i-test.true s.draft word (i.below tells);
+            above = λ tells. set-above c.loop-i.i w.in-Some.word (draft_of (view c.loop-i.pass) c.args.guard.now.pid) (draft_of (view w.set.new.pass) c.args.guard.now.pid) c.args.before.now s.draft (i.above tells);
           })
-      | else-word-get w ↦ rw (w.pass-is, w.guard-is) record {
+      | in-Some+else-word-get w ↦ rw (w.pass-is, w.guard-is) record {
         same = i.same;
         ready = i.ready;
         holds = i.holds;
@@ -50,8 +50,20 @@ loop-i-preserved g c =
         redrafted = i.redrafted;
         known = i.known;
         differ = i.differ;
-        size = λ _. c.get-word.ensures.length;
-        below = λ tells. same-below c.loop-i.i (draft_of (view c.loop-i.pass) c.args.guard.now.pid) c.args.before.now c.args.after.now (sym word ∙ w.if-word-get.false ∙ c.get.ensures.word) (i.below tells) (i.above tells);
+        size = λ _. c.change.ensures.size;
+        below = λ tells. same-below c.loop-i.i (draft_of (view c.loop-i.pass) c.args.guard.now.pid) c.args.before.now (g.W.Wanted.words c.args.after.now) (sym w.in-Some.ensures.some ∙ w.if-word-get.false ∙ w.get.ensures.word) (i.below tells) (i.above tells);
+        above = λ tells k l. i.above tells k (omega (arith, l));
+      }
+      | in_default w ↦ rw (w.pass-is, w.guard-is) record {
+        same = i.same;
+        ready = i.ready;
+        holds = i.holds;
+        guard = i.guard;
+        redrafted = i.redrafted;
+        known = i.known;
+        differ = i.differ;
+        size = λ _. c.change.ensures.size;
+        below = λ tells. same-below c.loop-i.i (draft_of (view c.loop-i.pass) c.args.guard.now.pid) c.args.before.now (g.W.Wanted.words c.args.after.now) (w.in_default.ensures.none _ c.requires.made_of) (i.below tells) (i.above tells);
         above = λ tells k l. i.above tells k (omega (arith, l));
       }
     ]

@@ -14,8 +14,8 @@ invariant-loop-i g l = record {
   guard : (l.guard.pid ≡ l.fn.guard.pid) × (l.guard.version ≡ l.fn.guard.version);
   redrafted : IsRedrafted l.fn.guard.pid (view l.fn.pass) (view l.pass);
   known : KnowsSameStates (view l.fn.pass) (view l.pass);
-  differ : SetsDiffering l.before l.after (view l.fn.pass) (view l.pass);
-  size : 0 < l.i → length l.after ≡ 64;
-  below : (view l.fn.pass).start.tells ≡ true → (k : ℕ) → k < l.i → slice_index (draft_of (view l.pass) l.fn.guard.pid) k ≡ slice_index l.after k;
+  differ : SetsDiffering l.before (g.W.Wanted.words l.after) (view l.fn.pass) (view l.pass);
+  size : 0 < l.i → length (g.W.Wanted.words l.after) ≡ 64;
+  below : (view l.fn.pass).start.tells ≡ true → (k : ℕ) → k < l.i → slice_index (draft_of (view l.pass) l.fn.guard.pid) k ≡ slice_index (g.W.Wanted.words l.after) k;
   above : (view l.fn.pass).start.tells ≡ true → (k : ℕ) → l.i ≤ k → slice_index (draft_of (view l.pass) l.fn.guard.pid) k ≡ slice_index l.before k;
 }

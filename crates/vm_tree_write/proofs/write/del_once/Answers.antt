@@ -1,7 +1,6 @@
-use Rattle.std.proofs.Common.{◌∙◌, ap, List, refl, Some, subst, sym, ℕ}
+use Rattle.std.proofs.Common.{◌∙◌, ap, option_map, refl, Some, sym}
 use Rattle.std.proofs.lemmas.Bool.{false≢true}
-use Rattle.vm_map.specs.Map.{del_pair, lookup_at, Rises}
-use Rattle.vm_tree_model.specs.{Edits.IsLeafWith, Page.IsLeaf, Page.pairs_of}
+use Rattle.vm_node.specs.Edited.{edited}
 use Rattle.vm_step.specs.Prelude.{view}
 use Rattle.vm_guard.specs.Guards.{placed}
 use Rattle.vm_tree_read.proofs.Answering.{reply-whole}
@@ -12,17 +11,15 @@ pub returns-in-Err-clause-tried : goal.returns-in-Err-clause-tried
 returns-in-Err-clause-tried g c = c.not_yet.ensures.del _ _ _ c.in-Err.ensures.err
 
 pub answer-requires-clause-proves : goal.answer-requires-clause-proves
-answer-requires-clause-proves g c =
-    let same = c.copy_from.ensures.words in (
-      placed 0 c.leaf_of.new.page,
-      c.in-Ok.ensures.loads,
-      reply-whole c.leaf_of.new.page _ c.in-Ok.ensures.size (record {
-        leaf = c.in-Ok.ensures.leaf.0;
-        covers = c.in-Ok.ensures.leaf.1;
-        reply = λ low high rises.
-            (c.in-Ok.ensures.leaf.1, refl, ap (λ (l : List ℕ). lookup_at (pairs_of l) c.args.key) (sym same) ∙ sym (c.del.ensures.was low high (subst (λ (l : List ℕ). Rises low high (pairs_of l)) (sym same) rises)) ∙ c.in-None.is);
-      }),
-    )
+answer-requires-clause-proves g c = (
+  placed 0 c.leaf_of.new.page,
+  c.in-Ok.ensures.loads,
+  reply-whole c.leaf_of.new.page _ c.in-Ok.ensures.size (record {
+    leaf = c.in-Ok.ensures.leaf.0;
+    covers = c.in-Ok.ensures.leaf.1;
+    reply = λ low high rises. (c.in-Ok.ensures.leaf.1, refl, sym (c.del_edit.ensures.was low high rises) ∙ ap (option_map (λ r. r.0)) c.in-None.is);
+  }),
+)
 
 pub returns-in-Ok-answer-clause-tried : goal.returns-in-Ok-answer-clause-tried
 returns-in-Ok-answer-clause-tried g c = del-missed c.args.key _ _ _ c.in-Ok.ensures.reads.0 c.in-Ok-answer.ensures.ok
@@ -35,9 +32,8 @@ write_leaf-requires-clause-home g c = c.in-Ok.ensures.reads.0.0.out ∙ c.requir
 
 pub write_leaf-requires-clause-edit : goal.write_leaf-requires-clause-edit
 write_leaf-requires-clause-edit g c =
-    del-edit c.args.key (Some c.in-Some.was) c.leaf_of.new.page c.del.new.page c.in-Ok.ensures.leaf.1
-    (λ low high rises. sym c.in-Some.is ∙ c.del.ensures.was low high (subst (λ (l : List ℕ). Rises low high (pairs_of l)) (sym c.copy_from.ensures.words) rises) ∙ ap (λ (l : List ℕ). lookup_at (pairs_of l) c.args.key) c.copy_from.ensures.words)
-    (subst (λ (l : List ℕ). IsLeaf l → IsLeafWith l c.del.new.page (del_pair (pairs_of l) c.args.key)) c.copy_from.ensures.words c.del.ensures.leaf)
+    del-edit c.args.key (Some c.in-Some.was) c.leaf_of.new.page (edited c.leaf_of.new.page c.in-Some.edit) c.in-Ok.ensures.leaf.1
+    (λ low high rises. sym (ap (option_map (λ r. r.0)) c.in-Some.is) ∙ c.del_edit.ensures.was low high rises) c.in-Some.ensures.leaf
 
 pub returns-in-Ok-write_leaf-clause-tried : goal.returns-in-Ok-write_leaf-clause-tried
 returns-in-Ok-write_leaf-clause-tried g c =

@@ -1,8 +1,6 @@
-use Rattle.std.proofs.Common.{◌∙◌, ◌≡◌, length, List, subst, sym, ℕ}
+use Rattle.std.proofs.Common.{◌∙◌}
 use Rattle.std.proofs.lemmas.Bool.{false≢true}
-use Rattle.vm_map.specs.declared.window.TheConstants.{MOST_PAIRS}
-use Rattle.vm_tree_model.specs.{Edits.IsFullFor, Edits.PutsInLeaf, Node.Covers}
-use Rattle.vm_tree_model.specs.Page.{IsLeaf, node_of, pairs_of}
+use Rattle.vm_node.specs.Edited.{edited}
 use Rattle.vm_step.specs.Prelude.{view}
 use Rattle.vm_tree_laws.specs.Tied.{Tied}
 use Rattle.vm_tree_rule.proofs.{Readings.valid-reads, Surely.known-at, Surely.resident-same}
@@ -15,9 +13,7 @@ returns-in-Err-clause-tried g c = c.not_yet.ensures.put _ _ _ _ c.in-Err.ensures
 pub returns-in-Ok-validate_silently-clause-tried : goal.returns-in-Ok-validate_silently-clause-tried
 returns-in-Ok-validate_silently-clause-tried g c =
     tight _ _ _ c.args.key c.in-Ok.ensures.loads.0 c.leaf_of.new.page _ _ _ c.in-Ok.ensures.reads.1 c.in-Ok.ensures.size c.in-Ok.ensures.loads.1 c.in-Ok.ensures.leaf
-    (subst (λ (l : List ℕ). length (pairs_of l) ≡ MOST_PAIRS) c.copy_from.ensures.words c.in-Err-put.ensures.refused.count)
-    (λ leaf. subst (λ (l : List ℕ). IsFullFor l c.args.key) c.copy_from.ensures.words (c.in-Err-put.ensures.full (subst IsLeaf (sym c.copy_from.ensures.words) leaf)))
-    c.in-Ok-validate_silently.ensures.ok
+    c.in-Err-put_edit.ensures.refused.count c.in-Err-put_edit.ensures.full c.in-Ok-validate_silently.ensures.ok
 
 pub returns-in-Err-validate_silently-clause-tried : goal.returns-in-Err-validate_silently-clause-tried
 returns-in-Err-validate_silently-clause-tried g c = not-valid _ _ _ c.args.key _ _ _ _ c.in-Ok.ensures.reads.1 c.in-Err-validate_silently.ensures.err
@@ -27,14 +23,12 @@ write_leaf-requires-clause-home g c = c.in-Ok.ensures.reads.0.0.out ∙ c.requir
 
 pub write_leaf-requires-clause-edit : goal.write_leaf-requires-clause-edit
 write_leaf-requires-clause-edit g c =
-    put-edit c.args.key c.args.value c.in-Ok-put.was c.leaf_of.new.page c.put.new.page c.in-Ok.ensures.leaf.1
-    (subst (λ (l : List ℕ). IsLeaf l → Covers (node_of l) c.args.key → PutsInLeaf l c.put.new.page c.args.key c.args.value c.in-Ok-put.was) c.copy_from.ensures.words c.in-Ok-put.ensures.leaf)
+    put-edit c.args.key c.args.value c.in-Ok-put_edit.was c.leaf_of.new.page (edited c.leaf_of.new.page c.in-Ok-put_edit.edit) c.in-Ok.ensures.leaf.1 c.in-Ok-put_edit.ensures.leaf
 
 pub returns-in-Ok-write_leaf-clause-tried : goal.returns-in-Ok-write_leaf-clause-tried
 returns-in-Ok-write_leaf-clause-tried g c =
-    put-done c.args.key c.args.value c.in-Ok-put.was c.leaf_of.new.page (view c.args.pass.now) (view c.leaf_of.new.pass) (view c.write_leaf.new.pass)
-    (λ full. c.in-Ok-put.ensures.room (subst (λ (l : List ℕ). IsFullFor l c.args.key) (sym c.copy_from.ensures.words) full))
-    c.in-Ok.ensures.reads.0 c.in-Ok-write_leaf.ensures.ok
+    put-done c.args.key c.args.value c.in-Ok-put_edit.was c.leaf_of.new.page (view c.args.pass.now) (view c.leaf_of.new.pass) (view c.write_leaf.new.pass)
+    c.in-Ok-put_edit.ensures.room c.in-Ok.ensures.reads.0 c.in-Ok-write_leaf.ensures.ok
 
 pub returns-in-Err-write_leaf-clause-tried : goal.returns-in-Err-write_leaf-clause-tried
 returns-in-Err-write_leaf-clause-tried g c =

@@ -1,0 +1,7 @@
+-- The words below i are written.
+use Rattle.vm_node.specs.declared.edit.Edit.TheVariants.{Out}
+use Rattle.vm_node.proofs.Making.{IsMadeBelow}
+use Rattle.vm_node.proofs.edit.make_out.Given as goal
+
+abbrev pub invariant-loop-i : goal.invariant-loop-i
+invariant-loop-i l = IsMadeBelow l.fn.page l.page (Out l.at l.count) l.i
