@@ -171,7 +171,7 @@ fn no_edit_reaches_past_the_page(rt: HostRuntime) {
     };
     assert_eq!(rt; edited_words(&full, &over), words_of(&full));
 
-    // A count above 28 is read as 28: the first pair goes out of them, so that the last value moves down.
+    // A count above 28 is read as 28: the first of 28 pairs goes out.
     let out = Edit::Out {
         at: 0,
         count: usize::MAX,
