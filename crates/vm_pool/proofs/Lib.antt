@@ -6,6 +6,4 @@ pub mod Sweeping
 pub mod Bringing
 pub mod Keeping
 pub mod Knowing
-pub mod FirstPage
-pub mod OnePage
-pub mod RoundTrip
+pub mod FirstPass

@@ -1,57 +1,54 @@
 -- What the proofs of this crate cite from the crates below and from its own specs, passed on from one place. Declares nothing.
-pub use Rattle.std.specs.{Int.bit_at, List.sum_by, Mem.Slots.Ownership.Filled, Prelude.All, Vec.vec_capacity, Vec.vec_len}
+pub use Rattle.std.specs.{List.sum_by, Mem.Slots.Ownership.Filled, Prelude.All, Vec.vec_capacity, Vec.vec_len}
 pub use Rattle.std.specs.Mem.Slots.{slots_filled, slots_items, slots_len}
-pub use Rattle.std.proofs.{lemmas.Grind.common_steps, lemmas.Option.IfSome_then, Math.Nat.mod-lt, Math.Nat.pow-le-pow_right, Math.Seq.take-suc}
+pub use Rattle.std.proofs.{lemmas.Grind.common_steps, Math.Nat.mod-lt, Math.Nat.pow-le-pow_right, Math.Seq.take-suc}
 pub use Rattle.std.proofs.lemmas.List.Sums.{sum_by-cons, sum_by-le-sum_by}
-pub use Rattle.std.proofs.Common.{[], ap, append_assoc, arith, bit_or, bit_xor, Bool, Err, false, get_or, IfSome, if◌then◌else◌, inl, inr, is_ok, IsOk, IsSome}
-pub use Rattle.std.proofs.Common.{length, length-append, List, map, max, min, nat_lt, None, Ok, Option, refl, Result, rules, slice_index, slice_set, Some}
-pub use Rattle.std.proofs.Common.{subst, suc, sym, take, true, zero, ℕ, ⊎_elim, ◌%◌, ◌&&◌, ◌*◌, ◌++◌, ◌+◌, ◌-◌, ◌<◌, ◌==◌, ◌^◌, ◌∙◌, ◌∷◌, ◌≡◌, ◌≢◌, ◌≤◌, ◌⊎◌}
-pub use Rattle.std.proofs.lemmas.Bool.{cases_Bool, cases_eq, cases_lt, eq-eqb, false≢true, lt-ltb, or_left, or_right, true≢false}
-pub use Rattle.std.proofs.lemmas.List.{get_or-set_other, get_or-set_same, nil_from_length, take_all}
-pub use Rattle.std.proofs.lemmas.Nat.Bits.{bit_at-lt, bit_at-zero, bit_at_ones, bit_at_xor}
+pub use Rattle.std.proofs.Common.{[], ap, append_assoc, arith, bit_or, Bool, Err, false, get_or, if◌then◌else◌, inl, inr, is_ok, IsSome}
+pub use Rattle.std.proofs.Common.{length, length-append, List, map, max, min, None, Ok, Option, refl, Result, rules, slice_index, slice_set, Some}
+pub use Rattle.std.proofs.Common.{subst, suc, sym, take, true, zero, ℕ, ⊎_elim, ◌*◌, ◌++◌, ◌+◌, ◌-◌, ◌<◌, ◌^◌, ◌∙◌, ◌∷◌, ◌≡◌, ◌≢◌, ◌≤◌, ◌⊎◌}
+pub use Rattle.std.proofs.lemmas.Bool.{cases_Bool, cases_eq, eq-eqb, lt-ltb, or_left, or_right, true≢false}
+pub use Rattle.std.proofs.lemmas.List.{get_or-set_other, nil_from_length, take_all}
 pub use mathlib.Core.List.{map-append}
 pub use Rattle.atomic_table.proofs.Lists.{at_index}
 pub use Rattle.atomic_table.specs.Table.{Final, Seen}
-pub use Rattle.vm_core.specs.{Prelude.Version, Words.bit_count}
-pub use Rattle.vm_core.specs.Prelude.{AreLowest, EVICTED, get_elem?, is_readable, LOCKED, MARKED, MAX_VERSION, MayShare, some, some-injective, UNLOCKED}
-pub use Rattle.vm_core.proofs.Upd.{sum_below-past}
+pub use Rattle.vm_core.specs.{Prelude.Version}
+pub use Rattle.vm_core.specs.Prelude.{EVICTED, get_elem?, is_readable, LOCKED, MAX_VERSION, some, some-injective, UNLOCKED}
 pub use Rattle.vm_owner.proofs.NumberLemmas.{has-without_other}
 pub use Rattle.vm_rule.specs.{Begun.begun, declared.view.Place.Place, Prelude.world_of, Reading.at_home}
-pub use Rattle.vm_rule.specs.Prelude.{AreApart, began_of, bounds_of, bundles_of, CaughtUp, core_shown, counts_of, did_load, draft_of, Each, entries_by, Entry}
-pub use Rattle.vm_rule.specs.Prelude.{first_part, giver, has, HasShape, HoldsNoPage, index_of, IsLocking, IsStarted, IsWhole, Kept, known, last_in, last_of}
+pub use Rattle.vm_rule.specs.Prelude.{AreApart, began_of, bounds_of, bundles_of, CaughtUp, core_shown, counts_of, did_load, Each, entries_by, Entry}
+pub use Rattle.vm_rule.specs.Prelude.{first_part, giver, has, HasShape, HoldsNoPage, index_of, IsLocking, IsStarted, IsWhole, Kept, known, last_of}
 pub use Rattle.vm_rule.specs.Prelude.{newcomer, no_block, other_parts, out_of, out_or, owns, Ruled, seat_of, snapshot_of, Sound, Stands, Start, started_origin}
-pub use Rattle.vm_rule.specs.Prelude.{started_shape, started_words, StartsWith, Stored, Table, table_words, times, unborn, view_from, view_of, width, without}
+pub use Rattle.vm_rule.specs.Prelude.{started_shape, started_words, StartsWith, Stored, Table, table_words, times, unborn, view_from, view_of, without}
 pub use Rattle.vm_rule.proofs.{Entries.append-none, Found.part-found, Joining.times-joined, Parted.first-whole, Parts.listed-same, StartedWords.started-bundle}
 pub use Rattle.vm_rule.proofs.{StartedWords.started-state, Views.at-bound, Views.at-there}
 pub use Rattle.vm_rule.proofs.ListFacts.{at-any, at-listed, at-map, length-listed, length-mapped, listed-long}
-pub use Rattle.vm_rule.proofs.WordFacts.{version-within, word-state, word-version}
+pub use Rattle.vm_rule.proofs.WordFacts.{word-state, word-version}
 pub use Rattle.vm_rule_laws.specs.{Known.HasStepped, Known.kept_by, Noted.NotesStand}
 pub use Rattle.vm_rule_laws.specs.Standing.{block_in, mapping_in, PageStands, state_in, version_in}
 pub use Rattle.vm_rule_laws.proofs.{Begun.begun-ruled, Histories.all-seen, Knowing.table-known, Knowing.what-is-kept, Noted.notes-stand, Standing.stands-known}
 pub use Rattle.vm_rule_laws.proofs.Alone.{others-have-nothing, without-locks}
 pub use Rattle.vm_step.specs.{declared.choice.Looks.Looks, declared.saw.Saw.Saw, Together.TakesIn}
-pub use Rattle.vm_step.specs.Prelude.{AreCandidates, AreHeld, candidate_pages, Did, HasJoined, IsAlone, IsAside, IsAsideOf, IsCandidate, IsOf, IsOfPage}
-pub use Rattle.vm_step.specs.Prelude.{IsReady, IsSamePass, known_word_at, KnowsAll, KnowsAt, KnowsElse, KnowsSame, MayStep, Meets, Note, Origin, Out}
-pub use Rattle.vm_step.specs.Prelude.{PassesSplit, Release, Shape, Snapshot, StaysAlone, View, view}
-pub use Rattle.vm_step.proofs.{After.wide-after, Alone.same-word, Alone.still-alone, MetPasses.meets-then, MetPasses.met-known, MetPasses.met-still}
-pub use Rattle.vm_step.proofs.{steps.CatchUp.found-below, steps.CatchUp.version-below, steps.Leaving.aside-self, Still.still-nothing, Written.index-below}
+pub use Rattle.vm_step.specs.Prelude.{AreCandidates, AreHeld, candidate_pages, Did, IsAlone, IsAside, IsAsideOf, IsCandidate, IsOf, IsOfPage}
+pub use Rattle.vm_step.specs.Prelude.{IsReady, IsSamePass, known_word_at, KnowsAll, KnowsAt, KnowsElse, KnowsSame, Meets, Note, Origin, Out}
+pub use Rattle.vm_step.specs.Prelude.{PassesSplit, Shape, Snapshot, View, view}
+pub use Rattle.vm_step.proofs.{Alone.still-alone, MetPasses.met-known, MetPasses.met-still}
+pub use Rattle.vm_step.proofs.{steps.CatchUp.found-below, steps.CatchUp.version-below, steps.Leaving.aside-self}
 pub use Rattle.vm_step.proofs.Tables.{else-same, else-self, else-then, else-within}
-pub use Rattle.vm_step.proofs.Together.{all-snoc, caught-heard, caught-mine, cut-length, entries-heard, hears-on, holds-none, joined-one, new-nothing}
-pub use Rattle.vm_step.proofs.Together.{new-number, numbers-length, ready-as, split-none, split-step, split-still, starts-on, whole-again}
+pub use Rattle.vm_step.proofs.Together.{all-snoc, caught-heard, caught-mine, cut-length, entries-heard, hears-on}
+pub use Rattle.vm_step.proofs.Together.{new-number, ready-as, split-none, split-step, starts-on}
 pub use Rattle.vm_step.proofs.Asides.{alone-then, holds-then, knows-then, starts-then, still-locking}
 pub use Rattle.vm_exmap.specs.{declared.interface.Alloc.Alloc, Returns.IsFreed, Returns.KnowsGiven, Walks.IsAlloc, Walks.IsDry, Walks.TakesBits}
 pub use Rattle.vm_exmap.specs.Frames.{HasFree, IsBundleOf, MovesFrames}
 pub use Rattle.vm_exmap.proofs.FrameMoves.{moved-aside}
 pub use Rattle.vm_exmap.proofs.Handing.{apart-join, apart-not, apart-right, each-has, each-join, each-of, held-on, held-swap}
-pub use Rattle.vm_clock.specs.Clock.{IsChosen, IsPassed, IsWalked, KnowsWalked, passed_word}
-pub use Rattle.vm_guard.specs.{Guards.IsReleased, Guards.IsSet, Quiet.IsSteady, Sure.IsKnownFree, Sure.IsUnlockedWord, Sure.known_word}
+pub use Rattle.vm_clock.specs.Clock.{IsChosen, IsWalked, KnowsWalked}
 pub use Rattle.vm_fault.specs.Fetches.{IsBrought, IsFailed, IsKnownOut, IsOfBoth, KnowsReleased}
-pub use Rattle.vm_evict.specs.{declared.candidate.Stage.Stage, declared.report.Report.Report, Tables.IsOfAny, Tables.KnowsStage}
-pub use Rattle.vm_evict.specs.Evictions.{candidate_at, frame_at, FramesCome, gathered, IsBatch, IsEnd, stage_at}
-pub use Rattle.vm_evict.proofs.{Gathering.each-at, Gathering.page-at, Locking.clean-of, Tables.stays-known}
+pub use Rattle.vm_evict.specs.{declared.report.Report.Report, Tables.IsOfAny}
+pub use Rattle.vm_evict.specs.Evictions.{candidate_at, FramesCome, IsBatch, stage_at}
+pub use Rattle.vm_evict.proofs.{Gathering.each-at, Locking.clean-of, Tables.stays-known}
 pub use Rattle.vm_pool.specs.{Closing.IsClosed, Closing.IsStored, Closing.sum_to_max, declared.bring.Bring.Bring, Sweeps.IsSwept, Sweeps.KnowsSwept}
-pub use Rattle.vm_pool.specs.Brings.{counted, Fetches, Gets, GetsNone, IsBring, IsBroughtOrFailed, IsFramed, IsSure, KeepsLocks, SaysDry}
-pub use Rattle.vm_pool.specs.Known.{HasAskedFirst, IsStill, known_version, KnowsAsked, KnowsBring, KnowsBrought, KnowsFailed}
+pub use Rattle.vm_pool.specs.Brings.{counted, Fetches, Gets, GetsNone, IsBring, IsFramed, IsSure, KeepsLocks, SaysDry}
+pub use Rattle.vm_pool.specs.Known.{IsStill, known_version, KnowsAsked, KnowsBring, KnowsBrought, KnowsFailed}
 pub use Rattle.vm_pool.specs.Parting.{HaveMet, Joins, KeepsAll, Splits}
-unfoldable pub use Rattle.vm_core.specs.Prelude.{at, full_bundle, state_of, sum_below, version_of, word_of}
+unfoldable pub use Rattle.vm_core.specs.Prelude.{at, full_bundle, state_of, version_of, word_of}
 unfoldable pub use Rattle.vm_rule.specs.Prelude.{block_of, frames_in, listed, pages_from}

@@ -39,18 +39,6 @@ module _ {X : Type 0} where
   KnowsBring cap p old new v w (brings.Worn q) = (new ≢ []) × KnowsElse (IsBundleOf v.start) v w
   KnowsBring cap p old new v w (brings.Dry looks) = ⊥
 
-  -- the first pass of a pool, which began with the view `first`, asked for page p, by an interface for one frame that had none
-  pub record HasAskedFirst (p : ℕ) (first : View X) (frames : List ℕ) (v : View X) (answer : Bring) : Type 0 where
-    pub keeps : KeepsLocks first v
-    pub knows : KnowsBring 1 p [] frames first v answer
-
-  -- the pass knows that page p is evicted, four versions below the last or more, and that a frame is free; and the page's block never fails
-  pub record MayGoRound (p : ℕ) (frames : List ℕ) (v : View X) : Type 0 where
-    pub out : IsKnownOut p v
-    pub free : HasFree frames v
-    pub below : known_version v p + 3 < MAX_VERSION
-    pub good : at 0 v.start.bounds p ≡ 0
-
   -- the pass is alone still, and knows the words as they were
   pub record IsStill (v w : View X) : Type 0 where
     pub alone : IsAlone w

@@ -15,7 +15,7 @@ use vm_guard::ExclusiveGuard;
 use vm_owner::Bare;
 use vm_page::WORDS;
 use vm_pool::Pool;
-use vm_pool::whole_again::join_each;
+use vm_pool_callers::whole_again::join_each;
 use vm_rule::words::Pass;
 
 /// How many pages each worker sets a word of.

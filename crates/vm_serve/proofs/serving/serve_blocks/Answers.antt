@@ -4,7 +4,7 @@ use Rattle.vm_image.specs.File.{IsNextPage}
 use Rattle.vm_rule.specs.Prelude.{stored_of, words_of}
 use Rattle.vm_rule.proofs.ListFacts.{length-mapped}
 use Rattle.vm_step.specs.Prelude.{Origin, Shape, View, view}
-use Rattle.vm_pool.proofs.FirstPage.{first-alone}
+use Rattle.vm_pool.proofs.FirstPass.{first-alone}
 use Rattle.vm_drive.specs.Drives.{items_of}
 use Rattle.vm_serve.proofs.Headline.{begins-held, fresh-enough, served}
 use Rattle.vm_serve.proofs.serving.serve_blocks.Goals as goal

@@ -1,5 +1,5 @@
 use Rattle.std.proofs.Common.{arith}
-use Rattle.vm_pool.proofs.FirstPage.{first-alone}
+use Rattle.vm_pool.proofs.FirstPass.{first-alone}
 use Rattle.vm_serve.proofs.Headline.{begins, fresh-enough}
 use Rattle.vm_test_drive.proofs.trees.open.Goals as goal
 

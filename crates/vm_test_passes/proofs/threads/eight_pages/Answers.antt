@@ -1,7 +1,7 @@
 use Rattle.std.proofs.Common.{◌∙◌, ◌≡◌, ap, arith, length}
 use Rattle.vm_step.specs.Prelude.{view}
 use Rattle.vm_step.proofs.Together.{numbers-length}
-use Rattle.vm_pool.proofs.FirstPage.{first-alone}
+use Rattle.vm_pool.proofs.FirstPass.{first-alone}
 use Rattle.vm_test_passes.proofs.threads.eight_pages.Goals as goal
 
 pub returns-clause-alone : goal.returns-clause-alone

@@ -1,4 +1,4 @@
-use Rattle.vm_pool.proofs.FirstPage.{first-alone}
+use Rattle.vm_pool.proofs.FirstPass.{first-alone}
 use Rattle.vm_test_pool.proofs.pool.a_pool_that_is_closed_at_once_gives_its_blocks_back.Goals as goal
 
 pub close-requires-clause-whole : goal.close-requires-clause-whole

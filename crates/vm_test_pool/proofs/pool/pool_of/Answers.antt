@@ -1,4 +1,4 @@
-use Rattle.vm_pool.proofs.FirstPage.{first-alone}
+use Rattle.vm_pool.proofs.FirstPass.{first-alone}
 use Rattle.vm_test_pool.proofs.pool.pool_of.Goals as goal
 
 pub returns-clause-alone : goal.returns-clause-alone

@@ -1,0 +1,4 @@
+pub mod Prelude
+pub mod OnePage
+pub mod FirstPage
+pub mod RoundTrip

@@ -1,0 +1,65 @@
+-- The release made the draft the page's last words; the sweep, the second bringing and the read left them so. A pass that is alone has each call
+-- succeed, by what the calls before told it of the page.
+use Rattle.vm_pool_callers.proofs.{OnePage.no-fault}
+use Rattle.vm_pool.proofs.{Keeping.keeps-alone, Knowing.answered-free, Knowing.when-free}
+use Rattle.vm_pool_callers.proofs.Prelude.{ap, arith, at, draft_of, false≢true, IfSome_then, is_readable, IsAlone, IsKnownFree, IsOk, known_version, known_word}
+use Rattle.vm_pool_callers.proofs.Prelude.{last_of, length, List, MAX_VERSION, Origin, slice_set, state_of, subst, sym, true, version_of, view, ℕ, ◌+◌, ◌<◌, ◌∙◌, ◌≡◌}
+use Rattle.vm_pool_callers.proofs.Prelude.{◌≤◌}
+use Rattle.vm_pool_callers.proofs.RoundTrip.{first-locks, reads-again, same-version, set-words, some-is, steady-alone, word-back}
+use Rattle.vm_pool_callers.proofs.round_trip.round_trip.Goals as goal
+
+pub returns-in_default-clause-sure : goal.returns-in_default-clause-sure
+returns-in_default-clause-sure g c can =
+    let v0 = view c.args.pass.now in
+    let v1 = view c.bring.new.pass in
+    let locks = first-locks _ c.args.pid _ _ v0 v1 c.bring.result can.good (omega (arith, can.below)) (c.bring.ensures.sure c.requires.alone can.out can.free) (when-free _ c.args.pid _ _ v0 v1 c.bring.result can.free (c.bring.ensures.table c.requires.alone)) in
+    absurd (false≢true (subst (λ r. IsOk r) c.in_default.is (c.take.ensures.sure (keeps-alone c.bring.ensures.keeps c.requires.alone) locks.0 (omega (arith, can.below, locks.1)))))
+
+pub returns-clause-word : goal.returns-clause-word
+returns-clause-word g c =
+    let taken = c.in-Ok.ensures.taken in
+    let same : c.set.new.self.pid ≡ c.args.pid = ap (λ s. s.pid) c.set.ensures.guard ∙ taken.0 in
+    let alone : IsAlone (view c.release.new.pass) =
+    steady-alone c.release.ensures.released.elsewhere.steady (steady-alone c.set.ensures.set.elsewhere.steady (steady-alone taken.1.elsewhere.steady (keeps-alone c.bring.ensures.keeps c.requires.alone))) in
+    let draft : List ℕ = draft_of (view c.take.new.pass) c.args.pid in
+    let words : (last_of (view c.release.new.pass) c.args.pid).words ≡ slice_set draft c.args.i c.args.w =
+    set-words c.args.pid c.args.i c.args.w c.in-Ok.guard.pid c.set.new.self.pid _ _ _ _ (view c.take.new.pass) (view c.set.new.pass) (view c.release.new.pass) taken.0 same c.set.ensures.set c.release.ensures.released in
+    let long : length draft ≡ 64 = taken.1.holding.size in
+    IfSome_then c.read_word.result c.read_word.ensures.word
+    (λ x is.
+    is c.requires.tells
+    ∙ word-back c.args.pid c.args.i c.args.w draft (view c.release.new.pass) (view c.sweep.new.pass) (view c.bring-2.new.pass) (view c.read_word.new.pass) alone words (omega (arith, long, c.requires.page.1)) c.sweep.ensures.keeps c.bring-2.ensures.keeps c.read_word.ensures.alone)
+
+pub returns-clause-sure : goal.returns-clause-sure
+returns-clause-sure g c can =
+    let low : known_version (view c.args.pass.now) c.args.pid + 3 < MAX_VERSION = can.below in
+    let p : ℕ = c.args.pid in
+    let v0 = view c.args.pass.now in
+    let v1 = view c.bring.new.pass in
+    let v2 = view c.take.new.pass in
+    let v4 = view c.release.new.pass in
+    let v5 = view c.sweep.new.pass in
+    let v6 = view c.bring-2.new.pass in
+    let page : p < v0.start.pages = subst (λ (n : ℕ). p < n) (sym c.requires.ready.table.is_shape.pages) c.requires.page.0 in
+    let taken = c.in-Ok.ensures.taken in
+    let steady-take = taken.1.elsewhere.steady in
+    let steady-set = c.set.ensures.set.elsewhere.steady in
+    let steady-end = c.release.ensures.released.elsewhere.steady in
+    let same : c.set.new.self.pid ≡ p = ap (λ s. s.pid) c.set.ensures.guard ∙ taken.0 in
+    let one : IsAlone v1 = keeps-alone c.bring.ensures.keeps c.requires.alone in
+    let set : IsAlone (view c.set.new.pass) = steady-alone steady-set (steady-alone steady-take one) in
+    let alone : IsAlone v4 = steady-alone steady-end set in
+    let first : (last_of v1 p).version ≡ known_version v0 p + 1 =
+    (answered-free v0 c.requires.alone p page c.args.iface.now.cap c.args.iface.now.fits.0 c.args.iface.now.home _ _ _ _ v1 c.bring.result can.free c.bring.ensures.answer).version (no-fault p v0 v1 c.bring.result can.good (c.bring.ensures.sure c.requires.alone can.out can.free)) in
+    let held : (last_of v2 p).version ≡ c.in-Ok.guard.version = taken.1.holding.at in
+    let kept : (last_of v2 p).version ≡ (last_of v1 p).version = same-version _ p v1 v2 one steady-take in
+    let then : c.set.new.self.version ≡ c.in-Ok.guard.version = ap (λ s. s.version) c.set.ensures.guard in
+    let free-then : IsKnownFree p v4 = subst (λ (n : ℕ). IsKnownFree n v4) same (c.release.ensures.released.free set).0 in
+    let most : version_of (known_word p v4) ≤ c.set.new.self.version + 1 = subst (λ (n : ℕ). version_of (known_word n v4) ≤ c.set.new.self.version + 1) same (c.release.ensures.released.free set).1 in
+    let below : version_of (known_word p v4) + 1 < MAX_VERSION = omega (arith, low, first, held, kept, then, most) in
+    let start-then : v4.start ≡ v0.start = steady-end.start ∙ steady-set.start ∙ steady-take.start ∙ c.bring.ensures.keeps.start in
+    let reads : is_readable (state_of (known_word p v6)) ≡ true =
+    reads-again _ c.bring.new.iface.cap c.sweep.new.iface.cap p _ _ _ c.sweep.result v4 v5 v6 c.bring-2.result alone c.bring.new.iface.fits.0 c.sweep.new.iface.fits.0 (subst (λ (o : Origin). p < o.pages) (sym start-then) page) free-then below
+    (subst (λ (o : Origin). at 0 o.bounds p ≡ 0) (sym start-then) can.good) c.sweep.ensures.swept c.sweep.ensures.keeps c.bring-2.ensures.sure c.bring-2.ensures.table in
+    let last : IsAlone v6 = keeps-alone c.bring-2.ensures.keeps (keeps-alone c.sweep.ensures.keeps alone) in
+    some-is c.read_word.result c.args.w (c.read_word.ensures.sure last reads) (returns-clause-word g c)

@@ -1,0 +1,52 @@
+// A word that is written and read again, with a sweep in between: it stands on the contracts of the pool and of the guards alone, and so
+// shows that they are enough for a caller.
+ghost use Rattle.std.specs.Prelude.{◌<◌, ◌≡◌, IfSome, None, Some, true};
+ghost use Rattle.vm_step.specs.Prelude.{AreHeld, IsAlone, IsReady, view};
+ghost use Rattle.vm_pool_callers.specs.Known.{MayGoRound};
+
+use vm_block::Block;
+use vm_core::FRAMES;
+use vm_exmap::Interface;
+use vm_guard::{ExclusiveGuard, read_word};
+use vm_owner::Bare;
+use vm_page::WORDS;
+use vm_pool::Pool;
+use vm_rule::words::Pass;
+
+/// Brings the page, sets its word `i` (0 to 63) to `w`, sweeps as many pages as a sweep can, brings the page again and reads that word: it is
+/// `w`, or `None` where the page could not be locked or read.
+///
+/// The pass is alone: it has all parts of the table, and has made a step since it was split or joined. The contracts of the pool and of the
+/// guards are enough for such a caller to find its word again; nothing else is known of them here. Where it knows that the page is evicted, four
+/// versions below the last or more, and that a frame is free, and where the page's block never fails, each call succeeds.
+pub fn round_trip<B: Block>(
+    pool: &Pool<Bare, B>,
+    pass: &mut Pass<Bare>,
+    iface: &mut Interface,
+    pid: u32,
+    i: usize,
+    w: u64,
+) -> Option<u64>
+    requires ready { IsReady pool.now.words.table.shared.key B.tells pool.now.words.table.shared.table_id pass.old }
+    requires home { (view pass.old).out ≡ None }
+    requires frames { AreHeld iface.old.frames (view pass.old) }
+    requires page { (pid < pool.now.words.table.shared.key.pages) × (i < WORDS) }
+    requires claimed { pid < (view pass.old).start.next }
+    requires tells { B.tells ≡ true }
+    requires alone { IsAlone (view pass.old) }
+    ensures word { IfSome result (λ x. x ≡ w) }
+    ensures sure { MayGoRound pid iface.old.frames (view pass.old) → result ≡ Some w }
+    ensures ready { IsReady pool.now.words.table.shared.key B.tells pool.now.words.table.shared.table_id pass.new }
+    ensures held { AreHeld iface.new.frames (view pass.new) }
+    ensures home { (view pass.new).out ≡ None }
+{
+    pool.bring(pass, iface, pid);
+    let Ok(mut guard) = ExclusiveGuard::take(&pool.words, pass, pid) else {
+        return None;
+    };
+    guard.set(&pool.words, pass, i, w);
+    guard.release(&pool.words, pass, None);
+    pool.sweep(pass, iface, FRAMES as u32);
+    pool.bring(pass, iface, pid);
+    read_word(&pool.words, pass, pid, i)
+}
