@@ -31,7 +31,7 @@ pub use Rattle.vm_step.specs.{declared.choice.Looks.Looks, declared.saw.Saw.Saw,
 pub use Rattle.vm_step.specs.Prelude.{AreCandidates, AreHeld, candidate_pages, Did, IsAlone, IsAside, IsAsideOf, IsCandidate, IsOf, IsOfPage}
 pub use Rattle.vm_step.specs.Prelude.{IsReady, IsSamePass, known_word_at, KnowsAll, KnowsAt, KnowsElse, KnowsSame, Meets, Note, Origin, Out}
 pub use Rattle.vm_step.specs.Prelude.{PassesSplit, Shape, Snapshot, View, view}
-pub use Rattle.vm_step.proofs.{Alone.still-alone, MetPasses.met-known, MetPasses.met-still}
+pub use Rattle.vm_step.proofs.{Alone.still-alone, MetPasses.meets-then, MetPasses.met-known, MetPasses.met-still}
 pub use Rattle.vm_step.proofs.{steps.CatchUp.found-below, steps.CatchUp.version-below, steps.Leaving.aside-self}
 pub use Rattle.vm_step.proofs.Tables.{else-same, else-self, else-then, else-within}
 pub use Rattle.vm_step.proofs.Together.{all-snoc, caught-heard, caught-mine, cut-length, entries-heard, hears-on}

@@ -18,7 +18,7 @@ pub use Rattle.vm_evict.specs.declared.candidate.Stage.{Stage}
 pub use Rattle.vm_evict.specs.declared.report.Report.{Report}
 pub use Rattle.vm_exmap.specs.Frames.{HasFree, IsBundleOf}
 pub use Rattle.vm_fault.specs.Fetches.{IsKnownOut, IsOfBoth}
-pub use Rattle.vm_guard.specs.Guards.{IsReleased, IsSet}
+pub use Rattle.vm_guard.specs.Guards.{IsReleased, IsSet, IsSharing}
 pub use Rattle.vm_guard.specs.Quiet.{IsSteady}
 pub use Rattle.vm_guard.specs.Sure.{IsKnownFree, IsUnlockedWord, known_word}
 pub use Rattle.vm_pool.specs.Brings.{IsBroughtOrFailed, IsSure, KeepsLocks}
@@ -32,11 +32,12 @@ pub use Rattle.vm_rule.proofs.WordFacts.{version-within, word-state, word-versio
 pub use Rattle.vm_rule.specs.Begun.{begun}
 pub use Rattle.vm_rule.specs.Prelude.{bounds_of, bundles_of, draft_of, has, HoldsNoPage, index_of, IsStarted, last_in, last_of, started_shape, Stored, unborn}
 pub use Rattle.vm_rule.specs.Prelude.{width}
+pub use Rattle.vm_step.proofs.MetPasses.{met-still}
 pub use Rattle.vm_step.proofs.After.{wide-after}
 pub use Rattle.vm_step.proofs.Alone.{same-word, still-alone}
 pub use Rattle.vm_step.proofs.Asides.{alone-then}
 pub use Rattle.vm_step.proofs.Still.{still-nothing}
-pub use Rattle.vm_step.proofs.Together.{holds-none, joined-one, new-nothing, numbers-length, split-still, whole-again}
+pub use Rattle.vm_step.proofs.Together.{holds-none, joined-one, new-nothing, numbers-length, split-current, split-still, whole-again}
 pub use Rattle.vm_step.proofs.Written.{index-below}
 pub use Rattle.vm_step.specs.Prelude.{AreHeld, candidate_pages, Did, HasJoined, IsAlone, IsOfPage, IsSamePass, known_word_at, MayStep, Origin, Release, Shape}
 pub use Rattle.vm_step.specs.Prelude.{StaysAlone, view, View}

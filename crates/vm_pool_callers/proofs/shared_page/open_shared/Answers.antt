@@ -1,10 +1,29 @@
 -- What `open_page` tells of the page that was brought meets the premises of what the shared guard promises.
 use Rattle.vm_pool.proofs.{FirstPass.first-alone, FirstPass.first-out, Keeping.keeps-alone, Knowing.brought-word}
 use Rattle.vm_pool_callers.proofs.{shared_page.open_shared.Goals.in-Err, shared_page.open_shared.Goals.in-Ok}
+use Rattle.vm_pool_callers.proofs.Prelude.{IsSharing, length, Shape}
 use Rattle.vm_pool_callers.proofs.Prelude.{[], ap, arith, begun, false≢true, inl, IsOk, IsSome, known_version, known_word, KnowsBring, KnowsBrought, length-mapped}
 use Rattle.vm_pool_callers.proofs.Prelude.{List, map, MAX_VERSION, MayShare, refl, started_shape, state_of, Stored, subst, sym, unborn, UNLOCKED, View, view}
 use Rattle.vm_pool_callers.proofs.Prelude.{word-state, ℕ, ◌+◌, ◌<◌, ◌∙◌, ◌≡◌}
 use Rattle.vm_pool_callers.proofs.shared_page.open_shared.Goals as goal
+
+pub open_page-requires : goal.open_page-requires
+open_page-requires g c = record { pages = c.requires.pages; fits = c.requires.fits; below = c.requires.below; page = c.requires.page.0; begins = c.requires.begins }
+
+pub take-requires : goal.take-requires
+take-requires g c =
+    let mapped : length (map g.B.Block.stored c.args.blocks.items) ≡ length c.args.blocks.items = length-mapped g.B.Block.stored c.args.blocks.items in
+    record {
+      pass = c.in_ok-pool.ensures.ready.may;
+      page = subst (λ (s : Shape). c.args.pid < s.pages) (sym c.in_ok-pool.ensures.key) (subst (λ (n : ℕ). c.args.pid < n) (c.requires.pages ∙ sym mapped) c.requires.page.0);
+    }
+
+pub read-word-requires : goal.read-word-requires
+read-word-requires g c = record {
+  ready = c.take.ensures.ready;
+  shares = subst (λ (n : ℕ). IsSharing n c.in-Ok.guard.frame (view c.take.new.pass)) (sym c.in-Ok.ensures.taken.0) c.in-Ok.ensures.taken.1.sharing;
+  word = c.requires.page.1;
+}
 
 pub returns-clause-word : goal.returns-clause-word
 returns-clause-word g c brought =

@@ -1,7 +1,22 @@
 -- The second call and the read meet the premises of what is promised a pass that is alone, by what the call before them told.
+use Rattle.vm_pool_callers.proofs.Prelude.{length, Shape, sym, ◌∙◌, ◌≡◌}
 use Rattle.vm_pool_callers.proofs.Prelude.{[], length-mapped, List, map, Stored, subst, view, ℕ, ◌<◌}
 use Rattle.vm_pool_callers.proofs.{FirstPage.reads-first, FirstPage.second-sure}
 use Rattle.vm_pool_callers.proofs.two_pages.open_two.Goals as goal
+
+pub open_page-requires : goal.open_page-requires
+open_page-requires g c = record { pages = c.requires.pages; fits = c.requires.fits; below = c.requires.below; page = c.requires.page.0; begins = c.requires.begins }
+
+pub bring-second-requires : goal.bring-second-requires
+bring-second-requires g c =
+    let mapped : length (map g.B.Block.stored c.args.blocks.items) ≡ length c.args.blocks.items = length-mapped g.B.Block.stored c.args.blocks.items in
+    let opened = c.in_ok-pool.ensures in
+    record {
+      ready = opened.ready;
+      home = opened.asked.keeps.out;
+      frames = opened.held;
+      page = subst (λ (s : Shape). c.args.b < s.pages) (sym opened.key) (subst (λ (n : ℕ). c.args.b < n) (c.requires.pages ∙ sym mapped) c.requires.page.1);
+    }
 
 pub returns-clause-second : goal.returns-clause-second
 returns-clause-second g c =

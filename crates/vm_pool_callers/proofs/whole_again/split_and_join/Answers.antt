@@ -1,8 +1,12 @@
 use Rattle.vm_step.proofs.Together.{each-at}
 use Rattle.vm_pool.proofs.{FirstPass.first-alone}
+use Rattle.vm_pool_callers.proofs.Prelude.{split-current}
 use Rattle.vm_pool_callers.proofs.Prelude.{ap, arith, holds-none, HoldsNoPage, length, new-nothing, numbers-length, refl, split-still, still-nothing, subst, sym}
 use Rattle.vm_pool_callers.proofs.Prelude.{view, whole-again, ◌∙◌, ◌≡◌}
 use Rattle.vm_pool_callers.proofs.whole_again.split_and_join.Goals as goal
+
+pub close-requires-clause-current : goal.close-requires-clause-current
+close-requires-clause-current g c = c.join_each.ensures.joined.current (split-current _ _ _ c.in_ok-given.ensures.split)
 
 pub split-requires-clause-parts : goal.split-requires-clause-parts
 split-requires-clause-parts g c =
