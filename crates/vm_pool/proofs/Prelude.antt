@@ -36,7 +36,7 @@ pub use Rattle.vm_step.proofs.{steps.CatchUp.found-below, steps.CatchUp.version-
 pub use Rattle.vm_step.proofs.Tables.{else-same, else-self, else-then, else-within}
 pub use Rattle.vm_step.proofs.Together.{all-snoc, caught-heard, caught-mine, cut-length, entries-heard, hears-on}
 pub use Rattle.vm_step.proofs.Together.{new-number, ready-as, split-none, split-step, starts-on}
-pub use Rattle.vm_step.proofs.Asides.{alone-then, holds-then, knows-then, starts-then, still-locking}
+pub use Rattle.vm_step.proofs.Asides.{alone-then, holds-then, knows-then, starts-then, still-locking, whole-then}
 pub use Rattle.vm_exmap.specs.{declared.interface.Alloc.Alloc, Returns.IsFreed, Returns.KnowsGiven, Walks.IsAlloc, Walks.IsDry, Walks.TakesBits}
 pub use Rattle.vm_exmap.specs.Frames.{HasFree, IsBundleOf, MovesFrames}
 pub use Rattle.vm_exmap.proofs.FrameMoves.{moved-aside}
