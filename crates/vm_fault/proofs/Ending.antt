@@ -93,6 +93,14 @@ other-state : (word version : ℕ) → version_of word ≡ version → word ≢ 
 other-state word version e ne gone = ne (sym (word-made word) ∙ ap (λ (s : ℕ). word_of s (version_of word)) gone ∙ ap (word_of EVICTED) e)
 
 module _ {X : Type 0} (tied : Start → ℕ → List ℕ → ℕ → List ℕ → Type 0) (p word : ℕ) (v u : View X) (look : LookTold tied p None word v u) where
+  -- the page was found evicted, and was locked then
+  pub found : (first version : ℕ) (w : View X) → first ≡ word_of EVICTED version → LockTold tied p first first u w → IsFoundEvicted tied p version v w
+  found first version w same lock = record { between = u; word = word; look = look; lock = subst (λ (n : ℕ). LockTold tied p n n u w) same lock }
+
+  -- its frames and its block stand as before
+  pub found-same : (first : ℕ) (w : View X) → LockTold tied p first first u w → (w.frames ≡ v.frames) × (w.out ≡ v.out)
+  found-same first w lock = search (rules, ap, lock.brings.view, look.brings.view)
+
   abbrev try-did : Did
   try-did = did_load (Place.State p) word
 

@@ -1,5 +1,5 @@
-use Rattle.vm_fault.proofs.Ending.{lost, worn-in, worn-out}
-use Rattle.vm_fault.proofs.Prelude.{ap, arith, EVICTED, inr, IsFetched, LockTold, MAX_VERSION, refl, state_of, subst, sym, version-within, version_of, view}
+use Rattle.vm_fault.proofs.Ending.{found, found-same, lost, worn-in, worn-out}
+use Rattle.vm_fault.proofs.Prelude.{ap, arith, EVICTED, inr, has, IsFetched, MAX_VERSION, refl, state_of, subst, sym, version-within, version_of, view}
 use Rattle.vm_fault.proofs.Prelude.{word-state, word-version, word_of, ℕ, ◌<◌, ◌∙◌, ◌≡◌, ◌≢◌, ◌≤◌}
 use Rattle.vm_fault.proofs.fault.fault_in.Goals as goal
 
@@ -37,6 +37,18 @@ lock_exclusive-requires-clause-legal g c =
       version = subst (λ (k : ℕ). k < MAX_VERSION) (sym (ap version_of c.of-first.ensures ∙ word-version EVICTED c.version-version.result n)) (below c.look_silently-word.result _ c.version-version.ensures c.if-version-eq-MAX_VERSION.false);
     }
 
+pub bring_locked-requires-clause-frame : goal.bring_locked-requires-clause-frame
+bring_locked-requires-clause-frame g c = (
+  c.requires.frame.0,
+  ap (has c.args.frame) (found-same g.U.Owner.tied c.args.pid c.look_silently-word.result _ _ c.look_silently-word.ensures.told _ _ c.in-Taken.ensures.told).0 ∙ c.requires.frame.1,
+)
+
+pub bring_locked-requires-clause-home : goal.bring_locked-requires-clause-home
+bring_locked-requires-clause-home g c = (found-same g.U.Owner.tied c.args.pid c.look_silently-word.result _ _ c.look_silently-word.ensures.told _ _ c.in-Taken.ensures.told).1 ∙ c.requires.home
+
+pub bring_locked-requires-clause-locked : goal.bring_locked-requires-clause-locked
+bring_locked-requires-clause-locked g c = (view c.args.pass.now, found g.U.Owner.tied c.args.pid c.look_silently-word.result _ _ c.look_silently-word.ensures.told _ _ _ c.of-first.ensures c.in-Taken.ensures.told)
+
 pub bring_locked-requires-clause-below : goal.bring_locked-requires-clause-below
 bring_locked-requires-clause-below g c = below c.look_silently-word.result _ c.version-version.ensures c.if-version-eq-MAX_VERSION.false
 
@@ -49,9 +61,4 @@ returns-in-Lost-clause-fetched g c =
 pub returns-in-Taken-clause-fetched : goal.returns-in-Taken-clause-fetched
 returns-in-Taken-clause-fetched g c =
     c.bring_locked.ensures.fetched (view c.args.pass.now)
-    (record {
-      between = view c.look_silently-word.new.pass;
-      word = c.look_silently-word.result;
-      look = c.look_silently-word.ensures.told;
-      lock = subst (λ (n : ℕ). LockTold g.U.Owner.tied c.args.pid n n (view c.look_silently-word.new.pass) (view c.lock_exclusive.new.pass)) c.of-first.ensures c.in-Taken.ensures.told;
-    })
+    (found g.U.Owner.tied c.args.pid c.look_silently-word.result _ _ c.look_silently-word.ensures.told _ _ _ c.of-first.ensures c.in-Taken.ensures.told)
