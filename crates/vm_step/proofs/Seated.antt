@@ -1,6 +1,6 @@
 -- The seat that is taken out of a pass's badge for one operation: what the table allows the pass it allows the seat, and what is told of the seat is told of the pass.
 use Rattle.vm_rule.specs.Prelude.{view_of}
-use Rattle.vm_step.proofs.Prelude.{[], Allows, AllowsStep, ap, arith, IsFit, length, List, Me, refl, subst, sym, Table, View, ℕ, ◌∷◌, ◌≡◌}
+use Rattle.vm_step.proofs.Prelude.{[], Allows, AllowsStep, ap, arith, Bool, IsFit, length, List, Me, refl, subst, sym, Table, View, ℕ, ◌∙◌, ◌∷◌, ◌≡◌}
 
 -- a badge has one view
 pub one-view : {A : Type 0} (l : List A) → length l ≡ 1 → (x : A) × (l ≡ x ∷ [])
@@ -24,3 +24,7 @@ module _ {X : Type 0} where
 
   pub seat-fit : (after : List (View X)) (w : View X) → after ≡ w ∷ [] → IsFit w → IsFit (view_of after)
   seat-fit after w is fit = subst IsFit (sym (ap view_of is)) fit
+
+  -- of a split, by which of the two it was
+  pub split-told : (cut : Bool → View X → View X) (before after : List (View X)) (part which : Bool) (v w : View X) → before ≡ v ∷ [] → after ≡ w ∷ [] → part ≡ which → w ≡ cut which v → view_of after ≡ cut part (view_of before)
+  split-told cut before after part which v w is is' e t = ap view_of is' ∙ t ∙ (λ i. cut (sym e i) (view_of (sym is i)))
