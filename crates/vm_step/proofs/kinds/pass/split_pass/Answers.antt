@@ -1,6 +1,5 @@
 use Rattle.vm_step.proofs.{kinds.pass.split_pass.Goals.else-part, kinds.pass.split_pass.Goals.then-part, steps.Pass.splits-any}
-use Rattle.vm_step.proofs.Prelude.{ap, arith, false, giver, giver-sound, length, newcomer, newcomer-sound, Sound, subst, sym, true, view_of, ◌<◌, ◌∙◌, ◌≡◌}
-use Rattle.vm_step.proofs.Seated.{split-told}
+use Rattle.vm_step.proofs.Prelude.{ap, arith, false, giver-sound, length, newcomer-sound, Sound, subst, sym, true, view_of, ◌<◌, ◌∙◌, ◌≡◌}
 use Rattle.vm_step.proofs.kinds.pass.split_pass.Goals as goal
 
 pub split_seat-other-requires : goal.split_seat-other-requires
@@ -34,17 +33,3 @@ invariant_of-result-clause-sound g c =
       | then-part w ↦ rw w.other-is (subst (λ m. Sound m.0) (sym w.split_seat-other.ensures.4) (newcomer-sound true c.lift-seat.result.me.0 old))
       | else-part w ↦ rw w.other-is (subst (λ m. Sound m.0) (sym w.split_seat-other-else-part.ensures.4) (newcomer-sound false c.lift-seat.result.me.0 old))
     ])
-
-pub returns-clause-kept : goal.returns-clause-kept
-returns-clause-kept g c =
-    elim c.if-part.branch [
-      | then-part w ↦ rw w.seat-is (split-told giver _ _ _ _ _ _ c.lift-seat.ensures.2 c.into_badge.ensures.2 w.if-part.true (ap (λ m. m.0) w.split_seat-other.ensures.2))
-      | else-part w ↦ rw w.seat-is (split-told giver _ _ _ _ _ _ c.lift-seat.ensures.2 c.into_badge.ensures.2 w.if-part.false (ap (λ m. m.0) w.split_seat-other-else-part.ensures.2))
-    ]
-
-pub returns-clause-given : goal.returns-clause-given
-returns-clause-given g c =
-    elim c.if-part.branch [
-      | then-part w ↦ rw w.other-is (split-told newcomer _ _ _ _ _ _ c.lift-seat.ensures.2 c.into_badge-2.ensures.2 w.if-part.true (ap (λ m. m.0) w.split_seat-other.ensures.4))
-      | else-part w ↦ rw w.other-is (split-told newcomer _ _ _ _ _ _ c.lift-seat.ensures.2 c.into_badge-2.ensures.2 w.if-part.false (ap (λ m. m.0) w.split_seat-other-else-part.ensures.4))
-    ]
