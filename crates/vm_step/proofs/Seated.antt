@@ -1,5 +1,5 @@
 -- The seat that is taken out of a pass's badge for one operation: what the table allows the pass it allows the seat.
-use Rattle.vm_step.proofs.Prelude.{[], Allows, AllowsStep, IsFit, List, Me, subst, sym, Table, View, ℕ, ◌∷◌, ◌≡◌}
+use Rattle.vm_step.proofs.Prelude.{[], Allows, AllowsStep, IsFit, Me, subst, sym, Table, View, ℕ, ◌≡◌}
 
 module _ {X : Type 0} where
   abbrev play : {S : Type 0} → (ℕ → View X → View X → Type 0) → Me S (View X) → ℕ → Me S (View X) → Type 0
