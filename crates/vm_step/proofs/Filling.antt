@@ -1,10 +1,10 @@
 -- Stores of a page's words into a frame of the pass, one after the other: they change the words of that frame alone, and after 64 of them
 -- these are the page's.
-use Rattle.std.proofs.lemmas.List.{length-append}
+use Rattle.std.proofs.lemmas.List.{length-append, take_all}
 use Rattle.vm_rule.specs.declared.view.Place.TheVariants as places
 use Rattle.vm_step.proofs.{Evidenced.written-behind, Leaves.works-none, Leaves.works-one, Leaves.works-then}
 use Rattle.vm_step.proofs.Prelude.{[], ap, append_assoc, arith, contents_at, Did, did_store, FillTold, HasWritten, length, List, put, put_at, refl, rules}
-use Rattle.vm_step.proofs.Prelude.{slice_index, slice_set, Stores, subst, suc, sym, upd-same, View, Works, zero, ℕ, ◌++◌, ◌+◌, ◌<◌, ◌∙◌, ◌∷◌, ◌≡◌}
+use Rattle.vm_step.proofs.Prelude.{slice_index, slice_set, Stores, subst, suc, sym, take, upd-same, View, Works, zero, ℕ, ◌++◌, ◌+◌, ◌<◌, ◌∙◌, ◌∷◌, ◌≡◌, ◌≤◌}
 
 -- ---- words written over others, from the i-th on
 
@@ -96,3 +96,7 @@ stored-at f i (x ∷ xs) (suc k) l =
 pub all-stored : (f : ℕ) (xs : List ℕ) (k : ℕ) → length xs ≡ 64 → k < 64 → HasWritten (stores-did f 0 xs) (places.Content f k) (slice_index xs k)
 all-stored f xs k long l =
     subst (λ (n : ℕ). HasWritten (stores-did f 0 xs) (places.Content f n) (slice_index xs k)) (omega arith) (stored-at f 0 xs k (omega (arith, long, l)))
+
+-- past the last word all of them were stored
+pub stored-whole : {X : Type 0} (f n : ℕ) (xs : List ℕ) (v w : View X) → length xs ≤ n → Stores f 0 (take n xs) v w → Stores f 0 xs v w
+stored-whole f n xs v w below s = subst (λ (l : List ℕ). Stores f 0 l v w) (take_all n xs below) s

@@ -2,6 +2,7 @@ pub mod Prelude
 pub mod Logical
 pub mod Here
 pub mod Fit
+pub mod Seated
 pub mod Standing
 pub mod Groups
 pub mod Written

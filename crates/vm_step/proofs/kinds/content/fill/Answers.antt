@@ -1,5 +1,5 @@
-use Rattle.vm_step.proofs.{Filling.fills, Filling.stores-more, Leaves.ready-after}
-use Rattle.vm_step.proofs.Prelude.{[], ap, arith, FillTold, has, inl, length, length-take-le, List, subst, sym, take, take_more, view, ℕ, ◌++◌, ◌+◌}
+use Rattle.vm_step.proofs.{Filling.fills, Filling.stored-whole, Filling.stores-more, Leaves.ready-after}
+use Rattle.vm_step.proofs.Prelude.{[], ap, arith, FillTold, has, inl, length, length-take-le, List, refl, subst, sym, take, take_more, view, ℕ, ◌++◌, ◌+◌}
 use Rattle.vm_step.proofs.Prelude.{◌<◌, ◌∙◌, ◌∷◌, ◌≡◌}
 use Rattle.vm_step.proofs.kinds.content.fill.Goals as goal
 
@@ -29,3 +29,21 @@ loop-i-preserved g c =
 
 pub returns-clause-ready : goal.returns-clause-ready
 returns-clause-ready g c = ready-after _ _ _ c.args.pass.now c.loop-i.pass 0 _ c.loop-i.invariant.same (fills _ 0 0 _ _ _ c.loop-i.invariant.stores).works.leaves c.requires.ready
+
+pub loop-i-init : goal.loop-i-init
+loop-i-init g c = record { same = (refl, refl); stores = refl }
+
+pub get-requires : goal.get-requires
+get-requires g c = c.loop-i-test.true
+
+pub store-requires-clause-frame : goal.store-requires-clause-frame
+store-requires-clause-frame g c = (c.requires.frame.0, c.loop-i-test.true)
+
+pub loop-i-smaller : goal.loop-i-smaller
+loop-i-smaller g c = omega (arith, c.loop-i-test.true)
+
+pub returns-clause-pass : goal.returns-clause-pass
+returns-clause-pass g c = c.loop-i.invariant.same
+
+pub returns-clause-stores : goal.returns-clause-stores
+returns-clause-stores g c = stored-whole _ _ _ _ _ (omega (arith, c.requires.size, c.loop-i-test.false)) c.loop-i.invariant.stores
