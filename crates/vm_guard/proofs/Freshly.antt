@@ -1,9 +1,10 @@
 -- The fresh pages that a call gives, one or two: each is locked, put into a frame, and all are claimed together.
+use Rattle.std.proofs.lemmas.List.{length-reverse}
 use Rattle.vm_guard.proofs.{FreshNone.seized-on, Groups.each-page, GuardSteps.still-held, Lockings.unheld-same}
 use Rattle.vm_guard.proofs.Amid.{amid-alone, amid-then, claim-amid, claim-silent, IsSilent, known-on, known-states, nload-amid, nload-silent}
 use Rattle.vm_guard.proofs.Amid.{others-known, put-known, silent-then, silent-within}
 use Rattle.vm_guard.proofs.FreshNumbers.{apart-first, apart-second, numbers-one, numbers-two, within-first, within-second}
-use Rattle.vm_guard.proofs.Prelude.{[], ap, append_assoc, AreFresh, AreHeld, arith, Bool, cases_eq, claim-brings, claimed_view, ClaimTold, cond-true}
+use Rattle.vm_guard.proofs.Prelude.{[], ap, append_assoc, AreFresh, AreHeld, arith, length, length-append, Bool, cases_eq, claim-brings, claimed_view, ClaimTold, cond-true}
 use Rattle.vm_guard.proofs.Prelude.{contents_at, Did, did_exchange, did_load, draft_of, Each, each-map, eq-eqb, eqb, ExclusiveGuard, false, Furnishes, has}
 use Rattle.vm_guard.proofs.Prelude.{has-both, held-on, held_at, holds-still, if◌then◌else◌, index-below, inl, inr, IsAlone, IsAmid, IsHolding, IsSeized, IsSome}
 use Rattle.vm_guard.proofs.Prelude.{IsUnheld, keeps-then, KeepsFrames, known_word_at, KnowsAt, last-known, last_of, List, LOCKED, Mapping, NextTold}
@@ -40,14 +41,20 @@ module _ {X : Type 0} where
   abbrev MayClaim : View X → ℕ → Type 0
   MayClaim v p = ((seat_of v p).exclusive ≡ true) × IsSome (held_at v p).mapping × (has p v.pending ≡ false)
 
+  may-claim : {p f version : ℕ} {dirty : Bool} (v : View X) → IsHolding p f version dirty v → MayClaim v p
+  may-claim v i = (i.owns, subst (λ (o : Option Mapping). IsSome o) (sym i.stands) refl, i.free)
+
+  pub may-claim-one : (x f version : ℕ) (dirty : Bool) (v : View X) → IsHolding x f version dirty v → PassMayClaim v x 1
+  may-claim-one x f version dirty v h = record { few = inl refl; inside = (let l = h.page in omega (arith, l)); owns = λ p low high. (each p low high).0; resident = λ p low high. (each p low high).1; free = λ p low high. (each p low high).2 }
+    where
+      each : (p : ℕ) → x ≤ p → p < x + 1 → MayClaim v p
+      each p low high = subst (MayClaim v) (omega (arith, low, high)) (may-claim v h)
+
   pub may-claim-two : (x f1 f2 v1 v2 : ℕ) (d1 d2 : Bool) (v : View X) → IsHolding x f1 v1 d1 v → IsHolding (x + 1) f2 v2 d2 v → PassMayClaim v x 2
   may-claim-two x f1 f2 v1 v2 d1 d2 v h k = record { few = inr refl; inside = (let l = k.page in omega (arith, l)); owns = λ p low high. (each p low high).0; resident = λ p low high. (each p low high).1; free = λ p low high. (each p low high).2 }
     where
-      may : {p f version : ℕ} {dirty : Bool} → IsHolding p f version dirty v → MayClaim v p
-      may i = (i.owns, subst (λ (o : Option Mapping). IsSome o) (sym i.stands) refl, i.free)
-
       each : (p : ℕ) → x ≤ p → p < x + 2 → MayClaim v p
-      each p low high = ⊎_elim (λ (e : p ≡ x). subst (MayClaim v) (sym e) (may h)) (λ (ne : p ≢ x). subst (MayClaim v) (omega (arith, low, high, ne)) (may k)) (cases_eq p x)
+      each p low high = ⊎_elim (λ (e : p ≡ x). subst (MayClaim v) (sym e) (may-claim v h)) (λ (ne : p ≢ x). subst (MayClaim v) (omega (arith, low, high, ne)) (may-claim v k)) (cases_eq p x)
 
   -- ---- frames
 
@@ -118,6 +125,27 @@ module _ {X : Type 0} where
   -- a page that was never claimed, as far as the second load tells, has zero words
   zero-at : (v : View X) {x : ℕ} {u z : View X} → NextTold x u z → u.start ≡ v.start → (p : ℕ) → x ≤ p → p < v.start.pages → v.start.tells ≡ true → (last_of z p).words ≡ replicate 64 0
   zero-at v t same p low page tells = t.zero (ap (λ (o : Origin). o.tells) same ∙ tells) p low (subst (λ (o : Origin). p < o.pages) (sym same) page)
+
+  -- the same of the page that the second load found, and of the one behind it once that one is furnished
+  pub zero-now : {again x : ℕ} {u z : View X} → NextTold again u z → again ≡ x → x < u.start.pages → z.start.tells ≡ true → (last_of z x).words ≡ replicate 64 0
+  zero-now {again = again} {x = x} {u = u} {z = z} t is page tells =
+      let start : z.start ≡ u.start = (nload-amid [] again u z t).start in
+      zero-at z t (sym start) x (omega (arith, is)) (subst (λ (o : Origin). x < o.pages) (sym start) page) tells
+
+  pub zero-second : {pid x again e f version : ℕ} {s : Option Mapping} {d : Bool} {before after : List ℕ} {u0 u z y : View X} → (pid ≡ x + 1) × Seizes (x + 1) e s u0 u → NextTold again u z → again ≡ x
+      → Furnishes x f version d before after z y → y.start.tells ≡ true → (last_of y pid).words ≡ replicate 64 0
+  zero-second {x = x} {again = again} {u = u} {z = z} {y = y} taken t is f tells =
+      let load = nload-amid [] again u z t in
+      let page : x + 1 < z.start.pages = subst (λ (o : Origin). x + 1 < o.pages) (sym load.start) taken.1.seized.page in
+      ap (λ (p : ℕ). (last_of y p).words) taken.0
+      ∙ ap (λ (o : Version). o.words) (f.amid.knows (x + 1) (apart-second x) (inl (ap (λ (k : Seat). k.exclusive) (load.seats (x + 1) refl) ∙ taken.1.seized.owns))).last
+      ∙ zero-at z t (sym load.start) (x + 1) (omega (arith, is)) page (ap (λ (o : Origin). o.tells) (sym f.amid.start) ∙ tells)
+
+  -- of two frames one is left for the second page
+  pub frames-left : {p frame version : ℕ} {dirty : Bool} {before after : List ℕ} {z y : View X} → Furnishes p frame version dirty before after z y → 2 ≤ length before → AreHeld after y × (0 < length after)
+  frames-left {after = after} f two =
+      let few = f.few in
+      (f.own, omega (arith, two, few, ap length f.cut ∙ length-append after (reverse f.taken), length-reverse f.taken))
 
   fresh-of : (x n : ℕ) (pages : List ℕ) (gs : List ExclusiveGuard) (before after : List ℕ) (c : ℕ) (mid : List Did) (v v1 z y w : View X) → NextTold x v v1 → ClaimTold x n c y w → c ≡ x → pages ≡ numbers x n → pids_of gs ≡ pages
       → x + n ≤ v.start.pages → IsSilent pages mid v1 y → Each (λ (g : ExclusiveGuard). IsGiven g.pid g.frame g.version g.dirty v w) gs → KeepsFrames v z → z.owed ≡ v.owed → ArePut before after z y

@@ -37,6 +37,13 @@ module _ {X : Type 0} where
       ∙ ap (λ (y : View X). contents_at y g) t.brings.view
       ∙ upd-other (put_at [] v.contents) f (slice_set (contents_at v f) i x) g ne
 
+  -- the last frame is one of the pass's, and of the table's
+  pub frame-within : (f limit : ℕ) (before after : List ℕ) (v : View X) → AreHeld before v → before ≡ after ++ f ∷ [] → v.start.frames ≡ limit → (f < limit) × (has f v.frames ≡ true)
+  frame-within f limit before after v own cut same = (
+    subst (λ (n : ℕ). f < n) same (each-parts (λ g. g < v.start.frames) after (f ∷ []) (subst (Each (λ g. g < v.start.frames)) cut own.inside)).1.0,
+    (each-parts (λ g. has g v.frames ≡ true) after (f ∷ []) (subst (Each (λ g. has g v.frames ≡ true)) cut own.held)).1.0,
+  )
+
   -- the page stands in a frame already
   pub furnish-resident : (p version : ℕ) (m : Mapping) (frames : List ℕ) (v : View X) → IsSeized p version (Some m) v → AreHeld frames v → Furnishes p m.frame version m.dirty frames frames v v
   furnish-resident p version m frames v s own = record {

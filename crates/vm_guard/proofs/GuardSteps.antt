@@ -16,6 +16,10 @@ use Rattle.vm_guard.proofs.Sure.{free-after, state-inside}
 
 -- ---- the pass is ready for its next call
 
+-- the same pass after two steps: the numbers of both
+pub same-then : {A B : Type 0} {a b c : A} {x y z : B} → (c ≡ b) × (z ≡ y) → (b ≡ a) × (y ≡ x) → (c ≡ a) × (z ≡ x)
+same-then p q = (p.0 ∙ q.0, p.1 ∙ q.1)
+
 module _ {U X : Type 0} {o : _} {shape : Shape} {tells : Bool} {t : TableId} (a : Pass U X o) {b : Pass U X o} {done : List Did} {own : List Release} where
   pub ready-from : MayStep t a → IsOf shape tells (view a) → b.badge.table_id ≡ a.badge.table_id → IsSteady done own (view a) (view b) → IsReady shape tells t b
   ready-from may is same f = record {

@@ -5,6 +5,7 @@ use Rattle.vm_guard.proofs.Prelude.{[], ap, append-none, Bool, Change, cond-fals
 use Rattle.vm_guard.proofs.Prelude.{false, GivesBack, has, inl, inr, IsNotOut, IsSeized, IsToSeize, List, lock-others, lock-own, LockTold, look-holds}
 use Rattle.vm_guard.proofs.Prelude.{look-others, look-own, LookTold, Mapping, mapping_of, MayEvict, MayGiveUp, None, none-some, Option, Origin, others-then}
 use Rattle.vm_guard.proofs.Prelude.{own-then, Place, refl, release-alone, release-others, release-seat, ReleaseTold, rules, Seizes, set_if, Some, Start, subst}
+use Rattle.vm_guard.proofs.Prelude.{length, IsOf, IsReady, IsSamePass, MayStep, Pass, ready-on, Shape, TableId, view}
 use Rattle.vm_guard.proofs.Prelude.{sym, tload-others, tload-own, TranslationTold, true, version_of, View, without, without-none, ℕ, ◌<◌, ◌||◌, ◌∙◌, ◌∷◌, ◌≡◌}
 
 pub self-has : (p : ℕ) → has p (p ∷ []) ≡ true
@@ -29,6 +30,18 @@ seizes tied p word expects said v u x w look lock load may page =
       silent = silent.1;
       table = λ a. (steps.runs.words a.0 a.1).1.1.1 ∙ ap (λ (o : Option ℕ). set_if o p v.snapshot.words) (lock-wrote word may.version may.may_lock.version lock load);
     }
+
+-- a load of a translation word leaves the pass able to step
+pub may-loaded : {U X : Type 0} {o : _} {t : TableId} (p : ℕ) {said : ℕ} (a b : Pass U X o) → MayStep t a → IsSamePass a b → TranslationTold p said (view a) (view b) → MayStep t b
+may-loaded p a b may same load = (same.0 ∙ may.0, subst (λ (ns : List ℕ). 0 < length ns) (sym (tload-others load (λ q. q ≡ p) refl).parts.0) may.1)
+
+-- the pass is ready for its next step after the look
+module _ {U X : Type 0} {o : _} {shape : Shape} {tells : Bool} {t : TableId} (tied : Start → ℕ → List ℕ → ℕ → List ℕ → Type 0) (p : ℕ) where
+  pub ready-looked : (a : Pass U X o) {b : Pass U X o} {word : ℕ} → MayStep t a → IsOf shape tells (view a) → IsSamePass a b → LookTold tied p None word (view a) (view b) → IsReady shape tells t b
+  ready-looked a {b = b} may is same look = let f = look-others look (λ q. q ≡ p) refl in ready-on shape tells t a b same f.start f.parts.0 (record { may = may; table = is })
+
+  pub ready-locked : {a b : Pass U X o} {expects : ℕ} → IsReady shape tells t a → IsSamePass a b → LockTold tied p expects expects (view a) (view b) → IsReady shape tells t b
+  ready-locked {a = a} {b = b} r same lock = let f = lock-others refl lock (λ q. q ≡ p) refl in ready-on shape tells t a b same f.start f.parts.0 r
 
 -- ---- given up again
 

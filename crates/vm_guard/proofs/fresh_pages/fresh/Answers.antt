@@ -1,6 +1,6 @@
-use Rattle.vm_guard.proofs.FreshAnswers.{first-denied, held-after, is-full}
+use Rattle.vm_guard.proofs.FreshAnswers.{begins, first-denied, held-after, is-full, out-after, ready-after}
 use Rattle.vm_guard.proofs.FreshSure.{first-word, loaded-alone, next-now, no-room, not-full, pages-settle, second-word}
-use Rattle.vm_guard.proofs.Prelude.{arith, false≢true, held-on, IsFull, LocksNone, MayBeSeized, refl, subst, view, ℕ, ◌+◌, ◌<◌, ◌≡◌, ◌≤◌}
+use Rattle.vm_guard.proofs.Prelude.{arith, false≢true, held-on, IsFreshAnswer, IsFull, LocksNone, sym, ◌∙◌, MayBeSeized, refl, subst, view, ℕ, ◌+◌, ◌<◌, ◌≡◌, ◌≤◌}
 use Rattle.vm_guard.proofs.fresh_pages.fresh.Goals as goal
 
 pub returns-in-Err-clause-answer : goal.returns-in-Err-clause-answer
@@ -68,3 +68,28 @@ returns-then-n-eq1-clause-full g c a past = absurd (not-full c.nload-found.ensur
 
 pub returns-else-n-eq1-clause-full : goal.returns-else-n-eq1-clause-full
 returns-else-n-eq1-clause-full g c a past = absurd (not-full c.nload-found.ensures.told a past c.args.words.now.shape.0 c.requires.ready.table.is_shape.pages c.if-pages-next.false)
+
+pub give_one-requires-clause-begun : goal.give_one-requires-clause-begun
+give_one-requires-clause-begun g c = (view c.args.pass.now, begins c.nload-found.ensures.told c.in-Ok.ensures.taken)
+
+pub give_two-requires-clause-begun : goal.give_two-requires-clause-begun
+give_two-requires-clause-begun g c = (view c.args.pass.now, begins c.nload-found.ensures.told c.in-Ok.ensures.taken)
+
+pub give_one-requires-clause-home : goal.give_one-requires-clause-home
+give_one-requires-clause-home g c = c.in-Ok.ensures.taken.1.amid.out ∙ out-after c.nload-found.ensures.told c.requires.home
+
+pub give_two-requires-clause-home : goal.give_two-requires-clause-home
+give_two-requires-clause-home g c = c.in-Ok.ensures.taken.1.amid.out ∙ out-after c.nload-found.ensures.told c.requires.home
+
+pub returns-then-n-eq1-clause-answer : goal.returns-then-n-eq1-clause-answer
+returns-then-n-eq1-clause-answer g c =
+    subst (λ (n : ℕ). IsFreshAnswer n c.args.frames.now c.give_one.new.frames (view c.args.pass.now) (view c.give_one.new.pass) c.give_one.result) (sym c.if-n-eq1.true)
+    (c.give_one.ensures.answer (view c.args.pass.now) (begins c.nload-found.ensures.told c.in-Ok.ensures.taken))
+
+pub returns-else-n-eq1-clause-answer : goal.returns-else-n-eq1-clause-answer
+returns-else-n-eq1-clause-answer g c =
+    subst (λ (n : ℕ). IsFreshAnswer n c.args.frames.now c.give_two.new.frames (view c.args.pass.now) (view c.give_two.new.pass) c.give_two.result) (omega (arith, c.requires.few, c.if-n-eq1.false))
+    (c.give_two.ensures.answer (view c.args.pass.now) (begins c.nload-found.ensures.told c.in-Ok.ensures.taken))
+
+pub returns-then-pages-next-clause-ready : goal.returns-then-pages-next-clause-ready
+returns-then-pages-next-clause-ready g c = ready-after c.nload-found.ensures.pass c.nload-found.ensures.told c.requires.ready

@@ -1,4 +1,4 @@
-use Rattle.vm_guard.proofs.{Freshly.claim-keeps, Freshly.fresh-one, FreshSure.next-found}
+use Rattle.vm_guard.proofs.{Freshly.claim-keeps, Freshly.fresh-one, Freshly.may-claim-one, Freshly.zero-now, FreshSure.next-found}
 use Rattle.vm_guard.proofs.FreshAnswers.{again-one, held-after, out-after, ready-after, room-one, seized-after}
 use Rattle.vm_guard.proofs.Prelude.{found_by, NextTold, ready-on, refl, subst, view, ◌∙◌}
 use Rattle.vm_guard.proofs.fresh_pages.give_one.Goals as goal
@@ -38,3 +38,9 @@ furnish-first-requires-clause-ready g c = ready-after c.nload-again.ensures.pass
 
 pub furnish-first-requires-clause-seized : goal.furnish-first-requires-clause-seized
 furnish-first-requires-clause-seized g c = seized-after c.requires.begun.1.seizes.seized c.nload-again.ensures.told
+
+pub furnish-first-requires-clause-zero : goal.furnish-first-requires-clause-zero
+furnish-first-requires-clause-zero g c tells = zero-now c.nload-again.ensures.told c.if-again-x.false c.requires.begun.1.seizes.seized.page tells
+
+pub claim-requires-clause-legal : goal.claim-requires-clause-legal
+claim-requires-clause-legal g c = may-claim-one _ _ _ _ _ c.furnish-first.ensures.furnished.holding

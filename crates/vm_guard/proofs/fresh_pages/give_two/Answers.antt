@@ -1,7 +1,7 @@
-use Rattle.vm_guard.proofs.{Amid.amid-alone, FreshNone.seized-on, FreshNumbers.apart-first, FreshNumbers.apart-second, FreshSure.next-found}
+use Rattle.vm_guard.proofs.{Amid.amid-alone, FreshNone.seized-on, FreshNumbers.apart-first, FreshNumbers.apart-second, FreshSure.next-found, GuardSteps.same-then}
 use Rattle.vm_guard.proofs.{FreshSure.seized-next}
 use Rattle.vm_guard.proofs.FreshAnswers.{again-two, amid-denied, held-after, out-after, ready-after, room, second-denied, seized-after}
-use Rattle.vm_guard.proofs.Freshly.{claim-keeps, fresh-two, holding-on, may-claim-two}
+use Rattle.vm_guard.proofs.Freshly.{claim-keeps, fresh-two, frames-left, holding-on, may-claim-two, zero-now, zero-second}
 use Rattle.vm_guard.proofs.Prelude.{arith, false≢true, found_by, held-on, IsSeized, NextTold, ready-on, refl, subst, sym, view, ◌+◌, ◌∙◌, ◌≤◌}
 use Rattle.vm_guard.proofs.fresh_pages.give_two.Goals as goal
 
@@ -107,3 +107,23 @@ pub furnish-first-requires-clause-seized : goal.furnish-first-requires-clause-se
 furnish-first-requires-clause-seized g c =
     let taken = c.in-Ok.ensures.taken.1 in
     seized-after (seized-on c.requires.begun.1.seizes.seized taken.amid (apart-first c.args.one.pid) taken.group.0) c.nload-again.ensures.told
+
+pub furnish-first-requires-clause-zero : goal.furnish-first-requires-clause-zero
+furnish-first-requires-clause-zero g c tells =
+    let page = c.in-Ok.ensures.taken.1.seized.page in
+    zero-now c.nload-again.ensures.told c.if-again-x.false (omega (arith, page)) tells
+
+pub furnish-second-requires-clause-zero : goal.furnish-second-requires-clause-zero
+furnish-second-requires-clause-zero g c tells = zero-second c.in-Ok.ensures.taken c.nload-again.ensures.told c.if-again-x.false c.furnish-first.ensures.furnished tells
+
+pub furnish-second-requires-clause-frames : goal.furnish-second-requires-clause-frames
+furnish-second-requires-clause-frames g c = frames-left c.furnish-first.ensures.furnished c.requires.frames.1
+
+pub returns-in-Err-clause-pass : goal.returns-in-Err-clause-pass
+returns-in-Err-clause-pass g c = same-then c.give_back.ensures.pass c.in-Err.ensures.pass
+
+pub returns-then-again-x-clause-pass : goal.returns-then-again-x-clause-pass
+returns-then-again-x-clause-pass g c = same-then c.give_back-then-again-x-2.ensures.pass (same-then c.give_back-then-again-x.ensures.pass (same-then c.nload-again.ensures.pass c.in-Ok.ensures.pass))
+
+pub returns-clause-pass : goal.returns-clause-pass
+returns-clause-pass g c = same-then c.claim.ensures.pass (same-then c.furnish-second.ensures.pass (same-then c.furnish-first.ensures.pass (same-then c.nload-again.ensures.pass c.in-Ok.ensures.pass)))

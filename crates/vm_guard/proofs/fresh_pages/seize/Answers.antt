@@ -1,6 +1,7 @@
 -- The look, the exchange and the load of the translation word give each answer.
-use Rattle.vm_guard.proofs.{Denials.denied-at-once, Denials.denied-lost, GuardSteps.ready-from, QuietSteps.lock-lost, Seizing.seizes}
-use Rattle.vm_guard.proofs.Prelude.{AgainOrWorn, err_from_is_err_and, inl, inr, LOCKED, LocksNone, mapping_of, MayBeSeized, refl, Seizes, subst, sym}
+use Rattle.std.proofs.lemmas.Result.{IfOk-from_err}
+use Rattle.vm_guard.proofs.{Denials.denied-at-once, Denials.denied-lost, GuardSteps.ready-from, GuardSteps.same-then, QuietSteps.lock-lost, Seizing.ready-locked, Seizing.ready-looked, Seizing.seizes}
+use Rattle.vm_guard.proofs.Prelude.{AgainOrWorn, err_from_is_err_and, inl, inr, LOCKED, LocksNone, mapping_of, MayBeSeized, ready-on, refl, Seizes, subst, sym}
 use Rattle.vm_guard.proofs.Prelude.{UnlockedExpected, version_of, view, word_of, ⊎_elim, ◌<◌, ◌∙◌, ◌≡◌}
 use Rattle.vm_guard.proofs.Sure.{found-as, lock-sure, refused-worn, seize-refused, seized-none}
 use Rattle.vm_guard.proofs.fresh_pages.seize.Goals as goal
@@ -52,3 +53,34 @@ returns-in-Taken-clause-taken g c = (
       (seizes g.U.Owner.tied c.args.pid c.look_silently-word.result c.in_ok-expects.expects c.tload.result _ _ _ _ c.look_silently-word.ensures.told c.in-Taken.ensures.told c.tload.ensures.told c.in_ok-expects.ensures.ok.0
       (subst (λ n. c.args.pid < n) (sym c.look_silently-word.ensures.table.is_shape.pages) c.requires.page))),
 )
+
+pub returns-in_err-expects-clause-ready : goal.returns-in_err-expects-clause-ready
+returns-in_err-expects-clause-ready g c = let look = c.look_silently-word.ensures in ready-looked g.U.Owner.tied c.args.pid c.args.pass.now c.requires.pass look.table look.pass look.told
+
+pub returns-in_err-expects-clause-taken : goal.returns-in_err-expects-clause-taken
+returns-in_err-expects-clause-taken g c = IfOk-from_err c.from_residual.result _ c.from_residual.ensures.0
+
+pub returns-in-Taken-clause-ready : goal.returns-in-Taken-clause-ready
+returns-in-Taken-clause-ready g c =
+    let look = c.look_silently-word.ensures in
+    let amid = (returns-in-Taken-clause-taken g c).1.amid in
+    ready-on _ _ _ c.args.pass.now c.tload.new.pass (same-then c.tload.ensures.pass (same-then c.in-Taken.ensures.pass look.pass)) amid.start amid.parts.0
+    (record { may = c.requires.pass; table = look.table })
+
+pub lock_exclusive-requires-clause-legal : goal.lock_exclusive-requires-clause-legal
+lock_exclusive-requires-clause-legal g c = c.in_ok-expects.ensures.ok.0.may_lock
+
+pub lock_exclusive-requires-clause-pass : goal.lock_exclusive-requires-clause-pass
+lock_exclusive-requires-clause-pass g c = let look = c.look_silently-word.ensures in (ready-looked g.U.Owner.tied c.args.pid c.args.pass.now {b = c.look_silently-word.new.pass} c.requires.pass look.table look.pass look.told).may
+
+pub tload-requires-clause-pass : goal.tload-requires-clause-pass
+tload-requires-clause-pass g c = let look = c.look_silently-word.ensures in (ready-locked g.U.Owner.tied c.args.pid {a = c.look_silently-word.new.pass} {b = c.lock_exclusive.new.pass} (ready-looked g.U.Owner.tied c.args.pid c.args.pass.now {b = c.look_silently-word.new.pass} c.requires.pass look.table look.pass look.told) c.in-Taken.ensures.pass c.in-Taken.ensures.told).may
+
+pub returns-in_err-expects-clause-pass : goal.returns-in_err-expects-clause-pass
+returns-in_err-expects-clause-pass g c = c.look_silently-word.ensures.pass
+
+pub returns-in-Lost-clause-pass : goal.returns-in-Lost-clause-pass
+returns-in-Lost-clause-pass g c = same-then c.in-Lost.ensures.pass c.look_silently-word.ensures.pass
+
+pub returns-in-Taken-clause-pass : goal.returns-in-Taken-clause-pass
+returns-in-Taken-clause-pass g c = same-then c.tload.ensures.pass (same-then c.in-Taken.ensures.pass c.look_silently-word.ensures.pass)

@@ -1,4 +1,5 @@
 -- The two guards are those of the pages given, and each release of them may be made.
+use Rattle.vm_guard.proofs.GuardSteps.{same-then}
 use Rattle.vm_guard.proofs.Pairs.{apart-of, fresh-both, holding-beside, may-pair, taken-both, two-many, written-pair}
 use Rattle.vm_guard.proofs.Prelude.{[], ap, arith, ExclusiveGuard, guards_of, HasFirst, length, length-append, refl, subst, sym, view, ℕ, ◌+◌, ◌∙◌, ◌∷◌}
 use Rattle.vm_guard.proofs.pair.write_two.Goals as goal
@@ -37,3 +38,11 @@ returns-in-Some-take_last-clause-written g c t alone =
     let r = rw (c.set.ensures.guard, c.set-in-Pages.ensures.guard) at c.release_group.ensures.released.0 in
     let h = written-pair ans.0 c.args.a c.args.b _ _ _ _ _ _ _ _ f c.set.ensures.set c.set-in-Pages.ensures.set (view c.release_group.new.pass) r (c.requires.ready.table.tells_is ∙ t) alone in
     subst (λ (n : ℕ). HasFirst n c.args.a (view c.release_group.new.pass) × HasFirst (n + 1) c.args.b (view c.release_group.new.pass)) (ap (λ (x : ExclusiveGuard). x.pid) (sym c.set.ensures.guard)) h
+
+pub set-requires-clause-holds : goal.set-requires-clause-holds
+set-requires-clause-holds g c =
+    let ans = c.in-Pages.ensures.answer in
+    (fresh-both ans.0 _ c.in-Some.ensures.some c.in-Some-take_last.ensures.some ans.1).held.0
+
+pub returns-in-Some-take_last-clause-pass : goal.returns-in-Some-take_last-clause-pass
+returns-in-Some-take_last-clause-pass g c = same-then c.release_group.ensures.pass (same-then c.set-in-Pages.ensures.pass (same-then c.set.ensures.pass c.in-Pages.ensures.pass))

@@ -1,5 +1,7 @@
 -- The look, the exchange and the load of the translation word give each answer.
 use Rattle.vm_guard.proofs.{Denials.denied-at-once, Denials.denied-lost, GuardSteps.ready-from, QuietSteps.lock-lost}
+use Rattle.vm_guard.proofs.{GuardSteps.same-then, Seizing.ready-locked, Seizing.ready-looked}
+use Rattle.std.proofs.lemmas.Result.{IfOk-from_err}
 use Rattle.vm_guard.proofs.Lockings.{lock-owns, lock-resident, locked}
 use Rattle.vm_guard.proofs.Prelude.{err_from_is_err_and, inl, inr, IsLocked, IsUnlockedWord, LOCKED, MAX_VERSION, NotCrowded, refl, subst, sym}
 use Rattle.vm_guard.proofs.Prelude.{UnlockedExpected, version_of, view, word_of, ⊎_elim, ◌<◌, ◌∙◌, ◌≡◌}
@@ -49,3 +51,27 @@ returns-in-Lost-clause-ready g c = ready-from c.args.pass.now c.requires.pass c.
 
 pub returns-in-Taken-clause-ready : goal.returns-in-Taken-clause-ready
 returns-in-Taken-clause-ready g c = ready-from c.args.pass.now c.requires.pass c.look_silently-word.ensures.table (c.standing-stands.ensures.pass.0 ∙ c.in-Taken.ensures.pass.0 ∙ c.look_silently-word.ensures.pass.0) (returns-in-Taken-clause-taken g c).1.elsewhere.steady
+
+pub lock_exclusive-requires-clause-pass : goal.lock_exclusive-requires-clause-pass
+lock_exclusive-requires-clause-pass g c =
+    let look = c.look_silently-word.ensures in
+    (ready-looked g.U.Owner.tied c.args.pid c.args.pass.now {b = c.look_silently-word.new.pass} c.requires.pass look.table look.pass look.told).may
+
+pub returns-in_err-expects-clause-ready : goal.returns-in_err-expects-clause-ready
+returns-in_err-expects-clause-ready g c =
+    let look = c.look_silently-word.ensures in
+    ready-looked g.U.Owner.tied c.args.pid c.args.pass.now {b = c.look_silently-word.new.pass} c.requires.pass look.table look.pass look.told
+
+pub returns-in_err-expects-clause-taken : goal.returns-in_err-expects-clause-taken
+returns-in_err-expects-clause-taken g c = IfOk-from_err c.from_residual.result _ c.from_residual.ensures.0
+
+pub standing-stands-requires-clause-pass : goal.standing-stands-requires-clause-pass
+standing-stands-requires-clause-pass g c =
+    let look = c.look_silently-word.ensures in
+    (ready-locked g.U.Owner.tied c.args.pid {a = c.look_silently-word.new.pass} {b = c.lock_exclusive.new.pass} (ready-looked g.U.Owner.tied c.args.pid c.args.pass.now {b = c.look_silently-word.new.pass} c.requires.pass look.table look.pass look.told) c.in-Taken.ensures.pass c.in-Taken.ensures.told).may
+
+pub returns-in-Lost-clause-pass : goal.returns-in-Lost-clause-pass
+returns-in-Lost-clause-pass g c = same-then c.in-Lost.ensures.pass c.look_silently-word.ensures.pass
+
+pub returns-in-Taken-clause-pass : goal.returns-in-Taken-clause-pass
+returns-in-Taken-clause-pass g c = same-then c.standing-stands.ensures.pass (same-then c.in-Taken.ensures.pass c.look_silently-word.ensures.pass)
