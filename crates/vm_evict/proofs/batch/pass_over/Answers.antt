@@ -30,3 +30,24 @@ loop-i-preserved g c =
       front = front-more c.args.phase c.loop-i.stages c.loop-i.i c.advance.result (omega (arith, c.loop-i-test.true, c.requires.few, inv.long)) one.ends inv.front;
       back = back-more c.args.phase c.loop-i.stages c.loop-i.i c.advance.result (length c.args.list.now) inv.back;
     }
+
+pub bounds-list-i : goal.bounds-list-i
+bounds-list-i g c = c.loop-i-test.true
+
+pub advance-requires-clause-ready : goal.advance-requires-clause-ready
+advance-requires-clause-ready g c = c.loop-i.invariant.ready
+
+pub advance-requires-clause-home : goal.advance-requires-clause-home
+advance-requires-clause-home g c = (c.loop-i.invariant.passed c.requires.way.0 c.requires.way.1 c.requires.way.2).after.home
+
+pub advance-requires-clause-begins : goal.advance-requires-clause-begins
+advance-requires-clause-begins g c = c.loop-i.invariant.back c.loop-i.i (omega arith) c.loop-i-test.true
+
+pub returns-clause-passed : goal.returns-clause-passed
+returns-clause-passed g c = c.loop-i.invariant.passed
+
+pub returns-clause-way : goal.returns-clause-way
+returns-clause-way g c = (c.requires.way.0, _, (c.loop-i.invariant.passed c.requires.way.0 c.requires.way.1 c.requires.way.2).after)
+
+pub returns-clause-ready : goal.returns-clause-ready
+returns-clause-ready g c = c.loop-i.invariant.ready
