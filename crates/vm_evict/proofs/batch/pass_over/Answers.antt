@@ -1,3 +1,4 @@
+use Rattle.vm_evict.proofs.Gathering.{each-at}
 use Rattle.vm_evict.proofs.Passing.{back-more, front-more, passed-more, passed-none}
 use Rattle.vm_evict.proofs.Prelude.{arith, length, length-set, refl, view, ◌∙◌}
 use Rattle.vm_evict.proofs.batch.pass_over.Goals as goal
@@ -51,3 +52,18 @@ returns-clause-way g c = (c.requires.way.0, _, (c.loop-i.invariant.passed c.requ
 
 pub returns-clause-ready : goal.returns-clause-ready
 returns-clause-ready g c = c.loop-i.invariant.ready
+
+pub returns-clause-pass : goal.returns-clause-pass
+returns-clause-pass g c = c.loop-i.invariant.same
+
+pub returns-clause-ends : goal.returns-clause-ends
+returns-clause-ends g c = λ j b. c.loop-i.invariant.front j (omega (arith, b, c.loop-i-test.false))
+
+pub advance-requires-clause-candidate : goal.advance-requires-clause-candidate
+advance-requires-clause-candidate g c = each-at _ c.args.list.now c.loop-i.i c.loop-i-test.true c.requires.list.each
+
+pub bounds-stages-i : goal.bounds-stages-i
+bounds-stages-i g c = omega (arith, c.loop-i-test.true, c.requires.few)
+
+pub bounds-stages-i-in-loop-i : goal.bounds-stages-i-in-loop-i
+bounds-stages-i-in-loop-i g c = omega (arith, c.loop-i-test.true, c.requires.few)

@@ -18,3 +18,12 @@ returns-in-Lost-clause-ready g c = ready-lock c.requires.ready c.lock_exclusive.
 
 pub returns-in-Taken-clause-ready : goal.returns-in-Taken-clause-ready
 returns-in-Taken-clause-ready g c = ready-lock c.requires.ready c.lock_exclusive.ensures.pass c.lock_exclusive.ensures.told
+
+pub lock_exclusive-requires-clause-page : goal.lock_exclusive-requires-clause-page
+lock_exclusive-requires-clause-page g c = c.requires.candidate.page
+
+pub returns-in-Lost-clause-pass : goal.returns-in-Lost-clause-pass
+returns-in-Lost-clause-pass g c = c.lock_exclusive.ensures.pass
+
+pub returns-in-Taken-clause-pass : goal.returns-in-Taken-clause-pass
+returns-in-Taken-clause-pass g c = c.lock_exclusive.ensures.pass

@@ -1,5 +1,5 @@
 use Rattle.vm_evict.proofs.Locking.{may-give, may-raise, raise-lost, raised-so}
-use Rattle.vm_evict.proofs.Prelude.{ap, refl, view, word_of, ◌∙◌}
+use Rattle.vm_evict.proofs.Prelude.{ap, arith, refl, version-within, view, word_of, ◌∙◌}
 use Rattle.vm_evict.proofs.Answering.{both-then, ready-step, ready-upgrade}
 use Rattle.vm_evict.proofs.candidate.raise_shared.Goals as goal
 
@@ -29,3 +29,15 @@ returns-in-Lost-clause-pass g c = both-then c.upgrade.ensures.pass c.unlock_shar
 
 pub returns-in-Lost-clause-ready : goal.returns-in-Lost-clause-ready
 returns-in-Lost-clause-ready g c = ready-step (ready-upgrade {b = c.upgrade.new.pass} c.requires.ready c.upgrade.ensures.pass c.upgrade.ensures.told) c.unlock_shared.ensures.pass c.unlock_shared.ensures.told.brings refl refl
+
+pub of-shared-requires : goal.of-shared-requires
+of-shared-requires g c = omega (arith, c.version.ensures, version-within c.args.word)
+
+pub returns-in-Taken-clause-pass : goal.returns-in-Taken-clause-pass
+returns-in-Taken-clause-pass g c = c.upgrade.ensures.pass
+
+pub upgrade-requires-clause-page : goal.upgrade-requires-clause-page
+upgrade-requires-clause-page g c = c.requires.candidate.page
+
+pub unlock_shared-requires-clause-page : goal.unlock_shared-requires-clause-page
+unlock_shared-requires-clause-page g c = c.requires.candidate.page

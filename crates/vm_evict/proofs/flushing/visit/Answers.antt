@@ -1,5 +1,5 @@
 use Rattle.vm_evict.proofs.FlushVisits.{by-look-gone, by-look-held}
-use Rattle.vm_evict.proofs.Prelude.{ap, arith, held-state, refl, subst, sym, view, View, ◌<◌, ◌∙◌}
+use Rattle.vm_evict.proofs.Prelude.{ap, arith, held-state, inl, inr, refl, subst, sym, view, View, ⊎_elim, ◌<◌, ◌∙◌}
 use Rattle.vm_evict.proofs.Answering.{both-then, ready-step}
 use Rattle.vm_evict.proofs.flushing.visit.Goals as goal
 
@@ -39,3 +39,18 @@ returns-then-state-2-clause-ready g c = ready-step c.requires.ready c.look_silen
 
 pub returns-else-state-2-clause-ready : goal.returns-else-state-2-clause-ready
 returns-else-state-2-clause-ready g c = ready-step c.requires.ready c.look_silently-word.ensures.pass c.look_silently-word.ensures.told.brings refl refl
+
+pub visit_unheld-requires-clause-unheld : goal.visit_unheld-requires-clause-unheld
+visit_unheld-requires-clause-unheld g c = ⊎_elim (λ e. inl (sym c.state-state.ensures ∙ e)) (λ e. inr (sym c.state-state.ensures ∙ e.1)) c.if-state.either
+
+pub visit_unheld-requires-clause-counts : goal.visit_unheld-requires-clause-counts
+visit_unheld-requires-clause-counts g c = c.requires.counts
+
+pub returns-then-state-clause-ready : goal.returns-then-state-clause-ready
+returns-then-state-clause-ready g c = c.visit_unheld.ensures.ready
+
+pub returns-then-state-2-clause-pass : goal.returns-then-state-2-clause-pass
+returns-then-state-2-clause-pass g c = c.look_silently-word.ensures.pass
+
+pub returns-else-state-2-clause-pass : goal.returns-else-state-2-clause-pass
+returns-else-state-2-clause-pass g c = c.look_silently-word.ensures.pass

@@ -1,6 +1,6 @@
 -- What the steps tell, in the order of the visit: the page that the look is at is one of the table.
 use Rattle.vm_evict.proofs.FlushVisits.{by-load-clean, by-lock-lost, by-mark-lost, by-write, dirty-there, home-front, not-dirty, page-before}
-use Rattle.vm_evict.proofs.{Answering.ready-step, Answering.ready-write_lock}
+use Rattle.vm_evict.proofs.{Answering.both-then, Answering.ready-step, Answering.ready-write_lock}
 use Rattle.vm_evict.proofs.Locking.{lock-now, may-unshare, under-write-back}
 use Rattle.vm_evict.proofs.Prelude.{ap, arith, MARKED, MAX_VERSION, refl, state_of, subst, sym, version-within, word-state, word_of, ℕ, ◌<◌, ◌∙◌, ◌≤◌}
 use Rattle.vm_evict.proofs.Writing.{still-locked}
@@ -71,3 +71,24 @@ returns-in-Lost-lock_write_back-clause-ready g c = ready-write_lock c.mark_page.
 
 pub returns-in-Taken-clause-ready : goal.returns-in-Taken-clause-ready
 returns-in-Taken-clause-ready g c = ready-step c.write_where_dirty-wrote.ensures.ready c.unlock_shared.ensures.pass c.unlock_shared.ensures.told.brings refl refl
+
+pub mark_page-requires-clause-legal : goal.mark_page-requires-clause-legal
+mark_page-requires-clause-legal g c = c.requires.unheld
+
+pub of-marked-requires : goal.of-marked-requires
+of-marked-requires g c = omega (arith, c.version.ensures, version-within c.args.word)
+
+pub returns-in-Lost-clause-pass : goal.returns-in-Lost-clause-pass
+returns-in-Lost-clause-pass g c = both-then c.tload.ensures.pass c.mark_page.ensures.pass
+
+pub returns-in-Lost-clause-ready : goal.returns-in-Lost-clause-ready
+returns-in-Lost-clause-ready g c = c.mark_page.ensures.ready
+
+pub returns-in-Lost-lock_write_back-clause-pass : goal.returns-in-Lost-lock_write_back-clause-pass
+returns-in-Lost-lock_write_back-clause-pass g c = both-then (both-then c.tload.ensures.pass c.mark_page.ensures.pass) c.lock_write_back.ensures.pass
+
+pub returns-in-Taken-clause-pass : goal.returns-in-Taken-clause-pass
+returns-in-Taken-clause-pass g c = both-then (both-then (both-then (both-then c.tload.ensures.pass c.mark_page.ensures.pass) c.lock_write_back.ensures.pass) c.write_where_dirty-wrote.ensures.pass) c.unlock_shared.ensures.pass
+
+pub count-requires : goal.count-requires
+count-requires g c = record { counts = c.requires.counts }
