@@ -32,12 +32,6 @@ loop-i-preserved g c =
       back = back-more c.args.phase c.loop-i.stages c.loop-i.i c.advance.result (length c.args.list.now) inv.back;
     }
 
-pub bounds-list-i : goal.bounds-list-i
-bounds-list-i g c = c.loop-i-test.true
-
-pub advance-requires-clause-ready : goal.advance-requires-clause-ready
-advance-requires-clause-ready g c = c.loop-i.invariant.ready
-
 pub advance-requires-clause-home : goal.advance-requires-clause-home
 advance-requires-clause-home g c = (c.loop-i.invariant.passed c.requires.way.0 c.requires.way.1 c.requires.way.2).after.home
 
@@ -49,12 +43,6 @@ returns-clause-passed g c = c.loop-i.invariant.passed
 
 pub returns-clause-way : goal.returns-clause-way
 returns-clause-way g c = (c.requires.way.0, _, (c.loop-i.invariant.passed c.requires.way.0 c.requires.way.1 c.requires.way.2).after)
-
-pub returns-clause-ready : goal.returns-clause-ready
-returns-clause-ready g c = c.loop-i.invariant.ready
-
-pub returns-clause-pass : goal.returns-clause-pass
-returns-clause-pass g c = c.loop-i.invariant.same
 
 pub returns-clause-ends : goal.returns-clause-ends
 returns-clause-ends g c = λ j b. c.loop-i.invariant.front j (omega (arith, b, c.loop-i-test.false))

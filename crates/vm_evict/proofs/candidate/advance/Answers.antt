@@ -1,7 +1,7 @@
 use Rattle.vm_evict.specs.declared.candidate.Phase.TheVariants as phases
 use Rattle.vm_evict.specs.declared.candidate.Stage.TheVariants as stages
 use Rattle.vm_evict.proofs.Moving.{at-stage, begins-waiting, comes-from, empty-leaves, leave-leaves, lock-leaves, raise-leaves, skips}
-use Rattle.vm_evict.proofs.Prelude.{MayBeginPhase, Phase, refl, subst, view}
+use Rattle.vm_evict.proofs.Prelude.{MayBeginPhase, Phase, subst, view}
 use Rattle.vm_evict.proofs.candidate.advance.Goals as goal
 
 pub returns-in-Save-clause-moved : goal.returns-in-Save-clause-moved
@@ -34,90 +34,21 @@ returns-in-Emptied-clause-moved g c v done h =
 pub returns-in_default-stage-3-clause-moved : goal.returns-in_default-stage-3-clause-moved
 returns-in_default-stage-3-clause-moved g c v done h = skips c.args.phase c.args.c c.args.stage done v (view c.args.pass.now) c.requires.begins h phases.Leave c.in-Leave.is (leave-leaves c.args.stage c.in_default-stage-3.not-Emptied)
 
-pub returns-in-Save-clause-pass : goal.returns-in-Save-clause-pass
-returns-in-Save-clause-pass g c = c.save_page.ensures.pass
-
-pub returns-in-Save-clause-ready : goal.returns-in-Save-clause-ready
-returns-in-Save-clause-ready g c = c.save_page.ensures.ready
-
-pub save_page-requires-clause-candidate : goal.save_page-requires-clause-candidate
-save_page-requires-clause-candidate g c = c.requires.candidate
-
 pub save_page-requires-clause-at : goal.save_page-requires-clause-at
 save_page-requires-clause-at g c = at-stage c.args.c c.args.stage _ (view c.args.pass.now) (begins-waiting c.args.stage (subst (λ (k : Phase). MayBeginPhase k c.args.stage) c.in-Save.is c.requires.begins)) c.requires.at
-
-pub returns-in-Clean-clause-pass : goal.returns-in-Clean-clause-pass
-returns-in-Clean-clause-pass g c = c.lock_clean.ensures.pass
-
-pub returns-in-Clean-clause-ready : goal.returns-in-Clean-clause-ready
-returns-in-Clean-clause-ready g c = c.lock_clean.ensures.ready
-
-pub lock_clean-requires-clause-candidate : goal.lock_clean-requires-clause-candidate
-lock_clean-requires-clause-candidate g c = c.requires.candidate
 
 pub lock_clean-requires-clause-at : goal.lock_clean-requires-clause-at
 lock_clean-requires-clause-at g c = at-stage c.args.c c.args.stage _ (view c.args.pass.now) c.in-Clean.is c.requires.at
 
-pub returns-in-Shared-clause-pass : goal.returns-in-Shared-clause-pass
-returns-in-Shared-clause-pass g c = c.raise_shared.ensures.pass
-
-pub returns-in-Shared-clause-ready : goal.returns-in-Shared-clause-ready
-returns-in-Shared-clause-ready g c = c.raise_shared.ensures.ready
-
-pub raise_shared-requires-clause-candidate : goal.raise_shared-requires-clause-candidate
-raise_shared-requires-clause-candidate g c = c.requires.candidate
-
 pub raise_shared-requires-clause-at : goal.raise_shared-requires-clause-at
 raise_shared-requires-clause-at g c = at-stage c.args.c c.args.stage _ (view c.args.pass.now) c.in-Shared.is c.requires.at
-
-pub returns-in-Owned-clause-pass : goal.returns-in-Owned-clause-pass
-returns-in-Owned-clause-pass g c = c.empty_page.ensures.pass
-
-pub returns-in-Owned-clause-ready : goal.returns-in-Owned-clause-ready
-returns-in-Owned-clause-ready g c = c.empty_page.ensures.ready
-
-pub empty_page-requires-clause-candidate : goal.empty_page-requires-clause-candidate
-empty_page-requires-clause-candidate g c = c.requires.candidate
 
 pub empty_page-requires-clause-at : goal.empty_page-requires-clause-at
 empty_page-requires-clause-at g c = at-stage c.args.c c.args.stage _ (view c.args.pass.now) c.in-Owned.is c.requires.at
 
-pub returns-in-Emptied-clause-pass : goal.returns-in-Emptied-clause-pass
-returns-in-Emptied-clause-pass g c = c.leave_page.ensures.pass
-
-pub returns-in-Emptied-clause-ready : goal.returns-in-Emptied-clause-ready
-returns-in-Emptied-clause-ready g c = c.leave_page.ensures.ready
-
-pub leave_page-requires-clause-candidate : goal.leave_page-requires-clause-candidate
-leave_page-requires-clause-candidate g c = c.requires.candidate
-
 pub leave_page-requires-clause-at : goal.leave_page-requires-clause-at
 leave_page-requires-clause-at g c = at-stage c.args.c c.args.stage _ (view c.args.pass.now) c.in-Emptied.is c.requires.at
 
-pub returns-in_default-clause-pass : goal.returns-in_default-clause-pass
-returns-in_default-clause-pass g c = (refl, refl)
-
-pub returns-in_default-clause-ready : goal.returns-in_default-clause-ready
-returns-in_default-clause-ready g c = c.requires.ready
-
-pub returns-in_default-stage-clause-pass : goal.returns-in_default-stage-clause-pass
-returns-in_default-stage-clause-pass g c = (refl, refl)
-
-pub returns-in_default-stage-clause-ready : goal.returns-in_default-stage-clause-ready
-returns-in_default-stage-clause-ready g c = c.requires.ready
-
-pub returns-in_default-stage-2-clause-pass : goal.returns-in_default-stage-2-clause-pass
-returns-in_default-stage-2-clause-pass g c = (refl, refl)
-
-pub returns-in_default-stage-2-clause-ready : goal.returns-in_default-stage-2-clause-ready
-returns-in_default-stage-2-clause-ready g c = c.requires.ready
-
-pub returns-in_default-stage-3-clause-pass : goal.returns-in_default-stage-3-clause-pass
-returns-in_default-stage-3-clause-pass g c = (refl, refl)
-
-pub returns-in_default-stage-3-clause-ready : goal.returns-in_default-stage-3-clause-ready
-returns-in_default-stage-3-clause-ready g c = c.requires.ready
-
 pub returns-in-Clean-clause-moved : goal.returns-in-Clean-clause-moved
-returns-in-Clean-clause-moved g c v done h = 
+returns-in-Clean-clause-moved g c v done h =
     comes-from c.args.phase phases.Lock c.args.c c.args.stage stages.Clean c.lock_clean.result done v (view c.args.pass.now) (view c.lock_clean.new.pass) c.in-Lock.is c.in-Clean.is (c.lock_clean.ensures.moved v done) h

@@ -10,20 +10,8 @@ returns-in-Lost-clause-moved g c v done h =
 pub returns-in-Taken-clause-moved : goal.returns-in-Taken-clause-moved
 returns-in-Taken-clause-moved g c v done h = locked-so g.U.Owner.tied c.args.p c.args.word c.requires.candidate.marked done v (view c.args.pass.now) (view c.lock_exclusive.new.pass) h c.in-Taken.ensures.told
 
-pub lock_exclusive-requires-clause-pass : goal.lock_exclusive-requires-clause-pass
-lock_exclusive-requires-clause-pass g c = c.requires.ready.may
-
 pub returns-in-Lost-clause-ready : goal.returns-in-Lost-clause-ready
 returns-in-Lost-clause-ready g c = ready-lock c.requires.ready c.lock_exclusive.ensures.pass c.lock_exclusive.ensures.told
 
 pub returns-in-Taken-clause-ready : goal.returns-in-Taken-clause-ready
 returns-in-Taken-clause-ready g c = ready-lock c.requires.ready c.lock_exclusive.ensures.pass c.lock_exclusive.ensures.told
-
-pub lock_exclusive-requires-clause-page : goal.lock_exclusive-requires-clause-page
-lock_exclusive-requires-clause-page g c = c.requires.candidate.page
-
-pub returns-in-Lost-clause-pass : goal.returns-in-Lost-clause-pass
-returns-in-Lost-clause-pass g c = c.lock_exclusive.ensures.pass
-
-pub returns-in-Taken-clause-pass : goal.returns-in-Taken-clause-pass
-returns-in-Taken-clause-pass g c = c.lock_exclusive.ensures.pass

@@ -15,9 +15,6 @@ unlock_shared-requires-clause-legal g c = may-give g.U.Owner.tied c.args.p c.arg
 pub returns-in-Lost-clause-moved : goal.returns-in-Lost-clause-moved
 returns-in-Lost-clause-moved g c v done h = raise-lost g.U.Owner.tied c.args.p c.args.word c.args.written done v (view c.args.pass.now) h.0 c.of-shared.result c.in-Lost.field-0 (c.of-shared.ensures ∙ ap (word_of 1) c.version.ensures) (c.upgrade.ensures.lost c.in-Lost.field-0 c.in-Lost.is) (view c.upgrade.new.pass) c.in-Lost.ensures.told c.unlock_shared.result (view c.unlock_shared.new.pass) c.unlock_shared.ensures.told
 
-pub upgrade-requires-clause-pass : goal.upgrade-requires-clause-pass
-upgrade-requires-clause-pass g c = c.requires.ready.may
-
 pub unlock_shared-requires-clause-pass : goal.unlock_shared-requires-clause-pass
 unlock_shared-requires-clause-pass g c = (ready-upgrade {b = c.upgrade.new.pass} c.requires.ready c.upgrade.ensures.pass c.upgrade.ensures.told).may
 
@@ -32,12 +29,3 @@ returns-in-Lost-clause-ready g c = ready-step (ready-upgrade {b = c.upgrade.new.
 
 pub of-shared-requires : goal.of-shared-requires
 of-shared-requires g c = omega (arith, c.version.ensures, version-within c.args.word)
-
-pub returns-in-Taken-clause-pass : goal.returns-in-Taken-clause-pass
-returns-in-Taken-clause-pass g c = c.upgrade.ensures.pass
-
-pub upgrade-requires-clause-page : goal.upgrade-requires-clause-page
-upgrade-requires-clause-page g c = c.requires.candidate.page
-
-pub unlock_shared-requires-clause-page : goal.unlock_shared-requires-clause-page
-unlock_shared-requires-clause-page g c = c.requires.candidate.page

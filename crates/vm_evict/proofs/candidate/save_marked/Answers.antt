@@ -35,26 +35,11 @@ returns-in-Err-clause-moved g c v done h why =
     (share-known g.U.Owner.tied c.args.p c.args.word c.requires.candidate.marked done v (view c.args.pass.now) (view c.lock_write_back.new.pass) h c.in_default.ensures.told)
     (failed-so c.args.p c.args.word _ v (view c.lock_write_back.new.pass) (view c.write_where_dirty.new.pass) (writing g.U.Owner.tied c.args.p c.args.word c.requires.candidate.marked done v (view c.args.pass.now) (view c.lock_write_back.new.pass) h c.in_default.ensures.told why) c.in-Err.count c.in-Err.ensures.written c.unlock_shared.result (view c.unlock_shared.new.pass) c.unlock_shared.ensures.told)
 
-pub lock_write_back-requires-clause-pass : goal.lock_write_back-requires-clause-pass
-lock_write_back-requires-clause-pass g c = c.requires.ready.may
-
-pub lock_write_back-requires-clause-legal : goal.lock_write_back-requires-clause-legal
-lock_write_back-requires-clause-legal g c = c.requires.candidate.marked
-
 pub returns-in-Lost-clause-ready : goal.returns-in-Lost-clause-ready
 returns-in-Lost-clause-ready g c = ready-write_lock c.requires.ready c.lock_write_back.ensures.pass c.lock_write_back.ensures.told
 
 pub write_where_dirty-requires-clause-ready : goal.write_where_dirty-requires-clause-ready
 write_where_dirty-requires-clause-ready g c = ready-write_lock c.requires.ready c.lock_write_back.ensures.pass c.lock_write_back.ensures.told
-
-pub unlock_shared-requires-clause-pass : goal.unlock_shared-requires-clause-pass
-unlock_shared-requires-clause-pass g c = c.write_where_dirty.ensures.ready.may
-
-pub returns-in-Ok-clause-pass : goal.returns-in-Ok-clause-pass
-returns-in-Ok-clause-pass g c = both-then c.lock_write_back.ensures.pass c.write_where_dirty.ensures.pass
-
-pub returns-in-Ok-clause-ready : goal.returns-in-Ok-clause-ready
-returns-in-Ok-clause-ready g c = c.write_where_dirty.ensures.ready
 
 pub returns-in-Err-clause-pass : goal.returns-in-Err-clause-pass
 returns-in-Err-clause-pass g c = both-then (both-then c.lock_write_back.ensures.pass c.write_where_dirty.ensures.pass) c.unlock_shared.ensures.pass

@@ -13,9 +13,6 @@ pub returns-else-state-2-clause-visited : goal.returns-else-state-2-clause-visit
 returns-else-state-2-clause-visited g c =
     by-look-gone c.args.p g.U.Owner.tied _ _ _ c.look_silently-word.ensures.told c.args.flushed.now (subst (λ n. c.args.p < n) (sym c.requires.ready.table.is_shape.pages) c.requires.page) (sym c.state-state.ensures ∙ c.if-state-2.false)
 
-pub look_silently-word-requires-clause-pass : goal.look_silently-word-requires-clause-pass
-look_silently-word-requires-clause-pass g c = c.requires.ready.may
-
 pub visit_unheld-requires-clause-ready : goal.visit_unheld-requires-clause-ready
 visit_unheld-requires-clause-ready g c = ready-step c.requires.ready c.look_silently-word.ensures.pass c.look_silently-word.ensures.told.brings refl refl
 
@@ -42,15 +39,3 @@ returns-else-state-2-clause-ready g c = ready-step c.requires.ready c.look_silen
 
 pub visit_unheld-requires-clause-unheld : goal.visit_unheld-requires-clause-unheld
 visit_unheld-requires-clause-unheld g c = ⊎_elim (λ e. inl (sym c.state-state.ensures ∙ e)) (λ e. inr (sym c.state-state.ensures ∙ e.1)) c.if-state.either
-
-pub visit_unheld-requires-clause-counts : goal.visit_unheld-requires-clause-counts
-visit_unheld-requires-clause-counts g c = c.requires.counts
-
-pub returns-then-state-clause-ready : goal.returns-then-state-clause-ready
-returns-then-state-clause-ready g c = c.visit_unheld.ensures.ready
-
-pub returns-then-state-2-clause-pass : goal.returns-then-state-2-clause-pass
-returns-then-state-2-clause-pass g c = c.look_silently-word.ensures.pass
-
-pub returns-else-state-2-clause-pass : goal.returns-else-state-2-clause-pass
-returns-else-state-2-clause-pass g c = c.look_silently-word.ensures.pass

@@ -42,9 +42,6 @@ returns-in-Taken-clause-visited g c v look =
     let home = home-front c.args.p g.U.Owner.tied _ v _ look c.args.flushed.now page _ _ c.tload.ensures.told c.requires.unheld there _ c.in_default.ensures.marks c.requires.home in
     by-write c.args.p g.U.Owner.tied _ v _ look c.args.flushed.now page _ _ c.tload.ensures.told c.requires.unheld there _ c.in_default.ensures.marks _ (c.of-marked.ensures ∙ ap (word_of MARKED) c.version.ensures) home _ c.in-Taken.ensures.told _ _ _ c.unlock_shared.ensures.told _ c.write_where_dirty-wrote.ensures.written _ c.count.ensures.counted
 
-pub tload-requires-clause-pass : goal.tload-requires-clause-pass
-tload-requires-clause-pass g c = c.requires.ready.may
-
 pub returns-then-is_none-clause-ready : goal.returns-then-is_none-clause-ready
 returns-then-is_none-clause-ready g c = ready-step c.requires.ready c.tload.ensures.pass c.tload.ensures.told.brings refl refl
 
@@ -57,14 +54,8 @@ overflow_add-flushed g c = omega (arith, c.requires.counts)
 pub overflow_add-flushed-in-Lost-lock_write_back : goal.overflow_add-flushed-in-Lost-lock_write_back
 overflow_add-flushed-in-Lost-lock_write_back g c = omega (arith, c.requires.counts)
 
-pub lock_write_back-requires-clause-pass : goal.lock_write_back-requires-clause-pass
-lock_write_back-requires-clause-pass g c = c.mark_page.ensures.ready.may
-
 pub write_where_dirty-wrote-requires-clause-ready : goal.write_where_dirty-wrote-requires-clause-ready
 write_where_dirty-wrote-requires-clause-ready g c = ready-write_lock c.mark_page.ensures.ready c.lock_write_back.ensures.pass c.lock_write_back.ensures.told
-
-pub unlock_shared-requires-clause-pass : goal.unlock_shared-requires-clause-pass
-unlock_shared-requires-clause-pass g c = c.write_where_dirty-wrote.ensures.ready.may
 
 pub returns-in-Lost-lock_write_back-clause-ready : goal.returns-in-Lost-lock_write_back-clause-ready
 returns-in-Lost-lock_write_back-clause-ready g c = ready-write_lock c.mark_page.ensures.ready c.lock_write_back.ensures.pass c.lock_write_back.ensures.told
@@ -72,23 +63,11 @@ returns-in-Lost-lock_write_back-clause-ready g c = ready-write_lock c.mark_page.
 pub returns-in-Taken-clause-ready : goal.returns-in-Taken-clause-ready
 returns-in-Taken-clause-ready g c = ready-step c.write_where_dirty-wrote.ensures.ready c.unlock_shared.ensures.pass c.unlock_shared.ensures.told.brings refl refl
 
-pub mark_page-requires-clause-legal : goal.mark_page-requires-clause-legal
-mark_page-requires-clause-legal g c = c.requires.unheld
-
 pub of-marked-requires : goal.of-marked-requires
 of-marked-requires g c = omega (arith, c.version.ensures, version-within c.args.word)
-
-pub returns-in-Lost-clause-pass : goal.returns-in-Lost-clause-pass
-returns-in-Lost-clause-pass g c = both-then c.tload.ensures.pass c.mark_page.ensures.pass
-
-pub returns-in-Lost-clause-ready : goal.returns-in-Lost-clause-ready
-returns-in-Lost-clause-ready g c = c.mark_page.ensures.ready
 
 pub returns-in-Lost-lock_write_back-clause-pass : goal.returns-in-Lost-lock_write_back-clause-pass
 returns-in-Lost-lock_write_back-clause-pass g c = both-then (both-then c.tload.ensures.pass c.mark_page.ensures.pass) c.lock_write_back.ensures.pass
 
 pub returns-in-Taken-clause-pass : goal.returns-in-Taken-clause-pass
 returns-in-Taken-clause-pass g c = both-then (both-then (both-then (both-then c.tload.ensures.pass c.mark_page.ensures.pass) c.lock_write_back.ensures.pass) c.write_where_dirty-wrote.ensures.pass) c.unlock_shared.ensures.pass
-
-pub count-requires : goal.count-requires
-count-requires g c = record { counts = c.requires.counts }
