@@ -1,3 +1,4 @@
+pub mod Answering
 pub mod Prelude
 pub mod Writing
 pub mod Evidenced

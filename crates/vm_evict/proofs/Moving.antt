@@ -160,6 +160,10 @@ module _ {X : Type 0} where
       subst (λ (j : Phase). Advances j c s new done v x y) (sym is)
       (subst (λ (u : Stage). Advances k c u new done v x y) (sym e) (f (subst (λ (u : Stage). IsAt c u done v x) e h)))
 
+  -- and so it is with what is known of it there
+  pub at-stage : (c : ℕ × ℕ) (s t : Stage) (x : View X) → s ≡ t → (v : View X) × (done : List Did) × IsAt c s done v x → (v : View X) × (done : List Did) × IsAt c t done v x
+  at-stage c s t x e h = (h.0, h.1, subst (λ (u : Stage). IsAt c u h.1 h.0 x) e h.2)
+
 -- ---- the stages that a phase leaves
 
 pub begins-waiting : (s : Stage) → MayBeginPhase phases.Save s → s ≡ stages.Waiting

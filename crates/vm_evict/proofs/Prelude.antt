@@ -14,6 +14,7 @@ pub use Rattle.vm_owner.proofs.NumberLemmas.{has-last}
 pub use Rattle.vm_rule.specs.{declared.view.Held.Held, declared.view.Place.Place, Releases.evicted_view}
 pub use Rattle.vm_rule.specs.Prelude.{AreApart, Brings, clean_in, CleanTold, ClearTold, contents_at, did_exchange, did_load, did_store, dirty_in, draft_of}
 pub use Rattle.vm_rule.specs.Prelude.{Each, EvictTold, frame_read_by, has, held_at, HomeTold, index_of, IsFoundAt, IsLocking, IsUnheld, IsWhole, IsWritten}
+pub use Rattle.vm_rule.specs.{declared.view.Shape.Shape, declared.words.Pass.Pass, Prelude.TableId}
 pub use Rattle.vm_rule.specs.Prelude.{last_in, last_of, left_at, LoadTold, LockTold, LookTold, Mapping, may_call, MayBring, MayRaiseLock, notes_of, Open}
 pub use Rattle.vm_rule.specs.Prelude.{out_at, OutTold, put_at, RaiseTold, ReadIs, Seat, seat_of, stands_dirty, StandsClean, StandsIn, Start, Stored}
 pub use Rattle.vm_rule.specs.Prelude.{translation_of, TranslationTold, UnshareTold, upgraded_view, UpgradeTold, Within, words_held, WriteLockTold}
@@ -26,7 +27,7 @@ pub use Rattle.vm_step.specs.Prelude.{IsHeld, IsLost, IsOfPage, IsReady, IsSameP
 pub use Rattle.vm_step.specs.Prelude.{LeavesRest, MayRaise, MayTakeOut, MayUnshare, Note, Origin, ReadsAsBefore, Release, RunsAlone, StaysHome, Tie}
 pub use Rattle.vm_step.specs.Prelude.{Translation, View, view, Works, WritesNone}
 pub use Rattle.vm_step.proofs.{After.knows-after, Alone.runs-one, Alone.runs-self, Alone.runs-then, Alone.stays-alone, Alone.still-alone, Asides.reads-then}
-pub use Rattle.vm_step.proofs.{Asides.starts-then, Asides.still-locking, Asides.whole-then, Leaves.aside-of, Leaves.leaves-then, Leaves.ready-after}
+pub use Rattle.vm_step.proofs.{Asides.starts-then, Asides.still-locking, Asides.whole-then, Leaves.aside-of, Leaves.leaves-then, Leaves.ready-after, Leaves.ready-on}
 pub use Rattle.vm_step.proofs.{Leaves.works-none, Leaves.works-then, Releasing.each-has, steps.Content.load-works, steps.Look.look-only, steps.Look.look-others}
 pub use Rattle.vm_step.proofs.{steps.Look.look-own, steps.Mapping.clean-held, steps.Mapping.clean-works, steps.Mapping.clear-held, steps.Mapping.clear-works}
 pub use Rattle.vm_step.proofs.{steps.Owner.owner-held, steps.Owner.owner-works, steps.Raise.raise-held, steps.Raise.raise-works, steps.Release.evict-alone}

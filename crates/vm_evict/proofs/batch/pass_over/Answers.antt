@@ -1,3 +1,4 @@
+use Rattle.vm_evict.proofs.Gathering.{each-at}
 use Rattle.vm_evict.proofs.Passing.{back-more, front-more, passed-more, passed-none}
 use Rattle.vm_evict.proofs.Prelude.{arith, length, length-set, refl, view, ◌∙◌}
 use Rattle.vm_evict.proofs.batch.pass_over.Goals as goal
@@ -30,3 +31,27 @@ loop-i-preserved g c =
       front = front-more c.args.phase c.loop-i.stages c.loop-i.i c.advance.result (omega (arith, c.loop-i-test.true, c.requires.few, inv.long)) one.ends inv.front;
       back = back-more c.args.phase c.loop-i.stages c.loop-i.i c.advance.result (length c.args.list.now) inv.back;
     }
+
+pub advance-requires-clause-home : goal.advance-requires-clause-home
+advance-requires-clause-home g c = (c.loop-i.invariant.passed c.requires.way.0 c.requires.way.1 c.requires.way.2).after.home
+
+pub advance-requires-clause-begins : goal.advance-requires-clause-begins
+advance-requires-clause-begins g c = c.loop-i.invariant.back c.loop-i.i (omega arith) c.loop-i-test.true
+
+pub returns-clause-passed : goal.returns-clause-passed
+returns-clause-passed g c = c.loop-i.invariant.passed
+
+pub returns-clause-way : goal.returns-clause-way
+returns-clause-way g c = (c.requires.way.0, _, (c.loop-i.invariant.passed c.requires.way.0 c.requires.way.1 c.requires.way.2).after)
+
+pub returns-clause-ends : goal.returns-clause-ends
+returns-clause-ends g c = λ j b. c.loop-i.invariant.front j (omega (arith, b, c.loop-i-test.false))
+
+pub advance-requires-clause-candidate : goal.advance-requires-clause-candidate
+advance-requires-clause-candidate g c = each-at _ c.args.list.now c.loop-i.i c.loop-i-test.true c.requires.list.each
+
+pub bounds-stages-i : goal.bounds-stages-i
+bounds-stages-i g c = omega (arith, c.loop-i-test.true, c.requires.few)
+
+pub bounds-stages-i-in-loop-i : goal.bounds-stages-i-in-loop-i
+bounds-stages-i-in-loop-i g c = omega (arith, c.loop-i-test.true, c.requires.few)

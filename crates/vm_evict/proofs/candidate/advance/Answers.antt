@@ -1,6 +1,6 @@
 use Rattle.vm_evict.specs.declared.candidate.Phase.TheVariants as phases
 use Rattle.vm_evict.specs.declared.candidate.Stage.TheVariants as stages
-use Rattle.vm_evict.proofs.Moving.{begins-waiting, comes-from, empty-leaves, leave-leaves, lock-leaves, raise-leaves, skips}
+use Rattle.vm_evict.proofs.Moving.{at-stage, begins-waiting, comes-from, empty-leaves, leave-leaves, lock-leaves, raise-leaves, skips}
 use Rattle.vm_evict.proofs.Prelude.{MayBeginPhase, Phase, subst, view}
 use Rattle.vm_evict.proofs.candidate.advance.Goals as goal
 
@@ -33,3 +33,22 @@ returns-in-Emptied-clause-moved g c v done h =
 
 pub returns-in_default-stage-3-clause-moved : goal.returns-in_default-stage-3-clause-moved
 returns-in_default-stage-3-clause-moved g c v done h = skips c.args.phase c.args.c c.args.stage done v (view c.args.pass.now) c.requires.begins h phases.Leave c.in-Leave.is (leave-leaves c.args.stage c.in_default-stage-3.not-Emptied)
+
+pub save_page-requires-clause-at : goal.save_page-requires-clause-at
+save_page-requires-clause-at g c = at-stage c.args.c c.args.stage _ (view c.args.pass.now) (begins-waiting c.args.stage (subst (λ (k : Phase). MayBeginPhase k c.args.stage) c.in-Save.is c.requires.begins)) c.requires.at
+
+pub lock_clean-requires-clause-at : goal.lock_clean-requires-clause-at
+lock_clean-requires-clause-at g c = at-stage c.args.c c.args.stage _ (view c.args.pass.now) c.in-Clean.is c.requires.at
+
+pub raise_shared-requires-clause-at : goal.raise_shared-requires-clause-at
+raise_shared-requires-clause-at g c = at-stage c.args.c c.args.stage _ (view c.args.pass.now) c.in-Shared.is c.requires.at
+
+pub empty_page-requires-clause-at : goal.empty_page-requires-clause-at
+empty_page-requires-clause-at g c = at-stage c.args.c c.args.stage _ (view c.args.pass.now) c.in-Owned.is c.requires.at
+
+pub leave_page-requires-clause-at : goal.leave_page-requires-clause-at
+leave_page-requires-clause-at g c = at-stage c.args.c c.args.stage _ (view c.args.pass.now) c.in-Emptied.is c.requires.at
+
+pub returns-in-Clean-clause-moved : goal.returns-in-Clean-clause-moved
+returns-in-Clean-clause-moved g c v done h =
+    comes-from c.args.phase phases.Lock c.args.c c.args.stage stages.Clean c.lock_clean.result done v (view c.args.pass.now) (view c.lock_clean.new.pass) c.in-Lock.is c.in-Clean.is (c.lock_clean.ensures.moved v done) h
