@@ -48,9 +48,10 @@ fn is_covered(rt: &impl Abort, page: &PageBuf, key: u64, covered: bool) {
 
 // The words of the page as the edit leaves it.
 fn edited_words(page: &PageBuf, edit: &Edit) -> [u64; 64] {
+    let (first, end) = edit.changes();
     let mut words = [0; 64];
     for i in 0..64 {
-        words[i] = if edit.touches(i) {
+        words[i] = if i == 1 || (first <= i && i < end) {
             edit.word(page, i)
         } else {
             page.get(i)

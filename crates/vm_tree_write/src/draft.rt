@@ -1,6 +1,6 @@
 // The draft of a locked page becomes a page's words: those of a buffer, or of one as an edit leaves it, which needs no second buffer.
 ghost use Rattle.std.specs.Prelude.{◌<◌, ◌≡◌, IfNone, IfSome, length, List, slice_index, true, ℕ};
-ghost use Rattle.vm_node.specs.Edited.{edited};
+ghost use Rattle.vm_node.specs.Edited.{edited, LeavesElse};
 ghost use Rattle.vm_rule.specs.Prelude.{draft_of};
 ghost use Rattle.vm_step.specs.Prelude.{IsReady, IsSamePass, view};
 ghost use Rattle.vm_guard.specs.Guards.{IsHolding};
@@ -38,23 +38,30 @@ impl Wanted for PageBuf {
     }
 }
 
-/// A page as an edit of it leaves it.
+/// A page as an edit of it leaves it, and where it leaves all words but the count.
 #[derive(Drop)]
 pub struct Edited<'a> {
     pub page: &'a PageBuf,
     pub edit: Edit,
+    pub first: usize,
+    pub end: usize,
 }
 
 impl Wanted for Edited<'_> {
     ghost words = { λ e. edited e.page.now e.edit };
 
-    ghost made_of = { λ e before. e.page.now ≡ before };
+    ghost made_of = { λ e before. (e.page.now ≡ before) × LeavesElse e.edit e.first e.end };
 
     fn change(&self, i: usize) -> Option<u64> {
-        if self.edit.touches(i) {
-            return Some(self.edit.word(self.page, i));
+        if i != 1 {
+            if i < self.first {
+                return None;
+            }
+            if self.end <= i {
+                return None;
+            }
         }
-        None
+        Some(self.edit.word(self.page, i))
     }
 }
 

@@ -46,7 +46,13 @@ pub fn write_leaf<B: Block>(
         Ok(held) => held,
         Err(deny) => return Err(deny),
     };
-    let after = Edited { page: before, edit };
+    let (first, end) = edit.changes();
+    let after = Edited {
+        page: before,
+        edit,
+        first,
+        end,
+    };
     redraft(words, pass, &mut held, before, &after);
     held.release(words, pass, Some(said));
     Ok(())
