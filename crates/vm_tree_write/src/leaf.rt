@@ -46,12 +46,10 @@ pub fn write_leaf<B: Block>(
         Ok(held) => held,
         Err(deny) => return Err(deny),
     };
-    let (first, end) = edit.changes();
     let after = Edited {
         page: before,
         edit,
-        first,
-        end,
+        changes: edit.changes(),
     };
     redraft(words, pass, &mut held, before, &after);
     held.release(words, pass, Some(said));

@@ -8,11 +8,11 @@ use Rattle.vm_tree_write.proofs.draft.EditedWanted.change.Goals as goal
 left : (page before : List ℕ) (edit : Edit) (first end i : ℕ) → i < 64 → i ≢ 1 → (i < first) ⊎ (end ≤ i) → (page ≡ before) × LeavesElse edit first end → slice_index (edited page edit) i ≡ slice_index before i
 left page before edit first end i lt ne outside made = edited-at page edit i lt ∙ made.1 page i lt ne outside ∙ ap (λ (l : List ℕ). slice_index l i) made.0
 
-pub returns-then-self-i-clause-none : goal.returns-then-self-i-clause-none
-returns-then-self-i-clause-none c before made = left _ before c.args.self.now.edit _ _ c.args.i c.requires.i c.if-i-ne1.true (inr c.if-self-i.true) made
+pub returns-then-end-i-clause-none : goal.returns-then-end-i-clause-none
+returns-then-end-i-clause-none c before made = left _ before c.args.self.now.edit _ _ c.args.i c.requires.i c.if-i-ne1.true (inr c.if-end-i.true) made
 
-pub returns-then-i-self-clause-none : goal.returns-then-i-self-clause-none
-returns-then-i-self-clause-none c before made = left _ before c.args.self.now.edit _ _ c.args.i c.requires.i c.if-i-ne1.true (inl c.if-i-self.true) made
+pub returns-then-i-first-clause-none : goal.returns-then-i-first-clause-none
+returns-then-i-first-clause-none c before made = left _ before c.args.self.now.edit _ _ c.args.i c.requires.i c.if-i-ne1.true (inl c.if-i-first.true) made
 
 pub returns-clause-some : goal.returns-clause-some
 returns-clause-some c = c.word.ensures ∙ sym (edited-at c.args.self.now.page.now c.args.self.now.edit c.args.i c.requires.i)
