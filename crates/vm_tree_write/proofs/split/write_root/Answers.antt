@@ -1,4 +1,4 @@
-use Rattle.std.proofs.Common.{◌+◌, ◌∙◌, ◌≡◌, ap, List, refl, slice_set, subst, sym, true, ℕ}
+use Rattle.std.proofs.Common.{◌+◌, ◌∙◌, ◌≡◌, ap, refl, slice_set, subst, sym, true, ℕ}
 use Rattle.vm_map.specs.declared.call.Said.{Said}
 use Rattle.vm_node.specs.Halves.{left_half}
 use Rattle.vm_rule.specs.Prelude.{draft_of, last_of}
