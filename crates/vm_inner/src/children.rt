@@ -1,16 +1,17 @@
 //! The calls on an inner node's children: look-up, a further one, and the split of a full node.
 
-ghost use Rattle.std.specs.Prelude.{◌≡◌, ◌≢◌, ℕ, length, None, OnOk, OnErr, MatchOption, MatchResult};
+ghost use Rattle.std.specs.Prelude.{◌≡◌, ◌≢◌, ℕ, length, IfOk, None, OnOk, OnErr, MatchOption, MatchResult};
 ghost use Rattle.vm_map.specs.Map.{Rises};
 ghost use Rattle.vm_tree_model.specs.Node.{Covers};
 ghost use Rattle.vm_tree_model.specs.Page.{pairs_of, node_of, IsInner};
 ghost use Rattle.vm_tree_model.specs.Edits.{IsFullFor, AddsPair, IsRefused, IsSplit};
+ghost use Rattle.vm_node.specs.Edited.{edited};
 ghost use Rattle.vm_node.specs.Loads.{Tells};
 ghost use Rattle.vm_inner.specs.Found.{FindsChild, FindsNoChild};
 
 use vm_map::window::MOST_PAIRS;
 use vm_node::pairs::{count_at, upper_bound_at};
-use vm_node::{Full, Place, in_buffer, put, split};
+use vm_node::{Edit, Full, Place, in_buffer, put, put_edit, split};
 use vm_page::PageBuf;
 
 /// The page of the child whose range has the key, of any page whose keys rise: that of the last pair whose key is not above. Of other
@@ -47,6 +48,17 @@ pub fn add(page: &mut PageBuf, key: u64, child: u64) -> Result<(), Full>
 {
     put(page, key, child)?;
     Ok(())
+}
+
+/// What `add` changes, of any page whose keys rise; nothing is written. `Full` comes exactly where the node has 28 pairs and not the key.
+pub fn add_edit(page: &PageBuf, key: u64, child: u64) -> Result<Edit, Full>
+    ensures node { (low high : ℕ) → Rises low high (pairs_of page.now) → IfOk result (λ edit. AddsPair page.now (edited page.now edit) key child) }
+    ensures refused { OnErr result (IsRefused page.now page.now key) }
+    ensures full { IsInner page.now → MatchResult result (λ _. ¬ (IsFullFor page.now key)) (λ _. IsFullFor page.now key) }
+    ensures inner { IsInner page.now → Covers (node_of page.now) key → IfOk result (λ edit. IsInner (edited page.now edit)) }
+{
+    let (_, edit) = put_edit(page, key, child)?;
+    Ok(edit)
 }
 
 /// Splits an inner node of 28 pairs: the first 14 stay, the last 14 make the right sibling. What `right` held before is

@@ -13,3 +13,4 @@ pub mod ReadPairs
 pub mod Searches
 pub mod LeafWindows
 pub mod SplitWords
+pub mod Halving

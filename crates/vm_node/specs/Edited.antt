@@ -1,5 +1,5 @@
 -- The words of a page as an edit of one pair leaves them: a count above 28 is read as 28.
-use Rattle.std.specs.Prelude.{ℕ, ◌+◌, ◌-◌, ◌*◌, ◌==◌, nat_lt, min, List, map, slice_index, if◌then◌else◌}
+use Rattle.std.specs.Prelude.{ℕ, ◌+◌, ◌-◌, ◌*◌, ◌==◌, ◌<◌, ◌≡◌, ◌≢◌, ◌≤◌, ◌⊎◌, nat_lt, min, List, map, slice_index, if◌then◌else◌}
 use Rattle.std.specs.List.{range_with_len}
 use Rattle.vm_page.specs.declared.buf.TheConstants.{WORDS}
 use Rattle.vm_map.specs.declared.window.TheConstants.{MOST_PAIRS}
@@ -38,3 +38,7 @@ edited_word words (Out at count) i = word_out words at (min count MOST_PAIRS) i
 -- the page after the edit
 abbrev pub edited : List ℕ → Edit → List ℕ
 edited words edit = map (λ i. edited_word words edit i) (range_with_len 0 WORDS)
+
+-- of each page the edit leaves the words but the count before the first of these places, and from the second on
+abbrev pub LeavesElse : Edit → ℕ → ℕ → Type 0
+LeavesElse edit first end = (words : List ℕ) (i : ℕ) → i < WORDS → i ≢ 1 → (i < first) ⊎ (end ≤ i) → edited_word words edit i ≡ slice_index words i

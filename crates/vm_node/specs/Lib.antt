@@ -3,3 +3,4 @@ pub mod Takes
 pub mod Shows
 pub mod Loads
 pub mod Edited
+pub mod Halves

@@ -1,12 +1,12 @@
 //! Edits of a leaf's pairs, found in the page as it is: what each word becomes is told before any is written.
 
-ghost use Rattle.std.specs.Prelude.{◌*◌, ◌+◌, ◌&&◌, ◌<◌, ◌≡◌, false, IfOk, IfSome, List, MatchResult, min, nat_lt, not, OnErr, slice_index, ℕ};
+ghost use Rattle.std.specs.Prelude.{◌≡◌, ℕ, ◌<◌, IfOk, IfSome, OnErr, MatchResult};
 ghost use Rattle.std.specs.Option.{option_map};
 ghost use Rattle.vm_map.specs.Map.{Rises, lookup_at, del_pair};
 ghost use Rattle.vm_tree_model.specs.Node.{Covers};
 ghost use Rattle.vm_tree_model.specs.Page.{pairs_of, node_of, IsLeaf};
 ghost use Rattle.vm_tree_model.specs.Edits.{IsFullFor, AddsPair, IsRefused, PutsInLeaf, IsLeafWith};
-ghost use Rattle.vm_node.specs.Edited.{edited, edited_word};
+ghost use Rattle.vm_node.specs.Edited.{edited, edited_word, LeavesElse};
 ghost use Rattle.vm_node.specs.Takes.{TakesPair};
 
 use crate::full::Full;
@@ -54,17 +54,20 @@ impl Edit {
         }
     }
 
-    /// Whether word `i` may be another afterwards, for `i` from 0 to 63: the count, or a word of a pair that is changed or moved.
-    pub fn touches(&self, i: usize) -> bool
-        requires { i < WORDS }
-        ensures { result ≡ false → (words : List ℕ) → edited_word words self.now i ≡ slice_index words i }
+    /// Where words may be others afterwards, beside the count: from the first of these places on, and before the second.
+    pub fn changes(&self) -> (usize, usize)
+        ensures { LeavesElse self.now result.0 result.1 }
     {
         match *self {
-            Edit::Over { at, .. } => i == 9 + 2 * at.min(MOST_PAIRS),
-            Edit::Into { at, count, .. } => {
-                i == 1 || is_among(i, at, 10 + 2 * count.max(at).min(MOST_PAIRS))
+            Edit::Over { at, .. } => {
+                let first = 9 + 2 * at.min(MOST_PAIRS);
+                (first, first + 1)
             }
-            Edit::Out { at, count } => i == 1 || is_among(i, at, 8 + 2 * count.min(MOST_PAIRS)),
+            Edit::Into { at, count, .. } => (
+                8 + 2 * at.min(MOST_PAIRS),
+                10 + 2 * count.max(at).min(MOST_PAIRS),
+            ),
+            Edit::Out { at, count } => (8 + 2 * at.min(MOST_PAIRS), 8 + 2 * count.min(MOST_PAIRS)),
         }
     }
 
@@ -125,13 +128,6 @@ pub fn del_edit(page: &PageBuf, key: u64) -> Option<(u64, Edit)>
     };
     let count = count_of(page);
     Some((value_at(page, at), Edit::Out { at, count }))
-}
-
-// Whether the word is one from this place's pair on, before the end.
-fn is_among(i: usize, at: usize, end: usize) -> bool
-    ensures { result ≡ (not (nat_lt i (8 + 2 * min at MOST_PAIRS)) && nat_lt i end) }
-{
-    8 + 2 * at.min(MOST_PAIRS) <= i && i < end
 }
 
 // The value at the place is written over.

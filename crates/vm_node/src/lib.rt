@@ -27,7 +27,7 @@ mod shown;
 
 pub use edit::{Edit, del_edit, put_edit};
 pub use full::Full;
-pub use halves::split;
+pub use halves::{left_word, right_half, split};
 pub use leaf::{covers, covers_at, del, find, find_at, is_leaf, is_leaf_at, put};
 pub use place::{Place, in_buffer};
 pub use shown::{window, window_at};

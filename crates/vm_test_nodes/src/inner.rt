@@ -4,9 +4,9 @@
 //! the lowest key and the page of each child.
 
 use crate::counted::none_loaded;
-use crate::words::{page_of, words_of};
+use crate::words::{edited_words, page_of, words_of};
 use std::process::Abort;
-use vm_inner::{Full, add, child, child_at, new_root, split_inner};
+use vm_inner::{Full, add, add_edit, child, child_at, new_root, split_inner};
 use vm_node::pairs::count_of;
 use vm_page::PageBuf;
 
@@ -52,6 +52,28 @@ fn a_new_root_has_two_children(rt: HostRuntime) {
     for (key, page_of_child) in [(15, 5), (28, 5), (29, 4)] {
         leads_to(&rt, &page, key, Some(page_of_child));
     }
+}
+
+#[test]
+fn a_further_child_is_found_and_not_put(rt: HostRuntime) {
+    // The children 1000 and 1010.
+    let words = node_words([3, 2, 1000, 2000, 0, 1, 0, 0], 1000, 2);
+    let page = page_of(words);
+
+    let edit = add_edit(&page, 1005, 7).expect(&rt, "there is room");
+    let mut wanted = node_words([3, 3, 1000, 2000, 0, 1, 0, 0], 0, 0);
+    wanted[8..14].copy_from_slice(&[1000, 1100, 1005, 7, 1010, 1110]);
+    assert_eq!(rt; edited_words(&page, &edit), wanted);
+
+    let edit = add_edit(&page, 1010, 7).expect(&rt, "the key is there");
+    let mut wanted = words;
+    wanted[11] = 7;
+    assert_eq!(rt; edited_words(&page, &edit), wanted);
+    assert_eq!(rt; words_of(&page), words);
+
+    let full = page_of(node_words([3, 28, 1000, 2000, 0, 1, 0, 0], 1000, 28));
+    assert!(rt; add_edit(&full, 1275, 7).is_err());
+    assert!(rt; add_edit(&full, 1270, 7).is_ok());
 }
 
 #[test]

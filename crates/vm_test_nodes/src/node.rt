@@ -3,14 +3,14 @@
 //! A node is its tag, count, low fence, high fence, 1 where there is no high fence, level, two zeros, and then its pairs.
 
 use crate::counted::none_loaded;
-use crate::words::{page_of, words_of};
+use crate::words::{edited_words, left_words, page_of, words_of};
 use std::process::Abort;
 use vm_map::call::Pair;
 use vm_map::window::{Bound, Window};
 use vm_node::pairs::{count_at, count_of, lower_bound_at, upper_bound_at};
 use vm_node::{
     Edit, Full, covers, covers_at, del, del_edit, find, find_at, in_buffer, is_leaf, is_leaf_at,
-    put, put_edit, split, window, window_at,
+    put, put_edit, right_half, split, window, window_at,
 };
 use vm_page::PageBuf;
 
@@ -44,19 +44,6 @@ fn is_covered(rt: &impl Abort, page: &PageBuf, key: u64, covered: bool) {
     let mut place = none_loaded(page);
     assert_eq!(rt; covers_at(&mut place, key), covered, "at {key}");
     assert!(rt; place.loaded <= 3);
-}
-
-// The words of the page as the edit leaves it.
-fn edited_words(page: &PageBuf, edit: &Edit) -> [u64; 64] {
-    let mut words = [0; 64];
-    for i in 0..64 {
-        words[i] = if edit.touches(i) {
-            edit.word(page, i)
-        } else {
-            page.get(i)
-        };
-    }
-    words
 }
 
 // A window ends and shows this, in a buffer and in place, where two words a pair and nine at most are loaded.
@@ -100,6 +87,31 @@ fn a_full_leaf_is_split(rt: HostRuntime) {
         words_of(&right),
         node_words([2, 15, 15, 0, 1, 0, 0, 0], 15, 15)
     );
+}
+
+#[test]
+fn halves_are_found_and_the_left_one_not_made(rt: HostRuntime) {
+    let words = node_words([2, 28, 0, 40, 0, 0, 0, 0], 1, 28);
+    let page = page_of(words);
+    let mut right = page_of([7; 64]);
+    assert_eq!(rt; right_half(&page, &mut right), 15);
+    assert_eq!(rt;
+        words_of(&right),
+        node_words([2, 14, 15, 40, 0, 0, 0, 0], 15, 14)
+    );
+    assert_eq!(rt;
+        left_words(&page, 15),
+        node_words([2, 14, 0, 15, 0, 0, 0, 0], 1, 14)
+    );
+    assert_eq!(rt; words_of(&page), words);
+
+    // Of any words: a count of 14, the high fence, which there is, and zeros from the 15th pair on.
+    let mut wanted = [0; 64];
+    wanted[0..36].copy_from_slice(&[u64::MAX; 36]);
+    wanted[1] = 14;
+    wanted[3] = 5;
+    wanted[4] = 0;
+    assert_eq!(rt; left_words(&page_of([u64::MAX; 64]), 5), wanted);
 }
 
 #[test]

@@ -4,13 +4,14 @@ use Rattle.vm_map.specs.declared.call.Said.{Said}
 use Rattle.vm_tree_model.specs.Tree.{map_of}
 use Rattle.vm_rule.specs.Prelude.{Entry, entry_of, StartsWith}
 use Rattle.vm_step.specs.Prelude.{HoldsPage, View}
+use Rattle.vm_step.specs.declared.saw.Saw.{Saw}
 use Rattle.vm_evict.specs.declared.report.Report.{Report}
 use Rattle.vm_pool.specs.{Brings.SaysDry, declared.bring.Bring.Bring, Sweeps.IsSwept}
 use Rattle.vm_tree_laws.specs.History.{IsLegal}
 use Rattle.vm_tree_rule.specs.{declared.fault.TreeFault.TreeFault, Leaves.ReadsOn, Turns.IsNeeded}
 use Rattle.vm_tree_rule.specs.declared.fault.TreeFault.TheVariants as faults
-use Rattle.vm_tree_read.specs.{Reads.IsAnswered, Waiting.IsBringFault, Waiting.NamesFault}
-use Rattle.vm_tree_write.specs.{Splits.KeepsLocksOnly, Tries.IsEnded}
+use Rattle.vm_tree_read.specs.{Reads.IsAnswered, Waiting.IsBringFault, Waiting.IsNoBringFault, Waiting.NamesFault, Waiting.NamesNone}
+use Rattle.vm_tree_write.specs.{Splits.KeepsLocksOnly, Tries.IsCause, Tries.IsEnded, Tries.MetNoFullNode}
 use Rattle.vm_tree_write.specs.declared.tries.TrySplit.TheVariants as splits
 use Rattle.vm_tree_write.specs.Writes.{IsTight, IsVain, IsWornLeaf, IsWriteDone}
 
@@ -40,6 +41,15 @@ pub data IsRoomFault (key : ℕ) (fault : TreeFault) (v w : View Said) : Type 0 
   worn : (p : ℕ) → IsEnded v key w (splits.Worn p) → fault ≡ faults.Worn p → IsRoomFault key fault v w
   full : (pages next need : ℕ) → IsEnded v key w (splits.Full pages next need) → fault ≡ faults.Full pages → IsRoomFault key fault v w
   swept : (dry : View Said) (want cap : ℕ) (old new : List ℕ) (report : Report) (answer : Bring) → IsEnded v key dry splits.Dry → KeepsLocksOnly v dry → IsSwept want cap old new report dry w → SaysDry report answer → NamesFault answer fault → IsRoomFault key fault v w
+
+-- a split was tried once to make room for a key, and no fault came of it: a node was split; no node is full; others came before; the page needed
+-- was to be brought; or frames were to be freed
+pub data IsNoRoomFault (key : ℕ) (v w : View Said) : Type 0 where
+  split : IsEnded v key w splits.Split → IsNoRoomFault key v w
+  roomy : MetNoFullNode v key w → IsNoRoomFault key v w
+  again : (saw : Saw) → IsCause key (splits.Again saw) v w → IsNoRoomFault key v w
+  missing : (found : View Said) (page : ℕ) → ReadsOn v found → IsNeeded v key page found → IsNoBringFault page found w → IsNoRoomFault key v w
+  swept : (dry : View Said) (want cap : ℕ) (old new : List ℕ) (report : Report) (answer : Bring) → IsEnded v key dry splits.Dry → KeepsLocksOnly v dry → IsSwept want cap old new report dry w → SaysDry report answer → NamesNone answer → IsNoRoomFault key v w
 
 -- the last try of a put needed a page that could not be brought, or reached a leaf at the last version, or met a full leaf for which no room
 -- could be made

@@ -1,6 +1,7 @@
-// The draft of a locked page becomes a page's words: those of a buffer, or of one as an edit leaves it, which needs no second buffer.
+// The draft of a locked page becomes a page's words: those of a buffer, or those that an edit or a split leaves of one, which needs no second buffer.
 ghost use Rattle.std.specs.Prelude.{◌<◌, ◌≡◌, IfNone, IfSome, length, List, slice_index, true, ℕ};
-ghost use Rattle.vm_node.specs.Edited.{edited};
+ghost use Rattle.vm_node.specs.Edited.{edited, LeavesElse};
+ghost use Rattle.vm_node.specs.Halves.{left_half};
 ghost use Rattle.vm_rule.specs.Prelude.{draft_of};
 ghost use Rattle.vm_step.specs.Prelude.{IsReady, IsSamePass, view};
 ghost use Rattle.vm_guard.specs.Guards.{IsHolding};
@@ -8,7 +9,7 @@ ghost use Rattle.vm_tree_write.specs.Drafts.{IsRedrafted, KnowsSameStates, SetsD
 
 use vm_block::Block;
 use vm_guard::ExclusiveGuard;
-use vm_node::Edit;
+use vm_node::{Edit, left_word};
 use vm_owner::Owner;
 use vm_page::{PageBuf, WORDS};
 use vm_rule::words::{Pass, Words};
@@ -38,23 +39,47 @@ impl Wanted for PageBuf {
     }
 }
 
-/// A page as an edit of it leaves it.
+/// A page as an edit of it leaves it, and where words may be others than before, beside the count.
 #[derive(Drop)]
 pub struct Edited<'a> {
     pub page: &'a PageBuf,
     pub edit: Edit,
+    pub changes: (usize, usize),
 }
 
 impl Wanted for Edited<'_> {
     ghost words = { λ e. edited e.page.now e.edit };
 
-    ghost made_of = { λ e before. e.page.now ≡ before };
+    ghost made_of = { λ e before. (e.page.now ≡ before) × LeavesElse e.edit e.changes.0 e.changes.1 };
 
     fn change(&self, i: usize) -> Option<u64> {
-        if self.edit.touches(i) {
-            return Some(self.edit.word(self.page, i));
+        let (first, end) = self.changes;
+        if i != 1 {
+            if i < first {
+                return None;
+            }
+            if end <= i {
+                return None;
+            }
         }
-        None
+        Some(self.edit.word(self.page, i))
+    }
+}
+
+/// The left half of a full node.
+#[derive(Drop)]
+pub struct LeftHalf<'a> {
+    pub page: &'a PageBuf,
+    pub separator: u64,
+}
+
+impl Wanted for LeftHalf<'_> {
+    ghost words = { λ h. left_half h.page.now h.separator };
+
+    ghost made_of = { λ h before. Unit {0} };
+
+    fn change(&self, i: usize) -> Option<u64> {
+        Some(left_word(self.page, self.separator, i))
     }
 }
 

@@ -46,7 +46,11 @@ pub fn write_leaf<B: Block>(
         Ok(held) => held,
         Err(deny) => return Err(deny),
     };
-    let after = Edited { page: before, edit };
+    let after = Edited {
+        page: before,
+        edit,
+        changes: edit.changes(),
+    };
     redraft(words, pass, &mut held, before, &after);
     held.release(words, pass, Some(said));
     Ok(())

@@ -3,11 +3,11 @@ ghost use Rattle.std.specs.Prelude.{[], ◌+◌, ◌<◌, ◌^◌, ◌∷◌};
 ghost use Rattle.vm_step.specs.Prelude.{IsReady, IsSamePass, view};
 ghost use Rattle.vm_tree_write.specs.Splits.{CanSplit, CanSplitRoot, IsSplitUp};
 
-use crate::draft::redraft;
+use crate::draft::{Edited, LeftHalf, redraft};
 use vm_block::Block;
 use vm_guard::{ExclusiveGuard, Group, release_group};
-use vm_inner::{add, new_root};
-use vm_node::split;
+use vm_inner::{add_edit, new_root};
+use vm_node::right_half;
 use vm_page::PageBuf;
 use vm_rule::words::{Pass, Words};
 use vm_tree_rule::Tree;
@@ -28,16 +28,18 @@ pub fn write_split<B: Block>(
     ensures ready { IsReady words.now.table.shared.key B.tells words.now.table.shared.table_id pass.new }
     ensures split { IsSplitUp (up.pid ∷ low.pid ∷ right.pid ∷ []) (view pass.old) (view pass.new) }
 {
-    let mut left = PageBuf::zero();
-    left.copy_from(page);
     let mut half = PageBuf::zero();
-    let separator = split(&mut left, &mut half);
-    let mut above = PageBuf::zero();
-    above.copy_from(over);
-    match add(&mut above, separator, right.pid as u64) {
-        Ok(()) => {}
+    let separator = right_half(page, &mut half);
+    let left = LeftHalf { page, separator };
+    let edit = match add_edit(over, separator, right.pid as u64) {
+        Ok(edit) => edit,
         Err(_) => unreachable!(),
-    }
+    };
+    let above = Edited {
+        page: over,
+        edit,
+        changes: edit.changes(),
+    };
     let zero = PageBuf::zero();
     let mut first = up;
     let mut second = low;
@@ -67,10 +69,9 @@ pub fn write_root<B: Block>(
     ensures ready { IsReady words.now.table.shared.key B.tells words.now.table.shared.table_id pass.new }
     ensures split { IsSplitUp (meta.pid ∷ low.pid ∷ right.pid ∷ top.pid ∷ []) (view pass.old) (view pass.new) }
 {
-    let mut left = PageBuf::zero();
-    left.copy_from(page);
     let mut half = PageBuf::zero();
-    let separator = split(&mut left, &mut half);
+    let separator = right_half(page, &mut half);
+    let left = LeftHalf { page, separator };
     let mut crown = PageBuf::zero();
     new_root(
         &mut crown,

@@ -4,7 +4,7 @@ ghost use Rattle.vm_map.specs.declared.call.Call.TheVariants.{Del, Put};
 ghost use Rattle.vm_step.specs.Prelude.{AreHeld, IsReady, IsSamePass, view};
 ghost use Rattle.vm_tree_read.specs.Waiting.{LosesNone, Waits};
 ghost use Rattle.vm_tree_write.specs.Splits.{KeepsLocksOnly};
-ghost use Rattle.vm_tree_write.specs.Waiting.{IsPutFaulted, IsRoomFault, IsWriteFaulted, IsWriteReplied};
+ghost use Rattle.vm_tree_write.specs.Waiting.{IsNoRoomFault, IsPutFaulted, IsRoomFault, IsWriteFaulted, IsWriteReplied};
 
 use crate::tries::{TrySplit, try_split};
 use crate::write::{Tried, del_once, put_once};
@@ -72,6 +72,7 @@ fn make_room<B: Block>(
     ensures iface { (iface.new.home ≡ iface.old.home) × (iface.new.cap ≡ iface.old.cap) }
     ensures lost { LosesNone iface.old.frames (view pass.old) iface.new.frames (view pass.new) }
     ensures keeps { KeepsLocksOnly (view pass.old) (view pass.new) }
+    ensures ok { IfOk result (λ _. IsNoRoomFault key (view pass.old) (view pass.new)) }
     ensures err { IfErr result (λ fault. IsRoomFault key fault (view pass.old) (view pass.new)) }
 {
     match try_split(&pool.words, pass, iface, key) {

@@ -1,7 +1,8 @@
 -- The words below i are written.
 use Rattle.vm_node.specs.declared.edit.Edit.TheVariants.{Over}
+use Rattle.vm_node.specs.Edited.{edited_word}
 use Rattle.vm_node.proofs.Making.{IsMadeBelow}
 use Rattle.vm_node.proofs.edit.make_over.Given as goal
 
 abbrev pub invariant-loop-i : goal.invariant-loop-i
-invariant-loop-i l = IsMadeBelow l.fn.page l.page (Over l.at l.value) l.i
+invariant-loop-i l = IsMadeBelow l.fn.page l.page (edited_word l.fn.page (Over l.at l.value)) l.i

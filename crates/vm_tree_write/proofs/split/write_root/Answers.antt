@@ -1,6 +1,6 @@
-use Rattle.std.proofs.Common.{◌+◌, ◌∙◌, ◌≡◌, ap, List, refl, slice_set, subst, sym, true, ℕ}
+use Rattle.std.proofs.Common.{◌+◌, ◌∙◌, ◌≡◌, ap, refl, slice_set, subst, sym, true, ℕ}
 use Rattle.vm_map.specs.declared.call.Said.{Said}
-use Rattle.vm_tree_model.specs.Edits.{IsSplit}
+use Rattle.vm_node.specs.Halves.{left_half}
 use Rattle.vm_rule.specs.Prelude.{draft_of, last_of}
 use Rattle.vm_step.specs.Prelude.{View, view}
 use Rattle.vm_guard.specs.{declared.exclusive.ExclusiveGuard.ExclusiveGuard, Guards.IsHolding, Guards.IsSet}
@@ -75,16 +75,15 @@ release_group-requires-clause-may g c =
     let d2 = c.redraft.ensures in
     let d3 = c.redraft-2.ensures in
     let d4 = c.redraft-3.ensures in
-    let four = four-redrafted c.args.meta.pid c.args.low.pid c.args.right.pid c.args.top.pid (last_of (view c.args.pass.now) c.args.meta.pid).words _ c.args.page.now c.split-separator.new.page c.split-separator.new.right c.new_root.new.page (view c.args.pass.now) (view c.set-2.new.pass) (view c.redraft.new.pass) (view c.redraft-2.new.pass) (view c.redraft-3.new.pass)
+    let four = four-redrafted c.args.meta.pid c.args.low.pid c.args.right.pid c.args.top.pid (last_of (view c.args.pass.now) c.args.meta.pid).words _ c.args.page.now (left_half c.args.page.now c.right_half-separator.result) c.right_half-separator.new.right c.new_root.new.page (view c.args.pass.now) (view c.set-2.new.pass) (view c.redraft.new.pass) (view c.redraft-2.new.pass) (view c.redraft-3.new.pass)
     ne r.held.0.owns r.held.1.0.owns r.held.1.1.0.owns r.held.1.1.1.0.owns c.args.height r.told t.0 t.1 d2.redrafted d3.redrafted d4.redrafted d2.draft d3.draft d4.draft in
     let stays = four-stay c.args.meta.pid c.args.low.pid c.args.right.pid c.args.top.pid (view c.args.pass.now) (view c.set-2.new.pass) (view c.redraft.new.pass) (view c.redraft-2.new.pass) (view c.redraft-3.new.pass) t.0 d2.redrafted d3.redrafted d4.redrafted in
-    let split : IsSplit c.args.page.now c.split-separator.new.page c.split-separator.new.right c.split-separator.result = subst (λ (l : List ℕ). IsSplit l c.split-separator.new.page c.split-separator.new.right c.split-separator.result) c.copy_from.ensures.words c.split-separator.ensures.halves in
     let first = pid-of c.args.meta c.set.new.self c.set-2.new.self c.set.ensures.guard c.set-2.ensures.guard in
     let h0 : IsHolding c.set-2.new.self.pid c.set-2.new.self.frame c.set-2.new.self.version c.set-2.new.self.dirty (view c.set-2.new.pass) = held-of c.set.new.self c.set-2.new.self (view c.set-2.new.pass) c.set-2.ensures.guard c.set-2.ensures.holds in
     let h1 = holding-past _ _ _ _ _ _ _ (λ e. ne.ad (sym first ∙ e)) (holding-past _ _ _ _ _ _ _ (λ e. ne.ac (sym first ∙ e)) (holding-past _ _ _ _ _ _ _ (λ e. ne.ab (sym first ∙ e)) h0 d2.redrafted) d3.redrafted) d4.redrafted in
     let h2 = holding-past _ _ _ _ _ _ _ (λ e. ne.bd (sym d2.guard.0 ∙ e)) (holding-past _ _ _ _ _ _ _ (λ e. ne.bc (sym d2.guard.0 ∙ e)) d2.holds d3.redrafted) d4.redrafted in
     let h3 = holding-past _ _ _ _ _ _ _ (λ e. ne.cd (sym d3.guard.0 ∙ e)) d3.holds d4.redrafted in
-    four-all c.args.meta.pid c.args.low.pid c.args.right.pid c.args.top.pid c.args.height c.split-separator.result c.args.page.now c.split-separator.new.page c.split-separator.new.right c.new_root.new.page (view c.args.pass.now) (view c.redraft-3.new.pass) stays four r.zero r.told r.full split c.new_root.ensures.root r.owed c.set-2.new.self c.redraft.new.guard c.redraft-2.new.guard c.redraft-3.new.guard first d2.guard.0 d3.guard.0 d4.guard.0 h1 h2 h3 d4.holds r.apart r.home
+    four-all c.args.meta.pid c.args.low.pid c.args.right.pid c.args.top.pid c.args.height c.right_half-separator.result c.args.page.now (left_half c.args.page.now c.right_half-separator.result) c.right_half-separator.new.right c.new_root.new.page (view c.args.pass.now) (view c.redraft-3.new.pass) stays four r.zero r.told r.full c.right_half-separator.ensures.halves c.new_root.ensures.root r.owed c.set-2.new.self c.redraft.new.guard c.redraft-2.new.guard c.redraft-3.new.guard first d2.guard.0 d3.guard.0 d4.guard.0 h1 h2 h3 d4.holds r.apart r.home
 
 pub returns-clause-split : goal.returns-clause-split
 returns-clause-split g c =
@@ -94,9 +93,8 @@ returns-clause-split g c =
     let d2 = c.redraft.ensures in
     let d3 = c.redraft-2.ensures in
     let d4 = c.redraft-3.ensures in
-    let four = four-redrafted c.args.meta.pid c.args.low.pid c.args.right.pid c.args.top.pid (last_of (view c.args.pass.now) c.args.meta.pid).words _ c.args.page.now c.split-separator.new.page c.split-separator.new.right c.new_root.new.page (view c.args.pass.now) (view c.set-2.new.pass) (view c.redraft.new.pass) (view c.redraft-2.new.pass) (view c.redraft-3.new.pass)
+    let four = four-redrafted c.args.meta.pid c.args.low.pid c.args.right.pid c.args.top.pid (last_of (view c.args.pass.now) c.args.meta.pid).words _ c.args.page.now (left_half c.args.page.now c.right_half-separator.result) c.right_half-separator.new.right c.new_root.new.page (view c.args.pass.now) (view c.set-2.new.pass) (view c.redraft.new.pass) (view c.redraft-2.new.pass) (view c.redraft-3.new.pass)
     ne r.held.0.owns r.held.1.0.owns r.held.1.1.0.owns r.held.1.1.1.0.owns c.args.height r.told t.0 t.1 d2.redrafted d3.redrafted d4.redrafted d2.draft d3.draft d4.draft in
     let stays = four-stay c.args.meta.pid c.args.low.pid c.args.right.pid c.args.top.pid (view c.args.pass.now) (view c.set-2.new.pass) (view c.redraft.new.pass) (view c.redraft-2.new.pass) (view c.redraft-3.new.pass) t.0 d2.redrafted d3.redrafted d4.redrafted in
-    let split : IsSplit c.args.page.now c.split-separator.new.page c.split-separator.new.right c.split-separator.result = subst (λ (l : List ℕ). IsSplit l c.split-separator.new.page c.split-separator.new.right c.split-separator.result) c.copy_from.ensures.words c.split-separator.ensures.halves in
     let first = pid-of c.args.meta c.set.new.self c.set-2.new.self c.set.ensures.guard c.set-2.ensures.guard in
-    four-released c.args.meta.pid c.args.low.pid c.args.right.pid c.args.top.pid c.args.height c.split-separator.result c.args.page.now c.split-separator.new.page c.split-separator.new.right c.new_root.new.page (view c.args.pass.now) (view c.redraft-3.new.pass) stays four r.zero r.told r.full split c.new_root.ensures.root r.owed c.set-2.new.self c.redraft.new.guard c.redraft-2.new.guard c.redraft-3.new.guard _ first d2.guard.0 d3.guard.0 d4.guard.0 c.release_group.ensures.released.0
+    four-released c.args.meta.pid c.args.low.pid c.args.right.pid c.args.top.pid c.args.height c.right_half-separator.result c.args.page.now (left_half c.args.page.now c.right_half-separator.result) c.right_half-separator.new.right c.new_root.new.page (view c.args.pass.now) (view c.redraft-3.new.pass) stays four r.zero r.told r.full c.right_half-separator.ensures.halves c.new_root.ensures.root r.owed c.set-2.new.self c.redraft.new.guard c.redraft-2.new.guard c.redraft-3.new.guard _ first d2.guard.0 d3.guard.0 d4.guard.0 c.release_group.ensures.released.0

@@ -1,7 +1,7 @@
-use Rattle.std.proofs.Common.{◌∙◌, ap, arith, length, List, subst, sym, ℕ}
-use Rattle.vm_map.specs.Map.{Rises}
-use Rattle.vm_tree_model.specs.Edits.{AddsPair, IsSplit}
-use Rattle.vm_tree_model.specs.Page.{IsInner, node_of, pairs_of}
+use Rattle.std.proofs.Common.{◌∙◌, arith, sym}
+use Rattle.vm_tree_model.specs.Edits.{AddsPair}
+use Rattle.vm_tree_model.specs.Page.{IsInner}
+use Rattle.vm_node.specs.{Edited.edited, Halves.left_half}
 use Rattle.vm_step.specs.Prelude.{view}
 use Rattle.vm_tree_write.proofs.split.write_split.Goals as goal
 use Rattle.vm_tree_write.proofs.Splitting.{draft-past, first-apart, holding-past, three-all, three-redrafted, three-released, three-stay, told-before}
@@ -9,9 +9,8 @@ use Rattle.vm_tree_write.proofs.Splitting.{draft-past, first-apart, holding-past
 pub unreachable-requires : goal.unreachable-requires
 unreachable-requires g c =
     let full = c.in-Err.ensures.refused.count in
-    let same = ap (λ (l : List ℕ). length (pairs_of l)) c.copy_from-2.ensures.words in
     let room = c.requires.can.room in
-    absurd (omega (arith, full, same, room))
+    absurd (omega (arith, full, room))
 
 pub redraft-requires-clause-draft : goal.redraft-requires-clause-draft
 redraft-requires-clause-draft g c tells = (c.requires.can.told tells).above.draft
@@ -46,16 +45,16 @@ release_group-requires-clause-may g c =
     let d1 = c.redraft.ensures in
     let d2 = c.redraft-2.ensures in
     let d3 = c.redraft-3.ensures in
-    let three = three-redrafted c.args.up.pid c.args.low.pid c.args.right.pid c.args.over.now c.add.new.page c.args.page.now c.split-separator.new.page c.split-separator.new.right (view c.args.pass.now) (view c.redraft.new.pass) (view c.redraft-2.new.pass) (view c.redraft-3.new.pass)
+    let above = edited c.args.over.now c.in-Ok.edit in
+    let left = left_half c.args.page.now c.right_half-separator.result in
+    let half = c.right_half-separator.new.right in
+    let three = three-redrafted c.args.up.pid c.args.low.pid c.args.right.pid c.args.over.now above c.args.page.now left half (view c.args.pass.now) (view c.redraft.new.pass) (view c.redraft-2.new.pass) (view c.redraft-3.new.pass)
     r.apart r.held.0.owns r.held.1.0.owns r.held.1.1.0.owns r.told d1.redrafted d2.redrafted d3.redrafted d1.draft d2.draft d3.draft in
     let stays = three-stay c.args.up.pid c.args.low.pid c.args.right.pid (view c.args.pass.now) (view c.redraft.new.pass) (view c.redraft-2.new.pass) (view c.redraft-3.new.pass) d1.redrafted d2.redrafted d3.redrafted in
-    let split : IsSplit c.args.page.now c.split-separator.new.page c.split-separator.new.right c.split-separator.result = subst (λ (l : List ℕ). IsSplit l c.split-separator.new.page c.split-separator.new.right c.split-separator.result) c.copy_from.ensures.words c.split-separator.ensures.halves in
-    let adds : IsInner c.args.over.now → AddsPair c.args.over.now c.add.new.page c.split-separator.result c.args.right.pid = (λ inner.
-    subst (λ (l : List ℕ). AddsPair l c.add.new.page c.split-separator.result c.args.right.pid) c.copy_from-2.ensures.words
-    (c.in-Ok.ensures.node _ _ (subst (λ (l : List ℕ). Rises (node_of l).low (node_of l).high (pairs_of l)) (sym c.copy_from-2.ensures.words) inner.node.rises))) in
+    let adds : IsInner c.args.over.now → AddsPair c.args.over.now above c.right_half-separator.result c.args.right.pid = λ inner. c.in-Ok.ensures.node _ _ inner.node.rises in
     let h1 = holding-past _ _ _ _ _ _ _ (λ e. ne.1 (sym d1.guard.0 ∙ e)) (holding-past _ _ _ _ _ _ _ (λ e. ne.0 (sym d1.guard.0 ∙ e)) d1.holds d2.redrafted) d3.redrafted in
     let h2 = holding-past _ _ _ _ _ _ _ (λ e. ne.2 (sym d2.guard.0 ∙ e)) d2.holds d3.redrafted in
-    three-all _ _ _ c.split-separator.result _ c.add.new.page _ c.split-separator.new.page c.split-separator.new.right (view c.args.pass.now) (view c.redraft-3.new.pass) stays three r.told r.room r.full split adds r.owed c.redraft.new.guard c.redraft-2.new.guard c.redraft-3.new.guard d1.guard.0 d2.guard.0 d3.guard.0 h1 h2 d3.holds r.apart r.home
+    three-all _ _ _ c.right_half-separator.result _ above _ left half (view c.args.pass.now) (view c.redraft-3.new.pass) stays three r.told r.room r.full c.right_half-separator.ensures.halves adds r.owed c.redraft.new.guard c.redraft-2.new.guard c.redraft-3.new.guard d1.guard.0 d2.guard.0 d3.guard.0 h1 h2 d3.holds r.apart r.home
 
 pub returns-clause-split : goal.returns-clause-split
 returns-clause-split g c =
@@ -63,17 +62,14 @@ returns-clause-split g c =
     let d1 = c.redraft.ensures in
     let d2 = c.redraft-2.ensures in
     let d3 = c.redraft-3.ensures in
-    let three = three-redrafted c.args.up.pid c.args.low.pid c.args.right.pid c.args.over.now c.add.new.page c.args.page.now c.split-separator.new.page c.split-separator.new.right (view c.args.pass.now) (view c.redraft.new.pass) (view c.redraft-2.new.pass) (view c.redraft-3.new.pass)
+    let above = edited c.args.over.now c.in-Ok.edit in
+    let left = left_half c.args.page.now c.right_half-separator.result in
+    let half = c.right_half-separator.new.right in
+    let three = three-redrafted c.args.up.pid c.args.low.pid c.args.right.pid c.args.over.now above c.args.page.now left half (view c.args.pass.now) (view c.redraft.new.pass) (view c.redraft-2.new.pass) (view c.redraft-3.new.pass)
     r.apart r.held.0.owns r.held.1.0.owns r.held.1.1.0.owns r.told d1.redrafted d2.redrafted d3.redrafted d1.draft d2.draft d3.draft in
     let stays = three-stay c.args.up.pid c.args.low.pid c.args.right.pid (view c.args.pass.now) (view c.redraft.new.pass) (view c.redraft-2.new.pass) (view c.redraft-3.new.pass) d1.redrafted d2.redrafted d3.redrafted in
-    let split : IsSplit c.args.page.now c.split-separator.new.page c.split-separator.new.right c.split-separator.result = subst (λ (l : List ℕ). IsSplit l c.split-separator.new.page c.split-separator.new.right c.split-separator.result) c.copy_from.ensures.words c.split-separator.ensures.halves in
-    let adds : IsInner c.args.over.now → AddsPair c.args.over.now c.add.new.page c.split-separator.result c.args.right.pid = (λ inner.
-    subst (λ (l : List ℕ). AddsPair l c.add.new.page c.split-separator.result c.args.right.pid) c.copy_from-2.ensures.words
-    (c.in-Ok.ensures.node _ _ (subst (λ (l : List ℕ). Rises (node_of l).low (node_of l).high (pairs_of l)) (sym c.copy_from-2.ensures.words) inner.node.rises))) in
-    three-released _ _ _ c.split-separator.result _ c.add.new.page _ c.split-separator.new.page c.split-separator.new.right (view c.args.pass.now) (view c.redraft-3.new.pass) stays three r.told r.room r.full split adds r.owed c.redraft.new.guard c.redraft-2.new.guard c.redraft-3.new.guard _ d1.guard.0 d2.guard.0 d3.guard.0 c.release_group.ensures.released.0
+    let adds : IsInner c.args.over.now → AddsPair c.args.over.now above c.right_half-separator.result c.args.right.pid = λ inner. c.in-Ok.ensures.node _ _ inner.node.rises in
+    three-released _ _ _ c.right_half-separator.result _ above _ left half (view c.args.pass.now) (view c.redraft-3.new.pass) stays three r.told r.room r.full c.right_half-separator.ensures.halves adds r.owed c.redraft.new.guard c.redraft-2.new.guard c.redraft-3.new.guard _ d1.guard.0 d2.guard.0 d3.guard.0 c.release_group.ensures.released.0
 
 pub redraft-requires-clause-holds : goal.redraft-requires-clause-holds
 redraft-requires-clause-holds g c = c.requires.can.held.0
-
-pub split-separator-requires : goal.split-separator-requires
-split-separator-requires g c = ap (λ (l : List ℕ). length (pairs_of l)) c.copy_from.ensures.words ∙ c.requires.can.full
