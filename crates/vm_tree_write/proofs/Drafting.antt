@@ -1,7 +1,8 @@
 -- Words of a draft that are set one after the other.
 use Rattle.std.proofs.Common.{[], ⊎_elim, ◌*◌, ◌++◌, ◌+◌, ◌<◌, ◌∙◌, ◌∷◌, ◌≡◌, ◌≢◌, ◌≤◌, ◌⊎◌, ap, append_assoc, arith, Bool, false, get_or-set_other}
-use Rattle.std.proofs.Common.{get_or-set_same, inr, length, List, None, refl, slice_index, slice_set, Some, subst, sym, true, ℕ}
-use Rattle.std.proofs.lemmas.Bool.{cases_eq}
+use Rattle.std.proofs.Common.{get_or-set_same, inl, inr, length, List, max, min, None, refl, slice_index, slice_set, Some, subst, sym, true, ℕ}
+use Rattle.std.proofs.lemmas.Bool.{cases_eq, cases_lt}
+use Rattle.std.proofs.lemmas.Grind.{same_number_lists}
 use Rattle.vm_rule.specs.Prelude.{bundle_count, did_store, Each, index_of, set_if}
 use Rattle.vm_rule.specs.declared.view.Place.TheVariants as places
 use Rattle.vm_rule.proofs.Entries.{append-none}
@@ -10,7 +11,7 @@ use Rattle.vm_step.proofs.Alone.{set-else, still-alone}
 use Rattle.vm_step.proofs.Asides.{alone-self, alone-then, holds-then, reads-then}
 use Rattle.vm_guard.specs.{Guards.dirty_steps, Guards.IsSet, Sure.known_next}
 use Rattle.vm_guard.proofs.QuietSteps.{elsewhere-then, quiet-elsewhere, quiet-none}
-use Rattle.vm_tree_write.specs.Drafts.{IsRedrafted, KnowsSameStates, SetsDiffering}
+use Rattle.vm_tree_write.specs.Drafts.{IsDraftedAmong, IsRedrafted, KnowsSameStates, SetsDiffering}
 
 -- steps that write elsewhere leave the word at this number
 follows-else : (start : Origin) (j : ℕ) (ds : List Did) (old new : List ℕ) → Each (λ (d : Did). (d.wrote ≡ None) ⊎ (j ≢ index_of start d.at)) ds → Follows start ds old new → slice_index new j ≡ slice_index old j
@@ -57,6 +58,18 @@ module _ {X : Type 0} (p : ℕ) where
     last = s.last ∙ a.last;
   }
 
+  pub redrafted-then : (u v w : View X) → IsRedrafted p u v → IsRedrafted p v w → IsRedrafted p u w
+  redrafted-then u v w a b = record {
+    done = a.done ++ b.done;
+    elsewhere = elsewhere-then p a.done b.done u v w a.elsewhere b.elsewhere;
+    mine = b.mine ∙ a.mine;
+    group = (b.group.0 ∙ a.group.0, b.group.1 ∙ a.group.1, b.group.2 ∙ a.group.2);
+    alone = alone-then u v w a.elsewhere.steady.parts a.alone b.alone;
+    holds = holds-then u v w p a.holds b.holds;
+    reads = reads-then u v w p a.reads b.reads;
+    last = b.last ∙ a.last;
+  }
+
   pub pages-self : (v : View X) → KnowsSameStates v v
   pages-self v = record { states = λ k q l. refl; next = λ k. refl }
 
@@ -66,6 +79,14 @@ module _ {X : Type 0} (p : ℕ) where
         s.states (still-alone u v a.elsewhere.steady.parts a.alone.current k) q (subst (λ (o : Origin). q < o.pages) (sym a.elsewhere.steady.start) l) ∙ known.states k q l;
     next = λ k. set-next p frame dirty i x v w page frame_is inside s (still-alone u v a.elsewhere.steady.parts a.alone.current k) ∙ known.next k;
   }
+
+  pub pages-then : (u v w : View X) → IsRedrafted p u v → KnowsSameStates u v → KnowsSameStates v w → KnowsSameStates u w
+  pages-then u v w r a b =
+      let now : IsAlone u → IsAlone v = still-alone u v r.elsewhere.steady.parts r.alone.current in
+      record {
+        states = λ k q l. b.states (now k) q (subst (λ (o : Origin). q < o.pages) (sym r.elsewhere.steady.start) l) ∙ a.states k q l;
+        next = λ k. b.next (now k) ∙ a.next k;
+      }
 
 each-append : {A : Type 0} (Q : A → Type 0) (l m : List A) → Each Q l → Each Q m → Each Q (l ++ m)
 each-append Q [] m a b = b
@@ -104,24 +125,61 @@ module _ {X : Type 0} (before after : List ℕ) where
     differ = each-append (Stores before after) a.done s.done a.differ (subst (Each (Stores before after)) (sym s.steps) (set-differs p frame dirty i x before after is ne));
   }
 
--- a word that was set
-pub set-below : (i x : ℕ) (draft draft' after : List ℕ) → length draft ≡ 64 → i < 64 → draft' ≡ slice_set draft i x → x ≡ slice_index after i → ((k : ℕ) → k < i → slice_index draft k ≡ slice_index after k)
-    → (k : ℕ) → k < i + 1 → slice_index draft' k ≡ slice_index after k
-set-below i x draft draft' after long inside is word below k l =
-    ap (λ (t : List ℕ). slice_index t k) is
-    ∙ ⊎_elim
-    (λ (e : k ≡ i). ap (λ (n : ℕ). slice_index (slice_set draft i x) n) e ∙ get_or-set_same draft i x 0 (omega (arith, long, inside)) ∙ word ∙ ap (λ (n : ℕ). slice_index after n) (sym e))
-    (λ ne. get_or-set_other draft i k x 0 ne ∙ below k (omega (arith, l, ne)))
-    (cases_eq k i)
+  pub differs-then : (u v w : View X) → SetsDiffering before after u v → SetsDiffering before after v w → SetsDiffering before after u w
+  differs-then u v w a b = record {
+    done = a.done ++ b.done;
+    log = b.log ∙ ap (λ (t : List Did). t ++ b.done) a.log ∙ append_assoc u.log a.done b.done;
+    differ = each-append (Stores before after) a.done b.done a.differ b.differ;
+  }
 
-pub set-above : (i x : ℕ) (draft draft' before : List ℕ) → draft' ≡ slice_set draft i x → ((k : ℕ) → i ≤ k → slice_index draft k ≡ slice_index before k) → (k : ℕ) → i + 1 ≤ k → slice_index draft' k ≡ slice_index before k
-set-above i x draft draft' before is above k l = ap (λ (t : List ℕ). slice_index t k) is ∙ get_or-set_other draft i k x 0 (λ e. omega (arith, e, l)) ∙ above k (omega (arith, l))
+-- nothing is drafted yet
+pub drafted-none : (from : ℕ) (before after draft : List ℕ) → ((k : ℕ) → from ≤ k → slice_index draft k ≡ slice_index before k) → IsDraftedAmong from from before after draft draft
+drafted-none from before after draft same = record { under = λ k l. refl; among = λ k a b. absurd (omega (arith, a, b)); behind = same }
 
--- a word that was the same already
-pub same-below : (i : ℕ) (draft before after : List ℕ) → slice_index after i ≡ slice_index before i → ((k : ℕ) → k < i → slice_index draft k ≡ slice_index after k) → ((k : ℕ) → i ≤ k → slice_index draft k ≡ slice_index before k)
-    → (k : ℕ) → k < i + 1 → slice_index draft k ≡ slice_index after k
-same-below i draft before after same below above k l =
+-- a word more was set
+pub drafted-set : (from i x : ℕ) (before after old draft draft' : List ℕ) → from ≤ i → i < length draft → draft' ≡ slice_set draft i x → x ≡ slice_index after i → IsDraftedAmong from i before after old draft
+    → IsDraftedAmong from (i + 1) before after old draft'
+drafted-set from i x before after old draft draft' low inside is word d =
+    let other : (k : ℕ) → k ≢ i → slice_index draft' k ≡ slice_index draft k = λ k ne. ap (λ (t : List ℕ). slice_index t k) is ∙ get_or-set_other draft i k x 0 ne in
+    let here : slice_index draft' i ≡ slice_index after i = ap (λ (t : List ℕ). slice_index t i) is ∙ get_or-set_same draft i x 0 inside ∙ word in
+    record {
+      under = λ k l. other k (λ e. omega (arith, e, l, low)) ∙ d.under k l;
+      among = λ k a b.
+          ⊎_elim
+          (λ (e : k ≡ i). subst (λ (n : ℕ). slice_index draft' n ≡ slice_index after n) (sym e) here)
+          (λ ne. other k ne ∙ d.among k a (omega (arith, b, ne)))
+          (cases_eq k i);
+      behind = λ k l. other k (λ e. omega (arith, e, l)) ∙ d.behind k (omega (arith, l));
+    }
+
+-- a word was the same already
+pub drafted-same : (from i : ℕ) (before after old draft : List ℕ) → slice_index after i ≡ slice_index before i → IsDraftedAmong from i before after old draft → IsDraftedAmong from (i + 1) before after old draft
+drafted-same from i before after old draft same d = record {
+  under = d.under;
+  among = λ k a b.
+      ⊎_elim
+      (λ (e : k ≡ i). subst (λ (n : ℕ). slice_index draft n ≡ slice_index after n) (sym e) (d.behind i (omega arith) ∙ sym same))
+      (λ ne. d.among k a (omega (arith, b, ne)))
+      (cases_eq k i);
+  behind = λ k l. d.behind k (omega (arith, l));
+}
+
+-- the first two words and then those of a span, outside of which the page stays: that is the whole draft
+pub drafted-whole : (first last from end : ℕ) (before after old mid new : List ℕ) → from ≡ min (max first 2) 64 → end ≡ min (max last from) 64 → length new ≡ 64 → length after ≡ 64
+    → ((i : ℕ) → 2 ≤ i → i < 64 → (i < first) ⊎ (last ≤ i) → slice_index after i ≡ slice_index before i) → IsDraftedAmong 0 2 before after old mid → IsDraftedAmong from end before after mid new → new ≡ after
+drafted-whole first last from end before after old mid new is-from is-end long size stays a b =
+    same_number_lists new after (long ∙ sym size)
+    (λ k l.
     ⊎_elim
-    (λ (e : k ≡ i). above k (omega (arith, e)) ∙ ap (λ (n : ℕ). slice_index before n) e ∙ sym same ∙ ap (λ (n : ℕ). slice_index after n) (sym e))
-    (λ ne. below k (omega (arith, l, ne)))
-    (cases_eq k i)
+    (λ (low : k < from).
+    b.under k low
+    ∙ ⊎_elim
+    (λ (two : k < 2). a.among k (omega arith) two)
+    (λ (two : 2 ≤ k). a.behind k two ∙ sym (stays k two (omega (arith, l, long)) (inl (omega (arith, low, two, is-from)))))
+    (cases_lt k 2))
+    (λ (high : from ≤ k).
+    ⊎_elim
+    (λ (inside : k < end). b.among k high inside)
+    (λ (past : end ≤ k). b.behind k past ∙ sym (stays k (omega (arith, high, is-from, l, long)) (omega (arith, l, long)) (inr (omega (arith, past, is-end, l, long, high)))))
+    (cases_lt k end))
+    (cases_lt k from))

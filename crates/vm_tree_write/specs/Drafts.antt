@@ -1,9 +1,15 @@
 -- What setting words of a draft leaves of the view.
-use Rattle.std.specs.Prelude.{[], ◌++◌, ◌≡◌, ◌≢◌, List, slice_index, Some, ℕ}
+use Rattle.std.specs.Prelude.{[], ◌++◌, ◌<◌, ◌≡◌, ◌≢◌, ◌≤◌, List, slice_index, Some, ℕ}
 use Rattle.vm_rule.specs.Prelude.{Each, last_of}
 use Rattle.vm_rule.specs.declared.view.Place.TheVariants as places
 use Rattle.vm_step.specs.Prelude.{Did, HoldsPage, IsAlone, ReadsAsBefore, StaysAlone, View}
 use Rattle.vm_guard.specs.{Guards.IsElsewhere, Sure.known_next, Sure.KnowsStates}
+
+-- a draft from one place on and before another has the wanted words; behind these it has those of the page before, and before these its own
+pub record IsDraftedAmong (from end : ℕ) (before after old new : List ℕ) : Type 0 where
+  pub under : (k : ℕ) → k < from → slice_index new k ≡ slice_index old k
+  pub among : (k : ℕ) → from ≤ k → k < end → slice_index new k ≡ slice_index after k
+  pub behind : (k : ℕ) → end ≤ k → slice_index new k ≡ slice_index before k
 
 module _ {X : Type 0} where
   -- words of the draft of page p, which the pass holds, were set; its last words are as they were

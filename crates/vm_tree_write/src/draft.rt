@@ -1,11 +1,11 @@
 // The draft of a locked page becomes a page's words: those of a buffer, or those that an edit or a split leaves of one, which needs no second buffer.
-ghost use Rattle.std.specs.Prelude.{◌<◌, ◌≡◌, IfNone, IfSome, length, List, slice_index, true, ℕ};
+ghost use Rattle.std.specs.Prelude.{◌<◌, ◌≡◌, ◌≤◌, ◌⊎◌, length, List, slice_index, true, ℕ};
 ghost use Rattle.vm_node.specs.Edited.{edited, LeavesElse};
 ghost use Rattle.vm_node.specs.Halves.{left_half};
 ghost use Rattle.vm_rule.specs.Prelude.{draft_of};
 ghost use Rattle.vm_step.specs.Prelude.{IsReady, IsSamePass, view};
 ghost use Rattle.vm_guard.specs.Guards.{IsHolding};
-ghost use Rattle.vm_tree_write.specs.Drafts.{IsRedrafted, KnowsSameStates, SetsDiffering};
+ghost use Rattle.vm_tree_write.specs.Drafts.{IsDraftedAmong, IsRedrafted, KnowsSameStates, SetsDiffering};
 
 use vm_block::Block;
 use vm_guard::ExclusiveGuard;
@@ -21,11 +21,15 @@ pub trait Wanted {
     /// They are made of these.
     ghost made_of: { Self → List ℕ → Type 0 };
 
-    /// Word `i`, where it may be another than in the words that these are made of.
-    fn change(&self, i: usize) -> Option<u64>
+    /// Where they may be others than the words that they are made of, beside the first two: from the first of these places on, and before the second.
+    fn span(&self) -> (usize, usize)
+        ensures span { (before : List ℕ) → made_of self.now before → (i : ℕ) → 2 ≤ i → i < WORDS → (i < result.0) ⊎ (result.1 ≤ i)
+            → slice_index (words self.now) i ≡ slice_index before i };
+
+    /// Word `i`, for `i` from 0 to 63.
+    fn word(&self, i: usize) -> u64
         requires i { i < WORDS }
-        ensures some { IfSome result (λ word. word ≡ slice_index (words self.now) i) }
-        ensures none { IfNone result ((before : List ℕ) → made_of self.now before → slice_index (words self.now) i ≡ slice_index before i) }
+        ensures word { result ≡ slice_index (words self.now) i }
         ensures size { length (words self.now) ≡ WORDS };
 }
 
@@ -34,8 +38,12 @@ impl Wanted for PageBuf {
 
     ghost made_of = { λ p before. Unit {0} };
 
-    fn change(&self, i: usize) -> Option<u64> {
-        Some(self.get(i))
+    fn span(&self) -> (usize, usize) {
+        (2, WORDS)
+    }
+
+    fn word(&self, i: usize) -> u64 {
+        self.get(i)
     }
 }
 
@@ -52,17 +60,12 @@ impl Wanted for Edited<'_> {
 
     ghost made_of = { λ e before. (e.page.now ≡ before) × LeavesElse e.edit e.changes.0 e.changes.1 };
 
-    fn change(&self, i: usize) -> Option<u64> {
-        let (first, end) = self.changes;
-        if i != 1 {
-            if i < first {
-                return None;
-            }
-            if end <= i {
-                return None;
-            }
-        }
-        Some(self.edit.word(self.page, i))
+    fn span(&self) -> (usize, usize) {
+        self.changes
+    }
+
+    fn word(&self, i: usize) -> u64 {
+        self.edit.word(self.page, i)
     }
 }
 
@@ -78,8 +81,12 @@ impl Wanted for LeftHalf<'_> {
 
     ghost made_of = { λ h before. Unit {0} };
 
-    fn change(&self, i: usize) -> Option<u64> {
-        Some(left_word(self.page, self.separator, i))
+    fn span(&self) -> (usize, usize) {
+        (2, WORDS)
+    }
+
+    fn word(&self, i: usize) -> u64 {
+        left_word(self.page, self.separator, i)
     }
 }
 
@@ -105,11 +112,42 @@ pub fn redraft<U: Owner, B: Block, W: Wanted>(
     ensures known { KnowsSameStates (view pass.old) (view pass.new) }
     ensures differ { SetsDiffering before.now (W.words after.now) (view pass.old) (view pass.new) }
 {
-    for i in 0..WORDS {
-        if let Some(word) = after.change(i) {
-            if word != before.get(i) {
-                guard.set(words, pass, i, word);
-            }
+    let (first, end) = after.span();
+    let from = first.max(2).min(WORDS);
+    let end = end.max(from).min(WORDS);
+    redraft_words(words, pass, guard, before, after, 0, 2);
+    redraft_words(words, pass, guard, before, after, from, end);
+}
+
+/// The same of the words from one place on and before another. The others stay.
+fn redraft_words<U: Owner, B: Block, W: Wanted>(
+    words: &Words<U, B>,
+    pass: &mut Pass<U>,
+    guard: &mut ExclusiveGuard,
+    before: &PageBuf,
+    after: &W,
+    from: usize,
+    end: usize,
+)
+    requires ready { IsReady words.now.table.shared.key B.tells words.now.table.shared.table_id pass.old }
+    requires holds { IsHolding guard.old.pid guard.old.frame guard.old.version guard.old.dirty (view pass.old) }
+    requires places { (from ≤ end) × (end ≤ WORDS) }
+    requires draft { (view pass.old).start.tells ≡ true → (k : ℕ) → from ≤ k → slice_index (draft_of (view pass.old) guard.old.pid) k ≡ slice_index before.now k }
+    ensures pass { IsSamePass pass.old pass.new }
+    ensures ready { IsReady words.now.table.shared.key B.tells words.now.table.shared.table_id pass.new }
+    ensures holds { IsHolding guard.new.pid guard.new.frame guard.new.version guard.new.dirty (view pass.new) }
+    ensures guard { (guard.new.pid ≡ guard.old.pid) × (guard.new.version ≡ guard.old.version) }
+    ensures size { from < end → length (W.words after.now) ≡ WORDS }
+    ensures draft { (view pass.old).start.tells ≡ true → IsDraftedAmong from end before.now (W.words after.now)
+        (draft_of (view pass.old) guard.old.pid) (draft_of (view pass.new) guard.old.pid) }
+    ensures redrafted { IsRedrafted guard.old.pid (view pass.old) (view pass.new) }
+    ensures known { KnowsSameStates (view pass.old) (view pass.new) }
+    ensures differ { SetsDiffering before.now (W.words after.now) (view pass.old) (view pass.new) }
+{
+    for i in from..end {
+        let word = after.word(i);
+        if word != before.get(i) {
+            guard.set(words, pass, i, word);
         }
     }
 }

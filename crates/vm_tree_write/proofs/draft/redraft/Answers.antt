@@ -1,76 +1,42 @@
-use Rattle.std.proofs.Common.{◌<◌, ◌∙◌, ◌≡◌, ap, arith, length, List, refl, slice_index, subst, sym, ℕ}
-use Rattle.std.proofs.lemmas.Grind.{same_number_lists}
+-- The first two words and then those of the span: what the two calls leave comes together.
+use Rattle.std.proofs.Common.{◌∙◌, ◌≡◌, ap, arith, length, List, min, slice_index, subst, sym, true, ℕ}
 use Rattle.vm_rule.specs.Prelude.{draft_of}
-use Rattle.vm_step.specs.Prelude.{view}
-use Rattle.vm_guard.specs.Guards.{IsSet}
-use Rattle.vm_tree_write.proofs.draft.redraft.Goals.{in-Some+else-word-get, in-Some+then-word-get, in_default}
+use Rattle.vm_step.specs.Prelude.{Origin, view}
+use Rattle.vm_tree_write.specs.Drafts.{IsDraftedAmong, IsRedrafted}
+use Rattle.vm_tree_write.proofs.Drafting.{differs-then, drafted-whole, pages-then, redrafted-then}
 use Rattle.vm_tree_write.proofs.draft.redraft.Goals as goal
-use Rattle.vm_tree_write.proofs.Drafting.{differs-more, differs-self, pages-more, pages-self, redrafted-self, same-below, set-above, set-below}
-use Rattle.vm_tree_write.proofs.Drafting.{set-more}
 
-pub loop-i-init : goal.loop-i-init
-loop-i-init g c = record {
-  same = (refl, refl);
-  ready = c.requires.ready;
-  holds = c.requires.holds;
-  guard = (refl, refl);
-  redrafted = redrafted-self _ _;
-  known = pages-self c.args.guard.now.pid _;
-  differ = differs-self _ _ _;
-  size = λ l. absurd (omega (arith, l));
-  below = λ tells k l. absurd (omega (arith, l));
-  above = λ tells k l. ap (λ (t : List ℕ). slice_index t k) (c.requires.draft tells);
-}
+pub redraft_words-requires-clause-draft : goal.redraft_words-requires-clause-draft
+redraft_words-requires-clause-draft g c tells k low = ap (λ (l : List ℕ). slice_index l k) (c.requires.draft tells)
 
-pub loop-i-preserved : goal.loop-i-preserved
-loop-i-preserved g c =
-    let i = c.loop-i.invariant in
-    elim c.match-change.branch [
-      | in-Some+then-word-get w ↦ rw (w.pass-is, w.guard-is) (
-          let word = w.in-Some.ensures.some in
-          let s : IsSet c.args.guard.now.pid c.loop-i.guard.frame c.loop-i.guard.dirty c.loop-i.i w.in-Some.word (view c.loop-i.pass) (view w.set.new.pass) =
-          subst (λ (n : ℕ). IsSet n c.loop-i.guard.frame c.loop-i.guard.dirty c.loop-i.i w.in-Some.word (view c.loop-i.pass) (view w.set.new.pass)) i.guard.0 w.set.ensures.set in
-          record {
-            same = (w.set.ensures.pass.0 ∙ i.same.0, w.set.ensures.pass.1 ∙ i.same.1);
-            ready = w.set.ensures.ready;
-            holds = rw w.set.ensures.guard w.set.ensures.holds;
-            guard = rw w.set.ensures.guard i.guard;
-            redrafted = set-more _ _ _ _ _ _ _ _ i.redrafted s;
-            known = pages-more _ _ _ _ _ (view c.args.pass.now) (view c.loop-i.pass) _ (subst (λ (n : ℕ). n < (view c.loop-i.pass).start.pages) i.guard.0 i.holds.page) i.holds.frame_is c.loop-i-test.true i.redrafted i.known s;
-            differ = differs-more c.args.before.now (g.W.Wanted.words c.args.after.now) _ _ _ c.loop-i.i w.in-Some.word _ _ _ i.differ s word (λ e. w.if-word-get.true (word ∙ sym e ∙ sym w.get.ensures.word));
-            size = λ _. c.change.ensures.size;
-            below = λ tells. set-below c.loop-i.i w.in-Some.word (draft_of (view c.loop-i.pass) c.args.guard.now.pid) (draft_of (view w.set.new.pass) c.args.guard.now.pid) (g.W.Wanted.words c.args.after.now) (ap (λ (n : ℕ). length (draft_of (view c.loop-i.pass) n)) (sym i.guard.0) ∙ i.holds.size) c.loop-i-test.true s.draft word (i.below tells);
-            above = λ tells. set-above c.loop-i.i w.in-Some.word (draft_of (view c.loop-i.pass) c.args.guard.now.pid) (draft_of (view w.set.new.pass) c.args.guard.now.pid) c.args.before.now s.draft (i.above tells);
-          })
-      | in-Some+else-word-get w ↦ rw (w.pass-is, w.guard-is) record {
-        same = i.same;
-        ready = i.ready;
-        holds = i.holds;
-        guard = i.guard;
-        redrafted = i.redrafted;
-        known = i.known;
-        differ = i.differ;
-        size = λ _. c.change.ensures.size;
-        below = λ tells. same-below c.loop-i.i (draft_of (view c.loop-i.pass) c.args.guard.now.pid) c.args.before.now (g.W.Wanted.words c.args.after.now) (sym w.in-Some.ensures.some ∙ w.if-word-get.false ∙ w.get.ensures.word) (i.below tells) (i.above tells);
-        above = λ tells k l. i.above tells k (omega (arith, l));
-      }
-      | in_default w ↦ rw (w.pass-is, w.guard-is) record {
-        same = i.same;
-        ready = i.ready;
-        holds = i.holds;
-        guard = i.guard;
-        redrafted = i.redrafted;
-        known = i.known;
-        differ = i.differ;
-        size = λ _. c.change.ensures.size;
-        below = λ tells. same-below c.loop-i.i (draft_of (view c.loop-i.pass) c.args.guard.now.pid) c.args.before.now (g.W.Wanted.words c.args.after.now) (w.in_default.ensures.none _ c.requires.made_of) (i.below tells) (i.above tells);
-        above = λ tells k l. i.above tells k (omega (arith, l));
-      }
-    ]
+pub redraft_words-requires-2-clause-draft : goal.redraft_words-requires-2-clause-draft
+redraft_words-requires-2-clause-draft g c tells k low =
+    let one = c.redraft_words.ensures in
+    let first = one.draft (subst (λ (o : Origin). o.tells ≡ true) one.redrafted.elsewhere.steady.start tells) in
+    subst (λ (n : ℕ). slice_index (draft_of (view c.redraft_words.new.pass) n) k ≡ slice_index c.args.before.now k) (sym one.guard.0) (first.behind k (omega (arith, low, c.min-from.ensures, c.max.ensures)))
+
+pub returns-clause-redrafted : goal.returns-clause-redrafted
+returns-clause-redrafted g c =
+    let two = c.redraft_words-2.ensures.redrafted in
+    redrafted-then _ _ _ _ c.redraft_words.ensures.redrafted (subst (λ (n : ℕ). IsRedrafted n (view c.redraft_words.new.pass) (view c.redraft_words-2.new.pass)) c.redraft_words.ensures.guard.0 two)
+
+pub returns-clause-known : goal.returns-clause-known
+returns-clause-known g c = pages-then c.args.guard.now.pid _ _ _ c.redraft_words.ensures.redrafted c.redraft_words.ensures.known c.redraft_words-2.ensures.known
+
+pub returns-clause-differ : goal.returns-clause-differ
+returns-clause-differ g c = differs-then _ _ _ _ _ c.redraft_words.ensures.differ c.redraft_words-2.ensures.differ
 
 pub returns-clause-draft : goal.returns-clause-draft
 returns-clause-draft g c tells =
-    let i = c.loop-i.invariant in
-    let done = c.loop-i-test.false in
-    let long : length (draft_of (view c.loop-i.pass) c.args.guard.now.pid) ≡ 64 = ap (λ (n : ℕ). length (draft_of (view c.loop-i.pass) n)) (sym i.guard.0) ∙ i.holds.size in
-    same_number_lists _ _ (long ∙ sym (i.size (omega (arith, done)))) (λ k l. i.below tells k (omega (arith, done, l, long)))
+    let one = c.redraft_words.ensures in
+    let p : ℕ = c.args.guard.now.pid in
+    let before : List ℕ = c.args.before.now in
+    let after : List ℕ = g.W.Wanted.words c.args.after.now in
+    let mid : List ℕ = draft_of (view c.redraft_words.new.pass) p in
+    let second : IsDraftedAmong c.min-from.result c.min-end.result before after mid (draft_of (view c.redraft_words-2.new.pass) p) =
+    subst (λ (n : ℕ). IsDraftedAmong c.min-from.result c.min-end.result before after (draft_of (view c.redraft_words.new.pass) n) (draft_of (view c.redraft_words-2.new.pass) n)) one.guard.0
+    (c.redraft_words-2.ensures.draft (subst (λ (o : Origin). o.tells ≡ true) (sym one.redrafted.elsewhere.steady.start) tells)) in
+    drafted-whole c.span-first.result.0 c.span-first.result.1 c.min-from.result c.min-end.result before after _ mid _
+    (c.min-from.ensures ∙ ap (λ (n : ℕ). min n 64) c.max.ensures) (c.min-end.ensures ∙ ap (λ (n : ℕ). min n 64) c.max-2.ensures)
+    (ap (λ (n : ℕ). length (draft_of (view c.redraft_words-2.new.pass) n)) (sym (c.redraft_words-2.ensures.guard.0 ∙ one.guard.0)) ∙ c.redraft_words-2.ensures.holds.size) (one.size (omega arith))
+    (c.span-first.ensures.span before c.requires.made_of) (one.draft tells) second

@@ -1,11 +1,11 @@
-use Rattle.std.proofs.Common.{◌<◌, ◌≡◌, ◌≤◌, length, slice_index, true, ℕ}
+use Rattle.std.proofs.Common.{◌<◌, ◌≡◌, length, true}
 use Rattle.vm_rule.specs.Prelude.{draft_of}
 use Rattle.vm_step.specs.Prelude.{IsReady, IsSamePass, view}
 use Rattle.vm_guard.specs.Guards.{IsHolding}
-use Rattle.vm_tree_write.specs.Drafts.{IsRedrafted, KnowsSameStates, SetsDiffering}
-use Rattle.vm_tree_write.proofs.draft.redraft.Given as goal
+use Rattle.vm_tree_write.specs.Drafts.{IsDraftedAmong, IsRedrafted, KnowsSameStates, SetsDiffering}
+use Rattle.vm_tree_write.proofs.draft.redraft_words.Given as goal
 
--- the words below i are the new page's, the others still the old one's, where blocks tell their words
+-- the draft is drafted from the first place on and before i, where blocks tell their words
 abbrev pub invariant-loop-i : goal.invariant-loop-i
 invariant-loop-i g l = record {
   same : IsSamePass l.fn.pass l.pass;
@@ -15,7 +15,7 @@ invariant-loop-i g l = record {
   redrafted : IsRedrafted l.fn.guard.pid (view l.fn.pass) (view l.pass);
   known : KnowsSameStates (view l.fn.pass) (view l.pass);
   differ : SetsDiffering l.before (g.W.Wanted.words l.after) (view l.fn.pass) (view l.pass);
-  size : 0 < l.i → length (g.W.Wanted.words l.after) ≡ 64;
-  below : (view l.fn.pass).start.tells ≡ true → (k : ℕ) → k < l.i → slice_index (draft_of (view l.pass) l.fn.guard.pid) k ≡ slice_index (g.W.Wanted.words l.after) k;
-  above : (view l.fn.pass).start.tells ≡ true → (k : ℕ) → l.i ≤ k → slice_index (draft_of (view l.pass) l.fn.guard.pid) k ≡ slice_index l.before k;
+  size : l.from < l.i → length (g.W.Wanted.words l.after) ≡ 64;
+  drafted : (view l.fn.pass).start.tells ≡ true
+      → IsDraftedAmong l.from l.i l.before (g.W.Wanted.words l.after) (draft_of (view l.fn.pass) l.fn.guard.pid) (draft_of (view l.pass) l.fn.guard.pid);
 }

@@ -1,0 +1,58 @@
+use Rattle.std.proofs.Common.{◌<◌, ◌∙◌, ap, arith, length, refl, subst, sym, ℕ}
+use Rattle.vm_rule.specs.Prelude.{draft_of}
+use Rattle.vm_step.specs.Prelude.{view}
+use Rattle.vm_guard.specs.Guards.{IsSet}
+use Rattle.vm_tree_write.proofs.Drafting.{differs-more, differs-self, drafted-none, drafted-same, drafted-set, pages-more, pages-self, redrafted-self, set-more}
+use Rattle.vm_tree_write.proofs.draft.redraft_words.Goals.{else-word-get, then-word-get}
+use Rattle.vm_tree_write.proofs.draft.redraft_words.Goals as goal
+
+pub loop-i-init : goal.loop-i-init
+loop-i-init g c = record {
+  same = (refl, refl);
+  ready = c.requires.ready;
+  holds = c.requires.holds;
+  guard = (refl, refl);
+  redrafted = redrafted-self _ _;
+  known = pages-self c.args.guard.now.pid _;
+  differ = differs-self _ _ _;
+  size = λ l. absurd (omega (arith, l));
+  drafted = λ tells. drafted-none _ _ _ _ (c.requires.draft tells);
+}
+
+pub loop-i-preserved : goal.loop-i-preserved
+loop-i-preserved g c =
+    let i = c.loop-i.invariant in
+    let wanted = g.W.Wanted.words c.args.after.now in
+    let inside : c.loop-i.i < 64 = omega (arith, c.loop-i-test.true, c.requires.places.1) in
+    elim c.if-word-get.branch [
+      | then-word-get w ↦ rw (w.pass-is, w.guard-is) (
+          let s : IsSet c.args.guard.now.pid c.loop-i.guard.frame c.loop-i.guard.dirty c.loop-i.i c.word-word.result (view c.loop-i.pass) (view w.set.new.pass) =
+          subst (λ (n : ℕ). IsSet n c.loop-i.guard.frame c.loop-i.guard.dirty c.loop-i.i c.word-word.result (view c.loop-i.pass) (view w.set.new.pass)) i.guard.0 w.set.ensures.set in
+          record {
+            same = (w.set.ensures.pass.0 ∙ i.same.0, w.set.ensures.pass.1 ∙ i.same.1);
+            ready = w.set.ensures.ready;
+            holds = rw w.set.ensures.guard w.set.ensures.holds;
+            guard = rw w.set.ensures.guard i.guard;
+            redrafted = set-more _ _ _ _ _ _ _ _ i.redrafted s;
+            known = pages-more _ _ _ _ _ (view c.args.pass.now) (view c.loop-i.pass) _ (subst (λ (n : ℕ). n < (view c.loop-i.pass).start.pages) i.guard.0 i.holds.page) i.holds.frame_is inside i.redrafted i.known s;
+            differ = differs-more c.args.before.now wanted _ _ _ c.loop-i.i c.word-word.result _ _ _ i.differ s c.word-word.ensures.word (λ e. w.if-word-get.true (c.word-word.ensures.word ∙ sym e ∙ sym c.get.ensures.word));
+            size = λ _. c.word-word.ensures.size;
+            drafted = λ tells.
+                drafted-set c.args.from c.loop-i.i c.word-word.result c.args.before.now wanted _ (draft_of (view c.loop-i.pass) c.args.guard.now.pid) _ c.loop-i.auto.i
+                (subst (λ (n : ℕ). c.loop-i.i < n) (sym (ap (λ (n : ℕ). length (draft_of (view c.loop-i.pass) n)) (sym i.guard.0) ∙ i.holds.size)) inside) s.draft c.word-word.ensures.word (i.drafted tells);
+          })
+      | else-word-get w ↦ rw (w.pass-is, w.guard-is) record {
+        same = i.same;
+        ready = i.ready;
+        holds = i.holds;
+        guard = i.guard;
+        redrafted = i.redrafted;
+        known = i.known;
+        differ = i.differ;
+        size = λ _. c.word-word.ensures.size;
+        drafted = λ tells. drafted-same c.args.from c.loop-i.i c.args.before.now wanted _ _ (sym c.word-word.ensures.word ∙ w.if-word-get.false ∙ c.get.ensures.word) (i.drafted tells);
+      }
+    ]
+
+pub returns-clause-size : goal.returns-clause-size
+returns-clause-size g c some = c.loop-i.invariant.size (omega (arith, some, c.loop-i-test.false))
