@@ -7,10 +7,10 @@ use std::test::Fail;
 use vm_block::{Block, MemBlock};
 use vm_owner::Bare;
 use vm_page::PageBuf;
+use vm_pool::{Bring, Closed, Pool, Shape};
 use vm_pool_callers::first_page::{Opened, open_page};
 use vm_pool_callers::two_pages::{TwoPages, open_two};
 use vm_pool_callers::whole_again::{meet_and_join, split_and_join};
-use vm_pool::{Bring, Closed, Pool, Shape};
 use vm_rule::words::Pass;
 use vm_workers::entries::{Told, three_entries};
 

@@ -7,9 +7,9 @@ use std::test::Fail;
 use vm_block::MemBlock;
 use vm_owner::Bare;
 use vm_page::PageBuf;
+use vm_pool::{Bring, Shape};
 use vm_pool_callers::kept_word::{KeptWord, keep_word};
 use vm_pool_callers::shared_page::{SharedPage, open_shared};
-use vm_pool::{Bring, Shape};
 
 /// Two pages at version 0, both claimed, and one frame.
 const SHAPE: Shape = Shape {

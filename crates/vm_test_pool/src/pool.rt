@@ -13,9 +13,9 @@ use vm_exmap::Interface;
 use vm_guard::{ExclusiveGuard, OptGuard, SharedGuard, read_word};
 use vm_owner::Bare;
 use vm_page::PageBuf;
-use vm_pool_callers::round_trip::round_trip;
 use vm_pool::save::{Saved, flush_and_close};
 use vm_pool::{Bring, Closed, Pool, Shape};
+use vm_pool_callers::round_trip::round_trip;
 use vm_rule::words::Pass;
 use vm_step::{At, Looks, Saw, look_silently};
 
