@@ -93,6 +93,7 @@ fn a_full_leaf_is_split(rt: HostRuntime) {
 fn halves_are_found_and_the_left_one_not_made(rt: HostRuntime) {
     let words = node_words([2, 28, 0, 40, 0, 0, 0, 0], 1, 28);
     let page = page_of(words);
+    assert!(rt; count_of(&page) == 28);
     let mut right = page_of([7; 64]);
     assert_eq!(rt; right_half(&page, &mut right), 15);
     assert_eq!(rt;
