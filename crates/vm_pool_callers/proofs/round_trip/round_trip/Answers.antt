@@ -1,10 +1,11 @@
 -- The release made the draft the page's last words; the sweep, the second bringing and the read left them so. A pass that is alone has each call
 -- succeed, by what the calls before told it of the page.
 use Rattle.vm_pool_callers.proofs.{OnePage.no-fault}
+use Rattle.vm_exmap.proofs.Handing.{held-on}
 use Rattle.vm_pool.proofs.{Keeping.keeps-alone, Knowing.answered-free, Knowing.when-free}
 use Rattle.vm_pool_callers.proofs.Prelude.{ap, arith, at, draft_of, false≢true, IfSome_then, is_readable, IsAlone, IsKnownFree, IsOk, known_version, known_word}
 use Rattle.vm_pool_callers.proofs.Prelude.{last_of, length, List, MAX_VERSION, Origin, slice_set, state_of, subst, sym, true, version_of, view, ℕ, ◌+◌, ◌<◌, ◌∙◌, ◌≡◌}
-use Rattle.vm_pool_callers.proofs.Prelude.{◌≤◌}
+use Rattle.vm_pool_callers.proofs.Prelude.{inr, None, refl, Some, ◌≤◌}
 use Rattle.vm_pool_callers.proofs.RoundTrip.{first-locks, reads-again, same-version, set-words, some-is, steady-alone, word-back}
 use Rattle.vm_pool_callers.proofs.round_trip.round_trip.Goals as goal
 
@@ -14,6 +15,37 @@ returns-in_default-clause-sure g c can =
     let v1 = view c.bring.new.pass in
     let locks = first-locks _ c.args.pid _ _ v0 v1 c.bring.result can.good (omega (arith, can.below)) (c.bring.ensures.sure c.requires.alone can.out can.free) (when-free _ c.args.pid _ _ v0 v1 c.bring.result can.free (c.bring.ensures.table c.requires.alone)) in
     absurd (false≢true (subst (λ r. IsOk r) c.in_default.is (c.take.ensures.sure (keeps-alone c.bring.ensures.keeps c.requires.alone) locks.0 (omega (arith, can.below, locks.1)))))
+
+pub returns-in_default-clause-held : goal.returns-in_default-clause-held
+returns-in_default-clause-held g c =
+    let steady = c.in_default.ensures.denied.quiet.steady in
+    held-on _ (view c.bring.new.pass) (view c.take.new.pass) c.bring.ensures.held steady.start steady.frames.0
+
+pub returns-in_default-clause-home : goal.returns-in_default-clause-home
+returns-in_default-clause-home g c = c.in_default.ensures.denied.quiet.steady.out ∙ c.bring.ensures.keeps.out ∙ c.requires.home
+
+pub release-requires-clause-home : goal.release-requires-clause-home
+release-requires-clause-home g c o out same =
+    let clash : None ≡ Some o = sym (c.set.ensures.set.elsewhere.steady.out ∙ c.in-Ok.ensures.taken.1.elsewhere.steady.out ∙ c.bring.ensures.keeps.out ∙ c.requires.home) ∙ out in
+    absurd (cc)
+
+pub release-requires-clause-owner : goal.release-requires-clause-owner
+release-requires-clause-owner g c tells = inr refl
+
+pub sweep-requires-clause-home : goal.sweep-requires-clause-home
+sweep-requires-clause-home g c =
+    c.release.ensures.released.elsewhere.steady.out ∙ c.set.ensures.set.elsewhere.steady.out ∙ c.in-Ok.ensures.taken.1.elsewhere.steady.out ∙ c.bring.ensures.keeps.out ∙ c.requires.home
+
+pub sweep-requires-clause-frames : goal.sweep-requires-clause-frames
+sweep-requires-clause-frames g c =
+    let taken = c.in-Ok.ensures.taken.1.elsewhere.steady in
+    let is = c.set.ensures.set.elsewhere.steady in
+    let released = c.release.ensures.released.elsewhere.steady in
+    held-on _ (view c.bring.new.pass) (view c.release.new.pass) c.bring.ensures.held (released.start ∙ is.start ∙ taken.start) (released.frames.0 ∙ is.frames.0 ∙ taken.frames.0)
+
+pub bring-requires-2-clause-home : goal.bring-requires-2-clause-home
+bring-requires-2-clause-home g c =
+    c.sweep.ensures.keeps.out ∙ c.release.ensures.released.elsewhere.steady.out ∙ c.set.ensures.set.elsewhere.steady.out ∙ c.in-Ok.ensures.taken.1.elsewhere.steady.out ∙ c.bring.ensures.keeps.out ∙ c.requires.home
 
 pub returns-clause-word : goal.returns-clause-word
 returns-clause-word g c =
@@ -63,3 +95,6 @@ returns-clause-sure g c can =
     (subst (λ (o : Origin). at 0 o.bounds p ≡ 0) (sym start-then) can.good) c.sweep.ensures.swept c.sweep.ensures.keeps c.bring-2.ensures.sure c.bring-2.ensures.table in
     let last : IsAlone v6 = keeps-alone c.bring-2.ensures.keeps (keeps-alone c.sweep.ensures.keeps alone) in
     some-is c.read_word.result c.args.w (c.read_word.ensures.sure last reads) (returns-clause-word g c)
+
+pub returns-clause-held : goal.returns-clause-held
+returns-clause-held g c = held-on _ (view c.bring-2.new.pass) (view c.read_word.new.pass) c.bring-2.ensures.held c.read_word.ensures.frames.0 c.read_word.ensures.frames.1

@@ -18,6 +18,14 @@ bring-second-requires g c =
       page = subst (λ (s : Shape). c.args.b < s.pages) (sym opened.key) (subst (λ (n : ℕ). c.args.b < n) (c.requires.pages ∙ sym mapped) c.requires.page.1);
     }
 
+pub read_word-word-requires : goal.read_word-word-requires
+read_word-word-requires g c =
+    let mapped : length (map g.B.Block.stored c.args.blocks.items) ≡ length c.args.blocks.items = length-mapped g.B.Block.stored c.args.blocks.items in
+    record {
+      pass = c.bring-second.ensures.ready.may;
+      page = (subst (λ (s : Shape). c.args.a < s.pages) (sym c.in_ok-pool.ensures.key) (subst (λ (n : ℕ). c.args.a < n) (c.requires.pages ∙ sym mapped) c.requires.page.0), c.requires.page.3);
+    }
+
 pub returns-clause-second : goal.returns-clause-second
 returns-clause-second g c =
     let blocks : List Stored = map g.B.Block.stored c.args.blocks.items in
