@@ -7,7 +7,7 @@ use Rattle.std.proofs.lemmas.List.{get_or-replicate, get_or_default, get_or_push
 use Rattle.std.proofs.lemmas.Nat.Bits.{bit_at-zero}
 use Rattle.std.proofs.Math.ListN.{get_or-append, get_or-eq_default}
 use mathlib.Core.Path.{fun_ext}
-use Rattle.vm_core.specs.Prelude.{at, core_block, core_of, core_start, CoreFits, EVICTED, evicted_page, full_bundle, has_free_bit, held_of, InFrames}
+use Rattle.vm_core.specs.Prelude.{at, core_block, core_of, core_start, EVICTED, evicted_page, full_bundle, has_free_bit, held_of}
 use Rattle.vm_core.specs.Prelude.{LocksInv, MAX_VERSION, no_seat, outside_page, page_of, PageData, pages_of, start, StartBundles, StartPages}
 use Rattle.vm_core.specs.Prelude.{sum_below, words_of_frames}
 use Rattle.vm_core.specs.{declared.event.CoreShape.CoreShape, Making.IsStartPage}
@@ -42,21 +42,6 @@ pub record StartLists (shape : CoreShape) (pages : List PageData) (frames : List
   pub bundles_are : StartBundles shape.frames ((shape.frames + 63) / 64) bundles
   pub held_are : held ≡ replicate shape.actors (replicate ((shape.frames + 63) / 64) 0)
   pub owners_are : owners ≡ replicate shape.frames 0
-
-pub start-fits : (shape : CoreShape) (pages : List PageData) (frames : List (List ℕ)) (bundles : List ℕ) (held : List (List ℕ)) (owners : List ℕ) → StartLists shape pages frames bundles held owners → CoreFits (record { shape = shape; pages = pages; frames = frames; bundles = bundles; held = held; next = shape.next; hand = 0; owners = owners })
-start-fits shape pages frames bundles held owners i =
-    record {
-      pages = i.pages_are.len;
-      each = λ p d lt. (i.pages_are.each p d (omega (arith, i.pages_are.len, lt))).seats;
-      mapped = λ p d lt. subst (InFrames shape.frames) (sym (i.pages_are.each p d (omega (arith, i.pages_are.len, lt))).empty) tt;
-      frames = ap length i.frames_are ∙ length-replicate shape.frames (replicate 64 0);
-      bundles = i.bundles_are.len;
-      held = ap length i.held_are ∙ length-replicate shape.actors (replicate ((shape.frames + 63) / 64) 0);
-      owners = ap length i.owners_are ∙ length-replicate shape.frames 0;
-      rows = λ a d lt. ap (λ xs. length (get_or xs a d)) i.held_are
-          ∙ ap length (get_or-replicate shape.actors a (replicate ((shape.frames + 63) / 64) 0) d (omega (arith, ap length i.held_are ∙ length-replicate shape.actors (replicate ((shape.frames + 63) / 64) 0), lt)))
-          ∙ length-replicate ((shape.frames + 63) / 64) 0;
-    }
 
 pub block-past : (next p : ℕ) → next ≤ p → core_block next p ≡ replicate 64 0
 unfolding core_block

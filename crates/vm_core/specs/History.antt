@@ -51,7 +51,7 @@ lock_history w p expects = upd w.histories p (if finds (w.core.pages p) expects 
 abbrev pub release_history : World → ℕ → ℕ → History
 release_history w p = upd w.histories p (appended (w.histories p))
 
--- the versions and drafts after_event the event
+-- the versions and drafts after the event
 abbrev pub histories_after : World → Event → ℕ → History
 histories_after w (Look a p) = w.histories
 histories_after w (LockX a p expects) = lock_history w p expects
@@ -113,7 +113,7 @@ abbrev pub load_loads : World → ℕ → ℕ → ℕ → ℕ → ℕ → List (
 load_loads w a p i =
     upd w.loads p (upd (w.loads p) a (loads_more (open_frame ((w.core.pages p).seats a).reading) (w.loads p a) i (word_at w.core.words (load_frame (w.core.pages p) a) i)))
 
--- the loads of each open read after_event the event
+-- the loads of each open read after the event
 abbrev pub loads_after : World → Event → ℕ → ℕ → List (ℕ × ℕ)
 loads_after w (Look a p) = look_loads w a p
 loads_after w (LockX a p expects) = lock_loads w a p expects
@@ -150,7 +150,7 @@ loads_after w (OLoad a f) = w.loads
 
 -- ---- the world
 
--- the world after_event an event, and after_event a list of them
+-- the world after an event, and after a list of them
 abbrev pub world_after : World → Event → World
 world_after w e = record { core = after_event w.core e; histories = histories_after w e; loads = loads_after w e }
 

@@ -2,6 +2,5 @@ pub mod Alone
 pub mod Page
 pub mod State
 pub mod Device
-pub mod Seats
 pub mod Frames
 pub mod Laws

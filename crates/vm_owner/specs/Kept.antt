@@ -9,7 +9,7 @@ pub record Start : Type 0 where
   pub pages : List (List ℕ)
   pub next : ℕ
 
--- The logical pages, the next page, the pages that were claimed for a group still to be after_release, and the history
+-- The logical pages, the next page, the pages that were claimed for a group still to be released, and the history
 pub record Kept (S : Type 0) : Type 0 where
   pub pages : List (List ℕ)
   pub next : ℕ
@@ -75,7 +75,7 @@ module _ {S : Type 0} where
     pub few : length changes ≤ 4
     pub owed : (p : ℕ) → has p due ≡ true → has p kept.owed ≡ true
 
-  -- after pages were after_release together, at the group's first release
+  -- after pages were released together, at the group's first release
   abbrev pub after_release : List Change → List (Entry S) → Kept S → Kept S
   after_release changes entries kept = record kept { pages = changed changes kept.pages; owed = owed_after changes kept.owed; history = kept.history ++ entries }
 

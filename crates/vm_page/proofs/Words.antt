@@ -19,10 +19,6 @@ pub length-bytes_of : (ws : List ℕ) → length (bytes_of_words ws) ≡ 8 * len
 length-bytes_of [] = refl
 length-bytes_of (w ∷ ws) = omega (arith, length-append (to_be_bytes w64 w) (bytes_of_words ws), length-bytes_of ws)
 
-pub length-words_in : (bytes : List ℕ) (n : ℕ) → length (words_in bytes n) ≡ n
-length-words_in bytes zero = refl
-length-words_in bytes (suc n) = omega (arith, length-append (words_in bytes n) (word_in bytes n ∷ []), length-words_in bytes n)
-
 -- word i of the words' bytes is word i
 word_in-of : (ws : List ℕ) (i : ℕ) → ((k : ℕ) → get_or ws k 0 < 2 ^ 64) → i < length ws → word_in (bytes_of_words ws) i ≡ get_or ws i 0
 word_in-of [] i below lt = absurd (omega arith)

@@ -1,4 +1,4 @@
--- A word of the table is with_word: the words of its kind change at one place, and all others stay.
+-- A word of the table is set: the words of its kind change at one place, and all others stay.
 use Rattle.std.proofs.lemmas.List.{get_or-set_other}
 use Rattle.vm_core.proofs.At.{at_set}
 use Rattle.vm_rule.specs.declared.view.Place.TheVariants as places
@@ -106,7 +106,7 @@ listed-upd (suc n) f (suc k) x l =
     (ap (listed n) (upd-is (λ j. f (suc j)) (λ j. upd f (suc k) x (suc j)) k x (upd-same f (suc k) x) (λ j ne. upd-other f (suc k) x (suc j) (λ e. ne (omega arith))))
     ∙ listed-upd n (λ j. f (suc j)) k x (omega arith))
 
--- a word of frame f is with_word
+-- a word of frame f is set
 pub frame-written : (contents : ℕ → ℕ) (f i x : ℕ) → i < 64 → frame_words (upd contents (64 * f + i) x) ≡ upd (frame_words contents) f (slice_set (frame_words contents f) i x)
 unfolding frame_words
 frame-written contents f i x l =

@@ -51,8 +51,3 @@ module _ {X : Type 0} where
     pub block-same : (homes : List (maybe.Option (Option B))) (views : List (View X)) (id : ℕ) (v w : View X) → get_elem? views id ≡ some v → w.out ≡ v.out → block_of stored homes (slice_set views id w) ≡ block_of stored homes views
     unfolding block_of
     block-same homes views id v w e s = fun_ext (λ p. ap (known stored (home homes p)) (out-same views id v w p e s))
-
-pub has-view : {V : Type 0} → (l : List V) → length l ≡ 1 → (v : V) × (l ≡ v ∷ [])
-has-view [] e = absurd (omega arith)
-has-view (v ∷ []) e = (v, refl)
-has-view (v ∷ (w ∷ l)) e = absurd (omega arith)

@@ -81,7 +81,7 @@ table_words start words =
       owners = part (3 * start.pages + WORDS * start.frames + bundle_count start + 2) start.frames words;
     }
 
--- one word is with_word
+-- one word is set
 abbrev pub with_word : Words → Place → ℕ → Words
 with_word r (State p) x = record r { states = upd r.states p x }
 with_word r (Translation p) x = record r { translations = upd r.translations p x }
