@@ -1,9 +1,9 @@
--- What steps leave of a view that move free frames alone: of one step, of several in a row, and that the pass may step on.
-use Rattle.vm_exmap.proofs.Prelude.{[], alone-silent, alone-then, ap, append-none, append_assoc, Bool, Brings, bundles_of, contents_at, Did, Each, each-both}
-use Rattle.vm_exmap.proofs.Prelude.{each-map, else-knows, else-then, has, HoldsPage, inr, IsAlone, IsAsideOf, IsBundleOf, IsLocking, IsReady, IsSamePass}
-use Rattle.vm_exmap.proofs.Prelude.{KnowsAsBefore, KnowsElse, last_in, List, MovesFrames, no_seat, None, Origin, Pass, Place, Put, put_at, ReadsAsBefore}
-use Rattle.vm_exmap.proofs.Prelude.{ready-on, refl, Release, rules, runs-one, runs-then, RunsAlone, Seat, seat_of, Shape, starts-then, StartsWith, still-alone}
-use Rattle.vm_exmap.proofs.Prelude.{subst, sym, TableId, Tie, true, View, view, Within, ℕ, ◌++◌, ◌<◌, ◌∙◌, ◌∷◌, ◌≡◌, ◌≢◌}
+-- What steps leave of a view that move free frames alone: of one step, and of several in a row.
+use Rattle.vm_exmap.proofs.Prelude.{[], alone-silent, alone-then, ap, append-none, append_assoc, Brings, bundles_of, contents_at, Did, Each, each-both}
+use Rattle.vm_exmap.proofs.Prelude.{each-map, else-knows, else-then, has, HoldsPage, inr, IsAlone, IsAsideOf, IsBundleOf, IsLocking}
+use Rattle.vm_exmap.proofs.Prelude.{KnowsAsBefore, KnowsElse, last_in, List, MovesFrames, no_seat, None, Origin, Place, Put, put_at, ReadsAsBefore}
+use Rattle.vm_exmap.proofs.Prelude.{refl, Release, rules, runs-one, runs-then, RunsAlone, Seat, seat_of, starts-then, StartsWith, still-alone}
+use Rattle.vm_exmap.proofs.Prelude.{subst, sym, Tie, true, View, view, Within, ℕ, ◌++◌, ◌<◌, ◌∙◌, ◌∷◌, ◌≡◌, ◌≢◌}
 
 module _ {X : Type 0} where
   -- no step at all
@@ -52,8 +52,3 @@ module _ {X : Type 0} where
       let reads : (q : ℕ) → ReadsAsBefore v w q = λ q. search (rules, ap, seat q, f.pages) in
       let ties : (more : List Tie) × (w.ties ≡ more ++ v.ties) = ([], f.reads.1) in
       search (rules, ties, holds, knows, reads)
-
-module _ {U X : Type 0} {o : _} (shape : Shape) (tells : Bool) (t : TableId) where
-  -- the pass may step on
-  pub ready-after : (done : List Did) (p q : Pass U X o) → IsReady shape tells t p → IsSamePass p q → MovesFrames done (view p) (view q) → IsReady shape tells t q
-  ready-after done p q r same moves = ready-on shape tells t p q same moves.start moves.parts.0 r

@@ -12,15 +12,15 @@ pub use Rattle.vm_core.specs.{Prelude.AreLowest, Prelude.no_seat, Words.bit_coun
 pub use Rattle.vm_core.proofs.Locks.{sum_below-at}
 pub use Rattle.vm_rule.specs.{Bundles.taken_view, declared.view.Place.Place}
 pub use Rattle.vm_rule.specs.Prelude.{AreApart, Brings, bundles_of, BundleTold, contents_at, did_change, did_exchange, did_load, Each, frames_below, GiveTold}
-pub use Rattle.vm_rule.specs.Prelude.{has, index_of, IsLocking, last_in, put_at, Seat, seat_of, StartsWith, TableId, TakeTold, with_contents, Within}
+pub use Rattle.vm_rule.specs.Prelude.{has, index_of, IsLocking, last_in, put_at, Seat, seat_of, StartsWith, TakeTold, with_contents, Within}
 pub use Rattle.vm_rule.specs.Prelude.{without_all}
 pub use Rattle.vm_rule.proofs.{Entries.append-none, Entries.each-map, Facts.has-both, Heard.each-both}
 pub use Rattle.vm_rule.proofs.Bundled.{frames_in-apart, has-frames_in, has-without_all, with_contents-at}
 pub use Rattle.vm_step.specs.{declared.saw.At.At, declared.saw.Saw.Saw, Evidence.Begins.read}
 pub use Rattle.vm_step.specs.Prelude.{AreHeld, Did, HoldsPage, IsAlone, IsAsideOf, IsReady, IsSamePass, IsSaw, known_word_at, KnowsAsBefore, KnowsElse}
-pub use Rattle.vm_step.specs.Prelude.{NoneExpected, NoWord, Origin, Pass, PassMayGive, place_at, Put, ReadsAsBefore, Release, RunsAlone, Shape, Tie, view, View}
+pub use Rattle.vm_step.specs.Prelude.{NoneExpected, NoWord, Origin, PassMayGive, place_at, Put, ReadsAsBefore, Release, RunsAlone, Tie, view, View}
 pub use Rattle.vm_step.specs.Prelude.{WhyAgain}
-pub use Rattle.vm_step.proofs.{Evidenced.lost-view, Evidenced.taken-view, Leaves.ready-on}
+pub use Rattle.vm_step.proofs.{Evidenced.lost-view, Evidenced.taken-view}
 pub use Rattle.vm_step.proofs.Alone.{found-known, runs-one, runs-then, same-word, still-alone, words-known}
 pub use Rattle.vm_step.proofs.Asides.{alone-silent, alone-then, starts-then}
 pub use Rattle.vm_step.proofs.Tables.{at-then, else-knows, else-same, else-then, follows-inside, last-known}

@@ -1,7 +1,8 @@
 -- What the rule says of the pages that a pass holds exclusively: where they stand, what is known of them, and that no other view says a thing of them.
+use Rattle.vm_step.proofs.Logical.{not-pending}
 use Rattle.vm_step.proofs.Prelude.{any, any-same, any-true, ap, arith, at_set, Bool, caller-here, cases_Bool, cases_lt, core_shown, eq-eqb, false}
-use Rattle.vm_step.proofs.Prelude.{false_from_ne_true, false≢true, get_elem?, has, held_at, is_owed, is_pending, IsOwned, Kept, le-ltb, List, Mapping, may_call}
-use Rattle.vm_step.proofs.Prelude.{no_held, Option, Origin, outside_page, Page, pages_from, put_at, refl, Ruled, seat_of, slice_set, Some, some, spent}
+use Rattle.vm_step.proofs.Prelude.{false_from_ne_true, false≢true, get_elem?, has, held_at, is_owed, is_pending, IsLocking, IsOwned, Kept, le-ltb, List, Mapping, may_call}
+use Rattle.vm_step.proofs.Prelude.{no_held, Option, Origin, outside_page, Page, pages_from, put_at, refl, Ruled, seat_of, shared-here, slice_set, Some, some, spent}
 use Rattle.vm_step.proofs.Prelude.{stands_in, Start, Stored, sym, Table, true, true≢false, View, ℕ, ⊎_elim, ◌+◌, ◌-◌, ◌<◌, ◌∙◌, ◌≡◌, ◌≢◌, ◌≤◌}
 
 module _ {X B : Type 0} (stored : B → Stored) (keeps : Start → Kept X → Type 0) (tied : Start → ℕ → List ℕ → ℕ → List ℕ → Type 0) (start : Origin) (tells : Bool) (s : Table (Option B) (View X)) (r : Ruled stored keeps tied start tells s) (id : ℕ) (v : View X) (there : get_elem? s.views id ≡ some v) (live : v.live ≡ true) where
@@ -56,6 +57,14 @@ module _ {X B : Type 0} (stored : B → Stored) (keeps : Start → Kept X → Ty
   -- a page that the pass holds is a member still to be released, or is owed, only if its own view says so
   pub member-mine : (p : ℕ) → p < start.pages → (seat_of v p).exclusive ≡ true → is_pending s.views p ≡ true → has p v.pending ≡ true
   member-mine p l owns e = holder-says (λ u. has p u.pending) p l owns refl (λ j u at on x. ((r.known j u at on).pending p x).0) e
+
+  -- a page that the pass has locked or shared is none of another pass
+  pub no-member : (p : ℕ) → p < start.pages → IsLocking (seat_of v p) → has p v.pending ≡ false → is_pending s.views p ≡ false
+  no-member p l locks none =
+      ⊎_elim
+      (λ owns. false_from_ne_true (is_pending s.views p) (λ t. true≢false (sym (member-mine p l owns t) ∙ none)))
+      (λ some'. let free = (shared-here stored start s id p v (r.inv.pages p).locks l there some').1 in not-pending stored keeps tied start tells s r p l (λ e. absurd (omega (arith, free, e))))
+      locks
 
   pub owed-mine : (p : ℕ) → p < start.pages → (seat_of v p).exclusive ≡ true → is_owed s.views p ≡ true → has p v.owed ≡ true
   owed-mine p l owns e = holder-says (λ u. has p u.owed) p l owns refl (λ j u at on x. ((r.known j u at on).owed p x).0) e

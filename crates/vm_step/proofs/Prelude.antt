@@ -57,7 +57,7 @@ pub use Rattle.vm_rule.proofs.{Calls.IsCalled, Cores.core-block, Cores.held-stil
 pub use Rattle.vm_rule.proofs.{Heard.has-first, ListFacts.at-listed, ListFacts.length-listed, Meeting.follows-ruled, Meeting.hears-past, Meeting.hears-ruled}
 pub use Rattle.vm_rule.proofs.{Pages.page-in, Pages.page-out, Parts.listed-same, Parts.listed-upd, Parts.upd-is, Parts.words-written, Resettling.at-past}
 pub use Rattle.vm_rule.proofs.{Resettling.settled-blocks, Runs.event_law, SplitSound.giver-sound, SplitSound.newcomer-sound, Views.any-same, Views.at-bound}
-pub use Rattle.vm_rule.proofs.{Views.at-there, Views.block-same, Views.has-view, Views.total-set}
+pub use Rattle.vm_rule.proofs.{Views.at-there, Views.block-same, Views.total-set}
 pub use Rattle.vm_rule.proofs.Adding.{after_more, after_step, became, became_more, faults-still, Shows, ShowsMore}
 pub use Rattle.vm_rule.proofs.Bundled.{given-bits, has-frames_in, has-without_all, taken-frames, with_contents-at}
 pub use Rattle.vm_rule.proofs.Entries.{append-none, each-map, entries-both, entries-within, has-joined, mine-in}
@@ -88,9 +88,9 @@ pub use Rattle.vm_step.specs.NoEvents.{HasNone, IsSplitOff, IsTakenIn, table_hea
 pub use Rattle.vm_step.specs.Prelude.{AllowsStep, AreHeld, CatchTold, Did, exchange_sees, exchanged, first_or, Follows, GoesOnce, HasGiven, HasJoined, HasStill}
 pub use Rattle.vm_step.specs.Prelude.{HasWritten, HoldsPage, IsAlone, IsAside, IsAsideOf, IsCalledOnce, IsClaimed, IsEvent, IsFirst, IsFit, IsHeld, IsKeptNow}
 pub use Rattle.vm_step.specs.Prelude.{IsMember, IsNotOut, IsOf, IsPassOf, IsPlacedAt, IsReady, IsSamePass, IsSaw, IsToldOf, KeepsFrames, known_word_at}
-pub use Rattle.vm_step.specs.Prelude.{KnowsAll, KnowsAsBefore, KnowsAt, KnowsElse, KnowsUnheld, LeavesLast, LeavesRest, LocksNone, LookTells, MayDowngrade}
-pub use Rattle.vm_step.specs.Prelude.{MayEvict, MayGiveUp, MayRaise, MayTakeOut, MayTell, MayUnshare, Meets, Note, NoWord, Origin, Out, Pass, PassesSplit}
-pub use Rattle.vm_step.specs.Prelude.{PassMayClaim, PassMayGive, Put, ReadsAsBefore, Release, ReleaseTells, RunsAlone, Shape, Snapshot, StaysAlone, StaysHome}
+pub use Rattle.vm_step.specs.Prelude.{KnowsAll, KnowsAsBefore, KnowsAt, KnowsElse, KnowsUnheld, LeavesLast, LeavesOnly, LeavesRest, LocksNone, LookTells}
+pub use Rattle.vm_step.specs.Prelude.{MayDowngrade, MayEvict, MayGiveUp, MayGoOn, MayRaise, MayTakeOut, MayTell, MayUnshare, Meets, Note, NoWord, Origin, Out}
+pub use Rattle.vm_step.specs.Prelude.{Pass, PassesSplit, PassMayClaim, PassMayGive, Put, ReadsAsBefore, Release, ReleaseTells, RunsAlone, Shape, Snapshot, StaysAlone, StaysHome}
 pub use Rattle.vm_step.specs.Prelude.{Stores, table_after, Tie, told_of, Translation, View, view, Works, WritesNone}
 pub use Rattle.vm_step.specs.steps.Bundle.{BloadIsItsEvent, GiveIsItsEvent, IsMaskOf, TakeIsItsEvent}
 pub use Rattle.vm_step.specs.steps.Owner.{DisownIsItsEvent, IsOwnerEvent, OloadIsItsEvent, owned_view, OwnerLoadTold, OwnerTold, OwnIsItsEvent}

@@ -20,7 +20,7 @@ lost-saw instead p word expects found new from ne = record {
   gives = (refl, refl);
   since = [];
   begins =
-      ⊎_elim (λ (same : word ≡ expects). read [] (did_load (places.State p) word) refl (refl, ap (λ (n : ℕ). Some n) same)) (λ other. expected [] (did_load (places.State p) word) word refl (refl, refl) other refl) from;
+      ⊎_elim (λ (same : word ≡ expects). read [] (did_load (places.State p) word) refl (refl, ap (λ (n : ℕ). Some n) same) refl) (λ other. expected [] (did_load (places.State p) word) word refl (refl, refl) refl other refl) from;
   quiet = tt;
   foreign = ((λ at e. none-some found e), tt);
   why = inr (inr record { gives = (refl, refl); expected = refl; other = ne; left = cond-false (eqb found expects) _ _ (ne_eqb found expects ne) });

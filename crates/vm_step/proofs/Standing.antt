@@ -11,6 +11,12 @@ pub born : {X : Type 0} (shape : Shape) (id : ℕ) (v : View X) → get_elem? (u
 born shape zero v e live = true≢false (sym live ∙ ap (λ (y : View _). y.live) (sym (some-injective (unborn shape) v e)))
 born shape (suc id) v e live = maybe.some-ne-none v (sym e)
 
+-- the view put there
+set-here : {V : Type 0} (l : List V) (i : ℕ) (v w : V) → get_elem? l i ≡ some v → get_elem? (slice_set l i w) i ≡ some w
+set-here [] i v w e = absurd (maybe.some-ne-none v (sym e))
+set-here (x ∷ xs) zero v w e = refl
+set-here (x ∷ xs) (suc i) v w e = set-here xs i v w e
+
 module _ {X B : Type 0} (stored : B → Stored) (keeps : Start → Kept X → Type 0) (tied : Start → ℕ → List ℕ → ℕ → List ℕ → Type 0) (shape : Shape) (tells : Bool) where
   pub allows-any : (slots id : ℕ) (me : Me (Option B) (View X)) (i : ℕ) (f : ℕ → ℕ) (next : ℕ → Me (Option B) (View X) → Type 0) → me.0.live ≡ true
       → ((start : Origin) → HasShape shape start → Allows (Ruled stored keeps tied start tells) slots id me i f next)
@@ -35,7 +41,9 @@ module _ {X B : Type 0} (stored : B → Stored) (keeps : Start → Kept X → Ty
         (λ start has s r many there below.
         let k = subst (λ j. slice_index s.words j < 18446744073709551616 → Plays start s j f) (is start has)
         (λ low. let m = plays start has s r there low in (m.0, subst (λ x. Ruled stored keeps tied start tells (became stored keeps tied start tells s (slice_set s.words (index_of start at) x) id m.0)) (sym (same (slice_index s.words (index_of start at)))) m.1, m.2)) below in
-        (k.0, nothing, tt, k.1, ((is-of stored keeps tied start tells s r id v there live shape has, k.2), fit (slice_index s.words i) k.0 k.2, refl)))
+        let t : Table (Option B) (View X) = became stored keeps tied start tells s (slice_set s.words i (f (slice_index s.words i))) id k.0 in
+        let ends = fit (slice_index s.words i) k.0 k.2 in
+        (k.0, nothing, tt, k.1, ((record { table = is-of stored keeps tied start tells t k.1 id k.0 (set-here s.views id v k.0 there) ends.live shape has; number = ends.number }, k.2), ends, refl)))
 
   -- a load leaves all words
   pub allows-load : (slots id : ℕ) (v : View X) (i : ℕ) (at : Place) (Told : ℕ → View X → View X → Type 0) → v.live ≡ true → IsPlacedAt shape at i → ((n : ℕ) (w : View X) → Told n v w → IsFit w)

@@ -3,7 +3,7 @@ use Rattle.vm_rule.specs.declared.view.Place.TheVariants as places
 use Rattle.vm_step.proofs.Prelude.{[], All, all_notes, all_used, any, ap, append-none, append_assoc, AreApart, arith, Bool, CaughtUp, Did, did_load, Each}
 use Rattle.vm_step.proofs.Prelude.{each-both, each-map, entries-both, entries-within, entries_by, Entry, first_part, giver, has, has-joined, has-left}
 use Rattle.vm_step.proofs.Prelude.{has-right, HasJoined, HasPiece, HasShape, HasStill, Hears, HoldsNoPage, HoldsNothing, IsReady, IsWhole, joined, JoinTold}
-use Rattle.vm_step.proofs.Prelude.{length, length-append, List, map, newcomer, numbers, or-false, or_assoc, Origin, other_parts, owns, parts-cut, Pass}
+use Rattle.vm_step.proofs.Prelude.{length, List, map, newcomer, numbers, or-false, or_assoc, Origin, other_parts, owns, parts-cut, Pass}
 use Rattle.vm_step.proofs.Prelude.{PassesSplit, refl, Release, rules, Shape, StartsWith, subst, suc, sym, TableId, times-joined, total, true, View, view}
 use Rattle.vm_step.proofs.Prelude.{view_from, zero, ℕ, ◌++◌, ◌+◌, ◌<◌, ◌||◌, ◌∙◌, ◌∷◌, ◌≡◌}
 use Rattle.vm_step.proofs.Still.{caught-still, still-fresh}
@@ -143,11 +143,6 @@ module _ {X : Type 0} where
         nothing = λ n. let m = h.nothing n in subst HoldsNoPage (sym is) (record { shares = m.shares; exclusive = m.exclusive; writing = m.writing; out = m.out });
         current = λ _. ap (λ (u : View X). u.current) is;
       }
-
-  -- a pass that takes in another keeps its number
-  pub joined-number : (v w x : View X) → JoinTold v w x → 0 < length v.used → 0 < length x.used
-  joined-number v w x j l =
-      omega (arith, ap (λ (u : View X). length u.used) j.caught.brings.view, length-append v.used w.used, l)
 
   -- ---- split
 

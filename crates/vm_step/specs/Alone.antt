@@ -20,6 +20,11 @@ pub record LeavesLast (done : List Did) (at : Place) (word : ℕ) : Type 0 where
   pub written : HasWritten done at word
   pub none_after : WritesNone at written.later
 
+-- of these steps just those named left a word at this place, in this order
+abbrev pub LeavesOnly : Place → List Did → List Did → Type 0
+LeavesOnly at [] done = WritesNone at done
+LeavesOnly at (d ∷ ds) done = (earlier : List Did) × (later : List Did) × (done ≡ earlier ++ d ∷ later) × WritesNone at earlier × LeavesOnly at ds later
+
 -- a page with this word is locked by nobody, resident or not
 abbrev pub LocksNone : ℕ → Type 0
 LocksNone word = (state_of word ≡ UNLOCKED) ⊎ ((state_of word ≡ MARKED) ⊎ (state_of word ≡ EVICTED))

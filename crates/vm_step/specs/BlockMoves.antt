@@ -1,4 +1,4 @@
--- The table after_event a move of a page's slot, and what a call of the page's device, seen when its block comes home, is to the core.
+-- The table after a move of a page's slot, and what a call of the page's device, seen when its block comes home, is to the core.
 use Rattle.std.specs.Prelude.{◌≡◌, List, Option, slice_set, Some, true, ℕ}
 use mathlib.Core.Option as maybe
 use Rattle.vm_core.specs.Prelude.{after_event, get_elem?, Legal, on_page, seen, some, State}
@@ -15,7 +15,7 @@ module _ {X B : Type 0} where
   abbrev pub IsHome : Table (Option B) (View X) → ℕ → B → Type 0
   IsHome s p b = get_elem? s.homes p ≡ some (some (Some b))
 
-  -- the table after_event pass id took slot p, and after_event it brought the slot home; its view is then w
+  -- the table after pass id took slot p, and after it brought the slot home; its view is then w
   abbrev pub taken_from : Table (Option B) (View X) → ℕ → ℕ → View X → Table (Option B) (View X)
   taken_from s p id w = record { words = s.words; homes = slice_set s.homes p maybe.none; views = slice_set s.views id w }
 

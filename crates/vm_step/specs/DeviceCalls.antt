@@ -1,5 +1,6 @@
 -- How often the device of a page was called, by the steps of a call: it is called only while the page's block is out of its slot, and once at most
--- each time (`DeviceDid`); each move of the block is two loads of the page's fault word, which nothing else loads.
+-- each time (`DeviceDid`); each move of the block is two loads of the page's fault word, which nothing else loads. And how often a page was released: by
+-- the stores of its state word.
 use Rattle.std.specs.Prelude.{[], List, None, ℕ, ◌++◌, ◌∷◌, ◌≡◌, ◌⊎◌}
 use Rattle.vm_rule.specs.{declared.view.Did.Did, declared.view.Place.Place, Prelude.did_load, Prelude.Each}
 use Rattle.vm_rule.specs.declared.view.Place.TheVariants as places
@@ -14,6 +15,10 @@ IsOfPage p _ = ⊥
 -- no step found a word there
 abbrev pub FindsNone : Place → List Did → Type 0
 FindsNone at done = Each (λ d. d.at ≡ at → d.found ≡ None) done
+
+-- no step stored the state word of page p: none released it, so its version stands
+abbrev pub Unstored : ℕ → List Did → Type 0
+Unstored p done = Each (λ d. d.at ≡ places.State p → d.found ≡ None → d.wrote ≡ None) done
 
 -- the block of page p stayed in its slot
 abbrev pub StaysHome : ℕ → List Did → Type 0

@@ -17,7 +17,7 @@ module _ {X B : Type 0} where
   abbrev pub FindsAt : Origin → Table (Option B) (View X) → Place → ℕ → Type 0
   FindsAt start s place found = Within start place × (found ≡ slice_index s.words (index_of start place))
 
-  -- the table after_event a step of pass id, which left these words and this view
+  -- the table after a step of pass id, which left these words and this view
   abbrev pub table_after : Table (Option B) (View X) → List ℕ → ℕ → View X → Table (Option B) (View X)
   table_after s words id w = record { words = words; homes = s.homes; views = slice_set s.views id w }
 

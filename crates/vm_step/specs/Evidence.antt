@@ -54,12 +54,12 @@ UnlockedExpected word first = (1 ≤ state_of word) × (state_of word < LOCKED) 
 abbrev pub EvictedExpected : ℕ → ℕ → Type 0
 EvictedExpected word first = (state_of word ≢ EVICTED) × (first ≡ word_of EVICTED (version_of word))
 
--- where the first word is from, and the steps since: a guard kept it; this call read it; the last step, an exchange, expects it in the place
--- of a word that this call read, or that a guard kept; or it is the last word itself
+-- where the first word is from, and the steps since: a guard kept it; this call read it, by a step that left no word there; the last step, an
+-- exchange, expects it in the place of a word that this call read, or that a guard kept; or it is the last word itself
 pub data Begins (kept : ℕ → Type 0) (expects : ℕ → ℕ → Type 0) (at : Place) (first seen : ℕ) (last : Did) (earlier since : List Did) : Type 0 where
   guarded : kept first → earlier ≡ since → Begins kept expects at first seen last earlier since
-  read : (before : List Did) (d : Did) → earlier ≡ before ++ d ∷ since → Gives d at first → Begins kept expects at first seen last earlier since
-  expected : (before : List Did) (d : Did) (word : ℕ) → earlier ≡ before ++ d ∷ since → Gives d at word → expects word first →
+  read : (before : List Did) (d : Did) → earlier ≡ before ++ d ∷ since → Gives d at first → d.wrote ≡ None → Begins kept expects at first seen last earlier since
+  expected : (before : List Did) (d : Did) (word : ℕ) → earlier ≡ before ++ d ∷ since → Gives d at word → d.wrote ≡ None → expects word first →
       last.expects ≡ Some first → Begins kept expects at first seen last earlier since
   asked : (word : ℕ) → kept word → earlier ≡ since → expects word first → last.expects ≡ Some first → Begins kept expects at first seen last earlier since
   same : first ≡ seen → since ≡ [] → Begins kept expects at first seen last earlier since

@@ -1,6 +1,6 @@
 -- One operation on a word of the table, by a pass that has no slot out: what the table is asked, and what the operation tells. Each kind of step
 -- says the second for itself: of the number found (at a store, the number stored), of the pass's view before, and of its view afterwards.
-use Rattle.std.specs.Prelude.{[], ◌+◌, ◌≡◌, ◌≤◌, Bool, true, ℕ}
+use Rattle.std.specs.Prelude.{[], ◌+◌, ◌<◌, ◌≡◌, ◌≤◌, Bool, length, true, ℕ}
 use Rattle.vm_core.specs.Prelude.{WORDS}
 use Rattle.vm_rule.specs.{declared.view.Origin.Origin, declared.view.Place.Place, declared.view.Place.TheVariants.Content, declared.view.Shape.Shape}
 use Rattle.vm_rule.specs.{declared.view.View.View, Prelude.Allows, Prelude.HasShape, Prelude.index_of, Prelude.Me, Prelude.Sound, Prelude.Step, Prelude.Table}
@@ -11,14 +11,20 @@ module _ {X : Type 0} where
     pub is_shape : HasShape shape v.start
     pub tells_is : v.start.tells ≡ tells
 
+  -- the pass may step on, on a table of this shape
+  pub record MayGoOn (shape : Shape) (tells : Bool) (w : View X) : Type 0 where
+    pub table : IsOf shape tells w
+    pub number : 0 < length w.used
+
   -- what a kind of step tells, of a pass of such a table
   abbrev pub told_of : Shape → Bool → (ℕ → View X → View X → Type 0) → ℕ → View X → View X → Type 0
-  told_of shape tells told n v w = IsOf shape tells v × told n v w
+  told_of shape tells told n v w = MayGoOn shape tells w × told n v w
 
   -- a pass is fit to step again: it lives, has nothing more to learn from a join, and its view is sound
   pub record IsFit (w : View X) : Type 0 where
     pub live : w.live ≡ true
     pub learned : (w.told_releases ≡ []) × (w.told ≡ [])
+    pub number : 0 < length w.used
     pub sound : Sound w
 
   -- what a step tells, as the table tells it of a seat

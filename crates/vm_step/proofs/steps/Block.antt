@@ -7,12 +7,12 @@ use Rattle.vm_core.specs.declared.event.Seen.TheVariants as sights
 use Rattle.vm_rule.specs.declared.view.Place.TheVariants as places
 use Rattle.vm_step.proofs.{Here.is-of, Standing.allows-any, steps.Raise.count-known, steps.Raise.raise-legal}
 use Rattle.vm_step.proofs.Prelude.{[], Allows, ap, arith, at-bound, at-there, block-here, block_of, Bool, BringsWith, brought_to, called, cases_Bool}
-use Rattle.vm_step.proofs.Prelude.{core_shown, count_more, DeviceDid, Did, did_load, empty_play, Entry, false, gives, HasShape, held_at, home_view, index_of}
-use Rattle.vm_step.proofs.Prelude.{inl, inr, IsCall, IsEvent, IsHome, IsOf, IsPassOf, IsPlacedAt, IsSome, Kept, length, lift_play, List, LOCKED, may_call}
-use Rattle.vm_step.proofs.Prelude.{MayBring, MayRaise, MayTakeOut, Me, NamesActorAndPage, None, on_page, Option, Origin, Out, out_at, out_view, Page, put_back}
+use Rattle.vm_step.proofs.Prelude.{core_shown, count_more, DeviceDid, Did, did_load, empty_play, Entry, false, gives, HasShape, held_at, home_view, HomeTold, index_of}
+use Rattle.vm_step.proofs.Prelude.{inl, inr, IsCall, IsEvent, IsFit, IsHome, IsOf, IsPassOf, IsPlacedAt, IsSome, Kept, length, lift_play, List, LOCKED, may_call, MayGoOn}
+use Rattle.vm_step.proofs.Prelude.{MayBring, MayRaise, MayTakeOut, Me, NamesActorAndPage, None, on_page, Option, Origin, Out, out_at, out_view, OutTold, Page, put_back}
 use Rattle.vm_step.proofs.Prelude.{Raise, raise-step, RaiseTold, Read, refl, Release, rest, return_play, ReturnTold, RFail, Ruled, same-word, seat-here}
 use Rattle.vm_step.proofs.Prelude.{seat_of, Shape, shared-here, ShiftTold, ShowsBut, ShowsSame, slice_index, slice_set, slot_of, slot_play, SlotTold, Some}
-use Rattle.vm_step.proofs.Prelude.{some, some-same, Sound, Stands, Start, State, Step, step, Stored, subst, sym, Table, table_after, taken_from, true, upd}
+use Rattle.vm_step.proofs.Prelude.{some, some-same, Stands, Start, State, Step, step, Stored, subst, sym, Table, table_after, taken_from, true, upd}
 use Rattle.vm_step.proofs.Prelude.{upd-is, upd-other, upd-same, upd-self, View, WFail, with_block, words_held, Write, written, ℕ, ⊎_elim, ◌<◌, ◌∙◌, ◌∷◌, ◌≡◌}
 use Rattle.vm_step.proofs.Prelude.{◌≤◌, ◌⊎◌}
 use Rattle.vm_step.proofs.Slots.{at-home, block-out-is, core-home, core-slots, did-stays, get-at, has-share, home-after, may-call, returns-home}
@@ -32,22 +32,33 @@ one-slot j k x y l m e = ap (value x) e
     value d (z ∷ zs) = z.1
 
 module _ {X : Type 0} where
-  -- a step of a pass leaves it live, with its part, with nothing more to learn from a join, and with what the rule keeps of its view
-  pub record GoesOn (v w : View X) : Type 0 where
-    pub live : w.live ≡ true
-    pub number : 0 < length w.used
-    pub settled : (w.told_releases ≡ []) × (w.told ≡ [])
-    pub sound : Sound w
-
-  pub still-steady : (did : Did) (block : Option (ℕ × Stored)) (own : List Release) (entries : List (Entry X)) (v inner w : View X) → inner.live ≡ v.live → inner.used ≡ v.used → v.live ≡ true → 0 < length v.used → BringsWith did block own entries v inner w → GoesOn v w
+  -- a step of a pass leaves it fit to step again
+  pub still-steady : (did : Did) (block : Option (ℕ × Stored)) (own : List Release) (entries : List (Entry X)) (v inner w : View X) → inner.live ≡ v.live → inner.used ≡ v.used → v.live ≡ true → 0 < length v.used → BringsWith did block own entries v inner w → IsFit w
   still-steady did block own entries v inner w live used was number b = record {
     live = ap (λ (y : View X). y.live) b.view ∙ live ∙ was;
     number = subst (λ l. 0 < length l) (sym (ap (λ (y : View X). y.used) b.view ∙ used)) number;
-    settled = (ap (λ (y : View X). y.told_releases) b.view, ap (λ (y : View X). y.told) b.view);
+    learned = (ap (λ (y : View X). y.told_releases) b.view, ap (λ (y : View X). y.told) b.view);
     sound = b.sound;
   }
 
-  pub steady-shifted : (p : ℕ) (moving : Bool) (b : Stored) (found : ℕ) (v w : View X) → v.live ≡ true → 0 < length v.used → ShiftTold p moving b found v w → GoesOn v w
+  -- it steps on, on the same table, where its origin and its numbers are as they were
+  goes-still : (shape : Shape) (tells : Bool) (v w : View X) → w.start ≡ v.start → w.used ≡ v.used → 0 < length v.used → IsOf shape tells v → MayGoOn shape tells w
+  goes-still shape tells v w start used number table = record {
+    table = record { is_shape = subst (HasShape shape) (sym start) table.is_shape; tells_is = ap (λ (o : Origin). o.tells) start ∙ table.tells_is };
+    number = subst (λ (ns : List ℕ). 0 < length ns) (sym used) number;
+  }
+
+  pub out-goes : (shape : Shape) (tells : Bool) (p : ℕ) (b : Stored) (v w : View X) → OutTold p b v w → 0 < length v.used → IsOf shape tells v → MayGoOn shape tells w
+  out-goes shape tells p b v w t =
+      goes-still shape tells v w (ap (λ (y : View X). y.start) t.shift.brings.view ∙ ap (λ (y : View X). y.start) t.slot.brings.view)
+      (ap (λ (y : View X). y.used) t.shift.brings.view ∙ ap (λ (y : View X). y.used) t.slot.brings.view)
+
+  pub home-goes : (shape : Shape) (tells : Bool) (p : ℕ) (old new : Stored) (v w : View X) → HomeTold p old new v w → 0 < length v.used → IsOf shape tells v → MayGoOn shape tells w
+  home-goes shape tells p old new v w t =
+      goes-still shape tells v w (ap (λ (y : View X). y.start) t.back.brings.view ∙ ap (λ (y : View X). y.start) t.shift.brings.view)
+      (ap (λ (y : View X). y.used) t.back.brings.view ∙ ap (λ (y : View X). y.used) t.shift.brings.view)
+
+  pub steady-shifted : (p : ℕ) (moving : Bool) (b : Stored) (found : ℕ) (v w : View X) → v.live ≡ true → 0 < length v.used → ShiftTold p moving b found v w → IsFit w
   steady-shifted p moving b found v w live number t = still-steady (did_load (places.Fault p) found) None [] [] v (out_view p moving b v) w refl refl live number t.brings
 
 module _ {X B : Type 0} (stored : B → Stored) (keeps : Start → Kept X → Type 0) (tied : Start → ℕ → List ℕ → ℕ → List ℕ → Type 0) (tells : Bool) where
@@ -174,7 +185,7 @@ module _ {X B : Type 0} (stored : B → Stored) where
     -- after the block was taken from the slot
     pub emptied : (found : ℕ) (v : View X) (m' n : Me (Option B) (View X)) (b : B) → v.live ≡ true → 0 < length v.used → SlotTold p (stored b) found v m'.0 → m'.1 ≡ (p, Some b) ∷ [] → n ≡ (m'.0, (p, None) ∷ rest m'.1) → IsEmptied p (stored b) n
     emptied found v m' n b live number told carried put =
-        let steady : GoesOn v m'.0 = (still-steady (did_load (places.Fault p) found) None [] [] v (out_view p true (stored b) v) m'.0 refl refl live number told.brings) in
+        let steady : IsFit m'.0 = (still-steady (did_load (places.Fault p) found) None [] [] v (out_view p true (stored b) v) m'.0 refl refl live number told.brings) in
         subst (IsEmptied p (stored b)) (sym put) (record {
           out = ap (λ (y : View X). y.out) told.brings.view;
           carried = ap (λ (x : List (ℕ × Option B)). (p, None) ∷ rest x) carried;
@@ -183,7 +194,7 @@ module _ {X B : Type 0} (stored : B → Stored) where
         })
 
     -- after the second load
-    pub empty-home : (found : ℕ) (m m' : Me (Option B) (View X)) (b : Stored) → IsEmptied p b m → Emptied k found m m' → ShiftTold p false b found m.0 m'.0 × (m'.1 ≡ []) × GoesOn m.0 m'.0
+    pub empty-home : (found : ℕ) (m m' : Me (Option B) (View X)) (b : Stored) → IsEmptied p b m → Emptied k found m m' → ShiftTold p false b found m.0 m'.0 × (m'.1 ≡ []) × IsFit m'.0
     empty-home found m m' b now told =
         let t = subst (λ n. Emptied n found m m') is told b now.out in
         (t.0, t.1, steady-shifted p false b found m.0 m'.0 now.live now.number t.0)
@@ -219,7 +230,7 @@ module _ {X B : Type 0} (stored : B → Stored) where
     loaded k found v m m' n e is none live number may told put =
         let l = lifted k found v m m' e is none may told in
         let t = subst (λ j. Lifted j found m m') e told old (ap (λ (y : View X). y.out) (sym is) ∙ may.out) in
-        let steady : GoesOn v m'.0 = steady-shifted p true old found v m'.0 live number l.0 in
+        let steady : IsFit m'.0 = steady-shifted p true old found v m'.0 live number l.0 in
         subst (IsLoaded p old b) (sym put) (record {
           out = ap (λ (y : View X). y.out) l.0.brings.view;
           carried = ap (λ (x : List (ℕ × Option B)). (p, Some b) ∷ rest x) l.1;
@@ -229,7 +240,7 @@ module _ {X B : Type 0} (stored : B → Stored) where
         })
 
     -- after the second load
-    pub back-home : (shape : Shape) (tells : Bool) (k found : ℕ) (m m' : Me (Option B) (View X)) → k ≡ p → IsLoaded p old b m → (stored b).bound ≡ old.bound → Back shape tells k found m m' → ReturnTold p (stored b) found m.0 m'.0 × (m'.1 ≡ []) × GoesOn m.0 m'.0
+    pub back-home : (shape : Shape) (tells : Bool) (k found : ℕ) (m m' : Me (Option B) (View X)) → k ≡ p → IsLoaded p old b m → (stored b).bound ≡ old.bound → Back shape tells k found m m' → ReturnTold p (stored b) found m.0 m'.0 × (m'.1 ≡ []) × IsFit m'.0
     back-home shape tells k found m m' e is bound told =
         let t = subst (λ n. Back shape tells n found m m') e told b old is.carried is.out is.did bound in
         (t.1, t.2, (still-steady (did_load (places.Fault p) found) (Some (p, (stored b))) [] [] m.0 (home_view p (stored b) m.0) m'.0 refl refl is.live is.number t.1.brings))

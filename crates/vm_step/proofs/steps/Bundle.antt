@@ -5,7 +5,7 @@
 use Rattle.std.proofs.Common.{eq-eqb}
 use Rattle.vm_core.specs.declared.event.Seen.TheVariants as sights
 use Rattle.vm_rule.specs.declared.view.Place.TheVariants as places
-use Rattle.vm_step.proofs.{Exchange.exchange-tells, Exchange.tried-event, Fit.either-lives, Fit.fit, Here.world, Quiet.held-shows, Standing.allows}
+use Rattle.vm_step.proofs.{Exchange.exchange-tells, Exchange.tried-event, Fit.either-has, Fit.either-lives, Fit.fit, Here.world, Quiet.held-shows, Standing.allows}
 use Rattle.vm_step.proofs.{Standing.allows-load, Written.word-left}
 use Rattle.vm_step.proofs.Groups.{has-without_all as still-has}
 use Rattle.vm_step.proofs.Prelude.{[], after_event, after_step, AllowsStep, ap, arith, at-bound, bit_and, bit_or, bit_xor, BLoad, BloadIsItsEvent, Bool}
@@ -41,7 +41,7 @@ module _ {X B : Type 0} (stored : B → Stored) (keeps : Start → Kept X → Ty
   pub bload-allows : (shape : Shape) (slots id : ℕ) (v : View X) (i : ℕ) (g : ℕ) → v.live ≡ true → 0 < length v.used → g * 64 < shape.frames → IsPlacedAt shape (places.Bundle g) i
       → AllowsStep (Stands stored keeps tied shape tells) slots id v i (λ n. n) (told_of shape tells (BundleTold g))
   bload-allows shape slots id v i g live number l' is =
-      allows-load stored keeps tied shape tells slots id v i (places.Bundle g) (BundleTold g) live is (λ n w t. fit t.brings live)
+      allows-load stored keeps tied shape tells slots id v i (places.Bundle g) (BundleTold g) live is (λ n w t. fit t.brings live number)
       (λ start has s r there.
       let l : g * 64 < start.frames = subst (λ n. g * 64 < n) (sym has.frames) l' in
       let k = rested stored keeps tied start tells s r id v (did_load (places.Bundle g) (slice_index s.words (index_of start (places.Bundle g)))) (BLoad id g) there live number refl (names-bundle stored start s id v there g l) refl (bundle-within start g l) refl refl in
@@ -51,7 +51,7 @@ module _ {X B : Type 0} (stored : B → Stored) (keeps : Start → Kept X → Ty
   pub take-allows : (shape : Shape) (slots id : ℕ) (v : View X) (i : ℕ) (g expects mask : ℕ) → v.live ≡ true → 0 < length v.used → g * 64 < shape.frames → IsMaskOf expects mask → IsPlacedAt shape (places.Bundle g) i
       → AllowsStep (Stands stored keeps tied shape tells) slots id v i (λ n. either (eqb n expects) (bit_xor expects mask) n) (told_of shape tells (TakeTold g expects mask))
   take-allows shape slots id v i g expects mask live number l' may is =
-      allows stored keeps tied shape tells slots id v i (places.Bundle g) (λ n. either (eqb n expects) (bit_xor expects mask) n) (λ n. either (eqb n expects) (bit_xor expects mask) n) (TakeTold g expects mask) live is (λ n. refl) (λ n w t. fit t.brings (either-lives _ _ v live live))
+      allows stored keeps tied shape tells slots id v i (places.Bundle g) (λ n. either (eqb n expects) (bit_xor expects mask) n) (λ n. either (eqb n expects) (bit_xor expects mask) n) (TakeTold g expects mask) live is (λ n. refl) (λ n w t. fit t.brings (either-lives _ _ v live live) (either-has _ _ v number number))
       (λ start shaped s r there _.
       let l : g * 64 < start.frames = subst (λ n. g * 64 < n) (sym shaped.frames) l' in
       let old : World = world stored keeps tied start tells s r in
@@ -111,7 +111,7 @@ module _ {X B : Type 0} (stored : B → Stored) (keeps : Start → Kept X → Ty
   pub give-allows : (shape : Shape) (slots id : ℕ) (v : View X) (i : ℕ) (g mask : ℕ) → v.live ≡ true → 0 < length v.used → g * 64 < shape.frames → PassMayGive v g mask → mask < 2 ^ 64 → IsPlacedAt shape (places.Bundle g) i
       → AllowsStep (Stands stored keeps tied shape tells) slots id v i (λ n. bit_or n mask) (told_of shape tells (GiveTold g mask))
   give-allows shape slots id v i g mask live number l' may small is =
-      allows stored keeps tied shape tells slots id v i (places.Bundle g) (λ n. bit_or n mask) (λ n. bit_or n mask) (GiveTold g mask) live is (λ n. refl) (λ n w t. fit t.brings live)
+      allows stored keeps tied shape tells slots id v i (places.Bundle g) (λ n. bit_or n mask) (λ n. bit_or n mask) (GiveTold g mask) live is (λ n. refl) (λ n w t. fit t.brings live number)
       (λ start has s r there _.
       let l : g * 64 < start.frames = subst (λ n. g * 64 < n) (sym has.frames) l' in
       let at : Within start (places.Bundle g) = bundle-within start g l in
@@ -136,7 +136,7 @@ module _ {X B : Type 0} (stored : B → Stored) (keeps : Start → Kept X → Ty
   pub hand-allows : (shape : Shape) (slots id : ℕ) (v : View X) (i : ℕ) → v.live ≡ true → 0 < length v.used → IsPlacedAt shape places.Hand i
       → AllowsStep (Stands stored keeps tied shape tells) slots id v i (λ n. (n + 64) % 18446744073709551616) (told_of shape tells HandTold)
   hand-allows shape slots id v i live number is =
-      allows stored keeps tied shape tells slots id v i places.Hand (λ n. (n + 64) % 18446744073709551616) hand_more HandTold live is hand-adds (λ n w t. fit t.brings live)
+      allows stored keeps tied shape tells slots id v i places.Hand (λ n. (n + 64) % 18446744073709551616) hand_more HandTold live is hand-adds (λ n w t. fit t.brings live number)
       (λ start has s r there _.
       let found : ℕ = slice_index s.words (index_of start places.Hand) in
       let did : Did = did_change places.Hand found (hand_more found) in

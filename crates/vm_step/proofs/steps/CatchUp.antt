@@ -65,7 +65,7 @@ module _ {X B : Type 0} (stored : B → Stored) (keeps : Start → Kept X → Ty
   pub catch_up-allows : (shape : Shape) (slots id : ℕ) (v : View X) (i : ℕ) → v.live ≡ true → 0 < length v.used → IsPlacedAt shape places.Next i
       → AllowsStep (Stands stored keeps tied shape tells) slots id v i (λ n. n) (told_of shape tells (λ n. CatchTold tells keeps))
   catch_up-allows shape slots id v i live number is =
-      allows-load stored keeps tied shape tells slots id v i places.Next (λ n. CatchTold tells keeps) live is (λ n w t. fit t.caught.brings live)
+      allows-load stored keeps tied shape tells slots id v i places.Next (λ n. CatchTold tells keeps) live is (λ n w t. fit t.caught.brings live number)
       (λ start has s r there.
       let found : ℕ = slice_index s.words (index_of start places.Next) in
       let w : View X = after_step stored keeps tied start tells s r s.words [] [] (did_load places.Next found) v in

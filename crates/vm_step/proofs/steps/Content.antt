@@ -160,7 +160,7 @@ module _ {X B : Type 0} (stored : B → Stored) (keeps : Start → Kept X → Ty
   pub load-allows : (shape : Shape) (slots id : ℕ) (v : View X) (i : ℕ) (p f j : ℕ) → v.live ≡ true → 0 < length v.used → p < shape.pages → f < shape.frames → j < 64 → frame_read_by v p ≡ Some f → IsPlacedAt shape (places.Content f j) i
       → AllowsStep (Stands stored keeps tied shape tells) slots id v i (λ n. n) (told_of shape tells (LoadTold p f j))
   load-allows shape slots id v i p f j live number l' lf' lj by is =
-      allows-load stored keeps tied shape tells slots id v i (places.Content f j) (LoadTold p f j) live is (λ n w t. fit t.brings live)
+      allows-load stored keeps tied shape tells slots id v i (places.Content f j) (LoadTold p f j) live is (λ n w t. fit t.brings live number)
       (λ start has s r there.
       let l : p < start.pages = subst (λ n. p < n) (sym has.pages) l' in
       let lf : f < start.frames = subst (λ n. f < n) (sym has.frames) lf' in
@@ -215,7 +215,7 @@ module _ {X B : Type 0} (stored : B → Stored) (keeps : Start → Kept X → Ty
       → AllowsStep (Stands stored keeps tied shape tells) slots id v i (λ _. x) (told_of shape tells (λ _. StoresTold f j x))
   store-allows shape slots id v i f j x live number lf' lj may is =
       allows stored keeps tied shape tells slots id v i (places.Content f j) (λ _. x) (λ _. x) (λ _. StoresTold f j x) live is (λ _. refl)
-      (λ _ w t. ⊎_elim (λ owns. fit (t.own owns).brings live) (λ d. fit (t.page d.0 d.1).brings live) may)
+      (λ _ w t. ⊎_elim (λ owns. fit (t.own owns).brings live number) (λ d. fit (t.page d.0 d.1).brings live number) may)
       (λ start shaped s r there _.
       let lf : f < start.frames = subst (λ n. f < n) (sym shaped.frames) lf' in
       let words : List ℕ = slice_set s.words (index_of start (places.Content f j)) x in

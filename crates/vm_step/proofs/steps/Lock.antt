@@ -3,7 +3,7 @@
 -- What an exclusive lock leaves that was taken: it speaks of one page, whose open read is closed, whose draft is its last words, and which the
 -- pass knows from then on.
 use Rattle.vm_rule.specs.declared.view.Place.TheVariants as places
-use Rattle.vm_step.proofs.{Evidenced.taken-view, Fit.either-lives, Fit.fit, Here.last, Here.world, Standing.allows}
+use Rattle.vm_step.proofs.{Evidenced.taken-view, Fit.either-has, Fit.either-lives, Fit.fit, Here.last, Here.world, Standing.allows}
 use Rattle.vm_step.proofs.Exchange.{exchange-event, free-member, free-unheld, held-at, known-held, lockx-exchange, opened, owner-shows}
 use Rattle.vm_step.proofs.Exchange.{known-owner, page_held, tried, tried-validates}
 use Rattle.vm_step.proofs.Prelude.{[], AllowsStep, ap, arith, Bool, Brings, Did, did_exchange, draft_of, each-map, either, eqb, Held, held_at, if◌then◌else◌}
@@ -22,7 +22,7 @@ module _ {X B : Type 0} (stored : B → Stored) (keeps : Start → Kept X → Ty
   pub lock_exclusive-allows : (law : (start : Start) (kept : Kept X) (q p : ℕ) → keeps start kept → q < length kept.pages → p < length kept.pages → tied start q (page_at kept.pages q) p (page_at kept.pages p)) (shape : Shape) (slots id : ℕ) (v : View X) (i : ℕ) (p expects x : ℕ) → v.live ≡ true → 0 < length v.used → p < shape.pages → MayLock expects → x ≡ (word_of LOCKED (version_of expects)) → IsPlacedAt shape (places.State p) i
       → AllowsStep (Stands stored keeps tied shape tells) slots id v i (λ n. either (eqb n expects) x n) (told_of shape tells (LockTold tied p expects))
   lock_exclusive-allows law shape slots id v i p expects x live number l' may spells is =
-      allows stored keeps tied shape tells slots id v i (places.State p) (λ n. either (eqb n expects) x n) (λ n. either (eqb n expects) (word_of LOCKED (version_of expects)) n) (LockTold tied p expects) live is (λ n. ap (λ z. either (eqb n expects) z n) spells) (λ n w t. fit t.brings (either-lives _ _ v live live))
+      allows stored keeps tied shape tells slots id v i (places.State p) (λ n. either (eqb n expects) x n) (λ n. either (eqb n expects) (word_of LOCKED (version_of expects)) n) (LockTold tied p expects) live is (λ n. ap (λ z. either (eqb n expects) z n) spells) (λ n w t. fit t.brings (either-lives _ _ v live live) (either-has _ _ v number number))
       (λ start has s r there _.
       let l : p < start.pages = subst (λ n. p < n) (sym has.pages) l' in
       let pages : ℕ → Page = (world stored keeps tied start tells s r).core.pages in

@@ -10,6 +10,7 @@ use Rattle.vm_step.proofs.{Asides.alone-silent, Asides.OnlyReads, Fit.fit, Keepi
 use Rattle.vm_step.proofs.{Unclaimed.logical-zero, Written.word-loaded}
 use Rattle.vm_step.proofs.Here.{frame-inside, last-told, older, read-valid, reads, since, size-told, tied-itself, ties-hold, version-told}
 use Rattle.vm_step.proofs.Logical.{not-pending, page-kept, pages-kept, tied-now}
+use Rattle.vm_step.proofs.Mine.{no-member}
 use Rattle.vm_step.proofs.Prelude.{[], after_step, AllowsStep, any-here, any-same, ap, append-none, arith, at-bound, became, began_of, Bool, Brings, calls-by}
 use Rattle.vm_step.proofs.Prelude.{cases_Bool, cases_eq, chosen, Closed, cond-false, cond-true, core_shown, Did, did_load, draft-is, Each, each-both, each-map}
 use Rattle.vm_step.proofs.Prelude.{each-upd2, entries_of, entries_under, Entry, entry_of, eqb, eqb-true, EVICTED, false, frame_of, fun_ext, get_elem?, has}
@@ -266,6 +267,9 @@ module _ {X B : Type 0} (stored : B → Stored) (keeps : Start → Kept X → Ty
               any-here (λ (u : View X). has q u.pending) (slice_set s.views id look-after) id look-after (set_here s.views id look-after (at-bound s.views id v there)) e,
               sym ((r.known id v there live).drafts q (((r.known id v there live).pending q e).0) ∙ draft-is start r.releases r.drafts q),
             ))
+            (λ q inside locks none.
+            let locked : IsLocking (seat_of v q) = ⊎_elim (λ e. inl (sym (seat-keeps (λ y. y.exclusive) refl q) ∙ e)) (λ some'. inr (subst (λ n. 1 ≤ n) (seat-keeps (λ y. y.shares) refl q) some')) locks in
+            ap (λ (f : ℕ → Bool). f q) pending-looked ∙ no-member stored keeps tied start tells s r id v there live q inside locked none)
             (λ q le l'.
             (λ i. logical (histories_of start (append-none r.releases i) r.drafts) (pending-looked i) q)
             ∙ logical-zero stored keeps tied start tells s r telling q le l')
@@ -277,7 +281,7 @@ module _ {X B : Type 0} (stored : B → Stored) (keeps : Start → Kept X → Ty
   pub look-allows : (shape : Shape) (slots id : ℕ) (v : View X) (i : ℕ) (p : ℕ) (said : Option X) → v.live ≡ true → 0 < length v.used → p < shape.pages → MayTell tied may_read p said v → IsPlacedAt shape (places.State p) i
       → AllowsStep (Stands stored keeps tied shape tells) slots id v i (λ n. n) (told_of shape tells (LookTells keeps tied tells p said))
   look-allows shape slots id v i p said live number l may is =
-      allows stored keeps tied shape tells slots id v i (places.State p) (λ n. n) (λ n. n) (LookTells keeps tied tells p said) live is (λ n. refl) (λ n w t. fit t.0.brings live)
+      allows stored keeps tied shape tells slots id v i (places.State p) (λ n. n) (λ n. n) (LookTells keeps tied tells p said) live is (λ n. refl) (λ n w t. fit t.0.brings live number)
       (λ start has s r there _.
       let low : p < start.pages = subst (λ n. p < n) (sym has.pages) l in
       let w : View X = look-after stored keeps tied start tells s r id v p said in

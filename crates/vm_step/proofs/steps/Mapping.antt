@@ -271,22 +271,22 @@ module _ {X B : Type 0} (stored : B → Stored) (keeps : Start → Kept X → Ty
 
   pub install-allows : (f : ℕ) → p < shape.pages → f < shape.frames → f < 2 ^ 32 → MayPutInto v p f → x ≡ trans_word (Some (clean_in f)) → AllowsStep (Stands stored keeps tied shape tells) slots id v i (λ _. x) (told_of shape tells (λ _. InstallTold p f))
   install-allows f l lf small may spells =
-      mapping-allows (Some (clean_in f)) (Install id p f) (InstallTold p f) refl spells (λ w t. fit t.brings live)
+      mapping-allows (Some (clean_in f)) (Install id p f) (InstallTold p f) refl spells (λ w t. fit t.brings live number)
       (λ start has s r there. (_, install-shows stored keeps tied start tells s r id v p there live f may (subst (λ n. p < n) (sym has.pages) l) (subst (λ n. f < n) (sym has.frames) lf) small, λ b. record { brings = b }))
 
   pub clear-allows : (f : ℕ) → StandsClean v p f → x ≡ trans_word None → AllowsStep (Stands stored keeps tied shape tells) slots id v i (λ _. x) (told_of shape tells (λ _ v w. (g : ℕ) → StandsClean v p g → ClearTold p g v w))
   clear-allows f stands spells =
-      mapping-allows None (Clear id p) (λ v w. (g : ℕ) → StandsClean v p g → ClearTold p g v w) refl spells (λ w t. fit (t f stands).brings live)
+      mapping-allows None (Clear id p) (λ v w. (g : ℕ) → StandsClean v p g → ClearTold p g v w) refl spells (λ w t. fit (t f stands).brings live number)
       (λ start has s r there. (_, clear-shows stored keeps tied start tells s r id v p there live f stands, clear-told stored keeps tied start tells s r id v p there live f stands))
 
   pub set_dirty-allows : (f : ℕ) → StandsIn v p f → x ≡ trans_word (Some (dirty_in f)) → AllowsStep (Stands stored keeps tied shape tells) slots id v i (λ _. x) (told_of shape tells (λ _. DirtyTold p f))
   set_dirty-allows f stands spells =
-      mapping-allows (Some (dirty_in f)) (Dirty id p) (DirtyTold p f) refl spells (λ w t. fit t.brings live)
+      mapping-allows (Some (dirty_in f)) (Dirty id p) (DirtyTold p f) refl spells (λ w t. fit t.brings live number)
       (λ start has s r there. (_, dirty-shows stored keeps tied start tells s r id v p there live f stands, λ b. record { brings = b }))
 
   pub set_clean-allows : (f : ℕ) → IsWritten v p f → x ≡ trans_word (Some (clean_in f)) → AllowsStep (Stands stored keeps tied shape tells) slots id v i (λ _. x) (told_of shape tells (λ _. CleanTold p f))
   set_clean-allows f may spells =
-      mapping-allows (Some (clean_in f)) (Clean id p) (CleanTold p f) refl spells (λ w t. fit t.brings live)
+      mapping-allows (Some (clean_in f)) (Clean id p) (CleanTold p f) refl spells (λ w t. fit t.brings live number)
       (λ start has s r there. (_, clean-shows stored keeps tied start tells s r id v p there live f may, λ b. record { brings = b }))
 
 module _ {X B : Type 0} (stored : B → Stored) (start : Origin) (keeps : Start → Kept X → Type 0) (tied : Start → ℕ → List ℕ → ℕ → List ℕ → Type 0) (tells : Bool) (s : Table (Option B) (View X)) (id p f : ℕ) (v w : View X) (pass : IsPassOf stored start keeps tied tells s id v) where

@@ -41,7 +41,7 @@ module _ {X B : Type 0} (stored : B → Stored) (keeps : Start → Kept X → Ty
   pub mark-allows : (shape : Shape) (slots id : ℕ) (v : View X) (i : ℕ) (p expects x : ℕ) → v.live ≡ true → 0 < length v.used → p < shape.pages → state_of expects ≡ UNLOCKED → x ≡ (word_of MARKED (version_of expects)) → IsPlacedAt shape (places.State p) i
       → AllowsStep (Stands stored keeps tied shape tells) slots id v i (λ n. either (eqb n expects) x n) (told_of shape tells (λ n v w. MarkTold p expects n (word_of MARKED (version_of expects)) v w))
   mark-allows shape slots id v i p expects x live number l may spells is =
-      allows stored keeps tied shape tells slots id v i (places.State p) (λ n. either (eqb n expects) x n) (λ n. either (eqb n expects) (word_of MARKED (version_of expects)) n) (λ n v w. MarkTold p expects n (word_of MARKED (version_of expects)) v w) live is (λ n. ap (λ z. either (eqb n expects) z n) spells) (λ n w t. fit t.brings live)
+      allows stored keeps tied shape tells slots id v i (places.State p) (λ n. either (eqb n expects) x n) (λ n. either (eqb n expects) (word_of MARKED (version_of expects)) n) (λ n v w. MarkTold p expects n (word_of MARKED (version_of expects)) v w) live is (λ n. ap (λ z. either (eqb n expects) z n) spells) (λ n w t. fit t.brings live number)
       (λ start has s r there _.
       mark-tells stored keeps tied start tells s r id v there live number p expects (subst (λ n. p < n) (sym has.pages) l) (word_of MARKED (version_of expects)) MARKED (Mark id p expects) refl
       (mark-exchange stored start s r.releases r.drafts id v p expects r.wide.0 (subst (λ n. p < n) (sym has.pages) l) there may))
@@ -49,7 +49,7 @@ module _ {X B : Type 0} (stored : B → Stored) (keeps : Start → Kept X → Ty
   pub unmark-allows : (shape : Shape) (slots id : ℕ) (v : View X) (i : ℕ) (p expects x : ℕ) → v.live ≡ true → 0 < length v.used → p < shape.pages → state_of expects ≡ MARKED → x ≡ (word_of UNLOCKED (version_of expects)) → IsPlacedAt shape (places.State p) i
       → AllowsStep (Stands stored keeps tied shape tells) slots id v i (λ n. either (eqb n expects) x n) (told_of shape tells (λ n v w. MarkTold p expects n (word_of UNLOCKED (version_of expects)) v w))
   unmark-allows shape slots id v i p expects x live number l may spells is =
-      allows stored keeps tied shape tells slots id v i (places.State p) (λ n. either (eqb n expects) x n) (λ n. either (eqb n expects) (word_of UNLOCKED (version_of expects)) n) (λ n v w. MarkTold p expects n (word_of UNLOCKED (version_of expects)) v w) live is (λ n. ap (λ z. either (eqb n expects) z n) spells) (λ n w t. fit t.brings live)
+      allows stored keeps tied shape tells slots id v i (places.State p) (λ n. either (eqb n expects) x n) (λ n. either (eqb n expects) (word_of UNLOCKED (version_of expects)) n) (λ n v w. MarkTold p expects n (word_of UNLOCKED (version_of expects)) v w) live is (λ n. ap (λ z. either (eqb n expects) z n) spells) (λ n w t. fit t.brings live number)
       (λ start has s r there _.
       mark-tells stored keeps tied start tells s r id v there live number p expects (subst (λ n. p < n) (sym has.pages) l) (word_of UNLOCKED (version_of expects)) UNLOCKED (Unmark id p expects) refl
       (unmark-exchange stored start s r.releases r.drafts id v p expects r.wide.0 (subst (λ n. p < n) (sym has.pages) l) there may))

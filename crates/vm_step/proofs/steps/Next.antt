@@ -6,7 +6,7 @@ use Rattle.std.proofs.Common.{eq-eqb}
 use Rattle.vm_core.specs.declared.event.Seen.TheVariants as sights
 use Rattle.vm_owner.proofs.NumberLemmas.{has-both}
 use Rattle.vm_rule.specs.declared.view.Place.TheVariants as places
-use Rattle.vm_step.proofs.{Evidenced.taken-view, Exchange.exchange-tells, Exchange.tried-event, Fit.either-lives, Fit.fit, Here.last-told, Here.world}
+use Rattle.vm_step.proofs.{Evidenced.taken-view, Exchange.exchange-tells, Exchange.tried-event, Fit.either-has, Fit.either-lives, Fit.fit, Here.last-told, Here.world}
 use Rattle.vm_step.proofs.{Logical.page-kept, Logical.pages-kept, Mine.member-mine, OwedPages.claimed-chosen, Quiet.event-shows, Standing.allows}
 use Rattle.vm_step.proofs.{Standing.allows-load, steps.Leaving.LeavesOthers, steps.Leaving.others-tied, Written.word-left, Written.word-loaded}
 use Rattle.vm_step.proofs.Numbers.{all-zeros, claimed-is, has-numbers, numbers-has}
@@ -240,7 +240,7 @@ module _ {X B : Type 0} (stored : B → Stored) (keeps : Start → Kept X → Ty
   pub nload-allows : (shape : Shape) (slots id : ℕ) (v : View X) (i : ℕ) → v.live ≡ true → 0 < length v.used → IsPlacedAt shape places.Next i
       → AllowsStep (Stands stored keeps tied shape tells) slots id v i (λ n. n) (told_of shape tells NextTold)
   nload-allows shape slots id v i live number is =
-      allows-load stored keeps tied shape tells slots id v i places.Next NextTold live is (λ n w t. fit t.brings live)
+      allows-load stored keeps tied shape tells slots id v i places.Next NextTold live is (λ n w t. fit t.brings live number)
       (λ start has s r there.
       let k = steps stored keeps tied start tells s r id v s.words r.drafts [] [] _ (next_view _ v) (NLoad id) there live number refl refl (nload-shows stored keeps tied start tells s r id v there live) in
       (_, k.0, told-next stored keeps tied start tells s r id v there live _ _ _ refl refl k.1))
@@ -249,7 +249,7 @@ module _ {X B : Type 0} (stored : B → Stored) (keeps : Start → Kept X → Ty
   pub claim-allows : ((start : Start) (kept : Kept X) (n : ℕ) → keeps start kept → AreZero kept n → keeps start (claimed n kept)) → (shape : Shape) (slots id : ℕ) (v : View X) (i : ℕ) (x n : ℕ) → v.live ≡ true → 0 < length v.used → PassMayClaim v x n → IsPlacedAt shape places.Next i
       → AllowsStep (Stands stored keeps tied shape tells) slots id v i (λ k. either (eqb k x) (x + n) k) (told_of shape tells (ClaimTold x n))
   claim-allows law shape slots id v i x n live number may is =
-      allows stored keeps tied shape tells slots id v i places.Next (λ k. either (eqb k x) (x + n) k) (λ k. either (eqb k x) (x + n) k) (ClaimTold x n) live is (λ n. refl) (λ n w t. fit t.brings (either-lives _ _ v live live))
+      allows stored keeps tied shape tells slots id v i places.Next (λ k. either (eqb k x) (x + n) k) (λ k. either (eqb k x) (x + n) k) (ClaimTold x n) live is (λ n. refl) (λ n w t. fit t.brings (either-lives _ _ v live live) (either-has _ _ v number number))
       (λ start has s r there _.
       let k = exchange-tells stored keeps tied start tells s r id v there live number places.Next x (x + n) tt r.drafts (claimed_view x n v) (Claim id x n) refl
       (claim-legal stored keeps tied start tells s r id v there live x n may)

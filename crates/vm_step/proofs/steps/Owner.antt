@@ -40,7 +40,7 @@ module _ {X B : Type 0} (stored : B → Stored) (keeps : Start → Kept X → Ty
       → v.live ≡ true → 0 < length v.used → f < shape.frames → StandsIn v p f → IsPlacedAt shape (places.Owner f) i
       → AllowsStep (Stands stored keeps tied shape tells) slots id v i (λ _. word) (told_of shape tells (λ _. OwnerTold p f word))
   owner-allows shape event slots id v i p f word legal actor is live number lf stands at =
-      allows stored keeps tied shape tells slots id v i (places.Owner f) (λ _. word) (λ _. word) (λ _. OwnerTold p f word) live at (λ n. refl) (λ n w t. fit t.brings live)
+      allows stored keeps tied shape tells slots id v i (places.Owner f) (λ _. word) (λ _. word) (λ _. OwnerTold p f word) live at (λ n. refl) (λ n w t. fit t.brings live number)
       (λ start has s r there _.
       let inside : f < start.frames = subst (λ n. f < n) (sym has.frames) lf in
       let core : State = core_shown stored start s in
@@ -75,7 +75,7 @@ module _ {X B : Type 0} (stored : B → Stored) (keeps : Start → Kept X → Ty
   pub oload-allows : (shape : Shape) (slots id : ℕ) (v : View X) (i f : ℕ) → v.live ≡ true → 0 < length v.used → f < shape.frames → IsPlacedAt shape (places.Owner f) i
       → AllowsStep (Stands stored keeps tied shape tells) slots id v i (λ n. n) (told_of shape tells (OwnerLoadTold f))
   oload-allows shape slots id v i f live number lf at =
-      allows-load stored keeps tied shape tells slots id v i (places.Owner f) (OwnerLoadTold f) live at (λ n w t. fit t.brings live)
+      allows-load stored keeps tied shape tells slots id v i (places.Owner f) (OwnerLoadTold f) live at (λ n w t. fit t.brings live number)
       (λ start has s r there.
       let inside : f < start.frames = subst (λ n. f < n) (sym has.frames) lf in
       let k = rested stored keeps tied start tells s r id v _ (OLoad id f) there live number refl (record { actor = at-bound s.views id v there; frame = inside }) refl inside refl refl in

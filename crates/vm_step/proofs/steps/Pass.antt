@@ -36,10 +36,10 @@ module _ {X B : Type 0} (stored : B → Stored) (keeps : Start → Kept X → Ty
   hears-any id v other w live live' here there only s stands at apart at' =
       by-rule id v s _ live stands at (λ start r. hears-ruled stored keeps tied start tells s r id other v w at apart (sym (set_else s.views id other (hearer v w) apart) ∙ at') live live' here there only)
 
-  pub follow-allows : (slots id : ℕ) (v : View X) (i : ℕ) → v.live ≡ true → StartsWith v.told_releases v.releases → StartsWith v.told v.seen → IsPlacedAt shape places.Next i
+  pub follow-allows : (slots id : ℕ) (v : View X) (i : ℕ) → v.live ≡ true → 0 < length v.used → StartsWith v.told_releases v.releases → StartsWith v.told v.seen → IsPlacedAt shape places.Next i
       → AllowsStep (Stands stored keeps tied shape tells) slots id v i (λ n. n) (told_of shape tells (λ n. TakesOver))
-  follow-allows slots id v i live on-releases on-seen is =
-      allows-load stored keeps tied shape tells slots id v i places.Next (λ n. TakesOver) live is (λ n w t. record { live = ap (λ y. y.live) t.view ∙ live; learned = (ap (λ y. y.told_releases) t.view, ap (λ y. y.told) t.view); sound = t.sound })
+  follow-allows slots id v i live number on-releases on-seen is =
+      allows-load stored keeps tied shape tells slots id v i places.Next (λ n. TakesOver) live is (λ n w t. record { live = ap (λ y. y.live) t.view ∙ live; learned = (ap (λ y. y.told_releases) t.view, ap (λ y. y.told) t.view); number = subst (λ (ns : List ℕ). 0 < length ns) (sym (ap (λ (y : View X). y.used) t.view)) number; sound = t.sound })
       (λ start has s r there. let k = follows-ruled stored keeps tied start tells s r id v there live on-releases on-seen in (follower v (did_load places.Next (slice_index s.words (index_of start places.Next))), k.0, k.1))
 
 module _ {X : Type 0} where

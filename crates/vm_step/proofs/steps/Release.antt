@@ -10,7 +10,7 @@ use Rattle.vm_step.proofs.{Asides.alone-release, Evidenced.next-stays, Fit.fit, 
 use Rattle.vm_step.proofs.{Standing.allows, steps.Look.is-turn, Unclaimed.draft-unclaimed, Written.spelled-still, Written.stands-there}
 use Rattle.vm_step.proofs.Groups.{changed-listed, chosen-has, has-without_all, has-without_all_other, has-without_all_same, listed-agrees}
 use Rattle.vm_step.proofs.Logical.{logical-draft, logical-last, logical-same, not-pending}
-use Rattle.vm_step.proofs.Mine.{member-mine, not-member, not-owed, owed-mine}
+use Rattle.vm_step.proofs.Mine.{member-mine, no-member, not-member, not-owed, owed-mine}
 use Rattle.vm_step.proofs.Prelude.{[], after_release, Agrees, AllowsStep, any-here, any-same, any-true, ap, append-none, AreApart, AreSized, AreUnchanged}
 use Rattle.vm_step.proofs.Prelude.{arith, at-bound, at_set, began_of, Bool, Brings, BringsWith, cases_Bool, cases_eq, Change, changes_of, chosen, cond-false}
 use Rattle.vm_step.proofs.Prelude.{core_shown, Did, did_store, DowngradeIsItsEvent, DowngradeTold, draft-is, draft_of, Each, entries_of, Entry, eq-eqb, eqb}
@@ -166,6 +166,7 @@ module _ {X B : Type 0} {stored : B → Stored} {keeps : Start → Kept X → Ty
         any-here (λ (u : View X). has q u.pending) (slice_set rel.s.views rel.id (left rel)) rel.id (left rel) (set_here rel.s.views rel.id (left rel) (at-bound rel.s.views rel.id rel.v rel.there)) e,
         sym (draft-known rel q (⊎_elim (λ was. ((mine rel).pending q was).0) (λ comes. (member-is rel q comes).owns) ((members-are rel).among q e).1)),
       ))
+      (no-member stored keeps tied start tells (new rel) ruled rel.id (left rel) (set_here rel.s.views rel.id (left rel) (at-bound rel.s.views rel.id rel.v rel.there)) rel.live)
       (release-zero (release-shows owner) telling)
       (λ _. ap (λ (o : Origin). slice_index (words rel) (index_of o places.Next)) same ∙ sym (next-here stored start (new rel)))
 
@@ -317,7 +318,7 @@ module _ {X B : Type 0} (stored : B → Stored) (keeps : Start → Kept X → Ty
   pub release-allows : (shape : Shape) (tells : Bool) (slots id : ℕ) (v : View X) (i : ℕ) (p version : ℕ) (rest : List ℕ) (said : Option X) → v.live ≡ true → 0 < length v.used → p < shape.pages → version < MAX_VERSION → MayGiveUp may_release p version rest said v → IsPlacedAt shape (places.State p) i
       → AllowsStep (Stands stored keeps tied shape tells) slots id v i (λ _. version + 1) (told_of shape tells (λ _. ReleaseTells keeps tells p (ReleaseTold p version rest said)))
   release-allows shape tells slots id v i p version rest said live number l below g is =
-      allows stored keeps tied shape tells slots id v i (places.State p) (λ _. version + 1) (λ _. version + 1) (λ _. ReleaseTells keeps tells p (ReleaseTold p version rest said)) live is (λ _. refl) (λ _ w t. fit t.0.brings live)
+      allows stored keeps tied shape tells slots id v i (places.State p) (λ _. version + 1) (λ _. version + 1) (λ _. ReleaseTells keeps tells p (ReleaseTold p version rest said)) live is (λ _. refl) (λ _ w t. fit t.0.brings live number)
       (λ start has s r there _.
       let low : p < start.pages = subst (λ n. p < n) (sym has.pages) l in
       let rel : Releasing stored keeps tied start tells may_release = giving-up s r id v there live p version rest said low below g in
@@ -328,7 +329,7 @@ module _ {X B : Type 0} (stored : B → Stored) (keeps : Start → Kept X → Ty
   pub release_evicted-allows : (shape : Shape) (tells : Bool) (slots id : ℕ) (v : View X) (i : ℕ) (p version x : ℕ) → v.live ≡ true → 0 < length v.used → p < shape.pages → version < MAX_VERSION → MayEvict v p version → x ≡ word_of EVICTED (version + 1) → IsPlacedAt shape (places.State p) i
       → AllowsStep (Stands stored keeps tied shape tells) slots id v i (λ _. x) (told_of shape tells (λ _. ReleaseTells keeps tells p (EvictTold p version)))
   release_evicted-allows shape tells slots id v i p version x live number l below g spells is =
-      allows stored keeps tied shape tells slots id v i (places.State p) (λ _. x) (λ _. word_of EVICTED (version + 1)) (λ _. ReleaseTells keeps tells p (EvictTold p version)) live is (λ _. spells) (λ _ w t. fit t.0.brings live)
+      allows stored keeps tied shape tells slots id v i (places.State p) (λ _. x) (λ _. word_of EVICTED (version + 1)) (λ _. ReleaseTells keeps tells p (EvictTold p version)) live is (λ _. spells) (λ _ w t. fit t.0.brings live number)
       (λ start has s r there _.
       let low : p < start.pages = subst (λ n. p < n) (sym has.pages) l in
       let rel : Releasing stored keeps tied start tells may_release = evicting s r id v there live p version low below g in
@@ -339,7 +340,7 @@ module _ {X B : Type 0} (stored : B → Stored) (keeps : Start → Kept X → Ty
   pub downgrade-allows : (shape : Shape) (tells : Bool) (slots id : ℕ) (v : View X) (i : ℕ) (p version x : ℕ) → v.live ≡ true → 0 < length v.used → p < shape.pages → version < MAX_VERSION → MayDowngrade may_release v p version → x ≡ word_of 1 (version + 1) → IsPlacedAt shape (places.State p) i
       → AllowsStep (Stands stored keeps tied shape tells) slots id v i (λ _. x) (told_of shape tells (λ _. ReleaseTells keeps tells p (DowngradeTold p version)))
   downgrade-allows shape tells slots id v i p version x live number l below g spells is =
-      allows stored keeps tied shape tells slots id v i (places.State p) (λ _. x) (λ _. word_of 1 (version + 1)) (λ _. ReleaseTells keeps tells p (DowngradeTold p version)) live is (λ _. spells) (λ _ w t. fit t.0.brings live)
+      allows stored keeps tied shape tells slots id v i (places.State p) (λ _. x) (λ _. word_of 1 (version + 1)) (λ _. ReleaseTells keeps tells p (DowngradeTold p version)) live is (λ _. spells) (λ _ w t. fit t.0.brings live number)
       (λ start has s r there _.
       let low : p < start.pages = subst (λ n. p < n) (sym has.pages) l in
       let rel : Releasing stored keeps tied start tells may_release = downgrading s r id v there live p version low below g in

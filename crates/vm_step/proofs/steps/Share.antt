@@ -4,7 +4,7 @@
 use Rattle.std.proofs.Common.{eq-eqb}
 use Rattle.vm_core.specs.declared.event.Seen.TheVariants as sights
 use Rattle.vm_rule.specs.declared.view.Place.TheVariants as places
-use Rattle.vm_step.proofs.{Evidenced.taken-view, Fit.either-lives, Fit.fit, Quiet.quiet-shows, Standing.allows, Written.word-left}
+use Rattle.vm_step.proofs.{Evidenced.taken-view, Fit.either-has, Fit.either-lives, Fit.fit, Quiet.quiet-shows, Standing.allows, Written.word-left}
 use Rattle.vm_step.proofs.Exchange.{draft-stays, exchange-event, locks-exchange, names, page_held, seat-shows, sharer-shows, tried}
 use Rattle.vm_step.proofs.Exchange.{knows-owner, owner_at, tried-validates}
 use Rattle.vm_step.proofs.Here.{frame-inside, version-told, world}
@@ -89,7 +89,7 @@ module _ {X B : Type 0} (stored : B → Stored) (keeps : Start → Kept X → Ty
   pub lock_shared-allows : (law : (start : Start) (kept : Kept X) (q p : ℕ) → keeps start kept → q < length kept.pages → p < length kept.pages → tied start q (page_at kept.pages q) p (page_at kept.pages p)) (shape : Shape) (slots id : ℕ) (v : View X) (i : ℕ) (p expects x : ℕ) → v.live ≡ true → 0 < length v.used → p < shape.pages → MayShare expects → x ≡ (word_of (one_share_more (state_of expects)) (version_of expects)) → IsPlacedAt shape (places.State p) i
       → AllowsStep (Stands stored keeps tied shape tells) slots id v i (λ n. either (eqb n expects) x n) (told_of shape tells (ShareTold tied p expects))
   lock_shared-allows law shape slots id v i p expects x live number l' may spells is =
-      allows stored keeps tied shape tells slots id v i (places.State p) (λ n. either (eqb n expects) x n) (λ n. either (eqb n expects) (word_of (one_share_more (state_of expects)) (version_of expects)) n) (ShareTold tied p expects) live is (λ n. ap (λ z. either (eqb n expects) z n) spells) (λ n w t. fit t.brings (either-lives _ _ v live live))
+      allows stored keeps tied shape tells slots id v i (places.State p) (λ n. either (eqb n expects) x n) (λ n. either (eqb n expects) (word_of (one_share_more (state_of expects)) (version_of expects)) n) (ShareTold tied p expects) live is (λ n. ap (λ z. either (eqb n expects) z n) spells) (λ n w t. fit t.brings (either-lives _ _ v live live) (either-has _ _ v number number))
       (λ start has s r there _.
       let l : p < start.pages = subst (λ n. p < n) (sym has.pages) l' in
       let page : Page = (world stored keeps tied start tells s r).core.pages p in
@@ -133,7 +133,7 @@ module _ {X B : Type 0} (stored : B → Stored) (keeps : Start → Kept X → Ty
   pub unlock_shared-allows : (shape : Shape) (slots id : ℕ) (v : View X) (i : ℕ) (p : ℕ) → v.live ≡ true → 0 < length v.used → p < shape.pages → MayUnshare v p → IsPlacedAt shape (places.State p) i
       → AllowsStep (Stands stored keeps tied shape tells) slots id v i (λ n. (n + (2 ^ 64 - 2 ^ 56)) % 2 ^ 64) (told_of shape tells (UnshareTold p))
   unlock_shared-allows shape slots id v i p live number l' may is =
-      allows stored keeps tied shape tells slots id v i (places.State p) (λ n. (n + (2 ^ 64 - 2 ^ 56)) % 2 ^ 64) (λ n. (n + (2 ^ 64 - 2 ^ 56)) % 2 ^ 64) (UnshareTold p) live is (λ n. refl) (λ n w t. fit t.brings live)
+      allows stored keeps tied shape tells slots id v i (places.State p) (λ n. (n + (2 ^ 64 - 2 ^ 56)) % 2 ^ 64) (λ n. (n + (2 ^ 64 - 2 ^ 56)) % 2 ^ 64) (UnshareTold p) live is (λ n. refl) (λ n w t. fit t.brings live number)
       (λ start has s r there below.
       let l : p < start.pages = subst (λ n. p < n) (sym has.pages) l' in
       let found : ℕ = slice_index s.words p in

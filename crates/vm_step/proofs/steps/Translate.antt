@@ -25,7 +25,7 @@ module _ {X B : Type 0} (stored : B → Stored) (keeps : Start → Kept X → Ty
   pub tload-allows : (shape : Shape) (slots id : ℕ) (v : View X) (i : ℕ) (p : ℕ) → v.live ≡ true → 0 < length v.used → p < shape.pages → IsPlacedAt shape (places.Translation p) i
       → AllowsStep (Stands stored keeps tied shape tells) slots id v i (λ n. n) (told_of shape tells (TranslationTold p))
   tload-allows shape slots id v i p live number l' is =
-      allows-load stored keeps tied shape tells slots id v i (places.Translation p) (TranslationTold p) live is (λ n w t. fit t.brings live)
+      allows-load stored keeps tied shape tells slots id v i (places.Translation p) (TranslationTold p) live is (λ n w t. fit t.brings live number)
       (λ start has s r there.
       let l : p < start.pages = subst (λ n. p < n) (sym has.pages) l' in
       let pages : ℕ → Page = (core_shown stored start s).pages in

@@ -1,6 +1,6 @@
 // A pass is brought up to date.
 ghost use Rattle.vm_rule.specs.Prelude.{CaughtUp};
-ghost use Rattle.vm_step.specs.Prelude.{IsOf, IsSamePass, KnowsAll, MayStep, view};
+ghost use Rattle.vm_step.specs.Prelude.{IsReady, IsSamePass, KnowsAll, MayStep, view};
 ghost use Rattle.vm_step.specs.steps.CatchUp.{CatchUpIsItsEvent};
 
 use crate::layout::next_place;
@@ -14,7 +14,7 @@ use vm_rule::words::{Pass, Words};
 pub fn catch_up<U: Owner, B: Block>(words: &Words<U, B>, pass: &mut Pass<U>)
     requires pass { MayStep words.now.table.shared.table_id pass.old }
     ensures pass { IsSamePass pass.old pass.new }
-    ensures table { IsOf words.now.table.shared.key B.tells (view pass.old) }
+    ensures ready { IsReady words.now.table.shared.key B.tells words.now.table.shared.table_id pass.new }
     ensures told { CaughtUp (view pass.old) (view pass.new) }
     ensures knows { KnowsAll B.tells U.keeps (view pass.new) }
 {

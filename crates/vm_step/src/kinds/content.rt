@@ -2,7 +2,7 @@
 ghost use Rattle.std.specs.Prelude.{◌<◌, ◌≡◌, length, Some, true};
 ghost use Rattle.vm_rule.specs.Prelude.{frame_read_by, has, LoadTold, StoresTold};
 ghost use Rattle.vm_rule.specs.Stores.{PassMayStore};
-ghost use Rattle.vm_step.specs.Prelude.{IsFrameAt, IsOf, IsReady, IsSamePass, MayStep, Stores, view};
+ghost use Rattle.vm_step.specs.Prelude.{IsFrameAt, IsReady, IsSamePass, MayStep, Stores, view};
 ghost use Rattle.vm_step.specs.steps.Content.{FillIsItsEvent, LoadIsItsEvent, StoreIsItsEvent};
 
 use crate::layout::{content_place, frame_place};
@@ -25,7 +25,7 @@ pub fn load<U: Owner, B: Block>(
     requires page { (p < words.now.table.shared.key.pages) × (f < words.now.table.shared.key.frames) × (i < WORDS) }
     requires frame { frame_read_by (view pass.old) p ≡ Some f }
     ensures pass { IsSamePass pass.old pass.new }
-    ensures table { IsOf words.now.table.shared.key B.tells (view pass.old) }
+    ensures ready { IsReady words.now.table.shared.key B.tells words.now.table.shared.table_id pass.new }
     ensures told { LoadTold p f i result (view pass.old) (view pass.new) }
 {
     load_at(words, pass, p, f, frame_place(words, f), i)
@@ -45,7 +45,7 @@ pub fn load_at<U: Owner, B: Block>(
     requires first { IsFrameAt words.now.table.shared.key words.now.table.shared.table_id.words f first }
     requires frame { frame_read_by (view pass.old) p ≡ Some f }
     ensures pass { IsSamePass pass.old pass.new }
-    ensures table { IsOf words.now.table.shared.key B.tells (view pass.old) }
+    ensures ready { IsReady words.now.table.shared.key B.tells words.now.table.shared.table_id pass.new }
     ensures told { LoadTold p f i result (view pass.old) (view pass.new) }
 {
     operation::load::<U, B, (u32, u32, usize), Brand>(words, pass, first + i, (p, f, i))
@@ -58,7 +58,7 @@ pub fn store<U: Owner, B: Block>(words: &Words<U, B>, pass: &mut Pass<U>, f: u32
     requires frame { (f < words.now.table.shared.key.frames) × (i < WORDS) }
     requires legal { PassMayStore (view pass.old) f }
     ensures pass { IsSamePass pass.old pass.new }
-    ensures table { IsOf words.now.table.shared.key B.tells (view pass.old) }
+    ensures ready { IsReady words.now.table.shared.key B.tells words.now.table.shared.table_id pass.new }
     ensures told { StoresTold f i w (view pass.old) (view pass.new) }
 {
     let at = content_place(words, f, i);

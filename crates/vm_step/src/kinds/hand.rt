@@ -1,6 +1,6 @@
 // The clock's hand is moved on.
 ghost use Rattle.vm_rule.specs.Prelude.{HandTold};
-ghost use Rattle.vm_step.specs.Prelude.{IsOf, IsSamePass, MayStep, view};
+ghost use Rattle.vm_step.specs.Prelude.{IsReady, IsSamePass, MayStep, view};
 ghost use Rattle.vm_step.specs.steps.Hand.{HandIsItsEvent};
 
 use crate::layout::hand_place;
@@ -15,7 +15,7 @@ use vm_rule::words::{Pass, Words};
 pub fn hand<U: Owner, B: Block>(words: &Words<U, B>, pass: &mut Pass<U>) -> u64
     requires pass { MayStep words.now.table.shared.table_id pass.old }
     ensures pass { IsSamePass pass.old pass.new }
-    ensures table { IsOf words.now.table.shared.key B.tells (view pass.old) }
+    ensures ready { IsReady words.now.table.shared.key B.tells words.now.table.shared.table_id pass.new }
     ensures told { HandTold result (view pass.old) (view pass.new) }
 {
     let at = hand_place(words);

@@ -2,7 +2,7 @@
 ghost use Rattle.std.specs.Prelude.{◌<◌, ◌≡◌, ◌≢◌, ℕ};
 ghost use Rattle.vm_core.specs.Prelude.{MayLock};
 ghost use Rattle.vm_rule.specs.Prelude.{LockTold};
-ghost use Rattle.vm_step.specs.Prelude.{found_by, IsOf, IsSamePass, MayStep, view};
+ghost use Rattle.vm_step.specs.Prelude.{found_by, IsReady, IsSamePass, MayStep, view};
 ghost use Rattle.vm_step.specs.{declared.took.Took.TheVariants.Lost, steps.Lock.LockExclusiveIsItsEvent};
 
 use crate::layout::state_place;
@@ -26,7 +26,7 @@ pub fn lock_exclusive<U: Owner, B: Block>(
     requires page { p < words.now.table.shared.key.pages }
     requires legal { MayLock expects }
     ensures pass { IsSamePass pass.old pass.new }
-    ensures table { IsOf words.now.table.shared.key B.tells (view pass.old) }
+    ensures ready { IsReady words.now.table.shared.key B.tells words.now.table.shared.table_id pass.new }
     ensures told { LockTold U.tied p expects (found_by expects result) (view pass.old) (view pass.new) }
     ensures lost { (word : ℕ) → result ≡ Lost word → word ≢ expects }
 {

@@ -1,7 +1,7 @@
 // A page's translation word is written: the page is put into a frame, taken out of it, made dirty or clean.
 ghost use Rattle.std.specs.Prelude.{◌<◌, ℕ};
 ghost use Rattle.vm_rule.specs.Prelude.{CleanTold, ClearTold, DirtyTold, InstallTold, IsWritten, MayPutInto, StandsClean, StandsIn};
-ghost use Rattle.vm_step.specs.Prelude.{IsOf, IsSamePass, MayStep, view};
+ghost use Rattle.vm_step.specs.Prelude.{IsReady, IsSamePass, MayStep, view};
 ghost use Rattle.vm_step.specs.steps.Mapping.{ClearIsItsEvent, InstallIsItsEvent, SetCleanIsItsEvent, SetDirtyIsItsEvent};
 
 use crate::layout::translation_place;
@@ -19,7 +19,7 @@ pub fn install<U: Owner, B: Block>(words: &Words<U, B>, pass: &mut Pass<U>, p: u
     requires frame { f < words.now.table.shared.key.frames }
     requires legal { MayPutInto (view pass.old) p f }
     ensures pass { IsSamePass pass.old pass.new }
-    ensures table { IsOf words.now.table.shared.key B.tells (view pass.old) }
+    ensures ready { IsReady words.now.table.shared.key B.tells words.now.table.shared.table_id pass.new }
     ensures told { InstallTold p f (view pass.old) (view pass.new) }
 {
     let at = translation_place(words, p);
@@ -33,7 +33,7 @@ pub fn clear<U: Owner, B: Block>(words: &Words<U, B>, pass: &mut Pass<U>, p: u32
     requires page { p < words.now.table.shared.key.pages }
     requires legal { (f : ℕ) × StandsClean (view pass.old) p f }
     ensures pass { IsSamePass pass.old pass.new }
-    ensures table { IsOf words.now.table.shared.key B.tells (view pass.old) }
+    ensures ready { IsReady words.now.table.shared.key B.tells words.now.table.shared.table_id pass.new }
     ensures told { (f : ℕ) → StandsClean (view pass.old) p f → ClearTold p f (view pass.old) (view pass.new) }
 {
     let at = translation_place(words, p);
@@ -47,7 +47,7 @@ pub fn set_dirty<U: Owner, B: Block>(words: &Words<U, B>, pass: &mut Pass<U>, p:
     requires frame { f < words.now.table.shared.key.frames }
     requires legal { StandsIn (view pass.old) p f }
     ensures pass { IsSamePass pass.old pass.new }
-    ensures table { IsOf words.now.table.shared.key B.tells (view pass.old) }
+    ensures ready { IsReady words.now.table.shared.key B.tells words.now.table.shared.table_id pass.new }
     ensures told { DirtyTold p f (view pass.old) (view pass.new) }
 {
     let at = translation_place(words, p);
@@ -62,7 +62,7 @@ pub fn set_clean<U: Owner, B: Block>(words: &Words<U, B>, pass: &mut Pass<U>, p:
     requires frame { f < words.now.table.shared.key.frames }
     requires legal { IsWritten (view pass.old) p f }
     ensures pass { IsSamePass pass.old pass.new }
-    ensures table { IsOf words.now.table.shared.key B.tells (view pass.old) }
+    ensures ready { IsReady words.now.table.shared.key B.tells words.now.table.shared.table_id pass.new }
     ensures told { CleanTold p f (view pass.old) (view pass.new) }
 {
     let at = translation_place(words, p);

@@ -2,7 +2,7 @@
 ghost use Rattle.std.specs.Prelude.{[], ◌+◌, ◌<◌, ◌≡◌, None, option_map, true};
 ghost use Rattle.vm_core.specs.Prelude.{MAX_VERSION};
 ghost use Rattle.vm_rule.specs.Prelude.{DowngradeTold, EvictTold, ReleaseTold};
-ghost use Rattle.vm_step.specs.Prelude.{IsKeptNow, IsOf, IsSamePass, MayDowngrade, MayEvict, MayGiveUp, MayStep, view};
+ghost use Rattle.vm_step.specs.Prelude.{IsKeptNow, IsReady, IsSamePass, MayDowngrade, MayEvict, MayGiveUp, MayStep, view};
 ghost use Rattle.vm_step.specs.steps.Release.{DowngradeIsItsEvent, ReleaseEvictedIsItsEvent, ReleaseIsItsEvent};
 
 use crate::layout::state_place;
@@ -28,7 +28,7 @@ pub fn release<U: Owner, B: Block>(
     requires below { version < MAX_VERSION }
     requires legal { MayGiveUp U.may_release p version rest.now (option_map (λ b. b.now) said) (view pass.old) }
     ensures pass { IsSamePass pass.old pass.new }
-    ensures table { IsOf words.now.table.shared.key B.tells (view pass.old) }
+    ensures ready { IsReady words.now.table.shared.key B.tells words.now.table.shared.table_id pass.new }
     ensures told { ReleaseTold p version rest.now (option_map (λ b. b.now) said.entry) (view pass.old) (view pass.new) }
     ensures kept { B.tells ≡ true → IsKeptNow U.keeps p (Unit {0}) (view pass.new) }
 {
@@ -49,7 +49,7 @@ pub fn release_silently<U: Owner, B: Block>(
     requires below { version < MAX_VERSION }
     requires legal { MayGiveUp U.may_release p version [] None (view pass.old) }
     ensures pass { IsSamePass pass.old pass.new }
-    ensures table { IsOf words.now.table.shared.key B.tells (view pass.old) }
+    ensures ready { IsReady words.now.table.shared.key B.tells words.now.table.shared.table_id pass.new }
     ensures told { ReleaseTold p version [] None (view pass.old) (view pass.new) }
     ensures kept { B.tells ≡ true → IsKeptNow U.keeps p (Unit {0}) (view pass.new) }
 {
@@ -69,7 +69,7 @@ pub fn release_evicted<U: Owner, B: Block>(
     requires below { version < MAX_VERSION }
     requires legal { MayEvict (view pass.old) p version }
     ensures pass { IsSamePass pass.old pass.new }
-    ensures table { IsOf words.now.table.shared.key B.tells (view pass.old) }
+    ensures ready { IsReady words.now.table.shared.key B.tells words.now.table.shared.table_id pass.new }
     ensures told { EvictTold p version (view pass.old) (view pass.new) }
     ensures kept { B.tells ≡ true → IsKeptNow U.keeps p (Unit {0}) (view pass.new) }
 {
@@ -85,7 +85,7 @@ pub fn downgrade<U: Owner, B: Block>(words: &Words<U, B>, pass: &mut Pass<U>, p:
     requires below { version < MAX_VERSION }
     requires legal { MayDowngrade U.may_release (view pass.old) p version }
     ensures pass { IsSamePass pass.old pass.new }
-    ensures table { IsOf words.now.table.shared.key B.tells (view pass.old) }
+    ensures ready { IsReady words.now.table.shared.key B.tells words.now.table.shared.table_id pass.new }
     ensures told { DowngradeTold p version (view pass.old) (view pass.new) }
     ensures kept { B.tells ≡ true → IsKeptNow U.keeps p (Unit {0}) (view pass.new) }
 {

@@ -2,7 +2,7 @@
 ghost use Rattle.std.specs.Prelude.{◌<◌, ◌≡◌, ◌≢◌, ℕ};
 ghost use Rattle.vm_core.specs.Prelude.{MayShare};
 ghost use Rattle.vm_rule.specs.Prelude.{ShareTold, UnshareTold};
-ghost use Rattle.vm_step.specs.Prelude.{found_by, IsOf, IsSamePass, MayStep, MayUnshare, view};
+ghost use Rattle.vm_step.specs.Prelude.{found_by, IsReady, IsSamePass, MayStep, MayUnshare, view};
 ghost use Rattle.vm_step.specs.{declared.took.Took.TheVariants.Lost, steps.Share.LockSharedIsItsEvent, steps.Share.UnlockSharedIsItsEvent};
 
 use crate::layout::state_place;
@@ -25,7 +25,7 @@ pub fn lock_shared<U: Owner, B: Block>(
     requires page { p < words.now.table.shared.key.pages }
     requires legal { MayShare expects }
     ensures pass { IsSamePass pass.old pass.new }
-    ensures table { IsOf words.now.table.shared.key B.tells (view pass.old) }
+    ensures ready { IsReady words.now.table.shared.key B.tells words.now.table.shared.table_id pass.new }
     ensures told { ShareTold U.tied p expects (found_by expects result) (view pass.old) (view pass.new) }
     ensures lost { (word : ℕ) → result ≡ Lost word → word ≢ expects }
 {
@@ -43,7 +43,7 @@ pub fn unlock_shared<U: Owner, B: Block>(words: &Words<U, B>, pass: &mut Pass<U>
     requires page { p < words.now.table.shared.key.pages }
     requires legal { MayUnshare (view pass.old) p }
     ensures pass { IsSamePass pass.old pass.new }
-    ensures table { IsOf words.now.table.shared.key B.tells (view pass.old) }
+    ensures ready { IsReady words.now.table.shared.key B.tells words.now.table.shared.table_id pass.new }
     ensures told { UnshareTold p result (view pass.old) (view pass.new) }
 {
     let at = state_place(words, p);

@@ -1,7 +1,7 @@
 // A page's translation word is loaded: an open read of the page gets its frame.
 ghost use Rattle.std.specs.Prelude.{◌<◌};
 ghost use Rattle.vm_rule.specs.Prelude.{TranslationTold};
-ghost use Rattle.vm_step.specs.Prelude.{IsOf, IsSamePass, MayStep, view};
+ghost use Rattle.vm_step.specs.Prelude.{IsReady, IsSamePass, MayStep, view};
 ghost use Rattle.vm_step.specs.steps.Translate.{TloadIsItsEvent};
 
 use crate::layout::translation_place;
@@ -16,7 +16,7 @@ pub fn tload<U: Owner, B: Block>(words: &Words<U, B>, pass: &mut Pass<U>, p: u32
     requires pass { MayStep words.now.table.shared.table_id pass.old }
     requires page { p < words.now.table.shared.key.pages }
     ensures pass { IsSamePass pass.old pass.new }
-    ensures table { IsOf words.now.table.shared.key B.tells (view pass.old) }
+    ensures ready { IsReady words.now.table.shared.key B.tells words.now.table.shared.table_id pass.new }
     ensures told { TranslationTold p result (view pass.old) (view pass.new) }
 {
     let at = translation_place(words, p);

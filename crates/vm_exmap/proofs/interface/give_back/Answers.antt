@@ -1,6 +1,5 @@
 -- The bits of each bundle are those of the frames that are left there.
-use Rattle.vm_exmap.proofs.{FrameMoves.ready-after, interface.give_back.Goals.else-mask-ne0, interface.give_back.Goals.then-mask-ne0}
-use Rattle.vm_exmap.proofs.{Walking.bundle-count}
+use Rattle.vm_exmap.proofs.{interface.give_back.Goals.else-mask-ne0, interface.give_back.Goals.then-mask-ne0, Walking.bundle-count}
 use Rattle.vm_exmap.proofs.Prelude.{arith, IsSamePass, subst, view, ◌<◌, ◌∙◌, ◌≡◌}
 use Rattle.vm_exmap.proofs.Returning.{all-given, given-more, given-none, may-give}
 use Rattle.vm_exmap.proofs.interface.give_back.Goals as goal
@@ -17,7 +16,7 @@ loop-g-preserved g c =
           let given = given-more c.args.frames.now c.loop-g.g c.mask_of-mask.result (view c.args.pass.now) (view c.loop-g.pass) c.loop-g.invariant.given c.mask_of-mask.ensures w.give.result (view w.give.new.pass)
           (subst (λ n. c.loop-g.g < n) (bundle-count c.div_ceil-bundles.result c.args.words.now.frames _ _ c.div_ceil-bundles.ensures c.args.words.now.shape.1 c.requires.ready.table.is_shape.frames) c.loop-g-test.true)
           w.give.ensures.told in
-          rw w.pass-is (record { same = same; ready = ready-after _ _ _ given.done c.args.pass.now w.give.new.pass c.requires.ready same given.moves; given = given })
+          rw w.pass-is (record { same = same; ready = w.give.ensures.ready; given = given })
       | else-mask-ne0 w ↦
           rw w.pass-is
           (record {

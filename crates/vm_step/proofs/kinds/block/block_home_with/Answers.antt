@@ -1,6 +1,6 @@
-use Rattle.vm_step.proofs.Prelude.{ap, length, None, rest, ReturnTold, rules, Sound, subst, sym, true, view, view_of, ◌<◌, ◌∙◌, ◌∷◌, ◌≡◌}
+use Rattle.vm_step.proofs.Prelude.{ap, IsOf, length, None, rest, ReturnTold, rules, Sound, subst, sym, true, view, view_of, ◌<◌, ◌∙◌, ◌∷◌, ◌≡◌}
 use Rattle.vm_step.proofs.kinds.block.block_home_with.Goals as goal
-use Rattle.vm_step.proofs.steps.Block.{back-home, lift-allows, lifted, loaded, one-slot, return-allows}
+use Rattle.vm_step.proofs.steps.Block.{back-home, home-goes, lift-allows, lifted, loaded, one-slot, return-allows}
 
 pub load-requires : goal.load-requires
 load-requires g c =
@@ -49,7 +49,7 @@ invariant_of-pass g c =
     record {
       one = ap length one;
       live = ap (λ l. (view_of l).live) one ∙ steady.live;
-      settled = (ap (λ l. (view_of l).told_releases) one ∙ steady.settled.0, ap (λ l. (view_of l).told) one ∙ steady.settled.1);
+      settled = (ap (λ l. (view_of l).told_releases) one ∙ steady.learned.0, ap (λ l. (view_of l).told) one ∙ steady.learned.1);
       sound = subst Sound (sym (ap view_of one)) steady.sound;
     }
 
@@ -68,3 +68,10 @@ returns-clause-told g c old may =
       back = subst (λ w. ReturnTold c.args.p (g.B.Block.stored c.args.block) c.load-2.result c.load.new.seat.me.0 w) (sym one)
           (subst (λ v. ReturnTold c.args.p (g.B.Block.stored c.args.block) c.load-2.result v c.load-2.new.seat.me.0) (ap (λ m. m.0) c.exchange-empty.ensures.3) back);
     }
+
+pub returns-clause-ready : goal.returns-clause-ready
+returns-clause-ready g c =
+    let table : IsOf c.args.words.now.table.shared.key g.B.Block.tells (view c.args.pass.now) = search rules in
+    let told = returns-clause-told g c c.requires.legal.0 c.requires.legal.1 in
+    let on = home-goes _ _ c.args.p c.requires.legal.0 (g.B.Block.stored c.args.block) (view c.args.pass.now) (view_of c.into_badge.result.views) told c.requires.pass.1 table in
+    record { may = (search rules, on.number); table = on.table }

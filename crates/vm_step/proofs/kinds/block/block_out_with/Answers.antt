@@ -1,7 +1,7 @@
-use Rattle.vm_step.proofs.Prelude.{ap, false, length, may_call, None, rest, rules, seat_of, ShiftTold, SlotTold, Some, some-same, Sound, subst, sym, true, view}
+use Rattle.vm_step.proofs.Prelude.{ap, false, IsOf, length, may_call, None, rest, rules, seat_of, ShiftTold, SlotTold, Some, some-same, Sound, subst, sym, true, view}
 use Rattle.vm_step.proofs.Prelude.{view_of, ◌<◌, ◌∙◌, ◌∷◌, ◌≡◌}
 use Rattle.vm_step.proofs.kinds.block.block_out_with.Goals as goal
-use Rattle.vm_step.proofs.steps.Block.{emptied, empty-allows, empty-home, one-slot, out-allows, taken}
+use Rattle.vm_step.proofs.steps.Block.{emptied, empty-allows, empty-home, one-slot, out-allows, out-goes, taken}
 
 pub load-requires : goal.load-requires
 load-requires g c =
@@ -42,7 +42,7 @@ invariant_of-pass g c =
     record {
       one = ap length one;
       live = ap (λ l. (view_of l).live) one ∙ steady.live;
-      settled = (ap (λ l. (view_of l).told_releases) one ∙ steady.settled.0, ap (λ l. (view_of l).told) one ∙ steady.settled.1);
+      settled = (ap (λ l. (view_of l).told_releases) one ∙ steady.learned.0, ap (λ l. (view_of l).told) one ∙ steady.learned.1);
       sound = subst Sound (sym (ap view_of one)) steady.sound;
     }
 
@@ -62,3 +62,9 @@ returns-clause-told g c =
           (subst (λ w. ShiftTold c.args.p false (g.B.Block.stored t.0) c.load-2.result c.load.new.seat.me.0 w) (sym one)
           (subst (λ v. ShiftTold c.args.p false (g.B.Block.stored t.0) c.load-2.result v c.load-2.new.seat.me.0) (ap (λ m. m.0) c.exchange-block.ensures.3) shift));
     }
+
+pub returns-clause-ready : goal.returns-clause-ready
+returns-clause-ready g c =
+    let table : IsOf c.args.words.now.table.shared.key g.B.Block.tells (view c.args.pass.now) = search rules in
+    let on = out-goes _ _ c.args.p (g.B.Block.stored c.unwrap.result) (view c.args.pass.now) (view_of c.into_badge.result.views) (returns-clause-told g c) c.requires.pass.1 table in
+    record { may = (search rules, on.number); table = on.table }

@@ -1,11 +1,10 @@
-use Rattle.vm_step.proofs.{Filling.fills, Filling.stored-whole, Filling.stores-more, Leaves.ready-after}
+use Rattle.vm_step.proofs.{Filling.fills, Filling.stored-whole, Filling.stores-more}
 use Rattle.vm_step.proofs.Prelude.{[], ap, arith, FillTold, has, inl, length, length-take-le, List, refl, subst, sym, take, take_more, view, ℕ, ◌++◌, ◌+◌}
 use Rattle.vm_step.proofs.Prelude.{◌<◌, ◌∙◌, ◌∷◌, ◌≡◌}
 use Rattle.vm_step.proofs.kinds.content.fill.Goals as goal
 
 pub store-requires-clause-pass : goal.store-requires-clause-pass
-store-requires-clause-pass g c =
-    (ready-after _ _ _ c.args.pass.now c.loop-i.pass 0 _ c.loop-i.invariant.same (fills _ 0 0 _ _ _ c.loop-i.invariant.stores).works.leaves c.requires.ready).may
+store-requires-clause-pass g c = c.loop-i.invariant.ready.may
 
 pub store-requires-clause-legal : goal.store-requires-clause-legal
 store-requires-clause-legal g c =
@@ -23,15 +22,16 @@ loop-i-preserved g c =
     let there : FillTold c.args.frame (0 + length (take i page)) c.get.result (view c.loop-i.pass) (view c.store.new.pass)
     = subst (λ (n : ℕ). FillTold c.args.frame n c.get.result (view c.loop-i.pass) (view c.store.new.pass)) (sym front) (c.store.ensures.told.own holds) in
     record {
+      ready = c.store.ensures.ready;
       same = (c.store.ensures.pass.0 ∙ c.loop-i.invariant.same.0, c.store.ensures.pass.1 ∙ c.loop-i.invariant.same.1);
       stores = rw more (stores-more c.args.frame 0 (take i page) c.get.result _ _ _ c.loop-i.invariant.stores there);
     }
 
 pub returns-clause-ready : goal.returns-clause-ready
-returns-clause-ready g c = ready-after _ _ _ c.args.pass.now c.loop-i.pass 0 _ c.loop-i.invariant.same (fills _ 0 0 _ _ _ c.loop-i.invariant.stores).works.leaves c.requires.ready
+returns-clause-ready g c = c.loop-i.invariant.ready
 
 pub loop-i-init : goal.loop-i-init
-loop-i-init g c = record { same = (refl, refl); stores = refl }
+loop-i-init g c = record { ready = c.requires.ready; same = (refl, refl); stores = refl }
 
 pub get-requires : goal.get-requires
 get-requires g c = c.loop-i-test.true
