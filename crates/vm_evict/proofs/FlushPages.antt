@@ -2,12 +2,12 @@
 use Rattle.vm_rule.specs.declared.view.Place.TheVariants as places
 use Rattle.vm_evict.proofs.{FlushVisits.mapping-shown, FlushVisits.state-shown, Moving.own-else, Tables.else-page}
 use Rattle.vm_evict.proofs.Prelude.{[], ap, append-none, append_assoc, arith, aside-then, aside-within, called-behind, called-front, cases_eq, clean, Did}
-use Rattle.vm_evict.proofs.Prelude.{done_of, Each, each-both, each-map, EVICTED, failed, false, first_noted, first_or, Flushed, FlushVisits, gone, has}
+use Rattle.vm_evict.proofs.Prelude.{done_of, Each, each-both, each-map, failed, first_noted, first_or, Flushed, FlushVisits, gone, has}
 use Rattle.vm_evict.proofs.Prelude.{has-last, has-left, HasNoLock, held, home-else, inl, inr, IsAllowed, IsAlone, IsAsideOf, IsCalledOnce, IsFlushedAlone}
 use Rattle.vm_evict.proofs.Prelude.{IsFlushedTo, IsNoted, IsOwnPlace, IsSaved, IsSettled, IsUnwritten, IsVisit, KeepsPage, KnowsKept, length-append, List}
-use Rattle.vm_evict.proofs.Prelude.{LOCKED, lost, Mapping, mapping_in, mapping_of, MARKED, Note, noted_pages, nothing_flushed, Option, Origin, PageStands}
-use Rattle.vm_evict.proofs.Prelude.{refl, RisesFrom, rules, seat_of, Some, some-is, stands_dirty, state_in, state_of, StaysHome, StaysOn, subst, suc, sym}
-use Rattle.vm_evict.proofs.Prelude.{true, UNLOCKED, View, whole-then, written, ℕ, ⊎_elim, ◌++◌, ◌+◌, ◌<◌, ◌∙◌, ◌∷◌, ◌≡◌, ◌≢◌, ◌≤◌, ◌⊎◌}
+use Rattle.vm_evict.proofs.Prelude.{lost, mapping_in, mapping_of, Note, noted_pages, nothing_flushed, Option, Origin}
+use Rattle.vm_evict.proofs.Prelude.{refl, RisesFrom, rules, stands_dirty, state_in, state_of, StaysHome, StaysOn, subst, suc, sym}
+use Rattle.vm_evict.proofs.Prelude.{true, View, whole-then, written, ℕ, ⊎_elim, ◌++◌, ◌+◌, ◌<◌, ◌∙◌, ◌∷◌, ◌≡◌, ◌≢◌, ◌≤◌, ◌⊎◌}
 
 -- ---- notes by rising page
 
@@ -73,7 +73,7 @@ module _ {X : Type 0} where
   passed-by p v w old new (gone done x l q g s e) = calm p done v w old new old l.keeps l.notes (inl l.unsaved.home) e (omega arith) refl refl
   passed-by p v w old new (clean done x l g s seen shows none q e) = calm p done v w old new old l.keeps l.notes (inl l.unsaved.home) e (omega arith) refl refl
   passed-by p v w old new (held done x l q g s e) = calm p done v w old new (record old { busy = old.busy + 1 }) l.keeps l.notes (inl l.unsaved.home) e (omega arith) refl refl
-  passed-by p v w old new (lost done x l g d e) = calm p done v w old new (record old { busy = old.busy + 1 }) l.keeps l.notes (inl l.unsaved.home) e (omega arith) refl refl
+  passed-by p v w old new (lost done x l g d only e) = calm p done v w old new (record old { busy = old.busy + 1 }) l.keeps l.notes (inl l.unsaved.home) e (omega arith) refl refl
   passed-by p v w old new (written done x word k same s m e) = calm p done v w old new (record old { written = old.written + 1 }) k same (inr m.block) e (omega arith) refl refl
   passed-by p v w old new (failed done word count k u e) = record { done = done; keeps = k; once = inr u.block; ends = inl (word, count, u, e) }
 
@@ -126,16 +126,6 @@ module _ {X : Type 0} where
       ⊎_elim
       (λ out. inl (state ∙ out))
       (λ c. inr (⊎_elim (λ e. inl (state ∙ e)) (λ e. inr (state ∙ e)) c.0, ap stands_dirty mapping ∙ c.1))
-      saved
-
-  -- a page that is saved, as pages stand, is evicted, or in a frame and clean
-  pub saved-stands : (v : View X) (p : ℕ) → PageStands v.start v.releases v.snapshot (seat_of v p) p → IsSaved v p → (state_in v.start v.snapshot p ≡ EVICTED) ⊎ ((m : Mapping) × (mapping_in v.start v.snapshot p ≡ Some m) × (m.dirty ≡ false))
-  saved-stands v p stands saved =
-      ⊎_elim (λ out. inl out)
-      (λ c.
-      let other : (state : ℕ) → state ≢ UNLOCKED → state ≢ MARKED → state_in v.start v.snapshot p ≢ state = λ state a b is. ⊎_elim (λ u. a (sym is ∙ u)) (λ m. b (sym is ∙ m)) c.0 in
-      let there = some-is (mapping_in v.start v.snapshot p) (stands.resident (other LOCKED (omega arith) (omega arith)) (other EVICTED (omega arith) (omega arith))) in
-      inr (there.0, there.1, ap stands_dirty (sym there.1) ∙ c.1))
       saved
 
   pub flushed-more : (n : ℕ) (u v w : View X) (old new : Flushed) → n < u.start.pages → IsFlushedTo n old u v → IsVisit n v w old new → IsFlushedTo (suc n) new u w

@@ -3,10 +3,11 @@
 use Rattle.vm_rule.specs.declared.view.Place.TheVariants as places
 use Rattle.vm_evict.proofs.{Locking.lock-now, Locking.unlocked-seat, Writing.no-state-written, Writing.stays-on}
 use Rattle.vm_evict.proofs.Evidenced.{dirty-front, has-lost, no-mapping, none-kept, none-silent, saved-under, unlocked, unsaved-both, unsaved-load}
-use Rattle.vm_evict.proofs.Evidenced.{unsaved-one, wrote-taken}
+use Rattle.vm_evict.proofs.Evidenced.{none-stored, unsaved-one, wrote-taken}
+use Rattle.vm_evict.proofs.Prelude.{cond-false, cond-true, eq-eqb, eqb, leaves-both, leaves-front, LeavesOnly, mark_steps, ne_eqb, none-some, share_steps, Unstored}
 use Rattle.vm_evict.proofs.Prelude.{[], ap, arith, aside-of, aside-self, aside-then, Bool, clean, Did, did_exchange, did_load, dirty_in, Each, each-both}
 use Rattle.vm_evict.proofs.Prelude.{EndsWrite, Err, EVICTED, failed, false, false≢true, Flushed, given-behind, given-front, GoesOnce, gone, HasGiven}
-use Rattle.vm_evict.proofs.Prelude.{HasNotSaved, HasTaken, HasWritten, held, home-both, inl, inr, is_some, IsAllowed, IsAlone, IsCounted, IsDirtyFrame}
+use Rattle.vm_evict.proofs.Prelude.{HasLost, HasNotSaved, HasTaken, HasWritten, held, home-both, inl, inr, is_some, IsAllowed, IsAlone, IsCounted, IsDirtyFrame}
 use Rattle.vm_evict.proofs.Prelude.{IsFoundDirty, IsHeld, IsLeft, IsOfPage, IsOwnPlace, IsSaved, IsStillLocked, IsUnheld, IsVisit, KeepsPage, known_word_at}
 use Rattle.vm_evict.proofs.Prelude.{KnowsClean, leaves-then, LeavesLast, LeavesRest, List, look-only, LookTold, Lost, lost, lost-only, mapping_in, mapping_of}
 use Rattle.vm_evict.proofs.Prelude.{MARKED, Marks, no_seat, None, Ok, once-behind, once-front, OnlyReads, Option, Origin, part-found, refl, Result, rules}
@@ -30,24 +31,33 @@ dirty-there word (Some f) d some = (f, d)
 abbrev pub mark-did : ℕ → ℕ → ℕ → Did
 mark-did p word found = did_exchange (places.State p) word found (word_of MARKED (version_of word))
 
+-- a page that was marked already is not marked, and one that was not is
+marks-none : (p word : ℕ) → state_of word ≡ MARKED → mark_steps p word ≡ []
+marks-none p word e = cond-true (eqb (state_of word) MARKED) [] (mark-did p word word ∷ []) (eq-eqb (state_of word) MARKED e)
+
+marks-one : (p word : ℕ) → state_of word ≡ UNLOCKED → mark_steps p word ≡ mark-did p word word ∷ []
+marks-one p word e = cond-false (eqb (state_of word) MARKED) [] (mark-did p word word ∷ []) (ne_eqb (state_of word) MARKED (λ is. omega (arith, e, is)))
+
 module _ {X : Type 0} (p : ℕ) where
   -- ---- steps that leave the page
 
   pub page-then : (a b : List Did) (u v w : View X) → KeepsPage p a u v → KeepsPage p b v w → KeepsPage p (a ++ b) u w
-  page-then a b u v w f g = search (rules, each-both (λ (d : Did). IsOwnPlace p d.at) a b f.own g.own, aside-then (λ q. q ≡ p) a b u v w f.aside g.aside, runs-then a b [] [] u v w f.aside.start f.aside.parts f.alone g.alone)
+  page-then a b u v w f g = search (rules, each-both (λ (d : Did). IsOwnPlace p d.at) a b f.own g.own, each-both (λ (d : Did). d.at ≡ places.State p → d.found ≡ None → d.wrote ≡ None) a b f.unreleased g.unreleased, aside-then (λ q. q ≡ p) a b u v w f.aside g.aside, runs-then a b [] [] u v w f.aside.start f.aside.parts f.alone g.alone)
 
   pub left-then : (a b : List Did) (u v w : View X) → IsLeft p a u v → IsLeft p b v w → IsLeft p (a ++ b) u w
   left-then a b u v w f g = record { keeps = page-then a b u v w f.keeps g.keeps; notes = g.notes ∙ f.notes; unsaved = unsaved-both p a b f.unsaved g.unsaved }
 
-  -- one step on a word of the page
-  pub left-one : (d : Did) (v w : View X) → OnlyReads (λ q. q ≡ p) (d ∷ []) v w → RunsAlone (d ∷ []) [] v w → IsOfPage p d.at → HasNotSaved p (d ∷ []) → IsLeft p (d ∷ []) v w
-  left-one d v w r runs own unsaved = search rules
+  -- one step on a word of the page, which found a word
+  pub left-one : (d : Did) (found : ℕ) (v w : View X) → d.found ≡ Some found → OnlyReads (λ q. q ≡ p) (d ∷ []) v w → RunsAlone (d ∷ []) [] v w → IsOfPage p d.at → HasNotSaved p (d ∷ []) → IsLeft p (d ∷ []) v w
+  left-one d found v w finds r runs own unsaved =
+      let stored : Unstored p (d ∷ []) = ((λ here none. absurd (none-some found (sym none ∙ finds))), tt) in
+      search (rules, stored)
 
   -- ---- the mark
 
   pub marked-before : (word : ℕ) (v : View X) → state_of word ≡ MARKED → Marks p word v v Taken
   marked-before word v e =
-      let none : IsLeft p [] v v = record { keeps = record { own = tt; aside = aside-self (λ q. q ≡ p) v; frames = (refl, refl); alone = runs-self v }; notes = refl; unsaved = record { kept = tt; home = tt } } in
+      let none : IsLeft p [] v v = record { keeps = record { own = tt; unreleased = tt; aside = aside-self (λ q. q ≡ p) v; frames = (refl, refl); alone = runs-self v }; notes = refl; unsaved = record { kept = tt; home = tt } } in
       ([], none, inl (refl, e))
 
   module _ (word : ℕ) (v w : View X) (m : Marks p word v w Taken) where
@@ -56,15 +66,23 @@ module _ {X : Type 0} (p : ℕ) where
     marked-only found ne =
         ⊎_elim
         (λ none. rw none.0 tt)
-        (λ one. rw one ((λ here is. ne (sym (same_Some (word_of MARKED (version_of word)) found (sym (wrote-taken word (word_of MARKED (version_of word))) ∙ is)))), tt))
+        (λ one. rw one.0 ((λ here is. ne (sym (same_Some (word_of MARKED (version_of word)) found (sym (wrote-taken word (word_of MARKED (version_of word))) ∙ is)))), tt))
         m.2
 
-    -- a page that was locked by nobody was marked already, or is marked now, behind these steps
-    pub marked-from : (a : List Did) → (state_of word ≡ UNLOCKED) ⊎ (state_of word ≡ MARKED) → (state_of word ≡ MARKED) ⊎ ((state_of word ≡ UNLOCKED) × HasTaken (a ++ m.0) (places.State p) word (word_of MARKED (version_of word)))
-    marked-from a unheld =
+    -- and no other step left a word there
+    pub mark-leaves : LeavesOnly (places.State p) (mark_steps p word) m.0
+    mark-leaves =
+        ⊎_elim
+        (λ none. subst (λ (ds : List Did). LeavesOnly (places.State p) ds m.0) (sym (marks-none p word none.1)) (rw none.0 tt))
+        (λ one. subst (λ (ds : List Did). LeavesOnly (places.State p) ds m.0) (sym (marks-one p word one.1)) ([], [], one.0, tt, tt))
+        m.2
+
+    -- the page was marked already, or is marked now, behind these steps
+    pub marked-from : (a : List Did) → (state_of word ≡ MARKED) ⊎ ((state_of word ≡ UNLOCKED) × HasTaken (a ++ m.0) (places.State p) word (word_of MARKED (version_of word)))
+    marked-from a =
         let taken : m.0 ≡ mark-did p word word ∷ [] → HasTaken (a ++ m.0) (places.State p) word (word_of MARKED (version_of word))
         = λ one. record { earlier = a; step = mark-did p word word; later = []; cut = ap (λ (t : List Did). a ++ t) one; is = (refl, refl, refl, wrote-taken word (word_of MARKED (version_of word))) } in
-        ⊎_elim (λ none. inl none.1) (λ one. ⊎_elim (λ unlocked. inr (unlocked, taken one)) (λ marked. inl marked) unheld) m.2
+        ⊎_elim (λ none. inl none.1) (λ one. inr (one.1, taken one.0)) m.2
 
   -- ---- a pass that is alone
 
@@ -108,7 +126,7 @@ module _ {X : Type 0} (p : ℕ) (tied : Start → ℕ → List ℕ → ℕ → L
   look-is = did_load (places.State p) word
 
   looked : IsLeft p (look-is ∷ []) v v1
-  looked = left-one p look-is v v1 (look-only (λ q. q ≡ p) tied p word v v1 refl look) (runs-one look-is _ [] _ v _ v1 look.brings) refl (unsaved-one p look-is refl refl)
+  looked = left-one p look-is word v v1 refl (look-only (λ q. q ≡ p) tied p word v v1 refl look) (runs-one look-is _ [] _ v _ v1 look.brings) refl (unsaved-one p look-is refl refl)
 
   abbrev seen : (later : List Did) → HasGiven (look-is ∷ later) (places.State p) word
   seen later = record { earlier = []; step = look-is; later = later; cut = refl; gives = (refl, refl) }
@@ -145,7 +163,7 @@ module _ {X : Type 0} (p : ℕ) (tied : Start → ℕ → List ℕ → ℕ → L
       reads-did = look-is ∷ load-is ∷ []
 
       loaded : IsLeft p (load-is ∷ []) v1 v2
-      loaded = left-one p load-is v1 v2 (translation-only (λ q. q ≡ p) p tr v1 v2 refl load) (runs-one load-is _ [] [] v1 _ v2 load.brings) refl (unsaved-load p tr)
+      loaded = left-one p load-is tr v1 v2 refl (translation-only (λ q. q ≡ p) p tr v1 v2 refl load) (runs-one load-is _ [] [] v1 _ v2 load.brings) refl (unsaved-load p tr)
 
       reads : IsLeft p reads-did v v2
       reads = left-then p (look-is ∷ []) (load-is ∷ []) v v1 v2 looked loaded
@@ -175,11 +193,12 @@ module _ {X : Type 0} (p : ℕ) (tied : Start → ℕ → List ℕ → ℕ → L
         pub by-mark-lost : (found : ℕ) (v3 : View X) → Marks p word v2 v3 (Lost found) → IsVisit p v v3 old busy
         by-mark-lost found v3 m =
             let did : Did = mark-did p word found in
+            let loses : HasLost (reads-did ++ did ∷ []) (places.State p) word = has-lost reads-did [] (places.State p) word found (word_of MARKED (version_of word)) m.0 (none-written found) in
             record {
               ends =
                   lost (reads-did ++ did ∷ []) word (left-then p reads-did (did ∷ []) v v2 v3 reads m.1)
-                  (record { lost = has-lost reads-did [] (places.State p) word found (word_of MARKED (version_of word)) m.0 (none-written found); seen = word; given = seen (load-is ∷ []); expected = inl refl })
-                  (dirty-before []) refl;
+                  (record { lost = loses; seen = word; given = seen (load-is ∷ []); expected = inl refl })
+                  (dirty-before []) (inl ((λ _. refl), ((λ _. refl), ((λ _. loses.is.1.left), tt)))) refl;
               settles = λ a h. absurd (m.0 (found-first did [] [] v2 v3 m.1.keeps.alone (stands2 a).alone found refl ∙ (stands2 a).state));
             }
 
@@ -195,6 +214,9 @@ module _ {X : Type 0} (p : ℕ) (tied : Start → ℕ → List ℕ → ℕ → L
           front : IsLeft p front-did v v3
           front = left-then p reads-did m.0 v v2 v3 reads m.1
 
+          front-leaves : LeavesOnly (places.State p) (mark_steps p word) front-did
+          front-leaves = leaves-both (places.State p) [] (mark_steps p word) reads-did m.0 ((λ _. refl), ((λ _. refl), tt)) (mark-leaves p word v2 v3 m)
+
           pub home-front : v1.out ≡ None → v3.out ≡ None
           home-front home = m.1.keeps.aside.out ∙ loaded.keeps.aside.out ∙ home
 
@@ -206,7 +228,7 @@ module _ {X : Type 0} (p : ℕ) (tied : Start → ℕ → List ℕ → ℕ → L
               (stands-on p word m.0 v2 v3 (stands2 a) m.1.keeps.aside.start m.1.keeps.aside.parts m.1.keeps.alone (subst (λ (ds : List Did). WritesNone (places.State p) ds) (sym unmarked.0) tt)))
               (λ one.
               stands-left p word m.0 v2 v3 (stands2 a) m.1.keeps.aside.start m.1.keeps.aside.parts m.1.keeps.alone marked
-              (subst (λ (ds : List Did). LeavesLast ds (places.State p) marked) (sym one) (left-last [] (mark-did p word word) marked (wrote-taken word marked))))
+              (subst (λ (ds : List Did). LeavesLast ds (places.State p) marked) (sym one.0) (left-last [] (mark-did p word word) marked (wrote-taken word marked))))
               m.2
 
           module _ (expects : ℕ) (is : expects ≡ marked) where
@@ -217,7 +239,7 @@ module _ {X : Type 0} (p : ℕ) (tied : Start → ℕ → List ℕ → ℕ → L
                 (λ unmarked. inl (is ∙ ap (λ (s : ℕ). word_of s (version_of word)) (sym unmarked.1) ∙ word-made word))
                 (λ one. inr (
                   is,
-                  record { earlier = reads-did; step = mark-did p word word; later = []; cut = ap (λ (t : List Did). reads-did ++ t) one; place = refl; wrote = wrote-taken word marked ∙ ap (λ (n : ℕ). Some n) (sym is) },
+                  record { earlier = reads-did; step = mark-did p word word; later = []; cut = ap (λ (t : List Did). reads-did ++ t) one.0; place = refl; wrote = wrote-taken word marked ∙ ap (λ (n : ℕ). Some n) (sym is) },
                 ))
                 m.2
 
@@ -225,14 +247,16 @@ module _ {X : Type 0} (p : ℕ) (tied : Start → ℕ → List ℕ → ℕ → L
             by-lock-lost found v4 ne l =
                 let did : Did = did_exchange (places.State p) expects found (word_of 1 (version_of expects)) in
                 let runs : RunsAlone (did ∷ []) [] v3 v4 = runs-one did _ [] [] v3 _ v4 l.brings in
-                let here : IsLeft p (did ∷ []) v3 v4 = left-one p did v3 v4 (lost-only (λ q. q ≡ p) did expects found v3 _ v4 ne l.brings) runs refl (unsaved-one p did refl refl) in
+                let here : IsLeft p (did ∷ []) v3 v4 = left-one p did found v3 v4 refl (lost-only (λ q. q ≡ p) did expects found v3 _ v4 ne l.brings) runs refl (unsaved-one p did refl refl) in
                 let foreign : Each (λ d. d.at ≡ places.State p → d.wrote ≢ Some found) front-did
                 = each-both (λ (d : Did). d.at ≡ places.State p → d.wrote ≢ Some found) reads-did m.0 (none-written found) (marked-only p word v2 v3 m found (λ e. ne (e ∙ sym is))) in
+                let loses : HasLost (front-did ++ did ∷ []) (places.State p) expects = has-lost front-did [] (places.State p) expects found (word_of 1 (version_of expects)) ne foreign in
                 record {
                   ends =
                       lost (front-did ++ did ∷ []) expects (left-then p front-did (did ∷ []) v v3 v4 front here)
-                      (record { lost = has-lost front-did [] (places.State p) expects found (word_of 1 (version_of expects)) ne foreign; seen = word; given = seen (load-is ∷ m.0); expected = own-mark })
-                      (dirty-before m.0) refl;
+                      (record { lost = loses; seen = word; given = seen (load-is ∷ m.0); expected = own-mark })
+                      (dirty-before m.0)
+                      (inr (leaves-front (places.State p) (mark_steps p word) front-did (did ∷ []) front-leaves ((λ _. loses.is.1.left), tt))) refl;
                   settles = λ a h. absurd (ne (found-first did [] [] v3 v4 runs (stands3 a).alone found refl ∙ (stands3 a).state ∙ sym is));
                 }
 
@@ -267,8 +291,10 @@ module _ {X : Type 0} (p : ℕ) (tied : Start → ℕ → List ℕ → ℕ → L
                     let seat : seat_of v6 p ≡ no_seat = unlocked-seat u (k.works.seat ∙ lock-now l) in
                     let un : IsUnheld v3 p = l.unheld refl in
                     let own : StaysOn p back-did = (inl refl, each-both (λ (d : Did). IsOwnPlace p d.at) done end (stays-on p done k.does) (inl refl, tt)) in
+                    let unreleased : Unstored p back-did
+                    = ((λ here none. absurd (none-some expects (sym none))), each-both (λ (d : Did). d.at ≡ places.State p → d.found ≡ None → d.wrote ≡ None) done end (none-stored (places.State p) done (no-state-written p done k.does)) ((λ here none. absurd (none-some found (sym none))), tt)) in
                     let aside = aside-of p back-did v3 v6 leaves (after.out ∙ k.home ∙ sym home) (grind arith) (λ locking. absurd (unlocked (seat_of v3 p) un.shares un.exclusive locking)) (stays-alone back-did v3 v6 leaves.start runs) in
-                    search (rules, own, aside, runs, after.keeps.frames ∙ k.frames.0 ∙ before.keeps.frames, after.keeps.contents ∙ k.frames.1 ∙ before.keeps.contents)
+                    search (rules, own, unreleased, aside, runs, after.keeps.frames ∙ k.frames.0 ∙ before.keeps.frames, after.keeps.contents ∙ k.frames.1 ∙ before.keeps.contents)
 
                 all : KeepsPage p all-did v v6
                 all = page-then p front-did back-did v v3 v6 front.keeps back
@@ -293,6 +319,15 @@ module _ {X : Type 0} (p : ℕ) (tied : Start → ℕ → List ℕ → ℕ → L
                 all-kept kept =
                     each-both _ front-did back-did front.unsaved.kept (each-both _ lock (done ++ end) lock-kept.kept (each-both _ done end kept end-kept.kept))
 
+                -- the share is taken from the mark, and given up
+                lock-is : write_lock-did refl l ≡ did_exchange (places.State p) marked marked (word_of 1 (version_of word))
+                lock-is =
+                    ap (λ (n : ℕ). did_exchange (places.State p) n n (word_of 1 (version_of n))) is
+                    ∙ ap (λ (n : ℕ). did_exchange (places.State p) marked marked (word_of 1 n)) (word-version MARKED (version_of word) (version-within word))
+
+                back-leaves : LeavesOnly (places.State p) (share_steps p word found) back-did
+                back-leaves = ([], done ++ end, ap (λ (d : Did). d ∷ (done ++ end)) lock-is, tt, (done, [], refl, no-state-written p done k.does, tt))
+
                 abbrev share : SharesSeen p word all-did
                 share = record {
                   taken = record {
@@ -304,7 +339,8 @@ module _ {X : Type 0} (p : ℕ) (tied : Start → ℕ → List ℕ → ℕ → L
                   };
                   looked = record { given = seen (load-is ∷ m.0); foreign = tt };
                   why = dirty-before m.0;
-                  from = marked-from p word v2 v3 m reads-did none;
+                  from = marked-from p word v2 v3 m reads-did;
+                  only = (found, leaves-both (places.State p) (mark_steps p word) (share_steps p word found) front-did back-did front-leaves back-leaves);
                 }
 
                 -- the pass that is alone finds its share, and the page unlocked afterwards

@@ -14,7 +14,7 @@ use Rattle.vm_evict.proofs.Prelude.{LeavesRest, length, List, lock-brings, lock-
 use Rattle.vm_evict.proofs.Prelude.{LocksFrom, LockTold, lost-view, Mapping, mapping_at, mapping_of, MARKED, MAX_VERSION, MayEnd, MayRaiseLock, MayUnshare}
 use Rattle.vm_evict.proofs.Prelude.{no-fault, no_seat, None, none-some, once, Option, others-still, owning_seat, Phase, Raises, refl, rest-of, Rests, rules}
 use Rattle.vm_evict.proofs.Prelude.{RunsAlone, same_Some, Seat, seat_of, shares, Some, Stage, stands_dirty, Start, starts-then, state_of, still-own}
-use Rattle.vm_evict.proofs.Prelude.{still-works, subst, sym, Translation, true, Unreleased, unshare-did, unshare-others, unshare-own, unshare-seat, unshared}
+use Rattle.vm_evict.proofs.Prelude.{still-works, subst, sym, Translation, true, Unstored, unshare-did, unshare-others, unshare-own, unshare-seat, unshared}
 use Rattle.vm_evict.proofs.Prelude.{UnshareTold, upgrade-brings, upgrade-did, upgrade-draft, upgrade-held, upgrade-last, upgrade-others, upgrade-own}
 use Rattle.vm_evict.proofs.Prelude.{upgrade-seat, upgraded_view, UpgradeTold, version-within, version_of, View, word-state, word-version, word_of, WORDS}
 use Rattle.vm_evict.proofs.Prelude.{Works, write_lock-brings, write_lock-did, write_lock-held, write_lock-others, write_lock-own, write_lock-seat}
@@ -103,7 +103,7 @@ module _ {X : Type 0} (phase : Phase) (old : Stage) (p word found new : ℕ) (do
 
   missed : IsMissed p word false (done ++ tried ∷ [])
   missed =
-      let unreleased : Unreleased p (done ++ tried ∷ []) = each-both (λ (d : Did). d.at ≡ places.State p → d.found ≡ None → d.wrote ≡ None) done (tried ∷ []) (none-stored (places.State p) done h.quiet) ((λ here none. absurd (none-some found (sym none))), tt) in
+      let unreleased : Unstored p (done ++ tried ∷ []) = each-both (λ (d : Did). d.at ≡ places.State p → d.found ≡ None → d.wrote ≡ None) done (tried ∷ []) (none-stored (places.State p) done h.quiet) ((λ here none. absurd (none-some found (sym none))), tt) in
       search (rules, has-lost done [] (places.State p) word found new ne (none-kept done (places.State p) found h.quiet), unsaved-both p done (tried ∷ []) h.kept (unsaved-one p tried refl refl), unreleased)
 
   -- a pass that is alone lost it only where it knew another word

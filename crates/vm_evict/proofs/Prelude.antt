@@ -25,9 +25,9 @@ pub use Rattle.vm_step.specs.{declared.choice.Looks.Looks, declared.took.Took.Th
 pub use Rattle.vm_step.specs.Prelude.{candidate_pages, Did, first_or, GoesOnce, HasGiven, HasWritten, HoldsPage, IsAlone, IsAsideOf, IsCalledOnce, IsCandidate}
 pub use Rattle.vm_step.specs.Prelude.{IsHeld, IsLost, IsOfPage, IsReady, IsSamePass, IsToldOf, KeepsFrames, known_word_at, KnowsAsBefore, LeavesLast}
 pub use Rattle.vm_step.specs.Prelude.{LeavesRest, MayRaise, MayTakeOut, MayUnshare, Note, Origin, ReadsAsBefore, Release, RunsAlone, StaysHome, Tie}
-pub use Rattle.vm_step.specs.Prelude.{Translation, View, view, Works, WritesNone}
+pub use Rattle.vm_step.specs.Prelude.{LeavesOnly, Translation, Unstored, View, view, Works, WritesNone}
 pub use Rattle.vm_step.proofs.{After.knows-after, Alone.runs-one, Alone.runs-self, Alone.runs-then, Alone.stays-alone, Alone.still-alone, Asides.reads-then}
-pub use Rattle.vm_step.proofs.{Asides.starts-then, Asides.still-locking, Asides.whole-then, Leaves.aside-of, Leaves.leaves-then, Leaves.ready-after, Leaves.ready-on}
+pub use Rattle.vm_step.proofs.{Asides.starts-then, Asides.still-locking, Asides.whole-then, Leaves.aside-of, Leaves.leaves-then, Leaves.ready-after}
 pub use Rattle.vm_step.proofs.{Leaves.works-none, Leaves.works-then, Releasing.each-has, steps.Content.load-works, steps.Look.look-only, steps.Look.look-others}
 pub use Rattle.vm_step.proofs.{steps.Look.look-own, steps.Mapping.clean-held, steps.Mapping.clean-works, steps.Mapping.clear-held, steps.Mapping.clear-works}
 pub use Rattle.vm_step.proofs.{steps.Owner.owner-held, steps.Owner.owner-works, steps.Raise.raise-held, steps.Raise.raise-works, steps.Release.evict-alone}
@@ -38,7 +38,7 @@ pub use Rattle.vm_step.proofs.steps.WriteBack.{upgrade-brings, upgrade-did, upgr
 pub use Rattle.vm_step.proofs.steps.WriteBack.{upgrade-seat, write_lock-brings, write_lock-did, write_lock-held, write_lock-leaves, write_lock-others}
 pub use Rattle.vm_step.proofs.Device.{comes-home, counts-one, goes-out, may-bring-written, noted-more, two-loads}
 pub use Rattle.vm_step.proofs.DeviceCalls.{called-behind, called-front, goes-once, home-both, home-else, is-fault, no-fault, once-behind, once-front}
-pub use Rattle.vm_step.proofs.Evidenced.{given-behind, given-front, held-state, lost-view, written-behind, written-front}
+pub use Rattle.vm_step.proofs.Evidenced.{given-behind, given-front, held-state, leaves-both, leaves-front, lost-view, written-behind, written-front}
 pub use Rattle.vm_step.proofs.steps.Leaving.{aside-self, LeavesOthers, LeavesOwn, others-still, rest-of}
 pub use Rattle.vm_step.proofs.steps.Lock.{lock-brings, lock-did, lock-draft, lock-held, lock-others, lock-own, lock-seat}
 pub use Rattle.vm_step.proofs.steps.Share.{unshare-did, unshare-leaves, unshare-others, unshare-own, unshare-seat}
@@ -46,13 +46,13 @@ pub use Rattle.vm_step.proofs.steps.Translate.{tload-others, tload-own, tload-wo
 pub use Rattle.vm_evict.specs.{declared.candidate.Phase.Phase, declared.candidate.Stage.Stage, declared.flushing.Flushed.Flushed}
 pub use Rattle.vm_evict.specs.{declared.report.Evicted.Evicted, Flushes.SharesSeen, Flushes.written, Tables.IsOfAny, Tables.KnowsKept, Tables.KnowsLocked}
 pub use Rattle.vm_evict.specs.{Tables.KnowsOn, Tables.KnowsStage, Writes.reads, Writes.StaysOn, Writes.WritesPage, Writes.writing_seat}
-pub use Rattle.vm_evict.specs.Flushes.{clean, done_of, failed, first_noted, FlushVisits, gone, HasNoLock, held, IsCounted, IsFlushedAlone, IsFlushedTo, IsLeft}
+pub use Rattle.vm_evict.specs.Flushes.{clean, done_of, failed, first_noted, FlushVisits, gone, HasNoLock, held, IsCounted, IsFlushedAlone, IsFlushedTo, IsLeft, mark_steps, share_steps}
 pub use Rattle.vm_evict.specs.Flushes.{IsNoted, IsSaved, IsSettled, IsUnwritten, IsVisit, KeepsPage, lost, Marks, noted_pages, nothing_flushed, RisesFrom}
 pub use Rattle.vm_evict.specs.Writes.{cleans, CopiesWords, EndsWrite, HasNotSaved, HasSaved, IsAllowed, IsCopied, IsDirtyFrame, IsFoundClean, IsFoundDirty}
 pub use Rattle.vm_evict.specs.Writes.{IsFoundToWrite, IsFrameLoad, IsLeftDirty, IsOwnPlace, IsSavedNow, IsStillLocked, IsUnderWriteBack, KnowsClean, raises}
 pub use Rattle.vm_evict.specs.Evictions.{by_share, candidate_at, Counts, first_of, first_pair, frame_at, FramesCome, gathered, HasLost, HasReleased, HasStep}
 pub use Rattle.vm_evict.specs.Evictions.{HasTaken, IsBatch, IsEnd, IsMissed, IsPageFreed, IsSavedFrom, IsSharedToSave, IsTakenOut, IsToShare, IsWriteFailed}
-pub use Rattle.vm_evict.specs.Evictions.{KnowsEvicted, LocksFrom, lost_at, note_at, once, one_if, release_at, stage_at, Tallies, Unreleased, written_at}
+pub use Rattle.vm_evict.specs.Evictions.{KnowsEvicted, LocksFrom, lost_at, note_at, once, one_if, release_at, stage_at, Tallies, written_at}
 pub use Rattle.vm_evict.specs.Phases.{clears, disowns, Does, DoesOne, Empties, gives_up, InPhases, loads, Raises, Saves, shares, writes}
 pub use Rattle.vm_evict.specs.Stages.{Adds, Advances, HasLockTaken, HasNoLockOf, IsAdded, IsAt, IsCleanAt, IsEmptied, IsOver, IsOwning, IsPhaseMade}
 pub use Rattle.vm_evict.specs.Stages.{IsSeenClean, IsUnderWay, IsWaiting, IsWriting, LeavesAll, MayBeginPhase, MayEnd, Moves, none_of, owning_seat, Rests}

@@ -9,7 +9,7 @@ use Rattle.vm_rule.specs.declared.view.Place.{Place}
 use Rattle.vm_rule.specs.declared.view.Place.TheVariants as places
 use Rattle.vm_step.specs.{declared.choice.Looks.Looks, Evidence.IsLoad}
 use Rattle.vm_step.specs.Prelude.{candidate_pages, Did, GoesOnce, HasGiven, HasWritten, IsAlone, IsAsideOf, IsLost, KnowsElse, Note, Release}
-use Rattle.vm_step.specs.Prelude.{RunsAlone, StaysHome, View, WritesNone}
+use Rattle.vm_step.specs.Prelude.{RunsAlone, StaysHome, Unstored, View, WritesNone}
 use Rattle.vm_evict.specs.{declared.candidate.Stage.Stage, declared.report.Report.Report, Phases.InPhases, Tables.IsOfAny, Tables.KnowsStage}
 use Rattle.vm_evict.specs.Writes.{HasNotSaved, HasSaved, IsAllowed, IsFoundDirty}
 use Rattle.vm_evict.specs.declared.candidate.Stage.TheVariants as stages
@@ -51,10 +51,6 @@ pub data LocksFrom (p word : ℕ) (done : List Did) : Type 0 where
 -- page p was shared from this word, and written under the share
 abbrev pub IsSavedFrom : ℕ → ℕ → ℕ → List Did → Type 0
 IsSavedFrom p word frame done = (s : IsSharedToSave p word done) × HasSaved p frame s.taken.later done
-
--- no step stored the state word of page p: none released it, so its version stands
-abbrev pub Unreleased : ℕ → List Did → Type 0
-Unreleased p done = Each (λ d. d.at ≡ places.State p → d.found ≡ None → d.wrote ≡ None) done
 
 abbrev pub one_if : Bool → ℕ
 one_if b = if b then 1 else 0
@@ -124,7 +120,7 @@ pub record IsMissed (p word : ℕ) (written : Bool) (done : List Did) : Type 0 w
   pub why : HasLost done (places.State p) word ⊎ ((l : HasLost done (places.State p) (word_of 1 (version_of word))) × IsSharedToSave p word l.earlier)
   pub cleaned : written ≡ true → (frame : ℕ) × IsSavedFrom p word frame done
   pub unwritten : written ≡ false → HasNotSaved p done
-  pub unreleased : Unreleased p done
+  pub unreleased : Unstored p done
 
 -- page p was locked from this word, which no step put there, stood clean in this frame, and was taken out of it; where it was written it had been
 -- dirty under the pass's share, and where it was not, its device was not called
@@ -178,7 +174,7 @@ module _ {X : Type 0} where
     pub kept : WritesNone (places.Translation p) done
     pub raised : HasWritten done (places.Fault p) count
     pub allowed : IsAllowed v.start p count
-    pub unreleased : Unreleased p done
+    pub unreleased : Unstored p done
 
   -- what became of a candidate
   abbrev pub IsEnd : ℕ × ℕ → Stage → List Did → View X → View X → Type 0

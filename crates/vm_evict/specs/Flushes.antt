@@ -1,15 +1,15 @@
 -- What a flush does with each page, by rising number. A page that is evicted or clean it leaves; one that somebody has locked, or that changed
 -- before it could be locked, is busy; any other is written under a share, and is clean then, or its write failed and it stays dirty.
-use Rattle.std.specs.Prelude.{[], Bool, Err, false, length, List, None, Ok, Option, Result, Some, suc, true, zero, ℕ, ◌++◌, ◌+◌, ◌<◌, ◌∷◌, ◌≡◌, ◌≢◌}
-use Rattle.std.specs.Prelude.{◌≤◌, ◌⊎◌}
+use Rattle.std.specs.Prelude.{[], Bool, Err, false, if◌then◌else◌, length, List, None, Ok, Option, Result, Some, suc, true, zero, ℕ, ◌++◌, ◌+◌, ◌-◌, ◌<◌}
+use Rattle.std.specs.Prelude.{◌==◌, ◌^◌, ◌∷◌, ◌≡◌, ◌≢◌, ◌≤◌, ◌⊎◌}
 use Rattle.vm_core.specs.Prelude.{EVICTED, mapping_of, MARKED, state_of, UNLOCKED, version_of, word_of}
-use Rattle.vm_rule.specs.Prelude.{did_exchange, Each, has, seat_of, stands_dirty}
+use Rattle.vm_rule.specs.Prelude.{did_change, did_exchange, Each, has, seat_of, stands_dirty}
 use Rattle.vm_rule.specs.declared.view.Place.{Place}
 use Rattle.vm_rule.specs.declared.view.Place.TheVariants as places
 use Rattle.vm_rule_laws.specs.Standing.{mapping_in, state_in}
 use Rattle.vm_step.specs.{declared.took.Took.TheVariants.Lost, declared.took.Took.TheVariants.Taken, declared.took.Took.Took}
-use Rattle.vm_step.specs.Prelude.{Did, first_or, GoesOnce, HasGiven, HasWritten, IsAlone, IsAside, IsAsideOf, IsCalledOnce, IsHeld, Note, RunsAlone}
-use Rattle.vm_step.specs.Prelude.{View, WritesNone}
+use Rattle.vm_step.specs.Prelude.{Did, first_or, GoesOnce, HasGiven, HasWritten, IsAlone, IsAside, IsAsideOf, IsCalledOnce, IsHeld, LeavesOnly, Note, RunsAlone}
+use Rattle.vm_step.specs.Prelude.{Unstored, View, WritesNone}
 use Rattle.vm_evict.specs.{declared.flushing.Flushed.Flushed, Evictions.HasLost, Evictions.HasTaken}
 use Rattle.vm_evict.specs.Writes.{HasNotSaved, HasSaved, IsAllowed, IsFoundDirty, IsOwnPlace, StaysOn}
 
@@ -32,13 +32,24 @@ pub record LosesSeen (done : List Did) (at : Place) (expects : ℕ) : Type 0 whe
   pub given : HasGiven lost.earlier at seen
   pub expected : (expects ≡ seen) ⊎ ((expects ≡ word_of MARKED (version_of seen)) × HasWritten lost.earlier at expects)
 
+-- the step that marks page p, which a look found with this word, locked by nobody; none where it was marked already
+abbrev pub mark_steps : ℕ → ℕ → List Did
+mark_steps p word = if state_of word == MARKED then [] else did_exchange (places.State p) word word (word_of MARKED (version_of word)) ∷ []
+
+-- the steps that share page p from its mark at this word's version, and give the share up where the state word is the one found
+abbrev pub share_steps : ℕ → ℕ → ℕ → List Did
+share_steps p word found =
+    did_exchange (places.State p) (word_of MARKED (version_of word)) (word_of MARKED (version_of word)) (word_of 1 (version_of word))
+    ∷ did_change (places.State p) found (found - 2 ^ 56) ∷ []
+
 -- page p, which a look found with this word, locked by nobody, and a load found dirty, was shared at its version, from its mark: it was marked
--- already, or marked then
+-- already, or marked then; and the share was given up. No other step left a word in its state word: none takes a mark away, or a version
 pub record SharesSeen (p word : ℕ) (done : List Did) : Type 0 where
   pub taken : HasTaken done (places.State p) (word_of MARKED (version_of word)) (word_of 1 (version_of word))
   pub looked : HasFound taken.earlier (places.State p) word
   pub why : (frame : ℕ) × IsFoundDirty p frame taken.earlier
   pub from : (state_of word ≡ MARKED) ⊎ ((state_of word ≡ UNLOCKED) × HasTaken taken.earlier (places.State p) word (word_of MARKED (version_of word)))
+  pub only : (found : ℕ) × LeavesOnly (places.State p) (mark_steps p word ++ share_steps p word found) done
 
 -- the page of the first of these notes
 abbrev pub first_noted : List Note → Option ℕ
@@ -56,9 +67,11 @@ noted_pages [] = []
 noted_pages (n ∷ ns) = n.page ∷ noted_pages ns
 
 module _ {X : Type 0} where
-  -- all steps are on words of page p; nothing of the page changed but its open read, the pass's frames are as they were, and nothing was released
+  -- all steps are on words of page p, and none released it; nothing of the page changed but its open read, the pass's frames are as they were, and
+  -- nothing was released
   pub record KeepsPage (p : ℕ) (done : List Did) (v w : View X) : Type 0 where
     pub own : StaysOn p done
+    pub unreleased : Unstored p done
     pub aside : IsAside p done v w
     pub frames : (w.frames ≡ v.frames) × (w.contents ≡ v.contents)
     pub alone : RunsAlone done [] v w
@@ -81,7 +94,7 @@ module _ {X : Type 0} where
     pub unsaved : HasNotSaved p done
 
   -- what the visit of page p comes to; one that is left as clean was seen locked by nobody, and its state word was not written, or it was shared for
-  -- the dirty word found first; an exchange is lost only on a page that was found dirty
+  -- the dirty word found first; an exchange is lost only on a page that was found dirty, and then no step but a mark left its state word another
   pub data FlushVisits (p : ℕ) (v w : View X) (old new : Flushed) : Type 0 where
     gone :
         (done : List Did) (word : ℕ) → IsLeft p done v w → WritesNone (places.State p) done
@@ -95,6 +108,7 @@ module _ {X : Type 0} where
         → HasFound done (places.State p) word → IsHeld word → new ≡ record old { busy = old.busy + 1 } → FlushVisits p v w old new
     lost :
         (done : List Did) (word : ℕ) → IsLeft p done v w → (l : LosesSeen done (places.State p) word) → (frame : ℕ) × IsFoundDirty p frame l.lost.earlier
+        → WritesNone (places.State p) done ⊎ LeavesOnly (places.State p) (mark_steps p l.seen) done
         → new ≡ record old { busy = old.busy + 1 } → FlushVisits p v w old new
     written :
         (done : List Did) (frame word : ℕ) → KeepsPage p done v w → w.notes ≡ v.notes
@@ -166,7 +180,8 @@ module _ {X : Type 0} where
   abbrev pub Marks : ℕ → ℕ → View X → View X → Took → Type 0
   Marks p word v w Taken =
       (done : List Did) × IsLeft p done v w
-      × (((done ≡ []) × (state_of word ≡ MARKED)) ⊎ (done ≡ did_exchange (places.State p) word word (word_of MARKED (version_of word)) ∷ []))
+      × (((done ≡ []) × (state_of word ≡ MARKED))
+      ⊎ ((done ≡ did_exchange (places.State p) word word (word_of MARKED (version_of word)) ∷ []) × (state_of word ≡ UNLOCKED)))
   Marks p word v w (Lost found) =
       (found ≢ word) × IsLeft p (did_exchange (places.State p) word found (word_of MARKED (version_of word)) ∷ []) v w
 

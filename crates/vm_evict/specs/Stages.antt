@@ -5,12 +5,12 @@ use Rattle.vm_core.specs.Prelude.{mapping_of, version_of, word_of, WORDS}
 use Rattle.vm_rule.specs.Prelude.{clean_in, draft_of, Each, has, held_at, IsLocking, last_of, Seat, seat_of, stands_dirty, StartsWith}
 use Rattle.vm_rule.specs.declared.view.Place.TheVariants as places
 use Rattle.vm_step.specs.Prelude.{candidate_pages, Did, HoldsPage, IsAlone, IsToldOf, KnowsAsBefore, LeavesRest, Note, ReadsAsBefore, Release}
-use Rattle.vm_step.specs.Prelude.{RunsAlone, StaysAlone, Tie, Translation, View}
+use Rattle.vm_step.specs.Prelude.{RunsAlone, StaysAlone, Tie, Translation, Unstored, View}
 use Rattle.vm_step.specs.declared.choice.Looks.{Looks}
 use Rattle.vm_evict.specs.{declared.candidate.Phase.Phase, declared.candidate.Stage.Stage, declared.report.Evicted.Evicted}
 use Rattle.vm_evict.specs.{declared.report.Report.Report, Phases.Does, Phases.DoesOne, Tables.KnowsStage, Writes.HasNotSaved, Writes.writing_seat}
 use Rattle.vm_evict.specs.Evictions.{candidate_at, first_pair, frame_at, FramesCome, gathered, IsMissed, IsPageFreed, IsSavedFrom, IsSharedToSave}
-use Rattle.vm_evict.specs.Evictions.{IsTakenOut, IsWriteFailed, LocksFrom, note_at, one_if, release_at, stage_at, Unreleased}
+use Rattle.vm_evict.specs.Evictions.{IsTakenOut, IsWriteFailed, LocksFrom, note_at, one_if, release_at, stage_at}
 use Rattle.vm_evict.specs.declared.candidate.Phase.TheVariants as phases
 use Rattle.vm_evict.specs.declared.candidate.Stage.TheVariants as stages
 
@@ -120,7 +120,7 @@ module _ {X : Type 0} where
     pub taken : HasLockTaken p word writing_seat v x
     pub shared : IsSharedToSave p word done
     pub foreign : (found : ℕ) → found ≢ word_of 1 (version_of word) → Each (λ d. d.at ≡ places.State p → d.wrote ≢ Some found) done
-    pub unreleased : Unreleased p done
+    pub unreleased : Unstored p done
     pub kept : written ≡ false → HasNotSaved p done
     pub resident : IsSome (held_at x p).mapping
     pub cleaned : written ≡ true → (frame : ℕ) × ((held_at x p).mapping ≡ Some (clean_in frame)) × IsSavedFrom p word frame done

@@ -5,7 +5,7 @@ use Rattle.vm_fault.proofs.Prelude.{draft_of, Each, each-both, each-map, else-kn
 use Rattle.vm_fault.proofs.Prelude.{EVICTED, EvictedExpected, EvictTold, false, false≢true, follows-inside, found-known, given-front, has, HasGiven, HasWritten}
 use Rattle.vm_fault.proofs.Prelude.{Held, held_at, home-both, home-else, inl, inr, IsAlone, IsAside, IsFetchToTry, IsFetchWorn, IsFoundEvicted, IsHeldAt}
 use Rattle.vm_fault.proofs.Prelude.{IsLocking, IsLostTo, IsOfBoth, IsOfPage, IsReleasedAs, IsUnheld, IsWornIn, KeepsFrames, known_word_at, KnowsElse}
-use Rattle.vm_fault.proofs.Prelude.{KnowsReleased, last-known, last_in, last_of, leaves-then, LeavesOthers, LeavesOwn, LeavesRest, length, List, lock-brings}
+use Rattle.vm_fault.proofs.Prelude.{KnowsReleased, last-known, leaves-both, leaves-front, LeavesOnly, locks_out, releases_as, WritesNone, last_in, last_of, leaves-then, LeavesOthers, LeavesOwn, LeavesRest, length, List, lock-brings}
 use Rattle.vm_fault.proofs.Prelude.{lock-draft, lock-held, lock-leaves, lock-others, lock-seat, LOCKED, locked_view, LockTold, look-leaves, look-only, LookTold}
 use Rattle.vm_fault.proofs.Prelude.{lost-only, lost-saw, Mapping, MAX_VERSION, ne_eqb, None, none-some, only-then, OnlyReads, Origin, Place, ReadsOnce, refl}
 use Rattle.vm_fault.proofs.Prelude.{Release, release-alone, release-last, release-others, release-seat, release-silent, ReleaseTold, rest-of, rules, runs-one}
@@ -21,6 +21,7 @@ module _ {X : Type 0} where
     pub steps : Each (λ d. d.at ≡ Place.State p) done
     pub known : IsAlone v → known_word_at v (Place.State p) ≡ word_of EVICTED version
     pub found : HasGiven done (Place.State p) (word_of EVICTED version)
+    pub once : LeavesOnly (Place.State p) (locks_out p version ∷ []) done
     pub before : ((seat_of v p).exclusive ≡ false) × ((seat_of v p).shares ≡ 0)
     pub shares : (seat_of x p).shares ≡ (seat_of v p).shares
     pub writing : (seat_of x p).writing ≡ (seat_of v p).writing
@@ -78,13 +79,15 @@ module _ {X : Type 0} where
         let there : expects ≡ known_word_at f.between (Place.State p) = found-known lock-did expects None [] [] f.between _ x brings refl now in
         sym (there ∙ same-word v f.between looked.aside.start (words-known look-did None [] _ v _ f.between f.look.brings refl a) (Place.State p)) in
         let found : HasGiven (look-did ∷ lock-did ∷ []) (Place.State p) (word_of EVICTED version) = record { earlier = look-did ∷ []; step = lock-did; later = []; cut = refl; gives = (refl, refl) } in
+        let once : LeavesOnly (Place.State p) (locks_out p version ∷ []) (look-did ∷ lock-did ∷ [])
+        = (look-did ∷ [], [], ap (λ (n : ℕ). look-did ∷ did_exchange (Place.State p) expects expects (word_of LOCKED n) ∷ []) (word-version EVICTED version within), ((λ _. refl), tt), tt) in
         let last : last_of x p ≡ record { version = version; words = words } = ap (λ (n : ℕ). record { version = n; words = words }) {x = (last_of x p).version} {y = version} (f.lock.version ∙ word-version EVICTED version within) in
         let device = λ (tells : x.start.tells ≡ true). ap (λ (h : Held). h.block.words) (lock-held refl f.lock) ∙ stands.device (ap (λ (o : Origin). o.tells) (sym start-locked) ∙ tells) clean in
         let next = λ (e : x.next ≡ Some p). unheld.next (sym (ap (λ (y : View X). y.next) brings.view) ∙ e) in
         let leaves = leaves-then p (look-did ∷ []) (lock-did ∷ []) v f.between x (look-leaves f.look) (lock-leaves refl f.lock) in
         let seat = lock-seat refl f.lock in
         let held = lock-held refl f.lock in
-        search (rules, ap, leaves, runs, known, found, looked.aside.holds p, unheld, seat, lock-draft refl f.lock, last, f.lock.free refl, brings.view, next, held, stands.empty gone, stands.told, device, looked.keeps, looked.aside.out)
+        search (rules, ap, leaves, runs, known, found, once, looked.aside.holds p, unheld, seat, lock-draft refl f.lock, last, f.lock.free refl, brings.view, next, held, stands.empty gone, stands.told, device, looked.keeps, looked.aside.out)
 
 -- ---- A page that could not be brought: it was found in another state, or at the last version, or another came before with its lock.
 
@@ -119,7 +122,7 @@ module _ {X : Type 0} (tied : Start → ℕ → List ℕ → ℕ → List ℕ �
     done = try-did ∷ [];
     aside = tried.aside;
     keeps = tried.keeps;
-    steps = (refl, tt);
+    steps = ((refl, refl), tt);
     alone = look-runs;
     table = λ a. (look-known a).1;
     found = record { earlier = []; step = try-did; later = []; cut = refl; gives = (refl, ap (λ (n : ℕ). Some n) e) };
@@ -132,7 +135,8 @@ module _ {X : Type 0} (tied : Start → ℕ → List ℕ → ℕ → List ℕ �
       let given : HasGiven (try-did ∷ []) (Place.State p) word = record { earlier = []; step = try-did; later = []; cut = refl; gives = (refl, refl) } in
       let other = other-state word MAX_VERSION last (λ e. ne (e ∙ sym is)) in
       let why : IsWornIn (try-did ∷ []) p (record { at = At.Page p; first = first; seen = word }) = record { given = given; foreign = tt; last = last; other = other; first = is } in
-      search (rules, tried, look-runs, (λ (a : IsAlone v). (look-known a).1), why, (λ (a : IsAlone v). (look-known a).0), other)
+      let silent : Each (λ (d : Did). (d.at ≡ Place.State p) × (d.wrote ≡ None)) (try-did ∷ []) = ((refl, refl), tt) in
+      search (rules, tried, look-runs, silent, (λ (a : IsAlone v). (look-known a).1), why, (λ (a : IsAlone v). (look-known a).0), other)
 
   pub lost : (first found n : ℕ) (w : View X) → first ≡ word_of EVICTED n → version_of word ≡ n → found ≢ first → LockTold tied p first found u w → IsFetchToTry p (record { at = At.Page p; first = first; seen = found }) v w
   lost first found n w is at ne lock =
@@ -159,7 +163,8 @@ module _ {X : Type 0} (tied : Start → ℕ → List ℕ → ℕ → List ℕ �
       let there : found ≡ known_word_at v (Place.State p) = found-known did found None [] [] u _ w lock.brings refl (now a) ∙ same-word v u tried.aside.start (look-known a).1 (Place.State p) in
       let same : version_of found ≡ n = ap version_of (there ∙ sym (look-known a).0) ∙ at in
       (there, other-state found n same (λ e. ne (e ∙ sym is))) in
-      search (rules, k, runs, table, why, known)
+      let silent : Each (λ (d : Did). (d.at ≡ Place.State p) × (d.wrote ≡ None)) (try-did ∷ did ∷ []) = ((refl, refl), ((refl, unwritten), tt)) in
+      search (rules, k, runs, silent, table, why, known)
 
 -- ---- The release of a page that was found evicted and locked: nothing but its version is another then, and the pass holds what it held.
 
@@ -212,7 +217,7 @@ module _ {X : Type 0} (p version : ℕ) (words : List ℕ) (before more : List D
     -- a pass that was alone knows the page's word, and all words but those at the places of the steps
     pub knows : (touched : Place → Type 0) → ((at : Place) → touched at → Within v.start at) → Each (λ (d : Did). touched d.at) all → IsAlone v → KnowsReleased touched state p version v w
 
-  module _ (state wrote : ℕ) (spelled : wrote ≡ word_of state (version + 1)) (below : version < MAX_VERSION) (inner w : View X) where
+  module _ (state wrote : ℕ) (spelled : wrote ≡ word_of state (version + 1)) (silent : WritesNone (Place.State p) more) (below : version < MAX_VERSION) (inner w : View X) where
     abbrev end-did : Did
     end-did = did_store (Place.State p) wrote
 
@@ -242,12 +247,19 @@ module _ {X : Type 0} (p version : ℕ) (words : List ℕ) (before more : List D
       known : f.releases ++ b.between ≡ v.releases ++ since
       known = ap (λ (t : List Release). t ++ b.between) so-far.releases.1 ∙ append_assoc v.releases so-far.releases.0 b.between
 
+      -- it was locked once, and released once
+      once : LeavesOnly (Place.State p) (locks_out p version ∷ releases_as state p version ∷ []) all
+      once =
+          let lock : List Did = locks_out p version ∷ [] in
+          leaves-both (Place.State p) lock (releases_as state p version ∷ []) all-before (end-did ∷ []) (leaves-front (Place.State p) lock before more h.once silent)
+          ([], [], ap (λ (n : ℕ). did_store (Place.State p) n ∷ []) spelled, tt, tt)
+
       released : IsReleasedAs state p version words all v w
       released =
           let left : HasWritten all (Place.State p) (word_of state (version + 1)) = record { earlier = all-before; step = end-did; later = []; cut = refl; place = refl; wrote = ap (λ (n : ℕ). Some n) spelled } in
           let releases = ap (λ (y : View X). y.releases) b.view ∙ ap (λ (t : List Release). t ++ end-release ∷ []) known ∙ ap (λ (l : List ℕ). (v.releases ++ since) ++ record { page = p; version = version + 1; words = l } ∷ []) still-draft in
           let same = ap (λ (t : List Release). last_in v.start t p) (sym known) ∙ ap (λ (o : Origin). last_in o (f.releases ++ b.between) p) (sym so-far.start) ∙ b.kept p (inl still-owns) ∙ still-last in
-          search (rules, below, given, left, releases, same, last ∙ ap (λ (l : List ℕ). record { version = version + 1; words = l }) still-draft)
+          search (rules, below, given, left, once, releases, same, last ∙ ap (λ (l : List ℕ). record { version = version + 1; words = l }) still-draft)
 
       ends : EndsAs state all w
       ends = record {
@@ -273,14 +285,14 @@ module _ {X : Type 0} (p version : ℕ) (words : List ℕ) (before more : List D
 
   -- ---- the two releases
 
-  module _ (below : version < MAX_VERSION) (w : View X) where
+  module _ (silent : WritesNone (Place.State p) more) (below : version < MAX_VERSION) (w : View X) where
     pub unlocked-ends : ReleaseTold p version [] None f w → EndsAs UNLOCKED (all-before ++ did_store (Place.State p) (version + 1) ∷ []) w
     unlocked-ends t =
-        ends UNLOCKED (version + 1) (unlocked-is (version + 1)) below _ w t.brings (ap (λ (y : View X). y.out) t.brings.view) (release-silent t still-free still-paid still-next) (release-others t (λ q. q ≡ p) refl) (release-seat t) (release-last t) (release-alone t)
+        ends UNLOCKED (version + 1) (unlocked-is (version + 1)) silent below _ w t.brings (ap (λ (y : View X). y.out) t.brings.view) (release-silent t still-free still-paid still-next) (release-others t (λ q. q ≡ p) refl) (release-seat t) (release-last t) (release-alone t)
 
     pub evicted-ends : EvictTold p version f w → EndsAs EVICTED (all-before ++ did_store (Place.State p) (word_of EVICTED (version + 1)) ∷ []) w
     evicted-ends t =
-        ends EVICTED (word_of EVICTED (version + 1)) refl below _ w t.brings (ap (λ (y : View X). y.out) t.brings.view) (evict-silent t still-next) (evict-others t (λ q. q ≡ p) refl) (evict-seat t) (evict-last t) (evict-alone t)
+        ends EVICTED (word_of EVICTED (version + 1)) refl silent below _ w t.brings (ap (λ (y : View X). y.out) t.brings.view) (evict-silent t still-next) (evict-others t (λ q. q ≡ p) refl) (evict-seat t) (evict-last t) (evict-alone t)
 
 -- ---- The places of the steps that bring a page: each is one of the page or of the frame, and the block goes out and comes home once.
 
@@ -303,6 +315,11 @@ stores-home : (p f i : ℕ) (xs : List ℕ) → StaysHome p (stores-did f i xs)
 stores-home p f i [] = tt
 stores-home p f i (x ∷ xs) = ((λ _. refl), stores-home p f (i + 1) xs)
 
+-- nor do those stores write the state word
+stores-silent : (p f i : ℕ) (xs : List ℕ) → WritesNone (Place.State p) (stores-did f i xs)
+stores-silent p f i [] = tt
+stores-silent p f i (x ∷ xs) = ((λ here. (let no : Place.Content f i ≡ Place.State p = here in cc)), stores-silent p f (i + 1) xs)
+
 state-home : (p : ℕ) (done : List Did) → Each (λ (d : Did). d.at ≡ Place.State p) done → StaysHome p done
 state-home p done steps = home-else p done (each-map (λ (d : Did). d.at ≡ Place.State p) (λ (d : Did). d.at ≢ Place.Fault p) (λ d at here. (let no : Place.State p ≡ Place.Fault p = sym at ∙ here in cc)) done steps)
 
@@ -318,6 +335,14 @@ module _ (p : ℕ) (before : List Did) (steps : Each (λ (d : Did). d.at ≡ Pla
   module _ (f trans owner word : ℕ) (page : List ℕ) (long : length page ≡ 64) where
     abbrev brought-did : List Did
     brought-did = (before ++ ((calls ++ stores-did f 0 page) ++ did_store (Place.Translation p) trans ∷ did_store (Place.Owner f) owner ∷ [])) ++ did_store (Place.State p) word ∷ []
+
+    -- none of the steps between the lock and the release is on the page's state word
+    pub brought-silent : WritesNone (Place.State p) ((calls ++ stores-did f 0 page) ++ did_store (Place.Translation p) trans ∷ did_store (Place.Owner f) owner ∷ [])
+    brought-silent =
+        let P : Did → Type 0 = λ d. d.at ≡ Place.State p → d.wrote ≡ None in
+        each-both P (calls ++ stores-did f 0 page) _
+        (each-both P calls (stores-did f 0 page) ((λ _. refl), ((λ _. refl), ((λ _. refl), ((λ _. refl), tt)))) (stores-silent p f 0 page))
+        ((λ here. (let no : Place.Translation p ≡ Place.State p = here in cc)), ((λ here. (let no : Place.Owner f ≡ Place.State p = here in cc)), tt))
 
     pub brought-at : Each (λ (d : Did). IsOfBoth p f d.at) brought-did
     brought-at =
@@ -341,6 +366,9 @@ module _ (p : ℕ) (before : List Did) (steps : Each (λ (d : Did). d.at ≡ Pla
   module _ (count word : ℕ) where
     abbrev failed-did : List Did
     failed-did = (before ++ (calls ++ did_store (Place.Fault p) count ∷ [])) ++ did_store (Place.State p) word ∷ []
+
+    pub failed-silent : WritesNone (Place.State p) (calls ++ did_store (Place.Fault p) count ∷ [])
+    failed-silent = ((λ _. refl), ((λ _. refl), ((λ _. refl), ((λ _. refl), ((λ here. (let no : Place.Fault p ≡ Place.State p = here in cc)), tt)))))
 
     pub failed-at : Each (λ (d : Did). IsOfPage p d.at) failed-did
     failed-at =

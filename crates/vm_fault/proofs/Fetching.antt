@@ -1,6 +1,6 @@
 -- The page was found evicted and locked, and its block was read: it is installed with the block's words and released, or released as evicted.
 use Rattle.vm_core.specs.Fn as fns
-use Rattle.vm_fault.proofs.Ending.{both-within, brought-at, brought-once, EndsAs, evicted-ends, failed-at, failed-once, IsHeldEmpty, page-within}
+use Rattle.vm_fault.proofs.Ending.{both-within, brought-at, brought-once, brought-silent, EndsAs, evicted-ends, failed-at, failed-once, failed-silent, IsHeldEmpty, page-within}
 use Rattle.vm_fault.proofs.Ending.{still-draft, still-free, still-last, still-owns, still-paid, unlocked-ends}
 use Rattle.vm_step.specs.steps.Owner.{OwnerTold}
 use Rattle.vm_step.proofs.steps.Owner.{settle-did, settle-frames, settle-held, settle-notes, settle-out, settle-works, stands-installed}
@@ -122,7 +122,8 @@ module _ {X : Type 0} (p version : ℕ) (words : List ℕ) (before : List Did) (
           end-did = did_store (Place.State p) (version + 1)
 
           ends : EndsAs p version words before worked-did v x i h work-installed UNLOCKED ((before ++ worked-did) ++ end-did ∷ []) w
-          ends = unlocked-ends p version words before worked-did v x i h work-installed below w r
+          ends = unlocked-ends p version words before worked-did v x i h work-installed
+              (brought-silent p before h.steps o.first o.second m.first m.second f (trans_word (Some (clean_in f))) (p + 1) (version + 1) page (long u ok)) below w r
 
           steps-are : Each (λ (d : Did). IsOfBoth p f d.at) ((before ++ worked-did) ++ end-did ∷ [])
           steps-are = brought-at p before h.steps o.first o.second m.first m.second f (trans_word (Some (clean_in f))) (p + 1) (version + 1) page (long u ok)
@@ -198,7 +199,7 @@ module _ {X : Type 0} (p version : ℕ) (words : List ℕ) (before : List Did) (
             (subst (λ (k : ℕ). notes_of p old.count k ≡ record { page = p; count = k } ∷ []) (sym (is ∙ count)) (noted-more p old.count))
 
         evicts : EndsAs p version words before raised-did v x y h work-raised EVICTED ((before ++ raised-did) ++ evict-did ∷ []) w
-        evicts = evicted-ends p version words before raised-did v x y h work-raised below w r
+        evicts = evicted-ends p version words before raised-did v x y h work-raised (failed-silent p before h.steps o.first o.second m.first m.second n (word_of EVICTED (version + 1))) below w r
 
         steps-of : Each (λ (d : Did). IsOfPage p d.at) ((before ++ raised-did) ++ evict-did ∷ [])
         steps-of = failed-at p before h.steps o.first o.second m.first m.second n (word_of EVICTED (version + 1))

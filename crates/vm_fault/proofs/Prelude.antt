@@ -15,20 +15,20 @@ pub use Rattle.vm_rule.proofs.WordFacts.{version-within, word-made, word-state, 
 pub use Rattle.vm_step.specs.{declared.saw.At.At, Evidence.EvictedExpected}
 pub use Rattle.vm_step.specs.Prelude.{Did, HasGiven, HasWritten, IsAlone, IsAside, IsFirst, IsMember, IsNotOut, IsOfPage, KeepsFrames, known_word_at, KnowsElse}
 pub use Rattle.vm_step.specs.Prelude.{LeavesRest, MayEvict, MayGiveUp, MayRaise, MayTakeOut, Origin, Release, RunsAlone, StaysAlone, StaysHome, Stores, view}
-pub use Rattle.vm_step.specs.Prelude.{View, Works}
+pub use Rattle.vm_step.specs.Prelude.{LeavesOnly, View, Works, WritesNone}
 pub use Rattle.vm_step.proofs.{DeviceCalls.home-both, DeviceCalls.home-else, Saws.lost-saw, steps.Look.look-leaves, steps.Look.look-only}
 pub use Rattle.vm_step.proofs.{steps.Raise.raise-held, steps.Raise.raise-works, steps.Unchanged.lost-only}
 pub use Rattle.vm_step.proofs.Alone.{found-known, runs-one, runs-then, same-word, stays-alone, still-alone, words-known}
 pub use Rattle.vm_step.proofs.Asides.{alone-then, only-then, OnlyReads}
 pub use Rattle.vm_step.proofs.Device.{call-did, called, counts-one, goes-out, may-bring, Moves, noted-more, two-loads}
-pub use Rattle.vm_step.proofs.Evidenced.{given-front, written-behind, written-front}
+pub use Rattle.vm_step.proofs.Evidenced.{given-front, leaves-both, leaves-front, written-behind, written-front}
 pub use Rattle.vm_step.proofs.Filling.{all-stored, filled, fills, Fills, stores-did}
-pub use Rattle.vm_step.proofs.Leaves.{aside-of, leaves-then, ready-after, ready-on, works-then}
+pub use Rattle.vm_step.proofs.Leaves.{aside-of, leaves-then, ready-after, works-then}
 pub use Rattle.vm_step.proofs.Tables.{else-knows, follows-inside, last-known}
 pub use Rattle.vm_step.proofs.steps.Leaving.{LeavesOthers, LeavesOwn, rest-of}
 pub use Rattle.vm_step.proofs.steps.Lock.{lock-brings, lock-draft, lock-held, lock-leaves, lock-others, lock-seat}
 pub use Rattle.vm_step.proofs.steps.Release.{evict-alone, evict-last, evict-others, evict-seat, evict-silent, release-alone, release-last, release-others}
 pub use Rattle.vm_step.proofs.steps.Release.{release-seat, release-silent}
 pub use Rattle.vm_fault.specs.Fetches.{IsBrought, IsFailed, IsFetched, IsFetchToTry, IsFetchWorn, IsFoundEvicted, IsLostTo, IsOfBoth, IsReleasedAs, IsWornIn}
-pub use Rattle.vm_fault.specs.Fetches.{KnowsReleased, ReadsOnce}
+pub use Rattle.vm_fault.specs.Fetches.{KnowsReleased, locks_out, ReadsOnce, releases_as}
 unfoldable pub use Rattle.vm_core.specs.Prelude.{count_more, state_of, version_of, word_of}

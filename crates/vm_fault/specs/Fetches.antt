@@ -2,12 +2,12 @@
 -- the frame, or evicted again where its block could not be read.
 use Rattle.std.specs.Prelude.{[], List, None, slice_index, Some, true, ℕ, ◌++◌, ◌+◌, ◌<◌, ◌∷◌, ◌≡◌, ◌≢◌, ◌≤◌, ◌⊎◌}
 use Rattle.vm_core.specs.Fn as fns
-use Rattle.vm_core.specs.Prelude.{EVICTED, MAX_VERSION, state_of, trans_word, UNLOCKED, version_of, word_of, WORDS}
-use Rattle.vm_rule.specs.Prelude.{clean_in, Each, last_in, last_of, LockTold, LookTold, Start, without}
+use Rattle.vm_core.specs.Prelude.{EVICTED, LOCKED, MAX_VERSION, state_of, trans_word, UNLOCKED, version_of, word_of, WORDS}
+use Rattle.vm_rule.specs.Prelude.{clean_in, did_exchange, did_store, Each, last_in, last_of, LockTold, LookTold, Start, without}
 use Rattle.vm_rule.specs.declared.view.Place.{Place}
 use Rattle.vm_step.specs.{declared.saw.Saw.Saw, Evidence.EvictedExpected}
 use Rattle.vm_step.specs.Prelude.{Did, GoesOnce, HasGiven, HasWritten, IsAlone, IsAside, IsLost, IsOfPage, IsSaw, KeepsFrames, known_word_at}
-use Rattle.vm_step.specs.Prelude.{KnowsElse, KnowsSame, NoWord, Release, RunsAlone, View}
+use Rattle.vm_step.specs.Prelude.{KnowsElse, KnowsSame, LeavesOnly, NoWord, Release, RunsAlone, View}
 use Rattle.vm_step.specs.declared.saw.At.{At}
 use Rattle.vm_fault.specs.declared.fault.Fetch.{Fetch}
 
@@ -28,6 +28,13 @@ pub record IsLostTo (done : List Did) (p : ℕ) (saw : Saw) : Type 0 where
   pub cut : done ≡ earlier ++ step ∷ later
   pub lost : IsLost step (Place.State p) saw.first saw.seen
   pub first : state_of saw.first ≡ EVICTED
+
+-- the step that locks page p, which is evicted at this version; and the one that releases it from there with this state
+abbrev pub locks_out : ℕ → ℕ → Did
+locks_out p version = did_exchange (Place.State p) (word_of EVICTED version) (word_of EVICTED version) (word_of LOCKED version)
+
+abbrev pub releases_as : ℕ → ℕ → ℕ → Did
+releases_as state p version = did_store (Place.State p) (word_of state (version + 1))
 
 -- a place of page p, or one of frame f: its owner word, or one of its words
 abbrev pub IsOfBoth : ℕ → ℕ → Place → Type 0
@@ -61,12 +68,15 @@ module _ {X : Type 0} where
     pub below : version < MAX_VERSION
     pub found : HasGiven done (Place.State p) (word_of EVICTED version)
     pub left : HasWritten done (Place.State p) (word_of state (version + 1))
+    -- whoever else was there, it was locked once and released once, and no other step left a word in its state word: so it costs one version
+    pub once : LeavesOnly (Place.State p) (locks_out p version ∷ releases_as state p version ∷ []) done
     pub between : List Release
     pub releases : w.releases ≡ (v.releases ++ between) ++ record { page = p; version = version + 1; words = words } ∷ []
     pub same : last_in v.start (v.releases ++ between) p ≡ record { version = version; words = words }
     pub last : last_of w p ≡ record { version = version + 1; words = words }
 
-  -- page p is resident in frame f, which is the pass's no more, and whose owner word names the page; where blocks tell, all words of the frame were stored, the page's last ones
+  -- page p is resident in frame f, which is the pass's no more, and whose owner word names the page; where blocks tell, all words of the frame were
+  -- stored, the page's last ones
   pub record IsBrought (p f : ℕ) (v w : View X) : Type 0 where
     pub done : List Did
     pub aside : IsAside p done v w
@@ -106,7 +116,8 @@ module _ {X : Type 0} where
     pub done : List Did
     pub aside : IsAside p done v w
     pub keeps : KeepsFrames v w
-    pub steps : Each (λ d. d.at ≡ Place.State p) done
+    -- its steps are on the page's state word, and leave none there: nothing is done to a page that another has by then
+    pub steps : Each (λ d. (d.at ≡ Place.State p) × (d.wrote ≡ None)) done
     pub alone : RunsAlone done [] v w
     pub table : KnowsSame v w
     pub at : saw.at ≡ At.Page p
@@ -119,7 +130,7 @@ module _ {X : Type 0} where
     pub done : List Did
     pub aside : IsAside p done v w
     pub keeps : KeepsFrames v w
-    pub steps : Each (λ d. d.at ≡ Place.State p) done
+    pub steps : Each (λ d. (d.at ≡ Place.State p) × (d.wrote ≡ None)) done
     pub alone : RunsAlone done [] v w
     pub table : KnowsSame v w
     pub found : HasGiven done (Place.State p) (word_of EVICTED MAX_VERSION)

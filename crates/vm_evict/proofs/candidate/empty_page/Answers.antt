@@ -1,5 +1,5 @@
 use Rattle.vm_evict.proofs.Dropping.{emptied-so, may-clear, may-disown, owning-there}
-use Rattle.vm_evict.proofs.Prelude.{ready-after, sym, ◌∙◌}
+use Rattle.vm_evict.proofs.Prelude.{sym, ◌∙◌}
 use Rattle.vm_evict.proofs.candidate.empty_page.Goals as goal
 
 pub disown-requires-clause-legal : goal.disown-requires-clause-legal
@@ -17,9 +17,3 @@ returns-clause-moved g c v done h =
     let k = owning-there _ _ _ _ _ _ _ h.1 _ _ c.tload-translation.ensures.told c.in-Some.frame (sym c.frame.ensures ∙ c.in-Some.is) in
     emptied-so _ _ _ _ _ _ _ k _ _ c.tload-translation.ensures.told _ c.disown.ensures.told _
     (c.clear.ensures.told c.in-Some.frame (may-clear _ _ _ _ _ _ _ k _ _ c.tload-translation.ensures.told _ c.disown.ensures.told))
-
-pub returns-clause-ready : goal.returns-clause-ready
-returns-clause-ready g c =
-    ready-after _ _ _ c.args.pass.now c.clear.new.pass c.args.p _
-    (c.clear.ensures.pass.0 ∙ c.disown.ensures.pass.0 ∙ c.tload-translation.ensures.pass.0, c.clear.ensures.pass.1 ∙ c.disown.ensures.pass.1 ∙ c.tload-translation.ensures.pass.1)
-    (returns-clause-moved g c c.requires.at.0 c.requires.at.1 c.requires.at.2).moves.leaves c.requires.ready

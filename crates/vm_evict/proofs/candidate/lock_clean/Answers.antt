@@ -1,6 +1,6 @@
 use Rattle.vm_evict.specs.declared.candidate.Phase.TheVariants as phases
 use Rattle.vm_evict.specs.declared.candidate.Stage.TheVariants as stages
-use Rattle.vm_evict.proofs.{Answering.ready-lock, Locking.locked-so, Locking.lost-so, Moving.gives-nothing, Prelude.refl, Prelude.view}
+use Rattle.vm_evict.proofs.{Locking.locked-so, Locking.lost-so, Moving.gives-nothing, Prelude.refl, Prelude.view}
 use Rattle.vm_evict.proofs.candidate.lock_clean.Goals as goal
 
 pub returns-in-Lost-clause-moved : goal.returns-in-Lost-clause-moved
@@ -9,9 +9,3 @@ returns-in-Lost-clause-moved g c v done h =
 
 pub returns-in-Taken-clause-moved : goal.returns-in-Taken-clause-moved
 returns-in-Taken-clause-moved g c v done h = locked-so g.U.Owner.tied c.args.p c.args.word c.requires.candidate.marked done v (view c.args.pass.now) (view c.lock_exclusive.new.pass) h c.in-Taken.ensures.told
-
-pub returns-in-Lost-clause-ready : goal.returns-in-Lost-clause-ready
-returns-in-Lost-clause-ready g c = ready-lock c.requires.ready c.lock_exclusive.ensures.pass c.lock_exclusive.ensures.told
-
-pub returns-in-Taken-clause-ready : goal.returns-in-Taken-clause-ready
-returns-in-Taken-clause-ready g c = ready-lock c.requires.ready c.lock_exclusive.ensures.pass c.lock_exclusive.ensures.told

@@ -1,6 +1,6 @@
 use Rattle.vm_evict.proofs.Locking.{may-give, may-raise, raise-lost, raised-so}
-use Rattle.vm_evict.proofs.Prelude.{ap, arith, refl, version-within, view, word_of, ◌∙◌}
-use Rattle.vm_evict.proofs.Answering.{both-then, ready-step, ready-upgrade}
+use Rattle.vm_evict.proofs.Prelude.{ap, arith, version-within, view, word_of, ◌∙◌}
+use Rattle.vm_evict.proofs.Answering.{both-then}
 use Rattle.vm_evict.proofs.candidate.raise_shared.Goals as goal
 
 pub upgrade-requires-clause-legal : goal.upgrade-requires-clause-legal
@@ -15,17 +15,8 @@ unlock_shared-requires-clause-legal g c = may-give g.U.Owner.tied c.args.p c.arg
 pub returns-in-Lost-clause-moved : goal.returns-in-Lost-clause-moved
 returns-in-Lost-clause-moved g c v done h = raise-lost g.U.Owner.tied c.args.p c.args.word c.args.written done v (view c.args.pass.now) h.0 c.of-shared.result c.in-Lost.field-0 (c.of-shared.ensures ∙ ap (word_of 1) c.version.ensures) (c.upgrade.ensures.lost c.in-Lost.field-0 c.in-Lost.is) (view c.upgrade.new.pass) c.in-Lost.ensures.told c.unlock_shared.result (view c.unlock_shared.new.pass) c.unlock_shared.ensures.told
 
-pub unlock_shared-requires-clause-pass : goal.unlock_shared-requires-clause-pass
-unlock_shared-requires-clause-pass g c = (ready-upgrade {b = c.upgrade.new.pass} c.requires.ready c.upgrade.ensures.pass c.upgrade.ensures.told).may
-
-pub returns-in-Taken-clause-ready : goal.returns-in-Taken-clause-ready
-returns-in-Taken-clause-ready g c = ready-upgrade c.requires.ready c.upgrade.ensures.pass c.upgrade.ensures.told
-
 pub returns-in-Lost-clause-pass : goal.returns-in-Lost-clause-pass
 returns-in-Lost-clause-pass g c = both-then c.upgrade.ensures.pass c.unlock_shared.ensures.pass
-
-pub returns-in-Lost-clause-ready : goal.returns-in-Lost-clause-ready
-returns-in-Lost-clause-ready g c = ready-step (ready-upgrade {b = c.upgrade.new.pass} c.requires.ready c.upgrade.ensures.pass c.upgrade.ensures.told) c.unlock_shared.ensures.pass c.unlock_shared.ensures.told.brings refl refl
 
 pub of-shared-requires : goal.of-shared-requires
 of-shared-requires g c = omega (arith, c.version.ensures, version-within c.args.word)

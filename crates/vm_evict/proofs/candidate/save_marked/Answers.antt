@@ -3,7 +3,7 @@ use Rattle.vm_evict.specs.declared.candidate.Stage.TheVariants as stages
 use Rattle.vm_evict.proofs.{Moving.advances-after, Moving.gives-nothing, Saving.failed-so, Saving.written-so}
 use Rattle.vm_evict.proofs.Locking.{lock-now, lost-so, may-unshare, share-known, share-quiet, under-write-back, writing}
 use Rattle.vm_evict.proofs.Prelude.{false, refl, shares, view, ◌∙◌}
-use Rattle.vm_evict.proofs.Answering.{both-then, ready-step, ready-write_lock}
+use Rattle.vm_evict.proofs.Answering.{both-then}
 use Rattle.vm_evict.proofs.candidate.save_marked.Goals as goal
 
 pub returns-in-Lost-clause-moved : goal.returns-in-Lost-clause-moved
@@ -35,14 +35,5 @@ returns-in-Err-clause-moved g c v done h why =
     (share-known g.U.Owner.tied c.args.p c.args.word c.requires.candidate.marked done v (view c.args.pass.now) (view c.lock_write_back.new.pass) h c.in_default.ensures.told)
     (failed-so c.args.p c.args.word _ v (view c.lock_write_back.new.pass) (view c.write_where_dirty.new.pass) (writing g.U.Owner.tied c.args.p c.args.word c.requires.candidate.marked done v (view c.args.pass.now) (view c.lock_write_back.new.pass) h c.in_default.ensures.told why) c.in-Err.count c.in-Err.ensures.written c.unlock_shared.result (view c.unlock_shared.new.pass) c.unlock_shared.ensures.told)
 
-pub returns-in-Lost-clause-ready : goal.returns-in-Lost-clause-ready
-returns-in-Lost-clause-ready g c = ready-write_lock c.requires.ready c.lock_write_back.ensures.pass c.lock_write_back.ensures.told
-
-pub write_where_dirty-requires-clause-ready : goal.write_where_dirty-requires-clause-ready
-write_where_dirty-requires-clause-ready g c = ready-write_lock c.requires.ready c.lock_write_back.ensures.pass c.lock_write_back.ensures.told
-
 pub returns-in-Err-clause-pass : goal.returns-in-Err-clause-pass
 returns-in-Err-clause-pass g c = both-then (both-then c.lock_write_back.ensures.pass c.write_where_dirty.ensures.pass) c.unlock_shared.ensures.pass
-
-pub returns-in-Err-clause-ready : goal.returns-in-Err-clause-ready
-returns-in-Err-clause-ready g c = ready-step c.write_where_dirty.ensures.ready c.unlock_shared.ensures.pass c.unlock_shared.ensures.told.brings refl refl

@@ -3,7 +3,7 @@ use Rattle.vm_evict.proofs.{candidate.save_page.Goals.else-seen-word-via-else-se
 use Rattle.vm_evict.proofs.{candidate.save_page.Goals.else-seen-word-via-then-seen-word+else-is_none, FlushVisits.not-dirty, Moving.advances-after}
 use Rattle.vm_evict.proofs.Prelude.{ap, refl, view, View, ◌∙◌}
 use Rattle.vm_evict.proofs.Saving.{clean-so, looked, shares-another, shares-dirty, waits-known, waits-on}
-use Rattle.vm_evict.proofs.Answering.{both-then, ready-step}
+use Rattle.vm_evict.proofs.Answering.{both-then}
 use Rattle.vm_evict.proofs.candidate.save_page.Goals as goal
 
 pub returns-then-is_none-clause-moved : goal.returns-then-is_none-clause-moved
@@ -36,19 +36,8 @@ returns-else-seen-word-clause-moved g c v done h =
           shares-another g.U.Owner.tied c.args.p c.args.word c.look_silently-seen.result c.tload.result done v (view c.args.pass.now) (view c.look_silently-seen.new.pass) (view c.tload.new.pass) h c.look_silently-seen.ensures.told c.tload.ensures.told w.if-seen-word.false
     ]))
 
-pub tload-requires-clause-pass : goal.tload-requires-clause-pass
-tload-requires-clause-pass g c = (ready-step {b = c.look_silently-seen.new.pass} c.requires.ready c.look_silently-seen.ensures.pass c.look_silently-seen.ensures.told.brings refl refl).may
-
-pub save_marked-requires-clause-ready : goal.save_marked-requires-clause-ready
-save_marked-requires-clause-ready g c =
-    ready-step (ready-step {b = c.look_silently-seen.new.pass} c.requires.ready c.look_silently-seen.ensures.pass c.look_silently-seen.ensures.told.brings refl refl) c.tload.ensures.pass c.tload.ensures.told.brings refl refl
-
 pub save_marked-requires-clause-home : goal.save_marked-requires-clause-home
 save_marked-requires-clause-home g c = ap (λ (x : View _). x.out) c.tload.ensures.told.brings.view ∙ ap (λ (x : View _). x.out) c.look_silently-seen.ensures.told.brings.view ∙ c.requires.home
-
-pub returns-then-is_none-clause-ready : goal.returns-then-is_none-clause-ready
-returns-then-is_none-clause-ready g c =
-    ready-step (ready-step {b = c.look_silently-seen.new.pass} c.requires.ready c.look_silently-seen.ensures.pass c.look_silently-seen.ensures.told.brings refl refl) c.tload.ensures.pass c.tload.ensures.told.brings refl refl
 
 pub returns-else-seen-word-clause-pass : goal.returns-else-seen-word-clause-pass
 returns-else-seen-word-clause-pass g c = both-then (both-then c.look_silently-seen.ensures.pass c.tload.ensures.pass) c.save_marked.ensures.pass

@@ -1,6 +1,6 @@
 use Rattle.vm_evict.proofs.FlushVisits.{by-look-gone, by-look-held}
-use Rattle.vm_evict.proofs.Prelude.{ap, arith, held-state, inl, inr, refl, subst, sym, view, View, ⊎_elim, ◌<◌, ◌∙◌}
-use Rattle.vm_evict.proofs.Answering.{both-then, ready-step}
+use Rattle.vm_evict.proofs.Prelude.{ap, arith, held-state, inl, inr, subst, sym, view, View, ⊎_elim, ◌<◌, ◌∙◌}
+use Rattle.vm_evict.proofs.Answering.{both-then}
 use Rattle.vm_evict.proofs.flushing.visit.Goals as goal
 
 pub returns-then-state-2-clause-visited : goal.returns-then-state-2-clause-visited
@@ -12,9 +12,6 @@ returns-then-state-2-clause-visited g c =
 pub returns-else-state-2-clause-visited : goal.returns-else-state-2-clause-visited
 returns-else-state-2-clause-visited g c =
     by-look-gone c.args.p g.U.Owner.tied _ _ _ c.look_silently-word.ensures.told c.args.flushed.now (subst (λ n. c.args.p < n) (sym c.requires.ready.table.is_shape.pages) c.requires.page) (sym c.state-state.ensures ∙ c.if-state-2.false)
-
-pub visit_unheld-requires-clause-ready : goal.visit_unheld-requires-clause-ready
-visit_unheld-requires-clause-ready g c = ready-step c.requires.ready c.look_silently-word.ensures.pass c.look_silently-word.ensures.told.brings refl refl
 
 pub visit_unheld-requires-clause-home : goal.visit_unheld-requires-clause-home
 visit_unheld-requires-clause-home g c = ap (λ (x : View _). x.out) c.look_silently-word.ensures.told.brings.view ∙ c.requires.home
@@ -30,12 +27,6 @@ returns-then-state-clause-visited g c = c.visit_unheld.ensures.visited (view c.a
 
 pub returns-then-state-clause-pass : goal.returns-then-state-clause-pass
 returns-then-state-clause-pass g c = both-then c.look_silently-word.ensures.pass c.visit_unheld.ensures.pass
-
-pub returns-then-state-2-clause-ready : goal.returns-then-state-2-clause-ready
-returns-then-state-2-clause-ready g c = ready-step c.requires.ready c.look_silently-word.ensures.pass c.look_silently-word.ensures.told.brings refl refl
-
-pub returns-else-state-2-clause-ready : goal.returns-else-state-2-clause-ready
-returns-else-state-2-clause-ready g c = ready-step c.requires.ready c.look_silently-word.ensures.pass c.look_silently-word.ensures.told.brings refl refl
 
 pub visit_unheld-requires-clause-unheld : goal.visit_unheld-requires-clause-unheld
 visit_unheld-requires-clause-unheld g c = ⊎_elim (λ e. inl (sym c.state-state.ensures ∙ e)) (λ e. inr (sym c.state-state.ensures ∙ e.1)) c.if-state.either

@@ -1,6 +1,6 @@
 -- What the steps tell, in the order of the visit: the page that the look is at is one of the table.
 use Rattle.vm_evict.proofs.FlushVisits.{by-load-clean, by-lock-lost, by-mark-lost, by-write, dirty-there, home-front, not-dirty, page-before}
-use Rattle.vm_evict.proofs.{Answering.both-then, Answering.ready-step, Answering.ready-write_lock}
+use Rattle.vm_evict.proofs.Answering.{both-then}
 use Rattle.vm_evict.proofs.Locking.{lock-now, may-unshare, under-write-back}
 use Rattle.vm_evict.proofs.Prelude.{ap, arith, MARKED, MAX_VERSION, refl, state_of, subst, sym, version-within, word-state, word_of, ℕ, ◌<◌, ◌∙◌, ◌≤◌}
 use Rattle.vm_evict.proofs.Writing.{still-locked}
@@ -42,26 +42,11 @@ returns-in-Taken-clause-visited g c v look =
     let home = home-front c.args.p g.U.Owner.tied _ v _ look c.args.flushed.now page _ _ c.tload.ensures.told c.requires.unheld there _ c.in_default.ensures.marks c.requires.home in
     by-write c.args.p g.U.Owner.tied _ v _ look c.args.flushed.now page _ _ c.tload.ensures.told c.requires.unheld there _ c.in_default.ensures.marks _ (c.of-marked.ensures ∙ ap (word_of MARKED) c.version.ensures) home _ c.in-Taken.ensures.told _ _ _ c.unlock_shared.ensures.told _ c.write_where_dirty-wrote.ensures.written _ c.count.ensures.counted
 
-pub returns-then-is_none-clause-ready : goal.returns-then-is_none-clause-ready
-returns-then-is_none-clause-ready g c = ready-step c.requires.ready c.tload.ensures.pass c.tload.ensures.told.brings refl refl
-
-pub mark_page-requires-clause-ready : goal.mark_page-requires-clause-ready
-mark_page-requires-clause-ready g c = ready-step c.requires.ready c.tload.ensures.pass c.tload.ensures.told.brings refl refl
-
 pub overflow_add-flushed : goal.overflow_add-flushed
 overflow_add-flushed g c = omega (arith, c.requires.counts)
 
 pub overflow_add-flushed-in-Lost-lock_write_back : goal.overflow_add-flushed-in-Lost-lock_write_back
 overflow_add-flushed-in-Lost-lock_write_back g c = omega (arith, c.requires.counts)
-
-pub write_where_dirty-wrote-requires-clause-ready : goal.write_where_dirty-wrote-requires-clause-ready
-write_where_dirty-wrote-requires-clause-ready g c = ready-write_lock c.mark_page.ensures.ready c.lock_write_back.ensures.pass c.lock_write_back.ensures.told
-
-pub returns-in-Lost-lock_write_back-clause-ready : goal.returns-in-Lost-lock_write_back-clause-ready
-returns-in-Lost-lock_write_back-clause-ready g c = ready-write_lock c.mark_page.ensures.ready c.lock_write_back.ensures.pass c.lock_write_back.ensures.told
-
-pub returns-in-Taken-clause-ready : goal.returns-in-Taken-clause-ready
-returns-in-Taken-clause-ready g c = ready-step c.write_where_dirty-wrote.ensures.ready c.unlock_shared.ensures.pass c.unlock_shared.ensures.told.brings refl refl
 
 pub of-marked-requires : goal.of-marked-requires
 of-marked-requires g c = omega (arith, c.version.ensures, version-within c.args.word)

@@ -1,6 +1,6 @@
 use Rattle.vm_evict.proofs.Prelude.{arith, ready-after, view, ◌∙◌}
 use Rattle.vm_evict.proofs.Writing.{cleaned, copies-frame, copies-shared, copies-size, may-clean, may-come-home, may-raise, may-take-out, refused}
-use Rattle.vm_evict.proofs.Writing.{work-called, work-cleaned, work-raised}
+use Rattle.vm_evict.proofs.Writing.{work-called}
 use Rattle.vm_evict.proofs.write.write_back.Goals as goal
 
 pub block_out-block-requires-clause-legal : goal.block_out-block-requires-clause-legal
@@ -25,19 +25,11 @@ set_clean-requires-clause-pass g c =
 pub set_clean-requires-clause-legal : goal.set_clean-requires-clause-legal
 set_clean-requires-clause-legal g c = may-clean c.args.p c.args.frame c.requires.legal.0 (view c.args.pass.now) c.requires.legal.1 _ (view c.block_out-block.new.pass) c.block_out-block.ensures.told _ (view c.copy_page-page.new.pass) c.copy_page-page.ensures.copied g.B.Block.tells c.requires.ready.table.tells_is _ c.write-wrote.result c.write-wrote.ensures (view c.block_home.new.pass) c.block_home.ensures.told _ c.in-Ok.is
 
-pub returns-in-Ok-clause-ready : goal.returns-in-Ok-clause-ready
-returns-in-Ok-clause-ready g c =
-    ready-after _ _ _ c.args.pass.now c.set_clean.new.pass c.args.p _ (c.set_clean.ensures.pass.0 ∙ c.block_home.ensures.pass.0 ∙ c.copy_page-page.ensures.pass.0 ∙ c.block_out-block.ensures.pass.0, c.set_clean.ensures.pass.1 ∙ c.block_home.ensures.pass.1 ∙ c.copy_page-page.ensures.pass.1 ∙ c.block_out-block.ensures.pass.1) ((work-cleaned c.args.p c.args.frame c.requires.legal.0 (view c.args.pass.now) c.requires.legal.1 _ (view c.block_out-block.new.pass) c.block_out-block.ensures.told _ (view c.copy_page-page.new.pass) c.copy_page-page.ensures.copied g.B.Block.tells c.requires.ready.table.tells_is _ c.write-wrote.result c.write-wrote.ensures (view c.block_home.new.pass) c.block_home.ensures.told _ c.in-Ok.is _ c.set_clean.ensures.told).leaves) c.requires.ready
-
 pub returns-in-Ok-clause-written : goal.returns-in-Ok-clause-written
 returns-in-Ok-clause-written g c v found = cleaned c.args.p c.args.frame v (view c.args.pass.now) found _ (view c.block_out-block.new.pass) c.block_out-block.ensures.told _ (view c.copy_page-page.new.pass) c.copy_page-page.ensures.copied g.B.Block.tells c.requires.ready.table.tells_is _ c.write-wrote.result c.write-wrote.ensures (view c.block_home.new.pass) c.block_home.ensures.told _ c.in-Ok.is _ c.set_clean.ensures.told (omega (arith, c.ranges.frame))
 
 pub raise-requires-clause-legal : goal.raise-requires-clause-legal
 raise-requires-clause-legal g c = may-raise c.args.p c.args.frame c.requires.legal.0 (view c.args.pass.now) c.requires.legal.1 _ (view c.block_out-block.new.pass) c.block_out-block.ensures.told _ (view c.copy_page-page.new.pass) c.copy_page-page.ensures.copied g.B.Block.tells c.requires.ready.table.tells_is _ c.write-wrote.result c.write-wrote.ensures (view c.block_home.new.pass) c.block_home.ensures.told _ c.faults-count.ensures
-
-pub returns-in-Err-clause-ready : goal.returns-in-Err-clause-ready
-returns-in-Err-clause-ready g c =
-    ready-after _ _ _ c.args.pass.now c.raise.new.pass c.args.p _ (c.raise.ensures.pass.0 ∙ c.block_home.ensures.pass.0 ∙ c.copy_page-page.ensures.pass.0 ∙ c.block_out-block.ensures.pass.0, c.raise.ensures.pass.1 ∙ c.block_home.ensures.pass.1 ∙ c.copy_page-page.ensures.pass.1 ∙ c.block_out-block.ensures.pass.1) ((work-raised c.args.p c.args.frame c.requires.legal.0 (view c.args.pass.now) c.requires.legal.1 _ (view c.block_out-block.new.pass) c.block_out-block.ensures.told _ (view c.copy_page-page.new.pass) c.copy_page-page.ensures.copied g.B.Block.tells c.requires.ready.table.tells_is _ c.write-wrote.result c.write-wrote.ensures (view c.block_home.new.pass) c.block_home.ensures.told _ c.faults-count.ensures _ c.in-Err.is (g.met.B.Block.bounded c.write-wrote.new.self) _ c.raise.ensures.told).leaves) c.requires.ready
 
 pub returns-in-Err-clause-written : goal.returns-in-Err-clause-written
 returns-in-Err-clause-written g c v found = refused c.args.p c.args.frame v (view c.args.pass.now) found _ (view c.block_out-block.new.pass) c.block_out-block.ensures.told _ (view c.copy_page-page.new.pass) c.copy_page-page.ensures.copied g.B.Block.tells c.requires.ready.table.tells_is _ c.write-wrote.result c.write-wrote.ensures (view c.block_home.new.pass) c.block_home.ensures.told _ c.faults-count.ensures _ c.in-Err.is (g.met.B.Block.bounded c.write-wrote.new.self) _ c.raise.ensures.told

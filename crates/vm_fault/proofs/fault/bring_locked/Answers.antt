@@ -1,7 +1,6 @@
 use Rattle.vm_fault.proofs.Ending.{held-empty}
 use Rattle.vm_fault.proofs.Fetching.{brought, failed, frames-called, may-evict, may-give_up, may-own, may-put, may-raise, may-take-out, work-called}
-use Rattle.vm_fault.proofs.Fetching.{work-raised}
-use Rattle.vm_fault.proofs.Prelude.{ap, arith, goes-out, has, MAX_VERSION, may-bring, Origin, ready-after, ready-on, refl, Seat, subst, sym, View, ℕ, ◌<◌, ◌∙◌}
+use Rattle.vm_fault.proofs.Prelude.{ap, arith, goes-out, has, MAX_VERSION, may-bring, Origin, ready-after, refl, Seat, subst, sym, ℕ, ◌<◌, ◌∙◌}
 use Rattle.vm_fault.proofs.Prelude.{◌≤◌}
 use Rattle.vm_fault.proofs.fault.bring_locked.Goals as goal
 
@@ -49,10 +48,6 @@ pub raise-requires-clause-legal : goal.raise-requires-clause-legal
 raise-requires-clause-legal g c =
     may-raise _ _ _ _ _ _ (held-empty g.U.Owner.tied c.args.pid c.args.version c.requires.locked.0 _ (within _ c.requires.below) c.requires.locked.1) _ _ _ _ c.block_out-block.ensures.told g.B.Block.tells c.requires.ready.table.tells_is c.read-read.new.into c.read-read.result c.read-read.ensures c.block_home.ensures.told _ c.faults-count.ensures
 
-pub release_evicted-requires-clause-pass : goal.release_evicted-requires-clause-pass
-release_evicted-requires-clause-pass g c =
-    (ready-after _ _ _ c.args.pass.now c.raise.new.pass c.args.pid _ (c.raise.ensures.pass.0 ∙ c.block_home.ensures.pass.0 ∙ c.block_out-block.ensures.pass.0, c.raise.ensures.pass.1 ∙ c.block_home.ensures.pass.1 ∙ c.block_out-block.ensures.pass.1) (work-raised _ _ _ _ _ _ (held-empty g.U.Owner.tied c.args.pid c.args.version c.requires.locked.0 _ (within _ c.requires.below) c.requires.locked.1) _ _ _ _ c.block_out-block.ensures.told g.B.Block.tells c.requires.ready.table.tells_is c.read-read.new.into c.read-read.result c.read-read.ensures c.block_home.ensures.told _ c.faults-count.ensures _ c.raise.ensures.told).leaves c.requires.ready).may
-
 pub release_evicted-requires-clause-legal : goal.release_evicted-requires-clause-legal
 release_evicted-requires-clause-legal g c =
     may-evict _ _ _ _ _ _ (held-empty g.U.Owner.tied c.args.pid c.args.version c.requires.locked.0 _ (within _ c.requires.below) c.requires.locked.1) _ _ _ _ c.block_out-block.ensures.told g.B.Block.tells c.requires.ready.table.tells_is c.read-read.new.into c.read-read.result c.read-read.ensures c.block_home.ensures.told _ c.faults-count.ensures _ c.raise.ensures.told
@@ -60,12 +55,6 @@ release_evicted-requires-clause-legal g c =
 pub returns-in-Ok-clause-fetched : goal.returns-in-Ok-clause-fetched
 returns-in-Ok-clause-fetched g c first found =
     brought _ _ _ _ _ _ (held-empty g.U.Owner.tied c.args.pid c.args.version first _ (within _ c.requires.below) found) _ _ _ _ c.block_out-block.ensures.told g.B.Block.tells c.requires.ready.table.tells_is c.read-read.new.into c.read-read.result c.read-read.ensures c.block_home.ensures.told _ c.in-Ok.is c.args.frame c.requires.frame.1 _ c.fill.ensures.stores _ c.install.ensures.told _ c.own.ensures.told c.requires.below c.requires.home _ c.release_silently.ensures.told (subst (λ n. c.args.pid < n) (sym c.requires.ready.table.is_shape.pages) c.requires.page) (subst (λ n. c.args.frame < n) (sym c.requires.ready.table.is_shape.frames) c.requires.frame.0)
-
-pub returns-in-Err-clause-ready : goal.returns-in-Err-clause-ready
-returns-in-Err-clause-ready g c =
-    let raised = ready-after _ _ _ c.args.pass.now c.raise.new.pass c.args.pid _ (c.raise.ensures.pass.0 ∙ c.block_home.ensures.pass.0 ∙ c.block_out-block.ensures.pass.0, c.raise.ensures.pass.1 ∙ c.block_home.ensures.pass.1 ∙ c.block_out-block.ensures.pass.1) (work-raised _ _ _ _ _ _ (held-empty g.U.Owner.tied c.args.pid c.args.version c.requires.locked.0 _ (within _ c.requires.below) c.requires.locked.1) _ _ _ _ c.block_out-block.ensures.told g.B.Block.tells c.requires.ready.table.tells_is c.read-read.new.into c.read-read.result c.read-read.ensures c.block_home.ensures.told _ c.faults-count.ensures _ c.raise.ensures.told).leaves c.requires.ready in
-    let view-is = c.release_evicted.ensures.told.brings.view in
-    ready-on _ _ _ c.raise.new.pass c.release_evicted.new.pass c.release_evicted.ensures.pass (ap (λ (v : View _). v.start) view-is) (ap (λ (v : View _). v.used) view-is) raised
 
 pub returns-in-Err-clause-fetched : goal.returns-in-Err-clause-fetched
 returns-in-Err-clause-fetched g c first found =
