@@ -2,9 +2,10 @@
 -- its steps.
 use Rattle.vm_step.specs.Evidence.{guarded}
 use Rattle.vm_guard.proofs.Amid.{amid-reads, amid-then, amid-within, nload-amid, other}
+use Rattle.vm_guard.proofs.FreshTouches.{give-places, give-states, seize-places, seize-states, unmoved-at}
 use Rattle.vm_guard.proofs.Prelude.{[], ap, append_assoc, arith, asked, At, Begins, Bool, cases_eq, Did, did_load, Each, each-both, each-map, expected, false}
-use Rattle.vm_guard.proofs.Prelude.{GivesBack, has, HasGiven, Held, holds-still, holds-then, HoldsPage, inl, inr, IsAmid, IsLocking, IsNil, IsQuiet, IsSaw}
-use Rattle.vm_guard.proofs.Prelude.{IsSeized, IsWorn, keeps-then, knows-then, KnowsAsBefore, List, Mapping, ne_eqb, NextTold, nload-others, None, NoWord}
+use Rattle.vm_guard.proofs.Prelude.{GivesBack, has, HasGiven, Held, holds-still, holds-then, HoldsPage, inl, IsAmid, IsLocking, IsNil, IsQuiet, IsSaw}
+use Rattle.vm_guard.proofs.Prelude.{IsSeized, IsWorn, keeps-then, knows-then, KnowsAsBefore, LeavesNone, List, Mapping, ne_eqb, NextTold, nload-others, None, NoWord}
 use Rattle.vm_guard.proofs.Prelude.{Option, Origin, Place, place_at, read, refl, rules, same, Saw, Seat, seat_of, Seizes, Some, still-locking, subst, sym, true}
 use Rattle.vm_guard.proofs.Prelude.{true≢false, UnlockedExpected, Version, View, ℕ, ⊎_elim, ◌++◌, ◌<◌, ◌||◌, ◌∙◌, ◌∷◌, ◌≡◌, ◌≢◌, ◌⊎◌}
 
@@ -18,8 +19,8 @@ between-cut pre earlier later post d done e =
 
 begins-behind : (instead : ℕ → ℕ → Type 0) (at : Place) (first seen : ℕ) (last : Did) (pre earlier since : List Did) → Begins NoWord instead at first seen last earlier since → Begins NoWord instead at first seen last (pre ++ earlier) since
 begins-behind instead at first seen last pre earlier since (guarded k e) = absurd k
-begins-behind instead at first seen last pre earlier since (read before d e g) = read (pre ++ before) d (ap (λ (t : List Did). pre ++ t) e ∙ sym (append_assoc pre before (d ∷ since))) g
-begins-behind instead at first seen last pre earlier since (expected before d word e g i x) = expected (pre ++ before) d word (ap (λ (t : List Did). pre ++ t) e ∙ sym (append_assoc pre before (d ∷ since))) g i x
+begins-behind instead at first seen last pre earlier since (read before d e g l) = read (pre ++ before) d (ap (λ (t : List Did). pre ++ t) e ∙ sym (append_assoc pre before (d ∷ since))) g l
+begins-behind instead at first seen last pre earlier since (expected before d word e g l i x) = expected (pre ++ before) d word (ap (λ (t : List Did). pre ++ t) e ∙ sym (append_assoc pre before (d ∷ since))) g l i x
 begins-behind instead at first seen last pre earlier since (asked word k e i x) = absurd k
 begins-behind instead at first seen last pre earlier since (same e n) = same e n
 
@@ -34,41 +35,30 @@ worn-within p pre done post none s =
     let given : HasGiven (pre ++ (done ++ post)) (Place.State p) s.word = record { earlier = pre ++ s.given.earlier; step = s.given.step; later = s.given.later ++ post; cut = between-cut pre s.given.earlier s.given.later post s.given.step done s.given.cut; gives = s.given.gives } in
     record { word = s.word; given = given; load = s.load; last = s.last; foreign = each-both _ pre s.given.earlier (each-map _ _ (λ d ne here. absurd (ne here)) pre none) s.foreign }
 
--- the steps that lock a page are on its words
-pub not-next : (p : ℕ) (d : Did) → (d.at ≡ Place.State p) ⊎ (d.at ≡ Place.Translation p) → d.at ≢ Place.Next
-not-next p d (inl a) e = absurd (let no : Place.State p ≡ Place.Next = sym a ∙ e in cc)
-not-next p d (inr a) e = absurd (let no : Place.Translation p ≡ Place.Next = sym a ∙ e in cc)
-
-pub not-state : (p q : ℕ) → p ≢ q → (d : Did) → (d.at ≡ Place.State p) ⊎ (d.at ≡ Place.Translation p) → d.at ≢ Place.State q
-not-state p q ne d (inl a) e = let k : Place.State p ≡ Place.State q = sym a ∙ e in let same : p ≡ q = cc in ne same
-not-state p q ne d (inr a) e = absurd (let no : Place.Translation p ≡ Place.State q = sym a ∙ e in cc)
-
--- so they leave the next word
-pub unmoved-at : (p : ℕ) (ds : List Did) → Each (λ (d : Did). (d.at ≡ Place.State p) ⊎ (d.at ≡ Place.Translation p)) ds → Each (λ (d : Did). d.at ≡ Place.Next → d.wrote ≡ None) ds
-unmoved-at p ds e = each-map _ _ (λ (d : Did) is. λ next. absurd (not-next p d is next)) ds e
-
 -- ---- calls that leave nothing
 
 module _ {X : Type 0} where
   pub nil-then : (pages : List ℕ) (a b : List Did) (u v w : View X) → IsNil pages a u v → IsNil pages b v w → IsNil pages (a ++ b) u w
   nil-then pages a b u v w f g =
       let knows = λ (q : ℕ) (l : IsLocking (seat_of u q)). knows-then u v w q (f.knows q l) (g.knows q (still-locking u v q (f.holds q) l)) in
-      search (rules, amid-then pages a b u v w f.amid g.amid, keeps-then u v w f.keeps g.keeps, (λ (q : ℕ). holds-then u v w q (f.holds q) (g.holds q)), knows, each-both (λ (d : Did). d.at ≡ Place.Next → d.wrote ≡ None) a b f.unmoved g.unmoved)
+      search (rules, amid-then pages a b u v w f.amid g.amid, keeps-then u v w f.keeps g.keeps, (λ (q : ℕ). holds-then u v w q (f.holds q) (g.holds q)), knows, each-both (λ (d : Did). d.at ≡ Place.Next → d.wrote ≡ None) a b f.unmoved g.unmoved, each-both _ a b f.states g.states)
 
   -- a load of the next word
   pub nload-nil : (pages : List ℕ) (found : ℕ) (v w : View X) → NextTold found v w → IsNil pages (did_load Place.Next found ∷ []) v w
   nload-nil pages found v w t =
       let f = nload-amid [] found v w t in
       let holds : (q : ℕ) → HoldsPage v w q = λ q. holds-still q (f.seats q refl) in
-      search (rules, nload-amid pages found v w t, (nload-others t (λ q. ⊥)).keeps, t.brings.view, holds, (λ (q : ℕ) (l : IsLocking (seat_of v q)). f.knows q refl l))
+      let states : Each (λ (d : Did). (d.wrote ≡ None) ⊎ ((q : ℕ) × (d.at ≡ Place.State q))) (did_load Place.Next found ∷ []) = (inl refl, tt) in
+      search (rules, nload-amid pages found v w t, (nload-others t (λ q. ⊥)).keeps, t.brings.view, holds, (λ (q : ℕ) (l : IsLocking (seat_of v q)). f.knows q refl l), states)
 
   -- a page that could not be locked
-  pub denied-nil : (pages : List ℕ) (p : ℕ) (done : List Did) (v w : View X) → has p pages ≡ true → p < v.start.pages → Each (λ (d : Did). d.at ≡ Place.State p) done → IsQuiet p done v w → IsNil pages done v w
-  denied-nil pages p done v w e l at f = search (rules, amid-reads pages p done v w e l at f, f, unmoved-at p done (each-map _ _ (λ (d : Did) is. inl is) done at))
+  pub denied-nil : (pages : List ℕ) (p : ℕ) (done : List Did) (v w : View X) → has p pages ≡ true → p < v.start.pages → Each (λ (d : Did). d.at ≡ Place.State p) done → LeavesNone done → IsQuiet p done v w → IsNil pages done v w
+  denied-nil pages p done v w e l at bare f =
+      search (rules, amid-reads pages p done v w e l at f, f, unmoved-at p done (each-map _ _ (λ (d : Did) is. inl is) done at), each-map (λ (d : Did). d.wrote ≡ None) (λ (d : Did). (d.wrote ≡ None) ⊎ ((q : ℕ) × (d.at ≡ Place.State q))) (λ (d : Did) none. inl none) done bare)
 
   -- a page that was locked, and given up after steps on other pages
   pub bracket : (pages less : List ℕ) (p version : ℕ) (stands : Option Mapping) (done : List Did) (v u z w : View X) → has p pages ≡ true → has p less ≡ false → ((q : ℕ) → has q pages ≡ false → has q less ≡ false)
-      → (s : Seizes p version stands v u) → IsNil less done u z → (g : GivesBack p z w) → IsNil pages (s.done ++ (done ++ g.done)) v w
+      → (s : Seizes p version stands v u) → IsNil less done u z → (g : GivesBack p version z w) → IsNil pages (s.done ++ (done ++ g.done)) v w
   bracket pages less p version stands done v u z w e apart within s f g =
       let one : (q : ℕ) → has q pages ≡ false → has q (p ∷ []) ≡ false = λ q none. ap (λ (b : Bool). b || false) (ne_eqb q p (other p q pages e none)) in
       let seat : seat_of z p ≡ record (seat_of v p) { exclusive = true; reading = None } = f.amid.seats p apart ∙ s.seat in
@@ -88,9 +78,9 @@ module _ {X : Type 0} where
       let l2 : IsLocking (seat_of z q) = still-locking u z q (f.holds q) l1 in
       knows-then v u w q (s.amid.knows q (alone q ne) l) (knows-then u z w q (f.knows q l1) (g.amid.knows q (alone q ne) l2)))
       (cases_eq q p) in
-      let given = unmoved-at p g.done (each-map _ _ (λ (d : Did) is. inl is) g.done g.places_are) in
-      let unmoved = each-both _ s.done (done ++ g.done) (unmoved-at p s.done s.places_are) (each-both _ done g.done f.unmoved given) in
-      search (rules, amid, keeps-then v u w s.keeps (keeps-then u z w f.keeps g.keeps), g.group.0 ∙ f.owed ∙ s.group.0, holds, knows, unmoved)
+      let unmoved = each-both _ s.done (done ++ g.done) (unmoved-at p s.done (seize-places s)) (each-both _ done g.done f.unmoved (unmoved-at p g.done (give-places g))) in
+      let states = each-both _ s.done (done ++ g.done) (seize-states s) (each-both _ done g.done f.states (give-states g)) in
+      search (rules, amid, keeps-then v u w s.keeps (keeps-then u z w f.keeps g.keeps), g.group.0 ∙ f.owed ∙ s.group.0, holds, knows, unmoved, states)
     where
       alone : (q : ℕ) → q ≢ p → has q (p ∷ []) ≡ false
       alone q ne = ap (λ (b : Bool). b || false) (ne_eqb q p ne)

@@ -1,5 +1,5 @@
 -- A pass that is alone is given the fresh pages that it knows can be locked.
-use Rattle.vm_guard.proofs.{FreshNone.unmoved-at, FreshNumbers.apart-second}
+use Rattle.vm_guard.proofs.{FreshNumbers.apart-second, FreshTouches.seize-places, FreshTouches.unmoved-at}
 use Rattle.vm_guard.proofs.Amid.{amid-alone, next-known, nload-amid, others-known}
 use Rattle.vm_guard.proofs.Prelude.{[], arith, did_load, found-known, Fresh, IsAlone, IsPages, IsPagesOrWorn, known_next, known_word, known_word_at, Mapping}
 use Rattle.vm_guard.proofs.Prelude.{next_view, NextTold, None, Option, Origin, Place, refl, same-word, Seizes, subst, sym, true≢false, View, words-known, ℕ}
@@ -31,7 +31,7 @@ module _ {X : Type 0} where
 
   -- a lock leaves the next word
   pub seized-next : {p version : ℕ} {stands : Option Mapping} {v u : View X} → Seizes p version stands v u → IsAlone v → known_next u ≡ known_next v
-  seized-next {p = p} {v = v} {u = u} s a = next-known (p ∷ []) s.done v u s.amid (unmoved-at p s.done s.places_are) a
+  seized-next {p = p} {v = v} {u = u} s a = next-known (p ∷ []) s.done v u s.amid (unmoved-at p s.done (seize-places s)) a
 
   -- once the next page is locked the pass is still alone, and knows that page for the next one
   pub next-now : {x pid version : ℕ} {stands : Option Mapping} {v u z : View X} → NextTold x v u → (pid ≡ x) × Seizes x version stands u z → IsAlone v → IsAlone z × (known_next z ≡ pid)

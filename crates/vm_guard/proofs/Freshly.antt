@@ -4,13 +4,14 @@ use Rattle.vm_guard.proofs.{FreshNone.seized-on, Groups.each-page, GuardSteps.st
 use Rattle.vm_guard.proofs.Amid.{amid-alone, amid-then, claim-amid, claim-silent, IsSilent, known-on, known-states, nload-amid, nload-silent}
 use Rattle.vm_guard.proofs.Amid.{others-known, put-known, silent-then, silent-within}
 use Rattle.vm_guard.proofs.FreshNumbers.{apart-first, apart-second, numbers-one, numbers-two, within-first, within-second}
-use Rattle.vm_guard.proofs.Prelude.{[], ap, append_assoc, AreFresh, AreHeld, arith, length, length-append, Bool, cases_eq, claim-brings, claimed_view, ClaimTold, cond-true}
-use Rattle.vm_guard.proofs.Prelude.{contents_at, Did, did_exchange, did_load, draft_of, Each, each-map, eq-eqb, eqb, ExclusiveGuard, false, Furnishes, has}
-use Rattle.vm_guard.proofs.Prelude.{has-both, held-on, held_at, holds-still, if◌then◌else◌, index-below, inl, inr, IsAlone, IsAmid, IsHolding, IsSeized, IsSome}
+use Rattle.vm_guard.proofs.FreshTouches.{amid-none, claim-apart, next-apart, puts-behind, puts-front, seize-else, takes-behind, takes-front, takes-seized}
+use Rattle.vm_guard.proofs.Prelude.{[], TakesOnce, ap, append_assoc, AreFresh, AreHeld, arith, length, length-append, Bool, cases_eq, claim-brings, ClaimTold, cond-true}
+use Rattle.vm_guard.proofs.Prelude.{contents_at, Did, did_exchange, did_load, draft_of, Each, each-both, each-map, eq-eqb, eqb, ExclusiveGuard, false, Furnishes, has}
+use Rattle.vm_guard.proofs.Prelude.{has-both, held-on, held_at, holds-still, index-below, inl, inr, IsAlone, IsAmid, IsHolding, IsSeized, IsSome}
 use Rattle.vm_guard.proofs.Prelude.{IsUnheld, keeps-then, KeepsFrames, known_word_at, KnowsAt, last-known, last_of, List, LOCKED, Mapping, NextTold}
 use Rattle.vm_guard.proofs.Prelude.{nload-others, None, none-some, numbers, Option, or_parts, Origin, PassMayClaim, pids_of, Place, put_at, refl, replicate}
 use Rattle.vm_guard.proofs.Prelude.{reverse, reverse-append, rules, Seat, seat_of, Seizes, Some, subst, sym, true, Version, View, wide-after, Within, without}
-use Rattle.vm_guard.proofs.Prelude.{without_all, word_of, written-behind, ℕ, ⊎_elim, ◌++◌, ◌+◌, ◌<◌, ◌==◌, ◌∙◌, ◌∷◌, ◌≡◌, ◌≢◌, ◌≤◌}
+use Rattle.vm_guard.proofs.Prelude.{without_all, word_of, written-behind, ℕ, ⊎_elim, ◌++◌, ◌+◌, ◌<◌, ◌∙◌, ◌∷◌, ◌≡◌, ◌≢◌, ◌≤◌}
 
 module _ {X : Type 0} where
   -- a page that is held stays so while the call works on others
@@ -24,14 +25,6 @@ module _ {X : Type 0} where
       search (rules, ap, e, ap (λ (y : View X). has p y.owed) (sym t.brings.view), (λ (k : v.next ≡ Some p). none-some p (sym none ∙ k)))
 
   -- ---- the claim
-
-  -- lost or not, it leaves the start and the numbers
-  pub claim-keeps : (x n found : ℕ) (y w : View X) → ClaimTold x n found y w → (w.start ≡ y.start) × (w.used ≡ y.used)
-  claim-keeps x n found y w t = (ap (λ (k : View X). k.start) t.brings.view ∙ (keeps (found == x)).0, ap (λ (k : View X). k.used) t.brings.view ∙ (keeps (found == x)).1)
-    where
-      keeps : (b : Bool) → ((if b then claimed_view x n y else y).start ≡ y.start) × ((if b then claimed_view x n y else y).used ≡ y.used)
-      keeps true = (refl, refl)
-      keeps false = (refl, refl)
 
   -- it finds the next page that was loaded, whose lock the pass holds
   finds-next : (n : ℕ) {x c : ℕ} {u z y w : View X} → NextTold x u z → (seat_of u x).exclusive ≡ true → y.next ≡ z.next → ClaimTold x n c y w → c ≡ x
@@ -87,24 +80,26 @@ module _ {X : Type 0} where
   -- ---- one of the pages
 
   -- what the call, from its start on, made of a page that it gives
-  record IsGiven (p frame version : ℕ) (dirty : Bool) (v w : View X) : Type 0 where
+  record IsGiven (p frame version : ℕ) (dirty : Bool) (done : List Did) (v w : View X) : Type 0 where
     pub unheld : IsUnheld v p
     pub seat : seat_of w p ≡ record (seat_of v p) { exclusive = true; reading = None }
     pub held : IsHolding p frame version dirty w
     pub zero : v.start.tells ≡ true → (draft_of w p ≡ replicate 64 0) × ((last_of w p).words ≡ replicate 64 0)
     pub locked : IsAlone v → KnowsAt (Place.State p) (word_of LOCKED version) w
+    pub once : TakesOnce p version frame dirty done
 
   -- it was locked after steps on other pages, put into a frame after more of them, and then others were
-  given : {p e : ℕ} {stands : Option Mapping} (g : ExclusiveGuard) {before after ps qs rs : List ℕ} {da db dc : List Did} {v x u z y w : View X}
+  given : {p e : ℕ} {stands : Option Mapping} (g : ExclusiveGuard) {before after ps qs rs : List ℕ} {da db dc done : List Did} {v x u z y w : View X}
       → IsAmid ps da v x → Seizes p e stands x u → IsAmid qs db u z → Furnishes p g.frame g.version g.dirty before after z y → IsAmid rs dc y w
       → has p ps ≡ false → has p qs ≡ false → has p rs ≡ false → z.owed ≡ u.owed → g.pid ≡ p → IsUnheld v p → (v.start.tells ≡ true → (last_of z p).words ≡ replicate 64 0)
-      → IsGiven g.pid g.frame g.version g.dirty v w
-  given {p = p} {e = e} {stands = stands} g {ps = ps} {qs = qs} {rs = rs} {da = da} {db = db} {dc = dc} {v = v} {x = x} {u = u} {z = z} {y = y} {w = w} a s b f c na nb nc owed pid unheld zero =
+      → TakesOnce p e g.frame g.dirty done → IsGiven g.pid g.frame g.version g.dirty done v w
+  given {p = p} {e = e} {stands = stands} g {ps = ps} {qs = qs} {rs = rs} {da = da} {db = db} {dc = dc} {done = done} {v = v} {x = x} {u = u} {z = z} {y = y} {w = w} a s b f c na nb nc owed pid unheld zero takes =
       let locked : IsSeized p e stands z = seized-on s.seized b nb owed in
       let k = c.knows p nc (inl f.holding.owns) in
       let word : ℕ = word_of LOCKED e in
       let same : e ≡ g.version = sym (sym f.holding.at ∙ ap (λ (o : Version). o.version) f.last ∙ locked.at) in
-      subst (λ n. IsGiven n g.frame g.version g.dirty v w) (sym pid) (record {
+      subst (λ n. IsGiven n g.frame g.version g.dirty done v w) (sym pid) (record {
+        once = subst (λ n. TakesOnce p n g.frame g.dirty done) same takes;
         unheld = unheld;
         seat = c.seats p nc ∙ f.seat ∙ b.seats p nb ∙ s.seat ∙ ap (λ (o : Seat). record o { exclusive = true; reading = None }) (a.seats p na);
         held = holding-on p g.frame g.version g.dirty rs dc y w f.holding c nc;
@@ -148,7 +143,7 @@ module _ {X : Type 0} where
       (f.own, omega (arith, two, few, ap length f.cut ∙ length-append after (reverse f.taken), length-reverse f.taken))
 
   fresh-of : (x n : ℕ) (pages : List ℕ) (gs : List ExclusiveGuard) (before after : List ℕ) (c : ℕ) (mid : List Did) (v v1 z y w : View X) → NextTold x v v1 → ClaimTold x n c y w → c ≡ x → pages ≡ numbers x n → pids_of gs ≡ pages
-      → x + n ≤ v.start.pages → IsSilent pages mid v1 y → Each (λ (g : ExclusiveGuard). IsGiven g.pid g.frame g.version g.dirty v w) gs → KeepsFrames v z → z.owed ≡ v.owed → ArePut before after z y
+      → x + n ≤ v.start.pages → IsSilent pages mid v1 y → Each (λ (g : ExclusiveGuard). IsGiven g.pid g.frame g.version g.dirty (did_load Place.Next x ∷ (mid ++ did_exchange Place.Next x c (x + n) ∷ [])) v w) gs → KeepsFrames v z → z.owed ≡ v.owed → ArePut before after z y
       → AreFresh (numbers x n) x n gs before after v w
   fresh-of x n pages gs before after c mid v v1 z y w first claim is same pids inside steps each keeps owed put =
       let load : Did = did_load Place.Next x in
@@ -177,6 +172,7 @@ module _ {X : Type 0} where
         contents = λ f left. ap (λ (k : View X). contents_at k f) view ∙ put.contents f left ∙ ap (λ l. put_at [] l f) keeps.contents;
         loaded = (rest, refl);
         claimed = written-behind (load ∷ mid) (did ∷ []) Place.Next (x + n) (record { earlier = []; step = did; later = []; cut = refl; place = refl; wrote = written });
+        once = each-map _ _ (λ (g : ExclusiveGuard) k. k.once) gs each;
         silent = all.1;
         locked = λ a. each-map _ _ (λ (g : ExclusiveGuard) k. now (Place.State g.pid) (word_of LOCKED g.version) a k.held.page (k.locked a)) gs each;
         moved = λ a. now Place.Next (x + n) a tt (last-known (load ∷ mid) did (x + n) all.0.own v w all.0.start all.0.runs written a);
@@ -184,7 +180,7 @@ module _ {X : Type 0} where
         current = ap (λ (k : View X). k.current) view;
       })
     where
-      page : (P : ℕ → Type 0) → ((g : ExclusiveGuard) → IsGiven g.pid g.frame g.version g.dirty v w → P g.pid) → (q : ℕ) → has q pages ≡ true → P q
+      page : (P : ℕ → Type 0) → ((g : ExclusiveGuard) → IsGiven g.pid g.frame g.version g.dirty (did_load Place.Next x ∷ (mid ++ did_exchange Place.Next x c (x + n) ∷ [])) v w → P g.pid) → (q : ℕ) → has q pages ≡ true → P q
       page P so q e = each-page P gs q (ap (has q) pids ∙ e) (each-map _ _ so gs each)
 
   pub fresh-one : (x version : ℕ) (stands : Option Mapping) (g : ExclusiveGuard) (before after : List ℕ) (c : ℕ) (v v1 u z y w : View X) → v.next ≡ None → NextTold x v v1 → Seizes x version stands v1 u → NextTold x u z
@@ -192,12 +188,15 @@ module _ {X : Type 0} where
   fresh-one x version stands g before after c v v1 u z y w none first s second f claim pid inside =
       let all : List ℕ = x ∷ [] in
       let load : List Did = did_load Place.Next x ∷ [] in
+      let did : List Did = did_exchange Place.Next x c (x + 1) ∷ [] in
       let is : c ≡ x = finds-next 1 second s.seized.owns f.group.1 claim in
       let at-first = nload-amid [] x v v1 first in
       let at-second = nload-amid [] x u z second in
       let owed : z.owed ≡ u.owed = ap (λ (k : View X). k.owed) second.brings.view in
       let page = given g at-first s at-second f (claim-amid [] x 1 c y w is claim) refl refl refl owed pid (unheld-before x v v1 none first x s.unheld)
-      (zero-at v second (s.amid.start ∙ at-first.start) x (omega arith) (omega (arith, inside))) in
+      (zero-at v second (s.amid.start ∙ at-first.start) x (omega arith) (omega (arith, inside)))
+      (takes-behind load (s.done ++ (load ++ f.done) ++ did) (next-apart x x) (takes-front (s.done ++ (load ++ f.done)) did (claim-apart x c (x + 1) x)
+      (takes-seized s (load ++ f.done) (each-both _ load f.done (next-apart x x).0 f.locks) (puts-behind x g.frame g.dirty load f.done (next-apart x x).1 f.puts)))) in
       fresh-of x 1 all (g ∷ []) before after c (s.done ++ (load ++ f.done)) v v1 z y w first claim is (sym (numbers-one x)) (ap (λ (n : ℕ). n ∷ []) pid) inside
       (silent-then all s.done (load ++ f.done) v1 u y (s.amid, s.silent) (silent-then all load f.done u z y (nload-silent all x u z second) (f.amid, f.silent)))
       (page, tt)
@@ -214,6 +213,8 @@ module _ {X : Type 0} where
       let all : List ℕ = x ∷ (x + 1) ∷ [] in
       let load : List Did = did_load Place.Next x ∷ [] in
       let did : List Did = did_exchange Place.Next x c (x + 2) ∷ [] in
+      let rest-one : List Did = b.done ++ (load ++ (f.done ++ h.done)) in
+      let mid-steps : List Did = a.done ++ rest-one in
       let is : c ≡ x = finds-next 2 second (ap (λ (k : Seat). k.exclusive) (b.amid.seats x (apart-first x)) ∙ a.seized.owns) (h.group.1 ∙ f.group.1) claim in
       let at-first = nload-amid [] x v v1 first in
       let at-second = nload-amid [] x u2 z second in
@@ -221,11 +222,18 @@ module _ {X : Type 0} where
       let owed : z.owed ≡ u2.owed = ap (λ (k : View X). k.owed) second.brings.view in
       let unheld : IsUnheld v1 (x + 1) = unheld-same (x + 1) v1 u1 (holds-still (x + 1) (a.amid.seats (x + 1) (apart-second x))) a.group.0 a.group.1 b.unheld in
       let page-one = given g1 at-first a (amid-then two b.done load u1 u2 z b.amid (nload-amid two x u2 z second)) f (amid-then two h.done did y1 y w h.amid (claim-amid two x 2 c y w is claim)) refl (apart-first x) (apart-first x)
-      (owed ∙ b.group.0) pid1 (unheld-before x v v1 none first x a.unheld) (zero-at v second start x (omega arith) (omega (arith, inside))) in
+      (owed ∙ b.group.0) pid1 (unheld-before x v v1 none first x a.unheld) (zero-at v second start x (omega arith) (omega (arith, inside)))
+      (takes-behind load (mid-steps ++ did) (next-apart x x) (takes-front mid-steps did (claim-apart x c (x + 2) x)
+      (takes-seized a rest-one (each-both _ b.done (load ++ (f.done ++ h.done)) (seize-else b x (λ e. absurd (omega (arith, e)))) (each-both _ load (f.done ++ h.done) (next-apart x x).0 (each-both _ f.done h.done f.locks (amid-none x h.amid (apart-first x)).0)))
+      (puts-behind x g1.frame g1.dirty b.done (load ++ (f.done ++ h.done)) (amid-none x b.amid (apart-first x)).1 (puts-behind x g1.frame g1.dirty load (f.done ++ h.done) (next-apart x x).1 (puts-front x g1.frame g1.dirty f.done h.done (amid-none x h.amid (apart-first x)).1 f.puts)))))) in
       let page-two = given g2 (amid-then one load a.done v v1 u1 (nload-amid one x v v1 first) a.amid) b (amid-then one load f.done u2 z y1 (nload-amid one x u2 z second) f.amid) h (claim-amid [] x 2 c y w is claim) (apart-second x) (apart-second x) refl
       (f.group.0 ∙ owed) pid2 (unheld-before x v v1 none first (x + 1) unheld)
       (λ t. ap (λ (o : Version). o.words) (f.amid.knows (x + 1) (apart-second x) (inl (ap (λ (k : Seat). k.exclusive) (at-second.seats (x + 1) refl) ∙ b.seized.owns))).last
-      ∙ zero-at v second start (x + 1) (omega arith) (omega (arith, inside)) t) in
+      ∙ zero-at v second start (x + 1) (omega arith) (omega (arith, inside)) t)
+      (takes-behind load (mid-steps ++ did) (next-apart x (x + 1)) (takes-front mid-steps did (claim-apart x c (x + 2) (x + 1))
+      (takes-behind a.done rest-one (amid-none (x + 1) a.amid (apart-second x))
+      (takes-seized b (load ++ (f.done ++ h.done)) (each-both _ load (f.done ++ h.done) (next-apart x (x + 1)).0 (each-both _ f.done h.done (amid-none (x + 1) f.amid (apart-second x)).0 h.locks))
+      (puts-behind (x + 1) g2.frame g2.dirty load (f.done ++ h.done) (next-apart x (x + 1)).1 (puts-behind (x + 1) g2.frame g2.dirty f.done h.done (amid-none (x + 1) f.amid (apart-second x)).1 h.puts)))))) in
       fresh-of x 2 all (g1 ∷ g2 ∷ []) before after c (a.done ++ (b.done ++ (load ++ (f.done ++ h.done)))) v v1 z y w first claim is (sym (numbers-two x)) (λ i. pid1 i ∷ pid2 i ∷ []) inside
       (silent-then all a.done (b.done ++ (load ++ (f.done ++ h.done))) v1 u1 y (silent-within all one a.done v1 u1 (within-first x) a.amid a.silent)
       (silent-then all b.done (load ++ (f.done ++ h.done)) u1 u2 y (silent-within all two b.done u1 u2 (within-second x) b.amid b.silent)

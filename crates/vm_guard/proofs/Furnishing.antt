@@ -5,8 +5,8 @@ use Rattle.vm_guard.proofs.Groups.{each-with, lacks}
 use Rattle.vm_rule.specs.Prelude.{StandsIn}
 use Rattle.vm_step.specs.steps.Owner.{OwnerTold}
 use Rattle.vm_step.proofs.steps.Owner.{settle-did, settle-frames, settle-held, settle-notes, settle-out, settle-works, stands-installed}
-use Rattle.vm_guard.proofs.Prelude.{[], ap, append-none, AreApart, AreHeld, arith, clean_in, contents_at, Did, Each, each-both, each-map, false, false≢true}
-use Rattle.vm_guard.proofs.Prelude.{filled, fills, Fills, FillTold, Furnishes, has, has-both, has-without_other, Held, held_at, inl, InstallTold, IsHolding}
+use Rattle.vm_guard.proofs.Prelude.{[], did_store, leaves-both, put_did, PutsOnce, WritesNone, ap, append-none, AreApart, AreHeld, arith, clean_in, contents_at, Did, Each, each-both, each-map, false, false≢true}
+use Rattle.vm_guard.proofs.Prelude.{filled, fills, Fills, FillTold, Furnishes, has, has-both, has-without_other, Held, held_at, inl, inr, InstallTold, IsHolding}
 use Rattle.vm_guard.proofs.Prelude.{IsPlaceOf, IsSeized, knows-after, KnowsStates, last_of, length, length-replicate, List, Mapping, MayPutInto, no_held, None}
 use Rattle.vm_guard.proofs.Prelude.{or_parts, Origin, Place, put_at, refl, replicate, rules, Seat, slice_set, Some, Stores, stores-did, subst, suc, sym, true}
 use Rattle.vm_guard.proofs.Prelude.{upd-other, View, without, Works, works-then, ℕ, ◌++◌, ◌+◌, ◌<◌, ◌∙◌, ◌∷◌, ◌≡◌, ◌≢◌, ◌≤◌}
@@ -62,6 +62,8 @@ module _ {X : Type 0} where
     contents = λ g none. refl;
     silent = (none-silent (p ∷ []) v).1;
     states = λ a q l. refl;
+    locks = tt;
+    puts = inl tt;
   }
 
   module _ (p version f : ℕ) (before after : List ℕ) (v : View X) (s : IsSeized p version None v) (zero : v.start.tells ≡ true → (last_of v p).words ≡ zeros) (own : AreHeld before v) (cut : before ≡ after ++ f ∷ []) where
@@ -105,13 +107,26 @@ module _ {X : Type 0} where
             (settle-out t named ∙ filling.out) (settle-notes t named ∙ filling.notes) work.alone
             (each-both (λ (d : Did). IsPlaceOf v.start (p ∷ []) d.at) (stores-did f 0 zeros) (settle-did t named) (stores-places v.start (p ∷ []) f frame-own.0 0 zeros (omega arith)) ((s.page, self-has p), (frame-own.0, tt)))
 
-        -- no step is at a state word
+        -- no step is at a state word, and none but one at a translation word
+        states-none : (q : ℕ) → WritesNone (Place.State q) done
+        states-none q =
+            each-both (λ (d : Did). d.at ≡ Place.State q → d.wrote ≡ None) (stores-did f 0 zeros) (settle-did t named)
+            (each-map (λ (d : Did). IsPlaceOf v.start [] d.at) (λ (d : Did). d.at ≡ Place.State q → d.wrote ≡ None) (λ (d : Did) is at. absurd (false≢true (subst (IsPlaceOf v.start []) at is).1)) (stores-did f 0 zeros) (stores-places v.start [] f frame-own.0 0 zeros (omega arith)))
+            ((λ e. absurd (let no : Place.Translation p ≡ Place.State q = e in cc)), ((λ e. absurd (let no : Place.Owner f ≡ Place.State q = e in cc)), tt))
+
+        puts-w : PutsOnce p f false done
+        puts-w =
+            inr (
+              refl,
+              leaves-both (Place.Translation p) [] (put_did p f ∷ []) (stores-did f 0 zeros) (settle-did t named)
+                  (each-map (λ (d : Did). IsPlaceOf v.start [] d.at) (λ (d : Did). d.at ≡ Place.Translation p → d.wrote ≡ None) (λ (d : Did) is at. absurd (false≢true (subst (IsPlaceOf v.start []) at is).1)) (stores-did f 0 zeros) (stores-places v.start [] f frame-own.0 0 zeros (omega arith)))
+                  ([], did_store (Place.Owner f) (p + 1) ∷ [], refl, tt, ((λ e. absurd (let no : Place.Owner f ≡ Place.Translation p = e in cc)), tt)),
+            )
+
         states-w : KnowsStates v w
         states-w a q l =
             (knows-after done [] v w work.leaves.start work.alone).kept a (Place.State q) l
-            (each-both (λ (d : Did). d.at ≡ Place.State q → d.wrote ≡ None) (stores-did f 0 zeros) (settle-did t named)
-            (each-map (λ (d : Did). IsPlaceOf v.start [] d.at) (λ (d : Did). d.at ≡ Place.State q → d.wrote ≡ None) (λ (d : Did) is at. absurd (false≢true (subst (IsPlaceOf v.start []) at is).1)) (stores-did f 0 zeros) (stores-places v.start [] f frame-own.0 0 zeros (omega arith)))
-            ((λ e. absurd (let no : Place.Translation p ≡ Place.State q = e in cc)), ((λ e. absurd (let no : Place.Owner f ≡ Place.State q = e in cc)), tt)))
+            (states-none q)
 
         pub furnish-empty : Furnishes p f version false before after v w
         furnish-empty =
@@ -142,4 +157,6 @@ module _ {X : Type 0} where
               contents = λ g none. ap (λ (y : View X). contents_at y g) named.brings.view ∙ ap (λ (y : View X). contents_at y g) t.brings.view ∙ stores-elsewhere f 0 zeros v u stores g (other f g (f ∷ []) (self-has f) none);
               silent = steps.1;
               states = states-w;
+              locks = states-none p;
+              puts = puts-w;
             }

@@ -2,7 +2,7 @@
 use Rattle.vm_guard.proofs.Groups.{all-beside, all-then, among, AreAllGiven, each-page, given-up, IsRest, lacks, without-absent, without-front}
 use Rattle.vm_guard.proofs.Prelude.{[], ap, append_assoc, AreApart, AreGivenUp, AreReleased, arith, Change, cond-false, draft_of, Each, each-map, entries_of}
 use Rattle.vm_guard.proofs.Prelude.{Entry, eqb, ExclusiveGuard, false, Follows, get_or-set_other, has, has-left_of, has-without_all_same, History, IsAlone}
-use Rattle.vm_guard.proofs.Prelude.{IsGroupReleased, IsKeptNow, IsUnlockedWord, Kept, last-is, last_in, last_of, List, MAX_VERSION, MayReleaseAll}
+use Rattle.vm_guard.proofs.Prelude.{IsGroupReleased, IsKeptNow, IsUnlockedWord, Kept, last-is, last_in, last_of, last_pid, List, MAX_VERSION, MayReleaseAll}
 use Rattle.vm_guard.proofs.Prelude.{next_after_all, Option, or_right, Origin, pids_of, refl, Release, release-here, release_steps, released_words}
 use Rattle.vm_guard.proofs.Prelude.{releases-else, releases_of, ReleaseTold, rules, slice_index, slice_set, Start, subst, sym, true, Version, version_of, View}
 use Rattle.vm_guard.proofs.Prelude.{without, without_all, words_with, ℕ, ◌++◌, ◌+◌, ◌<◌, ◌∙◌, ◌∷◌, ◌≡◌, ◌≢◌, ◌≤◌}
@@ -79,8 +79,8 @@ module _ {X : Type 0} where
       let alone = λ (a : IsAlone v) (q : ℕ) (none : has q (pids_of (g ∷ gs)) ≡ false). ap (λ (x : Version). x.words) (same a q ∙ last-else v (g ∷ gs) v.releases q none) in
       search (rules, t, k, all-beside (g ∷ gs) v w all, rest.mine ∙ ap (λ (y : View X). y.mine) view, entry, pending-then, owed, rest.group.2 ∙ ap (λ (y : View X). next_after_all ps y.next) view, all, rest.current (ap (λ (y : View X). y.current) view), words, free, last, alone)
 
-  -- and what the layer above keeps at the first of them
+  -- and what the layer above keeps at the first of them, and at the last
   pub group-released : (may_release : Start → List ℕ → List Change → List (Entry X) → Type 0) (keeps : Start → Kept X → Type 0) (g : ExclusiveGuard) (gs : List ExclusiveGuard) (said : Option X) (v u w : View X) → MayReleaseAll may_release (g ∷ gs) said v
-      → ReleaseTold g.pid g.version (pids_of gs) said v u → AreGivenUp gs u w → (v.start.tells ≡ true → IsKeptNow keeps g.pid (Unit {0}) u) → IsGroupReleased keeps (g ∷ gs) said v w
+      → ReleaseTold g.pid g.version (pids_of gs) said v u → AreGivenUp gs u w → (v.start.tells ≡ true → IsKeptNow keeps g.pid (Unit {0}) u) → (v.start.tells ≡ true → IsKeptNow keeps (last_pid g gs) (Unit {0}) w) → IsGroupReleased keeps (g ∷ gs) said v w
   unfolding released
-  group-released may_release keeps g gs said v u w may t k kept = (released may_release g gs said v u w may t k, kept)
+  group-released may_release keeps g gs said v u w may t k kept last = (released may_release g gs said v u w may t k, kept, last)

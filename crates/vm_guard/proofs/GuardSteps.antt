@@ -1,35 +1,22 @@
 -- What the calls on a page that is locked already leave of the view: a word read, a word set, a share given up, a release, and one to a share.
 use Rattle.std.proofs.Common.{get_or-set_other, get_or-set_same, length-set}
-use Rattle.vm_guard.proofs.Prelude.{[], alone-self, alone-then, ap, arith, Bool, Change, cond-false, Did, did_store, dirty-held, dirty-others, dirty-works}
+use Rattle.vm_guard.proofs.Prelude.{[], alone-self, alone-then, ap, arith, Bool, Change, cond-false, Did, did_change, did_store, dirty-held, dirty-others, dirty-works}
 use Rattle.vm_guard.proofs.Prelude.{dirty_in, dirty_steps, DirtyTold, downgrade-last, downgrade-others, downgrade-seat, DowngradeTold, draft_of, Drafts}
-use Rattle.vm_guard.proofs.Prelude.{entries_of, Entry, false, has, HasShape, HasWritten, Held, held_at, holds-still, holds-then, HoldsPage, index_of, inl, inr}
-use Rattle.vm_guard.proofs.Prelude.{IsAlone, IsClaimed, IsDirtied, IsDowngraded, IsFirst, IsHolding, IsNotOut, IsOf, IsReady, IsReleased, IsSamePass, IsSet}
-use Rattle.vm_guard.proofs.Prelude.{IsSharing, IsSome, IsSteady, IsUnlockedWord, IsUnshared, IsWhole, known_word, KnowsAsBefore, KnowsStates, last_in, last_of}
-use Rattle.vm_guard.proofs.Prelude.{LeavesOwn, length, List, Mapping, MAX_VERSION, MayDowngrade, MayGiveUp, MayStep, no_held, None, Option, Origin, own-then}
-use Rattle.vm_guard.proofs.Prelude.{Pass, PassMayRelease, Place, put_at, reads-then, refl, Release, release-last, release-loads, release-others, release-own}
-use Rattle.vm_guard.proofs.Prelude.{release-seat, releases-else, ReleaseTold, rules, RunsAlone, Seat, seat_of, Shape, slice_index, slice_set, Some, Start}
+use Rattle.vm_guard.proofs.Prelude.{entries_of, Entry, false, has, HasWritten, Held, held_at, holds-still, holds-then, HoldsPage, index_of, inl, inr}
+use Rattle.vm_guard.proofs.Prelude.{IsAlone, IsClaimed, IsDirtied, IsDowngraded, IsFirst, IsHolding, IsNotOut, IsReleased, IsSet}
+use Rattle.vm_guard.proofs.Prelude.{IsSharing, IsSome, IsUnlockedWord, IsUnshared, IsWhole, known_word, KnowsAsBefore, KnowsStates, last_in, last_of}
+use Rattle.vm_guard.proofs.Prelude.{LeavesOwn, length, List, Mapping, MAX_VERSION, MayDowngrade, MayGiveUp, no_held, None, Option, Origin, own-then}
+use Rattle.vm_guard.proofs.Prelude.{PassMayRelease, Place, put_at, reads-then, refl, Release, release-last, release-loads, release-others, release-own}
+use Rattle.vm_guard.proofs.Prelude.{release-seat, releases-else, ReleaseTold, rules, RunsAlone, Seat, seat_of, slice_index, slice_set, Some, Start}
 use Rattle.vm_guard.proofs.Prelude.{state_of, still-alone, store-draft, store-held, store-last, store-loads, store-others, store-own, store-seat, StoresTold}
-use Rattle.vm_guard.proofs.Prelude.{StoreTold, subst, sym, TableId, trans_word, true, unshare-knows, unshare-loads, unshare-others, unshare-own, unshare-seat}
-use Rattle.vm_guard.proofs.Prelude.{UnshareTold, Version, version_of, View, view, without, ℕ, ◌*◌, ◌++◌, ◌+◌, ◌-◌, ◌<◌, ◌^◌, ◌∙◌, ◌∷◌, ◌≡◌, ◌≢◌, ◌≤◌}
+use Rattle.vm_guard.proofs.Prelude.{StoreTold, subst, sym, trans_word, true, unshare-knows, unshare-loads, unshare-others, unshare-own, unshare-seat}
+use Rattle.vm_guard.proofs.Prelude.{UnshareTold, Version, version_of, View, without, ℕ, ◌*◌, ◌++◌, ◌+◌, ◌-◌, ◌<◌, ◌^◌, ◌∙◌, ◌∷◌, ◌≡◌, ◌≢◌, ◌≤◌}
 use Rattle.vm_guard.proofs.QuietSteps.{alone-of, elsewhere-of, elsewhere-then, quiet-elsewhere, quiet-none}
 use Rattle.vm_guard.proofs.Sure.{free-after, state-inside}
-
--- ---- the pass is ready for its next call
 
 -- the same pass after two steps: the numbers of both
 pub same-then : {A B : Type 0} {a b c : A} {x y z : B} → (c ≡ b) × (z ≡ y) → (b ≡ a) × (y ≡ x) → (c ≡ a) × (z ≡ x)
 same-then p q = (p.0 ∙ q.0, p.1 ∙ q.1)
-
-module _ {U X : Type 0} {o : _} {shape : Shape} {tells : Bool} {t : TableId} (a : Pass U X o) {b : Pass U X o} {done : List Did} {own : List Release} where
-  pub ready-from : MayStep t a → IsOf shape tells (view a) → b.badge.table_id ≡ a.badge.table_id → IsSteady done own (view a) (view b) → IsReady shape tells t b
-  ready-from may is same f = record {
-    may = (same ∙ may.0, subst (λ (ns : List ℕ). 0 < length ns) (sym f.parts.0) may.1);
-    table = record { is_shape = subst (HasShape shape) (sym f.start) is.is_shape; tells_is = ap (λ (s : Origin). s.tells) f.start ∙ is.tells_is };
-  }
-
-pub ready-then : {U X : Type 0} {o : _} {shape : Shape} {tells : Bool} {t : TableId} {a b : Pass U X o} {done : List Did} {own : List Release} → IsReady shape tells t a → IsSamePass a b → IsSteady done own (view a) (view b)
-    → IsReady shape tells t b
-ready-then {a = a} r same f = ready-from a r.may r.table same.0 f
 
 -- ---- each call
 
@@ -43,7 +30,8 @@ module _ {X : Type 0} where
       ap (λ (l : List ℕ). slice_index l p) steps.1
       ∙ get_or-set_same v.snapshot.words p (found - 2 ^ 56) 0 (state-inside p v.snapshot.words (subst (λ (n : ℕ). 1 ≤ state_of n) steps.0 t.shared))
       ∙ ap (λ (n : ℕ). n - 2 ^ 56) steps.0 in
-      search (rules, elsewhere-of f, unshare-own t, alone-of f, unshare-seat t, unshare-loads t, unshare-knows t p (inr shares), table, known, t.brings.view)
+      let steps : (n : ℕ) × (did_change (Place.State p) found (found - 2 ^ 56) ∷ [] ≡ did_change (Place.State p) n (n - 2 ^ 56) ∷ []) = (found, refl) in
+      search (rules, elsewhere-of f, unshare-own t, alone-of f, unshare-seat t, unshare-loads t, unshare-knows t p (inr shares), steps, table, known, t.brings.view)
 
   -- ---- a word of the draft
 

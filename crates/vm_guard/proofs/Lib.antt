@@ -18,6 +18,7 @@ pub mod Amid
 pub mod Seizing
 pub mod Furnishing
 pub mod FreshNumbers
+pub mod FreshTouches
 pub mod FreshNone
 pub mod Freshly
 pub mod FreshSure

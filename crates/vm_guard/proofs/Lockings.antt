@@ -1,15 +1,19 @@
 -- A lock or a share that was taken: the look, the exchange, and the load of the translation word.
 use Rattle.vm_guard.proofs.{Leaving.older-read, QuietSteps.alone-of, QuietSteps.elsewhere-of}
 use Rattle.vm_guard.proofs.OpenReads.{frame-some, has-lock, validates-before}
-use Rattle.vm_guard.proofs.Prelude.{[], ap, arith, cond-true, Did, did_exchange, did_load, draft_of, Each, each-both, each-map, eq-eqb, eqb, frame_of, framed}
+use Rattle.vm_guard.proofs.Prelude.{[], LocksBy, share_did, SharesBy, TakesBy, ap, arith, cond-true, Did, did_load, draft_of, Each, each-both, each-map, eq-eqb, eqb, frame_of, framed}
 use Rattle.vm_guard.proofs.Prelude.{has, has_lock, HasRoom, HasWritten, Held, held_at, HoldsPage, inl, inr, IsAlone, IsHolding, IsLocked, IsLocking, IsSeized}
 use Rattle.vm_guard.proofs.Prelude.{IsShared, IsSharing, IsSome, IsToExpect, IsUnheld, knows-then, KnowsAsBefore, KnowsSame, last_of, LeavesOthers, LeavesOwn}
-use Rattle.vm_guard.proofs.Prelude.{length, List, lock-draft, lock-held, lock-others, lock-own, lock-seat, LOCKED, LockTold, LockValidates, look-holds}
+use Rattle.vm_guard.proofs.Prelude.{length, List, lock_did, lock-draft, lock-held, lock-others, lock-own, lock-seat, LOCKED, LockTold, LockValidates, look-holds}
 use Rattle.vm_guard.proofs.Prelude.{look-others, look-own, looked-knows, LookTold, Mapping, mapping_of, MAX_VERSION, no_held, None, none-some, one_share_more}
 use Rattle.vm_guard.proofs.Prelude.{Open, Option, or_left, Origin, others-then, own-then, Place, put, put_at, refl, rules, Seat, seat_of, set_if, share-brings}
 use Rattle.vm_guard.proofs.Prelude.{share-last, share-others, share-own, share-seat, ShareTold, Some, Start, state_of, still-alone, still-locking, subst, sym}
 use Rattle.vm_guard.proofs.Prelude.{tload-holds, tload-knows, tload-others, tload-own, tload-seat, TranslationTold, true, Version, version_of, View, word_of, ℕ}
 use Rattle.vm_guard.proofs.Prelude.{◌++◌, ◌+◌, ◌<◌, ◌∙◌, ◌∷◌, ◌≡◌, ◌≢◌, ◌≤◌, ◌⊎◌}
+
+-- a page of the table, as the view knows it that looked at the page's word
+pub page-looked : {X : Type 0} {tied : Start → ℕ → List ℕ → ℕ → List ℕ → Type 0} {p word n : ℕ} {v u : View X} → LookTold tied p None word v u → u.start.pages ≡ n → p < n → p < v.start.pages
+page-looked {p = p} look same page = subst (λ (n : ℕ). p < n) (sym same ∙ ap (λ (y : View _). y.start.pages) look.brings.view) page
 
 -- a page of which the pass has no lock after a call that left its locks was so before
 pub unheld-same : {X : Type 0} (p : ℕ) (v u : View X) → HoldsPage v u p → u.owed ≡ v.owed → u.next ≡ v.next → IsUnheld u p → IsUnheld v p
@@ -26,14 +30,16 @@ module _ {X : Type 0} {tied : Start → ℕ → List ℕ → ℕ → List ℕ �
 pub seized-holding : {X : Type 0} {p version : ℕ} {m : Mapping} {v : View X} → IsSeized p version (Some m) v → IsHolding p m.frame version m.dirty v
 seized-holding {m = m} s = record { page = s.page; frame_is = s.inside m refl; below = s.below; owns = s.owns; stands = s.mapping; owned = s.owned m refl; told = s.told; at = s.at; size = ap length s.draft ∙ s.size; free = s.free }
 
--- the exchange that locks the page, where it was not lost
-abbrev pub lock-did : ℕ → ℕ → Did
-lock-did p expects = did_exchange (Place.State p) expects expects (word_of LOCKED (version_of expects))
+-- the steps that take a lock are at the page's words
+pub takes-places : {p translation : ℕ} {taken : Did} {done : List Did} → taken.at ≡ Place.State p → TakesBy p taken translation done → Each (λ (d : Did). (d.at ≡ Place.State p) ⊎ (d.at ≡ Place.Translation p)) done
+takes-places {p = p} {translation = translation} {taken = taken} at t =
+    subst (Each (λ (d : Did). (d.at ≡ Place.State p) ⊎ (d.at ≡ Place.Translation p))) (sym t.cut)
+    (each-both _ t.before (taken ∷ did_load (Place.Translation p) translation ∷ []) (each-map _ _ (λ (d : Did) k. inl k.0) t.before t.looks) (inl at, (inr refl, tt)))
 
 -- what the exchange and the load of the translation word leave
 module _ {X : Type 0} {tied : Start → ℕ → List ℕ → ℕ → List ℕ → Type 0} {p expects found : ℕ} {u x w : View X} (word : ℕ) (version : version_of word ≡ version_of expects) (below : version_of expects < MAX_VERSION) (t : LockTold tied p expects expects u x)
     (load : TranslationTold p found x w) where
-  pub lock-wrote : (lock-did p expects).wrote ≡ Some (word_of LOCKED (version_of word))
+  pub lock-wrote : (lock_did p expects).wrote ≡ Some (word_of LOCKED (version_of word))
   lock-wrote = cond-true (eqb expects expects) (Some (word_of LOCKED (version_of expects))) None (eq-eqb expects expects refl) ∙ ap (λ (n : ℕ). Some (word_of LOCKED n)) (sym version)
 
   lock-known : KnowsAsBefore x w p
@@ -45,7 +51,7 @@ module _ {X : Type 0} {tied : Start → ℕ → List ℕ → ℕ → List ℕ �
   maps-then : (held_at w p).mapping ≡ mapping_of found
   maps-then = ap (λ (h : Held). h.mapping) lock-known.held ∙ sym (load.called (or_left (seat_of x p).exclusive (seat_of x p).writing (lock-owns t)))
 
-  lock-steps : LeavesOthers (λ q. q ≡ p) (lock-did p expects ∷ did_load (Place.Translation p) found ∷ []) [] u w
+  lock-steps : LeavesOthers (λ q. q ≡ p) (lock_did p expects ∷ did_load (Place.Translation p) found ∷ []) [] u w
   lock-steps = others-then (lock-others refl t (λ q. q ≡ p) refl) (tload-others load (λ q. q ≡ p) refl)
 
   pub seat-then : {v : View X} → HoldsPage v u p → seat_of w p ≡ record (seat_of v p) { exclusive = true; reading = None }
@@ -73,22 +79,22 @@ module _ {X : Type 0} {tied : Start → ℕ → List ℕ → ℕ → List ℕ �
 
   -- behind steps that left the locks and the words, and at most another open read of the page
   pub locked-after : {m : Mapping} {pre : List Did} {v : View X} → mapping_of found ≡ Some m → LeavesOthers (λ q. q ≡ p) pre [] v u → LeavesOwn v u → HoldsPage v u p → KnowsSame v u → p < v.start.pages
-      → ((o : Open) → (seat_of v p).reading ≡ Some o → o.version ≤ version_of word) → (v.start.tells ≡ true → LockValidates tied p (version_of word) (last_of x p).words v) → Each (λ (d : Did). d.at ≡ Place.State p) pre
+      → ((o : Open) → (seat_of v p).reading ≡ Some o → o.version ≤ version_of word) → (v.start.tells ≡ true → LockValidates tied p (version_of word) (last_of x p).words v) → Each (λ (d : Did). (d.at ≡ Place.State p) × (d.wrote ≡ None)) pre
       → IsLocked tied p m.frame (version_of word) m.dirty v w
-  locked-after {pre = pre} {v = v} named before o h same page older validates at =
+  locked-after {m = m} {pre = pre} {v = v} named before o h same page older validates at =
       let third : Did = did_load (Place.Translation p) found in
-      let done : List Did = pre ++ lock-did p expects ∷ third ∷ [] in
+      let done : List Did = pre ++ lock_did p expects ∷ third ∷ [] in
       let all = others-then before lock-steps in
       let own : LeavesOwn v w = own-then o (own-then (lock-own refl t) (tload-own load)) in
       let seized = lock-seized (subst (λ (o : Origin). p < o.pages) (sym before.start) page) in
-      let wrote : HasWritten done (Place.State p) (word_of LOCKED (version_of word)) = record { earlier = pre; step = lock-did p expects; later = third ∷ []; cut = refl; place = refl; wrote = lock-wrote } in
+      let wrote : HasWritten done (Place.State p) (word_of LOCKED (version_of word)) = record { earlier = pre; step = lock_did p expects; later = third ∷ []; cut = refl; place = refl; wrote = lock-wrote } in
       let table = λ (a : IsAlone v).
       let b : IsAlone u = still-alone v u before.parts before.runs.current a in
       (lock-steps.runs.words b.0 b.1).1.1 ∙ (λ i. set_if (lock-wrote i) p (same a i)) in
-      let places_are : Each (λ (d : Did). (d.at ≡ Place.State p) ⊎ (d.at ≡ Place.Translation p)) done = each-both _ pre (lock-did p expects ∷ third ∷ []) (each-map _ _ (λ (d : Did) is. inl is) pre at) (inl refl, (inr refl, tt)) in
+      let takes : LocksBy p (version_of word) (Some m) done = record { expects = expects; at = sym version; translation = found; names = named; steps = record { before = pre; cut = refl; looks = at } } in
       let holding = seized-holding (subst (λ (o : Option Mapping). IsSeized p (version_of word) o w) named seized) in
       let validated = λ (tells : v.start.tells ≡ true). subst (λ (y : Version). LockValidates tied p (version_of word) y.words v) (sym lock-known.last) (validates tells) in
-      search (rules, elsewhere-of all, own, alone-of all, unheld-same p v u h o.group.1 o.group.2 (t.unheld refl), seat-then h, holding, seized.draft, validated, older, wrote, table, ap (λ (y : View X). y.current) load.brings.view, places_are)
+      search (rules, elsewhere-of all, own, alone-of all, unheld-same p v u h o.group.1 o.group.2 (t.unheld refl), seat-then h, holding, seized.draft, validated, older, wrote, table, ap (λ (y : View X). y.current) load.brings.view, takes-places refl takes.steps, takes)
 
 module _ {X : Type 0} (tied : Start → ℕ → List ℕ → ℕ → List ℕ → Type 0) where
   pub locked : (p word expects found : ℕ) (m : Mapping) (v u x w : View X) → LookTold tied p None word v u → IsToExpect word expects → LockTold tied p expects expects u x → TranslationTold p found x w
@@ -98,7 +104,7 @@ module _ {X : Type 0} (tied : Start → ℕ → List ℕ → ℕ → List ℕ �
       locked-after word to.version to.may_lock.version t load named before (look-own look) (look-holds look p) (λ a. (before.runs.words a.0 a.1).1) page (older-read word (seat_of v p).reading look.older)
       (λ tells. validates-before tied p word v u look to.open_word (last_of x p).words
       (subst (λ (n : ℕ). LockValidates tied p n (last_of x p).words u) (sym to.version) (t.validates (ap (λ (o : Origin). o.tells) before.start ∙ tells) refl)))
-      (refl, tt)
+      ((refl, refl), tt)
 
 -- ---- a share
 
@@ -137,9 +143,11 @@ module _ {X : Type 0} (tied : Start → ℕ → List ℕ → ℕ → List ℕ �
       subst (λ (y : Version). LockValidates tied p y.version y.words v) (sym known.last)
       (subst (λ (n : ℕ). LockValidates tied p n (last_of x p).words v) (sym t.version)
       (validates-before tied p word v u look room.open_word (last_of x p).words (t.validates (ap (λ (o : Origin). o.tells) (look-others look (λ q. q ≡ p) refl).start ∙ tells) refl))) in
+      let takes : SharesBy p m.frame (did_load (Place.State p) word ∷ share_did p word ∷ did_load (Place.Translation p) found ∷ []) =
+      record { expects = word; translation = found; names = ap frame_of named; steps = record { before = did_load (Place.State p) word ∷ []; cut = refl; looks = ((refl, refl), tt) } } in
       let table = λ (a : IsAlone v).
       let steps = all.runs.words a.0 a.1 in
       steps.1.1.1
       ∙ ap (λ (o : Option ℕ). set_if o p v.snapshot.words)
       (cond-true (eqb word word) (Some (word_of (one_share_more (state_of word)) (version_of word))) None (eq-eqb word word refl) ∙ ap (λ (n : ℕ). Some (word_of (one_share_more (state_of n)) (version_of n))) steps.0) in
-      search (rules, elsewhere-of all, own, alone-of all, seat-w, knows, sharing, ap (λ (y : Version). length y.words) known.last ∙ t.size, validates, ap (λ (y : View X). y.current) load.brings.view, table)
+      search (rules, elsewhere-of all, own, alone-of all, seat-w, knows, sharing, ap (λ (y : Version). length y.words) known.last ∙ t.size, validates, ap (λ (y : View X). y.current) load.brings.view, takes, table)

@@ -1,6 +1,6 @@
 -- Which words of pages the steps of an optimistic guard load: a word its own one, the looks none.
 use Rattle.vm_guard.specs.PageWords.{found_in_page, LoadsWords, page_words}
-use Rattle.vm_guard.proofs.Prelude.{[], ap, append_assoc, AreUnmarking, Did, did_load, IsUnmarked, List, LoadTold, look-others, LookTold, None, Option, Place}
+use Rattle.vm_guard.proofs.Prelude.{[], ap, append-none, append_assoc, AreUnmarking, Did, did_load, IsUnmarked, List, LoadTold, look-others, LookTold, None, Option, Place}
 use Rattle.vm_guard.proofs.Prelude.{refl, Start, sym, TranslationTold, View, ℕ, ⊎_elim, ◌++◌, ◌∙◌, ◌∷◌, ◌≡◌}
 use Rattle.vm_guard.proofs.QuietSteps.{load-quiet, steady-of, translation-quiet}
 
@@ -20,6 +20,10 @@ module _ {X : Type 0} where
     log = g.log ∙ ap (λ (l : List Did). l ++ g.done) f.log ∙ append_assoc u.log f.done g.done;
     words = page_words-append f.done g.done ∙ ap (λ (l : List ℕ). l ++ page_words g.done) f.words ∙ ap (λ (l : List ℕ). a ++ l) g.words;
   }
+
+  -- no step was made
+  pub none-words : (v : View X) → LoadsWords [] v v
+  none-words v = record { done = []; log = sym (append-none v.log); words = refl }
 
   pub looked-words : (tied : Start → ℕ → List ℕ → ℕ → List ℕ → Type 0) (p : ℕ) (said : Option X) (found : ℕ) (v w : View X) → LookTold tied p said found v w → LoadsWords [] v w
   looked-words tied p said found v w t = record { done = did_load (Place.State p) found ∷ []; log = (steady-of (look-others t (λ q. q ≡ p) refl)).log; words = refl }

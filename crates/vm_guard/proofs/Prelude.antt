@@ -15,7 +15,7 @@ pub use Rattle.vm_core.specs.Prelude.{mapping_of, MARKED, MAX_VERSION, MayLock, 
 pub use Rattle.vm_core.proofs.{PageFacts.some-same, Upd.upd-other}
 pub use Rattle.vm_owner.proofs.NumberLemmas.{has-without_other, without-none}
 pub use Rattle.vm_rule.specs.{declared.view.Held.Held, declared.view.Place.Place, Looks.NamesFrame}
-pub use Rattle.vm_rule.specs.Prelude.{AreApart, at_state, began_of, Brings, Change, changes_of, claimed_view, ClaimTold, clean_in, contents_at, did_exchange}
+pub use Rattle.vm_rule.specs.Prelude.{AreApart, at_state, began_of, Brings, Change, changes_of, claimed_view, ClaimTold, clean_in, contents_at, did_change, did_exchange}
 pub use Rattle.vm_rule.specs.Prelude.{did_load, did_store, dirty_in, DirtyTold, DowngradeTold, draft_of, Drafts, Each, entries_of, Entry, EvictTold, FillTold}
 pub use Rattle.vm_rule.specs.Prelude.{frame_read_by, has, has_lock, HasShape, held_at, index_of, InstallTold, IsLocking, IsOlder, IsSince, IsSinceAll, IsUnheld}
 pub use Rattle.vm_rule.specs.Prelude.{IsWhole, Kept, last_in, last_of, left_at, loads_at, LoadTold, locked_view, LockTold, LockValidates, LookTold, Mapping}
@@ -28,10 +28,10 @@ pub use Rattle.vm_step.specs.{declared.saw.At.At, declared.saw.Saw.Saw, Evidence
 pub use Rattle.vm_step.specs.Evidence.{asked, expected, Gives, read, same, WhyAgain}
 pub use Rattle.vm_step.specs.Prelude.{AreHeld, AreQuiet, Begins, Did, Follows, found_by, HasGiven, HasWritten, HoldsPage, IsAlone, IsClaimed, IsFirst}
 pub use Rattle.vm_step.specs.Prelude.{IsKeptNow, IsMember, IsNotOut, IsOf, IsReady, IsSamePass, IsSaw, IsToldOf, IsWorn, KeepsFrames, known_word_at}
-pub use Rattle.vm_step.specs.Prelude.{KnowsAsBefore, KnowsAt, KnowsSame, LeavesRest, LocksNone, MayDowngrade, MayEvict, MayGiveUp, MayStep, NoneExpected}
+pub use Rattle.vm_step.specs.Prelude.{KnowsAsBefore, KnowsAt, KnowsSame, LeavesOnly, LeavesRest, LocksNone, MayDowngrade, MayEvict, MayGiveUp, MayStep, NoneExpected}
 pub use Rattle.vm_step.specs.Prelude.{NoWord, Origin, Pass, PassMayClaim, place_at, ReadsAsBefore, Release, RunsAlone, Shape, StaysAlone, Stores, Tie}
 pub use Rattle.vm_step.specs.Prelude.{Translation, UnlockedExpected, View, view, Works, WritesNone}
-pub use Rattle.vm_step.proofs.{After.knows-after, After.wide-after, Evidenced.written-behind, Groups.has-left_of, Groups.has-without_all_same}
+pub use Rattle.vm_step.proofs.{After.knows-after, After.wide-after, Evidenced.leaves-both, Evidenced.leaves-front, Evidenced.written-behind, Groups.has-left_of, Groups.has-without_all_same}
 pub use Rattle.vm_step.proofs.{HeldFrames.held-on, Leaves.ready-on, Leaves.works-then, Numbers.numbers-has, Saws.lost-saw, Saws.one-given, Written.index-below}
 pub use Rattle.vm_step.proofs.Alone.{found-known, runs-then, same-word, stays-alone, still-alone, words-known}
 pub use Rattle.vm_step.proofs.Asides.{alone-self, alone-then, holds-then, keeps-then, knows-then, reads-then, starts-then, still-locking}
@@ -53,14 +53,16 @@ pub use Rattle.vm_step.proofs.steps.Translate.{tload-holds, tload-knows, tload-l
 pub use Rattle.vm_step.proofs.steps.Unchanged.{lost-brings, still-holds, still-knows, still-loads, still-own, still-seat}
 pub use Rattle.vm_guard.specs.{declared.deny.Deny.Deny, declared.exclusive.ExclusiveGuard.ExclusiveGuard, declared.given.Fresh.Fresh, Downgrades.IsDowngraded}
 pub use Rattle.vm_guard.specs.{FreshPlaces.IsPlaceOf, FreshPlaces.KnowsOthers, Pairs.HasFirst}
+pub use Rattle.vm_guard.specs.FreshWords.{GivesUpOnce, IsNextWord, put_did, PutsOnce, TakesOnce}
 pub use Rattle.vm_guard.specs.Denied.{AgainOrNeed, AgainOrWorn, IsDenied, IsEvidence, KeptWord, NotCrowded, NotWorn, OnlyWorn, SameOrUnlocked}
 pub use Rattle.vm_guard.specs.Fresh.{AreFresh, Furnishes, GivesBack, IsAmid, IsBegun, IsFreshAnswer, IsFull, IsNil, IsNotSeized, IsPages, IsPagesOrWorn}
 pub use Rattle.vm_guard.specs.Fresh.{IsSeized, IsSpared, IsToSeize, IsToTry, IsWornOut, Seizes}
-pub use Rattle.vm_guard.specs.Groups.{AreGivenUp, AreReleased, guards_of, GuardsHeld, IsBeside, IsDue, IsGroupReleased, MayReleaseAll, next_after_all, pids_of}
+pub use Rattle.vm_guard.specs.Groups.{AreGivenUp, AreReleased, guards_of, GuardsHeld, IsBeside, IsDue, IsGroupReleased, last_pid, MayReleaseAll, next_after_all, pids_of}
 pub use Rattle.vm_guard.specs.Groups.{release_steps, released_words, releases_of}
 pub use Rattle.vm_guard.specs.Guards.{AreUnmarking, BeginsReading, dirty_steps, HasLeft, IsDirtied, IsElsewhere, IsHolding, IsLocked, IsReading, IsReleased}
 pub use Rattle.vm_guard.specs.Guards.{IsSet, IsShared, IsSharing, IsUnmarked, IsUnshared, IsValid, Loads, placed}
-pub use Rattle.vm_guard.specs.Quiet.{IsQuiet, IsSteady, OnlyUnmarks}
+pub use Rattle.vm_guard.specs.LockSteps.{lock_did, LocksBy, share_did, SharesBy, TakesBy}
+pub use Rattle.vm_guard.specs.Quiet.{IsQuiet, IsSteady, LeavesNone, LeavesTable, OnlyUnmarks}
 pub use Rattle.vm_guard.specs.Sure.{IsKnownAt, IsKnownFree, IsUnlockedWord, known_next, known_word, KnowsStates, MayBeSeized, unmarked_word, words_with}
 pub use Rattle.vm_guard.specs.Takes.{HasRoom, IsToExpect, PassMayRelease, SaysWhy}
 unfoldable pub use Rattle.vm_core.specs.Prelude.{frame_in, is_dirty, state_of, version_of, word_of}

@@ -1,12 +1,11 @@
 -- A page is locked that is to be given, resident or not, and given up again where the call ends without it.
 use Rattle.vm_guard.proofs.{Amid.amid-of, Amid.silent-of, GuardSteps.alone-first, GuardSteps.first-may}
-use Rattle.vm_guard.proofs.Lockings.{lock-did, lock-seized, lock-wrote, seat-then, seized-holding, unheld-same}
-use Rattle.vm_guard.proofs.Prelude.{[], ap, append-none, Bool, Change, cond-false, did_load, Entry, eq-eqb, evict-alone, evict-others, evict-seat, EvictTold}
-use Rattle.vm_guard.proofs.Prelude.{false, GivesBack, has, inl, inr, IsNotOut, IsSeized, IsToSeize, List, lock-others, lock-own, LockTold, look-holds}
+use Rattle.vm_guard.proofs.Lockings.{lock-seized, lock-wrote, seat-then, seized-holding, unheld-same}
+use Rattle.vm_guard.proofs.Prelude.{[], ap, append-none, Bool, Change, cond-false, did_load, Entry, eq-eqb, evict-alone, evict-others, evict-seat, EVICTED, EvictTold}
+use Rattle.vm_guard.proofs.Prelude.{false, GivesBack, has, inl, inr, IsNotOut, IsSeized, IsToSeize, List, lock_did, lock-others, lock-own, LockTold, look-holds}
 use Rattle.vm_guard.proofs.Prelude.{look-others, look-own, LookTold, Mapping, mapping_of, MayEvict, MayGiveUp, None, none-some, Option, Origin, others-then}
-use Rattle.vm_guard.proofs.Prelude.{own-then, Place, refl, release-alone, release-others, release-seat, ReleaseTold, rules, Seizes, set_if, Some, Start, subst}
-use Rattle.vm_guard.proofs.Prelude.{length, IsOf, IsReady, IsSamePass, MayStep, Pass, ready-on, Shape, TableId, view}
-use Rattle.vm_guard.proofs.Prelude.{sym, tload-others, tload-own, TranslationTold, true, version_of, View, without, without-none, ℕ, ◌<◌, ◌||◌, ◌∙◌, ◌∷◌, ◌≡◌}
+use Rattle.vm_guard.proofs.Prelude.{own-then, Place, refl, release-alone, release-others, release-seat, ReleaseTold, Seizes, set_if, Some, Start, subst}
+use Rattle.vm_guard.proofs.Prelude.{sym, tload-others, tload-own, TranslationTold, true, version_of, View, without, without-none, word_of, ℕ, ◌+◌, ◌<◌, ◌||◌, ◌∙◌, ◌∷◌, ◌≡◌}
 
 pub self-has : (p : ℕ) → has p (p ∷ []) ≡ true
 self-has p = ap (λ (b : Bool). b || false) (eq-eqb p p refl)
@@ -19,9 +18,9 @@ seizes tied p word expects said v u x w look lock load may page =
     let own = own-then (look-own look) (own-then (lock-own refl lock) (tload-own load)) in
     let silent = silent-of (p ∷ []) steps own.mine own.group.0 ((page, self-has p), ((page, self-has p), ((page, self-has p), tt))) in
     record {
-      done = did_load (Place.State p) word ∷ lock-did p expects ∷ did_load (Place.Translation p) said ∷ [];
+      done = did_load (Place.State p) word ∷ lock_did p expects ∷ did_load (Place.Translation p) said ∷ [];
       amid = silent.0;
-      places_are = (inl refl, (inl refl, (inr refl, tt)));
+      takes = record { expects = expects; at = sym may.version; translation = said; names = refl; steps = record { before = did_load (Place.State p) word ∷ []; cut = refl; looks = ((refl, refl), tt) } };
       keeps = steps.keeps;
       group = (own.group.1, own.group.2);
       unheld = unheld-same p v u (look-holds look p) (look-own look).group.1 (look-own look).group.2 (lock.unheld refl);
@@ -30,18 +29,6 @@ seizes tied p word expects said v u x w look lock load may page =
       silent = silent.1;
       table = λ a. (steps.runs.words a.0 a.1).1.1.1 ∙ ap (λ (o : Option ℕ). set_if o p v.snapshot.words) (lock-wrote word may.version may.may_lock.version lock load);
     }
-
--- a load of a translation word leaves the pass able to step
-pub may-loaded : {U X : Type 0} {o : _} {t : TableId} (p : ℕ) {said : ℕ} (a b : Pass U X o) → MayStep t a → IsSamePass a b → TranslationTold p said (view a) (view b) → MayStep t b
-may-loaded p a b may same load = (same.0 ∙ may.0, subst (λ (ns : List ℕ). 0 < length ns) (sym (tload-others load (λ q. q ≡ p) refl).parts.0) may.1)
-
--- the pass is ready for its next step after the look
-module _ {U X : Type 0} {o : _} {shape : Shape} {tells : Bool} {t : TableId} (tied : Start → ℕ → List ℕ → ℕ → List ℕ → Type 0) (p : ℕ) where
-  pub ready-looked : (a : Pass U X o) {b : Pass U X o} {word : ℕ} → MayStep t a → IsOf shape tells (view a) → IsSamePass a b → LookTold tied p None word (view a) (view b) → IsReady shape tells t b
-  ready-looked a {b = b} may is same look = let f = look-others look (λ q. q ≡ p) refl in ready-on shape tells t a b same f.start f.parts.0 (record { may = may; table = is })
-
-  pub ready-locked : {a b : Pass U X o} {expects : ℕ} → IsReady shape tells t a → IsSamePass a b → LockTold tied p expects expects (view a) (view b) → IsReady shape tells t b
-  ready-locked {a = a} {b = b} r same lock = let f = lock-others refl lock (λ q. q ≡ p) refl in ready-on shape tells t a b same f.start f.parts.0 r
 
 -- ---- given up again
 
@@ -57,17 +44,17 @@ module _ {X : Type 0} where
   pub may-evict : (p version : ℕ) (v : View X) → IsSeized p version None v → v.out ≡ None → MayEvict v p version
   may-evict p version v s none = record { owns = s.owns; empty = s.mapping; told = s.told; home = not-out v p none; at = sym s.at; free = s.free; paid = s.paid }
 
-  pub gives-released : (p version : ℕ) (o : Option Mapping) (v w : View X) → IsSeized p version o v → ReleaseTold p version [] None v w → GivesBack p v w
+  pub gives-released : (p version : ℕ) (o : Option Mapping) (v w : View X) → IsSeized p version o v → ReleaseTold p version [] None v w → GivesBack p version v w
   gives-released p version o v w s t =
       let f = release-others t (λ q. has q (p ∷ []) ≡ true) (self-has p) in
       let view = t.brings.view in
       let pending = ap (λ (y : View X). y.pending) view ∙ cond-false (has p v.pending) (without p v.pending) v.pending s.free in
       let all = amid-of (p ∷ []) f (ap (λ (y : View X). y.mine) view ∙ append-none v.mine) pending (release-alone t s.draft) ((s.page, self-has p), tt) in
-      search (rules, all.0, f.keeps, view, ap (λ (y : View X). y.owed) view ∙ without-none p v.owed s.paid, release-seat t)
+      record { done = _; amid = all.0; left = version + 1; next_word = inl refl; steps = refl; keeps = f.keeps; group = (ap (λ (y : View X). y.owed) view ∙ without-none p v.owed s.paid, ap (λ (y : View X). y.next) view); seat = release-seat t }
 
-  pub gives-evicted : (p version : ℕ) (v w : View X) → IsSeized p version None v → EvictTold p version v w → GivesBack p v w
+  pub gives-evicted : (p version : ℕ) (v w : View X) → IsSeized p version None v → EvictTold p version v w → GivesBack p version v w
   gives-evicted p version v w s t =
       let f = evict-others t (λ q. has q (p ∷ []) ≡ true) (self-has p) in
       let view = t.brings.view in
       let all = amid-of (p ∷ []) f (ap (λ (y : View X). y.mine) view) (ap (λ (y : View X). y.pending) view) (evict-alone t s.draft) ((s.page, self-has p), tt) in
-      search (rules, all.0, f.keeps, view, evict-seat t)
+      record { done = _; amid = all.0; left = word_of EVICTED (version + 1); next_word = inr refl; steps = refl; keeps = f.keeps; group = (ap (λ (y : View X). y.owed) view, ap (λ (y : View X). y.next) view); seat = evict-seat t }

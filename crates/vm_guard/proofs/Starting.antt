@@ -45,7 +45,7 @@ module _ {X : Type 0} (tied : Start → ℕ → List ℕ → ℕ → List ℕ �
           cut = ap (λ (k : List Did). did_load (Place.State p) first ∷ k) (sym (append_assoc c.done load (did_load (Place.State p) seen ∷ [])));
           gives = (refl, refl);
           since = c.done ++ load;
-          begins = read [] (did_load (Place.State p) first) refl (refl, refl);
+          begins = read [] (did_load (Place.State p) first) refl (refl, refl) refl;
           quiet = between-quiet;
           foreign = ((λ _. none-some seen), quiet-foreign (Place.State p) seen (c.done ++ load) between-quiet);
           why = ⊎_elim (λ n. inl n) (λ e. inr (inl e)) why;

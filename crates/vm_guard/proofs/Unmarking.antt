@@ -1,8 +1,9 @@
 -- The mark of a page is taken away, or was not there: one exchange, or no step. It leaves the view, and the word that it leaves is none that
--- a later look denies a call by; and which steps leave at most an Unlocked word on the page.
+-- a later look denies a call by; and which steps leave at most the page's word without its mark.
 use Rattle.vm_core.proofs.PageFacts.{none-some}
 use Rattle.vm_guard.proofs.Prelude.{[], ap, AreQuiet, AreUnmarking, arith, At, Begins, cases_eq, cond-false, cond-true, Did, did_exchange, did_load, Each}
-use Rattle.vm_guard.proofs.Prelude.{each-both, eq-eqb, eqb, Gives, inr, IsQuiet, IsSaw, IsUnmarked, List, LOCKED, MARKED, MarkTold, ne_eqb, None, OnlyUnmarks}
+use Rattle.vm_guard.specs.Quiet.{IsUnmark}
+use Rattle.vm_guard.proofs.Prelude.{each-both, eq-eqb, eqb, Gives, inl, inr, IsQuiet, IsSaw, IsUnmarked, List, LOCKED, MARKED, MarkTold, ne_eqb, None, OnlyUnmarks}
 use Rattle.vm_guard.proofs.Prelude.{Place, refl, rules, Some, some-same, state_of, still-loads, still-seat, subst, sym, UNLOCKED, version-within, version_of}
 use Rattle.vm_guard.proofs.Prelude.{View, WhyAgain, word-state, word-version, word_of, ℕ, ⊎_elim, ◌++◌, ◌∙◌, ◌∷◌, ◌≡◌, ◌≢◌, ◌⊎◌}
 use Rattle.vm_guard.proofs.QuietSteps.{quiet-none, still-quiet}
@@ -46,27 +47,43 @@ pub one-saw : (kept : ℕ → Type 0) (instead : ℕ → ℕ → Type 0) (p firs
     → IsSaw kept instead (d ∷ []) (record { at = At.Page p; first = first; seen = seen })
 one-saw kept instead p first seen d gives begins why = record { earlier = []; last = d; later = []; cut = refl; gives = gives; since = []; begins = begins; quiet = tt; foreign = tt; why = why }
 
--- ---- steps that leave at most an Unlocked word
+-- ---- steps that leave no word but where they take a mark away
 
 -- a load leaves none
-pub load-unmarks : (p : ℕ) (at : Place) (found x : ℕ) → (did_load at found).wrote ≡ Some x → ((did_load at found).at ≡ Place.State p) × (state_of x ≡ UNLOCKED)
-load-unmarks p at found x e = absurd (none-some x e)
+pub load-unmarks : (p : ℕ) (at : Place) (found : ℕ) → ((did_load at found).wrote ≡ None) ⊎ (((did_load at found).at ≡ Place.State p) × IsUnmark (did_load at found))
+load-unmarks p at found = inl refl
 
 -- nor does an exchange that was lost
 pub lost-unmarks : (p expects found new : ℕ) → found ≢ expects → OnlyUnmarks p (did_exchange (Place.State p) expects found new ∷ [])
-lost-unmarks p expects found new ne = ((λ x e. absurd (none-some x (sym (cond-false (eqb found expects) (Some new) None (ne_eqb found expects ne)) ∙ e))), tt)
+lost-unmarks p expects found new ne = (inl (cond-false (eqb found expects) (Some new) None (ne_eqb found expects ne)), tt)
 
 pub unmarks-both : (p : ℕ) (a b : List Did) → OnlyUnmarks p a → OnlyUnmarks p b → OnlyUnmarks p (a ++ b)
-unmarks-both p = each-both (λ d. (x : ℕ) → d.wrote ≡ Some x → (d.at ≡ Place.State p) × (state_of x ≡ UNLOCKED))
+unmarks-both p = each-both (λ d. (d.wrote ≡ None) ⊎ ((d.at ≡ Place.State p) × IsUnmark d))
 
 -- the steps that take a mark away
 pub unmarking-unmarks : (p first : ℕ) (done : List Did) → AreUnmarking p first done → OnlyUnmarks p done
 unmarking-unmarks p first done steps =
     ⊎_elim
     (λ n. subst (λ (d : List Did). OnlyUnmarks p d) (sym n.1) tt)
-    (λ y. subst (λ (d : List Did). OnlyUnmarks p d) (sym y.1.1)
-    ((λ x e. (refl, ap state_of (sym (exchange-left (Place.State p) first y.1.0 (word_of UNLOCKED (version_of first)) x e)) ∙ word-state UNLOCKED (version_of first) (version-within first))), tt))
+    (λ y. subst (λ (d : List Did). OnlyUnmarks p d) (sym y.1.1) (
+      ⊎_elim
+          (λ same. inr (refl, taken y.1.0 y.0 same))
+          (λ apart. inl (cond-false (eqb y.1.0 first) (Some (word_of UNLOCKED (version_of first))) None (ne_eqb y.1.0 first apart)))
+          (cases_eq y.1.0 first),
+      tt,
+    ))
     steps
+  where
+    -- the exchange found the word that it expects
+    taken : (found : ℕ) → state_of first ≡ MARKED → found ≡ first → IsUnmark (did_exchange (Place.State p) first found (word_of UNLOCKED (version_of first)))
+    taken found marked same = record {
+      page = p;
+      word = first;
+      at = refl;
+      found = ap (λ (n : ℕ). Some n) same;
+      marked = marked;
+      wrote = cond-true (eqb found first) (Some (word_of UNLOCKED (version_of first))) None (eq-eqb found first same);
+    }
 
 module _ {X : Type 0} where
   -- the exchange, whatever it found

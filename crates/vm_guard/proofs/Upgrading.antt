@@ -2,11 +2,11 @@
 use Rattle.vm_step.specs.Evidence.Begins.{asked}
 use Rattle.vm_guard.proofs.{Denials.denied-at-once, Expecting.expect-resident, Expecting.seize-same, Leaving.older-read, Lockings.locked-after, QuietSteps.lock-lost}
 use Rattle.vm_guard.proofs.{Sure.lost-leaves, Unmarking.lost-unmarks, Unmarking.one-saw, Validating.left-since}
-use Rattle.vm_guard.proofs.Prelude.{AgainOrWorn, ap, arith, At, cond-false, Deny, Did, did_exchange, eqb, guarded, HasLeft, inl, inr, IsDenied, IsLocked}
-use Rattle.vm_guard.proofs.Prelude.{IsOlder, IsReading, IsSince, IsToExpect, KeptWord, last_of, List, LOCKED, locked_view, LockTold, LookTold, lost-brings}
+use Rattle.vm_guard.proofs.Prelude.{[], AgainOrWorn, ap, arith, At, cond-false, Deny, Did, did_exchange, eqb, guarded, HasLeft, inl, inr, IsDenied, IsLocked}
+use Rattle.vm_guard.proofs.Prelude.{IsOlder, IsReading, IsSince, IsToExpect, KeptWord, last_of, LeavesTable, List, LOCKED, locked_view, LockTold, LookTold, lost-brings}
 use Rattle.vm_guard.proofs.Prelude.{Mapping, mapping_of, MAX_VERSION, ne_eqb, None, others-none, Place, refl, rules, SameOrUnlocked, seat_of, Some, Start}
 use Rattle.vm_guard.proofs.Prelude.{subst, sym, TranslationTold, UNLOCKED, UnlockedExpected, version-within, version_of, View, WhyAgain, word-state}
-use Rattle.vm_guard.proofs.Prelude.{word-version, word_of, ℕ, ⊎_elim, ◌<◌, ◌∙◌, ◌≡◌, ◌≢◌, ◌≤◌, ◌⊎◌}
+use Rattle.vm_guard.proofs.Prelude.{word-version, word_of, ℕ, ⊎_elim, ◌<◌, ◌∙◌, ◌∷◌, ◌≡◌, ◌≢◌, ◌≤◌, ◌⊎◌}
 
 -- the unlocked word at a version below the last may be expected
 pub unlocked-word : (word : ℕ) → version_of word < MAX_VERSION → IsToExpect (word_of UNLOCKED (version_of word)) (word_of UNLOCKED (version_of word))
@@ -43,6 +43,12 @@ module _ {X : Type 0} (tied : Start → ℕ → List ℕ → ℕ → List ℕ �
       let quiet = lock-lost tied p expects found v w ne t in
       let saw = one-saw (KeptWord word) UnlockedExpected p expects found did (refl, refl) (⊎_elim (λ (same : expects ≡ word). guarded same refl) (λ other. asked word refl refl other refl) kept) why in
       search (rules, quiet, saw, lost-leaves p expects found new v w quiet ne, lost-unmarks p expects found new ne, ap (λ (x : View X). x.current) (lost-brings (locked_view p t.held (last_of w p).words v) ne t.brings).view)
+
+-- and no word was left
+pub lost-word : {X : Type 0} {tied : Start → ℕ → List ℕ → ℕ → List ℕ → Type 0} {p expects found : ℕ} {v w : View X} → LockTold tied p expects found v w → found ≢ expects → LeavesTable v w
+lost-word {tied = tied} {p = p} {expects = expects} {found = found} {v = v} {w = w} t ne =
+    let new : ℕ = word_of LOCKED (version_of expects) in
+    (did_exchange (Place.State p) expects found new ∷ [], (lock-lost tied p expects found v w ne t).steady.log, (cond-false (eqb found expects) (Some new) None (ne_eqb found expects ne), tt))
 
 module _ {X : Type 0} (tied : Start → ℕ → List ℕ → ℕ → List ℕ → Type 0) (p expects found : ℕ) (m : Mapping) (v x w : View X) where
   -- the page is locked at the version expected, and stands where its translation word says

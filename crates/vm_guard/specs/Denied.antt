@@ -56,6 +56,6 @@ module _ {X : Type 0} where
     pub evidence : IsEvidence kept expects done p deny
     pub kind : allowed deny
     pub table : KnowsSame v w
-    -- the call left at most an Unlocked word on the page's state word
+    -- the call left no word but the page's, whose mark it may have taken away
     pub leaves : OnlyUnmarks p done
     pub current : w.current ≡ true

@@ -2,15 +2,16 @@
 -- every other answer nothing is claimed, no lock is kept and the frames are as they were.
 use Rattle.std.specs.Prelude.{[], ◌++◌, ◌+◌, ◌<◌, ◌∷◌, ◌≡◌, ◌≤◌, ◌⊎◌, Bool, false, length, List, None, Option, replicate, reverse, Some, true, ℕ}
 use Rattle.vm_core.specs.Prelude.{LOCKED, MAX_VERSION, MayLock, version_of, word_of, WORDS}
-use Rattle.vm_rule.specs.Prelude.{contents_at, did_load, draft_of, Each, has, held_at, IsLocking, IsUnheld, last_of, loads_at, Mapping, next_after}
+use Rattle.vm_rule.specs.Prelude.{contents_at, did_load, did_store, draft_of, Each, has, held_at, IsLocking, IsUnheld, last_of, loads_at, Mapping, next_after}
 use Rattle.vm_rule.specs.Prelude.{NextTold, numbers, seat_of, StartsWith, without_all}
 use Rattle.vm_rule.specs.declared.view.Place.{Place}
 use Rattle.vm_step.specs.Prelude.{AreHeld, Did, HasWritten, HoldsPage, IsAlone, IsSaw, IsToldOf, IsWorn, KeepsFrames, KnowsAsBefore, KnowsSame}
-use Rattle.vm_step.specs.Prelude.{NoWord, Release, RunsAlone, StaysAlone, Tie, UnlockedExpected, View}
+use Rattle.vm_step.specs.Prelude.{NoWord, Release, RunsAlone, StaysAlone, Tie, UnlockedExpected, View, WritesNone}
 use Rattle.vm_step.specs.declared.saw.At.{At}
 use Rattle.vm_step.specs.declared.saw.Saw.{Saw}
 use Rattle.vm_guard.specs.{declared.deny.Deny.Deny, declared.exclusive.ExclusiveGuard.ExclusiveGuard, declared.given.Fresh.Fresh, Denied.AgainOrWorn}
-use Rattle.vm_guard.specs.{Denied.IsDenied, FreshPlaces.IsPlaceOf, FreshPlaces.KnowsOthers, Guards.IsHolding}
+use Rattle.vm_guard.specs.{Denied.IsDenied, FreshPlaces.IsPlaceOf, FreshPlaces.KnowsOthers, FreshWords.GivesUpOnce, FreshWords.IsNextWord, FreshWords.PutsOnce}
+use Rattle.vm_guard.specs.{FreshWords.TakesOnce, Guards.IsHolding, LockSteps.LocksBy, Quiet.LeavesNone}
 use Rattle.vm_guard.specs.Groups.{guards_of, GuardsHeld, pids_of}
 use Rattle.vm_guard.specs.Sure.{known_next, known_word, KnowsBut, KnowsStates}
 
@@ -63,7 +64,7 @@ module _ {X : Type 0} where
   pub record Seizes (p version : ℕ) (stands : Option Mapping) (v w : View X) : Type 0 where
     pub done : List Did
     pub amid : IsAmid (p ∷ []) done v w
-    pub places_are : Each (λ d. (d.at ≡ Place.State p) ⊎ (d.at ≡ Place.Translation p)) done
+    pub takes : LocksBy p version stands done
     pub keeps : KeepsFrames v w
     pub group : (w.owed ≡ v.owed) × (w.next ≡ v.next)
     pub unheld : IsUnheld v p
@@ -78,6 +79,7 @@ module _ {X : Type 0} where
     pub page : p < v.start.pages
     pub denied : IsDenied AgainOrWorn NoWord UnlockedExpected p deny v w
     pub places_are : Each (λ d. d.at ≡ Place.State p) denied.done
+    pub bare : LeavesNone denied.done
 
   -- the next page x was loaded, and then it was locked
   pub record IsBegun (x version : ℕ) (stands : Option Mapping) (v w : View X) : Type 0 where
@@ -87,10 +89,12 @@ module _ {X : Type 0} where
     pub seizes : Seizes x version stands between w
 
   -- and is given up again
-  pub record GivesBack (p : ℕ) (v w : View X) : Type 0 where
+  pub record GivesBack (p version : ℕ) (v w : View X) : Type 0 where
     pub done : List Did
     pub amid : IsAmid (p ∷ []) done v w
-    pub places_are : Each (λ d. d.at ≡ Place.State p) done
+    pub left : ℕ
+    pub next_word : IsNextWord version left
+    pub steps : done ≡ did_store (Place.State p) left ∷ []
     pub keeps : KeepsFrames v w
     pub group : (w.owed ≡ v.owed) × (w.next ≡ next_after p v.next)
     pub seat : seat_of w p ≡ record (seat_of v p) { exclusive = false }
@@ -111,6 +115,9 @@ module _ {X : Type 0} where
     pub own : AreHeld after w
     -- the words of each other frame are as they were
     pub contents : (f : ℕ) → has f taken ≡ false → contents_at w f ≡ contents_at v f
+    -- the state word was left alone; so was the translation word, or it names the frame, clean
+    pub locks : WritesNone (Place.State p) done
+    pub puts : PutsOnce p frame dirty done
     -- no page was released; a pass that was alone knows the state words as they were
     pub silent : amid.own ≡ []
     pub states : KnowsStates v w
@@ -136,6 +143,8 @@ module _ {X : Type 0} where
     -- the first step loaded the next page x, and a later one claimed
     pub loaded : (more : List Did) × (done ≡ did_load Place.Next x ∷ more)
     pub claimed : HasWritten done Place.Next (x + n)
+    -- each page was locked once, and put into a frame once at most, where it is clean
+    pub once : Each (λ g. TakesOnce g.pid g.version g.frame g.dirty done) gs
     -- no page was released; a pass that was alone knows each page locked at its guard's version, the next word, and all others as they were
     pub silent : amid.own ≡ []
     pub locked : IsAlone v → Each (λ g. known_word g.pid w ≡ word_of LOCKED g.version) gs
@@ -150,13 +159,16 @@ module _ {X : Type 0} where
     pub owed : w.owed ≡ v.owed
     pub holds : (q : ℕ) → HoldsPage v w q
     pub knows : (q : ℕ) → IsLocking (seat_of v q) → KnowsAsBefore v w q
-    -- no step left another next word
+    -- no step left another next word, nor a word that is no state word
     pub unmoved : Each (λ d. d.at ≡ Place.Next → d.wrote ≡ None) done
+    pub states : Each (λ d. (d.wrote ≡ None) ⊎ ((q : ℕ) × (d.at ≡ Place.State q))) done
 
-  -- its first step loaded the next page x, and it knows the next page at most where the pass held it before
+  -- its first step loaded the next page x; it locked each of these pages once at most, and gave it up once then; and it knows the next page at most
+  -- where the pass held it before
   pub record IsSpared (pages : List ℕ) (x : ℕ) (done : List Did) (v w : View X) : Type 0 where
     pub nil : IsNil pages done v w
     pub loaded : (more : List Did) × (done ≡ did_load Place.Next x ∷ more)
+    pub once : (q : ℕ) → has q pages ≡ true → GivesUpOnce q done
     pub next : (q : ℕ) → w.next ≡ Some q → (seat_of v q).exclusive ≡ true
     -- a pass that was alone knows the next word, and all words but those of these pages, as they were
     pub same_next : IsAlone v → known_next w ≡ known_next v

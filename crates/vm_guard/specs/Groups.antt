@@ -21,6 +21,11 @@ abbrev pub pids_of : List ExclusiveGuard → List ℕ
 pids_of [] = []
 pids_of (g ∷ gs) = g.pid ∷ pids_of gs
 
+-- the page of the last of them
+abbrev pub last_pid : ExclusiveGuard → List ExclusiveGuard → ℕ
+last_pid g [] = g.pid
+last_pid g (h ∷ hs) = last_pid h hs
+
 -- the steps that release them
 abbrev pub release_steps : List ExclusiveGuard → List Did
 release_steps [] = []
@@ -101,7 +106,9 @@ module _ {X : Type 0} where
     pub last : IsAlone v → Each (λ g. last_of w g.pid ≡ record { version = g.version + 1; words = draft_of v g.pid }) (first ∷ rest)
     pub alone : IsAlone v → (q : ℕ) → has q (pids_of (first ∷ rest)) ≡ false → (last_of w q).words ≡ (last_of v q).words
 
-  -- the same, of the list of all guards; and what the layer above keeps at the first release
+  -- the same, of the list of all guards; and what the layer above keeps at the first release, and at the last one
   abbrev pub IsGroupReleased : (Start → Kept X → Type 0) → List ExclusiveGuard → Option X → View X → View X → Type 0
   IsGroupReleased keeps [] said v w = v ≡ w
-  IsGroupReleased keeps (g ∷ gs) said v w = (r : AreReleased g gs said v w) × (v.start.tells ≡ true → IsKeptNow keeps g.pid (Unit {0}) r.point)
+  IsGroupReleased keeps (g ∷ gs) said v w =
+      (r : AreReleased g gs said v w) × (v.start.tells ≡ true → IsKeptNow keeps g.pid (Unit {0}) r.point)
+      × (v.start.tells ≡ true → IsKeptNow keeps (last_pid g gs) (Unit {0}) w)

@@ -3,11 +3,12 @@ use Rattle.std.specs.Prelude.{[], ◌++◌, ◌+◌, ◌-◌, ◌<◌, ◌^◌, 
 use Rattle.std.specs.Prelude.{true, ℕ}
 use Rattle.vm_core.specs.Prelude.{frame_of, is_readable, LOCKED, mapping_of, MARKED, MAX_VERSION, one_share_more, state_of, trans_word, UNLOCKED}
 use Rattle.vm_core.specs.Prelude.{unshared, version_of, word_of, WORDS}
-use Rattle.vm_rule.specs.Prelude.{did_exchange, did_load, did_store, dirty_in, draft_of, Each, entries_of, frame_read_by, has, IsLocking, IsUnheld}
+use Rattle.vm_rule.specs.Prelude.{did_change, did_exchange, did_load, did_store, dirty_in, draft_of, Each, entries_of, frame_read_by, has, IsLocking, IsUnheld}
 use Rattle.vm_rule.specs.Prelude.{IsWhole, last_of, loads_at, LockValidates, Mapping, next_after, no_held, Open, put_at, seat_of, Start, ties_below}
 use Rattle.vm_rule.specs.Prelude.{without}
 use Rattle.vm_rule.specs.declared.view.Place.{Place}
 use Rattle.vm_step.specs.Prelude.{Did, HasWritten, HoldsPage, IsAlone, KnowsAsBefore, KnowsSame, ReadsAsBefore, Release, StaysAlone, View}
+use Rattle.vm_guard.specs.LockSteps.{LocksBy, SharesBy}
 use Rattle.vm_guard.specs.Quiet.{IsQuiet, IsSteady, LeavesNone}
 use Rattle.vm_guard.specs.Sure.{IsKnownFree, known_word, KnowsBut, KnowsStates, unmarked_word}
 
@@ -152,8 +153,9 @@ module _ {X : Type 0} where
     pub current : w.current ≡ true
     -- the pass was reading the page at no later version
     pub older : (o : Open) → (seat_of v p).reading ≡ Some o → o.version ≤ version
-    -- the steps are at the page's state word, and at its translation word
+    -- the steps are at the page's state word, and at its translation word; one exchange alone left a word
     pub places_are : Each (λ d. (d.at ≡ Place.State p) ⊎ (d.at ≡ Place.Translation p)) done
+    pub takes : LocksBy p version (Some (record { frame = frame; dirty = dirty })) done
 
   -- page p, which the pass holds and which stood in this frame, is dirty there; nothing else has changed
   pub record IsDirtied (p frame : ℕ) (dirty : Bool) (v w : View X) : Type 0 where
@@ -198,7 +200,8 @@ module _ {X : Type 0} where
     -- a pass that is alone finds the last words of each other page as they were
     pub alone : IsWhole v → v.current ≡ true → (q : ℕ) → q ≢ p → (last_of w q).words ≡ (last_of v q).words
     pub wrote : HasWritten done (Place.State p) (version + 1)
-    -- the steps are at the page's state word
+    -- the release was the only step of the call
+    pub steps : done ≡ did_store (Place.State p) (version + 1) ∷ []
     pub places_are : Each (λ d. d.at ≡ Place.State p) done
     pub table : KnowsBut p (version + 1) v w
     -- a pass that was alone knows the page to be free then, at no later version
@@ -224,6 +227,8 @@ module _ {X : Type 0} where
     pub seat : seat_of w p ≡ record (seat_of v p) { shares = (seat_of v p).shares + 1; reading = None }
     pub knows : IsLocking (seat_of v p) → KnowsAsBefore v w p
     pub sharing : IsSharing p frame w
+    -- one exchange alone left a word
+    pub takes : SharesBy p frame done
     pub size : length (last_of w p).words ≡ WORDS
     pub validates : v.start.tells ≡ true → LockValidates tied p (last_of w p).version (last_of w p).words v
     -- the page's word has one share more
@@ -240,6 +245,8 @@ module _ {X : Type 0} where
     pub seat : seat_of w p ≡ unshared (seat_of v p)
     pub loads : loads_at w p ≡ loads_at v p
     pub knows : KnowsAsBefore v w p
+    -- by one step, which took a share from the word that it found
+    pub steps : (found : ℕ) × (done ≡ did_change (Place.State p) found (found - 2 ^ 56) ∷ [])
     -- the page's word has one share less
     pub table : KnowsBut p (known_word p v - 2 ^ 56) v w
     pub known : IsAlone v → known_word p w ≡ known_word p v - 2 ^ 56

@@ -1,5 +1,6 @@
 pub mod Quiet
 pub mod PageWords
+pub mod LockSteps
 pub mod Guards
 pub mod Denied
 pub mod Takes
@@ -7,6 +8,7 @@ pub mod Shares
 pub mod Sure
 pub mod Groups
 pub mod FreshPlaces
+pub mod FreshWords
 pub mod Fresh
 pub mod Downgrades
 pub mod Pairs

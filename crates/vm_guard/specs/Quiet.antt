@@ -1,7 +1,7 @@
 -- What a call leaves of a view that says nothing and changes no lock: the lists and the log go on, and at most the open read of one page is
 -- another.
-use Rattle.std.specs.Prelude.{[], ◌++◌, ◌≡◌, ◌≢◌, List, None, Some, ℕ}
-use Rattle.vm_core.specs.Prelude.{state_of, UNLOCKED}
+use Rattle.std.specs.Prelude.{[], ◌++◌, ◌≡◌, ◌≢◌, ◌⊎◌, List, None, Some, ℕ}
+use Rattle.vm_core.specs.Prelude.{MARKED, state_of, UNLOCKED, version_of, word_of}
 use Rattle.vm_rule.specs.Prelude.{Each, IsLocking, seat_of, StartsWith}
 use Rattle.vm_rule.specs.declared.view.Place.{Place}
 use Rattle.vm_step.specs.Prelude.{Did, HoldsPage, KnowsAsBefore, ReadsAsBefore, Release, RunsAlone, StaysAlone, Tie, View}
@@ -10,9 +10,18 @@ use Rattle.vm_step.specs.Prelude.{Did, HoldsPage, KnowsAsBefore, ReadsAsBefore, 
 abbrev pub LeavesNone : List Did → Type 0
 LeavesNone done = Each (λ d. d.wrote ≡ None) done
 
--- the steps leave no word but on the state word of page p, and there an Unlocked one
+-- the step took a mark away: it found a Marked word of a page, and left an Unlocked one of the same version there
+pub record IsUnmark (d : Did) : Type 0 where
+  pub page : ℕ
+  pub word : ℕ
+  pub at : d.at ≡ Place.State page
+  pub found : d.found ≡ Some word
+  pub marked : state_of word ≡ MARKED
+  pub wrote : d.wrote ≡ Some (word_of UNLOCKED (version_of word))
+
+-- the steps leave no word but that of page p, where they take its mark away
 abbrev pub OnlyUnmarks : ℕ → List Did → Type 0
-OnlyUnmarks p done = Each (λ d. (x : ℕ) → d.wrote ≡ Some x → (d.at ≡ Place.State p) × (state_of x ≡ UNLOCKED)) done
+OnlyUnmarks p done = Each (λ d. (d.wrote ≡ None) ⊎ ((d.at ≡ Place.State p) × IsUnmark d)) done
 
 module _ {X : Type 0} where
   -- the call made these steps and these releases, and leaves the parts of the view that only calls of other kinds change
@@ -39,3 +48,7 @@ module _ {X : Type 0} where
     pub knows : (q : ℕ) → IsLocking (seat_of v q) → KnowsAsBefore v w q
     pub others : (q : ℕ) → q ≢ p → ReadsAsBefore v w q
     pub alone : StaysAlone v w
+
+  -- the call left no word of the table: each of its steps only looked, or was an exchange that was lost
+  abbrev pub LeavesTable : View X → View X → Type 0
+  LeavesTable v w = (done : List Did) × (w.log ≡ v.log ++ done) × LeavesNone done

@@ -4,7 +4,7 @@ ghost use Rattle.vm_core.specs.Prelude.{MAX_VERSION, version_of};
 ghost use Rattle.vm_rule.specs.Prelude.{draft_of, ReleaseTold};
 ghost use Rattle.vm_step.specs.Prelude.{IsAlone, IsClaimed, IsFirst, IsKeptNow, IsNotOut, IsReady, IsSamePass, KnowsSame, MayStep, NoWord};
 ghost use Rattle.vm_step.specs.Prelude.{UnlockedExpected, view};
-ghost use Rattle.vm_guard.specs.{Downgrades.IsDowngraded, Groups.IsDue, Quiet.IsQuiet, Sure.IsKnownFree, Sure.known_word};
+ghost use Rattle.vm_guard.specs.{Downgrades.IsDowngraded, Groups.IsDue, Quiet.IsQuiet, Quiet.LeavesTable, Sure.IsKnownFree, Sure.known_word};
 ghost use Rattle.vm_guard.specs.Denied.{IsDenied, NotCrowded, SameOrUnlocked};
 ghost use Rattle.vm_guard.specs.Guards.{IsDirtied, IsHolding, IsLocked, IsReleased, IsSet};
 ghost use Rattle.vm_guard.specs.Takes.{IsToExpect, PassMayRelease, SaysWhy};
@@ -59,6 +59,7 @@ impl ExclusiveGuard {
         ensures ready { IsReady words.now.table.shared.key B.tells words.now.table.shared.table_id pass.new }
         ensures taken { IfOk result (λ g. (g.pid ≡ pid) × IsLocked U.tied pid g.frame g.version g.dirty (view pass.old) (view pass.new)) }
         ensures denied { IfErr result (λ d. IsDenied NotCrowded NoWord UnlockedExpected pid d (view pass.old) (view pass.new)) }
+        ensures bare { IfErr result (λ _. LeavesTable (view pass.old) (view pass.new)) }
         ensures sure { IsAlone (view pass.old) → IsKnownFree pid (view pass.old) → version_of (known_word pid (view pass.old)) < MAX_VERSION → IsOk result }
     {
         let word = look_silently(words, pass, pid);
@@ -221,6 +222,7 @@ impl ExclusiveGuard {
         ensures pass { IsSamePass pass.old pass.new }
         ensures ready { IsReady words.now.table.shared.key B.tells words.now.table.shared.table_id pass.new }
         ensures told { ReleaseTold self.pid self.version [] None (view pass.old) (view pass.new) }
+        ensures kept { B.tells ≡ true → IsKeptNow U.keeps self.pid (Unit {0}) (view pass.new) }
     {
         let ExclusiveGuard {
             pid,

@@ -105,7 +105,7 @@ fn give_back<U: Owner, B: Block>(words: &Words<U, B>, pass: &mut Pass<U>, page: 
     requires home { (view pass.old).out ≡ None }
     ensures pass { IsSamePass pass.old pass.new }
     ensures ready { IsReady words.now.table.shared.key B.tells words.now.table.shared.table_id pass.new }
-    ensures given { GivesBack page.pid (view pass.old) (view pass.new) }
+    ensures given { GivesBack page.pid page.version (view pass.old) (view pass.new) }
 {
     let Seized {
         pid,

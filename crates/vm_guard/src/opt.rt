@@ -5,7 +5,7 @@ ghost use Rattle.vm_step.specs.Prelude.{IsAlone, IsFrameAt, IsKeptNow, IsReady, 
 ghost use Rattle.vm_step.specs.Prelude.{UnlockedExpected, view};
 ghost use Rattle.vm_guard.specs.Denied.{AgainOrNeed, AgainOrWorn, IsDenied, KeptWord, SameOrUnlocked};
 ghost use Rattle.vm_guard.specs.Guards.{BeginsReading, HasLeft, IsLocked, IsReading, IsUnmarked, IsValid, Loads, placed};
-ghost use Rattle.vm_guard.specs.{PageWords.LoadsWords, Sure.IsKnownAt, Sure.IsKnownFree, Sure.known_word};
+ghost use Rattle.vm_guard.specs.{PageWords.LoadsWords, Quiet.LeavesTable, Sure.IsKnownAt, Sure.IsKnownFree, Sure.known_word};
 ghost use Rattle.vm_guard.specs.Takes.{IsToExpect};
 
 use crate::deny::Deny;
@@ -156,6 +156,7 @@ impl OptGuard {
         ensures ready { IsReady words.now.table.shared.key B.tells words.now.table.shared.table_id pass.new }
         ensures size { length into.new ≡ WORDS }
         ensures loads { Loads self.now.pid self.now.word self.now.frame (placed 0 into.new) (view pass.old) (view pass.new) }
+        ensures words { LoadsWords into.new (view pass.old) (view pass.new) }
     {
         let first = frame_place(words, self.frame);
         for turn in 0..WORDS / TURN {
@@ -187,6 +188,7 @@ impl OptGuard {
         ensures kept { B.tells ≡ true → IfOk result (λ _. IsKeptNow U.keeps self.now.pid (Unit {0}) (view pass.new)) }
         ensures err { IfErr result
             (λ saw. IsDenied AgainOrNeed (KeptWord self.now.word) NoneExpected self.now.pid (Deny.Again saw) (view pass.old) (view pass.new)) }
+        ensures bare { IfErr result (λ _. LeavesTable (view pass.old) (view pass.new)) }
         ensures sure { IsAlone (view pass.old) → IsKnownAt self.now.pid self.now.word (view pass.old) → IsOk result }
         ensures words { LoadsWords [] (view pass.old) (view pass.new) }
     {
@@ -209,6 +211,7 @@ impl OptGuard {
         ensures kept { B.tells ≡ true → IfOk result (λ _. IsKeptNow U.keeps self.now.pid (Unit {0}) (view pass.new)) }
         ensures err { IfErr result
             (λ saw. IsDenied AgainOrNeed (KeptWord self.now.word) NoneExpected self.now.pid (Deny.Again saw) (view pass.old) (view pass.new)) }
+        ensures bare { IfErr result (λ _. LeavesTable (view pass.old) (view pass.new)) }
         ensures sure { IsAlone (view pass.old) → IsKnownAt self.now.pid self.now.word (view pass.old) → IsOk result }
         ensures words { LoadsWords [] (view pass.old) (view pass.new) }
     {
@@ -231,6 +234,7 @@ impl OptGuard {
         ensures taken { IfOk result (λ guard. (guard.pid ≡ self.pid) × (guard.version ≡ version_of self.word)
             × IsLocked U.tied self.pid guard.frame guard.version guard.dirty (view pass.old) (view pass.new)) }
         ensures denied { IfErr result (λ deny. IsDenied AgainOrWorn (KeptWord self.word) UnlockedExpected self.pid deny (view pass.old) (view pass.new)) }
+        ensures bare { IfErr result (λ _. LeavesTable (view pass.old) (view pass.new)) }
         ensures worn { version_of self.word ≡ MAX_VERSION → result ≡ Err (Deny.Worn self.pid) }
         ensures sure { IsAlone (view pass.old) → IsKnownFree self.pid (view pass.old)
             → SameOrUnlocked self.word (known_word self.pid (view pass.old)) → version_of self.word < MAX_VERSION → IsOk result }

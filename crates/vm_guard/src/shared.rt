@@ -3,7 +3,7 @@ ghost use Rattle.std.specs.Prelude.{◌<◌, ◌≡◌, IfErr, IfOk, IsOk, slice
 ghost use Rattle.vm_core.specs.Prelude.{MayShare};
 ghost use Rattle.vm_rule.specs.Prelude.{last_of};
 ghost use Rattle.vm_step.specs.Prelude.{IsAlone, IsReady, IsSamePass, KnowsSame, MayStep, MayUnshare, NoneExpected, NoWord, view};
-ghost use Rattle.vm_guard.specs.{Denied.IsDenied, Denied.NotWorn, Quiet.IsQuiet, Sure.known_word, Takes.HasRoom, Takes.SaysWhy};
+ghost use Rattle.vm_guard.specs.{Denied.IsDenied, Denied.NotWorn, Quiet.IsQuiet, Quiet.LeavesTable, Sure.known_word, Takes.HasRoom, Takes.SaysWhy};
 ghost use Rattle.vm_guard.specs.Guards.{IsShared, IsSharing, IsUnshared};
 
 use crate::deny::Deny;
@@ -54,6 +54,7 @@ impl SharedGuard {
         ensures ready { IsReady words.now.table.shared.key B.tells words.now.table.shared.table_id pass.new }
         ensures taken { IfOk result (λ g. (g.pid ≡ pid) × IsShared U.tied pid g.frame (view pass.old) (view pass.new)) }
         ensures denied { IfErr result (λ d. IsDenied NotWorn NoWord NoneExpected pid d (view pass.old) (view pass.new)) }
+        ensures bare { IfErr result (λ _. LeavesTable (view pass.old) (view pass.new)) }
         ensures sure { IsAlone (view pass.old) → MayShare (known_word pid (view pass.old)) → IsOk result }
     {
         let word = look_silently(words, pass, pid);

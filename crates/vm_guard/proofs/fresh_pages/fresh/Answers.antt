@@ -1,4 +1,4 @@
-use Rattle.vm_guard.proofs.FreshAnswers.{begins, first-denied, held-after, is-full, out-after, ready-after}
+use Rattle.vm_guard.proofs.FreshAnswers.{begins, first-denied, held-after, is-full, out-after}
 use Rattle.vm_guard.proofs.FreshSure.{first-word, loaded-alone, next-now, no-room, not-full, pages-settle, second-word}
 use Rattle.vm_guard.proofs.Prelude.{arith, false≢true, held-on, IsFreshAnswer, IsFull, LocksNone, sym, ◌∙◌, MayBeSeized, refl, subst, view, ℕ, ◌+◌, ◌<◌, ◌≡◌, ◌≤◌}
 use Rattle.vm_guard.proofs.fresh_pages.fresh.Goals as goal
@@ -90,6 +90,3 @@ pub returns-else-n-eq1-clause-answer : goal.returns-else-n-eq1-clause-answer
 returns-else-n-eq1-clause-answer g c =
     subst (λ (n : ℕ). IsFreshAnswer n c.args.frames.now c.give_two.new.frames (view c.args.pass.now) (view c.give_two.new.pass) c.give_two.result) (omega (arith, c.requires.few, c.if-n-eq1.false))
     (c.give_two.ensures.answer (view c.args.pass.now) (begins c.nload-found.ensures.told c.in-Ok.ensures.taken))
-
-pub returns-then-pages-next-clause-ready : goal.returns-then-pages-next-clause-ready
-returns-then-pages-next-clause-ready g c = ready-after c.nload-found.ensures.pass c.nload-found.ensures.told c.requires.ready

@@ -1,6 +1,5 @@
-use Rattle.vm_guard.proofs.GuardSteps.{same-then}
 use Rattle.vm_guard.proofs.Furnishing.{frame-within, furnish-empty, furnish-resident, may-install, may-own}
-use Rattle.vm_guard.proofs.Prelude.{ap, length, ready-on, sym, ◌<◌, IsSeized, List, option_to_list, Stores, subst, view, ℕ, ◌++◌, ◌∙◌}
+use Rattle.vm_guard.proofs.Prelude.{ap, IsSeized, List, option_to_list, Stores, subst, view, ℕ, ◌++◌, ◌∙◌}
 use Rattle.vm_guard.proofs.fresh_pages.furnish.Goals as goal
 
 pub install-requires-clause-legal : goal.install-requires-clause-legal
@@ -45,11 +44,3 @@ install-requires-clause-frame g c =
 pub own-requires-clause-frame : goal.own-requires-clause-frame
 own-requires-clause-frame g c =
     (frame-within _ _ c.args.frames.now c.pop.new.self (view c.args.pass.now) c.requires.frames.0 (c.pop.ensures.frames ∙ ap (λ o. c.pop.new.self ++ option_to_list o) c.in-Some-pop.is) c.requires.ready.table.is_shape.frames).0
-
-pub returns-in-Some-pop-clause-ready : goal.returns-in-Some-pop-clause-ready
-returns-in-Some-pop-clause-ready g c =
-    let amid = (returns-in-Some-pop-clause-furnished g c).amid in
-    ready-on _ _ _ c.args.pass.now c.own.new.pass (same-then c.own.ensures.pass (same-then c.install.ensures.pass c.fill.ensures.pass)) amid.start amid.parts.0 c.requires.ready
-
-pub own-requires-clause-pass : goal.own-requires-clause-pass
-own-requires-clause-pass g c = (c.install.ensures.pass.0 ∙ c.fill.ensures.ready.may.0, subst (λ (l : List ℕ). 0 < length l) (sym (ap (λ y. y.used) c.install.ensures.told.brings.view)) c.fill.ensures.ready.may.1)

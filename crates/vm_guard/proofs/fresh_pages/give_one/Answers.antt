@@ -1,6 +1,6 @@
-use Rattle.vm_guard.proofs.{Freshly.claim-keeps, Freshly.fresh-one, Freshly.may-claim-one, Freshly.zero-now, FreshSure.next-found}
-use Rattle.vm_guard.proofs.FreshAnswers.{again-one, held-after, out-after, ready-after, room-one, seized-after}
-use Rattle.vm_guard.proofs.Prelude.{found_by, NextTold, ready-on, refl, subst, view, ◌∙◌}
+use Rattle.vm_guard.proofs.{Freshly.fresh-one, Freshly.may-claim-one, Freshly.zero-now, FreshSure.next-found}
+use Rattle.vm_guard.proofs.FreshAnswers.{again-one, held-after, out-after, room-one, seized-after}
+use Rattle.vm_guard.proofs.Prelude.{found_by, NextTold, refl, subst, view, ◌∙◌}
 use Rattle.vm_guard.proofs.fresh_pages.give_one.Goals as goal
 
 pub returns-then-again-x-clause-answer : goal.returns-then-again-x-clause-answer
@@ -9,9 +9,6 @@ returns-then-again-x-clause-answer g c v b =
 
 pub furnish-first-requires-clause-frames : goal.furnish-first-requires-clause-frames
 furnish-first-requires-clause-frames g c = (held-after _ c.nload-again.result _ _ c.nload-again.ensures.told c.requires.frames.0, c.requires.frames.1)
-
-pub returns-clause-ready : goal.returns-clause-ready
-returns-clause-ready g c = let kept = claim-keeps c.args.one.pid 1 _ _ _ c.claim.ensures.told in ready-on _ _ _ _ _ c.claim.ensures.pass kept.0 kept.1 c.furnish-first.ensures.ready
 
 pub returns-clause-answer : goal.returns-clause-answer
 returns-clause-answer g c v b = (
@@ -24,17 +21,11 @@ returns-clause-answer g c v b = (
 pub returns-then-again-x-clause-sure : goal.returns-then-again-x-clause-sure
 returns-then-again-x-clause-sure g c a is = absurd (c.if-again-x.true (next-found c.nload-again.ensures.told a ∙ is))
 
-pub give_back-requires-clause-ready : goal.give_back-requires-clause-ready
-give_back-requires-clause-ready g c = ready-after c.nload-again.ensures.pass c.nload-again.ensures.told c.requires.ready
-
 pub give_back-requires-clause-seized : goal.give_back-requires-clause-seized
 give_back-requires-clause-seized g c = seized-after c.requires.begun.1.seizes.seized c.nload-again.ensures.told
 
 pub give_back-requires-clause-home : goal.give_back-requires-clause-home
 give_back-requires-clause-home g c = out-after c.nload-again.ensures.told c.requires.home
-
-pub furnish-first-requires-clause-ready : goal.furnish-first-requires-clause-ready
-furnish-first-requires-clause-ready g c = ready-after c.nload-again.ensures.pass c.nload-again.ensures.told c.requires.ready
 
 pub furnish-first-requires-clause-seized : goal.furnish-first-requires-clause-seized
 furnish-first-requires-clause-seized g c = seized-after c.requires.begun.1.seizes.seized c.nload-again.ensures.told

@@ -1,8 +1,8 @@
 use Rattle.vm_guard.proofs.{Amid.amid-alone, FreshNone.seized-on, FreshNumbers.apart-first, FreshNumbers.apart-second, FreshSure.next-found, GuardSteps.same-then}
 use Rattle.vm_guard.proofs.{FreshSure.seized-next}
-use Rattle.vm_guard.proofs.FreshAnswers.{again-two, amid-denied, held-after, out-after, ready-after, room, second-denied, seized-after}
-use Rattle.vm_guard.proofs.Freshly.{claim-keeps, fresh-two, frames-left, holding-on, may-claim-two, zero-now, zero-second}
-use Rattle.vm_guard.proofs.Prelude.{arith, false≢true, found_by, held-on, IsSeized, NextTold, ready-on, refl, subst, sym, view, ◌+◌, ◌∙◌, ◌≤◌}
+use Rattle.vm_guard.proofs.FreshAnswers.{again-two, amid-denied, held-after, out-after, room, second-denied, seized-after}
+use Rattle.vm_guard.proofs.Freshly.{fresh-two, frames-left, holding-on, may-claim-two, zero-now, zero-second}
+use Rattle.vm_guard.proofs.Prelude.{arith, false≢true, found_by, held-on, IsSeized, NextTold, refl, subst, sym, view, ◌+◌, ◌∙◌, ◌≤◌}
 use Rattle.vm_guard.proofs.fresh_pages.give_two.Goals as goal
 
 pub returns-in-Err-clause-answer : goal.returns-in-Err-clause-answer
@@ -73,9 +73,6 @@ returns-then-again-x-clause-settled g c a is none =
     let taken = c.in-Ok.ensures.taken in
     absurd (c.if-again-x.true (next-found c.nload-again.ensures.told (amid-alone taken.1.amid a) ∙ seized-next taken.1 a ∙ is))
 
-pub returns-clause-ready : goal.returns-clause-ready
-returns-clause-ready g c = let kept = claim-keeps c.args.one.pid 2 _ _ _ c.claim.ensures.told in ready-on _ _ _ _ _ c.claim.ensures.pass kept.0 kept.1 c.furnish-second.ensures.ready
-
 -- ---- what each call of a page asks for
 
 pub give_back-requires-clause-seized : goal.give_back-requires-clause-seized
@@ -85,9 +82,6 @@ give_back-requires-clause-seized g c =
 
 pub give_back-requires-clause-home : goal.give_back-requires-clause-home
 give_back-requires-clause-home g c = c.in-Err.ensures.denied.denied.quiet.steady.out ∙ c.requires.home
-
-pub give_back-requires-then-again-x-clause-ready : goal.give_back-requires-then-again-x-clause-ready
-give_back-requires-then-again-x-clause-ready g c = ready-after c.nload-again.ensures.pass c.nload-again.ensures.told c.in-Ok.ensures.ready
 
 pub give_back-requires-then-again-x-clause-seized : goal.give_back-requires-then-again-x-clause-seized
 give_back-requires-then-again-x-clause-seized g c =
@@ -99,9 +93,6 @@ give_back-requires-then-again-x-clause-home g c = out-after c.nload-again.ensure
 
 pub give_back-requires-then-again-x-2-clause-home : goal.give_back-requires-then-again-x-2-clause-home
 give_back-requires-then-again-x-2-clause-home g c = c.give_back-then-again-x.ensures.given.amid.out ∙ out-after c.nload-again.ensures.told (c.in-Ok.ensures.taken.1.amid.out ∙ c.requires.home)
-
-pub furnish-first-requires-clause-ready : goal.furnish-first-requires-clause-ready
-furnish-first-requires-clause-ready g c = ready-after c.nload-again.ensures.pass c.nload-again.ensures.told c.in-Ok.ensures.ready
 
 pub furnish-first-requires-clause-seized : goal.furnish-first-requires-clause-seized
 furnish-first-requires-clause-seized g c =

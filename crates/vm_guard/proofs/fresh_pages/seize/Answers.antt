@@ -1,8 +1,9 @@
 -- The look, the exchange and the load of the translation word give each answer.
+use Rattle.vm_guard.proofs.Lockings.{page-looked}
 use Rattle.std.proofs.lemmas.Result.{IfOk-from_err}
-use Rattle.vm_guard.proofs.{Denials.denied-at-once, Denials.denied-lost, GuardSteps.ready-from, GuardSteps.same-then, QuietSteps.lock-lost, Seizing.ready-locked, Seizing.ready-looked, Seizing.seizes}
-use Rattle.vm_guard.proofs.Prelude.{AgainOrWorn, err_from_is_err_and, inl, inr, LOCKED, LocksNone, mapping_of, MayBeSeized, ready-on, refl, Seizes, subst, sym}
-use Rattle.vm_guard.proofs.Prelude.{UnlockedExpected, version_of, view, word_of, ⊎_elim, ◌<◌, ◌∙◌, ◌≡◌}
+use Rattle.vm_guard.proofs.{Denials.denied-at-once, Denials.denied-lost, GuardSteps.same-then, QuietSteps.lock-lost, Seizing.seizes}
+use Rattle.vm_guard.proofs.Prelude.{AgainOrWorn, err_from_is_err_and, inl, inr, LOCKED, LocksNone, mapping_of, MayBeSeized, refl, Seizes, subst, sym}
+use Rattle.vm_guard.proofs.Prelude.{UnlockedExpected, version_of, view, word_of, ⊎_elim, ◌≡◌}
 use Rattle.vm_guard.proofs.Sure.{found-as, lock-sure, refused-worn, seize-refused, seized-none}
 use Rattle.vm_guard.proofs.fresh_pages.seize.Goals as goal
 
@@ -11,7 +12,7 @@ returns-in_err-expects-clause-denied g c =
     let p = err_from_is_err_and c.from_residual.result c.from_residual.ensures.1 in
     let why = c.in_err-expects.ensures.denied in
     let d = denied-at-once g.U.Owner.tied AgainOrWorn UnlockedExpected c.args.pid c.look_silently-word.result c.in_err-expects.field-0.0 _ _ c.look_silently-word.ensures.told why.0 why.1 in
-    rw (p.1, p.2) (record { page = subst (λ n. c.args.pid < n) (sym c.look_silently-word.ensures.table.is_shape.pages) c.requires.page; denied = d.0; places_are = d.1 })
+    rw (p.1, p.2) (record { page = page-looked c.look_silently-word.ensures.told c.look_silently-word.ensures.ready.table.is_shape.pages c.requires.page; denied = d.0; places_are = d.1; bare = d.2 })
 
 pub returns-in_err-expects-clause-sure : goal.returns-in_err-expects-clause-sure
 returns-in_err-expects-clause-sure g c a may =
@@ -24,7 +25,7 @@ returns-in-Lost-clause-denied g c =
     let from = ⊎_elim (λ (e : c.in_ok-expects.expects ≡ c.look_silently-word.result). inl (sym e)) (λ h. inr h) c.in_ok-expects.ensures.ok.1 in
     let d = denied-lost g.U.Owner.tied AgainOrWorn UnlockedExpected c.args.pid c.look_silently-word.result c.in_ok-expects.expects c.in-Lost.seen (word_of LOCKED (version_of c.in_ok-expects.expects)) _ _ _ c.look_silently-word.ensures.told
     (lock-lost _ _ _ _ _ _ other c.in-Lost.ensures.told) from other tt in
-    record { page = subst (λ n. c.args.pid < n) (sym c.look_silently-word.ensures.table.is_shape.pages) c.requires.page; denied = d.0; places_are = d.1 }
+    record { page = page-looked c.look_silently-word.ensures.told c.look_silently-word.ensures.ready.table.is_shape.pages c.requires.page; denied = d.0; places_are = d.1; bare = d.2 }
 
 pub returns-in-Lost-clause-sure : goal.returns-in-Lost-clause-sure
 returns-in-Lost-clause-sure g c a may =
@@ -42,39 +43,20 @@ returns-in-Lost-clause-settled g c a none =
     let lost = c.in-Lost.ensures in
     absurd (lock-sure g.U.Owner.tied c.args.pid _ _ _ c.look_silently-word.ensures.told a _ _ _ lost.told c.in_ok-expects.ensures.ok.1 (lost.lost _ refl) none)
 
-pub returns-in-Lost-clause-ready : goal.returns-in-Lost-clause-ready
-returns-in-Lost-clause-ready g c = ready-from c.args.pass.now c.requires.pass c.look_silently-word.ensures.table (c.in-Lost.ensures.pass.0 ∙ c.look_silently-word.ensures.pass.0) (returns-in-Lost-clause-denied g c).denied.quiet.steady
-
 pub returns-in-Taken-clause-taken : goal.returns-in-Taken-clause-taken
 returns-in-Taken-clause-taken g c = (
   refl,
   subst (λ o. Seizes c.args.pid c.version.result o (view c.args.pass.now) (view c.tload.new.pass)) (sym c.mapping_said-stands.ensures)
       (subst (λ n. Seizes c.args.pid n (mapping_of c.tload.result) (view c.args.pass.now) (view c.tload.new.pass)) (sym c.version.ensures)
       (seizes g.U.Owner.tied c.args.pid c.look_silently-word.result c.in_ok-expects.expects c.tload.result _ _ _ _ c.look_silently-word.ensures.told c.in-Taken.ensures.told c.tload.ensures.told c.in_ok-expects.ensures.ok.0
-      (subst (λ n. c.args.pid < n) (sym c.look_silently-word.ensures.table.is_shape.pages) c.requires.page))),
+      (page-looked c.look_silently-word.ensures.told c.look_silently-word.ensures.ready.table.is_shape.pages c.requires.page))),
 )
-
-pub returns-in_err-expects-clause-ready : goal.returns-in_err-expects-clause-ready
-returns-in_err-expects-clause-ready g c = let look = c.look_silently-word.ensures in ready-looked g.U.Owner.tied c.args.pid c.args.pass.now c.requires.pass look.table look.pass look.told
 
 pub returns-in_err-expects-clause-taken : goal.returns-in_err-expects-clause-taken
 returns-in_err-expects-clause-taken g c = IfOk-from_err c.from_residual.result _ c.from_residual.ensures.0
 
-pub returns-in-Taken-clause-ready : goal.returns-in-Taken-clause-ready
-returns-in-Taken-clause-ready g c =
-    let look = c.look_silently-word.ensures in
-    let amid = (returns-in-Taken-clause-taken g c).1.amid in
-    ready-on _ _ _ c.args.pass.now c.tload.new.pass (same-then c.tload.ensures.pass (same-then c.in-Taken.ensures.pass look.pass)) amid.start amid.parts.0
-    (record { may = c.requires.pass; table = look.table })
-
 pub lock_exclusive-requires-clause-legal : goal.lock_exclusive-requires-clause-legal
 lock_exclusive-requires-clause-legal g c = c.in_ok-expects.ensures.ok.0.may_lock
-
-pub lock_exclusive-requires-clause-pass : goal.lock_exclusive-requires-clause-pass
-lock_exclusive-requires-clause-pass g c = let look = c.look_silently-word.ensures in (ready-looked g.U.Owner.tied c.args.pid c.args.pass.now {b = c.look_silently-word.new.pass} c.requires.pass look.table look.pass look.told).may
-
-pub tload-requires-clause-pass : goal.tload-requires-clause-pass
-tload-requires-clause-pass g c = let look = c.look_silently-word.ensures in (ready-locked g.U.Owner.tied c.args.pid {a = c.look_silently-word.new.pass} {b = c.lock_exclusive.new.pass} (ready-looked g.U.Owner.tied c.args.pid c.args.pass.now {b = c.look_silently-word.new.pass} c.requires.pass look.table look.pass look.told) c.in-Taken.ensures.pass c.in-Taken.ensures.told).may
 
 pub returns-in_err-expects-clause-pass : goal.returns-in_err-expects-clause-pass
 returns-in_err-expects-clause-pass g c = c.look_silently-word.ensures.pass

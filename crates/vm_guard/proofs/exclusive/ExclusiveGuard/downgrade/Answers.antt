@@ -1,4 +1,4 @@
-use Rattle.vm_guard.proofs.GuardSteps.{downgrades, may-downgrade, ready-then}
+use Rattle.vm_guard.proofs.GuardSteps.{downgrades, may-downgrade}
 use Rattle.vm_guard.proofs.Prelude.{subst, ◌<◌}
 use Rattle.vm_guard.proofs.exclusive.ExclusiveGuard.downgrade.Goals as goal
 
@@ -10,6 +10,3 @@ downgrade-requires-clause-legal g c = may-downgrade _ _ _ _ _ _ c.requires.holds
 
 pub returns-clause-downgraded : goal.returns-clause-downgraded
 returns-clause-downgraded g c = downgrades _ _ _ _ _ _ c.requires.holds c.downgrade.ensures.told
-
-pub returns-clause-ready : goal.returns-clause-ready
-returns-clause-ready g c = ready-then c.requires.ready c.downgrade.ensures.pass (returns-clause-downgraded g c).elsewhere.steady

@@ -1,4 +1,4 @@
-use Rattle.vm_guard.proofs.{GuardSteps.ready-then, OpenReads.frame-read, QuietSteps.load-quiet}
+use Rattle.vm_guard.proofs.{OpenReads.frame-read, QuietSteps.load-quiet}
 use Rattle.vm_guard.proofs.Prelude.{inl, IsSome, refl, subst, sym, view, ◌<◌}
 use Rattle.vm_guard.proofs.exclusive.ExclusiveGuard.read.Goals as goal
 
@@ -21,9 +21,6 @@ pub returns-clause-value : goal.returns-clause-value
 returns-clause-value g c tells =
     let h = c.requires.holds in
     c.load.ensures.told.drafted tells h.owns (subst (λ o. IsSome o) (sym h.stands) refl)
-
-pub returns-clause-ready : goal.returns-clause-ready
-returns-clause-ready g c = ready-then c.requires.ready c.load.ensures.pass (returns-clause-quiet g c).1.steady
 
 pub returns-clause-table : goal.returns-clause-table
 returns-clause-table g c a = ((load-quiet _ _ _ _ _ _ c.load.ensures.told).steady.alone.words a.0 a.1).1

@@ -1,4 +1,4 @@
-use Rattle.vm_guard.proofs.GuardSteps.{alone-first, first-may, ready-then, releases}
+use Rattle.vm_guard.proofs.GuardSteps.{alone-first, first-may, releases}
 use Rattle.vm_guard.proofs.Prelude.{subst, ◌<◌}
 use Rattle.vm_guard.proofs.exclusive.ExclusiveGuard.release.Goals as goal
 
@@ -10,6 +10,3 @@ release-requires-clause-legal g c = first-may c.requires.holds c.requires.home (
 
 pub returns-clause-released : goal.returns-clause-released
 returns-clause-released g c = releases _ _ _ _ _ _ _ c.requires.holds c.release.ensures.told
-
-pub returns-clause-ready : goal.returns-clause-ready
-returns-clause-ready g c = ready-then c.requires.ready c.release.ensures.pass (returns-clause-released g c).elsewhere.steady

@@ -1,6 +1,6 @@
 -- The page is made dirty, and then the word is stored.
-use Rattle.vm_guard.proofs.GuardSteps.{drafts-of, holds-dirty, ready-from, sets, still-holding}
-use Rattle.vm_guard.proofs.Prelude.{inr, StoresTold, subst, view, ◌<◌, ◌∙◌}
+use Rattle.vm_guard.proofs.GuardSteps.{drafts-of, holds-dirty, sets, still-holding}
+use Rattle.vm_guard.proofs.Prelude.{inr, StoresTold, subst, view, ◌<◌}
 use Rattle.vm_guard.proofs.exclusive.ExclusiveGuard.set.Goals as goal
 
 pub store-requires-clause-frame : goal.store-requires-clause-frame
@@ -18,6 +18,3 @@ returns-clause-set g c =
 
 pub returns-clause-holds : goal.returns-clause-holds
 returns-clause-holds g c = still-holding _ _ _ _ _ _ _ _ c.requires.holds (returns-clause-set g c)
-
-pub returns-clause-ready : goal.returns-clause-ready
-returns-clause-ready g c = ready-from c.args.pass.now c.requires.ready.may c.requires.ready.table (c.store.ensures.pass.0 ∙ c.make_dirty.ensures.pass.0) (returns-clause-set g c).elsewhere.steady

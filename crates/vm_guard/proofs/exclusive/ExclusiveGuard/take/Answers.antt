@@ -1,10 +1,10 @@
 -- The look, the exchange and the load of the translation word give each answer.
-use Rattle.vm_guard.proofs.{Denials.denied-at-once, Denials.denied-lost, GuardSteps.ready-from, QuietSteps.lock-lost}
-use Rattle.vm_guard.proofs.{GuardSteps.same-then, Seizing.ready-locked, Seizing.ready-looked}
+use Rattle.vm_guard.proofs.{Denials.denied-at-once, Denials.denied-lost, Denials.looked-bare, Denials.lost-bare, QuietSteps.lock-lost}
+use Rattle.vm_guard.proofs.{GuardSteps.same-then}
 use Rattle.std.proofs.lemmas.Result.{IfOk-from_err}
-use Rattle.vm_guard.proofs.Lockings.{lock-owns, lock-resident, locked}
+use Rattle.vm_guard.proofs.Lockings.{lock-owns, lock-resident, locked, page-looked}
 use Rattle.vm_guard.proofs.Prelude.{err_from_is_err_and, inl, inr, IsLocked, IsUnlockedWord, LOCKED, MAX_VERSION, NotCrowded, refl, subst, sym}
-use Rattle.vm_guard.proofs.Prelude.{UnlockedExpected, version_of, view, word_of, ⊎_elim, ◌<◌, ◌∙◌, ◌≡◌}
+use Rattle.vm_guard.proofs.Prelude.{UnlockedExpected, version_of, view, word_of, ⊎_elim, ◌<◌, ◌≡◌}
 use Rattle.vm_guard.proofs.Sure.{found-as, free-none, free-refused, lock-sure}
 use Rattle.vm_guard.proofs.exclusive.ExclusiveGuard.take.Goals as goal
 
@@ -32,7 +32,7 @@ returns-in-Taken-clause-taken g c = (
   refl,
   subst (λ n. IsLocked g.U.Owner.tied c.args.pid c.standing-stands.result.frame n c.standing-stands.result.dirty (view c.args.pass.now) (view c.standing-stands.new.pass)) (sym c.version.ensures)
       (locked _ _ _ _ _ _ _ _ _ _ c.look_silently-word.ensures.told c.in_ok-expects.ensures.ok c.in-Taken.ensures.told c.standing-stands.ensures.told.1 c.standing-stands.ensures.told.2
-      (subst (λ n. c.args.pid < n) (sym c.look_silently-word.ensures.table.is_shape.pages) c.requires.page)),
+      (page-looked c.look_silently-word.ensures.told c.look_silently-word.ensures.ready.table.is_shape.pages c.requires.page)),
 )
 
 pub returns-in_err-expects-clause-sure : goal.returns-in_err-expects-clause-sure
@@ -46,32 +46,21 @@ returns-in-Lost-clause-sure g c a free below =
     let lost = c.in-Lost.ensures in
     absurd (lock-sure g.U.Owner.tied c.args.pid _ _ _ c.look_silently-word.ensures.told a _ _ _ lost.told c.in_ok-expects.ensures.kept (lost.lost _ refl) (free-none _ free))
 
-pub returns-in-Lost-clause-ready : goal.returns-in-Lost-clause-ready
-returns-in-Lost-clause-ready g c = ready-from c.args.pass.now c.requires.pass c.look_silently-word.ensures.table (c.in-Lost.ensures.pass.0 ∙ c.look_silently-word.ensures.pass.0) (returns-in-Lost-clause-denied g c).quiet.steady
-
-pub returns-in-Taken-clause-ready : goal.returns-in-Taken-clause-ready
-returns-in-Taken-clause-ready g c = ready-from c.args.pass.now c.requires.pass c.look_silently-word.ensures.table (c.standing-stands.ensures.pass.0 ∙ c.in-Taken.ensures.pass.0 ∙ c.look_silently-word.ensures.pass.0) (returns-in-Taken-clause-taken g c).1.elsewhere.steady
-
-pub lock_exclusive-requires-clause-pass : goal.lock_exclusive-requires-clause-pass
-lock_exclusive-requires-clause-pass g c =
-    let look = c.look_silently-word.ensures in
-    (ready-looked g.U.Owner.tied c.args.pid c.args.pass.now {b = c.look_silently-word.new.pass} c.requires.pass look.table look.pass look.told).may
-
-pub returns-in_err-expects-clause-ready : goal.returns-in_err-expects-clause-ready
-returns-in_err-expects-clause-ready g c =
-    let look = c.look_silently-word.ensures in
-    ready-looked g.U.Owner.tied c.args.pid c.args.pass.now {b = c.look_silently-word.new.pass} c.requires.pass look.table look.pass look.told
-
 pub returns-in_err-expects-clause-taken : goal.returns-in_err-expects-clause-taken
 returns-in_err-expects-clause-taken g c = IfOk-from_err c.from_residual.result _ c.from_residual.ensures.0
-
-pub standing-stands-requires-clause-pass : goal.standing-stands-requires-clause-pass
-standing-stands-requires-clause-pass g c =
-    let look = c.look_silently-word.ensures in
-    (ready-locked g.U.Owner.tied c.args.pid {a = c.look_silently-word.new.pass} {b = c.lock_exclusive.new.pass} (ready-looked g.U.Owner.tied c.args.pid c.args.pass.now {b = c.look_silently-word.new.pass} c.requires.pass look.table look.pass look.told) c.in-Taken.ensures.pass c.in-Taken.ensures.told).may
 
 pub returns-in-Lost-clause-pass : goal.returns-in-Lost-clause-pass
 returns-in-Lost-clause-pass g c = same-then c.in-Lost.ensures.pass c.look_silently-word.ensures.pass
 
 pub returns-in-Taken-clause-pass : goal.returns-in-Taken-clause-pass
 returns-in-Taken-clause-pass g c = same-then c.standing-stands.ensures.pass (same-then c.in-Taken.ensures.pass c.look_silently-word.ensures.pass)
+
+pub returns-in_err-expects-clause-bare : goal.returns-in_err-expects-clause-bare
+returns-in_err-expects-clause-bare g c =
+    let p = err_from_is_err_and c.from_residual.result c.from_residual.ensures.1 in
+    rw p.1 (looked-bare c.look_silently-word.ensures.told)
+
+pub returns-in-Lost-clause-bare : goal.returns-in-Lost-clause-bare
+returns-in-Lost-clause-bare g c =
+    let other = c.in-Lost.ensures.lost c.in-Lost.seen refl in
+    lost-bare _ _ _ c.look_silently-word.ensures.told (lock-lost _ _ _ _ _ _ other c.in-Lost.ensures.told) other

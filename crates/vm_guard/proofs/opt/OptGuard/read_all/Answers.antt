@@ -1,9 +1,11 @@
-use Rattle.vm_guard.proofs.Prelude.{[], ap, arith, List, Loads, placed, refl, subst, sym, take, view, ℕ, ◌*◌, ◌++◌, ◌+◌, ◌<◌, ◌∙◌, ◌∷◌, ◌≡◌}
+use Rattle.vm_guard.specs.PageWords.{LoadsWords}
+use Rattle.vm_guard.proofs.PageLoads.{none-words, words-then}
+use Rattle.vm_guard.proofs.Prelude.{[], ap, arith, List, Loads, placed, refl, subst, sym, take, take_more_set, view, ℕ, ◌*◌, ◌++◌, ◌+◌, ◌<◌, ◌∙◌, ◌∷◌, ◌≡◌}
 use Rattle.vm_guard.proofs.Reading.{loaded-then, none-loaded, placed-taken}
 use Rattle.vm_guard.proofs.opt.OptGuard.read_all.Goals as goal
 
 pub loop-turn-init : goal.loop-turn-init
-loop-turn-init g c = record { same = (refl, refl); ready = c.requires.ready; size = c.requires.size; loads = none-loaded _ _ _ _ c.requires.reading }
+loop-turn-init g c = record { same = (refl, refl); ready = c.requires.ready; size = c.requires.size; loads = none-loaded _ _ _ _ c.requires.reading; words = none-words _ }
 
 pub loop-k-preserved : goal.loop-k-preserved
 loop-k-preserved g c =
@@ -12,10 +14,14 @@ loop-k-preserved g c =
     let low : i < 64 = omega (arith, c.loop-turn-test.true, c.loop-k-test.true) in
     let into : placed 0 (take (i + 1) c.set.new.self) ≡ placed 0 (take i c.loop-k.into) ++ (i, c.word_at-word.result) ∷ []
     = ap (λ (l : List ℕ). placed 0 (take (i + 1) l)) c.set.ensures.words ∙ placed-taken i c.loop-k.into c.word_at-word.result (subst (λ n. i < n) (sym c.loop-k.invariant.size) low) in
+    let more : take (i + 1) c.set.new.self ≡ take i c.loop-k.into ++ c.word_at-word.result ∷ []
+    = ap (λ (l : List ℕ). take (i + 1) l) c.set.ensures.words ∙ take_more_set c.loop-k.into i c.word_at-word.result (subst (λ n. i < n) (sym c.loop-k.invariant.size) low) in
     record {
       same = (c.word_at-word.ensures.pass.0 ∙ c.loop-k.invariant.same.0, c.word_at-word.ensures.pass.1 ∙ c.loop-k.invariant.same.1);
       ready = c.word_at-word.ensures.ready;
       size = c.set.ensures.length;
       loads = subst (λ n. Loads c.args.self.now.pid c.args.self.now.word c.args.self.now.frame (placed 0 (take n c.set.new.self)) (view c.args.pass.now) (view c.word_at-word.new.pass)) next
           (rw into (loaded-then _ _ _ _ _ _ _ _ c.loop-k.invariant.loads c.word_at-word.ensures.loads));
+      words = subst (λ n. LoadsWords (take n c.set.new.self) (view c.args.pass.now) (view c.word_at-word.new.pass)) next
+          (rw more (words-then _ _ _ _ _ c.loop-k.invariant.words c.word_at-word.ensures.words));
     }

@@ -1,4 +1,5 @@
 use Rattle.vm_guard.proofs.Prelude.{IsReady, IsSamePass, length, Loads, placed, take, view, ◌*◌, ◌+◌, ◌≡◌}
+use Rattle.vm_guard.specs.PageWords.{LoadsWords}
 use Rattle.vm_guard.proofs.opt.OptGuard.read_all.Given as goal
 
 -- the words of the turns so far were loaded, and stand in the page
@@ -8,6 +9,7 @@ invariant-loop-turn g l = record {
   ready : IsReady l.words.table.shared.key g.B.Block.tells l.words.table.shared.table_id l.pass;
   size : length l.into ≡ 64;
   loads : Loads l.self.pid l.self.word l.self.frame (placed 0 (take (8 * l.turn) l.into)) (view l.fn.pass) (view l.pass);
+  words : LoadsWords (take (8 * l.turn) l.into) (view l.fn.pass) (view l.pass);
 }
 
 -- and k words of this turn
@@ -17,4 +19,5 @@ invariant-loop-k g l = record {
   ready : IsReady l.words.table.shared.key g.B.Block.tells l.words.table.shared.table_id l.pass;
   size : length l.into ≡ 64;
   loads : Loads l.self.pid l.self.word l.self.frame (placed 0 (take (8 * l.turn + l.k) l.into)) (view l.fn.pass) (view l.pass);
+  words : LoadsWords (take (8 * l.turn + l.k) l.into) (view l.fn.pass) (view l.pass);
 }

@@ -1,5 +1,6 @@
 -- The looks, the mark that is taken away and the load of the translation word give each answer.
-use Rattle.vm_guard.proofs.{Seizing.may-loaded, Seizing.ready-looked, Denials.denied-at-once, OpenReads.locked-unreadable, Validating.kept-as}
+use Rattle.vm_guard.proofs.Lockings.{page-looked}
+use Rattle.vm_guard.proofs.{Denials.denied-at-once, OpenReads.locked-unreadable, Validating.kept-as}
 use Rattle.vm_guard.proofs.Prelude.{AgainOrNeed, ap, EVICTED, false≢true, inl, inr, is_readable, None, NoneExpected, refl, state_of, subst, sym, true≢false}
 use Rattle.vm_guard.proofs.Prelude.{◌<◌, ◌∙◌, ◌≡◌}
 use Rattle.vm_guard.proofs.Starting.{began, looks-same, moved, names-frame}
@@ -35,7 +36,7 @@ returns-clause-ok g c = (
   began _ _ _ _ _ _ _ _ _ _ c.look_silently-first.ensures.told c.clear_mark.ensures.clears c.tload-translation.ensures.told c.look_silently-seen.ensures.told
       (subst (λ n. n < 256) c.state.ensures c.state.type_inv) (λ e. c.if-state-2.false (c.state-2.ensures ∙ e)) (λ e. c.if-state.false (c.state.ensures ∙ e))
       (subst (λ n. n < 256) c.state-3.ensures c.state-3.type_inv) (λ e. c.if-state-3.false (c.state-3.ensures ∙ e)) (sym c.version.ensures ∙ c.if-version.false ∙ c.version-2.ensures)
-      _ (subst (λ n. c.args.pid < n) (sym c.look_silently-first.ensures.table.is_shape.pages) c.requires.page) (sym c.frame.ensures ∙ c.in-Some.is),
+      _ (page-looked c.look_silently-first.ensures.told c.look_silently-first.ensures.ready.table.is_shape.pages c.requires.page) (sym c.frame.ensures ∙ c.in-Some.is),
 )
 
 pub returns-then-state-clause-sure : goal.returns-then-state-clause-sure
@@ -96,24 +97,3 @@ returns-then-state-3-clause-words g c = started-words _ _ _ _ _ _ _ _ _ _ c.look
 
 pub returns-clause-words : goal.returns-clause-words
 returns-clause-words g c = started-words _ _ _ _ _ _ _ _ _ _ c.look_silently-first.ensures.told c.clear_mark.ensures.clears c.tload-translation.ensures.told c.look_silently-seen.ensures.told
-
-pub clear_mark-requires-clause-ready : goal.clear_mark-requires-clause-ready
-clear_mark-requires-clause-ready g c = let look = c.look_silently-first.ensures in ready-looked g.U.Owner.tied c.args.pid c.args.pass.now {b = c.look_silently-first.new.pass} c.requires.pass look.table look.pass look.told
-
-pub look_silently-seen-requires-clause-pass : goal.look_silently-seen-requires-clause-pass
-look_silently-seen-requires-clause-pass g c = may-loaded c.args.pid c.clear_mark.new.pass c.tload-translation.new.pass c.clear_mark.ensures.ready.may c.tload-translation.ensures.pass c.tload-translation.ensures.told
-
-pub returns-then-version-clause-ready : goal.returns-then-version-clause-ready
-returns-then-version-clause-ready g c =
-    let look = c.look_silently-seen.ensures in
-    ready-looked g.U.Owner.tied c.args.pid c.tload-translation.new.pass {b = c.look_silently-seen.new.pass} (may-loaded c.args.pid c.clear_mark.new.pass c.tload-translation.new.pass c.clear_mark.ensures.ready.may c.tload-translation.ensures.pass c.tload-translation.ensures.told) look.table look.pass look.told
-
-pub returns-then-state-3-clause-ready : goal.returns-then-state-3-clause-ready
-returns-then-state-3-clause-ready g c =
-    let look = c.look_silently-seen.ensures in
-    ready-looked g.U.Owner.tied c.args.pid c.tload-translation.new.pass {b = c.look_silently-seen.new.pass} (may-loaded c.args.pid c.clear_mark.new.pass c.tload-translation.new.pass c.clear_mark.ensures.ready.may c.tload-translation.ensures.pass c.tload-translation.ensures.told) look.table look.pass look.told
-
-pub returns-clause-ready : goal.returns-clause-ready
-returns-clause-ready g c =
-    let look = c.look_silently-seen.ensures in
-    ready-looked g.U.Owner.tied c.args.pid c.tload-translation.new.pass {b = c.look_silently-seen.new.pass} (may-loaded c.args.pid c.clear_mark.new.pass c.tload-translation.new.pass c.clear_mark.ensures.ready.may c.tload-translation.ensures.pass c.tload-translation.ensures.told) look.table look.pass look.told

@@ -1,6 +1,6 @@
-use Rattle.vm_guard.proofs.{GuardSteps.ready-from, GuardSteps.ready-then, Lockings.lock-owns, Lockings.lock-resident, Sure.upgrade-sure}
+use Rattle.vm_guard.proofs.{Denials.looked-bare, Lockings.lock-owns, Lockings.lock-resident, Sure.upgrade-sure}
 use Rattle.vm_guard.proofs.Prelude.{arith, inl, refl, subst, sym, version-within, version_of, ⊎_elim, ◌<◌, ◌∙◌, ◌≡◌, ◌≢◌, ◌≤◌}
-use Rattle.vm_guard.proofs.Upgrading.{lost, upgraded, worn}
+use Rattle.vm_guard.proofs.Upgrading.{lost, lost-word, upgraded, worn}
 use Rattle.vm_guard.proofs.opt.OptGuard.upgrade.Goals as goal
 
 pub returns-then-version-eq-MAX_VERSION-clause-denied : goal.returns-then-version-eq-MAX_VERSION-clause-denied
@@ -45,8 +45,8 @@ returns-in-Lost-clause-sure g c a free known below =
     let lost = c.in-Lost.ensures in
     absurd (upgrade-sure g.U.Owner.tied c.args.self.pid c.args.self.word _ _ _ _ lost.told c.unlocked-expects.ensures.kept c.unlocked-expects.ensures.expects.may_lock (lost.lost _ refl) a free known)
 
-pub returns-in-Lost-clause-ready : goal.returns-in-Lost-clause-ready
-returns-in-Lost-clause-ready g c = ready-then c.requires.ready c.in-Lost.ensures.pass (returns-in-Lost-clause-denied g c).quiet.steady
+pub returns-then-version-eq-MAX_VERSION-clause-bare : goal.returns-then-version-eq-MAX_VERSION-clause-bare
+returns-then-version-eq-MAX_VERSION-clause-bare g c = looked-bare c.look_silently.ensures.told
 
-pub returns-in-Taken-clause-ready : goal.returns-in-Taken-clause-ready
-returns-in-Taken-clause-ready g c = ready-from c.args.pass.now c.requires.ready.may c.requires.ready.table (c.standing-stands.ensures.pass.0 ∙ c.in-Taken.ensures.pass.0) (returns-in-Taken-clause-taken g c).2.elsewhere.steady
+pub returns-in-Lost-clause-bare : goal.returns-in-Lost-clause-bare
+returns-in-Lost-clause-bare g c = lost-word c.in-Lost.ensures.told (c.in-Lost.ensures.lost _ refl)

@@ -1,3 +1,4 @@
+use Rattle.vm_guard.proofs.Denials.{looked-bare}
 use Rattle.vm_guard.proofs.{Prelude.IfErr-weaker, Prelude.IfOk-weaker, Sure.valid-sure}
 use Rattle.vm_guard.proofs.Validating.{kept-as, ok-unless, refused, stays-open, validated}
 use Rattle.vm_guard.proofs.PageLoads.{looked-words}
@@ -19,3 +20,6 @@ returns-clause-sure g c a at = ok-unless c.judge.result _ (λ saw k. valid-sure 
 
 pub returns-clause-words : goal.returns-clause-words
 returns-clause-words g c = looked-words _ _ _ _ _ _ c.look-seen.ensures.told
+
+pub returns-clause-bare : goal.returns-clause-bare
+returns-clause-bare g c = IfErr-weaker c.judge.result _ _ (λ saw k. looked-bare c.look-seen.ensures.told) c.judge.ensures.err

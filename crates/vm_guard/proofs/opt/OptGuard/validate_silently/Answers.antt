@@ -1,3 +1,4 @@
+use Rattle.vm_guard.proofs.Denials.{looked-bare}
 use Rattle.vm_guard.proofs.Prelude.{IfErr-weaker, IfOk-weaker, inl, inr, refl, ⊎_elim}
 use Rattle.vm_guard.proofs.Sure.{valid-sure}
 use Rattle.vm_guard.proofs.Validating.{kept-as, ok-unless, refused, stays-open, validated}
@@ -20,3 +21,6 @@ returns-clause-sure g c a at = ok-unless c.judge.result _ (λ saw k. valid-sure 
 
 pub returns-clause-words : goal.returns-clause-words
 returns-clause-words g c = looked-words _ _ _ _ _ _ c.look_silently-seen.ensures.told
+
+pub returns-clause-bare : goal.returns-clause-bare
+returns-clause-bare g c = IfErr-weaker c.judge.result _ _ (λ saw k. looked-bare c.look_silently-seen.ensures.told) c.judge.ensures.err

@@ -1,4 +1,4 @@
-use Rattle.vm_guard.proofs.{GuardSteps.ready-then, OpenReads.frame-read, QuietSteps.load-quiet}
+use Rattle.vm_guard.proofs.{OpenReads.frame-read, QuietSteps.load-quiet}
 use Rattle.vm_guard.proofs.Prelude.{ap, inr, Some, subst, view, ◌<◌, ◌∙◌}
 use Rattle.vm_guard.proofs.shared.SharedGuard.read.Goals as goal
 
@@ -18,9 +18,6 @@ load-requires-clause-frame g c =
 
 pub returns-clause-quiet : goal.returns-clause-quiet
 returns-clause-quiet g c = (_, load-quiet _ _ _ _ _ _ c.load.ensures.told)
-
-pub returns-clause-ready : goal.returns-clause-ready
-returns-clause-ready g c = ready-then c.requires.ready c.load.ensures.pass (returns-clause-quiet g c).1.steady
 
 pub returns-clause-table : goal.returns-clause-table
 returns-clause-table g c a = ((load-quiet _ _ _ _ _ _ c.load.ensures.told).steady.alone.words a.0 a.1).1

@@ -1,8 +1,8 @@
 -- The look, the exchange and the load of the translation word give each answer.
-use Rattle.vm_guard.proofs.{Denials.denied-at-once, Denials.denied-lost, GuardSteps.ready-from, Lockings.share-locking, Lockings.shared}
+use Rattle.vm_guard.proofs.Lockings.{page-looked}
+use Rattle.vm_guard.proofs.{Denials.denied-at-once, Denials.denied-lost, Denials.looked-bare, Denials.lost-bare, Lockings.share-locking, Lockings.shared}
 use Rattle.vm_guard.proofs.{QuietSteps.share-lost}
-use Rattle.vm_guard.proofs.Prelude.{err_from_is_err_and, inl, MayShare, NoneExpected, NotWorn, one_share_more, refl, state_of, subst, sym, version_of, word_of}
-use Rattle.vm_guard.proofs.Prelude.{◌<◌, ◌∙◌}
+use Rattle.vm_guard.proofs.Prelude.{err_from_is_err_and, inl, MayShare, NoneExpected, NotWorn, one_share_more, refl, state_of, version_of, word_of}
 use Rattle.vm_guard.proofs.Sure.{found-as, room-refused, share-sure}
 use Rattle.vm_guard.proofs.shared.SharedGuard.take.Goals as goal
 
@@ -27,7 +27,7 @@ pub returns-in-Taken-clause-taken : goal.returns-in-Taken-clause-taken
 returns-in-Taken-clause-taken g c = (
   refl,
   shared _ _ _ _ _ _ _ _ _ c.look_silently-word.ensures.told c.in_ok-room.ensures.ok c.in-Taken.ensures.told c.standing.ensures.told.1 c.standing.ensures.told.2
-      (subst (λ n. c.args.pid < n) (sym c.look_silently-word.ensures.table.is_shape.pages) c.requires.page),
+      (page-looked c.look_silently-word.ensures.told c.look_silently-word.ensures.ready.table.is_shape.pages c.requires.page),
 )
 
 pub returns-in_err-room-clause-sure : goal.returns-in_err-room-clause-sure
@@ -40,8 +40,12 @@ returns-in-Lost-clause-sure g c a room =
     let lost = c.in-Lost.ensures in
     absurd (share-sure g.U.Owner.tied c.args.pid c.look_silently-word.result _ _ c.look_silently-word.ensures.told a _ _ lost.told (lost.lost _ refl))
 
-pub returns-in-Lost-clause-ready : goal.returns-in-Lost-clause-ready
-returns-in-Lost-clause-ready g c = ready-from c.args.pass.now c.requires.pass c.look_silently-word.ensures.table (c.in-Lost.ensures.pass.0 ∙ c.look_silently-word.ensures.pass.0) (returns-in-Lost-clause-denied g c).quiet.steady
+pub returns-in_err-room-clause-bare : goal.returns-in_err-room-clause-bare
+returns-in_err-room-clause-bare g c =
+    let p = err_from_is_err_and c.from_residual.result c.from_residual.ensures.1 in
+    rw p.1 (looked-bare c.look_silently-word.ensures.told)
 
-pub returns-in-Taken-clause-ready : goal.returns-in-Taken-clause-ready
-returns-in-Taken-clause-ready g c = ready-from c.args.pass.now c.requires.pass c.look_silently-word.ensures.table (c.standing.ensures.pass.0 ∙ c.in-Taken.ensures.pass.0 ∙ c.look_silently-word.ensures.pass.0) (returns-in-Taken-clause-taken g c).1.elsewhere.steady
+pub returns-in-Lost-clause-bare : goal.returns-in-Lost-clause-bare
+returns-in-Lost-clause-bare g c =
+    let other = c.in-Lost.ensures.lost c.in-Lost.seen refl in
+    lost-bare _ _ _ c.look_silently-word.ensures.told (share-lost _ _ _ _ _ _ other c.in-Lost.ensures.told) other
