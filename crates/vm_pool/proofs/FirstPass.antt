@@ -1,6 +1,6 @@
 -- What the first pass of a pool knows: it is alone, each page is evicted at the first version, and the first bundle has frames.
 use Rattle.vm_rule.specs.declared.view.Place.TheVariants as places
-use Rattle.vm_pool.proofs.Prelude.{ap, arith, at, begun, Bool, bundles_of, counts_of, EVICTED, first-whole, full_bundle, HasFree, index_of, inr, IsAlone}
+use Rattle.vm_pool.proofs.Prelude.{ap, arith, begun, Bool, bundles_of, counts_of, EVICTED, first-whole, full_bundle, HasFree, index_of, inr, IsAlone}
 use Rattle.vm_pool.proofs.Prelude.{IsKnownOut, IsOf, IsStarted, IsWhole, known_word_at, length, List, MAX_VERSION, min, Origin, part-found, pow-le-pow_right}
 use Rattle.vm_pool.proofs.Prelude.{refl, Shape, slice_index, started-bundle, started-state, started_origin, started_shape, started_words, state_of, Stored}
 use Rattle.vm_pool.proofs.Prelude.{subst, sym, unborn, version_of, View, word-state, word-version, word_of, ℕ, ◌*◌, ◌+◌, ◌-◌, ◌<◌, ◌^◌, ◌∙◌, ◌≡◌, ◌≢◌, ◌≤◌}

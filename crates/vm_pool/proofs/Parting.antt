@@ -73,6 +73,7 @@ module _ {X : Type 0} where
             (λ s. record { holds = λ q. record { shares = refl; exclusive = refl; writing = refl }; out = refl; start = refl; seen = s }) (j.heard.0.0, j.heard.0.1);
         current = ap (λ (y : View X). y.current) is;
         used = ap (λ (y : View X). y.used) is ∙ ap (λ (l : List ℕ). v.used ++ l) same;
+        fresh = ap (λ (y : View X). y.fresh) is ∙ ap (λ (l : List ℕ). v.fresh ++ l) (ap (λ (y : View X). y.fresh) was);
         parts = λ n.
             let now : owns n x ≡ times n (v.used ++ m.used) + times n (v.fresh ++ m.fresh) = ap (owns n) is in
             let kept : owns n m ≡ owns n u = ap (owns n) was in

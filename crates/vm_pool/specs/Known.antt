@@ -1,14 +1,14 @@
 -- What a pass that is alone knows of the table after it asked for a page: where it knew a frame to be free, from before the call; else from after
 -- the sweep that the call made.
-use Rattle.std.specs.Prelude.{[], ◌+◌, ◌<◌, ◌∷◌, ◌≡◌, ◌≢◌, ◌⊎◌, bit_xor, List, max, ℕ}
-use Rattle.vm_core.specs.Prelude.{AreLowest, at, EVICTED, MAX_VERSION, UNLOCKED, version_of}
+use Rattle.std.specs.Prelude.{[], ◌<◌, ◌∷◌, ◌≡◌, ◌≢◌, ◌⊎◌, bit_xor, List, max, ℕ}
+use Rattle.vm_core.specs.Prelude.{AreLowest, at, EVICTED, UNLOCKED, version_of}
 use Rattle.vm_rule.specs.Prelude.{bundles_of, frames_in}
 use Rattle.vm_rule.specs.declared.view.Place.TheVariants as places
 use Rattle.vm_step.specs.Prelude.{IsAlone, IsOfPage, known_word_at, KnowsElse, View}
 use Rattle.vm_exmap.specs.Frames.{HasFree, IsBundleOf}
 use Rattle.vm_fault.specs.Fetches.{IsKnownOut, IsOfBoth, KnowsReleased}
 use Rattle.vm_evict.specs.declared.report.Report.{Report}
-use Rattle.vm_pool.specs.{Brings.IsSure, Brings.KeepsLocks, Brings.SaysDry, declared.bring.Bring.Bring, Sweeps.IsSwept}
+use Rattle.vm_pool.specs.{Brings.IsSure, Brings.SaysDry, declared.bring.Bring.Bring, Sweeps.IsSwept}
 use Rattle.vm_pool.specs.declared.bring.Bring.TheVariants as brings
 
 module _ {X : Type 0} where

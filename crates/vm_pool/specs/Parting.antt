@@ -34,6 +34,7 @@ module _ {X : Type 0} where
     pub kept : KeepsAll v w
     pub current : w.current ≡ true
     pub used : w.used ≡ v.used ++ u.used
+    pub fresh : w.fresh ≡ v.fresh ++ u.fresh
     pub parts : (k : ℕ) → owns k w ≡ owns k v + owns k u
     pub notes : w.notes ≡ v.notes ++ u.notes
     pub frames : w.frames ≡ u.frames ++ v.frames

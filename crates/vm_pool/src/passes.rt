@@ -55,9 +55,7 @@ impl<U: Owner, B: Block> Pool<U, B> {
         requires other { MayStep self.now.words.table.shared.table_id other }
         requires nothing { HoldsNoPage (view other) }
         ensures pass { IsSamePass pass.old pass.new }
-        ensures may { MayStep self.now.words.table.shared.table_id pass.new }
-        ensures ready { IsReady self.now.words.table.shared.key B.tells self.now.words.table.shared.table_id pass.old
-            → IsReady self.now.words.table.shared.key B.tells self.now.words.table.shared.table_id pass.new }
+        ensures ready { IsReady self.now.words.table.shared.key B.tells self.now.words.table.shared.table_id pass.new }
         ensures told { TakesIn (view pass.old) (view other) (view pass.new) }
         ensures joins { Joins B.tells U.keeps (view pass.old) (view other) (view pass.new) }
     {
@@ -70,7 +68,8 @@ impl<U: Owner, B: Block> Pool<U, B> {
         requires pass { MayStep self.now.words.table.shared.table_id pass.old }
         requires other { MayStep self.now.words.table.shared.table_id other.old }
         ensures pass { IsSamePass pass.old pass.new × IsSamePass other.old other.new }
-        ensures may { MayStep self.now.words.table.shared.table_id pass.new × MayStep self.now.words.table.shared.table_id other.new }
+        ensures ready { IsReady self.now.words.table.shared.key B.tells self.now.words.table.shared.table_id pass.new }
+        ensures others { IsReady self.now.words.table.shared.key B.tells self.now.words.table.shared.table_id other.new }
         ensures met { Meets (view pass.old) (view other.old) (view pass.new) (view other.new) }
         ensures have { HaveMet (view pass.old) (view other.old) (view pass.new) (view other.new) }
     {

@@ -63,9 +63,6 @@ module _ {X : Type 0} where
         });
       }
 
-  pub stays-self : (v : View X) → SaysNothing v v
-  stays-self v = record { start = refl; used = refl; fresh = refl; mine = refl; notes = refl; nothing = λ n. n }
-
   pub stays-on : (u v w : View X) → SaysNothing u v → SaysNothing v w → SaysNothing u w
   stays-on u v w a b = record { start = b.start ∙ a.start; used = b.used ∙ a.used; fresh = b.fresh ∙ a.fresh; mine = b.mine ∙ a.mine; notes = b.notes ∙ a.notes; nothing = λ n. b.nothing (a.nothing n) }
 
@@ -98,9 +95,6 @@ module _ {X : Type 0} where
   pub stays-says : (v w : View X) → SaysNothing v w → MakesEntries v w
   stays-says v w s = record { start = s.start; used = s.used; fresh = s.fresh; entries = []; mine = s.mine ∙ sym (append-none v.mine); numbered = tt; notes = s.notes; nothing = s.nothing }
 
-  pub says-self : (v : View X) → MakesEntries v v
-  says-self v = record { start = refl; used = refl; fresh = refl; entries = []; mine = sym (append-none v.mine); numbered = tt; notes = refl; nothing = λ n. n }
-
   pub says-on : (u v w : View X) → MakesEntries u v → MakesEntries v w → MakesEntries u w
   says-on u v w a b = record {
     start = b.start ∙ a.start;
@@ -128,9 +122,6 @@ module _ {X : Type 0} where
     log = b.log ∙ ap (λ (l : List Did). l ++ b.done) a.log ∙ append_assoc u.log a.done b.done;
     given = given-behind a.done b.done (places.State p) word b.given;
   }
-
-  pub found-none : (calls replies : List ℕ) (v : View X) → AreFound 0 calls replies v v
-  found-none calls replies v = record { done = []; log = sym (append-none v.log); given = λ i l. absurd (omega (arith, l)) }
 
   pub found-more : (n : ℕ) (calls replies : List ℕ) (word : ℕ) (u v w : View X) → AreFound n calls replies u v → HasFoundWord (slice_index calls n) word v w → n < length replies → AreFound (n + 1) calls (slice_set replies n word) u w
   found-more n calls replies word u v w a b room =

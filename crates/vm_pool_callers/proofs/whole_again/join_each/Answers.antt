@@ -7,6 +7,6 @@ loop-other-preserved g c =
     let same = c.join.ensures.pass in
     let told = c.join.ensures.told in (
       (same.0 ∙ inv.0.0, same.1 ∙ inv.0.1),
-      c.join.ensures.may,
+      c.join.ensures.ready.may,
       subst (λ l. HasJoined (view c.args.pass.now) l (view c.join.new.pass)) (sym (map-append (λ p. view p) c.loop-other.yielded (c.in-Some.other ∷ []))) (joined-one _ _ _ _ _ _ inv.2 told.caught told.joins),
     )

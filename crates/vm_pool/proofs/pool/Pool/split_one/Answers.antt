@@ -4,19 +4,16 @@ use Rattle.vm_pool.proofs.pool.Pool.split_one.Goals as goal
 
 pub returns-clause-ready : goal.returns-clause-ready
 returns-clause-ready g c =
-    let up = c.catch_up.ensures.told.brings.view in
     let kept = c.split_pass.ensures.kept in
-    let number : 0 < length (view c.catch_up.new.pass).used = subst (λ (l : List ℕ). 0 < length l) (sym (ap (λ u. u.used) up)) c.requires.ready.may.1 in
-    let now = ready-as _ _ _ c.args.pass.now c.catch_up.new.pass c.requires.ready c.catch_up.ensures.pass.0 number (ap (λ u. u.start) up) in
-    ready-as _ _ _ c.catch_up.new.pass c.split_pass.new.pass now c.split_pass.ensures.pass.0 (subst (λ u. 0 < length u.used) (sym kept) number) (ap (λ u. u.start) kept)
+    let now = c.catch_up.ensures.ready in
+    ready-as _ _ _ c.catch_up.new.pass c.split_pass.new.pass now c.split_pass.ensures.pass.0 (subst (λ u. 0 < length u.used) (sym kept) now.may.1) (ap (λ u. u.start) kept)
 
 pub returns-clause-new : goal.returns-clause-new
 returns-clause-new g c =
     let up = c.catch_up.ensures.told.brings.view in
     let given = c.split_pass.ensures.given in
-    let number : 0 < length (view c.catch_up.new.pass).used = subst (λ (l : List ℕ). 0 < length l) (sym (ap (λ u. u.used) up)) c.requires.ready.may.1 in
     let room : 0 < length (view c.catch_up.new.pass).fresh = subst (λ (l : List ℕ). 0 < length l) (sym (ap (λ u. u.fresh) up)) c.requires.fresh in
-    let now = ready-as _ _ _ c.args.pass.now c.catch_up.new.pass c.requires.ready c.catch_up.ensures.pass.0 number (ap (λ u. u.start) up) in
+    let now = c.catch_up.ensures.ready in
     ready-as _ _ _ c.catch_up.new.pass c.split_pass.result now (c.split_pass.ensures.table ∙ sym now.may.0) (subst (λ u. 0 < length u.used) (sym given) (new-number (view c.catch_up.new.pass) room)) (ap (λ u. u.start) given)
 
 pub returns-clause-splits : goal.returns-clause-splits
