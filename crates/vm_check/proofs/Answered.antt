@@ -1,14 +1,13 @@
 -- What the walk comes to is what the checker answers.
-use Rattle.std.proofs.Common.{◌≡◌, ℕ, ◌∷◌, List, [], length, reverse, drop, Option, Some, None, Ok, Err, refl, sym, ap, ◌∙◌}
+use Rattle.std.proofs.Common.{◌≡◌, ℕ, ◌∷◌, List, [], length, reverse, drop, Option, Some, Ok, Err, refl, sym, ap, ◌∙◌}
 use Rattle.vm_tree_model.specs.Tree.{page_at}
 use Rattle.vm_tree_model.specs.Walk.{Slot, meta_fault}
-use Rattle.vm_tree_model.specs.Reason.{Walked, lost_or, first_lost, walk, walked, first_outcome, fault_of}
+use Rattle.vm_tree_model.specs.Reason.{Walked, lost_or, first_lost, walk, walked, fault_of}
 use Rattle.vm_check.specs.Progress.{outcome, outcome_at, IsFaultOf, IsOrphan}
 use Rattle.vm_check.specs.Rows.{IsRefusedImage}
 use Rattle.vm_check.specs.declared.walk.Walk.{Walk}
 use Rattle.vm_check.specs.declared.fault.CheckFault.{CheckFault}
 use Rattle.vm_check.specs.declared.fault.CheckFault.TheVariants.{BadPage, Memory}
-use Rattle.vm_tree_model.proofs.Complete.{fault_or-None}
 use Rattle.vm_tree_model.proofs.Theorem.{walk_from_tree}
 
 -- a fault of the walk refuses the image
@@ -21,9 +20,6 @@ refused_at pages fault w same is = refused pages fault (rw same at is)
 
 pub meta_refused : (pages : List (List ℕ)) (why : ℕ) → meta_fault (length pages) (page_at pages 0) ≡ Some why → walked pages ≡ Err (0, why)
 meta_refused pages why is = rw is refl
-
-pub meta_passed : (pages : List (List ℕ)) → meta_fault (length pages) (page_at pages 0) ≡ None → first_outcome pages ≡ walked pages
-meta_passed pages is = sym (fault_or-None 0 (meta_fault (length pages) (page_at pages 0)) (first_outcome pages) is)
 
 -- the next slot was taken from the stack
 pub taken : (pages : List (List ℕ)) (s : Slot) (old new : Walk) → reverse old.slots.items ≡ s ∷ reverse new.slots.items → new.visited ≡ old.visited → new.rows ≡ old.rows → outcome pages old ≡ outcome_at pages s new

@@ -1,9 +1,9 @@
 -- Pages and their bytes, page by page.
-use Rattle.std.proofs.Common.{◌≡◌, ℕ, zero, suc, ◌+◌, ◌*◌, ◌/◌, ◌<◌, ◌≤◌, List, [], ◌∷◌, ◌++◌, length, take, drop, refl, arith, ap, sym, ◌∙◌, length-drop, take-add, add-one}
+use Rattle.std.proofs.Common.{◌≡◌, ℕ, zero, suc, ◌+◌, ◌*◌, ◌<◌, ◌≤◌, List, [], ◌∷◌, ◌++◌, length, take, drop, refl, arith, ap, sym, ◌∙◌, length-drop, take-add, add-one}
 use Rattle.std.proofs.lemmas.List.{append_assoc, append-nil, drop-append-le, drop_all, take-append-le, take_all, take_more}
 use Rattle.vm_page.specs.Bytes.{bytes_of_words, words_of_bytes}
 use Rattle.vm_page.specs.Pages.{page_at}
-use Rattle.vm_image.specs.File.{page_in, pages_in, pages_of_bytes, bytes_of_pages, HaveWords}
+use Rattle.vm_image.specs.File.{page_in, pages_in, bytes_of_pages, HaveWords}
 
 pub bytes_of-append : (xs ys : List (List ℕ)) → bytes_of_pages (xs ++ ys) ≡ bytes_of_pages xs ++ bytes_of_pages ys
 bytes_of-append [] ys = refl
@@ -49,7 +49,3 @@ write_back bytes pages p more held long size lt is =
     let at : p + 1 ≡ suc p = omega arith in
     let whole : take (suc p) pages ≡ take p pages ++ page_at pages p ∷ [] = rw (← at) (take_more pages p [] lt) in
     rw (add-one, pages_in-append bytes more p (omega (arith, long)), held, page) (sym whole)
-
--- the pages of so many bytes
-pub pages_of-is : (bytes : List ℕ) (n : ℕ) → length bytes ≡ 512 * n → pages_of_bytes bytes ≡ pages_in bytes n
-pages_of-is bytes n long = let count : length bytes / 512 ≡ n = omega (arith, long) in rw count refl

@@ -1,41 +1,58 @@
 //! The calls on an inner node's children: look-up, a further one, and the split of a full node.
 
-ghost use Rattle.std.specs.Prelude.{◌≡◌, ◌≢◌, ℕ, length, IfOk, None, OnOk, OnErr, MatchOption, MatchResult};
+ghost use Rattle.std.specs.Prelude.{◌≡◌, ◌≢◌, ◌<◌, ◌≤◌, ℕ, length, IfOk, None, OnOk, OnErr, MatchOption, MatchResult};
 ghost use Rattle.vm_map.specs.Map.{Rises};
 ghost use Rattle.vm_tree_model.specs.Node.{Covers};
 ghost use Rattle.vm_tree_model.specs.Page.{pairs_of, node_of, IsInner};
 ghost use Rattle.vm_tree_model.specs.Edits.{IsFullFor, AddsPair, IsRefused, IsSplit};
 ghost use Rattle.vm_node.specs.Edited.{edited};
 ghost use Rattle.vm_node.specs.Loads.{Tells};
-ghost use Rattle.vm_inner.specs.Found.{FindsChild, FindsNoChild};
+ghost use Rattle.vm_inner.specs.Found.{FindsChild, FindsChildIn, FindsNoChild};
 
 use vm_map::window::MOST_PAIRS;
 use vm_node::pairs::{count_at, upper_bound_at};
 use vm_node::{Edit, Full, Place, in_buffer, put, put_edit, split};
 use vm_page::PageBuf;
 
-/// The page of the child whose range has the key, of any page whose keys rise: that of the last pair whose key is not above. Of other
-/// pages it is that of a pair whose key is not above, or none where the first pair's key is. From at most 7 words loaded.
-pub fn child_at<P: Place>(place: &mut P, key: u64) -> Option<u64>
+/// A child of an inner node: its page, and its low fence; its high fence is the next key, or the node's where there is none.
+#[derive(Clone, Copy, Debug, Drop, PartialEq, Eq)]
+pub struct Fenced {
+    pub page: u64,
+    pub low: u64,
+    pub next: Option<u64>,
+}
+
+/// The child whose range has the key, of any page whose keys rise: that of the last pair whose key is not above. Of other pages it is that of a
+/// pair whose key is not above, or none where the first pair's key is. From at most 7 words loaded, among them the keys on both sides.
+pub fn child_at<P: Place>(place: &mut P, key: u64) -> Option<Fenced>
     requires ready { P.ready place.old }
     ensures ready { P.ready place.new }
-    ensures told { Tells P.loads place.old 7 place.new (λ words. MatchOption result (FindsNoChild words key) (FindsChild words key)) }
+    ensures told { Tells P.loads place.old 7 place.new (λ words.
+        MatchOption result (FindsNoChild words key) (λ child. FindsChildIn words key child.page child.low child.next)) }
+    ensures sides { MatchOption result (Unit {0}) (λ child. (child.low ≤ key) × MatchOption child.next (Unit {0}) (λ above. key < above)) }
 {
     let count = count_at(place);
     let above = upper_bound_at(place, count, key);
-    if above == 0 {
+    if above.at == 0 {
         return None;
     }
-    Some(place.word(7 + 2 * above))
+    Some(Fenced {
+        page: place.word(7 + 2 * above.at),
+        low: above.low,
+        next: above.next,
+    })
 }
 
-/// The same, of a page in a buffer. An inner node that covers the key has such a child.
+/// The page of that child, of a page in a buffer. An inner node that covers the key has such a child.
 pub fn child(page: &PageBuf, key: u64) -> Option<u64>
     ensures child { MatchOption result (FindsNoChild page.now key) (FindsChild page.now key) }
     ensures there { IsInner page.now → Covers (node_of page.now) key → result ≢ None }
 {
     let mut place = in_buffer(page);
-    child_at(&mut place, key)
+    match child_at(&mut place, key) {
+        Some(found) => Some(found.page),
+        None => None,
+    }
 }
 
 /// Puts a child's page at its lowest key, over the one that is there, in any page whose keys rise. `Full` comes exactly where the node has 28 pairs

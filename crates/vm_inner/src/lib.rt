@@ -7,6 +7,6 @@
 mod children;
 mod root;
 
-pub use children::{add, add_edit, child, child_at, split_inner};
+pub use children::{Fenced, add, add_edit, child, child_at, split_inner};
 pub use root::new_root;
 pub use vm_node::Full;

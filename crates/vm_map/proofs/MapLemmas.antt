@@ -101,10 +101,6 @@ pub found_high : (m : Pairs) (low high q v : ℕ) → Rises low high m → looku
 found_high [] low high q v r found = absurd (cc)
 found_high (e ∷ es) low high q v r found = grind (arith, nat_tests, r.1, found_high es (e.0 + 1) high q v r.2)
 
-pub next-above : (m : Pairs) (high k : ℕ) → k < high → k < next_key m high k
-next-above [] high k lt = lt
-next-above (e ∷ es) high k lt = grind (arith, nat_tests, next-above es high k lt)
-
 pub next-le_high : (m : Pairs) (low high k : ℕ) → Rises low high m → next_key m high k ≤ high
 next-le_high [] low high k r = omega arith
 next-le_high (e ∷ es) low high k r = grind (arith, nat_tests, r.1, next-le_high es (e.0 + 1) high k r.2)
@@ -113,11 +109,6 @@ next-le_high (e ∷ es) low high k r = grind (arith, nat_tests, r.1, next-le_hig
 pub next-le_found : (m : Pairs) (low high a b v : ℕ) → Rises low high m → lookup_at m b ≡ Some v → a < b → next_key m high a ≤ b
 next-le_found [] low high a b v r found lt = absurd (cc)
 next-le_found (e ∷ es) low high a b v r found lt = grind (arith, nat_tests, r.0, found_low es (e.0 + 1) high b v r.2, next-le_found es (e.0 + 1) high a b v r.2)
-
--- below a rising list's first key, the next key is the first
-pub next-at_first : (m : Pairs) (low high k : ℕ) → Rises low high m → k < low → floor_pair m k ≡ None
-next-at_first [] low high k r lt = refl
-next-at_first (e ∷ es) low high k r lt = grind (arith, nat_tests, r.0)
 
 -- where no key is up to k, the next key after a lower one is above k
 pub next-above_none : (m : Pairs) (low high a k : ℕ) → Rises low high m → a < low → k < high → floor_pair m k ≡ None → k < next_key m high a

@@ -1,6 +1,6 @@
 -- What a call on a map is answered, which map it leaves, and when a history of calls is right.
 use Rattle.vm_map.specs.Keys.{KEY_END}
-use Rattle.std.specs.Prelude.{◌≡◌, ℕ, ◌^◌, ◌<◌, ◌≤◌, List, [], ◌∷◌, length, filter, nat_lt, nat_le, ◌&&◌, None}
+use Rattle.std.specs.Prelude.{◌≡◌, ℕ, ◌<◌, ◌≤◌, List, [], ◌∷◌, length, filter, nat_lt, nat_le, ◌&&◌, None}
 use Rattle.vm_map.specs.Map.{Pairs, lookup_at, put_pair, del_pair}
 use Rattle.vm_map.specs.declared.call.Call.{Call}
 use Rattle.vm_map.specs.declared.call.Call.TheVariants.{Get, Put, Del, Window}

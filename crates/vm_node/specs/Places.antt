@@ -1,5 +1,5 @@
 -- Where a key stands, or belongs, among the pairs of a node.
-use Rattle.std.specs.Prelude.{◌≡◌, ℕ, suc, ◌+◌, ◌<◌, ◌≤◌, [], ◌∷◌, length, if◌then◌else◌, nat_lt, ◌==◌, slice_index_or}
+use Rattle.std.specs.Prelude.{◌≡◌, ℕ, suc, ◌+◌, ◌<◌, ◌≤◌, [], ◌∷◌, length, if◌then◌else◌, nat_lt, ◌==◌, MatchOption, Option, slice_index_or}
 use Rattle.vm_map.specs.Map.{Pairs}
 
 -- how many pairs, from the first on, have a lower key
@@ -22,6 +22,11 @@ pub record IsBound (pairs : Pairs) (key at : ℕ) : Type 0 where
   pub inside : at ≤ length pairs
   pub before : (i : ℕ) → i + 1 ≡ at → (slice_index_or pairs i (0, 0)).0 < key
   pub here : at < length pairs → key ≤ (slice_index_or pairs at (0, 0)).0
+
+-- the pair before the place has this key, and the one at the place, where there is one, has the next
+pub record HasSides (pairs : Pairs) (at low : ℕ) (next : Option ℕ) : Type 0 where
+  pub before : (i : ℕ) → i + 1 ≡ at → (slice_index_or pairs i (0, 0)).0 ≡ low
+  pub here : MatchOption next (at ≡ length pairs) (λ k. (at < length pairs) × ((slice_index_or pairs at (0, 0)).0 ≡ k))
 
 -- the pair at the place has the key
 pub record HasKeyAt (pairs : Pairs) (key at : ℕ) : Type 0 where

@@ -4,7 +4,7 @@ ghost use Rattle.std.specs.Prelude.{◌≡◌, ℕ, ◌+◌, ◌*◌, ◌<◌, �
 ghost use Rattle.vm_map.specs.Map.{Rises, lookup_at};
 ghost use Rattle.vm_tree_model.specs.Page.{pairs_of};
 ghost use Rattle.vm_node.specs.Loads.{Tells};
-ghost use Rattle.vm_node.specs.Places.{HasKeyAt, IsBound, IsIndexOf, place_of};
+ghost use Rattle.vm_node.specs.Places.{HasKeyAt, HasSides, IsBound, IsIndexOf, place_of};
 
 use crate::place::{Place, in_buffer};
 use vm_map::window::MOST_PAIRS;
@@ -47,26 +47,47 @@ pub fn value_at(page: &PageBuf, i: usize) -> u64
     page.get(9 + 2 * i)
 }
 
+/// Where the keys of a page begin to be above one, and the keys on both sides of that place: of the pair before, 0 where there is none, and of the one
+/// there, if there is one.
+#[derive(Clone, Copy, Drop)]
+pub struct Above {
+    pub at: usize,
+    pub low: u64,
+    pub next: Option<u64>,
+}
+
 /// Where the keys of these first pairs begin to be above this one, found by halves from at most 5 words loaded: the pair before the place has no
-/// key above, and the one at the place has one.
-pub fn upper_bound_at<P: Place>(place: &mut P, count: usize, key: u64) -> usize
+/// key above, and the one at the place has one. The search has loaded the keys of both.
+pub fn upper_bound_at<P: Place>(place: &mut P, count: usize, key: u64) -> Above
     requires ready { P.ready place.old }
     requires count { count ≤ MOST_PAIRS }
     ensures ready { P.ready place.new }
-    ensures inside { result ≤ count }
-    ensures told { Tells P.loads place.old 5 place.new (λ words. count ≡ length (pairs_of words) → IsBound (pairs_of words) (key + 1) result) }
+    ensures inside { result.at ≤ count }
+    ensures told { Tells P.loads place.old 5 place.new (λ words. count ≡ length (pairs_of words)
+        → IsBound (pairs_of words) (key + 1) result.at × HasSides (pairs_of words) result.at result.low result.next) }
+    ensures low { result.low ≤ key }
+    ensures next { MatchOption result.next (Unit {0}) (λ above. key < above) }
 {
     let mut from = 0;
     let mut upto = count;
+    let mut low = 0;
+    let mut next = None;
     'halves: while from < upto {
         let middle = from + (upto - from) / 2;
-        if place.word(8 + 2 * middle) <= key {
+        let found = place.word(8 + 2 * middle);
+        if found <= key {
             from = middle + 1;
+            low = found;
         } else {
             upto = middle;
+            next = Some(found);
         }
     }
-    from
+    Above {
+        at: from,
+        low,
+        next,
+    }
 }
 
 /// Where the keys of these first pairs stop being lower than this one, from at most 5 words loaded: the pair before the place has a lower key, and
@@ -81,7 +102,7 @@ pub fn lower_bound_at<P: Place>(place: &mut P, count: usize, key: u64) -> usize
     let Some(before) = key.checked_sub(1) else {
         return 0;
     };
-    upper_bound_at(place, count, before)
+    upper_bound_at(place, count, before).at
 }
 
 /// The same, of the pairs of a buffer.

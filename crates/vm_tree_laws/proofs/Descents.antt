@@ -1,26 +1,31 @@
 -- Each step of a coupled descent reaches the node of its level that covers the key. The loop that descends keeps `IsReached` and `IsSound` of the page last validated, and its level falls.
 use Rattle.std.proofs.Common.{◌≡◌, ◌⊎◌, inl, inr, ℕ, zero, suc, ◌+◌, ◌^◌, ◌<◌, ◌≤◌, List, [], ◌∷◌, length, slice_index, Option, Some, None, refl, sym, arith, ap, ◌∙◌, option_map}
 use Rattle.std.proofs.lemmas.Bool.Decides.{nat_tests}
-use Rattle.vm_map.specs.Map.{floor_pair}
+use Rattle.vm_map.specs.Map.{floor_pair, lookup_at, next_key}
 use Rattle.vm_tree_model.specs.Node.{Covers}
 use Rattle.vm_tree_model.specs.Page.{pairs_of, node_of, IsLeaf, IsInner}
 use Rattle.vm_map.proofs.MapLemmas.{floor_is, floor_some}
 use Rattle.vm_tree_model.specs.Edits.{child_of}
-use Rattle.vm_tree_laws.specs.Descent.{IsReached, IsWay, last_words}
+use Rattle.vm_tree_laws.specs.Descent.{IsReached, IsReachedAs, IsWay, last_words}
 use Rattle.vm_tree_laws.specs.Tied.{IsTied, IsSound}
 
+-- a node whose fences hold the key covers it
+pub reached_as : (pages p : ℕ) (words : List ℕ) (level low high key : ℕ) → IsReachedAs pages p words level low high → low ≤ key → key < high → IsReached pages p words level key
+reached_as pages p words level low high key r from below = record {
+  from_one = r.from_one;
+  in_range = r.in_range;
+  kind = r.node.kind;
+  level_is = r.node.level_is;
+  covers = (omega (arith, r.node.low_is, from), omega (arith, r.node.high_is, below));
+}
+
 -- the root that a validated page 0 names, validated at the version seen before
+pub root_as : (pages p : ℕ) (meta words : List ℕ) → IsTied pages 0 meta p words → slice_index meta 1 ≡ p → IsReachedAs pages p words (slice_index meta 2) 0 (2 ^ 64)
+root_as pages p meta words tied root_is =
+    let m = tied.sound.meta refl in record { from_one = omega (arith, m.root_low, root_is); in_range = omega (arith, m.root_high, root_is); node = tied.root refl root_is }
+
 pub reached_root : (pages p key : ℕ) (meta words : List ℕ) → IsTied pages 0 meta p words → slice_index meta 1 ≡ p → key < 2 ^ 64 → IsReached pages p words (slice_index meta 2) key
-reached_root pages p key meta words tied root_is fits =
-    let form = tied.root refl root_is in
-    let m = tied.sound.meta refl in
-    record {
-      from_one = omega (arith, m.root_low, root_is);
-      in_range = omega (arith, m.root_high, root_is);
-      kind = form.kind;
-      level_is = form.level_is;
-      covers = (omega (arith, form.low_is), omega (arith, form.high_is, fits));
-    }
+reached_root pages p key meta words tied root_is fits = reached_as pages p words (slice_index meta 2) 0 (2 ^ 64) key (root_as pages p meta words tied root_is) (omega arith) fits
 
 module _ (pages r : ℕ) (words : List ℕ) (level key : ℕ) (reached : IsReached pages r words level key) where
   pub inner_by_tag : (node_of words).tag ≡ 3 → (1 ≤ level) × IsInner words
@@ -50,7 +55,14 @@ module _ (pages r : ℕ) (words : List ℕ) (level key : ℕ) (reached : IsReach
       let range = sound.children reached.from_one x.0 x.1 inner.node.tag f.found in
       (x.1, ap (option_map (λ (y : ℕ × ℕ). y.1)) is, range.0, range.1)
 
-  -- the child that validated words name, validated at the version seen before
+  -- the child that validated words name under a key, validated at the version seen before: its fences are that key and the next one
+  pub child_as : (p k : ℕ) (child : List ℕ) → IsInner words → lookup_at (pairs_of words) k ≡ Some p → IsTied pages r words p child → (below : ℕ) → below + 1 ≡ level
+      → IsReachedAs pages p child below k (next_key (pairs_of words) (node_of words).high k)
+  child_as p k child inner found tied below up =
+      let range = tied.sound.children reached.from_one k p inner.node.tag found in
+      record { from_one = range.0; in_range = range.1; node = tied.child reached.from_one inner.node.tag k below found (omega (arith, reached.level_is, up)) }
+
+  -- that of the greatest key up to this one covers it
   pub reached_child : (p : ℕ) (child : List ℕ) → IsInner words → child_of words key ≡ Some p → IsTied pages r words p child → (below : ℕ) → below + 1 ≡ level → IsReached pages p child below key
   reached_child p child inner names tied below up = go (floor_pair (pairs_of words) key) refl
     where
@@ -61,15 +73,7 @@ module _ (pages r : ℕ) (words : List ℕ) (level key : ℕ) (reached : IsReach
           let page : x.1 ≡ p = grind (arith, nat_tests, some, names) in
           let f = floor_is (pairs_of words) (node_of words).low (node_of words).high key x inner.node.rises reached.covers.1 is in
           let found = f.found ∙ ap (λ (c : ℕ). Some c) page in
-          let form = tied.child reached.from_one inner.node.tag x.0 below found (omega (arith, reached.level_is, up)) in
-          let range = tied.sound.children reached.from_one x.0 p inner.node.tag found in
-          record {
-            from_one = range.0;
-            in_range = range.1;
-            kind = form.kind;
-            level_is = form.level_is;
-            covers = (omega (arith, form.low_is, f.up_to), omega (arith, form.high_is, f.next));
-          }
+          reached_as pages p child below x.0 (next_key (pairs_of words) (node_of words).high x.0) key (child_as p x.0 child inner found tied below up) f.up_to f.next
 
 -- a coupled descent ends, after as many steps as its first page's level, at a leaf that covers the key
 pub way_ends : (pages key : ℕ) (steps : List (ℕ × List ℕ)) (r : ℕ) (words : List ℕ) (level : ℕ) → IsReached pages r words level key → IsWay pages key steps r words

@@ -1,4 +1,4 @@
--- Pages that are after_release together, with no entry, keep what the tree keeps where the new pages are a tree with the same map.
+-- Pages that are released together, with no entry, keep what the tree keeps where the new pages are a tree with the same map.
 use Rattle.std.proofs.Common.{◌≡◌, ◌⊎◌, inl, inr, ℕ, ◌+◌, ◌<◌, ◌≤◌, Bool, true, false, true≢false, List, [], length, refl, sym, ◌∙◌, arith, append-nil}
 use Rattle.vm_tree_model.specs.Node.{IsNode}
 use Rattle.vm_tree_model.specs.Page.{IsFree}

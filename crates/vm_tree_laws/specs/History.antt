@@ -1,5 +1,5 @@
 -- The history of the tree: entries of calls with their replies, and when it is legal.
-use Rattle.std.specs.Prelude.{◌≡◌, ℕ, ◌+◌, List, [], ◌∷◌, map, None}
+use Rattle.std.specs.Prelude.{ℕ, ◌+◌, List, [], ◌∷◌, map, None}
 use Rattle.vm_map.specs.Map.{Pairs}
 use Rattle.vm_map.specs.History.{AreReplies}
 use Rattle.vm_map.specs.declared.call.Said.{Said}

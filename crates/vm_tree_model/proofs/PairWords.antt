@@ -1,8 +1,7 @@
 -- A page's words as pairs.
-use Rattle.std.proofs.Common.{◌≡◌, ℕ, zero, suc, ◌+◌, ◌*◌, ◌<◌, ◌≤◌, ◌≢◌, List, [], ◌∷◌, length, get_or, set, take, drop, min, Some, refl, sym, ap, ◌∙◌, subst, arith, length-take, length-drop}
-use Rattle.std.proofs.lemmas.List.{same_lists, get_or_default, get_or-drop, get_or-take, drop-set-add, at_drop_more}
-use Rattle.std.proofs.lemmas.Bool.Decides.{nat_tests}
-use Rattle.vm_map.specs.Map.{Pairs, lookup_at}
+use Rattle.std.proofs.Common.{◌≡◌, ℕ, zero, suc, ◌+◌, ◌*◌, ◌<◌, ◌≤◌, List, [], ◌∷◌, length, get_or, set, take, drop, min, refl, sym, ap, ◌∙◌, subst, arith, length-take, length-drop}
+use Rattle.std.proofs.lemmas.List.{same_lists, get_or_default, get_or-drop, get_or-take, drop-set-add}
+use Rattle.vm_map.specs.Map.{Pairs}
 use Rattle.vm_tree_model.specs.Page.{pairs_in, places, pairs_of}
 
 pub length-pairs_in : (l : List ℕ) (n : ℕ) → length l ≡ 2 * n → length (pairs_in l) ≡ n
@@ -53,19 +52,6 @@ module _ (words : List ℕ) (len : length words ≡ 64) where
       let spot : 9 + 2 * i ≡ 8 + suc (2 * i) = omega arith in
       subst (λ n. pairs_in (drop 8 (set (set words (8 + 2 * i) a) n b)) ≡ set (places words) i (a, b)) (sym spot)
       (ap pairs_in (outer ∙ ap (λ (x : List ℕ). set x (suc (2 * i)) b) inner) ∙ pairs_in-set_word (drop 8 words) i (2 * i) a b refl (omega (arith, length-drop 8 words)))
-
-  -- one step of a search from the left
-  pub find_more : (i key : ℕ) → i < min (get_or words 1 0) 28 → get_or words (8 + 2 * i) 0 ≢ key → lookup_at (drop i (pairs_of words)) key ≡ lookup_at (drop (i + 1) (pairs_of words)) key
-  find_more i key lt ne =
-      let more = at_drop_more (λ (l : Pairs). lookup_at l key) (pairs_of words) i (0, 0) (omega (arith, length-pairs_of)) in
-      let read = rw (pairs_of-at i lt) at more in
-      grind (arith, nat_tests, read)
-
-  pub find_here : (i key : ℕ) → i < min (get_or words 1 0) 28 → get_or words (8 + 2 * i) 0 ≡ key → lookup_at (drop i (pairs_of words)) key ≡ Some (get_or words (9 + 2 * i) 0)
-  find_here i key lt same =
-      let more = at_drop_more (λ (l : Pairs). lookup_at l key) (pairs_of words) i (0, 0) (omega (arith, length-pairs_of)) in
-      let read = rw (pairs_of-at i lt) at more in
-      grind (arith, nat_tests, read)
 
 -- pairs of two pages whose words agree
 pub places_same : (v w : List ℕ) (i j n : ℕ) → length v ≡ 64 → length w ≡ 64 → i + n ≤ 28 → j + n ≤ 28

@@ -31,9 +31,6 @@ module _ (old new : ℕ → Node) (root height q k p r sep : ℕ) (a b : Pairs) 
   pub r_ne_q : r ≢ q
   r_ne_q same = omega (arith, step.free, q_tag, ap (λ x. (old x).tag) same)
 
-  pub r_ne_p : r ≢ p
-  r_ne_p same = omega (arith, step.free, p_is, ap (λ x. (old x).tag) same)
-
   pub r_not : (c : ℕ) → IsNode (old c) → c ≢ r
   r_not c is same = omega (arith, step.free, is, ap (λ x. (old x).tag) same)
 

@@ -1,6 +1,6 @@
 -- A node: what a page of a tree means.
 use Rattle.vm_map.specs.Keys.{KEY_END}
-use Rattle.std.specs.Prelude.{◌≡◌, ℕ, ◌+◌, ◌^◌, ◌<◌, ◌≤◌, length, Some}
+use Rattle.std.specs.Prelude.{◌≡◌, ℕ, ◌+◌, ◌<◌, ◌≤◌, length, Some}
 use Rattle.vm_map.specs.Map.{Pairs, lookup_at, Rises, StartsAt, next_key}
 use Rattle.vm_map.specs.declared.window.TheConstants.{MOST_PAIRS}
 

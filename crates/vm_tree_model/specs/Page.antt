@@ -1,6 +1,6 @@
 -- A page as its 64 words.
 use Rattle.vm_map.specs.Keys.{KEY_END}
-use Rattle.std.specs.Prelude.{◌≡◌, ℕ, ◌+◌, ◌*◌, ◌^◌, ◌<◌, ◌≤◌, ◌==◌, List, [], ◌∷◌, length, take, drop, min, slice_index, if◌then◌else◌, ◌⊎◌}
+use Rattle.std.specs.Prelude.{◌≡◌, ℕ, ◌+◌, ◌*◌, ◌<◌, ◌≤◌, ◌==◌, List, [], ◌∷◌, length, take, drop, min, slice_index, if◌then◌else◌, ◌⊎◌}
 use Rattle.vm_page.specs.declared.buf.TheConstants.{WORDS}
 use Rattle.vm_map.specs.Map.{Pairs}
 use Rattle.vm_map.specs.declared.window.TheConstants.{MOST_PAIRS}

@@ -1,6 +1,6 @@
 -- What the walk asks of one page.
 use Rattle.vm_map.specs.Keys.{KEY_END}
-use Rattle.std.specs.Prelude.{ℕ, ◌+◌, ◌-◌, ◌*◌, ◌^◌, List, [], ◌∷◌, length, drop, slice_index, Option, Some, None, Bool, true, false, not, ◌&&◌, ◌||◌, ◌==◌, nat_le, nat_lt, if◌then◌else◌}
+use Rattle.std.specs.Prelude.{ℕ, ◌+◌, ◌-◌, ◌*◌, List, [], ◌∷◌, length, drop, slice_index, Option, Some, None, Bool, true, false, not, ◌&&◌, ◌||◌, ◌==◌, nat_le, nat_lt, if◌then◌else◌}
 use Rattle.vm_page.specs.declared.buf.TheConstants.{WORDS}
 use Rattle.vm_map.specs.Map.{Pairs}
 use Rattle.vm_map.specs.declared.window.TheConstants.{MOST_PAIRS}

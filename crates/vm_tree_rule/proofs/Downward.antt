@@ -1,19 +1,20 @@
 -- The step down from page 0: the words that were loaded are those that the validation proves, and so they name the root.
-use Rattle.std.proofs.Common.{[], ⊎_elim, ◌++◌, ◌+◌, ◌<◌, ◌^◌, ◌∙◌, ◌∷◌, ◌≡◌, ◌≤◌, ap, append_assoc, arith, inl, inr, length, List, None, refl}
+use Rattle.std.proofs.Common.{[], ⊎_elim, ◌++◌, ◌+◌, ◌<◌, ◌^◌, ◌∙◌, ◌∷◌, ◌≡◌, ◌≤◌, ap, append_assoc, arith, inl, length, List, refl}
 use Rattle.std.proofs.Common.{slice_index, Some, subst, suc, sym, true, ℕ}
-use Rattle.std.proofs.lemmas.Bool.Decides.{nat_tests}
+use Rattle.vm_map.specs.History.{bound_of}
 use Rattle.vm_tree_model.specs.{Edits.child_of, Page.IsInner}
-use Rattle.vm_inner.specs.Found.{FindsChild, FindsNoChild}
 use Rattle.vm_core.specs.Prelude.{LoadsAre, version_of}
 use Rattle.vm_rule.specs.Prelude.{began_of, Each, last_of, loads_at}
 use Rattle.vm_step.specs.Prelude.{Origin, Tie, View}
-use Rattle.vm_guard.specs.Guards.{BeginsReading, Loads, placed}
+use Rattle.vm_guard.specs.{Guards.BeginsReading, Guards.Loads, PageWords.LoadsWords}
 use Rattle.vm_guard.proofs.Starting.{each-at}
-use Rattle.vm_tree_laws.specs.{Descent.IsReached, Tied.IsTied, Tied.Tied}
-use Rattle.vm_tree_laws.proofs.Descents.{child_there, kind_by_level, reached_child, reached_root}
-use Rattle.vm_tree_rule.specs.{Leaves.OnlyReads, Turns.LoadsName}
-use Rattle.vm_tree_rule.specs.Standing.{Awaits, HasSteppedDown, IsOpened, NamesForKey, NamesPage, Sees, tree_pages}
-use Rattle.vm_tree_rule.proofs.Readings.{each-behind, leaves-then, loads-behind, loads-leave, loads-reads, placed-are, reads-self, reads-then}
+use Rattle.vm_tree_laws.specs.{Descent.IsReached, Descent.IsReachedAs, Tied.IsNodeAs, Tied.IsTied, Tied.Tied}
+use Rattle.vm_tree_laws.proofs.Descents.{kind_by_level, reached_as, reached_child}
+use Rattle.vm_tree_rule.specs.{Few.HasHeight, Leaves.OnlyReads, Turns.LoadsName}
+use Rattle.vm_tree_rule.specs.declared.descent.Stand.{Stand}
+use Rattle.vm_tree_rule.specs.Standing.{Awaits, AwaitsNode, HasSteppedDown, IsNameIn, IsOpened, IsStand, MeetsTies, NamesForKey, NamesNode, Sees, tree_pages}
+use Rattle.vm_tree_rule.proofs.Counting.{meta-height}
+use Rattle.vm_tree_rule.proofs.Readings.{each-behind, leaves-then, loads-behind, loads-leave, loads-reads, reads-self, reads-then}
 
 -- a page that names itself can't be: its level would be another
 pub itself-not : (pages p : ℕ) (words : List ℕ) (level key : ℕ) → IsReached pages p words (suc level) key → IsInner words → IsTied pages p words p words → child_of words key ≡ Some p → ⊥
@@ -23,17 +24,43 @@ itself-not pages p words level key reached inner itself names =
 pub inner-here : (pages p : ℕ) (words : List ℕ) (level key : ℕ) → IsReached pages p words (suc level) key → IsInner words
 inner-here pages p words level key reached = ⊎_elim (λ leaf. absurd (omega (arith, leaf.0))) (λ inner. inner.1) (kind_by_level pages p words (suc level) key reached)
 
-pub same-some : (a b : ℕ) → Some a ≡ Some b → a ≡ b
-same-some a b e = grind (arith, nat_tests, e)
-
 module _ {X : Type 0} where
+  -- words that meet the ties of a page met those that there were before
+  ties-back : (p word : ℕ) (v w : View X) → OnlyReads v w → (words : List ℕ) → MeetsTies w p word words → MeetsTies v p word words
+  ties-back p word v w reads words all =
+      subst (λ (s : Origin). Each (λ (t : Tie). t.page ≡ p → t.version ≡ version_of word → Tied (began_of s) t.of t.words p words) v.ties) reads.start
+      (each-behind (λ (t : Tie). t.page ≡ p → t.version ≡ version_of word → Tied (began_of w.start) t.of t.words p words) reads.ties.0 v.ties
+      (subst (λ (l : List Tie). Each (λ (t : Tie). t.page ≡ p → t.version ≡ version_of word → Tied (began_of w.start) t.of t.words p words) l) reads.ties.1 all))
+
   pub awaits-later : (p word level key : ℕ) (v w : View X) → OnlyReads v w → Awaits v p word level key → Awaits w p word level key
   awaits-later p word level key v w reads awaits tells words all =
-      subst (λ (s : Origin). IsReached (length s.contents) p words level key) (sym reads.start)
-      (awaits (ap (λ (s : Origin). s.tells) (sym reads.start) ∙ tells) words
-      (subst (λ (s : Origin). Each (λ (t : Tie). t.page ≡ p → t.version ≡ version_of word → Tied (began_of s) t.of t.words p words) v.ties) reads.start
-      (each-behind (λ (t : Tie). t.page ≡ p → t.version ≡ version_of word → Tied (began_of w.start) t.of t.words p words) reads.ties.0 v.ties
-      (subst (λ (l : List Tie). Each (λ (t : Tie). t.page ≡ p → t.version ≡ version_of word → Tied (began_of w.start) t.of t.words p words) l) reads.ties.1 all))))
+      subst (λ (s : Origin). IsReached (length s.contents) p words level key) (sym reads.start) (awaits (ap (λ (s : Origin). s.tells) (sym reads.start) ∙ tells) words (ties-back p word v w reads words all))
+
+  -- a page that a validated page names, validated at the version that was seen before
+  pub awaits-named : (p word frame named level low high q word' frame' : ℕ) (y w : View X) → NamesNode y p word named level low high → q ≡ named → HasSteppedDown p word frame q word' frame' y w → AwaitsNode w q word' level low high
+  awaits-named p word frame named level low high q word' frame' y w names same s told words all =
+      let tells : y.start.tells ≡ true = ap (λ (o : Origin). o.tells) (sym s.reads.0.start) ∙ told in
+      let above : List ℕ = (last_of w p).words in
+      let name : IsNameIn (tree_pages y) p above named level low high = names tells above s.valid.size (s.sees tells) in
+      let tie : Tied (began_of w.start) p above q words =
+      each-at (λ (t : Tie). t.page ≡ q → t.version ≡ version_of word' → Tied (began_of w.start) t.of t.words q words) s.tied.0 _ s.tied.1
+      (subst (λ (l : List Tie). Each (λ (t : Tie). t.page ≡ q → t.version ≡ version_of word' → Tied (began_of w.start) t.of t.words q words) l) s.tied.2 all) refl refl in
+      record {
+        from_one = subst (λ n. 1 ≤ n) (sym same) name.from_one;
+        in_range = subst (λ (o : Origin). q < length o.contents) (sym s.reads.0.start) (subst (λ n. n < tree_pages y) (sym same) name.in_range);
+        node = name.node words (subst (λ n. IsTied (tree_pages y) p above n words) same (subst (λ (o : Origin). IsTied (length o.contents) p above q words) s.reads.0.start tie));
+      }
+
+  -- where a descent for the key stands, a node that covers the key is awaited
+  pub stand-awaits : (key : ℕ) (s : Stand) (v : View X) → IsStand key s v → Awaits v s.guard.pid s.guard.word s.level key
+  stand-awaits key s v k tells words all = reached_as (tree_pages v) s.guard.pid words s.level s.low (bound_of s.high) key (k.awaits tells words all) k.from k.below
+
+  pub node-later : (p word level low high : ℕ) (v w : View X) → OnlyReads v w → AwaitsNode v p word level low high → AwaitsNode w p word level low high
+  node-later p word level low high v w reads awaits tells words all =
+      subst (λ (s : Origin). IsReachedAs (length s.contents) p words level low high) (sym reads.start) (awaits (ap (λ (s : Origin). s.tells) (sym reads.start) ∙ tells) words (ties-back p word v w reads words all))
+
+  pub stand-later : (key : ℕ) (s : Stand) (v w : View X) → OnlyReads v w → IsStand key s v → IsStand key s w
+  stand-later key s v w reads k = record { awaits = node-later s.guard.pid s.guard.word s.level s.low (bound_of s.high) v w reads k.awaits; from = k.from; below = k.below }
 
   module _ (p word frame root level key : ℕ) (v a b y : View X) (zero : p ≡ 0) (begins : BeginsReading 0 word frame v a) (first : Loads p word frame ((1, root) ∷ []) a b) (second : Loads p word frame ((2, level) ∷ []) b y) where
     loads-front : (words : List ℕ) (l m : List (ℕ × ℕ)) → LoadsAre words (l ++ m) → LoadsAre words l
@@ -67,25 +94,20 @@ module _ {X : Type 0} where
       reading = second.reads;
     }
 
-    pub names-root : NamesPage y p word root
+    -- and page 0 tells the height
+    pub tells-height : (w : View X) → LoadsWords [] v a → LoadsWords (root ∷ []) a b → LoadsWords (level ∷ []) b y → LoadsWords [] y w → HasHeight level v w
+    tells-height w = meta-height p word frame root level v a b y w zero root-opened meta-loads
+
+    pub names-root : NamesNode y p word root level 0 (2 ^ 64)
     names-root tells words size sees =
         let m = sees.itself.sound.meta zero in
         let is = (meta-words words sees).0 in
         record {
-          low = subst (λ n. 1 ≤ n) is m.root_low;
-          high = subst (λ n. n < tree_pages y) is m.root_high;
+          from_one = subst (λ n. 1 ≤ n) is m.root_low;
+          in_range = subst (λ n. n < tree_pages y) is m.root_high;
           apart = λ e. let low = m.root_low in omega (arith, is, e, low, zero);
-          node = λ child tied. (tied.root zero is).kind;
+          node = λ child tied. subst (λ n. IsNodeAs child n 0 (2 ^ 64)) (meta-words words sees).1 (tied.root zero is);
         }
 
     pub root-named : y.start.tells ≡ true → (words : List ℕ) → length words ≡ 64 → Sees y p word words → NamesForKey p words key root
     root-named tells words size sees = inl (zero, (meta-words words sees).0)
-
-    pub awaits-root : (q word' frame' : ℕ) (w : View X) → q ≡ root → key < 2 ^ 64 → HasSteppedDown p word frame q word' frame' y w → Awaits w q word' level key
-    awaits-root q word' frame' w same fits s told words all =
-        let is = meta-words (last_of w p).words (s.sees (ap (λ (o : Origin). o.tells) (sym s.reads.0.start) ∙ told)) in
-        let tie : Tied (began_of w.start) p (last_of w p).words q words =
-        each-at (λ (t : Tie). t.page ≡ q → t.version ≡ version_of word' → Tied (began_of w.start) t.of t.words q words) s.tied.0 _ s.tied.1
-        (subst (λ (l : List Tie). Each (λ (t : Tie). t.page ≡ q → t.version ≡ version_of word' → Tied (began_of w.start) t.of t.words q words) l) s.tied.2 all) refl refl in
-        subst (λ n. IsReached (tree_pages w) q words n key) is.1
-        (reached_root (tree_pages w) q key (last_of w p).words words (subst (λ n. IsTied (tree_pages w) n (last_of w p).words q words) zero tie) (is.0 ∙ sym same) fits)

@@ -4,5 +4,6 @@ pub mod Logged
 pub mod Entering
 pub mod Downward
 pub mod Onward
+pub mod Seeking
 pub mod Surely
 pub mod Counting

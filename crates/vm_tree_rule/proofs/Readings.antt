@@ -1,16 +1,16 @@
 -- What reads of pages leave of the view, one after the other.
-use Rattle.std.proofs.Common.{[], ◌++◌, ◌+◌, ◌<◌, ◌∙◌, ◌∷◌, ◌≡◌, ◌≢◌, ap, append_assoc, arith, Err, IfErr, IfOk, length, List, None, Ok, Option, refl}
+use Rattle.std.proofs.Common.{[], ◌++◌, ◌+◌, ◌<◌, ◌∙◌, ◌∷◌, ◌≡◌, ◌≢◌, ◌⊎◌, ap, append_assoc, arith, Err, IfErr, IfOk, length, List, None, Ok, Option, refl}
 use Rattle.std.proofs.Common.{Result, slice_index, Some, subst, suc, sym, zero, ℕ}
 use Rattle.std.proofs.lemmas.Grind.{same_number_lists}
 use Rattle.std.specs.List.{All}
 use Rattle.vm_node.specs.Loads.{IsPageWith}
-use Rattle.vm_core.specs.Prelude.{LoadsAre, state_of, UNLOCKED, version_of}
+use Rattle.vm_core.specs.Prelude.{LoadsAre, version_of}
 use Rattle.vm_rule.specs.Prelude.{began_of, Each, LockValidates, Start}
 use Rattle.vm_rule.specs.declared.view.Place.TheVariants as places
 use Rattle.vm_rule.proofs.{Entries.append-none, Heard.each-both}
 use Rattle.vm_step.specs.Prelude.{Did, Origin, ReadsAsBefore, Tie, View}
 use Rattle.vm_step.proofs.Asides.{alone-self, alone-then, holds-then, knows-then, starts-then, still-locking}
-use Rattle.vm_guard.specs.{declared.deny.Deny.Deny, Denied.IsDenied, Quiet.IsQuiet}
+use Rattle.vm_guard.specs.{declared.deny.Deny.Deny, Denied.IsDenied, Quiet.IsQuiet, Quiet.IsUnmark}
 use Rattle.vm_guard.specs.Guards.{BeginsReading, IsReading, IsValid, Loads, placed}
 use Rattle.vm_guard.proofs.Reading.{reading-kept}
 use Rattle.vm_tree_rule.specs.Leaves.{LeavesWord, OnlyClears, OnlyReads, ReadsOn}
@@ -52,6 +52,10 @@ pub ok-then : {T E : Type 0} (r : Result T E) {P Q : T → Type 0} → IfOk r P 
 ok-then (Ok x) h f = f x h
 ok-then (Err e) h f = tt
 
+pub ok-both : {T E : Type 0} (r : Result T E) {P Q R : T → Type 0} → IfOk r P → IfOk r Q → ((x : T) → P x → Q x → R x) → IfOk r R
+ok-both (Ok x) h k f = f x h k
+ok-both (Err e) h k f = tt
+
 pub err-then : {T E : Type 0} (r : Result T E) {P Q : E → Type 0} → IfErr r P → ((x : E) → P x → Q x) → IfErr r Q
 err-then (Ok x) h f = tt
 err-then (Err e) h f = f e h
@@ -88,7 +92,7 @@ module _ {X : Type 0} where
   only-then u v w f g = record {
     done = f.done ++ g.done;
     log = log-then f.done g.done u v w f.log g.log;
-    clears = each-both (λ (d : Did). (x : ℕ) → d.wrote ≡ Some x → ((p : ℕ) × (d.at ≡ places.State p)) × (state_of x ≡ UNLOCKED)) f.done g.done f.clears g.clears;
+    clears = each-both (λ (d : Did). (d.wrote ≡ None) ⊎ IsUnmark d) f.done g.done f.clears g.clears;
     live = g.live ∙ f.live;
     start = g.start ∙ f.start;
     parts = (g.parts.0 ∙ f.parts.0, g.parts.1 ∙ f.parts.1);

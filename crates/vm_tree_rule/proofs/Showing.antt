@@ -1,6 +1,6 @@
 -- The evidence of one step of a call, in the log of the whole call.
-use Rattle.std.proofs.Common.{[], ⊎_elim, ◌++◌, ◌∙◌, ◌∷◌, ◌≡◌, ◌≢◌, ap, append_assoc, arith, Bool, false, if◌then◌else◌, List, None, Option, refl}
-use Rattle.std.proofs.Common.{Some, subst, sym, true, ℕ}
+use Rattle.std.proofs.Common.{[], ⊎_elim, ◌++◌, ◌∙◌, ◌∷◌, ◌≡◌, ◌≢◌, ◌⊎◌, ap, append_assoc, arith, inl, inr, List, None, Option, refl}
+use Rattle.std.proofs.Common.{Some, subst, sym, ℕ}
 use Rattle.vm_core.specs.Prelude.{state_of, UNLOCKED, version_of, word_of}
 use Rattle.vm_rule.specs.Prelude.{did_load, Each}
 use Rattle.vm_rule.specs.declared.view.Place.{Place}
@@ -9,7 +9,8 @@ use Rattle.vm_rule.proofs.{Entries.each-map, Heard.each-both, WordFacts.version-
 use Rattle.vm_step.specs.Prelude.{AreQuiet, Begins, Begins as begun, Did, IsSaw, NeedsPage, NoWord, place_at}
 use Rattle.vm_step.specs.{declared.saw.Saw.Saw, Evidence.Gives}
 use Rattle.vm_step.specs.declared.saw.At.TheVariants as ats
-use Rattle.vm_guard.specs.{Denied.KeptWord, Guards.AreUnmarking, Quiet.LeavesNone, Quiet.OnlyUnmarks}
+use Rattle.vm_guard.specs.{Denied.KeptWord, Guards.AreUnmarking, Quiet.IsUnmark, Quiet.LeavesNone, Quiet.OnlyUnmarks}
+use Rattle.vm_guard.proofs.Unmarking.{load-unmarks, unmarking-unmarks, unmarks-both}
 use Rattle.vm_tree_rule.specs.{Leaves.OnlyClears, Shown.IsSeen}
 
 -- ---- which words steps leave
@@ -25,48 +26,27 @@ state-same p q e = ap number e
     number _ = 0
 
 pub nones-clear : (done : List Did) → LeavesNone done → OnlyClears done
-nones-clear = each-map (λ (d : Did). d.wrote ≡ None) (λ (d : Did). (x : ℕ) → d.wrote ≡ Some x → ((p : ℕ) × (d.at ≡ places.State p)) × (state_of x ≡ UNLOCKED)) (λ d none x is. absurd (none-some d.wrote x none is))
+nones-clear = each-map (λ (d : Did). d.wrote ≡ None) (λ (d : Did). (d.wrote ≡ None) ⊎ IsUnmark d) (λ d none. inl none)
 
 pub unmarks-clear : (p : ℕ) (done : List Did) → OnlyUnmarks p done → OnlyClears done
 unmarks-clear p =
-    each-map (λ (d : Did). (x : ℕ) → d.wrote ≡ Some x → (d.at ≡ places.State p) × (state_of x ≡ UNLOCKED)) (λ (d : Did). (x : ℕ) → d.wrote ≡ Some x → ((q : ℕ) × (d.at ≡ places.State q)) × (state_of x ≡ UNLOCKED))
-    (λ d h x is. let k = h x is in ((p, k.0), k.1))
+    each-map (λ (d : Did). (d.wrote ≡ None) ⊎ ((d.at ≡ places.State p) × IsUnmark d)) (λ (d : Did). (d.wrote ≡ None) ⊎ IsUnmark d) (λ d h. ⊎_elim (λ none. inl none) (λ there. inr there.1) h)
 
 pub nones-there : (q : ℕ) (done : List Did) → LeavesNone done → Each (λ (d : Did). d.at ≡ places.State q → d.wrote ≡ None) done
 nones-there q = each-map (λ (d : Did). d.wrote ≡ None) (λ (d : Did). d.at ≡ places.State q → d.wrote ≡ None) (λ d none at. none)
 
-wrote-elsewhere : (p q : ℕ) (at : Place) (wrote : Option ℕ) → q ≢ p → ((x : ℕ) → wrote ≡ Some x → (at ≡ places.State p) × (state_of x ≡ UNLOCKED)) → at ≡ places.State q → wrote ≡ None
-wrote-elsewhere p q at None ne h is = refl
-wrote-elsewhere p q at (Some x) ne h is = absurd (ne (state-same q p (sym is ∙ (h x refl).0)))
-
 -- a word of another page is left by none of them
 pub unmarks-elsewhere : (p q : ℕ) (done : List Did) → q ≢ p → OnlyUnmarks p done → Each (λ (d : Did). d.at ≡ places.State q → d.wrote ≡ None) done
 unmarks-elsewhere p q done ne =
-    each-map (λ (d : Did). (x : ℕ) → d.wrote ≡ Some x → (d.at ≡ places.State p) × (state_of x ≡ UNLOCKED)) (λ (d : Did). d.at ≡ places.State q → d.wrote ≡ None) (λ d h. wrote-elsewhere p q d.at d.wrote ne h) done
+    each-map (λ (d : Did). (d.wrote ≡ None) ⊎ ((d.at ≡ places.State p) × IsUnmark d)) (λ (d : Did). d.at ≡ places.State q → d.wrote ≡ None)
+    (λ d h is. ⊎_elim (λ none. none) (λ there. absurd (ne (state-same q p (sym is ∙ there.0)))) h) done
 
-some-is : (b : Bool) (new x : ℕ) → (if b then Some new else None) ≡ Some x → x ≡ new
-some-is true new x e = cc
-some-is false new x e = absurd (cc)
-
-load-unmarks : (p : ℕ) (at : Place) (found x : ℕ) → (did_load at found).wrote ≡ Some x → (at ≡ places.State p) × (state_of x ≡ UNLOCKED)
-load-unmarks p at found x is = absurd (cc)
-
-clearing-unmarks : (p word : ℕ) (clearing : List Did) → AreUnmarking p word clearing → OnlyUnmarks p clearing
-clearing-unmarks p word clearing k =
-    ⊎_elim
-    (λ none. subst (OnlyUnmarks p) (sym none.1) tt)
-    (λ one. let found : ℕ = one.1.0 in
-    let new : ℕ = word_of UNLOCKED (version_of word) in
-    subst (OnlyUnmarks p) (sym one.1.1) ((λ x is. (refl, ap state_of (some-is _ new x is) ∙ word-state UNLOCKED (version_of word) (version-within word))), tt))
-    k
-
--- the start of a guard leaves at most an Unlocked word on its page's state word
+-- the start of a guard leaves at most its page's word without its mark
 pub start-unmarks : (p first translation word : ℕ) (clearing done : List Did) → done ≡ did_load (places.State p) first ∷ (clearing ++ did_load (places.Translation p) translation ∷ did_load (places.State p) word ∷ []) → AreUnmarking p first clearing → OnlyUnmarks p done
 start-unmarks p first translation word clearing done cut clears =
     subst (OnlyUnmarks p) (sym cut) (
       load-unmarks p (places.State p) first,
-      each-both (λ (d : Did). (x : ℕ) → d.wrote ≡ Some x → (d.at ≡ places.State p) × (state_of x ≡ UNLOCKED)) clearing (did_load (places.Translation p) translation ∷ did_load (places.State p) word ∷ [])
-          (clearing-unmarks p first clearing clears)
+      unmarks-both p clearing (did_load (places.Translation p) translation ∷ did_load (places.State p) word ∷ []) (unmarking-unmarks p first clearing clears)
           (load-unmarks p (places.Translation p) translation, (load-unmarks p (places.State p) word, tt)),
     )
 
@@ -75,8 +55,8 @@ start-unmarks p first translation word clearing done cut clears =
 module _ (expects : ℕ → ℕ → Type 0) where
   begun-behind : (at : Place) (first seen : ℕ) (last : Did) (front earlier since : List Did) → Begins NoWord expects at first seen last earlier since → Begins NoWord expects at first seen last (front ++ earlier) since
   begun-behind at first seen last front earlier since (begun.guarded k e) = absurd k
-  begun-behind at first seen last front earlier since (begun.read before d e g) = begun.read (front ++ before) d (ap (λ (l : List Did). front ++ l) e ∙ sym (append_assoc front before (d ∷ since))) g
-  begun-behind at first seen last front earlier since (begun.expected before d word e g x l) = begun.expected (front ++ before) d word (ap (λ (l : List Did). front ++ l) e ∙ sym (append_assoc front before (d ∷ since))) g x l
+  begun-behind at first seen last front earlier since (begun.read before d e g n) = begun.read (front ++ before) d (ap (λ (l : List Did). front ++ l) e ∙ sym (append_assoc front before (d ∷ since))) g n
+  begun-behind at first seen last front earlier since (begun.expected before d word e g n x l) = begun.expected (front ++ before) d word (ap (λ (l : List Did). front ++ l) e ∙ sym (append_assoc front before (d ∷ since))) g n x l
   begun-behind at first seen last front earlier since (begun.asked word k e x l) = absurd k
   begun-behind at first seen last front earlier since (begun.same a b) = begun.same a b
 
@@ -127,13 +107,13 @@ module _ (expects : ℕ → ℕ → Type 0) where
     begun-kept : (at : Place) (first seen : ℕ) (last : Did) (earlier since : List Did) → at ≡ places.State p → Begins (KeptWord word) expects at first seen last earlier since → AreQuiet at seen since
         → (wide : List Did) × Begins NoWord expects at first seen last (front ++ earlier) wide × AreQuiet at seen wide
     begun-kept at first seen last earlier since is (begun.guarded k e) quiet =
-        (b ++ since, begun.read a (did_load (places.State p) word) (since-read earlier ∙ ap (λ (l : List Did). a ++ did_load (places.State p) word ∷ (b ++ l)) e) (gives-it at first is (sym k)), quiet-since at seen since is quiet)
-    begun-kept at first seen last earlier since is (begun.read before d e g) quiet =
-        (since, begun.read (front ++ before) d (ap (λ (l : List Did). front ++ l) e ∙ sym (append_assoc front before (d ∷ since))) g, quiet)
-    begun-kept at first seen last earlier since is (begun.expected before d found e g x l) quiet =
-        (since, begun.expected (front ++ before) d found (ap (λ (t : List Did). front ++ t) e ∙ sym (append_assoc front before (d ∷ since))) g x l, quiet)
+        (b ++ since, begun.read a (did_load (places.State p) word) (since-read earlier ∙ ap (λ (l : List Did). a ++ did_load (places.State p) word ∷ (b ++ l)) e) (gives-it at first is (sym k)) refl, quiet-since at seen since is quiet)
+    begun-kept at first seen last earlier since is (begun.read before d e g n) quiet =
+        (since, begun.read (front ++ before) d (ap (λ (l : List Did). front ++ l) e ∙ sym (append_assoc front before (d ∷ since))) g n, quiet)
+    begun-kept at first seen last earlier since is (begun.expected before d found e g n x l) quiet =
+        (since, begun.expected (front ++ before) d found (ap (λ (t : List Did). front ++ t) e ∙ sym (append_assoc front before (d ∷ since))) g n x l, quiet)
     begun-kept at first seen last earlier since is (begun.asked found k e x l) quiet =
-        (b ++ since, begun.expected a (did_load (places.State p) word) found (since-read earlier ∙ ap (λ (t : List Did). a ++ did_load (places.State p) word ∷ (b ++ t)) e) (gives-it at found is (sym k)) x l, quiet-since at seen since is quiet)
+        (b ++ since, begun.expected a (did_load (places.State p) word) found (since-read earlier ∙ ap (λ (t : List Did). a ++ did_load (places.State p) word ∷ (b ++ t)) e) (gives-it at found is (sym k)) refl x l, quiet-since at seen since is quiet)
     begun-kept at first seen last earlier since is (begun.same x y) quiet = (since, begun.same x y, quiet)
 
     pub saw-kept : (done : List Did) (saw : Saw) → saw.at ≡ ats.Page p → IsSaw (KeptWord word) expects done saw → IsSeen expects (front ++ done) saw
@@ -151,11 +131,17 @@ module _ (expects : ℕ → ℕ → Type 0) where
           why = s.why;
         }
 
--- steps that leave Unlocked words alone leave no Evicted one
+-- steps that only take marks away leave no Evicted word
 clears-foreign : (p word : ℕ) (done : List Did) → state_of word ≡ 255 → OnlyClears done → Each (λ (d : Did). d.at ≡ places.State p → d.wrote ≢ Some word) done
 clears-foreign p word done evicted =
-    each-map (λ (d : Did). (x : ℕ) → d.wrote ≡ Some x → ((q : ℕ) × (d.at ≡ places.State q)) × (state_of x ≡ UNLOCKED)) (λ (d : Did). d.at ≡ places.State p → d.wrote ≢ Some word)
-    (λ d h at is. let bare : state_of word ≡ 0 = (h word is).1 in omega (arith, bare, evicted)) done
+    each-map (λ (d : Did). (d.wrote ≡ None) ⊎ IsUnmark d) (λ (d : Did). d.at ≡ places.State p → d.wrote ≢ Some word)
+    (λ d h at is. ⊎_elim (λ none. none-some d.wrote word none is) (λ k. bare k.word (same-one (sym k.wrote ∙ is))) h) done
+  where
+    same-one : {a b : ℕ} → Some a ≡ Some b → a ≡ b
+    same-one e = cc
+
+    bare : (was : ℕ) → word_of UNLOCKED (version_of was) ≡ word → ⊥
+    bare was is = let none : 0 ≡ state_of word = sym (word-state UNLOCKED (version_of was) (version-within was)) ∙ ap state_of is in omega (arith, none, evicted)
 
 pub needs-behind : (p : ℕ) (before done : List Did) → OnlyClears before → NeedsPage done p → NeedsPage (before ++ done) p
 needs-behind p before done clears n =

@@ -1,13 +1,13 @@
 -- What calls leave of a view that read pages of the tree optimistically: the pass holds what it held. The entries of the pass stand beside it.
-use Rattle.std.specs.Prelude.{◌++◌, ◌≡◌, List, None, Some, ℕ}
-use Rattle.vm_core.specs.Prelude.{state_of, UNLOCKED}
+use Rattle.std.specs.Prelude.{◌++◌, ◌≡◌, ◌⊎◌, List, None, ℕ}
 use Rattle.vm_rule.specs.Prelude.{Each, IsLocking, seat_of, StartsWith}
 use Rattle.vm_rule.specs.declared.view.Place.TheVariants as places
 use Rattle.vm_step.specs.Prelude.{Did, HoldsPage, KnowsAsBefore, StaysAlone, Tie, View}
+use Rattle.vm_guard.specs.Quiet.{IsUnmark}
 
--- each word that the steps leave is an Unlocked one, on the state word of a page: a mark was taken away
+-- the steps leave no word but where they take a mark away
 abbrev pub OnlyClears : List Did → Type 0
-OnlyClears done = Each (λ d. (x : ℕ) → d.wrote ≡ Some x → ((p : ℕ) × (d.at ≡ places.State p)) × (state_of x ≡ UNLOCKED)) done
+OnlyClears done = Each (λ d. (d.wrote ≡ None) ⊎ IsUnmark d) done
 
 module _ {X : Type 0} where
   -- the calls made these steps and no release; all of the view is as it was but open reads, ties, what the pass has seen of the two lists, and

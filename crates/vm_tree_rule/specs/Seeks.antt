@@ -1,14 +1,42 @@
--- Where a descent stands that looks for a full node: a page and the page that names it, both read and still open.
-use Rattle.std.specs.Prelude.{[], ◌++◌, ◌<◌, ◌∷◌, ◌≡◌, ◌≢◌, length, List, None, slice_index, Some, suc, true, ℕ}
+-- Where a descent stands that looks for a full node: a page and the page that names it, of which words were loaded where they stand, both still open.
+use Rattle.std.specs.Prelude.{[], ◌*◌, ◌++◌, ◌+◌, ◌<◌, ◌∷◌, ◌≡◌, ◌≢◌, length, List, None, Option, slice_index, Some, suc, true, ℕ}
 use Rattle.vm_map.specs.declared.window.TheConstants.{MOST_PAIRS}
 use Rattle.vm_tree_model.specs.{Edits.child_of, Page.pairs_of}
-use Rattle.vm_inner.specs.Found.{FindsChild}
+use Rattle.vm_node.specs.Loads.{IsPageWith}
+use Rattle.vm_inner.specs.Found.{FindsChild, FindsChildIn, FindsNoChild}
 use Rattle.vm_rule.specs.Prelude.{last_of, loads_at}
 use Rattle.vm_step.specs.Prelude.{View}
-use Rattle.vm_guard.specs.{declared.opt.OptGuard.OptGuard, Guards.IsValid, Guards.placed}
+use Rattle.vm_guard.specs.{declared.opt.OptGuard.OptGuard, Guards.IsValid, Guards.Loads, Guards.placed}
 use Rattle.vm_tree_laws.specs.Tied.{Tied}
 use Rattle.vm_tree_rule.specs.{declared.seek.Met.Met, Leaves.ReadsOn, Resident.IsKnownNow, Standing.Awaits, Standing.IsOpened}
 use Rattle.vm_tree_rule.specs.declared.seek.Met.TheVariants as met
+
+-- the words loaded name this page for the key: a search finds it in each page that has them
+abbrev pub TellChild : List (ℕ × ℕ) → ℕ → ℕ → Type 0
+TellChild loaded key named = (words : List ℕ) → IsPageWith loaded words → FindsChild words key named
+
+-- they tell its fences, too: its low one, and the next key, if the node has one
+abbrev pub TellChildIn : List (ℕ × ℕ) → ℕ → ℕ → ℕ → Option ℕ → Type 0
+TellChildIn loaded key named low next = (words : List ℕ) → IsPageWith loaded words → FindsChildIn words key named low next
+
+-- they name none: a search finds no child in any page that has them
+abbrev pub TellNoChild : List (ℕ × ℕ) → ℕ → Type 0
+TellNoChild loaded key = (words : List ℕ) → IsPageWith loaded words → FindsNoChild words key
+
+-- each page that has the words loaded has so many pairs
+abbrev pub TellCount : List (ℕ × ℕ) → ℕ → Type 0
+TellCount loaded count = (words : List ℕ) → IsPageWith loaded words → count ≡ length (pairs_of words)
+
+-- each has room for one more
+abbrev pub TellRoom : List (ℕ × ℕ) → Type 0
+TellRoom loaded = (words : List ℕ) → IsPageWith loaded words → length (pairs_of words) < MOST_PAIRS
+
+-- how many words of pages the search loads by the height: two of page 0, and eight at most of each node on the way; then those of the full root, or
+-- of the full node and of its parent
+abbrev pub most_for : Met → ℕ → ℕ
+most_for (met.Root meta root height) h = 2 + 8 * (h + 1) + 64
+most_for (met.Below parent node) h = 2 + 8 * (h + 1) + 128
+most_for (met.Roomy leaf) h = 2 + 8 * (h + 1)
 
 module _ {X : Type 0} where
   -- these words of page p, each with its place, were loaded last through its open read
@@ -18,6 +46,12 @@ module _ {X : Type 0} where
   -- the words of page p were read whole, and last
   abbrev pub HasRead : View X → ℕ → List ℕ → Type 0
   HasRead v p page = HasLoaded v p (placed 0 page)
+
+  -- page p was read whole through its open read, with these words, and then validated
+  pub record IsReread (p word frame : ℕ) (page : List ℕ) (v w : View X) : Type 0 where
+    pub read : View X
+    pub loads : Loads p word frame (placed 0 page) v read
+    pub valid : IsValid Tied p word frame None read w
 
   -- page 0 was read, and names this root, at this level, which is below the number of pages
   pub record IsMetaRead (p word frame root level : ℕ) (v w : View X) : Type 0 where
@@ -49,32 +83,34 @@ module _ {X : Type 0} where
     pub since : ReadsOn after w
     pub told : v.start.tells ≡ true → slice_index (last_of after meta.pid).words 1 ≡ p
 
-  -- a search of these words for the key finds this page; where blocks tell their words it is the key's child
-  pub record LeadsTo (v : View X) (words : List ℕ) (key next : ℕ) : Type 0 where
-    pub found : FindsChild words key next
-    pub told : v.start.tells ≡ true → child_of words key ≡ Some next
-
-  -- Page p was read whole in this call, with these words: they have room, and name the next page for the key. Then it was validated, so that these
-  -- are its words where blocks tell theirs. Since then the call only read
-  pub record IsPassedBy (v : View X) (key p : ℕ) (words : List ℕ) (next : ℕ) (w : View X) : Type 0 where
+  -- These words of page p were loaded in this call: a page that has them has room, and names the next page for the key. Then it was validated, so
+  -- that they are its words where blocks tell theirs, and the next page is its child for the key. Since then the call only read
+  pub record IsPassedBy (v : View X) (key p : ℕ) (loaded : List (ℕ × ℕ)) (next : ℕ) (w : View X) : Type 0 where
     pub word : ℕ
     pub frame : ℕ
     pub checked : View X
     pub after : View X
     pub opened : IsOpened v p word frame checked
-    pub read : HasRead checked p words
-    pub room : length (pairs_of words) < MOST_PAIRS
-    pub names : LeadsTo v words key next
+    pub read : HasLoaded checked p loaded
+    pub room : TellRoom loaded
+    pub names : TellChild loaded key next
     pub valid : IsValid Tied p word frame None checked after
     pub since : ReadsOn after w
-    pub told : v.start.tells ≡ true → words ≡ (last_of after p).words
+    pub told : v.start.tells ≡ true → IsPageWith loaded (last_of after p).words × (child_of (last_of after p).words key ≡ Some next)
+
+  -- a step went from page p to the next one: words that a call had loaded of page p, which tell room, and those that the step loaded, pass it by
+  abbrev pub GoesPast : ℕ → ℕ → ℕ → ℕ → ℕ → View X → View X → Type 0
+  GoesPast p word frame key next v w =
+      (loaded : List (ℕ × ℕ)) × ((u : View X) (counted : List (ℕ × ℕ)) → IsOpened u p word frame v → HasLoaded v p counted → TellRoom counted
+      → HasLoaded w p (counted ++ loaded) × IsPassedBy u key p (counted ++ loaded) next w)
 
   -- so were these pages, the last one first, on the way from the root to page p
-  abbrev pub ArePassed : View X → ℕ → List (ℕ × List ℕ) → ℕ → View X → Type 0
+  abbrev pub ArePassed : View X → ℕ → List (ℕ × List (ℕ × ℕ)) → ℕ → View X → Type 0
   ArePassed v key [] p w = IsNamedRoot v p w
   ArePassed v key (s ∷ ss) p w = IsPassedBy v key s.0 s.1 p w × ArePassed v key ss s.0 w
 
-  -- a node is full whose parent has room and names it for the key; no node on the way to the parent is full
+  -- A node is full whose parent has room and names it for the key; no node on the way to the parent is full. Once the node was found full, both were
+  -- read whole and validated
   pub record IsFullBelow (v : View X) (key : ℕ) (parent node : OptGuard) (over page : List ℕ) (w : View X) : Type 0 where
     pub parent_opened : IsOpened v parent.pid parent.word parent.frame w
     pub opened : IsOpened v node.pid node.word node.frame w
@@ -83,26 +119,27 @@ module _ {X : Type 0} where
     pub read : HasRead w node.pid page
     pub level : ℕ
     pub awaits : Awaits w parent.pid parent.word (suc level) key
-    pub names : LeadsTo v over key node.pid
+    pub names : v.start.tells ≡ true → child_of over key ≡ Some node.pid
     pub room : length (pairs_of over) < MOST_PAIRS
     pub full : length (pairs_of page) ≡ MOST_PAIRS
-    pub way : List (ℕ × List ℕ)
-    pub passed : ArePassed v key way parent.pid w
+    pub loaded : List (ℕ × ℕ)
+    pub way : List (ℕ × List (ℕ × ℕ))
+    pub passed : ArePassed v key ((parent.pid, loaded) ∷ way) node.pid w
 
   -- no node on the way is full, the leaf neither
-  pub record IsRoomy (v : View X) (key : ℕ) (leaf : OptGuard) (page : List ℕ) (w : View X) : Type 0 where
+  pub record IsRoomy (v : View X) (key : ℕ) (leaf : OptGuard) (loaded : List (ℕ × ℕ)) (w : View X) : Type 0 where
     pub opened : IsOpened v leaf.pid leaf.word leaf.frame w
-    pub read : HasRead w leaf.pid page
+    pub read : HasLoaded w leaf.pid loaded
     pub awaits : Awaits w leaf.pid leaf.word 0 key
-    pub room : length (pairs_of page) < MOST_PAIRS
-    pub way : List (ℕ × List ℕ)
+    pub room : TellRoom loaded
+    pub way : List (ℕ × List (ℕ × ℕ))
     pub passed : ArePassed v key way leaf.pid w
 
-  -- what the search met, with what stands in the two pages
+  -- what the search met, with what stands in the two pages where a node is full
   abbrev pub IsMet : View X → ℕ → Met → List ℕ → List ℕ → View X → Type 0
   IsMet v key (met.Root meta root height) over page w = IsRootFull v key meta root height page w
   IsMet v key (met.Below parent node) over page w = IsFullBelow v key parent node over page w
-  IsMet v key (met.Roomy leaf) over page w = IsRoomy v key leaf page w
+  IsMet v key (met.Roomy leaf) over page w = (loaded : List (ℕ × ℕ)) × IsRoomy v key leaf loaded w
 
   -- a pass that is alone knows the words of the guards that the search gives, as long as it meets resident pages alone
   abbrev pub KnowsMet : Met → View X → Type 0

@@ -1,20 +1,21 @@
 -- Where a descent stands: a page whose open read began in this call, and what its ties ask of its words.
 use Rattle.std.specs.Prelude.{◌++◌, ◌<◌, ◌∷◌, ◌≡◌, ◌≢◌, ◌≤◌, ◌⊎◌, length, List, None, slice_index, Some, true, ℕ}
 use Rattle.vm_tree_model.specs.{Edits.child_of, Node.Covers}
-use Rattle.vm_tree_model.specs.Page.{IsInner, IsLeaf, node_of}
+use Rattle.vm_map.specs.History.{bound_of}
+use Rattle.vm_tree_model.specs.Page.{node_of}
 use Rattle.vm_core.specs.Prelude.{version_of, WORDS}
 use Rattle.vm_rule.specs.Prelude.{began_of, Each, last_of, loads_at, LockValidates}
 use Rattle.vm_step.specs.Prelude.{Tie, View}
 use Rattle.vm_guard.specs.Guards.{BeginsReading, IsReading, IsValid}
-use Rattle.vm_tree_laws.specs.{Descent.IsReached, Tied.IsTied, Tied.Tied}
-use Rattle.vm_tree_rule.specs.Leaves.{LeavesWord, ReadsOn}
+use Rattle.vm_tree_laws.specs.{Descent.IsReached, Descent.IsReachedAs, Tied.IsNodeAs, Tied.IsTied, Tied.Tied}
+use Rattle.vm_tree_rule.specs.{declared.descent.Stand.Stand, Leaves.LeavesWord, Leaves.ReadsOn}
 
--- page p, with these words in an image of so many pages, names another page of it, which is a node
-pub record IsNameIn (pages p : ℕ) (words : List ℕ) (named : ℕ) : Type 0 where
-  pub low : 1 ≤ named
-  pub high : named < pages
+-- page p, with these words in an image of so many pages, names another page of it, which is a node of this level with these fences
+pub record IsNameIn (pages p : ℕ) (words : List ℕ) (named level low high : ℕ) : Type 0 where
+  pub from_one : 1 ≤ named
+  pub in_range : named < pages
   pub apart : named ≢ p
-  pub node : (child : List ℕ) → IsTied pages p words named child → IsLeaf child ⊎ IsInner child
+  pub node : (child : List ℕ) → IsTied pages p words named child → IsNodeAs child level low high
 
 module _ {X : Type 0} where
   -- the pages of the table's tree
@@ -36,14 +37,28 @@ module _ {X : Type 0} where
   abbrev pub Sees : View X → ℕ → ℕ → List ℕ → Type 0
   Sees v p word words = LockValidates Tied p (version_of word) words v
 
+  -- these words meet the ties of page p at this word
+  abbrev pub MeetsTies : View X → ℕ → ℕ → List ℕ → Type 0
+  MeetsTies v p word words = Each (λ t. t.page ≡ p → t.version ≡ version_of word → Tied (began_of v.start) t.of t.words p words) v.ties
+
   -- words that meet the ties of page p at this word are those of a node of this level that covers the key, where blocks tell their words
   abbrev pub Awaits : View X → ℕ → ℕ → ℕ → ℕ → Type 0
-  Awaits v p word level key =
-      v.start.tells ≡ true → (words : List ℕ) → Each (λ t. t.page ≡ p → t.version ≡ version_of word → Tied (began_of v.start) t.of t.words p words) v.ties → IsReached (tree_pages v) p words level key
+  Awaits v p word level key = v.start.tells ≡ true → (words : List ℕ) → MeetsTies v p word words → IsReached (tree_pages v) p words level key
 
-  -- whatever words of page p a validation would prove, they name this page, where blocks tell their words
-  abbrev pub NamesPage : View X → ℕ → ℕ → ℕ → Type 0
-  NamesPage v p word named = v.start.tells ≡ true → (words : List ℕ) → length words ≡ WORDS → Sees v p word words → IsNameIn (tree_pages v) p words named
+  -- they are those of a node of exactly this level, with these fences
+  abbrev pub AwaitsNode : View X → ℕ → ℕ → ℕ → ℕ → ℕ → Type 0
+  AwaitsNode v p word level low high = v.start.tells ≡ true → (words : List ℕ) → MeetsTies v p word words → IsReachedAs (tree_pages v) p words level low high
+
+  -- whatever words of page p a validation would prove, they name this page as a node of this level with these fences, where blocks tell their words
+  abbrev pub NamesNode : View X → ℕ → ℕ → ℕ → ℕ → ℕ → ℕ → Type 0
+  NamesNode v p word named level low high =
+      v.start.tells ≡ true → (words : List ℕ) → length words ≡ WORDS → Sees v p word words → IsNameIn (tree_pages v) p words named level low high
+
+  -- a descent for the key stands at this page: where blocks tell their words, what it awaits is a node of this level whose fences hold the key
+  pub record IsStand (key : ℕ) (s : Stand) (v : View X) : Type 0 where
+    pub awaits : AwaitsNode v s.guard.pid s.guard.word s.level s.low (bound_of s.high)
+    pub from : s.low ≤ key
+    pub below : key < bound_of s.high
 
   -- the read of page p is open as it was after another page, q, was entered
   pub record StaysOpen (p word frame q : ℕ) (v w : View X) : Type 0 where

@@ -2,7 +2,6 @@
 use Rattle.std.specs.Prelude.{[], ◌++◌, ◌<◌, ◌∷◌, ◌≡◌, ◌≢◌, ◌≤◌, ◌⊎◌, false, List, None, true, ℕ}
 use Rattle.vm_tree_model.specs.{Node.Covers, Page.node_of}
 use Rattle.vm_node.specs.Loads.{IsPageWith}
-use Rattle.vm_inner.specs.Found.{FindsChild, FindsNoChild}
 use Rattle.vm_rule.specs.Prelude.{last_of, loads_at}
 use Rattle.vm_step.specs.Prelude.{Did, NeedsPage, NoneExpected, NoWord, View}
 use Rattle.vm_step.specs.declared.saw.At.TheVariants as ats
@@ -11,7 +10,7 @@ use Rattle.vm_guard.specs.{declared.deny.Deny.Deny, Guards.IsValid}
 use Rattle.vm_guard.specs.declared.deny.Deny.TheVariants as denies
 use Rattle.vm_guard.specs.Denied.{AgainOrNeed, IsDenied, KeptWord}
 use Rattle.vm_tree_laws.specs.Tied.{Tied}
-use Rattle.vm_tree_rule.specs.{declared.turn.Turn.Turn, Leaves.LeavesWord, Leaves.ReadsOn, Seeks.HasLoaded, Shown.IsAgain}
+use Rattle.vm_tree_rule.specs.{declared.turn.Turn.Turn, Leaves.LeavesWord, Leaves.ReadsOn, Seeks.HasLoaded, Seeks.TellChild, Seeks.TellNoChild, Shown.IsAgain}
 use Rattle.vm_tree_rule.specs.declared.turn.Turn.TheVariants as turns
 use Rattle.vm_tree_rule.specs.Standing.{IsOpened, NamesForKey, Sees}
 
@@ -25,14 +24,6 @@ IsTurnOf (denies.Worn p) turn = ⊥
 -- page r of so many pages can't name this one
 abbrev pub IsNoChild : ℕ → ℕ → ℕ → Type 0
 IsNoChild pages r named = (named ≡ 0) ⊎ ((pages ≤ named) ⊎ (named ≡ r))
-
--- the words loaded name this page for the key: a search finds it in each page that has them
-abbrev pub TellChild : List (ℕ × ℕ) → ℕ → ℕ → Type 0
-TellChild loaded key named = (words : List ℕ) → IsPageWith loaded words → FindsChild words key named
-
--- they name none: a search finds no child in any page that has them
-abbrev pub TellNoChild : List (ℕ × ℕ) → ℕ → Type 0
-TellNoChild loaded key = (words : List ℕ) → IsPageWith loaded words → FindsNoChild words key
 
 -- each page that has the words loaded is a leaf that covers the key
 abbrev pub TellLeaf : List (ℕ × ℕ) → ℕ → Type 0

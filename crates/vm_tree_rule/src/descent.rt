@@ -1,19 +1,22 @@
 // The coupled descent: each page is looked at before the page that names it is validated, and read before it is left.
-ghost use Rattle.std.specs.Prelude.{[], ◌*◌, ◌+◌, ◌<◌, ◌∷◌, ◌≡◌, ◌≤◌, IfErr, IfOk, IsOk, length, List, MatchOption, suc, true, ℕ};
-ghost use Rattle.vm_step.specs.Prelude.{IsReady, IsSamePass, MayStep, view};
+ghost use Rattle.std.specs.Prelude.{[], ◌*◌, ◌+◌, ◌<◌, ◌∷◌, ◌≡◌, ◌≢◌, ◌≤◌, IfErr, IfOk, IsOk, length, List, MatchOption, true, unwrap_or, ℕ};
+ghost use Rattle.vm_map.specs.History.{bound_of};
+ghost use Rattle.vm_step.specs.Prelude.{IsReady, IsSamePass, MayStep, ReadsAsBefore, view};
 ghost use Rattle.vm_guard.specs.{Guards.IsReading, PageWords.LoadsWords};
-ghost use Rattle.vm_tree_rule.specs.{Leaves.ReadsOn, Seeks.IsMetaRead, Seeks.IsNamedRoot};
-ghost use Rattle.vm_tree_rule.specs.Few.{LoadsHeight, LoadsWithin, ReadsInPlace};
+ghost use Rattle.vm_tree_rule.specs.Leaves.{LeavesWord, ReadsOn};
+ghost use Rattle.vm_tree_rule.specs.Few.{HasHeight, LoadsAtMost, LoadsHeight, LoadsWithin, ReadsInPlace};
+ghost use Rattle.vm_tree_rule.specs.Seeks.{IsMetaRead, IsNamedRoot, GoesPast, TellChildIn, TellNoChild};
 ghost use Rattle.vm_tree_rule.specs.Resident.{IsKnownNow, KnowsLocks, KnowsResident};
-ghost use Rattle.vm_tree_rule.specs.Standing.{Awaits, HasSteppedDown, IsOpened, NamesPage, StaysOpen, tree_pages};
-ghost use Rattle.vm_tree_rule.specs.Turns.{IsStopped, IsTurnedBack, TellChild, TellNoChild};
+ghost use Rattle.vm_tree_rule.specs.Standing.{Awaits, AwaitsNode, HasSteppedDown, IsOpened, IsStand, NamesNode, StaysOpen, tree_pages};
+ghost use Rattle.vm_tree_rule.specs.Turns.{IsStopped, IsTurnedBack};
 
 use crate::Tree;
 use crate::in_place::InPlace;
 use crate::turn::Turn;
 use vm_block::Block;
 use vm_guard::OptGuard;
-use vm_inner::child_at;
+use vm_inner::{Fenced, child_at};
+use vm_map::window::Bound;
 use vm_rule::words::{Pass, Words};
 use vm_step::frame_place;
 
@@ -28,16 +31,22 @@ pub(crate) fn enter<B: Block>(
 ) -> Result<OptGuard, Turn>
     requires ready { IsReady words.now.table.shared.key B.tells words.now.table.shared.table_id pass.old }
     requires reading { IsReading parent.now.pid parent.now.word parent.now.frame (view pass.old) }
-    requires names { NamesPage (view pass.old) parent.now.pid parent.now.word named }
+    requires names { (level low high : ℕ) × NamesNode (view pass.old) parent.now.pid parent.now.word named level low high }
     ensures pass { IsSamePass pass.old pass.new }
     ensures ready { IsReady words.now.table.shared.key B.tells words.now.table.shared.table_id pass.new }
-    ensures ok { IfOk result (λ guard. (guard.pid ≡ named) × HasSteppedDown parent.now.pid parent.now.word parent.now.frame guard.pid guard.word guard.frame (view pass.old) (view pass.new)) }
+    ensures ok { IfOk result (λ guard. (guard.pid ≡ named)
+        × HasSteppedDown parent.now.pid parent.now.word parent.now.frame guard.pid guard.word guard.frame (view pass.old) (view pass.new)) }
+    ensures awaits { IfOk result (λ guard. (level low high : ℕ) → NamesNode (view pass.old) parent.now.pid parent.now.word named level low high
+        → AwaitsNode (view pass.new) guard.pid guard.word level low high) }
     ensures pages { B.tells ≡ true → IfOk result (λ _. tree_pages (view pass.new) ≡ (view pass.new).start.pages) }
     ensures parent { IfOk result (λ guard. StaysOpen parent.now.pid parent.now.word parent.now.frame guard.pid (view pass.old) (view pass.new)) }
     ensures err { IfErr result (λ turn. IsStopped parent.now.pid parent.now.word parent.now.frame named turn (view pass.old) (view pass.new)) }
     ensures sure { B.tells ≡ true → IsKnownNow parent.now.pid parent.now.word (view pass.old) → IsOk result }
-    ensures known { B.tells ≡ true → IsKnownNow parent.now.pid parent.now.word (view pass.old) → IfOk result (λ guard. IsKnownNow guard.pid guard.word (view pass.new) × IsKnownNow parent.now.pid parent.now.word (view pass.new)) }
+    ensures known { B.tells ≡ true → IsKnownNow parent.now.pid parent.now.word (view pass.old)
+        → IfOk result (λ guard. IsKnownNow guard.pid guard.word (view pass.new) × IsKnownNow parent.now.pid parent.now.word (view pass.new)) }
     ensures locks { IfOk result (λ _. KnowsLocks (view pass.new)) }
+    ensures others { IfOk result (λ guard. (q : ℕ) → q ≢ guard.pid
+        → ReadsAsBefore (view pass.old) (view pass.new) q × LeavesWord q (view pass.old) (view pass.new)) }
     ensures words { LoadsWords [] (view pass.old) (view pass.new) }
 {
     let pages = words.pages as u64;
@@ -58,46 +67,88 @@ pub(crate) fn enter<B: Block>(
     }
 }
 
-/// A step down from an inner node: searches it where it stands, and enters the child that covers the key.
-fn go_down<B: Block>(
+/// Where a descent stands: at a page whose open read began in this call, and which is a node of this level, with these fences, where blocks tell
+/// their words.
+#[derive(Drop)]
+pub(crate) struct Stand {
+    pub(crate) guard: OptGuard,
+    pub(crate) level: u64,
+    pub(crate) low: u64,
+    pub(crate) high: Bound,
+}
+
+/// The high fence of a child: the next key of its node, or the node's high fence where there is none.
+fn high_fence(next: Option<u64>, high: Bound) -> Bound
+    ensures { bound_of result ≡ unwrap_or next (bound_of high) }
+{
+    match next {
+        Some(above) => Bound::Key(above),
+        None => high,
+    }
+}
+
+/// A step down from an inner node: searches it where it stands, and enters the child that covers the key. The node stays open.
+pub(crate) fn step<B: Block>(
     words: &Words<Tree, B>,
     pass: &mut Pass<Tree>,
-    guard: &OptGuard,
+    stand: &Stand,
     key: u64,
-) -> Result<OptGuard, Turn>
+) -> Result<Stand, Turn>
     requires ready { IsReady words.now.table.shared.key B.tells words.now.table.shared.table_id pass.old }
-    requires reading { IsReading guard.now.pid guard.now.word guard.now.frame (view pass.old) }
-    requires awaits { (level : ℕ) × Awaits (view pass.old) guard.now.pid guard.now.word (suc level) key }
+    requires reading { IsReading stand.now.guard.pid stand.now.guard.word stand.now.guard.frame (view pass.old) }
+    requires stands { IsStand key stand.now (view pass.old) }
+    requires inner { 1 ≤ stand.now.level }
     ensures pass { IsSamePass pass.old pass.new }
     ensures ready { IsReady words.now.table.shared.key B.tells words.now.table.shared.table_id pass.new }
-    ensures reads { IfOk result (λ below. ReadsOn (view pass.old) (view pass.new) × IsOpened (view pass.old) below.pid below.word below.frame (view pass.new)) }
-    ensures awaits { IfOk result (λ below. (level : ℕ) → Awaits (view pass.old) guard.now.pid guard.now.word (suc level) key → Awaits (view pass.new) below.pid below.word level key) }
-    ensures err { IfErr result (λ turn. (v : _) → IsOpened v guard.now.pid guard.now.word guard.now.frame (view pass.old) → IsTurnedBack v key turn (view pass.new)) }
-    ensures sure { B.tells ≡ true → IsKnownNow guard.now.pid guard.now.word (view pass.old) → IsOk result }
-    ensures known { B.tells ≡ true → IsKnownNow guard.now.pid guard.now.word (view pass.old) → IfOk result (λ below. IsKnownNow below.pid below.word (view pass.new)) }
-    ensures few { LoadsWithin (λ _. 7) (view pass.old) (view pass.new) }
+    ensures reads { IfOk result (λ below. ReadsOn (view pass.old) (view pass.new)
+        × IsOpened (view pass.old) below.guard.pid below.guard.word below.guard.frame (view pass.new)) }
+    ensures level { IfOk result (λ below. below.level + 1 ≡ stand.now.level) }
+    ensures stands { IfOk result (λ below. IsStand key below (view pass.new)) }
+    ensures parent { IfOk result (λ below. (below.guard.pid ≢ stand.now.guard.pid)
+        × ((v : _) → IsOpened v stand.now.guard.pid stand.now.guard.word stand.now.guard.frame (view pass.old)
+        → IsOpened v stand.now.guard.pid stand.now.guard.word stand.now.guard.frame (view pass.new))) }
+    ensures passed { IfOk result (λ below. GoesPast stand.now.guard.pid stand.now.guard.word stand.now.guard.frame key
+        below.guard.pid (view pass.old) (view pass.new)) }
+    ensures err { IfErr result (λ turn. (v : _) → IsOpened v stand.now.guard.pid stand.now.guard.word stand.now.guard.frame (view pass.old)
+        → IsTurnedBack v key turn (view pass.new)) }
+    ensures sure { B.tells ≡ true → IsKnownNow stand.now.guard.pid stand.now.guard.word (view pass.old) → IsOk result }
+    ensures known { B.tells ≡ true → IsKnownNow stand.now.guard.pid stand.now.guard.word (view pass.old)
+        → IfOk result (λ below. IsKnownNow below.guard.pid below.guard.word (view pass.new)
+        × IsKnownNow stand.now.guard.pid stand.now.guard.word (view pass.new)) }
+    ensures locks { IfOk result (λ _. KnowsLocks (view pass.new)) }
+    ensures few { LoadsAtMost 7 (view pass.old) (view pass.new) }
 {
-    match child_in_place(words, pass, guard, key) {
-        Some(named) => enter(words, pass, guard, named),
-        None => match guard.validate_silently(words, pass) {
-            Ok(()) => Err(Turn::astray_at(guard)),
+    match child_in_place(words, pass, &stand.guard, key) {
+        Some(child) => match enter(words, pass, &stand.guard, child.page) {
+            Ok(guard) => Ok(Stand {
+                guard,
+                level: stand.level - 1,
+                low: child.low,
+                high: high_fence(child.next, stand.high),
+            }),
+            Err(turn) => Err(turn),
+        },
+        None => match stand.guard.validate_silently(words, pass) {
+            Ok(()) => Err(Turn::astray_at(&stand.guard)),
             Err(saw) => Err(Turn::Again(saw)),
         },
     }
 }
 
-/// The page that the words of this one name for the key, found where they stand.
+/// The child that the words of the page name for the key, found where they stand.
 fn child_in_place<B: Block>(
     words: &Words<Tree, B>,
     pass: &mut Pass<Tree>,
     guard: &OptGuard,
     key: u64,
-) -> Option<u64>
+) -> Option<Fenced>
     requires ready { IsReady words.now.table.shared.key B.tells words.now.table.shared.table_id pass.old }
     requires reading { IsReading guard.now.pid guard.now.word guard.now.frame (view pass.old) }
     ensures pass { IsSamePass pass.old pass.new }
     ensures ready { IsReady words.now.table.shared.key B.tells words.now.table.shared.table_id pass.new }
-    ensures found { ReadsInPlace guard.now.pid guard.now.word guard.now.frame 7 (view pass.old) (view pass.new) (λ loaded. MatchOption result (TellNoChild loaded key) (TellChild loaded key)) }
+    ensures found { ReadsInPlace guard.now.pid guard.now.word guard.now.frame 7 (view pass.old) (view pass.new) (λ loaded.
+        MatchOption result (TellNoChild loaded key) (λ child. TellChildIn loaded key child.page child.low child.next)) }
+    ensures sides { MatchOption result (Unit {0}) (λ child. (child.low ≤ key) × MatchOption child.next (Unit {0}) (λ above. key < above)) }
 {
     let mut place = InPlace {
         words,
@@ -108,12 +159,11 @@ fn child_in_place<B: Block>(
     child_at(&mut place, key)
 }
 
-/// Where a descent begins: the root, and its level.
+/// Where a descent begins: page 0, and the root.
 #[derive(Drop)]
 pub(crate) struct Top {
     pub(crate) meta: OptGuard,
-    pub(crate) guard: OptGuard,
-    pub(crate) level: u64,
+    pub(crate) stand: Stand,
 }
 
 /// Reads page 0, and enters the root. A tree has fewer levels than pages, so a descent ends also where blocks do not tell their words.
@@ -126,15 +176,19 @@ pub(crate) fn enter_root<B: Block>(
     requires pages { 1 ≤ words.now.table.shared.key.pages }
     ensures pass { IsSamePass pass.old pass.new }
     ensures ready { IsReady words.now.table.shared.key B.tells words.now.table.shared.table_id pass.new }
-    ensures ok { IfOk result (λ top. IsOpened (view pass.old) top.guard.pid top.guard.word top.guard.frame (view pass.new) × Awaits (view pass.new) top.guard.pid top.guard.word top.level key) }
+    ensures ok { IfOk result (λ top. IsOpened (view pass.old) top.stand.guard.pid top.stand.guard.word top.stand.guard.frame (view pass.new)
+        × IsStand key top.stand (view pass.new)) }
     ensures reads { IfOk result (λ _. ReadsOn (view pass.old) (view pass.new)) }
     ensures sure { B.tells ≡ true → KnowsResident (view pass.old) → IsOk result }
-    ensures known { B.tells ≡ true → KnowsResident (view pass.old) → IfOk result (λ top. IsKnownNow top.guard.pid top.guard.word (view pass.new) × IsKnownNow top.meta.pid top.meta.word (view pass.new)) }
+    ensures known { B.tells ≡ true → KnowsResident (view pass.old)
+        → IfOk result (λ top. IsKnownNow top.stand.guard.pid top.stand.guard.word (view pass.new) × IsKnownNow top.meta.pid top.meta.word (view pass.new)) }
     ensures locks { IfOk result (λ _. KnowsLocks (view pass.new)) }
-    ensures named { IfOk result (λ top. IsNamedRoot (view pass.old) top.guard.pid (view pass.new)) }
-    ensures meta { IfOk result (λ top. IsMetaRead top.meta.pid top.meta.word top.meta.frame top.guard.pid top.level (view pass.old) (view pass.new)) }
+    ensures named { IfOk result (λ top. IsNamedRoot (view pass.old) top.stand.guard.pid (view pass.new)) }
+    ensures meta { IfOk result (λ top. IsMetaRead top.meta.pid top.meta.word top.meta.frame top.stand.guard.pid
+        top.stand.level (view pass.old) (view pass.new)) }
     ensures err { IfErr result (λ turn. IsTurnedBack (view pass.old) key turn (view pass.new)) }
-    ensures words { IfOk result (λ top. LoadsWords (top.guard.pid ∷ top.level ∷ []) (view pass.old) (view pass.new)) }
+    ensures words { IfOk result (λ top. LoadsWords (top.stand.guard.pid ∷ top.stand.level ∷ []) (view pass.old) (view pass.new)) }
+    ensures height { IfOk result (λ top. HasHeight top.stand.level (view pass.old) (view pass.new)) }
     ensures few { LoadsWithin (λ _. 2) (view pass.old) (view pass.new) }
 {
     let meta = match OptGuard::start(words, pass, 0) {
@@ -150,7 +204,15 @@ pub(crate) fn enter_root<B: Block>(
     if level >= words.pages as u64 {
         return Err(Turn::astray_at(&meta));
     }
-    Ok(Top { meta, guard, level })
+    Ok(Top {
+        meta,
+        stand: Stand {
+            guard,
+            level,
+            low: 0,
+            high: Bound::End,
+        },
+    })
 }
 
 /// Descends to the leaf that covers the key, of which nothing is loaded yet. Its guard is still open: once it is validated, the words loaded through
@@ -166,6 +228,7 @@ pub fn descend<B: Block>(
     ensures ready { IsReady words.now.table.shared.key B.tells words.now.table.shared.table_id pass.new }
     ensures reads { IfOk result (λ guard. ReadsOn (view pass.old) (view pass.new) × IsOpened (view pass.old) guard.pid guard.word guard.frame (view pass.new)) }
     ensures awaits { IfOk result (λ guard. Awaits (view pass.new) guard.pid guard.word 0 key) }
+    ensures fences { IfOk result (λ guard. (low high : ℕ) × (low ≤ key) × (key < high) × AwaitsNode (view pass.new) guard.pid guard.word 0 low high) }
     ensures err { IfErr result (λ turn. IsTurnedBack (view pass.old) key turn (view pass.new)) }
     ensures sure { B.tells ≡ true → KnowsResident (view pass.old) → IsOk result }
     ensures known { B.tells ≡ true → KnowsResident (view pass.old) → IfOk result (λ guard. IsKnownNow guard.pid guard.word (view pass.new)) }
@@ -176,12 +239,12 @@ pub fn descend<B: Block>(
         Ok(top) => top,
         Err(turn) => return Err(turn),
     };
-    let mut guard = top.guard;
-    for _ in 0..top.level {
-        match go_down(words, pass, &guard, key) {
-            Ok(below) => guard = below,
+    let mut stand = top.stand;
+    for _ in 0..stand.level {
+        match step(words, pass, &stand, key) {
+            Ok(below) => stand = below,
             Err(turn) => return Err(turn),
         }
     }
-    Ok(guard)
+    Ok(stand.guard)
 }

@@ -1,14 +1,20 @@
 -- The child is that of the pair before the place where the keys begin to be above.
-use Rattle.std.proofs.Common.{◌≡◌, ◌≢◌, ℕ, suc, ◌+◌, ◌-◌, ◌*◌, ◌<◌, ◌≤◌, List, Option, Some, length, get_or, sym, ap, ◌∙◌, arith}
+use Rattle.std.proofs.Common.{◌≡◌, ◌≢◌, ℕ, suc, ◌+◌, ◌-◌, ◌*◌, ◌<◌, ◌≤◌, List, MatchOption, None, Option, Some, length, get_or, subst, sym, ap, unwrap_or, ◌∙◌, arith}
+use Rattle.vm_map.specs.Map.{floor_pair, lookup_at, next_key, Pairs, Rises}
 use Rattle.std.specs.Option.{option_map}
 use Rattle.vm_tree_model.specs.Page.{pairs_of}
-use Rattle.vm_node.specs.Places.{IsBound}
+use Rattle.vm_node.specs.Places.{HasSides, IsBound}
 use Rattle.vm_node.proofs.Bounds.{bound_place}
 use Rattle.vm_node.proofs.ReadPairs.{value_is}
 use Rattle.vm_node.proofs.Telling.{told_word, told_then, told_so}
-use Rattle.vm_inner.specs.Found.{FindsChild, FindsNoChild}
-use Rattle.vm_inner.proofs.Floor.{floor_none, floor_before}
+use Rattle.vm_inner.specs.Found.{FindsChildIn, FindsNoChild}
+use Rattle.vm_inner.proofs.Floor.{floor_none, floor_before, found_floor, next_behind, next_last}
 use Rattle.vm_inner.proofs.children.child_at.Goals as goal
+
+next_of : (m : Pairs) (from upto high at : ℕ) (next : Option ℕ) → Rises from upto m → MatchOption next (at + 1 ≡ length m) (λ k. (at + 1 < length m) × ((get_or m (at + 1) (0, 0)).0 ≡ k))
+    → next_key m high (get_or m at (0, 0)).0 ≡ unwrap_or next high
+next_of m from upto high at None rises last = next_last m from upto high at rises last
+next_of m from upto high at (Some k) rises more = next_behind m from upto high at rises more.0 ∙ more.1
 
 module _ (words : List ℕ) (size : length words ≡ 64) (key above : ℕ) (bound : IsBound (pairs_of words) (key + 1) above) where
   no_child : above ≡ 0 → FindsNoChild words key
@@ -18,29 +24,46 @@ module _ (words : List ℕ) (size : length words ≡ 64) (key above : ℕ) (boun
         ap (λ (o : Option (ℕ × ℕ)). option_map (λ (x : ℕ × ℕ). x.1) o) (floor_none (pairs_of words) key (sym place ∙ none));
   }
 
-  child_before : (page : ℕ) → above ≢ 0 → get_or words (7 + 2 * above) 0 ≡ page → FindsChild words key page
-  child_before page some read =
-      let at : ℕ = above - 1 in
-      let last : suc at ≡ above = omega (arith, some) in
-      let there : at < length (pairs_of words) = omega (arith, last, bound.inside) in
-      let spot : 9 + 2 * at ≡ 7 + 2 * above = omega (arith, last) in
-      let value : (get_or (pairs_of words) at (0, 0)).1 ≡ page = value_is words size at there ∙ ap (λ (i : ℕ). get_or words i 0) spot ∙ read in
-      let below = bound.before at (omega (arith, last)) in
-      record {
-        at = at;
-        there = there;
-        lowest = omega (arith, below);
-        page = value;
-        child = λ low high rises. let place = bound_place (pairs_of words) low high (key + 1) above rises bound in
-            ap (λ (o : Option (ℕ × ℕ)). option_map (λ (x : ℕ × ℕ). x.1) o) (floor_before (pairs_of words) key at (sym place ∙ sym last)) ∙ ap (λ (n : ℕ). Some n) value;
-      }
+  module _ (low : ℕ) (next : Option ℕ) (sides : HasSides (pairs_of words) above low next) where
+    child_before : (page : ℕ) → above ≢ 0 → get_or words (7 + 2 * above) 0 ≡ page → FindsChildIn words key page low next
+    child_before page some read =
+        let at : ℕ = above - 1 in
+        let last : suc at ≡ above = omega (arith, some) in
+        let behind : at + 1 ≡ above = omega (arith, some) in
+        let there : at < length (pairs_of words) = omega (arith, last, bound.inside) in
+        let spot : 9 + 2 * at ≡ 7 + 2 * above = omega (arith, last) in
+        let value : (get_or (pairs_of words) at (0, 0)).1 ≡ page = value_is words size at there ∙ ap (λ (i : ℕ). get_or words i 0) spot ∙ read in
+        let below = bound.before at behind in
+        let floor : (from upto : ℕ) → Rises from upto (pairs_of words) → floor_pair (pairs_of words) key ≡ Some (get_or (pairs_of words) at (0, 0))
+        = λ from upto rises. floor_before (pairs_of words) key at (sym (bound_place (pairs_of words) from upto (key + 1) above rises bound) ∙ sym last) in
+        let low_is : (get_or (pairs_of words) at (0, 0)).0 ≡ low = sides.before at behind in
+        let here = subst (λ (i : ℕ). MatchOption next (i ≡ length (pairs_of words)) (λ k. (i < length (pairs_of words)) × ((get_or (pairs_of words) i (0, 0)).0 ≡ k))) (sym behind) sides.here in
+        record {
+          finds = record {
+            at = at;
+            there = there;
+            lowest = omega (arith, below);
+            page = value;
+            child = λ from upto rises. ap (λ (o : Option (ℕ × ℕ)). option_map (λ (x : ℕ × ℕ). x.1) o) (floor from upto rises) ∙ ap (λ (n : ℕ). Some n) value;
+          };
+          low_is = low_is;
+          next_is = here;
+          fences = λ from upto rises. (
+            subst (λ (k : ℕ). lookup_at (pairs_of words) k ≡ Some page) low_is
+                (found_floor (pairs_of words) from upto key (get_or (pairs_of words) at (0, 0)) rises (floor from upto rises) ∙ ap (λ (n : ℕ). Some n) value),
+            λ high. subst (λ (k : ℕ). next_key (pairs_of words) high k ≡ unwrap_or next high) low_is (next_of (pairs_of words) from upto high at next rises here),
+          );
+        }
 
 pub returns-then-above-eq0-clause-told : goal.returns-then-above-eq0-clause-told
 returns-then-above-eq0-clause-told g c =
-    told_so (omega arith) (told_then g.met.P.Place.join c.count_at-count.ensures.told c.upper_bound_at-above.ensures.told) (λ words size read. no_child words size c.args.key _ (read.1 read.0) c.if-above-eq0.true)
+    told_so (omega arith) (told_then g.met.P.Place.join c.count_at-count.ensures.told c.upper_bound_at-above.ensures.told) (λ words size read. no_child words size c.args.key _ (read.1 read.0).0 c.if-above-eq0.true)
 
 pub returns-clause-told : goal.returns-clause-told
 returns-clause-told g c =
     let join = g.met.P.Place.join in
     told_so (omega arith) (told_then join (told_then join c.count_at-count.ensures.told c.upper_bound_at-above.ensures.told) (told_word c.word.ensures.loads))
-    (λ words size read. child_before words size c.args.key _ (read.0.1 read.0.0) _ c.if-above-eq0.false read.1)
+    (λ words size read. let b = read.0.1 read.0.0 in child_before words size c.args.key _ b.0 _ _ b.1 _ c.if-above-eq0.false read.1)
+
+pub returns-clause-sides : goal.returns-clause-sides
+returns-clause-sides g c = (c.upper_bound_at-above.ensures.low, c.upper_bound_at-above.ensures.next)

@@ -9,23 +9,35 @@ halves-init g c = record {
   order = omega arith;
   inside = omega arith;
   searched = search_begins (g.met.P.Place.none _ c.requires.ready) c.requires.count;
+  low = omega arith;
+  next = tt;
 }
 
-pub halves-preserved-then-word-key : goal.halves-preserved-then-word-key
-halves-preserved-then-word-key g c = record {
-  ready = c.word.ensures.ready;
+pub halves-preserved-then-found-key : goal.halves-preserved-then-found-key
+halves-preserved-then-found-key g c = record {
+  ready = c.word-found.ensures.ready;
   order = omega arith;
   inside = c.halves.invariant.inside;
-  searched = search_right g.met.P.Place.join c.halves.invariant.searched c.halves-test.true c.halves.invariant.inside refl c.word.ensures.loads (omega (arith, c.if-word-key.true));
+  searched = search_right g.met.P.Place.join c.halves.invariant.searched c.halves-test.true c.halves.invariant.inside refl c.word-found.ensures.loads (omega (arith, c.if-found-key.true));
+  low = c.if-found-key.true;
+  next = c.halves.invariant.next;
 }
 
 pub halves-preserved : goal.halves-preserved
 halves-preserved g c = record {
-  ready = c.word.ensures.ready;
+  ready = c.word-found.ensures.ready;
   order = omega arith;
   inside = omega arith;
-  searched = search_left g.met.P.Place.join c.halves.invariant.searched c.halves-test.true c.halves.invariant.inside refl c.word.ensures.loads (omega (arith, c.if-word-key.false));
+  searched = search_left g.met.P.Place.join c.halves.invariant.searched c.halves-test.true c.halves.invariant.inside refl c.word-found.ensures.loads (omega (arith, c.if-found-key.false));
+  low = c.halves.invariant.low;
+  next = c.if-found-key.false;
 }
 
 pub returns-clause-told : goal.returns-clause-told
 returns-clause-told g c = search_ends c.halves.invariant.searched c.halves.invariant.order c.halves-test.false c.halves.invariant.inside
+
+pub returns-clause-low : goal.returns-clause-low
+returns-clause-low g c = c.halves.invariant.low
+
+pub returns-clause-next : goal.returns-clause-next
+returns-clause-next g c = c.halves.invariant.next

@@ -1,15 +1,14 @@
-use Rattle.std.proofs.Common.{[], ◌*◌, ◌+◌, ◌-◌, ◌<◌, ◌∙◌, ◌∷◌, ◌≡◌, ◌≤◌, arith, refl, subst, suc, ℕ}
+use Rattle.std.proofs.Common.{[], ◌*◌, ◌+◌, ◌-◌, ◌<◌, ◌∙◌, ◌∷◌, ◌≡◌, ◌≤◌, arith, refl, subst, ℕ}
 use Rattle.vm_step.specs.Prelude.{view}
-use Rattle.vm_tree_rule.specs.Standing.{Awaits}
+use Rattle.vm_map.specs.History.{bound_of}
+use Rattle.vm_tree_rule.specs.Standing.{Awaits, AwaitsNode}
 use Rattle.vm_tree_rule.proofs.Counting.{height-more, height-wider, height-within, within-wider}
+use Rattle.vm_tree_rule.proofs.Downward.{stand-awaits}
 use Rattle.vm_tree_rule.proofs.descent.descend.Goals as goal
 use Rattle.vm_tree_rule.proofs.Readings.{opened-earlier, reads-then}
 
 whole : (n : ℕ) → n ≡ n - 0
 whole n = omega arith
-
-one-less : (n i : ℕ) → i < n → n - i ≡ suc (n - (i + 1))
-one-less n i l = omega (arith, l)
 
 none-left : (n i : ℕ) → n ≤ i → n - i ≡ 0
 none-left n i l = omega (arith, l)
@@ -21,23 +20,27 @@ loop-init g c = record {
   reads = c.in-Ok.ensures.reads;
   opened = c.in-Ok.ensures.ok.0;
   left = omega arith;
-  words = record { loaded = c.in-Ok.top.guard.pid ∷ c.in-Ok.top.level ∷ []; words = c.in-Ok.ensures.words; two = omega arith; is = refl; few = omega arith };
+  words = record { loaded = c.in-Ok.top.stand.guard.pid ∷ c.in-Ok.top.stand.level ∷ []; words = c.in-Ok.ensures.words; two = omega arith; is = refl; few = omega arith; tells = c.in-Ok.ensures.height };
   known = λ tells k. (c.in-Ok.ensures.known tells k).0;
-  awaits = subst (λ n. Awaits (view c.enter_root.new.pass) c.in-Ok.top.guard.pid c.in-Ok.top.guard.word n c.args.key) (whole c.in-Ok.top.level) c.in-Ok.ensures.ok.1;
+  level = whole c.in-Ok.top.stand.level;
+  stands = c.in-Ok.ensures.ok.1;
 }
 
-pub go_down-requires-clause-awaits : goal.go_down-requires-clause-awaits
-go_down-requires-clause-awaits g c = (
-  c.in-Ok.top.level - (c.loop.counter + 1),
-  subst (λ n. Awaits (view c.loop.pass) c.loop.guard.pid c.loop.guard.word n c.args.key) (one-less c.in-Ok.top.level c.loop.counter c.loop-test.true) c.loop.invariant.awaits,
-)
+level-left : (n i level : ℕ) → level ≡ n - i → i < n → 1 ≤ level
+level-left n i level is l = omega (arith, is, l)
+
+level-on : (n i level below : ℕ) → level ≡ n - i → below + 1 ≡ level → i < n → below ≡ n - (i + 1)
+level-on n i level below is up l = omega (arith, is, up, l)
+
+pub step-requires-clause-inner : goal.step-requires-clause-inner
+step-requires-clause-inner g c = level-left c.in-Ok.top.stand.level c.loop.counter c.loop.stand.level c.loop.invariant.level c.loop-test.true
 
 one-more : (i : ℕ) → 2 + 7 * i + 7 ≤ 2 + 7 * (i + 1)
 one-more i = omega arith
 
 pub loop-preserved : goal.loop-preserved
 loop-preserved g c =
-    let k = c.in-Ok-go_down.ensures in
+    let k = c.in-Ok-step.ensures in
     let i = c.loop.invariant in
     let less = c.loop-test.true in
     record {
@@ -47,17 +50,30 @@ loop-preserved g c =
       opened = opened-earlier _ _ _ _ _ _ i.reads k.reads.1;
       left = omega (arith, less);
       words = height-more (2 + 7 * c.loop.counter) 7 (2 + 7 * (c.loop.counter + 1)) _ _ _ _ i.words k.few (one-more c.loop.counter);
-      known = λ tells r. k.known tells (i.known tells r);
-      awaits =
-          k.awaits (c.in-Ok.top.level - (c.loop.counter + 1))
-          (subst (λ n. Awaits (view c.loop.pass) c.loop.guard.pid c.loop.guard.word n c.args.key) (one-less c.in-Ok.top.level c.loop.counter less) i.awaits);
+      known = λ tells r. (k.known tells (i.known tells r)).0;
+      level = level-on c.in-Ok.top.stand.level c.loop.counter c.loop.stand.level _ i.level k.level less;
+      stands = k.stands;
     }
 
 pub returns-clause-reads : goal.returns-clause-reads
 returns-clause-reads g c = (c.loop.invariant.reads, c.loop.invariant.opened)
 
+pub returns-clause-fences : goal.returns-clause-fences
+returns-clause-fences g c =
+    let i = c.loop.invariant in
+    let at : c.loop.stand.level ≡ 0 = i.level ∙ none-left c.in-Ok.top.stand.level c.loop.counter c.loop-test.false in (
+      c.loop.stand.low,
+      bound_of c.loop.stand.high,
+      i.stands.from,
+      i.stands.below,
+      subst (λ n. AwaitsNode (view c.loop.pass) c.loop.stand.guard.pid c.loop.stand.guard.word n c.loop.stand.low (bound_of c.loop.stand.high)) at i.stands.awaits,
+    )
+
 pub returns-clause-awaits : goal.returns-clause-awaits
-returns-clause-awaits g c = subst (λ n. Awaits (view c.loop.pass) c.loop.guard.pid c.loop.guard.word n c.args.key) (none-left c.in-Ok.top.level c.loop.counter c.loop-test.false) c.loop.invariant.awaits
+returns-clause-awaits g c =
+    let i = c.loop.invariant in
+    subst (λ n. Awaits (view c.loop.pass) c.loop.stand.guard.pid c.loop.stand.guard.word n c.args.key) (i.level ∙ none-left c.in-Ok.top.stand.level c.loop.counter c.loop-test.false)
+    (stand-awaits c.args.key c.loop.stand _ i.stands)
 
 pub returns-clause-known : goal.returns-clause-known
 returns-clause-known g c tells k = c.loop.invariant.known tells k
@@ -66,10 +82,10 @@ left-over : (i n : ℕ) → i ≤ n → 2 + 7 * i ≤ 2 + 7 * n
 left-over i n l = omega (arith, l)
 
 pub returns-clause-height : goal.returns-clause-height
-returns-clause-height g c = (c.in-Ok.top.level, height-wider _ _ _ _ _ c.loop.invariant.words (left-over c.loop.counter c.in-Ok.top.level c.loop.invariant.left))
+returns-clause-height g c = (c.in-Ok.top.stand.level, height-wider _ _ _ _ _ c.loop.invariant.words (left-over c.loop.counter c.in-Ok.top.stand.level c.loop.invariant.left))
 
 pub returns-clause-few : goal.returns-clause-few
-returns-clause-few g c = height-within (λ h. 2 + 7 * h) _ c.in-Ok.top.level _ _ c.loop.invariant.words (left-over c.loop.counter c.in-Ok.top.level c.loop.invariant.left)
+returns-clause-few g c = height-within (λ h. 2 + 7 * h) _ c.in-Ok.top.stand.level _ _ c.loop.invariant.words (left-over c.loop.counter c.in-Ok.top.stand.level c.loop.invariant.left)
 
 pub returns-in-Err-clause-few : goal.returns-in-Err-clause-few
 returns-in-Err-clause-few g c = within-wider _ _ _ _ (λ h. omega arith) c.in-Err.ensures.few
@@ -77,16 +93,16 @@ returns-in-Err-clause-few g c = within-wider _ _ _ _ (λ h. omega arith) c.in-Er
 pub returns-in-Err-clause-sure : goal.returns-in-Err-clause-sure
 returns-in-Err-clause-sure g c tells k = c.in-Err.ensures.sure tells k
 
-pub returns-in-Err-go_down-clause-err : goal.returns-in-Err-go_down-clause-err
-returns-in-Err-go_down-clause-err g c = c.in-Err-go_down.ensures.err _ c.loop.invariant.opened
+pub returns-in-Err-step-clause-err : goal.returns-in-Err-step-clause-err
+returns-in-Err-step-clause-err g c = c.in-Err-step.ensures.err _ c.loop.invariant.opened
 
-pub returns-in-Err-go_down-clause-sure : goal.returns-in-Err-go_down-clause-sure
-returns-in-Err-go_down-clause-sure g c tells k = c.in-Err-go_down.ensures.sure tells (c.loop.invariant.known tells k)
+pub returns-in-Err-step-clause-sure : goal.returns-in-Err-step-clause-sure
+returns-in-Err-step-clause-sure g c tells k = c.in-Err-step.ensures.sure tells (c.loop.invariant.known tells k)
 
 failed-last : (i n : ℕ) → i < n → 2 + 7 * i + 7 ≤ 2 + 7 * n
 failed-last i n l = omega (arith, l)
 
-pub returns-in-Err-go_down-clause-few : goal.returns-in-Err-go_down-clause-few
-returns-in-Err-go_down-clause-few g c =
-    height-within (λ h. 2 + 7 * h) (2 + 7 * c.loop.counter + 7) c.in-Ok.top.level _ _ (height-more _ 7 _ _ _ _ _ c.loop.invariant.words c.in-Err-go_down.ensures.few (omega arith))
-    (failed-last c.loop.counter c.in-Ok.top.level c.loop-test.true)
+pub returns-in-Err-step-clause-few : goal.returns-in-Err-step-clause-few
+returns-in-Err-step-clause-few g c =
+    height-within (λ h. 2 + 7 * h) (2 + 7 * c.loop.counter + 7) c.in-Ok.top.stand.level _ _ (height-more _ 7 _ _ _ _ _ c.loop.invariant.words c.in-Err-step.ensures.few (omega arith))
+    (failed-last c.loop.counter c.in-Ok.top.stand.level c.loop-test.true)

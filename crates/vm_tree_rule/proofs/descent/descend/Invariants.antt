@@ -1,7 +1,7 @@
 use Rattle.std.proofs.Common.{◌*◌, ◌+◌, ◌-◌, ◌≡◌, ◌≤◌, true}
 use Rattle.vm_step.specs.Prelude.{IsReady, IsSamePass, view}
 use Rattle.vm_tree_rule.specs.Few.{LoadsHeight}
-use Rattle.vm_tree_rule.specs.{Leaves.ReadsOn, Resident.IsKnownNow, Resident.KnowsResident, Standing.Awaits, Standing.IsOpened}
+use Rattle.vm_tree_rule.specs.{Leaves.ReadsOn, Resident.IsKnownNow, Resident.KnowsResident, Standing.IsOpened, Standing.IsStand}
 use Rattle.vm_tree_rule.proofs.descent.descend.Given as goal
 
 -- the page on the way is read, and its level is the number of steps that are left
@@ -10,9 +10,10 @@ invariant-loop g l = record {
   same : IsSamePass l.fn.pass l.pass;
   ready : IsReady l.words.table.shared.key g.B.Block.tells l.words.table.shared.table_id l.pass;
   reads : ReadsOn (view l.fn.pass) (view l.pass);
-  opened : IsOpened (view l.fn.pass) l.guard.pid l.guard.word l.guard.frame (view l.pass);
+  opened : IsOpened (view l.fn.pass) l.stand.guard.pid l.stand.guard.word l.stand.guard.frame (view l.pass);
   left : l.counter ≤ l.end;
   words : LoadsHeight (2 + 7 * l.counter) l.end (view l.fn.pass) (view l.pass);
-  known : g.B.Block.tells ≡ true → KnowsResident (view l.fn.pass) → IsKnownNow l.guard.pid l.guard.word (view l.pass);
-  awaits : Awaits (view l.pass) l.guard.pid l.guard.word (l.end - l.counter) l.key;
+  known : g.B.Block.tells ≡ true → KnowsResident (view l.fn.pass) → IsKnownNow l.stand.guard.pid l.stand.guard.word (view l.pass);
+  level : l.stand.level ≡ l.end - l.counter;
+  stands : IsStand l.key l.stand (view l.pass);
 }

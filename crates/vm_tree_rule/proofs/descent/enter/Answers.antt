@@ -5,8 +5,9 @@ use Rattle.vm_guard.specs.{declared.deny.Deny.Deny, declared.opt.OptGuard.OptGua
 use Rattle.vm_guard.proofs.PageLoads.{words-then}
 use Rattle.vm_tree_rule.specs.{Resident.IsKnownNow, Standing.HasSteppedDown, Standing.StaysOpen}
 use Rattle.vm_tree_rule.proofs.descent.enter.Goals as goal
+use Rattle.vm_tree_rule.proofs.Downward.{awaits-named}
 use Rattle.vm_tree_rule.proofs.Entering.{ended, lost, stepped}
-use Rattle.vm_tree_rule.proofs.Onward.{stays}
+use Rattle.vm_tree_rule.proofs.Onward.{others-stay, stays}
 use Rattle.vm_tree_rule.proofs.Readings.{leaves-self, reads-self, valid-reads}
 use Rattle.vm_tree_rule.proofs.Surely.{free-below, known-at, known-begun, known-same, locks-same, looked, looked-known, looked-reading, named-below}
 
@@ -42,6 +43,15 @@ returns-in-Ok-started-clause-parent g c =
     subst (λ n. StaysOpen c.args.parent.now.pid c.args.parent.now.word c.args.parent.now.frame n (view c.args.pass.now) (view c.validate_silently-2.new.pass)) (sym begun.0)
     (stays _ _ _ c.args.named _ _ _ _ _ c.if-named-parent.false begun.1 c.in-Ok-validate_silently.ensures.ok)
 
+pub returns-in-Ok-started-clause-awaits : goal.returns-in-Ok-started-clause-awaits
+returns-in-Ok-started-clause-awaits g c level low high names =
+    let s = returns-in-Ok-started-clause-ok g c in awaits-named _ _ _ c.args.named level low high _ _ _ _ _ names s.0 s.1
+
+pub returns-in-Ok-started-clause-others : goal.returns-in-Ok-started-clause-others
+returns-in-Ok-started-clause-others g c q ne =
+    let begun = subst (λ r. IfOk r (λ guard. (guard.pid ≡ c.args.named) × BeginsReading c.args.named guard.word guard.frame (view c.args.pass.now) (view c.start-started.new.pass))) c.in-Ok-started.is c.start-started.ensures.ok in
+    others-stay q c.args.named _ _ _ _ _ _ _ _ (λ e. ne (e ∙ sym begun.0)) begun.1 c.in-Ok-validate_silently.ensures.ok
+
 pub returns-in-Ok-started-clause-known : goal.returns-in-Ok-started-clause-known
 returns-in-Ok-started-clause-known g c tells k =
     let begun = subst (λ r. IfOk r (λ guard. (guard.pid ≡ c.args.named) × BeginsReading c.args.named guard.word guard.frame (view c.args.pass.now) (view c.start-started.new.pass))) c.in-Ok-started.is c.start-started.ensures.ok in
@@ -49,7 +59,7 @@ returns-in-Ok-started-clause-known g c tells k =
     let n = looked-known c.args.named c.args.parent.now.pid c.args.parent.now.word c.start-started.result (view c.args.pass.now) (view c.start-started.new.pass) c.if-named-parent.false c.start-started.ensures.ok c.start-started.ensures.err k in
     let valid = c.in-Ok-validate_silently.ensures.ok in
     let reads = (valid-reads _ _ _ _ _ _ valid).0 in
-    let below = named-below _ _ _ c.args.named (view c.args.pass.now) (view c.start-started.new.pass) (view c.validate_silently-2.new.pass) l.reads l.same (l.next k.resident.alone) valid (c.in-Ok-validate_silently.ensures.kept tells) c.requires.names (c.requires.ready.table.tells_is ∙ tells) k.resident.alone in (
+    let below = named-below _ _ _ c.args.named c.requires.names.0 c.requires.names.1 c.requires.names.2 (view c.args.pass.now) (view c.start-started.new.pass) (view c.validate_silently-2.new.pass) l.reads l.same (l.next k.resident.alone) valid (c.in-Ok-validate_silently.ensures.kept tells) c.requires.names.3 (c.requires.ready.table.tells_is ∙ tells) k.resident.alone in (
       subst (λ p. IsKnownNow p c.in-Ok-started.guard.word (view c.validate_silently-2.new.pass)) (sym begun.0) (known-same _ _ _ _ reads valid.table (known-begun c.args.named _ _ (view c.args.pass.now) (view c.start-started.new.pass) begun.1 below k.resident)),
       known-same _ _ _ _ reads valid.table n,
     )
@@ -81,7 +91,7 @@ returns-in-Err-started-clause-sure g c tells k =
     let high = c.if-named-pages.false in
     let same = c.args.words.now.shape.0 in
     let pages = c.requires.ready.table.is_shape.pages in
-    let below = named-below _ _ _ c.args.named (view c.args.pass.now) (view c.start-started.new.pass) (view c.validate_silently-2.new.pass) l.reads l.same (l.next a) c.in-Ok-validate_silently.ensures.ok (c.in-Ok-validate_silently.ensures.kept tells) c.requires.names (c.requires.ready.table.tells_is ∙ tells) a in
+    let below = named-below _ _ _ c.args.named c.requires.names.0 c.requires.names.1 c.requires.names.2 (view c.args.pass.now) (view c.start-started.new.pass) (view c.validate_silently-2.new.pass) l.reads l.same (l.next a) c.in-Ok-validate_silently.ensures.ok (c.in-Ok-validate_silently.ensures.kept tells) c.requires.names.3 (c.requires.ready.table.tells_is ∙ tells) a in
     subst (λ r. IsOk r) c.in-Err-started.is (c.start-started.ensures.sure a (free-below c.args.named (view c.args.pass.now) k.resident below (omega (arith, high, same, pages))))
 
 pub returns-in-Ok-started-clause-words : goal.returns-in-Ok-started-clause-words

@@ -1,12 +1,12 @@
-use Rattle.std.proofs.Common.{[], ◌+◌, ◌<◌, ◌∙◌, ◌∷◌, ◌≡◌, ◌≤◌, ap, arith, length, subst, sym, ℕ}
+use Rattle.std.proofs.Common.{[], ◌+◌, ◌<◌, ◌∙◌, ◌∷◌, ◌≡◌, ◌≤◌, ◌^◌, ap, arith, length, subst, sym, ℕ}
 use Rattle.vm_guard.specs.PageWords.{LoadsWords}
-use Rattle.vm_tree_rule.proofs.Counting.{meta-loaded, meta-within}
+use Rattle.vm_tree_rule.proofs.Counting.{meta-loaded, meta-within, none-within}
 use Rattle.vm_rule.specs.Prelude.{last_of}
 use Rattle.vm_step.specs.Prelude.{Origin, view}
 use Rattle.vm_tree_rule.specs.Turns.{IsNoTree as no_tree, IsTurnedBack}
 use Rattle.vm_tree_rule.proofs.{Onward.meta-read, Onward.root-passes, Surely.first-known, Surely.first-readable}
 use Rattle.vm_tree_rule.proofs.descent.enter_root.Goals as goal
-use Rattle.vm_tree_rule.proofs.Downward.{awaits-root, meta-loads, meta-words, names-root, root-height, root-loaded, root-named, root-opened}
+use Rattle.vm_tree_rule.proofs.Downward.{meta-loads, meta-words, names-root, root-height, root-loaded, root-named, root-opened, tells-height}
 use Rattle.vm_tree_rule.proofs.Entering.{astray-turn, first-ended, opened-reads, turned, untold}
 use Rattle.vm_tree_rule.proofs.Readings.{opened-earlier, opened-later, reads-then}
 
@@ -28,7 +28,7 @@ returns-in-Err-clause-sure g c tells k =
     c.in-Err.ensures.sure k.alone (first-readable _ _ (view c.args.pass.now) (view c.start.new.pass) d (c.in-Err.ensures.kept tells) (subst (λ (o : Origin). 0 < o.pages) d.quiet.steady.start (some-pages _ 0 _ c.requires.pages c.in-Err.ensures.ready.table.is_shape.pages)) k)
 
 pub enter-requires-clause-names : goal.enter-requires-clause-names
-enter-requires-clause-names g c = names-root _ _ _ _ _ c.args.key _ _ _ _ c.in-Ok.ensures.ok.0 c.in-Ok.ensures.ok.1 c.word-root.ensures.loads c.word-level.ensures.loads
+enter-requires-clause-names g c = (c.word-level.result, 0, 2 ^ 64, names-root _ _ _ _ _ c.args.key _ _ _ _ c.in-Ok.ensures.ok.0 c.in-Ok.ensures.ok.1 c.word-root.ensures.loads c.word-level.ensures.loads)
 
 pub returns-in-Err-enter-clause-err : goal.returns-in-Err-enter-clause-err
 returns-in-Err-enter-clause-err g c =
@@ -74,7 +74,11 @@ returns-clause-ok g c =
     let s = c.in-Ok-enter.ensures.ok in
     let opened = root-opened _ _ _ _ _ c.args.key _ _ _ _ c.in-Ok.ensures.ok.0 c.in-Ok.ensures.ok.1 c.word-root.ensures.loads c.word-level.ensures.loads in (
       opened-earlier _ _ _ _ _ _ (opened-reads _ _ _ _ _ opened) s.1.opened,
-      awaits-root _ _ _ _ _ c.args.key _ _ _ _ c.in-Ok.ensures.ok.0 c.in-Ok.ensures.ok.1 c.word-root.ensures.loads c.word-level.ensures.loads _ _ _ _ s.0 c.ranges.key.fits s.1,
+      record {
+        awaits = c.in-Ok-enter.ensures.awaits c.word-level.result 0 (2 ^ 64) (names-root _ _ _ _ _ c.args.key _ _ _ _ c.in-Ok.ensures.ok.0 c.in-Ok.ensures.ok.1 c.word-root.ensures.loads c.word-level.ensures.loads);
+        from = omega arith;
+        below = c.ranges.key.fits;
+      },
     )
 
 pub returns-clause-reads : goal.returns-clause-reads
@@ -109,14 +113,23 @@ returns-clause-named g c =
 pub returns-clause-words : goal.returns-clause-words
 returns-clause-words g c = subst (λ n. LoadsWords (n ∷ c.word-level.result ∷ []) (view c.args.pass.now) (view c.enter.new.pass)) (sym c.in-Ok-enter.ensures.ok.0) (meta-loaded _ _ _ _ _ _ _ c.in-Ok.ensures.words c.word-root.ensures.words c.word-level.ensures.words c.in-Ok-enter.ensures.words)
 
+pub returns-clause-height : goal.returns-clause-height
+returns-clause-height g c = tells-height _ _ _ _ _ c.args.key _ _ _ _ c.in-Ok.ensures.ok.0 c.in-Ok.ensures.ok.1 c.word-root.ensures.loads c.word-level.ensures.loads _ c.in-Ok.ensures.words c.word-root.ensures.words c.word-level.ensures.words c.in-Ok-enter.ensures.words
+
 pub returns-clause-few : goal.returns-clause-few
-returns-clause-few g c = meta-within _ _ _ _ _ _ _ c.in-Ok.ensures.words c.word-root.ensures.words c.word-level.ensures.words c.in-Ok-enter.ensures.words
+returns-clause-few g c =
+    meta-within _ _ _ _ (meta-loaded _ _ _ _ _ _ _ c.in-Ok.ensures.words c.word-root.ensures.words c.word-level.ensures.words c.in-Ok-enter.ensures.words)
+    (tells-height _ _ _ _ _ c.args.key _ _ _ _ c.in-Ok.ensures.ok.0 c.in-Ok.ensures.ok.1 c.word-root.ensures.loads c.word-level.ensures.loads _ c.in-Ok.ensures.words c.word-root.ensures.words c.word-level.ensures.words c.in-Ok-enter.ensures.words)
 
 pub returns-then-level-words-clause-few : goal.returns-then-level-words-clause-few
-returns-then-level-words-clause-few g c = meta-within _ _ _ _ _ _ _ c.in-Ok.ensures.words c.word-root.ensures.words c.word-level.ensures.words c.in-Ok-enter.ensures.words
+returns-then-level-words-clause-few g c =
+    meta-within _ _ _ _ (meta-loaded _ _ _ _ _ _ _ c.in-Ok.ensures.words c.word-root.ensures.words c.word-level.ensures.words c.in-Ok-enter.ensures.words)
+    (tells-height _ _ _ _ _ c.args.key _ _ _ _ c.in-Ok.ensures.ok.0 c.in-Ok.ensures.ok.1 c.word-root.ensures.loads c.word-level.ensures.loads _ c.in-Ok.ensures.words c.word-root.ensures.words c.word-level.ensures.words c.in-Ok-enter.ensures.words)
 
 pub returns-in-Err-enter-clause-few : goal.returns-in-Err-enter-clause-few
-returns-in-Err-enter-clause-few g c = meta-within _ _ _ _ _ _ _ c.in-Ok.ensures.words c.word-root.ensures.words c.word-level.ensures.words c.in-Err-enter.ensures.words
+returns-in-Err-enter-clause-few g c =
+    meta-within _ _ _ _ (meta-loaded _ _ _ _ _ _ _ c.in-Ok.ensures.words c.word-root.ensures.words c.word-level.ensures.words c.in-Err-enter.ensures.words)
+    (tells-height _ _ _ _ _ c.args.key _ _ _ _ c.in-Ok.ensures.ok.0 c.in-Ok.ensures.ok.1 c.word-root.ensures.loads c.word-level.ensures.loads _ c.in-Ok.ensures.words c.word-root.ensures.words c.word-level.ensures.words c.in-Err-enter.ensures.words)
 
 pub returns-in-Err-clause-few : goal.returns-in-Err-clause-few
-returns-in-Err-clause-few g c = record { loaded = []; words = c.in-Err.ensures.words; few = omega arith }
+returns-in-Err-clause-few g c = none-within _ _ _ c.in-Err.ensures.words

@@ -1,0 +1,152 @@
+use Rattle.std.proofs.Common.{◌-◌, ◌<◌, ◌∙◌, ◌≡◌, ◌≤◌, ap, arith, inr, List, MatchOption, None, Option, Some, subst, suc, sym, unwrap_or, ℕ}
+use Rattle.vm_map.specs.History.{bound_of}
+use Rattle.vm_map.specs.declared.call.Said.{Said}
+use Rattle.vm_rule.specs.Prelude.{last_of}
+use Rattle.vm_step.specs.Prelude.{Origin, View, view}
+use Rattle.vm_tree_rule.specs.{declared.descent.Stand.Stand, Seeks.TellChild, Seeks.TellChildIn}
+use Rattle.vm_tree_rule.specs.Standing.{Awaits, AwaitsNode, IsStand}
+use Rattle.vm_tree_rule.specs.Turns.{IsNoTree as no_tree, IsTurnedBack}
+use Rattle.vm_tree_rule.proofs.descent.step.Goals as goal
+use Rattle.vm_tree_rule.proofs.{Counting.place-within, Downward.awaits-later, Downward.node-later, Downward.stand-awaits}
+use Rattle.vm_tree_rule.proofs.Entering.{astray-turn, opened-reads, refused-turn, turned, untold}
+use Rattle.vm_tree_rule.proofs.Onward.{goes-nowhere, goes-on, goes-to}
+use Rattle.vm_tree_rule.proofs.Readings.{leaves-self, loads-reads, opened-earlier, opened-later, opened-loads, reads-self, reads-then}
+use Rattle.vm_tree_rule.proofs.Seeking.{passes-by}
+use Rattle.vm_tree_rule.proofs.Surely.{known-at, known-same}
+
+-- the search that tells the fences tells the page
+tells-page : (loaded : List (ℕ × ℕ)) (key named low : ℕ) (next : Option ℕ) → TellChildIn loaded key named low next → TellChild loaded key named
+tells-page loaded key named low next tells words with = (tells words with).finds
+
+inner-level : (n : ℕ) → 1 ≤ n → n ≡ suc (n - 1)
+inner-level n some = omega (arith, some)
+
+above : (key : ℕ) (s : Stand) (v : View Said) → 1 ≤ s.level → IsStand key s v → Awaits v s.guard.pid s.guard.word (suc (s.level - 1)) key
+above key s v some k = subst (λ n. Awaits v s.guard.pid s.guard.word n key) (inner-level s.level some) (stand-awaits key s v k)
+
+node : (key : ℕ) (s : Stand) (v : View Said) → 1 ≤ s.level → IsStand key s v → AwaitsNode v s.guard.pid s.guard.word (suc (s.level - 1)) s.low (bound_of s.high)
+node key s v some k = subst (λ n. AwaitsNode v s.guard.pid s.guard.word n s.low (bound_of s.high)) (inner-level s.level some) k.awaits
+
+-- the key is below the next one, or below the node's fence
+below-next : (key high : ℕ) (next : Option ℕ) → MatchOption next (Unit {0}) (λ k. key < k) → key < high → key < unwrap_or next high
+below-next key high None tt below = below
+below-next key high (Some k) less below = less
+
+pub enter-requires-clause-reading : goal.enter-requires-clause-reading
+enter-requires-clause-reading g c = c.in-Some.ensures.found.loads.reads
+
+pub enter-requires-clause-names : goal.enter-requires-clause-names
+enter-requires-clause-names g c =
+    let f = c.in-Some.ensures.found in
+    let s = c.args.stand.now in
+    let k = c.requires.stands in (
+      s.level - 1,
+      c.in-Some.child.low,
+      unwrap_or c.in-Some.child.next (bound_of s.high),
+      goes-on _ _ _ (s.level - 1) c.args.key f.loaded _ f.loads.reads (_, f.loads.loads) s.low (bound_of s.high)
+          (node-later _ _ _ _ _ _ _ (loads-reads _ _ _ _ _ _ f.loads).0 (node c.args.key s _ c.requires.inner k)) k.from k.below c.in-Some.child.page c.in-Some.child.low c.in-Some.child.next f.tells,
+    )
+
+pub returns-in-Ok-clause-reads : goal.returns-in-Ok-clause-reads
+returns-in-Ok-clause-reads g c =
+    let reads = loads-reads _ _ _ _ _ _ c.in-Some.ensures.found.loads in
+    let s = c.in-Ok.ensures.ok.1 in
+    (reads-then _ _ _ reads s.reads, opened-earlier _ _ _ _ _ _ reads s.opened)
+
+pub returns-in-Ok-clause-level : goal.returns-in-Ok-clause-level
+returns-in-Ok-clause-level g c = let some = c.requires.inner in omega (arith, some)
+
+pub returns-in-Ok-clause-stands : goal.returns-in-Ok-clause-stands
+returns-in-Ok-clause-stands g c =
+    let s = c.args.stand.now in
+    let child = c.in-Some.child in
+    let sides = c.in-Some.ensures.sides in
+    let f = c.in-Some.ensures.found in
+    let k = c.requires.stands in
+    record {
+      awaits = subst (λ b. AwaitsNode (view c.enter.new.pass) c.in-Ok.guard.pid c.in-Ok.guard.word (s.level - 1) child.low b) (sym c.high_fence.ensures)
+          (c.in-Ok.ensures.awaits (s.level - 1) child.low (unwrap_or child.next (bound_of s.high)) (goes-on _ _ _ (s.level - 1) c.args.key f.loaded _ f.loads.reads (_, f.loads.loads) s.low (bound_of s.high)
+          (node-later _ _ _ _ _ _ _ (loads-reads _ _ _ _ _ _ f.loads).0 (node c.args.key s _ c.requires.inner k)) k.from k.below child.page child.low child.next f.tells));
+      from = sides.0;
+      below = subst (λ b. c.args.key < b) (sym c.high_fence.ensures) (below-next c.args.key (bound_of s.high) child.next sides.1 c.requires.stands.below);
+    }
+
+pub returns-in-Ok-clause-parent : goal.returns-in-Ok-clause-parent
+returns-in-Ok-clause-parent g c =
+    let f = c.in-Some.ensures.found in
+    let k = c.in-Ok.ensures.parent in
+    (k.apart, λ v o. opened-later _ _ _ v _ _ (opened-loads _ _ _ _ v _ _ o f.loads) c.in-Ok.ensures.ok.1.reads k.same k.reading)
+
+pub returns-in-Ok-clause-passed : goal.returns-in-Ok-clause-passed
+returns-in-Ok-clause-passed g c =
+    let f = c.in-Some.ensures.found in
+    passes-by _ _ _ (c.args.stand.now.level - 1) _ f.loaded _ _ _ f.loads (above c.args.key c.args.stand.now _ c.requires.inner c.requires.stands) c.in-Some.child.page
+    (tells-page f.loaded c.args.key c.in-Some.child.page c.in-Some.child.low c.in-Some.child.next f.tells) _ _ _ c.in-Ok.ensures.ok.0 c.in-Ok.ensures.ok.1
+
+pub returns-in-Ok-clause-known : goal.returns-in-Ok-clause-known
+returns-in-Ok-clause-known g c tells known =
+    let loads = c.in-Some.ensures.found.loads in
+    c.in-Ok.ensures.known tells (known-same _ _ _ _ (loads-reads _ _ _ _ _ _ loads).0 loads.table known)
+
+pub returns-in-Ok-clause-locks : goal.returns-in-Ok-clause-locks
+returns-in-Ok-clause-locks g c = c.in-Ok.ensures.locks
+
+pub returns-in-Ok-clause-few : goal.returns-in-Ok-clause-few
+returns-in-Ok-clause-few g c = place-within _ _ _ _ _ _ _ _ c.in-Some.ensures.found c.in-Ok.ensures.words
+
+pub returns-in-Err-clause-err : goal.returns-in-Err-clause-err
+returns-in-Err-clause-err g c u o =
+    let f = c.in-Some.ensures.found in
+    let page = tells-page f.loaded c.args.key c.in-Some.child.page c.in-Some.child.low c.in-Some.child.next f.tells in
+    turned _ _ _ _ _ c.in-Err.turn u _ _ (opened-loads _ _ _ _ _ _ _ o f.loads)
+    (goes-to _ _ _ (c.args.stand.now.level - 1) _ f.loaded _ f.loads.reads (_, f.loads.loads)
+    (awaits-later _ _ _ _ _ _ (loads-reads _ _ _ _ _ _ f.loads).0 (above c.args.key c.args.stand.now _ c.requires.inner c.requires.stands)) c.in-Some.child.page page)
+    (inr (f.loaded, (_, f.loads.loads), page)) c.in-Err.ensures.err
+
+pub returns-in-Err-clause-sure : goal.returns-in-Err-clause-sure
+returns-in-Err-clause-sure g c tells known =
+    let loads = c.in-Some.ensures.found.loads in
+    c.in-Err.ensures.sure tells (known-same _ _ _ _ (loads-reads _ _ _ _ _ _ loads).0 loads.table known)
+
+pub returns-in-Err-clause-few : goal.returns-in-Err-clause-few
+returns-in-Err-clause-few g c = place-within _ _ _ _ _ _ _ _ c.in-Some.ensures.found c.in-Err.ensures.words
+
+pub returns-in-Ok-validate_silently-clause-err : goal.returns-in-Ok-validate_silently-clause-err
+returns-in-Ok-validate_silently-clause-err g c u o =
+    let f = c.in-None.ensures.found in
+    let valid = c.in-Ok-validate_silently.ensures.ok in
+    let opened = opened-loads _ _ _ _ u _ _ o f.loads in
+    let start = (opened-reads _ _ _ u _ opened).0.start in
+    subst (λ t. IsTurnedBack u c.args.key t (view c.validate_silently.new.pass)) (sym c.astray_at.ensures)
+    (astray-turn _ _ _ c.args.key u _ _ opened
+    (untold _ (λ tells.
+    let told = ap (λ (y : Origin). y.tells) start ∙ tells in
+    goes-nowhere _ _ _ (c.args.stand.now.level - 1) _ f.loaded _ f.loads.reads (_, f.loads.loads) (awaits-later _ _ _ _ _ _ (loads-reads _ _ _ _ _ _ f.loads).0 (above c.args.key c.args.stand.now _ c.requires.inner c.requires.stands)) f.tells told
+    (last_of (view c.validate_silently.new.pass) c.args.stand.now.guard.pid).words valid.size (valid.validates told)))
+    valid
+    (no_tree.childless f.loaded (_, (valid.same_reads _).loads ∙ f.loads.loads) f.tells))
+
+pub returns-in-Ok-validate_silently-clause-sure : goal.returns-in-Ok-validate_silently-clause-sure
+returns-in-Ok-validate_silently-clause-sure g c tells known =
+    let f = c.in-None.ensures.found in
+    let valid = c.in-Ok-validate_silently.ensures.ok in
+    let told = c.in-None.ensures.ready.table.tells_is ∙ tells in
+    absurd
+    (goes-nowhere _ _ _ (c.args.stand.now.level - 1) _ f.loaded _ f.loads.reads (_, f.loads.loads) (awaits-later _ _ _ _ _ _ (loads-reads _ _ _ _ _ _ f.loads).0 (above c.args.key c.args.stand.now _ c.requires.inner c.requires.stands)) f.tells told
+    (last_of (view c.validate_silently.new.pass) c.args.stand.now.guard.pid).words valid.size (valid.validates told))
+
+pub returns-in-Ok-validate_silently-clause-few : goal.returns-in-Ok-validate_silently-clause-few
+returns-in-Ok-validate_silently-clause-few g c = place-within _ _ _ _ _ _ _ _ c.in-None.ensures.found c.in-Ok-validate_silently.ensures.words
+
+pub returns-in-Err-validate_silently-clause-err : goal.returns-in-Err-validate_silently-clause-err
+returns-in-Err-validate_silently-clause-err g c u o =
+    let loads = c.in-None.ensures.found.loads in refused-turn _ _ _ c.args.key _ u _ _ _ (opened-loads _ _ _ _ _ _ _ o loads) (reads-self _) (leaves-self _ _) c.in-Err-validate_silently.ensures.err
+
+pub returns-in-Err-validate_silently-clause-sure : goal.returns-in-Err-validate_silently-clause-sure
+returns-in-Err-validate_silently-clause-sure g c tells known =
+    let loads = c.in-None.ensures.found.loads in
+    let k = known-same _ _ _ _ (loads-reads _ _ _ _ _ _ loads).0 loads.table known in
+    c.in-Err-validate_silently.ensures.sure k.resident.alone (known-at _ _ _ k)
+
+pub returns-in-Err-validate_silently-clause-few : goal.returns-in-Err-validate_silently-clause-few
+returns-in-Err-validate_silently-clause-few g c = place-within _ _ _ _ _ _ _ _ c.in-None.ensures.found c.in-Err-validate_silently.ensures.words
