@@ -21,7 +21,7 @@ use Rattle.vm_tree_rule.proofs.Readings.{each-loaded, leaves-self, loads-behind,
 use Rattle.vm_tree_read.specs.Reads.{IsAnswered, key_of, ProvesReply, TellReply}
 
 -- the words that a validation proves are a page that has what was loaded
-page-with : (p : ℕ) (loaded : List (ℕ × ℕ)) (v : View Said) (words : List ℕ) → HasLoaded v p loaded → length words ≡ 64 → LoadsAre words (loads_at v p) → IsPageWith loaded words
+pub page-with : (p : ℕ) (loaded : List (ℕ × ℕ)) (v : View Said) (words : List ℕ) → HasLoaded v p loaded → length words ≡ 64 → LoadsAre words (loads_at v p) → IsPageWith loaded words
 page-with p loaded v words has size are = record { size = size; has = each-loaded words loaded (loads-behind words has.0 loaded (subst (LoadsAre words) has.1 are)) }
 
 -- those of the page buffer, where that was read whole
@@ -105,10 +105,6 @@ none-whole page key long none words with = subst (λ (l : List ℕ). ((node_of l
 -- one that was, and what it says
 pub reply-whole : (page : List ℕ) (said : Said) → length page ≡ 64 → ProvesReply page said → TellReply (placed 0 page) said
 reply-whole page said long proves words with = subst (λ (l : List ℕ). ProvesReply l said) (sym (same-page words page long with)) proves
-
--- more words were loaded of the page
-pub loaded-more : (p word frame : ℕ) (before loaded : List (ℕ × ℕ)) (v w : View Said) → HasLoaded v p before → Loads p word frame loaded v w → HasLoaded w p (before ++ loaded)
-loaded-more p word frame before loaded v w has l = (has.0, l.loads ∙ ap (λ (m : List (ℕ × ℕ)). m ++ loaded) has.1 ∙ append_assoc has.0 before loaded)
 
 -- a leaf of the key was found, and then what a call of it answers
 pub reply-told : (before loaded : List (ℕ × ℕ)) (said : Said) → TellLeaf before (key_of said.call) → ((words : List ℕ) → IsPageWith loaded words → Covers (node_of words) (key_of said.call) → (low high : ℕ) → Rises low high (pairs_of words) → IsProved words said.call said.reply) → TellReply (before ++ loaded) said

@@ -4,19 +4,21 @@ use Rattle.vm_map.specs.declared.call.Said.{Said}
 use Rattle.vm_tree_model.specs.Tree.{map_of}
 use Rattle.vm_rule.specs.Prelude.{entries_under, Entry, entry_of}
 use Rattle.vm_rule.proofs.Entries.{append-none}
-use Rattle.vm_step.specs.Prelude.{Origin, View}
-use Rattle.vm_step.proofs.Asides.{alone-self, alone-then, holds-then, starts-then}
+use Rattle.vm_step.specs.Prelude.{NoneExpected, Origin, View}
+use Rattle.vm_step.proofs.Asides.{alone-self, alone-then, holds-then, knows-then, starts-then, still-locking}
 use Rattle.vm_pool.specs.{Brings.IsBring, Brings.KeepsLocks, declared.bring.Bring.Bring}
 use Rattle.vm_pool.specs.declared.bring.Bring.TheVariants as brings
 use Rattle.vm_tree_laws.specs.History.{IsLegal}
 use Rattle.vm_tree_rule.specs.{declared.fault.TreeFault.TreeFault, declared.turn.Turn.Turn, Leaves.ReadsOn, Turns.IsTurnedBack}
 use Rattle.vm_tree_rule.specs.declared.turn.Turn.TheVariants as turns
-use Rattle.vm_tree_read.specs.{Reads.IsAnswered, Waiting.IsBringFault, Waiting.IsReplied, Waiting.NamesFault, Waiting.Waits}
+use Rattle.vm_tree_read.specs.Reads.{IsAnswered, key_of}
+use Rattle.vm_tree_read.specs.Waiting.{AreRounds, IsBringFault, IsReplied, IsRound, NamesFault, Waits}
 
 module _ {X : Type 0} where
   pub waits-self : (v : View X) → Waits v v
   waits-self v = record {
     holds = λ q. record { shares = refl; exclusive = refl; writing = refl };
+    knows = λ q l. record { held = refl; draft = refl; last = refl };
     mine = refl;
     seen = ([], sym (append-none v.seen));
     notes = ([], sym (append-none v.notes));
@@ -31,6 +33,7 @@ module _ {X : Type 0} where
   pub waits-then : (u v w : View X) → Waits u v → Waits v w → Waits u w
   waits-then u v w f g = record {
     holds = λ q. holds-then u v w q (f.holds q) (g.holds q);
+    knows = λ q l. knows-then u v w q (f.knows q l) (g.knows q (still-locking u v q (f.holds q) l));
     mine = g.mine ∙ f.mine;
     seen = starts-then u.seen v.seen w.seen f.seen g.seen;
     notes = starts-then u.notes v.notes w.notes f.notes g.notes;
@@ -43,7 +46,7 @@ module _ {X : Type 0} where
   }
 
   pub reads-wait : (v w : View X) → ReadsOn v w → Waits v w
-  reads-wait v w r = record { holds = r.0.holds; mine = r.1; seen = r.0.seen; notes = ([], r.0.notes ∙ sym (append-none v.notes)); log = (r.0.done, r.0.log); group = r.0.group; out = r.0.out; start = r.0.start; parts = r.0.parts; alone = r.0.alone }
+  reads-wait v w r = record { holds = r.0.holds; knows = r.0.knows; mine = r.1; seen = r.0.seen; notes = ([], r.0.notes ∙ sym (append-none v.notes)); log = (r.0.done, r.0.log); group = r.0.group; out = r.0.out; start = r.0.start; parts = r.0.parts; alone = r.0.alone }
 
   -- a call that was turned back only read
   pub turned-reads : (v : View X) (key : ℕ) (turn : Turn) (w : View X) → IsTurnedBack v key turn w → ReadsOn v w
@@ -52,7 +55,7 @@ module _ {X : Type 0} where
   turned-reads v key (turns.Astray saw) w t = t.0
 
   pub bring-waits : (v w : View X) → KeepsLocks v w → Waits v w
-  bring-waits v w k = record { holds = k.holds; mine = k.mine; seen = k.seen; notes = k.notes; log = k.log; group = k.group; out = k.out; start = k.start; parts = k.parts; alone = k.alone }
+  bring-waits v w k = record { holds = k.holds; knows = k.knows; mine = k.mine; seen = k.seen; notes = k.notes; log = k.log; group = k.group; out = k.out; start = k.start; parts = k.parts; alone = k.alone }
 
   -- the fault that the answer of a page's bringing names
   pub names-fault : (home cap p : ℕ) (old new : List ℕ) (before after : ℕ) (v w : View X) (answer : Bring) (fault : TreeFault) → IsBring home cap p old new before after v w answer → NamesFault answer fault → IsBringFault p fault v w
@@ -64,9 +67,10 @@ module _ {X : Type 0} where
 same-entry : (v x : View Said) (said : Said) → Waits v x → entry_of x said ≡ entry_of v said
 same-entry v x said k i = record { number = slice_index (k.parts.0 i) 0; count = entries_under (slice_index (k.parts.0 i) 0) (k.mine i) + 1; said = said }
 
-pub replied : (said : Said) (v x w : View Said) → Waits v x → IsAnswered said x w → IsReplied said v w
-replied said v x w k a = record {
+pub replied : (said : Said) (v x w : View Said) → Waits v x × AreRounds (IsRound NoneExpected (key_of said.call)) v x → IsAnswered said x w → IsReplied said v w
+replied said v x w both a = let k = both.0 in record {
   tried = x;
+  rounds = both.1;
   waits = k;
   answered = a;
   mine = a.mine ∙ (λ i. k.mine i ++ same-entry v x said k i ∷ []);
@@ -76,6 +80,7 @@ replied said v x w k a = record {
   );
   legal = λ tells. subst (λ (o : Origin). IsLegal (map_of o.contents) w.seen) k.start (a.told (ap (λ (o : Origin). o.tells) k.start ∙ tells)).legal;
   holds = λ q. holds-then v x w q (k.holds q) (a.reads.holds q);
+  knows = λ q l. knows-then v x w q (k.knows q l) (a.reads.knows q (still-locking v x q (k.holds q) l));
   out = a.reads.out ∙ k.out;
   start = a.reads.start ∙ k.start;
   parts = (a.reads.parts.0 ∙ k.parts.0, a.reads.parts.1 ∙ k.parts.1);

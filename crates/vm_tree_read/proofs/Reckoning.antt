@@ -3,12 +3,15 @@ use Rattle.std.proofs.Common.{[], ◌*◌, ◌+◌, ◌≤◌, arith, List, refl
 use Rattle.vm_rule.proofs.Entries.{append-none}
 use Rattle.vm_step.specs.Prelude.{View}
 use Rattle.vm_guard.specs.PageWords.{LoadsWords}
-use Rattle.vm_tree_rule.specs.Few.{LoadsHeight, LoadsWithin, ReadsInPlace}
+use Rattle.vm_tree_rule.specs.Few.{LoadsAtMost, LoadsHeight, LoadsWithin, ReadsInPlace}
 use Rattle.vm_tree_rule.proofs.Counting.{height-more, height-same, height-within, place-within}
 
-pub place-few : {X : Type 0} (p word frame n : ℕ) (C : List (ℕ × ℕ) → Type 0) (v w : View X) → ReadsInPlace p word frame n v w C → LoadsWithin (λ _. n) v w
+pub place-few : {X : Type 0} (p word frame n : ℕ) (C : List (ℕ × ℕ) → Type 0) (v w : View X) → ReadsInPlace p word frame n v w C → LoadsAtMost n v w
 place-few p word frame n C v w r = place-within p word frame n C v w w r (record { done = []; log = sym (append-none w.log); words = refl })
 
 -- the descent and the leaf's tag and fences, more words of the leaf, and the validation
-pub leaf-few : {X : Type 0} (most : ℕ → ℕ) (n h : ℕ) (u v w z : View X) → LoadsHeight (2 + 7 * h + 4) h u v → LoadsWithin (λ _. n) v w → LoadsWords [] w z → 2 + 7 * h + 4 + n ≤ most h → LoadsWithin most u z
-leaf-few most n h u v w z k more none le = height-within most (2 + 7 * h + 4 + n) h u z (height-same (2 + 7 * h + 4 + n) h u w z (height-more (2 + 7 * h + 4) n (2 + 7 * h + 4 + n) h u v w k more (omega arith)) none) le
+pub leaf-height : {X : Type 0} (most n h : ℕ) (u v w z : View X) → LoadsHeight (2 + 7 * h + 4) h u v → LoadsAtMost n v w → LoadsWords [] w z → 2 + 7 * h + 4 + n ≤ most → LoadsHeight most h u z
+leaf-height most n h u v w z k more none le = height-same most h u w z (height-more (2 + 7 * h + 4) n most h u v w k more le) none
+
+pub leaf-few : {X : Type 0} (most : ℕ → ℕ) (n h : ℕ) (u v w z : View X) → LoadsHeight (2 + 7 * h + 4) h u v → LoadsAtMost n v w → LoadsWords [] w z → 2 + 7 * h + 4 + n ≤ most h → LoadsWithin most u z
+leaf-few most n h u v w z k more none le = height-within most (most h) h u z (leaf-height (most h) n h u v w z k more none le) (omega arith)

@@ -45,12 +45,17 @@ pub record IsBorneOut (page : ℕ) (loaded : List (ℕ × ℕ)) (said : Said) (v
   pub has : IsPageWith loaded (page_at kept.pages page)
   pub proved : IsProved (page_at kept.pages page) said.call said.reply
 
+-- the entry of what is said, the pass's next one, stands behind all entries that it had seen and others that came meanwhile; and behind the entry it has seen
+-- these
+abbrev pub GainsEntry : Said → View Said → List (Entry Said) → View Said → Type 0
+GainsEntry said v more w = (others : List (Entry Said)) × (w.seen ≡ (v.seen ++ others) ++ entry_of v said ∷ more)
+
 -- The call with its reply became the last entry, under the pass's first number and its next count. Words of a page were loaded, and each page that
 -- has them is a leaf that covers the call's key, and proves the reply if its keys rise; where blocks tell their words one is borne out
 pub record IsAnswered (said : Said) (v w : View Said) : Type 0 where
   pub reads : OnlyReads v w
   pub mine : w.mine ≡ v.mine ++ entry_of v said ∷ []
-  pub entry : (others : List (Entry Said)) × (w.seen ≡ (v.seen ++ others) ++ entry_of v said ∷ [])
+  pub entry : GainsEntry said v [] w
   pub page : ℕ
   pub loaded : List (ℕ × ℕ)
   pub read : HasLoaded w page loaded

@@ -3,11 +3,11 @@ ghost use Rattle.std.specs.Prelude.{[], ◌*◌, ◌+◌, ◌≡◌, ◌≢◌, 
 ghost use Rattle.vm_tree_model.specs.{Node.Covers, Page.node_of};
 ghost use Rattle.vm_node.specs.Loads.{IsPageWith, Tells};
 ghost use Rattle.vm_step.specs.Prelude.{IsReady, IsSamePass, MayStep, NoneExpected, view};
-ghost use Rattle.vm_guard.specs.{Guards.IsReading, PageWords.LoadsWords};
+ghost use Rattle.vm_guard.specs.{Guards.IsReading, Guards.Loads, Guards.placed, PageWords.LoadsWords};
 ghost use Rattle.vm_guard.specs.Denied.{AgainOrNeed, IsDenied, KeptWord};
 ghost use Rattle.vm_tree_rule.specs.{Leaves.ReadsOn, Resident.IsKnownNow, Resident.KnowsResident, Standing.Awaits, Standing.IsOpened};
 ghost use Rattle.vm_tree_rule.specs.Few.{LoadsHeight, LoadsWithin, ReadsInPlace};
-ghost use Rattle.vm_tree_rule.specs.Seeks.{HasLoaded, HasRead};
+ghost use Rattle.vm_tree_rule.specs.Seeks.{HasLoaded};
 ghost use Rattle.vm_tree_rule.specs.Turns.{IsTurnedBack, TellLeaf, TellNoLeaf};
 ghost use Rattle.vm_tree_read.specs.Reads.{IsAnswered, IsLeafAnswer, TellReply};
 
@@ -82,6 +82,7 @@ pub fn leaf_at<B: Block>(
     ensures ready { IsReady words.now.table.shared.key B.tells words.now.table.shared.table_id pass.new }
     ensures reads { IfOk result (λ guard. ReadsOn (view pass.old) (view pass.new) × IsOpened (view pass.old) guard.pid guard.word guard.frame (view pass.new)) }
     ensures leaf { IfOk result (λ guard. (loaded : List (ℕ × ℕ)) × HasLoaded (view pass.new) guard.pid loaded × TellLeaf loaded key) }
+    ensures awaits { IfOk result (λ guard. Awaits (view pass.new) guard.pid guard.word 0 key) }
     ensures err { IfErr result (λ turn. IsTurnedBack (view pass.old) key turn (view pass.new)) }
     ensures sure { B.tells ≡ true → KnowsResident (view pass.old) → IsOk result }
     ensures known { B.tells ≡ true → KnowsResident (view pass.old) → IfOk result (λ guard. IsKnownNow guard.pid guard.word (view pass.new)) }
@@ -98,37 +99,32 @@ pub fn leaf_at<B: Block>(
     Err(no_leaf(words, pass, &guard))
 }
 
-/// Descends to the leaf that covers the key, and reads its words into the page, for a writer. They are a leaf's that covers the key, and its guard is still
-/// open: they have to be validated.
-pub fn leaf_of<B: Block>(
+/// Reads the words of the leaf under the guard into the page, for a writer that was led here by its key. They are a leaf's that covers the key, and have to be
+/// validated: what was loaded of it before may have changed meanwhile.
+pub fn read_leaf<B: Block>(
     words: &Words<Tree, B>,
     pass: &mut Pass<Tree>,
+    guard: &OptGuard,
     key: u64,
     page: &mut PageBuf,
-) -> Result<OptGuard, Turn>
-    requires pass { MayStep words.now.table.shared.table_id pass.old }
-    requires pages { 1 ≤ words.now.table.shared.key.pages }
+) -> Result<(), Turn>
+    requires ready { IsReady words.now.table.shared.key B.tells words.now.table.shared.table_id pass.old }
+    requires reading { IsReading guard.now.pid guard.now.word guard.now.frame (view pass.old) }
     requires size { length page.old ≡ WORDS }
     ensures size { length page.new ≡ WORDS }
     ensures pass { IsSamePass pass.old pass.new }
     ensures ready { IsReady words.now.table.shared.key B.tells words.now.table.shared.table_id pass.new }
-    ensures reads { IfOk result (λ guard. ReadsOn (view pass.old) (view pass.new) × IsOpened (view pass.old) guard.pid guard.word guard.frame (view pass.new)) }
-    ensures loads { IfOk result (λ guard. HasRead (view pass.new) guard.pid page.new) }
+    ensures loads { IfOk result (λ _. Loads guard.now.pid guard.now.word guard.now.frame (placed 0 page.new) (view pass.old) (view pass.new)) }
     ensures leaf { IfOk result (λ _. ((node_of page.new).tag ≡ 2) × Covers (node_of page.new) key) }
-    ensures awaits { IfOk result (λ guard. Awaits (view pass.new) guard.pid guard.word 0 key) }
-    ensures err { IfErr result (λ turn. IsTurnedBack (view pass.old) key turn (view pass.new)) }
-    ensures sure { B.tells ≡ true → KnowsResident (view pass.old) → IsOk result }
-    ensures known { B.tells ≡ true → KnowsResident (view pass.old) → IfOk result (λ guard. IsKnownNow guard.pid guard.word (view pass.new)) }
+    ensures err { IfErr result (λ turn. (v : _) → IsOpened v guard.now.pid guard.now.word guard.now.frame (view pass.old) → Awaits (view pass.old) guard.now.pid guard.now.word 0 key
+        → IsTurnedBack v key turn (view pass.new)) }
+    ensures sure { B.tells ≡ true → IsKnownNow guard.now.pid guard.now.word (view pass.old) → Awaits (view pass.old) guard.now.pid guard.now.word 0 key → IsOk result }
 {
-    let guard = match descend(words, pass, key) {
-        Ok(guard) => guard,
-        Err(turn) => return Err(turn),
-    };
     guard.read_all(words, pass, page);
     if is_leaf(page) && covers(page, key) {
-        return Ok(guard);
+        return Ok(());
     }
-    Err(no_leaf(words, pass, &guard))
+    Err(no_leaf(words, pass, guard))
 }
 
 /// Validates the leaf of which words were loaded, and makes what they prove an entry of the history.

@@ -8,7 +8,7 @@ ghost use Rattle.vm_node.specs.{Loads.IsPageWith, Shows.ShowsFirst};
 ghost use Rattle.vm_step.specs.Prelude.{IsReady, IsSamePass, MayStep, view};
 ghost use Rattle.vm_guard.specs.Guards.{IsReading};
 ghost use Rattle.vm_tree_rule.specs.{Resident.KnowsResident, Turns.IsTurnedBack};
-ghost use Rattle.vm_tree_rule.specs.Few.{LoadsWithin, ReadsInPlace};
+ghost use Rattle.vm_tree_rule.specs.Few.{LoadsHeight, LoadsWithin, ReadsInPlace};
 ghost use Rattle.vm_tree_read.specs.Reads.{IsAnswered, IsDone, IsTried};
 
 use crate::answer::{answer, leaf_at};
@@ -36,6 +36,7 @@ pub enum TryRead {
 /// Why there is no answer yet.
 fn not_yet(turn: Turn) -> TryRead
     ensures tried { (call : _) (key : _) (v w : _) → IsTurnedBack v key turn w → IsTried call key result v w }
+    ensures unanswered { ¬ (IsDone result) }
 {
     match turn {
         Turn::Again(saw) => TryRead::Again(saw),
@@ -45,7 +46,7 @@ fn not_yet(turn: Turn) -> TryRead
 }
 
 /// The value at the key in the page under the guard, found where it stands.
-fn find_in_place<B: Block>(
+pub fn find_in_place<B: Block>(
     words: &Words<Tree, B>,
     pass: &mut Pass<Tree>,
     guard: &OptGuard,
@@ -106,6 +107,7 @@ pub(crate) fn look_up<B: Block>(
     ensures sure { B.tells ≡ true → KnowsResident (view pass.old) → IsOk result }
     ensures known { B.tells ≡ true → KnowsResident (view pass.old) → KnowsResident (view pass.new) }
     ensures few { LoadsWithin (λ h. 2 + 11 * h + 12) (view pass.old) (view pass.new) }
+    ensures height { IfOk result (λ _. (h : ℕ) × LoadsHeight (2 + 11 * h + 12) h (view pass.old) (view pass.new)) }
 {
     let guard = match leaf_at(words, pass, key) {
         Ok(guard) => guard,
@@ -132,6 +134,7 @@ pub fn try_get<B: Block>(words: &Words<Tree, B>, pass: &mut Pass<Tree>, key: u64
     ensures sure { B.tells ≡ true → KnowsResident (view pass.old) → IsDone result }
     ensures known { B.tells ≡ true → KnowsResident (view pass.old) → KnowsResident (view pass.new) }
     ensures few { LoadsWithin (λ h. 2 + 11 * h + 12) (view pass.old) (view pass.new) }
+    ensures height { IsDone result → (h : ℕ) × LoadsHeight (2 + 11 * h + 12) h (view pass.old) (view pass.new) }
 {
     match look_up(words, pass, key) {
         Ok(value) => TryRead::Done(Reply::Got(value)),
@@ -156,6 +159,7 @@ pub fn try_window<B: Block>(
     ensures sure { B.tells ≡ true → KnowsResident (view pass.old) → IsDone result }
     ensures known { B.tells ≡ true → KnowsResident (view pass.old) → KnowsResident (view pass.new) }
     ensures few { LoadsWithin (λ h. 2 + 11 * h + (2 * min most MOST_PAIRS + 13)) (view pass.old) (view pass.new) }
+    ensures height { IsDone result → (h : ℕ) × LoadsHeight (2 + 11 * h + (2 * min most MOST_PAIRS + 13)) h (view pass.old) (view pass.new) }
 {
     let guard = match leaf_at(words, pass, start) {
         Ok(guard) => guard,

@@ -25,8 +25,8 @@ use Rattle.vm_tree_write.proofs.{Framing.alloc-more, Refusing.locked-leave, Refu
 -- what holds where no word is expected in the place of another holds where one may be
 begun-wider : (kept : ℕ → Type 0) (at : Place) (first seen : ℕ) (last : Did) (earlier since : List Did) → Begins kept NoneExpected at first seen last earlier since → Begins kept UnlockedExpected at first seen last earlier since
 begun-wider kept at first seen last earlier since (begun.guarded k e) = begun.guarded k e
-begun-wider kept at first seen last earlier since (begun.read before d e g) = begun.read before d e g
-begun-wider kept at first seen last earlier since (begun.expected before d word e g x l) = absurd x
+begun-wider kept at first seen last earlier since (begun.read before d e g n) = begun.read before d e g n
+begun-wider kept at first seen last earlier since (begun.expected before d word e g n x l) = absurd x
 begun-wider kept at first seen last earlier since (begun.asked word k e x l) = absurd x
 begun-wider kept at first seen last earlier since (begun.same a b) = begun.same a b
 

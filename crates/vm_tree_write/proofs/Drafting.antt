@@ -11,7 +11,7 @@ use Rattle.vm_step.proofs.Alone.{set-else, still-alone}
 use Rattle.vm_step.proofs.Asides.{alone-self, alone-then, holds-then, reads-then}
 use Rattle.vm_guard.specs.{Guards.dirty_steps, Guards.IsSet, Sure.known_next}
 use Rattle.vm_guard.proofs.QuietSteps.{elsewhere-then, quiet-elsewhere, quiet-none}
-use Rattle.vm_tree_write.specs.Drafts.{IsDraftedAmong, IsRedrafted, KnowsSameStates, SetsDiffering}
+use Rattle.vm_tree_write.specs.Drafts.{DraftsIn, IsDraftedAmong, IsDraftPlace, IsRedrafted, KnowsSameStates, SetsDiffering}
 
 -- steps that write elsewhere leave the word at this number
 follows-else : (start : Origin) (j : ℕ) (ds : List Did) (old new : List ℕ) → Each (λ (d : Did). (d.wrote ≡ None) ⊎ (j ≢ index_of start d.at)) ds → Follows start ds old new → slice_index new j ≡ slice_index old j
@@ -88,7 +88,7 @@ module _ {X : Type 0} (p : ℕ) where
         next = λ k. b.next (now k) ∙ a.next k;
       }
 
-each-append : {A : Type 0} (Q : A → Type 0) (l m : List A) → Each Q l → Each Q m → Each Q (l ++ m)
+pub each-append : {A : Type 0} (Q : A → Type 0) (l m : List A) → Each Q l → Each Q m → Each Q (l ++ m)
 each-append Q [] m a b = b
 each-append Q (x ∷ l) m a b = (a.0, each-append Q l m a.1 b)
 
@@ -113,6 +113,29 @@ set-stores frame i x before after is ne f j e k wrote =
 set-differs : (p frame : ℕ) (dirty : Bool) (i x : ℕ) (before after : List ℕ) → x ≡ slice_index after i → slice_index before i ≢ slice_index after i → Each (Stores before after) (dirty_steps p frame dirty ++ did_store (places.Content frame i) x ∷ [])
 set-differs p frame true i x before after is ne = (set-stores frame i x before after is ne, tt)
 set-differs p frame false i x before after is ne = ((λ f j e k wrote. absurd (other-place p f j e)), (set-stores frame i x before after is ne, tt))
+
+-- the steps that set one word are where the page is drafted
+set-places : (p frame : ℕ) (dirty : Bool) (i x : ℕ) → Each (λ (d : Did). (k : ℕ) → d.wrote ≡ Some k → IsDraftPlace p frame d.at) (dirty_steps p frame dirty ++ did_store (places.Content frame i) x ∷ [])
+set-places p frame true i x = ((λ k e. inr (i, refl)), tt)
+set-places p frame false i x = ((λ k e. inl refl), ((λ k e. inr (i, refl)), tt))
+
+module _ {X : Type 0} (p f : ℕ) where
+  pub drafts-self : (v : View X) → DraftsIn p f v v
+  drafts-self v = record { done = []; log = sym (append-none v.log); steps = tt }
+
+  pub drafts-more : (dirty : Bool) (i x : ℕ) (u v w : View X) → DraftsIn p f u v → IsSet p f dirty i x v w → DraftsIn p f u w
+  drafts-more dirty i x u v w a s = record {
+    done = a.done ++ s.done;
+    log = s.elsewhere.steady.log ∙ ap (λ (t : List Did). t ++ s.done) a.log ∙ append_assoc u.log a.done s.done;
+    steps = each-append _ a.done s.done a.steps (subst (Each (λ (d : Did). (k : ℕ) → d.wrote ≡ Some k → IsDraftPlace p f d.at)) (sym s.steps) (set-places p f dirty i x));
+  }
+
+  pub drafts-then : (u v w : View X) → DraftsIn p f u v → DraftsIn p f v w → DraftsIn p f u w
+  drafts-then u v w a b = record {
+    done = a.done ++ b.done;
+    log = b.log ∙ ap (λ (t : List Did). t ++ b.done) a.log ∙ append_assoc u.log a.done b.done;
+    steps = each-append _ a.done b.done a.steps b.steps;
+  }
 
 module _ {X : Type 0} (before after : List ℕ) where
   pub differs-self : (v : View X) → SetsDiffering before after v v

@@ -74,7 +74,7 @@ module _ (parent node : OptGuard) (up low right : ExclusiveGuard) (gs : List Exc
         node = second-words 1 parent node up low gs v w all met.apart tells page met.opened.reading met.read long.1;
         fresh = fresh-zero 1 parent node up low gs v w all met.apart tells right.pid among;
         inner = inner.0;
-        names = (key, inner.1, met.names.told (ap (λ (o : Origin). o.tells) (sym begun) ∙ tells) ∙ ap (λ n. Some n) (sym all.locks.low_page));
+        names = (key, inner.1, met.names (ap (λ (o : Origin). o.tells) (sym begun) ∙ tells) ∙ ap (λ n. Some n) (sym all.locks.low_page));
       }
 
   pub can-split : CanSplit up low right over page w

@@ -1,19 +1,32 @@
 -- Frames for fresh pages: one allocation, and a second one for what is missing.
-use Rattle.std.proofs.Common.{[], ⊎_elim, ◌++◌, ◌<◌, ◌||◌, ◌∙◌, ◌∷◌, ◌≡◌, ap, append_assoc, eqb, false, if◌then◌else◌, inl, inr, List, refl, reverse}
-use Rattle.std.proofs.Common.{subst, sym, true, true≢false, ℕ}
+use Rattle.std.proofs.Common.{[], ⊎_elim, ◌++◌, ◌<◌, ◌||◌, ◌∙◌, ◌∷◌, ◌≡◌, ◌≢◌, ◌≤◌, ap, append_assoc, arith, eqb, false, if◌then◌else◌, inl, inr, List}
+use Rattle.std.proofs.Common.{None, Option, refl, reverse, Some, subst, sym, true, true≢false, ℕ}
 use Rattle.std.proofs.lemmas.Bool.{cases_Bool, cases_eq, eq-eqb, ne_eqb, or_left, or_right}
 use Rattle.std.proofs.lemmas.List.{reverse-append}
 use Rattle.vm_map.specs.declared.call.Said.{Said}
 use Rattle.vm_core.specs.Prelude.{no_seat}
-use Rattle.vm_rule.specs.Prelude.{Each, frames_in, has, put_at, without_all}
+use Rattle.vm_rule.specs.Prelude.{Each, frames_in, has, IsLocking, IsUnheld, next_after, put_at, seat_of, without_all}
 use Rattle.vm_rule.proofs.{Bundled.has-without_all, Entries.append-none, Facts.has-both}
 use Rattle.vm_step.specs.Prelude.{AreHeld, Did, View}
-use Rattle.vm_step.proofs.Asides.{holds-then, starts-then}
+use Rattle.vm_step.proofs.Asides.{holds-then, knows-then, starts-then, still-locking}
 use Rattle.vm_exmap.specs.{declared.interface.Alloc.Alloc, Frames.MovesFrames, Returns.IsFreed, Walks.IsAlloc}
 use Rattle.vm_exmap.specs.declared.interface.Alloc.TheVariants as allocs
-use Rattle.vm_exmap.proofs.FrameMoves.{moved-nothing, moved-then}
+use Rattle.vm_exmap.proofs.FrameMoves.{moved-aside, moved-nothing, moved-then}
 use Rattle.vm_exmap.proofs.Handing.{apart-join, apart-not, each-has, each-join, each-of, held-rest, held-swap}
 use Rattle.vm_tree_write.specs.Splits.{KeepsLocksOnly}
+
+-- a page that the pass did not hold is not locked
+pub unheld-not : {X : Type 0} (p : ℕ) (v : View X) → IsUnheld v p → IsLocking (seat_of v p) → ⊥
+unheld-not p v u l = ⊎_elim (λ (e : (seat_of v p).exclusive ≡ true). let f = u.exclusive in cc) (λ (s : 1 ≤ (seat_of v p).shares). let z = u.shares in omega (arith, z, s)) l
+
+-- the next page that is known after page p was given up was known before, and is another one
+pub after-some : (p : ℕ) (o : Option ℕ) (q : ℕ) → next_after p o ≡ Some q → (o ≡ Some q) × (q ≢ p)
+after-some p None q e = absurd (cc)
+after-some p (Some x) q e =
+    ⊎_elim
+    (λ (s : x ≡ p). let no : None ≡ Some q = sym (ap (λ b. if b then None else Some x) (eq-eqb x p s)) ∙ e in absurd (cc))
+    (λ (ne : x ≢ p). let t : Some x ≡ Some q = sym (ap (λ b. if b then None else Some x) (ne_eqb x p ne)) ∙ e in (t, λ (s : q ≡ p). ne (let same : x ≡ q = cc in same ∙ s)))
+    (cases_eq x p)
 
 pub keeps-self : (v : View Said) → KeepsLocksOnly v v
 keeps-self v = record {
@@ -26,7 +39,10 @@ keeps-self v = record {
   out = refl;
   pending = refl;
   owed = refl;
+  next = λ q e. inl e;
   holds = λ q. record { shares = refl; exclusive = refl; writing = refl };
+  knows = λ q l. record { held = refl; draft = refl; last = refl };
+  current = λ e. e;
 }
 
 pub keeps-then : (u v w : View Said) → KeepsLocksOnly u v → KeepsLocksOnly v w → KeepsLocksOnly u w
@@ -40,7 +56,10 @@ keeps-then u v w f g = record {
   out = g.out ∙ f.out;
   pending = g.pending ∙ f.pending;
   owed = g.owed ∙ f.owed;
+  next = λ q e. ⊎_elim (λ (k : v.next ≡ Some q). f.next q k) (λ (own : (seat_of v q).exclusive ≡ true). inr (sym (f.holds q).exclusive ∙ own)) (g.next q e);
   holds = λ q. holds-then u v w q (f.holds q) (g.holds q);
+  knows = λ q l. knows-then u v w q (f.knows q l) (g.knows q (still-locking u v q (f.holds q) l));
+  current = λ e. g.current (f.current e);
 }
 
 pub moves-keep : (done : List Did) (v w : View Said) → MovesFrames done v w → KeepsLocksOnly v w
@@ -54,6 +73,9 @@ moves-keep done v w m = record {
   out = m.out;
   pending = m.group.0;
   owed = m.group.1;
+  next = λ q e. inl (sym m.group.2 ∙ e);
+  knows = (moved-aside (λ q. Unit {0}) done v w m).knows;
+  current = m.alone.current;
   holds = λ q. record { shares = ap (λ s. (put_at no_seat s q).shares) m.pages.0; exclusive = ap (λ s. (put_at no_seat s q).exclusive) m.pages.0; writing = ap (λ s. (put_at no_seat s q).writing) m.pages.0 };
 }
 

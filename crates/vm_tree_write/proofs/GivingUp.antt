@@ -74,7 +74,7 @@ module _ (a b : OptGuard) (up low : ExclusiveGuard) (v w : View Said) (l : AreLo
 
     pub none-ended : (u z : View Said) → KeepsLocksOnly u v → GivesUpBoth up low y z → KeepsLocksOnly u z
     none-ended u z k g =
-        let nil = nil-keeps none.pages none.done w y none.nil in
+        let nil = nil-keeps none.pages none.done w y none.nil none.next in
         let low-back = subst (λ p. IsReleased p low.version None y g.between) l.low_page g.low_back in
         let up-back = subst (λ p. IsReleased p up.version None g.between g.released) l.up_page g.up_back in
         let one = back-keeps b.pid low.frame low.version low.dirty l.between w y g.between l.low_locked nil low-back in

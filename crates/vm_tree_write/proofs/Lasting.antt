@@ -1,13 +1,13 @@
 -- The answer of a write that waited.
-use Rattle.std.proofs.Common.{[], ⊎_elim, ◌++◌, ◌∙◌, ◌∷◌, ◌≡◌, ◌⊎◌, ap, append_assoc, List, subst, true, ℕ}
+use Rattle.std.proofs.Common.{[], inl, ⊎_elim, ◌++◌, ◌∙◌, ◌∷◌, ◌≡◌, ◌⊎◌, ap, append_assoc, List, subst, sym, true, ℕ}
 use Rattle.vm_map.specs.declared.call.Said.{Said}
 use Rattle.vm_tree_model.specs.Tree.{map_of}
-use Rattle.vm_rule.specs.Prelude.{Entry, entry_of, StartsWith}
-use Rattle.vm_step.specs.Prelude.{HoldsPage, Origin, View}
-use Rattle.vm_step.proofs.Asides.{holds-then}
+use Rattle.vm_rule.specs.Prelude.{Entry, entry_of, IsLocking, seat_of, StartsWith}
+use Rattle.vm_step.specs.Prelude.{HoldsPage, KnowsAsBefore, Origin, View}
+use Rattle.vm_step.proofs.Asides.{holds-then, knows-then, still-locking}
 use Rattle.vm_pool.specs.Brings.{KeepsLocks}
 use Rattle.vm_tree_laws.specs.History.{IsLegal}
-use Rattle.vm_tree_read.specs.{Reads.IsAnswered, Waiting.Waits}
+use Rattle.vm_tree_read.specs.{Reads.IsAnswered, Reads.key_of, Waiting.AreRounds, Waiting.Waits}
 use Rattle.vm_tree_read.proofs.Lasting.{bring-waits}
 use Rattle.vm_tree_write.specs.{Splits.KeepsLocksOnly, Waiting.IsWriteReplied, Writes.IsVain, Writes.IsWriteDone}
 use Rattle.vm_tree_write.proofs.{Framing.keeps-then, Writing.entry-same}
@@ -18,6 +18,7 @@ record HasReply (said : Said) (x w : View Said) : Type 0 where
   entry : (others : List (Entry Said)) × (w.seen ≡ (x.seen ++ others) ++ entry_of x said ∷ [])
   legal : x.start.tells ≡ true → IsLegal (map_of x.start.contents) w.seen
   holds : (q : ℕ) → HoldsPage x w q
+  knows : (q : ℕ) → IsLocking (seat_of x q) → KnowsAsBefore x w q
   out : w.out ≡ x.out
   start : w.start ≡ x.start
   frames : w.frames ≡ x.frames
@@ -27,8 +28,8 @@ record HasReply (said : Said) (x w : View Said) : Type 0 where
 has-reply : (said : Said) (x w : View Said) → (IsWriteDone said x w × ¬ (IsVain said)) ⊎ (IsAnswered said x w × IsVain said) → HasReply said x w
 has-reply said x w a =
     ⊎_elim
-    (λ (both : IsWriteDone said x w × ¬ (IsVain said)). let k = both.0 in record { mine = k.mine; entry = k.entry; legal = λ tells. (k.told tells).legal; holds = k.writes.holds; out = k.writes.out; start = k.writes.start; frames = k.writes.frames.0; notes = k.writes.notes; parts = k.writes.parts })
-    (λ (both : IsAnswered said x w × IsVain said). let k = both.0 in record { mine = k.mine; entry = k.entry; legal = λ tells. (k.told tells).legal; holds = k.reads.holds; out = k.reads.out; start = k.reads.start; frames = k.reads.frames.0; notes = k.reads.notes; parts = k.reads.parts })
+    (λ (both : IsWriteDone said x w × ¬ (IsVain said)). let k = both.0 in record { mine = k.mine; entry = k.entry; legal = λ tells. (k.told tells).legal; holds = k.writes.holds; knows = k.writes.knows; out = k.writes.out; start = k.writes.start; frames = k.writes.frames.0; notes = k.writes.notes; parts = k.writes.parts })
+    (λ (both : IsAnswered said x w × IsVain said). let k = both.0 in record { mine = k.mine; entry = k.entry; legal = λ tells. (k.told tells).legal; holds = k.reads.holds; knows = k.reads.knows; out = k.reads.out; start = k.reads.start; frames = k.reads.frames.0; notes = k.reads.notes; parts = k.reads.parts })
     a
 
 pub del-frames : (said : Said) (x w : View Said) → (IsWriteDone said x w × ¬ (IsVain said)) ⊎ (IsAnswered said x w × IsVain said) → (w.start ≡ x.start) × (w.frames ≡ x.frames)
@@ -43,23 +44,25 @@ pub record Lasts (v x : View Said) : Type 0 where
   pub out : x.out ≡ v.out
   pub notes : StartsWith x.notes v.notes
   pub holds : (q : ℕ) → HoldsPage v x q
+  pub knows : (q : ℕ) → IsLocking (seat_of v q) → KnowsAsBefore v x q
 
 pub waits-last : (v x : View Said) → Waits v x → Lasts v x
-waits-last v x k = record { start = k.start; parts = k.parts; mine = k.mine; seen = k.seen; out = k.out; notes = k.notes; holds = k.holds }
+waits-last v x k = record { start = k.start; parts = k.parts; mine = k.mine; seen = k.seen; out = k.out; notes = k.notes; holds = k.holds; knows = k.knows }
 
 pub keeps-last : (v x : View Said) → KeepsLocksOnly v x → Lasts v x
-keeps-last v x k = record { start = k.start; parts = k.parts; mine = k.mine; seen = k.seen; out = k.out; notes = k.notes; holds = k.holds }
+keeps-last v x k = record { start = k.start; parts = k.parts; mine = k.mine; seen = k.seen; out = k.out; notes = k.notes; holds = k.holds; knows = k.knows }
 
 pub waits-keep : (v x : View Said) → Waits v x → KeepsLocksOnly v x
-waits-keep v x k = record { start = k.start; parts = k.parts; mine = k.mine; seen = k.seen; notes = k.notes; log = k.log; out = k.out; pending = k.group.0; owed = k.group.1; holds = k.holds }
+waits-keep v x k = record { start = k.start; parts = k.parts; mine = k.mine; seen = k.seen; notes = k.notes; log = k.log; out = k.out; pending = k.group.0; owed = k.group.1; next = λ q e. inl (sym k.group.2 ∙ e); holds = k.holds; knows = k.knows; current = k.alone.current }
 
-pub replied : (keeps : View Said → View Said → Type 0) (said : Said) (v x w : View Said) → keeps v x → Lasts v x → (IsWriteDone said x w × ¬ (IsVain said)) ⊎ (IsAnswered said x w × IsVain said) → IsWriteReplied keeps said v w
-replied keeps said v x w kept k answered =
+pub replied : (keeps : View Said → View Said → Type 0) (round : ℕ → View Said → View Said → Type 0) (said : Said) (v x w : View Said) → keeps v x × AreRounds (round (key_of said.call)) v x → Lasts v x → (IsWriteDone said x w × ¬ (IsVain said)) ⊎ (IsAnswered said x w × IsVain said) → IsWriteReplied keeps round said v w
+replied keeps round said v x w kept k answered =
     let a = has-reply said x w answered in
     let same : entry_of x said ≡ entry_of v said = entry-same v x said k.parts.0 k.mine in
     record {
       tried = x;
-      waits = kept;
+      rounds = kept.1;
+      waits = kept.0;
       answered = answered;
       mine = a.mine ∙ (λ i. k.mine i ++ same i ∷ []);
       entry = (
@@ -68,6 +71,7 @@ replied keeps said v x w kept k answered =
       );
       legal = λ tells. subst (λ (o : Origin). IsLegal (map_of o.contents) w.seen) k.start (a.legal (ap (λ (o : Origin). o.tells) k.start ∙ tells));
       holds = λ q. holds-then v x w q (k.holds q) (a.holds q);
+      knows = λ q l. knows-then v x w q (k.knows q l) (a.knows q (still-locking v x q (k.holds q) l));
       out = a.out ∙ k.out;
       notes = (k.notes.0, a.notes ∙ k.notes.1);
       start = a.start ∙ k.start;

@@ -1,20 +1,21 @@
 -- Two pages that are locked, and fresh pages beside them: what the search read is what the locks prove, and once all are released the pass holds
 -- what it held.
-use Rattle.std.proofs.Common.{⊎_elim, ◌++◌, ◌||◌, ◌∙◌, ◌∷◌, ◌≡◌, ◌≢◌, ap, false, length, List, refl, replicate, subst, suc, sym, true, ℕ}
+use Rattle.std.proofs.Common.{⊎_elim, ◌++◌, ◌||◌, ◌∙◌, ◌∷◌, ◌≡◌, ◌≢◌, ap, false, length, List, None, refl, replicate, Some, subst, suc, sym, true, ℕ}
 use Rattle.std.proofs.lemmas.Bool.{cases_Bool, cases_eq, eq-eqb, ne_eqb}
 use Rattle.vm_map.specs.declared.call.Said.{Said}
 use Rattle.vm_tree_model.specs.{Node.Covers, Page.IsInner, Page.node_of}
 use Rattle.vm_owner.proofs.NumberLemmas.{without-none}
-use Rattle.vm_rule.specs.Prelude.{AreApart, has, numbers, seat_of, without, without_all}
+use Rattle.vm_rule.specs.Prelude.{AreApart, has, IsLocking, numbers, seat_of, without, without_all}
 use Rattle.vm_rule.proofs.Facts.{has-both}
 use Rattle.vm_step.specs.Prelude.{Did, HoldsPage, Origin, View}
-use Rattle.vm_step.proofs.Asides.{holds-then}
+use Rattle.vm_step.proofs.Asides.{holds-then, still-locking}
 use Rattle.vm_exmap.specs.Frames.{MovesFrames}
 use Rattle.vm_guard.specs.{declared.exclusive.ExclusiveGuard.ExclusiveGuard, declared.opt.OptGuard.OptGuard, Guards.IsHolding, Guards.IsReading}
 use Rattle.vm_guard.proofs.{Freshly.holding-on, Groups.lacks, Groups.without-front, Reading.reading-elsewhere}
 use Rattle.vm_tree_rule.specs.{Seeks.HasRead, Standing.Awaits}
 use Rattle.vm_tree_write.specs.Prepares.{IsPrepared}
 use Rattle.vm_tree_write.specs.Splits.{HasDraft, IsSplitUp, KeepsLocksOnly}
+use Rattle.vm_tree_write.proofs.Framing.{unheld-not}
 use Rattle.vm_tree_write.proofs.Under.{amid-holds, awaits-moved, but-then, done-but, draft-amid, draft-else, fresh-but, holding-else, KeepsBut}
 use Rattle.vm_tree_write.proofs.Under.{locked-but, locked-draft, locked-inner, moved-holds, moves-but, read-moved, reading-moved, true-false}
 use Rattle.vm_tree_write.proofs.Under.{was-before, was-done, was-fresh, was-locked, was-on}
@@ -129,13 +130,6 @@ module _ (n : ℕ) (first second : OptGuard) (up low : ExclusiveGuard) (gs : Lis
         (but-then group all.locked w z (fresh-but group pages all.x n gs all.before all.after all.locked w within all.fresh)
         (but-then group w y z (done-but group w y su.done) (moves-but group d y z m)))))
 
-    until : KeepsBut group v w
-    until =
-        but-then group v all.asked w (moves-but group all.done v all.asked all.moves)
-        (but-then group all.asked between w (locked-but group a up.frame up.version up.dirty all.asked between in-first all.locks.up_locked)
-        (but-then group between all.locked w (locked-but group b low.frame low.version low.dirty between all.locked in-second all.locks.low_locked)
-        (fresh-but group pages all.x n gs all.before all.after all.locked w within all.fresh)))
-
     moved : (q : ℕ) → HoldsPage v all.asked q
     moved = moved-holds all.done v all.asked all.moves
 
@@ -173,6 +167,23 @@ module _ (n : ℕ) (first second : OptGuard) (up low : ExclusiveGuard) (gs : Lis
         ∙ ap (without_all pages) (without-none b (pages ++ o) (has-both b pages o ∙ (λ i. second-not i || nb i)))
         ∙ without-front pages o rises none
 
+    none-some : (q : ℕ) → None ≡ Some q → ⊥
+    none-some q e = absurd (cc)
+
+    -- a page that the pass had locked is none of the group
+    locked-else : (q : ℕ) → IsLocking (seat_of v q) → has q group ≡ false
+    locked-else q l =
+        let one = still-locking v all.asked q (moved q) l in
+        ⊎_elim (λ (e : q ≡ a). absurd (unheld-not a all.asked all.locks.up_locked.before (subst (λ k. IsLocking (seat_of all.asked k)) e one)))
+        (λ qa.
+        let two = still-locking all.asked between q (all.locks.up_locked.elsewhere.holds q qa) one in
+        ⊎_elim (λ (e : q ≡ b). absurd (unheld-not b between all.locks.low_locked.before (subst (λ k. IsLocking (seat_of between k)) e two)))
+        (λ qb.
+        let three = still-locking between all.locked q (all.locks.low_locked.elsewhere.holds q qb) two in
+        ⊎_elim (λ (t : has q pages ≡ true). absurd (unheld-not q all.locked (all.fresh.unheld q t) three))
+        (λ (no : has q pages ≡ false) i. ne_eqb q a qa i || (ne_eqb q b qb i || no i))
+        (cases_Bool (has q pages))) (cases_eq q b)) (cases_eq q a)
+
     pub prepared-keeps : KeepsLocksOnly v z
     prepared-keeps =
         let lb = all.locks.low_locked in
@@ -190,6 +201,9 @@ module _ (n : ℕ) (first second : OptGuard) (up low : ExclusiveGuard) (gs : Lis
           owed = m.group.1 ∙ su.done.owed ∙ ap (without_all group) all.fresh.owed
               ∙ owed-back all.locked.owed (ap (has a) o3 ∙ la.before.paid) (ap (has b) lb.group.1 ∙ lb.before.paid) (λ q e. (all.fresh.unheld q e).paid)
               ∙ o3 ∙ all.moves.group.1;
+          next = λ q e. absurd (none-some q (sym (m.group.2 ∙ su.done.next all.fresh.next) ∙ e));
+          current = but.current;
+          knows = λ q l. but.knows q (locked-else q l) l;
           holds = λ q.
               ⊎_elim (λ (e : q ≡ a). subst (HoldsPage v z) (sym e) holds-first)
               (λ qa. ⊎_elim (λ (e : q ≡ b). subst (HoldsPage v z) (sym e) holds-second)

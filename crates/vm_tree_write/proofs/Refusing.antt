@@ -1,16 +1,16 @@
 -- A split that is refused: what it took goes back, and the pass holds what it held.
-use Rattle.std.proofs.Common.{[], ⊎_elim, ◌<◌, ◌∙◌, ◌≡◌, ◌≢◌, ◌⊎◌, ap, Bool, inl, length, List, None, refl, subst, sym, ℕ}
+use Rattle.std.proofs.Common.{[], ⊎_elim, ◌<◌, ◌∙◌, ◌≡◌, ◌≢◌, ◌⊎◌, ap, Bool, inl, inr, length, List, None, refl, Some, subst, sym, true, ℕ}
 use Rattle.std.proofs.lemmas.Bool.{cases_eq}
 use Rattle.vm_map.specs.declared.call.Said.{Said}
 use Rattle.vm_core.specs.Prelude.{Version}
 use Rattle.vm_owner.proofs.NumberLemmas.{without-none}
-use Rattle.vm_rule.specs.Prelude.{has, numbers, Seat, without}
+use Rattle.vm_rule.specs.Prelude.{has, IsLocking, numbers, Seat, seat_of, without}
 use Rattle.vm_rule.specs.declared.view.Held.{Held}
 use Rattle.vm_rule.specs.declared.view.Place.TheVariants as places
 use Rattle.vm_rule.proofs.Entries.{append-none, each-map}
 use Rattle.vm_step.specs.Prelude.{Did, HoldsPage, KnowsAsBefore, Origin, View}
 use Rattle.vm_step.specs.declared.saw.Saw.{Saw}
-use Rattle.vm_step.proofs.Asides.{holds-then, starts-then}
+use Rattle.vm_step.proofs.Asides.{holds-then, knows-then, starts-then, still-locking}
 use Rattle.vm_exmap.specs.Frames.{MovesFrames}
 use Rattle.vm_exmap.proofs.FrameMoves.{leaves-states}
 use Rattle.vm_guard.specs.{declared.deny.Deny.Deny, declared.given.Fresh.Fresh, Denied.AgainOrWorn, Fresh.IsFreshAnswer, Fresh.IsNil, Quiet.IsQuiet}
@@ -21,6 +21,7 @@ use Rattle.vm_tree_laws.specs.Tied.{Tied}
 use Rattle.vm_tree_rule.specs.Leaves.{LeavesWord}
 use Rattle.vm_tree_write.specs.{declared.tries.TrySplit.TrySplit, Prepares.SaysDenied, Splits.KeepsLocksOnly}
 use Rattle.vm_tree_write.specs.declared.tries.TrySplit.TheVariants as tries
+use Rattle.vm_tree_write.proofs.Framing.{after-some, unheld-not}
 
 -- ---- steps that leave no word on a page's state word
 
@@ -66,7 +67,10 @@ quiet-keeps p done v w q = record {
   out = q.steady.out;
   pending = q.group.0;
   owed = q.group.1;
+  next = λ n e. inl (sym q.group.2 ∙ e);
   holds = q.holds;
+  knows = q.knows;
+  current = q.alone.current;
 }
 
 -- ---- a lock that is given up again
@@ -89,16 +93,27 @@ back-keeps p f version dirty v x y w l k r =
       out = r.elsewhere.steady.out ∙ k.out ∙ l.elsewhere.steady.out;
       pending = r.group.0 ∙ k.pending ∙ l.group.0;
       owed = r.group.1 ∙ ap (without p) (k.owed ∙ l.group.1) ∙ without-none p v.owed l.before.paid;
+      next = λ q e.
+          let known = after-some p y.next q (sym r.group.2 ∙ e) in
+          ⊎_elim (λ (there : x.next ≡ Some q). inl (sym l.group.2 ∙ there)) (λ (own : (seat_of x q).exclusive ≡ true). inr (sym (l.elsewhere.holds q known.1).exclusive ∙ own)) (k.next q known.0);
       holds = λ q.
           ⊎_elim (λ (e : q ≡ p). subst (HoldsPage v w) (sym e) here)
           (λ ne. holds-then v y w q (holds-then v x y q (l.elsewhere.holds q ne) (k.holds q)) (r.elsewhere.holds q ne))
           (cases_eq q p);
+      knows = λ q lock.
+          ⊎_elim (λ (e : q ≡ p). absurd (unheld-not p v l.before (subst (λ n. IsLocking (seat_of v n)) e lock)))
+          (λ ne.
+          let one = still-locking v x q (l.elsewhere.holds q ne) lock in
+          let two = still-locking x y q (k.holds q) one in
+          knows-then v y w q (knows-then v x y q (l.elsewhere.knows q ne lock) (k.knows q one)) (r.elsewhere.knows q ne two))
+          (cases_eq q p);
+      current = λ _. r.current;
     }
 
 -- ---- fresh pages that were refused
 
-pub nil-keeps : (pages : List ℕ) (done : List Did) (v w : View Said) → IsNil pages done v w → KeepsLocksOnly v w
-nil-keeps pages done v w n = record {
+pub nil-keeps : (pages : List ℕ) (done : List Did) (v w : View Said) → IsNil pages done v w → ((q : ℕ) → w.next ≡ Some q → (seat_of v q).exclusive ≡ true) → KeepsLocksOnly v w
+nil-keeps pages done v w n next = record {
   start = n.amid.start;
   parts = n.amid.parts;
   mine = n.amid.mine;
@@ -108,7 +123,10 @@ nil-keeps pages done v w n = record {
   out = n.amid.out;
   pending = n.amid.pending;
   owed = n.owed;
+  next = λ q e. inr (next q e);
   holds = n.holds;
+  knows = n.knows;
+  current = n.amid.alone.current;
 }
 
 pub holding-nil : (p f version : ℕ) (dirty : Bool) (pages : List ℕ) (done : List Did) (v w : View Said) → IsHolding p f version dirty v → IsNil pages done v w → IsHolding p f version dirty w
@@ -133,6 +151,7 @@ pub record IsNone (before after : List ℕ) (v w : View Said) : Type 0 where
   pub pages : List ℕ
   pub done : List Did
   pub nil : IsNil pages done v w
+  pub next : (q : ℕ) → w.next ≡ Some q → (seat_of v q).exclusive ≡ true
 
 -- fresh pages were not given
 abbrev pub NotGiven : Fresh → Type 0
@@ -143,6 +162,6 @@ NotGiven (freshes.Full pages next need) = Unit {0}
 
 pub none-given : (n : ℕ) (before after : List ℕ) (answer : Fresh) (v w : View Said) → IsFreshAnswer n before after v w answer → NotGiven answer → IsNone before after v w
 none-given n before after (freshes.Pages group) v w k s = absurd s
-none-given n before after (freshes.Again saw) v w k s = record { same = k.0; pages = numbers k.1.0 n; done = k.1.1.done; nil = k.1.1.spared.nil }
-none-given n before after (freshes.Worn p) v w k s = record { same = k.0; pages = numbers k.1.0 n; done = k.1.1.done; nil = k.1.1.spared.nil }
-none-given n before after (freshes.Full pages next need) v w k s = record { same = k.0; pages = []; done = k.1.done; nil = k.1.spared.nil }
+none-given n before after (freshes.Again saw) v w k s = record { same = k.0; pages = numbers k.1.0 n; done = k.1.1.done; nil = k.1.1.spared.nil; next = k.1.1.spared.next }
+none-given n before after (freshes.Worn p) v w k s = record { same = k.0; pages = numbers k.1.0 n; done = k.1.1.done; nil = k.1.1.spared.nil; next = k.1.1.spared.next }
+none-given n before after (freshes.Full pages next need) v w k s = record { same = k.0; pages = []; done = k.1.done; nil = k.1.spared.nil; next = k.1.spared.next }

@@ -1,11 +1,12 @@
 -- Four pages that are held get their new drafts one after the other, and are released together: page 0, the full root, and two fresh pages.
-use Rattle.std.proofs.Common.{[], ◌+◌, ◌∙◌, ◌∷◌, ◌≡◌, ◌≢◌, ap, Bool, inr, length, List, None, refl, replicate, slice_index, slice_set, subst, sym}
+use Rattle.std.proofs.Common.{[], ◌+◌, ◌<◌, ◌∙◌, ◌∷◌, ◌≡◌, ◌≢◌, ap, Bool, inl, inr, length, List, None, refl, replicate, slice_index, slice_set, subst, sym}
 use Rattle.std.proofs.Common.{true, ℕ}
 use Rattle.vm_map.specs.declared.call.Said.{Said}
 use Rattle.vm_tree_model.specs.{Edits.IsNewRoot, Edits.IsSplit, Page.pairs_of}
 use Rattle.vm_core.specs.Prelude.{Version}
 use Rattle.vm_rule.specs.Prelude.{AreApart, began_of, change_of, changes_of, draft_of, has, last_of, seat_of}
-use Rattle.vm_step.specs.Prelude.{IsClaimed, Origin, View}
+use Rattle.vm_step.specs.Prelude.{HoldsPage, IsClaimed, Origin, View}
+use Rattle.vm_step.proofs.Asides.{holds-then}
 use Rattle.vm_guard.specs.{declared.exclusive.ExclusiveGuard.ExclusiveGuard, Guards.IsHolding, Guards.IsSet}
 use Rattle.vm_guard.specs.Groups.{AreReleased, MayReleaseAll, pids_of}
 use Rattle.vm_guard.proofs.Groups.{lacks}
@@ -13,9 +14,9 @@ use Rattle.vm_tree_laws.specs.May.{MayRelease}
 use Rattle.vm_tree_laws.proofs.Established.{may_split_root}
 use Rattle.vm_tree_write.specs.Drafts.{IsRedrafted}
 use Rattle.vm_tree_write.specs.Splits.{HasDraft, IsRootToSplit, IsSplitUp, Stays}
-use Rattle.vm_tree_write.proofs.Drafting.{redrafted-self, set-more}
-use Rattle.vm_tree_write.proofs.Splitting.{draft-new, draft-past, full-not, group-done, none-not, redrafted-stays, stays-then, told-before}
-use Rattle.vm_tree_write.proofs.Splitting.{words-claimed}
+use Rattle.vm_tree_write.proofs.Drafting.{drafts-more, drafts-self, pages-more, pages-self, redrafted-self, set-more}
+use Rattle.vm_tree_write.proofs.Splitting.{among-first, among-later, draft-new, draft-past, full-not, group-done, none-not, redrafted-holds, redrafted-stays}
+use Rattle.vm_tree_write.proofs.Splitting.{Redrafts, stays-then, told-before, words-claimed}
 
 -- pages that are apart
 pub record AreFour (a b c d : ℕ) : Type 0 where
@@ -46,6 +47,18 @@ set-two p f1 f2 d1 d2 i j x y old v u w s t last draft = (
   },
 )
 
+-- and what that leaves beside
+pub redrafts-two : (p f : ℕ) (d1 d2 : Bool) (i j x y : ℕ) (v u w : View Said) → p < v.start.pages → f < v.start.frames → i < 64 → j < 64 → IsSet p f d1 i x v u → IsSet p f d2 j y u w → Redrafts p f v w
+redrafts-two p f d1 d2 i j x y v u w page frame_is low high s t =
+    let one = set-more p f d1 i x v v u (redrafted-self p v) s in
+    let start : u.start ≡ v.start = s.elsewhere.steady.start in
+    let known = pages-more p f d1 i x v v u page frame_is low (redrafted-self p v) (pages-self p v) s in
+    record {
+      redrafted = set-more p f d2 j y v u w one t;
+      drafts = drafts-more p f d2 j y v u w (drafts-more p f d1 i x v v u (drafts-self p f v) s) t;
+      known = pages-more p f d2 j y v u w (subst (λ (o : Origin). p < o.pages) (sym start) page) (subst (λ (o : Origin). f < o.frames) (sym start) frame_is) high one known t;
+    }
+
 -- four pages after their new drafts
 pub record AreDrafted (a b c d : ℕ) (meta meta' page left half crown : List ℕ) (y : View Said) : Type 0 where
   pub first : HasDraft a meta meta' y
@@ -65,33 +78,41 @@ four-redrafted a b c d meta meta' page left half crown v x1 x2 x3 y ne oa ob oc 
     let hb = to.node in
     let hc = to.fresh.0 in
     let hd = to.fresh.1 in
-    let s1 = redrafted-stays a v x1 d1 in
-    let s2 = redrafted-stays b x1 x2 d2 in
-    let s3 = redrafted-stays c x2 x3 d3 in
-    let u2 = stays-then v x1 x2 s1 s2 in
-    let u3 = stays-then v x2 x3 u2 s3 in
-    let a2 = draft-past a b meta meta' x1 x2 ne.ab ((s1.holds a).exclusive ∙ oa) a1 d2 in
-    let a3 = draft-past a c meta meta' x2 x3 ne.ac ((u2.holds a).exclusive ∙ oa) a2 d3 in
-    let a4 = draft-past a d meta meta' x3 y ne.ad ((u3.holds a).exclusive ∙ oa) a3 d4 in
+    let s1 = redrafted-holds a v x1 d1 in
+    let s2 = redrafted-holds b x1 x2 d2 in
+    let s3 = redrafted-holds c x2 x3 d3 in
+    let u2 : (q : ℕ) → HoldsPage v x2 q = λ q. holds-then v x1 x2 q (s1 q) (s2 q) in
+    let u3 : (q : ℕ) → HoldsPage v x3 q = λ q. holds-then v x2 x3 q (u2 q) (s3 q) in
+    let a2 = draft-past a b meta meta' x1 x2 ne.ab ((s1 a).exclusive ∙ oa) a1 d2 in
+    let a3 = draft-past a c meta meta' x2 x3 ne.ac ((u2 a).exclusive ∙ oa) a2 d3 in
+    let a4 = draft-past a d meta meta' x3 y ne.ad ((u3 a).exclusive ∙ oa) a3 d4 in
     let b1 = draft-past b a page page v x1 (λ e. ne.ab (sym e)) ob hb d1 in
     let b2 = draft-new b page page left x1 x2 b1 d2 (n2 t1) in
-    let b3 = draft-past b c page left x2 x3 ne.bc ((u2.holds b).exclusive ∙ ob) b2 d3 in
-    let b4 = draft-past b d page left x3 y ne.bd ((u3.holds b).exclusive ∙ ob) b3 d4 in
+    let b3 = draft-past b c page left x2 x3 ne.bc ((u2 b).exclusive ∙ ob) b2 d3 in
+    let b4 = draft-past b d page left x3 y ne.bd ((u3 b).exclusive ∙ ob) b3 d4 in
     let c1 = draft-past c a zero zero v x1 (λ e. ne.ac (sym e)) oc hc d1 in
-    let c2 = draft-past c b zero zero x1 x2 (λ e. ne.bc (sym e)) ((s1.holds c).exclusive ∙ oc) c1 d2 in
+    let c2 = draft-past c b zero zero x1 x2 (λ e. ne.bc (sym e)) ((s1 c).exclusive ∙ oc) c1 d2 in
     let c3 = draft-new c zero zero half x2 x3 c2 d3 (n3 t2) in
-    let c4 = draft-past c d zero half x3 y ne.cd ((u3.holds c).exclusive ∙ oc) c3 d4 in
+    let c4 = draft-past c d zero half x3 y ne.cd ((u3 c).exclusive ∙ oc) c3 d4 in
     let e1 = draft-past d a zero zero v x1 (λ e. ne.ad (sym e)) od hd d1 in
-    let e2 = draft-past d b zero zero x1 x2 (λ e. ne.bd (sym e)) ((s1.holds d).exclusive ∙ od) e1 d2 in
-    let e3 = draft-past d c zero zero x2 x3 (λ e. ne.cd (sym e)) ((u2.holds d).exclusive ∙ od) e2 d3 in
+    let e2 = draft-past d b zero zero x1 x2 (λ e. ne.bd (sym e)) ((s1 d).exclusive ∙ od) e1 d2 in
+    let e3 = draft-past d c zero zero x2 x3 (λ e. ne.cd (sym e)) ((u2 d).exclusive ∙ od) e2 d3 in
     let e4 = draft-new d zero zero crown x3 y e3 d4 (n4 t3) in
     record { first = a4; second = b4; third = c4; fourth = e4 }
 
-pub four-stay : (a b c d : ℕ) (v x1 x2 x3 y : View Said) → IsRedrafted a v x1 → IsRedrafted b x1 x2 → IsRedrafted c x2 x3 → IsRedrafted d x3 y → Stays v y
+pub four-stay : (a b c d : ExclusiveGuard) (v x1 x2 x3 y : View Said) → Redrafts a.pid a.frame v x1 → Redrafts b.pid b.frame x1 x2 → Redrafts c.pid c.frame x2 x3 → Redrafts d.pid d.frame x3 y → Stays (a ∷ b ∷ c ∷ d ∷ []) v y
 four-stay a b c d v x1 x2 x3 y d1 d2 d3 d4 =
-    stays-then v x3 y (stays-then v x2 x3 (stays-then v x1 x2 (redrafted-stays a v x1 d1) (redrafted-stays b x1 x2 d2)) (redrafted-stays c x2 x3 d3)) (redrafted-stays d x3 y d4)
+    let gs : List ExclusiveGuard = a ∷ b ∷ c ∷ d ∷ [] in
+    let in-b = among-later b.pid a.pid (b.pid ∷ c.pid ∷ d.pid ∷ []) (among-first b.pid (c.pid ∷ d.pid ∷ [])) in
+    let in-c = among-later c.pid a.pid (b.pid ∷ c.pid ∷ d.pid ∷ []) (among-later c.pid b.pid (c.pid ∷ d.pid ∷ []) (among-first c.pid (d.pid ∷ []))) in
+    let in-d = among-later d.pid a.pid (b.pid ∷ c.pid ∷ d.pid ∷ []) (among-later d.pid b.pid (c.pid ∷ d.pid ∷ []) (among-later d.pid c.pid (d.pid ∷ []) (among-first d.pid []))) in
+    let one = redrafted-stays gs a.pid a.frame v x1 (among-first a.pid (b.pid ∷ c.pid ∷ d.pid ∷ [])) (λ at here. inl here) d1 in
+    let two = redrafted-stays gs b.pid b.frame x1 x2 in-b (λ at here. inr (inl here)) d2 in
+    let three = redrafted-stays gs c.pid c.frame x2 x3 in-c (λ at here. inr (inr (inl here))) d3 in
+    let four = redrafted-stays gs d.pid d.frame x3 y in-d (λ at here. inr (inr (inr (inl here)))) d4 in
+    stays-then gs v x3 y (stays-then gs v x2 x3 (stays-then gs v x1 x2 one two) three) four
 
-module _ (a b c d height separator : ℕ) (page left half crown : List ℕ) (v y : View Said) (stays : Stays v y) (four : y.start.tells ≡ true → AreDrafted a b c d (last_of v a).words (slice_set (slice_set (last_of v a).words 1 d) 2 (height + 1)) page left half crown y) (zero : a ≡ 0)
+module _ (a b c d height separator : ℕ) (page left half crown : List ℕ) (v y : View Said) (g1 g2 g3 g4 : ExclusiveGuard) (stays : Stays (g1 ∷ g2 ∷ g3 ∷ g4 ∷ []) v y) (four : y.start.tells ≡ true → AreDrafted a b c d (last_of v a).words (slice_set (slice_set (last_of v a).words 1 d) 2 (height + 1)) page left half crown y) (zero : a ≡ 0)
     (told : v.start.tells ≡ true → IsRootToSplit a b c d height page v) (full : length (pairs_of page) ≡ 28) (split : IsSplit page left half separator) (grows : IsNewRoot crown (height + 1) b separator c) (owed : (has c v.owed ≡ true) × (has d v.owed ≡ true)) where
   owed-c : has c y.owed ≡ true
   owed-c = ap (has c) stays.group.1 ∙ owed.0
@@ -117,9 +138,9 @@ module _ (a b c d height separator : ℕ) (page left half crown : List ℕ) (v y
       (f.first.draft ∙ ap (λ (l : List ℕ). slice_set (slice_set l 1 d) 2 (height + 1)) (sym f.first.last))
       owed-c owed-d
 
-  pub four-all : (g1 g2 g3 g4 : ExclusiveGuard) → g1.pid ≡ a → g2.pid ≡ b → g3.pid ≡ c → g4.pid ≡ d → IsHolding g1.pid g1.frame g1.version g1.dirty y → IsHolding g2.pid g2.frame g2.version g2.dirty y → IsHolding g3.pid g3.frame g3.version g3.dirty y → IsHolding g4.pid g4.frame g4.version g4.dirty y
+  pub four-all : g1.pid ≡ a → g2.pid ≡ b → g3.pid ≡ c → g4.pid ≡ d → IsHolding g1.pid g1.frame g1.version g1.dirty y → IsHolding g2.pid g2.frame g2.version g2.dirty y → IsHolding g3.pid g3.frame g3.version g3.dirty y → IsHolding g4.pid g4.frame g4.version g4.dirty y
       → AreApart (a ∷ b ∷ c ∷ d ∷ []) → v.out ≡ None → MayReleaseAll MayRelease (g1 ∷ g2 ∷ g3 ∷ g4 ∷ []) None y
-  four-all g1 g2 g3 g4 i1 i2 i3 i4 h1 h2 h3 h4 apart out =
+  four-all i1 i2 i3 i4 h1 h2 h3 h4 apart out =
       let pids : pids_of (g1 ∷ g2 ∷ g3 ∷ g4 ∷ []) ≡ a ∷ b ∷ c ∷ d ∷ [] = (λ i. i1 i ∷ i2 i ∷ i3 i ∷ i4 i ∷ []) in
       let none = stays.out ∙ out in
       record {
@@ -131,8 +152,8 @@ module _ (a b c d height separator : ℕ) (page left half crown : List ℕ) (v y
         owner = λ t. inr (subst (λ (l : List ℕ). MayRelease (began_of y.start) y.owed (changes_of y l) []) (sym pids) (four-may t));
       }
 
-  pub four-released : (g1 g2 g3 g4 : ExclusiveGuard) (w : View Said) → g1.pid ≡ a → g2.pid ≡ b → g3.pid ≡ c → g4.pid ≡ d → AreReleased g1 (g2 ∷ g3 ∷ g4 ∷ []) None y w → IsSplitUp (a ∷ b ∷ c ∷ d ∷ []) v w
-  four-released g1 g2 g3 g4 w i1 i2 i3 i4 r =
+  pub four-released : (w : View Said) → g1.pid ≡ a → g2.pid ≡ b → g3.pid ≡ c → g4.pid ≡ d → AreReleased g1 (g2 ∷ g3 ∷ g4 ∷ []) None y w → IsSplitUp (a ∷ b ∷ c ∷ d ∷ []) v w
+  four-released w i1 i2 i3 i4 r =
       let pids : pids_of (g1 ∷ g2 ∷ g3 ∷ g4 ∷ []) ≡ a ∷ b ∷ c ∷ d ∷ [] = (λ i. i1 i ∷ i2 i ∷ i3 i ∷ i4 i ∷ []) in
       record {
         held = y;

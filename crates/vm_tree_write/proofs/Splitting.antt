@@ -1,7 +1,7 @@
 -- Three pages that are held get their new drafts one after the other, and are released together.
-use Rattle.std.proofs.Common.{[], ⊎_elim, ◌<◌, ◌∙◌, ◌∷◌, ◌≡◌, ◌≢◌, ap, arith, Bool, inl, inr, length, List, None, refl, replicate, slice_index}
-use Rattle.std.proofs.Common.{Some, subst, sym, true, ℕ}
-use Rattle.std.proofs.lemmas.Bool.{cases_eq}
+use Rattle.std.proofs.Common.{[], ⊎_elim, ◌++◌, ◌<◌, ◌∙◌, ◌∷◌, ◌≡◌, ◌≢◌, ap, append_assoc, arith, Bool, eqb, inl, inr, length, List, None, refl, replicate}
+use Rattle.std.proofs.Common.{slice_index, Some, subst, sym, true, true≢false, ℕ}
+use Rattle.std.proofs.lemmas.Bool.{cases_eq, eq-eqb, or_left, or_right}
 use Rattle.vm_map.specs.declared.call.Said.{Said}
 use Rattle.vm_tree_model.specs.Edits.{AddsPair, child_of, IsSplit}
 use Rattle.vm_tree_model.specs.Node.{Covers}
@@ -9,16 +9,18 @@ use Rattle.vm_tree_model.specs.Page.{IsInner, node_of, pairs_of}
 use Rattle.vm_core.specs.Prelude.{Version}
 use Rattle.vm_rule.specs.Prelude.{AreApart, began_of, change_of, changes_of, draft_of, has, last_of, Seat, seat_of, without_all}
 use Rattle.vm_rule.specs.declared.view.Held.{Held}
-use Rattle.vm_rule.proofs.Entries.{append-none}
-use Rattle.vm_step.specs.Prelude.{HoldsPage, IsClaimed, KnowsAsBefore, Origin, View}
-use Rattle.vm_step.proofs.Asides.{holds-then, starts-then}
+use Rattle.vm_rule.specs.declared.view.Place.{Place}
+use Rattle.vm_rule.proofs.Entries.{append-none, each-map}
+use Rattle.vm_step.specs.Prelude.{Did, HoldsPage, IsClaimed, KnowsAsBefore, Origin, View}
+use Rattle.vm_step.proofs.{Alone.still-alone, Asides.alone-then, Asides.holds-then, Asides.knows-then, Asides.starts-then, Asides.still-locking}
 use Rattle.vm_guard.specs.{declared.exclusive.ExclusiveGuard.ExclusiveGuard, Guards.IsHolding}
 use Rattle.vm_guard.specs.Groups.{AreReleased, MayReleaseAll, next_after_all, pids_of}
 use Rattle.vm_guard.proofs.Groups.{lacks}
 use Rattle.vm_tree_laws.specs.May.{MayRelease}
 use Rattle.vm_tree_laws.proofs.Established.{may_split}
-use Rattle.vm_tree_write.specs.Drafts.{IsRedrafted}
-use Rattle.vm_tree_write.specs.Splits.{AreToSplit, HasDraft, IsGroupDone, IsSplitUp, Stays}
+use Rattle.vm_tree_write.specs.Drafts.{DraftsIn, IsDraftPlace, IsRedrafted, KnowsSameStates}
+use Rattle.vm_tree_write.specs.Splits.{AreToSplit, HasDraft, IsDrafted, IsGroupDone, IsSplitUp, Stays}
+use Rattle.vm_tree_write.proofs.Drafting.{each-append}
 
 -- pages that are apart
 pub first-apart : (a b c : ℕ) → AreApart (a ∷ b ∷ c ∷ []) → (a ≢ b) × (a ≢ c) × (b ≢ c)
@@ -34,13 +36,27 @@ none-after [] = refl
 none-after (p ∷ ps) = none-after ps
 
 module _ {X : Type 0} where
-  pub stays-then : (u v w : View X) → Stays u v → Stays v w → Stays u w
-  stays-then u v w f g = record {
+  -- what setting words of a draft of page p in frame f leaves
+  pub record Redrafts (p f : ℕ) (v w : View X) : Type 0 where
+    pub redrafted : IsRedrafted p v w
+    pub drafts : DraftsIn p f v w
+    pub known : KnowsSameStates v w
+
+  pub stays-then : (gs : List ExclusiveGuard) (u v w : View X) → Stays gs u v → Stays gs v w → Stays gs u w
+  stays-then gs u v w f g = record {
+    done = f.done ++ g.done;
+    steps = each-append _ f.done g.done f.steps g.steps;
+    alone = alone-then u v w f.parts f.alone g.alone;
+    known = record {
+      states = λ k q l. g.known.states (still-alone u v f.parts f.alone.current k) q (subst (λ (o : Origin). q < o.pages) (sym f.start) l) ∙ f.known.states k q l;
+      next = λ k. g.known.next (still-alone u v f.parts f.alone.current k) ∙ f.known.next k;
+    };
+    knows = λ q e l. knows-then u v w q (f.knows q e l) (g.knows q e (still-locking u v q (f.holds q) l));
     start = g.start ∙ f.start;
     parts = (g.parts.0 ∙ f.parts.0, g.parts.1 ∙ f.parts.1);
     mine = g.mine ∙ f.mine;
     seen = starts-then u.seen v.seen w.seen f.seen g.seen;
-    log = starts-then u.log v.log w.log f.log g.log;
+    log = g.log ∙ ap (λ (t : List Did). t ++ g.done) f.log ∙ append_assoc u.log f.done g.done;
     notes = g.notes ∙ f.notes;
     frames = g.frames ∙ f.frames;
     out = g.out ∙ f.out;
@@ -49,18 +65,32 @@ module _ {X : Type 0} where
     last = λ q e. g.last q ((f.holds q).exclusive ∙ e) ∙ f.last q e;
   }
 
-  pub redrafted-stays : (p : ℕ) (v w : View X) → IsRedrafted p v w → Stays v w
-  redrafted-stays p v w d = record {
+  pub redrafted-holds : (p : ℕ) (v w : View X) → IsRedrafted p v w → (q : ℕ) → HoldsPage v w q
+  redrafted-holds p v w d q = ⊎_elim (λ (e : q ≡ p). subst (HoldsPage v w) (sym e) d.holds) (λ ne. d.elsewhere.holds q ne) (cases_eq q p)
+
+  -- the guard afterwards has the same page and frame
+  pub redrafts-of : (g g' : ExclusiveGuard) (v w : View X) → (g'.pid ≡ g.pid) × (g'.version ≡ g.version) × (g'.frame ≡ g.frame) → IsRedrafted g.pid v w → DraftsIn g.pid g.frame v w → KnowsSameStates v w → Redrafts g'.pid g'.frame v w
+  redrafts-of g g' v w same d drafts known =
+      let here : Redrafts g.pid g.frame v w = record { redrafted = d; drafts = drafts; known = known } in
+      subst (λ (p : ℕ). Redrafts p g'.frame v w) (sym same.0) (subst (λ (f : ℕ). Redrafts g.pid f v w) (sym same.2) here)
+
+  pub redrafted-stays : (gs : List ExclusiveGuard) (p f : ℕ) (v w : View X) → has p (pids_of gs) ≡ true → ((at : Place) → IsDraftPlace p f at → IsDrafted gs at) → Redrafts p f v w → Stays gs v w
+  redrafted-stays gs p f v w among there r = let d = r.redrafted in record {
+    done = r.drafts.done;
+    steps = each-map _ _ (λ (s : Did) here. λ x e. there s.at (here x e)) r.drafts.done r.drafts.steps;
+    alone = d.alone;
+    known = r.known;
+    knows = λ q e l. d.elsewhere.knows q (λ s. true≢false (sym among ∙ ap (λ n. has n (pids_of gs)) (sym s) ∙ e)) l;
     start = d.elsewhere.steady.start;
     parts = d.elsewhere.steady.parts;
     mine = d.mine;
     seen = d.elsewhere.steady.seen;
     notes = d.elsewhere.steady.notes;
-    log = (d.done, d.elsewhere.steady.log);
+    log = r.drafts.log;
     frames = d.elsewhere.steady.frames.0;
     out = d.elsewhere.steady.out;
     group = d.group;
-    holds = λ q. ⊎_elim (λ (e : q ≡ p). subst (HoldsPage v w) (sym e) d.holds) (λ ne. d.elsewhere.holds q ne) (cases_eq q p);
+    holds = redrafted-holds p v w d;
     last = λ q e. ⊎_elim (λ (s : q ≡ p). subst (λ n. last_of w n ≡ last_of v n) (sym s) d.last) (λ ne. (d.elsewhere.knows q ne (inl e)).last) (cases_eq q p);
   }
 
@@ -96,13 +126,18 @@ module _ {X : Type 0} where
   draft-new p old new new' v w h d is = record { last = ap (λ (y : Version). y.words) d.last ∙ h.last; draft = is }
 
   -- a claimed page, told of its words
-  pub group-done : (first : ExclusiveGuard) (rest : List ExclusiveGuard) (pages : List ℕ) (v y w : View X) → pids_of (first ∷ rest) ≡ pages → Stays v y → AreReleased first rest None y w → IsGroupDone pages v w
+  pub group-done : (first : ExclusiveGuard) (rest : List ExclusiveGuard) (pages : List ℕ) (v y w : View X) → pids_of (first ∷ rest) ≡ pages → Stays (first ∷ rest) v y → AreReleased first rest None y w → IsGroupDone pages v w
   group-done first rest pages v y w is s r = record {
     start = r.beside.steady.start ∙ s.start;
     parts = (r.beside.steady.parts.0 ∙ s.parts.0, r.beside.steady.parts.1 ∙ s.parts.1);
     mine = r.mine ∙ append-none y.mine ∙ s.mine;
     seen = starts-then v.seen y.seen w.seen s.seen r.beside.steady.seen;
-    log = starts-then v.log y.log w.log s.log (_, r.beside.steady.log);
+    log = starts-then v.log y.log w.log (s.done, s.log) (_, r.beside.steady.log);
+    knows = λ q e l.
+        let out = ap (has q) is ∙ e in
+        knows-then v y w q (s.knows q out l) (r.beside.knows q out (still-locking v y q (s.holds q) l));
+    current = r.current;
+    alone = λ k q e. r.alone (still-alone v y s.parts s.alone.current k) q (ap (has q) is ∙ e) ∙ s.alone.words k.0 k.1 q;
     notes = r.beside.steady.notes ∙ s.notes;
     frames = r.beside.steady.frames.0 ∙ s.frames;
     out = r.beside.steady.out ∙ s.out;
@@ -179,23 +214,34 @@ three-redrafted a b c over above page left half v x1 x2 y apart oa ob oc told d1
     let hb = to.node in
     let hc = to.fresh in
     let ne = first-apart a b c apart in
-    let s1 = redrafted-stays a v x1 d1 in
-    let s2 = redrafted-stays b x1 x2 d2 in
+    let s1 = redrafted-holds a v x1 d1 in
+    let s2 = redrafted-holds b x1 x2 d2 in
     let a1 = draft-new a over over above v x1 ha d1 (n1 t0) in
-    let a2 = draft-past a b over above x1 x2 ne.0 ((s1.holds a).exclusive ∙ oa) a1 d2 in
-    let a3 = draft-past a c over above x2 y ne.1 ((s2.holds a).exclusive ∙ (s1.holds a).exclusive ∙ oa) a2 d3 in
+    let a2 = draft-past a b over above x1 x2 ne.0 ((s1 a).exclusive ∙ oa) a1 d2 in
+    let a3 = draft-past a c over above x2 y ne.1 ((s2 a).exclusive ∙ (s1 a).exclusive ∙ oa) a2 d3 in
     let b1 = draft-past b a page page v x1 (λ e. ne.0 (sym e)) ob hb d1 in
     let b2 = draft-new b page page left x1 x2 b1 d2 (n2 t1) in
-    let b3 = draft-past b c page left x2 y ne.2 ((s2.holds b).exclusive ∙ (s1.holds b).exclusive ∙ ob) b2 d3 in
+    let b3 = draft-past b c page left x2 y ne.2 ((s2 b).exclusive ∙ (s1 b).exclusive ∙ ob) b2 d3 in
     let c1 = draft-past c a (replicate 64 0) (replicate 64 0) v x1 (λ e. ne.1 (sym e)) oc hc d1 in
-    let c2 = draft-past c b (replicate 64 0) (replicate 64 0) x1 x2 (λ e. ne.2 (sym e)) ((s1.holds c).exclusive ∙ oc) c1 d2 in
+    let c2 = draft-past c b (replicate 64 0) (replicate 64 0) x1 x2 (λ e. ne.2 (sym e)) ((s1 c).exclusive ∙ oc) c1 d2 in
     let c3 = draft-new c (replicate 64 0) (replicate 64 0) half x2 y c2 d3 (n3 t2) in
     record { first = a3; second = b3; third = c3 }
 
-pub three-stay : (a b c : ℕ) (v x1 x2 y : View Said) → IsRedrafted a v x1 → IsRedrafted b x1 x2 → IsRedrafted c x2 y → Stays v y
-three-stay a b c v x1 x2 y d1 d2 d3 = stays-then v x1 y (redrafted-stays a v x1 d1) (stays-then x1 x2 y (redrafted-stays b x1 x2 d2) (redrafted-stays c x2 y d3))
+-- a page is among these
+pub among-first : (q : ℕ) (l : List ℕ) → has q (q ∷ l) ≡ true
+among-first q l = or_left (eqb q q) (has q l) (eq-eqb q q refl)
 
-module _ (a b c separator : ℕ) (over above page left half : List ℕ) (v y : View Said) (stays : Stays v y) (three : y.start.tells ≡ true → AreThree a b c over above page left half y) (told : v.start.tells ≡ true → AreToSplit a b c over page v)
+pub among-later : (q x : ℕ) (l : List ℕ) → has q l ≡ true → has q (x ∷ l) ≡ true
+among-later q x l e = or_right (eqb q x) (has q l) e
+
+pub three-stay : (a b c : ExclusiveGuard) (v x1 x2 y : View Said) → Redrafts a.pid a.frame v x1 → Redrafts b.pid b.frame x1 x2 → Redrafts c.pid c.frame x2 y → Stays (a ∷ b ∷ c ∷ []) v y
+three-stay a b c v x1 x2 y d1 d2 d3 =
+    let gs : List ExclusiveGuard = a ∷ b ∷ c ∷ [] in
+    stays-then gs v x1 y (redrafted-stays gs a.pid a.frame v x1 (among-first a.pid (b.pid ∷ c.pid ∷ [])) (λ at here. inl here) d1)
+    (stays-then gs x1 x2 y (redrafted-stays gs b.pid b.frame x1 x2 (among-later b.pid a.pid (b.pid ∷ c.pid ∷ []) (among-first b.pid (c.pid ∷ []))) (λ at here. inr (inl here)) d2)
+    (redrafted-stays gs c.pid c.frame x2 y (among-later c.pid a.pid (b.pid ∷ c.pid ∷ []) (among-later c.pid b.pid (c.pid ∷ []) (among-first c.pid []))) (λ at here. inr (inr (inl here))) d3))
+
+module _ (a b c separator : ℕ) (over above page left half : List ℕ) (v y : View Said) (g1 g2 g3 : ExclusiveGuard) (stays : Stays (g1 ∷ g2 ∷ g3 ∷ []) v y) (three : y.start.tells ≡ true → AreThree a b c over above page left half y) (told : v.start.tells ≡ true → AreToSplit a b c over page v)
     (room : length (pairs_of over) < 28) (full : length (pairs_of page) ≡ 28) (split : IsSplit page left half separator) (adds : IsInner over → AddsPair over above separator c) (owed : has c v.owed ≡ true) where
   owed-then : has c y.owed ≡ true
   owed-then = ap (has c) stays.group.1 ∙ owed
@@ -209,16 +255,16 @@ module _ (a b c separator : ℕ) (over above page left half : List ℕ) (v y : V
       let to = to-split tells in
       splits-three a b c to.names.0 separator over above page left (replicate 64 0) half y t.first t.second t.third to.inner to.names.1 to.names.2 room full split adds owed-then
 
-  pub three-all : (g1 g2 g3 : ExclusiveGuard) → g1.pid ≡ a → g2.pid ≡ b → g3.pid ≡ c → IsHolding g1.pid g1.frame g1.version g1.dirty y → IsHolding g2.pid g2.frame g2.version g2.dirty y → IsHolding g3.pid g3.frame g3.version g3.dirty y
+  pub three-all : g1.pid ≡ a → g2.pid ≡ b → g3.pid ≡ c → IsHolding g1.pid g1.frame g1.version g1.dirty y → IsHolding g2.pid g2.frame g2.version g2.dirty y → IsHolding g3.pid g3.frame g3.version g3.dirty y
       → AreApart (a ∷ b ∷ c ∷ []) → v.out ≡ None → MayReleaseAll MayRelease (g1 ∷ g2 ∷ g3 ∷ []) None y
-  three-all g1 g2 g3 e1 e2 e3 h1 h2 h3 apart out =
+  three-all e1 e2 e3 h1 h2 h3 apart out =
       may-three g1 g2 g3 a b c y e1 e2 e3 h1 h2 h3 apart (stays.out ∙ out)
       (λ tells. words-claimed a over above y (three tells).first (inner-not over (to-split tells).inner))
       (λ tells. words-claimed b page left y (three tells).second (full-not page full))
       (inr (inr (inr owed-then))) three-may
 
-  pub three-released : (g1 g2 g3 : ExclusiveGuard) (w : View Said) → g1.pid ≡ a → g2.pid ≡ b → g3.pid ≡ c → AreReleased g1 (g2 ∷ g3 ∷ []) None y w → IsSplitUp (a ∷ b ∷ c ∷ []) v w
-  three-released g1 g2 g3 w e1 e2 e3 r =
+  pub three-released : (w : View Said) → g1.pid ≡ a → g2.pid ≡ b → g3.pid ≡ c → AreReleased g1 (g2 ∷ g3 ∷ []) None y w → IsSplitUp (a ∷ b ∷ c ∷ []) v w
+  three-released w e1 e2 e3 r =
       let pids : pids_of (g1 ∷ g2 ∷ g3 ∷ []) ≡ a ∷ b ∷ c ∷ [] = (λ i. e1 i ∷ e2 i ∷ e3 i ∷ []) in
       record {
         held = y;

@@ -2,26 +2,28 @@
 use Rattle.std.proofs.Common.{◌++◌, ◌∙◌, ◌≡◌, ◌⊎◌, ap, inl, inr, length, List, None, Option, refl, Some, subst, sym, true, ℕ}
 use Rattle.vm_map.specs.{declared.call.Call.TheVariants.Del, declared.call.Call.TheVariants.Put, declared.call.Reply.Reply}
 use Rattle.vm_map.specs.{declared.call.Reply.TheVariants.Gone, declared.call.Reply.TheVariants.Was, declared.call.Said.Said}
-use Rattle.vm_map.specs.{declared.window.TheConstants.MOST_PAIRS}
 use Rattle.vm_map.specs.Map.{del_pair, lookup_at, Rises}
 use Rattle.vm_tree_model.specs.Edits.{IsFullFor, IsLeafWith, PutsInLeaf}
 use Rattle.vm_tree_model.specs.Node.{Covers}
 use Rattle.vm_tree_model.specs.Page.{IsLeaf, node_of, pairs_of}
-use Rattle.vm_rule.specs.Prelude.{last_of, loads_at}
+use Rattle.vm_node.specs.Loads.{IsPageWith}
+use Rattle.vm_rule.specs.Prelude.{last_of}
 use Rattle.vm_step.specs.Prelude.{NoneExpected, Origin, UnlockedExpected, View}
 use Rattle.vm_step.specs.declared.saw.Saw.{Saw}
 use Rattle.vm_guard.specs.declared.deny.Deny.{Deny}
 use Rattle.vm_guard.specs.declared.deny.Deny.TheVariants as denies
 use Rattle.vm_guard.specs.Denied.{AgainOrNeed, AgainOrWorn, IsDenied, KeptWord}
-use Rattle.vm_guard.specs.Guards.{IsReading, IsValid, placed}
+use Rattle.vm_guard.specs.Guards.{IsReading, IsValid, Loads, placed}
 use Rattle.vm_tree_laws.specs.{May.IsEdit, Tied.Tied}
-use Rattle.vm_tree_rule.specs.{Leaves.ReadsOn, Seeks.HasRead, Standing.Awaits, Standing.IsOpened, Turns.IsTurnedBack}
+use Rattle.vm_tree_rule.specs.{Leaves.ReadsOn, Seeks.HasLoaded, Seeks.HasRead, Standing.Awaits, Standing.IsOpened, Turns.IsTurnedBack, Turns.TellLeaf}
 use Rattle.vm_tree_rule.specs.declared.turn.Turn.TheVariants as turns
 use Rattle.vm_tree_rule.proofs.Entering.{opened-reads}
-use Rattle.vm_tree_rule.proofs.Readings.{denied-reads, reads-then, valid-reads}
+use Rattle.vm_tree_rule.proofs.Readings.{denied-reads, loads-reads, opened-loads, reads-then, same-page, valid-reads}
+use Rattle.vm_tree_rule.proofs.{Downward.awaits-later, Surely.known-same}
+use Rattle.vm_tree_rule.specs.Resident.{IsKnownNow}
 use Rattle.vm_tree_read.specs.Reads.{IsAnswered}
-use Rattle.vm_tree_read.proofs.Answering.{answered-later, words-are}
-use Rattle.vm_tree_write.specs.Writes.{IsFullLeaf, IsTight, IsVain, IsWornLeaf, IsWriteDone, IsWriteToTry}
+use Rattle.vm_tree_read.proofs.Answering.{answered-later, page-with}
+use Rattle.vm_tree_write.specs.Writes.{IsFullLeaf, IsTight, IsVain, IsWornLeaf, IsWriteDone, IsWriteToTry, TellTight}
 use Rattle.vm_tree_write.proofs.Backing.{shown-refused, shown-unlocked, shown-wider}
 use Rattle.vm_tree_write.proofs.Writing.{leaf-is, written-later}
 
@@ -37,7 +39,7 @@ lock-reads p word frame deny v x w o d = reads-then v x w (opened-reads p word f
 pub not-locked : (p word frame key : ℕ) (saw : Saw) (v x w : View Said) → IsOpened v p word frame x → IsDenied AgainOrWorn (KeptWord word) UnlockedExpected p (denies.Again saw) x w → ReadsOn v w × IsWriteToTry v key saw w
 not-locked p word frame key saw v x w o d = (lock-reads p word frame (denies.Again saw) v x w o d, inl (shown-unlocked p word frame saw v x w o d))
 
-pub worn-leaf : (p q word frame key : ℕ) (words : List ℕ) (v x w : View Said) → IsOpened v p word frame x → Awaits x p word 0 key → HasRead x p words → ((node_of words).tag ≡ 2) × Covers (node_of words) key → IsDenied AgainOrWorn (KeptWord word) UnlockedExpected p (denies.Worn q) x w → ReadsOn v w × IsWornLeaf v key q w
+pub worn-leaf : (p q word frame key : ℕ) (words : List ℕ) (v x w : View Said) → IsOpened v p word frame x → Awaits x p word 0 key → HasRead x p words → ((node_of words).tag ≡ 2) × Covers (node_of words) key → IsDenied AgainOrWorn (KeptWord word) UnlockedExpected p (denies.Worn q) x w → ReadsOn v w × (a : IsWornLeaf v key q w) × (a.words ≡ words)
 worn-leaf p q word frame key words v x w o a read leaf d =
     let same : q ≡ p = d.evidence.0 in (
       lock-reads p word frame (denies.Worn q) v x w o d,
@@ -53,24 +55,26 @@ worn-leaf p q word frame key words v x w o a read leaf d =
         covers = leaf.1;
         denied = subst (λ n. IsDenied AgainOrWorn (KeptWord word) UnlockedExpected n (denies.Worn q) x w) (sym same) d;
       },
+      refl,
     )
 
 pub not-valid : (p word frame key : ℕ) (saw : Saw) (v x w : View Said) → IsOpened v p word frame x → IsDenied AgainOrNeed (KeptWord word) NoneExpected p (denies.Again saw) x w → ReadsOn v w × IsWriteToTry v key saw w
 not-valid p word frame key saw v x w o d =
     (reads-then v x w (opened-reads p word frame v x o) (denied-reads AgainOrNeed (KeptWord word) NoneExpected p (denies.Again saw) x w d), inl (shown-wider saw v w (shown-refused p word frame saw v x w o d)))
 
-full-leaf : (p word frame key : ℕ) (before : List (ℕ × ℕ)) (page : List ℕ) (x w : View Said) → IsReading p word frame x → length page ≡ 64 → loads_at x p ≡ before ++ placed 0 page → ((node_of page).tag ≡ 2) × Covers (node_of page) key
-    → (IsLeaf page → IsFullFor page key) → x.start.tells ≡ true → IsValid Tied p word frame None x w → ((last_of w p).words ≡ page) × IsFullLeaf page key
-full-leaf p word frame key before page x w r long loads leaf full tells k =
-    let last : (last_of w p).words ≡ page = words-are p x before page (last_of w p).words long loads k.size ((k.validates tells).valid _ r.reading refl) in
-    let is_leaf : IsLeaf (last_of w p).words = leaf-is _ p (last_of w p).words (k.validates tells).itself.sound (subst (λ (l : List ℕ). (node_of l).tag ≡ 2) (sym last) leaf.0) in
-    let here : IsLeaf page = subst IsLeaf last is_leaf in
-    (last, record { leaf = here; covers = leaf.1; full = full here })
+full-leaf : (p word frame key : ℕ) (loaded : List (ℕ × ℕ)) (x w : View Said) → IsReading p word frame x → HasLoaded x p loaded → TellLeaf loaded key → TellTight loaded key
+    → x.start.tells ≡ true → IsValid Tied p word frame None x w → IsPageWith loaded (last_of w p).words × IsFullLeaf (last_of w p).words key
+full-leaf p word frame key loaded x w r has leaf full tells k =
+    let with : IsPageWith loaded (last_of w p).words = page-with p loaded x (last_of w p).words has k.size ((k.validates tells).valid _ r.reading refl) in
+    let here = leaf (last_of w p).words with in
+    let is_leaf : IsLeaf (last_of w p).words = leaf-is _ p (last_of w p).words (k.validates tells).itself.sound here.0 in
+    let tight = full (last_of w p).words with in
+    (with, record { leaf = is_leaf; covers = here.1; full = record { count = tight.count; absent = tight.absent _ _ is_leaf.node.rises } })
 
--- the leaf that was validated is the page that was read
-pub tight : (p word frame key : ℕ) (before : List (ℕ × ℕ)) (page : List ℕ) (v x w : View Said) → IsOpened v p word frame x → length page ≡ 64 → loads_at x p ≡ before ++ placed 0 page → ((node_of page).tag ≡ 2) × Covers (node_of page) key
-    → length (pairs_of page) ≡ MOST_PAIRS → (IsLeaf page → IsFullFor page key) → IsValid Tied p word frame None x w → ReadsOn v w × IsTight v key p w
-tight p word frame key before page v x w o long loads leaf count full k =
+-- the leaf that was validated has the words that were loaded
+pub tight : (p word frame key : ℕ) (loaded : List (ℕ × ℕ)) (v x w : View Said) → IsOpened v p word frame x → HasLoaded x p loaded → TellLeaf loaded key → TellTight loaded key
+    → IsValid Tied p word frame None x w → ReadsOn v w × IsTight v key p w
+tight p word frame key loaded v x w o has leaf full k =
     let reads = opened-reads p word frame v x o in (
       reads-then v x w reads (valid-reads Tied p word frame x w k),
       record {
@@ -79,14 +83,34 @@ tight p word frame key before page v x w o long loads leaf count full k =
         found = x;
         opened = o;
         valid = k;
-        words = page;
-        read = (before, (k.same_reads p).loads ∙ loads);
-        tag = leaf.0;
-        covers = leaf.1;
-        count = count;
-        told = λ tells. full-leaf p word frame key before page x w o.reading long loads leaf full (ap (λ (s : Origin). s.tells) reads.0.start ∙ tells) k;
+        loaded = loaded;
+        read = (has.0, (k.same_reads p).loads ∙ has.1);
+        leaf = leaf;
+        full = full;
+        told = λ tells. full-leaf p word frame key loaded x w o.reading has leaf full (ap (λ (s : Origin). s.tells) reads.0.start ∙ tells) k;
       },
     )
+
+-- what is claimed of a page holds of each page that has all its words
+pub told-whole : (claim : List ℕ → Type 0) (page : List ℕ) → length page ≡ 64 → claim page → (words : List ℕ) → IsPageWith (placed 0 page) words → claim words
+told-whole claim page long is words with = subst claim (sym (same-page words page long with)) is
+
+-- a page was read twice on, with other words each time
+module _ (p word frame : ℕ) (first then : List (ℕ × ℕ)) (x y z : View Said) (a : Loads p word frame first x y) (b : Loads p word frame then y z) where
+  twice : ReadsOn x z
+  twice = reads-then x y z (loads-reads p word frame first x y a) (loads-reads p word frame then y z b)
+
+  pub known-twice : IsKnownNow p word x → IsKnownNow p word z
+  known-twice k = known-same p word y z (loads-reads p word frame then y z b).0 b.table (known-same p word x y (loads-reads p word frame first x y a).0 a.table k)
+
+  pub awaits-twice : (key : ℕ) → Awaits x p word 0 key → Awaits z p word 0 key
+  awaits-twice key w = awaits-later p word 0 key x z twice.0 w
+
+pub reads-twice : (p word frame : ℕ) (first then : List (ℕ × ℕ)) (v x y z : View Said) → ReadsOn v x → Loads p word frame first x y → Loads p word frame then y z → ReadsOn v z
+reads-twice p word frame first then v x y z r a b = reads-then v x z r (twice p word frame first then x y z a b)
+
+pub opened-twice : (p word frame : ℕ) (first then : List (ℕ × ℕ)) (v x y z : View Said) → IsOpened v p word frame x → Loads p word frame first x y → Loads p word frame then y z → IsOpened v p word frame z
+opened-twice p word frame first then v x y z o a b = opened-loads p word frame then v y z (opened-loads p word frame first v x y o a) b
 
 -- the put of a leaf edits it
 pub put-edit : (key value : ℕ) (was : Option ℕ) (page after : List ℕ) → Covers (node_of page) key → (IsLeaf page → Covers (node_of page) key → PutsInLeaf page after key value was) → IsLeaf page → IsEdit page after (Put key value) (Was was)

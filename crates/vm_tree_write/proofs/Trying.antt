@@ -36,7 +36,10 @@ reads-keep v w r = record {
   out = r.0.out;
   pending = r.0.group.0;
   owed = r.0.group.1;
+  next = λ q e. inl (sym r.0.group.2 ∙ e);
   holds = r.0.holds;
+  knows = r.0.knows;
+  current = r.0.alone.current;
 }
 
 pub turn-reads : (key : ℕ) (turn : Turn) (v w : View Said) → IsTurnedBack v key turn w → ReadsOn v w
@@ -55,12 +58,12 @@ turn-need key p v w a = (reads-keep v w a.0, a)
 
 -- ---- nothing is full
 
-pub roomy-valid : (key : ℕ) (leaf : OptGuard) (page : List ℕ) (v x w : View Said) → ReadsOn v x → IsRoomy v key leaf page x → IsValid Tied leaf.pid leaf.word leaf.frame None x w → IsTrySplit key tries.Roomy v w
-roomy-valid key leaf page v x w r room valid =
-    (reads-keep v w (reads-then v x w r (valid-reads Tied leaf.pid leaf.word leaf.frame x w valid)), record { leaf = leaf; page = page; found = x; roomy = room; valid = valid })
+pub roomy-valid : (key : ℕ) (leaf : OptGuard) (loaded : List (ℕ × ℕ)) (v x w : View Said) → ReadsOn v x → IsRoomy v key leaf loaded x → IsValid Tied leaf.pid leaf.word leaf.frame None x w → IsTrySplit key tries.Roomy v w
+roomy-valid key leaf loaded v x w r room valid =
+    (reads-keep v w (reads-then v x w r (valid-reads Tied leaf.pid leaf.word leaf.frame x w valid)), record { leaf = leaf; loaded = loaded; found = x; roomy = room; valid = valid })
 
-pub roomy-lost : (key : ℕ) (leaf : OptGuard) (page : List ℕ) (saw : Saw) (v x w : View Said) → IsRoomy v key leaf page x → IsDenied AgainOrNeed (KeptWord leaf.word) NoneExpected leaf.pid (denies.Again saw) x w → IsTrySplit key (tries.Again saw) v w
-roomy-lost key leaf page saw v x w room d =
+pub roomy-lost : (key : ℕ) (leaf : OptGuard) (loaded : List (ℕ × ℕ)) (saw : Saw) (v x w : View Said) → IsRoomy v key leaf loaded x → IsDenied AgainOrNeed (KeptWord leaf.word) NoneExpected leaf.pid (denies.Again saw) x w → IsTrySplit key (tries.Again saw) v w
+roomy-lost key leaf loaded saw v x w room d =
     turn-again key saw v w
     (reads-then v x w (opened-reads leaf.pid leaf.word leaf.frame v x room.opened) (denied-reads AgainOrNeed (KeptWord leaf.word) NoneExpected leaf.pid (denies.Again saw) x w d), shown-refused leaf.pid leaf.word leaf.frame saw v x w room.opened d)
 

@@ -5,12 +5,13 @@ use Rattle.std.proofs.lemmas.List.{length-append}
 use Rattle.vm_map.specs.declared.call.Said.{Said}
 use Rattle.vm_tree_model.specs.{Node.Covers, Page.IsInner, Page.node_of}
 use Rattle.vm_core.specs.Prelude.{no_seat, Version, version_of}
-use Rattle.vm_rule.specs.Prelude.{began_of, draft_of, Each, has, last_of, no_held, numbers, put_at, Seat, seat_of, StartsWith}
+use Rattle.vm_rule.specs.Prelude.{began_of, draft_of, Each, has, IsLocking, last_of, no_held, numbers, put_at, Seat, seat_of, StartsWith}
 use Rattle.vm_rule.specs.declared.view.Held.{Held}
 use Rattle.vm_rule.proofs.Entries.{append-none}
 use Rattle.vm_step.specs.Prelude.{Did, HoldsPage, KnowsAsBefore, Origin, Release, Tie, View}
-use Rattle.vm_step.proofs.Asides.{holds-then, starts-then}
+use Rattle.vm_step.proofs.Asides.{holds-then, knows-then, starts-then, still-locking}
 use Rattle.vm_exmap.specs.Frames.{MovesFrames}
+use Rattle.vm_exmap.proofs.FrameMoves.{moved-aside}
 use Rattle.vm_guard.specs.{declared.exclusive.ExclusiveGuard.ExclusiveGuard, Fresh.AreFresh, Fresh.IsAmid, Groups.pids_of}
 use Rattle.vm_guard.specs.Guards.{IsElsewhere, IsHolding, IsLocked, IsReading}
 use Rattle.vm_guard.proofs.Reading.{reading-kept}
@@ -129,6 +130,8 @@ pub record KeepsBut (pages : List ℕ) (v w : View Said) : Type 0 where
   pub out : w.out ≡ v.out
   pub pending : w.pending ≡ v.pending
   pub holds : (q : ℕ) → has q pages ≡ false → HoldsPage v w q
+  pub knows : (q : ℕ) → has q pages ≡ false → IsLocking (seat_of v q) → KnowsAsBefore v w q
+  pub current : v.current ≡ true → w.current ≡ true
 
 pub but-then : (pages : List ℕ) (u v w : View Said) → KeepsBut pages u v → KeepsBut pages v w → KeepsBut pages u w
 but-then pages u v w f g = record {
@@ -141,6 +144,8 @@ but-then pages u v w f g = record {
   out = g.out ∙ f.out;
   pending = g.pending ∙ f.pending;
   holds = λ q e. holds-then u v w q (f.holds q e) (g.holds q e);
+  knows = λ q e l. knows-then u v w q (f.knows q e l) (g.knows q e (still-locking u v q (f.holds q e) l));
+  current = λ e. g.current (f.current e);
 }
 
 pub moves-but : (pages : List ℕ) (done : List Did) (v w : View Said) → MovesFrames done v w → KeepsBut pages v w
@@ -153,6 +158,8 @@ moves-but pages done v w m = record {
   log = (done, m.log);
   out = m.out;
   pending = m.group.0;
+  knows = λ q e. (moved-aside (λ q. Unit {0}) done v w m).knows q;
+  current = m.alone.current;
   holds = λ q e. record { shares = ap (λ s. (put_at no_seat s q).shares) m.pages.0; exclusive = ap (λ s. (put_at no_seat s q).exclusive) m.pages.0; writing = ap (λ s. (put_at no_seat s q).writing) m.pages.0 };
 }
 
@@ -167,6 +174,8 @@ locked-but pages p f version dirty v w among l = record {
   out = l.elsewhere.steady.out;
   pending = l.group.0;
   holds = λ q e. l.elsewhere.holds q (λ s. true-false (has p pages) among (ap (λ n. has n pages) (sym s) ∙ e));
+  knows = λ q e. l.elsewhere.knows q (λ s. true-false (has p pages) among (ap (λ n. has n pages) (sym s) ∙ e));
+  current = λ _. l.current;
 }
 
 pub fresh-but : (pages fresh : List ℕ) (x n : ℕ) (gs : List ExclusiveGuard) (before after : List ℕ) (v w : View Said) → ((q : ℕ) → has q pages ≡ false → has q fresh ≡ false) → AreFresh fresh x n gs before after v w → KeepsBut pages v w
@@ -179,11 +188,13 @@ fresh-but pages fresh x n gs before after v w within f = record {
   log = (f.done, f.amid.log);
   out = f.amid.out;
   pending = f.amid.pending;
+  knows = λ q e. f.amid.knows q (within q e);
+  current = λ _. f.current;
   holds = λ q e. let k = f.amid.seats q (within q e) in record { shares = ap (λ (s : Seat). s.shares) k; exclusive = ap (λ (s : Seat). s.exclusive) k; writing = ap (λ (s : Seat). s.writing) k };
 }
 
 pub done-but : (pages : List ℕ) (v w : View Said) → IsGroupDone pages v w → KeepsBut pages v w
-done-but pages v w d = record { start = d.start; parts = d.parts; mine = d.mine; seen = d.seen; notes = ([], d.notes ∙ sym (append-none v.notes)); log = d.log; out = d.out; pending = d.pending; holds = d.holds }
+done-but pages v w d = record { start = d.start; parts = d.parts; mine = d.mine; seen = d.seen; notes = ([], d.notes ∙ sym (append-none v.notes)); log = d.log; out = d.out; pending = d.pending; holds = d.holds; knows = d.knows; current = λ _. d.current }
 
 -- what the pass has of a page that it locked, but for that lock
 pub record Was (q : ℕ) (v z : View Said) : Type 0 where

@@ -1,14 +1,14 @@
 -- A leaf is locked, written and released: the call is answered there.
-use Rattle.std.proofs.Common.{[], ⊎_elim, ◌++◌, ◌+◌, ◌∙◌, ◌∷◌, ◌≡◌, ◌≢◌, ◌≤◌, ◌⊎◌, ap, append_assoc, arith, Bool, inl, inr, length, List, None, refl}
+use Rattle.std.proofs.Common.{[], ⊎_elim, ◌++◌, ◌+◌, ◌∙◌, ◌∷◌, ◌≡◌, ◌≢◌, ◌⊎◌, ap, append_assoc, arith, Bool, inl, inr, length, List, None, refl}
 use Rattle.std.proofs.Common.{replicate, slice_index, Some, subst, sym, true, ℕ}
 use Rattle.std.proofs.lemmas.Bool.{cases_eq}
 use Rattle.std.proofs.lemmas.List.{append_cancel_left}
 use Rattle.vm_map.specs.declared.call.Said.{Said}
 use Rattle.vm_tree_model.specs.Page.{IsFree, IsInner, IsLeaf, node_of}
 use Rattle.vm_tree_model.specs.Tree.{map_of}
-use Rattle.vm_core.specs.Prelude.{LOCKED, state_of, UNLOCKED, version_of, word_of}
+use Rattle.vm_core.specs.Prelude.{LOCKED, version_of, word_of}
 use Rattle.vm_owner.proofs.NumberLemmas.{without-none}
-use Rattle.vm_rule.specs.Prelude.{AreUnchanged, began_of, change_of, draft_of, Each, entries_under, Entry, entry_of, IsLocking, IsUnheld, last_of}
+use Rattle.vm_rule.specs.Prelude.{AreUnchanged, began_of, change_of, draft_of, Each, entries_under, Entry, entry_of, IsLocking, last_of}
 use Rattle.vm_rule.specs.Prelude.{loads_at, next_after, Seat, seat_of}
 use Rattle.vm_rule.specs.declared.view.Place.{Place}
 use Rattle.vm_rule.specs.declared.view.Place.TheVariants as places
@@ -16,14 +16,15 @@ use Rattle.vm_rule.proofs.{Entries.each-map, Heard.each-both}
 use Rattle.vm_step.specs.Prelude.{Did, HasWritten, HoldsPage, IsKeptNow, Origin, View}
 use Rattle.vm_step.proofs.{Asides.starts-then, Asides.whole-then, Evidenced.next-stays}
 use Rattle.vm_guard.specs.Guards.{IsElsewhere, IsLocked, IsReading, IsReleased, placed}
+use Rattle.vm_guard.specs.Quiet.{IsUnmark}
 use Rattle.vm_guard.proofs.QuietSteps.{elsewhere-then}
 use Rattle.vm_tree_laws.specs.{History.IsLegal, Keeps.KeepsTree, May.IsEdit, May.MayRelease, Tied.IsSound, Tied.Tied}
 use Rattle.vm_tree_rule.specs.Leaves.{ReadsOn}
 use Rattle.vm_tree_rule.proofs.Readings.{reads-self, reads-then}
 use Rattle.vm_tree_read.proofs.Answering.{words-are}
-use Rattle.vm_tree_write.specs.Drafts.{IsRedrafted, SetsDiffering}
-use Rattle.vm_tree_write.specs.Writes.{IsBorneOutBy, IsWriteDone, OnlyWrites}
-use Rattle.vm_tree_write.proofs.Drafting.{Stores}
+use Rattle.vm_tree_write.specs.Drafts.{DraftsIn, IsRedrafted, SetsDiffering}
+use Rattle.vm_tree_write.specs.Writes.{IsBorneOutBy, IsWriteDone, IsWritePlace, OnlyWrites}
+use Rattle.vm_tree_write.proofs.{Drafting.Stores, Framing.unheld-not}
 
 -- a page of the tree with a leaf's tag is a leaf
 pub leaf-is : (pages p : ℕ) (words : List ℕ) → IsSound pages p words → (node_of words).tag ≡ 2 → IsLeaf words
@@ -61,17 +62,13 @@ written-behind a b at x h = record {
 pub entry-same : (v x : View Said) (said : Said) → x.used ≡ v.used → x.mine ≡ v.mine → entry_of x said ≡ entry_of v said
 entry-same v x said used mine i = record { number = slice_index (used i) 0; count = entries_under (slice_index (used i) 0) (mine i) + 1; said = said }
 
-module _ {X : Type 0} where
-  -- a page that the pass did not hold is not locked
-  unheld-not : (p : ℕ) (v : View X) → IsUnheld v p → IsLocking (seat_of v p) → ⊥
-  unheld-not p v u l = ⊎_elim (λ (e : (seat_of v p).exclusive ≡ true). let f = u.exclusive in cc) (λ (s : 1 ≤ (seat_of v p).shares). let z = u.shares in omega (arith, z, s)) l
-
 no-content-near : (before after : List ℕ) (p : ℕ) (d : Did) → (d.at ≡ places.State p) ⊎ (d.at ≡ places.Translation p) → Stores before after d
 no-content-near before after p d here n i is k wrote =
     ⊎_elim (λ (s : d.at ≡ places.State p). let no : places.State p ≡ places.Content n i = sym s ∙ is in absurd (cc)) (λ (t : d.at ≡ places.Translation p). let no : places.Translation p ≡ places.Content n i = sym t ∙ is in absurd (cc)) here
 
-cleared-none : (before after : List ℕ) (d : Did) → ((x : ℕ) → d.wrote ≡ Some x → ((p : ℕ) × (d.at ≡ places.State p)) × (state_of x ≡ UNLOCKED)) → Stores before after d
-cleared-none before after d clears n i is k wrote = let there = (clears k wrote).0 in let no : places.State there.0 ≡ places.Content n i = sym there.1 ∙ is in absurd (cc)
+cleared-none : (before after : List ℕ) (d : Did) → (d.wrote ≡ None) ⊎ IsUnmark d → Stores before after d
+cleared-none before after d clears n i is k wrote =
+    ⊎_elim (λ (none : d.wrote ≡ None). let no : None ≡ Some k = sym none ∙ wrote in absurd (cc)) (λ (u : IsUnmark d). let no : places.State u.page ≡ places.Content n i = sym u.at ∙ is in absurd (cc)) clears
 
 -- a leaf's words are not all zero
 pub not-zeros : (words : List ℕ) → (node_of words).tag ≡ 2 → words ≢ replicate 64 0
@@ -119,10 +116,26 @@ module _ (p f version word frame : ℕ) (dirty : Bool) (said : Said) (earlier : 
         writing = ap (λ (s : Seat). s.writing) e.seat ∙ d.holds.writing ∙ ap (λ (s : Seat). s.writing) l.seat;
       }
 
-      pub only : OnlyWrites p v w
-      only = record {
+      abbrev Writes : Did → Type 0
+      Writes t = (k : ℕ) → t.wrote ≡ Some k → IsWritePlace p f t.at ⊎ IsUnmark t
+
+      -- the steps of the lock are on the page's state word and its translation word, those of the draft where it is drafted, and that of the release
+      -- on the state word
+      steps : DraftsIn p f x y → Each Writes all
+      steps s =
+          let same : s.done ≡ d.done = append_cancel_left x.log s.done d.done (sym s.log ∙ d.elsewhere.steady.log) in
+          each-both Writes l.done (d.done ++ e.done)
+          (each-map _ Writes (λ t here k wrote. inl (⊎_elim (λ (at : t.at ≡ places.State p). inl at) (λ (at : t.at ≡ places.Translation p). inr (inl at)) here)) l.done l.places_are)
+          (each-both Writes d.done e.done
+          (subst (Each Writes) same (each-map _ Writes (λ t here k wrote. inl (inr (here k wrote))) s.done s.steps))
+          (each-map _ Writes (λ t here k wrote. inl (inl here)) e.done e.places_are))
+
+      pub only : DraftsIn p f x y → OnlyWrites p v w
+      only s = record {
+        frame = f;
         done = all;
         log = rest.steady.log;
+        steps = steps s;
         live = rest.steady.live;
         start = rest.steady.start;
         parts = rest.steady.parts;
@@ -171,9 +184,9 @@ module _ (p f version word frame : ℕ) (dirty : Bool) (said : Said) (earlier : 
             edit = edit (leaf-before tells tag);
           }
 
-      pub written : ((node_of before).tag ≡ 2) → (IsLeaf before → IsEdit before after said.call said.reply) → SetsDiffering before after x y → (v.start.tells ≡ true → IsKeptNow KeepsTree p (Unit {0}) w) → (a : IsWriteDone said v w) × (a.old ≡ before)
+      pub written : ((node_of before).tag ≡ 2) → (IsLeaf before → IsEdit before after said.call said.reply) → SetsDiffering before after x y → DraftsIn p f x y → (v.start.tells ≡ true → IsKeptNow KeepsTree p (Unit {0}) w) → (a : IsWriteDone said v w) × (a.old ≡ before)
       unfolding only
-      written tag edit sets kept =
+      written tag edit sets drafts kept =
           let used : y.used ≡ v.used = d.elsewhere.steady.parts.0 ∙ l.elsewhere.steady.parts.0 in
           let mine : y.mine ≡ v.mine = d.mine ∙ l.mine in
           let same : entry_of y said ≡ entry_of v said = entry-same v y said used mine in
@@ -192,7 +205,10 @@ module _ (p f version word frame : ℕ) (dirty : Bool) (said : Said) (earlier : 
               tag = tag;
               new = after;
               edit = edit;
-              writes = only;
+              writes = only drafts;
+              dirty = dirty;
+              held = x;
+              taken = l;
               locked = written-front l.done (d.done ++ e.done) (places.State p) (word_of LOCKED version) l.wrote;
               released = written-behind l.done (d.done ++ e.done) (places.State p) (version + 1) (written-behind d.done e.done (places.State p) (version + 1) e.wrote);
               mine = e.mine ∙ (λ i. mine i ++ same i ∷ []);
@@ -219,10 +235,16 @@ borne-later p old new said v x w start a = record {
   edit = a.edit;
 }
 
+-- a step of reads leaves a word where it takes a mark away
+cleared-only : (p f : ℕ) (d : Did) → (d.wrote ≡ None) ⊎ IsUnmark d → (k : ℕ) → d.wrote ≡ Some k → IsWritePlace p f d.at ⊎ IsUnmark d
+cleared-only p f d clears k wrote = ⊎_elim (λ (none : d.wrote ≡ None). let no : None ≡ Some k = sym none ∙ wrote in absurd (cc)) (λ (u : IsUnmark d). inr u) clears
+
 -- reads before a write
 pub only-later : (p : ℕ) (v x w : View Said) → ReadsOn v x → OnlyWrites p x w → OnlyWrites p v w
 only-later p v x w r a = record {
+  frame = a.frame;
   done = r.0.done ++ a.done;
+  steps = each-both _ r.0.done a.done (each-map _ _ (λ (t : Did) clears. λ k wrote. cleared-only p a.frame t clears k wrote) r.0.done r.0.clears) a.steps;
   log = a.log ∙ ap (λ (t : List Did). t ++ a.done) r.0.log ∙ append_assoc v.log r.0.done a.done;
   live = a.live ∙ r.0.live;
   start = a.start ∙ r.0.start;
@@ -259,6 +281,9 @@ written-later said v x w r a =
         new = a.new;
         edit = a.edit;
         writes = only-later a.page v x w r a.writes;
+        dirty = a.dirty;
+        held = a.held;
+        taken = a.taken;
         locked = written-behind r.0.done a.writes.done (places.State a.page) (word_of LOCKED a.version) a.locked;
         released = written-behind r.0.done a.writes.done (places.State a.page) (a.version + 1) a.released;
         mine = a.mine ∙ (λ i. r.1 i ++ same i ∷ []);

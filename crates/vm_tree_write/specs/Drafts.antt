@@ -1,6 +1,7 @@
 -- What setting words of a draft leaves of the view.
-use Rattle.std.specs.Prelude.{[], ◌++◌, ◌<◌, ◌≡◌, ◌≢◌, ◌≤◌, List, slice_index, Some, ℕ}
+use Rattle.std.specs.Prelude.{[], ◌++◌, ◌<◌, ◌≡◌, ◌≢◌, ◌≤◌, ◌⊎◌, List, slice_index, Some, ℕ}
 use Rattle.vm_rule.specs.Prelude.{Each, last_of}
+use Rattle.vm_rule.specs.declared.view.Place.{Place}
 use Rattle.vm_rule.specs.declared.view.Place.TheVariants as places
 use Rattle.vm_step.specs.Prelude.{Did, HoldsPage, IsAlone, ReadsAsBefore, StaysAlone, View}
 use Rattle.vm_guard.specs.{Guards.IsElsewhere, Sure.known_next, Sure.KnowsStates}
@@ -10,6 +11,10 @@ pub record IsDraftedAmong (from end : ℕ) (before after old new : List ℕ) : T
   pub under : (k : ℕ) → k < from → slice_index new k ≡ slice_index old k
   pub among : (k : ℕ) → from ≤ k → k < end → slice_index new k ≡ slice_index after k
   pub behind : (k : ℕ) → end ≤ k → slice_index new k ≡ slice_index before k
+
+-- a word of frame f, or the translation word of page p, which tells that the page is dirty there
+abbrev pub IsDraftPlace : ℕ → ℕ → Place → Type 0
+IsDraftPlace p f at = (at ≡ places.Translation p) ⊎ ((i : ℕ) × (at ≡ places.Content f i))
 
 module _ {X : Type 0} where
   -- words of the draft of page p, which the pass holds, were set; its last words are as they were
@@ -27,6 +32,12 @@ module _ {X : Type 0} where
   pub record KnowsSameStates (v w : View X) : Type 0 where
     pub states : KnowsStates v w
     pub next : IsAlone v → known_next w ≡ known_next v
+
+  -- the steps since then leave words in frame f and on the translation word of page p alone: page p is drafted there
+  pub record DraftsIn (p f : ℕ) (v w : View X) : Type 0 where
+    pub done : List Did
+    pub log : w.log ≡ v.log ++ done
+    pub steps : Each (λ d. (x : ℕ) → d.wrote ≡ Some x → IsDraftPlace p f d.at) done
 
   -- the steps since then store into words of frames only where the two pages differ, and there the words of the second one
   pub record SetsDiffering (before after : List ℕ) (v w : View X) : Type 0 where

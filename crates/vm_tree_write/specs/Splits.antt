@@ -1,14 +1,21 @@
 -- What a split of a full node does: its pages are locked, written and released together.
-use Rattle.std.specs.Prelude.{[], ◌<◌, ◌∷◌, ◌≡◌, ◌≢◌, ◌⊎◌, false, length, List, None, replicate, slice_index, Some, true, ℕ}
+use Rattle.std.specs.Prelude.{[], ◌++◌, ◌<◌, ◌∷◌, ◌≡◌, ◌≢◌, ◌⊎◌, false, length, List, None, replicate, slice_index, Some, true, ℕ}
 use Rattle.vm_map.specs.{declared.call.Said.Said, declared.window.TheConstants.MOST_PAIRS}
 use Rattle.vm_tree_model.specs.{Edits.child_of, Node.Covers}
 use Rattle.vm_tree_model.specs.Page.{IsInner, node_of, pairs_of}
 use Rattle.vm_core.specs.Prelude.{WORDS}
-use Rattle.vm_rule.specs.Prelude.{AreApart, began_of, changes_of, draft_of, has, last_of, seat_of, StartsWith, without_all}
-use Rattle.vm_step.specs.Prelude.{HoldsPage, View}
+use Rattle.vm_rule.specs.declared.view.Place.{Place}
+use Rattle.vm_rule.specs.Prelude.{AreApart, began_of, changes_of, draft_of, Each, has, IsLocking, last_of, seat_of, StartsWith, without_all}
+use Rattle.vm_step.specs.Prelude.{Did, HoldsPage, IsAlone, KnowsAsBefore, StaysAlone, View}
 use Rattle.vm_guard.specs.declared.exclusive.ExclusiveGuard.{ExclusiveGuard}
 use Rattle.vm_guard.specs.Groups.{AreReleased, GuardsHeld, pids_of}
 use Rattle.vm_tree_laws.specs.May.{MayRelease}
+use Rattle.vm_tree_write.specs.Drafts.{IsDraftPlace, KnowsSameStates}
+
+-- the place is one at which the page of one of these guards is drafted
+abbrev pub IsDrafted : List ExclusiveGuard → Place → Type 0
+IsDrafted [] at = ⊥
+IsDrafted (g ∷ gs) at = IsDraftPlace g.pid g.frame at ⊎ IsDrafted gs at
 
 module _ {X : Type 0} where
   -- page p, which the pass holds, has these last words, and this draft
@@ -16,14 +23,21 @@ module _ {X : Type 0} where
     pub last : (last_of v p).words ≡ old
     pub draft : draft_of v p ≡ new
 
-  -- the pass holds just the locks that it held, and made no entry and no release
-  pub record Stays (v w : View X) : Type 0 where
+  -- The pass holds just the locks that it held, and made no entry. Its steps left words where the pages of these guards are drafted, and nowhere else:
+  -- they locked and released nothing, and wrote no other page. So a pass that is alone finds all pages' words, and knows the table's state words,
+  -- and the next one, as before
+  pub record Stays (gs : List ExclusiveGuard) (v w : View X) : Type 0 where
+    pub done : List Did
+    pub log : w.log ≡ v.log ++ done
+    pub steps : Each (λ d. (x : ℕ) → d.wrote ≡ Some x → IsDrafted gs d.at) done
+    pub alone : StaysAlone v w
+    pub known : KnowsSameStates v w
+    pub knows : (q : ℕ) → has q (pids_of gs) ≡ false → IsLocking (seat_of v q) → KnowsAsBefore v w q
     pub start : w.start ≡ v.start
     pub parts : (w.used ≡ v.used) × (w.fresh ≡ v.fresh)
     pub mine : w.mine ≡ v.mine
     pub seen : StartsWith w.seen v.seen
     pub notes : w.notes ≡ v.notes
-    pub log : StartsWith w.log v.log
     pub frames : w.frames ≡ v.frames
     pub out : w.out ≡ v.out
     pub group : (w.pending ≡ v.pending) × (w.owed ≡ v.owed) × (w.next ≡ v.next)
@@ -45,6 +59,10 @@ module _ {X : Type 0} where
     pub owed : w.owed ≡ without_all pages v.owed
     pub next : v.next ≡ None → w.next ≡ None
     pub holds : (q : ℕ) → has q pages ≡ false → HoldsPage v w q
+    pub knows : (q : ℕ) → has q pages ≡ false → IsLocking (seat_of v q) → KnowsAsBefore v w q
+    -- the pass knows the table; where it was alone it finds the last words of each other page as they were
+    pub current : w.current ≡ true
+    pub alone : IsAlone v → (q : ℕ) → has q pages ≡ false → (last_of w q).words ≡ (last_of v q).words
     pub released : (q : ℕ) → has q pages ≡ true → ((seat_of w q).shares ≡ (seat_of v q).shares) × ((seat_of w q).exclusive ≡ false) × ((seat_of w q).writing ≡ (seat_of v q).writing)
 
 -- a node, its parent and a fresh page have these words, and the key leads from the parent to the node
@@ -88,9 +106,9 @@ pub record CanSplitRoot (meta low right top : ExclusiveGuard) (height : ℕ) (pa
 -- are a split of the tree, where blocks tell their words
 pub record IsSplitUp (pages : List ℕ) (v w : View Said) : Type 0 where
   pub held : View Said
-  pub stays : Stays v held
   pub first : ExclusiveGuard
   pub rest : List ExclusiveGuard
+  pub stays : Stays (first ∷ rest) v held
   pub pids : pids_of (first ∷ rest) ≡ pages
   pub several : (length rest ≡ 2) ⊎ (length rest ≡ 3)
   pub released : AreReleased first rest None held w
@@ -108,4 +126,9 @@ pub record KeepsLocksOnly (v w : View Said) : Type 0 where
   pub out : w.out ≡ v.out
   pub pending : w.pending ≡ v.pending
   pub owed : w.owed ≡ v.owed
+  -- it knows the next page at most where it knew it, or held it
+  pub next : (q : ℕ) → w.next ≡ Some q → (v.next ≡ Some q) ⊎ ((seat_of v q).exclusive ≡ true)
   pub holds : (q : ℕ) → HoldsPage v w q
+  -- what it knows of a page that it had locked is as it was; and where it knew the table it knows it
+  pub knows : (q : ℕ) → IsLocking (seat_of v q) → KnowsAsBefore v w q
+  pub current : v.current ≡ true → w.current ≡ true

@@ -28,9 +28,9 @@ pub record HasSplit (n : ℕ) (first second : OptGuard) (v w : View Said) : Type
 -- the leaf, the last page of a descent that met no full node, was validated
 pub record MetNoFullNode (v : View Said) (key : ℕ) (w : View Said) : Type 0 where
   pub leaf : OptGuard
-  pub page : List ℕ
+  pub loaded : List (ℕ × ℕ)
   pub found : View Said
-  pub roomy : IsRoomy v key leaf page found
+  pub roomy : IsRoomy v key leaf loaded found
   pub valid : IsValid Tied leaf.pid leaf.word leaf.frame None found w
 
 -- Why nothing was split for which n fresh pages and these two pages were needed: there were no frames for the fresh ones; one of the two could not

@@ -1,30 +1,40 @@
 -- What a write of the tree answers: the reply at the release of the leaf, or why it is to be tried again.
-use Rattle.std.specs.Prelude.{[], ◌++◌, ◌+◌, ◌∷◌, ◌≡◌, ◌≢◌, ◌⊎◌, length, List, None, Option, slice_index, Some, true, ℕ}
+use Rattle.std.specs.Prelude.{[], ◌++◌, ◌+◌, ◌∷◌, ◌≡◌, ◌≢◌, ◌⊎◌, Bool, length, List, None, Option, slice_index, Some, true, ℕ}
 use Rattle.vm_map.specs.{declared.call.Call.TheVariants.Del, declared.call.Call.TheVariants.Put, declared.call.Reply.TheVariants.Gone}
 use Rattle.vm_map.specs.{declared.call.Reply.Reply, declared.call.Said.Said, declared.window.TheConstants.MOST_PAIRS}
+use Rattle.vm_map.specs.Map.{lookup_at, Rises}
 use Rattle.vm_tree_model.specs.{Edits.IsFullFor, Node.Covers, Tree.map_of}
 use Rattle.vm_tree_model.specs.Page.{IsLeaf, node_of, pairs_of}
 use Rattle.vm_core.specs.Prelude.{LOCKED, page_at, version_of, word_of}
-use Rattle.vm_rule.specs.Prelude.{began_of, Each, Entry, entry_of, IsLocking, IsWhole, Kept, last_of, seat_of, StartsWith}
+use Rattle.vm_rule.specs.Prelude.{began_of, Each, entry_of, IsLocking, IsWhole, Kept, last_of, seat_of, StartsWith}
+use Rattle.vm_rule.specs.declared.view.Place.{Place}
 use Rattle.vm_rule.specs.declared.view.Place.TheVariants as places
 use Rattle.vm_step.specs.Prelude.{Did, HasWritten, HoldsPage, KnowsAsBefore, Tie, UnlockedExpected, View}
 use Rattle.vm_step.specs.declared.saw.Saw.{Saw}
-use Rattle.vm_guard.specs.{declared.deny.Deny.Deny, Guards.IsReading, Guards.IsValid}
+use Rattle.vm_guard.specs.{declared.deny.Deny.Deny, Guards.IsLocked, Guards.IsReading, Guards.IsValid, Quiet.IsUnmark}
 use Rattle.vm_guard.specs.declared.deny.Deny.TheVariants as denies
 use Rattle.vm_guard.specs.Denied.{AgainOrWorn, IsDenied, KeptWord}
 use Rattle.vm_tree_laws.specs.{History.IsLegal, Keeps.KeepsTree, May.IsEdit, Tied.Tied}
-use Rattle.vm_tree_rule.specs.{Leaves.ReadsOn, Seeks.HasRead, Shown.IsShown, Standing.Awaits, Standing.IsOpened, Turns.IsAstray, Turns.IsNeeded}
-use Rattle.vm_tree_read.specs.Reads.{IsAnswered}
-use Rattle.vm_tree_write.specs.{declared.write.Tried.Tried, declared.write.TryWrite.TryWrite}
+use Rattle.vm_tree_rule.specs.{Leaves.ReadsOn, Seeks.HasLoaded, Seeks.HasRead, Shown.IsShown, Standing.Awaits, Standing.IsOpened}
+use Rattle.vm_tree_rule.specs.Turns.{IsAstray, IsNeeded, TellLeaf}
+use Rattle.vm_node.specs.Loads.{IsPageWith}
+use Rattle.vm_tree_read.specs.Reads.{GainsEntry, IsAnswered}
+use Rattle.vm_tree_write.specs.{declared.write.Tried.Tried, declared.write.TryWrite.TryWrite, Drafts.IsDraftPlace}
 use Rattle.vm_tree_write.specs.declared.write.Tried.TheVariants as onces
 use Rattle.vm_tree_write.specs.declared.write.TryWrite.TheVariants as tries
 
+-- the state word of page p, or a place where the page is drafted in frame f
+abbrev pub IsWritePlace : ℕ → ℕ → Place → Type 0
+IsWritePlace p f at = (at ≡ places.State p) ⊎ IsDraftPlace p f at
+
 module _ {X : Type 0} where
-  -- the calls read pages, and locked page p, wrote it and released it; all of the view is as it was but open reads, ties, what the pass has seen
-  -- of the two lists, and its entries
+  -- The calls read pages, and locked page p, wrote it and released it: they left words on its state word, where it is drafted in this frame, and where a
+  -- mark was taken away, and nowhere else. All of the view is as it was but open reads, ties, what the pass has seen of the two lists, and its entries
   pub record OnlyWrites (p : ℕ) (v w : View X) : Type 0 where
+    pub frame : ℕ
     pub done : List Did
     pub log : w.log ≡ v.log ++ done
+    pub steps : Each (λ d. (x : ℕ) → d.wrote ≡ Some x → IsWritePlace p frame d.at ⊎ IsUnmark d) done
     pub live : w.live ≡ v.live
     pub start : w.start ≡ v.start
     pub parts : (w.used ≡ v.used) × (w.fresh ≡ v.fresh)
@@ -54,8 +64,8 @@ pub record IsBorneOutBy (page : ℕ) (old new : List ℕ) (said : Said) (v w : V
   pub edit : IsEdit old new said.call said.reply
 
 -- The call with its reply became the last entry, under the pass's first number and its next count, at the release of a leaf that the call had
--- locked at the version at which it had read it. Of the words that were read only those were stored that the call changes, each as it is afterwards;
--- and where blocks tell their words the entry is borne out
+-- locked, right after it had read it and at that version. Of the words that were read only those were stored that the call changes, each as it is
+-- afterwards, in the frame in which the leaf was locked; and where blocks tell their words the entry is borne out
 pub record IsWriteDone (said : Said) (v w : View Said) : Type 0 where
   pub page : ℕ
   pub version : ℕ
@@ -71,10 +81,13 @@ pub record IsWriteDone (said : Said) (v w : View Said) : Type 0 where
   pub new : List ℕ
   pub edit : IsLeaf old → IsEdit old new said.call said.reply
   pub writes : OnlyWrites page v w
+  pub dirty : Bool
+  pub held : View Said
+  pub taken : IsLocked Tied page writes.frame version dirty found held
   pub locked : HasWritten writes.done (places.State page) (word_of LOCKED version)
   pub released : HasWritten writes.done (places.State page) (version + 1)
   pub mine : w.mine ≡ v.mine ++ entry_of v said ∷ []
-  pub entry : (others : List (Entry Said)) × (w.seen ≡ (v.seen ++ others) ++ entry_of v said ∷ [])
+  pub entry : GainsEntry said v [] w
   pub stores : Each (λ d. (f i : ℕ) → d.at ≡ places.Content f i → (x : ℕ) → d.wrote ≡ Some x → (x ≡ slice_index new i) × (slice_index old i ≢ slice_index new i)) writes.done
   pub last : (last_of w page).version ≡ version + 1
   pub told : v.start.tells ≡ true → IsBorneOutBy page old new said v w
@@ -107,36 +120,54 @@ pub record IsFullLeaf (words : List ℕ) (key : ℕ) : Type 0 where
   pub covers : Covers (node_of words) key
   pub full : IsFullFor words key
 
--- page p was read and validated: its words have a leaf's tag, cover the key and have 28 pairs; and where blocks tell their words they are the page's,
--- a leaf's, which has not the key
+-- words of a page with 28 pairs, which has not the key where its keys rise
+pub record IsTightFor (words : List ℕ) (key : ℕ) : Type 0 where
+  pub count : length (pairs_of words) ≡ MOST_PAIRS
+  pub absent : (low high : ℕ) → Rises low high (pairs_of words) → lookup_at (pairs_of words) key ≡ None
+
+-- each page that has the words loaded is so
+abbrev pub TellTight : List (ℕ × ℕ) → ℕ → Type 0
+TellTight loaded key = (words : List ℕ) → IsPageWith loaded words → IsTightFor words key
+
+-- Words of page p were loaded, and it was validated: each page that has them has a leaf's tag, covers the key, has 28 pairs, and not the key where its
+-- keys rise; and where blocks tell their words the page itself has them, and is a leaf, which has not the key
 pub record IsTight (v : View Said) (key p : ℕ) (w : View Said) : Type 0 where
   pub word : ℕ
   pub frame : ℕ
   pub found : View Said
   pub opened : IsOpened v p word frame found
   pub valid : IsValid Tied p word frame None found w
-  pub words : List ℕ
-  pub read : HasRead w p words
-  pub tag : (node_of words).tag ≡ 2
-  pub covers : Covers (node_of words) key
-  pub count : length (pairs_of words) ≡ MOST_PAIRS
-  pub told : v.start.tells ≡ true → ((last_of w p).words ≡ words) × IsFullLeaf words key
+  pub loaded : List (ℕ × ℕ)
+  pub read : HasLoaded w p loaded
+  pub leaf : TellLeaf loaded key
+  pub full : TellTight loaded key
+  pub told : v.start.tells ≡ true → IsPageWith loaded (last_of w p).words × IsFullLeaf (last_of w p).words key
 
--- a try of a put: made in a leaf that had the key or room; or the leaf is full; or to be tried again; or for a page that is needed, or worn.
+-- where the keys of these words rise, one of them is this key
+abbrev pub HasKeyIn : List ℕ → ℕ → Type 0
+HasKeyIn words key = (low high : ℕ) → Rises low high (pairs_of words) → lookup_at (pairs_of words) key ≢ None
+
+-- they have the key, or fewer than 28 pairs
+abbrev pub HasRoomFor : List ℕ → ℕ → Type 0
+HasRoomFor words key = ¬ (IsFullFor words key)
+
+-- a try of a put: made in a leaf that had the key or room; or the leaf is full; or to be tried again; or for a page that is needed; or such a leaf as
+-- it could have been made in is at the last version.
 -- Without a reply the pass has no further entry, and locked nothing
 abbrev pub IsPut : ℕ → ℕ → TryWrite → View Said → View Said → Type 0
-IsPut key value (tries.Done reply) v w = (a : IsWriteDone (record { call = Put key value; reply = reply }) v w) × ¬ (IsFullFor a.old key)
+IsPut key value (tries.Done reply) v w = (a : IsWriteDone (record { call = Put key value; reply = reply }) v w) × HasRoomFor a.old key
 IsPut key value (tries.Again saw) v w = ReadsOn v w × IsWriteToTry v key saw w
 IsPut key value (tries.Need p) v w = ReadsOn v w × IsNeeded v key p w
-IsPut key value (tries.Worn p) v w = ReadsOn v w × IsWornLeaf v key p w
+IsPut key value (tries.Worn p) v w = ReadsOn v w × (a : IsWornLeaf v key p w) × HasRoomFor a.words key
 IsPut key value (tries.Tight p) v w = ReadsOn v w × IsTight v key p w
 
--- a try of a del: made in a leaf that has the key, or answered by a validation of a leaf that has it not, which locks nothing
+-- a try of a del: made in a leaf that has the key, which may be at the last version; or answered by a validation of a leaf that has it not, which locks
+-- nothing, at whatever version
 abbrev pub IsDel : ℕ → TryWrite → View Said → View Said → Type 0
 IsDel key (tries.Done reply) v w = (IsWriteDone (record { call = Del key; reply = reply }) v w × ¬ (IsVain (record { call = Del key; reply = reply }))) ⊎ (IsAnswered (record { call = Del key; reply = reply }) v w × IsVain (record { call = Del key; reply = reply }))
 IsDel key (tries.Again saw) v w = ReadsOn v w × IsWriteToTry v key saw w
 IsDel key (tries.Need p) v w = ReadsOn v w × IsNeeded v key p w
-IsDel key (tries.Worn p) v w = ReadsOn v w × IsWornLeaf v key p w
+IsDel key (tries.Worn p) v w = ReadsOn v w × (a : IsWornLeaf v key p w) × HasKeyIn a.words key
 IsDel key (tries.Tight p) v w = ⊥
 
 -- a try with its reply, which is made of the value that the key had

@@ -5,7 +5,7 @@ ghost use Rattle.vm_node.specs.Halves.{left_half};
 ghost use Rattle.vm_rule.specs.Prelude.{draft_of};
 ghost use Rattle.vm_step.specs.Prelude.{IsReady, IsSamePass, view};
 ghost use Rattle.vm_guard.specs.Guards.{IsHolding};
-ghost use Rattle.vm_tree_write.specs.Drafts.{IsDraftedAmong, IsRedrafted, KnowsSameStates, SetsDiffering};
+ghost use Rattle.vm_tree_write.specs.Drafts.{DraftsIn, IsDraftedAmong, IsRedrafted, KnowsSameStates, SetsDiffering};
 
 use vm_block::Block;
 use vm_guard::ExclusiveGuard;
@@ -106,9 +106,10 @@ pub fn redraft<U: Owner, B: Block, W: Wanted>(
     ensures pass { IsSamePass pass.old pass.new }
     ensures ready { IsReady words.now.table.shared.key B.tells words.now.table.shared.table_id pass.new }
     ensures holds { IsHolding guard.new.pid guard.new.frame guard.new.version guard.new.dirty (view pass.new) }
-    ensures guard { (guard.new.pid ≡ guard.old.pid) × (guard.new.version ≡ guard.old.version) }
+    ensures guard { (guard.new.pid ≡ guard.old.pid) × (guard.new.version ≡ guard.old.version) × (guard.new.frame ≡ guard.old.frame) }
     ensures draft { (view pass.old).start.tells ≡ true → draft_of (view pass.new) guard.old.pid ≡ W.words after.now }
     ensures redrafted { IsRedrafted guard.old.pid (view pass.old) (view pass.new) }
+    ensures drafts { DraftsIn guard.old.pid guard.old.frame (view pass.old) (view pass.new) }
     ensures known { KnowsSameStates (view pass.old) (view pass.new) }
     ensures differ { SetsDiffering before.now (W.words after.now) (view pass.old) (view pass.new) }
 {
@@ -136,11 +137,12 @@ fn redraft_words<U: Owner, B: Block, W: Wanted>(
     ensures pass { IsSamePass pass.old pass.new }
     ensures ready { IsReady words.now.table.shared.key B.tells words.now.table.shared.table_id pass.new }
     ensures holds { IsHolding guard.new.pid guard.new.frame guard.new.version guard.new.dirty (view pass.new) }
-    ensures guard { (guard.new.pid ≡ guard.old.pid) × (guard.new.version ≡ guard.old.version) }
+    ensures guard { (guard.new.pid ≡ guard.old.pid) × (guard.new.version ≡ guard.old.version) × (guard.new.frame ≡ guard.old.frame) }
     ensures size { from < end → length (W.words after.now) ≡ WORDS }
     ensures draft { (view pass.old).start.tells ≡ true → IsDraftedAmong from end before.now (W.words after.now)
         (draft_of (view pass.old) guard.old.pid) (draft_of (view pass.new) guard.old.pid) }
     ensures redrafted { IsRedrafted guard.old.pid (view pass.old) (view pass.new) }
+    ensures drafts { DraftsIn guard.old.pid guard.old.frame (view pass.old) (view pass.new) }
     ensures known { KnowsSameStates (view pass.old) (view pass.new) }
     ensures differ { SetsDiffering before.now (W.words after.now) (view pass.old) (view pass.new) }
 {

@@ -4,7 +4,8 @@ ghost use Rattle.vm_map.specs.declared.call.Call.TheVariants.{Del, Put};
 ghost use Rattle.vm_step.specs.Prelude.{AreHeld, IsReady, IsSamePass, view};
 ghost use Rattle.vm_tree_read.specs.Waiting.{LosesNone, Waits};
 ghost use Rattle.vm_tree_write.specs.Splits.{KeepsLocksOnly};
-ghost use Rattle.vm_tree_write.specs.Waiting.{IsNoRoomFault, IsPutFaulted, IsRoomFault, IsWriteFaulted, IsWriteReplied};
+ghost use Rattle.vm_tree_write.specs.Waiting.{IsDelRound, IsNoRoomFault, IsPutFaulted, IsPutRound, IsRoomFault, IsWriteFaulted, IsWriteReplied};
+ghost use Rattle.vm_tree_write.specs.Writes.{HasKeyIn};
 
 use crate::tries::{TrySplit, try_split};
 use crate::write::{Tried, del_once, put_once};
@@ -35,8 +36,8 @@ pub fn del<R: Wait, B: Block>(
     ensures held { AreHeld iface.new.frames (view pass.new) }
     ensures iface { (iface.new.home ≡ iface.old.home) × (iface.new.cap ≡ iface.old.cap) }
     ensures lost { LosesNone iface.old.frames (view pass.old) iface.new.frames (view pass.new) }
-    ensures ok { IfOk result (λ reply. IsWriteReplied Waits (record { call = Del key; reply = reply }) (view pass.old) (view pass.new)) }
-    ensures err { IfErr result (λ fault. IsWriteFaulted Waits key fault (view pass.old) (view pass.new)) }
+    ensures ok { IfOk result (λ reply. IsWriteReplied Waits IsDelRound (record { call = Del key; reply = reply }) (view pass.old) (view pass.new)) }
+    ensures err { IfErr result (λ fault. IsWriteFaulted Waits IsDelRound HasKeyIn key fault (view pass.old) (view pass.new)) }
 {
     let backoff = Backoff::new();
     for _ in rt.forever() {
@@ -114,7 +115,8 @@ pub fn put<R: Wait, B: Block>(
     ensures held { AreHeld iface.new.frames (view pass.new) }
     ensures iface { (iface.new.home ≡ iface.old.home) × (iface.new.cap ≡ iface.old.cap) }
     ensures lost { LosesNone iface.old.frames (view pass.old) iface.new.frames (view pass.new) }
-    ensures ok { IfOk result (λ reply. IsWriteReplied KeepsLocksOnly (record { call = Put key value; reply = reply }) (view pass.old) (view pass.new)) }
+    ensures ok { IfOk result (λ reply. IsWriteReplied KeepsLocksOnly IsPutRound (record { call = Put key value; reply = reply })
+        (view pass.old) (view pass.new)) }
     ensures err { IfErr result (λ fault. IsPutFaulted key fault (view pass.old) (view pass.new)) }
 {
     let backoff = Backoff::new();

@@ -1,22 +1,29 @@
 // The writes that never wait: each answers, or says why it is to be tried again.
-ghost use Rattle.std.specs.Prelude.{◌<◌, ◌≡◌, ◌≤◌, None, true};
-ghost use Rattle.vm_map.specs.declared.call.Reply.TheVariants.{Gone, Was};
+ghost use Rattle.std.specs.Prelude.{◌<◌, ◌≡◌, ◌≤◌, List, None, true, ℕ};
+ghost use Rattle.vm_map.specs.declared.{call.Call.TheVariants.Del, call.Reply.TheVariants.Gone, call.Reply.TheVariants.Was};
 ghost use Rattle.vm_tree_model.specs.{Node.Covers, Page.node_of};
+ghost use Rattle.vm_node.specs.Loads.{IsPageWith, Tells};
 ghost use Rattle.vm_step.specs.Prelude.{IsReady, IsSamePass, MayStep, UnlockedExpected, view};
 ghost use Rattle.vm_guard.specs.Denied.{AgainOrWorn, IsDenied, KeptWord};
-ghost use Rattle.vm_tree_rule.specs.{Resident.KnowsResident, Seeks.HasRead, Standing.Awaits, Standing.IsOpened, Turns.IsTurnedBack};
-ghost use Rattle.vm_tree_write.specs.Writes.{IsDel, IsFinal, IsPut, SaysWorn, with_reply};
+ghost use Rattle.vm_guard.specs.Guards.{IsReading};
+ghost use Rattle.vm_tree_rule.specs.{Few.ReadsInPlace, Resident.IsKnownNow, Resident.KnowsResident, Seeks.HasLoaded, Seeks.HasRead, Standing.Awaits, Standing.IsOpened};
+ghost use Rattle.vm_tree_rule.specs.Turns.{IsTurnedBack, TellLeaf};
+ghost use Rattle.vm_tree_read.specs.Reads.{TellReply};
+ghost use Rattle.vm_tree_write.specs.Writes.{HasKeyIn, HasRoomFor, IsDel, IsFinal, IsPut, IsTightFor, SaysWorn, TellTight, with_reply};
 
 use crate::leaf::write_leaf;
 use vm_block::Block;
-use vm_guard::Deny;
+use vm_guard::{Deny, OptGuard};
 use vm_map::call::{Call, Reply, Said};
-use vm_node::{del_edit, put_edit};
+use vm_map::window::MOST_PAIRS;
+use vm_node::pairs::count_at;
+use vm_node::{Place, del_edit, find_at, put_edit};
 use vm_page::PageBuf;
 use vm_rule::words::{Pass, Words};
-use vm_step::Saw;
-use vm_tree_read::answer::{answer, leaf_of};
-use vm_tree_rule::{Tree, Turn};
+use vm_step::{Saw, frame_place};
+use vm_tree_read::answer::{answer, leaf_at, read_leaf};
+use vm_tree_read::read::find_in_place;
+use vm_tree_rule::{InPlace, Tree, Turn};
 
 /// What a try of a write answers.
 #[derive(Debug, Drop)]
@@ -60,8 +67,12 @@ fn not_yet(turn: Turn) -> Tried
 /// Why the leaf was not written.
 fn unwritten(deny: Deny) -> Tried
     requires kind { AgainOrWorn deny }
-    ensures put { (key value p word frame : _) (page : _) (v x w : _) → IsOpened v p word frame x → Awaits x p word 0 key → HasRead x p page → ((node_of page).tag ≡ 2) × Covers (node_of page) key → IsDenied AgainOrWorn (KeptWord word) UnlockedExpected p deny x w → IsPut key value (with_reply Was result) v w }
-    ensures del { (key p word frame : _) (page : _) (v x w : _) → IsOpened v p word frame x → Awaits x p word 0 key → HasRead x p page → ((node_of page).tag ≡ 2) × Covers (node_of page) key → IsDenied AgainOrWorn (KeptWord word) UnlockedExpected p deny x w → IsDel key (with_reply Gone result) v w }
+    ensures put { (key value p word frame : _) (page : _) (v x w : _) → IsOpened v p word frame x → Awaits x p word 0 key → HasRead x p page
+        → ((node_of page).tag ≡ 2) × Covers (node_of page) key → HasRoomFor page key
+        → IsDenied AgainOrWorn (KeptWord word) UnlockedExpected p deny x w → IsPut key value (with_reply Was result) v w }
+    ensures del { (key p word frame : _) (page : _) (v x w : _) → IsOpened v p word frame x → Awaits x p word 0 key → HasRead x p page
+        → ((node_of page).tag ≡ 2) × Covers (node_of page) key → HasKeyIn page key
+        → IsDenied AgainOrWorn (KeptWord word) UnlockedExpected p deny x w → IsDel key (with_reply Gone result) v w }
     ensures settled { (reply : _) → SaysWorn deny → IsFinal (with_reply reply result) }
 {
     match deny {
@@ -72,7 +83,63 @@ fn unwritten(deny: Deny) -> Tried
     }
 }
 
-/// Puts a value at the key, or says why not.
+/// Whether the page has 28 pairs and not the key, from at most 9 words loaded: the key is looked for only where the count is 28.
+fn is_tight_at<P: Place>(place: &mut P, key: u64) -> bool
+    requires ready { P.ready place.old }
+    ensures ready { P.ready place.new }
+    ensures told { Tells P.loads place.old 9 place.new (λ page. result ≡ true → IsTightFor page key) }
+{
+    let count = count_at(place);
+    if count == MOST_PAIRS {
+        return match find_at(place, key) {
+            None => true,
+            Some(_) => false,
+        };
+    }
+    false
+}
+
+/// Whether the page under the guard is so, found where it stands.
+fn is_tight_in_place<B: Block>(
+    words: &Words<Tree, B>,
+    pass: &mut Pass<Tree>,
+    guard: &OptGuard,
+    key: u64,
+) -> bool
+    requires ready { IsReady words.now.table.shared.key B.tells words.now.table.shared.table_id pass.old }
+    requires reading { IsReading guard.now.pid guard.now.word guard.now.frame (view pass.old) }
+    ensures pass { IsSamePass pass.old pass.new }
+    ensures ready { IsReady words.now.table.shared.key B.tells words.now.table.shared.table_id pass.new }
+    ensures found { ReadsInPlace guard.now.pid guard.now.word guard.now.frame 9 (view pass.old) (view pass.new) (λ loaded.
+        (page : List ℕ) → IsPageWith loaded page → result ≡ true → IsTightFor page key) }
+{
+    let mut place = InPlace {
+        words,
+        pass: &mut *pass,
+        guard,
+        first: frame_place(words, guard.frame),
+    };
+    is_tight_at(&mut place, key)
+}
+
+/// Ends a put at a leaf of which words were loaded that tell that it has 28 pairs and not the key, once they are validated.
+fn tight<B: Block>(words: &Words<Tree, B>, pass: &mut Pass<Tree>, guard: &OptGuard) -> Tried
+    requires ready { IsReady words.now.table.shared.key B.tells words.now.table.shared.table_id pass.old }
+    requires reading { IsReading guard.now.pid guard.now.word guard.now.frame (view pass.old) }
+    ensures pass { IsSamePass pass.old pass.new }
+    ensures ready { IsReady words.now.table.shared.key B.tells words.now.table.shared.table_id pass.new }
+    ensures put { (key value : _) (loaded : _) (v : _) → IsOpened v guard.now.pid guard.now.word guard.now.frame (view pass.old) → HasLoaded (view pass.old) guard.now.pid loaded
+        → TellLeaf loaded key → TellTight loaded key → IsPut key value (with_reply Was result) v (view pass.new) }
+    ensures sure { IsKnownNow guard.now.pid guard.now.word (view pass.old) → IsFinal (with_reply Was result) }
+    ensures known { IsKnownNow guard.now.pid guard.now.word (view pass.old) → KnowsResident (view pass.new) }
+{
+    match guard.validate_silently(words, pass) {
+        Ok(()) => Tried::Tight(guard.pid),
+        Err(saw) => Tried::Again(saw),
+    }
+}
+
+/// Puts a value at the key, or says why not. The leaf is read whole only where it has the key or room.
 pub(crate) fn put_once<B: Block>(
     words: &Words<Tree, B>,
     pass: &mut Pass<Tree>,
@@ -88,19 +155,19 @@ pub(crate) fn put_once<B: Block>(
     ensures sure { B.tells ≡ true → KnowsResident (view pass.old) → IsFinal (with_reply Was result) }
     ensures known { B.tells ≡ true → KnowsResident (view pass.old) → KnowsResident (view pass.new) }
 {
-    let mut page = PageBuf::zero();
-    let guard = match leaf_of(words, pass, key, &mut page) {
+    let guard = match leaf_at(words, pass, key) {
         Ok(guard) => guard,
         Err(turn) => return not_yet(turn),
     };
+    if is_tight_in_place(words, pass, &guard, key) {
+        return tight(words, pass, &guard);
+    }
+    let mut page = PageBuf::zero();
+    if let Err(turn) = read_leaf(words, pass, &guard, key, &mut page) {
+        return not_yet(turn);
+    }
     match put_edit(&page, key, value) {
-        Err(_) => {
-            let pid = guard.pid;
-            match guard.validate_silently(words, pass) {
-                Ok(()) => Tried::Tight(pid),
-                Err(saw) => Tried::Again(saw),
-            }
-        }
+        Err(_) => tight(words, pass, &guard),
         Ok((was, edit)) => {
             let said = Said {
                 call: Call::Put { key, value },
@@ -139,7 +206,33 @@ pub fn try_put<B: Block>(
     }
 }
 
-/// Takes the pair of the key out, or says why not.
+/// Answers a del of a key that the leaf has not, as words loaded of it tell, once they are validated.
+fn missed<B: Block>(
+    words: &Words<Tree, B>,
+    pass: &mut Pass<Tree>,
+    guard: &OptGuard,
+    key: u64,
+) -> Tried
+    requires ready { IsReady words.now.table.shared.key B.tells words.now.table.shared.table_id pass.old }
+    requires reading { IsReading guard.now.pid guard.now.word guard.now.frame (view pass.old) }
+    requires proves { (loaded : List (ℕ × ℕ)) × HasLoaded (view pass.old) guard.now.pid loaded × TellReply loaded (record { call = Del key; reply = Gone None }) }
+    ensures pass { IsSamePass pass.old pass.new }
+    ensures ready { IsReady words.now.table.shared.key B.tells words.now.table.shared.table_id pass.new }
+    ensures del { (v : _) → IsOpened v guard.now.pid guard.now.word guard.now.frame (view pass.old) → IsDel key (with_reply Gone result) v (view pass.new) }
+    ensures sure { IsKnownNow guard.now.pid guard.now.word (view pass.old) → IsFinal (with_reply Gone result) }
+    ensures known { IsKnownNow guard.now.pid guard.now.word (view pass.old) → KnowsResident (view pass.new) }
+{
+    let said = Said {
+        call: Call::Del { key },
+        reply: Reply::Gone(None),
+    };
+    match answer(words, pass, guard, &said) {
+        Ok(()) => Tried::Done(None),
+        Err(saw) => Tried::Again(saw),
+    }
+}
+
+/// Takes the pair of the key out, or says why not. The leaf is read whole only where it has the key.
 pub(crate) fn del_once<B: Block>(words: &Words<Tree, B>, pass: &mut Pass<Tree>, key: u64) -> Tried
     requires pass { MayStep words.now.table.shared.table_id pass.old }
     requires pages { 1 ≤ words.now.table.shared.key.pages }
@@ -150,22 +243,20 @@ pub(crate) fn del_once<B: Block>(words: &Words<Tree, B>, pass: &mut Pass<Tree>, 
     ensures sure { B.tells ≡ true → KnowsResident (view pass.old) → IsFinal (with_reply Gone result) }
     ensures known { B.tells ≡ true → KnowsResident (view pass.old) → KnowsResident (view pass.new) }
 {
-    let mut page = PageBuf::zero();
-    let guard = match leaf_of(words, pass, key, &mut page) {
+    let guard = match leaf_at(words, pass, key) {
         Ok(guard) => guard,
         Err(turn) => return not_yet(turn),
     };
+    match find_in_place(words, pass, &guard, key) {
+        None => return missed(words, pass, &guard, key),
+        Some(_) => {}
+    }
+    let mut page = PageBuf::zero();
+    if let Err(turn) = read_leaf(words, pass, &guard, key, &mut page) {
+        return not_yet(turn);
+    }
     match del_edit(&page, key) {
-        None => {
-            let said = Said {
-                call: Call::Del { key },
-                reply: Reply::Gone(None),
-            };
-            match answer(words, pass, &guard, &said) {
-                Ok(()) => Tried::Done(None),
-                Err(saw) => Tried::Again(saw),
-            }
-        }
+        None => missed(words, pass, &guard, key),
         Some((was, edit)) => {
             let said = Said {
                 call: Call::Del { key },

@@ -21,6 +21,9 @@ returns-then-is_leaf_in_place-clause-leaf g c =
     let f = c.is_leaf_in_place.ensures.found in
     (f.loaded, (_, f.loads.loads), λ page with. (f.tells page with).yes c.if-is_leaf_in_place.true)
 
+pub returns-then-is_leaf_in_place-clause-awaits : goal.returns-then-is_leaf_in_place-clause-awaits
+returns-then-is_leaf_in_place-clause-awaits g c = awaits-later _ _ _ _ _ _ (loads-reads _ _ _ _ _ _ c.is_leaf_in_place.ensures.found.loads).0 c.in-Ok.ensures.awaits
+
 pub returns-then-is_leaf_in_place-clause-known : goal.returns-then-is_leaf_in_place-clause-known
 returns-then-is_leaf_in_place-clause-known g c tells k =
     let loads = c.is_leaf_in_place.ensures.found.loads in

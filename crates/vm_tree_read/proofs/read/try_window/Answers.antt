@@ -1,8 +1,8 @@
 use Rattle.std.proofs.Common.{◌*◌, ◌+◌, ◌++◌, arith, min, sym, true≢false}
-use Rattle.vm_tree_rule.proofs.{Counting.within-wider, Surely.known-same}
+use Rattle.vm_tree_rule.proofs.{Counting.within-wider, Onward.loaded-more, Surely.known-same}
 use Rattle.vm_tree_rule.proofs.Readings.{loads-reads, opened-loads, reads-then}
-use Rattle.vm_tree_read.proofs.Answering.{answered-later, loaded-more, refused, reply-told}
-use Rattle.vm_tree_read.proofs.Reckoning.{leaf-few, place-few}
+use Rattle.vm_tree_read.proofs.Answering.{answered-later, refused, reply-told}
+use Rattle.vm_tree_read.proofs.Reckoning.{leaf-few, leaf-height, place-few}
 use Rattle.vm_tree_read.proofs.read.try_window.Goals as goal
 
 pub returns-in-Err-clause-tried : goal.returns-in-Err-clause-tried
@@ -28,6 +28,14 @@ returns-in-Err-clause-few g c = within-wider _ _ _ _ (λ h. omega arith) c.in-Er
 
 pub returns-in-Ok-answer-clause-few : goal.returns-in-Ok-answer-clause-few
 returns-in-Ok-answer-clause-few g c = let k = c.in-Ok.ensures.height in leaf-few (λ h. 2 + 11 * h + (2 * min c.args.most 28 + 13)) (2 * min c.args.most 28 + 9) k.0 _ _ _ _ k.1 (place-few _ _ _ _ _ _ _ c.window_in_place-shown.ensures.found) c.in-Ok-answer.ensures.words (omega arith)
+
+pub returns-in-Ok-answer-clause-height : goal.returns-in-Ok-answer-clause-height
+returns-in-Ok-answer-clause-height g c done =
+    let k = c.in-Ok.ensures.height in
+    (k.0, leaf-height (2 + 11 * k.0 + (2 * min c.args.most 28 + 13)) (2 * min c.args.most 28 + 9) k.0 _ _ _ _ k.1 (place-few _ _ _ _ _ _ _ c.window_in_place-shown.ensures.found) c.in-Ok-answer.ensures.words (omega arith))
+
+pub returns-in-Err-clause-height : goal.returns-in-Err-clause-height
+returns-in-Err-clause-height g c done = absurd (c.not_yet.ensures.unanswered done)
 
 pub returns-in-Err-answer-clause-few : goal.returns-in-Err-answer-clause-few
 returns-in-Err-answer-clause-few g c = let k = c.in-Ok.ensures.height in leaf-few (λ h. 2 + 11 * h + (2 * min c.args.most 28 + 13)) (2 * min c.args.most 28 + 9) k.0 _ _ _ _ k.1 (place-few _ _ _ _ _ _ _ c.window_in_place-shown.ensures.found) c.in-Err-answer.ensures.words (omega arith)

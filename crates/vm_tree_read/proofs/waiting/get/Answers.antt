@@ -1,26 +1,27 @@
-use Rattle.std.proofs.Common.{subst}
+use Rattle.std.proofs.Common.{inl, inr, subst}
 use Rattle.vm_step.specs.Prelude.{view}
 use Rattle.vm_exmap.proofs.Handing.{held-on}
 use Rattle.vm_tree_rule.specs.Turns.{IsTurnedBack}
 use Rattle.vm_tree_read.proofs.Lasting.{reads-wait, replied, turned-reads, waits-self, waits-then}
 use Rattle.vm_tree_read.proofs.Losing.{loses-same, loses-then, lost-on}
 use Rattle.vm_tree_read.proofs.Rounds.{tried-call, tried-none, tried-read}
+use Rattle.vm_tree_read.specs.Waiting.{AreRounds as rounds, IsRound as round}
 use Rattle.vm_tree_read.proofs.waiting.get.Goals as goal
 
 pub loop-init : goal.loop-init
-loop-init g c = tried-none _ _ (waits-self _) c.requires.ready c.requires.frames
+loop-init g c = tried-none _ _ (waits-self _, rounds.none) c.requires.ready c.requires.frames
 
 pub loop-preserved-in-Err-Again : goal.loop-preserved-in-Err-Again
 loop-preserved-in-Err-Again g c =
     let i = c.loop.invariant in
-    let reads = turned-reads _ _ _ _ c.in-Err-Again.ensures.err in
-    tried-read i c.look_up.new.pass c.look_up.ensures.pass reads c.look_up.ensures.ready (waits-then _ _ _ i.left (reads-wait _ _ reads))
+    let back = subst (λ t. IsTurnedBack (view c.loop.pass) c.args.key t (view c.look_up.new.pass)) c.in-Err-Again.field-0-is c.in-Err-Again.ensures.err in
+    tried-read i c.look_up.new.pass c.look_up.ensures.pass back.0 c.look_up.ensures.ready (waits-then _ _ _ i.left.0 (reads-wait _ _ back.0), rounds.further _ _ i.left.1 (round.again _ back.0 (inl back.1)))
 
 pub loop-preserved-in-Err-Astray : goal.loop-preserved-in-Err-Astray
 loop-preserved-in-Err-Astray g c =
     let i = c.loop.invariant in
-    let reads = turned-reads _ _ _ _ c.in-Err-Astray.ensures.err in
-    tried-read i c.look_up.new.pass c.look_up.ensures.pass reads c.look_up.ensures.ready (waits-then _ _ _ i.left (reads-wait _ _ reads))
+    let back = subst (λ t. IsTurnedBack (view c.loop.pass) c.args.key t (view c.look_up.new.pass)) c.in-Err-Astray.field-0-is c.in-Err-Astray.ensures.err in
+    tried-read i c.look_up.new.pass c.look_up.ensures.pass back.0 c.look_up.ensures.ready (waits-then _ _ _ i.left.0 (reads-wait _ _ back.0), rounds.further _ _ i.left.1 (round.again _ back.0 (inr back.1)))
 
 pub fetch-requires-clause-frames : goal.fetch-requires-clause-frames
 fetch-requires-clause-frames g c =
@@ -30,8 +31,9 @@ pub loop-preserved : goal.loop-preserved
 loop-preserved g c =
     let i = c.loop.invariant in
     let k = c.fetch.ensures in
-    let reads = turned-reads _ _ _ _ c.in-Err-Need.ensures.err in
-    tried-call i c.look_up.new.pass c.look_up.ensures.pass reads c.fetch.new.pass c.fetch.new.iface k.pass k.ready k.held k.lost k.iface (waits-then _ _ _ i.left (waits-then _ _ _ (reads-wait _ _ reads) k.waits))
+    let needed = subst (λ t. IsTurnedBack (view c.loop.pass) c.args.key t (view c.look_up.new.pass)) c.in-Err-Need.field-0-is c.in-Err-Need.ensures.err in
+    let reads = needed.0 in
+    tried-call i c.look_up.new.pass c.look_up.ensures.pass reads c.fetch.new.pass c.fetch.new.iface k.pass k.ready k.held k.lost k.iface (waits-then _ _ _ i.left.0 (waits-then _ _ _ (reads-wait _ _ reads) k.waits), rounds.further _ _ i.left.1 (round.needed _ _ reads needed.1 c.in-Ok-fetch.ensures.ok))
 
 pub returns-in-Err-clause-err : goal.returns-in-Err-clause-err
 returns-in-Err-clause-err g c =
@@ -40,12 +42,13 @@ returns-in-Err-clause-err g c =
     record {
       tried = view c.loop.pass;
       found = view c.look_up.new.pass;
-      waits = i.left;
+      rounds = i.left.1;
+      waits = i.left.0;
       page = c.in-Err-Need.pid;
       reads = needed.0;
       needed = needed.1;
       fault_is = c.in-Err.ensures.err;
-      leaves = waits-then _ _ _ i.left (waits-then _ _ _ (reads-wait _ _ needed.0) c.fetch.ensures.waits);
+      leaves = waits-then _ _ _ i.left.0 (waits-then _ _ _ (reads-wait _ _ needed.0) c.fetch.ensures.waits);
     }
 
 pub returns-in-Ok-clause-ok : goal.returns-in-Ok-clause-ok

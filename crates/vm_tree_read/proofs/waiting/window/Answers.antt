@@ -3,16 +3,17 @@ use Rattle.vm_exmap.proofs.Handing.{held-on}
 use Rattle.vm_tree_read.proofs.Lasting.{reads-wait, replied, waits-self, waits-then}
 use Rattle.vm_tree_read.proofs.Losing.{loses-same, loses-then, lost-on}
 use Rattle.vm_tree_read.proofs.Rounds.{tried-call, tried-none, tried-read}
+use Rattle.vm_tree_read.specs.Waiting.{AreRounds as rounds, IsRound as round}
 use Rattle.vm_tree_read.proofs.waiting.window.Goals as goal
 
 pub loop-init : goal.loop-init
-loop-init g c = tried-none _ _ (waits-self _) c.requires.ready c.requires.frames
+loop-init g c = tried-none _ _ (waits-self _, rounds.none) c.requires.ready c.requires.frames
 
 pub loop-preserved-in-Again : goal.loop-preserved-in-Again
 loop-preserved-in-Again g c =
     let i = c.loop.invariant in
     let reads = c.in-Again.ensures.tried.0 in
-    tried-read i c.try_window.new.pass c.try_window.ensures.pass reads c.try_window.ensures.ready (waits-then _ _ _ i.left (reads-wait _ _ reads))
+    tried-read i c.try_window.new.pass c.try_window.ensures.pass reads c.try_window.ensures.ready (waits-then _ _ _ i.left.0 (reads-wait _ _ reads), rounds.further _ _ i.left.1 (round.again _ reads c.in-Again.ensures.tried.1))
 
 pub fetch-requires-clause-frames : goal.fetch-requires-clause-frames
 fetch-requires-clause-frames g c =
@@ -23,7 +24,7 @@ loop-preserved g c =
     let i = c.loop.invariant in
     let k = c.fetch.ensures in
     let reads = c.in-Need.ensures.tried.0 in
-    tried-call i c.try_window.new.pass c.try_window.ensures.pass reads c.fetch.new.pass c.fetch.new.iface k.pass k.ready k.held k.lost k.iface (waits-then _ _ _ i.left (waits-then _ _ _ (reads-wait _ _ reads) k.waits))
+    tried-call i c.try_window.new.pass c.try_window.ensures.pass reads c.fetch.new.pass c.fetch.new.iface k.pass k.ready k.held k.lost k.iface (waits-then _ _ _ i.left.0 (waits-then _ _ _ (reads-wait _ _ reads) k.waits), rounds.further _ _ i.left.1 (round.needed _ _ reads c.in-Need.ensures.tried.1 c.in-Ok.ensures.ok))
 
 pub returns-in-Err-clause-err : goal.returns-in-Err-clause-err
 returns-in-Err-clause-err g c =
@@ -32,12 +33,13 @@ returns-in-Err-clause-err g c =
     record {
       tried = view c.loop.pass;
       found = view c.try_window.new.pass;
-      waits = i.left;
+      rounds = i.left.1;
+      waits = i.left.0;
       page = c.in-Need.pid;
       reads = needed.0;
       needed = needed.1;
       fault_is = c.in-Err.ensures.err;
-      leaves = waits-then _ _ _ i.left (waits-then _ _ _ (reads-wait _ _ needed.0) c.fetch.ensures.waits);
+      leaves = waits-then _ _ _ i.left.0 (waits-then _ _ _ (reads-wait _ _ needed.0) c.fetch.ensures.waits);
     }
 
 pub returns-in-Done-clause-ok : goal.returns-in-Done-clause-ok

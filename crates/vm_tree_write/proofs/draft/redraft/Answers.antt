@@ -2,8 +2,8 @@
 use Rattle.std.proofs.Common.{◌∙◌, ◌≡◌, ap, arith, length, List, min, slice_index, subst, sym, true, ℕ}
 use Rattle.vm_rule.specs.Prelude.{draft_of}
 use Rattle.vm_step.specs.Prelude.{Origin, view}
-use Rattle.vm_tree_write.specs.Drafts.{IsDraftedAmong, IsRedrafted}
-use Rattle.vm_tree_write.proofs.Drafting.{differs-then, drafted-whole, pages-then, redrafted-then}
+use Rattle.vm_tree_write.specs.Drafts.{DraftsIn, IsDraftedAmong, IsRedrafted}
+use Rattle.vm_tree_write.proofs.Drafting.{differs-then, drafted-whole, drafts-then, pages-then, redrafted-then}
 use Rattle.vm_tree_write.proofs.draft.redraft.Goals as goal
 
 pub redraft_words-requires-clause-draft : goal.redraft_words-requires-clause-draft
@@ -19,6 +19,13 @@ pub returns-clause-redrafted : goal.returns-clause-redrafted
 returns-clause-redrafted g c =
     let two = c.redraft_words-2.ensures.redrafted in
     redrafted-then _ _ _ _ c.redraft_words.ensures.redrafted (subst (λ (n : ℕ). IsRedrafted n (view c.redraft_words.new.pass) (view c.redraft_words-2.new.pass)) c.redraft_words.ensures.guard.0 two)
+
+pub returns-clause-drafts : goal.returns-clause-drafts
+returns-clause-drafts g c =
+    let one = c.redraft_words.ensures.guard in
+    let two = c.redraft_words-2.ensures.drafts in
+    let here = subst (λ (n : ℕ). DraftsIn n c.redraft_words.new.guard.frame (view c.redraft_words.new.pass) (view c.redraft_words-2.new.pass)) one.0 two in
+    drafts-then _ _ _ _ _ c.redraft_words.ensures.drafts (subst (λ (n : ℕ). DraftsIn c.args.guard.now.pid n (view c.redraft_words.new.pass) (view c.redraft_words-2.new.pass)) one.2 here)
 
 pub returns-clause-known : goal.returns-clause-known
 returns-clause-known g c = pages-then c.args.guard.now.pid _ _ _ c.redraft_words.ensures.redrafted c.redraft_words.ensures.known c.redraft_words-2.ensures.known

@@ -2,7 +2,7 @@ use Rattle.std.proofs.Common.{◌<◌, ◌∙◌, ap, arith, length, refl, subst
 use Rattle.vm_rule.specs.Prelude.{draft_of}
 use Rattle.vm_step.specs.Prelude.{view}
 use Rattle.vm_guard.specs.Guards.{IsSet}
-use Rattle.vm_tree_write.proofs.Drafting.{differs-more, differs-self, drafted-none, drafted-same, drafted-set, pages-more, pages-self, redrafted-self, set-more}
+use Rattle.vm_tree_write.proofs.Drafting.{differs-more, differs-self, drafted-none, drafted-same, drafted-set, drafts-more, drafts-self, pages-more, pages-self, redrafted-self, set-more}
 use Rattle.vm_tree_write.proofs.draft.redraft_words.Goals.{else-word-get, then-word-get}
 use Rattle.vm_tree_write.proofs.draft.redraft_words.Goals as goal
 
@@ -11,7 +11,8 @@ loop-i-init g c = record {
   same = (refl, refl);
   ready = c.requires.ready;
   holds = c.requires.holds;
-  guard = (refl, refl);
+  guard = (refl, refl, refl);
+  drafts = drafts-self _ _ _;
   redrafted = redrafted-self _ _;
   known = pages-self c.args.guard.now.pid _;
   differ = differs-self _ _ _;
@@ -33,6 +34,7 @@ loop-i-preserved g c =
             ready = w.set.ensures.ready;
             holds = rw w.set.ensures.guard w.set.ensures.holds;
             guard = rw w.set.ensures.guard i.guard;
+            drafts = drafts-more _ _ _ _ _ _ _ _ i.drafts (subst (λ (n : ℕ). IsSet c.args.guard.now.pid n c.loop-i.guard.dirty c.loop-i.i c.word-word.result (view c.loop-i.pass) (view w.set.new.pass)) i.guard.2 s);
             redrafted = set-more _ _ _ _ _ _ _ _ i.redrafted s;
             known = pages-more _ _ _ _ _ (view c.args.pass.now) (view c.loop-i.pass) _ (subst (λ (n : ℕ). n < (view c.loop-i.pass).start.pages) i.guard.0 i.holds.page) i.holds.frame_is inside i.redrafted i.known s;
             differ = differs-more c.args.before.now wanted _ _ _ c.loop-i.i c.word-word.result _ _ _ i.differ s c.word-word.ensures.word (λ e. w.if-word-get.true (c.word-word.ensures.word ∙ sym e ∙ sym c.get.ensures.word));
@@ -46,6 +48,7 @@ loop-i-preserved g c =
         ready = i.ready;
         holds = i.holds;
         guard = i.guard;
+        drafts = i.drafts;
         redrafted = i.redrafted;
         known = i.known;
         differ = i.differ;

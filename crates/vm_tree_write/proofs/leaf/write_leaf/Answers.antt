@@ -6,7 +6,7 @@ use Rattle.vm_step.specs.Prelude.{IsClaimed, IsKeptNow, Origin, UnlockedExpected
 use Rattle.vm_guard.specs.{Denied.AgainOrWorn, Denied.KeptWord, Guards.IsReleased}
 use Rattle.vm_tree_laws.specs.Keeps.{KeepsTree}
 use Rattle.vm_tree_rule.proofs.{Readings.denied-reads, Surely.resident-same}
-use Rattle.vm_tree_write.specs.Drafts.{IsRedrafted}
+use Rattle.vm_tree_write.specs.Drafts.{DraftsIn, IsRedrafted}
 use Rattle.vm_tree_write.proofs.{Knowing.resident-written, Settling.only-worn}
 use Rattle.vm_tree_write.proofs.leaf.write_leaf.Goals as goal
 use Rattle.vm_tree_write.proofs.Writing.{draft-is, not-zeros, old-is, owner, written}
@@ -57,7 +57,7 @@ returns-clause-ok g c =
     written c.args.guard.pid _ _ c.args.guard.word c.args.guard.frame _ c.args.said.now c.requires.loads.0 c.args.before.now (edited c.args.before.now c.args.edit) (view c.args.pass.now) (view c.upgrade.new.pass) (view c.redraft.new.pass) (view c.release.new.pass) c.requires.reading c.requires.size c.requires.loads.1 k.1 k.2
     (redrafted-at _ _ (view c.upgrade.new.pass) (view c.redraft.new.pass) k.0 c.redraft.ensures.redrafted) (drafted-at _ _ (view c.args.pass.now) (view c.upgrade.new.pass) (view c.redraft.new.pass) _ k.0 k.2.elsewhere.steady.start c.redraft.ensures.draft)
     (subst (λ (n : ℕ). IsReleased c.args.guard.pid n (Some c.args.said.now) (view c.redraft.new.pass) (view c.release.new.pass)) c.redraft.ensures.guard.1
-    (subst (λ (n : ℕ). IsReleased n c.redraft.new.guard.version (Some c.args.said.now) (view c.redraft.new.pass) (view c.release.new.pass)) same c.release.ensures.released)) c.requires.leaf c.requires.edit c.redraft.ensures.differ
+    (subst (λ (n : ℕ). IsReleased n c.redraft.new.guard.version (Some c.args.said.now) (view c.redraft.new.pass) (view c.release.new.pass)) same c.release.ensures.released)) c.requires.leaf c.requires.edit c.redraft.ensures.differ (subst (λ (n : ℕ). DraftsIn n c.in-Ok.held.frame (view c.upgrade.new.pass) (view c.redraft.new.pass)) k.0 c.redraft.ensures.drafts)
     (λ tells. subst (λ (n : ℕ). IsKeptNow KeepsTree n (Unit {0}) (view c.release.new.pass)) same (c.release.ensures.kept (sym c.requires.ready.table.tells_is ∙ tells)))
 
 pub returns-in-Err-clause-sure : goal.returns-in-Err-clause-sure

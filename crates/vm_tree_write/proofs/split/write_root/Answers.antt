@@ -1,13 +1,13 @@
-use Rattle.std.proofs.Common.{◌+◌, ◌∙◌, ◌≡◌, ap, refl, slice_set, subst, sym, true, ℕ}
+use Rattle.std.proofs.Common.{◌+◌, ◌∙◌, ◌≡◌, ap, arith, refl, slice_set, subst, sym, true, ℕ}
 use Rattle.vm_map.specs.declared.call.Said.{Said}
 use Rattle.vm_node.specs.Halves.{left_half}
 use Rattle.vm_rule.specs.Prelude.{draft_of, last_of}
 use Rattle.vm_step.specs.Prelude.{View, view}
 use Rattle.vm_guard.specs.{declared.exclusive.ExclusiveGuard.ExclusiveGuard, Guards.IsHolding, Guards.IsSet}
 use Rattle.vm_tree_write.specs.{Drafts.IsRedrafted, Splits.HasDraft}
-use Rattle.vm_tree_write.proofs.Rooting.{four-all, four-apart, four-redrafted, four-released, four-stay, set-two}
+use Rattle.vm_tree_write.proofs.Rooting.{four-all, four-apart, four-redrafted, four-released, four-stay, redrafts-two, set-two}
 use Rattle.vm_tree_write.proofs.split.write_root.Goals as goal
-use Rattle.vm_tree_write.proofs.Splitting.{draft-past, holding-past, told-before}
+use Rattle.vm_tree_write.proofs.Splitting.{draft-past, holding-past, Redrafts, redrafts-of, told-before}
 
 -- page 0 after both words
 two : (g g' : ExclusiveGuard) (x y : ℕ) (v u w : View Said) → IsSet g.pid g.frame g.dirty 1 x v u → g' ≡ record g { dirty = true } → IsSet g'.pid g'.frame g'.dirty 2 y u w → draft_of v g.pid ≡ (last_of v g.pid).words
@@ -15,6 +15,14 @@ two : (g g' : ExclusiveGuard) (x y : ℕ) (v u w : View Said) → IsSet g.pid g.
 two g g' x y v u w s e t same =
     let t' : IsSet g.pid g.frame true 2 y u w = subst (λ (k : ExclusiveGuard). IsSet k.pid k.frame k.dirty 2 y u w) e t in
     set-two g.pid g.frame g.frame g.dirty true 1 2 x y (last_of v g.pid).words v u w s t' refl same
+
+-- and what that leaves beside
+two-redraft : (g g' g'' : ExclusiveGuard) (x y : ℕ) (v u w : View Said) → IsHolding g.pid g.frame g.version g.dirty v → IsSet g.pid g.frame g.dirty 1 x v u → g' ≡ record g { dirty = true } → IsSet g'.pid g'.frame g'.dirty 2 y u w → g'' ≡ record g' { dirty = true } → Redrafts g''.pid g''.frame v w
+two-redraft g g' g'' x y v u w h s e t f =
+    let t' : IsSet g.pid g.frame true 2 y u w = subst (λ (k : ExclusiveGuard). IsSet k.pid k.frame k.dirty 2 y u w) e t in
+    let all = redrafts-two g.pid g.frame g.dirty true 1 2 x y v u w h.page h.frame_is (omega arith) (omega arith) s t' in
+    let same : g'' ≡ record g { dirty = true } = f ∙ ap (λ (k : ExclusiveGuard). record k { dirty = true }) e in
+    subst (λ (k : ExclusiveGuard). Redrafts k.pid k.frame v w) (sym same) all
 
 pid-of : (g g' g'' : ExclusiveGuard) → g' ≡ record g { dirty = true } → g'' ≡ record g' { dirty = true } → g''.pid ≡ g.pid
 pid-of g g' g'' e f = ap (λ (k : ExclusiveGuard). k.pid) f ∙ ap (λ (k : ExclusiveGuard). k.pid) e
@@ -77,13 +85,17 @@ release_group-requires-clause-may g c =
     let d4 = c.redraft-3.ensures in
     let four = four-redrafted c.args.meta.pid c.args.low.pid c.args.right.pid c.args.top.pid (last_of (view c.args.pass.now) c.args.meta.pid).words _ c.args.page.now (left_half c.args.page.now c.right_half-separator.result) c.right_half-separator.new.right c.new_root.new.page (view c.args.pass.now) (view c.set-2.new.pass) (view c.redraft.new.pass) (view c.redraft-2.new.pass) (view c.redraft-3.new.pass)
     ne r.held.0.owns r.held.1.0.owns r.held.1.1.0.owns r.held.1.1.1.0.owns c.args.height r.told t.0 t.1 d2.redrafted d3.redrafted d4.redrafted d2.draft d3.draft d4.draft in
-    let stays = four-stay c.args.meta.pid c.args.low.pid c.args.right.pid c.args.top.pid (view c.args.pass.now) (view c.set-2.new.pass) (view c.redraft.new.pass) (view c.redraft-2.new.pass) (view c.redraft-3.new.pass) t.0 d2.redrafted d3.redrafted d4.redrafted in
+    let stays = four-stay c.set-2.new.self c.redraft.new.guard c.redraft-2.new.guard c.redraft-3.new.guard (view c.args.pass.now) (view c.set-2.new.pass) (view c.redraft.new.pass) (view c.redraft-2.new.pass) (view c.redraft-3.new.pass)
+    (two-redraft c.args.meta c.set.new.self c.set-2.new.self c.args.top.pid (c.args.height + 1) (view c.args.pass.now) (view c.set.new.pass) (view c.set-2.new.pass) r.held.0 c.set.ensures.set c.set.ensures.guard c.set-2.ensures.set c.set-2.ensures.guard)
+    (redrafts-of c.args.low c.redraft.new.guard _ _ d2.guard d2.redrafted d2.drafts d2.known)
+    (redrafts-of c.args.right c.redraft-2.new.guard _ _ d3.guard d3.redrafted d3.drafts d3.known)
+    (redrafts-of c.args.top c.redraft-3.new.guard _ _ d4.guard d4.redrafted d4.drafts d4.known) in
     let first = pid-of c.args.meta c.set.new.self c.set-2.new.self c.set.ensures.guard c.set-2.ensures.guard in
     let h0 : IsHolding c.set-2.new.self.pid c.set-2.new.self.frame c.set-2.new.self.version c.set-2.new.self.dirty (view c.set-2.new.pass) = held-of c.set.new.self c.set-2.new.self (view c.set-2.new.pass) c.set-2.ensures.guard c.set-2.ensures.holds in
     let h1 = holding-past _ _ _ _ _ _ _ (λ e. ne.ad (sym first ∙ e)) (holding-past _ _ _ _ _ _ _ (λ e. ne.ac (sym first ∙ e)) (holding-past _ _ _ _ _ _ _ (λ e. ne.ab (sym first ∙ e)) h0 d2.redrafted) d3.redrafted) d4.redrafted in
     let h2 = holding-past _ _ _ _ _ _ _ (λ e. ne.bd (sym d2.guard.0 ∙ e)) (holding-past _ _ _ _ _ _ _ (λ e. ne.bc (sym d2.guard.0 ∙ e)) d2.holds d3.redrafted) d4.redrafted in
     let h3 = holding-past _ _ _ _ _ _ _ (λ e. ne.cd (sym d3.guard.0 ∙ e)) d3.holds d4.redrafted in
-    four-all c.args.meta.pid c.args.low.pid c.args.right.pid c.args.top.pid c.args.height c.right_half-separator.result c.args.page.now (left_half c.args.page.now c.right_half-separator.result) c.right_half-separator.new.right c.new_root.new.page (view c.args.pass.now) (view c.redraft-3.new.pass) stays four r.zero r.told r.full c.right_half-separator.ensures.halves c.new_root.ensures.root r.owed c.set-2.new.self c.redraft.new.guard c.redraft-2.new.guard c.redraft-3.new.guard first d2.guard.0 d3.guard.0 d4.guard.0 h1 h2 h3 d4.holds r.apart r.home
+    four-all c.args.meta.pid c.args.low.pid c.args.right.pid c.args.top.pid c.args.height c.right_half-separator.result c.args.page.now (left_half c.args.page.now c.right_half-separator.result) c.right_half-separator.new.right c.new_root.new.page (view c.args.pass.now) (view c.redraft-3.new.pass) c.set-2.new.self c.redraft.new.guard c.redraft-2.new.guard c.redraft-3.new.guard stays four r.zero r.told r.full c.right_half-separator.ensures.halves c.new_root.ensures.root r.owed first d2.guard.0 d3.guard.0 d4.guard.0 h1 h2 h3 d4.holds r.apart r.home
 
 pub returns-clause-split : goal.returns-clause-split
 returns-clause-split g c =
@@ -95,6 +107,10 @@ returns-clause-split g c =
     let d4 = c.redraft-3.ensures in
     let four = four-redrafted c.args.meta.pid c.args.low.pid c.args.right.pid c.args.top.pid (last_of (view c.args.pass.now) c.args.meta.pid).words _ c.args.page.now (left_half c.args.page.now c.right_half-separator.result) c.right_half-separator.new.right c.new_root.new.page (view c.args.pass.now) (view c.set-2.new.pass) (view c.redraft.new.pass) (view c.redraft-2.new.pass) (view c.redraft-3.new.pass)
     ne r.held.0.owns r.held.1.0.owns r.held.1.1.0.owns r.held.1.1.1.0.owns c.args.height r.told t.0 t.1 d2.redrafted d3.redrafted d4.redrafted d2.draft d3.draft d4.draft in
-    let stays = four-stay c.args.meta.pid c.args.low.pid c.args.right.pid c.args.top.pid (view c.args.pass.now) (view c.set-2.new.pass) (view c.redraft.new.pass) (view c.redraft-2.new.pass) (view c.redraft-3.new.pass) t.0 d2.redrafted d3.redrafted d4.redrafted in
+    let stays = four-stay c.set-2.new.self c.redraft.new.guard c.redraft-2.new.guard c.redraft-3.new.guard (view c.args.pass.now) (view c.set-2.new.pass) (view c.redraft.new.pass) (view c.redraft-2.new.pass) (view c.redraft-3.new.pass)
+    (two-redraft c.args.meta c.set.new.self c.set-2.new.self c.args.top.pid (c.args.height + 1) (view c.args.pass.now) (view c.set.new.pass) (view c.set-2.new.pass) r.held.0 c.set.ensures.set c.set.ensures.guard c.set-2.ensures.set c.set-2.ensures.guard)
+    (redrafts-of c.args.low c.redraft.new.guard _ _ d2.guard d2.redrafted d2.drafts d2.known)
+    (redrafts-of c.args.right c.redraft-2.new.guard _ _ d3.guard d3.redrafted d3.drafts d3.known)
+    (redrafts-of c.args.top c.redraft-3.new.guard _ _ d4.guard d4.redrafted d4.drafts d4.known) in
     let first = pid-of c.args.meta c.set.new.self c.set-2.new.self c.set.ensures.guard c.set-2.ensures.guard in
-    four-released c.args.meta.pid c.args.low.pid c.args.right.pid c.args.top.pid c.args.height c.right_half-separator.result c.args.page.now (left_half c.args.page.now c.right_half-separator.result) c.right_half-separator.new.right c.new_root.new.page (view c.args.pass.now) (view c.redraft-3.new.pass) stays four r.zero r.told r.full c.right_half-separator.ensures.halves c.new_root.ensures.root r.owed c.set-2.new.self c.redraft.new.guard c.redraft-2.new.guard c.redraft-3.new.guard _ first d2.guard.0 d3.guard.0 d4.guard.0 c.release_group.ensures.released.0
+    four-released c.args.meta.pid c.args.low.pid c.args.right.pid c.args.top.pid c.args.height c.right_half-separator.result c.args.page.now (left_half c.args.page.now c.right_half-separator.result) c.right_half-separator.new.right c.new_root.new.page (view c.args.pass.now) (view c.redraft-3.new.pass) c.set-2.new.self c.redraft.new.guard c.redraft-2.new.guard c.redraft-3.new.guard stays four r.zero r.told r.full c.right_half-separator.ensures.halves c.new_root.ensures.root r.owed _ first d2.guard.0 d3.guard.0 d4.guard.0 c.release_group.ensures.released.0

@@ -4,7 +4,7 @@ use Rattle.vm_tree_model.specs.Page.{IsInner}
 use Rattle.vm_node.specs.{Edited.edited, Halves.left_half}
 use Rattle.vm_step.specs.Prelude.{view}
 use Rattle.vm_tree_write.proofs.split.write_split.Goals as goal
-use Rattle.vm_tree_write.proofs.Splitting.{draft-past, first-apart, holding-past, three-all, three-redrafted, three-released, three-stay, told-before}
+use Rattle.vm_tree_write.proofs.Splitting.{draft-past, first-apart, holding-past, redrafts-of, three-all, three-redrafted, three-released, three-stay, told-before}
 
 pub unreachable-requires : goal.unreachable-requires
 unreachable-requires g c =
@@ -50,11 +50,14 @@ release_group-requires-clause-may g c =
     let half = c.right_half-separator.new.right in
     let three = three-redrafted c.args.up.pid c.args.low.pid c.args.right.pid c.args.over.now above c.args.page.now left half (view c.args.pass.now) (view c.redraft.new.pass) (view c.redraft-2.new.pass) (view c.redraft-3.new.pass)
     r.apart r.held.0.owns r.held.1.0.owns r.held.1.1.0.owns r.told d1.redrafted d2.redrafted d3.redrafted d1.draft d2.draft d3.draft in
-    let stays = three-stay c.args.up.pid c.args.low.pid c.args.right.pid (view c.args.pass.now) (view c.redraft.new.pass) (view c.redraft-2.new.pass) (view c.redraft-3.new.pass) d1.redrafted d2.redrafted d3.redrafted in
+    let stays = three-stay c.redraft.new.guard c.redraft-2.new.guard c.redraft-3.new.guard (view c.args.pass.now) (view c.redraft.new.pass) (view c.redraft-2.new.pass) (view c.redraft-3.new.pass)
+    (redrafts-of c.args.up c.redraft.new.guard _ _ d1.guard d1.redrafted d1.drafts d1.known)
+    (redrafts-of c.args.low c.redraft-2.new.guard _ _ d2.guard d2.redrafted d2.drafts d2.known)
+    (redrafts-of c.args.right c.redraft-3.new.guard _ _ d3.guard d3.redrafted d3.drafts d3.known) in
     let adds : IsInner c.args.over.now → AddsPair c.args.over.now above c.right_half-separator.result c.args.right.pid = λ inner. c.in-Ok.ensures.node _ _ inner.node.rises in
     let h1 = holding-past _ _ _ _ _ _ _ (λ e. ne.1 (sym d1.guard.0 ∙ e)) (holding-past _ _ _ _ _ _ _ (λ e. ne.0 (sym d1.guard.0 ∙ e)) d1.holds d2.redrafted) d3.redrafted in
     let h2 = holding-past _ _ _ _ _ _ _ (λ e. ne.2 (sym d2.guard.0 ∙ e)) d2.holds d3.redrafted in
-    three-all _ _ _ c.right_half-separator.result _ above _ left half (view c.args.pass.now) (view c.redraft-3.new.pass) stays three r.told r.room r.full c.right_half-separator.ensures.halves adds r.owed c.redraft.new.guard c.redraft-2.new.guard c.redraft-3.new.guard d1.guard.0 d2.guard.0 d3.guard.0 h1 h2 d3.holds r.apart r.home
+    three-all _ _ _ c.right_half-separator.result _ above _ left half (view c.args.pass.now) (view c.redraft-3.new.pass) c.redraft.new.guard c.redraft-2.new.guard c.redraft-3.new.guard stays three r.told r.room r.full c.right_half-separator.ensures.halves adds r.owed d1.guard.0 d2.guard.0 d3.guard.0 h1 h2 d3.holds r.apart r.home
 
 pub returns-clause-split : goal.returns-clause-split
 returns-clause-split g c =
@@ -67,9 +70,12 @@ returns-clause-split g c =
     let half = c.right_half-separator.new.right in
     let three = three-redrafted c.args.up.pid c.args.low.pid c.args.right.pid c.args.over.now above c.args.page.now left half (view c.args.pass.now) (view c.redraft.new.pass) (view c.redraft-2.new.pass) (view c.redraft-3.new.pass)
     r.apart r.held.0.owns r.held.1.0.owns r.held.1.1.0.owns r.told d1.redrafted d2.redrafted d3.redrafted d1.draft d2.draft d3.draft in
-    let stays = three-stay c.args.up.pid c.args.low.pid c.args.right.pid (view c.args.pass.now) (view c.redraft.new.pass) (view c.redraft-2.new.pass) (view c.redraft-3.new.pass) d1.redrafted d2.redrafted d3.redrafted in
+    let stays = three-stay c.redraft.new.guard c.redraft-2.new.guard c.redraft-3.new.guard (view c.args.pass.now) (view c.redraft.new.pass) (view c.redraft-2.new.pass) (view c.redraft-3.new.pass)
+    (redrafts-of c.args.up c.redraft.new.guard _ _ d1.guard d1.redrafted d1.drafts d1.known)
+    (redrafts-of c.args.low c.redraft-2.new.guard _ _ d2.guard d2.redrafted d2.drafts d2.known)
+    (redrafts-of c.args.right c.redraft-3.new.guard _ _ d3.guard d3.redrafted d3.drafts d3.known) in
     let adds : IsInner c.args.over.now → AddsPair c.args.over.now above c.right_half-separator.result c.args.right.pid = λ inner. c.in-Ok.ensures.node _ _ inner.node.rises in
-    three-released _ _ _ c.right_half-separator.result _ above _ left half (view c.args.pass.now) (view c.redraft-3.new.pass) stays three r.told r.room r.full c.right_half-separator.ensures.halves adds r.owed c.redraft.new.guard c.redraft-2.new.guard c.redraft-3.new.guard _ d1.guard.0 d2.guard.0 d3.guard.0 c.release_group.ensures.released.0
+    three-released _ _ _ c.right_half-separator.result _ above _ left half (view c.args.pass.now) (view c.redraft-3.new.pass) c.redraft.new.guard c.redraft-2.new.guard c.redraft-3.new.guard stays three r.told r.room r.full c.right_half-separator.ensures.halves adds r.owed _ d1.guard.0 d2.guard.0 d3.guard.0 c.release_group.ensures.released.0
 
 pub redraft-requires-clause-holds : goal.redraft-requires-clause-holds
 redraft-requires-clause-holds g c = c.requires.can.held.0

@@ -15,12 +15,12 @@ returns-in-Err-clause-tried g c = c.not_found.ensures c.args.key (view c.args.pa
 pub returns-in-Ok-validate_silently-clause-tried : goal.returns-in-Ok-validate_silently-clause-tried
 returns-in-Ok-validate_silently-clause-tried g c =
     let met = subst (λ m. IsMet (view c.args.pass.now) c.args.key m c.seek_full.new.over c.seek_full.new.page (view c.seek_full.new.pass)) c.in-Roomy.is c.in-Ok.ensures.met in
-    roomy-valid c.args.key _ c.seek_full.new.page (view c.args.pass.now) (view c.seek_full.new.pass) (view c.validate_silently.new.pass) c.in-Ok.ensures.reads met c.in-Ok-validate_silently.ensures.ok
+    roomy-valid c.args.key _ met.0 (view c.args.pass.now) (view c.seek_full.new.pass) (view c.validate_silently.new.pass) c.in-Ok.ensures.reads met.1 c.in-Ok-validate_silently.ensures.ok
 
 pub returns-in-Err-validate_silently-clause-tried : goal.returns-in-Err-validate_silently-clause-tried
 returns-in-Err-validate_silently-clause-tried g c =
     let met = subst (λ m. IsMet (view c.args.pass.now) c.args.key m c.seek_full.new.over c.seek_full.new.page (view c.seek_full.new.pass)) c.in-Roomy.is c.in-Ok.ensures.met in
-    roomy-lost c.args.key _ c.seek_full.new.page c.in-Err-validate_silently.saw (view c.args.pass.now) (view c.seek_full.new.pass) (view c.validate_silently.new.pass) met c.in-Err-validate_silently.ensures.err
+    roomy-lost c.args.key _ met.0 c.in-Err-validate_silently.saw (view c.args.pass.now) (view c.seek_full.new.pass) (view c.validate_silently.new.pass) met.1 c.in-Err-validate_silently.ensures.err
 
 pub split_below-requires-clause-home : goal.split_below-requires-clause-home
 split_below-requires-clause-home g c = c.in-Ok.ensures.reads.0.out ∙ c.requires.home
@@ -57,6 +57,25 @@ pub returns-in-Root-clause-tried : goal.returns-in-Root-clause-tried
 returns-in-Root-clause-tried g c =
     let met = subst (λ m. IsMet (view c.args.pass.now) c.args.key m c.seek_full.new.over c.seek_full.new.page (view c.seek_full.new.pass)) c.in-Root.is c.in-Ok.ensures.met in
     tried-root c.args.key c.in-Root.meta c.in-Root.root c.in-Root.height c.seek_full.new.page c.split_root.result (view c.args.pass.now) (view c.seek_full.new.pass) (view c.split_root.new.pass) c.in-Ok.ensures.reads met c.split_root.ensures.keeps c.split_root.ensures.cause
+
+-- ---- the interface's frames are the pass's still
+
+pub returns-in-Err-clause-held : goal.returns-in-Err-clause-held
+returns-in-Err-clause-held g c =
+    let r = (turn-reads c.args.key c.in-Err.turn (view c.args.pass.now) (view c.seek_full.new.pass) c.in-Err.ensures.err).0 in
+    held-on _ (view c.args.pass.now) (view c.seek_full.new.pass) c.requires.frames r.start r.frames.0
+
+pub returns-in-Ok-validate_silently-clause-held : goal.returns-in-Ok-validate_silently-clause-held
+returns-in-Ok-validate_silently-clause-held g c =
+    let r = c.in-Ok.ensures.reads.0 in
+    let k = c.in-Ok-validate_silently.ensures.ok in
+    held-on _ (view c.args.pass.now) (view c.validate_silently.new.pass) c.requires.frames (k.steady.start ∙ r.start) (k.steady.frames.0 ∙ r.frames.0)
+
+pub returns-in-Err-validate_silently-clause-held : goal.returns-in-Err-validate_silently-clause-held
+returns-in-Err-validate_silently-clause-held g c =
+    let r = c.in-Ok.ensures.reads.0 in
+    let k = c.in-Err-validate_silently.ensures.err.quiet in
+    held-on _ (view c.args.pass.now) (view c.validate_silently.new.pass) c.requires.frames (k.steady.start ∙ r.start) (k.steady.frames.0 ∙ r.frames.0)
 
 pub returns-in-Err-clause-lost : goal.returns-in-Err-clause-lost
 returns-in-Err-clause-lost g c = reads-lose c.args.iface.now.frames (view c.args.pass.now) (view c.seek_full.new.pass) (turn-reads c.args.key c.in-Err.turn (view c.args.pass.now) (view c.seek_full.new.pass) c.in-Err.ensures.err)

@@ -1,25 +1,25 @@
 use Rattle.std.proofs.Common.{◌∙◌, refl}
 use Rattle.vm_step.specs.Prelude.{view}
 use Rattle.vm_exmap.proofs.Handing.{held-on}
-use Rattle.vm_tree_read.specs.Waiting.{Waits}
+use Rattle.vm_tree_read.specs.Waiting.{AreRounds as rounds, IsRound as round, Waits}
 use Rattle.vm_tree_read.proofs.Lasting.{reads-wait, waits-self, waits-then}
 use Rattle.vm_tree_read.proofs.Losing.{loses-same, loses-then, lost-on, reads-lose}
 use Rattle.vm_tree_read.proofs.Rounds.{tried-call, tried-none, tried-read}
-use Rattle.vm_tree_write.specs.Waiting.{IsWriteFaulted as faulted}
+use Rattle.vm_tree_write.specs.Waiting.{IsDelRound, IsWriteFaulted as faulted}
 use Rattle.vm_tree_write.proofs.Lasting.{del-frames, replied, waits-last}
 use Rattle.vm_tree_write.proofs.waiting.del.Goals as goal
 
 pub loop-init : goal.loop-init
-loop-init g c = tried-none _ _ (waits-self _) c.requires.ready c.requires.frames
+loop-init g c = tried-none _ _ (waits-self _, rounds.none) c.requires.ready c.requires.frames
 
 pub del_once-requires-clause-home : goal.del_once-requires-clause-home
-del_once-requires-clause-home g c = c.loop.invariant.left.out ∙ c.requires.home
+del_once-requires-clause-home g c = c.loop.invariant.left.0.out ∙ c.requires.home
 
 pub loop-preserved-in-Again : goal.loop-preserved-in-Again
 loop-preserved-in-Again g c =
     let i = c.loop.invariant in
     let reads = c.in-Again.ensures.tried.0 in
-    tried-read i c.del_once.new.pass c.del_once.ensures.pass reads c.del_once.ensures.ready (waits-then _ _ _ i.left (reads-wait _ _ reads))
+    tried-read i c.del_once.new.pass c.del_once.ensures.pass reads c.del_once.ensures.ready (waits-then _ _ _ i.left.0 (reads-wait _ _ reads), rounds.further _ _ i.left.1 (round.again _ reads c.in-Again.ensures.tried.1))
 
 pub fetch-requires-clause-frames : goal.fetch-requires-clause-frames
 fetch-requires-clause-frames g c =
@@ -30,14 +30,14 @@ loop-preserved g c =
     let i = c.loop.invariant in
     let k = c.fetch.ensures in
     let reads = c.in-Need.ensures.tried.0 in
-    tried-call i c.del_once.new.pass c.del_once.ensures.pass reads c.fetch.new.pass c.fetch.new.iface k.pass k.ready k.held k.lost k.iface (waits-then _ _ _ i.left (waits-then _ _ _ (reads-wait _ _ reads) k.waits))
+    tried-call i c.del_once.new.pass c.del_once.ensures.pass reads c.fetch.new.pass c.fetch.new.iface k.pass k.ready k.held k.lost k.iface (waits-then _ _ _ i.left.0 (waits-then _ _ _ (reads-wait _ _ reads) k.waits), rounds.further _ _ i.left.1 (round.needed _ _ reads c.in-Need.ensures.tried.1 c.in-Ok.ensures.ok))
 
 pub returns-in-Err-clause-err : goal.returns-in-Err-clause-err
 returns-in-Err-clause-err g c =
     let i = c.loop.invariant in
     let needed = c.in-Need.ensures.tried in
-    faulted.missing (view c.loop.pass) (view c.del_once.new.pass) c.in-Need.pid i.left needed.0 needed.1 c.in-Err.ensures.err
-    (waits-then _ _ _ i.left (waits-then _ _ _ (reads-wait _ _ needed.0) c.fetch.ensures.waits))
+    faulted.missing (view c.loop.pass) (view c.del_once.new.pass) c.in-Need.pid i.left.1 i.left.0 needed.0 needed.1 c.in-Err.ensures.err
+    (waits-then _ _ _ i.left.0 (waits-then _ _ _ (reads-wait _ _ needed.0) c.fetch.ensures.waits))
 
 pub returns-in-Worn-clause-held : goal.returns-in-Worn-clause-held
 returns-in-Worn-clause-held g c =
@@ -47,14 +47,14 @@ pub returns-in-Worn-clause-err : goal.returns-in-Worn-clause-err
 returns-in-Worn-clause-err g c =
     let i = c.loop.invariant in
     let worn = c.in-Worn.ensures.tried in
-    faulted.worn (view c.loop.pass) c.in-Worn.pid i.left worn.0 worn.1 refl (waits-then _ _ _ i.left (reads-wait _ _ worn.0))
+    faulted.worn (view c.loop.pass) c.in-Worn.pid i.left.1 i.left.0 worn.0 worn.1 worn.2 refl (waits-then _ _ _ i.left.0 (reads-wait _ _ worn.0))
 
 pub returns-in-Done-clause-held : goal.returns-in-Done-clause-held
 returns-in-Done-clause-held g c =
     let k = del-frames _ _ _ c.in-Done.ensures.tried in held-on _ (view c.loop.pass) (view c.del_once.new.pass) c.loop.invariant.held k.0 k.1
 
 pub returns-in-Done-clause-ok : goal.returns-in-Done-clause-ok
-returns-in-Done-clause-ok g c = let waits = c.loop.invariant.left in replied Waits _ _ _ _ waits (waits-last _ _ waits) c.in-Done.ensures.tried
+returns-in-Done-clause-ok g c = let waits = c.loop.invariant.left in replied Waits IsDelRound _ _ _ _ waits (waits-last _ _ waits.0) c.in-Done.ensures.tried
 
 -- ---- no frame is lost
 

@@ -1,27 +1,29 @@
 use Rattle.std.proofs.Common.{◌∙◌, inl, refl}
 use Rattle.vm_step.specs.Prelude.{view}
 use Rattle.vm_exmap.proofs.Handing.{held-on}
+use Rattle.vm_tree_read.specs.Waiting.{AreRounds as rounds, IsRound as round}
 use Rattle.vm_tree_read.proofs.Losing.{loses-same, loses-then, lost-on, reads-lose}
 use Rattle.vm_tree_read.proofs.Rounds.{tried-call, tried-none, tried-read}
-use Rattle.vm_tree_write.specs.{Splits.KeepsLocksOnly, Waiting.IsPutFaulted as put_faulted, Waiting.IsWriteFaulted as faulted}
+use Rattle.vm_tree_write.specs.Splits.{KeepsLocksOnly}
+use Rattle.vm_tree_write.specs.Waiting.{IsPutFaulted as put_faulted, IsPutRound, IsPutRound as put_round, IsWriteFaulted as faulted}
 use Rattle.vm_tree_write.proofs.{Framing.keeps-self, Framing.keeps-then, Telling.put-not, Trying.reads-keep}
 use Rattle.vm_tree_write.proofs.Lasting.{keeps-last, replied, waits-keep}
 use Rattle.vm_tree_write.proofs.waiting.put.Goals as goal
 
 pub loop-init : goal.loop-init
-loop-init g c = tried-none _ _ (keeps-self _) c.requires.ready c.requires.frames
+loop-init g c = tried-none _ _ (keeps-self _, rounds.none) c.requires.ready c.requires.frames
 
 pub put_once-requires-clause-home : goal.put_once-requires-clause-home
-put_once-requires-clause-home g c = c.loop.invariant.left.out ∙ c.requires.home
+put_once-requires-clause-home g c = c.loop.invariant.left.0.out ∙ c.requires.home
 
 pub loop-preserved-in-Again : goal.loop-preserved-in-Again
 loop-preserved-in-Again g c =
     let i = c.loop.invariant in
     let reads = c.in-Again.ensures.tried.0 in
-    tried-read i c.put_once.new.pass c.put_once.ensures.pass reads c.put_once.ensures.ready (keeps-then _ _ _ i.left (reads-keep _ _ reads))
+    tried-read i c.put_once.new.pass c.put_once.ensures.pass reads c.put_once.ensures.ready (keeps-then _ _ _ i.left.0 (reads-keep _ _ reads), rounds.further _ _ i.left.1 (put_round.round (round.again _ reads c.in-Again.ensures.tried.1)))
 
 pub fetch-requires-clause-home : goal.fetch-requires-clause-home
-fetch-requires-clause-home g c = c.in-Need.ensures.tried.0.0.out ∙ c.loop.invariant.left.out ∙ c.requires.home
+fetch-requires-clause-home g c = c.in-Need.ensures.tried.0.0.out ∙ c.loop.invariant.left.0.out ∙ c.requires.home
 
 pub fetch-requires-clause-frames : goal.fetch-requires-clause-frames
 fetch-requires-clause-frames g c =
@@ -32,15 +34,15 @@ loop-preserved-in-Ok g c =
     let i = c.loop.invariant in
     let k = c.fetch.ensures in
     let reads = c.in-Need.ensures.tried.0 in
-    tried-call i c.put_once.new.pass c.put_once.ensures.pass reads c.fetch.new.pass c.fetch.new.iface k.pass k.ready k.held k.lost k.iface (keeps-then _ _ _ i.left (keeps-then _ _ _ (reads-keep _ _ reads) (waits-keep _ _ k.waits)))
+    tried-call i c.put_once.new.pass c.put_once.ensures.pass reads c.fetch.new.pass c.fetch.new.iface k.pass k.ready k.held k.lost k.iface (keeps-then _ _ _ i.left.0 (keeps-then _ _ _ (reads-keep _ _ reads) (waits-keep _ _ k.waits)), rounds.further _ _ i.left.1 (put_round.round (round.needed _ _ reads c.in-Need.ensures.tried.1 c.in-Ok.ensures.ok)))
 
 pub returns-in-Err-clause-err : goal.returns-in-Err-clause-err
 returns-in-Err-clause-err g c =
     let i = c.loop.invariant in
     let needed = c.in-Need.ensures.tried in
     put_faulted.faulted
-    (faulted.missing (view c.loop.pass) (view c.put_once.new.pass) c.in-Need.pid i.left needed.0 needed.1 c.in-Err.ensures.err
-    (keeps-then _ _ _ i.left (keeps-then _ _ _ (reads-keep _ _ needed.0) (waits-keep _ _ c.fetch.ensures.waits))))
+    (faulted.missing (view c.loop.pass) (view c.put_once.new.pass) c.in-Need.pid i.left.1 i.left.0 needed.0 needed.1 c.in-Err.ensures.err
+    (keeps-then _ _ _ i.left.0 (keeps-then _ _ _ (reads-keep _ _ needed.0) (waits-keep _ _ c.fetch.ensures.waits))))
 
 pub returns-in-Worn-clause-held : goal.returns-in-Worn-clause-held
 returns-in-Worn-clause-held g c =
@@ -50,10 +52,10 @@ pub returns-in-Worn-clause-err : goal.returns-in-Worn-clause-err
 returns-in-Worn-clause-err g c =
     let i = c.loop.invariant in
     let worn = c.in-Worn.ensures.tried in
-    put_faulted.faulted (faulted.worn (view c.loop.pass) c.in-Worn.pid i.left worn.0 worn.1 refl (keeps-then _ _ _ i.left (reads-keep _ _ worn.0)))
+    put_faulted.faulted (faulted.worn (view c.loop.pass) c.in-Worn.pid i.left.1 i.left.0 worn.0 worn.1 worn.2 refl (keeps-then _ _ _ i.left.0 (reads-keep _ _ worn.0)))
 
 pub make_room-requires-clause-home : goal.make_room-requires-clause-home
-make_room-requires-clause-home g c = c.in-Tight.ensures.tried.0.0.out ∙ c.loop.invariant.left.out ∙ c.requires.home
+make_room-requires-clause-home g c = c.in-Tight.ensures.tried.0.0.out ∙ c.loop.invariant.left.0.out ∙ c.requires.home
 
 pub make_room-requires-clause-frames : goal.make_room-requires-clause-frames
 make_room-requires-clause-frames g c =
@@ -64,14 +66,14 @@ loop-preserved g c =
     let i = c.loop.invariant in
     let k = c.make_room.ensures in
     let reads = c.in-Tight.ensures.tried.0 in
-    tried-call i c.put_once.new.pass c.put_once.ensures.pass reads c.make_room.new.pass c.make_room.new.iface k.pass k.ready k.held k.lost k.iface (keeps-then _ _ _ i.left (keeps-then _ _ _ (reads-keep _ _ reads) k.keeps))
+    tried-call i c.put_once.new.pass c.put_once.ensures.pass reads c.make_room.new.pass c.make_room.new.iface k.pass k.ready k.held k.lost k.iface (keeps-then _ _ _ i.left.0 (keeps-then _ _ _ (reads-keep _ _ reads) k.keeps), rounds.further _ _ i.left.1 (put_round.tight _ _ reads c.in-Tight.ensures.tried.1 c.in-Ok-make_room.ensures.ok))
 
 pub returns-in-Err-make_room-clause-err : goal.returns-in-Err-make_room-clause-err
 returns-in-Err-make_room-clause-err g c =
     let i = c.loop.invariant in
     let tight = c.in-Tight.ensures.tried in
-    put_faulted.tight (view c.loop.pass) (view c.put_once.new.pass) _ i.left tight.0 tight.1 c.in-Err-make_room.ensures.err
-    (keeps-then _ _ _ i.left (keeps-then _ _ _ (reads-keep _ _ tight.0) c.make_room.ensures.keeps))
+    put_faulted.tight (view c.loop.pass) (view c.put_once.new.pass) _ i.left.1 i.left.0 tight.0 tight.1 c.in-Err-make_room.ensures.err
+    (keeps-then _ _ _ i.left.0 (keeps-then _ _ _ (reads-keep _ _ tight.0) c.make_room.ensures.keeps))
 
 pub returns-in-Done-clause-held : goal.returns-in-Done-clause-held
 returns-in-Done-clause-held g c =
@@ -80,7 +82,7 @@ returns-in-Done-clause-held g c =
 pub returns-in-Done-clause-ok : goal.returns-in-Done-clause-ok
 returns-in-Done-clause-ok g c =
     let i = c.loop.invariant in
-    replied KeepsLocksOnly _ _ _ _ i.left (keeps-last _ _ i.left) (inl (c.in-Done.ensures.tried.0, put-not c.args.key c.args.value _))
+    replied KeepsLocksOnly IsPutRound _ _ _ _ i.left (keeps-last _ _ i.left.0) (inl (c.in-Done.ensures.tried.0, put-not c.args.key c.args.value _))
 
 -- ---- no frame is lost
 

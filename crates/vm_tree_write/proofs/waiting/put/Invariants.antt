@@ -1,7 +1,10 @@
-use Rattle.vm_tree_write.specs.Splits.{KeepsLocksOnly}
+use Rattle.vm_map.specs.declared.call.Said.{Said}
+use Rattle.vm_step.specs.Prelude.{View}
+use Rattle.vm_tree_read.specs.Waiting.{AreRounds}
 use Rattle.vm_tree_read.proofs.Rounds.{HasTried}
+use Rattle.vm_tree_write.specs.{Splits.KeepsLocksOnly, Waiting.IsPutRound}
 use Rattle.vm_tree_write.proofs.waiting.put.Given as goal
 
 -- no try was answered yet
 abbrev pub invariant-loop : goal.invariant-loop
-invariant-loop g l = HasTried KeepsLocksOnly l.pool.words.table.shared.key g.B.Block.tells l.pool.words.table.shared.table_id l.fn.pass l.pass l.fn.iface l.iface
+invariant-loop g l = HasTried (λ (x y : View Said). KeepsLocksOnly x y × AreRounds (IsPutRound l.fn.key) x y) l.pool.words.table.shared.key g.B.Block.tells l.pool.words.table.shared.table_id l.fn.pass l.pass l.fn.iface l.iface
