@@ -1,8 +1,8 @@
 -- Steps of the loops over a host.
-use Rattle.std.proofs.Common.{◌≡◌, ℕ, ◌+◌, ◌-◌, ◌≤◌, ◌<◌, ◌⊎◌, inl, inr, List, ◌++◌, length, take, drop, Option, Some, None, true, false, refl, sym, ap, subst, ◌∙◌, arith, length-take, append_assoc}
+use Rattle.std.proofs.Common.{◌≡◌, ℕ, ◌+◌, ◌-◌, ◌≤◌, ◌<◌, ◌⊎◌, inl, inr, List, ◌++◌, length, take, drop, Option, Some, None, refl, sym, ap, subst, ◌∙◌, arith, length-take, append_assoc}
 use Rattle.std.proofs.lemmas.List.{take_all, length-take-le, append-nil}
 use Rattle.std.proofs.Math.Seq.{take-add}
-use Rattle.vm_io.specs.Shown.{Shown, say_more, SaidFront, PutFront, Holds, HoldsJust, kept}
+use Rattle.vm_io.specs.Shown.{Shown, say_more, SaidFront}
 use Rattle.vm_io.specs.Loops.{ReadsMore, ReadsWhole, IsFront}
 
 -- a front and the bytes behind it are a front
@@ -49,24 +49,3 @@ said_more None mid new bytes at n f s = let h : SaidFront None new (drop at byte
 said_more (Some old) mid new bytes at n f s =
     let h : SaidFront (Some (say_more old (take at bytes))) new (drop at bytes) n = subst (λ m. SaidFront m new (drop at bytes) n) f s in
     h ∙ ap (λ x. Some x) (said_on old (say_more old (take at bytes)) (say_more (say_more old (take at bytes)) (take n (drop at bytes))) bytes at n refl refl)
-
--- a first piece is the front of all bytes
-pub put_first : (old new : Option Shown) (name bytes : List ℕ) (n : ℕ) → PutFront old new name true bytes n → Holds old new name (take n bytes)
-put_first None new name bytes n p = p
-put_first (Some old) new name bytes n p = p
-
-held_on : (old mid new : Shown) (name bytes : List ℕ) (at n : ℕ) → HoldsJust old mid name (take at bytes) → HoldsJust mid new name (kept false (mid.files name) ++ take n (drop at bytes)) → HoldsJust old new name (take (at + n) bytes)
-held_on old mid new name bytes at n h p =
-    let whole : kept false (mid.files name) ++ take n (drop at bytes) ≡ take (at + n) bytes = ap (λ f. kept false f ++ take n (drop at bytes)) h.file ∙ sym (take-add at n bytes) in
-    record {
-      file = p.file ∙ ap (λ b. Some b) whole;
-      others = λ other apart. p.others other apart ∙ h.others other apart;
-      said = p.said ∙ h.said;
-    }
-
--- a further piece behind a front is a longer front
-pub put_more : (old mid new : Option Shown) (name bytes : List ℕ) (at n : ℕ) → Holds old mid name (take at bytes) → PutFront mid new name false (drop at bytes) n → Holds old new name (take (at + n) bytes)
-put_more None mid new name bytes at n h p = subst (λ m. PutFront m new name false (drop at bytes) n) h p
-put_more (Some old) mid new name bytes at n (between, is, h) p =
-    let q : PutFront (Some between) new name false (drop at bytes) n = subst (λ m. PutFront m new name false (drop at bytes) n) is p in
-    (q.0, q.1, held_on old between q.0 name bytes at n h q.2)

@@ -1,9 +1,9 @@
 -- What the place of the first file with a name tells of the bytes by name.
-use Rattle.std.proofs.Common.{◌≡◌, ℕ, zero, suc, ◌<◌, ◌++◌, List, [], ◌∷◌, length, Bool, true, false, cond, Some, None, refl, sym, ap, ◌∙◌, string_bytes, slice_index_or, slice_set, arith}
+use Rattle.std.proofs.Common.{◌≡◌, ℕ, zero, suc, ◌<◌, List, [], ◌∷◌, length, Bool, true, false, cond, Some, None, refl, sym, ap, ◌∙◌, string_bytes, slice_index_or, slice_set, arith}
 use Rattle.std.specs.Prelude.{◌≢◌}
 use Rattle.std.specs.Str.{bytes_eq}
 use Rattle.std.proofs.lemmas.Slice.Eq.{bytes_eq-Decides}
-use Rattle.vm_io.specs.Shown.{kept, HoldsJust}
+use Rattle.vm_io.specs.Shown.{HoldsJust}
 use Rattle.vm_io.specs.InMemory.{bytes_at, shown_in, IsPlace}
 use Rattle.vm_io.specs.declared.store.MemFile.{MemFile}
 
@@ -55,12 +55,12 @@ set_elsewhere (file ∷ files) name other (suc i) d new p same apart =
 pub found_bytes : (files : List MemFile) (name : List ℕ) (i : ℕ) (file : MemFile) → IsPlace files name i → file ≡ slice_index_or files i file → bytes_at files name ≡ Some file.bytes.items
 found_bytes files name i file p e = there files name i file p ∙ ap (λ f. Some f.bytes.items) (sym e)
 
--- a write to the file that was found
-pub found_put : (files : List MemFile) (said name : List ℕ) (i : ℕ) (first : Bool) (piece : List ℕ) (file new : MemFile) → IsPlace files name i → file ≡ slice_index_or files i file → string_bytes new.name ≡ string_bytes file.name → new.bytes.items ≡ kept first (Some file.bytes.items) ++ piece → HoldsJust (shown_in files said) (shown_in (slice_set files i new) said) name (kept first (bytes_at files name) ++ piece)
-found_put files said name i first piece file new p e same written =
+-- other bytes of the file that was found
+pub found_put : (files : List MemFile) (said name : List ℕ) (i : ℕ) (bytes : List ℕ) (file new : MemFile) → IsPlace files name i → file ≡ slice_index_or files i file → string_bytes new.name ≡ string_bytes file.name → new.bytes.items ≡ bytes → HoldsJust (shown_in files said) (shown_in (slice_set files i new) said) name bytes
+found_put files said name i bytes file new p e same written =
     let named : string_bytes new.name ≡ string_bytes (slice_index_or files i file).name = same ∙ ap (λ f. string_bytes f.name) e in
     record {
-      file = set_there files name i file new p named ∙ ap (λ b. Some b) (written ∙ ap (λ b. kept first b ++ piece) (sym (found_bytes files name i file p e)));
+      file = set_there files name i file new p named ∙ ap (λ b. Some b) written;
       others = λ other apart. set_elsewhere files name other i file new p named apart;
       said = refl;
     }

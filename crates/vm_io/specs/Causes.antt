@@ -1,6 +1,7 @@
 -- When a fault may be answered: a count of failures never falls, and rose in the call or stands at its last value.
-use Rattle.std.specs.Prelude.{ℕ, ◌≤◌, ◌<◌, ◌≡◌, List, Result, OnOk, OnErr, IfOk}
+use Rattle.std.specs.Prelude.{ℕ, ◌≤◌, ◌<◌, ◌≡◌, ◌⊎◌, List, Result, OnOk, OnErr, IfOk}
 use Rattle.vm_page.specs.Counts.{count_more}
+use Rattle.vm_io.specs.declared.host.GiveFaults.{GiveFaults}
 
 -- one more at least, or at the last value
 abbrev pub Rose : ℕ → ℕ → Type 0
@@ -11,9 +12,26 @@ pub record HasCause {T E : Type 0} (before now : ℕ) (result : Result T E) : Ty
   pub later : before ≤ now
   pub failed : OnErr result (Rose before now)
 
--- nothing taken of a piece that is not empty is a fault too
-abbrev pub HasStuckCause : {E : Type 0} → ℕ → ℕ → ℕ → Result ℕ E → Type 0
-HasStuckCause before now len result = IfOk result (λ n. n ≡ 0 → 0 < len → Rose before now)
+-- a count of pieces of which nothing was taken never falls, and an answer that nothing was taken of a piece that is not empty raises it
+pub record HasStuckCause {E : Type 0} (before now len : ℕ) (result : Result ℕ E) : Type 0 where
+  pub later : before ≤ now
+  pub stuck : IfOk result (λ n. n ≡ 0 → 0 < len → Rose before now)
+
+-- one more failure; one more piece of which nothing was taken
+abbrev pub more_failed : GiveFaults → GiveFaults
+more_failed gives = record gives { failed = count_more gives.failed }
+
+abbrev pub more_stuck : GiveFaults → GiveFaults
+more_stuck gives = record gives { stuck = count_more gives.stuck }
+
+-- neither count of gives fell
+pub record AreLater (before now : GiveFaults) : Type 0 where
+  pub failed : before.failed ≤ now.failed
+  pub stuck : before.stuck ≤ now.stuck
+
+-- a call failed that gives bytes to the host, or took nothing of a piece that is not empty, and was counted
+abbrev pub FailedGive : GiveFaults → GiveFaults → Type 0
+FailedGive before now = Rose before.failed now.failed ⊎ Rose before.stuck now.stuck
 
 -- two counts of failed takes, and the names of the last ones, are the same
 pub record SameTakes (before now : ℕ) (last_before last : List ℕ) : Type 0 where

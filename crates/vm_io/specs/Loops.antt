@@ -1,6 +1,6 @@
--- What the loops over a host read, say and put.
-use Rattle.std.specs.Prelude.{ℕ, ◌+◌, ◌-◌, ◌≤◌, ◌≡◌, ◌⊎◌, List, ◌++◌, length, take, drop, Option, Some, None}
-use Rattle.vm_io.specs.Shown.{Shown, Holds, SaidFront}
+-- What the loops over a host read and say.
+use Rattle.std.specs.Prelude.{ℕ, ◌+◌, ◌-◌, ◌≤◌, ◌≡◌, List, ◌++◌, length, take, drop, Option, Some, None}
+use Rattle.vm_io.specs.Shown.{Shown, SaidFront}
 
 -- new is old with the next n bytes of the file behind it; none only at the file's end
 pub record IsMore (shown : Shown) (name old new : List ℕ) (n : ℕ) : Type 0 where
@@ -20,7 +20,7 @@ pub record IsWholeFile (shown : Shown) (name : List ℕ) (limit : ℕ) (found : 
   pub file : shown.files name ≡ Some bytes
   pub front : found ≡ take (limit + 1) bytes
 
--- where the host tells nothing, the bytes are those that it gave
+-- where the host tells nothing, there are bytes of which these are so many
 abbrev pub ReadsWhole : Option Shown → List ℕ → ℕ → List ℕ → Type 0
 ReadsWhole None name limit found = (bytes : List ℕ) × (found ≡ take (limit + 1) bytes)
 ReadsWhole (Some shown) name limit found = IsWholeFile shown name limit found
@@ -34,12 +34,3 @@ IsFront (Some shown) name found = (bytes : List ℕ) → shown.files name ≡ So
 pub record SaidSome (old new : Option Shown) (bytes : List ℕ) : Type 0 where
   pub count : ℕ
   pub front : SaidFront old new bytes count
-
--- the file holds a front of the bytes, and nothing else changed
-pub record HoldsFront (old new : Option Shown) (name bytes : List ℕ) : Type 0 where
-  pub count : ℕ
-  pub front : Holds old new name (take count bytes)
-
--- nothing changed, or just the file, which holds a front of the bytes
-abbrev pub HoldsSome : Option Shown → Option Shown → List ℕ → List ℕ → Type 0
-HoldsSome old new name bytes = (new ≡ old) ⊎ HoldsFront old new name bytes

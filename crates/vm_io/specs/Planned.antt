@@ -4,6 +4,7 @@ use Rattle.std.specs.List.{list_any}
 use Rattle.vm_page.specs.Counts.{count_more}
 use Rattle.vm_io.specs.Shown.{Shown}
 use Rattle.vm_io.specs.InMemory.{first_named, shown_in, can_hold, is_within}
+use Rattle.vm_io.specs.declared.host.GiveFaults.{GiveFaults}
 use Rattle.vm_io.specs.declared.memory.MemHost.{MemHost}
 
 -- the files and what was said
@@ -14,7 +15,7 @@ shown_of host = shown_in host.store.files.items host.store.said.items
 abbrev pub plan_of : MemHost → List ℕ
 plan_of host = host.plan.items
 
--- how many calls of take, put and say were made, up to the last value
+-- how many calls of take, replace and say were made, up to the last value
 abbrev pub calls_of : MemHost → ℕ
 calls_of host = host.calls
 
@@ -22,15 +23,15 @@ calls_of host = host.calls
 abbrev pub room_of : MemHost → ℕ
 room_of host = host.store.room
 
--- the most bytes that a call moves
+-- the most bytes that a take or say moves
 abbrev pub piece_of : MemHost → ℕ
 piece_of host = host.piece
 
--- how many takes failed; how many puts and says did; the file whose take failed last
+-- how many takes failed; how many replaces and says did, and how many says took nothing; the file whose take failed last
 abbrev pub failed_takes : MemHost → ℕ
 failed_takes host = host.faults.takes
 
-abbrev pub failed_gives : MemHost → ℕ
+abbrev pub failed_gives : MemHost → GiveFaults
 failed_gives host = host.faults.gives
 
 abbrev pub last_failed : MemHost → List ℕ
@@ -44,11 +45,11 @@ next_call host = count_more (calls_of host)
 abbrev pub is_planned : MemHost → Bool
 is_planned host = list_any (λ number. nat_eq number (next_call host)) (plan_of host)
 
--- the bytes of a piece that a put or say moves
+-- the bytes of a piece that a say moves
 abbrev pub front_of : MemHost → List ℕ → List ℕ
 front_of host piece = take (piece_of host) piece
 
--- whether a put or say moves something of a piece, or the piece is empty
+-- whether a say moves something of a piece, or the piece is empty
 abbrev pub moves_some : MemHost → List ℕ → Bool
 moves_some host piece = nat_lt 0 (piece_of host) || nat_eq (length piece) 0
 
@@ -59,12 +60,12 @@ pub record IsNext (old new : MemHost) : Type 0 where
   pub room : room_of new ≡ room_of old
   pub piece : piece_of new ≡ piece_of old
 
--- which calls go through: not planned to fail; the file is there; what is kept and what is moved are within the room
+-- which calls go through: not planned to fail; the file is there; the bytes are within the room
 abbrev pub can_take : MemHost → List ℕ → Bool
 can_take host name = not (is_planned host) && is_some ((shown_of host).files name)
 
-abbrev pub can_put : MemHost → List ℕ → Bool → List ℕ → Bool
-can_put host name first piece = not (is_planned host) && can_hold ((shown_of host).files name) first (front_of host piece) (room_of host)
+abbrev pub can_replace : MemHost → List ℕ → List ℕ → Bool
+can_replace host name bytes = not (is_planned host) && can_hold ((shown_of host).files name) bytes (room_of host)
 
 abbrev pub can_say : MemHost → List ℕ → Bool
 can_say host piece = not (is_planned host) && is_within (length (shown_of host).said) (length (front_of host piece)) (room_of host)
@@ -76,11 +77,12 @@ pub record IsFresh (host : MemHost) (files : List (List ℕ × List ℕ)) (room 
   pub planned : plan_of host ≡ plan
   pub calls : calls_of host ≡ 0
   pub takes : failed_takes host ≡ 0
-  pub gives : failed_gives host ≡ 0
+  pub failed : (failed_gives host).failed ≡ 0
+  pub stuck : (failed_gives host).stuck ≡ 0
   pub last : last_failed host ≡ []
   pub unlimited : piece_of host ≡ 2 ^ 64 - 1
 
--- the same host, whose calls move at most so many bytes
+-- the same host, whose takes and says move at most so many bytes
 abbrev pub limited_to : MemHost → ℕ → MemHost
 limited_to host piece = record host { piece = piece }
 

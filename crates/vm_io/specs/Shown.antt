@@ -32,21 +32,10 @@ abbrev pub Holds : Option Shown → Option Shown → List ℕ → List ℕ → T
 Holds None new name bytes = new ≡ None
 Holds (Some old) new name bytes = (after : Shown) × (new ≡ Some after) × HoldsJust old after name bytes
 
--- what stands before the piece: nothing, or the file as it is
-abbrev pub kept : Bool → Option (List ℕ) → List ℕ
-kept true bytes = []
-kept false None = []
-kept false (Some bytes) = bytes
-
--- the first n bytes of the piece are appended to the file, and nothing else changes
-abbrev pub PutFront : Option Shown → Option Shown → List ℕ → Bool → List ℕ → ℕ → Type 0
-PutFront None new name first piece n = new ≡ None
-PutFront (Some old) new name first piece n = Holds (Some old) new name (kept first (old.files name) ++ take n piece)
-
--- a put appends a front of the piece, to nothing where it is the first; one that fails changes nothing
-abbrev pub Puts : {E : Type 0} → Option Shown → Option Shown → List ℕ → Bool → List ℕ → Result ℕ E → Type 0
-Puts old new name first piece (Ok n) = PutFront old new name first piece n
-Puts old new name first piece (Err e) = new ≡ old
+-- a file that is replaced holds just the bytes; a call that fails changes nothing
+abbrev pub Replaces : {T E : Type 0} → Option Shown → Option Shown → List ℕ → List ℕ → Result T E → Type 0
+Replaces old new name bytes (Ok done) = Holds old new name bytes
+Replaces old new name bytes (Err e) = new ≡ old
 
 -- the same host with more said
 abbrev pub say_more : Shown → List ℕ → Shown

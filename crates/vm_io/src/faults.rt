@@ -1,16 +1,16 @@
 // What each host keeps of its failures: takes and gives are counted apart, each up to the greatest `u64`.
 ghost use Rattle.std.specs.Prelude.{◌≡◌, ℕ, ◌+◌, ◌-◌, ◌^◌, ◌≤◌, ◌<◌, ◌&&◌, min, [], nat_eq, nat_lt, if◌then◌else◌};
 ghost use Rattle.vm_page.specs.Counts.{count_more};
-ghost use Rattle.vm_io.specs.Causes.{Rose, SameTakes};
+ghost use Rattle.vm_io.specs.Causes.{Rose, SameTakes, more_failed, more_stuck};
 
-use crate::host::Failed;
+use crate::host::{Failed, GiveFaults};
 use crate::last_name::LastName;
 
 /// Counts of failed takes and gives, and the name of the file whose take failed last.
 #[derive(Drop)]
 pub struct Faults {
     pub takes: u64,
-    pub gives: u64,
+    pub gives: GiveFaults,
     pub last: LastName,
 }
 
@@ -18,12 +18,16 @@ pub struct Faults {
 impl Faults {
     pub fn new() -> Self
         ensures takes { result.takes ≡ 0 }
-        ensures gives { result.gives ≡ 0 }
+        ensures failed { result.gives.failed ≡ 0 }
+        ensures stuck { result.gives.stuck ≡ 0 }
         ensures last { result.last.bytes ≡ [] }
     {
         Faults {
             takes: 0,
-            gives: 0,
+            gives: GiveFaults {
+                failed: 0,
+                stuck: 0,
+            },
             last: LastName::new(),
         }
     }
@@ -40,34 +44,36 @@ impl Faults {
         Failed
     }
 
-    /// Counts a failed put or say.
+    /// Counts a failed replace or say.
     pub fn fail_give(&mut self) -> Failed
-        ensures counted { self.new.gives ≡ count_more self.old.gives }
-        ensures later { self.old.gives ≤ self.new.gives }
+        ensures counted { self.new.gives ≡ more_failed self.old.gives }
+        ensures later { self.old.gives.failed ≤ self.new.gives.failed }
         ensures apart { SameTakes self.old.takes self.new.takes self.old.last.bytes self.new.last.bytes }
     {
-        self.gives = self.gives.saturating_add(1);
+        self.gives.failed = self.gives.failed.saturating_add(1);
         Failed
     }
 
-    /// Counts a give that took nothing of a piece that is not empty, and answers how many bytes it took.
+    /// Counts a say that took nothing of a piece that is not empty, and answers how many bytes it took.
     pub fn taken(&mut self, count: usize, len: usize) -> usize
         ensures answer { result ≡ count }
-        ensures later { self.old.gives ≤ self.new.gives }
-        ensures stuck { count ≡ 0 → 0 < len → Rose self.old.gives self.new.gives }
-        ensures counted { self.new.gives ≡ (if nat_eq count 0 && nat_lt 0 len then count_more self.old.gives else self.old.gives) }
+        ensures later { self.old.gives.stuck ≤ self.new.gives.stuck }
+        ensures stuck { count ≡ 0 → 0 < len → Rose self.old.gives.stuck self.new.gives.stuck }
+        ensures counted { self.new.gives ≡ (if nat_eq count 0 && nat_lt 0 len then more_stuck self.old.gives else self.old.gives) }
         ensures apart { SameTakes self.old.takes self.new.takes self.old.last.bytes self.new.last.bytes }
     {
         if count == 0 && len > 0 {
-            self.fail_give();
+            self.gives.stuck = self.gives.stuck.saturating_add(1);
         }
         count
     }
 
     /// All that failed, up to the greatest `u64`.
     pub fn total(&self) -> u64
-        ensures { result ≡ min (self.now.takes + self.now.gives) (2 ^ 64 - 1) }
+        ensures { result ≡ min (self.now.takes + self.now.gives.failed + self.now.gives.stuck) (2 ^ 64 - 1) }
     {
-        self.takes.saturating_add(self.gives)
+        self.takes
+            .saturating_add(self.gives.failed)
+            .saturating_add(self.gives.stuck)
     }
 }

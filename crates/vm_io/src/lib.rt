@@ -6,5 +6,6 @@ pub mod host;
 mod last_name;
 pub mod loops;
 pub mod memory;
+mod replacing;
 mod store;
 pub mod system;

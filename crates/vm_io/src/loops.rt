@@ -1,8 +1,8 @@
-// Loops over a host: a whole file read, bytes put into a file, bytes said.
-ghost use Rattle.std.specs.Prelude.{◌≡◌, ◌≢◌, ◌⊎◌, ℕ, ◌+◌, ◌-◌, ◌≤◌, ◌<◌, ◌^◌, length, vec_len, IfOk, OnOk, OnErr};
-ghost use Rattle.vm_io.specs.Causes.{FailedTake, Rose, SameTakes};
-ghost use Rattle.vm_io.specs.Loops.{ReadsMore, ReadsWhole, SaidSome, HoldsSome};
-ghost use Rattle.vm_io.specs.Shown.{SaidFront, PutFront, Holds};
+// Loops over a host: a whole file read, bytes said.
+ghost use Rattle.std.specs.Prelude.{◌≡◌, ◌≢◌, ◌⊎◌, ℕ, ◌+◌, ◌-◌, ◌≤◌, ◌<◌, ◌^◌, length, vec_len, IfOk, IfErr, OnOk, OnErr};
+ghost use Rattle.vm_io.specs.Causes.{AreLater, FailedTake, Rose, SameTakes};
+ghost use Rattle.vm_io.specs.Loops.{ReadsMore, ReadsWhole, SaidSome};
+ghost use Rattle.vm_io.specs.Shown.{SaidFront};
 
 use crate::host::{Failed, Host};
 use std::alloc::{AllocError, Global};
@@ -17,9 +17,9 @@ pub enum ReadFault {
     Memory,
 }
 
-/// Why bytes were not put or said.
+/// Why bytes were not said.
 #[derive(Clone, Copy, Debug, PartialEq, Eq, Error)]
-pub enum PutFault {
+pub enum SayFault {
     #[error("the host failed")]
     Failed,
     #[error("the host took nothing")]
@@ -27,7 +27,18 @@ pub enum PutFault {
 }
 
 // Bytes that one call of `take` asks for.
-const CHUNK: usize = 4096;
+const CHUNK: usize = 65_536;
+
+// So many zeros: room for a piece.
+fn zeros(alloc: Global, count: usize) -> Result<Vec<u8>, ReadFault>
+    ensures len { IfOk result (λ v. vec_len v ≡ count) }
+    ensures memory { IfErr result (λ e. e ≡ ReadFault.Memory) }
+{
+    match vec![in alloc; 0u8; count] {
+        Ok(room) => Ok(room),
+        Err(AllocError) => Err(ReadFault::Memory),
+    }
+}
 
 // Takes the bytes behind those that are there, and appends them.
 fn append_more<H: Host>(
@@ -72,7 +83,8 @@ pub fn read_whole<H: Host>(
     ensures apart { H.gives host.new ≡ H.gives host.old }
 {
     let mut bytes = Vec::new(alloc);
-    let mut chunk = [0u8; CHUNK];
+    let mut space = zeros(alloc, CHUNK)?;
+    let chunk = space.as_mut_slice();
     'reading: loop {
         let room = (limit + 1 - bytes.len()).min(CHUNK);
         let count = append_more(host, name, &mut bytes, &mut chunk[..room])?;
@@ -82,60 +94,23 @@ pub fn read_whole<H: Host>(
     }
 }
 
-// Puts the front of a piece. To take nothing of a piece that is not empty is a fault, even if the file was made empty.
-fn put_piece<H: Host>(
-    host: &mut H,
-    name: &str,
-    first: bool,
-    piece: &[u8],
-) -> Result<usize, PutFault>
-    ensures bound { IfOk result (λ n. n ≤ length piece.now) }
-    ensures some { IfOk result (λ n. 0 < length piece.now → 0 < n) }
-    ensures put { IfOk result (PutFront (H.shown host.old) (H.shown host.new) name.now first piece.now) }
-    ensures refused { OnErr result ((H.shown host.new ≡ H.shown host.old) ⊎ PutFront (H.shown host.old) (H.shown host.new) name.now first piece.now 0) }
-    ensures later { H.gives host.old ≤ H.gives host.new }
-    ensures failed { OnErr result (Rose (H.gives host.old) (H.gives host.new)) }
-    ensures apart { SameTakes (H.takes host.old) (H.takes host.new) (H.last host.old) (H.last host.new) }
-{
-    match host.put(name, first, piece) {
-        Ok(0) if !piece.is_empty() => Err(PutFault::Stuck),
-        Ok(count) => Ok(count),
-        Err(Failed) => Err(PutFault::Failed),
-    }
-}
-
-/// Makes a file hold just these bytes. The first call empties the file, also where there are no bytes to put.
-#[tactic(auto, unfolding(vm_page::specs::Counts::count_more))]
-pub fn put_all<H: Host>(host: &mut H, name: &str, bytes: &[u8]) -> Result<(), PutFault>
-    ensures put { OnOk result (Holds (H.shown host.old) (H.shown host.new) name.now bytes.now) }
-    ensures front { HoldsSome (H.shown host.old) (H.shown host.new) name.now bytes.now }
-    ensures later { H.gives host.old ≤ H.gives host.new }
-    ensures failed { OnErr result (Rose (H.gives host.old) (H.gives host.new)) }
-    ensures apart { SameTakes (H.takes host.old) (H.takes host.new) (H.last host.old) (H.last host.new) }
-{
-    let mut at = put_piece(host, name, true, bytes)?;
-    'putting: while at < bytes.len() {
-        at += put_piece(host, name, false, &bytes[at..])?;
-    }
-    Ok(())
-}
-
 /// Says all bytes.
 #[tactic(auto, unfolding(vm_page::specs::Counts::count_more))]
-pub fn say_all<H: Host>(host: &mut H, bytes: &[u8]) -> Result<(), PutFault>
+pub fn say_all<H: Host>(host: &mut H, bytes: &[u8]) -> Result<(), SayFault>
     ensures said { OnOk result (SaidFront (H.shown host.old) (H.shown host.new) bytes.now (length bytes.now)) }
     ensures front { SaidSome (H.shown host.old) (H.shown host.new) bytes.now }
     ensures some { OnErr result (0 < length bytes.now) }
-    ensures later { H.gives host.old ≤ H.gives host.new }
-    ensures failed { OnErr result (Rose (H.gives host.old) (H.gives host.new)) }
+    ensures later { AreLater (H.gives host.old) (H.gives host.new) }
+    ensures failed { result ≡ Err SayFault.Failed → Rose (H.gives host.old).failed (H.gives host.new).failed }
+    ensures stuck { result ≡ Err SayFault.Stuck → Rose (H.gives host.old).stuck (H.gives host.new).stuck }
     ensures apart { SameTakes (H.takes host.old) (H.takes host.new) (H.last host.old) (H.last host.new) }
 {
     let mut at = 0;
     'saying: while at < bytes.len() {
         match host.say(&bytes[at..]) {
-            Ok(0) => return Err(PutFault::Stuck),
+            Ok(0) => return Err(SayFault::Stuck),
             Ok(count) => at += count,
-            Err(Failed) => return Err(PutFault::Failed),
+            Err(Failed) => return Err(SayFault::Failed),
         }
     }
     Ok(())

@@ -1,9 +1,9 @@
 // A host in memory for tests: it fails exactly where its plan, a missing file or its room says so.
 ghost use Rattle.std.specs.Prelude.{◌≡◌, ℕ, ◌+◌, ◌-◌, ◌^◌, ◌≤◌, ◌<◌, ◌++◌, ◌⊎◌, ◌&&◌, min, max, take, drop, map, length, Some, IfOk, is_ok, if◌then◌else◌, option_map, string_bytes};
 ghost use Rattle.vm_page.specs.Counts.{count_more};
-ghost use Rattle.vm_io.specs.Causes.{HasCause, HasStuckCause, HasTakeCause, SameTakes};
-ghost use Rattle.vm_io.specs.Shown.{Takes, Puts, Says};
-ghost use Rattle.vm_io.specs.Planned.{shown_of, failed_takes, failed_gives, last_failed, next_call, is_planned, can_take, can_put, can_say, IsNext, IsFresh, IsMostTaken};
+ghost use Rattle.vm_io.specs.Causes.{HasCause, HasStuckCause, HasTakeCause, SameTakes, more_failed, more_stuck};
+ghost use Rattle.vm_io.specs.Shown.{Takes, Replaces, Says};
+ghost use Rattle.vm_io.specs.Planned.{shown_of, failed_takes, failed_gives, last_failed, next_call, is_planned, can_take, can_replace, can_say, IsNext, IsFresh, IsMostTaken};
 ghost use Rattle.vm_io.specs.Planned.{piece_of, front_of, moves_some, limited_to};
 
 use crate::faults::Faults;
@@ -23,7 +23,7 @@ pub struct MemHost {
 
 impl MemHost {
     /// A host with these files (of two with one name, only the first is seen), with room for `room` bytes in each file and of what is said.
-    /// The plan has the numbers of the calls that fail; `take`, `put` and `say` are numbered together, from 1.
+    /// The plan has the numbers of the calls that fail; `take`, `replace` and `say` are numbered together, from 1.
     /// It fails only for want of memory, and no later call takes any.
     pub fn new(
         alloc: Global,
@@ -42,8 +42,8 @@ impl MemHost {
         })
     }
 
-    /// The same host, each of whose calls moves at most `piece` bytes; but a take moves one at least, where there is one and room for it.
-    /// Where that is none, a put or say of a piece that is not empty answers 0, and is counted as a fault.
+    /// The same host, each of whose takes and says moves at most `piece` bytes; but a take moves one at least, where there is one and room for it.
+    /// Where that is none, a say of a piece that is not empty answers 0, and is counted as a fault. A file is replaced whole, or not at all.
     pub fn with_piece(self, piece: usize) -> MemHost
         ensures { result ≡ limited_to self piece }
     {
@@ -74,7 +74,7 @@ impl MemHost {
         self.plan.contains(&self.calls)
     }
 
-    // The bytes of a piece that a call moves.
+    // The bytes of a piece that a say moves.
     fn front<'a>(&self, piece: &'a [u8]) -> &'a [u8]
         ensures { result.now ≡ front_of self.now piece.now }
     {
@@ -111,35 +111,32 @@ impl Host for MemHost {
         Ok(copy_from(bytes, at as usize, self.piece.max(1), into))
     }
 
-    fn put(&mut self, name: &str, first: bool, piece: &[u8]) -> Result<usize, Failed>
-        ensures bound { IfOk result (λ n. n ≤ length piece.now) }
-        ensures bytes { Puts (Some (shown_of self.old)) (Some (shown_of self.new)) name.now first piece.now result }
-        ensures cause { HasCause (failed_gives self.old) (failed_gives self.new) result }
-        ensures stuck { HasStuckCause (failed_gives self.old) (failed_gives self.new) (length piece.now) result }
+    fn replace(&mut self, name: &str, bytes: &[u8]) -> Result<(), Failed>
+        ensures held { Replaces (Some (shown_of self.old)) (Some (shown_of self.new)) name.now bytes.now result }
+        ensures cause { HasCause (failed_gives self.old).failed (failed_gives self.new).failed result }
+        ensures moves { (failed_gives self.new).stuck ≡ (failed_gives self.old).stuck }
         ensures apart { SameTakes (failed_takes self.old) (failed_takes self.new) (last_failed self.old) (last_failed self.new) }
-        ensures exact { is_ok result ≡ can_put self.old name.now first piece.now }
-        ensures counted { failed_gives self.new ≡ (if is_ok result && moves_some self.old piece.now then failed_gives self.old else count_more (failed_gives self.old)) }
-        ensures most { IfOk result (λ n. n ≡ min (piece_of self.old) (length piece.now)) }
+        ensures exact { is_ok result ≡ can_replace self.old name.now bytes.now }
+        ensures counted { failed_gives self.new ≡ (if is_ok result then failed_gives self.old else more_failed (failed_gives self.old)) }
         ensures next { IsNext self.old self.new }
     {
         if self.is_planned() {
             return Err(self.faults.fail_give());
         }
-        let front = self.front(piece);
-        if !self.store.put(name, first, front) {
+        if !self.store.replace(name, bytes) {
             return Err(self.faults.fail_give());
         }
-        Ok(self.faults.taken(front.len(), piece.len()))
+        Ok(())
     }
 
     fn say(&mut self, piece: &[u8]) -> Result<usize, Failed>
         ensures bound { IfOk result (λ n. n ≤ length piece.now) }
         ensures bytes { Says (Some (shown_of self.old)) (Some (shown_of self.new)) piece.now result }
-        ensures cause { HasCause (failed_gives self.old) (failed_gives self.new) result }
-        ensures stuck { HasStuckCause (failed_gives self.old) (failed_gives self.new) (length piece.now) result }
+        ensures cause { HasCause (failed_gives self.old).failed (failed_gives self.new).failed result }
+        ensures stuck { HasStuckCause (failed_gives self.old).stuck (failed_gives self.new).stuck (length piece.now) result }
         ensures apart { SameTakes (failed_takes self.old) (failed_takes self.new) (last_failed self.old) (last_failed self.new) }
         ensures exact { is_ok result ≡ can_say self.old piece.now }
-        ensures counted { failed_gives self.new ≡ (if is_ok result && moves_some self.old piece.now then failed_gives self.old else count_more (failed_gives self.old)) }
+        ensures counted { failed_gives self.new ≡ (if is_ok result then (if moves_some self.old piece.now then failed_gives self.old else more_stuck (failed_gives self.old)) else more_failed (failed_gives self.old)) }
         ensures most { IfOk result (λ n. n ≡ min (piece_of self.old) (length piece.now)) }
         ensures next { IsNext self.old self.new }
     {

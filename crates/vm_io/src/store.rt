@@ -1,7 +1,7 @@
 // Files and what was said, in memory that is taken when they are made: no later call takes more.
 ghost use Rattle.std.specs.Prelude.{◌≡◌, ◌≢◌, ◌⊎◌, ℕ, ◌+◌, ◌-◌, ◌≤◌, ◌<◌, ◌^◌, ◌++◌, [], true, false, take, drop, map, length, All, vec_len, vec_capacity, Some, None, IfOk, IsTrue, MatchOption, option_map, string_bytes};
 ghost use Rattle.vm_io.specs.InMemory.{bytes_at, named, shown_in, is_within, can_hold, IsPlace};
-ghost use Rattle.vm_io.specs.Shown.{kept, HoldsJust, say_more};
+ghost use Rattle.vm_io.specs.Shown.{HoldsJust, say_more};
 
 use std::alloc::{AllocError, Global};
 
@@ -44,13 +44,6 @@ fn place_of(files: &[MemFile], name: &str) -> Option<usize>
     None
 }
 
-// How many bytes stand before a piece.
-fn kept_len(bytes: &[u8], first: bool) -> usize
-    ensures { result ≡ length (kept first (Some bytes.now)) }
-{
-    if first { 0 } else { bytes.len() }
-}
-
 // Whether more bytes behind those that are kept are within the room.
 fn has_room(kept: usize, more: usize, room: usize) -> bool
     ensures { result ≡ is_within kept more room }
@@ -58,16 +51,14 @@ fn has_room(kept: usize, more: usize, room: usize) -> bool
     kept <= room && more <= room - kept
 }
 
-// Appends a piece that fits, to a file that is made empty before where the piece is its first.
-fn put_whole(bytes: &mut Vec<u8>, first: bool, piece: &[u8])
-    requires { length (kept first (Some bytes.old.items)) + length piece.now ≤ vec_capacity bytes.old }
-    ensures bytes { bytes.new.items ≡ kept first (Some bytes.old.items) ++ piece.now }
+// Puts bytes that fit in the place of those that are there.
+fn put_over(bytes: &mut Vec<u8>, more: &[u8])
+    requires { length more.now ≤ vec_capacity bytes.old }
+    ensures bytes { bytes.new.items ≡ more.now }
     ensures capacity { vec_capacity bytes.old ≤ vec_capacity bytes.new }
 {
-    if first {
-        bytes.clear();
-    }
-    append(bytes, piece);
+    bytes.clear();
+    append(bytes, more);
 }
 
 // Appends a piece that fits.
@@ -115,21 +106,20 @@ impl Store {
         }
     }
 
-    /// Puts a whole piece where the file is there and has room, and answers whether it did.
-    pub fn put(&mut self, name: &str, first: bool, piece: &[u8]) -> bool
-        ensures exact { result ≡ can_hold (bytes_at self.old.files.items name.now) first piece.now self.old.room }
-        ensures held { IsTrue result → HoldsJust (shown_in self.old.files.items self.old.said.items) (shown_in self.new.files.items self.new.said.items) name.now (kept first (bytes_at self.old.files.items name.now) ++ piece.now) }
+    /// Makes the file hold just these bytes where it is there and they have room, and answers whether it did.
+    pub fn replace(&mut self, name: &str, bytes: &[u8]) -> bool
+        ensures exact { result ≡ can_hold (bytes_at self.old.files.items name.now) bytes.now self.old.room }
+        ensures held { IsTrue result → HoldsJust (shown_in self.old.files.items self.old.said.items) (shown_in self.new.files.items self.new.said.items) name.now bytes.now }
         ensures refused { result ≡ false → self.new ≡ self.old }
         ensures room { self.new.room ≡ self.old.room }
     {
         let Some(i) = place_of(&self.files, name) else {
             return false;
         };
-        let kept = kept_len(self.files[i].bytes.as_slice(), first);
-        if !has_room(kept, piece.len(), self.room) {
+        if !has_room(0, bytes.len(), self.room) {
             return false;
         }
-        put_whole(&mut self.files[i].bytes, first, piece);
+        put_over(&mut self.files[i].bytes, bytes);
         true
     }
 

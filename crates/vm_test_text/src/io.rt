@@ -1,7 +1,7 @@
 use std::alloc::{AllocError, Global};
 use std::test::Fail;
 use vm_io::host::{Failed, Host};
-use vm_io::loops::{PutFault, ReadFault, put_all, read_whole, say_all};
+use vm_io::loops::{ReadFault, SayFault, read_whole, say_all};
 use vm_io::memory::MemHost;
 use vm_io::system::StdHost;
 
@@ -24,30 +24,31 @@ fn with_file(
 fn loops_move_all_bytes(rt: HostRuntime) -> Result<(), Fail> {
     let alloc = rt.alloc();
     let mut short = with_file(alloc, b"older", 5, &[])?.with_piece(1);
-    assert_eq!(rt; put_all(&mut short, "a", b"new"), Ok(()));
+    assert_eq!(rt; short.replace("a", b"new"), Ok(()));
     assert!(rt; read_whole(alloc, &mut short, "a", 9)?.as_slice() == b"new".as_slice());
     assert!(rt; read_whole(alloc, &mut short, "a", 1)?.as_slice() == b"ne".as_slice());
     assert_eq!(rt; say_all(&mut short, b"hello"), Ok(()));
     assert!(rt; short.said() == b"hello".as_slice());
-    assert_eq!(rt; put_all(&mut short, "a", b""), Ok(()));
+    assert_eq!(rt; short.replace("a", b""), Ok(()));
     assert!(rt; short.file("a") == Some(b"".as_slice()));
     assert_eq!(rt; short.faults(), 0);
     Ok(())
 }
 
+/// A loop stops at its first failure. A file whose replacement fails is as it was.
 #[test]
 fn a_planned_failure_stops_a_loop(rt: HostRuntime) -> Result<(), Fail> {
     let alloc = rt.alloc();
-    let mut short = with_file(alloc, b"old", 5, &[2, 4, 6])?.with_piece(1);
+    let mut short = with_file(alloc, b"old", 5, &[2, 3, 5])?.with_piece(1);
     assert!(rt;
         matches!(
             read_whole(alloc, &mut short, "a", 9),
             Err(ReadFault::Failed)
         )
     );
-    assert_eq!(rt; put_all(&mut short, "a", b"new"), Err(PutFault::Failed));
-    assert!(rt; short.file("a") == Some(b"n".as_slice()));
-    assert_eq!(rt; say_all(&mut short, b"hello"), Err(PutFault::Failed));
+    assert_eq!(rt; short.replace("a", b"new"), Err(Failed));
+    assert!(rt; short.file("a") == Some(b"old".as_slice()));
+    assert_eq!(rt; say_all(&mut short, b"hello"), Err(SayFault::Failed));
     assert!(rt; short.said() == b"h".as_slice());
     assert_eq!(rt; short.faults(), 3);
     Ok(())
@@ -58,9 +59,10 @@ fn names_and_room_are_kept_to(rt: HostRuntime) -> Result<(), Fail> {
     let alloc = rt.alloc();
     let mut host = with_file(alloc, b"old", 4, &[])?;
     assert_eq!(rt; host.take("b", 0, &mut [0; 4]), Err(Failed));
-    assert_eq!(rt; host.put("b", true, b"new"), Err(Failed));
-    assert_eq!(rt; host.put("a", false, b"er"), Err(Failed));
-    assert_eq!(rt; host.put("a", false, b"s"), Ok(1));
+    assert_eq!(rt; host.replace("b", b"new"), Err(Failed));
+    assert_eq!(rt; host.replace("a", b"older"), Err(Failed));
+    assert!(rt; host.file("a") == Some(b"old".as_slice()));
+    assert_eq!(rt; host.replace("a", b"olds"), Ok(()));
     assert_eq!(rt; host.say(b"hello"), Err(Failed));
     assert!(rt; host.file("a") == Some(b"olds".as_slice()));
     assert!(rt; host.said().is_empty());
@@ -68,44 +70,50 @@ fn names_and_room_are_kept_to(rt: HostRuntime) -> Result<(), Fail> {
     Ok(())
 }
 
-/// Where no byte is moved a take still moves one, and a first put leaves an empty file. An empty piece is no fault, and a planned call fails.
+/// Where no byte is moved a take still moves one, and a file is still replaced. An empty piece is no fault, and a planned call fails.
 #[test]
 fn pieces_of_no_bytes_are_counted(rt: HostRuntime) -> Result<(), Fail> {
     let alloc = rt.alloc();
-    let mut host = with_file(alloc, b"old", 3, &[7])?.with_piece(0);
+    let mut host = with_file(alloc, b"old", 3, &[5])?.with_piece(0);
     let mut bytes = [0; 4];
     assert_eq!(rt; host.take("a", 1, &mut bytes), Ok(1));
     assert_eq!(rt; bytes, [b'l', 0, 0, 0]);
-    assert_eq!(rt; host.put("a", true, b""), Ok(0));
+    assert_eq!(rt; host.replace("a", b"new"), Ok(()));
     assert_eq!(rt; host.say(b""), Ok(0));
     assert_eq!(rt; host.faults(), 0);
-    assert_eq!(rt; host.put("a", true, b"longer"), Ok(0));
     assert_eq!(rt; host.say(b"longer"), Ok(0));
-    assert_eq!(rt; host.faults(), 2);
-    assert_eq!(rt; put_all(&mut host, "a", b"new"), Err(PutFault::Stuck));
-    assert_eq!(rt; say_all(&mut host, b"new"), Err(PutFault::Failed));
-    assert_eq!(rt; say_all(&mut host, b"new"), Err(PutFault::Stuck));
-    assert_eq!(rt; host.faults(), 5);
-    assert!(rt; host.file("a") == Some(b"".as_slice()));
+    assert_eq!(rt; host.faults(), 1);
+    assert_eq!(rt; say_all(&mut host, b"new"), Err(SayFault::Failed));
+    assert_eq!(rt; say_all(&mut host, b"new"), Err(SayFault::Stuck));
+    assert_eq!(rt; host.faults(), 3);
+    assert!(rt; host.file("a") == Some(b"new".as_slice()));
     assert!(rt; host.said().is_empty());
     Ok(())
 }
 
+/// A shorter file takes the place of a longer one, and no part is left beside it. What is read on is the file that was there when it was opened.
 #[test]
-fn real_files_are_put_and_taken(rt: HostRuntime) -> Result<(), Fail> {
+fn real_files_are_replaced_and_taken(rt: HostRuntime) -> Result<(), Fail> {
     let name = "vm_io_test_file";
-    let mut host = StdHost::new(&rt);
-    let mut bytes = [0; 16];
-    // A first piece leaves nothing of a longer file.
-    assert_eq!(rt; host.put(name, true, b"a longer"), Ok(8));
-    assert_eq!(rt; host.put(name, true, b"one "), Ok(4));
+    let mut host = StdHost::new(&rt, rt.alloc());
+    let mut bytes = [0; 4];
+    assert_eq!(rt; host.replace(name, b"a longer one"), Ok(()));
+    assert_eq!(rt; host.replace(name, b"one two"), Ok(()));
     assert_eq!(rt; host.take(name, 0, &mut bytes), Ok(4));
-    assert_eq!(rt; host.put(name, false, b"two"), Ok(3));
-    assert_eq!(rt; host.take(name, 2, &mut bytes), Ok(5));
-    assert!(rt; bytes[..5] == b"e two"[..]);
+    assert!(rt; bytes[..] == b"one "[..]);
+    std::fs::rename(&rt, name, "vm_io_test_other")?;
+    assert_eq!(rt; host.take(name, 4, &mut bytes), Ok(3));
+    assert!(rt; bytes[..3] == b"two"[..]);
+    assert_eq!(rt; host.take("vm_io_test_other", 2, &mut bytes), Ok(4));
+    assert!(rt; bytes[..] == b"e tw"[..]);
     assert_eq!(rt; host.faults(), 0);
-    assert_eq!(rt; host.take("vm_io_no_such_file", 0, &mut bytes), Err(Failed));
-    assert_eq!(rt; host.faults(), 1);
-    std::fs::remove_file(&rt, name)?;
+    assert_eq!(rt; host.take(name, 0, &mut bytes), Err(Failed));
+    assert_eq!(rt;
+        host.replace("vm_io_no_such_folder/file", b"one"),
+        Err(Failed)
+    );
+    assert_eq!(rt; host.faults(), 2);
+    std::fs::remove_file(&rt, "vm_io_test_other")?;
+    assert!(rt; !std::fs::exists(&rt, "vm_io_test_file.part0")?);
     Ok(())
 }

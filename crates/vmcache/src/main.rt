@@ -22,7 +22,7 @@ fn main(rt: HostRuntime) -> ExitCode {
             Vec::new(alloc)
         }
     };
-    let mut host = StdHost::new(&rt);
+    let mut host = StdHost::new(&rt, alloc);
     let mut ends = Ends::Nothing;
     ExitCode::from(run(&rt, alloc, words.as_slice(), &mut host, &Open, &mut ends))
 }
