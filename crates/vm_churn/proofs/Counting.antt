@@ -1,14 +1,14 @@
 -- What a tally comes to answer by answer, and what the workers' tallies come to.
 use Rattle.std.specs.declared.alloc.Global.{Global}
 use Rattle.std.specs.List.{AllByRecursion, count_by, sum_by}
-use Rattle.std.proofs.Common.{[], ◌*◌, ◌++◌, ◌+◌, ◌<◌, ◌∙◌, ◌∷◌, ◌≡◌, ◌≤◌, ap, arith, cond, get_or, length, length-append, List, refl, Result}
+use Rattle.std.proofs.Common.{[], ◌*◌, ◌+◌, ◌<◌, ◌∙◌, ◌∷◌, ◌≡◌, ◌≤◌, ap, arith, get_or, length, List, refl, Result}
 use Rattle.std.proofs.Common.{slice_index_or, subst, suc, sym, take, Vec, zero, ℕ}
-use Rattle.std.proofs.lemmas.List.Sums.{count_by-le-length, sum_by-cons, sum_by_more_le, sum_by_push}
+use Rattle.std.proofs.lemmas.List.Sums.{count_by-le-length, sum_by-cons, sum_by_more_le}
 use Rattle.vm_map.specs.{declared.call.Call.Call, declared.call.Reply.Reply}
 use Rattle.vm_tree_rule.specs.declared.fault.TreeFault.{TreeFault}
 use Rattle.vm_drive.specs.{Drives.AreFew, Drives.items_of, Kept.AreKept}
 use Rattle.vm_churn.specs.declared.tally.Tally.{Tally}
-use Rattle.vm_churn.specs.Tallies.{count_in, IsSmall, StandsFor, tells_found, tells_gone, tells_new, told_after, told_by, told_tally, total_of}
+use Rattle.vm_churn.specs.Tallies.{count_in, IsSmall, StandsFor, tells_found, tells_gone, tells_new, told_by, told_tally, total_of}
 
 abbrev Answer : Type 0
 Answer = Result Reply TreeFault
@@ -19,20 +19,6 @@ told-small told few = record {
   new = omega (arith, count_by-le-length tells_new told);
   gone = omega (arith, count_by-le-length tells_gone told);
 }
-
-told-more : (told : List Answer) (answer : Answer) → told_by (told ++ answer ∷ []) ≡ told_after (told_by told) answer
-told-more told answer =
-    let some : count_by tells_found (told ++ answer ∷ []) ≡ count_by tells_found told + cond (tells_found answer) 1 0 = sum_by_push (λ a. cond (tells_found a) 1 0) told answer in
-    let new : count_by tells_new (told ++ answer ∷ []) ≡ count_by tells_new told + cond (tells_new answer) 1 0 = sum_by_push (λ a. cond (tells_new a) 1 0) told answer in
-    let gone : count_by tells_gone (told ++ answer ∷ []) ≡ count_by tells_gone told + cond (tells_gone answer) 1 0 = sum_by_push (λ a. cond (tells_gone a) 1 0) told answer in
-    cc
-
--- the tally with the answer more stands for it
-pub stands_after : (old new : Tally) (answer : Answer) → (IsSmall old → new ≡ told_after old answer) → (told : List Answer) → StandsFor old told → StandsFor new (told ++ answer ∷ [])
-stands_after old new answer counts told stands few =
-    let short : length told ≤ 1000000 = omega (arith, few, length-append told (answer ∷ [])) in
-    let is : old ≡ told_by told = stands short in
-    counts (subst (λ t. IsSmall t) (sym is) (told-small told short)) ∙ ap (λ t. told_after t answer) is ∙ sym (told-more told answer)
 
 -- a list that is one of few
 pub few_at : (lists : List (Vec Call Global)) (i : ℕ) (calls : Vec Call Global) → AreFew (items_of lists) → i < length lists → calls ≡ get_or lists i calls → length calls.items ≤ 1000000

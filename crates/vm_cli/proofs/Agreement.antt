@@ -1,14 +1,15 @@
 -- What any two endings of one command line have in common, how valid input ends, and what status 0 says of any ending.
 use Rattle.std.proofs.Common.{◌≡◌, ◌≢◌, ◌⊎◌, inl, inr, ◌∙◌, ℕ, List, Option, Some, sym, ap, subst, arith}
-use Rattle.vm_io.specs.Causes.{Rose}
+use Rattle.vm_io.specs.Causes.{FailedGive, Rose}
 use Rattle.vm_io.specs.Shown.{Shown}
+use Rattle.vm_io.specs.declared.host.GiveFaults.{GiveFaults}
 use Rattle.vm_words.specs.declared.Command.{Command}
 use Rattle.vm_words.specs.Commands.{IsCommand, line_of}
 use Rattle.vm_words.proofs.Lines.{one_command}
 use Rattle.vm_endings.specs.declared.ends.Ends.{Ends}
 use Rattle.vm_cli.specs.Agreement.{AgreesWithOthers, IsComplete, IsSettledStatus, as_done}
 use Rattle.vm_endings.specs.Commands.{IsSmooth, order_of}
-use Rattle.vm_endings.specs.Deliveries.{Content, IsDelivered, WentOut, file_cut, line, text_cut, whole}
+use Rattle.vm_endings.specs.Deliveries.{Content, IsDelivered, WentOut, line, text_cut, unwritten, whole}
 use Rattle.vm_endings.specs.Endings.{CommandEnds, IsHeadline, ProgramEnds, command, cut, done, exhausted, stopped, told, unable, usage}
 use Rattle.vm_endings.specs.Tests.{AllPass, StopsAt, Test}
 use Rattle.vm_cli.proofs.OneLine.{bounded, cut_not_done, no_cut, one_ending, same_order}
@@ -17,12 +18,12 @@ use Rattle.vm_cli.proofs.OneStop.{one_stop, stop_status, stop_unread}
 -- what went out has its status, or 3
 delivered_status : (content : Content) (old new : Option Shown) (status : ℕ) → IsDelivered content old new status → status ≢ 3 → status ≡ content.status
 delivered_status content old new status (whole written w s e) put = e
-delivered_status content old new status (file_cut w e) put = absurd (put e)
+delivered_status content old new status (unwritten f same e) put = absurd (put e)
 delivered_status content old new status (text_cut written w l s e) put = absurd (put e)
 
 went_out : (content : Content) (old new : Option Shown) (status : ℕ) → IsDelivered content old new status → status ≢ 3 → WentOut content old new
 went_out content old new status (whole written w s e) put = record { written = written; wrote = w; said = s }
-went_out content old new status (file_cut w e) put = absurd (put e)
+went_out content old new status (unwritten f same e) put = absurd (put e)
 went_out content old new status (text_cut written w l s e) put = absurd (put e)
 
 -- ---- status 0
@@ -100,7 +101,7 @@ valid_input words shown d failed new before after status is (command c also ends
 valid_input words shown d failed new before after status is (exhausted now same six) read put smooth all = inr six
 
 -- valid words over valid files, where status 2 and 3 have their causes
-pub complete : (words : List (List ℕ)) (failed : List ℕ) (old new : Option Shown) (before after : Ends) (takes takes' gives gives' status : ℕ) → ProgramEnds words failed old new before after status → (status ≡ 2 → Rose takes takes') → (status ≡ 3 → Rose gives gives') → IsComplete words old takes takes' gives gives' status
+pub complete : (words : List (List ℕ)) (failed : List ℕ) (old new : Option Shown) (before after : Ends) (takes takes' : ℕ) (gives gives' : GiveFaults) (status : ℕ) → ProgramEnds words failed old new before after status → (status ≡ 2 → Rose takes takes') → (status ≡ 3 → FailedGive gives gives') → IsComplete words old takes takes' gives gives' status
 complete words failed old new before after takes takes' gives gives' status p read write = λ shown d e is smooth all taken given.
     let p' : ProgramEnds words failed (Some shown) new before after status = subst (λ (o : Option Shown). ProgramEnds words failed o new before after status) e p in
     let smooth' : IsSmooth d (Some shown) = subst (λ (o : Option Shown). IsSmooth d o) e smooth in

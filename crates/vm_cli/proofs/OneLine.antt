@@ -93,7 +93,7 @@ few_workers workers h =
     let most : workers ≤ 64 = leb-true workers 64 (and_parts (leb 1 workers) (leb workers 64) h).1 in omega (arith, most)
 
 pub bounded : (shown : Option Shown) (c : Command) → AreBounded shown (order_of c)
-bounded shown (Run run) = (tt, λ few. (tt, λ _. (tt, λ _. (tt, λ _. (tt, λ _. (few_workers run.workers few, λ _. tt))))))
+bounded shown (Run run) = (tt, λ few. (tt, λ _. (tt, λ _. (tt, λ _. (tt, λ _. (tt, λ _. (few_workers run.workers few, λ _. tt)))))))
 bounded shown (Make make) = (tt, λ _. (tt, λ _. (tt, λ _. tt)))
 bounded shown (Check check) = (tt, λ _. tt)
 bounded shown (Churn churn) = (tt, λ _. (tt, λ _. (tt, λ _. tt)))

@@ -8,7 +8,7 @@ use Rattle.vm_endings.specs.declared.stop.Stop.{Stop}
 use Rattle.vm_endings.specs.declared.stop.Stop.TheVariants.{Shape, Unread, Length, Page, TooFew, Long, Line}
 use Rattle.vm_endings.specs.Files.{HasFile}
 use Rattle.vm_endings.specs.Stops.{status_of}
-use Rattle.vm_endings.specs.Tests.{AllPass, Fails, Passes, StopsAt, Test, events, here, image, past, room, script, within}
+use Rattle.vm_endings.specs.Tests.{AllPass, Fails, Passes, StopsAt, Test, depth, events, here, image, past, room, script, within}
 
 -- what holds of a file's bytes, and what else does, hold of the same bytes
 pub both_of : (shown : Shown) (name : List ℕ) (P Q : List ℕ → Type 0) → HasFile (Some shown) name P → HasFile (Some shown) name Q → (bytes : List ℕ) × P bytes × Q bytes
@@ -21,6 +21,7 @@ abbrev pub IsBounded : Test → Type 0
 IsBounded (within quantity holds) = Unit {0}
 IsBounded (room pages pairs) = Unit {0}
 IsBounded (image name) = Unit {0}
+IsBounded (depth frames name) = Unit {0}
 IsBounded (script name workers) = workers < 2 ^ 32
 IsBounded (events name) = Unit {0}
 
@@ -57,6 +58,8 @@ unread_only shown failed (within quantity holds) _ few p f = absurd f
 unread_only shown failed (room pages pairs) (TooFew told wanted) few p f = absurd (omega (arith, p, f.0))
 unread_only shown failed (room pages pairs) _ few p f = absurd f
 unread_only shown failed (image name) stop few p f = read_image shown failed name stop p f
+unread_only shown failed (depth frames name) (Shape other) few p f = let b = both_of shown name _ _ p f.1 in absurd (true≢false (sym b.1 ∙ b.2))
+unread_only shown failed (depth frames name) _ few p f = absurd f
 unread_only shown failed (script name workers) stop few p f = read_script shown failed name workers stop few p f
 unread_only shown failed (events name) stop few p f = read_events shown failed name stop p f
 
@@ -72,6 +75,7 @@ abbrev status_in : Test → ℕ
 status_in (within quantity holds) = 5
 status_in (room pages pairs) = 4
 status_in (image name) = 4
+status_in (depth frames name) = 5
 status_in (script name workers) = 5
 status_in (events name) = 5
 
@@ -84,6 +88,8 @@ one_status shown failed (image name) (Unread unread) f read = absurd (read refl)
 one_status shown failed (image name) (Length told) f read = refl
 one_status shown failed (image name) (Page page why) f read = refl
 one_status shown failed (image name) _ f read = absurd f
+one_status shown failed (depth frames name) (Shape other) f read = refl
+one_status shown failed (depth frames name) _ f read = absurd f
 one_status shown failed (script name workers) (Unread unread) f read = absurd (read refl)
 one_status shown failed (script name workers) (Long lines) f read = refl
 one_status shown failed (script name workers) (Line lines n) f read = refl

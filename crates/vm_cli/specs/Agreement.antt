@@ -1,7 +1,8 @@
 -- What any two endings of one command line have in common, and how valid input ends.
 use Rattle.std.specs.Prelude.{ℕ, ◌≡◌, ◌≢◌, ◌⊎◌, ◌==◌, if◌then◌else◌, List, Option, Some}
-use Rattle.vm_io.specs.Causes.{Rose}
+use Rattle.vm_io.specs.Causes.{FailedGive, Rose}
 use Rattle.vm_io.specs.Shown.{Shown}
+use Rattle.vm_io.specs.declared.host.GiveFaults.{GiveFaults}
 use Rattle.vm_words.specs.declared.Command.{Command}
 use Rattle.vm_words.specs.Commands.{IsCommand}
 use Rattle.vm_endings.specs.declared.ends.Ends.{Ends}
@@ -24,7 +25,7 @@ abbrev pub AgreesWithOthers : List (List ℕ) → Option Shown → ℕ → Type 
 AgreesWithOthers words old status =
     (shown : Shown) (failed : List ℕ) (new : Option Shown) (before after : Ends) (other : ℕ) → old ≡ Some shown → ProgramEnds words failed old new before after other → IsSettledStatus status → IsSettledStatus other → as_done status ≡ as_done other
 
--- Valid words over valid files, and a host that failed in nothing: done, or memory was wanting
-abbrev pub IsComplete : List (List ℕ) → Option Shown → (takes takes' gives gives' : ℕ) → ℕ → Type 0
+-- Valid words over valid files, of a run with frames enough for the height of its tree, and a host that failed in nothing: done, or memory was wanting
+abbrev pub IsComplete : List (List ℕ) → Option Shown → (takes takes' : ℕ) → (gives gives' : GiveFaults) → ℕ → Type 0
 IsComplete words old takes takes' gives gives' status =
-    (shown : Shown) (command : Command) → old ≡ Some shown → IsCommand words command → IsSmooth command old → AllPass old (order_of command) → ¬ (Rose takes takes') → ¬ (Rose gives gives') → (status ≡ 0) ⊎ (status ≡ 6)
+    (shown : Shown) (command : Command) → old ≡ Some shown → IsCommand words command → IsSmooth command old → AllPass old (order_of command) → ¬ (Rose takes takes') → ¬ (FailedGive gives gives') → (status ≡ 0) ⊎ (status ≡ 6)

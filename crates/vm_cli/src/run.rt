@@ -1,7 +1,7 @@
 //! The top call: a command line, a host, and the status that the process ends with.
 
 ghost use Rattle.std.specs.Prelude.{◌≡◌, map, string_bytes};
-ghost use Rattle.vm_io.specs.Causes.{Rose};
+ghost use Rattle.vm_io.specs.Causes.{FailedGive, Rose};
 ghost use Rattle.vm_cli.specs.Agreement.{AgreesWithOthers, IsComplete};
 ghost use Rattle.vm_endings.specs.Endings.{CommandEnds, IsHeadline, ProgramEnds};
 
@@ -25,9 +25,9 @@ const USAGE: &[u8] = b"usage: vmcache run, make, check, churn, replay\n";
 /// | 0 | `run`: the calls were made, every page was flushed, and the kept file was written; the replies, the rows and the counters were said. `make`: the file was written, and its size said. `check`: the rows and the size were said. `churn`: the calls were made, every page was flushed, and the counts said. `replay`: what each event saw was said |
 /// | 1 | exactly where the words are no command; the usage line was said |
 /// | 2 | only where a `take` of the host failed; the line names the file |
-/// | 3 | only where a `put` or `say` failed, or took nothing of a piece; the file that is made or kept holds a front of its bytes, or a front of the text was said |
+/// | 3 | only where a `replace` or `say` failed, or a `say` took nothing of a piece; the file that is made or kept is as it was and nothing was said, or it has all its bytes and a front of the text was said |
 /// | 4 | exactly where the image is refused, or `make` has too few pages |
-/// | 5 | exactly where a number, the script or the event list is refused, or an event is illegal |
+/// | 5 | exactly where a number, the script or the event list is refused, the frames of a run are fewer than the tree's height and 8, or an event is illegal |
 /// | 6 | want of memory; nothing was written or said |
 /// | 7 | `run`: a write of the last flush failed; the replies, the least such page and the counters were said |
 pub fn run<R: Threads + Wait + Sync, H: Host, G: Gate + Sync>(
@@ -45,8 +45,9 @@ pub fn run<R: Threads + Wait + Sync, H: Host, G: Gate + Sync>(
     // Every status with its cause, what was written and said, and what is kept.
     ensures ends { ProgramEnds (map string_bytes words.now) (H.last host.new) (H.shown host.old) (H.shown host.new) ends.old ends.new result }
     ensures read { result ≡ 2 → Rose (H.takes host.old) (H.takes host.new) }
-    ensures write { result ≡ 3 → Rose (H.gives host.old) (H.gives host.new) }
+    ensures write { result ≡ 3 → FailedGive (H.gives host.old) (H.gives host.new) }
     ensures agrees { AgreesWithOthers (map string_bytes words.now) (H.shown host.old) result }
+    // Words and files that pass all tests, of a run also that its frames are enough for the height of its tree.
     ensures complete { IsComplete (map string_bytes words.now) (H.shown host.old) (H.takes host.old) (H.takes host.new) (H.gives host.old) (H.gives host.new) result }
 {
     match command_of(alloc, words) {
@@ -67,7 +68,7 @@ fn perform<R: Threads + Wait + Sync, H: Host, G: Gate + Sync>(
 ) -> u8
     ensures ends { CommandEnds command.entry (H.last host.new) (H.shown host.old) (H.shown host.new) ends.old ends.new result }
     ensures read { result ≡ 2 → Rose (H.takes host.old) (H.takes host.new) }
-    ensures write { result ≡ 3 → Rose (H.gives host.old) (H.gives host.new) }
+    ensures write { result ≡ 3 → FailedGive (H.gives host.old) (H.gives host.new) }
 {
     match give(rt, alloc, host, &command, gate, ends) {
         Ok(delivery) => deliver(host, &delivery),

@@ -1,22 +1,20 @@
 -- What the tree's calls that wait tell, in the terms of a worker: what its pass keeps, its entry, its note, or what it found.
 use Rattle.std.specs.Prelude.{IfErr, IfOk}
-use Rattle.std.proofs.Common.{⊎_elim, ◌++◌, ◌<◌, ◌∙◌, ◌≡◌, ◌≤◌, ap, Err, List, Ok, refl, Result, subst, sym, ℕ}
+use Rattle.std.proofs.Common.{⊎_elim, ◌++◌, ◌<◌, ◌∙◌, ◌≡◌, ap, Err, List, Ok, refl, Result, subst, sym, ℕ}
 use Rattle.vm_map.specs.{declared.call.Call.Call, declared.call.Reply.Reply, declared.call.Said.Said}
 use Rattle.vm_map.specs.declared.call.Call.TheVariants.{Del, Get, Put, Window}
-use Rattle.vm_tree_model.specs.Page.{node_of}
 use Rattle.vm_rule.specs.Prelude.{began_of, entry_of}
 use Rattle.vm_step.specs.Prelude.{Origin, UnlockedExpected, View}
 use Rattle.vm_guard.specs.Denied.{KeptWord}
-use Rattle.vm_tree_laws.specs.{Keeps.KeepsTree, May.IsProved}
+use Rattle.vm_tree_laws.specs.{Keeps.KeepsTree}
 use Rattle.vm_tree_rule.specs.declared.fault.TreeFault.{TreeFault}
 use Rattle.vm_tree_read.specs.Reads.{IsAnswered}
 use Rattle.vm_tree_read.specs.Waiting.{IsFaulted as IsReadFaulted, IsReplied as IsReadReplied, Waits}
 use Rattle.vm_tree_write.specs.Splits.{KeepsLocksOnly}
-use Rattle.vm_tree_write.specs.Waiting.{IsPutFaulted, IsPutFaulted as put_faulted, IsWriteFaulted, IsWriteFaulted as faulted, IsWriteReplied}
-use Rattle.vm_tree_write.specs.Writes.{IsVain, IsWornLeaf, IsWriteDone}
-use Rattle.vm_drive.specs.Calls.{HasFoundWorn, IsCalled, KeepsPass}
-use Rattle.vm_drive.specs.Shows.{IsWindowShown}
-use Rattle.vm_drive.proofs.{Bringing.fault-called, Doing.keeps-then, Finding.denied-worn, Rooms.room-called}
+use Rattle.vm_tree_write.specs.Waiting.{IsDelRound, IsPutFaulted, IsPutFaulted as put_faulted, IsPutRound, IsWriteFaulted, IsWriteFaulted as faulted, IsWriteReplied}
+use Rattle.vm_tree_write.specs.Writes.{HasKeyIn, HasRoomFor, IsVain, IsWornLeaf, IsWriteDone}
+use Rattle.vm_drive.specs.{Calls.KeepsPass, Shows.IsWindowShown, TreeCalls.IsTreeCall}
+use Rattle.vm_drive.proofs.{Bringing.fault-called, Called.HasFoundWorn, Called.IsCalled, Doing.keeps-then, Finding.denied-worn, Rooms.room-called}
 use Rattle.vm_drive.proofs.Keeping.{all-pass, reads-pass, same-front, waits-pass, writes-pass}
 
 -- ---- replies
@@ -24,8 +22,8 @@ use Rattle.vm_drive.proofs.Keeping.{all-pass, reads-pass, same-front, waits-pass
 pub read-replied : (said : Said) (v w : View Said) → IsReadReplied said v w → KeepsPass v w
 read-replied said v w r = keeps-then v r.tried w (waits-pass v r.tried r.waits) (reads-pass r.tried w r.answered.reads)
 
-pub write-replied : (keeps : View Said → View Said → Type 0) → ((x y : View Said) → keeps x y → KeepsPass x y) → (said : Said) (v w : View Said) → IsWriteReplied keeps said v w → KeepsPass v w
-write-replied keeps pass said v w r =
+pub write-replied : (keeps : View Said → View Said → Type 0) (round : ℕ → View Said → View Said → Type 0) → ((x y : View Said) → keeps x y → KeepsPass x y) → (said : Said) (v w : View Said) → IsWriteReplied keeps round said v w → KeepsPass v w
+write-replied keeps round pass said v w r =
     keeps-then v r.tried w (pass v r.tried r.waits)
     (⊎_elim
     (λ (k : IsWriteDone said r.tried w × ¬ (IsVain said)). writes-pass k.0.page r.tried w k.0.writes)
@@ -67,34 +65,53 @@ read-faulted call key fault v w f = (
 leaf-worn : (key p : ℕ) (v w : View Said) → IsWornLeaf v key p w → HasFoundWorn p w
 leaf-worn key p v w l = denied-worn UnlockedExpected (KeptWord l.word) p p l.found w l.opened.reading.page l.denied
 
-pub write-faulted : (keeps : View Said → View Said → Type 0) → ((x y : View Said) → keeps x y → KeepsPass x y) → ((x y : View Said) → keeps x y → y.mine ≡ x.mine)
-    → (call : Call) (key : ℕ) (fault : TreeFault) (v w : View Said) → IsWriteFaulted keeps key fault v w → KeepsPass v w × IsCalled call (Err fault) v w
-write-faulted keeps pass mine call key fault v w (faulted.missing tried found page k reads needed fault_is all) = (
+pub write-faulted : (keeps : View Said → View Said → Type 0) (round : ℕ → View Said → View Said → Type 0) (may : List ℕ → ℕ → Type 0) → ((x y : View Said) → keeps x y → KeepsPass x y) → ((x y : View Said) → keeps x y → y.mine ≡ x.mine)
+    → (call : Call) (key : ℕ) (fault : TreeFault) (v w : View Said) → IsWriteFaulted keeps round may key fault v w → KeepsPass v w × IsCalled call (Err fault) v w
+write-faulted keeps round may pass mine call key fault v w (faulted.missing tried found page rounds k reads needed fault_is all) = (
   pass v w all,
   fault-called call fault page v found w (keeps-then v tried found (pass v tried k) (reads-pass tried found reads.0)) (mine v w all) (subst (λ (o : Origin). page < o.pages) (sym reads.0.start) needed.inside) fault_is,
 )
-write-faulted keeps pass mine call key fault v w (faulted.worn tried page k reads leaf is all) = (
+write-faulted keeps round may pass mine call key fault v w (faulted.worn tried page rounds k reads leaf would is all) = (
   pass v w all,
   subst (λ (f : TreeFault). IsCalled call (Err f) v w) (sym is) (mine v w all, leaf-worn key page tried w leaf),
 )
 
 pub put-faulted : (key value : ℕ) (fault : TreeFault) (v w : View Said) → IsPutFaulted key fault v w → KeepsPass v w × IsCalled (Put key value) (Err fault) v w
-put-faulted key value fault v w (put_faulted.faulted f) = write-faulted KeepsLocksOnly all-pass (λ x y k. k.mine) (Put key value) key fault v w f
-put-faulted key value fault v w (put_faulted.tight tried found page k reads t room all) = (
+put-faulted key value fault v w (put_faulted.faulted f) = write-faulted KeepsLocksOnly IsPutRound HasRoomFor all-pass (λ x y k. k.mine) (Put key value) key fault v w f
+put-faulted key value fault v w (put_faulted.tight tried found page rounds k reads t room all) = (
   all-pass v w all,
   room-called key value fault v found w (keeps-then v tried found (all-pass v tried k) (reads-pass tried found reads.0)) all.mine room,
 )
 
 -- ---- answers
 
-pub read-called : (call : Call) (key : ℕ) (r : Result Reply TreeFault) (v w : View Said) → IfOk r (λ reply. IsReadReplied (record { call = call; reply = reply }) v w) → IfErr r (λ fault. IsReadFaulted key fault v w) → KeepsPass v w × IsCalled call r v w
-read-called call key (Ok reply) v w ok err = (read-replied (record { call = call; reply = reply }) v w ok, (ok.mine, answered-shown call reply ok.tried w ok.answered))
-read-called call key (Err fault) v w ok err = read-faulted call key fault v w err
+-- what the contract of each call says, of the reply and of the fault
+pub get-tells : (key : ℕ) (r : Result Reply TreeFault) (v w : View Said) → IfOk r (λ reply. IsReadReplied (record { call = Get key; reply = reply }) v w) → IfErr r (λ fault. IsReadFaulted key fault v w) → IsTreeCall (Get key) r v w
+get-tells key (Ok reply) v w ok err = ok
+get-tells key (Err fault) v w ok err = err
 
-pub del-called : (key : ℕ) (r : Result Reply TreeFault) (v w : View Said) → IfOk r (λ reply. IsWriteReplied Waits (record { call = Del key; reply = reply }) v w) → IfErr r (λ fault. IsWriteFaulted Waits key fault v w) → KeepsPass v w × IsCalled (Del key) r v w
-del-called key (Ok reply) v w ok err = (write-replied Waits waits-pass (record { call = Del key; reply = reply }) v w ok, (ok.mine, tt))
-del-called key (Err fault) v w ok err = write-faulted Waits waits-pass (λ x y k. k.mine) (Del key) key fault v w err
+pub window-tells : (start most : ℕ) (r : Result Reply TreeFault) (v w : View Said) → IfOk r (λ reply. IsReadReplied (record { call = Window start most; reply = reply }) v w) → IfErr r (λ fault. IsReadFaulted start fault v w) → IsTreeCall (Window start most) r v w
+window-tells start most (Ok reply) v w ok err = ok
+window-tells start most (Err fault) v w ok err = err
 
-pub put-called : (key value : ℕ) (r : Result Reply TreeFault) (v w : View Said) → IfOk r (λ reply. IsWriteReplied KeepsLocksOnly (record { call = Put key value; reply = reply }) v w) → IfErr r (λ fault. IsPutFaulted key fault v w) → KeepsPass v w × IsCalled (Put key value) r v w
-put-called key value (Ok reply) v w ok err = (write-replied KeepsLocksOnly all-pass (record { call = Put key value; reply = reply }) v w ok, (ok.mine, tt))
-put-called key value (Err fault) v w ok err = put-faulted key value fault v w err
+pub put-tells : (key value : ℕ) (r : Result Reply TreeFault) (v w : View Said) → IfOk r (λ reply. IsWriteReplied KeepsLocksOnly IsPutRound (record { call = Put key value; reply = reply }) v w) → IfErr r (λ fault. IsPutFaulted key fault v w) → IsTreeCall (Put key value) r v w
+put-tells key value (Ok reply) v w ok err = ok
+put-tells key value (Err fault) v w ok err = err
+
+pub del-tells : (key : ℕ) (r : Result Reply TreeFault) (v w : View Said) → IfOk r (λ reply. IsWriteReplied Waits IsDelRound (record { call = Del key; reply = reply }) v w) → IfErr r (λ fault. IsWriteFaulted Waits IsDelRound HasKeyIn key fault v w) → IsTreeCall (Del key) r v w
+del-tells key (Ok reply) v w ok err = ok
+del-tells key (Err fault) v w ok err = err
+
+reply-shown : (call : Call) (reply : Reply) (v w : View Said) → IsReadReplied (record { call = call; reply = reply }) v w → KeepsPass v w × IsCalled call (Ok reply) v w
+reply-shown call reply v w ok = (read-replied (record { call = call; reply = reply }) v w ok, (ok.mine, answered-shown call reply ok.tried w ok.answered))
+
+-- what the tree tells of a call in the terms of the pass
+pub tree-called : (call : Call) (r : Result Reply TreeFault) (v w : View Said) → IsTreeCall call r v w → KeepsPass v w × IsCalled call r v w
+tree-called (Get key) (Ok reply) v w t = reply-shown (Get key) reply v w t
+tree-called (Get key) (Err fault) v w t = read-faulted (Get key) key fault v w t
+tree-called (Put key value) (Ok reply) v w t = (write-replied KeepsLocksOnly IsPutRound all-pass (record { call = Put key value; reply = reply }) v w t, (t.mine, tt))
+tree-called (Put key value) (Err fault) v w t = put-faulted key value fault v w t
+tree-called (Del key) (Ok reply) v w t = (write-replied Waits IsDelRound waits-pass (record { call = Del key; reply = reply }) v w t, (t.mine, tt))
+tree-called (Del key) (Err fault) v w t = write-faulted Waits IsDelRound HasKeyIn waits-pass (λ x y k. k.mine) (Del key) key fault v w t
+tree-called (Window start most) (Ok reply) v w t = reply-shown (Window start most) reply v w t
+tree-called (Window start most) (Err fault) v w t = read-faulted (Window start most) start fault v w t

@@ -1,5 +1,5 @@
 -- A page that could not be brought: the note, or the worn page.
-use Rattle.std.proofs.Common.{[], ◌++◌, ◌<◌, ◌∙◌, ◌∷◌, ◌≡◌, ◌≤◌, arith, Err, List, Ok, refl, subst, sym, ℕ}
+use Rattle.std.proofs.Common.{[], ◌++◌, ◌<◌, ◌∙◌, ◌∷◌, ◌≡◌, arith, Err, List, Ok, refl, subst, sym, ℕ}
 use Rattle.vm_map.specs.{declared.call.Call.Call, declared.call.Said.Said}
 use Rattle.vm_core.specs.Prelude.{EVICTED, MAX_VERSION, word_of}
 use Rattle.vm_rule.specs.declared.view.Place.TheVariants as places
@@ -11,7 +11,8 @@ use Rattle.vm_pool.specs.declared.bring.Bring.TheVariants as brings
 use Rattle.vm_pool.proofs.Keeping.{alloc-keeps, framed-keeps}
 use Rattle.vm_tree_rule.specs.declared.fault.TreeFault.{TreeFault}
 use Rattle.vm_tree_read.specs.Waiting.{IsBringFault, IsBringFault as fault_for}
-use Rattle.vm_drive.specs.Calls.{HasFoundWorn, HasNoted, IsCalled, KeepsPass}
+use Rattle.vm_drive.specs.Calls.{KeepsPass}
+use Rattle.vm_drive.proofs.Called.{HasFoundWorn, HasNoted, IsCalled}
 use Rattle.vm_drive.proofs.{Sweeping.swept-noted, Sweeping.swept-worn, Tracing.given-more, Tracing.max-later}
 use Rattle.vm_drive.proofs.Finding.{found-worn, noted-after, noted-before}
 

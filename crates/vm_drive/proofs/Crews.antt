@@ -1,13 +1,12 @@
 -- Lists of workers, place by place.
 use Rattle.std.specs.declared.alloc.Global.{Global}
-use Rattle.std.specs.List.{AllByRecursion}
 use Rattle.std.proofs.Common.{[], ◌++◌, ◌<◌, ◌∷◌, ◌≡◌, ◌≤◌, ap, arith, Bool, drop, get_or, length, List, refl, Result, subst, suc, sym, take, Vec}
 use Rattle.std.proofs.Common.{zero, ℕ}
-use Rattle.vm_map.specs.{declared.call.Call.Call, declared.call.Reply.Reply, History.IsAskable}
+use Rattle.vm_map.specs.{declared.call.Call.Call, declared.call.Reply.Reply}
 use Rattle.vm_rule.specs.Prelude.{TableId}
 use Rattle.vm_step.specs.Prelude.{Shape}
 use Rattle.vm_tree_rule.specs.declared.fault.TreeFault.{TreeFault}
-use Rattle.vm_drive.specs.{declared.worker.Worker.Worker, Drives.AreAskable, Drives.items_of, Holds.list_at}
+use Rattle.vm_drive.specs.{declared.worker.Worker.Worker, Drives.items_of, Holds.list_at}
 use Rattle.vm_drive.specs.Crews.{AllWorked, AreIdle, HasWorked, IsIdle}
 use Rattle.vm_drive.specs.Kept.{AreKept, HasItems, HaveRoom}
 
@@ -43,17 +42,6 @@ whole-back [] (y ∷ ys) n e f = absurd (omega arith)
 whole-back (x ∷ xs) [] n e f = absurd (omega arith)
 whole-back (x ∷ xs) (y ∷ ys) zero e f = absurd (omega arith)
 whole-back (x ∷ xs) (y ∷ ys) (suc n) e f = ap (λ (l : List _). x ∷ l) (whole-back xs ys n (omega arith) (omega arith))
-
--- the list at a place, in its vector
-pub list-in : {X : Type 0} (vectors : List (Vec X Global)) (i : ℕ) (v : Vec X Global) → i < length vectors → v ≡ get_or vectors i v → list_at (items_of vectors) i ≡ v.items
-list-in [] i v l e = absurd (omega arith)
-list-in (x ∷ xs) zero v l e = ap (λ (y : Vec _ Global). y.items) (sym e)
-list-in (x ∷ xs) (suc i) v l e = list-in xs i v (omega arith) e
-
-pub askable-in : (lists : List (List Call)) (i : ℕ) → i < length lists → AreAskable lists → AllByRecursion IsAskable (list_at lists i)
-askable-in [] i l a = absurd (omega arith)
-askable-in (x ∷ xs) zero l a = a.0
-askable-in (x ∷ xs) (suc i) l a = askable-in xs i (omega arith) a.1
 
 module _ {A : Type 0} (keeps : A → List (Result Reply TreeFault) → Type 0) (space : A → ℕ) (shape : Shape) (tells : Bool) (t : TableId) where
   pub idle-long : (lists : List (List Call)) (workers : List (Worker A)) → AreIdle keeps space shape tells t lists workers → length lists ≡ length workers

@@ -11,9 +11,9 @@ use Rattle.vm_exmap.specs.Frames.{MovesFrames}
 use Rattle.vm_tree_laws.specs.History.{saids}
 use Rattle.vm_tree_rule.specs.declared.fault.TreeFault.{TreeFault}
 use Rattle.vm_tree_rule.specs.declared.fault.TreeFault.TheVariants.{Device, Full, Worn}
-use Rattle.vm_drive.specs.{Holds.answered, Shows.AreShown, Workers.HasDone}
-use Rattle.vm_drive.specs.Calls.{HasNoted, IsCalled, KeepsPass}
-use Rattle.vm_drive.specs.Causes.{AreCausedBy, CausedBy, faults_of, FoundFull, FoundWorn, is_fault, notes_about}
+use Rattle.vm_drive.specs.{Calls.KeepsPass, Holds.answered, Shows.AreShown}
+use Rattle.vm_drive.specs.Causes.{AreCausedBy, CausedBy, faults_of, is_fault, notes_about}
+use Rattle.vm_drive.proofs.Called.{FoundFull, FoundWorn, HasDone, HasNoted, IsCalled}
 use Rattle.vm_drive.proofs.{Lists.starts-then, Showing.are-shown-more, Showing.shown-snoc}
 use Rattle.vm_drive.proofs.Tracing.{all-caused, found-later, max-later}
 

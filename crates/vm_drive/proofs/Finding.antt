@@ -8,7 +8,7 @@ use Rattle.vm_rule.specs.declared.view.Place.TheVariants as places
 use Rattle.vm_step.specs.Prelude.{Did, HasGiven, Note, Origin, View}
 use Rattle.vm_guard.specs.declared.deny.Deny.TheVariants as denies
 use Rattle.vm_guard.specs.Denied.{AgainOrWorn, IsDenied}
-use Rattle.vm_drive.specs.Calls.{HasFoundWorn, HasNoted}
+use Rattle.vm_drive.proofs.Called.{HasFoundWorn, HasNoted}
 
 module _ {X : Type 0} where
   -- the steps of a call are among those of its pass

@@ -6,19 +6,22 @@ use Rattle.vm_map.specs.{declared.call.Call.Call, declared.call.Reply.Reply, dec
 use Rattle.vm_rule.specs.Prelude.{AreApart, Each, entries_by, Entry, has, HoldsNoPage, IsWhole, owns, TableId, times}
 use Rattle.vm_rule.proofs.Entries.{each-map}
 use Rattle.vm_rule_laws.specs.Known.{kept_by}
-use Rattle.vm_step.specs.Prelude.{Shape, View, view}
+use Rattle.vm_step.specs.Prelude.{Did, Note, Shape, View, view}
 use Rattle.vm_pool.specs.Parting.{KeepsAll}
 use Rattle.vm_tree_laws.specs.History.{saids}
 use Rattle.vm_tree_rule.specs.declared.fault.TreeFault.{TreeFault}
 use Rattle.vm_drive.specs.{declared.worker.Worker.Worker, Kept.AreKept, Kept.HaveRoom, Shows.AllShown, Shows.AreShown}
-use Rattle.vm_drive.specs.Causes.{all_faults_of, AllCausedBy, AreCausedBy, faults_of, FoundFull, FoundWorn, notes_about}
+use Rattle.vm_drive.specs.Causes.{all_faults_of, faults_of, notes_about}
 use Rattle.vm_drive.specs.Crews.{all_notes_of, AllWorked, answers_of, AreHired, AreIdle, AreJoined, HasWorked, IsBack, IsIn, IsNewWorker, number_of}
-use Rattle.vm_drive.specs.Crews.{numbers_of}
+use Rattle.vm_drive.specs.Crews.{numbers_of, worker_logs, worker_notes}
+use Rattle.vm_drive.specs.Parts.{HasPart, HaveParts, logs_of, noted_by, StandBehind, StandIn}
 use Rattle.vm_drive.specs.Drives.{IsAtLastVersion, IsDriven, IsUsedUp}
 use Rattle.vm_drive.specs.Holds.{answered, list_at, said_by}
-use Rattle.vm_drive.proofs.{Crews.room-long, Framing.none-left, Hiring.all-then, Hiring.holds-none, Showing.are-shown-more}
-use Rattle.vm_drive.proofs.Lists.{all-in, behind, each-both-of, each-right, has-both, none-in, one-place, others-only, place-of}
-use Rattle.vm_drive.proofs.Tracing.{all-caused, lists-caused, used-up, worn-out}
+use Rattle.vm_drive.proofs.{Called.FoundFull, Called.FoundWorn, Called.HasDone, Chain.calls-done, Chain.kept-done, Crews.room-long}
+use Rattle.vm_drive.proofs.{Framing.none-left, Hiring.all-then, Hiring.holds-none, Parted.traced, Parts.behind-less, Parts.stands-after}
+use Rattle.vm_drive.proofs.Showing.{are-shown-more}
+use Rattle.vm_drive.proofs.Lists.{all-in, behind, each-both-of, each-right, has-both, none-in, one-place, others-only, place-of, starts-then}
+use Rattle.vm_drive.proofs.Tracing.{lists-caused, used-up, worn-out}
 
 module _ {A : Type 0} where
   -- the number and the causes of one worker, with these answers, in the terms of the joined pass
@@ -26,7 +29,6 @@ module _ {A : Type 0} where
     pub said : said_by (number_of d) rest ≡ answered calls told
     pub long : length told ≡ length calls
     pub faults : (p : ℕ) → faults_of p told ≤ notes_about p (view d.pass).notes
-    pub traces : AreCausedBy (FoundFull w) (FoundWorn w) calls told
     pub shown : AreShown w calls told
 
   abbrev pub AreFinished : View Said → List (Entry Said) → List (List Call) → List (Worker A) → List (List (Result Reply TreeFault)) → Type 0
@@ -73,12 +75,6 @@ module _ {A : Type 0} where
       let others : all_faults_of p ts ≤ all_notes_of p ds = finished-faults w rest cs ds ts p f.1 in
       omega arith
 
-  finished-traces : (w : View Said) (rest : List (Entry Said)) (lists : List (List Call)) (ds : List (Worker A)) (ts : List (List (Result Reply TreeFault))) → AreFinished w rest lists ds ts → AllCausedBy (FoundFull w) (FoundWorn w) lists ts
-  finished-traces w rest [] ds ts f = tt
-  finished-traces w rest (c ∷ cs) [] ts f = absurd f
-  finished-traces w rest (c ∷ cs) (d ∷ ds) [] f = absurd f
-  finished-traces w rest (c ∷ cs) (d ∷ ds) (t ∷ ts) f = (f.0.traces, finished-traces w rest cs ds ts f.1)
-
   finished-shown : (w : View Said) (rest : List (Entry Said)) (lists : List (List Call)) (ds : List (Worker A)) (ts : List (List (Result Reply TreeFault))) → AreFinished w rest lists ds ts → AllShown w lists ts
   finished-shown w rest [] ds ts f = tt
   finished-shown w rest (c ∷ cs) [] ts f = absurd f
@@ -87,50 +83,12 @@ module _ {A : Type 0} where
 
 -- ---- one worker
 
-regroup : {A : Type 0} (f e l b : List A) (s : A) → f ++ ((e ++ s ∷ l) ++ b) ≡ (f ++ e) ++ s ∷ (l ++ b)
-regroup f e l b s = ap (λ (y : List _). f ++ y) (append_assoc e (s ∷ l) b) ∙ sym (append_assoc f e (s ∷ (l ++ b)))
-
 cons-both : {a b : ℕ} {l m : List ℕ} → a ≡ b → l ≡ m → a ∷ l ≡ b ∷ m
 cons-both {a} {b} {l} {m} e f = ap (λ (x : ℕ). x ∷ l) e ∙ ap (λ (y : List ℕ). b ∷ y) f
 
-module _ {A : Type 0} where
-  -- what the worker's pass found stands in the log of the pass that it went into
-  found-in : (w : View Said) (d : Worker A) (n : ℕ) → IsIn w d → FoundFull (view d.pass) n → FoundFull w n
-  found-in w d n i f =
-      let given = f.1.given in (
-        f.0 ∙ ap (λ s. s.pages) i.start,
-        record {
-          found = f.1.found;
-          given = record {
-            earlier = i.front ++ given.earlier;
-            step = given.step;
-            later = given.later ++ i.behind;
-            cut = i.log ∙ ap (λ l. i.front ++ (l ++ i.behind)) given.cut ∙ regroup i.front given.earlier given.later i.behind given.step;
-            gives = given.gives;
-          };
-          high = f.1.high;
-        },
-      )
-
-  max-in : (w : View Said) (d : Worker A) (p : ℕ) → IsIn w d → FoundWorn (view d.pass) p → FoundWorn w p
-  max-in w d p i m =
-      let given = m.given in
-      record {
-        inside = subst (λ s. p < s.pages) i.start m.inside;
-        word = m.word;
-        given = record {
-          earlier = i.front ++ given.earlier;
-          step = given.step;
-          later = given.later ++ i.behind;
-          cut = i.log ∙ ap (λ l. i.front ++ (l ++ i.behind)) given.cut ∙ regroup i.front given.earlier given.later i.behind given.step;
-          gives = given.gives;
-        };
-        last = m.last;
-      }
-
 module _ {A : Type 0} (keeps : A → List (Result Reply TreeFault) → Type 0) (shape : Shape) (tells : Bool) (t : TableId) where
   same-number : (calls : List Call) (o n : Worker A) → HasWorked keeps shape tells t calls o n → number_of n ≡ number_of o
-  same-number calls o n h = ap (λ l. slice_index l 0) h.done.done.keeps.parts.0
+  same-number calls o n h = ap (λ l. slice_index l 0) (kept-done keeps calls n.answers (view o.pass) (view n.pass) h.done).keeps.parts.0
 
   pub same-numbers : (lists : List (List Call)) (olds news : List (Worker A)) → AllWorked keeps shape tells t lists olds news → numbers_of news ≡ numbers_of olds
   same-numbers [] [] [] a = refl
@@ -162,7 +120,7 @@ module _ {A : Type 0} (keeps : A → List (Result Reply TreeFault) → Type 0) (
       → (h : HasWorked keeps shape tells t calls o n) → IsNewWorker shape tells t v o → entries_by (number_of o ∷ []) v.seen ≡ [] → IsIn w n → IsFinished w rest calls n h.done.told
   finish v w rest calls o n seen h new none i =
       let told = h.done.told in
-      let did = h.done.done in
+      let did = kept-done keeps calls n.answers (view o.pass) (view n.pass) h.done in
       let same : number_of n ≡ number_of o = same-number calls o n h in
       let unused : entries_by (number_of n ∷ []) v.seen ≡ [] = ap (λ k. entries_by (k ∷ []) v.seen) same ∙ none in
       let mine : entries_by (number_of n ∷ []) rest ≡ (view n.pass).mine = behind (number_of n ∷ []) v.seen rest (view n.pass).mine unused (ap (λ l. entries_by (number_of n ∷ []) l) (sym seen) ∙ i.entries) in
@@ -170,7 +128,6 @@ module _ {A : Type 0} (keeps : A → List (Result Reply TreeFault) → Type 0) (
         said = ap (λ l. saids l) mine ∙ did.mine ∙ ap (λ l. saids l ++ answered calls told) new.said;
         long = did.long;
         faults = λ p. let all : notes_about p (view o.pass).notes + faults_of p told ≤ notes_about p (view n.pass).notes = did.faults p in omega arith;
-        traces = all-caused (FoundFull (view n.pass)) (FoundWorn (view n.pass)) (FoundFull w) (FoundWorn w) (λ k. found-in w n k i) (λ p. max-in w n p i) calls told did.caused;
         shown = are-shown-more (view n.pass) w (sym i.start) i.heard calls told did.shown;
       }
 
@@ -183,6 +140,66 @@ module _ {A : Type 0} (keeps : A → List (Result Reply TreeFault) → Type 0) (
   finish-all v w rest (c ∷ cs) [] ns seen a new none i = absurd a
   finish-all v w rest (c ∷ cs) (o ∷ os) [] seen a new none i = absurd a
   finish-all v w rest (c ∷ cs) (o ∷ os) (n ∷ ns) seen a new none i = (finish v w rest c o n seen a.0 new.0 none.0 i.0, finish-all v w rest cs os ns seen a.1 new.1 none.1 i.1)
+
+  -- what the workers' passes knew behind their last calls
+  pub passes_of : (lists : List (List Call)) (olds news : List (Worker A)) → AllWorked keeps shape tells t lists olds news → List (View Said)
+  passes_of [] [] [] a = []
+  passes_of [] [] (n ∷ ns) a = absurd a
+  passes_of [] (o ∷ os) ns a = absurd a
+  passes_of (c ∷ cs) [] ns a = absurd a
+  passes_of (c ∷ cs) (o ∷ os) [] a = absurd a
+  passes_of (c ∷ cs) (o ∷ os) (n ∷ ns) a = a.0.done.made ∷ passes_of cs os ns a.1
+
+  part-in : (v w : View Said) (calls : List Call) (o n : Worker A) (h : HasWorked keeps shape tells t calls o n) → IsNewWorker shape tells t v o → IsIn w n → HasPart w calls h.done.told h.done.made
+  part-in v w calls o n h new i =
+      let k = h.done in
+      let m = k.back.1 in
+      let d : HasDone calls k.told (view o.pass) k.made = calls-done calls k.told (view o.pass) k.made k.each in
+      let used : k.made.used ≡ number_of n ∷ [] = d.keeps.parts.0 ∙ new.parts.0 ∙ ap (λ j. j ∷ []) (sym (same-number calls o n h)) in
+      record {
+        began = view o.pass;
+        nothing = (new.said, new.noted, new.log);
+        each = k.each;
+        start = sym m.start ∙ i.start;
+        entries = ap (λ l. entries_by l w.seen) used ∙ i.entries ∙ m.mine;
+        heard = starts-then w.seen (view n.pass).seen k.made.seen i.heard m.seen;
+        saw = starts-then w.releases (view n.pass).releases k.made.releases i.saw m.releases;
+      }
+
+  parts-in : (v w : View Said) (lists : List (List Call)) (olds news : List (Worker A)) (a : AllWorked keeps shape tells t lists olds news) → Each (IsNewWorker shape tells t v) olds → Each (IsIn w) news → HaveParts w lists (told_of lists olds news a) (passes_of lists olds news a)
+  unfolding told_of passes_of
+  parts-in v w [] [] [] a new i = tt
+  parts-in v w [] [] (n ∷ ns) a new i = absurd a
+  parts-in v w [] (o ∷ os) ns a new i = absurd a
+  parts-in v w (c ∷ cs) [] ns a new i = absurd a
+  parts-in v w (c ∷ cs) (o ∷ os) [] a new i = absurd a
+  parts-in v w (c ∷ cs) (o ∷ os) (n ∷ ns) a new i = (part-in v w c o n a.0 new.0 i.0, parts-in v w cs os ns a.1 new.1 i.1)
+
+  -- where the workers' steps stand, those until their last calls stand too
+  logs-in : (lists : List (List Call)) (olds news : List (Worker A)) (a : AllWorked keeps shape tells t lists olds news) (all : List Did) → StandIn (worker_logs news) all → StandIn (logs_of (passes_of lists olds news a)) all
+  unfolding passes_of
+  logs-in [] [] [] a all s = tt
+  logs-in [] [] (n ∷ ns) a all s = absurd a
+  logs-in [] (o ∷ os) ns a all s = absurd a
+  logs-in (c ∷ cs) [] ns a all s = absurd a
+  logs-in (c ∷ cs) (o ∷ os) [] a all s = absurd a
+  logs-in (c ∷ cs) (o ∷ os) (n ∷ ns) a all s =
+      let k = a.0.done in
+      let steps : List Did = k.back.0 in (
+        s.0,
+        steps ++ s.1,
+        s.2 ∙ ap (λ (l : List Did). s.0 ++ (l ++ s.1)) k.back.1.log ∙ ap (λ (l : List Did). s.0 ++ l) (append_assoc k.made.log steps s.1),
+        stands-after (logs_of (passes_of cs os ns a.1)) steps s.1 (logs-in cs os ns a.1 s.1 s.3),
+      )
+
+  notes-in : (lists : List (List Call)) (olds news : List (Worker A)) (a : AllWorked keeps shape tells t lists olds news) (all : List Note) → StandIn (worker_notes news) all → StandIn (noted_by (passes_of lists olds news a)) all
+  unfolding passes_of
+  notes-in [] [] [] a all s = tt
+  notes-in [] [] (n ∷ ns) a all s = absurd a
+  notes-in [] (o ∷ os) ns a all s = absurd a
+  notes-in (c ∷ cs) [] ns a all s = absurd a
+  notes-in (c ∷ cs) (o ∷ os) [] a all s = absurd a
+  notes-in (c ∷ cs) (o ∷ os) (n ∷ ns) a all s = (s.0, s.1, s.2 ∙ ap (λ (l : List Note). s.0 ++ (l ++ s.1)) a.0.done.back.1.notes, notes-in cs os ns a.1 s.1 s.3)
 
   -- each entry behind what the first pass had seen has the number of a worker
   only-theirs : (v x w : View Said) (ns : List ℕ) (rest : List (Entry Said)) → w.seen ≡ v.seen ++ rest → v.mine ≡ v.seen → x.used ≡ v.used → x.mine ≡ v.mine → w.used ≡ x.used ++ ns → w.mine ≡ entries_by w.used w.seen → w.mine ≡ w.seen → entries_by x.used w.seen ≡ x.mine → Each (λ e. has e.number ns ≡ true) rest
@@ -214,7 +231,10 @@ module _ {A : Type 0} (keeps : A → List (Result Reply TreeFault) → Type 0) (
       let finished : AreFinished w rest lists news told = finish-all v w rest lists olds news seen a h.each h.unused j.each in
       let long = finished-long w rest lists news told finished in
       let apart : AreApart (numbers_of news) = subst (λ ns. AreApart ns) (sym same) h.apart in
-      let traces : AllCausedBy (FoundFull w) (FoundWorn w) lists told = finished-traces w rest lists news told finished in
+      let passes = passes_of lists olds news a in
+      let parts : HaveParts w lists told passes = parts-in v w lists olds news a h.each j.each in
+      let logs : StandBehind v.log (logs_of passes) w.log = behind-less v.log x.log h.log.0 (logs_of passes) w.log h.log.1 (j.logs.0, j.logs.1, logs-in lists olds news a j.logs.0 j.logs.2) in
+      let noted : StandBehind x.notes (noted_by passes) w.notes = (j.noted.0, j.noted.1, notes-in lists olds news a j.noted.0 j.noted.2) in
       let theirs : Each (λ (e : Entry Said). has e.number (numbers_of news) ≡ true) rest = only-theirs v x w (numbers_of news) rest seen mine h.used h.mine j.used j.mine all j.ours in
       record {
         alone = (alone, j.current);
@@ -240,9 +260,12 @@ module _ {A : Type 0} (keeps : A → List (Result Reply TreeFault) → Type 0) (
             let old : notes_about p x.notes ≡ notes_about p v.notes = ap (notes_about p) h.notes in
             let theirs' : all_faults_of p told ≤ all_notes_of p news = finished-faults w rest lists news told p finished in
             omega arith;
-        caused = lists-caused (FoundFull w) (FoundWorn w) (IsUsedUp w) (IsAtLastVersion w) (λ n. used-up w n (kept_by w).next (j.knows.next alone)) (λ p. worn-out w p (j.knows.last alone)) lists told traces;
-        traces = traces;
+        caused = lists-caused (FoundFull w) (FoundWorn w) (IsUsedUp w) (IsAtLastVersion w) (λ n. used-up w n (kept_by w).next (j.knows.next alone)) (λ p. worn-out w p (j.knows.last alone)) lists told (traced v.log w lists told passes parts logs);
         shown = finished-shown w rest lists news told finished;
+        passes = passes;
+        parts = parts;
+        logs = logs;
+        noted = subst (λ (l : List Note). StandBehind l (noted_by passes) w.notes) h.notes noted;
       }
 
   -- ---- between the parts of a drive
@@ -267,13 +290,14 @@ module _ {A : Type 0} (keeps : A → List (Result Reply TreeFault) → Type 0) (
   worked-back [] v x (o ∷ os) ns start a new = absurd a
   worked-back (c ∷ cs) v x [] ns start a new = absurd a
   worked-back (c ∷ cs) v x (o ∷ os) [] start a new = absurd a
-  worked-back (c ∷ cs) v x (o ∷ os) (n ∷ ns) start a new = (
-    record {
-      ready = a.0.ready;
-      holds = a.0.holds;
-      frames = none-left o.iface.frames (view o.pass) (view n.pass) new.0.frames a.0.lost;
-      parts = (a.0.done.done.keeps.parts.0 ∙ new.0.parts.0 ∙ ap (λ k. k ∷ []) (sym (same-number c o n a.0)), a.0.done.done.keeps.parts.1 ∙ new.0.parts.1);
-      start = a.0.done.done.keeps.start ∙ new.0.start ∙ sym start;
-    },
-    worked-back cs v x os ns start a.1 new.1,
-  )
+  worked-back (c ∷ cs) v x (o ∷ os) (n ∷ ns) start a new =
+      let keeps-it = (kept-done keeps c n.answers (view o.pass) (view n.pass) a.0.done).keeps in (
+        record {
+          ready = a.0.ready;
+          holds = a.0.holds;
+          frames = none-left o.iface.frames (view o.pass) (view n.pass) new.0.frames a.0.lost;
+          parts = (keeps-it.parts.0 ∙ new.0.parts.0 ∙ ap (λ k. k ∷ []) (sym (same-number c o n a.0)), keeps-it.parts.1 ∙ new.0.parts.1);
+          start = keeps-it.start ∙ new.0.start ∙ sym start;
+        },
+        worked-back cs v x os ns start a.1 new.1,
+      )

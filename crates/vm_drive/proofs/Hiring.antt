@@ -1,27 +1,19 @@
 -- One worker more is hired.
-use Rattle.std.proofs.Common.{[], ⊎_elim, ◌++◌, ◌+◌, ◌==◌, ◌∙◌, ◌∷◌, ◌≡◌, ◌≤◌, ap, arith, Bool, false, if◌then◌else◌, inl, inr, length, List, refl}
+use Rattle.std.proofs.Common.{[], ⊎_elim, ◌++◌, ◌+◌, ◌==◌, ◌∙◌, ◌∷◌, ◌≡◌, ◌≤◌, ap, arith, Bool, false, if◌then◌else◌, inr, length, List, refl}
 use Rattle.std.proofs.Common.{slice_index, subst, sym, true, true≢false, ℕ}
 use Rattle.std.proofs.lemmas.Bool.{cases_eq, eq-eqb, ne_eqb}
 use Rattle.std.proofs.lemmas.List.{length-append, map-append}
 use Rattle.vm_map.specs.declared.call.Said.{Said}
 use Rattle.vm_rule.specs.Prelude.{Each, entries_by, has, HoldsNoPage, HoldsNothing, IsWhole, other_parts, owns, TableId, times}
-use Rattle.vm_rule.proofs.Entries.{each-map, starts-self}
+use Rattle.vm_rule.proofs.Entries.{each-map}
 use Rattle.vm_step.specs.Prelude.{AreHeld, HasStill, IsReady, Shape, View, view}
 use Rattle.vm_step.proofs.{Still.caught-still, Still.still-fresh, Together.holds-none as nothing-holds, Together.new-nothing}
 use Rattle.vm_pool.specs.Parting.{KeepsAll, Splits}
-use Rattle.vm_drive.specs.Crews.{AreHired, IsNewWorker, number_of, numbers_of}
+use Rattle.vm_drive.specs.Crews.{AreAtHome, AreHired, IsNewWorker, number_of, numbers_of}
 use Rattle.vm_drive.specs.declared.worker.Worker.{Worker}
 use Rattle.vm_drive.proofs.Lists.{apart-snoc, each-snoc, front-none, starts-then, times-both}
 
 module _ {X : Type 0} where
-  pub all-self : (v : View X) → KeepsAll v v
-  all-self v = record {
-    holds = λ q. record { shares = refl; exclusive = refl; writing = refl };
-    out = refl;
-    start = refl;
-    seen = starts-self v.seen;
-  }
-
   pub all-then : (v w x : View X) → KeepsAll v w → KeepsAll w x → KeepsAll v x
   all-then v w x a b = record {
     holds = λ q. record { shares = (b.holds q).shares ∙ (a.holds q).shares; exclusive = (b.holds q).exclusive ∙ (a.holds q).exclusive; writing = (b.holds q).writing ∙ (a.holds q).writing };
@@ -58,25 +50,12 @@ not-among m rest (n ∷ ns) e =
     (λ ne. rw (ne_eqb m n ne) (not-among m rest ns e.1))
     (cases_eq m n)
 
-module _ {A : Type 0} (shape : Shape) (tells : Bool) (t : TableId) where
-  pub hired-none : (v : View Said) → AreHired {A = A} shape tells t [] v [] v
-  hired-none v = record {
-    kept = all-self v;
-    mine = refl;
-    notes = refl;
-    log = starts-self v.log;
-    used = refl;
-    frames = refl;
-    count = omega arith;
-    parts = λ k. omega arith;
-    apart = tt;
-    foreign = tt;
-    unused = tt;
-    each = tt;
-    answers = refl;
-    all = inl (refl, refl);
-  }
+-- one more behind those that are at home
+pub home-snoc : {A : Type 0} (first cap : ℕ) (ds : List (Worker A)) (d : Worker A) → AreAtHome first cap ds → d.iface.home ≡ first + length ds → d.iface.cap ≡ cap → AreAtHome first cap (ds ++ d ∷ [])
+home-snoc first cap [] d h home size = (omega arith, size, tt)
+home-snoc first cap (e ∷ es) d h home size = (h.0, h.1, home-snoc (first + 1) cap es d h.2 (omega arith) size)
 
+module _ {A : Type 0} (shape : Shape) (tells : Bool) (t : TableId) where
   -- the worker with a pass that was just split off
   pub is-new : 1 ≤ shape.pages → (v w x : View Said) (d : Worker A) → KeepsAll v w → Splits w (view d.pass) x → IsReady shape tells t d.pass → d.iface.frames ≡ [] → IsNewWorker shape tells t v d
   is-new pages v w x d kept s ready none =
@@ -91,6 +70,7 @@ module _ {A : Type 0} (shape : Shape) (tells : Bool) (t : TableId) where
         start = ap (λ (y : View Said). y.start) is ∙ kept.start;
         said = ap (λ (y : View Said). y.mine) is;
         noted = ap (λ (y : View Said). y.notes) is;
+        log = ap (λ (y : View Said). y.log) is;
         frames = ap (λ (y : View Said). y.frames) is;
       }
 

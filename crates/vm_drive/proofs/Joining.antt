@@ -1,15 +1,15 @@
 -- One worker's pass more is joined.
-use Rattle.std.proofs.Common.{[], ⊎_elim, ◌++◌, ◌+◌, ◌∙◌, ◌∷◌, ◌≡◌, ◌≤◌, ◌⊎◌, ap, append_assoc, arith, Bool, false, length, List, subst, sym, ℕ}
+use Rattle.std.proofs.Common.{[], ⊎_elim, ◌++◌, ◌+◌, ◌∙◌, ◌∷◌, ◌≡◌, ◌⊎◌, ap, append_assoc, arith, Bool, false, List, subst, sym, ℕ}
 use Rattle.std.proofs.lemmas.List.{map-append}
 use Rattle.vm_map.specs.declared.call.Said.{Said}
 use Rattle.vm_rule.specs.Prelude.{entries_by, Entry, has, owns, times}
-use Rattle.vm_rule.proofs.Entries.{each-map}
-use Rattle.vm_step.specs.Prelude.{Did, View, view}
+use Rattle.vm_rule.proofs.Entries.{append-none, each-map}
+use Rattle.vm_step.specs.Prelude.{Did, Note, View, view}
 use Rattle.vm_pool.specs.Parting.{Joins}
 use Rattle.vm_tree_laws.specs.Keeps.{KeepsTree}
-use Rattle.vm_drive.specs.{Causes.notes_about, declared.worker.Worker.Worker}
-use Rattle.vm_drive.specs.Crews.{all_notes_of, AreJoined, IsIn, number_of, numbers_of}
-use Rattle.vm_drive.proofs.{Doing.notes-both, Framing.none-added, Hiring.all-then}
+use Rattle.vm_drive.specs.{Causes.notes_about, declared.worker.Worker.Worker, Parts.StandBehind}
+use Rattle.vm_drive.specs.Crews.{all_notes_of, AreJoined, IsIn, number_of, numbers_of, worker_logs, worker_notes}
+use Rattle.vm_drive.proofs.{Doing.notes-both, Framing.none-added, Hiring.all-then, Parts.behind-first, Parts.behind-snoc}
 use Rattle.vm_drive.proofs.Lists.{each-snoc, has-last, has-left, nested, nested-one, starts-then, times-both}
 
 module _ {A : Type 0} where
@@ -24,11 +24,9 @@ module _ {A : Type 0} where
       record {
         number = ap (λ (l : List ℕ). has n l) j.used ∙ has-left n w.used u.used i.number;
         entries = sym (nested-one n w.used x.seen i.number) ∙ ap (λ (l : List (Entry Said)). entries_by (n ∷ []) l) (j.ours ∙ mine) ∙ nested-one n w.used w.seen i.number ∙ i.entries;
-        front = i.front;
-        behind = i.behind ++ (u.log ++ j.steps);
-        log = j.log ∙ append_assoc w.log u.log j.steps ∙ ap (λ (l : List Did). l ++ (u.log ++ j.steps)) i.log ∙ append_assoc i.front ((view d.pass).log ++ i.behind) (u.log ++ j.steps) ∙ ap (λ (l : List Did). i.front ++ l) (append_assoc (view d.pass).log i.behind (u.log ++ j.steps));
         start = i.start ∙ sym j.kept.start;
         heard = starts-then x.seen w.seen (view d.pass).seen j.kept.seen i.heard;
+        saw = starts-then x.releases w.releases (view d.pass).releases j.saw.0 i.saw;
       }
 
   -- the worker whose pass was joined now is in
@@ -38,11 +36,9 @@ module _ {A : Type 0} where
       record {
         number = ap (λ (l : List ℕ). has n l) (j.used ∙ ap (λ (l : List ℕ). w.used ++ l) one) ∙ has-last n w.used;
         entries = ap (λ (l : List ℕ). entries_by l x.seen) (sym one) ∙ j.theirs;
-        front = w.log;
-        behind = j.steps;
-        log = j.log ∙ append_assoc w.log (view d.pass).log j.steps;
         start = start ∙ sym j.kept.start;
         heard = j.heard;
+        saw = j.saw.1;
       }
 
   module _ (tells : Bool) (x : View Said) where
@@ -61,6 +57,8 @@ module _ {A : Type 0} where
           let no : times k (view d.pass).fresh ≡ 0 = ap (times k) none in
           omega arith;
       notes = λ p. let h : notes_about p w.notes ≡ notes_about p x.notes + notes_about p (view d.pass).notes = ap (notes_about p) j.notes ∙ notes-both p x.notes (view d.pass).notes in omega arith;
+      logs = behind-first x.log (view d.pass).log j.steps w.log j.log;
+      noted = behind-first x.notes (view d.pass).notes [] w.notes (j.notes ∙ sym (append-none (x.notes ++ (view d.pass).notes)));
       frames = none-added x (view d.pass) w j.frames bare;
       mine = j.mine;
       ours = j.ours;
@@ -87,6 +85,9 @@ module _ {A : Type 0} where
               let before : notes_about p v.notes ≡ notes_about p x.notes + all_notes_of p ds = a.notes p in
               let more : all_notes_of p (ds ++ d ∷ []) ≡ all_notes_of p ds + notes_about p (view d.pass).notes = all-notes-snoc p ds d in
               omega arith;
+          logs = subst (λ (l : List (List Did)). StandBehind x.log l w.log) (sym (map-append (λ (e : Worker A). (view e.pass).log) ds (d ∷ []))) (behind-snoc x.log (worker_logs ds) v.log (view d.pass).log j.steps w.log a.logs j.log);
+          noted = subst (λ (l : List (List Note)). StandBehind x.notes l w.notes) (sym (map-append (λ (e : Worker A). (view e.pass).notes) ds (d ∷ [])))
+              (behind-snoc x.notes (worker_notes ds) v.notes (view d.pass).notes [] w.notes a.noted (j.notes ∙ sym (append-none (v.notes ++ (view d.pass).notes))));
           frames = λ f. none-added v (view d.pass) w j.frames bare f ∙ a.frames f;
           mine = j.mine;
           ours =
@@ -104,7 +105,3 @@ module _ {A : Type 0} where
         (λ n. subst (λ (l : List (Worker A)). AreJoined tells x (l ++ d ∷ []) w) (sym n.0) (first-joined w d (subst (λ (y : View Said). Joins tells KeepsTree y (view d.pass) w) n.1 j) one none start bare))
         (λ a. next-joined ds v w d a j one none start bare)
         so
-
-    -- some were joined, so these
-    pub joined-all : (ds : List (Worker A)) (w : View Said) → JoinedSoFar ds w → 1 ≤ length ds → AreJoined tells x ds w
-    joined-all ds w so some' = ⊎_elim (λ n. let none : length ds ≡ 0 = ap length n.0 in absurd (omega arith)) (λ a. a) so

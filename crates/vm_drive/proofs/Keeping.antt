@@ -4,7 +4,6 @@ use Rattle.vm_map.specs.declared.call.Said.{Said}
 use Rattle.vm_rule.specs.Prelude.{StartsWith}
 use Rattle.vm_rule.proofs.Entries.{append-none}
 use Rattle.vm_step.specs.Prelude.{View}
-use Rattle.vm_pool.specs.Brings.{KeepsLocks}
 use Rattle.vm_tree_rule.specs.Leaves.{OnlyReads}
 use Rattle.vm_tree_read.specs.Waiting.{Waits}
 use Rattle.vm_tree_write.specs.{Splits.KeepsLocksOnly, Writes.OnlyWrites}
@@ -16,9 +15,6 @@ same-front l m e = ([], e ∙ sym (append-none m))
 module _ {X : Type 0} where
   pub waits-pass : (v w : View X) → Waits v w → KeepsPass v w
   waits-pass v w k = record { holds = k.holds; out = k.out; start = k.start; parts = k.parts; seen = k.seen; notes = k.notes; log = k.log }
-
-  pub locks-pass : (v w : View X) → KeepsLocks v w → KeepsPass v w
-  locks-pass v w k = record { holds = k.holds; out = k.out; start = k.start; parts = k.parts; seen = k.seen; notes = k.notes; log = k.log }
 
   pub reads-pass : (v w : View X) → OnlyReads v w → KeepsPass v w
   reads-pass v w r = record { holds = r.holds; out = r.out; start = r.start; parts = r.parts; seen = r.seen; notes = same-front w.notes v.notes r.notes; log = (r.done, r.log) }

@@ -1,4 +1,5 @@
 pub mod Lists
+pub mod Called
 pub mod Showing
 pub mod Tracing
 pub mod Doing
@@ -10,6 +11,9 @@ pub mod Bringing
 pub mod Rooms
 pub mod Answering
 pub mod Hiring
+pub mod Chain
+pub mod Parts
+pub mod Parted
 pub mod Joining
 pub mod Crews
 pub mod Finishing

@@ -20,10 +20,6 @@ pub each-both-of : {A : Type 0} (P Q R : A → Type 0) → ((a : A) → P a → 
 each-both-of P Q R f [] p q = tt
 each-both-of P Q R f (x ∷ xs) p q = (f x p.0 q.0, each-both-of P Q R f xs p.1 q.1)
 
-pub nothing-left : {A : Type 0} (l : List A) → length l ≡ 0 → l ≡ []
-nothing-left [] h = refl
-nothing-left (x ∷ xs) h = absurd (omega arith)
-
 -- a list that is the front of itself and another has nothing behind it
 pub nothing-behind : {A : Type 0} (a b : List A) → a ++ b ≡ a → b ≡ []
 nothing-behind [] b e = e

@@ -18,7 +18,8 @@ use Rattle.vm_tree_write.specs.Prepares.{IsLockDenied, IsLockDenied as locks, Is
 use Rattle.vm_tree_write.specs.Tries.{IsEnded, IsEnded as ends, IsUnsplit, IsUnsplit as unsplit}
 use Rattle.vm_tree_write.specs.Waiting.{IsRoomFault, IsRoomFault as rooms}
 use Rattle.vm_tree_write.specs.declared.tries.TrySplit.TheVariants as splits
-use Rattle.vm_drive.specs.Calls.{HasFoundNext, HasFoundWorn, IsCalled, KeepsPass}
+use Rattle.vm_drive.specs.Calls.{KeepsPass}
+use Rattle.vm_drive.proofs.Called.{HasFoundNext, HasFoundWorn, IsCalled}
 use Rattle.vm_drive.proofs.{Bringing.fault-called, Doing.keeps-then, Keeping.all-pass, Keeping.reads-pass, Lists.starts-then, Sweeping.swept-noted}
 use Rattle.vm_drive.proofs.{Sweeping.swept-worn, Tracing.given-more, Tracing.max-later}
 use Rattle.vm_drive.proofs.Finding.{denied-worn, found-worn, given-in, noted-before}

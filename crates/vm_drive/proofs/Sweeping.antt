@@ -1,5 +1,5 @@
 -- What a sweep tells of worn pages and of writes that failed.
-use Rattle.std.proofs.Common.{[], ⊎_elim, ◌%◌, ◌++◌, ◌+◌, ◌<◌, ◌∙◌, ◌∷◌, ◌≡◌, ◌≤◌, ◌⊎◌, ap, append_assoc, inl, inr, List, None, Option, refl, Some}
+use Rattle.std.proofs.Common.{[], ⊎_elim, ◌%◌, ◌++◌, ◌+◌, ◌<◌, ◌∙◌, ◌∷◌, ◌≡◌, ◌⊎◌, ap, append_assoc, inl, inr, List, None, Option, refl, Some}
 use Rattle.std.proofs.Common.{subst, suc, sym, zero, ℕ}
 use Rattle.vm_core.specs.Prelude.{hand_more, MAX_VERSION, version_of}
 use Rattle.vm_rule.specs.Prelude.{did_change, did_load, StartsWith}
@@ -10,8 +10,7 @@ use Rattle.vm_clock.specs.Clock.{Visits, Visits as visits, VisitsFrame, VisitsFr
 use Rattle.vm_evict.specs.{declared.report.Report.Report, Evictions.first_of}
 use Rattle.vm_pool.specs.Sweeps.{IsSwept}
 use Rattle.vm_pool.proofs.Keeping.{swept-keeps}
-use Rattle.vm_drive.specs.Calls.{HasFoundWorn, HasNoted}
-use Rattle.vm_drive.proofs.{Finding.given-in, Tracing.given-more}
+use Rattle.vm_drive.proofs.{Called.HasFoundWorn, Called.HasNoted, Finding.given-in, Tracing.given-more}
 
 -- a walk of the clock met this page of so many, and found it at the last version
 record IsMetWorn (pages p : ℕ) (done : List Did) : Type 0 where

@@ -8,7 +8,8 @@ use Rattle.vm_rule.specs.declared.view.Place.TheVariants as places
 use Rattle.vm_step.specs.Prelude.{Did, HasGiven, View}
 use Rattle.vm_tree_rule.specs.declared.fault.TreeFault.{TreeFault}
 use Rattle.vm_tree_rule.specs.declared.fault.TreeFault.TheVariants.{Device, Full, Worn}
-use Rattle.vm_drive.specs.Causes.{AllCausedBy, AreCausedBy, CausedBy, FoundFull, FoundWorn}
+use Rattle.vm_drive.specs.Causes.{AllCausedBy, AreCausedBy, CausedBy}
+use Rattle.vm_drive.proofs.Called.{FoundFull, FoundWorn}
 
 -- what was found stays found
 pub given-more : (l m : List Did) (at : Place) (word : ℕ) → StartsWith l m → HasGiven m at word → HasGiven l at word

@@ -1,10 +1,10 @@
 -- Why calls had no reply.
-use Rattle.std.specs.Prelude.{[], ◌+◌, ◌==◌, ◌∷◌, ◌≡◌, Err, if◌then◌else◌, List, Ok, Result, ℕ}
+use Rattle.std.specs.Prelude.{[], ◌+◌, ◌==◌, ◌∷◌, Err, if◌then◌else◌, List, Ok, Result, ℕ}
 use Rattle.vm_map.specs.{declared.call.Call.Call, declared.call.Reply.Reply}
-use Rattle.vm_step.specs.Prelude.{Note, View}
+use Rattle.vm_step.specs.Prelude.{Note}
 use Rattle.vm_tree_rule.specs.declared.fault.TreeFault.{TreeFault}
 use Rattle.vm_tree_rule.specs.declared.fault.TreeFault.TheVariants.{Device, Full, Worn}
-use Rattle.vm_drive.specs.Calls.{HasFoundNext, HasFoundWorn, IsPutCall}
+use Rattle.vm_drive.specs.Calls.{IsPutCall}
 
 -- how many notes are of page p
 abbrev pub notes_about : ℕ → List Note → ℕ
@@ -46,12 +46,3 @@ abbrev pub AllCausedBy : (full worn : ℕ → Type 0) → List (List Call) → L
 AllCausedBy full worn [] answers = Unit {0}
 AllCausedBy full worn (cs ∷ lists) [] = Unit {0}
 AllCausedBy full worn (cs ∷ lists) (rs ∷ answers) = AreCausedBy full worn cs rs × AllCausedBy full worn lists answers
-
-module _ {X : Type 0} where
-  -- the pass found the page at the last version
-  abbrev pub FoundWorn : View X → ℕ → Type 0
-  FoundWorn v p = HasFoundWorn p v
-
-  -- the pass found the image of so many pages used up
-  abbrev pub FoundFull : View X → ℕ → Type 0
-  FoundFull v pages = (pages ≡ v.start.pages) × HasFoundNext pages v

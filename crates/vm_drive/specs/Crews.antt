@@ -1,13 +1,13 @@
 -- The workers of a drive: those that were hired, and those that have done their work.
-use Rattle.std.specs.Prelude.{[], ◌++◌, ◌+◌, ◌∷◌, ◌≡◌, ◌≤◌, ◌⊎◌, Bool, false, length, List, map, Result, slice_index, true, ℕ}
+use Rattle.std.specs.Prelude.{[], ◌*◌, ◌++◌, ◌+◌, ◌/◌, ◌∷◌, ◌≡◌, ◌≤◌, ◌⊎◌, Bool, false, length, List, map, min, Result, slice_index, true, ℕ}
 use Rattle.vm_map.specs.{declared.call.Call.Call, declared.call.Reply.Reply, declared.call.Said.Said}
 use Rattle.vm_rule.specs.Prelude.{AreApart, Each, entries_by, has, HoldsNoPage, IsWhole, owns, StartsWith, TableId, times}
-use Rattle.vm_step.specs.Prelude.{Did, IsReady, KnowsAll, Shape, View, view}
+use Rattle.vm_step.specs.Prelude.{Did, IsReady, KnowsAll, Note, Shape, View, view}
 use Rattle.vm_pool.specs.Parting.{KeepsAll}
 use Rattle.vm_tree_laws.specs.Keeps.{KeepsTree}
 use Rattle.vm_tree_rule.specs.declared.fault.TreeFault.{TreeFault}
 use Rattle.vm_tree_read.specs.Waiting.{LosesNone}
-use Rattle.vm_drive.specs.{Causes.notes_about, declared.worker.Worker.Worker, Workers.HasKept, Workers.IsAtWork}
+use Rattle.vm_drive.specs.{Causes.notes_about, declared.worker.Worker.Worker, Parts.StandBehind, Workers.HasKept, Workers.IsAtWork}
 
 -- the worker's number
 abbrev pub number_of : {A : Type 0} → Worker A → ℕ
@@ -15,6 +15,15 @@ number_of worker = slice_index (view worker.pass).used 0
 
 abbrev pub numbers_of : {A : Type 0} → List (Worker A) → List ℕ
 numbers_of workers = map number_of workers
+
+-- how many frames the interface of each of so many workers keeps: a quarter of the worker's share, at most 64
+abbrev pub share_of : (frames workers : ℕ) → ℕ
+share_of frames workers = min (frames / (4 * workers)) 64
+
+-- the workers' interfaces keep so many frames, and each is at home at its worker's place, from this one on
+abbrev pub AreAtHome : {A : Type 0} → (first cap : ℕ) → List (Worker A) → Type 0
+AreAtHome first cap [] = Unit {0}
+AreAtHome first cap (worker ∷ workers) = (worker.iface.home ≡ first) × (worker.iface.cap ≡ cap) × AreAtHome (first + 1) cap workers
 
 module _ {A : Type 0} (shape : Shape) (tells : Bool) (t : TableId) where
   -- the worker has a part of its own, no frame, and has done nothing
@@ -25,6 +34,7 @@ module _ {A : Type 0} (shape : Shape) (tells : Bool) (t : TableId) where
     pub start : (view worker.pass).start ≡ v.start
     pub said : (view worker.pass).mine ≡ []
     pub noted : (view worker.pass).notes ≡ []
+    pub log : (view worker.pass).log ≡ []
     pub frames : (view worker.pass).frames ≡ []
 
   -- The pass with the view v, which then has the view w, gave a part to each of these workers, who have these rooms for answers
@@ -82,24 +92,31 @@ all_notes_of p (worker ∷ workers) = notes_about p (view worker.pass).notes + a
 abbrev pub answers_of : {A : Type 0} → List (Worker A) → List A
 answers_of workers = map (λ worker. worker.answers) workers
 
--- the worker's pass went into this one: its number is one of the pass's, and the history has its entries alone under it; and the pass has
--- its steps
+-- the steps of the workers' passes, and their notes
+abbrev pub worker_logs : {A : Type 0} → List (Worker A) → List (List Did)
+worker_logs workers = map (λ worker. (view worker.pass).log) workers
+
+abbrev pub worker_notes : {A : Type 0} → List (Worker A) → List (List Note)
+worker_notes workers = map (λ worker. (view worker.pass).notes) workers
+
+-- the worker's pass went into this one: its number is one of the pass's, and the history has its entries alone under it
 pub record IsIn {A : Type 0} (w : View Said) (worker : Worker A) : Type 0 where
   pub number : has (number_of worker) w.used ≡ true
   pub entries : entries_by (number_of worker ∷ []) w.seen ≡ (view worker.pass).mine
-  pub front : List Did
-  pub behind : List Did
-  pub log : w.log ≡ front ++ ((view worker.pass).log ++ behind)
   pub start : (view worker.pass).start ≡ w.start
   pub heard : StartsWith w.seen (view worker.pass).seen
+  pub saw : StartsWith w.releases (view worker.pass).releases
 
--- The passes of the workers, which had no frame, went into the pass that had the view x and has the view w
+-- The passes of the workers, which had no frame, went into the pass that had the view x and has the view w: their steps and notes stand in its own,
+-- behind what it had, one worker's behind another's
 pub record AreJoined {A : Type 0} (tells : Bool) (x : View Said) (workers : List (Worker A)) (w : View Said) : Type 0 where
   pub kept : KeepsAll x w
   pub current : w.current ≡ true
   pub used : w.used ≡ x.used ++ numbers_of workers
   pub parts : (k : ℕ) → owns k w ≡ owns k x + times k (numbers_of workers)
   pub notes : (p : ℕ) → notes_about p w.notes ≡ notes_about p x.notes + all_notes_of p workers
+  pub logs : StandBehind x.log (worker_logs workers) w.log
+  pub noted : StandBehind x.notes (worker_notes workers) w.notes
   pub frames : (f : ℕ) → has f w.frames ≡ has f x.frames
   pub mine : w.mine ≡ entries_by w.used w.seen
   pub ours : entries_by x.used w.seen ≡ x.mine

@@ -11,7 +11,8 @@ use Rattle.vm_step.specs.Prelude.{IsAlone, View}
 use Rattle.vm_tree_laws.specs.History.{IsLegal}
 use Rattle.vm_tree_rule.specs.declared.fault.TreeFault.{TreeFault}
 use Rattle.vm_drive.specs.{Holds.HoldsCalls, Kept.AreKept, Shows.AllShown}
-use Rattle.vm_drive.specs.Causes.{all_faults_of, AllCausedBy, FoundFull, FoundWorn, notes_about}
+use Rattle.vm_drive.specs.Causes.{all_faults_of, AllCausedBy, notes_about}
+use Rattle.vm_drive.specs.Parts.{HaveParts, logs_of, noted_by, StandBehind}
 
 -- the lists in the vectors
 abbrev pub items_of : {X : Type 0} → List (Vec X Global) → List (List X)
@@ -36,7 +37,8 @@ IsAtLastVersion w p = MAX_VERSION ≤ (last_of w p).version
 -- The workers have made the calls of their lists, with these answers, and their passes went into the one that had the view v and has the
 -- view w: it is whole again, holds no page, and has just the frames that it had. What it has seen begins with what it had seen, is legal, and is all its own. Its own entries
 -- grew by just the lists' calls that had a reply, each list in order under a number of its own. Each fault of a device has its own new note
--- of the page; each other fault has its cause, and each window is a leaf's
+-- of the page; each other fault has its cause, and each window is a leaf's. Each worker made its calls one after another, and what each was
+-- answered comes of the steps and notes of that very call
 pub record IsDriven (tells : Bool) (lists : List (List Call)) (answers : List (List (Result Reply TreeFault))) (v w : View Said) : Type 0 where
   pub alone : IsAlone w
   pub holds : HoldsNoPage w
@@ -51,9 +53,12 @@ pub record IsDriven (tells : Bool) (lists : List (List Call)) (answers : List (L
   pub calls : HoldsCalls grew lists answers
   pub faults : (p : ℕ) → notes_about p v.notes + all_faults_of p answers ≤ notes_about p w.notes
   pub caused : AllCausedBy (IsUsedUp w) (IsAtLastVersion w) lists answers
-  -- the same, by what the pass's steps found: so it is of the pass later on, too
-  pub traces : AllCausedBy (FoundFull w) (FoundWorn w) lists answers
   pub shown : AllShown w lists answers
+  -- what each worker's pass knew behind its last call; its steps and notes stand in those of the joined pass, one worker's behind another's
+  pub passes : List (View Said)
+  pub parts : HaveParts w lists answers passes
+  pub logs : StandBehind v.log (logs_of passes) w.log
+  pub noted : StandBehind v.notes (noted_by passes) w.notes
 
 -- the same, where each worker's answers were kept so
 pub record IsDrivenInto {A : Type 0} (keeps : A → List (Result Reply TreeFault) → Type 0) (tells : Bool) (lists : List (List Call)) (kept : List A) (v w : View Said) : Type 0 where

@@ -1,8 +1,10 @@
 pub mod Shows
 pub mod Calls
+pub mod TreeCalls
 pub mod Holds
 pub mod Causes
 pub mod Kept
 pub mod Workers
+pub mod Parts
 pub mod Crews
 pub mod Drives

@@ -4,7 +4,7 @@ ghost use Rattle.std.specs.Prelude.{[], ◌*◌, ◌<◌, ◌≡◌, ◌≤◌, 
 ghost use Rattle.std.specs.Vec.{vec_capacity};
 ghost use Rattle.vm_rule.specs.Prelude.{Each, HoldsNoPage, IsWhole};
 ghost use Rattle.vm_step.specs.Prelude.{IsReady, IsSamePass, view};
-ghost use Rattle.vm_drive.specs.Crews.{AllWorked, answers_of, AreHired, AreIdle, AreJoined, HasWorked, IsBack, IsIdle};
+ghost use Rattle.vm_drive.specs.Crews.{AllWorked, answers_of, AreAtHome, AreHired, AreIdle, AreJoined, HasWorked, IsBack, IsIdle, share_of};
 ghost use Rattle.vm_drive.specs.Drives.{AreAskable, AreFew, IsDriven, IsDrivenInto, items_of};
 ghost use Rattle.vm_drive.specs.Holds.{list_at};
 ghost use Rattle.vm_drive.specs.Kept.{HasItems, HaveRoom, left_in};
@@ -145,12 +145,13 @@ fn cap_for(frames: usize, workers: usize) -> u32
     requires some { 1 ≤ workers }
     requires few { workers ≤ 64 }
     requires share { 8 * workers ≤ frames }
-    ensures { (1 ≤ result) × (result ≤ 64) }
+    ensures some { (1 ≤ result) × (result ≤ 64) }
+    ensures share { result ≡ share_of frames workers }
 {
     (frames / (4 * workers)).min(64) as u32
 }
 
-// Splits off a pass for each room.
+// Splits off a pass for each room. An interface is at home at its worker's place, modulo the number of bundles.
 fn hire<B: Block, A: Drop>(
     pool: &Pool<Tree, B>,
     pass: &mut Pass<Tree>,
@@ -163,10 +164,12 @@ fn hire<B: Block, A: Drop>(
     requires fresh { length rooms.items ≤ length (view pass.old).fresh }
     requires pages { 1 ≤ pool.now.words.table.shared.key.pages }
     requires cap { (1 ≤ cap) × (cap ≤ 64) }
+    requires few { length rooms.items ≤ 64 }
     requires room { (workers.items ≡ []) × (length rooms.items ≤ vec_capacity workers) }
     ensures pass { IsSamePass pass.old pass.new }
     ensures ready { IsReady pool.now.words.table.shared.key B.tells pool.now.words.table.shared.table_id pass.new }
     ensures hired { AreHired pool.now.words.table.shared.key B.tells pool.now.words.table.shared.table_id rooms.items (view pass.old) result.items (view pass.new) }
+    ensures homes { AreAtHome 0 cap result.items }
 {
     let mut home = 0u32;
     'rooms: for answers in rooms {
@@ -196,6 +199,7 @@ fn work_all<R: Threads + Wait + Sync, B: Block + Send + Sync, G: Gate + Sync, A:
     requires lists { (1 ≤ length lists.now) × (length lists.now ≤ 64) }
     requires askable { AreAskable (items_of lists.now) }
     requires idle { AreIdle A.keeps A.room pool.now.words.table.shared.key B.tells pool.now.words.table.shared.table_id (items_of lists.now) workers.old }
+    requires homes { AreAtHome 0 (share_of pool.now.words.frames (length lists.now)) workers.old }
     ensures { AllWorked A.keeps pool.now.words.table.shared.key B.tells pool.now.words.table.shared.table_id (items_of lists.now) workers.old workers.new }
 {
     thread::for_each_mut(

@@ -6,7 +6,7 @@ ghost use Rattle.vm_map.specs.History.{IsAskable};
 ghost use Rattle.vm_rule.specs.Prelude.{HoldsNoPage};
 ghost use Rattle.vm_step.specs.Prelude.{AreHeld, IsReady, view};
 ghost use Rattle.vm_tree_read.specs.Waiting.{LosesNone};
-ghost use Rattle.vm_drive.specs.{Calls.IsCalled, Calls.KeepsPass, Workers.HasKept, Workers.IsAtWork};
+ghost use Rattle.vm_drive.specs.{Calls.KeepsPass, TreeCalls.IsTreeCall, Workers.HasCalled, Workers.HasKept, Workers.IsAtWork};
 
 pub use crate::answers::Answer;
 use crate::answers::Answers;
@@ -44,7 +44,7 @@ fn answer<R: Wait, B: Block>(
     requires askable { IsAskable call.now }
     ensures ready { IsReady pool.now.words.table.shared.key B.tells pool.now.words.table.shared.table_id pass.new }
     ensures keeps { KeepsPass (view pass.old) (view pass.new) }
-    ensures call { IsCalled call.now result (view pass.old) (view pass.new) }
+    ensures call { IsTreeCall call.now result (view pass.old) (view pass.new) }
     ensures held { AreHeld iface.new.frames (view pass.new) }
     ensures lost { LosesNone iface.old.frames (view pass.old) iface.new.frames (view pass.new) }
 {
@@ -70,7 +70,7 @@ fn call_all<R: Wait, B: Block, G: Gate, A: Answers>(
     requires fresh { A.keeps worker.old.answers [] }
     requires askable { AllByRecursion IsAskable calls.now }
     ensures work { IsAtWork pool.now.words.table.shared.key B.tells pool.now.words.table.shared.table_id worker.new }
-    ensures done { HasKept A.keeps calls.now worker.new.answers (view worker.old.pass) (view worker.new.pass) }
+    ensures done { HasCalled A.keeps calls.now worker.new.answers (view worker.old.pass) (view worker.new.pass) }
     ensures lost { LosesNone worker.old.iface.frames (view worker.old.pass) worker.new.iface.frames (view worker.new.pass) }
 {
     let mut count = 0u32;

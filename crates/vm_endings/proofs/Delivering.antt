@@ -1,11 +1,12 @@
 -- What was written and said, as a delivery.
 use Rattle.std.proofs.Common.{◌<◌, ◌≡◌, ◌⊎◌, arith, inl, inr, length, List, None, Option, refl, Some, subst, ℕ}
+use Rattle.std.proofs.lemmas.Bool.{false≢true}
 use Rattle.std.proofs.lemmas.List.{take_all}
 use Rattle.vm_io.specs.Loops.{SaidSome}
 use Rattle.vm_io.specs.Shown.{SaidFront, say_more, Shown}
 use Rattle.vm_words.specs.declared.Command.{Command}
 use Rattle.vm_endings.specs.{Commands.order_of, declared.ends.Ends.Ends, declared.stop.Stop.Stop, Stops.status_of, Stops.stop_line, Tests.StopsAt}
-use Rattle.vm_endings.specs.Deliveries.{Content, file_cut, IsDelivered, line, SaidAll, text_cut, whole, WroteAll}
+use Rattle.vm_endings.specs.Deliveries.{Content, IsDelivered, line, SaidAll, text_cut, unwritten, whole, WroteAll}
 use Rattle.vm_endings.specs.Endings.{CommandEnds, stopped, unable}
 
 said-all : (old new : Option Shown) (text : List ℕ) → SaidFront old new text (length text) → SaidAll old new text
@@ -21,7 +22,7 @@ said-cut text wanted old new some said = text_cut old refl some said refl
 -- a text behind a file that was written
 pub behind-file : (content : Content) (old written new : Option Shown) (status : ℕ) → WroteAll old written content.file → IsDelivered (line content.text content.status) written new status → IsDelivered content old new status
 behind-file content old written new status wrote (whole between same said is) = whole written wrote (subst (λ (m : Option Shown). SaidAll m new content.text) same said) is
-behind-file content old written new status wrote (file_cut never is) = absurd never
+behind-file content old written new status wrote (unwritten never same is) = absurd (false≢true never)
 behind-file content old written new status wrote (text_cut between same some said is) = text_cut written wrote some (subst (λ (m : Option Shown). SaidSome m new content.text) same said) is
 
 -- a stop that was told, or that there was no memory to tell

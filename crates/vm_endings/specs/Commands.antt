@@ -10,7 +10,7 @@ use Rattle.vm_endings.specs.{Replays.PlayedReplay}
 use Rattle.vm_endings.specs.declared.stop.Quantity.TheVariants.{Fail, FirstVersion, Frames, Pages, Pairs, Workers}
 use Rattle.vm_endings.specs.Limits.{are_entries, are_frames, are_pages, are_pairs_to_churn, are_pairs_to_make, are_workers, is_version}
 use Rattle.vm_endings.specs.Runs.{CutRun, ToldRun, version_or}
-use Rattle.vm_endings.specs.Tests.{events, image, room, script, Test, within}
+use Rattle.vm_endings.specs.Tests.{depth, events, image, room, script, Test, within}
 
 -- the numbers of a run
 abbrev pub limits_of : Run → List Test
@@ -23,7 +23,7 @@ limits_of run =
 
 -- what a command asks before it does anything
 abbrev pub order_of : Command → List Test
-order_of (commands.Run run) = limits_of run ++ image run.image.now ∷ script run.script.now run.workers ∷ []
+order_of (commands.Run run) = limits_of run ++ image run.image.now ∷ depth run.frames run.image.now ∷ script run.script.now run.workers ∷ []
 order_of (commands.Make make) = within Pages (are_pages make.pages) ∷ within Pairs (are_pairs_to_make make.pairs) ∷ room make.pages make.pairs ∷ []
 order_of (commands.Check check) = image check.file.now ∷ []
 order_of (commands.Churn churn) =

@@ -1,6 +1,6 @@
--- How what a command gives goes out: a file may be written, then a text is said, and the status tells whether all of it went out.
-use Rattle.std.specs.Prelude.{◌<◌, ◌≡◌, length, List, None, Option, Some, ℕ}
-use Rattle.vm_io.specs.Loops.{HoldsSome, SaidSome}
+-- How what a command gives goes out: a file may be replaced, then a text is said, and the status tells whether all of it went out.
+use Rattle.std.specs.Prelude.{◌<◌, ◌≡◌, IsSome, length, List, None, Option, Some, ℕ}
+use Rattle.vm_io.specs.Loops.{SaidSome}
 use Rattle.vm_io.specs.Shown.{Holds, say_more, Shown}
 use Rattle.vm_endings.specs.{declared.delivery.Delivery.Delivery, declared.delivery.File.File}
 
@@ -31,20 +31,16 @@ abbrev pub WroteAll : Option Shown → Option Shown → Option Written → Type 
 WroteAll old new None = new ≡ old
 WroteAll old new (Some file) = Holds old new file.name file.bytes
 
--- the file has a front of the bytes, or nothing changed
-abbrev pub WroteSome : Option Shown → Option Shown → Option Written → Type 0
-WroteSome old new None = ⊥
-WroteSome old new (Some file) = HoldsSome old new file.name file.bytes
-
 -- the whole text was said
 abbrev pub SaidAll : Option Shown → Option Shown → List ℕ → Type 0
 SaidAll None new text = new ≡ None
 SaidAll (Some old) new text = new ≡ Some (say_more old text)
 
--- How it went: all of it; or the file or the text only in part, and the status is 3. Nothing is said before the file is written
+-- How it went: all of it; or the file was not written, and nothing changed; or the file was written and the text said only in part. In both the
+-- status is 3. So a file is as it was, or has all its bytes, and nothing is said before it has them
 pub data IsDelivered (content : Content) (old new : Option Shown) (status : ℕ) : Type 0 where
   whole : (written : Option Shown) → WroteAll old written content.file → SaidAll written new content.text → status ≡ content.status → IsDelivered content old new status
-  file_cut : WroteSome old new content.file → status ≡ 3 → IsDelivered content old new status
+  unwritten : IsSome content.file → new ≡ old → status ≡ 3 → IsDelivered content old new status
   text_cut : (written : Option Shown) → WroteAll old written content.file → 0 < length content.text → SaidSome written new content.text → status ≡ 3 → IsDelivered content old new status
 
 -- all of it went out

@@ -1,5 +1,5 @@
 -- The limits of the numbers of a command line.
-use Rattle.std.specs.Prelude.{◌&&◌, ◌*◌, Bool, leb, length, List, ℕ}
+use Rattle.std.specs.Prelude.{◌&&◌, ◌*◌, ◌+◌, Bool, leb, length, List, ℕ}
 use Rattle.vm_image.specs.declared.blocks.PlannedFault.{PlannedFault}
 use Rattle.vm_core.specs.Prelude.{MAX_VERSION}
 
@@ -10,6 +10,11 @@ are_workers workers = leb 1 workers && leb workers 64
 -- 64 to 65,536 frames, and eight for each worker
 abbrev pub are_frames : ℕ → ℕ → Bool
 are_frames workers frames = leb 64 frames && (leb frames 65536 && leb (8 * workers) frames)
+
+-- So many frames hold the pages that one call on a tree of this height needs at once: page 0, the nodes of a way from the root to a leaf, two fresh pages
+-- of a split, and four more levels, which a run may add
+abbrev pub holds_call : (height frames : ℕ) → Bool
+holds_call height frames = leb (height + 8) frames
 
 -- a version that a page can have
 abbrev pub is_version : ℕ → Bool

@@ -2,13 +2,15 @@
 use Rattle.std.specs.Borrow.{Bor}
 use Rattle.std.specs.Prelude.{◌++◌, ◌≡◌, ◌⊎◌, List, None, Option, Some, ℕ}
 use Rattle.vm_io.specs.Shown.{Shown}
-use Rattle.vm_map.specs.{declared.call.Call.Call, Map.Pairs}
+use Rattle.vm_map.specs.declared.call.Call.{Call}
+use Rattle.vm_tree_model.specs.Tree.{map_of}
+use Rattle.vm_image.specs.Blocks.{pages_of_blocks}
 use Rattle.vm_image.specs.File.{pages_of_bytes}
 use Rattle.vm_serve.specs.Served.{TreeEnd}
 use Rattle.vm_script.specs.Texts.{rows_text, unflushed_line, worker_replies}
 use Rattle.vm_words.specs.declared.Run.{Run}
 use Rattle.vm_endings.specs.{declared.ends.Ends.Ends, declared.ends.Ends.TheVariants.Tree, Deliveries.Content, Deliveries.Written, Files.HasFile}
-use Rattle.vm_endings.specs.{Images.file_map, Images.IsTreeFile, Made.IsMade, Made.last_map, Replies.all_lines, Replies.counters_of}
+use Rattle.vm_endings.specs.{Images.IsTreeFile, Made.IsMade, Made.last_map, Replies.all_lines, Replies.counters_of}
 use Rattle.vm_endings.specs.{Scripts.IsScriptOf}
 
 -- the version at which each page begins
@@ -20,18 +22,20 @@ version_or (Some version) = version
 abbrev pub IsMadeRun : Run → TreeEnd → List (List ℕ) → List (List Call) → Type 0
 IsMadeRun run end pages lists = IsMade run.options.fail.items (version_or run.options.first_version) run.frames end pages lists
 
--- the file to be kept, where one is asked for, is a page file whose pages are a tree of this map
-abbrev pub IsKept : Option (Bor (List ℕ)) → Pairs → Option Written → Type 0
-IsKept None m file = file ≡ None
-IsKept (Some name) m file = (bytes : List ℕ) × (file ≡ Some (record { name = name.now; bytes = bytes })) × IsTreeFile bytes × (file_map bytes ≡ m)
+-- the file to be kept, where one is asked for, is a page file of these pages, which are a tree
+abbrev pub IsKept : Option (Bor (List ℕ)) → List (List ℕ) → Option Written → Type 0
+IsKept None pages file = file ≡ None
+IsKept (Some name) pages file = (bytes : List ℕ) × (file ≡ Some (record { name = name.now; bytes = bytes })) × IsTreeFile bytes × (pages_of_bytes bytes ≡ pages)
 
--- Every page was flushed: the replies are told, the rows of the history's last map, and the counters; the kept file has that map too
+-- Every page was flushed: the replies are told, the rows of the history's last map, and the counters. The kept file has the pages of the blocks,
+-- which are each page's last words, and whose map is that map
 pub record IsFlushedRun (run : Run) (end : TreeEnd) (content : Content) (pages : List (List ℕ)) (lists : List (List Call)) : Type 0 where
   pub made : IsMadeRun run end pages lists
   pub evicted : ℕ
   pub flushed : made.report.first ≡ None
   pub text : content.text ≡ worker_replies 0 (all_lines lists made.replies) ++ rows_text (last_map pages end) ++ counters_of end evicted
-  pub file : IsKept run.options.keep (last_map pages end) content.file
+  pub last : map_of (pages_of_blocks made.blocks) ≡ last_map pages end
+  pub file : IsKept run.options.keep (pages_of_blocks made.blocks) content.file
 
 -- The write of a page failed in the last flush, and no lesser one's: the replies are told, the page, and the counters
 pub record IsUnflushedRun (run : Run) (end : TreeEnd) (content : Content) (pages : List (List ℕ)) (lists : List (List Call)) : Type 0 where

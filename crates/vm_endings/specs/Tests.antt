@@ -4,9 +4,10 @@ use Rattle.std.specs.Prelude.{◌<◌, ◌∷◌, ◌≡◌, ◌≤◌, Bool, fa
 use Rattle.vm_io.specs.Shown.{Shown}
 use Rattle.vm_build.specs.Build.{needed}
 use Rattle.vm_endings.specs.{declared.stop.Lines.TheVariants.Events, declared.stop.Lines.TheVariants.Script, declared.stop.Quantity.Quantity}
-use Rattle.vm_endings.specs.{declared.stop.Stop.Stop, Files.HasFile}
+use Rattle.vm_endings.specs.declared.stop.Quantity.TheVariants.{Frames}
+use Rattle.vm_endings.specs.{declared.stop.Stop.Stop, Files.HasFile, Limits.holds_call}
 use Rattle.vm_endings.specs.declared.stop.Stop.TheVariants.{Length, Line, Long, Page, Shape, TooFew, Unread}
-use Rattle.vm_endings.specs.Images.{HoldsNoTree, IsTreeFile, IsWrongLength}
+use Rattle.vm_endings.specs.Images.{file_height, HoldsNoTree, IsTreeFile, IsWrongLength}
 use Rattle.vm_endings.specs.Scripts.{AreBadEvents, AreGoodEvents, IsBadScript, IsGoodScript, IsLong}
 
 pub data Test : Type 0 where
@@ -16,6 +17,8 @@ pub data Test : Type 0 where
   room : ℕ → ℕ → Test
   -- the file with this name is a page file whose pages are a tree
   image : List ℕ → Test
+  -- so many frames hold the pages of one call on the tree in the file with this name
+  depth : ℕ → List ℕ → Test
   -- the file with this name is a script of so many workers
   script : List ℕ → ℕ → Test
   -- the file with this name is an event list
@@ -25,6 +28,7 @@ abbrev pub Passes : Option Shown → Test → Type 0
 Passes shown (within quantity holds) = holds ≡ true
 Passes shown (room pages pairs) = needed pairs ≤ pages
 Passes shown (image name) = HasFile shown name IsTreeFile
+Passes shown (depth frames name) = HasFile shown name (λ bytes. holds_call (file_height bytes) frames ≡ true)
 Passes shown (script name workers) = HasFile shown name (IsGoodScript workers)
 Passes shown (events name) = HasFile shown name AreGoodEvents
 
@@ -42,6 +46,8 @@ Fails shown failed (image name) (Unread unread) = IsUnread failed name unread.no
 Fails shown failed (image name) (Length told) = HasFile shown name (λ bytes. IsWrongLength bytes told)
 Fails shown failed (image name) (Page page why) = HasFile shown name (λ bytes. HoldsNoTree bytes page why)
 Fails shown failed (image name) _ = ⊥
+Fails shown failed (depth frames name) (Shape other) = (other ≡ Frames) × HasFile shown name (λ bytes. holds_call (file_height bytes) frames ≡ false)
+Fails shown failed (depth frames name) _ = ⊥
 Fails shown failed (script name workers) (Unread unread) = IsUnread failed name unread.now
 Fails shown failed (script name workers) (Long lines) = (lines ≡ Script) × HasFile shown name IsLong
 Fails shown failed (script name workers) (Line lines n) = (lines ≡ Script) × HasFile shown name (IsBadScript workers n)

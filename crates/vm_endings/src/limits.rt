@@ -1,7 +1,7 @@
 //! The limits of the numbers of a command line.
 
 ghost use Rattle.std.specs.Prelude.{◌≡◌};
-ghost use Rattle.vm_endings.specs.Limits.{are_entries, are_frames, are_pages, are_pairs_to_churn, are_pairs_to_make, are_workers, is_version};
+ghost use Rattle.vm_endings.specs.Limits.{are_entries, are_frames, are_pages, are_pairs_to_churn, are_pairs_to_make, are_workers, holds_call, is_version};
 
 use vm_core::MAX_VERSION;
 use vm_image::PlannedFault;
@@ -18,6 +18,14 @@ pub fn are_frames(workers: u64, frames: u64) -> bool
     ensures { result ≡ are_frames workers frames }
 {
     64 <= frames && (frames <= 65_536 && workers <= frames / 8)
+}
+
+/// Whether so many frames hold the pages that one call on a tree of this height needs at once: page 0, the nodes of a way from the root to a leaf, two
+/// fresh pages of a split, and four more levels, which a run may add. In fewer frames a call might be tried for ever.
+pub fn holds_call(height: u64, frames: u64) -> bool
+    ensures { result ≡ holds_call height frames }
+{
+    8 <= frames && height <= frames - 8
 }
 
 /// Whether a page can have this version.

@@ -98,10 +98,6 @@ askable_lists workers (suc below) orders each = askable_append (lists_of below o
 pub askable_script : (workers : ℕ) (bytes : List ℕ) (lists : List (List Call)) → IsScript workers bytes lists → AreAskable lists
 askable_script workers bytes lists s = subst (λ l. AreAskable l) (sym s.each) (askable_lists workers workers s.orders s.spells.each)
 
--- a script has a list for each worker
-pub lists_script : (workers : ℕ) (bytes : List ℕ) (lists : List (List Call)) → IsScript workers bytes lists → length lists ≡ workers
-lists_script workers bytes lists s = ap length s.each ∙ length_lists workers s.orders
-
 -- what holds of a file's bytes may be said weaker
 pub has_file : (told : Option Shown) (name : List ℕ) (P Q : List ℕ → Type 0) → ((bytes : List ℕ) → P bytes → Q bytes) → HasFile told name P → HasFile told name Q
 has_file None name P Q h f = (f.0, h f.0 f.1)

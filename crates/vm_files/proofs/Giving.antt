@@ -15,6 +15,7 @@ use Rattle.vm_endings.specs.declared.ends.Ends.TheVariants.{Tree}
 use Rattle.vm_endings.specs.declared.delivery.Delivery.{Delivery}
 use Rattle.vm_files.specs.declared.reading.Stored.{Stored}
 use Rattle.vm_endings.specs.declared.stop.Quantity.{Quantity}
+use Rattle.vm_endings.specs.declared.stop.Quantity.TheVariants.{Frames}
 use Rattle.vm_endings.specs.declared.stop.Stop.{Stop}
 use Rattle.vm_endings.specs.declared.stop.Stop.TheVariants.{Shape}
 use Rattle.vm_endings.specs.declared.undone.Undone.{Undone}
@@ -25,10 +26,11 @@ use Rattle.vm_endings.specs.Deliveries.{Content, content_of, line}
 use Rattle.vm_endings.specs.Endings.{Performs, AnswersCommand, cut, told}
 use Rattle.vm_endings.specs.Files.{HasFile}
 use Rattle.vm_endings.specs.Images.{IsTreeFile, file_height, file_map}
+use Rattle.vm_endings.specs.Limits.{holds_call}
 use Rattle.vm_files.specs.Readings.{IsStoredTree, ReadsCalls, ReadsTree, TellsLimits}
 use Rattle.vm_endings.specs.Runs.{IsFlushedRun, IsOutcome, IsUnflushedRun, OfFiles}
 use Rattle.vm_endings.specs.Scripts.{AreGoodEvents, IsGoodScript, IsScriptOf}
-use Rattle.vm_endings.specs.Tests.{Fails, Passes, StopsAt, Test, here, image, past, script}
+use Rattle.vm_endings.specs.Tests.{Fails, Passes, StopsAt, Test, depth, here, image, past, script}
 use Rattle.vm_files.proofs.Files.{has_file}
 
 stored-file : (stored : Stored) (bytes : List ℕ) → IsStoredTree stored bytes → IsTreeFile bytes
@@ -37,6 +39,11 @@ stored-file stored bytes is = record { file = is.file; tree = is.rows.tree }
 -- a page file that was read passes its test
 stored-passes : (shown : Option Shown) (name : List ℕ) (stored : Stored) → HasFile shown name (IsStoredTree stored) → Passes shown (image name)
 stored-passes shown name stored has = has_file shown name (IsStoredTree stored) IsTreeFile (stored-file stored) has
+
+-- what is said of the height of the tree that was read holds of the file's
+stored-depth : (shown : Option Shown) (name : List ℕ) (stored : Stored) (frames : ℕ) (holds : Bool) → HasFile shown name (IsStoredTree stored) → holds_call stored.rows.height frames ≡ holds → HasFile shown name (λ bytes. holds_call (file_height bytes) frames ≡ holds)
+stored-depth shown name stored frames holds has e =
+    has_file shown name (IsStoredTree stored) (λ bytes. holds_call (file_height bytes) frames ≡ holds) (λ bytes is. subst (λ (n : ℕ). holds_call n frames ≡ holds) is.rows.height e) has
 
 -- so does a script
 calls-pass : (shown : Option Shown) (name : List ℕ) (workers : ℕ) (lists : List (List Call)) → HasFile shown name (IsScriptOf workers lists) → Passes shown (script name workers)
@@ -90,18 +97,25 @@ limits-first shown failed run more quantity (past p (past q (past r (past s none
 
 -- a number that is outside its limits
 pub limits-stop : (run : Run) (quantity : Quantity) → TellsLimits run (Err quantity) → (shown : Option Shown) (failed : List ℕ) (same : Ends) → AnswersCommand content_of (commands.Run run) failed shown same same (Err (Stopped (Shape quantity)))
-limits-stop run quantity t shown failed same = (limits-first shown failed run (image run.image.now ∷ script run.script.now run.workers ∷ []) quantity t, refl)
+limits-stop run quantity t shown failed same = (limits-first shown failed run (image run.image.now ∷ depth run.frames run.image.now ∷ script run.script.now run.workers ∷ []) quantity t, refl)
 
 pub image-stops : (run : Run) (workers : ℕ) (undone : Undone Stop) → TellsLimits run (Ok workers) → (shown : Option Shown) (failed : List ℕ) → ReadsTree shown failed run.image.now (Err undone) → (same : Ends) → AnswersCommand content_of (commands.Run run) failed shown same same (Err undone)
 image-stops run workers Memory t shown failed reads same = refl
 image-stops run workers (Stopped stop) t shown failed reads same = (past t.1.0 (past t.1.1.0 (past t.1.1.1.0 (past t.1.1.1.1.0 (here reads)))), refl)
 
-pub calls-stop : (run : Run) (workers : ℕ) (stored : Stored) (undone : Undone Stop) {V : Type 0} (view : V → List (List Call)) → TellsLimits run (Ok workers) → (shown then : Option Shown) (failed : List ℕ) → HasFile shown run.image.now (IsStoredTree stored) → then ≡ shown → ReadsCalls view then failed run.script.now workers (Err undone) → (same : Ends) → AnswersCommand content_of (commands.Run run) failed shown same same (Err undone)
-calls-stop run workers stored Memory view t shown then failed has kept reads same = refl
-calls-stop run workers stored (Stopped stop) view t shown then failed has kept reads same =
+-- the tree that was read is too high for the frames
+pub depth-stops : (run : Run) (workers : ℕ) (stored : Stored) → TellsLimits run (Ok workers) → (shown : Option Shown) (failed : List ℕ) → HasFile shown run.image.now (IsStoredTree stored) → holds_call stored.rows.height run.frames ≡ false → (same : Ends) → AnswersCommand content_of (commands.Run run) failed shown same same (Err (Stopped (Shape Frames)))
+depth-stops run workers stored t shown failed has deep same =
+    let deep' = stored-depth shown run.image.now stored run.frames false has deep in
+    (past t.1.0 (past t.1.1.0 (past t.1.1.1.0 (past t.1.1.1.1.0 (past (stored-passes shown run.image.now stored has) (here (refl, deep')))))), refl)
+
+pub calls-stop : (run : Run) (workers : ℕ) (stored : Stored) (undone : Undone Stop) {V : Type 0} (view : V → List (List Call)) → TellsLimits run (Ok workers) → (shown then : Option Shown) (failed : List ℕ) → HasFile shown run.image.now (IsStoredTree stored) → holds_call stored.rows.height run.frames ≡ true → then ≡ shown → ReadsCalls view then failed run.script.now workers (Err undone) → (same : Ends) → AnswersCommand content_of (commands.Run run) failed shown same same (Err undone)
+calls-stop run workers stored Memory view t shown then failed has holds kept reads same = refl
+calls-stop run workers stored (Stopped stop) view t shown then failed has holds kept reads same =
     let now = subst (λ (s : Option Shown). Fails s failed (script run.script.now workers) stop) kept reads in
     let asked = subst (λ (n : ℕ). Fails shown failed (script run.script.now n) stop) t.0 now in
-    (past t.1.0 (past t.1.1.0 (past t.1.1.1.0 (past t.1.1.1.1.0 (past (stored-passes shown run.image.now stored has) (here asked))))), refl)
+    let holds' = stored-depth shown run.image.now stored run.frames true has holds in
+    (past t.1.0 (past t.1.1.0 (past t.1.1.1.0 (past t.1.1.1.1.0 (past (stored-passes shown run.image.now stored has) (past holds' (here asked)))))), refl)
 
 of-files : (shown : Option Shown) (run : Run) (stored : Stored) (lists : List (List Call)) (P : List (List ℕ) → List (List Call) → Type 0) → HasFile shown run.image.now (IsStoredTree stored) → HasFile shown run.script.now (IsScriptOf run.workers lists) → P stored.image lists → OfFiles shown run P
 of-files shown run stored lists P has words p =
@@ -113,9 +127,9 @@ of-files shown run stored lists P has words p =
     has
 
 -- what was made of the calls is what the command does
-pub run-gives : (run : Run) (workers : ℕ) (stored : Stored) (lists : List (List Call)) (delivery : Delivery) (end : TreeEnd) → TellsLimits run (Ok workers) → (shown : Option Shown) (failed : List ℕ) → HasFile shown run.image.now (IsStoredTree stored) → HasFile shown run.script.now (IsScriptOf run.workers lists) → IsOutcome run stored.image lists (content_of delivery) end → (before : Ends) → AnswersCommand content_of (commands.Run run) failed shown before (Tree end) (Ok delivery)
-run-gives run workers stored lists delivery end t shown failed has words is before = (
-  (t.1.0, (t.1.1.0, (t.1.1.1.0, (t.1.1.1.1.0, (stored-passes shown run.image.now stored has, (calls-pass shown run.script.now run.workers lists words, tt)))))),
+pub run-gives : (run : Run) (workers : ℕ) (stored : Stored) (lists : List (List Call)) (delivery : Delivery) (end : TreeEnd) → TellsLimits run (Ok workers) → (shown : Option Shown) (failed : List ℕ) → HasFile shown run.image.now (IsStoredTree stored) → holds_call stored.rows.height run.frames ≡ true → HasFile shown run.script.now (IsScriptOf run.workers lists) → IsOutcome run stored.image lists (content_of delivery) end → (before : Ends) → AnswersCommand content_of (commands.Run run) failed shown before (Tree end) (Ok delivery)
+run-gives run workers stored lists delivery end t shown failed has holds words is before = (
+  (t.1.0, (t.1.1.0, (t.1.1.1.0, (t.1.1.1.1.0, (stored-passes shown run.image.now stored has, (stored-depth shown run.image.now stored run.frames true has holds, (calls-pass shown run.script.now run.workers lists words, tt))))))),
   elim is [
     | inl whole ↦ told (end, refl, of-files shown run stored lists (IsFlushedRun run end (content_of delivery)) has words whole.1) whole.0
     | inr part ↦ cut ((end, refl, of-files shown run stored lists (IsUnflushedRun run end (content_of delivery)) has words part.1), part.0)

@@ -1,5 +1,5 @@
 -- What the tests of a make ask for.
-use Rattle.std.proofs.Common.{◌≡◌, ◌≢◌, ◌+◌, ℕ, zero, suc, Bool, List, [], ◌∷◌, length, Option, None, refl, arith, length-append}
+use Rattle.std.proofs.Common.{◌≢◌, ℕ, Bool, List, [], Option, None, arith}
 use Rattle.vm_io.specs.Shown.{Shown}
 use Rattle.vm_words.specs.declared.Command.TheVariants as commands
 use Rattle.vm_words.specs.declared.Make.{Make}

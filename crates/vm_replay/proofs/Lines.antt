@@ -1,12 +1,12 @@
 -- Lines played in part, and one line on.
-use Rattle.std.proofs.Common.{[], ◌++◌, ◌+◌, ◌<◌, ◌∙◌, ◌∷◌, ◌≡◌, ap, append_assoc, arith, Bool, drop, false, get_or, inl, inr, length, List, refl}
-use Rattle.std.proofs.Common.{subst, suc, sym, true, ℕ}
+use Rattle.std.proofs.Common.{◌++◌, ◌+◌, ◌<◌, ◌∙◌, ◌∷◌, ◌≡◌, ap, append_assoc, arith, Bool, drop, get_or, inl, length, List, refl}
+use Rattle.std.proofs.Common.{subst, suc, sym, ℕ}
 use Rattle.std.proofs.Math.Seq.{drop-cons}
-use Rattle.vm_core.specs.Prelude.{AllLegal, run, sees, State}
+use Rattle.vm_core.specs.Prelude.{run, sees, State}
 use Rattle.vm_rule.specs.Prelude.{CoreShape}
 use Rattle.vm_script.specs.{declared.event_line.EventLine.EventLine, SeenTexts.seen_line}
 use Rattle.vm_replay.specs.{declared.line.Turn.TheVariants.Done, declared.line.Turn.Turn, Turns.IsLinePlayed, Turns.Turned}
-use Rattle.vm_replay.specs.Played.{end_line, events_of, illegal_line, Played, PlayedFromStart}
+use Rattle.vm_replay.specs.Played.{events_of, Played, PlayedFromStart}
 use Rattle.vm_replay.proofs.Shapes.{run_shape}
 
 -- whatever the lines left give from here, told behind the text so far, is what all lines give
@@ -46,14 +46,3 @@ place_done shape lines text c number count place default events new more inside 
 -- the core keeps its shape
 pub shape_done : (old new : State) (number : ℕ) (line : EventLine) (before text : List ℕ) (events : ℕ) (shape : CoreShape) → IsLinePlayed old number line before events new text → old.shape ≡ shape → new.shape ≡ shape
 shape_done old new number line before text events shape done is = ap (λ s. s.shape) done.state ∙ run_shape old (events_of old line) ∙ is
-
--- the line at this place is illegal
-pub place_illegal : (shape : CoreShape) (lines : List EventLine) (text : List ℕ) (c : State) (number count place : ℕ) (default : EventLine) (more : List ℕ) → place < length lines
-    → GoesOn shape lines text c number count (drop place lines) → (AllLegal c (events_of c (get_or lines place default)) → ⊥) → more ≡ text ++ illegal_line number → PlayedFromStart shape lines more false
-place_illegal shape lines text c number count place default more inside goes bad told =
-    subst (λ t. PlayedFromStart shape lines t false) (sym told)
-    (subst (λ l. GoesOn shape lines text c number count l) (drop-cons lines place default inside) goes (illegal_line number) false (inr (bad, (refl, refl))))
-
--- no line is left
-pub all_done : (shape : CoreShape) (lines : List EventLine) (text : List ℕ) (c : State) (number count : ℕ) (more : List ℕ) → GoesOn shape lines text c number count [] → more ≡ text ++ end_line count → PlayedFromStart shape lines more true
-all_done shape lines text c number count more goes told = subst (λ t. PlayedFromStart shape lines t true) (sym told) (goes (end_line count) true (refl, refl))

@@ -1,6 +1,6 @@
 -- What a line's events see is of the kinds that its text tells.
 use Rattle.std.specs.List.{AllByRecursion, range_with_len}
-use Rattle.std.proofs.Common.{[], ◌∙◌, ◌∷◌, ◌≡◌, ◌≤◌, ap, arith, Bool, false, if◌then◌else◌, length, List, map, Ok, refl, slice_index, subst, suc}
+use Rattle.std.proofs.Common.{[], ◌∙◌, ◌∷◌, ◌≡◌, ap, Bool, false, if◌then◌else◌, length, List, map, Ok, refl, slice_index, subst, suc}
 use Rattle.std.proofs.Common.{sym, true, ℕ}
 use Rattle.std.proofs.lemmas.List.FromFn.{length-map-range_with_len}
 use Rattle.vm_core.specs.Prelude.{after_event, Replayed, seen, sees, State}
@@ -79,11 +79,6 @@ each_fits c (Loads a p) = many_fit (Load 0 0 0) (λ i. Load a p i) (λ i. refl) 
 
 pub line_fits : (c : State) (line : EventLine) → FitsLine line (sees c (events_of c line))
 line_fits c line = record { count = sees_count c (events_of c line) ∙ events_count c line; each = each_fits c line }
-
-pub at_most_64 : (c : State) (line : EventLine) → length (events_of c line) ≤ 64
-at_most_64 c (One event) = omega arith
-at_most_64 c (Fill a p f) = let e = events_count c (Fill a p f) in omega arith
-at_most_64 c (Loads a p) = let e = events_count c (Loads a p) in omega arith
 
 -- what a replay of the line's events saw
 pub replay_fits : (old new : State) (line : EventLine) (es : List Event) (seen : List Seen) → es ≡ events_of old line → Replayed old es (Ok seen) new → FitsLine line seen

@@ -3,7 +3,8 @@ use Rattle.std.specs.declared.alloc.Global.{Global}
 use Rattle.std.specs.Prelude.{unwrap_or}
 use Rattle.std.proofs.Common.{◌++◌, ◌∙◌, ◌≡◌, ap, inl, inr, List, None, Option, refl, Some, subst, sym, Vec, ℕ}
 use Rattle.vm_map.specs.{declared.call.Call.Call, Map.Pairs}
-use Rattle.vm_image.specs.declared.blocks.PlannedFault.{PlannedFault}
+use Rattle.vm_tree_model.specs.Tree.{map_of}
+use Rattle.vm_image.specs.{Blocks.pages_of_blocks, declared.blocks.PlannedFault.PlannedFault}
 use Rattle.vm_pool.specs.Closing.{view_at_end}
 use Rattle.vm_drive.specs.Drives.{items_of}
 use Rattle.vm_serve.specs.{declared.serving.Served.Served, Served.IsServed, Served.TreeEnd}
@@ -29,15 +30,16 @@ made run image lists plan version frames s served began has e first all = record
 }
 
 -- no write of the last flush failed: the map of the blocks is told and kept
-pub flushed_outcome : (run : Run) (image : List (List ℕ)) (lists : List (List Call)) (end : TreeEnd) (m : Pairs) (text : Vec ℕ Global) (file : Option File) (o : Outcome) (evicted : ℕ) (of : IsMadeRun run end image lists) → of.report.first ≡ None → m ≡ last_map image end → text.items ≡ worker_replies 0 (all_lines lists of.replies) ++ rows_text m ++ counters_of end evicted → IsKept run.options.keep m (written_of file) → o ≡ record { delivery = record { file = file; text = text; status = 0 }; ended = end } → IsOutcome run image lists (content_of o.delivery) o.ended
-flushed_outcome run image lists end m text file o evicted of none last told kept is =
+pub flushed_outcome : (run : Run) (image : List (List ℕ)) (lists : List (List Call)) (end : TreeEnd) (m : Pairs) (text : Vec ℕ Global) (file : Option File) (o : Outcome) (evicted : ℕ) (of : IsMadeRun run end image lists) → of.report.first ≡ None → m ≡ map_of (pages_of_blocks of.blocks) → m ≡ last_map image end → text.items ≡ worker_replies 0 (all_lines lists of.replies) ++ rows_text m ++ counters_of end evicted → IsKept run.options.keep (pages_of_blocks of.blocks) (written_of file) → o ≡ record { delivery = record { file = file; text = text; status = 0 }; ended = end } → IsOutcome run image lists (content_of o.delivery) o.ended
+flushed_outcome run image lists end m text file o evicted of none held last told kept is =
     let given : Outcome = record { delivery = record { file = file; text = text; status = 0 }; ended = end } in
     let flushed : IsFlushedRun run end (content_of given.delivery) image lists = record {
       made = of;
       evicted = evicted;
       flushed = none;
       text = told ∙ ap (λ (k : Pairs). worker_replies 0 (all_lines lists of.replies) ++ rows_text k ++ counters_of end evicted) last;
-      file = subst (λ (k : Pairs). IsKept run.options.keep k (written_of file)) last kept;
+      last = sym held ∙ last;
+      file = kept;
     } in
     subst (λ (g : Outcome). IsOutcome run image lists (content_of g.delivery) g.ended) {x = given} (sym is) (inl (refl, flushed))
 

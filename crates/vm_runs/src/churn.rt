@@ -28,7 +28,8 @@ use vm_script::text::{Churned, churn_text};
 use vm_serve::{ServedInto, serve_into};
 use vm_words::Churn;
 
-/// The numbers of a churn: at most 100,000 pairs, 1 to 64 workers, 64 to 65,536 frames and eight for each worker.
+/// The numbers of a churn: at most 100,000 pairs, 1 to 64 workers, 64 to 65,536 frames and eight for each worker. So many frames hold the pages of a call
+/// at any time: with twice as many pairs the tree has a height of at most 4. A run, whose tree comes from a file, has to test that.
 #[derive(Clone, Copy)]
 pub struct Load {
     pub pairs: u32,

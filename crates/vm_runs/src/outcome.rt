@@ -117,7 +117,7 @@ fn kept<'a>(
     keep: Option<&'a str>,
 ) -> Result<Option<File<'a>>, AllocError>
     requires { IsTree image.now }
-    ensures { IfOk result (λ file. IsKept keep.entry (map_of image.now) (written_of file)) }
+    ensures { IfOk result (λ file. IsKept keep.entry image.now (written_of file)) }
 {
     match keep {
         Some(name) => match image.to_bytes(alloc) {

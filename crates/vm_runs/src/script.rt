@@ -12,7 +12,7 @@ use std::thread::Threads;
 use vm_drive::gate::Gate;
 use vm_endings::delivery::Delivery;
 use vm_endings::ends::Ends;
-use vm_endings::limits::{are_entries, are_frames, are_workers, is_version};
+use vm_endings::limits::{are_entries, are_frames, are_workers, holds_call, is_version};
 use vm_endings::stop::{Quantity, Stop};
 use vm_endings::undone::Undone;
 use vm_files::reading::{Stored, read_calls, read_tree};
@@ -38,7 +38,8 @@ fn workers_of(run: &Run<'_>) -> Result<u32, Quantity>
     Ok(run.workers as u32)
 }
 
-/// Tests the numbers, reads image and script, makes the calls, and builds what is told. The history is kept in `ends` once nothing can fail
+/// Tests the numbers, reads the image, tests whether the frames are enough for the height of its tree, reads the script, makes the calls, and builds what
+/// is told. The history is kept in `ends` once nothing can fail
 /// any more but the host.
 #[tactic(auto, unfolding(vm_page::specs::Counts::count_more))]
 pub fn run_script<'a, R: Threads + Wait + Sync, H: Host, G: Gate + Sync>(
@@ -59,10 +60,13 @@ pub fn run_script<'a, R: Threads + Wait + Sync, H: Host, G: Gate + Sync>(
         Ok(workers) => workers,
         Err(quantity) => return Err(Undone::Stopped(Stop::Shape(quantity))),
     };
-    let Stored { image, rows: _ } = match read_tree(alloc, host, run.image) {
+    let Stored { image, rows } = match read_tree(alloc, host, run.image) {
         Ok(stored) => stored,
         Err(undone) => return Err(undone),
     };
+    if !holds_call(rows.height, run.frames) {
+        return Err(Undone::Stopped(Stop::Shape(Quantity::Frames)));
+    }
     let lists = match read_calls(alloc, host, run.script, workers) {
         Ok(lists) => lists,
         Err(undone) => return Err(undone),

@@ -7,7 +7,7 @@ use Rattle.vm_core.specs.declared.event.CoreShape.{CoreShape}
 use Rattle.vm_script.specs.{Cuts.IsLine, declared.event_line.EventLine.EventLine, EventWords.ReadsAs}
 use Rattle.vm_script.specs.EventLines.{event_line_text, IsEventLine, IsShape, shape_text}
 use Rattle.vm_script.specs.Events.{events_text, IsFirstBadEvent, LacksShape, most_event_lines, SpellsEvents}
-use Rattle.vm_script.proofs.{EventTexts.lacks_line, EventTexts.lacks_shape, Lines.first_line, Words.each_append}
+use Rattle.vm_script.proofs.{EventTexts.lacks_line, EventTexts.lacks_shape, Lines.first_line}
 
 -- this shape and these lines are read, and the rest is still to be read
 pub record IsEventsRead (bytes : List ℕ) (shape : CoreShape) (lines : List EventLine) (rest : List ℕ) : Type 0 where
@@ -17,16 +17,6 @@ pub record IsEventsRead (bytes : List ℕ) (shape : CoreShape) (lines : List Eve
 
 pub no_shape : (bytes line behind : List ℕ) → IsLine bytes line behind → ReadsAs IsShape shape_text line None → LacksShape bytes
 no_shape bytes line behind l none = λ shape s begins. none shape s (first_line bytes line behind (shape_text shape) l (lacks_shape shape s) begins)
-
-pub shape_read : (bytes line behind : List ℕ) (shape : CoreShape) → IsLine bytes line behind → IsShape shape → line ≡ shape_text shape → IsEventsRead bytes shape [] behind
-shape_read bytes line behind shape l s same = record {
-  limits = s;
-  each = tt;
-  front = elim l.whole [
-    | inl w ↦ inl (w ∙ ap (λ (x : List ℕ). x ++ 10 ∷ behind) same ∙ sym (append_assoc (shape_text shape) (10 ∷ []) behind))
-    | inr w ↦ inr (w.1, ap (λ (x : List ℕ). x ++ 10 ∷ []) (w.0 ∙ same))
-  ];
-}
 
 whole : (bytes rest : List ℕ) (shape : CoreShape) (lines : List EventLine) → IsEventsRead bytes shape lines rest → 0 < length rest → bytes ≡ events_text shape lines ++ rest
 whole bytes rest shape lines r more = elim r.front [ inl e ↦ e | inr e ↦ absurd (omega (arith, ap length e.0)) ]
@@ -47,20 +37,6 @@ bad_event bytes rest line behind shape lines n r more count few l none = inr rec
   bad = inr (λ event is begins. none event is (first_line rest line behind (event_line_text event) l (lacks_line shape event r.limits is) begins));
 }
 
-pub too_many_events : (bytes rest : List ℕ) (shape : CoreShape) (lines : List EventLine) (n : ℕ) → IsEventsRead bytes shape lines rest → 0 < length rest → length lines + 2 ≡ n → length lines + 1 ≡ most_event_lines → IsFirstBadEvent bytes n
-too_many_events bytes rest shape lines n r more count full = inr record {
-  shape = shape;
-  good = lines;
-  rest = rest;
-  limits = r.limits;
-  each = r.each;
-  front = whole bytes rest shape lines r more;
-  more = more;
-  count = count;
-  few = omega (arith, full);
-  bad = inl full;
-}
-
 abbrev ended : EventLine → List ℕ
 ended line = event_line_text line ++ 10 ∷ []
 
@@ -68,21 +44,6 @@ one_more_text : (shape : CoreShape) (lines : List EventLine) (line : EventLine) 
 one_more_text shape lines line =
     ap (λ (l : List ℕ). shape_text shape ++ 10 ∷ l) (flat_map-append ended lines (line ∷ []) ∙ ap (λ (l : List ℕ). flat_map ended lines ++ l) (append-nil (ended line)))
     ∙ sym (append_assoc (shape_text shape) (10 ∷ flat_map ended lines) (ended line))
-
--- a good line is read
-pub event_read : (bytes rest line behind : List ℕ) (shape : CoreShape) (lines : List EventLine) (event : EventLine) → IsEventsRead bytes shape lines rest → 0 < length rest → IsLine rest line behind → IsEventLine shape event → line ≡ event_line_text event
-    → IsEventsRead bytes shape (lines ++ event ∷ []) behind
-event_read bytes rest line behind shape lines event r more l is same = record {
-  limits = r.limits;
-  each = each_append (IsEventLine shape) lines (event ∷ []) r.each (is, tt);
-  front =
-      let all = whole bytes rest shape lines r more in
-      elim l.whole [
-        | inl w ↦ inl (all ∙ ap (λ (x : List ℕ). events_text shape lines ++ x) (w ∙ ap (λ (x : List ℕ). x ++ 10 ∷ behind) same ∙ sym (append_assoc (event_line_text event) (10 ∷ []) behind))
-            ∙ sym (append_assoc (events_text shape lines) (event_line_text event ++ 10 ∷ []) behind) ∙ ap (λ (x : List ℕ). x ++ behind) (sym (one_more_text shape lines event)))
-        | inr w ↦ inr (w.1, ap (λ (x : List ℕ). x ++ 10 ∷ []) (all ∙ ap (λ (x : List ℕ). events_text shape lines ++ x) (w.0 ∙ same)) ∙ append_assoc (events_text shape lines) (event_line_text event) (10 ∷ []) ∙ sym (one_more_text shape lines event))
-      ];
-}
 
 pub all_events_read : (bytes rest : List ℕ) (shape : CoreShape) (lines : List EventLine) → IsEventsRead bytes shape lines rest → length rest ≡ 0 → length lines + 1 ≤ most_event_lines → SpellsEvents bytes shape lines
 all_events_read bytes [] shape lines r none few = record {

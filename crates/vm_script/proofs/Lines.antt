@@ -57,18 +57,6 @@ bad_line workers bytes rest line behind orders n w r more count most l none = re
   bad = inr (λ order is begins. none order is (first_line rest line behind (order_text order) l (lacks_order workers order w is) begins));
 }
 
-pub too_many : (workers : ℕ) (bytes rest : List ℕ) (orders : List Order) (n : ℕ) → IsRead workers bytes orders rest → 0 < length rest → length orders + 1 ≡ n → length orders ≡ most_lines → IsFirstBad workers bytes n
-too_many workers bytes rest orders n r more count full = record {
-  good = orders;
-  rest = rest;
-  each = r.each;
-  few = omega (arith, full);
-  front = elim r.front [ inl e ↦ e | inr e ↦ absurd (omega (arith, ap length e.0)) ];
-  more = more;
-  count = count;
-  bad = inl full;
-}
-
 one_more_text : (orders : List Order) (order : Order) → lines_text (orders ++ order ∷ []) ≡ lines_text orders ++ (order_text order ++ 10 ∷ [])
 one_more_text orders order = flat_map-append (λ o. order_text o ++ 10 ∷ []) orders (order ∷ []) ∙ ap (λ l. lines_text orders ++ l) (append-nil (order_text order ++ 10 ∷ []))
 

@@ -60,20 +60,10 @@ pub record IsReadTo (word : List ℕ) (plan : List PlannedFault) (rest : List �
   pub each : AllByRecursion IsPlanned plan
   pub front : word ≡ ended plan ++ rest
 
-pub none_read : (word : List ℕ) → IsReadTo word [] word
-none_read word = record { each = tt; front = refl }
-
 ended_more : (plan : List PlannedFault) (fault : PlannedFault) (behind : List ℕ) → ended plan ++ (fault_text fault ++ 44 ∷ behind) ≡ ended (plan ++ fault ∷ []) ++ behind
 ended_more [] fault behind = sym (append_assoc (fault_text fault) (44 ∷ []) behind) ∙ ap (λ (l : List ℕ). l ++ behind) (sym (append-nil (fault_text fault ++ 44 ∷ [])))
 ended_more (x ∷ xs) fault behind =
     append_assoc (fault_text x ++ 44 ∷ []) (ended xs) (fault_text fault ++ 44 ∷ behind) ∙ ap (λ (l : List ℕ). (fault_text x ++ 44 ∷ []) ++ l) (ended_more xs fault behind) ∙ sym (append_assoc (fault_text x ++ 44 ∷ []) (ended (xs ++ fault ∷ [])) behind)
-
--- an entry in front of a comma is read
-pub entry_read : (word rest entry behind : List ℕ) (plan : List PlannedFault) (fault : PlannedFault) → IsReadTo word plan rest → IsCut rest 44 entry behind → IsPlanned fault → entry ≡ fault_text fault → IsReadTo word (plan ++ fault ∷ []) behind
-entry_read word rest entry behind plan fault read cut is same = record {
-  each = each_append IsPlanned plan (fault ∷ []) read.each (is, tt);
-  front = read.front ∙ ap (λ (l : List ℕ). ended plan ++ l) (cut.whole ∙ ap (λ (l : List ℕ). l ++ 44 ∷ behind) same) ∙ ended_more plan fault behind;
-}
 
 last_text : (plan : List PlannedFault) (fault : PlannedFault) → ended plan ++ fault_text fault ≡ plan_text (plan ++ fault ∷ [])
 last_text [] fault = refl

@@ -22,8 +22,9 @@ use Rattle.vm_tree_laws.specs.{History.IsLegal, History.saids, Keeps.KeepsTree}
 use Rattle.vm_tree_laws.proofs.{Fullness.room_used, Starts.start_keeps}
 use Rattle.vm_tree_rule.specs.declared.fault.TreeFault.{TreeFault}
 use Rattle.vm_drive.specs.{Drives.IsAtLastVersion, Drives.IsDriven, Holds.HoldsCalls}
-use Rattle.vm_drive.specs.Causes.{all_faults_of, FoundFull, FoundWorn, notes_about}
-use Rattle.vm_drive.proofs.{Doing.notes-both, Showing.all-shown-more}
+use Rattle.vm_drive.specs.{Causes.all_faults_of, Causes.notes_about, Parts.logs_of, Parts.noted_by}
+use Rattle.vm_drive.proofs.{Called.FoundFull, Called.FoundWorn, Doing.notes-both, Parted.parts-later, Parted.traced, Parts.behind-in}
+use Rattle.vm_drive.proofs.Showing.{all-shown-more}
 use Rattle.vm_drive.proofs.Tracing.{found-later, lists-caused, max-later, used-up, worn-out}
 use Rattle.vm_serve.specs.Served.{is_first, IsFilled, IsServed, TreeEnd}
 use Rattle.vm_serve.proofs.Counting.{few-faults, few-notes, small-plan}
@@ -189,6 +190,20 @@ module _ (pages : List (List ℕ)) (plan : List PlannedFault) (version next fram
       ((flushed.alone driven.alone free).pages q page) in
       (stored, same-words after q (subst (λ n. q < n) (sym (sym (length-mapped stored_of after) ∙ closed.count)) here) ∙ closed.words refl q here stored)
 
+  -- where no write failed each block has its page's last words
+  whole : (report.failed ≡ 0 → (p : ℕ) → p < length pages → (at no_block (map stored_of after) p).words ≡ (last_of w p).words) → report.failed ≡ 0 → (p : ℕ) → p < length pages → page_at (pages_of_blocks after) p ≡ (last_of e p).words
+  unfolding at
+  whole words none p l =
+      let same : (last_of e p).words ≡ (last_of w p).words = flushed.aside.alone.words driven.alone.0 driven.alone.1 p in
+      same-words after p (subst (λ n. p < n) (sym (sym (length-mapped stored_of after) ∙ closed.count ∙ many)) l) ∙ words none p l ∙ sym same
+
+  earlier : (p : ℕ) → all_faults_of p replies ≤ notes_about p w.notes
+  earlier p = let calls : notes_about p v.notes + all_faults_of p replies ≤ notes_about p w.notes = driven.faults p in omega arith
+
+  -- no entry was made behind the calls
+  all-seen : e.seen ≡ w.seen
+  all-seen = sym closed.own ∙ flushed.aside.mine ∙ driven.all
+
   noted : (p : ℕ) → all_faults_of p replies + is_first report.first p ≤ notes_about p e.notes
   noted p =
       let first : is_first report.first p ≤ notes_about p flushed.noted.notes = subst (λ o. is_first o p ≤ notes_about p flushed.noted.notes) (sym flushed.noted.first) (first-noted p flushed.noted.notes) in
@@ -226,6 +241,8 @@ module _ (pages : List (List ℕ)) (plan : List PlannedFault) (version next fram
   pub served : length plan ≤ 64 → AreSums (map stored_of after) end → (report.failed ≡ 0 → (p : ℕ) → p < length pages → (at no_block (map stored_of after) p).words ≡ (last_of w p).words) → IsServed pages plan lists replies report after end
   served few sums words = record {
     count = sym (length-mapped stored_of after) ∙ closed.count ∙ many;
+    many = many;
+    closed = closed.shown;
     tells = ap (λ (o : Origin). o.tells) start-is;
     began = began;
     next = subst (λ n. IsNextPage pages n) (sym (ap (λ (o : Origin). o.next) start-is)) next_page;
@@ -233,12 +250,21 @@ module _ (pages : List (List ℕ)) (plan : List PlannedFault) (version next fram
     legal = legal;
     calls = subst (λ (l : List (Entry Said)). HoldsCalls l lists replies) (sym grew-all) driven.calls;
     noted = noted;
+    worked = w;
+    last_flush = flushed;
+    earlier = earlier;
+    all_made = sym all-seen;
     planned = planned few sums.each;
-    caused = lists-caused (FoundFull w) (FoundWorn w) (IsFilled pages end) (IsAtLastVersion e) filled (λ p m. worn-out e p closed.versions (max-later w e p flushed.aside.start (flushed.done, flushed.aside.log) m)) lists replies driven.traces;
+    caused = lists-caused (FoundFull w) (FoundWorn w) (IsFilled pages end) (IsAtLastVersion e) filled (λ p m. worn-out e p closed.versions (max-later w e p flushed.aside.start (flushed.done, flushed.aside.log) m)) lists replies (traced v.log w lists replies driven.passes driven.parts driven.logs);
     shown = all-shown-more w e flushed.aside.start flushed.aside.seen lists replies driven.shown;
+    passes = driven.passes;
+    parts = parts-later w e flushed.aside.start all-seen flushed.aside.releases lists replies driven.passes driven.parts;
+    logs = behind-in v.log (logs_of driven.passes) w.log flushed.done e.log driven.logs flushed.aside.log;
+    noted_in = behind-in v.notes (noted_by driven.passes) w.notes flushed.noted.notes e.notes driven.noted flushed.noted.after;
     unflushed = λ none. flushed.noted.first ∙ none-noted flushed.noted.notes (flushed.noted.each ∙ none);
     flushed = λ none. sym flushed.noted.each ∙ none-first flushed.noted.notes (sym flushed.noted.first ∙ none);
     least = least;
+    whole = whole words;
     saved = λ none. saved none (sym (length-mapped stored_of after) ∙ closed.count) (λ p l. words none p (subst (λ n. p < n) many l));
     sums = sums;
     few = few-faults (map stored_of after) plan end sums (λ p l. bound-is p (subst (λ n. p < n) (closed.count ∙ many) l));

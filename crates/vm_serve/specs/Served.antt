@@ -7,13 +7,16 @@ use Rattle.vm_image.specs.{Blocks.numbers_for, Blocks.pages_of_blocks, declared.
 use Rattle.vm_core.specs.Prelude.{at, page_at}
 use Rattle.vm_rule.specs.Prelude.{last_of, MemBlock, most_faults, no_block, stored_of}
 use Rattle.vm_rule_laws.specs.Known.{kept_by}
+use Rattle.vm_step.specs.Prelude.{View}
 use Rattle.vm_evict.specs.declared.flushing.Flushed.{Flushed}
+use Rattle.vm_evict.specs.Flushes.{IsFlushed}
 use Rattle.vm_pool.specs.Closing.{AreSums, IsStored, view_at_end}
 use Rattle.vm_pool.specs.declared.ended.Ended.{Ended}
 use Rattle.vm_tree_laws.specs.History.{IsLegal, news, saids}
 use Rattle.vm_tree_rule.specs.{declared.fault.TreeFault.TreeFault, declared.Tree.Tree}
 use Rattle.vm_drive.specs.{Drives.IsAtLastVersion, Holds.HoldsCalls, Kept.AreKept, Shows.AllShown}
 use Rattle.vm_drive.specs.Causes.{all_faults_of, AllCausedBy, notes_about}
+use Rattle.vm_drive.specs.Parts.{HaveParts, logs_of, noted_by, StandIn}
 
 -- the end of a pool with a tree
 abbrev pub TreeEnd : Type 0
@@ -43,10 +46,15 @@ is_first (Some q) p = if q == p then 1 else 0
 -- their calls fail is not said. The history is the one that `end` keeps, which the end of the pool alone makes: it is legal from the image's
 -- map on, and holds each worker's calls once, in order, with these replies. Each fault of a device, and the first write of the last flush
 -- that failed, has its own note, and there are no more notes of a page than entries for it in the plan. Each other fault has its cause, and
--- each window is a leaf's. Where no write of the flush failed, the blocks hold a tree whose map is the history's last one; each page below
--- the first whose write failed is stored, so its block has its last words. No more faults are counted than the plan has different entries.
+-- each window is a leaf's. Each worker made its calls one after another, and what each was answered comes of the steps and notes of that very
+-- call. The report is that of the flush which came behind all calls, and was the last thing that was done; the blocks are
+-- those that the end shows. Where no write of the flush failed, each block has its page's last words, and the blocks hold a tree whose map is
+-- the history's last one; each page below the first whose write failed is stored, so its block has its last words. No more faults are counted
+-- than the plan has different entries.
 pub record IsServed (pages : List (List ℕ)) (plan : List PlannedFault) (lists : List (List Call)) (replies : List (List (Result Reply TreeFault))) (report : Flushed) (blocks : List MemBlock) (end : TreeEnd) : Type 0 where
   pub count : length blocks ≡ length pages
+  pub many : (view_at_end end).start.pages ≡ length pages
+  pub closed : map stored_of blocks ≡ (view_at_end end).snapshot.blocks
   pub tells : (view_at_end end).start.tells ≡ true
   pub began : (view_at_end end).start.contents ≡ pages
   pub next : IsNextPage pages (view_at_end end).start.next
@@ -54,12 +62,23 @@ pub record IsServed (pages : List (List ℕ)) (plan : List PlannedFault) (lists 
   pub legal : IsLegal (map_of pages) (view_at_end end).seen
   pub calls : HoldsCalls (view_at_end end).seen lists replies
   pub noted : (p : ℕ) → all_faults_of p replies + is_first report.first p ≤ notes_about p (view_at_end end).notes
+  -- what the pass knew once all calls were made: the flush came next, and the notes of the replies that are faults stood already
+  pub worked : View Said
+  pub last_flush : IsFlushed report worked (view_at_end end)
+  pub earlier : (p : ℕ) → all_faults_of p replies ≤ notes_about p worked.notes
+  pub all_made : worked.seen ≡ (view_at_end end).seen
   pub planned : (p : ℕ) → notes_about p (view_at_end end).notes ≤ most_faults (numbers_for plan p)
   pub caused : AllCausedBy (IsFilled pages end) (IsAtLastVersion (view_at_end end)) lists replies
   pub shown : AllShown (view_at_end end) lists replies
+  -- what each worker's pass knew behind its last call; its steps and notes stand in those of the end, one worker's behind another's
+  pub passes : List (View Said)
+  pub parts : HaveParts (view_at_end end) lists replies passes
+  pub logs : StandIn (logs_of passes) (view_at_end end).log
+  pub noted_in : StandIn (noted_by passes) (view_at_end end).notes
   pub unflushed : report.failed ≡ 0 → report.first ≡ None
   pub flushed : report.first ≡ None → report.failed ≡ 0
   pub least : (p q : ℕ) → report.first ≡ Some p → q < p → IsStored (view_at_end end) q × (page_at (pages_of_blocks blocks) q ≡ (last_of (view_at_end end) q).words)
+  pub whole : report.failed ≡ 0 → (p : ℕ) → p < length pages → page_at (pages_of_blocks blocks) p ≡ (last_of (view_at_end end) p).words
   pub saved : report.failed ≡ 0 → IsTree (pages_of_blocks blocks) × (map_of (pages_of_blocks blocks) ≡ after_all (map_of pages) (saids (view_at_end end).seen))
   pub sums : AreSums (map stored_of blocks) end
   pub few : end.faults ≤ distinct_entries plan

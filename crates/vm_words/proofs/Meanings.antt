@@ -1,6 +1,6 @@
 -- What words say: each text says one thing, and what the slots say is of their kinds.
-use Rattle.std.proofs.Common.{◌≡◌, ◌<◌, ◌+◌, ◌∙◌, ℕ, zero, suc, Bool, true, false, refl, sym, ap, ap₂, subst, arith, List, [], ◌∷◌, ◌++◌, length, take, get_or, slice_index_or, map, Option, Some, None}
-use Rattle.std.specs.List.{AllByRecursion, Contains}
+use Rattle.std.proofs.Common.{◌≡◌, ◌<◌, ◌+◌, ◌∙◌, ℕ, zero, suc, Bool, true, false, refl, sym, ap, ap₂, subst, arith, List, [], ◌∷◌, ◌++◌, length, take, get_or, slice_index_or, Option, Some, None}
+use Rattle.std.specs.List.{AllByRecursion}
 use Rattle.std.proofs.lemmas.Fmt.{decimal_injective}
 use Rattle.std.proofs.lemmas.List.{map-append}
 use Rattle.clap.specs.Walk.{Row, Text, first_of}
@@ -11,7 +11,7 @@ use Rattle.vm_words.specs.declared.form.Kind.TheVariants.{Name, Number, Faults}
 use Rattle.vm_words.specs.declared.form.Slot.{Slot}
 use Rattle.vm_words.specs.declared.value.Value.{Value}
 use Rattle.vm_words.specs.Forms.{is_needed, kind_in, place_in, slot_text}
-use Rattle.vm_words.specs.Values.{AreFilled, AreMeant, IsSlotFilled, IsGiven, IsMeant, IsOdd, IsRead, Meaning, named, counted, planned, absent, given, left_out, meaning_of, meanings_of}
+use Rattle.vm_words.specs.Values.{AreFilled, AreMeant, IsSlotFilled, IsGiven, IsMeant, IsOdd, IsRead, Meaning, counted, planned, given, left_out, meaning_of, meanings_of}
 
 -- ---- one meaning
 

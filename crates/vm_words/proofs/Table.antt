@@ -1,5 +1,5 @@
 -- The table of forms, gone through row by row.
-use Rattle.std.proofs.Common.{◌≡◌, ◌<◌, ◌+◌, ℕ, zero, suc, Bool, true, false, cond, refl, ap, arith, List, [], ◌∷◌, length, drop, find, get_or}
+use Rattle.std.proofs.Common.{◌≡◌, ◌<◌, ◌+◌, ℕ, zero, suc, false, refl, ap, arith, List, [], ◌∷◌, length, drop, find, get_or}
 use Rattle.std.specs.Str.{bytes_eq}
 use Rattle.clap.specs.Words.{App, Text, with_subcommand}
 use Rattle.vm_words.specs.declared.form.Verb.{Verb}

@@ -3,7 +3,7 @@ use Rattle.std.proofs.Common.{◌∙◌, ◌≡◌, ◌≤◌, ap, length, List,
 use Rattle.vm_rule.specs.Prelude.{Each}
 use Rattle.vm_step.specs.Prelude.{view}
 use Rattle.vm_drive.specs.{declared.worker.Worker.Worker, Drives.items_of, Kept.AreKept}
-use Rattle.vm_drive.specs.Crews.{AllWorked, answers_of, AreIdle, AreJoined, IsBack}
+use Rattle.vm_drive.specs.Crews.{AllWorked, answers_of, AreAtHome, AreIdle, AreJoined, IsBack, share_of}
 use Rattle.vm_drive.proofs.Crews.{items-long, room-long, whole-back, worked-long}
 use Rattle.vm_drive.proofs.driving.drive_into.Goals as goal
 use Rattle.vm_drive.proofs.Finishing.{all_kept, driven, hired-idle, hired-long, told_of, worked-back}
@@ -18,6 +18,17 @@ pub hire-workers-requires-clause-room : goal.hire-workers-requires-clause-room
 hire-workers-requires-clause-room g c =
     let long : length c.args.rooms.items ≡ length c.args.lists.now = room-long g.A.Answers.keeps g.A.Answers.room _ _ c.requires.rooms ∙ items-long c.args.lists.now in
     (c.in-Ok.ensures.workers.0, subst (λ n. n ≤ vec_capacity c.in-Ok.places.0) (sym long) c.in-Ok.ensures.workers.1)
+
+pub hire-workers-requires-clause-few : goal.hire-workers-requires-clause-few
+hire-workers-requires-clause-few g c =
+    let long : length c.args.rooms.items ≡ length c.args.lists.now = room-long g.A.Answers.keeps g.A.Answers.room _ _ c.requires.rooms ∙ items-long c.args.lists.now in
+    let few = c.requires.lists.1 in
+    subst (λ n. n ≤ 64) (sym long) few
+
+pub work_all-requires-clause-homes : goal.work_all-requires-clause-homes
+work_all-requires-clause-homes g c κs within =
+    subst (λ (l : List (Worker _)). AreAtHome 0 (share_of c.args.pool.now.words.frames (length c.args.lists.now)) l) (sym c.as_mut_slice.ensures.value)
+    (subst (λ n. AreAtHome 0 n c.hire-workers.result.items) c.cap_for-cap.ensures.share c.hire-workers.ensures.homes)
 
 pub work_all-requires-clause-idle : goal.work_all-requires-clause-idle
 work_all-requires-clause-idle g c κs within =

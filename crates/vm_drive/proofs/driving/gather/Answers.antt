@@ -25,7 +25,7 @@ workers-preserved g c =
       rest = append_assoc at.yielded (x ∷ []) (into_iter_items c.next.new.self) ∙ whole;
       len = (let was = inv.len in let gone = c.in-Some.ensures.steps.1 in let short = ap length steps in omega arith);
       same = (c.join.ensures.pass.0 ∙ inv.same.0, c.join.ensures.pass.1 ∙ inv.same.1);
-      ready = c.join.ensures.ready inv.ready;
+      ready = c.join.ensures.ready;
       joined = inr (joined-more g.B.Block.tells (view c.args.pass.now) at.yielded (view at.pass) (view c.join.new.pass) x inv.joined c.join.ensures.joins back.parts.0 back.parts.1 back.start back.frames);
       told = c.push.ensures.items ∙ ap (λ y. if y then at.kept.items ++ x.answers ∷ [] else at.kept.items) ok ∙ ap (λ l. l ++ x.answers ∷ []) inv.told ∙ sym (map-append (λ (d : Worker _). d.answers) at.yielded (x ∷ []));
       count = c.push.ensures.len ∙ ap (λ y. if y then vec_len at.kept + 1 else vec_len at.kept) ok ∙ ap (λ n. n + 1) count ∙ sym (length-append at.yielded (x ∷ []));

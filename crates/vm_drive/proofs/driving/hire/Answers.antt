@@ -1,10 +1,10 @@
 use Rattle.std.specs.Vec.Iter.{into_iter_items}
-use Rattle.std.proofs.Common.{[], ◌++◌, ◌+◌, ◌∙◌, ◌∷◌, ◌≡◌, ap, append_assoc, arith, if◌then◌else◌, is_ok, length, List, subst, sym, true, vec_len}
-use Rattle.std.proofs.lemmas.List.{length-append}
+use Rattle.std.proofs.Common.{[], ◌++◌, ◌+◌, ◌∙◌, ◌∷◌, ◌≡◌, ◌≤◌, ap, append_assoc, arith, if◌then◌else◌, is_ok, length, List, subst, sym, true, vec_len, zero-add}
+use Rattle.std.proofs.lemmas.List.{length-append, length-map}
 use Rattle.vm_step.specs.Prelude.{view}
-use Rattle.vm_drive.specs.{Crews.AreHired, declared.worker.Worker.Worker}
+use Rattle.vm_drive.specs.{Crews.AreAtHome, Crews.AreHired, declared.worker.Worker.Worker}
 use Rattle.vm_drive.proofs.driving.hire.Goals as goal
-use Rattle.vm_drive.proofs.Hiring.{hired-more}
+use Rattle.vm_drive.proofs.Hiring.{hired-more, home-snoc}
 
 pub rooms-preserved : goal.rooms-preserved
 rooms-preserved g c =
@@ -18,6 +18,9 @@ rooms-preserved g c =
     let whole : at.yielded ++ x ∷ into_iter_items c.next.new.self ≡ into_iter_items c.into_iter-answers-iterator.result = ap (λ l. at.yielded ++ l) (sym steps) ∙ inv.rest in
     let long : length at.yielded + length (x ∷ into_iter_items c.next.new.self) ≡ length (into_iter_items c.into_iter-answers-iterator.result) = sym (length-append at.yielded (x ∷ into_iter_items c.next.new.self)) ∙ ap length whole in
     let count : vec_len at.workers ≡ length at.yielded = inv.count in
+    let many : length at.workers.items ≡ length at.yielded = sym (length-map at.workers.items (λ (e : Worker _). e.answers)) ∙ ap length inv.hired.answers in
+    let all : into_iter_items c.into_iter-answers-iterator.result ≡ c.args.rooms.items = c.into_iter-answers-iterator.ensures.into_iter_gives.0 in
+    let yielded-few : length at.yielded ≤ 64 = (let most = c.requires.few in let same = ap length all in omega arith) in
     let ok : is_ok c.push.result ≡ true = c.push.ensures.succeeds (let room = inv.room in omega arith) in
     let items : c.push.new.self.items ≡ at.workers.items ++ d ∷ [] = c.push.ensures.items ∙ ap (λ y. if y then at.workers.items ++ d ∷ [] else at.workers.items) ok in
     record {
@@ -27,6 +30,8 @@ rooms-preserved g c =
       ready = c.split_one-own.ensures.ready;
       hired = subst (λ (l : List (Worker _)). AreHired shape g.B.Block.tells t (at.yielded ++ x ∷ []) (view c.args.pass.now) l (view c.split_one-own.new.pass)) (sym items)
           (hired-more shape g.B.Block.tells t c.requires.pages at.yielded (view c.args.pass.now) at.workers.items (view at.pass) (view c.split_one-own.new.pass) d inv.hired c.split_one-own.ensures.splits c.split_one-own.ensures.new c.new-iface.ensures.2);
+      home = (let was = inv.home in let more = length-append at.yielded (x ∷ []) in let most = c.requires.few in let next = c.saturating_add-home.ensures in omega (arith, yielded-few));
+      homes = subst (λ (l : List (Worker _)). AreAtHome 0 c.args.cap l) (sym items) (home-snoc 0 c.args.cap at.workers.items d inv.homes (c.new-iface.ensures.0 ∙ inv.home ∙ sym many ∙ sym (zero-add (length at.workers.items))) c.new-iface.ensures.1);
       count = c.push.ensures.len ∙ ap (λ y. if y then vec_len at.workers + 1 else vec_len at.workers) ok ∙ ap (λ n. n + 1) count ∙ sym (length-append at.yielded (x ∷ []));
       room = (let room = inv.room in let more = c.push.ensures.capacity in omega arith);
     }

@@ -2,7 +2,7 @@ use Rattle.std.specs.Vec.{vec_capacity}
 use Rattle.std.specs.Vec.Iter.{into_iter_items, into_iter_len}
 use Rattle.std.proofs.Common.{◌++◌, ◌≡◌, ◌≤◌, length, vec_len}
 use Rattle.vm_step.specs.Prelude.{IsReady, IsSamePass, view}
-use Rattle.vm_drive.specs.Crews.{AreHired}
+use Rattle.vm_drive.specs.Crews.{AreAtHome, AreHired}
 use Rattle.vm_drive.proofs.driving.hire.Given as goal
 
 abbrev pub invariant-rooms : goal.invariant-rooms
@@ -12,6 +12,8 @@ invariant-rooms g l = record {
   same : IsSamePass l.fn.pass l.pass;
   ready : IsReady l.pool.words.table.shared.key g.B.Block.tells l.pool.words.table.shared.table_id l.pass;
   hired : AreHired l.pool.words.table.shared.key g.B.Block.tells l.pool.words.table.shared.table_id l.yielded (view l.fn.pass) l.workers.items (view l.pass);
+  home : l.home ≡ length l.yielded;
+  homes : AreAtHome 0 l.cap l.workers.items;
   count : vec_len l.workers ≡ length l.yielded;
   room : length (into_iter_items l.initial.answers-iterator) ≤ vec_capacity l.workers;
 }

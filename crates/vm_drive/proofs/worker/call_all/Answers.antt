@@ -3,7 +3,7 @@ use Rattle.std.proofs.lemmas.List.{take_more}
 use Rattle.vm_map.specs.declared.call.Call.TheVariants.{Get}
 use Rattle.vm_step.specs.Prelude.{view}
 use Rattle.vm_tree_read.proofs.Losing.{loses-same, loses-then}
-use Rattle.vm_drive.proofs.Doing.{done-more, done-none}
+use Rattle.vm_drive.proofs.Chain.{calls-snoc}
 use Rattle.vm_drive.proofs.worker.call_all.Goals as goal
 
 pub calls-preserved : goal.calls-preserved
@@ -15,7 +15,7 @@ calls-preserved g c =
       done = record {
         told = inv.done.told ++ c.answer-answer.result ∷ [];
         stands = c.keep.ensures.told inv.done.told inv.done.stands;
-        done = rw (take_more c.args.calls.now c.calls.call-index (Get 0) inside) (done-more _ _ _ _ _ _ _ inv.done.done c.answer-answer.ensures.keeps c.answer-answer.ensures.call);
+        each = rw (take_more c.args.calls.now c.calls.call-index (Get 0) inside) (calls-snoc _ _ _ _ _ _ _ inv.done.each c.answer-answer.ensures.call);
       };
       lost = loses-then c.args.worker.now.iface.frames c.calls.worker.iface.frames c.answer-answer.new.iface.frames (view c.args.worker.now.pass) (view c.calls.worker.pass) (view c.answer-answer.new.pass) inv.lost c.answer-answer.ensures.lost;
       room = (let left = c.keep.ensures.left in let room = inv.room in omega arith);
@@ -24,7 +24,7 @@ calls-preserved g c =
 pub calls-init : goal.calls-init
 calls-init g c = record {
   work = c.requires.work;
-  done = record { told = []; stands = c.requires.fresh; done = done-none _ };
+  done = record { told = []; stands = c.requires.fresh; each = refl };
   lost = loses-same c.args.worker.now.iface.frames c.args.worker.now.iface.frames (view c.args.worker.now.pass) (view c.args.worker.now.pass) refl (λ f e. e);
   room = (let room = c.requires.room in omega arith);
 }

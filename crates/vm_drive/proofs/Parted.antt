@@ -1,0 +1,82 @@
+-- What a worker's pass found while it made its calls stands in the log of the pass that it went into.
+use Rattle.std.proofs.Common.{[], ◌++◌, ◌<◌, ◌∙◌, ◌∷◌, ◌≡◌, ap, append_assoc, List, Result, subst, sym, ℕ}
+use Rattle.vm_map.specs.{declared.call.Call.Call, declared.call.Reply.Reply, declared.call.Said.Said}
+use Rattle.vm_rule.specs.Prelude.{entries_by, Entry, StartsWith}
+use Rattle.vm_step.specs.Prelude.{Did, View}
+use Rattle.vm_tree_rule.specs.declared.fault.TreeFault.{TreeFault}
+use Rattle.vm_drive.specs.Causes.{AllCausedBy}
+use Rattle.vm_drive.specs.Parts.{HaveParts, logs_of, StandBehind, StandIn}
+use Rattle.vm_drive.proofs.{Called.FoundFull, Called.FoundWorn, Chain.calls-done, Lists.starts-then, Tracing.all-caused}
+
+regroup : {A : Type 0} (f e l b : List A) (s : A) → f ++ ((e ++ s ∷ l) ++ b) ≡ (f ++ e) ++ s ∷ (l ++ b)
+regroup f e l b s = ap (λ (y : List _). f ++ y) (append_assoc e (s ∷ l) b) ∙ sym (append_assoc f e (s ∷ (l ++ b)))
+
+module _ (w u : View Said) (front behind : List Did) (start : u.start ≡ w.start) (log : w.log ≡ front ++ (u.log ++ behind)) where
+  found-in : (n : ℕ) → FoundFull u n → FoundFull w n
+  found-in n f =
+      let given = f.1.given in (
+        f.0 ∙ ap (λ s. s.pages) start,
+        record {
+          found = f.1.found;
+          given = record {
+            earlier = front ++ given.earlier;
+            step = given.step;
+            later = given.later ++ behind;
+            cut = log ∙ ap (λ l. front ++ (l ++ behind)) given.cut ∙ regroup front given.earlier given.later behind given.step;
+            gives = given.gives;
+          };
+          high = f.1.high;
+        },
+      )
+
+  worn-in : (p : ℕ) → FoundWorn u p → FoundWorn w p
+  worn-in p m =
+      let given = m.given in
+      record {
+        inside = subst (λ s. p < s.pages) start m.inside;
+        word = m.word;
+        given = record {
+          earlier = front ++ given.earlier;
+          step = given.step;
+          later = given.later ++ behind;
+          cut = log ∙ ap (λ l. front ++ (l ++ behind)) given.cut ∙ regroup front given.earlier given.later behind given.step;
+          gives = given.gives;
+        };
+        last = m.last;
+      }
+
+traced-in : (w : View Said) (lists : List (List Call)) (answers : List (List (Result Reply TreeFault))) (passes : List (View Said)) (front all : List Did) → w.log ≡ front ++ all → HaveParts w lists answers passes → StandIn (logs_of passes) all → AllCausedBy (FoundFull w) (FoundWorn w) lists answers
+traced-in w [] answers passes front all log p s = tt
+traced-in w (c ∷ cs) [] passes front all log p s = tt
+traced-in w (c ∷ cs) (t ∷ ts) [] front all log p s = absurd p
+traced-in w (c ∷ cs) (t ∷ ts) (u ∷ us) front all log p s =
+    let here : w.log ≡ (front ++ s.0) ++ (u.log ++ s.1) = log ∙ ap (λ (l : List Did). front ++ l) s.2 ∙ sym (append_assoc front s.0 (u.log ++ s.1)) in
+    let done = calls-done c t p.0.began u p.0.each in (
+      all-caused (FoundFull u) (FoundWorn u) (FoundFull w) (FoundWorn w) (found-in w u (front ++ s.0) s.1 p.0.start here) (worn-in w u (front ++ s.0) s.1 p.0.start here) c t done.caused,
+      traced-in w cs ts us ((front ++ s.0) ++ u.log) s.1 (here ∙ sym (append_assoc (front ++ s.0) u.log s.1)) p.1 s.3,
+    )
+
+-- each fault but a device's has its cause in what the joined pass found
+pub traced : (front : List Did) (w : View Said) (lists : List (List Call)) (answers : List (List (Result Reply TreeFault))) (passes : List (View Said)) → HaveParts w lists answers passes → StandBehind front (logs_of passes) w.log → AllCausedBy (FoundFull w) (FoundWorn w) lists answers
+traced front w lists answers passes p s = traced-in w lists answers passes front s.0 s.1 p s.2
+
+-- what is a part of a pass is one of it later on, where it has seen no entry more
+pub parts-later : (w x : View Said) → x.start ≡ w.start → x.seen ≡ w.seen → StartsWith x.releases w.releases → (lists : List (List Call)) (answers : List (List (Result Reply TreeFault))) (passes : List (View Said)) → HaveParts w lists answers passes → HaveParts x lists answers passes
+parts-later w x start seen releases [] [] [] p = tt
+parts-later w x start seen releases [] [] (u ∷ us) p = absurd p
+parts-later w x start seen releases [] (t ∷ ts) us p = absurd p
+parts-later w x start seen releases (c ∷ cs) [] us p = absurd p
+parts-later w x start seen releases (c ∷ cs) (t ∷ ts) [] p = absurd p
+parts-later w x start seen releases (c ∷ cs) (t ∷ ts) (u ∷ us) p =
+    let part = p.0 in (
+      record {
+        began = part.began;
+        nothing = part.nothing;
+        each = part.each;
+        start = part.start ∙ sym start;
+        entries = ap (λ (l : List (Entry Said)). entries_by u.used l) seen ∙ part.entries;
+        heard = subst (λ (l : List (Entry Said)). StartsWith l u.seen) (sym seen) part.heard;
+        saw = starts-then x.releases w.releases u.releases releases part.saw;
+      },
+      parts-later w x start seen releases cs ts us p.1,
+    )

@@ -1,0 +1,43 @@
+-- What each worker did, as a part of what the joined pass knows.
+use Rattle.std.specs.Prelude.{[], ◌++◌, ◌∷◌, ◌≡◌, List, Result}
+use Rattle.vm_map.specs.{declared.call.Call.Call, declared.call.Reply.Reply, declared.call.Said.Said}
+use Rattle.vm_rule.specs.Prelude.{entries_by, StartsWith}
+use Rattle.vm_step.specs.Prelude.{Did, Note, View}
+use Rattle.vm_tree_rule.specs.declared.fault.TreeFault.{TreeFault}
+use Rattle.vm_drive.specs.TreeCalls.{AreTreeCalls}
+
+module _ {A : Type 0} where
+  -- these lists stand in this one, one behind another
+  abbrev pub StandIn : List (List A) → List A → Type 0
+  StandIn [] all = Unit {0}
+  StandIn (part ∷ parts) all = (front : List A) × (rest : List A) × (all ≡ front ++ (part ++ rest)) × StandIn parts rest
+
+  -- so they do, behind this front of it
+  abbrev pub StandBehind : List A → List (List A) → List A → Type 0
+  StandBehind front parts all = (rest : List A) × (all ≡ front ++ rest) × StandIn parts rest
+
+-- the worker's pass began with nothing done, made the calls, and knew u behind the last one; its entries are those that this pass's history has
+-- under its number
+pub record HasPart (w : View Said) (calls : List Call) (answers : List (Result Reply TreeFault)) (u : View Said) : Type 0 where
+  pub began : View Said
+  pub nothing : (began.mine ≡ []) × (began.notes ≡ []) × (began.log ≡ [])
+  pub each : AreTreeCalls calls answers began u
+  pub start : u.start ≡ w.start
+  pub entries : entries_by u.used w.seen ≡ u.mine
+  pub heard : StartsWith w.seen u.seen
+  pub saw : StartsWith w.releases u.releases
+
+-- so each worker's did
+abbrev pub HaveParts : View Said → List (List Call) → List (List (Result Reply TreeFault)) → List (View Said) → Type 0
+HaveParts w [] [] [] = Unit {0}
+HaveParts w (calls ∷ lists) (told ∷ answers) (u ∷ passes) = HasPart w calls told u × HaveParts w lists answers passes
+HaveParts w _ _ _ = ⊥
+
+-- the steps of passes, and their notes
+abbrev pub logs_of : List (View Said) → List (List Did)
+logs_of [] = []
+logs_of (u ∷ us) = u.log ∷ logs_of us
+
+abbrev pub noted_by : List (View Said) → List (List Note)
+noted_by [] = []
+noted_by (u ∷ us) = u.notes ∷ noted_by us
