@@ -28,7 +28,7 @@ const EMPTY: &str = "empty.pages";
 const MOST: usize = 1_000_000;
 
 fn main(rt: HostRuntime) -> ExitCode {
-    let mut host = StdHost::new(&rt);
+    let mut host = StdHost::new(&rt, rt.alloc());
     match play_list(&rt, rt.alloc(), &mut host) {
         Ok(()) => ExitCode::from(0),
         Err(Unplayed) => ExitCode::from(1),

@@ -28,7 +28,11 @@ fn node_words(header: [u64; 8], first: u64, count: u64) -> [u64; 64] {
 fn leads_to(rt: &impl Abort, page: &PageBuf, key: u64, found: Option<u64>) {
     assert_eq!(rt; child(page, key), found, "at {key}");
     let mut place = none_loaded(page);
-    assert_eq!(rt; child_at(&mut place, key), found, "in place, at {key}");
+    let in_place = match child_at(&mut place, key) {
+        Some(child) => Some(child.page),
+        None => None,
+    };
+    assert_eq!(rt; in_place, found, "in place, at {key}");
     assert!(rt; place.loaded <= 7);
 }
 

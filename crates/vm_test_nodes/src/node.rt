@@ -263,9 +263,9 @@ fn a_full_leaf_is_read_in_place(rt: HostRuntime) {
     assert_eq!(rt; count_at(&mut place), 28);
     assert_eq!(rt; lower_bound_at(&mut place, 28, 0), 0);
     assert_eq!(rt; lower_bound_at(&mut place, 28, 14), 13);
-    assert_eq!(rt; upper_bound_at(&mut place, 28, 14), 14);
+    assert_eq!(rt; upper_bound_at(&mut place, 28, 14).at, 14);
     assert_eq!(rt; lower_bound_at(&mut place, 28, u64::MAX), 28);
-    assert_eq!(rt; upper_bound_at(&mut place, 28, u64::MAX), 28);
+    assert_eq!(rt; upper_bound_at(&mut place, 28, u64::MAX).at, 28);
     assert_eq!(rt; find_at(&mut place, 28), Some(28));
 }
 

@@ -1,4 +1,4 @@
-//! The file that a run keeps: it is written whole before anything is said.
+//! The file that a run keeps: it is replaced as a whole before anything is said, or it is as it was.
 
 use crate::expect::{OLD, RUN, expect_no_run, expect_run, host, is_kept, perform};
 use crate::pages::{add_news, add_rows, empty_tree, puts, two_leaves};
@@ -47,7 +47,7 @@ fn the_tree_is_kept_and_read_back(rt: HostRuntime) -> Result<(), Fail> {
     Ok(())
 }
 
-/// A missing file is one that can't be put.
+/// A missing file is one that this host can't replace.
 #[test]
 fn a_missing_file_is_not_kept(rt: HostRuntime) -> Result<(), Fail> {
     let alloc = rt.alloc();
@@ -56,27 +56,19 @@ fn a_missing_file_is_not_kept(rt: HostRuntime) -> Result<(), Fail> {
     expect_run(&rt, alloc, &mut host, line, 3, "")
 }
 
-/// What the file `K` holds after so many puts of at most `piece` bytes.
-fn kept_after(alloc: Global, puts: usize, piece: usize) -> Result<Vec<u8>, AllocError> {
-    if puts == 0 {
-        return Vec::from_slice(alloc, OLD);
-    }
-    let mut front = two_leaves(alloc)?;
-    front.truncate(puts.saturating_mul(piece));
-    Ok(front)
-}
-
-/// Each call of the host fails in turn, where a call moves at most `piece` bytes: so many takes read the image, so many the script, so many puts
-/// write the file, and one more call says all. A file is read to its end by a take of nothing. Behind the last call nothing fails.
+/// Each call of the host fails in turn, where a call moves at most `piece` bytes: so many takes read the image, so many the script, one call
+/// replaces the file, and one says all. A file is read to its end by a take of nothing. Where it could not be replaced it is as it was; where
+/// the saying failed it has all its bytes. Behind the last call nothing fails.
 fn fails_in_turn<R: Abort + Threads + Wait + Sync>(
     rt: &R,
     alloc: Global,
     piece: usize,
-    counts: [usize; 3],
+    counts: [usize; 2],
 ) -> Result<(), Fail> {
-    let [image, script, puts] = counts;
+    let [image, script] = counts;
     let read = image.wrapping_add(script);
-    let last = read.wrapping_add(puts).wrapping_add(1);
+    let last = read.wrapping_add(2);
+    let new = two_leaves(alloc)?;
     for call in 0..last {
         let plan = [(call as u64).wrapping_add(1)];
         let mut host = host_of_29(alloc, &plan)?.with_piece(piece);
@@ -86,8 +78,8 @@ fn fails_in_turn<R: Abort + Threads + Wait + Sync>(
             expect_no_run(rt, alloc, &mut host, RUN_KEEP, 2, "read S\n")?;
         } else {
             expect_run(rt, alloc, &mut host, RUN_KEEP, 3, "")?;
-            let front = kept_after(alloc, call.wrapping_sub(read), piece)?;
-            assert!(rt; host.file("K") == Some(front.as_slice()), "{call}");
+            let kept = if call == read { OLD } else { new.as_slice() };
+            assert!(rt; host.file("K") == Some(kept), "{call}");
         }
     }
     let plan = [(last as u64).wrapping_add(1)];
@@ -106,8 +98,19 @@ fn fails_in_turn<R: Abort + Threads + Wait + Sync>(
 #[test]
 fn each_call_of_the_host_fails_in_turn(rt: HostRuntime) -> Result<(), Fail> {
     let alloc = rt.alloc();
-    fails_in_turn(&rt, alloc, 4096, [2, 2, 1])?;
-    fails_in_turn(&rt, alloc, 1000, [6, 2, 5])
+    fails_in_turn(&rt, alloc, 4096, [2, 2])?;
+    fails_in_turn(&rt, alloc, 1000, [6, 2])
+}
+
+/// The image may be the file that is kept.
+#[test]
+fn the_image_is_replaced(rt: HostRuntime) -> Result<(), Fail> {
+    let alloc = rt.alloc();
+    let mut host = host_of_29(alloc, &[])?;
+    let line = "run I0 S --workers 1 --frames 64 --keep I0";
+    expect_run(&rt, alloc, &mut host, line, 0, said_of_29(alloc)?.as_str())?;
+    assert!(rt; host.file("I0") == Some(two_leaves(alloc)?.as_slice()));
+    Ok(())
 }
 
 /// A host that moves one byte in a call moves them all.
@@ -127,11 +130,12 @@ fn a_byte_at_a_time_comes_to_the_same(rt: HostRuntime) -> Result<(), Fail> {
     Ok(())
 }
 
-/// Nothing is taken of the file, which the first put has made empty, or of the text where no file is kept.
+/// Nothing is taken of the text, behind a file that has all its bytes, or where none is kept.
 #[test]
 fn a_stuck_host_is_status_3(rt: HostRuntime) -> Result<(), Fail> {
     let alloc = rt.alloc();
-    for (line, kept) in [(RUN_KEEP, b"".as_slice()), (RUN, OLD)] {
+    let new = two_leaves(alloc)?;
+    for (line, kept) in [(RUN_KEEP, new.as_slice()), (RUN, OLD)] {
         let mut host = host_of_29(alloc, &[])?.with_piece(0);
         expect_run(&rt, alloc, &mut host, line, 3, "")?;
         assert!(rt; host.file("K") == Some(kept));

@@ -6,8 +6,8 @@ use Rattle.vm_tree_rule.specs.declared.fault.TreeFault.{TreeFault}
 use Rattle.vm_tree_read.specs.Waiting.{Waits}
 use Rattle.vm_tree_write.specs.{declared.write.TryWrite.TryWrite, Splits.KeepsLocksOnly}
 use Rattle.vm_tree_write.specs.declared.write.TryWrite.TheVariants as writes
-use Rattle.vm_tree_write.specs.Waiting.{faulted, IsPutFaulted, IsWriteFaulted, IsWriteReplied, missing, tight, worn}
-use Rattle.vm_tree_write.specs.Writes.{IsDel, IsPut, OnlyWrites}
+use Rattle.vm_tree_write.specs.Waiting.{faulted, IsDelRound, IsPutFaulted, IsPutRound, IsWriteFaulted, IsWriteReplied, missing, tight, worn}
+use Rattle.vm_tree_write.specs.Writes.{HasKeyIn, IsDel, IsPut, OnlyWrites}
 use Rattle.vm_test_tree.proofs.Homes.{of-reads, Rests}
 
 of-writes : (p : ℕ) (v w : View Said) → OnlyWrites p v w → Rests v w
@@ -28,15 +28,15 @@ del-rests key (writes.Worn p) v w a = of-reads v w a.0.0
 del-rests key (writes.Tight p) v w a = absurd a
 
 fault-home : (key : ℕ) (fault : TreeFault) (v w : View Said) → IsPutFaulted key fault v w → w.out ≡ v.out
-fault-home key fault v w (faulted (missing tried found page k r n f all)) = all.out
-fault-home key fault v w (faulted (worn tried page k r n f all)) = all.out
-fault-home key fault v w (tight tried found page k r t f all) = all.out
+fault-home key fault v w (faulted (missing tried found page rounds k r n f all)) = all.out
+fault-home key fault v w (faulted (worn tried page rounds k r n would f all)) = all.out
+fault-home key fault v w (tight tried found page rounds k r t f all) = all.out
 
-pub put-home : (call : Call) (key : ℕ) (r : Result Reply TreeFault) (v w : View Said) → IfOk r (λ reply. IsWriteReplied KeepsLocksOnly (record { call = call; reply = reply }) v w) → IfErr r (λ fault. IsPutFaulted key fault v w) → w.out ≡ v.out
+pub put-home : (call : Call) (key : ℕ) (r : Result Reply TreeFault) (v w : View Said) → IfOk r (λ reply. IsWriteReplied KeepsLocksOnly IsPutRound (record { call = call; reply = reply }) v w) → IfErr r (λ fault. IsPutFaulted key fault v w) → w.out ≡ v.out
 put-home call key (Ok reply) v w a b = a.out
 put-home call key (Err fault) v w a b = fault-home key fault v w b
 
-pub del-home : (call : Call) (key : ℕ) (r : Result Reply TreeFault) (v w : View Said) → IfOk r (λ reply. IsWriteReplied Waits (record { call = call; reply = reply }) v w) → IfErr r (λ fault. IsWriteFaulted Waits key fault v w) → w.out ≡ v.out
+pub del-home : (call : Call) (key : ℕ) (r : Result Reply TreeFault) (v w : View Said) → IfOk r (λ reply. IsWriteReplied Waits IsDelRound (record { call = call; reply = reply }) v w) → IfErr r (λ fault. IsWriteFaulted Waits IsDelRound HasKeyIn key fault v w) → w.out ≡ v.out
 del-home call key (Ok reply) v w a b = a.out
-del-home call key (Err fault) v w a (missing tried found page k r n f all) = all.out
-del-home call key (Err fault) v w a (worn tried page k r n f all) = all.out
+del-home call key (Err fault) v w a (missing tried found page rounds k r n f all) = all.out
+del-home call key (Err fault) v w a (worn tried page rounds k r n would f all) = all.out
