@@ -27,7 +27,7 @@ pub use Rattle.vm_step.specs.Prelude.{IsHeld, IsLost, IsOfPage, IsReady, IsSameP
 pub use Rattle.vm_step.specs.Prelude.{LeavesRest, MayRaise, MayTakeOut, MayUnshare, Note, Origin, ReadsAsBefore, Release, RunsAlone, StaysHome, Tie}
 pub use Rattle.vm_step.specs.Prelude.{LeavesOnly, Translation, Unstored, View, view, Works, WritesNone}
 pub use Rattle.vm_step.proofs.{After.knows-after, Alone.runs-one, Alone.runs-self, Alone.runs-then, Alone.stays-alone, Alone.still-alone, Asides.reads-then}
-pub use Rattle.vm_step.proofs.{Asides.starts-then, Asides.still-locking, Asides.whole-then, Leaves.aside-of, Leaves.leaves-then, Leaves.ready-after}
+pub use Rattle.vm_step.proofs.{Asides.starts-then, Asides.still-locking, Asides.whole-then, Leaves.aside-of, Leaves.leaves-then}
 pub use Rattle.vm_step.proofs.{Leaves.works-none, Leaves.works-then, Releasing.each-has, steps.Content.load-works, steps.Look.look-only, steps.Look.look-others}
 pub use Rattle.vm_step.proofs.{steps.Look.look-own, steps.Mapping.clean-held, steps.Mapping.clean-works, steps.Mapping.clear-held, steps.Mapping.clear-works}
 pub use Rattle.vm_step.proofs.{steps.Owner.owner-held, steps.Owner.owner-works, steps.Raise.raise-held, steps.Raise.raise-works, steps.Release.evict-alone}

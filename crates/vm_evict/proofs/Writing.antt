@@ -189,7 +189,7 @@ module _ {X : Type 0} (p f : ℕ) (v0 v : View X) (x : IsFoundToWrite p f v0 v) 
           back : Moves p home-did (record (held_at b p) { block = new }) None b d
           back = comes-home p old new b d m
 
-          pub work-called : Works p called-did v d
+          work-called : Works p called-did v d
           work-called = works-then p copied-did home-did v b d work-copied back.works
 
           abbrev held-called : Held

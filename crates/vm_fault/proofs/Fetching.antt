@@ -39,9 +39,6 @@ module _ {X : Type 0} (p version : ℕ) (words : List ℕ) (before : List Did) (
     moved : Moves p called-did held-called None x d
     moved = called p old new x a d o m
 
-    pub work-called : Works p called-did x d
-    work-called = moved.works
-
     pub frames-called : d.frames ≡ x.frames
     frames-called = moved.keeps.frames
 

@@ -23,7 +23,7 @@ pub use Rattle.vm_step.proofs.Asides.{alone-then, only-then, OnlyReads}
 pub use Rattle.vm_step.proofs.Device.{call-did, called, counts-one, goes-out, may-bring, Moves, noted-more, two-loads}
 pub use Rattle.vm_step.proofs.Evidenced.{given-front, leaves-both, leaves-front, written-behind, written-front}
 pub use Rattle.vm_step.proofs.Filling.{all-stored, filled, fills, Fills, stores-did}
-pub use Rattle.vm_step.proofs.Leaves.{aside-of, leaves-then, ready-after, works-then}
+pub use Rattle.vm_step.proofs.Leaves.{aside-of, leaves-then, works-then}
 pub use Rattle.vm_step.proofs.Tables.{else-knows, follows-inside, last-known}
 pub use Rattle.vm_step.proofs.steps.Leaving.{LeavesOthers, LeavesOwn, rest-of}
 pub use Rattle.vm_step.proofs.steps.Lock.{lock-brings, lock-draft, lock-held, lock-leaves, lock-others, lock-seat}

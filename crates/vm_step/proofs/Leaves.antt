@@ -1,9 +1,8 @@
 -- What the steps of a call that speaks of one page leave of a view, and that this holds of several steps in a row.
-use Rattle.vm_step.proofs.{Alone.runs-one, Alone.runs-self, Alone.runs-then, Asides.starts-then, steps.Leaving.last-still, Together.ready-as}
-use Rattle.vm_step.proofs.Prelude.{[], ap, append-none, append_assoc, Bool, BringsWith, cases_eq, Did, Held, held_at, HoldsPage, IsAside, IsLocking, IsReady}
-use Rattle.vm_step.proofs.Prelude.{IsSamePass, KnowsAsBefore, last_of, LeavesRest, length, List, no_held, Note, Option, Out, Pass, Put, put_at, ReadsAsBefore}
-use Rattle.vm_step.proofs.Prelude.{refl, rules, Seat, seat_of, Shape, StartsWith, StaysAlone, Stored, subst, sym, TableId, Tie, View, view, Works, ℕ, ⊎_elim}
-use Rattle.vm_step.proofs.Prelude.{◌++◌, ◌<◌, ◌∙◌, ◌∷◌, ◌≡◌, ◌≢◌}
+use Rattle.vm_step.proofs.{Alone.runs-one, Alone.runs-self, Alone.runs-then, Asides.starts-then, steps.Leaving.last-still}
+use Rattle.vm_step.proofs.Prelude.{[], ap, append-none, append_assoc, BringsWith, cases_eq, Did, Held, held_at, HoldsPage, IsAside, IsLocking, KnowsAsBefore}
+use Rattle.vm_step.proofs.Prelude.{last_of, LeavesRest, List, no_held, Note, Option, Out, Put, put_at, ReadsAsBefore, refl, rules, Seat, seat_of, StartsWith}
+use Rattle.vm_step.proofs.Prelude.{StaysAlone, Stored, subst, sym, Tie, View, Works, ℕ, ⊎_elim, ◌++◌, ◌∙◌, ◌∷◌, ◌≡◌, ◌≢◌}
 
 module _ {X : Type 0} (p : ℕ) where
   pub leaves-then : (a b : List Did) (u v w : View X) → LeavesRest p a u v → LeavesRest p b v w → LeavesRest p (a ++ b) u w
@@ -51,13 +50,3 @@ module _ {X : Type 0} (p : ℕ) where
       let known : (q : ℕ) → q ≢ p → held_at w q ≡ held_at v q = λ q ne. ap (λ (x : View X). held_at x q) b.view ∙ others q ne in
       let last : (q : ℕ) → IsLocking (seat_of v q) → last_of w q ≡ last_of v q = λ q. last-still b refl q in
       search (rules, ap, b.view, seen, releases, known, last, runs-one did block [] [] v _ w b)
-
--- ---- the pass may step on
-
-module _ {U X : Type 0} {o : _} (shape : Shape) (tells : Bool) (t : TableId) (a b : Pass U X o) where
-  pub ready-on : IsSamePass a b → (view b).start ≡ (view a).start → (view b).used ≡ (view a).used → IsReady shape tells t a → IsReady shape tells t b
-  ready-on same start used r = ready-as shape tells t a b r same.0 (subst (λ (ns : List ℕ). 0 < length ns) (sym used) r.may.1) start
-
-  -- after steps that speak of one page
-  pub ready-after : (p : ℕ) (done : List Did) → IsSamePass a b → LeavesRest p done (view a) (view b) → IsReady shape tells t a → IsReady shape tells t b
-  ready-after p done same f r = ready-on same f.start f.parts.0 r

@@ -1,6 +1,5 @@
-use Rattle.vm_evict.proofs.Prelude.{arith, ready-after, view, ◌∙◌}
+use Rattle.vm_evict.proofs.Prelude.{arith, view}
 use Rattle.vm_evict.proofs.Writing.{cleaned, copies-frame, copies-shared, copies-size, may-clean, may-come-home, may-raise, may-take-out, refused}
-use Rattle.vm_evict.proofs.Writing.{work-called}
 use Rattle.vm_evict.proofs.write.write_back.Goals as goal
 
 pub block_out-block-requires-clause-legal : goal.block_out-block-requires-clause-legal
@@ -17,10 +16,6 @@ copy_page-page-requires-clause-size g c = copies-size c.args.p c.args.frame c.re
 
 pub block_home-requires-clause-legal : goal.block_home-requires-clause-legal
 block_home-requires-clause-legal g c = (_, may-come-home c.args.p c.args.frame c.requires.legal.0 (view c.args.pass.now) c.requires.legal.1 _ (view c.block_out-block.new.pass) c.block_out-block.ensures.told _ (view c.copy_page-page.new.pass) c.copy_page-page.ensures.copied g.B.Block.tells c.requires.ready.table.tells_is _ c.write-wrote.result c.write-wrote.ensures)
-
-pub set_clean-requires-clause-pass : goal.set_clean-requires-clause-pass
-set_clean-requires-clause-pass g c =
-    (ready-after _ _ _ c.args.pass.now c.block_home.new.pass c.args.p _ (c.block_home.ensures.pass.0 ∙ c.copy_page-page.ensures.pass.0 ∙ c.block_out-block.ensures.pass.0, c.block_home.ensures.pass.1 ∙ c.copy_page-page.ensures.pass.1 ∙ c.block_out-block.ensures.pass.1) (work-called c.args.p c.args.frame c.requires.legal.0 (view c.args.pass.now) c.requires.legal.1 _ (view c.block_out-block.new.pass) c.block_out-block.ensures.told _ (view c.copy_page-page.new.pass) c.copy_page-page.ensures.copied g.B.Block.tells c.requires.ready.table.tells_is _ c.write-wrote.result c.write-wrote.ensures (view c.block_home.new.pass) c.block_home.ensures.told).leaves c.requires.ready).may
 
 pub set_clean-requires-clause-legal : goal.set_clean-requires-clause-legal
 set_clean-requires-clause-legal g c = may-clean c.args.p c.args.frame c.requires.legal.0 (view c.args.pass.now) c.requires.legal.1 _ (view c.block_out-block.new.pass) c.block_out-block.ensures.told _ (view c.copy_page-page.new.pass) c.copy_page-page.ensures.copied g.B.Block.tells c.requires.ready.table.tells_is _ c.write-wrote.result c.write-wrote.ensures (view c.block_home.new.pass) c.block_home.ensures.told _ c.in-Ok.is

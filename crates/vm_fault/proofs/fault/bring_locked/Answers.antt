@@ -1,6 +1,6 @@
 use Rattle.vm_fault.proofs.Ending.{held-empty}
-use Rattle.vm_fault.proofs.Fetching.{brought, failed, frames-called, may-evict, may-give_up, may-own, may-put, may-raise, may-take-out, work-called}
-use Rattle.vm_fault.proofs.Prelude.{ap, arith, goes-out, has, MAX_VERSION, may-bring, Origin, ready-after, refl, Seat, subst, sym, ℕ, ◌<◌, ◌∙◌}
+use Rattle.vm_fault.proofs.Fetching.{brought, failed, frames-called, may-evict, may-give_up, may-own, may-put, may-raise, may-take-out}
+use Rattle.vm_fault.proofs.Prelude.{ap, arith, goes-out, has, MAX_VERSION, may-bring, Origin, refl, Seat, subst, sym, ℕ, ◌<◌, ◌∙◌}
 use Rattle.vm_fault.proofs.Prelude.{◌≤◌}
 use Rattle.vm_fault.proofs.fault.bring_locked.Goals as goal
 
@@ -20,10 +20,6 @@ block_home-requires-clause-legal g c =
           (ap (λ (s : Seat). s.exclusive) out.works.seat ∙ empty.owns) c.read-read.result c.read-read.ensures out.away,
     )
 
-pub fill-requires-clause-ready : goal.fill-requires-clause-ready
-fill-requires-clause-ready g c =
-    ready-after _ _ _ c.args.pass.now c.block_home.new.pass c.args.pid _ (c.block_home.ensures.pass.0 ∙ c.block_out-block.ensures.pass.0, c.block_home.ensures.pass.1 ∙ c.block_out-block.ensures.pass.1) (work-called _ _ _ _ _ _ (held-empty g.U.Owner.tied c.args.pid c.args.version c.requires.locked.0 _ (within _ c.requires.below) c.requires.locked.1) _ _ _ _ c.block_out-block.ensures.told g.B.Block.tells c.requires.ready.table.tells_is c.read-read.new.into c.read-read.result c.read-read.ensures c.block_home.ensures.told).leaves c.requires.ready
-
 pub fill-requires-clause-frame : goal.fill-requires-clause-frame
 fill-requires-clause-frame g c =
     (c.requires.frame.0, ap (has c.args.frame) (frames-called _ _ _ _ _ _ (held-empty g.U.Owner.tied c.args.pid c.args.version c.requires.locked.0 _ (within _ c.requires.below) c.requires.locked.1) _ _ _ _ c.block_out-block.ensures.told g.B.Block.tells c.requires.ready.table.tells_is c.read-read.new.into c.read-read.result c.read-read.ensures c.block_home.ensures.told) ∙ c.requires.frame.1)
@@ -39,10 +35,6 @@ own-requires-clause-legal g c =
 pub release_silently-requires-clause-legal : goal.release_silently-requires-clause-legal
 release_silently-requires-clause-legal g c =
     may-give_up _ _ _ _ _ _ (held-empty g.U.Owner.tied c.args.pid c.args.version c.requires.locked.0 _ (within _ c.requires.below) c.requires.locked.1) _ _ _ _ c.block_out-block.ensures.told g.B.Block.tells c.requires.ready.table.tells_is c.read-read.new.into c.read-read.result c.read-read.ensures c.block_home.ensures.told _ c.in-Ok.is c.args.frame c.requires.frame.1 _ c.fill.ensures.stores _ c.install.ensures.told _ c.own.ensures.told g.U.Owner.may_release (subst (λ n. c.args.pid < n) (sym c.requires.ready.table.is_shape.pages) c.requires.page)
-
-pub raise-requires-clause-pass : goal.raise-requires-clause-pass
-raise-requires-clause-pass g c =
-    (ready-after _ _ _ c.args.pass.now c.block_home.new.pass c.args.pid _ (c.block_home.ensures.pass.0 ∙ c.block_out-block.ensures.pass.0, c.block_home.ensures.pass.1 ∙ c.block_out-block.ensures.pass.1) (work-called _ _ _ _ _ _ (held-empty g.U.Owner.tied c.args.pid c.args.version c.requires.locked.0 _ (within _ c.requires.below) c.requires.locked.1) _ _ _ _ c.block_out-block.ensures.told g.B.Block.tells c.requires.ready.table.tells_is c.read-read.new.into c.read-read.result c.read-read.ensures c.block_home.ensures.told).leaves c.requires.ready).may
 
 pub raise-requires-clause-legal : goal.raise-requires-clause-legal
 raise-requires-clause-legal g c =
