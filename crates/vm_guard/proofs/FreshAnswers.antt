@@ -4,10 +4,10 @@ use Rattle.vm_guard.proofs.FreshNone.{bracket, denied-nil, nil-then, nload-nil, 
 use Rattle.vm_guard.proofs.FreshNumbers.{apart-first, both-first, both-second, numbers-one, numbers-two, within-second}
 use Rattle.vm_guard.proofs.Prelude.{[], AgainOrWorn, ap, append-none, append_assoc, AreHeld, arith, At, Bool, cases_eq, cond-false, cond-true, Deny, Did}
 use Rattle.vm_guard.proofs.Prelude.{did_load, Each, each-both, each-map, eq-eqb, eqb, false, Fresh, GivesBack, GivesUpOnce, has, held-on, if◌then◌else◌, inl, inr, IsAmid}
-use Rattle.vm_guard.proofs.Prelude.{IsBegun, IsEvidence, IsFreshAnswer, IsFull, IsNil, IsNotSeized, IsQuiet, IsSaw, IsSeized, IsSpared}
-use Rattle.vm_guard.proofs.Prelude.{IsToTry, IsWornOut, LeavesNone, List, Mapping, ne_eqb, next_after, next_view, NextTold, nload-others, None, none-some, NoWord, numbers}
+use Rattle.vm_guard.proofs.Prelude.{IsBegun, IsEvidence, IsFreshAnswer, IsNil, IsNotSeized, IsQuiet, IsSaw, IsSeized, IsSpared}
+use Rattle.vm_guard.proofs.Prelude.{IsToTry, IsWornOut, LeavesNone, List, Mapping, ne_eqb, next_after, NextTold, nload-others, None, none-some, NoWord, numbers}
 use Rattle.vm_guard.proofs.Prelude.{numbers-has, Option, Origin, Place, read, refl, same_Some, Saw, Seat, seat_of, Seizes, Some, subst}
-use Rattle.vm_guard.proofs.Prelude.{sym, true, true≢false, UnlockedExpected, View, words-known, ℕ, ⊎_elim, ◌++◌, ◌+◌, ◌<◌, ◌||◌, ◌∙◌, ◌∷◌, ◌≡◌}
+use Rattle.vm_guard.proofs.Prelude.{sym, true, true≢false, UnlockedExpected, View, ℕ, ⊎_elim, ◌++◌, ◌+◌, ◌<◌, ◌||◌, ◌∙◌, ◌∷◌, ◌≡◌}
 use Rattle.vm_guard.proofs.Prelude.{◌≢◌, ◌≤◌, ◌⊎◌}
 use Rattle.vm_guard.proofs.FreshTouches.{amid-none, bare-none, give-else, next-apart, not-next, not-state, once-behind, once-front, round, seize-else, seize-places}
 use Rattle.vm_guard.proofs.Seizing.{self-has}
@@ -80,13 +80,6 @@ module _ {X : Type 0} where
       (λ q given. not_locked ((λ here. refl), bare-none (Place.State q) done bare))
       (λ q k. next-kept x q v u t (sym f.group.2 ∙ k))
       (f.steady.alone.current (ap (λ (y : View X). y.current) t.brings.view))
-
-  -- no page was asked for
-  pub spared-none : (x : ℕ) (v u : View X) → NextTold x v u → IsSpared [] x (did_load Place.Next x ∷ []) v u
-  spared-none x v u t =
-      spares [] x (did_load Place.Next x ∷ []) v u (nload-nil [] x v u t) ([], refl) (λ q given. not_locked (next-apart x q).0)
-      (λ q k. next-kept x q v u t k)
-      (ap (λ (y : View X). y.current) t.brings.view)
 
   -- ---- a page was locked, and given up
 
@@ -210,10 +203,6 @@ module _ {X : Type 0} where
       })
 
   -- ---- the answer
-
-  -- no page is left
-  pub is-full : (n x : ℕ) (v u : View X) → NextTold x v u → v.start.pages < x + n → IsFull n v.start.pages x n v u
-  is-full n x v u t l = record { asked = refl; there = refl; full = l; done = did_load Place.Next x ∷ []; spared = spared-none x v u t; table = words-known (did_load Place.Next x) None [] [] v (next_view x v) u t.brings refl }
 
   -- the first page could not be locked
   pub first-denied : (n x : ℕ) (frames : List ℕ) (v u w : View X) (d : Deny) (r : Fresh) → NextTold x v u → 1 ≤ n → x + n ≤ v.start.pages → IsNotSeized x d u w → Answers d r → IsFreshAnswer n frames frames v w r

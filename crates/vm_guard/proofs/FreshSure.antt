@@ -1,7 +1,7 @@
 -- A pass that is alone is given the fresh pages that it knows can be locked.
 use Rattle.vm_guard.proofs.{FreshNumbers.apart-second, FreshTouches.seize-places, FreshTouches.unmoved-at}
 use Rattle.vm_guard.proofs.Amid.{amid-alone, next-known, nload-amid, others-known}
-use Rattle.vm_guard.proofs.Prelude.{[], arith, did_load, found-known, Fresh, IsAlone, IsPages, IsPagesOrWorn, known_next, known_word, known_word_at, Mapping}
+use Rattle.vm_guard.proofs.Prelude.{[], arith, did_load, found-known, Fresh, HasPagesFor, IsAlone, IsFull, IsPages, IsPagesOrWorn, known_next, known_word, known_word_at, Mapping}
 use Rattle.vm_guard.proofs.Prelude.{next_view, NextTold, None, Option, Origin, Place, refl, same-word, Seizes, subst, sym, true≢false, View, words-known, ℕ}
 use Rattle.vm_guard.proofs.Prelude.{◌+◌, ◌-◌, ◌<◌, ◌∙◌, ◌∷◌, ◌≡◌, ◌≤◌}
 
@@ -16,18 +16,18 @@ module _ {X : Type 0} where
   next-found {x = x} {v = v} {u = u} t a = found-known (did_load Place.Next x) x None [] [] v (next_view x v) u t.brings refl a
 
   -- and the load leaves what it knows
-  loaded-at : {x : ℕ} {v u : View X} → NextTold x v u → IsAlone v → (at : Place) → known_word_at u at ≡ known_word_at v at
+  pub loaded-at : {x : ℕ} {v u : View X} → NextTold x v u → IsAlone v → (at : Place) → known_word_at u at ≡ known_word_at v at
   loaded-at {x = x} {v = v} {u = u} t a at = same-word v u (nload-amid [] x v u t).start (words-known (did_load Place.Next x) None [] [] v (next_view x v) u t.brings refl a) at
 
   pub loaded-alone : {x : ℕ} {v u : View X} → NextTold x v u → IsAlone v → IsAlone u
   loaded-alone {x = x} {v = v} {u = u} t a = amid-alone (nload-amid [] x v u t) a
 
-  -- of a table with so many pages, which has room for n from the next one on, or has not
-  pub no-room : {x n pages shape : ℕ} {v u : View X} → NextTold x v u → IsAlone v → known_next v + n ≤ v.start.pages → pages ≡ shape → v.start.pages ≡ shape → pages - x < n → ⊥
-  no-room t a room is same full = omega (arith, next-found t a)
+  -- where the pass knew room for n pages from the next one on there is room, and where it knew none there is none
+  pub no-room : {n pages x need : ℕ} {v u : View X} → IsFull n pages x need v u → IsAlone v → known_next v + n ≤ v.start.pages → ⊥
+  no-room f a room = omega (arith, next-found f.loaded a, f.asked, f.there, f.full)
 
-  pub not-full : {x n pages shape : ℕ} {v u : View X} → NextTold x v u → IsAlone v → shape < known_next v + n → pages ≡ shape → v.start.pages ≡ shape → n ≤ pages - x → ⊥
-  not-full t a past is same fits = omega (arith, next-found t a, t.inside)
+  pub not-full : {n x shape : ℕ} {v u : View X} → HasPagesFor n x v u → IsAlone v → shape < known_next v + n → v.start.pages ≡ shape → ⊥
+  not-full h a past same = omega (arith, next-found h.loaded a, h.room)
 
   -- a lock leaves the next word
   pub seized-next : {p version : ℕ} {stands : Option Mapping} {v u : View X} → Seizes p version stands v u → IsAlone v → known_next u ≡ known_next v

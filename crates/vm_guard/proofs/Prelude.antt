@@ -32,7 +32,7 @@ pub use Rattle.vm_step.specs.Prelude.{KnowsAsBefore, KnowsAt, KnowsSame, LeavesO
 pub use Rattle.vm_step.specs.Prelude.{NoWord, Origin, Pass, PassMayClaim, place_at, ReadsAsBefore, Release, RunsAlone, Shape, StaysAlone, Stores, Tie}
 pub use Rattle.vm_step.specs.Prelude.{Translation, UnlockedExpected, View, view, Works, WritesNone}
 pub use Rattle.vm_step.proofs.{After.knows-after, After.wide-after, Evidenced.leaves-both, Evidenced.leaves-front, Evidenced.written-behind, Groups.has-left_of, Groups.has-without_all_same}
-pub use Rattle.vm_step.proofs.{HeldFrames.held-on, Leaves.ready-on, Leaves.works-then, Numbers.numbers-has, Saws.lost-saw, Saws.one-given, Written.index-below}
+pub use Rattle.vm_step.proofs.{HeldFrames.held-on, Leaves.works-then, Numbers.numbers-has, Saws.lost-saw, Saws.one-given, Written.index-below}
 pub use Rattle.vm_step.proofs.Alone.{found-known, runs-then, same-word, stays-alone, still-alone, words-known}
 pub use Rattle.vm_step.proofs.Asides.{alone-self, alone-then, holds-then, keeps-then, knows-then, reads-then, starts-then, still-locking}
 pub use Rattle.vm_step.proofs.Filling.{filled, fills, Fills, stores-did}
@@ -55,7 +55,7 @@ pub use Rattle.vm_guard.specs.{declared.deny.Deny.Deny, declared.exclusive.Exclu
 pub use Rattle.vm_guard.specs.{FreshPlaces.IsPlaceOf, FreshPlaces.KnowsOthers, Pairs.HasFirst}
 pub use Rattle.vm_guard.specs.FreshWords.{GivesUpOnce, IsNextWord, put_did, PutsOnce, TakesOnce}
 pub use Rattle.vm_guard.specs.Denied.{AgainOrNeed, AgainOrWorn, IsDenied, IsEvidence, KeptWord, NotCrowded, NotWorn, OnlyWorn, SameOrUnlocked}
-pub use Rattle.vm_guard.specs.Fresh.{AreFresh, Furnishes, GivesBack, IsAmid, IsBegun, IsFreshAnswer, IsFull, IsNil, IsNotSeized, IsPages, IsPagesOrWorn}
+pub use Rattle.vm_guard.specs.Fresh.{AreFresh, Furnishes, GivesBack, HasPagesFor, IsAmid, IsBegun, IsFreshAnswer, IsFull, IsNil, IsNotSeized, IsPages, IsPagesOrWorn}
 pub use Rattle.vm_guard.specs.Fresh.{IsSeized, IsSpared, IsToSeize, IsToTry, IsWornOut, Seizes}
 pub use Rattle.vm_guard.specs.Groups.{AreGivenUp, AreReleased, guards_of, GuardsHeld, IsBeside, IsDue, IsGroupReleased, last_pid, MayReleaseAll, next_after_all, pids_of}
 pub use Rattle.vm_guard.specs.Groups.{release_steps, released_words, releases_of}

@@ -5,7 +5,7 @@ use Rattle.vm_core.specs.Prelude.{LOCKED, MAX_VERSION, MayLock, version_of, word
 use Rattle.vm_rule.specs.Prelude.{contents_at, did_load, did_store, draft_of, Each, has, held_at, IsLocking, IsUnheld, last_of, loads_at, Mapping, next_after}
 use Rattle.vm_rule.specs.Prelude.{NextTold, numbers, seat_of, StartsWith, without_all}
 use Rattle.vm_rule.specs.declared.view.Place.{Place}
-use Rattle.vm_step.specs.Prelude.{AreHeld, Did, HasWritten, HoldsPage, IsAlone, IsSaw, IsToldOf, IsWorn, KeepsFrames, KnowsAsBefore, KnowsSame}
+use Rattle.vm_step.specs.Prelude.{AreHeld, Did, HasWritten, HoldsPage, IsAlone, IsSaw, IsToldOf, IsWorn, KeepsFrames, KnowsAsBefore}
 use Rattle.vm_step.specs.Prelude.{NoWord, Release, RunsAlone, StaysAlone, Tie, UnlockedExpected, View, WritesNone}
 use Rattle.vm_step.specs.declared.saw.At.{At}
 use Rattle.vm_step.specs.declared.saw.Saw.{Saw}
@@ -191,14 +191,17 @@ module _ {X : Type 0} where
     pub spared : IsSpared pages x done v w
     pub worn : IsWorn done p
 
-  -- the next page, loaded by the first step, leaves too few pages
+  -- the only step of the call loaded the next page, x, and n pages are left from it on
+  pub record HasPagesFor (n x : ℕ) (v w : View X) : Type 0 where
+    pub loaded : NextTold x v w
+    pub room : x + n ≤ v.start.pages
+
+  -- or too few: that load is all that was done
   pub record IsFull (n pages next need : ℕ) (v w : View X) : Type 0 where
     pub asked : need ≡ n
     pub there : pages ≡ v.start.pages
     pub full : pages < next + need
-    pub done : List Did
-    pub spared : IsSpared [] next done v w
-    pub table : KnowsSame v w
+    pub loaded : NextTold next v w
 
   -- what a call for n fresh pages answers, with these frames before and after
   abbrev pub IsFreshAnswer : ℕ → List ℕ → List ℕ → View X → View X → Fresh → Type 0

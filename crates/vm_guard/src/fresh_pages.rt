@@ -4,14 +4,14 @@ ghost use Rattle.vm_core.specs.Prelude.{mapping_of};
 ghost use Rattle.vm_rule.specs.Prelude.{last_of};
 ghost use Rattle.vm_step.specs.Prelude.{AreHeld, IsAlone, IsReady, IsSamePass, LocksNone, MayStep, view};
 ghost use Rattle.vm_guard.specs.Denied.{AgainOrWorn, OnlyWorn, SameOrUnlocked};
-ghost use Rattle.vm_guard.specs.Fresh.{Furnishes, GivesBack, IsBegun, IsFreshAnswer, IsFullAnswer, IsNotSeized, IsPages, IsPagesOrWorn, IsSeized};
-ghost use Rattle.vm_guard.specs.Fresh.{IsToSeize, Seizes};
+ghost use Rattle.vm_guard.specs.Fresh.{Furnishes, GivesBack, HasPagesFor, IsBegun, IsFreshAnswer, IsFull, IsFullAnswer, IsNotSeized, IsPages};
+ghost use Rattle.vm_guard.specs.Fresh.{IsPagesOrWorn, IsSeized, IsToSeize, Seizes};
 ghost use Rattle.vm_guard.specs.Sure.{known_next, known_word, MayBeGiven, MayBeSeized, MayBeTried};
 ghost use Rattle.vm_guard.specs.Takes.{SaysWhy};
 
 use crate::deny::Deny;
 use crate::exclusive::ExclusiveGuard;
-use crate::given::Fresh;
+use crate::given::{Fresh, NoRoom};
 use crate::group::Group;
 use crate::standing::Lock;
 use vm_block::Block;
@@ -256,6 +256,32 @@ fn give_two<U: Owner, B: Block>(
     Fresh::Pages(Group::Two(first, second))
 }
 
+/// Whether `n` pages are left from the next one on, as one load of the next word shows: then that page, which the load found. It locks and
+/// claims nothing, so other passes may have claimed it by then; but where too few pages are left there will never be more.
+pub fn room_for<U: Owner, B: Block>(
+    words: &Words<U, B>,
+    pass: &mut Pass<U>,
+    n: u32,
+) -> Result<u32, NoRoom>
+    requires ready { IsReady words.now.table.shared.key B.tells words.now.table.shared.table_id pass.old }
+    ensures pass { IsSamePass pass.old pass.new }
+    ensures ready { IsReady words.now.table.shared.key B.tells words.now.table.shared.table_id pass.new }
+    ensures room { IfOk result (λ next. HasPagesFor n next (view pass.old) (view pass.new)) }
+    ensures full { IfErr result (λ none. IsFull n none.pages none.next none.need (view pass.old) (view pass.new)) }
+{
+    let found = nload(words, pass);
+    let pages = words.pages as u32;
+    let next = found as u32;
+    if pages - next < n {
+        return Err(NoRoom {
+            pages,
+            next,
+            need: n,
+        });
+    }
+    Ok(next)
+}
+
 /// Claims `n` pages (1 or 2) from the next one on for a group of the pass, each with words of zeros. A page that is not resident takes the
 /// last frame of `frames`, of which there are at least `n`, without a read of its block. On every other answer nothing is claimed, no lock
 /// is kept, and the frames are as they were. A pass that is alone and knows that each of these pages can be locked is given them.
@@ -276,16 +302,10 @@ pub fn fresh<U: Owner, B: Block>(
     ensures settled { IsAlone (view pass.old) → MayBeTried n (view pass.old) → IsPagesOrWorn result }
     ensures full { IsAlone (view pass.old) → words.now.table.shared.key.pages < known_next (view pass.old) + n → IsFullAnswer result }
 {
-    let found = nload(words, pass);
-    let pages = words.pages as u32;
-    let next = found as u32;
-    if pages - next < n {
-        return Fresh::Full {
-            pages,
-            next,
-            need: n,
-        };
-    }
+    let next = match room_for(words, pass, n) {
+        Ok(next) => next,
+        Err(NoRoom { pages, next, need }) => return Fresh::Full { pages, next, need },
+    };
     let one = match seize(words, pass, next) {
         Ok(page) => page,
         Err(deny) => return denied(deny),

@@ -1,4 +1,4 @@
-// What a call for fresh pages answers.
+// What a call for fresh pages answers, and why there is no room for them.
 use crate::group::Group;
 use vm_step::Saw;
 
@@ -12,4 +12,11 @@ pub enum Fresh {
     Worn(u32),
     /// So many pages there are, this is the next one, and so many were asked for.
     Full { pages: u32, next: u32, need: u32 },
+}
+
+/// Too few pages are left: so many there are, this is the next one, and so many were asked for.
+pub struct NoRoom {
+    pub pages: u32,
+    pub next: u32,
+    pub need: u32,
 }

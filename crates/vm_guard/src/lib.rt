@@ -14,8 +14,8 @@ mod standing;
 
 pub use deny::Deny;
 pub use exclusive::ExclusiveGuard;
-pub use fresh_pages::fresh;
-pub use given::Fresh;
+pub use fresh_pages::{fresh, room_for};
+pub use given::{Fresh, NoRoom};
 pub use group::{Group, release_group};
 pub use opt::OptGuard;
 pub use pair::write_two;
