@@ -101,7 +101,8 @@ module _ {X : Type 0} where
       × (1 ≤ count) × (count ≤ at 0 v.start.bounds p))
 
   -- the pass holds just the locks that it held, and knows of the pages that it has locked what it knew; it made no entry, and has its block at
-  -- home; its group, the pages that it owes and the next page that it knows are as they were; what it has seen, its notes and its steps go on
+  -- home; its group, the pages that it owes and the next page that it knows are as they were; what it has seen of entries and releases, its notes and its
+  -- steps go on
   pub record KeepsLocks (v w : View X) : Type 0 where
     pub holds : (q : ℕ) → HoldsPage v w q
     pub knows : (q : ℕ) → IsLocking (seat_of v q) → KnowsAsBefore v w q
@@ -111,6 +112,7 @@ module _ {X : Type 0} where
     pub parts : (w.used ≡ v.used) × (w.fresh ≡ v.fresh)
     pub group : (w.pending ≡ v.pending) × (w.owed ≡ v.owed) × (w.next ≡ v.next)
     pub seen : StartsWith w.seen v.seen
+    pub releases : StartsWith w.releases v.releases
     pub notes : StartsWith w.notes v.notes
     pub log : StartsWith w.log v.log
     pub alone : StaysAlone v w

@@ -119,7 +119,7 @@ module _ {X : Type 0} where
     abbrev first : View X
     first = begun (unborn (started_shape tells version next frames blocks))
 
-    again : IsAlone w × IsKnownOut b w × HasFree new w
+    pub again : IsAlone w × IsKnownOut b w × HasFree new w
     again =
         let there : known_word_at first (places.Bundle 0) ≡ full_bundle frames 0 = bundle-there tells version next frames blocks first refl pages long fits in
         let some : 0 < bundles_of frames = omega (arith, two) in (

@@ -21,6 +21,7 @@ module _ {X : Type 0} where
     knows = λ q l. record { held = refl; draft = refl; last = refl };
     mine = refl;
     seen = ([], sym (append-none v.seen));
+    releases = ([], sym (append-none v.releases));
     notes = ([], sym (append-none v.notes));
     log = ([], sym (append-none v.log));
     group = (refl, refl, refl);
@@ -36,6 +37,7 @@ module _ {X : Type 0} where
     knows = λ q l. knows-then u v w q (f.knows q l) (g.knows q (still-locking u v q (f.holds q) l));
     mine = g.mine ∙ f.mine;
     seen = starts-then u.seen v.seen w.seen f.seen g.seen;
+    releases = starts-then u.releases v.releases w.releases f.releases g.releases;
     notes = starts-then u.notes v.notes w.notes f.notes g.notes;
     log = starts-then u.log v.log w.log f.log g.log;
     group = (g.group.0 ∙ f.group.0, g.group.1 ∙ f.group.1, g.group.2 ∙ f.group.2);
@@ -46,7 +48,7 @@ module _ {X : Type 0} where
   }
 
   pub reads-wait : (v w : View X) → ReadsOn v w → Waits v w
-  reads-wait v w r = record { holds = r.0.holds; knows = r.0.knows; mine = r.1; seen = r.0.seen; notes = ([], r.0.notes ∙ sym (append-none v.notes)); log = (r.0.done, r.0.log); group = r.0.group; out = r.0.out; start = r.0.start; parts = r.0.parts; alone = r.0.alone }
+  reads-wait v w r = record { holds = r.0.holds; knows = r.0.knows; mine = r.1; seen = r.0.seen; releases = r.0.releases; notes = ([], r.0.notes ∙ sym (append-none v.notes)); log = (r.0.done, r.0.log); group = r.0.group; out = r.0.out; start = r.0.start; parts = r.0.parts; alone = r.0.alone }
 
   -- a call that was turned back only read
   pub turned-reads : (v : View X) (key : ℕ) (turn : Turn) (w : View X) → IsTurnedBack v key turn w → ReadsOn v w
@@ -55,7 +57,7 @@ module _ {X : Type 0} where
   turned-reads v key (turns.Astray saw) w t = t.0
 
   pub bring-waits : (v w : View X) → KeepsLocks v w → Waits v w
-  bring-waits v w k = record { holds = k.holds; knows = k.knows; mine = k.mine; seen = k.seen; notes = k.notes; log = k.log; group = k.group; out = k.out; start = k.start; parts = k.parts; alone = k.alone }
+  bring-waits v w k = record { holds = k.holds; knows = k.knows; mine = k.mine; seen = k.seen; releases = k.releases; notes = k.notes; log = k.log; group = k.group; out = k.out; start = k.start; parts = k.parts; alone = k.alone }
 
   -- the fault that the answer of a page's bringing names
   pub names-fault : (home cap p : ℕ) (old new : List ℕ) (before after : ℕ) (v w : View X) (answer : Bring) (fault : TreeFault) → IsBring home cap p old new before after v w answer → NamesFault answer fault → IsBringFault p fault v w

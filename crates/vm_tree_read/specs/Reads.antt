@@ -1,7 +1,8 @@
 -- What a read of the tree answers: the reply at one step of the history, or why it is to be tried again.
 use Rattle.std.specs.Prelude.{[], ◌++◌, ◌∷◌, ◌≡◌, ◌≢◌, ◌⊎◌, Bool, false, List, true, ℕ}
-use Rattle.vm_map.specs.{declared.call.Call.Call, declared.call.Said.Said, Map.Rises}
+use Rattle.vm_map.specs.{declared.call.Call.Call, declared.call.Reply.Reply, declared.call.Said.Said, Map.Rises}
 use Rattle.vm_map.specs.declared.call.Call.TheVariants.{Del, Get, Put, Window}
+use Rattle.vm_map.specs.declared.call.Reply.TheVariants.{Gone, Got, Was, Win}
 use Rattle.vm_tree_model.specs.{Node.Covers, Page.node_of, Page.pairs_of, Tree.map_of}
 use Rattle.vm_node.specs.Loads.{IsPageWith}
 use Rattle.vm_core.specs.Prelude.{page_at}
@@ -18,6 +19,14 @@ key_of (Get key) = key
 key_of (Put key value) = key
 key_of (Del key) = key
 key_of (Window start most) = start
+
+-- the reply is one to such a call: a value to a get, a put or a del, and a window to a window
+abbrev pub IsOfKind : Call → Reply → Type 0
+IsOfKind (Get key) (Got found) = Unit {0}
+IsOfKind (Put key value) (Was old) = Unit {0}
+IsOfKind (Del key) (Gone old) = Unit {0}
+IsOfKind (Window start most) (Win window) = Unit {0}
+IsOfKind _ _ = ⊥
 
 -- the words are a leaf's that covers the call's key; and they prove the reply where their keys rise, as those of a tree's leaf do
 pub record ProvesReply (words : List ℕ) (said : Said) : Type 0 where
@@ -68,6 +77,12 @@ abbrev pub IsTried : Call → ℕ → TryRead → View Said → View Said → Ty
 IsTried call key (tries.Done reply) v w = IsAnswered (record { call = call; reply = reply }) v w
 IsTried call key (tries.Again saw) v w = ReadsOn v w × (IsAgain v saw w ⊎ IsAstray v key saw w)
 IsTried call key (tries.Need p) v w = ReadsOn v w × IsNeeded v key p w
+
+-- where it was answered the reply is one to such a call, whatever the blocks tell
+abbrev pub IsDoneInKind : Call → TryRead → Type 0
+IsDoneInKind call (tries.Done reply) = IsOfKind call reply
+IsDoneInKind call (tries.Again saw) = Unit {0}
+IsDoneInKind call (tries.Need p) = Unit {0}
 
 -- it was answered
 abbrev pub IsDone : TryRead → Type 0

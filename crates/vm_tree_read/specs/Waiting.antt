@@ -25,13 +25,15 @@ abbrev pub NamesNone : Bring → Type 0
 NamesNone answer = (fault : TreeFault) → ¬ (NamesFault answer fault)
 
 module _ {X : Type 0} where
-  -- the pass holds just the locks that it held, made no entry, and has its block at home; what it has seen, its notes and its steps go on
+  -- the pass holds just the locks that it held, made no entry, and has its block at home; what it has seen of entries and releases, its notes and its steps
+  -- go on
   pub record Waits (v w : View X) : Type 0 where
     pub holds : (q : ℕ) → HoldsPage v w q
     -- what it knows of a page that it has locked is as it was
     pub knows : (q : ℕ) → IsLocking (seat_of v q) → KnowsAsBefore v w q
     pub mine : w.mine ≡ v.mine
     pub seen : StartsWith w.seen v.seen
+    pub releases : StartsWith w.releases v.releases
     pub notes : StartsWith w.notes v.notes
     pub log : StartsWith w.log v.log
     pub out : w.out ≡ v.out

@@ -9,7 +9,7 @@ ghost use Rattle.vm_step.specs.Prelude.{IsReady, IsSamePass, MayStep, view};
 ghost use Rattle.vm_guard.specs.Guards.{IsReading};
 ghost use Rattle.vm_tree_rule.specs.{Resident.KnowsResident, Turns.IsTurnedBack};
 ghost use Rattle.vm_tree_rule.specs.Few.{LoadsHeight, LoadsWithin, ReadsInPlace};
-ghost use Rattle.vm_tree_read.specs.Reads.{IsAnswered, IsDone, IsTried};
+ghost use Rattle.vm_tree_read.specs.Reads.{IsAnswered, IsDone, IsDoneInKind, IsTried};
 
 use crate::answer::{answer, leaf_at};
 use vm_block::Block;
@@ -36,6 +36,7 @@ pub enum TryRead {
 /// Why there is no answer yet.
 fn not_yet(turn: Turn) -> TryRead
     ensures tried { (call : _) (key : _) (v w : _) → IsTurnedBack v key turn w → IsTried call key result v w }
+    ensures kind { (call : _) → IsDoneInKind call result }
     ensures unanswered { ¬ (IsDone result) }
 {
     match turn {
@@ -131,6 +132,7 @@ pub fn try_get<B: Block>(words: &Words<Tree, B>, pass: &mut Pass<Tree>, key: u64
     ensures pass { IsSamePass pass.old pass.new }
     ensures ready { IsReady words.now.table.shared.key B.tells words.now.table.shared.table_id pass.new }
     ensures tried { IsTried (Get key) key result (view pass.old) (view pass.new) }
+    ensures kind { IsDoneInKind (Get key) result }
     ensures sure { B.tells ≡ true → KnowsResident (view pass.old) → IsDone result }
     ensures known { B.tells ≡ true → KnowsResident (view pass.old) → KnowsResident (view pass.new) }
     ensures few { LoadsWithin (λ h. 2 + 11 * h + 12) (view pass.old) (view pass.new) }
@@ -156,6 +158,7 @@ pub fn try_window<B: Block>(
     ensures pass { IsSamePass pass.old pass.new }
     ensures ready { IsReady words.now.table.shared.key B.tells words.now.table.shared.table_id pass.new }
     ensures tried { IsTried (ForWindow start most) start result (view pass.old) (view pass.new) }
+    ensures kind { IsDoneInKind (ForWindow start most) result }
     ensures sure { B.tells ≡ true → KnowsResident (view pass.old) → IsDone result }
     ensures known { B.tells ≡ true → KnowsResident (view pass.old) → KnowsResident (view pass.new) }
     ensures few { LoadsWithin (λ h. 2 + 11 * h + (2 * min most MOST_PAIRS + 13)) (view pass.old) (view pass.new) }

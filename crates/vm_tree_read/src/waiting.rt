@@ -2,6 +2,7 @@
 ghost use Rattle.std.specs.Prelude.{◌<◌, ◌≡◌, ◌≤◌, IfErr, IfOk, None};
 ghost use Rattle.vm_map.specs.declared.call.Call.TheVariants.{Get, Window as ForWindow};
 ghost use Rattle.vm_step.specs.Prelude.{AreHeld, IsReady, IsSamePass, view};
+ghost use Rattle.vm_tree_read.specs.Reads.{IsOfKind};
 ghost use Rattle.vm_tree_read.specs.Waiting.{IsBringFault, IsFaulted, IsNoBringFault, IsReplied, LosesNone, NamesFault, NamesNone, Waits};
 
 use crate::read::{TryRead, look_up, try_window};
@@ -78,6 +79,7 @@ pub fn get<R: Wait, B: Block>(
     ensures iface { (iface.new.home ≡ iface.old.home) × (iface.new.cap ≡ iface.old.cap) }
     ensures lost { LosesNone iface.old.frames (view pass.old) iface.new.frames (view pass.new) }
     ensures ok { IfOk result (λ reply. IsReplied (record { call = Get key; reply = reply }) (view pass.old) (view pass.new)) }
+    ensures kind { IfOk result (λ reply. IsOfKind (Get key) reply) }
     ensures err { IfErr result (λ fault. IsFaulted key fault (view pass.old) (view pass.new)) }
 {
     let backoff = Backoff::new();
@@ -115,6 +117,7 @@ pub fn window<R: Wait, B: Block>(
     ensures iface { (iface.new.home ≡ iface.old.home) × (iface.new.cap ≡ iface.old.cap) }
     ensures lost { LosesNone iface.old.frames (view pass.old) iface.new.frames (view pass.new) }
     ensures ok { IfOk result (λ reply. IsReplied (record { call = ForWindow start most; reply = reply }) (view pass.old) (view pass.new)) }
+    ensures kind { IfOk result (λ reply. IsOfKind (ForWindow start most) reply) }
     ensures err { IfErr result (λ fault. IsFaulted start fault (view pass.old) (view pass.new)) }
 {
     let backoff = Backoff::new();
