@@ -113,7 +113,7 @@ backed-denied first second saw u v x w a b apart leaves (second_denied f version
     shown-later UnlockedExpected saw r.done u z w r.elsewhere.steady.log
     (shown-kept AgainOrWorn UnlockedExpected second.pid second.word second.frame saw u v y z b (leaves-then second.pid v x y (leaves second.pid) (locked-leave second.pid first.pid f version dirty x y apart l)) d)
 
-pub backed-lock : (first second : OptGuard) (saw : Saw) (u v w : View Said) → IsOpened u first.pid first.word first.frame v → IsOpened u second.pid second.word second.frame v → second.pid ≢ first.pid → IsNotLocked first second (denies.Again saw) v w → IsBackedBy u saw w
-backed-lock first second saw u v w a b apart h =
-    let shown = backed-denied first second saw u v h.asked h.back a b apart (moves-leave h.done v h.asked h.moves) h.denied in
+pub backed-lock : (first second : OptGuard) (saw : Saw) (u v x w : View Said) → IsOpened u first.pid first.word first.frame v → IsOpened u second.pid second.word second.frame v → second.pid ≢ first.pid → ((p : ℕ) → LeavesWord p v x) → IsNotLocked first second (denies.Again saw) x w → IsBackedBy u saw w
+backed-lock first second saw u v x w a b apart leaves h =
+    let shown = backed-denied first second saw u v h.asked h.back a b apart (λ p. leaves-then p v x h.asked (leaves p) (moves-leave h.done x h.asked h.moves p)) h.denied in
     backed-shown saw u w (shown-later UnlockedExpected saw h.freed u h.back w h.frees.log shown)

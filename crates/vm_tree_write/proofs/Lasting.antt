@@ -53,7 +53,7 @@ pub keeps-last : (v x : View Said) → KeepsLocksOnly v x → Lasts v x
 keeps-last v x k = record { start = k.start; parts = k.parts; mine = k.mine; seen = k.seen; out = k.out; notes = k.notes; holds = k.holds; knows = k.knows }
 
 pub waits-keep : (v x : View Said) → Waits v x → KeepsLocksOnly v x
-waits-keep v x k = record { start = k.start; parts = k.parts; mine = k.mine; seen = k.seen; notes = k.notes; log = k.log; out = k.out; pending = k.group.0; owed = k.group.1; next = λ q e. inl (sym k.group.2 ∙ e); holds = k.holds; knows = k.knows; current = k.alone.current }
+waits-keep v x k = record { start = k.start; parts = k.parts; mine = k.mine; seen = k.seen; releases = k.releases; notes = k.notes; log = k.log; out = k.out; pending = k.group.0; owed = k.group.1; next = λ q e. inl (sym k.group.2 ∙ e); holds = k.holds; knows = k.knows; current = k.alone.current }
 
 pub replied : (keeps : View Said → View Said → Type 0) (round : ℕ → View Said → View Said → Type 0) (said : Said) (v x w : View Said) → keeps v x × AreRounds (round (key_of said.call)) v x → Lasts v x → (IsWriteDone said x w × ¬ (IsVain said)) ⊎ (IsAnswered said x w × IsVain said) → IsWriteReplied keeps round said v w
 replied keeps round said v x w kept k answered =

@@ -7,6 +7,7 @@ pub mod Under
 pub mod Rooting
 pub mod Framing
 pub mod Refusing
+pub mod Roomy
 pub mod Preparing
 pub mod Ends
 pub mod GivingUp

@@ -13,14 +13,14 @@ use Rattle.vm_exmap.specs.Frames.{MovesFrames}
 use Rattle.vm_guard.specs.{declared.exclusive.ExclusiveGuard.ExclusiveGuard, declared.opt.OptGuard.OptGuard, Guards.IsHolding, Guards.IsReading}
 use Rattle.vm_guard.proofs.{Freshly.holding-on, Groups.lacks, Groups.without-front, Reading.reading-elsewhere}
 use Rattle.vm_tree_rule.specs.{Seeks.HasRead, Standing.Awaits}
-use Rattle.vm_tree_write.specs.Prepares.{IsPrepared}
+use Rattle.vm_tree_write.specs.Prepares.{AreTaken}
 use Rattle.vm_tree_write.specs.Splits.{HasDraft, IsSplitUp, KeepsLocksOnly}
 use Rattle.vm_tree_write.proofs.Framing.{unheld-not}
-use Rattle.vm_tree_write.proofs.Under.{amid-holds, awaits-moved, but-then, done-but, draft-amid, draft-else, fresh-but, holding-else, KeepsBut}
+use Rattle.vm_tree_write.proofs.Under.{amid-holds, awaits-same, but-then, done-but, draft-amid, draft-else, fresh-but, holding-else, KeepsBut}
 use Rattle.vm_tree_write.proofs.Under.{locked-but, locked-draft, locked-inner, moved-holds, moves-but, read-moved, reading-moved, true-false}
 use Rattle.vm_tree_write.proofs.Under.{was-before, was-done, was-fresh, was-locked, was-on}
 
-module _ (n : ℕ) (first second : OptGuard) (up low : ExclusiveGuard) (gs : List ExclusiveGuard) (v w : View Said) (all : IsPrepared n first second up low gs v w) (apart : second.pid ≢ first.pid) where
+module _ (n : ℕ) (first second : OptGuard) (up low : ExclusiveGuard) (gs : List ExclusiveGuard) (v w : View Said) (all : AreTaken n first second up low gs v w) (apart : second.pid ≢ first.pid) where
   abbrev a : ℕ
   a = first.pid
 
@@ -91,7 +91,7 @@ module _ (n : ℕ) (first second : OptGuard) (up low : ExclusiveGuard) (gs : Lis
     pub first-inner : (page : List ℕ) (level key : ℕ) → IsReading a first.word first.frame v → HasRead v a page → length page ≡ 64 → Awaits v a first.word (suc level) key → IsInner page × Covers (node_of page) key
     first-inner page level key r read long awaits =
         locked-inner a up.frame up.version first.word first.frame up.dirty page all.asked between (reading-moved all.done v all.asked all.moves a first.word first.frame r) long (read-moved all.done v all.asked all.moves a page read) tells-asked all.locks.up_version all.locks.up_locked
-        level key (awaits-moved all.done v all.asked all.moves a first.word (suc level) key awaits)
+        level key (awaits-same a first.word (suc level) key v all.asked all.moves.start all.moves.reads.1 awaits)
 
     pub second-words : (page : List ℕ) → IsReading b second.word second.frame v → HasRead v b page → length page ≡ 64 → HasDraft low.pid page page w
     second-words page r read long =
@@ -194,6 +194,7 @@ module _ (n : ℕ) (first second : OptGuard) (up low : ExclusiveGuard) (gs : Lis
           parts = but.parts;
           mine = but.mine;
           seen = but.seen;
+          releases = but.releases;
           notes = but.notes;
           log = but.log;
           out = but.out;

@@ -1,10 +1,10 @@
 -- A split that is refused: what it took goes back, and the pass holds what it held.
-use Rattle.std.proofs.Common.{[], ⊎_elim, ◌<◌, ◌∙◌, ◌≡◌, ◌≢◌, ◌⊎◌, ap, Bool, inl, inr, length, List, None, refl, Some, subst, sym, true, ℕ}
+use Rattle.std.proofs.Common.{[], ⊎_elim, ◌<◌, ◌∙◌, ◌∷◌, ◌≡◌, ◌≢◌, ◌⊎◌, ap, Bool, inl, inr, length, List, None, refl, Some, subst, sym, true, ℕ}
 use Rattle.std.proofs.lemmas.Bool.{cases_eq}
 use Rattle.vm_map.specs.declared.call.Said.{Said}
 use Rattle.vm_core.specs.Prelude.{Version}
 use Rattle.vm_owner.proofs.NumberLemmas.{without-none}
-use Rattle.vm_rule.specs.Prelude.{has, IsLocking, numbers, Seat, seat_of, without}
+use Rattle.vm_rule.specs.Prelude.{did_load, has, IsLocking, numbers, Seat, seat_of, without}
 use Rattle.vm_rule.specs.declared.view.Held.{Held}
 use Rattle.vm_rule.specs.declared.view.Place.TheVariants as places
 use Rattle.vm_rule.proofs.Entries.{append-none, each-map}
@@ -17,6 +17,7 @@ use Rattle.vm_guard.specs.{declared.deny.Deny.Deny, declared.given.Fresh.Fresh, 
 use Rattle.vm_guard.specs.declared.deny.Deny.TheVariants as denies
 use Rattle.vm_guard.specs.declared.given.Fresh.TheVariants as freshes
 use Rattle.vm_guard.specs.Guards.{IsHolding, IsLocked, IsReleased}
+use Rattle.vm_guard.proofs.{FreshAnswers.next-kept, FreshNone.nload-nil}
 use Rattle.vm_tree_laws.specs.Tied.{Tied}
 use Rattle.vm_tree_rule.specs.Leaves.{LeavesWord}
 use Rattle.vm_tree_write.specs.{declared.tries.TrySplit.TrySplit, Prepares.SaysDenied, Splits.KeepsLocksOnly}
@@ -62,6 +63,7 @@ quiet-keeps p done v w q = record {
   parts = q.steady.parts;
   mine = q.mine;
   seen = q.steady.seen;
+  releases = q.steady.releases;
   notes = ([], q.steady.notes ∙ sym (append-none v.notes));
   log = (done, q.steady.log);
   out = q.steady.out;
@@ -88,6 +90,7 @@ back-keeps p f version dirty v x y w l k r =
       parts = (r.elsewhere.steady.parts.0 ∙ k.parts.0 ∙ l.elsewhere.steady.parts.0, r.elsewhere.steady.parts.1 ∙ k.parts.1 ∙ l.elsewhere.steady.parts.1);
       mine = r.mine ∙ append-none y.mine ∙ k.mine ∙ l.mine;
       seen = starts-then v.seen y.seen w.seen (starts-then v.seen x.seen y.seen l.elsewhere.steady.seen k.seen) r.elsewhere.steady.seen;
+      releases = starts-then v.releases y.releases w.releases (starts-then v.releases x.releases y.releases l.elsewhere.steady.releases k.releases) r.elsewhere.steady.releases;
       notes = starts-then v.notes y.notes w.notes (starts-then v.notes x.notes y.notes ([], l.elsewhere.steady.notes ∙ sym (append-none v.notes)) k.notes) ([], r.elsewhere.steady.notes ∙ sym (append-none y.notes));
       log = starts-then v.log y.log w.log (starts-then v.log x.log y.log (l.done, l.elsewhere.steady.log) k.log) (r.done, r.elsewhere.steady.log);
       out = r.elsewhere.steady.out ∙ k.out ∙ l.elsewhere.steady.out;
@@ -118,6 +121,7 @@ nil-keeps pages done v w n next = record {
   parts = n.amid.parts;
   mine = n.amid.mine;
   seen = n.amid.seen;
+  releases = n.amid.releases;
   notes = ([], n.amid.notes ∙ sym (append-none v.notes));
   log = (done, n.amid.log);
   out = n.amid.out;
@@ -164,4 +168,4 @@ pub none-given : (n : ℕ) (before after : List ℕ) (answer : Fresh) (v w : Vie
 none-given n before after (freshes.Pages group) v w k s = absurd s
 none-given n before after (freshes.Again saw) v w k s = record { same = k.0; pages = numbers k.1.0 n; done = k.1.1.done; nil = k.1.1.spared.nil; next = k.1.1.spared.next }
 none-given n before after (freshes.Worn p) v w k s = record { same = k.0; pages = numbers k.1.0 n; done = k.1.1.done; nil = k.1.1.spared.nil; next = k.1.1.spared.next }
-none-given n before after (freshes.Full pages next need) v w k s = record { same = k.0; pages = []; done = k.1.done; nil = k.1.spared.nil; next = k.1.spared.next }
+none-given n before after (freshes.Full pages next need) v w k s = record { same = k.0; pages = []; done = did_load places.Next next ∷ []; nil = nload-nil [] next v w k.1.loaded; next = λ q e. next-kept next q v w k.1.loaded e }

@@ -56,6 +56,7 @@ module _ {X : Type 0} where
     parts = (g.parts.0 ∙ f.parts.0, g.parts.1 ∙ f.parts.1);
     mine = g.mine ∙ f.mine;
     seen = starts-then u.seen v.seen w.seen f.seen g.seen;
+    releases = starts-then u.releases v.releases w.releases f.releases g.releases;
     log = g.log ∙ ap (λ (t : List Did). t ++ g.done) f.log ∙ append_assoc u.log f.done g.done;
     notes = g.notes ∙ f.notes;
     frames = g.frames ∙ f.frames;
@@ -85,6 +86,7 @@ module _ {X : Type 0} where
     parts = d.elsewhere.steady.parts;
     mine = d.mine;
     seen = d.elsewhere.steady.seen;
+    releases = d.elsewhere.steady.releases;
     notes = d.elsewhere.steady.notes;
     log = r.drafts.log;
     frames = d.elsewhere.steady.frames.0;
@@ -132,6 +134,7 @@ module _ {X : Type 0} where
     parts = (r.beside.steady.parts.0 ∙ s.parts.0, r.beside.steady.parts.1 ∙ s.parts.1);
     mine = r.mine ∙ append-none y.mine ∙ s.mine;
     seen = starts-then v.seen y.seen w.seen s.seen r.beside.steady.seen;
+    releases = starts-then v.releases y.releases w.releases s.releases r.beside.steady.releases;
     log = starts-then v.log y.log w.log (s.done, s.log) (_, r.beside.steady.log);
     knows = λ q e l.
         let out = ap (has q) is ∙ e in

@@ -1,10 +1,11 @@
 -- The answer of a try of a split has its cause.
 use Rattle.std.proofs.Common.{[], ⊎_elim, ◌∙◌, ◌≡◌, ◌≢◌, ap, inl, inr, List, None, subst, sym, ℕ}
 use Rattle.vm_map.specs.declared.call.Said.{Said}
-use Rattle.vm_rule.specs.Prelude.{StartsWith}
+use Rattle.vm_rule.specs.Prelude.{NextTold, StartsWith}
 use Rattle.vm_rule.proofs.Entries.{append-none}
 use Rattle.vm_step.specs.Prelude.{NoneExpected, View}
 use Rattle.vm_step.specs.declared.saw.Saw.{Saw}
+use Rattle.vm_step.proofs.Asides.{starts-then}
 use Rattle.vm_exmap.specs.declared.interface.Alloc.{Alloc}
 use Rattle.vm_exmap.specs.declared.interface.Alloc.TheVariants as allocs
 use Rattle.vm_guard.specs.{declared.deny.Deny.Deny, declared.given.Fresh.Fresh, declared.opt.OptGuard.OptGuard, Guards.IsValid}
@@ -19,11 +20,12 @@ use Rattle.vm_tree_rule.proofs.Entering.{opened-reads}
 use Rattle.vm_tree_rule.proofs.Readings.{denied-reads, reads-then, valid-reads}
 use Rattle.vm_tree_write.specs.{declared.tries.TrySplit.TrySplit, Splits.KeepsLocksOnly, Tries.IsEnded.below, Tries.IsEnded.root}
 use Rattle.vm_tree_write.specs.declared.tries.TrySplit.TheVariants as tries
-use Rattle.vm_tree_write.specs.Prepares.{IsNotLocked, IsRefusedPages, IsShort, SaysDenied, SaysRefused, SaysShort}
+use Rattle.vm_tree_write.specs.Prepares.{IsNotLocked, IsRefusedPages, IsShort, IsUntaken, SaysDenied, SaysRefused, SaysShort}
+use Rattle.vm_tree_write.specs.Prepares.IsUntaken.{short, unclaimed, unlocked}
 use Rattle.vm_tree_write.specs.Tries.{IsBackedBy, IsCause, IsEnded, IsEndOf, IsTrySplit, IsUnsplit}
-use Rattle.vm_tree_write.specs.Tries.IsUnsplit.{short, unclaimed, unlocked}
+use Rattle.vm_tree_write.specs.Tries.IsUnsplit.{full, untaken}
 use Rattle.vm_tree_write.proofs.Backing.{backed-lock, backed-pages, backed-short, backed-shown, shown-refused, shown-wider}
-use Rattle.vm_tree_write.proofs.Framing.{keeps-then}
+use Rattle.vm_tree_write.proofs.{Framing.keeps-then, Roomy.roomy-keeps, Roomy.roomy-leaves}
 
 pub reads-keep : (v w : View Said) → ReadsOn v w → KeepsLocksOnly v w
 reads-keep v w r = record {
@@ -31,6 +33,7 @@ reads-keep v w r = record {
   parts = r.0.parts;
   mine = r.1;
   seen = r.0.seen;
+  releases = r.0.releases;
   notes = ([], r.0.notes ∙ sym (append-none v.notes));
   log = (r.0.done, r.0.log);
   out = r.0.out;
@@ -94,10 +97,14 @@ of-refused (freshes.Again saw) answer is = OfFull.was_again saw is
 of-refused (freshes.Worn p) answer is = OfFull.was_worn p is
 of-refused (freshes.Full pages next need) answer is = OfFull.was_full pages next need is
 
+of-untaken : (n : ℕ) (a b : OptGuard) (v w : View Said) (answer : TrySplit) → IsUntaken n a b v w answer → OfFull answer
+of-untaken n a b v w answer (short refused h is) = of-short refused answer is
+of-untaken n a b v w answer (unlocked deny h is) = of-denied deny answer is
+of-untaken n a b v w answer (unclaimed refused h is) = of-refused refused answer is
+
 of-unsplit : (n : ℕ) (a b : OptGuard) (v w : View Said) (answer : TrySplit) → IsUnsplit n a b v w answer → OfFull answer
-of-unsplit n a b v w answer (short refused h is) = of-short refused answer is
-of-unsplit n a b v w answer (unlocked deny h is) = of-denied deny answer is
-of-unsplit n a b v w answer (unclaimed refused h is) = of-refused refused answer is
+of-unsplit n a b v w answer (full pages next need h is) = OfFull.was_full pages next need is
+of-unsplit n a b v w answer (untaken next roomy room h) = of-untaken n a b roomy w answer h
 
 of-end : (n : ℕ) (a b : OptGuard) (v w : View Said) (answer : TrySplit) → IsEndOf n a b v w answer → OfFull answer
 of-end n a b v w answer e = ⊎_elim (λ s. OfFull.was_split s.0) (λ u. of-unsplit n a b v w answer u) e
@@ -128,10 +135,18 @@ refused-again (freshes.Again s) saw is = ap (λ (t : Saw). freshes.Again t) (aga
 refused-again (freshes.Worn p) saw is = absurd (cc)
 refused-again (freshes.Full pages next need) saw is = absurd (cc)
 
+-- the next word was loaded before
+backed-untaken : (n : ℕ) (a b : OptGuard) (saw : Saw) (next : ℕ) (u v x w : View Said) → StartsWith v.log u.log → IsOpened u a.pid a.word a.frame v → IsOpened u b.pid b.word b.frame v → b.pid ≢ a.pid → NextTold next v x → IsUntaken n a b x w (tries.Again saw) → IsBackedBy u saw w
+backed-untaken n a b saw next u v x w log oa ob apart t (short refused h is) =
+    backed-short n saw u x w (starts-then u.log v.log x.log log (roomy-keeps next v x t).log) (subst (λ (r : Alloc). IsShort n r x w) (short-again refused saw is) h)
+backed-untaken n a b saw next u v x w log oa ob apart t (unlocked deny h is) =
+    backed-lock a b saw u v x w oa ob apart (roomy-leaves next v x t) (subst (λ (d : Deny). IsNotLocked a b d x w) (denied-again deny saw is) h)
+backed-untaken n a b saw next u v x w log oa ob apart t (unclaimed refused h is) =
+    backed-pages n a b saw u x w (starts-then u.log v.log x.log log (roomy-keeps next v x t).log) (subst (λ (r : Fresh). IsRefusedPages n a b r x w) (refused-again refused saw is) h)
+
 backed-unsplit : (n : ℕ) (a b : OptGuard) (saw : Saw) (u v w : View Said) → StartsWith v.log u.log → IsOpened u a.pid a.word a.frame v → IsOpened u b.pid b.word b.frame v → b.pid ≢ a.pid → IsUnsplit n a b v w (tries.Again saw) → IsBackedBy u saw w
-backed-unsplit n a b saw u v w log oa ob apart (short refused h is) = backed-short n saw u v w log (subst (λ (r : Alloc). IsShort n r v w) (short-again refused saw is) h)
-backed-unsplit n a b saw u v w log oa ob apart (unlocked deny h is) = backed-lock a b saw u v w oa ob apart (subst (λ (d : Deny). IsNotLocked a b d v w) (denied-again deny saw is) h)
-backed-unsplit n a b saw u v w log oa ob apart (unclaimed refused h is) = backed-pages n a b saw u v w log (subst (λ (r : Fresh). IsRefusedPages n a b r v w) (refused-again refused saw is) h)
+backed-unsplit n a b saw u v w log oa ob apart (full pages next need h is) = let no : tries.Again saw ≡ tries.Full pages next need = is in absurd (cc)
+backed-unsplit n a b saw u v w log oa ob apart (untaken next roomy room h) = backed-untaken n a b saw next u v roomy w log oa ob apart room.loaded h
 
 backed-end : (n : ℕ) (a b : OptGuard) (saw : Saw) (u v w : View Said) → ReadsOn u v → IsOpened u a.pid a.word a.frame v → IsOpened u b.pid b.word b.frame v → b.pid ≢ a.pid → IsEndOf n a b v w (tries.Again saw) → IsBackedBy u saw w
 backed-end n a b saw u v w r oa ob apart e =

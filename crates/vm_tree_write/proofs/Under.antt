@@ -21,6 +21,14 @@ use Rattle.vm_tree_rule.proofs.Downward.{inner-here}
 use Rattle.vm_tree_read.proofs.Answering.{words-are}
 use Rattle.vm_tree_write.specs.Splits.{HasDraft, IsGroupDone}
 
+-- what a page's ties ask for is the same where the ties are
+pub awaits-same : (p word level key : ℕ) (v w : View Said) → w.start ≡ v.start → w.ties ≡ v.ties → Awaits v p word level key → Awaits w p word level key
+awaits-same p word level key v w start ties awaits tells words all =
+    subst (λ (o : Origin). IsReached (length o.contents) p words level key) (sym start)
+    (awaits (ap (λ (o : Origin). o.tells) (sym start) ∙ tells) words
+    (subst (λ (o : Origin). Each (λ (t : Tie). t.page ≡ p → t.version ≡ version_of word → Tied (began_of o) t.of t.words p words) v.ties) start
+    (subst (λ (l : List Tie). Each (λ (t : Tie). t.page ≡ p → t.version ≡ version_of word → Tied (began_of w.start) t.of t.words p words) l) ties all)))
+
 -- ---- frames that move leave what was read
 
 module _ (done : List Did) (v w : View Said) (m : MovesFrames done v w) where
@@ -36,13 +44,6 @@ module _ (done : List Did) (v w : View Said) (m : MovesFrames done v w) where
 
   pub read-moved : (p : ℕ) (page : List ℕ) → HasRead v p page → HasRead w p page
   read-moved p page k = (k.0, ap (λ l. put_at [] l p) m.pages.1 ∙ k.1)
-
-  pub awaits-moved : (p word level key : ℕ) → Awaits v p word level key → Awaits w p word level key
-  awaits-moved p word level key awaits tells words all =
-      subst (λ (o : Origin). IsReached (length o.contents) p words level key) (sym m.start)
-      (awaits (ap (λ (o : Origin). o.tells) (sym m.start) ∙ tells) words
-      (subst (λ (o : Origin). Each (λ (t : Tie). t.page ≡ p → t.version ≡ version_of word → Tied (began_of o) t.of t.words p words) v.ties) m.start
-      (subst (λ (l : List Tie). Each (λ (t : Tie). t.page ≡ p → t.version ≡ version_of word → Tied (began_of w.start) t.of t.words p words) l) m.reads.1 all)))
 
 -- ---- a lock proves what was read
 
@@ -125,6 +126,7 @@ pub record KeepsBut (pages : List ℕ) (v w : View Said) : Type 0 where
   pub parts : (w.used ≡ v.used) × (w.fresh ≡ v.fresh)
   pub mine : w.mine ≡ v.mine
   pub seen : StartsWith w.seen v.seen
+  pub releases : StartsWith w.releases v.releases
   pub notes : StartsWith w.notes v.notes
   pub log : StartsWith w.log v.log
   pub out : w.out ≡ v.out
@@ -139,6 +141,7 @@ but-then pages u v w f g = record {
   parts = (g.parts.0 ∙ f.parts.0, g.parts.1 ∙ f.parts.1);
   mine = g.mine ∙ f.mine;
   seen = starts-then u.seen v.seen w.seen f.seen g.seen;
+  releases = starts-then u.releases v.releases w.releases f.releases g.releases;
   notes = starts-then u.notes v.notes w.notes f.notes g.notes;
   log = starts-then u.log v.log w.log f.log g.log;
   out = g.out ∙ f.out;
@@ -154,6 +157,7 @@ moves-but pages done v w m = record {
   parts = m.parts;
   mine = m.mine;
   seen = m.seen;
+  releases = m.releases;
   notes = ([], m.notes ∙ sym (append-none v.notes));
   log = (done, m.log);
   out = m.out;
@@ -169,6 +173,7 @@ locked-but pages p f version dirty v w among l = record {
   parts = l.elsewhere.steady.parts;
   mine = l.mine;
   seen = l.elsewhere.steady.seen;
+  releases = l.elsewhere.steady.releases;
   notes = ([], l.elsewhere.steady.notes ∙ sym (append-none v.notes));
   log = (l.done, l.elsewhere.steady.log);
   out = l.elsewhere.steady.out;
@@ -184,6 +189,7 @@ fresh-but pages fresh x n gs before after v w within f = record {
   parts = f.amid.parts;
   mine = f.amid.mine;
   seen = f.amid.seen;
+  releases = f.amid.releases;
   notes = ([], f.amid.notes ∙ sym (append-none v.notes));
   log = (f.done, f.amid.log);
   out = f.amid.out;
@@ -194,7 +200,7 @@ fresh-but pages fresh x n gs before after v w within f = record {
 }
 
 pub done-but : (pages : List ℕ) (v w : View Said) → IsGroupDone pages v w → KeepsBut pages v w
-done-but pages v w d = record { start = d.start; parts = d.parts; mine = d.mine; seen = d.seen; notes = ([], d.notes ∙ sym (append-none v.notes)); log = d.log; out = d.out; pending = d.pending; holds = d.holds; knows = d.knows; current = λ _. d.current }
+done-but pages v w d = record { start = d.start; parts = d.parts; mine = d.mine; seen = d.seen; releases = d.releases; notes = ([], d.notes ∙ sym (append-none v.notes)); log = d.log; out = d.out; pending = d.pending; holds = d.holds; knows = d.knows; current = λ _. d.current }
 
 -- what the pass has of a page that it locked, but for that lock
 pub record Was (q : ℕ) (v z : View Said) : Type 0 where

@@ -1,5 +1,5 @@
--- What a split has taken before it writes: frames, two pages that are locked at the versions read, and fresh pages; and what is left where one of
--- these is refused.
+-- What a split has taken before it writes: frames, two pages that are locked at the versions read, and fresh pages, for which the next word left
+-- room; and what is left where one of these is refused.
 use Rattle.std.specs.Prelude.{◌<◌, ◌≡◌, Bool, length, List, None, ℕ}
 use Rattle.vm_map.specs.declared.call.Said.{Said}
 use Rattle.vm_core.specs.Prelude.{version_of}
@@ -8,7 +8,7 @@ use Rattle.vm_step.specs.Prelude.{Did, IsAlone, KnowsUnheld, UnlockedExpected, V
 use Rattle.vm_exmap.specs.{declared.interface.Alloc.Alloc, Frames.MovesFrames, Returns.IsFreed, Walks.IsAlloc}
 use Rattle.vm_exmap.specs.declared.interface.Alloc.TheVariants as allocs
 use Rattle.vm_guard.specs.{declared.deny.Deny.Deny, declared.exclusive.ExclusiveGuard.ExclusiveGuard, declared.given.Fresh.Fresh}
-use Rattle.vm_guard.specs.{declared.opt.OptGuard.OptGuard, Fresh.AreFresh, Fresh.IsFreshAnswer, Guards.IsLocked, Guards.IsReleased}
+use Rattle.vm_guard.specs.{declared.opt.OptGuard.OptGuard, Fresh.AreFresh, Fresh.HasPagesFor, Fresh.IsFreshAnswer, Guards.IsLocked, Guards.IsReleased}
 use Rattle.vm_guard.specs.declared.deny.Deny.TheVariants as denies
 use Rattle.vm_guard.specs.declared.given.Fresh.TheVariants as freshes
 use Rattle.vm_guard.specs.Denied.{AgainOrWorn, IsDenied, KeptWord}
@@ -28,7 +28,7 @@ pub record AreLocked (first second : OptGuard) (up low : ExclusiveGuard) (v w : 
   pub low_locked : IsLocked Tied second.pid low.frame low.version low.dirty between w
 
 -- frames were taken, both pages were locked, and n pages were claimed, those from x on
-pub record IsPrepared (n : ℕ) (first second : OptGuard) (up low : ExclusiveGuard) (pages : List ExclusiveGuard) (v w : View Said) : Type 0 where
+pub record AreTaken (n : ℕ) (first second : OptGuard) (up low : ExclusiveGuard) (pages : List ExclusiveGuard) (v w : View Said) : Type 0 where
   pub asked : View Said
   pub done : List Did
   pub moves : MovesFrames done v asked
@@ -38,6 +38,13 @@ pub record IsPrepared (n : ℕ) (first second : OptGuard) (up low : ExclusiveGua
   pub before : List ℕ
   pub after : List ℕ
   pub fresh : AreFresh (numbers x n) x n pages before after locked w
+
+-- the next word was loaded, which left room for n pages, and then all was taken
+pub record IsPrepared (n : ℕ) (first second : OptGuard) (up low : ExclusiveGuard) (pages : List ExclusiveGuard) (v w : View Said) : Type 0 where
+  pub next : ℕ
+  pub roomy : View Said
+  pub room : HasPagesFor n next v roomy
+  pub taken : AreTaken n first second up low pages roomy w
 
 -- a pass that is alone knows that both pages are free, at the words of their guards
 pub record KnowsBoth (first second : OptGuard) (v : View Said) : Type 0 where
@@ -129,6 +136,13 @@ SaysRefused (freshes.Pages group) answer = ⊥
 SaysRefused (freshes.Again saw) answer = answer ≡ tries.Again saw
 SaysRefused (freshes.Worn p) answer = answer ≡ tries.Worn p
 SaysRefused (freshes.Full pages next need) answer = answer ≡ tries.Full pages next need
+
+-- Why frames, locks and n pages were not all taken: there were no frames for the pages; one of the two could not be locked; or there were no fresh
+-- pages by then
+pub data IsUntaken (n : ℕ) (first second : OptGuard) (v w : View Said) (answer : TrySplit) : Type 0 where
+  short : (refused : Alloc) → IsShort n refused v w → SaysShort refused answer → IsUntaken n first second v w answer
+  unlocked : (deny : Deny) → IsNotLocked first second deny v w → SaysDenied deny answer → IsUntaken n first second v w answer
+  unclaimed : (refused : Fresh) → IsRefusedPages n first second refused v w → SaysRefused refused answer → IsUntaken n first second v w answer
 
 -- ---- what a part of the preparation answers where it was refused
 

@@ -37,6 +37,7 @@ module _ {X : Type 0} where
     pub parts : (w.used ≡ v.used) × (w.fresh ≡ v.fresh)
     pub mine : w.mine ≡ v.mine
     pub seen : StartsWith w.seen v.seen
+    pub releases : StartsWith w.releases v.releases
     pub notes : w.notes ≡ v.notes
     pub frames : w.frames ≡ v.frames
     pub out : w.out ≡ v.out
@@ -51,6 +52,7 @@ module _ {X : Type 0} where
     pub parts : (w.used ≡ v.used) × (w.fresh ≡ v.fresh)
     pub mine : w.mine ≡ v.mine
     pub seen : StartsWith w.seen v.seen
+    pub releases : StartsWith w.releases v.releases
     pub notes : w.notes ≡ v.notes
     pub log : StartsWith w.log v.log
     pub frames : w.frames ≡ v.frames
@@ -121,6 +123,7 @@ pub record KeepsLocksOnly (v w : View Said) : Type 0 where
   pub parts : (w.used ≡ v.used) × (w.fresh ≡ v.fresh)
   pub mine : w.mine ≡ v.mine
   pub seen : StartsWith w.seen v.seen
+  pub releases : StartsWith w.releases v.releases
   pub notes : StartsWith w.notes v.notes
   pub log : StartsWith w.log v.log
   pub out : w.out ≡ v.out

@@ -3,15 +3,15 @@ use Rattle.std.specs.Prelude.{◌++◌, ◌∷◌, ◌≡◌, ◌⊎◌, List, N
 use Rattle.vm_map.specs.declared.call.Said.{Said}
 use Rattle.vm_step.specs.Prelude.{Did, UnlockedExpected, View}
 use Rattle.vm_step.specs.declared.saw.Saw.{Saw}
-use Rattle.vm_exmap.specs.{declared.interface.Alloc.Alloc, Frames.MovesFrames}
-use Rattle.vm_guard.specs.{declared.deny.Deny.Deny, declared.exclusive.ExclusiveGuard.ExclusiveGuard, declared.given.Fresh.Fresh}
-use Rattle.vm_guard.specs.{declared.opt.OptGuard.OptGuard, Groups.pids_of, Guards.IsValid}
+use Rattle.vm_exmap.specs.Frames.{MovesFrames}
+use Rattle.vm_guard.specs.{declared.exclusive.ExclusiveGuard.ExclusiveGuard, declared.opt.OptGuard.OptGuard, Fresh.HasPagesFor, Fresh.IsFull}
+use Rattle.vm_guard.specs.{Groups.pids_of, Guards.IsValid}
 use Rattle.vm_tree_laws.specs.Tied.{Tied}
 use Rattle.vm_tree_rule.specs.{Leaves.ReadsOn, Shown.IsAgain, Shown.IsSeen, Turns.IsAstray, Turns.IsNeeded}
 use Rattle.vm_tree_rule.specs.Seeks.{IsFullBelow, IsRoomy, IsRootFull}
 use Rattle.vm_tree_write.specs.{declared.tries.TrySplit.TrySplit, Splits.IsSplitUp, Splits.KeepsLocksOnly}
 use Rattle.vm_tree_write.specs.declared.tries.TrySplit.TheVariants as tries
-use Rattle.vm_tree_write.specs.Prepares.{IsNotLocked, IsPrepared, IsRefusedPages, IsShort, SaysDenied, SaysRefused, SaysShort}
+use Rattle.vm_tree_write.specs.Prepares.{IsPrepared, IsUntaken}
 
 -- the pages were prepared, and then released in a group, which splits the second one; what frames were left went back
 pub record HasSplit (n : ℕ) (first second : OptGuard) (v w : View Said) : Type 0 where
@@ -33,12 +33,12 @@ pub record MetNoFullNode (v : View Said) (key : ℕ) (w : View Said) : Type 0 wh
   pub roomy : IsRoomy v key leaf loaded found
   pub valid : IsValid Tied leaf.pid leaf.word leaf.frame None found w
 
--- Why nothing was split for which n fresh pages and these two pages were needed: there were no frames for the fresh ones; one of the two could not
--- be locked; or there were no fresh pages
-pub data IsUnsplit (n : ℕ) (first second : OptGuard) (v : View Said) (w : View Said) (answer : TrySplit) : Type 0 where
-  short : (refused : Alloc) → IsShort n refused v w → SaysShort refused answer → IsUnsplit n first second v w answer
-  unlocked : (deny : Deny) → IsNotLocked first second deny v w → SaysDenied deny answer → IsUnsplit n first second v w answer
-  unclaimed : (refused : Fresh) → IsRefusedPages n first second refused v w → SaysRefused refused answer → IsUnsplit n first second v w answer
+-- Why nothing was split for which n fresh pages and these two pages were needed: the next word, which was loaded first, left too few pages, and then
+-- that load was all that was done; or it left room, and what is needed was not all taken
+pub data IsUnsplit (n : ℕ) (first second : OptGuard) (v w : View Said) (answer : TrySplit) : Type 0 where
+  full : (pages next need : ℕ) → IsFull n pages next need v w → answer ≡ tries.Full pages next need → IsUnsplit n first second v w answer
+  untaken :
+      (next : ℕ) (roomy : View Said) → HasPagesFor n next v roomy → IsUntaken n first second roomy w answer → IsUnsplit n first second v w answer
 
 -- what came of a full node, the second page: it was split, or the answer tells why not
 abbrev pub IsEndOf : ℕ → OptGuard → OptGuard → View Said → View Said → TrySplit → Type 0

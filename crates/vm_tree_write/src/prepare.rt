@@ -1,5 +1,5 @@
 // What a split takes before it writes: frames, the locks of two pages at the versions read, and fresh pages. Where one of them is refused the
-// others are given back.
+// others are given back. A file that has too few pages left is found so before anything is taken, so that such a split leaves no trace.
 ghost use Rattle.std.specs.Prelude.{◌++◌, ◌≡◌, ◌≢◌, ◌⊎◌, false, IfErr, IfOk, length, None};
 ghost use Rattle.vm_rule.specs.Prelude.{draft_of, has, last_of};
 ghost use Rattle.vm_step.specs.Prelude.{AreHeld, IsAlone, IsReady, IsSamePass, view};
@@ -7,12 +7,13 @@ ghost use Rattle.vm_exmap.specs.Frames.{MovesFrames};
 ghost use Rattle.vm_guard.specs.{Denied.AgainOrWorn, Groups.guards_of, Guards.IsHolding, Guards.IsReading};
 ghost use Rattle.vm_tree_read.specs.Waiting.{LosesNone};
 ghost use Rattle.vm_tree_write.specs.{Splits.KeepsLocksOnly, Tries.IsFinalSplit, Tries.IsUnsplit, Writes.SaysWorn};
-ghost use Rattle.vm_tree_write.specs.Prepares.{AreLocked, GivesUpBoth, IsPrepared, KnowsBoth, KnowsToSplit, LacksFrames, LacksLocks, LacksSecond};
+ghost use Rattle.vm_tree_write.specs.Prepares.{AreLocked, AreTaken, GivesUpBoth, IsPrepared, IsUntaken, KnowsBoth, KnowsToSplit, LacksFrames};
+ghost use Rattle.vm_tree_write.specs.Prepares.{LacksLocks, LacksSecond};
 
 use crate::tries::TrySplit;
 use vm_block::Block;
 use vm_exmap::{Alloc, Interface};
-use vm_guard::{Deny, ExclusiveGuard, Fresh, Group, OptGuard, fresh};
+use vm_guard::{Deny, ExclusiveGuard, Fresh, Group, NoRoom, OptGuard, fresh, room_for};
 use vm_rule::words::{Pass, Words};
 use vm_step::Batch;
 use vm_tree_rule::Tree;
@@ -176,7 +177,7 @@ fn give_up<B: Block>(
 }
 
 /// Takes `n` frames (1 or 2), locks two pages at the versions read, and claims `n` fresh pages; or gives back what it took.
-pub fn prepare<B: Block>(
+fn take_all<B: Block>(
     words: &Words<Tree, B>,
     pass: &mut Pass<Tree>,
     iface: &mut Interface,
@@ -195,10 +196,10 @@ pub fn prepare<B: Block>(
     ensures ready { IsReady words.now.table.shared.key B.tells words.now.table.shared.table_id pass.new }
     ensures iface { (iface.new.home ≡ iface.old.home) × (iface.new.cap ≡ iface.old.cap) }
     ensures held { IfOk result (λ all. AreHeld (iface.new.frames ++ all.frames) (view pass.new)) }
-    ensures ok { IfOk result (λ all. IsPrepared n first second all.up all.low (guards_of all.pages) (view pass.old) (view pass.new)) }
+    ensures ok { IfOk result (λ all. AreTaken n first second all.up all.low (guards_of all.pages) (view pass.old) (view pass.new)) }
     ensures lost { IfOk result (λ all. LosesNone iface.old.frames (view pass.old) (iface.new.frames ++ all.frames) (view pass.new)) }
     ensures lost_none { IfErr result (λ _. LosesNone iface.old.frames (view pass.old) iface.new.frames (view pass.new)) }
-    ensures err { IfErr result (λ answer. AreHeld iface.new.frames (view pass.new) × KeepsLocksOnly (view pass.old) (view pass.new) × IsUnsplit n first second (view pass.old) (view pass.new) answer) }
+    ensures err { IfErr result (λ answer. AreHeld iface.new.frames (view pass.new) × KeepsLocksOnly (view pass.old) (view pass.new) × IsUntaken n first second (view pass.old) (view pass.new) answer) }
     ensures sure { KnowsToSplit first second (view pass.old) → IfErr result IsFinalSplit }
 {
     let mut frames = match frames_for(words, pass, iface, n) {
@@ -232,5 +233,38 @@ pub fn prepare<B: Block>(
             give_up(words, pass, iface, up, low, frames);
             Err(TrySplit::Full { pages, next, need })
         }
+    }
+}
+
+/// Takes what a split needs for which `n` fresh pages (1 or 2) are claimed, if so many are left; else it locks nothing and takes nothing, and
+/// answers Full.
+pub fn prepare<B: Block>(
+    words: &Words<Tree, B>,
+    pass: &mut Pass<Tree>,
+    iface: &mut Interface,
+    first: OptGuard,
+    second: OptGuard,
+    n: u32,
+) -> Result<Prepared, TrySplit>
+    requires ready { IsReady words.now.table.shared.key B.tells words.now.table.shared.table_id pass.old }
+    requires home { (view pass.old).out ≡ None }
+    requires frames { AreHeld iface.old.frames (view pass.old) }
+    requires count { (n ≡ 1) ⊎ (n ≡ 2) }
+    requires apart { second.pid ≢ first.pid }
+    requires first { IsReading first.pid first.word first.frame (view pass.old) }
+    requires second { IsReading second.pid second.word second.frame (view pass.old) }
+    ensures pass { IsSamePass pass.old pass.new }
+    ensures ready { IsReady words.now.table.shared.key B.tells words.now.table.shared.table_id pass.new }
+    ensures iface { (iface.new.home ≡ iface.old.home) × (iface.new.cap ≡ iface.old.cap) }
+    ensures held { IfOk result (λ all. AreHeld (iface.new.frames ++ all.frames) (view pass.new)) }
+    ensures ok { IfOk result (λ all. IsPrepared n first second all.up all.low (guards_of all.pages) (view pass.old) (view pass.new)) }
+    ensures lost { IfOk result (λ all. LosesNone iface.old.frames (view pass.old) (iface.new.frames ++ all.frames) (view pass.new)) }
+    ensures lost_none { IfErr result (λ _. LosesNone iface.old.frames (view pass.old) iface.new.frames (view pass.new)) }
+    ensures err { IfErr result (λ answer. AreHeld iface.new.frames (view pass.new) × KeepsLocksOnly (view pass.old) (view pass.new) × IsUnsplit n first second (view pass.old) (view pass.new) answer) }
+    ensures sure { KnowsToSplit first second (view pass.old) → IfErr result IsFinalSplit }
+{
+    match room_for(words, pass, n) {
+        Ok(_next) => take_all(words, pass, iface, first, second, n),
+        Err(NoRoom { pages, next, need }) => Err(TrySplit::Full { pages, next, need }),
     }
 }

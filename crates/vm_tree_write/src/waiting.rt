@@ -2,6 +2,7 @@
 ghost use Rattle.std.specs.Prelude.{◌<◌, ◌≡◌, ◌≤◌, IfErr, IfOk, None};
 ghost use Rattle.vm_map.specs.declared.call.Call.TheVariants.{Del, Put};
 ghost use Rattle.vm_step.specs.Prelude.{AreHeld, IsReady, IsSamePass, view};
+ghost use Rattle.vm_tree_read.specs.Reads.{IsOfKind};
 ghost use Rattle.vm_tree_read.specs.Waiting.{LosesNone, Waits};
 ghost use Rattle.vm_tree_write.specs.Splits.{KeepsLocksOnly};
 ghost use Rattle.vm_tree_write.specs.Waiting.{IsDelRound, IsNoRoomFault, IsPutFaulted, IsPutRound, IsRoomFault, IsWriteFaulted, IsWriteReplied};
@@ -37,6 +38,7 @@ pub fn del<R: Wait, B: Block>(
     ensures iface { (iface.new.home ≡ iface.old.home) × (iface.new.cap ≡ iface.old.cap) }
     ensures lost { LosesNone iface.old.frames (view pass.old) iface.new.frames (view pass.new) }
     ensures ok { IfOk result (λ reply. IsWriteReplied Waits IsDelRound (record { call = Del key; reply = reply }) (view pass.old) (view pass.new)) }
+    ensures kind { IfOk result (λ reply. IsOfKind (Del key) reply) }
     ensures err { IfErr result (λ fault. IsWriteFaulted Waits IsDelRound HasKeyIn key fault (view pass.old) (view pass.new)) }
 {
     let backoff = Backoff::new();
@@ -117,6 +119,7 @@ pub fn put<R: Wait, B: Block>(
     ensures lost { LosesNone iface.old.frames (view pass.old) iface.new.frames (view pass.new) }
     ensures ok { IfOk result (λ reply. IsWriteReplied KeepsLocksOnly IsPutRound (record { call = Put key value; reply = reply })
         (view pass.old) (view pass.new)) }
+    ensures kind { IfOk result (λ reply. IsOfKind (Put key value) reply) }
     ensures err { IfErr result (λ fault. IsPutFaulted key fault (view pass.old) (view pass.new)) }
 {
     let backoff = Backoff::new();

@@ -9,17 +9,17 @@ use Rattle.vm_tree_write.proofs.tries.split_below.Goals as goal
 pub unreachable-requires : goal.unreachable-requires
 unreachable-requires g c =
     let p = c.in-Ok.ensures.ok in
-    some-taken p.x (guards_of c.in-Ok.all.pages) p.fresh.guards (c.take_last.ensures.none c.in_default.is).0
+    some-taken p.taken.x (guards_of c.in-Ok.all.pages) p.taken.fresh.guards (c.take_last.ensures.none c.in_default.is).0
 
 pub end-requires : goal.end-requires
 end-requires g c =
     let p = c.in-Ok.ensures.ok in
-    (taken-one p.x (guards_of c.in-Ok.all.pages) (guards_of c.take_last.new.self) c.in-Some.right p.fresh.guards c.in-Some.ensures.some).0
+    (taken-one p.taken.x (guards_of c.in-Ok.all.pages) (guards_of c.take_last.new.self) c.in-Some.right p.taken.fresh.guards c.in-Some.ensures.some).0
 
 pub write_split-requires-clause-can : goal.write_split-requires-clause-can
 write_split-requires-clause-can g c =
     let p = c.in-Ok.ensures.ok in
-    let one = (taken-one p.x (guards_of c.in-Ok.all.pages) (guards_of c.take_last.new.self) c.in-Some.right p.fresh.guards c.in-Some.ensures.some).1 in
+    let one = (taken-one p.taken.x (guards_of c.in-Ok.all.pages) (guards_of c.take_last.new.self) c.in-Some.right p.taken.fresh.guards c.in-Some.ensures.some).1 in
     let met = c.requires.met in
     can-split c.args.parent c.args.node c.in-Ok.all.up c.in-Ok.all.low c.in-Some.right (guards_of c.in-Ok.all.pages) (view c.args.pass.now) (view c.prepare.new.pass) p one met.0 met.1 c.args.over.now c.args.page.now met.2 c.requires.size
     c.requires.home
@@ -32,7 +32,7 @@ free-requires-clause-frames g c =
 pub returns-clause-keeps : goal.returns-clause-keeps
 returns-clause-keeps g c =
     let p = c.in-Ok.ensures.ok in
-    let one = (taken-one p.x (guards_of c.in-Ok.all.pages) (guards_of c.take_last.new.self) c.in-Some.right p.fresh.guards c.in-Some.ensures.some).1 in
+    let one = (taken-one p.taken.x (guards_of c.in-Ok.all.pages) (guards_of c.take_last.new.self) c.in-Some.right p.taken.fresh.guards c.in-Some.ensures.some).1 in
     let met = c.requires.met in
     let back = c.free.ensures.freed.back in
     (below-ended c.args.parent c.args.node c.in-Ok.all.up c.in-Ok.all.low c.in-Some.right (guards_of c.in-Ok.all.pages) (view c.args.pass.now) (view c.prepare.new.pass) p one met.0 met.1 c.args.over.now c.args.page.now met.2 c.requires.size
@@ -41,7 +41,7 @@ returns-clause-keeps g c =
 pub returns-clause-cause : goal.returns-clause-cause
 returns-clause-cause g c =
     let p = c.in-Ok.ensures.ok in
-    let one = (taken-one p.x (guards_of c.in-Ok.all.pages) (guards_of c.take_last.new.self) c.in-Some.right p.fresh.guards c.in-Some.ensures.some).1 in
+    let one = (taken-one p.taken.x (guards_of c.in-Ok.all.pages) (guards_of c.take_last.new.self) c.in-Some.right p.taken.fresh.guards c.in-Some.ensures.some).1 in
     let met = c.requires.met in
     let back = c.free.ensures.freed.back in
     inl (

@@ -11,14 +11,14 @@ use Rattle.vm_tree_write.proofs.tries.split_root.Goals as goal
 pub unreachable-requires : goal.unreachable-requires
 unreachable-requires g c =
     let p = c.in-Ok.ensures.ok in
-    let long = two-many p.x (guards_of c.in-Ok.all.pages) p.fresh.guards in
+    let long = two-many p.taken.x (guards_of c.in-Ok.all.pages) p.taken.fresh.guards in
     let none = ap length (c.take_last.ensures.none c.in_default.is).0 in
     absurd (omega (arith, long, none))
 
 pub unreachable-requires-in_default-take_last : goal.unreachable-requires-in_default-take_last
 unreachable-requires-in_default-take_last g c =
     let p = c.in-Ok.ensures.ok in
-    let long = two-many p.x (guards_of c.in-Ok.all.pages) p.fresh.guards in
+    let long = two-many p.taken.x (guards_of c.in-Ok.all.pages) p.taken.fresh.guards in
     let one = ap length c.in-Some.ensures.some ∙ length-append (guards_of c.take_last.new.self) (c.in-Some.top ∷ []) in
     let none = ap length (c.take_last-2.ensures.none c.in_default-take_last.is).0 in
     absurd (omega (arith, long, one, none))
@@ -26,12 +26,12 @@ unreachable-requires-in_default-take_last g c =
 pub end-requires : goal.end-requires
 end-requires g c =
     let p = c.in-Ok.ensures.ok in
-    (taken-both p.x (guards_of c.in-Ok.all.pages) (guards_of c.take_last.new.self) (guards_of c.take_last-2.new.self) c.in-Some-take_last.right c.in-Some.top c.in-Some.ensures.some c.in-Some-take_last.ensures.some p.fresh.guards).0
+    (taken-both p.taken.x (guards_of c.in-Ok.all.pages) (guards_of c.take_last.new.self) (guards_of c.take_last-2.new.self) c.in-Some-take_last.right c.in-Some.top c.in-Some.ensures.some c.in-Some-take_last.ensures.some p.taken.fresh.guards).0
 
 pub write_root-requires-clause-can : goal.write_root-requires-clause-can
 write_root-requires-clause-can g c =
     let p = c.in-Ok.ensures.ok in
-    let two = (taken-both p.x (guards_of c.in-Ok.all.pages) (guards_of c.take_last.new.self) (guards_of c.take_last-2.new.self) c.in-Some-take_last.right c.in-Some.top c.in-Some.ensures.some c.in-Some-take_last.ensures.some p.fresh.guards).1 in
+    let two = (taken-both p.taken.x (guards_of c.in-Ok.all.pages) (guards_of c.take_last.new.self) (guards_of c.take_last-2.new.self) c.in-Some-take_last.right c.in-Some.top c.in-Some.ensures.some c.in-Some-take_last.ensures.some p.taken.fresh.guards).1 in
     let met = c.requires.met in
     can-split-root c.args.meta c.args.root c.in-Ok.all.up c.in-Ok.all.low c.in-Some-take_last.right c.in-Some.top (guards_of c.in-Ok.all.pages) (view c.args.pass.now) (view c.prepare.new.pass) p two met.0 met.1 c.args.height c.args.page.now met.2 c.requires.size
     c.requires.home
@@ -51,7 +51,7 @@ free-requires-clause-frames g c =
 pub returns-clause-keeps : goal.returns-clause-keeps
 returns-clause-keeps g c =
     let p = c.in-Ok.ensures.ok in
-    let two = (taken-both p.x (guards_of c.in-Ok.all.pages) (guards_of c.take_last.new.self) (guards_of c.take_last-2.new.self) c.in-Some-take_last.right c.in-Some.top c.in-Some.ensures.some c.in-Some-take_last.ensures.some p.fresh.guards).1 in
+    let two = (taken-both p.taken.x (guards_of c.in-Ok.all.pages) (guards_of c.take_last.new.self) (guards_of c.take_last-2.new.self) c.in-Some-take_last.right c.in-Some.top c.in-Some.ensures.some c.in-Some-take_last.ensures.some p.taken.fresh.guards).1 in
     let met = c.requires.met in
     let back = c.free.ensures.freed.back in
     (root-ended c.args.meta c.args.root c.in-Ok.all.up c.in-Ok.all.low c.in-Some-take_last.right c.in-Some.top (guards_of c.in-Ok.all.pages) (view c.args.pass.now) (view c.prepare.new.pass) p two met.0 met.1 c.args.height c.args.page.now met.2 c.requires.size
@@ -60,7 +60,7 @@ returns-clause-keeps g c =
 pub returns-clause-cause : goal.returns-clause-cause
 returns-clause-cause g c =
     let p = c.in-Ok.ensures.ok in
-    let two = (taken-both p.x (guards_of c.in-Ok.all.pages) (guards_of c.take_last.new.self) (guards_of c.take_last-2.new.self) c.in-Some-take_last.right c.in-Some.top c.in-Some.ensures.some c.in-Some-take_last.ensures.some p.fresh.guards).1 in
+    let two = (taken-both p.taken.x (guards_of c.in-Ok.all.pages) (guards_of c.take_last.new.self) (guards_of c.take_last-2.new.self) c.in-Some-take_last.right c.in-Some.top c.in-Some.ensures.some c.in-Some-take_last.ensures.some p.taken.fresh.guards).1 in
     let met = c.requires.met in
     let back = c.free.ensures.freed.back in
     inl (
