@@ -1,3 +1,4 @@
 pub mod Evidence
 pub mod Pairs
 pub mod Answered
+pub mod Resident
