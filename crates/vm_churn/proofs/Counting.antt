@@ -5,10 +5,11 @@ use Rattle.std.proofs.Common.{[], ◌*◌, ◌+◌, ◌<◌, ◌∙◌, ◌∷�
 use Rattle.std.proofs.Common.{slice_index_or, subst, suc, sym, take, Vec, zero, ℕ}
 use Rattle.std.proofs.lemmas.List.Sums.{count_by-le-length, sum_by-cons, sum_by_more_le}
 use Rattle.vm_map.specs.{declared.call.Call.Call, declared.call.Reply.Reply}
+use Rattle.vm_map.specs.declared.call.Call.TheVariants as calls
 use Rattle.vm_tree_rule.specs.declared.fault.TreeFault.{TreeFault}
-use Rattle.vm_drive.specs.{Drives.AreFew, Drives.items_of, Kept.AreKept}
+use Rattle.vm_drive.specs.{Drives.AreFew, Drives.items_of, Kept.AreKept, Kept.IsRoomFor, Kept.windows_asked}
 use Rattle.vm_churn.specs.declared.tally.Tally.{Tally}
-use Rattle.vm_churn.specs.Tallies.{count_in, IsSmall, StandsFor, tells_found, tells_gone, tells_new, told_by, told_tally, total_of}
+use Rattle.vm_churn.specs.Tallies.{count_in, IsSmall, StandsFor, tally_room, tells_found, tells_gone, tells_new, told_by, told_tally, total_of}
 
 abbrev Answer : Type 0
 Answer = Result Reply TreeFault
@@ -25,6 +26,17 @@ pub few_at : (lists : List (Vec Call Global)) (i : ℕ) (calls : Vec Call Global
 few_at [] i calls few l is = absurd (omega arith)
 few_at (a ∷ lists) zero calls few l is = subst (λ (v : Vec Call Global). length v.items ≤ 1000000) (sym is) few.0
 few_at (a ∷ lists) (suc i) calls few l is = few_at lists i calls few.1 (omega arith) is
+
+asked-few : (calls : List Call) → windows_asked calls ≤ length calls
+asked-few [] = omega arith
+asked-few (calls.Get key ∷ cs) = omega (arith, asked-few cs)
+asked-few (calls.Put key value ∷ cs) = omega (arith, asked-few cs)
+asked-few (calls.Del key ∷ cs) = omega (arith, asked-few cs)
+asked-few (calls.Window start most ∷ cs) = omega (arith, asked-few cs)
+
+-- for so few a tally has room
+pub few_room : (calls : List Call) (tally : Tally) → length calls ≤ 1000000 → IsRoomFor calls (tally_room tally)
+few_room calls tally few = record { answers = few; windows = omega (arith, asked-few calls, few) }
 
 -- the tallies of few answers each are small
 pub kept_small : (tallies : List Tally) (told : List (List Answer)) → AreKept StandsFor tallies told → AreFew told → AllByRecursion IsSmall tallies

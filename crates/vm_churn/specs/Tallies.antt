@@ -8,6 +8,7 @@ use Rattle.vm_map.specs.declared.call.Reply.TheVariants.{Gone, Got, Was}
 use Rattle.vm_rule.specs.Prelude.{Entry}
 use Rattle.vm_tree_laws.specs.History.{news}
 use Rattle.vm_tree_rule.specs.declared.fault.TreeFault.{TreeFault}
+use Rattle.vm_drive.specs.Kept.{Room}
 use Rattle.vm_churn.specs.declared.tally.Tally.{Tally}
 
 -- 1 for a get that found a value
@@ -71,9 +72,9 @@ pub record IsSmall (tally : Tally) : Type 0 where
 abbrev pub StandsFor : Tally → List (Result Reply TreeFault) → Type 0
 StandsFor tally told = length told ≤ 1000000 → tally ≡ told_by told
 
--- a tally takes as many answers as a list may have calls
-abbrev pub tally_room : Tally → ℕ
-tally_room tally = 1000000
+-- a tally takes as many answers as a list may have calls, and any of them may be a window
+abbrev pub tally_room : Tally → Room
+tally_room tally = record { answers = 1000000; windows = 1000000 }
 
 -- the tallies put together
 abbrev pub total_of : List Tally → Tally

@@ -8,7 +8,7 @@ use Rattle.vm_step.specs.Prelude.{Origin, UnlockedExpected, View}
 use Rattle.vm_guard.specs.Denied.{KeptWord}
 use Rattle.vm_tree_laws.specs.{Keeps.KeepsTree}
 use Rattle.vm_tree_rule.specs.declared.fault.TreeFault.{TreeFault}
-use Rattle.vm_tree_read.specs.Reads.{IsAnswered}
+use Rattle.vm_tree_read.specs.Reads.{IsAnswered, IsOfKind}
 use Rattle.vm_tree_read.specs.Waiting.{IsFaulted as IsReadFaulted, IsReplied as IsReadReplied, Waits}
 use Rattle.vm_tree_write.specs.Splits.{KeepsLocksOnly}
 use Rattle.vm_tree_write.specs.Waiting.{IsDelRound, IsPutFaulted, IsPutFaulted as put_faulted, IsPutRound, IsWriteFaulted, IsWriteFaulted as faulted, IsWriteReplied}
@@ -47,6 +47,9 @@ answered-shown (Window start most) reply x w a = λ told.
       step = b.history ∙ a.entry.1;
       says = refl;
       page = a.page;
+      front = w.releases;
+      past = same-front w.releases w.releases refl;
+      words = b.last;
       leaf = (a.proves _ b.has).leaf;
       proved = b.proved;
     }
@@ -86,32 +89,32 @@ put-faulted key value fault v w (put_faulted.tight tried found page rounds k rea
 -- ---- answers
 
 -- what the contract of each call says, of the reply and of the fault
-pub get-tells : (key : ℕ) (r : Result Reply TreeFault) (v w : View Said) → IfOk r (λ reply. IsReadReplied (record { call = Get key; reply = reply }) v w) → IfErr r (λ fault. IsReadFaulted key fault v w) → IsTreeCall (Get key) r v w
-get-tells key (Ok reply) v w ok err = ok
-get-tells key (Err fault) v w ok err = err
+pub get-tells : (key : ℕ) (r : Result Reply TreeFault) (v w : View Said) → IfOk r (λ reply. IsReadReplied (record { call = Get key; reply = reply }) v w) → IfOk r (λ reply. IsOfKind (Get key) reply) → IfErr r (λ fault. IsReadFaulted key fault v w) → IsTreeCall (Get key) r v w
+get-tells key (Ok reply) v w ok kind err = (ok, kind)
+get-tells key (Err fault) v w ok kind err = err
 
-pub window-tells : (start most : ℕ) (r : Result Reply TreeFault) (v w : View Said) → IfOk r (λ reply. IsReadReplied (record { call = Window start most; reply = reply }) v w) → IfErr r (λ fault. IsReadFaulted start fault v w) → IsTreeCall (Window start most) r v w
-window-tells start most (Ok reply) v w ok err = ok
-window-tells start most (Err fault) v w ok err = err
+pub window-tells : (start most : ℕ) (r : Result Reply TreeFault) (v w : View Said) → IfOk r (λ reply. IsReadReplied (record { call = Window start most; reply = reply }) v w) → IfOk r (λ reply. IsOfKind (Window start most) reply) → IfErr r (λ fault. IsReadFaulted start fault v w) → IsTreeCall (Window start most) r v w
+window-tells start most (Ok reply) v w ok kind err = (ok, kind)
+window-tells start most (Err fault) v w ok kind err = err
 
-pub put-tells : (key value : ℕ) (r : Result Reply TreeFault) (v w : View Said) → IfOk r (λ reply. IsWriteReplied KeepsLocksOnly IsPutRound (record { call = Put key value; reply = reply }) v w) → IfErr r (λ fault. IsPutFaulted key fault v w) → IsTreeCall (Put key value) r v w
-put-tells key value (Ok reply) v w ok err = ok
-put-tells key value (Err fault) v w ok err = err
+pub put-tells : (key value : ℕ) (r : Result Reply TreeFault) (v w : View Said) → IfOk r (λ reply. IsWriteReplied KeepsLocksOnly IsPutRound (record { call = Put key value; reply = reply }) v w) → IfOk r (λ reply. IsOfKind (Put key value) reply) → IfErr r (λ fault. IsPutFaulted key fault v w) → IsTreeCall (Put key value) r v w
+put-tells key value (Ok reply) v w ok kind err = (ok, kind)
+put-tells key value (Err fault) v w ok kind err = err
 
-pub del-tells : (key : ℕ) (r : Result Reply TreeFault) (v w : View Said) → IfOk r (λ reply. IsWriteReplied Waits IsDelRound (record { call = Del key; reply = reply }) v w) → IfErr r (λ fault. IsWriteFaulted Waits IsDelRound HasKeyIn key fault v w) → IsTreeCall (Del key) r v w
-del-tells key (Ok reply) v w ok err = ok
-del-tells key (Err fault) v w ok err = err
+pub del-tells : (key : ℕ) (r : Result Reply TreeFault) (v w : View Said) → IfOk r (λ reply. IsWriteReplied Waits IsDelRound (record { call = Del key; reply = reply }) v w) → IfOk r (λ reply. IsOfKind (Del key) reply) → IfErr r (λ fault. IsWriteFaulted Waits IsDelRound HasKeyIn key fault v w) → IsTreeCall (Del key) r v w
+del-tells key (Ok reply) v w ok kind err = (ok, kind)
+del-tells key (Err fault) v w ok kind err = err
 
 reply-shown : (call : Call) (reply : Reply) (v w : View Said) → IsReadReplied (record { call = call; reply = reply }) v w → KeepsPass v w × IsCalled call (Ok reply) v w
 reply-shown call reply v w ok = (read-replied (record { call = call; reply = reply }) v w ok, (ok.mine, answered-shown call reply ok.tried w ok.answered))
 
 -- what the tree tells of a call in the terms of the pass
 pub tree-called : (call : Call) (r : Result Reply TreeFault) (v w : View Said) → IsTreeCall call r v w → KeepsPass v w × IsCalled call r v w
-tree-called (Get key) (Ok reply) v w t = reply-shown (Get key) reply v w t
+tree-called (Get key) (Ok reply) v w t = reply-shown (Get key) reply v w t.0
 tree-called (Get key) (Err fault) v w t = read-faulted (Get key) key fault v w t
-tree-called (Put key value) (Ok reply) v w t = (write-replied KeepsLocksOnly IsPutRound all-pass (record { call = Put key value; reply = reply }) v w t, (t.mine, tt))
+tree-called (Put key value) (Ok reply) v w t = (write-replied KeepsLocksOnly IsPutRound all-pass (record { call = Put key value; reply = reply }) v w t.0, (t.0.mine, tt))
 tree-called (Put key value) (Err fault) v w t = put-faulted key value fault v w t
-tree-called (Del key) (Ok reply) v w t = (write-replied Waits IsDelRound waits-pass (record { call = Del key; reply = reply }) v w t, (t.mine, tt))
+tree-called (Del key) (Ok reply) v w t = (write-replied Waits IsDelRound waits-pass (record { call = Del key; reply = reply }) v w t.0, (t.0.mine, tt))
 tree-called (Del key) (Err fault) v w t = write-faulted Waits IsDelRound HasKeyIn waits-pass (λ x y k. k.mine) (Del key) key fault v w t
-tree-called (Window start most) (Ok reply) v w t = reply-shown (Window start most) reply v w t
+tree-called (Window start most) (Ok reply) v w t = reply-shown (Window start most) reply v w t.0
 tree-called (Window start most) (Err fault) v w t = read-faulted (Window start most) start fault v w t

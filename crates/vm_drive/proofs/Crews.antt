@@ -1,5 +1,6 @@
 -- Lists of workers, place by place.
 use Rattle.std.specs.declared.alloc.Global.{Global}
+use Rattle.std.specs.List.{AllByRecursion}
 use Rattle.std.proofs.Common.{[], ◌++◌, ◌<◌, ◌∷◌, ◌≡◌, ◌≤◌, ap, arith, Bool, drop, get_or, length, List, refl, Result, subst, suc, sym, take, Vec}
 use Rattle.std.proofs.Common.{zero, ℕ}
 use Rattle.vm_map.specs.{declared.call.Call.Call, declared.call.Reply.Reply}
@@ -8,10 +9,11 @@ use Rattle.vm_step.specs.Prelude.{Shape}
 use Rattle.vm_tree_rule.specs.declared.fault.TreeFault.{TreeFault}
 use Rattle.vm_drive.specs.{declared.worker.Worker.Worker, Drives.items_of, Holds.list_at}
 use Rattle.vm_drive.specs.Crews.{AllWorked, AreIdle, HasWorked, IsIdle}
-use Rattle.vm_drive.specs.Kept.{AreKept, HasItems, HaveRoom}
+use Rattle.vm_drive.specs.{Compact.all_replies, Compact.HasWindows, Compact.KeepsAnswers, declared.compact.Replies.Replies}
+use Rattle.vm_drive.specs.Kept.{AreKept, HaveRoom, IsRoomFor, Room}
 
-module _ {A : Type 0} (keeps : A → List (Result Reply TreeFault) → Type 0) (space : A → ℕ) where
-  pub room-snoc : (rooms : List A) (lists : List (List Call)) (room : A) (calls : List Call) → HaveRoom keeps space rooms lists → keeps room [] → length calls ≤ space room → HaveRoom keeps space (rooms ++ room ∷ []) (lists ++ calls ∷ [])
+module _ {A : Type 0} (keeps : A → List (Result Reply TreeFault) → Type 0) (space : A → Room) where
+  pub room-snoc : (rooms : List A) (lists : List (List Call)) (room : A) (calls : List Call) → HaveRoom keeps space rooms lists → keeps room [] → IsRoomFor calls (space room) → HaveRoom keeps space (rooms ++ room ∷ []) (lists ++ calls ∷ [])
   room-snoc [] [] room calls h e l = (e, l, tt)
   room-snoc [] (c ∷ cs) room calls h e l = absurd h
   room-snoc (r ∷ rs) [] room calls h e l = absurd h
@@ -23,12 +25,18 @@ module _ {A : Type 0} (keeps : A → List (Result Reply TreeFault) → Type 0) (
   room-long (r ∷ rs) [] h = absurd h
   room-long (r ∷ rs) (c ∷ cs) h = ap suc (room-long rs cs h.2)
 
--- vectors that stand for lists hold them
-pub kept-items : (kept : List (Vec (Result Reply TreeFault) Global)) (told : List (List (Result Reply TreeFault))) → AreKept HasItems kept told → items_of kept ≡ told
-kept-items [] [] k = refl
-kept-items [] (t ∷ ts) k = absurd k
-kept-items (v ∷ vs) [] k = absurd k
-kept-items (v ∷ vs) (t ∷ ts) k = let first : v.items ≡ t = k.0 in let rest : items_of vs ≡ ts = kept-items vs ts k.1 in cc
+-- lists that stand for answers hold them, and have their windows
+pub kept-replies : (kept : List Replies) (told : List (List (Result Reply TreeFault))) → AreKept KeepsAnswers kept told → all_replies kept ≡ told
+kept-replies [] [] k = refl
+kept-replies [] (t ∷ ts) k = absurd k
+kept-replies (r ∷ rs) [] k = absurd k
+kept-replies (r ∷ rs) (t ∷ ts) k = let first = k.0.stands in let rest : all_replies rs ≡ ts = kept-replies rs ts k.1 in cc
+
+pub kept-windows : (kept : List Replies) (told : List (List (Result Reply TreeFault))) → AreKept KeepsAnswers kept told → AllByRecursion HasWindows kept
+kept-windows [] [] k = tt
+kept-windows [] (t ∷ ts) k = absurd k
+kept-windows (r ∷ rs) [] k = absurd k
+kept-windows (r ∷ rs) (t ∷ ts) k = (omega (arith, k.0.shown), kept-windows rs ts k.1)
 
 pub items-long : {X : Type 0} (vectors : List (Vec X Global)) → length (items_of vectors) ≡ length vectors
 items-long [] = refl
@@ -43,7 +51,7 @@ whole-back (x ∷ xs) [] n e f = absurd (omega arith)
 whole-back (x ∷ xs) (y ∷ ys) zero e f = absurd (omega arith)
 whole-back (x ∷ xs) (y ∷ ys) (suc n) e f = ap (λ (l : List _). x ∷ l) (whole-back xs ys n (omega arith) (omega arith))
 
-module _ {A : Type 0} (keeps : A → List (Result Reply TreeFault) → Type 0) (space : A → ℕ) (shape : Shape) (tells : Bool) (t : TableId) where
+module _ {A : Type 0} (keeps : A → List (Result Reply TreeFault) → Type 0) (space : A → Room) (shape : Shape) (tells : Bool) (t : TableId) where
   pub idle-long : (lists : List (List Call)) (workers : List (Worker A)) → AreIdle keeps space shape tells t lists workers → length lists ≡ length workers
   idle-long [] [] a = refl
   idle-long [] (w ∷ ws) a = absurd a

@@ -48,6 +48,7 @@ module _ {X : Type 0} where
     start = refl;
     parts = (refl, refl);
     seen = starts-self v.seen;
+    releases = starts-self v.releases;
     notes = starts-self v.notes;
     log = starts-self v.log;
   }
@@ -59,6 +60,7 @@ module _ {X : Type 0} where
     start = b.start ∙ a.start;
     parts = (b.parts.0 ∙ a.parts.0, b.parts.1 ∙ a.parts.1);
     seen = starts-then x.seen w.seen v.seen b.seen a.seen;
+    releases = starts-then x.releases w.releases v.releases b.releases a.releases;
     notes = starts-then x.notes w.notes v.notes b.notes a.notes;
     log = starts-then x.log w.log v.log b.log a.log;
   }
@@ -71,6 +73,7 @@ module _ {X : Type 0} where
     start = m.start;
     parts = m.parts;
     seen = m.seen;
+    releases = m.releases;
     notes = subst (λ (l : List Note). StartsWith l v.notes) (sym m.notes) (starts-self v.notes);
     log = (done, m.log);
   }
@@ -146,7 +149,7 @@ done-more cs rs c r v w x d k a =
           let all : faults_of p (rs ++ r ∷ []) ≡ faults_of p rs + (is_fault p r + 0) = faults-both p rs (r ∷ []) in
           omega arith;
       caused = caused-snoc (FoundFull x) (FoundWorn x) cs rs c r d.long (all-caused (FoundFull w) (FoundWorn w) (FoundFull x) (FoundWorn x) (λ n. found-later w x n k.start k.log) (λ p. max-later w x p k.start k.log) cs rs d.caused) one.caused;
-      shown = shown-snoc x cs rs c r d.long (are-shown-more w x k.start k.seen cs rs d.shown) one.shown;
+      shown = shown-snoc x cs rs c r d.long (are-shown-more w x k.start k.seen k.releases cs rs d.shown) one.shown;
     }
 
 -- frames that move afterwards leave it
@@ -159,5 +162,5 @@ done-moved cs rs v w x steps d m =
       mine = ap (λ (l : List (Entry Said)). saids l) m.mine ∙ d.mine;
       faults = λ p. let h : notes_about p v.notes + faults_of p rs ≤ notes_about p w.notes = d.faults p in let s : notes_about p x.notes ≡ notes_about p w.notes = ap (notes_about p) m.notes in omega arith;
       caused = all-caused (FoundFull w) (FoundWorn w) (FoundFull x) (FoundWorn x) (λ n. found-later w x n k.start k.log) (λ p. max-later w x p k.start k.log) cs rs d.caused;
-      shown = are-shown-more w x k.start k.seen cs rs d.shown;
+      shown = are-shown-more w x k.start k.seen k.releases cs rs d.shown;
     }

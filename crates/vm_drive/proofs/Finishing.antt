@@ -10,7 +10,7 @@ use Rattle.vm_step.specs.Prelude.{Did, Note, Shape, View, view}
 use Rattle.vm_pool.specs.Parting.{KeepsAll}
 use Rattle.vm_tree_laws.specs.History.{saids}
 use Rattle.vm_tree_rule.specs.declared.fault.TreeFault.{TreeFault}
-use Rattle.vm_drive.specs.{declared.worker.Worker.Worker, Kept.AreKept, Kept.HaveRoom, Shows.AllShown, Shows.AreShown}
+use Rattle.vm_drive.specs.{declared.worker.Worker.Worker, Kept.AreKept, Kept.HaveRoom, Kept.Room, Shows.AllShown, Shows.AreShown}
 use Rattle.vm_drive.specs.Causes.{all_faults_of, faults_of, notes_about}
 use Rattle.vm_drive.specs.Crews.{all_notes_of, AllWorked, answers_of, AreHired, AreIdle, AreJoined, HasWorked, IsBack, IsIn, IsNewWorker, number_of}
 use Rattle.vm_drive.specs.Crews.{numbers_of, worker_logs, worker_notes}
@@ -128,7 +128,7 @@ module _ {A : Type 0} (keeps : A → List (Result Reply TreeFault) → Type 0) (
         said = ap (λ l. saids l) mine ∙ did.mine ∙ ap (λ l. saids l ++ answered calls told) new.said;
         long = did.long;
         faults = λ p. let all : notes_about p (view o.pass).notes + faults_of p told ≤ notes_about p (view n.pass).notes = did.faults p in omega arith;
-        shown = are-shown-more (view n.pass) w (sym i.start) i.heard calls told did.shown;
+        shown = are-shown-more (view n.pass) w (sym i.start) i.heard i.saw calls told did.shown;
       }
 
   finish-all : (v w : View Said) (rest : List (Entry Said)) (lists : List (List Call)) (olds news : List (Worker A)) → w.seen ≡ v.seen ++ rest
@@ -270,17 +270,17 @@ module _ {A : Type 0} (keeps : A → List (Result Reply TreeFault) → Type 0) (
 
   -- ---- between the parts of a drive
 
-  idle-with : (space : A → ℕ) (lists : List (List Call)) (ds : List (Worker A)) (v : View Said) → Each (IsNewWorker shape tells t v) ds → HaveRoom keeps space (map (λ (d : Worker A). d.answers) ds) lists → AreIdle keeps space shape tells t lists ds
+  idle-with : (space : A → Room) (lists : List (List Call)) (ds : List (Worker A)) (v : View Said) → Each (IsNewWorker shape tells t v) ds → HaveRoom keeps space (map (λ (d : Worker A). d.answers) ds) lists → AreIdle keeps space shape tells t lists ds
   idle-with space [] [] v new r = tt
   idle-with space [] (d ∷ ds) v new r = absurd r
   idle-with space (c ∷ cs) [] v new r = absurd r
   idle-with space (c ∷ cs) (d ∷ ds) v new r = (record { work = new.0.work; holds = new.0.holds; empty = r.0; room = r.1 }, idle-with space cs ds v new.1 r.2)
 
   -- those that were hired are idle, with room for their lists
-  pub hired-idle : (space : A → ℕ) (lists : List (List Call)) (rooms : List A) (v : View Said) (ds : List (Worker A)) → Each (IsNewWorker shape tells t v) ds → map (λ (d : Worker A). d.answers) ds ≡ rooms → HaveRoom keeps space rooms lists → AreIdle keeps space shape tells t lists ds
+  pub hired-idle : (space : A → Room) (lists : List (List Call)) (rooms : List A) (v : View Said) (ds : List (Worker A)) → Each (IsNewWorker shape tells t v) ds → map (λ (d : Worker A). d.answers) ds ≡ rooms → HaveRoom keeps space rooms lists → AreIdle keeps space shape tells t lists ds
   hired-idle space lists rooms v ds new e r = idle-with space lists ds v new (subst (λ l. HaveRoom keeps space l lists) (sym e) r)
 
-  pub hired-long : (space : A → ℕ) (lists : List (List Call)) (rooms : List A) (v : View Said) (ds : List (Worker A)) (x : View Said) → AreHired shape tells t rooms v ds x → HaveRoom keeps space rooms lists → length ds ≡ length lists
+  pub hired-long : (space : A → Room) (lists : List (List Call)) (rooms : List A) (v : View Said) (ds : List (Worker A)) (x : View Said) → AreHired shape tells t rooms v ds x → HaveRoom keeps space rooms lists → length ds ≡ length lists
   hired-long space lists rooms v ds x h r = sym (length-map ds (λ (d : Worker A). d.answers)) ∙ ap (λ (l : List A). length l) h.answers ∙ room-long keeps space rooms lists r
 
   -- and those that have worked are back

@@ -12,6 +12,7 @@ pub mod Rooms
 pub mod Answering
 pub mod Hiring
 pub mod Chain
+pub mod Shortening
 pub mod Parts
 pub mod Parted
 pub mod Joining

@@ -1,23 +1,25 @@
 -- A put without room for a split: a worn page, a full image, or a sweep that made no frame free.
-use Rattle.std.proofs.Common.{[], ap, arith, Err, List, refl, subst, sym, ℕ, ⊎_elim, ◌+◌, ◌<◌, ◌∙◌, ◌≡◌, ◌≤◌}
+use Rattle.std.proofs.Common.{[], ap, arith, Err, List, refl, subst, sym, ℕ, ⊎_elim, ◌+◌, ◌<◌, ◌∙◌, ◌∷◌, ◌≡◌, ◌≤◌}
 use Rattle.vm_map.specs.{declared.call.Call.Call, declared.call.Call.TheVariants.Put, declared.call.Said.Said}
 use Rattle.vm_rule.specs.Prelude.{did_load, StartsWith}
 use Rattle.vm_rule.specs.declared.view.Place.TheVariants as places
 use Rattle.vm_step.specs.Prelude.{Origin, UnlockedExpected, View}
 use Rattle.vm_step.proofs.Numbers.{has-numbers}
 use Rattle.vm_exmap.specs.declared.interface.Alloc.TheVariants as allocs
-use Rattle.vm_guard.specs.{declared.given.Fresh.Fresh, declared.opt.OptGuard.OptGuard, Denied.KeptWord}
+use Rattle.vm_guard.specs.{declared.given.Fresh.Fresh, declared.opt.OptGuard.OptGuard, Denied.KeptWord, Fresh.IsFull}
 use Rattle.vm_guard.specs.declared.deny.Deny.TheVariants as denies
 use Rattle.vm_guard.specs.declared.given.Fresh.TheVariants as freshes
+use Rattle.vm_guard.proofs.Amid.{nload-amid}
 use Rattle.vm_evict.specs.declared.report.Report.{Report}
 use Rattle.vm_pool.specs.{Brings.SaysDry, declared.bring.Bring.Bring, Sweeps.IsSwept}
 use Rattle.vm_pool.specs.declared.bring.Bring.TheVariants as brings
 use Rattle.vm_tree_rule.specs.declared.fault.TreeFault.{TreeFault}
 use Rattle.vm_tree_read.specs.Waiting.{NamesFault}
-use Rattle.vm_tree_write.specs.Prepares.{IsLockDenied, IsLockDenied as locks, IsNotLocked, IsRefusedPages}
+use Rattle.vm_tree_write.specs.Prepares.{IsLockDenied, IsLockDenied as locks, IsNotLocked, IsRefusedPages, IsUntaken, IsUntaken as untaken}
 use Rattle.vm_tree_write.specs.Tries.{IsEnded, IsEnded as ends, IsUnsplit, IsUnsplit as unsplit}
 use Rattle.vm_tree_write.specs.Waiting.{IsRoomFault, IsRoomFault as rooms}
 use Rattle.vm_tree_write.specs.declared.tries.TrySplit.TheVariants as splits
+use Rattle.vm_tree_write.proofs.Roomy.{roomy-start}
 use Rattle.vm_drive.specs.Calls.{KeepsPass}
 use Rattle.vm_drive.proofs.Called.{HasFoundNext, HasFoundWorn, IsCalled}
 use Rattle.vm_drive.proofs.{Bringing.fault-called, Doing.keeps-then, Keeping.all-pass, Keeping.reads-pass, Lists.starts-then, Sweeping.swept-noted}
@@ -59,22 +61,28 @@ fresh-worn n a b p v w h =
     max-later h.refused w p (back-start n a b (freshes.Worn p) v w h) (back-log n a b (freshes.Worn p) v w h)
     (found-worn p out.done h.locked h.locked h.refused out.spared.nil.amid.log refl out.spared.nil.amid.start (omega (arith, below, most)) worn.word worn.given worn.last)
 
-unsplit-worn : (n : ℕ) (a b : OptGuard) (p : ℕ) (v w : View Said) → a.pid < v.start.pages → b.pid < v.start.pages → IsUnsplit n a b v w (splits.Worn p) → HasFoundWorn p w
-unsplit-worn n a b p v w la lb (unsplit.short (allocs.Batch batch) h says) = absurd says
-unsplit-worn n a b p v w la lb (unsplit.short allocs.Dry h says) = absurd (let no : splits.Worn p ≡ splits.Dry = says in cc)
-unsplit-worn n a b p v w la lb (unsplit.short (allocs.Again saw) h says) = absurd (let no : splits.Worn p ≡ splits.Again saw = says in cc)
-unsplit-worn n a b p v w la lb (unsplit.unlocked (denies.Again saw) h says) = absurd (let no : splits.Worn p ≡ splits.Again saw = says in cc)
-unsplit-worn n a b p v w la lb (unsplit.unlocked (denies.Need q) h says) = absurd says
-unsplit-worn n a b p v w la lb (unsplit.unlocked (denies.Crowded q) h says) = absurd says
-unsplit-worn n a b p v w la lb (unsplit.unlocked (denies.Worn q) h says) =
+untaken-worn : (n : ℕ) (a b : OptGuard) (p : ℕ) (v w : View Said) → a.pid < v.start.pages → b.pid < v.start.pages → IsUntaken n a b v w (splits.Worn p) → HasFoundWorn p w
+untaken-worn n a b p v w la lb (untaken.short (allocs.Batch batch) h says) = absurd says
+untaken-worn n a b p v w la lb (untaken.short allocs.Dry h says) = absurd (let no : splits.Worn p ≡ splits.Dry = says in cc)
+untaken-worn n a b p v w la lb (untaken.short (allocs.Again saw) h says) = absurd (let no : splits.Worn p ≡ splits.Again saw = says in cc)
+untaken-worn n a b p v w la lb (untaken.unlocked (denies.Again saw) h says) = absurd (let no : splits.Worn p ≡ splits.Again saw = says in cc)
+untaken-worn n a b p v w la lb (untaken.unlocked (denies.Need q) h says) = absurd says
+untaken-worn n a b p v w la lb (untaken.unlocked (denies.Crowded q) h says) = absurd says
+untaken-worn n a b p v w la lb (untaken.unlocked (denies.Worn q) h says) =
     let page : q ≡ p = (let e : splits.Worn p ≡ splits.Worn q = says in cc) in
     subst (λ m. HasFoundWorn m w) page (lock-worn a b q v w la lb h)
-unsplit-worn n a b p v w la lb (unsplit.unclaimed (freshes.Pages group) h says) = absurd says
-unsplit-worn n a b p v w la lb (unsplit.unclaimed (freshes.Again saw) h says) = absurd (let no : splits.Worn p ≡ splits.Again saw = says in cc)
-unsplit-worn n a b p v w la lb (unsplit.unclaimed (freshes.Worn q) h says) =
+untaken-worn n a b p v w la lb (untaken.unclaimed (freshes.Pages group) h says) = absurd says
+untaken-worn n a b p v w la lb (untaken.unclaimed (freshes.Again saw) h says) = absurd (let no : splits.Worn p ≡ splits.Again saw = says in cc)
+untaken-worn n a b p v w la lb (untaken.unclaimed (freshes.Worn q) h says) =
     let page : q ≡ p = (let e : splits.Worn p ≡ splits.Worn q = says in cc) in
     subst (λ m. HasFoundWorn m w) page (fresh-worn n a b q v w h)
-unsplit-worn n a b p v w la lb (unsplit.unclaimed (freshes.Full pages next need) h says) = absurd (let no : splits.Worn p ≡ splits.Full pages next need = says in cc)
+untaken-worn n a b p v w la lb (untaken.unclaimed (freshes.Full pages next need) h says) = absurd (let no : splits.Worn p ≡ splits.Full pages next need = says in cc)
+
+unsplit-worn : (n : ℕ) (a b : OptGuard) (p : ℕ) (v w : View Said) → a.pid < v.start.pages → b.pid < v.start.pages → IsUnsplit n a b v w (splits.Worn p) → HasFoundWorn p w
+unsplit-worn n a b p v w la lb (unsplit.full pages next need h says) = absurd (let no : splits.Worn p ≡ splits.Full pages next need = says in cc)
+unsplit-worn n a b p v w la lb (unsplit.untaken next roomy room h) =
+    let here : (q : ℕ) → q < v.start.pages → q < roomy.start.pages = λ q l. subst (λ (o : Origin). q < o.pages) (sym (roomy-start next v roomy room.loaded)) l in
+    untaken-worn n a b p roomy w (here a.pid la) (here b.pid lb) h
 
 ended-worn : (key p : ℕ) (v w : View Said) → IsEnded v key w (splits.Worn p) → HasFoundWorn p w
 ended-worn key p v w (ends.root meta low height page x reads full end) =
@@ -89,35 +97,45 @@ ended-worn key p v w (ends.below parent node over page x reads full end) =
     end
 
 -- the image of so many pages had none left
+next-full : (n pages next need : ℕ) (v w : View Said) → n ≤ 2 → IsFull n pages next need v w → HasFoundNext pages w
+next-full n pages next need v w few f =
+    let asked : need ≡ n = f.asked in
+    let high : pages < next + need = f.full in
+    record {
+      found = next;
+      given = given-in (did_load places.Next next ∷ []) places.Next next v w (nload-amid [] next v w f.loaded).log (record { earlier = []; step = did_load places.Next next; later = []; cut = refl; gives = (refl, refl) });
+      high = omega (arith, asked, high, few);
+    }
+
 fresh-full : (n : ℕ) (a b : OptGuard) (pages next need : ℕ) (v w : View Said) → n ≤ 2 → IsRefusedPages n a b (freshes.Full pages next need) v w → (pages ≡ v.start.pages) × HasFoundNext pages w
 fresh-full n a b pages next need v w few h =
     let f = h.fresh.1 in
-    let asked : need ≡ n = f.asked in
-    let high : pages < next + need = f.full in
-    let first = f.spared.loaded in (
+    let k = next-full n pages next need h.locked h.refused few f in (
       f.there ∙ ap (λ (o : Origin). o.pages) (locked-start n a b (freshes.Full pages next need) v w h),
-      record {
-        found = next;
-        given = given-more w.log h.refused.log places.Next next (back-log n a b (freshes.Full pages next need) v w h)
-            (given-in f.done places.Next next h.locked h.refused f.spared.nil.amid.log (record { earlier = []; step = did_load places.Next next; later = first.0; cut = first.1; gives = (refl, refl) }));
-        high = omega (arith, asked, high, few);
-      },
+      record { found = k.found; given = given-more w.log h.refused.log places.Next k.found (back-log n a b (freshes.Full pages next need) v w h) k.given; high = k.high },
     )
 
-unsplit-full : (n : ℕ) (a b : OptGuard) (pages next need : ℕ) (v w : View Said) → n ≤ 2 → IsUnsplit n a b v w (splits.Full pages next need) → (pages ≡ v.start.pages) × HasFoundNext pages w
-unsplit-full n a b pages next need v w few (unsplit.short (allocs.Batch batch) h says) = absurd says
-unsplit-full n a b pages next need v w few (unsplit.short allocs.Dry h says) = absurd (let no : splits.Full pages next need ≡ splits.Dry = says in cc)
-unsplit-full n a b pages next need v w few (unsplit.short (allocs.Again saw) h says) = absurd (let no : splits.Full pages next need ≡ splits.Again saw = says in cc)
-unsplit-full n a b pages next need v w few (unsplit.unlocked (denies.Again saw) h says) = absurd (let no : splits.Full pages next need ≡ splits.Again saw = says in cc)
-unsplit-full n a b pages next need v w few (unsplit.unlocked (denies.Need q) h says) = absurd says
-unsplit-full n a b pages next need v w few (unsplit.unlocked (denies.Crowded q) h says) = absurd says
-unsplit-full n a b pages next need v w few (unsplit.unlocked (denies.Worn q) h says) = absurd (let no : splits.Full pages next need ≡ splits.Worn q = says in cc)
-unsplit-full n a b pages next need v w few (unsplit.unclaimed (freshes.Pages group) h says) = absurd says
-unsplit-full n a b pages next need v w few (unsplit.unclaimed (freshes.Again saw) h says) = absurd (let no : splits.Full pages next need ≡ splits.Again saw = says in cc)
-unsplit-full n a b pages next need v w few (unsplit.unclaimed (freshes.Worn q) h says) = absurd (let no : splits.Full pages next need ≡ splits.Worn q = says in cc)
-unsplit-full n a b pages next need v w few (unsplit.unclaimed (freshes.Full pages' next' need') h says) =
+untaken-full : (n : ℕ) (a b : OptGuard) (pages next need : ℕ) (v w : View Said) → n ≤ 2 → IsUntaken n a b v w (splits.Full pages next need) → (pages ≡ v.start.pages) × HasFoundNext pages w
+untaken-full n a b pages next need v w few (untaken.short (allocs.Batch batch) h says) = absurd says
+untaken-full n a b pages next need v w few (untaken.short allocs.Dry h says) = absurd (let no : splits.Full pages next need ≡ splits.Dry = says in cc)
+untaken-full n a b pages next need v w few (untaken.short (allocs.Again saw) h says) = absurd (let no : splits.Full pages next need ≡ splits.Again saw = says in cc)
+untaken-full n a b pages next need v w few (untaken.unlocked (denies.Again saw) h says) = absurd (let no : splits.Full pages next need ≡ splits.Again saw = says in cc)
+untaken-full n a b pages next need v w few (untaken.unlocked (denies.Need q) h says) = absurd says
+untaken-full n a b pages next need v w few (untaken.unlocked (denies.Crowded q) h says) = absurd says
+untaken-full n a b pages next need v w few (untaken.unlocked (denies.Worn q) h says) = absurd (let no : splits.Full pages next need ≡ splits.Worn q = says in cc)
+untaken-full n a b pages next need v w few (untaken.unclaimed (freshes.Pages group) h says) = absurd says
+untaken-full n a b pages next need v w few (untaken.unclaimed (freshes.Again saw) h says) = absurd (let no : splits.Full pages next need ≡ splits.Again saw = says in cc)
+untaken-full n a b pages next need v w few (untaken.unclaimed (freshes.Worn q) h says) = absurd (let no : splits.Full pages next need ≡ splits.Worn q = says in cc)
+untaken-full n a b pages next need v w few (untaken.unclaimed (freshes.Full pages' next' need') h says) =
     let same : pages' ≡ pages = (let e : splits.Full pages next need ≡ splits.Full pages' next' need' = says in cc) in
     subst (λ m. (m ≡ v.start.pages) × HasFoundNext m w) same (fresh-full n a b pages' next' need' v w few h)
+
+unsplit-full : (n : ℕ) (a b : OptGuard) (pages next need : ℕ) (v w : View Said) → n ≤ 2 → IsUnsplit n a b v w (splits.Full pages next need) → (pages ≡ v.start.pages) × HasFoundNext pages w
+unsplit-full n a b pages next need v w few (unsplit.full pages' next' need' h says) =
+    let same : pages' ≡ pages = (let e : splits.Full pages next need ≡ splits.Full pages' next' need' = says in cc) in
+    subst (λ m. (m ≡ v.start.pages) × HasFoundNext m w) same (h.there, next-full n pages' next' need' v w few h)
+unsplit-full n a b pages next need v w few (unsplit.untaken next' roomy room h) =
+    let k = untaken-full n a b pages next need roomy w few h in (k.0 ∙ ap (λ (o : Origin). o.pages) (roomy-start next' v roomy room.loaded), k.1)
 
 ended-full : (key pages next need : ℕ) (v w : View Said) → IsEnded v key w (splits.Full pages next need) → (pages ≡ v.start.pages) × HasFoundNext pages w
 ended-full key pages next need v w (ends.root meta low height page x reads full end) =

@@ -2,15 +2,16 @@
 use Rattle.std.proofs.Common.{[], ◌++◌, ◌∙◌, ◌∷◌, ◌≡◌, ap, arith, Err, length, List, Ok, Result, subst, sym}
 use Rattle.vm_map.specs.{declared.call.Call.Call, declared.call.Reply.Reply, declared.call.Said.Said}
 use Rattle.vm_map.specs.declared.call.Call.TheVariants.{Del, Get, Put, Window}
-use Rattle.vm_rule.specs.Prelude.{began_of, StartsWith}
+use Rattle.vm_core.specs.Prelude.{page_at}
+use Rattle.vm_rule.specs.Prelude.{began_of, last_in, StartsWith}
 use Rattle.vm_step.specs.Prelude.{Origin, View}
 use Rattle.vm_tree_laws.specs.Keeps.{KeepsTree}
 use Rattle.vm_tree_rule.specs.declared.fault.TreeFault.{TreeFault}
 use Rattle.vm_drive.specs.Shows.{AllShown, AreShown, IsOfLeaf, IsWindowShown}
 use Rattle.vm_drive.proofs.Lists.{starts-then}
 
-of-leaf-more : (said : Said) (v w : View Said) → w.start ≡ v.start → StartsWith w.seen v.seen → IsOfLeaf said v → IsOfLeaf said w
-of-leaf-more said v w start seen l = record {
+of-leaf-more : (said : Said) (v w : View Said) → w.start ≡ v.start → StartsWith w.seen v.seen → StartsWith w.releases v.releases → IsOfLeaf said v → IsOfLeaf said w
+of-leaf-more said v w start seen releases l = record {
   kept = l.kept;
   keeps = subst (λ (o : Origin). KeepsTree (began_of o) l.kept) (sym start) l.keeps;
   history = starts-then w.seen v.seen l.kept.history seen l.history;
@@ -19,16 +20,19 @@ of-leaf-more said v w start seen l = record {
   step = l.step;
   says = l.says;
   page = l.page;
+  front = l.front;
+  past = starts-then w.releases v.releases l.front releases l.past;
+  words = subst (λ (o : Origin). page_at l.kept.pages l.page ≡ (last_in o l.front l.page).words) (sym start) l.words;
   leaf = l.leaf;
   proved = l.proved;
 }
 
-module _ (v w : View Said) (start : w.start ≡ v.start) (seen : StartsWith w.seen v.seen) where
+module _ (v w : View Said) (start : w.start ≡ v.start) (seen : StartsWith w.seen v.seen) (releases : StartsWith w.releases v.releases) where
   shown-more : (c : Call) (r : Reply) → IsWindowShown v c r → IsWindowShown w c r
   shown-more (Get key) r h = tt
   shown-more (Put key value) r h = tt
   shown-more (Del key) r h = tt
-  shown-more (Window from most) r h = λ told. of-leaf-more (record { call = Window from most; reply = r }) v w start seen (h (ap (λ (o : Origin). o.tells) (sym start) ∙ told))
+  shown-more (Window from most) r h = λ told. of-leaf-more (record { call = Window from most; reply = r }) v w start seen releases (h (ap (λ (o : Origin). o.tells) (sym start) ∙ told))
 
   pub are-shown-more : (cs : List Call) (rs : List (Result Reply TreeFault)) → AreShown v cs rs → AreShown w cs rs
   are-shown-more [] rs h = tt

@@ -7,7 +7,7 @@ use Rattle.vm_pool.specs.Parting.{KeepsAll}
 use Rattle.vm_tree_laws.specs.Keeps.{KeepsTree}
 use Rattle.vm_tree_rule.specs.declared.fault.TreeFault.{TreeFault}
 use Rattle.vm_tree_read.specs.Waiting.{LosesNone}
-use Rattle.vm_drive.specs.{Causes.notes_about, declared.worker.Worker.Worker, Parts.StandBehind, Workers.HasKept, Workers.IsAtWork}
+use Rattle.vm_drive.specs.{Causes.notes_about, declared.worker.Worker.Worker, Kept.IsRoomFor, Kept.Room, Parts.StandBehind, Workers.HasKept, Workers.IsAtWork}
 
 -- the worker's number
 abbrev pub number_of : {A : Type 0} → Worker A → ℕ
@@ -54,13 +54,13 @@ module _ {A : Type 0} (shape : Shape) (tells : Bool) (t : TableId) where
     pub answers : map (λ (worker : Worker A). worker.answers) workers ≡ rooms
     pub all : ((workers ≡ []) × (w ≡ v)) ⊎ (IsWhole v → v.mine ≡ v.seen)
 
-module _ {A : Type 0} (keeps : A → List (Result Reply TreeFault) → Type 0) (space : A → ℕ) (shape : Shape) (tells : Bool) (t : TableId) where
+module _ {A : Type 0} (keeps : A → List (Result Reply TreeFault) → Type 0) (space : A → Room) (shape : Shape) (tells : Bool) (t : TableId) where
   -- the worker is at work with no page, and has room for answers to the calls
   pub record IsIdle (calls : List Call) (worker : Worker A) : Type 0 where
     pub work : IsAtWork shape tells t worker
     pub holds : HoldsNoPage (view worker.pass)
     pub empty : keeps worker.answers []
-    pub room : length calls ≤ space worker.answers
+    pub room : IsRoomFor calls (space worker.answers)
 
   -- there is such a worker for each list
   abbrev pub AreIdle : List (List Call) → List (Worker A) → Type 0

@@ -37,8 +37,8 @@ IsAtLastVersion w p = MAX_VERSION ≤ (last_of w p).version
 -- The workers have made the calls of their lists, with these answers, and their passes went into the one that had the view v and has the
 -- view w: it is whole again, holds no page, and has just the frames that it had. What it has seen begins with what it had seen, is legal, and is all its own. Its own entries
 -- grew by just the lists' calls that had a reply, each list in order under a number of its own. Each fault of a device has its own new note
--- of the page; each other fault has its cause, and each window is a leaf's. Each worker made its calls one after another, and what each was
--- answered comes of the steps and notes of that very call
+-- of the page; each other fault has its cause, and each window is a leaf's, the table's page as it stood. Each worker made its calls one after
+-- another, and what each was answered comes of the steps and notes of that very call
 pub record IsDriven (tells : Bool) (lists : List (List Call)) (answers : List (List (Result Reply TreeFault))) (v w : View Said) : Type 0 where
   pub alone : IsAlone w
   pub holds : HoldsNoPage w

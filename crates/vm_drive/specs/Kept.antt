@@ -1,17 +1,35 @@
 -- What keeps workers' answers: a value of any type, which stands for the answers that it was given, in order.
-use Rattle.std.specs.declared.alloc.Global.{Global}
-use Rattle.std.specs.Prelude.{[], ◌-◌, ◌∷◌, ◌≡◌, ◌≤◌, length, List, Result, Vec, vec_len, ℕ}
-use Rattle.std.specs.Vec.{vec_capacity}
+use Rattle.std.specs.Prelude.{[], ◌+◌, ◌∷◌, ◌≤◌, Err, length, List, Ok, Result, ℕ}
 use Rattle.vm_map.specs.{declared.call.Call.Call, declared.call.Reply.Reply}
+use Rattle.vm_map.specs.declared.call.Call.TheVariants.{Del, Get, Put, Window}
+use Rattle.vm_map.specs.declared.call.Reply.TheVariants.{Gone, Got, Was, Win}
 use Rattle.vm_tree_rule.specs.declared.fault.TreeFault.{TreeFault}
 
--- a vector of answers stands for what it holds
-abbrev pub HasItems : Vec (Result Reply TreeFault) Global → List (Result Reply TreeFault) → Type 0
-HasItems v told = v.items ≡ told
+-- how many answers more are taken, and how many windows among them
+pub record Room : Type 0 where
+  pub answers : ℕ
+  pub windows : ℕ
 
--- and takes more while no new memory is needed
-abbrev pub left_in : Vec (Result Reply TreeFault) Global → ℕ
-left_in v = vec_capacity v - vec_len v
+-- 1 for an answer that is a window
+abbrev pub windows_of : Result Reply TreeFault → ℕ
+windows_of (Ok (Got found)) = 0
+windows_of (Ok (Was old)) = 0
+windows_of (Ok (Gone old)) = 0
+windows_of (Ok (Win window)) = 1
+windows_of (Err fault) = 0
+
+-- how many of the calls ask for a window
+abbrev pub windows_asked : List Call → ℕ
+windows_asked [] = 0
+windows_asked (Get key ∷ calls) = windows_asked calls
+windows_asked (Put key value ∷ calls) = windows_asked calls
+windows_asked (Del key ∷ calls) = windows_asked calls
+windows_asked (Window start most ∷ calls) = 1 + windows_asked calls
+
+-- room for an answer to each of the calls, and for a window to each that asks for one
+pub record IsRoomFor (calls : List Call) (room : Room) : Type 0 where
+  pub answers : length calls ≤ room.answers
+  pub windows : windows_asked calls ≤ room.windows
 
 module _ {A : Type 0} (keeps : A → List (Result Reply TreeFault) → Type 0) where
   -- each stands for its list of answers
@@ -21,9 +39,9 @@ module _ {A : Type 0} (keeps : A → List (Result Reply TreeFault) → Type 0) w
   AreKept (kept ∷ rest) [] = ⊥
   AreKept (kept ∷ rest) (told ∷ more) = keeps kept told × AreKept rest more
 
-  -- each stands for no answer yet, and takes one to each call of its list
-  abbrev pub HaveRoom : (room : A → ℕ) → List A → List (List Call) → Type 0
+  -- each stands for no answer yet, and has room for those to its list
+  abbrev pub HaveRoom : (room : A → Room) → List A → List (List Call) → Type 0
   HaveRoom room [] [] = Unit {0}
   HaveRoom room [] (calls ∷ lists) = ⊥
   HaveRoom room (kept ∷ rest) [] = ⊥
-  HaveRoom room (kept ∷ rest) (calls ∷ lists) = keeps kept [] × (length calls ≤ room kept) × HaveRoom room rest lists
+  HaveRoom room (kept ∷ rest) (calls ∷ lists) = keeps kept [] × IsRoomFor calls (room kept) × HaveRoom room rest lists

@@ -4,6 +4,7 @@ pub mod TreeCalls
 pub mod Holds
 pub mod Causes
 pub mod Kept
+pub mod Compact
 pub mod Workers
 pub mod Parts
 pub mod Crews

@@ -1,16 +1,18 @@
--- The windows among workers' answers: each shows what the leaf that covers its start does.
+-- The windows among workers' answers: each shows what the leaf that covers its start does, with the words that the table's page had at the step of the
+-- history.
 use Rattle.std.specs.Prelude.{[], ◌++◌, ◌∷◌, ◌≡◌, Err, List, Ok, Result, true, ℕ}
 use Rattle.vm_map.specs.{declared.call.Call.Call, declared.call.Reply.Reply, declared.call.Said.Said}
 use Rattle.vm_map.specs.declared.call.Call.TheVariants.{Del, Get, Put, Window}
 use Rattle.vm_tree_model.specs.Page.{node_of}
 use Rattle.vm_core.specs.Prelude.{page_at}
-use Rattle.vm_rule.specs.Prelude.{began_of, Entry, Kept, StartsWith}
-use Rattle.vm_step.specs.Prelude.{View}
+use Rattle.vm_rule.specs.Prelude.{began_of, Entry, Kept, last_in, StartsWith}
+use Rattle.vm_step.specs.Prelude.{Release, View}
 use Rattle.vm_tree_laws.specs.{Keeps.KeepsTree, May.IsProved}
 use Rattle.vm_tree_rule.specs.declared.fault.TreeFault.{TreeFault}
 
--- the reply is what a leaf shows: one of the tree's pages at the step that made the call with this reply an entry of the history, which the pass
--- knows
+-- The reply is what a leaf shows: one of the tree's pages at the step that made the call with this reply an entry of the history, which the pass
+-- knows. This page of the tree is the table's page as it stood then: its words are the last ones after a beginning of the releases, which the pass
+-- knows too
 pub record IsOfLeaf (said : Said) (v : View Said) : Type 0 where
   pub kept : Kept Said
   pub keeps : KeepsTree (began_of v.start) kept
@@ -20,6 +22,9 @@ pub record IsOfLeaf (said : Said) (v : View Said) : Type 0 where
   pub step : kept.history ≡ earlier ++ entry ∷ []
   pub says : entry.said ≡ said
   pub page : ℕ
+  pub front : List Release
+  pub past : StartsWith v.releases front
+  pub words : page_at kept.pages page ≡ (last_in v.start front page).words
   pub leaf : (node_of (page_at kept.pages page)).tag ≡ 2
   pub proved : IsProved (page_at kept.pages page) said.call said.reply
 

@@ -1,9 +1,9 @@
-//! What keeps a worker's answers: a list of them, or whatever a caller makes of each as it comes, so that a long run needs no room for all.
+//! What keeps a worker's answers: the answers themselves in little memory (`compact`), or whatever a caller makes of each as it comes.
 
-ghost use Rattle.std.specs.Prelude.{[], ◌++◌, ◌+◌, ◌∷◌, ◌≤◌, List, Result, ℕ};
+ghost use Rattle.std.specs.Prelude.{[], ◌++◌, ◌+◌, ◌∷◌, ◌≤◌, List, Result};
 ghost use Rattle.vm_map.specs.declared.call.Reply.{Reply};
 ghost use Rattle.vm_tree_rule.specs.declared.fault.TreeFault.{TreeFault};
-ghost use Rattle.vm_drive.specs.Kept.{HasItems, left_in};
+ghost use Rattle.vm_drive.specs.Kept.{Room, windows_of};
 
 use vm_map::call::Reply;
 use vm_tree_rule::TreeFault;
@@ -16,25 +16,14 @@ pub trait Answers {
     /// It stands for these answers, in order.
     ghost keeps: { Self → List (Result Reply TreeFault) → Type 0 };
 
-    /// How many more it takes.
-    ghost room: { Self → ℕ };
+    /// How many more it takes, and how many windows among them.
+    ghost room: { Self → Room };
 
     /// Keeps an answer more.
     fn keep(&mut self, answer: Answer)
-        requires { 1 ≤ room self.old }
+        requires answers { 1 ≤ (room self.old).answers }
+        requires windows { windows_of answer ≤ (room self.old).windows }
         ensures told { (told : List (Result Reply TreeFault)) → keeps self.old told → keeps self.new (told ++ answer ∷ []) }
-        ensures left { room self.old ≤ room self.new + 1 };
-}
-
-/// The answers themselves, as many as there is room for.
-impl Answers for Vec<Answer> {
-    ghost keeps = { HasItems };
-
-    ghost room = { left_in };
-
-    fn keep(&mut self, answer: Answer) {
-        if self.push(answer).is_err() {
-            unreachable!()
-        }
-    }
+        ensures answers { (room self.old).answers ≤ (room self.new).answers + 1 }
+        ensures windows { (room self.old).windows ≤ (room self.new).windows + windows_of answer };
 }

@@ -1,5 +1,6 @@
 //! All workers, side by side.
 
+ghost use Rattle.std.specs.List.{AllByRecursion};
 ghost use Rattle.std.specs.Prelude.{[], ◌*◌, ◌<◌, ◌≡◌, ◌≤◌, IfErr, IfOk, length, None};
 ghost use Rattle.std.specs.Vec.{vec_capacity};
 ghost use Rattle.vm_rule.specs.Prelude.{Each, HoldsNoPage, IsWhole};
@@ -7,9 +8,10 @@ ghost use Rattle.vm_step.specs.Prelude.{IsReady, IsSamePass, view};
 ghost use Rattle.vm_drive.specs.Crews.{AllWorked, answers_of, AreAtHome, AreHired, AreIdle, AreJoined, HasWorked, IsBack, IsIdle, share_of};
 ghost use Rattle.vm_drive.specs.Drives.{AreAskable, AreFew, IsDriven, IsDrivenInto, items_of};
 ghost use Rattle.vm_drive.specs.Holds.{list_at};
-ghost use Rattle.vm_drive.specs.Kept.{HasItems, HaveRoom, left_in};
+ghost use Rattle.vm_drive.specs.{Compact.all_replies, Compact.HasWindows, Kept.HaveRoom};
 
-use crate::answers::{Answer, Answers};
+use crate::answers::Answers;
+use crate::compact::{Replies, rooms_for};
 use crate::gate::Gate;
 use crate::worker::{Worker, work};
 use std::alloc::{AllocError, Global};
@@ -28,7 +30,7 @@ use vm_tree_rule::Tree;
 #[derive(Drop)]
 pub struct Driven {
     /// For each list an answer for each of its calls, in order.
-    pub replies: Vec<Vec<Answer>>,
+    pub replies: Vec<Replies>,
     /// Up to the greatest `u64`.
     pub evicted: u64,
 }
@@ -64,7 +66,8 @@ pub fn drive<R: Threads + Wait + Sync, B: Block + Send + Sync, G: Gate + Sync>(
     requires pages { 1 ≤ pool.now.words.table.shared.key.pages }
     ensures pass { IsSamePass pass.old pass.new }
     ensures ready { IsReady pool.now.words.table.shared.key B.tells pool.now.words.table.shared.table_id pass.new }
-    ensures driven { IfOk result (λ driven. IsDriven B.tells (items_of lists.now) (items_of driven.replies.items) (view pass.old) (view pass.new)) }
+    ensures driven { IfOk result (λ driven. IsDriven B.tells (items_of lists.now) (all_replies driven.replies.items) (view pass.old) (view pass.new)) }
+    ensures windows { IfOk result (λ driven. AllByRecursion HasWindows driven.replies.items) }
     ensures memory { IfErr result (λ _. pass.new ≡ pass.old) }
 {
     let rooms = match rooms_for(alloc, lists) {
@@ -79,7 +82,7 @@ pub fn drive<R: Threads + Wait + Sync, B: Block + Send + Sync, G: Gate + Sync>(
 }
 
 /// The same, where each list has something that keeps its answers, in the lists' order: it stands for no answer yet, and has room for one to
-/// each of the list's calls.
+/// each of the list's calls, and for a window to each that asks for one.
 pub fn drive_into<
     R: Threads + Wait + Sync,
     B: Block + Send + Sync,
@@ -117,17 +120,6 @@ pub fn drive_into<
     let mut workers = hire(pool, pass, cap, rooms, workers);
     work_all(rt, pool, gate, lists, workers.as_mut_slice());
     Ok(gather(pool, pass, workers, kept))
-}
-
-/// For each list, room for an answer to each of its calls.
-pub fn rooms_for(alloc: Global, lists: &[Vec<Call>]) -> Result<Vec<Vec<Answer>>, AllocError>
-    ensures { IfOk result (λ rooms. HaveRoom HasItems left_in rooms.items (items_of lists.now)) }
-{
-    let mut rooms = Vec::with_capacity(alloc, lists.len())?;
-    'lists: for calls in lists {
-        rooms.push(Vec::with_capacity(alloc, calls.len())?)?;
-    }
-    Ok(rooms)
 }
 
 // Room for so many workers, and for what keeps their answers.

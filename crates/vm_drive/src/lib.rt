@@ -2,8 +2,10 @@
 #![tactic(auto)]
 
 pub mod answers;
+pub mod compact;
 mod driving;
 pub mod gate;
 pub mod worker;
 
-pub use driving::{Driven, DrivenInto, drive, drive_into, rooms_for};
+pub use compact::rooms_for;
+pub use driving::{Driven, DrivenInto, drive, drive_into};

@@ -1,12 +1,12 @@
 //! One worker: its pass, its interface, and what keeps its answers.
 
 ghost use Rattle.std.specs.List.{AllByRecursion};
-ghost use Rattle.std.specs.Prelude.{[], ◌≡◌, ◌≤◌, length, None};
+ghost use Rattle.std.specs.Prelude.{[], ◌≡◌, ◌≤◌, None};
 ghost use Rattle.vm_map.specs.History.{IsAskable};
 ghost use Rattle.vm_rule.specs.Prelude.{HoldsNoPage};
 ghost use Rattle.vm_step.specs.Prelude.{AreHeld, IsReady, view};
 ghost use Rattle.vm_tree_read.specs.Waiting.{LosesNone};
-ghost use Rattle.vm_drive.specs.{Calls.KeepsPass, TreeCalls.IsTreeCall, Workers.HasCalled, Workers.HasKept, Workers.IsAtWork};
+ghost use Rattle.vm_drive.specs.{Calls.KeepsPass, Kept.IsRoomFor, TreeCalls.IsTreeCall, Workers.HasCalled, Workers.HasKept, Workers.IsAtWork};
 
 pub use crate::answers::Answer;
 use crate::answers::Answers;
@@ -66,7 +66,7 @@ fn call_all<R: Wait, B: Block, G: Gate, A: Answers>(
     worker: &mut Worker<A>,
 )
     requires work { IsAtWork pool.now.words.table.shared.key B.tells pool.now.words.table.shared.table_id worker.old }
-    requires room { length calls.now ≤ A.room worker.old.answers }
+    requires room { IsRoomFor calls.now (A.room worker.old.answers) }
     requires fresh { A.keeps worker.old.answers [] }
     requires askable { AllByRecursion IsAskable calls.now }
     ensures work { IsAtWork pool.now.words.table.shared.key B.tells pool.now.words.table.shared.table_id worker.new }
@@ -94,7 +94,7 @@ pub fn work<R: Wait, B: Block, G: Gate, A: Answers>(
 )
     requires work { IsAtWork pool.now.words.table.shared.key B.tells pool.now.words.table.shared.table_id worker.old }
     requires holds { HoldsNoPage (view worker.old.pass) }
-    requires room { length calls.now ≤ A.room worker.old.answers }
+    requires room { IsRoomFor calls.now (A.room worker.old.answers) }
     requires fresh { A.keeps worker.old.answers [] }
     requires askable { AllByRecursion IsAskable calls.now }
     ensures ready { IsReady pool.now.words.table.shared.key B.tells pool.now.words.table.shared.table_id worker.new.pass }

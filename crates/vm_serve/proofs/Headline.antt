@@ -256,7 +256,7 @@ module _ (pages : List (List ℕ)) (plan : List PlannedFault) (version next fram
     all_made = sym all-seen;
     planned = planned few sums.each;
     caused = lists-caused (FoundFull w) (FoundWorn w) (IsFilled pages end) (IsAtLastVersion e) filled (λ p m. worn-out e p closed.versions (max-later w e p flushed.aside.start (flushed.done, flushed.aside.log) m)) lists replies (traced v.log w lists replies driven.passes driven.parts driven.logs);
-    shown = all-shown-more w e flushed.aside.start flushed.aside.seen lists replies driven.shown;
+    shown = all-shown-more w e flushed.aside.start flushed.aside.seen flushed.aside.releases lists replies driven.shown;
     passes = driven.passes;
     parts = parts-later w e flushed.aside.start all-seen flushed.aside.releases lists replies driven.passes driven.parts;
     logs = behind-in v.log (logs_of driven.passes) w.log flushed.done e.log driven.logs flushed.aside.log;

@@ -46,8 +46,8 @@ is_first (Some q) p = if q == p then 1 else 0
 -- their calls fail is not said. The history is the one that `end` keeps, which the end of the pool alone makes: it is legal from the image's
 -- map on, and holds each worker's calls once, in order, with these replies. Each fault of a device, and the first write of the last flush
 -- that failed, has its own note, and there are no more notes of a page than entries for it in the plan. Each other fault has its cause, and
--- each window is a leaf's. Each worker made its calls one after another, and what each was answered comes of the steps and notes of that very
--- call. The report is that of the flush which came behind all calls, and was the last thing that was done; the blocks are
+-- each window is a leaf's, the table's page as it stood. Each worker made its calls one after another, and what each was answered comes of the steps
+-- and notes of that very call. The report is that of the flush which came behind all calls, and was the last thing that was done; the blocks are
 -- those that the end shows. Where no write of the flush failed, each block has its page's last words, and the blocks hold a tree whose map is
 -- the history's last one; each page below the first whose write failed is stored, so its block has its last words. No more faults are counted
 -- than the plan has different entries.

@@ -1,13 +1,14 @@
 //! The calls are made on a pool of the image's pages, which is then flushed and closed. The image may be let go as soon as there are blocks, and
 //! what keeps the answers may be anything.
 
+ghost use Rattle.std.specs.List.{AllByRecursion};
 ghost use Rattle.std.specs.Prelude.{[], ◌*◌, ◌≡◌, ◌≤◌, IfOk, length, List, ℕ};
 ghost use Rattle.vm_tree_model.specs.Tree.{IsTree};
 ghost use Rattle.vm_image.specs.{Blocks.AreBlocksOf, Blocks.pages_of_blocks, declared.blocks.PlannedFault.PlannedFault, File.IsNextPage};
 ghost use Rattle.vm_core.specs.Prelude.{MAX_VERSION};
 ghost use Rattle.vm_pool.specs.Closing.{view_at_end};
 ghost use Rattle.vm_drive.specs.Drives.{AreAskable, AreFew, items_of};
-ghost use Rattle.vm_drive.specs.Kept.{HaveRoom};
+ghost use Rattle.vm_drive.specs.{Compact.all_replies, Compact.HasWindows, Kept.HaveRoom};
 ghost use Rattle.vm_serve.specs.Served.{IsServed, IsServedInto};
 
 use std::alloc::Global;
@@ -15,7 +16,8 @@ use std::sync::Wait;
 use std::thread::Threads;
 use vm_block::MemBlock;
 use vm_core::Memory;
-use vm_drive::answers::{Answer, Answers};
+use vm_drive::answers::Answers;
+use vm_drive::compact::Replies;
 use vm_drive::gate::Gate;
 use vm_drive::{DrivenInto, drive_into, rooms_for};
 use vm_evict::Flushed;
@@ -29,7 +31,7 @@ use vm_tree_rule::Tree;
 #[derive(Drop)]
 pub struct Served {
     /// For each worker an answer to each of its calls.
-    pub replies: Vec<Vec<Answer>>,
+    pub replies: Vec<Replies>,
     /// How many pages the workers' sweeps evicted.
     pub evicted: u64,
     /// What the last flush did.
@@ -74,7 +76,8 @@ pub fn serve<R: Threads + Wait + Sync, G: Gate + Sync>(
     requires lists { (1 ≤ length lists.now) × (length lists.now ≤ 64) }
     requires few { AreFew (items_of lists.now) }
     requires askable { AreAskable (items_of lists.now) }
-    ensures served { IfOk result (λ s. IsServed image.now plan.now (items_of lists.now) (items_of s.replies.items) s.report s.blocks.items s.ended) }
+    ensures served { IfOk result (λ s. IsServed image.now plan.now (items_of lists.now) (all_replies s.replies.items) s.report s.blocks.items s.ended) }
+    ensures windows { IfOk result (λ s. AllByRecursion HasWindows s.replies.items) }
     ensures version { IfOk result (λ s. (view_at_end s.ended).start.version ≡ first_version) }
     ensures frames { IfOk result (λ s. (view_at_end s.ended).start.frames ≡ frames) }
 {

@@ -1,9 +1,11 @@
-use Rattle.std.proofs.Common.{[], ◌++◌, ◌<◌, ◌∙◌, ◌∷◌, arith, length, refl}
-use Rattle.std.proofs.lemmas.List.{take_more}
+use Rattle.std.proofs.Common.{[], ◌++◌, ◌+◌, ◌<◌, ◌∙◌, ◌∷◌, drop, get_or, length, List, refl, subst}
+use Rattle.std.proofs.lemmas.List.{drop_more, take_more}
+use Rattle.vm_map.specs.declared.call.Call.{Call}
 use Rattle.vm_map.specs.declared.call.Call.TheVariants.{Get}
 use Rattle.vm_step.specs.Prelude.{view}
 use Rattle.vm_tree_read.proofs.Losing.{loses-same, loses-then}
-use Rattle.vm_drive.proofs.Chain.{calls-snoc}
+use Rattle.vm_drive.specs.Kept.{IsRoomFor}
+use Rattle.vm_drive.proofs.{Chain.calls-snoc, Shortening.room-after, Shortening.room-now}
 use Rattle.vm_drive.proofs.worker.call_all.Goals as goal
 
 pub calls-preserved : goal.calls-preserved
@@ -18,7 +20,8 @@ calls-preserved g c =
         each = rw (take_more c.args.calls.now c.calls.call-index (Get 0) inside) (calls-snoc _ _ _ _ _ _ _ inv.done.each c.answer-answer.ensures.call);
       };
       lost = loses-then c.args.worker.now.iface.frames c.calls.worker.iface.frames c.answer-answer.new.iface.frames (view c.args.worker.now.pass) (view c.calls.worker.pass) (view c.answer-answer.new.pass) inv.lost c.answer-answer.ensures.lost;
-      room = (let left = c.keep.ensures.left in let room = inv.room in omega arith);
+      room = room-after (get_or c.args.calls.now c.calls.call-index (Get 0)) (drop (c.calls.call-index + 1) c.args.calls.now) c.answer-answer.result _ _ _ _
+          (subst (λ (l : List Call). IsRoomFor l (g.A.Answers.room c.calls.worker.answers)) (drop_more c.args.calls.now c.calls.call-index (Get 0) inside) inv.room) c.answer-answer.ensures.call c.keep.ensures.answers c.keep.ensures.windows;
     }
 
 pub calls-init : goal.calls-init
@@ -26,8 +29,15 @@ calls-init g c = record {
   work = c.requires.work;
   done = record { told = []; stands = c.requires.fresh; each = refl };
   lost = loses-same c.args.worker.now.iface.frames c.args.worker.now.iface.frames (view c.args.worker.now.pass) (view c.args.worker.now.pass) refl (λ f e. e);
-  room = (let room = c.requires.room in omega arith);
+  room = c.requires.room;
 }
 
-pub keep-requires : goal.keep-requires
-keep-requires g c = let room = c.calls.invariant.room in let inside : c.calls.call-index < length c.args.calls.now = c.calls-test.true in omega arith
+pub keep-requires-clause-answers : goal.keep-requires-clause-answers
+keep-requires-clause-answers g c =
+    (room-now (get_or c.args.calls.now c.calls.call-index (Get 0)) (drop (c.calls.call-index + 1) c.args.calls.now) c.answer-answer.result _ _ _
+    (subst (λ (l : List Call). IsRoomFor l (g.A.Answers.room c.calls.worker.answers)) (drop_more c.args.calls.now c.calls.call-index (Get 0) c.calls-test.true) c.calls.invariant.room) c.answer-answer.ensures.call).0
+
+pub keep-requires-clause-windows : goal.keep-requires-clause-windows
+keep-requires-clause-windows g c =
+    (room-now (get_or c.args.calls.now c.calls.call-index (Get 0)) (drop (c.calls.call-index + 1) c.args.calls.now) c.answer-answer.result _ _ _
+    (subst (λ (l : List Call). IsRoomFor l (g.A.Answers.room c.calls.worker.answers)) (drop_more c.args.calls.now c.calls.call-index (Get 0) c.calls-test.true) c.calls.invariant.room) c.answer-answer.ensures.call).1

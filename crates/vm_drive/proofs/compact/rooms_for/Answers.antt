@@ -1,8 +1,8 @@
 use Rattle.std.proofs.Common.{[], ◌++◌, ◌+◌, ◌<◌, ◌∙◌, ◌∷◌, ◌≡◌, ap, length, rules, sym, take}
 use Rattle.std.proofs.lemmas.List.{map-append, take_more}
-use Rattle.vm_drive.specs.{Drives.items_of, Kept.HasItems, Kept.left_in}
-use Rattle.vm_drive.proofs.Crews.{room-snoc}
-use Rattle.vm_drive.proofs.driving.rooms_for.Goals as goal
+use Rattle.vm_drive.specs.{Compact.KeepsAnswers, Compact.room_in, Drives.items_of}
+use Rattle.vm_drive.proofs.{Crews.room-snoc, Shortening.keeps-none}
+use Rattle.vm_drive.proofs.compact.rooms_for.Goals as goal
 
 pub lists-preserved : goal.lists-preserved
 lists-preserved c =
@@ -11,4 +11,7 @@ lists-preserved c =
     let one : take (c.lists.calls-index + 1) xs ≡ take c.lists.calls-index xs ++ c.calls-item.result ∷ [] = take_more xs c.lists.calls-index c.calls-item.result inside ∙ ap (λ l. take c.lists.calls-index xs ++ l ∷ []) (sym c.calls-item.is) in
     let more : items_of (take (c.lists.calls-index + 1) xs) ≡ items_of (take c.lists.calls-index xs) ++ c.calls-item.result.items ∷ [] = ap (λ l. items_of l) one ∙ map-append (λ v. v.items) (take c.lists.calls-index xs) (c.calls-item.result ∷ []) in
     rw (c.in_ok-push.ensures.items, more)
-    (room-snoc HasItems left_in _ _ _ _ c.lists.invariant c.in_ok-with_capacity.ensures.items (let cap = c.in_ok-with_capacity.ensures.capacity in let len = c.len.ensures in search rules))
+    (room-snoc KeepsAnswers room_in _ _ _ _ c.lists.invariant (keeps-none _ c.in_ok-short.ensures.items c.in_ok-windows.ensures.items) (record {
+      answers = (let cap = c.in_ok-short.ensures.capacity in let len = c.in_ok-short.ensures.len in let long = c.len.ensures in search rules);
+      windows = (let cap = c.in_ok-windows.ensures.capacity in let len = c.in_ok-windows.ensures.len in let asked = c.windows_in.ensures in let all = c.as_slice.ensures.value in search rules);
+    }))

@@ -1,0 +1,98 @@
+//! The answers to a list of calls in little memory. A window is as wide as a node of the tree and most answers are none, so an answer is 24 bytes, and the
+//! windows stand in a list of their own, with room for as many as calls ask for.
+
+ghost use Rattle.std.specs.Prelude.{[], ◌+◌, ◌++◌, ◌<◌, ◌∷◌, ◌≡◌, ◌≤◌, IfOk, vec_len};
+ghost use Rattle.vm_drive.specs.{Compact.KeepsAnswers, Compact.room_in, Drives.items_of, Kept.HaveRoom, Kept.windows_asked};
+ghost use Rattle.std.specs.Vec.{vec_capacity};
+
+use crate::answers::{Answer, Answers};
+use std::alloc::{AllocError, Global};
+use vm_map::call::{Call, Reply};
+use vm_map::window::Window;
+use vm_tree_rule::TreeFault;
+
+/// An answer without the window that it may show.
+#[derive(Debug, Drop, PartialEq)]
+pub enum Short {
+    Got(Option<u64>),
+    Was(Option<u64>),
+    Gone(Option<u64>),
+    /// The next of the windows.
+    Win,
+    Fault(TreeFault),
+}
+
+// So narrow that a million answers take 24 MB.
+const _: () = prove!(size_of::<Short>() <= 24);
+
+/// The answers to a list of calls.
+#[derive(Drop)]
+pub struct Replies {
+    /// Each answer, in the order of the calls.
+    pub short: Vec<Short>,
+    /// The windows, in the order of the answers that show them.
+    pub windows: Vec<Window>,
+}
+
+impl Replies {
+    // With an answer more, whose window stands already.
+    fn add(&mut self, short: Short)
+        requires { vec_len self.old.short < vec_capacity self.old.short }
+        ensures short { self.new.short.items ≡ self.old.short.items ++ short ∷ [] }
+        ensures len { vec_len self.new.short ≡ vec_len self.old.short + 1 }
+        ensures capacity { vec_capacity self.old.short ≤ vec_capacity self.new.short }
+        ensures windows { self.new.windows ≡ self.old.windows }
+    {
+        if self.short.push(short).is_err() {
+            unreachable!()
+        }
+    }
+}
+
+/// As many answers and windows as there is room for.
+impl Answers for Replies {
+    ghost keeps = { KeepsAnswers };
+
+    ghost room = { room_in };
+
+    fn keep(&mut self, answer: Answer) {
+        match answer {
+            Ok(Reply::Got(found)) => self.add(Short::Got(found)),
+            Ok(Reply::Was(old)) => self.add(Short::Was(old)),
+            Ok(Reply::Gone(old)) => self.add(Short::Gone(old)),
+            Ok(Reply::Win(window)) => {
+                if self.windows.push(window).is_err() {
+                    unreachable!()
+                }
+                self.add(Short::Win)
+            }
+            Err(fault) => self.add(Short::Fault(fault)),
+        }
+    }
+}
+
+// How many of the calls ask for a window.
+fn windows_in(calls: &[Call]) -> usize
+    ensures { result ≡ windows_asked calls.now }
+{
+    let mut count = 0;
+    'calls: for call in calls {
+        if let Call::Window { .. } = call {
+            count += 1;
+        }
+    }
+    count
+}
+
+/// For each list, room for an answer to each of its calls, and for a window to each that asks for one.
+pub fn rooms_for(alloc: Global, lists: &[Vec<Call>]) -> Result<Vec<Replies>, AllocError>
+    ensures { IfOk result (λ rooms. HaveRoom KeepsAnswers room_in rooms.items (items_of lists.now)) }
+{
+    let mut rooms = Vec::with_capacity(alloc, lists.len())?;
+    'lists: for calls in lists {
+        let short = Vec::with_capacity(alloc, calls.len())?;
+        let windows = Vec::with_capacity(alloc, windows_in(calls.as_slice()))?;
+        rooms.push(Replies { short, windows })?;
+    }
+    Ok(rooms)
+}
