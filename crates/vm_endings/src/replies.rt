@@ -1,14 +1,17 @@
 //! The text of what workers were answered, and of rows.
 
-ghost use Rattle.std.specs.Prelude.{◌++◌, ◌≡◌, ◌≤◌, length, OnOk};
+ghost use Rattle.std.specs.List.{AllByRecursion};
+ghost use Rattle.std.specs.Prelude.{[], ◌+◌, ◌++◌, ◌<◌, ◌^◌, ◌∷◌, ◌≡◌, ◌≤◌, length, OnOk};
+ghost use Rattle.vm_drive.specs.Compact.{all_replies, HasWindows, replies_in, told_in, wins_in};
 ghost use Rattle.vm_drive.specs.Drives.{AreFew, items_of};
-ghost use Rattle.vm_script.specs.Texts.{replies_text, reply_line, rows_text, worker_replies};
-ghost use Rattle.vm_endings.specs.Replies.{all_lines, AreMatched, fault_line, line_in, lines_in};
+ghost use Rattle.vm_script.specs.Texts.{replies_text, rows_text, worker_replies};
+ghost use Rattle.vm_endings.specs.Replies.{all_lines, AreMatched, fault_line, lines_in};
 
 use std::alloc::{AllocError, Global};
-use vm_drive::worker::Answer;
-use vm_map::call::{Call, Pair};
-use vm_script::text::{Line, reply_text, row_text, said_text};
+use vm_drive::compact::{Replies, Short};
+use vm_map::call::{Call, Pair, Reply};
+use vm_map::window::Window;
+use vm_script::text::{Line, reply_text, row_text, said_text, shown_text};
 use vm_tree_rule::TreeFault;
 
 // Why a call had no reply, as it is told.
@@ -22,20 +25,36 @@ fn line_of(fault: TreeFault) -> Line
     }
 }
 
-// Appends the line of one call.
+// Appends the line of one call. A window is the first of those that are left.
 fn add_answer(
     alloc: Global,
     worker: u32,
     number: u32,
     call: &Call,
-    answer: &Answer,
+    short: &Short,
+    windows: &[Window],
     out: &mut Vec<u8>,
 ) -> Result<(), AllocError>
-    ensures { OnOk result (out.new.items ≡ out.old.items ++ reply_line worker number (line_in call.now answer.now)) }
+    requires { wins_in (short.now ∷ []) ≤ length windows.now }
+    ensures { OnOk result (out.new.items ≡ out.old.items ++ replies_text worker number (lines_in (call.now ∷ []) (told_in (short.now ∷ []) windows.now))) }
 {
-    match answer {
-        Ok(reply) => said_text(alloc, worker, number, call, reply, out),
-        Err(fault) => reply_text(alloc, worker, number, &line_of(*fault), out),
+    match short {
+        Short::Got(found) => said_text(alloc, worker, number, call, &Reply::Got(*found), out),
+        Short::Was(old) => said_text(alloc, worker, number, call, &Reply::Was(*old), out),
+        Short::Gone(old) => said_text(alloc, worker, number, call, &Reply::Gone(*old), out),
+        Short::Win => shown_text(alloc, worker, number, call, &windows[0], out),
+        Short::Fault(fault) => reply_text(alloc, worker, number, &line_of(*fault), out),
+    }
+}
+
+// How many windows were told with this answer.
+fn told_with(shown: usize, short: &Short) -> usize
+    requires { shown < 2 ^ 32 }
+    ensures { result ≡ shown + wins_in (short.now ∷ []) }
+{
+    match short {
+        Short::Win => shown + 1,
+        Short::Got(_) | Short::Was(_) | Short::Gone(_) | Short::Fault(_) => shown,
     }
 }
 
@@ -44,18 +63,22 @@ fn add_answers(
     alloc: Global,
     worker: u32,
     calls: &[Call],
-    answers: &[Answer],
+    answers: &Replies,
     out: &mut Vec<u8>,
 ) -> Result<(), AllocError>
-    requires same { length answers.now ≡ length calls.now }
+    requires same { length (replies_in answers.now) ≡ length calls.now }
+    requires windows { HasWindows answers.now }
     requires few { length calls.now ≤ 1000000 }
-    ensures { OnOk result (out.new.items ≡ out.old.items ++ replies_text worker 1 (lines_in calls.now answers.now)) }
+    ensures { OnOk result (out.new.items ≡ out.old.items ++ replies_text worker 1 (lines_in calls.now (replies_in answers.now))) }
 {
+    let windows = answers.windows.as_slice();
     let mut number = 0u32;
-    'answers: for answer in answers {
+    let mut shown = 0usize;
+    'answers: for short in answers.short.as_slice() {
         let call = calls[number as usize];
         number += 1;
-        add_answer(alloc, worker, number, &call, answer, out)?;
+        add_answer(alloc, worker, number, &call, short, &windows[shown..], out)?;
+        shown = told_with(shown, short);
     }
     Ok(())
 }
@@ -64,18 +87,19 @@ fn add_answers(
 pub fn add_replies(
     alloc: Global,
     lists: &[Vec<Call>],
-    replies: &[Vec<Answer>],
+    replies: &[Replies],
     out: &mut Vec<u8>,
 ) -> Result<(), AllocError>
     requires few { AreFew (items_of lists.now) }
     requires workers { length lists.now ≤ 64 }
-    requires matched { AreMatched (items_of lists.now) (items_of replies.now) }
-    ensures { OnOk result (out.new.items ≡ out.old.items ++ worker_replies 0 (all_lines (items_of lists.now) (items_of replies.now))) }
+    requires matched { AreMatched (items_of lists.now) (all_replies replies.now) }
+    requires windows { AllByRecursion HasWindows replies.now }
+    ensures { OnOk result (out.new.items ≡ out.old.items ++ worker_replies 0 (all_lines (items_of lists.now) (all_replies replies.now))) }
 {
     let mut worker = 0u32;
     'workers: for answers in replies {
         let calls = lists[worker as usize].as_slice();
-        add_answers(alloc, worker, calls, answers.as_slice(), out)?;
+        add_answers(alloc, worker, calls, answers, out)?;
         worker += 1;
     }
     Ok(())

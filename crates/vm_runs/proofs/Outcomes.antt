@@ -6,7 +6,7 @@ use Rattle.vm_map.specs.{declared.call.Call.Call, Map.Pairs}
 use Rattle.vm_tree_model.specs.Tree.{map_of}
 use Rattle.vm_image.specs.{Blocks.pages_of_blocks, declared.blocks.PlannedFault.PlannedFault}
 use Rattle.vm_pool.specs.Closing.{view_at_end}
-use Rattle.vm_drive.specs.Drives.{items_of}
+use Rattle.vm_drive.specs.Compact.{all_replies}
 use Rattle.vm_serve.specs.{declared.serving.Served.Served, Served.IsServed, Served.TreeEnd}
 use Rattle.vm_script.specs.Texts.{rows_text, unflushed_line, worker_replies}
 use Rattle.vm_words.specs.declared.Run.{Run}
@@ -19,12 +19,12 @@ pub version_is : (version : Option ℕ) → unwrap_or version 0 ≡ version_or v
 version_is None = refl
 version_is (Some version) = refl
 
-abbrev pub made : (run : Run) (image : List (List ℕ)) (lists : List (List Call)) (plan : List PlannedFault) (version frames : ℕ) (s : Served) → IsServed image plan lists (items_of s.replies.items) s.report s.blocks.items s.ended → (view_at_end s.ended).start.version ≡ version → (view_at_end s.ended).start.frames ≡ frames → plan ≡ run.options.fail.items → version ≡ unwrap_or run.options.first_version 0 → frames ≡ run.frames → IsMadeRun run s.ended image lists
+abbrev pub made : (run : Run) (image : List (List ℕ)) (lists : List (List Call)) (plan : List PlannedFault) (version frames : ℕ) (s : Served) → IsServed image plan lists (all_replies s.replies.items) s.report s.blocks.items s.ended → (view_at_end s.ended).start.version ≡ version → (view_at_end s.ended).start.frames ≡ frames → plan ≡ run.options.fail.items → version ≡ unwrap_or run.options.first_version 0 → frames ≡ run.frames → IsMadeRun run s.ended image lists
 made run image lists plan version frames s served began has e first all = record {
-  replies = items_of s.replies.items;
+  replies = all_replies s.replies.items;
   report = s.report;
   blocks = s.blocks.items;
-  served = subst (λ (l : List PlannedFault). IsServed image l lists (items_of s.replies.items) s.report s.blocks.items s.ended) e served;
+  served = subst (λ (l : List PlannedFault). IsServed image l lists (all_replies s.replies.items) s.report s.blocks.items s.ended) e served;
   version = began ∙ first ∙ version_is run.options.first_version;
   frames = has ∙ all;
 }

@@ -1,9 +1,11 @@
 //! What the workers' calls come to, with the text that tells it and the file that is kept.
 
+ghost use Rattle.std.specs.List.{AllByRecursion};
 ghost use Rattle.std.specs.Prelude.{◌*◌, ◌++◌, ◌≡◌, ◌≤◌, IfOk, length};
 ghost use Rattle.vm_tree_model.specs.Tree.{IsTree, map_of};
 ghost use Rattle.vm_image.specs.Blocks.{pages_of_blocks};
 ghost use Rattle.vm_core.specs.Prelude.{MAX_VERSION};
+ghost use Rattle.vm_drive.specs.{Compact.all_replies, Compact.HasWindows};
 ghost use Rattle.vm_drive.specs.Drives.{AreAskable, AreFew, items_of};
 ghost use Rattle.vm_script.specs.Texts.{rows_text, unflushed_line, worker_replies};
 ghost use Rattle.vm_endings.specs.Deliveries.{content_of, written_of};
@@ -16,8 +18,8 @@ use std::thread::Threads;
 use vm_block::MemBlock;
 use vm_check::{CheckFault, check};
 use vm_core::Memory;
+use vm_drive::compact::Replies;
 use vm_drive::gate::Gate;
-use vm_drive::worker::Answer;
 use vm_endings::delivery::{Delivery, File};
 use vm_endings::replies::{add_replies, add_rows};
 use vm_files::reading::Stored;
@@ -40,15 +42,16 @@ pub struct Outcome<'a> {
 fn whole_text(
     alloc: Global,
     lists: &[Vec<Call>],
-    replies: &[Vec<Answer>],
+    replies: &[Replies],
     rows: &[Pair],
     ended: &Ended<Tree>,
     evicted: u64,
 ) -> Result<Vec<u8>, AllocError>
     requires few { AreFew (items_of lists.now) }
     requires workers { length lists.now ≤ 64 }
-    requires matched { AreMatched (items_of lists.now) (items_of replies.now) }
-    ensures { IfOk result (λ v. v.items ≡ worker_replies 0 (all_lines (items_of lists.now) (items_of replies.now)) ++ rows_text rows.now ++ counters_of ended.now evicted) }
+    requires matched { AreMatched (items_of lists.now) (all_replies replies.now) }
+    requires windows { AllByRecursion HasWindows replies.now }
+    ensures { IfOk result (λ v. v.items ≡ worker_replies 0 (all_lines (items_of lists.now) (all_replies replies.now)) ++ rows_text rows.now ++ counters_of ended.now evicted) }
 {
     let mut out = Vec::new(alloc);
     add_replies(alloc, lists, replies, &mut out)?;
@@ -68,15 +71,16 @@ fn whole_text(
 fn cut_text(
     alloc: Global,
     lists: &[Vec<Call>],
-    replies: &[Vec<Answer>],
+    replies: &[Replies],
     page: u32,
     ended: &Ended<Tree>,
     evicted: u64,
 ) -> Result<Vec<u8>, AllocError>
     requires few { AreFew (items_of lists.now) }
     requires workers { length lists.now ≤ 64 }
-    requires matched { AreMatched (items_of lists.now) (items_of replies.now) }
-    ensures { IfOk result (λ v. v.items ≡ worker_replies 0 (all_lines (items_of lists.now) (items_of replies.now)) ++ unflushed_line page ++ counters_of ended.now evicted) }
+    requires matched { AreMatched (items_of lists.now) (all_replies replies.now) }
+    requires windows { AllByRecursion HasWindows replies.now }
+    ensures { IfOk result (λ v. v.items ≡ worker_replies 0 (all_lines (items_of lists.now) (all_replies replies.now)) ++ unflushed_line page ++ counters_of ended.now evicted) }
 {
     let mut out = Vec::new(alloc);
     add_replies(alloc, lists, replies, &mut out)?;
@@ -192,7 +196,10 @@ pub fn outcome_of<'a, R: Threads + Wait + Sync, G: Gate + Sync>(
         }
         None => {
             let Stored { image, rows } = stored_in(alloc, blocks.as_slice())?;
+            // The text grows by doubling: what it does not speak of is let go before.
+            drop(blocks);
             let file = kept(alloc, &image, run.options.keep)?;
+            drop(image);
             let rows = rows.pairs.as_slice();
             let text = whole_text(alloc, lists, replies.as_slice(), rows, &ended, evicted)?;
             Ok(told(file, text, 0, ended))

@@ -67,6 +67,8 @@ pub fn run_script<'a, R: Threads + Wait + Sync, H: Host, G: Gate + Sync>(
     if !holds_call(rows.height, run.frames) {
         return Err(Undone::Stopped(Stop::Shape(Quantity::Frames)));
     }
+    // The calls change the tree: its rows are told of the pages that they leave.
+    drop(rows);
     let lists = match read_calls(alloc, host, run.script, workers) {
         Ok(lists) => lists,
         Err(undone) => return Err(undone),

@@ -1,6 +1,7 @@
 //! Writes the lines of what calls were answered, of rows, of counters, of a tree's size, and of what was made and churned.
 
 ghost use Rattle.std.specs.Prelude.{◌++◌, ◌≡◌, IfOk, if◌then◌else◌, is_ok, string_bytes};
+ghost use Rattle.vm_map.specs.declared.call.Reply.TheVariants.{Win};
 ghost use Rattle.vm_script.specs.declared.text.Line.TheVariants as lines;
 ghost use Rattle.vm_script.specs.Texts.{answer_text, bound_text, churn_line, counters_line, made_line, outcome_text, reply_line, row_line};
 ghost use Rattle.vm_script.specs.Texts.{shown_text, tree_line, unflushed_line, window_text};
@@ -53,6 +54,16 @@ fn window_text(alloc: Global, start: u64, window: &Window) -> Result<String, All
     let shown = shown(alloc, window.pairs.as_slice())?;
     let text = format!(in alloc; "window {start} {bound}{shown}")?;
     Ok(text)
+}
+
+// The text of a window that answers a call; none where the call asks for none.
+fn window_answer(alloc: Global, call: &Call, window: &Window) -> Result<String, AllocError>
+    ensures { IfOk result (λ text. string_bytes text ≡ answer_text call.now (Win window.now)) }
+{
+    match *call {
+        Call::Window { start, .. } => window_text(alloc, start, window),
+        Call::Get { .. } | Call::Put { .. } | Call::Del { .. } => Ok(String::new(alloc)),
+    }
 }
 
 // The text of a reply to a call; none for a reply that is not of the call's kind.
@@ -131,6 +142,26 @@ pub fn said_text(
     ensures { out.new.items ≡ (if is_ok result then out.old.items ++ reply_line worker number (lines.Said (record { call = call.now; reply = reply.now })) else out.old.items) }
 {
     let told = answer(alloc, call, reply)?;
+    let line = format!(in alloc; "{worker} {number} {told}\n")?;
+    out.extend_from_slice(line.as_bytes())
+}
+
+/// Appends the line of a call that was answered by a window, as `reply_text` does.
+///
+/// # Errors
+///
+/// `AllocError` where memory was refused; `out` is then as before.
+pub fn shown_text(
+    alloc: Global,
+    worker: u32,
+    number: u32,
+    call: &Call,
+    window: &Window,
+    out: &mut Vec<u8>,
+) -> Result<(), AllocError>
+    ensures { out.new.items ≡ (if is_ok result then out.old.items ++ reply_line worker number (lines.Said (record { call = call.now; reply = Win window.now })) else out.old.items) }
+{
+    let told = window_answer(alloc, call, window)?;
     let line = format!(in alloc; "{worker} {number} {told}\n")?;
     out.extend_from_slice(line.as_bytes())
 }

@@ -1,5 +1,5 @@
 use Rattle.std.proofs.Common.{◌++◌, ◌≡◌, drop}
-use Rattle.vm_drive.specs.Drives.{items_of}
+use Rattle.vm_drive.specs.{Compact.all_replies, Drives.items_of}
 use Rattle.vm_script.specs.Texts.{worker_replies}
 use Rattle.vm_endings.specs.Replies.{all_lines}
 use Rattle.vm_endings.proofs.replies.add_replies.Given as goal
@@ -7,5 +7,5 @@ use Rattle.vm_endings.proofs.replies.add_replies.Given as goal
 abbrev pub invariant-workers : goal.invariant-workers
 invariant-workers l = record {
   worker : l.worker ≡ l.answers-index;
-  told : l.out.items ++ worker_replies l.answers-index (all_lines (items_of (drop l.answers-index l.lists)) (items_of (drop l.answers-index l.replies))) ≡ l.fn.out.items ++ worker_replies 0 (all_lines (items_of l.lists) (items_of l.replies));
+  told : l.out.items ++ worker_replies l.answers-index (all_lines (items_of (drop l.answers-index l.lists)) (all_replies (drop l.answers-index l.replies))) ≡ l.fn.out.items ++ worker_replies 0 (all_lines (items_of l.lists) (all_replies l.replies));
 }

@@ -3,7 +3,7 @@ use Rattle.vm_block.specs.declared.memory.MemBlock.{MemBlock}
 use Rattle.vm_map.specs.Map.{Pairs}
 use Rattle.vm_tree_model.specs.Tree.{map_of}
 use Rattle.vm_image.specs.Blocks.{pages_of_blocks}
-use Rattle.vm_drive.specs.Drives.{items_of}
+use Rattle.vm_drive.specs.{Compact.all_replies, Drives.items_of}
 use Rattle.vm_script.specs.Texts.{rows_text, worker_replies}
 use Rattle.vm_endings.specs.{Deliveries.written_of, Made.last_map, Replies.all_lines, Replies.counters_of, Runs.IsKept}
 use Rattle.vm_endings.proofs.Telling.{matched}
@@ -40,5 +40,5 @@ returns g c =
     let pages : c.in_ok-image-in-None.field-0.image ≡ pages_of_blocks s.blocks.items = c.in_ok-image-in-None.ensures.image ∙ ap (λ (b : List MemBlock). pages_of_blocks b) blocks in
     let pairs : c.in_ok-image-in-None.field-0.rows.pairs.items ≡ m = c.in_ok-image-in-None.ensures.rows ∙ ap (λ (b : List MemBlock). map_of (pages_of_blocks b)) blocks in
     let kept : IsKept run.options.keep c.in_ok-image-in-None.field-0.image (written_of c.in_ok-file-in-None.file) = c.in_ok-file-in-None.ensures in
-    let text = (rw c.as_slice-in-None-2.ensures.value at c.in_ok-text-in-None.ensures) ∙ ap (λ (k : Pairs). worker_replies 0 (all_lines lists (items_of s.replies.items)) ++ rows_text k ++ counters_of s.ended s.evicted) (c.as_slice-rows.ensures.value ∙ pairs) in
+    let text = (rw c.as_slice-in-None-2.ensures.value at c.in_ok-text-in-None.ensures) ∙ ap (λ (k : Pairs). worker_replies 0 (all_lines lists (all_replies s.replies.items)) ++ rows_text k ++ counters_of s.ended s.evicted) (c.as_slice-rows.ensures.value ∙ pairs) in
     flushed_outcome run image lists s.ended m c.in_ok-text-in-None.text c.in_ok-file-in-None.file c.told-in-None.result s.evicted of c.in-None.is refl last text (subst (λ (p : List (List ℕ)). IsKept run.options.keep p (written_of c.in_ok-file-in-None.file)) pages kept) c.told-in-None.ensures
