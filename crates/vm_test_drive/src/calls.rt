@@ -9,7 +9,7 @@ use std::alloc::{AllocError, Global};
 use std::process::Abort;
 use std::sync::Wait;
 use vm_block::Block;
-use vm_drive::worker::Answer;
+use vm_drive::compact::{Replies, Short};
 use vm_exmap::Interface;
 use vm_map::call::{Call, Reply};
 use vm_pool::Pool;
@@ -113,7 +113,7 @@ fn expect_list<R: Abort + Wait, B: Block>(
     pass: &mut Pass<Tree>,
     iface: &mut Interface,
     calls: &[Call],
-    answers: &[Answer],
+    answers: &[Short],
 )
     requires pages { 1 ≤ pool.now.words.table.shared.key.pages }
     requires ready { IsReady pool.now.words.table.shared.key B.tells pool.now.words.table.shared.table_id pass.old }
@@ -127,11 +127,11 @@ fn expect_list<R: Abort + Wait, B: Block>(
     for (call, answer) in calls.iter().zip(answers) {
         if let Call::Put { key, value } = *call {
             let want = match answer {
-                Ok(reply) => {
-                    assert_eq!(rt; *reply, Reply::Was(None), "put of {key}");
+                Short::Fault(_) => None,
+                reply => {
+                    assert_eq!(rt; *reply, Short::Was(None), "put of {key}");
                     Some(value)
                 }
-                Err(_) => None,
             };
             let reply = got_again(rt, pool, pass, iface, key);
             assert_eq!(rt; reply, Ok(Reply::Got(want)), "get of {key}");
@@ -145,7 +145,7 @@ pub(crate) fn expect_lists<R: Abort + Wait, B: Block>(
     pool: &Pool<Tree, B>,
     pass: &mut Pass<Tree>,
     lists: &[Vec<Call>],
-    replies: &[Vec<Answer>],
+    replies: &[Replies],
 )
     requires pages { 1 ≤ pool.now.words.table.shared.key.pages }
     requires ready { IsReady pool.now.words.table.shared.key B.tells pool.now.words.table.shared.table_id pass.old }
@@ -160,17 +160,17 @@ pub(crate) fn expect_lists<R: Abort + Wait, B: Block>(
             pass,
             &mut iface,
             calls.as_slice(),
-            answers.as_slice(),
+            answers.short.as_slice(),
         );
     }
 }
 
 /// How many answers are faults.
-pub(crate) fn faults_in(replies: &[Vec<Answer>]) -> usize {
+pub(crate) fn faults_in(replies: &[Replies]) -> usize {
     let mut count = 0usize;
     for answers in replies {
-        for answer in answers.as_slice() {
-            if answer.is_err() {
+        for answer in answers.short.as_slice() {
+            if let Short::Fault(_) = answer {
                 count = count.saturating_add(1);
             }
         }
@@ -179,10 +179,10 @@ pub(crate) fn faults_in(replies: &[Vec<Answer>]) -> usize {
 }
 
 /// Each answer that is a fault is this one.
-pub(crate) fn expect_fault<R: Abort>(rt: &R, replies: &[Vec<Answer>], want: TreeFault) {
+pub(crate) fn expect_fault<R: Abort>(rt: &R, replies: &[Replies], want: TreeFault) {
     for answers in replies {
-        for answer in answers.as_slice() {
-            if let Err(fault) = answer {
+        for answer in answers.short.as_slice() {
+            if let Short::Fault(fault) = answer {
                 assert_eq!(rt; *fault, want);
             }
         }

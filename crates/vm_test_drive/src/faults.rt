@@ -7,10 +7,11 @@ use std::sync::Wait;
 use std::test::Fail;
 use std::thread::Threads;
 use vm_core::MAX_VERSION;
+use vm_drive::compact::Short;
 use vm_drive::drive;
 use vm_drive::gate::Open;
 use vm_image::PlannedFault;
-use vm_map::call::{Call, Reply};
+use vm_map::call::Call;
 use vm_tree_rule::TreeFault;
 
 /// One call of a page's block fails, while two workers put 150 keys each with so few frames that pages are evicted and brought again: at most
@@ -81,11 +82,11 @@ fn a_worn_leaf_is_read_by_all(rt: HostRuntime) -> Result<(), Fail> {
     let driven = drive(&rt, alloc, &pool, &mut pass, lists.as_slice(), &Open)?;
     assert_eq!(rt; driven.replies.len(), 2);
     for answers in driven.replies.as_slice() {
-        let [read, written] = answers.as_slice() else {
+        let [read, written] = answers.short.as_slice() else {
             return Err(Fail::from("an answer to each call"));
         };
-        assert_eq!(rt; *read, Ok(Reply::Got(None)));
-        assert_eq!(rt; *written, Err(TreeFault::Worn { pid: 1 }));
+        assert_eq!(rt; *read, Short::Got(None));
+        assert_eq!(rt; *written, Short::Fault(TreeFault::Worn { pid: 1 }));
     }
     Ok(())
 }

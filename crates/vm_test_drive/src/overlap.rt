@@ -10,10 +10,11 @@ use std::sync::atomic::{AtomicBool, Ordering};
 use std::test::Fail;
 use std::thread;
 use vm_block::{Block, Failed, MemBlock};
+use vm_drive::compact::Short;
 use vm_drive::drive;
 use vm_drive::gate::Gate;
 use vm_image::{Image, blocks_of};
-use vm_map::call::{Call, Reply};
+use vm_map::call::Call;
 use vm_page::PageBuf;
 use vm_pool::{Pool, Shape};
 use vm_rule::words::Pass;
@@ -175,8 +176,8 @@ fn a_call_ends_while_a_page_is_read(rt: HostRuntime) -> Result<(), Fail> {
     let [first, second] = driven.replies.as_slice() else {
         return Err(Fail::from("two lists of replies"));
     };
-    assert!(rt; first.as_slice() == [Ok(Reply::Was(Some(1)))].as_slice());
-    assert!(rt; second.as_slice() == [Ok(Reply::Was(Some(20)))].as_slice());
+    assert!(rt; first.short.as_slice() == [Short::Was(Some(1))].as_slice());
+    assert!(rt; second.short.as_slice() == [Short::Was(Some(20))].as_slice());
     assert!(rt; signals.gate_saw.load(Ordering::SeqCst));
     assert!(rt; signals.block_saw.load(Ordering::SeqCst));
     Ok(())

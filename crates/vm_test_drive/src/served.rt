@@ -7,9 +7,11 @@ use crate::trees::{MAGIC, page};
 use std::alloc::Global;
 use std::test::Fail;
 use vm_check::check;
+use vm_drive::compact::Short;
 use vm_drive::gate::Open;
 use vm_image::{Image, PlannedFault, image_of};
-use vm_map::call::{Call, Pair, Reply};
+use vm_map::call::{Call, Pair};
+use vm_map::window::Bound;
 use vm_serve::serve;
 
 /// Three pages whose one leaf has the pair 9 4.
@@ -55,8 +57,8 @@ fn a_tree_is_served(rt: HostRuntime) -> Result<(), Fail> {
     let [put, read] = served.replies.as_slice() else {
         return Err(Fail::from("two lists of replies"));
     };
-    assert!(rt; put.as_slice() == [Ok(Reply::Was(None))].as_slice());
-    assert!(rt; read.as_slice() == [Ok(Reply::Got(Some(4)))].as_slice());
+    assert!(rt; put.short.as_slice() == [Short::Was(None)].as_slice());
+    assert!(rt; read.short.as_slice() == [Short::Got(Some(4))].as_slice());
     assert_eq!(rt; served.evicted, 0);
     assert_eq!(rt; served.report.first, None);
     assert_eq!(rt; served.report.written, 1);
@@ -66,6 +68,32 @@ fn a_tree_is_served(rt: HostRuntime) -> Result<(), Fail> {
         served.ended.faults(),
     ];
     assert_eq!(rt; sums, [2, 1, 0]);
+    Ok(())
+}
+
+/// Of a list's answers the windows stand in a list of their own, in the order of their calls; a get between two of them has none.
+#[test]
+fn windows_stand_apart_in_order(rt: HostRuntime) -> Result<(), Fail> {
+    let alloc = rt.alloc();
+    let image = two_leaves(alloc)?;
+    let high = Call::Window { start: 16, most: 3 };
+    let low = Call::Window { start: 5, most: 3 };
+    let lists = two_lists(alloc, &[high, Call::Get { key: 9 }, low], &[low])?;
+    let served = serve(&rt, alloc, &image, &[], 0, 64, lists.as_slice(), &Open)?;
+    let [first, second] = served.replies.as_slice() else {
+        return Err(Fail::from("two lists of replies"));
+    };
+    let short = [Short::Win, Short::Got(Some(4)), Short::Win];
+    assert!(rt; first.short.as_slice() == short.as_slice());
+    let [shown, then] = first.windows.as_slice() else {
+        return Err(Fail::from("two windows"));
+    };
+    assert!(rt; shown.pairs.as_slice() == [Pair { key: 20, value: 5 }].as_slice());
+    assert!(rt; then.pairs.as_slice() == [Pair { key: 9, value: 4 }].as_slice());
+    assert_eq!(rt; shown.bound, Bound::End);
+    assert_eq!(rt; then.bound, Bound::Key(15));
+    assert!(rt; second.short.as_slice() == [Short::Win].as_slice());
+    assert_eq!(rt; second.windows.len(), 1);
     Ok(())
 }
 

@@ -1,12 +1,14 @@
 -- Whatever a read of the tree answers, the pass has its block at home as before; and a call that asks for no frame leaves it those that it had.
-use Rattle.std.proofs.Common.{◌<◌, ◌∙◌, ◌≡◌, ap, Bool, Err, false, IfErr, IfOk, inl, length, List, Ok, Result, subst, sym, ℕ}
+use Rattle.std.proofs.Common.{◌<◌, ◌∙◌, ◌≡◌, ap, Bool, Err, false, IfErr, IfOk, inl, length, List, None, Ok, Result, subst, sym, ℕ}
 use Rattle.vm_map.specs.{declared.call.Call.Call, declared.call.Reply.Reply, declared.call.Said.Said}
 use Rattle.vm_core.specs.Prelude.{Version}
-use Rattle.vm_rule.specs.Prelude.{draft_of, has, last_of}
+use Rattle.vm_rule.specs.Prelude.{draft_of, has, last_of, LookTold}
 use Rattle.vm_rule.specs.declared.view.Held.{Held}
 use Rattle.vm_step.specs.Prelude.{AreHeld, KnowsAsBefore, Origin, View}
 use Rattle.vm_exmap.proofs.Handing.{held-on}
 use Rattle.vm_guard.specs.Guards.{IsHolding}
+use Rattle.vm_guard.proofs.QuietSteps.{look-quiet}
+use Rattle.vm_tree_laws.specs.Tied.{Tied}
 use Rattle.vm_tree_rule.specs.{declared.fault.TreeFault.TreeFault, Leaves.OnlyReads}
 use Rattle.vm_tree_read.specs.{declared.read.TryRead.TryRead, Reads.IsTried, Waiting.IsFaulted, Waiting.IsReplied}
 use Rattle.vm_tree_read.specs.declared.read.TryRead.TheVariants as reads
@@ -19,6 +21,10 @@ pub record Rests (v w : View Said) : Type 0 where
 
 pub of-reads : (v w : View Said) → OnlyReads v w → Rests v w
 of-reads v w r = record { out = r.out; start = r.start; frames = r.frames.0 }
+
+-- a look at a page, too
+pub look-rests : (p found : ℕ) (v w : View Said) → LookTold Tied p None found v w → Rests v w
+look-rests p found v w told = let q = look-quiet Tied p found v w told in record { out = q.steady.out; start = q.steady.start; frames = q.steady.frames.0 }
 
 pub read-rests : (call : Call) (key : ℕ) (t : TryRead) (v w : View Said) → IsTried call key t v w → Rests v w
 read-rests call key (reads.Done reply) v w a = of-reads v w a.reads

@@ -15,8 +15,10 @@ use vm_guard::ExclusiveGuard;
 use vm_image::{PlannedFault, blocks_of, read_image};
 use vm_map::call::Reply;
 use vm_page::PageBuf;
-use vm_pool::{Pool, Shape};
+use vm_pool::{Bring, Pool, Shape};
 use vm_rule::words::Pass;
+use vm_step::look_silently;
+use vm_tree_callers::{Started, get_from_start};
 use vm_tree_read::{TryRead, get, try_get, try_window, window};
 use vm_tree_rule::{Tree, TreeFault};
 
@@ -44,6 +46,15 @@ pub(crate) fn empty(alloc: Global, pages: usize) -> Result<Vec<u8>, Fail> {
     for _ in 2..pages {
         put_page(&mut bytes, &[])?;
     }
+    Ok(bytes)
+}
+
+/// Three pages of a tree of one node: page 1 is a leaf of all keys with two pairs, page 2 is free.
+pub(crate) fn one_leaf(alloc: Global) -> Result<Vec<u8>, Fail> {
+    let mut bytes = Vec::new(alloc);
+    put_page(&mut bytes, &[MAGIC, 1, 0])?;
+    put_page(&mut bytes, &[2, 2, 0, 0, 1, 0, 0, 0, 5, 50, 7, 70])?;
+    put_page(&mut bytes, &[])?;
     Ok(bytes)
 }
 
@@ -90,6 +101,36 @@ pub(crate) fn open_with(
         first_version,
     };
     Ok(Pool::start(alloc, shape, blocks)?)
+}
+
+/// `get_from_start` over the tree of these bytes, which has one node: what `bring` answers for page 0 and page 1, and what the get is answered then.
+pub(crate) fn get_first(
+    alloc: Global,
+    bytes: &[u8],
+    plan: &[PlannedFault],
+    key: u64,
+) -> Result<(Bring, Bring, TryRead), Fail> {
+    let image = read_image(alloc, bytes)?;
+    check(alloc, &image)?;
+    let blocks = blocks_of(alloc, &image, plan)?;
+    let shape = Shape {
+        pages: image.pages(),
+        frames: 64,
+        next: image.next(),
+        first_version: 0,
+    };
+    if shape.next != 2 {
+        return Err(Fail::from("not one node"));
+    }
+    let Started {
+        pool: _,
+        pass: _,
+        iface: _,
+        meta,
+        root,
+        reply,
+    } = get_from_start(alloc, shape, blocks, key)?;
+    Ok((meta, root, reply))
 }
 
 /// `get`.
@@ -193,4 +234,27 @@ pub(crate) fn get_beside(
 {
     let _ = guard;
     try_get(pool.words(), pass, key)
+}
+
+/// The page's state word, where there is such a page, as a pass sees it that keeps its frames.
+pub(crate) fn state_word(
+    pool: &Pool<Tree, MemBlock>,
+    pass: &mut Pass<Tree>,
+    iface: &Interface,
+    pid: u32,
+) -> Option<u64>
+    requires ready { IsReady pool.now.words.table.shared.key ⟦<MemBlock as Block>⟧.tells pool.now.words.table.shared.table_id pass.old }
+    requires home { (view pass.old).out ≡ None }
+    requires held { AreHeld iface.now.frames (view pass.old) }
+    ensures ready { IsReady pool.now.words.table.shared.key ⟦<MemBlock as Block>⟧.tells pool.now.words.table.shared.table_id pass.new }
+    ensures home { (view pass.new).out ≡ None }
+    ensures held { AreHeld iface.now.frames (view pass.new) }
+{
+    let _ = iface;
+    let words = pool.words();
+    if (pid as usize) < words.pages {
+        Some(look_silently(words, pass, pid))
+    } else {
+        None
+    }
 }

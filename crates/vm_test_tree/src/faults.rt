@@ -103,7 +103,7 @@ fn a_worn_root_is_not_split(rt: HostRuntime) -> Result<(), Fail> {
     let bytes = empty(rt.alloc(), 8)?;
     let (pool, mut pass) = open_with(rt.alloc(), bytes.as_slice(), &[], MAX_VERSION - 29)?;
     let mut iface = Interface::new(0, 16);
-    fill(&rt, &pool, &mut pass, &mut iface);
+    fill(&rt, &pool, &mut pass, &mut iface, 28);
     let tight = put_once(&pool, &mut pass, &iface, 28, 1);
     assert!(rt; matches!(&tight, TryWrite::Tight(1)));
     let worn = split_once(&pool, &mut pass, &mut iface, 28);

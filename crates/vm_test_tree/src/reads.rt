@@ -1,11 +1,16 @@
 //! Reads of small trees, with ample memory. The pages are worked out by hand from the formats.
-use crate::calls::{empty, get_beside, get_once, got, open, two_leaves, window_from, window_once};
+use crate::calls::{
+    empty, get_beside, get_first, get_once, got, one_leaf, open, two_leaves, window_from,
+    window_once,
+};
 use std::test::Fail;
 use vm_core::StateWord;
 use vm_exmap::Interface;
 use vm_guard::ExclusiveGuard;
+use vm_image::PlannedFault;
 use vm_map::call::Reply;
 use vm_map::window::Bound;
+use vm_pool::Bring;
 use vm_step::At;
 use vm_tree_read::TryRead;
 
@@ -21,6 +26,22 @@ fn a_key_that_is_not_there_has_no_value(rt: HostRuntime) -> Result<(), Fail> {
     assert_eq!(rt; reply, Ok(Reply::Got(None)));
     let again = get_once(&pool, &mut pass, &iface, 5);
     assert!(rt; matches!(&again, TryRead::Done(Reply::Got(None))));
+    Ok(())
+}
+
+#[test]
+fn a_get_right_from_the_start_is_answered(rt: HostRuntime) -> Result<(), Fail> {
+    let bytes = one_leaf(rt.alloc())?;
+    let (meta, root, reply) = get_first(rt.alloc(), bytes.as_slice(), &[], 7)?;
+    assert_eq!(rt; meta, Bring::Brought);
+    assert_eq!(rt; root, Bring::Brought);
+    assert!(rt; matches!(&reply, TryRead::Done(Reply::Got(Some(70)))));
+    // The root's device fails once, so the get needs the root.
+    let plan = [PlannedFault { page: 1, number: 1 }];
+    let (meta, root, reply) = get_first(rt.alloc(), bytes.as_slice(), &plan, 7)?;
+    assert_eq!(rt; meta, Bring::Brought);
+    assert_eq!(rt; root, Bring::Device { pid: 1, count: 1 });
+    assert!(rt; matches!(&reply, TryRead::Need(1)));
     Ok(())
 }
 

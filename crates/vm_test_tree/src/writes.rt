@@ -2,18 +2,19 @@
 ghost use Rattle.std.specs.Prelude.{◌≡◌, ◌≤◌, None};
 ghost use Rattle.vm_step.specs.Prelude.{AreHeld, IsReady, view};
 
-use crate::calls::{empty, got, open};
+use crate::calls::{empty, got, open, open_with, state_word, two_leaves};
 use crate::write_calls::{del_at, del_once, put_at, put_once, split_once};
 use std::process::Abort;
 use std::sync::Wait;
 use std::test::Fail;
 use vm_block::{Block, MemBlock};
+use vm_core::{MAX_VERSION, StateWord};
 use vm_exmap::Interface;
 use vm_map::call::Reply;
 use vm_pool::Pool;
 use vm_rule::words::Pass;
 use vm_tree_callers::{put_meet_get, put_then_get};
-use vm_tree_rule::Tree;
+use vm_tree_rule::{Tree, TreeFault};
 use vm_tree_write::{TrySplit, TryWrite};
 
 /// 800 keys in a mixed order get the number behind them. None of them was there.
@@ -85,12 +86,13 @@ fn del_half<R: Wait + Abort>(
     }
 }
 
-/// A leaf is filled: the keys below 28 get the value 1.
+/// A leaf is filled: the keys below `count`, none of which was there, get the value 1.
 pub(crate) fn fill<R: Wait + Abort>(
     rt: &R,
     pool: &Pool<Tree, MemBlock>,
     pass: &mut Pass<Tree>,
     iface: &mut Interface,
+    count: u64,
 )
     requires pages { 1 ≤ pool.now.words.table.shared.key.pages }
     requires ready { IsReady pool.now.words.table.shared.key ⟦<MemBlock as Block>⟧.tells pool.now.words.table.shared.table_id pass.old }
@@ -100,9 +102,32 @@ pub(crate) fn fill<R: Wait + Abort>(
     ensures home { (view pass.new).out ≡ None }
     ensures held { AreHeld iface.new.frames (view pass.new) }
 {
-    for key in 0..28 {
+    for key in 0..count {
         let reply = put_at(rt, pool, pass, iface, key, 1);
         assert_eq!(rt; reply, Ok(Reply::Was(None)));
+    }
+}
+
+/// Of 12 puts of the key each is refused, since the image of so many pages has none left.
+fn refuse_many<R: Wait + Abort>(
+    rt: &R,
+    pool: &Pool<Tree, MemBlock>,
+    pass: &mut Pass<Tree>,
+    iface: &mut Interface,
+    key: u64,
+    pages: u32,
+)
+    requires pages { 1 ≤ pool.now.words.table.shared.key.pages }
+    requires ready { IsReady pool.now.words.table.shared.key ⟦<MemBlock as Block>⟧.tells pool.now.words.table.shared.table_id pass.old }
+    requires home { (view pass.old).out ≡ None }
+    requires held { AreHeld iface.old.frames (view pass.old) }
+    ensures ready { IsReady pool.now.words.table.shared.key ⟦<MemBlock as Block>⟧.tells pool.now.words.table.shared.table_id pass.new }
+    ensures home { (view pass.new).out ≡ None }
+    ensures held { AreHeld iface.new.frames (view pass.new) }
+{
+    for _i in 0..12 {
+        let refused = put_at(rt, pool, pass, iface, key, 1);
+        assert_eq!(rt; refused, Err(TreeFault::Full { pages }));
     }
 }
 
@@ -127,7 +152,7 @@ fn a_full_leaf_is_tight_and_then_split(rt: HostRuntime) -> Result<(), Fail> {
     let bytes = empty(rt.alloc(), 8)?;
     let (pool, mut pass) = open(rt.alloc(), bytes.as_slice())?;
     let mut iface = Interface::new(0, 16);
-    fill(&rt, &pool, &mut pass, &mut iface);
+    fill(&rt, &pool, &mut pass, &mut iface, 28);
     // The 28 keys that there are can be put, others not.
     let same = put_once(&pool, &mut pass, &iface, 27, 2);
     assert!(rt; matches!(&same, TryWrite::Done(Reply::Was(Some(1)))));
@@ -149,7 +174,7 @@ fn a_full_image_has_no_page_for_a_split(rt: HostRuntime) -> Result<(), Fail> {
     let bytes = empty(rt.alloc(), 3)?;
     let (pool, mut pass) = open(rt.alloc(), bytes.as_slice())?;
     let mut iface = Interface::new(0, 16);
-    fill(&rt, &pool, &mut pass, &mut iface);
+    fill(&rt, &pool, &mut pass, &mut iface, 28);
     let full = split_once(&pool, &mut pass, &mut iface, 28);
     assert!(rt;
         matches!(
@@ -161,9 +186,71 @@ fn a_full_image_has_no_page_for_a_split(rt: HostRuntime) -> Result<(), Fail> {
             }
         )
     );
-    // The locks that it took are given up.
+    // It has locked nothing.
     let put_still = put_once(&pool, &mut pass, &iface, 3, 9);
     assert!(rt; matches!(&put_still, TryWrite::Done(Reply::Was(Some(1)))));
+    Ok(())
+}
+
+/// Page 0 and the leaf are brought in, each a version on, and the leaf is put 28 times: then it is at the last version but one. No put that is
+/// refused since the image is full raises a version, so that the last one is left for a put of a key that is there.
+#[test]
+fn puts_that_a_full_image_refuses_wear_no_page(rt: HostRuntime) -> Result<(), Fail> {
+    let bytes = empty(rt.alloc(), 3)?;
+    let (pool, mut pass) = open_with(rt.alloc(), bytes.as_slice(), &[], MAX_VERSION - 30)?;
+    let mut iface = Interface::new(0, 16);
+    fill(&rt, &pool, &mut pass, &mut iface, 28);
+    refuse_many(&rt, &pool, &mut pass, &mut iface, 28, 3);
+    let page_0 = state_word(&pool, &mut pass, &iface, 0);
+    assert_eq!(rt; page_0, Some(MAX_VERSION - 29));
+    let leaf = state_word(&pool, &mut pass, &iface, 1);
+    assert_eq!(rt; leaf, Some(MAX_VERSION - 1));
+    let unclaimed = state_word(&pool, &mut pass, &iface, 2);
+    assert_eq!(rt;
+        unclaimed,
+        Some(StateWord::of(StateWord::EVICTED, MAX_VERSION - 30))
+    );
+    let put = put_at(&rt, &pool, &mut pass, &mut iface, 3, 9);
+    assert_eq!(rt; put, Ok(Reply::Was(Some(1))));
+    let worn = put_at(&rt, &pool, &mut pass, &mut iface, 3, 8);
+    assert_eq!(rt; worn, Err(TreeFault::Worn { pid: 1 }));
+    // A worn leaf is no reason where the image is full, too.
+    refuse_many(&rt, &pool, &mut pass, &mut iface, 28, 3);
+    Ok(())
+}
+
+/// The leaf below key 100 loses its two keys and gets 28, and its parent, the root, has room for more: what is missing is a page.
+#[test]
+fn a_full_leaf_and_its_parent_are_left_as_they_were(rt: HostRuntime) -> Result<(), Fail> {
+    let bytes = two_leaves(rt.alloc())?;
+    let (pool, mut pass) = open(rt.alloc(), bytes.as_slice())?;
+    let mut iface = Interface::new(0, 16);
+    let reply = del_at(&rt, &pool, &mut pass, &mut iface, 5);
+    assert_eq!(rt; reply, Ok(Reply::Gone(Some(50))));
+    let reply = del_at(&rt, &pool, &mut pass, &mut iface, 7);
+    assert_eq!(rt; reply, Ok(Reply::Gone(Some(70))));
+    fill(&rt, &pool, &mut pass, &mut iface, 28);
+    let full = split_once(&pool, &mut pass, &mut iface, 28);
+    assert!(rt;
+        matches!(
+            &full,
+            TrySplit::Full {
+                pages: 4,
+                next: 4,
+                need: 1
+            }
+        )
+    );
+    refuse_many(&rt, &pool, &mut pass, &mut iface, 28, 4);
+    // Page 0 and the root were brought in; the leaf was, and written 30 times; its sibling never was.
+    let page_0 = state_word(&pool, &mut pass, &iface, 0);
+    assert_eq!(rt; page_0, Some(1));
+    let root = state_word(&pool, &mut pass, &iface, 1);
+    assert_eq!(rt; root, Some(1));
+    let leaf = state_word(&pool, &mut pass, &iface, 2);
+    assert_eq!(rt; leaf, Some(31));
+    let sibling = state_word(&pool, &mut pass, &iface, 3);
+    assert_eq!(rt; sibling, Some(StateWord::of(StateWord::EVICTED, 0)));
     Ok(())
 }
 
