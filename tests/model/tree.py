@@ -143,11 +143,11 @@ def build(size, pairs):
 
 
 class Fault(Exception):
-    """A call without a reply, with what may be printed for it."""
+    """A call without a reply, with what is printed for it."""
 
-    def __init__(self, *texts):
-        super().__init__(*texts)
-        self.texts = texts
+    def __init__(self, text):
+        super().__init__(text)
+        self.text = text
 
 
 class Store:
@@ -205,20 +205,19 @@ class Store:
             pid = node.pairs[node.place(key)][1]
 
     def split(self, way):
-        """Splits the first full node of the way; a call `full` where no page is left for it."""
+        """Splits the first full node of the way. Where no page is left for it the call is `full`, and no version was raised."""
         at = next(i for i, pid in enumerate(way) if len(node_of(self.pages[pid]).pairs) == MOST)
         pid, root = way[at], at == 0
-        worn = [f"worn {p}" for p in (0 if root else way[at - 1], pid) if self.versions[p] == LAST]
-        full = ["full"] if self.next + (2 if root else 1) > len(self.pages) else []
-        if worn or full:
-            raise Fault(*worn, *full)
         node, right = node_of(self.pages[pid]), self.next
         key = node.pairs[HALF][0]
         halves = Node(node.level, node.low, key, node.pairs[:HALF]), Node(node.level, key, node.high, node.pairs[HALF:])
-        self.next += 2 if root else 1
         fresh = [right, right + 1] if root else [right]
+        if fresh[-1] >= len(self.pages):
+            raise Fault("full")
+        # the pages are locked in this order, and those before a worn one are released again
         for page in [0 if root else way[at - 1], pid] + fresh:
             self.raise_version(page)
+        self.next += len(fresh)
         self.resident |= set(fresh)
         self.write(pid, halves[0].page())
         self.write(right, halves[1].page())
