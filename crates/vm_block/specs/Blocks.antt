@@ -1,13 +1,12 @@
 -- What a call on a block answers and changes: the words held, the counts, and the bound of the count of faults.
 use Rattle.std.specs.Prelude.{ℕ, ◌≡◌, List, length, Bool, true, Result, is_ok, OnOk, if◌then◌else◌}
 use Rattle.vm_page.specs.Counts.{count_more}
-use Rattle.vm_page.specs.declared.buf.TheConstants.{WORDS}
 use Rattle.vm_block.specs.declared.stored.Stored.{Stored}
 
--- a read: where it answers, the buffer has the words held, and where it fails, the count of faults is raised
-pub record Reads {E : Type 0} (tells : Bool) (old new : Stored) (into : List ℕ) (result : Result (Unit {0}) E) : Type 0 where
+-- a read of a page of so many words: where it answers, the buffer has the words held, and where it fails, the count of faults is raised
+pub record Reads {E : Type 0} (size : ℕ) (tells : Bool) (old new : Stored) (into : List ℕ) (result : Result (Unit {0}) E) : Type 0 where
   pub given : tells ≡ true → OnOk result (into ≡ old.words)
-  pub whole : OnOk result (length into ≡ WORDS)
+  pub whole : OnOk result (length into ≡ size)
   pub held : tells ≡ true → new.words ≡ old.words
   pub count : new.count ≡ (if is_ok result then old.count else count_more old.count)
   pub reads : new.reads ≡ (if is_ok result then count_more old.reads else old.reads)

@@ -1,4 +1,4 @@
-//! The trait of blocks: each is the storage of one page, which is read and written whole.
+//! The traits of blocks: each is the storage of one page, which is read and written whole.
 
 ghost use Rattle.std.specs.Prelude.{◌≡◌, ℕ, ◌-◌, ◌^◌, ◌≤◌, length, true};
 ghost use Rattle.vm_block.specs.Blocks.{Reads, Writes};
@@ -11,10 +11,9 @@ use vm_page::PageBuf;
 #[error("the block failed")]
 pub struct Failed;
 
-/// The storage of one page.
+/// The storage of one page: what it holds and has counted, whatever the number of words of its page.
 pub trait Block {
     ghost use Rattle.std.specs.Prelude.{Bool};
-    ghost use Rattle.vm_page.specs.declared.buf.TheConstants.{WORDS};
     ghost use Rattle.vm_block.specs.declared.stored.Stored.{Stored};
 
     /// Whether this kind of block tells its words.
@@ -22,14 +21,6 @@ pub trait Block {
 
     /// What the block holds and has counted.
     ghost stored: { Self → Stored };
-
-    /// Reads the page. After a failure the buffer may hold anything.
-    fn read(&mut self, into: &mut PageBuf) -> Result<(), Failed>
-        ensures { Reads tells (stored self.old) (stored self.new) into.new result };
-
-    /// Writes the page. A failure leaves the words that were held.
-    fn write(&mut self, words: &PageBuf) -> Result<(), Failed>
-        ensures { Writes tells (stored self.old) (stored self.new) words.now result };
 
     /// How many reads answered, up to the greatest `u64`.
     fn reads(&self) -> u64
@@ -43,12 +34,23 @@ pub trait Block {
     fn faults(&self) -> u64
         ensures { result ≡ (stored self.now).count };
 
-    /// The words held are a page's.
-    ghost whole: { (b : Self) → tells ≡ true → length (stored b).words ≡ WORDS };
-
     /// No more calls fail than the bound says.
     ghost bounded: { (b : Self) → (stored b).count ≤ (stored b).bound };
 
     /// The bound is a number that the count can reach.
     ghost capped: { (b : Self) → (stored b).bound ≤ 2 ^ 64 - 1 };
+}
+
+/// The storage of a page of `N` words, which is read and written whole.
+pub trait PageBlock<const N: usize>: Block {
+    /// Reads the page. After a failure the buffer may hold anything.
+    fn read(&mut self, into: &mut PageBuf<N>) -> Result<(), Failed>
+        ensures { Reads N Self.tells (Self.stored self.old) (Self.stored self.new) into.new result };
+
+    /// Writes the page. A failure leaves the words that were held.
+    fn write(&mut self, words: &PageBuf<N>) -> Result<(), Failed>
+        ensures { Writes Self.tells (Self.stored self.old) (Self.stored self.new) words.now result };
+
+    /// The words held are a page's.
+    ghost whole: { (b : Self) → Self.tells ≡ true → length (Self.stored b).words ≡ N };
 }

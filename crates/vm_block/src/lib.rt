@@ -1,4 +1,4 @@
-//! The storage of one page: the trait of devices, each with counts of its calls and its faults, and a device in memory.
+//! The storage of one page: the traits of devices, each with counts of its calls and its faults, and a device in memory.
 #![tactic(auto)]
 
 mod block;
@@ -6,6 +6,6 @@ mod memory;
 mod plan;
 mod stored;
 
-pub use block::{Block, Failed};
+pub use block::{Block, Failed, PageBlock};
 pub use memory::MemBlock;
 pub use stored::Stored;

@@ -5,7 +5,7 @@ use std::collections::LinkedList;
 /// What a block holds and has counted. No value of it is made: it is there for contracts, and a rule over shared words can keep it in what
 /// a thread knows.
 pub struct Stored {
-    /// The 64 words held. They stand for nothing where the kind of block does not tell its words.
+    /// The words held. They stand for nothing where the kind of block does not tell its words.
     pub words: LinkedList<u64>,
     /// Calls that failed. The count stands still at 2^64 - 1.
     pub count: u64,

@@ -1,20 +1,23 @@
-//! The page buffer: 64 words, each of them eight bytes in a file, the greatest byte first.
+//! The page buffer: 64 or 512 words, each of them eight bytes in a file, the greatest byte first.
 
-ghost use Rattle.std.specs.Prelude.{◌≡◌, ℕ, ◌^◌, ◌<◌, length, replicate, slice_index, slice_set};
-ghost use Rattle.vm_page.specs.Bytes.{bytes_of_words, words_of_bytes};
+ghost use Rattle.std.specs.Prelude.{◌≡◌, ℕ, ◌*◌, ◌^◌, ◌<◌, length, replicate, slice_index, slice_set};
+ghost use Rattle.vm_page.specs.{Bytes.bytes_of_words, Bytes.words_of_bytes, Sizes.IsSize};
 
 use std::marker::Model;
 
 /// How many words a page has.
 pub const WORDS: usize = 64;
 
-/// A page of 64 words: contracts see the list of its words.
+/// How many words a large page has.
+pub const LARGE: usize = 512;
+
+/// A page of `N` words: contracts see the list of its words.
 #[derive(Drop)]
-pub struct PageBuf {
-    words: [u64; WORDS],
+pub struct PageBuf<const N: usize> {
+    words: [u64; N],
 }
 
-impl Model for PageBuf {
+impl<const N: usize> Model for PageBuf<N> {
     ghost use Rattle.std.specs.Prelude.{ℕ, List};
 
     ghost Value = { List ℕ };
@@ -22,58 +25,62 @@ impl Model for PageBuf {
     ghost view = { λ p. p.words };
 }
 
-impl PageBuf {
+impl<const N: usize> PageBuf<N> {
     /// A page of zeros.
-    pub fn zero() -> PageBuf
-        ensures { result ≡ replicate WORDS 0 }
+    pub fn zero() -> PageBuf<N>
+        requires size { IsSize N }
+        ensures { result ≡ replicate N 0 }
     {
-        PageBuf { words: [0; WORDS] }
+        PageBuf { words: [0; N] }
     }
 
-    /// Word `i`, for `i` from 0 to 63.
+    /// Word `i`.
     pub fn get(&self, i: usize) -> u64
-        requires { i < WORDS }
+        requires { i < N }
         ensures word { result ≡ slice_index self.now i }
-        ensures length { length self.now ≡ WORDS }
+        ensures length { length self.now ≡ N }
         ensures below { (k : ℕ) → slice_index self.now k < 2 ^ 64 }
     {
-        self.words[i]
+        word_of(&self.words, i)
     }
 
-    /// Writes word `i`, for `i` from 0 to 63; the other words stay.
+    /// Writes word `i`; the other words stay.
     pub fn set(&mut self, i: usize, w: u64)
-        requires { i < WORDS }
+        requires { i < N }
         ensures words { self.new ≡ slice_set self.old i w }
-        ensures length { length self.new ≡ WORDS }
+        ensures length { length self.new ≡ N }
     {
         self.words[i] = w;
     }
 
     /// Takes over the words of another page.
-    pub fn copy_from(&mut self, page: &PageBuf)
+    pub fn copy_from(&mut self, page: &PageBuf<N>)
         ensures words { self.new ≡ page.now }
-        ensures length { length self.new ≡ WORDS }
+        ensures length { length self.new ≡ N }
     {
         self.words = page.words;
     }
 
-    /// The bytes of the words; read back they are the same words.
-    pub fn to_bytes(&self) -> [u8; 512]
-        ensures bytes { result ≡ bytes_of_words self.now }
-        ensures back { words_of_bytes result ≡ self.now }
-        ensures length { length self.now ≡ WORDS }
+    /// Writes the bytes of the words; read back they are the same words.
+    pub fn put_bytes(&self, out: &mut [u8])
+        requires size { length out.old ≡ 8 * N }
+        ensures bytes { out.new ≡ bytes_of_words self.now }
+        ensures back { words_of_bytes out.new ≡ self.now }
+        ensures length { length self.now ≡ N }
     {
-        bytes_of(&self.words)
+        write_words(&self.words, out);
     }
 
     /// The page that the bytes stand for; its bytes are the same again.
-    pub fn of_bytes(bytes: &[u8; 512]) -> PageBuf
+    pub fn of_slice(bytes: &[u8]) -> PageBuf<N>
+        requires sized { IsSize N }
+        requires size { length bytes.now ≡ 8 * N }
         ensures words { result ≡ words_of_bytes bytes.now }
         ensures back { bytes_of_words result ≡ bytes.now }
-        ensures length { length result ≡ WORDS }
+        ensures length { length result ≡ N }
     {
-        let mut words = [0; WORDS];
-        for i in 0..WORDS {
+        let mut words = [0; N];
+        for i in 0..N {
             let mut word = [0; 8];
             word.copy_from_slice(&bytes[8 * i..8 * i + 8]);
             words[i] = u64::from_be_bytes(word);
@@ -82,14 +89,22 @@ impl PageBuf {
     }
 }
 
-// The bytes of the words.
-fn bytes_of(words: &[u64; WORDS]) -> [u8; 512]
-    ensures bytes { result ≡ bytes_of_words words.now }
-    ensures back { words_of_bytes result ≡ words.now }
+// One of the words, each of which is below 2^64.
+fn word_of(words: &[u64], i: usize) -> u64
+    requires { i < length words.now }
+    ensures word { result ≡ slice_index words.now i }
+    ensures below { (k : ℕ) → slice_index words.now k < 2 ^ 64 }
 {
-    let mut bytes = [0; 512];
-    for i in 0..WORDS {
+    words[i]
+}
+
+// Writes the bytes of the words.
+fn write_words(words: &[u64], bytes: &mut [u8])
+    requires { length bytes.old ≡ 8 * length words.now }
+    ensures bytes { bytes.new ≡ bytes_of_words words.now }
+    ensures back { words_of_bytes bytes.new ≡ words.now }
+{
+    for i in 0..words.len() {
         bytes[8 * i..8 * i + 8].copy_from_slice(&words[i].to_be_bytes());
     }
-    bytes
 }

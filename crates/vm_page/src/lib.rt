@@ -1,6 +1,6 @@
-//! A page as a buffer of 64 words, and as the 512 bytes that stand for them in a page file.
+//! A page as a buffer of 64 or 512 words, and as the bytes that stand for them in a page file, eight for each word.
 #![tactic(auto)]
 
 mod buf;
 
-pub use buf::{PageBuf, WORDS};
+pub use buf::{LARGE, PageBuf, WORDS};

@@ -1,6 +1,0 @@
-use Rattle.std.proofs.Common.{◌≡◌, length, take}
-use Rattle.vm_page.specs.Bytes.{words_in}
-use Rattle.vm_page.proofs.buf.PageBuf.of_bytes.Given as goal
-
-abbrev pub invariant-loop-i : goal.invariant-loop-i
-invariant-loop-i l = (length l.words ≡ 64) × (take l.i l.words ≡ words_in l.bytes l.i)
