@@ -11,11 +11,11 @@ pub stands-lock : {state version : ℕ} → {trans : Option Mapping} → {h : Hi
 stands-lock {state} {version} {trans} {h} i =
     record { last = i.last; resident = λ ne. absurd (ne refl); evicted = λ q. absurd (omega arith) }
 
-pub sizes-lock : {state : ℕ} → {h : History} → SizesInv state h → SizesInv LOCKED (drafted h)
-sizes-lock {state} {h} i = record { older = i.older; last = i.last; draft = λ _. i.last }
+pub sizes-lock : {size : ℕ} → {state : ℕ} → {h : History} → SizesInv size state h → SizesInv size LOCKED (drafted h)
+sizes-lock {size} {state} {h} i = record { older = i.older; last = i.last; draft = λ _. i.last }
 
-pub contents-lock : {words : ℕ → List ℕ} → {state version : ℕ} → {trans : Option Mapping} → {block : List ℕ} → {h : History} → state ≢ LOCKED → StandsInv state version trans h → WordsInv words state trans block h → WordsInv words LOCKED trans block (drafted h)
-contents-lock {words} {state} {version} {trans} {block} {h} free s i =
+pub contents-lock : {size : ℕ} → {words : ℕ → List ℕ} → {state version : ℕ} → {trans : Option Mapping} → {block : List ℕ} → {h : History} → state ≢ LOCKED → StandsInv state version trans h → WordsInv size words state trans block h → WordsInv size words LOCKED trans block (drafted h)
+contents-lock {size} {words} {state} {version} {trans} {block} {h} free s i =
     record {
       clean = i.clean;
       logical = λ ne. absurd (ne refl);
@@ -35,11 +35,11 @@ pub stands-open : {state next version : ℕ} → {trans : Option Mapping} → {h
 stands-open {state} {next} {version} {trans} {h} sl se te i =
     record { last = i.last; resident = λ _ _. i.resident sl se; evicted = λ q. absurd (te q) }
 
-pub sizes-open : {state next : ℕ} → {h : History} → next ≢ LOCKED → SizesInv state h → SizesInv next h
-sizes-open {state} {next} {h} tl i = record { older = i.older; last = i.last; draft = λ q. absurd (tl q) }
+pub sizes-open : {size : ℕ} → {state next : ℕ} → {h : History} → next ≢ LOCKED → SizesInv size state h → SizesInv size next h
+sizes-open {size} {state} {next} {h} tl i = record { older = i.older; last = i.last; draft = λ q. absurd (tl q) }
 
-pub contents-open : {words : ℕ → List ℕ} → {state next : ℕ} → {trans : Option Mapping} → {block : List ℕ} → {h : History} → state ≢ LOCKED → next ≢ LOCKED → next ≢ EVICTED → WordsInv words state trans block h → WordsInv words next trans block h
-contents-open {words} {state} {next} {trans} {block} {h} sl tl te i =
+pub contents-open : {size : ℕ} → {words : ℕ → List ℕ} → {state next : ℕ} → {trans : Option Mapping} → {block : List ℕ} → {h : History} → state ≢ LOCKED → next ≢ LOCKED → next ≢ EVICTED → WordsInv size words state trans block h → WordsInv size words next trans block h
+contents-open {size} {words} {state} {next} {trans} {block} {h} sl tl te i =
     record {
       clean = i.clean;
       logical = λ _. i.logical sl;
@@ -59,17 +59,17 @@ pub stands-release : {state next version : ℕ} → {trans : Option Mapping} →
 stands-release {state} {next} {version} {trans} {h} some te i =
     record { last = ap (λ v. v + 1) i.last; resident = λ _ _. some; evicted = λ q. absurd (te q) }
 
--- one version more, of 64 words
-older-more : (vs : List Version) (v : Version) → AllByRecursion (λ x. length x.words ≡ 64) vs → length v.words ≡ 64 → AllByRecursion (λ x. length x.words ≡ 64) (vs ++ v ∷ [])
-older-more [] v a e = (e, tt)
-older-more (x ∷ vs) v a e = (a.0, older-more vs v a.1 e)
+-- one version more, of so many words
+older-more : (size : ℕ) (vs : List Version) (v : Version) → AllByRecursion (λ x. length x.words ≡ size) vs → length v.words ≡ size → AllByRecursion (λ x. length x.words ≡ size) (vs ++ v ∷ [])
+older-more size [] v a e = (e, tt)
+older-more size (x ∷ vs) v a e = (a.0, older-more size vs v a.1 e)
 
-pub sizes-release : {state next : ℕ} → {h : History} → state ≡ LOCKED → next ≢ LOCKED → SizesInv state h → SizesInv next (appended h)
-sizes-release {state} {next} {h} locked tl i =
-    record { older = older-more h.older h.last i.older i.last; last = i.draft locked; draft = λ q. absurd (tl q) }
+pub sizes-release : {size : ℕ} → {state next : ℕ} → {h : History} → state ≡ LOCKED → next ≢ LOCKED → SizesInv size state h → SizesInv size next (appended h)
+sizes-release {size} {state} {next} {h} locked tl i =
+    record { older = older-more size h.older h.last i.older i.last; last = i.draft locked; draft = λ q. absurd (tl q) }
 
-pub contents-release : {words : ℕ → List ℕ} → {state next : ℕ} → {trans : Option Mapping} → {block : List ℕ} → {h : History} → state ≡ LOCKED → next ≢ LOCKED → next ≢ EVICTED → WordsInv words state trans block h → WordsInv words next trans block (appended h)
-contents-release {words} {state} {next} {trans} {block} {h} locked tl te i =
+pub contents-release : {size : ℕ} → {words : ℕ → List ℕ} → {state next : ℕ} → {trans : Option Mapping} → {block : List ℕ} → {h : History} → state ≡ LOCKED → next ≢ LOCKED → next ≢ EVICTED → WordsInv size words state trans block h → WordsInv size words next trans block (appended h)
+contents-release {size} {words} {state} {next} {trans} {block} {h} locked tl te i =
     record {
       clean = i.clean;
       logical = λ _. i.draft locked;

@@ -53,7 +53,7 @@ start-pages shape pages le i =
     (λ lt. let d : PageData = record { state = 0; version = 0; trans = None; fault = 0; count = 0; block = []; seats = [] } in
     let in' : p < length pages = omega (arith, i.len) in
     page-here pages p (get_or pages p d) in' (get_or_default pages p d (get_or pages p d) in') ∙ (i.each p d lt).page)
-    (λ past. at-get outside_page (map page_of pages) p ∙ get_or-eq_default (map page_of pages) outside_page (omega (arith, length-map pages page_of, i.len, past))
+    (λ past. at-get (outside_page 64) (map page_of pages) p ∙ get_or-eq_default (map page_of pages) (outside_page 64) (omega (arith, length-map pages page_of, i.len, past))
     ∙ ap (λ b. evicted_page 0 b 0) (sym (block-past shape.next p (omega arith))))
     (cases_lt p shape.pages))
 
@@ -121,4 +121,4 @@ start-is shape pages frames bundles held owners le i =
     let bs : at 0 bundles ≡ full_bundle shape.frames = start-bundles shape.frames bundles i.bundles_are in
     let hs : held_of held ≡ (λ a f. false) = ap held_of i.held_are ∙ start-held shape.actors ((shape.frames + 63) / 64) in
     let os : at 0 owners ≡ (λ f. 0) = ap (at 0) i.owners_are ∙ fun_ext (λ f. all-same shape.frames f 0) in
-    λ k. record { shape = shape; tells = true; pages = ps k; words = ws k; bundles = bs k; held = hs k; next = shape.next; hand = 0; owners = os k }
+    λ k. record { shape = shape; size = 64; tells = true; pages = ps k; words = ws k; bundles = bs k; held = hs k; next = shape.next; hand = 0; owners = os k }

@@ -8,7 +8,7 @@ use Rattle.vm_core.proofs.Upd.{each-upd, each-upd2, upd-keeps, upd-other, upd-sa
 
 -- what holds of this page of the core
 abbrev pub PageHolds : State → Page → History → (ℕ → List (ℕ × ℕ)) → Type 0
-PageHolds c r h l = PageInv c.shape.actors c.tells c.words r h l
+PageHolds c r h l = PageInv c.shape.actors c.size c.tells c.words r h l
 
 -- what holds of each page, after a change of one
 pub pages-all : (c : State) (hs : ℕ → History) (ls : ℕ → ℕ → List (ℕ × ℕ)) (p : ℕ) (r : Page) (h : History) (l : ℕ → List (ℕ × ℕ)) → ((q : ℕ) → PageHolds c (c.pages q) (hs q) (ls q)) → PageHolds c r h l → (q : ℕ) → PageHolds c (upd c.pages p r q) (upd hs p h q) (upd ls p l q)

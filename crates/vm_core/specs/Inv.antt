@@ -2,11 +2,10 @@
 -- nor evicted is resident; its words stand in its frame, and where it is clean or evicted in its block too; the fault word is the block's
 -- count where nobody may call the device; an open read at the page's version has read the page's frame. Over the frames: each stands in one
 -- place, and its owner word names no page but the one in it, and names that one where it is not locked. Over the words: each frame, block,
--- version and draft has 64.
+-- version and draft has as many as a page.
 use Rattle.std.specs.List.{AllByRecursion}
 use Rattle.std.specs.Prelude.{[], ◌+◌, ◌<◌, ◌==◌, ◌∷◌, ◌≡◌, ◌≢◌, ◌≤◌, Bool, false, if◌then◌else◌, IsSome, length, List, nat_lt, None, Option, slice_index}
 use Rattle.std.specs.Prelude.{Some, true, ℕ}
-use Rattle.vm_page.specs.declared.buf.TheConstants.{WORDS}
 use Rattle.vm_core.specs.{declared.event.Event.Event, declared.event.Mapping.Mapping, declared.event.Open.Open, declared.event.Seat.Seat}
 use Rattle.vm_core.specs.{Fn.sum_below, FrameActs.stands_in, State.Page, State.State, Step.IsOwned, Step.Legal}
 use Rattle.vm_core.specs.History.{History, World, world_after}
@@ -43,22 +42,22 @@ pub record StandsInv (state version : ℕ) (trans : Option Mapping) (h : History
   pub resident : state ≢ LOCKED → state ≢ EVICTED → IsSome trans
   pub evicted : state ≡ EVICTED → trans ≡ None
 
--- each version of the page has 64 words, and so has the draft of a locked one
-pub record SizesInv (state : ℕ) (h : History) : Type 0 where
-  pub older : AllByRecursion (λ v. length v.words ≡ WORDS) h.older
-  pub last : length h.last.words ≡ WORDS
-  pub draft : state ≡ LOCKED → length h.draft ≡ WORDS
+-- each version of the page has so many words, and so has the draft of a locked one
+pub record SizesInv (size state : ℕ) (h : History) : Type 0 where
+  pub older : AllByRecursion (λ v. length v.words ≡ size) h.older
+  pub last : length h.last.words ≡ size
+  pub draft : state ≡ LOCKED → length h.draft ≡ size
 
 -- where the page's words stand: a clean page has its block's words in its frame; a page that is not locked has its last version there, a
 -- locked one its draft; a locked page without a frame, or clean, has its last version in its draft and in its block; so has an evicted
 -- one in its block
-pub record WordsInv (words : ℕ → List ℕ) (state : ℕ) (trans : Option Mapping) (block : List ℕ) (h : History) : Type 0 where
+pub record WordsInv (long : ℕ) (words : ℕ → List ℕ) (state : ℕ) (trans : Option Mapping) (block : List ℕ) (h : History) : Type 0 where
   pub clean : (m : Mapping) → trans ≡ Some m → m.dirty ≡ false → words m.frame ≡ block
   pub logical : state ≢ LOCKED → (m : Mapping) → trans ≡ Some m → words m.frame ≡ h.last.words
   pub draft : state ≡ LOCKED → (m : Mapping) → trans ≡ Some m → words m.frame ≡ h.draft
   pub unwritten : state ≡ LOCKED → ((m : Mapping) → trans ≡ Some m → m.dirty ≡ false) → (h.draft ≡ h.last.words) × (block ≡ h.last.words)
   pub device : state ≡ EVICTED → block ≡ h.last.words
-  pub size : length block ≡ WORDS
+  pub size : length block ≡ long
 
 -- the fault word is the block's count where nobody may call the device
 abbrev pub FaultInv : ℕ → ℕ → ℕ → (ℕ → Seat) → Type 0
@@ -82,11 +81,11 @@ pub record ReadInv (words : ℕ → List ℕ) (state version : ℕ) (trans : Opt
   pub current : state ≢ LOCKED → state ≢ EVICTED → (o : Open) → reading ≡ Some o → o.version ≡ version → ReadsPage words trans o loads
 
 -- what holds of one page; what is said of words holds where the blocks tell them
-pub record PageInv (actors : ℕ) (tells : Bool) (words : ℕ → List ℕ) (r : Page) (h : History) (loads : ℕ → List (ℕ × ℕ)) : Type 0 where
+pub record PageInv (actors size : ℕ) (tells : Bool) (words : ℕ → List ℕ) (r : Page) (h : History) (loads : ℕ → List (ℕ × ℕ)) : Type 0 where
   pub locks : LocksInv actors r.state r.version r.seats
   pub stands : StandsInv r.state r.version r.trans h
-  pub sizes : SizesInv r.state h
-  pub contents : tells ≡ true → WordsInv words r.state r.trans r.block h
+  pub sizes : SizesInv size r.state h
+  pub contents : tells ≡ true → WordsInv size words r.state r.trans r.block h
   pub faults : FaultInv r.state r.fault r.count r.seats
   pub reads : (a : ℕ) → ReadInv words r.state r.version r.trans (r.seats a).reading (loads a)
 
@@ -142,14 +141,14 @@ pub record OwnersInv (c : State) : Type 0 where
   pub named : (f p : ℕ) → c.owners f ≡ p + 1 → stands_in (c.pages p).trans f ≡ true
   pub owned : (p : ℕ) → (c.pages p).state ≢ LOCKED → IsOwned c p (p + 1)
 
--- the invariant: each frame stands in one place and has 64 words, the next word is no more than the pages, each page is in order, and so are
+-- the invariant: each frame stands in one place and has a page's words, the next word is no more than the pages, each page is in order, and so are
 -- the owner words
 pub record Inv (w : World) : Type 0 where
   pub place : ℕ → Place
   pub frames : (f : ℕ) → FrameIsAt w.core f (place f)
-  pub words : (f : ℕ) → length (w.core.words f) ≡ WORDS
+  pub words : (f : ℕ) → length (w.core.words f) ≡ w.core.size
   pub next : w.core.next ≤ w.core.shape.pages
-  pub pages : (p : ℕ) → PageInv w.core.shape.actors w.core.tells w.core.words (w.core.pages p) (w.histories p) (w.loads p)
+  pub pages : (p : ℕ) → PageInv w.core.shape.actors w.core.size w.core.tells w.core.words (w.core.pages p) (w.histories p) (w.loads p)
   pub owners : OwnersInv w.core
 
 -- where the event is legal, it keeps the invariant

@@ -5,10 +5,11 @@ use Rattle.vm_page.specs.declared.buf.TheConstants.{WORDS}
 use Rattle.vm_core.specs.{declared.event.CoreShape.CoreShape, declared.event.Seat.Seat, declared.words.TheConstants.FRAMES, History.World, State.Page}
 use Rattle.vm_core.specs.{State.State, Words.EVICTED, Words.MAX_VERSION}
 
--- what a core starts from: its shape with the next word, the first version of its pages, and the blocks handed in by their words and
+-- what a core starts from: its shape with the next word, how many words a page has, the first version of its pages, and the blocks handed in by their words and
 -- counts of faults, and whether they tell their words
 pub record CoreStart : Type 0 where
   pub shape : CoreShape
+  pub size : ℕ
   pub first : ℕ
   pub tells : Bool
   pub blocks : ℕ → List ℕ
@@ -26,20 +27,21 @@ evicted_page version block count =
 unfoldable pub full_bundle : ℕ → ℕ → ℕ
 full_bundle frames g = 2 ^ min FRAMES (frames - FRAMES * g) - 1
 
--- the next word is at most the number of pages, the first version is a version, and each block has 64 words
+-- the next word is at most the number of pages, the first version is a version, and each block has a page's words
 pub record IsStart (s : CoreStart) : Type 0 where
   pub next : s.shape.next ≤ s.shape.pages
   pub first : s.first ≤ MAX_VERSION
-  pub blocks : (p : ℕ) → length (s.blocks p) ≡ WORDS
+  pub blocks : (p : ℕ) → length (s.blocks p) ≡ s.size
 
 -- the state at the start: every page evicted, every frame free and no page's
 abbrev pub start : CoreStart → State
 start s =
     record {
       shape = s.shape;
+      size = s.size;
       tells = s.tells;
       pages = λ p. evicted_page s.first (s.blocks p) (s.counts p);
-      words = λ f. replicate WORDS 0;
+      words = λ f. replicate s.size 0;
       bundles = full_bundle s.shape.frames;
       held = λ a f. false;
       next = s.shape.next;
@@ -64,8 +66,8 @@ core_block next p = if nat_lt p next then map (λ i. WORDS * p + i) (range_with_
 
 -- what `Core::new` starts from
 abbrev pub core_start : CoreShape → CoreStart
-core_start shape = record { shape = shape; first = 0; tells = true; blocks = core_block shape.next; counts = λ p. 0 }
+core_start shape = record { shape = shape; size = WORDS; first = 0; tells = true; blocks = core_block shape.next; counts = λ p. 0 }
 
--- what stands past the last page
-abbrev pub outside_page : Page
-outside_page = evicted_page 0 (replicate WORDS 0) 0
+-- what stands past the last page, of so many words
+abbrev pub outside_page : ℕ → Page
+outside_page size = evicted_page 0 (replicate size 0) 0

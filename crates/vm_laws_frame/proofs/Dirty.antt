@@ -23,8 +23,8 @@ some-dirty : (dirty : Bool) (trans : Option Mapping) → IsSome trans → IsSome
 some-dirty dirty None e = e
 some-dirty dirty (Some m) e = refl
 
-pub dirtied-keeps : {actors : ℕ} → {tells : Bool} → {words : ℕ → List ℕ} → {r : Page} → {h : History} → {l : ℕ → List (ℕ × ℕ)} → (a : ℕ) → PageInv actors tells words r h l → MayDirty r a → PageInv actors tells words (dirtied r) h l
-dirtied-keeps {actors} {tells} {words} {r} {h} {l} a i m =
+pub dirtied-keeps : {actors : ℕ} → {size : ℕ} → {tells : Bool} → {words : ℕ → List ℕ} → {r : Page} → {h : History} → {l : ℕ → List (ℕ × ℕ)} → (a : ℕ) → PageInv actors size tells words r h l → MayDirty r a → PageInv actors size tells words (dirtied r) h l
+dirtied-keeps {actors} {size} {tells} {words} {r} {h} {l} a i m =
     let locked : r.state ≡ LOCKED = locked-from_owner i.locks a m.owns in
     let some : (n : Mapping) × (r.trans ≡ Some n) = some-is r.trans m.resident in
     record {
@@ -65,8 +65,8 @@ reads-dirty words state version dirty (Some m) o l i =
           };
     }
 
-pub cleaned-keeps : {actors : ℕ} → {tells : Bool} → {words : ℕ → List ℕ} → {r : Page} → {h : History} → {l : ℕ → List (ℕ × ℕ)} → (a : ℕ) → PageInv actors tells words r h l → MayClean tells words r a → PageInv actors tells words (cleaned r) h l
-cleaned-keeps {actors} {tells} {words} {r} {h} {l} a i m =
+pub cleaned-keeps : {actors : ℕ} → {size : ℕ} → {tells : Bool} → {words : ℕ → List ℕ} → {r : Page} → {h : History} → {l : ℕ → List (ℕ × ℕ)} → (a : ℕ) → PageInv actors size tells words r h l → MayClean tells words r a → PageInv actors size tells words (cleaned r) h l
+cleaned-keeps {actors} {size} {tells} {words} {r} {h} {l} a i m =
     let shared : (1 ≤ r.state) × (r.state < LOCKED) = writer-shared i.locks a m.writes in
     let sl : r.state ≢ LOCKED = omega arith in
     let se : r.state ≢ EVICTED = omega arith in

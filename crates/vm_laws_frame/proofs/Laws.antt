@@ -30,7 +30,7 @@ load_law w a p n i m =
       frames = i.frames;
       words = i.words;
       next = i.next;
-      pages = each-upd (λ q y. PageInv w.core.shape.actors w.core.tells w.core.words (w.core.pages q) (w.histories q) y) w.loads p _ (loaded-keeps a n (i.pages p)) (λ q _. i.pages q);
+      pages = each-upd (λ q y. PageInv w.core.shape.actors w.core.size w.core.tells w.core.words (w.core.pages q) (w.histories q) y) w.loads p _ (loaded-keeps a n (i.pages p)) (λ q _. i.pages q);
       owners = i.owners;
     }
 
@@ -108,7 +108,7 @@ store_law w a f n x i m =
     record {
       place = i.place;
       frames = i.frames;
-      words = each-upd (λ g ws. length ws ≡ 64) w.core.words f _ (length-set (w.core.words f) n x ∙ i.words f) (λ g _. i.words g);
+      words = each-upd (λ g ws. length ws ≡ w.core.size) w.core.words f _ (length-set (w.core.words f) n x ∙ i.words f) (λ g _. i.words g);
       next = i.next;
       pages = λ q. ⊎_elim
           (λ s. let at : HoldsAt (w.core.pages q) a f true = stored-page w a f n x q i m s in

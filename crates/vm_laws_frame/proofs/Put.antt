@@ -17,8 +17,8 @@ locked-read {words} {state} {version} {trans} {o} {l} next locked i =
 in-frame : (f : ℕ) (m : Mapping) (P : Mapping → Type 0) → P (record { frame = f; dirty = false }) → Some (record { frame = f; dirty = false }) ≡ Some m → P m
 in-frame f m P x e = subst P (some-same _ m e) x
 
-pub installed-keeps : {actors : ℕ} → {tells : Bool} → {words : ℕ → List ℕ} → {r : Page} → {h : History} → {l : ℕ → List (ℕ × ℕ)} → (a f : ℕ) → PageInv actors tells words r h l → MayInstall tells r a (words f) → PageInv actors tells words (installed r f) h l
-installed-keeps {actors} {tells} {words} {r} {h} {l} a f i m =
+pub installed-keeps : {actors : ℕ} → {size : ℕ} → {tells : Bool} → {words : ℕ → List ℕ} → {r : Page} → {h : History} → {l : ℕ → List (ℕ × ℕ)} → (a f : ℕ) → PageInv actors size tells words r h l → MayInstall tells r a (words f) → PageInv actors size tells words (installed r f) h l
+installed-keeps {actors} {size} {tells} {words} {r} {h} {l} a f i m =
     let locked : r.state ≡ LOCKED = locked-from_owner i.locks a m.owns in
     record {
       locks = i.locks;
@@ -37,8 +37,8 @@ installed-keeps {actors} {tells} {words} {r} {h} {l} a f i m =
       reads = λ b. locked-read _ locked (i.reads b);
     }
 
-pub cleared-keeps : {actors : ℕ} → {tells : Bool} → {words : ℕ → List ℕ} → {r : Page} → {h : History} → {l : ℕ → List (ℕ × ℕ)} → (a : ℕ) → PageInv actors tells words r h l → MayClear r a → PageInv actors tells words (cleared r) h l
-cleared-keeps {actors} {tells} {words} {r} {h} {l} a i m =
+pub cleared-keeps : {actors : ℕ} → {size : ℕ} → {tells : Bool} → {words : ℕ → List ℕ} → {r : Page} → {h : History} → {l : ℕ → List (ℕ × ℕ)} → (a : ℕ) → PageInv actors size tells words r h l → MayClear r a → PageInv actors size tells words (cleared r) h l
+cleared-keeps {actors} {size} {tells} {words} {r} {h} {l} a i m =
     let locked : r.state ≡ LOCKED = locked-from_owner i.locks a m.1.owns in
     record {
       locks = i.locks;

@@ -31,9 +31,9 @@ framed-read words state version trans None l i = i
 framed-read words state version None (Some o) l i = i
 framed-read words state version (Some m) (Some o) l i = framed-some words state version m o l i
 
-pub frame_read-keeps : {actors : ℕ} → {tells : Bool} → {words : ℕ → List ℕ} → {r : Page} → {h : History} → {l : ℕ → List (ℕ × ℕ)} → (a : ℕ) → PageInv actors tells words r h l → PageInv actors tells words (frame_read r a) h l
-frame_read-keeps {actors} {tells} {words} {r} {h} {l} a i =
-    subst (PageInv actors tells words (frame_read r a) h) (upd-self l a)
+pub frame_read-keeps : {actors : ℕ} → {size : ℕ} → {tells : Bool} → {words : ℕ → List ℕ} → {r : Page} → {h : History} → {l : ℕ → List (ℕ × ℕ)} → (a : ℕ) → PageInv actors size tells words r h l → PageInv actors size tells words (frame_read r a) h l
+frame_read-keeps {actors} {size} {tells} {words} {r} {h} {l} a i =
+    subst (PageInv actors size tells words (frame_read r a) h) (upd-self l a)
     (record {
       locks = locks-seat actors r.state r.version r.seats a _ i.locks refl refl refl;
       stands = i.stands;
@@ -61,8 +61,8 @@ reads-frame words r a n f m t e s =
     (λ b. sym (ap (λ q. word_at words q n) (cond-false (reads_locked r a) _ _ b ∙ e ∙ ap (λ g. Some g) s)))
     (cases_Bool (reads_locked r a))
 
-pub loaded-keeps : {actors : ℕ} → {tells : Bool} → {words : ℕ → List ℕ} → {r : Page} → {h : History} → {l : ℕ → List (ℕ × ℕ)} → (a n : ℕ) → PageInv actors tells words r h l → PageInv actors tells words r h (upd l a (loads_more (open_frame (r.seats a).reading) (l a) n (word_at words (load_frame r a) n)))
-loaded-keeps {actors} {tells} {words} {r} {h} {l} a n i =
+pub loaded-keeps : {actors : ℕ} → {size : ℕ} → {tells : Bool} → {words : ℕ → List ℕ} → {r : Page} → {h : History} → {l : ℕ → List (ℕ × ℕ)} → (a n : ℕ) → PageInv actors size tells words r h l → PageInv actors size tells words r h (upd l a (loads_more (open_frame (r.seats a).reading) (l a) n (word_at words (load_frame r a) n)))
+loaded-keeps {actors} {size} {tells} {words} {r} {h} {l} a n i =
     record {
       locks = i.locks;
       stands = i.stands;

@@ -11,14 +11,14 @@ elsewhere : (words : ℕ → List ℕ) (f : ℕ) (ws : List ℕ) (trans : Option
 elsewhere words f ws trans e m q =
     upd-other words f ws m.frame (λ same. false≢true (sym e ∙ ap (λ t. stands_in t f) q ∙ eq-eqb m.frame f same))
 
-pub store-elsewhere : {actors : ℕ} → {tells : Bool} → {words : ℕ → List ℕ} → {r : Page} → {h : History} → {l : ℕ → List (ℕ × ℕ)} → (f : ℕ) (ws : List ℕ) → stands_in r.trans f ≡ false → PageInv actors tells words r h l → PageInv actors tells (upd words f ws) r h l
-store-elsewhere {actors} {tells} {words} {r} {h} {l} f ws e i =
+pub store-elsewhere : {actors : ℕ} → {size : ℕ} → {tells : Bool} → {words : ℕ → List ℕ} → {r : Page} → {h : History} → {l : ℕ → List (ℕ × ℕ)} → (f : ℕ) (ws : List ℕ) → stands_in r.trans f ≡ false → PageInv actors size tells words r h l → PageInv actors size tells (upd words f ws) r h l
+store-elsewhere {actors} {size} {tells} {words} {r} {h} {l} f ws e i =
     let far : (m : Mapping) → r.trans ≡ Some m → upd words f ws m.frame ≡ words m.frame = elsewhere words f ws r.trans e in
     record {
       locks = i.locks;
       stands = i.stands;
       sizes = i.sizes;
-      contents = λ t. let c : WordsInv words r.state r.trans r.block h = i.contents t in
+      contents = λ t. let c : WordsInv size words r.state r.trans r.block h = i.contents t in
           record {
             clean = λ m q d. far m q ∙ c.clean m q d;
             logical = λ ne m q. far m q ∙ c.logical ne m q;
@@ -37,8 +37,8 @@ store-elsewhere {actors} {tells} {words} {r} {h} {l} f ws e i =
     }
 
 -- the holder stores into the page's frame
-pub store-here : {actors : ℕ} → {tells : Bool} → {words : ℕ → List ℕ} → {r : Page} → {h : History} → {l : ℕ → List (ℕ × ℕ)} → (a f i x : ℕ) → HoldsAt r a f true → PageInv actors tells words r h l → PageInv actors tells (upd words f (slice_set (words f) i x)) r (record h { draft = slice_set h.draft i x }) l
-store-here {actors} {tells} {words} {r} {h} {l} a f i x at inv =
+pub store-here : {actors : ℕ} → {size : ℕ} → {tells : Bool} → {words : ℕ → List ℕ} → {r : Page} → {h : History} → {l : ℕ → List (ℕ × ℕ)} → (a f i x : ℕ) → HoldsAt r a f true → PageInv actors size tells words r h l → PageInv actors size tells (upd words f (slice_set (words f) i x)) r (record h { draft = slice_set h.draft i x }) l
+store-here {actors} {size} {tells} {words} {r} {h} {l} a f i x at inv =
     let locked : r.state ≡ LOCKED = locked-from_owner inv.locks a at.owns in
     record {
       locks = inv.locks;

@@ -11,8 +11,8 @@ use Rattle.vm_laws_state.proofs.Release.{downgraded-keeps, emptied-keeps, releas
 use Rattle.vm_laws_state.proofs.Unlock.{marked-keeps, unlocked-keeps, unmarked-keeps}
 
 -- nothing changed, the loads written as they were
-same-loads : {actors : ℕ} → {tells : Bool} → {words : ℕ → List ℕ} → {r : Page} → {h : History} → {l : ℕ → List (ℕ × ℕ)} → (a : ℕ) → PageInv actors tells words r h l → PageInv actors tells words r h (upd l a (l a))
-same-loads {actors} {tells} {words} {r} {h} {l} a i = subst (PageInv actors tells words r h) (sym (upd-self l a)) i
+same-loads : {actors : ℕ} → {size : ℕ} → {tells : Bool} → {words : ℕ → List ℕ} → {r : Page} → {h : History} → {l : ℕ → List (ℕ × ℕ)} → (a : ℕ) → PageInv actors size tells words r h l → PageInv actors size tells words r h (upd l a (l a))
+same-loads {actors} {size} {tells} {words} {r} {h} {l} a i = subst (PageInv actors size tells words r h) (sym (upd-self l a)) i
 
 -- a page that is shared, marked, unmarked, or put under write-back is not locked before
 share-free : (state expects : ℕ) → MayShare expects → state ≡ state_of expects → state ≢ LOCKED

@@ -5,8 +5,8 @@ use Rattle.vm_core.proofs.Locks.{locks-lock, locks-upgrade}
 use Rattle.vm_core.proofs.PageFacts.{found, no-read, reads-seat}
 use Rattle.vm_core.proofs.PageMoves.{contents-lock, read-lock, sizes-lock, stands-lock}
 
-pub locked-keeps : {actors : ℕ} → {tells : Bool} → {words : ℕ → List ℕ} → {r : Page} → {h : History} → {l : ℕ → List (ℕ × ℕ)} → (a expects : ℕ) → a < actors → PageInv actors tells words r h l → MayLock expects → finds r expects ≡ true → PageInv actors tells words (locked r a) (drafted h) (upd l a [])
-locked-keeps {actors} {tells} {words} {r} {h} {l} a expects lt i m e =
+pub locked-keeps : {actors : ℕ} → {size : ℕ} → {tells : Bool} → {words : ℕ → List ℕ} → {r : Page} → {h : History} → {l : ℕ → List (ℕ × ℕ)} → (a expects : ℕ) → a < actors → PageInv actors size tells words r h l → MayLock expects → finds r expects ≡ true → PageInv actors size tells words (locked r a) (drafted h) (upd l a [])
+locked-keeps {actors} {size} {tells} {words} {r} {h} {l} a expects lt i m e =
     let f : (r.state ≡ state_of expects) × (r.version ≡ version_of expects) = found r expects e in
     let free : r.state ≢ LOCKED = grind (arith, m.state, f) in
     record {
@@ -18,8 +18,8 @@ locked-keeps {actors} {tells} {words} {r} {h} {l} a expects lt i m e =
       reads = reads-seat words LOCKED r.version r.trans r.seats l a _ [] (no-read words LOCKED r.version r.trans []) (λ b. read-lock (i.reads b));
     }
 
-pub upgraded-keeps : {actors : ℕ} → {tells : Bool} → {words : ℕ → List ℕ} → {r : Page} → {h : History} → {l : ℕ → List (ℕ × ℕ)} → (a expects : ℕ) → a < actors → PageInv actors tells words r h l → MayUpgrade r a expects → finds r expects ≡ true → PageInv actors tells words (upgraded r a) (drafted h) (upd l a [])
-upgraded-keeps {actors} {tells} {words} {r} {h} {l} a expects lt i m e =
+pub upgraded-keeps : {actors : ℕ} → {size : ℕ} → {tells : Bool} → {words : ℕ → List ℕ} → {r : Page} → {h : History} → {l : ℕ → List (ℕ × ℕ)} → (a expects : ℕ) → a < actors → PageInv actors size tells words r h l → MayUpgrade r a expects → finds r expects ≡ true → PageInv actors size tells words (upgraded r a) (drafted h) (upd l a [])
+upgraded-keeps {actors} {size} {tells} {words} {r} {h} {l} a expects lt i m e =
     let f : (r.state ≡ state_of expects) × (r.version ≡ version_of expects) = found r expects e in
     let one : r.state ≡ 1 = f.0 ∙ m.state in
     let free : r.state ≢ LOCKED = omega arith in

@@ -33,8 +33,8 @@ look-read words r o l i =
     (λ e. rw (cond-false (is_readable r.state) (left_open o r.version) Closed e) (no-read words r.state r.version r.trans []))
     (cases_Bool (is_readable r.state))
 
-pub looked-keeps : {actors : ℕ} → {tells : Bool} → {words : ℕ → List ℕ} → {r : Page} → {h : History} → {l : ℕ → List (ℕ × ℕ)} → (a : ℕ) → PageInv actors tells words r h l → PageInv actors tells words (looked r a) h (upd l a (kept_loads (left_of r (r.seats a).reading) (l a)))
-looked-keeps {actors} {tells} {words} {r} {h} {l} a i =
+pub looked-keeps : {actors : ℕ} → {size : ℕ} → {tells : Bool} → {words : ℕ → List ℕ} → {r : Page} → {h : History} → {l : ℕ → List (ℕ × ℕ)} → (a : ℕ) → PageInv actors size tells words r h l → PageInv actors size tells words (looked r a) h (upd l a (kept_loads (left_of r (r.seats a).reading) (l a)))
+looked-keeps {actors} {size} {tells} {words} {r} {h} {l} a i =
     record {
       locks = locks-seat actors r.state r.version r.seats a _ i.locks refl refl refl;
       stands = i.stands;

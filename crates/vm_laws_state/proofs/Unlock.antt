@@ -15,8 +15,8 @@ last-share s w e =
     (λ ne. absurd (true≢false (sym w ∙ sym (cond-false _ false s.writing (ne_eqb s.shares 1 ne)) ∙ e)))
     (cases_eq s.shares 1)
 
-pub unlocked-keeps : {actors : ℕ} → {tells : Bool} → {words : ℕ → List ℕ} → {r : Page} → {h : History} → {l : ℕ → List (ℕ × ℕ)} → (a : ℕ) → a < actors → PageInv actors tells words r h l → MayUnlock r a → PageInv actors tells words (unlocked r a) h l
-unlocked-keeps {actors} {tells} {words} {r} {h} {l} a lt i m =
+pub unlocked-keeps : {actors : ℕ} → {size : ℕ} → {tells : Bool} → {words : ℕ → List ℕ} → {r : Page} → {h : History} → {l : ℕ → List (ℕ × ℕ)} → (a : ℕ) → a < actors → PageInv actors size tells words r h l → MayUnlock r a → PageInv actors size tells words (unlocked r a) h l
+unlocked-keeps {actors} {size} {tells} {words} {r} {h} {l} a lt i m =
     let sum : (r.seats a).shares ≤ sum_below actors (λ b. (r.seats b).shares) = sum_below-at actors (λ b. (r.seats b).shares) a lt in
     let s : (1 ≤ r.state) × (r.state < LOCKED) = shared-state r.state (sum_below actors (λ b. (r.seats b).shares)) (omega (arith, m.has)) i.locks.shares in
     let sl : r.state ≢ LOCKED = omega arith in
@@ -37,8 +37,8 @@ unlocked-keeps {actors} {tells} {words} {r} {h} {l} a lt i m =
     }
 
 -- a page without shares whose mark is set or taken away
-remarked-keeps : {actors : ℕ} → {tells : Bool} → {words : ℕ → List ℕ} → {r : Page} → {h : History} → {l : ℕ → List (ℕ × ℕ)} → (next : ℕ) → PageInv actors tells words r h l → (r.state ≡ UNLOCKED) ⊎ (r.state ≡ MARKED) → (next ≡ UNLOCKED) ⊎ (next ≡ MARKED) → PageInv actors tells words (record r { state = next }) h l
-remarked-keeps {actors} {tells} {words} {r} {h} {l} next i u n =
+remarked-keeps : {actors : ℕ} → {size : ℕ} → {tells : Bool} → {words : ℕ → List ℕ} → {r : Page} → {h : History} → {l : ℕ → List (ℕ × ℕ)} → (next : ℕ) → PageInv actors size tells words r h l → (r.state ≡ UNLOCKED) ⊎ (r.state ≡ MARKED) → (next ≡ UNLOCKED) ⊎ (next ≡ MARKED) → PageInv actors size tells words (record r { state = next }) h l
+remarked-keeps {actors} {size} {tells} {words} {r} {h} {l} next i u n =
     let sl : r.state ≢ LOCKED = grind (arith, u) in
     let se : r.state ≢ EVICTED = grind (arith, u) in
     let tl : next ≢ LOCKED = grind (arith, n) in
@@ -52,8 +52,8 @@ remarked-keeps {actors} {tells} {words} {r} {h} {l} next i u n =
       reads = λ b. read-open sl se te (i.reads b);
     }
 
-pub marked-keeps : {actors : ℕ} → {tells : Bool} → {words : ℕ → List ℕ} → {r : Page} → {h : History} → {l : ℕ → List (ℕ × ℕ)} → (expects : ℕ) → PageInv actors tells words r h l → state_of expects ≡ UNLOCKED → finds r expects ≡ true → PageInv actors tells words (marked r) h l
-marked-keeps {actors} {tells} {words} {r} {h} {l} expects i m e = remarked-keeps MARKED i (inl ((found r expects e).0 ∙ m)) (inr refl)
+pub marked-keeps : {actors : ℕ} → {size : ℕ} → {tells : Bool} → {words : ℕ → List ℕ} → {r : Page} → {h : History} → {l : ℕ → List (ℕ × ℕ)} → (expects : ℕ) → PageInv actors size tells words r h l → state_of expects ≡ UNLOCKED → finds r expects ≡ true → PageInv actors size tells words (marked r) h l
+marked-keeps {actors} {size} {tells} {words} {r} {h} {l} expects i m e = remarked-keeps MARKED i (inl ((found r expects e).0 ∙ m)) (inr refl)
 
-pub unmarked-keeps : {actors : ℕ} → {tells : Bool} → {words : ℕ → List ℕ} → {r : Page} → {h : History} → {l : ℕ → List (ℕ × ℕ)} → (expects : ℕ) → PageInv actors tells words r h l → state_of expects ≡ MARKED → finds r expects ≡ true → PageInv actors tells words (unmarked r) h l
-unmarked-keeps {actors} {tells} {words} {r} {h} {l} expects i m e = remarked-keeps UNLOCKED i (inr ((found r expects e).0 ∙ m)) (inl refl)
+pub unmarked-keeps : {actors : ℕ} → {size : ℕ} → {tells : Bool} → {words : ℕ → List ℕ} → {r : Page} → {h : History} → {l : ℕ → List (ℕ × ℕ)} → (expects : ℕ) → PageInv actors size tells words r h l → state_of expects ≡ MARKED → finds r expects ≡ true → PageInv actors size tells words (unmarked r) h l
+unmarked-keeps {actors} {size} {tells} {words} {r} {h} {l} expects i m e = remarked-keeps UNLOCKED i (inr ((found r expects e).0 ∙ m)) (inl refl)

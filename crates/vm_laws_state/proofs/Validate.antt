@@ -11,7 +11,7 @@ use Rattle.vm_core.proofs.PageFacts.{found, some-is, some-same}
 -- an open read at the version of a page that is neither locked nor evicted
 one-version : (w : World) (a p : ℕ) (o : Open) → w.core.tells ≡ true → Inv w → (w.core.pages p).state ≢ LOCKED → (w.core.pages p).state ≢ EVICTED → ((w.core.pages p).seats a).reading ≡ Some o → o.version ≡ (w.core.pages p).version → IsOneVersion w a p o
 one-version w a p o t i ne ne' e v =
-    let c : WordsInv w.core.words (w.core.pages p).state (w.core.pages p).trans (w.core.pages p).block (w.histories p) = (i.pages p).contents t in
+    let c : WordsInv w.core.size w.core.words (w.core.pages p).state (w.core.pages p).trans (w.core.pages p).block (w.histories p) = (i.pages p).contents t in
     let s : (m : Mapping) × ((w.core.pages p).trans ≡ Some m) = some-is _ ((i.pages p).stands.resident ne ne') in
     let rp : ReadsPage w.core.words (w.core.pages p).trans o (w.loads p a) = ((i.pages p).reads a).current ne ne' o e v in
     record { version = (i.pages p).stands.last ∙ sym v; words = subst (λ x. LoadsAre x (w.loads p a)) (c.logical ne s.0 s.1) (rp.loaded s.0 s.1) }

@@ -15,10 +15,13 @@ ghost use Rattle.std.specs.Prelude.{◌≡◌, []};
 pub trait Owner {
     type Said;
 
-    ghost use Rattle.std.specs.Prelude.{ℕ, ◌<◌, List, length};
+    ghost use Rattle.std.specs.Prelude.{Bool, true, ℕ, ◌<◌, List, length};
     ghost use Rattle.vm_page.specs.Pages.{page_at};
     ghost use Rattle.vm_owner.specs.declared.Entry.{Entry};
     ghost use Rattle.vm_owner.specs.Kept.{Start, Kept, Change, Fits, IsTurn, after_release, told, claimed, AreZero};
+
+    // Of how many words each page may be, for this layer.
+    ghost takes_size: { ℕ → Bool } = { λ _. true };
 
     // What holds of the start and of what stands now.
     ghost keeps: { Start → Kept Self.Said → Type 0 };
