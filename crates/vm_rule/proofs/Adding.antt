@@ -57,7 +57,7 @@ module _ {X B : Type 0} (stored : B → Stored) (keeps : Start → Kept X → Ty
       pub entry : (entries ≡ []) ⊎ ((x : X) × (entries ≡ entry_of v x ∷ []))
       pub mine : inner.mine ≡ v.mine ++ entries
       pub next_versions : AreNext start r.releases own
-      pub zero : start.tells ≡ true → (p : ℕ) → world_more.core.next ≤ p → p < start.pages → (world_more.histories p).last.words ≡ replicate 64 0
+      pub zero : start.tells ≡ true → (p : ℕ) → world_more.core.next ≤ p → p < start.pages → (world_more.histories p).last.words ≡ replicate start.size 0
       -- what it knows of what it holds
       pub knows : (p : ℕ) → KnowsPage (seat_of inner p) (put_at no_held inner.held p) (world_more.core.pages p)
       pub owners : KnowsOwners world_more.core.owners (seat_of inner) (put_at no_held inner.held)
@@ -234,7 +234,7 @@ module _ {X B : Type 0} (stored : B → Stored) (keeps : Start → Kept X → Ty
     pub entry : (entries ≡ []) ⊎ ((x : X) × (entries ≡ entry_of v x ∷ []))
     pub mine : inner.mine ≡ v.mine ++ entries
     pub next_versions : AreNext start r.releases own
-    pub zero : start.tells ≡ true → (p : ℕ) → (core_shown stored start (became s words id (after_step s r words own entries did inner))).next ≤ p → p < start.pages → (histories_of start (r.releases ++ own) drafts p).last.words ≡ replicate 64 0
+    pub zero : start.tells ≡ true → (p : ℕ) → (core_shown stored start (became s words id (after_step s r words own entries did inner))).next ≤ p → p < start.pages → (histories_of start (r.releases ++ own) drafts p).last.words ≡ replicate start.size 0
     -- what it knows of what it holds
     pub knows : (p : ℕ) → KnowsPage (seat_of inner p) (put_at no_held inner.held p) ((core_shown stored start (became s words id (after_step s r words own entries did inner))).pages p)
     pub owners : KnowsOwners (core_shown stored start (became s words id (after_step s r words own entries did inner))).owners (seat_of inner) (put_at no_held inner.held)

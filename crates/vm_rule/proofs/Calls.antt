@@ -24,8 +24,8 @@ called-inv w a p count block i m k =
       stands = q.stands;
       sizes = q.sizes;
       contents = λ t. ⊎_elim
-          (λ same. subst (λ b. WordsInv w.core.words r.state r.trans b (w.histories p)) (sym same) (q.contents t))
-          (λ x. subst (λ b. WordsInv w.core.words r.state r.trans b (w.histories p)) (sym x.1) ((written-keeps a i.words q (record { call = m; resident = x.0 })).contents t))
+          (λ same. subst (λ b. WordsInv w.core.size w.core.words r.state r.trans b (w.histories p)) (sym same) (q.contents t))
+          (λ x. subst (λ b. WordsInv w.core.size w.core.words r.state r.trans b (w.histories p)) (sym x.1) ((written-keeps a i.words q (record { call = m; resident = x.0 })).contents t))
           (k.contents t);
       faults = λ ne none. ⊎_elim (λ e. absurd (ne (locked-from_owner q.locks a e))) (λ e. absurd (true≢false (sym e ∙ none a))) m;
       reads = q.reads;

@@ -2,6 +2,7 @@
 use Rattle.vm_rule.specs.declared.view.Place.TheVariants as places
 use Rattle.vm_rule.proofs.{Parts.frame-written, Parts.words-written, Views.at-there, Views.block-same, Views.field-still, Views.views-set}
 use Rattle.vm_rule.proofs.Pages.{page-changed, page-in, put-column}
+use Rattle.vm_rule.proofs.Prelude.{refl}
 use Rattle.vm_rule.proofs.Prelude.{[], ap, at, block_of, Bool, core_from, core_shown, frames_held, fun_ext, get_elem?, has, index_of, length, length-set, List}
 use Rattle.vm_rule.proofs.Prelude.{loads_at, loads_of, mapping_of, no_seat, on_page, Option, Origin, page_from, pages_from, Place, put, put_at, Seat, seat_of}
 use Rattle.vm_rule.proofs.Prelude.{seats_of, slice_set, some, spent, State, state_of, Stored, stored_at, sym, Table, table_words, upd, upd-map, upd-other}
@@ -40,42 +41,42 @@ module _ (start : Origin) (actors : ℕ) (r : Words) (blocks : ℕ → Stored) (
   -- a state word, and one row of seats
   pub core-state : (p x : ℕ) (row : ℕ → Seat) → p < start.pages → core_from start actors (with_word r (places.State p) x) blocks (upd seats p row) held ≡ on_page core p (record (core.pages p) { state = state_of x; version = version_of x; seats = row })
   core-state p x row l =
-      ap (λ pages. record core { pages = pages }) (page-changed start.pages r (with_word r (places.State p) x) blocks blocks seats (upd seats p row) p (record (core.pages p) { state = state_of x; version = version_of x; seats = row }) l
+      ap (λ pages. record core { pages = pages }) (page-changed start.pages r (with_word r (places.State p) x) blocks blocks seats (upd seats p row) p (record (core.pages p) { state = state_of x; version = version_of x; seats = row }) l refl
       (rw (page-in start.pages r blocks seats p l) (λ i. record (page_from r blocks seats p) { state = state_of (upd-same r.states p x i); version = version_of (upd-same r.states p x i); seats = upd-same seats p row i }))
       (λ q ne i. record (page_from r blocks seats q) { state = state_of (upd-other r.states p x q ne i); version = version_of (upd-other r.states p x q ne i); seats = upd-other seats p row q ne i }))
 
   -- a translation word
   pub core-translation : (p x : ℕ) → p < start.pages → core_from start actors (with_word r (places.Translation p) x) blocks seats held ≡ on_page core p (record (core.pages p) { trans = mapping_of x })
   core-translation p x l =
-      ap (λ pages. record core { pages = pages }) (page-changed start.pages r (with_word r (places.Translation p) x) blocks blocks seats seats p (record (core.pages p) { trans = mapping_of x }) l
+      ap (λ pages. record core { pages = pages }) (page-changed start.pages r (with_word r (places.Translation p) x) blocks blocks seats seats p (record (core.pages p) { trans = mapping_of x }) l refl
       (rw (page-in start.pages r blocks seats p l) (λ i. record (page_from r blocks seats p) { trans = mapping_of (upd-same r.translations p x i) }))
       (λ q ne i. record (page_from r blocks seats q) { trans = mapping_of (upd-other r.translations p x q ne i) }))
 
   -- a fault word
   pub core-fault : (p x : ℕ) → p < start.pages → core_from start actors (with_word r (places.Fault p) x) blocks seats held ≡ on_page core p (record (core.pages p) { fault = x })
   core-fault p x l =
-      ap (λ pages. record core { pages = pages }) (page-changed start.pages r (with_word r (places.Fault p) x) blocks blocks seats seats p (record (core.pages p) { fault = x }) l
+      ap (λ pages. record core { pages = pages }) (page-changed start.pages r (with_word r (places.Fault p) x) blocks blocks seats seats p (record (core.pages p) { fault = x }) l refl
       (rw (page-in start.pages r blocks seats p l) (λ i. record (page_from r blocks seats p) { fault = upd-same r.faults p x i }))
       (λ q ne i. record (page_from r blocks seats q) { fault = upd-other r.faults p x q ne i }))
 
   -- what one pass has of a page, and no word
   pub core-seat : (p : ℕ) (row : ℕ → Seat) → p < start.pages → core_from start actors r blocks (upd seats p row) held ≡ on_page core p (record (core.pages p) { seats = row })
   core-seat p row l =
-      ap (λ pages. record core { pages = pages }) (page-changed start.pages r r blocks blocks seats (upd seats p row) p (record (core.pages p) { seats = row }) l
+      ap (λ pages. record core { pages = pages }) (page-changed start.pages r r blocks blocks seats (upd seats p row) p (record (core.pages p) { seats = row }) l refl
       (rw (page-in start.pages r blocks seats p l) (λ i. record (page_from r blocks seats p) { seats = upd-same seats p row i }))
       (λ q ne i. record (page_from r blocks seats q) { seats = upd-other seats p row q ne i }))
 
   -- a block came home
   pub core-block : (p : ℕ) (b : Stored) → p < start.pages → core_from start actors r (upd blocks p b) seats held ≡ on_page core p (record (core.pages p) { count = b.count; block = b.words })
   core-block p b l =
-      ap (λ pages. record core { pages = pages }) (page-changed start.pages r r blocks (upd blocks p b) seats seats p (record (core.pages p) { count = b.count; block = b.words }) l
+      ap (λ pages. record core { pages = pages }) (page-changed start.pages r r blocks (upd blocks p b) seats seats p (record (core.pages p) { count = b.count; block = b.words }) l refl
       (rw (page-in start.pages r blocks seats p l) (λ i. record (page_from r blocks seats p) { count = (upd-same blocks p b i).count; block = (upd-same blocks p b i).words }))
       (λ q ne i. record (page_from r blocks seats q) { count = (upd-other blocks p b q ne i).count; block = (upd-other blocks p b q ne i).words }))
 
   -- a word of a frame
-  pub core-word : (f i x : ℕ) → i < 64 → core_from start actors (with_word r (places.Content f i) x) blocks seats held ≡ stored_at core f i x
+  pub core-word : (f i x : ℕ) → i < r.size → core_from start actors (with_word r (places.Content f i) x) blocks seats held ≡ stored_at core f i x
   unfolding pages_from
-  core-word f i x l = ap (λ words. record core { words = words }) (frame-written r.contents f i x l)
+  core-word f i x l = ap (λ words. record core { words = words }) (frame-written r.size r.contents f i x l)
 
 module _ {X B : Type 0} (stored : B → Stored) (start : Origin) where
   -- the one word that a step writes, and the one view that it changes

@@ -1,4 +1,5 @@
 -- What the core that is read has at a place, in terms of the word that stands there, of the pass's view, and of the block.
+use Rattle.vm_page.proofs.Sizes.{room}
 use Rattle.vm_rule.specs.declared.view.Place.TheVariants as places
 use Rattle.vm_rule.proofs.{ListFacts.at-listed, Pages.page-in, Pages.page-out, Views.at-there, WordFacts.word-made}
 use Rattle.vm_rule.proofs.Prelude.{ap, arith, at-get, block_of, bundle_count, core_shown, frame_words, get_elem?, has, index_of, List, loads_at, loads_of}
@@ -21,7 +22,7 @@ module _ {X B : Type 0} (stored : B → Stored) (start : Origin) where
   page-here s p l = page-in start.pages (table_words start s.words) (block_of stored s.homes s.views) (seats_of s.views) p l
 
   -- a page past the last one
-  pub outside-here : (s : Table (Option B) (View X)) (p : ℕ) → start.pages ≤ p → (core_shown stored start s).pages p ≡ outside_page
+  pub outside-here : (s : Table (Option B) (View X)) (p : ℕ) → start.pages ≤ p → (core_shown stored start s).pages p ≡ outside_page start.size
   outside-here s p le = page-out start.pages (table_words start s.words) (block_of stored s.homes s.views) (seats_of s.views) p le
 
   -- what the core has of a page of the pass
@@ -57,15 +58,15 @@ module _ {X B : Type 0} (stored : B → Stored) (start : Origin) where
   block-here s p l = (ap (λ (r : Page). r.block) (page-here s p l), ap (λ (r : Page). r.count) (page-here s p l))
 
   -- a word of a frame
-  pub content-here : (s : Table (Option B) (View X)) (f i : ℕ) → f < start.frames → i < 64 → slice_index ((core_shown stored start s).words f) i ≡ slice_index s.words (index_of start (places.Content f i))
+  pub content-here : (s : Table (Option B) (View X)) (f i : ℕ) → f < start.frames → i < start.size → slice_index ((core_shown stored start s).words f) i ≡ slice_index s.words (index_of start (places.Content f i))
   unfolding frame_words
   content-here s f i lf li =
       let contents : ℕ → ℕ = (table_words start s.words).contents in
-      sym (at-get 0 (frame_words contents f) i) ∙ at-listed 0 64 (λ k. contents (64 * f + k)) i li ∙ part-found (3 * start.pages) (64 * start.frames) s.words (64 * f + i) (3 * start.pages + (64 * f + i)) (omega arith) refl
+      sym (at-get 0 (frame_words start.size contents f) i) ∙ at-listed 0 start.size (λ k. contents (start.size * f + k)) i li ∙ part-found (3 * start.pages) (start.size * start.frames) s.words (start.size * f + i) (3 * start.pages + (start.size * f + i)) (room start.size f start.frames i lf li) refl
 
   -- a bundle word, the next word, the hand
   pub bundle-here : (s : Table (Option B) (View X)) (g : ℕ) → g < bundle_count start → (core_shown stored start s).bundles g ≡ slice_index s.words (index_of start (places.Bundle g))
-  bundle-here s g l = part-found (3 * start.pages + 64 * start.frames) (bundle_count start) s.words g (3 * start.pages + 64 * start.frames + g) l refl
+  bundle-here s g l = part-found (3 * start.pages + start.size * start.frames) (bundle_count start) s.words g (3 * start.pages + start.size * start.frames + g) l refl
 
   pub next-here : (s : Table (Option B) (View X)) → (core_shown stored start s).next ≡ slice_index s.words (index_of start places.Next)
   next-here s = at-get 0 s.words (index_of start places.Next)
@@ -75,4 +76,4 @@ module _ {X B : Type 0} (stored : B → Stored) (start : Origin) where
 
   -- an owner word
   pub owner-here : (s : Table (Option B) (View X)) (f : ℕ) → f < start.frames → (core_shown stored start s).owners f ≡ slice_index s.words (index_of start (places.Owner f))
-  owner-here s f l = part-found (3 * start.pages + 64 * start.frames + bundle_count start + 2) start.frames s.words f (3 * start.pages + 64 * start.frames + bundle_count start + 2 + f) l refl
+  owner-here s f l = part-found (3 * start.pages + start.size * start.frames + bundle_count start + 2) start.frames s.words f (3 * start.pages + start.size * start.frames + bundle_count start + 2 + f) l refl

@@ -129,7 +129,7 @@ module _ {X B : Type 0} (stored : B → Stored) (start : Origin) (s : Table (Opt
       (sym (upd-is c.held (given_by c.held id g mask) id (λ h. if in_mask g mask h then false else c.held id h) (fun_ext (λ h. rw (eq-eqb id id refl) refl)) (λ b ne. fun_ext (λ h. rw (ne_eqb b id ne) refl))))
 
   -- a word is stored into a frame that the pass holds: no draft changes
-  pub fill-step : (f i x : ℕ) → Inv old → length s.words ≡ width start → f < start.frames → i < 64 → get_elem? s.views id ≡ some v → Keeps (has f v.frames ≡ true → Becomes (places.Content f i) x (world_after old (Store id f i x)))
+  pub fill-step : (f i x : ℕ) → Inv old → length s.words ≡ width start → f < start.frames → i < start.size → get_elem? s.views id ≡ some v → Keeps (has f v.frames ≡ true → Becomes (places.Content f i) x (world_after old (Store id f i x)))
   fill-step f i x inv wide lf li there out frames seats loads owns =
       worlds-same
       (store-core stored start s id v w f i x wide lf li there out frames seats)

@@ -18,8 +18,8 @@ unfolding sum_below
 sum-more n zero f none = let e : 0 + n ≡ n = omega arith in ap (λ m. sum_below m f) e
 sum-more n (suc k) f none = let e : suc k + n ≡ suc (k + n) = omega arith in ap (λ m. sum_below m f) e ∙ (let rest : sum_below (k + n) f ≡ sum_below n f = sum-more n k f none in let zero' : f (k + n) ≡ 0 = none (k + n) (omega arith) in omega arith)
 
-module _ (actors k : ℕ) (tells : Bool) (words : ℕ → List ℕ) (r : Page) (h : History) (loads loads' : ℕ → List (ℕ × ℕ)) (seats : ℕ → Seat) (less : (a : ℕ) → ReadsLess (r.seats a) (seats a) (loads a) (loads' a)) (past : (a : ℕ) → actors ≤ a → (r.seats a).shares ≡ 0) where
-  pub less-page : PageInv actors tells words r h loads → PageInv (k + actors) tells words (record r { seats = seats }) h loads'
+module _ (actors k size : ℕ) (tells : Bool) (words : ℕ → List ℕ) (r : Page) (h : History) (loads loads' : ℕ → List (ℕ × ℕ)) (seats : ℕ → Seat) (less : (a : ℕ) → ReadsLess (r.seats a) (seats a) (loads a) (loads' a)) (past : (a : ℕ) → actors ≤ a → (r.seats a).shares ≡ 0) where
+  pub less-page : PageInv actors size tells words r h loads → PageInv (k + actors) size tells words (record r { seats = seats }) h loads'
   less-page i = record {
     locks = record {
       known = i.locks.known;
@@ -117,6 +117,6 @@ module _ (w : World) (k from to : ℕ) (seats : ℕ → ℕ → Seat) (held : �
     frames = regathered-frame;
     words = i.words;
     next = i.next;
-    pages = λ p. less-page w.core.shape.actors k w.core.tells w.core.words (w.core.pages p) (w.histories p) (w.loads p) (loads p) (seats p) (g.less p) (g.past p) (i.pages p);
+    pages = λ p. less-page w.core.shape.actors k w.core.size w.core.tells w.core.words (w.core.pages p) (w.histories p) (w.loads p) (loads p) (seats p) (g.less p) (g.past p) (i.pages p);
     owners = record { named = i.owners.named; owned = i.owners.owned };
   }

@@ -18,17 +18,17 @@ pub page-in : (pages : ℕ) (r : Words) (blocks : ℕ → Stored) (seats : ℕ �
 unfolding pages_from
 page-in pages r blocks seats p l = rw (lt-ltb p pages l) refl
 
-pub page-out : (pages : ℕ) (r : Words) (blocks : ℕ → Stored) (seats : ℕ → ℕ → Seat) (p : ℕ) → pages ≤ p → pages_from pages r blocks seats p ≡ outside_page
+pub page-out : (pages : ℕ) (r : Words) (blocks : ℕ → Stored) (seats : ℕ → ℕ → Seat) (p : ℕ) → pages ≤ p → pages_from pages r blocks seats p ≡ outside_page r.size
 unfolding pages_from
 page-out pages r blocks seats p l = rw (le-ltb p pages l) refl
 
 -- what page p is read from has changed, and what the other pages are read from has not
-pub page-changed : (pages : ℕ) (r r' : Words) (blocks blocks' : ℕ → Stored) (seats seats' : ℕ → ℕ → Seat) (p : ℕ) (y : Page) → p < pages → page_from r' blocks' seats' p ≡ y
+pub page-changed : (pages : ℕ) (r r' : Words) (blocks blocks' : ℕ → Stored) (seats seats' : ℕ → ℕ → Seat) (p : ℕ) (y : Page) → p < pages → r'.size ≡ r.size → page_from r' blocks' seats' p ≡ y
     → ((q : ℕ) → q ≢ p → page_from r' blocks' seats' q ≡ page_from r blocks seats q)
     → pages_from pages r' blocks' seats' ≡ upd (pages_from pages r blocks seats) p y
-page-changed pages r r' blocks blocks' seats seats' p y l here there =
+page-changed pages r r' blocks blocks' seats seats' p y l size here there =
     upd-is (pages_from pages r blocks seats) (pages_from pages r' blocks' seats') p y (page-in pages r' blocks' seats' p l ∙ here)
     (λ q ne. ⊎_elim
     (λ lt. page-in pages r' blocks' seats' q lt ∙ there q ne ∙ sym (page-in pages r blocks seats q lt))
-    (λ le. page-out pages r' blocks' seats' q le ∙ sym (page-out pages r blocks seats q le))
+    (λ le. page-out pages r' blocks' seats' q le ∙ ap outside_page size ∙ sym (page-out pages r blocks seats q le))
     (cases_lt q pages))

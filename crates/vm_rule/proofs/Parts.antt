@@ -1,6 +1,7 @@
 -- A word of the table is set: the words of its kind change at one place, and all others stay.
 use Rattle.std.proofs.lemmas.List.{get_or-set_other}
 use Rattle.vm_core.proofs.At.{at_set}
+use Rattle.vm_page.proofs.Sizes.{room, same-page}
 use Rattle.vm_rule.specs.declared.view.Place.TheVariants as places
 use Rattle.vm_rule.proofs.Prelude.{ap, arith, at, bundle_count, cases_eq, cases_lt, frame_words, fun_ext, index_of, le-ltb, length, List, listed, lt-ltb}
 use Rattle.vm_rule.proofs.Prelude.{Origin, part, Place, refl, slice_set, suc, sym, table_words, upd, upd-other, upd-same, width, with_word, Within, Words, zero}
@@ -19,9 +20,9 @@ unfolding at
 at-else words i x j ne = get_or-set_other words i j x 0 ne
 
 -- the words, part by part, in the order of the layout
-words-as : {a a' b b' c c' d d' e e' h h' : ℕ → ℕ} {f f' g g' : ℕ} → a ≡ a' → b ≡ b' → c ≡ c' → d ≡ d' → e ≡ e' → f ≡ f' → g ≡ g' → h ≡ h'
-    → ◌≡◌ {A = Words} (record { states = a; translations = b; faults = c; contents = d; bundles = e; next = f; hand = g; owners = h }) (record { states = a'; translations = b'; faults = c'; contents = d'; bundles = e'; next = f'; hand = g'; owners = h' })
-words-as a b c d e f g h i = record { states = a i; translations = b i; faults = c i; contents = d i; bundles = e i; next = f i; hand = g i; owners = h i }
+words-as : {size : ℕ} → {a a' b b' c c' d d' e e' h h' : ℕ → ℕ} {f f' g g' : ℕ} → a ≡ a' → b ≡ b' → c ≡ c' → d ≡ d' → e ≡ e' → f ≡ f' → g ≡ g' → h ≡ h'
+    → ◌≡◌ {A = Words} (record { size = size; states = a; translations = b; faults = c; contents = d; bundles = e; next = f; hand = g; owners = h }) (record { size = size; states = a'; translations = b'; faults = c'; contents = d'; bundles = e'; next = f'; hand = g'; owners = h' })
+words-as {size} a b c d e f g h i = record { size = size; states = a i; translations = b i; faults = c i; contents = d i; bundles = e i; next = f i; hand = g i; owners = h i }
 
 -- one word is written, the word k
 module _ (start : Origin) (words : List ℕ) (x k : ℕ) (wide : length words ≡ width start) where
@@ -40,51 +41,52 @@ module _ (start : Origin) (words : List ℕ) (x k : ℕ) (wide : length words �
 
   -- where the bundle words begin
   abbrev bundles-from : ℕ
-  bundles-from = 3 * start.pages + 64 * start.frames
+  bundles-from = 3 * start.pages + start.size * start.frames
 
   -- its part changes there, and the others are as they were
   placed : (w : Place) → Within start w → index_of start w ≡ k → table_words start (slice_set words k x) ≡ with_word (table_words start words) w x
   placed (places.State p) l e =
       words-as
       (own 0 start.pages p l (omega arith) (omega arith)) (other start.pages start.pages (λ j below same. omega arith)) (other (2 * start.pages) start.pages (λ j below same. omega arith))
-      (other (3 * start.pages) (64 * start.frames) (λ j below same. omega arith)) (other bundles-from (bundle_count start) (λ j below same. omega arith))
+      (other (3 * start.pages) (start.size * start.frames) (λ j below same. omega arith)) (other bundles-from (bundle_count start) (λ j below same. omega arith))
       (at-else words k x (index_of start places.Next) (λ same. omega arith)) (at-else words k x (index_of start places.Hand) (λ same. omega arith)) (other (bundles-from + bundle_count start + 2) start.frames (λ j below same. omega arith))
   placed (places.Translation p) l e =
       words-as
       (other 0 start.pages (λ j below same. omega arith)) (own start.pages start.pages p l (omega arith) (omega arith)) (other (2 * start.pages) start.pages (λ j below same. omega arith))
-      (other (3 * start.pages) (64 * start.frames) (λ j below same. omega arith)) (other bundles-from (bundle_count start) (λ j below same. omega arith))
+      (other (3 * start.pages) (start.size * start.frames) (λ j below same. omega arith)) (other bundles-from (bundle_count start) (λ j below same. omega arith))
       (at-else words k x (index_of start places.Next) (λ same. omega arith)) (at-else words k x (index_of start places.Hand) (λ same. omega arith)) (other (bundles-from + bundle_count start + 2) start.frames (λ j below same. omega arith))
   placed (places.Fault p) l e =
       words-as
       (other 0 start.pages (λ j below same. omega arith)) (other start.pages start.pages (λ j below same. omega arith)) (own (2 * start.pages) start.pages p l (omega arith) (omega arith))
-      (other (3 * start.pages) (64 * start.frames) (λ j below same. omega arith)) (other bundles-from (bundle_count start) (λ j below same. omega arith))
+      (other (3 * start.pages) (start.size * start.frames) (λ j below same. omega arith)) (other bundles-from (bundle_count start) (λ j below same. omega arith))
       (at-else words k x (index_of start places.Next) (λ same. omega arith)) (at-else words k x (index_of start places.Hand) (λ same. omega arith)) (other (bundles-from + bundle_count start + 2) start.frames (λ j below same. omega arith))
   placed (places.Content f n) l e =
       let frame : f < start.frames = l.0 in
-      let inside : n < 64 = l.1 in
+      let inside : n < start.size = l.1 in
+      let among : start.size * f + n < start.size * start.frames = room start.size f start.frames n frame inside in
       words-as
       (other 0 start.pages (λ j below same. omega arith)) (other start.pages start.pages (λ j below same. omega arith)) (other (2 * start.pages) start.pages (λ j below same. omega arith))
-      (own (3 * start.pages) (64 * start.frames) (64 * f + n) (omega arith) (omega arith) (omega arith)) (other bundles-from (bundle_count start) (λ j below same. omega arith))
+      (own (3 * start.pages) (start.size * start.frames) (start.size * f + n) among (omega arith) (omega arith)) (other bundles-from (bundle_count start) (λ j below same. omega arith))
       (at-else words k x (index_of start places.Next) (λ same. omega arith)) (at-else words k x (index_of start places.Hand) (λ same. omega arith)) (other (bundles-from + bundle_count start + 2) start.frames (λ j below same. omega arith))
   placed (places.Bundle g) l e =
       words-as
       (other 0 start.pages (λ j below same. omega arith)) (other start.pages start.pages (λ j below same. omega arith)) (other (2 * start.pages) start.pages (λ j below same. omega arith))
-      (other (3 * start.pages) (64 * start.frames) (λ j below same. omega arith)) (own bundles-from (bundle_count start) g l (omega arith) (omega arith))
+      (other (3 * start.pages) (start.size * start.frames) (λ j below same. omega arith)) (own bundles-from (bundle_count start) g l (omega arith) (omega arith))
       (at-else words k x (index_of start places.Next) (λ same. omega arith)) (at-else words k x (index_of start places.Hand) (λ same. omega arith)) (other (bundles-from + bundle_count start + 2) start.frames (λ j below same. omega arith))
   placed places.Next l e =
       words-as
       (other 0 start.pages (λ j below same. omega arith)) (other start.pages start.pages (λ j below same. omega arith)) (other (2 * start.pages) start.pages (λ j below same. omega arith))
-      (other (3 * start.pages) (64 * start.frames) (λ j below same. omega arith)) (other bundles-from (bundle_count start) (λ j below same. omega arith))
+      (other (3 * start.pages) (start.size * start.frames) (λ j below same. omega arith)) (other bundles-from (bundle_count start) (λ j below same. omega arith))
       (ap (at 0 (slice_set words k x)) e ∙ at-here words k x (omega arith)) (at-else words k x (index_of start places.Hand) (λ same. omega arith)) (other (bundles-from + bundle_count start + 2) start.frames (λ j below same. omega arith))
   placed places.Hand l e =
       words-as
       (other 0 start.pages (λ j below same. omega arith)) (other start.pages start.pages (λ j below same. omega arith)) (other (2 * start.pages) start.pages (λ j below same. omega arith))
-      (other (3 * start.pages) (64 * start.frames) (λ j below same. omega arith)) (other bundles-from (bundle_count start) (λ j below same. omega arith))
+      (other (3 * start.pages) (start.size * start.frames) (λ j below same. omega arith)) (other bundles-from (bundle_count start) (λ j below same. omega arith))
       (at-else words k x (index_of start places.Next) (λ same. omega arith)) (ap (at 0 (slice_set words k x)) e ∙ at-here words k x (omega arith)) (other (bundles-from + bundle_count start + 2) start.frames (λ j below same. omega arith))
   placed (places.Owner f) l e =
       words-as
       (other 0 start.pages (λ j below same. omega arith)) (other start.pages start.pages (λ j below same. omega arith)) (other (2 * start.pages) start.pages (λ j below same. omega arith))
-      (other (3 * start.pages) (64 * start.frames) (λ j below same. omega arith)) (other bundles-from (bundle_count start) (λ j below same. omega arith))
+      (other (3 * start.pages) (start.size * start.frames) (λ j below same. omega arith)) (other bundles-from (bundle_count start) (λ j below same. omega arith))
       (at-else words k x (index_of start places.Next) (λ same. omega arith)) (at-else words k x (index_of start places.Hand) (λ same. omega arith)) (own (bundles-from + bundle_count start + 2) start.frames f l (omega arith) (omega arith))
 
 pub words-written : (start : Origin) (words : List ℕ) (w : Place) (x : ℕ) → length words ≡ width start → Within start w → table_words start (slice_set words (index_of start w) x) ≡ with_word (table_words start words) w x
@@ -107,10 +109,10 @@ listed-upd (suc n) f (suc k) x l =
     ∙ listed-upd n (λ j. f (suc j)) k x (omega arith))
 
 -- a word of frame f is set
-pub frame-written : (contents : ℕ → ℕ) (f i x : ℕ) → i < 64 → frame_words (upd contents (64 * f + i) x) ≡ upd (frame_words contents) f (slice_set (frame_words contents f) i x)
+pub frame-written : (n : ℕ) (contents : ℕ → ℕ) (f i x : ℕ) → i < n → frame_words n (upd contents (n * f + i) x) ≡ upd (frame_words n contents) f (slice_set (frame_words n contents f) i x)
 unfolding frame_words
-frame-written contents f i x l =
-    upd-is (frame_words contents) (frame_words (upd contents (64 * f + i) x)) f (slice_set (frame_words contents f) i x)
-    (ap (listed 64) (upd-is (λ k. contents (64 * f + k)) (λ k. upd contents (64 * f + i) x (64 * f + k)) i x (upd-same contents (64 * f + i) x) (λ k ne. upd-other contents (64 * f + i) x (64 * f + k) (λ e. ne (omega arith))))
-    ∙ listed-upd 64 (λ k. contents (64 * f + k)) i x l)
-    (λ g ne. listed-same 64 (λ k. upd contents (64 * f + i) x (64 * g + k)) (λ k. contents (64 * g + k)) (λ k lt. upd-other contents (64 * f + i) x (64 * g + k) (λ e. ne (omega arith))))
+frame-written n contents f i x l =
+    upd-is (frame_words n contents) (frame_words n (upd contents (n * f + i) x)) f (slice_set (frame_words n contents f) i x)
+    (ap (listed n) (upd-is (λ k. contents (n * f + k)) (λ k. upd contents (n * f + i) x (n * f + k)) i x (upd-same contents (n * f + i) x) (λ k ne. upd-other contents (n * f + i) x (n * f + k) (λ e. ne (omega (arith, e)))))
+    ∙ listed-upd n (λ k. contents (n * f + k)) i x l)
+    (λ g ne. listed-same n (λ k. upd contents (n * f + i) x (n * g + k)) (λ k. contents (n * g + k)) (λ k lt. upd-other contents (n * f + i) x (n * g + k) (λ e. ne (same-page n g f k i lt l e))))

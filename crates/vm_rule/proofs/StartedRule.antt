@@ -4,7 +4,7 @@ use mathlib.Core.Option as maybe
 use Rattle.vm_core.specs.Prelude.{start as start_of}
 use Rattle.vm_rule.proofs.{Known.known-nothing, Pages.page-in, Pages.page-out, Parted.opened, Parts.listed-same, Starts.evicted-inv, Starts.start-frames}
 use Rattle.vm_rule.proofs.ListFacts.{at-any, at-map, length-mapped, listed-long}
-use Rattle.vm_rule.proofs.Prelude.{[], ap, arith, at, began_of, block_of, block_words, Bool, cases_Bool, cases_lt, chosen, cond, contents_of, core_shown}
+use Rattle.vm_rule.proofs.Prelude.{[], ap, AreWhole, arith, at, began_of, block_of, block_words, Bool, cases_Bool, cases_lt, chosen, cond, contents_of, core_shown}
 use Rattle.vm_rule.proofs.Prelude.{CoreStart, counts_of, EVICTED, evicted_page, false, first_view, FrameIsAt, Free, fun_ext, get_elem?, has, has_free_bit}
 use Rattle.vm_rule.proofs.Prelude.{histories_of, home, if◌then◌else◌, inl, inr, Inv, is_owed, is_pending, IsSome, IsStarted, IsWhole, Kept, known, KnowsLists}
 use Rattle.vm_rule.proofs.Prelude.{KnowsPages, le-ltb, length, length-replicate, List, loads_at, logical, lt-ltb, ltb, map, mapping_of, MAX_COUNT, MayBegin}
@@ -39,16 +39,16 @@ pub only-one : {A : Type 0} (x : A) (j : ℕ) (y : A) → get_elem? (x ∷ []) j
 only-one x zero y e = (refl, sym (some-injective x y e))
 only-one x (suc j) y e = absurd (maybe.some-ne-none y (sym e))
 
-module _ (X : Type 0) {B : Type 0} (stored : B → Stored) (tells : Bool) (whole : (b : B) → tells ≡ true → length (stored b).words ≡ 64)
-    (version next frames : ℕ) (items : List B) (ok : IsStarted version next frames (length items)) where
+module _ (X : Type 0) {B : Type 0} (stored : B → Stored) (size : ℕ) (tells : Bool)
+    (version next frames : ℕ) (items : List B) (whole : tells ≡ true → AreWhole size (map stored items)) (ok : IsStarted version next frames (length items)) where
   abbrev blocks : List Stored
   blocks = map stored items
 
   abbrev start : Origin
-  start = started_origin tells version next frames blocks
+  start = started_origin size tells version next frames blocks
 
   abbrev words : List ℕ
-  words = started_words (length blocks) frames version next (counts_of blocks)
+  words = started_words size (length blocks) frames version next (counts_of blocks)
 
   abbrev table : Table (Option B) (View X)
   table = opening words (map Some items) (first_view start)
@@ -64,36 +64,36 @@ module _ (X : Type 0) {B : Type 0} (stored : B → Stored) (tells : Bool) (whole
   page-evicted p l =
       page-in (length blocks) (table_words start words) (block_of stored table.homes table.views) (seats_of table.views) p l
       ∙ (λ i. record {
-        state = (ap state_of (started-state tells version next frames blocks p l) ∙ word-state EVICTED version ok.in_range) i;
-        version = (ap version_of (started-state tells version next frames blocks p l) ∙ word-version EVICTED version ok.in_range) i;
-        trans = (ap mapping_of (started-translation tells version next frames blocks p l) ∙ mapping-none) i;
-        fault = started-fault tells version next frames blocks no_block p l i;
+        state = (ap state_of (started-state size tells version next frames blocks p l) ∙ word-state EVICTED version ok.in_range) i;
+        version = (ap version_of (started-state size tells version next frames blocks p l) ∙ word-version EVICTED version ok.in_range) i;
+        trans = (ap mapping_of (started-translation size tells version next frames blocks p l) ∙ mapping-none) i;
+        fault = started-fault size tells version next frames blocks no_block p l i;
         count = (first-block p l i).count;
         block = (first-block p l i).words;
         seats = λ a. lone {X = X} (λ y. seat_of y p) start refl a i;
       })
 
-  contents-at : (p : ℕ) → p < length blocks → at (replicate 64 0) (contents_of tells blocks) p ≡ (if tells then (at no_block blocks p).words else replicate 64 0)
-  contents-at p l = at-map (λ (b : Stored). if tells then b.words else replicate 64 0) (replicate 64 0) no_block blocks p l
+  contents-at : (p : ℕ) → p < length blocks → at (replicate size 0) (contents_of size tells blocks) p ≡ (if tells then (at no_block blocks p).words else replicate size 0)
+  contents-at p l = at-map (λ (b : Stored). if tells then b.words else replicate size 0) (replicate size 0) no_block blocks p l
 
-  contents-told : (p : ℕ) → p < length blocks → tells ≡ true → (at no_block blocks p).words ≡ at (replicate 64 0) (contents_of tells blocks) p
-  contents-told p l t = sym (contents-at p l ∙ ap (λ y. if y then (at no_block blocks p).words else replicate 64 0) t)
+  contents-told : (p : ℕ) → p < length blocks → tells ≡ true → (at no_block blocks p).words ≡ at (replicate size 0) (contents_of size tells blocks) p
+  contents-told p l t = sym (contents-at p l ∙ ap (λ y. if y then (at no_block blocks p).words else replicate size 0) t)
 
-  contents-long : (p : ℕ) → p < length blocks → length (at (replicate 64 0) (contents_of tells blocks) p) ≡ 64
+  contents-long : (p : ℕ) → p < length blocks → length (at (replicate size 0) (contents_of size tells blocks) p) ≡ size
   contents-long p l =
       ⊎_elim
-      (λ t. let k = item-there stored items p l in ap length (sym (contents-told p l t)) ∙ ap (λ (b : Stored). length b.words) k.1 ∙ whole k.0 t)
-      (λ f. ap length (contents-at p l ∙ ap (λ y. if y then (at no_block blocks p).words else replicate 64 0) f) ∙ length-replicate {A = ℕ} 64 0)
+      (λ t. ap length (sym (contents-told p l t)) ∙ whole t p l)
+      (λ f. ap length (contents-at p l ∙ ap (λ y. if y then (at no_block blocks p).words else replicate size 0) f) ∙ length-replicate {A = ℕ} size 0)
       (cases_Bool tells)
 
-  page-inv : (p : ℕ) → PageInv 1 tells (core_shown stored start table).words ((core_shown stored start table).pages p) (histories_of start [] (λ q. []) p) (λ a. [])
+  page-inv : (p : ℕ) → PageInv 1 size tells (core_shown stored start table).words ((core_shown stored start table).pages p) (histories_of start [] (λ q. []) p) (λ a. [])
   unfolding histories_of
   page-inv p =
       ⊎_elim
       (λ l. rw (lt-ltb p (length blocks) l, page-evicted p l)
-      (evicted-inv 1 tells (core_shown stored start table).words version (at no_block blocks p).words (at (replicate 64 0) (contents_of tells blocks) p) (at no_block blocks p).count ok.in_range (contents-long p l) (contents-told p l)))
+      (evicted-inv 1 size tells (core_shown stored start table).words version (at no_block blocks p).words (at (replicate size 0) (contents_of size tells blocks) p) (at no_block blocks p).count ok.in_range (contents-long p l) (contents-told p l)))
       (λ le. rw (le-ltb p (length blocks) le, page-out (length blocks) (table_words start words) (block_of stored table.homes table.views) (seats_of table.views) p le)
-      (evicted-inv 1 tells (core_shown stored start table).words 0 (replicate 64 0) (replicate 64 0) 0 (omega arith) (length-replicate {A = ℕ} 64 0) (λ _. refl)))
+      (evicted-inv 1 size tells (core_shown stored start table).words 0 (replicate size 0) (replicate size 0) 0 (omega arith) (length-replicate {A = ℕ} size 0) (λ _. refl)))
       (cases_lt p (length blocks))
 
   -- no page stands in a frame
@@ -107,12 +107,12 @@ module _ (X : Type 0) {B : Type 0} (stored : B → Stored) (tells : Bool) (whole
   -- the frames stand as in a core's start
   frame-free : (f : ℕ) → FrameIsAt (core_shown stored start table) f (cond (ltb f frames) Free Nowhere)
   frame-free f =
-      let c : CoreStart = record { shape = record { pages = length blocks; frames = frames; actors = 1; next = next }; first = version; tells = tells; blocks = λ p. []; counts = λ p. 0 } in
+      let c : CoreStart = record { shape = record { pages = length blocks; frames = frames; actors = 1; next = next }; size = size; first = version; tells = tells; blocks = λ p. []; counts = λ p. 0 } in
       let s : FrameIsAt (start_of c) f (cond (ltb f frames) Free Nowhere) = start-frames c f in
       record {
         inside = s.inside;
         outside = s.outside;
-        free = ap (λ b. has_free_bit b f) (fun_ext (started-bundle tells version next frames blocks)) ∙ s.free;
+        free = ap (λ b. has_free_bit b f) (fun_ext (started-bundle size tells version next frames blocks)) ∙ s.free;
         holds = λ a. lone {X = X} (λ y. has f y.frames) start refl a ∙ s.holds a;
         mapped = λ p. ap (λ t. stands_in t f) (empty p) ∙ s.mapped p;
       }
@@ -121,11 +121,11 @@ module _ (X : Type 0) {B : Type 0} (stored : B → Stored) (tells : Bool) (whole
   started-inv = record {
     place = λ f. cond (ltb f frames) Free Nowhere;
     frames = frame-free;
-    words = λ f. ap length (started-frame tells version next frames blocks f) ∙ length-replicate {A = ℕ} 64 0;
-    next = (let is : (table_words start words).next ≡ next = started-next tells version next frames blocks in let le : next ≤ length items = ok.claimed in omega (arith, is, le, many));
-    pages = λ p. subst (PageInv 1 tells (core_shown stored start table).words ((core_shown stored start table).pages p) (histories_of start [] (λ q. []) p)) (sym (fun_ext (lone {X = X} (λ y. loads_at y p) start refl))) (page-inv p);
+    words = λ f. ap length (started-frame size tells version next frames blocks f) ∙ length-replicate {A = ℕ} size 0;
+    next = (let is : (table_words start words).next ≡ next = started-next size tells version next frames blocks in let le : next ≤ length items = ok.claimed in omega (arith, is, le, many));
+    pages = λ p. subst (PageInv 1 size tells (core_shown stored start table).words ((core_shown stored start table).pages p) (histories_of start [] (λ q. []) p)) (sym (fun_ext (lone {X = X} (λ y. loads_at y p) start refl))) (page-inv p);
     owners = record {
-      named = λ f p e. let none : (table_words start words).owners f ≡ 0 = started-owner tells version next frames blocks f in absurd (omega (arith, none, e));
+      named = λ f p e. let none : (table_words start words).owners f ≡ 0 = started-owner size tells version next frames blocks f in absurd (omega (arith, none, e));
       owned = λ p free m at. absurd (none-some m (sym (empty p) ∙ at));
     };
   }
@@ -135,24 +135,24 @@ module _ (X : Type 0) {B : Type 0} (stored : B → Stored) (tells : Bool) (whole
   module _ (keeps : Start → Kept X → Type 0) (tied : Start → ℕ → List ℕ → ℕ → List ℕ → Type 0) (bounded : (b : B) → (stored b).count ≤ (stored b).bound) (capped : (b : B) → (stored b).bound ≤ 2 ^ 64 - 1)
       (may : tells ≡ true → MayBegin keeps next (block_words blocks)) where
     abbrev shape : Shape
-    shape = started_shape tells version next frames blocks
+    shape = started_shape size tells version next frames blocks
 
     abbrev c : State
     c = core_shown stored start table
 
     next-is : c.next ≡ next
-    next-is = started-next tells version next frames blocks
+    next-is = started-next size tells version next frames blocks
 
     begins : tells ≡ true → MayBegin keeps next start.contents
-    begins t = subst (MayBegin keeps next) (sym (ap (λ y. contents_of y blocks) t)) (may t)
+    begins t = subst (MayBegin keeps next) (sym (ap (λ y. contents_of size y blocks) t)) (may t)
 
     many-contents : length start.contents ≡ length blocks
-    many-contents = length-mapped (λ (b : Stored). if tells then b.words else replicate 64 0) blocks
+    many-contents = length-mapped (λ (b : Stored). if tells then b.words else replicate size 0) blocks
 
     only : (P : View X → Type 0) → P (first_view start) → (j : ℕ) (u : View X) → get_elem? table.views j ≡ some u → P u
     only P p j u there = subst P (sym (only-one (first_view start) j u there).1) p
 
-    last-words : (p : ℕ) → p < start.pages → (histories_of start [] (λ p. []) p).last.words ≡ at (replicate 64 0) start.contents p
+    last-words : (p : ℕ) → p < start.pages → (histories_of start [] (λ p. []) p).last.words ≡ at (replicate size 0) start.contents p
     unfolding histories_of
     last-words p l = rw (lt-ltb p start.pages l) refl
 
@@ -174,12 +174,14 @@ module _ (X : Type 0) {B : Type 0} (stored : B → Stored) (tells : Bool) (whole
       history = [];
       drafts = λ p. [];
       telling = refl;
-      wide = (started-wide tells version next frames blocks, length-mapped maybe.some (map Some items) ∙ length-mapped Some items ∙ many);
+      wide = (started-wide size tells version next frames blocks, length-mapped maybe.some (map Some items) ∙ length-mapped Some items ∙ many);
       sized = (many-contents, length-mapped (λ (b : Stored). b.bound) blocks);
-      spelled = λ p l. let is = started-translation tells version next frames blocks p l in is ∙ sym (ap (λ w. trans_word (mapping_of w)) is ∙ ap trans_word mapping-none);
+      spelled = λ p l. let is = started-translation size tells version next frames blocks p l in is ∙ sym (ap (λ w. trans_word (mapping_of w)) is ∙ ap trans_word mapping-none);
       inv = started-inv;
       risen = omega (arith, next-is);
-      zero = λ t p le l. last-words p l ∙ at-any (replicate 64 0) [] start.contents p (omega (arith, many-contents, l)) ∙ (begins t).zero p (omega (arith, next-is, le)) (omega (arith, many-contents, l));
+      zero = λ t p le l.
+          let any = at-any (replicate size 0) [] start.contents p (omega (arith, many-contents, l)) in
+          last-words p l ∙ any ∙ (begins t).zero p (omega (arith, next-is, le)) (omega (arith, many-contents, l)) ∙ ap (λ n. replicate n 0) (ap length (sym any) ∙ contents-long p l);
       blocks = record {
         away = λ j v o there e. absurd (let none : None ≡ Some o = only (λ y. None ≡ y.out) refl j v there ∙ e in cc);
         home = λ p l _. subst IsSome (sym (item-there stored items p l).2) refl;
@@ -209,7 +211,7 @@ module _ (X : Type 0) {B : Type 0} (stored : B → Stored) (tells : Bool) (whole
       known = only (λ y. y.live ≡ true → KnowsPages tied start (world_of stored start [] (λ p. []) table) (is_pending table.views) y) (λ _. known-nothing tied start _ _ true start (0 ∷ []) (numbers 1 4294967295) [] []);
       owner = λ t. subst (keeps (began_of start))
           (sym (λ i. record {
-            pages = (listed-same start.pages (logical (histories_of start [] (λ p. [])) (is_pending table.views)) (at (replicate 64 0) start.contents) last-words ∙ listed-long (replicate 64 0) start.pages start.contents many-contents) i;
+            pages = (listed-same start.pages (logical (histories_of start [] (λ p. [])) (is_pending table.views)) (at (replicate size 0) start.contents) last-words ∙ listed-long (replicate size 0) start.pages start.contents many-contents) i;
             next = next-is i;
             owed = chosen-none start.pages (is_owed table.views) (λ p. refl) i;
             history = [];
@@ -223,19 +225,19 @@ module _ (X : Type 0) {B : Type 0} (stored : B → Stored) (tells : Bool) (whole
         let same = listed-same start.pages (block_of stored table.homes table.views) (at no_block blocks) first-block ∙ listed-long no_block start.pages blocks refl in
         record {
           start = start;
-          is_shape = record { same = refl; pages = refl; frames = refl; version = refl; next = refl };
+          is_shape = record { same = refl; size = refl; pages = refl; frames = refl; version = refl; next = refl };
           rule = inr (refl, first-ruled, λ i. record { words = words; blocks = same i });
         }
 
     -- the table meets its rule when it is made with the shape, the words and the slots that were made of these blocks; these are as many as the
     -- shape says
     pub opens : (xs ys : List B) → xs ≡ items → ys ≡ items → (shape' : Shape) (row : List ℕ) (slots : List (Option B))
-        → shape' ≡ record { pages = length xs; frames = frames; version = version; next = next; began = (started_shape tells version next frames (map stored xs)).began }
-        → row ≡ started_words (length ys) frames version next (counts_of (map stored ys)) → slots ≡ map Some items
-        → Stands stored keeps tied shape' tells (opening row slots (unborn shape')) × ((length row ≡ width_of shape'.pages shape'.frames) × (length slots ≡ shape'.pages))
+        → shape' ≡ record { size = size; pages = length xs; frames = frames; version = version; next = next; began = (started_shape size tells version next frames (map stored xs)).began }
+        → row ≡ started_words size (length ys) frames version next (counts_of (map stored ys)) → slots ≡ map Some items
+        → Stands stored keeps tied shape' tells (opening row slots (unborn shape')) × ((length row ≡ width_of shape'.size shape'.pages shape'.frames) × (length slots ≡ shape'.pages))
     opens xs ys same same' shape' row slots e f h =
-        subst₃ (λ (y : Shape) (l : List ℕ) (m : List (Option B)). Stands stored keeps tied y tells (opening l m (unborn y)) × ((length l ≡ width_of y.pages y.frames) × (length m ≡ y.pages)))
-        (sym (e ∙ (λ i. record { pages = sym (length-mapped stored xs) i; frames = frames; version = version; next = next; began = (started_shape tells version next frames (map stored xs)).began }) ∙ ap (λ l. started_shape tells version next frames (map stored l)) same))
-        (sym (f ∙ ap (λ n. started_words n frames version next (counts_of (map stored ys))) (sym (length-mapped stored ys)) ∙ ap (λ l. started_words (length (map stored l)) frames version next (counts_of (map stored l))) same'))
+        subst₃ (λ (y : Shape) (l : List ℕ) (m : List (Option B)). Stands stored keeps tied y tells (opening l m (unborn y)) × ((length l ≡ width_of y.size y.pages y.frames) × (length m ≡ y.pages)))
+        (sym (e ∙ (λ i. record { size = size; pages = sym (length-mapped stored xs) i; frames = frames; version = version; next = next; began = (started_shape size tells version next frames (map stored xs)).began }) ∙ ap (λ l. started_shape size tells version next frames (map stored l)) same))
+        (sym (f ∙ ap (λ n. started_words size n frames version next (counts_of (map stored ys))) (sym (length-mapped stored ys)) ∙ ap (λ l. started_words size (length (map stored l)) frames version next (counts_of (map stored l))) same'))
         (sym h)
-        (first-stands, (started-wide tells version next frames blocks, length-mapped Some items ∙ many))
+        (first-stands, (started-wide size tells version next frames blocks, length-mapped Some items ∙ many))

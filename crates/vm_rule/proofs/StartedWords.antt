@@ -3,7 +3,7 @@ use Rattle.vm_rule.proofs.ListFacts.{at-left, at-listed, at-map, at-past, at-rig
 use Rattle.vm_rule.proofs.Parts.{listed-same}
 use Rattle.vm_rule.proofs.Prelude.{[], ap, append-nil, append_assoc, arith, at, Bool, bundles_of, cases_lt, counts_of, EVICTED, frame_words, full_bundle}
 use Rattle.vm_rule.proofs.Prelude.{le-ltb, length, length-append, List, listed, lt-ltb, min, Origin, part, refl, replicate, started_origin, started_words}
-use Rattle.vm_rule.proofs.Prelude.{Stored, sym, table_words, width, word_of, ℕ, ⊎_elim, ◌*◌, ◌++◌, ◌+◌, ◌-◌, ◌<◌, ◌^◌, ◌∙◌, ◌∷◌, ◌≡◌}
+use Rattle.vm_rule.proofs.Prelude.{Stored, suc, sym, table_words, width, word_of, zero, ℕ, ⊎_elim, ◌*◌, ◌++◌, ◌+◌, ◌-◌, ◌<◌, ◌^◌, ◌∙◌, ◌∷◌, ◌≡◌}
 
 -- the parts are pushed one after another
 pub pushed-parts : (states translations faults contents bundles : List ℕ) (next hand : ℕ) (owners w0 w1 w2 w3 w4 w5 w6 w7 w8 : List ℕ) → w0 ≡ [] → w1 ≡ w0 ++ states → w2 ≡ w1 ++ translations → w3 ≡ w2 ++ faults → w4 ≡ w3 ++ contents → w5 ≡ w4 ++ bundles → w6 ≡ w5 ++ next ∷ [] → w7 ≡ w6 ++ hand ∷ [] → w8 ≡ w7 ++ owners
@@ -37,12 +37,18 @@ part-laid words rows after before row base n is cut b e k =
     (λ le. rw (le-ltb k n le) (sym (at-past 0 row k (omega arith))))
     (cases_lt k n)
 
-module _ (tells : Bool) (version next frames : ℕ) (blocks : List Stored) where
+-- as many zeros
+listed-zeros : (n : ℕ) → listed {A = ℕ} n (λ i. 0) ≡ replicate {A = ℕ} n 0
+unfolding listed
+listed-zeros zero = refl
+listed-zeros (suc n) = ap (λ (l : List ℕ). 0 ∷ l) (listed-zeros n)
+
+module _ (size : ℕ) (tells : Bool) (version next frames : ℕ) (blocks : List Stored) where
   abbrev start : Origin
-  start = started_origin tells version next frames blocks
+  start = started_origin size tells version next frames blocks
 
   abbrev words : List ℕ
-  words = started_words (length blocks) frames version next (counts_of blocks)
+  words = started_words size (length blocks) frames version next (counts_of blocks)
 
   -- ---- the rows
 
@@ -57,17 +63,17 @@ module _ (tells : Bool) (version next frames : ℕ) (blocks : List Stored) where
   bundles = listed (bundles_of frames) (full_bundle frames)
 
   abbrev rows : List (List ℕ)
-  rows = states ∷ blank (length blocks) ∷ counts_of blocks ∷ blank (64 * frames) ∷ bundles ∷ (next ∷ 0 ∷ []) ∷ blank frames ∷ []
+  rows = states ∷ blank (length blocks) ∷ counts_of blocks ∷ blank (size * frames) ∷ bundles ∷ (next ∷ 0 ∷ []) ∷ blank frames ∷ []
 
   words-laid : words ≡ laid rows
-  words-laid = ap (λ (l : List ℕ). states ++ (blank (length blocks) ++ (counts_of blocks ++ (blank (64 * frames) ++ (bundles ++ (next ∷ 0 ∷ l)))))) (sym (append-nil (blank frames)))
+  words-laid = ap (λ (l : List ℕ). states ++ (blank (length blocks) ++ (counts_of blocks ++ (blank (size * frames) ++ (bundles ++ (next ∷ 0 ∷ l)))))) (sym (append-nil (blank frames)))
 
-  long : (length states ≡ length blocks) × (length (blank (length blocks)) ≡ length blocks) × (length (counts_of blocks) ≡ length blocks) × (length (blank (64 * frames)) ≡ 64 * frames) × (length bundles ≡ bundles_of frames) × (length (blank frames) ≡ frames)
+  long : (length states ≡ length blocks) × (length (blank (length blocks)) ≡ length blocks) × (length (counts_of blocks) ≡ length blocks) × (length (blank (size * frames)) ≡ size * frames) × (length bundles ≡ bundles_of frames) × (length (blank frames) ≡ frames)
   long = (
     length-listed (length blocks) (λ p. word_of EVICTED version),
     length-listed {A = ℕ} (length blocks) (λ p. 0),
     length-mapped (λ (b : Stored). b.count) blocks,
-    length-listed {A = ℕ} (64 * frames) (λ i. 0),
+    length-listed {A = ℕ} (size * frames) (λ i. 0),
     length-listed (bundles_of frames) (full_bundle frames),
     length-listed {A = ℕ} frames (λ f. 0),
   )
@@ -92,17 +98,18 @@ module _ (tells : Bool) (version next frames : ℕ) (blocks : List Stored) where
       part-laid words rows _ (states ∷ blank (length blocks) ∷ []) (counts_of blocks) (2 * length blocks) (length blocks) words-laid refl (omega (arith, long.0, long.1)) long.2 p
       ∙ at-map (λ (b : Stored). b.count) 0 b blocks p l
 
-  pub started-frame : (f : ℕ) → frame_words (table_words start words).contents f ≡ replicate 64 0
-  unfolding frame_words listed
+  pub started-frame : (f : ℕ) → frame_words size (table_words start words).contents f ≡ replicate size 0
+  unfolding frame_words
   started-frame f =
-      listed-same 64 (λ i. (table_words start words).contents (64 * f + i)) (λ i. 0) (λ i _.
-      part-laid words rows _ (states ∷ blank (length blocks) ∷ counts_of blocks ∷ []) (blank (64 * frames)) (3 * length blocks) (64 * frames) words-laid refl (omega (arith, long.0, long.1, long.2)) long.3 (64 * f + i)
-      ∙ at-zeros (64 * frames) (64 * f + i))
+      listed-same size (λ i. (table_words start words).contents (size * f + i)) (λ i. 0) (λ i _.
+      part-laid words rows _ (states ∷ blank (length blocks) ∷ counts_of blocks ∷ []) (blank (size * frames)) (3 * length blocks) (size * frames) words-laid refl (omega (arith, long.0, long.1, long.2)) long.3 (size * f + i)
+      ∙ at-zeros (size * frames) (size * f + i))
+      ∙ listed-zeros size
 
   pub started-bundle : (g : ℕ) → (table_words start words).bundles g ≡ full_bundle frames g
   unfolding full_bundle
   started-bundle g =
-      part-laid words rows _ (states ∷ blank (length blocks) ∷ counts_of blocks ∷ blank (64 * frames) ∷ []) bundles (3 * length blocks + 64 * frames) (bundles_of frames) words-laid refl (omega (arith, long.0, long.1, long.2, long.3)) long.4 g
+      part-laid words rows _ (states ∷ blank (length blocks) ∷ counts_of blocks ∷ blank (size * frames) ∷ []) bundles (3 * length blocks + size * frames) (bundles_of frames) words-laid refl (omega (arith, long.0, long.1, long.2, long.3)) long.4 g
       ∙ ⊎_elim
       (λ l. at-listed 0 (bundles_of frames) (full_bundle frames) g l)
       -- past the last frame a bundle has no bit
@@ -111,12 +118,12 @@ module _ (tells : Bool) (version next frames : ℕ) (blocks : List Stored) where
 
   pub started-owner : (f : ℕ) → (table_words start words).owners f ≡ 0
   started-owner f =
-      part-laid words rows _ (states ∷ blank (length blocks) ∷ counts_of blocks ∷ blank (64 * frames) ∷ bundles ∷ (next ∷ 0 ∷ []) ∷ []) (blank frames) (3 * length blocks + 64 * frames + bundles_of frames + 2) frames words-laid refl
+      part-laid words rows _ (states ∷ blank (length blocks) ∷ counts_of blocks ∷ blank (size * frames) ∷ bundles ∷ (next ∷ 0 ∷ []) ∷ []) (blank frames) (3 * length blocks + size * frames + bundles_of frames + 2) frames words-laid refl
       (omega (arith, long.0, long.1, long.2, long.3, long.4)) long.5 f
       ∙ at-zeros frames f
 
   pub started-next : (table_words start words).next ≡ next
   unfolding at
   started-next =
-      ap (λ l. at 0 l (3 * length blocks + 64 * frames + bundles_of frames)) words-laid
-      ∙ past-laid (states ∷ blank (length blocks) ∷ counts_of blocks ∷ blank (64 * frames) ∷ bundles ∷ []) ((next ∷ 0 ∷ []) ∷ blank frames ∷ []) (3 * length blocks + 64 * frames + bundles_of frames) 0 (omega (arith, long.0, long.1, long.2, long.3, long.4))
+      ap (λ l. at 0 l (3 * length blocks + size * frames + bundles_of frames)) words-laid
+      ∙ past-laid (states ∷ blank (length blocks) ∷ counts_of blocks ∷ blank (size * frames) ∷ bundles ∷ []) ((next ∷ 0 ∷ []) ∷ blank frames ∷ []) (3 * length blocks + size * frames + bundles_of frames) 0 (omega (arith, long.0, long.1, long.2, long.3, long.4))

@@ -19,9 +19,9 @@ start-frames s f =
     }
 
 -- an evicted page with one version, which its block has, and no lock
-pub evicted-inv : (actors : ℕ) (tells : Bool) (words : ℕ → List ℕ) (version : ℕ) (block w : List ℕ) (count : ℕ) → version ≤ MAX_VERSION → length w ≡ 64 → (tells ≡ true → block ≡ w)
-    → PageInv actors tells words (evicted_page version block count) (record { older = []; last = record { version = version; words = w }; draft = [] }) (λ a. [])
-evicted-inv actors tells words version block w count le long same =
+pub evicted-inv : (actors size : ℕ) (tells : Bool) (words : ℕ → List ℕ) (version : ℕ) (block w : List ℕ) (count : ℕ) → version ≤ MAX_VERSION → length w ≡ size → (tells ≡ true → block ≡ w)
+    → PageInv actors size tells words (evicted_page version block count) (record { older = []; last = record { version = version; words = w }; draft = [] }) (λ a. [])
+evicted-inv actors size tells words version block w count le long same =
     record {
       locks = locks-none actors version le;
       stands = record { last = refl; resident = λ _ ne. absurd (ne refl); evicted = λ _. refl };
@@ -43,9 +43,9 @@ start_law s ok =
     record {
       place = λ f. cond (ltb f s.shape.frames) Free Nowhere;
       frames = start-frames s;
-      words = λ f. length-replicate {A = ℕ} 64 0;
+      words = λ f. length-replicate {A = ℕ} s.size 0;
       next = ok.next;
-      pages = λ p. evicted-inv s.shape.actors s.tells (λ f. replicate 64 0) s.first (s.blocks p) (s.blocks p) (s.counts p) ok.first (ok.blocks p) (λ _. refl);
+      pages = λ p. evicted-inv s.shape.actors s.size s.tells (λ f. replicate s.size 0) s.first (s.blocks p) (s.blocks p) (s.counts p) ok.first (ok.blocks p) (λ _. refl);
       owners = record { named = λ f p e. absurd (omega (arith, e)); owned = λ p free m at. absurd (none-some m at) };
     }
 

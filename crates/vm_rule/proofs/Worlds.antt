@@ -140,7 +140,7 @@ module _ {X B : Type 0} (stored : B → Stored) (start : Origin) where
       core_from start (length-set s.views id w i) (table_words start s.words) (block-same stored s.homes s.views id v w there out i) (seats-still s.views id v w there seats i) (held-still s.views id v w there frames i)
 
   -- a word is stored into a frame; which drafts it changes is the event's
-  pub store-core : (s : Table (Option B) (View X)) (id : ℕ) (v w : View X) (f i x : ℕ) → length s.words ≡ width start → f < start.frames → i < 64 → get_elem? s.views id ≡ some v
+  pub store-core : (s : Table (Option B) (View X)) (id : ℕ) (v w : View X) (f i x : ℕ) → length s.words ≡ width start → f < start.frames → i < start.size → get_elem? s.views id ≡ some v
       → w.out ≡ v.out → w.frames ≡ v.frames → w.seats ≡ v.seats
       → core_shown stored start (wrote s id (places.Content f i) x w) ≡ stored_at (core_shown stored start s) f i x
   store-core s id v w f i x wide lf li there out frames seats =
@@ -215,7 +215,7 @@ module _ {X B : Type 0} (stored : B → Stored) (start : Origin) where
         refl (loads-still s.views id v w there loads)
 
     -- a word of a frame is loaded
-    pub load-step : (p i f n : ℕ) → p < start.pages → f < start.frames → i < 64 → get_elem? s.views id ≡ some v
+    pub load-step : (p i f n : ℕ) → p < start.pages → f < start.frames → i < start.size → get_elem? s.views id ≡ some v
         → w.out ≡ v.out → w.frames ≡ v.frames → w.seats ≡ v.seats → load_frame (page p) id ≡ Some f → n ≡ slice_index s.words (index_of start (places.Content f i))
         → w.loads ≡ put p (loads_more (open_frame (seat_of v p).reading) (loads_at v p) i n) v.loads
         → world_of stored start releases drafts (stayed s id w) ≡ world_after old (Load id p i)
@@ -329,7 +329,7 @@ module _ {X B : Type 0} (stored : B → Stored) (start : Origin) where
     downgrade-step p x = released p x 1 (λ k. record k { shares = 1; exclusive = false })
 
     -- a word is stored into the frame of a page that the pass holds exclusively
-    pub store-step : (p f i x : ℕ) (dirty : Bool) → Inv old → length s.words ≡ width start → p < start.pages → f < start.frames → i < 64 → get_elem? s.views id ≡ some v
+    pub store-step : (p f i x : ℕ) (dirty : Bool) → Inv old → length s.words ≡ width start → p < start.pages → f < start.frames → i < start.size → get_elem? s.views id ≡ some v
         → w.out ≡ v.out → w.frames ≡ v.frames → w.seats ≡ v.seats → w.loads ≡ v.loads → (seat_of v p).exclusive ≡ true → (page p).trans ≡ Some (record { frame = f; dirty = dirty })
         → world_of stored start releases (upd drafts p (slice_set (drafts p) i x)) (wrote s id (places.Content f i) x w) ≡ world_after old (Store id f i x)
     store-step p f i x dirty inv wide l lf li there out frames seats loads owns stands =

@@ -12,12 +12,13 @@ use Rattle.vm_rule.specs.declared.view.Place.TheVariants as places
 abbrev pub no_shape : Shape
 no_shape =
     record {
+      size = 0;
       pages = 0;
       frames = 0;
       version = 0;
       next = 0;
       began = record {
-        origin = record { tells = false; pages = 0; frames = 0; version = 0; next = 0; contents = []; bounds = [] };
+        origin = record { tells = false; size = 0; pages = 0; frames = 0; version = 0; next = 0; contents = []; bounds = [] };
         snapshot = record { words = []; blocks = [] };
       };
     }
@@ -25,6 +26,7 @@ no_shape =
 -- the table began with this shape, and just so
 pub record HasShape (shape : Shape) (start : Origin) : Type 0 where
   pub same : start ≡ shape.began.origin
+  pub size : start.size ≡ shape.size
   pub pages : start.pages ≡ shape.pages
   pub frames : start.frames ≡ shape.frames
   pub version : start.version ≡ shape.version

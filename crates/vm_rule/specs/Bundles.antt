@@ -2,7 +2,7 @@
 -- leave it.
 use Rattle.std.specs.Int.{bit_at}
 use Rattle.std.specs.Prelude.{[], bit_and, bit_or, bit_xor, false, if◌then◌else◌, length, List, suc, true, zero, ℕ, ◌*◌, ◌++◌, ◌+◌, ◌<◌, ◌==◌, ◌∷◌, ◌≡◌}
-use Rattle.vm_core.specs.{declared.words.TheConstants.FRAMES, Prelude.hand_more, Prelude.in_mask, Prelude.WORDS}
+use Rattle.vm_core.specs.{declared.words.TheConstants.FRAMES, Prelude.hand_more, Prelude.in_mask}
 use Rattle.vm_owner.specs.Numbers.{has}
 use Rattle.vm_rule.specs.{Brought.Brings, declared.view.Put.Put, declared.view.View.View, Puts.put, Releases.without_all}
 use Rattle.vm_rule.specs.declared.view.Place.TheVariants as places
@@ -35,7 +35,7 @@ module _ {X : Type 0} where
     pub words : ℕ → List ℕ
     pub brings : Brings (did_exchange (places.Bundle g) expects found (bit_xor expects mask)) [] [] v
         (if found == expects then taken_view g mask words v else v) w
-    pub size : (f : ℕ) → length (words f) ≡ WORDS
+    pub size : (f : ℕ) → length (words f) ≡ v.start.size
     pub inside : found ≡ expects → (f : ℕ) → in_mask g mask f ≡ true → f < v.start.frames
     pub new : found ≡ expects → (f : ℕ) → in_mask g mask f ≡ true → has f v.frames ≡ false
 

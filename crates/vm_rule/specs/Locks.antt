@@ -1,7 +1,7 @@
 -- What the steps on locks tell: an exclusive lock, a share or a lock for write-back that is tried, a share that is given up, and a lock for
 -- write-back that becomes exclusive. So do the steps on marks. A step that expects a word changes the view only where it found that word.
 use Rattle.std.specs.Prelude.{[], Bool, false, if◌then◌else◌, IsSome, length, List, nat_lt, None, Some, true, ℕ, ◌+◌, ◌-◌, ◌<◌, ◌==◌, ◌^◌, ◌||◌, ◌≡◌, ◌≢◌, ◌≤◌}
-use Rattle.vm_core.specs.Prelude.{EVICTED, LoadsAre, LOCKED, mapping_of, MAX_VERSION, one_share_more, state_of, unshared, version_of, word_of, WORDS}
+use Rattle.vm_core.specs.Prelude.{EVICTED, LoadsAre, LOCKED, mapping_of, MAX_VERSION, one_share_more, state_of, unshared, version_of, word_of}
 use Rattle.vm_core.specs.{declared.event.Mapping.Mapping, declared.event.Open.Open, declared.event.Seat.Seat}
 use Rattle.vm_laws_others.specs.Leaves.{stands_dirty}
 use Rattle.vm_owner.specs.{Kept.Start, Numbers.has}
@@ -56,7 +56,7 @@ module _ {X : Type 0} where
     pub version : (last_of w p).version ≡ version_of found
     pub since : IsSinceAll p found v.log
     pub older : IsOlder found (seat_of v p).reading
-    pub size : length (last_of w p).words ≡ WORDS
+    pub size : length (last_of w p).words ≡ w.start.size
     pub stands : found ≡ expects → IsHeldAt p expects v.start.frames v.start.tells (last_of w p).words held
     -- a page that was not locked is no member still to be released
     pub free : found ≡ expects → has p v.pending ≡ false
@@ -84,7 +84,7 @@ module _ {X : Type 0} where
     pub version : (last_of w p).version ≡ version_of found
     pub since : IsSinceAll p found v.log
     pub older : IsOlder found (seat_of v p).reading
-    pub size : length (last_of w p).words ≡ WORDS
+    pub size : length (last_of w p).words ≡ w.start.size
     pub resident : found ≡ expects → IsSome (put_at no_held w.held p).mapping
     pub inside : found ≡ expects → (m : Mapping) → (put_at no_held w.held p).mapping ≡ Some m → m.frame < v.start.frames
     pub validates : v.start.tells ≡ true → found ≡ expects → LockValidates tied p (version_of expects) (last_of w p).words v
@@ -127,7 +127,7 @@ module _ {X : Type 0} where
     pub version : (last_of w p).version ≡ version_of found
     pub since : IsSinceAll p found v.log
     pub older : IsOlder found (seat_of v p).reading
-    pub size : length (last_of w p).words ≡ WORDS
+    pub size : length (last_of w p).words ≡ w.start.size
     pub stands : found ≡ expects → IsHeldAt p expects v.start.frames v.start.tells (last_of w p).words held
     -- nobody had the page locked
     pub free : found ≡ expects → has p v.pending ≡ false
@@ -157,7 +157,7 @@ module _ {X : Type 0} where
     pub version : (last_of w p).version ≡ version_of found
     pub since : IsSinceAll p found v.log
     pub older : IsOlder found (seat_of v p).reading
-    pub size : length (last_of w p).words ≡ WORDS
+    pub size : length (last_of w p).words ≡ w.start.size
     pub free : found ≡ expects → has p v.pending ≡ false
     pub paid : found ≡ expects → has p v.owed ≡ false
     pub validates : v.start.tells ≡ true → found ≡ expects → LockValidates tied p (version_of expects) (last_of w p).words v

@@ -1,7 +1,7 @@
 -- What a look tells: the view after it, and what a validated read saw.
 use Rattle.std.specs.Prelude.{[], ◌++◌, ◌<◌, ◌==◌, ◌∷◌, ◌≡◌, ◌≤◌, ◌⊎◌, false, if◌then◌else◌, length, List, None, Option, Some, suc, true, zero, ℕ}
 use Rattle.vm_core.specs.Prelude.{EVICTED, frame_of, is_readable, kept_loads, left_open, LoadsAre, mapping_of, MARKED, open_after, open_frame}
-use Rattle.vm_core.specs.Prelude.{state_of, UNLOCKED, version_of, WORDS}
+use Rattle.vm_core.specs.Prelude.{state_of, UNLOCKED, version_of}
 use Rattle.vm_core.specs.{declared.event.Open.Open, declared.event.ReadIs.ReadIs}
 use Rattle.vm_core.specs.declared.event.ReadIs.TheVariants.{Closed, Same}
 use Rattle.vm_owner.specs.Kept.{Start}
@@ -72,7 +72,7 @@ module _ {X : Type 0} where
     pub brings : Brings (did_load (places.State p) found) [] (where_same (left_at found (seat_of v p).reading) (entries_of v said) []) v
         (looked_view p said found (last_of w p).words v) w
     pub version : (last_of w p).version ≡ version_of found
-    pub size : length (last_of w p).words ≡ WORDS
+    pub size : length (last_of w p).words ≡ w.start.size
     pub valid : v.start.tells ≡ true → left_at found (seat_of v p).reading ≡ Same → LoadsAre (last_of w p).words (loads_at v p)
     pub holds : v.start.tells ≡ true → left_at found (seat_of v p).reading ≡ Same →
         Each (λ t. t.page ≡ p → t.version ≡ version_of found → tied (began_of v.start) t.of t.words p (last_of w p).words) v.ties

@@ -1,6 +1,6 @@
 -- What the steps on a page's translation word tell: a page is put into a frame of the pass, or taken out of its frame; it is made dirty, or clean.
 use Rattle.std.specs.Prelude.{[], ◌<◌, ◌∷◌, ◌≡◌, Bool, false, length, List, None, Option, Some, true, ℕ}
-use Rattle.vm_core.specs.{declared.event.Mapping.Mapping, Prelude.trans_word, Prelude.WORDS}
+use Rattle.vm_core.specs.{declared.event.Mapping.Mapping, Prelude.trans_word}
 use Rattle.vm_owner.specs.Numbers.{has, without}
 use Rattle.vm_rule.specs.{Brought.Brings, declared.view.Held.Held, declared.view.Put.Put, declared.view.View.View, Log.did_store, Puts.put}
 use Rattle.vm_rule.specs.{Puts.put_at, Reading.last_of, Rule.no_held, Views.seat_of}
@@ -56,7 +56,7 @@ module _ {X : Type 0} where
   pub record ClearTold (p f : ℕ) (v w : View X) : Type 0 where
     pub words : List ℕ
     pub brings : Brings (did_store (places.Translation p) (trans_word None)) [] [] v (cleared_view p f words v) w
-    pub size : length words ≡ WORDS
+    pub size : length words ≡ v.start.size
     pub stood : v.start.tells ≡ true → words ≡ (held_at v p).block.words
     pub inside : f < v.start.frames
     pub new : has f v.frames ≡ false

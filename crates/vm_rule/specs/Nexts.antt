@@ -1,7 +1,6 @@
 -- What the steps on the next word tell: it is loaded, or the pages from it on are claimed for a group. A claim of pages that begin with the next
 -- word which the pass knows can't be lost.
 use Rattle.std.specs.Prelude.{[], ◌++◌, ◌+◌, ◌<◌, ◌==◌, ◌≡◌, ◌≤◌, if◌then◌else◌, List, None, replicate, Some, true, ℕ}
-use Rattle.vm_core.specs.Prelude.{WORDS}
 use Rattle.vm_rule.specs.{Brought.Brings, declared.view.Did.Did, declared.view.View.View, Layout.at_next, Log.did_exchange, Log.did_load, Reading.last_of}
 use Rattle.vm_rule.specs.{Rule.WasNext, Views.Each, Views.numbers, Views.seat_of}
 use Rattle.vm_rule.specs.declared.view.Place.TheVariants as places
@@ -19,7 +18,7 @@ module _ {X : Type 0} where
     pub holds : (x : ℕ) → v.next ≡ Some x → (seat_of v x).exclusive ≡ true
     pub risen : v.start.next ≤ found
     pub inside : found ≤ v.start.pages
-    pub zero : v.start.tells ≡ true → (p : ℕ) → found ≤ p → p < v.start.pages → (last_of w p).words ≡ replicate WORDS 0
+    pub zero : v.start.tells ≡ true → (p : ℕ) → found ≤ p → p < v.start.pages → (last_of w p).words ≡ replicate w.start.size 0
     pub since : IsLatest found v.log
 
   -- a load: who holds the next page knows that it stays the next page

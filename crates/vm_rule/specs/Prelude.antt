@@ -28,7 +28,7 @@ pub use Rattle.vm_rule.specs.Rule.{AreNext, ArePlain, began_of, BlocksFit, Fault
 pub use Rattle.vm_rule.specs.Rule.{KnowsOwners, KnowsPage, KnowsPages, no_held, PartsFit, Ruled, slot_of, snapshot_of, TieHolds, TranslationHolds}
 pub use Rattle.vm_rule.specs.Rule.{WasNext, WasWord, WereWords}
 pub use Rattle.vm_rule.specs.Slots.{DeviceDid, HomeTold, MayBring, out_at, OutTold, ReturnTold, ShiftTold, SlotTold, words_held}
-pub use Rattle.vm_rule.specs.Started.{block_words, bounds_of, counts_of, IsStarted, MayBegin, started_origin, started_shape, started_words}
+pub use Rattle.vm_rule.specs.Started.{AreWhole, block_words, bounds_of, counts_of, IsStarted, MayBegin, started_origin, started_shape, started_words}
 pub use Rattle.vm_rule.specs.Views.{any, draft_of, Each, entries_by, first_view, Hears, IsLocking, IsWhole, loads_at, may_call, one_part, owns, PARTS, seat_of}
 pub use Rattle.vm_rule.specs.Views.{spent, StartsWith, times, times_noted, total, view_from, view_of}
 unfoldable pub use Rattle.vm_rule.specs.{Bundles.frames_in, Layout.part, Puts.chosen, Puts.listed, Rule.logical, Views.numbers}

@@ -3,7 +3,7 @@ use Rattle.std.specs.Prelude.{[], ◌*◌, ◌++◌, ◌+◌, ◌==◌, ◌∷�
 use mathlib.Core.Option as maybe
 use Rattle.atomic_table.specs.Table.{State as Table}
 use Rattle.vm_block.specs.declared.stored.Stored.{Stored}
-use Rattle.vm_core.specs.Prelude.{at, History, mapping_of, outside_page, Page, State, state_of, Version, version_of, WORDS, World}
+use Rattle.vm_core.specs.Prelude.{at, History, mapping_of, outside_page, Page, State, state_of, Version, version_of, World}
 use Rattle.vm_core.specs.declared.event.Seat.{Seat}
 use Rattle.vm_owner.specs.Numbers.{has}
 use Rattle.vm_rule.specs.{declared.view.Origin.Origin, declared.view.Out.Out, declared.view.Release.Release, declared.view.View.View, Layout.table_words}
@@ -12,8 +12,8 @@ use Rattle.vm_rule.specs.{Layout.Words, Puts.listed, Views.loads_at, Views.seat_
 -- ---- pages and frames
 
 -- the words of frame f
-unfoldable pub frame_words : (ℕ → ℕ) → ℕ → List ℕ
-frame_words contents f = listed WORDS (λ i. contents (WORDS * f + i))
+unfoldable pub frame_words : ℕ → (ℕ → ℕ) → ℕ → List ℕ
+frame_words size contents f = listed size (λ i. contents (size * f + i))
 
 -- page p from its words, its block and the seats
 abbrev pub page_from : Words → (ℕ → Stored) → (ℕ → ℕ → Seat) → ℕ → Page
@@ -29,16 +29,17 @@ page_from r blocks seats p =
     }
 
 unfoldable pub pages_from : ℕ → Words → (ℕ → Stored) → (ℕ → ℕ → Seat) → ℕ → Page
-pages_from pages r blocks seats p = if nat_lt p pages then page_from r blocks seats p else outside_page
+pages_from pages r blocks seats p = if nat_lt p pages then page_from r blocks seats p else outside_page r.size
 
 -- the core state; its actors are the passes
 abbrev pub core_from : Origin → ℕ → Words → (ℕ → Stored) → (ℕ → ℕ → Seat) → (ℕ → ℕ → Bool) → State
 core_from start actors r blocks seats held =
     record {
       shape = record { pages = start.pages; frames = start.frames; actors = actors; next = start.next };
+      size = r.size;
       tells = start.tells;
       pages = pages_from start.pages r blocks seats;
-      words = frame_words r.contents;
+      words = frame_words r.size r.contents;
       bundles = r.bundles;
       held = held;
       next = r.next;
@@ -55,7 +56,7 @@ first_history start p =
       older = [];
       last = record {
         version = if nat_lt p start.pages then start.version else 0;
-        words = if nat_lt p start.pages then at (replicate WORDS 0) start.contents p else replicate WORDS 0;
+        words = if nat_lt p start.pages then at (replicate start.size 0) start.contents p else replicate start.size 0;
       };
       draft = [];
     }
@@ -79,7 +80,7 @@ last_in start releases p = (after_releases p (first_history start p) releases).l
 -- ---- blocks
 
 abbrev pub no_block : Stored
-no_block = record { words = replicate WORDS 0; count = 0; bound = 0; reads = 0; writes = 0 }
+no_block = record { words = []; count = 0; bound = 0; reads = 0; writes = 0 }
 
 -- the block at home
 abbrev pub at_home : {B : Type 0} → maybe.Option (Option B) → Option B

@@ -5,7 +5,7 @@ use mathlib.Core.Option as maybe
 use Rattle.atomic_table.specs.Table.{State as Table}
 use Rattle.vm_block.specs.declared.stored.Stored.{Stored}
 use Rattle.vm_core.specs.Prelude.{at, EVICTED, frame_of, get_elem?, History, Inv, is_readable, LOCKED, mapping_of, MAX_COUNT, Page, state_of}
-use Rattle.vm_core.specs.Prelude.{trans_word, version_of, WORDS, World}
+use Rattle.vm_core.specs.Prelude.{trans_word, version_of, World}
 use Rattle.vm_core.specs.declared.event.{Mapping.Mapping, Seat.Seat}
 use Rattle.vm_laws_others.specs.Leaves.{stands_dirty}
 use Rattle.vm_owner.specs.{declared.Entry.Entry, Kept.AreCounted, Kept.Kept, Kept.Start, Numbers.has}
@@ -217,7 +217,7 @@ module _ {X : Type 0} where
         pub risen : start.next ≤ (core_shown stored start s).next
         -- pages that were never claimed have zero words
         pub zero : start.tells ≡ true → (p : ℕ) → (core_shown stored start s).next ≤ p → p < start.pages →
-            (histories_of start releases drafts p).last.words ≡ replicate WORDS 0
+            (histories_of start releases drafts p).last.words ≡ replicate start.size 0
         pub blocks : BlocksFit start s.homes s.views
         pub faults : FaultsFit (core_shown stored start s).pages s.views
         pub lists : ListsFit start releases history s.views

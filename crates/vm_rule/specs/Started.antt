@@ -1,9 +1,9 @@
 -- The opening of a pool's table: every page is evicted, with its words in its block; every frame is free; every block is at home.
 use Rattle.std.specs.Prelude.{◌*◌, ◌++◌, ◌<◌, ◌∷◌, ◌≡◌, ◌≤◌, Bool, if◌then◌else◌, length, List, map, replicate, ℕ}
 use Rattle.vm_block.specs.declared.stored.Stored.{Stored}
-use Rattle.vm_core.specs.Prelude.{EVICTED, full_bundle, MAX_VERSION, page_at, word_of, WORDS}
+use Rattle.vm_core.specs.Prelude.{at, EVICTED, full_bundle, MAX_VERSION, page_at, word_of}
 use Rattle.vm_owner.specs.Kept.{first_kept, Kept, Start}
-use Rattle.vm_rule.specs.{declared.view.Origin.Origin, declared.view.Shape.Shape, declared.view.Snapshot.Snapshot, Layout.bundles_of, Puts.listed}
+use Rattle.vm_rule.specs.{declared.view.Origin.Origin, declared.view.Shape.Shape, declared.view.Snapshot.Snapshot, Layout.bundles_of, Puts.listed, Reading.no_block}
 
 -- what the blocks count of faults, and the bounds of these counts
 abbrev pub counts_of : List Stored → List ℕ
@@ -17,42 +17,48 @@ bounds_of blocks = map (λ (b : Stored). b.bound) blocks
 abbrev pub block_words : List Stored → List (List ℕ)
 block_words blocks = map (λ (b : Stored). b.words) blocks
 
+-- the blocks hold so many words each
+abbrev pub AreWhole : ℕ → List Stored → Type 0
+AreWhole size blocks = (p : ℕ) → p < length blocks → length (at no_block blocks p).words ≡ size
+
 -- the words of the pages: those of their blocks, and zeros where the blocks do not tell theirs
-abbrev pub contents_of : Bool → List Stored → List (List ℕ)
-contents_of tells blocks = map (λ (b : Stored). if tells then b.words else replicate WORDS 0) blocks
+abbrev pub contents_of : ℕ → Bool → List Stored → List (List ℕ)
+contents_of size tells blocks = map (λ (b : Stored). if tells then b.words else replicate size 0) blocks
 
 -- the table's words: those of the states, of the translations, of the faults, of the frames, of the bundles, the next word, the hand, the owner words
-abbrev pub started_words : ℕ → ℕ → ℕ → ℕ → List ℕ → List ℕ
-started_words pages frames version next counts =
+abbrev pub started_words : ℕ → ℕ → ℕ → ℕ → ℕ → List ℕ → List ℕ
+started_words size pages frames version next counts =
     listed pages (λ p. word_of EVICTED version) ++
-    (listed pages (λ p. 0) ++ (counts ++ (listed (WORDS * frames) (λ i. 0) ++
+    (listed pages (λ p. 0) ++ (counts ++ (listed (size * frames) (λ i. 0) ++
     (listed (bundles_of frames) (full_bundle frames) ++ (next ∷ (0 ∷ listed frames (λ f. 0)))))))
 
 -- how the table began, with what its blocks hold
-abbrev pub started_origin : Bool → ℕ → ℕ → ℕ → List Stored → Origin
-started_origin tells version next frames blocks =
+abbrev pub started_origin : ℕ → Bool → ℕ → ℕ → ℕ → List Stored → Origin
+started_origin size tells version next frames blocks =
     record {
       tells = tells;
+      size = size;
       pages = length blocks;
       frames = frames;
       version = version;
       next = next;
-      contents = contents_of tells blocks;
+      contents = contents_of size tells blocks;
       bounds = bounds_of blocks;
     }
 
 -- its first words and blocks; its shape with both
-abbrev pub started_snapshot : ℕ → ℕ → ℕ → List Stored → Snapshot
-started_snapshot version next frames blocks = record { words = started_words (length blocks) frames version next (counts_of blocks); blocks = blocks }
+abbrev pub started_snapshot : ℕ → ℕ → ℕ → ℕ → List Stored → Snapshot
+started_snapshot size version next frames blocks = record { words = started_words size (length blocks) frames version next (counts_of blocks); blocks = blocks }
 
-abbrev pub started_shape : Bool → ℕ → ℕ → ℕ → List Stored → Shape
-started_shape tells version next frames blocks =
+abbrev pub started_shape : ℕ → Bool → ℕ → ℕ → ℕ → List Stored → Shape
+started_shape size tells version next frames blocks =
     record {
+      size = size;
       pages = length blocks;
       frames = frames;
       version = version;
       next = next;
-      began = record { origin = started_origin tells version next frames blocks; snapshot = started_snapshot version next frames blocks };
+      began = record { origin = started_origin size tells version next frames blocks; snapshot = started_snapshot size version next frames blocks };
     }
 
 -- the numbers fit: there are pages and frames, at most 65536 of each; the next page is at most the number of pages; the version is a version
@@ -67,5 +73,5 @@ pub record IsStarted (version next frames pages : ℕ) : Type 0 where
 module _ {X : Type 0} where
   -- the pages from the next one on are zero, and the layer above may begin with all of them
   pub record MayBegin (keeps : Start → Kept X → Type 0) (next : ℕ) (pages : List (List ℕ)) : Type 0 where
-    pub zero : (p : ℕ) → next ≤ p → p < length pages → page_at pages p ≡ replicate WORDS 0
+    pub zero : (p : ℕ) → next ≤ p → p < length pages → page_at pages p ≡ replicate (length (page_at pages p)) 0
     pub kept : keeps (record { pages = pages; next = next }) (first_kept (record { pages = pages; next = next }))

@@ -1,6 +1,5 @@
 -- What a store tells: into the frame of a page that the pass holds exclusively, or into a frame of its own.
 use Rattle.std.specs.Prelude.{[], ◌≡◌, ◌⊎◌, false, length, slice_set, Some, true, ℕ}
-use Rattle.vm_core.specs.Prelude.{WORDS}
 use Rattle.vm_owner.specs.Numbers.{has}
 use Rattle.vm_rule.specs.{Brought.Brings, declared.view.View.View, Log.did_store, Puts.put, Puts.put_at, Rule.no_held, Views.draft_of, Views.seat_of}
 use Rattle.vm_rule.specs.declared.view.Place.TheVariants as places
@@ -27,7 +26,7 @@ module _ {X : Type 0} where
   -- a store into a free frame of the pass changes one of its words
   pub record FillTold (f i x : ℕ) (v w : View X) : Type 0 where
     pub brings : Brings (did_store (places.Content f i) x) [] [] v (filled_view f i x v) w
-    pub size : length (put_at [] v.contents f) ≡ WORDS
+    pub size : length (put_at [] v.contents f) ≡ v.start.size
 
   -- the frame is the pass's own, or a page's whose draft stands in it
   abbrev pub PassMayStore : View X → ℕ → Type 0

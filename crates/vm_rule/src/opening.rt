@@ -1,11 +1,11 @@
 //! What a table is made of: words that are pushed, the slots, and the first pass with its first step.
 
-ghost use Rattle.std.specs.Prelude.{[], ◌++◌, ◌<◌, ◌≡◌, ◌≤◌, IfOk, length, map, Some};
+ghost use Rattle.std.specs.Prelude.{[], ◌++◌, ◌<◌, ◌≡◌, ◌≤◌, IfOk, length, map, Some, true};
 ghost use Rattle.vm_rule.specs.Prelude.{counts_of, listed, opening, Sound, Stands, unborn, view_of, width_of};
 ghost use Rattle.vm_rule.specs.Begun.{begun};
 
 use crate::view::{Shape, View};
-use crate::words::{Law, Pass, Words};
+use crate::words::{Law, PageSize, Pass, Words};
 use atomic_table::{Play, Seat, Table};
 use std::alloc::{AllocError, Global};
 use std::marker::PhantomData;
@@ -55,7 +55,9 @@ pub(crate) fn opened<U: Owner, B: Block + Drop>(
     requires stands { Stands B.stored U.keeps U.tied shape.now B.tells (opening words.now slots.items (unborn shape.now)) }
     requires pages { (1 ≤ shape.now.pages) × (shape.now.pages ≤ 65536) }
     requires frames { shape.now.frames ≤ 65536 }
-    requires wide { (length words.now ≡ width_of shape.now.pages shape.now.frames) × (length slots.items ≡ shape.now.pages) }
+    requires size { (1 ≤ shape.now.size) × (shape.now.size ≤ 512) }
+    requires takes { U.takes_size shape.now.size ≡ true }
+    requires wide { (length words.now ≡ width_of shape.now.size shape.now.pages shape.now.frames) × (length slots.items ≡ shape.now.pages) }
     ensures key { IfOk result (λ made. made.0.table.shared.key ≡ shape.now) }
     ensures pass { IfOk result (λ made. made.1.badge.table_id ≡ made.0.table.shared.table_id) }
     ensures view { IfOk result (λ made. view_of made.1.badge.views ≡ begun (unborn shape.now)) }
@@ -66,6 +68,10 @@ pub(crate) fn opened<U: Owner, B: Block + Drop>(
     first_step(&table, &mut seat);
     let words = Words {
         table,
+        size: PageSize {
+            words: shape.size as usize,
+            marker: PhantomData,
+        },
         pages: shape.pages as usize,
         frames: shape.frames as usize,
     };

@@ -2,7 +2,8 @@
 
 ghost use Rattle.std.specs.Prelude.{◌++◌, ◌-◌, ◌^◌, ◌≡◌, ◌≤◌, IfOk, length, map, true};
 ghost use Rattle.vm_core.specs.Prelude.{full_bundle, MAX_VERSION};
-ghost use Rattle.vm_rule.specs.Prelude.{block_words, bundles_of, counts_of, IsStarted, listed, MayBegin, started_shape, started_words, unborn};
+ghost use Rattle.vm_rule.specs.Prelude.{block_words, bundles_of, counts_of, AreWhole, IsStarted, listed, MayBegin, started_shape, started_words, unborn};
+ghost use Rattle.vm_page.specs.Sizes.{IsSize};
 ghost use Rattle.vm_rule.specs.Prelude.{view_of};
 ghost use Rattle.vm_rule.specs.{Begun.begun, declared.began.Began.Began};
 
@@ -14,41 +15,52 @@ use std::alloc::{AllocError, Global};
 use vm_block::Block;
 use vm_core::{FRAMES, Memory, StateWord, TransWord};
 use vm_owner::Owner;
-use vm_page::WORDS;
 
 impl<U: Owner, B: Block + Drop> Words<U, B> {
     /// A table of as many pages as blocks and of this many frames, and its first pass, which has all parts.
     ///
-    /// Takes 1 to 65536 pages, 1 to 65536 frames, and a version of at most 2^56 - 1. Every page is evicted at that version, with its words
-    /// in its block; every frame is zero and free. The pages from `next` on are zero, where the blocks tell, and not claimed yet. The pass
-    /// has made one step, a load of the first state word, and knows all words and blocks. Where there is no memory the blocks are dropped.
+    /// Takes 1 to 65536 pages of `size` words (64 or 512, as the owner takes them), 1 to 65536 frames, and a version of at most 2^56 - 1. Every
+    /// page is evicted at that version, with its words in its block; every frame is zero and free. The pages from `next` on are zero, where the
+    /// blocks tell, and not claimed yet. The pass has made one step, a load of the first state word, and knows all words and blocks. Where
+    /// there is no memory the blocks are dropped.
     pub fn started(
         alloc: Global,
+        size: usize,
         frames: u32,
         next: u32,
         version: u64,
         blocks: Vec<B>,
     ) -> Result<(Words<U, B>, Pass<U>), Memory>
+        requires sized { IsSize size }
+        requires takes { U.takes_size size ≡ true }
+        requires whole { B.tells ≡ true → AreWhole size (map B.stored blocks.items) }
         requires fits { IsStarted version next frames (length blocks.items) }
         requires begins { B.tells ≡ true → MayBegin U.keeps next (block_words (map B.stored blocks.items)) }
-        ensures key { IfOk result (λ made. made.0.table.shared.key ≡ started_shape B.tells version next frames (map B.stored blocks.items)) }
+        ensures key { IfOk result (λ made. made.0.table.shared.key ≡ started_shape size B.tells version next frames (map B.stored blocks.items)) }
         ensures pass { IfOk result (λ made. made.1.badge.table_id ≡ made.0.table.shared.table_id) }
         ensures view { IfOk result (λ made. view_of made.1.badge.views ≡
-            begun (unborn (started_shape B.tells version next frames (map B.stored blocks.items)))) }
+            begun (unborn (started_shape size B.tells version next frames (map B.stored blocks.items)))) }
     {
-        let words = evicted_words(alloc, blocks.as_slice(), frames, next, version)?;
-        let shape = shape_of(blocks.as_slice(), frames, next, version);
+        let words = evicted_words(alloc, blocks.as_slice(), size, frames, next, version)?;
+        let shape = shape_of(blocks.as_slice(), size, frames, next, version);
         let slots = slots_of(alloc, blocks)?;
         opened(alloc, words.as_slice(), slots, &shape)
     }
 }
 
 /// The shape of the table. What its proofs are told is picked by the caller's proof, which takes it from these arguments.
-pub(crate) fn shape_of<B: Block>(blocks: &[B], frames: u32, next: u32, version: u64) -> Shape
+pub(crate) fn shape_of<B: Block>(
+    blocks: &[B],
+    size: usize,
+    frames: u32,
+    next: u32,
+    version: u64,
+) -> Shape
     ghost told: { Began }
-    ensures { result ≡ record { pages = length blocks.now; frames = frames; version = version; next = next; began = told } }
+    ensures { result ≡ record { size = size; pages = length blocks.now; frames = frames; version = version; next = next; began = told } }
 {
     Shape {
+        size: size as u64,
         pages: blocks.len() as u64,
         frames: frames as u64,
         version,
@@ -61,18 +73,20 @@ pub(crate) fn shape_of<B: Block>(blocks: &[B], frames: u32, next: u32, version: 
 pub(crate) fn evicted_words<B: Block>(
     alloc: Global,
     blocks: &[B],
+    size: usize,
     frames: u32,
     next: u32,
     version: u64,
 ) -> Result<Vec<u64>, AllocError>
+    requires size { size ≤ 512 }
     requires pages { length blocks.now ≤ 65536 }
     requires frames { frames ≤ 65536 }
     requires version { version ≤ MAX_VERSION }
-    ensures { IfOk result (λ words. words.items ≡ started_words (length blocks.now) frames version next (counts_of (map B.stored blocks.now))) }
+    ensures { IfOk result (λ words. words.items ≡ started_words size (length blocks.now) frames version next (counts_of (map B.stored blocks.now))) }
 {
     let pages = blocks.len();
     let count = frames as usize;
-    let mut words = Vec::with_capacity(alloc, 3 * pages + (WORDS + 2) * count + 2)?;
+    let mut words = Vec::with_capacity(alloc, 3 * pages + (size + 2) * count + 2)?;
     push_same(
         &mut words,
         pages,
@@ -80,7 +94,7 @@ pub(crate) fn evicted_words<B: Block>(
     )?;
     push_same(&mut words, pages, TransWord::EMPTY)?;
     push_faults(&mut words, blocks)?;
-    push_same(&mut words, WORDS * count, 0)?;
+    push_same(&mut words, size * count, 0)?;
     push_bundles(&mut words, count)?;
     words.push(next as u64)?;
     words.push(0)?;

@@ -19,10 +19,11 @@ pub struct Held {
     pub owner: u64,
 }
 
-/// What a table is told when it is made: its numbers of pages and frames, the first version of every page, and the least page number
+/// What a table is told when it is made: how many words a page has, its numbers of pages and frames, the first version of every page, and the least page number
 /// that was not claimed. For proofs alone it has also how the table began, with its first words and blocks.
 #[derive(Drop)]
 pub struct Shape {
+    pub size: u64,
     pub pages: u64,
     pub frames: u64,
     pub version: u64,
@@ -34,6 +35,8 @@ pub struct Shape {
 pub struct Origin {
     /// Whether the blocks tell their words.
     pub tells: bool,
+    /// How many words a page has.
+    pub size: u64,
     pub pages: u64,
     pub frames: u64,
     /// The first version of every page.

@@ -25,13 +25,23 @@ impl<U: Owner, B: Block> TableRule<Option<B>, View<U::Said>, Shape> for Law<U, B
     ghost first = { unborn };
 }
 
+/// How many words each page of a table has: a number that the owner takes. It stands by itself, since a struct that holds a table over the owner's
+/// law can't name what else the owner says.
+pub struct PageSize<U: Owner> {
+    pub words: usize,
+    pub(crate) marker: PhantomData<U>,
+    pub ghost takes: { U.takes_size words ≡ true },
+}
+
 /// The shared words of a table, and its slots with the blocks: all passes step on them through a `&`.
 pub struct Words<U: Owner, B: Block> {
     pub table: Table<Option<B>, View<U::Said>, Shape, Law<U, B>, Global>,
+    pub size: PageSize<U>,
     pub pages: usize,
     pub frames: usize,
     pub ghost shape: { (pages ≡ table.shared.key.pages) × (frames ≡ table.shared.key.frames) × (pages ≤ 65536) × (frames ≤ 65536) },
-    pub ghost wide: { (table.shared.table_id.words ≡ width_of table.shared.key.pages table.shared.key.frames) ×
+    pub ghost sized: { (size.words ≡ table.shared.key.size) × (1 ≤ size.words) × (size.words ≤ 512) },
+    pub ghost wide: { (table.shared.table_id.words ≡ width_of table.shared.key.size table.shared.key.pages table.shared.key.frames) ×
         (table.shared.table_id.slots ≡ table.shared.key.pages) },
 }
 
@@ -55,13 +65,17 @@ impl<U: Owner, B: Block> Words<U, B> {
     /// Ends the table: its words and its slots, as the last state that met the rule has them, in which this pass has its view.
     pub fn close_with(self, pass: Pass<U>) -> Closed<Option<B>, Global>
         requires { pass.badge.table_id ≡ self.table.shared.table_id }
-        ensures counts { (slots_len result.words ≡ width_of self.pages self.frames) × (slots_len result.slots ≡ self.pages) }
+        ensures counts { (slots_len result.words ≡ width_of self.size.words self.pages self.frames) × (slots_len result.slots ≡ self.pages) }
         ensures values { IsFull result.words × IsFull result.slots ×
             Final (Seen (Stands B.stored U.keeps U.tied self.table.shared.key B.tells) pass.badge.id (view_of pass.badge.views))
             (slots_items result.words) (slots_items result.slots) }
     {
         let Words {
             table,
+            size: PageSize {
+                words: _,
+                marker: _,
+            },
             pages: _,
             frames: _,
         } = self;
@@ -91,6 +105,10 @@ impl<U: Owner, B: Block + Drop> Drop for Words<U, B> {
     fn drop(self) {
         let Words {
             table,
+            size: PageSize {
+                words: _,
+                marker: _,
+            },
             pages: _,
             frames: _,
         } = self;

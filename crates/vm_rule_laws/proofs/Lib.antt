@@ -5,3 +5,4 @@ pub mod Knowing
 pub mod Standing
 pub mod Begun
 pub mod Noted
+pub mod Places

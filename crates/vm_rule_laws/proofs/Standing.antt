@@ -27,8 +27,8 @@ module _ {X B : Type 0} (stored : B → Stored) (keeps : Start → Kept X → Ty
 
   pub page-stands : (id : ℕ) (v : View X) → IsWholePass s.views id v → (p : ℕ) → p < start.pages → PageStands start r.releases (snapshot_of stored start s) (seat_of v p) p
   page-stands id v pass p l =
-      let inv : PageInv (length s.views) start.tells (frame_words (table_words start s.words).contents) (page_from (table_words start s.words) (block_of stored s.homes s.views) (seats_of s.views) p) (histories_of start r.releases r.drafts p) (loads_of s.views p) =
-      subst (λ (y : Page). PageInv (length s.views) start.tells (frame_words (table_words start s.words).contents) y (histories_of start r.releases r.drafts p) (loads_of s.views p)) (page-here stored start s p l) (r.inv.pages p) in
+      let inv : PageInv (length s.views) start.size start.tells (frame_words start.size (table_words start s.words).contents) (page_from (table_words start s.words) (block_of stored s.homes s.views) (seats_of s.views) p) (histories_of start r.releases r.drafts p) (loads_of s.views p) =
+      subst (λ (y : Page). PageInv (length s.views) start.size start.tells (frame_words start.size (table_words start s.words).contents) y (histories_of start r.releases r.drafts p) (loads_of s.views p)) (page-here stored start s p l) (r.inv.pages p) in
       let last : (histories_of start r.releases r.drafts p).last ≡ last_in start r.releases p = sym (last-is start r.releases r.drafts p) in
       let words : (histories_of start r.releases r.drafts p).last.words ≡ (last_in start r.releases p).words = ap (λ (y : Version). y.words) last in
       let block : block_in (snapshot_of stored start s) p ≡ block_of stored s.homes s.views p = at-listed no_block start.pages (block_of stored s.homes s.views) p l in

@@ -4,8 +4,8 @@
 
 ghost use Rattle.std.specs.Prelude.{[], ◌<◌, ◌≡◌, ◌≢◌, false, Option, true, ℕ};
 ghost use Rattle.vm_core.specs.Prelude.{get_elem?, some};
-ghost use Rattle.vm_rule.specs.Prelude.{began_of, HasShape, Ruled, seat_of, Stands, Table};
-ghost use Rattle.vm_rule.specs.{declared.view.Origin.Origin, declared.view.Shape.Shape, declared.view.View.View};
+ghost use Rattle.vm_rule.specs.Prelude.{began_of, HasShape, index_of, Ruled, seat_of, Stands, Table, width, Within};
+ghost use Rattle.vm_rule.specs.{declared.view.Origin.Origin, declared.view.Place.Place, declared.view.Shape.Shape, declared.view.View.View};
 ghost use Rattle.vm_rule_laws.specs.{Alone.HasNothing, Noted.NotesStand, Standing.PageStands};
 ghost use Rattle.vm_rule_laws.specs.Known.{HasStepped, IsWholePass, kept_by, KnowsTable};
 
@@ -69,4 +69,10 @@ pub fn a_pass_without_locks_owes_nothing<U: Owner, B: Block>()
 /// A pass that owes no page knows that none is owed.
 pub fn nothing_is_owed<U: Owner>()
     ensures { (v : View U.Said) → v.owed ≡ [] → (kept_by v).owed ≡ [] }
+{}
+
+/// Each word of a table stands at a place of its own, inside the table, whatever the number of words of a page.
+pub fn no_two_words_share_a_place()
+    ensures apart { (start : Origin) (w x : Place) → Within start w → Within start x → index_of start w ≡ index_of start x → w ≡ x }
+    ensures inside { (start : Origin) (w : Place) → Within start w → index_of start w < width start }
 {}
