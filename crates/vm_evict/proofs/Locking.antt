@@ -6,6 +6,7 @@ use Rattle.vm_evict.specs.declared.candidate.Stage.TheVariants as stages
 use Rattle.vm_evict.proofs.Evidenced.{has-lost, has-taken, holds-same, lost-one, none-kept, none-stored, rests-on, saved-front, unlocked}
 use Rattle.vm_evict.proofs.Evidenced.{unsaved-both, unsaved-one, wrote-taken}
 use Rattle.vm_evict.proofs.Moving.{gives-nothing, GivesNothing, Quietly, quietly-then, quietly-to}
+use Rattle.vm_evict.proofs.Prelude.{Origin, Version}
 use Rattle.vm_evict.proofs.Prelude.{[], Advances, ap, arith, Bool, Brings, by_share, cases_Bool, clean_in, Did, did_exchange, Does, Each, each-both, EVICTED}
 use Rattle.vm_evict.proofs.Prelude.{false, false≢true, frame_of, has, HasLockTaken, HasLost, HasNoLockOf, Held, held_at, if◌then◌else◌, inl, inr, IsAlone}
 use Rattle.vm_evict.proofs.Prelude.{IsLocking, IsLost, IsMissed, IsOwning, IsSavedFrom, IsSeenClean, IsSome, IsToldOf, IsToShare, IsUnderWriteBack, IsUnheld}
@@ -16,7 +17,7 @@ use Rattle.vm_evict.proofs.Prelude.{no-fault, no_seat, None, none-some, once, Op
 use Rattle.vm_evict.proofs.Prelude.{RunsAlone, same_Some, Seat, seat_of, shares, Some, Stage, stands_dirty, Start, starts-then, state_of, still-own}
 use Rattle.vm_evict.proofs.Prelude.{still-works, subst, sym, Translation, true, Unstored, unshare-did, unshare-others, unshare-own, unshare-seat, unshared}
 use Rattle.vm_evict.proofs.Prelude.{UnshareTold, upgrade-brings, upgrade-did, upgrade-draft, upgrade-held, upgrade-last, upgrade-others, upgrade-own}
-use Rattle.vm_evict.proofs.Prelude.{upgrade-seat, upgraded_view, UpgradeTold, version-within, version_of, View, word-state, word-version, word_of, WORDS}
+use Rattle.vm_evict.proofs.Prelude.{upgrade-seat, upgraded_view, UpgradeTold, version-within, version_of, View, word-state, word-version, word_of}
 use Rattle.vm_evict.proofs.Prelude.{Works, write_lock-brings, write_lock-did, write_lock-held, write_lock-others, write_lock-own, write_lock-seat}
 use Rattle.vm_evict.proofs.Prelude.{WriteLockTold, writing_seat, ℕ, ⊎_elim, ◌++◌, ◌<◌, ◌==◌, ◌∙◌, ◌∷◌, ◌≡◌, ◌≢◌, ◌≤◌}
 use Rattle.vm_evict.proofs.Tables.{found-first, kept-then, silent-page, state-left}
@@ -62,7 +63,9 @@ module _ {X : Type 0} (p : ℕ) where
 
   -- a page that was locked, after steps that speak of one page, so that the pass has this seat then
   pub taken-on : (r word : ℕ) (seat now : Seat) (more : List Did) (v x y : View X) → HasLockTaken p word seat v x → LeavesRest r more x y → last_of y p ≡ last_of x p → seat_of y p ≡ now → IsToldOf y p → HasLockTaken p word now v y
-  taken-on r word seat now more v x y h leaves same is told = search (rules, ap, starts-then v.releases x.releases y.releases h.since leaves.releases)
+  taken-on r word seat now more v x y h leaves same is told =
+      let size = ap (λ (k : Version). length k.words) same ∙ h.size ∙ ap (λ (o : Origin). o.size) (sym leaves.start) in
+      search (rules, ap, starts-then v.releases x.releases y.releases h.since leaves.releases, size)
 
   module _ (word : ℕ) (seat : Seat) (locks : IsLocking seat) (v x : View X) (h : HasLockTaken p word seat v x) where
     pub locks-now : IsLocking (seat_of x p)
@@ -135,7 +138,7 @@ module _ {X : Type 0} (p word state : ℕ) (v x y : View X) where
       let l = state-left exchanged [] x y leaves.start runs alone p page refl (word_of state (version_of word)) (wrote-taken word (word_of state (version_of word))) in
       (record { before = sym (there ∙ k.state); now = l.0 }, l.1 ∙ k.fault, l.2 ∙ k.translation)
 
-  lock-taken : (seat : Seat) (done : List Did) → IsWaiting p done v x → LeavesRest p (exchanged ∷ []) x y → IsUnheld x p → has p x.pending ≡ false → seat_of y p ≡ seat → (last_of y p).version ≡ version_of word → length (last_of y p).words ≡ WORDS → IsToldOf y p → HasLockTaken p word seat v y
+  lock-taken : (seat : Seat) (done : List Did) → IsWaiting p done v x → LeavesRest p (exchanged ∷ []) x y → IsUnheld x p → has p x.pending ≡ false → seat_of y p ≡ seat → (last_of y p).version ≡ version_of word → length (last_of y p).words ≡ y.start.size → IsToldOf y p → HasLockTaken p word seat v y
   lock-taken seat done h leaves un free now at size told = search (rules, ap, was-free p v x h.rests un, starts-then v.releases x.releases y.releases h.since leaves.releases)
 
 -- ---- for write-back

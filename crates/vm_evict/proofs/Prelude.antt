@@ -7,7 +7,7 @@ pub use Rattle.std.proofs.lemmas.Bool.{cases_Bool, cases_eq, cases_lt, cond-fals
 pub use Rattle.std.proofs.lemmas.List.{ext_get_or, get_or-set_other, get_or-set_same, length-append, length-set}
 pub use Rattle.vm_block.specs.Blocks.{Writes}
 pub use Rattle.vm_core.specs.Prelude.{EVICTED, frame_of, is_readable, left_open, LOCKED, mapping_at, mapping_of, MARKED, MAX_VERSION, no_seat, open_after}
-pub use Rattle.vm_core.specs.Prelude.{open_frame, trans_word, UNLOCKED, unshared, Version, WORDS}
+pub use Rattle.vm_core.specs.Prelude.{open_frame, trans_word, UNLOCKED, unshared, Version}
 pub use Rattle.vm_core.specs.declared.event.ReadIs.TheVariants.{Closed, Moved, Opened, Same}
 pub use Rattle.vm_core.proofs.{PageFacts.some-is, Upd.upd-other, Upd.upd-same}
 pub use Rattle.vm_owner.proofs.NumberLemmas.{has-last}

@@ -44,23 +44,23 @@ module _ {X : Type 0} (p : ℕ) where
   -- the words below i were loaded
   pub record Copies (i : ℕ) (page : List ℕ) (v w : View X) : Type 0 where
     pub from : CopiesWords p v w
-    pub long : length page ≡ 64
+    pub long : length page ≡ v.start.size
     pub front : v.start.tells ≡ true → (k : ℕ) → k < i → slice_index page k ≡ slice_index (last_of v p).words k
 
-  pub copies-none : (page : List ℕ) (v : View X) → length page ≡ 64 → Copies 0 page v v
+  pub copies-none : (page : List ℕ) (v : View X) → length page ≡ v.start.size → Copies 0 page v v
   copies-none page v long = record {
     from = record { done = []; works = works-none p v; loads = tt; reads = refl; held = refl; keeps = keeps-self v; out = refl };
     long = long;
     front = λ tells k l. absurd (omega (arith, l));
   }
 
-  pub copies-more : (f i found : ℕ) (page : List ℕ) (u v w : View X) → Copies i page u v → 1 ≤ (seat_of u p).shares → (seat_of u p).reading ≡ None → i < 64 → LoadTold p f i found v w → Copies (i + 1) (slice_set page i found) u w
+  pub copies-more : (f i found : ℕ) (page : List ℕ) (u v w : View X) → Copies i page u v → 1 ≤ (seat_of u p).shares → (seat_of u p).reading ≡ None → i < u.start.size → LoadTold p f i found v w → Copies (i + 1) (slice_set page i found) u w
   copies-more f i found page u v w c shared closed below t =
       let s = c.from in
       let still : 1 ≤ (seat_of v p).shares = subst (λ s. 1 ≤ s.shares) (sym s.works.seat) shared in
       let shut : (seat_of v p).reading ≡ None = ap (λ s. s.reading) s.works.seat ∙ closed in
       let did : Did = did_load (places.Content f i) found in
-      let long : length page ≡ 64 = c.long in
+      let long : length page ≡ u.start.size = c.long in
       record {
         from = search (rules, ap, works-then p s.done (did ∷ []) u v w s.works (load-works t shut), each-both IsFrameLoad s.done (did ∷ []) s.loads ((f, i, found, refl), tt), s.keeps, t.brings.view);
         long = length-set page i found ∙ long;
@@ -75,10 +75,10 @@ module _ {X : Type 0} (p : ℕ) where
       }
 
   -- all words were loaded
-  pub copied : (i : ℕ) (page : List ℕ) (v w : View X) → i ≡ 64 → length (last_of v p).words ≡ 64 → Copies i page v w → IsCopied p page v w
+  pub copied : (i : ℕ) (page : List ℕ) (v w : View X) → i ≡ v.start.size → length (last_of v p).words ≡ v.start.size → Copies i page v w → IsCopied p page v w
   copied i page v w all size c = record {
     from = c.from;
-    same = λ tells. ext_get_or 0 page (last_of v p).words (c.long ∙ sym size) (λ k l. c.front tells k (let long : length page ≡ 64 = c.long in omega (arith, l, long, all)));
+    same = λ tells. ext_get_or 0 page (last_of v p).words (c.long ∙ sym size) (λ k l. c.front tells k (let long : length page ≡ v.start.size = c.long in omega (arith, l, long, all)));
   }
 
 -- ---- The write-back of a page: where a load finds it dirty its block is taken out, its words are copied from its frame and written, and the block is brought
@@ -147,8 +147,8 @@ module _ {X : Type 0} (p f : ℕ) (v0 v : View X) (x : IsFoundToWrite p f v0 v) 
     pub copies-shared : (1 ≤ (seat_of a p).shares) × ((seat_of a p).reading ≡ None)
     copies-shared = (subst (λ (s : Seat). 1 ≤ s.shares) (sym gone.works.seat) shares, ap (λ (s : Seat). s.reading) gone.works.seat ∙ ap (λ (s : Seat). s.reading) seat-is)
 
-    pub copies-size : length (last_of a p).words ≡ 64
-    copies-size = ap (λ (x : Version). length x.words) (gone.works.last (inr shares)) ∙ ap (λ (y : Version). length y.words) (loaded.works.last (inr (subst (λ (s : Seat). 1 ≤ s.shares) (sym x.under.seat) (omega arith)))) ∙ x.under.size
+    pub copies-size : length (last_of a p).words ≡ a.start.size
+    copies-size = ap (λ (x : Version). length x.words) (gone.works.last (inr shares)) ∙ ap (λ (y : Version). length y.words) (loaded.works.last (inr (subst (λ (s : Seat). 1 ≤ s.shares) (sym x.under.seat) (omega arith)))) ∙ x.under.size ∙ ap (λ (o : Origin). o.size) (sym (gone.works.leaves.start ∙ loaded.works.leaves.start))
 
     module _ (page : List ℕ) (b : View X) (k : IsCopied p page a b) where
       abbrev copied-did : List Did

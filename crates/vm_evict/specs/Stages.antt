@@ -1,7 +1,7 @@
 -- How far an eviction is with a candidate: what is known of it at each stage, by the steps of the call so far and the pass's view now; and what the
 -- steps of a phase on one candidate come to.
 use Rattle.std.specs.Prelude.{[], Bool, false, IsSome, length, List, None, Some, true, ℕ, ◌++◌, ◌+◌, ◌<◌, ◌∷◌, ◌≡◌, ◌≢◌, ◌⊎◌}
-use Rattle.vm_core.specs.Prelude.{mapping_of, version_of, word_of, WORDS}
+use Rattle.vm_core.specs.Prelude.{mapping_of, version_of, word_of}
 use Rattle.vm_rule.specs.Prelude.{clean_in, draft_of, Each, has, held_at, IsLocking, last_of, Seat, seat_of, stands_dirty, StartsWith}
 use Rattle.vm_rule.specs.declared.view.Place.TheVariants as places
 use Rattle.vm_step.specs.Prelude.{candidate_pages, Did, HoldsPage, IsAlone, IsToldOf, KnowsAsBefore, LeavesRest, Note, ReadsAsBefore, Release}
@@ -112,7 +112,7 @@ module _ {X : Type 0} where
     pub next : x.next ≢ Some p
     pub now : seat_of x p ≡ seat
     pub at : (last_of x p).version ≡ version_of word
-    pub size : length (last_of x p).words ≡ WORDS
+    pub size : length (last_of x p).words ≡ x.start.size
     pub told : IsToldOf x p
 
   -- it is under write-back; it was made clean, if it was written

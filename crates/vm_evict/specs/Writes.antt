@@ -1,7 +1,7 @@
 -- Writing a page back, which the pass has locked for that: where it is dirty, its last words go to its block, and it becomes clean; or the write
 -- fails, and its fault is noted. The page stays locked, and in its frame.
 use Rattle.std.specs.Prelude.{[], Bool, Err, false, length, List, None, Ok, Option, Result, Some, true, ℕ, ◌++◌, ◌<◌, ◌∷◌, ◌≡◌, ◌≤◌, ◌⊎◌}
-use Rattle.vm_core.specs.Prelude.{at, mapping_of, trans_word, WORDS}
+use Rattle.vm_core.specs.Prelude.{at, mapping_of, trans_word}
 use Rattle.vm_rule.specs.Prelude.{clean_in, did_load, did_store, dirty_in, Each, held_at, last_of, Seat, seat_of, stands_dirty, TranslationTold}
 use Rattle.vm_rule.specs.declared.view.Place.{Place}
 use Rattle.vm_rule.specs.declared.view.Place.TheVariants as places
@@ -60,7 +60,7 @@ module _ {X : Type 0} where
   pub record IsUnderWriteBack (p : ℕ) (v : View X) : Type 0 where
     pub seat : seat_of v p ≡ writing_seat
     pub told : IsToldOf v p
-    pub size : length (last_of v p).words ≡ WORDS
+    pub size : length (last_of v p).words ≡ v.start.size
     pub home : v.out ≡ None
 
   -- the pass had page p under write-back at v, and a load of its translation word, which led on from there, found it dirty in frame f

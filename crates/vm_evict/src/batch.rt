@@ -1,5 +1,6 @@
 // All candidates of an eviction: a phase goes over the whole list before the next one begins.
 ghost use Rattle.std.specs.Prelude.{◌<◌, ◌≡◌, ◌≤◌, length, ℕ};
+ghost use Rattle.vm_page.specs.Sizes.{IsSize};
 ghost use Rattle.vm_step.specs.Prelude.{AreCandidates, IsReady, IsSamePass, view};
 ghost use Rattle.vm_evict.specs.declared.candidate.Stage.TheVariants as stages;
 ghost use Rattle.vm_evict.specs.Evictions.{Counts, frame_at, gathered, stage_at};
@@ -7,7 +8,7 @@ ghost use Rattle.vm_evict.specs.Stages.{IsOver, IsPhaseMade, IsUnderWay, MayBegi
 
 use crate::candidate::{Phase, Stage, advance};
 use crate::report::Evicted;
-use vm_block::Block;
+use vm_block::PageBlock;
 use vm_core::FRAMES;
 use vm_owner::Owner;
 use vm_rule::words::{Pass, Words};
@@ -24,7 +25,7 @@ pub(crate) fn waiting() -> Stages
 }
 
 /// One phase, over the whole list.
-pub(crate) fn pass_over<U: Owner, B: Block>(
+pub(crate) fn pass_over<U: Owner, B: PageBlock<N>, const N: usize>(
     words: &Words<U, B>,
     pass: &mut Pass<U>,
     phase: Phase,
@@ -32,6 +33,8 @@ pub(crate) fn pass_over<U: Owner, B: Block>(
     stages: &mut Stages,
 )
     requires ready { IsReady words.now.table.shared.key B.tells words.now.table.shared.table_id pass.old }
+    requires sized { IsSize N }
+    requires size { N ≡ words.now.table.shared.key.size }
     requires list { AreCandidates words.now.table.shared.key.pages list.now }
     requires few { length list.now ≤ FRAMES }
     requires way { (v : _) × (done : _) × IsUnderWay list.now stages.old done v (view pass.old) }
@@ -43,7 +46,7 @@ pub(crate) fn pass_over<U: Owner, B: Block>(
     ensures ends { (n : ℕ) → n < length list.now → MayEnd phase (stage_at stages.new n) }
 {
     for i in 0..list.len() {
-        stages[i] = advance(words, pass, phase, list[i], stages[i]);
+        stages[i] = advance::<U, B, N>(words, pass, phase, list[i], stages[i]);
     }
 }
 

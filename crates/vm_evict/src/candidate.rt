@@ -1,5 +1,6 @@
 // One candidate for eviction: what each phase does with it.
 ghost use Rattle.std.specs.Prelude.{◌<◌, ◌≡◌, false, None};
+ghost use Rattle.vm_page.specs.Sizes.{IsSize};
 ghost use Rattle.vm_step.specs.Prelude.{IsCandidate, IsReady, IsSamePass, view};
 ghost use Rattle.vm_evict.specs.declared.candidate.Phase.TheVariants as phases;
 ghost use Rattle.vm_evict.specs.declared.candidate.Stage.TheVariants as stages;
@@ -7,7 +8,7 @@ ghost use Rattle.vm_evict.specs.Evictions.{IsToShare};
 ghost use Rattle.vm_evict.specs.Stages.{Advances, Carries, IsAt, MayBeginPhase};
 
 use crate::write::{dirty_frame, write_where_dirty};
-use vm_block::Block;
+use vm_block::{Block, PageBlock};
 use vm_core::{StateWord, TransWord};
 use vm_owner::Owner;
 use vm_rule::words::{Pass, Words};
@@ -53,13 +54,15 @@ pub enum Stage {
 }
 
 /// Shares a page from its mark that was not seen clean with it, and writes it where it is dirty. Where the write fails, gives the share up.
-fn save_marked<U: Owner, B: Block>(
+fn save_marked<U: Owner, B: PageBlock<N>, const N: usize>(
     words: &Words<U, B>,
     pass: &mut Pass<U>,
     p: u32,
     word: u64,
 ) -> Stage
     requires ready { IsReady words.now.table.shared.key B.tells words.now.table.shared.table_id pass.old }
+    requires sized { IsSize N }
+    requires size { N ≡ words.now.table.shared.key.size }
     requires candidate { IsCandidate words.now.table.shared.key.pages (p, word) }
     requires home { (view pass.old).out ≡ None }
     requires at { (v : _) × (done : _) × IsAt (p, word) stages.Waiting done v (view pass.old) × IsToShare p word done }
@@ -71,7 +74,7 @@ fn save_marked<U: Owner, B: Block>(
     if let Took::Lost(_) = lock_write_back(words, pass, p, word) {
         return Stage::Lost { written: false };
     }
-    match write_where_dirty(words, pass, p) {
+    match write_where_dirty::<U, B, N>(words, pass, p) {
         Ok(written) => Stage::Shared { written },
         Err(count) => {
             unlock_shared(words, pass, p);
@@ -81,13 +84,15 @@ fn save_marked<U: Owner, B: Block>(
 }
 
 /// Looks at a candidate: where it is as it was marked, and clean, it is left to be locked; else it is shared and written.
-fn save_page<U: Owner, B: Block>(
+fn save_page<U: Owner, B: PageBlock<N>, const N: usize>(
     words: &Words<U, B>,
     pass: &mut Pass<U>,
     p: u32,
     word: u64,
 ) -> Stage
     requires ready { IsReady words.now.table.shared.key B.tells words.now.table.shared.table_id pass.old }
+    requires sized { IsSize N }
+    requires size { N ≡ words.now.table.shared.key.size }
     requires candidate { IsCandidate words.now.table.shared.key.pages (p, word) }
     requires home { (view pass.old).out ≡ None }
     requires at { (v : _) × (done : _) × IsAt (p, word) stages.Waiting done v (view pass.old) }
@@ -100,7 +105,7 @@ fn save_page<U: Owner, B: Block>(
     if seen == word && dirty.is_none() {
         Stage::Clean
     } else {
-        save_marked(words, pass, p, word)
+        save_marked::<U, B, N>(words, pass, p, word)
     }
 }
 
@@ -196,7 +201,7 @@ fn leave_page<U: Owner, B: Block>(
 }
 
 /// What the phase does with a candidate at this stage. It answers the next one.
-pub(crate) fn advance<U: Owner, B: Block>(
+pub(crate) fn advance<U: Owner, B: PageBlock<N>, const N: usize>(
     words: &Words<U, B>,
     pass: &mut Pass<U>,
     phase: Phase,
@@ -204,6 +209,8 @@ pub(crate) fn advance<U: Owner, B: Block>(
     stage: Stage,
 ) -> Stage
     requires ready { IsReady words.now.table.shared.key B.tells words.now.table.shared.table_id pass.old }
+    requires sized { IsSize N }
+    requires size { N ≡ words.now.table.shared.key.size }
     requires candidate { IsCandidate words.now.table.shared.key.pages c }
     requires home { (view pass.old).out ≡ None }
     requires begins { MayBeginPhase phase stage }
@@ -214,7 +221,7 @@ pub(crate) fn advance<U: Owner, B: Block>(
 {
     let (p, word) = c;
     match phase {
-        Phase::Save => save_page(words, pass, p, word),
+        Phase::Save => save_page::<U, B, N>(words, pass, p, word),
         Phase::Lock => match stage {
             Stage::Clean => lock_clean(words, pass, p, word),
             other => other,

@@ -2,11 +2,12 @@
 ghost use Rattle.std.specs.Prelude.{◌+◌, ◌<◌, ◌≡◌, ◌⊎◌, None};
 ghost use Rattle.vm_core.specs.Prelude.{MARKED, state_of, UNLOCKED};
 ghost use Rattle.vm_rule.specs.Prelude.{LookTold};
+ghost use Rattle.vm_page.specs.Sizes.{IsSize};
 ghost use Rattle.vm_step.specs.Prelude.{IsReady, IsSamePass, view};
 ghost use Rattle.vm_evict.specs.Flushes.{done_of, IsCounted, IsFlushed, IsVisit, Marks};
 
 use crate::write::{dirty_frame, write_where_dirty};
-use vm_block::Block;
+use vm_block::{Block, PageBlock};
 use vm_core::StateWord;
 use vm_owner::Owner;
 use vm_rule::words::{Pass, Words};
@@ -34,8 +35,13 @@ const NOTHING: Flushed = Flushed {
 };
 
 /// Writes each dirty page of the table to its block, from page 0 on, and makes it clean. Pages that somebody has locked are left.
-pub fn flush<U: Owner, B: Block>(words: &Words<U, B>, pass: &mut Pass<U>) -> Flushed
+pub fn flush<U: Owner, B: PageBlock<N>, const N: usize>(
+    words: &Words<U, B>,
+    pass: &mut Pass<U>,
+) -> Flushed
     requires ready { IsReady words.now.table.shared.key B.tells words.now.table.shared.table_id pass.old }
+    requires sized { IsSize N }
+    requires size { N ≡ words.now.table.shared.key.size }
     requires home { (view pass.old).out ≡ None }
     ensures pass { IsSamePass pass.old pass.new }
     ensures ready { IsReady words.now.table.shared.key B.tells words.now.table.shared.table_id pass.new }
@@ -43,14 +49,21 @@ pub fn flush<U: Owner, B: Block>(words: &Words<U, B>, pass: &mut Pass<U>) -> Flu
 {
     let mut flushed = NOTHING;
     for p in 0..words.pages {
-        visit(words, pass, p as u32, &mut flushed);
+        visit::<U, B, N>(words, pass, p as u32, &mut flushed);
     }
     flushed
 }
 
 /// Looks at the page, and writes it where it is dirty and nobody has it locked.
-fn visit<U: Owner, B: Block>(words: &Words<U, B>, pass: &mut Pass<U>, p: u32, flushed: &mut Flushed)
+fn visit<U: Owner, B: PageBlock<N>, const N: usize>(
+    words: &Words<U, B>,
+    pass: &mut Pass<U>,
+    p: u32,
+    flushed: &mut Flushed,
+)
     requires ready { IsReady words.now.table.shared.key B.tells words.now.table.shared.table_id pass.old }
+    requires sized { IsSize N }
+    requires size { N ≡ words.now.table.shared.key.size }
     requires home { (view pass.old).out ≡ None }
     requires page { p < words.now.table.shared.key.pages }
     requires counts { done_of flushed.old < 4294967295 }
@@ -61,14 +74,14 @@ fn visit<U: Owner, B: Block>(words: &Words<U, B>, pass: &mut Pass<U>, p: u32, fl
     let word = look_silently(words, pass, p);
     let state = StateWord::state(word);
     if state == StateWord::UNLOCKED || state == StateWord::MARKED {
-        visit_unheld(words, pass, p, word, flushed);
+        visit_unheld::<U, B, N>(words, pass, p, word, flushed);
     } else if state != StateWord::EVICTED {
         flushed.busy += 1;
     }
 }
 
 /// Writes the page, which a look found with this word, locked by nobody, where it is dirty.
-fn visit_unheld<U: Owner, B: Block>(
+fn visit_unheld<U: Owner, B: PageBlock<N>, const N: usize>(
     words: &Words<U, B>,
     pass: &mut Pass<U>,
     p: u32,
@@ -76,6 +89,8 @@ fn visit_unheld<U: Owner, B: Block>(
     flushed: &mut Flushed,
 )
     requires ready { IsReady words.now.table.shared.key B.tells words.now.table.shared.table_id pass.old }
+    requires sized { IsSize N }
+    requires size { N ≡ words.now.table.shared.key.size }
     requires home { (view pass.old).out ≡ None }
     requires page { p < words.now.table.shared.key.pages }
     requires counts { done_of flushed.old < 4294967295 }
@@ -96,7 +111,7 @@ fn visit_unheld<U: Owner, B: Block>(
     match lock_write_back(words, pass, p, marked) {
         Took::Lost(_) => flushed.busy += 1,
         Took::Taken => {
-            let wrote = write_where_dirty(words, pass, p);
+            let wrote = write_where_dirty::<U, B, N>(words, pass, p);
             unlock_shared(words, pass, p);
             flushed.count(p, wrote);
         }

@@ -3,6 +3,7 @@
 #![tactic(auto)]
 
 ghost use Rattle.std.specs.Prelude.{◌≡◌, None};
+ghost use Rattle.vm_page.specs.Sizes.{IsSize};
 ghost use Rattle.vm_step.specs.Prelude.{AreCandidates, IsReady, IsSamePass, view};
 ghost use Rattle.vm_evict.specs.Evictions.{IsBatch};
 
@@ -16,7 +17,7 @@ use batch::{pass_over, report_of, waiting};
 use candidate::Phase;
 pub use flushing::{Flushed, flush};
 use report::Evicted;
-use vm_block::Block;
+use vm_block::PageBlock;
 use vm_owner::Owner;
 use vm_rule::words::{Pass, Words};
 use vm_step::Candidates;
@@ -24,12 +25,14 @@ use vm_step::Candidates;
 /// Evicts candidates, in phases: dirty ones are shared from their mark and written; clean ones are locked exclusively; the written ones become
 /// exclusive from one share; all are taken out of their frames; all are released as evicted. A page whose write fails stays resident and dirty.
 /// The frames are those of the evicted pages, in their order.
-pub fn evict<U: Owner, B: Block>(
+pub fn evict<U: Owner, B: PageBlock<N>, const N: usize>(
     words: &Words<U, B>,
     pass: &mut Pass<U>,
     candidates: &Candidates,
 ) -> Evicted
     requires ready { IsReady words.now.table.shared.key B.tells words.now.table.shared.table_id pass.old }
+    requires sized { IsSize N }
+    requires size { N ≡ words.now.table.shared.key.size }
     requires home { (view pass.old).out ≡ None }
     requires list { AreCandidates words.now.table.shared.key.pages candidates.now.list.items }
     ensures pass { IsSamePass pass.old pass.new }
@@ -38,10 +41,10 @@ pub fn evict<U: Owner, B: Block>(
 {
     let list = candidates.list.as_slice();
     let mut stages = waiting();
-    pass_over(words, pass, Phase::Save, list, &mut stages);
-    pass_over(words, pass, Phase::Lock, list, &mut stages);
-    pass_over(words, pass, Phase::Raise, list, &mut stages);
-    pass_over(words, pass, Phase::Empty, list, &mut stages);
-    pass_over(words, pass, Phase::Leave, list, &mut stages);
+    pass_over::<U, B, N>(words, pass, Phase::Save, list, &mut stages);
+    pass_over::<U, B, N>(words, pass, Phase::Lock, list, &mut stages);
+    pass_over::<U, B, N>(words, pass, Phase::Raise, list, &mut stages);
+    pass_over::<U, B, N>(words, pass, Phase::Empty, list, &mut stages);
+    pass_over::<U, B, N>(words, pass, Phase::Leave, list, &mut stages);
     report_of(list, &stages, candidates.looks)
 }

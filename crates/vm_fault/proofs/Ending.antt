@@ -303,12 +303,12 @@ page-within start p l (Place.Translation q) e = subst (λ (n : ℕ). n < start.p
 page-within start p l (Place.Fault q) e = subst (λ (n : ℕ). n < start.pages) (sym e) l
 page-within start p l _ e = absurd e
 
-pub both-within : (start : Origin) (p f : ℕ) → p < start.pages → f < start.frames → (at : Place) → IsOfBoth p f at → Within start at
+pub both-within : (start : Origin) (p f : ℕ) → p < start.pages → f < start.frames → (at : Place) → IsOfBoth start.size p f at → Within start at
 both-within start p f l k at o = ⊎_elim (λ e. page-within start p l at e) (λ c. ⊎_elim (λ (e : at ≡ Place.Owner f). subst (Within start) (sym e) k) (λ w. subst (Within start) (sym w.2) (k, w.1)) c) o
 
-stores-at : (p f i : ℕ) (xs : List ℕ) → i + length xs ≤ 64 → Each (λ (d : Did). IsOfBoth p f d.at) (stores-did f i xs)
-stores-at p f i [] l = tt
-stores-at p f i (x ∷ xs) l = (inr (inr (i, omega (arith, l), refl)), stores-at p f (i + 1) xs (omega (arith, l)))
+stores-at : (size p f i : ℕ) (xs : List ℕ) → i + length xs ≤ size → Each (λ (d : Did). IsOfBoth size p f d.at) (stores-did f i xs)
+stores-at size p f i [] l = tt
+stores-at size p f i (x ∷ xs) l = (inr (inr (i, omega (arith, l), refl)), stores-at size p f (i + 1) xs (omega (arith, l)))
 
 -- neither the stores into a frame nor the steps on the page's state word move the block
 stores-home : (p f i : ℕ) (xs : List ℕ) → StaysHome p (stores-did f i xs)
@@ -332,7 +332,7 @@ module _ (p : ℕ) (before : List Did) (steps : Each (λ (d : Did). d.at ≡ Pla
   read-once done later cut home = (record { earlier = before; out = (a, b); between = []; home = (c, d); later = later; cut = cut; none = (state-home p before steps, tt, home) }, refl)
 
   -- the block was read, its words stored, the page put into the frame and named as its owner, and released with this word
-  module _ (f trans owner word : ℕ) (page : List ℕ) (long : length page ≡ 64) where
+  module _ (size f trans owner word : ℕ) (page : List ℕ) (long : length page ≡ size) where
     abbrev brought-did : List Did
     brought-did = (before ++ ((calls ++ stores-did f 0 page) ++ did_store (Place.Translation p) trans ∷ did_store (Place.Owner f) owner ∷ [])) ++ did_store (Place.State p) word ∷ []
 
@@ -344,15 +344,15 @@ module _ (p : ℕ) (before : List Did) (steps : Each (λ (d : Did). d.at ≡ Pla
         (each-both P calls (stores-did f 0 page) ((λ _. refl), ((λ _. refl), ((λ _. refl), ((λ _. refl), tt)))) (stores-silent p f 0 page))
         ((λ here. (let no : Place.Translation p ≡ Place.State p = here in cc)), ((λ here. (let no : Place.Owner f ≡ Place.State p = here in cc)), tt))
 
-    pub brought-at : Each (λ (d : Did). IsOfBoth p f d.at) brought-did
+    pub brought-at : Each (λ (d : Did). IsOfBoth size p f d.at) brought-did
     brought-at =
-        let P : Did → Type 0 = λ d. IsOfBoth p f d.at in
+        let P : Did → Type 0 = λ d. IsOfBoth size p f d.at in
         let install : List Did = did_store (Place.Translation p) trans ∷ did_store (Place.Owner f) owner ∷ [] in
         let end : List Did = did_store (Place.State p) word ∷ [] in
         let filled : List Did = calls ++ stores-did f 0 page in
         each-both P (before ++ (filled ++ install)) end
         (each-both P before (filled ++ install) (each-map _ P (λ (d : Did) e. inl (subst (IsOfPage p) (sym e) refl)) before steps)
-        (each-both P filled install (each-both P calls (stores-did f 0 page) (inl refl, (inl refl, (inl refl, (inl refl, tt)))) (stores-at p f 0 page (omega (arith, long)))) (inl refl, (inr (inl refl), tt))))
+        (each-both P filled install (each-both P calls (stores-did f 0 page) (inl refl, (inl refl, (inl refl, (inl refl, tt)))) (stores-at size p f 0 page (omega (arith, long)))) (inl refl, (inr (inl refl), tt))))
         (inl refl, tt)
 
     pub brought-once : ReadsOnce p brought-did

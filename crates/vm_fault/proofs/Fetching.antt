@@ -20,12 +20,12 @@ module _ {X : Type 0} (p version : ℕ) (words : List ℕ) (before : List Did) (
   may-take-out none = record { calls = or_left (seat_of x p).exclusive (seat_of x p).writing h.owns; none = none }
 
   -- the block was taken out, read into a page, and brought home
-  module _ {E : Type 0} (old new : Stored) (a d : View X) (o : OutTold p old x a) (tells : Bool) (telling : x.start.tells ≡ tells) (page : List ℕ) (result : Result (Unit {0}) E) (read : Reads tells old new page result) (home : (b : Stored) → MayBring a p b new → HomeTold p b new a d) where
+  module _ {E : Type 0} (old new : Stored) (a d : View X) (o : OutTold p old x a) (size : ℕ) (sized : size ≡ x.start.size) (some : 0 < size) (tells : Bool) (telling : x.start.tells ≡ tells) (page : List ℕ) (result : Result (Unit {0}) E) (read : Reads size tells old new page result) (home : (b : Stored) → MayBring a p b new → HomeTold p b new a d) where
     gone : Moves p (two-loads p o.first o.second) (held_at x p) (Some (out_at p false old)) x a
     gone = goes-out p old x a o
 
     pub may-come-home : MayBring a p old new
-    may-come-home = may-bring p tells a old new page (ap (λ (y : Origin). y.tells) gone.works.leaves.start ∙ telling) (ap (λ (s : Seat). s.exclusive) gone.works.seat ∙ h.owns) result read gone.away
+    may-come-home = may-bring p size tells a old new page (ap (λ (y : Origin). y.tells) gone.works.leaves.start ∙ telling) (ap (λ (s : Seat). s.exclusive) gone.works.seat ∙ h.owns) result read gone.away
 
     pub m : HomeTold p old new a d
     m = home old may-come-home
@@ -56,8 +56,8 @@ module _ {X : Type 0} (p version : ℕ) (words : List ℕ) (before : List Did) (
       count-same : new.count ≡ old.count
       count-same = read.count ∙ ap (λ (y : Result (Unit {0}) E). if is_ok y then old.count else count_more old.count) ok
 
-      pub long : length page ≡ 64
-      long = subst (λ (y : Result (Unit {0}) E). OnOk y (length page ≡ 64)) ok read.whole
+      pub long : length page ≡ size
+      long = subst (λ (y : Result (Unit {0}) E). OnOk y (length page ≡ size)) ok read.whole
 
       given : x.start.tells ≡ true → page ≡ old.words
       given t = subst (λ (y : Result (Unit {0}) E). OnOk y (page ≡ old.words)) ok (read.given (sym telling ∙ t))
@@ -85,7 +85,7 @@ module _ {X : Type 0} (p version : ℕ) (words : List ℕ) (before : List Did) (
       may-put =
           let loaded = λ (tells : e.start.tells ≡ true).
           let told : x.start.tells ≡ true = ap (λ (y : Origin). y.tells) (sym work-filled.leaves.start) ∙ tells in
-          filled f page d e (long u ok) s ∙ given u ok told ∙ sym (same u ok told) ∙ ap (λ (y : Held). y.block.words) (sym held-filled) in
+          filled f page d e (long u ok ∙ sized ∙ ap (λ (y : Origin). y.size) (sym moved.works.leaves.start)) (subst (λ n. 0 < n) (sym (long u ok)) some) s ∙ given u ok told ∙ sym (same u ok told) ∙ ap (λ (y : Held). y.block.words) (sym held-filled) in
           search (rules, still-owns p version words before filled-did v x e h work-filled, empty-then, ap (has f) (filled-as.frames ∙ moved.keeps.frames) ∙ holds, loaded)
 
       pub may-own : (i : View X) → InstallTold p f e i → StandsIn i p f
@@ -120,10 +120,13 @@ module _ {X : Type 0} (p version : ℕ) (words : List ℕ) (before : List Did) (
 
           ends : EndsAs p version words before worked-did v x i h work-installed UNLOCKED ((before ++ worked-did) ++ end-did ∷ []) w
           ends = unlocked-ends p version words before worked-did v x i h work-installed
-              (brought-silent p before h.steps o.first o.second m.first m.second f (trans_word (Some (clean_in f))) (p + 1) (version + 1) page (long u ok)) below w r
+              (brought-silent p before h.steps o.first o.second m.first m.second size f (trans_word (Some (clean_in f))) (p + 1) (version + 1) page (long u ok)) below w r
 
-          steps-are : Each (λ (d : Did). IsOfBoth p f d.at) ((before ++ worked-did) ++ end-did ∷ [])
-          steps-are = brought-at p before h.steps o.first o.second m.first m.second f (trans_word (Some (clean_in f))) (p + 1) (version + 1) page (long u ok)
+          size-v : size ≡ v.start.size
+          size-v = sized ∙ ap (λ (y : Origin). y.size) h.leaves.start
+
+          steps-are : Each (λ (d : Did). IsOfBoth v.start.size p f d.at) ((before ++ worked-did) ++ end-did ∷ [])
+          steps-are = brought-at p before h.steps o.first o.second m.first m.second v.start.size f (trans_word (Some (clean_in f))) (p + 1) (version + 1) page (long u ok ∙ size-v)
 
           pub brought : IsBrought p f v w
           brought =
@@ -133,16 +136,16 @@ module _ {X : Type 0} (p version : ℕ) (words : List ℕ) (before : List Did) (
               let put : HasWritten worked-did (Place.Translation p) trans = record { earlier = filled-did; step = did_store (Place.Translation p) trans; later = did_store (Place.Owner f) (p + 1) ∷ []; cut = refl; place = refl; wrote = refl } in
               let owner : HasWritten worked-did (Place.Owner f) (p + 1) = record { earlier = filled-did ++ did_store (Place.Translation p) trans ∷ []; step = did_store (Place.Owner f) (p + 1); later = []; cut = sym (append_assoc filled-did (did_store (Place.Translation p) trans ∷ []) (did_store (Place.Owner f) (p + 1) ∷ [])); place = refl; wrote = refl } in
               let within : (at : Place) (n : ℕ) → HasWritten worked-did at n → HasWritten did at n = λ at n w. written-front (before ++ worked-did) (end-did ∷ []) at n (written-behind before worked-did at n w) in
-              let stored = λ (tells : v.start.tells ≡ true) (k : ℕ) (l : k < 64).
+              let stored = λ (tells : v.start.tells ≡ true) (k : ℕ) (l : k < v.start.size).
               let told : x.start.tells ≡ true = ap (λ (y : Origin). y.tells) h.leaves.start ∙ tells in
               subst (λ (ws : List ℕ). HasWritten did (Place.Content f k) (slice_index ws k)) (given u ok told ∙ had-words told)
               (within (Place.Content f k) (slice_index page k)
               (written-front filled-did (settle-did t named) (Place.Content f k) (slice_index page k)
-              (written-behind called-did (stores-did f 0 page) (Place.Content f k) (slice_index page k) (all-stored f page k (long u ok) l)))) in
+              (written-behind called-did (stores-did f 0 page) (Place.Content f k) (slice_index page k) (all-stored f page k (subst (λ n. k < n) (sym (long u ok ∙ size-v)) l))))) in
               let frames = ap (λ (y : View X). y.frames) r.brings.view ∙ settle-frames t named ∙ ap (without f) (filled-as.frames ∙ moved.keeps.frames ∙ h.keeps.frames) in
               let notes = ap (λ (y : View X). y.notes) r.brings.view ∙ settle-notes t named ∙ filled-as.notes ∙ moved.keeps.notes ∙ h.keeps.notes in
-              let once = brought-once p before h.steps o.first o.second m.first m.second f trans (p + 1) (version + 1) page (long u ok) in
-              search (rules, ends.aside (out-installed ∙ sym none ∙ h.out), ends.released, steps-are, once, ends.runs, ends.knows (IsOfBoth p f) inside-v steps-are, within (Place.Translation p) trans put, within (Place.Owner f) (p + 1) owner, stored, frames, notes)
+              let once = brought-once p before h.steps o.first o.second m.first m.second v.start.size f trans (p + 1) (version + 1) page (long u ok ∙ size-v) in
+              search (rules, ends.aside (out-installed ∙ sym none ∙ h.out), ends.released, steps-are, once, ends.runs, ends.knows (IsOfBoth v.start.size p f) inside-v steps-are, within (Place.Translation p) trans put, within (Place.Owner f) (p + 1) owner, stored, frames, notes)
 
     -- ---- the read failed
 

@@ -2,7 +2,7 @@
 -- the frame, or evicted again where its block could not be read.
 use Rattle.std.specs.Prelude.{[], List, None, slice_index, Some, true, ℕ, ◌++◌, ◌+◌, ◌<◌, ◌∷◌, ◌≡◌, ◌≢◌, ◌≤◌, ◌⊎◌}
 use Rattle.vm_core.specs.Fn as fns
-use Rattle.vm_core.specs.Prelude.{EVICTED, LOCKED, MAX_VERSION, state_of, trans_word, UNLOCKED, version_of, word_of, WORDS}
+use Rattle.vm_core.specs.Prelude.{EVICTED, LOCKED, MAX_VERSION, state_of, trans_word, UNLOCKED, version_of, word_of}
 use Rattle.vm_rule.specs.Prelude.{clean_in, did_exchange, did_store, Each, last_in, last_of, LockTold, LookTold, Start, without}
 use Rattle.vm_rule.specs.declared.view.Place.{Place}
 use Rattle.vm_step.specs.{declared.saw.Saw.Saw, Evidence.EvictedExpected}
@@ -36,9 +36,9 @@ locks_out p version = did_exchange (Place.State p) (word_of EVICTED version) (wo
 abbrev pub releases_as : ℕ → ℕ → ℕ → Did
 releases_as state p version = did_store (Place.State p) (word_of state (version + 1))
 
--- a place of page p, or one of frame f: its owner word, or one of its words
-abbrev pub IsOfBoth : ℕ → ℕ → Place → Type 0
-IsOfBoth p f at = IsOfPage p at ⊎ ((at ≡ Place.Owner f) ⊎ ((i : ℕ) × (i < WORDS) × (at ≡ Place.Content f i)))
+-- a place of page p, or one of frame f, which has so many words: its owner word, or one of its words
+abbrev pub IsOfBoth : ℕ → ℕ → ℕ → Place → Type 0
+IsOfBoth size p f at = IsOfPage p at ⊎ ((at ≡ Place.Owner f) ⊎ ((i : ℕ) × (i < size) × (at ≡ Place.Content f i)))
 
 -- the block of page p went out once and came home once, with no step between: so its device was called once at most
 abbrev pub ReadsOnce : ℕ → List Did → Type 0
@@ -84,13 +84,13 @@ module _ {X : Type 0} where
     pub words : List ℕ
     pub released : IsReleasedAs UNLOCKED p version words done v w
     -- no step is elsewhere; the page is released once, and of a pass that is alone nothing else happened to the table's words
-    pub steps : Each (λ d. IsOfBoth p f d.at) done
+    pub steps : Each (λ d. IsOfBoth v.start.size p f d.at) done
     pub block : ReadsOnce p done
     pub alone : RunsAlone done (record { page = p; version = version + 1; words = words } ∷ []) v w
-    pub table : IsAlone v → KnowsReleased (IsOfBoth p f) UNLOCKED p version v w
+    pub table : IsAlone v → KnowsReleased (IsOfBoth v.start.size p f) UNLOCKED p version v w
     pub mapped : HasWritten done (Place.Translation p) (trans_word (Some (clean_in f)))
     pub owned : HasWritten done (Place.Owner f) (p + 1)
-    pub stored : v.start.tells ≡ true → (i : ℕ) → i < WORDS → HasWritten done (Place.Content f i) (slice_index words i)
+    pub stored : v.start.tells ≡ true → (i : ℕ) → i < v.start.size → HasWritten done (Place.Content f i) (slice_index words i)
     pub frames : w.frames ≡ without f v.frames
     pub notes : w.notes ≡ v.notes
 

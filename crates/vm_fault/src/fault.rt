@@ -1,11 +1,12 @@
 // A page that is not in memory is brought from its block into a frame.
 ghost use Rattle.std.specs.Prelude.{◌<◌, ◌≡◌, None, true};
 ghost use Rattle.vm_core.specs.Prelude.{EVICTED, MAX_VERSION};
+ghost use Rattle.vm_page.specs.Sizes.{IsSize};
 ghost use Rattle.vm_rule.specs.Prelude.{has};
 ghost use Rattle.vm_step.specs.Prelude.{IsReady, IsSamePass, view};
 ghost use Rattle.vm_fault.specs.Fetches.{IsFetched, IsFoundEvicted};
 
-use vm_block::Block;
+use vm_block::PageBlock;
 use vm_core::{MAX_VERSION, StateWord};
 use vm_owner::Owner;
 use vm_page::PageBuf;
@@ -43,7 +44,7 @@ fn again(pid: u32, frame: u32, first: u64, seen: u64) -> Fetch
 }
 
 /// Reads the block of the page, which was locked Evicted at `version`, and releases the page: resident in the frame, or Evicted again.
-fn bring_locked<U: Owner, B: Block>(
+fn bring_locked<U: Owner, B: PageBlock<N>, const N: usize>(
     words: &Words<U, B>,
     pass: &mut Pass<U>,
     pid: u32,
@@ -51,6 +52,8 @@ fn bring_locked<U: Owner, B: Block>(
     version: u64,
 ) -> Fetch
     requires ready { IsReady words.now.table.shared.key B.tells words.now.table.shared.table_id pass.old }
+    requires sized { IsSize N }
+    requires size { N ≡ words.now.table.shared.key.size }
     requires page { pid < words.now.table.shared.key.pages }
     requires frame { (frame < words.now.table.shared.key.frames) × (has frame (view pass.old).frames ≡ true) }
     requires home { (view pass.old).out ≡ None }
@@ -61,7 +64,7 @@ fn bring_locked<U: Owner, B: Block>(
     ensures fetched { (first : _) → IsFoundEvicted U.tied pid version first (view pass.old) → IsFetched pid frame first (view pass.new) result }
 {
     let mut block = block_out(words, pass, pid);
-    let mut page = PageBuf::zero();
+    let mut page = PageBuf::<N>::zero();
     let read = block.read(&mut page);
     let count = block.faults();
     block_home(words, pass, pid, block);
@@ -83,13 +86,15 @@ fn bring_locked<U: Owner, B: Block>(
 
 /// Brings page `pid`, where it is Evicted below the last version, from its block into a frame of the pass, with at most one call of the
 /// device. On every answer but `Brought` the frame comes back with it.
-pub fn fault_in<U: Owner, B: Block>(
+pub fn fault_in<U: Owner, B: PageBlock<N>, const N: usize>(
     words: &Words<U, B>,
     pass: &mut Pass<U>,
     pid: u32,
     frame: u32,
 ) -> Fetch
     requires ready { IsReady words.now.table.shared.key B.tells words.now.table.shared.table_id pass.old }
+    requires sized { IsSize N }
+    requires size { N ≡ words.now.table.shared.key.size }
     requires page { pid < words.now.table.shared.key.pages }
     requires frame { (frame < words.now.table.shared.key.frames) × (has frame (view pass.old).frames ≡ true) }
     requires home { (view pass.old).out ≡ None }
@@ -108,6 +113,6 @@ pub fn fault_in<U: Owner, B: Block>(
     }
     match lock_exclusive(words, pass, pid, first) {
         Took::Lost(seen) => again(pid, frame, first, seen),
-        Took::Taken => bring_locked(words, pass, pid, frame, version),
+        Took::Taken => bring_locked::<U, B, N>(words, pass, pid, frame, version),
     }
 }

@@ -5,7 +5,7 @@ use Rattle.vm_guard.proofs.Amid.{amid-reads, amid-then, amid-within, nload-amid,
 use Rattle.vm_guard.proofs.FreshTouches.{give-places, give-states, seize-places, seize-states, unmoved-at}
 use Rattle.vm_guard.proofs.Prelude.{[], ap, append_assoc, arith, asked, At, Begins, Bool, cases_eq, Did, did_load, Each, each-both, each-map, expected, false}
 use Rattle.vm_guard.proofs.Prelude.{GivesBack, has, HasGiven, Held, holds-still, holds-then, HoldsPage, inl, IsAmid, IsLocking, IsNil, IsQuiet, IsSaw}
-use Rattle.vm_guard.proofs.Prelude.{IsSeized, IsWorn, keeps-then, knows-then, KnowsAsBefore, LeavesNone, List, Mapping, ne_eqb, NextTold, nload-others, None, NoWord}
+use Rattle.vm_guard.proofs.Prelude.{IsSeized, IsWorn, keeps-then, knows-then, KnowsAsBefore, LeavesNone, length, List, Mapping, ne_eqb, NextTold, nload-others, None, NoWord}
 use Rattle.vm_guard.proofs.Prelude.{Option, Origin, Place, place_at, read, refl, rules, same, Saw, Seat, seat_of, Seizes, Some, still-locking, subst, sym, true}
 use Rattle.vm_guard.proofs.Prelude.{true≢false, UnlockedExpected, Version, View, ℕ, ⊎_elim, ◌++◌, ◌<◌, ◌||◌, ◌∙◌, ◌∷◌, ◌≡◌, ◌≢◌, ◌⊎◌}
 
@@ -96,5 +96,6 @@ module _ {X : Type 0} where
       let owned = λ (m : Mapping) (e : stands ≡ Some m). ap (λ (h : Held). h.owner) k.held ∙ s.owned m e in
       let told = ap (λ (h : Held). h.fault) k.held ∙ s.told ∙ ap (λ (h : Held). h.block.count) (sym k.held) in
       let draft = k.draft ∙ s.draft ∙ ap (λ (x : Version). x.words) (sym k.last) in
+      let size = ap (λ (x : Version). length x.words) k.last ∙ s.size ∙ ap (λ (o : Origin). o.size) (sym f.start) in
       let device = λ (t : w.start.tells ≡ true) (e : stands ≡ None). ap (λ (h : Held). h.block.words) k.held ∙ s.device (ap (λ (o : Origin). o.tells) (sym f.start) ∙ t) e ∙ ap (λ (x : Version). x.words) (sym k.last) in
-      search (rules, ap, subst (λ (o : Origin). p < o.pages) (sym f.start) s.page, ap (λ (x : Seat). x.exclusive) (f.seats p none), k, inside, owned, told, draft, device, ap (has p) f.pending, ap (has p) owed)
+      search (rules, ap, subst (λ (o : Origin). p < o.pages) (sym f.start) s.page, ap (λ (x : Seat). x.exclusive) (f.seats p none), k, inside, owned, told, draft, size, device, ap (has p) f.pending, ap (has p) owed)

@@ -3,7 +3,7 @@ use Rattle.vm_guard.proofs.{FreshNumbers.apart-second, FreshTouches.seize-places
 use Rattle.vm_guard.proofs.Amid.{amid-alone, next-known, nload-amid, others-known}
 use Rattle.vm_guard.proofs.Prelude.{[], arith, did_load, found-known, Fresh, HasPagesFor, IsAlone, IsFull, IsPages, IsPagesOrWorn, known_next, known_word, known_word_at, Mapping}
 use Rattle.vm_guard.proofs.Prelude.{next_view, NextTold, None, Option, Origin, Place, refl, same-word, Seizes, subst, sym, true≢false, View, words-known, ℕ}
-use Rattle.vm_guard.proofs.Prelude.{◌+◌, ◌-◌, ◌<◌, ◌∙◌, ◌∷◌, ◌≡◌, ◌≤◌}
+use Rattle.vm_guard.proofs.Prelude.{◌+◌, ◌<◌, ◌∙◌, ◌∷◌, ◌≡◌, ◌≤◌}
 
 -- pages that were given are an answer of pages, or that one is worn
 pub pages-settle : (f : Fresh) → IsPages f → IsPagesOrWorn f

@@ -84,14 +84,14 @@ module _ {X : Type 0} where
     pub unheld : IsUnheld v p
     pub seat : seat_of w p ≡ record (seat_of v p) { exclusive = true; reading = None }
     pub held : IsHolding p frame version dirty w
-    pub zero : v.start.tells ≡ true → (draft_of w p ≡ replicate 64 0) × ((last_of w p).words ≡ replicate 64 0)
+    pub zero : v.start.tells ≡ true → (draft_of w p ≡ replicate v.start.size 0) × ((last_of w p).words ≡ replicate v.start.size 0)
     pub locked : IsAlone v → KnowsAt (Place.State p) (word_of LOCKED version) w
     pub once : TakesOnce p version frame dirty done
 
   -- it was locked after steps on other pages, put into a frame after more of them, and then others were
   given : {p e : ℕ} {stands : Option Mapping} (g : ExclusiveGuard) {before after ps qs rs : List ℕ} {da db dc done : List Did} {v x u z y w : View X}
       → IsAmid ps da v x → Seizes p e stands x u → IsAmid qs db u z → Furnishes p g.frame g.version g.dirty before after z y → IsAmid rs dc y w
-      → has p ps ≡ false → has p qs ≡ false → has p rs ≡ false → z.owed ≡ u.owed → g.pid ≡ p → IsUnheld v p → (v.start.tells ≡ true → (last_of z p).words ≡ replicate 64 0)
+      → has p ps ≡ false → has p qs ≡ false → has p rs ≡ false → z.owed ≡ u.owed → g.pid ≡ p → IsUnheld v p → (v.start.tells ≡ true → (last_of z p).words ≡ replicate v.start.size 0)
       → TakesOnce p e g.frame g.dirty done → IsGiven g.pid g.frame g.version g.dirty done v w
   given {p = p} {e = e} {stands = stands} g {ps = ps} {qs = qs} {rs = rs} {da = da} {db = db} {dc = dc} {done = done} {v = v} {x = x} {u = u} {z = z} {y = y} {w = w} a s b f c na nb nc owed pid unheld zero takes =
       let locked : IsSeized p e stands z = seized-on s.seized b nb owed in
@@ -118,23 +118,25 @@ module _ {X : Type 0} where
   -- ---- all of them
 
   -- a page that was never claimed, as far as the second load tells, has zero words
-  zero-at : (v : View X) {x : ℕ} {u z : View X} → NextTold x u z → u.start ≡ v.start → (p : ℕ) → x ≤ p → p < v.start.pages → v.start.tells ≡ true → (last_of z p).words ≡ replicate 64 0
-  zero-at v t same p low page tells = t.zero (ap (λ (o : Origin). o.tells) same ∙ tells) p low (subst (λ (o : Origin). p < o.pages) (sym same) page)
+  zero-at : (v : View X) {x : ℕ} {u z : View X} → NextTold x u z → u.start ≡ v.start → (p : ℕ) → x ≤ p → p < v.start.pages → v.start.tells ≡ true → (last_of z p).words ≡ replicate v.start.size 0
+  zero-at v {x = x} {u = u} {z = z} t same p low page tells =
+      t.zero (ap (λ (o : Origin). o.tells) same ∙ tells) p low (subst (λ (o : Origin). p < o.pages) (sym same) page) ∙ ap (λ (o : Origin). replicate o.size 0) ((nload-amid [] x u z t).start ∙ same)
 
   -- the same of the page that the second load found, and of the one behind it once that one is furnished
-  pub zero-now : {again x : ℕ} {u z : View X} → NextTold again u z → again ≡ x → x < u.start.pages → z.start.tells ≡ true → (last_of z x).words ≡ replicate 64 0
+  pub zero-now : {again x : ℕ} {u z : View X} → NextTold again u z → again ≡ x → x < u.start.pages → z.start.tells ≡ true → (last_of z x).words ≡ replicate z.start.size 0
   zero-now {again = again} {x = x} {u = u} {z = z} t is page tells =
       let start : z.start ≡ u.start = (nload-amid [] again u z t).start in
       zero-at z t (sym start) x (omega (arith, is)) (subst (λ (o : Origin). x < o.pages) (sym start) page) tells
 
   pub zero-second : {pid x again e f version : ℕ} {s : Option Mapping} {d : Bool} {before after : List ℕ} {u0 u z y : View X} → (pid ≡ x + 1) × Seizes (x + 1) e s u0 u → NextTold again u z → again ≡ x
-      → Furnishes x f version d before after z y → y.start.tells ≡ true → (last_of y pid).words ≡ replicate 64 0
+      → Furnishes x f version d before after z y → y.start.tells ≡ true → (last_of y pid).words ≡ replicate y.start.size 0
   zero-second {x = x} {again = again} {u = u} {z = z} {y = y} taken t is f tells =
       let load = nload-amid [] again u z t in
       let page : x + 1 < z.start.pages = subst (λ (o : Origin). x + 1 < o.pages) (sym load.start) taken.1.seized.page in
       ap (λ (p : ℕ). (last_of y p).words) taken.0
       ∙ ap (λ (o : Version). o.words) (f.amid.knows (x + 1) (apart-second x) (inl (ap (λ (k : Seat). k.exclusive) (load.seats (x + 1) refl) ∙ taken.1.seized.owns))).last
       ∙ zero-at z t (sym load.start) (x + 1) (omega (arith, is)) page (ap (λ (o : Origin). o.tells) (sym f.amid.start) ∙ tells)
+      ∙ ap (λ (o : Origin). replicate o.size 0) (sym f.amid.start)
 
   -- of two frames one is left for the second page
   pub frames-left : {p frame version : ℕ} {dirty : Bool} {before after : List ℕ} {z y : View X} → Furnishes p frame version dirty before after z y → 2 ≤ length before → AreHeld after y × (0 < length after)
@@ -162,7 +164,7 @@ module _ {X : Type 0} where
         unheld = page (λ p. IsUnheld v p) (λ g k. k.unheld);
         seats = page (λ p. seat_of w p ≡ record (seat_of v p) { exclusive = true; reading = None }) (λ g k. k.seat);
         held = each-map _ _ (λ (g : ExclusiveGuard) k. k.held) gs each;
-        zero = λ t. page (λ p. (draft_of w p ≡ replicate 64 0) × ((last_of w p).words ≡ replicate 64 0)) (λ g k. k.zero t);
+        zero = λ t. page (λ p. (draft_of w p ≡ replicate v.start.size 0) × ((last_of w p).words ≡ replicate v.start.size 0)) (λ g k. k.zero t);
         owed = ap (λ (k : View X). k.owed) view ∙ (λ i. sym same i ++ (put.group.0 ∙ owed) i);
         next = ap (λ (k : View X). k.next) view;
         taken = put.taken;

@@ -20,12 +20,12 @@ apart-front (q ∷ qs) f apart =
     ((k.0, rest.0), ((lacks q f [] k.1).0, rest.1))
 
 -- the stores are at the frame's words
-stores-places : (start : Origin) (pages : List ℕ) (f : ℕ) → f < start.frames → (i : ℕ) (xs : List ℕ) → i + length xs ≤ 64 → Each (λ (d : Did). IsPlaceOf start pages d.at) (stores-did f i xs)
+stores-places : (start : Origin) (pages : List ℕ) (f : ℕ) → f < start.frames → (i : ℕ) (xs : List ℕ) → i + length xs ≤ start.size → Each (λ (d : Did). IsPlaceOf start pages d.at) (stores-did f i xs)
 stores-places start pages f l i [] few = tt
-stores-places start pages f l i (x ∷ xs) few = ((l, (let many : i + suc (length xs) ≤ 64 = few in omega (arith, many))), stores-places start pages f l (i + 1) xs (let many : i + suc (length xs) ≤ 64 = few in omega (arith, many)))
+stores-places start pages f l i (x ∷ xs) few = ((l, (let many : i + suc (length xs) ≤ start.size = few in omega (arith, many))), stores-places start pages f l (i + 1) xs (let many : i + suc (length xs) ≤ start.size = few in omega (arith, many)))
 
-abbrev pub zeros : List ℕ
-zeros = replicate 64 0
+abbrev pub zeros : ℕ → List ℕ
+zeros n = replicate n 0
 
 module _ {X : Type 0} where
   -- stores into a frame leave the words of each other one
@@ -66,7 +66,7 @@ module _ {X : Type 0} where
     puts = inl tt;
   }
 
-  module _ (p version f : ℕ) (before after : List ℕ) (v : View X) (s : IsSeized p version None v) (zero : v.start.tells ≡ true → (last_of v p).words ≡ zeros) (own : AreHeld before v) (cut : before ≡ after ++ f ∷ []) where
+  module _ (p version f : ℕ) (before after : List ℕ) (v : View X) (s : IsSeized p version None v) (zero : v.start.tells ≡ true → (last_of v p).words ≡ zeros v.start.size) (some : 0 < v.start.size) (own : AreHeld before v) (cut : before ≡ after ++ f ∷ []) where
     inside : Each (λ g. g < v.start.frames) after × Each (λ g. g < v.start.frames) (f ∷ [])
     inside = each-parts (λ g. g < v.start.frames) after (f ∷ []) (subst (Each (λ g. g < v.start.frames)) cut own.inside)
 
@@ -77,9 +77,12 @@ module _ {X : Type 0} where
     pub frame-own : (f < v.start.frames) × (has f v.frames ≡ true)
     frame-own = (inside.1.0, held.1.0)
 
-    module _ (u : View X) (stores : Stores f 0 zeros v u) where
-      filling : Fills f p (stores-did f 0 zeros) v u
-      filling = fills f p 0 zeros v u stores
+    zeros-within : 0 + length (zeros v.start.size) ≤ v.start.size
+    zeros-within = let long : length (zeros v.start.size) ≡ v.start.size = length-replicate {A = ℕ} v.start.size 0 in omega (arith, long)
+
+    module _ (u : View X) (stores : Stores f 0 (zeros v.start.size) v u) where
+      filling : Fills f p (stores-did f 0 (zeros v.start.size)) v u
+      filling = fills f p 0 (zeros v.start.size) v u stores
 
       held-u : held_at u p ≡ held_at v p
       held-u = ap (λ l. put_at no_held l p) filling.held
@@ -88,7 +91,7 @@ module _ {X : Type 0} where
       may-install =
           let loaded = λ (t : u.start.tells ≡ true).
           let told : v.start.tells ≡ true = ap (λ (o : Origin). o.tells) (sym filling.works.leaves.start) ∙ t in
-          filled f zeros v u (length-replicate {A = ℕ} 64 0) stores ∙ sym (zero told) ∙ sym (s.device told refl) ∙ ap (λ (h : Held). h.block.words) (sym held-u) in
+          filled f (zeros v.start.size) v u (length-replicate {A = ℕ} v.start.size 0) (subst (λ n. 0 < n) (sym (length-replicate {A = ℕ} v.start.size 0)) some) stores ∙ sym (zero told) ∙ sym (s.device told refl) ∙ ap (λ (h : Held). h.block.words) (sym held-u) in
           search (rules, ap (λ (k : Seat). k.exclusive) filling.works.seat ∙ s.owns, ap (λ (h : Held). h.mapping) held-u ∙ s.mapping, ap (has f) filling.frames ∙ frame-own.1, loaded)
 
       pub may-own : (i : View X) → InstallTold p f u i → StandsIn i p f
@@ -96,30 +99,30 @@ module _ {X : Type 0} where
 
       module _ (i : View X) (t : InstallTold p f u i) (w : View X) (named : OwnerTold p f (p + 1) i w) where
         abbrev done : List Did
-        done = stores-did f 0 zeros ++ settle-did t named
+        done = stores-did f 0 (zeros v.start.size) ++ settle-did t named
 
         work : Works p done v w
-        work = works-then p (stores-did f 0 zeros) (settle-did t named) v u w filling.works (settle-works t named)
+        work = works-then p (stores-did f 0 (zeros v.start.size)) (settle-did t named) v u w filling.works (settle-works t named)
 
         steps : IsSilent (p ∷ []) done v w
         steps =
             leaves-silent (p ∷ []) p done v w (self-has p) work.leaves
             (settle-out t named ∙ filling.out) (settle-notes t named ∙ filling.notes) work.alone
-            (each-both (λ (d : Did). IsPlaceOf v.start (p ∷ []) d.at) (stores-did f 0 zeros) (settle-did t named) (stores-places v.start (p ∷ []) f frame-own.0 0 zeros (omega arith)) ((s.page, self-has p), (frame-own.0, tt)))
+            (each-both (λ (d : Did). IsPlaceOf v.start (p ∷ []) d.at) (stores-did f 0 (zeros v.start.size)) (settle-did t named) (stores-places v.start (p ∷ []) f frame-own.0 0 (zeros v.start.size) zeros-within) ((s.page, self-has p), (frame-own.0, tt)))
 
         -- no step is at a state word, and none but one at a translation word
         states-none : (q : ℕ) → WritesNone (Place.State q) done
         states-none q =
-            each-both (λ (d : Did). d.at ≡ Place.State q → d.wrote ≡ None) (stores-did f 0 zeros) (settle-did t named)
-            (each-map (λ (d : Did). IsPlaceOf v.start [] d.at) (λ (d : Did). d.at ≡ Place.State q → d.wrote ≡ None) (λ (d : Did) is at. absurd (false≢true (subst (IsPlaceOf v.start []) at is).1)) (stores-did f 0 zeros) (stores-places v.start [] f frame-own.0 0 zeros (omega arith)))
+            each-both (λ (d : Did). d.at ≡ Place.State q → d.wrote ≡ None) (stores-did f 0 (zeros v.start.size)) (settle-did t named)
+            (each-map (λ (d : Did). IsPlaceOf v.start [] d.at) (λ (d : Did). d.at ≡ Place.State q → d.wrote ≡ None) (λ (d : Did) is at. absurd (false≢true (subst (IsPlaceOf v.start []) at is).1)) (stores-did f 0 (zeros v.start.size)) (stores-places v.start [] f frame-own.0 0 (zeros v.start.size) zeros-within))
             ((λ e. absurd (let no : Place.Translation p ≡ Place.State q = e in cc)), ((λ e. absurd (let no : Place.Owner f ≡ Place.State q = e in cc)), tt))
 
         puts-w : PutsOnce p f false done
         puts-w =
             inr (
               refl,
-              leaves-both (Place.Translation p) [] (put_did p f ∷ []) (stores-did f 0 zeros) (settle-did t named)
-                  (each-map (λ (d : Did). IsPlaceOf v.start [] d.at) (λ (d : Did). d.at ≡ Place.Translation p → d.wrote ≡ None) (λ (d : Did) is at. absurd (false≢true (subst (IsPlaceOf v.start []) at is).1)) (stores-did f 0 zeros) (stores-places v.start [] f frame-own.0 0 zeros (omega arith)))
+              leaves-both (Place.Translation p) [] (put_did p f ∷ []) (stores-did f 0 (zeros v.start.size)) (settle-did t named)
+                  (each-map (λ (d : Did). IsPlaceOf v.start [] d.at) (λ (d : Did). d.at ≡ Place.Translation p → d.wrote ≡ None) (λ (d : Did) is at. absurd (false≢true (subst (IsPlaceOf v.start []) at is).1)) (stores-did f 0 (zeros v.start.size)) (stores-places v.start [] f frame-own.0 0 (zeros v.start.size) zeros-within))
                   ([], did_store (Place.Owner f) (p + 1) ∷ [], refl, tt, ((λ e. absurd (let no : Place.Owner f ≡ Place.Translation p = e in cc)), tt)),
             )
 
@@ -135,7 +138,7 @@ module _ {X : Type 0} where
             let last-w : last_of w p ≡ last_of v p = work.last (inl s.owns) in
             let frames-w : w.frames ≡ without f v.frames = settle-frames t named ∙ ap (without f) filling.frames in
             let told = ap (λ (h : Held). h.fault) held-w ∙ s.told ∙ ap (λ (h : Held). h.block.count) (sym held-w) in
-            let size = ap (λ (l : List ℕ). length l) work.draft ∙ ap length s.draft ∙ s.size in
+            let size = ap (λ (l : List ℕ). length l) work.draft ∙ ap length s.draft ∙ s.size ∙ ap (λ (o : Origin). o.size) (sym work.leaves.start) in
             let holding : IsHolding p f version false w = search (rules, ap, subst (λ (o : Origin). p < o.pages) (sym work.leaves.start) s.page, subst (λ (o : Origin). f < o.frames) (sym work.leaves.start) frame-own.0, s.below, ap (λ (k : Seat). k.exclusive) work.seat ∙ s.owns, held-w, told, last-w, size, ap (has p) work.leaves.group.0 ∙ s.free) in
             record {
               done = done;
@@ -154,7 +157,7 @@ module _ {X : Type 0} where
                 inside = subst (λ (o : Origin). Each (λ g. g < o.frames) after) (sym work.leaves.start) inside.0;
                 held = each-map _ _ (λ g k. ap (has g) frames-w ∙ has-without_other f g v.frames k.0 ∙ k.1) after (each-with _ _ after apart.1 held.0);
               };
-              contents = λ g none. ap (λ (y : View X). contents_at y g) named.brings.view ∙ ap (λ (y : View X). contents_at y g) t.brings.view ∙ stores-elsewhere f 0 zeros v u stores g (other f g (f ∷ []) (self-has f) none);
+              contents = λ g none. ap (λ (y : View X). contents_at y g) named.brings.view ∙ ap (λ (y : View X). contents_at y g) t.brings.view ∙ stores-elsewhere f 0 (zeros v.start.size) v u stores g (other f g (f ∷ []) (self-has f) none);
               silent = steps.1;
               states = states-w;
               locks = states-none p;

@@ -42,7 +42,7 @@ module _ {X : Type 0} where
   held-still : {p f version : ℕ} {dirty now : Bool} {v w : View X} → IsHolding p f version dirty v → w.start ≡ v.start → (seat_of w p).exclusive ≡ (seat_of v p).exclusive → (held_at w p).mapping ≡ Some (record { frame = f; dirty = now })
       → (held_at w p).owner ≡ (held_at v p).owner → (held_at w p).fault ≡ (held_at v p).fault → (held_at w p).block.count ≡ (held_at v p).block.count → last_of w p ≡ last_of v p → length (draft_of w p) ≡ length (draft_of v p) → w.pending ≡ v.pending → IsHolding p f version now w
   held-still {p = p} {f = f} h start owns stands owner fault count last size pending =
-      search (rules, ap, subst (λ (o : Origin). p < o.pages) (sym start) h.page, subst (λ (o : Origin). f < o.frames) (sym start) h.frame_is)
+      search (rules, ap, subst (λ (o : Origin). p < o.pages) (sym start) h.page, subst (λ (o : Origin). f < o.frames) (sym start) h.frame_is, size ∙ h.size ∙ ap (λ (o : Origin). o.size) (sym start))
 
   -- so where what is known of it under its lock does
   pub still-held : {p f version : ℕ} {dirty : Bool} {v w : View X} → IsHolding p f version dirty v → w.start ≡ v.start → (seat_of w p).exclusive ≡ (seat_of v p).exclusive → KnowsAsBefore v w p → w.pending ≡ v.pending → IsHolding p f version dirty w
@@ -87,7 +87,7 @@ module _ {X : Type 0} where
       let own : LeavesOwn v w = own-then (record { mine = d.mine; group = d.group }) (store-own t) in
       let states : KnowsStates v w = λ a q l.
       let below : q < u.start.pages = subst (λ (o : Origin). q < o.pages) (sym d.elsewhere.steady.start) l in
-      stored-else (Place.Content f i) x q u w k.runs (still-alone v u d.elsewhere.steady.parts d.alone.current a) (λ (e : q ≡ 3 * u.start.pages + (64 * f + i)). omega (arith, below, e))
+      stored-else (Place.Content f i) x q u w k.runs (still-alone v u d.elsewhere.steady.parts d.alone.current a) (λ (e : q ≡ 3 * u.start.pages + (u.start.size * f + i)). omega (arith, below, e))
       ∙ d.states a q l in
       let elsewhere = elsewhere-then p d.done (did ∷ []) v u w d.elsewhere (elsewhere-of k) in
       let holds = holds-then v u w p d.holds (holds-still p (store-seat t p)) in

@@ -75,7 +75,7 @@ module _ {X : Type 0} {tied : Start → ℕ → List ℕ → ℕ → List ℕ �
       let at = ap (λ (y : Version). y.version) lock-known.last ∙ t.version ∙ sym version in
       let free = ap (has p) ((tload-own load).group.0 ∙ (lock-own refl t).group.0) ∙ t.free refl in
       let paid = ap (has p) ((tload-own load).group.1 ∙ (lock-own refl t).group.1) ∙ (t.unheld refl).paid in
-      search (rules, ap, subst (λ (o : Origin). p < o.pages) (sym lock-steps.start) page, subst (λ (n : ℕ). n < MAX_VERSION) (sym version) below, (tload-holds load p).exclusive ∙ lock-owns t, maps-then, inside, owned, told, at, lock-known, lock-draft refl t, t.size, device, free, paid)
+      search (rules, ap, subst (λ (o : Origin). p < o.pages) (sym lock-steps.start) page, subst (λ (n : ℕ). n < MAX_VERSION) (sym version) below, (tload-holds load p).exclusive ∙ lock-owns t, maps-then, inside, owned, told, at, lock-known, lock-draft refl t, ap (λ (y : Version). length y.words) lock-known.last ∙ t.size ∙ ap (λ (o : Origin). o.size) (sym (tload-others load (λ q. q ≡ p) refl).start), device, free, paid)
 
   -- behind steps that left the locks and the words, and at most another open read of the page
   pub locked-after : {m : Mapping} {pre : List Did} {v : View X} → mapping_of found ≡ Some m → LeavesOthers (λ q. q ≡ p) pre [] v u → LeavesOwn v u → HoldsPage v u p → KnowsSame v u → p < v.start.pages
@@ -150,4 +150,4 @@ module _ {X : Type 0} (tied : Start → ℕ → List ℕ → ℕ → List ℕ �
       steps.1.1.1
       ∙ ap (λ (o : Option ℕ). set_if o p v.snapshot.words)
       (cond-true (eqb word word) (Some (word_of (one_share_more (state_of word)) (version_of word))) None (eq-eqb word word refl) ∙ ap (λ (n : ℕ). Some (word_of (one_share_more (state_of n)) (version_of n))) steps.0) in
-      search (rules, elsewhere-of all, own, alone-of all, seat-w, knows, sharing, ap (λ (y : Version). length y.words) known.last ∙ t.size, validates, ap (λ (y : View X). y.current) load.brings.view, takes, table)
+      search (rules, elsewhere-of all, own, alone-of all, seat-w, knows, sharing, ap (λ (y : Version). length y.words) known.last ∙ t.size ∙ ap (λ (o : Origin). o.size) (sym (tload-others load (λ q. q ≡ p) refl).start), validates, ap (λ (y : View X). y.current) load.brings.view, takes, table)

@@ -1,5 +1,6 @@
 -- A caller of fresh pages and groups: which guards it got, that it may release them, and what the pages have then.
 use Rattle.vm_guard.proofs.{Amid.amid-alone, GuardSteps.still-held}
+use Rattle.vm_guard.proofs.Prelude.{Origin}
 use Rattle.vm_guard.proofs.Prelude.{[], ap, AreFresh, AreReleased, arith, began_of, Bool, Change, changes_of, draft_of, Entry, ExclusiveGuard, false, has}
 use Rattle.vm_guard.proofs.Prelude.{has-both, HasFirst, inl, inr, IsAlone, IsHolding, IsSet, length, length-append, List, MayReleaseAll, ne_eqb, None}
 use Rattle.vm_guard.proofs.Prelude.{none-some, numbers, numbers-has, pids_of, refl, replicate, slice_set, Start, still-alone, subst, suc, sym, true, Version}
@@ -73,10 +74,11 @@ module _ {X : Type 0} where
     written-pair w r tells alone =
         let alone-2 = still-alone w1 w2 s1.elsewhere.steady.parts s1.elsewhere.steady.alone.current (amid-alone f.amid alone) in
         let last = r.last (still-alone w2 w3 s2.elsewhere.steady.parts s2.elsewhere.steady.alone.current alone-2) in
-        let first : draft_of w3 g1.pid ≡ slice_set (replicate 64 0) 0 a =
+        let start : v.start ≡ w.start = sym (r.beside.steady.start ∙ s2.elsewhere.steady.start ∙ s1.elsewhere.steady.start ∙ f.amid.start) in
+        let first : draft_of w3 g1.pid ≡ slice_set (replicate v.start.size 0) 0 a =
         (s2.elsewhere.knows g1.pid apart-pair (inl (s1.holds.exclusive ∙ f.held.0.owns))).draft ∙ s1.draft ∙ ap (λ (l : List ℕ). slice_set l 0 a) (f.zero tells g1.pid in-first).0 in
-        let second : draft_of w3 g2.pid ≡ slice_set (replicate 64 0) 0 b =
+        let second : draft_of w3 g2.pid ≡ slice_set (replicate v.start.size 0) 0 b =
         s2.draft ∙ ap (λ (l : List ℕ). slice_set l 0 b) ((s1.elsewhere.knows g2.pid (λ e. apart-pair (sym e)) (inl f.held.1.0.owns)).draft ∙ (f.zero tells g2.pid in-second).0) in (
-          ap (λ (k : Version). k.words) last.0 ∙ first,
-          subst (λ n. HasFirst n b w) (let p = pids.0 in let q = pids.1 in omega (arith, p, q)) (ap (λ (k : Version). k.words) last.1.0 ∙ second),
+          ap (λ (k : Version). k.words) last.0 ∙ first ∙ ap (λ (o : Origin). slice_set (replicate o.size 0) 0 a) start,
+          subst (λ n. HasFirst n b w) (let p = pids.0 in let q = pids.1 in omega (arith, p, q)) (ap (λ (k : Version). k.words) last.1.0 ∙ second ∙ ap (λ (o : Origin). slice_set (replicate o.size 0) 0 b) start),
         )

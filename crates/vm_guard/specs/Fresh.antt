@@ -1,7 +1,7 @@
 -- Pages that were never claimed: what a call for some of them answers. Each page given has words of zeros, is held by the pass and owed to it; on
 -- every other answer nothing is claimed, no lock is kept and the frames are as they were.
 use Rattle.std.specs.Prelude.{[], ◌++◌, ◌+◌, ◌<◌, ◌∷◌, ◌≡◌, ◌≤◌, ◌⊎◌, Bool, false, length, List, None, Option, replicate, reverse, Some, true, ℕ}
-use Rattle.vm_core.specs.Prelude.{LOCKED, MAX_VERSION, MayLock, version_of, word_of, WORDS}
+use Rattle.vm_core.specs.Prelude.{LOCKED, MAX_VERSION, MayLock, version_of, word_of}
 use Rattle.vm_rule.specs.Prelude.{contents_at, did_load, did_store, draft_of, Each, has, held_at, IsLocking, IsUnheld, last_of, loads_at, Mapping, next_after}
 use Rattle.vm_rule.specs.Prelude.{NextTold, numbers, seat_of, StartsWith, without_all}
 use Rattle.vm_rule.specs.declared.view.Place.{Place}
@@ -55,7 +55,7 @@ module _ {X : Type 0} where
     pub told : IsToldOf v p
     pub at : (last_of v p).version ≡ version
     pub draft : draft_of v p ≡ (last_of v p).words
-    pub size : length (last_of v p).words ≡ WORDS
+    pub size : length (last_of v p).words ≡ v.start.size
     pub device : v.start.tells ≡ true → stands ≡ None → (held_at v p).block.words ≡ (last_of v p).words
     pub free : has p v.pending ≡ false
     pub paid : has p v.owed ≡ false
@@ -131,7 +131,7 @@ module _ {X : Type 0} where
     pub unheld : (q : ℕ) → has q pages ≡ true → IsUnheld v q
     pub seats : (q : ℕ) → has q pages ≡ true → seat_of w q ≡ record (seat_of v q) { exclusive = true; reading = None }
     pub held : GuardsHeld w gs
-    pub zero : v.start.tells ≡ true → (q : ℕ) → has q pages ≡ true → (draft_of w q ≡ replicate WORDS 0) × ((last_of w q).words ≡ replicate WORDS 0)
+    pub zero : v.start.tells ≡ true → (q : ℕ) → has q pages ≡ true → (draft_of w q ≡ replicate v.start.size 0) × ((last_of w q).words ≡ replicate v.start.size 0)
     pub owed : w.owed ≡ pages ++ v.owed
     pub next : w.next ≡ None
     pub taken : List ℕ

@@ -1,6 +1,5 @@
 -- The places where a call for fresh pages makes its steps, and what a pass that was alone knows of all others.
 use Rattle.std.specs.Prelude.{◌<◌, ◌≡◌, List, true, ℕ}
-use Rattle.vm_core.specs.Prelude.{WORDS}
 use Rattle.vm_rule.specs.Prelude.{has}
 use Rattle.vm_rule.specs.declared.view.Place.{Place}
 use Rattle.vm_rule.specs.declared.view.Place.TheVariants.{Content, Next, Owner, State, Translation}
@@ -11,7 +10,7 @@ use Rattle.vm_step.specs.Prelude.{IsAlone, KnowsElse, Origin, View}
 abbrev pub IsPlaceOf : Origin → List ℕ → Place → Type 0
 IsPlaceOf start pages (State p) = (p < start.pages) × (has p pages ≡ true)
 IsPlaceOf start pages (Translation p) = (p < start.pages) × (has p pages ≡ true)
-IsPlaceOf start pages (Content f i) = (f < start.frames) × (i < WORDS)
+IsPlaceOf start pages (Content f i) = (f < start.frames) × (i < start.size)
 IsPlaceOf start pages (Owner f) = f < start.frames
 IsPlaceOf start pages Next = Unit {0}
 IsPlaceOf start pages at = ⊥

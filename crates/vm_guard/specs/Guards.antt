@@ -2,7 +2,7 @@
 use Rattle.std.specs.Prelude.{[], ◌++◌, ◌+◌, ◌-◌, ◌<◌, ◌^◌, ◌∷◌, ◌≡◌, ◌≢◌, ◌≤◌, ◌⊎◌, Bool, false, length, List, None, Option, slice_set, Some, suc}
 use Rattle.std.specs.Prelude.{true, ℕ}
 use Rattle.vm_core.specs.Prelude.{frame_of, is_readable, LOCKED, mapping_of, MARKED, MAX_VERSION, one_share_more, state_of, trans_word, UNLOCKED}
-use Rattle.vm_core.specs.Prelude.{unshared, version_of, word_of, WORDS}
+use Rattle.vm_core.specs.Prelude.{unshared, version_of, word_of}
 use Rattle.vm_rule.specs.Prelude.{did_change, did_exchange, did_load, did_store, dirty_in, draft_of, Each, entries_of, frame_read_by, has, IsLocking, IsUnheld}
 use Rattle.vm_rule.specs.Prelude.{IsWhole, last_of, loads_at, LockValidates, Mapping, next_after, no_held, Open, put_at, seat_of, Start, ties_below}
 use Rattle.vm_rule.specs.Prelude.{without}
@@ -106,7 +106,7 @@ module _ {X : Type 0} where
     pub same_reads : (q : ℕ) → ReadsAsBefore v w q
     pub alone : StaysAlone v w
     pub version : (last_of w p).version ≡ version_of word
-    pub size : length (last_of w p).words ≡ WORDS
+    pub size : length (last_of w p).words ≡ w.start.size
     pub ties : w.ties ≡ ties_below v.start.pages v p (last_of w p).words ++ v.ties
     pub validates : v.start.tells ≡ true → LockValidates tied p (version_of word) (last_of w p).words v
     pub table : KnowsSame v w
@@ -125,7 +125,7 @@ module _ {X : Type 0} where
     pub owned : (put_at no_held v.held p).owner ≡ p + 1
     pub told : (put_at no_held v.held p).fault ≡ (put_at no_held v.held p).block.count
     pub at : (last_of v p).version ≡ version
-    pub size : length (draft_of v p) ≡ WORDS
+    pub size : length (draft_of v p) ≡ v.start.size
     pub free : has p v.pending ≡ false
 
   -- the call made these steps and these releases, and all but page p is as it was
@@ -229,7 +229,7 @@ module _ {X : Type 0} where
     pub sharing : IsSharing p frame w
     -- one exchange alone left a word
     pub takes : SharesBy p frame done
-    pub size : length (last_of w p).words ≡ WORDS
+    pub size : length (last_of w p).words ≡ w.start.size
     pub validates : v.start.tells ≡ true → LockValidates tied p (last_of w p).version (last_of w p).words v
     -- the page's word has one share more
     pub table : KnowsBut p (word_of (one_share_more (state_of (known_word p v))) (version_of (known_word p v))) v w

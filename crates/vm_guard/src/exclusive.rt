@@ -16,7 +16,6 @@ use crate::standing::{Lock, standing};
 use vm_block::Block;
 use vm_core::StateWord;
 use vm_owner::Owner;
-use vm_page::WORDS;
 use vm_rule::words::{Pass, Words};
 use vm_step::{
     At, Saw, Took, downgrade, load, lock_exclusive, look_silently, release, release_silently,
@@ -83,11 +82,11 @@ impl ExclusiveGuard {
         }
     }
 
-    /// Word `i` (0 to 63) of the draft.
+    /// Word `i` of the draft.
     pub fn read<U: Owner, B: Block>(&self, words: &Words<U, B>, pass: &mut Pass<U>, i: usize) -> u64
         requires ready { IsReady words.now.table.shared.key B.tells words.now.table.shared.table_id pass.old }
         requires holds { IsHolding self.now.pid self.now.frame self.now.version self.now.dirty (view pass.old) }
-        requires word { i < WORDS }
+        requires word { i < words.now.table.shared.key.size }
         ensures pass { IsSamePass pass.old pass.new }
         ensures ready { IsReady words.now.table.shared.key B.tells words.now.table.shared.table_id pass.new }
         ensures quiet { (done : _) × IsQuiet self.now.pid done (view pass.old) (view pass.new) }
@@ -112,7 +111,7 @@ impl ExclusiveGuard {
         }
     }
 
-    /// Sets word `i` (0 to 63) of the draft. A clean page is made dirty first.
+    /// Sets word `i` of the draft. A clean page is made dirty first.
     pub fn set<U: Owner, B: Block>(
         &mut self,
         words: &Words<U, B>,
@@ -122,7 +121,7 @@ impl ExclusiveGuard {
     )
         requires ready { IsReady words.now.table.shared.key B.tells words.now.table.shared.table_id pass.old }
         requires holds { IsHolding self.old.pid self.old.frame self.old.version self.old.dirty (view pass.old) }
-        requires word { i < WORDS }
+        requires word { i < words.now.table.shared.key.size }
         ensures pass { IsSamePass pass.old pass.new }
         ensures ready { IsReady words.now.table.shared.key B.tells words.now.table.shared.table_id pass.new }
         ensures set { IsSet self.old.pid self.old.frame self.old.dirty i w (view pass.old) (view pass.new) }

@@ -17,10 +17,9 @@ use crate::standing::Lock;
 use vm_block::Block;
 use vm_core::{MAX_VERSION, Mapping, StateWord, TransWord};
 use vm_owner::Owner;
-use vm_page::{PageBuf, WORDS};
 use vm_rule::words::{Pass, Words};
 use vm_step::{
-    At, Batch, Saw, Took, claim, fill, install, lock_exclusive, look_silently, nload, own,
+    At, Batch, Saw, Took, blank, claim, install, lock_exclusive, look_silently, nload, own,
     release_evicted, release_silently, tload,
 };
 
@@ -128,7 +127,7 @@ fn furnish<U: Owner, B: Block>(
 ) -> ExclusiveGuard
     requires ready { IsReady words.now.table.shared.key B.tells words.now.table.shared.table_id pass.old }
     requires seized { IsSeized page.pid page.version page.stands (view pass.old) }
-    requires zero { (view pass.old).start.tells ≡ true → (last_of (view pass.old) page.pid).words ≡ replicate WORDS 0 }
+    requires zero { (view pass.old).start.tells ≡ true → (last_of (view pass.old) page.pid).words ≡ replicate (view pass.old).start.size 0 }
     requires frames { AreHeld frames.old (view pass.old) × (0 < length frames.old) }
     ensures pass { IsSamePass pass.old pass.new }
     ensures ready { IsReady words.now.table.shared.key B.tells words.now.table.shared.table_id pass.new }
@@ -153,7 +152,7 @@ fn furnish<U: Owner, B: Block>(
             let Some(frame) = frames.pop() else {
                 unreachable!();
             };
-            fill(words, pass, frame, &PageBuf::zero());
+            blank(words, pass, frame);
             install(words, pass, pid, frame);
             own(words, pass, pid, frame);
             ExclusiveGuard {

@@ -1,5 +1,6 @@
 // Optimistic guards: a page is read without a lock, and a later look at its word tells whether all words read were of one version.
 ghost use Rattle.std.specs.Prelude.{[], ◌<◌, ◌∷◌, ◌≡◌, ◌≢◌, ◌⊎◌, IfErr, IfOk, IsOk, length, None, option_map, true};
+ghost use Rattle.vm_page.specs.Sizes.{IsSize};
 ghost use Rattle.vm_core.specs.Prelude.{is_readable, LOCKED, MAX_VERSION, state_of, version_of};
 ghost use Rattle.vm_step.specs.Prelude.{IsAlone, IsFrameAt, IsKeptNow, IsReady, IsSamePass, KnowsUnheld, MayStep, MayTell, NoneExpected, NoWord};
 ghost use Rattle.vm_step.specs.Prelude.{UnlockedExpected, view};
@@ -14,7 +15,7 @@ use crate::standing::{Lock, standing};
 use vm_block::Block;
 use vm_core::{MAX_VERSION, StateWord, TransWord};
 use vm_owner::Owner;
-use vm_page::{PageBuf, WORDS};
+use vm_page::PageBuf;
 use vm_rule::words::{Pass, Words};
 use vm_step::{
     At, Saw, Took, frame_place, load_at, lock_exclusive, look, look_silently, tload, unmark,
@@ -109,11 +110,11 @@ impl OptGuard {
         }
     }
 
-    /// Word `i` (0 to 63) of the page, through the guard's open read. Whether it is a word of one version a validation tells.
+    /// Word `i` of the page, through the guard's open read. Whether it is a word of one version a validation tells.
     pub fn word<U: Owner, B: Block>(&self, words: &Words<U, B>, pass: &mut Pass<U>, i: usize) -> u64
         requires ready { IsReady words.now.table.shared.key B.tells words.now.table.shared.table_id pass.old }
         requires reading { IsReading self.now.pid self.now.word self.now.frame (view pass.old) }
-        requires place { i < WORDS }
+        requires place { i < words.now.table.shared.key.size }
         ensures pass { IsSamePass pass.old pass.new }
         ensures ready { IsReady words.now.table.shared.key B.tells words.now.table.shared.table_id pass.new }
         ensures loads { Loads self.now.pid self.now.word self.now.frame ((i, result) ∷ []) (view pass.old) (view pass.new) }
@@ -133,7 +134,7 @@ impl OptGuard {
         requires ready { IsReady words.now.table.shared.key B.tells words.now.table.shared.table_id pass.old }
         requires reading { IsReading self.now.pid self.now.word self.now.frame (view pass.old) }
         requires first { IsFrameAt words.now.table.shared.key words.now.table.shared.table_id.words self.now.frame first }
-        requires place { i < WORDS }
+        requires place { i < words.now.table.shared.key.size }
         ensures pass { IsSamePass pass.old pass.new }
         ensures ready { IsReady words.now.table.shared.key B.tells words.now.table.shared.table_id pass.new }
         ensures loads { Loads self.now.pid self.now.word self.now.frame ((i, result) ∷ []) (view pass.old) (view pass.new) }
@@ -142,24 +143,25 @@ impl OptGuard {
         load_at(words, pass, self.pid, self.frame, first, i)
     }
 
-    /// All 64 words of the page, through the guard's open read.
-    pub fn read_all<U: Owner, B: Block>(
+    /// All words of the page, through the guard's open read.
+    pub fn read_all<U: Owner, B: Block, const N: usize>(
         &self,
         words: &Words<U, B>,
         pass: &mut Pass<U>,
-        into: &mut PageBuf,
+        into: &mut PageBuf<N>,
     )
         requires ready { IsReady words.now.table.shared.key B.tells words.now.table.shared.table_id pass.old }
         requires reading { IsReading self.now.pid self.now.word self.now.frame (view pass.old) }
-        requires size { length into.old ≡ WORDS }
+        requires sized { IsSize N }
+        requires size { (N ≡ words.now.table.shared.key.size) × (length into.old ≡ N) }
         ensures pass { IsSamePass pass.old pass.new }
         ensures ready { IsReady words.now.table.shared.key B.tells words.now.table.shared.table_id pass.new }
-        ensures size { length into.new ≡ WORDS }
+        ensures size { length into.new ≡ N }
         ensures loads { Loads self.now.pid self.now.word self.now.frame (placed 0 into.new) (view pass.old) (view pass.new) }
         ensures words { LoadsWords into.new (view pass.old) (view pass.new) }
     {
         let first = frame_place(words, self.frame);
-        for turn in 0..WORDS / TURN {
+        for turn in 0..N / TURN {
             for k in 0..TURN {
                 let i = TURN * turn + k;
                 let word = self.word_at(words, pass, first, i);

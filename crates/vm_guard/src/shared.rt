@@ -11,7 +11,6 @@ use crate::standing::{Lock, standing};
 use vm_block::Block;
 use vm_core::StateWord;
 use vm_owner::Owner;
-use vm_page::WORDS;
 use vm_rule::words::{Pass, Words};
 use vm_step::{At, Saw, Took, load, lock_shared, look_silently, unlock_shared};
 
@@ -73,11 +72,11 @@ impl SharedGuard {
         }
     }
 
-    /// Word `i` (0 to 63) of the page's last version.
+    /// Word `i` of the page's last version.
     pub fn read<U: Owner, B: Block>(&self, words: &Words<U, B>, pass: &mut Pass<U>, i: usize) -> u64
         requires ready { IsReady words.now.table.shared.key B.tells words.now.table.shared.table_id pass.old }
         requires shares { IsSharing self.now.pid self.now.frame (view pass.old) }
-        requires word { i < WORDS }
+        requires word { i < words.now.table.shared.key.size }
         ensures pass { IsSamePass pass.old pass.new }
         ensures ready { IsReady words.now.table.shared.key B.tells words.now.table.shared.table_id pass.new }
         ensures quiet { (done : _) × IsQuiet self.now.pid done (view pass.old) (view pass.new) }

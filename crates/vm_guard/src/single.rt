@@ -8,10 +8,9 @@ ghost use Rattle.vm_guard.specs.Sure.{known_word};
 use crate::opt::OptGuard;
 use vm_block::Block;
 use vm_owner::Owner;
-use vm_page::WORDS;
 use vm_rule::words::{Pass, Words};
 
-/// Word `i` (0 to 63) of the page's last version, or `None` where the page could not be read so: it was Locked or Evicted, or changed
+/// Word `i` of the page's last version, or `None` where the page could not be read so: it was Locked or Evicted, or changed
 /// meanwhile. The pass keeps its frames.
 pub fn read_word<U: Owner, B: Block>(
     words: &Words<U, B>,
@@ -20,7 +19,7 @@ pub fn read_word<U: Owner, B: Block>(
     i: usize,
 ) -> Option<u64>
     requires pass { MayStep words.now.table.shared.table_id pass.old }
-    requires page { (pid < words.now.table.shared.key.pages) × (i < WORDS) }
+    requires page { (pid < words.now.table.shared.key.pages) × (i < words.now.table.shared.key.size) }
     ensures pass { IsSamePass pass.old pass.new }
     ensures ready { IsReady words.now.table.shared.key B.tells words.now.table.shared.table_id pass.new }
     ensures frames { ((view pass.new).start ≡ (view pass.old).start) × ((view pass.new).frames ≡ (view pass.old).frames) }

@@ -1,6 +1,8 @@
 -- What the first pass of a pool knows: it is alone, each page is evicted at the first version, and the first bundle has frames.
+use Rattle.std.proofs.Common.{[], ◌∷◌, map, suc, zero}
+use Rattle.vm_rule.specs.Prelude.{AreWhole}
 use Rattle.vm_rule.specs.declared.view.Place.TheVariants as places
-use Rattle.vm_pool.proofs.Prelude.{ap, arith, begun, Bool, bundles_of, counts_of, EVICTED, first-whole, full_bundle, HasFree, index_of, inr, IsAlone}
+use Rattle.vm_pool.proofs.Prelude.{ap, arith, at, begun, Bool, bundles_of, counts_of, EVICTED, first-whole, full_bundle, HasFree, index_of, inr, IsAlone}
 use Rattle.vm_pool.proofs.Prelude.{IsKnownOut, IsOf, IsStarted, IsWhole, known_word_at, length, List, MAX_VERSION, min, Origin, part-found, pow-le-pow_right}
 use Rattle.vm_pool.proofs.Prelude.{refl, Shape, slice_index, started-bundle, started-state, started_origin, started_shape, started_words, state_of, Stored}
 use Rattle.vm_pool.proofs.Prelude.{subst, sym, unborn, version_of, View, word-state, word-version, word_of, ℕ, ◌*◌, ◌+◌, ◌-◌, ◌<◌, ◌^◌, ◌∙◌, ◌≡◌, ◌≢◌, ◌≤◌}
@@ -13,30 +15,30 @@ some-frames frames some =
     let one : 2 ^ 1 ≤ 2 ^ min 64 (frames - 64 * 0) = pow-le-pow_right (omega arith) low in
     omega (arith, one)
 
-module _ {X : Type 0} (tells : Bool) (version next frames : ℕ) (blocks : List Stored) (v : View X) (is : v ≡ begun (unborn (started_shape tells version next frames blocks))) where
+module _ {X : Type 0} (size : ℕ) (tells : Bool) (version next frames : ℕ) (blocks : List Stored) (v : View X) (is : v ≡ begun (unborn (started_shape size tells version next frames blocks))) where
   abbrev words : List ℕ
-  words = started_words (length blocks) frames version next (counts_of blocks)
+  words = started_words size (length blocks) frames version next (counts_of blocks)
 
-  pub start-is : v.start ≡ started_origin tells version next frames blocks
+  pub start-is : v.start ≡ started_origin size tells version next frames blocks
   start-is = ap (λ (x : View X). x.start) is
 
   words-are : v.snapshot.words ≡ words
   words-are = ap (λ (x : View X). x.snapshot.words) is
 
   -- it may call on the table that began so
-  pub first-of : (shape : Shape) → shape ≡ started_shape tells version next frames blocks → IsOf shape tells v
+  pub first-of : (shape : Shape) → shape ≡ started_shape size tells version next frames blocks → IsOf shape tells v
   first-of shape same =
       subst (λ (s : Shape). IsOf s tells v) (sym same)
-      (subst (IsOf (started_shape tells version next frames blocks) tells) (sym is) record { is_shape = record { same = refl; pages = refl; frames = refl; version = refl; next = refl }; tells_is = refl })
+      (subst (IsOf (started_shape size tells version next frames blocks) tells) (sym is) record { is_shape = record { same = refl; size = refl; pages = refl; frames = refl; version = refl; next = refl }; tells_is = refl })
 
   pub first-alone : IsAlone v
-  first-alone = (subst IsWhole (sym is) (first-whole X (started_origin tells version next frames blocks)), ap (λ (x : View X). x.current) is)
+  first-alone = (subst IsWhole (sym is) (first-whole X (started_origin size tells version next frames blocks)), ap (λ (x : View X). x.current) is)
 
   module _ (pages : ℕ) (long : length blocks ≡ pages) (fits : IsStarted version next frames pages) where
     state-there : (p : ℕ) → p < pages → known_word_at v (places.State p) ≡ word_of EVICTED version
     state-there p l =
         let inside : p < length blocks = omega (arith, l, long) in
-        ap (λ (t : List ℕ). slice_index t p) words-are ∙ sym (part-found 0 (length blocks) words p p inside (omega arith)) ∙ started-state tells version next frames blocks p inside
+        ap (λ (t : List ℕ). slice_index t p) words-are ∙ sym (part-found 0 (length blocks) words p p inside (omega arith)) ∙ started-state size tells version next frames blocks p inside
 
     -- each page is at the first version
     pub first-version : (p : ℕ) → p < pages → version_of (known_word_at v (places.State p)) ≡ version
@@ -52,12 +54,19 @@ module _ {X : Type 0} (tells : Bool) (version next frames : ℕ) (blocks : List 
         let some : 1 ≤ frames = fits.some_frames in
         let inside : 0 < bundles_of frames = omega (arith, some) in
         ap (λ (s : Origin). slice_index v.snapshot.words (index_of s (places.Bundle 0))) start-is
-        ∙ ap (λ (t : List ℕ). slice_index t (3 * length blocks + 64 * frames + 0)) words-are
-        ∙ sym (part-found (3 * length blocks + 64 * frames) (bundles_of frames) words 0 (3 * length blocks + 64 * frames + 0) inside refl)
-        ∙ started-bundle tells version next frames blocks 0
+        ∙ ap (λ (t : List ℕ). slice_index t (3 * length blocks + size * frames + 0)) words-are
+        ∙ sym (part-found (3 * length blocks + size * frames) (bundles_of frames) words 0 (3 * length blocks + size * frames + 0) inside refl)
+        ∙ started-bundle size tells version next frames blocks 0
 
     pub first-free : (old : List ℕ) → HasFree old v
     first-free old =
         let some : 1 ≤ frames = fits.some_frames in
         let inside : 0 < bundles_of frames = omega (arith, some) in
         inr (0, subst (λ (s : Origin). 0 < bundles_of s.frames) (sym start-is) inside, λ none. some-frames frames some (sym bundle-there ∙ none))
+
+-- each block has a page's words
+pub whole-each : {B : Type 0} (stored : B → Stored) (size : ℕ) (items : List B) → ((b : B) → length (stored b).words ≡ size) → AreWhole size (map stored items)
+unfolding at
+whole-each stored size [] each p l = absurd (omega (arith, l))
+whole-each stored size (x ∷ xs) each zero l = each x
+whole-each stored size (x ∷ xs) each (suc p) l = whole-each stored size xs each p (omega (arith, l))

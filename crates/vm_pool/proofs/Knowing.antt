@@ -15,7 +15,7 @@ use Rattle.vm_pool.specs.{Brings.Fetches as fetches, Known.KnowsBrought as broug
 use Rattle.vm_pool.specs.declared.bring.Bring.TheVariants as brings
 
 -- a bundle is no place of a page or of a frame
-pub not-of-both : (start : Origin) (p f g : ℕ) → g < bundles_of start.frames → IsOfBoth p f (places.Bundle g) → ⊥
+pub not-of-both : (start : Origin) (p f g : ℕ) → g < bundles_of start.frames → IsOfBoth start.size p f (places.Bundle g) → ⊥
 not-of-both start p f g inside (inl page-is) = page-is
 not-of-both start p f g inside (inr (inl e)) = subst (IsBundleOf start) e inside
 not-of-both start p f g inside (inr (inr c)) = subst (IsBundleOf start) c.2 inside
@@ -82,15 +82,19 @@ module _ {X : Type 0} (v : View X) (alone : IsAlone v) where
         subst (λ n. KnowsReleased more state p n v w) (version-is x version h below k.before)
         (record { before = sym (page-same x h) ∙ k.before; now = k.now; others = else-then more v x w h.start before (else-within touched more x w wider k.others) })
 
+    -- what the pass knows of the brought page, by the start that it had before
+    from-start : {f : ℕ} {x w : View X} (h : IsHad v x) (b : IsBrought p f x w) → KnowsReleased (IsOfBoth v.start.size p f) UNLOCKED p b.version x w
+    from-start {f = f} {x = x} {w = w} h b = subst (λ (o : Origin). KnowsReleased (IsOfBoth o.size p f) UNLOCKED p b.version x w) h.start (b.table h.now)
+
     is-brought : (most f : ℕ) (old kept : List ℕ) (x w : View X) → IsHad v x → Had most f old kept v x → IsBrought p f x w → KnowsBrought most p old kept v w
     is-brought most f old kept x w h (from_own one same) b =
-        brought.own f one (released (IsOfBoth p f) (IsOfBoth p f) UNLOCKED b.version x w h b.released.below (λ at t. t) (subst (KnowsElse (IsOfBoth p f) v) (sym same) (else-self (IsOfBoth p f) v)) (b.table h.now))
+        brought.own f one (released (IsOfBoth v.start.size p f) (IsOfBoth v.start.size p f) UNLOCKED b.version x w h b.released.below (λ at t. t) (subst (KnowsElse (IsOfBoth v.start.size p f) v) (sym same) (else-self (IsOfBoth v.start.size p f) v)) (from-start h b))
     is-brought most f old kept x w h (from_bundle g mask empty are inside bits) b =
-        let more : Place → Type 0 = (λ at. IsOfBoth p f at ⊎ (at ≡ places.Bundle g)) in
+        let more : Place → Type 0 = (λ at. IsOfBoth v.start.size p f at ⊎ (at ≡ places.Bundle g)) in
         let there : g < bundles_of x.start.frames = subst (λ (o : Origin). g < bundles_of o.frames) (sym h.start) inside in
         brought.taken f g mask empty are inside bits.lowest
-        ((b.table h.now).others.words (places.Bundle g) there (not-of-both v.start p f g inside) ∙ bits.left)
-        (released (IsOfBoth p f) more UNLOCKED b.version x w h b.released.below (λ at t. inl t) (else-within (λ at. at ≡ places.Bundle g) more v x (λ at t. inr t) bits.others) (b.table h.now))
+        ((from-start h b).others.words (places.Bundle g) there (not-of-both v.start p f g inside) ∙ bits.left)
+        (released (IsOfBoth v.start.size p f) more UNLOCKED b.version x w h b.released.below (λ at t. inl t) (else-within (λ at. at ≡ places.Bundle g) more v x (λ at t. inr t) bits.others) (from-start h b))
 
     -- the frame went back: no word but the bundles' is another
     back : (cap f : ℕ) (old new : List ℕ) (y w : View X) → IsAlone y → y.start ≡ v.start → IsFreed cap old (f ∷ []) new y w → KnowsElse (IsBundleOf v.start) y w

@@ -137,14 +137,14 @@ module _ {X B : Type 0} (stored : B → Stored) (keeps : Start → Kept X → Ty
       (h.0, last.4 k (Some h.0) h.1))
 
   -- the next word
-  next-there : (pages frames : ℕ) → pages ≡ shape.pages → frames ≡ shape.frames → at 0 ws (3 * pages + 64 * frames + bundles_of frames) ≡ (table_words start s.words).next
-  next-there pages frames p f =
-      (λ i. at 0 ws (3 * (p ∙ sym is-ruled.0.pages) i + 64 * (f ∙ sym is-ruled.0.frames) i + bundles_of ((f ∙ sym is-ruled.0.frames) i))) ∙ sym (ap (λ l. at 0 l (index_of start places.Next)) last.2)
+  next-there : (size pages frames : ℕ) → size ≡ shape.size → pages ≡ shape.pages → frames ≡ shape.frames → at 0 ws (3 * pages + size * frames + bundles_of frames) ≡ (table_words start s.words).next
+  next-there size pages frames z p f =
+      (λ i. at 0 ws (3 * (p ∙ sym is-ruled.0.pages) i + (z ∙ sym is-ruled.0.size) i * (f ∙ sym is-ruled.0.frames) i + bundles_of ((f ∙ sym is-ruled.0.frames) i))) ∙ sym (ap (λ l. at 0 l (index_of start places.Next)) last.2)
 
   -- it is at most the number of pages
-  pub next-small : (pages frames : ℕ) → pages ≡ shape.pages → frames ≡ shape.frames → pages ≤ 65536 → at 0 ws (3 * pages + 64 * frames + bundles_of frames) ≤ 65536
-  next-small pages frames p f few =
-      let here : at 0 ws (3 * pages + 64 * frames + bundles_of frames) ≡ (table_words start s.words).next = next-there pages frames p f in
+  pub next-small : (size pages frames : ℕ) → size ≡ shape.size → pages ≡ shape.pages → frames ≡ shape.frames → pages ≤ 65536 → at 0 ws (3 * pages + size * frames + bundles_of frames) ≤ 65536
+  next-small size pages frames z p f few =
+      let here : at 0 ws (3 * pages + size * frames + bundles_of frames) ≡ (table_words start s.words).next = next-there size pages frames z p f in
       let low : (table_words start s.words).next ≤ start.pages = rule.inv.next in
       let same : start.pages ≡ shape.pages = is-ruled.0.pages in
       omega arith
@@ -197,8 +197,8 @@ module _ {X B : Type 0} (stored : B → Stored) (keeps : Start → Kept X → Ty
     none-left : (v.pending ≡ []) × (v.owed ≡ [])
     none-left = without-locks stored keeps tied start tells s rule id v last.1.1 live holds.exclusive
 
-    pub closes : (pages frames next : ℕ) → pages ≡ shape.pages → frames ≡ shape.frames → next ≡ at 0 ws (3 * pages + 64 * frames + bundles_of frames) → IsClosed tells keeps v blocks next
-    closes pages frames next p f n =
+    pub closes : (size pages frames next : ℕ) → size ≡ shape.size → pages ≡ shape.pages → frames ≡ shape.frames → next ≡ at 0 ws (3 * pages + size * frames + bundles_of frames) → IsClosed tells keeps v blocks next
+    closes size pages frames next z p f n =
         record {
           count = blocks-long ∙ sym (ap (λ (o : Origin). o.pages) same-start);
           shown = all-shown;
@@ -207,12 +207,12 @@ module _ {X B : Type 0} (stored : B → Stored) (keeps : Start → Kept X → Ty
           noted = λ q count some. subst (λ (k : List Stored). (1 ≤ count) × (count ≤ (at no_block k q).count)) (sym all-shown) (notes.noted q count some);
           once = notes.once;
           words = λ t q l is. ap (λ k. (at no_block k q).words) all-shown ∙ words-stored (ap (λ (o : Origin). o.tells) same-start ∙ rule.telling ∙ t) q l is;
-          next_is = n ∙ next-there pages frames p f ∙ (λ i. (table_words (sym same-start i) (sym (ap (λ (y : Snapshot). y.words) same-snapshot) i)).next);
+          next_is = n ∙ next-there size pages frames z p f ∙ (λ i. (table_words (sym same-start i) (sym (ap (λ (y : Snapshot). y.words) same-snapshot) i)).next);
           released = none-left.0;
           paid = none-left.1;
           kept = λ t. subst (λ (o : Origin). keeps (began_of o) (kept_by v)) (sym same-start) (what-is-kept stored keeps tied start tells s rule id v stepped none-left.0 (rule.telling ∙ t));
           own = (let h = all-seen stored keeps tied start tells s rule id v stepped.pass in h.1 ∙ sym h.0);
-          found = λ x h. let most : x ≤ (table_words start s.words).next = found-below (world_of stored start rule.releases rule.drafts s) v.log x (rule.known id v last.1.1 live).words h in subst (λ k. x ≤ k) (sym (n ∙ next-there pages frames p f)) most;
+          found = λ x h. let most : x ≤ (table_words start s.words).next = found-below (world_of stored start rule.releases rule.drafts s) v.log x (rule.known id v last.1.1 live).words h in subst (λ k. x ≤ k) (sym (n ∙ next-there size pages frames z p f)) most;
           versions = λ q word l h.
               let inside : q < start.pages = subst (λ (o : Origin). q < o.pages) same-start l in
               let most : version_of word ≤ ((world_of stored start rule.releases rule.drafts s).core.pages q).version = version-below (world_of stored start rule.releases rule.drafts s) v.log q word (rule.known id v last.1.1 live).words h in

@@ -19,11 +19,11 @@ module _ {X : Type 0} where
   -- page p was evicted and is resident in frame f, with the word Unlocked at its next version; all other words are as before, but those of the
   -- frame. The interface had that frame, or had none, and took the lowest bits of a bundle, whose word is without them
   pub data KnowsBrought (cap p : ℕ) (old new : List ℕ) (v w : View X) : Type 0 where
-    own : (f : ℕ) → old ≡ f ∷ new → KnowsReleased (IsOfBoth p f) UNLOCKED p (known_version v p) v w → KnowsBrought cap p old new v w
+    own : (f : ℕ) → old ≡ f ∷ new → KnowsReleased (IsOfBoth v.start.size p f) UNLOCKED p (known_version v p) v w → KnowsBrought cap p old new v w
     taken : (f g mask : ℕ) → old ≡ [] → frames_in g mask ≡ f ∷ new → g < bundles_of v.start.frames
         → AreLowest (known_word_at v (places.Bundle g)) (max 1 cap) mask
         → known_word_at w (places.Bundle g) ≡ bit_xor (known_word_at v (places.Bundle g)) mask
-        → KnowsReleased (λ at. IsOfBoth p f at ⊎ (at ≡ places.Bundle g)) UNLOCKED p (known_version v p) v w
+        → KnowsReleased (λ at. IsOfBoth v.start.size p f at ⊎ (at ≡ places.Bundle g)) UNLOCKED p (known_version v p) v w
         → KnowsBrought cap p old new v w
 
   -- page p was evicted and could not be read: it is evicted at its next version; all other words are as before, but those of the bundles, and of

@@ -7,7 +7,7 @@ ghost use Rattle.vm_pool.specs.{Known.KnowsAsked, Sweeps.IsSwept};
 ghost use Rattle.vm_pool.specs.Brings.{Fetches, IsBring, IsFramed, IsSure, KeepsLocks, NamesWorn, SaysDry};
 
 use crate::pool::Pool;
-use vm_block::Block;
+use vm_block::PageBlock;
 use vm_clock::candidates;
 use vm_core::FRAMES;
 use vm_evict::evict;
@@ -69,7 +69,7 @@ pub fn dry_cause(report: &Report) -> Bring
     }
 }
 
-impl<U: Owner, B: Block> Pool<U, B> {
+impl<U: Owner, B: PageBlock<N>, const N: usize> Pool<U, B, N> {
     /// Evicts up to `want` (1 to 64) pages that the clock chooses, and gives their frames to the interface.
     pub fn sweep(&self, pass: &mut Pass<U>, iface: &mut Interface, want: u32) -> Report
         requires ready { IsReady self.now.words.table.shared.key B.tells self.now.words.table.shared.table_id pass.old }
@@ -85,7 +85,7 @@ impl<U: Owner, B: Block> Pool<U, B> {
         ensures keeps { KeepsLocks (view pass.old) (view pass.new) }
     {
         let chosen = candidates(&self.words, pass, want);
-        let evicted = evict(&self.words, pass, &chosen);
+        let evicted = evict::<U, B, N>(&self.words, pass, &chosen);
         let report = evicted.report;
         iface.free(&self.words, pass, evicted.frames);
         iface.add_swept(report.freed);
@@ -131,7 +131,7 @@ impl<U: Owner, B: Block> Pool<U, B> {
         ensures iface { (iface.new.home ≡ iface.old.home) × (iface.new.cap ≡ iface.old.cap) × (iface.new.swept ≡ iface.old.swept) }
         ensures held { AreHeld iface.new.frames (view pass.new) }
     {
-        let answer = match fault_in(&self.words, pass, pid, frame) {
+        let answer = match fault_in::<U, B, N>(&self.words, pass, pid, frame) {
             Fetch::Brought => return Bring::Brought,
             Fetch::Again { saw, .. } => Bring::Again(saw),
             Fetch::Worn { pid, .. } => Bring::Worn(pid),

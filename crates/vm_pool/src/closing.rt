@@ -13,7 +13,6 @@ use std::alloc::Global;
 use vm_block::Block;
 use vm_core::FRAMES;
 use vm_owner::Owner;
-use vm_page::WORDS;
 use vm_rule::words::{Pass, Words};
 
 /// The end of a pool with these words, whose pass has all parts and holds no page. There is room for the blocks.
@@ -33,9 +32,9 @@ pub(crate) fn closed<U: Owner, B: Block + Drop>(
     ensures told { view_at_end result.ended ≡ view_of pass.badge.views }
 {
     let knew = pass.knew();
-    let (pages, frames) = (words.pages, words.frames);
+    let (size, pages, frames) = (words.size.words, words.pages, words.frames);
     let table = words.close_with(pass);
-    let next = next_of(&table, pages, frames);
+    let next = next_of(&table, size, pages, frames);
     let blocks = blocks_of(table, room);
     let ended = Ended::of(knew, blocks.as_slice());
     Closed {
@@ -45,14 +44,19 @@ pub(crate) fn closed<U: Owner, B: Block + Drop>(
     }
 }
 
-/// The next word of a table of so many pages and frames.
-fn next_of<B>(table: &ClosedTable<Option<B>, Global>, pages: usize, frames: usize) -> u32
-    requires numbers { (pages ≤ 65536) × (frames ≤ 65536) }
-    requires full { (slots_len table.now.words ≡ width_of pages frames) × IsFull table.now.words }
-    requires small { at 0 (slots_items table.now.words) (3 * pages + WORDS * frames + bundles_of frames) ≤ 65536 }
-    ensures { result ≡ at 0 (slots_items table.now.words) (3 * pages + WORDS * frames + bundles_of frames) }
+/// The next word of a table of so many pages, with so many words each, and frames.
+fn next_of<B>(
+    table: &ClosedTable<Option<B>, Global>,
+    size: usize,
+    pages: usize,
+    frames: usize,
+) -> u32
+    requires numbers { (size ≤ 512) × (pages ≤ 65536) × (frames ≤ 65536) }
+    requires full { (slots_len table.now.words ≡ width_of size pages frames) × IsFull table.now.words }
+    requires small { at 0 (slots_items table.now.words) (3 * pages + size * frames + bundles_of frames) ≤ 65536 }
+    ensures { result ≡ at 0 (slots_items table.now.words) (3 * pages + size * frames + bundles_of frames) }
 {
-    table.word(3 * pages + WORDS * frames + (frames + (FRAMES - 1)) / FRAMES) as u32
+    table.word(3 * pages + size * frames + (frames + (FRAMES - 1)) / FRAMES) as u32
 }
 
 /// The blocks of a table that was closed, in the order of their pages. All are at home, and there is room for them.

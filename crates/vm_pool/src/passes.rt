@@ -15,7 +15,7 @@ use vm_owner::Owner;
 use vm_rule::words::{Pass, Words};
 use vm_step::{catch_up, follow_pass, hear_pass, join_pass, split_pass};
 
-impl<U: Owner, B: Block + Drop> Pool<U, B> {
+impl<U: Owner, B: Block + Drop, const N: usize> Pool<U, B, N> {
     /// `n` new passes, each with one of this pass's fresh parts as its number. They know what this pass knows of the history, have no entry,
     /// and hold nothing. Where there is no memory for them nothing has changed.
     pub fn split(&self, alloc: Global, pass: &mut Pass<U>, n: usize) -> Result<Vec<Pass<U>>, Memory>
@@ -34,7 +34,7 @@ impl<U: Owner, B: Block + Drop> Pool<U, B> {
     }
 }
 
-impl<U: Owner, B: Block> Pool<U, B> {
+impl<U: Owner, B: Block, const N: usize> Pool<U, B, N> {
     /// A new pass with the first of this pass's fresh parts as its number. It knows what this pass knows of the history, has no entry, and holds
     /// nothing. It takes no memory.
     pub fn split_one(&self, pass: &mut Pass<U>) -> Pass<U>

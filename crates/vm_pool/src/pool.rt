@@ -3,12 +3,13 @@
 ghost use Rattle.std.specs.Prelude.{◌≡◌, IfErr, IfOk, length, map, true};
 ghost use Rattle.vm_rule.specs.Prelude.{block_words, HoldsNoPage, IsStarted, IsWhole, MayBegin, started_shape, unborn, view_of};
 ghost use Rattle.vm_rule.specs.Begun.{begun};
+ghost use Rattle.vm_page.specs.Sizes.{IsSize};
 ghost use Rattle.vm_pool.specs.Closing.{AreSums, IsClosed, view_at_end};
 
 use crate::closing::closed;
 use crate::ended::Closed;
 use std::alloc::Global;
-use vm_block::Block;
+use vm_block::{Block, PageBlock};
 use vm_core::Memory;
 use vm_owner::Owner;
 use vm_rule::words::{Pass, Words};
@@ -23,20 +24,22 @@ pub struct Shape {
     pub first_version: u64,
 }
 
-/// The pages of an owner, each with its block, for any number of passes.
-pub struct Pool<U: Owner, B: Block> {
+/// The pages of an owner, of `N` words each with its block, for any number of passes.
+pub struct Pool<U: Owner, B: Block, const N: usize> {
     pub words: Words<U, B>,
+    pub ghost sized: { IsSize N },
+    pub ghost size: { N ≡ words.table.shared.key.size },
 }
 
 // A pool that is let go drops the blocks that are at home.
-impl<U: Owner, B: Block + Drop> Drop for Pool<U, B> {
+impl<U: Owner, B: Block + Drop, const N: usize> Drop for Pool<U, B, N> {
     fn drop(self) {
         let Pool { words } = self;
         drop(words);
     }
 }
 
-impl<U: Owner, B: Block + Drop> Pool<U, B> {
+impl<U: Owner, B: PageBlock<N> + Drop, const N: usize> Pool<U, B, N> {
     /// A pool whose pages are all evicted, with their words in the blocks, and whose frames are all free; and its first pass, which has all
     /// parts and knows every word and block. The pages from the next one on are zero, where the blocks tell. Where there is no memory the
     /// blocks are dropped.
@@ -44,18 +47,21 @@ impl<U: Owner, B: Block + Drop> Pool<U, B> {
         alloc: Global,
         shape: Shape,
         blocks: Vec<B>,
-    ) -> Result<(Pool<U, B>, Pass<U>), Memory>
+    ) -> Result<(Pool<U, B, N>, Pass<U>), Memory>
+        requires sized { IsSize N }
+        requires takes { U.takes_size N ≡ true }
         requires pages { shape.pages ≡ length blocks.items }
         requires fits { IsStarted shape.first_version shape.next shape.frames (length blocks.items) }
         requires begins { B.tells ≡ true → MayBegin U.keeps shape.next (block_words (map B.stored blocks.items)) }
         ensures key { IfOk result (λ made. made.0.words.table.shared.key
-            ≡ started_shape B.tells shape.first_version shape.next shape.frames (map B.stored blocks.items)) }
+            ≡ started_shape N B.tells shape.first_version shape.next shape.frames (map B.stored blocks.items)) }
         ensures pass { IfOk result (λ made. made.1.badge.table_id ≡ made.0.words.table.shared.table_id) }
         ensures view { IfOk result (λ made. view_of made.1.badge.views
-            ≡ begun (unborn (started_shape B.tells shape.first_version shape.next shape.frames (map B.stored blocks.items)))) }
+            ≡ begun (unborn (started_shape N B.tells shape.first_version shape.next shape.frames (map B.stored blocks.items)))) }
     {
         let (words, pass) = Words::started(
             alloc,
+            N,
             shape.frames,
             shape.next,
             shape.first_version,
@@ -73,7 +79,11 @@ impl<U: Owner, B: Block + Drop> Pool<U, B> {
 
     /// Ends the pool with a pass that has all parts, has made a step since it was split or joined, and holds no page: the blocks come back, in
     /// the order of their pages. Where there is no memory for their list nothing has changed.
-    pub fn close(self, alloc: Global, pass: Pass<U>) -> Result<Closed<U, B>, (Pool<U, B>, Pass<U>)>
+    pub fn close(
+        self,
+        alloc: Global,
+        pass: Pass<U>,
+    ) -> Result<Closed<U, B>, (Pool<U, B, N>, Pass<U>)>
         requires pass { pass.badge.table_id ≡ self.words.table.shared.table_id }
         requires whole { IsWhole (view_of pass.badge.views) }
         requires current { (view_of pass.badge.views).current ≡ true }

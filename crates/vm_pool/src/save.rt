@@ -10,7 +10,7 @@ ghost use Rattle.vm_pool.specs.Closing.{AreSums, IsClosed, view_at_end};
 use crate::ended::Closed;
 use crate::pool::Pool;
 use std::alloc::Global;
-use vm_block::Block;
+use vm_block::{Block, PageBlock};
 use vm_evict::{Flushed, flush};
 use vm_owner::Owner;
 use vm_rule::words::Pass;
@@ -24,11 +24,11 @@ pub struct Saved<U: Owner, B: Block> {
 /// Writes all dirty pages to their blocks and ends the pool, with a pass that is alone and holds no page. Where no write failed, and the blocks
 /// tell their words, each block has the last words of its page. Where there is no memory for the list of blocks, pool and pass come back with
 /// the pages written.
-pub fn flush_and_close<U: Owner, B: Block + Drop>(
-    pool: Pool<U, B>,
+pub fn flush_and_close<U: Owner, B: PageBlock<N> + Drop, const N: usize>(
+    pool: Pool<U, B, N>,
     alloc: Global,
     mut pass: Pass<U>,
-) -> Result<Saved<U, B>, (Pool<U, B>, Pass<U>)>
+) -> Result<Saved<U, B>, (Pool<U, B, N>, Pass<U>)>
     requires ready { IsReady pool.words.table.shared.key B.tells pool.words.table.shared.table_id pass }
     requires alone { IsAlone (view pass) }
     requires holds { HoldsNoPage (view pass) }
@@ -47,7 +47,7 @@ pub fn flush_and_close<U: Owner, B: Block + Drop>(
     ensures holds { IfErr result (λ back. HoldsNoPage (view back.1)) }
     ensures kept { IfErr result (λ back. (p : ℕ) → (last_of (view back.1) p).words ≡ (last_of (view pass) p).words) }
 {
-    let report = flush(&pool.words, &mut pass);
+    let report = flush::<U, B, N>(&pool.words, &mut pass);
     let closed = pool.close(alloc, pass)?;
     Ok(Saved { report, closed })
 }

@@ -69,13 +69,13 @@ pub noted-more : (p count : ℕ) → notes_of p count (count_more count) ≡ rec
 unfolding count_more
 noted-more p count = grind (arith, nat_tests)
 
-module _ {X E : Type 0} (p : ℕ) (tells : Bool) (v : View X) (old new : Stored) (into : List ℕ) (telling : v.start.tells ≡ tells) (owns : (seat_of v p).exclusive ≡ true) where
+module _ {X E : Type 0} (p size : ℕ) (tells : Bool) (v : View X) (old new : Stored) (into : List ℕ) (telling : v.start.tells ≡ tells) (owns : (seat_of v p).exclusive ≡ true) where
   -- a read leaves the words, and is counted, or its fault
-  pub read-did : (result : Result (Unit {0}) E) → Reads tells old new into result → DeviceDid v p old new
+  pub read-did : (result : Result (Unit {0}) E) → Reads size tells old new into result → DeviceDid v p old new
   read-did (Ok u) r = read owns (λ t. r.held (sym telling ∙ t)) r.count r.reads r.writes
   read-did (Err e) r = failed (λ t. r.held (sym telling ∙ t)) r.count r.reads r.writes
 
-  pub may-bring : (result : Result (Unit {0}) E) → Reads tells old new into result → v.out ≡ Some (out_at p false old) → MayBring v p old new
+  pub may-bring : (result : Result (Unit {0}) E) → Reads size tells old new into result → v.out ≡ Some (out_at p false old) → MayBring v p old new
   may-bring result r out = record { out = out; did = read-did result r; bound = r.bound }
 
 -- ---- what a write does

@@ -174,7 +174,7 @@ module _ {X B : Type 0} (stored : B → Stored) (keeps : Start → Kept X → Ty
     pub version : (last_of w p).version ≡ version_of (slice_index s.words p)
     pub since : IsSinceAll p (slice_index s.words p) v.log
     pub older : IsOlder (slice_index s.words p) (seat_of v p).reading
-    pub size : length (last_of w p).words ≡ 64
+    pub size : length (last_of w p).words ≡ w.start.size
 
   -- so it tells, where it is an event, and shows what is to be shown of it when it is taken
   pub tried : (drafts : ℕ → List ℕ) (inner : View X) (e : Event) (y : Page) → actor_of e ≡ id → IsExchange stored start s r.releases r.drafts id p expects x drafts inner e y
@@ -186,7 +186,7 @@ module _ {X B : Type 0} (stored : B → Stored) (keeps : Start → Kept X → Ty
       (λ miss. is.none (missing stored keeps tied start tells s r id v there p expects l miss)) in
       let told : last_of k.0 p ≡ last stored keeps tied start tells s r p = (λ i. last_in (k.3 i) (k.4 i) p) ∙ last-told stored keeps tied start tells s r id v there live p in
       let version = ap (λ (y : Version). y.version) told ∙ (r.inv.pages p).stands.last ∙ version-here stored start s p l in
-      let size = ap (λ (y : Version). length y.words) told ∙ (r.inv.pages p).sizes.last in
+      let size = ap (λ (y : Version). length y.words) told ∙ (r.inv.pages p).sizes.last ∙ sym (ap (λ (o : Origin). o.size) (k.3 ∙ (r.heard id v there live).same_start)) in
       (k.0, search (rules, k.1, k.2, told, version, since stored keeps tied start tells s r id v there live p l, older stored keeps tied start tells s r id v there live p l, size))
 
   -- where nobody has the page locked exclusively, the exchange validates the open read and the ties

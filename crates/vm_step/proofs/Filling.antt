@@ -1,4 +1,4 @@
--- Stores of a page's words into a frame of the pass, one after the other: they change the words of that frame alone, and after 64 of them
+-- Stores of a page's words into a frame of the pass, one after the other: they change the words of that frame alone, and after as many as a page has
 -- these are the page's.
 use Rattle.std.proofs.lemmas.List.{length-append, take_all}
 use Rattle.vm_rule.specs.declared.view.Place.TheVariants as places
@@ -75,12 +75,12 @@ module _ {X : Type 0} (f : ℕ) where
       fills-contents (i + 1) xs s.0 w s.2 ∙ ap (written (i + 1) xs) here
 
   -- the frame has a page's words from the first store on
-  fills-size : (xs : List ℕ) (v w : View X) → length xs ≡ 64 → Stores f 0 xs v w → length (contents_at v f) ≡ 64
-  fills-size [] v w long s = absurd (omega (arith, long))
-  fills-size (x ∷ xs) v w long s = let t : FillTold f 0 x v s.0 = s.1 in t.size
+  fills-size : (xs : List ℕ) (v w : View X) → 0 < length xs → Stores f 0 xs v w → length (contents_at v f) ≡ v.start.size
+  fills-size [] v w some s = absurd (omega (arith, some))
+  fills-size (x ∷ xs) v w some s = let t : FillTold f 0 x v s.0 = s.1 in t.size
 
-  pub filled : (xs : List ℕ) (v w : View X) → length xs ≡ 64 → Stores f 0 xs v w → contents_at w f ≡ xs
-  filled xs v w long s = fills-contents 0 xs v w s ∙ (written-over 0 xs [] (contents_at v f) refl (fills-size xs v w long s ∙ sym long))
+  pub filled : (xs : List ℕ) (v w : View X) → length xs ≡ v.start.size → 0 < length xs → Stores f 0 xs v w → contents_at w f ≡ xs
+  filled xs v w long some s = fills-contents 0 xs v w s ∙ (written-over 0 xs [] (contents_at v f) refl (fills-size xs v w some s ∙ sym long))
 
 -- each word was stored
 stored-at : (f i : ℕ) (xs : List ℕ) (k : ℕ) → k < length xs → HasWritten (stores-did f i xs) (places.Content f (i + k)) (slice_index xs k)
@@ -93,9 +93,9 @@ stored-at f i (x ∷ xs) (suc k) l =
     subst (λ (n : ℕ). HasWritten (stores-did f i (x ∷ xs)) (places.Content f n) (slice_index xs k)) moved
     (written-behind (did_store (places.Content f i) x ∷ []) (stores-did f (i + 1) xs) (places.Content f (i + 1 + k)) (slice_index xs k) (stored-at f (i + 1) xs k (omega (arith, l))))
 
-pub all-stored : (f : ℕ) (xs : List ℕ) (k : ℕ) → length xs ≡ 64 → k < 64 → HasWritten (stores-did f 0 xs) (places.Content f k) (slice_index xs k)
-all-stored f xs k long l =
-    subst (λ (n : ℕ). HasWritten (stores-did f 0 xs) (places.Content f n) (slice_index xs k)) (omega arith) (stored-at f 0 xs k (omega (arith, long, l)))
+pub all-stored : (f : ℕ) (xs : List ℕ) (k : ℕ) → k < length xs → HasWritten (stores-did f 0 xs) (places.Content f k) (slice_index xs k)
+all-stored f xs k l =
+    subst (λ (n : ℕ). HasWritten (stores-did f 0 xs) (places.Content f n) (slice_index xs k)) (omega arith) (stored-at f 0 xs k l)
 
 -- past the last word all of them were stored
 pub stored-whole : {X : Type 0} (f n : ℕ) (xs : List ℕ) (v w : View X) → length xs ≤ n → Stores f 0 (take n xs) v w → Stores f 0 xs v w

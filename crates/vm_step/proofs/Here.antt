@@ -52,8 +52,8 @@ module _ {X B : Type 0} (stored : B → Stored) (keeps : Start → Kept X → Ty
     pub version-told : (p : ℕ) → p < start.pages → (last_in v.start (r.releases ++ []) p).version ≡ version_of (slice_index s.words p)
     version-told p l = ap (λ (x : Version). x.version) (last-told p) ∙ (r.inv.pages p).stands.last ∙ version-here stored start s p l
 
-    pub size-told : (p : ℕ) → length (last_in v.start (r.releases ++ []) p).words ≡ 64
-    size-told p = ap (λ (x : Version). length x.words) (last-told p) ∙ (r.inv.pages p).sizes.last
+    pub size-told : (p : ℕ) → length (last_in v.start (r.releases ++ []) p).words ≡ v.start.size
+    size-told p = ap (λ (x : Version). length x.words) (last-told p) ∙ (r.inv.pages p).sizes.last ∙ sym (ap (λ (o : Origin). o.size) (r.heard id v there live).same_start)
 
     -- the word agrees with those that the pass saw before
     pub since : (p : ℕ) → p < start.pages → IsSinceAll p (slice_index s.words p) v.log

@@ -25,7 +25,7 @@ module _ {X B : Type 0} (stored : B → Stored) (keeps : Start → Kept X → Ty
       → (free → is_pending t.views p ≡ false)
       → ((q : ℕ) → has q w.pending ≡ true → (is_pending t.views q ≡ true) × (drafts q ≡ draft_of w q))
       → ((q : ℕ) → q < start.pages → IsLocking (seat_of w q) → has q w.pending ≡ false → is_pending t.views q ≡ false)
-      → ((q : ℕ) → shown.core.next ≤ q → q < start.pages → logical shown.histories (is_pending t.views) q ≡ replicate 64 0)
+      → ((q : ℕ) → shown.core.next ≤ q → q < start.pages → logical shown.histories (is_pending t.views) q ≡ replicate start.size 0)
       → (IsAlone w → known_word_at w places.Next ≡ shown.core.next)
       → IsKeptNow keeps p free w
   kept-now p free l same holds none members others zero next = record {
@@ -40,6 +40,6 @@ module _ {X B : Type 0} (stored : B → Stored) (keeps : Start → Kept X → Ty
         ∙ draft-is start w.releases drafts q
         ∙ (members q e).1;
     held = λ q inside locks e. let l' : q < start.pages = subst (λ (o : Origin). q < o.pages) same inside in shown-last q l' same (others q l' locks e);
-    zero = λ q le inside. let l' : q < start.pages = subst (λ (o : Origin). q < o.pages) same inside in page-listed start.pages _ q l' ∙ zero q le l';
+    zero = λ q le inside. let l' : q < start.pages = subst (λ (o : Origin). q < o.pages) same inside in page-listed start.pages _ q l' ∙ zero q le l' ∙ ap (λ (o : Origin). replicate o.size 0) (sym same);
     next = next;
   }

@@ -7,7 +7,7 @@ use Rattle.vm_step.proofs.Prelude.{stands_in, Start, Stored, sym, Table, true, t
 
 module _ {X B : Type 0} (stored : B → Stored) (keeps : Start → Kept X → Type 0) (tied : Start → ℕ → List ℕ → ℕ → List ℕ → Type 0) (start : Origin) (tells : Bool) (s : Table (Option B) (View X)) (r : Ruled stored keeps tied start tells s) (id : ℕ) (v : View X) (there : get_elem? s.views id ≡ some v) (live : v.live ≡ true) where
   -- past the last page stands a page that is always the same
-  outside : (p : ℕ) → start.pages ≤ p → (core_shown stored start s).pages p ≡ outside_page
+  outside : (p : ℕ) → start.pages ≤ p → (core_shown stored start s).pages p ≡ outside_page start.size
   unfolding pages_from
   outside p le = rw (le-ltb p start.pages le) refl
 

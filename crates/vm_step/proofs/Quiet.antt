@@ -32,7 +32,7 @@ module _ {X B : Type 0} (stored : B → Stored) (keeps : Start → Kept X → Ty
   pub record HasLed : Type 0 where
     pub world : world_of stored start (r.releases ++ []) drafts new ≡ later
     pub pending : is_pending (slice_set s.views id after) ≡ is_pending s.views
-    pub zero : start.tells ≡ true → (q : ℕ) → (core_shown stored start new).next ≤ q → q < start.pages → (histories_of start (r.releases ++ []) drafts q).last.words ≡ replicate 64 0
+    pub zero : start.tells ≡ true → (q : ℕ) → (core_shown stored start new).next ≤ q → q < start.pages → (histories_of start (r.releases ++ []) drafts q).last.words ≡ replicate start.size 0
     pub members : (q : ℕ) → has q inner.pending ≡ true
         → ((seat_of v q).exclusive ≡ true) × (start.tells ≡ true → (core_shown stored start new).next ≤ q → drafts q ≡ (histories_of start (r.releases ++ []) drafts q).last.words)
     pub kept : kept_of (world_of stored start (r.releases ++ []) drafts new) (r.history ++ entries) (slice_set s.views id after)

@@ -10,7 +10,7 @@ use Rattle.vm_step.proofs.Prelude.{Each, entries_of, Entry, entry_of, eq-eqb, eq
 use Rattle.vm_step.proofs.Prelude.{has-without_other, has-without_same, held_at, histories_of, History, index_of, inl, inr, is_pending, IsClaimed, IsFirst}
 use Rattle.vm_step.proofs.Prelude.{IsLater, IsMember, IsNotOut, IsOwned, IsSome, IsToldOf, Kept, known, KnowsPages, last-is, last_in, last_of, Legal, length}
 use Rattle.vm_step.proofs.Prelude.{List, locked-here, Mapping, MAX_VERSION, may_call, MayDowngrade, MayEvict, MayGiveUp, nat_tests, ne_eqb, next_after, no_held}
-use Rattle.vm_step.proofs.Prelude.{None, on_page, Option, or_cases, or_right, Origin, Page, put, put_at, refl, release-else, release-here, release-step}
+use Rattle.vm_step.proofs.Prelude.{None, on_page, Option, or_cases, or_right, Origin, Page, put, put_at, refl, replicate, release-else, release-here, release-step}
 use Rattle.vm_step.proofs.Prelude.{release_of, released_view, ReleaseE, releasee-step, Ruled, Seat, seat-here, seat_of, seen, slice_set, Some, some, Start}
 use Rattle.vm_step.proofs.Prelude.{State, state_of, Stored, subst, sym, Table, true, true≢false, UNLOCKED, upd, upd-other, upd-same, Version, version_of, View}
 use Rattle.vm_step.proofs.Prelude.{width, without, without-none, word-state, word-version, word_of, World, world_after, world_of, wrote, ℕ, ⊎_elim, ◌++◌, ◌+◌}
@@ -179,7 +179,7 @@ module _ {X B : Type 0} {stored : B → Stored} {keeps : Start → Kept X → Ty
   -- where a page was not claimed, as far as the table's next word goes, its draft is its last words
   pub unclaimed : (q : ℕ) → q < start.pages → (seat_of rel.v q).exclusive ≡ true → IsClaimed rel.v q → start.tells ≡ true → old.core.next ≤ q → draft_of rel.v q ≡ (old.histories q).last.words
   unclaimed q l owns (inl same) t le = same ∙ last-known q owns
-  unclaimed q l owns (inr (inl written)) t le = absurd (written (last-known q owns ∙ rel.r.zero t q le l))
+  unclaimed q l owns (inr (inl written)) t le = absurd (written (last-known q owns ∙ rel.r.zero t q le l ∙ ap (λ (o : Origin). replicate o.size 0) (sym (rel.r.heard rel.id rel.v rel.there rel.live).same_start)))
   unclaimed q l owns (inr (inr (inl (inr known)))) t le =
       absurd (omega (arith, ⊎_elim (λ given. found-below old rel.v.log known.0 mine.words given) (λ written. written-below old rel.v.log known.0 mine.words written) known.1, known.2, le))
   unclaimed q l owns (inr (inr (inl (inl early)))) t le =

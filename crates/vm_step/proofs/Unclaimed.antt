@@ -11,7 +11,7 @@ module _ {X B : Type 0} (stored : B → Stored) (keeps : Start → Kept X → Ty
   pub draft-unclaimed : start.tells ≡ true → (j : ℕ) (u : View X) (q : ℕ) → get_elem? s.views j ≡ some u → has q u.pending ≡ true → world.core.next ≤ q → (world.histories q).draft ≡ (world.histories q).last.words
   draft-unclaimed t j u q there e le = ((r.known j u there (⊎_elim (λ on. on) (λ off. absurd (false≢true (ap (λ (y : View X). has q y.pending) (sym (r.parts.spent j u there off)) ∙ e))) (cases_Bool u.live))).pending q e).1 t le
 
-  pub logical-zero : start.tells ≡ true → (q : ℕ) → world.core.next ≤ q → q < start.pages → logical world.histories (is_pending s.views) q ≡ replicate 64 0
+  pub logical-zero : start.tells ≡ true → (q : ℕ) → world.core.next ≤ q → q < start.pages → logical world.histories (is_pending s.views) q ≡ replicate start.size 0
   logical-zero t q le l =
       ⊎_elim
       (λ e. let k = any-true (λ (u : View X). has q u.pending) s.views e in logical-draft world.histories (is_pending s.views) q e ∙ draft-unclaimed t k.0 k.1 q k.2 k.3 le ∙ r.zero t q le l)

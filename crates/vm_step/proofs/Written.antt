@@ -1,12 +1,20 @@
 -- One word of the table is written: the number that stands there then, and what of the table it leaves.
+use Rattle.vm_page.proofs.Sizes.{room}
 use Rattle.vm_rule.specs.declared.view.Place.TheVariants as places
 use Rattle.vm_step.proofs.Prelude.{ap, ArePlain, arith, Did, did_load, each-upd, get_or-set_same, index_of, IsFoundAt, length, length-set, List, Mapping}
 use Rattle.vm_step.proofs.Prelude.{mapping_of, Option, Origin, Place, refl, rules, slice_index, slice_set, Some, subst, sym, table_words, trans_word, upd}
-use Rattle.vm_step.proofs.Prelude.{width, with_word, Within, Words, words-written, ℕ, ◌<◌, ◌∙◌, ◌≡◌}
+use Rattle.vm_step.proofs.Prelude.{width, with_word, Within, Words, words-written, ℕ, ◌*◌, ◌+◌, ◌<◌, ◌∙◌, ◌≡◌}
 
 -- the place is one of the table's words
 pub index-below : (start : Origin) (w : Place) → Within start w → index_of start w < width start
-index-below start w l = grind arith
+index-below start (places.State p) l = omega (arith, l)
+index-below start (places.Translation p) l = omega (arith, l)
+index-below start (places.Fault p) l = omega (arith, l)
+index-below start (places.Content f i) l = let among : start.size * f + i < start.size * start.frames = room start.size f start.frames i l.0 l.1 in omega arith
+index-below start (places.Bundle g) l = omega (arith, l)
+index-below start places.Next l = omega arith
+index-below start places.Hand l = omega arith
+index-below start (places.Owner f) l = omega (arith, l)
 
 -- the number that was written stands there
 pub stands-there : (start : Origin) (words : List ℕ) (w : Place) (x : ℕ) → length words ≡ width start → Within start w → x ≡ slice_index (slice_set words (index_of start w) x) (index_of start w)

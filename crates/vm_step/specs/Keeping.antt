@@ -1,6 +1,6 @@
 -- What a step tells of the layer above: at the step it keeps its relation, and its history is the one that the pass has seen then.
 use Rattle.std.specs.Prelude.{◌<◌, ◌≡◌, ◌≤◌, false, length, replicate, true, ℕ}
-use Rattle.vm_core.specs.Prelude.{page_at, WORDS}
+use Rattle.vm_core.specs.Prelude.{page_at}
 use Rattle.vm_rule.specs.{declared.view.View.View, Prelude.began_of, Prelude.draft_of, Prelude.has, Prelude.IsLocking, Prelude.Kept, Prelude.last_of}
 use Rattle.vm_rule.specs.{Prelude.seat_of, Prelude.Start}
 use Rattle.vm_rule.specs.declared.view.Place.TheVariants as places
@@ -19,5 +19,5 @@ module _ {X : Type 0} where
     -- each other page that the pass has locked or shared, with its last words
     pub held : (q : ℕ) → q < w.start.pages → IsLocking (seat_of w q) → has q w.pending ≡ false → page_at kept.pages q ≡ (last_of w q).words
     -- pages that were never claimed have words of zeros; a pass that is alone knows the next one
-    pub zero : (q : ℕ) → kept.next ≤ q → q < w.start.pages → page_at kept.pages q ≡ replicate WORDS 0
+    pub zero : (q : ℕ) → kept.next ≤ q → q < w.start.pages → page_at kept.pages q ≡ replicate w.start.size 0
     pub next : IsAlone w → known_word_at w places.Next ≡ kept.next

@@ -1,7 +1,6 @@
 -- One operation on a word of the table, by a pass that has no slot out: what the table is asked, and what the operation tells. Each kind of step
 -- says the second for itself: of the number found (at a store, the number stored), of the pass's view before, and of its view afterwards.
 use Rattle.std.specs.Prelude.{[], ◌+◌, ◌<◌, ◌≡◌, ◌≤◌, Bool, length, true, ℕ}
-use Rattle.vm_core.specs.Prelude.{WORDS}
 use Rattle.vm_rule.specs.{declared.view.Origin.Origin, declared.view.Place.Place, declared.view.Place.TheVariants.Content, declared.view.Shape.Shape}
 use Rattle.vm_rule.specs.{declared.view.View.View, Prelude.Allows, Prelude.HasShape, Prelude.index_of, Prelude.Me, Prelude.Sound, Prelude.Step, Prelude.Table}
 
@@ -42,4 +41,4 @@ IsPlacedAt shape place i = (start : Origin) → HasShape shape start → index_o
 -- the words of frame f begin here, and stand among so many words
 pub record IsFrameAt (shape : Shape) (all f first : ℕ) : Type 0 where
   pub place : IsPlacedAt shape (Content f 0) first
-  pub inside : first + WORDS ≤ all
+  pub inside : first + shape.size ≤ all

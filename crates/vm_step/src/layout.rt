@@ -1,12 +1,11 @@
 // Where a word stands among the words of a table: those of the pages, the frames and the bundles, the next word, the hand's word, and the owner words.
-ghost use Rattle.std.specs.Prelude.{◌*◌, ◌+◌, ◌<◌};
+ghost use Rattle.std.specs.Prelude.{◌*◌, ◌+◌, ◌<◌, ◌≡◌, ◌≤◌};
 ghost use Rattle.vm_rule.specs.declared.view.Place.TheVariants as places;
 ghost use Rattle.vm_step.specs.Prelude.{IsFrameAt, IsPlacedAt};
 
 use vm_block::Block;
 use vm_core::FRAMES;
 use vm_owner::Owner;
-use vm_page::WORDS;
 use vm_rule::words::Words;
 
 /// The place of a page's state word.
@@ -36,21 +35,29 @@ pub(crate) fn fault_place<U: Owner, B: Block>(words: &Words<U, B>, p: u32) -> us
     2 * words.pages + p as usize
 }
 
+/// How many words so many pages have.
+fn words_of_pages(size: usize, pages: usize) -> usize
+    requires { (size ≤ 512) × (pages ≤ 65536) }
+    ensures is { result ≡ size * pages }
+    ensures few { result ≤ 33554432 }
+{
+    size * pages
+}
+
 /// The place of a frame's first word, worked out once for many steps on the frame's words.
 pub fn frame_place<U: Owner, B: Block>(words: &Words<U, B>, f: u32) -> usize
     requires frame { f < words.now.table.shared.key.frames }
     ensures { IsFrameAt words.now.table.shared.key words.now.table.shared.table_id.words f result }
 {
-    3 * words.pages + WORDS * f as usize
+    3 * words.pages + words_of_pages(words.size.words, f as usize)
 }
 
-/// The place of a word of a frame.
-pub(crate) fn content_place<U: Owner, B: Block>(words: &Words<U, B>, f: u32, i: usize) -> usize
-    requires frame { (f < words.now.table.shared.key.frames) × (i < WORDS) }
-    ensures place { IsPlacedAt words.now.table.shared.key (places.Content f i) result }
-    ensures inside { result < words.now.table.shared.table_id.words }
+/// The place behind the words of all frames.
+fn behind_frames<U: Owner, B: Block>(words: &Words<U, B>) -> usize
+    ensures place { result ≡ 3 * words.now.table.shared.key.pages + words.now.table.shared.key.size * words.now.table.shared.key.frames }
+    ensures small { result ≤ 33751040 }
 {
-    3 * words.pages + (WORDS * f as usize + i)
+    3 * words.pages + words_of_pages(words.size.words, words.frames)
 }
 
 /// The place of a bundle's word.
@@ -59,7 +66,7 @@ pub(crate) fn bundle_place<U: Owner, B: Block>(words: &Words<U, B>, g: u32) -> u
     ensures place { IsPlacedAt words.now.table.shared.key (places.Bundle g) result }
     ensures inside { result < words.now.table.shared.table_id.words }
 {
-    3 * words.pages + WORDS * words.frames + g as usize
+    behind_frames(words) + g as usize
 }
 
 /// The place of the next word.
@@ -67,7 +74,7 @@ pub(crate) fn next_place<U: Owner, B: Block>(words: &Words<U, B>) -> usize
     ensures place { IsPlacedAt words.now.table.shared.key places.Next result }
     ensures inside { result < words.now.table.shared.table_id.words }
 {
-    3 * words.pages + WORDS * words.frames + words.frames.div_ceil(FRAMES)
+    behind_frames(words) + words.frames.div_ceil(FRAMES)
 }
 
 /// The place of the hand's word, behind the next word.
@@ -75,7 +82,7 @@ pub(crate) fn hand_place<U: Owner, B: Block>(words: &Words<U, B>) -> usize
     ensures place { IsPlacedAt words.now.table.shared.key places.Hand result }
     ensures inside { result < words.now.table.shared.table_id.words }
 {
-    3 * words.pages + WORDS * words.frames + words.frames.div_ceil(FRAMES) + 1
+    behind_frames(words) + words.frames.div_ceil(FRAMES) + 1
 }
 
 /// The place of a frame's owner word.
@@ -84,5 +91,5 @@ pub(crate) fn owner_place<U: Owner, B: Block>(words: &Words<U, B>, f: u32) -> us
     ensures place { IsPlacedAt words.now.table.shared.key (places.Owner f) result }
     ensures inside { result < words.now.table.shared.table_id.words }
 {
-    3 * words.pages + WORDS * words.frames + words.frames.div_ceil(FRAMES) + 2 + f as usize
+    behind_frames(words) + words.frames.div_ceil(FRAMES) + 2 + f as usize
 }

@@ -17,7 +17,7 @@ pub use choice::{Candidates, Looks};
 pub use kinds::block::{block_home, block_out};
 pub use kinds::bundle::{bload, give, take};
 pub use kinds::catch_up::catch_up;
-pub use kinds::content::{fill, load, load_at, store};
+pub use kinds::content::{blank, fill, load, load_at, store, store_at};
 pub use kinds::hand::hand;
 pub use kinds::lock::lock_exclusive;
 pub use kinds::look::{look, look_silently};

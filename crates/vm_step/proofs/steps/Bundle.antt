@@ -91,7 +91,7 @@ module _ {X B : Type 0} (stored : B → Stored) (keeps : Start → Kept X → Ty
         record {
           words = old.core.words;
           brings = k.2;
-          size = r.inv.words;
+          size = λ f. r.inv.words f ∙ sym (ap (λ (o : Origin). o.size) (r.heard id v there live).same_start);
           inside = λ hit f e. subst (λ (o : Origin). f < o.frames) (sym (r.heard id v there live).same_start) (free hit f e).0;
           new = λ hit f e. sym (held-here stored start s id f v there) ∙ (free hit f e).1 id;
         },

@@ -81,7 +81,7 @@ module _ {X B : Type 0} (stored : B → Stored) (keeps : Start → Kept X → Ty
   stands-drafted p f d =
       ap (λ t. stands_in t f) (stands-known stored keeps tied start tells s r id v there live p (record { frame = f; dirty = true }) d.owns d.stands).1 ∙ eq-eqb f f refl
 
-  pub store-legal : (p f i x : ℕ) → f < start.frames → i < 64 → Drafts v p f → Legal (core_shown stored start s) (Store id f i x)
+  pub store-legal : (p f i x : ℕ) → f < start.frames → i < start.size → Drafts v p f → Legal (core_shown stored start s) (Store id f i x)
   store-legal p f i x lf li d =
       let known = stands-known stored keeps tied start tells s r id v there live p (record { frame = f; dirty = true }) d.owns d.stands in
       record {
@@ -91,7 +91,7 @@ module _ {X B : Type 0} (stored : B → Stored) (keeps : Start → Kept X → Ty
         owns = inr (p, known.0, record { owns = ap (λ (y : Seat). y.exclusive) (seat-here stored start s id p v known.0 there) ∙ d.owns; stands = known.1 });
       }
 
-  pub store-shows : (p f i x : ℕ) → f < start.frames → i < 64 → Drafts v p f
+  pub store-shows : (p f i x : ℕ) → f < start.frames → i < start.size → Drafts v p f
       → Shows stored keeps tied start tells s r id v (slice_set s.words (index_of start (places.Content f i)) x) (upd r.drafts p (slice_set (r.drafts p) i x)) [] [] (did_store (places.Content f i) x) (drafted_view p i x v) (Store id f i x)
   store-shows p f i x lf li d =
       let words : List ℕ = slice_set s.words (index_of start (places.Content f i)) x in
@@ -130,10 +130,10 @@ module _ {X B : Type 0} (stored : B → Stored) (keeps : Start → Kept X → Ty
       true≢false (sym (stands-drafted p f d)
       ∙ stands-nowhere (world_of stored start r.releases r.drafts s) f id p r.inv (held-here stored start s id f v there ∙ owns))
 
-  pub fill-legal : (f i x : ℕ) → f < start.frames → i < 64 → has f v.frames ≡ true → Legal (core_shown stored start s) (Store id f i x)
+  pub fill-legal : (f i x : ℕ) → f < start.frames → i < start.size → has f v.frames ≡ true → Legal (core_shown stored start s) (Store id f i x)
   fill-legal f i x lf li owns = record { actor = at-bound s.views id v there; frame = lf; place = li; owns = inl (held-here stored start s id f v there ∙ owns) }
 
-  pub fill-shows : (f i x : ℕ) → f < start.frames → i < 64 → has f v.frames ≡ true
+  pub fill-shows : (f i x : ℕ) → f < start.frames → i < start.size → has f v.frames ≡ true
       → Shows stored keeps tied start tells s r id v (slice_set s.words (index_of start (places.Content f i)) x) r.drafts [] [] (did_store (places.Content f i) x) (filled_view f i x v) (Store id f i x)
   fill-shows f i x lf li owns =
       let words : List ℕ = slice_set s.words (index_of start (places.Content f i)) x in
@@ -157,15 +157,16 @@ module _ {X B : Type 0} (stored : B → Stored) (keeps : Start → Kept X → Ty
 
 module _ {X B : Type 0} (stored : B → Stored) (keeps : Start → Kept X → Type 0) (tied : Start → ℕ → List ℕ → ℕ → List ℕ → Type 0) (tells : Bool) where
   -- a load keeps the rule of every table and tells what it is to tell
-  pub load-allows : (shape : Shape) (slots id : ℕ) (v : View X) (i : ℕ) (p f j : ℕ) → v.live ≡ true → 0 < length v.used → p < shape.pages → f < shape.frames → j < 64 → frame_read_by v p ≡ Some f → IsPlacedAt shape (places.Content f j) i
+  pub load-allows : (shape : Shape) (slots id : ℕ) (v : View X) (i : ℕ) (p f j : ℕ) → v.live ≡ true → 0 < length v.used → p < shape.pages → f < shape.frames → j < shape.size → frame_read_by v p ≡ Some f → IsPlacedAt shape (places.Content f j) i
       → AllowsStep (Stands stored keeps tied shape tells) slots id v i (λ n. n) (told_of shape tells (LoadTold p f j))
-  load-allows shape slots id v i p f j live number l' lf' lj by is =
+  load-allows shape slots id v i p f j live number l' lf' lj' by is =
       allows-load stored keeps tied shape tells slots id v i (places.Content f j) (LoadTold p f j) live is (λ n w t. fit t.brings live number)
       (λ start has s r there.
       let l : p < start.pages = subst (λ n. p < n) (sym has.pages) l' in
       let lf : f < start.frames = subst (λ n. f < n) (sym has.frames) lf' in
+      let lj : j < start.size = subst (λ n. j < n) (sym has.size) lj' in
       let core : State = core_shown stored start s in
-      let found : ℕ = slice_index s.words (3 * start.pages + (64 * f + j)) in
+      let found : ℕ = slice_index s.words (3 * start.pages + (start.size * f + j)) in
       let did : Did = did_load (places.Content f j) found in
       let inner : View X = loaded_view p j found v in
       let known = r.known id v there live in
@@ -211,20 +212,21 @@ module _ {X B : Type 0} (stored : B → Stored) (keeps : Start → Kept X → Ty
       ))
 
   -- a store into the frame of a page, or into a frame of the pass, keeps the rule of every table and tells what it is to tell
-  pub store-allows : (shape : Shape) (slots id : ℕ) (v : View X) (i : ℕ) (f j x : ℕ) → v.live ≡ true → 0 < length v.used → f < shape.frames → j < 64 → PassMayStore v f → IsPlacedAt shape (places.Content f j) i
+  pub store-allows : (shape : Shape) (slots id : ℕ) (v : View X) (i : ℕ) (f j x : ℕ) → v.live ≡ true → 0 < length v.used → f < shape.frames → j < shape.size → PassMayStore v f → IsPlacedAt shape (places.Content f j) i
       → AllowsStep (Stands stored keeps tied shape tells) slots id v i (λ _. x) (told_of shape tells (λ _. StoresTold f j x))
-  store-allows shape slots id v i f j x live number lf' lj may is =
+  store-allows shape slots id v i f j x live number lf' lj' may is =
       allows stored keeps tied shape tells slots id v i (places.Content f j) (λ _. x) (λ _. x) (λ _. StoresTold f j x) live is (λ _. refl)
       (λ _ w t. ⊎_elim (λ owns. fit (t.own owns).brings live number) (λ d. fit (t.page d.0 d.1).brings live number) may)
       (λ start shaped s r there _.
       let lf : f < start.frames = subst (λ n. f < n) (sym shaped.frames) lf' in
+      let lj : j < start.size = subst (λ n. j < n) (sym shaped.size) lj' in
       let words : List ℕ = slice_set s.words (index_of start (places.Content f j)) x in
       let did : Did = did_store (places.Content f j) x in
       let apart : (q : ℕ) → has f v.frames ≡ true → Drafts v q f → ⊥ = (λ q. no-draft stored keeps tied start tells s r id v there live q f) in
       ⊎_elim
       (λ owns.
       let k = steps stored keeps tied start tells s r id v words r.drafts [] [] did (filled_view f j x v) (Store id f j x) there live number refl refl (fill-shows stored keeps tied start tells s r id v there live f j x lf lj owns) in
-      (_, k.0, record { own = λ _. record { brings = k.1; size = ap length ((r.known id v there live).contents f owns) ∙ r.inv.words f }; page = λ q e. absurd (apart q owns e) }))
+      (_, k.0, record { own = λ _. record { brings = k.1; size = ap length ((r.known id v there live).contents f owns) ∙ r.inv.words f ∙ sym (ap (λ (o : Origin). o.size) (r.heard id v there live).same_start) }; page = λ q e. absurd (apart q owns e) }))
       (λ (d : (p : ℕ) × Drafts v p f).
       let p : ℕ = d.0 in
       let w : View X = after_step stored keeps tied start tells s r words [] [] did (drafted_view p j x v) in

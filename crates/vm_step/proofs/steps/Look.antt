@@ -211,7 +211,7 @@ module _ {X B : Type 0} (stored : B → Stored) (keeps : Start → Kept X → Ty
             (λ proves. inl
             (subst (λ words. may_read (began_of start) p words (entries_of v said)) (sym (page-kept stored keeps tied start tells s r p l (not-pending stored keeps tied start tells s r p l free)))
             (subst (λ (o : Origin). may_read (began_of o) p (old.histories p).last.words (entries_of v said)) same_start
-            (proves (ap (λ (o : Origin). o.tells) same_start ∙ t) k.0 k.1 (old.histories p).last.words (r.inv.pages p).sizes.last
+            (proves (ap (λ (o : Origin). o.tells) same_start ∙ t) k.0 k.1 (old.histories p).last.words ((r.inv.pages p).sizes.last ∙ sym (ap (λ (o : Origin). o.size) same_start))
             (read-valid stored keeps tied start tells s r id v there live p l t free k.0 k.1 (k.2 ∙ sym (version-here stored start s p l)))
             (tied-itself stored keeps tied start tells s r id v there live ties p l t free)
             (each-map _ _ (λ d h e n. h e (n ∙ k.2 ∙ sym (version-here stored start s p l))) v.ties (ties-hold stored keeps tied start tells s r id v there live p l t free))))))

@@ -172,7 +172,7 @@ module _ {X B : Type 0} (stored : B → Stored) (keeps : Start → Kept X → Ty
           let told : ClearTold p f v w = record {
             words = core.words f;
             brings = brings;
-            size = r.inv.words f;
+            size = r.inv.words f ∙ sym (ap (λ (o : Origin). o.size) (r.heard id v there live).same_start);
             stood = λ t. ((r.inv.pages p).contents (sym (ap (λ (o : Origin). o.tells) (r.heard id v there live).same_start) ∙ t)).clean (clean_in f) clear-known.1 refl ∙ sym ((known.knows p).calls calls).2;
             inside = subst (λ (o : Origin). f < o.frames) (sym (r.heard id v there live).same_start) (frame-inside stored keeps tied start tells s r p (clean_in f) clear-known.1);
             new = false_from_ne_true (has f v.frames) (λ mine. true≢false (sym (ap (λ o. stands_in o f) clear-known.1 ∙ eq-eqb f f refl) ∙ stands-nowhere old f id p r.inv (held-here stored start s id f v there ∙ mine)));

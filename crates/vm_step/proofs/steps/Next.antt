@@ -16,7 +16,7 @@ use Rattle.vm_step.proofs.Prelude.{ClaimTold, core-still, core_shown, Did, did_e
 use Rattle.vm_step.proofs.Prelude.{false≢true, FindsAt, FollowIsItsEvent, fun_ext, get_elem?, has, if◌then◌else◌, index_of, inl, inr, is_owed, is_pending}
 use Rattle.vm_step.proofs.Prelude.{IsEvent, IsPassOf, IsPlacedAt, IsSome, Kept, kept_of, KnowsPage, KnowsPages, last_in, Legal, length, List, lost-claim}
 use Rattle.vm_step.proofs.Prelude.{may_call, next-here, next_view, NextStepTold, NextTold, NLoad, NloadIsItsEvent, no_held, None, numbers, Option, or_cases}
-use Rattle.vm_step.proofs.Prelude.{Origin, PassMayClaim, Place, put_at, refl, Ruled, Seat, seat-here, seat_of, Seen, set_here, Shape, Shows, slice_index}
+use Rattle.vm_step.proofs.Prelude.{Origin, PassMayClaim, Place, put_at, refl, replicate, Ruled, Seat, seat-here, seat_of, Seen, set_here, Shape, Shows, slice_index}
 use Rattle.vm_step.proofs.Prelude.{slice_set, Some, some, Stands, Start, State, steps, Stored, subst, sym, Table, table_after, told_of, true, true≢false}
 use Rattle.vm_step.proofs.Prelude.{Version, View, WasNext, WereWords, World, world-still, world_after, world_of, ℕ, ⊎_elim, ◌++◌, ◌+◌, ◌<◌, ◌||◌, ◌∙◌, ◌∷◌, ◌≡◌}
 use Rattle.vm_step.proofs.Prelude.{◌≤◌, ◌⊎◌}
@@ -53,7 +53,8 @@ module _ {X B : Type 0} (stored : B → Stored) (keeps : Start → Kept X → Ty
         let same = (r.heard id v there live).same_start in
         (λ i. (last_in (start_is i) (releases_are i) p).words)
         ∙ ap (λ (x : Version). x.words) (last-told stored keeps tied start tells s r id v there live p)
-        ∙ r.zero (ap (λ (o : Origin). o.tells) (sym same) ∙ t) p (subst (λ n. n ≤ p) (sym next-is-found) le) (subst (λ (o : Origin). p < o.pages) same l);
+        ∙ r.zero (ap (λ (o : Origin). o.tells) (sym same) ∙ t) p (subst (λ n. n ≤ p) (sym next-is-found) le) (subst (λ (o : Origin). p < o.pages) same l)
+        ∙ ap (λ (o : Origin). replicate o.size 0) (sym (start_is ∙ same));
     -- the word is no lower than those that the pass saw before
     since =
         each-map (WereWords (world stored keeps tied start tells s r)) (λ (d : Did). at_next d.at (WasNext next_found d.found × WasNext next_found d.wrote))
@@ -152,7 +153,7 @@ module _ {X B : Type 0} (stored : B → Stored) (keeps : Start → Kept X → Ty
         zero = λ p i low high.
             let from : x ≤ p = (let is = finds in omega (arith, is, low)) in
             let below : p < x + n = (let is = finds in omega (arith, is, high)) in
-            ap (λ l. slice_index l i) (page-kept stored keeps tied start tells s r p (within p below) (not-member p from below) ∙ r.zero t p low (within p below)) ∙ all-zeros 64 i;
+            ap (λ l. slice_index l i) (page-kept stored keeps tied start tells s r p (within p below) (not-member p from below) ∙ r.zero t p low (within p below)) ∙ all-zeros start.size i;
       }
 
       -- ---- the pages that are owed afterwards

@@ -161,7 +161,7 @@ module _ {X B : Type 0} (stored : B → Stored) (keeps : Start → Kept X → Ty
         ∙ sym (ap (λ (y : Page). record y { seats = upd y.seats other no_seat }) (page-in start.pages (table_words start s.words) (block_of stored s.homes s.views) (seats_of s.views) p l)))
         (λ le.
         page-out start.pages (table_words start s.words) (block_of stored s.homes both') (seats_of both') p le
-        ∙ sym (ap (λ (y : Page). record y { seats = upd y.seats other no_seat }) (page-out start.pages (table_words start s.words) (block_of stored s.homes s.views) (seats_of s.views) p le) ∙ (λ i. record outside_page { seats = (upd-self (λ (_ : ℕ). no_seat) other) i })))
+        ∙ sym (ap (λ (y : Page). record y { seats = upd y.seats other no_seat }) (page-out start.pages (table_words start s.words) (block_of stored s.homes s.views) (seats_of s.views) p le) ∙ (λ i. record (outside_page start.size) { seats = (upd-self (λ (_ : ℕ). no_seat) other) i })))
         (cases_lt p start.pages))
 
     held-taken : frames_held both' ≡ upd (upd (frames_held s.views) id (λ f. frames_held s.views other f || frames_held s.views id f)) other (λ f. false)

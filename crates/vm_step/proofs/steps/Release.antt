@@ -108,7 +108,7 @@ module _ {X B : Type 0} {stored : B → Stored} {keeps : Start → Kept X → Ty
     entry = entries-one rel.v rel.said;
     mine = refl;
     next_versions = (ap (λ n. n + 1) (next-version rel), tt);
-    zero = λ t. at-page (λ q. (core_shown stored start (new rel)).next ≤ q → q < start.pages → (h' q).last.words ≡ replicate 64 0) rel.p
+    zero = λ t. at-page (λ q. (core_shown stored start (new rel)).next ≤ q → q < start.pages → (h' q).last.words ≡ replicate start.size 0) rel.p
         (λ le l. let early = subst (λ n. n ≤ rel.p) (next-is rel) le in last-here rel ∙ unwritten rel t early ∙ rel.r.zero t rel.p early rel.inside)
         (λ q ne le l. ap (λ (y : History). y.last.words) (history-else rel q ne) ∙ rel.r.zero t q (subst (λ n. n ≤ q) (next-is rel) le) l);
     knows = at-page (λ q. KnowsPage (seat_of (inner rel) q) (put_at no_held rel.v.held q) ((core_shown stored start (new rel)).pages q)) rel.p
@@ -138,7 +138,7 @@ module _ {X B : Type 0} {stored : B → Stored} {keeps : Start → Kept X → Ty
   -- a page that was never claimed has logical words of zeros after it
   release-zero : Shows stored keeps tied start tells rel.s rel.r rel.id rel.v (words rel) rel.r.drafts (own rel ∷ []) (entries_of rel.v rel.said) (did_store (places.State rel.p) (word rel)) (inner rel) (event rel)
       → start.tells ≡ true → (q : ℕ) → (core_shown stored start (new rel)).next ≤ q → q < start.pages
-      → logical (histories_of start (releases rel) rel.r.drafts) (is_pending (slice_set rel.s.views rel.id (left rel))) q ≡ replicate 64 0
+      → logical (histories_of start (releases rel) rel.r.drafts) (is_pending (slice_set rel.s.views rel.id (left rel))) q ≡ replicate start.size 0
   release-zero shows t q le l =
       let early : (old rel).core.next ≤ q = subst (λ n. n ≤ q) (next-is rel) le in
       ⊎_elim

@@ -1,6 +1,6 @@
 -- A look at a page's state word: what may be said at it, what it tells, and its event. `LookTold` stands in vm_rule/specs/Looks.
 use Rattle.std.specs.Prelude.{◌≡◌, ◌⊎◌, Bool, length, List, None, Option, Some, true, ℕ}
-use Rattle.vm_core.specs.{declared.event.Event.TheVariants.Look, declared.event.ReadIs.TheVariants.Same, Prelude.LoadsAre, Prelude.WORDS}
+use Rattle.vm_core.specs.{declared.event.Event.TheVariants.Look, declared.event.ReadIs.TheVariants.Same, Prelude.LoadsAre}
 use Rattle.vm_core.specs.declared.event.Seen.TheVariants as sights
 use Rattle.vm_rule.specs.{declared.view.Origin.Origin, declared.view.View.View}
 use Rattle.vm_rule.specs.Prelude.{began_of, Each, entries_of, Entry, Kept, left_at, loads_at, LookTold, Open, seat_of, Start, Stored, Table}
@@ -12,7 +12,7 @@ module _ {X : Type 0} where
   abbrev pub MayTell : (Start → ℕ → List ℕ → ℕ → List ℕ → Type 0) → (Start → ℕ → List ℕ → List (Entry X) → Type 0) → ℕ → Option X → View X → Type 0
   MayTell tied may_read p said v =
       (said ≡ None)
-      ⊎ (v.start.tells ≡ true → (o : Open) → (seat_of v p).reading ≡ Some o → (words : List ℕ) → length words ≡ WORDS → LoadsAre words (loads_at v p)
+      ⊎ (v.start.tells ≡ true → (o : Open) → (seat_of v p).reading ≡ Some o → (words : List ℕ) → length words ≡ v.start.size → LoadsAre words (loads_at v p)
       → tied (began_of v.start) p words p words
       → Each (λ t. t.page ≡ p → t.version ≡ o.version → tied (began_of v.start) t.of t.words p words) v.ties
       → may_read (began_of v.start) p words (entries_of v said))

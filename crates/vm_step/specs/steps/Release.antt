@@ -1,7 +1,7 @@
 -- A release of a page that is locked exclusively, as Unlocked, as Evicted or to a share: when it may be released, what each tells, and their events.
 -- `ReleaseTold`, `EvictTold` and `DowngradeTold` stand in vm_rule/specs/Releases.
 use Rattle.std.specs.Prelude.{[], ◌+◌, ◌<◌, ◌∷◌, ◌≡◌, ◌≢◌, ◌≤◌, ◌⊎◌, Bool, false, IsSome, length, List, None, Option, replicate, slice_set, true, ℕ}
-use Rattle.vm_core.specs.Prelude.{EVICTED, MAX_VERSION, word_of, WORDS}
+use Rattle.vm_core.specs.Prelude.{EVICTED, MAX_VERSION, word_of}
 use Rattle.vm_core.specs.declared.event.Event.TheVariants.{Downgrade, Release, ReleaseE}
 use Rattle.vm_core.specs.declared.event.Seen.TheVariants as sights
 use Rattle.vm_rule.specs.Prelude.{AreApart, AreUnchanged, began_of, Change, changes_of, DowngradeTold, draft_of, Each, entries_of, Entry, EvictTold}
@@ -18,7 +18,7 @@ module _ {X : Type 0} where
 
   -- the page was claimed, as far as the pass can know, where its words are not those that it had
   abbrev pub IsClaimed : View X → ℕ → Type 0
-  IsClaimed v q = (draft_of v q ≡ (last_of v q).words) ⊎ (((last_of v q).words ≢ replicate WORDS 0) ⊎ (IsBelowNext v q ⊎ (has q v.owed ≡ true)))
+  IsClaimed v q = (draft_of v q ≡ (last_of v q).words) ⊎ (((last_of v q).words ≢ replicate v.start.size 0) ⊎ (IsBelowNext v q ⊎ (has q v.owed ≡ true)))
 
   -- a member of a group that is not released yet in part
   pub record IsMember (v : View X) (q : ℕ) : Type 0 where

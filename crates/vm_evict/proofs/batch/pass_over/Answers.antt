@@ -1,3 +1,4 @@
+use Rattle.std.proofs.Common.{rules}
 use Rattle.vm_evict.proofs.Gathering.{each-at}
 use Rattle.vm_evict.proofs.Passing.{back-more, front-more, passed-more, passed-none}
 use Rattle.vm_evict.proofs.Prelude.{arith, length, length-set, refl, view, ◌∙◌}
@@ -12,9 +13,6 @@ loop-i-init g c = record {
   front = λ j b. absurd (omega (arith, b));
   back = λ j le b. c.requires.begins j b;
 }
-
-pub advance-requires-clause-at : goal.advance-requires-clause-at
-advance-requires-clause-at g c = (c.requires.way.0, _, (c.loop-i.invariant.passed c.requires.way.0 c.requires.way.1 c.requires.way.2).after.each c.loop-i.i c.loop-i-test.true)
 
 pub loop-i-preserved : goal.loop-i-preserved
 loop-i-preserved g c =
@@ -32,12 +30,6 @@ loop-i-preserved g c =
       back = back-more c.args.phase c.loop-i.stages c.loop-i.i c.advance.result (length c.args.list.now) inv.back;
     }
 
-pub advance-requires-clause-home : goal.advance-requires-clause-home
-advance-requires-clause-home g c = (c.loop-i.invariant.passed c.requires.way.0 c.requires.way.1 c.requires.way.2).after.home
-
-pub advance-requires-clause-begins : goal.advance-requires-clause-begins
-advance-requires-clause-begins g c = c.loop-i.invariant.back c.loop-i.i (omega arith) c.loop-i-test.true
-
 pub returns-clause-passed : goal.returns-clause-passed
 returns-clause-passed g c = c.loop-i.invariant.passed
 
@@ -47,11 +39,19 @@ returns-clause-way g c = (c.requires.way.0, _, (c.loop-i.invariant.passed c.requ
 pub returns-clause-ends : goal.returns-clause-ends
 returns-clause-ends g c = λ j b. c.loop-i.invariant.front j (omega (arith, b, c.loop-i-test.false))
 
-pub advance-requires-clause-candidate : goal.advance-requires-clause-candidate
-advance-requires-clause-candidate g c = each-at _ c.args.list.now c.loop-i.i c.loop-i-test.true c.requires.list.each
-
 pub bounds-stages-i : goal.bounds-stages-i
 bounds-stages-i g c = omega (arith, c.loop-i-test.true, c.requires.few)
 
 pub bounds-stages-i-in-loop-i : goal.bounds-stages-i-in-loop-i
 bounds-stages-i-in-loop-i g c = omega (arith, c.loop-i-test.true, c.requires.few)
+
+pub advance-requires : goal.advance-requires
+advance-requires g c = record {
+  ready = search rules;
+  sized = c.requires.sized;
+  size = c.requires.size;
+  candidate = each-at _ c.args.list.now c.loop-i.i c.loop-i-test.true c.requires.list.each;
+  home = (c.loop-i.invariant.passed c.requires.way.0 c.requires.way.1 c.requires.way.2).after.home;
+  begins = c.loop-i.invariant.back c.loop-i.i (omega arith) c.loop-i-test.true;
+  at = (c.requires.way.0, _, (c.loop-i.invariant.passed c.requires.way.0 c.requires.way.1 c.requires.way.2).after.each c.loop-i.i c.loop-i-test.true);
+}

@@ -1,3 +1,4 @@
+use Rattle.std.proofs.Common.{rules}
 use Rattle.vm_evict.specs.declared.candidate.Phase.TheVariants as phases
 use Rattle.vm_evict.specs.declared.candidate.Stage.TheVariants as stages
 use Rattle.vm_evict.proofs.Moving.{at-stage, begins-waiting, comes-from, empty-leaves, leave-leaves, lock-leaves, raise-leaves, skips}
@@ -34,9 +35,6 @@ returns-in-Emptied-clause-moved g c v done h =
 pub returns-in_default-stage-3-clause-moved : goal.returns-in_default-stage-3-clause-moved
 returns-in_default-stage-3-clause-moved g c v done h = skips c.args.phase c.args.c c.args.stage done v (view c.args.pass.now) c.requires.begins h phases.Leave c.in-Leave.is (leave-leaves c.args.stage c.in_default-stage-3.not-Emptied)
 
-pub save_page-requires-clause-at : goal.save_page-requires-clause-at
-save_page-requires-clause-at g c = at-stage c.args.c c.args.stage _ (view c.args.pass.now) (begins-waiting c.args.stage (subst (λ (k : Phase). MayBeginPhase k c.args.stage) c.in-Save.is c.requires.begins)) c.requires.at
-
 pub lock_clean-requires-clause-at : goal.lock_clean-requires-clause-at
 lock_clean-requires-clause-at g c = at-stage c.args.c c.args.stage _ (view c.args.pass.now) c.in-Clean.is c.requires.at
 
@@ -52,3 +50,13 @@ leave_page-requires-clause-at g c = at-stage c.args.c c.args.stage _ (view c.arg
 pub returns-in-Clean-clause-moved : goal.returns-in-Clean-clause-moved
 returns-in-Clean-clause-moved g c v done h =
     comes-from c.args.phase phases.Lock c.args.c c.args.stage stages.Clean c.lock_clean.result done v (view c.args.pass.now) (view c.lock_clean.new.pass) c.in-Lock.is c.in-Clean.is (c.lock_clean.ensures.moved v done) h
+
+pub save_page-requires : goal.save_page-requires
+save_page-requires g c = record {
+  ready = search rules;
+  sized = c.requires.sized;
+  size = c.requires.size;
+  candidate = search rules;
+  home = search rules;
+  at = at-stage c.args.c c.args.stage _ (view c.args.pass.now) (begins-waiting c.args.stage (subst (λ (k : Phase). MayBeginPhase k c.args.stage) c.in-Save.is c.requires.begins)) c.requires.at;
+}

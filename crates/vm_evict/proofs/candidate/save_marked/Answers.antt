@@ -1,3 +1,4 @@
+use Rattle.std.proofs.Common.{rules}
 use Rattle.vm_evict.specs.declared.candidate.Phase.TheVariants as phases
 use Rattle.vm_evict.specs.declared.candidate.Stage.TheVariants as stages
 use Rattle.vm_evict.proofs.{Moving.advances-after, Moving.gives-nothing, Saving.failed-so, Saving.written-so}
@@ -10,9 +11,6 @@ pub returns-in-Lost-clause-moved : goal.returns-in-Lost-clause-moved
 returns-in-Lost-clause-moved g c v done h why =
     lost-so phases.Save stages.Waiting c.args.p c.args.word c.in-Lost.field-0 _ done v (view c.args.pass.now) _ (view c.lock_write_back.new.pass) h (c.lock_write_back.ensures.lost c.in-Lost.field-0 c.in-Lost.is) c.in-Lost.ensures.told.brings (shares c.in-Lost.field-0 refl)
     tt (gives-nothing refl refl refl) (λ k. k)
-
-pub write_where_dirty-requires-clause-legal : goal.write_where_dirty-requires-clause-legal
-write_where_dirty-requires-clause-legal g c = under-write-back c.in_default.ensures.told c.requires.home
 
 pub unlock_shared-requires-clause-legal : goal.unlock_shared-requires-clause-legal
 unlock_shared-requires-clause-legal g c =
@@ -37,3 +35,12 @@ returns-in-Err-clause-moved g c v done h why =
 
 pub returns-in-Err-clause-pass : goal.returns-in-Err-clause-pass
 returns-in-Err-clause-pass g c = both-then (both-then c.lock_write_back.ensures.pass c.write_where_dirty.ensures.pass) c.unlock_shared.ensures.pass
+
+pub write_where_dirty-requires : goal.write_where_dirty-requires
+write_where_dirty-requires g c = record {
+  ready = c.lock_write_back.ensures.ready;
+  page = search rules;
+  sized = c.requires.sized;
+  size = c.requires.size;
+  legal = under-write-back c.in_default.ensures.told c.requires.home;
+}

@@ -1,3 +1,4 @@
+use Rattle.std.proofs.Common.{rules}
 use Rattle.vm_evict.specs.declared.candidate.Stage.TheVariants as stages
 use Rattle.vm_evict.proofs.{candidate.save_page.Goals.else-seen-word-via-else-seen-word}
 use Rattle.vm_evict.proofs.{candidate.save_page.Goals.else-seen-word-via-then-seen-word+else-is_none, FlushVisits.not-dirty, Moving.advances-after}
@@ -8,19 +9,6 @@ use Rattle.vm_evict.proofs.candidate.save_page.Goals as goal
 
 pub returns-then-is_none-clause-moved : goal.returns-then-is_none-clause-moved
 returns-then-is_none-clause-moved g c v done h = clean-so g.U.Owner.tied c.args.p c.args.word c.look_silently-seen.result c.tload.result done v (view c.args.pass.now) (view c.look_silently-seen.new.pass) (view c.tload.new.pass) h c.look_silently-seen.ensures.told c.tload.ensures.told c.if-seen-word.true c.requires.candidate.marked (not-dirty _ _ c.dirty_frame-dirty.ensures c.if-is_none.ensures)
-
-pub save_marked-requires-clause-at : goal.save_marked-requires-clause-at
-save_marked-requires-clause-at g c = (
-  c.requires.at.0,
-  _,
-  waits-on g.U.Owner.tied c.args.p c.args.word c.look_silently-seen.result c.tload.result c.requires.at.1 c.requires.at.0 (view c.args.pass.now) (view c.look_silently-seen.new.pass) (view c.tload.new.pass) c.requires.at.2 c.look_silently-seen.ensures.told c.tload.ensures.told,
-  elim c.else-seen-word.branch [
-    | else-seen-word-via-then-seen-word+else-is_none w ↦
-        shares-dirty g.U.Owner.tied c.args.p c.args.word c.look_silently-seen.result c.tload.result c.requires.at.1 c.requires.at.0 (view c.args.pass.now) (view c.look_silently-seen.new.pass) (view c.tload.new.pass) c.requires.at.2 c.look_silently-seen.ensures.told c.tload.ensures.told _ c.dirty_frame-dirty.ensures w.if-is_none.ensures
-    | else-seen-word-via-else-seen-word w ↦
-        shares-another g.U.Owner.tied c.args.p c.args.word c.look_silently-seen.result c.tload.result c.requires.at.1 c.requires.at.0 (view c.args.pass.now) (view c.look_silently-seen.new.pass) (view c.tload.new.pass) c.requires.at.2 c.look_silently-seen.ensures.told c.tload.ensures.told w.if-seen-word.false
-  ],
-)
 
 pub returns-else-seen-word-clause-moved : goal.returns-else-seen-word-clause-moved
 returns-else-seen-word-clause-moved g c v done h =
@@ -36,8 +24,15 @@ returns-else-seen-word-clause-moved g c v done h =
           shares-another g.U.Owner.tied c.args.p c.args.word c.look_silently-seen.result c.tload.result done v (view c.args.pass.now) (view c.look_silently-seen.new.pass) (view c.tload.new.pass) h c.look_silently-seen.ensures.told c.tload.ensures.told w.if-seen-word.false
     ]))
 
-pub save_marked-requires-clause-home : goal.save_marked-requires-clause-home
-save_marked-requires-clause-home g c = ap (λ (x : View _). x.out) c.tload.ensures.told.brings.view ∙ ap (λ (x : View _). x.out) c.look_silently-seen.ensures.told.brings.view ∙ c.requires.home
-
 pub returns-else-seen-word-clause-pass : goal.returns-else-seen-word-clause-pass
 returns-else-seen-word-clause-pass g c = both-then (both-then c.look_silently-seen.ensures.pass c.tload.ensures.pass) c.save_marked.ensures.pass
+
+pub save_marked-requires : goal.save_marked-requires
+save_marked-requires g c = record {
+  ready = c.tload.ensures.ready;
+  sized = c.requires.sized;
+  size = c.requires.size;
+  candidate = search rules;
+  home = ap (λ (x : View _). x.out) c.tload.ensures.told.brings.view ∙ ap (λ (x : View _). x.out) c.look_silently-seen.ensures.told.brings.view ∙ c.requires.home;
+  at = (c.requires.at.0, _, waits-on g.U.Owner.tied c.args.p c.args.word c.look_silently-seen.result c.tload.result c.requires.at.1 c.requires.at.0 (view c.args.pass.now) (view c.look_silently-seen.new.pass) (view c.tload.new.pass) c.requires.at.2 c.look_silently-seen.ensures.told c.tload.ensures.told, elim c.else-seen-word.branch [ else-seen-word-via-then-seen-word+else-is_none w ↦ shares-dirty g.U.Owner.tied c.args.p c.args.word c.look_silently-seen.result c.tload.result c.requires.at.1 c.requires.at.0 (view c.args.pass.now) (view c.look_silently-seen.new.pass) (view c.tload.new.pass) c.requires.at.2 c.look_silently-seen.ensures.told c.tload.ensures.told _ c.dirty_frame-dirty.ensures w.if-is_none.ensures | else-seen-word-via-else-seen-word w ↦ shares-another g.U.Owner.tied c.args.p c.args.word c.look_silently-seen.result c.tload.result c.requires.at.1 c.requires.at.0 (view c.args.pass.now) (view c.look_silently-seen.new.pass) (view c.tload.new.pass) c.requires.at.2 c.look_silently-seen.ensures.told c.tload.ensures.told w.if-seen-word.false ]);
+}

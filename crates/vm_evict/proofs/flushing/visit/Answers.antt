@@ -1,3 +1,4 @@
+use Rattle.std.proofs.Common.{rules}
 use Rattle.vm_evict.proofs.FlushVisits.{by-look-gone, by-look-held}
 use Rattle.vm_evict.proofs.Prelude.{ap, arith, held-state, inl, inr, subst, sym, view, View, ⊎_elim, ◌<◌, ◌∙◌}
 use Rattle.vm_evict.proofs.Answering.{both-then}
@@ -13,12 +14,6 @@ pub returns-else-state-2-clause-visited : goal.returns-else-state-2-clause-visit
 returns-else-state-2-clause-visited g c =
     by-look-gone c.args.p g.U.Owner.tied _ _ _ c.look_silently-word.ensures.told c.args.flushed.now (subst (λ n. c.args.p < n) (sym c.requires.ready.table.is_shape.pages) c.requires.page) (sym c.state-state.ensures ∙ c.if-state-2.false)
 
-pub visit_unheld-requires-clause-home : goal.visit_unheld-requires-clause-home
-visit_unheld-requires-clause-home g c = ap (λ (x : View _). x.out) c.look_silently-word.ensures.told.brings.view ∙ c.requires.home
-
-pub visit_unheld-requires-clause-looked : goal.visit_unheld-requires-clause-looked
-visit_unheld-requires-clause-looked g c = (view c.args.pass.now, c.look_silently-word.ensures.told)
-
 pub overflow_add-flushed : goal.overflow_add-flushed
 overflow_add-flushed g c = omega (arith, c.requires.counts)
 
@@ -28,5 +23,14 @@ returns-then-state-clause-visited g c = c.visit_unheld.ensures.visited (view c.a
 pub returns-then-state-clause-pass : goal.returns-then-state-clause-pass
 returns-then-state-clause-pass g c = both-then c.look_silently-word.ensures.pass c.visit_unheld.ensures.pass
 
-pub visit_unheld-requires-clause-unheld : goal.visit_unheld-requires-clause-unheld
-visit_unheld-requires-clause-unheld g c = ⊎_elim (λ e. inl (sym c.state-state.ensures ∙ e)) (λ e. inr (sym c.state-state.ensures ∙ e.1)) c.if-state.either
+pub visit_unheld-requires : goal.visit_unheld-requires
+visit_unheld-requires g c = record {
+  ready = c.look_silently-word.ensures.ready;
+  sized = c.requires.sized;
+  size = c.requires.size;
+  home = ap (λ (x : View _). x.out) c.look_silently-word.ensures.told.brings.view ∙ c.requires.home;
+  page = search rules;
+  counts = search rules;
+  unheld = ⊎_elim (λ e. inl (sym c.state-state.ensures ∙ e)) (λ e. inr (sym c.state-state.ensures ∙ e.1)) c.if-state.either;
+  looked = (view c.args.pass.now, c.look_silently-word.ensures.told);
+}

@@ -1,3 +1,4 @@
+use Rattle.std.proofs.Common.{rules}
 -- What the steps tell, in the order of the visit: the page that the look is at is one of the table.
 use Rattle.vm_evict.proofs.FlushVisits.{by-load-clean, by-lock-lost, by-mark-lost, by-write, dirty-there, home-front, not-dirty, page-before}
 use Rattle.vm_evict.proofs.Answering.{both-then}
@@ -18,12 +19,6 @@ returns-in-Lost-clause-visited g c v look =
 
 pub lock_write_back-requires-clause-legal : goal.lock_write_back-requires-clause-legal
 lock_write_back-requires-clause-legal g c = ap state_of c.of-marked.ensures ∙ word-state MARKED c.version.result (subst (λ (n : ℕ). n ≤ MAX_VERSION) (sym c.version.ensures) (version-within c.args.word))
-
-pub write_where_dirty-wrote-requires-clause-legal : goal.write_where_dirty-wrote-requires-clause-legal
-write_where_dirty-wrote-requires-clause-legal g c =
-    let page = page-before c.args.p g.U.Owner.tied _ _ _ c.requires.looked.1 c.args.flushed.now (subst (λ n. c.args.p < n) (sym c.requires.ready.table.is_shape.pages) c.requires.page) in
-    under-write-back c.in-Taken.ensures.told
-    (home-front c.args.p g.U.Owner.tied _ _ _ c.requires.looked.1 c.args.flushed.now page _ _ c.tload.ensures.told c.requires.unheld (dirty-there _ _ c.dirty_frame.ensures c.if-is_none.ensures) _ c.in_default.ensures.marks c.requires.home)
 
 pub unlock_shared-requires-clause-legal : goal.unlock_shared-requires-clause-legal
 unlock_shared-requires-clause-legal g c =
@@ -56,3 +51,12 @@ returns-in-Lost-lock_write_back-clause-pass g c = both-then (both-then c.tload.e
 
 pub returns-in-Taken-clause-pass : goal.returns-in-Taken-clause-pass
 returns-in-Taken-clause-pass g c = both-then (both-then (both-then (both-then c.tload.ensures.pass c.mark_page.ensures.pass) c.lock_write_back.ensures.pass) c.write_where_dirty-wrote.ensures.pass) c.unlock_shared.ensures.pass
+
+pub write_where_dirty-wrote-requires : goal.write_where_dirty-wrote-requires
+write_where_dirty-wrote-requires g c = record {
+  ready = c.lock_write_back.ensures.ready;
+  page = search rules;
+  sized = c.requires.sized;
+  size = c.requires.size;
+  legal = let page = page-before c.args.p g.U.Owner.tied _ _ _ c.requires.looked.1 c.args.flushed.now (subst (λ n. c.args.p < n) (sym c.requires.ready.table.is_shape.pages) c.requires.page) in under-write-back c.in-Taken.ensures.told (home-front c.args.p g.U.Owner.tied _ _ _ c.requires.looked.1 c.args.flushed.now page _ _ c.tload.ensures.told c.requires.unheld (dirty-there _ _ c.dirty_frame.ensures c.if-is_none.ensures) _ c.in_default.ensures.marks c.requires.home);
+}

@@ -1,3 +1,4 @@
+use Rattle.std.proofs.Common.{rules}
 use Rattle.vm_fault.proofs.Ending.{found, found-same, lost, worn-in, worn-out}
 use Rattle.vm_fault.proofs.Prelude.{ap, arith, EVICTED, inr, has, IsFetched, MAX_VERSION, refl, state_of, subst, sym, version-within, version_of, view}
 use Rattle.vm_fault.proofs.Prelude.{word-state, word-version, word_of, ℕ, ◌<◌, ◌∙◌, ◌≡◌, ◌≢◌, ◌≤◌}
@@ -37,21 +38,6 @@ lock_exclusive-requires-clause-legal g c =
       version = subst (λ (k : ℕ). k < MAX_VERSION) (sym (ap version_of c.of-first.ensures ∙ word-version EVICTED c.version-version.result n)) (below c.look_silently-word.result _ c.version-version.ensures c.if-version-eq-MAX_VERSION.false);
     }
 
-pub bring_locked-requires-clause-frame : goal.bring_locked-requires-clause-frame
-bring_locked-requires-clause-frame g c = (
-  c.requires.frame.0,
-  ap (has c.args.frame) (found-same g.U.Owner.tied c.args.pid c.look_silently-word.result _ _ c.look_silently-word.ensures.told _ _ c.in-Taken.ensures.told).0 ∙ c.requires.frame.1,
-)
-
-pub bring_locked-requires-clause-home : goal.bring_locked-requires-clause-home
-bring_locked-requires-clause-home g c = (found-same g.U.Owner.tied c.args.pid c.look_silently-word.result _ _ c.look_silently-word.ensures.told _ _ c.in-Taken.ensures.told).1 ∙ c.requires.home
-
-pub bring_locked-requires-clause-locked : goal.bring_locked-requires-clause-locked
-bring_locked-requires-clause-locked g c = (view c.args.pass.now, found g.U.Owner.tied c.args.pid c.look_silently-word.result _ _ c.look_silently-word.ensures.told _ _ _ c.of-first.ensures c.in-Taken.ensures.told)
-
-pub bring_locked-requires-clause-below : goal.bring_locked-requires-clause-below
-bring_locked-requires-clause-below g c = below c.look_silently-word.result _ c.version-version.ensures c.if-version-eq-MAX_VERSION.false
-
 pub returns-in-Lost-clause-fetched : goal.returns-in-Lost-clause-fetched
 returns-in-Lost-clause-fetched g c =
     let n : c.version-version.result ≤ MAX_VERSION = within c.look_silently-word.result _ c.version-version.ensures in
@@ -62,3 +48,15 @@ pub returns-in-Taken-clause-fetched : goal.returns-in-Taken-clause-fetched
 returns-in-Taken-clause-fetched g c =
     c.bring_locked.ensures.fetched (view c.args.pass.now)
     (found g.U.Owner.tied c.args.pid c.look_silently-word.result _ _ c.look_silently-word.ensures.told _ _ _ c.of-first.ensures c.in-Taken.ensures.told)
+
+pub bring_locked-requires : goal.bring_locked-requires
+bring_locked-requires g c = record {
+  ready = search rules;
+  sized = c.requires.sized;
+  size = c.requires.size;
+  page = search rules;
+  frame = (c.requires.frame.0, ap (has c.args.frame) (found-same g.U.Owner.tied c.args.pid c.look_silently-word.result _ _ c.look_silently-word.ensures.told _ _ c.in-Taken.ensures.told).0 ∙ c.requires.frame.1);
+  home = (found-same g.U.Owner.tied c.args.pid c.look_silently-word.result _ _ c.look_silently-word.ensures.told _ _ c.in-Taken.ensures.told).1 ∙ c.requires.home;
+  below = below c.look_silently-word.result _ c.version-version.ensures c.if-version-eq-MAX_VERSION.false;
+  locked = (view c.args.pass.now, found g.U.Owner.tied c.args.pid c.look_silently-word.result _ _ c.look_silently-word.ensures.told _ _ _ c.of-first.ensures c.in-Taken.ensures.told);
+}

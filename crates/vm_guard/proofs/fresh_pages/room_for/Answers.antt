@@ -1,4 +1,4 @@
-use Rattle.vm_guard.proofs.Prelude.{arith, IsFull, refl, subst, view, ℕ, ◌+◌, ◌<◌, ◌≡◌, ◌≤◌}
+use Rattle.vm_guard.proofs.Prelude.{arith, refl, view, ◌+◌, ◌<◌, ◌≡◌, ◌≤◌}
 use Rattle.vm_guard.proofs.fresh_pages.room_for.Goals as goal
 
 pub returns-then-pages-next-clause-full : goal.returns-then-pages-next-clause-full

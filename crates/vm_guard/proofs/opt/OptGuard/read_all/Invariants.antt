@@ -7,7 +7,7 @@ abbrev pub invariant-loop-turn : goal.invariant-loop-turn
 invariant-loop-turn g l = record {
   same : IsSamePass l.fn.pass l.pass;
   ready : IsReady l.words.table.shared.key g.B.Block.tells l.words.table.shared.table_id l.pass;
-  size : length l.into ≡ 64;
+  size : length l.into ≡ g.row.N;
   loads : Loads l.self.pid l.self.word l.self.frame (placed 0 (take (8 * l.turn) l.into)) (view l.fn.pass) (view l.pass);
   words : LoadsWords (take (8 * l.turn) l.into) (view l.fn.pass) (view l.pass);
 }
@@ -17,7 +17,7 @@ abbrev pub invariant-loop-k : goal.invariant-loop-k
 invariant-loop-k g l = record {
   same : IsSamePass l.fn.pass l.pass;
   ready : IsReady l.words.table.shared.key g.B.Block.tells l.words.table.shared.table_id l.pass;
-  size : length l.into ≡ 64;
+  size : length l.into ≡ g.row.N;
   loads : Loads l.self.pid l.self.word l.self.frame (placed 0 (take (8 * l.turn + l.k) l.into)) (view l.fn.pass) (view l.pass);
   words : LoadsWords (take (8 * l.turn + l.k) l.into) (view l.fn.pass) (view l.pass);
 }

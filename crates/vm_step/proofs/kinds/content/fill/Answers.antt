@@ -3,27 +3,27 @@ use Rattle.vm_step.proofs.Prelude.{[], ap, arith, FillTold, has, inl, length, le
 use Rattle.vm_step.proofs.Prelude.{◌<◌, ◌∙◌, ◌∷◌, ◌≡◌}
 use Rattle.vm_step.proofs.kinds.content.fill.Goals as goal
 
-pub store-requires-clause-pass : goal.store-requires-clause-pass
-store-requires-clause-pass g c = c.loop-i.invariant.ready.may
+pub store_at-requires-clause-pass : goal.store_at-requires-clause-pass
+store_at-requires-clause-pass g c = c.loop-i.invariant.ready.may
 
-pub store-requires-clause-legal : goal.store-requires-clause-legal
-store-requires-clause-legal g c =
+pub store_at-requires-clause-legal : goal.store_at-requires-clause-legal
+store_at-requires-clause-legal g c =
     inl (ap (has c.args.frame) (fills _ 0 0 _ _ _ c.loop-i.invariant.stores).frames ∙ c.requires.frame.1)
 
 pub loop-i-preserved : goal.loop-i-preserved
 loop-i-preserved g c =
     let i : ℕ = c.loop-i.i in
     let page : List ℕ = c.args.page.now in
-    let below : i < 64 = c.loop-i-test.true in
-    let long : length page ≡ 64 = c.requires.size in
+    let below : i < g.row.N = c.loop-i-test.true in
+    let long : length page ≡ g.row.N = c.requires.size.1 in
     let front : 0 + length (take i page) ≡ i = let h : length (take i page) ≡ i = length-take-le i page (omega (arith, below, long)) in omega (arith, h) in
     let more : take (i + 1) page ≡ take i page ++ c.get.result ∷ [] = take_more page i 0 (omega (arith, below, long)) ∙ ap (λ (x : ℕ). take i page ++ x ∷ []) (sym c.get.ensures.word) in
     let holds = ap (has c.args.frame) (fills _ 0 0 _ _ _ c.loop-i.invariant.stores).frames ∙ c.requires.frame.1 in
-    let there : FillTold c.args.frame (0 + length (take i page)) c.get.result (view c.loop-i.pass) (view c.store.new.pass)
-    = subst (λ (n : ℕ). FillTold c.args.frame n c.get.result (view c.loop-i.pass) (view c.store.new.pass)) (sym front) (c.store.ensures.told.own holds) in
+    let there : FillTold c.args.frame (0 + length (take i page)) c.get.result (view c.loop-i.pass) (view c.store_at.new.pass)
+    = subst (λ (n : ℕ). FillTold c.args.frame n c.get.result (view c.loop-i.pass) (view c.store_at.new.pass)) (sym front) (c.store_at.ensures.told.own holds) in
     record {
-      ready = c.store.ensures.ready;
-      same = (c.store.ensures.pass.0 ∙ c.loop-i.invariant.same.0, c.store.ensures.pass.1 ∙ c.loop-i.invariant.same.1);
+      ready = c.store_at.ensures.ready;
+      same = (c.store_at.ensures.pass.0 ∙ c.loop-i.invariant.same.0, c.store_at.ensures.pass.1 ∙ c.loop-i.invariant.same.1);
       stores = rw more (stores-more c.args.frame 0 (take i page) c.get.result _ _ _ c.loop-i.invariant.stores there);
     }
 
@@ -33,11 +33,8 @@ returns-clause-ready g c = c.loop-i.invariant.ready
 pub loop-i-init : goal.loop-i-init
 loop-i-init g c = record { ready = c.requires.ready; same = (refl, refl); stores = refl }
 
-pub get-requires : goal.get-requires
-get-requires g c = c.loop-i-test.true
-
-pub store-requires-clause-frame : goal.store-requires-clause-frame
-store-requires-clause-frame g c = (c.requires.frame.0, c.loop-i-test.true)
+pub store_at-requires-clause-frame : goal.store_at-requires-clause-frame
+store_at-requires-clause-frame g c = (c.requires.frame.0, subst (λ (n : ℕ). c.loop-i.i < n) c.requires.size.0 c.loop-i-test.true)
 
 pub loop-i-smaller : goal.loop-i-smaller
 loop-i-smaller g c = omega (arith, c.loop-i-test.true)
@@ -46,4 +43,4 @@ pub returns-clause-pass : goal.returns-clause-pass
 returns-clause-pass g c = c.loop-i.invariant.same
 
 pub returns-clause-stores : goal.returns-clause-stores
-returns-clause-stores g c = stored-whole _ _ _ _ _ (omega (arith, c.requires.size, c.loop-i-test.false)) c.loop-i.invariant.stores
+returns-clause-stores g c = stored-whole _ _ _ _ _ (omega (arith, c.requires.size.1, c.loop-i-test.false)) c.loop-i.invariant.stores
