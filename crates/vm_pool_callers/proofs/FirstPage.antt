@@ -1,5 +1,5 @@
 -- What the first pass of a pool knows after it asked for a page of a pool with two frames: another page has its word, a frame is free still, and a page that
--- was brought can be read.
+-- was brought can be read. And a share of a page, which reads leave.
 use Rattle.vm_rule.specs.declared.view.Place.TheVariants as places
 use Rattle.vm_pool.specs.Known.{KnowsBrought as brought}
 use Rattle.vm_pool.specs.declared.bring.Bring.TheVariants as brings
@@ -9,22 +9,23 @@ use Rattle.vm_pool_callers.proofs.Prelude.{[], ap, AreLowest, arith, at, begun, 
 use Rattle.vm_pool_callers.proofs.Prelude.{Bool, bounds_of, Bring, bundles_of, cases_eq, cases_lt, full_bundle, HasAskedFirst, HasFree, index_of, inl, inr}
 use Rattle.vm_pool_callers.proofs.Prelude.{is_readable, IsAlone, IsBroughtOrFailed, IsBundleOf, IsKnownOut, IsOfBoth, IsOfPage, IsStarted, IsSure, KeepsLocks}
 use Rattle.vm_pool_callers.proofs.Prelude.{known_word_at, KnowsAsked, KnowsBring, KnowsBrought, length, List, MAX_VERSION, min, Origin, refl, started_shape}
+use Rattle.vm_pool_callers.proofs.Prelude.{Did, false, false≢true, Held, held_at, HoldsNoPage, IsQuiet, IsShared, IsSharing, MayUnshare, None, Seat, seat_of, Some, Start}
 use Rattle.vm_pool_callers.proofs.Prelude.{state_of, Stored, subst, suc, sum_below, sum_below-past, sym, true, unborn, version_of, View, zero, ℕ, ⊎_elim, ◌%◌}
 use Rattle.vm_pool_callers.proofs.Prelude.{◌*◌, ◌+◌, ◌-◌, ◌<◌, ◌^◌, ◌∙◌, ◌∷◌, ◌≡◌, ◌≢◌, ◌≤◌}
 
-module _ {X : Type 0} (tells : Bool) (version next frames : ℕ) (blocks : List Stored) (v : View X) (is : v ≡ begun (unborn (started_shape tells version next frames blocks))) where
+module _ {X : Type 0} (size : ℕ) (tells : Bool) (version next frames : ℕ) (blocks : List Stored) (v : View X) (is : v ≡ begun (unborn (started_shape size tells version next frames blocks))) where
   pub sure-on : (p : ℕ) (u w : View X) (answer : Bring) → u.start ≡ v.start → IsSure p u w answer → IsBroughtOrFailed p (bounds_of blocks) answer
-  sure-on p u w answer same s = ⊎_elim (λ b. inl b) (λ d. inr (d.0, d.1, d.3, subst (λ (o : Origin). d.0 ≤ at 0 o.bounds p) (same ∙ start-is tells version next frames blocks v is) d.4)) s
+  sure-on p u w answer same s = ⊎_elim (λ b. inl b) (λ d. inr (d.0, d.1, d.3, subst (λ (o : Origin). d.0 ≤ at 0 o.bounds p) (same ∙ start-is size tells version next frames blocks v is) d.4)) s
 
   module _ (pages : ℕ) (long : length blocks ≡ pages) (fits : IsStarted version next frames pages) where
     pub first-sure : (p : ℕ) → p < pages → version < MAX_VERSION → (old : List ℕ) (w : View X) (answer : Bring) → (IsAlone v → IsKnownOut p v → HasFree old v → IsSure p v w answer) → IsBroughtOrFailed p (bounds_of blocks) answer
-    first-sure p inside below old w answer sure = sure-on p v w answer refl (sure (first-alone tells version next frames blocks v is) (first-out tells version next frames blocks v is pages long fits p inside below) (first-free tells version next frames blocks v is pages long fits old))
+    first-sure p inside below old w answer sure = sure-on p v w answer refl (sure (first-alone size tells version next frames blocks v is) (first-out size tells version next frames blocks v is pages long fits p inside below) (first-free size tells version next frames blocks v is pages long fits old))
 
     -- by an interface for one frame that had none
     pub has-asked : (p cap : ℕ) (old new : List ℕ) (w : View X) (answer : Bring) → cap ≡ 1 → old ≡ [] → KeepsLocks v w → (IsAlone v → KnowsAsked cap p old new v w answer)
-        → HasAskedFirst p (begun (unborn (started_shape tells version next frames blocks))) new w answer
+        → HasAskedFirst p (begun (unborn (started_shape size tells version next frames blocks))) new w answer
     has-asked p cap old new w answer one none keeps table =
-        let knows : KnowsBring cap p [] new v w answer = subst (λ (l : List ℕ). KnowsBring cap p l new v w answer) none (when-free cap p old new v w answer (first-free tells version next frames blocks v is pages long fits old) (table (first-alone tells version next frames blocks v is))) in
+        let knows : KnowsBring cap p [] new v w answer = subst (λ (l : List ℕ). KnowsBring cap p l new v w answer) none (when-free cap p old new v w answer (first-free size tells version next frames blocks v is pages long fits old) (table (first-alone size tells version next frames blocks v is))) in
         subst (λ (u : View X). HasAskedFirst p u new w answer) is (record { keeps = keeps; knows = subst (λ (n : ℕ). KnowsBring n p [] new v w answer) one knows })
 
 -- ---- two bits of a word
@@ -64,18 +65,18 @@ one-left word mask two low none =
     omega (arith, same, count, two)
 
 -- the state word of another page is no place of the page or of its frame
-not-of-other : (p q f : ℕ) → q ≢ p → IsOfBoth p f (places.State q) → ⊥
-not-of-other p q f ne (inl e) = ne e
-not-of-other p q f ne (inr (inl e)) = subst (IsOfPage q) e refl
-not-of-other p q f ne (inr (inr c)) = subst (IsOfPage q) c.2 refl
+not-of-other : (size p q f : ℕ) → q ≢ p → IsOfBoth size p f (places.State q) → ⊥
+not-of-other size p q f ne (inl e) = ne e
+not-of-other size p q f ne (inr (inl e)) = subst (IsOfPage q) e refl
+not-of-other size p q f ne (inr (inr c)) = subst (IsOfPage q) c.2 refl
 
 module _ {X : Type 0} where
   -- ---- after a page was asked for
 
   -- another page has its word
   pub other-page : (most p q : ℕ) (old new : List ℕ) (v w : View X) (answer : Bring) → q ≢ p → q < v.start.pages → KnowsBring most p old new v w answer → known_word_at w (places.State q) ≡ known_word_at v (places.State q)
-  other-page most p q old new v w brings.Brought ne l (brought.own f is k) = k.others.words (places.State q) l (not-of-other p q f ne)
-  other-page most p q old new v w brings.Brought ne l (brought.taken f g mask none are inside low left k) = k.others.words (places.State q) l (λ t. ⊎_elim (not-of-other p q f ne) (λ (e : places.State q ≡ places.Bundle g). subst (IsOfPage q) e refl) t)
+  other-page most p q old new v w brings.Brought ne l (brought.own f is k) = k.others.words (places.State q) l (not-of-other _ p q f ne)
+  other-page most p q old new v w brings.Brought ne l (brought.taken f g mask none are inside low left k) = k.others.words (places.State q) l (λ t. ⊎_elim (not-of-other _ p q f ne) (λ (e : places.State q ≡ places.Bundle g). subst (IsOfPage q) e refl) t)
   other-page most p q old new v w (brings.Device r count) ne l k = k.1.others.words (places.State q) l (λ t. ⊎_elim ne (λ (b : IsBundleOf v.start (places.State q)). b) t)
   other-page most p q old new v w (brings.Again saw) ne l k = k.1.words (places.State q) l (λ e. e)
   other-page most p q old new v w (brings.Worn r) ne l k = k.1.words (places.State q) l (λ e. e)
@@ -114,29 +115,54 @@ module _ {X : Type 0} where
     still-free (brings.Dry looks) k = absurd k
 
   -- the first pass of a pool with two frames asked for one page: it is alone, the other page is evicted, and a frame is free
-  module _ (tells : Bool) (version next frames : ℕ) (blocks : List Stored) (pages : ℕ) (long : length blocks ≡ pages) (fits : IsStarted version next frames pages) (below : version < MAX_VERSION) (two : 2 ≤ frames)
-      (a b : ℕ) (ne : a ≢ b) (in-a : a < pages) (in-b : b < pages) (new : List ℕ) (w : View X) (answer : Bring) (asked : HasAskedFirst a (begun (unborn (started_shape tells version next frames blocks))) new w answer) where
+  module _ (size : ℕ) (tells : Bool) (version next frames : ℕ) (blocks : List Stored) (pages : ℕ) (long : length blocks ≡ pages) (fits : IsStarted version next frames pages) (below : version < MAX_VERSION) (two : 2 ≤ frames)
+      (a b : ℕ) (ne : a ≢ b) (in-a : a < pages) (in-b : b < pages) (new : List ℕ) (w : View X) (answer : Bring) (asked : HasAskedFirst a (begun (unborn (started_shape size tells version next frames blocks))) new w answer) where
     abbrev first : View X
-    first = begun (unborn (started_shape tells version next frames blocks))
+    first = begun (unborn (started_shape size tells version next frames blocks))
 
     pub again : IsAlone w × IsKnownOut b w × HasFree new w
     again =
-        let there : known_word_at first (places.Bundle 0) ≡ full_bundle frames 0 = bundle-there tells version next frames blocks first refl pages long fits in
+        let there : known_word_at first (places.Bundle 0) ≡ full_bundle frames 0 = bundle-there size tells version next frames blocks first refl pages long fits in
         let some : 0 < bundles_of frames = omega (arith, two) in (
-          keeps-alone asked.keeps (first-alone tells version next frames blocks first refl),
-          still-out 1 a b [] new first w answer (λ e. ne (sym e)) (omega (arith, in-b, long)) (first-out tells version next frames blocks first refl pages long fits b in-b below) asked.knows,
+          keeps-alone asked.keeps (first-alone size tells version next frames blocks first refl),
+          still-out 1 a b [] new first w answer (λ e. ne (sym e)) (omega (arith, in-b, long)) (first-out size tells version next frames blocks first refl pages long fits b in-b below) asked.knows,
           still-free a new first w asked.keeps.start some (subst (λ n. 2 ≤ bit_count n) (sym there) (two-frames frames two)) (λ none. some-frames frames (omega (arith, two)) (sym there ∙ none)) answer asked.knows,
         )
 
     -- it asked for the other page then
     module _ (cap : ℕ) (last : List ℕ) (z : View X) (r : Bring) where
       pub second-sure : (IsAlone w → IsKnownOut b w → HasFree new w → IsSure b w z r) → IsBroughtOrFailed b (bounds_of blocks) r
-      second-sure sure = sure-on tells version next frames blocks first refl b w z r asked.keeps.start (sure again.0 again.1 again.2)
+      second-sure sure = sure-on size tells version next frames blocks first refl b w z r asked.keeps.start (sure again.0 again.1 again.2)
 
       pub reads-first : answer ≡ brings.Brought → KeepsLocks w z → (IsAlone w → KnowsAsked cap b new last w z r) → IsAlone z × (is_readable (state_of (known_word_at z (places.State a))) ≡ true)
       reads-first brought keeps table = (
         keeps-alone keeps again.0,
         ap (λ (n : ℕ). is_readable (state_of n))
             (other-page cap b a new last w z r ne (subst (λ (o : Origin). a < o.pages) (sym asked.keeps.start) (omega (arith, in-a, long))) (when-free cap b new last w z r again.2 (table again.0)))
-            ∙ can-be-read (first-out tells version next frames blocks first refl pages long fits a in-a below).1 (subst (KnowsBring 1 a [] new first w) brought asked.knows),
+            ∙ can-be-read (first-out size tells version next frames blocks first refl pages long fits a in-a below).1 (subst (KnowsBring 1 a [] new first w) brought asked.knows),
       )
+
+-- ---- a share of a page
+
+module _ {X : Type 0} where
+  -- a read of the page leaves it
+  pub still-shares : (p frame : ℕ) (done : List Did) (v w : View X) → IsQuiet p done v w → IsSharing p frame v → IsSharing p frame w
+  still-shares p frame done v w quiet h =
+      let kept : held_at w p ≡ held_at v p = (quiet.knows p (inr h.has_share)).held in
+      record {
+        page = subst (λ (o : Origin). p < o.pages) (sym quiet.steady.start) h.page;
+        frame_is = subst (λ (o : Origin). frame < o.frames) (sym quiet.steady.start) h.frame_is;
+        has_share = subst (λ (n : ℕ). 1 ≤ n) (sym (quiet.holds p).shares) h.has_share;
+        stands = (h.stands.0, ap (λ (x : Held). x.mapping) kept ∙ h.stands.1, h.stands.2);
+      }
+
+  -- it can be given up then, where the pass held no page before it
+  pub can-unshare : (tied : Start → ℕ → List ℕ → ℕ → List ℕ → Type 0) (p frame : ℕ) (done : List Did) (u v w : View X) → HoldsNoPage u → IsShared tied p frame u v → IsQuiet p done v w → MayUnshare w p
+  can-unshare tied p frame done u v w nothing taken quiet =
+      let writing : (seat_of w p).writing ≡ false = (quiet.holds p).writing ∙ ap (λ (s : Seat). s.writing) taken.seat ∙ nothing.writing p in
+      let home : w.out ≡ None = quiet.steady.out ∙ taken.elsewhere.steady.out ∙ nothing.out in
+      record {
+        has = subst (λ (n : ℕ). 1 ≤ n) (sym (quiet.holds p).shares) taken.sharing.has_share;
+        told = λ is one. absurd (false≢true (sym writing ∙ is));
+        home = λ o is same. let clash : None ≡ Some o = sym home ∙ is in absurd (cc);
+      }

@@ -2,40 +2,41 @@
 // shows that a word can be had again for sure from the very start, with a sweep in between.
 ghost use Rattle.std.specs.Prelude.{◌+◌, ◌<◌, ◌≡◌, IfOk, IfSome, length, map, Some, true};
 ghost use Rattle.vm_core.specs.Prelude.{at, MAX_VERSION};
+ghost use Rattle.vm_page.specs.Sizes.{IsSize};
 ghost use Rattle.vm_rule.specs.Prelude.{block_words, bounds_of, IsStarted, MayBegin};
 
 use crate::round_trip::round_trip;
 use std::alloc::Global;
-use vm_block::Block;
+use vm_block::{Block, PageBlock};
 use vm_core::Memory;
 use vm_exmap::Interface;
 use vm_owner::Bare;
-use vm_page::WORDS;
 use vm_pool::{Pool, Shape};
 use vm_rule::words::Pass;
 
 /// A pool that was just started, with its first pass, and the word that was read again.
-pub struct KeptWord<B: Block> {
-    pub pool: Pool<Bare, B>,
+pub struct KeptWord<B: Block, const N: usize> {
+    pub pool: Pool<Bare, B, N>,
     pub pass: Pass<Bare>,
     pub iface: Interface,
     pub word: Option<u64>,
 }
 
-/// Starts a pool, four versions below the last or more, and writes `w` as word `i` (0 to 63) of page `pid`, as `round_trip` does. The word that is
+/// Starts a pool, four versions below the last or more, and writes `w` as word `i` of page `pid`, as `round_trip` does. The word that is
 /// read again is `w`; where the page's block never fails, it is read.
-pub fn keep_word<B: Block + Drop>(
+pub fn keep_word<B: PageBlock<N> + Drop, const N: usize>(
     alloc: Global,
     shape: Shape,
     blocks: Vec<B>,
     pid: u32,
     i: usize,
     w: u64,
-) -> Result<KeptWord<B>, Memory>
+) -> Result<KeptWord<B, N>, Memory>
+    requires sized { IsSize N }
     requires pages { shape.pages ≡ length blocks.items }
     requires fits { IsStarted shape.first_version shape.next shape.frames (length blocks.items) }
     requires below { shape.first_version + 3 < MAX_VERSION }
-    requires page { (pid < shape.next) × (i < WORDS) }
+    requires page { (pid < shape.next) × (i < N) }
     requires tells { B.tells ≡ true }
     requires begins { MayBegin {X = Unit {0}} (λ start kept. Unit {0}) shape.next (block_words (map B.stored blocks.items)) }
     ensures word { IfOk result (λ end. IfSome end.word (λ x. x ≡ w)) }

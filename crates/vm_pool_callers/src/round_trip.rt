@@ -4,23 +4,22 @@ ghost use Rattle.std.specs.Prelude.{◌<◌, ◌≡◌, IfSome, None, Some, true
 ghost use Rattle.vm_step.specs.Prelude.{AreHeld, IsAlone, IsReady, view};
 ghost use Rattle.vm_pool_callers.specs.Known.{MayGoRound};
 
-use vm_block::Block;
+use vm_block::PageBlock;
 use vm_core::FRAMES;
 use vm_exmap::Interface;
 use vm_guard::{ExclusiveGuard, read_word};
 use vm_owner::Bare;
-use vm_page::WORDS;
 use vm_pool::Pool;
 use vm_rule::words::Pass;
 
-/// Brings the page, sets its word `i` (0 to 63) to `w`, sweeps as many pages as a sweep can, brings the page again and reads that word: it is
+/// Brings the page, sets its word `i` to `w`, sweeps as many pages as a sweep can, brings the page again and reads that word: it is
 /// `w`, or `None` where the page could not be locked or read.
 ///
 /// The pass is alone: it has all parts of the table, and has made a step since it was split or joined. The contracts of the pool and of the
 /// guards are enough for such a caller to find its word again; nothing else is known of them here. Where it knows that the page is evicted, four
 /// versions below the last or more, and that a frame is free, and where the page's block never fails, each call succeeds.
-pub fn round_trip<B: Block>(
-    pool: &Pool<Bare, B>,
+pub fn round_trip<B: PageBlock<N>, const N: usize>(
+    pool: &Pool<Bare, B, N>,
     pass: &mut Pass<Bare>,
     iface: &mut Interface,
     pid: u32,
@@ -30,7 +29,7 @@ pub fn round_trip<B: Block>(
     requires ready { IsReady pool.now.words.table.shared.key B.tells pool.now.words.table.shared.table_id pass.old }
     requires home { (view pass.old).out ≡ None }
     requires frames { AreHeld iface.old.frames (view pass.old) }
-    requires page { (pid < pool.now.words.table.shared.key.pages) × (i < WORDS) }
+    requires page { (pid < pool.now.words.table.shared.key.pages) × (i < N) }
     requires claimed { pid < (view pass.old).start.next }
     requires tells { B.tells ≡ true }
     requires alone { IsAlone (view pass.old) }

@@ -2,23 +2,23 @@
 // alone, and shows that they can be chained: what a pass that is alone knows after one call is what makes the next one sure.
 ghost use Rattle.std.specs.Prelude.{◌<◌, ◌≡◌, ◌≢◌, ◌≤◌, IfOk, IsSome, length, map, true};
 ghost use Rattle.vm_core.specs.Prelude.{MAX_VERSION};
+ghost use Rattle.vm_page.specs.Sizes.{IsSize};
 ghost use Rattle.vm_rule.specs.Prelude.{block_words, bounds_of, IsStarted, MayBegin};
 ghost use Rattle.vm_pool.specs.Brings.{IsBroughtOrFailed};
 
 use crate::first_page::{Opened, open_page};
 use std::alloc::Global;
-use vm_block::Block;
+use vm_block::{Block, PageBlock};
 use vm_core::Memory;
 use vm_exmap::Interface;
 use vm_guard::read_word;
 use vm_owner::Owner;
-use vm_page::WORDS;
 use vm_pool::{Bring, Pool, Shape};
 use vm_rule::words::Pass;
 
 /// A pool that was just started, with its first pass, what `bring` answered for two pages, and the word of the first that was read then.
-pub struct TwoPages<U: Owner, B: Block> {
-    pub pool: Pool<U, B>,
+pub struct TwoPages<U: Owner, B: Block, const N: usize> {
+    pub pool: Pool<U, B, N>,
     pub pass: Pass<U>,
     pub iface: Interface,
     pub first: Bring,
@@ -26,21 +26,23 @@ pub struct TwoPages<U: Owner, B: Block> {
     pub word: Option<u64>,
 }
 
-/// Starts a pool of two or more frames, below the last version, brings the pages `a` and `b`, and reads word `i` (0 to 63) of `a`. Each page is
+/// Starts a pool of two or more frames, below the last version, brings the pages `a` and `b`, and reads word `i` of `a`. Each page is
 /// brought, or its device failed, as the bound of its block allows; where `a` was brought, the word is read.
-pub fn open_two<U: Owner, B: Block + Drop>(
+pub fn open_two<U: Owner, B: PageBlock<N> + Drop, const N: usize>(
     alloc: Global,
     shape: Shape,
     blocks: Vec<B>,
     a: u32,
     b: u32,
     i: usize,
-) -> Result<TwoPages<U, B>, Memory>
+) -> Result<TwoPages<U, B, N>, Memory>
+    requires sized { IsSize N }
+    requires takes { U.takes_size N ≡ true }
     requires pages { shape.pages ≡ length blocks.items }
     requires fits { IsStarted shape.first_version shape.next shape.frames (length blocks.items) }
     requires below { shape.first_version < MAX_VERSION }
     requires frames { 2 ≤ shape.frames }
-    requires page { (a < shape.pages) × (b < shape.pages) × (a ≢ b) × (i < WORDS) }
+    requires page { (a < shape.pages) × (b < shape.pages) × (a ≢ b) × (i < N) }
     requires begins { B.tells ≡ true → MayBegin U.keeps shape.next (block_words (map B.stored blocks.items)) }
     ensures first { IfOk result (λ two. IsBroughtOrFailed a (bounds_of (map B.stored blocks.items)) two.first) }
     ensures second { IfOk result (λ two. IsBroughtOrFailed b (bounds_of (map B.stored blocks.items)) two.second) }

@@ -1,19 +1,20 @@
 // A pool whose pass is split and joined again is closed: it stands on the contracts of the pool alone, and shows that a pass that has taken
 // in all that it split off has all parts again.
 ghost use Rattle.std.specs.Prelude.{◌≡◌, ◌≤◌, All, IfOk, length, map, true};
+ghost use Rattle.vm_page.specs.Sizes.{IsSize};
 ghost use Rattle.vm_rule.specs.Prelude.{block_words, HoldsNoPage, IsStarted, MayBegin};
 ghost use Rattle.vm_step.specs.Prelude.{HasJoined, IsReady, IsSamePass, MayStep, view};
 
 use std::alloc::Global;
-use vm_block::Block;
+use vm_block::{Block, PageBlock};
 use vm_core::Memory;
 use vm_owner::Owner;
 use vm_pool::{Closed, Pool, Shape};
 use vm_rule::words::Pass;
 
 /// Takes in each of the passes, which hold no page.
-pub fn join_each<U: Owner, B: Block + Drop>(
-    pool: &Pool<U, B>,
+pub fn join_each<U: Owner, B: Block + Drop, const N: usize>(
+    pool: &Pool<U, B, N>,
     pass: &mut Pass<U>,
     others: Vec<Pass<U>>,
 )
@@ -30,12 +31,14 @@ pub fn join_each<U: Owner, B: Block + Drop>(
 }
 
 /// Starts a pool, splits `n` passes off the first one, takes them in again, and closes the pool.
-pub fn split_and_join<U: Owner, B: Block + Drop>(
+pub fn split_and_join<U: Owner, B: PageBlock<N> + Drop, const N: usize>(
     alloc: Global,
     shape: Shape,
     blocks: Vec<B>,
     n: usize,
 ) -> Result<Closed<U, B>, Memory>
+    requires sized { IsSize N }
+    requires takes { U.takes_size N ≡ true }
     requires pages { shape.pages ≡ length blocks.items }
     requires fits { IsStarted shape.first_version shape.next shape.frames (length blocks.items) }
     requires begins { B.tells ≡ true → MayBegin U.keeps shape.next (block_words (map B.stored blocks.items)) }
@@ -52,7 +55,7 @@ pub fn split_and_join<U: Owner, B: Block + Drop>(
 }
 
 /// Splits two passes off, lets them meet, and takes both in again.
-pub fn meet_and_join<U: Owner, B: Block>(pool: &Pool<U, B>, pass: &mut Pass<U>)
+pub fn meet_and_join<U: Owner, B: Block, const N: usize>(pool: &Pool<U, B, N>, pass: &mut Pass<U>)
     requires ready { IsReady pool.now.words.table.shared.key B.tells pool.now.words.table.shared.table_id pass.old }
     requires parts { 2 ≤ length (view pass.old).fresh }
     ensures pass { IsSamePass pass.old pass.new }

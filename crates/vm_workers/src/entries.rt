@@ -1,12 +1,13 @@
 // A pass that makes three entries: they are its own, under its first number, with the counts 1, 2 and 3.
 ghost use Rattle.std.specs.Prelude.{◌<◌, ◌≡◌, IfOk, length, map, true};
+ghost use Rattle.vm_page.specs.Sizes.{IsSize};
 ghost use Rattle.vm_rule.specs.Prelude.{block_words, IsStarted, MayBegin};
 ghost use Rattle.vm_step.specs.Prelude.{IsReady, IsSamePass, view};
 ghost use Rattle.vm_workers.specs.Entries.{HasThree, SaysThree};
 
 use crate::tally::Tally;
 use std::alloc::Global;
-use vm_block::Block;
+use vm_block::{Block, PageBlock};
 use vm_core::Memory;
 use vm_exmap::Interface;
 use vm_guard::{Deny, OptGuard};
@@ -31,8 +32,8 @@ impl From<Memory> for Untold {
 }
 
 /// A pool, with the pass that made the entries.
-pub struct Told<B: Block> {
-    pub pool: Pool<Tally, B>,
+pub struct Told<B: Block, const N: usize> {
+    pub pool: Pool<Tally, B, N>,
     pub pass: Pass<Tally>,
 }
 
@@ -62,12 +63,13 @@ pub fn say_three<B: Block>(
 }
 
 /// Starts a pool, brings a page, and makes three entries by reads of it.
-pub fn three_entries<B: Block + Drop>(
+pub fn three_entries<B: PageBlock<N> + Drop, const N: usize>(
     alloc: Global,
     shape: Shape,
     blocks: Vec<B>,
     p: u32,
-) -> Result<Told<B>, Untold>
+) -> Result<Told<B, N>, Untold>
+    requires sized { IsSize N }
     requires pages { shape.pages ≡ length blocks.items }
     requires fits { IsStarted shape.first_version shape.next shape.frames (length blocks.items) }
     requires begins { B.tells ≡ true → MayBegin ⟦<Tally as Owner>⟧.keeps shape.next (block_words (map B.stored blocks.items)) }

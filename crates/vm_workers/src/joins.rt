@@ -11,8 +11,8 @@ use vm_pool::Pool;
 use vm_rule::words::Pass;
 
 /// Takes in the passes of the workers, which hold no page.
-pub fn join_workers<U: Owner, B: Block>(
-    pool: &Pool<U, B>,
+pub fn join_workers<U: Owner, B: Block, const N: usize>(
+    pool: &Pool<U, B, N>,
     pass: &mut Pass<U>,
     workers: Vec<Worker<U>>,
 )

@@ -8,12 +8,11 @@ ghost use Rattle.vm_workers.specs.Puts.{HasPages, HasPut, KeepsParts, MayStartWo
 use std::alloc::Global;
 use std::thread;
 use std::thread::Threads;
-use vm_block::Block;
+use vm_block::PageBlock;
 use vm_core::Memory;
 use vm_exmap::Interface;
 use vm_guard::ExclusiveGuard;
 use vm_owner::Bare;
-use vm_page::WORDS;
 use vm_pool::Pool;
 use vm_pool_callers::whole_again::join_each;
 use vm_rule::words::Pass;
@@ -25,8 +24,8 @@ const PAGES: u32 = 8;
 const TRIES: u32 = 100_000_000;
 
 /// One try to set word `i` of page `p`. Where the page can't be locked it is brought, if it is evicted.
-fn try_put<B: Block>(
-    pool: &Pool<Bare, B>,
+fn try_put<B: PageBlock<N>, const N: usize>(
+    pool: &Pool<Bare, B, N>,
     pass: &mut Pass<Bare>,
     iface: &mut Interface,
     p: u32,
@@ -35,7 +34,7 @@ fn try_put<B: Block>(
 ) -> bool
     requires may { MayStartWork pool.now.words.table.shared.key B.tells pool.now.words.table.shared.table_id iface.old.frames pass.old }
     requires page { (p < pool.now.words.table.shared.key.pages) × (p < pool.now.words.table.shared.key.next) }
-    requires place { i < WORDS }
+    requires place { i < N }
     ensures pass { IsSamePass pass.old pass.new }
     ensures may { MayStartWork pool.now.words.table.shared.key B.tells pool.now.words.table.shared.table_id iface.new.frames pass.new }
     ensures parts { KeepsParts (view pass.old) (view pass.new) }
@@ -54,8 +53,8 @@ fn try_put<B: Block>(
 }
 
 /// Tries to set word `i` of page `p` until it is set.
-fn put<B: Block>(
-    pool: &Pool<Bare, B>,
+fn put<B: PageBlock<N>, const N: usize>(
+    pool: &Pool<Bare, B, N>,
     pass: &mut Pass<Bare>,
     iface: &mut Interface,
     p: u32,
@@ -64,7 +63,7 @@ fn put<B: Block>(
 )
     requires may { MayStartWork pool.now.words.table.shared.key B.tells pool.now.words.table.shared.table_id iface.old.frames pass.old }
     requires page { (p < pool.now.words.table.shared.key.pages) × (p < pool.now.words.table.shared.key.next) }
-    requires place { i < WORDS }
+    requires place { i < N }
     ensures pass { IsSamePass pass.old pass.new }
     ensures may { MayStartWork pool.now.words.table.shared.key B.tells pool.now.words.table.shared.table_id iface.new.frames pass.new }
     ensures parts { KeepsParts (view pass.old) (view pass.new) }
@@ -77,12 +76,16 @@ fn put<B: Block>(
 }
 
 /// The calls of one worker: its word of each page is set to 100 times its number, and the page's. It begins at a page of its own.
-fn work<B: Block>(pool: &Pool<Bare, B>, number: usize, pass: &mut Pass<Bare>)
+fn work<B: PageBlock<N>, const N: usize>(
+    pool: &Pool<Bare, B, N>,
+    number: usize,
+    pass: &mut Pass<Bare>,
+)
     requires may { MayStartWork pool.now.words.table.shared.key B.tells pool.now.words.table.shared.table_id [] pass.old }
     requires pages { HasPages pool.now.words.table.shared.key }
     ensures done { HasPut pool.now.words.table.shared.key B.tells pool.now.words.table.shared.table_id pass.old pass.new }
 {
-    let i = number % WORDS;
+    let i = number % N;
     let mut iface = Interface::new(0, 1);
     for k in 0..PAGES {
         let p = (2 * (i as u32) + k) % PAGES;
@@ -99,9 +102,9 @@ fn work<B: Block>(pool: &Pool<Bare, B>, number: usize, pass: &mut Pass<Bare>)
 }
 
 /// Each worker makes its calls, in as many threads as there are workers where those can be had.
-pub fn put_all<R: Threads + Sync, B: Block + Send + Sync>(
+pub fn put_all<R: Threads + Sync, B: PageBlock<N> + Send + Sync, const N: usize>(
     rt: &R,
-    pool: &Pool<Bare, B>,
+    pool: &Pool<Bare, B, N>,
     passes: &mut [Pass<Bare>],
 )
     requires may { All (λ p. MayStartWork pool.now.words.table.shared.key B.tells pool.now.words.table.shared.table_id [] p) passes.old }
@@ -111,16 +114,25 @@ pub fn put_all<R: Threads + Sync, B: Block + Send + Sync>(
 {
     let count = passes.len();
     if count > 0 {
-        thread::for_each_mut(rt, passes, count, &|number, pass| work(pool, number, pass));
+        thread::for_each_mut(
+            rt,
+            passes,
+            count,
+            &|number: usize, pass: &mut Pass<Bare>|
+                requires may { MayStartWork pool.now.words.table.shared.key B.tells pool.now.words.table.shared.table_id [] pass.old }
+                requires pages { HasPages pool.now.words.table.shared.key }
+                ensures { HasPut pool.entry.now.words.table.shared.key B.tells pool.entry.now.words.table.shared.table_id pass.old pass.new }
+            { work(pool, number, pass) },
+        );
     }
 }
 
 /// Splits `n` passes off, lets them set their words, and takes them in again: a pass that had all parts has them again, and holds no page. Where
 /// there is no memory for the passes nothing has changed.
-pub fn put_and_join<R: Threads + Sync, B: Block + Drop + Send + Sync>(
+pub fn put_and_join<R: Threads + Sync, B: PageBlock<N> + Drop + Send + Sync, const N: usize>(
     rt: &R,
     alloc: Global,
-    pool: &Pool<Bare, B>,
+    pool: &Pool<Bare, B, N>,
     pass: &mut Pass<Bare>,
     n: usize,
 ) -> Result<(), Memory>

@@ -101,9 +101,9 @@ pub fn tally_all<R: Threads + Sync, B: Block + Send + Sync>(
 }
 
 /// The workers make their calls, each with its own pass, and then their passes are taken into this one.
-pub fn tally_and_join<R: Threads + Sync, B: Block + Send + Sync>(
+pub fn tally_and_join<R: Threads + Sync, B: Block + Send + Sync, const N: usize>(
     rt: &R,
-    pool: &Pool<Tally, B>,
+    pool: &Pool<Tally, B, N>,
     pass: &mut Pass<Tally>,
     mut workers: Vec<Worker<Tally>>,
 )

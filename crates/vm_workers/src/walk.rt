@@ -76,12 +76,12 @@ pub fn run_all<R: Threads + Sync, U: Owner + Send + Sync, B: Block + Send + Sync
 }
 
 /// The workers make their calls, each with its own pass, and then their passes are taken into this one.
-pub fn run_and_join<R: Threads + Sync, U: Owner + Send + Sync, B: Block + Send + Sync>(
-    rt: &R,
-    pool: &Pool<U, B>,
-    pass: &mut Pass<U>,
-    mut workers: Vec<Worker<U>>,
-)
+pub fn run_and_join<
+    R: Threads + Sync,
+    U: Owner + Send + Sync,
+    B: Block + Send + Sync,
+    const N: usize,
+>(rt: &R, pool: &Pool<U, B, N>, pass: &mut Pass<U>, mut workers: Vec<Worker<U>>)
     requires ready { IsReady pool.now.words.table.shared.key B.tells pool.now.words.table.shared.table_id pass.old }
     requires may { All (λ w. MayWork pool.now.words.table.shared.key B.tells pool.now.words.table.shared.table_id w) workers.items }
     ensures pass { IsSamePass pass.old pass.new }

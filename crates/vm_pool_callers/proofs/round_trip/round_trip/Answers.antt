@@ -3,7 +3,7 @@
 use Rattle.vm_pool_callers.proofs.{OnePage.no-fault}
 use Rattle.vm_exmap.proofs.Handing.{held-on}
 use Rattle.vm_pool.proofs.{Keeping.keeps-alone, Knowing.answered-free, Knowing.when-free}
-use Rattle.vm_pool_callers.proofs.Prelude.{ap, arith, at, draft_of, false≢true, IfSome_then, is_readable, IsAlone, IsKnownFree, IsOk, known_version, known_word}
+use Rattle.vm_pool_callers.proofs.Prelude.{ap, arith, at, draft_of, false≢true, IfSome_then, is_readable, IsAlone, IsKnownFree, IsOk, known_version, known_word, rules}
 use Rattle.vm_pool_callers.proofs.Prelude.{last_of, length, List, MAX_VERSION, Origin, slice_set, state_of, subst, sym, true, version_of, view, ℕ, ◌+◌, ◌<◌, ◌∙◌, ◌≡◌}
 use Rattle.vm_pool_callers.proofs.Prelude.{inr, None, refl, Some, ◌≤◌}
 use Rattle.vm_pool_callers.proofs.RoundTrip.{first-locks, reads-again, same-version, set-words, some-is, steady-alone, word-back}
@@ -32,20 +32,20 @@ release-requires-clause-home g c o out same =
 pub release-requires-clause-owner : goal.release-requires-clause-owner
 release-requires-clause-owner g c tells = inr refl
 
-pub sweep-requires-clause-home : goal.sweep-requires-clause-home
-sweep-requires-clause-home g c =
-    c.release.ensures.released.elsewhere.steady.out ∙ c.set.ensures.set.elsewhere.steady.out ∙ c.in-Ok.ensures.taken.1.elsewhere.steady.out ∙ c.bring.ensures.keeps.out ∙ c.requires.home
-
-pub sweep-requires-clause-frames : goal.sweep-requires-clause-frames
-sweep-requires-clause-frames g c =
+pub sweep-requires : goal.sweep-requires
+sweep-requires g c =
     let taken = c.in-Ok.ensures.taken.1.elsewhere.steady in
     let is = c.set.ensures.set.elsewhere.steady in
     let released = c.release.ensures.released.elsewhere.steady in
-    held-on _ (view c.bring.new.pass) (view c.release.new.pass) c.bring.ensures.held (released.start ∙ is.start ∙ taken.start) (released.frames.0 ∙ is.frames.0 ∙ taken.frames.0)
+    let home = released.out ∙ is.out ∙ taken.out ∙ c.bring.ensures.keeps.out ∙ c.requires.home in
+    let held = held-on _ (view c.bring.new.pass) (view c.release.new.pass) c.bring.ensures.held (released.start ∙ is.start ∙ taken.start) (released.frames.0 ∙ is.frames.0 ∙ taken.frames.0) in
+    (search rules, (c.release.ensures.ready, (home, (held, (omega arith, omega arith)))))
 
-pub bring-requires-2-clause-home : goal.bring-requires-2-clause-home
-bring-requires-2-clause-home g c =
-    c.sweep.ensures.keeps.out ∙ c.release.ensures.released.elsewhere.steady.out ∙ c.set.ensures.set.elsewhere.steady.out ∙ c.in-Ok.ensures.taken.1.elsewhere.steady.out ∙ c.bring.ensures.keeps.out ∙ c.requires.home
+pub bring-requires-2 : goal.bring-requires-2
+bring-requires-2 g c =
+    let home =
+    c.sweep.ensures.keeps.out ∙ c.release.ensures.released.elsewhere.steady.out ∙ c.set.ensures.set.elsewhere.steady.out ∙ c.in-Ok.ensures.taken.1.elsewhere.steady.out ∙ c.bring.ensures.keeps.out ∙ c.requires.home in
+    (search rules, (c.sweep.ensures.ready, (home, (c.sweep.ensures.held, c.requires.page.0))))
 
 pub returns-clause-word : goal.returns-clause-word
 returns-clause-word g c =
@@ -56,7 +56,7 @@ returns-clause-word g c =
     let draft : List ℕ = draft_of (view c.take.new.pass) c.args.pid in
     let words : (last_of (view c.release.new.pass) c.args.pid).words ≡ slice_set draft c.args.i c.args.w =
     set-words c.args.pid c.args.i c.args.w c.in-Ok.guard.pid c.set.new.self.pid _ _ _ _ (view c.take.new.pass) (view c.set.new.pass) (view c.release.new.pass) taken.0 same c.set.ensures.set c.release.ensures.released in
-    let long : length draft ≡ 64 = taken.1.holding.size in
+    let long : length draft ≡ g.row.N = taken.1.holding.size ∙ c.take.ensures.ready.table.is_shape.size ∙ sym c.args.pool.now.size in
     IfSome_then c.read_word.result c.read_word.ensures.word
     (λ x is.
     is c.requires.tells

@@ -1,5 +1,5 @@
 use Rattle.std.specs.Prelude.{All}
-use Rattle.std.proofs.Common.{◌∙◌, ap, length, map, subst, sym}
+use Rattle.std.proofs.Common.{◌∙◌, ap, length, map, rules, subst, sym}
 use Rattle.vm_rule.specs.Prelude.{HoldsNoPage}
 use Rattle.vm_step.specs.Prelude.{HasJoined, MayStep, view}
 use Rattle.vm_step.proofs.Together.{ready-as}
@@ -7,23 +7,20 @@ use Rattle.vm_workers.proofs.puts.put_and_join.Goals as goal
 use Rattle.vm_workers.proofs.Putting.{alone-again, each-nothing, each-step, may-begin, nothing-again}
 use Rattle.vm_workers.proofs.Staying.{came-back}
 
-pub put_all-requires-clause-may : goal.put_all-requires-clause-may
-put_all-requires-clause-may g c lts lives =
+pub put_all-requires : goal.put_all-requires
+put_all-requires g c =
     let split = c.in_ok-given.ensures in
-    may-begin c.args.pool.now.words.table.shared.key g.B.Block.tells c.args.pool.now.words.table.shared.table_id (view c.args.pass.now) (view c.split.new.pass) _ c.in_ok-given.given.items c.as_mut_slice.ensures.value split.split split.each
+    let may = may-begin c.args.pool.now.words.table.shared.key g.B.Block.tells c.args.pool.now.words.table.shared.table_id (view c.args.pass.now) (view c.split.new.pass) _ c.in_ok-given.given.items c.as_mut_slice.ensures.value split.split split.each in
+    search (rules, may)
 
-pub join_each-requires-clause-each : goal.join_each-requires-clause-each
-join_each-requires-clause-each g c =
+pub join_each-requires : goal.join_each-requires
+join_each-requires g c =
     let value = c.as_mut_slice.ensures.value in
     let t = c.args.pool.now.words.table.shared.table_id in
-    subst (λ xs. All (λ p. MayStep t p) xs) (sym (came-back c.in_ok-given.given.len c.put_all.new.passes c.in_ok-given.given.items (sym c.as_mut_slice.ensures.len ∙ ap length value) (c.put_all.ensures.count ∙ ap length value)))
-    (each-step _ _ _ _ _ c.put_all.ensures.count c.put_all.ensures.done)
-
-pub join_each-requires-clause-nothing : goal.join_each-requires-clause-nothing
-join_each-requires-clause-nothing g c =
-    let value = c.as_mut_slice.ensures.value in
-    subst (λ xs. All (λ p. HoldsNoPage (view p)) xs) (sym (came-back c.in_ok-given.given.len c.put_all.new.passes c.in_ok-given.given.items (sym c.as_mut_slice.ensures.len ∙ ap length value) (c.put_all.ensures.count ∙ ap length value)))
-    (each-nothing _ _ _ _ _ c.put_all.ensures.count c.put_all.ensures.done)
+    let back = came-back c.in_ok-given.given.len c.put_all.new.passes c.in_ok-given.given.items (sym c.as_mut_slice.ensures.len ∙ ap length value) (c.put_all.ensures.count ∙ ap length value) in
+    let each = subst (λ xs. All (λ p. MayStep t p) xs) (sym back) (each-step _ _ _ _ _ c.put_all.ensures.count c.put_all.ensures.done) in
+    let nothing = subst (λ xs. All (λ p. HoldsNoPage (view p)) xs) (sym back) (each-nothing _ _ _ _ _ c.put_all.ensures.count c.put_all.ensures.done) in
+    (search rules, (c.in_ok-given.ensures.ready.may, (each, nothing)))
 
 pub returns-clause-ready : goal.returns-clause-ready
 returns-clause-ready g c =
