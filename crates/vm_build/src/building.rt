@@ -12,7 +12,7 @@ use std::alloc::{AllocError, Global};
 use thiserror::Error;
 use vm_image::{Image, MAGIC};
 use vm_map::call::Pair;
-use vm_page::PageBuf;
+use vm_page::{PageBuf, WORDS};
 
 /// Why no image was built.
 #[derive(Debug, Drop, Error)]
@@ -80,7 +80,7 @@ pub fn numbered_image(alloc: Global, pages: u32, seed: u64, count: u32) -> Resul
 }
 
 // The pages of the image of up to 1,000,000 pairs by rising key, where there are enough. Page 0 is written last, when the root is known.
-fn pages_of(alloc: Global, pages: u32, pairs: Vec<Pair>) -> Result<Vec<PageBuf>, AllocError>
+fn pages_of(alloc: Global, pages: u32, pairs: Vec<Pair>) -> Result<Vec<PageBuf<WORDS>>, AllocError>
     requires fits { needed_for (length pairs.items) ≤ pages }
     requires few { length pairs.items ≤ 1000000 }
     ensures { IfOk result (λ made. made.items ≡ built pages pairs.items) }
@@ -97,7 +97,7 @@ fn pages_of(alloc: Global, pages: u32, pairs: Vec<Pair>) -> Result<Vec<PageBuf>,
 }
 
 // Page 0 over these nodes, of which the last one is the root: it names the root and its level.
-fn meta_page(nodes: &[PageBuf]) -> PageBuf
+fn meta_page(nodes: &[PageBuf<WORDS>]) -> PageBuf<WORDS>
     requires { 1 ≤ length nodes.now }
     ensures { result ≡ meta_words nodes.now }
 {

@@ -7,7 +7,7 @@ ghost use Rattle.vm_build.specs.Levels.{entries_above as entries_over, level_pag
 use crate::node::{FILL, low_of, node_of};
 use std::alloc::{AllocError, Global};
 use vm_map::call::Pair;
-use vm_page::PageBuf;
+use vm_page::{PageBuf, WORDS};
 
 /// How many nodes so many entries fill: at least one.
 pub(crate) fn nodes_for(entries: usize) -> usize
@@ -21,7 +21,7 @@ pub(crate) fn nodes_for(entries: usize) -> usize
 pub(crate) fn push_levels(
     alloc: Global,
     pairs: Vec<Pair>,
-    pages: &mut Vec<PageBuf>,
+    pages: &mut Vec<PageBuf<WORDS>>,
 ) -> Result<(), AllocError>
     requires few { length pairs.items ≤ 1000000 }
     requires one { length pages.old.items ≡ 1 }
@@ -39,7 +39,11 @@ pub(crate) fn push_levels(
 }
 
 // Pushes the nodes of one level.
-fn push_level(level: u64, entries: &[Pair], pages: &mut Vec<PageBuf>) -> Result<(), AllocError>
+fn push_level(
+    level: u64,
+    entries: &[Pair],
+    pages: &mut Vec<PageBuf<WORDS>>,
+) -> Result<(), AllocError>
     requires { length entries.now ≤ 1000000 }
     ensures { OnOk result (pages.new.items ≡ pages.old.items ++ level_pages level entries.now (nodes_of (length entries.now))) }
 {

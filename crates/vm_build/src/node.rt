@@ -6,13 +6,13 @@ ghost use Rattle.vm_build.specs.Levels.{high_fence_of as high_fence, low_of as l
 use crate::levels::nodes_for;
 use vm_map::call::Pair;
 use vm_node::header::{Header, write_header};
-use vm_page::PageBuf;
+use vm_page::{PageBuf, WORDS};
 
 /// How many entries a node takes when it is built: there is room for eight more before it is split.
 pub(crate) const FILL: usize = 20;
 
 /// Node `n` of a level with these entries.
-pub(crate) fn node_of(level: u64, entries: &[Pair], n: usize) -> PageBuf
+pub(crate) fn node_of(level: u64, entries: &[Pair], n: usize) -> PageBuf<WORDS>
     requires few { length entries.now ≤ 1000000 }
     requires node { n < nodes_of (length entries.now) }
     ensures { result ≡ node_page level entries.now n }
@@ -61,7 +61,7 @@ fn high_of(entries: &[Pair], n: usize) -> Option<u64>
 }
 
 // The node with these fences and up to `FILL` entries.
-fn node_with(level: u64, low: u64, high: Option<u64>, run: &[Pair]) -> PageBuf
+fn node_with(level: u64, low: u64, high: Option<u64>, run: &[Pair]) -> PageBuf<WORDS>
     requires { length run.now ≤ FILL }
     ensures { result ≡ node_words level low high run.now }
 {

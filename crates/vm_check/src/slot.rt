@@ -9,7 +9,7 @@ use std::marker::Model;
 use vm_image::is_zero_from;
 use vm_map::window::MOST_PAIRS;
 use vm_node::pairs::{count_of, key_at, value_at};
-use vm_page::PageBuf;
+use vm_page::{PageBuf, WORDS};
 
 /// A place in the tree and the page that is named for it. `high` is exclusive, and `None` where there is no high fence.
 #[derive(Drop)]
@@ -48,7 +48,7 @@ fn after(key: u64) -> Option<u64>
 }
 
 // The keys rise, from low on and below high.
-fn keys_rise(page: &PageBuf, low: u64, high: Option<u64>) -> bool
+fn keys_rise(page: &PageBuf<WORDS>, low: u64, high: Option<u64>) -> bool
     ensures { result ≡ rises low (unwrap_or high KEY_END) (pairs_of page.now) }
 {
     let mut least = Some(low);
@@ -66,7 +66,7 @@ fn keys_rise(page: &PageBuf, low: u64, high: Option<u64>) -> bool
 }
 
 // Each value is the number of a page but 0.
-fn values_name_pages(page: &PageBuf, pages: u32) -> bool
+fn values_name_pages(page: &PageBuf<WORDS>, pages: u32) -> bool
     ensures { result ≡ names_pages pages (pairs_of page.now) }
 {
     for i in 0..count_of(page) {
@@ -82,13 +82,13 @@ fn values_name_pages(page: &PageBuf, pages: u32) -> bool
 }
 
 impl Slot {
-    fn has_tag(&self, page: &PageBuf) -> bool
+    fn has_tag(&self, page: &PageBuf<WORDS>) -> bool
         ensures { result ≡ has_tag self.now page.now }
     {
         page.get(0) == if self.level == 0 { 2 } else { 3 }
     }
 
-    fn has_fences(&self, page: &PageBuf) -> bool
+    fn has_fences(&self, page: &PageBuf<WORDS>) -> bool
         ensures { result ≡ has_fences self.now page.now }
     {
         if page.get(2) != self.low {
@@ -100,7 +100,7 @@ impl Slot {
         }
     }
 
-    fn has_form(&self, page: &PageBuf) -> bool
+    fn has_form(&self, page: &PageBuf<WORDS>) -> bool
         ensures { result ≡ has_form self.now page.now }
     {
         let count = page.get(1);
@@ -119,7 +119,7 @@ impl Slot {
         is_zero_from(page, 8 + 2 * count as usize)
     }
 
-    fn has_children(&self, pages: u32, page: &PageBuf) -> bool
+    fn has_children(&self, pages: u32, page: &PageBuf<WORDS>) -> bool
         ensures { result ≡ has_children pages self.now page.now }
     {
         if self.level == 0 {
@@ -129,7 +129,7 @@ impl Slot {
     }
 
     /// Why the page does not fill its place, in an image of so many pages.
-    pub(crate) fn fault(&self, pages: u32, visited: bool, page: &PageBuf) -> Option<u8>
+    pub(crate) fn fault(&self, pages: u32, visited: bool, page: &PageBuf<WORDS>) -> Option<u8>
         ensures { result ≡ slot_fault pages visited self.now page.now }
     {
         if visited {
@@ -153,7 +153,7 @@ impl Slot {
         None
     }
 
-    fn has_keys(&self, page: &PageBuf) -> bool
+    fn has_keys(&self, page: &PageBuf<WORDS>) -> bool
         ensures { result ≡ has_keys self.now page.now }
     {
         if !keys_rise(page, self.low, self.high) {

@@ -14,7 +14,7 @@ use std::alloc::{AllocError, Global};
 use vm_image::{Image, is_free};
 use vm_map::call::Pair;
 use vm_node::pairs::{count_of, key_at, value_at};
-use vm_page::PageBuf;
+use vm_page::{PageBuf, WORDS};
 
 /// A walk: the places on the stack are to be filled next, the last one first.
 #[derive(Drop)]
@@ -112,7 +112,7 @@ impl Walk {
 }
 
 // Adds a leaf's pairs to the rows.
-fn push_pairs(rows: &mut Vec<Pair>, page: &PageBuf) -> Result<(), AllocError>
+fn push_pairs(rows: &mut Vec<Pair>, page: &PageBuf<WORDS>) -> Result<(), AllocError>
     ensures { OnOk result (rows.new.items ≡ rows.old.items ++ pairs_of page.now) }
 {
     for i in 0..count_of(page) {
@@ -129,7 +129,7 @@ fn push_children(
     slots: &mut Vec<Slot>,
     level: u64,
     high: Option<u64>,
-    page: &PageBuf,
+    page: &PageBuf<WORDS>,
     pages: u32,
 ) -> Result<(), AllocError>
     requires names { names_pages pages (pairs_of page.now) ≡ true }

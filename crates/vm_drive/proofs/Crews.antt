@@ -1,7 +1,7 @@
 -- Lists of workers, place by place.
 use Rattle.std.specs.declared.alloc.Global.{Global}
 use Rattle.std.specs.List.{AllByRecursion}
-use Rattle.std.proofs.Common.{[], ◌++◌, ◌<◌, ◌∷◌, ◌≡◌, ◌≤◌, ap, arith, Bool, drop, get_or, length, List, refl, Result, subst, suc, sym, take, Vec}
+use Rattle.std.proofs.Common.{[], ◌++◌, ◌<◌, ◌∷◌, ◌≡◌, ap, arith, Bool, drop, get_or, length, List, refl, Result, subst, suc, sym, take, Vec}
 use Rattle.std.proofs.Common.{zero, ℕ}
 use Rattle.vm_map.specs.{declared.call.Call.Call, declared.call.Reply.Reply}
 use Rattle.vm_rule.specs.Prelude.{TableId}

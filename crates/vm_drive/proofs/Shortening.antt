@@ -1,7 +1,6 @@
 -- Answers in little memory, and the room for them: one answer more.
 use Rattle.std.specs.declared.alloc.Global.{Global}
-use Rattle.std.proofs.Common.{[], ◌++◌, ◌+◌, ◌<◌, ◌∙◌, ◌∷◌, ◌≡◌, ◌≤◌, ap, append-nil, arith, drop, Err, get_or, length, List, Ok, refl, Result, subst, suc, sym}
-use Rattle.std.proofs.Common.{Vec}
+use Rattle.std.proofs.Common.{[], ◌++◌, ◌+◌, ◌∙◌, ◌∷◌, ◌≡◌, ◌≤◌, ap, append-nil, arith, Err, length, List, Ok, refl, Result, sym, Vec}
 use Rattle.std.proofs.lemmas.List.{length-append}
 use Rattle.vm_map.specs.{declared.call.Call.Call, declared.call.Reply.Reply, declared.call.Said.Said, declared.window.Window.Window}
 use Rattle.vm_map.specs.declared.call.Call.TheVariants as calls

@@ -1,5 +1,5 @@
 -- The workers of a drive: those that were hired, and those that have done their work.
-use Rattle.std.specs.Prelude.{[], ◌*◌, ◌++◌, ◌+◌, ◌/◌, ◌∷◌, ◌≡◌, ◌≤◌, ◌⊎◌, Bool, false, length, List, map, min, Result, slice_index, true, ℕ}
+use Rattle.std.specs.Prelude.{[], ◌*◌, ◌++◌, ◌+◌, ◌/◌, ◌∷◌, ◌≡◌, ◌⊎◌, Bool, false, length, List, map, min, Result, slice_index, true, ℕ}
 use Rattle.vm_map.specs.{declared.call.Call.Call, declared.call.Reply.Reply, declared.call.Said.Said}
 use Rattle.vm_rule.specs.Prelude.{AreApart, Each, entries_by, has, HoldsNoPage, IsWhole, owns, StartsWith, TableId, times}
 use Rattle.vm_step.specs.Prelude.{Did, IsReady, KnowsAll, Note, Shape, View, view}

@@ -18,10 +18,11 @@ use std::alloc::{AllocError, Global};
 use std::sync::Wait;
 use std::thread;
 use std::thread::Threads;
-use vm_block::Block;
+use vm_block::{Block, PageBlock};
 use vm_core::Memory;
 use vm_exmap::Interface;
 use vm_map::call::Call;
+use vm_page::WORDS;
 use vm_pool::Pool;
 use vm_rule::words::Pass;
 use vm_tree_rule::Tree;
@@ -47,10 +48,10 @@ pub struct DrivenInto<A> {
 /// Makes the lists' calls, one worker for each list, side by side: 1 to 64 lists of at most 1,000,000 calls each, eight frames for each. The
 /// pass has all parts and holds no page, and has a fresh part for each list. Afterwards it has all parts again, and knows what the workers did.
 /// Where there is no memory, no call was made, and the pass is as it was.
-pub fn drive<R: Threads + Wait + Sync, B: Block + Send + Sync, G: Gate + Sync>(
+pub fn drive<R: Threads + Wait + Sync, B: PageBlock<WORDS> + Send + Sync, G: Gate + Sync>(
     rt: &R,
     alloc: Global,
-    pool: &Pool<Tree, B>,
+    pool: &Pool<Tree, B, WORDS>,
     pass: &mut Pass<Tree>,
     lists: &[Vec<Call>],
     gate: &G,
@@ -85,13 +86,13 @@ pub fn drive<R: Threads + Wait + Sync, B: Block + Send + Sync, G: Gate + Sync>(
 /// each of the list's calls, and for a window to each that asks for one.
 pub fn drive_into<
     R: Threads + Wait + Sync,
-    B: Block + Send + Sync,
+    B: PageBlock<WORDS> + Send + Sync,
     G: Gate + Sync,
     A: Answers + Send + Drop,
 >(
     rt: &R,
     alloc: Global,
-    pool: &Pool<Tree, B>,
+    pool: &Pool<Tree, B, WORDS>,
     pass: &mut Pass<Tree>,
     lists: &[Vec<Call>],
     gate: &G,
@@ -145,7 +146,7 @@ fn cap_for(frames: usize, workers: usize) -> u32
 
 // Splits off a pass for each room. An interface is at home at its worker's place, modulo the number of bundles.
 fn hire<B: Block, A: Drop>(
-    pool: &Pool<Tree, B>,
+    pool: &Pool<Tree, B, WORDS>,
     pass: &mut Pass<Tree>,
     cap: u32,
     rooms: Vec<A>,
@@ -181,13 +182,12 @@ fn hire<B: Block, A: Drop>(
 }
 
 // Makes each worker's calls, in as many threads as there are workers.
-fn work_all<R: Threads + Wait + Sync, B: Block + Send + Sync, G: Gate + Sync, A: Answers + Send>(
-    rt: &R,
-    pool: &Pool<Tree, B>,
-    gate: &G,
-    lists: &[Vec<Call>],
-    workers: &mut [Worker<A>],
-)
+fn work_all<
+    R: Threads + Wait + Sync,
+    B: PageBlock<WORDS> + Send + Sync,
+    G: Gate + Sync,
+    A: Answers + Send,
+>(rt: &R, pool: &Pool<Tree, B, WORDS>, gate: &G, lists: &[Vec<Call>], workers: &mut [Worker<A>])
     requires lists { (1 ≤ length lists.now) × (length lists.now ≤ 64) }
     requires askable { AreAskable (items_of lists.now) }
     requires idle { AreIdle A.keeps A.room pool.now.words.table.shared.key B.tells pool.now.words.table.shared.table_id (items_of lists.now) workers.old }
@@ -209,7 +209,7 @@ fn work_all<R: Threads + Wait + Sync, B: Block + Send + Sync, G: Gate + Sync, A:
 
 // Joins the workers' passes, and collects their answers.
 fn gather<B: Block, A: Drop>(
-    pool: &Pool<Tree, B>,
+    pool: &Pool<Tree, B, WORDS>,
     pass: &mut Pass<Tree>,
     workers: Vec<Worker<A>>,
     mut kept: Vec<A>,

@@ -8,13 +8,13 @@ ghost use Rattle.vm_step.specs.Prelude.{AreHeld, IsReady, view};
 ghost use Rattle.vm_tree_read.specs.Waiting.{LosesNone};
 ghost use Rattle.vm_drive.specs.{Calls.KeepsPass, Kept.IsRoomFor, TreeCalls.IsTreeCall, Workers.HasCalled, Workers.HasKept, Workers.IsAtWork};
 
-pub use crate::answers::Answer;
-use crate::answers::Answers;
+use crate::answers::{Answer, Answers};
 use crate::gate::Gate;
 use std::sync::Wait;
-use vm_block::Block;
+use vm_block::PageBlock;
 use vm_exmap::Interface;
 use vm_map::call::Call;
+use vm_page::WORDS;
 use vm_pool::Pool;
 use vm_rule::words::Pass;
 use vm_tree_read::{get, window};
@@ -30,9 +30,9 @@ pub struct Worker<A> {
 }
 
 // Makes one call.
-fn answer<R: Wait, B: Block>(
+fn answer<R: Wait, B: PageBlock<WORDS>>(
     rt: &R,
-    pool: &Pool<Tree, B>,
+    pool: &Pool<Tree, B, WORDS>,
     pass: &mut Pass<Tree>,
     iface: &mut Interface,
     call: &Call,
@@ -57,9 +57,9 @@ fn answer<R: Wait, B: Block>(
 }
 
 // Makes the calls, in order.
-fn call_all<R: Wait, B: Block, G: Gate, A: Answers>(
+fn call_all<R: Wait, B: PageBlock<WORDS>, G: Gate, A: Answers>(
     rt: &R,
-    pool: &Pool<Tree, B>,
+    pool: &Pool<Tree, B, WORDS>,
     gate: &G,
     number: u32,
     calls: &[Call],
@@ -84,9 +84,9 @@ fn call_all<R: Wait, B: Block, G: Gate, A: Answers>(
 }
 
 /// Makes the worker's calls, in order, and gives its frames back.
-pub fn work<R: Wait, B: Block, G: Gate, A: Answers>(
+pub fn work<R: Wait, B: PageBlock<WORDS>, G: Gate, A: Answers>(
     rt: &R,
-    pool: &Pool<Tree, B>,
+    pool: &Pool<Tree, B, WORDS>,
     gate: &G,
     number: u32,
     calls: &[Call],

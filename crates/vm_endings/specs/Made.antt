@@ -1,5 +1,6 @@
 -- What workers' calls on a tree come to, for every command that has them made: what is left of them, and the map after them.
 use Rattle.std.specs.Prelude.{◌≡◌, List, Result, ℕ}
+use Rattle.vm_page.specs.declared.buf.TheConstants.{WORDS}
 use Rattle.vm_block.specs.declared.memory.MemBlock.{MemBlock}
 use Rattle.vm_map.specs.{declared.call.Call.Call, declared.call.Reply.Reply, History.after_all, Map.Pairs}
 use Rattle.vm_tree_model.specs.Tree.{map_of}
@@ -19,7 +20,7 @@ last_map pages end = after_all (map_of pages) (saids (view_at_end end).seen)
 pub record IsMade (plan : List PlannedFault) (first count : ℕ) (end : TreeEnd) (pages : List (List ℕ)) (lists : List (List Call)) : Type 0 where
   pub replies : List (List (Result Reply TreeFault))
   pub report : Flushed
-  pub blocks : List MemBlock
+  pub blocks : List (MemBlock WORDS)
   pub served : IsServed pages plan lists replies report blocks end
   pub version : (view_at_end end).start.version ≡ first
   pub frames : (view_at_end end).start.frames ≡ count

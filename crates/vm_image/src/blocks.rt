@@ -7,7 +7,7 @@ use crate::image::Image;
 use crate::memory::Memory;
 use std::alloc::{AllocError, Global};
 use vm_block::MemBlock;
-use vm_page::PageBuf;
+use vm_page::{PageBuf, WORDS};
 
 /// An entry of a plan of failures: the call with this number on this page's block fails. An entry for a page that the
 /// image lacks never acts.
@@ -23,7 +23,7 @@ pub fn blocks_of(
     alloc: Global,
     image: &Image,
     plan: &[PlannedFault],
-) -> Result<Vec<MemBlock>, Memory>
+) -> Result<Vec<MemBlock<WORDS>>, Memory>
     ensures blocks { IfOk result (λ blocks. AreBlocksOf image.now plan.now blocks.items) }
     ensures count { IfOk result (λ blocks. length blocks.items ≡ length image.now) }
 {
@@ -51,7 +51,7 @@ fn numbers_for(alloc: Global, plan: &[PlannedFault], page: u32) -> Result<Vec<u6
 }
 
 /// The image of 2 to 65,536 blocks: a page for each, with the words that it holds.
-pub fn image_of(alloc: Global, blocks: &[MemBlock]) -> Result<Image, Memory>
+pub fn image_of(alloc: Global, blocks: &[MemBlock<WORDS>]) -> Result<Image, Memory>
     requires some { 2 ≤ length blocks.now }
     requires most { length blocks.now ≤ 65536 }
     ensures { IfOk result (λ image. image ≡ pages_of_blocks blocks.now) }

@@ -18,7 +18,7 @@ pub const MAGIC: u64 = 0x564D_4341_4348_4531;
 /// 2 to 65,536 pages of 64 words: contracts see the list of their words.
 #[derive(Drop)]
 pub struct Image {
-    pub(crate) pages: Vec<PageBuf>,
+    pub(crate) pages: Vec<PageBuf<WORDS>>,
 }
 
 impl Model for Image {
@@ -55,7 +55,7 @@ pub fn read_image(alloc: Global, bytes: &[u8]) -> Result<Image, ImageFault>
 }
 
 // The first pages of the bytes.
-fn read_pages(alloc: Global, bytes: &[u8], count: usize) -> Result<Vec<PageBuf>, AllocError>
+fn read_pages(alloc: Global, bytes: &[u8], count: usize) -> Result<Vec<PageBuf<WORDS>>, AllocError>
     requires { length bytes.now ≡ 512 * count }
     ensures pages { IfOk result (λ pages. pages.items ≡ pages_of_bytes bytes.now) }
     ensures back { IfOk result (λ pages. bytes_of_pages pages.items ≡ bytes.now) }
@@ -64,16 +64,14 @@ fn read_pages(alloc: Global, bytes: &[u8], count: usize) -> Result<Vec<PageBuf>,
 {
     let mut pages = Vec::with_capacity(alloc, count)?;
     for p in 0..count {
-        let mut page = [0; 512];
-        page.copy_from_slice(&bytes[512 * p..512 * p + 512]);
-        pages.push(PageBuf::of_bytes(&page))?;
+        pages.push(PageBuf::of_slice(&bytes[512 * p..512 * p + 512]))?;
     }
     Ok(pages)
 }
 
 impl Image {
     /// The image of 2 to 65,536 pages. Each has 64 words, as any call on it tells.
-    pub fn of_pages(pages: Vec<PageBuf>) -> Image
+    pub fn of_pages(pages: Vec<PageBuf<WORDS>>) -> Image
         requires some { 2 ≤ length pages.items }
         requires most { length pages.items ≤ 65536 }
         requires words { HaveWords pages.items }
@@ -93,7 +91,7 @@ impl Image {
     }
 
     /// Page `p`, for `p` below the number of pages.
-    pub fn page(&self, p: u32) -> &PageBuf
+    pub fn page(&self, p: u32) -> &PageBuf<WORDS>
         requires { p < length self.now }
         ensures page { result.now ≡ page_at self.now p }
         ensures length { length result.now ≡ WORDS }
@@ -131,7 +129,9 @@ impl Image {
     {
         let mut bytes = Vec::with_capacity(alloc, 512 * self.pages() as usize)?;
         for p in 0..self.pages() {
-            bytes.extend_from_slice(&self.page(p).to_bytes())?;
+            let mut written = [0; 512];
+            self.page(p).put_bytes(&mut written);
+            bytes.extend_from_slice(&written)?;
         }
         Ok(bytes)
     }

@@ -6,7 +6,7 @@ ghost use Rattle.vm_tree_model.specs.Walk.{all_zero, is_free};
 use vm_page::{PageBuf, WORDS};
 
 /// All words from word `from` on are 0.
-pub fn is_zero_from(page: &PageBuf, from: usize) -> bool
+pub fn is_zero_from(page: &PageBuf<WORDS>, from: usize) -> bool
     ensures { result ≡ all_zero (drop from page.now) }
 {
     // A page has 64 words.
@@ -21,7 +21,7 @@ pub fn is_zero_from(page: &PageBuf, from: usize) -> bool
 
 /// The page is free: its 64 words are all 0.
 #[tactic(auto, using(crate::proofs::ZeroWords::zero_first))]
-pub fn is_free(page: &PageBuf) -> bool
+pub fn is_free(page: &PageBuf<WORDS>) -> bool
     ensures free { result ≡ is_free page.now }
     ensures zero { result ≡ all_zero page.now }
     ensures length { length page.now ≡ WORDS }

@@ -12,7 +12,7 @@ ghost use Rattle.vm_inner.specs.Found.{FindsChild, FindsChildIn, FindsNoChild};
 use vm_map::window::MOST_PAIRS;
 use vm_node::pairs::{count_at, upper_bound_at};
 use vm_node::{Edit, Full, Place, in_buffer, put, put_edit, split};
-use vm_page::PageBuf;
+use vm_page::{PageBuf, WORDS};
 
 /// A child of an inner node: its page, and its low fence; its high fence is the next key, or the node's where there is none.
 #[derive(Clone, Copy, Debug, Drop, PartialEq, Eq)]
@@ -44,7 +44,7 @@ pub fn child_at<P: Place>(place: &mut P, key: u64) -> Option<Fenced>
 }
 
 /// The page of that child, of a page in a buffer. An inner node that covers the key has such a child.
-pub fn child(page: &PageBuf, key: u64) -> Option<u64>
+pub fn child(page: &PageBuf<WORDS>, key: u64) -> Option<u64>
     ensures child { MatchOption result (FindsNoChild page.now key) (FindsChild page.now key) }
     ensures there { IsInner page.now → Covers (node_of page.now) key → result ≢ None }
 {
@@ -57,7 +57,7 @@ pub fn child(page: &PageBuf, key: u64) -> Option<u64>
 
 /// Puts a child's page at its lowest key, over the one that is there, in any page whose keys rise. `Full` comes exactly where the node has 28 pairs
 /// and not the key; the page is then unchanged.
-pub fn add(page: &mut PageBuf, key: u64, child: u64) -> Result<(), Full>
+pub fn add(page: &mut PageBuf<WORDS>, key: u64, child: u64) -> Result<(), Full>
     ensures node { (low high : ℕ) → Rises low high (pairs_of page.old) → OnOk result (AddsPair page.old page.new key child) }
     ensures refused { OnErr result (IsRefused page.old page.new key) }
     ensures full { IsInner page.old → MatchResult result (λ _. ¬ (IsFullFor page.old key)) (λ _. IsFullFor page.old key) }
@@ -68,7 +68,7 @@ pub fn add(page: &mut PageBuf, key: u64, child: u64) -> Result<(), Full>
 }
 
 /// What `add` changes, of any page whose keys rise; nothing is written. `Full` comes exactly where the node has 28 pairs and not the key.
-pub fn add_edit(page: &PageBuf, key: u64, child: u64) -> Result<Edit, Full>
+pub fn add_edit(page: &PageBuf<WORDS>, key: u64, child: u64) -> Result<Edit, Full>
     ensures node { (low high : ℕ) → Rises low high (pairs_of page.now) → IfOk result (λ edit. AddsPair page.now (edited page.now edit) key child) }
     ensures refused { OnErr result (IsRefused page.now page.now key) }
     ensures full { IsInner page.now → MatchResult result (λ _. ¬ (IsFullFor page.now key)) (λ _. IsFullFor page.now key) }
@@ -80,7 +80,7 @@ pub fn add_edit(page: &PageBuf, key: u64, child: u64) -> Result<Edit, Full>
 
 /// Splits an inner node of 28 pairs: the first 14 stay, the last 14 make the right sibling. What `right` held before is
 /// lost. Gives the separator, which is the first key of the sibling and its low fence.
-pub fn split_inner(page: &mut PageBuf, right: &mut PageBuf) -> u64
+pub fn split_inner(page: &mut PageBuf<WORDS>, right: &mut PageBuf<WORDS>) -> u64
     requires { length (pairs_of page.old) ≡ MOST_PAIRS }
     ensures halves { IsSplit page.old page.new right.new result }
     ensures left_inner { IsInner page.old → IsInner page.new }

@@ -5,14 +5,14 @@ ghost use Rattle.vm_tree_model.specs.Page.{IsInner};
 ghost use Rattle.vm_tree_model.specs.Edits.{IsNewRoot};
 
 use vm_node::header::{Header, write_header};
-use vm_page::PageBuf;
+use vm_page::{PageBuf, WORDS};
 
 // The tag of an inner node.
 const INNER: u64 = 3;
 
 /// Makes the page a root over two nodes: `left` from key 0 on, and `right` from the separator on. What the page held
 /// before is lost. It is an inner node where the level is 1 or more and the separator is above 0.
-pub fn new_root(page: &mut PageBuf, level: u64, left: u64, separator: u64, right: u64)
+pub fn new_root(page: &mut PageBuf<WORDS>, level: u64, left: u64, separator: u64, right: u64)
     ensures root { IsNewRoot page.new level left separator right }
     ensures inner { 1 ≤ level → 0 < separator → IsInner page.new }
 {

@@ -38,7 +38,7 @@ pub enum Edit {
 
 impl Edit {
     /// Word `i` of the page as the edit leaves it, for `i` from 0 to 63.
-    pub fn word(&self, page: &PageBuf, i: usize) -> u64
+    pub fn word(&self, page: &PageBuf<WORDS>, i: usize) -> u64
         requires { i < WORDS }
         ensures { result ≡ edited_word page.now self.now i }
     {
@@ -72,7 +72,7 @@ impl Edit {
     }
 
     /// Makes it.
-    pub(crate) fn make(&self, page: &mut PageBuf)
+    pub(crate) fn make(&self, page: &mut PageBuf<WORDS>)
         ensures { page.new ≡ edited page.old self.now }
     {
         match *self {
@@ -90,7 +90,7 @@ impl Edit {
 
 /// What a put of this value at the key changes, of any page whose keys rise, and the old value. `Full` comes exactly where
 /// the leaf has 28 pairs and not the key.
-pub fn put_edit(page: &PageBuf, key: u64, value: u64) -> Result<(Option<u64>, Edit), Full>
+pub fn put_edit(page: &PageBuf<WORDS>, key: u64, value: u64) -> Result<(Option<u64>, Edit), Full>
     ensures was { (low high : ℕ) → Rises low high (pairs_of page.now) → IfOk result (λ r. r.0 ≡ lookup_at (pairs_of page.now) key) }
     ensures node { (low high : ℕ) → Rises low high (pairs_of page.now) → IfOk result (λ r. AddsPair page.now (edited page.now r.1) key value) }
     ensures room { IfOk result (λ _. ¬ (IsFullFor page.now key)) }
@@ -118,7 +118,7 @@ pub fn put_edit(page: &PageBuf, key: u64, value: u64) -> Result<(Option<u64>, Ed
 }
 
 /// What a del of the key changes, of any page whose keys rise, and the value; none where the key is not found.
-pub fn del_edit(page: &PageBuf, key: u64) -> Option<(u64, Edit)>
+pub fn del_edit(page: &PageBuf<WORDS>, key: u64) -> Option<(u64, Edit)>
     ensures was { (low high : ℕ) → Rises low high (pairs_of page.now) → option_map (λ r. r.0) result ≡ lookup_at (pairs_of page.now) key }
     ensures node { (low high : ℕ) → Rises low high (pairs_of page.now) → IfSome result (λ r. TakesPair page.now (edited page.now r.1) key) }
     ensures leaf { IsLeaf page.now → IfSome result (λ r. IsLeafWith page.now (edited page.now r.1) (del_pair (pairs_of page.now) key)) }
@@ -131,7 +131,7 @@ pub fn del_edit(page: &PageBuf, key: u64) -> Option<(u64, Edit)>
 }
 
 // The value at the place is written over.
-fn word_over(page: &PageBuf, at: usize, value: u64, i: usize) -> u64
+fn word_over(page: &PageBuf<WORDS>, at: usize, value: u64, i: usize) -> u64
     requires { i < WORDS }
     ensures { result ≡ edited_word page.now (Edit.Over at value) i }
 {
@@ -143,7 +143,7 @@ fn word_over(page: &PageBuf, at: usize, value: u64, i: usize) -> u64
 }
 
 // A pair goes in at the place, and those of the first `count` from there on move up by one.
-fn word_into(page: &PageBuf, at: usize, count: usize, key: u64, value: u64, i: usize) -> u64
+fn word_into(page: &PageBuf<WORDS>, at: usize, count: usize, key: u64, value: u64, i: usize) -> u64
     requires { i < WORDS }
     ensures { result ≡ edited_word page.now (Edit.Into at count key value) i }
 {
@@ -165,7 +165,7 @@ fn word_into(page: &PageBuf, at: usize, count: usize, key: u64, value: u64, i: u
 }
 
 // The pair at the place goes out, and those of the first `count` behind it move down by one.
-fn word_out(page: &PageBuf, at: usize, count: usize, i: usize) -> u64
+fn word_out(page: &PageBuf<WORDS>, at: usize, count: usize, i: usize) -> u64
     requires { i < WORDS }
     ensures { result ≡ edited_word page.now (Edit.Out at count) i }
 {
@@ -184,7 +184,7 @@ fn word_out(page: &PageBuf, at: usize, count: usize, i: usize) -> u64
 }
 
 // Writes the value over.
-fn make_over(page: &mut PageBuf, at: usize, value: u64)
+fn make_over(page: &mut PageBuf<WORDS>, at: usize, value: u64)
     ensures { page.new ≡ edited page.old (Edit.Over at value) }
 {
     for i in 0..WORDS {
@@ -194,7 +194,7 @@ fn make_over(page: &mut PageBuf, at: usize, value: u64)
 }
 
 // Puts the pair in; the words that move up are written from the last one down.
-fn make_into(page: &mut PageBuf, at: usize, count: usize, key: u64, value: u64)
+fn make_into(page: &mut PageBuf<WORDS>, at: usize, count: usize, key: u64, value: u64)
     ensures { page.new ≡ edited page.old (Edit.Into at count key value) }
 {
     for done in 0..WORDS {
@@ -205,7 +205,7 @@ fn make_into(page: &mut PageBuf, at: usize, count: usize, key: u64, value: u64)
 }
 
 // Takes the pair out; the words that move down are written from the first one up.
-fn make_out(page: &mut PageBuf, at: usize, count: usize)
+fn make_out(page: &mut PageBuf<WORDS>, at: usize, count: usize)
     ensures { page.new ≡ edited page.old (Edit.Out at count) }
 {
     for i in 0..WORDS {

@@ -12,7 +12,7 @@ use vm_tree_model::HALF;
 
 /// Splits a node of 28 pairs: the first 14 stay, the last 14 make the right sibling. What `right` held before is lost.
 /// Gives the separator, which is the first key of the sibling and its low fence.
-pub fn split(page: &mut PageBuf, right: &mut PageBuf) -> u64
+pub fn split(page: &mut PageBuf<WORDS>, right: &mut PageBuf<WORDS>) -> u64
     requires { length (pairs_of page.old) ≡ MOST_PAIRS }
     ensures halves { IsSplit page.old page.new right.new result }
     ensures left_leaf { IsLeaf page.old → IsLeaf page.new }
@@ -25,7 +25,7 @@ pub fn split(page: &mut PageBuf, right: &mut PageBuf) -> u64
 
 /// Makes the right half of a node of 28 pairs, which stays as it is: the last 14. What `right` held before is lost.
 /// Gives the separator, which is the first key of the right half and its low fence, and the high fence of the left half.
-pub fn right_half(page: &PageBuf, right: &mut PageBuf) -> u64
+pub fn right_half(page: &PageBuf<WORDS>, right: &mut PageBuf<WORDS>) -> u64
     requires { length (pairs_of page.now) ≡ MOST_PAIRS }
     ensures halves { IsSplit page.now (left_half page.now result) right.new result }
     ensures left_leaf { IsLeaf page.now → IsLeaf (left_half page.now result) }
@@ -50,7 +50,7 @@ pub fn right_half(page: &PageBuf, right: &mut PageBuf) -> u64
 }
 
 /// Word `i` of the left half of the page, for `i` from 0 to 63.
-pub fn left_word(page: &PageBuf, separator: u64, i: usize) -> u64
+pub fn left_word(page: &PageBuf<WORDS>, separator: u64, i: usize) -> u64
     requires { i < WORDS }
     ensures { result ≡ left_word page.now separator i }
 {
@@ -68,7 +68,7 @@ pub fn left_word(page: &PageBuf, separator: u64, i: usize) -> u64
 }
 
 // Makes the left half of the page.
-fn make_left(page: &mut PageBuf, separator: u64)
+fn make_left(page: &mut PageBuf<WORDS>, separator: u64)
     ensures { page.new ≡ left_half page.old separator }
 {
     for i in 0..WORDS {
@@ -78,7 +78,7 @@ fn make_left(page: &mut PageBuf, separator: u64)
 }
 
 // The words of the last 14 pairs, in the first places of another page.
-fn copy_pairs(page: &PageBuf, right: &mut PageBuf)
+fn copy_pairs(page: &PageBuf<WORDS>, right: &mut PageBuf<WORDS>)
     requires right_words { length right.old ≡ WORDS }
     ensures moved { (k : ℕ) → k < 2 * HALF → slice_index right.new (8 + k) ≡ slice_index page.now (36 + k) }
     ensures right_low { (k : ℕ) → k < 8 → slice_index right.new k ≡ slice_index right.old k }

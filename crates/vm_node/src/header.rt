@@ -17,7 +17,7 @@ pub struct Header {
 }
 
 /// Writes the header; the words behind it stay.
-pub fn write_header(page: &mut PageBuf, header: Header)
+pub fn write_header(page: &mut PageBuf<WORDS>, header: Header)
     ensures tag { slice_index page.new 0 ≡ header.tag }
     ensures count { slice_index page.new 1 ≡ header.count }
     ensures low { slice_index page.new 2 ≡ header.low }

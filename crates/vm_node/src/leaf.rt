@@ -12,7 +12,7 @@ use crate::edit::{del_edit, put_edit};
 use crate::full::Full;
 use crate::pairs::{count_at, lower_bound_at};
 use crate::place::{Place, in_buffer};
-use vm_page::PageBuf;
+use vm_page::{PageBuf, WORDS};
 
 /// Whether the page has a leaf's tag, from one word loaded.
 pub fn is_leaf_at<P: Place>(place: &mut P) -> bool
@@ -24,7 +24,7 @@ pub fn is_leaf_at<P: Place>(place: &mut P) -> bool
 }
 
 /// Whether the page has a leaf's tag.
-pub fn is_leaf(page: &PageBuf) -> bool
+pub fn is_leaf(page: &PageBuf<WORDS>) -> bool
     ensures yes { result ≡ true → (node_of page.now).tag ≡ 2 }
     ensures no { result ≡ false → (node_of page.now).tag ≢ 2 }
 {
@@ -41,7 +41,7 @@ pub fn covers_at<P: Place>(place: &mut P, key: u64) -> bool
 }
 
 /// Whether the key lies in the page's fences, from the low one on and below the high one.
-pub fn covers(page: &PageBuf, key: u64) -> bool
+pub fn covers(page: &PageBuf<WORDS>, key: u64) -> bool
     ensures yes { result ≡ true → Covers (node_of page.now) key }
     ensures no { result ≡ false → ¬ (Covers (node_of page.now) key) }
 {
@@ -64,7 +64,7 @@ pub fn find_at<P: Place>(place: &mut P, key: u64) -> Option<u64>
 }
 
 /// The value at the key, of any page whose keys rise. Of other pages it is the value of a pair with the key, or none.
-pub fn find(page: &PageBuf, key: u64) -> Option<u64>
+pub fn find(page: &PageBuf<WORDS>, key: u64) -> Option<u64>
     ensures { (low high : ℕ) → Rises low high (pairs_of page.now) → result ≡ lookup_at (pairs_of page.now) key }
 {
     let mut place = in_buffer(page);
@@ -73,7 +73,7 @@ pub fn find(page: &PageBuf, key: u64) -> Option<u64>
 
 /// Puts a value at the key of any page whose keys rise, and gives the old value. `Full` comes exactly where the leaf has 28
 /// pairs and not the key; the page is then unchanged.
-pub fn put(page: &mut PageBuf, key: u64, value: u64) -> Result<Option<u64>, Full>
+pub fn put(page: &mut PageBuf<WORDS>, key: u64, value: u64) -> Result<Option<u64>, Full>
     ensures was { (low high : ℕ) → Rises low high (pairs_of page.old) → IfOk result (λ was. was ≡ lookup_at (pairs_of page.old) key) }
     ensures node { (low high : ℕ) → Rises low high (pairs_of page.old) → OnOk result (AddsPair page.old page.new key value) }
     ensures room { IfOk result (λ _. ¬ (IsFullFor page.old key)) }
@@ -87,7 +87,7 @@ pub fn put(page: &mut PageBuf, key: u64, value: u64) -> Result<Option<u64>, Full
 }
 
 /// Takes the pair of the key out of any page whose keys rise, and gives its value. Where none is found the page is unchanged.
-pub fn del(page: &mut PageBuf, key: u64) -> Option<u64>
+pub fn del(page: &mut PageBuf<WORDS>, key: u64) -> Option<u64>
     ensures was { (low high : ℕ) → Rises low high (pairs_of page.old) → result ≡ lookup_at (pairs_of page.old) key }
     ensures node { (low high : ℕ) → Rises low high (pairs_of page.old) → TakesPair page.old page.new key }
     ensures none { IfNone result (page.new ≡ page.old) }

@@ -21,7 +21,7 @@ pub fn count_at<P: Place>(place: &mut P) -> usize
 }
 
 /// How many pairs the page has, at most 28.
-pub fn count_of(page: &PageBuf) -> usize
+pub fn count_of(page: &PageBuf<WORDS>) -> usize
     ensures count { result ≡ min (slice_index page.now 1) MOST_PAIRS }
     ensures pairs { result ≡ length (pairs_of page.now) }
     ensures words { length page.now ≡ WORDS }
@@ -30,7 +30,7 @@ pub fn count_of(page: &PageBuf) -> usize
 }
 
 /// The key of the pair at place `i`, which is below the count.
-pub fn key_at(page: &PageBuf, i: usize) -> u64
+pub fn key_at(page: &PageBuf<WORDS>, i: usize) -> u64
     requires { i < length (pairs_of page.now) }
     ensures word { result ≡ slice_index page.now (8 + 2 * i) }
     ensures pair { result ≡ (slice_index_or (pairs_of page.now) i (0, 0)).0 }
@@ -39,7 +39,7 @@ pub fn key_at(page: &PageBuf, i: usize) -> u64
 }
 
 /// The value of the pair at place `i`, which is below the count.
-pub fn value_at(page: &PageBuf, i: usize) -> u64
+pub fn value_at(page: &PageBuf<WORDS>, i: usize) -> u64
     requires { i < length (pairs_of page.now) }
     ensures word { result ≡ slice_index page.now (9 + 2 * i) }
     ensures pair { result ≡ (slice_index_or (pairs_of page.now) i (0, 0)).1 }
@@ -106,7 +106,7 @@ pub fn lower_bound_at<P: Place>(place: &mut P, count: usize, key: u64) -> usize
 }
 
 /// The same, of the pairs of a buffer.
-pub fn lower_bound(page: &PageBuf, key: u64) -> usize
+pub fn lower_bound(page: &PageBuf<WORDS>, key: u64) -> usize
     ensures bound { IsBound (pairs_of page.now) key result }
     ensures place { (low high : ℕ) → Rises low high (pairs_of page.now) → result ≡ place_of (pairs_of page.now) key }
 {
@@ -116,7 +116,7 @@ pub fn lower_bound(page: &PageBuf, key: u64) -> usize
 }
 
 /// The place of a pair that has the key, found by halves: among keys that rise, where there is one.
-pub(crate) fn index_of(page: &PageBuf, key: u64) -> Option<usize>
+pub(crate) fn index_of(page: &PageBuf<WORDS>, key: u64) -> Option<usize>
     ensures some { MatchOption result (Unit {0}) (HasKeyAt (pairs_of page.now) key) }
     ensures rising { (low high : ℕ) → Rises low high (pairs_of page.now) → MatchOption result (lookup_at (pairs_of page.now) key ≡ None) (IsIndexOf (pairs_of page.now) key) }
 {

@@ -30,7 +30,7 @@ pub trait Place {
     ghost join: { (p q r : Self) (first then : List (ℕ × ℕ)) → loads p first q → loads q then r → loads p (first ++ then) r };
 }
 
-impl Place for &PageBuf {
+impl Place for &PageBuf<WORDS> {
     ghost ready = { λ p. length p.now ≡ WORDS };
 
     ghost loads = { λ p loaded q. IsBuffer p.now loaded q.now };
@@ -45,7 +45,7 @@ impl Place for &PageBuf {
 }
 
 /// The page of a buffer as a place.
-pub fn in_buffer(page: &PageBuf) -> &PageBuf
+pub fn in_buffer(page: &PageBuf<WORDS>) -> &PageBuf<WORDS>
     ensures same { result.now ≡ page.now }
     ensures size { length result.now ≡ WORDS }
 {

@@ -11,7 +11,7 @@ ghost use Rattle.vm_node.specs.{Loads.Tells, Shows.IsLeafWindow, Shows.ShowsFirs
 use crate::pairs::{count_at, lower_bound_at};
 use crate::place::{Place, in_buffer};
 use vm_map::window::{Bound, MOST_PAIRS, Pairs, Window};
-use vm_page::PageBuf;
+use vm_page::{PageBuf, WORDS};
 
 /// The first `most` pairs from the key `start` on, or all of them, of any page whose keys rise; a `most` above 28 is read as
 /// 28. The bound is the key of the next pair where there is one, else the page's high fence, else the end. At most two words a pair and nine more
@@ -41,7 +41,7 @@ pub fn window_at<P: Place>(place: &mut P, start: u64, most: u32) -> Window
 }
 
 /// The same, of a page in a buffer.
-pub fn window(page: &PageBuf, start: u64, most: u32) -> Window
+pub fn window(page: &PageBuf<WORDS>, start: u64, most: u32) -> Window
     ensures first { (low high : ℕ) → Rises low high (pairs_of page.now) → IsWindow (pairs_of page.now) (high_of page.now) start (min most MOST_PAIRS) result }
     ensures leaf { IsLeaf page.now → Covers (node_of page.now) start → 1 ≤ most → IsLeafWindow page.now start most result }
 {

@@ -25,6 +25,7 @@ use vm_endings::replies::{add_replies, add_rows};
 use vm_files::reading::Stored;
 use vm_image::{Image, image_of};
 use vm_map::call::{Call, Pair};
+use vm_page::WORDS;
 use vm_pool::Ended;
 use vm_script::text::{counters_text, unflushed_text};
 use vm_serve::{Served, serve};
@@ -97,7 +98,7 @@ fn cut_text(
 }
 
 /// The pages that the blocks hold, and the rows of the tree that they are.
-pub fn stored_in(alloc: Global, blocks: &[MemBlock]) -> Result<Stored, AllocError>
+pub fn stored_in(alloc: Global, blocks: &[MemBlock<WORDS>]) -> Result<Stored, AllocError>
     requires tree { IsTree (pages_of_blocks blocks.now) }
     requires some { 2 ≤ length blocks.now }
     requires most { length blocks.now ≤ 65536 }

@@ -30,11 +30,11 @@ use Rattle.vm_serve.specs.Served.{is_first, IsFilled, IsServed, TreeEnd}
 use Rattle.vm_serve.proofs.Counting.{few-faults, few-notes, small-plan}
 
 -- the words of the blocks are the start's
-contents-held : (blocks : List MemBlock) → contents_of true (map stored_of blocks) ≡ pages_of_blocks blocks
+contents-held : (blocks : List (MemBlock WORDS)) → contents_of WORDS true (map stored_of blocks) ≡ pages_of_blocks blocks
 contents-held [] = refl
 contents-held (b ∷ bs) = ap (λ (l : List (List ℕ)). words_of b ∷ l) (contents-held bs)
 
-words-held : (blocks : List MemBlock) → block_words (map stored_of blocks) ≡ pages_of_blocks blocks
+words-held : (blocks : List (MemBlock WORDS)) → block_words (map stored_of blocks) ≡ pages_of_blocks blocks
 words-held [] = refl
 words-held (b ∷ bs) = ap (λ (l : List (List ℕ)). words_of b ∷ l) (words-held bs)
 
@@ -45,16 +45,16 @@ all-zero (suc n) [] e z = absurd (omega arith)
 all-zero (suc n) (x ∷ xs) e z = let first : x ≡ 0 = z 0 in let rest : xs ≡ replicate n 0 = all-zero n xs (omega arith) (λ i. z (suc i)) in cc
 
 -- the tree may begin with the pages of blocks that are one
-pub begins-held : (next : ℕ) (blocks : List MemBlock) → IsTree (pages_of_blocks blocks) → IsNextPage (pages_of_blocks blocks) next → MayBegin KeepsTree next (block_words (map stored_of blocks))
+pub begins-held : (next : ℕ) (blocks : List (MemBlock WORDS)) → IsTree (pages_of_blocks blocks) → IsNextPage (pages_of_blocks blocks) next → MayBegin KeepsTree next (block_words (map stored_of blocks))
 begins-held next blocks tree free =
     subst (λ (l : List (List ℕ)). MayBegin KeepsTree next l) (sym (words-held blocks))
     (record {
-      zero = λ p l m. let f = free.free p l m in all-zero WORDS (page_at (pages_of_blocks blocks) p) f.length f.zero;
+      zero = λ p l m. let f = free.free p l m in all-zero (length (page_at (pages_of_blocks blocks) p)) (page_at (pages_of_blocks blocks) p) refl f.zero;
       kept = start_keeps (record { pages = pages_of_blocks blocks; next = next }) tree free.within;
     })
 
 -- so it may with the pages of an image that is one
-pub begins : (pages : List (List ℕ)) (plan : List PlannedFault) (next : ℕ) (blocks : List MemBlock) → IsTree pages → IsNextPage pages next → AreBlocksOf pages plan blocks → MayBegin KeepsTree next (block_words (map stored_of blocks))
+pub begins : (pages : List (List ℕ)) (plan : List PlannedFault) (next : ℕ) (blocks : List (MemBlock WORDS)) → IsTree pages → IsNextPage pages next → AreBlocksOf pages plan blocks → MayBegin KeepsTree next (block_words (map stored_of blocks))
 begins pages plan next blocks tree free held =
     begins-held next blocks (subst (λ (l : List (List ℕ)). IsTree l) (sym held.held) tree) (subst (λ (l : List (List ℕ)). IsNextPage l next) (sym held.held) free)
 
@@ -64,13 +64,13 @@ numbers-long a zero = refl
 numbers-long a (suc n) = ap suc (numbers-long (suc a) n)
 
 -- the first pass has fresh parts enough
-pub fresh-enough : (tells : Bool) (version next frames count : ℕ) (blocks : List Stored) (v : View Said) → v ≡ begun (unborn (started_shape tells version next frames blocks)) → count ≤ 64 → count ≤ length v.fresh
-fresh-enough tells version next frames count blocks v is few =
+pub fresh-enough : (size : ℕ) (tells : Bool) (version next frames count : ℕ) (blocks : List Stored) (v : View Said) → v ≡ begun (unborn (started_shape size tells version next frames blocks)) → count ≤ 64 → count ≤ length v.fresh
+fresh-enough size tells version next frames count blocks v is few =
     let long : length v.fresh ≡ 4294967295 = ap (λ (x : View Said). length x.fresh) is ∙ numbers-long 1 4294967295 in
     omega arith
 
 -- a fresh block's bound is that of its plan
-planned-bound : (blocks : List MemBlock) (p : ℕ) (numbers : List ℕ) → p < length blocks → ((d : MemBlock) → (stored_of (slice_index_or blocks p d)).bound ≡ most_faults numbers) → (at no_block (map stored_of blocks) p).bound ≡ most_faults numbers
+planned-bound : (blocks : List (MemBlock WORDS)) (p : ℕ) (numbers : List ℕ) → p < length blocks → ((d : MemBlock WORDS) → (stored_of (slice_index_or blocks p d)).bound ≡ most_faults numbers) → (at no_block (map stored_of blocks) p).bound ≡ most_faults numbers
 unfolding at
 planned-bound [] p numbers l f = absurd (omega arith)
 planned-bound (b ∷ bs) zero numbers l f = f b
@@ -97,7 +97,7 @@ none-noted : (notes : List Note) → length notes ≡ 0 → first_noted notes �
 none-noted [] e = refl
 none-noted (n ∷ ns) e = absurd (omega arith)
 
-same-words : (blocks : List MemBlock) (p : ℕ) → p < length blocks → at [] (pages_of_blocks blocks) p ≡ (at no_block (map stored_of blocks) p).words
+same-words : (blocks : List (MemBlock WORDS)) (p : ℕ) → p < length blocks → at [] (pages_of_blocks blocks) p ≡ (at no_block (map stored_of blocks) p).words
 unfolding at
 same-words [] p l = absurd (omega arith)
 same-words (b ∷ bs) zero l = refl
@@ -124,18 +124,18 @@ first-least p q high (n ∷ ns) rises e l =
     (omega arith, rw (ne_eqb q n.page (λ e. absurd (omega arith))) rest)
 
 -- the blocks hold the pages that these words are
-blocks-hold : (blocks : List MemBlock) (n : ℕ) (words : ℕ → List ℕ) → length blocks ≡ n → ((p : ℕ) → p < n → (at no_block (map stored_of blocks) p).words ≡ words p) → pages_of_blocks blocks ≡ listed n words
+blocks-hold : (blocks : List (MemBlock WORDS)) (n : ℕ) (words : ℕ → List ℕ) → length blocks ≡ n → ((p : ℕ) → p < n → (at no_block (map stored_of blocks) p).words ≡ words p) → pages_of_blocks blocks ≡ listed n words
 blocks-hold blocks n words long each =
     sym (listed-long [] n (pages_of_blocks blocks) (length-mapped words_of blocks ∙ long))
     ∙ listed-same n (at [] (pages_of_blocks blocks)) words (λ p l. same-words blocks p (subst (λ k. p < k) (sym long) l) ∙ each p l)
 
-module _ (pages : List (List ℕ)) (plan : List PlannedFault) (version next frames : ℕ) (before after : List MemBlock) (lists : List (List Call)) (replies : List (List (Result Reply TreeFault))) (report : Flushed) (end : TreeEnd) (v w : View Said)
-    (held : AreBlocksOf pages plan before) (count : length before ≡ length pages) (is : v ≡ begun (unborn (started_shape true version next frames (map stored_of before)))) (next_page : IsNextPage pages next)
+module _ (pages : List (List ℕ)) (plan : List PlannedFault) (version next frames : ℕ) (before after : List (MemBlock WORDS)) (lists : List (List Call)) (replies : List (List (Result Reply TreeFault))) (report : Flushed) (end : TreeEnd) (v w : View Said)
+    (held : AreBlocksOf pages plan before) (count : length before ≡ length pages) (is : v ≡ begun (unborn (started_shape WORDS true version next frames (map stored_of before)))) (next_page : IsNextPage pages next)
     (driven : IsDriven true lists replies v w) (flushed : IsFlushed report w (view_at_end end)) (last : ℕ) (closed : IsClosed true KeepsTree (view_at_end end) (map stored_of after) last) where
   abbrev e : View Said
   e = view_at_end end
 
-  start-is : e.start ≡ started_origin true version next frames (map stored_of before)
+  start-is : e.start ≡ started_origin WORDS true version next frames (map stored_of before)
   start-is = flushed.aside.start ∙ driven.start ∙ ap (λ (x : View Said). x.start) is
 
   began : e.start.contents ≡ pages

@@ -1,6 +1,7 @@
 -- What serving workers' calls on an image comes to: the headline, read from what the pool's end keeps.
 use Rattle.std.specs.Prelude.{◌&&◌, ◌*◌, ◌+◌, ◌<◌, ◌==◌, ◌≡◌, ◌≤◌, Bool, if◌then◌else◌, length, List, map, None, Option, Result, Some, true, ℕ}
 use Rattle.std.specs.Set.{distinct_count}
+use Rattle.vm_page.specs.declared.buf.TheConstants.{WORDS}
 use Rattle.vm_map.specs.{declared.call.Call.Call, declared.call.Reply.Reply, declared.call.Said.Said, History.after_all}
 use Rattle.vm_tree_model.specs.{Count.node_count, Tree.IsTree, Tree.map_of}
 use Rattle.vm_image.specs.{Blocks.numbers_for, Blocks.pages_of_blocks, declared.blocks.PlannedFault.PlannedFault, File.IsNextPage}
@@ -51,7 +52,7 @@ is_first (Some q) p = if q == p then 1 else 0
 -- those that the end shows. Where no write of the flush failed, each block has its page's last words, and the blocks hold a tree whose map is
 -- the history's last one; each page below the first whose write failed is stored, so its block has its last words. No more faults are counted
 -- than the plan has different entries.
-pub record IsServed (pages : List (List ℕ)) (plan : List PlannedFault) (lists : List (List Call)) (replies : List (List (Result Reply TreeFault))) (report : Flushed) (blocks : List MemBlock) (end : TreeEnd) : Type 0 where
+pub record IsServed (pages : List (List ℕ)) (plan : List PlannedFault) (lists : List (List Call)) (replies : List (List (Result Reply TreeFault))) (report : Flushed) (blocks : List (MemBlock WORDS)) (end : TreeEnd) : Type 0 where
   pub count : length blocks ≡ length pages
   pub many : (view_at_end end).start.pages ≡ length pages
   pub closed : map stored_of blocks ≡ (view_at_end end).snapshot.blocks
@@ -84,7 +85,7 @@ pub record IsServed (pages : List (List ℕ)) (plan : List PlannedFault) (lists 
   pub few : end.faults ≤ distinct_entries plan
 
 -- the same, where what was kept of the replies stands for them
-pub record IsServedInto {A : Type 0} (keeps : A → List (Result Reply TreeFault) → Type 0) (pages : List (List ℕ)) (plan : List PlannedFault) (lists : List (List Call)) (kept : List A) (report : Flushed) (blocks : List MemBlock) (end : TreeEnd) : Type 0 where
+pub record IsServedInto {A : Type 0} (keeps : A → List (Result Reply TreeFault) → Type 0) (pages : List (List ℕ)) (plan : List PlannedFault) (lists : List (List Call)) (kept : List A) (report : Flushed) (blocks : List (MemBlock WORDS)) (end : TreeEnd) : Type 0 where
   pub told : List (List (Result Reply TreeFault))
   pub stand : AreKept keeps kept told
   pub served : IsServed pages plan lists told report blocks end

@@ -23,6 +23,7 @@ use vm_drive::{DrivenInto, drive_into, rooms_for};
 use vm_evict::Flushed;
 use vm_image::{Image, PlannedFault, blocks_of};
 use vm_map::call::Call;
+use vm_page::WORDS;
 use vm_pool::save::{Saved, flush_and_close};
 use vm_pool::{Closed, Ended, Pool, Shape};
 use vm_tree_rule::Tree;
@@ -37,7 +38,7 @@ pub struct Served {
     /// What the last flush did.
     pub report: Flushed,
     /// The blocks, in the order of their pages.
-    pub blocks: Vec<MemBlock>,
+    pub blocks: Vec<MemBlock<WORDS>>,
     /// That the pool was closed, with the one history that this run had.
     pub ended: Ended<Tree>,
 }
@@ -52,7 +53,7 @@ pub struct ServedInto<A> {
     /// What the last flush did.
     pub report: Flushed,
     /// The blocks, in the order of their pages.
-    pub blocks: Vec<MemBlock>,
+    pub blocks: Vec<MemBlock<WORDS>>,
     /// That the pool was closed, with the one history that this run had.
     pub ended: Ended<Tree>,
 }
@@ -154,7 +155,7 @@ fn serve_blocks<R: Threads + Wait + Sync, G: Gate + Sync, A: Answers + Send + Dr
     rt: &R,
     alloc: Global,
     shape: Shape,
-    blocks: Vec<MemBlock>,
+    blocks: Vec<MemBlock<WORDS>>,
     lists: &[Vec<Call>],
     gate: &G,
     rooms: Vec<A>,

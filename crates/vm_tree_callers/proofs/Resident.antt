@@ -34,15 +34,15 @@ use Rattle.vm_tree_read.specs.declared.read.TryRead.TheVariants as tries
 -- ---- the next word
 
 -- it is no place of a page or of a frame
-not-of-next : (p f : ℕ) → IsOfBoth p f places.Next → ⊥
-not-of-next p f (inl page-is) = page-is
-not-of-next p f (inr (inl e)) = absurd (cc)
-not-of-next p f (inr (inr c)) = let e = c.2 in absurd (cc)
+not-of-next : (size p f : ℕ) → IsOfBoth size p f places.Next → ⊥
+not-of-next size p f (inl page-is) = page-is
+not-of-next size p f (inr (inl e)) = absurd (cc)
+not-of-next size p f (inr (inr c)) = let e = c.2 in absurd (cc)
 
 -- it stays where a page is brought
 next-same : (cap p : ℕ) (old new : List ℕ) (v w : View Said) → KnowsBrought cap p old new v w → known_next w ≡ known_next v
-next-same cap p old new v w (brought.own f is k) = k.others.words places.Next tt (not-of-next p f)
-next-same cap p old new v w (brought.taken f g mask none are inside low left k) = k.others.words places.Next tt (λ t. ⊎_elim (not-of-next p f) (λ (e : places.Next ≡ places.Bundle g). absurd (cc)) t)
+next-same cap p old new v w (brought.own f is k) = k.others.words places.Next tt (not-of-next _ p f)
+next-same cap p old new v w (brought.taken f g mask none are inside low left k) = k.others.words places.Next tt (λ t. ⊎_elim (not-of-next _ p f) (λ (e : places.Next ≡ places.Bundle g). absurd (cc)) t)
 
 -- a page that was brought is free
 free-word : (cap p : ℕ) (old new : List ℕ) (v w : View Said) → IsKnownOut p v → KnowsBrought cap p old new v w → IsKnownFree p w
@@ -61,10 +61,10 @@ got-is leaf key (Win window) p = absurd p
 
 module _ (version next frames : ℕ) (blocks : List Stored) where
   abbrev first : View Said
-  first = begun (unborn (started_shape true version next frames blocks))
+  first = begun (unborn (started_shape 64 true version next frames blocks))
 
   first-next : known_next first ≡ next
-  first-next = sym (at-get 0 (started_words (length blocks) frames version next (counts_of blocks)) (3 * length blocks + 64 * frames + bundles_of frames)) ∙ started-next true version next frames blocks
+  first-next = sym (at-get 0 (started_words 64 (length blocks) frames version next (counts_of blocks)) (3 * length blocks + 64 * frames + bundles_of frames)) ∙ started-next 64 true version next frames blocks
 
   first-words : (p : ℕ) → p < length blocks → (last_of first p).words ≡ page_at (block_words blocks) p
   first-words p l =
@@ -82,7 +82,7 @@ module _ (version next frames : ℕ) (blocks : List Stored) where
     many = let l : next ≤ pages = fits.claimed in omega (arith, l, leaf)
 
     before : IsAlone w × IsKnownOut 1 w × HasFree new w
-    before = again true version next frames blocks pages long fits below two 0 1 (omega arith) (omega (arith, many)) (omega (arith, many)) new w meta asked
+    before = again 64 true version next frames blocks pages long fits below two 0 1 (omega arith) (omega (arith, many)) (omega (arith, many)) new w meta asked
 
     first-brought : KnowsBrought 1 0 [] new first w
     first-brought = subst (KnowsBring 1 0 [] new first w) here asked.knows
@@ -100,7 +100,7 @@ module _ (version next frames : ℕ) (blocks : List Stored) where
     meta-free =
         let inside : 0 < w.start.pages = subst (λ (o : Origin). 0 < o.pages) (sym asked.keeps.start) (omega (arith, many, long)) in
         subst IsUnlockedWord (sym (other-page cap 1 0 new last w z root (omega arith) inside then-knows))
-        (free-word 1 0 [] new first w (first-out true version next frames blocks first refl pages long fits 0 (omega (arith, many)) below) first-brought)
+        (free-word 1 0 [] new first w (first-out 64 true version next frames blocks first refl pages long fits 0 (omega (arith, many)) below) first-brought)
 
     both-free : (q : ℕ) → q < 2 → IsKnownFree q z
     both-free q l =
@@ -120,7 +120,7 @@ module _ (version next frames : ℕ) (blocks : List Stored) where
           let count : length b.kept.pages ≡ length blocks = b.keeps.same_count ∙ ap (λ (o : Origin). length o.contents) start ∙ length-mapped (λ (s : Stored). s.words) blocks in
           let inside : a.page < length blocks = (let l : a.page < length b.kept.pages = leaf-there.1 in omega (arith, l, count)) in
           let stays : StaysAlone first z = alone-then first w z asked.keeps.parts asked.keeps.alone keeps.alone in
-          let whole = first-alone true version next frames blocks first refl in
+          let whole = first-alone 64 true version next frames blocks first refl in
           let same : page_at b.kept.pages a.page ≡ page_at (block_words blocks) a.page =
           b.last ∙ a.reads.alone.words resident.alone.0 resident.alone.1 a.page ∙ stays.words whole.0 whole.1 a.page ∙ first-words a.page inside in
           let got = got-is (page_at b.kept.pages a.page) key reply b.proved in

@@ -6,6 +6,7 @@ ghost use Rattle.vm_tree_callers.specs.Pairs.{AnswersPut};
 
 use vm_block::Block;
 use vm_map::call::Reply;
+use vm_page::WORDS;
 use vm_pool::Pool;
 use vm_rule::words::Pass;
 use vm_tree_read::{TryRead, try_get};
@@ -14,7 +15,7 @@ use vm_tree_write::{TryWrite, try_put};
 
 /// The reply of the get, where both calls were answered at once.
 pub fn put_meet_get<B: Block>(
-    pool: &Pool<Tree, B>,
+    pool: &Pool<Tree, B, WORDS>,
     first: &mut Pass<Tree>,
     second: &mut Pass<Tree>,
     key: u64,

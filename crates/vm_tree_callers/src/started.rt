@@ -9,10 +9,11 @@ ghost use Rattle.vm_pool.specs.Brings.{IsBroughtOrFailed};
 ghost use Rattle.vm_tree_laws.specs.Keeps.{KeepsTree};
 
 use std::alloc::Global;
-use vm_block::Block;
+use vm_block::{Block, PageBlock};
 use vm_core::Memory;
 use vm_exmap::Interface;
 use vm_map::call::Reply;
+use vm_page::WORDS;
 use vm_pool::{Bring, Pool, Shape};
 use vm_pool_callers::first_page::{Opened, open_page};
 use vm_rule::words::Pass;
@@ -21,7 +22,7 @@ use vm_tree_rule::Tree;
 
 /// A pool that was just started, with its first pass, what `bring` answered for page 0 and for the root, and what the get answered then.
 pub struct Started<B: Block> {
-    pub pool: Pool<Tree, B>,
+    pub pool: Pool<Tree, B, WORDS>,
     pub pass: Pass<Tree>,
     pub iface: Interface,
     pub meta: Bring,
@@ -32,7 +33,7 @@ pub struct Started<B: Block> {
 /// Starts a pool of two or more frames, below the last version, over blocks that tell their words and hold a tree on the pages 0 and 1; brings
 /// both, and tries a get of the key. Each page is brought, or its device failed, as the bound of its block allows; where both were brought the
 /// get is answered at once, with what the map of the pages has at the key.
-pub fn get_from_start<B: Block + Drop>(
+pub fn get_from_start<B: PageBlock<WORDS> + Drop>(
     alloc: Global,
     shape: Shape,
     blocks: Vec<B>,

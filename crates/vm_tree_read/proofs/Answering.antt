@@ -29,13 +29,13 @@ pub words-are : (p : ℕ) (v : View Said) (before : List (ℕ × ℕ)) (page wor
 words-are p v before page words long loads size are = same-page words page long (page-with p (placed 0 page) v words (before, loads) size are)
 
 -- so they prove what is said, where their keys rise
-pub may-tell : (p : ℕ) (v : View Said) (said : Said) (loaded : List (ℕ × ℕ)) → HasLoaded v p loaded → TellReply loaded said → MayTell Tied MayRead p (Some said) v
-may-tell p v said loaded has proves =
-    inr (λ tells o reads words size are itself named. let r = proves words (page-with p loaded v words has size are) in (r.leaf, r.reply))
+pub may-tell : (p : ℕ) (v : View Said) (said : Said) (loaded : List (ℕ × ℕ)) → v.start.size ≡ 64 → HasLoaded v p loaded → TellReply loaded said → MayTell Tied MayRead p (Some said) v
+may-tell p v said loaded whole has proves =
+    inr (λ tells o reads words size are itself named. let r = proves words (page-with p loaded v words has (size ∙ whole) are) in (r.leaf, r.reply))
 
-pub answered : (p word frame : ℕ) (said : Said) (loaded : List (ℕ × ℕ)) (v w : View Said) → IsReading p word frame v → HasLoaded v p loaded → TellReply loaded said
+pub answered : (p word frame : ℕ) (said : Said) (loaded : List (ℕ × ℕ)) (v w : View Said) → w.start.size ≡ 64 → IsReading p word frame v → HasLoaded v p loaded → TellReply loaded said
     → IsValid Tied p word frame (Some said) v w → (v.start.tells ≡ true → IsKeptNow KeepsTree p (Unit {0}) w) → IsAnswered said v w
-answered p word frame said loaded v w r has proves k told = record {
+answered p word frame said loaded v w whole r has proves k told = record {
   reads = valid-only Tied p word frame (Some said) v w k;
   mine = k.mine;
   entry = k.entry;
@@ -46,7 +46,7 @@ answered p word frame said loaded v w r has proves k told = record {
   told = λ tells.
       let kept : IsKeptNow KeepsTree p (Unit {0}) w = told tells in
       let last : page_at kept.kept.pages p ≡ (last_of w p).words = kept.page tt in
-      let with : IsPageWith loaded (page_at kept.kept.pages p) = subst (IsPageWith loaded) (sym last) (page-with p loaded v (last_of w p).words has k.size ((k.validates tells).valid _ r.reading refl)) in
+      let with : IsPageWith loaded (page_at kept.kept.pages p) = subst (IsPageWith loaded) (sym last) (page-with p loaded v (last_of w p).words has (k.size ∙ whole) ((k.validates tells).valid _ r.reading refl)) in
       let reply = proves (page_at kept.kept.pages p) with in
       let leaf = kept.holds.tree.tree.leaf p reply.leaf in
       let start : w.start ≡ v.start = k.steady.start in

@@ -106,7 +106,7 @@ pub fn read_leaf<B: Block>(
     pass: &mut Pass<Tree>,
     guard: &OptGuard,
     key: u64,
-    page: &mut PageBuf,
+    page: &mut PageBuf<WORDS>,
 ) -> Result<(), Turn>
     requires ready { IsReady words.now.table.shared.key B.tells words.now.table.shared.table_id pass.old }
     requires reading { IsReading guard.now.pid guard.now.word guard.now.frame (view pass.old) }

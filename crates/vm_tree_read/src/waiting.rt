@@ -8,9 +8,10 @@ ghost use Rattle.vm_tree_read.specs.Waiting.{IsBringFault, IsFaulted, IsNoBringF
 use crate::read::{TryRead, look_up, try_window};
 use crossbeam_utils::Backoff;
 use std::sync::Wait;
-use vm_block::Block;
+use vm_block::PageBlock;
 use vm_exmap::Interface;
 use vm_map::call::Reply;
+use vm_page::WORDS;
 use vm_pool::{Bring, Pool};
 use vm_rule::words::Pass;
 use vm_tree_rule::{Tree, TreeFault, Turn};
@@ -37,8 +38,8 @@ pub fn settle(answer: Bring, backoff: &Backoff) -> Result<(), TreeFault>
 }
 
 /// Brings the page that a try needs, or backs off.
-pub fn fetch<B: Block>(
-    pool: &Pool<Tree, B>,
+pub fn fetch<B: PageBlock<WORDS>>(
+    pool: &Pool<Tree, B, WORDS>,
     pass: &mut Pass<Tree>,
     iface: &mut Interface,
     pid: u32,
@@ -62,9 +63,9 @@ pub fn fetch<B: Block>(
 }
 
 /// The value at the key.
-pub fn get<R: Wait, B: Block>(
+pub fn get<R: Wait, B: PageBlock<WORDS>>(
     rt: &R,
-    pool: &Pool<Tree, B>,
+    pool: &Pool<Tree, B, WORDS>,
     pass: &mut Pass<Tree>,
     iface: &mut Interface,
     key: u64,
@@ -98,9 +99,9 @@ pub fn get<R: Wait, B: Block>(
 }
 
 /// The first pairs from the key `start` on, at most `most` (1 or more) of them and at most those of one leaf.
-pub fn window<R: Wait, B: Block>(
+pub fn window<R: Wait, B: PageBlock<WORDS>>(
     rt: &R,
-    pool: &Pool<Tree, B>,
+    pool: &Pool<Tree, B, WORDS>,
     pass: &mut Pass<Tree>,
     iface: &mut Interface,
     start: u64,

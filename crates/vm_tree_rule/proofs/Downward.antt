@@ -37,11 +37,11 @@ module _ {X : Type 0} where
       subst (λ (s : Origin). IsReached (length s.contents) p words level key) (sym reads.start) (awaits (ap (λ (s : Origin). s.tells) (sym reads.start) ∙ tells) words (ties-back p word v w reads words all))
 
   -- a page that a validated page names, validated at the version that was seen before
-  pub awaits-named : (p word frame named level low high q word' frame' : ℕ) (y w : View X) → NamesNode y p word named level low high → q ≡ named → HasSteppedDown p word frame q word' frame' y w → AwaitsNode w q word' level low high
-  awaits-named p word frame named level low high q word' frame' y w names same s told words all =
+  pub awaits-named : (p word frame named level low high q word' frame' : ℕ) (y w : View X) → NamesNode y p word named level low high → q ≡ named → HasSteppedDown p word frame q word' frame' y w → w.start.size ≡ 64 → AwaitsNode w q word' level low high
+  awaits-named p word frame named level low high q word' frame' y w names same s whole told words all =
       let tells : y.start.tells ≡ true = ap (λ (o : Origin). o.tells) (sym s.reads.0.start) ∙ told in
       let above : List ℕ = (last_of w p).words in
-      let name : IsNameIn (tree_pages y) p above named level low high = names tells above s.valid.size (s.sees tells) in
+      let name : IsNameIn (tree_pages y) p above named level low high = names tells above (s.valid.size ∙ whole) (s.sees tells) in
       let tie : Tied (began_of w.start) p above q words =
       each-at (λ (t : Tie). t.page ≡ q → t.version ≡ version_of word' → Tied (began_of w.start) t.of t.words q words) s.tied.0 _ s.tied.1
       (subst (λ (l : List Tie). Each (λ (t : Tie). t.page ≡ q → t.version ≡ version_of word' → Tied (began_of w.start) t.of t.words q words) l) s.tied.2 all) refl refl in

@@ -133,15 +133,15 @@ module _ {X : Type 0} (p word frame : ℕ) where
   loads-name key named v w same (inr k) = inr (k.0, (k.1.0, same ∙ k.1.1), k.2)
 
   -- where the step ended without its page, so did the descent
-  pub turned : (key named : ℕ) (turn : Turn) (u v w : View X) → IsOpened u p word frame v → (v.start.tells ≡ true → (words : List ℕ) → length words ≡ 64 → Sees v p word words → NamesForKey p words key named) → LoadsName v p key named → IsStopped p word frame named turn v w → IsTurnedBack u key turn w
-  turned key named turn u v w o names loads (stops.denied saw x is d k) =
+  pub turned : (key named : ℕ) (turn : Turn) (u v w : View X) → IsOpened u p word frame v → (v.start.tells ≡ true → (words : List ℕ) → length words ≡ 64 → Sees v p word words → NamesForKey p words key named) → LoadsName v p key named → w.start.size ≡ 64 → IsStopped p word frame named turn v w → IsTurnedBack u key turn w
+  turned key named turn u v w o names loads whole (stops.denied saw x is d k) =
       let reads : ReadsOn u v = opened-reads u v o in
       let denied : ReadsOn v x = denied-reads AgainOrNeed NoWord NoneExpected named (denies.Again saw) v x d in
       let valid : ReadsOn x w = valid-reads Tied p word frame x w k in
       subst (λ t. IsTurnedBack u key t w) (sym is)
       (reads-then u v w reads (reads-then v x w denied valid), shown-later NoneExpected saw k.done u x w k.steady.log (shown-start AgainOrNeed NoneExpected named saw reads.0.done u v x reads.0.log d))
-  turned key named turn u v w o names loads (stops.refused saw x is reads leaves d) = subst (λ t. IsTurnedBack u key t w) (sym is) (refused-turn key saw u v x w o reads leaves d)
-  turned key named turn u v w o names loads (stops.missing x is d k sees inside ne) =
+  turned key named turn u v w o names loads whole (stops.refused saw x is reads leaves d) = subst (λ t. IsTurnedBack u key t w) (sym is) (refused-turn key saw u v x w o reads leaves d)
+  turned key named turn u v w o names loads whole (stops.missing x is d k sees inside ne) =
       let reads : ReadsOn u v = opened-reads u v o in
       let denied : ReadsOn v x = denied-reads AgainOrNeed NoWord NoneExpected named (denies.Need named) v x d in
       let valid : ReadsOn x w = valid-reads Tied p word frame x w k in
@@ -161,11 +161,11 @@ module _ {X : Type 0} (p word frame : ℕ) where
             reads = before;
             valid = k;
             loads = loads-name key named v w ((k.same_reads p).loads ∙ (d.quiet.others p (λ e. ne (sym e))).loads) loads;
-            names = λ tells. let told : v.start.tells ≡ true = ap (λ (y : Origin). y.tells) reads.0.start ∙ tells in names told (last_of w p).words k.size (sees told);
+            names = λ tells. let told : v.start.tells ≡ true = ap (λ (y : Origin). y.tells) reads.0.start ∙ tells in names told (last_of w p).words (k.size ∙ whole) (sees told);
           });
         },
       )
-  turned key named turn u v w o names loads (stops.astray is untold k none) =
+  turned key named turn u v w o names loads whole (stops.astray is untold k none) =
       let reads : ReadsOn u v = opened-reads u v o in
       subst (λ t. IsTurnedBack u key t w) (sym is)
       (astray-turn key u v w o (ap (λ (y : Origin). y.tells) (sym reads.0.start) ∙ untold) k

@@ -1,3 +1,4 @@
+pub mod Whole
 pub mod Showing
 pub mod Readings
 pub mod Logged

@@ -83,14 +83,14 @@ module _ {X : Type 0} where
     pub reread-opened : (u : View X) → IsOpened u p word frame v → IsOpened u p word frame w
     reread-opened u o = opened-beside p word frame u r.read w (beside-valid p p word frame r.read w r.valid) (opened-loads p word frame (placed 0 page) u v r.read o r.loads)
 
-    module _ (loaded : List (ℕ × ℕ)) (long : length page ≡ 64) (has : HasLoaded v p loaded) where
+    module _ (loaded : List (ℕ × ℕ)) (long : length page ≡ 64) (whole : w.start.size ≡ 64) (has : HasLoaded v p loaded) where
       -- it has what was loaded of it before, where blocks tell their words
       pub reread-has : v.start.tells ≡ true → ((last_of w p).words ≡ page) × IsPageWith loaded page
       reread-has tells =
           let words : List ℕ = (last_of w p).words in
           let sees : Sees r.read p word words = r.valid.validates (ap (λ (o : Origin). o.tells) r.loads.quiet.steady.start ∙ tells) in
           let with : IsPageWith (loaded ++ placed 0 page) words
-          = has-loaded p word frame 0 0 (loaded ++ placed 0 page) r.read r.loads.reads (loaded-more p word frame loaded (placed 0 page) v r.read has r.loads) words r.valid.size sees in
+          = has-loaded p word frame 0 0 (loaded ++ placed 0 page) r.read r.loads.reads (loaded-more p word frame loaded (placed 0 page) v r.read has r.loads) words (r.valid.size ∙ whole) sees in
           let same : words ≡ page = same-page words page long (page_then loaded (placed 0 page) words with) in
           (same, subst (IsPageWith loaded) same (page_first loaded (placed 0 page) words with))
 
@@ -115,8 +115,8 @@ module _ {X : Type 0} where
 
   module _ (p word frame level key : ℕ) (loaded : List (ℕ × ℕ)) (v x w : View X) (l : Loads p word frame loaded v x) (awaits : Awaits v p word (suc level) key) (named : ℕ) (tells : TellChild loaded key named) where
     -- it is passed by
-    pub passes-by : (q word' frame' : ℕ) → q ≡ named → HasSteppedDown p word frame q word' frame' x w → GoesPast p word frame key q v w
-    passes-by q word' frame' same s = (
+    pub passes-by : (q word' frame' : ℕ) → q ≡ named → w.start.size ≡ 64 → HasSteppedDown p word frame q word' frame' x w → GoesPast p word frame key q v w
+    passes-by q word' frame' same whole s = (
       loaded,
       λ u counted o has room.
           let more = loaded-more p word frame counted loaded v x has l in
@@ -137,7 +137,7 @@ module _ {X : Type 0} where
                   let told : x.start.tells ≡ true = ap (λ (y : Origin). y.tells) (l.quiet.steady.start ∙ start) ∙ t in
                   let words : List ℕ = (last_of w p).words in
                   let sees = s.sees told in
-                  let with : IsPageWith (counted ++ loaded) words = has-loaded p word frame level key (counted ++ loaded) x l.reads more words s.valid.size sees in
+                  let with : IsPageWith (counted ++ loaded) words = has-loaded p word frame level key (counted ++ loaded) x l.reads more words (s.valid.size ∙ whole) sees in
                   let reached = awaits-later p word (suc level) key v x (loads-reads p word frame loaded v x l).0 awaits told words sees.holds in
                   let inner = inner-here (tree_pages x) p words level key reached in
                   (with, (tells words (page_then counted loaded words with)).child _ _ inner.node.rises ∙ ap (λ (n : ℕ). Some n) (sym same));
@@ -177,9 +177,9 @@ module _ {X : Type 0} where
     pub parent-has : HasLoaded b parent.pid loaded → HasLoaded c parent.pid loaded
     parent-has has = (has.0, over-before.same.loads ∙ has.1)
 
-    pub full-below : (way : List (ℕ × List (ℕ × ℕ))) → length over ≡ 64 → IsOpened u parent.pid parent.word parent.frame b → IsOpened u node.pid node.word node.frame b → HasLoaded b parent.pid loaded
+    pub full-below : (way : List (ℕ × List (ℕ × ℕ))) → length over ≡ 64 → d.start.size ≡ 64 → IsOpened u parent.pid parent.word parent.frame b → IsOpened u node.pid node.word node.frame b → HasLoaded b parent.pid loaded
         → Awaits b parent.pid parent.word (suc level) key → ArePassed u key ((parent.pid, loaded) ∷ way) node.pid b → length (pairs_of over) < 28 → length (pairs_of page) ≡ 28 → IsFullBelow u key parent node over page e
-    full-below way long op on has awaits passed room full = record {
+    full-below way long whole op on has awaits passed room full = record {
       parent_opened = opened-beside parent.pid parent.word parent.frame u d e over-later
           (reread-opened parent.pid parent.word parent.frame over c d first u (opened-beside parent.pid parent.word parent.frame u b c over-before op));
       opened = reread-opened node.pid node.word node.frame page d e second u
@@ -191,7 +191,7 @@ module _ {X : Type 0} where
       awaits = awaits-later parent.pid parent.word (suc level) key b e all-reads.0 awaits;
       names = λ tells.
           let told : first.read.start.tells ≡ true = ap (λ (s : Origin). s.tells) (first.loads.quiet.steady.start ∙ over-before.reads.0.start ∙ (opened-reads parent.pid parent.word parent.frame u b op).0.start) ∙ tells in
-          let here = reread-has parent.pid parent.word parent.frame over c d first loaded long (parent-has has) (ap (λ (s : Origin). s.tells) (sym first.loads.quiet.steady.start) ∙ told) in
+          let here = reread-has parent.pid parent.word parent.frame over c d first loaded long whole (parent-has has) (ap (λ (s : Origin). s.tells) (sym first.loads.quiet.steady.start) ∙ told) in
           let before : ReadsOn b first.read = reads-then b c first.read over-before.reads (loads-reads parent.pid parent.word parent.frame (placed 0 over) c first.read first.loads) in
           let reached = awaits-later parent.pid parent.word (suc level) key b first.read before.0 awaits told (last_of d parent.pid).words (first.valid.validates told).holds in
           let inner : IsInner over = subst IsInner here.0 (inner-here (tree_pages first.read) parent.pid (last_of d parent.pid).words level key reached) in

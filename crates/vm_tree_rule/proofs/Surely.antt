@@ -22,6 +22,7 @@ use Rattle.vm_tree_rule.specs.Resident.{IsKnownNow, KnowsLocks, KnowsResident}
 use Rattle.vm_tree_rule.specs.Standing.{IsNameIn, NamesNode, tree_pages}
 use Rattle.vm_tree_rule.proofs.Entering.{pages-are, sees-back}
 use Rattle.vm_tree_rule.proofs.Readings.{begins-leave, begins-reads, denied-leave, denied-reads, loads-reads, valid-reads}
+use Rattle.vm_tree_rule.proofs.Whole.{first-zero}
 
 -- a free page's word is free without its mark
 unmarked-free : (word : ℕ) → IsUnlockedWord word → IsUnlockedWord (unmarked_word word)
@@ -151,9 +152,9 @@ looked-known q p word (Ok g) v x ne ok err k = known-beside p word q g.word g.fr
 looked-known q p word (Err d) v x ne ok err k = known-same p word v x (denied-reads AgainOrNeed NoWord NoneExpected q d v x err).0 err.table k
 
 -- a page of zeros is no node
-no-node : (words : List ℕ) → words ≡ replicate 64 0 → IsLeaf words ⊎ IsInner words → ⊥
-no-node words zeros kind =
-    let tag : slice_index words 0 ≡ slice_index (replicate 64 0) 0 = ap (λ (l : List ℕ). slice_index l 0) zeros in
+no-node : (n : ℕ) (words : List ℕ) → words ≡ replicate n 0 → IsLeaf words ⊎ IsInner words → ⊥
+no-node n words zeros kind =
+    let tag : slice_index words 0 ≡ 0 = ap (λ (l : List ℕ). slice_index l 0) zeros ∙ first-zero n in
     ⊎_elim (λ (leaf : IsLeaf words). let two : slice_index words 0 ≡ 2 = leaf.node.tag in omega (arith, tag, two)) (λ (inner : IsInner words). let three : slice_index words 0 ≡ 3 = inner.node.tag in omega (arith, tag, three)) kind
 
 -- page r, which was validated, names a page that was claimed
@@ -164,7 +165,7 @@ named-claimed r named level low high w k inside name =
     (λ (le : k.kept.next ≤ named).
     let below : named < w.start.pages = subst (λ (n : ℕ). named < n) (pages-are r (Unit {0}) w k) name.in_range in
     let tied : IsTied (tree_pages w) r (page_at k.kept.pages r) named (page_at k.kept.pages named) = ties_hold (began_of w.start) k.kept r named k.holds (subst (λ (n : ℕ). r < n) (sym k.pages) inside) in
-    absurd (no-node (page_at k.kept.pages named) (k.zero named le below) (name.node (page_at k.kept.pages named) (subst (λ (l : List ℕ). IsTied (tree_pages w) r l named (page_at k.kept.pages named)) (k.page tt) tied)).kind))
+    absurd (no-node _ (page_at k.kept.pages named) (k.zero named le below) (name.node (page_at k.kept.pages named) (subst (λ (l : List ℕ). IsTied (tree_pages w) r l named (page_at k.kept.pages named)) (k.page tt) tied)).kind))
     (cases_lt named k.kept.next)
 
 -- so was page 0
@@ -173,19 +174,19 @@ first-claimed free w k some =
     ⊎_elim
     (λ (l : 0 < k.kept.next). l)
     (λ (le : k.kept.next ≤ 0).
-    let zero : slice_index (page_at k.kept.pages 0) 0 ≡ slice_index (replicate 64 0) 0 = ap (λ (l : List ℕ). slice_index l 0) (k.zero 0 le some) in
+    let none : slice_index (page_at k.kept.pages 0) 0 ≡ 0 = ap (λ (l : List ℕ). slice_index l 0) (k.zero 0 le some) ∙ first-zero w.start.size in
     let magic : slice_index (page_at k.kept.pages 0) 0 ≡ 0x564D434143484531 = k.holds.tree.meta.magic in
-    absurd (omega (arith, zero, magic)))
+    absurd (omega (arith, none, magic)))
     (cases_lt 0 k.kept.next)
 
 -- the page that a validated page names is below the next one, as the pass knew that before it looked at the page
-pub named-below : (r word frame named level low high : ℕ) (v x w : View Said) → ReadsOn v x → ReadsAsBefore v x r → known_next x ≡ known_next v → IsValid Tied r word frame None x w → IsKeptNow KeepsTree r (Unit {0}) w → NamesNode v r word named level low high → v.start.tells ≡ true → IsAlone v → named < known_next v
-named-below r word frame named level low high v x w reads same next k kept names tells a =
+pub named-below : (r word frame named level low high : ℕ) (v x w : View Said) → ReadsOn v x → ReadsAsBefore v x r → known_next x ≡ known_next v → IsValid Tied r word frame None x w → w.start.size ≡ 64 → IsKeptNow KeepsTree r (Unit {0}) w → NamesNode v r word named level low high → v.start.tells ≡ true → IsAlone v → named < known_next v
+named-below r word frame named level low high v x w reads same next k whole kept names tells a =
     let valid : ReadsOn x w = valid-reads Tied r word frame x w k in
     let start : w.start ≡ v.start = valid.0.start ∙ reads.0.start in
     let there : IsAlone x = still-alone v x reads.0.parts reads.0.alone.current a in
     let here : IsAlone w = still-alone x w valid.0.parts valid.0.alone.current there in
-    let name : IsNameIn (tree_pages v) r (last_of w r).words named level low high = names tells (last_of w r).words k.size (sees-back r word frame v x w reads same k tells) in
+    let name : IsNameIn (tree_pages v) r (last_of w r).words named level low high = names tells (last_of w r).words (k.size ∙ whole) (sees-back r word frame v x w reads same k tells) in
     let claimed : named < kept.kept.next = named-claimed r named level low high w kept k.reads.page (subst (λ (o : Origin). IsNameIn (length o.contents) r (last_of w r).words named level low high) (sym start) name) in
     subst (λ (n : ℕ). named < n) (sym (kept.next here) ∙ same-next x w valid.0 k.table there ∙ next) claimed
 

@@ -37,6 +37,7 @@ impl<B: Block> Place for InPlace<'_, B> {
         × Loads p.guard.now.pid p.guard.now.word p.guard.now.frame loaded (view p.pass.now) (view q.pass.now)
         × LoadsWords (map (λ l. l.1) loaded) (view p.pass.now) (view q.pass.now) };
 
+    #[tactic(auto, using(crate::proofs::Whole::tree_place))]
     fn word(&mut self, i: usize) -> u64 {
         self.guard.word_at(self.words, self.pass, self.first, i)
     }

@@ -1,6 +1,8 @@
 //! The tree as the owner of a page store: what its pages and its history are is kept at each step of the store.
 #![tactic(auto)]
 
+ghost use Rattle.std.specs.Prelude.{◌==◌};
+ghost use Rattle.vm_page.specs.declared.buf.TheConstants.{WORDS};
 ghost use Rattle.vm_tree_laws.specs.{Keeps.KeepsTree, May.MayRead, May.MayRelease, Tied.Tied};
 ghost use Rattle.vm_tree_laws.proofs.{Claims.claims_keep, Laws.reads_keep, Laws.releases_keep, Ties.ties_hold};
 
@@ -24,6 +26,8 @@ pub struct Tree;
 
 impl Owner for Tree {
     type Said = Said;
+
+    ghost takes_size = { λ n. n == WORDS };
 
     ghost keeps = { KeepsTree };
 

@@ -68,7 +68,7 @@ fn reread<B: Block>(
     pass: &mut Pass<Tree>,
     guard: &OptGuard,
     count: usize,
-    into: &mut PageBuf,
+    into: &mut PageBuf<WORDS>,
 ) -> Result<(), Turn>
     requires ready { IsReady words.now.table.shared.key B.tells words.now.table.shared.table_id pass.old }
     requires reading { IsReading guard.now.pid guard.now.word guard.now.frame (view pass.old) }
@@ -103,8 +103,8 @@ pub fn seek_full<B: Block>(
     words: &Words<Tree, B>,
     pass: &mut Pass<Tree>,
     key: u64,
-    over: &mut PageBuf,
-    page: &mut PageBuf,
+    over: &mut PageBuf<WORDS>,
+    page: &mut PageBuf<WORDS>,
 ) -> Result<Met, Turn>
     requires pass { MayStep words.now.table.shared.table_id pass.old }
     requires pages { 1 ≤ words.now.table.shared.key.pages }

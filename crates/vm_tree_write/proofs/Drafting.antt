@@ -3,6 +3,7 @@ use Rattle.std.proofs.Common.{[], ⊎_elim, ◌*◌, ◌++◌, ◌+◌, ◌<◌,
 use Rattle.std.proofs.Common.{get_or-set_same, inl, inr, length, List, max, min, None, refl, slice_index, slice_set, Some, subst, sym, true, ℕ}
 use Rattle.std.proofs.lemmas.Bool.{cases_eq, cases_lt}
 use Rattle.std.proofs.lemmas.Grind.{same_number_lists}
+use Rattle.vm_page.proofs.Sizes.{room}
 use Rattle.vm_rule.specs.Prelude.{bundle_count, did_store, Each, index_of, set_if}
 use Rattle.vm_rule.specs.declared.view.Place.TheVariants as places
 use Rattle.vm_rule.proofs.Entries.{append-none}
@@ -19,15 +20,15 @@ follows-else start j [] old new e f = ap (λ (t : List ℕ). slice_index t j) f
 follows-else start j (d ∷ ds) old new e f = follows-else start j ds (set_if d.wrote (index_of start d.at) old) new e.1 f.1 ∙ set-else d.wrote (index_of start d.at) j old e.0
 
 -- the steps that set one word of a frame do not write the next word
-off-next : (p frame : ℕ) (dirty : Bool) (i x : ℕ) (start : Origin) → p < start.pages → frame < start.frames → i < 64
+off-next : (p frame : ℕ) (dirty : Bool) (i x : ℕ) (start : Origin) → p < start.pages → frame < start.frames → i < start.size
     → Each (λ (d : Did). (d.wrote ≡ None) ⊎ (index_of start places.Next ≢ index_of start d.at)) (dirty_steps p frame dirty ++ did_store (places.Content frame i) x ∷ [])
-off-next p frame true i x start page frame_is inside = (inr (λ (e : 3 * start.pages + 64 * start.frames + bundle_count start ≡ 3 * start.pages + (64 * frame + i)). omega (arith, e, frame_is, inside)), tt)
+off-next p frame true i x start page frame_is inside = (inr (λ (e : 3 * start.pages + start.size * start.frames + bundle_count start ≡ 3 * start.pages + (start.size * frame + i)). omega (arith, e, room start.size frame start.frames i frame_is inside)), tt)
 off-next p frame false i x start page frame_is inside = (
-  inr (λ (e : 3 * start.pages + 64 * start.frames + bundle_count start ≡ start.pages + p). omega (arith, e, page)),
-  (inr (λ (e : 3 * start.pages + 64 * start.frames + bundle_count start ≡ 3 * start.pages + (64 * frame + i)). omega (arith, e, frame_is, inside)), tt),
+  inr (λ (e : 3 * start.pages + start.size * start.frames + bundle_count start ≡ start.pages + p). omega (arith, e, page)),
+  (inr (λ (e : 3 * start.pages + start.size * start.frames + bundle_count start ≡ 3 * start.pages + (start.size * frame + i)). omega (arith, e, room start.size frame start.frames i frame_is inside)), tt),
 )
 
-set-next : {X : Type 0} (p frame : ℕ) (dirty : Bool) (i x : ℕ) (v w : View X) → p < v.start.pages → frame < v.start.frames → i < 64 → IsSet p frame dirty i x v w → IsAlone v → known_next w ≡ known_next v
+set-next : {X : Type 0} (p frame : ℕ) (dirty : Bool) (i x : ℕ) (v w : View X) → p < v.start.pages → frame < v.start.frames → i < v.start.size → IsSet p frame dirty i x v w → IsAlone v → known_next w ≡ known_next v
 set-next p frame dirty i x v w page frame_is inside s k =
     let off = subst (Each (λ (d : Did). (d.wrote ≡ None) ⊎ (index_of v.start places.Next ≢ index_of v.start d.at))) (sym s.steps) (off-next p frame dirty i x v.start page frame_is inside) in
     ap (λ (o : Origin). slice_index w.snapshot.words (index_of o places.Next)) s.elsewhere.steady.start
@@ -73,7 +74,7 @@ module _ {X : Type 0} (p : ℕ) where
   pub pages-self : (v : View X) → KnowsSameStates v v
   pages-self v = record { states = λ k q l. refl; next = λ k. refl }
 
-  pub pages-more : (frame : ℕ) (dirty : Bool) (i x : ℕ) (u v w : View X) → p < v.start.pages → frame < v.start.frames → i < 64 → IsRedrafted p u v → KnowsSameStates u v → IsSet p frame dirty i x v w → KnowsSameStates u w
+  pub pages-more : (frame : ℕ) (dirty : Bool) (i x : ℕ) (u v w : View X) → p < v.start.pages → frame < v.start.frames → i < v.start.size → IsRedrafted p u v → KnowsSameStates u v → IsSet p frame dirty i x v w → KnowsSameStates u w
   pages-more frame dirty i x u v w page frame_is inside a known s = record {
     states = λ k q l.
         s.states (still-alone u v a.elsewhere.steady.parts a.alone.current k) q (subst (λ (o : Origin). q < o.pages) (sym a.elsewhere.steady.start) l) ∙ known.states k q l;

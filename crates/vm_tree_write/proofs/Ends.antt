@@ -68,12 +68,15 @@ ended n first second up low gs v w all apart d y z rises su m =
 -- ---- below a parent with room
 
 module _ (parent node : OptGuard) (up low right : ExclusiveGuard) (gs : List ExclusiveGuard) (v w : View Said) (all : IsPrepared 1 parent node up low gs v w) (one : gs ≡ right ∷ [])
-    (u : View Said) (key : ℕ) (over page : List ℕ) (met : IsFullBelow u key parent node over page v) (long : (length over ≡ 64) × (length page ≡ 64)) (out : v.out ≡ None) where
+    (u : View Said) (key : ℕ) (over page : List ℕ) (met : IsFullBelow u key parent node over page v) (long : (length over ≡ 64) × (length page ≡ 64)) (whole : v.start.size ≡ 64) (out : v.out ≡ None) where
   abbrev one-taken : AreTaken 1 parent node up low gs all.roomy w
   one-taken = all.taken
 
   abbrev one-load : NextTold all.next v all.roomy
   one-load = all.room.loaded
+
+  one-whole : all.roomy.start.size ≡ 64
+  one-whole = ap (λ (o : Origin). o.size) (roomy-start all.next v all.roomy one-load) ∙ whole
 
   are-to-split : has right.pid (numbers one-taken.x 1) ≡ true → w.start.tells ≡ true → AreToSplit up.pid low.pid right.pid over page w
   are-to-split among after =
@@ -82,11 +85,11 @@ module _ (parent node : OptGuard) (up low right : ExclusiveGuard) (gs : List Exc
       let reading = reading-loaded all.next v all.roomy one-load parent.pid parent.word parent.frame met.parent_opened.reading in
       let read = read-loaded all.next v all.roomy one-load parent.pid over met.parent_read in
       let begun : v.start ≡ u.start = (opened-reads parent.pid parent.word parent.frame u v met.parent_opened).0.start in
-      let inner = first-inner 1 parent node up low gs all.roomy w one-taken met.apart here over met.level key reading read long.0 (awaits-loaded all.next v all.roomy one-load parent.pid parent.word (suc met.level) key met.awaits) in
+      let inner = first-inner 1 parent node up low gs all.roomy w one-taken met.apart here one-whole over met.level key reading read long.0 (awaits-loaded all.next v all.roomy one-load parent.pid parent.word (suc met.level) key met.awaits) in
       record {
-        above = first-words 1 parent node up low gs all.roomy w one-taken met.apart here over reading read long.0;
-        node = second-words 1 parent node up low gs all.roomy w one-taken met.apart here page (reading-loaded all.next v all.roomy one-load node.pid node.word node.frame met.opened.reading) (read-loaded all.next v all.roomy one-load node.pid page met.read) long.1;
-        fresh = fresh-zero 1 parent node up low gs all.roomy w one-taken met.apart here right.pid among;
+        above = first-words 1 parent node up low gs all.roomy w one-taken met.apart here one-whole over reading read long.0;
+        node = second-words 1 parent node up low gs all.roomy w one-taken met.apart here one-whole page (reading-loaded all.next v all.roomy one-load node.pid node.word node.frame met.opened.reading) (read-loaded all.next v all.roomy one-load node.pid page met.read) long.1;
+        fresh = fresh-zero 1 parent node up low gs all.roomy w one-taken met.apart here one-whole right.pid among;
         inner = inner.0;
         names = (key, inner.1, met.names (ap (λ (o : Origin). o.tells) (sym begun) ∙ tells) ∙ ap (λ n. Some n) (sym one-taken.locks.low_page));
       }
@@ -112,12 +115,15 @@ module _ (parent node : OptGuard) (up low right : ExclusiveGuard) (gs : List Exc
 -- ---- below page 0
 
 module _ (meta root : OptGuard) (up low right top : ExclusiveGuard) (gs : List ExclusiveGuard) (v w : View Said) (all : IsPrepared 2 meta root up low gs v w) (two : gs ≡ right ∷ top ∷ [])
-    (u : View Said) (key height : ℕ) (page : List ℕ) (met : IsRootFull u key meta root height page v) (long : length page ≡ 64) (out : v.out ≡ None) where
+    (u : View Said) (key height : ℕ) (page : List ℕ) (met : IsRootFull u key meta root height page v) (long : length page ≡ 64) (whole : v.start.size ≡ 64) (out : v.out ≡ None) where
   abbrev two-taken : AreTaken 2 meta root up low gs all.roomy w
   two-taken = all.taken
 
   abbrev two-load : NextTold all.next v all.roomy
   two-load = all.room.loaded
+
+  two-whole : all.roomy.start.size ≡ 64
+  two-whole = ap (λ (o : Origin). o.size) (roomy-start all.next v all.roomy two-load) ∙ whole
 
   pub roots-apart : root.pid ≢ meta.pid
   roots-apart e = met.named.apart (e ∙ met.named.zero)
@@ -145,8 +151,8 @@ module _ (meta root : OptGuard) (up low right top : ExclusiveGuard) (gs : List E
       record {
         names = (ap (λ (l : List ℕ). slice_index l 1) meta-draft.last ∙ (meta-loads here).0 ∙ sym two-taken.locks.low_page, ap (λ (l : List ℕ). slice_index l 2) meta-draft.last ∙ (meta-loads here).1.0);
         claimed = λ z. meta-not meta_words 0x564D434143484531 magic (omega arith) (sym meta-draft.last ∙ z);
-        node = second-words 2 meta root up low gs all.roomy w two-taken roots-apart here page (reading-loaded all.next v all.roomy two-load root.pid root.word root.frame met.opened.reading) (read-loaded all.next v all.roomy two-load root.pid page met.read) long;
-        fresh = (fresh-zero 2 meta root up low gs all.roomy w two-taken roots-apart here right.pid first, fresh-zero 2 meta root up low gs all.roomy w two-taken roots-apart here top.pid second);
+        node = second-words 2 meta root up low gs all.roomy w two-taken roots-apart here two-whole page (reading-loaded all.next v all.roomy two-load root.pid root.word root.frame met.opened.reading) (read-loaded all.next v all.roomy two-load root.pid page met.read) long;
+        fresh = (fresh-zero 2 meta root up low gs all.roomy w two-taken roots-apart here two-whole right.pid first, fresh-zero 2 meta root up low gs all.roomy w two-taken roots-apart here two-whole top.pid second);
       }
 
   pub can-split-root : CanSplitRoot up low right top height page w

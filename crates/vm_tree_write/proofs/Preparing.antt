@@ -73,7 +73,7 @@ module _ (n : ℕ) (first second : OptGuard) (up low : ExclusiveGuard) (gs : Lis
       (draft-amid a pages all.fresh.done page page all.locked w first-not first-owned
       (draft-else a b all.locks.low_locked.done page page between all.locked (λ e. apart (sym e)) all.locks.up_locked.holding.owns h all.locks.low_locked.elsewhere) all.fresh.amid)
 
-  module _ (tells : v.start.tells ≡ true) where
+  module _ (tells : v.start.tells ≡ true) (whole : v.start.size ≡ 64) where
     tells-asked : all.asked.start.tells ≡ true
     tells-asked = ap (λ (o : Origin). o.tells) all.moves.start ∙ tells
 
@@ -81,16 +81,17 @@ module _ (n : ℕ) (first second : OptGuard) (up low : ExclusiveGuard) (gs : Lis
     tells-between = ap (λ (o : Origin). o.tells) all.locks.up_locked.elsewhere.steady.start ∙ tells-asked
 
     pub fresh-zero : (q : ℕ) → has q pages ≡ true → HasDraft q (replicate 64 0) (replicate 64 0) w
-    fresh-zero q among = let k = all.fresh.zero (ap (λ (o : Origin). o.tells) start-is ∙ tells) q among in record { last = k.1; draft = k.0 }
+    fresh-zero q among = let k = all.fresh.zero (ap (λ (o : Origin). o.tells) start-is ∙ tells) q among in
+        let zeros = ap (λ (n : ℕ). replicate n 0) (ap (λ (o : Origin). o.size) start-is ∙ whole) in record { last = k.1 ∙ zeros; draft = k.0 ∙ zeros }
 
     pub first-words : (page : List ℕ) → IsReading a first.word first.frame v → HasRead v a page → length page ≡ 64 → HasDraft up.pid page page w
     first-words page r read long =
         first-stays page
-        (locked-draft a up.frame up.version first.word first.frame up.dirty page all.asked between (reading-moved all.done v all.asked all.moves a first.word first.frame r) long (read-moved all.done v all.asked all.moves a page read) tells-asked all.locks.up_version all.locks.up_locked)
+        (locked-draft a up.frame up.version first.word first.frame up.dirty page all.asked between (reading-moved all.done v all.asked all.moves a first.word first.frame r) long (ap (λ (o : Origin). o.size) (all.locks.up_locked.elsewhere.steady.start ∙ all.moves.start) ∙ whole) (read-moved all.done v all.asked all.moves a page read) tells-asked all.locks.up_version all.locks.up_locked)
 
     pub first-inner : (page : List ℕ) (level key : ℕ) → IsReading a first.word first.frame v → HasRead v a page → length page ≡ 64 → Awaits v a first.word (suc level) key → IsInner page × Covers (node_of page) key
     first-inner page level key r read long awaits =
-        locked-inner a up.frame up.version first.word first.frame up.dirty page all.asked between (reading-moved all.done v all.asked all.moves a first.word first.frame r) long (read-moved all.done v all.asked all.moves a page read) tells-asked all.locks.up_version all.locks.up_locked
+        locked-inner a up.frame up.version first.word first.frame up.dirty page all.asked between (reading-moved all.done v all.asked all.moves a first.word first.frame r) long (ap (λ (o : Origin). o.size) (all.locks.up_locked.elsewhere.steady.start ∙ all.moves.start) ∙ whole) (read-moved all.done v all.asked all.moves a page read) tells-asked all.locks.up_version all.locks.up_locked
         level key (awaits-same a first.word (suc level) key v all.asked all.moves.start all.moves.reads.1 awaits)
 
     pub second-words : (page : List ℕ) → IsReading b second.word second.frame v → HasRead v b page → length page ≡ 64 → HasDraft low.pid page page w
@@ -101,7 +102,7 @@ module _ (n : ℕ) (first second : OptGuard) (up low : ExclusiveGuard) (gs : Lis
         let r2 = reading-elsewhere b second.word second.frame a l.done all.asked between apart l.elsewhere r1 in
         subst (λ p. HasDraft p page page w) (sym all.locks.low_page)
         (draft-amid b pages all.fresh.done page page all.locked w second-not all.locks.low_locked.holding.owns
-        (locked-draft b low.frame low.version second.word second.frame low.dirty page between all.locked r2 long (read1.0, (l.elsewhere.others b apart).loads ∙ read1.1) tells-between all.locks.low_version all.locks.low_locked) all.fresh.amid)
+        (locked-draft b low.frame low.version second.word second.frame low.dirty page between all.locked r2 long (ap (λ (o : Origin). o.size) start-is ∙ whole) (read1.0, (l.elsewhere.others b apart).loads ∙ read1.1) tells-between all.locks.low_version all.locks.low_locked) all.fresh.amid)
 
   -- ---- once all are released
 

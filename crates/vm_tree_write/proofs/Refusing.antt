@@ -145,7 +145,7 @@ holding-nil p f version dirty pages done v w h n =
       owned = ap (λ (y : Held). y.owner) k.held ∙ h.owned;
       told = ap (λ (y : Held). y.fault) k.held ∙ h.told ∙ ap (λ (y : Held). y.block.count) (sym k.held);
       at = ap (λ (y : Version). y.version) k.last ∙ h.at;
-      size = ap length k.draft ∙ h.size;
+      size = ap length k.draft ∙ h.size ∙ ap (λ (o : Origin). o.size) (sym n.amid.start);
       free = ap (has p) n.amid.pending ∙ h.free;
     }
 

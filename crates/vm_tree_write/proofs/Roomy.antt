@@ -1,9 +1,9 @@
 -- The load of the next word, which goes before all that a split takes: what was read and what is known before it stay so.
-use Rattle.std.proofs.Common.{[], ◌<◌, ◌∙◌, ◌∷◌, ◌≡◌, ap, List, None, refl, subst, sym, ℕ}
+use Rattle.std.proofs.Common.{[], ◌<◌, ◌∙◌, ◌∷◌, ◌≡◌, ap, List, refl, subst, sym, ℕ}
 use Rattle.vm_map.specs.declared.call.Said.{Said}
 use Rattle.vm_rule.specs.Prelude.{did_load, NextTold, Seat}
 use Rattle.vm_rule.specs.declared.view.Place.TheVariants as places
-use Rattle.vm_step.specs.Prelude.{AreHeld, LocksNone, Origin, View}
+use Rattle.vm_step.specs.Prelude.{LocksNone, Origin, View}
 use Rattle.vm_guard.specs.declared.opt.OptGuard.{OptGuard}
 use Rattle.vm_guard.specs.Guards.{IsReading}
 use Rattle.vm_guard.proofs.{Amid.nload-amid, FreshAnswers.next-kept, FreshAnswers.out-after, FreshNone.nload-nil, Reading.reading-kept}

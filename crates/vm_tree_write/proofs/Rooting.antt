@@ -48,7 +48,7 @@ set-two p f1 f2 d1 d2 i j x y old v u w s t last draft = (
 )
 
 -- and what that leaves beside
-pub redrafts-two : (p f : ℕ) (d1 d2 : Bool) (i j x y : ℕ) (v u w : View Said) → p < v.start.pages → f < v.start.frames → i < 64 → j < 64 → IsSet p f d1 i x v u → IsSet p f d2 j y u w → Redrafts p f v w
+pub redrafts-two : (p f : ℕ) (d1 d2 : Bool) (i j x y : ℕ) (v u w : View Said) → p < v.start.pages → f < v.start.frames → i < v.start.size → j < v.start.size → IsSet p f d1 i x v u → IsSet p f d2 j y u w → Redrafts p f v w
 redrafts-two p f d1 d2 i j x y v u w page frame_is low high s t =
     let one = set-more p f d1 i x v v u (redrafted-self p v) s in
     let start : u.start ≡ v.start = s.elsewhere.steady.start in
@@ -56,7 +56,7 @@ redrafts-two p f d1 d2 i j x y v u w page frame_is low high s t =
     record {
       redrafted = set-more p f d2 j y v u w one t;
       drafts = drafts-more p f d2 j y v u w (drafts-more p f d1 i x v v u (drafts-self p f v) s) t;
-      known = pages-more p f d2 j y v u w (subst (λ (o : Origin). p < o.pages) (sym start) page) (subst (λ (o : Origin). f < o.frames) (sym start) frame_is) high one known t;
+      known = pages-more p f d2 j y v u w (subst (λ (o : Origin). p < o.pages) (sym start) page) (subst (λ (o : Origin). f < o.frames) (sym start) frame_is) (subst (λ (o : Origin). j < o.size) (sym start) high) one known t;
     }
 
 -- four pages after their new drafts
@@ -138,9 +138,9 @@ module _ (a b c d height separator : ℕ) (page left half crown : List ℕ) (v y
       (f.first.draft ∙ ap (λ (l : List ℕ). slice_set (slice_set l 1 d) 2 (height + 1)) (sym f.first.last))
       owed-c owed-d
 
-  pub four-all : g1.pid ≡ a → g2.pid ≡ b → g3.pid ≡ c → g4.pid ≡ d → IsHolding g1.pid g1.frame g1.version g1.dirty y → IsHolding g2.pid g2.frame g2.version g2.dirty y → IsHolding g3.pid g3.frame g3.version g3.dirty y → IsHolding g4.pid g4.frame g4.version g4.dirty y
+  pub four-all : y.start.size ≡ 64 → g1.pid ≡ a → g2.pid ≡ b → g3.pid ≡ c → g4.pid ≡ d → IsHolding g1.pid g1.frame g1.version g1.dirty y → IsHolding g2.pid g2.frame g2.version g2.dirty y → IsHolding g3.pid g3.frame g3.version g3.dirty y → IsHolding g4.pid g4.frame g4.version g4.dirty y
       → AreApart (a ∷ b ∷ c ∷ d ∷ []) → v.out ≡ None → MayReleaseAll MayRelease (g1 ∷ g2 ∷ g3 ∷ g4 ∷ []) None y
-  four-all i1 i2 i3 i4 h1 h2 h3 h4 apart out =
+  four-all whole i1 i2 i3 i4 h1 h2 h3 h4 apart out =
       let pids : pids_of (g1 ∷ g2 ∷ g3 ∷ g4 ∷ []) ≡ a ∷ b ∷ c ∷ d ∷ [] = (λ i. i1 i ∷ i2 i ∷ i3 i ∷ i4 i ∷ []) in
       let none = stays.out ∙ out in
       record {
@@ -148,7 +148,7 @@ module _ (a b c d height separator : ℕ) (page left half crown : List ℕ) (v y
         apart = subst AreApart (sym pids) apart;
         home = ((λ o e. absurd (none-not o (sym none ∙ e))), ((λ o e. absurd (none-not o (sym none ∙ e))), ((λ o e. absurd (none-not o (sym none ∙ e))), ((λ o e. absurd (none-not o (sym none ∙ e))), tt))));
         claimed = λ t.
-            (subst (IsClaimed y) (sym i1) (words-claimed a (last_of v a).words _ y (four t).first (to-split t).claimed), (subst (IsClaimed y) (sym i2) (words-claimed b page left y (four t).second (full-not page full)), (subst (IsClaimed y) (sym i3) (inr (inr (inr owed-c))), (subst (IsClaimed y) (sym i4) (inr (inr (inr owed-d))), tt))));
+            (subst (IsClaimed y) (sym i1) (words-claimed a (last_of v a).words _ y whole (four t).first (to-split t).claimed), (subst (IsClaimed y) (sym i2) (words-claimed b page left y whole (four t).second (full-not page full)), (subst (IsClaimed y) (sym i3) (inr (inr (inr owed-c))), (subst (IsClaimed y) (sym i4) (inr (inr (inr owed-d))), tt))));
         owner = λ t. inr (subst (λ (l : List ℕ). MayRelease (began_of y.start) y.owed (changes_of y l) []) (sym pids) (four-may t));
       }
 

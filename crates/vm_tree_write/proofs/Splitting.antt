@@ -113,7 +113,7 @@ module _ {X : Type 0} where
         owned = ap (λ (y : Held). y.owner) k.held ∙ h.owned;
         told = ap (λ (y : Held). y.fault) k.held ∙ h.told ∙ ap (λ (y : Held). y.block.count) (sym k.held);
         at = ap (λ (y : Version). y.version) k.last ∙ h.at;
-        size = ap length k.draft ∙ h.size;
+        size = ap length k.draft ∙ h.size ∙ ap (λ (o : Origin). o.size) (sym d.elsewhere.steady.start);
         free = ap (has p) d.group.0 ∙ h.free;
       }
 
@@ -196,8 +196,8 @@ splits-three a b c key separator over above page left old half y ha hb hc inner 
     owed
 
 -- the words that were before
-pub words-claimed : (p : ℕ) (old new : List ℕ) (y : View Said) → HasDraft p old new y → old ≢ replicate 64 0 → IsClaimed y p
-words-claimed p old new y h ne = inr (inl (λ e. ne (sym h.last ∙ e)))
+pub words-claimed : (p : ℕ) (old new : List ℕ) (y : View Said) → y.start.size ≡ 64 → HasDraft p old new y → old ≢ replicate 64 0 → IsClaimed y p
+words-claimed p old new y whole h ne = inr (inl (λ e. ne (sym h.last ∙ e ∙ ap (λ (n : ℕ). replicate n 0) whole)))
 
 -- three pages after their new drafts
 pub record AreThree (a b c : ℕ) (over above page left half : List ℕ) (y : View Said) : Type 0 where
@@ -258,12 +258,12 @@ module _ (a b c separator : ℕ) (over above page left half : List ℕ) (v y : V
       let to = to-split tells in
       splits-three a b c to.names.0 separator over above page left (replicate 64 0) half y t.first t.second t.third to.inner to.names.1 to.names.2 room full split adds owed-then
 
-  pub three-all : g1.pid ≡ a → g2.pid ≡ b → g3.pid ≡ c → IsHolding g1.pid g1.frame g1.version g1.dirty y → IsHolding g2.pid g2.frame g2.version g2.dirty y → IsHolding g3.pid g3.frame g3.version g3.dirty y
+  pub three-all : y.start.size ≡ 64 → g1.pid ≡ a → g2.pid ≡ b → g3.pid ≡ c → IsHolding g1.pid g1.frame g1.version g1.dirty y → IsHolding g2.pid g2.frame g2.version g2.dirty y → IsHolding g3.pid g3.frame g3.version g3.dirty y
       → AreApart (a ∷ b ∷ c ∷ []) → v.out ≡ None → MayReleaseAll MayRelease (g1 ∷ g2 ∷ g3 ∷ []) None y
-  three-all e1 e2 e3 h1 h2 h3 apart out =
+  three-all whole e1 e2 e3 h1 h2 h3 apart out =
       may-three g1 g2 g3 a b c y e1 e2 e3 h1 h2 h3 apart (stays.out ∙ out)
-      (λ tells. words-claimed a over above y (three tells).first (inner-not over (to-split tells).inner))
-      (λ tells. words-claimed b page left y (three tells).second (full-not page full))
+      (λ tells. words-claimed a over above y whole (three tells).first (inner-not over (to-split tells).inner))
+      (λ tells. words-claimed b page left y whole (three tells).second (full-not page full))
       (inr (inr (inr owed-then))) three-may
 
   pub three-released : (w : View Said) → g1.pid ≡ a → g2.pid ≡ b → g3.pid ≡ c → AreReleased g1 (g2 ∷ g3 ∷ []) None y w → IsSplitUp (a ∷ b ∷ c ∷ []) v w

@@ -63,9 +63,9 @@ not-valid p word frame key saw v x w o d =
     (reads-then v x w (opened-reads p word frame v x o) (denied-reads AgainOrNeed (KeptWord word) NoneExpected p (denies.Again saw) x w d), inl (shown-wider saw v w (shown-refused p word frame saw v x w o d)))
 
 full-leaf : (p word frame key : ℕ) (loaded : List (ℕ × ℕ)) (x w : View Said) → IsReading p word frame x → HasLoaded x p loaded → TellLeaf loaded key → TellTight loaded key
-    → x.start.tells ≡ true → IsValid Tied p word frame None x w → IsPageWith loaded (last_of w p).words × IsFullLeaf (last_of w p).words key
-full-leaf p word frame key loaded x w r has leaf full tells k =
-    let with : IsPageWith loaded (last_of w p).words = page-with p loaded x (last_of w p).words has k.size ((k.validates tells).valid _ r.reading refl) in
+    → x.start.tells ≡ true → w.start.size ≡ 64 → IsValid Tied p word frame None x w → IsPageWith loaded (last_of w p).words × IsFullLeaf (last_of w p).words key
+full-leaf p word frame key loaded x w r has leaf full tells whole k =
+    let with : IsPageWith loaded (last_of w p).words = page-with p loaded x (last_of w p).words has (k.size ∙ whole) ((k.validates tells).valid _ r.reading refl) in
     let here = leaf (last_of w p).words with in
     let is_leaf : IsLeaf (last_of w p).words = leaf-is _ p (last_of w p).words (k.validates tells).itself.sound here.0 in
     let tight = full (last_of w p).words with in
@@ -73,8 +73,8 @@ full-leaf p word frame key loaded x w r has leaf full tells k =
 
 -- the leaf that was validated has the words that were loaded
 pub tight : (p word frame key : ℕ) (loaded : List (ℕ × ℕ)) (v x w : View Said) → IsOpened v p word frame x → HasLoaded x p loaded → TellLeaf loaded key → TellTight loaded key
-    → IsValid Tied p word frame None x w → ReadsOn v w × IsTight v key p w
-tight p word frame key loaded v x w o has leaf full k =
+    → w.start.size ≡ 64 → IsValid Tied p word frame None x w → ReadsOn v w × IsTight v key p w
+tight p word frame key loaded v x w o has leaf full whole k =
     let reads = opened-reads p word frame v x o in (
       reads-then v x w reads (valid-reads Tied p word frame x w k),
       record {
@@ -87,7 +87,7 @@ tight p word frame key loaded v x w o has leaf full k =
         read = (has.0, (k.same_reads p).loads ∙ has.1);
         leaf = leaf;
         full = full;
-        told = λ tells. full-leaf p word frame key loaded x w o.reading has leaf full (ap (λ (s : Origin). s.tells) reads.0.start ∙ tells) k;
+        told = λ tells. full-leaf p word frame key loaded x w o.reading has leaf full (ap (λ (s : Origin). s.tells) reads.0.start ∙ tells) whole k;
       },
     )
 

@@ -47,10 +47,10 @@ module _ (done : List Did) (v w : View Said) (m : MovesFrames done v w) where
 
 -- ---- a lock proves what was read
 
-module _ (p f version word frame : ℕ) (dirty : Bool) (page : List ℕ) (v x : View Said) (r : IsReading p word frame v) (long : length page ≡ 64) (read : HasRead v p page) (tells : v.start.tells ≡ true) (at : version ≡ version_of word) (l : IsLocked Tied p f version dirty v x) where
+module _ (p f version word frame : ℕ) (dirty : Bool) (page : List ℕ) (v x : View Said) (r : IsReading p word frame v) (long : length page ≡ 64) (whole : x.start.size ≡ 64) (read : HasRead v p page) (tells : v.start.tells ≡ true) (at : version ≡ version_of word) (l : IsLocked Tied p f version dirty v x) where
   pub locked-draft : HasDraft p page page x
   locked-draft =
-      let draft : draft_of x p ≡ page = l.draft ∙ words-are p v read.0 page (last_of x p).words long read.1 (ap (λ (z : List ℕ). length z) (sym l.draft) ∙ l.holding.size) ((l.validates tells).valid _ r.reading (sym at)) in
+      let draft : draft_of x p ≡ page = l.draft ∙ words-are p v read.0 page (last_of x p).words long read.1 (ap (λ (z : List ℕ). length z) (sym l.draft) ∙ l.holding.size ∙ whole) ((l.validates tells).valid _ r.reading (sym at)) in
       record { last = sym l.draft ∙ draft; draft = draft }
 
   pub locked-reached : (level key : ℕ) → Awaits v p word level key → IsReached (tree_pages v) p page level key
@@ -75,7 +75,7 @@ holding-else p f version dirty q done {own = own} v w ne pending h e =
       owned = ap (λ (y : Held). y.owner) k.held ∙ h.owned;
       told = ap (λ (y : Held). y.fault) k.held ∙ h.told ∙ ap (λ (y : Held). y.block.count) (sym k.held);
       at = ap (λ (y : Version). y.version) k.last ∙ h.at;
-      size = ap length k.draft ∙ h.size;
+      size = ap length k.draft ∙ h.size ∙ ap (λ (o : Origin). o.size) (sym e.steady.start);
       free = ap (has p) pending ∙ h.free;
     }
 

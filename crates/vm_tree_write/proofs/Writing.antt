@@ -21,6 +21,7 @@ use Rattle.vm_guard.proofs.QuietSteps.{elsewhere-then}
 use Rattle.vm_tree_laws.specs.{History.IsLegal, Keeps.KeepsTree, May.IsEdit, May.MayRelease, Tied.IsSound, Tied.Tied}
 use Rattle.vm_tree_rule.specs.Leaves.{ReadsOn}
 use Rattle.vm_tree_rule.proofs.Readings.{reads-self, reads-then}
+use Rattle.vm_tree_rule.proofs.Whole.{first-zero}
 use Rattle.vm_tree_read.proofs.Answering.{words-are}
 use Rattle.vm_tree_write.specs.Drafts.{DraftsIn, IsRedrafted, SetsDiffering}
 use Rattle.vm_tree_write.specs.Writes.{IsBorneOutBy, IsWriteDone, IsWritePlace, OnlyWrites}
@@ -71,13 +72,13 @@ cleared-none before after d clears n i is k wrote =
     ⊎_elim (λ (none : d.wrote ≡ None). let no : None ≡ Some k = sym none ∙ wrote in absurd (cc)) (λ (u : IsUnmark d). let no : places.State u.page ≡ places.Content n i = sym u.at ∙ is in absurd (cc)) clears
 
 -- a leaf's words are not all zero
-pub not-zeros : (words : List ℕ) → (node_of words).tag ≡ 2 → words ≢ replicate 64 0
-not-zeros words tag is = let t : slice_index (replicate 64 0) 0 ≡ 2 = ap (λ (l : List ℕ). slice_index l 0) (sym is) ∙ tag in absurd (omega (arith, t))
+pub not-zeros : (n : ℕ) (words : List ℕ) → (node_of words).tag ≡ 2 → words ≢ replicate n 0
+not-zeros n words tag is = let t : 0 ≡ 2 = sym (first-zero n) ∙ ap (λ (l : List ℕ). slice_index l 0) (sym is) ∙ tag in absurd (omega (arith, t))
 
-module _ (p f version word frame : ℕ) (dirty : Bool) (said : Said) (earlier : List (ℕ × ℕ)) (before after : List ℕ) (v x y w : View Said) (r : IsReading p word frame v) (long : length before ≡ 64) (loads : loads_at v p ≡ earlier ++ placed 0 before) (at : version ≡ version_of word) (l : IsLocked Tied p f version dirty v x) where
+module _ (p f version word frame : ℕ) (dirty : Bool) (said : Said) (earlier : List (ℕ × ℕ)) (before after : List ℕ) (v x y w : View Said) (r : IsReading p word frame v) (long : length before ≡ 64) (whole : x.start.size ≡ 64) (loads : loads_at v p ≡ earlier ++ placed 0 before) (at : version ≡ version_of word) (l : IsLocked Tied p f version dirty v x) where
   -- the draft of the leaf is what was read of it
   pub draft-is : v.start.tells ≡ true → draft_of x p ≡ before
-  draft-is tells = l.draft ∙ words-are p v earlier before (last_of x p).words long loads (ap (λ (z : List ℕ). length z) (sym l.draft) ∙ l.holding.size) ((l.validates tells).valid _ r.reading (sym at))
+  draft-is tells = l.draft ∙ words-are p v earlier before (last_of x p).words long loads (ap (λ (z : List ℕ). length z) (sym l.draft) ∙ l.holding.size ∙ whole) ((l.validates tells).valid _ r.reading (sym at))
 
   pub last-is : v.start.tells ≡ true → (last_of x p).words ≡ before
   last-is tells = sym l.draft ∙ draft-is tells

@@ -10,9 +10,9 @@ ghost use Rattle.vm_tree_write.specs.Drafts.{DraftsIn, IsDraftedAmong, IsRedraft
 use vm_block::Block;
 use vm_guard::ExclusiveGuard;
 use vm_node::{Edit, left_word};
-use vm_owner::Owner;
 use vm_page::{PageBuf, WORDS};
 use vm_rule::words::{Pass, Words};
+use vm_tree_rule::Tree;
 
 /// The words that a draft is to have, told word by word.
 pub trait Wanted {
@@ -33,7 +33,7 @@ pub trait Wanted {
         ensures size { length (words self.now) ≡ WORDS };
 }
 
-impl Wanted for PageBuf {
+impl Wanted for PageBuf<WORDS> {
     ghost words = { λ p. p };
 
     ghost made_of = { λ p before. Unit {0} };
@@ -50,7 +50,7 @@ impl Wanted for PageBuf {
 /// A page as an edit of it leaves it, and where words may be others than before, beside the count.
 #[derive(Drop)]
 pub struct Edited<'a> {
-    pub page: &'a PageBuf,
+    pub page: &'a PageBuf<WORDS>,
     pub edit: Edit,
     pub changes: (usize, usize),
 }
@@ -72,7 +72,7 @@ impl Wanted for Edited<'_> {
 /// The left half of a full node.
 #[derive(Drop)]
 pub struct LeftHalf<'a> {
-    pub page: &'a PageBuf,
+    pub page: &'a PageBuf<WORDS>,
     pub separator: u64,
 }
 
@@ -92,11 +92,11 @@ impl Wanted for LeftHalf<'_> {
 
 /// Sets those words of the draft in which what is wanted is other than `before`. The draft has the words of `before`, where blocks tell theirs, and
 /// then those wanted.
-pub fn redraft<U: Owner, B: Block, W: Wanted>(
-    words: &Words<U, B>,
-    pass: &mut Pass<U>,
+pub fn redraft<B: Block, W: Wanted>(
+    words: &Words<Tree, B>,
+    pass: &mut Pass<Tree>,
     guard: &mut ExclusiveGuard,
-    before: &PageBuf,
+    before: &PageBuf<WORDS>,
     after: &W,
 )
     requires ready { IsReady words.now.table.shared.key B.tells words.now.table.shared.table_id pass.old }
@@ -121,11 +121,11 @@ pub fn redraft<U: Owner, B: Block, W: Wanted>(
 }
 
 /// The same of the words from one place on and before another. The others stay.
-fn redraft_words<U: Owner, B: Block, W: Wanted>(
-    words: &Words<U, B>,
-    pass: &mut Pass<U>,
+fn redraft_words<B: Block, W: Wanted>(
+    words: &Words<Tree, B>,
+    pass: &mut Pass<Tree>,
     guard: &mut ExclusiveGuard,
-    before: &PageBuf,
+    before: &PageBuf<WORDS>,
     after: &W,
     from: usize,
     end: usize,

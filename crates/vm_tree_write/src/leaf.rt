@@ -24,7 +24,7 @@ pub fn write_leaf<B: Block>(
     words: &Words<Tree, B>,
     pass: &mut Pass<Tree>,
     guard: OptGuard,
-    before: &PageBuf,
+    before: &PageBuf<WORDS>,
     edit: Edit,
     said: &Said,
 ) -> Result<(), Deny>

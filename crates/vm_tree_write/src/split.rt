@@ -8,7 +8,7 @@ use vm_block::Block;
 use vm_guard::{ExclusiveGuard, Group, release_group};
 use vm_inner::{add_edit, new_root};
 use vm_node::right_half;
-use vm_page::PageBuf;
+use vm_page::{PageBuf, WORDS};
 use vm_rule::words::{Pass, Words};
 use vm_tree_rule::Tree;
 
@@ -19,8 +19,8 @@ pub fn write_split<B: Block>(
     up: ExclusiveGuard,
     low: ExclusiveGuard,
     right: ExclusiveGuard,
-    over: &PageBuf,
-    page: &PageBuf,
+    over: &PageBuf<WORDS>,
+    page: &PageBuf<WORDS>,
 )
     requires ready { IsReady words.now.table.shared.key B.tells words.now.table.shared.table_id pass.old }
     requires can { CanSplit up low right over.now page.now (view pass.old) }
@@ -60,7 +60,7 @@ pub fn write_root<B: Block>(
     right: ExclusiveGuard,
     top: ExclusiveGuard,
     height: u64,
-    page: &PageBuf,
+    page: &PageBuf<WORDS>,
 )
     requires ready { IsReady words.now.table.shared.key B.tells words.now.table.shared.table_id pass.old }
     requires can { CanSplitRoot meta low right top height page.now (view pass.old) }

@@ -55,8 +55,8 @@ fn split_below<B: Block>(
     iface: &mut Interface,
     parent: OptGuard,
     node: OptGuard,
-    over: &PageBuf,
-    page: &PageBuf,
+    over: &PageBuf<WORDS>,
+    page: &PageBuf<WORDS>,
 ) -> TrySplit
     requires ready { IsReady words.now.table.shared.key B.tells words.now.table.shared.table_id pass.old }
     requires home { (view pass.old).out ≡ None }
@@ -100,7 +100,7 @@ fn split_root<B: Block>(
     meta: OptGuard,
     root: OptGuard,
     height: u64,
-    page: &PageBuf,
+    page: &PageBuf<WORDS>,
 ) -> TrySplit
     requires ready { IsReady words.now.table.shared.key B.tells words.now.table.shared.table_id pass.old }
     requires home { (view pass.old).out ≡ None }

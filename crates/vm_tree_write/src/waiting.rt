@@ -12,18 +12,19 @@ use crate::tries::{TrySplit, try_split};
 use crate::write::{Tried, del_once, put_once};
 use crossbeam_utils::Backoff;
 use std::sync::Wait;
-use vm_block::Block;
+use vm_block::PageBlock;
 use vm_exmap::Interface;
 use vm_map::call::Reply;
+use vm_page::WORDS;
 use vm_pool::{Pool, dry_cause};
 use vm_rule::words::Pass;
 use vm_tree_read::waiting::{fetch, settle};
 use vm_tree_rule::{Tree, TreeFault};
 
 /// Takes the pair of the key out.
-pub fn del<R: Wait, B: Block>(
+pub fn del<R: Wait, B: PageBlock<WORDS>>(
     rt: &R,
-    pool: &Pool<Tree, B>,
+    pool: &Pool<Tree, B, WORDS>,
     pass: &mut Pass<Tree>,
     iface: &mut Interface,
     key: u64,
@@ -58,8 +59,8 @@ pub fn del<R: Wait, B: Block>(
 }
 
 /// Makes room for the key: splits the first full node on its way, or does what has to be done before.
-fn make_room<B: Block>(
-    pool: &Pool<Tree, B>,
+fn make_room<B: PageBlock<WORDS>>(
+    pool: &Pool<Tree, B, WORDS>,
     pass: &mut Pass<Tree>,
     iface: &mut Interface,
     key: u64,
@@ -100,9 +101,9 @@ fn make_room<B: Block>(
 }
 
 /// Puts a value at the key.
-pub fn put<R: Wait, B: Block>(
+pub fn put<R: Wait, B: PageBlock<WORDS>>(
     rt: &R,
-    pool: &Pool<Tree, B>,
+    pool: &Pool<Tree, B, WORDS>,
     pass: &mut Pass<Tree>,
     iface: &mut Interface,
     key: u64,

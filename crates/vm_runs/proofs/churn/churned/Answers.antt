@@ -1,4 +1,5 @@
 use Rattle.std.proofs.Common.{◌∙◌, ◌≡◌, ap, List}
+use Rattle.vm_page.specs.declared.buf.TheConstants.{WORDS}
 use Rattle.vm_block.specs.declared.memory.MemBlock.{MemBlock}
 use Rattle.vm_tree_model.specs.Tree.{map_of}
 use Rattle.vm_image.specs.Blocks.{pages_of_blocks}
@@ -27,12 +28,12 @@ text_of-requires-clause-pairs g c = c.requires.pairs
 pub text_of-requires-clause-fits : goal.text_of-requires-clause-fits
 text_of-requires-clause-fits g c =
     let s = c.in_ok-kept.field-0 in
-    let rows : c.as_slice-3.result.now ≡ map_of (pages_of_blocks s.blocks.items) = c.as_slice-3.ensures.value ∙ c.in_ok-rows.ensures.rows ∙ ap (λ (b : List MemBlock). map_of (pages_of_blocks b)) c.as_slice-2.ensures.value in
+    let rows : c.as_slice-3.result.now ≡ map_of (pages_of_blocks s.blocks.items) = c.as_slice-3.ensures.value ∙ c.in_ok-rows.ensures.rows ∙ ap (λ (b : List (MemBlock WORDS)). map_of (pages_of_blocks b)) c.as_slice-2.ensures.value in
     values_fit c.args.load c.requires s c.in_ok-kept.ensures c.as_slice-3.result.now rows
 
 pub returns : goal.returns
 returns g c =
     let s = c.in_ok-kept.field-0 in
-    let rows : c.as_slice-3.result.now ≡ map_of (pages_of_blocks s.blocks.items) = c.as_slice-3.ensures.value ∙ c.in_ok-rows.ensures.rows ∙ ap (λ (b : List MemBlock). map_of (pages_of_blocks b)) c.as_slice-2.ensures.value in
+    let rows : c.as_slice-3.result.now ≡ map_of (pages_of_blocks s.blocks.items) = c.as_slice-3.ensures.value ∙ c.in_ok-rows.ensures.rows ∙ ap (λ (b : List (MemBlock WORDS)). map_of (pages_of_blocks b)) c.as_slice-2.ensures.value in
     let told : c.tally_all-tally.result ≡ total_of s.kept.items = c.tally_all-tally.ensures ∙ ap (λ (l : List Tally). total_of l) c.as_slice.ensures.value in
     churned c.args.load c.requires s c.in_ok-kept.ensures c.as_slice-3.result.now c.tally_all-tally.result c.in_ok-text.text c.told.result rows told c.in_ok-text.ensures c.told.ensures

@@ -1,4 +1,5 @@
 use Rattle.std.proofs.Common.{◌++◌, ◌∙◌, ◌≡◌, ap, arith, List, refl, subst, ℕ}
+use Rattle.vm_page.specs.declared.buf.TheConstants.{WORDS}
 use Rattle.vm_block.specs.declared.memory.MemBlock.{MemBlock}
 use Rattle.vm_map.specs.Map.{Pairs}
 use Rattle.vm_tree_model.specs.Tree.{map_of}
@@ -37,8 +38,8 @@ returns g c =
     let m : Pairs = map_of (pages_of_blocks s.blocks.items) in
     let last : m ≡ last_map image s.ended = (is.saved (is.flushed c.in-None.is)).1 in
     let blocks : c.as_slice-in-None.result.now ≡ s.blocks.items = c.as_slice-in-None.ensures.value in
-    let pages : c.in_ok-image-in-None.field-0.image ≡ pages_of_blocks s.blocks.items = c.in_ok-image-in-None.ensures.image ∙ ap (λ (b : List MemBlock). pages_of_blocks b) blocks in
-    let pairs : c.in_ok-image-in-None.field-0.rows.pairs.items ≡ m = c.in_ok-image-in-None.ensures.rows ∙ ap (λ (b : List MemBlock). map_of (pages_of_blocks b)) blocks in
+    let pages : c.in_ok-image-in-None.field-0.image ≡ pages_of_blocks s.blocks.items = c.in_ok-image-in-None.ensures.image ∙ ap (λ (b : List (MemBlock WORDS)). pages_of_blocks b) blocks in
+    let pairs : c.in_ok-image-in-None.field-0.rows.pairs.items ≡ m = c.in_ok-image-in-None.ensures.rows ∙ ap (λ (b : List (MemBlock WORDS)). map_of (pages_of_blocks b)) blocks in
     let kept : IsKept run.options.keep c.in_ok-image-in-None.field-0.image (written_of c.in_ok-file-in-None.file) = c.in_ok-file-in-None.ensures in
     let text = (rw c.as_slice-in-None-2.ensures.value at c.in_ok-text-in-None.ensures) ∙ ap (λ (k : Pairs). worker_replies 0 (all_lines lists (all_replies s.replies.items)) ++ rows_text k ++ counters_of s.ended s.evicted) (c.as_slice-rows.ensures.value ∙ pairs) in
     flushed_outcome run image lists s.ended m c.in_ok-text-in-None.text c.in_ok-file-in-None.file c.told-in-None.result s.evicted of c.in-None.is refl last text (subst (λ (p : List (List ℕ)). IsKept run.options.keep p (written_of c.in_ok-file-in-None.file)) pages kept) c.told-in-None.ensures

@@ -1,4 +1,4 @@
-use Rattle.std.proofs.Common.{◌<◌, ◌∙◌, ◌≡◌, ap, arith, length, List, refl, subst, sym, ℕ}
+use Rattle.std.proofs.Common.{◌<◌, ◌∙◌, ◌≡◌, ap, arith, length, List, refl, rules, subst, sym, ℕ}
 use Rattle.vm_map.specs.declared.call.Said.{Said}
 use Rattle.vm_image.specs.File.{IsNextPage}
 use Rattle.vm_rule.specs.Prelude.{stored_of, words_of}
@@ -9,14 +9,15 @@ use Rattle.vm_drive.specs.Drives.{items_of}
 use Rattle.vm_serve.proofs.Headline.{begins-held, fresh-enough, served}
 use Rattle.vm_serve.proofs.serving.serve_blocks.Goals as goal
 
-pub start-requires-clause-begins : goal.start-requires-clause-begins
-start-requires-clause-begins g c = λ told. begins-held _ _ c.requires.tree c.requires.next
+pub start-requires : goal.start-requires
+start-requires g c =
+    (search rules, (refl, (refl, (c.requires.pages.0, (search (rules, c.requires, length-mapped words_of c.args.blocks.items), λ told. begins-held _ _ c.requires.tree c.requires.next)))))
 
 pub drive_into-requires-clause-whole : goal.drive_into-requires-clause-whole
-drive_into-requires-clause-whole g c κs within = (first-alone _ _ _ _ _ _ c.in_ok-pool.ensures.view).0
+drive_into-requires-clause-whole g c κs within = (first-alone _ _ _ _ _ _ _ c.in_ok-pool.ensures.view).0
 
 pub drive_into-requires-clause-fresh : goal.drive_into-requires-clause-fresh
-drive_into-requires-clause-fresh g c κs within = let few = c.requires.lists.1 in fresh-enough _ _ _ _ _ _ _ c.in_ok-pool.ensures.view (omega (arith, few))
+drive_into-requires-clause-fresh g c κs within = let few = c.requires.lists.1 in fresh-enough _ _ _ _ _ _ _ _ c.in_ok-pool.ensures.view (omega (arith, few))
 
 pub drive_into-requires-clause-pages : goal.drive_into-requires-clause-pages
 drive_into-requires-clause-pages g c κs within =

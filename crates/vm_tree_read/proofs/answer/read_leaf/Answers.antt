@@ -1,7 +1,8 @@
-use Rattle.std.proofs.Common.{inl, inr}
+use Rattle.std.proofs.Common.{inl, inr, refl, rules}
 use Rattle.vm_guard.specs.Guards.{placed}
 use Rattle.vm_tree_rule.proofs.{Downward.awaits-later, Surely.known-same}
 use Rattle.vm_tree_rule.proofs.Readings.{loads-reads, opened-loads}
+use Rattle.vm_tree_rule.proofs.Whole.{tree_key}
 use Rattle.vm_tree_read.proofs.Answering.{none-whole}
 use Rattle.vm_tree_read.proofs.answer.read_leaf.Goals.{else-is_leaf-via-else-is_leaf, else-is_leaf-via-then-is_leaf+else-covers}
 use Rattle.vm_tree_read.proofs.answer.read_leaf.Goals as goal
@@ -26,3 +27,7 @@ returns-clause-sure g c tells k awaits =
       | else-is_leaf-via-then-is_leaf+else-covers w ↦ inr (w.covers.ensures.no w.if-covers.false)
       | else-is_leaf-via-else-is_leaf w ↦ inl (c.is_leaf.ensures.no w.if-is_leaf.false)
     ])))
+
+-- the page and the buffer have the tree's words
+pub read_all-requires : goal.read_all-requires
+read_all-requires g c = (search rules, (c.requires.ready, (c.requires.reading, (refl, (tree_key _ _ c.args.words.now.sized.0 c.args.words.now.size.takes, c.requires.size)))))

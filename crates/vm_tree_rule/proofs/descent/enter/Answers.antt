@@ -10,6 +10,7 @@ use Rattle.vm_tree_rule.proofs.Entering.{ended, lost, stepped}
 use Rattle.vm_tree_rule.proofs.Onward.{others-stay, stays}
 use Rattle.vm_tree_rule.proofs.Readings.{leaves-self, reads-self, valid-reads}
 use Rattle.vm_tree_rule.proofs.Surely.{free-below, known-at, known-begun, known-same, locks-same, looked, looked-known, looked-reading, named-below}
+use Rattle.vm_tree_rule.proofs.Whole.{tree-size}
 
 pub returns-in-Err-clause-err : goal.returns-in-Err-clause-err
 returns-in-Err-clause-err g c = lost _ _ _ c.args.named c.in-Err.saw (view c.args.pass.now) (view c.args.pass.now) _ (reads-self _) (leaves-self _ _) c.in-Err.ensures.err
@@ -45,7 +46,7 @@ returns-in-Ok-started-clause-parent g c =
 
 pub returns-in-Ok-started-clause-awaits : goal.returns-in-Ok-started-clause-awaits
 returns-in-Ok-started-clause-awaits g c level low high names =
-    let s = returns-in-Ok-started-clause-ok g c in awaits-named _ _ _ c.args.named level low high _ _ _ _ _ names s.0 s.1
+    let s = returns-in-Ok-started-clause-ok g c in awaits-named _ _ _ c.args.named level low high _ _ _ _ _ names s.0 s.1 (tree-size _ _ _ c.validate_silently-2.ensures.ready.table.is_shape.size c.args.words.now.sized.0 c.args.words.now.size.takes)
 
 pub returns-in-Ok-started-clause-others : goal.returns-in-Ok-started-clause-others
 returns-in-Ok-started-clause-others g c q ne =
@@ -59,7 +60,7 @@ returns-in-Ok-started-clause-known g c tells k =
     let n = looked-known c.args.named c.args.parent.now.pid c.args.parent.now.word c.start-started.result (view c.args.pass.now) (view c.start-started.new.pass) c.if-named-parent.false c.start-started.ensures.ok c.start-started.ensures.err k in
     let valid = c.in-Ok-validate_silently.ensures.ok in
     let reads = (valid-reads _ _ _ _ _ _ valid).0 in
-    let below = named-below _ _ _ c.args.named c.requires.names.0 c.requires.names.1 c.requires.names.2 (view c.args.pass.now) (view c.start-started.new.pass) (view c.validate_silently-2.new.pass) l.reads l.same (l.next k.resident.alone) valid (c.in-Ok-validate_silently.ensures.kept tells) c.requires.names.3 (c.requires.ready.table.tells_is ∙ tells) k.resident.alone in (
+    let below = named-below _ _ _ c.args.named c.requires.names.0 c.requires.names.1 c.requires.names.2 (view c.args.pass.now) (view c.start-started.new.pass) (view c.validate_silently-2.new.pass) l.reads l.same (l.next k.resident.alone) valid (tree-size _ _ _ c.validate_silently-2.ensures.ready.table.is_shape.size c.args.words.now.sized.0 c.args.words.now.size.takes) (c.in-Ok-validate_silently.ensures.kept tells) c.requires.names.3 (c.requires.ready.table.tells_is ∙ tells) k.resident.alone in (
       subst (λ p. IsKnownNow p c.in-Ok-started.guard.word (view c.validate_silently-2.new.pass)) (sym begun.0) (known-same _ _ _ _ reads valid.table (known-begun c.args.named _ _ (view c.args.pass.now) (view c.start-started.new.pass) begun.1 below k.resident)),
       known-same _ _ _ _ reads valid.table n,
     )
@@ -91,7 +92,7 @@ returns-in-Err-started-clause-sure g c tells k =
     let high = c.if-named-pages.false in
     let same = c.args.words.now.shape.0 in
     let pages = c.requires.ready.table.is_shape.pages in
-    let below = named-below _ _ _ c.args.named c.requires.names.0 c.requires.names.1 c.requires.names.2 (view c.args.pass.now) (view c.start-started.new.pass) (view c.validate_silently-2.new.pass) l.reads l.same (l.next a) c.in-Ok-validate_silently.ensures.ok (c.in-Ok-validate_silently.ensures.kept tells) c.requires.names.3 (c.requires.ready.table.tells_is ∙ tells) a in
+    let below = named-below _ _ _ c.args.named c.requires.names.0 c.requires.names.1 c.requires.names.2 (view c.args.pass.now) (view c.start-started.new.pass) (view c.validate_silently-2.new.pass) l.reads l.same (l.next a) c.in-Ok-validate_silently.ensures.ok (tree-size _ _ _ c.validate_silently-2.ensures.ready.table.is_shape.size c.args.words.now.sized.0 c.args.words.now.size.takes) (c.in-Ok-validate_silently.ensures.kept tells) c.requires.names.3 (c.requires.ready.table.tells_is ∙ tells) a in
     subst (λ r. IsOk r) c.in-Err-started.is (c.start-started.ensures.sure a (free-below c.args.named (view c.args.pass.now) k.resident below (omega (arith, high, same, pages))))
 
 pub returns-in-Ok-started-clause-words : goal.returns-in-Ok-started-clause-words

@@ -9,6 +9,7 @@ use Rattle.vm_tree_rule.proofs.descent.enter_root.Goals as goal
 use Rattle.vm_tree_rule.proofs.Downward.{meta-loads, meta-words, names-root, root-height, root-loaded, root-named, root-opened, tells-height}
 use Rattle.vm_tree_rule.proofs.Entering.{astray-turn, first-ended, opened-reads, turned, untold}
 use Rattle.vm_tree_rule.proofs.Readings.{opened-earlier, opened-later, reads-then}
+use Rattle.vm_tree_rule.proofs.Whole.{tree-size}
 
 some-pages : (n pages start : ℕ) → 1 ≤ n → start ≡ n → 0 < start
 some-pages n pages start some is = omega (arith, some, is)
@@ -34,7 +35,7 @@ pub returns-in-Err-enter-clause-err : goal.returns-in-Err-enter-clause-err
 returns-in-Err-enter-clause-err g c =
     turned _ _ _ _ _ _ _ _ _ (root-opened _ _ _ _ _ c.args.key _ _ _ _ c.in-Ok.ensures.ok.0 c.in-Ok.ensures.ok.1 c.word-root.ensures.loads c.word-level.ensures.loads)
     (root-named _ _ _ _ _ c.args.key _ _ _ _ c.in-Ok.ensures.ok.0 c.in-Ok.ensures.ok.1 c.word-root.ensures.loads c.word-level.ensures.loads)
-    (root-loaded _ _ _ _ _ c.args.key _ _ _ _ c.in-Ok.ensures.ok.0 c.in-Ok.ensures.ok.1 c.word-root.ensures.loads c.word-level.ensures.loads) c.in-Err-enter.ensures.err
+    (root-loaded _ _ _ _ _ c.args.key _ _ _ _ c.in-Ok.ensures.ok.0 c.in-Ok.ensures.ok.1 c.word-root.ensures.loads c.word-level.ensures.loads) (tree-size _ _ _ c.enter.ensures.ready.table.is_shape.size c.args.words.now.sized.0 c.args.words.now.size.takes) c.in-Err-enter.ensures.err
 
 pub returns-in-Err-enter-clause-sure : goal.returns-in-Err-enter-clause-sure
 returns-in-Err-enter-clause-sure g c tells k =

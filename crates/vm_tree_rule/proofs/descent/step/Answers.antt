@@ -13,6 +13,7 @@ use Rattle.vm_tree_rule.proofs.Onward.{goes-nowhere, goes-on, goes-to}
 use Rattle.vm_tree_rule.proofs.Readings.{leaves-self, loads-reads, opened-earlier, opened-later, opened-loads, reads-self, reads-then}
 use Rattle.vm_tree_rule.proofs.Seeking.{passes-by}
 use Rattle.vm_tree_rule.proofs.Surely.{known-at, known-same}
+use Rattle.vm_tree_rule.proofs.Whole.{tree-size}
 
 -- the search that tells the fences tells the page
 tells-page : (loaded : List (ℕ × ℕ)) (key named low : ℕ) (next : Option ℕ) → TellChildIn loaded key named low next → TellChild loaded key named
@@ -81,7 +82,7 @@ pub returns-in-Ok-clause-passed : goal.returns-in-Ok-clause-passed
 returns-in-Ok-clause-passed g c =
     let f = c.in-Some.ensures.found in
     passes-by _ _ _ (c.args.stand.now.level - 1) _ f.loaded _ _ _ f.loads (above c.args.key c.args.stand.now _ c.requires.inner c.requires.stands) c.in-Some.child.page
-    (tells-page f.loaded c.args.key c.in-Some.child.page c.in-Some.child.low c.in-Some.child.next f.tells) _ _ _ c.in-Ok.ensures.ok.0 c.in-Ok.ensures.ok.1
+    (tells-page f.loaded c.args.key c.in-Some.child.page c.in-Some.child.low c.in-Some.child.next f.tells) _ _ _ c.in-Ok.ensures.ok.0 (tree-size _ _ _ c.enter.ensures.ready.table.is_shape.size c.args.words.now.sized.0 c.args.words.now.size.takes) c.in-Ok.ensures.ok.1
 
 pub returns-in-Ok-clause-known : goal.returns-in-Ok-clause-known
 returns-in-Ok-clause-known g c tells known =
@@ -101,7 +102,7 @@ returns-in-Err-clause-err g c u o =
     turned _ _ _ _ _ c.in-Err.turn u _ _ (opened-loads _ _ _ _ _ _ _ o f.loads)
     (goes-to _ _ _ (c.args.stand.now.level - 1) _ f.loaded _ f.loads.reads (_, f.loads.loads)
     (awaits-later _ _ _ _ _ _ (loads-reads _ _ _ _ _ _ f.loads).0 (above c.args.key c.args.stand.now _ c.requires.inner c.requires.stands)) c.in-Some.child.page page)
-    (inr (f.loaded, (_, f.loads.loads), page)) c.in-Err.ensures.err
+    (inr (f.loaded, (_, f.loads.loads), page)) (tree-size _ _ _ c.enter.ensures.ready.table.is_shape.size c.args.words.now.sized.0 c.args.words.now.size.takes) c.in-Err.ensures.err
 
 pub returns-in-Err-clause-sure : goal.returns-in-Err-clause-sure
 returns-in-Err-clause-sure g c tells known =
@@ -122,7 +123,7 @@ returns-in-Ok-validate_silently-clause-err g c u o =
     (untold _ (λ tells.
     let told = ap (λ (y : Origin). y.tells) start ∙ tells in
     goes-nowhere _ _ _ (c.args.stand.now.level - 1) _ f.loaded _ f.loads.reads (_, f.loads.loads) (awaits-later _ _ _ _ _ _ (loads-reads _ _ _ _ _ _ f.loads).0 (above c.args.key c.args.stand.now _ c.requires.inner c.requires.stands)) f.tells told
-    (last_of (view c.validate_silently.new.pass) c.args.stand.now.guard.pid).words valid.size (valid.validates told)))
+    (last_of (view c.validate_silently.new.pass) c.args.stand.now.guard.pid).words (valid.size ∙ tree-size _ _ _ c.validate_silently.ensures.ready.table.is_shape.size c.args.words.now.sized.0 c.args.words.now.size.takes) (valid.validates told)))
     valid
     (no_tree.childless f.loaded (_, (valid.same_reads _).loads ∙ f.loads.loads) f.tells))
 
@@ -133,7 +134,7 @@ returns-in-Ok-validate_silently-clause-sure g c tells known =
     let told = c.in-None.ensures.ready.table.tells_is ∙ tells in
     absurd
     (goes-nowhere _ _ _ (c.args.stand.now.level - 1) _ f.loaded _ f.loads.reads (_, f.loads.loads) (awaits-later _ _ _ _ _ _ (loads-reads _ _ _ _ _ _ f.loads).0 (above c.args.key c.args.stand.now _ c.requires.inner c.requires.stands)) f.tells told
-    (last_of (view c.validate_silently.new.pass) c.args.stand.now.guard.pid).words valid.size (valid.validates told))
+    (last_of (view c.validate_silently.new.pass) c.args.stand.now.guard.pid).words (valid.size ∙ tree-size _ _ _ c.validate_silently.ensures.ready.table.is_shape.size c.args.words.now.sized.0 c.args.words.now.size.takes) (valid.validates told))
 
 pub returns-in-Ok-validate_silently-clause-few : goal.returns-in-Ok-validate_silently-clause-few
 returns-in-Ok-validate_silently-clause-few g c = place-within _ _ _ _ _ _ _ _ c.in-None.ensures.found c.in-Ok-validate_silently.ensures.words

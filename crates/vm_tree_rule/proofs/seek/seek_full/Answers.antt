@@ -10,6 +10,7 @@ use Rattle.vm_tree_rule.proofs.Readings.{loads-reads, opened-earlier, opened-loa
 use Rattle.vm_tree_rule.proofs.Seeking.{beside-loads, count-more, count-room, full-below, full-root, opened-beside, parent-has, reread-beside, reread-known, reread-locks, reread-reads}
 use Rattle.vm_tree_rule.proofs.Surely.{known-same, locks-same}
 use Rattle.vm_tree_rule.proofs.seek.seek_full.Goals as goal
+use Rattle.vm_tree_rule.proofs.Whole.{tree-size}
 
 whole : (n : ℕ) → n ≡ n - 0
 whole n = omega arith
@@ -282,7 +283,7 @@ returns-in-Ok-reread-2-clause-met g c =
     let f = c.count_in_place-next.ensures.found in
     let passed = k.passed.1 _ i.counted.0 i.opened i.counted.1 (count-room i.counted.0 c.loop.count i.counted.2 i.room) in
     full-below c.args.key c.loop.stand.guard c.in-Ok-step.below.guard (c.in-Ok.top.stand.level - (c.loop.counter + 1)) c.reread-then-next-eq-MOST_PAIRS.new.into c.reread-then-next-eq-MOST_PAIRS-2.new.into (i.counted.0 ++ k.passed.0) f.loaded (view c.args.pass.now) (view c.step.new.pass) (view c.count_in_place-next.new.pass) (view c.reread-then-next-eq-MOST_PAIRS.new.pass) (view c.reread-then-next-eq-MOST_PAIRS-2.new.pass)
-    k.parent.0 f.loads c.in_default.ensures.ok c.in-Ok-reread-2.ensures.ok i.way.0 c.in_default.ensures.size (k.parent.1 _ i.opened) (opened-earlier _ _ _ _ _ _ i.reads k.reads.1) passed.0
+    k.parent.0 f.loads c.in_default.ensures.ok c.in-Ok-reread-2.ensures.ok i.way.0 c.in_default.ensures.size (tree-size _ _ _ c.reread-then-next-eq-MOST_PAIRS.ensures.ready.table.is_shape.size c.args.words.now.sized.0 c.args.words.now.size.takes) (k.parent.1 _ i.opened) (opened-earlier _ _ _ _ _ _ i.reads k.reads.1) passed.0
     (awaits-later _ _ _ _ _ _ k.reads.0.0 (subst (λ n. Awaits (view c.loop.pass) c.loop.stand.guard.pid c.loop.stand.guard.word n c.args.key) (i.level ∙ one-less c.in-Ok.top.stand.level c.loop.counter c.loop-test.true) (stand-awaits c.args.key c.loop.stand _ i.stands)))
     (passed.1, passed-later (view c.args.pass.now) c.args.key i.way.0 c.loop.stand.guard.pid (view c.loop.pass) (view c.step.new.pass) k.reads.0 i.way.1) (room-is _ _ c.in_default.ensures.count i.room) (full-is _ _ c.in-Ok-reread-2.ensures.count c.if-next-eq-MOST_PAIRS.true)
 

@@ -2,6 +2,7 @@
 use Rattle.std.proofs.Common.{◌∙◌, ◌≡◌, ap, arith, length, List, min, slice_index, subst, sym, true, ℕ}
 use Rattle.vm_rule.specs.Prelude.{draft_of}
 use Rattle.vm_step.specs.Prelude.{Origin, view}
+use Rattle.vm_tree_rule.proofs.Whole.{tree-size}
 use Rattle.vm_tree_write.specs.Drafts.{DraftsIn, IsDraftedAmong, IsRedrafted}
 use Rattle.vm_tree_write.proofs.Drafting.{differs-then, drafted-whole, drafts-then, pages-then, redrafted-then}
 use Rattle.vm_tree_write.proofs.draft.redraft.Goals as goal
@@ -45,5 +46,5 @@ returns-clause-draft g c tells =
     (c.redraft_words-2.ensures.draft (subst (λ (o : Origin). o.tells ≡ true) (sym one.redrafted.elsewhere.steady.start) tells)) in
     drafted-whole c.span-first.result.0 c.span-first.result.1 c.min-from.result c.min-end.result before after _ mid _
     (c.min-from.ensures ∙ ap (λ (n : ℕ). min n 64) c.max.ensures) (c.min-end.ensures ∙ ap (λ (n : ℕ). min n 64) c.max-2.ensures)
-    (ap (λ (n : ℕ). length (draft_of (view c.redraft_words-2.new.pass) n)) (sym (c.redraft_words-2.ensures.guard.0 ∙ one.guard.0)) ∙ c.redraft_words-2.ensures.holds.size) (one.size (omega arith))
+    (ap (λ (n : ℕ). length (draft_of (view c.redraft_words-2.new.pass) n)) (sym (c.redraft_words-2.ensures.guard.0 ∙ one.guard.0)) ∙ c.redraft_words-2.ensures.holds.size ∙ tree-size _ _ _ c.redraft_words-2.ensures.ready.table.is_shape.size c.args.words.now.sized.0 c.args.words.now.size.takes) (one.size (omega arith))
     (c.span-first.ensures.span before c.requires.made_of) (one.draft tells) second

@@ -1,7 +1,8 @@
-use Rattle.std.proofs.Common.{◌<◌, ◌∙◌, ap, arith, length, refl, subst, sym, ℕ}
+use Rattle.std.proofs.Common.{◌<◌, ◌∙◌, ◌≡◌, ap, arith, length, refl, subst, sym, ℕ}
 use Rattle.vm_rule.specs.Prelude.{draft_of}
 use Rattle.vm_step.specs.Prelude.{view}
 use Rattle.vm_guard.specs.Guards.{IsSet}
+use Rattle.vm_tree_rule.proofs.Whole.{tree-size, tree_place}
 use Rattle.vm_tree_write.proofs.Drafting.{differs-more, differs-self, drafted-none, drafted-same, drafted-set, drafts-more, drafts-self, pages-more, pages-self, redrafted-self, set-more}
 use Rattle.vm_tree_write.proofs.draft.redraft_words.Goals.{else-word-get, then-word-get}
 use Rattle.vm_tree_write.proofs.draft.redraft_words.Goals as goal
@@ -25,6 +26,7 @@ loop-i-preserved g c =
     let i = c.loop-i.invariant in
     let wanted = g.W.Wanted.words c.args.after.now in
     let inside : c.loop-i.i < 64 = omega (arith, c.loop-i-test.true, c.requires.places.1) in
+    let whole : (view c.loop-i.pass).start.size ≡ 64 = tree-size _ _ _ i.ready.table.is_shape.size c.args.words.now.sized.0 c.args.words.now.size.takes in
     elim c.if-word-get.branch [
       | then-word-get w ↦ rw (w.pass-is, w.guard-is) (
           let s : IsSet c.args.guard.now.pid c.loop-i.guard.frame c.loop-i.guard.dirty c.loop-i.i c.word-word.result (view c.loop-i.pass) (view w.set.new.pass) =
@@ -36,12 +38,12 @@ loop-i-preserved g c =
             guard = rw w.set.ensures.guard i.guard;
             drafts = drafts-more _ _ _ _ _ _ _ _ i.drafts (subst (λ (n : ℕ). IsSet c.args.guard.now.pid n c.loop-i.guard.dirty c.loop-i.i c.word-word.result (view c.loop-i.pass) (view w.set.new.pass)) i.guard.2 s);
             redrafted = set-more _ _ _ _ _ _ _ _ i.redrafted s;
-            known = pages-more _ _ _ _ _ (view c.args.pass.now) (view c.loop-i.pass) _ (subst (λ (n : ℕ). n < (view c.loop-i.pass).start.pages) i.guard.0 i.holds.page) i.holds.frame_is inside i.redrafted i.known s;
+            known = pages-more _ _ _ _ _ (view c.args.pass.now) (view c.loop-i.pass) _ (subst (λ (n : ℕ). n < (view c.loop-i.pass).start.pages) i.guard.0 i.holds.page) i.holds.frame_is (subst (λ (n : ℕ). c.loop-i.i < n) (sym whole) inside) i.redrafted i.known s;
             differ = differs-more c.args.before.now wanted _ _ _ c.loop-i.i c.word-word.result _ _ _ i.differ s c.word-word.ensures.word (λ e. w.if-word-get.true (c.word-word.ensures.word ∙ sym e ∙ sym c.get.ensures.word));
             size = λ _. c.word-word.ensures.size;
             drafted = λ tells.
                 drafted-set c.args.from c.loop-i.i c.word-word.result c.args.before.now wanted _ (draft_of (view c.loop-i.pass) c.args.guard.now.pid) _ c.loop-i.auto.i
-                (subst (λ (n : ℕ). c.loop-i.i < n) (sym (ap (λ (n : ℕ). length (draft_of (view c.loop-i.pass) n)) (sym i.guard.0) ∙ i.holds.size)) inside) s.draft c.word-word.ensures.word (i.drafted tells);
+                (subst (λ (n : ℕ). c.loop-i.i < n) (sym (ap (λ (n : ℕ). length (draft_of (view c.loop-i.pass) n)) (sym i.guard.0) ∙ i.holds.size ∙ whole)) inside) s.draft c.word-word.ensures.word (i.drafted tells);
           })
       | else-word-get w ↦ rw (w.pass-is, w.guard-is) record {
         same = i.same;
@@ -59,3 +61,6 @@ loop-i-preserved g c =
 
 pub returns-clause-size : goal.returns-clause-size
 returns-clause-size g c some = c.loop-i.invariant.size (omega (arith, some, c.loop-i-test.false))
+
+pub set-requires-clause-word : goal.set-requires-clause-word
+set-requires-clause-word g c = tree_place _ _ _ c.args.words.now.sized.0 c.args.words.now.size.takes (omega (arith, c.loop-i-test.true, c.requires.places.1))

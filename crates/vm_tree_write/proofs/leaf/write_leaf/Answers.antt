@@ -6,6 +6,7 @@ use Rattle.vm_step.specs.Prelude.{IsClaimed, IsKeptNow, Origin, UnlockedExpected
 use Rattle.vm_guard.specs.{Denied.AgainOrWorn, Denied.KeptWord, Guards.IsReleased}
 use Rattle.vm_tree_laws.specs.Keeps.{KeepsTree}
 use Rattle.vm_tree_rule.proofs.{Readings.denied-reads, Surely.resident-same}
+use Rattle.vm_tree_rule.proofs.Whole.{tree-size}
 use Rattle.vm_tree_write.specs.Drafts.{DraftsIn, IsRedrafted}
 use Rattle.vm_tree_write.proofs.{Knowing.resident-written, Settling.only-worn}
 use Rattle.vm_tree_write.proofs.leaf.write_leaf.Goals as goal
@@ -28,7 +29,7 @@ pub redraft-requires-clause-draft : goal.redraft-requires-clause-draft
 redraft-requires-clause-draft g c tells =
     let k = c.in-Ok.ensures.taken in
     draft-at _ _ (view c.upgrade.new.pass) _ (sym k.0)
-    (draft-is c.args.guard.pid _ _ c.args.guard.word c.args.guard.frame _ c.args.said.now c.requires.loads.0 c.args.before.now (edited c.args.before.now c.args.edit) (view c.args.pass.now) (view c.upgrade.new.pass) (view c.upgrade.new.pass) (view c.upgrade.new.pass) c.requires.reading c.requires.size c.requires.loads.1 k.1 k.2
+    (draft-is c.args.guard.pid _ _ c.args.guard.word c.args.guard.frame _ c.args.said.now c.requires.loads.0 c.args.before.now (edited c.args.before.now c.args.edit) (view c.args.pass.now) (view c.upgrade.new.pass) (view c.upgrade.new.pass) (view c.upgrade.new.pass) c.requires.reading c.requires.size (tree-size _ _ _ c.upgrade.ensures.ready.table.is_shape.size c.args.words.now.sized.0 c.args.words.now.size.takes) c.requires.loads.1 k.1 k.2
     (ap (λ (o : Origin). o.tells) (sym k.2.elsewhere.steady.start) ∙ tells))
 
 pub release-requires-clause-home : goal.release-requires-clause-home
@@ -40,21 +41,21 @@ release-requires-clause-claimed g c tells =
     let k = c.in-Ok.ensures.taken in
     let before = ap (λ (o : Origin). o.tells) (sym k.2.elsewhere.steady.start) ∙ ap (λ (o : Origin). o.tells) (sym c.redraft.ensures.redrafted.elsewhere.steady.start) ∙ tells in
     subst (λ (n : ℕ). IsClaimed (view c.redraft.new.pass) n) (sym (c.redraft.ensures.guard.0 ∙ k.0))
-    (inr (inl (subst (λ (l : List ℕ). l ≢ replicate 64 0) (sym (old-is c.args.guard.pid _ _ c.args.guard.word c.args.guard.frame _ c.args.said.now c.requires.loads.0 c.args.before.now (edited c.args.before.now c.args.edit) (view c.args.pass.now) (view c.upgrade.new.pass) (view c.redraft.new.pass) (view c.redraft.new.pass) c.requires.reading c.requires.size c.requires.loads.1 k.1 k.2
-    (redrafted-at _ _ (view c.upgrade.new.pass) (view c.redraft.new.pass) k.0 c.redraft.ensures.redrafted) (drafted-at _ _ (view c.args.pass.now) (view c.upgrade.new.pass) (view c.redraft.new.pass) _ k.0 k.2.elsewhere.steady.start c.redraft.ensures.draft) before)) (not-zeros c.args.before.now c.requires.leaf))))
+    (inr (inl (subst (λ (l : List ℕ). l ≢ replicate (view c.redraft.new.pass).start.size 0) (sym (old-is c.args.guard.pid _ _ c.args.guard.word c.args.guard.frame _ c.args.said.now c.requires.loads.0 c.args.before.now (edited c.args.before.now c.args.edit) (view c.args.pass.now) (view c.upgrade.new.pass) (view c.redraft.new.pass) (view c.redraft.new.pass) c.requires.reading c.requires.size (tree-size _ _ _ c.upgrade.ensures.ready.table.is_shape.size c.args.words.now.sized.0 c.args.words.now.size.takes) c.requires.loads.1 k.1 k.2
+    (redrafted-at _ _ (view c.upgrade.new.pass) (view c.redraft.new.pass) k.0 c.redraft.ensures.redrafted) (drafted-at _ _ (view c.args.pass.now) (view c.upgrade.new.pass) (view c.redraft.new.pass) _ k.0 k.2.elsewhere.steady.start c.redraft.ensures.draft) before)) (not-zeros _ c.args.before.now c.requires.leaf))))
 
 pub release-requires-clause-owner : goal.release-requires-clause-owner
 release-requires-clause-owner g c tells =
     let k = c.in-Ok.ensures.taken in
     let before = ap (λ (o : Origin). o.tells) (sym k.2.elsewhere.steady.start) ∙ ap (λ (o : Origin). o.tells) (sym c.redraft.ensures.redrafted.elsewhere.steady.start) ∙ tells in
-    owner c.args.guard.pid _ _ c.args.guard.word c.args.guard.frame _ c.args.said.now c.requires.loads.0 c.args.before.now (edited c.args.before.now c.args.edit) (view c.args.pass.now) (view c.upgrade.new.pass) (view c.redraft.new.pass) (view c.redraft.new.pass) c.requires.reading c.requires.size c.requires.loads.1 k.1 k.2
+    owner c.args.guard.pid _ _ c.args.guard.word c.args.guard.frame _ c.args.said.now c.requires.loads.0 c.args.before.now (edited c.args.before.now c.args.edit) (view c.args.pass.now) (view c.upgrade.new.pass) (view c.redraft.new.pass) (view c.redraft.new.pass) c.requires.reading c.requires.size (tree-size _ _ _ c.upgrade.ensures.ready.table.is_shape.size c.args.words.now.sized.0 c.args.words.now.size.takes) c.requires.loads.1 k.1 k.2
     (redrafted-at _ _ (view c.upgrade.new.pass) (view c.redraft.new.pass) k.0 c.redraft.ensures.redrafted) (drafted-at _ _ (view c.args.pass.now) (view c.upgrade.new.pass) (view c.redraft.new.pass) _ k.0 k.2.elsewhere.steady.start c.redraft.ensures.draft) before _ (c.redraft.ensures.guard.0 ∙ k.0) c.requires.leaf c.requires.edit
 
 pub returns-clause-ok : goal.returns-clause-ok
 returns-clause-ok g c =
     let k = c.in-Ok.ensures.taken in
     let same = c.redraft.ensures.guard.0 ∙ k.0 in
-    written c.args.guard.pid _ _ c.args.guard.word c.args.guard.frame _ c.args.said.now c.requires.loads.0 c.args.before.now (edited c.args.before.now c.args.edit) (view c.args.pass.now) (view c.upgrade.new.pass) (view c.redraft.new.pass) (view c.release.new.pass) c.requires.reading c.requires.size c.requires.loads.1 k.1 k.2
+    written c.args.guard.pid _ _ c.args.guard.word c.args.guard.frame _ c.args.said.now c.requires.loads.0 c.args.before.now (edited c.args.before.now c.args.edit) (view c.args.pass.now) (view c.upgrade.new.pass) (view c.redraft.new.pass) (view c.release.new.pass) c.requires.reading c.requires.size (tree-size _ _ _ c.upgrade.ensures.ready.table.is_shape.size c.args.words.now.sized.0 c.args.words.now.size.takes) c.requires.loads.1 k.1 k.2
     (redrafted-at _ _ (view c.upgrade.new.pass) (view c.redraft.new.pass) k.0 c.redraft.ensures.redrafted) (drafted-at _ _ (view c.args.pass.now) (view c.upgrade.new.pass) (view c.redraft.new.pass) _ k.0 k.2.elsewhere.steady.start c.redraft.ensures.draft)
     (subst (λ (n : ℕ). IsReleased c.args.guard.pid n (Some c.args.said.now) (view c.redraft.new.pass) (view c.release.new.pass)) c.redraft.ensures.guard.1
     (subst (λ (n : ℕ). IsReleased n c.redraft.new.guard.version (Some c.args.said.now) (view c.redraft.new.pass) (view c.release.new.pass)) same c.release.ensures.released)) c.requires.leaf c.requires.edit c.redraft.ensures.differ (subst (λ (n : ℕ). DraftsIn n c.in-Ok.held.frame (view c.upgrade.new.pass) (view c.redraft.new.pass)) k.0 c.redraft.ensures.drafts)

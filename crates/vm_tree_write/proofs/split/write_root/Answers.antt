@@ -4,6 +4,7 @@ use Rattle.vm_node.specs.Halves.{left_half}
 use Rattle.vm_rule.specs.Prelude.{draft_of, last_of}
 use Rattle.vm_step.specs.Prelude.{View, view}
 use Rattle.vm_guard.specs.{declared.exclusive.ExclusiveGuard.ExclusiveGuard, Guards.IsHolding, Guards.IsSet}
+use Rattle.vm_tree_rule.proofs.Whole.{tree-size, tree_place}
 use Rattle.vm_tree_write.specs.{Drafts.IsRedrafted, Splits.HasDraft}
 use Rattle.vm_tree_write.proofs.Rooting.{four-all, four-apart, four-redrafted, four-released, four-stay, redrafts-two, set-two}
 use Rattle.vm_tree_write.proofs.split.write_root.Goals as goal
@@ -17,10 +18,10 @@ two g g' x y v u w s e t same =
     set-two g.pid g.frame g.frame g.dirty true 1 2 x y (last_of v g.pid).words v u w s t' refl same
 
 -- and what that leaves beside
-two-redraft : (g g' g'' : ExclusiveGuard) (x y : ℕ) (v u w : View Said) → IsHolding g.pid g.frame g.version g.dirty v → IsSet g.pid g.frame g.dirty 1 x v u → g' ≡ record g { dirty = true } → IsSet g'.pid g'.frame g'.dirty 2 y u w → g'' ≡ record g' { dirty = true } → Redrafts g''.pid g''.frame v w
-two-redraft g g' g'' x y v u w h s e t f =
+two-redraft : (g g' g'' : ExclusiveGuard) (x y : ℕ) (v u w : View Said) → v.start.size ≡ 64 → IsHolding g.pid g.frame g.version g.dirty v → IsSet g.pid g.frame g.dirty 1 x v u → g' ≡ record g { dirty = true } → IsSet g'.pid g'.frame g'.dirty 2 y u w → g'' ≡ record g' { dirty = true } → Redrafts g''.pid g''.frame v w
+two-redraft g g' g'' x y v u w whole h s e t f =
     let t' : IsSet g.pid g.frame true 2 y u w = subst (λ (k : ExclusiveGuard). IsSet k.pid k.frame k.dirty 2 y u w) e t in
-    let all = redrafts-two g.pid g.frame g.dirty true 1 2 x y v u w h.page h.frame_is (omega arith) (omega arith) s t' in
+    let all = redrafts-two g.pid g.frame g.dirty true 1 2 x y v u w h.page h.frame_is (omega (arith, whole)) (omega (arith, whole)) s t' in
     let same : g'' ≡ record g { dirty = true } = f ∙ ap (λ (k : ExclusiveGuard). record k { dirty = true }) e in
     subst (λ (k : ExclusiveGuard). Redrafts k.pid k.frame v w) (sym same) all
 
@@ -86,7 +87,7 @@ release_group-requires-clause-may g c =
     let four = four-redrafted c.args.meta.pid c.args.low.pid c.args.right.pid c.args.top.pid (last_of (view c.args.pass.now) c.args.meta.pid).words _ c.args.page.now (left_half c.args.page.now c.right_half-separator.result) c.right_half-separator.new.right c.new_root.new.page (view c.args.pass.now) (view c.set-2.new.pass) (view c.redraft.new.pass) (view c.redraft-2.new.pass) (view c.redraft-3.new.pass)
     ne r.held.0.owns r.held.1.0.owns r.held.1.1.0.owns r.held.1.1.1.0.owns c.args.height r.told t.0 t.1 d2.redrafted d3.redrafted d4.redrafted d2.draft d3.draft d4.draft in
     let stays = four-stay c.set-2.new.self c.redraft.new.guard c.redraft-2.new.guard c.redraft-3.new.guard (view c.args.pass.now) (view c.set-2.new.pass) (view c.redraft.new.pass) (view c.redraft-2.new.pass) (view c.redraft-3.new.pass)
-    (two-redraft c.args.meta c.set.new.self c.set-2.new.self c.args.top.pid (c.args.height + 1) (view c.args.pass.now) (view c.set.new.pass) (view c.set-2.new.pass) r.held.0 c.set.ensures.set c.set.ensures.guard c.set-2.ensures.set c.set-2.ensures.guard)
+    (two-redraft c.args.meta c.set.new.self c.set-2.new.self c.args.top.pid (c.args.height + 1) (view c.args.pass.now) (view c.set.new.pass) (view c.set-2.new.pass) (tree-size _ _ _ c.requires.ready.table.is_shape.size c.args.words.now.sized.0 c.args.words.now.size.takes) r.held.0 c.set.ensures.set c.set.ensures.guard c.set-2.ensures.set c.set-2.ensures.guard)
     (redrafts-of c.args.low c.redraft.new.guard _ _ d2.guard d2.redrafted d2.drafts d2.known)
     (redrafts-of c.args.right c.redraft-2.new.guard _ _ d3.guard d3.redrafted d3.drafts d3.known)
     (redrafts-of c.args.top c.redraft-3.new.guard _ _ d4.guard d4.redrafted d4.drafts d4.known) in
@@ -95,7 +96,7 @@ release_group-requires-clause-may g c =
     let h1 = holding-past _ _ _ _ _ _ _ (λ e. ne.ad (sym first ∙ e)) (holding-past _ _ _ _ _ _ _ (λ e. ne.ac (sym first ∙ e)) (holding-past _ _ _ _ _ _ _ (λ e. ne.ab (sym first ∙ e)) h0 d2.redrafted) d3.redrafted) d4.redrafted in
     let h2 = holding-past _ _ _ _ _ _ _ (λ e. ne.bd (sym d2.guard.0 ∙ e)) (holding-past _ _ _ _ _ _ _ (λ e. ne.bc (sym d2.guard.0 ∙ e)) d2.holds d3.redrafted) d4.redrafted in
     let h3 = holding-past _ _ _ _ _ _ _ (λ e. ne.cd (sym d3.guard.0 ∙ e)) d3.holds d4.redrafted in
-    four-all c.args.meta.pid c.args.low.pid c.args.right.pid c.args.top.pid c.args.height c.right_half-separator.result c.args.page.now (left_half c.args.page.now c.right_half-separator.result) c.right_half-separator.new.right c.new_root.new.page (view c.args.pass.now) (view c.redraft-3.new.pass) c.set-2.new.self c.redraft.new.guard c.redraft-2.new.guard c.redraft-3.new.guard stays four r.zero r.told r.full c.right_half-separator.ensures.halves c.new_root.ensures.root r.owed first d2.guard.0 d3.guard.0 d4.guard.0 h1 h2 h3 d4.holds r.apart r.home
+    four-all c.args.meta.pid c.args.low.pid c.args.right.pid c.args.top.pid c.args.height c.right_half-separator.result c.args.page.now (left_half c.args.page.now c.right_half-separator.result) c.right_half-separator.new.right c.new_root.new.page (view c.args.pass.now) (view c.redraft-3.new.pass) c.set-2.new.self c.redraft.new.guard c.redraft-2.new.guard c.redraft-3.new.guard stays four r.zero r.told r.full c.right_half-separator.ensures.halves c.new_root.ensures.root r.owed (tree-size _ _ _ c.redraft-3.ensures.ready.table.is_shape.size c.args.words.now.sized.0 c.args.words.now.size.takes) first d2.guard.0 d3.guard.0 d4.guard.0 h1 h2 h3 d4.holds r.apart r.home
 
 pub returns-clause-split : goal.returns-clause-split
 returns-clause-split g c =
@@ -108,9 +109,15 @@ returns-clause-split g c =
     let four = four-redrafted c.args.meta.pid c.args.low.pid c.args.right.pid c.args.top.pid (last_of (view c.args.pass.now) c.args.meta.pid).words _ c.args.page.now (left_half c.args.page.now c.right_half-separator.result) c.right_half-separator.new.right c.new_root.new.page (view c.args.pass.now) (view c.set-2.new.pass) (view c.redraft.new.pass) (view c.redraft-2.new.pass) (view c.redraft-3.new.pass)
     ne r.held.0.owns r.held.1.0.owns r.held.1.1.0.owns r.held.1.1.1.0.owns c.args.height r.told t.0 t.1 d2.redrafted d3.redrafted d4.redrafted d2.draft d3.draft d4.draft in
     let stays = four-stay c.set-2.new.self c.redraft.new.guard c.redraft-2.new.guard c.redraft-3.new.guard (view c.args.pass.now) (view c.set-2.new.pass) (view c.redraft.new.pass) (view c.redraft-2.new.pass) (view c.redraft-3.new.pass)
-    (two-redraft c.args.meta c.set.new.self c.set-2.new.self c.args.top.pid (c.args.height + 1) (view c.args.pass.now) (view c.set.new.pass) (view c.set-2.new.pass) r.held.0 c.set.ensures.set c.set.ensures.guard c.set-2.ensures.set c.set-2.ensures.guard)
+    (two-redraft c.args.meta c.set.new.self c.set-2.new.self c.args.top.pid (c.args.height + 1) (view c.args.pass.now) (view c.set.new.pass) (view c.set-2.new.pass) (tree-size _ _ _ c.requires.ready.table.is_shape.size c.args.words.now.sized.0 c.args.words.now.size.takes) r.held.0 c.set.ensures.set c.set.ensures.guard c.set-2.ensures.set c.set-2.ensures.guard)
     (redrafts-of c.args.low c.redraft.new.guard _ _ d2.guard d2.redrafted d2.drafts d2.known)
     (redrafts-of c.args.right c.redraft-2.new.guard _ _ d3.guard d3.redrafted d3.drafts d3.known)
     (redrafts-of c.args.top c.redraft-3.new.guard _ _ d4.guard d4.redrafted d4.drafts d4.known) in
     let first = pid-of c.args.meta c.set.new.self c.set-2.new.self c.set.ensures.guard c.set-2.ensures.guard in
     four-released c.args.meta.pid c.args.low.pid c.args.right.pid c.args.top.pid c.args.height c.right_half-separator.result c.args.page.now (left_half c.args.page.now c.right_half-separator.result) c.right_half-separator.new.right c.new_root.new.page (view c.args.pass.now) (view c.redraft-3.new.pass) c.set-2.new.self c.redraft.new.guard c.redraft-2.new.guard c.redraft-3.new.guard stays four r.zero r.told r.full c.right_half-separator.ensures.halves c.new_root.ensures.root r.owed _ first d2.guard.0 d3.guard.0 d4.guard.0 c.release_group.ensures.released.0
+
+pub set-requires-clause-word : goal.set-requires-clause-word
+set-requires-clause-word g c = tree_place _ _ _ c.args.words.now.sized.0 c.args.words.now.size.takes (omega arith)
+
+pub set-requires-2-clause-word : goal.set-requires-2-clause-word
+set-requires-2-clause-word g c = tree_place _ _ _ c.args.words.now.sized.0 c.args.words.now.size.takes (omega arith)

@@ -3,6 +3,7 @@ use Rattle.vm_tree_model.specs.Edits.{AddsPair}
 use Rattle.vm_tree_model.specs.Page.{IsInner}
 use Rattle.vm_node.specs.{Edited.edited, Halves.left_half}
 use Rattle.vm_step.specs.Prelude.{view}
+use Rattle.vm_tree_rule.proofs.Whole.{tree-size}
 use Rattle.vm_tree_write.proofs.split.write_split.Goals as goal
 use Rattle.vm_tree_write.proofs.Splitting.{draft-past, first-apart, holding-past, redrafts-of, three-all, three-redrafted, three-released, three-stay, told-before}
 
@@ -57,7 +58,7 @@ release_group-requires-clause-may g c =
     let adds : IsInner c.args.over.now → AddsPair c.args.over.now above c.right_half-separator.result c.args.right.pid = λ inner. c.in-Ok.ensures.node _ _ inner.node.rises in
     let h1 = holding-past _ _ _ _ _ _ _ (λ e. ne.1 (sym d1.guard.0 ∙ e)) (holding-past _ _ _ _ _ _ _ (λ e. ne.0 (sym d1.guard.0 ∙ e)) d1.holds d2.redrafted) d3.redrafted in
     let h2 = holding-past _ _ _ _ _ _ _ (λ e. ne.2 (sym d2.guard.0 ∙ e)) d2.holds d3.redrafted in
-    three-all _ _ _ c.right_half-separator.result _ above _ left half (view c.args.pass.now) (view c.redraft-3.new.pass) c.redraft.new.guard c.redraft-2.new.guard c.redraft-3.new.guard stays three r.told r.room r.full c.right_half-separator.ensures.halves adds r.owed d1.guard.0 d2.guard.0 d3.guard.0 h1 h2 d3.holds r.apart r.home
+    three-all _ _ _ c.right_half-separator.result _ above _ left half (view c.args.pass.now) (view c.redraft-3.new.pass) c.redraft.new.guard c.redraft-2.new.guard c.redraft-3.new.guard stays three r.told r.room r.full c.right_half-separator.ensures.halves adds r.owed (tree-size _ _ _ c.redraft-3.ensures.ready.table.is_shape.size c.args.words.now.sized.0 c.args.words.now.size.takes) d1.guard.0 d2.guard.0 d3.guard.0 h1 h2 d3.holds r.apart r.home
 
 pub returns-clause-split : goal.returns-clause-split
 returns-clause-split g c =

@@ -2,6 +2,7 @@ use Rattle.std.proofs.Common.{◌++◌, inl, inr, refl}
 use Rattle.vm_step.specs.Prelude.{view}
 use Rattle.vm_exmap.proofs.Handing.{held-on}
 use Rattle.vm_guard.specs.Groups.{guards_of}
+use Rattle.vm_tree_rule.proofs.Whole.{tree-size}
 use Rattle.vm_tree_read.proofs.Losing.{freed-loses, loses-same, loses-then}
 use Rattle.vm_tree_write.proofs.{Ends.below-ended, Ends.can-split, Under.some-taken, Under.taken-one}
 use Rattle.vm_tree_write.proofs.tries.split_below.Goals as goal
@@ -22,7 +23,7 @@ write_split-requires-clause-can g c =
     let one = (taken-one p.taken.x (guards_of c.in-Ok.all.pages) (guards_of c.take_last.new.self) c.in-Some.right p.taken.fresh.guards c.in-Some.ensures.some).1 in
     let met = c.requires.met in
     can-split c.args.parent c.args.node c.in-Ok.all.up c.in-Ok.all.low c.in-Some.right (guards_of c.in-Ok.all.pages) (view c.args.pass.now) (view c.prepare.new.pass) p one met.0 met.1 c.args.over.now c.args.page.now met.2 c.requires.size
-    c.requires.home
+    (tree-size _ _ _ c.requires.ready.table.is_shape.size c.args.words.now.sized.0 c.args.words.now.size.takes) c.requires.home
 
 pub free-requires-clause-frames : goal.free-requires-clause-frames
 free-requires-clause-frames g c =
@@ -36,7 +37,7 @@ returns-clause-keeps g c =
     let met = c.requires.met in
     let back = c.free.ensures.freed.back in
     (below-ended c.args.parent c.args.node c.in-Ok.all.up c.in-Ok.all.low c.in-Some.right (guards_of c.in-Ok.all.pages) (view c.args.pass.now) (view c.prepare.new.pass) p one met.0 met.1 c.args.over.now c.args.page.now met.2 c.requires.size
-    c.requires.home back.done (view c.write_split.new.pass) (view c.free.new.pass) c.write_split.ensures.split back.moves).0
+    (tree-size _ _ _ c.requires.ready.table.is_shape.size c.args.words.now.sized.0 c.args.words.now.size.takes) c.requires.home back.done (view c.write_split.new.pass) (view c.free.new.pass) c.write_split.ensures.split back.moves).0
 
 pub returns-clause-cause : goal.returns-clause-cause
 returns-clause-cause g c =
@@ -47,7 +48,7 @@ returns-clause-cause g c =
     inl (
       refl,
       (below-ended c.args.parent c.args.node c.in-Ok.all.up c.in-Ok.all.low c.in-Some.right (guards_of c.in-Ok.all.pages) (view c.args.pass.now) (view c.prepare.new.pass) p one met.0 met.1 c.args.over.now c.args.page.now met.2 c.requires.size
-          c.requires.home back.done (view c.write_split.new.pass) (view c.free.new.pass) c.write_split.ensures.split back.moves).1,
+          (tree-size _ _ _ c.requires.ready.table.is_shape.size c.args.words.now.sized.0 c.args.words.now.size.takes) c.requires.home back.done (view c.write_split.new.pass) (view c.free.new.pass) c.write_split.ensures.split back.moves).1,
     )
 
 pub returns-in-Err-clause-cause : goal.returns-in-Err-clause-cause

@@ -4,6 +4,7 @@ use Rattle.vm_step.specs.Prelude.{view}
 use Rattle.vm_exmap.proofs.Handing.{held-on}
 use Rattle.vm_guard.specs.Groups.{guards_of}
 use Rattle.vm_guard.proofs.Pairs.{taken-both, two-many}
+use Rattle.vm_tree_rule.proofs.Whole.{tree-size}
 use Rattle.vm_tree_read.proofs.Losing.{freed-loses, loses-same, loses-then}
 use Rattle.vm_tree_write.proofs.Ends.{can-split-root, root-ended}
 use Rattle.vm_tree_write.proofs.tries.split_root.Goals as goal
@@ -34,7 +35,7 @@ write_root-requires-clause-can g c =
     let two = (taken-both p.taken.x (guards_of c.in-Ok.all.pages) (guards_of c.take_last.new.self) (guards_of c.take_last-2.new.self) c.in-Some-take_last.right c.in-Some.top c.in-Some.ensures.some c.in-Some-take_last.ensures.some p.taken.fresh.guards).1 in
     let met = c.requires.met in
     can-split-root c.args.meta c.args.root c.in-Ok.all.up c.in-Ok.all.low c.in-Some-take_last.right c.in-Some.top (guards_of c.in-Ok.all.pages) (view c.args.pass.now) (view c.prepare.new.pass) p two met.0 met.1 c.args.height c.args.page.now met.2 c.requires.size
-    c.requires.home
+    (tree-size _ _ _ c.requires.ready.table.is_shape.size c.args.words.now.sized.0 c.args.words.now.size.takes) c.requires.home
 
 pub write_root-requires-clause-room : goal.write_root-requires-clause-room
 write_root-requires-clause-room g c =
@@ -55,7 +56,7 @@ returns-clause-keeps g c =
     let met = c.requires.met in
     let back = c.free.ensures.freed.back in
     (root-ended c.args.meta c.args.root c.in-Ok.all.up c.in-Ok.all.low c.in-Some-take_last.right c.in-Some.top (guards_of c.in-Ok.all.pages) (view c.args.pass.now) (view c.prepare.new.pass) p two met.0 met.1 c.args.height c.args.page.now met.2 c.requires.size
-    c.requires.home back.done (view c.write_root.new.pass) (view c.free.new.pass) c.write_root.ensures.split back.moves).0
+    (tree-size _ _ _ c.requires.ready.table.is_shape.size c.args.words.now.sized.0 c.args.words.now.size.takes) c.requires.home back.done (view c.write_root.new.pass) (view c.free.new.pass) c.write_root.ensures.split back.moves).0
 
 pub returns-clause-cause : goal.returns-clause-cause
 returns-clause-cause g c =
@@ -66,7 +67,7 @@ returns-clause-cause g c =
     inl (
       refl,
       (root-ended c.args.meta c.args.root c.in-Ok.all.up c.in-Ok.all.low c.in-Some-take_last.right c.in-Some.top (guards_of c.in-Ok.all.pages) (view c.args.pass.now) (view c.prepare.new.pass) p two met.0 met.1 c.args.height c.args.page.now met.2 c.requires.size
-          c.requires.home back.done (view c.write_root.new.pass) (view c.free.new.pass) c.write_root.ensures.split back.moves).1,
+          (tree-size _ _ _ c.requires.ready.table.is_shape.size c.args.words.now.sized.0 c.args.words.now.size.takes) c.requires.home back.done (view c.write_root.new.pass) (view c.free.new.pass) c.write_root.ensures.split back.moves).1,
     )
 
 pub returns-in-Err-clause-cause : goal.returns-in-Err-clause-cause

@@ -2,11 +2,12 @@ use Rattle.std.proofs.lemmas.Bool.{false≢true}
 use Rattle.vm_step.specs.Prelude.{view}
 use Rattle.vm_tree_laws.specs.Tied.{Tied}
 use Rattle.vm_tree_rule.proofs.{Readings.valid-reads, Surely.known-at, Surely.resident-same}
+use Rattle.vm_tree_rule.proofs.Whole.{tree-size}
 use Rattle.vm_tree_write.proofs.Telling.{not-valid, tight}
 use Rattle.vm_tree_write.proofs.write.tight.Goals as goal
 
 pub returns-in-Ok-clause-put : goal.returns-in-Ok-clause-put
-returns-in-Ok-clause-put g c key value loaded v o has leaf full = tight _ _ _ key loaded _ _ _ o has leaf full c.in-Ok.ensures.ok
+returns-in-Ok-clause-put g c key value loaded v o has leaf full = tight _ _ _ key loaded _ _ _ o has leaf full (tree-size _ _ _ c.validate_silently.ensures.ready.table.is_shape.size c.args.words.now.sized.0 c.args.words.now.size.takes) c.in-Ok.ensures.ok
 
 pub returns-in-Err-clause-put : goal.returns-in-Err-clause-put
 returns-in-Err-clause-put g c key value loaded v o has leaf full = not-valid _ _ _ key _ _ _ _ o c.in-Err.ensures.err

@@ -6,9 +6,9 @@ use Rattle.vm_image.proofs.image.Image.to_bytes.Goals as goal
 pub loop-p-preserved : goal.loop-p-preserved
 loop-p-preserved c =
     let below : c.loop-p.p < length c.args.self.now = search rules in
-    let size : length c.to_bytes.result ≡ 512 = search rules in
+    let size : length c.put_bytes.new.out ≡ 512 = search rules in
     rw c.in_ok-extend_from_slice.ensures.items (
-      write_more c.loop-p.bytes.items c.args.self.now c.loop-p.p c.to_bytes.result c.loop-p.invariant.0 below (c.to_bytes.ensures.bytes ∙ ap bytes_of_words c.page.ensures.page),
-      omega (arith, length-append c.loop-p.bytes.items c.to_bytes.result, size, c.loop-p.invariant.1),
-      write_back c.loop-p.bytes.items c.args.self.now c.loop-p.p c.to_bytes.result c.loop-p.invariant.2 c.loop-p.invariant.1 size below (c.to_bytes.ensures.back ∙ c.page.ensures.page),
+      write_more c.loop-p.bytes.items c.args.self.now c.loop-p.p c.put_bytes.new.out c.loop-p.invariant.0 below (c.put_bytes.ensures.bytes ∙ ap bytes_of_words c.page.ensures.page),
+      omega (arith, length-append c.loop-p.bytes.items c.put_bytes.new.out, size, c.loop-p.invariant.1),
+      write_back c.loop-p.bytes.items c.args.self.now c.loop-p.p c.put_bytes.new.out c.loop-p.invariant.2 c.loop-p.invariant.1 size below (c.put_bytes.ensures.back ∙ c.page.ensures.page),
     )
