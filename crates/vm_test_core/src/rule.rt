@@ -4,7 +4,7 @@ use std::test::Fail;
 use vm_block::MemBlock;
 use vm_core::{Core, CoreShape, Event, ReadIs, ReplayFault, Seen};
 use vm_owner::Bare;
-use vm_page::PageBuf;
+use vm_page::{PageBuf, WORDS};
 use vm_rule::replay_kept;
 use vm_rule::words::Words;
 
@@ -63,7 +63,7 @@ fn a_started_table_has_its_words_by_the_layout(rt: HostRuntime) -> Result<(), Fa
     let mut blocks = Vec::new(alloc);
     blocks.push(MemBlock::new(alloc, PageBuf::zero(), &[])?)?;
     blocks.push(MemBlock::new(alloc, PageBuf::zero(), &[])?)?;
-    let (words, _pass) = Words::<Bare, MemBlock>::started(alloc, 67, 1, 7, blocks)?;
+    let (words, _pass) = Words::<Bare, MemBlock<WORDS>>::started(alloc, WORDS, 67, 1, 7, blocks)?;
     let table = &words.table.shared;
     // Two state words, two translations, two fault words, 4288 words of frames, two bundles, the next word, the hand, 67 owner words.
     assert_eq!(rt; words.table.word_count(), 4365);

@@ -8,10 +8,11 @@ ghost use Rattle.vm_drive.specs.Drives.{AreAskable, AreFew, items_of};
 use std::alloc::{AllocError, Global};
 use std::process::Abort;
 use std::sync::Wait;
-use vm_block::Block;
+use vm_block::PageBlock;
 use vm_drive::compact::{Replies, Short};
 use vm_exmap::Interface;
 use vm_map::call::{Call, Reply};
+use vm_page::WORDS;
 use vm_pool::Pool;
 use vm_rule::words::Pass;
 use vm_tree_read::get;
@@ -66,9 +67,9 @@ pub(crate) fn two_lists(
 }
 
 /// `get`, by a pass whose block is at home: it is at home again.
-fn got<R: Wait, B: Block>(
+fn got<R: Wait, B: PageBlock<WORDS>>(
     rt: &R,
-    pool: &Pool<Tree, B>,
+    pool: &Pool<Tree, B, WORDS>,
     pass: &mut Pass<Tree>,
     iface: &mut Interface,
     key: u64,
@@ -85,9 +86,9 @@ fn got<R: Wait, B: Block>(
 }
 
 /// The same, once more where the device failed.
-fn got_again<R: Wait, B: Block>(
+fn got_again<R: Wait, B: PageBlock<WORDS>>(
     rt: &R,
-    pool: &Pool<Tree, B>,
+    pool: &Pool<Tree, B, WORDS>,
     pass: &mut Pass<Tree>,
     iface: &mut Interface,
     key: u64,
@@ -107,9 +108,9 @@ fn got_again<R: Wait, B: Block>(
 }
 
 /// Each put of a key that was not there was answered so, or by a fault; a key of the first kind has its value, one of the second none.
-fn expect_list<R: Abort + Wait, B: Block>(
+fn expect_list<R: Abort + Wait, B: PageBlock<WORDS>>(
     rt: &R,
-    pool: &Pool<Tree, B>,
+    pool: &Pool<Tree, B, WORDS>,
     pass: &mut Pass<Tree>,
     iface: &mut Interface,
     calls: &[Call],
@@ -140,9 +141,9 @@ fn expect_list<R: Abort + Wait, B: Block>(
 }
 
 /// The same of all lists: the pass knows what each worker did.
-pub(crate) fn expect_lists<R: Abort + Wait, B: Block>(
+pub(crate) fn expect_lists<R: Abort + Wait, B: PageBlock<WORDS>>(
     rt: &R,
-    pool: &Pool<Tree, B>,
+    pool: &Pool<Tree, B, WORDS>,
     pass: &mut Pass<Tree>,
     lists: &[Vec<Call>],
     replies: &[Replies],

@@ -9,13 +9,13 @@ use std::alloc::Global;
 use std::sync::atomic::{AtomicBool, Ordering};
 use std::test::Fail;
 use std::thread;
-use vm_block::{Block, Failed, MemBlock};
+use vm_block::{Block, Failed, MemBlock, PageBlock};
 use vm_drive::compact::Short;
 use vm_drive::drive;
 use vm_drive::gate::Gate;
 use vm_image::{Image, blocks_of};
 use vm_map::call::Call;
-use vm_page::PageBuf;
+use vm_page::{PageBuf, WORDS};
 use vm_pool::{Pool, Shape};
 use vm_rule::words::Pass;
 use vm_tree_rule::Tree;
@@ -73,7 +73,7 @@ impl Gate for Signals {
 /// words.
 #[derive(Drop)]
 struct Held<'a> {
-    inner: MemBlock,
+    inner: MemBlock<WORDS>,
     signals: Option<&'a Signals>,
 }
 
@@ -85,20 +85,6 @@ impl<'a> Block for Held<'a> {
     ghost tells = { false };
 
     ghost stored = { λ block. stored_of block.inner };
-
-    fn read(&mut self, into: &mut PageBuf) -> Result<(), Failed> {
-        if let Some(signals) = self.signals {
-            if self.inner.reads() == 0 {
-                signals.is_reading.store(true, Ordering::SeqCst);
-                wait_for(&signals.is_answered, &signals.block_saw);
-            }
-        }
-        self.inner.read(into)
-    }
-
-    fn write(&mut self, words: &PageBuf) -> Result<(), Failed> {
-        self.inner.write(words)
-    }
 
     fn reads(&self) -> u64 {
         self.inner.reads()
@@ -112,11 +98,27 @@ impl<'a> Block for Held<'a> {
         self.inner.faults()
     }
 
-    ghost whole = { λ block tells. cc };
-
     ghost bounded = { λ block. block.inner.plan.within };
 
     ghost capped = { λ block. Prim.omega arith };
+}
+
+impl<'a> PageBlock<WORDS> for Held<'a> {
+    fn read(&mut self, into: &mut PageBuf<WORDS>) -> Result<(), Failed> {
+        if let Some(signals) = self.signals {
+            if self.inner.reads() == 0 {
+                signals.is_reading.store(true, Ordering::SeqCst);
+                wait_for(&signals.is_answered, &signals.block_saw);
+            }
+        }
+        self.inner.read(into)
+    }
+
+    fn write(&mut self, words: &PageBuf<WORDS>) -> Result<(), Failed> {
+        self.inner.write(words)
+    }
+
+    ghost whole = { λ block tells. cc };
 }
 
 /// A block for each page of the image; that of page 1 has the signals.
@@ -144,7 +146,7 @@ fn open_held<'a>(
     alloc: Global,
     image: &Image,
     signals: &'a Signals,
-) -> Result<(Pool<Tree, Held<'a>>, Pass<Tree>), Fail>
+) -> Result<(Pool<Tree, Held<'a>, WORDS>, Pass<Tree>), Fail>
     ensures pages { IfOk result (λ made. 1 ≤ made.0.words.table.shared.key.pages) }
     ensures frames { IfOk result (λ made. made.0.words.frames ≡ 64) }
     ensures ready { IfOk result (λ made. IsReady made.0.words.table.shared.key false made.0.words.table.shared.table_id made.1) }

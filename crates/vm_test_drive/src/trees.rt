@@ -10,7 +10,7 @@ use std::test::Fail;
 use vm_block::{Block, MemBlock};
 use vm_check::check;
 use vm_image::{Image, PlannedFault, blocks_of, read_image};
-use vm_page::PageBuf;
+use vm_page::{PageBuf, WORDS};
 use vm_pool::{Pool, Shape};
 use vm_rule::words::Pass;
 use vm_tree_rule::Tree;
@@ -18,7 +18,7 @@ use vm_tree_rule::Tree;
 pub(crate) const MAGIC: u64 = 0x564D_4341_4348_4531;
 
 /// A page that begins with these words.
-pub(crate) fn page(words: &[u64]) -> PageBuf
+pub(crate) fn page(words: &[u64]) -> PageBuf<WORDS>
     requires { length words.now ≤ 64 }
     ensures { length result ≡ 64 }
 {
@@ -35,7 +35,9 @@ pub(crate) fn page(words: &[u64]) -> PageBuf
 fn put_page(bytes: &mut Vec<u8>, words: &[u64]) -> Result<(), AllocError>
     requires { length words.now ≤ 64 }
 {
-    bytes.extend_from_slice(&page(words).to_bytes())
+    let mut written = [0; 512];
+    page(words).put_bytes(&mut written);
+    bytes.extend_from_slice(&written)
 }
 
 /// The image of a page file whose pages are a tree.
@@ -90,13 +92,13 @@ pub(crate) fn open(
     plan: &[PlannedFault],
     first_version: u64,
     frames: u32,
-) -> Result<(Pool<Tree, MemBlock>, Pass<Tree>), Fail>
+) -> Result<(Pool<Tree, MemBlock<WORDS>, WORDS>, Pass<Tree>), Fail>
     requires tree { IsTree image.now }
     requires version { first_version ≤ MAX_VERSION }
     requires frames { (1 ≤ frames) × (frames ≤ 65536) }
     ensures pages { IfOk result (λ made. 1 ≤ made.0.words.table.shared.key.pages) }
     ensures frames { IfOk result (λ made. made.0.words.frames ≡ frames) }
-    ensures ready { IfOk result (λ made. IsReady made.0.words.table.shared.key ⟦<MemBlock as Block>⟧.tells made.0.words.table.shared.table_id made.1) }
+    ensures ready { IfOk result (λ made. IsReady made.0.words.table.shared.key ⟦<MemBlock<WORDS> as Block>⟧.tells made.0.words.table.shared.table_id made.1) }
     ensures whole { IfOk result (λ made. IsWhole (view made.1)) }
     ensures holds { IfOk result (λ made. HoldsNoPage (view made.1)) }
     ensures fresh { IfOk result (λ made. 64 ≤ length (view made.1).fresh) }

@@ -10,7 +10,7 @@ use vm_block::{Block, MemBlock};
 use vm_clock::candidates;
 use vm_core::MAX_VERSION;
 use vm_owner::Bare;
-use vm_page::PageBuf;
+use vm_page::{PageBuf, WORDS};
 use vm_rule::words::{Pass, Words};
 use vm_step::{Candidates, Looks, Took, lock_shared};
 
@@ -30,12 +30,12 @@ const NONE: Looks = Looks {
 };
 
 /// A table of one page that is evicted, and its first pass.
-fn evicted_page(alloc: Global) -> Result<(Words<Bare, MemBlock>, Pass<Bare>), Fail>
-    ensures ready { IfOk result (λ made. IsReady made.0.table.shared.key ⟦<MemBlock as Block>⟧.tells made.0.table.shared.table_id made.1) }
+fn evicted_page(alloc: Global) -> Result<(Words<Bare, MemBlock<WORDS>>, Pass<Bare>), Fail>
+    ensures ready { IfOk result (λ made. IsReady made.0.table.shared.key ⟦<MemBlock<WORDS> as Block>⟧.tells made.0.table.shared.table_id made.1) }
 {
     let mut blocks = Vec::new(alloc);
     blocks.push(MemBlock::new(alloc, PageBuf::zero(), &[])?)?;
-    Ok(Words::started(alloc, 1, 1, 7, blocks)?)
+    Ok(Words::started(alloc, WORDS, 1, 1, 7, blocks)?)
 }
 
 #[test]

@@ -8,17 +8,20 @@ use std::test::Fail;
 use vm_block::{Block, MemBlock};
 use vm_exmap::{Alloc, AllocOne, Interface};
 use vm_owner::Bare;
-use vm_page::PageBuf;
+use vm_page::{PageBuf, WORDS};
 use vm_rule::words::{Pass, Words};
 
 /// A table of one evicted page and so many free frames (1 to 65536), and its first pass.
-fn free_frames(alloc: Global, frames: u32) -> Result<(Words<Bare, MemBlock>, Pass<Bare>), Fail>
+fn free_frames(
+    alloc: Global,
+    frames: u32,
+) -> Result<(Words<Bare, MemBlock<WORDS>>, Pass<Bare>), Fail>
     requires { (1 ≤ frames) × (frames ≤ 65536) }
     ensures { IfOk result (λ made. IsReady made.0.table.shared.key true made.0.table.shared.table_id made.1) }
 {
     let mut blocks = Vec::new(alloc);
     blocks.push(MemBlock::new(alloc, PageBuf::zero(), &[])?)?;
-    Ok(Words::started(alloc, frames, 1, 0, blocks)?)
+    Ok(Words::started(alloc, WORDS, frames, 1, 0, blocks)?)
 }
 
 #[test]

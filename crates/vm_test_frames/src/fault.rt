@@ -1,7 +1,8 @@
 //! Fault-in over small tables of evicted pages, with ample memory. The values are worked out by hand from the rules, and not
 //! taken from a run.
-ghost use Rattle.std.specs.Prelude.{◌≡◌, ◌≤◌, IfOk, None, true};
+ghost use Rattle.std.specs.Prelude.{◌<◌, ◌≡◌, ◌≤◌, IfOk, None, true};
 ghost use Rattle.vm_core.specs.Prelude.{MAX_VERSION};
+ghost use Rattle.vm_page.specs.Sizes.{IsSize};
 ghost use Rattle.vm_rule.specs.Prelude.{has};
 ghost use Rattle.vm_step.specs.Prelude.{IsReady, IsSamePass, MayStep, view};
 
@@ -12,30 +13,34 @@ use std::test::Fail;
 use vm_block::{Block, MemBlock};
 use vm_fault::{Fetch, fault_in};
 use vm_owner::Bare;
-use vm_page::PageBuf;
+use vm_page::{LARGE, PageBuf, WORDS};
 use vm_rule::words::{Pass, Words};
 use vm_step::{At, Saw, Took, take};
 
 /// The word of an evicted page at version 1.
 const EVICTED_AT_1: u64 = 0xff00_0000_0000_0001;
 
-/// A table of one evicted page at this version, whose last word is 5, with a block of this plan, and its first pass.
-fn one_page(
+/// A table of one evicted page of `N` words at this version, whose word `i` is 5, with a block of this plan, and its first pass.
+fn one_page<const N: usize>(
     alloc: Global,
+    i: usize,
     version: u64,
     plan: &[u64],
-) -> Result<(Words<Bare, MemBlock>, Pass<Bare>), Fail>
-    requires { version ≤ MAX_VERSION }
+) -> Result<(Words<Bare, MemBlock<N>>, Pass<Bare>), Fail>
+    requires sized { IsSize N }
+    requires place { i < N }
+    requires version { version ≤ MAX_VERSION }
+    ensures size { IfOk result (λ made. made.0.table.shared.key.size ≡ N) }
     ensures pages { IfOk result (λ made. made.0.table.shared.key.pages ≡ 1) }
     ensures frames { IfOk result (λ made. made.0.table.shared.key.frames ≡ 2) }
     ensures may { IfOk result (λ made. MayStep made.0.table.shared.table_id made.1) }
     ensures out { IfOk result (λ made. (view made.1).out ≡ None) }
 {
-    let mut page = PageBuf::zero();
-    page.set(63, 5);
+    let mut page = PageBuf::<N>::zero();
+    page.set(i, 5);
     let mut blocks = Vec::new(alloc);
     blocks.push(MemBlock::new(alloc, page, plan)?)?;
-    Ok(Words::started(alloc, 2, 1, version, blocks)?)
+    Ok(Words::started(alloc, N, 2, 1, version, blocks)?)
 }
 
 /// Takes both frames.
@@ -54,16 +59,19 @@ fn take_both<B: Block>(rt: &impl Abort, words: &Words<Bare, B>, pass: &mut Pass<
     }
 }
 
-#[test]
-fn a_page_is_brought_once(rt: HostRuntime) -> Result<(), Fail> {
-    let (words, mut pass) = one_page(rt.alloc(), 0, &[])?;
-    take_both(&rt, &words, &mut pass);
-    let Fetch::Brought = fault_in(&words, &mut pass, 0, 0) else {
+/// A page of `N` words, whose word `i` is 5, is brought into frame 0, and no second time.
+fn brought_once<R: Abort, const N: usize>(rt: &R, alloc: Global, i: usize) -> Result<(), Fail>
+    requires sized { IsSize N }
+    requires place { i < N }
+{
+    let (words, mut pass) = one_page::<N>(alloc, i, 0, &[])?;
+    take_both(rt, &words, &mut pass);
+    let Fetch::Brought = fault_in::<Bare, MemBlock<N>, N>(&words, &mut pass, 0, 0) else {
         panic!(rt; "the page can be read");
     };
-    // The last word of frame 0, behind a state word, a translation word and a fault word.
-    assert_eq!(rt; words.table.shared.peek(66), 5);
-    let again = fault_in(&words, &mut pass, 0, 1);
+    // Word `i` of frame 0, behind a state word, a translation word and a fault word.
+    assert_eq!(rt; words.table.shared.peek(3 + i), 5);
+    let again = fault_in::<Bare, MemBlock<N>, N>(&words, &mut pass, 0, 1);
     let saw = Saw {
         at: At::Page(0),
         first: EVICTED_AT_1,
@@ -74,23 +82,38 @@ fn a_page_is_brought_once(rt: HostRuntime) -> Result<(), Fail> {
 }
 
 #[test]
+fn a_page_is_brought_once(rt: HostRuntime) -> Result<(), Fail> {
+    brought_once::<HostRuntime, WORDS>(&rt, rt.alloc(), 63)
+}
+
+#[test]
+fn a_large_page_is_brought_once(rt: HostRuntime) -> Result<(), Fail> {
+    brought_once::<HostRuntime, LARGE>(&rt, rt.alloc(), 511)
+}
+
+#[test]
 fn a_page_whose_block_failed_is_brought_later(rt: HostRuntime) -> Result<(), Fail> {
-    let (words, mut pass) = one_page(rt.alloc(), 0, &[1])?;
+    let (words, mut pass) = one_page::<WORDS>(rt.alloc(), 63, 0, &[1])?;
     take_both(&rt, &words, &mut pass);
-    let Fetch::Device { frame, pid, count } = fault_in(&words, &mut pass, 0, 0) else {
+    let Fetch::Device { frame, pid, count } = fault_in::<Bare, MemBlock<WORDS>, WORDS>(
+        &words, &mut pass, 0, 0,
+    ) else {
         panic!(rt; "the first read fails");
     };
     assert_eq!(rt; (frame, pid, count), (0, 0, 1));
-    assert_eq!(rt; fault_in(&words, &mut pass, 0, 0), Fetch::Brought);
+    assert_eq!(rt;
+        fault_in::<Bare, MemBlock<WORDS>, WORDS>(&words, &mut pass, 0, 0),
+        Fetch::Brought
+    );
     assert_eq!(rt; words.table.shared.peek(66), 5);
     Ok(())
 }
 
 #[test]
 fn a_page_at_the_last_version_is_worn(rt: HostRuntime) -> Result<(), Fail> {
-    let (words, mut pass) = one_page(rt.alloc(), 0xff_ffff_ffff_ffff, &[])?;
+    let (words, mut pass) = one_page::<WORDS>(rt.alloc(), 63, 0xff_ffff_ffff_ffff, &[])?;
     take_both(&rt, &words, &mut pass);
-    let worn = fault_in(&words, &mut pass, 0, 1);
+    let worn = fault_in::<Bare, MemBlock<WORDS>, WORDS>(&words, &mut pass, 0, 1);
     assert_eq!(rt; worn, Fetch::Worn { frame: 1, pid: 0 });
     Ok(())
 }
@@ -103,7 +126,7 @@ fn a_table_of_resident_pages_has_its_words_by_the_layout(rt: HostRuntime) -> Res
     let mut blocks = Vec::new(alloc);
     blocks.push(MemBlock::new(alloc, PageBuf::zero(), &[])?)?;
     blocks.push(MemBlock::new(alloc, last, &[])?)?;
-    let (words, _pass) = resident(&rt, alloc, blocks, 7)?;
+    let (words, _pass) = resident::<HostRuntime, MemBlock<WORDS>, WORDS>(&rt, alloc, blocks, 7)?;
     let table = &words.table.shared;
     // Two state words, two translations, two fault words, 128 words of frames, a bundle, the next word, the hand, two owner words.
     assert_eq!(rt; words.table.word_count(), 139);
@@ -119,5 +142,29 @@ fn a_table_of_resident_pages_has_its_words_by_the_layout(rt: HostRuntime) -> Res
     assert_eq!(rt; table.peek(136), 0);
     assert_eq!(rt; table.peek(137), 1);
     assert_eq!(rt; table.peek(138), 2);
+    Ok(())
+}
+
+/// Its last word stands in the last word of its frame, and what comes behind the frames, behind that.
+#[test]
+fn a_table_of_a_large_page_has_its_words_by_the_layout(rt: HostRuntime) -> Result<(), Fail> {
+    let alloc = rt.alloc();
+    let mut page = PageBuf::<LARGE>::zero();
+    page.set(511, 9);
+    let mut blocks = Vec::new(alloc);
+    blocks.push(MemBlock::new(alloc, page, &[])?)?;
+    let (words, _pass) = resident::<HostRuntime, MemBlock<LARGE>, LARGE>(&rt, alloc, blocks, 7)?;
+    let table = &words.table.shared;
+    // A state word, a translation, a fault word, 512 words of the frame, a bundle, the next word, the hand, an owner word.
+    assert_eq!(rt; words.table.word_count(), 519);
+    assert_eq!(rt; table.peek(0), 7);
+    assert_eq!(rt; table.peek(1), 1);
+    assert_eq!(rt; table.peek(2), 0);
+    assert_eq!(rt; table.peek(513), 0);
+    assert_eq!(rt; table.peek(514), 9);
+    assert_eq!(rt; table.peek(515), 0);
+    assert_eq!(rt; table.peek(516), 1);
+    assert_eq!(rt; table.peek(517), 0);
+    assert_eq!(rt; table.peek(518), 1);
     Ok(())
 }

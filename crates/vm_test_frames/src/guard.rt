@@ -1,5 +1,5 @@
 //! Guards over a table of one resident page, with ample memory. The values are worked out by hand from the rules, and not taken from a run.
-ghost use Rattle.std.specs.Prelude.{◌≡◌, false, None};
+ghost use Rattle.std.specs.Prelude.{◌<◌, ◌≡◌, false, None};
 ghost use Rattle.vm_rule.specs.Prelude.{seat_of};
 ghost use Rattle.vm_step.specs.Prelude.{IsReady, MayStep, view};
 ghost use Rattle.vm_guard.specs.Shares.{KeepsShares};
@@ -7,12 +7,12 @@ ghost use Rattle.vm_guard.specs.Shares.{KeepsShares};
 use crate::resident::{resident, zero_pages};
 use std::process::Abort;
 use std::test::Fail;
-use vm_block::{Block, Failed};
+use vm_block::{Block, Failed, MemBlock, PageBlock};
 use vm_core::StateWord;
 use vm_evict::flush;
 use vm_guard::{Deny, ExclusiveGuard, OptGuard, SharedGuard};
 use vm_owner::Bare;
-use vm_page::PageBuf;
+use vm_page::{LARGE, PageBuf, WORDS};
 use vm_rule::words::{Pass, Words};
 use vm_step::{At, Saw, Took, look_silently, mark};
 
@@ -95,28 +95,53 @@ fn a_page_has_at_most_252_shares(rt: HostRuntime) -> Result<(), Fail> {
     Ok(())
 }
 
-#[test]
-fn a_validated_read_has_the_word_that_was_set(rt: HostRuntime) -> Result<(), Fail> {
-    let (words, mut pass) = zero_pages(&rt, rt.alloc(), 1, 1)?;
-    let Ok(mut held) = ExclusiveGuard::take(&words, &mut pass, 0) else {
+/// Word `i` of the one page of a table is set, and read again.
+fn read_again<R: Abort, B: Block>(rt: &R, words: &Words<Bare, B>, pass: &mut Pass<Bare>, i: usize)
+    requires pass { MayStep words.now.table.shared.table_id pass.old }
+    requires pages { words.now.table.shared.key.pages ≡ 1 }
+    requires next { (view pass.old).start.next ≡ 1 }
+    requires out { (view pass.old).out ≡ None }
+    requires place { i < words.now.table.shared.key.size }
+{
+    let Ok(mut held) = ExclusiveGuard::take(words, pass, 0) else {
         panic!(rt; "the page can be locked");
     };
     // A page that was brought in is clean.
     let clean = !held.dirty;
     assert!(rt; clean);
-    held.set(&words, &mut pass, 63, 5);
+    held.set(words, pass, i, 5);
     let dirty = held.dirty;
     assert!(rt; dirty);
-    let drafted = held.read(&words, &mut pass, 63);
+    let drafted = held.read(words, pass, i);
     assert_eq!(rt; drafted, 5);
-    held.release(&words, &mut pass, None);
-    let Ok(guard) = OptGuard::start(&words, &mut pass, 0) else {
+    held.release(words, pass, None);
+    let Ok(guard) = OptGuard::start(words, pass, 0) else {
         panic!(rt; "the page can be read");
     };
-    let read = guard.word(&words, &mut pass, 63);
-    let valid = guard.validate_silently(&words, &mut pass).is_ok();
+    let read = guard.word(words, pass, i);
+    let valid = guard.validate_silently(words, pass).is_ok();
     assert!(rt; valid);
     assert_eq!(rt; read, 5);
+}
+
+#[test]
+fn a_validated_read_has_the_word_that_was_set(rt: HostRuntime) -> Result<(), Fail> {
+    let (words, mut pass) = zero_pages(&rt, rt.alloc(), 1, 1)?;
+    read_again(&rt, &words, &mut pass, 63);
+    Ok(())
+}
+
+#[test]
+fn a_validated_read_has_the_last_word_of_a_large_page(rt: HostRuntime) -> Result<(), Fail> {
+    let mut blocks = Vec::new(rt.alloc());
+    blocks.push(MemBlock::new(rt.alloc(), PageBuf::<LARGE>::zero(), &[])?)?;
+    let (words, mut pass) = resident::<HostRuntime, MemBlock<LARGE>, LARGE>(
+        &rt,
+        rt.alloc(),
+        blocks,
+        1,
+    )?;
+    read_again(&rt, &words, &mut pass, 511);
     Ok(())
 }
 
@@ -153,17 +178,6 @@ impl Block for Mute {
 
     ghost stored = { λ block. record { words = []; count = 0; bound = 0; reads = block.reads; writes = block.writes } };
 
-    fn read(&mut self, into: &mut PageBuf) -> Result<(), Failed> {
-        let _ = into.get(0);
-        self.reads = self.reads.saturating_add(1);
-        Ok(())
-    }
-
-    fn write(&mut self, _words: &PageBuf) -> Result<(), Failed> {
-        self.writes = self.writes.saturating_add(1);
-        Ok(())
-    }
-
     fn reads(&self) -> u64 {
         self.reads
     }
@@ -176,11 +190,25 @@ impl Block for Mute {
         0
     }
 
-    ghost whole = { λ block tells. cc };
-
     ghost bounded = { λ block. Prim.omega arith };
 
     ghost capped = { λ block. Prim.omega arith };
+}
+
+#[tactic(auto, unfolding(vm_page::specs::Counts::count_more))]
+impl PageBlock<WORDS> for Mute {
+    fn read(&mut self, into: &mut PageBuf<WORDS>) -> Result<(), Failed> {
+        let _ = into.get(0);
+        self.reads = self.reads.saturating_add(1);
+        Ok(())
+    }
+
+    fn write(&mut self, _words: &PageBuf<WORDS>) -> Result<(), Failed> {
+        self.writes = self.writes.saturating_add(1);
+        Ok(())
+    }
+
+    ghost whole = { λ block tells. cc };
 }
 
 #[test]
@@ -190,7 +218,7 @@ fn a_set_makes_a_clean_page_dirty_and_a_flush_makes_it_clean(rt: HostRuntime) ->
         reads: 0,
         writes: 0,
     })?;
-    let (words, mut pass) = resident(&rt, rt.alloc(), blocks, 7)?;
+    let (words, mut pass) = resident::<HostRuntime, Mute, WORDS>(&rt, rt.alloc(), blocks, 7)?;
     let Ok(mut held) = ExclusiveGuard::take(&words, &mut pass, 0) else {
         panic!(rt; "the page can be locked");
     };
@@ -207,7 +235,7 @@ fn a_set_makes_a_clean_page_dirty_and_a_flush_makes_it_clean(rt: HostRuntime) ->
     let dirty = held.dirty;
     assert!(rt; dirty);
     held.release(&words, &mut pass, None);
-    let flushed = flush(&words, &mut pass);
+    let flushed = flush::<Bare, Mute, WORDS>(&words, &mut pass);
     assert_eq!(rt; flushed.written, 1);
     let Ok(held) = ExclusiveGuard::take(&words, &mut pass, 0) else {
         panic!(rt; "the page can be locked");

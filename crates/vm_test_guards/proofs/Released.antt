@@ -84,7 +84,7 @@ module _ {X : Type 0} where
         owned = ap (λ (y : Held). y.owner) k.held ∙ h.owned;
         told = ap (λ (y : Held). y.fault) k.held ∙ h.told ∙ ap (λ (y : Held). y.block.count) (sym k.held);
         at = ap (λ (y : Version). y.version) k.last ∙ h.at;
-        size = ap length k.draft ∙ h.size;
+        size = ap length k.draft ∙ h.size ∙ ap (λ (o : Origin). o.size) (sym e.steady.start);
         free = ap (has p) pending ∙ h.free;
       }
 

@@ -9,6 +9,7 @@ use std::test::Fail;
 use vm_block::Block;
 use vm_guard::{Fresh, Group, fresh, read_word, release_group, write_two};
 use vm_owner::{Bare, Owner};
+use vm_page::WORDS;
 use vm_rule::words::{Pass, Words};
 use vm_step::Batch;
 
@@ -119,7 +120,7 @@ fn is_full<B: Block>(
 
 #[test]
 fn pages_are_given_until_none_is_left(rt: HostRuntime) -> Result<(), Fail> {
-    let blocks = zeros(rt.alloc(), 4)?;
+    let blocks = zeros::<WORDS>(rt.alloc(), 4)?;
     let (pool, mut pass, _other) = two_passes(rt.alloc(), 64, 1, blocks)?;
     let words = pool.words();
     let mut frames = free_frames(&rt, words, &mut pass, 8);
@@ -137,7 +138,7 @@ fn pages_are_given_until_none_is_left(rt: HostRuntime) -> Result<(), Fail> {
 
 #[test]
 fn two_passes_claim_no_page_twice(rt: HostRuntime) -> Result<(), Fail> {
-    let blocks = zeros(rt.alloc(), 7)?;
+    let blocks = zeros::<WORDS>(rt.alloc(), 7)?;
     let (pool, mut pass, mut other) = two_passes(rt.alloc(), 64, 1, blocks)?;
     let words = pool.words();
     let mut frames = free_frames(&rt, words, &mut pass, 8);
@@ -161,7 +162,7 @@ fn two_passes_claim_no_page_twice(rt: HostRuntime) -> Result<(), Fail> {
 
 #[test]
 fn a_group_is_read_back(rt: HostRuntime) -> Result<(), Fail> {
-    let blocks = zeros(rt.alloc(), 4)?;
+    let blocks = zeros::<WORDS>(rt.alloc(), 4)?;
     let (pool, mut pass, _other) = two_passes(rt.alloc(), 64, 2, blocks)?;
     let words = pool.words();
     let mut frames = free_frames(&rt, words, &mut pass, 8);

@@ -1,20 +1,27 @@
-//! A group of three pages, which a second pass reads before and after its release. The values are worked out by hand from the rules.
+//! Groups of three pages, small ones and large ones, which a second pass reads before and after their release. The values are worked out by hand from the rules.
 ghost use Rattle.std.specs.Prelude.{◌<◌, ◌≡◌, ◌≢◌, Bool, None, ℕ};
+ghost use Rattle.vm_page.specs.Sizes.{IsSize};
 ghost use Rattle.vm_step.specs.Prelude.{IsReady, view};
 ghost use Rattle.vm_guard.specs.Guards.{IsHolding};
 
 use crate::table::{two_passes, zeros};
+use std::alloc::Global;
 use std::process::Abort;
 use std::test::Fail;
-use vm_block::Block;
+use vm_block::{Block, PageBlock};
 use vm_exmap::Interface;
 use vm_guard::{ExclusiveGuard, Group, read_word, release_group};
 use vm_owner::Bare;
+use vm_page::{LARGE, WORDS};
 use vm_pool::{Bring, Pool};
 use vm_rule::words::{Pass, Words};
 
 /// The pages 0, 1 and 2, which are evicted, are brought in.
-fn three_brought<B: Block>(rt: &impl Abort, pool: &Pool<Bare, B>, pass: &mut Pass<Bare>)
+fn three_brought<B: PageBlock<N>, const N: usize>(
+    rt: &impl Abort,
+    pool: &Pool<Bare, B, N>,
+    pass: &mut Pass<Bare>,
+)
     requires ready { IsReady pool.now.words.table.shared.key B.tells pool.now.words.table.shared.table_id pass.old }
     requires home { (view pass.old).out ≡ None }
     requires pages { pool.now.words.table.shared.key.pages ≡ 3 }
@@ -27,33 +34,37 @@ fn three_brought<B: Block>(rt: &impl Abort, pool: &Pool<Bare, B>, pass: &mut Pas
     assert_eq!(rt; pool.bring(pass, &mut iface, 2), Bring::Brought);
 }
 
-/// The first words of the pages 0, 1 and 2.
-fn first_words<B: Block>(
+/// Word `i` of each of the pages 0, 1 and 2.
+fn words_at<B: Block>(
     words: &Words<Bare, B>,
     pass: &mut Pass<Bare>,
+    i: usize,
 ) -> (Option<u64>, Option<u64>, Option<u64>)
     requires ready { IsReady words.now.table.shared.key B.tells words.now.table.shared.table_id pass.old }
     requires pages { words.now.table.shared.key.pages ≡ 3 }
+    requires place { i < words.now.table.shared.key.size }
     ensures ready { IsReady words.now.table.shared.key B.tells words.now.table.shared.table_id pass.new }
 {
     (
-        read_word(words, pass, 0, 0),
-        read_word(words, pass, 1, 0),
-        read_word(words, pass, 2, 0),
+        read_word(words, pass, 0, i),
+        read_word(words, pass, 1, i),
+        read_word(words, pass, 2, i),
     )
 }
 
-/// The page, with this first word. The other pages that the pass holds it holds on.
+/// The page, with this word `i`. The other pages that the pass holds it holds on.
 fn written<B: Block>(
     rt: &impl Abort,
     words: &Words<Bare, B>,
     pass: &mut Pass<Bare>,
     pid: u32,
+    i: usize,
     word: u64,
 ) -> ExclusiveGuard
     requires ready { IsReady words.now.table.shared.key B.tells words.now.table.shared.table_id pass.old }
     requires home { (view pass.old).out ≡ None }
     requires page { pid < words.now.table.shared.key.pages }
+    requires place { i < words.now.table.shared.key.size }
     ensures ready { IsReady words.now.table.shared.key B.tells words.now.table.shared.table_id pass.new }
     ensures home { (view pass.new).out ≡ None }
     ensures page { result.pid ≡ pid }
@@ -63,7 +74,7 @@ fn written<B: Block>(
     let Ok(mut guard) = ExclusiveGuard::take(words, pass, pid) else {
         panic!(rt; "the page is free");
     };
-    guard.set(words, pass, 0, word);
+    guard.set(words, pass, i, word);
     guard
 }
 
@@ -87,24 +98,38 @@ fn released<B: Block>(
     release_group(words, pass, Group::Three(a, b, c), None);
 }
 
-#[test]
-fn a_group_of_three_is_seen_whole(rt: HostRuntime) -> Result<(), Fail> {
-    let blocks = zeros(rt.alloc(), 3)?;
-    let (pool, mut pass, mut other) = two_passes(rt.alloc(), 64, 3, blocks)?;
-    three_brought(&rt, &pool, &mut pass);
+/// A group of three pages of `N` words, of which word `i` is written, is released.
+fn group_of_three<R: Abort, const N: usize>(rt: &R, alloc: Global, i: usize) -> Result<(), Fail>
+    requires sized { IsSize N }
+    requires place { i < N }
+{
+    let blocks = zeros::<N>(alloc, 3)?;
+    let (pool, mut pass, mut other) = two_passes(alloc, 64, 3, blocks)?;
+    three_brought(rt, &pool, &mut pass);
     let words = pool.words();
-    let before = first_words(words, &mut other);
+    let before = words_at(words, &mut other, i);
     assert_eq!(rt; before, (Some(0), Some(0), Some(0)));
-    let a = written(&rt, words, &mut pass, 2, 12);
-    let b = written(&rt, words, &mut pass, 0, 10);
+    let a = written(rt, words, &mut pass, 2, i, 12);
+    let b = written(rt, words, &mut pass, 0, i, 10);
     // a page that is not locked yet has its old word
-    let old = read_word(words, &mut other, 1, 0);
+    let old = read_word(words, &mut other, 1, i);
     assert_eq!(rt; old, Some(0));
-    let c = written(&rt, words, &mut pass, 1, 11);
-    let meanwhile = first_words(words, &mut other);
+    let c = written(rt, words, &mut pass, 1, i, 11);
+    let meanwhile = words_at(words, &mut other, i);
     assert_eq!(rt; meanwhile, (None, None, None));
     released(words, &mut pass, a, b, c);
-    let after = first_words(words, &mut other);
+    let after = words_at(words, &mut other, i);
     assert_eq!(rt; after, (Some(10), Some(11), Some(12)));
     Ok(())
+}
+
+#[test]
+fn a_group_of_three_is_seen_whole(rt: HostRuntime) -> Result<(), Fail> {
+    group_of_three::<HostRuntime, WORDS>(&rt, rt.alloc(), 0)
+}
+
+/// Their last words.
+#[test]
+fn a_group_of_three_large_pages_is_seen_whole(rt: HostRuntime) -> Result<(), Fail> {
+    group_of_three::<HostRuntime, LARGE>(&rt, rt.alloc(), 511)
 }

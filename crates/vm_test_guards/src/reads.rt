@@ -8,7 +8,7 @@ use crate::table::two_passes;
 use std::alloc::Global;
 use std::process::Abort;
 use std::test::Fail;
-use vm_block::{Block, MemBlock};
+use vm_block::{MemBlock, PageBlock};
 use vm_core::StateWord;
 use vm_exmap::Interface;
 use vm_guard::OptGuard;
@@ -19,7 +19,7 @@ use vm_rule::words::Pass;
 use vm_step::{At, Saw};
 
 /// The blocks of two pages, which have 64 times the word 5, and 64 times the word 6.
-fn two_blocks(alloc: Global) -> Result<Vec<MemBlock>, Fail>
+fn two_blocks(alloc: Global) -> Result<Vec<MemBlock<WORDS>>, Fail>
     ensures count { IfOk result (λ blocks. length blocks.items ≡ 2) }
     ensures begins { IfOk result (λ blocks. MayBegin ⟦<Bare as Owner>⟧.keeps 2 (block_words (map stored_of blocks.items))) }
 {
@@ -36,7 +36,12 @@ fn two_blocks(alloc: Global) -> Result<Vec<MemBlock>, Fail>
 }
 
 /// The page, which is evicted, is brought in, by a pass without a frame of its own.
-fn brought<B: Block>(rt: &impl Abort, pool: &Pool<Bare, B>, pass: &mut Pass<Bare>, pid: u32)
+fn brought<B: PageBlock<WORDS>>(
+    rt: &impl Abort,
+    pool: &Pool<Bare, B, WORDS>,
+    pass: &mut Pass<Bare>,
+    pid: u32,
+)
     requires ready { IsReady pool.now.words.table.shared.key B.tells pool.now.words.table.shared.table_id pass.old }
     requires home { (view pass.old).out ≡ None }
     requires page { pid < pool.now.words.table.shared.key.pages }
@@ -49,7 +54,7 @@ fn brought<B: Block>(rt: &impl Abort, pool: &Pool<Bare, B>, pass: &mut Pass<Bare
 }
 
 /// Each of the 64 words is this one.
-fn is_all(rt: &impl Abort, page: &PageBuf, word: u64)
+fn is_all(rt: &impl Abort, page: &PageBuf<WORDS>, word: u64)
     requires { length page.now ≡ WORDS }
 {
     for i in 0..64usize {

@@ -1,5 +1,6 @@
 // A pool of a few evicted pages with two passes, and frames for the pages that they claim.
 ghost use Rattle.std.specs.Prelude.{◌≡◌, ◌≤◌, IfOk, length, map, None, ℕ};
+ghost use Rattle.vm_page.specs.Sizes.{IsSize};
 ghost use Rattle.vm_rule.specs.Prelude.{block_words, MayBegin, stored_of};
 ghost use Rattle.vm_step.specs.Prelude.{AreHeld, IsReady, view};
 
@@ -16,8 +17,9 @@ use vm_rule::words::{Pass, Words};
 use vm_step::Batch;
 
 /// Blocks of so many pages (0 to 65536) of zeros, which answer every call.
-pub(crate) fn zeros(alloc: Global, pages: u32) -> Result<Vec<MemBlock>, Fail>
-    requires { pages ≤ 65536 }
+pub(crate) fn zeros<const N: usize>(alloc: Global, pages: u32) -> Result<Vec<MemBlock<N>>, Fail>
+    requires sized { IsSize N }
+    requires pages { pages ≤ 65536 }
     ensures count { IfOk result (λ blocks. length blocks.items ≡ pages) }
     ensures begins { IfOk result (λ blocks. (next : ℕ) → MayBegin ⟦<Bare as Owner>⟧.keeps next (block_words (map stored_of blocks.items))) }
 {
@@ -30,19 +32,20 @@ pub(crate) fn zeros(alloc: Global, pages: u32) -> Result<Vec<MemBlock>, Fail>
 }
 
 /// A pool of these blocks, whose pages are evicted at version 7, with so many frames (1 to 65536), whose next page is `next`, and two passes.
-pub(crate) fn two_passes(
+pub(crate) fn two_passes<const N: usize>(
     alloc: Global,
     frames: u32,
     next: u32,
-    blocks: Vec<MemBlock>,
-) -> Result<(Pool<Bare, MemBlock>, Pass<Bare>, Pass<Bare>), Fail>
+    blocks: Vec<MemBlock<N>>,
+) -> Result<(Pool<Bare, MemBlock<N>, N>, Pass<Bare>, Pass<Bare>), Fail>
+    requires sized { IsSize N }
     requires pages { (1 ≤ length blocks.items) × (length blocks.items ≤ 65536) }
     requires frames { (1 ≤ frames) × (frames ≤ 65536) }
     requires next { next ≤ length blocks.items }
     requires begins { MayBegin ⟦<Bare as Owner>⟧.keeps next (block_words (map stored_of blocks.items)) }
-    ensures pages { IfOk result (λ made. (made.0.words.table.shared.key.pages ≡ length blocks.items) × (made.0.words.table.shared.key.next ≡ next)) }
-    ensures first { IfOk result (λ made. IsReady made.0.words.table.shared.key ⟦<MemBlock as Block>⟧.tells made.0.words.table.shared.table_id made.1) }
-    ensures second { IfOk result (λ made. IsReady made.0.words.table.shared.key ⟦<MemBlock as Block>⟧.tells made.0.words.table.shared.table_id made.2) }
+    ensures pages { IfOk result (λ made. (made.0.words.table.shared.key.pages ≡ length blocks.entry.items) × (made.0.words.table.shared.key.next ≡ next)) }
+    ensures first { IfOk result (λ made. IsReady made.0.words.table.shared.key ⟦<MemBlock<N> as Block>⟧.tells made.0.words.table.shared.table_id made.1) }
+    ensures second { IfOk result (λ made. IsReady made.0.words.table.shared.key ⟦<MemBlock<N> as Block>⟧.tells made.0.words.table.shared.table_id made.2) }
     ensures home { IfOk result (λ made. ((view made.1).out ≡ None) × ((view made.2).out ≡ None)) }
 {
     let pages = blocks.len() as u32;

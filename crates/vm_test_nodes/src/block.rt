@@ -2,17 +2,17 @@
 
 use std::alloc::{AllocError, Global};
 use std::test::Fail;
-use vm_block::{Block, Failed, MemBlock};
-use vm_page::PageBuf;
+use vm_block::{Block, Failed, MemBlock, PageBlock};
+use vm_page::{PageBuf, WORDS};
 
 // A page whose word 5 is this, and the others 0.
-fn page(word: u64) -> PageBuf {
+fn page(word: u64) -> PageBuf<WORDS> {
     let mut page = PageBuf::zero();
     page.set(5, word);
     page
 }
 
-fn block(alloc: Global, plan: &[u64]) -> Result<MemBlock, AllocError> {
+fn block(alloc: Global, plan: &[u64]) -> Result<MemBlock<WORDS>, AllocError> {
     MemBlock::new(alloc, page(7), plan)
 }
 

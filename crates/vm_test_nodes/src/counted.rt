@@ -6,12 +6,12 @@ ghost use Rattle.vm_page.specs.declared.buf.TheConstants.{WORDS};
 ghost use Rattle.vm_node.specs.Loads.{IsBuffer, IsBuffer-join};
 
 use vm_node::{Place, in_buffer};
-use vm_page::PageBuf;
+use vm_page::{PageBuf, WORDS};
 
 /// A page in a buffer, and how many of its words were loaded.
 #[derive(Drop)]
 pub struct Counted<'a> {
-    page: &'a PageBuf,
+    page: &'a PageBuf<WORDS>,
     pub loaded: u32,
 }
 
@@ -31,7 +31,7 @@ impl Place for Counted<'_> {
 }
 
 /// The page before any of its words is loaded.
-pub fn none_loaded(page: &PageBuf) -> Counted<'_>
+pub fn none_loaded(page: &PageBuf<WORDS>) -> Counted<'_>
     ensures { length result.page.now ≡ WORDS }
 {
     Counted {

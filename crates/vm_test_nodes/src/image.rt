@@ -1,7 +1,7 @@
 //! The empty page file of eight pages, lengths that are no page file's, and the blocks of its pages.
 
 use std::test::Fail;
-use vm_block::{Block, Failed};
+use vm_block::{Failed, PageBlock};
 use vm_image::{ImageFault, PlannedFault, blocks_of, image_of, read_image};
 use vm_page::PageBuf;
 

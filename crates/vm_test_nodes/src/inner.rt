@@ -8,7 +8,7 @@ use crate::words::{edited_words, page_of, words_of};
 use std::process::Abort;
 use vm_inner::{Full, add, add_edit, child, child_at, new_root, split_inner};
 use vm_node::pairs::count_of;
-use vm_page::PageBuf;
+use vm_page::{PageBuf, WORDS};
 
 // The words of a node with this header and children with the keys first, first + 10, .. on the pages 100 + key.
 fn node_words(header: [u64; 8], first: u64, count: u64) -> [u64; 64] {
@@ -25,7 +25,7 @@ fn node_words(header: [u64; 8], first: u64, count: u64) -> [u64; 64] {
 }
 
 // The child, in a buffer and in place, where seven words at most are loaded.
-fn leads_to(rt: &impl Abort, page: &PageBuf, key: u64, found: Option<u64>) {
+fn leads_to(rt: &impl Abort, page: &PageBuf<WORDS>, key: u64, found: Option<u64>) {
     assert_eq!(rt; child(page, key), found, "at {key}");
     let mut place = none_loaded(page);
     let in_place = match child_at(&mut place, key) {

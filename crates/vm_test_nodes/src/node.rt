@@ -12,7 +12,7 @@ use vm_node::{
     Edit, Full, covers, covers_at, del, del_edit, find, find_at, in_buffer, is_leaf, is_leaf_at,
     put, put_edit, right_half, split, window, window_at,
 };
-use vm_page::PageBuf;
+use vm_page::{PageBuf, WORDS};
 
 // The words of a node with this header and the pairs (first, first), (first + 1, first + 1), .. and zeros behind them.
 fn node_words(header: [u64; 8], first: u64, count: u64) -> [u64; 64] {
@@ -28,26 +28,33 @@ fn node_words(header: [u64; 8], first: u64, count: u64) -> [u64; 64] {
 }
 
 // An empty leaf of the whole range.
-fn empty_leaf() -> PageBuf {
+fn empty_leaf() -> PageBuf<WORDS> {
     page_of(node_words([2, 0, 0, 0, 1, 0, 0, 0], 0, 0))
 }
 
 // A look-up in place gives this, from eight words at most.
-fn finds(rt: &impl Abort, page: &PageBuf, key: u64, found: Option<u64>) {
+fn finds(rt: &impl Abort, page: &PageBuf<WORDS>, key: u64, found: Option<u64>) {
     let mut place = none_loaded(page);
     assert_eq!(rt; find_at(&mut place, key), found, "at {key}");
     assert!(rt; place.loaded <= 8);
 }
 
 // Whether the key is covered, in place, from three words at most.
-fn is_covered(rt: &impl Abort, page: &PageBuf, key: u64, covered: bool) {
+fn is_covered(rt: &impl Abort, page: &PageBuf<WORDS>, key: u64, covered: bool) {
     let mut place = none_loaded(page);
     assert_eq!(rt; covers_at(&mut place, key), covered, "at {key}");
     assert!(rt; place.loaded <= 3);
 }
 
 // A window ends and shows this, in a buffer and in place, where two words a pair and nine at most are loaded.
-fn shows(rt: &impl Abort, page: &PageBuf, start: u64, most: u32, bound: Bound, pairs: &[Pair]) {
+fn shows(
+    rt: &impl Abort,
+    page: &PageBuf<WORDS>,
+    start: u64,
+    most: u32,
+    bound: Bound,
+    pairs: &[Pair],
+) {
     let mut place = none_loaded(page);
     for shown in [
         window(page, start, most),

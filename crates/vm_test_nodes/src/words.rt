@@ -1,10 +1,10 @@
 //! Pages that are given by their 64 words.
 
 use vm_node::{Edit, left_word};
-use vm_page::PageBuf;
+use vm_page::{PageBuf, WORDS};
 
 /// The page of these words.
-pub fn page_of(words: [u64; 64]) -> PageBuf {
+pub fn page_of(words: [u64; 64]) -> PageBuf<WORDS> {
     let mut page = PageBuf::zero();
     for i in 0..64 {
         page.set(i, words[i]);
@@ -13,7 +13,7 @@ pub fn page_of(words: [u64; 64]) -> PageBuf {
 }
 
 /// All words of the page.
-pub fn words_of(page: &PageBuf) -> [u64; 64] {
+pub fn words_of(page: &PageBuf<WORDS>) -> [u64; 64] {
     let mut words = [0; 64];
     for i in 0..64 {
         words[i] = page.get(i);
@@ -22,7 +22,7 @@ pub fn words_of(page: &PageBuf) -> [u64; 64] {
 }
 
 /// The words of the page as the edit leaves it.
-pub fn edited_words(page: &PageBuf, edit: &Edit) -> [u64; 64] {
+pub fn edited_words(page: &PageBuf<WORDS>, edit: &Edit) -> [u64; 64] {
     let (first, end) = edit.changes();
     let mut words = [0; 64];
     for i in 0..64 {
@@ -36,7 +36,7 @@ pub fn edited_words(page: &PageBuf, edit: &Edit) -> [u64; 64] {
 }
 
 /// The words of the left half of the page.
-pub fn left_words(page: &PageBuf, separator: u64) -> [u64; 64] {
+pub fn left_words(page: &PageBuf<WORDS>, separator: u64) -> [u64; 64] {
     let mut words = [0; 64];
     for i in 0..64 {
         words[i] = left_word(page, separator, i);

@@ -1,12 +1,14 @@
 //! Passes of one thread over a pool of two pages, with ample memory. The values are worked out by hand from the rules, and not taken from a run.
-ghost use Rattle.std.specs.Prelude.{◌≡◌, ◌≤◌, IfOk, length};
+ghost use Rattle.std.specs.Prelude.{◌<◌, ◌≡◌, ◌≤◌, IfOk, length};
+ghost use Rattle.vm_page.specs.Sizes.{IsSize};
 ghost use Rattle.vm_step.specs.Prelude.{IsReady, view};
 
 use std::alloc::Global;
+use std::process::Abort;
 use std::test::Fail;
 use vm_block::{Block, MemBlock};
 use vm_owner::Bare;
-use vm_page::PageBuf;
+use vm_page::{LARGE, PageBuf, WORDS};
 use vm_pool::{Bring, Closed, Pool, Shape};
 use vm_pool_callers::first_page::{Opened, open_page};
 use vm_pool_callers::two_pages::{TwoPages, open_two};
@@ -15,7 +17,7 @@ use vm_rule::words::Pass;
 use vm_workers::entries::{Told, three_entries};
 
 /// Blocks of two pages of zeros, which answer every call.
-fn two_blocks(alloc: Global) -> Result<Vec<MemBlock>, Fail>
+fn two_blocks(alloc: Global) -> Result<Vec<MemBlock<WORDS>>, Fail>
     ensures { IfOk result (λ blocks. length blocks.items ≡ 2) }
 {
     let mut blocks = Vec::new(alloc);
@@ -39,7 +41,7 @@ fn two_pages() -> Shape
 #[test]
 fn a_pool_whose_pass_was_split_and_joined_is_closed(rt: HostRuntime) -> Result<(), Fail> {
     let blocks = two_blocks(rt.alloc())?;
-    let end = split_and_join::<Bare, MemBlock>(rt.alloc(), two_pages(), blocks, 3)?;
+    let end = split_and_join::<Bare, MemBlock<WORDS>, WORDS>(rt.alloc(), two_pages(), blocks, 3)?;
     let Closed {
         blocks,
         next,
@@ -53,8 +55,8 @@ fn a_pool_whose_pass_was_split_and_joined_is_closed(rt: HostRuntime) -> Result<(
 }
 
 /// A pool of these blocks, and its first pass.
-fn pool_of_two(alloc: Global) -> Result<(Pool<Bare, MemBlock>, Pass<Bare>), Fail>
-    ensures ready { IfOk result (λ made. IsReady made.0.words.table.shared.key ⟦<MemBlock as Block>⟧.tells made.0.words.table.shared.table_id made.1) }
+fn pool_of_two(alloc: Global) -> Result<(Pool<Bare, MemBlock<WORDS>, WORDS>, Pass<Bare>), Fail>
+    ensures ready { IfOk result (λ made. IsReady made.0.words.table.shared.key ⟦<MemBlock<WORDS> as Block>⟧.tells made.0.words.table.shared.table_id made.1) }
     ensures parts { IfOk result (λ made. 2 ≤ length (view made.1).fresh) }
 {
     let blocks = two_blocks(alloc)?;
@@ -72,7 +74,7 @@ fn passes_that_met_are_joined(rt: HostRuntime) -> Result<(), Fail> {
 #[test]
 fn the_first_page_of_a_pool_is_brought(rt: HostRuntime) -> Result<(), Fail> {
     let blocks = two_blocks(rt.alloc())?;
-    let opened = open_page::<Bare, MemBlock>(rt.alloc(), two_pages(), blocks, 1)?;
+    let opened = open_page::<Bare, MemBlock<WORDS>, WORDS>(rt.alloc(), two_pages(), blocks, 1)?;
     let Opened {
         pool: _,
         pass: _,
@@ -83,20 +85,23 @@ fn the_first_page_of_a_pool_is_brought(rt: HostRuntime) -> Result<(), Fail> {
     Ok(())
 }
 
-#[test]
-fn two_pages_of_a_pool_are_brought_and_one_is_read(rt: HostRuntime) -> Result<(), Fail> {
-    let mut page = PageBuf::zero();
-    page.set(63, 5);
-    let mut blocks = Vec::new(rt.alloc());
-    blocks.push(MemBlock::new(rt.alloc(), page, &[])?)?;
-    blocks.push(MemBlock::new(rt.alloc(), PageBuf::zero(), &[])?)?;
+/// Two pages of `N` words are brought, and word `i` of the first is read.
+fn two_brought<R: Abort, const N: usize>(rt: &R, alloc: Global, i: usize) -> Result<(), Fail>
+    requires sized { IsSize N }
+    requires place { i < N }
+{
+    let mut page = PageBuf::<N>::zero();
+    page.set(i, 5);
+    let mut blocks = Vec::new(alloc);
+    blocks.push(MemBlock::new(alloc, page, &[])?)?;
+    blocks.push(MemBlock::new(alloc, PageBuf::zero(), &[])?)?;
     let shape = Shape {
         pages: 2,
         frames: 2,
         next: 2,
         first_version: 0,
     };
-    let opened = open_two::<Bare, MemBlock>(rt.alloc(), shape, blocks, 0, 1, 63)?;
+    let opened = open_two::<Bare, MemBlock<N>, N>(alloc, shape, blocks, 0, 1, i)?;
     let TwoPages {
         pool: _,
         pass: _,
@@ -109,6 +114,16 @@ fn two_pages_of_a_pool_are_brought_and_one_is_read(rt: HostRuntime) -> Result<()
     assert_eq!(rt; second, Bring::Brought);
     assert_eq!(rt; word, Some(5));
     Ok(())
+}
+
+#[test]
+fn two_pages_of_a_pool_are_brought_and_one_is_read(rt: HostRuntime) -> Result<(), Fail> {
+    two_brought::<HostRuntime, WORDS>(&rt, rt.alloc(), 63)
+}
+
+#[test]
+fn two_large_pages_of_a_pool_are_brought_and_one_is_read(rt: HostRuntime) -> Result<(), Fail> {
+    two_brought::<HostRuntime, LARGE>(&rt, rt.alloc(), 511)
 }
 
 #[test]

@@ -1,22 +1,28 @@
 //! Four workers in threads over a pool of eight pages and six frames, with ample memory. What stands in the end is the same whatever the schedule.
-ghost use Rattle.std.specs.Prelude.{◌≤◌, IfOk, length};
+ghost use Rattle.std.specs.Prelude.{◌<◌, ◌≤◌, IfOk, length};
+ghost use Rattle.vm_page.specs.Sizes.{IsSize};
 ghost use Rattle.vm_rule.specs.Prelude.{HoldsNoPage};
 ghost use Rattle.vm_step.specs.Prelude.{IsAlone, IsReady, view};
 ghost use Rattle.vm_workers.specs.Puts.{HasPages};
 
 use std::alloc::Global;
+use std::process::Abort;
 use std::test::Fail;
-use vm_block::{Block, MemBlock};
+use std::thread::Threads;
+use vm_block::{Block, MemBlock, PageBlock};
 use vm_owner::Bare;
-use vm_page::PageBuf;
+use vm_page::{LARGE, PageBuf, WORDS};
 use vm_pool::save::{Saved, flush_and_close};
 use vm_pool::{Closed, Pool, Shape};
 use vm_rule::words::Pass;
 use vm_workers::puts::put_and_join;
 
 /// A pool of eight pages of zeros, all claimed, and six frames, and its first pass.
-fn eight_pages(alloc: Global) -> Result<(Pool<Bare, MemBlock>, Pass<Bare>), Fail>
-    ensures ready { IfOk result (λ made. IsReady made.0.words.table.shared.key ⟦<MemBlock as Block>⟧.tells made.0.words.table.shared.table_id made.1) }
+fn eight_pages<const N: usize>(
+    alloc: Global,
+) -> Result<(Pool<Bare, MemBlock<N>, N>, Pass<Bare>), Fail>
+    requires sized { IsSize N }
+    ensures ready { IfOk result (λ made. IsReady made.0.words.table.shared.key ⟦<MemBlock<N> as Block>⟧.tells made.0.words.table.shared.table_id made.1) }
     ensures alone { IfOk result (λ made. IsAlone (view made.1)) }
     ensures holds { IfOk result (λ made. HoldsNoPage (view made.1)) }
     ensures pages { IfOk result (λ made. HasPages made.0.words.table.shared.key) }
@@ -40,12 +46,17 @@ fn eight_pages(alloc: Global) -> Result<(Pool<Bare, MemBlock>, Pass<Bare>), Fail
     Ok(Pool::start(alloc, shape, blocks)?)
 }
 
-/// Worker number 2 sets word 2 of page 5 to 205, and so on.
-#[test]
-fn four_workers_set_their_words_of_all_pages(rt: HostRuntime) -> Result<(), Fail> {
-    let alloc = rt.alloc();
-    let (pool, mut pass) = eight_pages(alloc)?;
-    put_and_join(&rt, alloc, &pool, &mut pass, 4)?;
+/// Worker number 2 sets word 2 of page 5 to 205, and so on. The last word of each page, `last`, stays 0.
+fn all_set<R: Abort + Threads + Sync, const N: usize>(
+    rt: &R,
+    alloc: Global,
+    last: usize,
+) -> Result<(), Fail>
+    requires sized { IsSize N }
+    requires last { last < N }
+{
+    let (pool, mut pass) = eight_pages::<N>(alloc)?;
+    put_and_join(rt, alloc, &pool, &mut pass, 4)?;
     let Ok(saved) = flush_and_close(pool, alloc, pass) else {
         panic!(rt; "there is memory");
     };
@@ -67,7 +78,7 @@ fn four_workers_set_their_words_of_all_pages(rt: HostRuntime) -> Result<(), Fail
             read.get(1),
             read.get(2),
             read.get(3),
-            read.get(4),
+            read.get(last),
         ];
         let due = [p, 100 + p, 200 + p, 300 + p, 0];
         assert_eq!(rt; words, due);
@@ -75,4 +86,14 @@ fn four_workers_set_their_words_of_all_pages(rt: HostRuntime) -> Result<(), Fail
     }
     assert_eq!(rt; p, 8);
     Ok(())
+}
+
+#[test]
+fn four_workers_set_their_words_of_all_pages(rt: HostRuntime) -> Result<(), Fail> {
+    all_set::<HostRuntime, WORDS>(&rt, rt.alloc(), 63)
+}
+
+#[test]
+fn four_workers_set_their_words_of_large_pages(rt: HostRuntime) -> Result<(), Fail> {
+    all_set::<HostRuntime, LARGE>(&rt, rt.alloc(), 511)
 }

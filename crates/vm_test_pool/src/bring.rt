@@ -9,7 +9,7 @@ use std::test::Fail;
 use vm_block::{Block, MemBlock};
 use vm_exmap::Interface;
 use vm_owner::Bare;
-use vm_page::PageBuf;
+use vm_page::{PageBuf, WORDS};
 use vm_pool::{Bring, Pool, Shape};
 use vm_rule::words::Pass;
 use vm_step::Looks;
@@ -22,10 +22,10 @@ fn two_pages(
     alloc: Global,
     version: u64,
     plan: &[u64],
-) -> Result<(Pool<Bare, MemBlock>, Pass<Bare>), Fail>
+) -> Result<(Pool<Bare, MemBlock<WORDS>, WORDS>, Pass<Bare>), Fail>
     requires { version ≤ MAX_VERSION }
     ensures pages { IfOk result (λ made. made.0.words.table.shared.key.pages ≡ 2) }
-    ensures ready { IfOk result (λ made. IsReady made.0.words.table.shared.key ⟦<MemBlock as Block>⟧.tells made.0.words.table.shared.table_id made.1) }
+    ensures ready { IfOk result (λ made. IsReady made.0.words.table.shared.key ⟦<MemBlock<WORDS> as Block>⟧.tells made.0.words.table.shared.table_id made.1) }
     ensures out { IfOk result (λ made. (view made.1).out ≡ None) }
 {
     let mut first = PageBuf::zero();
@@ -82,7 +82,7 @@ fn a_count_of_faults_stands_still_at_its_last_value(rt: HostRuntime) -> Result<(
         next: 1,
         first_version: 0,
     };
-    let (pool, mut pass) = Pool::<Bare, MemBlock>::start(alloc, shape, blocks)?;
+    let (pool, mut pass) = Pool::<Bare, MemBlock<WORDS>, WORDS>::start(alloc, shape, blocks)?;
     let mut iface = Interface::new(0, 1);
     let failed = pool.bring(&mut pass, &mut iface, 0);
     assert_eq!(rt; failed, Bring::Device { pid: 0, count });

@@ -6,7 +6,7 @@ use std::alloc::Global;
 use std::test::Fail;
 use vm_block::MemBlock;
 use vm_owner::Bare;
-use vm_page::PageBuf;
+use vm_page::{PageBuf, WORDS};
 use vm_pool::{Bring, Shape};
 use vm_pool_callers::kept_word::{KeptWord, keep_word};
 use vm_pool_callers::shared_page::{SharedPage, open_shared};
@@ -20,7 +20,7 @@ const SHAPE: Shape = Shape {
 };
 
 /// The blocks of two pages: one of zeros, which answers every call, and one whose last word is 5, which fails the calls of this plan.
-fn two_blocks(alloc: Global, plan: &[u64]) -> Result<Vec<MemBlock>, Fail>
+fn two_blocks(alloc: Global, plan: &[u64]) -> Result<Vec<MemBlock<WORDS>>, Fail>
     ensures { IfOk result (λ blocks. length blocks.items ≡ 2) }
 {
     let mut second = PageBuf::zero();
@@ -53,7 +53,7 @@ fn shared(alloc: Global, plan: &[u64]) -> Result<(Bring, Option<u64>), Fail> {
         iface: _,
         answer,
         word,
-    } = open_shared::<Bare, MemBlock>(alloc, SHAPE, blocks, 1, 63)?;
+    } = open_shared::<Bare, MemBlock<WORDS>, WORDS>(alloc, SHAPE, blocks, 1, 63)?;
     Ok((answer, word))
 }
 

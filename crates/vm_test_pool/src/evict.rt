@@ -8,14 +8,14 @@ use arrayvec::ArrayVec;
 use std::alloc::Global;
 use std::process::Abort;
 use std::test::Fail;
-use vm_block::{Block, MemBlock};
+use vm_block::{Block, MemBlock, PageBlock};
 use vm_evict::evict;
 use vm_evict::report::{Evicted, Report};
 use vm_exmap::{Alloc, Interface};
 use vm_fault::{Fetch, fault_in};
 use vm_guard::ExclusiveGuard;
 use vm_owner::Bare;
-use vm_page::PageBuf;
+use vm_page::{PageBuf, WORDS};
 use vm_rule::words::{Pass, Words};
 use vm_step::{Batch, Candidates, Looks, Took, block_out, lock_exclusive, mark};
 
@@ -51,7 +51,8 @@ const NOTHING: Report = Report {
 };
 
 /// Brings page 0, which is evicted, into frame 0, the only one.
-fn bring_first<B: Block>(rt: &impl Abort, words: &Words<Bare, B>, pass: &mut Pass<Bare>)
+fn bring_first<B: PageBlock<WORDS>>(rt: &impl Abort, words: &Words<Bare, B>, pass: &mut Pass<Bare>)
+    requires size { words.now.table.shared.key.size ≡ WORDS }
     requires ready { IsReady words.now.table.shared.key B.tells words.now.table.shared.table_id pass.old }
     requires pages { words.now.table.shared.key.pages ≡ 1 }
     requires out { (view pass.old).out ≡ None }
@@ -64,7 +65,7 @@ fn bring_first<B: Block>(rt: &impl Abort, words: &Words<Bare, B>, pass: &mut Pas
     let Alloc::Batch(batch) = iface.alloc(words, pass, 1) else {
         panic!(rt; "the frame is free");
     };
-    let Fetch::Brought = fault_in(words, pass, 0, batch.as_slice()[0]) else {
+    let Fetch::Brought = fault_in::<Bare, B, WORDS>(words, pass, 0, batch.as_slice()[0]) else {
         panic!(rt; "the page can be read");
     };
 }
@@ -75,15 +76,16 @@ pub(crate) fn one_page(
     rt: &impl Abort,
     alloc: Global,
     plan: &[u64],
-) -> Result<(Words<Bare, MemBlock>, Pass<Bare>), Fail>
+) -> Result<(Words<Bare, MemBlock<WORDS>>, Pass<Bare>), Fail>
+    ensures size { IfOk result (λ made. made.0.table.shared.key.size ≡ WORDS) }
     ensures pages { IfOk result (λ made. made.0.table.shared.key.pages ≡ 1) }
     ensures frames { IfOk result (λ made. made.0.table.shared.key.frames ≡ 1) }
-    ensures ready { IfOk result (λ made. IsReady made.0.table.shared.key ⟦<MemBlock as Block>⟧.tells made.0.table.shared.table_id made.1) }
+    ensures ready { IfOk result (λ made. IsReady made.0.table.shared.key ⟦<MemBlock<WORDS> as Block>⟧.tells made.0.table.shared.table_id made.1) }
     ensures out { IfOk result (λ made. (view made.1).out ≡ None) }
 {
     let mut blocks = Vec::new(alloc);
     blocks.push(MemBlock::new(alloc, PageBuf::zero(), plan)?)?;
-    let (words, mut pass) = Words::started(alloc, 1, 1, 5, blocks)?;
+    let (words, mut pass) = Words::started(alloc, WORDS, 1, 1, 5, blocks)?;
     bring_first(rt, &words, &mut pass);
     let Ok(mut held) = ExclusiveGuard::take(&words, &mut pass, 0) else {
         panic!(rt; "the page can be locked");
@@ -106,14 +108,15 @@ fn candidate() -> Candidates
 }
 
 /// Evicts page 0 as a candidate that was marked at version 7.
-fn evict_first<B: Block>(words: &Words<Bare, B>, pass: &mut Pass<Bare>) -> Evicted
+fn evict_first<B: PageBlock<WORDS>>(words: &Words<Bare, B>, pass: &mut Pass<Bare>) -> Evicted
+    requires size { words.now.table.shared.key.size ≡ WORDS }
     requires ready { IsReady words.now.table.shared.key B.tells words.now.table.shared.table_id pass.old }
     requires pages { words.now.table.shared.key.pages ≡ 1 }
     requires out { (view pass.old).out ≡ None }
     ensures ready { IsReady words.now.table.shared.key B.tells words.now.table.shared.table_id pass.new }
     ensures out { (view pass.new).out ≡ None }
 {
-    evict(words, pass, &candidate())
+    evict::<Bare, B, WORDS>(words, pass, &candidate())
 }
 
 /// Marks page 0, which is unlocked at version 7.
@@ -131,8 +134,12 @@ fn mark_first<B: Block>(rt: &impl Abort, words: &Words<Bare, B>, pass: &mut Pass
 }
 
 /// The last word of the block of page 0, which is evicted at version 8.
-fn last_in_block(rt: &impl Abort, words: &Words<Bare, MemBlock>, pass: &mut Pass<Bare>) -> u64
-    requires ready { IsReady words.now.table.shared.key ⟦<MemBlock as Block>⟧.tells words.now.table.shared.table_id pass.old }
+fn last_in_block(
+    rt: &impl Abort,
+    words: &Words<Bare, MemBlock<WORDS>>,
+    pass: &mut Pass<Bare>,
+) -> u64
+    requires ready { IsReady words.now.table.shared.key ⟦<MemBlock<WORDS> as Block>⟧.tells words.now.table.shared.table_id pass.old }
     requires pages { words.now.table.shared.key.pages ≡ 1 }
     requires out { (view pass.old).out ≡ None }
 {

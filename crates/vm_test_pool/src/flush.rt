@@ -5,9 +5,10 @@ ghost use Rattle.vm_step.specs.Prelude.{IsReady, view};
 use crate::evict::{DIRTY_IN_0, one_page};
 use std::process::Abort;
 use std::test::Fail;
-use vm_block::Block;
+use vm_block::{Block, PageBlock};
 use vm_evict::{Flushed, flush};
 use vm_owner::Bare;
+use vm_page::WORDS;
 use vm_rule::words::{Pass, Words};
 use vm_step::{Took, lock_exclusive};
 
@@ -23,13 +24,17 @@ const NOTHING: Flushed = Flushed {
 };
 
 /// Flushes the table.
-pub(crate) fn flush_all<B: Block>(words: &Words<Bare, B>, pass: &mut Pass<Bare>) -> Flushed
+pub(crate) fn flush_all<B: PageBlock<WORDS>>(
+    words: &Words<Bare, B>,
+    pass: &mut Pass<Bare>,
+) -> Flushed
+    requires size { words.now.table.shared.key.size ≡ WORDS }
     requires ready { IsReady words.now.table.shared.key B.tells words.now.table.shared.table_id pass.old }
     requires out { (view pass.old).out ≡ None }
     ensures ready { IsReady words.now.table.shared.key B.tells words.now.table.shared.table_id pass.new }
     ensures out { (view pass.new).out ≡ None }
 {
-    flush(words, pass)
+    flush::<Bare, B, WORDS>(words, pass)
 }
 
 /// Locks page 0 exclusively, which is unlocked at version 7.

@@ -8,13 +8,14 @@ use crate::pool::{brought, put, zeros};
 use std::alloc::Global;
 use std::process::Abort;
 use std::test::Fail;
-use vm_block::{Block, MemBlock};
+use vm_block::{Block, MemBlock, PageBlock};
 use vm_clock::candidates;
 use vm_core::MAX_VERSION;
 use vm_evict::evict;
 use vm_evict::report::Report;
 use vm_exmap::Interface;
 use vm_owner::Bare;
+use vm_page::WORDS;
 use vm_pool::{Bring, Pool, Shape};
 use vm_rule::words::Pass;
 use vm_step::{Looks, Took, lock_shared};
@@ -32,10 +33,13 @@ const NONE: Looks = Looks {
 };
 
 /// The pool, whose pages are evicted at this version and all claimed, and its first pass.
-fn pool_at(alloc: Global, version: u64) -> Result<(Pool<Bare, MemBlock>, Pass<Bare>), Fail>
+fn pool_at(
+    alloc: Global,
+    version: u64,
+) -> Result<(Pool<Bare, MemBlock<WORDS>, WORDS>, Pass<Bare>), Fail>
     requires { version ≤ MAX_VERSION }
     ensures pages { IfOk result (λ made. (made.0.words.table.shared.key.pages ≡ 66) × (made.0.words.table.shared.key.next ≡ 66)) }
-    ensures ready { IfOk result (λ made. IsReady made.0.words.table.shared.key ⟦<MemBlock as Block>⟧.tells made.0.words.table.shared.table_id made.1) }
+    ensures ready { IfOk result (λ made. IsReady made.0.words.table.shared.key ⟦<MemBlock<WORDS> as Block>⟧.tells made.0.words.table.shared.table_id made.1) }
     ensures home { IfOk result (λ made. (view made.1).out ≡ None) }
 {
     let shape = Shape {
@@ -44,13 +48,13 @@ fn pool_at(alloc: Global, version: u64) -> Result<(Pool<Bare, MemBlock>, Pass<Ba
         next: 66,
         first_version: version,
     };
-    Ok(Pool::start(alloc, shape, zeros(alloc, 66)?)?)
+    Ok(Pool::start(alloc, shape, zeros::<WORDS>(alloc, 66)?)?)
 }
 
 /// Brings each of the first `n` pages, which are evicted.
-fn bring_first<B: Block>(
+fn bring_first<B: PageBlock<WORDS>>(
     rt: &impl Abort,
-    pool: &Pool<Bare, B>,
+    pool: &Pool<Bare, B, WORDS>,
     pass: &mut Pass<Bare>,
     iface: &mut Interface,
     n: u32,
@@ -71,7 +75,12 @@ fn bring_first<B: Block>(
 }
 
 /// Makes each of the first `n` pages dirty, which are resident, and not locked by anyone.
-fn put_first<B: Block>(rt: &impl Abort, pool: &Pool<Bare, B>, pass: &mut Pass<Bare>, n: u32)
+fn put_first<B: PageBlock<WORDS>>(
+    rt: &impl Abort,
+    pool: &Pool<Bare, B, WORDS>,
+    pass: &mut Pass<Bare>,
+    n: u32,
+)
     requires ready { IsReady pool.now.words.table.shared.key B.tells pool.now.words.table.shared.table_id pass.old }
     requires home { (view pass.old).out ≡ None }
     requires pages { (n ≤ pool.now.words.table.shared.key.pages) × (n ≤ pool.now.words.table.shared.key.next) }
@@ -82,11 +91,16 @@ fn put_first<B: Block>(rt: &impl Abort, pool: &Pool<Bare, B>, pass: &mut Pass<Ba
         return;
     }
     put_first(rt, pool, pass, n - 1);
-    put(rt, pool, pass, n - 1, 7);
+    put(rt, pool, pass, n - 1, 5, 7);
 }
 
 /// Takes a share of each of the first `n` pages, which is never given up.
-fn share_first<B: Block>(rt: &impl Abort, pool: &Pool<Bare, B>, pass: &mut Pass<Bare>, n: u32)
+fn share_first<B: PageBlock<WORDS>>(
+    rt: &impl Abort,
+    pool: &Pool<Bare, B, WORDS>,
+    pass: &mut Pass<Bare>,
+    n: u32,
+)
     requires ready { IsReady pool.now.words.table.shared.key B.tells pool.now.words.table.shared.table_id pass.old }
     requires home { (view pass.old).out ≡ None }
     requires pages { n ≤ pool.now.words.table.shared.key.pages }
@@ -126,7 +140,7 @@ fn dirty_pages_are_all_written_and_evicted(rt: HostRuntime) -> Result<(), Fail> 
     bring_first(&rt, &pool, &mut pass, &mut iface, 64);
     put_first(&rt, &pool, &mut pass, 64);
     let chosen = candidates(&pool.words, &mut pass, 64);
-    let evicted = evict(&pool.words, &mut pass, &chosen);
+    let evicted = evict::<Bare, MemBlock<WORDS>, WORDS>(&pool.words, &mut pass, &chosen);
     let report = Report {
         freed: 64,
         written: 64,

@@ -1,18 +1,19 @@
 //! Pools of a few pages, with ample memory. The values are worked out by hand from the rules, and not taken from a run.
 ghost use Rattle.std.specs.Prelude.{[], ◌<◌, ◌≡◌, ◌≤◌, false, IfOk, length, None, ℕ};
+ghost use Rattle.vm_page.specs.Sizes.{IsSize};
 ghost use Rattle.vm_rule.specs.Prelude.{HoldsNoPage, seat_of};
 ghost use Rattle.vm_step.specs.Prelude.{AreHeld, IsAlone, IsReady, view};
 
 use std::alloc::Global;
 use std::process::Abort;
 use std::test::Fail;
-use vm_block::{Block, MemBlock};
+use vm_block::{Block, MemBlock, PageBlock};
 use vm_core::StateWord;
 use vm_evict::Flushed;
 use vm_exmap::Interface;
 use vm_guard::{ExclusiveGuard, OptGuard, SharedGuard, read_word};
 use vm_owner::Bare;
-use vm_page::PageBuf;
+use vm_page::{LARGE, PageBuf, WORDS};
 use vm_pool::save::{Saved, flush_and_close};
 use vm_pool::{Bring, Closed, Pool, Shape};
 use vm_pool_callers::round_trip::round_trip;
@@ -23,20 +24,22 @@ use vm_step::{At, Looks, Saw, look_silently};
 const EVICTED_AT_2: u64 = 0xff00_0000_0000_0002;
 
 /// A pool of these blocks and so many frames (1 to 65536), whose pages are all claimed, at version 0, and its first pass.
-pub(crate) fn pool_of(
+pub(crate) fn pool_of<const N: usize>(
     alloc: Global,
     frames: u32,
-    blocks: Vec<MemBlock>,
-) -> Result<(Pool<Bare, MemBlock>, Pass<Bare>), Fail>
+    blocks: Vec<MemBlock<N>>,
+) -> Result<(Pool<Bare, MemBlock<N>, N>, Pass<Bare>), Fail>
+    requires sized { IsSize N }
     requires pages { (1 ≤ length blocks.items) × (length blocks.items ≤ 65536) }
     requires frames { (1 ≤ frames) × (frames ≤ 65536) }
-    ensures pages { IfOk result (λ made. (made.0.words.table.shared.key.pages ≡ length blocks.items) × (made.0.words.table.shared.key.next ≡ length blocks.items)) }
-    ensures ready { IfOk result (λ made. IsReady made.0.words.table.shared.key ⟦<MemBlock as Block>⟧.tells made.0.words.table.shared.table_id made.1) }
+    ensures pages { IfOk result (λ made. (made.0.words.table.shared.key.pages ≡ length blocks.entry.items)
+        × (made.0.words.table.shared.key.next ≡ length blocks.entry.items)) }
+    ensures ready { IfOk result (λ made. IsReady made.0.words.table.shared.key ⟦<MemBlock<N> as Block>⟧.tells made.0.words.table.shared.table_id made.1) }
     ensures home { IfOk result (λ made. (view made.1).out ≡ None) }
     ensures idle { IfOk result (λ made. (p : ℕ) → (seat_of (view made.1) p).writing ≡ false) }
     ensures alone { IfOk result (λ made. IsAlone (view made.1)) }
     ensures holds { IfOk result (λ made. HoldsNoPage (view made.1)) }
-    ensures claimed { IfOk result (λ made. (view made.1).start.next ≡ length blocks.items) }
+    ensures claimed { IfOk result (λ made. (view made.1).start.next ≡ length blocks.entry.items) }
 {
     let pages = blocks.len() as u32;
     let shape = Shape {
@@ -49,8 +52,9 @@ pub(crate) fn pool_of(
 }
 
 /// Blocks of so many pages (0 to 65536) of zeros, which answer every call.
-pub(crate) fn zeros(alloc: Global, pages: u32) -> Result<Vec<MemBlock>, Fail>
-    requires { pages ≤ 65536 }
+pub(crate) fn zeros<const N: usize>(alloc: Global, pages: u32) -> Result<Vec<MemBlock<N>>, Fail>
+    requires sized { IsSize N }
+    requires pages { pages ≤ 65536 }
     ensures { IfOk result (λ blocks. length blocks.items ≡ pages) }
 {
     if pages == 0 {
@@ -62,9 +66,9 @@ pub(crate) fn zeros(alloc: Global, pages: u32) -> Result<Vec<MemBlock>, Fail>
 }
 
 /// Brings page `p`, which is evicted.
-pub(crate) fn brought<B: Block>(
+pub(crate) fn brought<B: PageBlock<N>, const N: usize>(
     rt: &impl Abort,
-    pool: &Pool<Bare, B>,
+    pool: &Pool<Bare, B, N>,
     pass: &mut Pass<Bare>,
     iface: &mut Interface,
     p: u32,
@@ -82,16 +86,18 @@ pub(crate) fn brought<B: Block>(
     assert_eq!(rt; answer, Bring::Brought);
 }
 
-/// Sets word 5 of page `p`, which is resident, and not locked by anyone.
-pub(crate) fn put<B: Block>(
+/// Sets word `i` of page `p`, which is resident, and not locked by anyone.
+pub(crate) fn put<B: PageBlock<N>, const N: usize>(
     rt: &impl Abort,
-    pool: &Pool<Bare, B>,
+    pool: &Pool<Bare, B, N>,
     pass: &mut Pass<Bare>,
     p: u32,
+    i: usize,
     w: u64,
 )
     requires ready { IsReady pool.now.words.table.shared.key B.tells pool.now.words.table.shared.table_id pass.old }
     requires home { (view pass.old).out ≡ None }
+    requires place { i < N }
     requires page { (p < pool.now.words.table.shared.key.pages) × (p < pool.now.words.table.shared.key.next) }
     ensures ready { IsReady pool.now.words.table.shared.key B.tells pool.now.words.table.shared.table_id pass.new }
     ensures home { (view pass.new).out ≡ None }
@@ -100,14 +106,22 @@ pub(crate) fn put<B: Block>(
     let Ok(mut guard) = ExclusiveGuard::take(&pool.words, pass, p) else {
         panic!(rt; "the page can be locked");
     };
-    guard.set(&pool.words, pass, 5, w);
+    guard.set(&pool.words, pass, i, w);
     guard.release(&pool.words, pass, None);
 }
 
-/// Sets word 5 of page `p`, which is resident, by a pass that is alone and holds no page.
-fn put_alone<B: Block>(rt: &impl Abort, pool: &Pool<Bare, B>, pass: &mut Pass<Bare>, p: u32, w: u64)
+/// Sets word `i` of page `p`, which is resident, by a pass that is alone and holds no page.
+fn put_alone<B: PageBlock<N>, const N: usize>(
+    rt: &impl Abort,
+    pool: &Pool<Bare, B, N>,
+    pass: &mut Pass<Bare>,
+    p: u32,
+    i: usize,
+    w: u64,
+)
     requires ready { IsReady pool.now.words.table.shared.key B.tells pool.now.words.table.shared.table_id pass.old }
     requires page { (p < pool.now.words.table.shared.key.pages) × (p < pool.now.words.table.shared.key.next) }
+    requires place { i < N }
     requires alone { IsAlone (view pass.old) }
     requires holds { HoldsNoPage (view pass.old) }
     ensures ready { IsReady pool.now.words.table.shared.key B.tells pool.now.words.table.shared.table_id pass.new }
@@ -117,22 +131,24 @@ fn put_alone<B: Block>(rt: &impl Abort, pool: &Pool<Bare, B>, pass: &mut Pass<Ba
     let Ok(mut guard) = ExclusiveGuard::take(&pool.words, pass, p) else {
         panic!(rt; "the page can be locked");
     };
-    guard.set(&pool.words, pass, 5, w);
+    guard.set(&pool.words, pass, i, w);
     guard.release(&pool.words, pass, None);
 }
 
-/// Brings page `p`, which is evicted, and sets its word 5, by a pass that is alone and holds no page.
-fn bring_and_put<B: Block>(
+/// Brings page `p`, which is evicted, and sets its word `i`, by a pass that is alone and holds no page.
+fn bring_and_put<B: PageBlock<N>, const N: usize>(
     rt: &impl Abort,
-    pool: &Pool<Bare, B>,
+    pool: &Pool<Bare, B, N>,
     pass: &mut Pass<Bare>,
     iface: &mut Interface,
     p: u32,
+    i: usize,
     w: u64,
 )
     requires ready { IsReady pool.now.words.table.shared.key B.tells pool.now.words.table.shared.table_id pass.old }
     requires held { AreHeld iface.old.frames (view pass.old) }
     requires page { (p < pool.now.words.table.shared.key.pages) × (p < pool.now.words.table.shared.key.next) }
+    requires place { i < N }
     requires alone { IsAlone (view pass.old) }
     requires holds { HoldsNoPage (view pass.old) }
     ensures ready { IsReady pool.now.words.table.shared.key B.tells pool.now.words.table.shared.table_id pass.new }
@@ -141,11 +157,16 @@ fn bring_and_put<B: Block>(
 {
     let answer = pool.bring(pass, iface, p);
     assert_eq!(rt; answer, Bring::Brought);
-    put_alone(rt, pool, pass, p, w);
+    put_alone(rt, pool, pass, p, i, w);
 }
 
 /// Whether page `p` is dirty, which is resident, and not locked by anyone.
-fn is_dirty<B: Block>(rt: &impl Abort, pool: &Pool<Bare, B>, pass: &mut Pass<Bare>, p: u32) -> bool
+fn is_dirty<B: Block, const N: usize>(
+    rt: &impl Abort,
+    pool: &Pool<Bare, B, N>,
+    pass: &mut Pass<Bare>,
+    p: u32,
+) -> bool
     requires ready { IsReady pool.now.words.table.shared.key B.tells pool.now.words.table.shared.table_id pass.old }
     requires home { (view pass.old).out ≡ None }
     requires page { (p < pool.now.words.table.shared.key.pages) × (p < pool.now.words.table.shared.key.next) }
@@ -162,9 +183,9 @@ fn is_dirty<B: Block>(rt: &impl Abort, pool: &Pool<Bare, B>, pass: &mut Pass<Bar
 }
 
 /// Brings page `p` where it is not resident.
-fn make_resident<B: Block>(
+fn make_resident<B: PageBlock<WORDS>>(
     rt: &impl Abort,
-    pool: &Pool<Bare, B>,
+    pool: &Pool<Bare, B, WORDS>,
     pass: &mut Pass<Bare>,
     iface: &mut Interface,
     p: u32,
@@ -183,9 +204,9 @@ fn make_resident<B: Block>(
 }
 
 /// Sets word 5 of each of the first `n` pages, the last of them first: to 10 times the page's number, and the round.
-fn put_round<B: Block>(
+fn put_round<B: PageBlock<WORDS>>(
     rt: &impl Abort,
-    pool: &Pool<Bare, B>,
+    pool: &Pool<Bare, B, WORDS>,
     pass: &mut Pass<Bare>,
     iface: &mut Interface,
     n: u32,
@@ -205,14 +226,14 @@ fn put_round<B: Block>(
     }
     let p = n - 1;
     make_resident(rt, pool, pass, iface, p);
-    put(rt, pool, pass, p, 10 * u64::from(p) + round);
+    put(rt, pool, pass, p, 5, 10 * u64::from(p) + round);
     put_round(rt, pool, pass, iface, p, round);
 }
 
 /// Each of the first `n` pages has the word that this round set.
-fn has_round<B: Block>(
+fn has_round<B: PageBlock<WORDS>>(
     rt: &impl Abort,
-    pool: &Pool<Bare, B>,
+    pool: &Pool<Bare, B, WORDS>,
     pass: &mut Pass<Bare>,
     iface: &mut Interface,
     n: u32,
@@ -251,7 +272,7 @@ fn a_pool_that_is_closed_at_once_gives_its_blocks_back(rt: HostRuntime) -> Resul
         next: 1,
         first_version: 7,
     };
-    let (pool, pass) = Pool::<Bare, MemBlock>::start(alloc, shape, blocks)?;
+    let (pool, pass) = Pool::<Bare, MemBlock<WORDS>, WORDS>::start(alloc, shape, blocks)?;
     let frames = pool.words().frames;
     assert_eq!(rt; frames, 3);
     let Ok(end) = pool.close(alloc, pass) else {
@@ -281,7 +302,7 @@ fn a_pool_that_is_closed_at_once_gives_its_blocks_back(rt: HostRuntime) -> Resul
 
 #[test]
 fn a_page_that_goes_ends_an_older_read(rt: HostRuntime) -> Result<(), Fail> {
-    let blocks = zeros(rt.alloc(), 2)?;
+    let blocks = zeros::<WORDS>(rt.alloc(), 2)?;
     let (pool, mut pass) = pool_of(rt.alloc(), 1, blocks)?;
     let mut iface = Interface::new(0, 1);
     brought(&rt, &pool, &mut pass, &mut iface, 0);
@@ -305,32 +326,44 @@ fn a_page_that_goes_ends_an_older_read(rt: HostRuntime) -> Result<(), Fail> {
     Ok(())
 }
 
-#[test]
-fn a_write_that_fails_once_leaves_the_page_dirty(rt: HostRuntime) -> Result<(), Fail> {
-    let alloc = rt.alloc();
+/// A page of `N` words whose word `i` is set, and whose first write fails, is written by the next sweep.
+fn written_again<R: Abort, const N: usize>(rt: &R, alloc: Global, i: usize) -> Result<(), Fail>
+    requires sized { IsSize N }
+    requires place { i < N }
+{
     let mut blocks = Vec::new(alloc);
     // The block's first call is a read, and its second call a write.
-    blocks.push(MemBlock::new(alloc, PageBuf::zero(), &[2])?)?;
+    blocks.push(MemBlock::<N>::new(alloc, PageBuf::zero(), &[2])?)?;
     let (pool, mut pass) = pool_of(alloc, 1, blocks)?;
     let mut iface = Interface::new(0, 1);
-    brought(&rt, &pool, &mut pass, &mut iface, 0);
-    put(&rt, &pool, &mut pass, 0, 7);
+    brought(rt, &pool, &mut pass, &mut iface, 0);
+    put(rt, &pool, &mut pass, 0, i, 7);
     let report = pool.sweep(&mut pass, &mut iface, 1);
     assert_eq!(rt; (report.freed, report.failed), (0, 1));
     assert_eq!(rt; report.first_failed, Some((0, 1)));
-    let dirty = is_dirty(&rt, &pool, &mut pass, 0);
+    let dirty = is_dirty(rt, &pool, &mut pass, 0);
     assert!(rt; dirty);
     let report = pool.sweep(&mut pass, &mut iface, 1);
     assert_eq!(rt; (report.freed, report.written, report.failed), (1, 1, 0));
-    brought(&rt, &pool, &mut pass, &mut iface, 0);
-    let word = read_word(&pool.words, &mut pass, 0, 5);
+    brought(rt, &pool, &mut pass, &mut iface, 0);
+    let word = read_word(&pool.words, &mut pass, 0, i);
     assert_eq!(rt; word, Some(7));
     Ok(())
 }
 
 #[test]
+fn a_write_that_fails_once_leaves_the_page_dirty(rt: HostRuntime) -> Result<(), Fail> {
+    written_again::<HostRuntime, WORDS>(&rt, rt.alloc(), 5)
+}
+
+#[test]
+fn a_write_of_a_large_page_that_fails_once_leaves_it_dirty(rt: HostRuntime) -> Result<(), Fail> {
+    written_again::<HostRuntime, LARGE>(&rt, rt.alloc(), 511)
+}
+
+#[test]
 fn more_pages_than_frames_keep_their_words(rt: HostRuntime) -> Result<(), Fail> {
-    let blocks = zeros(rt.alloc(), 6)?;
+    let blocks = zeros::<WORDS>(rt.alloc(), 6)?;
     let (pool, mut pass) = pool_of(rt.alloc(), 2, blocks)?;
     let mut iface = Interface::new(0, 1);
     put_round(&rt, &pool, &mut pass, &mut iface, 6, 1);
@@ -340,20 +373,33 @@ fn more_pages_than_frames_keep_their_words(rt: HostRuntime) -> Result<(), Fail> 
     Ok(())
 }
 
-#[test]
-fn a_word_is_found_again_behind_a_sweep(rt: HostRuntime) -> Result<(), Fail> {
-    let blocks = zeros(rt.alloc(), 2)?;
-    let (pool, mut pass) = pool_of(rt.alloc(), 1, blocks)?;
+/// Word `i` of a page of `N` words is set, swept, and read again.
+fn found_again<R: Abort, const N: usize>(rt: &R, alloc: Global, i: usize) -> Result<(), Fail>
+    requires sized { IsSize N }
+    requires place { i < N }
+{
+    let blocks = zeros::<N>(alloc, 2)?;
+    let (pool, mut pass) = pool_of(alloc, 1, blocks)?;
     let mut iface = Interface::new(0, 1);
-    let word = round_trip(&pool, &mut pass, &mut iface, 1, 63, 7);
+    let word = round_trip(&pool, &mut pass, &mut iface, 1, i, 7);
     assert_eq!(rt; word, Some(7));
     assert_eq!(rt; iface.swept(), 1);
     Ok(())
 }
 
 #[test]
+fn a_word_is_found_again_behind_a_sweep(rt: HostRuntime) -> Result<(), Fail> {
+    found_again::<HostRuntime, WORDS>(&rt, rt.alloc(), 63)
+}
+
+#[test]
+fn the_last_word_of_a_large_page_is_found_again(rt: HostRuntime) -> Result<(), Fail> {
+    found_again::<HostRuntime, LARGE>(&rt, rt.alloc(), 511)
+}
+
+#[test]
 fn a_held_page_is_no_candidate(rt: HostRuntime) -> Result<(), Fail> {
-    let blocks = zeros(rt.alloc(), 2)?;
+    let blocks = zeros::<WORDS>(rt.alloc(), 2)?;
     let (pool, mut pass) = pool_of(rt.alloc(), 1, blocks)?;
     let mut iface = Interface::new(0, 1);
     brought(&rt, &pool, &mut pass, &mut iface, 0);
@@ -379,10 +425,10 @@ fn a_held_page_is_no_candidate(rt: HostRuntime) -> Result<(), Fail> {
 #[test]
 fn a_page_that_was_flushed_is_in_its_block(rt: HostRuntime) -> Result<(), Fail> {
     let alloc = rt.alloc();
-    let blocks = zeros(alloc, 2)?;
+    let blocks = zeros::<WORDS>(alloc, 2)?;
     let (pool, mut pass) = pool_of(alloc, 1, blocks)?;
     let mut iface = Interface::new(0, 1);
-    bring_and_put(&rt, &pool, &mut pass, &mut iface, 1, 7);
+    bring_and_put(&rt, &pool, &mut pass, &mut iface, 1, 5, 7);
     let Ok(saved) = flush_and_close(pool, alloc, pass) else {
         panic!(rt; "there is memory");
     };
@@ -416,15 +462,56 @@ fn a_page_that_was_flushed_is_in_its_block(rt: HostRuntime) -> Result<(), Fail> 
     Ok(())
 }
 
+/// Two words of a large page: the first one behind a small page's end, and its last one.
+#[test]
+fn the_last_words_of_a_large_page_are_in_its_block(rt: HostRuntime) -> Result<(), Fail> {
+    let alloc = rt.alloc();
+    let blocks = zeros::<LARGE>(alloc, 2)?;
+    let (pool, mut pass) = pool_of(alloc, 1, blocks)?;
+    let mut iface = Interface::new(0, 1);
+    bring_and_put(&rt, &pool, &mut pass, &mut iface, 1, 511, 7);
+    put_alone(&rt, &pool, &mut pass, 1, 64, 8);
+    let Ok(saved) = flush_and_close(pool, alloc, pass) else {
+        panic!(rt; "there is memory");
+    };
+    let Saved { report, closed } = saved;
+    assert_eq!(rt; (report.written, report.failed, report.busy), (1, 0, 0));
+    let Closed {
+        mut blocks,
+        next: _,
+        ended,
+    } = closed;
+    let sums = [ended.reads(), ended.writes(), ended.faults()];
+    assert_eq!(rt; sums, [1, 1, 0]);
+    let (Some(mut second), Some(mut first)) = (blocks.pop(), blocks.pop()) else {
+        panic!(rt; "there are two blocks");
+    };
+    let mut read = PageBuf::zero();
+    let answered = second.read(&mut read).is_ok();
+    assert!(rt; answered);
+    let words = [
+        read.get(0),
+        read.get(63),
+        read.get(64),
+        read.get(510),
+        read.get(511),
+    ];
+    assert_eq!(rt; words, [0, 0, 8, 0, 7]);
+    let answered = first.read(&mut read).is_ok();
+    assert!(rt; answered);
+    assert_eq!(rt; (read.get(64), read.get(511)), (0, 0));
+    Ok(())
+}
+
 #[test]
 fn a_page_whose_write_failed_is_not_in_its_block(rt: HostRuntime) -> Result<(), Fail> {
     let alloc = rt.alloc();
     let mut blocks = Vec::new(alloc);
     // The block's first call is a read, and its second call a write.
-    blocks.push(MemBlock::new(alloc, PageBuf::zero(), &[2])?)?;
+    blocks.push(MemBlock::<WORDS>::new(alloc, PageBuf::zero(), &[2])?)?;
     let (pool, mut pass) = pool_of(alloc, 1, blocks)?;
     let mut iface = Interface::new(0, 1);
-    bring_and_put(&rt, &pool, &mut pass, &mut iface, 0, 7);
+    bring_and_put(&rt, &pool, &mut pass, &mut iface, 0, 5, 7);
     let Ok(saved) = flush_and_close(pool, alloc, pass) else {
         panic!(rt; "there is memory");
     };

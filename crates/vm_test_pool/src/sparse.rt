@@ -6,6 +6,7 @@ use arrayvec::ArrayVec;
 use std::test::Fail;
 use vm_clock::candidates;
 use vm_exmap::Interface;
+use vm_page::WORDS;
 use vm_step::{Candidates, Looks};
 
 /// The state word of a marked page at version 1, to which its fault-in brings it.
@@ -15,7 +16,7 @@ const MARKED_AT_1: u64 = 0xfe00_0000_0000_0001;
 /// So no look is at a page that is not resident.
 #[test]
 fn a_walk_looks_at_frames_alone(rt: HostRuntime) -> Result<(), Fail> {
-    let blocks = zeros(rt.alloc(), 1000)?;
+    let blocks = zeros::<WORDS>(rt.alloc(), 1000)?;
     let (pool, mut pass) = pool_of(rt.alloc(), 64, blocks)?;
     let mut iface = Interface::new(0, 1);
     brought(&rt, &pool, &mut pass, &mut iface, 500);

@@ -2,7 +2,7 @@
 ghost use Rattle.std.specs.Prelude.{◌≤◌, length};
 
 use std::alloc::{AllocError, Global};
-use vm_page::PageBuf;
+use vm_page::{PageBuf, WORDS};
 
 pub(crate) const MAGIC: u64 = 0x564D_4341_4348_4531;
 
@@ -10,11 +10,13 @@ pub(crate) const MAGIC: u64 = 0x564D_4341_4348_4531;
 pub(crate) fn put_page(bytes: &mut Vec<u8>, words: &[u64]) -> Result<(), AllocError>
     requires { length words.now ≤ 64 }
 {
-    let mut page = PageBuf::zero();
+    let mut page = PageBuf::<WORDS>::zero();
     for i in 0..words.len() {
         page.set(i, words[i]);
     }
-    bytes.extend_from_slice(&page.to_bytes())
+    let mut written = [0; 512];
+    page.put_bytes(&mut written);
+    bytes.extend_from_slice(&written)
 }
 
 /// Appends so many pages of zeros.

@@ -1,5 +1,6 @@
 -- A pool may begin with the blocks of an image that is a tree; its first pass has fresh parts.
 use Rattle.std.proofs.Common.{[], ◌<◌, ◌∙◌, ◌∷◌, ◌≡◌, ap, arith, Bool, length, List, map, refl, replicate, slice_index, subst, suc, sym, zero, ℕ}
+use Rattle.vm_page.specs.declared.buf.TheConstants.{WORDS}
 use Rattle.vm_map.specs.declared.call.Said.{Said}
 use Rattle.vm_tree_model.specs.Tree.{IsTree}
 use Rattle.vm_image.specs.{Blocks.AreBlocksOf, Blocks.pages_of_blocks, declared.blocks.PlannedFault.PlannedFault, File.IsNextPage}
@@ -10,7 +11,7 @@ use Rattle.vm_step.specs.Prelude.{View}
 use Rattle.vm_tree_laws.specs.Keeps.{KeepsTree}
 use Rattle.vm_tree_laws.proofs.Starts.{start_keeps}
 
-words-held : (blocks : List MemBlock) → block_words (map stored_of blocks) ≡ pages_of_blocks blocks
+words-held : (blocks : List (MemBlock WORDS)) → block_words (map stored_of blocks) ≡ pages_of_blocks blocks
 words-held [] = refl
 words-held (b ∷ bs) = ap (λ (l : List (List ℕ)). words_of b ∷ l) (words-held bs)
 
@@ -20,11 +21,11 @@ all-zero zero (x ∷ xs) e z = absurd (omega arith)
 all-zero (suc n) [] e z = absurd (omega arith)
 all-zero (suc n) (x ∷ xs) e z = let first : x ≡ 0 = z 0 in let rest : xs ≡ replicate n 0 = all-zero n xs (omega arith) (λ i. z (suc i)) in cc
 
-pub begins : (pages : List (List ℕ)) (plan : List PlannedFault) (next : ℕ) (blocks : List MemBlock) → IsTree pages → IsNextPage pages next → AreBlocksOf pages plan blocks → MayBegin KeepsTree next (block_words (map stored_of blocks))
+pub begins : (pages : List (List ℕ)) (plan : List PlannedFault) (next : ℕ) (blocks : List (MemBlock WORDS)) → IsTree pages → IsNextPage pages next → AreBlocksOf pages plan blocks → MayBegin KeepsTree next (block_words (map stored_of blocks))
 begins pages plan next blocks tree free held =
     subst (λ (l : List (List ℕ)). MayBegin KeepsTree next l) (sym (words-held blocks ∙ held.held))
     (record {
-      zero = λ p l m. let f = free.free p l m in all-zero 64 (page_at pages p) f.length f.zero;
+      zero = λ p l m. let f = free.free p l m in all-zero (length (page_at pages p)) (page_at pages p) refl f.zero;
       kept = start_keeps (record { pages = pages; next = next }) tree free.within;
     })
 
@@ -34,5 +35,5 @@ numbers-long a zero = refl
 numbers-long a (suc n) = ap suc (numbers-long (suc a) n)
 
 -- the first pass of a pool has fresh parts
-pub has-fresh : (tells : Bool) (version next frames : ℕ) (blocks : List Stored) (v : View Said) → v ≡ begun (unborn (started_shape tells version next frames blocks)) → 0 < length v.fresh
-has-fresh tells version next frames blocks v is = let long : length v.fresh ≡ 4294967295 = ap (λ (x : View Said). length x.fresh) is ∙ numbers-long 1 4294967295 in omega arith
+pub has-fresh : (size : ℕ) (tells : Bool) (version next frames : ℕ) (blocks : List Stored) (v : View Said) → v ≡ begun (unborn (started_shape size tells version next frames blocks)) → 0 < length v.fresh
+has-fresh size tells version next frames blocks v is = let long : length v.fresh ≡ 4294967295 = ap (λ (x : View Said). length x.fresh) is ∙ numbers-long 1 4294967295 in omega arith

@@ -58,7 +58,7 @@ reads-beside p f version dirty v w b r =
         owned = ap (λ (y : Held). y.owner) k.held ∙ h.owned;
         told = ap (λ (y : Held). y.fault) k.held ∙ h.told ∙ ap (λ (y : Held). y.block.count) (sym k.held);
         at = ap (λ (y : Version). y.version) k.last ∙ h.at;
-        size = ap length k.draft ∙ h.size;
+        size = ap length k.draft ∙ h.size ∙ ap (λ (o : Origin). o.size) (sym r.start);
         free = ap (has p) r.group.0 ∙ h.free;
       };
       same = k.draft ∙ b.same ∙ sym (ap (λ (y : Version). y.words) k.last);

@@ -14,7 +14,7 @@ use vm_exmap::Interface;
 use vm_guard::ExclusiveGuard;
 use vm_image::{PlannedFault, blocks_of, read_image};
 use vm_map::call::Reply;
-use vm_page::PageBuf;
+use vm_page::{PageBuf, WORDS};
 use vm_pool::{Bring, Pool, Shape};
 use vm_rule::words::Pass;
 use vm_step::look_silently;
@@ -28,13 +28,13 @@ const MAGIC: u64 = 0x564D_4341_4348_4531;
 fn put_page(bytes: &mut Vec<u8>, words: &[u64]) -> Result<(), Fail>
     requires { length words.now ≤ 64 }
 {
-    let mut page = PageBuf::zero();
+    let mut page = PageBuf::<WORDS>::zero();
     for i in 0..words.len() {
         page.set(i, words[i]);
     }
-    for byte in page.to_bytes() {
-        bytes.push(byte)?;
-    }
+    let mut written = [0; 512];
+    page.put_bytes(&mut written);
+    bytes.extend_from_slice(&written)?;
     Ok(())
 }
 
@@ -69,9 +69,12 @@ pub(crate) fn two_leaves(alloc: Global) -> Result<Vec<u8>, Fail> {
 }
 
 /// A pool over the tree of these bytes, with 64 frames, and its first pass.
-pub(crate) fn open(alloc: Global, bytes: &[u8]) -> Result<(Pool<Tree, MemBlock>, Pass<Tree>), Fail>
+pub(crate) fn open(
+    alloc: Global,
+    bytes: &[u8],
+) -> Result<(Pool<Tree, MemBlock<WORDS>, WORDS>, Pass<Tree>), Fail>
     ensures pages { IfOk result (λ made. 2 ≤ made.0.words.table.shared.key.pages) }
-    ensures ready { IfOk result (λ made. IsReady made.0.words.table.shared.key ⟦<MemBlock as Block>⟧.tells made.0.words.table.shared.table_id made.1) }
+    ensures ready { IfOk result (λ made. IsReady made.0.words.table.shared.key ⟦<MemBlock<WORDS> as Block>⟧.tells made.0.words.table.shared.table_id made.1) }
     ensures home { IfOk result (λ made. (view made.1).out ≡ None) }
     ensures fresh { IfOk result (λ made. 0 < length (view made.1).fresh) }
 {
@@ -84,10 +87,10 @@ pub(crate) fn open_with(
     bytes: &[u8],
     plan: &[PlannedFault],
     first_version: u64,
-) -> Result<(Pool<Tree, MemBlock>, Pass<Tree>), Fail>
+) -> Result<(Pool<Tree, MemBlock<WORDS>, WORDS>, Pass<Tree>), Fail>
     requires version { first_version ≤ MAX_VERSION }
     ensures pages { IfOk result (λ made. 2 ≤ made.0.words.table.shared.key.pages) }
-    ensures ready { IfOk result (λ made. IsReady made.0.words.table.shared.key ⟦<MemBlock as Block>⟧.tells made.0.words.table.shared.table_id made.1) }
+    ensures ready { IfOk result (λ made. IsReady made.0.words.table.shared.key ⟦<MemBlock<WORDS> as Block>⟧.tells made.0.words.table.shared.table_id made.1) }
     ensures home { IfOk result (λ made. (view made.1).out ≡ None) }
     ensures fresh { IfOk result (λ made. 0 < length (view made.1).fresh) }
 {
@@ -136,16 +139,16 @@ pub(crate) fn get_first(
 /// `get`.
 pub(crate) fn got<R: Wait>(
     rt: &R,
-    pool: &Pool<Tree, MemBlock>,
+    pool: &Pool<Tree, MemBlock<WORDS>, WORDS>,
     pass: &mut Pass<Tree>,
     iface: &mut Interface,
     key: u64,
 ) -> Result<Reply, TreeFault>
     requires pages { 1 ≤ pool.now.words.table.shared.key.pages }
-    requires ready { IsReady pool.now.words.table.shared.key ⟦<MemBlock as Block>⟧.tells pool.now.words.table.shared.table_id pass.old }
+    requires ready { IsReady pool.now.words.table.shared.key ⟦<MemBlock<WORDS> as Block>⟧.tells pool.now.words.table.shared.table_id pass.old }
     requires home { (view pass.old).out ≡ None }
     requires held { AreHeld iface.old.frames (view pass.old) }
-    ensures ready { IsReady pool.now.words.table.shared.key ⟦<MemBlock as Block>⟧.tells pool.now.words.table.shared.table_id pass.new }
+    ensures ready { IsReady pool.now.words.table.shared.key ⟦<MemBlock<WORDS> as Block>⟧.tells pool.now.words.table.shared.table_id pass.new }
     ensures home { (view pass.new).out ≡ None }
     ensures held { AreHeld iface.new.frames (view pass.new) }
 {
@@ -155,7 +158,7 @@ pub(crate) fn got<R: Wait>(
 /// `window`, of at most so many pairs.
 pub(crate) fn window_from<R: Wait>(
     rt: &R,
-    pool: &Pool<Tree, MemBlock>,
+    pool: &Pool<Tree, MemBlock<WORDS>, WORDS>,
     pass: &mut Pass<Tree>,
     iface: &mut Interface,
     start: u64,
@@ -163,10 +166,10 @@ pub(crate) fn window_from<R: Wait>(
 ) -> Result<Reply, TreeFault>
     requires pages { 1 ≤ pool.now.words.table.shared.key.pages }
     requires most { 1 ≤ most }
-    requires ready { IsReady pool.now.words.table.shared.key ⟦<MemBlock as Block>⟧.tells pool.now.words.table.shared.table_id pass.old }
+    requires ready { IsReady pool.now.words.table.shared.key ⟦<MemBlock<WORDS> as Block>⟧.tells pool.now.words.table.shared.table_id pass.old }
     requires home { (view pass.old).out ≡ None }
     requires held { AreHeld iface.old.frames (view pass.old) }
-    ensures ready { IsReady pool.now.words.table.shared.key ⟦<MemBlock as Block>⟧.tells pool.now.words.table.shared.table_id pass.new }
+    ensures ready { IsReady pool.now.words.table.shared.key ⟦<MemBlock<WORDS> as Block>⟧.tells pool.now.words.table.shared.table_id pass.new }
     ensures home { (view pass.new).out ≡ None }
     ensures held { AreHeld iface.new.frames (view pass.new) }
 {
@@ -175,16 +178,16 @@ pub(crate) fn window_from<R: Wait>(
 
 /// `try_get`, by a pass that keeps its frames.
 pub(crate) fn get_once(
-    pool: &Pool<Tree, MemBlock>,
+    pool: &Pool<Tree, MemBlock<WORDS>, WORDS>,
     pass: &mut Pass<Tree>,
     iface: &Interface,
     key: u64,
 ) -> TryRead
     requires pages { 1 ≤ pool.now.words.table.shared.key.pages }
-    requires ready { IsReady pool.now.words.table.shared.key ⟦<MemBlock as Block>⟧.tells pool.now.words.table.shared.table_id pass.old }
+    requires ready { IsReady pool.now.words.table.shared.key ⟦<MemBlock<WORDS> as Block>⟧.tells pool.now.words.table.shared.table_id pass.old }
     requires home { (view pass.old).out ≡ None }
     requires held { AreHeld iface.now.frames (view pass.old) }
-    ensures ready { IsReady pool.now.words.table.shared.key ⟦<MemBlock as Block>⟧.tells pool.now.words.table.shared.table_id pass.new }
+    ensures ready { IsReady pool.now.words.table.shared.key ⟦<MemBlock<WORDS> as Block>⟧.tells pool.now.words.table.shared.table_id pass.new }
     ensures home { (view pass.new).out ≡ None }
     ensures held { AreHeld iface.now.frames (view pass.new) }
 {
@@ -194,7 +197,7 @@ pub(crate) fn get_once(
 
 /// `try_window`, by a pass that keeps its frames.
 pub(crate) fn window_once(
-    pool: &Pool<Tree, MemBlock>,
+    pool: &Pool<Tree, MemBlock<WORDS>, WORDS>,
     pass: &mut Pass<Tree>,
     iface: &Interface,
     start: u64,
@@ -202,10 +205,10 @@ pub(crate) fn window_once(
 ) -> TryRead
     requires pages { 1 ≤ pool.now.words.table.shared.key.pages }
     requires most { 1 ≤ most }
-    requires ready { IsReady pool.now.words.table.shared.key ⟦<MemBlock as Block>⟧.tells pool.now.words.table.shared.table_id pass.old }
+    requires ready { IsReady pool.now.words.table.shared.key ⟦<MemBlock<WORDS> as Block>⟧.tells pool.now.words.table.shared.table_id pass.old }
     requires home { (view pass.old).out ≡ None }
     requires held { AreHeld iface.now.frames (view pass.old) }
-    ensures ready { IsReady pool.now.words.table.shared.key ⟦<MemBlock as Block>⟧.tells pool.now.words.table.shared.table_id pass.new }
+    ensures ready { IsReady pool.now.words.table.shared.key ⟦<MemBlock<WORDS> as Block>⟧.tells pool.now.words.table.shared.table_id pass.new }
     ensures home { (view pass.new).out ≡ None }
     ensures held { AreHeld iface.now.frames (view pass.new) }
 {
@@ -215,18 +218,18 @@ pub(crate) fn window_once(
 
 /// `try_get`, by a pass that holds a page that it has not written: it holds it still, as it was.
 pub(crate) fn get_beside(
-    pool: &Pool<Tree, MemBlock>,
+    pool: &Pool<Tree, MemBlock<WORDS>, WORDS>,
     pass: &mut Pass<Tree>,
     guard: &ExclusiveGuard,
     key: u64,
 ) -> TryRead
     requires pages { 1 ≤ pool.now.words.table.shared.key.pages }
-    requires ready { IsReady pool.now.words.table.shared.key ⟦<MemBlock as Block>⟧.tells pool.now.words.table.shared.table_id pass.old }
+    requires ready { IsReady pool.now.words.table.shared.key ⟦<MemBlock<WORDS> as Block>⟧.tells pool.now.words.table.shared.table_id pass.old }
     requires home { (view pass.old).out ≡ None }
     requires held { IsHolding guard.now.pid guard.now.frame guard.now.version guard.now.dirty (view pass.old) }
     requires same { draft_of (view pass.old) guard.now.pid ≡ (last_of (view pass.old) guard.now.pid).words }
     requires unpaid { has guard.now.pid (view pass.old).owed ≡ false }
-    ensures ready { IsReady pool.now.words.table.shared.key ⟦<MemBlock as Block>⟧.tells pool.now.words.table.shared.table_id pass.new }
+    ensures ready { IsReady pool.now.words.table.shared.key ⟦<MemBlock<WORDS> as Block>⟧.tells pool.now.words.table.shared.table_id pass.new }
     ensures home { (view pass.new).out ≡ None }
     ensures held { IsHolding guard.now.pid guard.now.frame guard.now.version guard.now.dirty (view pass.new) }
     ensures same { draft_of (view pass.new) guard.now.pid ≡ (last_of (view pass.new) guard.now.pid).words }
@@ -238,23 +241,22 @@ pub(crate) fn get_beside(
 
 /// The page's state word, where there is such a page, as a pass sees it that keeps its frames.
 pub(crate) fn state_word(
-    pool: &Pool<Tree, MemBlock>,
+    pool: &Pool<Tree, MemBlock<WORDS>, WORDS>,
     pass: &mut Pass<Tree>,
     iface: &Interface,
     pid: u32,
 ) -> Option<u64>
-    requires ready { IsReady pool.now.words.table.shared.key ⟦<MemBlock as Block>⟧.tells pool.now.words.table.shared.table_id pass.old }
+    requires ready { IsReady pool.now.words.table.shared.key ⟦<MemBlock<WORDS> as Block>⟧.tells pool.now.words.table.shared.table_id pass.old }
     requires home { (view pass.old).out ≡ None }
     requires held { AreHeld iface.now.frames (view pass.old) }
-    ensures ready { IsReady pool.now.words.table.shared.key ⟦<MemBlock as Block>⟧.tells pool.now.words.table.shared.table_id pass.new }
+    ensures ready { IsReady pool.now.words.table.shared.key ⟦<MemBlock<WORDS> as Block>⟧.tells pool.now.words.table.shared.table_id pass.new }
     ensures home { (view pass.new).out ≡ None }
     ensures held { AreHeld iface.now.frames (view pass.new) }
 {
     let _ = iface;
     let words = pool.words();
-    if (pid as usize) < words.pages {
-        Some(look_silently(words, pass, pid))
-    } else {
-        None
+    if words.pages <= pid as usize {
+        return None;
     }
+    Some(look_silently(words, pass, pid))
 }

@@ -6,6 +6,7 @@ use std::sync::Wait;
 use vm_block::{Block, MemBlock};
 use vm_exmap::Interface;
 use vm_map::call::Reply;
+use vm_page::WORDS;
 use vm_pool::Pool;
 use vm_rule::words::Pass;
 use vm_tree_rule::{Tree, TreeFault};
@@ -14,17 +15,17 @@ use vm_tree_write::{TrySplit, TryWrite, del, put, try_del, try_put, try_split};
 /// `put`.
 pub(crate) fn put_at<R: Wait>(
     rt: &R,
-    pool: &Pool<Tree, MemBlock>,
+    pool: &Pool<Tree, MemBlock<WORDS>, WORDS>,
     pass: &mut Pass<Tree>,
     iface: &mut Interface,
     key: u64,
     value: u64,
 ) -> Result<Reply, TreeFault>
     requires pages { 1 ≤ pool.now.words.table.shared.key.pages }
-    requires ready { IsReady pool.now.words.table.shared.key ⟦<MemBlock as Block>⟧.tells pool.now.words.table.shared.table_id pass.old }
+    requires ready { IsReady pool.now.words.table.shared.key ⟦<MemBlock<WORDS> as Block>⟧.tells pool.now.words.table.shared.table_id pass.old }
     requires home { (view pass.old).out ≡ None }
     requires held { AreHeld iface.old.frames (view pass.old) }
-    ensures ready { IsReady pool.now.words.table.shared.key ⟦<MemBlock as Block>⟧.tells pool.now.words.table.shared.table_id pass.new }
+    ensures ready { IsReady pool.now.words.table.shared.key ⟦<MemBlock<WORDS> as Block>⟧.tells pool.now.words.table.shared.table_id pass.new }
     ensures home { (view pass.new).out ≡ None }
     ensures held { AreHeld iface.new.frames (view pass.new) }
 {
@@ -34,16 +35,16 @@ pub(crate) fn put_at<R: Wait>(
 /// `del`.
 pub(crate) fn del_at<R: Wait>(
     rt: &R,
-    pool: &Pool<Tree, MemBlock>,
+    pool: &Pool<Tree, MemBlock<WORDS>, WORDS>,
     pass: &mut Pass<Tree>,
     iface: &mut Interface,
     key: u64,
 ) -> Result<Reply, TreeFault>
     requires pages { 1 ≤ pool.now.words.table.shared.key.pages }
-    requires ready { IsReady pool.now.words.table.shared.key ⟦<MemBlock as Block>⟧.tells pool.now.words.table.shared.table_id pass.old }
+    requires ready { IsReady pool.now.words.table.shared.key ⟦<MemBlock<WORDS> as Block>⟧.tells pool.now.words.table.shared.table_id pass.old }
     requires home { (view pass.old).out ≡ None }
     requires held { AreHeld iface.old.frames (view pass.old) }
-    ensures ready { IsReady pool.now.words.table.shared.key ⟦<MemBlock as Block>⟧.tells pool.now.words.table.shared.table_id pass.new }
+    ensures ready { IsReady pool.now.words.table.shared.key ⟦<MemBlock<WORDS> as Block>⟧.tells pool.now.words.table.shared.table_id pass.new }
     ensures home { (view pass.new).out ≡ None }
     ensures held { AreHeld iface.new.frames (view pass.new) }
 {
@@ -52,17 +53,17 @@ pub(crate) fn del_at<R: Wait>(
 
 /// `try_put`, by a pass that keeps its frames.
 pub(crate) fn put_once(
-    pool: &Pool<Tree, MemBlock>,
+    pool: &Pool<Tree, MemBlock<WORDS>, WORDS>,
     pass: &mut Pass<Tree>,
     iface: &Interface,
     key: u64,
     value: u64,
 ) -> TryWrite
     requires pages { 1 ≤ pool.now.words.table.shared.key.pages }
-    requires ready { IsReady pool.now.words.table.shared.key ⟦<MemBlock as Block>⟧.tells pool.now.words.table.shared.table_id pass.old }
+    requires ready { IsReady pool.now.words.table.shared.key ⟦<MemBlock<WORDS> as Block>⟧.tells pool.now.words.table.shared.table_id pass.old }
     requires home { (view pass.old).out ≡ None }
     requires held { AreHeld iface.now.frames (view pass.old) }
-    ensures ready { IsReady pool.now.words.table.shared.key ⟦<MemBlock as Block>⟧.tells pool.now.words.table.shared.table_id pass.new }
+    ensures ready { IsReady pool.now.words.table.shared.key ⟦<MemBlock<WORDS> as Block>⟧.tells pool.now.words.table.shared.table_id pass.new }
     ensures home { (view pass.new).out ≡ None }
     ensures held { AreHeld iface.now.frames (view pass.new) }
 {
@@ -72,16 +73,16 @@ pub(crate) fn put_once(
 
 /// `try_del`, by a pass that keeps its frames.
 pub(crate) fn del_once(
-    pool: &Pool<Tree, MemBlock>,
+    pool: &Pool<Tree, MemBlock<WORDS>, WORDS>,
     pass: &mut Pass<Tree>,
     iface: &Interface,
     key: u64,
 ) -> TryWrite
     requires pages { 1 ≤ pool.now.words.table.shared.key.pages }
-    requires ready { IsReady pool.now.words.table.shared.key ⟦<MemBlock as Block>⟧.tells pool.now.words.table.shared.table_id pass.old }
+    requires ready { IsReady pool.now.words.table.shared.key ⟦<MemBlock<WORDS> as Block>⟧.tells pool.now.words.table.shared.table_id pass.old }
     requires home { (view pass.old).out ≡ None }
     requires held { AreHeld iface.now.frames (view pass.old) }
-    ensures ready { IsReady pool.now.words.table.shared.key ⟦<MemBlock as Block>⟧.tells pool.now.words.table.shared.table_id pass.new }
+    ensures ready { IsReady pool.now.words.table.shared.key ⟦<MemBlock<WORDS> as Block>⟧.tells pool.now.words.table.shared.table_id pass.new }
     ensures home { (view pass.new).out ≡ None }
     ensures held { AreHeld iface.now.frames (view pass.new) }
 {
@@ -91,16 +92,16 @@ pub(crate) fn del_once(
 
 /// `try_split`.
 pub(crate) fn split_once(
-    pool: &Pool<Tree, MemBlock>,
+    pool: &Pool<Tree, MemBlock<WORDS>, WORDS>,
     pass: &mut Pass<Tree>,
     iface: &mut Interface,
     key: u64,
 ) -> TrySplit
     requires pages { 1 ≤ pool.now.words.table.shared.key.pages }
-    requires ready { IsReady pool.now.words.table.shared.key ⟦<MemBlock as Block>⟧.tells pool.now.words.table.shared.table_id pass.old }
+    requires ready { IsReady pool.now.words.table.shared.key ⟦<MemBlock<WORDS> as Block>⟧.tells pool.now.words.table.shared.table_id pass.old }
     requires home { (view pass.old).out ≡ None }
     requires held { AreHeld iface.old.frames (view pass.old) }
-    ensures ready { IsReady pool.now.words.table.shared.key ⟦<MemBlock as Block>⟧.tells pool.now.words.table.shared.table_id pass.new }
+    ensures ready { IsReady pool.now.words.table.shared.key ⟦<MemBlock<WORDS> as Block>⟧.tells pool.now.words.table.shared.table_id pass.new }
     ensures home { (view pass.new).out ≡ None }
     ensures held { AreHeld iface.new.frames (view pass.new) }
 {

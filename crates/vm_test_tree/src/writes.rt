@@ -11,6 +11,7 @@ use vm_block::{Block, MemBlock};
 use vm_core::{MAX_VERSION, StateWord};
 use vm_exmap::Interface;
 use vm_map::call::Reply;
+use vm_page::WORDS;
 use vm_pool::Pool;
 use vm_rule::words::Pass;
 use vm_tree_callers::{put_meet_get, put_then_get};
@@ -20,15 +21,15 @@ use vm_tree_write::{TrySplit, TryWrite};
 /// 800 keys in a mixed order get the number behind them. None of them was there.
 fn put_many<R: Wait + Abort>(
     rt: &R,
-    pool: &Pool<Tree, MemBlock>,
+    pool: &Pool<Tree, MemBlock<WORDS>, WORDS>,
     pass: &mut Pass<Tree>,
     iface: &mut Interface,
 )
     requires pages { 1 ≤ pool.now.words.table.shared.key.pages }
-    requires ready { IsReady pool.now.words.table.shared.key ⟦<MemBlock as Block>⟧.tells pool.now.words.table.shared.table_id pass.old }
+    requires ready { IsReady pool.now.words.table.shared.key ⟦<MemBlock<WORDS> as Block>⟧.tells pool.now.words.table.shared.table_id pass.old }
     requires home { (view pass.old).out ≡ None }
     requires held { AreHeld iface.old.frames (view pass.old) }
-    ensures ready { IsReady pool.now.words.table.shared.key ⟦<MemBlock as Block>⟧.tells pool.now.words.table.shared.table_id pass.new }
+    ensures ready { IsReady pool.now.words.table.shared.key ⟦<MemBlock<WORDS> as Block>⟧.tells pool.now.words.table.shared.table_id pass.new }
     ensures home { (view pass.new).out ≡ None }
     ensures held { AreHeld iface.new.frames (view pass.new) }
 {
@@ -42,15 +43,15 @@ fn put_many<R: Wait + Abort>(
 /// Each of these keys has the number behind it.
 fn get_many<R: Wait + Abort>(
     rt: &R,
-    pool: &Pool<Tree, MemBlock>,
+    pool: &Pool<Tree, MemBlock<WORDS>, WORDS>,
     pass: &mut Pass<Tree>,
     iface: &mut Interface,
 )
     requires pages { 1 ≤ pool.now.words.table.shared.key.pages }
-    requires ready { IsReady pool.now.words.table.shared.key ⟦<MemBlock as Block>⟧.tells pool.now.words.table.shared.table_id pass.old }
+    requires ready { IsReady pool.now.words.table.shared.key ⟦<MemBlock<WORDS> as Block>⟧.tells pool.now.words.table.shared.table_id pass.old }
     requires home { (view pass.old).out ≡ None }
     requires held { AreHeld iface.old.frames (view pass.old) }
-    ensures ready { IsReady pool.now.words.table.shared.key ⟦<MemBlock as Block>⟧.tells pool.now.words.table.shared.table_id pass.new }
+    ensures ready { IsReady pool.now.words.table.shared.key ⟦<MemBlock<WORDS> as Block>⟧.tells pool.now.words.table.shared.table_id pass.new }
     ensures home { (view pass.new).out ≡ None }
     ensures held { AreHeld iface.new.frames (view pass.new) }
 {
@@ -64,15 +65,15 @@ fn get_many<R: Wait + Abort>(
 /// The first 400 of these keys are taken out, and are not there afterwards. One of them, 377, has the value 5.
 fn del_half<R: Wait + Abort>(
     rt: &R,
-    pool: &Pool<Tree, MemBlock>,
+    pool: &Pool<Tree, MemBlock<WORDS>, WORDS>,
     pass: &mut Pass<Tree>,
     iface: &mut Interface,
 )
     requires pages { 1 ≤ pool.now.words.table.shared.key.pages }
-    requires ready { IsReady pool.now.words.table.shared.key ⟦<MemBlock as Block>⟧.tells pool.now.words.table.shared.table_id pass.old }
+    requires ready { IsReady pool.now.words.table.shared.key ⟦<MemBlock<WORDS> as Block>⟧.tells pool.now.words.table.shared.table_id pass.old }
     requires home { (view pass.old).out ≡ None }
     requires held { AreHeld iface.old.frames (view pass.old) }
-    ensures ready { IsReady pool.now.words.table.shared.key ⟦<MemBlock as Block>⟧.tells pool.now.words.table.shared.table_id pass.new }
+    ensures ready { IsReady pool.now.words.table.shared.key ⟦<MemBlock<WORDS> as Block>⟧.tells pool.now.words.table.shared.table_id pass.new }
     ensures home { (view pass.new).out ≡ None }
     ensures held { AreHeld iface.new.frames (view pass.new) }
 {
@@ -89,16 +90,16 @@ fn del_half<R: Wait + Abort>(
 /// A leaf is filled: the keys below `count`, none of which was there, get the value 1.
 pub(crate) fn fill<R: Wait + Abort>(
     rt: &R,
-    pool: &Pool<Tree, MemBlock>,
+    pool: &Pool<Tree, MemBlock<WORDS>, WORDS>,
     pass: &mut Pass<Tree>,
     iface: &mut Interface,
     count: u64,
 )
     requires pages { 1 ≤ pool.now.words.table.shared.key.pages }
-    requires ready { IsReady pool.now.words.table.shared.key ⟦<MemBlock as Block>⟧.tells pool.now.words.table.shared.table_id pass.old }
+    requires ready { IsReady pool.now.words.table.shared.key ⟦<MemBlock<WORDS> as Block>⟧.tells pool.now.words.table.shared.table_id pass.old }
     requires home { (view pass.old).out ≡ None }
     requires held { AreHeld iface.old.frames (view pass.old) }
-    ensures ready { IsReady pool.now.words.table.shared.key ⟦<MemBlock as Block>⟧.tells pool.now.words.table.shared.table_id pass.new }
+    ensures ready { IsReady pool.now.words.table.shared.key ⟦<MemBlock<WORDS> as Block>⟧.tells pool.now.words.table.shared.table_id pass.new }
     ensures home { (view pass.new).out ≡ None }
     ensures held { AreHeld iface.new.frames (view pass.new) }
 {
@@ -111,17 +112,17 @@ pub(crate) fn fill<R: Wait + Abort>(
 /// Of 12 puts of the key each is refused, since the image of so many pages has none left.
 fn refuse_many<R: Wait + Abort>(
     rt: &R,
-    pool: &Pool<Tree, MemBlock>,
+    pool: &Pool<Tree, MemBlock<WORDS>, WORDS>,
     pass: &mut Pass<Tree>,
     iface: &mut Interface,
     key: u64,
     pages: u32,
 )
     requires pages { 1 ≤ pool.now.words.table.shared.key.pages }
-    requires ready { IsReady pool.now.words.table.shared.key ⟦<MemBlock as Block>⟧.tells pool.now.words.table.shared.table_id pass.old }
+    requires ready { IsReady pool.now.words.table.shared.key ⟦<MemBlock<WORDS> as Block>⟧.tells pool.now.words.table.shared.table_id pass.old }
     requires home { (view pass.old).out ≡ None }
     requires held { AreHeld iface.old.frames (view pass.old) }
-    ensures ready { IsReady pool.now.words.table.shared.key ⟦<MemBlock as Block>⟧.tells pool.now.words.table.shared.table_id pass.new }
+    ensures ready { IsReady pool.now.words.table.shared.key ⟦<MemBlock<WORDS> as Block>⟧.tells pool.now.words.table.shared.table_id pass.new }
     ensures home { (view pass.new).out ≡ None }
     ensures held { AreHeld iface.new.frames (view pass.new) }
 {

@@ -1,13 +1,13 @@
-use Rattle.std.proofs.Common.{arith}
+use Rattle.std.proofs.Common.{arith, rules}
 use Rattle.vm_pool.proofs.FirstPass.{first-alone}
 use Rattle.vm_serve.proofs.Headline.{begins, fresh-enough}
 use Rattle.vm_test_drive.proofs.trees.open.Goals as goal
 
-pub start-requires-clause-begins : goal.start-requires-clause-begins
-start-requires-clause-begins c tells = begins _ _ _ _ c.requires.tree c.next.ensures c.in_ok-blocks.ensures.blocks
+pub start-requires : goal.start-requires
+start-requires c = let start = begins _ _ _ _ c.requires.tree c.next.ensures c.in_ok-blocks.ensures.blocks in search (rules, start)
 
 pub returns-clause-whole : goal.returns-clause-whole
-returns-clause-whole c = (first-alone _ _ _ _ _ _ c.in_ok-start.ensures.view).0
+returns-clause-whole c = (first-alone _ _ _ _ _ _ _ c.in_ok-start.ensures.view).0
 
 pub returns-clause-fresh : goal.returns-clause-fresh
-returns-clause-fresh c = fresh-enough _ _ _ _ 64 _ _ c.in_ok-start.ensures.view (omega arith)
+returns-clause-fresh c = fresh-enough _ _ _ _ _ 64 _ _ c.in_ok-start.ensures.view (omega arith)

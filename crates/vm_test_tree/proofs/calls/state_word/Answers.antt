@@ -3,8 +3,8 @@ use Rattle.vm_step.specs.Prelude.{view}
 use Rattle.vm_test_tree.proofs.Homes.{look-rests, rests-held}
 use Rattle.vm_test_tree.proofs.calls.state_word.Goals as goal
 
-pub returns-then-pid-words-clause-home : goal.returns-then-pid-words-clause-home
-returns-then-pid-words-clause-home c = (look-rests c.args.pid c.look_silently.result (view c.args.pass.now) (view c.look_silently.new.pass) c.look_silently.ensures.told).out ∙ c.requires.home
+pub returns-clause-home : goal.returns-clause-home
+returns-clause-home c = (look-rests c.args.pid c.look_silently.result (view c.args.pass.now) (view c.look_silently.new.pass) c.look_silently.ensures.told).out ∙ c.requires.home
 
-pub returns-then-pid-words-clause-held : goal.returns-then-pid-words-clause-held
-returns-then-pid-words-clause-held c = rests-held _ (view c.args.pass.now) (view c.look_silently.new.pass) c.requires.held (look-rests c.args.pid c.look_silently.result (view c.args.pass.now) (view c.look_silently.new.pass) c.look_silently.ensures.told)
+pub returns-clause-held : goal.returns-clause-held
+returns-clause-held c = rests-held _ (view c.args.pass.now) (view c.look_silently.new.pass) c.requires.held (look-rests c.args.pid c.look_silently.result (view c.args.pass.now) (view c.look_silently.new.pass) c.look_silently.ensures.told)

@@ -1,5 +1,5 @@
 use Rattle.std.proofs.Common.{arith}
-use Rattle.vm_test_guards.proofs.groups.a_group_of_three_is_seen_whole.Goals as goal
+use Rattle.vm_test_guards.proofs.groups.group_of_three.Goals as goal
 
 pub released-requires-clause-first : goal.released-requires-clause-first
 released-requires-clause-first g c =

@@ -2,7 +2,7 @@ use Rattle.std.proofs.Common.{◌<◌, ◌∙◌, ◌≡◌, ◌≢◌, ap, arit
 use Rattle.vm_owner.proofs.NumberLemmas.{has-without_other}
 use Rattle.vm_rule.specs.Prelude.{has, without}
 use Rattle.vm_step.specs.Prelude.{view}
-use Rattle.vm_test_frames.proofs.fault.a_page_is_brought_once.Goals as goal
+use Rattle.vm_test_frames.proofs.fault.brought_once.Goals as goal
 
 -- the first frame went to the page, and the second is left
 second-left : (fs gs : List ℕ) → gs ≡ without 0 fs → has 1 fs ≡ true → has 1 gs ≡ true

@@ -1,0 +1,6 @@
+use Rattle.vm_block.specs.Memory.{stored_of}
+use Rattle.vm_pool.proofs.FirstPass.{whole-each}
+use Rattle.vm_test_pool.proofs.evict.one_page.Goals as goal
+
+pub started-requires-clause-whole : goal.started-requires-clause-whole
+started-requires-clause-whole g c told = whole-each stored_of 64 c.push.new.self.items (λ b. b.whole)
