@@ -1,8 +1,6 @@
 -- What the first pass of a pool knows: it is alone, each page is evicted at the first version, and the first bundle has frames.
-use Rattle.std.proofs.Common.{[], ◌∷◌, map, suc, zero}
-use Rattle.vm_rule.specs.Prelude.{AreWhole}
 use Rattle.vm_rule.specs.declared.view.Place.TheVariants as places
-use Rattle.vm_pool.proofs.Prelude.{ap, arith, at, begun, Bool, bundles_of, counts_of, EVICTED, first-whole, full_bundle, HasFree, index_of, inr, IsAlone}
+use Rattle.vm_pool.proofs.Prelude.{ap, arith, begun, Bool, bundles_of, counts_of, EVICTED, first-whole, full_bundle, HasFree, index_of, inr, IsAlone}
 use Rattle.vm_pool.proofs.Prelude.{IsKnownOut, IsOf, IsStarted, IsWhole, known_word_at, length, List, MAX_VERSION, min, Origin, part-found, pow-le-pow_right}
 use Rattle.vm_pool.proofs.Prelude.{refl, Shape, slice_index, started-bundle, started-state, started_origin, started_shape, started_words, state_of, Stored}
 use Rattle.vm_pool.proofs.Prelude.{subst, sym, unborn, version_of, View, word-state, word-version, word_of, ℕ, ◌*◌, ◌+◌, ◌-◌, ◌<◌, ◌^◌, ◌∙◌, ◌≡◌, ◌≢◌, ◌≤◌}
@@ -63,10 +61,3 @@ module _ {X : Type 0} (size : ℕ) (tells : Bool) (version next frames : ℕ) (b
         let some : 1 ≤ frames = fits.some_frames in
         let inside : 0 < bundles_of frames = omega (arith, some) in
         inr (0, subst (λ (s : Origin). 0 < bundles_of s.frames) (sym start-is) inside, λ none. some-frames frames some (sym bundle-there ∙ none))
-
--- each block has a page's words
-pub whole-each : {B : Type 0} (stored : B → Stored) (size : ℕ) (items : List B) → ((b : B) → length (stored b).words ≡ size) → AreWhole size (map stored items)
-unfolding at
-whole-each stored size [] each p l = absurd (omega (arith, l))
-whole-each stored size (x ∷ xs) each zero l = each x
-whole-each stored size (x ∷ xs) each (suc p) l = whole-each stored size xs each p (omega (arith, l))

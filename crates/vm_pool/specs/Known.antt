@@ -1,7 +1,7 @@
 -- What a pass that is alone knows of the table after it asked for a page: where it knew a frame to be free, from before the call; else from after
 -- the sweep that the call made.
 use Rattle.std.specs.Prelude.{[], ◌<◌, ◌∷◌, ◌≡◌, ◌≢◌, ◌⊎◌, bit_xor, List, max, ℕ}
-use Rattle.vm_core.specs.Prelude.{AreLowest, at, EVICTED, UNLOCKED, version_of}
+use Rattle.vm_core.specs.Prelude.{AreLowest, EVICTED, UNLOCKED, version_of}
 use Rattle.vm_rule.specs.Prelude.{bundles_of, frames_in}
 use Rattle.vm_rule.specs.declared.view.Place.TheVariants as places
 use Rattle.vm_step.specs.Prelude.{IsAlone, IsOfPage, known_word_at, KnowsElse, View}

@@ -5,7 +5,7 @@ use Rattle.vm_step.proofs.Leaves.{works-one, works-then}
 use Rattle.vm_step.proofs.Prelude.{[], ap, arith, Bool, count_more, DeviceDid, Did, did_load, Err, failed, false, Held, held_at, HomeTold, IsSome, KeepsFrames}
 use Rattle.vm_step.proofs.Prelude.{List, MayBring, nat_tests, no_held, None, notes_of, Ok, Option, Out, out_at, OutTold, put, put_at, read, Reads, refl, Result}
 use Rattle.vm_step.proofs.Prelude.{ReturnTold, rules, seat_of, ShiftTold, Some, Stored, sym, true, upd-other, upd-same, View, words_held, Works, Writes, ℕ}
-use Rattle.vm_step.proofs.Prelude.{◌++◌, ◌+◌, ◌∙◌, ◌∷◌, ◌≡◌, ◌≤◌}
+use Rattle.vm_step.proofs.Prelude.{◌++◌, ◌∙◌, ◌∷◌, ◌≡◌, ◌≤◌}
 
 abbrev pub two-loads : ℕ → ℕ → ℕ → List Did
 two-loads p first second = did_load (places.Fault p) first ∷ did_load (places.Fault p) second ∷ []

@@ -18,7 +18,7 @@ use Rattle.vm_step.proofs.Prelude.{Shows, slice_index, slice_set, Some, some, so
 use Rattle.vm_step.proofs.Prelude.{sum_below-at, sym, Table, table_after, Translation, TranslationHolds, true, true≢false, unheld, UNLOCKED, Unmark}
 use Rattle.vm_step.proofs.Prelude.{unmark-step, unmarked, upd, upd-keeps, upd-other, upd-same, Upgrade, upgrade-step, upgraded, upgraded_view, Version}
 use Rattle.vm_step.proofs.Prelude.{version-here, version-within, version_of, View, width, Within, word-here, word-state, word-version, word_of, World}
-use Rattle.vm_step.proofs.Prelude.{world_after, world_of, write_locked, write_locked_view, wrote, ℕ, ⊎_elim, ◌++◌, ◌+◌, ◌<◌, ◌∙◌, ◌≡◌, ◌≢◌, ◌≤◌}
+use Rattle.vm_step.proofs.Prelude.{world_after, world_of, write_locked, write_locked_view, wrote, ℕ, ⊎_elim, ◌++◌, ◌<◌, ◌∙◌, ◌≡◌, ◌≢◌, ◌≤◌}
 
 -- ---- at any place
 

@@ -1,4 +1,4 @@
-//! Groups of three pages, small ones and large ones, which a second pass reads before and after their release. The values are worked out by hand from the rules.
+//! Groups of three pages, small and large ones, which a second pass reads before and after their release. The values are worked out by hand from the rules.
 ghost use Rattle.std.specs.Prelude.{◌<◌, ◌≡◌, ◌≢◌, Bool, None, ℕ};
 ghost use Rattle.vm_page.specs.Sizes.{IsSize};
 ghost use Rattle.vm_step.specs.Prelude.{IsReady, view};

@@ -1,5 +1,5 @@
 use Rattle.vm_block.specs.Memory.{stored_of}
-use Rattle.vm_pool.proofs.FirstPass.{whole-each}
+use Rattle.vm_rule.proofs.Whole.{whole-each}
 use Rattle.vm_test_core.proofs.rule.a_started_table_has_its_words_by_the_layout.Goals as goal
 
 pub started-requires-clause-whole : goal.started-requires-clause-whole

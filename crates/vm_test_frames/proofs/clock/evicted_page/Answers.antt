@@ -1,5 +1,5 @@
 use Rattle.vm_block.specs.Memory.{stored_of}
-use Rattle.vm_test_frames.proofs.Whole.{whole-each}
+use Rattle.vm_rule.proofs.Whole.{whole-each}
 use Rattle.vm_test_frames.proofs.clock.evicted_page.Goals as goal
 
 pub started-requires-clause-whole : goal.started-requires-clause-whole

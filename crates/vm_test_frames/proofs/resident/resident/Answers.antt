@@ -1,5 +1,5 @@
 use Rattle.std.proofs.Common.{◌∙◌, ℕ}
-use Rattle.vm_test_frames.proofs.Whole.{whole-each}
+use Rattle.vm_rule.proofs.Whole.{whole-each}
 use Rattle.vm_test_frames.proofs.resident.resident.Goals as goal
 
 pub started-requires-clause-whole : goal.started-requires-clause-whole

@@ -1,5 +1,5 @@
 use Rattle.vm_block.specs.Memory.{stored_of}
-use Rattle.vm_pool.proofs.FirstPass.{whole-each}
+use Rattle.vm_rule.proofs.Whole.{whole-each}
 use Rattle.vm_test_pool.proofs.evict.one_page.Goals as goal
 
 pub started-requires-clause-whole : goal.started-requires-clause-whole

@@ -1,4 +1,4 @@
-use Rattle.vm_pool.proofs.FirstPass.{whole-each}
+use Rattle.vm_rule.proofs.Whole.{whole-each}
 use Rattle.vm_pool.proofs.pool.Pool.start.Goals as goal
 
 pub started-requires-clause-whole : goal.started-requires-clause-whole
