@@ -1,6 +1,7 @@
 -- A claim of zero pages keeps what the tree keeps.
 use Rattle.std.proofs.Common.{◌≡◌, ◌⊎◌, inl, inr, ℕ, zero, suc, ◌+◌, ◌<◌, ◌≤◌, Bool, true, false, [], ◌∷◌, ◌++◌, length, slice_index, refl, sym, ap, ◌∙◌, arith, length-append}
 use Rattle.std.proofs.lemmas.Bool.{cases_eq}
+use Rattle.vm_tree_model.specs.Layout.{Layout, IsLayout}
 use Rattle.vm_tree_model.specs.Node.{IsNode}
 use Rattle.vm_tree_model.specs.Page.{IsFree}
 use Rattle.vm_tree_model.specs.Tree.{page_at, node_at}
@@ -10,7 +11,7 @@ use Rattle.vm_owner.proofs.NumberLemmas.{has-end, has-last, apart-end}
 use Rattle.vm_map.specs.declared.call.Said.{Said}
 use Rattle.vm_tree_laws.specs.Keeps.{KeepsTree}
 
-module _ (start : Start) (kept : Kept Said) (keeps : KeepsTree start kept) where
+module _ (L : Layout) (laws : IsLayout L) (start : Start) (kept : Kept Said) (keeps : KeepsTree L start kept) where
   next_not_owed : has kept.next kept.owed ≡ false
   next_not_owed = go (has kept.next kept.owed) refl
     where
@@ -26,17 +27,17 @@ module _ (start : Start) (kept : Kept Said) (keeps : KeepsTree start kept) where
   ]
 
   -- a page of zeros is free: in a tree each page has 64 words, and page 0 has its magic word
-  free_at : (p : ℕ) → p < length kept.pages → ((i : ℕ) → slice_index (page_at kept.pages p) i ≡ 0) → IsFree (page_at kept.pages p)
-  free_at zero lt zeros = absurd (omega (arith, zeros 0, keeps.tree.meta.magic))
+  free_at : (p : ℕ) → p < length kept.pages → ((i : ℕ) → slice_index (page_at kept.pages p) i ≡ 0) → IsFree L (page_at kept.pages p)
+  free_at zero lt zeros = absurd (omega (arith, zeros 0, keeps.tree.meta.magic, laws.some_magic))
   free_at (suc p) lt zeros = elim (keeps.tree.kind (suc p) (omega arith) lt) [
     | inl free ↦ free
     | inr kind ↦ elim kind [
-      | inl leaf ↦ absurd (omega (arith, zeros 0, leaf.node.tag))
-      | inr inner ↦ absurd (omega (arith, zeros 0, inner.node.tag))
+      | inl leaf ↦ absurd (omega (arith, laws.free_tag _ zeros, leaf.node.tag))
+      | inr inner ↦ absurd (omega (arith, laws.free_tag _ zeros, inner.node.tag))
     ]
   ]
 
-  claim_keeps : kept.next < length kept.pages → IsFree (page_at kept.pages kept.next) → KeepsTree start (record kept { next = kept.next + 1; owed = kept.owed ++ kept.next ∷ [] })
+  claim_keeps : kept.next < length kept.pages → IsFree L (page_at kept.pages kept.next) → KeepsTree L start (record kept { next = kept.next + 1; owed = kept.owed ++ kept.next ∷ [] })
   claim_keeps there free = record {
     same_count = keeps.same_count;
     tree = keeps.tree;
@@ -61,7 +62,7 @@ module _ (start : Start) (kept : Kept Said) (keeps : KeepsTree start kept) where
     room = keeps.room;
   }
     where
-      claimed_or_owed : (x : ℕ) → start.next ≤ x → x < kept.next + 1 → IsNode (node_at kept.pages x) ⊎ (has x (kept.owed ++ kept.next ∷ []) ≡ true)
+      claimed_or_owed : (x : ℕ) → start.next ≤ x → x < kept.next + 1 → IsNode (node_at L kept.pages x) ⊎ (has x (kept.owed ++ kept.next ∷ []) ≡ true)
       claimed_or_owed x ge lt = elim (cases_eq x kept.next) [
         | inl same ↦ inr (ap (λ y. has y (kept.owed ++ kept.next ∷ [])) same ∙ has-last kept.owed kept.next)
         | inr other ↦ elim (keeps.claimed x ge (omega arith)) [
@@ -70,8 +71,8 @@ module _ (start : Start) (kept : Kept Said) (keeps : KeepsTree start kept) where
         ]
       ]
 
-pub claims_keep : (start : Start) (kept : Kept Said) (n : ℕ) → KeepsTree start kept → AreZero kept n → KeepsTree start (claimed n kept)
-claims_keep start kept zero keeps zeros = keeps
-claims_keep start kept (suc n) keeps zeros = claims_keep start (record kept { next = kept.next + 1; owed = kept.owed ++ kept.next ∷ [] }) n
-    (claim_keeps start kept keeps (omega (arith, zeros.there)) (free_at start kept keeps kept.next (omega (arith, zeros.there)) (λ i. zeros.zero kept.next i (omega arith) (omega arith))))
+pub claims_keep : (L : Layout) (laws : IsLayout L) (start : Start) (kept : Kept Said) (n : ℕ) → KeepsTree L start kept → AreZero kept n → KeepsTree L start (claimed n kept)
+claims_keep L laws start kept zero keeps zeros = keeps
+claims_keep L laws start kept (suc n) keeps zeros = claims_keep L laws start (record kept { next = kept.next + 1; owed = kept.owed ++ kept.next ∷ [] }) n
+    (claim_keeps L laws start kept keeps (omega (arith, zeros.there)) (free_at L laws start kept keeps kept.next (omega (arith, zeros.there)) (λ i. zeros.zero kept.next i (omega arith) (omega arith))))
     (record { there = omega (arith, zeros.there); zero = λ p i ge lt. zeros.zero p i (omega (arith, ge)) (omega (arith, lt)) })

@@ -1,76 +1,88 @@
 -- The halves of a full node.
-use Rattle.std.proofs.Common.{◌≡◌, ◌≢◌, ℕ, ◌+◌, ◌*◌, ◌-◌, ◌<◌, ◌≤◌, List, [], ◌∷◌, ◌++◌, length, take, drop, true, if◌then◌else◌, sym, ap, subst, arith, length-take, length-drop, lit<}
+use Rattle.std.proofs.Common.{◌≡◌, ◌≢◌, ℕ, ◌+◌, ◌*◌, ◌-◌, ◌<◌, ◌≤◌, List, [], ◌∷◌, ◌++◌, length, take, drop, Bool, true, false, if◌then◌else◌, refl, sym, ap, ◌∙◌, subst, arith, length-take}
 use Rattle.std.proofs.lemmas.List.{take-append-drop, drop_more}
 use Rattle.std.proofs.lemmas.Bool.Decides.{nat_tests}
 use Rattle.vm_map.specs.Map.{Pairs, Rises, StartsAt}
+use Rattle.vm_tree_model.specs.Layout.{Layout, IsLayout, IsClean, IsFullNode, PaysForSplit, cut, weight}
 use Rattle.vm_tree_model.specs.Node.{Node, IsNode}
 use Rattle.vm_tree_model.specs.Page.{pairs_of, node_of}
 use Rattle.vm_tree_model.specs.Count.{is_node}
-use Rattle.vm_map.proofs.MapLemmas.{Rises-append}
 use Rattle.vm_tree_model.proofs.Load.{load_of}
+use Rattle.vm_map.proofs.MapLemmas.{Rises-append}
 use Rattle.vm_tree_model.specs.Edits.{IsSplit}
 
 -- no node by its tag
 abbrev pub IsOther : Node → Type 0
 IsOther n = (n.tag ≢ 2) × (n.tag ≢ 3)
 
-node_test : (w : List ℕ) → IsNode (node_of w) → is_node w ≡ true
-node_test w is = grind (arith, nat_tests, is.0, is.1)
+node_test : (L : Layout) (w : List ℕ) → IsNode (node_of L w) → is_node L w ≡ true
+node_test L w is = grind (arith, nat_tests, is.0, is.1)
 
 -- 1 for a node
-abbrev pub counted : List ℕ → ℕ
-counted w = if is_node w then 1 else 0
+abbrev pub counted : Layout → List ℕ → ℕ
+counted L w = if (is_node L) w then 1 else 0
 
-pub counted_node : (w : List ℕ) → IsNode (node_of w) → counted w ≡ 1
-counted_node w is = let test = node_test w is in grind (arith, nat_tests, test)
+-- what is chosen by a test
+chosen : (b : Bool) (x : ℕ) → b ≡ true → (if b then x else 0) ≡ x
+chosen true x is = refl
+chosen false x is = absurd (cc)
 
-pub counted_other : (w : List ℕ) → IsOther (node_of w) → counted w ≡ 0
-counted_other w other = grind (arith, nat_tests, other.0, other.1)
+left_out : (b : Bool) (x : ℕ) → b ≡ false → (if b then x else 0) ≡ 0
+left_out true x is = absurd (cc)
+left_out false x is = refl
 
-pub load_other : (w : List ℕ) → IsOther (node_of w) → load_of w ≡ 0
-load_other w other = grind (arith, nat_tests, other.0, other.1)
+other_test : (L : Layout) (w : List ℕ) → IsOther (node_of L w) → is_node L w ≡ false
+other_test L w other = let not_two = other.0 in let not_three = other.1 in grind (arith, nat_tests, not_two, not_three)
 
-pub load_at : (w : List ℕ) → IsNode (node_of w) → load_of w ≡ 13 + 2 * (length (pairs_of w) - 14)
-load_at w is = let test = node_test w is in grind (arith, nat_tests, test)
+pub counted_node : (L : Layout) (w : List ℕ) → IsNode (node_of L w) → counted L w ≡ 1
+counted_node L w is = chosen (is_node L w) 1 (node_test L w is)
 
-module _ (old new right : List ℕ) (separator : ℕ) (full : length (pairs_of old) ≡ 28) (split : IsSplit old new right separator) where
-  pub halves : pairs_of old ≡ take 14 (pairs_of old) ++ drop 14 (pairs_of old)
-  halves = sym (take-append-drop 14 (pairs_of old))
+pub counted_other : (L : Layout) (w : List ℕ) → IsOther (node_of L w) → counted L w ≡ 0
+counted_other L w other = left_out (is_node L w) 1 (other_test L w other)
 
-  pub left_some : 1 ≤ length (take 14 (pairs_of old))
-  left_some = omega (arith, length-take 14 (pairs_of old), full)
+pub load_other : (L : Layout) (w : List ℕ) → IsOther (node_of L w) → load_of L w ≡ 0
+load_other L w other = left_out (is_node L w) (weight L (node_of L w)) (other_test L w other)
 
-  pub starts : StartsAt separator (drop 14 (pairs_of old))
-  starts = subst (λ (l : Pairs). StartsAt separator l) (sym (drop_more (pairs_of old) 14 (0, 0) (rw full (lit< tt)))) split.separates
+pub load_at : (L : Layout) (w : List ℕ) → IsNode (node_of L w) → load_of L w ≡ weight L (node_of L w)
+load_at L w is = chosen (is_node L w) (weight L (node_of L w)) (node_test L w is)
+
+module _ (L : Layout) (laws : IsLayout L) (old new right : List ℕ) (separator : ℕ) (clean : IsClean L old) (full : IsFullNode L (node_of L old)) (split : IsSplit L old new right separator) where
+  pays : PaysForSplit L (node_of L old) separator
+  pays = laws.splits (node_of L old) separator (laws.clean_fits old clean) full
+
+  pub halves : pairs_of L old ≡ take (cut L (pairs_of L old)) (pairs_of L old) ++ drop (cut L (pairs_of L old)) (pairs_of L old)
+  halves = sym (take-append-drop (cut L (pairs_of L old)) (pairs_of L old))
+
+  pub left_some : 1 ≤ length (take (cut L (pairs_of L old)) (pairs_of L old))
+  left_some = omega (arith, length-take (cut L (pairs_of L old)) (pairs_of L old), pays.left_some, pays.right_some)
+
+  pub starts : StartsAt separator (drop (cut L (pairs_of L old)) (pairs_of L old))
+  starts = subst (λ (l : Pairs). StartsAt separator l) (sym (drop_more (pairs_of L old) (cut L (pairs_of L old)) (0, 0) pays.right_some)) split.separates
 
   -- some key lies below the separator
-  pub separator_above : (low high : ℕ) → Rises low high (pairs_of old) → 0 < separator
-  separator_above low high rises = first (take 14 (pairs_of old)) (Rises-append _ (drop 14 (pairs_of old)) low separator high (rw halves at rises) starts).0 left_some
+  pub separator_above : (low high : ℕ) → Rises low high (pairs_of L old) → 0 < separator
+  separator_above low high rises = first (take (cut L (pairs_of L old)) (pairs_of L old)) (Rises-append _ (drop (cut L (pairs_of L old)) (pairs_of L old)) low separator high (rw halves at rises) starts).0 left_some
     where
       first : (a : Pairs) → Rises low separator a → 1 ≤ length a → 0 < separator
       first [] r some = absurd (omega arith)
       first (e ∷ es) r some = omega (arith, r.1)
 
-  left_tag : (node_of new).tag ≡ (node_of old).tag
+  left_tag : (node_of L new).tag ≡ (node_of L old).tag
   left_tag = ap (λ (n : Node). n.tag) split.left_is
 
-  right_tag : (node_of right).tag ≡ (node_of old).tag
+  right_tag : (node_of L right).tag ≡ (node_of L old).tag
   right_tag = ap (λ (n : Node). n.tag) split.right_is
 
-  pub left_node : IsNode (node_of old) → IsNode (node_of new)
+  pub left_node : IsNode (node_of L old) → IsNode (node_of L new)
   left_node is = (omega (arith, is.0, left_tag), omega (arith, is.1, left_tag))
 
-  pub right_node : IsNode (node_of old) → IsNode (node_of right)
+  pub right_node : IsNode (node_of L old) → IsNode (node_of L right)
   right_node is = (omega (arith, is.0, right_tag), omega (arith, is.1, right_tag))
 
-  -- 41 becomes 13 and 13
-  pub old_load : IsNode (node_of old) → load_of old ≡ 41
-  old_load is = omega (arith, load_at old is, full)
-
-  pub left_load : IsNode (node_of old) → load_of new ≡ 13
-  left_load is = let pairs : length (pairs_of new) ≡ length (take 14 (pairs_of old)) = ap (λ (n : Node). length n.pairs) split.left_is in
-      omega (arith, load_at new (left_node is), pairs, length-take 14 (pairs_of old), full)
-
-  pub right_load : IsNode (node_of old) → load_of right ≡ 13
-  right_load is = let pairs : length (pairs_of right) ≡ length (drop 14 (pairs_of old)) = ap (λ (n : Node). length n.pairs) split.right_is in
-      omega (arith, load_at right (right_node is), pairs, length-drop 14 (pairs_of old), full)
+  -- the node's weight pays for both halves and for the parent's pair, or for both halves and a new root
+  pub half_loads : IsNode (node_of L old) → (load_of L new + load_of L right + L.excess_weight * L.growth ≤ load_of L old) × (load_of L new + load_of L right + L.node_weight ≤ load_of L old)
+  half_loads is =
+      let left = load_at L new (left_node is) ∙ ap (weight L) split.left_is in
+      let other = load_at L right (right_node is) ∙ ap (weight L) split.right_is in
+      let whole = load_at L old is in
+      (omega (arith, left, other, whole, pays.below), omega (arith, left, other, whole, pays.above))

@@ -1,5 +1,6 @@
 -- What the tree keeps of a history that grows by an entry.
 use Rattle.std.proofs.Common.{◌≡◌, ◌+◌, List, [], ◌∷◌, ◌++◌, refl, sym, ap, ◌∙◌, arith}
+use Rattle.vm_tree_model.specs.Layout.{Layout}
 use Rattle.vm_map.specs.Map.{Pairs}
 use Rattle.vm_map.specs.History.{IsReply, after, AreReplies, after_all}
 use Rattle.vm_map.specs.declared.call.Said.{Said}
@@ -27,14 +28,14 @@ news-push : (h : List (Entry Said)) (e : Entry Said) → news (h ++ e ∷ []) �
 news-push [] e = omega arith
 news-push (f ∷ h) e = omega (arith, news-push h e)
 
-module _ (start : Start) (kept : Kept Said) (keeps : KeepsTree start kept) (e : Entry Said) (call : Call) (reply : Reply) (is : e.said ≡ record { call = call; reply = reply }) where
-  pub legal_after : e.count ≡ entries_under e.number kept.history + 1 → IsReply (map_of kept.pages) call reply → IsLegal (map_of start.pages) (kept.history ++ e ∷ [])
+module _ (L : Layout) (start : Start) (kept : Kept Said) (keeps : KeepsTree L start kept) (e : Entry Said) (call : Call) (reply : Reply) (is : e.said ≡ record { call = call; reply = reply }) where
+  pub legal_after : e.count ≡ entries_under e.number kept.history + 1 → IsReply (map_of L kept.pages) call reply → IsLegal (map_of L start.pages) (kept.history ++ e ∷ [])
   legal_after turn right = legal_push _ kept.history e keeps.legal (rw is (rw keeps.contents at right)) turn
 
-  pub map_after : (m : Pairs) → m ≡ after (map_of kept.pages) call → m ≡ after_all (map_of start.pages) (saids (kept.history ++ e ∷ []))
+  pub map_after : (m : Pairs) → m ≡ after (map_of L kept.pages) call → m ≡ after_all (map_of L start.pages) (saids (kept.history ++ e ∷ []))
   map_after m to = to ∙ ap (λ (x : Pairs). after x call) keeps.contents
-      ∙ ap (λ (s : Said). after (after_all (map_of start.pages) (saids kept.history)) s.call) (sym is)
-      ∙ sym (after_all-push (map_of start.pages) kept.history e)
+      ∙ ap (λ (s : Said). after (after_all (map_of L start.pages) (saids kept.history)) s.call) (sym is)
+      ∙ sym (after_all-push (map_of L start.pages) kept.history e)
 
   pub news_after : news (kept.history ++ e ∷ []) ≡ news kept.history + is_new call reply
   news_after = news-push kept.history e ∙ ap (λ (s : Said). news kept.history + is_new s.call s.reply) is

@@ -1,5 +1,7 @@
 -- The entry that a validated leaf proves keeps what the tree keeps.
-use Rattle.std.proofs.Common.{◌≡◌, ℕ, min, ◌+◌, ◌^◌, [], ◌∷◌, refl, sym, ◌∙◌, arith}
+use Rattle.std.proofs.Common.{◌≡◌, ◌≤◌, ℕ, min, ◌+◌, ◌*◌, [], ◌∷◌, refl, sym, ◌∙◌, arith}
+use Rattle.std.proofs.Math.Nat.{mul-add}
+use Rattle.vm_tree_model.specs.Layout.{Layout, IsLayout}
 use Rattle.vm_map.specs.Map.{Rises}
 use Rattle.vm_tree_model.specs.Tree.{page_at, node_at, IsLeafAt, map_of}
 use Rattle.vm_map.proofs.MapLemmas.{Rises-from, Rises-to}
@@ -19,31 +21,35 @@ use Rattle.vm_tree_laws.specs.May.{IsProved}
 use Rattle.vm_tree_laws.proofs.WindowPages.{between-map_of}
 use Rattle.vm_tree_laws.proofs.Histories.{legal_after, map_after, news_after}
 
-module _ (start : Start) (kept : Kept Said) (keeps : KeepsTree start kept) (p : ℕ) (at : IsLeafAt kept.pages p) (e : Entry Said) (turn : e.count ≡ entries_under e.number kept.history + 1) where
-  told_keeps : (call : Call) (reply : Reply) → e.said ≡ record { call = call; reply = reply } → IsReply (map_of kept.pages) call reply → map_of kept.pages ≡ after (map_of kept.pages) call → KeepsTree start (told (e ∷ []) kept)
+-- a further put adds to what may be weighed
+more_room : (each a b c l k : ℕ) → a ≡ b + c → l ≤ k + each * b → l ≤ k + each * a
+more_room each a b c l k is le = rw (is, mul-add each b c) (omega (arith, le))
+
+module _ (L : Layout) (laws : IsLayout L) (start : Start) (kept : Kept Said) (keeps : KeepsTree L start kept) (p : ℕ) (at : IsLeafAt L kept.pages p) (e : Entry Said) (turn : e.count ≡ entries_under e.number kept.history + 1) where
+  told_keeps : (call : Call) (reply : Reply) → e.said ≡ record { call = call; reply = reply } → IsReply (map_of L kept.pages) call reply → map_of L kept.pages ≡ after (map_of L kept.pages) call → KeepsTree L start (told (e ∷ []) kept)
   told_keeps call reply is right same = record {
     same_count = keeps.same_count;
     tree = keeps.tree;
     parted = keeps.parted;
-    contents = map_after start kept keeps e call reply is _ same;
-    legal = legal_after start kept keeps e call reply is turn right;
+    contents = map_after L start kept keeps e call reply is _ same;
+    legal = legal_after L start kept keeps e call reply is turn right;
     risen = keeps.risen;
     bounded = keeps.bounded;
     claimed = keeps.claimed;
     owed = record { apart = keeps.owed.apart; range = keeps.owed.range; free = keeps.owed.free };
     count = keeps.count;
-    room = omega (arith, news_after start kept keeps e call reply is, keeps.room);
+    room = more_room (L.excess_weight * L.growth) _ _ _ _ _ (news_after L start kept keeps e call reply is) keeps.room;
   }
 
-  rises : Rises 0 (2 ^ 64) (node_at kept.pages p).pairs
-  rises = Rises-to _ 0 _ (2 ^ 64) (Rises-from _ _ 0 _ (keeps.tree.tree.leaf p at.2).rises (omega arith)) (high_le kept.pages keeps.tree p at)
+  rises : Rises 0 L.key_end (node_at L kept.pages p).pairs
+  rises = Rises-to _ 0 _ L.key_end (Rises-from _ _ 0 _ (keeps.tree.tree.leaf p at.2).rises (omega arith)) (high_le L laws kept.pages keeps.tree p at)
 
-  pub read_keeps : (call : Call) (reply : Reply) → e.said ≡ record { call = call; reply = reply } → IsProved (page_at kept.pages p) call reply → KeepsTree start (told (e ∷ []) kept)
-  read_keeps (Get k) (Got found) is (covers, found_is) = told_keeps (Get k) (Got found) is (found_is ∙ sym (lookup-map_of kept.pages keeps.tree p k at covers)) refl
+  pub read_keeps : (call : Call) (reply : Reply) → e.said ≡ record { call = call; reply = reply } → IsProved L (page_at kept.pages p) call reply → KeepsTree L start (told (e ∷ []) kept)
+  read_keeps (Get k) (Got found) is (covers, found_is) = told_keeps (Get k) (Got found) is (found_is ∙ sym (lookup-map_of L laws kept.pages keeps.tree p k at covers)) refl
   read_keeps (Del k) (Gone was) is (covers, was_is, none) =
-      let none_there = lookup-map_of kept.pages keeps.tree p k at covers ∙ none in
-      told_keeps (Del k) (Gone was) is (was_is ∙ sym none_there) (sym (del-none (map_of kept.pages) k none_there))
+      let none_there = lookup-map_of L laws kept.pages keeps.tree p k at covers ∙ none in
+      told_keeps (Del k) (Gone was) is (was_is ∙ sym none_there) (sym (del-none (map_of L kept.pages) k none_there))
   read_keeps (Window from most) (Win window) is (covers, some, is_window) =
       let (above, within, shows, few) = window_replies _ _ _ from (min most 28) window (keeps.tree.tree.leaf p at.2).rises covers.1 (omega (arith, some)) is_window in
-      told_keeps (Window from most) (Win window) is (above, shows ∙ sym (between-map_of kept.pages keeps.tree p from (bound_of window.bound) at covers.0 within rises), omega (arith, few)) refl
+      told_keeps (Window from most) (Win window) is (above, shows ∙ sym (between-map_of L laws kept.pages keeps.tree p from (bound_of window.bound) at covers.0 within rises), omega (arith, few)) refl
   read_keeps _ _ is proved = absurd proved

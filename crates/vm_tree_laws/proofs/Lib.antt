@@ -2,6 +2,7 @@ pub mod Histories
 pub mod Ties
 pub mod Nodes
 pub mod LeafReleases
+pub mod Weights
 pub mod WindowPages
 pub mod LeafReads
 pub mod Claims
@@ -17,3 +18,5 @@ pub mod Established
 pub mod SamplePages
 pub mod LeafSamples
 pub mod SplitSamples
+pub mod Plainly
+pub mod LargeSamples

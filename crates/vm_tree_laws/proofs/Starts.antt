@@ -1,33 +1,58 @@
 -- An image that is a tree meets what the tree keeps, with an empty history.
-use Rattle.std.proofs.Common.{ℕ, ◌-◌, ◌*◌, ◌≤◌, List, [], ◌∷◌, length, min, get_or, if◌then◌else◌, refl, arith, length-take}
+use Rattle.std.proofs.Common.{◌≡◌, ℕ, zero, suc, ◌+◌, ◌-◌, ◌*◌, ◌<◌, ◌≤◌, inl, inr, List, [], ◌∷◌, length, ◌==◌, ◌||◌, Bool, true, false, if◌then◌else◌, refl, arith}
 use Rattle.std.proofs.lemmas.List.Sums.{sum_by-cons}
-use Rattle.std.proofs.lemmas.Bool.Decides.{nat_tests}
-use Rattle.vm_tree_model.specs.Page.{pairs_of, places}
-use Rattle.vm_tree_model.specs.Tree.{IsTree}
-use Rattle.vm_tree_model.specs.Count.{is_node, node_count, excess}
+use Rattle.std.proofs.lemmas.Bool.{eqb-true, or_cases}
+use Rattle.std.proofs.Math.Nat.{mul-add, mul-le-mul_left}
+use Rattle.vm_tree_model.specs.Node.{IsNode}
+use Rattle.vm_tree_model.specs.Layout.{Layout, IsLayout, size, weight}
+use Rattle.vm_tree_model.specs.Tree.{page_at, node_at, IsTree}
+use Rattle.vm_tree_model.specs.Count.{is_node, node_count}
+use Rattle.vm_tree_model.proofs.Load.{load_of, load, load_is}
 use Rattle.vm_tree_model.proofs.Laws.{parted_leaves}
 use Rattle.vm_owner.specs.Kept.{Start, first_kept}
-use Rattle.vm_tree_laws.specs.Keeps.{KeepsTree}
+use Rattle.vm_tree_laws.specs.Keeps.{KeepsTree, full_weight}
+use Rattle.vm_tree_laws.proofs.Ties.{kind_of}
 
--- a page has at most 28 pairs, so 14 above 14
-excess_le : (pages : List (List ℕ)) → excess pages ≤ 14 * node_count pages
-excess_le [] = omega arith
-excess_le (w ∷ ws) =
-    let few : length (pairs_of w) ≤ 28 = omega (arith, length-take (min (get_or w 1 0) 28) (places w)) in
-    let one : (if is_node w then length (pairs_of w) - 14 else 0) ≤ 14 * (if is_node w then 1 else 0) = grind (arith, nat_tests, few) in
-    omega (arith, one, excess_le ws, sum_by-cons (λ (w : List ℕ). if is_node w then 1 else 0) w ws, sum_by-cons (λ (w : List ℕ). if is_node w then length (pairs_of w) - 14 else 0) w ws)
+module _ (L : Layout) where
+  node_tells : (w : List ℕ) → is_node L w ≡ true → IsNode (L.node_of w)
+  node_tells w is = elim (or_cases ((L.node_of w).tag == 2) ((L.node_of w).tag == 3) is) [
+    | inl two ↦ let tag : (L.node_of w).tag ≡ 2 = eqb-true (L.node_of w).tag 2 two in (omega (arith, tag), omega (arith, tag))
+    | inr three ↦ let tag : (L.node_of w).tag ≡ 3 = eqb-true (L.node_of w).tag 3 three in (omega (arith, tag), omega (arith, tag))
+  ]
 
-pub start_keeps : (start : Start) → IsTree start.pages → start.next ≤ length start.pages → KeepsTree start (first_kept start)
-start_keeps start tree bounded = record {
-  same_count = refl;
-  tree = tree;
-  parted = parted_leaves start.pages tree;
-  contents = refl;
-  legal = record { replies = tt; counted = tt };
-  risen = omega arith;
-  bounded = bounded;
-  claimed = λ p ge lt. absurd (omega arith);
-  owed = record { apart = tt; range = λ p some. absurd (cc); free = λ p some. absurd (cc) };
-  count = omega arith;
-  room = omega (arith, excess_le start.pages);
-}
+  one_page : (w : List ℕ) (is : Bool) → (is ≡ true → size L (L.node_of w) ≤ L.room) → (if is then weight L (L.node_of w) else 0) ≤ full_weight L * (if is then 1 else 0)
+  one_page w true fits =
+      let more : L.excess_weight * (size L (L.node_of w) - L.base) ≤ L.excess_weight * (L.room - L.base) = mul-le-mul_left L.excess_weight (let le = fits refl in omega (arith, le)) in
+      let one : full_weight L * 1 ≡ full_weight L = omega arith in
+      rw one (omega (arith, more))
+  one_page w false fits = omega arith
+
+  -- nodes that fit weigh no more than full ones
+  fitting : (pages : List (List ℕ)) → ((p : ℕ) → IsNode (node_at L pages p) → size L (node_at L pages p) ≤ L.room) → load L pages ≤ full_weight L * node_count L pages
+  fitting [] fits = omega arith
+  fitting (w ∷ ws) fits =
+      let here = one_page w (is_node L w) (λ is. fits 0 (node_tells w is)) in
+      let rest = fitting ws (λ p is. fits (suc p) is) in
+      rw (sum_by-cons (load_of L) w ws, sum_by-cons (λ (w : List ℕ). if is_node L w then 1 else 0) w ws, mul-add (full_weight L) (if is_node L w then 1 else 0) (node_count L ws)) (omega (arith, here, rest))
+
+module _ (L : Layout) (laws : IsLayout L) where
+  pub start_keeps : (start : Start) → IsTree L start.pages → start.next ≤ length start.pages → KeepsTree L start (first_kept start)
+  start_keeps start tree bounded = record {
+    same_count = refl;
+    tree = tree;
+    parted = parted_leaves L laws start.pages tree;
+    contents = refl;
+    legal = record { replies = tt; counted = tt };
+    risen = omega arith;
+    bounded = bounded;
+    claimed = λ p ge lt. absurd (omega arith);
+    owed = record { apart = tt; range = λ p some. absurd (cc); free = λ p some. absurd (cc) };
+    count = omega arith;
+    room = (let le = fitting L start.pages fits in omega (arith, le, load_is L start.pages));
+  }
+    where
+      fits : (p : ℕ) → IsNode (node_at L start.pages p) → size L (node_at L start.pages p) ≤ L.room
+      fits p is = elim (kind_of L laws start.pages tree p is) [
+        | inl leaf ↦ laws.clean_fits _ leaf.clean
+        | inr inner ↦ laws.clean_fits _ inner.clean
+      ]

@@ -3,3 +3,4 @@ pub mod Keeps
 pub mod May
 pub mod Tied
 pub mod Descent
+pub mod Plain

@@ -6,6 +6,7 @@ ghost use Rattle.vm_map.specs.declared.call.Call.TheVariants.{Get, Put, Del, Win
 ghost use Rattle.vm_map.specs.declared.call.Reply.TheVariants.{Got, Was, Gone, Win};
 ghost use Rattle.vm_map.specs.declared.window.Window.{Window};
 ghost use Rattle.vm_map.specs.Windows.{IsWindow};
+ghost use Rattle.vm_tree_model.specs.Layout.{Layout, size, IsFullNode};
 ghost use Rattle.vm_tree_model.specs.Node.{Covers};
 ghost use Rattle.vm_tree_model.specs.Page.{pairs_of, node_of, IsInner};
 ghost use Rattle.vm_tree_model.specs.Edits.{child_of, PutsInLeaf, IsLeafWith, AddsPair, IsSplit, IsNewRoot};
@@ -18,63 +19,66 @@ use vm_map::window::MOST_PAIRS;
 /// A leaf may be released after a put at a key that it covers, whether or not it had the key.
 #[tactic(auto, using(crate::proofs::Established::may_put))]
 pub fn may_put()
-    ensures { (start : Start) (due : List ℕ) (leaf : Change) (number count key : ℕ) → (node_of leaf.old).tag ≡ 2 → Covers (node_of leaf.old) key
-        → (value : ℕ) (was : Option ℕ) → PutsInLeaf leaf.old leaf.new key value was
-        → MayRelease start due (leaf ∷ []) (entry number count (Put key value) (Was was)) }
+    ensures { (L : Layout) (start : Start) (due : List ℕ) (leaf : Change) (number count key : ℕ) → (node_of L leaf.old).tag ≡ 2
+        → Covers (node_of L leaf.old) key
+        → (value : ℕ) (was : Option ℕ) → PutsInLeaf L leaf.old leaf.new key value was
+        → MayRelease L start due (leaf ∷ []) (entry number count (Put key value) (Was was)) }
 {}
 
 /// A leaf may be released after a del at a key that it covers, whether or not it had the key.
 #[tactic(auto, using(crate::proofs::Established::may_del))]
 pub fn may_del()
-    ensures { (start : Start) (due : List ℕ) (leaf : Change) (number count key : ℕ) → (node_of leaf.old).tag ≡ 2 → Covers (node_of leaf.old) key
-        → (was : Option ℕ) → was ≡ lookup_at (pairs_of leaf.old) key → IsLeafWith leaf.old leaf.new (del_pair (pairs_of leaf.old) key)
-        → MayRelease start due (leaf ∷ []) (entry number count (Del key) (Gone was)) }
+    ensures { (L : Layout) (start : Start) (due : List ℕ) (leaf : Change) (number count key : ℕ) → (node_of L leaf.old).tag ≡ 2
+        → Covers (node_of L leaf.old) key
+        → (was : Option ℕ) → was ≡ lookup_at (pairs_of L leaf.old) key → IsLeafWith L leaf.old leaf.new (del_pair (pairs_of L leaf.old) key)
+        → MayRelease L start due (leaf ∷ []) (entry number count (Del key) (Gone was)) }
 {}
 
 /// A full node below the root may be released after a split, together with its parent, which has room and which the descent of some key
 /// left for this node, and with the sibling.
 pub fn may_split()
-    ensures { (start : Start) (due : List ℕ) (parent node sibling : Change) (key separator : ℕ)
-        → IsInner parent.old → Covers (node_of parent.old) key → child_of parent.old key ≡ Some node.page
-        → length (pairs_of parent.old) < MOST_PAIRS → length (pairs_of node.old) ≡ MOST_PAIRS
-        → IsSplit node.old node.new sibling.new separator → AddsPair parent.old parent.new separator sibling.page
+    ensures { (L : Layout) (start : Start) (due : List ℕ) (parent node sibling : Change) (key separator : ℕ)
+        → IsInner L parent.old → Covers (node_of L parent.old) key → child_of L parent.old key ≡ Some node.page
+        → size L (node_of L parent.old) + L.growth ≤ L.room → IsFullNode L (node_of L node.old)
+        → IsSplit L node.old node.new sibling.new separator → AddsPair L parent.old parent.new separator sibling.page
         → has sibling.page due ≡ true
-        → MayRelease start due (parent ∷ node ∷ sibling ∷ []) [] }
+        → MayRelease L start due (parent ∷ node ∷ sibling ∷ []) [] }
 {}
 
 /// The full root may be released after a split, together with page 0, which gets the new root's number and the next height, and with
 /// the sibling and the new root.
 #[tactic(auto, using(crate::proofs::Established::may_split_root))]
 pub fn may_split_root()
-    ensures { (start : Start) (due : List ℕ) (meta root sibling top : Change) (height separator : ℕ)
-        → meta.page ≡ 0 → slice_index meta.old 1 ≡ root.page → slice_index meta.old 2 ≡ height → length (pairs_of root.old) ≡ MOST_PAIRS
-        → IsSplit root.old root.new sibling.new separator → IsNewRoot top.new (height + 1) root.page separator sibling.page
+    ensures { (L : Layout) (start : Start) (due : List ℕ) (meta root sibling top : Change) (height separator : ℕ)
+        → meta.page ≡ 0 → slice_index meta.old 1 ≡ root.page → slice_index meta.old 2 ≡ height → IsFullNode L (node_of L root.old)
+        → IsSplit L root.old root.new sibling.new separator → IsNewRoot L top.new (height + 1) root.page separator sibling.page
         → meta.new ≡ slice_set (slice_set meta.old 1 top.page) 2 (height + 1)
         → has sibling.page due ≡ true → has top.page due ≡ true
-        → MayRelease start due (meta ∷ root ∷ sibling ∷ top ∷ []) [] }
+        → MayRelease L start due (meta ∷ root ∷ sibling ∷ top ∷ []) [] }
 {}
 
 /// A leaf that covers the key proves a get.
 #[tactic(auto, using(crate::proofs::Established::may_get))]
 pub fn may_get()
-    ensures { (start : Start) (p number count : ℕ) (words : List ℕ) → (node_of words).tag ≡ 2 → (key : ℕ) → Covers (node_of words) key
-        → (found : Option ℕ) → ((low high : ℕ) → Rises low high (pairs_of words) → found ≡ lookup_at (pairs_of words) key)
-        → MayRead start p words (entry number count (Get key) (Got found)) }
+    ensures { (L : Layout) (start : Start) (p number count : ℕ) (words : List ℕ) → (node_of L words).tag ≡ 2 → (key : ℕ) → Covers (node_of L words) key
+        → (found : Option ℕ) → ((low high : ℕ) → Rises low high (pairs_of L words) → found ≡ lookup_at (pairs_of L words) key)
+        → MayRead L start p words (entry number count (Get key) (Got found)) }
 {}
 
 /// A leaf that covers the key and lacks it proves a del.
 #[tactic(auto, using(crate::proofs::Established::may_miss))]
 pub fn may_miss()
-    ensures { (start : Start) (p number count : ℕ) (words : List ℕ) → (node_of words).tag ≡ 2 → (key : ℕ) → Covers (node_of words) key
-        → ((low high : ℕ) → Rises low high (pairs_of words) → lookup_at (pairs_of words) key ≡ None)
-        → MayRead start p words (entry number count (Del key) (Gone None)) }
+    ensures { (L : Layout) (start : Start) (p number count : ℕ) (words : List ℕ) → (node_of L words).tag ≡ 2 → (key : ℕ) → Covers (node_of L words) key
+        → ((low high : ℕ) → Rises low high (pairs_of L words) → lookup_at (pairs_of L words) key ≡ None)
+        → MayRead L start p words (entry number count (Del key) (Gone None)) }
 {}
 
 /// A leaf that covers the start proves a window of at least one pair: the leaf's first pairs from there on, at most 28, up to its next
 /// pair or its high fence.
 #[tactic(auto, using(crate::proofs::Established::may_window))]
 pub fn may_window()
-    ensures { (start : Start) (p number count : ℕ) (words : List ℕ) → (node_of words).tag ≡ 2 → (key : ℕ) → Covers (node_of words) key
-        → (most : ℕ) (window : Window) → 1 ≤ most → ((low high : ℕ) → Rises low high (pairs_of words) → IsWindow (pairs_of words) (node_of words).high key (min most MOST_PAIRS) window)
-        → MayRead start p words (entry number count (ForWindow key most) (Win window)) }
+    ensures { (L : Layout) (start : Start) (p number count : ℕ) (words : List ℕ) → (node_of L words).tag ≡ 2 → (key : ℕ) → Covers (node_of L words) key
+        → (most : ℕ) (window : Window) → 1 ≤ most → ((low high : ℕ) → Rises low high (pairs_of L words)
+        → IsWindow (pairs_of L words) (node_of L words).high key (min most MOST_PAIRS) window)
+        → MayRead L start p words (entry number count (ForWindow key most) (Win window)) }
 {}

@@ -1,17 +1,17 @@
 -- A new root stands over the old one: the first half of a split of the root.
-use Rattle.std.proofs.Common.{◌≡◌, ℕ, ◌+◌, ◌≢◌, ◌^◌, inl, inr, [], ◌∷◌, Some, refl, sym, ap, ◌∙◌, arith, lit<, lit≤}
+use Rattle.std.proofs.Common.{◌≡◌, ℕ, ◌+◌, ◌≤◌, ◌≢◌, inl, inr, [], ◌∷◌, Some, refl, sym, ap, ◌∙◌, arith, lit≤}
 use Rattle.std.proofs.lemmas.Bool.{cases_eq}
 use Rattle.std.proofs.lemmas.Bool.Decides.{nat_tests}
 use Rattle.vm_map.specs.Map.{Pairs, lookup_at}
 use Rattle.vm_tree_model.specs.Node.{Node, IsNode, Names, IsTreeOf}
 
 -- free page s becomes an inner node with the old root as its one child
-pub record IsGrowStep (old new : ℕ → Node) (root height s : ℕ) : Type 0 where
+pub record IsGrowStep (end : ℕ) (old new : ℕ → Node) (root height s : ℕ) : Type 0 where
   pub free : (old s).tag ≡ 0
-  pub top : new s ≡ record { tag = 3; level = height + 1; low = 0; high = 2 ^ 64; pairs = (0, root) ∷ [] }
+  pub top : new s ≡ record { tag = 3; level = height + 1; low = 0; high = end; pairs = (0, root) ∷ [] }
   pub others : (x : ℕ) → x ≢ s → new x ≡ old x
 
-module _ (old new : ℕ → Node) (root height s : ℕ) (tree : IsTreeOf old root height) (step : IsGrowStep old new root height s) where
+module _ {end : ℕ} (old new : ℕ → Node) (root height s : ℕ) (tree : IsTreeOf end old root height) (step : IsGrowStep end old new root height s) (some : 1 ≤ end) where
   s_not : (c : ℕ) → IsNode (old c) → c ≢ s
   s_not c is same = omega (arith, step.free, is, ap (λ x. (old x).tag) same)
 
@@ -39,14 +39,14 @@ module _ (old new : ℕ → Node) (root height s : ℕ) (tree : IsTreeOf old roo
   root_ne : root ≢ s
   root_ne = s_not root tree.root_is
 
-  pub grow_tree : IsTreeOf new s (height + 1)
+  pub grow_tree : IsTreeOf end new s (height + 1)
   grow_tree = record {
     leaf = λ p tag. elim (cases_eq p s) [
       | inl e ↦ absurd (top_leaf (rw e at tag))
       | inr ne ↦ rw (step.others p ne) (tree.leaf p (rw (step.others p ne) at tag))
     ];
     inner = λ p tag. elim (cases_eq p s) [
-      | inl e ↦ rw e (rw step.top (record { tag = refl; level = omega arith; rises = (omega arith, lit< tt, tt); fits = lit≤ tt; starts = refl }))
+      | inl e ↦ rw e (rw step.top (record { tag = refl; level = omega arith; rises = (omega arith, omega (arith, some), tt); starts = refl }))
       | inr ne ↦ rw (step.others p ne) (tree.inner p (rw (step.others p ne) at tag))
     ];
     root_is = rw step.top (lit≤ tt, lit≤ tt);

@@ -19,7 +19,7 @@ pub record IsSameSpan (a b : Node) : Type 0 where
   pub low : b.low ≡ a.low
   pub high : b.high ≡ a.high
 
-module _ (old new : ℕ → Node) (root height p : ℕ) (tree : IsTreeOf old root height) (step : IsLeafStep old new p) where
+module _ {end : ℕ} (old new : ℕ → Node) (root height p : ℕ) (tree : IsTreeOf end old root height) (step : IsLeafStep old new p) where
   span : (q : ℕ) → IsSameSpan (old q) (new q)
   span q = elim (cases_eq q p) [
     | inl same ↦ subst (λ x. IsSameSpan (old x) (new x)) (sym same) (record { tag = step.leaf.tag ∙ sym step.was; level = step.leaf.level ∙ sym (tree.leaf p step.was).level; low = step.low; high = step.high })
@@ -39,7 +39,7 @@ module _ (old new : ℕ → Node) (root height p : ℕ) (tree : IsTreeOf old roo
   node_same : (c : ℕ) → IsNode (old c) → IsNode (new c)
   node_same c is = rw (span c).tag is
 
-  pub leaf_step_tree : IsTreeOf new root height
+  pub leaf_step_tree : IsTreeOf end new root height
   leaf_step_tree = record {
     leaf = λ q tag. elim (cases_eq q p) [
       | inl same ↦ rw same step.leaf

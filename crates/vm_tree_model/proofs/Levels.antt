@@ -5,7 +5,7 @@ use Rattle.vm_map.specs.Map.{floor_pair}
 use Rattle.vm_tree_model.specs.Node.{Node, Covers, IsNode, Names, IsTreeOf, IsPartedAt}
 use Rattle.vm_map.proofs.MapLemmas.{found_low, next-le_high, floor_is, floor_some, floor_one}
 
-module _ (node : ℕ → Node) (root height : ℕ) (tree : IsTreeOf node root height) where
+module _ {end : ℕ} (node : ℕ → Node) (root height : ℕ) (tree : IsTreeOf end node root height) where
   -- a child's fences lie in its parent's
   pub child_within : (q k c key : ℕ) → Names node q k c → Covers (node c) key → Covers (node q) key
   child_within q k c key named covers =
@@ -75,7 +75,7 @@ module _ (node : ℕ → Node) (root height : ℕ) (tree : IsTreeOf node root he
         child_one pp pk qk p q key pn qn' cp cq
 
     -- some node of each level covers a key
-    pub some_at : (d level key : ℕ) → level + d ≡ height → key < 2 ^ 64 → (p : ℕ) × IsNode (node p) × ((node p).level ≡ level) × Covers (node p) key
+    pub some_at : (d level key : ℕ) → level + d ≡ height → key < end → (p : ℕ) × IsNode (node p) × ((node p).level ≡ level) × Covers (node p) key
     some_at zero level key sum lt = (root, tree.root_is, omega (arith, tree.root_level), (omega (arith, tree.root_low), rw tree.root_high lt))
     some_at (suc d) level key sum lt =
         let (p, is, at, covers) = some_at d (level + 1) key (omega arith) lt in
@@ -84,7 +84,7 @@ module _ (node : ℕ → Node) (root height : ℕ) (tree : IsTreeOf node root he
         let (k, c, found, named, below) = descent_step p key tag covers in
         (c, tree.child_is p k c named, omega (arith, tree.child_level p k c named, at), below)
 
-    pub parted : (level : ℕ) → level ≤ height → IsPartedAt node level
+    pub parted : (level : ℕ) → level ≤ height → IsPartedAt end node level
     parted level le = record {
       some = λ key lt. some_at (height - level) level key (omega arith) lt;
       one = λ key p q. one_at (height - level) level key p q (omega arith);

@@ -4,7 +4,6 @@ pub mod MapOf
 pub mod Laws
 pub mod LeafPages
 pub mod SplitLaw
-pub mod PairWords
 pub mod GrowLaw
 pub mod SameTree
 pub mod SplitPages
@@ -19,3 +18,5 @@ pub mod Height
 mod Sound
 pub mod Complete
 pub mod Theorem
+pub mod FixedLaws
+pub mod PairWords

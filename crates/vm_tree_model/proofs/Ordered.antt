@@ -3,6 +3,7 @@ use Rattle.std.proofs.Common.{◌≡◌, ℕ, ◌+◌, ◌<◌, ◌≤◌, ◌�
 use Rattle.std.proofs.lemmas.Bool.{eq-eqb, ne_eqb}
 use Rattle.std.proofs.lemmas.Bool.Decides.{nat_tests}
 use Rattle.std.proofs.lemmas.List.{append-nil}
+use Rattle.vm_tree_model.specs.Layout.{Layout}
 use Rattle.vm_map.specs.Map.{Pairs, lookup_at, Rises}
 use Rattle.vm_tree_model.specs.Node.{Covers}
 use Rattle.vm_tree_model.specs.Page.{pairs_of}
@@ -15,11 +16,11 @@ use Rattle.vm_tree_model.proofs.Slots.{Tiles, tiles_children}
 use Rattle.vm_tree_model.proofs.Linked.{Seen, seen_either}
 
 -- The slots left stand side by side from a key on; the rows rise up to it and have what the visited leaves have
-pub record Ordered (pages : List (List ℕ)) (visited : List Bool) (rows : Pairs) (slots : List Slot) (from : ℕ) : Type 0 where
-  pub tiles : Tiles from slots
+pub record Ordered (L : Layout) (pages : List (List ℕ)) (visited : List Bool) (rows : Pairs) (slots : List Slot) (from : ℕ) : Type 0 where
+  pub tiles : Tiles L.key_end from slots
   pub rows_rise : Rises 0 from rows
-  pub leaf_high : (p : ℕ) → Seen visited p → (node_at pages p).tag ≡ 2 → (node_at pages p).high ≤ from
-  pub leaf_rows : (p key : ℕ) → Seen visited p → (node_at pages p).tag ≡ 2 → Covers (node_at pages p) key → lookup_at rows key ≡ lookup_at (node_at pages p).pairs key
+  pub leaf_high : (p : ℕ) → Seen visited p → (node_at L pages p).tag ≡ 2 → (node_at L pages p).high ≤ from
+  pub leaf_rows : (p key : ℕ) → Seen visited p → (node_at L pages p).tag ≡ 2 → Covers (node_at L pages p) key → lookup_at rows key ≡ lookup_at (node_at L pages p).pairs key
 
 Rises-join : (a b : Pairs) (low mid high : ℕ) → Rises low mid a → low ≤ mid → Rises mid high b → mid ≤ high → Rises low high (a ++ b)
 Rises-join [] b low mid high ra le rb upto = Rises-from b mid low high rb le
@@ -31,8 +32,8 @@ found_left a b key none = lookup-append a b key ∙ grind (arith, none)
 found_right : (a b : Pairs) (key : ℕ) → lookup_at a key ≡ None → lookup_at (a ++ b) key ≡ lookup_at b key
 found_right a b key none = lookup-append a b key ∙ grind (arith, none)
 
-module _ (pages : List (List ℕ)) (visited : List Bool) (rows : Pairs) (s : Slot) (slots : List Slot) (from : ℕ) (inside : s.page < length visited)
-    (filled : Fills (length pages) s (page_at pages s.page)) (ordered : Ordered pages visited rows (s ∷ slots) from) where
+module _ (L : Layout) (pages : List (List ℕ)) (visited : List Bool) (rows : Pairs) (s : Slot) (slots : List Slot) (from : ℕ) (inside : s.page < length visited)
+    (filled : Fills L (length pages) s (page_at pages s.page)) (ordered : Ordered L pages visited rows (s ∷ slots) from) where
   low_is : s.low ≡ from
   low_is = ordered.tiles.0
 
@@ -40,11 +41,11 @@ module _ (pages : List (List ℕ)) (visited : List Bool) (rows : Pairs) (s : Slo
   wide = ordered.tiles.1
 
   -- a leaf's pairs come after the rows
-  leaf_step : (s.level ≡ 0) → (node_at pages s.page).tag ≡ 2 → Rises s.low s.high (pairs_of (page_at pages s.page))
-      → Ordered pages (set visited s.page true) (rows ++ leaf_part (page_at pages s.page)) (slots_below s (page_at pages s.page) ++ slots) s.high
-  leaf_step bottom tag rises = rw (part_leaf (page_at pages s.page) tag, eq-eqb s.level 0 bottom) (record {
+  leaf_step : (s.level ≡ 0) → (node_at L pages s.page).tag ≡ 2 → Rises s.low s.high (pairs_of L (page_at pages s.page))
+      → Ordered L pages (set visited s.page true) (rows ++ leaf_part L (page_at pages s.page)) (slots_below L s (page_at pages s.page) ++ slots) s.high
+  leaf_step bottom tag rises = rw (part_leaf L (page_at pages s.page) tag, eq-eqb s.level 0 bottom) (record {
     tiles = ordered.tiles.2;
-    rows_rise = Rises-join rows (pairs_of (page_at pages s.page)) 0 s.low s.high (rw low_is ordered.rows_rise) (omega arith) rises (omega (arith, wide));
+    rows_rise = Rises-join rows (pairs_of L (page_at pages s.page)) 0 s.low s.high (rw low_is ordered.rows_rise) (omega arith) rises (omega (arith, wide));
     leaf_high = λ p seen is. elim (seen_either visited s.page inside p seen) [
       | inl same ↦ rw same (omega (arith, filled.high))
       | inr old ↦ omega (arith, ordered.leaf_high p old.1 is, low_is, wide)
@@ -60,10 +61,10 @@ module _ (pages : List (List ℕ)) (visited : List Bool) (rows : Pairs) (s : Slo
   })
 
   -- an inner node's children stand in its place
-  inner_step : (s.level ≢ 0) → (node_at pages s.page).tag ≡ 3 → Tiles s.low (slots_below s (page_at pages s.page) ++ slots)
-      → Ordered pages (set visited s.page true) (rows ++ leaf_part (page_at pages s.page)) (slots_below s (page_at pages s.page) ++ slots) s.low
+  inner_step : (s.level ≢ 0) → (node_at L pages s.page).tag ≡ 3 → Tiles L.key_end s.low (slots_below L s (page_at pages s.page) ++ slots)
+      → Ordered L pages (set visited s.page true) (rows ++ leaf_part L (page_at pages s.page)) (slots_below L s (page_at pages s.page) ++ slots) s.low
   inner_step above tag tiles =
-      let none : leaf_part (page_at pages s.page) ≡ [] = grind (arith, nat_tests, tag) in
+      let none : leaf_part L (page_at pages s.page) ≡ [] = grind (arith, nat_tests, tag) in
       rw (none, append-nil rows) (record {
         tiles = tiles;
         rows_rise = rw low_is ordered.rows_rise;
@@ -78,12 +79,12 @@ module _ (pages : List (List ℕ)) (visited : List Bool) (rows : Pairs) (s : Slo
       })
 
   -- a visit of the page keeps the order
-  pub ordered_step : (next : ℕ) × Ordered pages (set visited s.page true) (rows ++ leaf_part (page_at pages s.page)) (slots_below s (page_at pages s.page) ++ slots) next
+  pub ordered_step : (next : ℕ) × Ordered L pages (set visited s.page true) (rows ++ leaf_part L (page_at pages s.page)) (slots_below L s (page_at pages s.page) ++ slots) next
   ordered_step = elim filled.kind [
     | inl leaf ↦ (s.high, leaf_step leaf.0 leaf.1.node.tag (rw (← filled.low, ← filled.high) leaf.1.node.rises))
     | inr inner ↦
         let above : s.level ≢ 0 = omega (arith, inner.0) in
         let no_zero : eqb s.level 0 ≡ false = ne_eqb s.level 0 above in
         let node = inner.1.node in
-        (s.low, inner_step above node.tag (rw no_zero (tiles_children (pairs_of (page_at pages s.page)) _ s.low s.high slots (rw (← filled.low, ← filled.high) node.rises) (rw (← filled.low) node.starts) ordered.tiles.2)))
+        (s.low, inner_step above node.tag (rw no_zero (tiles_children L.key_end (pairs_of L (page_at pages s.page)) _ s.low s.high slots (rw (← filled.low, ← filled.high) node.rises) (rw (← filled.low) node.starts) ordered.tiles.2)))
   ]

@@ -2,7 +2,7 @@
 use Rattle.std.proofs.Common.{◌≡◌, ℕ, arith}
 use Rattle.vm_tree_model.specs.Node.{Node, IsNode, Names, IsTreeOf}
 
-module _ (old new : ℕ → Node) (root height : ℕ) (tree : IsTreeOf old root height) (to : (x : ℕ) → IsNode (old x) → new x ≡ old x) (from : (x : ℕ) → IsNode (new x) → new x ≡ old x) where
+module _ {end : ℕ} (old new : ℕ → Node) (root height : ℕ) (tree : IsTreeOf end old root height) (to : (x : ℕ) → IsNode (old x) → new x ≡ old x) (from : (x : ℕ) → IsNode (new x) → new x ≡ old x) where
   of_leaf : (x : ℕ) → (new x).tag ≡ 2 → new x ≡ old x
   of_leaf x tag = from x (omega (arith, tag), omega (arith, tag))
 
@@ -21,7 +21,7 @@ module _ (old new : ℕ → Node) (root height : ℕ) (tree : IsTreeOf old root 
   of_root : new root ≡ old root
   of_root = to root tree.root_is
 
-  pub same_tree : IsTreeOf new root height
+  pub same_tree : IsTreeOf end new root height
   same_tree = record {
     leaf = λ x tag. let e = of_leaf x tag in rw e (tree.leaf x (rw e at tag));
     inner = λ x tag. let e = of_inner x tag in rw e (tree.inner x (rw e at tag));

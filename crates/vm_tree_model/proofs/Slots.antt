@@ -1,5 +1,5 @@
 -- The slots of a node's children, and what stands on a stack.
-use Rattle.std.proofs.Common.{◌≡◌, ℕ, ◌+◌, ◌^◌, ◌<◌, ◌≤◌, ◌⊎◌, inl, inr, List, [], ◌∷◌, ◌++◌, Some, refl, arith, ap, subst}
+use Rattle.std.proofs.Common.{◌≡◌, ℕ, ◌+◌, ◌<◌, ◌≤◌, ◌⊎◌, inl, inr, List, [], ◌∷◌, ◌++◌, Some, refl, arith, ap, subst}
 use Rattle.std.proofs.lemmas.Bool.{cases_eq}
 use Rattle.std.proofs.lemmas.Bool.Decides.{nat_tests}
 use Rattle.vm_map.specs.Map.{Pairs, lookup_at, Rises, StartsAt, next_key}
@@ -107,17 +107,17 @@ children_from (e ∷ es) level low high k c r found = elim (cases_eq k e.0) [
 ]
 
 -- the slots stand side by side, from one key up to the end of the whole range
-abbrev pub Tiles : ℕ → List Slot → Type 0
-Tiles from [] = from ≡ 2 ^ 64
-Tiles from (s ∷ ss) = (s.low ≡ from) × (s.low < s.high) × Tiles s.high ss
+abbrev pub Tiles : ℕ → ℕ → List Slot → Type 0
+Tiles end from [] = from ≡ end
+Tiles end from (s ∷ ss) = (s.low ≡ from) × (s.low < s.high) × Tiles end s.high ss
 
-pub tiles_le : (from : ℕ) (ss : List Slot) → Tiles from ss → from ≤ 2 ^ 64
-tiles_le from [] t = omega arith
-tiles_le from (s ∷ ss) t = let rest = tiles_le s.high ss t.2 in let low = t.0 in let lt = t.1 in omega (arith, rest, low, lt)
+pub tiles_le : (end from : ℕ) (ss : List Slot) → Tiles end from ss → from ≤ end
+tiles_le end from [] t = omega arith
+tiles_le end from (s ∷ ss) t = let rest = tiles_le end s.high ss t.2 in let low = t.0 in let lt = t.1 in omega (arith, rest, low, lt)
 
-pub tiles_children : (m : Pairs) (level low high : ℕ) (ss : List Slot) → Rises low high m → StartsAt low m → Tiles high ss → Tiles low (children level m high ++ ss)
-tiles_children [] level low high ss r starts t = absurd starts
-tiles_children (e ∷ []) level low high ss r starts t = (starts, r.1, t)
-tiles_children (e ∷ f ∷ fs) level low high ss r starts t =
+pub tiles_children : (end : ℕ) (m : Pairs) (level low high : ℕ) (ss : List Slot) → Rises low high m → StartsAt low m → Tiles end high ss → Tiles end low (children level m high ++ ss)
+tiles_children end [] level low high ss r starts t = absurd starts
+tiles_children end (e ∷ []) level low high ss r starts t = (starts, r.1, t)
+tiles_children end (e ∷ f ∷ fs) level low high ss r starts t =
     let next = r.2 in
-    (starts, omega (arith, next.0), tiles_children (f ∷ fs) level f.0 high ss (omega arith, next.1, next.2) refl t)
+    (starts, omega (arith, next.0), tiles_children end (f ∷ fs) level f.0 high ss (omega arith, next.1, next.2) refl t)

@@ -1,14 +1,13 @@
 -- A split below the root: the node keeps its lower half, the right sibling stands on a free page, and the parent names it.
-use Rattle.std.proofs.Common.{◌≡◌, ℕ, ◌+◌, ◌<◌, ◌≤◌, ◌≢◌, ◌⊎◌, inl, inr, [], ◌∷◌, ◌++◌, length, Some, refl, sym, ap, ◌∙◌, subst, arith, length-append}
+use Rattle.std.proofs.Common.{◌≡◌, ℕ, ◌+◌, ◌<◌, ◌≤◌, ◌≢◌, ◌⊎◌, inl, inr, [], ◌∷◌, ◌++◌, length, Some, refl, sym, ap, ◌∙◌, subst, arith}
 use Rattle.std.proofs.lemmas.Bool.{cases_eq, cases_lt}
 use Rattle.vm_map.specs.Map.{Pairs, lookup_at, put_pair, Rises, StartsAt, next_key}
 use Rattle.vm_tree_model.specs.Node.{Node, IsLeafNode, IsInnerNode, IsNode, Names, IsTreeOf}
-use Rattle.vm_map.proofs.MapLemmas.{found_low, found_high, lookup-put_same, lookup-put_other, Rises-put, Rises-append, lookup-cut_below, lookup-cut_above, next-cut_below, next-cut_above, next-put_from, next-put_below, next-between, next-le_found, next-le_high, length-put, StartsAt-put, StartsAt-append}
+use Rattle.vm_map.proofs.MapLemmas.{found_low, found_high, lookup-put_same, lookup-put_other, Rises-put, Rises-append, lookup-cut_below, lookup-cut_above, next-cut_below, next-cut_above, next-put_from, next-put_below, next-between, next-le_found, next-le_high, StartsAt-put, StartsAt-append}
 
 -- Node p, which q names at k, is split: b goes to page r, whose first key is sep
 pub record IsSplitStep (old new : ℕ → Node) (q k p r sep : ℕ) (a b : Pairs) : Type 0 where
   pub named : Names old q k p
-  pub room : length (old q).pairs < 28
   pub free : (old r).tag ≡ 0
   pub halves : (old p).pairs ≡ a ++ b
   pub left_some : 1 ≤ length a
@@ -18,7 +17,7 @@ pub record IsSplitStep (old new : ℕ → Node) (q k p r sep : ℕ) (a b : Pairs
   pub right : new r ≡ record (old p) { low = sep; pairs = b }
   pub others : (x : ℕ) → x ≢ q → x ≢ p → x ≢ r → new x ≡ old x
 
-module _ (old new : ℕ → Node) (root height q k p r sep : ℕ) (a b : Pairs) (tree : IsTreeOf old root height) (step : IsSplitStep old new q k p r sep a b) where
+module _ {end : ℕ} (old new : ℕ → Node) (root height q k p r sep : ℕ) (a b : Pairs) (tree : IsTreeOf end old root height) (step : IsSplitStep old new q k p r sep a b) where
   pub q_tag : (old q).tag ≡ 3
   q_tag = step.named.0
 
@@ -38,12 +37,6 @@ module _ (old new : ℕ → Node) (root height q k p r sep : ℕ) (a b : Pairs) 
   p_rises = elim (cases_eq (old p).tag 2) [
     | inl leaf ↦ rw step.halves at (tree.leaf p leaf).rises
     | inr other ↦ rw step.halves at (tree.inner p (omega (arith, p_is))).rises
-  ]
-
-  p_fits : length a + length b ≤ 28
-  p_fits = elim (cases_eq (old p).tag 2) [
-    | inl leaf ↦ simp length-append at (rw step.halves at (tree.leaf p leaf).fits)
-    | inr other ↦ simp length-append at (rw step.halves at (tree.inner p (omega (arith, p_is))).fits)
   ]
 
   parts : Rises (old p).low sep a × Rises sep (old p).high b
@@ -250,7 +243,7 @@ module _ (old new : ℕ → Node) (root height q k p r sep : ℕ) (a b : Pairs) 
   origin_one o u u' x x' c n n' (inl s) (inr m') = absurd (omega (arith, s.1 m'.1, m'.2, tree.child_low o x c n, tree.child_low o x' c n'))
   origin_one o u u' x x' c n n' (inr m) (inl s') = absurd (omega (arith, s'.1 m.1, m.2, tree.child_low o x c n, tree.child_low o x' c n'))
 
-  pub split_tree : IsTreeOf new root height
+  pub split_tree : IsTreeOf end new root height
   split_tree = record {
     leaf = leaf;
     inner = inner;
@@ -302,10 +295,10 @@ module _ (old new : ℕ → Node) (root height q k p r sep : ℕ) (a b : Pairs) 
       ]
         where
           half_left : (old p).tag ≡ 2 → IsLeafNode (record (old p) { high = sep; pairs = a })
-          half_left t = record { tag = t; level = (tree.leaf p t).level; rises = parts.0; fits = omega (arith, p_fits) }
+          half_left t = record { tag = t; level = (tree.leaf p t).level; rises = parts.0 }
 
           half_right : (old p).tag ≡ 2 → IsLeafNode (record (old p) { low = sep; pairs = b })
-          half_right t = record { tag = t; level = (tree.leaf p t).level; rises = parts.1; fits = omega (arith, p_fits) }
+          half_right t = record { tag = t; level = (tree.leaf p t).level; rises = parts.1 }
 
       inner : (x : ℕ) → (new x).tag ≡ 3 → IsInnerNode (new x)
       inner x tag = elim (cases_eq x q) [
@@ -313,7 +306,6 @@ module _ (old new : ℕ → Node) (root height q k p r sep : ℕ) (a b : Pairs) 
           tag = q_tag;
           level = (tree.inner q q_tag).level;
           rises = Rises-put (old q).pairs _ _ sep r q_rises (omega (arith, k_low, k_is, low_lt_sep)) (omega (arith, sep_lt_high, q_high_le));
-          fits = omega (arith, length-put (old q).pairs sep r, step.room);
           starts = StartsAt-put (old q).pairs _ sep r (tree.inner q q_tag).starts (omega (arith, k_low, k_is, low_lt_sep));
         }))
         | inr nq ↦ elim (cases_eq x p) [
@@ -326,7 +318,7 @@ module _ (old new : ℕ → Node) (root height q k p r sep : ℕ) (a b : Pairs) 
       ]
         where
           half_left : (old p).tag ≡ 3 → IsInnerNode (record (old p) { high = sep; pairs = a })
-          half_left t = record { tag = t; level = (tree.inner p t).level; rises = parts.0; fits = omega (arith, p_fits); starts = StartsAt-append a b _ (rw step.halves at (tree.inner p t).starts) step.left_some }
+          half_left t = record { tag = t; level = (tree.inner p t).level; rises = parts.0; starts = StartsAt-append a b _ (rw step.halves at (tree.inner p t).starts) step.left_some }
 
           half_right : (old p).tag ≡ 3 → IsInnerNode (record (old p) { low = sep; pairs = b })
-          half_right t = record { tag = t; level = (tree.inner p t).level; rises = parts.1; fits = omega (arith, p_fits); starts = step.starts }
+          half_right t = record { tag = t; level = (tree.inner p t).level; rises = parts.1; starts = step.starts }

@@ -1,6 +1,7 @@
 -- The walk finds no reason exactly where the pages are a tree, and its rows are then the map.
 use Rattle.std.proofs.Common.{◌≡◌, ℕ, zero, suc, ◌↔◌, inl, inr, List, [], ◌∷◌, length, get_or, replicate, None, Ok, Err, false, refl, arith, ap, ◌∙◌}
 use Rattle.std.proofs.lemmas.List.{length-replicate}
+use Rattle.vm_tree_model.specs.Layout.{Layout, IsLayout}
 use Rattle.vm_map.specs.Map.{Pairs}
 use Rattle.vm_tree_model.specs.Page.{IsMeta}
 use Rattle.vm_tree_model.specs.Tree.{page_at, IsTree, map_of}
@@ -17,11 +18,11 @@ unseen_at_first zero p = refl
 unseen_at_first (suc n) zero = refl
 unseen_at_first (suc n) (suc p) = unseen_at_first n p
 
-module _ (pages : List (List ℕ)) where
+module _ (L : Layout) (laws : IsLayout L) (pages : List (List ℕ)) where
   none_seen : (p : ℕ) → Seen (replicate (length pages) false) p → ⊥
   none_seen p seen = let unseen = unseen_at_first (length pages) p in cc
 
-  linked_at_first : IsMeta (length pages) (page_at pages 0) → Linked pages (replicate (length pages) false) ((root_slot (page_at pages 0), 0) ∷ []) (λ p. 0)
+  linked_at_first : IsMeta L (length pages) (page_at pages 0) → Linked L pages (replicate (length pages) false) ((root_slot L (page_at pages 0), 0) ∷ []) (λ p. 0)
   linked_at_first meta = record {
     flags = length-replicate (length pages) false;
     on_page = λ e on. elim on [
@@ -41,7 +42,7 @@ module _ (pages : List (List ℕ)) where
     ];
   }
 
-  ordered_at_first : Ordered pages (replicate (length pages) false) [] (root_slot (page_at pages 0) ∷ []) 0
+  ordered_at_first : Ordered L pages (replicate (length pages) false) [] (root_slot L (page_at pages 0) ∷ []) 0
   ordered_at_first = record {
     tiles = (refl, omega arith, refl);
     rows_rise = tt;
@@ -49,24 +50,24 @@ module _ (pages : List (List ℕ)) where
     leaf_rows = λ p key seen. absurd (none_seen p seen);
   }
 
-  pub tree_from_walk : (out : Pairs) → walked pages ≡ Ok out → IsTree pages × (out ≡ map_of pages)
+  pub tree_from_walk : (out : Pairs) → walked L pages ≡ Ok out → IsTree L pages × (out ≡ map_of L pages)
   tree_from_walk out is =
-      let (none, rest) = fault_or-Ok 0 (meta_fault (length pages) (page_at pages 0)) _ out is in
-      let meta = meta_tells (length pages) (page_at pages 0) none in
-      let end = finished pages (unseen_pages (replicate (length pages) false)) ((root_slot (page_at pages 0), 0) ∷ []) (replicate (length pages) false) [] out (λ p. 0) 0 (linked_at_first meta) ordered_at_first rest in
-      (is_tree pages meta out end, rows_are pages meta out end)
+      let (none, rest) = fault_or-Ok 0 (meta_fault L (length pages) (page_at pages 0)) _ out is in
+      let meta = meta_tells L (length pages) (page_at pages 0) none in
+      let end = finished L laws pages (unseen_pages (replicate (length pages) false)) ((root_slot L (page_at pages 0), 0) ∷ []) (replicate (length pages) false) [] out (λ p. 0) 0 (linked_at_first meta) ordered_at_first rest in
+      (is_tree L laws pages meta out end, rows_are L laws pages meta out end)
 
-  pub walk_from_tree : IsTree pages → walked pages ≡ Ok (map_of pages)
+  pub walk_from_tree : IsTree L pages → walked L pages ≡ Ok (map_of L pages)
   walk_from_tree tree =
-      let (out, is) = completes pages tree (unseen_pages (replicate (length pages) false)) ((root_slot (page_at pages 0), 0) ∷ []) (replicate (length pages) false) [] (λ p. 0) 0
+      let (out, is) = completes L laws pages tree (unseen_pages (replicate (length pages) false)) ((root_slot L (page_at pages 0), 0) ∷ []) (replicate (length pages) false) [] (λ p. 0) 0
       (linked_at_first tree.meta) ordered_at_first (unseen_at_first (length pages) _, (λ x on. absurd on), tt) refl in
-      let whole : walked pages ≡ Ok out = fault_or-None 0 (meta_fault (length pages) (page_at pages 0)) _ (meta_passes (length pages) (page_at pages 0) tree.meta (height_fits pages tree)) ∙ is in
+      let whole : walked L pages ≡ Ok out = fault_or-None 0 (meta_fault L (length pages) (page_at pages 0)) _ (meta_passes L (length pages) (page_at pages 0) tree.meta (height_fits L laws pages tree)) ∙ is in
       whole ∙ ap (λ (m : Pairs). Ok m) (tree_from_walk out whole).1
 
   -- no reason is met exactly where the pages are a tree
-  pub no_reason : (reason pages ≡ None) ↔ IsTree pages
-  no_reason = (from (walked pages) refl, λ tree. ap fault_of (walk_from_tree tree))
+  pub no_reason : (reason L pages ≡ None) ↔ (IsTree L) pages
+  no_reason = (from (walked L pages) refl, λ tree. ap fault_of (walk_from_tree tree))
     where
-      from : (w : Walked) → walked pages ≡ w → reason pages ≡ None → IsTree pages
+      from : (w : Walked) → walked L pages ≡ w → reason L pages ≡ None → IsTree L pages
       from (Ok out) is none = (tree_from_walk out is).0
       from (Err fault) is none = absurd (let some = ap fault_of is in cc)

@@ -3,6 +3,7 @@ use Rattle.std.proofs.Common.{◌≡◌, ℕ, zero, suc, ◌+◌, ◌<◌, ◌�
 use Rattle.std.proofs.lemmas.Bool.{cases_eq, and_parts, and_from, eqb-true, eq-eqb, leb-true, ltb-true, lt-ltb, le-leb}
 use Rattle.std.proofs.lemmas.Bool.Decides.{nat_tests}
 use Rattle.std.proofs.lemmas.List.{get_or-drop}
+use Rattle.vm_tree_model.specs.Layout.{Layout}
 use Rattle.vm_map.specs.Map.{Pairs, lookup_at, Rises, StartsAt}
 use Rattle.vm_tree_model.specs.Page.{IsFree}
 use Rattle.vm_map.proofs.MapLemmas.{found_low}
@@ -24,11 +25,11 @@ pub zeros_past-from : (words : List ℕ) (n : ℕ) → ((i : ℕ) → n ≤ i �
 zeros_past-from words n each = all_zero-from (drop n words) (λ i. get_or-drop n words i 0 ∙ each (n + i) (omega arith))
 
 -- a page that passes the test is free
-pub is_free-tells : (ws : List ℕ) → is_free ws ≡ true → IsFree ws
-is_free-tells ws is = let (long, zeros) = and_parts (eqb (length ws) 64) (all_zero ws) is in record { length = eqb-true (length ws) 64 long; zero = all_zero-tells ws zeros }
+pub is_free-tells : (L : Layout) (ws : List ℕ) → is_free L ws ≡ true → IsFree L ws
+is_free-tells L ws is = let (long, zeros) = and_parts (eqb (length ws) L.words) (all_zero ws) is in record { length = eqb-true (length ws) L.words long; zero = all_zero-tells ws zeros }
 
-pub is_free-from : (ws : List ℕ) → IsFree ws → is_free ws ≡ true
-is_free-from ws free = and_from (eqb (length ws) 64) (all_zero ws) (eq-eqb (length ws) 64 free.length) (all_zero-from ws free.zero)
+pub is_free-from : (L : Layout) (ws : List ℕ) → IsFree L ws → is_free L ws ≡ true
+is_free-from L ws free = and_from (eqb (length ws) L.words) (all_zero ws) (eq-eqb (length ws) L.words free.length) (all_zero-from ws free.zero)
 
 pub rises-tells : (m : Pairs) (low high : ℕ) → rises low high m ≡ true → Rises low high m
 rises-tells [] low high is = tt

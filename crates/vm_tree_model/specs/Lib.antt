@@ -1,4 +1,6 @@
 pub mod Node
+pub mod Layout
+pub mod Fixed
 pub mod Page
 pub mod Edits
 pub mod Tree

@@ -5,4 +5,4 @@ pub returns-clause-pages : goal.returns-clause-pages
 returns-clause-pages c = ties_hold
 
 pub returns-clause-itself : goal.returns-clause-itself
-returns-clause-itself c start kept p keeps lt = ties_hold start kept p p keeps lt
+returns-clause-itself c L laws start kept p keeps lt = ties_hold L laws start kept p p keeps lt
