@@ -1,7 +1,7 @@
-//! Inner nodes on the 64 words of a page: the child that answers for a key, a further child, the split, a new root.
+//! Inner nodes on the words of a page, which are 64 or 512: the child that answers for a key, a further child, the split, a new root.
 //!
-//! Every call works on any 64 words, also on words that no one validated: a count above 28 is read as 28. None takes
-//! memory.
+//! Every call works on any words, also on words that no one validated: a count above 28, or 252, is read as that. None
+//! takes memory.
 #![tactic(auto)]
 
 mod children;

@@ -1,3 +1,4 @@
+pub mod Sizes
 pub mod PlaceLemmas
 pub mod Indexes
 pub mod Bounds

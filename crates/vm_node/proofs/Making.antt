@@ -7,16 +7,16 @@ use Rattle.std.proofs.lemmas.List.FromFn.{fill_by_all}
 use Rattle.vm_node.specs.Edited.{word_into, word_out}
 
 -- the words below i are made
-pub record IsMadeBelow (old now : List ℕ) (made_word : ℕ → ℕ) (i : ℕ) : Type 0 where
-  pub length : 0 < i → length now ≡ 64
+pub record IsMadeBelow (z : ℕ) (old now : List ℕ) (made_word : ℕ → ℕ) (i : ℕ) : Type 0 where
+  pub length : 0 < i → length now ≡ z
   pub made : (k : ℕ) → k < i → get_or now k 0 ≡ made_word k
   pub left : (k : ℕ) → i ≤ k → get_or now k 0 ≡ get_or old k 0
 
 -- the last words, this many, are made
-pub record IsMadeAbove (old now : List ℕ) (made_word : ℕ → ℕ) (done : ℕ) : Type 0 where
-  pub length : 0 < done → length now ≡ 64
-  pub made : (k : ℕ) → 64 ≤ k + done → k < 64 → get_or now k 0 ≡ made_word k
-  pub left : (k : ℕ) → k + done < 64 → get_or now k 0 ≡ get_or old k 0
+pub record IsMadeAbove (z : ℕ) (old now : List ℕ) (made_word : ℕ → ℕ) (done : ℕ) : Type 0 where
+  pub length : 0 < done → length now ≡ z
+  pub made : (k : ℕ) → z ≤ k + done → k < z → get_or now k 0 ≡ made_word k
+  pub left : (k : ℕ) → k + done < z → get_or now k 0 ≡ get_or old k 0
 
 -- a pair that goes out moves words from above alone
 pub out_reads : (now old : List ℕ) (at count i : ℕ) → ((k : ℕ) → i ≤ k → get_or now k 0 ≡ get_or old k 0) → word_out now at count i ≡ word_out old at count i
@@ -26,10 +26,10 @@ out_reads now old at count i same = rw (same i (omega arith), same (i + 2) (omeg
 pub into_reads : (now old : List ℕ) (at count key value i : ℕ) → ((k : ℕ) → k ≤ i → get_or now k 0 ≡ get_or old k 0) → word_into now at count key value i ≡ word_into old at count key value i
 into_reads now old at count key value i same = rw (same i (omega arith), same (i - 2) (omega arith)) refl
 
-module _ {old now : List ℕ} {made_word : ℕ → ℕ} where
-  pub below_more : {after : List ℕ} {i word : ℕ} → IsMadeBelow old now made_word i → i < 64 → word ≡ made_word i → after ≡ set now i word → length after ≡ 64 → IsMadeBelow old after made_word (i + 1)
+module _ {z : ℕ} {old now : List ℕ} {made_word : ℕ → ℕ} where
+  pub below_more : {after : List ℕ} {i word : ℕ} → IsMadeBelow z old now made_word i → i < z → word ≡ made_word i → after ≡ set now i word → length after ≡ z → IsMadeBelow z old after made_word (i + 1)
   below_more {after = after} {i = i} {word = word} s lt is set_is size =
-      let long : length now ≡ 64 = sym (length-set now i word) ∙ sym (ap (λ (l : List ℕ). length l) set_is) ∙ size in
+      let long : length now ≡ z = sym (length-set now i word) ∙ sym (ap (λ (l : List ℕ). length l) set_is) ∙ size in
       record {
         length = λ some. size;
         made = λ k below. ap (λ (l : List ℕ). get_or l k 0) set_is ∙ elim (cases_eq k i) [
@@ -39,12 +39,12 @@ module _ {old now : List ℕ} {made_word : ℕ → ℕ} where
         left = λ k above. ap (λ (l : List ℕ). get_or l k 0) set_is ∙ get_or-set_other now i k word 0 (omega (arith, above)) ∙ s.left k (omega (arith, above));
       }
 
-  pub below_all : {i : ℕ} → IsMadeBelow old now made_word i → 64 ≤ i → now ≡ map made_word (range_with_len 0 64)
-  below_all s all = fill_by_all made_word now 64 0 (s.length (omega arith)) (λ k lt. s.made k (omega arith))
+  pub below_all : {i : ℕ} → 0 < z → IsMadeBelow z old now made_word i → z ≤ i → now ≡ map made_word (range_with_len 0 z)
+  below_all some s all = fill_by_all made_word now z 0 (s.length (omega (arith, some, all))) (λ k lt. s.made k (omega arith))
 
-  pub above_more : {after : List ℕ} (done i : ℕ) {word : ℕ} → IsMadeAbove old now made_word done → i + done ≡ 63 → word ≡ made_word i → after ≡ set now i word → length after ≡ 64 → IsMadeAbove old after made_word (done + 1)
+  pub above_more : {after : List ℕ} (done i : ℕ) {word : ℕ} → IsMadeAbove z old now made_word done → i + done + 1 ≡ z → word ≡ made_word i → after ≡ set now i word → length after ≡ z → IsMadeAbove z old after made_word (done + 1)
   above_more {after = after} done i {word = word} s place is set_is size =
-      let long : length now ≡ 64 = sym (length-set now i word) ∙ sym (ap (λ (l : List ℕ). length l) set_is) ∙ size in
+      let long : length now ≡ z = sym (length-set now i word) ∙ sym (ap (λ (l : List ℕ). length l) set_is) ∙ size in
       record {
         length = λ some. size;
         made = λ k above lt. ap (λ (l : List ℕ). get_or l k 0) set_is ∙ elim (cases_eq k i) [
@@ -54,5 +54,5 @@ module _ {old now : List ℕ} {made_word : ℕ → ℕ} where
         left = λ k below. ap (λ (l : List ℕ). get_or l k 0) set_is ∙ get_or-set_other now i k word 0 (omega (arith, below, place)) ∙ s.left k (omega (arith, below));
       }
 
-  pub above_all : {done : ℕ} → IsMadeAbove old now made_word done → 64 ≤ done → now ≡ map made_word (range_with_len 0 64)
-  above_all s all = fill_by_all made_word now 64 0 (s.length (omega arith)) (λ k lt. s.made k (omega arith) lt)
+  pub above_all : {done : ℕ} → 0 < z → IsMadeAbove z old now made_word done → z ≤ done → now ≡ map made_word (range_with_len 0 z)
+  above_all some s all = fill_by_all made_word now z 0 (s.length (omega (arith, some, all))) (λ k lt. s.made k (omega arith) lt)

@@ -4,33 +4,42 @@ use Rattle.std.proofs.lemmas.List.{set-get_or, take-take, drop-take}
 use Rattle.std.proofs.Math.Seq.{take-add, drop-cons}
 use Rattle.std.specs.List.{insert}
 use Rattle.vm_map.specs.Map.{Pairs, lookup_at, put_pair, Rises}
-use Rattle.vm_tree_model.specs.Page.{places, pairs_of, node_of, high_of, IsClean}
+use Rattle.vm_tree_model.specs.Layout.{IsClean}
+use Rattle.vm_tree_model.specs.Fixed.{fixed, fixed_node, fixed_pairs, capacity, places, high_of}
+use Rattle.vm_tree_model.proofs.FixedLaws.{form_tells, form_from, ones_are}
+use Rattle.vm_tree_model.proofs.WordTests.{zeros_past, zeros_past-from}
+use Rattle.vm_page.specs.Sizes.{IsSize}
+use Rattle.vm_node.proofs.Sizes.{whole, eight}
 use Rattle.vm_tree_model.proofs.PairWords.{length-places, length-pairs_of, pairs_of-at, places-at, places-set, places_same}
 use Rattle.vm_tree_model.specs.Edits.{AddsPair}
 use Rattle.vm_node.specs.Places.{place_of}
 use Rattle.vm_node.proofs.PlaceLemmas.{put-insert, put-set, lookup-place, lookup-no_place}
 
 -- the header but for the count stays, and no word stands past the pairs
-pub record KeepsHeader (old new : List ℕ) : Type 0 where
-  pub length : length new ≡ 64
+pub record KeepsHeader (z : ℕ) (old new : List ℕ) : Type 0 where
+  pub length : length new ≡ z
   pub tag : get_or new 0 0 ≡ get_or old 0 0
-  pub count : get_or new 1 0 ≤ 28
+  pub count : get_or new 1 0 ≤ capacity z
   pub header : (i : ℕ) → 2 ≤ i → i < 8 → get_or new i 0 ≡ get_or old i 0
   pub rest : (i : ℕ) → 8 + 2 * get_or new 1 0 ≤ i → get_or new i 0 ≡ 0
 
-pub clean_with : (old new : List ℕ) → IsClean old → KeepsHeader old new → IsClean new
-clean_with old new clean edit = record {
+pub clean_with : (z : ℕ) (old new : List ℕ) → IsClean (fixed z) old → KeepsHeader z old new → IsClean (fixed z) new
+clean_with z old new clean edit = let f = form_tells z old clean in form_from z new (record {
   length = edit.length;
   count = edit.count;
-  fence = rw (edit.header 3 (omega arith) (omega arith), edit.header 4 (omega arith) (omega arith)) clean.fence;
-  sixth = edit.header 6 (omega arith) (omega arith) ∙ clean.sixth;
-  seventh = edit.header 7 (omega arith) (omega arith) ∙ clean.seventh;
-  rest = edit.rest;
-}
+  fence = rw (edit.header 3 (omega arith) (omega arith), edit.header 4 (omega arith) (omega arith)) f.fence;
+  sixth = edit.header 6 (omega arith) (omega arith) ∙ f.sixth;
+  seventh = edit.header 7 (omega arith) (omega arith) ∙ f.seventh;
+  rest = zeros_past-from new (8 + 2 * get_or new 1 0) edit.rest;
+})
+
+-- clean words have zeros past the pairs
+pub clean_rest : (z : ℕ) (words : List ℕ) → IsClean (fixed z) words → (i : ℕ) → 8 + 2 * get_or words 1 0 ≤ i → get_or words i 0 ≡ 0
+clean_rest z words clean = zeros_past words (8 + 2 * get_or words 1 0) (form_tells z words clean).rest
 
 -- the pairs alone change
-pub node_with : (old new : List ℕ) (holds : Pairs) → get_or new 0 0 ≡ get_or old 0 0 → ((i : ℕ) → 2 ≤ i → i < 8 → get_or new i 0 ≡ get_or old i 0) → pairs_of new ≡ holds → node_of new ≡ record (node_of old) { pairs = holds }
-node_with old new holds tag header pairs =
+pub node_with : (z : ℕ) (old new : List ℕ) (holds : Pairs) → get_or new 0 0 ≡ get_or old 0 0 → ((i : ℕ) → 2 ≤ i → i < 8 → get_or new i 0 ≡ get_or old i 0) → fixed_pairs z new ≡ holds → fixed_node z new ≡ record (fixed_node z old) { pairs = holds }
+node_with z old new holds tag header pairs =
     let low = header 2 (omega arith) (omega arith) in
     let level = header 5 (omega arith) (omega arith) in
     let third : get_or new 3 0 ≡ get_or old 3 0 = header 3 (omega arith) (omega arith) in
@@ -44,37 +53,37 @@ take-set_any [] (suc n) i x = refl
 take-set_any (e ∷ es) (suc n) zero x = refl
 take-set_any (e ∷ es) (suc n) (suc i) x = ap (λ (l : Pairs). e ∷ l) (take-set_any es n i x)
 
-module _ (words : List ℕ) (len : length words ≡ 64) where
+module _ (z : ℕ) (size_of : IsSize z) (words : List ℕ) (len : length words ≡ z) where
   -- a value is written over
-  pub places-set_value : (i value : ℕ) → i < 28 → places (set words (9 + 2 * i) value) ≡ set (places words) i (get_or words (8 + 2 * i) 0, value)
+  pub places-set_value : (i value : ℕ) → i < capacity z → places (set words (9 + 2 * i) value) ≡ set (places words) i (get_or words (8 + 2 * i) 0, value)
   places-set_value i value lt =
-      let both = places-set words len i (get_or words (8 + 2 * i) 0) value lt in
+      let both = places-set z (capacity z) (whole z size_of) words len i (get_or words (8 + 2 * i) 0) value lt in
       let same : set words (8 + 2 * i) (get_or words (8 + 2 * i) 0) ≡ words = set-get_or words (8 + 2 * i) 0 in
       subst (λ w. places (set w (9 + 2 * i) value) ≡ set (places words) i (get_or words (8 + 2 * i) 0, value)) same both
 
-  module _ (key value at : ℕ) (is : at ≡ place_of (pairs_of words) key) where
-    module _ (lt : at < min (get_or words 1 0) 28) (same : get_or words (8 + 2 * at) 0 ≡ key) where
-      read : get_or (pairs_of words) at (0, 0) ≡ (get_or words (8 + 2 * at) 0, get_or words (9 + 2 * at) 0)
-      read = pairs_of-at words len at lt
+  module _ (key value at : ℕ) (is : at ≡ place_of (fixed_pairs z words) key) where
+    module _ (lt : at < min (get_or words 1 0) (capacity z)) (same : get_or words (8 + 2 * at) 0 ≡ key) where
+      read : get_or (fixed_pairs z words) at (0, 0) ≡ (get_or words (8 + 2 * at) 0, get_or words (9 + 2 * at) 0)
+      read = pairs_of-at z (capacity z) (whole z size_of) words len at lt
 
-      pub over_pairs : pairs_of (set words (9 + 2 * at) value) ≡ put_pair (pairs_of words) key value
+      pub over_pairs : fixed_pairs z (set words (9 + 2 * at) value) ≡ put_pair (fixed_pairs z words) key value
       over_pairs =
           let count : get_or (set words (9 + 2 * at) value) 1 0 ≡ get_or words 1 0 = get_or-set_other words (9 + 2 * at) 1 value 0 (omega arith) in
           let written = places-set_value at value (omega arith) in
-          let cut : take (min (get_or words 1 0) 28) (set (places words) at (get_or words (8 + 2 * at) 0, value)) ≡ set (pairs_of words) at (key, value) =
-          take-set_any (places words) (min (get_or words 1 0) 28) at _ ∙ ap (λ (k : ℕ). set (pairs_of words) at (k, value)) same in
-          let put : set (pairs_of words) (place_of (pairs_of words) key) (key, value) ≡ put_pair (pairs_of words) key value = put-set (pairs_of words) key value at_lt at_key in
+          let cut : take (min (get_or words 1 0) (capacity z)) (set (places words) at (get_or words (8 + 2 * at) 0, value)) ≡ set (fixed_pairs z words) at (key, value) =
+          take-set_any (places words) (min (get_or words 1 0) (capacity z)) at _ ∙ ap (λ (k : ℕ). set (fixed_pairs z words) at (k, value)) same in
+          let put : set (fixed_pairs z words) (place_of (fixed_pairs z words) key) (key, value) ≡ put_pair (fixed_pairs z words) key value = put-set (fixed_pairs z words) key value at_lt at_key in
           rw (count, written) (cut ∙ rw (← is) at put)
         where
-          at_lt : place_of (pairs_of words) key < length (pairs_of words)
-          at_lt = omega (arith, is, length-pairs_of words len)
+          at_lt : place_of (fixed_pairs z words) key < length (fixed_pairs z words)
+          at_lt = omega (arith, is, length-pairs_of z (capacity z) (whole z size_of) words len)
 
-          at_key : (get_or (pairs_of words) (place_of (pairs_of words) key) (0, 0)).0 ≡ key
+          at_key : (get_or (fixed_pairs z words) (place_of (fixed_pairs z words) key) (0, 0)).0 ≡ key
           at_key = rw (← is) (ap (λ (x : ℕ × ℕ). x.0) read ∙ same)
 
-      pub over_was : lookup_at (pairs_of words) key ≡ Some (get_or words (9 + 2 * at) 0)
+      pub over_was : lookup_at (fixed_pairs z words) key ≡ Some (get_or words (9 + 2 * at) 0)
       over_was =
-          let found = lookup-place (pairs_of words) key (omega (arith, is, length-pairs_of words len)) (rw (← is) (ap (λ (x : ℕ × ℕ). x.0) read ∙ same)) in
+          let found = lookup-place (fixed_pairs z words) key (omega (arith, is, length-pairs_of z (capacity z) (whole z size_of) words len)) (rw (← is) (ap (λ (x : ℕ × ℕ). x.0) read ∙ same)) in
           found ∙ ap Some (rw (← is) (ap (λ (x : ℕ × ℕ). x.1) read))
 
       over_tag : get_or (set words (9 + 2 * at) value) 0 0 ≡ get_or words 0 0
@@ -83,35 +92,35 @@ module _ (words : List ℕ) (len : length words ≡ 64) where
       over_header : (i : ℕ) → 2 ≤ i → i < 8 → get_or (set words (9 + 2 * at) value) i 0 ≡ get_or words i 0
       over_header i ge lt' = get_or-set_other words (9 + 2 * at) i value 0 (omega arith)
 
-      over_edit : IsClean words → KeepsHeader words (set words (9 + 2 * at) value)
+      over_edit : IsClean (fixed z) words → KeepsHeader z words (set words (9 + 2 * at) value)
       over_edit clean = record {
         length = length-set words (9 + 2 * at) value ∙ len;
         tag = over_tag;
-        count = rw (get_or-set_other words (9 + 2 * at) 1 value 0 (omega arith)) clean.count;
+        count = rw (get_or-set_other words (9 + 2 * at) 1 value 0 (omega arith)) (form_tells z words clean).count;
         header = over_header;
-        rest = λ i le. let le' = rw (get_or-set_other words (9 + 2 * at) 1 value 0 (omega arith)) at le in get_or-set_other words (9 + 2 * at) i value 0 (omega arith) ∙ clean.rest i le';
+        rest = λ i le. let le' = rw (get_or-set_other words (9 + 2 * at) 1 value 0 (omega arith)) at le in get_or-set_other words (9 + 2 * at) i value 0 (omega arith) ∙ clean_rest z words clean i le';
       }
 
-      pub over_node : AddsPair words (set words (9 + 2 * at) value) key value
-      over_node = record { not_full = λ full. cc (over_was, full.absent); node = node_with _ _ _ over_tag over_header over_pairs; clean = λ clean. clean_with _ _ clean (over_edit clean) }
+      pub over_node : AddsPair (fixed z) words (set words (9 + 2 * at) value) key value
+      over_node = record { not_full = λ full. cc (over_was, full.absent); node = node_with z _ _ _ over_tag over_header over_pairs; clean = λ clean. clean_with z _ _ clean (over_edit clean) }
 
-    module _ (other : at < min (get_or words 1 0) 28 → get_or words (8 + 2 * at) 0 ≢ key) where
-      not_there : place_of (pairs_of words) key < length (pairs_of words) → (get_or (pairs_of words) (place_of (pairs_of words) key) (0, 0)).0 ≢ key
+    module _ (other : at < min (get_or words 1 0) (capacity z) → get_or words (8 + 2 * at) 0 ≢ key) where
+      not_there : place_of (fixed_pairs z words) key < length (fixed_pairs z words) → (get_or (fixed_pairs z words) (place_of (fixed_pairs z words) key) (0, 0)).0 ≢ key
       not_there in_range =
-          let lt : at < min (get_or words 1 0) 28 = omega (arith, is, length-pairs_of words len) in
-          let read : (get_or (pairs_of words) at (0, 0)).0 ≡ get_or words (8 + 2 * at) 0 = ap (λ (x : ℕ × ℕ). x.0) (pairs_of-at words len at lt) in
+          let lt : at < min (get_or words 1 0) (capacity z) = omega (arith, is, length-pairs_of z (capacity z) (whole z size_of) words len) in
+          let read : (get_or (fixed_pairs z words) at (0, 0)).0 ≡ get_or words (8 + 2 * at) 0 = ap (λ (x : ℕ × ℕ). x.0) (pairs_of-at z (capacity z) (whole z size_of) words len at lt) in
           rw (← is) (λ e. other lt (sym read ∙ e))
 
-      pub absent : (low high : ℕ) → Rises low high (pairs_of words) → lookup_at (pairs_of words) key ≡ None
-      absent low high rises = lookup-no_place (pairs_of words) low high key rises not_there
+      pub absent : (low high : ℕ) → Rises low high (fixed_pairs z words) → lookup_at (fixed_pairs z words) key ≡ None
+      absent low high rises = lookup-no_place (fixed_pairs z words) low high key rises not_there
 
 -- the page after a pair went in at `at`
-pub record IsShiftedIn (old new : List ℕ) (at n key value : ℕ) : Type 0 where
-  pub old_length : length old ≡ 64
-  pub new_length : length new ≡ 64
-  pub count : n ≡ min (get_or old 1 0) 28
+pub record IsShiftedIn (z : ℕ) (old new : List ℕ) (at n key value : ℕ) : Type 0 where
+  pub old_length : length old ≡ z
+  pub new_length : length new ≡ z
+  pub count : n ≡ min (get_or old 1 0) (capacity z)
   pub place : at ≤ n
-  pub room : n < 28
+  pub room : n < capacity z
   pub more : get_or new 1 0 ≡ n + 1
   pub below : (k : ℕ) → k ≢ 1 → k < 8 + 2 * at → get_or new k 0 ≡ get_or old k 0
   pub has_key : get_or new (8 + 2 * at) 0 ≡ key
@@ -119,45 +128,45 @@ pub record IsShiftedIn (old new : List ℕ) (at n key value : ℕ) : Type 0 wher
   pub moved : (k : ℕ) → 8 + 2 * at ≤ k → k < 8 + 2 * n → get_or new (k + 2) 0 ≡ get_or old k 0
   pub rest : (k : ℕ) → 10 + 2 * n ≤ k → get_or new k 0 ≡ get_or old k 0
 
-module _ (old new : List ℕ) (at n key value : ℕ) (s : IsShiftedIn old new at n key value) where
+module _ (z : ℕ) (size_of : IsSize z) (old new : List ℕ) (at n key value : ℕ) (s : IsShiftedIn z old new at n key value) where
   front : take at (places new) ≡ take at (places old)
-  front = places_same new old 0 0 at s.new_length s.old_length (omega (arith, s.place, s.room)) (omega (arith, s.place, s.room)) (λ k lt. s.below (8 + k) (omega arith) (omega arith))
+  front = places_same z (capacity z) (whole z size_of) new old 0 0 at s.new_length s.old_length (omega (arith, s.place, s.room)) (omega (arith, s.place, s.room)) (λ k lt. s.below (8 + k) (omega arith) (omega arith))
 
   back : take (n - at) (drop (suc at) (places new)) ≡ take (n - at) (drop at (places old))
-  back = places_same new old (suc at) at (n - at) s.new_length s.old_length (omega (arith, s.place, s.room)) (omega (arith, s.place, s.room))
+  back = places_same z (capacity z) (whole z size_of) new old (suc at) at (n - at) s.new_length s.old_length (omega (arith, s.place, s.room)) (omega (arith, s.place, s.room))
       (λ k lt. ap (λ i. get_or new i 0) (omega arith) ∙ s.moved (8 + 2 * at + k) (omega arith) (omega (arith, s.place)))
 
   here : get_or (places new) at (0, 0) ≡ (key, value)
-  here = places-at new s.new_length at (omega (arith, s.place, s.room)) ∙ rw (s.has_key, s.has_value) refl
+  here = places-at z (capacity z) (whole z size_of) new s.new_length at (omega (arith, s.place, s.room)) ∙ rw (s.has_key, s.has_value) refl
 
   -- the first n + 1 places are the pairs with the new one in
-  inside : take (n + 1) (places new) ≡ insert (pairs_of old) at (key, value)
+  inside : take (n + 1) (places new) ≡ insert (fixed_pairs z old) at (key, value)
   inside =
       let count : at + suc (n - at) ≡ n + 1 = omega (arith, s.place) in
-      let whole : at + (n - at) ≡ min (get_or old 1 0) 28 = omega (arith, s.place, s.count) in
-      let behind : drop at (places new) ≡ get_or (places new) at (0, 0) ∷ drop (suc at) (places new) = drop-cons (places new) at (0, 0) (omega (arith, length-places new s.new_length, s.place, s.room)) in
-      let first : take at (pairs_of old) ≡ take at (places old) = take-take at (min (get_or old 1 0) 28) (places old) (omega (arith, s.place, s.count)) in
-      let second : drop at (pairs_of old) ≡ take (n - at) (drop at (places old)) = subst (λ m. drop at (take m (places old)) ≡ take (n - at) (drop at (places old))) whole (drop-take at (n - at) (places old)) in
+      let parted : at + (n - at) ≡ min (get_or old 1 0) (capacity z) = omega (arith, s.place, s.count) in
+      let behind : drop at (places new) ≡ get_or (places new) at (0, 0) ∷ drop (suc at) (places new) = drop-cons (places new) at (0, 0) (omega (arith, length-places z (capacity z) (whole z size_of) new s.new_length, s.place, s.room)) in
+      let first : take at (fixed_pairs z old) ≡ take at (places old) = take-take at (min (get_or old 1 0) (capacity z)) (places old) (omega (arith, s.place, s.count)) in
+      let second : drop at (fixed_pairs z old) ≡ take (n - at) (drop at (places old)) = subst (λ m. drop at (take m (places old)) ≡ take (n - at) (drop at (places old))) parted (drop-take at (n - at) (places old)) in
       let parts : take (n + 1) (places new) ≡ take at (places new) ++ take (suc (n - at)) (drop at (places new)) = subst (λ m. take m (places new) ≡ take at (places new) ++ take (suc (n - at)) (drop at (places new))) count (take-add at (suc (n - at)) (places new)) in
       parts ∙ rw (front, behind, here, back) (rw (first, second) refl)
 
-  module _ (is : at ≡ place_of (pairs_of old) key) (other : at < min (get_or old 1 0) 28 → get_or old (8 + 2 * at) 0 ≢ key) where
-    into_pairs : pairs_of new ≡ put_pair (pairs_of old) key value
+  module _ (is : at ≡ place_of (fixed_pairs z old) key) (other : at < min (get_or old 1 0) (capacity z) → get_or old (8 + 2 * at) 0 ≢ key) where
+    into_pairs : fixed_pairs z new ≡ put_pair (fixed_pairs z old) key value
     into_pairs =
-        let least : min (n + 1) 28 ≡ n + 1 = omega (arith, s.room) in
-        let put : insert (pairs_of old) (place_of (pairs_of old) key) (key, value) ≡ put_pair (pairs_of old) key value = put-insert (pairs_of old) key value (not_there old s.old_length key value at is other) in
-        rw (s.more, least) (inside ∙ subst (λ m. insert (pairs_of old) m (key, value) ≡ put_pair (pairs_of old) key value) (sym is) put)
+        let least : min (n + 1) (capacity z) ≡ n + 1 = omega (arith, s.room) in
+        let put : insert (fixed_pairs z old) (place_of (fixed_pairs z old) key) (key, value) ≡ put_pair (fixed_pairs z old) key value = put-insert (fixed_pairs z old) key value (not_there z size_of old s.old_length key value at is other) in
+        rw (s.more, least) (inside ∙ subst (λ m. insert (fixed_pairs z old) m (key, value) ≡ put_pair (fixed_pairs z old) key value) (sym is) put)
 
-    pub into_node : AddsPair old new key value
+    pub into_node : AddsPair (fixed z) old new key value
     into_node = record {
-      not_full = λ full. omega (arith, full.count, length-pairs_of old s.old_length, s.count, s.room);
-      node = node_with _ _ _ tag header into_pairs;
-      clean = λ clean. clean_with _ _ clean (record {
+      not_full = λ full. omega (arith, full.count, ones_are (fixed_pairs z old), length-pairs_of z (capacity z) (whole z size_of) old s.old_length, s.count, s.room);
+      node = node_with z _ _ _ tag header into_pairs;
+      clean = λ clean. clean_with z _ _ clean (record {
         length = s.new_length;
         tag = tag;
         count = rw s.more (omega (arith, s.room));
         header = header;
-        rest = λ i le. let le' = rw s.more at le in s.rest i (omega arith) ∙ clean.rest i (omega (arith, s.count, clean.count));
+        rest = λ i le. let le' = rw s.more at le in s.rest i (omega arith) ∙ clean_rest z old clean i (omega (arith, s.count, (form_tells z old clean).count));
       });
     }
       where

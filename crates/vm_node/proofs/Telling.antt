@@ -21,19 +21,19 @@ all_then words [] then all = all
 all_then words (l ∷ ls) then all = all_then words ls then (All-tail (Has words) l (ls ++ then) all)
 
 -- a page that has all words loaded has the first ones, and those behind them
-pub page_first : (first then : List (ℕ × ℕ)) (words : List ℕ) → IsPageWith (first ++ then) words → IsPageWith first words
-page_first first then words is = record { size = is.size; has = all_first words first then is.has }
+pub page_first : (n : ℕ) (first then : List (ℕ × ℕ)) (words : List ℕ) → IsPageWith n (first ++ then) words → IsPageWith n first words
+page_first n first then words is = record { size = is.size; has = all_first words first then is.has }
 
-pub page_then : (first then : List (ℕ × ℕ)) (words : List ℕ) → IsPageWith (first ++ then) words → IsPageWith then words
-page_then first then words is = record { size = is.size; has = all_then words first then is.has }
+pub page_then : (n : ℕ) (first then : List (ℕ × ℕ)) (words : List ℕ) → IsPageWith n (first ++ then) words → IsPageWith n then words
+page_then n first then words is = record { size = is.size; has = all_then words first then is.has }
 
-module _ {P : Type 0} {loads : P → List (ℕ × ℕ) → P → Type 0} where
+module _ {n : ℕ} {P : Type 0} {loads : P → List (ℕ × ℕ) → P → Type 0} where
   -- nothing was loaded
-  pub told_none : {p : P} {most : ℕ} {claim : List ℕ → Type 0} → loads p [] p → ((words : List ℕ) → length words ≡ 64 → claim words) → Tells loads p most p claim
+  pub told_none : {p : P} {most : ℕ} {claim : List ℕ → Type 0} → loads p [] p → ((words : List ℕ) → length words ≡ n → claim words) → Tells n loads p most p claim
   told_none through all = record { loaded = []; through = through; few = omega arith; claims = λ words is. all words is.size }
 
   -- one word was
-  pub told_word : {p q : P} {i x : ℕ} → loads p ((i, x) ∷ []) q → Tells loads p 1 q (λ words. get_or words i 0 ≡ x)
+  pub told_word : {p q : P} {i x : ℕ} → loads p ((i, x) ∷ []) q → Tells n loads p 1 q (λ words. get_or words i 0 ≡ x)
   told_word {i = i} {x = x} through = record {
     loaded = (i, x) ∷ [];
     through = through;
@@ -42,19 +42,19 @@ module _ {P : Type 0} {loads : P → List (ℕ × ℕ) → P → Type 0} where
   }
 
   -- some words were, and then others
-  pub told_then : {p q r : P} {m n : ℕ} {A B : List ℕ → Type 0} → Joins loads → Tells loads p m q A → Tells loads q n r B → Tells loads p (m + n) r (λ words. A words × B words)
+  pub told_then : {p q r : P} {m k : ℕ} {A B : List ℕ → Type 0} → Joins loads → Tells n loads p m q A → Tells n loads q k r B → Tells n loads p (m + k) r (λ words. A words × B words)
   told_then {p = p} {q = q} {r = r} join a b = record {
     loaded = a.loaded ++ b.loaded;
     through = join p q r a.loaded b.loaded a.through b.through;
     few = simp length-append (omega (arith, a.few, b.few));
     claims = λ words is. (
-      a.claims words (page_first a.loaded b.loaded words is),
-      b.claims words (page_then a.loaded b.loaded words is),
+      a.claims words (page_first n a.loaded b.loaded words is),
+      b.claims words (page_then n a.loaded b.loaded words is),
     );
   }
 
   -- what follows from what was told
-  pub told_so : {p q : P} {m n : ℕ} {A B : List ℕ → Type 0} → m ≤ n → Tells loads p m q A → ((words : List ℕ) → length words ≡ 64 → A words → B words) → Tells loads p n q B
+  pub told_so : {p q : P} {m k : ℕ} {A B : List ℕ → Type 0} → m ≤ k → Tells n loads p m q A → ((words : List ℕ) → length words ≡ n → A words → B words) → Tells n loads p k q B
   told_so le told so = record {
     loaded = told.loaded;
     through = told.through;
@@ -64,5 +64,5 @@ module _ {P : Type 0} {loads : P → List (ℕ × ℕ) → P → Type 0} where
 
   -- of a page that stands in a buffer, which loads leave as it is
   module _ {p q : P} {most : ℕ} {claim : List ℕ → Type 0} {page buffer after : List ℕ} where
-    pub told_buffer : (told : Tells loads p most q claim) → IsBuffer buffer told.loaded after → buffer ≡ page → length buffer ≡ 64 → claim page
+    pub told_buffer : (told : Tells n loads p most q claim) → IsBuffer buffer told.loaded after → buffer ≡ page → length buffer ≡ n → claim page
     told_buffer told is same size = subst claim same (told.claims buffer (record { size = size; has = is.has }))

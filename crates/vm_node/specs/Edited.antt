@@ -1,8 +1,7 @@
--- The words of a page as an edit of one pair leaves them: a count above 28 is read as 28.
+-- The words of a page of n words as an edit of one pair leaves them: a count above the capacity is read as the capacity.
 use Rattle.std.specs.Prelude.{ℕ, ◌+◌, ◌-◌, ◌*◌, ◌==◌, ◌<◌, ◌≡◌, ◌≢◌, ◌≤◌, ◌⊎◌, nat_lt, min, List, map, slice_index, if◌then◌else◌}
 use Rattle.std.specs.List.{range_with_len}
-use Rattle.vm_page.specs.declared.buf.TheConstants.{WORDS}
-use Rattle.vm_map.specs.declared.window.TheConstants.{MOST_PAIRS}
+use Rattle.vm_tree_model.specs.Fixed.{capacity}
 use Rattle.vm_node.specs.declared.edit.Edit.{Edit}
 use Rattle.vm_node.specs.declared.edit.Edit.TheVariants.{Over, Into, Out}
 
@@ -30,15 +29,15 @@ word_out words at count i =
     else slice_index words i
 
 -- word i after the edit
-abbrev pub edited_word : List ℕ → Edit → ℕ → ℕ
-edited_word words (Over at value) i = word_over words at value i
-edited_word words (Into at count key value) i = word_into words at (min count MOST_PAIRS) key value i
-edited_word words (Out at count) i = word_out words at (min count MOST_PAIRS) i
+abbrev pub edited_word : ℕ → List ℕ → Edit → ℕ → ℕ
+edited_word n words (Over at value) i = word_over words at value i
+edited_word n words (Into at count key value) i = word_into words at (min count (capacity n)) key value i
+edited_word n words (Out at count) i = word_out words at (min count (capacity n)) i
 
 -- the page after the edit
-abbrev pub edited : List ℕ → Edit → List ℕ
-edited words edit = map (λ i. edited_word words edit i) (range_with_len 0 WORDS)
+abbrev pub edited : ℕ → List ℕ → Edit → List ℕ
+edited n words edit = map (λ i. edited_word n words edit i) (range_with_len 0 n)
 
 -- of each page the edit leaves the words but the count before the first of these places, and from the second on
-abbrev pub LeavesElse : Edit → ℕ → ℕ → Type 0
-LeavesElse edit first end = (words : List ℕ) (i : ℕ) → i < WORDS → i ≢ 1 → (i < first) ⊎ (end ≤ i) → edited_word words edit i ≡ slice_index words i
+abbrev pub LeavesElse : ℕ → Edit → ℕ → ℕ → Type 0
+LeavesElse n edit first end = (words : List ℕ) (i : ℕ) → i < n → i ≢ 1 → (i < first) ⊎ (end ≤ i) → edited_word n words edit i ≡ slice_index words i

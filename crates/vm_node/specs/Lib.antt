@@ -4,3 +4,4 @@ pub mod Shows
 pub mod Loads
 pub mod Edited
 pub mod Halves
+pub mod Sizes

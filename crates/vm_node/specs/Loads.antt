@@ -3,19 +3,18 @@ use Rattle.std.specs.Prelude.{◌≡◌, ℕ, ◌≤◌, Bool, true, false, List
 use Rattle.std.specs.List.{All}
 use Rattle.std.proofs.Common.{subst, ◌∙◌}
 use Rattle.std.proofs.lemmas.List.Elements.{All-append}
-use Rattle.vm_page.specs.declared.buf.TheConstants.{WORDS}
 
--- a page that has each of these words at its place
-pub record IsPageWith (loaded : List (ℕ × ℕ)) (words : List ℕ) : Type 0 where
-  pub size : length words ≡ WORDS
+-- a page of n words that has each of these words at its place
+pub record IsPageWith (n : ℕ) (loaded : List (ℕ × ℕ)) (words : List ℕ) : Type 0 where
+  pub size : length words ≡ n
   pub has : All (λ l. slice_index words l.0 ≡ l.1) loaded
 
 -- Between one value of a place and another words were loaded, this many at most; and what is claimed holds of each page that has them
-pub record Tells {P : Type 0} (loads : P → List (ℕ × ℕ) → P → Type 0) (p : P) (most : ℕ) (q : P) (claim : List ℕ → Type 0) : Type 0 where
+pub record Tells {P : Type 0} (n : ℕ) (loads : P → List (ℕ × ℕ) → P → Type 0) (p : P) (most : ℕ) (q : P) (claim : List ℕ → Type 0) : Type 0 where
   pub loaded : List (ℕ × ℕ)
   pub through : loads p loaded q
   pub few : length loaded ≤ most
-  pub claims : (words : List ℕ) → IsPageWith loaded words → claim words
+  pub claims : (words : List ℕ) → IsPageWith n loaded words → claim words
 
 -- the answer to whether something holds
 abbrev pub IsAnswer : Bool → Type 0 → Type 0

@@ -2,7 +2,7 @@
 
 use thiserror::Error;
 
-/// The node has 28 pairs, and none of them has the key. The node is unchanged.
+/// The node has as many pairs as it has place for, and none of them has the key. The node is unchanged.
 #[derive(Clone, Copy, Debug, Drop, PartialEq, Error)]
-#[error("the node has 28 pairs, and none has the key")]
+#[error("the node has no place for another pair, and none has the key")]
 pub struct Full;

@@ -1,8 +1,9 @@
 //! The header of a node: the words before its pairs that say what it is and for which keys it answers.
 
 ghost use Rattle.std.specs.Prelude.{◌≡◌, ℕ, ◌≤◌, length, slice_index};
+ghost use Rattle.vm_page.specs.Sizes.{IsSize};
 
-use vm_page::{PageBuf, WORDS};
+use vm_page::PageBuf;
 
 /// The first six words of a node. A node without a high fence has `endless` 1 and `high` 0; one with a high fence has
 /// `endless` 0.
@@ -17,7 +18,8 @@ pub struct Header {
 }
 
 /// Writes the header; the words behind it stay.
-pub fn write_header(page: &mut PageBuf<WORDS>, header: Header)
+pub fn write_header<const N: usize>(page: &mut PageBuf<N>, header: Header)
+    requires sized { IsSize N }
     ensures tag { slice_index page.new 0 ≡ header.tag }
     ensures count { slice_index page.new 1 ≡ header.count }
     ensures low { slice_index page.new 2 ≡ header.low }
@@ -25,7 +27,7 @@ pub fn write_header(page: &mut PageBuf<WORDS>, header: Header)
     ensures endless { slice_index page.new 4 ≡ header.endless }
     ensures level { slice_index page.new 5 ≡ header.level }
     ensures rest { (i : ℕ) → 6 ≤ i → slice_index page.new i ≡ slice_index page.old i }
-    ensures words { length page.new ≡ WORDS }
+    ensures words { length page.new ≡ N }
 {
     page.set(0, header.tag);
     page.set(1, header.count);

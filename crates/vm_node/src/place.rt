@@ -2,15 +2,17 @@
 
 ghost use Rattle.std.specs.Prelude.{◌≡◌, length, refl};
 ghost use Rattle.std.proofs.lemmas.List.Elements.{All-nil};
-ghost use Rattle.vm_page.specs.declared.buf.TheConstants.{WORDS};
+ghost use Rattle.vm_page.specs.Sizes.{IsSize};
 ghost use Rattle.vm_node.specs.Loads.{IsBuffer, IsBuffer-join};
 
-use vm_page::{PageBuf, WORDS};
+use vm_page::PageBuf;
 
-/// A page of 64 words, of which each is loaded when it is asked for.
+/// A page, of which each word is loaded when it is asked for.
 pub trait Place {
-    ghost use Rattle.std.specs.Prelude.{[], ◌++◌, ◌<◌, ◌∷◌, List, ℕ};
-    ghost use Rattle.vm_page.specs.declared.buf.TheConstants.{WORDS};
+    ghost use Rattle.std.specs.Prelude.{[], ◌++◌, ◌<◌, ◌≡◌, ◌∷◌, List, ℕ};
+
+    // How many words it has.
+    ghost size: { Self → ℕ };
 
     // When its words can be loaded.
     ghost ready: { Self → Type 0 };
@@ -18,11 +20,12 @@ pub trait Place {
     // Between one value and another these words were loaded, each with its place, and nothing else was done.
     ghost loads: { Self → List (ℕ × ℕ) → Self → Type 0 };
 
-    /// Word `i`, for `i` from 0 to 63.
+    /// Word `i`, for `i` from 0 on and below the number of words.
     fn word(&mut self, i: usize) -> u64
         requires ready { ready self.old }
-        requires place { i < WORDS }
+        requires place { i < size self.old }
         ensures ready { ready self.new }
+        ensures size { size self.new ≡ size self.old }
         ensures loads { loads self.old ((i, result) ∷ []) self.new };
 
     ghost none: { (p : Self) → ready p → loads p [] p };
@@ -30,8 +33,10 @@ pub trait Place {
     ghost join: { (p q r : Self) (first then : List (ℕ × ℕ)) → loads p first q → loads q then r → loads p (first ++ then) r };
 }
 
-impl Place for &PageBuf<WORDS> {
-    ghost ready = { λ p. length p.now ≡ WORDS };
+impl<const N: usize> Place for &PageBuf<N> {
+    ghost size = { λ _. N };
+
+    ghost ready = { λ p. length p.now ≡ N };
 
     ghost loads = { λ p loaded q. IsBuffer p.now loaded q.now };
 
@@ -45,11 +50,12 @@ impl Place for &PageBuf<WORDS> {
 }
 
 /// The page of a buffer as a place.
-pub fn in_buffer(page: &PageBuf<WORDS>) -> &PageBuf<WORDS>
+pub fn in_buffer<const N: usize>(page: &PageBuf<N>) -> &PageBuf<N>
+    requires sized { IsSize N }
     ensures same { result.now ≡ page.now }
-    ensures size { length result.now ≡ WORDS }
+    ensures size { length result.now ≡ N }
 {
-    // A page has 64 words.
+    // A page has N words.
     let _ = page.get(0);
     page
 }

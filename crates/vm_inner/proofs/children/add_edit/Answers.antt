@@ -1,6 +1,7 @@
 -- An inner node that an edit adds a child to is an inner node.
+use Rattle.vm_tree_model.specs.Fixed.{fixed}
 use Rattle.vm_inner.proofs.InnerNodes.{adds_inner}
 use Rattle.vm_inner.proofs.children.add_edit.Goals as goal
 
 pub returns-clause-inner : goal.returns-clause-inner
-returns-clause-inner c inner covers = adds_inner _ _ _ _ (c.in_ok-edit.ensures.node _ _ inner.node.rises) inner covers
+returns-clause-inner g c inner covers = adds_inner (fixed g.row.N) _ _ _ _ (c.in_ok-edit.ensures.node _ _ inner.node.rises) inner covers

@@ -5,4 +5,4 @@ use Rattle.vm_node.proofs.Making.{IsMadeBelow}
 use Rattle.vm_node.proofs.edit.make_out.Given as goal
 
 abbrev pub invariant-loop-i : goal.invariant-loop-i
-invariant-loop-i l = IsMadeBelow l.fn.page l.page (edited_word l.fn.page (Out l.at l.count)) l.i
+invariant-loop-i g l = IsMadeBelow g.row.N l.fn.page l.page (edited_word g.row.N l.fn.page (Out l.at l.count)) l.i

@@ -4,4 +4,4 @@ use Rattle.vm_node.proofs.Making.{IsMadeBelow}
 use Rattle.vm_node.proofs.halves.make_left.Given as goal
 
 abbrev pub invariant-loop-i : goal.invariant-loop-i
-invariant-loop-i l = IsMadeBelow l.fn.page l.page (left_word l.fn.page l.separator) l.i
+invariant-loop-i g l = IsMadeBelow g.row.N l.fn.page l.page (left_word g.row.N l.fn.page l.separator) l.i

@@ -1,7 +1,7 @@
 -- The high fence is a word of its own where it is there.
 use Rattle.std.proofs.Common.{◌≡◌, ℕ, List, get_or, arith}
 use Rattle.std.proofs.lemmas.Bool.Decides.{nat_tests}
-use Rattle.vm_tree_model.specs.Page.{high_of}
+use Rattle.vm_tree_model.specs.Fixed.{high_of}
 use Rattle.vm_node.proofs.Telling.{told_word, told_then, told_so}
 use Rattle.vm_node.proofs.shown.high_bound_at.Goals as goal
 
