@@ -1,3 +1,4 @@
+pub mod Fill
 pub mod Sizes
 mod Rising
 mod Runs

@@ -1,5 +1,6 @@
 -- How far a walk in the program has come.
 use Rattle.std.specs.Prelude.{◌≡◌, ℕ, ◌<◌, List, [], ◌∷◌, length, reverse, Option, Some, Err}
+use Rattle.vm_tree_model.specs.Layout.{Layout}
 use Rattle.vm_tree_model.specs.Walk.{Slot}
 use Rattle.vm_tree_model.specs.Reason.{Walked, comes_to, unseen_pages}
 use Rattle.vm_check.specs.declared.walk.Walk.{Walk}
@@ -17,17 +18,17 @@ pub record IsGoing (pages : List (List ℕ)) (walk : Walk) : Type 0 where
   pub inside : AllInside (length pages) (reverse walk.slots.items)
 
 -- what the walk comes to from here
-abbrev pub outcome : List (List ℕ) → Walk → Walked
-outcome pages walk = comes_to pages (reverse walk.slots.items) walk.visited.items walk.rows.items
+abbrev pub outcome : Layout → List (List ℕ) → Walk → Walked
+outcome L pages walk = comes_to L pages (reverse walk.slots.items) walk.visited.items walk.rows.items
 
 -- what it comes to if this slot is still to be filled first
-abbrev pub outcome_at : List (List ℕ) → Slot → Walk → Walked
-outcome_at pages slot walk = comes_to pages (slot ∷ reverse walk.slots.items) walk.visited.items walk.rows.items
+abbrev pub outcome_at : Layout → List (List ℕ) → Slot → Walk → Walked
+outcome_at L pages slot walk = comes_to L pages (slot ∷ reverse walk.slots.items) walk.visited.items walk.rows.items
 
 -- one visit further: the outcome is the same, and one page fewer is unvisited
-pub record IsNextVisit (pages : List (List ℕ)) (slot : Slot) (old new : Walk) : Type 0 where
+pub record IsNextVisit (L : Layout) (pages : List (List ℕ)) (slot : Slot) (old new : Walk) : Type 0 where
   pub going : IsGoing pages new
-  pub same : outcome_at pages slot old ≡ outcome pages new
+  pub same : outcome_at L pages slot old ≡ outcome L pages new
   pub fewer : unseen_pages new.visited.items < unseen_pages old.visited.items
 
 -- the fault is the one that the walk comes to, or want of memory

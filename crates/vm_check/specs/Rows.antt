@@ -1,8 +1,8 @@
 -- What the checker answers.
-use Rattle.vm_map.specs.Keys.{KEY_END}
 use Rattle.std.specs.Prelude.{◌≡◌, slice_index, List, ℕ, Some}
 use Rattle.vm_map.specs.Map.{Rises}
 use Rattle.vm_page.specs.Pages.{page_at}
+use Rattle.vm_tree_model.specs.Layout.{Layout}
 use Rattle.vm_tree_model.specs.Tree.{IsTree, map_of}
 use Rattle.vm_tree_model.specs.Reason.{reason, used_pages}
 use Rattle.vm_check.specs.declared.rows.Rows.{Rows}
@@ -10,14 +10,14 @@ use Rattle.vm_check.specs.declared.fault.CheckFault.{CheckFault}
 use Rattle.vm_check.specs.declared.fault.CheckFault.TheVariants.{BadPage, Memory}
 
 -- the pages are a tree, and these are its rows: the map's pairs by rising key, the root's level, and the number of pages that are not all zero
-pub record AreRows (pages : List (List ℕ)) (rows : Rows) : Type 0 where
-  pub tree : IsTree pages
-  pub pairs : rows.pairs.items ≡ map_of pages
-  pub rise : Rises 0 KEY_END rows.pairs.items
+pub record AreRows (L : Layout) (pages : List (List ℕ)) (rows : Rows) : Type 0 where
+  pub tree : IsTree L pages
+  pub pairs : rows.pairs.items ≡ map_of L pages
+  pub rise : Rises 0 L.key_end rows.pairs.items
   pub height : rows.height ≡ slice_index (page_at pages 0) 2
   pub used : rows.used ≡ used_pages pages
 
 -- the pages are no tree, and this is the first reason; or memory is wanting
-abbrev pub IsRefusedImage : List (List ℕ) → CheckFault → Type 0
-IsRefusedImage pages (BadPage page why) = (reason pages ≡ Some (page, why)) × ¬ (IsTree pages)
-IsRefusedImage pages Memory = Unit {0}
+abbrev pub IsRefusedImage : Layout → List (List ℕ) → CheckFault → Type 0
+IsRefusedImage L pages (BadPage page why) = (reason L pages ≡ Some (page, why)) × ¬ (IsTree L pages)
+IsRefusedImage L pages Memory = Unit {0}

@@ -2,14 +2,15 @@
 
 ghost use Rattle.vm_map.specs.Keys.{KEY_END};
 ghost use Rattle.std.specs.Prelude.{◌≡◌, ℕ, ◌+◌, ◌-◌, ◌*◌, ◌<◌, ◌≤◌, ◌++◌, length, drop, reverse, nat_lt, unwrap_or, true, OnOk, slice_index, option_map};
+ghost use Rattle.vm_page.specs.Sizes.{IsSize};
+ghost use Rattle.vm_tree_model.specs.Fixed.{fixed};
 ghost use Rattle.vm_tree_model.specs.Page.{pairs_of};
 ghost use Rattle.vm_tree_model.specs.Walk.{all_zero, rises, has_tag, has_fences, has_form, has_keys, names_pages, has_children, slot_fault, children};
 
 use std::marker::Model;
 use vm_image::is_zero_from;
-use vm_map::window::MOST_PAIRS;
-use vm_node::pairs::{count_of, key_at, value_at};
-use vm_page::{PageBuf, WORDS};
+use vm_node::pairs::{count_of, key_at, most_pairs, value_at};
+use vm_page::PageBuf;
 
 /// A place in the tree and the page that is named for it. `high` is exclusive, and `None` where there is no high fence.
 #[derive(Drop)]
@@ -48,8 +49,9 @@ fn after(key: u64) -> Option<u64>
 }
 
 // The keys rise, from low on and below high.
-fn keys_rise(page: &PageBuf<WORDS>, low: u64, high: Option<u64>) -> bool
-    ensures { result ≡ rises low (unwrap_or high KEY_END) (pairs_of page.now) }
+fn keys_rise<const N: usize>(page: &PageBuf<N>, low: u64, high: Option<u64>) -> bool
+    requires { IsSize N }
+    ensures { result ≡ rises low (unwrap_or high KEY_END) (pairs_of (fixed N) page.now) }
 {
     let mut least = Some(low);
     for i in 0..count_of(page) {
@@ -66,8 +68,9 @@ fn keys_rise(page: &PageBuf<WORDS>, low: u64, high: Option<u64>) -> bool
 }
 
 // Each value is the number of a page but 0.
-fn values_name_pages(page: &PageBuf<WORDS>, pages: u32) -> bool
-    ensures { result ≡ names_pages pages (pairs_of page.now) }
+fn values_name_pages<const N: usize>(page: &PageBuf<N>, pages: u32) -> bool
+    requires { IsSize N }
+    ensures { result ≡ names_pages pages (pairs_of (fixed N) page.now) }
 {
     for i in 0..count_of(page) {
         let child = value_at(page, i);
@@ -82,14 +85,16 @@ fn values_name_pages(page: &PageBuf<WORDS>, pages: u32) -> bool
 }
 
 impl Slot {
-    fn has_tag(&self, page: &PageBuf<WORDS>) -> bool
-        ensures { result ≡ has_tag self.now page.now }
+    fn has_tag<const N: usize>(&self, page: &PageBuf<N>) -> bool
+        requires { IsSize N }
+        ensures { result ≡ has_tag (fixed N) self.now page.now }
     {
         page.get(0) == if self.level == 0 { 2 } else { 3 }
     }
 
-    fn has_fences(&self, page: &PageBuf<WORDS>) -> bool
-        ensures { result ≡ has_fences self.now page.now }
+    fn has_fences<const N: usize>(&self, page: &PageBuf<N>) -> bool
+        requires { IsSize N }
+        ensures { result ≡ has_fences (fixed N) self.now page.now }
     {
         if page.get(2) != self.low {
             return false;
@@ -100,14 +105,15 @@ impl Slot {
         }
     }
 
-    fn has_form(&self, page: &PageBuf<WORDS>) -> bool
-        ensures { result ≡ has_form self.now page.now }
+    fn has_form<const N: usize>(&self, page: &PageBuf<N>) -> bool
+        requires { IsSize N }
+        ensures { result ≡ has_form (fixed N) self.now page.now }
     {
         let count = page.get(1);
         if self.level > 0 && count == 0 {
             return false;
         }
-        if count > MOST_PAIRS as u64 {
+        if count > most_pairs(N) as u64 {
             return false;
         }
         if page.get(5) != self.level {
@@ -119,8 +125,9 @@ impl Slot {
         is_zero_from(page, 8 + 2 * count as usize)
     }
 
-    fn has_children(&self, pages: u32, page: &PageBuf<WORDS>) -> bool
-        ensures { result ≡ has_children pages self.now page.now }
+    fn has_children<const N: usize>(&self, pages: u32, page: &PageBuf<N>) -> bool
+        requires { IsSize N }
+        ensures { result ≡ has_children (fixed N) pages self.now page.now }
     {
         if self.level == 0 {
             return true;
@@ -129,8 +136,14 @@ impl Slot {
     }
 
     /// Why the page does not fill its place, in an image of so many pages.
-    pub(crate) fn fault(&self, pages: u32, visited: bool, page: &PageBuf<WORDS>) -> Option<u8>
-        ensures { result ≡ slot_fault pages visited self.now page.now }
+    pub(crate) fn fault<const N: usize>(
+        &self,
+        pages: u32,
+        visited: bool,
+        page: &PageBuf<N>,
+    ) -> Option<u8>
+        requires { IsSize N }
+        ensures { result ≡ slot_fault (fixed N) pages visited self.now page.now }
     {
         if visited {
             return Some(3);
@@ -153,8 +166,9 @@ impl Slot {
         None
     }
 
-    fn has_keys(&self, page: &PageBuf<WORDS>) -> bool
-        ensures { result ≡ has_keys self.now page.now }
+    fn has_keys<const N: usize>(&self, page: &PageBuf<N>) -> bool
+        requires { IsSize N }
+        ensures { result ≡ has_keys (fixed N) self.now page.now }
     {
         if !keys_rise(page, self.low, self.high) {
             return false;

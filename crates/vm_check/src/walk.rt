@@ -2,6 +2,8 @@
 
 ghost use Rattle.vm_map.specs.Keys.{KEY_END};
 ghost use Rattle.std.specs.Prelude.{◌≡◌, ℕ, ◌+◌, ◌-◌, ◌<◌, ◌≤◌, unwrap_or, [], ◌∷◌, ◌++◌, length, take, drop, slice_index, reverse, replicate, None, true, false, OnOk, IfOk, MatchOption, MatchResult};
+ghost use Rattle.vm_page.specs.Sizes.{IsSize};
+ghost use Rattle.vm_tree_model.specs.Fixed.{fixed};
 ghost use Rattle.vm_tree_model.specs.Page.{pairs_of};
 ghost use Rattle.vm_tree_model.specs.Tree.{page_at};
 ghost use Rattle.vm_tree_model.specs.Walk.{all_zero, names_pages, children};
@@ -14,7 +16,7 @@ use std::alloc::{AllocError, Global};
 use vm_image::{Image, is_free};
 use vm_map::call::Pair;
 use vm_node::pairs::{count_of, key_at, value_at};
-use vm_page::{PageBuf, WORDS};
+use vm_page::PageBuf;
 
 /// A walk: the places on the stack are to be filled next, the last one first.
 #[derive(Drop)]
@@ -26,9 +28,10 @@ pub(crate) struct Walk {
 
 impl Walk {
     /// The root's place is to be filled first.
-    pub(crate) fn start(alloc: Global, image: &Image) -> Result<Walk, AllocError>
-        requires { slice_index (page_at image.now 0) 1 < length image.now }
-        ensures { IfOk result (λ walk. IsGoing image.now walk × (outcome image.now walk ≡ first_outcome image.now)) }
+    pub(crate) fn start<const N: usize>(alloc: Global, image: &Image<N>) -> Result<Walk, AllocError>
+        requires sized { IsSize N }
+        requires root { slice_index (page_at image.now 0) 1 < length image.now }
+        ensures { IfOk result (λ walk. IsGoing image.now walk × (outcome (fixed N) image.now walk ≡ first_outcome (fixed N) image.now)) }
     {
         let page = image.page(0);
         let visited = vec![in alloc; false; image.pages() as usize]?;
@@ -47,10 +50,12 @@ impl Walk {
     }
 
     /// How many pages are not all zero, where each of them but page 0 was visited.
-    pub(crate) fn used_pages(&self, image: &Image) -> Result<u32, CheckFault>
+    pub(crate) fn used_pages<const N: usize>(&self, image: &Image<N>) -> Result<u32, CheckFault>
+        requires sized { IsSize N }
         requires flags { length self.now.visited.items ≡ length image.now }
         requires meta { all_zero (page_at image.now 0) ≡ false }
-        ensures { MatchResult result (λ used. (used ≡ used_pages image.now) × (first_lost (drop 1 image.now) self.now.visited.items 1 ≡ None)) (λ fault. IsOrphan (first_lost (drop 1 image.now) self.now.visited.items 1) fault) }
+        ensures { MatchResult result (λ used. (used ≡ used_pages image.now) × (first_lost (fixed N) (drop 1 image.now) self.now.visited.items 1 ≡ None))
+            (λ fault. IsOrphan (first_lost (fixed N) (drop 1 image.now) self.now.visited.items 1) fault) }
     {
         let mut used = 1;
         for p in 1..image.pages() {
@@ -75,10 +80,16 @@ impl Walk {
     }
 
     /// Visits the page that is named for a place.
-    pub(crate) fn visit(&mut self, image: &Image, slot: Slot) -> Result<(), CheckFault>
+    pub(crate) fn visit<const N: usize>(
+        &mut self,
+        image: &Image<N>,
+        slot: Slot,
+    ) -> Result<(), CheckFault>
+        requires sized { IsSize N }
         requires going { IsGoing image.now self.old }
         requires inside { slot.page < length image.now }
-        ensures { MatchResult result (λ _. IsNextVisit image.now slot self.old self.new) (λ fault. IsFaultOf (outcome_at image.now slot self.old) fault) }
+        ensures { MatchResult result (λ _. IsNextVisit (fixed N) image.now slot self.old self.new)
+            (λ fault. IsFaultOf (outcome_at (fixed N) image.now slot self.old) fault) }
     {
         let page = image.page(slot.page);
         let was_visited = self.visited[slot.page as usize];
@@ -112,8 +123,9 @@ impl Walk {
 }
 
 // Adds a leaf's pairs to the rows.
-fn push_pairs(rows: &mut Vec<Pair>, page: &PageBuf<WORDS>) -> Result<(), AllocError>
-    ensures { OnOk result (rows.new.items ≡ rows.old.items ++ pairs_of page.now) }
+fn push_pairs<const N: usize>(rows: &mut Vec<Pair>, page: &PageBuf<N>) -> Result<(), AllocError>
+    requires { IsSize N }
+    ensures { OnOk result (rows.new.items ≡ rows.old.items ++ pairs_of (fixed N) page.now) }
 {
     for i in 0..count_of(page) {
         rows.push(Pair {
@@ -125,15 +137,16 @@ fn push_pairs(rows: &mut Vec<Pair>, page: &PageBuf<WORDS>) -> Result<(), AllocEr
 }
 
 // Puts the places of a node's children on the stack, the leftmost on top.
-fn push_children(
+fn push_children<const N: usize>(
     slots: &mut Vec<Slot>,
     level: u64,
     high: Option<u64>,
-    page: &PageBuf<WORDS>,
+    page: &PageBuf<N>,
     pages: u32,
 ) -> Result<(), AllocError>
-    requires names { names_pages pages (pairs_of page.now) ≡ true }
-    ensures { OnOk result (reverse slots.new.items ≡ children level (pairs_of page.now) (unwrap_or high KEY_END) ++ reverse slots.old.items) }
+    requires sized { IsSize N }
+    requires names { names_pages pages (pairs_of (fixed N) page.now) ≡ true }
+    ensures { OnOk result (reverse slots.new.items ≡ children level (pairs_of (fixed N) page.now) (unwrap_or high KEY_END) ++ reverse slots.old.items) }
 {
     let mut high = high;
     for i in (0..count_of(page)).rev() {

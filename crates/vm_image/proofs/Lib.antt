@@ -1,3 +1,5 @@
 pub mod ZeroWords
 pub mod FilePages
 pub mod NextPage
+pub mod FileSizes
+mod NewBlocks

@@ -4,7 +4,7 @@ use Rattle.vm_image.specs.File.{IsPageFile}
 use Rattle.vm_image.specs.declared.fault.ImageFault.{ImageFault}
 use Rattle.vm_image.specs.declared.fault.ImageFault.TheVariants.{BadLength, Memory}
 
--- the bytes are no page file, and so many; or they are one, and memory is wanting
-abbrev pub IsRefusedFile : List ℕ → ImageFault → Type 0
-IsRefusedFile bytes (BadLength len) = (len ≡ length bytes) × ¬ (IsPageFile bytes)
-IsRefusedFile bytes Memory = IsPageFile bytes
+-- the bytes are no file of pages of n words, and so many; or they are one, and memory is wanting
+abbrev pub IsRefusedFile : ℕ → List ℕ → ImageFault → Type 0
+IsRefusedFile n bytes (BadLength len) = (len ≡ length bytes) × ¬ (IsPageFile n bytes)
+IsRefusedFile n bytes Memory = IsPageFile n bytes

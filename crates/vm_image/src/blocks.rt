@@ -1,13 +1,15 @@
 //! The pages of an image as blocks in memory, and back.
 
 ghost use Rattle.std.specs.Prelude.{◌≡◌, ℕ, ◌<◌, ◌≤◌, length, IfOk};
+ghost use Rattle.vm_page.specs.Sizes.{IsSize};
+ghost use Rattle.vm_image.specs.File.{most_pages};
 ghost use Rattle.vm_image.specs.Blocks.{AreBlocksOf, numbers_for, pages_of_blocks};
 
 use crate::image::Image;
 use crate::memory::Memory;
 use std::alloc::{AllocError, Global};
 use vm_block::MemBlock;
-use vm_page::{PageBuf, WORDS};
+use vm_page::PageBuf;
 
 /// An entry of a plan of failures: the call with this number on this page's block fails. An entry for a page that the
 /// image lacks never acts.
@@ -19,11 +21,11 @@ pub struct PlannedFault {
 
 /// A block for each page, in the pages' order: it holds the page's words and fails the calls that the plan numbers for
 /// that page.
-pub fn blocks_of(
+pub fn blocks_of<const N: usize>(
     alloc: Global,
-    image: &Image,
+    image: &Image<N>,
     plan: &[PlannedFault],
-) -> Result<Vec<MemBlock<WORDS>>, Memory>
+) -> Result<Vec<MemBlock<N>>, Memory>
     ensures blocks { IfOk result (λ blocks. AreBlocksOf image.now plan.now blocks.items) }
     ensures count { IfOk result (λ blocks. length blocks.items ≡ length image.now) }
 {
@@ -50,10 +52,11 @@ fn numbers_for(alloc: Global, plan: &[PlannedFault], page: u32) -> Result<Vec<u6
     Ok(numbers)
 }
 
-/// The image of 2 to 65,536 blocks: a page for each, with the words that it holds.
-pub fn image_of(alloc: Global, blocks: &[MemBlock<WORDS>]) -> Result<Image, Memory>
+/// The image of blocks, as many as a file has pages of `N` words: a page for each, with the words that it holds.
+pub fn image_of<const N: usize>(alloc: Global, blocks: &[MemBlock<N>]) -> Result<Image<N>, Memory>
+    requires sized { IsSize N }
     requires some { 2 ≤ length blocks.now }
-    requires most { length blocks.now ≤ 65536 }
+    requires most { length blocks.now ≤ most_pages N }
     ensures { IfOk result (λ image. image ≡ pages_of_blocks blocks.now) }
 {
     let mut pages = Vec::with_capacity(alloc, blocks.len())?;

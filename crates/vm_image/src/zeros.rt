@@ -1,17 +1,20 @@
 //! Whether the words of a page are 0.
 
 ghost use Rattle.std.specs.Prelude.{◌≡◌, drop, length};
+ghost use Rattle.vm_page.specs.Sizes.{IsSize};
+ghost use Rattle.vm_tree_model.specs.Fixed.{fixed};
 ghost use Rattle.vm_tree_model.specs.Walk.{all_zero, is_free};
 
-use vm_page::{PageBuf, WORDS};
+use vm_page::PageBuf;
 
 /// All words from word `from` on are 0.
-pub fn is_zero_from(page: &PageBuf<WORDS>, from: usize) -> bool
+pub fn is_zero_from<const N: usize>(page: &PageBuf<N>, from: usize) -> bool
+    requires { IsSize N }
     ensures { result ≡ all_zero (drop from page.now) }
 {
-    // A page has 64 words.
+    // A page has N words.
     let _ = page.get(0);
-    for i in from..WORDS {
+    for i in from..N {
         if page.get(i) != 0 {
             return false;
         }
@@ -19,12 +22,13 @@ pub fn is_zero_from(page: &PageBuf<WORDS>, from: usize) -> bool
     true
 }
 
-/// The page is free: its 64 words are all 0.
+/// The page is free: its words are all 0.
 #[tactic(auto, using(crate::proofs::ZeroWords::zero_first))]
-pub fn is_free(page: &PageBuf<WORDS>) -> bool
-    ensures free { result ≡ is_free page.now }
+pub fn is_free<const N: usize>(page: &PageBuf<N>) -> bool
+    requires { IsSize N }
+    ensures free { result ≡ is_free (fixed N) page.now }
     ensures zero { result ≡ all_zero page.now }
-    ensures length { length page.now ≡ WORDS }
+    ensures length { length page.now ≡ N }
 {
     if page.get(0) != 0 {
         return false;
