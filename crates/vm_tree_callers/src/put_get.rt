@@ -5,17 +5,17 @@ ghost use Rattle.vm_step.specs.Prelude.{IsReady, IsSamePass, MayStep, view};
 ghost use Rattle.vm_tree_callers.specs.Pairs.{AnswersPut};
 
 use vm_block::Block;
+use vm_kind::{Edits, TreeOf};
 use vm_map::call::Reply;
 use vm_rule::words::{Pass, Words};
 use vm_tree_read::{TryRead, try_get};
-use vm_tree_rule::Tree;
 use vm_tree_write::{TryWrite, try_put};
 
 /// The reply of the get, where both were answered at once.
-pub fn put_then_get<B: Block>(
-    words: &Words<Tree, B>,
-    pass: &mut Pass<Tree>,
-    key: u64,
+pub fn put_then_get<K: Edits, B: Block>(
+    words: &Words<TreeOf<K>, B>,
+    pass: &mut Pass<TreeOf<K>>,
+    key: &K::Key,
     value: u64,
 ) -> Option<Reply>
     requires pass { MayStep words.now.table.shared.table_id pass.old }
@@ -23,7 +23,7 @@ pub fn put_then_get<B: Block>(
     requires home { (view pass.old).out ≡ None }
     ensures pass { IsSamePass pass.old pass.new }
     ensures ready { IsReady words.now.table.shared.key B.tells words.now.table.shared.table_id pass.new }
-    ensures answers { IfSome result (λ reply. AnswersPut key value reply (view pass.old) (view pass.new)) }
+    ensures answers { IfSome result (λ reply. AnswersPut K.plain (K.rank key.now) value reply (view pass.old) (view pass.new)) }
 {
     let TryWrite::Done(_was) = try_put(words, pass, key, value) else {
         return None;

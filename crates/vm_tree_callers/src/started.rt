@@ -4,26 +4,27 @@ ghost use Rattle.std.specs.Prelude.{◌<◌, ◌≡◌, ◌≤◌, IfOk, length,
 ghost use Rattle.vm_map.specs.Map.{lookup_at};
 ghost use Rattle.vm_tree_model.specs.Tree.{map_of};
 ghost use Rattle.vm_core.specs.Prelude.{MAX_VERSION};
+ghost use Rattle.vm_page.specs.Sizes.{IsSize};
 ghost use Rattle.vm_rule.specs.Prelude.{block_words, bounds_of, IsStarted, MayBegin};
 ghost use Rattle.vm_pool.specs.Brings.{IsBroughtOrFailed};
-ghost use Rattle.vm_tree_laws.specs.Keeps.{KeepsTree};
+ghost use Rattle.vm_tree_laws.specs.Plain.{KeepsPlain};
 
 use std::alloc::Global;
 use vm_block::{Block, PageBlock};
 use vm_core::Memory;
 use vm_exmap::Interface;
+use vm_kind::{Kind, TreeOf};
 use vm_map::call::Reply;
-use vm_page::WORDS;
+use vm_owner::Owner;
 use vm_pool::{Bring, Pool, Shape};
 use vm_pool_callers::first_page::{Opened, open_page};
 use vm_rule::words::Pass;
 use vm_tree_read::{TryRead, try_get};
-use vm_tree_rule::Tree;
 
 /// A pool that was just started, with its first pass, what `bring` answered for page 0 and for the root, and what the get answered then.
-pub struct Started<B: Block> {
-    pub pool: Pool<Tree, B, WORDS>,
-    pub pass: Pass<Tree>,
+pub struct Started<U: Owner, B: Block, const N: usize> {
+    pub pool: Pool<U, B, N>,
+    pub pass: Pass<U>,
     pub iface: Interface,
     pub meta: Bring,
     pub root: Bring,
@@ -33,23 +34,25 @@ pub struct Started<B: Block> {
 /// Starts a pool of two or more frames, below the last version, over blocks that tell their words and hold a tree on the pages 0 and 1; brings
 /// both, and tries a get of the key. Each page is brought, or its device failed, as the bound of its block allows; where both were brought the
 /// get is answered at once, with what the map of the pages has at the key.
-pub fn get_from_start<B: PageBlock<WORDS> + Drop>(
+pub fn get_from_start<K: Kind, B: PageBlock<N> + Drop, const N: usize>(
     alloc: Global,
     shape: Shape,
     blocks: Vec<B>,
-    key: u64,
-) -> Result<Started<B>, Memory>
+    key: &K::Key,
+) -> Result<Started<TreeOf<K>, B, N>, Memory>
+    requires sized { IsSize N }
+    requires words { K.layout.words ≡ N }
     requires pages { shape.pages ≡ length blocks.items }
     requires fits { IsStarted shape.first_version shape.next shape.frames (length blocks.items) }
     requires below { shape.first_version < MAX_VERSION }
     requires frames { 2 ≤ shape.frames }
     requires leaf { shape.next ≡ 2 }
     requires tells { B.tells ≡ true }
-    requires begins { MayBegin KeepsTree shape.next (block_words (map B.stored blocks.items)) }
+    requires begins { MayBegin (KeepsPlain K.plain K.layout) shape.next (block_words (map B.stored blocks.items)) }
     ensures meta { IfOk result (λ started. IsBroughtOrFailed 0 (bounds_of (map B.stored blocks.items)) started.meta) }
     ensures root { IfOk result (λ started. IsBroughtOrFailed 1 (bounds_of (map B.stored blocks.items)) started.root) }
     ensures reply { IfOk result (λ started. started.meta ≡ Bring.Brought → started.root ≡ Bring.Brought
-        → started.reply ≡ TryRead.Done (Reply.Got (lookup_at (map_of (block_words (map B.stored blocks.items))) key))) }
+        → started.reply ≡ TryRead.Done (Reply.Got (lookup_at (map_of K.layout (block_words (map B.stored blocks.items))) (K.rank key.now)))) }
 {
     let Opened {
         pool,

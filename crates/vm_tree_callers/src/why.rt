@@ -5,13 +5,17 @@ ghost use Rattle.vm_core.specs.Prelude.{LOCKED, state_of};
 ghost use Rattle.vm_step.specs.Prelude.{HasGiven, IsSamePass, MayStep, place_at, view};
 
 use vm_block::Block;
+use vm_kind::{Kind, TreeOf};
 use vm_rule::words::{Pass, Words};
 use vm_step::Saw;
 use vm_tree_read::{TryRead, try_get};
-use vm_tree_rule::Tree;
 
 /// The evidence of a get that is to be tried again.
-pub fn why_again<B: Block>(words: &Words<Tree, B>, pass: &mut Pass<Tree>, key: u64) -> Option<Saw>
+pub fn why_again<K: Kind, B: Block>(
+    words: &Words<TreeOf<K>, B>,
+    pass: &mut Pass<TreeOf<K>>,
+    key: &K::Key,
+) -> Option<Saw>
     requires pass { MayStep words.now.table.shared.table_id pass.old }
     requires pages { 1 ≤ words.now.table.shared.key.pages }
     ensures pass { IsSamePass pass.old pass.new }

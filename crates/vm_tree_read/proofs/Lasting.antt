@@ -1,14 +1,14 @@
 -- Tries and pages brought, one after the other.
 use Rattle.std.proofs.Common.{[], ◌++◌, ◌+◌, ◌∙◌, ◌∷◌, ◌≡◌, ap, append_assoc, List, refl, slice_index, subst, sym, ℕ}
 use Rattle.vm_map.specs.declared.call.Said.{Said}
-use Rattle.vm_tree_model.specs.Tree.{map_of}
+use Rattle.vm_tree_model.specs.{Layout.Layout, Tree.map_of}
 use Rattle.vm_rule.specs.Prelude.{entries_under, Entry, entry_of}
 use Rattle.vm_rule.proofs.Entries.{append-none}
 use Rattle.vm_step.specs.Prelude.{NoneExpected, Origin, View}
 use Rattle.vm_step.proofs.Asides.{alone-self, alone-then, holds-then, knows-then, starts-then, still-locking}
 use Rattle.vm_pool.specs.{Brings.IsBring, Brings.KeepsLocks, declared.bring.Bring.Bring}
 use Rattle.vm_pool.specs.declared.bring.Bring.TheVariants as brings
-use Rattle.vm_tree_laws.specs.History.{IsLegal}
+use Rattle.vm_tree_laws.specs.{History.IsLegal, Plain.plain_history}
 use Rattle.vm_tree_rule.specs.{declared.fault.TreeFault.TreeFault, declared.turn.Turn.Turn, Leaves.ReadsOn, Turns.IsTurnedBack}
 use Rattle.vm_tree_rule.specs.declared.turn.Turn.TheVariants as turns
 use Rattle.vm_tree_read.specs.Reads.{IsAnswered, key_of}
@@ -51,10 +51,10 @@ module _ {X : Type 0} where
   reads-wait v w r = record { holds = r.0.holds; knows = r.0.knows; mine = r.1; seen = r.0.seen; releases = r.0.releases; notes = ([], r.0.notes ∙ sym (append-none v.notes)); log = (r.0.done, r.0.log); group = r.0.group; out = r.0.out; start = r.0.start; parts = r.0.parts; alone = r.0.alone }
 
   -- a call that was turned back only read
-  pub turned-reads : (v : View X) (key : ℕ) (turn : Turn) (w : View X) → IsTurnedBack v key turn w → ReadsOn v w
-  turned-reads v key (turns.Again saw) w t = t.0
-  turned-reads v key (turns.Need p) w t = t.0
-  turned-reads v key (turns.Astray saw) w t = t.0
+  pub turned-reads : (L : Layout) (v : View X) (key : ℕ) (turn : Turn) (w : View X) → IsTurnedBack L v key turn w → ReadsOn v w
+  turned-reads L v key (turns.Again saw) w t = t.0
+  turned-reads L v key (turns.Need p) w t = t.0
+  turned-reads L v key (turns.Astray saw) w t = t.0
 
   pub bring-waits : (v w : View X) → KeepsLocks v w → Waits v w
   bring-waits v w k = record { holds = k.holds; knows = k.knows; mine = k.mine; seen = k.seen; releases = k.releases; notes = k.notes; log = k.log; group = k.group; out = k.out; start = k.start; parts = k.parts; alone = k.alone }
@@ -65,26 +65,27 @@ module _ {X : Type 0} where
   names-fault home cap p old new before after v w (brings.Worn q) fault is named = IsBringFault.worn home cap before after q old new is named
   names-fault home cap p old new before after v w answer fault is named = absurd named
 
--- the entry is the next one of the pass as it was before it waited
-same-entry : (v x : View Said) (said : Said) → Waits v x → entry_of x said ≡ entry_of v said
-same-entry v x said k i = record { number = slice_index (k.parts.0 i) 0; count = entries_under (slice_index (k.parts.0 i) 0) (k.mine i) + 1; said = said }
+module _ {S : Type 0} (plain : S → Said) (L : Layout) where
+  -- the entry is the next one of the pass as it was before it waited
+  same-entry : (v x : View S) (said : S) → Waits v x → entry_of x said ≡ entry_of v said
+  same-entry v x said k i = record { number = slice_index (k.parts.0 i) 0; count = entries_under (slice_index (k.parts.0 i) 0) (k.mine i) + 1; said = said }
 
-pub replied : (said : Said) (v x w : View Said) → Waits v x × AreRounds (IsRound NoneExpected (key_of said.call)) v x → IsAnswered said x w → IsReplied said v w
-replied said v x w both a = let k = both.0 in record {
-  tried = x;
-  rounds = both.1;
-  waits = k;
-  answered = a;
-  mine = a.mine ∙ (λ i. k.mine i ++ same-entry v x said k i ∷ []);
-  entry = (
-    k.seen.0 ++ a.entry.0,
-    a.entry.1 ∙ (λ i. (k.seen.1 i ++ a.entry.0) ++ same-entry v x said k i ∷ []) ∙ ap (λ (l : List (Entry Said)). l ++ entry_of v said ∷ []) (append_assoc v.seen k.seen.0 a.entry.0),
-  );
-  legal = λ tells. subst (λ (o : Origin). IsLegal (map_of o.contents) w.seen) k.start (a.told (ap (λ (o : Origin). o.tells) k.start ∙ tells)).legal;
-  holds = λ q. holds-then v x w q (k.holds q) (a.reads.holds q);
-  knows = λ q l. knows-then v x w q (k.knows q l) (a.reads.knows q (still-locking v x q (k.holds q) l));
-  out = a.reads.out ∙ k.out;
-  start = a.reads.start ∙ k.start;
-  parts = (a.reads.parts.0 ∙ k.parts.0, a.reads.parts.1 ∙ k.parts.1);
-  alone = alone-then v x w k.parts k.alone a.reads.alone;
-}
+  pub replied : (said : Said) (v x w : View S) → Waits v x × AreRounds (IsRound L NoneExpected (key_of said.call)) v x → IsAnswered plain L said x w → IsReplied plain L said v w
+  replied said v x w both a = let k = both.0 in record {
+    tried = x;
+    rounds = both.1;
+    waits = k;
+    answered = a;
+    mine = a.mine ∙ (λ i. k.mine i ++ same-entry v x a.says k i ∷ []);
+    entry = (
+      k.seen.0 ++ a.entry.0,
+      a.entry.1 ∙ (λ i. (k.seen.1 i ++ a.entry.0) ++ same-entry v x a.says k i ∷ []) ∙ ap (λ (l : List (Entry S)). l ++ entry_of v a.says ∷ []) (append_assoc v.seen k.seen.0 a.entry.0),
+    );
+    legal = λ tells. subst (λ (o : Origin). IsLegal (map_of L o.contents) (plain_history plain w.seen)) k.start (a.told (ap (λ (o : Origin). o.tells) k.start ∙ tells)).legal;
+    holds = λ q. holds-then v x w q (k.holds q) (a.reads.holds q);
+    knows = λ q l. knows-then v x w q (k.knows q l) (a.reads.knows q (still-locking v x q (k.holds q) l));
+    out = a.reads.out ∙ k.out;
+    start = a.reads.start ∙ k.start;
+    parts = (a.reads.parts.0 ∙ k.parts.0, a.reads.parts.1 ∙ k.parts.1);
+    alone = alone-then v x w k.parts k.alone a.reads.alone;
+  }

@@ -3,12 +3,12 @@ use Rattle.std.specs.Prelude.{[], ◌++◌, ◌∷◌, ◌≡◌, ◌≢◌, ◌
 use Rattle.vm_map.specs.{declared.call.Call.Call, declared.call.Reply.Reply, declared.call.Said.Said, Map.Rises}
 use Rattle.vm_map.specs.declared.call.Call.TheVariants.{Del, Get, Put, Window}
 use Rattle.vm_map.specs.declared.call.Reply.TheVariants.{Gone, Got, Was, Win}
-use Rattle.vm_tree_model.specs.{Node.Covers, Page.node_of, Page.pairs_of, Tree.map_of}
+use Rattle.vm_tree_model.specs.{Layout.Layout, Node.Covers, Page.node_of, Page.pairs_of, Tree.map_of}
 use Rattle.vm_node.specs.Loads.{IsPageWith}
 use Rattle.vm_core.specs.Prelude.{page_at}
 use Rattle.vm_rule.specs.Prelude.{began_of, Entry, entry_of, Kept, last_of}
 use Rattle.vm_step.specs.Prelude.{View}
-use Rattle.vm_tree_laws.specs.{History.IsLegal, Keeps.KeepsTree, May.IsProved}
+use Rattle.vm_tree_laws.specs.{History.IsLegal, May.IsProved, Plain.KeepsPlain, Plain.plain_history}
 use Rattle.vm_tree_rule.specs.{Leaves.OnlyReads, Leaves.ReadsOn, Seeks.HasLoaded, Shown.IsAgain, Turns.IsAstray, Turns.IsNeeded}
 use Rattle.vm_tree_read.specs.declared.read.TryRead.{TryRead}
 use Rattle.vm_tree_read.specs.declared.read.TryRead.TheVariants as tries
@@ -29,54 +29,58 @@ IsOfKind (Window start most) (Win window) = Unit {0}
 IsOfKind _ _ = ⊥
 
 -- the words are a leaf's that covers the call's key; and they prove the reply where their keys rise, as those of a tree's leaf do
-pub record ProvesReply (words : List ℕ) (said : Said) : Type 0 where
-  pub leaf : (node_of words).tag ≡ 2
-  pub covers : Covers (node_of words) (key_of said.call)
-  pub reply : (low high : ℕ) → Rises low high (pairs_of words) → IsProved words said.call said.reply
+pub record ProvesReply (L : Layout) (words : List ℕ) (said : Said) : Type 0 where
+  pub leaf : (node_of L words).tag ≡ 2
+  pub covers : Covers (node_of L words) (key_of said.call)
+  pub reply : (low high : ℕ) → Rises low high (pairs_of L words) → IsProved L words said.call said.reply
 
 -- the answer to whether these words are a leaf's that covers the key
-pub record IsLeafAnswer (words : List ℕ) (key : ℕ) (answer : Bool) : Type 0 where
-  pub yes : answer ≡ true → ((node_of words).tag ≡ 2) × Covers (node_of words) key
-  pub no : answer ≡ false → ((node_of words).tag ≢ 2) ⊎ (¬ (Covers (node_of words) key))
+pub record IsLeafAnswer (L : Layout) (words : List ℕ) (key : ℕ) (answer : Bool) : Type 0 where
+  pub yes : answer ≡ true → ((node_of L words).tag ≡ 2) × Covers (node_of L words) key
+  pub no : answer ≡ false → ((node_of L words).tag ≢ 2) ⊎ (¬ (Covers (node_of L words) key))
 
 -- each page that has the words loaded proves the reply
-abbrev pub TellReply : List (ℕ × ℕ) → Said → Type 0
-TellReply loaded said = (words : List ℕ) → IsPageWith loaded words → ProvesReply words said
-
--- At the step that made the entry the pages of the tree were such that their map is the start's map after the whole history; the history is legal
--- for the start's map; and the tree's page, whose words are the last ones of the table's page, has the words that were loaded, and proves the reply
-pub record IsBorneOut (page : ℕ) (loaded : List (ℕ × ℕ)) (said : Said) (v w : View Said) : Type 0 where
-  pub legal : IsLegal (map_of v.start.contents) w.seen
-  pub kept : Kept Said
-  pub keeps : KeepsTree (began_of v.start) kept
-  pub history : kept.history ≡ w.seen
-  pub last : page_at kept.pages page ≡ (last_of w page).words
-  pub has : IsPageWith loaded (page_at kept.pages page)
-  pub proved : IsProved (page_at kept.pages page) said.call said.reply
+abbrev pub TellReply : Layout → List (ℕ × ℕ) → Said → Type 0
+TellReply L loaded said = (words : List ℕ) → IsPageWith L.words loaded words → ProvesReply L words said
 
 -- the entry of what is said, the pass's next one, stands behind all entries that it had seen and others that came meanwhile; and behind the entry it has seen
 -- these
-abbrev pub GainsEntry : Said → View Said → List (Entry Said) → View Said → Type 0
-GainsEntry said v more w = (others : List (Entry Said)) × (w.seen ≡ (v.seen ++ others) ++ entry_of v said ∷ more)
+abbrev pub GainsEntry : {S : Type 0} → S → View S → List (Entry S) → View S → Type 0
+GainsEntry {S} said v more w = (others : List (Entry S)) × (w.seen ≡ (v.seen ++ others) ++ entry_of v said ∷ more)
 
--- The call with its reply became the last entry, under the pass's first number and its next count. Words of a page were loaded, and each page that
--- has them is a leaf that covers the call's key, and proves the reply if its keys rise; where blocks tell their words one is borne out
-pub record IsAnswered (said : Said) (v w : View Said) : Type 0 where
-  pub reads : OnlyReads v w
-  pub mine : w.mine ≡ v.mine ++ entry_of v said ∷ []
-  pub entry : GainsEntry said v [] w
-  pub page : ℕ
-  pub loaded : List (ℕ × ℕ)
-  pub read : HasLoaded w page loaded
-  pub proves : TellReply loaded said
-  pub told : v.start.tells ≡ true → IsBorneOut page loaded said v w
+-- What is said, `says`, may speak of keys in its own way; `plain` reads it with a number for each key, as the call with its reply
+module _ {S : Type 0} (plain : S → Said) (L : Layout) where
+  -- At the step that made the entry the pages of the tree were such that their map is the start's map after the whole history; the history is legal
+  -- for the start's map; and the tree's page, whose words are the last ones of the table's page, has the words that were loaded, and proves the reply
+  pub record IsBorneOut (page : ℕ) (loaded : List (ℕ × ℕ)) (said : Said) (v w : View S) : Type 0 where
+    pub legal : IsLegal (map_of L v.start.contents) (plain_history plain w.seen)
+    pub kept : Kept S
+    pub keeps : KeepsPlain plain L (began_of v.start) kept
+    pub history : kept.history ≡ w.seen
+    pub last : page_at kept.pages page ≡ (last_of w page).words
+    pub has : IsPageWith L.words loaded (page_at kept.pages page)
+    pub proved : IsProved L (page_at kept.pages page) said.call said.reply
 
--- a try of this call, whose key this is: answered; or to be tried again; or for a page that is needed. Without an answer the pass has no
--- further entry
-abbrev pub IsTried : Call → ℕ → TryRead → View Said → View Said → Type 0
-IsTried call key (tries.Done reply) v w = IsAnswered (record { call = call; reply = reply }) v w
-IsTried call key (tries.Again saw) v w = ReadsOn v w × (IsAgain v saw w ⊎ IsAstray v key saw w)
-IsTried call key (tries.Need p) v w = ReadsOn v w × IsNeeded v key p w
+  -- The call with its reply became the last entry, under the pass's first number and its next count. Words of a page were loaded, and each page that
+  -- has them is a leaf that covers the call's key, and proves the reply if its keys rise; where blocks tell their words one is borne out
+  pub record IsAnswered (said : Said) (v w : View S) : Type 0 where
+    pub reads : OnlyReads v w
+    pub says : S
+    pub says_is : plain says ≡ said
+    pub mine : w.mine ≡ v.mine ++ entry_of v says ∷ []
+    pub entry : GainsEntry says v [] w
+    pub page : ℕ
+    pub loaded : List (ℕ × ℕ)
+    pub read : HasLoaded w page loaded
+    pub proves : TellReply L loaded said
+    pub told : v.start.tells ≡ true → IsBorneOut page loaded said v w
+
+  -- a try of this call, whose key this is: answered; or to be tried again; or for a page that is needed. Without an answer the pass has no
+  -- further entry
+  abbrev pub IsTried : Call → ℕ → TryRead → View S → View S → Type 0
+  IsTried call key (tries.Done reply) v w = IsAnswered (record { call = call; reply = reply }) v w
+  IsTried call key (tries.Again saw) v w = ReadsOn v w × (IsAgain v saw w ⊎ IsAstray L v key saw w)
+  IsTried call key (tries.Need p) v w = ReadsOn v w × IsNeeded L v key p w
 
 -- where it was answered the reply is one to such a call, whatever the blocks tell
 abbrev pub IsDoneInKind : Call → TryRead → Type 0

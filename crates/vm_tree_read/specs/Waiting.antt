@@ -1,13 +1,13 @@
 -- What a read leaves and answers that waits: tries, and pages brought in between, until a try is answered or a page can't be brought.
 use Rattle.std.specs.Prelude.{[], ◌++◌, ◌∷◌, ◌≡◌, ◌⊎◌, false, List, true, ℕ}
 use Rattle.vm_map.specs.{declared.call.Said.Said}
-use Rattle.vm_tree_model.specs.Tree.{map_of}
+use Rattle.vm_tree_model.specs.{Layout.Layout, Tree.map_of}
 use Rattle.vm_rule.specs.Prelude.{entry_of, has, IsLocking, seat_of, StartsWith}
 use Rattle.vm_step.specs.Prelude.{HoldsPage, KnowsAsBefore, NoneExpected, StaysAlone, View}
 use Rattle.vm_step.specs.declared.saw.Saw.{Saw}
 use Rattle.vm_pool.specs.{Brings.IsBring, declared.bring.Bring.Bring}
 use Rattle.vm_pool.specs.declared.bring.Bring.TheVariants as brings
-use Rattle.vm_tree_laws.specs.History.{IsLegal}
+use Rattle.vm_tree_laws.specs.{History.IsLegal, Plain.plain_history}
 use Rattle.vm_tree_rule.specs.{declared.fault.TreeFault.TreeFault, Leaves.ReadsOn, Shown.IsShown, Turns.IsAstray, Turns.IsNeeded}
 use Rattle.vm_tree_rule.specs.declared.fault.TreeFault.TheVariants as faults
 use Rattle.vm_tree_read.specs.Reads.{GainsEntry, IsAnswered, key_of}
@@ -67,40 +67,41 @@ module _ {X : Type 0} where
   -- A round of a call that waits: a try, from v on, was not answered, since others came before, as the steps of this try show, or since the words of
   -- a page are no tree's; or it needed a page, which was then to be brought, once, and the answer named no fault. An exchange of the try may expect
   -- a word in the place of one that it read as `expects` tells
-  pub data IsRound (expects : ℕ → ℕ → Type 0) (key : ℕ) (v w : View X) : Type 0 where
-    again : (saw : Saw) → ReadsOn v w → (IsShown expects v saw w ⊎ IsAstray v key saw w) → IsRound expects key v w
-    needed : (page : ℕ) (x : View X) → ReadsOn v x → IsNeeded v key page x → IsNoBringFault page x w → IsRound expects key v w
+  pub data IsRound (L : Layout) (expects : ℕ → ℕ → Type 0) (key : ℕ) (v w : View X) : Type 0 where
+    again : (saw : Saw) → ReadsOn v w → (IsShown expects v saw w ⊎ IsAstray L v key saw w) → IsRound L expects key v w
+    needed : (page : ℕ) (x : View X) → ReadsOn v x → IsNeeded L v key page x → IsNoBringFault page x w → IsRound L expects key v w
 
   -- so it went, one such round after another
   pub data AreRounds (round : View X → View X → Type 0) (v : View X) : View X → Type 0 where
     none : AreRounds round v v
     further : (x w : View X) → AreRounds round v x → round x w → AreRounds round v w
 
--- The last try was answered; those before it, and the pages brought, each for a try that needed it, made no entry. So the entry is the pass's next one,
--- and stands behind all that the pass had seen; the pass holds what it held
-pub record IsReplied (said : Said) (v w : View Said) : Type 0 where
-  pub tried : View Said
-  pub rounds : AreRounds (IsRound NoneExpected (key_of said.call)) v tried
-  pub waits : Waits v tried
-  pub answered : IsAnswered said tried w
-  pub mine : w.mine ≡ v.mine ++ entry_of v said ∷ []
-  pub entry : GainsEntry said v [] w
-  pub legal : v.start.tells ≡ true → IsLegal (map_of v.start.contents) w.seen
-  pub holds : (q : ℕ) → HoldsPage v w q
-  pub knows : (q : ℕ) → IsLocking (seat_of v q) → KnowsAsBefore v w q
-  pub out : w.out ≡ v.out
-  pub start : w.start ≡ v.start
-  pub parts : (w.used ≡ v.used) × (w.fresh ≡ v.fresh)
-  pub alone : StaysAlone v w
+  -- the last try, after such rounds, needed a page, which could not be brought
+  pub record IsFaulted (L : Layout) (key : ℕ) (fault : TreeFault) (v w : View X) : Type 0 where
+    pub tried : View X
+    pub found : View X
+    pub rounds : AreRounds (IsRound L NoneExpected key) v tried
+    pub waits : Waits v tried
+    pub page : ℕ
+    pub reads : ReadsOn tried found
+    pub needed : IsNeeded L tried key page found
+    pub fault_is : IsBringFault page fault found w
+    pub leaves : Waits v w
 
--- the last try, after such rounds, needed a page, which could not be brought
-pub record IsFaulted (key : ℕ) (fault : TreeFault) (v w : View Said) : Type 0 where
-  pub tried : View Said
-  pub found : View Said
-  pub rounds : AreRounds (IsRound NoneExpected key) v tried
-  pub waits : Waits v tried
-  pub page : ℕ
-  pub reads : ReadsOn tried found
-  pub needed : IsNeeded tried key page found
-  pub fault_is : IsBringFault page fault found w
-  pub leaves : Waits v w
+module _ {S : Type 0} (plain : S → Said) (L : Layout) where
+  -- The last try was answered; those before it, and the pages brought, each for a try that needed it, made no entry. So the entry is the pass's next one,
+  -- and stands behind all that the pass had seen; the pass holds what it held
+  pub record IsReplied (said : Said) (v w : View S) : Type 0 where
+    pub tried : View S
+    pub rounds : AreRounds (IsRound L NoneExpected (key_of said.call)) v tried
+    pub waits : Waits v tried
+    pub answered : IsAnswered plain L said tried w
+    pub mine : w.mine ≡ v.mine ++ entry_of v answered.says ∷ []
+    pub entry : GainsEntry answered.says v [] w
+    pub legal : v.start.tells ≡ true → IsLegal (map_of L v.start.contents) (plain_history plain w.seen)
+    pub holds : (q : ℕ) → HoldsPage v w q
+    pub knows : (q : ℕ) → IsLocking (seat_of v q) → KnowsAsBefore v w q
+    pub out : w.out ≡ v.out
+    pub start : w.start ≡ v.start
+    pub parts : (w.used ≡ v.used) × (w.fresh ≡ v.fresh)
+    pub alone : StaysAlone v w

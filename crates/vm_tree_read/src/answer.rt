@@ -13,34 +13,35 @@ ghost use Rattle.vm_tree_read.specs.Reads.{IsAnswered, IsLeafAnswer, TellReply};
 
 use vm_block::Block;
 use vm_guard::{Deny, OptGuard};
-use vm_map::call::Said;
-use vm_node::{Place, covers, covers_at, is_leaf, is_leaf_at};
-use vm_page::{PageBuf, WORDS};
+use vm_kind::{Kind, Pages, TreeOf};
+use vm_node::Place;
 use vm_rule::words::{Pass, Words};
 use vm_step::{Saw, frame_place};
-use vm_tree_rule::{InPlace, Tree, Turn, descend};
+use vm_tree_rule::{InPlace, Turn, descend};
 
-/// Whether the page is a leaf that covers the key, from at most 4 words loaded.
-fn is_leaf_for<P: Place>(place: &mut P, key: u64) -> bool
+/// Whether the page is a leaf that covers the key, from the words loaded that tell its tag and its fences.
+fn is_leaf_for<K: Kind, P: Place>(place: &mut P, key: &K::Key) -> bool
     requires ready { P.ready place.old }
+    requires size { P.size place.old ≡ K.layout.words }
     ensures ready { P.ready place.new }
-    ensures told { Tells P.loads place.old 4 place.new (λ page. IsLeafAnswer page key result) }
+    ensures told { Tells K.layout.words P.loads place.old (1 + K.bounds.covers) place.new (λ page. IsLeafAnswer K.layout page (K.rank key.now) result) }
 {
-    is_leaf_at(place) && covers_at(place, key)
+    K::is_leaf_at(place) && K::covers_at(place, key)
 }
 
 /// Whether the page under the guard is that, found where it stands.
-fn is_leaf_in_place<B: Block>(
-    words: &Words<Tree, B>,
-    pass: &mut Pass<Tree>,
+fn is_leaf_in_place<K: Kind, B: Block>(
+    words: &Words<TreeOf<K>, B>,
+    pass: &mut Pass<TreeOf<K>>,
     guard: &OptGuard,
-    key: u64,
+    key: &K::Key,
 ) -> bool
     requires ready { IsReady words.now.table.shared.key B.tells words.now.table.shared.table_id pass.old }
     requires reading { IsReading guard.now.pid guard.now.word guard.now.frame (view pass.old) }
     ensures pass { IsSamePass pass.old pass.new }
     ensures ready { IsReady words.now.table.shared.key B.tells words.now.table.shared.table_id pass.new }
-    ensures found { ReadsInPlace guard.now.pid guard.now.word guard.now.frame 4 (view pass.old) (view pass.new) (λ loaded. (page : List ℕ) → IsPageWith loaded page → IsLeafAnswer page key result) }
+    ensures found { ReadsInPlace guard.now.pid guard.now.word guard.now.frame (1 + K.bounds.covers) (view pass.old) (view pass.new)
+        (λ loaded. (page : List ℕ) → IsPageWith K.layout.words loaded page → IsLeafAnswer K.layout page (K.rank key.now) result) }
 {
     let mut place = InPlace {
         words,
@@ -48,19 +49,23 @@ fn is_leaf_in_place<B: Block>(
         guard,
         first: frame_place(words, guard.frame),
     };
-    is_leaf_for(&mut place, key)
+    is_leaf_for::<K, _>(&mut place, key)
 }
 
 /// Ends a descent at a page that is no leaf of its key: where it is validated so, blocks do not tell their words.
-fn no_leaf<B: Block>(words: &Words<Tree, B>, pass: &mut Pass<Tree>, guard: &OptGuard) -> Turn
+fn no_leaf<K: Kind, B: Block>(
+    words: &Words<TreeOf<K>, B>,
+    pass: &mut Pass<TreeOf<K>>,
+    guard: &OptGuard,
+) -> Turn
     requires ready { IsReady words.now.table.shared.key B.tells words.now.table.shared.table_id pass.old }
     requires reading { IsReading guard.now.pid guard.now.word guard.now.frame (view pass.old) }
     ensures pass { IsSamePass pass.old pass.new }
     ensures ready { IsReady words.now.table.shared.key B.tells words.now.table.shared.table_id pass.new }
-    ensures turn { (v : _) (key : ℕ) (loaded : _) → IsOpened v guard.now.pid guard.now.word guard.now.frame (view pass.old) → Awaits (view pass.old) guard.now.pid guard.now.word 0 key
-        → HasLoaded (view pass.old) guard.now.pid loaded → TellNoLeaf loaded key → IsTurnedBack v key result (view pass.new) }
-    ensures sure { (key : ℕ) (loaded : _) → B.tells ≡ true → IsKnownNow guard.now.pid guard.now.word (view pass.old) → Awaits (view pass.old) guard.now.pid guard.now.word 0 key
-        → HasLoaded (view pass.old) guard.now.pid loaded → TellNoLeaf loaded key → ⊥ }
+    ensures turn { (v : _) (key : ℕ) (loaded : _) → IsOpened v guard.now.pid guard.now.word guard.now.frame (view pass.old) → Awaits K.layout (view pass.old) guard.now.pid guard.now.word 0 key
+        → HasLoaded (view pass.old) guard.now.pid loaded → TellNoLeaf K.layout loaded key → IsTurnedBack K.layout v key result (view pass.new) }
+    ensures sure { (key : ℕ) (loaded : _) → B.tells ≡ true → IsKnownNow guard.now.pid guard.now.word (view pass.old) → Awaits K.layout (view pass.old) guard.now.pid guard.now.word 0 key
+        → HasLoaded (view pass.old) guard.now.pid loaded → TellNoLeaf K.layout loaded key → ⊥ }
     ensures words { LoadsWords [] (view pass.old) (view pass.new) }
 {
     match guard.validate_silently(words, pass) {
@@ -71,23 +76,23 @@ fn no_leaf<B: Block>(words: &Words<Tree, B>, pass: &mut Pass<Tree>, guard: &OptG
 
 /// Descends to the leaf that covers the key, and looks at its tag and its fences where it stands. Its guard is still open: what is loaded of it has to
 /// be validated.
-pub fn leaf_at<B: Block>(
-    words: &Words<Tree, B>,
-    pass: &mut Pass<Tree>,
-    key: u64,
+pub fn leaf_at<K: Kind, B: Block>(
+    words: &Words<TreeOf<K>, B>,
+    pass: &mut Pass<TreeOf<K>>,
+    key: &K::Key,
 ) -> Result<OptGuard, Turn>
     requires pass { MayStep words.now.table.shared.table_id pass.old }
     requires pages { 1 ≤ words.now.table.shared.key.pages }
     ensures pass { IsSamePass pass.old pass.new }
     ensures ready { IsReady words.now.table.shared.key B.tells words.now.table.shared.table_id pass.new }
     ensures reads { IfOk result (λ guard. ReadsOn (view pass.old) (view pass.new) × IsOpened (view pass.old) guard.pid guard.word guard.frame (view pass.new)) }
-    ensures leaf { IfOk result (λ guard. (loaded : List (ℕ × ℕ)) × HasLoaded (view pass.new) guard.pid loaded × TellLeaf loaded key) }
-    ensures awaits { IfOk result (λ guard. Awaits (view pass.new) guard.pid guard.word 0 key) }
-    ensures err { IfErr result (λ turn. IsTurnedBack (view pass.old) key turn (view pass.new)) }
+    ensures leaf { IfOk result (λ guard. (loaded : List (ℕ × ℕ)) × HasLoaded (view pass.new) guard.pid loaded × TellLeaf K.layout loaded (K.rank key.now)) }
+    ensures awaits { IfOk result (λ guard. Awaits K.layout (view pass.new) guard.pid guard.word 0 (K.rank key.now)) }
+    ensures err { IfErr result (λ turn. IsTurnedBack K.layout (view pass.old) (K.rank key.now) turn (view pass.new)) }
     ensures sure { B.tells ≡ true → KnowsResident (view pass.old) → IsOk result }
     ensures known { B.tells ≡ true → KnowsResident (view pass.old) → IfOk result (λ guard. IsKnownNow guard.pid guard.word (view pass.new)) }
-    ensures few { LoadsWithin (λ h. 2 + 7 * h + 4) (view pass.old) (view pass.new) }
-    ensures height { IfOk result (λ _. (h : ℕ) × LoadsHeight (2 + 7 * h + 4) h (view pass.old) (view pass.new)) }
+    ensures few { LoadsWithin (λ h. 2 + K.bounds.child * h + (1 + K.bounds.covers)) (view pass.old) (view pass.new) }
+    ensures height { IfOk result (λ _. (h : ℕ) × LoadsHeight (2 + K.bounds.child * h + (1 + K.bounds.covers)) h (view pass.old) (view pass.new)) }
 {
     let guard = match descend(words, pass, key) {
         Ok(guard) => guard,
@@ -101,45 +106,45 @@ pub fn leaf_at<B: Block>(
 
 /// Reads the words of the leaf under the guard into the page, for a writer that was led here by its key. They are a leaf's that covers the key, and have to be
 /// validated: what was loaded of it before may have changed meanwhile.
-pub fn read_leaf<B: Block>(
-    words: &Words<Tree, B>,
-    pass: &mut Pass<Tree>,
+pub fn read_leaf<K: Pages, B: Block>(
+    words: &Words<TreeOf<K>, B>,
+    pass: &mut Pass<TreeOf<K>>,
     guard: &OptGuard,
-    key: u64,
-    page: &mut PageBuf<WORDS>,
+    key: &K::Key,
+    page: &mut K::Page,
 ) -> Result<(), Turn>
     requires ready { IsReady words.now.table.shared.key B.tells words.now.table.shared.table_id pass.old }
     requires reading { IsReading guard.now.pid guard.now.word guard.now.frame (view pass.old) }
-    requires size { length page.old ≡ WORDS }
-    ensures size { length page.new ≡ WORDS }
+    requires size { length (K.words_of page.old) ≡ K.layout.words }
+    ensures size { length (K.words_of page.new) ≡ K.layout.words }
     ensures pass { IsSamePass pass.old pass.new }
     ensures ready { IsReady words.now.table.shared.key B.tells words.now.table.shared.table_id pass.new }
-    ensures loads { IfOk result (λ _. Loads guard.now.pid guard.now.word guard.now.frame (placed 0 page.new) (view pass.old) (view pass.new)) }
-    ensures leaf { IfOk result (λ _. ((node_of page.new).tag ≡ 2) × Covers (node_of page.new) key) }
-    ensures err { IfErr result (λ turn. (v : _) → IsOpened v guard.now.pid guard.now.word guard.now.frame (view pass.old) → Awaits (view pass.old) guard.now.pid guard.now.word 0 key
-        → IsTurnedBack v key turn (view pass.new)) }
-    ensures sure { B.tells ≡ true → IsKnownNow guard.now.pid guard.now.word (view pass.old) → Awaits (view pass.old) guard.now.pid guard.now.word 0 key → IsOk result }
+    ensures loads { IfOk result (λ _. Loads guard.now.pid guard.now.word guard.now.frame (placed 0 (K.words_of page.new)) (view pass.old) (view pass.new)) }
+    ensures leaf { IfOk result (λ _. ((node_of K.layout (K.words_of page.new)).tag ≡ 2) × Covers (node_of K.layout (K.words_of page.new)) (K.rank key.now)) }
+    ensures err { IfErr result (λ turn. (v : _) → IsOpened v guard.now.pid guard.now.word guard.now.frame (view pass.old) → Awaits K.layout (view pass.old) guard.now.pid guard.now.word 0 (K.rank key.now)
+        → IsTurnedBack K.layout v (K.rank key.now) turn (view pass.new)) }
+    ensures sure { B.tells ≡ true → IsKnownNow guard.now.pid guard.now.word (view pass.old) → Awaits K.layout (view pass.old) guard.now.pid guard.now.word 0 (K.rank key.now) → IsOk result }
 {
-    guard.read_all(words, pass, page);
-    if is_leaf(page) && covers(page, key) {
+    K::read_all(guard, words, pass, page);
+    if K::is_leaf(page) && K::covers(page, key) {
         return Ok(());
     }
     Err(no_leaf(words, pass, guard))
 }
 
 /// Validates the leaf of which words were loaded, and makes what they prove an entry of the history.
-pub fn answer<B: Block>(
-    words: &Words<Tree, B>,
-    pass: &mut Pass<Tree>,
+pub fn answer<K: Kind, B: Block>(
+    words: &Words<TreeOf<K>, B>,
+    pass: &mut Pass<TreeOf<K>>,
     guard: &OptGuard,
-    said: &Said,
+    said: &K::Said,
 ) -> Result<(), Saw>
     requires ready { IsReady words.now.table.shared.key B.tells words.now.table.shared.table_id pass.old }
     requires reading { IsReading guard.now.pid guard.now.word guard.now.frame (view pass.old) }
-    requires proves { (loaded : List (ℕ × ℕ)) × HasLoaded (view pass.old) guard.now.pid loaded × TellReply loaded said.now }
+    requires proves { (loaded : List (ℕ × ℕ)) × HasLoaded (view pass.old) guard.now.pid loaded × TellReply K.layout loaded (K.plain said.now) }
     ensures pass { IsSamePass pass.old pass.new }
     ensures ready { IsReady words.now.table.shared.key B.tells words.now.table.shared.table_id pass.new }
-    ensures ok { IfOk result (λ _. IsAnswered said.now (view pass.old) (view pass.new)) }
+    ensures ok { IfOk result (λ _. IsAnswered K.plain K.layout (K.plain said.now) (view pass.old) (view pass.new)) }
     ensures err { IfErr result (λ saw. IsDenied AgainOrNeed (KeptWord guard.now.word) NoneExpected guard.now.pid (Deny.Again saw) (view pass.old) (view pass.new)) }
     ensures sure { IsKnownNow guard.now.pid guard.now.word (view pass.old) → IsOk result }
     ensures known { IsKnownNow guard.now.pid guard.now.word (view pass.old) → KnowsResident (view pass.new) }

@@ -14,12 +14,12 @@ ghost use Rattle.vm_tree_read.specs.Reads.{IsAnswered, IsDone, IsDoneInKind, IsT
 use crate::answer::{answer, leaf_at};
 use vm_block::Block;
 use vm_guard::OptGuard;
-use vm_map::call::{Call, Reply, Said};
+use vm_kind::{Kind, TreeOf, Windows};
+use vm_map::call::Reply;
 use vm_map::window::{MOST_PAIRS, Window};
-use vm_node::{find_at, window_at};
 use vm_rule::words::{Pass, Words};
 use vm_step::{Saw, frame_place};
-use vm_tree_rule::{InPlace, Tree, Turn};
+use vm_tree_rule::{InPlace, Turn};
 
 /// What a try of a read answers.
 #[derive(Debug, Drop)]
@@ -34,8 +34,8 @@ pub enum TryRead {
 }
 
 /// Why there is no answer yet.
-fn not_yet(turn: Turn) -> TryRead
-    ensures tried { (call : _) (key : _) (v w : _) → IsTurnedBack v key turn w → IsTried call key result v w }
+fn not_yet<K: Kind>(turn: Turn) -> TryRead
+    ensures tried { (call : _) (key : _) (v w : _) → IsTurnedBack K.layout v key turn w → IsTried K.plain K.layout call key result v w }
     ensures kind { (call : _) → IsDoneInKind call result }
     ensures unanswered { ¬ (IsDone result) }
 {
@@ -47,18 +47,19 @@ fn not_yet(turn: Turn) -> TryRead
 }
 
 /// The value at the key in the page under the guard, found where it stands.
-pub fn find_in_place<B: Block>(
-    words: &Words<Tree, B>,
-    pass: &mut Pass<Tree>,
+pub fn find_in_place<K: Kind, B: Block>(
+    words: &Words<TreeOf<K>, B>,
+    pass: &mut Pass<TreeOf<K>>,
     guard: &OptGuard,
-    key: u64,
+    key: &K::Key,
 ) -> Option<u64>
     requires ready { IsReady words.now.table.shared.key B.tells words.now.table.shared.table_id pass.old }
     requires reading { IsReading guard.now.pid guard.now.word guard.now.frame (view pass.old) }
     ensures pass { IsSamePass pass.old pass.new }
     ensures ready { IsReady words.now.table.shared.key B.tells words.now.table.shared.table_id pass.new }
-    ensures found { ReadsInPlace guard.now.pid guard.now.word guard.now.frame 8 (view pass.old) (view pass.new) (λ loaded.
-        (page : List ℕ) → IsPageWith loaded page → (low high : ℕ) → Rises low high (pairs_of page) → result ≡ lookup_at (pairs_of page) key) }
+    ensures found { ReadsInPlace guard.now.pid guard.now.word guard.now.frame K.bounds.find (view pass.old) (view pass.new) (λ loaded.
+        (page : List ℕ) → IsPageWith K.layout.words loaded page → (low high : ℕ) → Rises low high (pairs_of K.layout page)
+        → result ≡ lookup_at (pairs_of K.layout page) (K.rank key.now)) }
 {
     let mut place = InPlace {
         words,
@@ -66,23 +67,23 @@ pub fn find_in_place<B: Block>(
         guard,
         first: frame_place(words, guard.frame),
     };
-    find_at(&mut place, key)
+    K::find_at(&mut place, key)
 }
 
 /// What the page under the guard shows from the key `start` on, found where it stands.
-fn window_in_place<B: Block>(
-    words: &Words<Tree, B>,
-    pass: &mut Pass<Tree>,
+fn window_in_place<K: Windows, B: Block>(
+    words: &Words<TreeOf<K>, B>,
+    pass: &mut Pass<TreeOf<K>>,
     guard: &OptGuard,
-    start: u64,
+    start: &K::Key,
     most: u32,
 ) -> Window
     requires ready { IsReady words.now.table.shared.key B.tells words.now.table.shared.table_id pass.old }
     requires reading { IsReading guard.now.pid guard.now.word guard.now.frame (view pass.old) }
     ensures pass { IsSamePass pass.old pass.new }
     ensures ready { IsReady words.now.table.shared.key B.tells words.now.table.shared.table_id pass.new }
-    ensures found { ReadsInPlace guard.now.pid guard.now.word guard.now.frame (2 * min most MOST_PAIRS + 9) (view pass.old) (view pass.new) (λ loaded.
-        (page : List ℕ) → IsPageWith loaded page → ShowsFirst page start most result) }
+    ensures found { ReadsInPlace guard.now.pid guard.now.word guard.now.frame (2 * min most MOST_PAIRS + K.window_most) (view pass.old) (view pass.new)
+        (λ loaded. (page : List ℕ) → IsPageWith K.layout.words loaded page → ShowsFirst K.layout page (K.rank start.now) most result) }
 {
     let mut place = InPlace {
         words,
@@ -90,66 +91,68 @@ fn window_in_place<B: Block>(
         guard,
         first: frame_place(words, guard.frame),
     };
-    window_at(&mut place, start, most)
+    K::window_at(&mut place, start, most)
 }
 
 /// The value at the key, or why there is none to tell yet. A reply has room for a window's pairs, so it is made where it is handed on, and not here.
-pub(crate) fn look_up<B: Block>(
-    words: &Words<Tree, B>,
-    pass: &mut Pass<Tree>,
-    key: u64,
+pub(crate) fn look_up<K: Kind, B: Block>(
+    words: &Words<TreeOf<K>, B>,
+    pass: &mut Pass<TreeOf<K>>,
+    key: &K::Key,
 ) -> Result<Option<u64>, Turn>
     requires pass { MayStep words.now.table.shared.table_id pass.old }
     requires pages { 1 ≤ words.now.table.shared.key.pages }
     ensures pass { IsSamePass pass.old pass.new }
     ensures ready { IsReady words.now.table.shared.key B.tells words.now.table.shared.table_id pass.new }
-    ensures ok { IfOk result (λ value. IsAnswered (record { call = Get key; reply = Got value }) (view pass.old) (view pass.new)) }
-    ensures err { IfErr result (λ turn. IsTurnedBack (view pass.old) key turn (view pass.new)) }
+    ensures ok { IfOk result (λ value. IsAnswered K.plain K.layout (record { call = Get (K.rank key.now); reply = Got value }) (view pass.old) (view pass.new)) }
+    ensures err { IfErr result (λ turn. IsTurnedBack K.layout (view pass.old) (K.rank key.now) turn (view pass.new)) }
     ensures sure { B.tells ≡ true → KnowsResident (view pass.old) → IsOk result }
     ensures known { B.tells ≡ true → KnowsResident (view pass.old) → KnowsResident (view pass.new) }
-    ensures few { LoadsWithin (λ h. 2 + 11 * h + 12) (view pass.old) (view pass.new) }
-    ensures height { IfOk result (λ _. (h : ℕ) × LoadsHeight (2 + 11 * h + 12) h (view pass.old) (view pass.new)) }
+    ensures few { LoadsWithin (λ h. 2 + K.bounds.child * h + (1 + K.bounds.covers + K.bounds.find)) (view pass.old) (view pass.new) }
+    ensures height { IfOk result (λ _. (h : ℕ) × LoadsHeight (2 + K.bounds.child * h + (1 + K.bounds.covers + K.bounds.find)) h (view pass.old) (view pass.new)) }
 {
     let guard = match leaf_at(words, pass, key) {
         Ok(guard) => guard,
         Err(turn) => return Err(turn),
     };
     let value = find_in_place(words, pass, &guard, key);
-    let said = Said {
-        call: Call::Get { key },
-        reply: Reply::Got(value),
-    };
+    let said = K::got(key, value);
     match answer(words, pass, &guard, &said) {
         Ok(()) => Ok(value),
         Err(saw) => Err(Turn::Again(saw)),
     }
 }
 
-/// The value at the key. At most 2 + 11 h + 12 words of pages are loaded, h the height that page 0 tells.
-pub fn try_get<B: Block>(words: &Words<Tree, B>, pass: &mut Pass<Tree>, key: u64) -> TryRead
+/// The value at the key. Two words of page 0 are loaded, of each inner node those of a search for a child at most, and of the leaf its tag, its fences and
+/// those of a search for the value.
+pub fn try_get<K: Kind, B: Block>(
+    words: &Words<TreeOf<K>, B>,
+    pass: &mut Pass<TreeOf<K>>,
+    key: &K::Key,
+) -> TryRead
     requires pass { MayStep words.now.table.shared.table_id pass.old }
     requires pages { 1 ≤ words.now.table.shared.key.pages }
     ensures pass { IsSamePass pass.old pass.new }
     ensures ready { IsReady words.now.table.shared.key B.tells words.now.table.shared.table_id pass.new }
-    ensures tried { IsTried (Get key) key result (view pass.old) (view pass.new) }
-    ensures kind { IsDoneInKind (Get key) result }
+    ensures tried { IsTried K.plain K.layout (Get (K.rank key.now)) (K.rank key.now) result (view pass.old) (view pass.new) }
+    ensures kind { IsDoneInKind (Get (K.rank key.now)) result }
     ensures sure { B.tells ≡ true → KnowsResident (view pass.old) → IsDone result }
     ensures known { B.tells ≡ true → KnowsResident (view pass.old) → KnowsResident (view pass.new) }
-    ensures few { LoadsWithin (λ h. 2 + 11 * h + 12) (view pass.old) (view pass.new) }
-    ensures height { IsDone result → (h : ℕ) × LoadsHeight (2 + 11 * h + 12) h (view pass.old) (view pass.new) }
+    ensures few { LoadsWithin (λ h. 2 + K.bounds.child * h + (1 + K.bounds.covers + K.bounds.find)) (view pass.old) (view pass.new) }
+    ensures height { IsDone result → (h : ℕ) × LoadsHeight (2 + K.bounds.child * h + (1 + K.bounds.covers + K.bounds.find)) h (view pass.old) (view pass.new) }
 {
     match look_up(words, pass, key) {
         Ok(value) => TryRead::Done(Reply::Got(value)),
-        Err(turn) => not_yet(turn),
+        Err(turn) => not_yet::<K>(turn),
     }
 }
 
-/// The first pairs from the key `start` on, at most `most` (1 or more) of them and at most those of one leaf. At most 2 + 11 h + 13 words of pages and two
-/// for each pair are loaded, h the height that page 0 tells.
-pub fn try_window<B: Block>(
-    words: &Words<Tree, B>,
-    pass: &mut Pass<Tree>,
-    start: u64,
+/// The first pairs from the key `start` on, at most `most` (1 or more) of them and at most those of one leaf. As many words are loaded on the way as by a
+/// look-up, and of the leaf two for each pair, and `window_most` more.
+pub fn try_window<K: Windows, B: Block>(
+    words: &Words<TreeOf<K>, B>,
+    pass: &mut Pass<TreeOf<K>>,
+    start: &K::Key,
     most: u32,
 ) -> TryRead
     requires pass { MayStep words.now.table.shared.table_id pass.old }
@@ -157,24 +160,21 @@ pub fn try_window<B: Block>(
     requires most { 1 ≤ most }
     ensures pass { IsSamePass pass.old pass.new }
     ensures ready { IsReady words.now.table.shared.key B.tells words.now.table.shared.table_id pass.new }
-    ensures tried { IsTried (ForWindow start most) start result (view pass.old) (view pass.new) }
-    ensures kind { IsDoneInKind (ForWindow start most) result }
+    ensures tried { IsTried K.plain K.layout (ForWindow (K.rank start.now) most) (K.rank start.now) result (view pass.old) (view pass.new) }
+    ensures kind { IsDoneInKind (ForWindow (K.rank start.now) most) result }
     ensures sure { B.tells ≡ true → KnowsResident (view pass.old) → IsDone result }
     ensures known { B.tells ≡ true → KnowsResident (view pass.old) → KnowsResident (view pass.new) }
-    ensures few { LoadsWithin (λ h. 2 + 11 * h + (2 * min most MOST_PAIRS + 13)) (view pass.old) (view pass.new) }
-    ensures height { IsDone result → (h : ℕ) × LoadsHeight (2 + 11 * h + (2 * min most MOST_PAIRS + 13)) h (view pass.old) (view pass.new) }
+    ensures few { LoadsWithin (λ h. 2 + K.bounds.child * h + (1 + K.bounds.covers + (2 * min most MOST_PAIRS + K.window_most))) (view pass.old) (view pass.new) }
+    ensures height { IsDone result → (h : ℕ) × LoadsHeight (2 + K.bounds.child * h + (1 + K.bounds.covers + (2 * min most MOST_PAIRS + K.window_most))) h (view pass.old) (view pass.new) }
 {
     let guard = match leaf_at(words, pass, start) {
         Ok(guard) => guard,
-        Err(turn) => return not_yet(turn),
+        Err(turn) => return not_yet::<K>(turn),
     };
     let shown = window_in_place(words, pass, &guard, start, most);
-    let said = Said {
-        call: Call::Window { start, most },
-        reply: Reply::Win(shown),
-    };
+    let said = K::shown(start, most, shown);
     match answer(words, pass, &guard, &said) {
-        Ok(()) => TryRead::Done(said.reply),
+        Ok(()) => TryRead::Done(K::reply_of(said)),
         Err(saw) => TryRead::Again(saw),
     }
 }

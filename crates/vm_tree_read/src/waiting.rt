@@ -10,11 +10,11 @@ use crossbeam_utils::Backoff;
 use std::sync::Wait;
 use vm_block::PageBlock;
 use vm_exmap::Interface;
+use vm_kind::{Kind, TreeOf, Windows};
 use vm_map::call::Reply;
-use vm_page::WORDS;
 use vm_pool::{Bring, Pool};
 use vm_rule::words::Pass;
-use vm_tree_rule::{Tree, TreeFault, Turn};
+use vm_tree_rule::{TreeFault, Turn};
 
 /// Why a page can't be brought, by what bringing it answered: a device failed, or a page is at the last version. After any other answer there is
 /// no fault, and it has backed off where others came before or no frame was free.
@@ -38,9 +38,9 @@ pub fn settle(answer: Bring, backoff: &Backoff) -> Result<(), TreeFault>
 }
 
 /// Brings the page that a try needs, or backs off.
-pub fn fetch<B: PageBlock<WORDS>>(
-    pool: &Pool<Tree, B, WORDS>,
-    pass: &mut Pass<Tree>,
+pub fn fetch<K: Kind, B: PageBlock<N>, const N: usize>(
+    pool: &Pool<TreeOf<K>, B, N>,
+    pass: &mut Pass<TreeOf<K>>,
     iface: &mut Interface,
     pid: u32,
     backoff: &Backoff,
@@ -63,12 +63,12 @@ pub fn fetch<B: PageBlock<WORDS>>(
 }
 
 /// The value at the key.
-pub fn get<R: Wait, B: PageBlock<WORDS>>(
+pub fn get<K: Kind, R: Wait, B: PageBlock<N>, const N: usize>(
     rt: &R,
-    pool: &Pool<Tree, B, WORDS>,
-    pass: &mut Pass<Tree>,
+    pool: &Pool<TreeOf<K>, B, N>,
+    pass: &mut Pass<TreeOf<K>>,
     iface: &mut Interface,
-    key: u64,
+    key: &K::Key,
 ) -> Result<Reply, TreeFault>
     requires ready { IsReady pool.now.words.table.shared.key B.tells pool.now.words.table.shared.table_id pass.old }
     requires pages { 1 ≤ pool.now.words.table.shared.key.pages }
@@ -79,9 +79,9 @@ pub fn get<R: Wait, B: PageBlock<WORDS>>(
     ensures held { AreHeld iface.new.frames (view pass.new) }
     ensures iface { (iface.new.home ≡ iface.old.home) × (iface.new.cap ≡ iface.old.cap) }
     ensures lost { LosesNone iface.old.frames (view pass.old) iface.new.frames (view pass.new) }
-    ensures ok { IfOk result (λ reply. IsReplied (record { call = Get key; reply = reply }) (view pass.old) (view pass.new)) }
-    ensures kind { IfOk result (λ reply. IsOfKind (Get key) reply) }
-    ensures err { IfErr result (λ fault. IsFaulted key fault (view pass.old) (view pass.new)) }
+    ensures ok { IfOk result (λ reply. IsReplied K.plain K.layout (record { call = Get (K.rank key.now); reply = reply }) (view pass.old) (view pass.new)) }
+    ensures kind { IfOk result (λ reply. IsOfKind (Get (K.rank key.now)) reply) }
+    ensures err { IfErr result (λ fault. IsFaulted K.layout (K.rank key.now) fault (view pass.old) (view pass.new)) }
 {
     let backoff = Backoff::new();
     for _ in rt.forever() {
@@ -99,12 +99,12 @@ pub fn get<R: Wait, B: PageBlock<WORDS>>(
 }
 
 /// The first pairs from the key `start` on, at most `most` (1 or more) of them and at most those of one leaf.
-pub fn window<R: Wait, B: PageBlock<WORDS>>(
+pub fn window<K: Windows, R: Wait, B: PageBlock<N>, const N: usize>(
     rt: &R,
-    pool: &Pool<Tree, B, WORDS>,
-    pass: &mut Pass<Tree>,
+    pool: &Pool<TreeOf<K>, B, N>,
+    pass: &mut Pass<TreeOf<K>>,
     iface: &mut Interface,
-    start: u64,
+    start: &K::Key,
     most: u32,
 ) -> Result<Reply, TreeFault>
     requires ready { IsReady pool.now.words.table.shared.key B.tells pool.now.words.table.shared.table_id pass.old }
@@ -117,9 +117,9 @@ pub fn window<R: Wait, B: PageBlock<WORDS>>(
     ensures held { AreHeld iface.new.frames (view pass.new) }
     ensures iface { (iface.new.home ≡ iface.old.home) × (iface.new.cap ≡ iface.old.cap) }
     ensures lost { LosesNone iface.old.frames (view pass.old) iface.new.frames (view pass.new) }
-    ensures ok { IfOk result (λ reply. IsReplied (record { call = ForWindow start most; reply = reply }) (view pass.old) (view pass.new)) }
-    ensures kind { IfOk result (λ reply. IsOfKind (ForWindow start most) reply) }
-    ensures err { IfErr result (λ fault. IsFaulted start fault (view pass.old) (view pass.new)) }
+    ensures ok { IfOk result (λ reply. IsReplied K.plain K.layout (record { call = ForWindow (K.rank start.now) most; reply = reply }) (view pass.old) (view pass.new)) }
+    ensures kind { IfOk result (λ reply. IsOfKind (ForWindow (K.rank start.now) most) reply) }
+    ensures err { IfErr result (λ fault. IsFaulted K.layout (K.rank start.now) fault (view pass.old) (view pass.new)) }
 {
     let backoff = Backoff::new();
     for _ in rt.forever() {

@@ -1,5 +1,5 @@
 -- How many words of pages the parts of a descent load, one after the other.
-use Rattle.std.proofs.Common.{[], ⊎_elim, ◌++◌, ◌+◌, ◌∙◌, ◌∷◌, ◌≡◌, ◌≤◌, ◌⊎◌, ap, append_assoc, arith, inl, inr, length, List, map, refl, subst, sym, ℕ}
+use Rattle.std.proofs.Common.{[], ◌++◌, ◌+◌, ◌∙◌, ◌∷◌, ◌≡◌, ◌≤◌, ap, arith, inl, inr, length, List, map, refl, subst, sym, ℕ}
 use Rattle.std.proofs.lemmas.List.{length-append, length-map}
 use Rattle.vm_rule.specs.Prelude.{loads_at}
 use Rattle.vm_rule.proofs.Entries.{append-none}

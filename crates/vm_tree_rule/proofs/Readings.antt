@@ -1,6 +1,6 @@
 -- What reads of pages leave of the view, one after the other.
 use Rattle.std.proofs.Common.{[], ◌++◌, ◌+◌, ◌<◌, ◌∙◌, ◌∷◌, ◌≡◌, ◌≢◌, ◌⊎◌, ap, append_assoc, arith, Err, IfErr, IfOk, length, List, None, Ok, Option, refl}
-use Rattle.std.proofs.Common.{Result, slice_index, Some, subst, suc, sym, zero, ℕ}
+use Rattle.std.proofs.Common.{Result, slice_index, subst, suc, sym, zero, ℕ}
 use Rattle.std.proofs.lemmas.Grind.{same_number_lists}
 use Rattle.std.specs.List.{All}
 use Rattle.vm_node.specs.Loads.{IsPageWith}
@@ -41,7 +41,7 @@ are-loaded words [] h = tt
 are-loaded words (x ∷ l) h = (h 0 x (omega arith), are-loaded words l (λ k d lt. h (suc k) d (omega (arith, lt))))
 
 -- a page that has all words of another one is that
-pub same-page : (words page : List ℕ) → length page ≡ 64 → IsPageWith (placed 0 page) words → words ≡ page
+pub same-page : {n : ℕ} (words page : List ℕ) → length page ≡ n → IsPageWith n (placed 0 page) words → words ≡ page
 same-page words page long with = placed-are words page (with.size ∙ sym long) (are-loaded words (placed 0 page) with.has)
 
 pub each-behind : {A : Type 0} (Q : A → Type 0) (l m : List A) → Each Q (l ++ m) → Each Q m

@@ -4,7 +4,7 @@ use Rattle.std.proofs.Common.{None, Ok, replicate, Result, slice_index, subst, s
 use Rattle.std.proofs.lemmas.Bool.{cases_eq, cases_lt}
 use Rattle.std.proofs.lemmas.List.{get_or-set_other}
 use Rattle.vm_map.specs.declared.call.Said.{Said}
-use Rattle.vm_tree_model.specs.Page.{IsInner, IsLeaf}
+use Rattle.vm_tree_model.specs.{Layout.IsLayout, Layout.Layout, Page.IsInner, Page.IsLeaf}
 use Rattle.vm_core.specs.Prelude.{is_readable, LOCKED, MARKED, page_at, state_of, UNLOCKED, version_of, word_of}
 use Rattle.vm_rule.specs.Prelude.{began_of, bundle_count, index_of, last_of}
 use Rattle.vm_rule.specs.declared.view.Place.TheVariants as places
@@ -15,14 +15,14 @@ use Rattle.vm_guard.specs.{declared.deny.Deny.Deny, declared.opt.OptGuard.OptGua
 use Rattle.vm_guard.specs.Guards.{BeginsReading, IsReading, IsValid, Loads}
 use Rattle.vm_guard.specs.Sure.{IsKnownAt, IsUnlockedWord, known_next, known_word, unmarked_word}
 use Rattle.vm_guard.proofs.Reading.{reading-kept}
-use Rattle.vm_tree_laws.specs.{Keeps.KeepsTree, Tied.IsTied, Tied.Tied}
-use Rattle.vm_tree_laws.proofs.Ties.{ties_hold}
+use Rattle.vm_tree_laws.specs.{Plain.KeepsPlain, Tied.IsTied, Tied.Tied}
+use Rattle.vm_tree_laws.proofs.Plainly.{plain_ties}
 use Rattle.vm_tree_rule.specs.Leaves.{LeavesWord, OnlyReads, ReadsOn}
 use Rattle.vm_tree_rule.specs.Resident.{IsKnownNow, KnowsLocks, KnowsResident}
 use Rattle.vm_tree_rule.specs.Standing.{IsNameIn, NamesNode, tree_pages}
 use Rattle.vm_tree_rule.proofs.Entering.{pages-are, sees-back}
 use Rattle.vm_tree_rule.proofs.Readings.{begins-leave, begins-reads, denied-leave, denied-reads, loads-reads, valid-reads}
-use Rattle.vm_tree_rule.proofs.Whole.{first-zero}
+use Rattle.vm_tree_rule.proofs.Whole.{zero-at}
 
 -- a free page's word is free without its mark
 unmarked-free : (word : ℕ) → IsUnlockedWord word → IsUnlockedWord (unmarked_word word)
@@ -151,62 +151,64 @@ pub looked-known : {X : Type 0} (q p word : ℕ) (r : Result OptGuard Deny) (v x
 looked-known q p word (Ok g) v x ne ok err k = known-beside p word q g.word g.frame v x (λ e. ne (sym e)) ok.1 k
 looked-known q p word (Err d) v x ne ok err k = known-same p word v x (denied-reads AgainOrNeed NoWord NoneExpected q d v x err).0 err.table k
 
--- a page of zeros is no node
-no-node : (n : ℕ) (words : List ℕ) → words ≡ replicate n 0 → IsLeaf words ⊎ IsInner words → ⊥
-no-node n words zeros kind =
-    let tag : slice_index words 0 ≡ 0 = ap (λ (l : List ℕ). slice_index l 0) zeros ∙ first-zero n in
-    ⊎_elim (λ (leaf : IsLeaf words). let two : slice_index words 0 ≡ 2 = leaf.node.tag in omega (arith, tag, two)) (λ (inner : IsInner words). let three : slice_index words 0 ≡ 3 = inner.node.tag in omega (arith, tag, three)) kind
-
--- page r, which was validated, names a page that was claimed
-pub named-claimed : (r named level low high : ℕ) (w : View Said) (k : IsKeptNow KeepsTree r (Unit {0}) w) → r < w.start.pages → IsNameIn (tree_pages w) r (last_of w r).words named level low high → named < k.kept.next
-named-claimed r named level low high w k inside name =
-    ⊎_elim
-    (λ (l : named < k.kept.next). l)
-    (λ (le : k.kept.next ≤ named).
-    let below : named < w.start.pages = subst (λ (n : ℕ). named < n) (pages-are r (Unit {0}) w k) name.in_range in
-    let tied : IsTied (tree_pages w) r (page_at k.kept.pages r) named (page_at k.kept.pages named) = ties_hold (began_of w.start) k.kept r named k.holds (subst (λ (n : ℕ). r < n) (sym k.pages) inside) in
-    absurd (no-node _ (page_at k.kept.pages named) (k.zero named le below) (name.node (page_at k.kept.pages named) (subst (λ (l : List ℕ). IsTied (tree_pages w) r l named (page_at k.kept.pages named)) (k.page tt) tied)).kind))
-    (cases_lt named k.kept.next)
-
--- so was page 0
-pub first-claimed : (free : Type 0) (w : View Said) (k : IsKeptNow KeepsTree 0 free w) → 0 < w.start.pages → 0 < k.kept.next
-first-claimed free w k some =
-    ⊎_elim
-    (λ (l : 0 < k.kept.next). l)
-    (λ (le : k.kept.next ≤ 0).
-    let none : slice_index (page_at k.kept.pages 0) 0 ≡ 0 = ap (λ (l : List ℕ). slice_index l 0) (k.zero 0 le some) ∙ first-zero w.start.size in
-    let magic : slice_index (page_at k.kept.pages 0) 0 ≡ 0x564D434143484531 = k.holds.tree.meta.magic in
-    absurd (omega (arith, none, magic)))
-    (cases_lt 0 k.kept.next)
-
--- the page that a validated page names is below the next one, as the pass knew that before it looked at the page
-pub named-below : (r word frame named level low high : ℕ) (v x w : View Said) → ReadsOn v x → ReadsAsBefore v x r → known_next x ≡ known_next v → IsValid Tied r word frame None x w → w.start.size ≡ 64 → IsKeptNow KeepsTree r (Unit {0}) w → NamesNode v r word named level low high → v.start.tells ≡ true → IsAlone v → named < known_next v
-named-below r word frame named level low high v x w reads same next k whole kept names tells a =
-    let valid : ReadsOn x w = valid-reads Tied r word frame x w k in
-    let start : w.start ≡ v.start = valid.0.start ∙ reads.0.start in
-    let there : IsAlone x = still-alone v x reads.0.parts reads.0.alone.current a in
-    let here : IsAlone w = still-alone x w valid.0.parts valid.0.alone.current there in
-    let name : IsNameIn (tree_pages v) r (last_of w r).words named level low high = names tells (last_of w r).words (k.size ∙ whole) (sees-back r word frame v x w reads same k tells) in
-    let claimed : named < kept.kept.next = named-claimed r named level low high w kept k.reads.page (subst (λ (o : Origin). IsNameIn (length o.contents) r (last_of w r).words named level low high) (sym start) name) in
-    subst (λ (n : ℕ). named < n) (sym (kept.next here) ∙ same-next x w valid.0 k.table there ∙ next) claimed
-
 -- a page that is below the next one is free, as the pass knows it
-pub free-below : (p : ℕ) (v : View Said) → KnowsResident v → p < known_next v → p < v.start.pages → is_readable (state_of (known_word p v)) ≡ true
+pub free-below : {S : Type 0} (p : ℕ) (v : View S) → KnowsResident v → p < known_next v → p < v.start.pages → is_readable (state_of (known_word p v)) ≡ true
 free-below p v k below inside = free-readable (known_word p v) (k.each p below inside)
 
--- page 0 is not denied
-pub first-readable : (free : Type 0) (deny : Deny) (v x : View Said) → IsDenied AgainOrNeed NoWord NoneExpected 0 deny v x → IsKeptNow KeepsTree 0 free x → 0 < v.start.pages → KnowsResident v → is_readable (state_of (known_word 0 v)) ≡ true
-first-readable free deny v x d kept some k =
-    let reads : OnlyReads v x = (denied-reads AgainOrNeed NoWord NoneExpected 0 deny v x d).0 in
-    let there : IsAlone x = still-alone v x reads.parts reads.alone.current k.alone in
-    let claimed : 0 < kept.kept.next = first-claimed free x kept (subst (λ (o : Origin). 0 < o.pages) (sym reads.start) some) in
-    free-below 0 v k (subst (λ (n : ℕ). 0 < n) (sym (kept.next there) ∙ same-next v x reads d.table k.alone) claimed) some
+module _ {S : Type 0} (plain : S → Said) (L : Layout) (laws : IsLayout L) where
+  -- a page of zeros is no node
+  no-node : (n : ℕ) (words : List ℕ) → words ≡ replicate n 0 → IsLeaf L words ⊎ IsInner L words → ⊥
+  no-node n words zeros kind =
+      let tag : (L.node_of words).tag ≡ 0 = laws.free_tag words (λ i. ap (λ (l : List ℕ). slice_index l i) zeros ∙ zero-at n i) in
+      ⊎_elim (λ (leaf : IsLeaf L words). let two : (L.node_of words).tag ≡ 2 = leaf.node.tag in omega (arith, tag, two)) (λ (inner : IsInner L words). let three : (L.node_of words).tag ≡ 3 = inner.node.tag in omega (arith, tag, three)) kind
 
--- page 0 is read, and two words of it
-pub first-known : (free : Type 0) (p word frame : ℕ) (one two : List (ℕ × ℕ)) (v a b y : View Said) → p ≡ 0 → BeginsReading 0 word frame v a → IsKeptNow KeepsTree 0 free a → Loads p word frame one a b → Loads p word frame two b y → KnowsResident v → IsKnownNow p word y
-first-known free p word frame one two v a b y zero begins kept first second k =
-    let reads : OnlyReads v a = (begins-reads 0 word frame v a begins).0 in
-    let there : IsAlone a = still-alone v a reads.parts reads.alone.current k.alone in
-    let claimed : 0 < kept.kept.next = first-claimed free a kept begins.reads.page in
-    let known : IsKnownNow 0 word a = known-begun 0 word frame v a begins (subst (λ (n : ℕ). 0 < n) (sym (kept.next there) ∙ begun-next 0 word frame v a begins k.alone) claimed) k in
-    known-same p word b y (loads-reads p word frame two b y second).0 second.table (known-same p word a b (loads-reads p word frame one a b first).0 first.table (subst (λ (n : ℕ). IsKnownNow n word a) (sym zero) known))
+  -- page r, which was validated, names a page that was claimed
+  pub named-claimed : (r named level low high : ℕ) (w : View S) (k : IsKeptNow (KeepsPlain plain L) r (Unit {0}) w) → r < w.start.pages → IsNameIn L (tree_pages w) r (last_of w r).words named level low high → named < k.kept.next
+  named-claimed r named level low high w k inside name =
+      ⊎_elim
+      (λ (l : named < k.kept.next). l)
+      (λ (le : k.kept.next ≤ named).
+      let below : named < w.start.pages = subst (λ (n : ℕ). named < n) (pages-are plain L r (Unit {0}) w k) name.in_range in
+      let tied : IsTied L (tree_pages w) r (page_at k.kept.pages r) named (page_at k.kept.pages named) = plain_ties plain L laws (began_of w.start) k.kept r named k.holds (subst (λ (n : ℕ). r < n) (sym k.pages) inside) in
+      absurd (no-node _ (page_at k.kept.pages named) (k.zero named le below) (name.node (page_at k.kept.pages named) (subst (λ (l : List ℕ). IsTied L (tree_pages w) r l named (page_at k.kept.pages named)) (k.page tt) tied)).kind))
+      (cases_lt named k.kept.next)
+
+  -- so was page 0
+  pub first-claimed : (free : Type 0) (w : View S) (k : IsKeptNow (KeepsPlain plain L) 0 free w) → 0 < w.start.pages → 0 < k.kept.next
+  first-claimed free w k some =
+      ⊎_elim
+      (λ (l : 0 < k.kept.next). l)
+      (λ (le : k.kept.next ≤ 0).
+      let none : slice_index (page_at k.kept.pages 0) 0 ≡ 0 = ap (λ (l : List ℕ). slice_index l 0) (k.zero 0 le some) ∙ zero-at w.start.size 0 in
+      let magic : slice_index (page_at k.kept.pages 0) 0 ≡ L.magic = k.holds.tree.meta.magic in
+      let some-magic : 1 ≤ L.magic = laws.some_magic in
+      absurd (omega (arith, none, magic, some-magic)))
+      (cases_lt 0 k.kept.next)
+
+  -- the page that a validated page names is below the next one, as the pass knew that before it looked at the page
+  pub named-below : (r word frame named level low high : ℕ) (v x w : View S) → ReadsOn v x → ReadsAsBefore v x r → known_next x ≡ known_next v → IsValid (Tied L) r word frame None x w → w.start.size ≡ L.words → IsKeptNow (KeepsPlain plain L) r (Unit {0}) w → NamesNode L v r word named level low high → v.start.tells ≡ true → IsAlone v → named < known_next v
+  named-below r word frame named level low high v x w reads same next k whole kept names tells a =
+      let valid : ReadsOn x w = valid-reads (Tied L) r word frame x w k in
+      let start : w.start ≡ v.start = valid.0.start ∙ reads.0.start in
+      let there : IsAlone x = still-alone v x reads.0.parts reads.0.alone.current a in
+      let here : IsAlone w = still-alone x w valid.0.parts valid.0.alone.current there in
+      let name : IsNameIn L (tree_pages v) r (last_of w r).words named level low high = names tells (last_of w r).words (k.size ∙ whole) (sees-back r word frame v x w reads same k tells) in
+      let claimed : named < kept.kept.next = named-claimed r named level low high w kept k.reads.page (subst (λ (o : Origin). IsNameIn L (length o.contents) r (last_of w r).words named level low high) (sym start) name) in
+      subst (λ (n : ℕ). named < n) (sym (kept.next here) ∙ same-next x w valid.0 k.table there ∙ next) claimed
+
+  -- page 0 is not denied
+  pub first-readable : (free : Type 0) (deny : Deny) (v x : View S) → IsDenied AgainOrNeed NoWord NoneExpected 0 deny v x → IsKeptNow (KeepsPlain plain L) 0 free x → 0 < v.start.pages → KnowsResident v → is_readable (state_of (known_word 0 v)) ≡ true
+  first-readable free deny v x d kept some k =
+      let reads : OnlyReads v x = (denied-reads AgainOrNeed NoWord NoneExpected 0 deny v x d).0 in
+      let there : IsAlone x = still-alone v x reads.parts reads.alone.current k.alone in
+      let claimed : 0 < kept.kept.next = first-claimed free x kept (subst (λ (o : Origin). 0 < o.pages) (sym reads.start) some) in
+      free-below 0 v k (subst (λ (n : ℕ). 0 < n) (sym (kept.next there) ∙ same-next v x reads d.table k.alone) claimed) some
+
+  -- page 0 is read, and two words of it
+  pub first-known : (free : Type 0) (p word frame : ℕ) (one two : List (ℕ × ℕ)) (v a b y : View S) → p ≡ 0 → BeginsReading 0 word frame v a → IsKeptNow (KeepsPlain plain L) 0 free a → Loads p word frame one a b → Loads p word frame two b y → KnowsResident v → IsKnownNow p word y
+  first-known free p word frame one two v a b y zero begins kept first second k =
+      let reads : OnlyReads v a = (begins-reads 0 word frame v a begins).0 in
+      let there : IsAlone a = still-alone v a reads.parts reads.alone.current k.alone in
+      let claimed : 0 < kept.kept.next = first-claimed free a kept begins.reads.page in
+      let known : IsKnownNow 0 word a = known-begun 0 word frame v a begins (subst (λ (n : ℕ). 0 < n) (sym (kept.next there) ∙ begun-next 0 word frame v a begins k.alone) claimed) k in
+      known-same p word b y (loads-reads p word frame two b y second).0 second.table (known-same p word a b (loads-reads p word frame one a b first).0 first.table (subst (λ (n : ℕ). IsKnownNow n word a) (sym zero) known))

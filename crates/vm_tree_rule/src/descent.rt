@@ -1,46 +1,45 @@
 // The coupled descent: each page is looked at before the page that names it is validated, and read before it is left.
 ghost use Rattle.std.specs.Prelude.{[], ◌*◌, ◌+◌, ◌<◌, ◌∷◌, ◌≡◌, ◌≢◌, ◌≤◌, IfErr, IfOk, IsOk, length, List, MatchOption, true, unwrap_or, ℕ};
-ghost use Rattle.vm_map.specs.History.{bound_of};
+ghost use Rattle.std.specs.Option.{option_map};
 ghost use Rattle.vm_step.specs.Prelude.{IsReady, IsSamePass, MayStep, ReadsAsBefore, view};
 ghost use Rattle.vm_guard.specs.{Guards.IsReading, PageWords.LoadsWords};
 ghost use Rattle.vm_tree_rule.specs.Leaves.{LeavesWord, ReadsOn};
 ghost use Rattle.vm_tree_rule.specs.Few.{HasHeight, LoadsAtMost, LoadsHeight, LoadsWithin, ReadsInPlace};
 ghost use Rattle.vm_tree_rule.specs.Seeks.{IsMetaRead, IsNamedRoot, GoesPast, TellChildIn, TellNoChild};
 ghost use Rattle.vm_tree_rule.specs.Resident.{IsKnownNow, KnowsLocks, KnowsResident};
-ghost use Rattle.vm_tree_rule.specs.Standing.{Awaits, AwaitsNode, HasSteppedDown, IsOpened, IsStand, NamesNode, StaysOpen, tree_pages};
+ghost use Rattle.vm_tree_rule.specs.Standing.{Awaits, AwaitsNode, fence_of, HasSteppedDown, IsOpened, IsStand, NamesNode, StaysOpen, tree_pages};
 ghost use Rattle.vm_tree_rule.specs.Turns.{IsStopped, IsTurnedBack};
 
-use crate::Tree;
 use crate::in_place::InPlace;
 use crate::turn::Turn;
 use vm_block::Block;
 use vm_guard::OptGuard;
-use vm_inner::{Fenced, child_at};
-use vm_map::window::Bound;
+use vm_inner::Fenced;
+use vm_kind::{Kind, TreeOf};
 use vm_rule::words::{Pass, Words};
 use vm_step::frame_place;
 
 /// Looks at the page that the parent's words name, and then validates the parent, whatever the look showed: words of a parent that stands no
 /// longer name nobody to wait for. The parent's words are not validated before: where they name no page, the validation fails, or they are no
 /// tree's.
-pub(crate) fn enter<B: Block>(
-    words: &Words<Tree, B>,
-    pass: &mut Pass<Tree>,
+pub(crate) fn enter<K: Kind, B: Block>(
+    words: &Words<TreeOf<K>, B>,
+    pass: &mut Pass<TreeOf<K>>,
     parent: &OptGuard,
     named: u64,
 ) -> Result<OptGuard, Turn>
     requires ready { IsReady words.now.table.shared.key B.tells words.now.table.shared.table_id pass.old }
     requires reading { IsReading parent.now.pid parent.now.word parent.now.frame (view pass.old) }
-    requires names { (level low high : ℕ) × NamesNode (view pass.old) parent.now.pid parent.now.word named level low high }
+    requires names { (level low high : ℕ) × NamesNode K.layout (view pass.old) parent.now.pid parent.now.word named level low high }
     ensures pass { IsSamePass pass.old pass.new }
     ensures ready { IsReady words.now.table.shared.key B.tells words.now.table.shared.table_id pass.new }
     ensures ok { IfOk result (λ guard. (guard.pid ≡ named)
-        × HasSteppedDown parent.now.pid parent.now.word parent.now.frame guard.pid guard.word guard.frame (view pass.old) (view pass.new)) }
-    ensures awaits { IfOk result (λ guard. (level low high : ℕ) → NamesNode (view pass.old) parent.now.pid parent.now.word named level low high
-        → AwaitsNode (view pass.new) guard.pid guard.word level low high) }
+        × HasSteppedDown K.layout parent.now.pid parent.now.word parent.now.frame guard.pid guard.word guard.frame (view pass.old) (view pass.new)) }
+    ensures awaits { IfOk result (λ guard. (level low high : ℕ) → NamesNode K.layout (view pass.old) parent.now.pid parent.now.word named level low high
+        → AwaitsNode K.layout (view pass.new) guard.pid guard.word level low high) }
     ensures pages { B.tells ≡ true → IfOk result (λ _. tree_pages (view pass.new) ≡ (view pass.new).start.pages) }
     ensures parent { IfOk result (λ guard. StaysOpen parent.now.pid parent.now.word parent.now.frame guard.pid (view pass.old) (view pass.new)) }
-    ensures err { IfErr result (λ turn. IsStopped parent.now.pid parent.now.word parent.now.frame named turn (view pass.old) (view pass.new)) }
+    ensures err { IfErr result (λ turn. IsStopped K.layout parent.now.pid parent.now.word parent.now.frame named turn (view pass.old) (view pass.new)) }
     ensures sure { B.tells ≡ true → IsKnownNow parent.now.pid parent.now.word (view pass.old) → IsOk result }
     ensures known { B.tells ≡ true → IsKnownNow parent.now.pid parent.now.word (view pass.old)
         → IfOk result (λ guard. IsKnownNow guard.pid guard.word (view pass.new) × IsKnownNow parent.now.pid parent.now.word (view pass.new)) }
@@ -68,55 +67,58 @@ pub(crate) fn enter<B: Block>(
 }
 
 /// Where a descent stands: at a page whose open read began in this call, and which is a node of this level, with these fences, where blocks tell
-/// their words.
+/// their words. The high fence is the end of all keys where there is none.
 #[derive(Drop)]
-pub(crate) struct Stand {
+pub(crate) struct Stand<T> {
     pub(crate) guard: OptGuard,
     pub(crate) level: u64,
-    pub(crate) low: u64,
-    pub(crate) high: Bound,
+    pub(crate) low: T,
+    pub(crate) high: Option<T>,
 }
 
 /// The high fence of a child: the next key of its node, or the node's high fence where there is none.
-fn high_fence(next: Option<u64>, high: Bound) -> Bound
-    ensures { bound_of result ≡ unwrap_or next (bound_of high) }
+fn high_fence<K: Kind>(next: Option<K::Key>, high: &Option<K::Key>) -> Option<K::Key>
+    ensures { fence_of K.layout K.rank result ≡ unwrap_or (option_map K.rank next) (fence_of K.layout K.rank high.now) }
 {
     match next {
-        Some(above) => Bound::Key(above),
-        None => high,
+        Some(above) => Some(above),
+        None => match high {
+            Some(fence) => Some(K::same_key(fence)),
+            None => None,
+        },
     }
 }
 
 /// A step down from an inner node: searches it where it stands, and enters the child that covers the key. The node stays open.
-pub(crate) fn step<B: Block>(
-    words: &Words<Tree, B>,
-    pass: &mut Pass<Tree>,
-    stand: &Stand,
-    key: u64,
-) -> Result<Stand, Turn>
+pub(crate) fn step<K: Kind, B: Block>(
+    words: &Words<TreeOf<K>, B>,
+    pass: &mut Pass<TreeOf<K>>,
+    stand: &Stand<K::Key>,
+    key: &K::Key,
+) -> Result<Stand<K::Key>, Turn>
     requires ready { IsReady words.now.table.shared.key B.tells words.now.table.shared.table_id pass.old }
     requires reading { IsReading stand.now.guard.pid stand.now.guard.word stand.now.guard.frame (view pass.old) }
-    requires stands { IsStand key stand.now (view pass.old) }
+    requires stands { IsStand K.layout K.rank (K.rank key.now) stand.now (view pass.old) }
     requires inner { 1 ≤ stand.now.level }
     ensures pass { IsSamePass pass.old pass.new }
     ensures ready { IsReady words.now.table.shared.key B.tells words.now.table.shared.table_id pass.new }
     ensures reads { IfOk result (λ below. ReadsOn (view pass.old) (view pass.new)
         × IsOpened (view pass.old) below.guard.pid below.guard.word below.guard.frame (view pass.new)) }
     ensures level { IfOk result (λ below. below.level + 1 ≡ stand.now.level) }
-    ensures stands { IfOk result (λ below. IsStand key below (view pass.new)) }
+    ensures stands { IfOk result (λ below. IsStand K.layout K.rank (K.rank key.now) below (view pass.new)) }
     ensures parent { IfOk result (λ below. (below.guard.pid ≢ stand.now.guard.pid)
         × ((v : _) → IsOpened v stand.now.guard.pid stand.now.guard.word stand.now.guard.frame (view pass.old)
         → IsOpened v stand.now.guard.pid stand.now.guard.word stand.now.guard.frame (view pass.new))) }
-    ensures passed { IfOk result (λ below. GoesPast stand.now.guard.pid stand.now.guard.word stand.now.guard.frame key
+    ensures passed { IfOk result (λ below. GoesPast K.layout K.spare stand.now.guard.pid stand.now.guard.word stand.now.guard.frame (K.rank key.now)
         below.guard.pid (view pass.old) (view pass.new)) }
     ensures err { IfErr result (λ turn. (v : _) → IsOpened v stand.now.guard.pid stand.now.guard.word stand.now.guard.frame (view pass.old)
-        → IsTurnedBack v key turn (view pass.new)) }
+        → IsTurnedBack K.layout v (K.rank key.now) turn (view pass.new)) }
     ensures sure { B.tells ≡ true → IsKnownNow stand.now.guard.pid stand.now.guard.word (view pass.old) → IsOk result }
     ensures known { B.tells ≡ true → IsKnownNow stand.now.guard.pid stand.now.guard.word (view pass.old)
         → IfOk result (λ below. IsKnownNow below.guard.pid below.guard.word (view pass.new)
         × IsKnownNow stand.now.guard.pid stand.now.guard.word (view pass.new)) }
     ensures locks { IfOk result (λ _. KnowsLocks (view pass.new)) }
-    ensures few { LoadsAtMost 7 (view pass.old) (view pass.new) }
+    ensures few { LoadsAtMost K.bounds.child (view pass.old) (view pass.new) }
 {
     match child_in_place(words, pass, &stand.guard, key) {
         Some(child) => match enter(words, pass, &stand.guard, child.page) {
@@ -124,7 +126,7 @@ pub(crate) fn step<B: Block>(
                 guard,
                 level: stand.level - 1,
                 low: child.low,
-                high: high_fence(child.next, stand.high),
+                high: high_fence::<K>(child.next, &stand.high),
             }),
             Err(turn) => Err(turn),
         },
@@ -136,19 +138,21 @@ pub(crate) fn step<B: Block>(
 }
 
 /// The child that the words of the page name for the key, found where they stand.
-fn child_in_place<B: Block>(
-    words: &Words<Tree, B>,
-    pass: &mut Pass<Tree>,
+fn child_in_place<K: Kind, B: Block>(
+    words: &Words<TreeOf<K>, B>,
+    pass: &mut Pass<TreeOf<K>>,
     guard: &OptGuard,
-    key: u64,
-) -> Option<Fenced>
+    key: &K::Key,
+) -> Option<Fenced<K::Key>>
     requires ready { IsReady words.now.table.shared.key B.tells words.now.table.shared.table_id pass.old }
     requires reading { IsReading guard.now.pid guard.now.word guard.now.frame (view pass.old) }
     ensures pass { IsSamePass pass.old pass.new }
     ensures ready { IsReady words.now.table.shared.key B.tells words.now.table.shared.table_id pass.new }
-    ensures found { ReadsInPlace guard.now.pid guard.now.word guard.now.frame 7 (view pass.old) (view pass.new) (λ loaded.
-        MatchOption result (TellNoChild loaded key) (λ child. TellChildIn loaded key child.page child.low child.next)) }
-    ensures sides { MatchOption result (Unit {0}) (λ child. (child.low ≤ key) × MatchOption child.next (Unit {0}) (λ above. key < above)) }
+    ensures found { ReadsInPlace guard.now.pid guard.now.word guard.now.frame K.bounds.child (view pass.old) (view pass.new) (λ loaded.
+        MatchOption result (TellNoChild K.layout loaded (K.rank key.now))
+        (λ child. TellChildIn K.layout loaded (K.rank key.now) child.page (K.rank child.low) (option_map K.rank child.next))) }
+    ensures sides { MatchOption result (Unit {0})
+        (λ child. (K.rank child.low ≤ K.rank key.now) × MatchOption child.next (Unit {0}) (λ above. K.rank key.now < K.rank above)) }
 {
     let mut place = InPlace {
         words,
@@ -156,37 +160,37 @@ fn child_in_place<B: Block>(
         guard,
         first: frame_place(words, guard.frame),
     };
-    child_at(&mut place, key)
+    K::child_at(&mut place, key)
 }
 
 /// Where a descent begins: page 0, and the root.
 #[derive(Drop)]
-pub(crate) struct Top {
+pub(crate) struct Top<T> {
     pub(crate) meta: OptGuard,
-    pub(crate) stand: Stand,
+    pub(crate) stand: Stand<T>,
 }
 
 /// Reads page 0, and enters the root. A tree has fewer levels than pages, so a descent ends also where blocks do not tell their words.
-pub(crate) fn enter_root<B: Block>(
-    words: &Words<Tree, B>,
-    pass: &mut Pass<Tree>,
-    key: u64,
-) -> Result<Top, Turn>
+pub(crate) fn enter_root<K: Kind, B: Block>(
+    words: &Words<TreeOf<K>, B>,
+    pass: &mut Pass<TreeOf<K>>,
+    key: &K::Key,
+) -> Result<Top<K::Key>, Turn>
     requires pass { MayStep words.now.table.shared.table_id pass.old }
     requires pages { 1 ≤ words.now.table.shared.key.pages }
     ensures pass { IsSamePass pass.old pass.new }
     ensures ready { IsReady words.now.table.shared.key B.tells words.now.table.shared.table_id pass.new }
     ensures ok { IfOk result (λ top. IsOpened (view pass.old) top.stand.guard.pid top.stand.guard.word top.stand.guard.frame (view pass.new)
-        × IsStand key top.stand (view pass.new)) }
+        × IsStand K.layout K.rank (K.rank key.now) top.stand (view pass.new)) }
     ensures reads { IfOk result (λ _. ReadsOn (view pass.old) (view pass.new)) }
     ensures sure { B.tells ≡ true → KnowsResident (view pass.old) → IsOk result }
     ensures known { B.tells ≡ true → KnowsResident (view pass.old)
         → IfOk result (λ top. IsKnownNow top.stand.guard.pid top.stand.guard.word (view pass.new) × IsKnownNow top.meta.pid top.meta.word (view pass.new)) }
     ensures locks { IfOk result (λ _. KnowsLocks (view pass.new)) }
-    ensures named { IfOk result (λ top. IsNamedRoot (view pass.old) top.stand.guard.pid (view pass.new)) }
+    ensures named { IfOk result (λ top. IsNamedRoot K.layout (view pass.old) top.stand.guard.pid (view pass.new)) }
     ensures meta { IfOk result (λ top. IsMetaRead top.meta.pid top.meta.word top.meta.frame top.stand.guard.pid
         top.stand.level (view pass.old) (view pass.new)) }
-    ensures err { IfErr result (λ turn. IsTurnedBack (view pass.old) key turn (view pass.new)) }
+    ensures err { IfErr result (λ turn. IsTurnedBack K.layout (view pass.old) (K.rank key.now) turn (view pass.new)) }
     ensures words { IfOk result (λ top. LoadsWords (top.stand.guard.pid ∷ top.stand.level ∷ []) (view pass.old) (view pass.new)) }
     ensures height { IfOk result (λ top. HasHeight top.stand.level (view pass.old) (view pass.new)) }
     ensures few { LoadsWithin (λ _. 2) (view pass.old) (view pass.new) }
@@ -204,36 +208,38 @@ pub(crate) fn enter_root<B: Block>(
     if level >= words.pages as u64 {
         return Err(Turn::astray_at(&meta));
     }
+    K::in_range(key);
     Ok(Top {
         meta,
         stand: Stand {
             guard,
             level,
-            low: 0,
-            high: Bound::End,
+            low: K::lowest(),
+            high: None,
         },
     })
 }
 
 /// Descends to the leaf that covers the key, of which nothing is loaded yet. Its guard is still open: once it is validated, the words loaded through
 /// it are those of a leaf that covers the key.
-pub fn descend<B: Block>(
-    words: &Words<Tree, B>,
-    pass: &mut Pass<Tree>,
-    key: u64,
+pub fn descend<K: Kind, B: Block>(
+    words: &Words<TreeOf<K>, B>,
+    pass: &mut Pass<TreeOf<K>>,
+    key: &K::Key,
 ) -> Result<OptGuard, Turn>
     requires pass { MayStep words.now.table.shared.table_id pass.old }
     requires pages { 1 ≤ words.now.table.shared.key.pages }
     ensures pass { IsSamePass pass.old pass.new }
     ensures ready { IsReady words.now.table.shared.key B.tells words.now.table.shared.table_id pass.new }
     ensures reads { IfOk result (λ guard. ReadsOn (view pass.old) (view pass.new) × IsOpened (view pass.old) guard.pid guard.word guard.frame (view pass.new)) }
-    ensures awaits { IfOk result (λ guard. Awaits (view pass.new) guard.pid guard.word 0 key) }
-    ensures fences { IfOk result (λ guard. (low high : ℕ) × (low ≤ key) × (key < high) × AwaitsNode (view pass.new) guard.pid guard.word 0 low high) }
-    ensures err { IfErr result (λ turn. IsTurnedBack (view pass.old) key turn (view pass.new)) }
+    ensures awaits { IfOk result (λ guard. Awaits K.layout (view pass.new) guard.pid guard.word 0 (K.rank key.now)) }
+    ensures fences { IfOk result (λ guard. (low high : ℕ) × (low ≤ K.rank key.now) × (K.rank key.now < high)
+        × AwaitsNode K.layout (view pass.new) guard.pid guard.word 0 low high) }
+    ensures err { IfErr result (λ turn. IsTurnedBack K.layout (view pass.old) (K.rank key.now) turn (view pass.new)) }
     ensures sure { B.tells ≡ true → KnowsResident (view pass.old) → IsOk result }
     ensures known { B.tells ≡ true → KnowsResident (view pass.old) → IfOk result (λ guard. IsKnownNow guard.pid guard.word (view pass.new)) }
-    ensures few { LoadsWithin (λ h. 2 + 7 * h) (view pass.old) (view pass.new) }
-    ensures height { IfOk result (λ _. (h : ℕ) × LoadsHeight (2 + 7 * h) h (view pass.old) (view pass.new)) }
+    ensures few { LoadsWithin (λ h. 2 + K.bounds.child * h) (view pass.old) (view pass.new) }
+    ensures height { IfOk result (λ _. (h : ℕ) × LoadsHeight (2 + K.bounds.child * h) h (view pass.old) (view pass.new)) }
 {
     let top = match enter_root(words, pass, key) {
         Ok(top) => top,

@@ -9,23 +9,25 @@ ghost use Rattle.vm_guard.specs.PageWords.{LoadsWords};
 ghost use Rattle.vm_guard.proofs.PageLoads.{words-then};
 ghost use Rattle.vm_guard.proofs.Reading.{loaded-then, none-loaded};
 
-use crate::Tree;
 use vm_block::Block;
 use vm_guard::OptGuard;
 use vm_node::Place;
+use vm_owner::Owner;
 use vm_rule::words::{Pass, Words};
 
 /// A page under an optimistic guard, with the pass that reads it. Its words may change while they are loaded, which the guard's validation tells.
 #[derive(Drop)]
-pub struct InPlace<'a, B: Block> {
-    pub words: &'a Words<Tree, B>,
-    pub pass: &'a mut Pass<Tree>,
+pub struct InPlace<'a, U: Owner, B: Block> {
+    pub words: &'a Words<U, B>,
+    pub pass: &'a mut Pass<U>,
     pub guard: &'a OptGuard,
     /// Where the words of the guard's frame begin (`vm_step::frame_place`).
     pub first: usize,
 }
 
-impl<B: Block> Place for InPlace<'_, B> {
+impl<U: Owner, B: Block> Place for InPlace<'_, U, B> {
+    ghost size = { λ p. p.words.now.table.shared.key.size };
+
     ghost ready = { λ p.
         IsReady p.words.now.table.shared.key B.tells p.words.now.table.shared.table_id p.pass.now
         × IsReading p.guard.now.pid p.guard.now.word p.guard.now.frame (view p.pass.now)
@@ -37,7 +39,6 @@ impl<B: Block> Place for InPlace<'_, B> {
         × Loads p.guard.now.pid p.guard.now.word p.guard.now.frame loaded (view p.pass.now) (view q.pass.now)
         × LoadsWords (map (λ l. l.1) loaded) (view p.pass.now) (view q.pass.now) };
 
-    #[tactic(auto, using(crate::proofs::Whole::tree_place))]
     fn word(&mut self, i: usize) -> u64 {
         self.guard.word_at(self.words, self.pass, self.first, i)
     }

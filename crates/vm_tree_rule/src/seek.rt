@@ -1,23 +1,19 @@
 // The search for the first full node on the way of a key, from the root on.
 ghost use Rattle.std.specs.Prelude.{◌*◌, ◌+◌, ◌≡◌, ◌≤◌, IfErr, IfOk, IsOk, length, List, true, ℕ};
-ghost use Rattle.vm_tree_model.specs.Page.{pairs_of};
 ghost use Rattle.vm_step.specs.Prelude.{IsReady, IsSamePass, MayStep, view};
 ghost use Rattle.vm_guard.specs.{Guards.IsReading, PageWords.LoadsWords};
 ghost use Rattle.vm_tree_rule.specs.{Leaves.ReadsOn, Turns.IsTurnedBack};
 ghost use Rattle.vm_tree_rule.specs.Few.{LoadsHeight, LoadsWithin, ReadsInPlace};
 ghost use Rattle.vm_tree_rule.specs.Resident.{IsKnownNow, KnowsLocks, KnowsResident};
-ghost use Rattle.vm_tree_rule.specs.Seeks.{HasLoaded, IsMet, IsReread, KnowsMet, most_for, TellCount};
+ghost use Rattle.vm_tree_rule.specs.Seeks.{HasLoaded, IsMet, IsReread, KnowsMet, most_for, TellSpare};
 ghost use Rattle.vm_tree_rule.specs.Standing.{IsOpened};
 
-use crate::Tree;
 use crate::descent::{enter_root, step};
 use crate::in_place::InPlace;
 use crate::turn::Turn;
 use vm_block::Block;
 use vm_guard::OptGuard;
-use vm_map::window::MOST_PAIRS;
-use vm_node::pairs::{count_at, count_of};
-use vm_page::{PageBuf, WORDS};
+use vm_kind::{Pages, TreeOf};
 use vm_rule::words::{Pass, Words};
 use vm_step::frame_place;
 
@@ -39,18 +35,18 @@ pub enum Met {
     Roomy(OptGuard),
 }
 
-/// How many pairs the page under the guard has, found where it stands.
-fn count_in_place<B: Block>(
-    words: &Words<Tree, B>,
-    pass: &mut Pass<Tree>,
+/// How much of its room the page under the guard has left, found where it stands.
+fn spare_in_place<K: Pages, B: Block>(
+    words: &Words<TreeOf<K>, B>,
+    pass: &mut Pass<TreeOf<K>>,
     guard: &OptGuard,
 ) -> usize
     requires ready { IsReady words.now.table.shared.key B.tells words.now.table.shared.table_id pass.old }
     requires reading { IsReading guard.now.pid guard.now.word guard.now.frame (view pass.old) }
     ensures pass { IsSamePass pass.old pass.new }
     ensures ready { IsReady words.now.table.shared.key B.tells words.now.table.shared.table_id pass.new }
-    ensures few { result ≤ MOST_PAIRS }
-    ensures found { ReadsInPlace guard.now.pid guard.now.word guard.now.frame 1 (view pass.old) (view pass.new) (λ loaded. TellCount loaded result) }
+    ensures found { ReadsInPlace guard.now.pid guard.now.word guard.now.frame K.bounds.spare (view pass.old) (view pass.new)
+        (λ loaded. TellSpare K.layout K.spare loaded result) }
 {
     let mut place = InPlace {
         words,
@@ -58,36 +54,36 @@ fn count_in_place<B: Block>(
         guard,
         first: frame_place(words, guard.frame),
     };
-    count_at(&mut place)
+    K::spare_at(&mut place)
 }
 
-/// Reads a page whole that was found to have so many pairs, and validates it. It has as many on: where the words read whole have not, the validation
-/// fails, or blocks do not tell their words.
-fn reread<B: Block>(
-    words: &Words<Tree, B>,
-    pass: &mut Pass<Tree>,
+/// Reads a page whole that was found to have so much of its room left, and validates it. It has as much on: where the words read whole have not, the
+/// validation fails, or blocks do not tell their words.
+fn reread<K: Pages, B: Block>(
+    words: &Words<TreeOf<K>, B>,
+    pass: &mut Pass<TreeOf<K>>,
     guard: &OptGuard,
-    count: usize,
-    into: &mut PageBuf<WORDS>,
+    left: usize,
+    into: &mut K::Page,
 ) -> Result<(), Turn>
     requires ready { IsReady words.now.table.shared.key B.tells words.now.table.shared.table_id pass.old }
     requires reading { IsReading guard.now.pid guard.now.word guard.now.frame (view pass.old) }
-    requires size { length into.old ≡ WORDS }
-    requires counted { (loaded : List (ℕ × ℕ)) × HasLoaded (view pass.old) guard.now.pid loaded × TellCount loaded count }
-    ensures size { length into.new ≡ WORDS }
+    requires size { length (K.words_of into.old) ≡ K.layout.words }
+    requires counted { (loaded : List (ℕ × ℕ)) × HasLoaded (view pass.old) guard.now.pid loaded × TellSpare K.layout K.spare loaded left }
+    ensures size { length (K.words_of into.new) ≡ K.layout.words }
     ensures pass { IsSamePass pass.old pass.new }
     ensures ready { IsReady words.now.table.shared.key B.tells words.now.table.shared.table_id pass.new }
-    ensures ok { IfOk result (λ _. IsReread guard.now.pid guard.now.word guard.now.frame into.new (view pass.old) (view pass.new)) }
-    ensures count { IfOk result (λ _. count ≡ length (pairs_of into.new)) }
+    ensures ok { IfOk result (λ _. IsReread K.layout guard.now.pid guard.now.word guard.now.frame (K.words_of into.new) (view pass.old) (view pass.new)) }
+    ensures left { IfOk result (λ _. left ≡ K.spare (K.words_of into.new)) }
     ensures err { IfErr result (λ turn. (v : _) (key : ℕ) → IsOpened v guard.now.pid guard.now.word guard.now.frame (view pass.old)
-        → IsTurnedBack v key turn (view pass.new)) }
+        → IsTurnedBack K.layout v key turn (view pass.new)) }
     ensures sure { B.tells ≡ true → IsKnownNow guard.now.pid guard.now.word (view pass.old) → IsOk result }
-    ensures words { LoadsWords into.new (view pass.old) (view pass.new) }
+    ensures words { LoadsWords (K.words_of into.new) (view pass.old) (view pass.new) }
 {
-    guard.read_all(words, pass, into);
+    K::read_all(guard, words, pass, into);
     match guard.validate_silently(words, pass) {
         Ok(()) => {
-            if count_of(into) == count {
+            if K::spare_of(into) == left {
                 Ok(())
             } else {
                 Err(Turn::astray_at(guard))
@@ -99,64 +95,65 @@ fn reread<B: Block>(
 
 /// The first full node from the root to the leaf of the key, with the page that names it, or the leaf where none is full. Pages are looked at where they
 /// stand; once a node is full, its words are read into `page`, and those of its parent into `over`. The guards are still open.
-pub fn seek_full<B: Block>(
-    words: &Words<Tree, B>,
-    pass: &mut Pass<Tree>,
-    key: u64,
-    over: &mut PageBuf<WORDS>,
-    page: &mut PageBuf<WORDS>,
+pub fn seek_full<K: Pages, B: Block>(
+    words: &Words<TreeOf<K>, B>,
+    pass: &mut Pass<TreeOf<K>>,
+    key: &K::Key,
+    over: &mut K::Page,
+    page: &mut K::Page,
 ) -> Result<Met, Turn>
     requires pass { MayStep words.now.table.shared.table_id pass.old }
     requires pages { 1 ≤ words.now.table.shared.key.pages }
-    requires size { (length over.old ≡ WORDS) × (length page.old ≡ WORDS) }
-    ensures size { (length over.new ≡ WORDS) × (length page.new ≡ WORDS) }
+    requires size { (length (K.words_of over.old) ≡ K.layout.words) × (length (K.words_of page.old) ≡ K.layout.words) }
+    ensures size { (length (K.words_of over.new) ≡ K.layout.words) × (length (K.words_of page.new) ≡ K.layout.words) }
     ensures pass { IsSamePass pass.old pass.new }
     ensures ready { IsReady words.now.table.shared.key B.tells words.now.table.shared.table_id pass.new }
     ensures reads { IfOk result (λ _. ReadsOn (view pass.old) (view pass.new)) }
-    ensures met { IfOk result (λ m. IsMet (view pass.old) key m over.new page.new (view pass.new)) }
-    ensures err { IfErr result (λ turn. IsTurnedBack (view pass.old) key turn (view pass.new)) }
+    ensures met { IfOk result (λ m. IsMet K.layout K.spare (view pass.old) (K.rank key.now) m (K.words_of over.new) (K.words_of page.new) (view pass.new)) }
+    ensures err { IfErr result (λ turn. IsTurnedBack K.layout (view pass.old) (K.rank key.now) turn (view pass.new)) }
     ensures sure { B.tells ≡ true → KnowsResident (view pass.old) → IsOk result }
     ensures known { B.tells ≡ true → KnowsResident (view pass.old) → IfOk result (λ m. KnowsMet m (view pass.new)) }
     ensures locks { IfOk result (λ _. KnowsLocks (view pass.new)) }
-    ensures few { LoadsWithin (λ h. 2 + 8 * (h + 1) + 128) (view pass.old) (view pass.new) }
-    ensures height { IfOk result (λ m. (h : ℕ) × LoadsHeight (most_for m h) h (view pass.old) (view pass.new)) }
+    ensures few { LoadsWithin (λ h. 2 + (K.bounds.child + K.bounds.spare) * (h + 1) + 2 * K.layout.words) (view pass.old) (view pass.new) }
+    ensures height { IfOk result (λ m. (h : ℕ) × LoadsHeight (most_for K.bounds K.layout.words m h) h (view pass.old) (view pass.new)) }
 {
     let top = match enter_root(words, pass, key) {
         Ok(top) => top,
         Err(turn) => return Err(turn),
     };
+    let growth = K::growth();
     let mut stand = top.stand;
-    let mut count = count_in_place(words, pass, &stand.guard);
-    if count == MOST_PAIRS {
-        return match reread(words, pass, &stand.guard, count, page) {
-            Ok(()) => Ok(Met::Root {
-                meta: top.meta,
-                root: stand.guard,
-                height: stand.level,
-            }),
-            Err(turn) => Err(turn),
-        };
+    let mut left = spare_in_place(words, pass, &stand.guard);
+    if left < growth {
+        if let Err(turn) = reread(words, pass, &stand.guard, left, page) {
+            return Err(turn);
+        }
+        return Ok(Met::Root {
+            meta: top.meta,
+            root: stand.guard,
+            height: stand.level,
+        });
     }
     for _ in 0..stand.level {
         let below = match step(words, pass, &stand, key) {
             Ok(below) => below,
             Err(turn) => return Err(turn),
         };
-        let next = count_in_place(words, pass, &below.guard);
-        if next == MOST_PAIRS {
-            if let Err(turn) = reread(words, pass, &stand.guard, count, over) {
+        let next = spare_in_place(words, pass, &below.guard);
+        if next < growth {
+            if let Err(turn) = reread(words, pass, &stand.guard, left, over) {
                 return Err(turn);
             }
-            return match reread(words, pass, &below.guard, next, page) {
-                Ok(()) => Ok(Met::Below {
-                    parent: stand.guard,
-                    node: below.guard,
-                }),
-                Err(turn) => Err(turn),
-            };
+            if let Err(turn) = reread(words, pass, &below.guard, next, page) {
+                return Err(turn);
+            }
+            return Ok(Met::Below {
+                parent: stand.guard,
+                node: below.guard,
+            });
         }
         stand = below;
-        count = next;
+        left = next;
     }
     Ok(Met::Roomy(stand.guard))
 }

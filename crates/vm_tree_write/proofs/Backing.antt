@@ -1,6 +1,6 @@
 -- The words of an answer that is to be tried again, in the log of the whole call.
 use Rattle.std.proofs.Common.{◌++◌, ◌≡◌, ◌≢◌, List, ℕ}
-use Rattle.vm_map.specs.declared.call.Said.{Said}
+use Rattle.vm_tree_model.specs.Layout.{Layout}
 use Rattle.vm_rule.specs.Prelude.{StartsWith}
 use Rattle.vm_rule.specs.declared.view.Place.{Place}
 use Rattle.vm_rule.proofs.Entries.{starts-self}
@@ -43,29 +43,6 @@ seen-wider done saw s = record {
   why = s.why;
 }
 
-module _ {X : Type 0} where
-  pub shown-wider : (saw : Saw) (v w : View X) → IsAgain v saw w → IsShown UnlockedExpected v saw w
-  shown-wider saw v w s = record { done = s.done; log = s.log; page = s.page; at = s.at; seen = seen-wider s.done saw s.seen }
-
-  -- a page that the call had begun to read could not be validated
-  pub shown-refused : (p word frame : ℕ) (saw : Saw) (u v w : View X) → IsOpened u p word frame v → IsDenied AgainOrNeed (KeptWord word) NoneExpected p (denies.Again saw) v w → IsAgain u saw w
-  shown-refused p word frame saw u v w o d = shown-kept AgainOrNeed NoneExpected p word frame saw u v v w o (leaves-self p v) d
-
-  -- or could not be locked
-  pub shown-unlocked : (p word frame : ℕ) (saw : Saw) (u v w : View X) → IsOpened u p word frame v → IsDenied AgainOrWorn (KeptWord word) UnlockedExpected p (denies.Again saw) v w → IsShown UnlockedExpected u saw w
-  shown-unlocked p word frame saw u v w o d = shown-kept AgainOrWorn UnlockedExpected p word frame saw u v v w o (leaves-self p v) d
-
-pub backed-shown : (saw : Saw) (v w : View Said) → IsShown UnlockedExpected v saw w → IsBackedBy v saw w
-backed-shown saw v w s = record { done = s.done; log = s.log; seen = s.seen }
-
--- a part of the call shows them
-backed-part : (saw : Saw) (done : List Did) (u v x w : View Said) → StartsWith v.log u.log → x.log ≡ v.log ++ done → IsSaw NoWord UnlockedExpected done saw → StartsWith w.log x.log → IsBackedBy u saw w
-backed-part saw done u v x w earlier log s later = record {
-  done = (earlier.0 ++ done) ++ later.0;
-  log = log-then (earlier.0 ++ done) later.0 u x w (log-then earlier.0 done u v x earlier.1 log) later.1;
-  seen = seen-front UnlockedExpected (earlier.0 ++ done) later.0 saw (saw-behind UnlockedExpected earlier.0 done saw s);
-}
-
 saw-wider : (done : List Did) (saw : Saw) → IsSaw NoWord NoneExpected done saw → IsSaw NoWord UnlockedExpected done saw
 saw-wider done saw s = record {
   earlier = s.earlier;
@@ -80,40 +57,64 @@ saw-wider done saw s = record {
   why = s.why;
 }
 
--- the bits of a bundle were lost, by the first allocation
-backed-at-once : (home cap n : ℕ) (old new : List ℕ) (saw : Saw) (u v w : View Said) → StartsWith v.log u.log → IsAlloc home cap n old new v w (allocs.Again saw) → IsBackedBy u saw w
-backed-at-once home cap n old new saw u v w earlier k = backed-part saw k.done u v w w earlier k.refused.moves.log (saw-wider k.done saw k.evidence) (starts-self w.log)
+module _ {X : Type 0} where
+  pub shown-wider : (saw : Saw) (v w : View X) → IsAgain v saw w → IsShown UnlockedExpected v saw w
+  shown-wider saw v w s = record { done = s.done; log = s.log; page = s.page; at = s.at; seen = seen-wider s.done saw s.seen }
 
--- or by the second
-backed-second : (frames : List ℕ) (saw : Saw) (u v w : View Said) → StartsWith v.log u.log → IsSecondRefused frames (allocs.Again saw) v w → IsBackedBy u saw w
-backed-second frames saw u v w earlier h = backed-part saw h.alloc.done u v h.between w earlier h.alloc.refused.moves.log (saw-wider h.alloc.done saw h.alloc.evidence) (h.freed.back.done, h.freed.back.moves.log)
+  -- a page that the call had begun to read could not be validated
+  pub shown-refused : (p word frame : ℕ) (saw : Saw) (u v w : View X) → IsOpened u p word frame v → IsDenied AgainOrNeed (KeptWord word) NoneExpected p (denies.Again saw) v w → IsAgain u saw w
+  shown-refused p word frame saw u v w o d = shown-kept AgainOrNeed NoneExpected p word frame saw u v v w o (leaves-self p v) d
 
-pub backed-short : (n : ℕ) (saw : Saw) (u v w : View Said) → StartsWith v.log u.log → IsShort n (allocs.Again saw) v w → IsBackedBy u saw w
-backed-short n saw u v w earlier (at_once home cap old new k) = backed-at-once home cap n old new saw u v w earlier k
-backed-short n saw u v w earlier (after_one home cap old new frames x two one k h) =
-    let m = alloc-more home cap 2 old new frames v x k in
-    backed-second frames saw u x w (starts-then u.log v.log x.log earlier (m.done, m.moves.log)) h
+  -- or could not be locked
+  pub shown-unlocked : (p word frame : ℕ) (saw : Saw) (u v w : View X) → IsOpened u p word frame v → IsDenied AgainOrWorn (KeptWord word) UnlockedExpected p (denies.Again saw) v w → IsShown UnlockedExpected u saw w
+  shown-unlocked p word frame saw u v w o d = shown-kept AgainOrWorn UnlockedExpected p word frame saw u v v w o (leaves-self p v) d
 
--- a fresh page could not be locked, or another one was the next by then
-pub backed-pages : (n : ℕ) (first second : OptGuard) (saw : Saw) (u v w : View Said) → StartsWith v.log u.log → IsRefusedPages n first second (freshes.Again saw) v w → IsBackedBy u saw w
-backed-pages n first second saw u v w earlier h =
-    let t = h.fresh.1.1 in
-    let l = h.locks in
-    let g = h.back in
-    let asked = starts-then u.log v.log h.asked.log earlier (h.done, h.moves.log) in
-    let one = starts-then u.log h.asked.log l.between.log asked (l.up_locked.done, l.up_locked.elsewhere.steady.log) in
-    let both = starts-then u.log l.between.log h.locked.log one (l.low_locked.done, l.low_locked.elsewhere.steady.log) in
-    let low = starts-then h.refused.log g.between.log g.released.log (g.low_back.done, g.low_back.elsewhere.steady.log) (g.up_back.done, g.up_back.elsewhere.steady.log) in
-    backed-part saw t.done u h.locked h.refused w both t.spared.nil.amid.log t.saw_is (starts-then h.refused.log g.released.log w.log low (g.done, g.moves.log))
+  pub backed-shown : (saw : Saw) (v w : View X) → IsShown UnlockedExpected v saw w → IsBackedBy v saw w
+  backed-shown saw v w s = record { done = s.done; log = s.log; seen = s.seen }
 
--- one of two pages that the call had begun to read could not be locked
-backed-denied : (first second : OptGuard) (saw : Saw) (u v x w : View Said) → IsOpened u first.pid first.word first.frame v → IsOpened u second.pid second.word second.frame v → second.pid ≢ first.pid → ((p : ℕ) → LeavesWord p v x) → IsLockDenied first second (denies.Again saw) x w → IsShown UnlockedExpected u saw w
-backed-denied first second saw u v x w a b apart leaves (first_denied d) = shown-kept AgainOrWorn UnlockedExpected first.pid first.word first.frame saw u v x w a (leaves first.pid) d
-backed-denied first second saw u v x w a b apart leaves (second_denied f version dirty y z at l d r) =
-    shown-later UnlockedExpected saw r.done u z w r.elsewhere.steady.log
-    (shown-kept AgainOrWorn UnlockedExpected second.pid second.word second.frame saw u v y z b (leaves-then second.pid v x y (leaves second.pid) (locked-leave second.pid first.pid f version dirty x y apart l)) d)
+  -- a part of the call shows them
+  backed-part : (saw : Saw) (done : List Did) (u v x w : View X) → StartsWith v.log u.log → x.log ≡ v.log ++ done → IsSaw NoWord UnlockedExpected done saw → StartsWith w.log x.log → IsBackedBy u saw w
+  backed-part saw done u v x w earlier log s later = record {
+    done = (earlier.0 ++ done) ++ later.0;
+    log = log-then (earlier.0 ++ done) later.0 u x w (log-then earlier.0 done u v x earlier.1 log) later.1;
+    seen = seen-front UnlockedExpected (earlier.0 ++ done) later.0 saw (saw-behind UnlockedExpected earlier.0 done saw s);
+  }
 
-pub backed-lock : (first second : OptGuard) (saw : Saw) (u v x w : View Said) → IsOpened u first.pid first.word first.frame v → IsOpened u second.pid second.word second.frame v → second.pid ≢ first.pid → ((p : ℕ) → LeavesWord p v x) → IsNotLocked first second (denies.Again saw) x w → IsBackedBy u saw w
-backed-lock first second saw u v x w a b apart leaves h =
-    let shown = backed-denied first second saw u v h.asked h.back a b apart (λ p. leaves-then p v x h.asked (leaves p) (moves-leave h.done x h.asked h.moves p)) h.denied in
-    backed-shown saw u w (shown-later UnlockedExpected saw h.freed u h.back w h.frees.log shown)
+  -- the bits of a bundle were lost, by the first allocation
+  backed-at-once : (home cap n : ℕ) (old new : List ℕ) (saw : Saw) (u v w : View X) → StartsWith v.log u.log → IsAlloc home cap n old new v w (allocs.Again saw) → IsBackedBy u saw w
+  backed-at-once home cap n old new saw u v w earlier k = backed-part saw k.done u v w w earlier k.refused.moves.log (saw-wider k.done saw k.evidence) (starts-self w.log)
+
+  -- or by the second
+  backed-second : (frames : List ℕ) (saw : Saw) (u v w : View X) → StartsWith v.log u.log → IsSecondRefused frames (allocs.Again saw) v w → IsBackedBy u saw w
+  backed-second frames saw u v w earlier h = backed-part saw h.alloc.done u v h.between w earlier h.alloc.refused.moves.log (saw-wider h.alloc.done saw h.alloc.evidence) (h.freed.back.done, h.freed.back.moves.log)
+
+  pub backed-short : (n : ℕ) (saw : Saw) (u v w : View X) → StartsWith v.log u.log → IsShort n (allocs.Again saw) v w → IsBackedBy u saw w
+  backed-short n saw u v w earlier (at_once home cap old new k) = backed-at-once home cap n old new saw u v w earlier k
+  backed-short n saw u v w earlier (after_one home cap old new frames x two one k h) =
+      let m = alloc-more home cap 2 old new frames v x k in
+      backed-second frames saw u x w (starts-then u.log v.log x.log earlier (m.done, m.moves.log)) h
+
+module _ {X : Type 0} {L : Layout} where
+  -- a fresh page could not be locked, or another one was the next by then
+  pub backed-pages : (n : ℕ) (first second : OptGuard) (saw : Saw) (u v w : View X) → StartsWith v.log u.log → IsRefusedPages L n first second (freshes.Again saw) v w → IsBackedBy u saw w
+  backed-pages n first second saw u v w earlier h =
+      let t = h.fresh.1.1 in
+      let l = h.locks in
+      let g = h.back in
+      let asked = starts-then u.log v.log h.asked.log earlier (h.done, h.moves.log) in
+      let one = starts-then u.log h.asked.log l.between.log asked (l.up_locked.done, l.up_locked.elsewhere.steady.log) in
+      let both = starts-then u.log l.between.log h.locked.log one (l.low_locked.done, l.low_locked.elsewhere.steady.log) in
+      let low = starts-then h.refused.log g.between.log g.released.log (g.low_back.done, g.low_back.elsewhere.steady.log) (g.up_back.done, g.up_back.elsewhere.steady.log) in
+      backed-part saw t.done u h.locked h.refused w both t.spared.nil.amid.log t.saw_is (starts-then h.refused.log g.released.log w.log low (g.done, g.moves.log))
+
+  -- one of two pages that the call had begun to read could not be locked
+  backed-denied : (first second : OptGuard) (saw : Saw) (u v x w : View X) → IsOpened u first.pid first.word first.frame v → IsOpened u second.pid second.word second.frame v → second.pid ≢ first.pid → ((p : ℕ) → LeavesWord p v x) → IsLockDenied L first second (denies.Again saw) x w → IsShown UnlockedExpected u saw w
+  backed-denied first second saw u v x w a b apart leaves (first_denied d) = shown-kept AgainOrWorn UnlockedExpected first.pid first.word first.frame saw u v x w a (leaves first.pid) d
+  backed-denied first second saw u v x w a b apart leaves (second_denied f version dirty y z at l d r) =
+      shown-later UnlockedExpected saw r.done u z w r.elsewhere.steady.log
+      (shown-kept AgainOrWorn UnlockedExpected second.pid second.word second.frame saw u v y z b (leaves-then second.pid v x y (leaves second.pid) (locked-leave second.pid first.pid f version dirty x y apart l)) d)
+
+  pub backed-lock : (first second : OptGuard) (saw : Saw) (u v x w : View X) → IsOpened u first.pid first.word first.frame v → IsOpened u second.pid second.word second.frame v → second.pid ≢ first.pid → ((p : ℕ) → LeavesWord p v x) → IsNotLocked L first second (denies.Again saw) x w → IsBackedBy u saw w
+  backed-lock first second saw u v x w a b apart leaves h =
+      let shown = backed-denied first second saw u v h.asked h.back a b apart (λ p. leaves-then p v x h.asked (leaves p) (moves-leave h.done x h.asked h.moves p)) h.denied in
+      backed-shown saw u w (shown-later UnlockedExpected saw h.freed u h.back w h.frees.log shown)

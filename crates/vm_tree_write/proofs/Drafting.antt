@@ -189,9 +189,9 @@ drafted-same from i before after old draft same d = record {
 }
 
 -- the first two words and then those of a span, outside of which the page stays: that is the whole draft
-pub drafted-whole : (first last from end : ℕ) (before after old mid new : List ℕ) → from ≡ min (max first 2) 64 → end ≡ min (max last from) 64 → length new ≡ 64 → length after ≡ 64
-    → ((i : ℕ) → 2 ≤ i → i < 64 → (i < first) ⊎ (last ≤ i) → slice_index after i ≡ slice_index before i) → IsDraftedAmong 0 2 before after old mid → IsDraftedAmong from end before after mid new → new ≡ after
-drafted-whole first last from end before after old mid new is-from is-end long size stays a b =
+pub drafted-whole : (n first last from end : ℕ) (before after old mid new : List ℕ) → from ≡ min (max first 2) n → end ≡ min (max last from) n → length new ≡ n → length after ≡ n
+    → ((i : ℕ) → 2 ≤ i → i < n → (i < first) ⊎ (last ≤ i) → slice_index after i ≡ slice_index before i) → IsDraftedAmong 0 2 before after old mid → IsDraftedAmong from end before after mid new → new ≡ after
+drafted-whole n first last from end before after old mid new is-from is-end long size stays a b =
     same_number_lists new after (long ∙ sym size)
     (λ k l.
     ⊎_elim

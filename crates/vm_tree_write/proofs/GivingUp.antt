@@ -1,6 +1,6 @@
 -- Two pages that were locked are given up, since no fresh pages were given: the pass holds what it held.
 use Rattle.std.proofs.Common.{◌++◌, ◌∙◌, ◌≡◌, ◌≢◌, ap, false, inl, List, None, refl, subst, sym, ℕ}
-use Rattle.vm_map.specs.declared.call.Said.{Said}
+use Rattle.vm_tree_model.specs.Layout.{Layout}
 use Rattle.vm_core.specs.Prelude.{Version}
 use Rattle.vm_rule.specs.Prelude.{draft_of, has, last_of}
 use Rattle.vm_step.specs.Prelude.{AreHeld, View}
@@ -13,12 +13,12 @@ use Rattle.vm_tree_write.proofs.{Framing.keeps-then, Framing.moves-keep, Under.d
 use Rattle.vm_tree_write.proofs.Refusing.{back-keeps, holding-nil, IsNone, nil-keeps}
 
 -- the pass keeps both, each with its last words as its draft
-pub record AreKept (up low : ExclusiveGuard) (w : View Said) : Type 0 where
+pub record AreKept {X : Type 0} (up low : ExclusiveGuard) (w : View X) : Type 0 where
   pub held : IsHolding up.pid up.frame up.version up.dirty w × IsHolding low.pid low.frame low.version low.dirty w
   pub same : (draft_of w up.pid ≡ (last_of w up.pid).words) × (draft_of w low.pid ≡ (last_of w low.pid).words)
   pub unpaid : (has up.pid w.owed ≡ false) × (has low.pid w.owed ≡ false)
 
-module _ (a b : OptGuard) (up low : ExclusiveGuard) (v w : View Said) (l : AreLocked a b up low v w) (apart : b.pid ≢ a.pid) where
+module _ {X : Type 0} {L : Layout} (a b : OptGuard) (up low : ExclusiveGuard) (v w : View X) (l : AreLocked L a b up low v w) (apart : b.pid ≢ a.pid) where
   up-draft : HasDraft a.pid (last_of l.between a.pid).words (last_of l.between a.pid).words w
   up-draft =
       draft-else a.pid b.pid l.low_locked.done _ _ l.between w (λ e. apart (sym e)) l.up_locked.holding.owns (record { last = refl; draft = l.up_locked.draft }) l.low_locked.elsewhere
@@ -49,7 +49,7 @@ module _ (a b : OptGuard) (up low : ExclusiveGuard) (v w : View Said) (l : AreLo
   pub locks-out : w.out ≡ v.out
   locks-out = l.low_locked.elsewhere.steady.out ∙ l.up_locked.elsewhere.steady.out
 
-  module _ (before after : List ℕ) (y : View Said) (none : IsNone before after w y) where
+  module _ (before after : List ℕ) (y : View X) (none : IsNone before after w y) where
     pub none-kept : AreKept up low y
     none-kept =
         let k = locks-kept in
@@ -72,7 +72,7 @@ module _ (a b : OptGuard) (up low : ExclusiveGuard) (v w : View Said) (l : AreLo
     pub none-lost : (own : List ℕ) → LosesNone (before ++ own) v (own ++ after) y
     none-lost own = subst (λ (m : List ℕ). LosesNone (before ++ own) v (own ++ m) y) (sym none.same) (loses-swap before own v y (none.nil.keeps.frames ∙ locks-frames))
 
-    pub none-ended : (u z : View Said) → KeepsLocksOnly u v → GivesUpBoth up low y z → KeepsLocksOnly u z
+    pub none-ended : (u z : View X) → KeepsLocksOnly u v → GivesUpBoth up low y z → KeepsLocksOnly u z
     none-ended u z k g =
         let nil = nil-keeps none.pages none.done w y none.nil none.next in
         let low-back = subst (λ p. IsReleased p low.version None y g.between) l.low_page g.low_back in

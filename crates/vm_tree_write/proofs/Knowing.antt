@@ -2,7 +2,7 @@
 use Rattle.std.proofs.Common.{⊎_elim, ◌+◌, ◌<◌, ◌∙◌, ◌≡◌, ◌≢◌, ap, arith, Bool, List, Option, slice_index, subst, sym, ℕ}
 use Rattle.std.proofs.lemmas.Bool.{cases_eq}
 use Rattle.std.proofs.lemmas.List.{get_or-set_other}
-use Rattle.vm_map.specs.declared.call.Said.{Said}
+use Rattle.vm_tree_model.specs.Layout.{Layout}
 use Rattle.vm_rule.specs.Prelude.{bundle_count, index_of}
 use Rattle.vm_rule.specs.declared.view.Place.TheVariants as places
 use Rattle.vm_step.specs.Prelude.{IsAlone, Origin, View}
@@ -14,7 +14,7 @@ use Rattle.vm_tree_rule.specs.Resident.{KnowsResident}
 use Rattle.vm_tree_write.specs.Drafts.{IsRedrafted, KnowsSameStates}
 use Rattle.vm_tree_write.proofs.Settling.{locked-alone, locked-next, locked-word}
 
-module _ (p version : ℕ) (said : Option Said) (v w : View Said) (r : IsReleased p version said v w) (alone : IsAlone v) where
+module _ {X : Type 0} (p version : ℕ) (said : Option X) (v w : View X) (r : IsReleased p version said v w) (alone : IsAlone v) where
   released-word : (q : ℕ) → q ≢ p → known_word q w ≡ known_word q v
   released-word q ne = ap (λ (t : List ℕ). slice_index t q) (r.table alone) ∙ get_or-set_other v.snapshot.words p q (version + 1) 0 ne
 
@@ -25,7 +25,7 @@ module _ (p version : ℕ) (said : Option Said) (v w : View Said) (r : IsRelease
       ∙ get_or-set_other v.snapshot.words p (index_of v.start places.Next) (version + 1) 0 (λ e. let more = bundle_count v.start in omega (arith, inside, e))
 
 -- it knows the page to be free again, and all others as before
-pub resident-written : (p f version : ℕ) (dirty : Bool) (said : Option Said) (v x y w : View Said) → IsLocked Tied p f version dirty v x → IsRedrafted p x y → KnowsSameStates x y → IsReleased p version said y w → KnowsResident v → KnowsResident w
+pub resident-written : {X : Type 0} {L : Layout} (p f version : ℕ) (dirty : Bool) (said : Option X) (v x y w : View X) → IsLocked (Tied L) p f version dirty v x → IsRedrafted p x y → KnowsSameStates x y → IsReleased p version said y w → KnowsResident v → KnowsResident w
 resident-written p f version dirty said v x y w l d pages r k =
     let ax : IsAlone x = locked-alone p f version dirty v x l k.alone in
     let ay : IsAlone y = still-alone x y d.elsewhere.steady.parts d.alone.current ax in

@@ -1,9 +1,9 @@
 -- Two pages that are locked, and fresh pages beside them: what the search read is what the locks prove, and once all are released the pass holds
 -- what it held.
-use Rattle.std.proofs.Common.{⊎_elim, ◌++◌, ◌||◌, ◌∙◌, ◌∷◌, ◌≡◌, ◌≢◌, ap, false, length, List, None, refl, replicate, Some, subst, suc, sym, true, ℕ}
+use Rattle.std.proofs.Common.{[], ⊎_elim, ◌++◌, ◌||◌, ◌∙◌, ◌∷◌, ◌≡◌, ◌≢◌, ap, false, length, List, None, refl, replicate, Some, subst, suc, sym, true, ℕ}
 use Rattle.std.proofs.lemmas.Bool.{cases_Bool, cases_eq, eq-eqb, ne_eqb}
 use Rattle.vm_map.specs.declared.call.Said.{Said}
-use Rattle.vm_tree_model.specs.{Node.Covers, Page.IsInner, Page.node_of}
+use Rattle.vm_tree_model.specs.{Layout.Layout, Node.Covers, Page.IsInner, Page.node_of}
 use Rattle.vm_owner.proofs.NumberLemmas.{without-none}
 use Rattle.vm_rule.specs.Prelude.{AreApart, has, IsLocking, numbers, seat_of, without, without_all}
 use Rattle.vm_rule.proofs.Facts.{has-both}
@@ -12,15 +12,16 @@ use Rattle.vm_step.proofs.Asides.{holds-then, still-locking}
 use Rattle.vm_exmap.specs.Frames.{MovesFrames}
 use Rattle.vm_guard.specs.{declared.exclusive.ExclusiveGuard.ExclusiveGuard, declared.opt.OptGuard.OptGuard, Guards.IsHolding, Guards.IsReading}
 use Rattle.vm_guard.proofs.{Freshly.holding-on, Groups.lacks, Groups.without-front, Reading.reading-elsewhere}
-use Rattle.vm_tree_rule.specs.{Seeks.HasRead, Standing.Awaits}
+use Rattle.vm_tree_laws.specs.Descent.{IsReached}
+use Rattle.vm_tree_rule.specs.{Seeks.HasRead, Standing.Awaits, Standing.tree_pages}
 use Rattle.vm_tree_write.specs.Prepares.{AreTaken}
 use Rattle.vm_tree_write.specs.Splits.{HasDraft, IsSplitUp, KeepsLocksOnly}
 use Rattle.vm_tree_write.proofs.Framing.{unheld-not}
-use Rattle.vm_tree_write.proofs.Under.{amid-holds, awaits-same, but-then, done-but, draft-amid, draft-else, fresh-but, holding-else, KeepsBut}
-use Rattle.vm_tree_write.proofs.Under.{locked-but, locked-draft, locked-inner, moved-holds, moves-but, read-moved, reading-moved, true-false}
+use Rattle.vm_tree_write.proofs.Under.{amid-holds, awaits-more, but-then, done-but, draft-amid, draft-else, fresh-but, holding-else, KeepsBut}
+use Rattle.vm_tree_write.proofs.Under.{locked-but, locked-draft, locked-inner, locked-reached, moved-holds, moves-but, read-moved, reading-moved, true-false}
 use Rattle.vm_tree_write.proofs.Under.{was-before, was-done, was-fresh, was-locked, was-on}
 
-module _ (n : ℕ) (first second : OptGuard) (up low : ExclusiveGuard) (gs : List ExclusiveGuard) (v w : View Said) (all : AreTaken n first second up low gs v w) (apart : second.pid ≢ first.pid) where
+module _ {X : Type 0} {L : Layout} (n : ℕ) (first second : OptGuard) (up low : ExclusiveGuard) (gs : List ExclusiveGuard) (v w : View X) (all : AreTaken L n first second up low gs v w) (apart : second.pid ≢ first.pid) where
   abbrev a : ℕ
   a = first.pid
 
@@ -30,7 +31,7 @@ module _ (n : ℕ) (first second : OptGuard) (up low : ExclusiveGuard) (gs : Lis
   abbrev pages : List ℕ
   pages = numbers all.x n
 
-  abbrev between : View Said
+  abbrev between : View X
   between = all.locks.between
 
   first-owned : (seat_of all.locked a).exclusive ≡ true
@@ -73,40 +74,52 @@ module _ (n : ℕ) (first second : OptGuard) (up low : ExclusiveGuard) (gs : Lis
       (draft-amid a pages all.fresh.done page page all.locked w first-not first-owned
       (draft-else a b all.locks.low_locked.done page page between all.locked (λ e. apart (sym e)) all.locks.up_locked.holding.owns h all.locks.low_locked.elsewhere) all.fresh.amid)
 
-  module _ (tells : v.start.tells ≡ true) (whole : v.start.size ≡ 64) where
+  module _ (tells : v.start.tells ≡ true) (whole : v.start.size ≡ L.words) where
     tells-asked : all.asked.start.tells ≡ true
     tells-asked = ap (λ (o : Origin). o.tells) all.moves.start ∙ tells
 
     tells-between : between.start.tells ≡ true
     tells-between = ap (λ (o : Origin). o.tells) all.locks.up_locked.elsewhere.steady.start ∙ tells-asked
 
-    pub fresh-zero : (q : ℕ) → has q pages ≡ true → HasDraft q (replicate 64 0) (replicate 64 0) w
+    pub fresh-zero : (q : ℕ) → has q pages ≡ true → HasDraft q (replicate L.words 0) (replicate L.words 0) w
     fresh-zero q among = let k = all.fresh.zero (ap (λ (o : Origin). o.tells) start-is ∙ tells) q among in
         let zeros = ap (λ (n : ℕ). replicate n 0) (ap (λ (o : Origin). o.size) start-is ∙ whole) in record { last = k.1 ∙ zeros; draft = k.0 ∙ zeros }
 
-    pub first-words : (page : List ℕ) → IsReading a first.word first.frame v → HasRead v a page → length page ≡ 64 → HasDraft up.pid page page w
+    pub first-words : (page : List ℕ) → IsReading a first.word first.frame v → HasRead v a page → length page ≡ L.words → HasDraft up.pid page page w
     first-words page r read long =
         first-stays page
         (locked-draft a up.frame up.version first.word first.frame up.dirty page all.asked between (reading-moved all.done v all.asked all.moves a first.word first.frame r) long (ap (λ (o : Origin). o.size) (all.locks.up_locked.elsewhere.steady.start ∙ all.moves.start) ∙ whole) (read-moved all.done v all.asked all.moves a page read) tells-asked all.locks.up_version all.locks.up_locked)
 
-    pub first-inner : (page : List ℕ) (level key : ℕ) → IsReading a first.word first.frame v → HasRead v a page → length page ≡ 64 → Awaits v a first.word (suc level) key → IsInner page × Covers (node_of page) key
+    pub first-inner : (page : List ℕ) (level key : ℕ) → IsReading a first.word first.frame v → HasRead v a page → length page ≡ L.words → Awaits L v a first.word (suc level) key → IsInner L page × Covers (node_of L page) key
     first-inner page level key r read long awaits =
         locked-inner a up.frame up.version first.word first.frame up.dirty page all.asked between (reading-moved all.done v all.asked all.moves a first.word first.frame r) long (ap (λ (o : Origin). o.size) (all.locks.up_locked.elsewhere.steady.start ∙ all.moves.start) ∙ whole) (read-moved all.done v all.asked all.moves a page read) tells-asked all.locks.up_version all.locks.up_locked
-        level key (awaits-same a first.word (suc level) key v all.asked all.moves.start all.moves.reads.1 awaits)
+        level key (awaits-more a first.word (suc level) key v all.asked all.moves.start ([], all.moves.reads.1) awaits)
 
-    pub second-words : (page : List ℕ) → IsReading b second.word second.frame v → HasRead v b page → length page ≡ 64 → HasDraft low.pid page page w
-    second-words page r read long =
-        let l = all.locks.up_locked in
-        let r1 = reading-moved all.done v all.asked all.moves b second.word second.frame r in
-        let read1 = read-moved all.done v all.asked all.moves b page read in
-        let r2 = reading-elsewhere b second.word second.frame a l.done all.asked between apart l.elsewhere r1 in
-        subst (λ p. HasDraft p page page w) (sym all.locks.low_page)
-        (draft-amid b pages all.fresh.done page page all.locked w second-not all.locks.low_locked.holding.owns
-        (locked-draft b low.frame low.version second.word second.frame low.dirty page between all.locked r2 long (ap (λ (o : Origin). o.size) start-is ∙ whole) (read1.0, (l.elsewhere.others b apart).loads ∙ read1.1) tells-between all.locks.low_version all.locks.low_locked) all.fresh.amid)
+    module _ (page : List ℕ) (r : IsReading b second.word second.frame v) (read : HasRead v b page) (long : length page ≡ L.words) where
+      second-reading : IsReading b second.word second.frame between
+      second-reading = reading-elsewhere b second.word second.frame a all.locks.up_locked.done all.asked between apart all.locks.up_locked.elsewhere (reading-moved all.done v all.asked all.moves b second.word second.frame r)
+
+      second-read : HasRead between b page
+      second-read = let k = read-moved all.done v all.asked all.moves b page read in (k.0, (all.locks.up_locked.elsewhere.others b apart).loads ∙ k.1)
+
+      locked-whole : all.locked.start.size ≡ L.words
+      locked-whole = ap (λ (o : Origin). o.size) start-is ∙ whole
+
+      pub second-words : HasDraft low.pid page page w
+      second-words =
+          subst (λ p. HasDraft p page page w) (sym all.locks.low_page)
+          (draft-amid b pages all.fresh.done page page all.locked w second-not all.locks.low_locked.holding.owns
+          (locked-draft b low.frame low.version second.word second.frame low.dirty page between all.locked second-reading long locked-whole second-read tells-between all.locks.low_version all.locks.low_locked) all.fresh.amid)
+
+      pub second-reached : (level key : ℕ) → Awaits L v b second.word level key → IsReached L (tree_pages between) b page level key
+      second-reached level key awaits =
+          let l = all.locks.up_locked.elsewhere.steady in
+          locked-reached b low.frame low.version second.word second.frame low.dirty page between all.locked second-reading long locked-whole second-read tells-between all.locks.low_version all.locks.low_locked level key
+          (awaits-more b second.word level key all.asked between l.start l.ties (awaits-more b second.word level key v all.asked all.moves.start ([], all.moves.reads.1) awaits))
 
   -- ---- once all are released
 
-  module _ (d : List Did) (y z : View Said) (rises : AreApart pages) (su : IsSplitUp (a ∷ b ∷ pages) w y) (m : MovesFrames d y z) where
+  module _ {plain : X → Said} (d : List Did) (y z : View X) (rises : AreApart pages) (su : IsSplitUp plain L (a ∷ b ∷ pages) w y) (m : MovesFrames d y z) where
     abbrev group : List ℕ
     group = a ∷ b ∷ pages
 

@@ -1,6 +1,6 @@
 -- The load of the next word, which goes before all that a split takes: what was read and what is known before it stay so.
 use Rattle.std.proofs.Common.{[], ◌<◌, ◌∙◌, ◌∷◌, ◌≡◌, ap, List, refl, subst, sym, ℕ}
-use Rattle.vm_map.specs.declared.call.Said.{Said}
+use Rattle.vm_tree_model.specs.Layout.{Layout}
 use Rattle.vm_rule.specs.Prelude.{did_load, NextTold, Seat}
 use Rattle.vm_rule.specs.declared.view.Place.TheVariants as places
 use Rattle.vm_step.specs.Prelude.{LocksNone, Origin, View}
@@ -12,9 +12,9 @@ use Rattle.vm_tree_rule.specs.{Leaves.LeavesWord, Seeks.HasRead, Standing.Awaits
 use Rattle.vm_tree_read.specs.Waiting.{LosesNone}
 use Rattle.vm_tree_read.proofs.Losing.{loses-same}
 use Rattle.vm_tree_write.specs.{Prepares.KnowsToSplit, Splits.KeepsLocksOnly}
-use Rattle.vm_tree_write.proofs.{Refusing.nil-keeps, Under.awaits-same}
+use Rattle.vm_tree_write.proofs.{Refusing.nil-keeps, Under.awaits-more}
 
-module _ (x : ℕ) (v w : View Said) (t : NextTold x v w) where
+module _ {X : Type 0} (x : ℕ) (v w : View X) (t : NextTold x v w) where
   pub roomy-keeps : KeepsLocksOnly v w
   roomy-keeps = nil-keeps [] (did_load places.Next x ∷ []) v w (nload-nil [] x v w t) (λ q e. next-kept x q v w t e)
 
@@ -22,7 +22,7 @@ module _ (x : ℕ) (v w : View Said) (t : NextTold x v w) where
   roomy-start = (nload-amid [] x v w t).start
 
   pub roomy-loses : (frames : List ℕ) → LosesNone frames v frames w
-  roomy-loses frames = loses-same frames frames v w (ap (λ (y : View Said). y.frames) t.brings.view) (λ f e. e)
+  roomy-loses frames = loses-same frames frames v w (ap (λ (y : View X). y.frames) t.brings.view) (λ f e. e)
 
   -- no word was left anywhere
   pub roomy-leaves : (p : ℕ) → LeavesWord p v w
@@ -38,8 +38,8 @@ module _ (x : ℕ) (v w : View Said) (t : NextTold x v w) where
   pub read-loaded : (p : ℕ) (page : List ℕ) → HasRead v p page → HasRead w p page
   read-loaded p page k = (k.0, (nload-amid [] x v w t).loads p refl ∙ k.1)
 
-  pub awaits-loaded : (p word level key : ℕ) → Awaits v p word level key → Awaits w p word level key
-  awaits-loaded p word level key awaits = awaits-same p word level key v w roomy-start (ap (λ (y : View Said). y.ties) t.brings.view) awaits
+  pub awaits-loaded : {L : Layout} (p word level key : ℕ) → Awaits L v p word level key → Awaits L w p word level key
+  awaits-loaded p word level key awaits = awaits-more p word level key v w roomy-start ([], ap (λ (y : View X). y.ties) t.brings.view) awaits
 
   -- ---- what is known
 

@@ -1,8 +1,9 @@
 -- Four pages that are held get their new drafts one after the other, and are released together: page 0, the full root, and two fresh pages.
-use Rattle.std.proofs.Common.{[], ◌+◌, ◌<◌, ◌∙◌, ◌∷◌, ◌≡◌, ◌≢◌, ap, Bool, inl, inr, length, List, None, refl, replicate, slice_index, slice_set, subst, sym}
+use Rattle.std.proofs.Common.{[], ◌+◌, ◌<◌, ◌∙◌, ◌∷◌, ◌≡◌, ◌≢◌, ap, Bool, inl, inr, List, None, refl, replicate, slice_index, slice_set, subst, sym}
 use Rattle.std.proofs.Common.{true, ℕ}
 use Rattle.vm_map.specs.declared.call.Said.{Said}
-use Rattle.vm_tree_model.specs.{Edits.IsNewRoot, Edits.IsSplit, Page.pairs_of}
+use Rattle.vm_tree_model.specs.{Edits.IsNewRoot, Edits.IsSplit, Page.node_of}
+use Rattle.vm_tree_model.specs.Layout.{IsClean, IsFullNode, IsLayout, Layout, size}
 use Rattle.vm_core.specs.Prelude.{Version}
 use Rattle.vm_rule.specs.Prelude.{AreApart, began_of, change_of, changes_of, draft_of, has, last_of, seat_of}
 use Rattle.vm_step.specs.Prelude.{HoldsPage, IsClaimed, Origin, View}
@@ -10,13 +11,13 @@ use Rattle.vm_step.proofs.Asides.{holds-then}
 use Rattle.vm_guard.specs.{declared.exclusive.ExclusiveGuard.ExclusiveGuard, Guards.IsHolding, Guards.IsSet}
 use Rattle.vm_guard.specs.Groups.{AreReleased, MayReleaseAll, pids_of}
 use Rattle.vm_guard.proofs.Groups.{lacks}
-use Rattle.vm_tree_laws.specs.May.{MayRelease}
+use Rattle.vm_tree_laws.specs.Plain.{ReleasesPlain}
 use Rattle.vm_tree_laws.proofs.Established.{may_split_root}
 use Rattle.vm_tree_write.specs.Drafts.{IsRedrafted}
 use Rattle.vm_tree_write.specs.Splits.{HasDraft, IsRootToSplit, IsSplitUp, Stays}
 use Rattle.vm_tree_write.proofs.Drafting.{drafts-more, drafts-self, pages-more, pages-self, redrafted-self, set-more}
-use Rattle.vm_tree_write.proofs.Splitting.{among-first, among-later, draft-new, draft-past, full-not, group-done, none-not, redrafted-holds, redrafted-stays}
-use Rattle.vm_tree_write.proofs.Splitting.{Redrafts, stays-then, told-before, words-claimed}
+use Rattle.vm_tree_write.proofs.Splitting.{among-first, among-later, draft-new, draft-past, group-done, node-clean, node-not, none-not, redrafted-holds, redrafted-stays}
+use Rattle.vm_tree_write.proofs.Splitting.{Redrafts, spare-full, stays-then, told-before, words-claimed}
 
 -- pages that are apart
 pub record AreFour (a b c d : ℕ) : Type 0 where
@@ -38,7 +39,7 @@ four-apart a b c d k =
     record { ab = p1.0; ac = p2.0; ad = p3.0; bc = q1.0; bd = q2.0; cd = r.0 }
 
 -- two words of page 0
-pub set-two : (p f1 f2 : ℕ) (d1 d2 : Bool) (i j x y : ℕ) (old : List ℕ) (v u w : View Said) → IsSet p f1 d1 i x v u → IsSet p f2 d2 j y u w → (last_of v p).words ≡ old → draft_of v p ≡ old → IsRedrafted p v w × HasDraft p old (slice_set (slice_set old i x) j y) w
+pub set-two : {X : Type 0} (p f1 f2 : ℕ) (d1 d2 : Bool) (i j x y : ℕ) (old : List ℕ) (v u w : View X) → IsSet p f1 d1 i x v u → IsSet p f2 d2 j y u w → (last_of v p).words ≡ old → draft_of v p ≡ old → IsRedrafted p v w × HasDraft p old (slice_set (slice_set old i x) j y) w
 set-two p f1 f2 d1 d2 i j x y old v u w s t last draft = (
   set-more p f2 d2 j y v u w (set-more p f1 d1 i x v v u (redrafted-self p v) s) t,
   record {
@@ -48,7 +49,7 @@ set-two p f1 f2 d1 d2 i j x y old v u w s t last draft = (
 )
 
 -- and what that leaves beside
-pub redrafts-two : (p f : ℕ) (d1 d2 : Bool) (i j x y : ℕ) (v u w : View Said) → p < v.start.pages → f < v.start.frames → i < v.start.size → j < v.start.size → IsSet p f d1 i x v u → IsSet p f d2 j y u w → Redrafts p f v w
+pub redrafts-two : {X : Type 0} (p f : ℕ) (d1 d2 : Bool) (i j x y : ℕ) (v u w : View X) → p < v.start.pages → f < v.start.frames → i < v.start.size → j < v.start.size → IsSet p f d1 i x v u → IsSet p f d2 j y u w → Redrafts p f v w
 redrafts-two p f d1 d2 i j x y v u w page frame_is low high s t =
     let one = set-more p f d1 i x v v u (redrafted-self p v) s in
     let start : u.start ≡ v.start = s.elsewhere.steady.start in
@@ -59,48 +60,49 @@ redrafts-two p f d1 d2 i j x y v u w page frame_is low high s t =
       known = pages-more p f d2 j y v u w (subst (λ (o : Origin). p < o.pages) (sym start) page) (subst (λ (o : Origin). f < o.frames) (sym start) frame_is) (subst (λ (o : Origin). j < o.size) (sym start) high) one known t;
     }
 
--- four pages after their new drafts
-pub record AreDrafted (a b c d : ℕ) (meta meta' page left half crown : List ℕ) (y : View Said) : Type 0 where
-  pub first : HasDraft a meta meta' y
-  pub second : HasDraft b page left y
-  pub third : HasDraft c (replicate 64 0) half y
-  pub fourth : HasDraft d (replicate 64 0) crown y
+module _ {X : Type 0} (L : Layout) where
+  -- four pages after their new drafts
+  pub record AreDrafted (a b c d : ℕ) (meta meta' page left half crown : List ℕ) (y : View X) : Type 0 where
+    pub first : HasDraft a meta meta' y
+    pub second : HasDraft b page left y
+    pub third : HasDraft c (replicate L.words 0) half y
+    pub fourth : HasDraft d (replicate L.words 0) crown y
 
-pub four-redrafted : (a b c d : ℕ) (meta meta' page left half crown : List ℕ) (v x1 x2 x3 y : View Said) → AreFour a b c d → (seat_of v a).exclusive ≡ true → (seat_of v b).exclusive ≡ true → (seat_of v c).exclusive ≡ true → (seat_of v d).exclusive ≡ true
-    → (height : ℕ) → (v.start.tells ≡ true → IsRootToSplit a b c d height page v) → IsRedrafted a v x1 → HasDraft a meta meta' x1 → IsRedrafted b x1 x2 → IsRedrafted c x2 x3 → IsRedrafted d x3 y
-    → (x1.start.tells ≡ true → draft_of x2 b ≡ left) → (x2.start.tells ≡ true → draft_of x3 c ≡ half) → (x3.start.tells ≡ true → draft_of y d ≡ crown) → y.start.tells ≡ true → AreDrafted a b c d meta meta' page left half crown y
-four-redrafted a b c d meta meta' page left half crown v x1 x2 x3 y ne oa ob oc od height told d1 a1 d2 d3 d4 n2 n3 n4 tells =
-    let zero = replicate 64 0 in
-    let t3 = told-before d x3 y d4 tells in
-    let t2 = told-before c x2 x3 d3 t3 in
-    let t1 = told-before b x1 x2 d2 t2 in
-    let to = told (told-before a v x1 d1 t1) in
-    let hb = to.node in
-    let hc = to.fresh.0 in
-    let hd = to.fresh.1 in
-    let s1 = redrafted-holds a v x1 d1 in
-    let s2 = redrafted-holds b x1 x2 d2 in
-    let s3 = redrafted-holds c x2 x3 d3 in
-    let u2 : (q : ℕ) → HoldsPage v x2 q = λ q. holds-then v x1 x2 q (s1 q) (s2 q) in
-    let u3 : (q : ℕ) → HoldsPage v x3 q = λ q. holds-then v x2 x3 q (u2 q) (s3 q) in
-    let a2 = draft-past a b meta meta' x1 x2 ne.ab ((s1 a).exclusive ∙ oa) a1 d2 in
-    let a3 = draft-past a c meta meta' x2 x3 ne.ac ((u2 a).exclusive ∙ oa) a2 d3 in
-    let a4 = draft-past a d meta meta' x3 y ne.ad ((u3 a).exclusive ∙ oa) a3 d4 in
-    let b1 = draft-past b a page page v x1 (λ e. ne.ab (sym e)) ob hb d1 in
-    let b2 = draft-new b page page left x1 x2 b1 d2 (n2 t1) in
-    let b3 = draft-past b c page left x2 x3 ne.bc ((u2 b).exclusive ∙ ob) b2 d3 in
-    let b4 = draft-past b d page left x3 y ne.bd ((u3 b).exclusive ∙ ob) b3 d4 in
-    let c1 = draft-past c a zero zero v x1 (λ e. ne.ac (sym e)) oc hc d1 in
-    let c2 = draft-past c b zero zero x1 x2 (λ e. ne.bc (sym e)) ((s1 c).exclusive ∙ oc) c1 d2 in
-    let c3 = draft-new c zero zero half x2 x3 c2 d3 (n3 t2) in
-    let c4 = draft-past c d zero half x3 y ne.cd ((u3 c).exclusive ∙ oc) c3 d4 in
-    let e1 = draft-past d a zero zero v x1 (λ e. ne.ad (sym e)) od hd d1 in
-    let e2 = draft-past d b zero zero x1 x2 (λ e. ne.bd (sym e)) ((s1 d).exclusive ∙ od) e1 d2 in
-    let e3 = draft-past d c zero zero x2 x3 (λ e. ne.cd (sym e)) ((u2 d).exclusive ∙ od) e2 d3 in
-    let e4 = draft-new d zero zero crown x3 y e3 d4 (n4 t3) in
-    record { first = a4; second = b4; third = c4; fourth = e4 }
+  pub four-redrafted : (a b c d : ℕ) (meta meta' page left half crown : List ℕ) (v x1 x2 x3 y : View X) → AreFour a b c d → (seat_of v a).exclusive ≡ true → (seat_of v b).exclusive ≡ true → (seat_of v c).exclusive ≡ true → (seat_of v d).exclusive ≡ true
+      → (height : ℕ) → (v.start.tells ≡ true → IsRootToSplit L a b c d height page v) → IsRedrafted a v x1 → HasDraft a meta meta' x1 → IsRedrafted b x1 x2 → IsRedrafted c x2 x3 → IsRedrafted d x3 y
+      → (x1.start.tells ≡ true → draft_of x2 b ≡ left) → (x2.start.tells ≡ true → draft_of x3 c ≡ half) → (x3.start.tells ≡ true → draft_of y d ≡ crown) → y.start.tells ≡ true → AreDrafted a b c d meta meta' page left half crown y
+  four-redrafted a b c d meta meta' page left half crown v x1 x2 x3 y ne oa ob oc od height told d1 a1 d2 d3 d4 n2 n3 n4 tells =
+      let zero = replicate L.words 0 in
+      let t3 = told-before d x3 y d4 tells in
+      let t2 = told-before c x2 x3 d3 t3 in
+      let t1 = told-before b x1 x2 d2 t2 in
+      let to = told (told-before a v x1 d1 t1) in
+      let hb = to.node in
+      let hc = to.fresh.0 in
+      let hd = to.fresh.1 in
+      let s1 = redrafted-holds a v x1 d1 in
+      let s2 = redrafted-holds b x1 x2 d2 in
+      let s3 = redrafted-holds c x2 x3 d3 in
+      let u2 : (q : ℕ) → HoldsPage v x2 q = λ q. holds-then v x1 x2 q (s1 q) (s2 q) in
+      let u3 : (q : ℕ) → HoldsPage v x3 q = λ q. holds-then v x2 x3 q (u2 q) (s3 q) in
+      let a2 = draft-past a b meta meta' x1 x2 ne.ab ((s1 a).exclusive ∙ oa) a1 d2 in
+      let a3 = draft-past a c meta meta' x2 x3 ne.ac ((u2 a).exclusive ∙ oa) a2 d3 in
+      let a4 = draft-past a d meta meta' x3 y ne.ad ((u3 a).exclusive ∙ oa) a3 d4 in
+      let b1 = draft-past b a page page v x1 (λ e. ne.ab (sym e)) ob hb d1 in
+      let b2 = draft-new b page page left x1 x2 b1 d2 (n2 t1) in
+      let b3 = draft-past b c page left x2 x3 ne.bc ((u2 b).exclusive ∙ ob) b2 d3 in
+      let b4 = draft-past b d page left x3 y ne.bd ((u3 b).exclusive ∙ ob) b3 d4 in
+      let c1 = draft-past c a zero zero v x1 (λ e. ne.ac (sym e)) oc hc d1 in
+      let c2 = draft-past c b zero zero x1 x2 (λ e. ne.bc (sym e)) ((s1 c).exclusive ∙ oc) c1 d2 in
+      let c3 = draft-new c zero zero half x2 x3 c2 d3 (n3 t2) in
+      let c4 = draft-past c d zero half x3 y ne.cd ((u3 c).exclusive ∙ oc) c3 d4 in
+      let e1 = draft-past d a zero zero v x1 (λ e. ne.ad (sym e)) od hd d1 in
+      let e2 = draft-past d b zero zero x1 x2 (λ e. ne.bd (sym e)) ((s1 d).exclusive ∙ od) e1 d2 in
+      let e3 = draft-past d c zero zero x2 x3 (λ e. ne.cd (sym e)) ((u2 d).exclusive ∙ od) e2 d3 in
+      let e4 = draft-new d zero zero crown x3 y e3 d4 (n4 t3) in
+      record { first = a4; second = b4; third = c4; fourth = e4 }
 
-pub four-stay : (a b c d : ExclusiveGuard) (v x1 x2 x3 y : View Said) → Redrafts a.pid a.frame v x1 → Redrafts b.pid b.frame x1 x2 → Redrafts c.pid c.frame x2 x3 → Redrafts d.pid d.frame x3 y → Stays (a ∷ b ∷ c ∷ d ∷ []) v y
+pub four-stay : {X : Type 0} (a b c d : ExclusiveGuard) (v x1 x2 x3 y : View X) → Redrafts a.pid a.frame v x1 → Redrafts b.pid b.frame x1 x2 → Redrafts c.pid c.frame x2 x3 → Redrafts d.pid d.frame x3 y → Stays (a ∷ b ∷ c ∷ d ∷ []) v y
 four-stay a b c d v x1 x2 x3 y d1 d2 d3 d4 =
     let gs : List ExclusiveGuard = a ∷ b ∷ c ∷ d ∷ [] in
     let in-b = among-later b.pid a.pid (b.pid ∷ c.pid ∷ d.pid ∷ []) (among-first b.pid (c.pid ∷ d.pid ∷ [])) in
@@ -112,34 +114,36 @@ four-stay a b c d v x1 x2 x3 y d1 d2 d3 d4 =
     let four = redrafted-stays gs d.pid d.frame x3 y in-d (λ at here. inr (inr (inr (inl here)))) d4 in
     stays-then gs v x3 y (stays-then gs v x2 x3 (stays-then gs v x1 x2 one two) three) four
 
-module _ (a b c d height separator : ℕ) (page left half crown : List ℕ) (v y : View Said) (g1 g2 g3 g4 : ExclusiveGuard) (stays : Stays (g1 ∷ g2 ∷ g3 ∷ g4 ∷ []) v y) (four : y.start.tells ≡ true → AreDrafted a b c d (last_of v a).words (slice_set (slice_set (last_of v a).words 1 d) 2 (height + 1)) page left half crown y) (zero : a ≡ 0)
-    (told : v.start.tells ≡ true → IsRootToSplit a b c d height page v) (full : length (pairs_of page) ≡ 28) (split : IsSplit page left half separator) (grows : IsNewRoot crown (height + 1) b separator c) (owed : (has c v.owed ≡ true) × (has d v.owed ≡ true)) where
+module _ {S : Type 0} (plain : S → Said) (L : Layout) (laws : IsLayout L) (spare : List ℕ → ℕ) (spare_is : (words : List ℕ) → IsClean L words → spare words + size L (node_of L words) ≡ L.room)
+    (a b c d height separator : ℕ) (page left half crown : List ℕ) (v y : View S) (g1 g2 g3 g4 : ExclusiveGuard) (stays : Stays (g1 ∷ g2 ∷ g3 ∷ g4 ∷ []) v y) (four : y.start.tells ≡ true → AreDrafted L a b c d (last_of v a).words (slice_set (slice_set (last_of v a).words 1 d) 2 (height + 1)) page left half crown y) (zero : a ≡ 0)
+    (told : v.start.tells ≡ true → IsRootToSplit L a b c d height page v) (full : spare page < L.growth) (split : IsClean L page → IsSplit L page left half separator) (grows : IsNewRoot L crown (height + 1) b separator c) (owed : (has c v.owed ≡ true) × (has d v.owed ≡ true)) where
   owed-c : has c y.owed ≡ true
   owed-c = ap (has c) stays.group.1 ∙ owed.0
 
   owed-d : has d y.owed ≡ true
   owed-d = ap (has d) stays.group.1 ∙ owed.1
 
-  to-split : y.start.tells ≡ true → IsRootToSplit a b c d height page v
+  to-split : y.start.tells ≡ true → IsRootToSplit L a b c d height page v
   to-split tells = told (ap (λ (o : Origin). o.tells) (sym stays.start) ∙ tells)
 
-  pub four-may : y.start.tells ≡ true → MayRelease (began_of y.start) y.owed (changes_of y (a ∷ b ∷ c ∷ d ∷ [])) []
+  pub four-may : y.start.tells ≡ true → ReleasesPlain plain L (began_of y.start) y.owed (changes_of y (a ∷ b ∷ c ∷ d ∷ [])) []
   four-may tells =
       let f = four tells in
       let to = to-split tells in
-      may_split_root (began_of y.start) y.owed (change_of y a) (change_of y b) (change_of y c) (change_of y d) height separator zero
+      let clean = node-clean page to.kind in
+      may_split_root L (began_of y.start) y.owed (change_of y a) (change_of y b) (change_of y c) (change_of y d) height separator zero
       (ap (λ (l : List ℕ). slice_index l 1) f.first.last ∙ to.names.0)
       (ap (λ (l : List ℕ). slice_index l 2) f.first.last ∙ to.names.1)
-      (ap (λ (l : List ℕ). length (pairs_of l)) f.second.last ∙ full)
-      (subst (λ (l : List ℕ). IsSplit l (draft_of y b) (draft_of y c) separator) (sym f.second.last)
-      (subst (λ (l : List ℕ). IsSplit page l (draft_of y c) separator) (sym f.second.draft)
-      (subst (λ (l : List ℕ). IsSplit page left l separator) (sym f.third.draft) split)))
-      (subst (λ (l : List ℕ). IsNewRoot l (height + 1) b separator c) (sym f.fourth.draft) grows)
+      (subst (λ (l : List ℕ). IsFullNode L (node_of L l)) (sym f.second.last) (spare-full L spare spare_is page clean full))
+      (subst (λ (l : List ℕ). IsSplit L l (draft_of y b) (draft_of y c) separator) (sym f.second.last)
+      (subst (λ (l : List ℕ). IsSplit L page l (draft_of y c) separator) (sym f.second.draft)
+      (subst (λ (l : List ℕ). IsSplit L page left l separator) (sym f.third.draft) (split clean))))
+      (subst (λ (l : List ℕ). IsNewRoot L l (height + 1) b separator c) (sym f.fourth.draft) grows)
       (f.first.draft ∙ ap (λ (l : List ℕ). slice_set (slice_set l 1 d) 2 (height + 1)) (sym f.first.last))
       owed-c owed-d
 
-  pub four-all : y.start.size ≡ 64 → g1.pid ≡ a → g2.pid ≡ b → g3.pid ≡ c → g4.pid ≡ d → IsHolding g1.pid g1.frame g1.version g1.dirty y → IsHolding g2.pid g2.frame g2.version g2.dirty y → IsHolding g3.pid g3.frame g3.version g3.dirty y → IsHolding g4.pid g4.frame g4.version g4.dirty y
-      → AreApart (a ∷ b ∷ c ∷ d ∷ []) → v.out ≡ None → MayReleaseAll MayRelease (g1 ∷ g2 ∷ g3 ∷ g4 ∷ []) None y
+  pub four-all : y.start.size ≡ L.words → g1.pid ≡ a → g2.pid ≡ b → g3.pid ≡ c → g4.pid ≡ d → IsHolding g1.pid g1.frame g1.version g1.dirty y → IsHolding g2.pid g2.frame g2.version g2.dirty y → IsHolding g3.pid g3.frame g3.version g3.dirty y → IsHolding g4.pid g4.frame g4.version g4.dirty y
+      → AreApart (a ∷ b ∷ c ∷ d ∷ []) → v.out ≡ None → MayReleaseAll (ReleasesPlain plain L) (g1 ∷ g2 ∷ g3 ∷ g4 ∷ []) None y
   four-all whole i1 i2 i3 i4 h1 h2 h3 h4 apart out =
       let pids : pids_of (g1 ∷ g2 ∷ g3 ∷ g4 ∷ []) ≡ a ∷ b ∷ c ∷ d ∷ [] = (λ i. i1 i ∷ i2 i ∷ i3 i ∷ i4 i ∷ []) in
       let none = stays.out ∙ out in
@@ -148,11 +152,11 @@ module _ (a b c d height separator : ℕ) (page left half crown : List ℕ) (v y
         apart = subst AreApart (sym pids) apart;
         home = ((λ o e. absurd (none-not o (sym none ∙ e))), ((λ o e. absurd (none-not o (sym none ∙ e))), ((λ o e. absurd (none-not o (sym none ∙ e))), ((λ o e. absurd (none-not o (sym none ∙ e))), tt))));
         claimed = λ t.
-            (subst (IsClaimed y) (sym i1) (words-claimed a (last_of v a).words _ y whole (four t).first (to-split t).claimed), (subst (IsClaimed y) (sym i2) (words-claimed b page left y whole (four t).second (full-not page full)), (subst (IsClaimed y) (sym i3) (inr (inr (inr owed-c))), (subst (IsClaimed y) (sym i4) (inr (inr (inr owed-d))), tt))));
-        owner = λ t. inr (subst (λ (l : List ℕ). MayRelease (began_of y.start) y.owed (changes_of y l) []) (sym pids) (four-may t));
+            (subst (IsClaimed y) (sym i1) (words-claimed L.words a (last_of v a).words _ y whole (four t).first (to-split t).claimed), (subst (IsClaimed y) (sym i2) (words-claimed L.words b page left y whole (four t).second (node-not L laws page (to-split t).kind)), (subst (IsClaimed y) (sym i3) (inr (inr (inr owed-c))), (subst (IsClaimed y) (sym i4) (inr (inr (inr owed-d))), tt))));
+        owner = λ t. inr (subst (λ (l : List ℕ). ReleasesPlain plain L (began_of y.start) y.owed (changes_of y l) []) (sym pids) (four-may t));
       }
 
-  pub four-released : (w : View Said) → g1.pid ≡ a → g2.pid ≡ b → g3.pid ≡ c → g4.pid ≡ d → AreReleased g1 (g2 ∷ g3 ∷ g4 ∷ []) None y w → IsSplitUp (a ∷ b ∷ c ∷ d ∷ []) v w
+  pub four-released : (w : View S) → g1.pid ≡ a → g2.pid ≡ b → g3.pid ≡ c → g4.pid ≡ d → AreReleased g1 (g2 ∷ g3 ∷ g4 ∷ []) None y w → IsSplitUp plain L (a ∷ b ∷ c ∷ d ∷ []) v w
   four-released w i1 i2 i3 i4 r =
       let pids : pids_of (g1 ∷ g2 ∷ g3 ∷ g4 ∷ []) ≡ a ∷ b ∷ c ∷ d ∷ [] = (λ i. i1 i ∷ i2 i ∷ i3 i ∷ i4 i ∷ []) in
       record {

@@ -2,7 +2,6 @@
 use Rattle.std.proofs.Common.{⊎_elim, ◌+◌, ◌<◌, ◌∙◌, ◌≡◌, ◌≢◌, ◌≤◌, ap, arith, Bool, Err, inl, IsOk, List, Result, slice_index, subst, sym, ℕ}
 use Rattle.std.proofs.lemmas.Bool.{cases_lt, false≢true}
 use Rattle.std.proofs.lemmas.List.{get_or-set_other}
-use Rattle.vm_map.specs.declared.call.Said.{Said}
 use Rattle.vm_core.specs.Prelude.{LOCKED, MAX_VERSION, version_of, word_of}
 use Rattle.vm_rule.specs.Prelude.{bundle_count, HoldsNoPage, index_of}
 use Rattle.vm_rule.specs.declared.view.Place.TheVariants as places
@@ -14,6 +13,7 @@ use Rattle.vm_guard.specs.{declared.deny.Deny.Deny, declared.exclusive.Exclusive
 use Rattle.vm_guard.specs.{Denied.AgainOrWorn, Denied.SameOrUnlocked, Guards.IsLocked}
 use Rattle.vm_guard.specs.declared.deny.Deny.TheVariants as denies
 use Rattle.vm_guard.specs.Sure.{IsKnownFree, IsUnlockedWord, known_next, known_word, MayBeTried}
+use Rattle.vm_tree_model.specs.Layout.{Layout}
 use Rattle.vm_tree_laws.specs.Tied.{Tied}
 use Rattle.vm_tree_rule.specs.{Leaves.ReadsOn, Resident.IsKnownNow}
 use Rattle.vm_tree_write.specs.Prepares.{AreLocked, KnowsBoth, KnowsToSplit}
@@ -22,21 +22,22 @@ use Rattle.vm_tree_write.specs.Writes.{SaysWorn}
 abbrev pub denied : Deny → Result ExclusiveGuard Deny
 denied deny = Err deny
 
--- an upgrade is denied only where the page is at the last version
-pub only-worn : (p word : ℕ) (deny : Deny) (v : View Said) → AgainOrWorn deny → IsAlone v → IsUnlockedWord word → known_word p v ≡ word → (version_of word ≡ MAX_VERSION → denied deny ≡ denied (denies.Worn p))
-    → (IsAlone v → IsKnownFree p v → SameOrUnlocked word (known_word p v) → version_of word < MAX_VERSION → IsOk (denied deny)) → SaysWorn deny
-only-worn p word (denies.Again saw) v kind alone free known worn sure =
-    ⊎_elim
-    (λ (below : version_of word < MAX_VERSION). absurd (false≢true (sure alone (subst IsUnlockedWord (sym known) free) (inl known) below)))
-    (λ (last : MAX_VERSION ≤ version_of word). let within = version-within word in let no = worn (omega (arith, last, within)) in absurd (cc))
-    (cases_lt (version_of word) MAX_VERSION)
-only-worn p word (denies.Worn q) v kind alone free known worn sure = tt
-only-worn p word (denies.Need q) v kind alone free known worn sure = absurd kind
-only-worn p word (denies.Crowded q) v kind alone free known worn sure = absurd kind
+module _ {X : Type 0} where
+  -- an upgrade is denied only where the page is at the last version
+  pub only-worn : (p word : ℕ) (deny : Deny) (v : View X) → AgainOrWorn deny → IsAlone v → IsUnlockedWord word → known_word p v ≡ word → (version_of word ≡ MAX_VERSION → denied deny ≡ denied (denies.Worn p))
+      → (IsAlone v → IsKnownFree p v → SameOrUnlocked word (known_word p v) → version_of word < MAX_VERSION → IsOk (denied deny)) → SaysWorn deny
+  only-worn p word (denies.Again saw) v kind alone free known worn sure =
+      ⊎_elim
+      (λ (below : version_of word < MAX_VERSION). absurd (false≢true (sure alone (subst IsUnlockedWord (sym known) free) (inl known) below)))
+      (λ (last : MAX_VERSION ≤ version_of word). let within = version-within word in let no = worn (omega (arith, last, within)) in absurd (cc))
+      (cases_lt (version_of word) MAX_VERSION)
+  only-worn p word (denies.Worn q) v kind alone free known worn sure = tt
+  only-worn p word (denies.Need q) v kind alone free known worn sure = absurd kind
+  only-worn p word (denies.Crowded q) v kind alone free known worn sure = absurd kind
 
 -- ---- what it knows of pages while frames are moved and pages are locked
 
-module _ (p f version : ℕ) (dirty : Bool) (v x : View Said) (l : IsLocked Tied p f version dirty v x) (alone : IsAlone v) where
+module _ {X : Type 0} {L : Layout} (p f version : ℕ) (dirty : Bool) (v x : View X) (l : IsLocked (Tied L) p f version dirty v x) (alone : IsAlone v) where
   pub locked-alone : IsAlone x
   locked-alone = still-alone v x l.elsewhere.steady.parts l.alone.current alone
 
@@ -51,17 +52,18 @@ module _ (p f version : ℕ) (dirty : Bool) (v x : View Said) (l : IsLocked Tied
       ∙ ap (λ (t : List ℕ). slice_index t (index_of v.start places.Next)) (l.table alone)
       ∙ get_or-set_other v.snapshot.words p (index_of v.start places.Next) (word_of LOCKED version) 0 (λ e. let more = bundle_count v.start in omega (arith, inside, e))
 
--- frames were moved
-pub both-moved : (first second : OptGuard) (done : List Did) (v x : View Said) → MovesFrames done v x → first.pid < v.start.pages → second.pid < v.start.pages → KnowsBoth first second v → KnowsBoth first second x
-both-moved first second done v x m a b k = record {
-  alone = still-alone v x m.parts m.alone.current k.alone;
-  free = k.free;
-  words = ((m.table k.alone).words (places.State first.pid) a (λ e. e) ∙ k.words.0, (m.table k.alone).words (places.State second.pid) b (λ e. e) ∙ k.words.1);
-}
+module _ {X : Type 0} where
+  -- frames were moved
+  pub both-moved : (first second : OptGuard) (done : List Did) (v x : View X) → MovesFrames done v x → first.pid < v.start.pages → second.pid < v.start.pages → KnowsBoth first second v → KnowsBoth first second x
+  both-moved first second done v x m a b k = record {
+    alone = still-alone v x m.parts m.alone.current k.alone;
+    free = k.free;
+    words = ((m.table k.alone).words (places.State first.pid) a (λ e. e) ∙ k.words.0, (m.table k.alone).words (places.State second.pid) b (λ e. e) ∙ k.words.1);
+  }
 
 -- ---- the fresh pages that it asks for
 
-module _ (n : ℕ) (first second : OptGuard) (up low : ExclusiveGuard) (done : List Did) (v x y : View Said) (m : MovesFrames done v x) (l : AreLocked first second up low x y) (k : KnowsToSplit first second v) where
+module _ {X : Type 0} {L : Layout} (n : ℕ) (first second : OptGuard) (up low : ExclusiveGuard) (done : List Did) (v x y : View X) (m : MovesFrames done v x) (l : AreLocked L first second up low x y) (k : KnowsToSplit first second v) where
   moved-alone : IsAlone x
   moved-alone = still-alone v x m.parts m.alone.current k.both.alone
 
@@ -100,15 +102,16 @@ module _ (n : ℕ) (first second : OptGuard) (up low : ExclusiveGuard) (done : L
 
 -- ---- the search met a full node
 
-pub knows-to-split : (a b : OptGuard) (v w : View Said) → ReadsOn v w → HoldsNoPage v → KnowsUnheld w → IsKnownNow a.pid a.word w → IsKnownNow b.pid b.word w → KnowsToSplit a b w
-knows-to-split a b v w r holds unheld ka kb = record {
-  both = record { alone = ka.resident.alone; free = (ka.free, kb.free); words = (ka.known, kb.known) };
-  below = (ka.below, kb.below);
-  holds = record {
-    shares = λ q. (r.0.holds q).shares ∙ holds.shares q;
-    exclusive = λ q. (r.0.holds q).exclusive ∙ holds.exclusive q;
-    writing = λ q. (r.0.holds q).writing ∙ holds.writing q;
-    out = r.0.out ∙ holds.out;
-  };
-  unheld = unheld;
-}
+module _ {X : Type 0} where
+  pub knows-to-split : (a b : OptGuard) (v w : View X) → ReadsOn v w → HoldsNoPage v → KnowsUnheld w → IsKnownNow a.pid a.word w → IsKnownNow b.pid b.word w → KnowsToSplit a b w
+  knows-to-split a b v w r holds unheld ka kb = record {
+    both = record { alone = ka.resident.alone; free = (ka.free, kb.free); words = (ka.known, kb.known) };
+    below = (ka.below, kb.below);
+    holds = record {
+      shares = λ q. (r.0.holds q).shares ∙ holds.shares q;
+      exclusive = λ q. (r.0.holds q).exclusive ∙ holds.exclusive q;
+      writing = λ q. (r.0.holds q).writing ∙ holds.writing q;
+      out = r.0.out ∙ holds.out;
+    };
+    unheld = unheld;
+  }

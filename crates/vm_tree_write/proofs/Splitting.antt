@@ -1,11 +1,12 @@
 -- Three pages that are held get their new drafts one after the other, and are released together.
-use Rattle.std.proofs.Common.{[], ⊎_elim, ◌++◌, ◌<◌, ◌∙◌, ◌∷◌, ◌≡◌, ◌≢◌, ap, append_assoc, arith, Bool, eqb, inl, inr, length, List, None, refl, replicate}
-use Rattle.std.proofs.Common.{slice_index, Some, subst, sym, true, true≢false, ℕ}
+use Rattle.std.proofs.Common.{[], ⊎_elim, ◌++◌, ◌+◌, ◌<◌, ◌∙◌, ◌∷◌, ◌≡◌, ◌≢◌, ◌≤◌, ◌⊎◌, ap, append_assoc, arith, Bool, eqb, false, inl, inr, is_some, length, List, None, Option, option_map, refl, replicate}
+use Rattle.std.proofs.Common.{Some, subst, sym, true, true≢false, ℕ}
 use Rattle.std.proofs.lemmas.Bool.{cases_eq, eq-eqb, or_left, or_right}
 use Rattle.vm_map.specs.declared.call.Said.{Said}
 use Rattle.vm_tree_model.specs.Edits.{AddsPair, child_of, IsSplit}
+use Rattle.vm_tree_model.specs.Layout.{IsClean, IsFullNode, IsLayout, Layout, size}
 use Rattle.vm_tree_model.specs.Node.{Covers}
-use Rattle.vm_tree_model.specs.Page.{IsInner, node_of, pairs_of}
+use Rattle.vm_tree_model.specs.Page.{IsInner, IsLeaf, node_of}
 use Rattle.vm_core.specs.Prelude.{Version}
 use Rattle.vm_rule.specs.Prelude.{AreApart, began_of, change_of, changes_of, draft_of, has, last_of, Seat, seat_of, without_all}
 use Rattle.vm_rule.specs.declared.view.Held.{Held}
@@ -16,8 +17,9 @@ use Rattle.vm_step.proofs.{Alone.still-alone, Asides.alone-then, Asides.holds-th
 use Rattle.vm_guard.specs.{declared.exclusive.ExclusiveGuard.ExclusiveGuard, Guards.IsHolding}
 use Rattle.vm_guard.specs.Groups.{AreReleased, MayReleaseAll, next_after_all, pids_of}
 use Rattle.vm_guard.proofs.Groups.{lacks}
-use Rattle.vm_tree_laws.specs.May.{MayRelease}
+use Rattle.vm_tree_laws.specs.Plain.{ReleasesPlain}
 use Rattle.vm_tree_laws.proofs.Established.{may_split}
+use Rattle.vm_tree_rule.proofs.Whole.{zero-at}
 use Rattle.vm_tree_write.specs.Drafts.{DraftsIn, IsDraftPlace, IsRedrafted, KnowsSameStates}
 use Rattle.vm_tree_write.specs.Splits.{AreToSplit, HasDraft, IsDrafted, IsGroupDone, IsSplitUp, Stays}
 use Rattle.vm_tree_write.proofs.Drafting.{each-append}
@@ -156,79 +158,107 @@ module _ {X : Type 0} where
         );
   }
 
--- words with pairs are not all zero
-pub full-not : (words : List ℕ) → length (pairs_of words) ≡ 28 → words ≢ replicate 64 0
-full-not words full is = let z : 0 ≡ 28 = ap (λ (l : List ℕ). length (pairs_of l)) (sym is) ∙ full in absurd (omega (arith, z))
-
-pub inner-not : (words : List ℕ) → IsInner words → words ≢ replicate 64 0
-inner-not words inner is = let t : 0 ≡ 3 = ap (λ (l : List ℕ). slice_index l 0) (sym is) ∙ inner.node.tag in absurd (omega (arith, t))
-
 pub none-not : {A : Type 0} (x : A) → None ≡ Some x → ⊥
 none-not x e = absurd (cc)
 
-pub may-three : (g1 g2 g3 : ExclusiveGuard) (a b c : ℕ) (y : View Said) → g1.pid ≡ a → g2.pid ≡ b → g3.pid ≡ c → IsHolding g1.pid g1.frame g1.version g1.dirty y → IsHolding g2.pid g2.frame g2.version g2.dirty y → IsHolding g3.pid g3.frame g3.version g3.dirty y
-    → AreApart (a ∷ b ∷ c ∷ []) → y.out ≡ None → (y.start.tells ≡ true → IsClaimed y a) → (y.start.tells ≡ true → IsClaimed y b) → IsClaimed y c → (y.start.tells ≡ true → MayRelease (began_of y.start) y.owed (changes_of y (a ∷ b ∷ c ∷ [])) []) → MayReleaseAll MayRelease (g1 ∷ g2 ∷ g3 ∷ []) None y
-may-three g1 g2 g3 a b c y e1 e2 e3 h1 h2 h3 apart out c1 c2 c3 may =
-    let pids : pids_of (g1 ∷ g2 ∷ g3 ∷ []) ≡ a ∷ b ∷ c ∷ [] = (λ i. e1 i ∷ e2 i ∷ e3 i ∷ []) in
-    record {
-      held = (h1, (h2, (h3, tt)));
-      apart = subst AreApart (sym pids) apart;
-      home = ((λ o e. absurd (none-not o (sym out ∙ e))), ((λ o e. absurd (none-not o (sym out ∙ e))), ((λ o e. absurd (none-not o (sym out ∙ e))), tt)));
-      claimed = λ t. (subst (IsClaimed y) (sym e1) (c1 t), (subst (IsClaimed y) (sym e2) (c2 t), (subst (IsClaimed y) (sym e3) c3, tt)));
-      owner = λ t. inr (subst (λ (l : List ℕ). MayRelease (began_of y.start) y.owed (changes_of y l) []) (sym pids) (may t));
-    }
-
--- the three changes are a split
-pub splits-three : (a b c key separator : ℕ) (over above page left old half : List ℕ) (y : View Said) → HasDraft a over above y → HasDraft b page left y → HasDraft c old half y → IsInner over → Covers (node_of over) key → child_of over key ≡ Some b
-    → length (pairs_of over) < 28 → length (pairs_of page) ≡ 28 → IsSplit page left half separator → (IsInner over → AddsPair over above separator c) → has c y.owed ≡ true → MayRelease (began_of y.start) y.owed (changes_of y (a ∷ b ∷ c ∷ [])) []
-splits-three a b c key separator over above page left old half y ha hb hc inner covers names room full split adds owed =
-    may_split (began_of y.start) y.owed (change_of y a) (change_of y b) (change_of y c) key separator
-    (subst IsInner (sym ha.last) inner)
-    (subst (λ (l : List ℕ). Covers (node_of l) key) (sym ha.last) covers)
-    (ap (λ (l : List ℕ). child_of l key) ha.last ∙ names)
-    (subst (λ (l : List ℕ). length (pairs_of l) < 28) (sym ha.last) room)
-    (ap (λ (l : List ℕ). length (pairs_of l)) hb.last ∙ full)
-    (subst (λ (l : List ℕ). IsSplit l (draft_of y b) (draft_of y c) separator) (sym hb.last)
-    (subst (λ (l : List ℕ). IsSplit page l (draft_of y c) separator) (sym hb.draft)
-    (subst (λ (l : List ℕ). IsSplit page left l separator) (sym hc.draft) split)))
-    (subst (λ (l : List ℕ). AddsPair l (draft_of y a) separator c) (sym ha.last)
-    (subst (λ (l : List ℕ). AddsPair over l separator c) (sym ha.draft) (adds inner)))
-    owed
+-- nothing is said where there is nothing to say
+pub none-said : {A B : Type 0} (f : A → B) (o : Option A) → is_some o ≡ false → option_map f o ≡ None
+none-said f None e = refl
+none-said f (Some x) e = absurd (cc)
 
 -- the words that were before
-pub words-claimed : (p : ℕ) (old new : List ℕ) (y : View Said) → y.start.size ≡ 64 → HasDraft p old new y → old ≢ replicate 64 0 → IsClaimed y p
-words-claimed p old new y whole h ne = inr (inl (λ e. ne (sym h.last ∙ e ∙ ap (λ (n : ℕ). replicate n 0) whole)))
+pub words-claimed : {X : Type 0} (n p : ℕ) (old new : List ℕ) (y : View X) → y.start.size ≡ n → HasDraft p old new y → old ≢ replicate n 0 → IsClaimed y p
+words-claimed n p old new y whole h ne = inr (inl (λ e. ne (sym h.last ∙ e ∙ ap (λ (m : ℕ). replicate m 0) whole)))
 
--- three pages after their new drafts
-pub record AreThree (a b c : ℕ) (over above page left half : List ℕ) (y : View Said) : Type 0 where
-  pub first : HasDraft a over above y
-  pub second : HasDraft b page left y
-  pub third : HasDraft c (replicate 64 0) half y
+module _ (L : Layout) (laws : IsLayout L) where
+  zero-tag : (node_of L (replicate L.words 0)).tag ≡ 0
+  zero-tag = laws.free_tag (replicate L.words 0) (zero-at L.words)
 
-pub three-redrafted : (a b c : ℕ) (over above page left half : List ℕ) (v x1 x2 y : View Said) → AreApart (a ∷ b ∷ c ∷ []) → (seat_of v a).exclusive ≡ true → (seat_of v b).exclusive ≡ true → (seat_of v c).exclusive ≡ true
-    → (v.start.tells ≡ true → AreToSplit a b c over page v) → IsRedrafted a v x1 → IsRedrafted b x1 x2 → IsRedrafted c x2 y
-    → (v.start.tells ≡ true → draft_of x1 a ≡ above) → (x1.start.tells ≡ true → draft_of x2 b ≡ left) → (x2.start.tells ≡ true → draft_of y c ≡ half) → y.start.tells ≡ true → AreThree a b c over above page left half y
-three-redrafted a b c over above page left half v x1 x2 y apart oa ob oc told d1 d2 d3 n1 n2 n3 tells =
-    let t2 = told-before c x2 y d3 tells in
-    let t1 = told-before b x1 x2 d2 t2 in
-    let t0 = told-before a v x1 d1 t1 in
-    let to = told t0 in
-    let ha = to.above in
-    let hb = to.node in
-    let hc = to.fresh in
-    let ne = first-apart a b c apart in
-    let s1 = redrafted-holds a v x1 d1 in
-    let s2 = redrafted-holds b x1 x2 d2 in
-    let a1 = draft-new a over over above v x1 ha d1 (n1 t0) in
-    let a2 = draft-past a b over above x1 x2 ne.0 ((s1 a).exclusive ∙ oa) a1 d2 in
-    let a3 = draft-past a c over above x2 y ne.1 ((s2 a).exclusive ∙ (s1 a).exclusive ∙ oa) a2 d3 in
-    let b1 = draft-past b a page page v x1 (λ e. ne.0 (sym e)) ob hb d1 in
-    let b2 = draft-new b page page left x1 x2 b1 d2 (n2 t1) in
-    let b3 = draft-past b c page left x2 y ne.2 ((s2 b).exclusive ∙ (s1 b).exclusive ∙ ob) b2 d3 in
-    let c1 = draft-past c a (replicate 64 0) (replicate 64 0) v x1 (λ e. ne.1 (sym e)) oc hc d1 in
-    let c2 = draft-past c b (replicate 64 0) (replicate 64 0) x1 x2 (λ e. ne.2 (sym e)) ((s1 c).exclusive ∙ oc) c1 d2 in
-    let c3 = draft-new c (replicate 64 0) (replicate 64 0) half x2 y c2 d3 (n3 t2) in
-    record { first = a3; second = b3; third = c3 }
+  -- a node's words are not all zero
+  pub inner-not : (words : List ℕ) → IsInner L words → words ≢ replicate L.words 0
+  inner-not words inner is = let t : 0 ≡ 3 = sym zero-tag ∙ ap (λ (l : List ℕ). (node_of L l).tag) (sym is) ∙ inner.node.tag in absurd (omega (arith, t))
+
+  pub leaf-not : (words : List ℕ) → IsLeaf L words → words ≢ replicate L.words 0
+  leaf-not words leaf is = let t : 0 ≡ 2 = sym zero-tag ∙ ap (λ (l : List ℕ). (node_of L l).tag) (sym is) ∙ leaf.node.tag in absurd (omega (arith, t))
+
+  pub node-not : (words : List ℕ) → IsLeaf L words ⊎ IsInner L words → words ≢ replicate L.words 0
+  node-not words = ⊎_elim (leaf-not words) (inner-not words)
+
+-- and they stand in their form
+pub node-clean : {L : Layout} (words : List ℕ) → IsLeaf L words ⊎ IsInner L words → IsClean L words
+node-clean words = ⊎_elim (λ leaf. leaf.clean) (λ inner. inner.clean)
+
+module _ (L : Layout) (spare : List ℕ → ℕ) (spare_is : (words : List ℕ) → IsClean L words → spare words + size L (node_of L words) ≡ L.room) (words : List ℕ) (clean : IsClean L words) where
+  -- where less is left than a pair may take, the node is full
+  pub spare-full : spare words < L.growth → IsFullNode L (node_of L words)
+  spare-full full = omega (arith, full, spare_is words clean)
+
+  -- where as much is left, there is room for a pair
+  pub spare-room : L.growth ≤ spare words → size L (node_of L words) + L.growth ≤ L.room
+  spare-room room = omega (arith, room, spare_is words clean)
+
+module _ {S : Type 0} (plain : S → Said) (L : Layout) where
+  pub may-three : (g1 g2 g3 : ExclusiveGuard) (a b c : ℕ) (y : View S) → g1.pid ≡ a → g2.pid ≡ b → g3.pid ≡ c → IsHolding g1.pid g1.frame g1.version g1.dirty y → IsHolding g2.pid g2.frame g2.version g2.dirty y → IsHolding g3.pid g3.frame g3.version g3.dirty y
+      → AreApart (a ∷ b ∷ c ∷ []) → y.out ≡ None → (y.start.tells ≡ true → IsClaimed y a) → (y.start.tells ≡ true → IsClaimed y b) → IsClaimed y c → (y.start.tells ≡ true → ReleasesPlain plain L (began_of y.start) y.owed (changes_of y (a ∷ b ∷ c ∷ [])) []) → MayReleaseAll (ReleasesPlain plain L) (g1 ∷ g2 ∷ g3 ∷ []) None y
+  may-three g1 g2 g3 a b c y e1 e2 e3 h1 h2 h3 apart out c1 c2 c3 may =
+      let pids : pids_of (g1 ∷ g2 ∷ g3 ∷ []) ≡ a ∷ b ∷ c ∷ [] = (λ i. e1 i ∷ e2 i ∷ e3 i ∷ []) in
+      record {
+        held = (h1, (h2, (h3, tt)));
+        apart = subst AreApart (sym pids) apart;
+        home = ((λ o e. absurd (none-not o (sym out ∙ e))), ((λ o e. absurd (none-not o (sym out ∙ e))), ((λ o e. absurd (none-not o (sym out ∙ e))), tt)));
+        claimed = λ t. (subst (IsClaimed y) (sym e1) (c1 t), (subst (IsClaimed y) (sym e2) (c2 t), (subst (IsClaimed y) (sym e3) c3, tt)));
+        owner = λ t. inr (subst (λ (l : List ℕ). ReleasesPlain plain L (began_of y.start) y.owed (changes_of y l) []) (sym pids) (may t));
+      }
+
+  -- the three changes are a split
+  pub splits-three : (a b c key separator : ℕ) (over above page left old half : List ℕ) (y : View S) → HasDraft a over above y → HasDraft b page left y → HasDraft c old half y → IsInner L over → Covers (node_of L over) key → child_of L over key ≡ Some b
+      → size L (node_of L over) + L.growth ≤ L.room → IsFullNode L (node_of L page) → IsSplit L page left half separator → AddsPair L over above separator c → has c y.owed ≡ true → ReleasesPlain plain L (began_of y.start) y.owed (changes_of y (a ∷ b ∷ c ∷ [])) []
+  splits-three a b c key separator over above page left old half y ha hb hc inner covers names room full split adds owed =
+      may_split L (began_of y.start) y.owed (change_of y a) (change_of y b) (change_of y c) key separator
+      (subst (IsInner L) (sym ha.last) inner)
+      (subst (λ (l : List ℕ). Covers (node_of L l) key) (sym ha.last) covers)
+      (ap (λ (l : List ℕ). child_of L l key) ha.last ∙ names)
+      (subst (λ (l : List ℕ). size L (node_of L l) + L.growth ≤ L.room) (sym ha.last) room)
+      (subst (λ (l : List ℕ). IsFullNode L (node_of L l)) (sym hb.last) full)
+      (subst (λ (l : List ℕ). IsSplit L l (draft_of y b) (draft_of y c) separator) (sym hb.last)
+      (subst (λ (l : List ℕ). IsSplit L page l (draft_of y c) separator) (sym hb.draft)
+      (subst (λ (l : List ℕ). IsSplit L page left l separator) (sym hc.draft) split)))
+      (subst (λ (l : List ℕ). AddsPair L l (draft_of y a) separator c) (sym ha.last)
+      (subst (λ (l : List ℕ). AddsPair L over l separator c) (sym ha.draft) adds))
+      owed
+
+module _ {X : Type 0} (L : Layout) where
+  -- three pages after their new drafts
+  pub record AreThree (a b c : ℕ) (over above page left half : List ℕ) (y : View X) : Type 0 where
+    pub first : HasDraft a over above y
+    pub second : HasDraft b page left y
+    pub third : HasDraft c (replicate L.words 0) half y
+
+  pub three-redrafted : (a b c : ℕ) (over above page left half : List ℕ) (v x1 x2 y : View X) → AreApart (a ∷ b ∷ c ∷ []) → (seat_of v a).exclusive ≡ true → (seat_of v b).exclusive ≡ true → (seat_of v c).exclusive ≡ true
+      → (v.start.tells ≡ true → AreToSplit L a b c over page v) → IsRedrafted a v x1 → IsRedrafted b x1 x2 → IsRedrafted c x2 y
+      → (v.start.tells ≡ true → draft_of x1 a ≡ above) → (x1.start.tells ≡ true → draft_of x2 b ≡ left) → (x2.start.tells ≡ true → draft_of y c ≡ half) → y.start.tells ≡ true → AreThree a b c over above page left half y
+  three-redrafted a b c over above page left half v x1 x2 y apart oa ob oc told d1 d2 d3 n1 n2 n3 tells =
+      let zero = replicate L.words 0 in
+      let t2 = told-before c x2 y d3 tells in
+      let t1 = told-before b x1 x2 d2 t2 in
+      let t0 = told-before a v x1 d1 t1 in
+      let to = told t0 in
+      let ha = to.above in
+      let hb = to.node in
+      let hc = to.fresh in
+      let ne = first-apart a b c apart in
+      let s1 = redrafted-holds a v x1 d1 in
+      let s2 = redrafted-holds b x1 x2 d2 in
+      let a1 = draft-new a over over above v x1 ha d1 (n1 t0) in
+      let a2 = draft-past a b over above x1 x2 ne.0 ((s1 a).exclusive ∙ oa) a1 d2 in
+      let a3 = draft-past a c over above x2 y ne.1 ((s2 a).exclusive ∙ (s1 a).exclusive ∙ oa) a2 d3 in
+      let b1 = draft-past b a page page v x1 (λ e. ne.0 (sym e)) ob hb d1 in
+      let b2 = draft-new b page page left x1 x2 b1 d2 (n2 t1) in
+      let b3 = draft-past b c page left x2 y ne.2 ((s2 b).exclusive ∙ (s1 b).exclusive ∙ ob) b2 d3 in
+      let c1 = draft-past c a zero zero v x1 (λ e. ne.1 (sym e)) oc hc d1 in
+      let c2 = draft-past c b zero zero x1 x2 (λ e. ne.2 (sym e)) ((s1 c).exclusive ∙ oc) c1 d2 in
+      let c3 = draft-new c zero zero half x2 y c2 d3 (n3 t2) in
+      record { first = a3; second = b3; third = c3 }
 
 -- a page is among these
 pub among-first : (q : ℕ) (l : List ℕ) → has q (q ∷ l) ≡ true
@@ -237,36 +267,39 @@ among-first q l = or_left (eqb q q) (has q l) (eq-eqb q q refl)
 pub among-later : (q x : ℕ) (l : List ℕ) → has q l ≡ true → has q (x ∷ l) ≡ true
 among-later q x l e = or_right (eqb q x) (has q l) e
 
-pub three-stay : (a b c : ExclusiveGuard) (v x1 x2 y : View Said) → Redrafts a.pid a.frame v x1 → Redrafts b.pid b.frame x1 x2 → Redrafts c.pid c.frame x2 y → Stays (a ∷ b ∷ c ∷ []) v y
+pub three-stay : {X : Type 0} (a b c : ExclusiveGuard) (v x1 x2 y : View X) → Redrafts a.pid a.frame v x1 → Redrafts b.pid b.frame x1 x2 → Redrafts c.pid c.frame x2 y → Stays (a ∷ b ∷ c ∷ []) v y
 three-stay a b c v x1 x2 y d1 d2 d3 =
     let gs : List ExclusiveGuard = a ∷ b ∷ c ∷ [] in
     stays-then gs v x1 y (redrafted-stays gs a.pid a.frame v x1 (among-first a.pid (b.pid ∷ c.pid ∷ [])) (λ at here. inl here) d1)
     (stays-then gs x1 x2 y (redrafted-stays gs b.pid b.frame x1 x2 (among-later b.pid a.pid (b.pid ∷ c.pid ∷ []) (among-first b.pid (c.pid ∷ []))) (λ at here. inr (inl here)) d2)
     (redrafted-stays gs c.pid c.frame x2 y (among-later c.pid a.pid (b.pid ∷ c.pid ∷ []) (among-later c.pid b.pid (c.pid ∷ []) (among-first c.pid []))) (λ at here. inr (inr (inl here))) d3))
 
-module _ (a b c separator : ℕ) (over above page left half : List ℕ) (v y : View Said) (g1 g2 g3 : ExclusiveGuard) (stays : Stays (g1 ∷ g2 ∷ g3 ∷ []) v y) (three : y.start.tells ≡ true → AreThree a b c over above page left half y) (told : v.start.tells ≡ true → AreToSplit a b c over page v)
-    (room : length (pairs_of over) < 28) (full : length (pairs_of page) ≡ 28) (split : IsSplit page left half separator) (adds : IsInner over → AddsPair over above separator c) (owed : has c v.owed ≡ true) where
+module _ {S : Type 0} (plain : S → Said) (L : Layout) (laws : IsLayout L) (spare : List ℕ → ℕ) (spare_is : (words : List ℕ) → IsClean L words → spare words + size L (node_of L words) ≡ L.room)
+    (a b c separator : ℕ) (over above page left half : List ℕ) (v y : View S) (g1 g2 g3 : ExclusiveGuard) (stays : Stays (g1 ∷ g2 ∷ g3 ∷ []) v y) (three : y.start.tells ≡ true → AreThree L a b c over above page left half y) (told : v.start.tells ≡ true → AreToSplit L a b c over page v)
+    (room : L.growth ≤ spare over) (full : spare page < L.growth) (split : IsClean L page → IsSplit L page left half separator) (adds : IsInner L over → AddsPair L over above separator c) (owed : has c v.owed ≡ true) where
   owed-then : has c y.owed ≡ true
   owed-then = ap (has c) stays.group.1 ∙ owed
 
-  to-split : y.start.tells ≡ true → AreToSplit a b c over page v
+  to-split : y.start.tells ≡ true → AreToSplit L a b c over page v
   to-split tells = told (ap (λ (o : Origin). o.tells) (sym stays.start) ∙ tells)
 
-  pub three-may : y.start.tells ≡ true → MayRelease (began_of y.start) y.owed (changes_of y (a ∷ b ∷ c ∷ [])) []
+  pub three-may : y.start.tells ≡ true → ReleasesPlain plain L (began_of y.start) y.owed (changes_of y (a ∷ b ∷ c ∷ [])) []
   three-may tells =
       let t = three tells in
       let to = to-split tells in
-      splits-three a b c to.names.0 separator over above page left (replicate 64 0) half y t.first t.second t.third to.inner to.names.1 to.names.2 room full split adds owed-then
+      let clean = node-clean page to.kind in
+      splits-three plain L a b c to.names.0 separator over above page left (replicate L.words 0) half y t.first t.second t.third to.inner to.names.1 to.names.2
+      (spare-room L spare spare_is over to.inner.clean room) (spare-full L spare spare_is page clean full) (split clean) (adds to.inner) owed-then
 
-  pub three-all : y.start.size ≡ 64 → g1.pid ≡ a → g2.pid ≡ b → g3.pid ≡ c → IsHolding g1.pid g1.frame g1.version g1.dirty y → IsHolding g2.pid g2.frame g2.version g2.dirty y → IsHolding g3.pid g3.frame g3.version g3.dirty y
-      → AreApart (a ∷ b ∷ c ∷ []) → v.out ≡ None → MayReleaseAll MayRelease (g1 ∷ g2 ∷ g3 ∷ []) None y
+  pub three-all : y.start.size ≡ L.words → g1.pid ≡ a → g2.pid ≡ b → g3.pid ≡ c → IsHolding g1.pid g1.frame g1.version g1.dirty y → IsHolding g2.pid g2.frame g2.version g2.dirty y → IsHolding g3.pid g3.frame g3.version g3.dirty y
+      → AreApart (a ∷ b ∷ c ∷ []) → v.out ≡ None → MayReleaseAll (ReleasesPlain plain L) (g1 ∷ g2 ∷ g3 ∷ []) None y
   three-all whole e1 e2 e3 h1 h2 h3 apart out =
-      may-three g1 g2 g3 a b c y e1 e2 e3 h1 h2 h3 apart (stays.out ∙ out)
-      (λ tells. words-claimed a over above y whole (three tells).first (inner-not over (to-split tells).inner))
-      (λ tells. words-claimed b page left y whole (three tells).second (full-not page full))
+      may-three plain L g1 g2 g3 a b c y e1 e2 e3 h1 h2 h3 apart (stays.out ∙ out)
+      (λ tells. words-claimed L.words a over above y whole (three tells).first (inner-not L laws over (to-split tells).inner))
+      (λ tells. words-claimed L.words b page left y whole (three tells).second (node-not L laws page (to-split tells).kind))
       (inr (inr (inr owed-then))) three-may
 
-  pub three-released : (w : View Said) → g1.pid ≡ a → g2.pid ≡ b → g3.pid ≡ c → AreReleased g1 (g2 ∷ g3 ∷ []) None y w → IsSplitUp (a ∷ b ∷ c ∷ []) v w
+  pub three-released : (w : View S) → g1.pid ≡ a → g2.pid ≡ b → g3.pid ≡ c → AreReleased g1 (g2 ∷ g3 ∷ []) None y w → IsSplitUp plain L (a ∷ b ∷ c ∷ []) v w
   three-released w e1 e2 e3 r =
       let pids : pids_of (g1 ∷ g2 ∷ g3 ∷ []) ≡ a ∷ b ∷ c ∷ [] = (λ i. e1 i ∷ e2 i ∷ e3 i ∷ []) in
       record {

@@ -1,10 +1,9 @@
 -- Why a write gave no reply.
-use Rattle.std.proofs.Common.{◌++◌, ◌∙◌, ◌≡◌, ◌⊎◌, ap, inl, inr, length, List, None, Option, refl, Some, subst, sym, true, ℕ}
+use Rattle.std.proofs.Common.{◌+◌, ◌∙◌, ◌≡◌, ◌⊎◌, ap, arith, inl, inr, length, List, None, Option, refl, Some, subst, sym, true, ℕ}
 use Rattle.vm_map.specs.{declared.call.Call.TheVariants.Del, declared.call.Call.TheVariants.Put, declared.call.Reply.Reply}
 use Rattle.vm_map.specs.{declared.call.Reply.TheVariants.Gone, declared.call.Reply.TheVariants.Was, declared.call.Said.Said}
 use Rattle.vm_map.specs.Map.{del_pair, lookup_at, Rises}
-use Rattle.vm_tree_model.specs.Edits.{IsFullFor, IsLeafWith, PutsInLeaf}
-use Rattle.vm_tree_model.specs.Node.{Covers}
+use Rattle.vm_tree_model.specs.{Edits.IsLeafWith, Edits.PutsInLeaf, Layout.IsClean, Layout.IsLayout, Layout.Layout, Layout.size, Node.Covers}
 use Rattle.vm_tree_model.specs.Page.{IsLeaf, node_of, pairs_of}
 use Rattle.vm_node.specs.Loads.{IsPageWith}
 use Rattle.vm_rule.specs.Prelude.{last_of}
@@ -21,122 +20,140 @@ use Rattle.vm_tree_rule.proofs.Entering.{opened-reads}
 use Rattle.vm_tree_rule.proofs.Readings.{denied-reads, loads-reads, opened-loads, reads-then, same-page, valid-reads}
 use Rattle.vm_tree_rule.proofs.{Downward.awaits-later, Surely.known-same}
 use Rattle.vm_tree_rule.specs.Resident.{IsKnownNow}
+use Rattle.vm_kind.specs.Room.{HasRoomFor}
 use Rattle.vm_tree_read.specs.Reads.{IsAnswered}
-use Rattle.vm_tree_read.proofs.Answering.{answered-later, page-with}
+use Rattle.vm_tree_read.proofs.Answering.{answered-as, answered-later, page-with}
 use Rattle.vm_tree_write.specs.Writes.{IsFullLeaf, IsTight, IsVain, IsWornLeaf, IsWriteDone, IsWriteToTry, TellTight}
 use Rattle.vm_tree_write.proofs.Backing.{shown-refused, shown-unlocked, shown-wider}
 use Rattle.vm_tree_write.proofs.Writing.{leaf-is, written-later}
 
-pub not-read : (key : ℕ) (saw : Saw) (v w : View Said) → IsTurnedBack v key (turns.Again saw) w → ReadsOn v w × IsWriteToTry v key saw w
-not-read key saw v w a = (a.0, inl (shown-wider saw v w a.1))
+module _ {X : Type 0} (L : Layout) where
+  pub not-read : (key : ℕ) (saw : Saw) (v w : View X) → IsTurnedBack L v key (turns.Again saw) w → ReadsOn v w × IsWriteToTry L v key saw w
+  not-read key saw v w a = (a.0, inl (shown-wider saw v w a.1))
 
-pub not-there : (key : ℕ) (saw : Saw) (v w : View Said) → IsTurnedBack v key (turns.Astray saw) w → ReadsOn v w × IsWriteToTry v key saw w
-not-there key saw v w a = (a.0, inr a.1)
+  pub not-there : (key : ℕ) (saw : Saw) (v w : View X) → IsTurnedBack L v key (turns.Astray saw) w → ReadsOn v w × IsWriteToTry L v key saw w
+  not-there key saw v w a = (a.0, inr a.1)
 
-lock-reads : (p word frame : ℕ) (deny : Deny) (v x w : View Said) → IsOpened v p word frame x → IsDenied AgainOrWorn (KeptWord word) UnlockedExpected p deny x w → ReadsOn v w
-lock-reads p word frame deny v x w o d = reads-then v x w (opened-reads p word frame v x o) (denied-reads AgainOrWorn (KeptWord word) UnlockedExpected p deny x w d)
+  lock-reads : (p word frame : ℕ) (deny : Deny) (v x w : View X) → IsOpened v p word frame x → IsDenied AgainOrWorn (KeptWord word) UnlockedExpected p deny x w → ReadsOn v w
+  lock-reads p word frame deny v x w o d = reads-then v x w (opened-reads p word frame v x o) (denied-reads AgainOrWorn (KeptWord word) UnlockedExpected p deny x w d)
 
-pub not-locked : (p word frame key : ℕ) (saw : Saw) (v x w : View Said) → IsOpened v p word frame x → IsDenied AgainOrWorn (KeptWord word) UnlockedExpected p (denies.Again saw) x w → ReadsOn v w × IsWriteToTry v key saw w
-not-locked p word frame key saw v x w o d = (lock-reads p word frame (denies.Again saw) v x w o d, inl (shown-unlocked p word frame saw v x w o d))
+  pub not-locked : (p word frame key : ℕ) (saw : Saw) (v x w : View X) → IsOpened v p word frame x → IsDenied AgainOrWorn (KeptWord word) UnlockedExpected p (denies.Again saw) x w → ReadsOn v w × IsWriteToTry L v key saw w
+  not-locked p word frame key saw v x w o d = (lock-reads p word frame (denies.Again saw) v x w o d, inl (shown-unlocked p word frame saw v x w o d))
 
-pub worn-leaf : (p q word frame key : ℕ) (words : List ℕ) (v x w : View Said) → IsOpened v p word frame x → Awaits x p word 0 key → HasRead x p words → ((node_of words).tag ≡ 2) × Covers (node_of words) key → IsDenied AgainOrWorn (KeptWord word) UnlockedExpected p (denies.Worn q) x w → ReadsOn v w × (a : IsWornLeaf v key q w) × (a.words ≡ words)
-worn-leaf p q word frame key words v x w o a read leaf d =
-    let same : q ≡ p = d.evidence.0 in (
-      lock-reads p word frame (denies.Worn q) v x w o d,
-      record {
-        word = word;
-        frame = frame;
-        found = x;
-        opened = subst (λ n. IsOpened v n word frame x) (sym same) o;
-        awaits = subst (λ n. Awaits x n word 0 key) (sym same) a;
-        words = words;
-        read = subst (λ n. HasRead x n words) (sym same) read;
-        tag = leaf.0;
-        covers = leaf.1;
-        denied = subst (λ n. IsDenied AgainOrWorn (KeptWord word) UnlockedExpected n (denies.Worn q) x w) (sym same) d;
-      },
-      refl,
-    )
+  pub worn-leaf : (p q word frame key : ℕ) (words : List ℕ) (v x w : View X) → IsOpened v p word frame x → Awaits L x p word 0 key → HasRead x p words → ((node_of L words).tag ≡ 2) × Covers (node_of L words) key → IsDenied AgainOrWorn (KeptWord word) UnlockedExpected p (denies.Worn q) x w → ReadsOn v w × (a : IsWornLeaf L v key q w) × (a.words ≡ words)
+  worn-leaf p q word frame key words v x w o a read leaf d =
+      let same : q ≡ p = d.evidence.0 in (
+        lock-reads p word frame (denies.Worn q) v x w o d,
+        record {
+          word = word;
+          frame = frame;
+          found = x;
+          opened = subst (λ n. IsOpened v n word frame x) (sym same) o;
+          awaits = subst (λ n. Awaits L x n word 0 key) (sym same) a;
+          words = words;
+          read = subst (λ n. HasRead x n words) (sym same) read;
+          tag = leaf.0;
+          covers = leaf.1;
+          denied = subst (λ n. IsDenied AgainOrWorn (KeptWord word) UnlockedExpected n (denies.Worn q) x w) (sym same) d;
+        },
+        refl,
+      )
 
-pub not-valid : (p word frame key : ℕ) (saw : Saw) (v x w : View Said) → IsOpened v p word frame x → IsDenied AgainOrNeed (KeptWord word) NoneExpected p (denies.Again saw) x w → ReadsOn v w × IsWriteToTry v key saw w
-not-valid p word frame key saw v x w o d =
-    (reads-then v x w (opened-reads p word frame v x o) (denied-reads AgainOrNeed (KeptWord word) NoneExpected p (denies.Again saw) x w d), inl (shown-wider saw v w (shown-refused p word frame saw v x w o d)))
+  pub not-valid : (p word frame key : ℕ) (saw : Saw) (v x w : View X) → IsOpened v p word frame x → IsDenied AgainOrNeed (KeptWord word) NoneExpected p (denies.Again saw) x w → ReadsOn v w × IsWriteToTry L v key saw w
+  not-valid p word frame key saw v x w o d =
+      (reads-then v x w (opened-reads p word frame v x o) (denied-reads AgainOrNeed (KeptWord word) NoneExpected p (denies.Again saw) x w d), inl (shown-wider saw v w (shown-refused p word frame saw v x w o d)))
 
-full-leaf : (p word frame key : ℕ) (loaded : List (ℕ × ℕ)) (x w : View Said) → IsReading p word frame x → HasLoaded x p loaded → TellLeaf loaded key → TellTight loaded key
-    → x.start.tells ≡ true → w.start.size ≡ 64 → IsValid Tied p word frame None x w → IsPageWith loaded (last_of w p).words × IsFullLeaf (last_of w p).words key
-full-leaf p word frame key loaded x w r has leaf full tells whole k =
-    let with : IsPageWith loaded (last_of w p).words = page-with p loaded x (last_of w p).words has (k.size ∙ whole) ((k.validates tells).valid _ r.reading refl) in
-    let here = leaf (last_of w p).words with in
-    let is_leaf : IsLeaf (last_of w p).words = leaf-is _ p (last_of w p).words (k.validates tells).itself.sound here.0 in
-    let tight = full (last_of w p).words with in
-    (with, record { leaf = is_leaf; covers = here.1; full = record { count = tight.count; absent = tight.absent _ _ is_leaf.node.rises } })
+-- what is left of a page's room and what its node takes are all of it
+module _ {X : Type 0} (L : Layout) (laws : IsLayout L) (spare : List ℕ → ℕ) (spare_is : (words : List ℕ) → IsClean L words → spare words + size L (node_of L words) ≡ L.room) where
+  full-leaf : (p word frame key : ℕ) (loaded : List (ℕ × ℕ)) (x w : View X) → IsReading p word frame x → HasLoaded x p loaded → TellLeaf L loaded key → TellTight L spare loaded key
+      → x.start.tells ≡ true → w.start.size ≡ L.words → IsValid (Tied L) p word frame None x w → IsPageWith L.words loaded (last_of w p).words × IsFullLeaf L (last_of w p).words key
+  full-leaf p word frame key loaded x w r has leaf full tells whole k =
+      let with : IsPageWith L.words loaded (last_of w p).words = page-with L p loaded x (last_of w p).words has (k.size ∙ whole) ((k.validates tells).valid _ r.reading refl) in
+      let here = leaf (last_of w p).words with in
+      let is_leaf : IsLeaf L (last_of w p).words = leaf-is L laws _ p (last_of w p).words (k.validates tells).itself.sound here.0 in
+      let tight = full (last_of w p).words with in
+      let room = tight.room in
+      let whole_room = spare_is (last_of w p).words is_leaf.clean in
+      (with, record { leaf = is_leaf; covers = here.1; full = record { count = omega (arith, room, whole_room); absent = tight.absent _ _ is_leaf.node.rises } })
 
--- the leaf that was validated has the words that were loaded
-pub tight : (p word frame key : ℕ) (loaded : List (ℕ × ℕ)) (v x w : View Said) → IsOpened v p word frame x → HasLoaded x p loaded → TellLeaf loaded key → TellTight loaded key
-    → w.start.size ≡ 64 → IsValid Tied p word frame None x w → ReadsOn v w × IsTight v key p w
-tight p word frame key loaded v x w o has leaf full whole k =
-    let reads = opened-reads p word frame v x o in (
-      reads-then v x w reads (valid-reads Tied p word frame x w k),
-      record {
-        word = word;
-        frame = frame;
-        found = x;
-        opened = o;
-        valid = k;
-        loaded = loaded;
-        read = (has.0, (k.same_reads p).loads ∙ has.1);
-        leaf = leaf;
-        full = full;
-        told = λ tells. full-leaf p word frame key loaded x w o.reading has leaf full (ap (λ (s : Origin). s.tells) reads.0.start ∙ tells) whole k;
-      },
-    )
+  -- the leaf that was validated has the words that were loaded
+  pub tight : (p word frame key : ℕ) (loaded : List (ℕ × ℕ)) (v x w : View X) → IsOpened v p word frame x → HasLoaded x p loaded → TellLeaf L loaded key → TellTight L spare loaded key
+      → w.start.size ≡ L.words → IsValid (Tied L) p word frame None x w → ReadsOn v w × IsTight L spare v key p w
+  tight p word frame key loaded v x w o has leaf full whole k =
+      let reads = opened-reads p word frame v x o in (
+        reads-then v x w reads (valid-reads (Tied L) p word frame x w k),
+        record {
+          word = word;
+          frame = frame;
+          found = x;
+          opened = o;
+          valid = k;
+          loaded = loaded;
+          read = (has.0, (k.same_reads p).loads ∙ has.1);
+          leaf = leaf;
+          full = full;
+          told = λ tells. full-leaf p word frame key loaded x w o.reading has leaf full (ap (λ (s : Origin). s.tells) reads.0.start ∙ tells) whole k;
+        },
+      )
 
 -- what is claimed of a page holds of each page that has all its words
-pub told-whole : (claim : List ℕ → Type 0) (page : List ℕ) → length page ≡ 64 → claim page → (words : List ℕ) → IsPageWith (placed 0 page) words → claim words
+pub told-whole : {n : ℕ} (claim : List ℕ → Type 0) (page : List ℕ) → length page ≡ n → claim page → (words : List ℕ) → IsPageWith n (placed 0 page) words → claim words
 told-whole claim page long is words with = subst claim (sym (same-page words page long with)) is
 
 -- a page was read twice on, with other words each time
-module _ (p word frame : ℕ) (first then : List (ℕ × ℕ)) (x y z : View Said) (a : Loads p word frame first x y) (b : Loads p word frame then y z) where
+module _ {X : Type 0} (p word frame : ℕ) (first then : List (ℕ × ℕ)) (x y z : View X) (a : Loads p word frame first x y) (b : Loads p word frame then y z) where
   twice : ReadsOn x z
   twice = reads-then x y z (loads-reads p word frame first x y a) (loads-reads p word frame then y z b)
 
   pub known-twice : IsKnownNow p word x → IsKnownNow p word z
   known-twice k = known-same p word y z (loads-reads p word frame then y z b).0 b.table (known-same p word x y (loads-reads p word frame first x y a).0 a.table k)
 
-  pub awaits-twice : (key : ℕ) → Awaits x p word 0 key → Awaits z p word 0 key
+  pub awaits-twice : {L : Layout} (key : ℕ) → Awaits L x p word 0 key → Awaits L z p word 0 key
   awaits-twice key w = awaits-later p word 0 key x z twice.0 w
 
-pub reads-twice : (p word frame : ℕ) (first then : List (ℕ × ℕ)) (v x y z : View Said) → ReadsOn v x → Loads p word frame first x y → Loads p word frame then y z → ReadsOn v z
+pub reads-twice : {X : Type 0} (p word frame : ℕ) (first then : List (ℕ × ℕ)) (v x y z : View X) → ReadsOn v x → Loads p word frame first x y → Loads p word frame then y z → ReadsOn v z
 reads-twice p word frame first then v x y z r a b = reads-then v x z r (twice p word frame first then x y z a b)
 
-pub opened-twice : (p word frame : ℕ) (first then : List (ℕ × ℕ)) (v x y z : View Said) → IsOpened v p word frame x → Loads p word frame first x y → Loads p word frame then y z → IsOpened v p word frame z
+pub opened-twice : {X : Type 0} (p word frame : ℕ) (first then : List (ℕ × ℕ)) (v x y z : View X) → IsOpened v p word frame x → Loads p word frame first x y → Loads p word frame then y z → IsOpened v p word frame z
 opened-twice p word frame first then v x y z o a b = opened-loads p word frame then v y z (opened-loads p word frame first v x y o a) b
 
--- the put of a leaf edits it
-pub put-edit : (key value : ℕ) (was : Option ℕ) (page after : List ℕ) → Covers (node_of page) key → (IsLeaf page → Covers (node_of page) key → PutsInLeaf page after key value was) → IsLeaf page → IsEdit page after (Put key value) (Was was)
-put-edit key value was page after covers puts leaf = let k = puts leaf covers in (covers, k.was_there, k.after)
+module _ (L : Layout) (page after : List ℕ) where
+  -- the put of a leaf edits it
+  pub put-edit : (key value : ℕ) (was : Option ℕ) → Covers (node_of L page) key → (IsLeaf L page → Covers (node_of L page) key → PutsInLeaf L page after key value was) → IsLeaf L page → IsEdit L page after (Put key value) (Was was)
+  put-edit key value was covers puts leaf = let k = puts leaf covers in (covers, k.was_there, k.after)
 
-pub put-done : (key value : ℕ) (was : Option ℕ) (page : List ℕ) (v x w : View Said) → ¬ (IsFullFor page key) → ReadsOn v x → (a : IsWriteDone (record { call = Put key value; reply = Was was }) x w) × (a.old ≡ page)
-    → (a : IsWriteDone (record { call = Put key value; reply = Was was }) v w) × ¬ (IsFullFor a.old key)
-put-done key value was page v x w room reads a =
-    let later = written-later (record { call = Put key value; reply = Was was }) v x w reads a.0 in (later.0, subst (λ (l : List ℕ). ¬ (IsFullFor l key)) (sym (later.1 ∙ a.1)) room)
+  -- the del of a leaf that has the key edits it
+  pub del-edit : (key : ℕ) (was : Option ℕ) → Covers (node_of L page) key → ((low high : ℕ) → Rises low high (pairs_of L page) → was ≡ lookup_at (pairs_of L page) key) → (IsLeaf L page → IsLeafWith L page after (del_pair (pairs_of L page) key)) → IsLeaf L page → IsEdit L page after (Del key) (Gone was)
+  del-edit key was covers is dels leaf = (covers, is _ _ leaf.node.rises, dels leaf)
 
--- the del of a leaf that has the key edits it
-pub del-edit : (key : ℕ) (was : Option ℕ) (page after : List ℕ) → Covers (node_of page) key → ((low high : ℕ) → Rises low high (pairs_of page) → was ≡ lookup_at (pairs_of page) key) → (IsLeaf page → IsLeafWith page after (del_pair (pairs_of page) key)) → IsLeaf page → IsEdit page after (Del key) (Gone was)
-del-edit key was page after covers is dels leaf = (covers, is _ _ leaf.node.rises, dels leaf)
+  -- it does so by whatever reading of what is said
+  pub edit-as : (said other : Said) → said ≡ other → (IsLeaf L page → IsEdit L page after other.call other.reply) → IsLeaf L page → IsEdit L page after said.call said.reply
+  edit-as said other same edit = subst (λ (s : Said). IsLeaf L page → IsEdit L page after s.call s.reply) (sym same) edit
 
 -- a reply with a value is not that of a key that was missing
 had-not : (key was : ℕ) → ¬ (IsVain (record { call = Del key; reply = Gone (Some was) }))
 had-not key was k = let no : Gone (Some was) ≡ Gone None = ap (λ (s : Said). s.reply) k.1 in absurd (cc)
 
-pub del-done : (key was : ℕ) (page : List ℕ) (v x w : View Said) → ReadsOn v x → (a : IsWriteDone (record { call = Del key; reply = Gone (Some was) }) x w) × (a.old ≡ page)
-    → (IsWriteDone (record { call = Del key; reply = Gone (Some was) }) v w × ¬ (IsVain (record { call = Del key; reply = Gone (Some was) }))) ⊎ (IsAnswered (record { call = Del key; reply = Gone (Some was) }) v w × IsVain (record { call = Del key; reply = Gone (Some was) }))
-del-done key was page v x w reads a = inl ((written-later (record { call = Del key; reply = Gone (Some was) }) v x w reads a.0).0, had-not key was)
-
 -- a put is no del
 pub put-not : (key value : ℕ) (reply : Reply) → ¬ (IsVain (record { call = Put key value; reply = reply }))
 put-not key value reply k = let no : Put key value ≡ Del k.0 = ap (λ (s : Said). s.call) k.1 in absurd (cc)
 
-pub del-missed : (key : ℕ) (v x w : View Said) → ReadsOn v x → IsAnswered (record { call = Del key; reply = Gone None }) x w
-    → (IsWriteDone (record { call = Del key; reply = Gone None }) v w × ¬ (IsVain (record { call = Del key; reply = Gone None }))) ⊎ (IsAnswered (record { call = Del key; reply = Gone None }) v w × IsVain (record { call = Del key; reply = Gone None }))
-del-missed key v x w reads a = inr (answered-later (record { call = Del key; reply = Gone None }) v x w reads a, (key, refl))
+module _ {S : Type 0} (plain : S → Said) (L : Layout) where
+  -- a write that was read as this, of what was read before
+  done-as : (said other : Said) (page : List ℕ) (v x w : View S) → said ≡ other → ReadsOn v x → (a : IsWriteDone plain L said x w) × (a.old ≡ page) → (a : IsWriteDone plain L other v w) × (a.old ≡ page)
+  done-as said other page v x w same reads a =
+      let later = written-later plain L said v x w reads a.0 in subst (λ (s : Said). (b : IsWriteDone plain L s v w) × (b.old ≡ page)) same (later.0, later.1 ∙ a.1)
+
+  pub del-done : (said : Said) (key was : ℕ) (page : List ℕ) (v x w : View S) → said ≡ record { call = Del key; reply = Gone (Some was) } → ReadsOn v x → (a : IsWriteDone plain L said x w) × (a.old ≡ page)
+      → (IsWriteDone plain L (record { call = Del key; reply = Gone (Some was) }) v w × ¬ (IsVain (record { call = Del key; reply = Gone (Some was) }))) ⊎ (IsAnswered plain L (record { call = Del key; reply = Gone (Some was) }) v w × IsVain (record { call = Del key; reply = Gone (Some was) }))
+  del-done said key was page v x w same reads a = inl ((done-as said _ page v x w same reads a).0, had-not key was)
+
+  pub del-missed : (said : Said) (key : ℕ) (v x w : View S) → said ≡ record { call = Del key; reply = Gone None } → ReadsOn v x → IsAnswered plain L said x w
+      → (IsWriteDone plain L (record { call = Del key; reply = Gone None }) v w × ¬ (IsVain (record { call = Del key; reply = Gone None }))) ⊎ (IsAnswered plain L (record { call = Del key; reply = Gone None }) v w × IsVain (record { call = Del key; reply = Gone None }))
+  del-missed said key v x w same reads a = inr (answered-later plain L _ v x w reads (answered-as plain L said _ x w same a), (key, refl))
+
+module _ {S : Type 0} (plain : S → Said) (L : Layout) (spare : List ℕ → ℕ) where
+  pub put-done : (said : Said) (key value : ℕ) (was : Option ℕ) (page : List ℕ) (v x w : View S) → said ≡ record { call = Put key value; reply = Was was } → HasRoomFor L spare page key → ReadsOn v x → (a : IsWriteDone plain L said x w) × (a.old ≡ page)
+      → (a : IsWriteDone plain L (record { call = Put key value; reply = Was was }) v w) × HasRoomFor L spare a.old key
+  put-done said key value was page v x w same room reads a =
+      let later = done-as plain L said _ page v x w same reads a in (later.0, subst (λ (l : List ℕ). HasRoomFor L spare l key) (sym later.1) room)

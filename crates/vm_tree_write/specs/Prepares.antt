@@ -1,7 +1,7 @@
 -- What a split has taken before it writes: frames, two pages that are locked at the versions read, and fresh pages, for which the next word left
 -- room; and what is left where one of these is refused.
 use Rattle.std.specs.Prelude.{◌<◌, ◌≡◌, Bool, length, List, None, ℕ}
-use Rattle.vm_map.specs.declared.call.Said.{Said}
+use Rattle.vm_tree_model.specs.Layout.{Layout}
 use Rattle.vm_core.specs.Prelude.{version_of}
 use Rattle.vm_rule.specs.Prelude.{HoldsNoPage, numbers}
 use Rattle.vm_step.specs.Prelude.{Did, IsAlone, KnowsUnheld, UnlockedExpected, View}
@@ -17,105 +17,109 @@ use Rattle.vm_tree_laws.specs.Tied.{Tied}
 use Rattle.vm_tree_write.specs.declared.tries.TrySplit.{TrySplit}
 use Rattle.vm_tree_write.specs.declared.tries.TrySplit.TheVariants as tries
 
--- the first page was locked at its guard's version, and then the second
-pub record AreLocked (first second : OptGuard) (up low : ExclusiveGuard) (v w : View Said) : Type 0 where
-  pub between : View Said
-  pub up_page : up.pid ≡ first.pid
-  pub up_version : up.version ≡ version_of first.word
-  pub up_locked : IsLocked Tied first.pid up.frame up.version up.dirty v between
-  pub low_page : low.pid ≡ second.pid
-  pub low_version : low.version ≡ version_of second.word
-  pub low_locked : IsLocked Tied second.pid low.frame low.version low.dirty between w
+module _ {X : Type 0} (L : Layout) where
+  -- the first page was locked at its guard's version, and then the second
+  pub record AreLocked (first second : OptGuard) (up low : ExclusiveGuard) (v w : View X) : Type 0 where
+    pub between : View X
+    pub up_page : up.pid ≡ first.pid
+    pub up_version : up.version ≡ version_of first.word
+    pub up_locked : IsLocked (Tied L) first.pid up.frame up.version up.dirty v between
+    pub low_page : low.pid ≡ second.pid
+    pub low_version : low.version ≡ version_of second.word
+    pub low_locked : IsLocked (Tied L) second.pid low.frame low.version low.dirty between w
 
--- frames were taken, both pages were locked, and n pages were claimed, those from x on
-pub record AreTaken (n : ℕ) (first second : OptGuard) (up low : ExclusiveGuard) (pages : List ExclusiveGuard) (v w : View Said) : Type 0 where
-  pub asked : View Said
-  pub done : List Did
-  pub moves : MovesFrames done v asked
-  pub locked : View Said
-  pub locks : AreLocked first second up low asked locked
-  pub x : ℕ
-  pub before : List ℕ
-  pub after : List ℕ
-  pub fresh : AreFresh (numbers x n) x n pages before after locked w
+  -- frames were taken, both pages were locked, and n pages were claimed, those from x on
+  pub record AreTaken (n : ℕ) (first second : OptGuard) (up low : ExclusiveGuard) (pages : List ExclusiveGuard) (v w : View X) : Type 0 where
+    pub asked : View X
+    pub done : List Did
+    pub moves : MovesFrames done v asked
+    pub locked : View X
+    pub locks : AreLocked first second up low asked locked
+    pub x : ℕ
+    pub before : List ℕ
+    pub after : List ℕ
+    pub fresh : AreFresh (numbers x n) x n pages before after locked w
 
--- the next word was loaded, which left room for n pages, and then all was taken
-pub record IsPrepared (n : ℕ) (first second : OptGuard) (up low : ExclusiveGuard) (pages : List ExclusiveGuard) (v w : View Said) : Type 0 where
-  pub next : ℕ
-  pub roomy : View Said
-  pub room : HasPagesFor n next v roomy
-  pub taken : AreTaken n first second up low pages roomy w
+  -- the next word was loaded, which left room for n pages, and then all was taken
+  pub record IsPrepared (n : ℕ) (first second : OptGuard) (up low : ExclusiveGuard) (pages : List ExclusiveGuard) (v w : View X) : Type 0 where
+    pub next : ℕ
+    pub roomy : View X
+    pub room : HasPagesFor n next v roomy
+    pub taken : AreTaken n first second up low pages roomy w
 
--- a pass that is alone knows that both pages are free, at the words of their guards
-pub record KnowsBoth (first second : OptGuard) (v : View Said) : Type 0 where
-  pub alone : IsAlone v
-  pub free : IsUnlockedWord first.word × IsUnlockedWord second.word
-  pub words : (known_word first.pid v ≡ first.word) × (known_word second.pid v ≡ second.word)
+module _ {X : Type 0} where
+  -- a pass that is alone knows that both pages are free, at the words of their guards
+  pub record KnowsBoth (first second : OptGuard) (v : View X) : Type 0 where
+    pub alone : IsAlone v
+    pub free : IsUnlockedWord first.word × IsUnlockedWord second.word
+    pub words : (known_word first.pid v ≡ first.word) × (known_word second.pid v ≡ second.word)
 
--- and that they are below the next page; it holds nothing, and knows that nobody else does
-pub record KnowsToSplit (first second : OptGuard) (v : View Said) : Type 0 where
-  pub both : KnowsBoth first second v
-  pub below : (first.pid < known_next v) × (second.pid < known_next v)
-  pub holds : HoldsNoPage v
-  pub unheld : KnowsUnheld v
+  -- and that they are below the next page; it holds nothing, and knows that nobody else does
+  pub record KnowsToSplit (first second : OptGuard) (v : View X) : Type 0 where
+    pub both : KnowsBoth first second v
+    pub below : (first.pid < known_next v) × (second.pid < known_next v)
+    pub holds : HoldsNoPage v
+    pub unheld : KnowsUnheld v
 
--- two pages that the pass held were released, the second one first, and then frames were moved
-pub record GivesUpBoth (up low : ExclusiveGuard) (v w : View Said) : Type 0 where
-  pub between : View Said
-  pub released : View Said
-  pub low_back : IsReleased low.pid low.version None v between
-  pub up_back : IsReleased up.pid up.version None between released
-  pub done : List Did
-  pub moves : MovesFrames done released w
+  -- two pages that the pass held were released, the second one first, and then frames were moved
+  pub record GivesUpBoth (up low : ExclusiveGuard) (v w : View X) : Type 0 where
+    pub between : View X
+    pub released : View X
+    pub low_back : IsReleased low.pid low.version None v between
+    pub up_back : IsReleased up.pid up.version None between released
+    pub done : List Did
+    pub moves : MovesFrames done released w
 
 -- ---- what was refused
 
--- one frame more was asked for beside these, and the answer was this one; then these went back
-pub record IsSecondRefused (frames : List ℕ) (answer : Alloc) (v w : View Said) : Type 0 where
-  pub home : ℕ
-  pub cap : ℕ
-  pub old : List ℕ
-  pub empty : List ℕ
-  pub new : List ℕ
-  pub between : View Said
-  pub alloc : IsAlloc home cap 1 old empty v between answer
-  pub freed : IsFreed cap empty frames new between w
+module _ {X : Type 0} where
+  -- one frame more was asked for beside these, and the answer was this one; then these went back
+  pub record IsSecondRefused (frames : List ℕ) (answer : Alloc) (v w : View X) : Type 0 where
+    pub home : ℕ
+    pub cap : ℕ
+    pub old : List ℕ
+    pub empty : List ℕ
+    pub new : List ℕ
+    pub between : View X
+    pub alloc : IsAlloc home cap 1 old empty v between answer
+    pub freed : IsFreed cap empty frames new between w
 
--- n frames were asked for, and this was the answer; or two were, one was given, and this was the answer when one more was asked for
-pub data IsShort (n : ℕ) (answer : Alloc) (v w : View Said) : Type 0 where
-  at_once : (home cap : ℕ) (old new : List ℕ) → IsAlloc home cap n old new v w answer → IsShort n answer v w
-  after_one : (home cap : ℕ) (old new frames : List ℕ) (x : View Said) → n ≡ 2 → length frames ≡ 1 → IsAlloc home cap 2 old new v x (allocs.Batch frames) → IsSecondRefused frames answer x w → IsShort n answer v w
+  -- n frames were asked for, and this was the answer; or two were, one was given, and this was the answer when one more was asked for
+  pub data IsShort (n : ℕ) (answer : Alloc) (v w : View X) : Type 0 where
+    at_once : (home cap : ℕ) (old new : List ℕ) → IsAlloc home cap n old new v w answer → IsShort n answer v w
+    after_one : (home cap : ℕ) (old new frames : List ℕ) (x : View X) → n ≡ 2 → length frames ≡ 1 → IsAlloc home cap 2 old new v x (allocs.Batch frames) → IsSecondRefused frames answer x w → IsShort n answer v w
 
--- one of two pages could not be locked at its guard's version: the first one; or the second one, and the first one was locked before, and released
--- again with the words that it had
-pub data IsLockDenied (first second : OptGuard) (deny : Deny) (v w : View Said) : Type 0 where
-  first_denied : IsDenied AgainOrWorn (KeptWord first.word) UnlockedExpected first.pid deny v w → IsLockDenied first second deny v w
-  second_denied : (frame version : ℕ) (dirty : Bool) (x y : View Said) → version ≡ version_of first.word → IsLocked Tied first.pid frame version dirty v x → IsDenied AgainOrWorn (KeptWord second.word) UnlockedExpected second.pid deny x y → IsReleased first.pid version None y w → IsLockDenied first second deny v w
+module _ {X : Type 0} (L : Layout) where
+  -- one of two pages could not be locked at its guard's version: the first one; or the second one, and the first one was locked before, and released
+  -- again with the words that it had
+  pub data IsLockDenied (first second : OptGuard) (deny : Deny) (v w : View X) : Type 0 where
+    first_denied : IsDenied AgainOrWorn (KeptWord first.word) UnlockedExpected first.pid deny v w → IsLockDenied first second deny v w
+    second_denied : (frame version : ℕ) (dirty : Bool) (x y : View X) → version ≡ version_of first.word → IsLocked (Tied L) first.pid frame version dirty v x → IsDenied AgainOrWorn (KeptWord second.word) UnlockedExpected second.pid deny x y → IsReleased first.pid version None y w → IsLockDenied first second deny v w
 
--- frames were taken, one of the two pages could not be locked, and frames went back
-pub record IsNotLocked (first second : OptGuard) (deny : Deny) (v w : View Said) : Type 0 where
-  pub asked : View Said
-  pub done : List Did
-  pub moves : MovesFrames done v asked
-  pub back : View Said
-  pub denied : IsLockDenied first second deny asked back
-  pub freed : List Did
-  pub frees : MovesFrames freed back w
+  -- frames were taken, one of the two pages could not be locked, and frames went back
+  pub record IsNotLocked (first second : OptGuard) (deny : Deny) (v w : View X) : Type 0 where
+    pub asked : View X
+    pub done : List Did
+    pub moves : MovesFrames done v asked
+    pub back : View X
+    pub denied : IsLockDenied first second deny asked back
+    pub freed : List Did
+    pub frees : MovesFrames freed back w
 
--- frames were taken, both pages were locked, n fresh pages were asked for, and the answer was this one; then all was given up
-pub record IsRefusedPages (n : ℕ) (first second : OptGuard) (answer : Fresh) (v w : View Said) : Type 0 where
-  pub asked : View Said
-  pub done : List Did
-  pub moves : MovesFrames done v asked
-  pub up : ExclusiveGuard
-  pub low : ExclusiveGuard
-  pub locked : View Said
-  pub locks : AreLocked first second up low asked locked
-  pub before : List ℕ
-  pub after : List ℕ
-  pub refused : View Said
-  pub fresh : IsFreshAnswer n before after locked refused answer
-  pub back : GivesUpBoth up low refused w
+  -- frames were taken, both pages were locked, n fresh pages were asked for, and the answer was this one; then all was given up
+  pub record IsRefusedPages (n : ℕ) (first second : OptGuard) (answer : Fresh) (v w : View X) : Type 0 where
+    pub asked : View X
+    pub done : List Did
+    pub moves : MovesFrames done v asked
+    pub up : ExclusiveGuard
+    pub low : ExclusiveGuard
+    pub locked : View X
+    pub locks : AreLocked L first second up low asked locked
+    pub before : List ℕ
+    pub after : List ℕ
+    pub refused : View X
+    pub fresh : IsFreshAnswer n before after locked refused answer
+    pub back : GivesUpBoth up low refused w
 
 -- what a try of a split answers where frames were refused so
 abbrev pub SaysShort : Alloc → TrySplit → Type 0
@@ -137,23 +141,26 @@ SaysRefused (freshes.Again saw) answer = answer ≡ tries.Again saw
 SaysRefused (freshes.Worn p) answer = answer ≡ tries.Worn p
 SaysRefused (freshes.Full pages next need) answer = answer ≡ tries.Full pages next need
 
--- Why frames, locks and n pages were not all taken: there were no frames for the pages; one of the two could not be locked; or there were no fresh
--- pages by then
-pub data IsUntaken (n : ℕ) (first second : OptGuard) (v w : View Said) (answer : TrySplit) : Type 0 where
-  short : (refused : Alloc) → IsShort n refused v w → SaysShort refused answer → IsUntaken n first second v w answer
-  unlocked : (deny : Deny) → IsNotLocked first second deny v w → SaysDenied deny answer → IsUntaken n first second v w answer
-  unclaimed : (refused : Fresh) → IsRefusedPages n first second refused v w → SaysRefused refused answer → IsUntaken n first second v w answer
+module _ {X : Type 0} (L : Layout) where
+  -- Why frames, locks and n pages were not all taken: there were no frames for the pages; one of the two could not be locked; or there were no fresh
+  -- pages by then
+  pub data IsUntaken (n : ℕ) (first second : OptGuard) (v w : View X) (answer : TrySplit) : Type 0 where
+    short : (refused : Alloc) → IsShort n refused v w → SaysShort refused answer → IsUntaken n first second v w answer
+    unlocked : (deny : Deny) → IsNotLocked L first second deny v w → SaysDenied deny answer → IsUntaken n first second v w answer
+    unclaimed : (refused : Fresh) → IsRefusedPages L n first second refused v w → SaysRefused refused answer → IsUntaken n first second v w answer
 
 -- ---- what a part of the preparation answers where it was refused
 
--- one frame more was refused
-abbrev pub LacksSecond : List ℕ → TrySplit → View Said → View Said → Type 0
-LacksSecond frames answer v w = (refused : Alloc) × IsSecondRefused frames refused v w × SaysShort refused answer
+module _ {X : Type 0} where
+  -- one frame more was refused
+  abbrev pub LacksSecond : List ℕ → TrySplit → View X → View X → Type 0
+  LacksSecond frames answer v w = (refused : Alloc) × IsSecondRefused frames refused v w × SaysShort refused answer
 
--- n frames were not to be had
-abbrev pub LacksFrames : ℕ → TrySplit → View Said → View Said → Type 0
-LacksFrames n answer v w = (refused : Alloc) × IsShort n refused v w × SaysShort refused answer
+  -- n frames were not to be had
+  abbrev pub LacksFrames : ℕ → TrySplit → View X → View X → Type 0
+  LacksFrames n answer v w = (refused : Alloc) × IsShort n refused v w × SaysShort refused answer
 
--- the two pages were not both locked
-abbrev pub LacksLocks : OptGuard → OptGuard → TrySplit → View Said → View Said → Type 0
-LacksLocks first second answer v w = (deny : Deny) × IsLockDenied first second deny v w × SaysDenied deny answer
+module _ {X : Type 0} (L : Layout) where
+  -- the two pages were not both locked
+  abbrev pub LacksLocks : OptGuard → OptGuard → TrySplit → View X → View X → Type 0
+  LacksLocks first second answer v w = (deny : Deny) × IsLockDenied L first second deny v w × SaysDenied deny answer

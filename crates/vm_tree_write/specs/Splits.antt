@@ -1,15 +1,14 @@
 -- What a split of a full node does: its pages are locked, written and released together.
-use Rattle.std.specs.Prelude.{[], ◌++◌, ◌<◌, ◌∷◌, ◌≡◌, ◌≢◌, ◌⊎◌, false, length, List, None, replicate, slice_index, Some, true, ℕ}
-use Rattle.vm_map.specs.{declared.call.Said.Said, declared.window.TheConstants.MOST_PAIRS}
-use Rattle.vm_tree_model.specs.{Edits.child_of, Node.Covers}
-use Rattle.vm_tree_model.specs.Page.{IsInner, node_of, pairs_of}
-use Rattle.vm_core.specs.Prelude.{WORDS}
+use Rattle.std.specs.Prelude.{[], ◌++◌, ◌<◌, ◌∷◌, ◌≡◌, ◌≢◌, ◌≤◌, ◌⊎◌, false, length, List, None, replicate, slice_index, Some, true, ℕ}
+use Rattle.vm_map.specs.declared.call.Said.{Said}
+use Rattle.vm_tree_model.specs.{Edits.child_of, Layout.Layout, Node.Covers}
+use Rattle.vm_tree_model.specs.Page.{IsInner, IsLeaf, node_of}
 use Rattle.vm_rule.specs.declared.view.Place.{Place}
 use Rattle.vm_rule.specs.Prelude.{AreApart, began_of, changes_of, draft_of, Each, has, IsLocking, last_of, seat_of, StartsWith, without_all}
 use Rattle.vm_step.specs.Prelude.{Did, HoldsPage, IsAlone, KnowsAsBefore, StaysAlone, View}
 use Rattle.vm_guard.specs.declared.exclusive.ExclusiveGuard.{ExclusiveGuard}
 use Rattle.vm_guard.specs.Groups.{AreReleased, GuardsHeld, pids_of}
-use Rattle.vm_tree_laws.specs.May.{MayRelease}
+use Rattle.vm_tree_laws.specs.Plain.{ReleasesPlain}
 use Rattle.vm_tree_write.specs.Drafts.{IsDraftPlace, KnowsSameStates}
 
 -- the place is one at which the page of one of these guards is drafted
@@ -67,58 +66,63 @@ module _ {X : Type 0} where
     pub alone : IsAlone v → (q : ℕ) → has q pages ≡ false → (last_of w q).words ≡ (last_of v q).words
     pub released : (q : ℕ) → has q pages ≡ true → ((seat_of w q).shares ≡ (seat_of v q).shares) × ((seat_of w q).exclusive ≡ false) × ((seat_of w q).writing ≡ (seat_of v q).writing)
 
--- a node, its parent and a fresh page have these words, and the key leads from the parent to the node
-pub record AreToSplit (up low right : ℕ) (over page : List ℕ) (v : View Said) : Type 0 where
-  pub above : HasDraft up over over v
-  pub node : HasDraft low page page v
-  pub fresh : HasDraft right (replicate WORDS 0) (replicate WORDS 0) v
-  pub inner : IsInner over
-  pub names : (key : ℕ) × Covers (node_of over) key × (child_of over key ≡ Some low)
+module _ {X : Type 0} (L : Layout) where
+  -- a node, its parent and a fresh page have these words, and the key leads from the parent to the node
+  pub record AreToSplit (up low right : ℕ) (over page : List ℕ) (v : View X) : Type 0 where
+    pub above : HasDraft up over over v
+    pub node : HasDraft low page page v
+    pub kind : IsLeaf L page ⊎ IsInner L page
+    pub fresh : HasDraft right (replicate L.words 0) (replicate L.words 0) v
+    pub inner : IsInner L over
+    pub names : (key : ℕ) × Covers (node_of L over) key × (child_of L over key ≡ Some low)
 
--- the pass holds a full node, its parent with room, and a fresh page; and where blocks tell their words these are the pages' words, and the key
--- leads from the parent to the node
-pub record CanSplit (up low right : ExclusiveGuard) (over page : List ℕ) (v : View Said) : Type 0 where
-  pub home : v.out ≡ None
-  pub held : GuardsHeld v (up ∷ low ∷ right ∷ [])
-  pub apart : AreApart (up.pid ∷ low.pid ∷ right.pid ∷ [])
-  pub owed : has right.pid v.owed ≡ true
-  pub room : length (pairs_of over) < MOST_PAIRS
-  pub full : length (pairs_of page) ≡ MOST_PAIRS
-  pub told : v.start.tells ≡ true → AreToSplit up.pid low.pid right.pid over page v
+  -- page 0 names the root at this height, the root has these words, and the fresh pages have none
+  pub record IsRootToSplit (meta low right top : ℕ) (height : ℕ) (page : List ℕ) (v : View X) : Type 0 where
+    pub names : (slice_index (last_of v meta).words 1 ≡ low) × (slice_index (last_of v meta).words 2 ≡ height)
+    pub claimed : (last_of v meta).words ≢ replicate L.words 0
+    pub node : HasDraft low page page v
+    pub kind : IsLeaf L page ⊎ IsInner L page
+    pub fresh : HasDraft right (replicate L.words 0) (replicate L.words 0) v × HasDraft top (replicate L.words 0) (replicate L.words 0) v
 
--- page 0 names the root at this height, the root has these words, and the fresh pages have none
-pub record IsRootToSplit (meta low right top : ℕ) (height : ℕ) (page : List ℕ) (v : View Said) : Type 0 where
-  pub names : (slice_index (last_of v meta).words 1 ≡ low) × (slice_index (last_of v meta).words 2 ≡ height)
-  pub claimed : (last_of v meta).words ≢ replicate WORDS 0
-  pub node : HasDraft low page page v
-  pub fresh : HasDraft right (replicate WORDS 0) (replicate WORDS 0) v × HasDraft top (replicate WORDS 0) (replicate WORDS 0) v
+module _ {X : Type 0} (L : Layout) (spare : List ℕ → ℕ) where
+  -- the pass holds a full node, its parent with room, and a fresh page; and where blocks tell their words these are the pages' words, and the key
+  -- leads from the parent to the node
+  pub record CanSplit (up low right : ExclusiveGuard) (over page : List ℕ) (v : View X) : Type 0 where
+    pub home : v.out ≡ None
+    pub held : GuardsHeld v (up ∷ low ∷ right ∷ [])
+    pub apart : AreApart (up.pid ∷ low.pid ∷ right.pid ∷ [])
+    pub owed : has right.pid v.owed ≡ true
+    pub room : L.growth ≤ spare over
+    pub full : spare page < L.growth
+    pub told : v.start.tells ≡ true → AreToSplit L up.pid low.pid right.pid over page v
 
--- the pass holds page 0, the full root that it names at this height, and two fresh pages; what is said of words holds where blocks tell theirs
-pub record CanSplitRoot (meta low right top : ExclusiveGuard) (height : ℕ) (page : List ℕ) (v : View Said) : Type 0 where
-  pub home : v.out ≡ None
-  pub held : GuardsHeld v (meta ∷ low ∷ right ∷ top ∷ [])
-  pub apart : AreApart (meta.pid ∷ low.pid ∷ right.pid ∷ top.pid ∷ [])
-  pub zero : meta.pid ≡ 0
-  pub same : draft_of v meta.pid ≡ (last_of v meta.pid).words
-  pub owed : (has right.pid v.owed ≡ true) × (has top.pid v.owed ≡ true)
-  pub full : length (pairs_of page) ≡ MOST_PAIRS
-  pub told : v.start.tells ≡ true → IsRootToSplit meta.pid low.pid right.pid top.pid height page v
+  -- the pass holds page 0, the full root that it names at this height, and two fresh pages; what is said of words holds where blocks tell theirs
+  pub record CanSplitRoot (meta low right top : ExclusiveGuard) (height : ℕ) (page : List ℕ) (v : View X) : Type 0 where
+    pub home : v.out ≡ None
+    pub held : GuardsHeld v (meta ∷ low ∷ right ∷ top ∷ [])
+    pub apart : AreApart (meta.pid ∷ low.pid ∷ right.pid ∷ top.pid ∷ [])
+    pub zero : meta.pid ≡ 0
+    pub same : draft_of v meta.pid ≡ (last_of v meta.pid).words
+    pub owed : (has right.pid v.owed ≡ true) × (has top.pid v.owed ≡ true)
+    pub full : spare page < L.growth
+    pub told : v.start.tells ≡ true → IsRootToSplit L meta.pid low.pid right.pid top.pid height page v
 
--- These pages were written and released as a group, with no entry: drafts were set, no page's last words changed, and in the view `held` the drafts
--- are a split of the tree, where blocks tell their words
-pub record IsSplitUp (pages : List ℕ) (v w : View Said) : Type 0 where
-  pub held : View Said
-  pub first : ExclusiveGuard
-  pub rest : List ExclusiveGuard
-  pub stays : Stays (first ∷ rest) v held
-  pub pids : pids_of (first ∷ rest) ≡ pages
-  pub several : (length rest ≡ 2) ⊎ (length rest ≡ 3)
-  pub released : AreReleased first rest None held w
-  pub may : held.start.tells ≡ true → MayRelease (began_of held.start) held.owed (changes_of held pages) []
-  pub done : IsGroupDone pages v w
+module _ {S : Type 0} (plain : S → Said) (L : Layout) where
+  -- These pages were written and released as a group, with no entry: drafts were set, no page's last words changed, and in the view `held` the drafts
+  -- are a split of the tree, where blocks tell their words
+  pub record IsSplitUp (pages : List ℕ) (v w : View S) : Type 0 where
+    pub held : View S
+    pub first : ExclusiveGuard
+    pub rest : List ExclusiveGuard
+    pub stays : Stays (first ∷ rest) v held
+    pub pids : pids_of (first ∷ rest) ≡ pages
+    pub several : (length rest ≡ 2) ⊎ (length rest ≡ 3)
+    pub released : AreReleased first rest None held w
+    pub may : held.start.tells ≡ true → ReleasesPlain plain L (began_of held.start) held.owed (changes_of held pages) []
+    pub done : IsGroupDone pages v w
 
 -- a try of a split left this, whatever it answered: the pass holds just the locks that it held, and made no entry
-pub record KeepsLocksOnly (v w : View Said) : Type 0 where
+pub record KeepsLocksOnly {X : Type 0} (v w : View X) : Type 0 where
   pub start : w.start ≡ v.start
   pub parts : (w.used ≡ v.used) × (w.fresh ≡ v.fresh)
   pub mine : w.mine ≡ v.mine

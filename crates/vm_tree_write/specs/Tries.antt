@@ -6,6 +6,7 @@ use Rattle.vm_step.specs.declared.saw.Saw.{Saw}
 use Rattle.vm_exmap.specs.Frames.{MovesFrames}
 use Rattle.vm_guard.specs.{declared.exclusive.ExclusiveGuard.ExclusiveGuard, declared.opt.OptGuard.OptGuard, Fresh.HasPagesFor, Fresh.IsFull}
 use Rattle.vm_guard.specs.{Groups.pids_of, Guards.IsValid}
+use Rattle.vm_tree_model.specs.Layout.{Layout}
 use Rattle.vm_tree_laws.specs.Tied.{Tied}
 use Rattle.vm_tree_rule.specs.{Leaves.ReadsOn, Shown.IsAgain, Shown.IsSeen, Turns.IsAstray, Turns.IsNeeded}
 use Rattle.vm_tree_rule.specs.Seeks.{IsFullBelow, IsRoomy, IsRootFull}
@@ -13,61 +14,62 @@ use Rattle.vm_tree_write.specs.{declared.tries.TrySplit.TrySplit, Splits.IsSplit
 use Rattle.vm_tree_write.specs.declared.tries.TrySplit.TheVariants as tries
 use Rattle.vm_tree_write.specs.Prepares.{IsPrepared, IsUntaken}
 
--- the pages were prepared, and then released in a group, which splits the second one; what frames were left went back
-pub record HasSplit (n : ℕ) (first second : OptGuard) (v w : View Said) : Type 0 where
-  pub up : ExclusiveGuard
-  pub low : ExclusiveGuard
-  pub pages : List ExclusiveGuard
-  pub before : View Said
-  pub prepared : IsPrepared n first second up low pages v before
-  pub after : View Said
-  pub split : IsSplitUp (first.pid ∷ second.pid ∷ pids_of pages) before after
-  pub done : List Did
-  pub freed : MovesFrames done after w
-
--- the leaf, the last page of a descent that met no full node, was validated
-pub record MetNoFullNode (v : View Said) (key : ℕ) (w : View Said) : Type 0 where
-  pub leaf : OptGuard
-  pub loaded : List (ℕ × ℕ)
-  pub found : View Said
-  pub roomy : IsRoomy v key leaf loaded found
-  pub valid : IsValid Tied leaf.pid leaf.word leaf.frame None found w
-
--- Why nothing was split for which n fresh pages and these two pages were needed: the next word, which was loaded first, left too few pages, and then
--- that load was all that was done; or it left room, and what is needed was not all taken
-pub data IsUnsplit (n : ℕ) (first second : OptGuard) (v w : View Said) (answer : TrySplit) : Type 0 where
-  full : (pages next need : ℕ) → IsFull n pages next need v w → answer ≡ tries.Full pages next need → IsUnsplit n first second v w answer
-  untaken :
-      (next : ℕ) (roomy : View Said) → HasPagesFor n next v roomy → IsUntaken n first second roomy w answer → IsUnsplit n first second v w answer
-
--- what came of a full node, the second page: it was split, or the answer tells why not
-abbrev pub IsEndOf : ℕ → OptGuard → OptGuard → View Said → View Said → TrySplit → Type 0
-IsEndOf n first second v w answer = ((answer ≡ tries.Split) × HasSplit n first second v w) ⊎ IsUnsplit n first second v w answer
-
--- the first full node on the way of the key is the root, which page 0 names, or a node whose parent has room; and this came of it
-pub data IsEnded (v : View Said) (key : ℕ) (w : View Said) (answer : TrySplit) : Type 0 where
-  root : (meta low : OptGuard) (height : ℕ) (page : List ℕ) (x : View Said) → ReadsOn v x → IsRootFull v key meta low height page x → IsEndOf 2 meta low x w answer → IsEnded v key w answer
-  below : (parent node : OptGuard) (over page : List ℕ) (x : View Said) → ReadsOn v x → IsFullBelow v key parent node over page x → IsEndOf 1 parent node x w answer → IsEnded v key w answer
-
 -- the steps from v to w show both words: of the state word of a page, of a bundle or of the next page
-pub record IsBackedBy (v : View Said) (saw : Saw) (w : View Said) : Type 0 where
+pub record IsBackedBy {X : Type 0} (v : View X) (saw : Saw) (w : View X) : Type 0 where
   pub done : List Did
   pub log : w.log ≡ v.log ++ done
   pub seen : IsSeen UnlockedExpected done saw
 
--- the cause of each answer; where the search for a full node was not ended the call only read
-abbrev pub IsCause : ℕ → TrySplit → View Said → View Said → Type 0
-IsCause key tries.Split v w = IsEnded v key w tries.Split
-IsCause key tries.Roomy v w = MetNoFullNode v key w
-IsCause key (tries.Need p) v w = ReadsOn v w × IsNeeded v key p w
-IsCause key (tries.Again saw) v w = (IsBackedBy v saw w × ((ReadsOn v w × IsAgain v saw w) ⊎ IsEnded v key w (tries.Again saw))) ⊎ (ReadsOn v w × IsAstray v key saw w)
-IsCause key (tries.Worn p) v w = IsEnded v key w (tries.Worn p)
-IsCause key tries.Dry v w = IsEnded v key w tries.Dry
-IsCause key (tries.Full pages next need) v w = IsEnded v key w (tries.Full pages next need)
+module _ {S : Type 0} (plain : S → Said) (L : Layout) (spare : List ℕ → ℕ) where
+  -- the pages were prepared, and then released in a group, which splits the second one; what frames were left went back
+  pub record HasSplit (n : ℕ) (first second : OptGuard) (v w : View S) : Type 0 where
+    pub up : ExclusiveGuard
+    pub low : ExclusiveGuard
+    pub pages : List ExclusiveGuard
+    pub before : View S
+    pub prepared : IsPrepared L n first second up low pages v before
+    pub after : View S
+    pub split : IsSplitUp plain L (first.pid ∷ second.pid ∷ pids_of pages) before after
+    pub done : List Did
+    pub freed : MovesFrames done after w
 
--- what a try of a split of the first full node on the way of the key answers. In every case the pass holds what it held, and made no entry
-abbrev pub IsTrySplit : ℕ → TrySplit → View Said → View Said → Type 0
-IsTrySplit key answer v w = KeepsLocksOnly v w × IsCause key answer v w
+  -- the leaf, the last page of a descent that met no full node, was validated
+  pub record MetNoFullNode (v : View S) (key : ℕ) (w : View S) : Type 0 where
+    pub leaf : OptGuard
+    pub loaded : List (ℕ × ℕ)
+    pub found : View S
+    pub roomy : IsRoomy L spare v key leaf loaded found
+    pub valid : IsValid (Tied L) leaf.pid leaf.word leaf.frame None found w
+
+  -- Why nothing was split for which n fresh pages and these two pages were needed: the next word, which was loaded first, left too few pages, and then
+  -- that load was all that was done; or it left room, and what is needed was not all taken
+  pub data IsUnsplit (n : ℕ) (first second : OptGuard) (v w : View S) (answer : TrySplit) : Type 0 where
+    full : (pages next need : ℕ) → IsFull n pages next need v w → answer ≡ tries.Full pages next need → IsUnsplit n first second v w answer
+    untaken :
+        (next : ℕ) (roomy : View S) → HasPagesFor n next v roomy → IsUntaken L n first second roomy w answer → IsUnsplit n first second v w answer
+
+  -- what came of a full node, the second page: it was split, or the answer tells why not
+  abbrev pub IsEndOf : ℕ → OptGuard → OptGuard → View S → View S → TrySplit → Type 0
+  IsEndOf n first second v w answer = ((answer ≡ tries.Split) × HasSplit n first second v w) ⊎ IsUnsplit n first second v w answer
+
+  -- the first full node on the way of the key is the root, which page 0 names, or a node whose parent has room; and this came of it
+  pub data IsEnded (v : View S) (key : ℕ) (w : View S) (answer : TrySplit) : Type 0 where
+    root : (meta low : OptGuard) (height : ℕ) (page : List ℕ) (x : View S) → ReadsOn v x → IsRootFull L spare v key meta low height page x → IsEndOf 2 meta low x w answer → IsEnded v key w answer
+    below : (parent node : OptGuard) (over page : List ℕ) (x : View S) → ReadsOn v x → IsFullBelow L spare v key parent node over page x → IsEndOf 1 parent node x w answer → IsEnded v key w answer
+
+  -- the cause of each answer; where the search for a full node was not ended the call only read
+  abbrev pub IsCause : ℕ → TrySplit → View S → View S → Type 0
+  IsCause key tries.Split v w = IsEnded v key w tries.Split
+  IsCause key tries.Roomy v w = MetNoFullNode v key w
+  IsCause key (tries.Need p) v w = ReadsOn v w × IsNeeded L v key p w
+  IsCause key (tries.Again saw) v w = (IsBackedBy v saw w × ((ReadsOn v w × IsAgain v saw w) ⊎ IsEnded v key w (tries.Again saw))) ⊎ (ReadsOn v w × IsAstray L v key saw w)
+  IsCause key (tries.Worn p) v w = IsEnded v key w (tries.Worn p)
+  IsCause key tries.Dry v w = IsEnded v key w tries.Dry
+  IsCause key (tries.Full pages next need) v w = IsEnded v key w (tries.Full pages next need)
+
+  -- what a try of a split of the first full node on the way of the key answers. In every case the pass holds what it held, and made no entry
+  abbrev pub IsTrySplit : ℕ → TrySplit → View S → View S → Type 0
+  IsTrySplit key answer v w = KeepsLocksOnly v w × IsCause key answer v w
 
 -- something was split, or need not be, or can't be
 abbrev pub IsFinalSplit : TrySplit → Type 0

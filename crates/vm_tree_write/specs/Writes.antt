@@ -1,9 +1,9 @@
 -- What a write of the tree answers: the reply at the release of the leaf, or why it is to be tried again.
-use Rattle.std.specs.Prelude.{[], ◌++◌, ◌+◌, ◌∷◌, ◌≡◌, ◌≢◌, ◌⊎◌, Bool, length, List, None, Option, slice_index, Some, true, ℕ}
+use Rattle.std.specs.Prelude.{[], ◌++◌, ◌+◌, ◌∷◌, ◌≡◌, ◌≢◌, ◌⊎◌, Bool, List, None, Option, slice_index, Some, true, ℕ}
 use Rattle.vm_map.specs.{declared.call.Call.TheVariants.Del, declared.call.Call.TheVariants.Put, declared.call.Reply.TheVariants.Gone}
-use Rattle.vm_map.specs.{declared.call.Reply.Reply, declared.call.Said.Said, declared.window.TheConstants.MOST_PAIRS}
+use Rattle.vm_map.specs.{declared.call.Reply.Reply, declared.call.Said.Said}
 use Rattle.vm_map.specs.Map.{lookup_at, Rises}
-use Rattle.vm_tree_model.specs.{Edits.IsFullFor, Node.Covers, Tree.map_of}
+use Rattle.vm_tree_model.specs.{Edits.IsFullFor, Layout.Layout, Node.Covers, Tree.map_of}
 use Rattle.vm_tree_model.specs.Page.{IsLeaf, node_of, pairs_of}
 use Rattle.vm_core.specs.Prelude.{LOCKED, page_at, version_of, word_of}
 use Rattle.vm_rule.specs.Prelude.{began_of, Each, entry_of, IsLocking, IsWhole, Kept, last_of, seat_of, StartsWith}
@@ -14,7 +14,8 @@ use Rattle.vm_step.specs.declared.saw.Saw.{Saw}
 use Rattle.vm_guard.specs.{declared.deny.Deny.Deny, Guards.IsLocked, Guards.IsReading, Guards.IsValid, Quiet.IsUnmark}
 use Rattle.vm_guard.specs.declared.deny.Deny.TheVariants as denies
 use Rattle.vm_guard.specs.Denied.{AgainOrWorn, IsDenied, KeptWord}
-use Rattle.vm_tree_laws.specs.{History.IsLegal, Keeps.KeepsTree, May.IsEdit, Tied.Tied}
+use Rattle.vm_tree_laws.specs.{History.IsLegal, May.IsEdit, Plain.KeepsPlain, Plain.plain_history, Tied.Tied}
+use Rattle.vm_kind.specs.Room.{HasRoomFor, IsTightFor}
 use Rattle.vm_tree_rule.specs.{Leaves.ReadsOn, Seeks.HasLoaded, Seeks.HasRead, Shown.IsShown, Standing.Awaits, Standing.IsOpened}
 use Rattle.vm_tree_rule.specs.Turns.{IsAstray, IsNeeded, TellLeaf}
 use Rattle.vm_node.specs.Loads.{IsPageWith}
@@ -51,124 +52,122 @@ module _ {X : Type 0} where
     pub current : w.current ≡ true
     pub alone : IsWhole v → v.current ≡ true → (q : ℕ) → q ≢ p → (last_of w q).words ≡ (last_of v q).words
 
--- The leaf's words before and after are as the call and its reply ask. At the step that made the entry the pages of the tree, of which the leaf is
--- one, were such that their map is the start's map after the whole history, and the history is legal for the start's map
-pub record IsBorneOutBy (page : ℕ) (old new : List ℕ) (said : Said) (v w : View Said) : Type 0 where
-  pub legal : IsLegal (map_of v.start.contents) w.seen
-  pub kept : Kept Said
-  pub keeps : KeepsTree (began_of v.start) kept
-  pub history : kept.history ≡ w.seen
-  pub logical : page_at kept.pages page ≡ new
-  pub last : (last_of w page).words ≡ new
-  pub leaf : IsLeaf old
-  pub edit : IsEdit old new said.call said.reply
+-- words of a leaf that covers the key, has no room for a pair of it, and not the key
+pub record IsFullLeaf (L : Layout) (words : List ℕ) (key : ℕ) : Type 0 where
+  pub leaf : IsLeaf L words
+  pub covers : Covers (node_of L words) key
+  pub full : IsFullFor L words key
 
--- The call with its reply became the last entry, under the pass's first number and its next count, at the release of a leaf that the call had
--- locked, right after it had read it and at that version. Of the words that were read only those were stored that the call changes, each as it is
--- afterwards, in the frame in which the leaf was locked; and where blocks tell their words the entry is borne out
-pub record IsWriteDone (said : Said) (v w : View Said) : Type 0 where
-  pub page : ℕ
-  pub version : ℕ
-  pub word : ℕ
-  pub frame : ℕ
-  pub found : View Said
-  pub earlier : ReadsOn v found
-  pub reading : IsReading page word frame found
-  pub at : version ≡ version_of word
-  pub old : List ℕ
-  pub read : HasRead found page old
-  pub tag : (node_of old).tag ≡ 2
-  pub new : List ℕ
-  pub edit : IsLeaf old → IsEdit old new said.call said.reply
-  pub writes : OnlyWrites page v w
-  pub dirty : Bool
-  pub held : View Said
-  pub taken : IsLocked Tied page writes.frame version dirty found held
-  pub locked : HasWritten writes.done (places.State page) (word_of LOCKED version)
-  pub released : HasWritten writes.done (places.State page) (version + 1)
-  pub mine : w.mine ≡ v.mine ++ entry_of v said ∷ []
-  pub entry : GainsEntry said v [] w
-  pub stores : Each (λ d. (f i : ℕ) → d.at ≡ places.Content f i → (x : ℕ) → d.wrote ≡ Some x → (x ≡ slice_index new i) × (slice_index old i ≢ slice_index new i)) writes.done
-  pub last : (last_of w page).version ≡ version + 1
-  pub told : v.start.tells ≡ true → IsBorneOutBy page old new said v w
+-- each page that has the words loaded has too little of its room left for a pair of the key, and not the key where its keys rise
+abbrev pub TellTight : Layout → (List ℕ → ℕ) → List (ℕ × ℕ) → ℕ → Type 0
+TellTight L spare loaded key = (words : List ℕ) → IsPageWith L.words loaded words → IsTightFor L spare words key
+
+-- where the keys of these words rise, one of them is this key
+abbrev pub HasKeyIn : Layout → List ℕ → ℕ → Type 0
+HasKeyIn L words key = (low high : ℕ) → Rises low high (pairs_of L words) → lookup_at (pairs_of L words) key ≢ None
+
+module _ {X : Type 0} (L : Layout) where
+  -- a page could not be read, or the leaf not be locked at the version that was read, as the steps of the call show; or blocks do not tell their
+  -- words, and those of a page are not what the way to it says
+  abbrev pub IsWriteToTry : View X → ℕ → Saw → View X → Type 0
+  IsWriteToTry v key saw w = IsShown UnlockedExpected v saw w ⊎ IsAstray L v key saw w
+
+  -- the leaf that the descent reached, page p, with the words that were read of it, is at the last version
+  pub record IsWornLeaf (v : View X) (key p : ℕ) (w : View X) : Type 0 where
+    pub word : ℕ
+    pub frame : ℕ
+    pub found : View X
+    pub opened : IsOpened v p word frame found
+    pub awaits : Awaits L found p word 0 key
+    pub words : List ℕ
+    pub read : HasRead found p words
+    pub tag : (node_of L words).tag ≡ 2
+    pub covers : Covers (node_of L words) key
+    pub denied : IsDenied AgainOrWorn (KeptWord word) UnlockedExpected p (denies.Worn p) found w
+
+module _ {X : Type 0} (L : Layout) (spare : List ℕ → ℕ) where
+  -- Words of page p were loaded, and it was validated: each page that has them has a leaf's tag, covers the key, has too little room left, and not the key
+  -- where its keys rise; and where blocks tell their words the page itself has them, and is a leaf, which has not the key
+  pub record IsTight (v : View X) (key p : ℕ) (w : View X) : Type 0 where
+    pub word : ℕ
+    pub frame : ℕ
+    pub found : View X
+    pub opened : IsOpened v p word frame found
+    pub valid : IsValid (Tied L) p word frame None found w
+    pub loaded : List (ℕ × ℕ)
+    pub read : HasLoaded w p loaded
+    pub leaf : TellLeaf L loaded key
+    pub full : TellTight L spare loaded key
+    pub told : v.start.tells ≡ true → IsPageWith L.words loaded (last_of w p).words × IsFullLeaf L (last_of w p).words key
+
+-- What is said may speak of keys in its own way; `plain` reads it with a number for each key, as the call with its reply
+module _ {S : Type 0} (plain : S → Said) (L : Layout) where
+  -- The leaf's words before and after are as the call and its reply ask. At the step that made the entry the pages of the tree, of which the leaf is
+  -- one, were such that their map is the start's map after the whole history, and the history is legal for the start's map
+  pub record IsBorneOutBy (page : ℕ) (old new : List ℕ) (said : Said) (v w : View S) : Type 0 where
+    pub legal : IsLegal (map_of L v.start.contents) (plain_history plain w.seen)
+    pub kept : Kept S
+    pub keeps : KeepsPlain plain L (began_of v.start) kept
+    pub history : kept.history ≡ w.seen
+    pub logical : page_at kept.pages page ≡ new
+    pub last : (last_of w page).words ≡ new
+    pub leaf : IsLeaf L old
+    pub edit : IsEdit L old new said.call said.reply
+
+  -- The call with its reply became the last entry, under the pass's first number and its next count, at the release of a leaf that the call had
+  -- locked, right after it had read it and at that version. Of the words that were read only those were stored that the call changes, each as it is
+  -- afterwards, in the frame in which the leaf was locked; and where blocks tell their words the entry is borne out
+  pub record IsWriteDone (said : Said) (v w : View S) : Type 0 where
+    pub page : ℕ
+    pub version : ℕ
+    pub word : ℕ
+    pub frame : ℕ
+    pub found : View S
+    pub earlier : ReadsOn v found
+    pub reading : IsReading page word frame found
+    pub at : version ≡ version_of word
+    pub old : List ℕ
+    pub read : HasRead found page old
+    pub tag : (node_of L old).tag ≡ 2
+    pub new : List ℕ
+    pub edit : IsLeaf L old → IsEdit L old new said.call said.reply
+    pub writes : OnlyWrites page v w
+    pub dirty : Bool
+    pub held : View S
+    pub taken : IsLocked (Tied L) page writes.frame version dirty found held
+    pub locked : HasWritten writes.done (places.State page) (word_of LOCKED version)
+    pub released : HasWritten writes.done (places.State page) (version + 1)
+    pub says : S
+    pub says_is : plain says ≡ said
+    pub mine : w.mine ≡ v.mine ++ entry_of v says ∷ []
+    pub entry : GainsEntry says v [] w
+    pub stores : Each (λ d. (f i : ℕ) → d.at ≡ places.Content f i → (x : ℕ) → d.wrote ≡ Some x → (x ≡ slice_index new i) × (slice_index old i ≢ slice_index new i)) writes.done
+    pub last : (last_of w page).version ≡ version + 1
+    pub told : v.start.tells ≡ true → IsBorneOutBy page old new said v w
 
 -- a del of a key that its leaf has not: it writes nothing
 abbrev pub IsVain : Said → Type 0
 IsVain said = (key : ℕ) × (said ≡ record { call = Del key; reply = Gone None })
 
--- a page could not be read, or the leaf not be locked at the version that was read, as the steps of the call show; or blocks do not tell their
--- words, and those of a page are not what the way to it says
-abbrev pub IsWriteToTry : View Said → ℕ → Saw → View Said → Type 0
-IsWriteToTry v key saw w = IsShown UnlockedExpected v saw w ⊎ IsAstray v key saw w
+module _ {S : Type 0} (plain : S → Said) (L : Layout) where
+  -- a try of a put: made in a leaf that had the key or room; or the leaf is full; or to be tried again; or for a page that is needed; or such a leaf as
+  -- it could have been made in is at the last version.
+  -- Without a reply the pass has no further entry, and locked nothing
+  abbrev pub IsPut : (List ℕ → ℕ) → ℕ → ℕ → TryWrite → View S → View S → Type 0
+  IsPut spare key value (tries.Done reply) v w = (a : IsWriteDone plain L (record { call = Put key value; reply = reply }) v w) × HasRoomFor L spare a.old key
+  IsPut spare key value (tries.Again saw) v w = ReadsOn v w × IsWriteToTry L v key saw w
+  IsPut spare key value (tries.Need p) v w = ReadsOn v w × IsNeeded L v key p w
+  IsPut spare key value (tries.Worn p) v w = ReadsOn v w × (a : IsWornLeaf L v key p w) × HasRoomFor L spare a.words key
+  IsPut spare key value (tries.Tight p) v w = ReadsOn v w × IsTight L spare v key p w
 
--- the leaf that the descent reached, page p, with the words that were read of it, is at the last version
-pub record IsWornLeaf (v : View Said) (key p : ℕ) (w : View Said) : Type 0 where
-  pub word : ℕ
-  pub frame : ℕ
-  pub found : View Said
-  pub opened : IsOpened v p word frame found
-  pub awaits : Awaits found p word 0 key
-  pub words : List ℕ
-  pub read : HasRead found p words
-  pub tag : (node_of words).tag ≡ 2
-  pub covers : Covers (node_of words) key
-  pub denied : IsDenied AgainOrWorn (KeptWord word) UnlockedExpected p (denies.Worn p) found w
-
--- words of a leaf that covers the key, has 28 pairs and not the key
-pub record IsFullLeaf (words : List ℕ) (key : ℕ) : Type 0 where
-  pub leaf : IsLeaf words
-  pub covers : Covers (node_of words) key
-  pub full : IsFullFor words key
-
--- words of a page with 28 pairs, which has not the key where its keys rise
-pub record IsTightFor (words : List ℕ) (key : ℕ) : Type 0 where
-  pub count : length (pairs_of words) ≡ MOST_PAIRS
-  pub absent : (low high : ℕ) → Rises low high (pairs_of words) → lookup_at (pairs_of words) key ≡ None
-
--- each page that has the words loaded is so
-abbrev pub TellTight : List (ℕ × ℕ) → ℕ → Type 0
-TellTight loaded key = (words : List ℕ) → IsPageWith loaded words → IsTightFor words key
-
--- Words of page p were loaded, and it was validated: each page that has them has a leaf's tag, covers the key, has 28 pairs, and not the key where its
--- keys rise; and where blocks tell their words the page itself has them, and is a leaf, which has not the key
-pub record IsTight (v : View Said) (key p : ℕ) (w : View Said) : Type 0 where
-  pub word : ℕ
-  pub frame : ℕ
-  pub found : View Said
-  pub opened : IsOpened v p word frame found
-  pub valid : IsValid Tied p word frame None found w
-  pub loaded : List (ℕ × ℕ)
-  pub read : HasLoaded w p loaded
-  pub leaf : TellLeaf loaded key
-  pub full : TellTight loaded key
-  pub told : v.start.tells ≡ true → IsPageWith loaded (last_of w p).words × IsFullLeaf (last_of w p).words key
-
--- where the keys of these words rise, one of them is this key
-abbrev pub HasKeyIn : List ℕ → ℕ → Type 0
-HasKeyIn words key = (low high : ℕ) → Rises low high (pairs_of words) → lookup_at (pairs_of words) key ≢ None
-
--- they have the key, or fewer than 28 pairs
-abbrev pub HasRoomFor : List ℕ → ℕ → Type 0
-HasRoomFor words key = ¬ (IsFullFor words key)
-
--- a try of a put: made in a leaf that had the key or room; or the leaf is full; or to be tried again; or for a page that is needed; or such a leaf as
--- it could have been made in is at the last version.
--- Without a reply the pass has no further entry, and locked nothing
-abbrev pub IsPut : ℕ → ℕ → TryWrite → View Said → View Said → Type 0
-IsPut key value (tries.Done reply) v w = (a : IsWriteDone (record { call = Put key value; reply = reply }) v w) × HasRoomFor a.old key
-IsPut key value (tries.Again saw) v w = ReadsOn v w × IsWriteToTry v key saw w
-IsPut key value (tries.Need p) v w = ReadsOn v w × IsNeeded v key p w
-IsPut key value (tries.Worn p) v w = ReadsOn v w × (a : IsWornLeaf v key p w) × HasRoomFor a.words key
-IsPut key value (tries.Tight p) v w = ReadsOn v w × IsTight v key p w
-
--- a try of a del: made in a leaf that has the key, which may be at the last version; or answered by a validation of a leaf that has it not, which locks
--- nothing, at whatever version
-abbrev pub IsDel : ℕ → TryWrite → View Said → View Said → Type 0
-IsDel key (tries.Done reply) v w = (IsWriteDone (record { call = Del key; reply = reply }) v w × ¬ (IsVain (record { call = Del key; reply = reply }))) ⊎ (IsAnswered (record { call = Del key; reply = reply }) v w × IsVain (record { call = Del key; reply = reply }))
-IsDel key (tries.Again saw) v w = ReadsOn v w × IsWriteToTry v key saw w
-IsDel key (tries.Need p) v w = ReadsOn v w × IsNeeded v key p w
-IsDel key (tries.Worn p) v w = ReadsOn v w × (a : IsWornLeaf v key p w) × HasKeyIn a.words key
-IsDel key (tries.Tight p) v w = ⊥
+  -- a try of a del: made in a leaf that has the key, which may be at the last version; or answered by a validation of a leaf that has it not, which locks
+  -- nothing, at whatever version
+  abbrev pub IsDel : ℕ → TryWrite → View S → View S → Type 0
+  IsDel key (tries.Done reply) v w = (IsWriteDone plain L (record { call = Del key; reply = reply }) v w × ¬ (IsVain (record { call = Del key; reply = reply }))) ⊎ (IsAnswered plain L (record { call = Del key; reply = reply }) v w × IsVain (record { call = Del key; reply = reply }))
+  IsDel key (tries.Again saw) v w = ReadsOn v w × IsWriteToTry L v key saw w
+  IsDel key (tries.Need p) v w = ReadsOn v w × IsNeeded L v key p w
+  IsDel key (tries.Worn p) v w = ReadsOn v w × (a : IsWornLeaf L v key p w) × HasKeyIn L a.words key
+  IsDel key (tries.Tight p) v w = ⊥
 
 -- a try with its reply, which is made of the value that the key had
 abbrev pub with_reply : (Option ℕ → Reply) → Tried → TryWrite

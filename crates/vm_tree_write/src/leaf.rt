@@ -1,7 +1,6 @@
 // The leaf is locked at the version at which it was read, written, and released with what is said.
 ghost use Rattle.std.specs.Prelude.{◌++◌, ◌≡◌, IfErr, IfOk, length, None};
 ghost use Rattle.vm_tree_model.specs.Page.{IsLeaf, node_of};
-ghost use Rattle.vm_node.specs.Edited.{edited};
 ghost use Rattle.vm_rule.specs.Prelude.{loads_at};
 ghost use Rattle.vm_step.specs.Prelude.{IsReady, IsSamePass, UnlockedExpected, view};
 ghost use Rattle.vm_guard.specs.Denied.{AgainOrWorn, IsDenied, KeptWord};
@@ -13,31 +12,29 @@ ghost use Rattle.vm_tree_write.specs.Writes.{IsWriteDone, SaysWorn};
 use crate::draft::{Edited, redraft};
 use vm_block::Block;
 use vm_guard::{Deny, OptGuard};
-use vm_map::call::Said;
-use vm_node::Edit;
-use vm_page::{PageBuf, WORDS};
+use vm_kind::{Edits, TreeOf};
 use vm_rule::words::{Pass, Words};
-use vm_tree_rule::Tree;
 
 /// Locks the leaf whose words stand in `before`, makes the edit, and releases it: what is said becomes an entry there.
-pub fn write_leaf<B: Block>(
-    words: &Words<Tree, B>,
-    pass: &mut Pass<Tree>,
+pub fn write_leaf<K: Edits, B: Block>(
+    words: &Words<TreeOf<K>, B>,
+    pass: &mut Pass<TreeOf<K>>,
     guard: OptGuard,
-    before: &PageBuf<WORDS>,
-    edit: Edit,
-    said: &Said,
+    before: &K::Page,
+    edit: K::Edit,
+    said: &K::Said,
 ) -> Result<(), Deny>
     requires ready { IsReady words.now.table.shared.key B.tells words.now.table.shared.table_id pass.old }
     requires reading { IsReading guard.pid guard.word guard.frame (view pass.old) }
     requires home { (view pass.old).out ≡ None }
-    requires size { length before.now ≡ WORDS }
-    requires loads { (earlier : _) × (loads_at (view pass.old) guard.pid ≡ earlier ++ placed 0 before.now) }
-    requires leaf { (node_of before.now).tag ≡ 2 }
-    requires edit { IsLeaf before.now → IsEdit before.now (edited before.now edit) said.now.call said.now.reply }
+    requires size { length (K.words_of before.now) ≡ K.layout.words }
+    requires loads { (earlier : _) × (loads_at (view pass.old) guard.pid ≡ earlier ++ placed 0 (K.words_of before.now)) }
+    requires leaf { (node_of K.layout (K.words_of before.now)).tag ≡ 2 }
+    requires edit { IsLeaf K.layout (K.words_of before.now)
+        → IsEdit K.layout (K.words_of before.now) (K.edited (K.words_of before.now) edit) (K.plain said.now).call (K.plain said.now).reply }
     ensures pass { IsSamePass pass.old pass.new }
     ensures ready { IsReady words.now.table.shared.key B.tells words.now.table.shared.table_id pass.new }
-    ensures ok { IfOk result (λ _. (a : IsWriteDone said.now (view pass.old) (view pass.new)) × (a.old ≡ before.now)) }
+    ensures ok { IfOk result (λ _. (a : IsWriteDone K.plain K.layout (K.plain said.now) (view pass.old) (view pass.new)) × (a.old ≡ K.words_of before.now)) }
     ensures err { IfErr result (λ deny. IsDenied AgainOrWorn (KeptWord guard.word) UnlockedExpected guard.pid deny (view pass.old) (view pass.new)) }
     ensures sure { IsKnownNow guard.pid guard.word (view pass.old) → IfErr result SaysWorn }
     ensures known { IsKnownNow guard.pid guard.word (view pass.old) → KnowsResident (view pass.new) }
@@ -46,10 +43,11 @@ pub fn write_leaf<B: Block>(
         Ok(held) => held,
         Err(deny) => return Err(deny),
     };
-    let after = Edited {
+    let changes = K::changes(before, &edit);
+    let after: Edited<'_, K> = Edited {
         page: before,
         edit,
-        changes: edit.changes(),
+        changes,
     };
     redraft(words, pass, &mut held, before, &after);
     held.release(words, pass, Some(said));

@@ -14,9 +14,9 @@ use crate::tries::TrySplit;
 use vm_block::Block;
 use vm_exmap::{Alloc, Interface};
 use vm_guard::{Deny, ExclusiveGuard, Fresh, Group, NoRoom, OptGuard, fresh, room_for};
+use vm_kind::{Kind, TreeOf};
 use vm_rule::words::{Pass, Words};
 use vm_step::Batch;
-use vm_tree_rule::Tree;
 
 /// Two pages that are locked.
 pub struct Locks {
@@ -48,9 +48,9 @@ fn denied(deny: Deny) -> TrySplit
 }
 
 /// One frame more than the one that there is, or why there is none: then the interface has that one too.
-fn second_frame<B: Block>(
-    words: &Words<Tree, B>,
-    pass: &mut Pass<Tree>,
+fn second_frame<K: Kind, B: Block>(
+    words: &Words<TreeOf<K>, B>,
+    pass: &mut Pass<TreeOf<K>>,
     iface: &mut Interface,
     frames: Batch,
 ) -> Result<Batch, TrySplit>
@@ -86,9 +86,9 @@ fn second_frame<B: Block>(
 }
 
 /// `n` frames (1 or 2) for fresh pages, or why there are not so many: then the interface has what it had, or more.
-fn frames_for<B: Block>(
-    words: &Words<Tree, B>,
-    pass: &mut Pass<Tree>,
+fn frames_for<K: Kind, B: Block>(
+    words: &Words<TreeOf<K>, B>,
+    pass: &mut Pass<TreeOf<K>>,
     iface: &mut Interface,
     n: u32,
 ) -> Result<Batch, TrySplit>
@@ -118,9 +118,9 @@ fn frames_for<B: Block>(
 }
 
 /// Locks two pages at the versions read, or none of them.
-fn lock_two<B: Block>(
-    words: &Words<Tree, B>,
-    pass: &mut Pass<Tree>,
+fn lock_two<K: Kind, B: Block>(
+    words: &Words<TreeOf<K>, B>,
+    pass: &mut Pass<TreeOf<K>>,
     first: OptGuard,
     second: OptGuard,
 ) -> Result<Locks, TrySplit>
@@ -131,8 +131,8 @@ fn lock_two<B: Block>(
     requires second { IsReading second.pid second.word second.frame (view pass.old) }
     ensures pass { IsSamePass pass.old pass.new }
     ensures ready { IsReady words.now.table.shared.key B.tells words.now.table.shared.table_id pass.new }
-    ensures ok { IfOk result (λ locks. AreLocked first second locks.up locks.low (view pass.old) (view pass.new)) }
-    ensures err { IfErr result (λ answer. KeepsLocksOnly (view pass.old) (view pass.new) × ((view pass.new).frames ≡ (view pass.old).frames) × LacksLocks first second answer (view pass.old) (view pass.new)) }
+    ensures ok { IfOk result (λ locks. AreLocked K.layout first second locks.up locks.low (view pass.old) (view pass.new)) }
+    ensures err { IfErr result (λ answer. KeepsLocksOnly (view pass.old) (view pass.new) × ((view pass.new).frames ≡ (view pass.old).frames) × LacksLocks K.layout first second answer (view pass.old) (view pass.new)) }
     ensures sure { KnowsBoth first second (view pass.old) → IfErr result IsFinalSplit }
 {
     let up = match first.upgrade(words, pass) {
@@ -142,16 +142,16 @@ fn lock_two<B: Block>(
     match second.upgrade(words, pass) {
         Ok(low) => Ok(Locks { up, low }),
         Err(deny) => {
-            up.release(words, pass, None);
+            up.release(words, pass, None::<K::Said>.as_ref());
             Err(denied(deny))
         }
     }
 }
 
 /// Gives up two pages that were locked, with the words that they had, and the frames.
-fn give_up<B: Block>(
-    words: &Words<Tree, B>,
-    pass: &mut Pass<Tree>,
+fn give_up<K: Kind, B: Block>(
+    words: &Words<TreeOf<K>, B>,
+    pass: &mut Pass<TreeOf<K>>,
     iface: &mut Interface,
     up: ExclusiveGuard,
     low: ExclusiveGuard,
@@ -171,15 +171,15 @@ fn give_up<B: Block>(
     ensures lost { LosesNone (iface.old.frames ++ frames) (view pass.old) iface.new.frames (view pass.new) }
     ensures done { GivesUpBoth up low (view pass.old) (view pass.new) }
 {
-    low.release(words, pass, None);
-    up.release(words, pass, None);
+    low.release(words, pass, None::<K::Said>.as_ref());
+    up.release(words, pass, None::<K::Said>.as_ref());
     iface.free(words, pass, frames);
 }
 
 /// Takes `n` frames (1 or 2), locks two pages at the versions read, and claims `n` fresh pages; or gives back what it took.
-fn take_all<B: Block>(
-    words: &Words<Tree, B>,
-    pass: &mut Pass<Tree>,
+fn take_all<K: Kind, B: Block>(
+    words: &Words<TreeOf<K>, B>,
+    pass: &mut Pass<TreeOf<K>>,
     iface: &mut Interface,
     first: OptGuard,
     second: OptGuard,
@@ -196,10 +196,10 @@ fn take_all<B: Block>(
     ensures ready { IsReady words.now.table.shared.key B.tells words.now.table.shared.table_id pass.new }
     ensures iface { (iface.new.home ≡ iface.old.home) × (iface.new.cap ≡ iface.old.cap) }
     ensures held { IfOk result (λ all. AreHeld (iface.new.frames ++ all.frames) (view pass.new)) }
-    ensures ok { IfOk result (λ all. AreTaken n first second all.up all.low (guards_of all.pages) (view pass.old) (view pass.new)) }
+    ensures ok { IfOk result (λ all. AreTaken K.layout n first second all.up all.low (guards_of all.pages) (view pass.old) (view pass.new)) }
     ensures lost { IfOk result (λ all. LosesNone iface.old.frames (view pass.old) (iface.new.frames ++ all.frames) (view pass.new)) }
     ensures lost_none { IfErr result (λ _. LosesNone iface.old.frames (view pass.old) iface.new.frames (view pass.new)) }
-    ensures err { IfErr result (λ answer. AreHeld iface.new.frames (view pass.new) × KeepsLocksOnly (view pass.old) (view pass.new) × IsUntaken n first second (view pass.old) (view pass.new) answer) }
+    ensures err { IfErr result (λ answer. AreHeld iface.new.frames (view pass.new) × KeepsLocksOnly (view pass.old) (view pass.new) × IsUntaken K.layout n first second (view pass.old) (view pass.new) answer) }
     ensures sure { KnowsToSplit first second (view pass.old) → IfErr result IsFinalSplit }
 {
     let mut frames = match frames_for(words, pass, iface, n) {
@@ -238,9 +238,9 @@ fn take_all<B: Block>(
 
 /// Takes what a split needs for which `n` fresh pages (1 or 2) are claimed, if so many are left; else it locks nothing and takes nothing, and
 /// answers Full.
-pub fn prepare<B: Block>(
-    words: &Words<Tree, B>,
-    pass: &mut Pass<Tree>,
+pub fn prepare<K: Kind, B: Block>(
+    words: &Words<TreeOf<K>, B>,
+    pass: &mut Pass<TreeOf<K>>,
     iface: &mut Interface,
     first: OptGuard,
     second: OptGuard,
@@ -257,10 +257,10 @@ pub fn prepare<B: Block>(
     ensures ready { IsReady words.now.table.shared.key B.tells words.now.table.shared.table_id pass.new }
     ensures iface { (iface.new.home ≡ iface.old.home) × (iface.new.cap ≡ iface.old.cap) }
     ensures held { IfOk result (λ all. AreHeld (iface.new.frames ++ all.frames) (view pass.new)) }
-    ensures ok { IfOk result (λ all. IsPrepared n first second all.up all.low (guards_of all.pages) (view pass.old) (view pass.new)) }
+    ensures ok { IfOk result (λ all. IsPrepared K.layout n first second all.up all.low (guards_of all.pages) (view pass.old) (view pass.new)) }
     ensures lost { IfOk result (λ all. LosesNone iface.old.frames (view pass.old) (iface.new.frames ++ all.frames) (view pass.new)) }
     ensures lost_none { IfErr result (λ _. LosesNone iface.old.frames (view pass.old) iface.new.frames (view pass.new)) }
-    ensures err { IfErr result (λ answer. AreHeld iface.new.frames (view pass.new) × KeepsLocksOnly (view pass.old) (view pass.new) × IsUnsplit n first second (view pass.old) (view pass.new) answer) }
+    ensures err { IfErr result (λ answer. AreHeld iface.new.frames (view pass.new) × KeepsLocksOnly (view pass.old) (view pass.new) × IsUnsplit K.plain K.layout K.spare n first second (view pass.old) (view pass.new) answer) }
     ensures sure { KnowsToSplit first second (view pass.old) → IfErr result IsFinalSplit }
 {
     match room_for(words, pass, n) {

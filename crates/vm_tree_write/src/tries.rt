@@ -12,10 +12,10 @@ use crate::split::{write_root, write_split};
 use vm_block::Block;
 use vm_exmap::Interface;
 use vm_guard::OptGuard;
-use vm_page::{PageBuf, WORDS};
+use vm_kind::{Edits, TreeOf};
 use vm_rule::words::{Pass, Words};
 use vm_step::Saw;
-use vm_tree_rule::{Met, Tree, Turn, seek_full};
+use vm_tree_rule::{Met, Turn, seek_full};
 
 /// What a try of a split answers.
 #[derive(Debug, Drop)]
@@ -38,8 +38,8 @@ pub enum TrySplit {
 }
 
 /// Why no full node was looked for to the end.
-fn not_found(turn: Turn) -> TrySplit
-    ensures { (key : _) (v w : _) → IsTurnedBack v key turn w → IsTrySplit key result v w }
+fn not_found<K: Edits>(turn: Turn) -> TrySplit
+    ensures { (key : _) (v w : _) → IsTurnedBack K.layout v key turn w → IsTrySplit K.plain K.layout K.spare key result v w }
 {
     match turn {
         Turn::Again(saw) => TrySplit::Again(saw),
@@ -49,27 +49,27 @@ fn not_found(turn: Turn) -> TrySplit
 }
 
 /// Splits a full node below its parent: one fresh page is released with both.
-fn split_below<B: Block>(
-    words: &Words<Tree, B>,
-    pass: &mut Pass<Tree>,
+fn split_below<K: Edits, B: Block>(
+    words: &Words<TreeOf<K>, B>,
+    pass: &mut Pass<TreeOf<K>>,
     iface: &mut Interface,
     parent: OptGuard,
     node: OptGuard,
-    over: &PageBuf<WORDS>,
-    page: &PageBuf<WORDS>,
+    over: &K::Page,
+    page: &K::Page,
 ) -> TrySplit
     requires ready { IsReady words.now.table.shared.key B.tells words.now.table.shared.table_id pass.old }
     requires home { (view pass.old).out ≡ None }
     requires frames { AreHeld iface.old.frames (view pass.old) }
-    requires size { (length over.now ≡ WORDS) × (length page.now ≡ WORDS) }
-    requires met { (v : _) × (key : ℕ) × IsFullBelow v key parent node over.now page.now (view pass.old) }
+    requires size { (length (K.words_of over.now) ≡ K.layout.words) × (length (K.words_of page.now) ≡ K.layout.words) }
+    requires met { (v : _) × (key : ℕ) × IsFullBelow K.layout K.spare v key parent node (K.words_of over.now) (K.words_of page.now) (view pass.old) }
     ensures pass { IsSamePass pass.old pass.new }
     ensures ready { IsReady words.now.table.shared.key B.tells words.now.table.shared.table_id pass.new }
     ensures iface { (iface.new.home ≡ iface.old.home) × (iface.new.cap ≡ iface.old.cap) }
     ensures held { AreHeld iface.new.frames (view pass.new) }
     ensures keeps { KeepsLocksOnly (view pass.old) (view pass.new) }
     ensures lost { LosesNone iface.old.frames (view pass.old) iface.new.frames (view pass.new) }
-    ensures cause { IsEndOf 1 parent node (view pass.old) (view pass.new) result }
+    ensures cause { IsEndOf K.plain K.layout K.spare 1 parent node (view pass.old) (view pass.new) result }
     ensures sure { KnowsToSplit parent node (view pass.old) → IsFinalSplit result }
 {
     let all = match prepare(words, pass, iface, parent, node, 1) {
@@ -93,27 +93,27 @@ fn split_below<B: Block>(
 }
 
 /// Splits the full root: two fresh pages, the right half and the new root, are released with page 0 and the old root.
-fn split_root<B: Block>(
-    words: &Words<Tree, B>,
-    pass: &mut Pass<Tree>,
+fn split_root<K: Edits, B: Block>(
+    words: &Words<TreeOf<K>, B>,
+    pass: &mut Pass<TreeOf<K>>,
     iface: &mut Interface,
     meta: OptGuard,
     root: OptGuard,
     height: u64,
-    page: &PageBuf<WORDS>,
+    page: &K::Page,
 ) -> TrySplit
     requires ready { IsReady words.now.table.shared.key B.tells words.now.table.shared.table_id pass.old }
     requires home { (view pass.old).out ≡ None }
     requires frames { AreHeld iface.old.frames (view pass.old) }
-    requires size { length page.now ≡ WORDS }
-    requires met { (v : _) × (key : ℕ) × IsRootFull v key meta root height page.now (view pass.old) }
+    requires size { length (K.words_of page.now) ≡ K.layout.words }
+    requires met { (v : _) × (key : ℕ) × IsRootFull K.layout K.spare v key meta root height (K.words_of page.now) (view pass.old) }
     ensures pass { IsSamePass pass.old pass.new }
     ensures ready { IsReady words.now.table.shared.key B.tells words.now.table.shared.table_id pass.new }
     ensures iface { (iface.new.home ≡ iface.old.home) × (iface.new.cap ≡ iface.old.cap) }
     ensures held { AreHeld iface.new.frames (view pass.new) }
     ensures keeps { KeepsLocksOnly (view pass.old) (view pass.new) }
     ensures lost { LosesNone iface.old.frames (view pass.old) iface.new.frames (view pass.new) }
-    ensures cause { IsEndOf 2 meta root (view pass.old) (view pass.new) result }
+    ensures cause { IsEndOf K.plain K.layout K.spare 2 meta root (view pass.old) (view pass.new) result }
     ensures sure { KnowsToSplit meta root (view pass.old) → IsFinalSplit result }
 {
     let all = match prepare(words, pass, iface, meta, root, 2) {
@@ -140,11 +140,11 @@ fn split_root<B: Block>(
 }
 
 /// Splits the first full node that is met from the root to the leaf of the key. The map stays as it is.
-pub fn try_split<B: Block>(
-    words: &Words<Tree, B>,
-    pass: &mut Pass<Tree>,
+pub fn try_split<K: Edits, B: Block>(
+    words: &Words<TreeOf<K>, B>,
+    pass: &mut Pass<TreeOf<K>>,
     iface: &mut Interface,
-    key: u64,
+    key: &K::Key,
 ) -> TrySplit
     requires pass { MayStep words.now.table.shared.table_id pass.old }
     requires pages { 1 ≤ words.now.table.shared.key.pages }
@@ -155,14 +155,14 @@ pub fn try_split<B: Block>(
     ensures iface { (iface.new.home ≡ iface.old.home) × (iface.new.cap ≡ iface.old.cap) }
     ensures held { AreHeld iface.new.frames (view pass.new) }
     ensures lost { LosesNone iface.old.frames (view pass.old) iface.new.frames (view pass.new) }
-    ensures tried { IsTrySplit key result (view pass.old) (view pass.new) }
+    ensures tried { IsTrySplit K.plain K.layout K.spare (K.rank key.now) result (view pass.old) (view pass.new) }
     ensures sure { B.tells ≡ true → KnowsResident (view pass.old) → HoldsNoPage (view pass.old) → IsFinalSplit result }
 {
-    let mut over = PageBuf::zero();
-    let mut page = PageBuf::zero();
+    let mut over = K::zero();
+    let mut page = K::zero();
     let met = match seek_full(words, pass, key, &mut over, &mut page) {
         Ok(met) => met,
-        Err(turn) => return not_found(turn),
+        Err(turn) => return not_found::<K>(turn),
     };
     match met {
         Met::Roomy(leaf) => match leaf.validate_silently(words, pass) {

@@ -4,7 +4,7 @@ ghost use Rattle.vm_map.specs.declared.call.Call.TheVariants.{Del, Put};
 ghost use Rattle.vm_step.specs.Prelude.{AreHeld, IsReady, IsSamePass, view};
 ghost use Rattle.vm_tree_read.specs.Reads.{IsOfKind};
 ghost use Rattle.vm_tree_read.specs.Waiting.{LosesNone, Waits};
-ghost use Rattle.vm_tree_write.specs.Splits.{KeepsLocksOnly};
+ghost use Rattle.vm_tree_write.specs.{Splits.KeepsLocksOnly, Tries.IsTrySplit};
 ghost use Rattle.vm_tree_write.specs.Waiting.{IsDelRound, IsNoRoomFault, IsPutFaulted, IsPutRound, IsRoomFault, IsWriteFaulted, IsWriteReplied};
 ghost use Rattle.vm_tree_write.specs.Writes.{HasKeyIn};
 
@@ -14,20 +14,20 @@ use crossbeam_utils::Backoff;
 use std::sync::Wait;
 use vm_block::PageBlock;
 use vm_exmap::Interface;
+use vm_kind::{Edits, Kind, TreeOf};
 use vm_map::call::Reply;
-use vm_page::WORDS;
 use vm_pool::{Pool, dry_cause};
 use vm_rule::words::Pass;
 use vm_tree_read::waiting::{fetch, settle};
-use vm_tree_rule::{Tree, TreeFault};
+use vm_tree_rule::TreeFault;
 
 /// Takes the pair of the key out.
-pub fn del<R: Wait, B: PageBlock<WORDS>>(
+pub fn del<K: Edits, R: Wait, B: PageBlock<N>, const N: usize>(
     rt: &R,
-    pool: &Pool<Tree, B, WORDS>,
-    pass: &mut Pass<Tree>,
+    pool: &Pool<TreeOf<K>, B, N>,
+    pass: &mut Pass<TreeOf<K>>,
     iface: &mut Interface,
-    key: u64,
+    key: &K::Key,
 ) -> Result<Reply, TreeFault>
     requires ready { IsReady pool.now.words.table.shared.key B.tells pool.now.words.table.shared.table_id pass.old }
     requires pages { 1 ≤ pool.now.words.table.shared.key.pages }
@@ -38,9 +38,9 @@ pub fn del<R: Wait, B: PageBlock<WORDS>>(
     ensures held { AreHeld iface.new.frames (view pass.new) }
     ensures iface { (iface.new.home ≡ iface.old.home) × (iface.new.cap ≡ iface.old.cap) }
     ensures lost { LosesNone iface.old.frames (view pass.old) iface.new.frames (view pass.new) }
-    ensures ok { IfOk result (λ reply. IsWriteReplied Waits IsDelRound (record { call = Del key; reply = reply }) (view pass.old) (view pass.new)) }
-    ensures kind { IfOk result (λ reply. IsOfKind (Del key) reply) }
-    ensures err { IfErr result (λ fault. IsWriteFaulted Waits IsDelRound HasKeyIn key fault (view pass.old) (view pass.new)) }
+    ensures ok { IfOk result (λ reply. IsWriteReplied K.plain K.layout Waits (IsDelRound K.layout) (record { call = Del (K.rank key.now); reply = reply }) (view pass.old) (view pass.new)) }
+    ensures kind { IfOk result (λ reply. IsOfKind (Del (K.rank key.now)) reply) }
+    ensures err { IfErr result (λ fault. IsWriteFaulted K.layout Waits (IsDelRound K.layout) (HasKeyIn K.layout) (K.rank key.now) fault (view pass.old) (view pass.new)) }
 {
     let backoff = Backoff::new();
     for _ in rt.forever() {
@@ -58,28 +58,30 @@ pub fn del<R: Wait, B: PageBlock<WORDS>>(
     unreachable!()
 }
 
-/// Makes room for the key: splits the first full node on its way, or does what has to be done before.
-fn make_room<B: PageBlock<WORDS>>(
-    pool: &Pool<Tree, B, WORDS>,
-    pass: &mut Pass<Tree>,
+/// Goes on after a try to make room for a key by a split: brings the page that it needs, frees frames, or waits for others.
+fn after_split<K: Kind, B: PageBlock<N>, const N: usize>(
+    pool: &Pool<TreeOf<K>, B, N>,
+    pass: &mut Pass<TreeOf<K>>,
     iface: &mut Interface,
-    key: u64,
+    answer: TrySplit,
     backoff: &Backoff,
 ) -> Result<(), TreeFault>
     requires ready { IsReady pool.now.words.table.shared.key B.tells pool.now.words.table.shared.table_id pass.old }
-    requires pages { 1 ≤ pool.now.words.table.shared.key.pages }
     requires home { (view pass.old).out ≡ None }
     requires frames { AreHeld iface.old.frames (view pass.old) }
+    requires tried { (key : _) × (v : _) × IsTrySplit K.plain K.layout K.spare key answer v (view pass.old) }
     ensures pass { IsSamePass pass.old pass.new }
     ensures ready { IsReady pool.now.words.table.shared.key B.tells pool.now.words.table.shared.table_id pass.new }
     ensures held { AreHeld iface.new.frames (view pass.new) }
     ensures iface { (iface.new.home ≡ iface.old.home) × (iface.new.cap ≡ iface.old.cap) }
     ensures lost { LosesNone iface.old.frames (view pass.old) iface.new.frames (view pass.new) }
     ensures keeps { KeepsLocksOnly (view pass.old) (view pass.new) }
-    ensures ok { IfOk result (λ _. IsNoRoomFault key (view pass.old) (view pass.new)) }
-    ensures err { IfErr result (λ fault. IsRoomFault key fault (view pass.old) (view pass.new)) }
+    ensures ok { IfOk result (λ _. (key : _) (v : _) → IsTrySplit K.plain K.layout K.spare key answer v (view pass.old)
+        → IsNoRoomFault K.plain K.layout K.spare key v (view pass.new)) }
+    ensures err { IfErr result (λ fault. (key : _) (v : _) → IsTrySplit K.plain K.layout K.spare key answer v (view pass.old)
+        → IsRoomFault K.plain K.layout K.spare key fault v (view pass.new)) }
 {
-    match try_split(&pool.words, pass, iface, key) {
+    match answer {
         TrySplit::Split => Ok(()),
         TrySplit::Roomy => Ok(()),
         TrySplit::Again(_) => {
@@ -101,12 +103,12 @@ fn make_room<B: PageBlock<WORDS>>(
 }
 
 /// Puts a value at the key.
-pub fn put<R: Wait, B: PageBlock<WORDS>>(
+pub fn put<K: Edits, R: Wait, B: PageBlock<N>, const N: usize>(
     rt: &R,
-    pool: &Pool<Tree, B, WORDS>,
-    pass: &mut Pass<Tree>,
+    pool: &Pool<TreeOf<K>, B, N>,
+    pass: &mut Pass<TreeOf<K>>,
     iface: &mut Interface,
-    key: u64,
+    key: &K::Key,
     value: u64,
 ) -> Result<Reply, TreeFault>
     requires ready { IsReady pool.now.words.table.shared.key B.tells pool.now.words.table.shared.table_id pass.old }
@@ -118,10 +120,10 @@ pub fn put<R: Wait, B: PageBlock<WORDS>>(
     ensures held { AreHeld iface.new.frames (view pass.new) }
     ensures iface { (iface.new.home ≡ iface.old.home) × (iface.new.cap ≡ iface.old.cap) }
     ensures lost { LosesNone iface.old.frames (view pass.old) iface.new.frames (view pass.new) }
-    ensures ok { IfOk result (λ reply. IsWriteReplied KeepsLocksOnly IsPutRound (record { call = Put key value; reply = reply })
+    ensures ok { IfOk result (λ reply. IsWriteReplied K.plain K.layout KeepsLocksOnly (IsPutRound K.plain K.layout K.spare) (record { call = Put (K.rank key.now) value; reply = reply })
         (view pass.old) (view pass.new)) }
-    ensures kind { IfOk result (λ reply. IsOfKind (Put key value) reply) }
-    ensures err { IfErr result (λ fault. IsPutFaulted key fault (view pass.old) (view pass.new)) }
+    ensures kind { IfOk result (λ reply. IsOfKind (Put (K.rank key.now) value) reply) }
+    ensures err { IfErr result (λ fault. IsPutFaulted K.plain K.layout K.spare (K.rank key.now) fault (view pass.old) (view pass.new)) }
 {
     let backoff = Backoff::new();
     for _ in rt.forever() {
@@ -133,10 +135,13 @@ pub fn put<R: Wait, B: PageBlock<WORDS>>(
                 Err(fault) => return Err(fault),
             },
             Tried::Worn(pid) => return Err(TreeFault::Worn { pid }),
-            Tried::Tight(_) => match make_room(pool, pass, iface, key, &backoff) {
-                Ok(()) => {}
-                Err(fault) => return Err(fault),
-            },
+            Tried::Tight(_) => {
+                let answer = try_split(&pool.words, pass, iface, key);
+                match after_split(pool, pass, iface, answer, &backoff) {
+                    Ok(()) => {}
+                    Err(fault) => return Err(fault),
+                }
+            }
         }
     }
     unreachable!()

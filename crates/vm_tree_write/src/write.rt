@@ -1,5 +1,5 @@
 // The writes that never wait: each answers, or says why it is to be tried again.
-ghost use Rattle.std.specs.Prelude.{◌<◌, ◌≡◌, ◌≤◌, List, None, true, ℕ};
+ghost use Rattle.std.specs.Prelude.{◌+◌, ◌<◌, ◌≡◌, ◌≤◌, List, None, true, ℕ};
 ghost use Rattle.vm_map.specs.declared.{call.Call.TheVariants.Del, call.Reply.TheVariants.Gone, call.Reply.TheVariants.Was};
 ghost use Rattle.vm_tree_model.specs.{Node.Covers, Page.node_of};
 ghost use Rattle.vm_node.specs.Loads.{IsPageWith, Tells};
@@ -9,21 +9,20 @@ ghost use Rattle.vm_guard.specs.Guards.{IsReading};
 ghost use Rattle.vm_tree_rule.specs.{Few.ReadsInPlace, Resident.IsKnownNow, Resident.KnowsResident, Seeks.HasLoaded, Seeks.HasRead, Standing.Awaits, Standing.IsOpened};
 ghost use Rattle.vm_tree_rule.specs.Turns.{IsTurnedBack, TellLeaf};
 ghost use Rattle.vm_tree_read.specs.Reads.{TellReply};
-ghost use Rattle.vm_tree_write.specs.Writes.{HasKeyIn, HasRoomFor, IsDel, IsFinal, IsPut, IsTightFor, SaysWorn, TellTight, with_reply};
+ghost use Rattle.vm_kind.specs.Room.{HasRoomFor, IsTightFor};
+ghost use Rattle.vm_tree_write.specs.Writes.{HasKeyIn, IsDel, IsFinal, IsPut, SaysWorn, TellTight, with_reply};
 
 use crate::leaf::write_leaf;
 use vm_block::Block;
 use vm_guard::{Deny, OptGuard};
-use vm_map::call::{Call, Reply, Said};
-use vm_map::window::MOST_PAIRS;
-use vm_node::pairs::count_at;
-use vm_node::{Place, del_edit, find_at, put_edit};
-use vm_page::PageBuf;
+use vm_kind::{Edits, Kind, TreeOf};
+use vm_map::call::Reply;
+use vm_node::Place;
 use vm_rule::words::{Pass, Words};
 use vm_step::{Saw, frame_place};
 use vm_tree_read::answer::{answer, leaf_at, read_leaf};
 use vm_tree_read::read::find_in_place;
-use vm_tree_rule::{InPlace, Tree, Turn};
+use vm_tree_rule::{InPlace, Turn};
 
 /// What a try of a write answers.
 #[derive(Debug, Drop)]
@@ -37,7 +36,7 @@ pub enum TryWrite {
     Need(u32),
     /// The leaf, this page, is at the last version.
     Worn(u32),
-    /// The leaf, this page, has 28 pairs and not the key: it has to be split first.
+    /// The leaf, this page, has no room for a pair of the key, and not the key: it has to be split first.
     Tight(u32),
 }
 
@@ -53,9 +52,9 @@ pub(crate) enum Tried {
 }
 
 /// Why there is no answer yet.
-fn not_yet(turn: Turn) -> Tried
-    ensures put { (key value : _) (v w : _) → IsTurnedBack v key turn w → IsPut key value (with_reply Was result) v w }
-    ensures del { (key : _) (v w : _) → IsTurnedBack v key turn w → IsDel key (with_reply Gone result) v w }
+fn not_yet<K: Kind>(turn: Turn) -> Tried
+    ensures put { (key value : _) (v w : _) → IsTurnedBack K.layout v key turn w → IsPut K.plain K.layout K.spare key value (with_reply Was result) v w }
+    ensures del { (key : _) (v w : _) → IsTurnedBack K.layout v key turn w → IsDel K.plain K.layout key (with_reply Gone result) v w }
 {
     match turn {
         Turn::Again(saw) => Tried::Again(saw),
@@ -65,14 +64,14 @@ fn not_yet(turn: Turn) -> Tried
 }
 
 /// Why the leaf was not written.
-fn unwritten(deny: Deny) -> Tried
+fn unwritten<K: Kind>(deny: Deny) -> Tried
     requires kind { AgainOrWorn deny }
-    ensures put { (key value p word frame : _) (page : _) (v x w : _) → IsOpened v p word frame x → Awaits x p word 0 key → HasRead x p page
-        → ((node_of page).tag ≡ 2) × Covers (node_of page) key → HasRoomFor page key
-        → IsDenied AgainOrWorn (KeptWord word) UnlockedExpected p deny x w → IsPut key value (with_reply Was result) v w }
-    ensures del { (key p word frame : _) (page : _) (v x w : _) → IsOpened v p word frame x → Awaits x p word 0 key → HasRead x p page
-        → ((node_of page).tag ≡ 2) × Covers (node_of page) key → HasKeyIn page key
-        → IsDenied AgainOrWorn (KeptWord word) UnlockedExpected p deny x w → IsDel key (with_reply Gone result) v w }
+    ensures put { (key value p word frame : _) (page : _) (v x w : _) → IsOpened v p word frame x → Awaits K.layout x p word 0 key → HasRead x p page
+        → ((node_of K.layout page).tag ≡ 2) × Covers (node_of K.layout page) key → HasRoomFor K.layout K.spare page key
+        → IsDenied AgainOrWorn (KeptWord word) UnlockedExpected p deny x w → IsPut K.plain K.layout K.spare key value (with_reply Was result) v w }
+    ensures del { (key p word frame : _) (page : _) (v x w : _) → IsOpened v p word frame x → Awaits K.layout x p word 0 key → HasRead x p page
+        → ((node_of K.layout page).tag ≡ 2) × Covers (node_of K.layout page) key → HasKeyIn K.layout page key
+        → IsDenied AgainOrWorn (KeptWord word) UnlockedExpected p deny x w → IsDel K.plain K.layout key (with_reply Gone result) v w }
     ensures settled { (reply : _) → SaysWorn deny → IsFinal (with_reply reply result) }
 {
     match deny {
@@ -83,15 +82,17 @@ fn unwritten(deny: Deny) -> Tried
     }
 }
 
-/// Whether the page has 28 pairs and not the key, from at most 9 words loaded: the key is looked for only where the count is 28.
-fn is_tight_at<P: Place>(place: &mut P, key: u64) -> bool
+/// Whether the page has too little of its room left for a pair of the key, and not the key. The key is looked for only where there is too little.
+fn is_tight_at<K: Kind, P: Place>(place: &mut P, key: &K::Key) -> bool
     requires ready { P.ready place.old }
+    requires size { P.size place.old ≡ K.layout.words }
     ensures ready { P.ready place.new }
-    ensures told { Tells P.loads place.old 9 place.new (λ page. result ≡ true → IsTightFor page key) }
+    ensures told { Tells K.layout.words P.loads place.old (K.bounds.spare + K.bounds.find) place.new
+        (λ page. result ≡ true → IsTightFor K.layout K.spare page (K.rank key.now)) }
 {
-    let count = count_at(place);
-    if count == MOST_PAIRS {
-        return match find_at(place, key) {
+    let left = K::spare_at(place);
+    if left < K::pair_size(key) {
+        return match K::find_at(place, key) {
             None => true,
             Some(_) => false,
         };
@@ -100,18 +101,18 @@ fn is_tight_at<P: Place>(place: &mut P, key: u64) -> bool
 }
 
 /// Whether the page under the guard is so, found where it stands.
-fn is_tight_in_place<B: Block>(
-    words: &Words<Tree, B>,
-    pass: &mut Pass<Tree>,
+fn is_tight_in_place<K: Kind, B: Block>(
+    words: &Words<TreeOf<K>, B>,
+    pass: &mut Pass<TreeOf<K>>,
     guard: &OptGuard,
-    key: u64,
+    key: &K::Key,
 ) -> bool
     requires ready { IsReady words.now.table.shared.key B.tells words.now.table.shared.table_id pass.old }
     requires reading { IsReading guard.now.pid guard.now.word guard.now.frame (view pass.old) }
     ensures pass { IsSamePass pass.old pass.new }
     ensures ready { IsReady words.now.table.shared.key B.tells words.now.table.shared.table_id pass.new }
-    ensures found { ReadsInPlace guard.now.pid guard.now.word guard.now.frame 9 (view pass.old) (view pass.new) (λ loaded.
-        (page : List ℕ) → IsPageWith loaded page → result ≡ true → IsTightFor page key) }
+    ensures found { ReadsInPlace guard.now.pid guard.now.word guard.now.frame (K.bounds.spare + K.bounds.find) (view pass.old) (view pass.new)
+        (λ loaded. (page : List ℕ) → IsPageWith K.layout.words loaded page → result ≡ true → IsTightFor K.layout K.spare page (K.rank key.now)) }
 {
     let mut place = InPlace {
         words,
@@ -119,17 +120,21 @@ fn is_tight_in_place<B: Block>(
         guard,
         first: frame_place(words, guard.frame),
     };
-    is_tight_at(&mut place, key)
+    is_tight_at::<K, _>(&mut place, key)
 }
 
-/// Ends a put at a leaf of which words were loaded that tell that it has 28 pairs and not the key, once they are validated.
-fn tight<B: Block>(words: &Words<Tree, B>, pass: &mut Pass<Tree>, guard: &OptGuard) -> Tried
+/// Ends a put at a leaf of which words were loaded that tell that it has no room for a pair of the key, and not the key, once they are validated.
+fn tight<K: Kind, B: Block>(
+    words: &Words<TreeOf<K>, B>,
+    pass: &mut Pass<TreeOf<K>>,
+    guard: &OptGuard,
+) -> Tried
     requires ready { IsReady words.now.table.shared.key B.tells words.now.table.shared.table_id pass.old }
     requires reading { IsReading guard.now.pid guard.now.word guard.now.frame (view pass.old) }
     ensures pass { IsSamePass pass.old pass.new }
     ensures ready { IsReady words.now.table.shared.key B.tells words.now.table.shared.table_id pass.new }
     ensures put { (key value : _) (loaded : _) (v : _) → IsOpened v guard.now.pid guard.now.word guard.now.frame (view pass.old) → HasLoaded (view pass.old) guard.now.pid loaded
-        → TellLeaf loaded key → TellTight loaded key → IsPut key value (with_reply Was result) v (view pass.new) }
+        → TellLeaf K.layout loaded key → TellTight K.layout K.spare loaded key → IsPut K.plain K.layout K.spare key value (with_reply Was result) v (view pass.new) }
     ensures sure { IsKnownNow guard.now.pid guard.now.word (view pass.old) → IsFinal (with_reply Was result) }
     ensures known { IsKnownNow guard.now.pid guard.now.word (view pass.old) → KnowsResident (view pass.new) }
 {
@@ -140,10 +145,10 @@ fn tight<B: Block>(words: &Words<Tree, B>, pass: &mut Pass<Tree>, guard: &OptGua
 }
 
 /// Puts a value at the key, or says why not. The leaf is read whole only where it has the key or room.
-pub(crate) fn put_once<B: Block>(
-    words: &Words<Tree, B>,
-    pass: &mut Pass<Tree>,
-    key: u64,
+pub(crate) fn put_once<K: Edits, B: Block>(
+    words: &Words<TreeOf<K>, B>,
+    pass: &mut Pass<TreeOf<K>>,
+    key: &K::Key,
     value: u64,
 ) -> Tried
     requires pass { MayStep words.now.table.shared.table_id pass.old }
@@ -151,41 +156,38 @@ pub(crate) fn put_once<B: Block>(
     requires home { (view pass.old).out ≡ None }
     ensures pass { IsSamePass pass.old pass.new }
     ensures ready { IsReady words.now.table.shared.key B.tells words.now.table.shared.table_id pass.new }
-    ensures tried { IsPut key value (with_reply Was result) (view pass.old) (view pass.new) }
+    ensures tried { IsPut K.plain K.layout K.spare (K.rank key.now) value (with_reply Was result) (view pass.old) (view pass.new) }
     ensures sure { B.tells ≡ true → KnowsResident (view pass.old) → IsFinal (with_reply Was result) }
     ensures known { B.tells ≡ true → KnowsResident (view pass.old) → KnowsResident (view pass.new) }
 {
     let guard = match leaf_at(words, pass, key) {
         Ok(guard) => guard,
-        Err(turn) => return not_yet(turn),
+        Err(turn) => return not_yet::<K>(turn),
     };
     if is_tight_in_place(words, pass, &guard, key) {
         return tight(words, pass, &guard);
     }
-    let mut page = PageBuf::zero();
+    let mut page = K::zero();
     if let Err(turn) = read_leaf(words, pass, &guard, key, &mut page) {
-        return not_yet(turn);
+        return not_yet::<K>(turn);
     }
-    match put_edit(&page, key, value) {
+    match K::put_edit(&page, key, value) {
         Err(_) => tight(words, pass, &guard),
         Ok((was, edit)) => {
-            let said = Said {
-                call: Call::Put { key, value },
-                reply: Reply::Was(was),
-            };
+            let said = K::was(key, value, was);
             match write_leaf(words, pass, guard, &page, edit, &said) {
                 Ok(()) => Tried::Done(was),
-                Err(deny) => unwritten(deny),
+                Err(deny) => unwritten::<K>(deny),
             }
         }
     }
 }
 
 /// Puts a value at the key.
-pub fn try_put<B: Block>(
-    words: &Words<Tree, B>,
-    pass: &mut Pass<Tree>,
-    key: u64,
+pub fn try_put<K: Edits, B: Block>(
+    words: &Words<TreeOf<K>, B>,
+    pass: &mut Pass<TreeOf<K>>,
+    key: &K::Key,
     value: u64,
 ) -> TryWrite
     requires pass { MayStep words.now.table.shared.table_id pass.old }
@@ -193,7 +195,7 @@ pub fn try_put<B: Block>(
     requires home { (view pass.old).out ≡ None }
     ensures pass { IsSamePass pass.old pass.new }
     ensures ready { IsReady words.now.table.shared.key B.tells words.now.table.shared.table_id pass.new }
-    ensures tried { IsPut key value result (view pass.old) (view pass.new) }
+    ensures tried { IsPut K.plain K.layout K.spare (K.rank key.now) value result (view pass.old) (view pass.new) }
     ensures sure { B.tells ≡ true → KnowsResident (view pass.old) → IsFinal result }
     ensures known { B.tells ≡ true → KnowsResident (view pass.old) → KnowsResident (view pass.new) }
 {
@@ -207,25 +209,22 @@ pub fn try_put<B: Block>(
 }
 
 /// Answers a del of a key that the leaf has not, as words loaded of it tell, once they are validated.
-fn missed<B: Block>(
-    words: &Words<Tree, B>,
-    pass: &mut Pass<Tree>,
+fn missed<K: Kind, B: Block>(
+    words: &Words<TreeOf<K>, B>,
+    pass: &mut Pass<TreeOf<K>>,
     guard: &OptGuard,
-    key: u64,
+    key: &K::Key,
 ) -> Tried
     requires ready { IsReady words.now.table.shared.key B.tells words.now.table.shared.table_id pass.old }
     requires reading { IsReading guard.now.pid guard.now.word guard.now.frame (view pass.old) }
-    requires proves { (loaded : List (ℕ × ℕ)) × HasLoaded (view pass.old) guard.now.pid loaded × TellReply loaded (record { call = Del key; reply = Gone None }) }
+    requires proves { (loaded : List (ℕ × ℕ)) × HasLoaded (view pass.old) guard.now.pid loaded × TellReply K.layout loaded (record { call = Del (K.rank key.now); reply = Gone None }) }
     ensures pass { IsSamePass pass.old pass.new }
     ensures ready { IsReady words.now.table.shared.key B.tells words.now.table.shared.table_id pass.new }
-    ensures del { (v : _) → IsOpened v guard.now.pid guard.now.word guard.now.frame (view pass.old) → IsDel key (with_reply Gone result) v (view pass.new) }
+    ensures del { (v : _) → IsOpened v guard.now.pid guard.now.word guard.now.frame (view pass.old) → IsDel K.plain K.layout (K.rank key.now) (with_reply Gone result) v (view pass.new) }
     ensures sure { IsKnownNow guard.now.pid guard.now.word (view pass.old) → IsFinal (with_reply Gone result) }
     ensures known { IsKnownNow guard.now.pid guard.now.word (view pass.old) → KnowsResident (view pass.new) }
 {
-    let said = Said {
-        call: Call::Del { key },
-        reply: Reply::Gone(None),
-    };
+    let said = K::gone(key, None);
     match answer(words, pass, guard, &said) {
         Ok(()) => Tried::Done(None),
         Err(saw) => Tried::Again(saw),
@@ -233,51 +232,56 @@ fn missed<B: Block>(
 }
 
 /// Takes the pair of the key out, or says why not. The leaf is read whole only where it has the key.
-pub(crate) fn del_once<B: Block>(words: &Words<Tree, B>, pass: &mut Pass<Tree>, key: u64) -> Tried
+pub(crate) fn del_once<K: Edits, B: Block>(
+    words: &Words<TreeOf<K>, B>,
+    pass: &mut Pass<TreeOf<K>>,
+    key: &K::Key,
+) -> Tried
     requires pass { MayStep words.now.table.shared.table_id pass.old }
     requires pages { 1 ≤ words.now.table.shared.key.pages }
     requires home { (view pass.old).out ≡ None }
     ensures pass { IsSamePass pass.old pass.new }
     ensures ready { IsReady words.now.table.shared.key B.tells words.now.table.shared.table_id pass.new }
-    ensures tried { IsDel key (with_reply Gone result) (view pass.old) (view pass.new) }
+    ensures tried { IsDel K.plain K.layout (K.rank key.now) (with_reply Gone result) (view pass.old) (view pass.new) }
     ensures sure { B.tells ≡ true → KnowsResident (view pass.old) → IsFinal (with_reply Gone result) }
     ensures known { B.tells ≡ true → KnowsResident (view pass.old) → KnowsResident (view pass.new) }
 {
     let guard = match leaf_at(words, pass, key) {
         Ok(guard) => guard,
-        Err(turn) => return not_yet(turn),
+        Err(turn) => return not_yet::<K>(turn),
     };
     match find_in_place(words, pass, &guard, key) {
         None => return missed(words, pass, &guard, key),
         Some(_) => {}
     }
-    let mut page = PageBuf::zero();
+    let mut page = K::zero();
     if let Err(turn) = read_leaf(words, pass, &guard, key, &mut page) {
-        return not_yet(turn);
+        return not_yet::<K>(turn);
     }
-    match del_edit(&page, key) {
+    match K::del_edit(&page, key) {
         None => missed(words, pass, &guard, key),
         Some((was, edit)) => {
-            let said = Said {
-                call: Call::Del { key },
-                reply: Reply::Gone(Some(was)),
-            };
+            let said = K::gone(key, Some(was));
             match write_leaf(words, pass, guard, &page, edit, &said) {
                 Ok(()) => Tried::Done(Some(was)),
-                Err(deny) => unwritten(deny),
+                Err(deny) => unwritten::<K>(deny),
             }
         }
     }
 }
 
 /// Takes the pair of the key out. Where the leaf has none nothing is locked.
-pub fn try_del<B: Block>(words: &Words<Tree, B>, pass: &mut Pass<Tree>, key: u64) -> TryWrite
+pub fn try_del<K: Edits, B: Block>(
+    words: &Words<TreeOf<K>, B>,
+    pass: &mut Pass<TreeOf<K>>,
+    key: &K::Key,
+) -> TryWrite
     requires pass { MayStep words.now.table.shared.table_id pass.old }
     requires pages { 1 ≤ words.now.table.shared.key.pages }
     requires home { (view pass.old).out ≡ None }
     ensures pass { IsSamePass pass.old pass.new }
     ensures ready { IsReady words.now.table.shared.key B.tells words.now.table.shared.table_id pass.new }
-    ensures tried { IsDel key result (view pass.old) (view pass.new) }
+    ensures tried { IsDel K.plain K.layout (K.rank key.now) result (view pass.old) (view pass.new) }
     ensures sure { B.tells ≡ true → KnowsResident (view pass.old) → IsFinal result }
     ensures known { B.tells ≡ true → KnowsResident (view pass.old) → KnowsResident (view pass.new) }
 {

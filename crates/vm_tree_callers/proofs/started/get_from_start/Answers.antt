@@ -1,5 +1,6 @@
 -- The second page and the get meet the premises of what is promised a pass that is alone, by what the calls before them told.
-use Rattle.std.proofs.Common.{[], ◌<◌, ◌≡◌, ◌≤◌, arith, Bool, length, List, map, refl, rules, subst, sym}
+use Rattle.std.proofs.Common.{[], ◌<◌, ◌≡◌, ◌≤◌, arith, Bool, length, List, map, rules, subst, sym}
+use Rattle.std.proofs.lemmas.Bool.{eq-eqb}
 use Rattle.vm_rule.specs.Prelude.{started_shape, Stored, unborn}
 use Rattle.vm_rule.specs.Begun.{begun}
 use Rattle.vm_rule.proofs.ListFacts.{length-mapped}
@@ -13,7 +14,7 @@ pub open_page-requires : goal.open_page-requires
 open_page-requires g c =
     let next : 2 ≤ length c.args.blocks.items = (let l = c.requires.fits.claimed in let n = c.requires.leaf in omega (arith, l, n)) in
     let page : 0 < c.args.shape.pages = (let p = c.requires.pages in omega (arith, next, p)) in
-    (search rules, (refl, (refl, (c.requires.pages, (c.requires.fits, (c.requires.below, (page, λ _. c.requires.begins)))))))
+    (search rules, (c.requires.sized, (eq-eqb _ _ (sym c.requires.words), (c.requires.pages, (c.requires.fits, (c.requires.below, (page, λ _. c.requires.begins)))))))
 
 pub bring-root-requires : goal.bring-root-requires
 bring-root-requires g c =
@@ -42,9 +43,9 @@ returns-clause-reply g c meta root =
     let blocks : List Stored = map g.B.Block.stored c.args.blocks.items in
     let shape = c.args.shape in
     let opened = c.in_ok-pool.field-0 in
-    let asked = subst (λ (t : Bool). HasAskedFirst 0 (begun (unborn (started_shape 64 t shape.first_version shape.next shape.frames blocks))) opened.iface.frames (view opened.pass) opened.answer) c.requires.tells
+    let asked = subst (λ (t : Bool). HasAskedFirst 0 (begun (unborn (started_shape g.row.N t shape.first_version shape.next shape.frames blocks))) opened.iface.frames (view opened.pass) opened.answer) c.requires.tells
     c.in_ok-pool.ensures.asked in
     let get = c.try_get-reply.ensures in
-    answers shape.first_version shape.next shape.frames blocks _ (length-mapped g.B.Block.stored c.args.blocks.items) c.requires.fits c.requires.below c.requires.frames c.requires.leaf
-    _ _ _ asked meta _ _ (view c.bring-root.new.pass) c.bring-root.result c.bring-root.ensures.keeps c.bring-root.ensures.table root c.args.key (view c.try_get-reply.new.pass) c.requires.begins
+    answers g.K.Kind.plain g.K.Kind.layout g.K.Kind.is_layout g.row.N shape.first_version shape.next shape.frames blocks _ (length-mapped g.B.Block.stored c.args.blocks.items) c.requires.fits c.requires.below c.requires.frames c.requires.leaf
+    _ _ _ asked meta _ _ (view c.bring-root.new.pass) c.bring-root.result c.bring-root.ensures.keeps c.bring-root.ensures.table root (g.K.Kind.rank c.args.key.now) (view c.try_get-reply.new.pass) c.requires.begins
     c.try_get-reply.result (get.sure c.requires.tells) get.tried

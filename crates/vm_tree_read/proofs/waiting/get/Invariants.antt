@@ -1,4 +1,3 @@
-use Rattle.vm_map.specs.declared.call.Said.{Said}
 use Rattle.vm_step.specs.Prelude.{NoneExpected, View}
 use Rattle.vm_tree_read.specs.Waiting.{AreRounds, IsRound, Waits}
 use Rattle.vm_tree_read.proofs.Rounds.{HasTried}
@@ -6,4 +5,4 @@ use Rattle.vm_tree_read.proofs.waiting.get.Given as goal
 
 -- no try was answered yet
 abbrev pub invariant-loop : goal.invariant-loop
-invariant-loop g l = HasTried (λ (x y : View Said). Waits x y × AreRounds (IsRound NoneExpected l.fn.key) x y) l.pool.words.table.shared.key g.B.Block.tells l.pool.words.table.shared.table_id l.fn.pass l.pass l.fn.iface l.iface
+invariant-loop g l = HasTried (λ (x y : View _). Waits x y × AreRounds (IsRound g.K.Kind.layout NoneExpected (g.K.Kind.rank l.fn.key)) x y) l.pool.words.table.shared.key g.B.Block.tells l.pool.words.table.shared.table_id l.fn.pass l.pass l.fn.iface l.iface

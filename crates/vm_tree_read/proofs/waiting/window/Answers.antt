@@ -1,3 +1,4 @@
+use Rattle.std.proofs.Common.{◌∙◌, arith, rules}
 use Rattle.vm_step.specs.Prelude.{view}
 use Rattle.vm_exmap.proofs.Handing.{held-on}
 use Rattle.vm_tree_read.proofs.Lasting.{reads-wait, replied, waits-self, waits-then}
@@ -15,9 +16,11 @@ loop-preserved-in-Again g c =
     let reads = c.in-Again.ensures.tried.0 in
     tried-read i c.try_window.new.pass c.try_window.ensures.pass reads c.try_window.ensures.ready (waits-then _ _ _ i.left.0 (reads-wait _ _ reads), rounds.further _ _ i.left.1 (round.again _ reads c.in-Again.ensures.tried.1))
 
-pub fetch-requires-clause-frames : goal.fetch-requires-clause-frames
-fetch-requires-clause-frames g c =
-    let reads = c.in-Need.ensures.tried.0 in held-on _ (view c.loop.pass) (view c.try_window.new.pass) c.loop.invariant.held reads.0.start reads.0.frames.0
+pub fetch-requires : goal.fetch-requires
+fetch-requires g c =
+    let i = c.loop.invariant in
+    let reads = c.in-Need.ensures.tried.0 in
+    (search rules, (c.try_window.ensures.ready, (reads.0.out ∙ i.left.0.out ∙ c.requires.home, (held-on _ (view c.loop.pass) (view c.try_window.new.pass) i.held reads.0.start reads.0.frames.0, (let inside = c.in-Need.ensures.tried.1.inside in let pages = i.ready.table.is_shape.pages in omega (arith, inside, pages))))))
 
 pub loop-preserved : goal.loop-preserved
 loop-preserved g c =
@@ -43,7 +46,7 @@ returns-in-Err-clause-err g c =
     }
 
 pub returns-in-Done-clause-ok : goal.returns-in-Done-clause-ok
-returns-in-Done-clause-ok g c = replied _ _ _ _ c.loop.invariant.left c.in-Done.ensures.tried
+returns-in-Done-clause-ok g c = replied g.K.Kind.plain g.K.Kind.layout _ _ _ _ c.loop.invariant.left c.in-Done.ensures.tried
 
 -- ---- no frame is lost
 

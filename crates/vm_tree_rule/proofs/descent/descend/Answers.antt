@@ -1,7 +1,7 @@
+use Rattle.std.proofs.Math.Nat.{mul-add, mul-le-mul_left}
 use Rattle.std.proofs.Common.{[], ◌*◌, ◌+◌, ◌-◌, ◌<◌, ◌∙◌, ◌∷◌, ◌≡◌, ◌≤◌, arith, refl, subst, ℕ}
 use Rattle.vm_step.specs.Prelude.{view}
-use Rattle.vm_map.specs.History.{bound_of}
-use Rattle.vm_tree_rule.specs.Standing.{Awaits, AwaitsNode}
+use Rattle.vm_tree_rule.specs.Standing.{Awaits, AwaitsNode, fence_of}
 use Rattle.vm_tree_rule.proofs.Counting.{height-more, height-wider, height-within, within-wider}
 use Rattle.vm_tree_rule.proofs.Downward.{stand-awaits}
 use Rattle.vm_tree_rule.proofs.descent.descend.Goals as goal
@@ -35,8 +35,8 @@ level-on n i level below is up l = omega (arith, is, up, l)
 pub step-requires-clause-inner : goal.step-requires-clause-inner
 step-requires-clause-inner g c = level-left c.in-Ok.top.stand.level c.loop.counter c.loop.stand.level c.loop.invariant.level c.loop-test.true
 
-one-more : (i : ℕ) → 2 + 7 * i + 7 ≤ 2 + 7 * (i + 1)
-one-more i = omega arith
+one-more : (m i : ℕ) → 2 + m * i + m ≤ 2 + m * (i + 1)
+one-more m i = let e : m * (i + 1) ≡ m * i + m * 1 = mul-add m i 1 in omega (arith, e)
 
 pub loop-preserved : goal.loop-preserved
 loop-preserved g c =
@@ -49,7 +49,7 @@ loop-preserved g c =
       reads = reads-then _ _ _ i.reads k.reads.0;
       opened = opened-earlier _ _ _ _ _ _ i.reads k.reads.1;
       left = omega (arith, less);
-      words = height-more (2 + 7 * c.loop.counter) 7 (2 + 7 * (c.loop.counter + 1)) _ _ _ _ i.words k.few (one-more c.loop.counter);
+      words = height-more (2 + g.K.Kind.bounds.child * c.loop.counter) g.K.Kind.bounds.child (2 + g.K.Kind.bounds.child * (c.loop.counter + 1)) _ _ _ _ i.words k.few (one-more g.K.Kind.bounds.child c.loop.counter);
       known = λ tells r. (k.known tells (i.known tells r)).0;
       level = level-on c.in-Ok.top.stand.level c.loop.counter c.loop.stand.level _ i.level k.level less;
       stands = k.stands;
@@ -62,30 +62,30 @@ pub returns-clause-fences : goal.returns-clause-fences
 returns-clause-fences g c =
     let i = c.loop.invariant in
     let at : c.loop.stand.level ≡ 0 = i.level ∙ none-left c.in-Ok.top.stand.level c.loop.counter c.loop-test.false in (
-      c.loop.stand.low,
-      bound_of c.loop.stand.high,
+      g.K.Kind.rank c.loop.stand.low,
+      fence_of g.K.Kind.layout g.K.Kind.rank c.loop.stand.high,
       i.stands.from,
       i.stands.below,
-      subst (λ n. AwaitsNode (view c.loop.pass) c.loop.stand.guard.pid c.loop.stand.guard.word n c.loop.stand.low (bound_of c.loop.stand.high)) at i.stands.awaits,
+      subst (λ n. AwaitsNode g.K.Kind.layout (view c.loop.pass) c.loop.stand.guard.pid c.loop.stand.guard.word n (g.K.Kind.rank c.loop.stand.low) (fence_of g.K.Kind.layout g.K.Kind.rank c.loop.stand.high)) at i.stands.awaits,
     )
 
 pub returns-clause-awaits : goal.returns-clause-awaits
 returns-clause-awaits g c =
     let i = c.loop.invariant in
-    subst (λ n. Awaits (view c.loop.pass) c.loop.stand.guard.pid c.loop.stand.guard.word n c.args.key) (i.level ∙ none-left c.in-Ok.top.stand.level c.loop.counter c.loop-test.false)
-    (stand-awaits c.args.key c.loop.stand _ i.stands)
+    subst (λ n. Awaits g.K.Kind.layout (view c.loop.pass) c.loop.stand.guard.pid c.loop.stand.guard.word n (g.K.Kind.rank c.args.key.now)) (i.level ∙ none-left c.in-Ok.top.stand.level c.loop.counter c.loop-test.false)
+    (stand-awaits g.K.Kind.rank (g.K.Kind.rank c.args.key.now) c.loop.stand _ i.stands)
 
 pub returns-clause-known : goal.returns-clause-known
 returns-clause-known g c tells k = c.loop.invariant.known tells k
 
-left-over : (i n : ℕ) → i ≤ n → 2 + 7 * i ≤ 2 + 7 * n
-left-over i n l = omega (arith, l)
+left-over : (m i n : ℕ) → i ≤ n → 2 + m * i ≤ 2 + m * n
+left-over m i n l = let e : m * i ≤ m * n = mul-le-mul_left m l in omega (arith, e)
 
 pub returns-clause-height : goal.returns-clause-height
-returns-clause-height g c = (c.in-Ok.top.stand.level, height-wider _ _ _ _ _ c.loop.invariant.words (left-over c.loop.counter c.in-Ok.top.stand.level c.loop.invariant.left))
+returns-clause-height g c = (c.in-Ok.top.stand.level, height-wider _ _ _ _ _ c.loop.invariant.words (left-over g.K.Kind.bounds.child c.loop.counter c.in-Ok.top.stand.level c.loop.invariant.left))
 
 pub returns-clause-few : goal.returns-clause-few
-returns-clause-few g c = height-within (λ h. 2 + 7 * h) _ c.in-Ok.top.stand.level _ _ c.loop.invariant.words (left-over c.loop.counter c.in-Ok.top.stand.level c.loop.invariant.left)
+returns-clause-few g c = height-within (λ h. 2 + g.K.Kind.bounds.child * h) _ c.in-Ok.top.stand.level _ _ c.loop.invariant.words (left-over g.K.Kind.bounds.child c.loop.counter c.in-Ok.top.stand.level c.loop.invariant.left)
 
 pub returns-in-Err-clause-few : goal.returns-in-Err-clause-few
 returns-in-Err-clause-few g c = within-wider _ _ _ _ (λ h. omega arith) c.in-Err.ensures.few
@@ -99,10 +99,10 @@ returns-in-Err-step-clause-err g c = c.in-Err-step.ensures.err _ c.loop.invarian
 pub returns-in-Err-step-clause-sure : goal.returns-in-Err-step-clause-sure
 returns-in-Err-step-clause-sure g c tells k = c.in-Err-step.ensures.sure tells (c.loop.invariant.known tells k)
 
-failed-last : (i n : ℕ) → i < n → 2 + 7 * i + 7 ≤ 2 + 7 * n
-failed-last i n l = omega (arith, l)
+failed-last : (m i n : ℕ) → i < n → 2 + m * i + m ≤ 2 + m * n
+failed-last m i n l = let e : m * (i + 1) ≡ m * i + m * 1 = mul-add m i 1 in let h : m * (i + 1) ≤ m * n = mul-le-mul_left m (omega (arith, l)) in omega (arith, e, h)
 
 pub returns-in-Err-step-clause-few : goal.returns-in-Err-step-clause-few
 returns-in-Err-step-clause-few g c =
-    height-within (λ h. 2 + 7 * h) (2 + 7 * c.loop.counter + 7) c.in-Ok.top.stand.level _ _ (height-more _ 7 _ _ _ _ _ c.loop.invariant.words c.in-Err-step.ensures.few (omega arith))
-    (failed-last c.loop.counter c.in-Ok.top.stand.level c.loop-test.true)
+    height-within (λ h. 2 + g.K.Kind.bounds.child * h) (2 + g.K.Kind.bounds.child * c.loop.counter + g.K.Kind.bounds.child) c.in-Ok.top.stand.level _ _ (height-more _ g.K.Kind.bounds.child _ _ _ _ _ c.loop.invariant.words c.in-Err-step.ensures.few (omega arith))
+    (failed-last g.K.Kind.bounds.child c.loop.counter c.in-Ok.top.stand.level c.loop-test.true)

@@ -12,8 +12,8 @@ invariant-loop g l = record {
   reads : ReadsOn (view l.fn.pass) (view l.pass);
   opened : IsOpened (view l.fn.pass) l.stand.guard.pid l.stand.guard.word l.stand.guard.frame (view l.pass);
   left : l.counter ≤ l.end;
-  words : LoadsHeight (2 + 7 * l.counter) l.end (view l.fn.pass) (view l.pass);
+  words : LoadsHeight (2 + g.K.Kind.bounds.child * l.counter) l.end (view l.fn.pass) (view l.pass);
   known : g.B.Block.tells ≡ true → KnowsResident (view l.fn.pass) → IsKnownNow l.stand.guard.pid l.stand.guard.word (view l.pass);
   level : l.stand.level ≡ l.end - l.counter;
-  stands : IsStand l.key l.stand (view l.pass);
+  stands : IsStand g.K.Kind.layout g.K.Kind.rank (g.K.Kind.rank l.key) l.stand (view l.pass);
 }

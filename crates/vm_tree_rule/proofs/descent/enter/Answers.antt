@@ -1,5 +1,4 @@
 use Rattle.std.proofs.Common.{◌∙◌, ◌≡◌, arith, Err, IfErr, IfOk, inl, IsOk, Result, subst, sym, ℕ}
-use Rattle.vm_map.specs.declared.call.Said.{Said}
 use Rattle.vm_step.specs.Prelude.{NoneExpected, NoWord, View, view}
 use Rattle.vm_guard.specs.{declared.deny.Deny.Deny, declared.opt.OptGuard.OptGuard, Denied.AgainOrNeed, Denied.IsDenied, Guards.BeginsReading}
 use Rattle.vm_guard.proofs.PageLoads.{words-then}
@@ -34,7 +33,7 @@ returns-in-Ok-started-clause-ok g c =
     let begun = subst (λ r. IfOk r (λ guard. (guard.pid ≡ c.args.named) × BeginsReading c.args.named guard.word guard.frame (view c.args.pass.now) (view c.start-started.new.pass))) c.in-Ok-started.is c.start-started.ensures.ok in
     let same = begun.0 in (
       same,
-      subst (λ n. HasSteppedDown c.args.parent.now.pid c.args.parent.now.word c.args.parent.now.frame n c.in-Ok-started.guard.word c.in-Ok-started.guard.frame (view c.args.pass.now) (view c.validate_silently-2.new.pass)) (sym same)
+      subst (λ n. HasSteppedDown g.K.Kind.layout c.args.parent.now.pid c.args.parent.now.word c.args.parent.now.frame n c.in-Ok-started.guard.word c.in-Ok-started.guard.frame (view c.args.pass.now) (view c.validate_silently-2.new.pass)) (sym same)
           (stepped _ _ _ c.args.named _ _ _ _ _ c.if-named-parent.false c.requires.reading begun.1 c.in-Ok-validate_silently.ensures.ok),
     )
 
@@ -60,7 +59,7 @@ returns-in-Ok-started-clause-known g c tells k =
     let n = looked-known c.args.named c.args.parent.now.pid c.args.parent.now.word c.start-started.result (view c.args.pass.now) (view c.start-started.new.pass) c.if-named-parent.false c.start-started.ensures.ok c.start-started.ensures.err k in
     let valid = c.in-Ok-validate_silently.ensures.ok in
     let reads = (valid-reads _ _ _ _ _ _ valid).0 in
-    let below = named-below _ _ _ c.args.named c.requires.names.0 c.requires.names.1 c.requires.names.2 (view c.args.pass.now) (view c.start-started.new.pass) (view c.validate_silently-2.new.pass) l.reads l.same (l.next k.resident.alone) valid (tree-size _ _ _ c.validate_silently-2.ensures.ready.table.is_shape.size c.args.words.now.sized.0 c.args.words.now.size.takes) (c.in-Ok-validate_silently.ensures.kept tells) c.requires.names.3 (c.requires.ready.table.tells_is ∙ tells) k.resident.alone in (
+    let below = named-below g.K.Kind.plain g.K.Kind.layout g.K.Kind.is_layout _ _ _ c.args.named c.requires.names.0 c.requires.names.1 c.requires.names.2 (view c.args.pass.now) (view c.start-started.new.pass) (view c.validate_silently-2.new.pass) l.reads l.same (l.next k.resident.alone) valid (tree-size _ _ _ c.validate_silently-2.ensures.ready.table.is_shape.size c.args.words.now.sized.0 c.args.words.now.size.takes) (c.in-Ok-validate_silently.ensures.kept tells) c.requires.names.3 (c.requires.ready.table.tells_is ∙ tells) k.resident.alone in (
       subst (λ p. IsKnownNow p c.in-Ok-started.guard.word (view c.validate_silently-2.new.pass)) (sym begun.0) (known-same _ _ _ _ reads valid.table (known-begun c.args.named _ _ (view c.args.pass.now) (view c.start-started.new.pass) begun.1 below k.resident)),
       known-same _ _ _ _ reads valid.table n,
     )
@@ -71,7 +70,7 @@ returns-in-Ok-started-clause-locks g c =
     let valid = c.in-Ok-validate_silently.ensures.ok in
     locks-same (view c.start-started.new.pass) (view c.validate_silently-2.new.pass) (valid-reads _ _ _ _ _ _ valid).0 valid.table (record { current = begun.1.current; unheld = c.start-started.ensures.unheld })
 
-denied-is : (r : Result OptGuard Deny) (named : ℕ) (d : Deny) (v x : View Said) → r ≡ Err d → IfErr r (λ e. IsDenied AgainOrNeed NoWord NoneExpected named e v x) → IsDenied AgainOrNeed NoWord NoneExpected named d v x
+denied-is : {S : Type 0} (r : Result OptGuard Deny) (named : ℕ) (d : Deny) (v x : View S) → r ≡ Err d → IfErr r (λ e. IsDenied AgainOrNeed NoWord NoneExpected named e v x) → IsDenied AgainOrNeed NoWord NoneExpected named d v x
 denied-is r named d v x is err = subst (λ (y : Result OptGuard Deny). IfErr y (λ e. IsDenied AgainOrNeed NoWord NoneExpected named e v x)) is err
 
 pub of_denied-requires : goal.of_denied-requires
@@ -92,7 +91,7 @@ returns-in-Err-started-clause-sure g c tells k =
     let high = c.if-named-pages.false in
     let same = c.args.words.now.shape.0 in
     let pages = c.requires.ready.table.is_shape.pages in
-    let below = named-below _ _ _ c.args.named c.requires.names.0 c.requires.names.1 c.requires.names.2 (view c.args.pass.now) (view c.start-started.new.pass) (view c.validate_silently-2.new.pass) l.reads l.same (l.next a) c.in-Ok-validate_silently.ensures.ok (tree-size _ _ _ c.validate_silently-2.ensures.ready.table.is_shape.size c.args.words.now.sized.0 c.args.words.now.size.takes) (c.in-Ok-validate_silently.ensures.kept tells) c.requires.names.3 (c.requires.ready.table.tells_is ∙ tells) a in
+    let below = named-below g.K.Kind.plain g.K.Kind.layout g.K.Kind.is_layout _ _ _ c.args.named c.requires.names.0 c.requires.names.1 c.requires.names.2 (view c.args.pass.now) (view c.start-started.new.pass) (view c.validate_silently-2.new.pass) l.reads l.same (l.next a) c.in-Ok-validate_silently.ensures.ok (tree-size _ _ _ c.validate_silently-2.ensures.ready.table.is_shape.size c.args.words.now.sized.0 c.args.words.now.size.takes) (c.in-Ok-validate_silently.ensures.kept tells) c.requires.names.3 (c.requires.ready.table.tells_is ∙ tells) a in
     subst (λ r. IsOk r) c.in-Err-started.is (c.start-started.ensures.sure a (free-below c.args.named (view c.args.pass.now) k.resident below (omega (arith, high, same, pages))))
 
 pub returns-in-Ok-started-clause-words : goal.returns-in-Ok-started-clause-words

@@ -1,10 +1,9 @@
-use Rattle.std.proofs.Common.{◌-◌, ◌<◌, ◌∙◌, ◌≡◌, ◌≤◌, ap, arith, inr, List, MatchOption, None, Option, Some, subst, suc, sym, unwrap_or, ℕ}
-use Rattle.vm_map.specs.History.{bound_of}
-use Rattle.vm_map.specs.declared.call.Said.{Said}
+use Rattle.std.proofs.Common.{◌-◌, ◌<◌, ◌∙◌, ◌≡◌, ◌≤◌, ap, arith, inr, List, MatchOption, None, Option, option_map, Some, subst, suc, sym, unwrap_or, ℕ}
+use Rattle.vm_tree_model.specs.Layout.{Layout}
 use Rattle.vm_rule.specs.Prelude.{last_of}
 use Rattle.vm_step.specs.Prelude.{Origin, View, view}
 use Rattle.vm_tree_rule.specs.{declared.descent.Stand.Stand, Seeks.TellChild, Seeks.TellChildIn}
-use Rattle.vm_tree_rule.specs.Standing.{Awaits, AwaitsNode, IsStand}
+use Rattle.vm_tree_rule.specs.Standing.{Awaits, AwaitsNode, fence_of, IsStand}
 use Rattle.vm_tree_rule.specs.Turns.{IsNoTree as no_tree, IsTurnedBack}
 use Rattle.vm_tree_rule.proofs.descent.step.Goals as goal
 use Rattle.vm_tree_rule.proofs.{Counting.place-within, Downward.awaits-later, Downward.node-later, Downward.stand-awaits}
@@ -16,17 +15,23 @@ use Rattle.vm_tree_rule.proofs.Surely.{known-at, known-same}
 use Rattle.vm_tree_rule.proofs.Whole.{tree-size}
 
 -- the search that tells the fences tells the page
-tells-page : (loaded : List (ℕ × ℕ)) (key named low : ℕ) (next : Option ℕ) → TellChildIn loaded key named low next → TellChild loaded key named
-tells-page loaded key named low next tells words with = (tells words with).finds
+tells-page : (L : Layout) (loaded : List (ℕ × ℕ)) (key named low : ℕ) (next : Option ℕ) → TellChildIn L loaded key named low next → TellChild L loaded key named
+tells-page L loaded key named low next tells words with = (tells words with).finds
 
 inner-level : (n : ℕ) → 1 ≤ n → n ≡ suc (n - 1)
 inner-level n some = omega (arith, some)
 
-above : (key : ℕ) (s : Stand) (v : View Said) → 1 ≤ s.level → IsStand key s v → Awaits v s.guard.pid s.guard.word (suc (s.level - 1)) key
-above key s v some k = subst (λ n. Awaits v s.guard.pid s.guard.word n key) (inner-level s.level some) (stand-awaits key s v k)
+module _ {X T : Type 0} (L : Layout) (rank : T → ℕ) where
+  above : (key : ℕ) (s : Stand T) (v : View X) → 1 ≤ s.level → IsStand L rank key s v → Awaits L v s.guard.pid s.guard.word (suc (s.level - 1)) key
+  above key s v some k = subst (λ n. Awaits L v s.guard.pid s.guard.word n key) (inner-level s.level some) (stand-awaits rank key s v k)
 
-node : (key : ℕ) (s : Stand) (v : View Said) → 1 ≤ s.level → IsStand key s v → AwaitsNode v s.guard.pid s.guard.word (suc (s.level - 1)) s.low (bound_of s.high)
-node key s v some k = subst (λ n. AwaitsNode v s.guard.pid s.guard.word n s.low (bound_of s.high)) (inner-level s.level some) k.awaits
+  node : (key : ℕ) (s : Stand T) (v : View X) → 1 ≤ s.level → IsStand L rank key s v → AwaitsNode L v s.guard.pid s.guard.word (suc (s.level - 1)) (rank s.low) (fence_of L rank s.high)
+  node key s v some k = subst (λ n. AwaitsNode L v s.guard.pid s.guard.word n (rank s.low) (fence_of L rank s.high)) (inner-level s.level some) k.awaits
+
+-- what is told of the keys on both sides is told of their numbers
+sides-next : {T : Type 0} (rank : T → ℕ) (key : ℕ) (next : Option T) → MatchOption next (Unit {0}) (λ k. key < rank k) → MatchOption (option_map rank next) (Unit {0}) (λ k. key < k)
+sides-next rank key None tt = tt
+sides-next rank key (Some k) less = less
 
 -- the key is below the next one, or below the node's fence
 below-next : (key high : ℕ) (next : Option ℕ) → MatchOption next (Unit {0}) (λ k. key < k) → key < high → key < unwrap_or next high
@@ -42,10 +47,10 @@ enter-requires-clause-names g c =
     let s = c.args.stand.now in
     let k = c.requires.stands in (
       s.level - 1,
-      c.in-Some.child.low,
-      unwrap_or c.in-Some.child.next (bound_of s.high),
-      goes-on _ _ _ (s.level - 1) c.args.key f.loaded _ f.loads.reads (_, f.loads.loads) s.low (bound_of s.high)
-          (node-later _ _ _ _ _ _ _ (loads-reads _ _ _ _ _ _ f.loads).0 (node c.args.key s _ c.requires.inner k)) k.from k.below c.in-Some.child.page c.in-Some.child.low c.in-Some.child.next f.tells,
+      (g.K.Kind.rank c.in-Some.child.low),
+      unwrap_or (option_map g.K.Kind.rank c.in-Some.child.next) (fence_of g.K.Kind.layout g.K.Kind.rank s.high),
+      goes-on _ _ _ (s.level - 1) (g.K.Kind.rank c.args.key.now) f.loaded _ f.loads.reads (_, f.loads.loads) (g.K.Kind.rank s.low) (fence_of g.K.Kind.layout g.K.Kind.rank s.high)
+          (node-later _ _ _ _ _ _ _ (loads-reads _ _ _ _ _ _ f.loads).0 (node g.K.Kind.layout g.K.Kind.rank (g.K.Kind.rank c.args.key.now) s _ c.requires.inner k)) k.from k.below c.in-Some.child.page (g.K.Kind.rank c.in-Some.child.low) (option_map g.K.Kind.rank c.in-Some.child.next) f.tells,
     )
 
 pub returns-in-Ok-clause-reads : goal.returns-in-Ok-clause-reads
@@ -65,11 +70,12 @@ returns-in-Ok-clause-stands g c =
     let f = c.in-Some.ensures.found in
     let k = c.requires.stands in
     record {
-      awaits = subst (λ b. AwaitsNode (view c.enter.new.pass) c.in-Ok.guard.pid c.in-Ok.guard.word (s.level - 1) child.low b) (sym c.high_fence.ensures)
-          (c.in-Ok.ensures.awaits (s.level - 1) child.low (unwrap_or child.next (bound_of s.high)) (goes-on _ _ _ (s.level - 1) c.args.key f.loaded _ f.loads.reads (_, f.loads.loads) s.low (bound_of s.high)
-          (node-later _ _ _ _ _ _ _ (loads-reads _ _ _ _ _ _ f.loads).0 (node c.args.key s _ c.requires.inner k)) k.from k.below child.page child.low child.next f.tells));
+      awaits = subst (λ b. AwaitsNode g.K.Kind.layout (view c.enter.new.pass) c.in-Ok.guard.pid c.in-Ok.guard.word (s.level - 1) (g.K.Kind.rank child.low) b) (sym c.high_fence.ensures)
+          (c.in-Ok.ensures.awaits (s.level - 1) (g.K.Kind.rank child.low) (unwrap_or (option_map g.K.Kind.rank child.next) (fence_of g.K.Kind.layout g.K.Kind.rank s.high)) (goes-on _ _ _ (s.level - 1) (g.K.Kind.rank c.args.key.now) f.loaded _ f.loads.reads (_, f.loads.loads) (g.K.Kind.rank s.low) (fence_of g.K.Kind.layout g.K.Kind.rank s.high)
+          (node-later _ _ _ _ _ _ _ (loads-reads _ _ _ _ _ _ f.loads).0 (node g.K.Kind.layout g.K.Kind.rank (g.K.Kind.rank c.args.key.now) s _ c.requires.inner k)) k.from k.below child.page (g.K.Kind.rank child.low) (option_map g.K.Kind.rank child.next) f.tells));
       from = sides.0;
-      below = subst (λ b. c.args.key < b) (sym c.high_fence.ensures) (below-next c.args.key (bound_of s.high) child.next sides.1 c.requires.stands.below);
+      below = subst (λ b. (g.K.Kind.rank c.args.key.now) < b) (sym c.high_fence.ensures) (below-next (g.K.Kind.rank c.args.key.now) (fence_of g.K.Kind.layout g.K.Kind.rank s.high) (option_map g.K.Kind.rank child.next)
+          (sides-next g.K.Kind.rank (g.K.Kind.rank c.args.key.now) child.next sides.1) c.requires.stands.below);
     }
 
 pub returns-in-Ok-clause-parent : goal.returns-in-Ok-clause-parent
@@ -81,8 +87,8 @@ returns-in-Ok-clause-parent g c =
 pub returns-in-Ok-clause-passed : goal.returns-in-Ok-clause-passed
 returns-in-Ok-clause-passed g c =
     let f = c.in-Some.ensures.found in
-    passes-by _ _ _ (c.args.stand.now.level - 1) _ f.loaded _ _ _ f.loads (above c.args.key c.args.stand.now _ c.requires.inner c.requires.stands) c.in-Some.child.page
-    (tells-page f.loaded c.args.key c.in-Some.child.page c.in-Some.child.low c.in-Some.child.next f.tells) _ _ _ c.in-Ok.ensures.ok.0 (tree-size _ _ _ c.enter.ensures.ready.table.is_shape.size c.args.words.now.sized.0 c.args.words.now.size.takes) c.in-Ok.ensures.ok.1
+    passes-by g.K.Kind.spare _ _ _ (c.args.stand.now.level - 1) _ f.loaded _ _ _ f.loads (above g.K.Kind.layout g.K.Kind.rank (g.K.Kind.rank c.args.key.now) c.args.stand.now _ c.requires.inner c.requires.stands) c.in-Some.child.page
+    (tells-page g.K.Kind.layout f.loaded (g.K.Kind.rank c.args.key.now) c.in-Some.child.page (g.K.Kind.rank c.in-Some.child.low) (option_map g.K.Kind.rank c.in-Some.child.next) f.tells) _ _ _ c.in-Ok.ensures.ok.0 (tree-size _ _ _ c.enter.ensures.ready.table.is_shape.size c.args.words.now.sized.0 c.args.words.now.size.takes) c.in-Ok.ensures.ok.1
 
 pub returns-in-Ok-clause-known : goal.returns-in-Ok-clause-known
 returns-in-Ok-clause-known g c tells known =
@@ -98,10 +104,10 @@ returns-in-Ok-clause-few g c = place-within _ _ _ _ _ _ _ _ c.in-Some.ensures.fo
 pub returns-in-Err-clause-err : goal.returns-in-Err-clause-err
 returns-in-Err-clause-err g c u o =
     let f = c.in-Some.ensures.found in
-    let page = tells-page f.loaded c.args.key c.in-Some.child.page c.in-Some.child.low c.in-Some.child.next f.tells in
+    let page = tells-page g.K.Kind.layout f.loaded (g.K.Kind.rank c.args.key.now) c.in-Some.child.page (g.K.Kind.rank c.in-Some.child.low) (option_map g.K.Kind.rank c.in-Some.child.next) f.tells in
     turned _ _ _ _ _ c.in-Err.turn u _ _ (opened-loads _ _ _ _ _ _ _ o f.loads)
     (goes-to _ _ _ (c.args.stand.now.level - 1) _ f.loaded _ f.loads.reads (_, f.loads.loads)
-    (awaits-later _ _ _ _ _ _ (loads-reads _ _ _ _ _ _ f.loads).0 (above c.args.key c.args.stand.now _ c.requires.inner c.requires.stands)) c.in-Some.child.page page)
+    (awaits-later _ _ _ _ _ _ (loads-reads _ _ _ _ _ _ f.loads).0 (above g.K.Kind.layout g.K.Kind.rank (g.K.Kind.rank c.args.key.now) c.args.stand.now _ c.requires.inner c.requires.stands)) c.in-Some.child.page page)
     (inr (f.loaded, (_, f.loads.loads), page)) (tree-size _ _ _ c.enter.ensures.ready.table.is_shape.size c.args.words.now.sized.0 c.args.words.now.size.takes) c.in-Err.ensures.err
 
 pub returns-in-Err-clause-sure : goal.returns-in-Err-clause-sure
@@ -118,11 +124,11 @@ returns-in-Ok-validate_silently-clause-err g c u o =
     let valid = c.in-Ok-validate_silently.ensures.ok in
     let opened = opened-loads _ _ _ _ u _ _ o f.loads in
     let start = (opened-reads _ _ _ u _ opened).0.start in
-    subst (λ t. IsTurnedBack u c.args.key t (view c.validate_silently.new.pass)) (sym c.astray_at.ensures)
-    (astray-turn _ _ _ c.args.key u _ _ opened
+    subst (λ t. IsTurnedBack g.K.Kind.layout u (g.K.Kind.rank c.args.key.now) t (view c.validate_silently.new.pass)) (sym c.astray_at.ensures)
+    (astray-turn _ _ _ (g.K.Kind.rank c.args.key.now) u _ _ opened
     (untold _ (λ tells.
     let told = ap (λ (y : Origin). y.tells) start ∙ tells in
-    goes-nowhere _ _ _ (c.args.stand.now.level - 1) _ f.loaded _ f.loads.reads (_, f.loads.loads) (awaits-later _ _ _ _ _ _ (loads-reads _ _ _ _ _ _ f.loads).0 (above c.args.key c.args.stand.now _ c.requires.inner c.requires.stands)) f.tells told
+    goes-nowhere _ _ _ (c.args.stand.now.level - 1) _ f.loaded _ f.loads.reads (_, f.loads.loads) (awaits-later _ _ _ _ _ _ (loads-reads _ _ _ _ _ _ f.loads).0 (above g.K.Kind.layout g.K.Kind.rank (g.K.Kind.rank c.args.key.now) c.args.stand.now _ c.requires.inner c.requires.stands)) f.tells told
     (last_of (view c.validate_silently.new.pass) c.args.stand.now.guard.pid).words (valid.size ∙ tree-size _ _ _ c.validate_silently.ensures.ready.table.is_shape.size c.args.words.now.sized.0 c.args.words.now.size.takes) (valid.validates told)))
     valid
     (no_tree.childless f.loaded (_, (valid.same_reads _).loads ∙ f.loads.loads) f.tells))
@@ -133,7 +139,7 @@ returns-in-Ok-validate_silently-clause-sure g c tells known =
     let valid = c.in-Ok-validate_silently.ensures.ok in
     let told = c.in-None.ensures.ready.table.tells_is ∙ tells in
     absurd
-    (goes-nowhere _ _ _ (c.args.stand.now.level - 1) _ f.loaded _ f.loads.reads (_, f.loads.loads) (awaits-later _ _ _ _ _ _ (loads-reads _ _ _ _ _ _ f.loads).0 (above c.args.key c.args.stand.now _ c.requires.inner c.requires.stands)) f.tells told
+    (goes-nowhere _ _ _ (c.args.stand.now.level - 1) _ f.loaded _ f.loads.reads (_, f.loads.loads) (awaits-later _ _ _ _ _ _ (loads-reads _ _ _ _ _ _ f.loads).0 (above g.K.Kind.layout g.K.Kind.rank (g.K.Kind.rank c.args.key.now) c.args.stand.now _ c.requires.inner c.requires.stands)) f.tells told
     (last_of (view c.validate_silently.new.pass) c.args.stand.now.guard.pid).words (valid.size ∙ tree-size _ _ _ c.validate_silently.ensures.ready.table.is_shape.size c.args.words.now.sized.0 c.args.words.now.size.takes) (valid.validates told))
 
 pub returns-in-Ok-validate_silently-clause-few : goal.returns-in-Ok-validate_silently-clause-few
@@ -141,7 +147,7 @@ returns-in-Ok-validate_silently-clause-few g c = place-within _ _ _ _ _ _ _ _ c.
 
 pub returns-in-Err-validate_silently-clause-err : goal.returns-in-Err-validate_silently-clause-err
 returns-in-Err-validate_silently-clause-err g c u o =
-    let loads = c.in-None.ensures.found.loads in refused-turn _ _ _ c.args.key _ u _ _ _ (opened-loads _ _ _ _ _ _ _ o loads) (reads-self _) (leaves-self _ _) c.in-Err-validate_silently.ensures.err
+    let loads = c.in-None.ensures.found.loads in refused-turn _ _ _ g.K.Kind.layout (g.K.Kind.rank c.args.key.now) _ u _ _ _ (opened-loads _ _ _ _ _ _ _ o loads) (reads-self _) (leaves-self _ _) c.in-Err-validate_silently.ensures.err
 
 pub returns-in-Err-validate_silently-clause-sure : goal.returns-in-Err-validate_silently-clause-sure
 returns-in-Err-validate_silently-clause-sure g c tells known =

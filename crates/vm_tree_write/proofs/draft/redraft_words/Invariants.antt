@@ -15,8 +15,8 @@ invariant-loop-i g l = record {
   drafts : DraftsIn l.fn.guard.pid l.fn.guard.frame (view l.fn.pass) (view l.pass);
   redrafted : IsRedrafted l.fn.guard.pid (view l.fn.pass) (view l.pass);
   known : KnowsSameStates (view l.fn.pass) (view l.pass);
-  differ : SetsDiffering l.before (g.W.Wanted.words l.after) (view l.fn.pass) (view l.pass);
-  size : l.from < l.i → length (g.W.Wanted.words l.after) ≡ 64;
+  differ : SetsDiffering (g.K.Pages.words_of l.before) (g.W.Wanted.words l.after) (view l.fn.pass) (view l.pass);
+  size : l.from < l.i → length (g.W.Wanted.words l.after) ≡ g.K.Kind.layout.words;
   drafted : (view l.fn.pass).start.tells ≡ true
-      → IsDraftedAmong l.from l.i l.before (g.W.Wanted.words l.after) (draft_of (view l.fn.pass) l.fn.guard.pid) (draft_of (view l.pass) l.fn.guard.pid);
+      → IsDraftedAmong l.from l.i (g.K.Pages.words_of l.before) (g.W.Wanted.words l.after) (draft_of (view l.fn.pass) l.fn.guard.pid) (draft_of (view l.pass) l.fn.guard.pid);
 }

@@ -1,10 +1,13 @@
-use Rattle.std.proofs.Common.{◌∙◌, inl, None, subst}
+use Rattle.std.proofs.Common.{[], ◌∙◌, ◌∷◌, ap, inl, None, subst, sym}
+use Rattle.vm_core.specs.Prelude.{Version}
+use Rattle.vm_rule.specs.Prelude.{AreUnchanged, change_of, has}
 use Rattle.vm_step.specs.Prelude.{view}
 use Rattle.vm_guard.specs.Guards.{IsReleased}
 use Rattle.vm_guard.proofs.Reading.{reading-elsewhere}
 use Rattle.vm_tree_write.specs.Prepares.IsLockDenied.{first_denied, second_denied}
 use Rattle.vm_tree_write.proofs.prepare.lock_two.Goals as goal
 use Rattle.vm_tree_write.proofs.Refusing.{back-keeps, quiet-keeps, says-denied}
+use Rattle.vm_tree_write.proofs.Splitting.{none-said}
 use Rattle.vm_tree_write.proofs.Settling.{locked-alone, locked-word, only-worn}
 
 pub returns-in-Err-clause-err : goal.returns-in-Err-clause-err
@@ -20,17 +23,30 @@ upgrade-requires-2-clause-reading g c =
     let l = c.in-Ok.ensures.taken.2 in
     inl (reading-elsewhere c.args.second.pid c.args.second.word c.args.second.frame c.args.first.pid l.done (view c.args.pass.now) (view c.upgrade.new.pass) c.requires.apart l.elsewhere c.requires.second)
 
+pub release-requires-clause-owner : goal.release-requires-clause-owner
+release-requires-clause-owner g c =
+    let k = c.in-Ok.ensures.taken in
+    let l = k.2 in
+    let q = c.in-Err-upgrade.ensures.denied.quiet in
+    let n = q.knows c.args.first.pid (inl l.holding.owns) in
+    let y = view c.upgrade-2.new.pass in
+    λ tells.
+    inl (
+      none-said _ c.as_ref.result c.as_ref.ensures.variant,
+      subst (λ p. AreUnchanged y.owed (change_of y p ∷ [])) (sym k.0) (n.draft ∙ l.draft ∙ sym (ap (λ (t : Version). t.words) n.last), ap (has c.args.first.pid) (q.group.1 ∙ l.group.1) ∙ l.before.paid, tt),
+    )
+
 pub returns-in-Err-upgrade-clause-err : goal.returns-in-Err-upgrade-clause-err
 returns-in-Err-upgrade-clause-err g c =
     let k = c.in-Ok.ensures.taken in
     let l = k.2 in
     let d = c.in-Err-upgrade.ensures.denied in
-    let r = c.release.ensures.released in
     let up = c.in-Ok.up in
     let v = view c.args.pass.now in
     let x = view c.upgrade.new.pass in
     let y = view c.upgrade-2.new.pass in
     let w = view c.release.new.pass in
+    let r = subst (λ said. IsReleased up.pid up.version said y w) (none-said _ c.as_ref.result c.as_ref.ensures.variant) c.release.ensures.released in
     let back = subst (λ p. IsReleased p up.version None y w) k.0 r in (
       back-keeps c.args.first.pid up.frame up.version up.dirty v x y w l (quiet-keeps c.args.second.pid d.done x y d.quiet) back,
       r.elsewhere.steady.frames.0 ∙ d.quiet.steady.frames.0 ∙ l.elsewhere.steady.frames.0,

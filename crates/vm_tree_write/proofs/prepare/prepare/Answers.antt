@@ -29,7 +29,7 @@ pub returns-in-Ok-clause-ok : goal.returns-in-Ok-clause-ok
 returns-in-Ok-clause-ok g c =
     let x = view c.room_for.new.pass in
     let w = view c.take_all.new.pass in
-    IfOk-weaker c.take_all.result (λ all. AreTaken c.args.n c.args.first c.args.second all.up all.low (guards_of all.pages) x w) (λ all. IsPrepared c.args.n c.args.first c.args.second all.up all.low (guards_of all.pages) (view c.args.pass.now) w)
+    IfOk-weaker c.take_all.result (λ all. AreTaken g.K.Kind.layout c.args.n c.args.first c.args.second all.up all.low (guards_of all.pages) x w) (λ all. IsPrepared g.K.Kind.layout c.args.n c.args.first c.args.second all.up all.low (guards_of all.pages) (view c.args.pass.now) w)
     (λ all k. record { next = c.in-Ok._next; roomy = x; room = c.in-Ok.ensures.room; taken = k }) c.take_all.ensures.ok
 
 pub returns-in-Ok-clause-lost : goal.returns-in-Ok-clause-lost
@@ -58,8 +58,8 @@ returns-in-Ok-clause-err g c =
     let w = view c.take_all.new.pass in
     let h = c.in-Ok.ensures.room in
     IfErr-weaker c.take_all.result
-    (λ answer. AreHeld c.take_all.new.iface.frames w × KeepsLocksOnly x w × IsUntaken c.args.n c.args.first c.args.second x w answer)
-    (λ answer. AreHeld c.take_all.new.iface.frames w × KeepsLocksOnly v w × IsUnsplit c.args.n c.args.first c.args.second v w answer)
+    (λ answer. AreHeld c.take_all.new.iface.frames w × KeepsLocksOnly x w × IsUntaken g.K.Kind.layout c.args.n c.args.first c.args.second x w answer)
+    (λ answer. AreHeld c.take_all.new.iface.frames w × KeepsLocksOnly v w × IsUnsplit g.K.Kind.plain g.K.Kind.layout g.K.Kind.spare c.args.n c.args.first c.args.second v w answer)
     (λ answer k. (k.0, keeps-then v x w (roomy-keeps c.in-Ok._next v x h.loaded) k.1, untaken c.in-Ok._next x h k.2)) c.take_all.ensures.err
 
 pub returns-in-Ok-clause-sure : goal.returns-in-Ok-clause-sure

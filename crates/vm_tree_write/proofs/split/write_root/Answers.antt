@@ -1,34 +1,34 @@
-use Rattle.std.proofs.Common.{◌+◌, ◌∙◌, ◌≡◌, ap, arith, refl, slice_set, subst, sym, true, ℕ}
-use Rattle.vm_map.specs.declared.call.Said.{Said}
-use Rattle.vm_node.specs.Halves.{left_half}
+use Rattle.std.proofs.Common.{[], ◌+◌, ◌∙◌, ◌∷◌, ◌≡◌, ◌≤◌, ap, arith, refl, slice_set, subst, sym, true, ℕ}
 use Rattle.vm_rule.specs.Prelude.{draft_of, last_of}
 use Rattle.vm_step.specs.Prelude.{View, view}
 use Rattle.vm_guard.specs.{declared.exclusive.ExclusiveGuard.ExclusiveGuard, Guards.IsHolding, Guards.IsSet}
+use Rattle.vm_guard.specs.Groups.{AreReleased, MayReleaseAll}
+use Rattle.vm_tree_laws.specs.Plain.{ReleasesPlain}
 use Rattle.vm_tree_rule.proofs.Whole.{tree-size, tree_place}
 use Rattle.vm_tree_write.specs.{Drafts.IsRedrafted, Splits.HasDraft}
 use Rattle.vm_tree_write.proofs.Rooting.{four-all, four-apart, four-redrafted, four-released, four-stay, redrafts-two, set-two}
 use Rattle.vm_tree_write.proofs.split.write_root.Goals as goal
-use Rattle.vm_tree_write.proofs.Splitting.{draft-past, holding-past, Redrafts, redrafts-of, told-before}
+use Rattle.vm_tree_write.proofs.Splitting.{draft-past, holding-past, none-said, Redrafts, redrafts-of, told-before}
 
 -- page 0 after both words
-two : (g g' : ExclusiveGuard) (x y : ℕ) (v u w : View Said) → IsSet g.pid g.frame g.dirty 1 x v u → g' ≡ record g { dirty = true } → IsSet g'.pid g'.frame g'.dirty 2 y u w → draft_of v g.pid ≡ (last_of v g.pid).words
+two : {X : Type 0} (g g' : ExclusiveGuard) (x y : ℕ) (v u w : View X) → IsSet g.pid g.frame g.dirty 1 x v u → g' ≡ record g { dirty = true } → IsSet g'.pid g'.frame g'.dirty 2 y u w → draft_of v g.pid ≡ (last_of v g.pid).words
     → IsRedrafted g.pid v w × HasDraft g.pid (last_of v g.pid).words (slice_set (slice_set (last_of v g.pid).words 1 x) 2 y) w
 two g g' x y v u w s e t same =
     let t' : IsSet g.pid g.frame true 2 y u w = subst (λ (k : ExclusiveGuard). IsSet k.pid k.frame k.dirty 2 y u w) e t in
     set-two g.pid g.frame g.frame g.dirty true 1 2 x y (last_of v g.pid).words v u w s t' refl same
 
 -- and what that leaves beside
-two-redraft : (g g' g'' : ExclusiveGuard) (x y : ℕ) (v u w : View Said) → v.start.size ≡ 64 → IsHolding g.pid g.frame g.version g.dirty v → IsSet g.pid g.frame g.dirty 1 x v u → g' ≡ record g { dirty = true } → IsSet g'.pid g'.frame g'.dirty 2 y u w → g'' ≡ record g' { dirty = true } → Redrafts g''.pid g''.frame v w
-two-redraft g g' g'' x y v u w whole h s e t f =
+two-redraft : {X : Type 0} (n : ℕ) (g g' g'' : ExclusiveGuard) (x y : ℕ) (v u w : View X) → 3 ≤ n → v.start.size ≡ n → IsHolding g.pid g.frame g.version g.dirty v → IsSet g.pid g.frame g.dirty 1 x v u → g' ≡ record g { dirty = true } → IsSet g'.pid g'.frame g'.dirty 2 y u w → g'' ≡ record g' { dirty = true } → Redrafts g''.pid g''.frame v w
+two-redraft n g g' g'' x y v u w three whole h s e t f =
     let t' : IsSet g.pid g.frame true 2 y u w = subst (λ (k : ExclusiveGuard). IsSet k.pid k.frame k.dirty 2 y u w) e t in
-    let all = redrafts-two g.pid g.frame g.dirty true 1 2 x y v u w h.page h.frame_is (omega (arith, whole)) (omega (arith, whole)) s t' in
+    let all = redrafts-two g.pid g.frame g.dirty true 1 2 x y v u w h.page h.frame_is (omega (arith, three, whole)) (omega (arith, three, whole)) s t' in
     let same : g'' ≡ record g { dirty = true } = f ∙ ap (λ (k : ExclusiveGuard). record k { dirty = true }) e in
     subst (λ (k : ExclusiveGuard). Redrafts k.pid k.frame v w) (sym same) all
 
 pid-of : (g g' g'' : ExclusiveGuard) → g' ≡ record g { dirty = true } → g'' ≡ record g' { dirty = true } → g''.pid ≡ g.pid
 pid-of g g' g'' e f = ap (λ (k : ExclusiveGuard). k.pid) f ∙ ap (λ (k : ExclusiveGuard). k.pid) e
 
-held-of : (g g' : ExclusiveGuard) (w : View Said) → g' ≡ record g { dirty = true } → IsHolding g.pid g.frame g.version true w → IsHolding g'.pid g'.frame g'.version g'.dirty w
+held-of : {X : Type 0} (g g' : ExclusiveGuard) (w : View X) → g' ≡ record g { dirty = true } → IsHolding g.pid g.frame g.version true w → IsHolding g'.pid g'.frame g'.version g'.dirty w
 held-of g g' w e h = subst (λ (k : ExclusiveGuard). IsHolding k.pid k.frame k.version k.dirty w) (sym e) h
 
 pub set-requires-2-clause-holds : goal.set-requires-2-clause-holds
@@ -79,15 +79,20 @@ redraft-requires-3-clause-draft g c tells =
 pub release_group-requires-clause-may : goal.release_group-requires-clause-may
 release_group-requires-clause-may g c =
     let r = c.requires.can in
+    let page = g.K.Pages.words_of c.args.page.now in
+    let separator = g.K.Kind.rank c.right_half-separator.result in
+    let left = g.K.Edits.left_half page separator in
+    let half = g.K.Pages.words_of c.right_half-separator.new.right in
+    let crown = g.K.Pages.words_of c.new_root.new.page in
     let ne = four-apart _ _ _ _ r.apart in
     let t = two c.args.meta c.set.new.self c.args.top.pid (c.args.height + 1) (view c.args.pass.now) (view c.set.new.pass) (view c.set-2.new.pass) c.set.ensures.set c.set.ensures.guard c.set-2.ensures.set r.same in
     let d2 = c.redraft.ensures in
     let d3 = c.redraft-2.ensures in
     let d4 = c.redraft-3.ensures in
-    let four = four-redrafted c.args.meta.pid c.args.low.pid c.args.right.pid c.args.top.pid (last_of (view c.args.pass.now) c.args.meta.pid).words _ c.args.page.now (left_half c.args.page.now c.right_half-separator.result) c.right_half-separator.new.right c.new_root.new.page (view c.args.pass.now) (view c.set-2.new.pass) (view c.redraft.new.pass) (view c.redraft-2.new.pass) (view c.redraft-3.new.pass)
+    let four = four-redrafted g.K.Kind.layout c.args.meta.pid c.args.low.pid c.args.right.pid c.args.top.pid (last_of (view c.args.pass.now) c.args.meta.pid).words _ page left half crown (view c.args.pass.now) (view c.set-2.new.pass) (view c.redraft.new.pass) (view c.redraft-2.new.pass) (view c.redraft-3.new.pass)
     ne r.held.0.owns r.held.1.0.owns r.held.1.1.0.owns r.held.1.1.1.0.owns c.args.height r.told t.0 t.1 d2.redrafted d3.redrafted d4.redrafted d2.draft d3.draft d4.draft in
     let stays = four-stay c.set-2.new.self c.redraft.new.guard c.redraft-2.new.guard c.redraft-3.new.guard (view c.args.pass.now) (view c.set-2.new.pass) (view c.redraft.new.pass) (view c.redraft-2.new.pass) (view c.redraft-3.new.pass)
-    (two-redraft c.args.meta c.set.new.self c.set-2.new.self c.args.top.pid (c.args.height + 1) (view c.args.pass.now) (view c.set.new.pass) (view c.set-2.new.pass) (tree-size _ _ _ c.requires.ready.table.is_shape.size c.args.words.now.sized.0 c.args.words.now.size.takes) r.held.0 c.set.ensures.set c.set.ensures.guard c.set-2.ensures.set c.set-2.ensures.guard)
+    (two-redraft g.K.Kind.layout.words c.args.meta c.set.new.self c.set-2.new.self c.args.top.pid (c.args.height + 1) (view c.args.pass.now) (view c.set.new.pass) (view c.set-2.new.pass) g.K.Kind.is_layout.some_words (tree-size _ _ _ c.requires.ready.table.is_shape.size c.args.words.now.sized.0 c.args.words.now.size.takes) r.held.0 c.set.ensures.set c.set.ensures.guard c.set-2.ensures.set c.set-2.ensures.guard)
     (redrafts-of c.args.low c.redraft.new.guard _ _ d2.guard d2.redrafted d2.drafts d2.known)
     (redrafts-of c.args.right c.redraft-2.new.guard _ _ d3.guard d3.redrafted d3.drafts d3.known)
     (redrafts-of c.args.top c.redraft-3.new.guard _ _ d4.guard d4.redrafted d4.drafts d4.known) in
@@ -96,28 +101,34 @@ release_group-requires-clause-may g c =
     let h1 = holding-past _ _ _ _ _ _ _ (λ e. ne.ad (sym first ∙ e)) (holding-past _ _ _ _ _ _ _ (λ e. ne.ac (sym first ∙ e)) (holding-past _ _ _ _ _ _ _ (λ e. ne.ab (sym first ∙ e)) h0 d2.redrafted) d3.redrafted) d4.redrafted in
     let h2 = holding-past _ _ _ _ _ _ _ (λ e. ne.bd (sym d2.guard.0 ∙ e)) (holding-past _ _ _ _ _ _ _ (λ e. ne.bc (sym d2.guard.0 ∙ e)) d2.holds d3.redrafted) d4.redrafted in
     let h3 = holding-past _ _ _ _ _ _ _ (λ e. ne.cd (sym d3.guard.0 ∙ e)) d3.holds d4.redrafted in
-    four-all c.args.meta.pid c.args.low.pid c.args.right.pid c.args.top.pid c.args.height c.right_half-separator.result c.args.page.now (left_half c.args.page.now c.right_half-separator.result) c.right_half-separator.new.right c.new_root.new.page (view c.args.pass.now) (view c.redraft-3.new.pass) c.set-2.new.self c.redraft.new.guard c.redraft-2.new.guard c.redraft-3.new.guard stays four r.zero r.told r.full c.right_half-separator.ensures.halves c.new_root.ensures.root r.owed (tree-size _ _ _ c.redraft-3.ensures.ready.table.is_shape.size c.args.words.now.sized.0 c.args.words.now.size.takes) first d2.guard.0 d3.guard.0 d4.guard.0 h1 h2 h3 d4.holds r.apart r.home
+    subst (λ o. MayReleaseAll (ReleasesPlain g.K.Kind.plain g.K.Kind.layout) (c.set-2.new.self ∷ c.redraft.new.guard ∷ c.redraft-2.new.guard ∷ c.redraft-3.new.guard ∷ []) o (view c.redraft-3.new.pass)) (sym (none-said _ c.as_ref.result c.as_ref.ensures.variant))
+    (four-all g.K.Kind.plain g.K.Kind.layout g.K.Kind.is_layout g.K.Kind.spare g.K.Kind.spare_is c.args.meta.pid c.args.low.pid c.args.right.pid c.args.top.pid c.args.height separator page left half crown (view c.args.pass.now) (view c.redraft-3.new.pass) c.set-2.new.self c.redraft.new.guard c.redraft-2.new.guard c.redraft-3.new.guard stays four r.zero r.told r.full c.right_half-separator.ensures.halves c.new_root.ensures.root r.owed (tree-size _ _ _ c.redraft-3.ensures.ready.table.is_shape.size c.args.words.now.sized.0 c.args.words.now.size.takes) first d2.guard.0 d3.guard.0 d4.guard.0 h1 h2 h3 d4.holds r.apart r.home)
 
 pub returns-clause-split : goal.returns-clause-split
 returns-clause-split g c =
     let r = c.requires.can in
+    let page = g.K.Pages.words_of c.args.page.now in
+    let separator = g.K.Kind.rank c.right_half-separator.result in
+    let left = g.K.Edits.left_half page separator in
+    let half = g.K.Pages.words_of c.right_half-separator.new.right in
+    let crown = g.K.Pages.words_of c.new_root.new.page in
     let ne = four-apart _ _ _ _ r.apart in
     let t = two c.args.meta c.set.new.self c.args.top.pid (c.args.height + 1) (view c.args.pass.now) (view c.set.new.pass) (view c.set-2.new.pass) c.set.ensures.set c.set.ensures.guard c.set-2.ensures.set r.same in
     let d2 = c.redraft.ensures in
     let d3 = c.redraft-2.ensures in
     let d4 = c.redraft-3.ensures in
-    let four = four-redrafted c.args.meta.pid c.args.low.pid c.args.right.pid c.args.top.pid (last_of (view c.args.pass.now) c.args.meta.pid).words _ c.args.page.now (left_half c.args.page.now c.right_half-separator.result) c.right_half-separator.new.right c.new_root.new.page (view c.args.pass.now) (view c.set-2.new.pass) (view c.redraft.new.pass) (view c.redraft-2.new.pass) (view c.redraft-3.new.pass)
+    let four = four-redrafted g.K.Kind.layout c.args.meta.pid c.args.low.pid c.args.right.pid c.args.top.pid (last_of (view c.args.pass.now) c.args.meta.pid).words _ page left half crown (view c.args.pass.now) (view c.set-2.new.pass) (view c.redraft.new.pass) (view c.redraft-2.new.pass) (view c.redraft-3.new.pass)
     ne r.held.0.owns r.held.1.0.owns r.held.1.1.0.owns r.held.1.1.1.0.owns c.args.height r.told t.0 t.1 d2.redrafted d3.redrafted d4.redrafted d2.draft d3.draft d4.draft in
     let stays = four-stay c.set-2.new.self c.redraft.new.guard c.redraft-2.new.guard c.redraft-3.new.guard (view c.args.pass.now) (view c.set-2.new.pass) (view c.redraft.new.pass) (view c.redraft-2.new.pass) (view c.redraft-3.new.pass)
-    (two-redraft c.args.meta c.set.new.self c.set-2.new.self c.args.top.pid (c.args.height + 1) (view c.args.pass.now) (view c.set.new.pass) (view c.set-2.new.pass) (tree-size _ _ _ c.requires.ready.table.is_shape.size c.args.words.now.sized.0 c.args.words.now.size.takes) r.held.0 c.set.ensures.set c.set.ensures.guard c.set-2.ensures.set c.set-2.ensures.guard)
+    (two-redraft g.K.Kind.layout.words c.args.meta c.set.new.self c.set-2.new.self c.args.top.pid (c.args.height + 1) (view c.args.pass.now) (view c.set.new.pass) (view c.set-2.new.pass) g.K.Kind.is_layout.some_words (tree-size _ _ _ c.requires.ready.table.is_shape.size c.args.words.now.sized.0 c.args.words.now.size.takes) r.held.0 c.set.ensures.set c.set.ensures.guard c.set-2.ensures.set c.set-2.ensures.guard)
     (redrafts-of c.args.low c.redraft.new.guard _ _ d2.guard d2.redrafted d2.drafts d2.known)
     (redrafts-of c.args.right c.redraft-2.new.guard _ _ d3.guard d3.redrafted d3.drafts d3.known)
     (redrafts-of c.args.top c.redraft-3.new.guard _ _ d4.guard d4.redrafted d4.drafts d4.known) in
     let first = pid-of c.args.meta c.set.new.self c.set-2.new.self c.set.ensures.guard c.set-2.ensures.guard in
-    four-released c.args.meta.pid c.args.low.pid c.args.right.pid c.args.top.pid c.args.height c.right_half-separator.result c.args.page.now (left_half c.args.page.now c.right_half-separator.result) c.right_half-separator.new.right c.new_root.new.page (view c.args.pass.now) (view c.redraft-3.new.pass) c.set-2.new.self c.redraft.new.guard c.redraft-2.new.guard c.redraft-3.new.guard stays four r.zero r.told r.full c.right_half-separator.ensures.halves c.new_root.ensures.root r.owed _ first d2.guard.0 d3.guard.0 d4.guard.0 c.release_group.ensures.released.0
+    four-released g.K.Kind.plain g.K.Kind.layout g.K.Kind.is_layout g.K.Kind.spare g.K.Kind.spare_is c.args.meta.pid c.args.low.pid c.args.right.pid c.args.top.pid c.args.height separator page left half crown (view c.args.pass.now) (view c.redraft-3.new.pass) c.set-2.new.self c.redraft.new.guard c.redraft-2.new.guard c.redraft-3.new.guard stays four r.zero r.told r.full c.right_half-separator.ensures.halves c.new_root.ensures.root r.owed _ first d2.guard.0 d3.guard.0 d4.guard.0 (subst (λ o. AreReleased c.set-2.new.self (c.redraft.new.guard ∷ c.redraft-2.new.guard ∷ c.redraft-3.new.guard ∷ []) o (view c.redraft-3.new.pass) (view c.release_group.new.pass)) (none-said _ c.as_ref.result c.as_ref.ensures.variant) c.release_group.ensures.released.0)
 
 pub set-requires-clause-word : goal.set-requires-clause-word
-set-requires-clause-word g c = tree_place _ _ _ c.args.words.now.sized.0 c.args.words.now.size.takes (omega arith)
+set-requires-clause-word g c = tree_place _ _ _ c.args.words.now.sized.0 c.args.words.now.size.takes (omega (arith, g.K.Kind.is_layout.some_words))
 
 pub set-requires-2-clause-word : goal.set-requires-2-clause-word
-set-requires-2-clause-word g c = tree_place _ _ _ c.args.words.now.sized.0 c.args.words.now.size.takes (omega arith)
+set-requires-2-clause-word g c = tree_place _ _ _ c.args.words.now.sized.0 c.args.words.now.size.takes (omega (arith, g.K.Kind.is_layout.some_words))

@@ -22,7 +22,7 @@ write_split-requires-clause-can g c =
     let p = c.in-Ok.ensures.ok in
     let one = (taken-one p.taken.x (guards_of c.in-Ok.all.pages) (guards_of c.take_last.new.self) c.in-Some.right p.taken.fresh.guards c.in-Some.ensures.some).1 in
     let met = c.requires.met in
-    can-split c.args.parent c.args.node c.in-Ok.all.up c.in-Ok.all.low c.in-Some.right (guards_of c.in-Ok.all.pages) (view c.args.pass.now) (view c.prepare.new.pass) p one met.0 met.1 c.args.over.now c.args.page.now met.2 c.requires.size
+    can-split g.K.Kind.plain g.K.Kind.layout g.K.Kind.is_layout g.K.Kind.spare c.args.parent c.args.node c.in-Ok.all.up c.in-Ok.all.low c.in-Some.right (guards_of c.in-Ok.all.pages) (view c.args.pass.now) (view c.prepare.new.pass) p one met.0 met.1 (g.K.Pages.words_of c.args.over.now) (g.K.Pages.words_of c.args.page.now) met.2 c.requires.size
     (tree-size _ _ _ c.requires.ready.table.is_shape.size c.args.words.now.sized.0 c.args.words.now.size.takes) c.requires.home
 
 pub free-requires-clause-frames : goal.free-requires-clause-frames
@@ -36,7 +36,7 @@ returns-clause-keeps g c =
     let one = (taken-one p.taken.x (guards_of c.in-Ok.all.pages) (guards_of c.take_last.new.self) c.in-Some.right p.taken.fresh.guards c.in-Some.ensures.some).1 in
     let met = c.requires.met in
     let back = c.free.ensures.freed.back in
-    (below-ended c.args.parent c.args.node c.in-Ok.all.up c.in-Ok.all.low c.in-Some.right (guards_of c.in-Ok.all.pages) (view c.args.pass.now) (view c.prepare.new.pass) p one met.0 met.1 c.args.over.now c.args.page.now met.2 c.requires.size
+    (below-ended g.K.Kind.plain g.K.Kind.layout g.K.Kind.is_layout g.K.Kind.spare c.args.parent c.args.node c.in-Ok.all.up c.in-Ok.all.low c.in-Some.right (guards_of c.in-Ok.all.pages) (view c.args.pass.now) (view c.prepare.new.pass) p one met.0 met.1 (g.K.Pages.words_of c.args.over.now) (g.K.Pages.words_of c.args.page.now) met.2 c.requires.size
     (tree-size _ _ _ c.requires.ready.table.is_shape.size c.args.words.now.sized.0 c.args.words.now.size.takes) c.requires.home back.done (view c.write_split.new.pass) (view c.free.new.pass) c.write_split.ensures.split back.moves).0
 
 pub returns-clause-cause : goal.returns-clause-cause
@@ -47,7 +47,7 @@ returns-clause-cause g c =
     let back = c.free.ensures.freed.back in
     inl (
       refl,
-      (below-ended c.args.parent c.args.node c.in-Ok.all.up c.in-Ok.all.low c.in-Some.right (guards_of c.in-Ok.all.pages) (view c.args.pass.now) (view c.prepare.new.pass) p one met.0 met.1 c.args.over.now c.args.page.now met.2 c.requires.size
+      (below-ended g.K.Kind.plain g.K.Kind.layout g.K.Kind.is_layout g.K.Kind.spare c.args.parent c.args.node c.in-Ok.all.up c.in-Ok.all.low c.in-Some.right (guards_of c.in-Ok.all.pages) (view c.args.pass.now) (view c.prepare.new.pass) p one met.0 met.1 (g.K.Pages.words_of c.args.over.now) (g.K.Pages.words_of c.args.page.now) met.2 c.requires.size
           (tree-size _ _ _ c.requires.ready.table.is_shape.size c.args.words.now.sized.0 c.args.words.now.size.takes) c.requires.home back.done (view c.write_split.new.pass) (view c.free.new.pass) c.write_split.ensures.split back.moves).1,
     )
 

@@ -34,7 +34,7 @@ write_root-requires-clause-can g c =
     let p = c.in-Ok.ensures.ok in
     let two = (taken-both p.taken.x (guards_of c.in-Ok.all.pages) (guards_of c.take_last.new.self) (guards_of c.take_last-2.new.self) c.in-Some-take_last.right c.in-Some.top c.in-Some.ensures.some c.in-Some-take_last.ensures.some p.taken.fresh.guards).1 in
     let met = c.requires.met in
-    can-split-root c.args.meta c.args.root c.in-Ok.all.up c.in-Ok.all.low c.in-Some-take_last.right c.in-Some.top (guards_of c.in-Ok.all.pages) (view c.args.pass.now) (view c.prepare.new.pass) p two met.0 met.1 c.args.height c.args.page.now met.2 c.requires.size
+    can-split-root g.K.Kind.plain g.K.Kind.layout g.K.Kind.is_layout g.K.Kind.spare c.args.meta c.args.root c.in-Ok.all.up c.in-Ok.all.low c.in-Some-take_last.right c.in-Some.top (guards_of c.in-Ok.all.pages) (view c.args.pass.now) (view c.prepare.new.pass) p two met.0 met.1 c.args.height (g.K.Pages.words_of c.args.page.now) met.2 c.requires.size
     (tree-size _ _ _ c.requires.ready.table.is_shape.size c.args.words.now.sized.0 c.args.words.now.size.takes) c.requires.home
 
 pub write_root-requires-clause-room : goal.write_root-requires-clause-room
@@ -55,7 +55,7 @@ returns-clause-keeps g c =
     let two = (taken-both p.taken.x (guards_of c.in-Ok.all.pages) (guards_of c.take_last.new.self) (guards_of c.take_last-2.new.self) c.in-Some-take_last.right c.in-Some.top c.in-Some.ensures.some c.in-Some-take_last.ensures.some p.taken.fresh.guards).1 in
     let met = c.requires.met in
     let back = c.free.ensures.freed.back in
-    (root-ended c.args.meta c.args.root c.in-Ok.all.up c.in-Ok.all.low c.in-Some-take_last.right c.in-Some.top (guards_of c.in-Ok.all.pages) (view c.args.pass.now) (view c.prepare.new.pass) p two met.0 met.1 c.args.height c.args.page.now met.2 c.requires.size
+    (root-ended g.K.Kind.plain g.K.Kind.layout g.K.Kind.is_layout g.K.Kind.spare c.args.meta c.args.root c.in-Ok.all.up c.in-Ok.all.low c.in-Some-take_last.right c.in-Some.top (guards_of c.in-Ok.all.pages) (view c.args.pass.now) (view c.prepare.new.pass) p two met.0 met.1 c.args.height (g.K.Pages.words_of c.args.page.now) met.2 c.requires.size
     (tree-size _ _ _ c.requires.ready.table.is_shape.size c.args.words.now.sized.0 c.args.words.now.size.takes) c.requires.home back.done (view c.write_root.new.pass) (view c.free.new.pass) c.write_root.ensures.split back.moves).0
 
 pub returns-clause-cause : goal.returns-clause-cause
@@ -66,7 +66,7 @@ returns-clause-cause g c =
     let back = c.free.ensures.freed.back in
     inl (
       refl,
-      (root-ended c.args.meta c.args.root c.in-Ok.all.up c.in-Ok.all.low c.in-Some-take_last.right c.in-Some.top (guards_of c.in-Ok.all.pages) (view c.args.pass.now) (view c.prepare.new.pass) p two met.0 met.1 c.args.height c.args.page.now met.2 c.requires.size
+      (root-ended g.K.Kind.plain g.K.Kind.layout g.K.Kind.is_layout g.K.Kind.spare c.args.meta c.args.root c.in-Ok.all.up c.in-Ok.all.low c.in-Some-take_last.right c.in-Some.top (guards_of c.in-Ok.all.pages) (view c.args.pass.now) (view c.prepare.new.pass) p two met.0 met.1 c.args.height (g.K.Pages.words_of c.args.page.now) met.2 c.requires.size
           (tree-size _ _ _ c.requires.ready.table.is_shape.size c.args.words.now.sized.0 c.args.words.now.size.takes) c.requires.home back.done (view c.write_root.new.pass) (view c.free.new.pass) c.write_root.ensures.split back.moves).1,
     )
 

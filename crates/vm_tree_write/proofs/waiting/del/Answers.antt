@@ -1,4 +1,4 @@
-use Rattle.std.proofs.Common.{◌∙◌, refl}
+use Rattle.std.proofs.Common.{◌∙◌, arith, refl, rules}
 use Rattle.vm_step.specs.Prelude.{view}
 use Rattle.vm_exmap.proofs.Handing.{held-on}
 use Rattle.vm_tree_read.specs.Waiting.{AreRounds as rounds, IsRound as round, Waits}
@@ -21,9 +21,11 @@ loop-preserved-in-Again g c =
     let reads = c.in-Again.ensures.tried.0 in
     tried-read i c.del_once.new.pass c.del_once.ensures.pass reads c.del_once.ensures.ready (waits-then _ _ _ i.left.0 (reads-wait _ _ reads), rounds.further _ _ i.left.1 (round.again _ reads c.in-Again.ensures.tried.1))
 
-pub fetch-requires-clause-frames : goal.fetch-requires-clause-frames
-fetch-requires-clause-frames g c =
-    let reads = c.in-Need.ensures.tried.0 in held-on _ (view c.loop.pass) (view c.del_once.new.pass) c.loop.invariant.held reads.0.start reads.0.frames.0
+pub fetch-requires : goal.fetch-requires
+fetch-requires g c =
+    let i = c.loop.invariant in
+    let reads = c.in-Need.ensures.tried.0 in
+    (search rules, (c.del_once.ensures.ready, (reads.0.out ∙ i.left.0.out ∙ c.requires.home, (held-on _ (view c.loop.pass) (view c.del_once.new.pass) i.held reads.0.start reads.0.frames.0, (let inside = c.in-Need.ensures.tried.1.inside in let pages = i.ready.table.is_shape.pages in omega (arith, inside, pages))))))
 
 pub loop-preserved : goal.loop-preserved
 loop-preserved g c =
@@ -51,10 +53,10 @@ returns-in-Worn-clause-err g c =
 
 pub returns-in-Done-clause-held : goal.returns-in-Done-clause-held
 returns-in-Done-clause-held g c =
-    let k = del-frames _ _ _ c.in-Done.ensures.tried in held-on _ (view c.loop.pass) (view c.del_once.new.pass) c.loop.invariant.held k.0 k.1
+    let k = del-frames g.K.Kind.plain g.K.Kind.layout _ _ _ c.in-Done.ensures.tried in held-on _ (view c.loop.pass) (view c.del_once.new.pass) c.loop.invariant.held k.0 k.1
 
 pub returns-in-Done-clause-ok : goal.returns-in-Done-clause-ok
-returns-in-Done-clause-ok g c = let waits = c.loop.invariant.left in replied Waits IsDelRound _ _ _ _ waits (waits-last _ _ waits.0) c.in-Done.ensures.tried
+returns-in-Done-clause-ok g c = let waits = c.loop.invariant.left in replied g.K.Kind.plain g.K.Kind.layout Waits (IsDelRound g.K.Kind.layout) _ _ _ _ waits (waits-last _ _ waits.0) c.in-Done.ensures.tried
 
 -- ---- no frame is lost
 
@@ -68,5 +70,5 @@ returns-in-Worn-clause-lost g c =
 
 pub returns-in-Done-clause-lost : goal.returns-in-Done-clause-lost
 returns-in-Done-clause-lost g c =
-    let k = del-frames _ _ _ c.in-Done.ensures.tried in
+    let k = del-frames g.K.Kind.plain g.K.Kind.layout _ _ _ c.in-Done.ensures.tried in
     loses-then c.args.iface.now.frames c.loop.iface.frames c.loop.iface.frames (view c.args.pass.now) (view c.loop.pass) (view c.del_once.new.pass) c.loop.invariant.lost (loses-same c.loop.iface.frames c.loop.iface.frames (view c.loop.pass) (view c.del_once.new.pass) k.1 (λ f e. e))

@@ -1,4 +1,4 @@
-use Rattle.std.proofs.Common.{◌∙◌, inl, refl}
+use Rattle.std.proofs.Common.{◌∙◌, arith, inl, refl, rules}
 use Rattle.vm_step.specs.Prelude.{view}
 use Rattle.vm_exmap.proofs.Handing.{held-on}
 use Rattle.vm_tree_read.specs.Waiting.{AreRounds as rounds, IsRound as round}
@@ -22,12 +22,11 @@ loop-preserved-in-Again g c =
     let reads = c.in-Again.ensures.tried.0 in
     tried-read i c.put_once.new.pass c.put_once.ensures.pass reads c.put_once.ensures.ready (keeps-then _ _ _ i.left.0 (reads-keep _ _ reads), rounds.further _ _ i.left.1 (put_round.round (round.again _ reads c.in-Again.ensures.tried.1)))
 
-pub fetch-requires-clause-home : goal.fetch-requires-clause-home
-fetch-requires-clause-home g c = c.in-Need.ensures.tried.0.0.out ∙ c.loop.invariant.left.0.out ∙ c.requires.home
-
-pub fetch-requires-clause-frames : goal.fetch-requires-clause-frames
-fetch-requires-clause-frames g c =
-    let reads = c.in-Need.ensures.tried.0 in held-on _ (view c.loop.pass) (view c.put_once.new.pass) c.loop.invariant.held reads.0.start reads.0.frames.0
+pub fetch-requires : goal.fetch-requires
+fetch-requires g c =
+    let i = c.loop.invariant in
+    let reads = c.in-Need.ensures.tried.0 in
+    (search rules, (c.put_once.ensures.ready, (reads.0.out ∙ i.left.0.out ∙ c.requires.home, (held-on _ (view c.loop.pass) (view c.put_once.new.pass) i.held reads.0.start reads.0.frames.0, (let inside = c.in-Need.ensures.tried.1.inside in let pages = i.ready.table.is_shape.pages in omega (arith, inside, pages))))))
 
 pub loop-preserved-in-Ok : goal.loop-preserved-in-Ok
 loop-preserved-in-Ok g c =
@@ -54,26 +53,51 @@ returns-in-Worn-clause-err g c =
     let worn = c.in-Worn.ensures.tried in
     put_faulted.faulted (faulted.worn (view c.loop.pass) c.in-Worn.pid i.left.1 i.left.0 worn.0 worn.1 worn.2 refl (keeps-then _ _ _ i.left.0 (reads-keep _ _ worn.0)))
 
-pub make_room-requires-clause-home : goal.make_room-requires-clause-home
-make_room-requires-clause-home g c = c.in-Tight.ensures.tried.0.0.out ∙ c.loop.invariant.left.0.out ∙ c.requires.home
+pub try_split-answer-requires-clause-home : goal.try_split-answer-requires-clause-home
+try_split-answer-requires-clause-home g c = c.in-Tight.ensures.tried.0.0.out ∙ c.loop.invariant.left.0.out ∙ c.requires.home
 
-pub make_room-requires-clause-frames : goal.make_room-requires-clause-frames
-make_room-requires-clause-frames g c =
+pub try_split-answer-requires-clause-frames : goal.try_split-answer-requires-clause-frames
+try_split-answer-requires-clause-frames g c =
     let reads = c.in-Tight.ensures.tried.0 in held-on _ (view c.loop.pass) (view c.put_once.new.pass) c.loop.invariant.held reads.0.start reads.0.frames.0
+
+pub after_split-requires : goal.after_split-requires
+after_split-requires g c =
+    let t = c.try_split-answer.ensures in
+    (search rules, (t.ready, (t.tried.0.out ∙ c.in-Tight.ensures.tried.0.0.out ∙ c.loop.invariant.left.0.out ∙ c.requires.home, (t.held, ((g.K.Kind.rank c.args.key.now), view c.put_once.new.pass, t.tried)))))
 
 pub loop-preserved : goal.loop-preserved
 loop-preserved g c =
     let i = c.loop.invariant in
-    let k = c.make_room.ensures in
+    let t = c.try_split-answer.ensures in
+    let k = c.after_split.ensures in
     let reads = c.in-Tight.ensures.tried.0 in
-    tried-call i c.put_once.new.pass c.put_once.ensures.pass reads c.make_room.new.pass c.make_room.new.iface k.pass k.ready k.held k.lost k.iface (keeps-then _ _ _ i.left.0 (keeps-then _ _ _ (reads-keep _ _ reads) k.keeps), rounds.further _ _ i.left.1 (put_round.tight _ _ reads c.in-Tight.ensures.tried.1 c.in-Ok-make_room.ensures.ok))
+    tried-call i c.put_once.new.pass c.put_once.ensures.pass reads c.after_split.new.pass c.after_split.new.iface (k.pass.0 ∙ t.pass.0, k.pass.1 ∙ t.pass.1) k.ready k.held
+    (loses-then c.loop.iface.frames c.try_split-answer.new.iface.frames c.after_split.new.iface.frames (view c.put_once.new.pass) (view c.try_split-answer.new.pass) (view c.after_split.new.pass) t.lost k.lost)
+    (k.iface.0 ∙ t.iface.0, k.iface.1 ∙ t.iface.1)
+    (keeps-then _ _ _ i.left.0 (keeps-then _ _ _ (reads-keep _ _ reads) (keeps-then _ _ _ t.tried.0 k.keeps)), rounds.further _ _ i.left.1 (put_round.tight _ _ reads c.in-Tight.ensures.tried.1 (c.in-Ok-after_split.ensures.ok _ _ t.tried)))
 
-pub returns-in-Err-make_room-clause-err : goal.returns-in-Err-make_room-clause-err
-returns-in-Err-make_room-clause-err g c =
+pub returns-in-Err-after_split-clause-err : goal.returns-in-Err-after_split-clause-err
+returns-in-Err-after_split-clause-err g c =
     let i = c.loop.invariant in
+    let t = c.try_split-answer.ensures in
     let tight = c.in-Tight.ensures.tried in
-    put_faulted.tight (view c.loop.pass) (view c.put_once.new.pass) _ i.left.1 i.left.0 tight.0 tight.1 c.in-Err-make_room.ensures.err
-    (keeps-then _ _ _ i.left.0 (keeps-then _ _ _ (reads-keep _ _ tight.0) c.make_room.ensures.keeps))
+    put_faulted.tight (view c.loop.pass) (view c.put_once.new.pass) _ i.left.1 i.left.0 tight.0 tight.1 (c.in-Err-after_split.ensures.err _ _ t.tried)
+    (keeps-then _ _ _ i.left.0 (keeps-then _ _ _ (reads-keep _ _ tight.0) (keeps-then _ _ _ t.tried.0 c.after_split.ensures.keeps)))
+
+pub returns-in-Err-after_split-clause-iface : goal.returns-in-Err-after_split-clause-iface
+returns-in-Err-after_split-clause-iface g c =
+    let i = c.loop.invariant.iface in
+    let t = c.try_split-answer.ensures.iface in
+    let k = c.after_split.ensures.iface in
+    (k.0 ∙ t.0 ∙ i.0, k.1 ∙ t.1 ∙ i.1)
+
+pub returns-in-Err-after_split-clause-pass : goal.returns-in-Err-after_split-clause-pass
+returns-in-Err-after_split-clause-pass g c =
+    let i = c.loop.invariant.same in
+    let o = c.put_once.ensures.pass in
+    let t = c.try_split-answer.ensures.pass in
+    let k = c.after_split.ensures.pass in
+    (k.0 ∙ t.0 ∙ o.0 ∙ i.0, k.1 ∙ t.1 ∙ o.1 ∙ i.1)
 
 pub returns-in-Done-clause-held : goal.returns-in-Done-clause-held
 returns-in-Done-clause-held g c =
@@ -82,7 +106,7 @@ returns-in-Done-clause-held g c =
 pub returns-in-Done-clause-ok : goal.returns-in-Done-clause-ok
 returns-in-Done-clause-ok g c =
     let i = c.loop.invariant in
-    replied KeepsLocksOnly IsPutRound _ _ _ _ i.left (keeps-last _ _ i.left.0) (inl (c.in-Done.ensures.tried.0, put-not c.args.key c.args.value _))
+    replied g.K.Kind.plain g.K.Kind.layout KeepsLocksOnly (IsPutRound g.K.Kind.plain g.K.Kind.layout g.K.Kind.spare) _ _ _ _ i.left (keeps-last _ _ i.left.0) (inl (c.in-Done.ensures.tried.0, put-not (g.K.Kind.rank c.args.key.now) c.args.value _))
 
 -- ---- no frame is lost
 
@@ -94,9 +118,10 @@ pub returns-in-Worn-clause-lost : goal.returns-in-Worn-clause-lost
 returns-in-Worn-clause-lost g c =
     loses-then c.args.iface.now.frames c.loop.iface.frames c.loop.iface.frames (view c.args.pass.now) (view c.loop.pass) (view c.put_once.new.pass) c.loop.invariant.lost (reads-lose c.loop.iface.frames (view c.loop.pass) (view c.put_once.new.pass) c.in-Worn.ensures.tried.0)
 
-pub returns-in-Err-make_room-clause-lost : goal.returns-in-Err-make_room-clause-lost
-returns-in-Err-make_room-clause-lost g c =
-    lost-on c.args.iface.now.frames c.loop.iface.frames c.make_room.new.iface.frames (view c.args.pass.now) (view c.loop.pass) (view c.put_once.new.pass) (view c.make_room.new.pass) c.loop.invariant.lost c.in-Tight.ensures.tried.0 c.make_room.ensures.lost
+pub returns-in-Err-after_split-clause-lost : goal.returns-in-Err-after_split-clause-lost
+returns-in-Err-after_split-clause-lost g c =
+    lost-on c.args.iface.now.frames c.loop.iface.frames c.after_split.new.iface.frames (view c.args.pass.now) (view c.loop.pass) (view c.put_once.new.pass) (view c.after_split.new.pass) c.loop.invariant.lost c.in-Tight.ensures.tried.0
+    (loses-then c.loop.iface.frames c.try_split-answer.new.iface.frames c.after_split.new.iface.frames (view c.put_once.new.pass) (view c.try_split-answer.new.pass) (view c.after_split.new.pass) c.try_split-answer.ensures.lost c.after_split.ensures.lost)
 
 pub returns-in-Done-clause-lost : goal.returns-in-Done-clause-lost
 returns-in-Done-clause-lost g c =
