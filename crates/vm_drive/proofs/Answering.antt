@@ -1,120 +1,131 @@
 -- What the tree's calls that wait tell, in the terms of a worker: what its pass keeps, its entry, its note, or what it found.
 use Rattle.std.specs.Prelude.{IfErr, IfOk}
-use Rattle.std.proofs.Common.{⊎_elim, ◌++◌, ◌<◌, ◌∙◌, ◌≡◌, ap, Err, List, Ok, refl, Result, subst, sym, ℕ}
+use Rattle.std.proofs.Common.{[], ⊎_elim, ◌++◌, ◌<◌, ◌∙◌, ◌∷◌, ◌≡◌, ap, Err, List, Ok, refl, Result, subst, sym, ℕ}
 use Rattle.vm_map.specs.{declared.call.Call.Call, declared.call.Reply.Reply, declared.call.Said.Said}
 use Rattle.vm_map.specs.declared.call.Call.TheVariants.{Del, Get, Put, Window}
 use Rattle.vm_rule.specs.Prelude.{began_of, entry_of}
 use Rattle.vm_step.specs.Prelude.{Origin, UnlockedExpected, View}
 use Rattle.vm_guard.specs.Denied.{KeptWord}
-use Rattle.vm_tree_laws.specs.{Keeps.KeepsTree}
+use Rattle.vm_tree_model.specs.{Fixed.fixed, Layout.Layout}
+use Rattle.vm_tree_laws.specs.Keeps.{KeepsTree}
+use Rattle.vm_kind.specs.Room.{HasRoomFor}
 use Rattle.vm_tree_rule.specs.declared.fault.TreeFault.{TreeFault}
 use Rattle.vm_tree_read.specs.Reads.{IsAnswered, IsOfKind}
 use Rattle.vm_tree_read.specs.Waiting.{IsFaulted as IsReadFaulted, IsReplied as IsReadReplied, Waits}
 use Rattle.vm_tree_write.specs.Splits.{KeepsLocksOnly}
 use Rattle.vm_tree_write.specs.Waiting.{IsDelRound, IsPutFaulted, IsPutFaulted as put_faulted, IsPutRound, IsWriteFaulted, IsWriteFaulted as faulted, IsWriteReplied}
-use Rattle.vm_tree_write.specs.Writes.{HasKeyIn, HasRoomFor, IsVain, IsWornLeaf, IsWriteDone}
-use Rattle.vm_drive.specs.{Calls.KeepsPass, Shows.IsWindowShown, TreeCalls.IsTreeCall}
+use Rattle.vm_tree_write.specs.Writes.{HasKeyIn, IsVain, IsWornLeaf, IsWriteDone}
+use Rattle.vm_drive.specs.{Calls.KeepsPass, Shows.IsWindowShown, TreeCalls.as_said, TreeCalls.IsTreeCall}
+use Rattle.vm_kind.specs.WordRoom.{spare_in}
 use Rattle.vm_drive.proofs.{Bringing.fault-called, Called.HasFoundWorn, Called.IsCalled, Doing.keeps-then, Finding.denied-worn, Rooms.room-called}
+use Rattle.vm_drive.proofs.Plainly.{plain-keeps}
 use Rattle.vm_drive.proofs.Keeping.{all-pass, reads-pass, same-front, waits-pass, writes-pass}
 
--- ---- replies
+module _ (size : ℕ) where
+  abbrev L : Layout
+  L = fixed size
 
-pub read-replied : (said : Said) (v w : View Said) → IsReadReplied said v w → KeepsPass v w
-read-replied said v w r = keeps-then v r.tried w (waits-pass v r.tried r.waits) (reads-pass r.tried w r.answered.reads)
+  abbrev spare : List ℕ → ℕ
+  spare = spare_in size
 
-pub write-replied : (keeps : View Said → View Said → Type 0) (round : ℕ → View Said → View Said → Type 0) → ((x y : View Said) → keeps x y → KeepsPass x y) → (said : Said) (v w : View Said) → IsWriteReplied keeps round said v w → KeepsPass v w
-write-replied keeps round pass said v w r =
-    keeps-then v r.tried w (pass v r.tried r.waits)
-    (⊎_elim
-    (λ (k : IsWriteDone said r.tried w × ¬ (IsVain said)). writes-pass k.0.page r.tried w k.0.writes)
-    (λ (k : IsAnswered said r.tried w × IsVain said). reads-pass r.tried w k.0.reads)
-    r.answered)
+  -- ---- replies
 
--- a window is the leaf's that proved it
-answered-shown : (call : Call) (reply : Reply) (x w : View Said) → IsAnswered (record { call = call; reply = reply }) x w → IsWindowShown w call reply
-answered-shown (Get key) reply x w a = tt
-answered-shown (Put key value) reply x w a = tt
-answered-shown (Del key) reply x w a = tt
-answered-shown (Window start most) reply x w a = λ told.
-    let tells = ap (λ (o : Origin). o.tells) (sym a.reads.start) ∙ told in
-    let b = a.told tells in
-    record {
-      kept = b.kept;
-      keeps = subst (λ (o : Origin). KeepsTree (began_of o) b.kept) (sym a.reads.start) b.keeps;
-      history = same-front w.seen b.kept.history (sym b.history);
-      earlier = x.seen ++ a.entry.0;
-      entry = entry_of x (record { call = Window start most; reply = reply });
-      step = b.history ∙ a.entry.1;
-      says = refl;
-      page = a.page;
-      front = w.releases;
-      past = same-front w.releases w.releases refl;
-      words = b.last;
-      leaf = (a.proves _ b.has).leaf;
-      proved = b.proved;
-    }
+  pub read-replied : (said : Said) (v w : View Said) → IsReadReplied as_said L said v w → KeepsPass v w
+  read-replied said v w r = keeps-then v r.tried w (waits-pass v r.tried r.waits) (reads-pass r.tried w r.answered.reads)
 
--- ---- reads
+  pub write-replied : (keeps : View Said → View Said → Type 0) (round : ℕ → View Said → View Said → Type 0) → ((x y : View Said) → keeps x y → KeepsPass x y) → (said : Said) (v w : View Said) → IsWriteReplied as_said L keeps round said v w → KeepsPass v w
+  write-replied keeps round pass said v w r =
+      keeps-then v r.tried w (pass v r.tried r.waits)
+      (⊎_elim
+      (λ (k : IsWriteDone as_said L said r.tried w × ¬ (IsVain said)). writes-pass k.0.page r.tried w k.0.writes)
+      (λ (k : IsAnswered as_said L said r.tried w × IsVain said). reads-pass r.tried w k.0.reads)
+      r.answered)
 
-pub read-faulted : (call : Call) (key : ℕ) (fault : TreeFault) (v w : View Said) → IsReadFaulted key fault v w → KeepsPass v w × IsCalled call (Err fault) v w
-read-faulted call key fault v w f = (
-  waits-pass v w f.leaves,
-  fault-called call fault f.page v f.found w (keeps-then v f.tried f.found (waits-pass v f.tried f.waits) (reads-pass f.tried f.found f.reads.0)) f.leaves.mine (subst (λ (o : Origin). f.page < o.pages) (sym f.reads.0.start) f.needed.inside) f.fault_is,
-)
+  -- a window is the leaf's that proved it
+  answered-shown : (call : Call) (reply : Reply) (x w : View Said) → IsAnswered as_said L (record { call = call; reply = reply }) x w → IsWindowShown size w call reply
+  answered-shown (Get key) reply x w a = tt
+  answered-shown (Put key value) reply x w a = tt
+  answered-shown (Del key) reply x w a = tt
+  answered-shown (Window start most) reply x w a = λ told.
+      let tells = ap (λ (o : Origin). o.tells) (sym a.reads.start) ∙ told in
+      let b = a.told tells in
+      record {
+        kept = b.kept;
+        keeps = subst (λ (o : Origin). KeepsTree L (began_of o) b.kept) (sym a.reads.start) (plain-keeps L (began_of x.start) b.kept b.keeps);
+        history = same-front w.seen b.kept.history (sym b.history);
+        earlier = x.seen ++ a.entry.0;
+        entry = entry_of x a.says;
+        step = b.history ∙ a.entry.1;
+        says = a.says_is;
+        page = a.page;
+        front = w.releases;
+        past = same-front w.releases w.releases refl;
+        words = b.last;
+        leaf = (a.proves _ b.has).leaf;
+        proved = b.proved;
+      }
 
--- ---- writes
+  -- ---- reads
 
--- a page of the leaf that a write reached was at the last version
-leaf-worn : (key p : ℕ) (v w : View Said) → IsWornLeaf v key p w → HasFoundWorn p w
-leaf-worn key p v w l = denied-worn UnlockedExpected (KeptWord l.word) p p l.found w l.opened.reading.page l.denied
+  pub read-faulted : (call : Call) (key : ℕ) (fault : TreeFault) (v w : View Said) → IsReadFaulted L key fault v w → KeepsPass v w × IsCalled size call (Err fault) v w
+  read-faulted call key fault v w f = (
+    waits-pass v w f.leaves,
+    fault-called size call fault f.page v f.found w (keeps-then v f.tried f.found (waits-pass v f.tried f.waits) (reads-pass f.tried f.found f.reads.0)) f.leaves.mine (subst (λ (o : Origin). f.page < o.pages) (sym f.reads.0.start) f.needed.inside) f.fault_is,
+  )
 
-pub write-faulted : (keeps : View Said → View Said → Type 0) (round : ℕ → View Said → View Said → Type 0) (may : List ℕ → ℕ → Type 0) → ((x y : View Said) → keeps x y → KeepsPass x y) → ((x y : View Said) → keeps x y → y.mine ≡ x.mine)
-    → (call : Call) (key : ℕ) (fault : TreeFault) (v w : View Said) → IsWriteFaulted keeps round may key fault v w → KeepsPass v w × IsCalled call (Err fault) v w
-write-faulted keeps round may pass mine call key fault v w (faulted.missing tried found page rounds k reads needed fault_is all) = (
-  pass v w all,
-  fault-called call fault page v found w (keeps-then v tried found (pass v tried k) (reads-pass tried found reads.0)) (mine v w all) (subst (λ (o : Origin). page < o.pages) (sym reads.0.start) needed.inside) fault_is,
-)
-write-faulted keeps round may pass mine call key fault v w (faulted.worn tried page rounds k reads leaf would is all) = (
-  pass v w all,
-  subst (λ (f : TreeFault). IsCalled call (Err f) v w) (sym is) (mine v w all, leaf-worn key page tried w leaf),
-)
+  -- ---- writes
 
-pub put-faulted : (key value : ℕ) (fault : TreeFault) (v w : View Said) → IsPutFaulted key fault v w → KeepsPass v w × IsCalled (Put key value) (Err fault) v w
-put-faulted key value fault v w (put_faulted.faulted f) = write-faulted KeepsLocksOnly IsPutRound HasRoomFor all-pass (λ x y k. k.mine) (Put key value) key fault v w f
-put-faulted key value fault v w (put_faulted.tight tried found page rounds k reads t room all) = (
-  all-pass v w all,
-  room-called key value fault v found w (keeps-then v tried found (all-pass v tried k) (reads-pass tried found reads.0)) all.mine room,
-)
+  -- a page of the leaf that a write reached was at the last version
+  leaf-worn : (key p : ℕ) (v w : View Said) → IsWornLeaf L v key p w → HasFoundWorn p w
+  leaf-worn key p v w l = denied-worn UnlockedExpected (KeptWord l.word) p p l.found w l.opened.reading.page l.denied
 
--- ---- answers
+  pub write-faulted : (keeps : View Said → View Said → Type 0) (round : ℕ → View Said → View Said → Type 0) (may : List ℕ → ℕ → Type 0) → ((x y : View Said) → keeps x y → KeepsPass x y) → ((x y : View Said) → keeps x y → y.mine ≡ x.mine)
+      → (call : Call) (key : ℕ) (fault : TreeFault) (v w : View Said) → IsWriteFaulted L keeps round may key fault v w → KeepsPass v w × IsCalled size call (Err fault) v w
+  write-faulted keeps round may pass mine call key fault v w (faulted.missing tried found page rounds k reads needed fault_is all) = (
+    pass v w all,
+    fault-called size call fault page v found w (keeps-then v tried found (pass v tried k) (reads-pass tried found reads.0)) (mine v w all) (subst (λ (o : Origin). page < o.pages) (sym reads.0.start) needed.inside) fault_is,
+  )
+  write-faulted keeps round may pass mine call key fault v w (faulted.worn tried page rounds k reads leaf would is all) = (
+    pass v w all,
+    subst (λ (f : TreeFault). IsCalled size call (Err f) v w) (sym is) (mine v w all, leaf-worn key page tried w leaf),
+  )
 
--- what the contract of each call says, of the reply and of the fault
-pub get-tells : (key : ℕ) (r : Result Reply TreeFault) (v w : View Said) → IfOk r (λ reply. IsReadReplied (record { call = Get key; reply = reply }) v w) → IfOk r (λ reply. IsOfKind (Get key) reply) → IfErr r (λ fault. IsReadFaulted key fault v w) → IsTreeCall (Get key) r v w
-get-tells key (Ok reply) v w ok kind err = (ok, kind)
-get-tells key (Err fault) v w ok kind err = err
+  pub put-faulted : (key value : ℕ) (fault : TreeFault) (v w : View Said) → IsPutFaulted as_said L spare key fault v w → KeepsPass v w × IsCalled size (Put key value) (Err fault) v w
+  put-faulted key value fault v w (put_faulted.faulted f) = write-faulted KeepsLocksOnly (IsPutRound as_said L spare) (HasRoomFor L spare) all-pass (λ x y k. k.mine) (Put key value) key fault v w f
+  put-faulted key value fault v w (put_faulted.tight tried found page rounds k reads t room all) = (
+    all-pass v w all,
+    room-called L spare size key value fault v found w (keeps-then v tried found (all-pass v tried k) (reads-pass tried found reads.0)) all.mine room,
+  )
 
-pub window-tells : (start most : ℕ) (r : Result Reply TreeFault) (v w : View Said) → IfOk r (λ reply. IsReadReplied (record { call = Window start most; reply = reply }) v w) → IfOk r (λ reply. IsOfKind (Window start most) reply) → IfErr r (λ fault. IsReadFaulted start fault v w) → IsTreeCall (Window start most) r v w
-window-tells start most (Ok reply) v w ok kind err = (ok, kind)
-window-tells start most (Err fault) v w ok kind err = err
+  -- ---- answers
 
-pub put-tells : (key value : ℕ) (r : Result Reply TreeFault) (v w : View Said) → IfOk r (λ reply. IsWriteReplied KeepsLocksOnly IsPutRound (record { call = Put key value; reply = reply }) v w) → IfOk r (λ reply. IsOfKind (Put key value) reply) → IfErr r (λ fault. IsPutFaulted key fault v w) → IsTreeCall (Put key value) r v w
-put-tells key value (Ok reply) v w ok kind err = (ok, kind)
-put-tells key value (Err fault) v w ok kind err = err
+  -- what the contract of each call says, of the reply and of the fault
+  pub get-tells : (key : ℕ) (r : Result Reply TreeFault) (v w : View Said) → IfOk r (λ reply. IsReadReplied as_said L (record { call = Get key; reply = reply }) v w) → IfOk r (λ reply. IsOfKind (Get key) reply) → IfErr r (λ fault. IsReadFaulted L key fault v w) → IsTreeCall size (Get key) r v w
+  get-tells key (Ok reply) v w ok kind err = (ok, kind)
+  get-tells key (Err fault) v w ok kind err = err
 
-pub del-tells : (key : ℕ) (r : Result Reply TreeFault) (v w : View Said) → IfOk r (λ reply. IsWriteReplied Waits IsDelRound (record { call = Del key; reply = reply }) v w) → IfOk r (λ reply. IsOfKind (Del key) reply) → IfErr r (λ fault. IsWriteFaulted Waits IsDelRound HasKeyIn key fault v w) → IsTreeCall (Del key) r v w
-del-tells key (Ok reply) v w ok kind err = (ok, kind)
-del-tells key (Err fault) v w ok kind err = err
+  pub window-tells : (start most : ℕ) (r : Result Reply TreeFault) (v w : View Said) → IfOk r (λ reply. IsReadReplied as_said L (record { call = Window start most; reply = reply }) v w) → IfOk r (λ reply. IsOfKind (Window start most) reply) → IfErr r (λ fault. IsReadFaulted L start fault v w) → IsTreeCall size (Window start most) r v w
+  window-tells start most (Ok reply) v w ok kind err = (ok, kind)
+  window-tells start most (Err fault) v w ok kind err = err
 
-reply-shown : (call : Call) (reply : Reply) (v w : View Said) → IsReadReplied (record { call = call; reply = reply }) v w → KeepsPass v w × IsCalled call (Ok reply) v w
-reply-shown call reply v w ok = (read-replied (record { call = call; reply = reply }) v w ok, (ok.mine, answered-shown call reply ok.tried w ok.answered))
+  pub put-tells : (key value : ℕ) (r : Result Reply TreeFault) (v w : View Said) → IfOk r (λ reply. IsWriteReplied as_said L KeepsLocksOnly (IsPutRound as_said L spare) (record { call = Put key value; reply = reply }) v w) → IfOk r (λ reply. IsOfKind (Put key value) reply) → IfErr r (λ fault. IsPutFaulted as_said L spare key fault v w) → IsTreeCall size (Put key value) r v w
+  put-tells key value (Ok reply) v w ok kind err = (ok, kind)
+  put-tells key value (Err fault) v w ok kind err = err
 
--- what the tree tells of a call in the terms of the pass
-pub tree-called : (call : Call) (r : Result Reply TreeFault) (v w : View Said) → IsTreeCall call r v w → KeepsPass v w × IsCalled call r v w
-tree-called (Get key) (Ok reply) v w t = reply-shown (Get key) reply v w t.0
-tree-called (Get key) (Err fault) v w t = read-faulted (Get key) key fault v w t
-tree-called (Put key value) (Ok reply) v w t = (write-replied KeepsLocksOnly IsPutRound all-pass (record { call = Put key value; reply = reply }) v w t.0, (t.0.mine, tt))
-tree-called (Put key value) (Err fault) v w t = put-faulted key value fault v w t
-tree-called (Del key) (Ok reply) v w t = (write-replied Waits IsDelRound waits-pass (record { call = Del key; reply = reply }) v w t.0, (t.0.mine, tt))
-tree-called (Del key) (Err fault) v w t = write-faulted Waits IsDelRound HasKeyIn waits-pass (λ x y k. k.mine) (Del key) key fault v w t
-tree-called (Window start most) (Ok reply) v w t = reply-shown (Window start most) reply v w t.0
-tree-called (Window start most) (Err fault) v w t = read-faulted (Window start most) start fault v w t
+  pub del-tells : (key : ℕ) (r : Result Reply TreeFault) (v w : View Said) → IfOk r (λ reply. IsWriteReplied as_said L Waits (IsDelRound L) (record { call = Del key; reply = reply }) v w) → IfOk r (λ reply. IsOfKind (Del key) reply) → IfErr r (λ fault. IsWriteFaulted L Waits (IsDelRound L) (HasKeyIn L) key fault v w) → IsTreeCall size (Del key) r v w
+  del-tells key (Ok reply) v w ok kind err = (ok, kind)
+  del-tells key (Err fault) v w ok kind err = err
+
+  reply-shown : (call : Call) (reply : Reply) (v w : View Said) → IsReadReplied as_said L (record { call = call; reply = reply }) v w → KeepsPass v w × IsCalled size call (Ok reply) v w
+  reply-shown call reply v w ok = (read-replied (record { call = call; reply = reply }) v w ok, (ok.mine ∙ ap (λ (s : Said). v.mine ++ entry_of v s ∷ []) ok.answered.says_is, answered-shown call reply ok.tried w ok.answered))
+
+  -- what the tree tells of a call in the terms of the pass
+  pub tree-called : (call : Call) (r : Result Reply TreeFault) (v w : View Said) → IsTreeCall size call r v w → KeepsPass v w × IsCalled size call r v w
+  tree-called (Get key) (Ok reply) v w t = reply-shown (Get key) reply v w t.0
+  tree-called (Get key) (Err fault) v w t = read-faulted (Get key) key fault v w t
+  tree-called (Put key value) (Ok reply) v w t = (write-replied KeepsLocksOnly (IsPutRound as_said L spare) all-pass (record { call = Put key value; reply = reply }) v w t.0, (t.0.mine ∙ ap (λ (s : Said). v.mine ++ entry_of v s ∷ []) t.0.says_is, tt))
+  tree-called (Put key value) (Err fault) v w t = put-faulted key value fault v w t
+  tree-called (Del key) (Ok reply) v w t = (write-replied Waits (IsDelRound L) waits-pass (record { call = Del key; reply = reply }) v w t.0, (t.0.mine ∙ ap (λ (s : Said). v.mine ++ entry_of v s ∷ []) t.0.says_is, tt))
+  tree-called (Del key) (Err fault) v w t = write-faulted Waits (IsDelRound L) (HasKeyIn L) waits-pass (λ x y k. k.mine) (Del key) key fault v w t
+  tree-called (Window start most) (Ok reply) v w t = reply-shown (Window start most) reply v w t.0
+  tree-called (Window start most) (Err fault) v w t = read-faulted (Window start most) start fault v w t

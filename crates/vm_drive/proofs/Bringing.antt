@@ -66,8 +66,8 @@ module _ {X : Type 0} where
   bring-worn home cap p old new before after v w q inside (is_bring.frameless g) = none-worn home cap old new before after v w q g
 
 -- a page could not be brought, by a call that began with the view u
-pub fault-called : (call : Call) (fault : TreeFault) (p : ℕ) (u v w : View Said) → KeepsPass u v → w.mine ≡ u.mine → p < v.start.pages → IsBringFault p fault v w → IsCalled call (Err fault) u w
-fault-called call fault p u v w k mine inside (fault_for.device home cap before after q count old new b is) =
-    subst (λ (f : TreeFault). IsCalled call (Err f) u w) (sym is) (mine, noted-before q count u v w k.notes (bring-noted home cap p old new before after v w q count b))
-fault-called call fault p u v w k mine inside (fault_for.worn home cap before after q old new b is) =
-    subst (λ (f : TreeFault). IsCalled call (Err f) u w) (sym is) (mine, bring-worn home cap p old new before after v w q inside b)
+pub fault-called : (size : ℕ) (call : Call) (fault : TreeFault) (p : ℕ) (u v w : View Said) → KeepsPass u v → w.mine ≡ u.mine → p < v.start.pages → IsBringFault p fault v w → IsCalled size call (Err fault) u w
+fault-called size call fault p u v w k mine inside (fault_for.device home cap before after q count old new b is) =
+    subst (λ (f : TreeFault). IsCalled size call (Err f) u w) (sym is) (mine, noted-before q count u v w k.notes (bring-noted home cap p old new before after v w q count b))
+fault-called size call fault p u v w k mine inside (fault_for.worn home cap before after q old new b is) =
+    subst (λ (f : TreeFault). IsCalled size call (Err f) u w) (sym is) (mine, bring-worn home cap p old new before after v w q inside b)

@@ -39,19 +39,19 @@ module _ {X : Type 0} where
     pub after : List Note
     pub grew : w.notes ≡ v.notes ++ (before ++ record { page = p; count = count } ∷ after)
 
--- what the answer says: a reply became an entry of the pass, its next one, and a window is a leaf's; a fault has none, and its cause
-abbrev pub IsCalled : Call → Result Reply TreeFault → View Said → View Said → Type 0
-IsCalled call (Ok reply) v w = (w.mine ≡ v.mine ++ entry_of v (record { call = call; reply = reply }) ∷ []) × IsWindowShown w call reply
-IsCalled call (Err (Device p count)) v w = (w.mine ≡ v.mine) × HasNoted p count v w
-IsCalled call (Err (Full pages)) v w = (w.mine ≡ v.mine) × IsPutCall call × (pages ≡ v.start.pages) × HasFoundNext pages w
-IsCalled call (Err (Worn p)) v w = (w.mine ≡ v.mine) × HasFoundWorn p w
+-- on pages of n words, what the answer says: a reply became an entry of the pass, its next one, and a window is a leaf's; a fault has none, and its cause
+abbrev pub IsCalled : ℕ → Call → Result Reply TreeFault → View Said → View Said → Type 0
+IsCalled n call (Ok reply) v w = (w.mine ≡ v.mine ++ entry_of v (record { call = call; reply = reply }) ∷ []) × IsWindowShown n w call reply
+IsCalled n call (Err (Device p count)) v w = (w.mine ≡ v.mine) × HasNoted p count v w
+IsCalled n call (Err (Full pages)) v w = (w.mine ≡ v.mine) × IsPutCall call × (pages ≡ v.start.pages) × HasFoundNext pages w
+IsCalled n call (Err (Worn p)) v w = (w.mine ≡ v.mine) × HasFoundWorn p w
 
 -- the calls were made, in order, with these answers: the pass's own entries are those before and the calls that had a reply; each fault of a
 -- device has a note of its own, and each other one its cause; each window is a leaf's
-pub record HasDone (calls : List Call) (answers : List (Result Reply TreeFault)) (v w : View Said) : Type 0 where
+pub record HasDone (n : ℕ) (calls : List Call) (answers : List (Result Reply TreeFault)) (v w : View Said) : Type 0 where
   pub keeps : KeepsPass v w
   pub long : length answers ≡ length calls
   pub mine : saids w.mine ≡ saids v.mine ++ answered calls answers
   pub faults : (p : ℕ) → notes_about p v.notes + faults_of p answers ≤ notes_about p w.notes
   pub caused : AreCausedBy (FoundFull w) (FoundWorn w) calls answers
-  pub shown : AreShown w calls answers
+  pub shown : AreShown n w calls answers

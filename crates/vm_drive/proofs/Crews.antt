@@ -3,7 +3,7 @@ use Rattle.std.specs.declared.alloc.Global.{Global}
 use Rattle.std.specs.List.{AllByRecursion}
 use Rattle.std.proofs.Common.{[], ◌++◌, ◌<◌, ◌∷◌, ◌≡◌, ap, arith, Bool, drop, get_or, length, List, refl, Result, subst, suc, sym, take, Vec}
 use Rattle.std.proofs.Common.{zero, ℕ}
-use Rattle.vm_map.specs.{declared.call.Call.Call, declared.call.Reply.Reply}
+use Rattle.vm_map.specs.{declared.call.Call.Call, declared.call.Reply.Reply, declared.call.Said.Said}
 use Rattle.vm_rule.specs.Prelude.{TableId}
 use Rattle.vm_step.specs.Prelude.{Shape}
 use Rattle.vm_tree_rule.specs.declared.fault.TreeFault.{TreeFault}
@@ -51,22 +51,22 @@ whole-back (x ∷ xs) [] n e f = absurd (omega arith)
 whole-back (x ∷ xs) (y ∷ ys) zero e f = absurd (omega arith)
 whole-back (x ∷ xs) (y ∷ ys) (suc n) e f = ap (λ (l : List _). x ∷ l) (whole-back xs ys n (omega arith) (omega arith))
 
-module _ {A : Type 0} (keeps : A → List (Result Reply TreeFault) → Type 0) (space : A → Room) (shape : Shape) (tells : Bool) (t : TableId) where
-  pub idle-long : (lists : List (List Call)) (workers : List (Worker A)) → AreIdle keeps space shape tells t lists workers → length lists ≡ length workers
+module _ {U X A : Type 0} {owner : _} (keeps : A → List (Result Reply TreeFault) → Type 0) (space : A → Room) (shape : Shape) (tells : Bool) (t : TableId) where
+  pub idle-long : (lists : List (List Call)) (workers : List (Worker U A X owner)) → AreIdle keeps space shape tells t lists workers → length lists ≡ length workers
   idle-long [] [] a = refl
   idle-long [] (w ∷ ws) a = absurd a
   idle-long (c ∷ cs) [] a = absurd a
   idle-long (c ∷ cs) (w ∷ ws) a = ap suc (idle-long cs ws a.1)
 
-  pub idle-at : (lists : List (List Call)) (workers : List (Worker A)) (i : ℕ) (w : Worker A) → AreIdle keeps space shape tells t lists workers → i < length workers → w ≡ get_or workers i w → IsIdle keeps space shape tells t (list_at lists i) w
+  pub idle-at : (lists : List (List Call)) (workers : List (Worker U A X owner)) (i : ℕ) (w : Worker U A X owner) → AreIdle keeps space shape tells t lists workers → i < length workers → w ≡ get_or workers i w → IsIdle keeps space shape tells t (list_at lists i) w
   idle-at [] [] i w a l e = absurd (omega arith)
   idle-at [] (x ∷ xs) i w a l e = absurd a
   idle-at (c ∷ cs) [] i w a l e = absurd a
-  idle-at (c ∷ cs) (x ∷ xs) zero w a l e = subst (λ (y : Worker A). IsIdle keeps space shape tells t c y) (sym e) a.0
+  idle-at (c ∷ cs) (x ∷ xs) zero w a l e = subst (λ (y : Worker U A X owner). IsIdle keeps space shape tells t c y) (sym e) a.0
   idle-at (c ∷ cs) (x ∷ xs) (suc i) w a l e = idle-at cs xs i w a.1 (omega arith) e
 
-module _ {A : Type 0} (keeps : A → List (Result Reply TreeFault) → Type 0) (shape : Shape) (tells : Bool) (t : TableId) where
-  pub worked-all : (lists : List (List Call)) (olds news : List (Worker A)) → length lists ≡ length olds → length news ≡ length olds → ((i : ℕ) (d : Worker A) → i < length olds → HasWorked keeps shape tells t (list_at lists i) (get_or olds i d) (get_or news i d)) → AllWorked keeps shape tells t lists olds news
+module _ (size : ℕ) {U A : Type 0} {owner : _} (keeps : A → List (Result Reply TreeFault) → Type 0) (shape : Shape) (tells : Bool) (t : TableId) where
+  pub worked-all : (lists : List (List Call)) (olds news : List (Worker U A Said owner)) → length lists ≡ length olds → length news ≡ length olds → ((i : ℕ) (d : Worker U A Said owner) → i < length olds → HasWorked size keeps shape tells t (list_at lists i) (get_or olds i d) (get_or news i d)) → AllWorked size keeps shape tells t lists olds news
   worked-all [] [] [] e f each = tt
   worked-all [] [] (n ∷ ns) e f each = absurd (omega arith)
   worked-all [] (o ∷ os) ns e f each = absurd (omega arith)
@@ -74,7 +74,7 @@ module _ {A : Type 0} (keeps : A → List (Result Reply TreeFault) → Type 0) (
   worked-all (c ∷ cs) (o ∷ os) [] e f each = absurd (omega arith)
   worked-all (c ∷ cs) (o ∷ os) (n ∷ ns) e f each = (each 0 o (omega arith), worked-all cs os ns (omega arith) (omega arith) (λ i d l. each (suc i) d (omega arith)))
 
-  pub worked-long : (lists : List (List Call)) (olds news : List (Worker A)) → AllWorked keeps shape tells t lists olds news → length news ≡ length olds
+  pub worked-long : (lists : List (List Call)) (olds news : List (Worker U A Said owner)) → AllWorked size keeps shape tells t lists olds news → length news ≡ length olds
   worked-long [] [] [] a = refl
   worked-long [] [] (n ∷ ns) a = absurd a
   worked-long [] (o ∷ os) ns a = absurd a

@@ -95,72 +95,73 @@ answered-snoc (c' ∷ cs) (Err fault ∷ rs) c r e = answered-snoc cs rs c r (om
 
 -- ---- what was done
 
-pub done-none : (v : View Said) → HasDone [] [] v v
-done-none v = record { keeps = keeps-self v; long = refl; mine = sym (append-none (saids v.mine)); faults = λ p. omega arith; caused = tt; shown = tt }
-
--- what one call adds: its entry, its note, its cause
-pub record AddsCall (c : Call) (r : Result Reply TreeFault) (v w : View Said) : Type 0 where
-  pub mine : saids w.mine ≡ saids v.mine ++ answered (c ∷ []) (r ∷ [])
-  pub faults : (p : ℕ) → notes_about p v.notes + is_fault p r ≤ notes_about p w.notes
-  pub caused : CausedBy (FoundFull w) (FoundWorn w) c r
-  pub shown : AreShown w (c ∷ []) (r ∷ [])
-
 same-mine : (v w : View Said) → w.mine ≡ v.mine → saids w.mine ≡ saids v.mine ++ []
 same-mine v w e = ap (λ (l : List (Entry Said)). saids l) e ∙ sym (append-none (saids v.mine))
 
-pub adds-call : (c : Call) (r : Result Reply TreeFault) (v w : View Said) → KeepsPass v w → IsCalled c r v w → AddsCall c r v w
-adds-call c (Ok reply) v w k a =
-    let said : Said = record { call = c; reply = reply } in
-    record {
-      mine = ap (λ (l : List (Entry Said)). saids l) a.0 ∙ map-append (λ (e : Entry Said). e.said) v.mine (entry_of v said ∷ []);
-      faults = λ p. let h : notes_about p v.notes ≤ notes_about p w.notes = notes-rise p w.notes v.notes k.notes in omega arith;
-      caused = tt;
-      shown = (a.1, tt);
-    }
-adds-call c (Err (Device q count)) v w k a = record {
-  mine = same-mine v w a.0;
-  faults = λ p. noted-more p q count v w a.1;
-  caused = tt;
-  shown = tt;
-}
-adds-call c (Err (Full pages)) v w k a = record {
-  mine = same-mine v w a.0;
-  faults = λ p. let h : notes_about p v.notes ≤ notes_about p w.notes = notes-rise p w.notes v.notes k.notes in omega arith;
-  caused = (a.1, (a.2 ∙ ap (λ s. s.pages) (sym k.start), a.3));
-  shown = tt;
-}
-adds-call c (Err (Worn q)) v w k a = record {
-  mine = same-mine v w a.0;
-  faults = λ p. let h : notes_about p v.notes ≤ notes_about p w.notes = notes-rise p w.notes v.notes k.notes in omega arith;
-  caused = a.1;
-  shown = tt;
-}
+module _ (size : ℕ) where
+  pub done-none : (v : View Said) → HasDone size [] [] v v
+  done-none v = record { keeps = keeps-self v; long = refl; mine = sym (append-none (saids v.mine)); faults = λ p. omega arith; caused = tt; shown = tt }
 
-pub done-more : (cs : List Call) (rs : List (Result Reply TreeFault)) (c : Call) (r : Result Reply TreeFault) (v w x : View Said) → HasDone cs rs v w → KeepsPass w x → IsCalled c r w x → HasDone (cs ++ c ∷ []) (rs ++ r ∷ []) v x
-done-more cs rs c r v w x d k a =
-    let one : AddsCall c r w x = adds-call c r w x k a in
-    record {
-      keeps = keeps-then v w x d.keeps k;
-      long = length-append rs (r ∷ []) ∙ ap (λ n. n + 1) d.long ∙ sym (length-append cs (c ∷ []));
-      mine = one.mine ∙ ap (λ (l : List Said). l ++ answered (c ∷ []) (r ∷ [])) d.mine ∙ append_assoc (saids v.mine) (answered cs rs) (answered (c ∷ []) (r ∷ [])) ∙ ap (λ (l : List Said). saids v.mine ++ l) (sym (answered-snoc cs rs c r d.long));
-      faults = λ p.
-          let before : notes_about p v.notes + faults_of p rs ≤ notes_about p w.notes = d.faults p in
-          let new : notes_about p w.notes + is_fault p r ≤ notes_about p x.notes = one.faults p in
-          let all : faults_of p (rs ++ r ∷ []) ≡ faults_of p rs + (is_fault p r + 0) = faults-both p rs (r ∷ []) in
-          omega arith;
-      caused = caused-snoc (FoundFull x) (FoundWorn x) cs rs c r d.long (all-caused (FoundFull w) (FoundWorn w) (FoundFull x) (FoundWorn x) (λ n. found-later w x n k.start k.log) (λ p. max-later w x p k.start k.log) cs rs d.caused) one.caused;
-      shown = shown-snoc x cs rs c r d.long (are-shown-more w x k.start k.seen k.releases cs rs d.shown) one.shown;
-    }
+  -- what one call adds: its entry, its note, its cause
+  pub record AddsCall (c : Call) (r : Result Reply TreeFault) (v w : View Said) : Type 0 where
+    pub mine : saids w.mine ≡ saids v.mine ++ answered (c ∷ []) (r ∷ [])
+    pub faults : (p : ℕ) → notes_about p v.notes + is_fault p r ≤ notes_about p w.notes
+    pub caused : CausedBy (FoundFull w) (FoundWorn w) c r
+    pub shown : AreShown size w (c ∷ []) (r ∷ [])
 
--- frames that move afterwards leave it
-pub done-moved : (cs : List Call) (rs : List (Result Reply TreeFault)) (v w x : View Said) (steps : List Did) → HasDone cs rs v w → MovesFrames steps w x → HasDone cs rs v x
-done-moved cs rs v w x steps d m =
-    let k : KeepsPass w x = moves-keep steps w x m in
-    record {
-      keeps = keeps-then v w x d.keeps k;
-      long = d.long;
-      mine = ap (λ (l : List (Entry Said)). saids l) m.mine ∙ d.mine;
-      faults = λ p. let h : notes_about p v.notes + faults_of p rs ≤ notes_about p w.notes = d.faults p in let s : notes_about p x.notes ≡ notes_about p w.notes = ap (notes_about p) m.notes in omega arith;
-      caused = all-caused (FoundFull w) (FoundWorn w) (FoundFull x) (FoundWorn x) (λ n. found-later w x n k.start k.log) (λ p. max-later w x p k.start k.log) cs rs d.caused;
-      shown = are-shown-more w x k.start k.seen k.releases cs rs d.shown;
-    }
+  pub adds-call : (c : Call) (r : Result Reply TreeFault) (v w : View Said) → KeepsPass v w → IsCalled size c r v w → AddsCall c r v w
+  adds-call c (Ok reply) v w k a =
+      let said : Said = record { call = c; reply = reply } in
+      record {
+        mine = ap (λ (l : List (Entry Said)). saids l) a.0 ∙ map-append (λ (e : Entry Said). e.said) v.mine (entry_of v said ∷ []);
+        faults = λ p. let h : notes_about p v.notes ≤ notes_about p w.notes = notes-rise p w.notes v.notes k.notes in omega arith;
+        caused = tt;
+        shown = (a.1, tt);
+      }
+  adds-call c (Err (Device q count)) v w k a = record {
+    mine = same-mine v w a.0;
+    faults = λ p. noted-more p q count v w a.1;
+    caused = tt;
+    shown = tt;
+  }
+  adds-call c (Err (Full pages)) v w k a = record {
+    mine = same-mine v w a.0;
+    faults = λ p. let h : notes_about p v.notes ≤ notes_about p w.notes = notes-rise p w.notes v.notes k.notes in omega arith;
+    caused = (a.1, (a.2 ∙ ap (λ s. s.pages) (sym k.start), a.3));
+    shown = tt;
+  }
+  adds-call c (Err (Worn q)) v w k a = record {
+    mine = same-mine v w a.0;
+    faults = λ p. let h : notes_about p v.notes ≤ notes_about p w.notes = notes-rise p w.notes v.notes k.notes in omega arith;
+    caused = a.1;
+    shown = tt;
+  }
+
+  pub done-more : (cs : List Call) (rs : List (Result Reply TreeFault)) (c : Call) (r : Result Reply TreeFault) (v w x : View Said) → HasDone size cs rs v w → KeepsPass w x → IsCalled size c r w x → HasDone size (cs ++ c ∷ []) (rs ++ r ∷ []) v x
+  done-more cs rs c r v w x d k a =
+      let one : AddsCall c r w x = adds-call c r w x k a in
+      record {
+        keeps = keeps-then v w x d.keeps k;
+        long = length-append rs (r ∷ []) ∙ ap (λ n. n + 1) d.long ∙ sym (length-append cs (c ∷ []));
+        mine = one.mine ∙ ap (λ (l : List Said). l ++ answered (c ∷ []) (r ∷ [])) d.mine ∙ append_assoc (saids v.mine) (answered cs rs) (answered (c ∷ []) (r ∷ [])) ∙ ap (λ (l : List Said). saids v.mine ++ l) (sym (answered-snoc cs rs c r d.long));
+        faults = λ p.
+            let before : notes_about p v.notes + faults_of p rs ≤ notes_about p w.notes = d.faults p in
+            let new : notes_about p w.notes + is_fault p r ≤ notes_about p x.notes = one.faults p in
+            let all : faults_of p (rs ++ r ∷ []) ≡ faults_of p rs + (is_fault p r + 0) = faults-both p rs (r ∷ []) in
+            omega arith;
+        caused = caused-snoc (FoundFull x) (FoundWorn x) cs rs c r d.long (all-caused (FoundFull w) (FoundWorn w) (FoundFull x) (FoundWorn x) (λ n. found-later w x n k.start k.log) (λ p. max-later w x p k.start k.log) cs rs d.caused) one.caused;
+        shown = shown-snoc size x cs rs c r d.long (are-shown-more size w x k.start k.seen k.releases cs rs d.shown) one.shown;
+      }
+
+  -- frames that move afterwards leave it
+  pub done-moved : (cs : List Call) (rs : List (Result Reply TreeFault)) (v w x : View Said) (steps : List Did) → HasDone size cs rs v w → MovesFrames steps w x → HasDone size cs rs v x
+  done-moved cs rs v w x steps d m =
+      let k : KeepsPass w x = moves-keep steps w x m in
+      record {
+        keeps = keeps-then v w x d.keeps k;
+        long = d.long;
+        mine = ap (λ (l : List (Entry Said)). saids l) m.mine ∙ d.mine;
+        faults = λ p. let h : notes_about p v.notes + faults_of p rs ≤ notes_about p w.notes = d.faults p in let s : notes_about p x.notes ≡ notes_about p w.notes = ap (notes_about p) m.notes in omega arith;
+        caused = all-caused (FoundFull w) (FoundWorn w) (FoundFull x) (FoundWorn x) (λ n. found-later w x n k.start k.log) (λ p. max-later w x p k.start k.log) cs rs d.caused;
+        shown = are-shown-more size w x k.start k.seen k.releases cs rs d.shown;
+      }

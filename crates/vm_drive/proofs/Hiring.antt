@@ -51,13 +51,13 @@ not-among m rest (n ∷ ns) e =
     (cases_eq m n)
 
 -- one more behind those that are at home
-pub home-snoc : {A : Type 0} (first cap : ℕ) (ds : List (Worker A)) (d : Worker A) → AreAtHome first cap ds → d.iface.home ≡ first + length ds → d.iface.cap ≡ cap → AreAtHome first cap (ds ++ d ∷ [])
+pub home-snoc : {U X A : Type 0} {owner : _} (first cap : ℕ) (ds : List (Worker U A X owner)) (d : Worker U A X owner) → AreAtHome first cap ds → d.iface.home ≡ first + length ds → d.iface.cap ≡ cap → AreAtHome first cap (ds ++ d ∷ [])
 home-snoc first cap [] d h home size = (omega arith, size, tt)
 home-snoc first cap (e ∷ es) d h home size = (h.0, h.1, home-snoc (first + 1) cap es d h.2 (omega arith) size)
 
-module _ {A : Type 0} (shape : Shape) (tells : Bool) (t : TableId) where
+module _ {U A : Type 0} {owner : _} (shape : Shape) (tells : Bool) (t : TableId) where
   -- the worker with a pass that was just split off
-  pub is-new : 1 ≤ shape.pages → (v w x : View Said) (d : Worker A) → KeepsAll v w → Splits w (view d.pass) x → IsReady shape tells t d.pass → d.iface.frames ≡ [] → IsNewWorker shape tells t v d
+  pub is-new : 1 ≤ shape.pages → (v w x : View Said) (d : Worker U A Said owner) → KeepsAll v w → Splits w (view d.pass) x → IsReady shape tells t d.pass → d.iface.frames ≡ [] → IsNewWorker shape tells t v d
   is-new pages v w x d kept s ready none =
       let is = s.new in
       let used : (view d.pass).used ≡ s.number ∷ [] = ap (λ (y : View Said). y.used) is in
@@ -74,7 +74,7 @@ module _ {A : Type 0} (shape : Shape) (tells : Bool) (t : TableId) where
         frames = ap (λ (y : View Said). y.frames) is;
       }
 
-  pub hired-more : 1 ≤ shape.pages → (rooms : List A) (v : View Said) (ds : List (Worker A)) (w x : View Said) (d : Worker A)
+  pub hired-more : 1 ≤ shape.pages → (rooms : List A) (v : View Said) (ds : List (Worker U A Said owner)) (w x : View Said) (d : Worker U A Said owner)
       → AreHired shape tells t rooms v ds w → Splits w (view d.pass) x → IsReady shape tells t d.pass → d.iface.frames ≡ []
       → AreHired shape tells t (rooms ++ d.answers ∷ []) v (ds ++ d ∷ []) x
   hired-more pages rooms v ds w x d h s ready none =
@@ -105,6 +105,6 @@ module _ {A : Type 0} (shape : Shape) (tells : Bool) (t : TableId) where
         unused = rw numbers (each-snoc (λ n. entries_by (n ∷ []) v.seen ≡ []) (numbers_of ds) (number_of d) h.unused
             (front-none (number_of d ∷ []) v.seen kept.seen.0 (ap (λ l. entries_by (number_of d ∷ []) l) (sym kept.seen.1) ∙ ap (λ n. entries_by (n ∷ []) x.seen) one ∙ s.unused)));
         each = each-snoc (IsNewWorker shape tells t v) ds d h.each (is-new pages v w x d h.kept s ready none);
-        answers = map-append (λ (worker : Worker A). worker.answers) ds (d ∷ []) ∙ ap (λ l. l ++ d.answers ∷ []) h.answers;
+        answers = map-append (λ (worker : Worker U A Said owner). worker.answers) ds (d ∷ []) ∙ ap (λ l. l ++ d.answers ∷ []) h.answers;
         all = inr (⊎_elim (λ empty. subst (λ (y : View Said). IsWhole y → y.mine ≡ y.seen) empty.1 s.all) (λ known. known) h.all);
       }

@@ -2,24 +2,25 @@
 use Rattle.std.proofs.Common.{[], ⊎_elim, ◌++◌, ◌+◌, ◌∙◌, ◌∷◌, ◌≡◌, ◌⊎◌, ap, append_assoc, arith, Bool, false, List, subst, sym, ℕ}
 use Rattle.std.proofs.lemmas.List.{map-append}
 use Rattle.vm_map.specs.declared.call.Said.{Said}
-use Rattle.vm_rule.specs.Prelude.{entries_by, Entry, has, owns, times}
+use Rattle.vm_rule.specs.Prelude.{entries_by, Entry, has, Kept, owns, Start, times}
 use Rattle.vm_rule.proofs.Entries.{append-none, each-map}
 use Rattle.vm_step.specs.Prelude.{Did, Note, View, view}
 use Rattle.vm_pool.specs.Parting.{Joins}
-use Rattle.vm_tree_laws.specs.Keeps.{KeepsTree}
-use Rattle.vm_drive.specs.{Causes.notes_about, declared.worker.Worker.Worker, Parts.StandBehind}
+use Rattle.vm_tree_model.specs.Fixed.{fixed}
+use Rattle.vm_tree_laws.specs.Plain.{KeepsPlain}
+use Rattle.vm_drive.specs.{Causes.notes_about, declared.worker.Worker.Worker, Parts.StandBehind, TreeCalls.as_said}
 use Rattle.vm_drive.specs.Crews.{all_notes_of, AreJoined, IsIn, number_of, numbers_of, worker_logs, worker_notes}
 use Rattle.vm_drive.proofs.{Doing.notes-both, Framing.none-added, Hiring.all-then, Parts.behind-first, Parts.behind-snoc}
 use Rattle.vm_drive.proofs.Lists.{each-snoc, has-last, has-left, nested, nested-one, starts-then, times-both}
 
-module _ {A : Type 0} where
-  all-notes-snoc : (p : ℕ) (ds : List (Worker A)) (d : Worker A) → all_notes_of p (ds ++ d ∷ []) ≡ all_notes_of p ds + notes_about p (view d.pass).notes
+module _ {U A : Type 0} {owner : _} where
+  all-notes-snoc : (p : ℕ) (ds : List (Worker U A Said owner)) (d : Worker U A Said owner) → all_notes_of p (ds ++ d ∷ []) ≡ all_notes_of p ds + notes_about p (view d.pass).notes
   all-notes-snoc p [] d = omega arith
   all-notes-snoc p (e ∷ es) d = let h : all_notes_of p (es ++ d ∷ []) ≡ all_notes_of p es + notes_about p (view d.pass).notes = all-notes-snoc p es d in omega arith
 
   -- a worker that is in stays in
-  stays-in : (tells : Bool) (w x : View Said) (u : View Said) (d : Worker A) → Joins tells KeepsTree w u x → w.mine ≡ entries_by w.used w.seen → IsIn w d → IsIn x d
-  stays-in tells w x u d j mine i =
+  stays-in : (keeps : Start → Kept Said → Type 0) (tells : Bool) (w x : View Said) (u : View Said) (d : Worker U A Said owner) → Joins tells keeps w u x → w.mine ≡ entries_by w.used w.seen → IsIn w d → IsIn x d
+  stays-in keeps tells w x u d j mine i =
       let n = number_of d in
       record {
         number = ap (λ (l : List ℕ). has n l) j.used ∙ has-left n w.used u.used i.number;
@@ -30,8 +31,8 @@ module _ {A : Type 0} where
       }
 
   -- the worker whose pass was joined now is in
-  comes-in : (tells : Bool) (w x : View Said) (d : Worker A) → Joins tells KeepsTree w (view d.pass) x → (view d.pass).used ≡ number_of d ∷ [] → (view d.pass).start ≡ w.start → IsIn x d
-  comes-in tells w x d j one start =
+  comes-in : (keeps : Start → Kept Said → Type 0) (tells : Bool) (w x : View Said) (d : Worker U A Said owner) → Joins tells keeps w (view d.pass) x → (view d.pass).used ≡ number_of d ∷ [] → (view d.pass).start ≡ w.start → IsIn x d
+  comes-in keeps tells w x d j one start =
       let n = number_of d in
       record {
         number = ap (λ (l : List ℕ). has n l) (j.used ∙ ap (λ (l : List ℕ). w.used ++ l) one) ∙ has-last n w.used;
@@ -41,12 +42,12 @@ module _ {A : Type 0} where
         saw = j.saw.1;
       }
 
-  module _ (tells : Bool) (x : View Said) where
+  module _ (size : ℕ) (tells : Bool) (x : View Said) where
     -- what was joined so far: nothing, or these
-    abbrev pub JoinedSoFar : List (Worker A) → View Said → Type 0
-    JoinedSoFar ds w = ((ds ≡ []) × (w ≡ x)) ⊎ AreJoined tells x ds w
+    abbrev pub JoinedSoFar : List (Worker U A Said owner) → View Said → Type 0
+    JoinedSoFar ds w = ((ds ≡ []) × (w ≡ x)) ⊎ AreJoined size tells x ds w
 
-    first-joined : (w : View Said) (d : Worker A) → Joins tells KeepsTree x (view d.pass) w → (view d.pass).used ≡ number_of d ∷ [] → (view d.pass).fresh ≡ [] → (view d.pass).start ≡ x.start → ((f : ℕ) → has f (view d.pass).frames ≡ false) → AreJoined tells x (d ∷ []) w
+    first-joined : (w : View Said) (d : Worker U A Said owner) → Joins tells (KeepsPlain as_said (fixed size)) x (view d.pass) w → (view d.pass).used ≡ number_of d ∷ [] → (view d.pass).fresh ≡ [] → (view d.pass).start ≡ x.start → ((f : ℕ) → has f (view d.pass).frames ≡ false) → AreJoined size tells x (d ∷ []) w
     first-joined w d j one none start bare = record {
       kept = j.kept;
       current = j.current;
@@ -62,11 +63,11 @@ module _ {A : Type 0} where
       frames = none-added x (view d.pass) w j.frames bare;
       mine = j.mine;
       ours = j.ours;
-      each = (comes-in tells x w d j one start, tt);
+      each = (comes-in (KeepsPlain as_said (fixed size)) tells x w d j one start, tt);
       knows = j.knows;
     }
 
-    next-joined : (ds : List (Worker A)) (v w : View Said) (d : Worker A) → AreJoined tells x ds v → Joins tells KeepsTree v (view d.pass) w → (view d.pass).used ≡ number_of d ∷ [] → (view d.pass).fresh ≡ [] → (view d.pass).start ≡ x.start → ((f : ℕ) → has f (view d.pass).frames ≡ false) → AreJoined tells x (ds ++ d ∷ []) w
+    next-joined : (ds : List (Worker U A Said owner)) (v w : View Said) (d : Worker U A Said owner) → AreJoined size tells x ds v → Joins tells (KeepsPlain as_said (fixed size)) v (view d.pass) w → (view d.pass).used ≡ number_of d ∷ [] → (view d.pass).fresh ≡ [] → (view d.pass).start ≡ x.start → ((f : ℕ) → has f (view d.pass).frames ≡ false) → AreJoined size tells x (ds ++ d ∷ []) w
     next-joined ds v w d a j one none start bare =
         let numbers : numbers_of (ds ++ d ∷ []) ≡ numbers_of ds ++ number_of d ∷ [] = map-append number_of ds (d ∷ []) in
         record {
@@ -85,8 +86,8 @@ module _ {A : Type 0} where
               let before : notes_about p v.notes ≡ notes_about p x.notes + all_notes_of p ds = a.notes p in
               let more : all_notes_of p (ds ++ d ∷ []) ≡ all_notes_of p ds + notes_about p (view d.pass).notes = all-notes-snoc p ds d in
               omega arith;
-          logs = subst (λ (l : List (List Did)). StandBehind x.log l w.log) (sym (map-append (λ (e : Worker A). (view e.pass).log) ds (d ∷ []))) (behind-snoc x.log (worker_logs ds) v.log (view d.pass).log j.steps w.log a.logs j.log);
-          noted = subst (λ (l : List (List Note)). StandBehind x.notes l w.notes) (sym (map-append (λ (e : Worker A). (view e.pass).notes) ds (d ∷ [])))
+          logs = subst (λ (l : List (List Did)). StandBehind x.log l w.log) (sym (map-append (λ (e : Worker U A Said owner). (view e.pass).log) ds (d ∷ []))) (behind-snoc x.log (worker_logs ds) v.log (view d.pass).log j.steps w.log a.logs j.log);
+          noted = subst (λ (l : List (List Note)). StandBehind x.notes l w.notes) (sym (map-append (λ (e : Worker U A Said owner). (view e.pass).notes) ds (d ∷ [])))
               (behind-snoc x.notes (worker_notes ds) v.notes (view d.pass).notes [] w.notes a.noted (j.notes ∙ sym (append-none (v.notes ++ (view d.pass).notes))));
           frames = λ f. none-added v (view d.pass) w j.frames bare f ∙ a.frames f;
           mine = j.mine;
@@ -95,13 +96,13 @@ module _ {A : Type 0} where
               ∙ ap (λ (l : List (Entry Said)). entries_by x.used l) (j.ours ∙ a.mine)
               ∙ nested x.used v.used v.seen (λ k t. ap (λ (l : List ℕ). has k l) a.used ∙ has-left k x.used (numbers_of ds) t)
               ∙ a.ours;
-          each = each-snoc (IsIn w) ds d (each-map (IsIn v) (IsIn w) (λ e i. stays-in tells v w (view d.pass) e j a.mine i) ds a.each) (comes-in tells v w d j one (start ∙ sym a.kept.start));
+          each = each-snoc (IsIn w) ds d (each-map (IsIn v) (IsIn w) (λ e i. stays-in (KeepsPlain as_said (fixed size)) tells v w (view d.pass) e j a.mine i) ds a.each) (comes-in (KeepsPlain as_said (fixed size)) tells v w d j one (start ∙ sym a.kept.start));
           knows = j.knows;
         }
 
-    pub joined-more : (ds : List (Worker A)) (v w : View Said) (d : Worker A) → JoinedSoFar ds v → Joins tells KeepsTree v (view d.pass) w → (view d.pass).used ≡ number_of d ∷ [] → (view d.pass).fresh ≡ [] → (view d.pass).start ≡ x.start → ((f : ℕ) → has f (view d.pass).frames ≡ false) → AreJoined tells x (ds ++ d ∷ []) w
+    pub joined-more : (ds : List (Worker U A Said owner)) (v w : View Said) (d : Worker U A Said owner) → JoinedSoFar ds v → Joins tells (KeepsPlain as_said (fixed size)) v (view d.pass) w → (view d.pass).used ≡ number_of d ∷ [] → (view d.pass).fresh ≡ [] → (view d.pass).start ≡ x.start → ((f : ℕ) → has f (view d.pass).frames ≡ false) → AreJoined size tells x (ds ++ d ∷ []) w
     joined-more ds v w d so j one none start bare =
         ⊎_elim
-        (λ n. subst (λ (l : List (Worker A)). AreJoined tells x (l ++ d ∷ []) w) (sym n.0) (first-joined w d (subst (λ (y : View Said). Joins tells KeepsTree y (view d.pass) w) n.1 j) one none start bare))
+        (λ n. subst (λ (l : List (Worker U A Said owner)). AreJoined size tells x (l ++ d ∷ []) w) (sym n.0) (first-joined w d (subst (λ (y : View Said). Joins tells (KeepsPlain as_said (fixed size)) y (view d.pass) w) n.1 j) one none start bare))
         (λ a. next-joined ds v w d a j one none start bare)
         so

@@ -15,6 +15,7 @@ pub mod Chain
 pub mod Shortening
 pub mod Parts
 pub mod Parted
+pub mod Plainly
 pub mod Joining
 pub mod Crews
 pub mod Finishing

@@ -1,6 +1,7 @@
 -- A put without room for a split: a worn page, a full image, or a sweep that made no frame free.
 use Rattle.std.proofs.Common.{[], ap, arith, Err, List, refl, subst, sym, ℕ, ⊎_elim, ◌+◌, ◌<◌, ◌∙◌, ◌∷◌, ◌≡◌, ◌≤◌}
 use Rattle.vm_map.specs.{declared.call.Call.Call, declared.call.Call.TheVariants.Put, declared.call.Said.Said}
+use Rattle.vm_tree_model.specs.Layout.{Layout}
 use Rattle.vm_rule.specs.Prelude.{did_load, StartsWith}
 use Rattle.vm_rule.specs.declared.view.Place.TheVariants as places
 use Rattle.vm_step.specs.Prelude.{Origin, UnlockedExpected, View}
@@ -20,81 +21,11 @@ use Rattle.vm_tree_write.specs.Tries.{IsEnded, IsEnded as ends, IsUnsplit, IsUns
 use Rattle.vm_tree_write.specs.Waiting.{IsRoomFault, IsRoomFault as rooms}
 use Rattle.vm_tree_write.specs.declared.tries.TrySplit.TheVariants as splits
 use Rattle.vm_tree_write.proofs.Roomy.{roomy-start}
-use Rattle.vm_drive.specs.Calls.{KeepsPass}
+use Rattle.vm_drive.specs.{Calls.KeepsPass, TreeCalls.as_said}
 use Rattle.vm_drive.proofs.Called.{HasFoundNext, HasFoundWorn, IsCalled}
 use Rattle.vm_drive.proofs.{Bringing.fault-called, Doing.keeps-then, Keeping.all-pass, Keeping.reads-pass, Lists.starts-then, Sweeping.swept-noted}
 use Rattle.vm_drive.proofs.{Sweeping.swept-worn, Tracing.given-more, Tracing.max-later}
 use Rattle.vm_drive.proofs.Finding.{denied-worn, found-worn, given-in, noted-before}
-
--- one of two pages could not be locked
-deny-worn : (a b : OptGuard) (p : ℕ) (v w : View Said) → a.pid < v.start.pages → b.pid < v.start.pages → IsLockDenied a b (denies.Worn p) v w → HasFoundWorn p w
-deny-worn a b p v w la lb (locks.first_denied d) = denied-worn UnlockedExpected (KeptWord a.word) a.pid p v w la d
-deny-worn a b p v w la lb (locks.second_denied frame version dirty x y is l d r) =
-    let inside : b.pid < x.start.pages = subst (λ (o : Origin). b.pid < o.pages) (sym l.elsewhere.steady.start) lb in
-    max-later y w p r.elsewhere.steady.start (r.done, r.elsewhere.steady.log) (denied-worn UnlockedExpected (KeptWord b.word) b.pid p x y inside d)
-
-lock-worn : (a b : OptGuard) (p : ℕ) (v w : View Said) → a.pid < v.start.pages → b.pid < v.start.pages → IsNotLocked a b (denies.Worn p) v w → HasFoundWorn p w
-lock-worn a b p v w la lb h =
-    let here : (q : ℕ) → q < v.start.pages → q < h.asked.start.pages = λ q l. subst (λ (o : Origin). q < o.pages) (sym h.moves.start) l in
-    max-later h.back w p h.frees.start (h.freed, h.frees.log) (deny-worn a b p h.asked h.back (here a.pid la) (here b.pid lb) h.denied)
-
-module _ (n : ℕ) (a b : OptGuard) (answer : Fresh) (v w : View Said) (h : IsRefusedPages n a b answer v w) where
-  locked-start : h.locked.start ≡ v.start
-  locked-start = h.locks.low_locked.elsewhere.steady.start ∙ h.locks.up_locked.elsewhere.steady.start ∙ h.moves.start
-
-  -- what was found until the fresh pages were refused stays found while all is given up
-  back-start : w.start ≡ h.refused.start
-  back-start = h.back.moves.start ∙ h.back.up_back.elsewhere.steady.start ∙ h.back.low_back.elsewhere.steady.start
-
-  back-log : StartsWith w.log h.refused.log
-  back-log =
-      starts-then w.log h.back.released.log h.refused.log (h.back.done, h.back.moves.log)
-      (starts-then h.back.released.log h.back.between.log h.refused.log (h.back.up_back.done, h.back.up_back.elsewhere.steady.log) (h.back.low_back.done, h.back.low_back.elsewhere.steady.log))
-
-fresh-worn : (n : ℕ) (a b : OptGuard) (p : ℕ) (v w : View Said) → IsRefusedPages n a b (freshes.Worn p) v w → HasFoundWorn p w
-fresh-worn n a b p v w h =
-    let x : ℕ = h.fresh.1.0 in
-    let out = h.fresh.1.1 in
-    let worn = out.worn in
-    let below : p < x + n = (has-numbers n x p out.among).1 in
-    let most : x + n ≤ h.locked.start.pages = out.inside in
-    max-later h.refused w p (back-start n a b (freshes.Worn p) v w h) (back-log n a b (freshes.Worn p) v w h)
-    (found-worn p out.done h.locked h.locked h.refused out.spared.nil.amid.log refl out.spared.nil.amid.start (omega (arith, below, most)) worn.word worn.given worn.last)
-
-untaken-worn : (n : ℕ) (a b : OptGuard) (p : ℕ) (v w : View Said) → a.pid < v.start.pages → b.pid < v.start.pages → IsUntaken n a b v w (splits.Worn p) → HasFoundWorn p w
-untaken-worn n a b p v w la lb (untaken.short (allocs.Batch batch) h says) = absurd says
-untaken-worn n a b p v w la lb (untaken.short allocs.Dry h says) = absurd (let no : splits.Worn p ≡ splits.Dry = says in cc)
-untaken-worn n a b p v w la lb (untaken.short (allocs.Again saw) h says) = absurd (let no : splits.Worn p ≡ splits.Again saw = says in cc)
-untaken-worn n a b p v w la lb (untaken.unlocked (denies.Again saw) h says) = absurd (let no : splits.Worn p ≡ splits.Again saw = says in cc)
-untaken-worn n a b p v w la lb (untaken.unlocked (denies.Need q) h says) = absurd says
-untaken-worn n a b p v w la lb (untaken.unlocked (denies.Crowded q) h says) = absurd says
-untaken-worn n a b p v w la lb (untaken.unlocked (denies.Worn q) h says) =
-    let page : q ≡ p = (let e : splits.Worn p ≡ splits.Worn q = says in cc) in
-    subst (λ m. HasFoundWorn m w) page (lock-worn a b q v w la lb h)
-untaken-worn n a b p v w la lb (untaken.unclaimed (freshes.Pages group) h says) = absurd says
-untaken-worn n a b p v w la lb (untaken.unclaimed (freshes.Again saw) h says) = absurd (let no : splits.Worn p ≡ splits.Again saw = says in cc)
-untaken-worn n a b p v w la lb (untaken.unclaimed (freshes.Worn q) h says) =
-    let page : q ≡ p = (let e : splits.Worn p ≡ splits.Worn q = says in cc) in
-    subst (λ m. HasFoundWorn m w) page (fresh-worn n a b q v w h)
-untaken-worn n a b p v w la lb (untaken.unclaimed (freshes.Full pages next need) h says) = absurd (let no : splits.Worn p ≡ splits.Full pages next need = says in cc)
-
-unsplit-worn : (n : ℕ) (a b : OptGuard) (p : ℕ) (v w : View Said) → a.pid < v.start.pages → b.pid < v.start.pages → IsUnsplit n a b v w (splits.Worn p) → HasFoundWorn p w
-unsplit-worn n a b p v w la lb (unsplit.full pages next need h says) = absurd (let no : splits.Worn p ≡ splits.Full pages next need = says in cc)
-unsplit-worn n a b p v w la lb (unsplit.untaken next roomy room h) =
-    let here : (q : ℕ) → q < v.start.pages → q < roomy.start.pages = λ q l. subst (λ (o : Origin). q < o.pages) (sym (roomy-start next v roomy room.loaded)) l in
-    untaken-worn n a b p roomy w (here a.pid la) (here b.pid lb) h
-
-ended-worn : (key p : ℕ) (v w : View Said) → IsEnded v key w (splits.Worn p) → HasFoundWorn p w
-ended-worn key p v w (ends.root meta low height page x reads full end) =
-    ⊎_elim
-    (λ split. absurd (let no : splits.Worn p ≡ splits.Split = split.0 in cc))
-    (λ u. unsplit-worn 2 meta low p x w full.named.opened.reading.page full.opened.reading.page u)
-    end
-ended-worn key p v w (ends.below parent node over page x reads full end) =
-    ⊎_elim
-    (λ split. absurd (let no : splits.Worn p ≡ splits.Split = split.0 in cc))
-    (λ u. unsplit-worn 1 parent node p x w full.parent_opened.reading.page full.opened.reading.page u)
-    end
 
 -- the image of so many pages had none left
 next-full : (n pages next need : ℕ) (v w : View Said) → n ≤ 2 → IsFull n pages next need v w → HasFoundNext pages w
@@ -107,65 +38,137 @@ next-full n pages next need v w few f =
       high = omega (arith, asked, high, few);
     }
 
-fresh-full : (n : ℕ) (a b : OptGuard) (pages next need : ℕ) (v w : View Said) → n ≤ 2 → IsRefusedPages n a b (freshes.Full pages next need) v w → (pages ≡ v.start.pages) × HasFoundNext pages w
-fresh-full n a b pages next need v w few h =
-    let f = h.fresh.1 in
-    let k = next-full n pages next need h.locked h.refused few f in (
-      f.there ∙ ap (λ (o : Origin). o.pages) (locked-start n a b (freshes.Full pages next need) v w h),
-      record { found = k.found; given = given-more w.log h.refused.log places.Next k.found (back-log n a b (freshes.Full pages next need) v w h) k.given; high = k.high },
-    )
-
-untaken-full : (n : ℕ) (a b : OptGuard) (pages next need : ℕ) (v w : View Said) → n ≤ 2 → IsUntaken n a b v w (splits.Full pages next need) → (pages ≡ v.start.pages) × HasFoundNext pages w
-untaken-full n a b pages next need v w few (untaken.short (allocs.Batch batch) h says) = absurd says
-untaken-full n a b pages next need v w few (untaken.short allocs.Dry h says) = absurd (let no : splits.Full pages next need ≡ splits.Dry = says in cc)
-untaken-full n a b pages next need v w few (untaken.short (allocs.Again saw) h says) = absurd (let no : splits.Full pages next need ≡ splits.Again saw = says in cc)
-untaken-full n a b pages next need v w few (untaken.unlocked (denies.Again saw) h says) = absurd (let no : splits.Full pages next need ≡ splits.Again saw = says in cc)
-untaken-full n a b pages next need v w few (untaken.unlocked (denies.Need q) h says) = absurd says
-untaken-full n a b pages next need v w few (untaken.unlocked (denies.Crowded q) h says) = absurd says
-untaken-full n a b pages next need v w few (untaken.unlocked (denies.Worn q) h says) = absurd (let no : splits.Full pages next need ≡ splits.Worn q = says in cc)
-untaken-full n a b pages next need v w few (untaken.unclaimed (freshes.Pages group) h says) = absurd says
-untaken-full n a b pages next need v w few (untaken.unclaimed (freshes.Again saw) h says) = absurd (let no : splits.Full pages next need ≡ splits.Again saw = says in cc)
-untaken-full n a b pages next need v w few (untaken.unclaimed (freshes.Worn q) h says) = absurd (let no : splits.Full pages next need ≡ splits.Worn q = says in cc)
-untaken-full n a b pages next need v w few (untaken.unclaimed (freshes.Full pages' next' need') h says) =
-    let same : pages' ≡ pages = (let e : splits.Full pages next need ≡ splits.Full pages' next' need' = says in cc) in
-    subst (λ m. (m ≡ v.start.pages) × HasFoundNext m w) same (fresh-full n a b pages' next' need' v w few h)
-
-unsplit-full : (n : ℕ) (a b : OptGuard) (pages next need : ℕ) (v w : View Said) → n ≤ 2 → IsUnsplit n a b v w (splits.Full pages next need) → (pages ≡ v.start.pages) × HasFoundNext pages w
-unsplit-full n a b pages next need v w few (unsplit.full pages' next' need' h says) =
-    let same : pages' ≡ pages = (let e : splits.Full pages next need ≡ splits.Full pages' next' need' = says in cc) in
-    subst (λ m. (m ≡ v.start.pages) × HasFoundNext m w) same (h.there, next-full n pages' next' need' v w few h)
-unsplit-full n a b pages next need v w few (unsplit.untaken next' roomy room h) =
-    let k = untaken-full n a b pages next need roomy w few h in (k.0 ∙ ap (λ (o : Origin). o.pages) (roomy-start next' v roomy room.loaded), k.1)
-
-ended-full : (key pages next need : ℕ) (v w : View Said) → IsEnded v key w (splits.Full pages next need) → (pages ≡ v.start.pages) × HasFoundNext pages w
-ended-full key pages next need v w (ends.root meta low height page x reads full end) =
-    ⊎_elim
-    (λ split. absurd (let no : splits.Full pages next need ≡ splits.Split = split.0 in cc))
-    (λ u. let k = unsplit-full 2 meta low pages next need x w (omega arith) u in (k.0 ∙ ap (λ (o : Origin). o.pages) reads.0.start, k.1))
-    end
-ended-full key pages next need v w (ends.below parent node over page x reads full end) =
-    ⊎_elim
-    (λ split. absurd (let no : splits.Full pages next need ≡ splits.Split = split.0 in cc))
-    (λ u. let k = unsplit-full 1 parent node pages next need x w (omega arith) u in (k.0 ∙ ap (λ (o : Origin). o.pages) reads.0.start, k.1))
-    end
-
 -- a sweep for a split made no frame free
-swept-called : (call : Call) (fault : TreeFault) (u v w : View Said) (want cap : ℕ) (old new : List ℕ) (report : Report) (answer : Bring) → KeepsPass u v → w.mine ≡ u.mine → IsSwept want cap old new report v w → SaysDry report answer → NamesFault answer fault → IsCalled call (Err fault) u w
-swept-called call fault u v w want cap old new report brings.Brought k mine s says names = absurd names
-swept-called call fault u v w want cap old new report (brings.Again saw) k mine s says names = absurd names
-swept-called call fault u v w want cap old new report (brings.Dry looks) k mine s says names = absurd names
-swept-called call fault u v w want cap old new report (brings.Device p count) k mine s says names =
-    subst (λ (f : TreeFault). IsCalled call (Err f) u w) (sym names) (mine, noted-before p count u v w k.notes (swept-noted want cap old new report v w p count s says.1))
-swept-called call fault u v w want cap old new report (brings.Worn p) k mine s says names =
-    subst (λ (f : TreeFault). IsCalled call (Err f) u w) (sym names) (mine, swept-worn want cap old new report v w p s says.2.first)
+swept-called : (size : ℕ) (call : Call) (fault : TreeFault) (u v w : View Said) (want cap : ℕ) (old new : List ℕ) (report : Report) (answer : Bring) → KeepsPass u v → w.mine ≡ u.mine → IsSwept want cap old new report v w → SaysDry report answer → NamesFault answer fault → IsCalled size call (Err fault) u w
+swept-called size call fault u v w want cap old new report brings.Brought k mine s says names = absurd names
+swept-called size call fault u v w want cap old new report (brings.Again saw) k mine s says names = absurd names
+swept-called size call fault u v w want cap old new report (brings.Dry looks) k mine s says names = absurd names
+swept-called size call fault u v w want cap old new report (brings.Device p count) k mine s says names =
+    subst (λ (f : TreeFault). IsCalled size call (Err f) u w) (sym names) (mine, noted-before p count u v w k.notes (swept-noted want cap old new report v w p count s says.1))
+swept-called size call fault u v w want cap old new report (brings.Worn p) k mine s says names =
+    subst (λ (f : TreeFault). IsCalled size call (Err f) u w) (sym names) (mine, swept-worn want cap old new report v w p s says.2.first)
 
-pub room-called : (key value : ℕ) (fault : TreeFault) (u v w : View Said) → KeepsPass u v → w.mine ≡ u.mine → IsRoomFault key fault v w → IsCalled (Put key value) (Err fault) u w
-room-called key value fault u v w k mine (rooms.missing found page reads needed fault_is) =
-    fault-called (Put key value) fault page u found w (keeps-then u v found k (reads-pass v found reads.0)) mine (subst (λ (o : Origin). page < o.pages) (sym reads.0.start) needed.inside) fault_is
-room-called key value fault u v w k mine (rooms.worn p end is) =
-    subst (λ (f : TreeFault). IsCalled (Put key value) (Err f) u w) (sym is) (mine, ended-worn key p v w end)
-room-called key value fault u v w k mine (rooms.full pages next need end is) =
-    let f = ended-full key pages next need v w end in
-    subst (λ (f : TreeFault). IsCalled (Put key value) (Err f) u w) (sym is) (mine, tt, f.0 ∙ ap (λ (o : Origin). o.pages) k.start, f.1)
-room-called key value fault u v w k mine (rooms.swept dry want cap old new report answer end kept s says names) =
-    swept-called (Put key value) fault u dry w want cap old new report answer (keeps-then u v dry k (all-pass v dry kept)) mine s says names
+module _ (L : Layout) where
+  -- one of two pages could not be locked
+  deny-worn : (a b : OptGuard) (p : ℕ) (v w : View Said) → a.pid < v.start.pages → b.pid < v.start.pages → IsLockDenied L a b (denies.Worn p) v w → HasFoundWorn p w
+  deny-worn a b p v w la lb (locks.first_denied d) = denied-worn UnlockedExpected (KeptWord a.word) a.pid p v w la d
+  deny-worn a b p v w la lb (locks.second_denied frame version dirty x y is l d r) =
+      let inside : b.pid < x.start.pages = subst (λ (o : Origin). b.pid < o.pages) (sym l.elsewhere.steady.start) lb in
+      max-later y w p r.elsewhere.steady.start (r.done, r.elsewhere.steady.log) (denied-worn UnlockedExpected (KeptWord b.word) b.pid p x y inside d)
+
+  lock-worn : (a b : OptGuard) (p : ℕ) (v w : View Said) → a.pid < v.start.pages → b.pid < v.start.pages → IsNotLocked L a b (denies.Worn p) v w → HasFoundWorn p w
+  lock-worn a b p v w la lb h =
+      let here : (q : ℕ) → q < v.start.pages → q < h.asked.start.pages = λ q l. subst (λ (o : Origin). q < o.pages) (sym h.moves.start) l in
+      max-later h.back w p h.frees.start (h.freed, h.frees.log) (deny-worn a b p h.asked h.back (here a.pid la) (here b.pid lb) h.denied)
+
+  module _ (n : ℕ) (a b : OptGuard) (answer : Fresh) (v w : View Said) (h : IsRefusedPages L n a b answer v w) where
+    locked-start : h.locked.start ≡ v.start
+    locked-start = h.locks.low_locked.elsewhere.steady.start ∙ h.locks.up_locked.elsewhere.steady.start ∙ h.moves.start
+
+    -- what was found until the fresh pages were refused stays found while all is given up
+    back-start : w.start ≡ h.refused.start
+    back-start = h.back.moves.start ∙ h.back.up_back.elsewhere.steady.start ∙ h.back.low_back.elsewhere.steady.start
+
+    back-log : StartsWith w.log h.refused.log
+    back-log =
+        starts-then w.log h.back.released.log h.refused.log (h.back.done, h.back.moves.log)
+        (starts-then h.back.released.log h.back.between.log h.refused.log (h.back.up_back.done, h.back.up_back.elsewhere.steady.log) (h.back.low_back.done, h.back.low_back.elsewhere.steady.log))
+
+  fresh-worn : (n : ℕ) (a b : OptGuard) (p : ℕ) (v w : View Said) → IsRefusedPages L n a b (freshes.Worn p) v w → HasFoundWorn p w
+  fresh-worn n a b p v w h =
+      let x : ℕ = h.fresh.1.0 in
+      let out = h.fresh.1.1 in
+      let worn = out.worn in
+      let below : p < x + n = (has-numbers n x p out.among).1 in
+      let most : x + n ≤ h.locked.start.pages = out.inside in
+      max-later h.refused w p (back-start n a b (freshes.Worn p) v w h) (back-log n a b (freshes.Worn p) v w h)
+      (found-worn p out.done h.locked h.locked h.refused out.spared.nil.amid.log refl out.spared.nil.amid.start (omega (arith, below, most)) worn.word worn.given worn.last)
+
+  untaken-worn : (n : ℕ) (a b : OptGuard) (p : ℕ) (v w : View Said) → a.pid < v.start.pages → b.pid < v.start.pages → IsUntaken L n a b v w (splits.Worn p) → HasFoundWorn p w
+  untaken-worn n a b p v w la lb (untaken.short (allocs.Batch batch) h says) = absurd says
+  untaken-worn n a b p v w la lb (untaken.short allocs.Dry h says) = absurd (let no : splits.Worn p ≡ splits.Dry = says in cc)
+  untaken-worn n a b p v w la lb (untaken.short (allocs.Again saw) h says) = absurd (let no : splits.Worn p ≡ splits.Again saw = says in cc)
+  untaken-worn n a b p v w la lb (untaken.unlocked (denies.Again saw) h says) = absurd (let no : splits.Worn p ≡ splits.Again saw = says in cc)
+  untaken-worn n a b p v w la lb (untaken.unlocked (denies.Need q) h says) = absurd says
+  untaken-worn n a b p v w la lb (untaken.unlocked (denies.Crowded q) h says) = absurd says
+  untaken-worn n a b p v w la lb (untaken.unlocked (denies.Worn q) h says) =
+      let page : q ≡ p = (let e : splits.Worn p ≡ splits.Worn q = says in cc) in
+      subst (λ m. HasFoundWorn m w) page (lock-worn a b q v w la lb h)
+  untaken-worn n a b p v w la lb (untaken.unclaimed (freshes.Pages group) h says) = absurd says
+  untaken-worn n a b p v w la lb (untaken.unclaimed (freshes.Again saw) h says) = absurd (let no : splits.Worn p ≡ splits.Again saw = says in cc)
+  untaken-worn n a b p v w la lb (untaken.unclaimed (freshes.Worn q) h says) =
+      let page : q ≡ p = (let e : splits.Worn p ≡ splits.Worn q = says in cc) in
+      subst (λ m. HasFoundWorn m w) page (fresh-worn n a b q v w h)
+  untaken-worn n a b p v w la lb (untaken.unclaimed (freshes.Full pages next need) h says) = absurd (let no : splits.Worn p ≡ splits.Full pages next need = says in cc)
+
+  fresh-full : (n : ℕ) (a b : OptGuard) (pages next need : ℕ) (v w : View Said) → n ≤ 2 → IsRefusedPages L n a b (freshes.Full pages next need) v w → (pages ≡ v.start.pages) × HasFoundNext pages w
+  fresh-full n a b pages next need v w few h =
+      let f = h.fresh.1 in
+      let k = next-full n pages next need h.locked h.refused few f in (
+        f.there ∙ ap (λ (o : Origin). o.pages) (locked-start n a b (freshes.Full pages next need) v w h),
+        record { found = k.found; given = given-more w.log h.refused.log places.Next k.found (back-log n a b (freshes.Full pages next need) v w h) k.given; high = k.high },
+      )
+
+  untaken-full : (n : ℕ) (a b : OptGuard) (pages next need : ℕ) (v w : View Said) → n ≤ 2 → IsUntaken L n a b v w (splits.Full pages next need) → (pages ≡ v.start.pages) × HasFoundNext pages w
+  untaken-full n a b pages next need v w few (untaken.short (allocs.Batch batch) h says) = absurd says
+  untaken-full n a b pages next need v w few (untaken.short allocs.Dry h says) = absurd (let no : splits.Full pages next need ≡ splits.Dry = says in cc)
+  untaken-full n a b pages next need v w few (untaken.short (allocs.Again saw) h says) = absurd (let no : splits.Full pages next need ≡ splits.Again saw = says in cc)
+  untaken-full n a b pages next need v w few (untaken.unlocked (denies.Again saw) h says) = absurd (let no : splits.Full pages next need ≡ splits.Again saw = says in cc)
+  untaken-full n a b pages next need v w few (untaken.unlocked (denies.Need q) h says) = absurd says
+  untaken-full n a b pages next need v w few (untaken.unlocked (denies.Crowded q) h says) = absurd says
+  untaken-full n a b pages next need v w few (untaken.unlocked (denies.Worn q) h says) = absurd (let no : splits.Full pages next need ≡ splits.Worn q = says in cc)
+  untaken-full n a b pages next need v w few (untaken.unclaimed (freshes.Pages group) h says) = absurd says
+  untaken-full n a b pages next need v w few (untaken.unclaimed (freshes.Again saw) h says) = absurd (let no : splits.Full pages next need ≡ splits.Again saw = says in cc)
+  untaken-full n a b pages next need v w few (untaken.unclaimed (freshes.Worn q) h says) = absurd (let no : splits.Full pages next need ≡ splits.Worn q = says in cc)
+  untaken-full n a b pages next need v w few (untaken.unclaimed (freshes.Full pages' next' need') h says) =
+      let same : pages' ≡ pages = (let e : splits.Full pages next need ≡ splits.Full pages' next' need' = says in cc) in
+      subst (λ m. (m ≡ v.start.pages) × HasFoundNext m w) same (fresh-full n a b pages' next' need' v w few h)
+
+  module _ (spare : List ℕ → ℕ) where
+    unsplit-worn : (n : ℕ) (a b : OptGuard) (p : ℕ) (v w : View Said) → a.pid < v.start.pages → b.pid < v.start.pages → IsUnsplit as_said L spare n a b v w (splits.Worn p) → HasFoundWorn p w
+    unsplit-worn n a b p v w la lb (unsplit.full pages next need h says) = absurd (let no : splits.Worn p ≡ splits.Full pages next need = says in cc)
+    unsplit-worn n a b p v w la lb (unsplit.untaken next roomy room h) =
+        let here : (q : ℕ) → q < v.start.pages → q < roomy.start.pages = λ q l. subst (λ (o : Origin). q < o.pages) (sym (roomy-start next v roomy room.loaded)) l in
+        untaken-worn n a b p roomy w (here a.pid la) (here b.pid lb) h
+
+    ended-worn : (key p : ℕ) (v w : View Said) → IsEnded as_said L spare v key w (splits.Worn p) → HasFoundWorn p w
+    ended-worn key p v w (ends.root meta low height page x reads full end) =
+        ⊎_elim
+        (λ split. absurd (let no : splits.Worn p ≡ splits.Split = split.0 in cc))
+        (λ u. unsplit-worn 2 meta low p x w full.named.opened.reading.page full.opened.reading.page u)
+        end
+    ended-worn key p v w (ends.below parent node over page x reads full end) =
+        ⊎_elim
+        (λ split. absurd (let no : splits.Worn p ≡ splits.Split = split.0 in cc))
+        (λ u. unsplit-worn 1 parent node p x w full.parent_opened.reading.page full.opened.reading.page u)
+        end
+
+    unsplit-full : (n : ℕ) (a b : OptGuard) (pages next need : ℕ) (v w : View Said) → n ≤ 2 → IsUnsplit as_said L spare n a b v w (splits.Full pages next need) → (pages ≡ v.start.pages) × HasFoundNext pages w
+    unsplit-full n a b pages next need v w few (unsplit.full pages' next' need' h says) =
+        let same : pages' ≡ pages = (let e : splits.Full pages next need ≡ splits.Full pages' next' need' = says in cc) in
+        subst (λ m. (m ≡ v.start.pages) × HasFoundNext m w) same (h.there, next-full n pages' next' need' v w few h)
+    unsplit-full n a b pages next need v w few (unsplit.untaken next' roomy room h) =
+        let k = untaken-full n a b pages next need roomy w few h in (k.0 ∙ ap (λ (o : Origin). o.pages) (roomy-start next' v roomy room.loaded), k.1)
+
+    ended-full : (key pages next need : ℕ) (v w : View Said) → IsEnded as_said L spare v key w (splits.Full pages next need) → (pages ≡ v.start.pages) × HasFoundNext pages w
+    ended-full key pages next need v w (ends.root meta low height page x reads full end) =
+        ⊎_elim
+        (λ split. absurd (let no : splits.Full pages next need ≡ splits.Split = split.0 in cc))
+        (λ u. let k = unsplit-full 2 meta low pages next need x w (omega arith) u in (k.0 ∙ ap (λ (o : Origin). o.pages) reads.0.start, k.1))
+        end
+    ended-full key pages next need v w (ends.below parent node over page x reads full end) =
+        ⊎_elim
+        (λ split. absurd (let no : splits.Full pages next need ≡ splits.Split = split.0 in cc))
+        (λ u. let k = unsplit-full 1 parent node pages next need x w (omega arith) u in (k.0 ∙ ap (λ (o : Origin). o.pages) reads.0.start, k.1))
+        end
+
+    pub room-called : (size key value : ℕ) (fault : TreeFault) (u v w : View Said) → KeepsPass u v → w.mine ≡ u.mine → IsRoomFault as_said L spare key fault v w → IsCalled size (Put key value) (Err fault) u w
+    room-called size key value fault u v w k mine (rooms.missing found page reads needed fault_is) =
+        fault-called size (Put key value) fault page u found w (keeps-then u v found k (reads-pass v found reads.0)) mine (subst (λ (o : Origin). page < o.pages) (sym reads.0.start) needed.inside) fault_is
+    room-called size key value fault u v w k mine (rooms.worn p end is) =
+        subst (λ (f : TreeFault). IsCalled size (Put key value) (Err f) u w) (sym is) (mine, ended-worn key p v w end)
+    room-called size key value fault u v w k mine (rooms.full pages next need end is) =
+        let f = ended-full key pages next need v w end in
+        subst (λ (f : TreeFault). IsCalled size (Put key value) (Err f) u w) (sym is) (mine, tt, f.0 ∙ ap (λ (o : Origin). o.pages) k.start, f.1)
+    room-called size key value fault u v w k mine (rooms.swept dry want cap old new report answer end kept s says names) =
+        swept-called size (Put key value) fault u dry w want cap old new report answer (keeps-then u v dry k (all-pass v dry kept)) mine s says names

@@ -1,6 +1,6 @@
 -- Answers in little memory, and the room for them: one answer more.
 use Rattle.std.specs.declared.alloc.Global.{Global}
-use Rattle.std.proofs.Common.{[], ◌++◌, ◌+◌, ◌∙◌, ◌∷◌, ◌≡◌, ◌≤◌, ap, append-nil, arith, Err, length, List, Ok, refl, Result, sym, Vec}
+use Rattle.std.proofs.Common.{[], ◌++◌, ◌+◌, ◌∙◌, ◌∷◌, ◌≡◌, ◌≤◌, ap, append-nil, arith, Err, length, List, Ok, refl, Result, sym, Vec, ℕ}
 use Rattle.std.proofs.lemmas.List.{length-append}
 use Rattle.vm_map.specs.{declared.call.Call.Call, declared.call.Reply.Reply, declared.call.Said.Said, declared.window.Window.Window}
 use Rattle.vm_map.specs.declared.call.Call.TheVariants as calls
@@ -58,30 +58,31 @@ keeps-other kept new told s answer given short windows none is e k =
 
 -- ---- room
 
--- an answer is a window only where its call asks for one
-windows-fit : (call : Call) (r : Result Reply TreeFault) (v w : View Said) → IsTreeCall call r v w → windows_of r ≤ windows_asked (call ∷ [])
-windows-fit call (Ok (replies.Got found)) v w t = omega arith
-windows-fit call (Ok (replies.Was old)) v w t = omega arith
-windows-fit call (Ok (replies.Gone old)) v w t = omega arith
-windows-fit (calls.Get key) (Ok (replies.Win window)) v w t = absurd t.1
-windows-fit (calls.Put key value) (Ok (replies.Win window)) v w t = absurd t.1
-windows-fit (calls.Del key) (Ok (replies.Win window)) v w t = absurd t.1
-windows-fit (calls.Window start most) (Ok (replies.Win window)) v w t = omega arith
-windows-fit call (Err fault) v w t = omega arith
-
 asked-first : (call : Call) (rest : List Call) → windows_asked (call ∷ rest) ≡ windows_asked (call ∷ []) + windows_asked rest
 asked-first (calls.Get key) rest = omega arith
 asked-first (calls.Put key value) rest = omega arith
 asked-first (calls.Del key) rest = omega arith
 asked-first (calls.Window start most) rest = omega arith
 
--- room for the answers to these calls takes the answer to the first
-pub room-now : (call : Call) (rest : List Call) (r : Result Reply TreeFault) (v w : View Said) (room : Room) → IsRoomFor (call ∷ rest) room → IsTreeCall call r v w → (1 ≤ room.answers) × (windows_of r ≤ room.windows)
-room-now call rest r v w room i t = (omega (arith, i.answers), omega (arith, windows-fit call r v w t, asked-first call rest, i.windows))
+module _ (size : ℕ) where
+  -- an answer is a window only where its call asks for one
+  windows-fit : (call : Call) (r : Result Reply TreeFault) (v w : View Said) → IsTreeCall size call r v w → windows_of r ≤ windows_asked (call ∷ [])
+  windows-fit call (Ok (replies.Got found)) v w t = omega arith
+  windows-fit call (Ok (replies.Was old)) v w t = omega arith
+  windows-fit call (Ok (replies.Gone old)) v w t = omega arith
+  windows-fit (calls.Get key) (Ok (replies.Win window)) v w t = absurd t.1
+  windows-fit (calls.Put key value) (Ok (replies.Win window)) v w t = absurd t.1
+  windows-fit (calls.Del key) (Ok (replies.Win window)) v w t = absurd t.1
+  windows-fit (calls.Window start most) (Ok (replies.Win window)) v w t = omega arith
+  windows-fit call (Err fault) v w t = omega arith
 
--- and then there is room for those to the others
-pub room-after : (call : Call) (rest : List Call) (r : Result Reply TreeFault) (v w : View Said) (old new : Room) → IsRoomFor (call ∷ rest) old → IsTreeCall call r v w → old.answers ≤ new.answers + 1 → old.windows ≤ new.windows + windows_of r → IsRoomFor rest new
-room-after call rest r v w old new i t answers windows = record {
-  answers = omega (arith, i.answers, answers);
-  windows = omega (arith, windows-fit call r v w t, asked-first call rest, i.windows, windows);
-}
+  -- room for the answers to these calls takes the answer to the first
+  pub room-now : (call : Call) (rest : List Call) (r : Result Reply TreeFault) (v w : View Said) (room : Room) → IsRoomFor (call ∷ rest) room → IsTreeCall size call r v w → (1 ≤ room.answers) × (windows_of r ≤ room.windows)
+  room-now call rest r v w room i t = (omega (arith, i.answers), omega (arith, windows-fit call r v w t, asked-first call rest, i.windows))
+
+  -- and then there is room for those to the others
+  pub room-after : (call : Call) (rest : List Call) (r : Result Reply TreeFault) (v w : View Said) (old new : Room) → IsRoomFor (call ∷ rest) old → IsTreeCall size call r v w → old.answers ≤ new.answers + 1 → old.windows ≤ new.windows + windows_of r → IsRoomFor rest new
+  room-after call rest r v w old new i t answers windows = record {
+    answers = omega (arith, i.answers, answers);
+    windows = omega (arith, windows-fit call r v w t, asked-first call rest, i.windows, windows);
+  }

@@ -4,16 +4,17 @@ use Rattle.vm_map.specs.{declared.call.Call.Call, declared.call.Reply.Reply, dec
 use Rattle.vm_rule.specs.Prelude.{AreApart, Each, entries_by, has, HoldsNoPage, IsWhole, owns, StartsWith, TableId, times}
 use Rattle.vm_step.specs.Prelude.{Did, IsReady, KnowsAll, Note, Shape, View, view}
 use Rattle.vm_pool.specs.Parting.{KeepsAll}
-use Rattle.vm_tree_laws.specs.Keeps.{KeepsTree}
+use Rattle.vm_tree_model.specs.Fixed.{fixed}
+use Rattle.vm_tree_laws.specs.Plain.{KeepsPlain}
 use Rattle.vm_tree_rule.specs.declared.fault.TreeFault.{TreeFault}
 use Rattle.vm_tree_read.specs.Waiting.{LosesNone}
-use Rattle.vm_drive.specs.{Causes.notes_about, declared.worker.Worker.Worker, Kept.IsRoomFor, Kept.Room, Parts.StandBehind, Workers.HasKept, Workers.IsAtWork}
+use Rattle.vm_drive.specs.{Causes.notes_about, declared.worker.Worker.Worker, Kept.IsRoomFor, Kept.Room, Parts.StandBehind, TreeCalls.as_said, Workers.HasKept, Workers.IsAtWork}
 
 -- the worker's number
-abbrev pub number_of : {A : Type 0} → Worker A → ℕ
+abbrev pub number_of : {U X A : Type 0} {owner : _} → Worker U A X owner → ℕ
 number_of worker = slice_index (view worker.pass).used 0
 
-abbrev pub numbers_of : {A : Type 0} → List (Worker A) → List ℕ
+abbrev pub numbers_of : {U X A : Type 0} {owner : _} → List (Worker U A X owner) → List ℕ
 numbers_of workers = map number_of workers
 
 -- how many frames the interface of each of so many workers keeps: a quarter of the worker's share, at most 64
@@ -21,13 +22,13 @@ abbrev pub share_of : (frames workers : ℕ) → ℕ
 share_of frames workers = min (frames / (4 * workers)) 64
 
 -- the workers' interfaces keep so many frames, and each is at home at its worker's place, from this one on
-abbrev pub AreAtHome : {A : Type 0} → (first cap : ℕ) → List (Worker A) → Type 0
+abbrev pub AreAtHome : {U X A : Type 0} {owner : _} → (first cap : ℕ) → List (Worker U A X owner) → Type 0
 AreAtHome first cap [] = Unit {0}
 AreAtHome first cap (worker ∷ workers) = (worker.iface.home ≡ first) × (worker.iface.cap ≡ cap) × AreAtHome (first + 1) cap workers
 
-module _ {A : Type 0} (shape : Shape) (tells : Bool) (t : TableId) where
+module _ {U A : Type 0} {owner : _} (shape : Shape) (tells : Bool) (t : TableId) where
   -- the worker has a part of its own, no frame, and has done nothing
-  pub record IsNewWorker (v : View Said) (worker : Worker A) : Type 0 where
+  pub record IsNewWorker (v : View Said) (worker : Worker U A Said owner) : Type 0 where
     pub work : IsAtWork shape tells t worker
     pub holds : HoldsNoPage (view worker.pass)
     pub parts : ((view worker.pass).used ≡ number_of worker ∷ []) × ((view worker.pass).fresh ≡ [])
@@ -38,7 +39,7 @@ module _ {A : Type 0} (shape : Shape) (tells : Bool) (t : TableId) where
     pub frames : (view worker.pass).frames ≡ []
 
   -- The pass with the view v, which then has the view w, gave a part to each of these workers, who have these rooms for answers
-  pub record AreHired (rooms : List A) (v : View Said) (workers : List (Worker A)) (w : View Said) : Type 0 where
+  pub record AreHired (rooms : List A) (v : View Said) (workers : List (Worker U A Said owner)) (w : View Said) : Type 0 where
     pub kept : KeepsAll v w
     pub mine : w.mine ≡ v.mine
     pub notes : w.notes ≡ v.notes
@@ -51,56 +52,56 @@ module _ {A : Type 0} (shape : Shape) (tells : Bool) (t : TableId) where
     pub foreign : Each (λ n. (has n v.used ≡ false) × (has n w.fresh ≡ false)) (numbers_of workers)
     pub unused : Each (λ n. entries_by (n ∷ []) v.seen ≡ []) (numbers_of workers)
     pub each : Each (IsNewWorker v) workers
-    pub answers : map (λ (worker : Worker A). worker.answers) workers ≡ rooms
+    pub answers : map (λ (worker : Worker U A Said owner). worker.answers) workers ≡ rooms
     pub all : ((workers ≡ []) × (w ≡ v)) ⊎ (IsWhole v → v.mine ≡ v.seen)
 
-module _ {A : Type 0} (keeps : A → List (Result Reply TreeFault) → Type 0) (space : A → Room) (shape : Shape) (tells : Bool) (t : TableId) where
+module _ {U X A : Type 0} {owner : _} (keeps : A → List (Result Reply TreeFault) → Type 0) (space : A → Room) (shape : Shape) (tells : Bool) (t : TableId) where
   -- the worker is at work with no page, and has room for answers to the calls
-  pub record IsIdle (calls : List Call) (worker : Worker A) : Type 0 where
+  pub record IsIdle (calls : List Call) (worker : Worker U A X owner) : Type 0 where
     pub work : IsAtWork shape tells t worker
     pub holds : HoldsNoPage (view worker.pass)
     pub empty : keeps worker.answers []
     pub room : IsRoomFor calls (space worker.answers)
 
   -- there is such a worker for each list
-  abbrev pub AreIdle : List (List Call) → List (Worker A) → Type 0
+  abbrev pub AreIdle : List (List Call) → List (Worker U A X owner) → Type 0
   AreIdle [] [] = Unit {0}
   AreIdle [] (worker ∷ workers) = ⊥
   AreIdle (calls ∷ lists) [] = ⊥
   AreIdle (calls ∷ lists) (worker ∷ workers) = IsIdle calls worker × AreIdle lists workers
 
-module _ {A : Type 0} (keeps : A → List (Result Reply TreeFault) → Type 0) (shape : Shape) (tells : Bool) (t : TableId) where
+module _ (n : ℕ) {U A : Type 0} {owner : _} (keeps : A → List (Result Reply TreeFault) → Type 0) (shape : Shape) (tells : Bool) (t : TableId) where
   -- the worker has made the calls, holds no page, and has no frame but those that it had and its interface did not
-  pub record HasWorked (calls : List Call) (old new : Worker A) : Type 0 where
+  pub record HasWorked (calls : List Call) (old new : Worker U A Said owner) : Type 0 where
     pub ready : IsReady shape tells t new.pass
     pub holds : HoldsNoPage (view new.pass)
-    pub done : HasKept keeps calls new.answers (view old.pass) (view new.pass)
+    pub done : HasKept n keeps calls new.answers (view old.pass) (view new.pass)
     pub lost : LosesNone old.iface.frames (view old.pass) [] (view new.pass)
 
   -- so has each worker
-  abbrev pub AllWorked : List (List Call) → List (Worker A) → List (Worker A) → Type 0
+  abbrev pub AllWorked : List (List Call) → List (Worker U A Said owner) → List (Worker U A Said owner) → Type 0
   AllWorked [] [] [] = Unit {0}
   AllWorked (calls ∷ lists) (old ∷ olds) (new ∷ news) = HasWorked calls old new × AllWorked lists olds news
   AllWorked _ _ _ = ⊥
 
 -- how many notes of page p the workers' passes have
-abbrev pub all_notes_of : {A : Type 0} → ℕ → List (Worker A) → ℕ
+abbrev pub all_notes_of : {U X A : Type 0} {owner : _} → ℕ → List (Worker U A X owner) → ℕ
 all_notes_of p [] = 0
 all_notes_of p (worker ∷ workers) = notes_about p (view worker.pass).notes + all_notes_of p workers
 
 -- what keeps the workers' answers
-abbrev pub answers_of : {A : Type 0} → List (Worker A) → List A
+abbrev pub answers_of : {U X A : Type 0} {owner : _} → List (Worker U A X owner) → List A
 answers_of workers = map (λ worker. worker.answers) workers
 
 -- the steps of the workers' passes, and their notes
-abbrev pub worker_logs : {A : Type 0} → List (Worker A) → List (List Did)
+abbrev pub worker_logs : {U X A : Type 0} {owner : _} → List (Worker U A X owner) → List (List Did)
 worker_logs workers = map (λ worker. (view worker.pass).log) workers
 
-abbrev pub worker_notes : {A : Type 0} → List (Worker A) → List (List Note)
+abbrev pub worker_notes : {U X A : Type 0} {owner : _} → List (Worker U A X owner) → List (List Note)
 worker_notes workers = map (λ worker. (view worker.pass).notes) workers
 
 -- the worker's pass went into this one: its number is one of the pass's, and the history has its entries alone under it
-pub record IsIn {A : Type 0} (w : View Said) (worker : Worker A) : Type 0 where
+pub record IsIn {U A : Type 0} {owner : _} (w : View Said) (worker : Worker U A Said owner) : Type 0 where
   pub number : has (number_of worker) w.used ≡ true
   pub entries : entries_by (number_of worker ∷ []) w.seen ≡ (view worker.pass).mine
   pub start : (view worker.pass).start ≡ w.start
@@ -109,7 +110,7 @@ pub record IsIn {A : Type 0} (w : View Said) (worker : Worker A) : Type 0 where
 
 -- The passes of the workers, which had no frame, went into the pass that had the view x and has the view w: their steps and notes stand in its own,
 -- behind what it had, one worker's behind another's
-pub record AreJoined {A : Type 0} (tells : Bool) (x : View Said) (workers : List (Worker A)) (w : View Said) : Type 0 where
+pub record AreJoined (n : ℕ) {U A : Type 0} {owner : _} (tells : Bool) (x : View Said) (workers : List (Worker U A Said owner)) (w : View Said) : Type 0 where
   pub kept : KeepsAll x w
   pub current : w.current ≡ true
   pub used : w.used ≡ x.used ++ numbers_of workers
@@ -121,11 +122,11 @@ pub record AreJoined {A : Type 0} (tells : Bool) (x : View Said) (workers : List
   pub mine : w.mine ≡ entries_by w.used w.seen
   pub ours : entries_by x.used w.seen ≡ x.mine
   pub each : Each (IsIn w) workers
-  pub knows : KnowsAll tells KeepsTree w
+  pub knows : KnowsAll tells (KeepsPlain as_said (fixed n)) w
 
-module _ {A : Type 0} (shape : Shape) (tells : Bool) (t : TableId) where
+module _ {U A : Type 0} {owner : _} (shape : Shape) (tells : Bool) (t : TableId) where
   -- the worker is back: its pass holds no page and no frame, and has one part, its number
-  pub record IsBack (x : View Said) (worker : Worker A) : Type 0 where
+  pub record IsBack (x : View Said) (worker : Worker U A Said owner) : Type 0 where
     pub ready : IsReady shape tells t worker.pass
     pub holds : HoldsNoPage (view worker.pass)
     pub frames : (f : ℕ) → has f (view worker.pass).frames ≡ false

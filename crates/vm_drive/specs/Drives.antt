@@ -3,7 +3,7 @@ use Rattle.std.specs.declared.alloc.Global.{Global}
 use Rattle.std.specs.List.{AllByRecursion}
 use Rattle.std.specs.Prelude.{◌++◌, ◌+◌, ◌≡◌, ◌≤◌, Bool, length, List, map, Result, true, Vec, ℕ}
 use Rattle.vm_map.specs.{declared.call.Call.Call, declared.call.Reply.Reply, declared.call.Said.Said, History.IsAskable}
-use Rattle.vm_tree_model.specs.Tree.{map_of}
+use Rattle.vm_tree_model.specs.{Fixed.fixed, Tree.map_of}
 use Rattle.vm_core.specs.Prelude.{MAX_VERSION}
 use Rattle.vm_rule.specs.Prelude.{Entry, has, HoldsNoPage, last_of, StartsWith}
 use Rattle.vm_rule_laws.specs.Known.{kept_by}
@@ -34,34 +34,34 @@ IsUsedUp w pages = (pages ≡ w.start.pages) × (pages ≤ (kept_by w).next + 1)
 abbrev pub IsAtLastVersion : View Said → ℕ → Type 0
 IsAtLastVersion w p = MAX_VERSION ≤ (last_of w p).version
 
--- The workers have made the calls of their lists, with these answers, and their passes went into the one that had the view v and has the
--- view w: it is whole again, holds no page, and has just the frames that it had. What it has seen begins with what it had seen, is legal, and is all its own. Its own entries
--- grew by just the lists' calls that had a reply, each list in order under a number of its own. Each fault of a device has its own new note
--- of the page; each other fault has its cause, and each window is a leaf's, the table's page as it stood. Each worker made its calls one after
--- another, and what each was answered comes of the steps and notes of that very call
-pub record IsDriven (tells : Bool) (lists : List (List Call)) (answers : List (List (Result Reply TreeFault))) (v w : View Said) : Type 0 where
+-- The workers have made the calls of their lists on a tree of pages of n words, with these answers, and their passes went into the one that had the
+-- view v and has the view w: it is whole again, holds no page, and has just the frames that it had. What it has seen begins with what it had seen, is
+-- legal, and is all its own. Its own entries grew by just the lists' calls that had a reply, each list in order under a number of its own. Each fault
+-- of a device has its own new note of the page; each other fault has its cause, and each window is a leaf's, the table's page as it stood. Each
+-- worker made its calls one after another, and what each was answered comes of the steps and notes of that very call
+pub record IsDriven (n : ℕ) (tells : Bool) (lists : List (List Call)) (answers : List (List (Result Reply TreeFault))) (v w : View Said) : Type 0 where
   pub alone : IsAlone w
   pub holds : HoldsNoPage w
   -- so no frame is lost: each worker's went back to the bundles
   pub frames : (f : ℕ) → has f w.frames ≡ has f v.frames
   pub start : w.start ≡ v.start
   pub seen : StartsWith w.seen v.seen
-  pub legal : tells ≡ true → IsLegal (map_of w.start.contents) w.seen
+  pub legal : tells ≡ true → IsLegal (map_of (fixed n) w.start.contents) w.seen
   pub all : w.mine ≡ w.seen
   pub grew : List (Entry Said)
   pub mine : w.mine ≡ v.mine ++ grew
   pub calls : HoldsCalls grew lists answers
   pub faults : (p : ℕ) → notes_about p v.notes + all_faults_of p answers ≤ notes_about p w.notes
   pub caused : AllCausedBy (IsUsedUp w) (IsAtLastVersion w) lists answers
-  pub shown : AllShown w lists answers
+  pub shown : AllShown n w lists answers
   -- what each worker's pass knew behind its last call; its steps and notes stand in those of the joined pass, one worker's behind another's
   pub passes : List (View Said)
-  pub parts : HaveParts w lists answers passes
+  pub parts : HaveParts n w lists answers passes
   pub logs : StandBehind v.log (logs_of passes) w.log
   pub noted : StandBehind v.notes (noted_by passes) w.notes
 
 -- the same, where each worker's answers were kept so
-pub record IsDrivenInto {A : Type 0} (keeps : A → List (Result Reply TreeFault) → Type 0) (tells : Bool) (lists : List (List Call)) (kept : List A) (v w : View Said) : Type 0 where
+pub record IsDrivenInto (n : ℕ) {A : Type 0} (keeps : A → List (Result Reply TreeFault) → Type 0) (tells : Bool) (lists : List (List Call)) (kept : List A) (v w : View Said) : Type 0 where
   pub told : List (List (Result Reply TreeFault))
   pub stand : AreKept keeps kept told
-  pub driven : IsDriven tells lists told v w
+  pub driven : IsDriven n tells lists told v w

@@ -1,5 +1,5 @@
 -- What each worker did, as a part of what the joined pass knows.
-use Rattle.std.specs.Prelude.{[], ◌++◌, ◌∷◌, ◌≡◌, List, Result}
+use Rattle.std.specs.Prelude.{[], ◌++◌, ◌∷◌, ◌≡◌, List, Result, ℕ}
 use Rattle.vm_map.specs.{declared.call.Call.Call, declared.call.Reply.Reply, declared.call.Said.Said}
 use Rattle.vm_rule.specs.Prelude.{entries_by, StartsWith}
 use Rattle.vm_step.specs.Prelude.{Did, Note, View}
@@ -18,20 +18,20 @@ module _ {A : Type 0} where
 
 -- the worker's pass began with nothing done, made the calls, and knew u behind the last one; its entries are those that this pass's history has
 -- under its number
-pub record HasPart (w : View Said) (calls : List Call) (answers : List (Result Reply TreeFault)) (u : View Said) : Type 0 where
+pub record HasPart (n : ℕ) (w : View Said) (calls : List Call) (answers : List (Result Reply TreeFault)) (u : View Said) : Type 0 where
   pub began : View Said
   pub nothing : (began.mine ≡ []) × (began.notes ≡ []) × (began.log ≡ [])
-  pub each : AreTreeCalls calls answers began u
+  pub each : AreTreeCalls n calls answers began u
   pub start : u.start ≡ w.start
   pub entries : entries_by u.used w.seen ≡ u.mine
   pub heard : StartsWith w.seen u.seen
   pub saw : StartsWith w.releases u.releases
 
 -- so each worker's did
-abbrev pub HaveParts : View Said → List (List Call) → List (List (Result Reply TreeFault)) → List (View Said) → Type 0
-HaveParts w [] [] [] = Unit {0}
-HaveParts w (calls ∷ lists) (told ∷ answers) (u ∷ passes) = HasPart w calls told u × HaveParts w lists answers passes
-HaveParts w _ _ _ = ⊥
+abbrev pub HaveParts : ℕ → View Said → List (List Call) → List (List (Result Reply TreeFault)) → List (View Said) → Type 0
+HaveParts n w [] [] [] = Unit {0}
+HaveParts n w (calls ∷ lists) (told ∷ answers) (u ∷ passes) = HasPart n w calls told u × HaveParts n w lists answers passes
+HaveParts n w _ _ _ = ⊥
 
 -- the steps of passes, and their notes
 abbrev pub logs_of : List (View Said) → List (List Did)

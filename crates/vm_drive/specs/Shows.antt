@@ -1,9 +1,9 @@
--- The windows among workers' answers: each shows what the leaf that covers its start does, with the words that the table's page had at the step of the
--- history.
+-- The windows among workers' answers, on pages of n words: each shows what the leaf that covers its start does, with the words that the table's page
+-- had at the step of the history.
 use Rattle.std.specs.Prelude.{[], ◌++◌, ◌∷◌, ◌≡◌, Err, List, Ok, Result, true, ℕ}
 use Rattle.vm_map.specs.{declared.call.Call.Call, declared.call.Reply.Reply, declared.call.Said.Said}
 use Rattle.vm_map.specs.declared.call.Call.TheVariants.{Del, Get, Put, Window}
-use Rattle.vm_tree_model.specs.Page.{node_of}
+use Rattle.vm_tree_model.specs.{Fixed.fixed, Page.node_of}
 use Rattle.vm_core.specs.Prelude.{page_at}
 use Rattle.vm_rule.specs.Prelude.{began_of, Entry, Kept, last_in, StartsWith}
 use Rattle.vm_step.specs.Prelude.{Release, View}
@@ -13,9 +13,9 @@ use Rattle.vm_tree_rule.specs.declared.fault.TreeFault.{TreeFault}
 -- The reply is what a leaf shows: one of the tree's pages at the step that made the call with this reply an entry of the history, which the pass
 -- knows. This page of the tree is the table's page as it stood then: its words are the last ones after a beginning of the releases, which the pass
 -- knows too
-pub record IsOfLeaf (said : Said) (v : View Said) : Type 0 where
+pub record IsOfLeaf (n : ℕ) (said : Said) (v : View Said) : Type 0 where
   pub kept : Kept Said
-  pub keeps : KeepsTree (began_of v.start) kept
+  pub keeps : KeepsTree (fixed n) (began_of v.start) kept
   pub history : StartsWith v.seen kept.history
   pub earlier : List (Entry Said)
   pub entry : Entry Said
@@ -25,25 +25,25 @@ pub record IsOfLeaf (said : Said) (v : View Said) : Type 0 where
   pub front : List Release
   pub past : StartsWith v.releases front
   pub words : page_at kept.pages page ≡ (last_in v.start front page).words
-  pub leaf : (node_of (page_at kept.pages page)).tag ≡ 2
-  pub proved : IsProved (page_at kept.pages page) said.call said.reply
+  pub leaf : (node_of (fixed n) (page_at kept.pages page)).tag ≡ 2
+  pub proved : IsProved (fixed n) (page_at kept.pages page) said.call said.reply
 
 -- a window shows what the leaf that covers its start does, where blocks tell their words
-abbrev pub IsWindowShown : View Said → Call → Reply → Type 0
-IsWindowShown v (Get key) reply = Unit {0}
-IsWindowShown v (Put key value) reply = Unit {0}
-IsWindowShown v (Del key) reply = Unit {0}
-IsWindowShown v (Window start most) reply = v.start.tells ≡ true → IsOfLeaf (record { call = Window start most; reply = reply }) v
+abbrev pub IsWindowShown : ℕ → View Said → Call → Reply → Type 0
+IsWindowShown n v (Get key) reply = Unit {0}
+IsWindowShown n v (Put key value) reply = Unit {0}
+IsWindowShown n v (Del key) reply = Unit {0}
+IsWindowShown n v (Window start most) reply = v.start.tells ≡ true → IsOfLeaf n (record { call = Window start most; reply = reply }) v
 
 -- so does each window of a list that was answered
-abbrev pub AreShown : View Said → List Call → List (Result Reply TreeFault) → Type 0
-AreShown v [] rs = Unit {0}
-AreShown v (c ∷ cs) [] = Unit {0}
-AreShown v (c ∷ cs) (Ok r ∷ rs) = IsWindowShown v c r × AreShown v cs rs
-AreShown v (c ∷ cs) (Err f ∷ rs) = AreShown v cs rs
+abbrev pub AreShown : ℕ → View Said → List Call → List (Result Reply TreeFault) → Type 0
+AreShown n v [] rs = Unit {0}
+AreShown n v (c ∷ cs) [] = Unit {0}
+AreShown n v (c ∷ cs) (Ok r ∷ rs) = IsWindowShown n v c r × AreShown n v cs rs
+AreShown n v (c ∷ cs) (Err f ∷ rs) = AreShown n v cs rs
 
 -- and of all lists
-abbrev pub AllShown : View Said → List (List Call) → List (List (Result Reply TreeFault)) → Type 0
-AllShown v [] answers = Unit {0}
-AllShown v (cs ∷ lists) [] = Unit {0}
-AllShown v (cs ∷ lists) (rs ∷ answers) = AreShown v cs rs × AllShown v lists answers
+abbrev pub AllShown : ℕ → View Said → List (List Call) → List (List (Result Reply TreeFault)) → Type 0
+AllShown n v [] answers = Unit {0}
+AllShown n v (cs ∷ lists) [] = Unit {0}
+AllShown n v (cs ∷ lists) (rs ∷ answers) = AreShown n v cs rs × AllShown n v lists answers

@@ -21,11 +21,11 @@ use std::thread::Threads;
 use vm_block::{Block, PageBlock};
 use vm_core::Memory;
 use vm_exmap::Interface;
+use vm_kind::{OfSize, TreeOf, WordKeys};
 use vm_map::call::Call;
-use vm_page::WORDS;
+use vm_owner::Owner;
 use vm_pool::Pool;
 use vm_rule::words::Pass;
-use vm_tree_rule::Tree;
 
 /// What the workers were answered, and how many pages their sweeps evicted.
 #[derive(Drop)]
@@ -48,11 +48,17 @@ pub struct DrivenInto<A> {
 /// Makes the lists' calls, one worker for each list, side by side: 1 to 64 lists of at most 1,000,000 calls each, eight frames for each. The
 /// pass has all parts and holds no page, and has a fresh part for each list. Afterwards it has all parts again, and knows what the workers did.
 /// Where there is no memory, no call was made, and the pass is as it was.
-pub fn drive<R: Threads + Wait + Sync, B: PageBlock<WORDS> + Send + Sync, G: Gate + Sync>(
+pub fn drive<
+    S: OfSize<N> + Sync,
+    R: Threads + Wait + Sync,
+    B: PageBlock<N> + Send + Sync,
+    G: Gate + Sync,
+    const N: usize,
+>(
     rt: &R,
     alloc: Global,
-    pool: &Pool<Tree, B, WORDS>,
-    pass: &mut Pass<Tree>,
+    pool: &Pool<TreeOf<WordKeys<S, N>>, B, N>,
+    pass: &mut Pass<TreeOf<WordKeys<S, N>>>,
     lists: &[Vec<Call>],
     gate: &G,
 ) -> Result<Driven, Memory>
@@ -67,7 +73,7 @@ pub fn drive<R: Threads + Wait + Sync, B: PageBlock<WORDS> + Send + Sync, G: Gat
     requires pages { 1 ≤ pool.now.words.table.shared.key.pages }
     ensures pass { IsSamePass pass.old pass.new }
     ensures ready { IsReady pool.now.words.table.shared.key B.tells pool.now.words.table.shared.table_id pass.new }
-    ensures driven { IfOk result (λ driven. IsDriven B.tells (items_of lists.now) (all_replies driven.replies.items) (view pass.old) (view pass.new)) }
+    ensures driven { IfOk result (λ driven. IsDriven N B.tells (items_of lists.now) (all_replies driven.replies.items) (view pass.old) (view pass.new)) }
     ensures windows { IfOk result (λ driven. AllByRecursion HasWindows driven.replies.items) }
     ensures memory { IfErr result (λ _. pass.new ≡ pass.old) }
 {
@@ -85,15 +91,17 @@ pub fn drive<R: Threads + Wait + Sync, B: PageBlock<WORDS> + Send + Sync, G: Gat
 /// The same, where each list has something that keeps its answers, in the lists' order: it stands for no answer yet, and has room for one to
 /// each of the list's calls, and for a window to each that asks for one.
 pub fn drive_into<
+    S: OfSize<N> + Sync,
     R: Threads + Wait + Sync,
-    B: PageBlock<WORDS> + Send + Sync,
+    B: PageBlock<N> + Send + Sync,
     G: Gate + Sync,
     A: Answers + Send + Drop,
+    const N: usize,
 >(
     rt: &R,
     alloc: Global,
-    pool: &Pool<Tree, B, WORDS>,
-    pass: &mut Pass<Tree>,
+    pool: &Pool<TreeOf<WordKeys<S, N>>, B, N>,
+    pass: &mut Pass<TreeOf<WordKeys<S, N>>>,
     lists: &[Vec<Call>],
     gate: &G,
     rooms: Vec<A>,
@@ -110,7 +118,7 @@ pub fn drive_into<
     requires rooms { HaveRoom A.keeps A.room rooms.items (items_of lists.now) }
     ensures pass { IsSamePass pass.old pass.new }
     ensures ready { IsReady pool.now.words.table.shared.key B.tells pool.now.words.table.shared.table_id pass.new }
-    ensures driven { IfOk result (λ driven. IsDrivenInto A.keeps B.tells (items_of lists.now) driven.kept.items (view pass.old) (view pass.new)) }
+    ensures driven { IfOk result (λ driven. IsDrivenInto N A.keeps B.tells (items_of lists.now) driven.kept.items (view pass.old) (view pass.new)) }
     ensures memory { IfErr result (λ _. pass.new ≡ pass.old) }
 {
     let (workers, kept) = match places_for(alloc, lists.len()) {
@@ -124,7 +132,10 @@ pub fn drive_into<
 }
 
 // Room for so many workers, and for what keeps their answers.
-fn places_for<A: Drop>(alloc: Global, count: usize) -> Result<(Vec<Worker<A>>, Vec<A>), AllocError>
+fn places_for<U: Owner, A: Drop>(
+    alloc: Global,
+    count: usize,
+) -> Result<(Vec<Worker<U, A>>, Vec<A>), AllocError>
     ensures workers { IfOk result (λ v. (v.0.items ≡ []) × (count ≤ vec_capacity v.0)) }
     ensures kept { IfOk result (λ v. (v.1.items ≡ []) × (count ≤ vec_capacity v.1)) }
 {
@@ -145,13 +156,13 @@ fn cap_for(frames: usize, workers: usize) -> u32
 }
 
 // Splits off a pass for each room. An interface is at home at its worker's place, modulo the number of bundles.
-fn hire<B: Block, A: Drop>(
-    pool: &Pool<Tree, B, WORDS>,
-    pass: &mut Pass<Tree>,
+fn hire<S: OfSize<N>, B: Block, A: Drop, const N: usize>(
+    pool: &Pool<TreeOf<WordKeys<S, N>>, B, N>,
+    pass: &mut Pass<TreeOf<WordKeys<S, N>>>,
     cap: u32,
     rooms: Vec<A>,
-    mut workers: Vec<Worker<A>>,
-) -> Vec<Worker<A>>
+    mut workers: Vec<Worker<TreeOf<WordKeys<S, N>>, A>>,
+) -> Vec<Worker<TreeOf<WordKeys<S, N>>, A>>
     requires ready { IsReady pool.now.words.table.shared.key B.tells pool.now.words.table.shared.table_id pass.old }
     requires holds { HoldsNoPage (view pass.old) }
     requires fresh { length rooms.items ≤ length (view pass.old).fresh }
@@ -183,35 +194,43 @@ fn hire<B: Block, A: Drop>(
 
 // Makes each worker's calls, in as many threads as there are workers.
 fn work_all<
+    S: OfSize<N> + Sync,
     R: Threads + Wait + Sync,
-    B: PageBlock<WORDS> + Send + Sync,
+    B: PageBlock<N> + Send + Sync,
     G: Gate + Sync,
     A: Answers + Send,
->(rt: &R, pool: &Pool<Tree, B, WORDS>, gate: &G, lists: &[Vec<Call>], workers: &mut [Worker<A>])
+    const N: usize,
+>(
+    rt: &R,
+    pool: &Pool<TreeOf<WordKeys<S, N>>, B, N>,
+    gate: &G,
+    lists: &[Vec<Call>],
+    workers: &mut [Worker<TreeOf<WordKeys<S, N>>, A>],
+)
     requires lists { (1 ≤ length lists.now) × (length lists.now ≤ 64) }
     requires askable { AreAskable (items_of lists.now) }
     requires idle { AreIdle A.keeps A.room pool.now.words.table.shared.key B.tells pool.now.words.table.shared.table_id (items_of lists.now) workers.old }
     requires homes { AreAtHome 0 (share_of pool.now.words.frames (length lists.now)) workers.old }
-    ensures { AllWorked A.keeps pool.now.words.table.shared.key B.tells pool.now.words.table.shared.table_id (items_of lists.now) workers.old workers.new }
+    ensures { AllWorked N A.keeps pool.now.words.table.shared.key B.tells pool.now.words.table.shared.table_id (items_of lists.now) workers.old workers.new }
 {
     thread::for_each_mut(
         rt,
         workers,
         lists.len(),
-        &|i: usize, worker: &mut Worker<A>|
+        &|i: usize, worker: &mut Worker<TreeOf<WordKeys<S, N>>, A>|
             requires inside { (i < length lists.now) × (length lists.now ≤ 64) }
             requires askable { AreAskable (items_of lists.now) }
             requires idle { IsIdle A.keeps A.room pool.now.words.table.shared.key B.tells pool.now.words.table.shared.table_id (list_at (items_of lists.now) i) worker.old }
-            ensures { HasWorked A.keeps pool.entry.now.words.table.shared.key B.tells pool.entry.now.words.table.shared.table_id (list_at (items_of lists.entry.now) i) worker.old worker.new }
+            ensures { HasWorked N A.keeps pool.entry.now.words.table.shared.key B.tells pool.entry.now.words.table.shared.table_id (list_at (items_of lists.entry.now) i) worker.old worker.new }
         { work(rt, pool, gate, i as u32, lists[i].as_slice(), worker) },
     );
 }
 
 // Joins the workers' passes, and collects their answers.
-fn gather<B: Block, A: Drop>(
-    pool: &Pool<Tree, B, WORDS>,
-    pass: &mut Pass<Tree>,
-    workers: Vec<Worker<A>>,
+fn gather<S: OfSize<N>, B: Block, A: Drop, const N: usize>(
+    pool: &Pool<TreeOf<WordKeys<S, N>>, B, N>,
+    pass: &mut Pass<TreeOf<WordKeys<S, N>>>,
+    workers: Vec<Worker<TreeOf<WordKeys<S, N>>, A>>,
     mut kept: Vec<A>,
 ) -> DrivenInto<A>
     requires ready { IsReady pool.now.words.table.shared.key B.tells pool.now.words.table.shared.table_id pass.old }
@@ -221,7 +240,7 @@ fn gather<B: Block, A: Drop>(
     requires back { Each (IsBack pool.now.words.table.shared.key B.tells pool.now.words.table.shared.table_id (view pass.old)) workers.items }
     ensures pass { IsSamePass pass.old pass.new }
     ensures ready { IsReady pool.now.words.table.shared.key B.tells pool.now.words.table.shared.table_id pass.new }
-    ensures joined { AreJoined B.tells (view pass.old) workers.items (view pass.new) }
+    ensures joined { AreJoined N B.tells (view pass.old) workers.items (view pass.new) }
     ensures kept { result.kept.items ≡ answers_of workers.items }
 {
     let mut evicted = 0u64;

@@ -13,27 +13,27 @@ use crate::gate::Gate;
 use std::sync::Wait;
 use vm_block::PageBlock;
 use vm_exmap::Interface;
+use vm_kind::{OfSize, TreeOf, WordKeys};
 use vm_map::call::Call;
-use vm_page::WORDS;
+use vm_owner::Owner;
 use vm_pool::Pool;
 use vm_rule::words::Pass;
 use vm_tree_read::{get, window};
-use vm_tree_rule::Tree;
 use vm_tree_write::{del, put};
 
 /// A worker's own things.
 #[derive(Drop)]
-pub struct Worker<A> {
-    pub pass: Pass<Tree>,
+pub struct Worker<U: Owner, A> {
+    pub pass: Pass<U>,
     pub iface: Interface,
     pub answers: A,
 }
 
 // Makes one call.
-fn answer<R: Wait, B: PageBlock<WORDS>>(
+fn answer<S: OfSize<N>, R: Wait, B: PageBlock<N>, const N: usize>(
     rt: &R,
-    pool: &Pool<Tree, B, WORDS>,
-    pass: &mut Pass<Tree>,
+    pool: &Pool<TreeOf<WordKeys<S, N>>, B, N>,
+    pass: &mut Pass<TreeOf<WordKeys<S, N>>>,
     iface: &mut Interface,
     call: &Call,
 ) -> Answer
@@ -44,33 +44,33 @@ fn answer<R: Wait, B: PageBlock<WORDS>>(
     requires askable { IsAskable call.now }
     ensures ready { IsReady pool.now.words.table.shared.key B.tells pool.now.words.table.shared.table_id pass.new }
     ensures keeps { KeepsPass (view pass.old) (view pass.new) }
-    ensures call { IsTreeCall call.now result (view pass.old) (view pass.new) }
+    ensures call { IsTreeCall N call.now result (view pass.old) (view pass.new) }
     ensures held { AreHeld iface.new.frames (view pass.new) }
     ensures lost { LosesNone iface.old.frames (view pass.old) iface.new.frames (view pass.new) }
 {
     match *call {
-        Call::Get { key } => get(rt, pool, pass, iface, key),
-        Call::Put { key, value } => put(rt, pool, pass, iface, key, value),
-        Call::Del { key } => del(rt, pool, pass, iface, key),
-        Call::Window { start, most } => window(rt, pool, pass, iface, start, most),
+        Call::Get { key } => get(rt, pool, pass, iface, &key),
+        Call::Put { key, value } => put(rt, pool, pass, iface, &key, value),
+        Call::Del { key } => del(rt, pool, pass, iface, &key),
+        Call::Window { start, most } => window(rt, pool, pass, iface, &start, most),
     }
 }
 
 // Makes the calls, in order.
-fn call_all<R: Wait, B: PageBlock<WORDS>, G: Gate, A: Answers>(
+fn call_all<S: OfSize<N>, R: Wait, B: PageBlock<N>, G: Gate, A: Answers, const N: usize>(
     rt: &R,
-    pool: &Pool<Tree, B, WORDS>,
+    pool: &Pool<TreeOf<WordKeys<S, N>>, B, N>,
     gate: &G,
     number: u32,
     calls: &[Call],
-    worker: &mut Worker<A>,
+    worker: &mut Worker<TreeOf<WordKeys<S, N>>, A>,
 )
     requires work { IsAtWork pool.now.words.table.shared.key B.tells pool.now.words.table.shared.table_id worker.old }
     requires room { IsRoomFor calls.now (A.room worker.old.answers) }
     requires fresh { A.keeps worker.old.answers [] }
     requires askable { AllByRecursion IsAskable calls.now }
     ensures work { IsAtWork pool.now.words.table.shared.key B.tells pool.now.words.table.shared.table_id worker.new }
-    ensures done { HasCalled A.keeps calls.now worker.new.answers (view worker.old.pass) (view worker.new.pass) }
+    ensures done { HasCalled N A.keeps calls.now worker.new.answers (view worker.old.pass) (view worker.new.pass) }
     ensures lost { LosesNone worker.old.iface.frames (view worker.old.pass) worker.new.iface.frames (view worker.new.pass) }
 {
     let mut count = 0u32;
@@ -84,13 +84,13 @@ fn call_all<R: Wait, B: PageBlock<WORDS>, G: Gate, A: Answers>(
 }
 
 /// Makes the worker's calls, in order, and gives its frames back.
-pub fn work<R: Wait, B: PageBlock<WORDS>, G: Gate, A: Answers>(
+pub fn work<S: OfSize<N>, R: Wait, B: PageBlock<N>, G: Gate, A: Answers, const N: usize>(
     rt: &R,
-    pool: &Pool<Tree, B, WORDS>,
+    pool: &Pool<TreeOf<WordKeys<S, N>>, B, N>,
     gate: &G,
     number: u32,
     calls: &[Call],
-    worker: &mut Worker<A>,
+    worker: &mut Worker<TreeOf<WordKeys<S, N>>, A>,
 )
     requires work { IsAtWork pool.now.words.table.shared.key B.tells pool.now.words.table.shared.table_id worker.old }
     requires holds { HoldsNoPage (view worker.old.pass) }
@@ -99,7 +99,7 @@ pub fn work<R: Wait, B: PageBlock<WORDS>, G: Gate, A: Answers>(
     requires askable { AllByRecursion IsAskable calls.now }
     ensures ready { IsReady pool.now.words.table.shared.key B.tells pool.now.words.table.shared.table_id worker.new.pass }
     ensures holds { HoldsNoPage (view worker.new.pass) }
-    ensures done { HasKept A.keeps calls.now worker.new.answers (view worker.old.pass) (view worker.new.pass) }
+    ensures done { HasKept N A.keeps calls.now worker.new.answers (view worker.old.pass) (view worker.new.pass) }
     ensures lost { LosesNone worker.old.iface.frames (view worker.old.pass) [] (view worker.new.pass) }
 {
     call_all(rt, pool, gate, number, calls, worker);

@@ -10,9 +10,9 @@ use Rattle.vm_image.specs.{Blocks.numbers_for, declared.blocks.PlannedFault.Plan
 use Rattle.vm_core.specs.Prelude.{at, MAX_COUNT}
 use Rattle.vm_rule.specs.Prelude.{most_faults, no_block, Stored, times_noted}
 use Rattle.vm_step.specs.Prelude.{Note}
-use Rattle.vm_pool.specs.Closing.{AreSums}
+use Rattle.vm_pool.specs.{Closing.AreSums, declared.ended.Ended.Ended}
 use Rattle.vm_drive.specs.Causes.{notes_about}
-use Rattle.vm_serve.specs.Served.{distinct_entries, same_entry, TreeEnd}
+use Rattle.vm_serve.specs.Served.{distinct_entries, same_entry}
 
 -- how many notes of page p have one of the counts up to b
 sum_times : ℕ → ℕ → List Note → ℕ
@@ -158,7 +158,7 @@ sum-bounds (b ∷ bs) g f =
     omega (arith, sum_by-cons (λ (s : Stored). s.bound) b bs)
 
 -- no more calls of the blocks failed than the plan has different entries
-pub few-faults : (blocks : List Stored) (plan : List PlannedFault) (end : TreeEnd) → AreSums blocks end → ((p : ℕ) → p < length blocks → (at no_block blocks p).bound ≡ most_faults (numbers_for plan p)) → end.faults ≤ distinct_entries plan
+pub few-faults : {U X : Type 0} (blocks : List Stored) (plan : List PlannedFault) (end : Ended U X) → AreSums blocks end → ((p : ℕ) → p < length blocks → (at no_block blocks p).bound ≡ most_faults (numbers_for plan p)) → end.faults ≤ distinct_entries plan
 few-faults blocks plan end sums bounds =
     let numbers : ℕ → ℕ = λ p. distinct_count nat_eq (numbers_for plan p) in
     let each : (p : ℕ) → p < length blocks → (at no_block blocks p).bound ≤ numbers p = λ p l. omega (arith, bounds p l) in

@@ -1,12 +1,15 @@
 -- What serving comes to, from what was driven, what was flushed and what was closed.
-use Rattle.std.proofs.Common.{[], ⊎_elim, ◌++◌, ◌+◌, ◌<◌, ◌∙◌, ◌∷◌, ◌≡◌, ◌≤◌, ap, arith, Bool, false, inl, inr, length, List, map, None, refl}
+use Rattle.std.proofs.Common.{[], ⊎_elim, ◌*◌, ◌++◌, ◌+◌, ◌-◌, ◌<◌, ◌∙◌, ◌∷◌, ◌≡◌, ◌≤◌, ap, arith, Bool, false, inl, inr, length, List, map, None, refl}
 use Rattle.std.proofs.Common.{replicate, Result, slice_index, slice_index_or, Some, subst, suc, sym, true, true≢false, zero, ℕ}
 use Rattle.std.proofs.lemmas.Bool.{cases_lt, ne_eqb}
 use Rattle.vm_map.specs.{declared.call.Call.Call, declared.call.Reply.Reply, declared.call.Said.Said, History.after_all}
-use Rattle.vm_tree_model.specs.{Count.node_count, Tree.IsTree, Tree.map_of}
+use Rattle.vm_page.specs.Sizes.{IsSize}
+use Rattle.vm_tree_model.specs.{Count.node_count, Fixed.capacity, Fixed.fixed, Tree.IsTree, Tree.map_of}
+use Rattle.vm_tree_model.proofs.FixedLaws.{size_is, sized_layout}
+use Rattle.vm_node.specs.Halves.{half_of}
 use Rattle.vm_image.specs.{declared.blocks.PlannedFault.PlannedFault, File.IsNextPage}
 use Rattle.vm_image.specs.Blocks.{AreBlocksOf, numbers_for, pages_of_blocks}
-use Rattle.vm_core.specs.Prelude.{at, MAX_COUNT, page_at, WORDS}
+use Rattle.vm_core.specs.Prelude.{at, MAX_COUNT, page_at}
 use Rattle.vm_rule.specs.Prelude.{began_of, block_words, bounds_of, Each, Entry, has, last_of, listed, MayBegin, MemBlock, most_faults, no_block}
 use Rattle.vm_rule.specs.Prelude.{numbers, started_origin, started_shape, Stored, stored_of, unborn, words_of}
 use Rattle.vm_rule.specs.{Begun.begun, Started.contents_of}
@@ -18,23 +21,24 @@ use Rattle.vm_step.specs.Prelude.{Note, Origin, View}
 use Rattle.vm_evict.specs.declared.flushing.Flushed.{Flushed}
 use Rattle.vm_evict.specs.Flushes.{first_noted, HasNoLock, IsFlushed, noted_pages, RisesFrom}
 use Rattle.vm_pool.specs.Closing.{AreSums, IsClosed, IsStored, view_at_end}
-use Rattle.vm_tree_laws.specs.{History.IsLegal, History.saids, Keeps.KeepsTree}
+use Rattle.vm_pool.specs.declared.ended.Ended.{Ended}
+use Rattle.vm_tree_laws.specs.{History.IsLegal, History.news, History.saids, Keeps.KeepsTree, Plain.KeepsPlain}
 use Rattle.vm_tree_laws.proofs.{Fullness.room_used, Starts.start_keeps}
 use Rattle.vm_tree_rule.specs.declared.fault.TreeFault.{TreeFault}
 use Rattle.vm_drive.specs.{Drives.IsAtLastVersion, Drives.IsDriven, Holds.HoldsCalls}
-use Rattle.vm_drive.specs.{Causes.all_faults_of, Causes.notes_about, Parts.logs_of, Parts.noted_by}
-use Rattle.vm_drive.proofs.{Called.FoundFull, Called.FoundWorn, Doing.notes-both, Parted.parts-later, Parted.traced, Parts.behind-in}
+use Rattle.vm_drive.specs.{Causes.all_faults_of, Causes.notes_about, Parts.logs_of, Parts.noted_by, TreeCalls.as_said}
+use Rattle.vm_drive.proofs.{Called.FoundFull, Called.FoundWorn, Doing.notes-both, Parted.parts-later, Parted.traced, Parts.behind-in, Plainly.plain-keeps}
 use Rattle.vm_drive.proofs.Showing.{all-shown-more}
 use Rattle.vm_drive.proofs.Tracing.{found-later, lists-caused, max-later, used-up, worn-out}
-use Rattle.vm_serve.specs.Served.{is_first, IsFilled, IsServed, TreeEnd}
+use Rattle.vm_serve.specs.Served.{is_first, IsFilled, IsServed}
 use Rattle.vm_serve.proofs.Counting.{few-faults, few-notes, small-plan}
 
 -- the words of the blocks are the start's
-contents-held : (blocks : List (MemBlock WORDS)) → contents_of WORDS true (map stored_of blocks) ≡ pages_of_blocks blocks
+contents-held : {size : ℕ} (blocks : List (MemBlock size)) → contents_of size true (map stored_of blocks) ≡ pages_of_blocks blocks
 contents-held [] = refl
 contents-held (b ∷ bs) = ap (λ (l : List (List ℕ)). words_of b ∷ l) (contents-held bs)
 
-words-held : (blocks : List (MemBlock WORDS)) → block_words (map stored_of blocks) ≡ pages_of_blocks blocks
+words-held : {size : ℕ} (blocks : List (MemBlock size)) → block_words (map stored_of blocks) ≡ pages_of_blocks blocks
 words-held [] = refl
 words-held (b ∷ bs) = ap (λ (l : List (List ℕ)). words_of b ∷ l) (words-held bs)
 
@@ -45,18 +49,22 @@ all-zero (suc n) [] e z = absurd (omega arith)
 all-zero (suc n) (x ∷ xs) e z = let first : x ≡ 0 = z 0 in let rest : xs ≡ replicate n 0 = all-zero n xs (omega arith) (λ i. z (suc i)) in cc
 
 -- the tree may begin with the pages of blocks that are one
-pub begins-held : (next : ℕ) (blocks : List (MemBlock WORDS)) → IsTree (pages_of_blocks blocks) → IsNextPage (pages_of_blocks blocks) next → MayBegin KeepsTree next (block_words (map stored_of blocks))
-begins-held next blocks tree free =
-    subst (λ (l : List (List ℕ)). MayBegin KeepsTree next l) (sym (words-held blocks))
+pub begins-held : (size : ℕ) → IsSize size → (next : ℕ) (blocks : List (MemBlock size)) → IsTree (fixed size) (pages_of_blocks blocks) → IsNextPage size (pages_of_blocks blocks) next → MayBegin (KeepsPlain as_said (fixed size)) next (block_words (map stored_of blocks))
+begins-held size sized next blocks tree free =
+    subst (λ (l : List (List ℕ)). MayBegin (KeepsPlain as_said (fixed size)) next l) (sym (words-held blocks))
     (record {
       zero = λ p l m. let f = free.free p l m in all-zero (length (page_at (pages_of_blocks blocks) p)) (page_at (pages_of_blocks blocks) p) refl f.zero;
-      kept = start_keeps (record { pages = pages_of_blocks blocks; next = next }) tree free.within;
+      kept = start_keeps (fixed size) (sized_layout size sized) (record { pages = pages_of_blocks blocks; next = next }) tree free.within;
     })
 
 -- so it may with the pages of an image that is one
-pub begins : (pages : List (List ℕ)) (plan : List PlannedFault) (next : ℕ) (blocks : List (MemBlock WORDS)) → IsTree pages → IsNextPage pages next → AreBlocksOf pages plan blocks → MayBegin KeepsTree next (block_words (map stored_of blocks))
-begins pages plan next blocks tree free held =
-    begins-held next blocks (subst (λ (l : List (List ℕ)). IsTree l) (sym held.held) tree) (subst (λ (l : List (List ℕ)). IsNextPage l next) (sym held.held) free)
+pub begins : (size : ℕ) → IsSize size → (pages : List (List ℕ)) (plan : List PlannedFault) (next : ℕ) (blocks : List (MemBlock size)) → IsTree (fixed size) pages → IsNextPage size pages next → AreBlocksOf pages plan blocks → MayBegin (KeepsPlain as_said (fixed size)) next (block_words (map stored_of blocks))
+begins size sized pages plan next blocks tree free held =
+    begins-held size sized next blocks (subst (λ (l : List (List ℕ)). IsTree (fixed size) l) (sym held.held) tree) (subst (λ (l : List (List ℕ)). IsNextPage size l next) (sym held.held) free)
+
+-- a page has place for an even number of pairs
+other-half : (size : ℕ) → IsSize size → 2 * (capacity size - half_of size) ≡ 2 * half_of size
+other-half size sized = size_is (λ n. 2 * (capacity n - half_of n) ≡ 2 * half_of n) size sized refl refl
 
 numbers-long : (a n : ℕ) → length (numbers a n) ≡ n
 unfolding numbers
@@ -70,7 +78,7 @@ fresh-enough size tells version next frames count blocks v is few =
     omega arith
 
 -- a fresh block's bound is that of its plan
-planned-bound : (blocks : List (MemBlock WORDS)) (p : ℕ) (numbers : List ℕ) → p < length blocks → ((d : MemBlock WORDS) → (stored_of (slice_index_or blocks p d)).bound ≡ most_faults numbers) → (at no_block (map stored_of blocks) p).bound ≡ most_faults numbers
+planned-bound : {size : ℕ} (blocks : List (MemBlock size)) (p : ℕ) (numbers : List ℕ) → p < length blocks → ((d : MemBlock size) → (stored_of (slice_index_or blocks p d)).bound ≡ most_faults numbers) → (at no_block (map stored_of blocks) p).bound ≡ most_faults numbers
 unfolding at
 planned-bound [] p numbers l f = absurd (omega arith)
 planned-bound (b ∷ bs) zero numbers l f = f b
@@ -97,7 +105,7 @@ none-noted : (notes : List Note) → length notes ≡ 0 → first_noted notes �
 none-noted [] e = refl
 none-noted (n ∷ ns) e = absurd (omega arith)
 
-same-words : (blocks : List (MemBlock WORDS)) (p : ℕ) → p < length blocks → at [] (pages_of_blocks blocks) p ≡ (at no_block (map stored_of blocks) p).words
+same-words : {size : ℕ} (blocks : List (MemBlock size)) (p : ℕ) → p < length blocks → at [] (pages_of_blocks blocks) p ≡ (at no_block (map stored_of blocks) p).words
 unfolding at
 same-words [] p l = absurd (omega arith)
 same-words (b ∷ bs) zero l = refl
@@ -124,18 +132,18 @@ first-least p q high (n ∷ ns) rises e l =
     (omega arith, rw (ne_eqb q n.page (λ e. absurd (omega arith))) rest)
 
 -- the blocks hold the pages that these words are
-blocks-hold : (blocks : List (MemBlock WORDS)) (n : ℕ) (words : ℕ → List ℕ) → length blocks ≡ n → ((p : ℕ) → p < n → (at no_block (map stored_of blocks) p).words ≡ words p) → pages_of_blocks blocks ≡ listed n words
+blocks-hold : {size : ℕ} (blocks : List (MemBlock size)) (n : ℕ) (words : ℕ → List ℕ) → length blocks ≡ n → ((p : ℕ) → p < n → (at no_block (map stored_of blocks) p).words ≡ words p) → pages_of_blocks blocks ≡ listed n words
 blocks-hold blocks n words long each =
     sym (listed-long [] n (pages_of_blocks blocks) (length-mapped words_of blocks ∙ long))
     ∙ listed-same n (at [] (pages_of_blocks blocks)) words (λ p l. same-words blocks p (subst (λ k. p < k) (sym long) l) ∙ each p l)
 
-module _ (pages : List (List ℕ)) (plan : List PlannedFault) (version next frames : ℕ) (before after : List (MemBlock WORDS)) (lists : List (List Call)) (replies : List (List (Result Reply TreeFault))) (report : Flushed) (end : TreeEnd) (v w : View Said)
-    (held : AreBlocksOf pages plan before) (count : length before ≡ length pages) (is : v ≡ begun (unborn (started_shape WORDS true version next frames (map stored_of before)))) (next_page : IsNextPage pages next)
-    (driven : IsDriven true lists replies v w) (flushed : IsFlushed report w (view_at_end end)) (last : ℕ) (closed : IsClosed true KeepsTree (view_at_end end) (map stored_of after) last) where
+module _ (size : ℕ) (sized : IsSize size) {U : Type 0} (pages : List (List ℕ)) (plan : List PlannedFault) (version next frames : ℕ) (before after : List (MemBlock size)) (lists : List (List Call)) (replies : List (List (Result Reply TreeFault))) (report : Flushed) (end : Ended U Said) (v w : View Said)
+    (held : AreBlocksOf pages plan before) (count : length before ≡ length pages) (is : v ≡ begun (unborn (started_shape size true version next frames (map stored_of before)))) (next_page : IsNextPage size pages next)
+    (driven : IsDriven size true lists replies v w) (flushed : IsFlushed report w (view_at_end end)) (last : ℕ) (closed : IsClosed true (KeepsPlain as_said (fixed size)) (view_at_end end) (map stored_of after) last) where
   abbrev e : View Said
   e = view_at_end end
 
-  start-is : e.start ≡ started_origin WORDS true version next frames (map stored_of before)
+  start-is : e.start ≡ started_origin size true version next frames (map stored_of before)
   start-is = flushed.aside.start ∙ driven.start ∙ ap (λ (x : View Said). x.start) is
 
   began : e.start.contents ≡ pages
@@ -148,13 +156,13 @@ module _ (pages : List (List ℕ)) (plan : List PlannedFault) (version next fram
   grew-all : e.seen ≡ driven.grew
   grew-all = sym closed.own ∙ flushed.aside.mine ∙ driven.mine ∙ ap (λ (x : View Said). x.mine ++ driven.grew) is
 
-  keeps : KeepsTree (began_of e.start) (kept_by e)
-  keeps = closed.kept refl
+  keeps : KeepsTree (fixed size) (began_of e.start) (kept_by e)
+  keeps = plain-keeps (fixed size) (began_of e.start) (kept_by e) (closed.kept refl)
 
-  legal : IsLegal (map_of pages) e.seen
-  legal = subst (λ (l : List (List ℕ)). IsLegal (map_of l) e.seen) began keeps.legal
+  legal : IsLegal (map_of (fixed size) pages) e.seen
+  legal = subst (λ (l : List (List ℕ)). IsLegal (map_of (fixed size) l) e.seen) began keeps.legal
 
-  filled : (n : ℕ) → FoundFull w n → IsFilled pages end n
+  filled : (n : ℕ) → FoundFull w n → IsFilled size pages end n
   filled n f =
       let here : FoundFull e n = found-later w e n flushed.aside.start (flushed.done, flushed.aside.log) f in
       let up = used-up e n last closed.found here in
@@ -162,19 +170,21 @@ module _ (pages : List (List ℕ)) (plan : List PlannedFault) (version next fram
       let is-next : last ≡ (kept_by e).next = closed.next_is in
       let all : n ≡ length pages = up.0 ∙ many in
       let starts : length e.start.contents ≡ length pages = ap (λ (l : List (List ℕ)). length l) began in
-      let cause = room_used (began_of e.start) (kept_by e) keeps (owes-nothing e closed.paid) (omega arith) in
+      let cause = room_used (fixed size) (began_of e.start) (kept_by e) keeps (owes-nothing e closed.paid) (omega arith) in
       record {
         all = all;
         high = (omega arith);
-        cause = (let nodes : node_count e.start.contents ≡ node_count pages = ap (λ (l : List (List ℕ)). node_count l) began in omega (arith, cause));
+        cause =
+            subst (λ (l : List (List ℕ)). (half_of size - 1) * length l ≤ 2 * half_of size * node_count (fixed size) l + 2 * news e.seen + (half_of size - 1) * (e.start.next + 1)) began
+            (subst (λ (k : ℕ). (half_of size - 1) * length e.start.contents ≤ k * node_count (fixed size) e.start.contents + 2 * news e.seen + (half_of size - 1) * (e.start.next + 1)) (other-half size sized) cause);
       }
 
-  saved : report.failed ≡ 0 → length after ≡ e.start.pages → ((p : ℕ) → p < e.start.pages → (at no_block (map stored_of after) p).words ≡ (last_of w p).words) → IsTree (pages_of_blocks after) × (map_of (pages_of_blocks after) ≡ after_all (map_of pages) (saids e.seen))
+  saved : report.failed ≡ 0 → length after ≡ e.start.pages → ((p : ℕ) → p < e.start.pages → (at no_block (map stored_of after) p).words ≡ (last_of w p).words) → IsTree (fixed size) (pages_of_blocks after) × (map_of (fixed size) (pages_of_blocks after) ≡ after_all (map_of (fixed size) pages) (saids e.seen))
   saved none long words =
       let same : (p : ℕ) → (last_of e p).words ≡ (last_of w p).words = flushed.aside.alone.words driven.alone.0 driven.alone.1 in
       let hold : pages_of_blocks after ≡ (kept_by e).pages = blocks-hold after e.start.pages (λ p. (last_of e p).words) long (λ p l. words p l ∙ sym (same p)) in (
-        subst (λ (l : List (List ℕ)). IsTree l) (sym hold) keeps.tree,
-        ap (λ (l : List (List ℕ)). map_of l) hold ∙ keeps.contents ∙ ap (λ (l : List (List ℕ)). after_all (map_of l) (saids e.seen)) began,
+        subst (λ (l : List (List ℕ)). IsTree (fixed size) l) (sym hold) keeps.tree,
+        ap (λ (l : List (List ℕ)). map_of (fixed size) l) hold ∙ keeps.contents ∙ ap (λ (l : List (List ℕ)). after_all (map_of (fixed size) l) (saids e.seen)) began,
       )
 
   -- each lesser page than the first whose write failed is saved, so its block has its last words
@@ -238,14 +248,14 @@ module _ (pages : List (List ℕ)) (plan : List PlannedFault) (version next fram
       omega arith)
       (cases_lt p (length pages))
 
-  pub served : length plan ≤ 64 → AreSums (map stored_of after) end → (report.failed ≡ 0 → (p : ℕ) → p < length pages → (at no_block (map stored_of after) p).words ≡ (last_of w p).words) → IsServed pages plan lists replies report after end
+  pub served : length plan ≤ 64 → AreSums (map stored_of after) end → (report.failed ≡ 0 → (p : ℕ) → p < length pages → (at no_block (map stored_of after) p).words ≡ (last_of w p).words) → IsServed size pages plan lists replies report after end
   served few sums words = record {
     count = sym (length-mapped stored_of after) ∙ closed.count ∙ many;
     many = many;
     closed = closed.shown;
     tells = ap (λ (o : Origin). o.tells) start-is;
     began = began;
-    next = subst (λ n. IsNextPage pages n) (sym (ap (λ (o : Origin). o.next) start-is)) next_page;
+    next = subst (λ n. IsNextPage size pages n) (sym (ap (λ (o : Origin). o.next) start-is)) next_page;
     bounds = bound-is;
     legal = legal;
     calls = subst (λ (l : List (Entry Said)). HoldsCalls l lists replies) (sym grew-all) driven.calls;
@@ -255,10 +265,10 @@ module _ (pages : List (List ℕ)) (plan : List PlannedFault) (version next fram
     earlier = earlier;
     all_made = sym all-seen;
     planned = planned few sums.each;
-    caused = lists-caused (FoundFull w) (FoundWorn w) (IsFilled pages end) (IsAtLastVersion e) filled (λ p m. worn-out e p closed.versions (max-later w e p flushed.aside.start (flushed.done, flushed.aside.log) m)) lists replies (traced v.log w lists replies driven.passes driven.parts driven.logs);
-    shown = all-shown-more w e flushed.aside.start flushed.aside.seen flushed.aside.releases lists replies driven.shown;
+    caused = lists-caused (FoundFull w) (FoundWorn w) (IsFilled size pages end) (IsAtLastVersion e) filled (λ p m. worn-out e p closed.versions (max-later w e p flushed.aside.start (flushed.done, flushed.aside.log) m)) lists replies (traced size v.log w lists replies driven.passes driven.parts driven.logs);
+    shown = all-shown-more size w e flushed.aside.start flushed.aside.seen flushed.aside.releases lists replies driven.shown;
     passes = driven.passes;
-    parts = parts-later w e flushed.aside.start all-seen flushed.aside.releases lists replies driven.passes driven.parts;
+    parts = parts-later size w e flushed.aside.start all-seen flushed.aside.releases lists replies driven.passes driven.parts;
     logs = behind-in v.log (logs_of driven.passes) w.log flushed.done e.log driven.logs flushed.aside.log;
     noted_in = behind-in v.notes (noted_by driven.passes) w.notes flushed.noted.notes e.notes driven.noted flushed.noted.after;
     unflushed = λ none. flushed.noted.first ∙ none-noted flushed.noted.notes (flushed.noted.each ∙ none);

@@ -1,19 +1,19 @@
 -- Where no failure is planned, no call is answered by a fault of a device, and the last flush writes every page.
 use Rattle.std.proofs.Common.{[], ◌≡◌, arith, List, None, Option, refl, Result, Some, ℕ}
 use Rattle.std.proofs.lemmas.Bool.{eq-eqb}
-use Rattle.vm_page.specs.declared.buf.TheConstants.{WORDS}
-use Rattle.vm_map.specs.{declared.call.Call.Call, declared.call.Reply.Reply}
+use Rattle.vm_map.specs.{declared.call.Call.Call, declared.call.Reply.Reply, declared.call.Said.Said}
 use Rattle.vm_rule.specs.Prelude.{MemBlock}
 use Rattle.vm_evict.specs.declared.flushing.Flushed.{Flushed}
+use Rattle.vm_pool.specs.declared.ended.Ended.{Ended}
 use Rattle.vm_tree_rule.specs.declared.fault.TreeFault.{TreeFault}
 use Rattle.vm_drive.specs.Causes.{all_faults_of}
-use Rattle.vm_serve.specs.Served.{is_first, IsServed, TreeEnd}
+use Rattle.vm_serve.specs.Served.{is_first, IsServed}
 
 no-page : (first : Option ℕ) → ((p : ℕ) → is_first first p ≡ 0) → first ≡ None
 no-page None f = refl
 no-page (Some q) f = let here : is_first (Some q) q ≡ 1 = rw (eq-eqb q q refl) refl in absurd (omega (arith, f q, here))
 
-module _ (pages : List (List ℕ)) (lists : List (List Call)) (replies : List (List (Result Reply TreeFault))) (report : Flushed) (blocks : List (MemBlock WORDS)) (end : TreeEnd) (is : IsServed pages [] lists replies report blocks end) where
+module _ (n : ℕ) {U : Type 0} (pages : List (List ℕ)) (lists : List (List Call)) (replies : List (List (Result Reply TreeFault))) (report : Flushed) (blocks : List (MemBlock n)) (end : Ended U Said) (is : IsServed n pages [] lists replies report blocks end) where
   pub no_faults : (p : ℕ) → all_faults_of p replies ≡ 0
   no_faults p = omega (arith, is.noted p, is.planned p)
 

@@ -1,9 +1,9 @@
 -- What serving workers' calls on an image comes to: the headline, read from what the pool's end keeps.
-use Rattle.std.specs.Prelude.{◌&&◌, ◌*◌, ◌+◌, ◌<◌, ◌==◌, ◌≡◌, ◌≤◌, Bool, if◌then◌else◌, length, List, map, None, Option, Result, Some, true, ℕ}
+use Rattle.std.specs.Prelude.{◌&&◌, ◌*◌, ◌+◌, ◌-◌, ◌<◌, ◌==◌, ◌≡◌, ◌≤◌, Bool, if◌then◌else◌, length, List, map, None, Option, Result, Some, true, ℕ}
 use Rattle.std.specs.Set.{distinct_count}
-use Rattle.vm_page.specs.declared.buf.TheConstants.{WORDS}
 use Rattle.vm_map.specs.{declared.call.Call.Call, declared.call.Reply.Reply, declared.call.Said.Said, History.after_all}
-use Rattle.vm_tree_model.specs.{Count.node_count, Tree.IsTree, Tree.map_of}
+use Rattle.vm_tree_model.specs.{Count.node_count, Fixed.fixed, Tree.IsTree, Tree.map_of}
+use Rattle.vm_node.specs.Halves.{half_of}
 use Rattle.vm_image.specs.{Blocks.numbers_for, Blocks.pages_of_blocks, declared.blocks.PlannedFault.PlannedFault, File.IsNextPage}
 use Rattle.vm_core.specs.Prelude.{at, page_at}
 use Rattle.vm_rule.specs.Prelude.{last_of, MemBlock, most_faults, no_block, stored_of}
@@ -14,21 +14,23 @@ use Rattle.vm_evict.specs.Flushes.{IsFlushed}
 use Rattle.vm_pool.specs.Closing.{AreSums, IsStored, view_at_end}
 use Rattle.vm_pool.specs.declared.ended.Ended.{Ended}
 use Rattle.vm_tree_laws.specs.History.{IsLegal, news, saids}
-use Rattle.vm_tree_rule.specs.{declared.fault.TreeFault.TreeFault, declared.Tree.Tree}
+use Rattle.vm_kind.specs.{declared.tree.TreeOf.TreeOf, declared.word_keys.Sizes.Sizes, declared.word_keys.WordKeys.WordKeys}
+use Rattle.vm_tree_rule.specs.declared.fault.TreeFault.{TreeFault}
 use Rattle.vm_drive.specs.{Drives.IsAtLastVersion, Holds.HoldsCalls, Kept.AreKept, Shows.AllShown}
 use Rattle.vm_drive.specs.Causes.{all_faults_of, AllCausedBy, notes_about}
 use Rattle.vm_drive.specs.Parts.{HaveParts, logs_of, noted_by, StandIn}
 
--- the end of a pool with a tree
-abbrev pub TreeEnd : Type 0
-TreeEnd = Ended Tree Said
+-- the end of a pool with a tree of pages of n words
+abbrev pub TreeEnd : ℕ → Type 0
+TreeEnd n = Ended (TreeOf (WordKeys Sizes n)) Said
 
--- an image that was used up: the next word that the end keeps leaves no room for a split, and the puts of new keys account for it, from the
--- next word at the start on
-pub record IsFilled (pages : List (List ℕ)) (end : TreeEnd) (count : ℕ) : Type 0 where
+-- an image of pages of n words that was used up: the next word that the end keeps leaves no room for a split, and the puts of new keys account
+-- for it, from the next word at the start on. With P pages, of which X were used at the start by N nodes, and with G such puts, 13 * P is at most
+-- 28 * N + 2 * G + 13 * (X + 1) where a page has 64 words, and 125 * P at most 252 * N + 2 * G + 125 * (X + 1) where it has 512
+pub record IsFilled (n : ℕ) {U : Type 0} (pages : List (List ℕ)) (end : Ended U Said) (count : ℕ) : Type 0 where
   pub all : count ≡ length pages
   pub high : count ≤ (kept_by (view_at_end end)).next + 1
-  pub cause : 13 * length pages ≤ 28 * node_count pages + 2 * news (view_at_end end).seen + 13 * ((view_at_end end).start.next + 1)
+  pub cause : (half_of n - 1) * length pages ≤ 2 * half_of n * node_count (fixed n) pages + 2 * news (view_at_end end).seen + (half_of n - 1) * ((view_at_end end).start.next + 1)
 
 -- whether two entries of a plan name the same call of the same page's block
 abbrev pub same_entry : PlannedFault → PlannedFault → Bool
@@ -43,24 +45,24 @@ abbrev pub is_first : Option ℕ → ℕ → ℕ
 is_first None p = 0
 is_first (Some q) p = if q == p then 1 else 0
 
--- The calls of the lists were made on the image's tree, over blocks that tell their words and may fail as often as the plan says; which of
--- their calls fail is not said. The history is the one that `end` keeps, which the end of the pool alone makes: it is legal from the image's
--- map on, and holds each worker's calls once, in order, with these replies. Each fault of a device, and the first write of the last flush
--- that failed, has its own note, and there are no more notes of a page than entries for it in the plan. Each other fault has its cause, and
--- each window is a leaf's, the table's page as it stood. Each worker made its calls one after another, and what each was answered comes of the steps
--- and notes of that very call. The report is that of the flush which came behind all calls, and was the last thing that was done; the blocks are
--- those that the end shows. Where no write of the flush failed, each block has its page's last words, and the blocks hold a tree whose map is
--- the history's last one; each page below the first whose write failed is stored, so its block has its last words. No more faults are counted
--- than the plan has different entries.
-pub record IsServed (pages : List (List ℕ)) (plan : List PlannedFault) (lists : List (List Call)) (replies : List (List (Result Reply TreeFault))) (report : Flushed) (blocks : List (MemBlock WORDS)) (end : TreeEnd) : Type 0 where
+-- The calls of the lists were made on the tree of an image of pages of n words, over blocks that tell their words and may fail as often as the plan
+-- says; which of their calls fail is not said. The history is the one that `end` keeps, which the end of the pool alone makes: it is legal from the
+-- image's map on, and holds each worker's calls once, in order, with these replies. Each fault of a device, and the first write of the last flush
+-- that failed, has its own note, and there are no more notes of a page than entries for it in the plan. Each other fault has its cause, and each
+-- window is a leaf's, the table's page as it stood. Each worker made its calls one after another, and what each was answered comes of the steps and
+-- notes of that very call. The report is that of the flush which came behind all calls, and was the last thing that was done; the blocks are those
+-- that the end shows. Where no write of the flush failed, each block has its page's last words, and the blocks hold a tree whose map is the history's
+-- last one; each page below the first whose write failed is stored, so its block has its last words. No more faults are counted than the plan has
+-- different entries.
+pub record IsServed (n : ℕ) {U : Type 0} (pages : List (List ℕ)) (plan : List PlannedFault) (lists : List (List Call)) (replies : List (List (Result Reply TreeFault))) (report : Flushed) (blocks : List (MemBlock n)) (end : Ended U Said) : Type 0 where
   pub count : length blocks ≡ length pages
   pub many : (view_at_end end).start.pages ≡ length pages
   pub closed : map stored_of blocks ≡ (view_at_end end).snapshot.blocks
   pub tells : (view_at_end end).start.tells ≡ true
   pub began : (view_at_end end).start.contents ≡ pages
-  pub next : IsNextPage pages (view_at_end end).start.next
+  pub next : IsNextPage n pages (view_at_end end).start.next
   pub bounds : (p : ℕ) → p < length pages → (at no_block (map stored_of blocks) p).bound ≡ most_faults (numbers_for plan p)
-  pub legal : IsLegal (map_of pages) (view_at_end end).seen
+  pub legal : IsLegal (map_of (fixed n) pages) (view_at_end end).seen
   pub calls : HoldsCalls (view_at_end end).seen lists replies
   pub noted : (p : ℕ) → all_faults_of p replies + is_first report.first p ≤ notes_about p (view_at_end end).notes
   -- what the pass knew once all calls were made: the flush came next, and the notes of the replies that are faults stood already
@@ -69,23 +71,23 @@ pub record IsServed (pages : List (List ℕ)) (plan : List PlannedFault) (lists 
   pub earlier : (p : ℕ) → all_faults_of p replies ≤ notes_about p worked.notes
   pub all_made : worked.seen ≡ (view_at_end end).seen
   pub planned : (p : ℕ) → notes_about p (view_at_end end).notes ≤ most_faults (numbers_for plan p)
-  pub caused : AllCausedBy (IsFilled pages end) (IsAtLastVersion (view_at_end end)) lists replies
-  pub shown : AllShown (view_at_end end) lists replies
+  pub caused : AllCausedBy (IsFilled n pages end) (IsAtLastVersion (view_at_end end)) lists replies
+  pub shown : AllShown n (view_at_end end) lists replies
   -- what each worker's pass knew behind its last call; its steps and notes stand in those of the end, one worker's behind another's
   pub passes : List (View Said)
-  pub parts : HaveParts (view_at_end end) lists replies passes
+  pub parts : HaveParts n (view_at_end end) lists replies passes
   pub logs : StandIn (logs_of passes) (view_at_end end).log
   pub noted_in : StandIn (noted_by passes) (view_at_end end).notes
   pub unflushed : report.failed ≡ 0 → report.first ≡ None
   pub flushed : report.first ≡ None → report.failed ≡ 0
   pub least : (p q : ℕ) → report.first ≡ Some p → q < p → IsStored (view_at_end end) q × (page_at (pages_of_blocks blocks) q ≡ (last_of (view_at_end end) q).words)
   pub whole : report.failed ≡ 0 → (p : ℕ) → p < length pages → page_at (pages_of_blocks blocks) p ≡ (last_of (view_at_end end) p).words
-  pub saved : report.failed ≡ 0 → IsTree (pages_of_blocks blocks) × (map_of (pages_of_blocks blocks) ≡ after_all (map_of pages) (saids (view_at_end end).seen))
+  pub saved : report.failed ≡ 0 → IsTree (fixed n) (pages_of_blocks blocks) × (map_of (fixed n) (pages_of_blocks blocks) ≡ after_all (map_of (fixed n) pages) (saids (view_at_end end).seen))
   pub sums : AreSums (map stored_of blocks) end
   pub few : end.faults ≤ distinct_entries plan
 
 -- the same, where what was kept of the replies stands for them
-pub record IsServedInto {A : Type 0} (keeps : A → List (Result Reply TreeFault) → Type 0) (pages : List (List ℕ)) (plan : List PlannedFault) (lists : List (List Call)) (kept : List A) (report : Flushed) (blocks : List (MemBlock WORDS)) (end : TreeEnd) : Type 0 where
+pub record IsServedInto (n : ℕ) {U A : Type 0} (keeps : A → List (Result Reply TreeFault) → Type 0) (pages : List (List ℕ)) (plan : List PlannedFault) (lists : List (List Call)) (kept : List A) (report : Flushed) (blocks : List (MemBlock n)) (end : Ended U Said) : Type 0 where
   pub told : List (List (Result Reply TreeFault))
   pub stand : AreKept keeps kept told
-  pub served : IsServed pages plan lists told report blocks end
+  pub served : IsServed n pages plan lists told report blocks end

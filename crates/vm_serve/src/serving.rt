@@ -3,7 +3,7 @@
 
 ghost use Rattle.std.specs.List.{AllByRecursion};
 ghost use Rattle.std.specs.Prelude.{[], ◌*◌, ◌≡◌, ◌≤◌, IfOk, length, List, ℕ};
-ghost use Rattle.vm_tree_model.specs.Tree.{IsTree};
+ghost use Rattle.vm_tree_model.specs.{Fixed.fixed, Tree.IsTree};
 ghost use Rattle.vm_image.specs.{Blocks.AreBlocksOf, Blocks.pages_of_blocks, declared.blocks.PlannedFault.PlannedFault, File.IsNextPage};
 ghost use Rattle.vm_core.specs.Prelude.{MAX_VERSION};
 ghost use Rattle.vm_pool.specs.Closing.{view_at_end};
@@ -22,15 +22,15 @@ use vm_drive::gate::Gate;
 use vm_drive::{DrivenInto, drive_into, rooms_for};
 use vm_evict::Flushed;
 use vm_image::{Image, PlannedFault, blocks_of};
+use vm_kind::{OfSize, TreeOf, WordKeys};
 use vm_map::call::Call;
-use vm_page::WORDS;
+use vm_owner::Owner;
 use vm_pool::save::{Saved, flush_and_close};
 use vm_pool::{Closed, Ended, Pool, Shape};
-use vm_tree_rule::Tree;
 
 /// What serving the calls came to.
 #[derive(Drop)]
-pub struct Served {
+pub struct Served<U: Owner, const N: usize> {
     /// For each worker an answer to each of its calls.
     pub replies: Vec<Replies>,
     /// How many pages the workers' sweeps evicted.
@@ -38,14 +38,14 @@ pub struct Served {
     /// What the last flush did.
     pub report: Flushed,
     /// The blocks, in the order of their pages.
-    pub blocks: Vec<MemBlock<WORDS>>,
+    pub blocks: Vec<MemBlock<N>>,
     /// That the pool was closed, with the one history that this run had.
-    pub ended: Ended<Tree>,
+    pub ended: Ended<U>,
 }
 
 /// What serving the calls came to, where the caller chose what keeps the answers.
 #[derive(Drop)]
-pub struct ServedInto<A> {
+pub struct ServedInto<U: Owner, A, const N: usize> {
     /// For each worker what keeps its answers.
     pub kept: Vec<A>,
     /// How many pages the workers' sweeps evicted.
@@ -53,31 +53,31 @@ pub struct ServedInto<A> {
     /// What the last flush did.
     pub report: Flushed,
     /// The blocks, in the order of their pages.
-    pub blocks: Vec<MemBlock<WORDS>>,
+    pub blocks: Vec<MemBlock<N>>,
     /// That the pool was closed, with the one history that this run had.
-    pub ended: Ended<Tree>,
+    pub ended: Ended<U>,
 }
 
 /// Makes the workers' calls on the image's tree, with so many frames, each page beginning at the first version, and with blocks that fail the
 /// calls of the plan. Where there is no memory nothing is told.
-pub fn serve<R: Threads + Wait + Sync, G: Gate + Sync>(
+pub fn serve<S: OfSize<N> + Sync, R: Threads + Wait + Sync, G: Gate + Sync, const N: usize>(
     rt: &R,
     alloc: Global,
-    image: &Image,
+    image: &Image<N>,
     plan: &[PlannedFault],
     first_version: u64,
     frames: u32,
     lists: &[Vec<Call>],
     gate: &G,
-) -> Result<Served, Memory>
-    requires tree { IsTree image.now }
+) -> Result<Served<TreeOf<WordKeys<S, N>>, N>, Memory>
+    requires tree { IsTree (fixed N) image.now }
     requires plan { length plan.now ≤ 64 }
     requires version { first_version ≤ MAX_VERSION }
     requires frames { (64 ≤ frames) × (frames ≤ 65536) × (8 * length lists.now ≤ frames) }
     requires lists { (1 ≤ length lists.now) × (length lists.now ≤ 64) }
     requires few { AreFew (items_of lists.now) }
     requires askable { AreAskable (items_of lists.now) }
-    ensures served { IfOk result (λ s. IsServed image.now plan.now (items_of lists.now) (all_replies s.replies.items) s.report s.blocks.items s.ended) }
+    ensures served { IfOk result (λ s. IsServed N image.now plan.now (items_of lists.now) (all_replies s.replies.items) s.report s.blocks.items s.ended) }
     ensures windows { IfOk result (λ s. AllByRecursion HasWindows s.replies.items) }
     ensures version { IfOk result (λ s. (view_at_end s.ended).start.version ≡ first_version) }
     ensures frames { IfOk result (λ s. (view_at_end s.ended).start.frames ≡ frames) }
@@ -107,24 +107,30 @@ pub fn serve<R: Threads + Wait + Sync, G: Gate + Sync>(
 
 /// The same on blocks that fail in nothing, where each list has something that keeps its answers. The image is let go before the pool starts, so
 /// that its pages do not stand in memory twice.
-pub fn serve_into<R: Threads + Wait + Sync, G: Gate + Sync, A: Answers + Send + Drop>(
+pub fn serve_into<
+    S: OfSize<N> + Sync,
+    R: Threads + Wait + Sync,
+    G: Gate + Sync,
+    A: Answers + Send + Drop,
+    const N: usize,
+>(
     rt: &R,
     alloc: Global,
-    image: Image,
+    image: Image<N>,
     first_version: u64,
     frames: u32,
     lists: &[Vec<Call>],
     gate: &G,
     rooms: Vec<A>,
-) -> Result<ServedInto<A>, Memory>
-    requires tree { IsTree image }
+) -> Result<ServedInto<TreeOf<WordKeys<S, N>>, A, N>, Memory>
+    requires tree { IsTree (fixed N) image }
     requires version { first_version ≤ MAX_VERSION }
     requires frames { (64 ≤ frames) × (frames ≤ 65536) × (8 * length lists.now ≤ frames) }
     requires lists { (1 ≤ length lists.now) × (length lists.now ≤ 64) }
     requires few { AreFew (items_of lists.now) }
     requires askable { AreAskable (items_of lists.now) }
     requires rooms { HaveRoom A.keeps A.room rooms.items (items_of lists.now) }
-    ensures served { IfOk result (λ s. IsServedInto A.keeps image [] (items_of lists.now) s.kept.items s.report s.blocks.items s.ended) }
+    ensures served { IfOk result (λ s. IsServedInto N A.keeps image.entry [] (items_of lists.now) s.kept.items s.report s.blocks.items s.ended) }
     ensures version { IfOk result (λ s. (view_at_end s.ended).start.version ≡ first_version) }
     ensures frames { IfOk result (λ s. (view_at_end s.ended).start.frames ≡ frames) }
 {
@@ -137,9 +143,9 @@ pub fn serve_into<R: Threads + Wait + Sync, G: Gate + Sync, A: Answers + Send + 
 }
 
 // What a pool of the image's pages is started with.
-fn shape_of(image: &Image, first_version: u64, frames: u32) -> Shape
+fn shape_of<const N: usize>(image: &Image<N>, first_version: u64, frames: u32) -> Shape
     ensures pages { (result.pages ≡ length image.now) × (result.pages ≤ 65536) }
-    ensures next { IsNextPage image.now result.next }
+    ensures next { IsNextPage N image.now result.next }
     ensures asked { (result.first_version ≡ first_version) × (result.frames ≡ frames) }
 {
     Shape {
@@ -151,26 +157,32 @@ fn shape_of(image: &Image, first_version: u64, frames: u32) -> Shape
 }
 
 // Makes the calls on a pool of these blocks, flushes it, and closes it.
-fn serve_blocks<R: Threads + Wait + Sync, G: Gate + Sync, A: Answers + Send + Drop>(
+fn serve_blocks<
+    S: OfSize<N> + Sync,
+    R: Threads + Wait + Sync,
+    G: Gate + Sync,
+    A: Answers + Send + Drop,
+    const N: usize,
+>(
     rt: &R,
     alloc: Global,
     shape: Shape,
-    blocks: Vec<MemBlock<WORDS>>,
+    blocks: Vec<MemBlock<N>>,
     lists: &[Vec<Call>],
     gate: &G,
     rooms: Vec<A>,
-) -> Result<ServedInto<A>, Memory>
-    requires tree { IsTree (pages_of_blocks blocks.items) }
+) -> Result<ServedInto<TreeOf<WordKeys<S, N>>, A, N>, Memory>
+    requires tree { IsTree (fixed N) (pages_of_blocks blocks.items) }
     requires pages { (shape.pages ≡ length blocks.items) × (shape.pages ≤ 65536) }
-    requires next { IsNextPage (pages_of_blocks blocks.items) shape.next }
+    requires next { IsNextPage N (pages_of_blocks blocks.items) shape.next }
     requires version { shape.first_version ≤ MAX_VERSION }
     requires frames { (64 ≤ shape.frames) × (shape.frames ≤ 65536) × (8 * length lists.now ≤ shape.frames) }
     requires lists { (1 ≤ length lists.now) × (length lists.now ≤ 64) }
     requires few { AreFew (items_of lists.now) }
     requires askable { AreAskable (items_of lists.now) }
     requires rooms { HaveRoom A.keeps A.room rooms.items (items_of lists.now) }
-    ensures served { IfOk result (λ s. (pages : List (List ℕ)) (plan : List PlannedFault) → length plan ≤ 64 → AreBlocksOf pages plan blocks.items
-        → IsServedInto A.keeps pages plan (items_of lists.now) s.kept.items s.report s.blocks.items s.ended) }
+    ensures served { IfOk result (λ s. (pages : List (List ℕ)) (plan : List PlannedFault) → length plan ≤ 64 → AreBlocksOf pages plan blocks.entry.items
+        → IsServedInto N A.keeps pages plan (items_of lists.now) s.kept.items s.report s.blocks.items s.ended) }
     ensures version { IfOk result (λ s. (view_at_end s.ended).start.version ≡ shape.first_version) }
     ensures frames { IfOk result (λ s. (view_at_end s.ended).start.frames ≡ shape.frames) }
 {

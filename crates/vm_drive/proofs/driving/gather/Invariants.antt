@@ -12,7 +12,7 @@ invariant-workers g l = record {
   len : into_iter_len l.worker-iterator ≡ length (into_iter_items l.worker-iterator);
   same : IsSamePass l.fn.pass l.pass;
   ready : IsReady l.pool.words.table.shared.key g.B.Block.tells l.pool.words.table.shared.table_id l.pass;
-  joined : JoinedSoFar g.B.Block.tells (view l.fn.pass) l.yielded (view l.pass);
+  joined : JoinedSoFar g.row.N g.B.Block.tells (view l.fn.pass) l.yielded (view l.pass);
   told : l.kept.items ≡ answers_of l.yielded;
   count : vec_len l.kept ≡ length l.yielded;
   room : length (into_iter_items l.initial.worker-iterator) ≤ vec_capacity l.kept;

@@ -13,12 +13,12 @@ rooms-preserved g c =
     let shape = c.args.pool.now.words.table.shared.key in
     let t = c.args.pool.now.words.table.shared.table_id in
     let x = c.in-Some.answers in
-    let d : Worker _ = record { pass = c.split_one-own.result; iface = c.new-iface.result; answers = x } in
+    let d : Worker _ _ _ _ = record { pass = c.split_one-own.result; iface = c.new-iface.result; answers = x } in
     let steps : into_iter_items at.answers-iterator ≡ x ∷ into_iter_items c.next.new.self = c.in-Some.ensures.steps.0 in
     let whole : at.yielded ++ x ∷ into_iter_items c.next.new.self ≡ into_iter_items c.into_iter-answers-iterator.result = ap (λ l. at.yielded ++ l) (sym steps) ∙ inv.rest in
     let long : length at.yielded + length (x ∷ into_iter_items c.next.new.self) ≡ length (into_iter_items c.into_iter-answers-iterator.result) = sym (length-append at.yielded (x ∷ into_iter_items c.next.new.self)) ∙ ap length whole in
     let count : vec_len at.workers ≡ length at.yielded = inv.count in
-    let many : length at.workers.items ≡ length at.yielded = sym (length-map at.workers.items (λ (e : Worker _). e.answers)) ∙ ap length inv.hired.answers in
+    let many : length at.workers.items ≡ length at.yielded = sym (length-map at.workers.items (λ (e : Worker _ _ _ _). e.answers)) ∙ ap length inv.hired.answers in
     let all : into_iter_items c.into_iter-answers-iterator.result ≡ c.args.rooms.items = c.into_iter-answers-iterator.ensures.into_iter_gives.0 in
     let yielded-few : length at.yielded ≤ 64 = (let most = c.requires.few in let same = ap length all in omega arith) in
     let ok : is_ok c.push.result ≡ true = c.push.ensures.succeeds (let room = inv.room in omega arith) in
@@ -28,10 +28,10 @@ rooms-preserved g c =
       len = (let was = inv.len in let gone = c.in-Some.ensures.steps.1 in let short = ap length steps in omega arith);
       same = (c.split_one-own.ensures.pass.0 ∙ inv.same.0, c.split_one-own.ensures.pass.1 ∙ inv.same.1);
       ready = c.split_one-own.ensures.ready;
-      hired = subst (λ (l : List (Worker _)). AreHired shape g.B.Block.tells t (at.yielded ++ x ∷ []) (view c.args.pass.now) l (view c.split_one-own.new.pass)) (sym items)
+      hired = subst (λ (l : List (Worker _ _ _ _)). AreHired shape g.B.Block.tells t (at.yielded ++ x ∷ []) (view c.args.pass.now) l (view c.split_one-own.new.pass)) (sym items)
           (hired-more shape g.B.Block.tells t c.requires.pages at.yielded (view c.args.pass.now) at.workers.items (view at.pass) (view c.split_one-own.new.pass) d inv.hired c.split_one-own.ensures.splits c.split_one-own.ensures.new c.new-iface.ensures.2);
       home = (let was = inv.home in let more = length-append at.yielded (x ∷ []) in let most = c.requires.few in let next = c.saturating_add-home.ensures in omega (arith, yielded-few));
-      homes = subst (λ (l : List (Worker _)). AreAtHome 0 c.args.cap l) (sym items) (home-snoc 0 c.args.cap at.workers.items d inv.homes (c.new-iface.ensures.0 ∙ inv.home ∙ sym many ∙ sym (zero-add (length at.workers.items))) c.new-iface.ensures.1);
+      homes = subst (λ (l : List (Worker _ _ _ _)). AreAtHome 0 c.args.cap l) (sym items) (home-snoc 0 c.args.cap at.workers.items d inv.homes (c.new-iface.ensures.0 ∙ inv.home ∙ sym many ∙ sym (zero-add (length at.workers.items))) c.new-iface.ensures.1);
       count = c.push.ensures.len ∙ ap (λ y. if y then vec_len at.workers + 1 else vec_len at.workers) ok ∙ ap (λ n. n + 1) count ∙ sym (length-append at.yielded (x ∷ []));
       room = (let room = inv.room in let more = c.push.ensures.capacity in omega arith);
     }

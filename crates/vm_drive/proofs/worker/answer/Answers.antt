@@ -7,25 +7,25 @@ use Rattle.vm_drive.proofs.Answering.{del-tells, get-tells, put-tells, tree-call
 use Rattle.vm_drive.proofs.worker.answer.Goals as goal
 
 pub returns-in-Get-clause-keeps : goal.returns-in-Get-clause-keeps
-returns-in-Get-clause-keeps g c = (tree-called (Get c.in-Get.key) c.get.result (view c.args.pass.now) (view c.get.new.pass) (get-tells c.in-Get.key c.get.result (view c.args.pass.now) (view c.get.new.pass) c.get.ensures.ok c.get.ensures.kind c.get.ensures.err)).0
+returns-in-Get-clause-keeps g c = (tree-called g.row.N (Get c.in-Get.key) c.get.result (view c.args.pass.now) (view c.get.new.pass) (get-tells g.row.N c.in-Get.key c.get.result (view c.args.pass.now) (view c.get.new.pass) c.get.ensures.ok c.get.ensures.kind c.get.ensures.err)).0
 
 pub returns-in-Get-clause-call : goal.returns-in-Get-clause-call
-returns-in-Get-clause-call g c = subst (λ (call : Call). IsTreeCall call c.get.result (view c.args.pass.now) (view c.get.new.pass)) (sym c.in-Get.is) (get-tells c.in-Get.key c.get.result (view c.args.pass.now) (view c.get.new.pass) c.get.ensures.ok c.get.ensures.kind c.get.ensures.err)
+returns-in-Get-clause-call g c = subst (λ (call : Call). IsTreeCall g.row.N call c.get.result (view c.args.pass.now) (view c.get.new.pass)) (sym c.in-Get.is) (get-tells g.row.N c.in-Get.key c.get.result (view c.args.pass.now) (view c.get.new.pass) c.get.ensures.ok c.get.ensures.kind c.get.ensures.err)
 
 pub returns-in-Put-clause-keeps : goal.returns-in-Put-clause-keeps
-returns-in-Put-clause-keeps g c = (tree-called (Put c.in-Put.key c.in-Put.value) c.put.result (view c.args.pass.now) (view c.put.new.pass) (put-tells c.in-Put.key c.in-Put.value c.put.result (view c.args.pass.now) (view c.put.new.pass) c.put.ensures.ok c.put.ensures.kind c.put.ensures.err)).0
+returns-in-Put-clause-keeps g c = (tree-called g.row.N (Put c.in-Put.key c.in-Put.value) c.put.result (view c.args.pass.now) (view c.put.new.pass) (put-tells g.row.N c.in-Put.key c.in-Put.value c.put.result (view c.args.pass.now) (view c.put.new.pass) c.put.ensures.ok c.put.ensures.kind c.put.ensures.err)).0
 
 pub returns-in-Put-clause-call : goal.returns-in-Put-clause-call
-returns-in-Put-clause-call g c = subst (λ (call : Call). IsTreeCall call c.put.result (view c.args.pass.now) (view c.put.new.pass)) (sym c.in-Put.is) (put-tells c.in-Put.key c.in-Put.value c.put.result (view c.args.pass.now) (view c.put.new.pass) c.put.ensures.ok c.put.ensures.kind c.put.ensures.err)
+returns-in-Put-clause-call g c = subst (λ (call : Call). IsTreeCall g.row.N call c.put.result (view c.args.pass.now) (view c.put.new.pass)) (sym c.in-Put.is) (put-tells g.row.N c.in-Put.key c.in-Put.value c.put.result (view c.args.pass.now) (view c.put.new.pass) c.put.ensures.ok c.put.ensures.kind c.put.ensures.err)
 
 pub returns-in-Del-clause-keeps : goal.returns-in-Del-clause-keeps
-returns-in-Del-clause-keeps g c = (tree-called (Del c.in-Del.key) c.del.result (view c.args.pass.now) (view c.del.new.pass) (del-tells c.in-Del.key c.del.result (view c.args.pass.now) (view c.del.new.pass) c.del.ensures.ok c.del.ensures.kind c.del.ensures.err)).0
+returns-in-Del-clause-keeps g c = (tree-called g.row.N (Del c.in-Del.key) c.del.result (view c.args.pass.now) (view c.del.new.pass) (del-tells g.row.N c.in-Del.key c.del.result (view c.args.pass.now) (view c.del.new.pass) c.del.ensures.ok c.del.ensures.kind c.del.ensures.err)).0
 
 pub returns-in-Del-clause-call : goal.returns-in-Del-clause-call
-returns-in-Del-clause-call g c = subst (λ (call : Call). IsTreeCall call c.del.result (view c.args.pass.now) (view c.del.new.pass)) (sym c.in-Del.is) (del-tells c.in-Del.key c.del.result (view c.args.pass.now) (view c.del.new.pass) c.del.ensures.ok c.del.ensures.kind c.del.ensures.err)
+returns-in-Del-clause-call g c = subst (λ (call : Call). IsTreeCall g.row.N call c.del.result (view c.args.pass.now) (view c.del.new.pass)) (sym c.in-Del.is) (del-tells g.row.N c.in-Del.key c.del.result (view c.args.pass.now) (view c.del.new.pass) c.del.ensures.ok c.del.ensures.kind c.del.ensures.err)
 
 pub returns-in-Window-clause-keeps : goal.returns-in-Window-clause-keeps
-returns-in-Window-clause-keeps g c = (tree-called (Window c.in-Window.start c.in-Window.most) c.window.result (view c.args.pass.now) (view c.window.new.pass) (window-tells c.in-Window.start c.in-Window.most c.window.result (view c.args.pass.now) (view c.window.new.pass) c.window.ensures.ok c.window.ensures.kind c.window.ensures.err)).0
+returns-in-Window-clause-keeps g c = (tree-called g.row.N (Window c.in-Window.start c.in-Window.most) c.window.result (view c.args.pass.now) (view c.window.new.pass) (window-tells g.row.N c.in-Window.start c.in-Window.most c.window.result (view c.args.pass.now) (view c.window.new.pass) c.window.ensures.ok c.window.ensures.kind c.window.ensures.err)).0
 
 pub returns-in-Window-clause-call : goal.returns-in-Window-clause-call
-returns-in-Window-clause-call g c = subst (λ (call : Call). IsTreeCall call c.window.result (view c.args.pass.now) (view c.window.new.pass)) (sym c.in-Window.is) (window-tells c.in-Window.start c.in-Window.most c.window.result (view c.args.pass.now) (view c.window.new.pass) c.window.ensures.ok c.window.ensures.kind c.window.ensures.err)
+returns-in-Window-clause-call g c = subst (λ (call : Call). IsTreeCall g.row.N call c.window.result (view c.args.pass.now) (view c.window.new.pass)) (sym c.in-Window.is) (window-tells g.row.N c.in-Window.start c.in-Window.most c.window.result (view c.args.pass.now) (view c.window.new.pass) c.window.ensures.ok c.window.ensures.kind c.window.ensures.err)

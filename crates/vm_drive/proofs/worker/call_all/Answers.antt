@@ -17,10 +17,10 @@ calls-preserved g c =
       done = record {
         told = inv.done.told ++ c.answer-answer.result ∷ [];
         stands = c.keep.ensures.told inv.done.told inv.done.stands;
-        each = rw (take_more c.args.calls.now c.calls.call-index (Get 0) inside) (calls-snoc _ _ _ _ _ _ _ inv.done.each c.answer-answer.ensures.call);
+        each = rw (take_more c.args.calls.now c.calls.call-index (Get 0) inside) (calls-snoc g.row.N _ _ _ _ _ _ _ inv.done.each c.answer-answer.ensures.call);
       };
       lost = loses-then c.args.worker.now.iface.frames c.calls.worker.iface.frames c.answer-answer.new.iface.frames (view c.args.worker.now.pass) (view c.calls.worker.pass) (view c.answer-answer.new.pass) inv.lost c.answer-answer.ensures.lost;
-      room = room-after (get_or c.args.calls.now c.calls.call-index (Get 0)) (drop (c.calls.call-index + 1) c.args.calls.now) c.answer-answer.result _ _ _ _
+      room = room-after g.row.N (get_or c.args.calls.now c.calls.call-index (Get 0)) (drop (c.calls.call-index + 1) c.args.calls.now) c.answer-answer.result _ _ _ _
           (subst (λ (l : List Call). IsRoomFor l (g.A.Answers.room c.calls.worker.answers)) (drop_more c.args.calls.now c.calls.call-index (Get 0) inside) inv.room) c.answer-answer.ensures.call c.keep.ensures.answers c.keep.ensures.windows;
     }
 
@@ -34,10 +34,10 @@ calls-init g c = record {
 
 pub keep-requires-clause-answers : goal.keep-requires-clause-answers
 keep-requires-clause-answers g c =
-    (room-now (get_or c.args.calls.now c.calls.call-index (Get 0)) (drop (c.calls.call-index + 1) c.args.calls.now) c.answer-answer.result _ _ _
+    (room-now g.row.N (get_or c.args.calls.now c.calls.call-index (Get 0)) (drop (c.calls.call-index + 1) c.args.calls.now) c.answer-answer.result _ _ _
     (subst (λ (l : List Call). IsRoomFor l (g.A.Answers.room c.calls.worker.answers)) (drop_more c.args.calls.now c.calls.call-index (Get 0) c.calls-test.true) c.calls.invariant.room) c.answer-answer.ensures.call).0
 
 pub keep-requires-clause-windows : goal.keep-requires-clause-windows
 keep-requires-clause-windows g c =
-    (room-now (get_or c.args.calls.now c.calls.call-index (Get 0)) (drop (c.calls.call-index + 1) c.args.calls.now) c.answer-answer.result _ _ _
+    (room-now g.row.N (get_or c.args.calls.now c.calls.call-index (Get 0)) (drop (c.calls.call-index + 1) c.args.calls.now) c.answer-answer.result _ _ _
     (subst (λ (l : List Call). IsRoomFor l (g.A.Answers.room c.calls.worker.answers)) (drop_more c.args.calls.now c.calls.call-index (Get 0) c.calls-test.true) c.calls.invariant.room) c.answer-answer.ensures.call).1

@@ -7,7 +7,7 @@ use Rattle.vm_drive.proofs.worker.call_all.Given as goal
 abbrev pub invariant-calls : goal.invariant-calls
 invariant-calls g l = record {
   work : IsAtWork l.pool.words.table.shared.key g.B.Block.tells l.pool.words.table.shared.table_id l.worker;
-  done : HasCalled g.A.Answers.keeps (take l.call-index l.calls) l.worker.answers (view l.fn.worker.pass) (view l.worker.pass);
+  done : HasCalled g.row.N g.A.Answers.keeps (take l.call-index l.calls) l.worker.answers (view l.fn.worker.pass) (view l.worker.pass);
   lost : LosesNone l.fn.worker.iface.frames (view l.fn.worker.pass) l.worker.iface.frames (view l.worker.pass);
   room : IsRoomFor (drop l.call-index l.calls) (g.A.Answers.room l.worker.answers);
 }

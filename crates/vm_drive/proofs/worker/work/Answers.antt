@@ -7,7 +7,7 @@ use Rattle.vm_drive.proofs.worker.work.Goals as goal
 pub returns-clause-holds : goal.returns-clause-holds
 returns-clause-holds g c =
     let had = c.call_all.ensures.done in
-    let called = calls-done _ had.told (view c.args.worker.now.pass) (view c.call_all.new.worker.pass) had.each in
+    let called = calls-done g.row.N _ had.told (view c.args.worker.now.pass) (view c.call_all.new.worker.pass) had.each in
     holds-none-on (view c.call_all.new.worker.pass) (view c.give_all.new.pass) (moves-keep c.give_all.ensures.given.done _ _ c.give_all.ensures.given.moves)
     (holds-none-on (view c.args.worker.now.pass) (view c.call_all.new.worker.pass) called.keeps c.requires.holds)
 

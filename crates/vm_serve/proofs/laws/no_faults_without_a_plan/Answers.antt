@@ -2,7 +2,7 @@ use Rattle.vm_serve.proofs.laws.no_faults_without_a_plan.Goals as goal
 use Rattle.vm_serve.proofs.Unplanned.{all_flushed, no_faults}
 
 pub returns-clause-faults : goal.returns-clause-faults
-returns-clause-faults c = no_faults
+returns-clause-faults c n = no_faults n
 
 pub returns-clause-flush : goal.returns-clause-flush
-returns-clause-flush c pages lists replies report blocks end is = is.flushed (all_flushed pages lists replies report blocks end is)
+returns-clause-flush c n pages lists replies report blocks end is = is.flushed (all_flushed n pages lists replies report blocks end is)

@@ -1,4 +1,5 @@
-use Rattle.std.proofs.Common.{◌<◌, ◌∙◌, ◌≡◌, ap, arith, length, List, refl, rules, subst, sym, ℕ}
+use Rattle.std.proofs.Common.{◌*◌, ◌<◌, ◌∙◌, ◌≡◌, ◌≤◌, ap, arith, length, List, refl, rules, subst, sym, ℕ}
+use Rattle.std.proofs.lemmas.Bool.{eq-eqb}
 use Rattle.vm_map.specs.declared.call.Said.{Said}
 use Rattle.vm_image.specs.File.{IsNextPage}
 use Rattle.vm_rule.specs.Prelude.{stored_of, words_of}
@@ -11,22 +12,22 @@ use Rattle.vm_serve.proofs.serving.serve_blocks.Goals as goal
 
 pub start-requires : goal.start-requires
 start-requires g c =
-    (search rules, (refl, (refl, (c.requires.pages.0, (search (rules, c.requires, length-mapped words_of c.args.blocks.items), λ told. begins-held _ _ c.requires.tree c.requires.next)))))
+    (search rules, (g.S.OfSize.is_size, (eq-eqb g.row.N g.row.N refl, (c.requires.pages.0, (search (rules, c.requires, length-mapped words_of c.args.blocks.items), λ told. begins-held g.row.N g.S.OfSize.is_size _ _ c.requires.tree c.requires.next)))))
 
-pub drive_into-requires-clause-whole : goal.drive_into-requires-clause-whole
-drive_into-requires-clause-whole g c κs within = (first-alone _ _ _ _ _ _ _ c.in_ok-pool.ensures.view).0
-
-pub drive_into-requires-clause-fresh : goal.drive_into-requires-clause-fresh
-drive_into-requires-clause-fresh g c κs within = let few = c.requires.lists.1 in fresh-enough _ _ _ _ _ _ _ _ c.in_ok-pool.ensures.view (omega (arith, few))
-
-pub drive_into-requires-clause-pages : goal.drive_into-requires-clause-pages
-drive_into-requires-clause-pages g c κs within =
+pub drive_into-requires-after_bounds : goal.drive_into-requires-after_bounds
+drive_into-requires-after_bounds g c κs within =
+    let made = c.in_ok-pool.ensures in
+    let few = c.requires.lists.1 in
+    let whole = (first-alone _ _ _ _ _ _ _ made.view).0 in
+    let fresh : length c.args.lists.now ≤ length (view c.in_ok-pool.pass).fresh = fresh-enough _ _ _ _ _ _ _ _ made.view (omega (arith, few)) in
+    let frames : 8 * length c.args.lists.now ≤ c.in_ok-pool.pool.words.frames = omega (arith, c.in_ok-pool.pool.words.shape.1, ap (λ (s : Shape). s.frames) made.key, c.requires.frames.2) in
     let before = c.args.blocks.items in
-    let key : c.in_ok-pool.pool.words.table.shared.key.pages ≡ length before = ap (λ (s : Shape). s.pages) c.in_ok-pool.ensures.key ∙ length-mapped stored_of before in
+    let key : c.in_ok-pool.pool.words.table.shared.key.pages ≡ length before = ap (λ (s : Shape). s.pages) made.key ∙ length-mapped stored_of before in
     let long = length-mapped words_of before in
     let low = c.requires.tree.meta.root_low in
     let high = c.requires.tree.meta.root_high in
-    omega (arith, key, long, low, high)
+    let pages : 1 ≤ c.in_ok-pool.pool.words.table.shared.key.pages = omega (arith, key, long, low, high) in
+    (omega arith, (omega arith, (search rules, (whole, (search rules, (fresh, (c.requires.lists, (c.requires.few, (c.requires.askable, (frames, (pages, c.requires.rooms)))))))))))
 
 pub returns-in-Ok-clause-served : goal.returns-in-Ok-clause-served
 returns-in-Ok-clause-served g c = λ pages plan few held.
@@ -34,11 +35,11 @@ returns-in-Ok-clause-served g c = λ pages plan few held.
     let key : c.in_ok-pool.pool.words.table.shared.key.pages ≡ length before = ap (λ (s : Shape). s.pages) c.in_ok-pool.ensures.key ∙ length-mapped stored_of before in
     let count : length before ≡ length pages = sym (length-mapped words_of before) ∙ ap (λ (l : List (List ℕ)). length l) held.held in
     let into = c.in_ok-driven.ensures.driven in
-    let next : IsNextPage pages c.args.shape.next = subst (λ (l : List (List ℕ)). IsNextPage l c.args.shape.next) held.held c.requires.next in
+    let next : IsNextPage g.row.N pages c.args.shape.next = subst (λ (l : List (List ℕ)). IsNextPage g.row.N l c.args.shape.next) held.held c.requires.next in
     record {
       told = into.told;
       stand = into.stand;
-      served = served pages plan _ c.args.shape.next _ before c.in-Ok.saved.closed.blocks.items (items_of c.args.lists.now) into.told c.in-Ok.saved.report c.in-Ok.saved.closed.ended (view c.in_ok-pool.pass) (view c.drive_into.new.pass)
+      served = served g.row.N g.S.OfSize.is_size pages plan _ c.args.shape.next _ before c.in-Ok.saved.closed.blocks.items (items_of c.args.lists.now) into.told c.in-Ok.saved.report c.in-Ok.saved.closed.ended (view c.in_ok-pool.pass) (view c.drive_into.new.pass)
           held count c.in_ok-pool.ensures.view next into.driven c.in-Ok.ensures.flushed c.in-Ok.saved.closed.next c.in-Ok.ensures.closed
           few c.in-Ok.ensures.sums (λ none p l. c.in-Ok.ensures.words refl none p (subst (λ n. p < n) (sym (key ∙ count)) l));
     }
