@@ -3,26 +3,28 @@ use Rattle.std.proofs.Common.{◌≡◌, ◌≢◌, ◌∙◌, ℕ, ◌≤◌, �
 use Rattle.std.proofs.lemmas.Bool.{and_parts, leb-true}
 use Rattle.vm_io.specs.Shown.{Shown}
 use Rattle.vm_image.specs.declared.blocks.PlannedFault.{PlannedFault}
-use Rattle.vm_map.specs.declared.call.Call.{Call}
-use Rattle.vm_serve.specs.Served.{IsServed, TreeEnd}
+use Rattle.vm_map.specs.{declared.call.Call.Call, declared.call.Said.Said}
+use Rattle.vm_pool.specs.declared.ended.Ended.{Ended}
+use Rattle.vm_serve.specs.Served.{IsServed}
 use Rattle.vm_serve.proofs.Unplanned.{all_flushed}
 use Rattle.vm_replay.specs.Told.{PlayedFile}
 use Rattle.vm_replay.proofs.OnePlay.{one_played}
 use Rattle.vm_words.specs.declared.Command.{Command}
-use Rattle.vm_words.specs.declared.Command.TheVariants.{Run, Make, Check, Churn, Replay}
+use Rattle.vm_words.specs.declared.Command.TheVariants.{Run, Make, Check, Churn, Replay, Migrate}
 use Rattle.vm_words.specs.declared.Replay.{Replay as ReplayLine}
 use Rattle.vm_words.specs.declared.Run.{Run as RunLine}
 use Rattle.vm_words.specs.declared.form.Verb.{Verb}
 use Rattle.vm_words.specs.Commands.{line_of, number_or, plan_or}
 use Rattle.vm_words.specs.Values.{Meaning, named, counted, planned, absent}
 use Rattle.vm_endings.specs.declared.ends.Ends.{Ends}
+use Rattle.vm_endings.specs.declared.ends.Ends.TheVariants.{LargeTree, Nothing, Tree}
 use Rattle.vm_cli.specs.Agreement.{as_done}
 use Rattle.vm_endings.specs.Commands.{Cut, IsSmooth, order_of}
 use Rattle.vm_endings.specs.Deliveries.{Content}
 use Rattle.vm_endings.specs.Endings.{Performs, cut, told}
 use Rattle.vm_endings.specs.Files.{HasFile}
-use Rattle.vm_endings.specs.Limits.{are_workers}
-use Rattle.vm_endings.specs.Runs.{CutRun, IsUnflushedRun, version_or}
+use Rattle.vm_endings.specs.Limits.{are_workers, words_or}
+use Rattle.vm_endings.specs.Runs.{CutRun, IsUnflushedRun, OfFiles, version_or}
 use Rattle.vm_endings.specs.Tests.{events}
 use Rattle.vm_cli.proofs.OneStop.{AreBounded, both_of}
 
@@ -40,6 +42,13 @@ number_in (counted n) = n
 number_in (planned plan) = 0
 number_in absent = 0
 
+-- how many words a page has, where 64 need not be said
+abbrev words_in : Meaning → ℕ
+words_in (named text) = 0
+words_in (counted n) = n
+words_in (planned plan) = 0
+words_in absent = 64
+
 plan_back : (plan : List PlannedFault) → plan_in (plan_or plan) ≡ plan
 plan_back [] = refl
 plan_back (fault ∷ plan) = refl
@@ -48,12 +57,20 @@ number_back : (n : Option ℕ) → number_in (number_or n) ≡ version_or n
 number_back None = refl
 number_back (Some n) = refl
 
+words_back : (n : Option ℕ) → words_in (number_or n) ≡ words_or n
+words_back None = refl
+words_back (Some n) = refl
+
 -- runs of one line have one plan, and begin at one version
 same_plan : (run other : RunLine) → line_of (Run run) ≡ line_of (Run other) → run.options.fail.items ≡ other.options.fail.items
 same_plan run other e = sym (plan_back run.options.fail.items) ∙ ap (λ (l : Verb × List Meaning). plan_in (get_or l.1 5 absent)) e ∙ plan_back other.options.fail.items
 
 same_version : (run other : RunLine) → line_of (Run run) ≡ line_of (Run other) → version_or run.options.first_version ≡ version_or other.options.first_version
 same_version run other e = sym (number_back run.options.first_version) ∙ ap (λ (l : Verb × List Meaning). number_in (get_or l.1 6 absent)) e ∙ number_back other.options.first_version
+
+-- makes and churns of one line have pages of one size
+same_words : (words other : Option ℕ) → number_or words ≡ number_or other → words_or words ≡ words_or other
+same_words words other e = sym (words_back words) ∙ ap words_in e ∙ words_back other
 
 -- replays of one line are of one file
 same_file : (replay other : ReplayLine) → line_of (Replay replay) ≡ line_of (Replay other) → replay.file.now ≡ other.file.now
@@ -77,15 +94,22 @@ same_order (Make make) (Make other) e =
     let says = ap (λ (l : Verb × List Meaning). l.1) e in
     let pages : make.pages ≡ other.pages = cc in
     let pairs : make.pairs ≡ other.pairs = cc in
-    cc (pages, pairs)
+    let words : words_or make.words ≡ words_or other.words = same_words make.words other.words (ap (λ (l : List Meaning). get_or l 4 absent) says) in
+    cc (pages, pairs, words)
 same_order (Churn churn) (Churn other) e =
     let says = ap (λ (l : Verb × List Meaning). l.1) e in
     let pairs : churn.pairs ≡ other.pairs = cc in
     let workers : churn.workers ≡ other.workers = cc in
     let frames : churn.frames ≡ other.frames = cc in
-    cc (pairs, workers, frames)
+    let words : words_or churn.words ≡ words_or other.words = same_words churn.words other.words (ap (λ (l : List Meaning). get_or l 4 absent) says) in
+    cc (pairs, workers, frames, words)
 same_order (Check check) (Check other) e = let says = ap (λ (l : Verb × List Meaning). l.1) e in cc
 same_order (Replay replay) (Replay other) e = ap (λ (name : List ℕ). events name ∷ []) (same_file replay other e)
+same_order (Migrate migrate) (Migrate other) e =
+    let says = ap (λ (l : Verb × List Meaning). l.1) e in
+    let input : migrate.input.now ≡ other.input.now = cc in
+    let pages : migrate.pages ≡ other.pages = cc in
+    cc (input, pages)
 same_order c d e = absurd (two_lines c d (λ v. absurd cc) e)
 
 few_workers : (workers : ℕ) → are_workers workers ≡ true → workers < 2 ^ 32
@@ -94,10 +118,11 @@ few_workers workers h =
 
 pub bounded : (shown : Option Shown) (c : Command) → AreBounded shown (order_of c)
 bounded shown (Run run) = (tt, λ few. (tt, λ _. (tt, λ _. (tt, λ _. (tt, λ _. (tt, λ _. (few_workers run.workers few, λ _. tt)))))))
-bounded shown (Make make) = (tt, λ _. (tt, λ _. (tt, λ _. tt)))
+bounded shown (Make make) = (tt, λ _. (tt, λ _. (tt, λ _. (tt, λ _. tt))))
 bounded shown (Check check) = (tt, λ _. tt)
-bounded shown (Churn churn) = (tt, λ _. (tt, λ _. (tt, λ _. tt)))
+bounded shown (Churn churn) = (tt, λ _. (tt, λ _. (tt, λ _. (tt, λ _. tt))))
 bounded shown (Replay replay) = (tt, λ _. tt)
+bounded shown (Migrate migrate) = (tt, λ _. (tt, λ _. (tt, λ _. tt)))
 
 -- ---- what is done
 
@@ -109,16 +134,21 @@ played_apart shown name last text other e p q =
     true≢false (one_played b.0 text other true false b.1 b.2).1
 
 -- where no failure is planned the write of no page failed
-all_written : (run : RunLine) (end : TreeEnd) (content : Content) (pages : List (List ℕ)) (lists : List (List Call)) → run.options.fail.items ≡ [] → IsUnflushedRun run end content pages lists → ⊥
-all_written run end content pages lists none is =
+all_written : (n : ℕ) {U : Type 0} (run : RunLine) (end : Ended U Said) (content : Content) (pages : List (List ℕ)) (lists : List (List Call)) → run.options.fail.items ≡ [] → IsUnflushedRun n run end content pages lists → ⊥
+all_written n run end content pages lists none is =
     let made = is.made in
-    let served = subst (λ (plan : List PlannedFault). IsServed pages plan lists made.replies made.report made.blocks end) none made.served in
-    let first = all_flushed pages lists made.replies made.report made.blocks end served in
+    let served = subst (λ (plan : List PlannedFault). IsServed n pages plan lists made.replies made.report made.blocks end) none made.served in
+    let first = all_flushed n pages lists made.replies made.report made.blocks end served in
     let least = is.least in
     absurd cc
 
+no_cut_files : (n : ℕ) {U : Type 0} (shown : Shown) (run : RunLine) (end : Ended U Said) (content : Content) → run.options.fail.items ≡ [] → OfFiles n (Some shown) run (IsUnflushedRun n run end content) → ⊥
+no_cut_files n shown run end content none is = all_written n run end content _ is.2.2.2.0 none is.2.2.2.2
+
 no_cut_run : (shown : Shown) (run : RunLine) (content : Content) (after : Ends) → run.options.fail.items ≡ [] → CutRun run (Some shown) content after → ⊥
-no_cut_run shown run content after none is = all_written run is.0 content _ is.2.2.1.2.0 none is.2.2.1.2.2
+no_cut_run shown run content Nothing none is = is
+no_cut_run shown run content (Tree end) none is = no_cut_files 64 shown run end content none is
+no_cut_run shown run content (LargeTree end) none is = no_cut_files 512 shown run end content none is
 
 -- what makes a command end otherwise is not there
 pub no_cut : (shown : Shown) (c d : Command) (content : Content) (before after : Ends) → line_of c ≡ line_of d → IsSmooth d (Some shown) → Cut c (Some shown) content before after → ⊥
@@ -126,6 +156,7 @@ no_cut shown (Run run) (Run other) content before after e smooth is = no_cut_run
 no_cut shown (Make make) (Make other) content before after e smooth is = is
 no_cut shown (Check check) (Check other) content before after e smooth is = is
 no_cut shown (Churn churn) (Churn other) content before after e smooth is = is
+no_cut shown (Migrate migrate) (Migrate other) content before after e smooth is = is
 no_cut shown (Replay replay) (Replay other) content before after e smooth is =
     played_apart shown other.file.now replay.file.now smooth.2.0 content.text (sym (same_file replay other e)) (smooth.0, smooth.1, smooth.2.1) is.0.0.0
 no_cut shown c d content before after e smooth is = absurd (two_lines c d (λ v. absurd cc) e)
@@ -136,6 +167,7 @@ cut_not_done shown (Run run) content before after is = λ e. omega (arith, e, is
 cut_not_done shown (Make make) content before after is = absurd is
 cut_not_done shown (Check check) content before after is = absurd is
 cut_not_done shown (Churn churn) content before after is = absurd is
+cut_not_done shown (Migrate migrate) content before after is = absurd is
 cut_not_done shown (Replay replay) content before after is = λ e. omega (arith, e, is.1)
 
 run_ends : (shown : Option Shown) (run : RunLine) (content : Content) (before after : Ends) → Performs (Run run) shown content before after → as_done content.status ≡ 0
@@ -163,5 +195,6 @@ one_ending shown (Run run) (Run other) content more before after start end e p q
 one_ending shown (Make make) (Make other) content more before after start end e p q = both_told shown (Make make) (Make other) content more before after start end (λ t. t) (λ t. t) p q
 one_ending shown (Check check) (Check other) content more before after start end e p q = both_told shown (Check check) (Check other) content more before after start end (λ t. t) (λ t. t) p q
 one_ending shown (Churn churn) (Churn other) content more before after start end e p q = both_told shown (Churn churn) (Churn other) content more before after start end (λ t. t) (λ t. t) p q
+one_ending shown (Migrate migrate) (Migrate other) content more before after start end e p q = both_told shown (Migrate migrate) (Migrate other) content more before after start end (λ t. t) (λ t. t) p q
 one_ending shown (Replay replay) (Replay other) content more before after start end e p q = ap as_done (replays_end shown replay other content more before after start end (same_file replay other e) p q)
 one_ending shown c d content more before after start end e p q = absurd (two_lines c d (λ v. absurd cc) e)

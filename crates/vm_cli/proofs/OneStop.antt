@@ -8,7 +8,7 @@ use Rattle.vm_endings.specs.declared.stop.Stop.{Stop}
 use Rattle.vm_endings.specs.declared.stop.Stop.TheVariants.{Shape, Unread, Length, Page, TooFew, Long, Line}
 use Rattle.vm_endings.specs.Files.{HasFile}
 use Rattle.vm_endings.specs.Stops.{status_of}
-use Rattle.vm_endings.specs.Tests.{AllPass, Fails, Passes, StopsAt, Test, depth, events, here, image, past, room, script, within}
+use Rattle.vm_endings.specs.Tests.{AllPass, Fails, Passes, StopsAt, Test, depth, events, here, image, past, room, script, space, within}
 
 -- what holds of a file's bytes, and what else does, hold of the same bytes
 pub both_of : (shown : Shown) (name : List ℕ) (P Q : List ℕ → Type 0) → HasFile (Some shown) name P → HasFile (Some shown) name Q → (bytes : List ℕ) × P bytes × Q bytes
@@ -19,7 +19,8 @@ both_of shown name P Q p q =
 -- the workers of a script are numbers of 32 bits
 abbrev pub IsBounded : Test → Type 0
 IsBounded (within quantity holds) = Unit {0}
-IsBounded (room pages pairs) = Unit {0}
+IsBounded (room words pages pairs) = Unit {0}
+IsBounded (space pages name) = Unit {0}
 IsBounded (image name) = Unit {0}
 IsBounded (depth frames name) = Unit {0}
 IsBounded (script name workers) = workers < 2 ^ 32
@@ -55,8 +56,10 @@ read_events shown failed name _ p f = absurd f
 unread_only : (shown : Shown) (failed : List ℕ) (test : Test) (stop : Stop) → IsBounded test → Passes (Some shown) test → Fails (Some shown) failed test stop → status_of stop ≡ 2
 unread_only shown failed (within quantity holds) (Shape other) few p f = absurd (true≢false (sym p ∙ f.0))
 unread_only shown failed (within quantity holds) _ few p f = absurd f
-unread_only shown failed (room pages pairs) (TooFew told wanted) few p f = absurd (omega (arith, p, f.0))
-unread_only shown failed (room pages pairs) _ few p f = absurd f
+unread_only shown failed (room words pages pairs) (TooFew told wanted) few p f = absurd (omega (arith, p, f.0))
+unread_only shown failed (room words pages pairs) _ few p f = absurd f
+unread_only shown failed (space pages name) (TooFew told wanted) few p f = let b = both_of shown name _ _ p f.1 in absurd (omega (arith, b.1, b.2.0))
+unread_only shown failed (space pages name) _ few p f = absurd f
 unread_only shown failed (image name) stop few p f = read_image shown failed name stop p f
 unread_only shown failed (depth frames name) (Shape other) few p f = let b = both_of shown name _ _ p f.1 in absurd (true≢false (sym b.1 ∙ b.2))
 unread_only shown failed (depth frames name) _ few p f = absurd f
@@ -73,7 +76,8 @@ stop_unread shown failed (test ∷ tests) stop few all (past passes more) = stop
 
 abbrev status_in : Test → ℕ
 status_in (within quantity holds) = 5
-status_in (room pages pairs) = 4
+status_in (room words pages pairs) = 4
+status_in (space pages name) = 4
 status_in (image name) = 4
 status_in (depth frames name) = 5
 status_in (script name workers) = 5
@@ -82,8 +86,10 @@ status_in (events name) = 5
 one_status : (shown : Option Shown) (failed : List ℕ) (test : Test) (stop : Stop) → Fails shown failed test stop → status_of stop ≢ 2 → status_of stop ≡ status_in test
 one_status shown failed (within quantity holds) (Shape other) f read = refl
 one_status shown failed (within quantity holds) _ f read = absurd f
-one_status shown failed (room pages pairs) (TooFew told wanted) f read = refl
-one_status shown failed (room pages pairs) _ f read = absurd f
+one_status shown failed (room words pages pairs) (TooFew told wanted) f read = refl
+one_status shown failed (room words pages pairs) _ f read = absurd f
+one_status shown failed (space pages name) (TooFew told wanted) f read = refl
+one_status shown failed (space pages name) _ f read = absurd f
 one_status shown failed (image name) (Unread unread) f read = absurd (read refl)
 one_status shown failed (image name) (Length told) f read = refl
 one_status shown failed (image name) (Page page why) f read = refl

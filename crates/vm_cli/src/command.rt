@@ -14,6 +14,7 @@ use vm_endings::stop::Stop;
 use vm_endings::undone::Undone;
 use vm_files::check::run_check;
 use vm_files::make::run_make;
+use vm_files::migrate::run_migrate;
 use vm_files::replay::run_replay;
 use vm_io::host::Host;
 use vm_runs::churn::run_churn;
@@ -41,5 +42,6 @@ pub fn give<'a, R: Threads + Wait + Sync, H: Host, G: Gate + Sync>(
         Command::Check(check) => run_check(alloc, host, check),
         Command::Churn(churn) => run_churn(rt, alloc, churn, gate, ends),
         Command::Replay(replay) => run_replay(alloc, host, replay),
+        Command::Migrate(migrate) => run_migrate(alloc, host, migrate),
     }
 }

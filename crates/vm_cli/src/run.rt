@@ -16,17 +16,17 @@ use vm_endings::undone::Undone;
 use vm_io::host::Host;
 use vm_words::{Command, WordsFault, command_of};
 
-const USAGE: &[u8] = b"usage: vmcache run, make, check, churn, replay\n";
+const USAGE: &[u8] = b"usage: vmcache run, make, check, churn, replay, migrate\n";
 
 /// Performs the command of the words after the program's name, and gives the exit status.
 ///
 /// | status | comes |
 /// |---|---|
-/// | 0 | `run`: the calls were made, every page was flushed, and the kept file was written; the replies, the rows and the counters were said. `make`: the file was written, and its size said. `check`: the rows and the size were said. `churn`: the calls were made, every page was flushed, and the counts said. `replay`: what each event saw was said |
+/// | 0 | `run`: the calls were made, every page was flushed, and the kept file was written; the replies, the rows and the counters were said. `make`, `migrate`: the file was written, and its size said. `check`: the rows and the size were said. `churn`: the calls were made, every page was flushed, and the counts said. `replay`: what each event saw was said |
 /// | 1 | exactly where the words are no command; the usage line was said |
 /// | 2 | only where a `take` of the host failed; the line names the file |
-/// | 3 | only where a `replace` or `say` failed, or a `say` took nothing of a piece; the file that is made or kept is as it was and nothing was said, or it has all its bytes and a front of the text was said |
-/// | 4 | exactly where the image is refused, or `make` has too few pages |
+/// | 3 | only where a `replace` or `say` failed, or a `say` took nothing of a piece; the file that is made, migrated to or kept is as it was and nothing was said, or it has all its bytes and a front of the text was said |
+/// | 4 | exactly where the image is refused, or `make` or `migrate` has too few pages |
 /// | 5 | exactly where a number, the script or the event list is refused, the frames of a run are fewer than the tree's height and 8, or an event is illegal |
 /// | 6 | want of memory; nothing was written or said |
 /// | 7 | `run`: a write of the last flush failed; the replies, the least such page and the counters were said |

@@ -1,38 +1,52 @@
--- Page files: which bytes are one whose pages are a tree, and why others are refused.
+-- Page files of either version: which bytes are one whose pages are a tree, and why others are refused. How many words their pages have is told by their first bytes.
 use Rattle.std.specs.Prelude.{◌≡◌, length, List, min, slice_index, Some, ℕ}
 use Rattle.vm_map.specs.Map.{Pairs}
-use Rattle.vm_tree_model.specs.{Reason.reason, Reason.used_pages, Tree.IsTree, Tree.map_of}
-use Rattle.vm_image.specs.File.{IsPageFile, pages_of_bytes}
-use Rattle.vm_core.specs.Prelude.{page_at}
+use Rattle.vm_tree_model.specs.{Fixed.fixed, Layout.Layout, Reason.reason, Reason.used_pages, Tree.IsTree, Tree.map_of}
+use Rattle.vm_image.specs.File.{IsPageFile, pages_of_bytes, words_of_file}
+use Rattle.vm_page.specs.Pages.{page_at}
 
 -- the greatest number of bytes of a page file
 abbrev pub most_image : ℕ
 most_image = 33554432
 
+-- the pages of a file
+abbrev pub pages_of_file : List ℕ → List (List ℕ)
+pages_of_file bytes = pages_of_bytes (words_of_file bytes) bytes
+
+-- how their words mean nodes
+abbrev pub layout_of_file : List ℕ → Layout
+layout_of_file bytes = fixed (words_of_file bytes)
+
 -- the bytes are a page file whose pages are a tree
 pub record IsTreeFile (bytes : List ℕ) : Type 0 where
-  pub file : IsPageFile bytes
-  pub tree : IsTree (pages_of_bytes bytes)
+  pub file : IsPageFile (words_of_file bytes) bytes
+  pub tree : IsTree (layout_of_file bytes) (pages_of_file bytes)
+
+-- the bytes are a page file of these pages of n words, which are a tree
+pub record IsFileOf (n : ℕ) (pages : List (List ℕ)) (bytes : List ℕ) : Type 0 where
+  pub words : words_of_file bytes ≡ n
+  pub good : IsTreeFile bytes
+  pub held : pages_of_file bytes ≡ pages
 
 -- the bytes are a page file whose pages are no tree, and this is the first reason
 pub record HoldsNoTree (bytes : List ℕ) (page why : ℕ) : Type 0 where
-  pub file : IsPageFile bytes
-  pub reason : reason (pages_of_bytes bytes) ≡ Some (page, why)
-  pub none : ¬ (IsTree (pages_of_bytes bytes))
+  pub file : IsPageFile (words_of_file bytes) bytes
+  pub reason : reason (layout_of_file bytes) (pages_of_file bytes) ≡ Some (page, why)
+  pub none : ¬ (IsTree (layout_of_file bytes) (pages_of_file bytes))
 
 -- the bytes are no page file; of their number at most one more than a page file's most is told
 pub record IsWrongLength (bytes : List ℕ) (told : ℕ) : Type 0 where
-  pub none : ¬ (IsPageFile bytes)
+  pub none : ¬ (IsPageFile (words_of_file bytes) bytes)
   pub len : told ≡ min (length bytes) 33554433
 
 -- the map that a page file holds
 abbrev pub file_map : List ℕ → Pairs
-file_map bytes = map_of (pages_of_bytes bytes)
+file_map bytes = map_of (layout_of_file bytes) (pages_of_file bytes)
 
 -- the level of its root
 abbrev pub file_height : List ℕ → ℕ
-file_height bytes = slice_index (page_at (pages_of_bytes bytes) 0) 2
+file_height bytes = slice_index (page_at (pages_of_file bytes) 0) 2
 
 -- how many of its pages are not all zero
 abbrev pub file_used : List ℕ → ℕ
-file_used bytes = used_pages (pages_of_bytes bytes)
+file_used bytes = used_pages (pages_of_file bytes)

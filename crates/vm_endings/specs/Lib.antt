@@ -6,9 +6,11 @@ pub mod Stops
 pub mod Tests
 pub mod Deliveries
 pub mod Replies
+pub mod Ends
 pub mod Made
 pub mod Runs
 pub mod Makes
+pub mod Migrates
 pub mod Checks
 pub mod Churns
 pub mod Replays

@@ -1,5 +1,5 @@
 -- The limits of the numbers of a command line.
-use Rattle.std.specs.Prelude.{◌&&◌, ◌*◌, ◌+◌, Bool, leb, length, List, ℕ}
+use Rattle.std.specs.Prelude.{◌&&◌, ◌*◌, ◌+◌, ◌==◌, ◌||◌, Bool, if◌then◌else◌, leb, length, List, None, Option, Some, ℕ}
 use Rattle.vm_image.specs.declared.blocks.PlannedFault.{PlannedFault}
 use Rattle.vm_core.specs.Prelude.{MAX_VERSION}
 
@@ -20,9 +20,18 @@ holds_call height frames = leb (height + 8) frames
 abbrev pub is_version : ℕ → Bool
 is_version version = leb version MAX_VERSION
 
--- 2 to 65,536 pages
-abbrev pub are_pages : ℕ → Bool
-are_pages pages = leb 2 pages && leb pages 65536
+-- how many words a page has: 64 where the words do not say it
+abbrev pub words_or : Option ℕ → ℕ
+words_or None = 64
+words_or (Some words) = words
+
+-- 64 or 512 words of a page
+abbrev pub are_words : ℕ → Bool
+are_words words = words == 64 || words == 512
+
+-- 2 to 65,536 pages, and at most 8,192 of 512 words
+abbrev pub are_pages : (words pages : ℕ) → Bool
+are_pages words pages = leb 2 pages && leb pages (if words == 512 then 8192 else 65536)
 
 -- at most 1,000,000 pairs in a page file that is made
 abbrev pub are_pairs_to_make : ℕ → Bool

@@ -1,26 +1,25 @@
 -- What workers' calls on a tree come to, for every command that has them made: what is left of them, and the map after them.
 use Rattle.std.specs.Prelude.{◌≡◌, List, Result, ℕ}
-use Rattle.vm_page.specs.declared.buf.TheConstants.{WORDS}
 use Rattle.vm_block.specs.declared.memory.MemBlock.{MemBlock}
-use Rattle.vm_map.specs.{declared.call.Call.Call, declared.call.Reply.Reply, History.after_all, Map.Pairs}
-use Rattle.vm_tree_model.specs.Tree.{map_of}
+use Rattle.vm_map.specs.{declared.call.Call.Call, declared.call.Reply.Reply, declared.call.Said.Said, History.after_all, Map.Pairs}
+use Rattle.vm_tree_model.specs.{Fixed.fixed, Tree.map_of}
 use Rattle.vm_image.specs.declared.blocks.PlannedFault.{PlannedFault}
 use Rattle.vm_evict.specs.declared.flushing.Flushed.{Flushed}
-use Rattle.vm_pool.specs.Closing.{view_at_end}
+use Rattle.vm_pool.specs.{Closing.view_at_end, declared.ended.Ended.Ended}
 use Rattle.vm_tree_laws.specs.History.{saids}
 use Rattle.vm_tree_rule.specs.declared.fault.TreeFault.{TreeFault}
-use Rattle.vm_serve.specs.Served.{IsServed, TreeEnd}
+use Rattle.vm_serve.specs.Served.{IsServed}
 
--- the map of the pages after the calls of the one history that `end` keeps
-abbrev pub last_map : List (List ℕ) → TreeEnd → Pairs
-last_map pages end = after_all (map_of pages) (saids (view_at_end end).seen)
+-- the map of the pages of n words after the calls of the one history that `end` keeps
+abbrev pub last_map : {U : Type 0} → ℕ → List (List ℕ) → Ended U Said → Pairs
+last_map n pages end = after_all (map_of (fixed n) pages) (saids (view_at_end end).seen)
 
--- The workers' calls were made on the tree of the pages, over blocks that may fail as often as is planned for each, in a pool of
+-- The workers' calls were made on the tree of the pages of n words, over blocks that may fail as often as is planned for each, in a pool of
 -- so many frames, each page at the first version at the start; `end` keeps the one history of that, and each worker has these answers
-pub record IsMade (plan : List PlannedFault) (first count : ℕ) (end : TreeEnd) (pages : List (List ℕ)) (lists : List (List Call)) : Type 0 where
+pub record IsMade (n : ℕ) {U : Type 0} (plan : List PlannedFault) (first count : ℕ) (end : Ended U Said) (pages : List (List ℕ)) (lists : List (List Call)) : Type 0 where
   pub replies : List (List (Result Reply TreeFault))
   pub report : Flushed
-  pub blocks : List (MemBlock WORDS)
-  pub served : IsServed pages plan lists replies report blocks end
+  pub blocks : List (MemBlock n)
+  pub served : IsServed n pages plan lists replies report blocks end
   pub version : (view_at_end end).start.version ≡ first
   pub frames : (view_at_end end).start.frames ≡ count

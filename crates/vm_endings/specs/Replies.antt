@@ -3,7 +3,7 @@ use Rattle.std.specs.Prelude.{[], ◌∷◌, ◌≡◌, Err, length, List, Ok, R
 use Rattle.vm_map.specs.{declared.call.Call.Call, declared.call.Reply.Reply}
 use Rattle.vm_tree_rule.specs.declared.fault.TreeFault.{TreeFault}
 use Rattle.vm_tree_rule.specs.declared.fault.TreeFault.TheVariants.{Device, Full, Worn}
-use Rattle.vm_serve.specs.Served.{TreeEnd}
+use Rattle.vm_pool.specs.declared.ended.Ended.{Ended}
 use Rattle.vm_script.specs.{declared.text.Line.Line, Texts.counters_line}
 use Rattle.vm_script.specs.declared.text.Line.TheVariants as lines
 
@@ -30,7 +30,7 @@ all_lines (calls ∷ lists) [] = []
 all_lines (calls ∷ lists) (answers ∷ replies) = lines_in calls answers ∷ all_lines lists replies
 
 -- the counters of the device, as the end of the pool keeps them, and how many pages were evicted
-abbrev pub counters_of : TreeEnd → ℕ → List ℕ
+abbrev pub counters_of : {U S : Type 0} → Ended U S → ℕ → List ℕ
 counters_of end evicted = counters_line end.reads end.writes end.faults evicted
 
 -- each list has an answer for each of its calls

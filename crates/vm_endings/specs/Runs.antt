@@ -2,15 +2,15 @@
 use Rattle.std.specs.Borrow.{Bor}
 use Rattle.std.specs.Prelude.{◌++◌, ◌≡◌, ◌⊎◌, List, None, Option, Some, ℕ}
 use Rattle.vm_io.specs.Shown.{Shown}
-use Rattle.vm_map.specs.declared.call.Call.{Call}
-use Rattle.vm_tree_model.specs.Tree.{map_of}
+use Rattle.vm_map.specs.{declared.call.Call.Call, declared.call.Said.Said}
+use Rattle.vm_tree_model.specs.{Fixed.fixed, Tree.map_of}
 use Rattle.vm_image.specs.Blocks.{pages_of_blocks}
-use Rattle.vm_image.specs.File.{pages_of_bytes}
-use Rattle.vm_serve.specs.Served.{TreeEnd}
+use Rattle.vm_image.specs.File.{words_of_file}
+use Rattle.vm_pool.specs.declared.ended.Ended.{Ended}
 use Rattle.vm_script.specs.Texts.{rows_text, unflushed_line, worker_replies}
 use Rattle.vm_words.specs.declared.Run.{Run}
-use Rattle.vm_endings.specs.{declared.ends.Ends.Ends, declared.ends.Ends.TheVariants.Tree, Deliveries.Content, Deliveries.Written, Files.HasFile}
-use Rattle.vm_endings.specs.{Images.IsTreeFile, Made.IsMade, Made.last_map, Replies.all_lines, Replies.counters_of}
+use Rattle.vm_endings.specs.{declared.ends.Ends.Ends, Deliveries.Content, Deliveries.Written, Ends.OfEnd, Files.HasFile}
+use Rattle.vm_endings.specs.{Images.IsFileOf, Images.IsTreeFile, Images.pages_of_file, Made.IsMade, Made.last_map, Replies.all_lines, Replies.counters_of}
 use Rattle.vm_endings.specs.{Scripts.IsScriptOf}
 
 -- the version at which each page begins
@@ -19,45 +19,46 @@ version_or None = 0
 version_or (Some version) = version
 
 -- the workers' calls were made as the run asks: what is planned to fail, the first version and the frames are the run's
-abbrev pub IsMadeRun : Run → TreeEnd → List (List ℕ) → List (List Call) → Type 0
-IsMadeRun run end pages lists = IsMade run.options.fail.items (version_or run.options.first_version) run.frames end pages lists
+abbrev pub IsMadeRun : {U : Type 0} → ℕ → Run → Ended U Said → List (List ℕ) → List (List Call) → Type 0
+IsMadeRun n run end pages lists = IsMade n run.options.fail.items (version_or run.options.first_version) run.frames end pages lists
 
--- the file to be kept, where one is asked for, is a page file of these pages, which are a tree
-abbrev pub IsKept : Option (Bor (List ℕ)) → List (List ℕ) → Option Written → Type 0
-IsKept None pages file = file ≡ None
-IsKept (Some name) pages file = (bytes : List ℕ) × (file ≡ Some (record { name = name.now; bytes = bytes })) × IsTreeFile bytes × (pages_of_bytes bytes ≡ pages)
+-- the file to be kept, where one is asked for, is a page file of these pages of n words, which are a tree
+abbrev pub IsKept : ℕ → Option (Bor (List ℕ)) → List (List ℕ) → Option Written → Type 0
+IsKept n None pages file = file ≡ None
+IsKept n (Some name) pages file = (bytes : List ℕ) × (file ≡ Some (record { name = name.now; bytes = bytes })) × IsFileOf n pages bytes
 
 -- Every page was flushed: the replies are told, the rows of the history's last map, and the counters. The kept file has the pages of the blocks,
 -- which are each page's last words, and whose map is that map
-pub record IsFlushedRun (run : Run) (end : TreeEnd) (content : Content) (pages : List (List ℕ)) (lists : List (List Call)) : Type 0 where
-  pub made : IsMadeRun run end pages lists
+pub record IsFlushedRun (n : ℕ) {U : Type 0} (run : Run) (end : Ended U Said) (content : Content) (pages : List (List ℕ)) (lists : List (List Call)) : Type 0 where
+  pub made : IsMadeRun n run end pages lists
   pub evicted : ℕ
   pub flushed : made.report.first ≡ None
-  pub text : content.text ≡ worker_replies 0 (all_lines lists made.replies) ++ rows_text (last_map pages end) ++ counters_of end evicted
-  pub last : map_of (pages_of_blocks made.blocks) ≡ last_map pages end
-  pub file : IsKept run.options.keep (pages_of_blocks made.blocks) content.file
+  pub text : content.text ≡ worker_replies 0 (all_lines lists made.replies) ++ rows_text (last_map n pages end) ++ counters_of end evicted
+  pub last : map_of (fixed n) (pages_of_blocks made.blocks) ≡ last_map n pages end
+  pub file : IsKept n run.options.keep (pages_of_blocks made.blocks) content.file
 
 -- The write of a page failed in the last flush, and no lesser one's: the replies are told, the page, and the counters
-pub record IsUnflushedRun (run : Run) (end : TreeEnd) (content : Content) (pages : List (List ℕ)) (lists : List (List Call)) : Type 0 where
-  pub made : IsMadeRun run end pages lists
+pub record IsUnflushedRun (n : ℕ) {U : Type 0} (run : Run) (end : Ended U Said) (content : Content) (pages : List (List ℕ)) (lists : List (List Call)) : Type 0 where
+  pub made : IsMadeRun n run end pages lists
   pub evicted : ℕ
   pub page : ℕ
   pub least : made.report.first ≡ Some page
   pub text : content.text ≡ worker_replies 0 (all_lines lists made.replies) ++ unflushed_line page ++ counters_of end evicted
   pub file : content.file ≡ None
 
--- this holds of the pages of the image, which are a tree, and of the workers' calls in the script
-abbrev pub OfFiles : Option Shown → Run → (List (List ℕ) → List (List Call) → Type 0) → Type 0
-OfFiles shown run P = HasFile shown run.image.now (λ image. IsTreeFile image × HasFile shown run.script.now (λ script. (lists : List (List Call)) × IsScriptOf run.workers lists script × P (pages_of_bytes image) lists))
+-- this holds of the pages of the image, which have n words and are a tree, and of the workers' calls in the script
+abbrev pub OfFiles : ℕ → Option Shown → Run → (List (List ℕ) → List (List Call) → Type 0) → Type 0
+OfFiles n shown run P =
+    HasFile shown run.image.now (λ image. (words_of_file image ≡ n) × IsTreeFile image × HasFile shown run.script.now (λ script. (lists : List (List Call)) × IsScriptOf run.workers lists script × P (pages_of_file image) lists))
 
 -- the headline: what status 0 says of a run, whose one history is kept in `after`
 abbrev pub ToldRun : Run → Option Shown → Content → Ends → Type 0
-ToldRun run shown content after = (end : TreeEnd) × (after ≡ Tree end) × OfFiles shown run (IsFlushedRun run end content)
+ToldRun run shown content after = OfEnd after (λ n end. OfFiles n shown run (IsFlushedRun n run end content))
 
 -- a run that was not flushed whole
 abbrev pub CutRun : Run → Option Shown → Content → Ends → Type 0
-CutRun run shown content after = (end : TreeEnd) × (after ≡ Tree end) × OfFiles shown run (IsUnflushedRun run end content)
+CutRun run shown content after = OfEnd after (λ n end. OfFiles n shown run (IsUnflushedRun n run end content))
 
 -- what workers' calls come to: every page was flushed, or one was not
-abbrev pub IsOutcome : Run → List (List ℕ) → List (List Call) → Content → TreeEnd → Type 0
-IsOutcome run pages lists content end = ((content.status ≡ 0) × IsFlushedRun run end content pages lists) ⊎ ((content.status ≡ 7) × IsUnflushedRun run end content pages lists)
+abbrev pub IsOutcome : {U : Type 0} → ℕ → Run → List (List ℕ) → List (List Call) → Content → Ended U Said → Type 0
+IsOutcome n run pages lists content end = ((content.status ≡ 0) × IsFlushedRun n run end content pages lists) ⊎ ((content.status ≡ 7) × IsUnflushedRun n run end content pages lists)

@@ -3,7 +3,7 @@ use Rattle.std.specs.Fmt.{decimal}
 use Rattle.std.specs.Prelude.{[], ◌++◌, ◌∷◌, codes, List, ℕ}
 use Rattle.vm_endings.specs.{declared.stop.Lines.Lines, declared.stop.Lines.TheVariants.Events, declared.stop.Lines.TheVariants.Script}
 use Rattle.vm_endings.specs.{declared.stop.Quantity.Quantity, declared.stop.Stop.Stop}
-use Rattle.vm_endings.specs.declared.stop.Quantity.TheVariants.{Fail, FirstVersion, Frames, Pages, Pairs, Workers}
+use Rattle.vm_endings.specs.declared.stop.Quantity.TheVariants.{Fail, FirstVersion, Frames, Pages, Pairs, Words, Workers}
 use Rattle.vm_endings.specs.declared.stop.Stop.TheVariants.{Length, Line, Long, Page, Shape, TooFew, Unread}
 
 abbrev pub status_of : Stop → ℕ
@@ -22,6 +22,7 @@ quantity_text FirstVersion = codes "first-version"
 quantity_text Fail = codes "fail"
 quantity_text Pages = codes "pages"
 quantity_text Pairs = codes "pairs"
+quantity_text Words = codes "words"
 
 abbrev pub lines_name : Lines → List ℕ
 lines_name Script = codes "script"

@@ -1,22 +1,24 @@
 -- What a command asks before it does anything, in the order in which it asks: the first test that fails stops it.
 use Rattle.std.specs.List.{AllByRecursion}
-use Rattle.std.specs.Prelude.{◌<◌, ◌∷◌, ◌≡◌, ◌≤◌, Bool, false, List, Option, true, ℕ}
+use Rattle.std.specs.Prelude.{◌<◌, ◌∷◌, ◌≡◌, ◌≤◌, Bool, false, length, List, Option, true, ℕ}
 use Rattle.vm_io.specs.Shown.{Shown}
 use Rattle.vm_build.specs.Build.{needed}
 use Rattle.vm_endings.specs.{declared.stop.Lines.TheVariants.Events, declared.stop.Lines.TheVariants.Script, declared.stop.Quantity.Quantity}
 use Rattle.vm_endings.specs.declared.stop.Quantity.TheVariants.{Frames}
 use Rattle.vm_endings.specs.{declared.stop.Stop.Stop, Files.HasFile, Limits.holds_call}
 use Rattle.vm_endings.specs.declared.stop.Stop.TheVariants.{Length, Line, Long, Page, Shape, TooFew, Unread}
-use Rattle.vm_endings.specs.Images.{file_height, HoldsNoTree, IsTreeFile, IsWrongLength}
+use Rattle.vm_endings.specs.Images.{file_height, file_map, HoldsNoTree, IsTreeFile, IsWrongLength}
 use Rattle.vm_endings.specs.Scripts.{AreBadEvents, AreGoodEvents, IsBadScript, IsGoodScript, IsLong}
 
 pub data Test : Type 0 where
   -- a quantity is within its limits
   within : Quantity → Bool → Test
-  -- so many pages are enough for the tree of so many pairs
-  room : ℕ → ℕ → Test
+  -- so many pages of so many words are enough for the tree of so many pairs
+  room : (words pages pairs : ℕ) → Test
   -- the file with this name is a page file whose pages are a tree
   image : List ℕ → Test
+  -- so many pages of 512 words are enough for the pairs of the tree in the file with this name
+  space : ℕ → List ℕ → Test
   -- so many frames hold the pages of one call on the tree in the file with this name
   depth : ℕ → List ℕ → Test
   -- the file with this name is a script of so many workers
@@ -26,8 +28,9 @@ pub data Test : Type 0 where
 
 abbrev pub Passes : Option Shown → Test → Type 0
 Passes shown (within quantity holds) = holds ≡ true
-Passes shown (room pages pairs) = needed pairs ≤ pages
+Passes shown (room words pages pairs) = needed words pairs ≤ pages
 Passes shown (image name) = HasFile shown name IsTreeFile
+Passes shown (space pages name) = HasFile shown name (λ bytes. needed 512 (length (file_map bytes)) ≤ pages)
 Passes shown (depth frames name) = HasFile shown name (λ bytes. holds_call (file_height bytes) frames ≡ true)
 Passes shown (script name workers) = HasFile shown name (IsGoodScript workers)
 Passes shown (events name) = HasFile shown name AreGoodEvents
@@ -40,12 +43,14 @@ IsUnread failed name unread = (unread ≡ name) × (failed ≡ name)
 abbrev pub Fails : Option Shown → List ℕ → Test → Stop → Type 0
 Fails shown failed (within quantity holds) (Shape other) = (holds ≡ false) × (other ≡ quantity)
 Fails shown failed (within quantity holds) _ = ⊥
-Fails shown failed (room pages pairs) (TooFew told wanted) = (pages < needed pairs) × (told ≡ pages) × (wanted ≡ needed pairs)
-Fails shown failed (room pages pairs) _ = ⊥
+Fails shown failed (room words pages pairs) (TooFew told wanted) = (pages < needed words pairs) × (told ≡ pages) × (wanted ≡ needed words pairs)
+Fails shown failed (room words pages pairs) _ = ⊥
 Fails shown failed (image name) (Unread unread) = IsUnread failed name unread.now
 Fails shown failed (image name) (Length told) = HasFile shown name (λ bytes. IsWrongLength bytes told)
 Fails shown failed (image name) (Page page why) = HasFile shown name (λ bytes. HoldsNoTree bytes page why)
 Fails shown failed (image name) _ = ⊥
+Fails shown failed (space pages name) (TooFew told wanted) = (told ≡ pages) × HasFile shown name (λ bytes. (pages < needed 512 (length (file_map bytes))) × (wanted ≡ needed 512 (length (file_map bytes))))
+Fails shown failed (space pages name) _ = ⊥
 Fails shown failed (depth frames name) (Shape other) = (other ≡ Frames) × HasFile shown name (λ bytes. holds_call (file_height bytes) frames ≡ false)
 Fails shown failed (depth frames name) _ = ⊥
 Fails shown failed (script name workers) (Unread unread) = IsUnread failed name unread.now

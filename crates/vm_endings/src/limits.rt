@@ -1,7 +1,7 @@
 //! The limits of the numbers of a command line.
 
 ghost use Rattle.std.specs.Prelude.{◌≡◌};
-ghost use Rattle.vm_endings.specs.Limits.{are_entries, are_frames, are_pages, are_pairs_to_churn, are_pairs_to_make, are_workers, holds_call, is_version};
+ghost use Rattle.vm_endings.specs.Limits.{are_entries, are_frames, are_pages, are_pairs_to_churn, are_pairs_to_make, are_words, are_workers, holds_call, is_version, words_or};
 
 use vm_core::MAX_VERSION;
 use vm_image::PlannedFault;
@@ -35,11 +35,29 @@ pub fn is_version(version: u64) -> bool
     version <= MAX_VERSION
 }
 
-/// Whether there are 2 to 65,536 pages.
-pub fn are_pages(pages: u64) -> bool
-    ensures { result ≡ are_pages pages }
+/// How many words a page has: as many as are asked for, and 64 where none are.
+pub fn words_of(asked: Option<u64>) -> u64
+    ensures { result ≡ words_or asked }
 {
-    2 <= pages && pages <= 65_536
+    match asked {
+        Some(words) => words,
+        None => 64,
+    }
+}
+
+/// Whether a page may have so many words: 64 or 512.
+pub fn are_words(words: u64) -> bool
+    ensures { result ≡ are_words words }
+{
+    words == 64 || words == 512
+}
+
+/// Whether there are 2 to 65,536 pages, and at most 8,192 where a page has 512 words.
+pub fn are_pages(words: u64, pages: u64) -> bool
+    ensures { result ≡ are_pages words pages }
+{
+    let most = if words == 512 { 8192 } else { 65_536 };
+    2 <= pages && pages <= most
 }
 
 /// Whether a page file can be made of so many pairs: at most 1,000,000.

@@ -17,6 +17,8 @@ pub enum Quantity {
     Pages,
     /// How many pairs a tree is built of.
     Pairs,
+    /// How many words a page has.
+    Words,
 }
 
 /// A file of lines.
@@ -67,6 +69,7 @@ fn name_of<'a>(quantity: Quantity) -> &'a str
         Quantity::Fail => "fail",
         Quantity::Pages => "pages",
         Quantity::Pairs => "pairs",
+        Quantity::Words => "words",
     }
 }
 

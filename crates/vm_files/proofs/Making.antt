@@ -7,6 +7,7 @@ use Rattle.vm_endings.specs.declared.stop.Quantity.{Quantity}
 use Rattle.vm_endings.specs.declared.stop.Stop.{Stop}
 use Rattle.vm_endings.specs.declared.stop.Stop.TheVariants.{Shape, TooFew}
 use Rattle.vm_endings.specs.Commands.{order_of}
+use Rattle.vm_endings.specs.Limits.{words_or}
 use Rattle.vm_endings.specs.Stops.{status_of}
 use Rattle.vm_endings.specs.Tests.{Fails, StopsAt, here, past, room, within}
 
@@ -15,13 +16,14 @@ number_status : (shown : Option Shown) (failed : List ℕ) (quantity : Quantity)
 number_status shown failed quantity holds (Shape other) f = λ two. absurd (omega (arith, two))
 number_status shown failed quantity holds _ f = absurd f
 
-room_status : (shown : Option Shown) (failed : List ℕ) (pages pairs : ℕ) (stop : Stop) → Fails shown failed (room pages pairs) stop → status_of stop ≢ 2
-room_status shown failed pages pairs (TooFew there wanted) f = λ two. absurd (omega (arith, two))
-room_status shown failed pages pairs _ f = absurd f
+room_status : (shown : Option Shown) (failed : List ℕ) (words pages pairs : ℕ) (stop : Stop) → Fails shown failed (room words pages pairs) stop → status_of stop ≢ 2
+room_status shown failed words pages pairs (TooFew there wanted) f = λ two. absurd (omega (arith, two))
+room_status shown failed words pages pairs _ f = absurd f
 
 -- so a make stops for another cause than that
 pub make_reads_none : (make : Make) (stop : Stop) → StopsAt None [] (order_of (commands.Make make)) stop → status_of stop ≢ 2
 make_reads_none make stop (here f) = number_status None [] _ _ stop f
 make_reads_none make stop (past p (here f)) = number_status None [] _ _ stop f
-make_reads_none make stop (past p (past q (here f))) = room_status None [] make.pages make.pairs stop f
-make_reads_none make stop (past p (past q (past r none))) = elim none [ ]
+make_reads_none make stop (past p (past q (here f))) = number_status None [] _ _ stop f
+make_reads_none make stop (past p (past q (past r (here f)))) = room_status None [] (words_or make.words) make.pages make.pairs stop f
+make_reads_none make stop (past p (past q (past r (past s none)))) = elim none [ ]

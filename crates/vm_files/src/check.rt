@@ -7,7 +7,7 @@ ghost use Rattle.vm_endings.specs.Deliveries.{content_of};
 ghost use Rattle.vm_endings.specs.Endings.{AnswersCommand, HasReadCause};
 ghost use Rattle.vm_endings.specs.declared.ends.Ends.{Ends};
 
-use crate::reading::{Stored, read_tree};
+use crate::reading::read_tree;
 use std::alloc::{AllocError, Global};
 use vm_check::Rows;
 use vm_endings::delivery::Delivery;
@@ -46,8 +46,8 @@ pub fn run_check<'a, H: Host>(
     ensures later { H.takes host.old ≤ H.takes host.new }
     ensures cause { HasReadCause (H.takes host.old) (H.takes host.new) result }
 {
-    let Stored { image: _, rows } = match read_tree(alloc, host, check.file) {
-        Ok(stored) => stored,
+    let rows = match read_tree(alloc, host, check.file) {
+        Ok(tree) => tree.into_rows(),
         Err(undone) => return Err(undone),
     };
     match text_of(alloc, &rows) {

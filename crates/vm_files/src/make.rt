@@ -2,7 +2,7 @@
 
 ghost use Rattle.std.specs.Prelude.{◌≡◌, ◌≤◌, ℕ, List, Option, IfOk, slice_index};
 ghost use Rattle.vm_io.specs.Shown.{Shown};
-ghost use Rattle.vm_page.specs.Pages.{page_at};
+ghost use Rattle.vm_page.specs.{Pages.page_at, Sizes.IsSize};
 ghost use Rattle.vm_script.specs.Texts.{made_line};
 ghost use Rattle.vm_tree_model.specs.Reason.{used_pages};
 ghost use Rattle.vm_words.specs.declared.Command.TheVariants as commands;
@@ -12,19 +12,22 @@ ghost use Rattle.vm_endings.specs.Makes.{ToldMake};
 ghost use Rattle.vm_files.specs.Readings.{TellsSizes};
 ghost use Rattle.vm_endings.specs.declared.ends.Ends.{Ends};
 
+use crate::writing::{file_of, used_in};
 use std::alloc::{AllocError, Global};
 use vm_build::{needed, numbered_image};
-use vm_endings::delivery::{Delivery, File};
-use vm_endings::limits::{are_pages, are_pairs_to_make};
+use vm_endings::delivery::Delivery;
+use vm_endings::limits::{are_pages, are_pairs_to_make, are_words, words_of};
 use vm_endings::stop::{Quantity, Stop};
 use vm_endings::undone::Undone;
-use vm_image::{Image, is_free};
+use vm_image::Image;
+use vm_page::{LARGE, WORDS};
 use vm_script::text::made_text;
 use vm_words::Make;
 
-/// How many pages a page file has, 2 to 65,536, and how many pairs its tree holds, at most 1,000,000.
+/// How many pages a page file has, 2 to 65,536 of 64 words or 2 to 8,192 of 512, and how many pairs its tree holds, at most 1,000,000.
 #[derive(Clone, Copy)]
 pub struct Sizes {
+    pub words: usize,
     pub pages: u32,
     pub pairs: u32,
 }
@@ -33,36 +36,37 @@ pub struct Sizes {
 fn sizes_of<'a>(make: &Make<'a>) -> Result<Sizes, Stop<'a>>
     ensures { TellsSizes make.now result }
 {
-    if !are_pages(make.pages) {
+    let words = words_of(make.words);
+    if !are_pages(words, make.pages) {
         return Err(Stop::Shape(Quantity::Pages));
     }
     if !are_pairs_to_make(make.pairs) {
         return Err(Stop::Shape(Quantity::Pairs));
     }
+    if !are_words(words) {
+        return Err(Stop::Shape(Quantity::Words));
+    }
+    let words = words as usize;
     let pages = make.pages as u32;
     let pairs = make.pairs as u32;
-    let needed = needed(pairs);
+    let needed = needed(words, pairs);
     if pages < needed {
         return Err(Stop::TooFew { pages, needed });
     }
-    Ok(Sizes { pages, pairs })
-}
-
-// How many pages are not all zero.
-fn used_in(image: &Image) -> u32
-    ensures { result ≡ used_pages image.now }
-{
-    let mut used = 0;
-    for p in 0..image.pages() {
-        if !is_free(image.page(p)) {
-            used += 1;
-        }
-    }
-    used
+    Ok(Sizes {
+        words,
+        pages,
+        pairs,
+    })
 }
 
 // The line that tells an image's size.
-fn text_of(alloc: Global, pages: u32, image: &Image) -> Result<Vec<u8>, AllocError>
+fn text_of<const N: usize>(
+    alloc: Global,
+    pages: u32,
+    image: &Image<N>,
+) -> Result<Vec<u8>, AllocError>
+    requires { IsSize N }
     ensures { IfOk result (λ v. v.items ≡ made_line pages (used_pages image.now) (slice_index (page_at image.now 0) 2)) }
 {
     // Any call on the image tells that it has a page 0.
@@ -72,20 +76,20 @@ fn text_of(alloc: Global, pages: u32, image: &Image) -> Result<Vec<u8>, AllocErr
     Ok(out)
 }
 
-// The file, and the line that tells its size.
-fn made<'a>(alloc: Global, make: &Make<'a>, sizes: Sizes) -> Result<Delivery<'a>, AllocError>
+// The file, with pages of `N` words, and the line that tells its size.
+fn made<'a, const N: usize>(
+    alloc: Global,
+    make: &Make<'a>,
+    sizes: Sizes,
+) -> Result<Delivery<'a>, AllocError>
+    requires sized { IsSize N }
     requires sizes { TellsSizes make.now (Ok sizes) }
+    requires words { sizes.words ≡ N }
     ensures { IfOk result (λ delivery. ToldMake make.now (content_of delivery) × (delivery.status ≡ 0)) }
 {
-    let image = numbered_image(alloc, sizes.pages, make.seed, sizes.pairs)?;
+    let image = numbered_image::<N>(alloc, sizes.pages, make.seed, sizes.pairs)?;
     let text = text_of(alloc, sizes.pages, &image)?;
-    let Ok(bytes) = image.to_bytes(alloc) else {
-        return Err(AllocError);
-    };
-    let file = File {
-        name: make.file,
-        bytes,
-    };
+    let file = file_of(alloc, &image, make.file)?;
     Ok(Delivery {
         file: Some(file),
         text,
@@ -102,7 +106,12 @@ pub fn run_make<'a>(alloc: Global, make: &Make<'a>) -> Result<Delivery<'a>, Undo
         Ok(sizes) => sizes,
         Err(stop) => return Err(Undone::Stopped(stop)),
     };
-    match made(alloc, make, sizes) {
+    let made = if sizes.words == LARGE {
+        made::<LARGE>(alloc, make, sizes)
+    } else {
+        made::<WORDS>(alloc, make, sizes)
+    };
+    match made {
         Ok(delivery) => Ok(delivery),
         Err(AllocError) => Err(Undone::Memory),
     }

@@ -1,20 +1,22 @@
 -- What a churn gives, from what its parts tell.
 use Rattle.std.specs.declared.alloc.Global.{Global}
 use Rattle.std.specs.List.{AllByRecursion}
-use Rattle.std.proofs.Common.{[], ⊎_elim, ◌&&◌, ◌*◌, ◌<◌, ◌∙◌, ◌∷◌, ◌≡◌, ◌≤◌, ap, arith, false, le-leb, leb, length, List, None, Ok, Option, refl}
+use Rattle.std.proofs.Common.{[], ⊎_elim, ◌&&◌, ◌*◌, ◌+◌, ◌<◌, ◌∙◌, ◌∷◌, ◌≡◌, ◌≤◌, ap, arith, false, le-leb, leb, length, List, None, Ok, Option, refl}
 use Rattle.std.proofs.Common.{Result, subst, suc, sym, true, Vec, zero, ℕ}
 use Rattle.std.proofs.lemmas.Bool.{and_parts, cases_lt, leb-true, lt-leb}
 use Rattle.vm_io.specs.Shown.{Shown}
 use Rattle.vm_map.specs.{declared.call.Call.Call, declared.call.Reply.Reply, declared.call.Said.Said, History.after_all, Map.gather, Map.Pairs}
-use Rattle.vm_tree_model.specs.Tree.{IsTree, map_of}
-use Rattle.vm_image.specs.Blocks.{pages_of_blocks}
+use Rattle.vm_page.specs.Sizes.{IsSize}
+use Rattle.vm_tree_model.specs.{Fixed.fixed, Tree.IsTree, Tree.map_of}
+use Rattle.vm_tree_model.proofs.FixedLaws.{size_is}
+use Rattle.vm_image.specs.{Blocks.pages_of_blocks, File.most_pages}
 use Rattle.vm_build.specs.{Build.nodes_from, Levels.nodes_for, Numbers.numbered}
 use Rattle.vm_owner.specs.declared.Entry.{Entry}
-use Rattle.vm_pool.specs.Closing.{view_at_end}
+use Rattle.vm_pool.specs.{Closing.view_at_end, declared.ended.Ended.Ended}
 use Rattle.vm_tree_laws.specs.History.{saids}
 use Rattle.vm_tree_rule.specs.declared.fault.TreeFault.{TreeFault}
 use Rattle.vm_drive.specs.{Drives.AreFew, Kept.AreKept}
-use Rattle.vm_serve.specs.{declared.serving.ServedInto.ServedInto, Served.TreeEnd}
+use Rattle.vm_serve.specs.declared.serving.ServedInto.{ServedInto}
 use Rattle.vm_serve.proofs.Unplanned.{all_flushed, no_faults}
 use Rattle.vm_churn.specs.{Calls.churn_count, Calls.churn_lists, declared.tally.Tally.Tally}
 use Rattle.vm_churn.specs.Tallies.{IsSmall, StandsFor, sum_values, tally_of, total_of}
@@ -22,18 +24,18 @@ use Rattle.vm_churn.proofs.{Counting.kept_small, Counting.kept_total, Lists.coun
 use Rattle.vm_script.specs.Texts.{churn_line}
 use Rattle.vm_words.specs.declared.Churn.{Churn}
 use Rattle.vm_words.specs.declared.Command.TheVariants as commands
-use Rattle.vm_endings.specs.{declared.delivery.Delivery.Delivery, declared.ends.Ends.Ends, declared.ends.Ends.TheVariants.Tree, Deliveries.content_of}
+use Rattle.vm_endings.specs.{declared.delivery.Delivery.Delivery, declared.ends.Ends.Ends, Deliveries.Content, Deliveries.content_of}
 use Rattle.vm_endings.specs.{Endings.AnswersCommand, Endings.told, Made.last_map, Replies.AreMatched}
-use Rattle.vm_endings.specs.Churns.{churn_pages, churn_text, IsChurned, ToldChurn}
-use Rattle.vm_endings.specs.Limits.{are_frames, are_pairs_to_churn, are_workers}
+use Rattle.vm_endings.specs.Churns.{churn_pages, churn_text, DoesChurn, IsChurned, ToldChurn}
+use Rattle.vm_endings.specs.Limits.{are_frames, are_pairs_to_churn, are_words, are_workers}
 use Rattle.vm_endings.proofs.Telling.{matched}
 use Rattle.vm_runs.specs.{declared.churn.Load.Load, declared.outcome.Outcome.Outcome}
-use Rattle.vm_runs.specs.Loads.{asked, IsLoaded, IsWithinLimits, TellsLoad}
+use Rattle.vm_runs.specs.Loads.{asked, IsLoaded, IsWithinLimits, spelt, TellsLoad}
 
 -- ---- the numbers
 
-pub within_limits : (load : Load) → are_pairs_to_churn load.pairs ≡ true → are_workers load.workers ≡ true → are_frames load.workers load.frames ≡ true → IsWithinLimits load
-within_limits load pairs workers frames =
+pub within_limits : (load : Load) → are_pairs_to_churn load.pairs ≡ true → are_workers load.workers ≡ true → are_frames load.workers load.frames ≡ true → are_words load.words ≡ true → IsWithinLimits load
+within_limits load pairs workers frames words =
     let p = and_parts (leb 1 load.pairs) (leb load.pairs 100000) pairs in
     let w = and_parts (leb 1 load.workers) (leb load.workers 64) workers in
     let f = and_parts (leb 64 load.frames) (leb load.frames 65536 && leb (8 * load.workers) load.frames) frames in
@@ -42,25 +44,32 @@ within_limits load pairs workers frames =
       pairs = leb-true load.pairs 100000 p.1;
       workers = (leb-true 1 load.workers w.0, leb-true load.workers 64 w.1);
       frames = (leb-true 64 load.frames f.0, leb-true load.frames 65536 g.0, leb-true (8 * load.workers) load.frames g.1);
+      words = words;
     }
 
--- a level and those above it have at most twice the level's nodes
-few-nodes : (levels nodes : ℕ) → 1 ≤ nodes → nodes_from levels nodes ≤ 2 * nodes
-few-nodes zero nodes some = omega arith
-few-nodes (suc levels) nodes some =
+-- a level of nodes of 20 entries and more, and those above it, have at most twice the level's nodes
+few-nodes : (z levels nodes : ℕ) → IsSize z → 1 ≤ nodes → nodes_from z levels nodes ≤ 2 * nodes
+few-nodes z zero nodes size some = omega arith
+few-nodes z (suc levels) nodes size some =
     ⊎_elim
     (λ (l : 1 < nodes).
-    let next : nodes_from levels (nodes_for nodes) ≤ 2 * nodes_for nodes = few-nodes levels (nodes_for nodes) (omega arith) in
-    let half : 2 * nodes_for nodes ≤ nodes = omega arith in
+    let up : 1 ≤ nodes_for z nodes = size_is (λ k. 1 ≤ nodes_for k nodes) z size (omega arith) (omega arith) in
+    let next : nodes_from z levels (nodes_for z nodes) ≤ 2 * nodes_for z nodes = few-nodes z levels (nodes_for z nodes) size up in
+    let half : 2 * nodes_for z nodes ≤ nodes = size_is (λ k. 2 * nodes_for k nodes ≤ nodes) z size (omega (arith, l)) (omega (arith, l)) in
     let more : leb nodes 1 ≡ false = lt-leb nodes 1 l in
     rw more (omega (arith, next, half)))
     (λ (le : nodes ≤ 1). let last : leb nodes 1 ≡ true = le-leb nodes 1 le in rw last (omega arith))
     (cases_lt 1 nodes)
 
-pub pages_fit : (n : ℕ) → n ≤ 100000 → churn_pages n ≤ 65536
-pages_fit n few =
-    let nodes : nodes_for n ≤ 5000 = omega arith in
-    omega (arith, few-nodes n (nodes_for n) (omega arith), nodes)
+pub pages_fit : (z n : ℕ) → IsSize z → n ≤ 100000 → churn_pages z n ≤ most_pages z
+pages_fit z n size few =
+    let above : nodes_from z n (nodes_for z n) ≤ 2 * nodes_for z n = few-nodes z n (nodes_for z n) size (size_is (λ k. 1 ≤ nodes_for k n) z size (omega arith) (omega arith)) in
+    let enough : 4 * (1 + 2 * nodes_for z n) + 64 ≤ most_pages z = size_is (λ k. 4 * (1 + 2 * nodes_for k n) + 64 ≤ most_pages k) z size (omega (arith, few)) (omega (arith, few)) in
+    omega (arith, above, enough)
+
+-- no more than fit into 32 bits
+pub few_pages : (z n : ℕ) → IsSize z → n ≤ 100000 → churn_pages z n ≤ 65536
+few_pages z n size few = omega (arith, pages_fit z n size few, size_is (λ k. most_pages k ≤ 65536) z size (omega arith) (omega arith))
 
 -- ---- what was served
 
@@ -76,7 +85,7 @@ few_matched [] (answers ∷ replies) same few = absurd same
 few_matched (calls ∷ lists) [] same few = tt
 few_matched (calls ∷ lists) (answers ∷ replies) same few = (subst (λ n. n ≤ 1000000) (sym same.0) few.0, few_matched lists replies same.1 few.1)
 
-module _ (load : Load) (within : IsWithinLimits load) (s : ServedInto Tally) (is : IsLoaded load s) where
+module _ (n : ℕ) {U : Type 0} (load : Load) (within : IsWithinLimits load) (words : load.words ≡ n) (s : ServedInto U Tally n Said) (is : IsLoaded n load s) where
   abbrev lists : List (List Call)
   lists = churn_lists load.pairs load.seed load.workers
 
@@ -96,42 +105,51 @@ module _ (load : Load) (within : IsWithinLimits load) (s : ServedInto Tally) (is
   small_tallies = kept_small s.kept.items replies is.made.stand few-replies
 
   pub flushed : s.report.first ≡ None
-  flushed = all_flushed is.pages lists replies s.report s.blocks.items s.ended is.made.served
+  flushed = all_flushed n is.pages lists replies s.report s.blocks.items s.ended is.made.served
 
-  pub saved_tree : IsTree (pages_of_blocks s.blocks.items)
+  pub saved_tree : IsTree (fixed n) (pages_of_blocks s.blocks.items)
   saved_tree = (is.made.served.saved (is.made.served.flushed flushed)).0
 
-  saved_map : map_of (pages_of_blocks s.blocks.items) ≡ last_map is.pages s.ended
+  saved_map : map_of (fixed n) (pages_of_blocks s.blocks.items) ≡ last_map n is.pages s.ended
   saved_map = (is.made.served.saved (is.made.served.flushed flushed)).1
 
   pub some_blocks : 2 ≤ length s.blocks.items
   some_blocks = omega (arith, is.made.served.count, is.some)
 
-  pub most_blocks : length s.blocks.items ≤ 65536
+  pub most_blocks : length s.blocks.items ≤ most_pages n
   most_blocks = omega (arith, is.made.served.count, is.most)
 
-  pub values_fit : (rows : Pairs) → rows ≡ map_of (pages_of_blocks s.blocks.items) → sum_values rows < 18446744073709551616
+  pub values_fit : (rows : Pairs) → rows ≡ map_of (fixed n) (pages_of_blocks s.blocks.items) → sum_values rows < 18446744073709551616
   values_fit rows are =
       let same : rows ≡ after_all (gather (numbered load.seed load.pairs)) (saids history) = are ∙ saved_map ∙ ap (λ (m : Pairs). after_all m (saids history)) is.built.map in
       subst (λ (m : Pairs). sum_values m < 18446744073709551616) (sym same) (sum_fits load.pairs load.seed load.workers history replies within.pairs within.workers.1 is.made.served.calls)
 
-  pub churned : (rows : Pairs) (tally : Tally) (text : Vec ℕ Global) (o : Outcome) → rows ≡ map_of (pages_of_blocks s.blocks.items) → tally ≡ total_of s.kept.items → text.items ≡ churn_line load.pairs (churn_count load.pairs) tally.some tally.new tally.gone (length rows) (sum_values rows) → o ≡ record { delivery = record { file = None; text = text; status = 0 }; ended = s.ended } → ToldChurn (asked load) (content_of o.delivery) (Tree o.ended) × (o.delivery.status ≡ 0)
+  pub churned : (rows : Pairs) (tally : Tally) (text : Vec ℕ Global) (o : Outcome U Said) → rows ≡ map_of (fixed n) (pages_of_blocks s.blocks.items) → tally ≡ total_of s.kept.items → text.items ≡ churn_line load.pairs (churn_count load.pairs) tally.some tally.new tally.gone (length rows) (sum_values rows) → o ≡ record { delivery = record { file = None; text = text; status = 0 }; ended = s.ended } → DoesChurn n (asked load) (content_of o.delivery) o.ended × (o.delivery.status ≡ 0)
   churned rows tally text o are counted says out =
-      let given : Outcome = record { delivery = record { file = None; text = text; status = 0 }; ended = s.ended } in
-      let counts : tally ≡ tally_of history = counted ∙ kept_total s.kept.items replies is.made.stand few-replies ∙ tallied (map_of is.pages) history lists replies is.made.served.legal.replies is.made.served.calls in
-      let whole : text.items ≡ churn_text load.pairs history (last_map is.pages s.ended) = says
+      let given : Outcome U Said = record { delivery = record { file = None; text = text; status = 0 }; ended = s.ended } in
+      let counts : tally ≡ tally_of history = counted ∙ kept_total s.kept.items replies is.made.stand few-replies ∙ tallied (map_of (fixed n) is.pages) history lists replies is.made.served.legal.replies is.made.served.calls in
+      let whole : text.items ≡ churn_text load.pairs history (last_map n is.pages s.ended) = says
       ∙ ap (λ (t : Tally). churn_line load.pairs (churn_count load.pairs) t.some t.new t.gone (length rows) (sum_values rows)) counts
       ∙ ap (λ (m : Pairs). churn_text load.pairs history m) (are ∙ saved_map) in
-      let done : IsChurned (asked load) text.items s.ended = record {
+      let done : IsChurned n (asked load) text.items s.ended = record {
         pages = is.pages;
         built = is.built;
         made = record { replies = replies; report = s.report; blocks = s.blocks.items; served = is.made.served; version = is.version; frames = is.frames };
-        faultless = no_faults is.pages lists replies s.report s.blocks.items s.ended is.made.served;
+        faultless = no_faults n is.pages lists replies s.report s.blocks.items s.ended is.made.served;
         flushed = flushed;
         text = whole;
       } in
-      subst (λ (v : Outcome). ToldChurn (asked load) (content_of v.delivery) (Tree v.ended) × (v.delivery.status ≡ 0)) {x = given} (sym out) ((s.ended, refl, done, refl), refl)
+      subst (λ (v : Outcome U Said). DoesChurn n (asked load) (content_of v.delivery) v.ended × (v.delivery.status ≡ 0)) {x = given} (sym out) ((sym words, done, refl), refl)
+
+-- what is said of a churn that says how many words a page has is said of one that does not
+spelt_churn : (n : ℕ) {U : Type 0} (churn : Churn) (content : Content) (end : Ended U Said) → DoesChurn n (spelt churn) content end → DoesChurn n churn content end
+spelt_churn n churn content end d =
+    let c = d.1 in
+    (d.0, record { pages = c.pages; built = c.built; made = c.made; faultless = c.faultless; flushed = c.flushed; text = c.text }, d.2)
 
 -- what was made of the calls is what the command does
-pub churn-gives : (churn : Churn) (load : Load) (delivery : Delivery) (end : TreeEnd) → TellsLoad churn (Ok load) → ToldChurn (asked load) (content_of delivery) (Tree end) × (delivery.status ≡ 0) → (shown : Option Shown) (failed : List ℕ) (before : Ends) → AnswersCommand content_of (commands.Churn churn) failed shown before (Tree end) (Ok delivery)
-churn-gives churn load delivery end t m shown failed before = ((t.2.0, (t.2.1.0, (t.2.1.1.0, tt))), told (subst (λ (c : Churn). ToldChurn c (content_of delivery) (Tree end)) t.0 m.0) m.1)
+pub churn-does : (n : ℕ) {U : Type 0} (churn : Churn) (load : Load) (delivery : Delivery) (end : Ended U Said) → TellsLoad churn (Ok load) → DoesChurn n (asked load) (content_of delivery) end → DoesChurn n churn (content_of delivery) end
+churn-does n churn load delivery end t m = spelt_churn n churn (content_of delivery) end (subst (λ (c : Churn). DoesChurn n c (content_of delivery) end) t.0 m)
+
+pub churn-gives : (churn : Churn) (load : Load) (delivery : Delivery) (after : Ends) → TellsLoad churn (Ok load) → ToldChurn churn (content_of delivery) after → delivery.status ≡ 0 → (shown : Option Shown) (failed : List ℕ) (before : Ends) → AnswersCommand content_of (commands.Churn churn) failed shown before after (Ok delivery)
+churn-gives churn load delivery after t m done shown failed before = ((t.2.0, (t.2.1.0, (t.2.1.1.0, (t.2.1.1.1.0, tt)))), told m done)

@@ -1,2 +1,3 @@
 pub mod Outcomes
+pub mod Kept
 pub mod Churning

@@ -1,6 +1,9 @@
 -- The parts of a churn: its numbers, once they were tested, and what serving its calls leaves.
-use Rattle.std.specs.Prelude.{[], ◌*◌, ◌≡◌, ◌≤◌, Err, length, List, None, Ok, Option, Result, ℕ}
+use Rattle.std.specs.Prelude.{[], ◌*◌, ◌≡◌, ◌≤◌, Err, length, List, None, Ok, Option, Result, Some, ℕ}
 use Rattle.vm_io.specs.Shown.{Shown}
+use Rattle.vm_map.specs.declared.call.Said.{Said}
+use Rattle.vm_page.specs.Sizes.{IsSize}
+use Rattle.vm_image.specs.File.{most_pages}
 use Rattle.vm_build.specs.{Build.IsBuilt, Numbers.numbered}
 use Rattle.vm_pool.specs.Closing.{view_at_end}
 use Rattle.vm_serve.specs.{declared.serving.ServedInto.ServedInto, Served.IsServedInto}
@@ -8,7 +11,7 @@ use Rattle.vm_churn.specs.{Calls.churn_lists, declared.tally.Tally.Tally, Tallie
 use Rattle.vm_words.specs.declared.Churn.{Churn}
 use Rattle.vm_words.specs.declared.Command.TheVariants as commands
 use Rattle.vm_endings.specs.{Churns.churn_pages, Commands.order_of, declared.stop.Quantity.Quantity, declared.stop.Stop.TheVariants.Shape}
-use Rattle.vm_endings.specs.{Tests.AllPass, Tests.StopsAt}
+use Rattle.vm_endings.specs.{Limits.words_or, Tests.AllPass, Tests.StopsAt}
 use Rattle.vm_runs.specs.declared.churn.Load.{Load}
 
 -- the numbers are within their limits
@@ -16,22 +19,27 @@ pub record IsWithinLimits (load : Load) : Type 0 where
   pub pairs : load.pairs ≤ 100000
   pub workers : (1 ≤ load.workers) × (load.workers ≤ 64)
   pub frames : (64 ≤ load.frames) × (load.frames ≤ 65536) × (8 * load.workers ≤ load.frames)
+  pub words : IsSize load.words
 
 -- the command that asks for these numbers
 abbrev pub asked : Load → Churn
-asked load = record { pairs = load.pairs; seed = load.seed; workers = load.workers; frames = load.frames }
+asked load = record { pairs = load.pairs; seed = load.seed; workers = load.workers; frames = load.frames; words = Some load.words }
+
+-- the same command, where it says how many words a page has
+abbrev pub spelt : Churn → Churn
+spelt churn = record churn { words = Some (words_or churn.words) }
 
 -- what the tests answer: the numbers, or the first that is outside its limits. None of them is of a file
 abbrev pub TellsLoad : Churn → Result Load Quantity → Type 0
-TellsLoad churn (Ok load) = (asked load ≡ churn) × IsWithinLimits load × AllPass None (order_of (commands.Churn churn))
+TellsLoad churn (Ok load) = (asked load ≡ spelt churn) × IsWithinLimits load × AllPass None (order_of (commands.Churn churn))
 TellsLoad churn (Err quantity) = (shown : Option Shown) (failed : List ℕ) → StopsAt shown failed (order_of (commands.Churn churn)) (Shape quantity)
 
 -- what serving the calls leaves: the tree was built, and they were made on it
-pub record IsLoaded (load : Load) (s : ServedInto Tally) : Type 0 where
+pub record IsLoaded (n : ℕ) {U : Type 0} (load : Load) (s : ServedInto U Tally n Said) : Type 0 where
   pub pages : List (List ℕ)
   pub some : 2 ≤ length pages
-  pub most : length pages ≤ 65536
-  pub built : IsBuilt (churn_pages load.pairs) (numbered load.seed load.pairs) pages
-  pub made : IsServedInto StandsFor pages [] (churn_lists load.pairs load.seed load.workers) s.kept.items s.report s.blocks.items s.ended
+  pub most : length pages ≤ most_pages n
+  pub built : IsBuilt n (churn_pages n load.pairs) (numbered load.seed load.pairs) pages
+  pub made : IsServedInto n StandsFor pages [] (churn_lists load.pairs load.seed load.workers) s.kept.items s.report s.blocks.items s.ended
   pub version : (view_at_end s.ended).start.version ≡ 0
   pub frames : (view_at_end s.ended).start.frames ≡ load.frames

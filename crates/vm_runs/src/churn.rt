@@ -5,8 +5,7 @@ ghost use Rattle.vm_io.specs.Shown.{Shown};
 ghost use Rattle.vm_churn.specs.{Calls.churn_count, Tallies.sum_values};
 ghost use Rattle.vm_script.specs.Texts.{churn_line};
 ghost use Rattle.vm_words.specs.declared.Command.TheVariants as commands;
-ghost use Rattle.vm_endings.specs.{Churns.ToldChurn, Deliveries.content_of, Endings.AnswersCommand, Endings.HasReadCause};
-ghost use Rattle.vm_endings.specs.declared.ends.Ends.TheVariants as kept;
+ghost use Rattle.vm_endings.specs.{Churns.DoesChurn, Deliveries.content_of, Endings.AnswersCommand, Endings.HasReadCause};
 ghost use Rattle.vm_runs.specs.Loads.{asked, IsLoaded, IsWithinLimits, TellsLoad};
 
 use crate::outcome::{Outcome, stored_in, told};
@@ -19,16 +18,18 @@ use vm_core::Memory;
 use vm_drive::gate::Gate;
 use vm_endings::delivery::Delivery;
 use vm_endings::ends::Ends;
-use vm_endings::limits::{are_frames, are_pairs_to_churn, are_workers};
+use vm_endings::limits::{are_frames, are_pairs_to_churn, are_words, are_workers, words_of};
 use vm_endings::stop::{Quantity, Stop};
 use vm_endings::undone::Undone;
 use vm_files::reading::Stored;
+use vm_kind::{OfSize, Sizes, TreeOf, WordKeys};
 use vm_map::call::Pair;
+use vm_page::{LARGE, WORDS};
 use vm_script::text::{Churned, churn_text};
 use vm_serve::{ServedInto, serve_into};
 use vm_words::Churn;
 
-/// The numbers of a churn: at most 100,000 pairs, 1 to 64 workers, 64 to 65,536 frames and eight for each worker. So many frames hold the pages of a call
+/// The numbers of a churn: at most 100,000 pairs, 1 to 64 workers, 64 to 65,536 frames and eight for each worker, and 64 or 512 words of a page. So many frames hold the pages of a call
 /// at any time: with twice as many pairs the tree has a height of at most 4. A run, whose tree comes from a file, has to test that.
 #[derive(Clone, Copy)]
 pub struct Load {
@@ -36,6 +37,7 @@ pub struct Load {
     pub seed: u64,
     pub workers: u32,
     pub frames: u32,
+    pub words: usize,
 }
 
 // The numbers, where they are within their limits; else the first that is not.
@@ -51,33 +53,39 @@ fn load_of(churn: &Churn) -> Result<Load, Quantity>
     if !are_frames(churn.workers, churn.frames) {
         return Err(Quantity::Frames);
     }
+    let words = words_of(churn.words);
+    if !are_words(words) {
+        return Err(Quantity::Words);
+    }
     Ok(Load {
         pairs: churn.pairs as u32,
         seed: churn.seed,
         workers: churn.workers as u32,
         frames: churn.frames as u32,
+        words: words as usize,
     })
 }
 
-// Builds the tree, and has the calls made on it. Of the answers only tallies are kept, and of the image only its blocks: a churn's memory is
+// Builds the tree on pages of `N` words, and has the calls made on it. Of the answers only tallies are kept, and of the image only its blocks: a churn's memory is
 // mostly that of its pages.
-fn served<R: Threads + Wait + Sync, G: Gate + Sync>(
+fn served<S: OfSize<N> + Sync, R: Threads + Wait + Sync, G: Gate + Sync, const N: usize>(
     rt: &R,
     alloc: Global,
     load: Load,
     gate: &G,
-) -> Result<ServedInto<Tally>, AllocError>
-    requires { IsWithinLimits load }
-    ensures { IfOk result (λ s. IsLoaded load s) }
+) -> Result<ServedInto<TreeOf<WordKeys<S, N>>, Tally, N>, AllocError>
+    requires within { IsWithinLimits load }
+    requires words { load.words ≡ N }
+    ensures { IfOk result (λ s. IsLoaded N load s) }
 {
-    let pages = 4 * needed(load.pairs) + 64;
-    let image = numbered_image(alloc, pages, load.seed, load.pairs)?;
+    let pages = 4 * needed(N, load.pairs) + 64;
+    let image = numbered_image::<N>(alloc, pages, load.seed, load.pairs)?;
     // Any call on the image tells that it has no more pages than a page file may have.
     let _pages = image.pages();
     let lists = calls_of(alloc, load.pairs, load.seed, load.workers)?;
     let lists = lists.as_slice();
     let tallies = tallies_for(alloc, lists)?;
-    match serve_into(rt, alloc, image, 0, load.frames, lists, gate, tallies) {
+    match serve_into::<S, R, G, Tally, N>(rt, alloc, image, 0, load.frames, lists, gate, tallies) {
         Ok(served) => Ok(served),
         Err(Memory) => Err(AllocError),
     }
@@ -106,14 +114,15 @@ fn text_of(alloc: Global, pairs: u32, tally: Tally, rows: &[Pair]) -> Result<Vec
 }
 
 // Has the calls made, and builds what is told. The only error is want of memory.
-fn churned<'a, R: Threads + Wait + Sync, G: Gate + Sync>(
+fn churned<'a, S: OfSize<N> + Sync, R: Threads + Wait + Sync, G: Gate + Sync, const N: usize>(
     rt: &R,
     alloc: Global,
     load: Load,
     gate: &G,
-) -> Result<Outcome<'a>, AllocError>
-    requires { IsWithinLimits load }
-    ensures { IfOk result (λ outcome. ToldChurn (asked load) (content_of outcome.delivery) (kept.Tree outcome.ended) × (outcome.delivery.status ≡ 0)) }
+) -> Result<Outcome<'a, TreeOf<WordKeys<S, N>>>, AllocError>
+    requires within { IsWithinLimits load }
+    requires words { load.words ≡ N }
+    ensures { IfOk result (λ outcome. DoesChurn N (asked load) (content_of outcome.delivery) outcome.ended × (outcome.delivery.status ≡ 0)) }
 {
     let ServedInto {
         kept,
@@ -121,7 +130,7 @@ fn churned<'a, R: Threads + Wait + Sync, G: Gate + Sync>(
         report: _,
         blocks,
         ended,
-    } = served(rt, alloc, load, gate)?;
+    } = served::<S, R, G, N>(rt, alloc, load, gate)?;
     let tally = tally_all(kept.as_slice());
     let Stored { image: _, rows } = stored_in(alloc, blocks.as_slice())?;
     let text = text_of(alloc, load.pairs, tally, rows.pairs.as_slice())?;
@@ -144,12 +153,21 @@ pub fn run_churn<'a, R: Threads + Wait + Sync, G: Gate + Sync>(
         Ok(load) => load,
         Err(quantity) => return Err(Undone::Stopped(Stop::Shape(quantity))),
     };
-    match churned(rt, alloc, load, gate) {
-        Ok(outcome) => {
-            let Outcome { delivery, ended } = outcome;
-            *ends = Ends::Tree(ended);
-            Ok(delivery)
+    if load.words == LARGE {
+        match churned::<Sizes, R, G, LARGE>(rt, alloc, load, gate) {
+            Ok(Outcome { delivery, ended }) => {
+                *ends = Ends::LargeTree(ended);
+                Ok(delivery)
+            }
+            Err(AllocError) => Err(Undone::Memory),
         }
-        Err(AllocError) => Err(Undone::Memory),
+    } else {
+        match churned::<Sizes, R, G, WORDS>(rt, alloc, load, gate) {
+            Ok(Outcome { delivery, ended }) => {
+                *ends = Ends::Tree(ended);
+                Ok(delivery)
+            }
+            Err(AllocError) => Err(Undone::Memory),
+        }
     }
 }

@@ -2,8 +2,9 @@
 
 ghost use Rattle.std.specs.List.{AllByRecursion};
 ghost use Rattle.std.specs.Prelude.{◌*◌, ◌++◌, ◌≡◌, ◌≤◌, IfOk, length};
-ghost use Rattle.vm_tree_model.specs.Tree.{IsTree, map_of};
-ghost use Rattle.vm_image.specs.Blocks.{pages_of_blocks};
+ghost use Rattle.vm_page.specs.Sizes.{IsSize};
+ghost use Rattle.vm_tree_model.specs.{Fixed.fixed, Tree.IsTree, Tree.map_of};
+ghost use Rattle.vm_image.specs.{Blocks.pages_of_blocks, File.most_pages};
 ghost use Rattle.vm_core.specs.Prelude.{MAX_VERSION};
 ghost use Rattle.vm_drive.specs.{Compact.all_replies, Compact.HasWindows};
 ghost use Rattle.vm_drive.specs.Drives.{AreAskable, AreFew, items_of};
@@ -23,29 +24,30 @@ use vm_drive::gate::Gate;
 use vm_endings::delivery::{Delivery, File};
 use vm_endings::replies::{add_replies, add_rows};
 use vm_files::reading::Stored;
+use vm_files::writing::file_of;
 use vm_image::{Image, image_of};
+use vm_kind::{OfSize, TreeOf, WordKeys};
 use vm_map::call::{Call, Pair};
-use vm_page::WORDS;
+use vm_owner::Owner;
 use vm_pool::Ended;
 use vm_script::text::{counters_text, unflushed_text};
 use vm_serve::{Served, serve};
-use vm_tree_rule::Tree;
 use vm_words::Run;
 
 /// What a run gives, and what is kept of it.
 #[derive(Drop)]
-pub struct Outcome<'a> {
+pub struct Outcome<'a, U: Owner> {
     pub delivery: Delivery<'a>,
-    pub ended: Ended<Tree>,
+    pub ended: Ended<U>,
 }
 
 // The text of the replies, of the rows and of the counters.
-fn whole_text(
+fn whole_text<U: Owner>(
     alloc: Global,
     lists: &[Vec<Call>],
     replies: &[Replies],
     rows: &[Pair],
-    ended: &Ended<Tree>,
+    ended: &Ended<U>,
     evicted: u64,
 ) -> Result<Vec<u8>, AllocError>
     requires few { AreFew (items_of lists.now) }
@@ -69,12 +71,12 @@ fn whole_text(
 }
 
 // The text of the replies, of the page whose write failed and of the counters.
-fn cut_text(
+fn cut_text<U: Owner>(
     alloc: Global,
     lists: &[Vec<Call>],
     replies: &[Replies],
     page: u32,
-    ended: &Ended<Tree>,
+    ended: &Ended<U>,
     evicted: u64,
 ) -> Result<Vec<u8>, AllocError>
     requires few { AreFew (items_of lists.now) }
@@ -98,12 +100,16 @@ fn cut_text(
 }
 
 /// The pages that the blocks hold, and the rows of the tree that they are.
-pub fn stored_in(alloc: Global, blocks: &[MemBlock<WORDS>]) -> Result<Stored, AllocError>
-    requires tree { IsTree (pages_of_blocks blocks.now) }
+pub fn stored_in<const N: usize>(
+    alloc: Global,
+    blocks: &[MemBlock<N>],
+) -> Result<Stored<N>, AllocError>
+    requires sized { IsSize N }
+    requires tree { IsTree (fixed N) (pages_of_blocks blocks.now) }
     requires some { 2 ≤ length blocks.now }
-    requires most { length blocks.now ≤ 65536 }
+    requires most { length blocks.now ≤ most_pages N }
     ensures image { IfOk result (λ stored. stored.image ≡ pages_of_blocks blocks.now) }
-    ensures rows { IfOk result (λ stored. stored.rows.pairs.items ≡ map_of (pages_of_blocks blocks.now)) }
+    ensures rows { IfOk result (λ stored. stored.rows.pairs.items ≡ map_of (fixed N) (pages_of_blocks blocks.now)) }
 {
     let Ok(image) = image_of(alloc, blocks) else {
         return Err(AllocError);
@@ -116,30 +122,28 @@ pub fn stored_in(alloc: Global, blocks: &[MemBlock<WORDS>]) -> Result<Stored, Al
 }
 
 // The file that is to be kept, if one is.
-fn kept<'a>(
+fn kept<'a, const N: usize>(
     alloc: Global,
-    image: &Image,
+    image: &Image<N>,
     keep: Option<&'a str>,
 ) -> Result<Option<File<'a>>, AllocError>
-    requires { IsTree image.now }
-    ensures { IfOk result (λ file. IsKept keep.entry image.now (written_of file)) }
+    requires sized { IsSize N }
+    requires tree { IsTree (fixed N) image.now }
+    ensures { IfOk result (λ file. IsKept N keep.entry image.now (written_of file)) }
 {
     match keep {
-        Some(name) => match image.to_bytes(alloc) {
-            Ok(bytes) => Ok(Some(File { name, bytes })),
-            Err(_) => Err(AllocError),
-        },
+        Some(name) => Ok(Some(file_of(alloc, image, name)?)),
         None => Ok(None),
     }
 }
 
 /// What is given and kept, put together.
-pub fn told<'a>(
+pub fn told<'a, U: Owner>(
     file: Option<File<'a>>,
     text: Vec<u8>,
     status: u8,
-    ended: Ended<Tree>,
-) -> Outcome<'a>
+    ended: Ended<U>,
+) -> Outcome<'a, U>
     ensures { result ≡ record { delivery = record { file = file.entry; text = text; status = status }; ended = ended } }
 {
     Outcome {
@@ -149,28 +153,34 @@ pub fn told<'a>(
 }
 
 /// Makes the workers' calls on the image's tree, and builds what is told and kept. The only error is want of memory.
-pub fn outcome_of<'a, R: Threads + Wait + Sync, G: Gate + Sync>(
+pub fn outcome_of<
+    'a,
+    S: OfSize<N> + Sync,
+    R: Threads + Wait + Sync,
+    G: Gate + Sync,
+    const N: usize,
+>(
     rt: &R,
     alloc: Global,
     run: &Run<'a>,
-    image: &Image,
+    image: &Image<N>,
     lists: &[Vec<Call>],
     gate: &G,
-) -> Result<Outcome<'a>, AllocError>
-    requires tree { IsTree image.now }
+) -> Result<Outcome<'a, TreeOf<WordKeys<S, N>>>, AllocError>
+    requires tree { IsTree (fixed N) image.now }
     requires plan { length run.now.options.fail.items ≤ 64 }
     requires version { version_or run.now.options.first_version ≤ MAX_VERSION }
     requires frames { (64 ≤ run.now.frames) × (run.now.frames ≤ 65536) × (8 * length lists.now ≤ run.now.frames) }
     requires lists { (1 ≤ length lists.now) × (length lists.now ≤ 64) }
     requires few { AreFew (items_of lists.now) }
     requires askable { AreAskable (items_of lists.now) }
-    ensures { IfOk result (λ outcome. IsOutcome run.now image.now (items_of lists.now) (content_of outcome.delivery) outcome.ended) }
+    ensures { IfOk result (λ outcome. IsOutcome N run.now image.now (items_of lists.now) (content_of outcome.delivery) outcome.ended) }
 {
     // Any call on the image tells that it has no more pages than a page file may have.
     let _pages = image.pages();
     let version = run.options.first_version.unwrap_or(0);
     let plan = run.options.fail.as_slice();
-    let served = match serve(
+    let served = match serve::<S, R, G, N>(
         rt,
         alloc,
         image,

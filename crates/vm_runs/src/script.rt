@@ -2,8 +2,9 @@
 
 ghost use Rattle.std.specs.Prelude.{◌≡◌, ◌≤◌};
 ghost use Rattle.vm_words.specs.declared.Command.TheVariants as commands;
-ghost use Rattle.vm_endings.specs.{Deliveries.content_of, Endings.AnswersCommand, Endings.HasReadCause};
-ghost use Rattle.vm_files.specs.Readings.{TellsLimits};
+ghost use Rattle.vm_endings.specs.{Deliveries.content_of, Endings.AnswersCommand, Endings.HasReadCause, Files.HasFile};
+ghost use Rattle.vm_files.specs.Readings.{IsStoredIn, TellsLimits};
+ghost use Rattle.vm_runs.specs.Answers.{AnswersRun};
 
 use crate::outcome::{Outcome, outcome_of};
 use std::alloc::{AllocError, Global};
@@ -15,8 +16,10 @@ use vm_endings::ends::Ends;
 use vm_endings::limits::{are_entries, are_frames, are_workers, holds_call, is_version};
 use vm_endings::stop::{Quantity, Stop};
 use vm_endings::undone::Undone;
-use vm_files::reading::{Stored, read_calls, read_tree};
+use vm_files::reading::{Stored, StoredTree, read_calls, read_tree};
 use vm_io::host::Host;
+use vm_kind::{OfSize, Sizes, TreeOf, WordKeys};
+use vm_page::{LARGE, WORDS};
 use vm_words::Run;
 
 // The number of workers, where the numbers are within their limits; else the first that is not.
@@ -38,10 +41,52 @@ fn workers_of(run: &Run<'_>) -> Result<u32, Quantity>
     Ok(run.workers as u32)
 }
 
+// Makes the script's calls on the tree of the image, whose pages have `N` words, and builds what is told, where the frames are enough for the
+// height of the tree.
+#[tactic(auto, unfolding(vm_page::specs::Counts::count_more))]
+fn run_on<
+    'a,
+    S: OfSize<N> + Sync,
+    R: Threads + Wait + Sync,
+    H: Host,
+    G: Gate + Sync,
+    const N: usize,
+>(
+    rt: &R,
+    alloc: Global,
+    host: &mut H,
+    run: &Run<'a>,
+    workers: u32,
+    stored: Stored<N>,
+    gate: &G,
+) -> Result<Outcome<'a, TreeOf<WordKeys<S, N>>>, Undone<Stop<'a>>>
+    requires limits { TellsLimits run.now (Ok workers) }
+    requires image { HasFile (H.shown host.old) run.now.image.now (IsStoredIn N stored) }
+    ensures gives { AnswersRun N run.now (H.last host.new) (H.shown host.old) result }
+    ensures shown { H.shown host.new ≡ H.shown host.old }
+    ensures puts { H.gives host.new ≡ H.gives host.old }
+    ensures later { H.takes host.old ≤ H.takes host.new }
+    ensures cause { HasReadCause (H.takes host.old) (H.takes host.new) result }
+{
+    let Stored { image, rows } = stored;
+    if !holds_call(rows.height, run.frames) {
+        return Err(Undone::Stopped(Stop::Shape(Quantity::Frames)));
+    }
+    // The calls change the tree: its rows are told of the pages that they leave.
+    drop(rows);
+    let lists = match read_calls(alloc, host, run.script, workers) {
+        Ok(lists) => lists,
+        Err(undone) => return Err(undone),
+    };
+    match outcome_of::<S, R, G, N>(rt, alloc, run, &image, lists.as_slice(), gate) {
+        Ok(outcome) => Ok(outcome),
+        Err(AllocError) => Err(Undone::Memory),
+    }
+}
+
 /// Tests the numbers, reads the image, tests whether the frames are enough for the height of its tree, reads the script, makes the calls, and builds what
 /// is told. The history is kept in `ends` once nothing can fail
 /// any more but the host.
-#[tactic(auto, unfolding(vm_page::specs::Counts::count_more))]
 pub fn run_script<'a, R: Threads + Wait + Sync, H: Host, G: Gate + Sync>(
     rt: &R,
     alloc: Global,
@@ -60,25 +105,25 @@ pub fn run_script<'a, R: Threads + Wait + Sync, H: Host, G: Gate + Sync>(
         Ok(workers) => workers,
         Err(quantity) => return Err(Undone::Stopped(Stop::Shape(quantity))),
     };
-    let Stored { image, rows } = match read_tree(alloc, host, run.image) {
-        Ok(stored) => stored,
-        Err(undone) => return Err(undone),
-    };
-    if !holds_call(rows.height, run.frames) {
-        return Err(Undone::Stopped(Stop::Shape(Quantity::Frames)));
-    }
-    // The calls change the tree: its rows are told of the pages that they leave.
-    drop(rows);
-    let lists = match read_calls(alloc, host, run.script, workers) {
-        Ok(lists) => lists,
-        Err(undone) => return Err(undone),
-    };
-    match outcome_of(rt, alloc, run, &image, lists.as_slice(), gate) {
-        Ok(outcome) => {
-            let Outcome { delivery, ended } = outcome;
-            *ends = Ends::Tree(ended);
-            Ok(delivery)
+    match read_tree(alloc, host, run.image) {
+        Ok(StoredTree::Words64(stored)) => {
+            match run_on::<Sizes, R, H, G, WORDS>(rt, alloc, host, run, workers, stored, gate) {
+                Ok(Outcome { delivery, ended }) => {
+                    *ends = Ends::Tree(ended);
+                    Ok(delivery)
+                }
+                Err(undone) => Err(undone),
+            }
         }
-        Err(AllocError) => Err(Undone::Memory),
+        Ok(StoredTree::Words512(stored)) => {
+            match run_on::<Sizes, R, H, G, LARGE>(rt, alloc, host, run, workers, stored, gate) {
+                Ok(Outcome { delivery, ended }) => {
+                    *ends = Ends::LargeTree(ended);
+                    Ok(delivery)
+                }
+                Err(undone) => Err(undone),
+            }
+        }
+        Err(undone) => Err(undone),
     }
 }

@@ -1,4 +1,4 @@
--- The lines of what calls were answered, of rows, of counters, of a tree's size, and of what was made and churned.
+-- The lines of what calls were answered, of rows, of counters, of a tree's size, and of what was made, migrated and churned.
 use Rattle.std.specs.Fmt.{decimal}
 use Rattle.std.specs.List.{flat_map}
 use Rattle.std.specs.Prelude.{[], ◌++◌, ◌+◌, ◌∷◌, codes, length, List, map, None, Option, Some, ℕ}
@@ -91,6 +91,11 @@ check_text rows height used = rows_text rows ++ tree_line height used (length ro
 -- `made P used U height H`
 abbrev pub made_line : ℕ → ℕ → ℕ → List ℕ
 made_line pages used height = codes "made " ++ decimal pages ++ codes " used " ++ decimal used ++ codes " height " ++ decimal height ++ 10 ∷ []
+
+-- `migrated P used U height H rows N`
+abbrev pub migrated_line : (pages used height rows : ℕ) → List ℕ
+migrated_line pages used height rows =
+    codes "migrated " ++ decimal pages ++ codes " used " ++ decimal used ++ codes " height " ++ decimal height ++ codes " rows " ++ decimal rows ++ 10 ∷ []
 
 -- `churn N calls C some A new B gone G rows R sum S`
 abbrev pub churn_line : (pairs calls some new gone rows sum : ℕ) → List ℕ

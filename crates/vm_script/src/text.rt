@@ -1,10 +1,10 @@
-//! Writes the lines of what calls were answered, of rows, of counters, of a tree's size, and of what was made and churned.
+//! Writes the lines of what calls were answered, of rows, of counters, of a tree's size, and of what was made, migrated and churned.
 
 ghost use Rattle.std.specs.Prelude.{◌++◌, ◌≡◌, IfOk, if◌then◌else◌, is_ok, string_bytes};
 ghost use Rattle.vm_map.specs.declared.call.Reply.TheVariants.{Win};
 ghost use Rattle.vm_script.specs.declared.text.Line.TheVariants as lines;
-ghost use Rattle.vm_script.specs.Texts.{answer_text, bound_text, churn_line, counters_line, made_line, outcome_text, reply_line, row_line};
-ghost use Rattle.vm_script.specs.Texts.{shown_text, tree_line, unflushed_line, window_text};
+ghost use Rattle.vm_script.specs.Texts.{answer_text, bound_text, churn_line, counters_line, made_line, migrated_line, outcome_text, reply_line};
+ghost use Rattle.vm_script.specs.Texts.{row_line, shown_text, tree_line, unflushed_line, window_text};
 
 use std::alloc::{AllocError, Global};
 use vm_map::call::{Call, Pair, Reply, Said};
@@ -247,6 +247,26 @@ pub fn made_text(
     ensures { out.new.items ≡ (if is_ok result then out.old.items ++ made_line pages used height else out.old.items) }
 {
     let line = format!(in alloc; "made {pages} used {used} height {height}\n")?;
+    out.extend_from_slice(line.as_bytes())
+}
+
+/// Appends the line `migrated P used U height H rows N` of a page file that was built of another one's pairs: its pages, those that are not all
+/// zero, the level of its root, and its pairs.
+///
+/// # Errors
+///
+/// `AllocError` where memory was refused; `out` is then as before.
+pub fn migrated_text(
+    alloc: Global,
+    pages: u32,
+    used: u32,
+    height: u64,
+    rows: u64,
+    out: &mut Vec<u8>,
+) -> Result<(), AllocError>
+    ensures { out.new.items ≡ (if is_ok result then out.old.items ++ migrated_line pages used height rows else out.old.items) }
+{
+    let line = format!(in alloc; "migrated {pages} used {used} height {height} rows {rows}\n")?;
     out.extend_from_slice(line.as_bytes())
 }
 

@@ -9,7 +9,7 @@ use Rattle.clap.specs.Lexer.{long_of, short_of}
 use Rattle.clap.specs.Facts.{explicit_source, unwrap_or_range}
 use Rattle.clap.specs.ValueTests.{accepts}
 use Rattle.clap.specs.Walk.{Held, Names, Row, Rule, Step, Text, Walk, action_of, arg_by_id, arg_by_index, arg_by_long, arg_by_short, answers_to, attached_value, finished, has_row, is_pending, most_values, next, nothing_held, reacted, settled, subcommand, subcommand_met, takes_several, takes_values, trailing, value, values_or_missing, walk, walk_from, walked, word_met}
-use Rattle.clap.specs.Simple.{App, Shape, argument_words, built, entered, is_simple, label_of, names_of}
+use Rattle.clap.specs.Simple.{App, Shape, argument_words, built, entered, is_simple, label_of, names_of, subcommand_of}
 use Rattle.clap.specs.Takes.{action_passes, built_takes, bundle_passes, bundle_step_passes, count_passes, default_passes, entered_passes, flag_word_passes, flags_pass, is_given, is_valid, level_passes, long_passes, option_passes, other_passes, positional_passes, react_passes, set_passes, settle_passes, short_passes, step_passes, takes, turn_passes, use_passes, walk_passes}
 use Rattle.clap.specs.Kinds.{Kinds, check_kinds, or_else, range_kinds, values_kinds}
 use Rattle.clap.specs.Faults.{action_fault, built_fault, fault_of, is_simple_and_free, bundle_fault, bundle_step_fault, check_fault, count_fault, defaults_fault, entered_fault, flag_word_fault, flags_fault, level_fault, long_fault, option_fault, other_fault, positional_fault, react_fault, set_fault, settle_fault, short_fault, step_fault, stray_fault, turn_fault, use_fault, walk_fault, word_fault}
@@ -298,6 +298,11 @@ pub taken : (app : App) (words : List Text) → app ≡ vmcache_app → (is_simp
 taken app words is faultless =
     let none = faultless (subst (λ a. is_simple_and_free a ≡ true) (sym is) refl) in
     takes_faultless vmcache_app words refl refl (subst (λ a. fault_of a words ≡ []) is none)
+
+-- what clap found in the words is what its definitions find
+pub entered_is : (app : App) (words : List Text) (found : Option (Text × List Row)) → app ≡ vmcache_app → (is_simple app ≡ true → found ≡ subcommand_of app words) → found ≡ subcommand_of vmcache_app words
+entered_is app words found is finds =
+    subst (λ a. found ≡ subcommand_of a words) is (finds (subst (λ a. is_simple a ≡ true) (sym is) refl))
 
 not_true : (b : Bool) → (b ≡ true → ⊥) → b ≡ false
 not_true true never = absurd (never refl)

@@ -11,7 +11,7 @@ use Rattle.vm_words.specs.declared.form.Slot.{Slot}
 use Rattle.vm_words.specs.declared.form.Verb.{Verb}
 use Rattle.vm_words.specs.declared.form.Verb.TheVariants as verbs
 use Rattle.vm_words.specs.declared.Command.{Command}
-use Rattle.vm_words.specs.declared.Command.TheVariants.{Run, Make, Check, Churn, Replay}
+use Rattle.vm_words.specs.declared.Command.TheVariants.{Run, Make, Check, Churn, Replay, Migrate}
 
 -- the command that was entered, with what clap found for it
 abbrev pub Entered : Type 0
@@ -45,10 +45,11 @@ plan_or (fault ∷ plan) = planned (fault ∷ plan)
 -- the line of a command: what its slots say, in order
 abbrev pub line_of : Command → Verb × List Meaning
 line_of (Run run) = (verbs.Run, named run.image.now ∷ named run.script.now ∷ counted run.workers ∷ counted run.frames ∷ name_or run.options.keep ∷ plan_or run.options.fail.items ∷ number_or run.options.first_version ∷ [])
-line_of (Make make) = (verbs.Make, named make.file.now ∷ counted make.pages ∷ counted make.pairs ∷ counted make.seed ∷ [])
+line_of (Make make) = (verbs.Make, named make.file.now ∷ counted make.pages ∷ counted make.pairs ∷ counted make.seed ∷ number_or make.words ∷ [])
 line_of (Check check) = (verbs.Check, named check.file.now ∷ [])
-line_of (Churn churn) = (verbs.Churn, counted churn.pairs ∷ counted churn.seed ∷ counted churn.workers ∷ counted churn.frames ∷ [])
+line_of (Churn churn) = (verbs.Churn, counted churn.pairs ∷ counted churn.seed ∷ counted churn.workers ∷ counted churn.frames ∷ number_or churn.words ∷ [])
 line_of (Replay replay) = (verbs.Replay, named replay.file.now ∷ [])
+line_of (Migrate migrate) = (verbs.Migrate, named migrate.input.now ∷ named migrate.output.now ∷ counted migrate.pages ∷ [])
 
 abbrev pub IsCommand : List Text → Command → Type 0
 IsCommand words command = IsCommandLine words (line_of command).0 (line_of command).1

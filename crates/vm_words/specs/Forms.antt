@@ -3,9 +3,9 @@ use Rattle.std.specs.Prelude.{Bool, true, false, List, [], ◌∷◌, Option, co
 use Rattle.std.specs.Str.{bytes_eq}
 use Rattle.clap.specs.Words.{Text}
 use Rattle.vm_words.specs.declared.form.Verb.{Verb}
-use Rattle.vm_words.specs.declared.form.Verb.TheVariants.{Run, Make, Check, Churn, Replay}
+use Rattle.vm_words.specs.declared.form.Verb.TheVariants.{Run, Make, Check, Churn, Replay, Migrate}
 use Rattle.vm_words.specs.declared.form.Slot.{Slot}
-use Rattle.vm_words.specs.declared.form.Slot.TheVariants.{Image, Script, Workers, Frames, Keep, Fail, FirstVersion, File, Pages, Pairs, Seed}
+use Rattle.vm_words.specs.declared.form.Slot.TheVariants.{Image, Script, Workers, Frames, Keep, Fail, FirstVersion, File, Pages, Pairs, Seed, Words, Input, Output}
 use Rattle.vm_words.specs.declared.form.Place.{Place}
 use Rattle.vm_words.specs.declared.form.Place.TheVariants.{Placed, Asked, Optional}
 use Rattle.vm_words.specs.declared.form.Kind.{Kind}
@@ -13,7 +13,7 @@ use Rattle.vm_words.specs.declared.form.Kind.TheVariants.{Name, Number, Faults}
 
 -- every command
 abbrev pub verbs : List Verb
-verbs = Run ∷ Make ∷ Check ∷ Churn ∷ Replay ∷ []
+verbs = Run ∷ Make ∷ Check ∷ Churn ∷ Replay ∷ Migrate ∷ []
 
 abbrev pub title : Verb → Text
 title Run = codes "run"
@@ -21,6 +21,7 @@ title Make = codes "make"
 title Check = codes "check"
 title Churn = codes "churn"
 title Replay = codes "replay"
+title Migrate = codes "migrate"
 
 -- the command with this name
 abbrev pub verb_at : Text → Option Verb
@@ -29,10 +30,11 @@ verb_at word = find (λ verb. bytes_eq (title verb) word) verbs
 -- the slots of a command, in order
 abbrev pub slots_in : Verb → List Slot
 slots_in Run = Image ∷ Script ∷ Workers ∷ Frames ∷ Keep ∷ Fail ∷ FirstVersion ∷ []
-slots_in Make = File ∷ Pages ∷ Pairs ∷ Seed ∷ []
+slots_in Make = File ∷ Pages ∷ Pairs ∷ Seed ∷ Words ∷ []
 slots_in Check = File ∷ []
-slots_in Churn = Pairs ∷ Seed ∷ Workers ∷ Frames ∷ []
+slots_in Churn = Pairs ∷ Seed ∷ Workers ∷ Frames ∷ Words ∷ []
 slots_in Replay = File ∷ []
+slots_in Migrate = Input ∷ Output ∷ Pages ∷ []
 
 abbrev pub slot_text : Slot → Text
 slot_text Image = codes "image"
@@ -46,6 +48,9 @@ slot_text File = codes "file"
 slot_text Pages = codes "pages"
 slot_text Pairs = codes "pairs"
 slot_text Seed = codes "seed"
+slot_text Words = codes "words"
+slot_text Input = codes "input"
+slot_text Output = codes "output"
 
 abbrev pub place_in : Slot → Place
 place_in Image = Placed
@@ -59,6 +64,9 @@ place_in File = Placed
 place_in Pages = Placed
 place_in Pairs = Placed
 place_in Seed = Placed
+place_in Words = Optional
+place_in Input = Placed
+place_in Output = Placed
 
 abbrev pub kind_in : Slot → Kind
 kind_in Image = Name
@@ -72,6 +80,9 @@ kind_in File = Name
 kind_in Pages = Number
 kind_in Pairs = Number
 kind_in Seed = Number
+kind_in Words = Number
+kind_in Input = Name
+kind_in Output = Name
 
 -- the word has to be there
 abbrev pub is_needed : Place → Bool

@@ -12,6 +12,7 @@ pub enum Verb {
     Check,
     Churn,
     Replay,
+    Migrate,
 }
 
 /// A word behind a command's name.
@@ -28,6 +29,9 @@ pub enum Slot {
     Pages,
     Pairs,
     Seed,
+    Words,
+    Input,
+    Output,
 }
 
 /// Where a slot's word stands.
@@ -53,12 +57,13 @@ pub enum Kind {
 }
 
 // Every command.
-pub(crate) const VERBS: [Verb; 5] = [
+pub(crate) const VERBS: [Verb; 6] = [
     Verb::Run,
     Verb::Make,
     Verb::Check,
     Verb::Churn,
     Verb::Replay,
+    Verb::Migrate,
 ];
 
 // The command's name.
@@ -71,6 +76,7 @@ pub(crate) fn title_of<'a>(verb: Verb) -> &'a str
         Verb::Check => "check",
         Verb::Churn => "churn",
         Verb::Replay => "replay",
+        Verb::Migrate => "migrate",
     }
 }
 
@@ -88,9 +94,22 @@ pub(crate) fn slots_of(verb: Verb) -> &'static [Slot]
             Slot::Fail,
             Slot::FirstVersion,
         ],
-        Verb::Make => &[Slot::File, Slot::Pages, Slot::Pairs, Slot::Seed],
-        Verb::Churn => &[Slot::Pairs, Slot::Seed, Slot::Workers, Slot::Frames],
+        Verb::Make => &[
+            Slot::File,
+            Slot::Pages,
+            Slot::Pairs,
+            Slot::Seed,
+            Slot::Words,
+        ],
+        Verb::Churn => &[
+            Slot::Pairs,
+            Slot::Seed,
+            Slot::Workers,
+            Slot::Frames,
+            Slot::Words,
+        ],
         Verb::Check | Verb::Replay => &[Slot::File],
+        Verb::Migrate => &[Slot::Input, Slot::Output, Slot::Pages],
     }
 }
 
@@ -110,6 +129,9 @@ pub(crate) fn name_of<'a>(slot: Slot) -> &'a str
         Slot::Pages => "pages",
         Slot::Pairs => "pairs",
         Slot::Seed => "seed",
+        Slot::Words => "words",
+        Slot::Input => "input",
+        Slot::Output => "output",
     }
 }
 
@@ -119,9 +141,10 @@ pub(crate) fn place_of(slot: Slot) -> Place
 {
     match slot {
         Slot::Image | Slot::Script | Slot::File => Place::Placed,
+        Slot::Input | Slot::Output => Place::Placed,
         Slot::Pages | Slot::Pairs | Slot::Seed => Place::Placed,
         Slot::Workers | Slot::Frames => Place::Asked,
-        Slot::Keep | Slot::Fail | Slot::FirstVersion => Place::Optional,
+        Slot::Keep | Slot::Fail | Slot::FirstVersion | Slot::Words => Place::Optional,
     }
 }
 
@@ -131,7 +154,8 @@ pub(crate) fn kind_of(slot: Slot) -> Kind
 {
     match slot {
         Slot::Image | Slot::Script | Slot::Keep | Slot::File => Kind::Name,
-        Slot::Workers | Slot::Frames | Slot::FirstVersion => Kind::Number,
+        Slot::Input | Slot::Output => Kind::Name,
+        Slot::Workers | Slot::Frames | Slot::FirstVersion | Slot::Words => Kind::Number,
         Slot::Pages | Slot::Pairs | Slot::Seed => Kind::Number,
         Slot::Fail => Kind::Faults,
     }

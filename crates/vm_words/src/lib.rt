@@ -23,6 +23,7 @@ pub enum Command<'a> {
     Check(Check<'a>),
     Churn(Churn),
     Replay(Replay<'a>),
+    Migrate(Migrate<'a>),
 }
 
 /// `run IMAGE SCRIPT --workers W --frames F [--keep FILE] [--fail P:N,..] [--first-version V]`
@@ -52,7 +53,7 @@ pub struct Options<'a> {
     pub first_version: Option<u64>,
 }
 
-/// `make FILE PAGES N SEED`
+/// `make FILE PAGES N SEED [--words 64|512]`
 #[derive(Clone, Copy)]
 pub struct Make<'a> {
     /// The name of the file that is written.
@@ -63,6 +64,8 @@ pub struct Make<'a> {
     pub pairs: u64,
     /// The first of the pairs' keys, from which the others follow.
     pub seed: u64,
+    /// `--words N`: how many words a page has.
+    pub words: Option<u64>,
 }
 
 /// `check FILE`
@@ -72,7 +75,7 @@ pub struct Check<'a> {
     pub file: &'a str,
 }
 
-/// `churn N SEED --workers W --frames F`
+/// `churn N SEED --workers W --frames F [--words 64|512]`
 #[derive(Clone, Copy)]
 pub struct Churn {
     /// How many pairs the tree begins with.
@@ -83,6 +86,8 @@ pub struct Churn {
     pub workers: u64,
     /// How many frames.
     pub frames: u64,
+    /// `--words N`: how many words a page has.
+    pub words: Option<u64>,
 }
 
 /// `replay FILE`
@@ -90,6 +95,17 @@ pub struct Churn {
 pub struct Replay<'a> {
     /// The name of the file with the events.
     pub file: &'a str,
+}
+
+/// `migrate IN OUT PAGES`
+#[derive(Clone, Copy)]
+pub struct Migrate<'a> {
+    /// The name of the file whose pairs are taken.
+    pub input: &'a str,
+    /// The name of the file that is written.
+    pub output: &'a str,
+    /// How many pages it has.
+    pub pages: u64,
 }
 
 /// Why the words gave no command.

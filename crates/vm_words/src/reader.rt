@@ -8,7 +8,7 @@ ghost use Rattle.vm_words.specs.Values.{AreMeant, ReadsSlot, ReadsSlots, meaning
 
 use crate::form::{Place, Slot, VERBS, Verb, kind_of, name_of, place_of, slots_of, title_of};
 use crate::value::{Value, name, name_if_given, number, number_if_given, plan, value_of};
-use crate::{Check, Churn, Command, Make, Options, Replay, Run};
+use crate::{Check, Churn, Command, Make, Migrate, Options, Replay, Run};
 use clap::ArgMatches;
 use std::alloc::{AllocError, Global};
 
@@ -90,6 +90,7 @@ fn command_with<'a>(alloc: Global, verb: Verb, values: Vec<Value<'a>>) -> Comman
             pages: number(&mut values),
             pairs: number(&mut values),
             seed: number(&mut values),
+            words: number_if_given(&mut values),
         }),
         Verb::Check => Command::Check(Check {
             file: name(&mut values),
@@ -99,9 +100,15 @@ fn command_with<'a>(alloc: Global, verb: Verb, values: Vec<Value<'a>>) -> Comman
             seed: number(&mut values),
             workers: number(&mut values),
             frames: number(&mut values),
+            words: number_if_given(&mut values),
         }),
         Verb::Replay => Command::Replay(Replay {
             file: name(&mut values),
+        }),
+        Verb::Migrate => Command::Migrate(Migrate {
+            input: name(&mut values),
+            output: name(&mut values),
+            pages: number(&mut values),
         }),
     }
 }

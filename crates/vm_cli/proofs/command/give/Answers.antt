@@ -17,3 +17,6 @@ returns-in-Churn-clause-cause g c = c.run_churn.ensures.cause _
 
 pub returns-in-Replay-clause-gives : goal.returns-in-Replay-clause-gives
 returns-in-Replay-clause-gives g c = rw c.in-Replay.is (c.run_replay.ensures.gives c.args.ends.now)
+
+pub returns-in-Migrate-clause-gives : goal.returns-in-Migrate-clause-gives
+returns-in-Migrate-clause-gives g c = rw c.in-Migrate.is (c.run_migrate.ensures.gives c.args.ends.now)
