@@ -1,18 +1,20 @@
 """Page files, the checker, the builder, and the calls of one worker on a tree.
 
-A page is a list of 64 numbers, a page file a list of pages. Written from docs/ and the READMEs of the crates, and from no answer of the program.
+A page is a list of 64 numbers, or of 512, a page file a list of pages of one size. Written from docs/ and the READMEs of the crates, and from no answer of the program.
 """
 
 from dataclasses import dataclass
 
-MAGIC = 0x564D434143484531
-WORDS, MOST, HALF, BUILT = 64, 28, 14, 20
+SMALL, LARGE = 64, 512
+MAGIC = {SMALL: 0x564D434143484531, LARGE: 0x564D434143484532}
+# how many pages a file has at most, how many pairs a node, and how many a node that is built
+PAGES, MOST, BUILT = {SMALL: 65536, LARGE: 8192}, {SMALL: 28, LARGE: 252}, {SMALL: 20, LARGE: 180}
 LEAF, INNER = 2, 3
 TOP, LAST = 2**64, 2**56 - 1
 
 
-def blank():
-    return [0] * WORDS
+def blank(size):
+    return [0] * size
 
 
 def spell(pages):
@@ -21,12 +23,13 @@ def spell(pages):
 
 
 def read(data):
-    """The pages that the bytes spell, or None where the length is no page file's."""
-    size = len(data) // 512
-    if len(data) % 512 or not 2 <= size <= 65536:
+    """The pages that the bytes spell, whose size the first eight tell, or None where the length is no page file's."""
+    size = LARGE if data[:8] == b"VMCACHE2" else SMALL
+    count = len(data) // (8 * size)
+    if len(data) % (8 * size) or not 2 <= count <= PAGES[size]:
         return None
     words = [int.from_bytes(data[i : i + 8], "big") for i in range(0, len(data), 8)]
-    return [words[WORDS * p : WORDS * (p + 1)] for p in range(size)]
+    return [words[size * p : size * (p + 1)] for p in range(count)]
 
 
 @dataclass
@@ -36,11 +39,11 @@ class Node:
     high: int | None
     pairs: list  # of key and value, or of a child's lowest key and its page
 
-    def page(self):
+    def page(self, size):
         words = [LEAF if self.level == 0 else INNER, len(self.pairs), self.low, self.high or 0, int(self.high is None), self.level, 0, 0]
         for key, value in self.pairs:
             words += [key, value]
-        return words + [0] * (WORDS - len(words))
+        return words + [0] * (size - len(words))
 
     def place(self, key):
         """The place of the child that covers the key."""
@@ -52,8 +55,8 @@ def node_of(page):
     return Node(page[5], page[2], high, [(page[8 + 2 * i], page[9 + 2 * i]) for i in range(page[1])])
 
 
-def meta(root, height):
-    return [MAGIC, root, height] + [0] * 61
+def meta(size, root, height):
+    return [MAGIC[size], root, height] + [0] * (size - 3)
 
 
 def fault_of(pages, pid, level, low, high, seen):
@@ -66,7 +69,7 @@ def fault_of(pages, pid, level, low, high, seen):
     if page[2:5] != [low, high or 0, int(high is None)]:
         return 5
     count = page[1]
-    if count > MOST or (level > 0 and count == 0) or page[5] != level or page[6] or page[7] or any(page[8 + 2 * count :]):
+    if count > MOST[len(page)] or (level > 0 and count == 0) or page[5] != level or page[6] or page[7] or any(page[8 + 2 * count :]):
         return 6
     keys = [page[8 + 2 * i] for i in range(count)]
     rises = all(a < b for a, b in zip(keys, keys[1:]))
@@ -80,7 +83,7 @@ def fault_of(pages, pid, level, low, high, seen):
 
 def check(pages):
     """The rows, the height and the number of used pages; or the page and the reason of the first fault on the walk."""
-    if pages[0][0] != MAGIC:
+    if pages[0][0] != MAGIC[len(pages[0])]:
         return ("bad", 0, 1)
     root, height = pages[0][1], pages[0][2]
     if not 1 <= root < len(pages) or height > len(pages) - 2 or any(pages[0][3:]):
@@ -113,31 +116,31 @@ def numbers(seed, count):
     return found
 
 
-def needed(count):
-    """How many pages the builder needs."""
-    level = max(1, -(-count // BUILT))
+def needed(count, size=SMALL):
+    """How many pages of this size the builder needs."""
+    level = max(1, -(-count // BUILT[size]))
     pages = 1 + level
     while level > 1:
-        level = -(-level // BUILT)
+        level = -(-level // BUILT[size])
         pages += level
     return pages
 
 
-def build(size, pairs):
-    """The page file that the builder makes of the pairs, of this many pages; there must be enough."""
-    pages = [blank() for _ in range(size)]
-    items, level, free = sorted(pairs), 0, 1
+def build(count, pairs, size=SMALL):
+    """The page file that the builder makes of the pairs, of this many pages of this size; there must be enough."""
+    pages = [blank(size) for _ in range(count)]
+    items, level, free, each = sorted(pairs), 0, 1, BUILT[size]
     while True:
-        groups = [items[i : i + BUILT] for i in range(0, len(items), BUILT)] or [[]]
+        groups = [items[i : i + each] for i in range(0, len(items), each)] or [[]]
         lows = [0] + [group[0][0] for group in groups[1:]]
         highs = lows[1:] + [None]
         if level:
             groups[0][0] = (0, groups[0][0][1])
         for group, low, high in zip(groups, lows, highs):
-            pages[free] = Node(level, low, high, group).page()
+            pages[free] = Node(level, low, high, group).page(size)
             free += 1
         if len(groups) == 1:
-            pages[0] = meta(free - 1, level)
+            pages[0] = meta(size, free - 1, level)
             return pages
         items, level = list(zip(lows, range(free - len(groups), free))), level + 1
 
@@ -155,6 +158,7 @@ class Store:
 
     def __init__(self, pages, plan=(), version=0):
         self.pages = [list(page) for page in pages]
+        self.size = len(pages[0])
         self.versions = [version] * len(pages)
         self.plan, self.calls = set(plan), [0] * len(pages)
         self.resident, self.dirty, self.locked = set(), set(), set()
@@ -206,11 +210,12 @@ class Store:
 
     def split(self, way):
         """Splits the first full node of the way. Where no page is left for it the call is `full`, and no version was raised."""
-        at = next(i for i, pid in enumerate(way) if len(node_of(self.pages[pid]).pairs) == MOST)
+        at = next(i for i, pid in enumerate(way) if len(node_of(self.pages[pid]).pairs) == MOST[self.size])
         pid, root = way[at], at == 0
         node, right = node_of(self.pages[pid]), self.next
-        key = node.pairs[HALF][0]
-        halves = Node(node.level, node.low, key, node.pairs[:HALF]), Node(node.level, key, node.high, node.pairs[HALF:])
+        half = MOST[self.size] // 2
+        key = node.pairs[half][0]
+        halves = Node(node.level, node.low, key, node.pairs[:half]), Node(node.level, key, node.high, node.pairs[half:])
         fresh = [right, right + 1] if root else [right]
         if fresh[-1] >= len(self.pages):
             raise Fault("full")
@@ -219,15 +224,15 @@ class Store:
             self.raise_version(page)
         self.next += len(fresh)
         self.resident |= set(fresh)
-        self.write(pid, halves[0].page())
-        self.write(right, halves[1].page())
+        self.write(pid, halves[0].page(self.size))
+        self.write(right, halves[1].page(self.size))
         if root:
-            self.write(right + 1, Node(node.level + 1, 0, None, [(0, pid), (key, right)]).page())
-            self.write(0, meta(right + 1, node.level + 1))
+            self.write(right + 1, Node(node.level + 1, 0, None, [(0, pid), (key, right)]).page(self.size))
+            self.write(0, meta(self.size, right + 1, node.level + 1))
         else:
             parent = node_of(self.pages[way[at - 1]])
             parent.pairs.insert(parent.place(key) + 1, (key, right))
-            self.write(way[at - 1], parent.page())
+            self.write(way[at - 1], parent.page(self.size))
 
     def get(self, key):
         return dict(self.node(self.way(key)[-1]).pairs).get(key)
@@ -237,13 +242,13 @@ class Store:
             way = self.way(key)
             leaf = node_of(self.pages[way[-1]])
             pairs = dict(leaf.pairs)
-            if key in pairs or len(pairs) < MOST:
+            if key in pairs or len(pairs) < MOST[self.size]:
                 break
             self.split(way)
         self.raise_version(way[-1])
         old = pairs.get(key)
         leaf.pairs = sorted({**pairs, key: value}.items())
-        self.write(way[-1], leaf.page())
+        self.write(way[-1], leaf.page(self.size))
         return old
 
     def delete(self, key):
@@ -253,7 +258,7 @@ class Store:
         if old is not None:
             self.raise_version(pid)
             leaf.pairs = [pair for pair in leaf.pairs if pair[0] != key]
-            self.write(pid, leaf.page())
+            self.write(pid, leaf.page(self.size))
         return old
 
     def window(self, start, most):

@@ -1,5 +1,7 @@
 //! A case, read from its line in the list.
 
+ghost use Rattle.std.specs.Prelude.{◌≤◌};
+
 use std::alloc::Global;
 use vm_script::number::number_of;
 
@@ -40,16 +42,30 @@ impl<'a> Case<'a> {
 
     /// Makes the changes in the bytes of the file.
     pub fn change(&self, bytes: &mut [u8]) {
+        let words = words_in(bytes);
         for change in self.changes.chunks_exact(3) {
-            set_word(bytes, change[0], change[1], change[2]);
+            set_word(bytes, words, change[0], change[1], change[2]);
         }
     }
 }
 
-/// Sets a word of a page, where the bytes reach so far.
-fn set_word(bytes: &mut [u8], page: u64, word: u64, value: u64) {
-    if page < 64 && word < 64 {
-        let at = (512 * page + 8 * word) as usize;
+/// How many words a page of the file has.
+fn words_in(bytes: &[u8]) -> u64
+    ensures { result ≤ 512 }
+{
+    if bytes.starts_with(b"VMCACHE2") {
+        512
+    } else {
+        64
+    }
+}
+
+/// Sets a word of a page of so many words, where the bytes reach so far.
+fn set_word(bytes: &mut [u8], words: u64, page: u64, word: u64, value: u64)
+    requires { words ≤ 512 }
+{
+    if page < 64 && word < words {
+        let at = (8 * (words * page + word)) as usize;
         if at + 8 <= bytes.len() {
             bytes[at..at + 8].copy_from_slice(&value.to_be_bytes());
         }

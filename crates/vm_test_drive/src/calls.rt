@@ -82,7 +82,7 @@ fn got<R: Wait, B: PageBlock<WORDS>>(
     ensures home { (view pass.new).out ≡ None }
     ensures held { AreHeld iface.new.frames (view pass.new) }
 {
-    get(rt, pool, pass, iface, key)
+    get(rt, pool, pass, iface, &key)
 }
 
 /// The same, once more where the device failed.

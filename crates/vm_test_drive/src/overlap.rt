@@ -124,7 +124,7 @@ impl<'a> PageBlock<WORDS> for Held<'a> {
 /// A block for each page of the image; that of page 1 has the signals.
 fn held_blocks<'a>(
     alloc: Global,
-    image: &Image,
+    image: &Image<WORDS>,
     signals: &'a Signals,
 ) -> Result<Vec<Held<'a>>, Fail>
     ensures { IfOk result (λ blocks. length blocks.items ≡ length image.now) }
@@ -144,7 +144,7 @@ fn held_blocks<'a>(
 /// A pool over the image, with 64 frames, and its first pass; the block of page 1 has the signals.
 fn open_held<'a>(
     alloc: Global,
-    image: &Image,
+    image: &Image<WORDS>,
     signals: &'a Signals,
 ) -> Result<(Pool<Tree, Held<'a>, WORDS>, Pass<Tree>), Fail>
     ensures pages { IfOk result (λ made. 1 ≤ made.0.words.table.shared.key.pages) }

@@ -1,22 +1,24 @@
 //! An image that is served: a pool over its pages, the workers, the flush and the end.
 ghost use Rattle.std.specs.Prelude.{IfOk};
-ghost use Rattle.vm_tree_model.specs.Tree.{IsTree};
+ghost use Rattle.vm_tree_model.specs.{Fixed.fixed, Tree.IsTree};
 
 use crate::calls::two_lists;
-use crate::trees::{MAGIC, page};
+use crate::trees::{LARGE_MAGIC, MAGIC, page};
 use std::alloc::Global;
 use std::test::Fail;
 use vm_check::check;
 use vm_drive::compact::Short;
 use vm_drive::gate::Open;
 use vm_image::{Image, PlannedFault, image_of};
+use vm_kind::Sizes;
 use vm_map::call::{Call, Pair};
 use vm_map::window::Bound;
+use vm_page::{LARGE, WORDS};
 use vm_serve::serve;
 
 /// Three pages whose one leaf has the pair 9 4.
-fn one_pair(alloc: Global) -> Result<Image, Fail>
-    ensures { IfOk result (λ image. IsTree image) }
+fn one_pair(alloc: Global) -> Result<Image<WORDS>, Fail>
+    ensures { IfOk result (λ image. IsTree (fixed 64) image) }
 {
     let mut pages = Vec::new(alloc);
     pages.push(page(&[MAGIC, 1, 0]))?;
@@ -27,9 +29,22 @@ fn one_pair(alloc: Global) -> Result<Image, Fail>
     Ok(image)
 }
 
+/// The same where a page has 512 words.
+fn one_large_pair(alloc: Global) -> Result<Image<LARGE>, Fail>
+    ensures { IfOk result (λ image. IsTree (fixed 512) image) }
+{
+    let mut pages = Vec::new(alloc);
+    pages.push(page(&[LARGE_MAGIC, 1, 0]))?;
+    pages.push(page(&[2, 1, 0, 0, 1, 0, 0, 0, 9, 4]))?;
+    pages.push(page(&[]))?;
+    let image = Image::of_pages(pages);
+    check(alloc, &image)?;
+    Ok(image)
+}
+
 /// Five pages: below the root on page 3, leaves with the pair 9 4 on page 1, and 20 5 on page 2.
-fn two_leaves(alloc: Global) -> Result<Image, Fail>
-    ensures { IfOk result (λ image. IsTree image) }
+fn two_leaves(alloc: Global) -> Result<Image<WORDS>, Fail>
+    ensures { IfOk result (λ image. IsTree (fixed 64) image) }
 {
     let mut pages = Vec::new(alloc);
     pages.push(page(&[MAGIC, 3, 1]))?;
@@ -49,7 +64,16 @@ fn a_tree_is_served(rt: HostRuntime) -> Result<(), Fail> {
     let image = one_pair(alloc)?;
     let put = Call::Put { key: 3, value: 1 };
     let lists = two_lists(alloc, &[put], &[Call::Get { key: 9 }])?;
-    let served = serve(&rt, alloc, &image, &[], 0, 64, lists.as_slice(), &Open)?;
+    let served = serve::<Sizes, _, _, WORDS>(
+        &rt,
+        alloc,
+        &image,
+        &[],
+        0,
+        64,
+        lists.as_slice(),
+        &Open,
+    )?;
     let after = image_of(alloc, served.blocks.as_slice())?;
     let rows = check(alloc, &after)?;
     let want = [Pair { key: 3, value: 1 }, Pair { key: 9, value: 4 }];
@@ -71,6 +95,35 @@ fn a_tree_is_served(rt: HostRuntime) -> Result<(), Fail> {
     Ok(())
 }
 
+/// So they do where a page has 512 words.
+#[test]
+fn a_tree_of_large_pages_is_served(rt: HostRuntime) -> Result<(), Fail> {
+    let alloc = rt.alloc();
+    let image = one_large_pair(alloc)?;
+    let put = Call::Put { key: 3, value: 1 };
+    let lists = two_lists(alloc, &[put], &[Call::Get { key: 9 }])?;
+    let served = serve::<Sizes, _, _, LARGE>(
+        &rt,
+        alloc,
+        &image,
+        &[],
+        0,
+        64,
+        lists.as_slice(),
+        &Open,
+    )?;
+    let after = image_of(alloc, served.blocks.as_slice())?;
+    let rows = check(alloc, &after)?;
+    let want = [Pair { key: 3, value: 1 }, Pair { key: 9, value: 4 }];
+    assert!(rt; rows.pairs.as_slice() == want.as_slice());
+    let [put, read] = served.replies.as_slice() else {
+        return Err(Fail::from("two lists of replies"));
+    };
+    assert!(rt; put.short.as_slice() == [Short::Was(None)].as_slice());
+    assert!(rt; read.short.as_slice() == [Short::Got(Some(4))].as_slice());
+    Ok(())
+}
+
 /// Of a list's answers the windows stand in a list of their own, in the order of their calls; a get between two of them has none.
 #[test]
 fn windows_stand_apart_in_order(rt: HostRuntime) -> Result<(), Fail> {
@@ -79,7 +132,16 @@ fn windows_stand_apart_in_order(rt: HostRuntime) -> Result<(), Fail> {
     let high = Call::Window { start: 16, most: 3 };
     let low = Call::Window { start: 5, most: 3 };
     let lists = two_lists(alloc, &[high, Call::Get { key: 9 }, low], &[low])?;
-    let served = serve(&rt, alloc, &image, &[], 0, 64, lists.as_slice(), &Open)?;
+    let served = serve::<Sizes, _, _, WORDS>(
+        &rt,
+        alloc,
+        &image,
+        &[],
+        0,
+        64,
+        lists.as_slice(),
+        &Open,
+    )?;
     let [first, second] = served.replies.as_slice() else {
         return Err(Fail::from("two lists of replies"));
     };
@@ -105,7 +167,16 @@ fn a_failed_write_of_the_last_flush_is_told(rt: HostRuntime) -> Result<(), Fail>
     let plan = [PlannedFault { page: 1, number: 2 }];
     let put = Call::Put { key: 3, value: 1 };
     let lists = two_lists(alloc, &[put], &[Call::Get { key: 9 }])?;
-    let served = serve(&rt, alloc, &image, &plan, 0, 64, lists.as_slice(), &Open)?;
+    let served = serve::<Sizes, _, _, WORDS>(
+        &rt,
+        alloc,
+        &image,
+        &plan,
+        0,
+        64,
+        lists.as_slice(),
+        &Open,
+    )?;
     assert_eq!(rt; served.report.first, Some(1));
     assert_eq!(rt; served.report.failed, 1);
     let sums = [
@@ -129,7 +200,16 @@ fn the_least_page_that_is_not_written_is_told(rt: HostRuntime) -> Result<(), Fai
     let high = Call::Put { key: 20, value: 1 };
     let low = Call::Put { key: 9, value: 1 };
     let lists = two_lists(alloc, &[high], &[low])?;
-    let served = serve(&rt, alloc, &image, &plan, 0, 64, lists.as_slice(), &Open)?;
+    let served = serve::<Sizes, _, _, WORDS>(
+        &rt,
+        alloc,
+        &image,
+        &plan,
+        0,
+        64,
+        lists.as_slice(),
+        &Open,
+    )?;
     assert_eq!(rt; served.report.first, Some(1));
     assert_eq!(rt; served.report.failed, 2);
     let sums = [

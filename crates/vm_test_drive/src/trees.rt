@@ -1,6 +1,7 @@
 //! Trees on the pages of an image, and pools over them.
 ghost use Rattle.std.specs.Prelude.{◌≡◌, ◌≤◌, IfOk, length};
-ghost use Rattle.vm_tree_model.specs.Tree.{IsTree};
+ghost use Rattle.vm_page.specs.Sizes.{IsSize};
+ghost use Rattle.vm_tree_model.specs.{Fixed.fixed, Tree.IsTree};
 ghost use Rattle.vm_core.specs.Prelude.{MAX_VERSION};
 ghost use Rattle.vm_rule.specs.Prelude.{HoldsNoPage, IsWhole};
 ghost use Rattle.vm_step.specs.Prelude.{IsReady, view};
@@ -15,18 +16,22 @@ use vm_pool::{Pool, Shape};
 use vm_rule::words::Pass;
 use vm_tree_rule::Tree;
 
+/// The first word of a page file with pages of 64 words, and of one with pages of 512.
 pub(crate) const MAGIC: u64 = 0x564D_4341_4348_4531;
 
+pub(crate) const LARGE_MAGIC: u64 = 0x564D_4341_4348_4532;
+
 /// A page that begins with these words.
-pub(crate) fn page(words: &[u64]) -> PageBuf<WORDS>
-    requires { length words.now ≤ 64 }
-    ensures { length result ≡ 64 }
+pub(crate) fn page<const N: usize>(words: &[u64]) -> PageBuf<N>
+    requires sized { IsSize N }
+    requires fits { length words.now ≤ N }
+    ensures { length result ≡ N }
 {
     let mut page = PageBuf::zero();
     for i in 0..words.len() {
         page.set(i, words[i]);
     }
-    // A page has 64 words.
+    // A page has so many words.
     let _ = page.get(0);
     page
 }
@@ -36,13 +41,13 @@ fn put_page(bytes: &mut Vec<u8>, words: &[u64]) -> Result<(), AllocError>
     requires { length words.now ≤ 64 }
 {
     let mut written = [0; 512];
-    page(words).put_bytes(&mut written);
+    page::<WORDS>(words).put_bytes(&mut written);
     bytes.extend_from_slice(&written)
 }
 
 /// The image of a page file whose pages are a tree.
-fn tree_in(alloc: Global, bytes: &[u8]) -> Result<Image, Fail>
-    ensures { IfOk result (λ image. IsTree image) }
+fn tree_in(alloc: Global, bytes: &[u8]) -> Result<Image<WORDS>, Fail>
+    ensures { IfOk result (λ image. IsTree (fixed 64) image) }
 {
     let image = read_image(alloc, bytes)?;
     check(alloc, &image)?;
@@ -50,8 +55,8 @@ fn tree_in(alloc: Global, bytes: &[u8]) -> Result<Image, Fail>
 }
 
 /// Two pages whose one leaf is empty, and so many free ones behind them.
-pub(crate) fn empty(alloc: Global, free: usize) -> Result<Image, Fail>
-    ensures { IfOk result (λ image. IsTree image) }
+pub(crate) fn empty(alloc: Global, free: usize) -> Result<Image<WORDS>, Fail>
+    ensures { IfOk result (λ image. IsTree (fixed 64) image) }
 {
     let mut bytes = Vec::new(alloc);
     put_page(&mut bytes, &[MAGIC, 1, 0])?;
@@ -63,8 +68,8 @@ pub(crate) fn empty(alloc: Global, free: usize) -> Result<Image, Fail>
 }
 
 /// Eight pages: below the root on page 3, leaves with the pairs 1 1 to 14 14 on page 1, and 15 15 to 29 29 on page 2.
-pub(crate) fn two_leaves(alloc: Global) -> Result<Image, Fail>
-    ensures { IfOk result (λ image. IsTree image) }
+pub(crate) fn two_leaves(alloc: Global) -> Result<Image<WORDS>, Fail>
+    ensures { IfOk result (λ image. IsTree (fixed 64) image) }
 {
     let mut bytes = Vec::new(alloc);
     put_page(&mut bytes, &[MAGIC, 3, 1])?;
@@ -88,12 +93,12 @@ pub(crate) fn two_leaves(alloc: Global) -> Result<Image, Fail>
 /// A pool over the tree, with so many frames, and its first pass. The calls of the plan fail, and every page begins at this version.
 pub(crate) fn open(
     alloc: Global,
-    image: &Image,
+    image: &Image<WORDS>,
     plan: &[PlannedFault],
     first_version: u64,
     frames: u32,
 ) -> Result<(Pool<Tree, MemBlock<WORDS>, WORDS>, Pass<Tree>), Fail>
-    requires tree { IsTree image.now }
+    requires tree { IsTree (fixed 64) image.now }
     requires version { first_version ≤ MAX_VERSION }
     requires frames { (1 ≤ frames) × (frames ≤ 65536) }
     ensures pages { IfOk result (λ made. 1 ≤ made.0.words.table.shared.key.pages) }

@@ -1,41 +1,49 @@
-//! A page that counts how many of its words are loaded.
+//! A place that counts how many of its words are loaded.
 
-ghost use Rattle.std.specs.Prelude.{◌≡◌, length, refl};
-ghost use Rattle.std.proofs.lemmas.List.Elements.{All-nil};
-ghost use Rattle.vm_page.specs.declared.buf.TheConstants.{WORDS};
-ghost use Rattle.vm_node.specs.Loads.{IsBuffer, IsBuffer-join};
+ghost use Rattle.std.specs.Prelude.{◌≡◌, ◌≤◌, length};
+ghost use Rattle.vm_page.specs.Sizes.{IsSize};
 
 use vm_node::{Place, in_buffer};
 use vm_page::{PageBuf, WORDS};
 
-/// A page in a buffer, and how many of its words were loaded.
+/// A place, and how many of its words were loaded.
 #[derive(Drop)]
-pub struct Counted<'a> {
-    page: &'a PageBuf<WORDS>,
+pub struct Counted<P> {
+    place: P,
     pub loaded: u32,
 }
 
-impl Place for Counted<'_> {
-    ghost ready = { λ p. length p.page.now ≡ WORDS };
+impl<P: Place> Place for Counted<P> {
+    ghost size = { λ c. P.size c.place };
 
-    ghost loads = { λ p loaded q. IsBuffer p.page.now loaded q.page.now };
+    ghost ready = { λ c. P.ready c.place };
+
+    ghost loads = { λ c loaded d. P.loads c.place loaded d.place };
 
     fn word(&mut self, i: usize) -> u64 {
         self.loaded = self.loaded.saturating_add(1);
-        self.page.get(i)
+        self.place.word(i)
     }
 
-    ghost none = { λ p ready. record { same = refl; has = All-nil _ } };
+    ghost none = { λ c ready. P.none c.place ready };
 
-    ghost join = { λ p q r first then a b. IsBuffer-join p.page.now q.page.now r.page.now first then a b };
+    ghost join = { λ c d e first then a b. P.join c.place d.place e.place first then a b };
 }
 
 /// The page before any of its words is loaded.
-pub fn none_loaded(page: &PageBuf<WORDS>) -> Counted<'_>
-    ensures { length result.page.now ≡ WORDS }
+pub fn none_loaded<const N: usize>(page: &PageBuf<N>) -> Counted<&PageBuf<N>>
+    requires { IsSize N }
+    ensures { length result.place.now ≡ N }
 {
     Counted {
-        page: in_buffer(page),
+        place: in_buffer(page),
         loaded: 0,
     }
+}
+
+/// How many keys a search by halves loads at most: of the 28 pairs of a page of 64 words, or of the 252 of one of 512.
+pub fn keys_searched(words: usize) -> u32
+    ensures few { result ≤ 8 }
+{
+    if words == WORDS { 5 } else { 8 }
 }

@@ -1,4 +1,4 @@
-//! Tests of the crates of pages: `vm_page`, `vm_map`, `vm_node`, `vm_inner`, `vm_image`, `vm_build` and `vm_block`, over their public items.
+//! Tests of the crates of pages: `vm_page`, `vm_map`, `vm_node`, `vm_inner`, `vm_image`, `vm_check`, `vm_build` and `vm_block`, over their public items.
 //! They stand here so that none of those crates is proved twice.
 #![tactic(auto)]
 
@@ -6,6 +6,8 @@
 mod block;
 #[cfg(test)]
 mod built;
+#[cfg(test)]
+mod checked;
 #[cfg(test)]
 mod counted;
 #[cfg(test)]

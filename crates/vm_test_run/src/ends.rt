@@ -1,6 +1,7 @@
 //! What is kept of a run: the end of its pool.
 
-use crate::expect::{RUN, host_with, is_kept, perform};
+use crate::expect::{RUN, host, host_with, is_kept, perform};
+use crate::pages::large_tree;
 use std::test::Fail;
 use vm_cli::ends::Ends;
 use vm_drive::gate::Open;
@@ -19,6 +20,31 @@ fn the_end_of_the_pool_is_kept(rt: HostRuntime) -> Result<(), Fail> {
     let sums = match &ends {
         Ends::Nothing => [9, 9, 9],
         Ends::Tree(ended) => [ended.reads(), ended.writes(), ended.faults()],
+        Ends::LargeTree(_) => [8, 8, 8],
+    };
+    assert_eq!(rt; sums, [2, 1, 0]);
+    Ok(())
+}
+
+/// A run on pages of 512 words keeps the end of a pool of such pages; a migration has no pool, and leaves it.
+#[test]
+fn the_end_of_a_pool_of_large_pages_is_kept(rt: HostRuntime) -> Result<(), Fail> {
+    let alloc = rt.alloc();
+    let mut files = host(alloc, large_tree(alloc, 6)?, b"0 put 5 7\n0 get 5\n", &[])?;
+    let mut ends = Ends::Nothing;
+    let line = "run I0 S --workers 1 --frames 64 --keep K";
+    let status = perform(&rt, alloc, &mut files, line, &Open, &mut ends)?;
+    assert_eq!(rt; status, 0);
+    let line = "migrate K K 2";
+    let status = perform(&rt, alloc, &mut files, line, &Open, &mut ends)?;
+    assert_eq!(rt; status, 0);
+    let said =
+        "0 1 new\n0 2 some 7\nrow 5 7\ncounters reads 2 writes 1 faults 0 evicted 0\nmigrated 2 used 2 height 0 rows 1\n";
+    assert!(rt; files.said() == said.as_bytes());
+    let sums = match &ends {
+        Ends::Nothing => [9, 9, 9],
+        Ends::Tree(_) => [8, 8, 8],
+        Ends::LargeTree(ended) => [ended.reads(), ended.writes(), ended.faults()],
     };
     assert_eq!(rt; sums, [2, 1, 0]);
     Ok(())

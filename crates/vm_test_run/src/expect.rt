@@ -35,7 +35,7 @@ pub(crate) fn host(
         Vec::from_slice(alloc, script)?,
     ))?;
     files.push((String::from_str(alloc, "K")?, Vec::from_slice(alloc, OLD)?))?;
-    MemHost::new(alloc, files, 10_000, plan)
+    MemHost::new(alloc, files, 40_000, plan)
 }
 
 /// A host whose image is the empty tree of eight pages.
@@ -73,7 +73,7 @@ pub(crate) fn perform<R: Threads + Wait + Sync, H: Host, G: Gate + Sync>(
 pub(crate) fn is_kept(ends: &Ends) -> bool {
     match ends {
         Ends::Nothing => false,
-        Ends::Tree(_) => true,
+        Ends::Tree(_) | Ends::LargeTree(_) => true,
     }
 }
 

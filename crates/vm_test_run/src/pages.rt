@@ -6,6 +6,8 @@ use vm_page::{PageBuf, WORDS};
 
 pub(crate) const MAGIC: u64 = 0x564D_4341_4348_4531;
 
+pub(crate) const LARGE_MAGIC: u64 = 0x564D_4341_4348_4532;
+
 /// Appends a page that begins with these words.
 pub(crate) fn put_page(bytes: &mut Vec<u8>, words: &[u64]) -> Result<(), AllocError>
     requires { length words.now ≤ 64 }
@@ -33,6 +35,19 @@ pub(crate) fn empty_tree(alloc: Global, free: usize) -> Result<Vec<u8>, AllocErr
     put_page(&mut bytes, &[MAGIC, 1, 0])?;
     put_page(&mut bytes, &[2, 0, 0, 0, 1])?;
     put_free(&mut bytes, free)?;
+    Ok(bytes)
+}
+
+/// The same with pages of 512 words.
+pub(crate) fn large_tree(alloc: Global, free: usize) -> Result<Vec<u8>, AllocError> {
+    let mut bytes = Vec::new(alloc);
+    put_page(&mut bytes, &[LARGE_MAGIC, 1, 0])?;
+    put_free(&mut bytes, 7)?;
+    put_page(&mut bytes, &[2, 0, 0, 0, 1])?;
+    put_free(&mut bytes, 7)?;
+    for _ in 0..free {
+        put_free(&mut bytes, 8)?;
+    }
     Ok(bytes)
 }
 

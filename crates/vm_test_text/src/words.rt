@@ -61,7 +61,37 @@ fn reads_make(rt: HostRuntime) {
         };
         assert!(rt; make.file == file, "at {line}");
         assert!(rt; (make.pages, make.pairs, make.seed) == numbers, "at {line}");
+        assert!(rt; make.words.is_none(), "at {line}");
     }
+}
+
+#[test]
+fn reads_how_many_words_a_page_has(rt: HostRuntime) {
+    for (line, wanted) in [
+        ("make M0 8 0 1 --words 512", 512),
+        ("make --words=0 M0 8 0 1", 0),
+    ] {
+        let words = words_of(rt.alloc(), line).expect(&rt, "words");
+        let Ok(Command::Make(make)) = command_of(rt.alloc(), words.as_slice()) else {
+            panic!(rt; "at {line}");
+        };
+        assert!(rt; make.words == Some(wanted), "at {line}");
+    }
+    let line = "churn 10 1 --words 64 --workers 2 --frames 128";
+    let words = words_of(rt.alloc(), line).expect(&rt, "words");
+    let Ok(Command::Churn(churn)) = command_of(rt.alloc(), words.as_slice()) else {
+        panic!(rt; "at {line}");
+    };
+    assert!(rt; churn.workers == 2 && churn.frames == 128 && churn.words == Some(64));
+}
+
+#[test]
+fn reads_migrate(rt: HostRuntime) {
+    let words = words_of(rt.alloc(), "migrate I0 I1 100").expect(&rt, "words");
+    let Ok(Command::Migrate(migrate)) = command_of(rt.alloc(), words.as_slice()) else {
+        panic!(rt; "no migrate");
+    };
+    assert!(rt; migrate.input == "I0" && migrate.output == "I1" && migrate.pages == 100);
 }
 
 #[test]
@@ -76,6 +106,7 @@ fn reads_churn(rt: HostRuntime) {
         };
         assert!(rt; churn.pairs == 10 && churn.seed == 1, "at {line}");
         assert!(rt; churn.workers == 2 && churn.frames == 64, "at {line}");
+        assert!(rt; churn.words.is_none(), "at {line}");
     }
 }
 
@@ -126,6 +157,10 @@ fn refuses_other_words(rt: HostRuntime) {
         "make M0 8 -1 1",
         "make M0 8 0 18446744073709551616",
         "make M0 8 0 --seed 1",
+        "make M0 8 0 1 --words",
+        "make M0 8 0 1 --words 064",
+        "make M0 8 0 1 --words 64 --words 512",
+        "run I0 S0 --workers 1 --frames 64 --words 64",
         "churn 10 1",
         "churn 10 1 --workers 2",
         "churn 10 --workers 2 --frames 64",
@@ -137,6 +172,12 @@ fn refuses_other_words(rt: HostRuntime) {
         "replay",
         "replay E0 E1",
         "replay E0 --workers 1",
+        "migrate",
+        "migrate I0 I1",
+        "migrate I0 100",
+        "migrate I0 I1 0100",
+        "migrate I0 I1 100 1",
+        "migrate I0 I1 100 --words 512",
         "run --help",
         "--help",
         "help",

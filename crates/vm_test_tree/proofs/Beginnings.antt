@@ -1,17 +1,18 @@
 -- A pool may begin with the blocks of an image that is a tree; its first pass has fresh parts.
 use Rattle.std.proofs.Common.{[], ◌<◌, ◌∙◌, ◌∷◌, ◌≡◌, ap, arith, Bool, length, List, map, refl, replicate, slice_index, subst, suc, sym, zero, ℕ}
-use Rattle.vm_page.specs.declared.buf.TheConstants.{WORDS}
+use Rattle.vm_page.specs.Sizes.{IsSize}
 use Rattle.vm_map.specs.declared.call.Said.{Said}
-use Rattle.vm_tree_model.specs.Tree.{IsTree}
+use Rattle.vm_tree_model.specs.{Fixed.fixed, Tree.IsTree}
+use Rattle.vm_tree_model.proofs.FixedLaws.{sized_layout}
 use Rattle.vm_image.specs.{Blocks.AreBlocksOf, Blocks.pages_of_blocks, declared.blocks.PlannedFault.PlannedFault, File.IsNextPage}
 use Rattle.vm_core.specs.Prelude.{page_at}
 use Rattle.vm_rule.specs.Prelude.{block_words, MayBegin, MemBlock, numbers, started_shape, Stored, stored_of, unborn, words_of}
 use Rattle.vm_rule.specs.Begun.{begun}
 use Rattle.vm_step.specs.Prelude.{View}
-use Rattle.vm_tree_laws.specs.Keeps.{KeepsTree}
+use Rattle.vm_tree_laws.specs.Plain.{KeepsPlain}
 use Rattle.vm_tree_laws.proofs.Starts.{start_keeps}
 
-words-held : (blocks : List (MemBlock WORDS)) → block_words (map stored_of blocks) ≡ pages_of_blocks blocks
+words-held : {size : ℕ} (blocks : List (MemBlock size)) → block_words (map stored_of blocks) ≡ pages_of_blocks blocks
 words-held [] = refl
 words-held (b ∷ bs) = ap (λ (l : List (List ℕ)). words_of b ∷ l) (words-held bs)
 
@@ -21,12 +22,12 @@ all-zero zero (x ∷ xs) e z = absurd (omega arith)
 all-zero (suc n) [] e z = absurd (omega arith)
 all-zero (suc n) (x ∷ xs) e z = let first : x ≡ 0 = z 0 in let rest : xs ≡ replicate n 0 = all-zero n xs (omega arith) (λ i. z (suc i)) in cc
 
-pub begins : (pages : List (List ℕ)) (plan : List PlannedFault) (next : ℕ) (blocks : List (MemBlock WORDS)) → IsTree pages → IsNextPage pages next → AreBlocksOf pages plan blocks → MayBegin KeepsTree next (block_words (map stored_of blocks))
-begins pages plan next blocks tree free held =
-    subst (λ (l : List (List ℕ)). MayBegin KeepsTree next l) (sym (words-held blocks ∙ held.held))
+pub begins : (size : ℕ) → IsSize size → (pages : List (List ℕ)) (plan : List PlannedFault) (next : ℕ) (blocks : List (MemBlock size)) → IsTree (fixed size) pages → IsNextPage size pages next → AreBlocksOf pages plan blocks → MayBegin (KeepsPlain (λ (s : Said). s) (fixed size)) next (block_words (map stored_of blocks))
+begins size sized pages plan next blocks tree free held =
+    subst (λ (l : List (List ℕ)). MayBegin (KeepsPlain (λ (s : Said). s) (fixed size)) next l) (sym (words-held blocks ∙ held.held))
     (record {
       zero = λ p l m. let f = free.free p l m in all-zero (length (page_at pages p)) (page_at pages p) refl f.zero;
-      kept = start_keeps (record { pages = pages; next = next }) tree free.within;
+      kept = start_keeps (fixed size) (sized_layout size sized) (record { pages = pages; next = next }) tree free.within;
     })
 
 numbers-long : (a n : ℕ) → length (numbers a n) ≡ n

@@ -13,8 +13,9 @@ use vm_check::check;
 use vm_exmap::Interface;
 use vm_guard::ExclusiveGuard;
 use vm_image::{PlannedFault, blocks_of, read_image};
+use vm_kind::{OfSize, Sizes, TreeOf, WordKeys, Words64};
 use vm_map::call::Reply;
-use vm_page::{PageBuf, WORDS};
+use vm_page::WORDS;
 use vm_pool::{Bring, Pool, Shape};
 use vm_rule::words::Pass;
 use vm_step::look_silently;
@@ -24,27 +25,32 @@ use vm_tree_rule::{Tree, TreeFault};
 
 const MAGIC: u64 = 0x564D_4341_4348_4531;
 
-/// A page with these words from word 0 on, behind the bytes of others.
-fn put_page(bytes: &mut Vec<u8>, words: &[u64]) -> Result<(), Fail>
-    requires { length words.now ≤ 64 }
-{
-    let mut page = PageBuf::<WORDS>::zero();
-    for i in 0..words.len() {
-        page.set(i, words[i]);
+/// A page of so many words, with these from word 0 on, behind the bytes of others.
+fn put_page(bytes: &mut Vec<u8>, size: usize, words: &[u64]) -> Result<(), Fail> {
+    for i in 0..size {
+        let word: u64 = if i < words.len() { words[i] } else { 0 };
+        bytes.extend_from_slice(&word.to_be_bytes())?;
     }
-    let mut written = [0; 512];
-    page.put_bytes(&mut written);
-    bytes.extend_from_slice(&written)?;
     Ok(())
 }
 
 /// So many pages (2 or more) of an empty tree: page 0 names page 1, a leaf of all keys.
 pub(crate) fn empty(alloc: Global, pages: usize) -> Result<Vec<u8>, Fail> {
+    empty_sized(alloc, WORDS, MAGIC, pages)
+}
+
+/// The same of pages of so many words, where page 0 begins with this word.
+pub(crate) fn empty_sized(
+    alloc: Global,
+    size: usize,
+    magic: u64,
+    pages: usize,
+) -> Result<Vec<u8>, Fail> {
     let mut bytes = Vec::new(alloc);
-    put_page(&mut bytes, &[MAGIC, 1, 0])?;
-    put_page(&mut bytes, &[2, 0, 0, 0, 1, 0])?;
+    put_page(&mut bytes, size, &[magic, 1, 0])?;
+    put_page(&mut bytes, size, &[2, 0, 0, 0, 1, 0])?;
     for _ in 2..pages {
-        put_page(&mut bytes, &[])?;
+        put_page(&mut bytes, size, &[])?;
     }
     Ok(bytes)
 }
@@ -52,19 +58,19 @@ pub(crate) fn empty(alloc: Global, pages: usize) -> Result<Vec<u8>, Fail> {
 /// Three pages of a tree of one node: page 1 is a leaf of all keys with two pairs, page 2 is free.
 pub(crate) fn one_leaf(alloc: Global) -> Result<Vec<u8>, Fail> {
     let mut bytes = Vec::new(alloc);
-    put_page(&mut bytes, &[MAGIC, 1, 0])?;
-    put_page(&mut bytes, &[2, 2, 0, 0, 1, 0, 0, 0, 5, 50, 7, 70])?;
-    put_page(&mut bytes, &[])?;
+    put_page(&mut bytes, WORDS, &[MAGIC, 1, 0])?;
+    put_page(&mut bytes, WORDS, &[2, 2, 0, 0, 1, 0, 0, 0, 5, 50, 7, 70])?;
+    put_page(&mut bytes, WORDS, &[])?;
     Ok(bytes)
 }
 
 /// Four pages of a tree of height 1: the root on page 1, leaves on pages 2 (below key 100) and 3.
 pub(crate) fn two_leaves(alloc: Global) -> Result<Vec<u8>, Fail> {
     let mut bytes = Vec::new(alloc);
-    put_page(&mut bytes, &[MAGIC, 1, 1])?;
-    put_page(&mut bytes, &[3, 2, 0, 0, 1, 1, 0, 0, 0, 2, 100, 3])?;
-    put_page(&mut bytes, &[2, 2, 0, 100, 0, 0, 0, 0, 5, 50, 7, 70])?;
-    put_page(&mut bytes, &[2, 1, 100, 0, 1, 0, 0, 0, 150, 15])?;
+    put_page(&mut bytes, WORDS, &[MAGIC, 1, 1])?;
+    put_page(&mut bytes, WORDS, &[3, 2, 0, 0, 1, 1, 0, 0, 0, 2, 100, 3])?;
+    put_page(&mut bytes, WORDS, &[2, 2, 0, 100, 0, 0, 0, 0, 5, 50, 7, 70])?;
+    put_page(&mut bytes, WORDS, &[2, 1, 100, 0, 1, 0, 0, 0, 150, 15])?;
     Ok(bytes)
 }
 
@@ -91,6 +97,28 @@ pub(crate) fn open_with(
     requires version { first_version ≤ MAX_VERSION }
     ensures pages { IfOk result (λ made. 2 ≤ made.0.words.table.shared.key.pages) }
     ensures ready { IfOk result (λ made. IsReady made.0.words.table.shared.key ⟦<MemBlock<WORDS> as Block>⟧.tells made.0.words.table.shared.table_id made.1) }
+    ensures home { IfOk result (λ made. (view made.1).out ≡ None) }
+    ensures fresh { IfOk result (λ made. 0 < length (view made.1).fresh) }
+{
+    open_sized::<Sizes, WORDS>(alloc, bytes, plan, first_version)
+}
+
+/// The same over pages of any size.
+pub(crate) fn open_sized<S: OfSize<N>, const N: usize>(
+    alloc: Global,
+    bytes: &[u8],
+    plan: &[PlannedFault],
+    first_version: u64,
+) -> Result<
+    (
+        Pool<TreeOf<WordKeys<S, N>>, MemBlock<N>, N>,
+        Pass<TreeOf<WordKeys<S, N>>>,
+    ),
+    Fail,
+>
+    requires version { first_version ≤ MAX_VERSION }
+    ensures pages { IfOk result (λ made. 2 ≤ made.0.words.table.shared.key.pages) }
+    ensures ready { IfOk result (λ made. IsReady made.0.words.table.shared.key ⟦<MemBlock<N> as Block>⟧.tells made.0.words.table.shared.table_id made.1) }
     ensures home { IfOk result (λ made. (view made.1).out ≡ None) }
     ensures fresh { IfOk result (λ made. 0 < length (view made.1).fresh) }
 {
@@ -132,48 +160,48 @@ pub(crate) fn get_first(
         meta,
         root,
         reply,
-    } = get_from_start(alloc, shape, blocks, key)?;
+    } = get_from_start::<Words64, _, WORDS>(alloc, shape, blocks, &key)?;
     Ok((meta, root, reply))
 }
 
 /// `get`.
-pub(crate) fn got<R: Wait>(
+pub(crate) fn got<S: OfSize<N>, R: Wait, const N: usize>(
     rt: &R,
-    pool: &Pool<Tree, MemBlock<WORDS>, WORDS>,
-    pass: &mut Pass<Tree>,
+    pool: &Pool<TreeOf<WordKeys<S, N>>, MemBlock<N>, N>,
+    pass: &mut Pass<TreeOf<WordKeys<S, N>>>,
     iface: &mut Interface,
     key: u64,
 ) -> Result<Reply, TreeFault>
     requires pages { 1 ≤ pool.now.words.table.shared.key.pages }
-    requires ready { IsReady pool.now.words.table.shared.key ⟦<MemBlock<WORDS> as Block>⟧.tells pool.now.words.table.shared.table_id pass.old }
+    requires ready { IsReady pool.now.words.table.shared.key ⟦<MemBlock<N> as Block>⟧.tells pool.now.words.table.shared.table_id pass.old }
     requires home { (view pass.old).out ≡ None }
     requires held { AreHeld iface.old.frames (view pass.old) }
-    ensures ready { IsReady pool.now.words.table.shared.key ⟦<MemBlock<WORDS> as Block>⟧.tells pool.now.words.table.shared.table_id pass.new }
+    ensures ready { IsReady pool.now.words.table.shared.key ⟦<MemBlock<N> as Block>⟧.tells pool.now.words.table.shared.table_id pass.new }
     ensures home { (view pass.new).out ≡ None }
     ensures held { AreHeld iface.new.frames (view pass.new) }
 {
-    get(rt, pool, pass, iface, key)
+    get(rt, pool, pass, iface, &key)
 }
 
 /// `window`, of at most so many pairs.
-pub(crate) fn window_from<R: Wait>(
+pub(crate) fn window_from<S: OfSize<N>, R: Wait, const N: usize>(
     rt: &R,
-    pool: &Pool<Tree, MemBlock<WORDS>, WORDS>,
-    pass: &mut Pass<Tree>,
+    pool: &Pool<TreeOf<WordKeys<S, N>>, MemBlock<N>, N>,
+    pass: &mut Pass<TreeOf<WordKeys<S, N>>>,
     iface: &mut Interface,
     start: u64,
     most: u32,
 ) -> Result<Reply, TreeFault>
     requires pages { 1 ≤ pool.now.words.table.shared.key.pages }
     requires most { 1 ≤ most }
-    requires ready { IsReady pool.now.words.table.shared.key ⟦<MemBlock<WORDS> as Block>⟧.tells pool.now.words.table.shared.table_id pass.old }
+    requires ready { IsReady pool.now.words.table.shared.key ⟦<MemBlock<N> as Block>⟧.tells pool.now.words.table.shared.table_id pass.old }
     requires home { (view pass.old).out ≡ None }
     requires held { AreHeld iface.old.frames (view pass.old) }
-    ensures ready { IsReady pool.now.words.table.shared.key ⟦<MemBlock<WORDS> as Block>⟧.tells pool.now.words.table.shared.table_id pass.new }
+    ensures ready { IsReady pool.now.words.table.shared.key ⟦<MemBlock<N> as Block>⟧.tells pool.now.words.table.shared.table_id pass.new }
     ensures home { (view pass.new).out ≡ None }
     ensures held { AreHeld iface.new.frames (view pass.new) }
 {
-    window(rt, pool, pass, iface, start, most)
+    window(rt, pool, pass, iface, &start, most)
 }
 
 /// `try_get`, by a pass that keeps its frames.
@@ -192,7 +220,7 @@ pub(crate) fn get_once(
     ensures held { AreHeld iface.now.frames (view pass.new) }
 {
     let _ = iface;
-    try_get(pool.words(), pass, key)
+    try_get(pool.words(), pass, &key)
 }
 
 /// `try_window`, by a pass that keeps its frames.
@@ -213,7 +241,7 @@ pub(crate) fn window_once(
     ensures held { AreHeld iface.now.frames (view pass.new) }
 {
     let _ = iface;
-    try_window(pool.words(), pass, start, most)
+    try_window(pool.words(), pass, &start, most)
 }
 
 /// `try_get`, by a pass that holds a page that it has not written: it holds it still, as it was.
@@ -236,7 +264,7 @@ pub(crate) fn get_beside(
     ensures unpaid { has guard.now.pid (view pass.new).owed ≡ false }
 {
     let _ = guard;
-    try_get(pool.words(), pass, key)
+    try_get(pool.words(), pass, &key)
 }
 
 /// The page's state word, where there is such a page, as a pass sees it that keeps its frames.

@@ -5,6 +5,7 @@ ghost use Rattle.vm_step.specs.Prelude.{AreHeld, IsReady, view};
 use std::sync::Wait;
 use vm_block::{Block, MemBlock};
 use vm_exmap::Interface;
+use vm_kind::{OfSize, TreeOf, WordKeys};
 use vm_map::call::Reply;
 use vm_page::WORDS;
 use vm_pool::Pool;
@@ -13,62 +14,62 @@ use vm_tree_rule::{Tree, TreeFault};
 use vm_tree_write::{TrySplit, TryWrite, del, put, try_del, try_put, try_split};
 
 /// `put`.
-pub(crate) fn put_at<R: Wait>(
+pub(crate) fn put_at<S: OfSize<N>, R: Wait, const N: usize>(
     rt: &R,
-    pool: &Pool<Tree, MemBlock<WORDS>, WORDS>,
-    pass: &mut Pass<Tree>,
+    pool: &Pool<TreeOf<WordKeys<S, N>>, MemBlock<N>, N>,
+    pass: &mut Pass<TreeOf<WordKeys<S, N>>>,
     iface: &mut Interface,
     key: u64,
     value: u64,
 ) -> Result<Reply, TreeFault>
     requires pages { 1 ≤ pool.now.words.table.shared.key.pages }
-    requires ready { IsReady pool.now.words.table.shared.key ⟦<MemBlock<WORDS> as Block>⟧.tells pool.now.words.table.shared.table_id pass.old }
+    requires ready { IsReady pool.now.words.table.shared.key ⟦<MemBlock<N> as Block>⟧.tells pool.now.words.table.shared.table_id pass.old }
     requires home { (view pass.old).out ≡ None }
     requires held { AreHeld iface.old.frames (view pass.old) }
-    ensures ready { IsReady pool.now.words.table.shared.key ⟦<MemBlock<WORDS> as Block>⟧.tells pool.now.words.table.shared.table_id pass.new }
+    ensures ready { IsReady pool.now.words.table.shared.key ⟦<MemBlock<N> as Block>⟧.tells pool.now.words.table.shared.table_id pass.new }
     ensures home { (view pass.new).out ≡ None }
     ensures held { AreHeld iface.new.frames (view pass.new) }
 {
-    put(rt, pool, pass, iface, key, value)
+    put(rt, pool, pass, iface, &key, value)
 }
 
 /// `del`.
-pub(crate) fn del_at<R: Wait>(
+pub(crate) fn del_at<S: OfSize<N>, R: Wait, const N: usize>(
     rt: &R,
-    pool: &Pool<Tree, MemBlock<WORDS>, WORDS>,
-    pass: &mut Pass<Tree>,
+    pool: &Pool<TreeOf<WordKeys<S, N>>, MemBlock<N>, N>,
+    pass: &mut Pass<TreeOf<WordKeys<S, N>>>,
     iface: &mut Interface,
     key: u64,
 ) -> Result<Reply, TreeFault>
     requires pages { 1 ≤ pool.now.words.table.shared.key.pages }
-    requires ready { IsReady pool.now.words.table.shared.key ⟦<MemBlock<WORDS> as Block>⟧.tells pool.now.words.table.shared.table_id pass.old }
+    requires ready { IsReady pool.now.words.table.shared.key ⟦<MemBlock<N> as Block>⟧.tells pool.now.words.table.shared.table_id pass.old }
     requires home { (view pass.old).out ≡ None }
     requires held { AreHeld iface.old.frames (view pass.old) }
-    ensures ready { IsReady pool.now.words.table.shared.key ⟦<MemBlock<WORDS> as Block>⟧.tells pool.now.words.table.shared.table_id pass.new }
+    ensures ready { IsReady pool.now.words.table.shared.key ⟦<MemBlock<N> as Block>⟧.tells pool.now.words.table.shared.table_id pass.new }
     ensures home { (view pass.new).out ≡ None }
     ensures held { AreHeld iface.new.frames (view pass.new) }
 {
-    del(rt, pool, pass, iface, key)
+    del(rt, pool, pass, iface, &key)
 }
 
 /// `try_put`, by a pass that keeps its frames.
-pub(crate) fn put_once(
-    pool: &Pool<Tree, MemBlock<WORDS>, WORDS>,
-    pass: &mut Pass<Tree>,
+pub(crate) fn put_once<S: OfSize<N>, const N: usize>(
+    pool: &Pool<TreeOf<WordKeys<S, N>>, MemBlock<N>, N>,
+    pass: &mut Pass<TreeOf<WordKeys<S, N>>>,
     iface: &Interface,
     key: u64,
     value: u64,
 ) -> TryWrite
     requires pages { 1 ≤ pool.now.words.table.shared.key.pages }
-    requires ready { IsReady pool.now.words.table.shared.key ⟦<MemBlock<WORDS> as Block>⟧.tells pool.now.words.table.shared.table_id pass.old }
+    requires ready { IsReady pool.now.words.table.shared.key ⟦<MemBlock<N> as Block>⟧.tells pool.now.words.table.shared.table_id pass.old }
     requires home { (view pass.old).out ≡ None }
     requires held { AreHeld iface.now.frames (view pass.old) }
-    ensures ready { IsReady pool.now.words.table.shared.key ⟦<MemBlock<WORDS> as Block>⟧.tells pool.now.words.table.shared.table_id pass.new }
+    ensures ready { IsReady pool.now.words.table.shared.key ⟦<MemBlock<N> as Block>⟧.tells pool.now.words.table.shared.table_id pass.new }
     ensures home { (view pass.new).out ≡ None }
     ensures held { AreHeld iface.now.frames (view pass.new) }
 {
     let _ = iface;
-    try_put(pool.words(), pass, key, value)
+    try_put(pool.words(), pass, &key, value)
 }
 
 /// `try_del`, by a pass that keeps its frames.
@@ -87,7 +88,7 @@ pub(crate) fn del_once(
     ensures held { AreHeld iface.now.frames (view pass.new) }
 {
     let _ = iface;
-    try_del(pool.words(), pass, key)
+    try_del(pool.words(), pass, &key)
 }
 
 /// `try_split`.
@@ -105,5 +106,5 @@ pub(crate) fn split_once(
     ensures home { (view pass.new).out ≡ None }
     ensures held { AreHeld iface.new.frames (view pass.new) }
 {
-    try_split(pool.words(), pass, iface, key)
+    try_split(pool.words(), pass, iface, &key)
 }

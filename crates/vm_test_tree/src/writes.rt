@@ -2,7 +2,9 @@
 ghost use Rattle.std.specs.Prelude.{◌≡◌, ◌≤◌, None};
 ghost use Rattle.vm_step.specs.Prelude.{AreHeld, IsReady, view};
 
-use crate::calls::{empty, got, open, open_with, state_word, two_leaves};
+use crate::calls::{
+    empty, empty_sized, got, open, open_sized, open_with, state_word, two_leaves, window_from,
+};
 use crate::write_calls::{del_at, del_once, put_at, put_once, split_once};
 use std::process::Abort;
 use std::sync::Wait;
@@ -10,13 +12,17 @@ use std::test::Fail;
 use vm_block::{Block, MemBlock};
 use vm_core::{MAX_VERSION, StateWord};
 use vm_exmap::Interface;
+use vm_kind::{OfSize, Sizes, TreeOf, WordKeys};
 use vm_map::call::Reply;
-use vm_page::WORDS;
+use vm_map::window::Bound;
+use vm_page::{LARGE, WORDS};
 use vm_pool::Pool;
 use vm_rule::words::Pass;
 use vm_tree_callers::{put_meet_get, put_then_get};
 use vm_tree_rule::{Tree, TreeFault};
 use vm_tree_write::{TrySplit, TryWrite};
+
+const LARGE_MAGIC: u64 = 0x564D_4341_4348_4532;
 
 /// 800 keys in a mixed order get the number behind them. None of them was there.
 fn put_many<R: Wait + Abort>(
@@ -88,18 +94,18 @@ fn del_half<R: Wait + Abort>(
 }
 
 /// A leaf is filled: the keys below `count`, none of which was there, get the value 1.
-pub(crate) fn fill<R: Wait + Abort>(
+pub(crate) fn fill<S: OfSize<N>, R: Wait + Abort, const N: usize>(
     rt: &R,
-    pool: &Pool<Tree, MemBlock<WORDS>, WORDS>,
-    pass: &mut Pass<Tree>,
+    pool: &Pool<TreeOf<WordKeys<S, N>>, MemBlock<N>, N>,
+    pass: &mut Pass<TreeOf<WordKeys<S, N>>>,
     iface: &mut Interface,
     count: u64,
 )
     requires pages { 1 ≤ pool.now.words.table.shared.key.pages }
-    requires ready { IsReady pool.now.words.table.shared.key ⟦<MemBlock<WORDS> as Block>⟧.tells pool.now.words.table.shared.table_id pass.old }
+    requires ready { IsReady pool.now.words.table.shared.key ⟦<MemBlock<N> as Block>⟧.tells pool.now.words.table.shared.table_id pass.old }
     requires home { (view pass.old).out ≡ None }
     requires held { AreHeld iface.old.frames (view pass.old) }
-    ensures ready { IsReady pool.now.words.table.shared.key ⟦<MemBlock<WORDS> as Block>⟧.tells pool.now.words.table.shared.table_id pass.new }
+    ensures ready { IsReady pool.now.words.table.shared.key ⟦<MemBlock<N> as Block>⟧.tells pool.now.words.table.shared.table_id pass.new }
     ensures home { (view pass.new).out ≡ None }
     ensures held { AreHeld iface.new.frames (view pass.new) }
 {
@@ -165,8 +171,38 @@ fn a_full_leaf_is_tight_and_then_split(rt: HostRuntime) -> Result<(), Fail> {
     assert!(rt; matches!(&roomy, TrySplit::Roomy));
     let put_now = put_once(&pool, &mut pass, &iface, 28, 1);
     assert!(rt; matches!(&put_now, TryWrite::Done(Reply::Was(None))));
-    let got = put_then_get(pool.words(), &mut pass, 29, 30);
+    let got = put_then_get(pool.words(), &mut pass, &29, 30);
     assert_eq!(rt; got, Some(Reply::Got(Some(30))));
+    Ok(())
+}
+
+/// A leaf of 512 words takes 252 pairs. The next put splits the root, which leaves 126 of them on the lower leaf. A window shows 28 at most.
+#[test]
+fn a_leaf_of_512_words_takes_252_pairs(rt: HostRuntime) -> Result<(), Fail> {
+    let bytes = empty_sized(rt.alloc(), LARGE, LARGE_MAGIC, 4)?;
+    let (pool, mut pass) = open_sized::<Sizes, LARGE>(rt.alloc(), bytes.as_slice(), &[], 0)?;
+    let mut iface = Interface::new(0, 16);
+    fill(&rt, &pool, &mut pass, &mut iface, 252);
+    let tight = put_once(&pool, &mut pass, &iface, 252, 1);
+    assert!(rt; matches!(&tight, TryWrite::Tight(1)));
+    let reply = put_at(&rt, &pool, &mut pass, &mut iface, 252, 7);
+    assert_eq!(rt; reply, Ok(Reply::Was(None)));
+    let reply = got(&rt, &pool, &mut pass, &mut iface, 252);
+    assert_eq!(rt; reply, Ok(Reply::Got(Some(7))));
+    let Ok(Reply::Win(lower)) = window_from(&rt, &pool, &mut pass, &mut iface, 100, 28) else {
+        return Err(Fail::from("no window"));
+    };
+    assert_eq!(rt; lower.bound, Bound::Key(126));
+    assert_eq!(rt; lower.pairs.len(), 26);
+    let Ok(Reply::Win(upper)) = window_from(&rt, &pool, &mut pass, &mut iface, 126, 252) else {
+        return Err(Fail::from("no window"));
+    };
+    assert_eq!(rt; upper.bound, Bound::Key(154));
+    assert_eq!(rt; upper.pairs.len(), 28);
+    let reply = del_at(&rt, &pool, &mut pass, &mut iface, 252);
+    assert_eq!(rt; reply, Ok(Reply::Gone(Some(7))));
+    let reply = got(&rt, &pool, &mut pass, &mut iface, 252);
+    assert_eq!(rt; reply, Ok(Reply::Got(None)));
     Ok(())
 }
 
@@ -263,7 +299,7 @@ fn a_pass_reads_what_another_put_that_it_met(rt: HostRuntime) -> Result<(), Fail
     let mut iface = Interface::new(0, 16);
     let reply = got(&rt, &pool, &mut first, &mut iface, 5);
     assert_eq!(rt; reply, Ok(Reply::Got(None)));
-    let reply = put_meet_get(&pool, &mut first, &mut second, 5, 7);
+    let reply = put_meet_get(&pool, &mut first, &mut second, &5, 7);
     assert_eq!(rt; reply, Some(Reply::Got(Some(7))));
     Ok(())
 }

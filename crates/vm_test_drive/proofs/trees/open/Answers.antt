@@ -1,10 +1,10 @@
-use Rattle.std.proofs.Common.{arith, rules}
+use Rattle.std.proofs.Common.{arith, refl, rules}
 use Rattle.vm_pool.proofs.FirstPass.{first-alone}
 use Rattle.vm_serve.proofs.Headline.{begins, fresh-enough}
 use Rattle.vm_test_drive.proofs.trees.open.Goals as goal
 
 pub start-requires : goal.start-requires
-start-requires c = let start = begins _ _ _ _ c.requires.tree c.next.ensures c.in_ok-blocks.ensures.blocks in search (rules, start)
+start-requires c = let start = begins 64 refl _ _ _ _ c.requires.tree c.next.ensures c.in_ok-blocks.ensures.blocks in search (rules, start)
 
 pub returns-clause-whole : goal.returns-clause-whole
 returns-clause-whole c = (first-alone _ _ _ _ _ _ _ c.in_ok-start.ensures.view).0

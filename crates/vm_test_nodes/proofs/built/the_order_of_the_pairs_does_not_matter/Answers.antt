@@ -1,7 +1,7 @@
-use Rattle.std.proofs.Common.{refl}
+use Rattle.std.proofs.Common.{refl, rules}
 use Rattle.std.specs.List.{IsDistinct}
 use Rattle.vm_test_nodes.proofs.built.the_order_of_the_pairs_does_not_matter.Goals as goal
 
-pub build-requires-clause-apart : goal.build-requires-clause-apart
+pub build-requires : goal.build-requires
 unfolding IsDistinct
-build-requires-clause-apart g c = ((refl, tt), (tt, tt))
+build-requires g c = (search rules, (search rules, (search rules, (search rules, ((refl, tt), (tt, tt))))))
