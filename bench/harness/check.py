@@ -27,7 +27,7 @@ def faults_of_part(part, engines, limit):
     for engine in engines:
         for workers in part.workers:
             try:
-                engine.run(part.job(PAIRS, workers), limit)
+                engine.run(part.job(PAIRS, workers, engine.words), limit)
             except Failure as failure:
                 yield f"{part.name} with {workers} workers: {failure}"
 
@@ -36,9 +36,13 @@ def faults_of_sizes():
     """Values worked out by hand: a summary, and pages of page files."""
     if workload.summary_of(10) != "churn 10 calls 25 some 10 new 10 gone 5 rows 15 sum 80":
         yield f"the summary of ten pairs is '{workload.summary_of(10)}'"
-    for pairs, pages in ((0, 2), (20, 2), (29, 4), (1_500, 81), (100_000, 5_265)):
-        if workload.pages_needed(pairs) != pages:
-            yield f"{pairs} pairs are said to need {workload.pages_needed(pairs)} pages, and need {pages}"
+    small, large = workload.SMALL_PAGE, workload.LARGE_PAGE
+    for pairs, words, pages in (
+        (0, small, 2), (20, small, 2), (29, small, 4), (1_500, small, 81), (100_000, small, 5_265),
+        (0, large, 2), (180, large, 2), (1_500, large, 11), (100_000, large, 562),
+    ):  # fmt: skip
+        if workload.pages_needed(pairs, words) != pages:
+            yield f"{pairs} pairs are said to need {workload.pages_needed(pairs, words)} pages of {words} words, and need {pages}"
 
 
 def faults_of_watch(engines, limit):
@@ -48,7 +52,7 @@ def faults_of_watch(engines, limit):
             continue
         watch.prepare()
         with watch.Watch() as seen:
-            own, _ = engine.run(workload.resident_job(PAIRS_OF_THE_CLOCKS, 4), limit, seen.environment)
+            own, _ = engine.run(workload.resident_job(PAIRS_OF_THE_CLOCKS, 4, engine.words), limit, seen.environment)
             seconds = seen.seconds()
         if seconds is None or not own <= seconds <= own + APART:
             yield f"the watch saw {seconds} seconds where the peer's own clock saw {own}"

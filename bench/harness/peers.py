@@ -21,6 +21,8 @@ class Peer:
     library: str = ""
     can_be_bounded: bool = False
     remark: str = ""
+    # Its memory is bounded to the bytes of the program's frames of this size.
+    words: int = workload.SMALL_PAGE
 
     def run(self, job, limit, environment=None):
         """Seconds of the workers by the peer's own clock, and what the run cost. Its summary is right, else it has failed."""

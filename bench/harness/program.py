@@ -11,11 +11,12 @@ PROBE_PAIRS = 10
 
 
 class Program:
-    """With a path the program there is measured, and else the repository's own."""
+    """With a path the program there is measured, and else the repository's own; on pages of so many words."""
 
     name = "vmcache"
     title = "vmcache (this repository)"
     can_be_bounded = True
+    words = workload.SMALL_PAGE
 
     def __init__(self, path=None):
         self.path = pathlib.Path(path).resolve() if path else TOP / "crates" / "vmcache" / "out" / "vmcache"
@@ -25,7 +26,7 @@ class Program:
     def prepare(self):
         """Builds the program and the watch, and looks at the answer of a small run."""
         watch.prepare()
-        words = [self.launcher, *words_of(workload.resident_job(PROBE_PAIRS, 2))]
+        words = [self.launcher, *words_of(workload.resident_job(PROBE_PAIRS, 2, self.words))]
         try:
             probe = subprocess.run(words, stdout=subprocess.PIPE, text=True, timeout=BUILD_SECONDS)
         except (OSError, subprocess.TimeoutExpired) as refusal:
@@ -45,8 +46,18 @@ class Program:
         return seconds, ran
 
 
+class LargePages(Program):
+    """The program on pages of 4 KiB."""
+
+    name = "vmcache512"
+    title = "vmcache, pages of 4 KiB"
+    words = workload.LARGE_PAGE
+
+
 def words_of(job):
-    return ["churn", str(job.pairs), str(workload.SEED), "--workers", str(job.workers), "--frames", str(job.frames)]
+    words = ["churn", str(job.pairs), str(workload.SEED), "--workers", str(job.workers), "--frames", str(job.frames)]
+    # Programs of before know pages of one size alone.
+    return words if job.words == workload.SMALL_PAGE else [*words, "--words", str(job.words)]
 
 
 def phase_of_one_worker(wall, others):

@@ -71,12 +71,12 @@ class Rounds:
         """One round of a part."""
         for workers in part.workers:
             for engine in part.engines_of(engines):
-                self.measure(part.name, engine, part.job(self.pairs, workers), number)
+                self.measure(part.name, engine, part.job(self.pairs, workers, engine.words), number)
 
     def run_cost(self, engine, number):
         """One round of the program alone, with the fewest frames and with the most."""
         for frames in COST_FRAMES:
-            self.measure(COST, engine, workload.Job(self.pairs, COST_WORKERS, frames, bounded=False), number)
+            self.measure(COST, engine, workload.Job(self.pairs, COST_WORKERS, frames, bounded=False, words=engine.words), number)
 
     def completed(self):
         """The samples, with the phase worked out where it was not seen, and without those of which it cannot be."""

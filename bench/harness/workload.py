@@ -4,8 +4,8 @@ import dataclasses
 from harness.console import Failure
 
 SEED = 1
-PAGE_BYTES = 512
-PAIRS_A_LEAF = 20  # as a page file is built; also the children of an inner node
+SMALL_PAGE, LARGE_PAGE = 64, 512  # words
+PAIRS_A_LEAF = {SMALL_PAGE: 20, LARGE_PAGE: 180}  # as a page file is built; also the children of an inner node
 FEWEST_FRAMES, MOST_FRAMES, FRAMES_A_WORKER = 64, 65_536, 8
 MOST_PAIRS = 100_000
 
@@ -18,10 +18,11 @@ class Job:
     workers: int
     frames: int
     bounded: bool
+    words: int = SMALL_PAGE
 
     @property
     def cache_bytes(self):
-        return self.frames * PAGE_BYTES if self.bounded else 0
+        return self.frames * self.words * 8 if self.bounded else 0
 
 
 def calls_of(pairs):
@@ -42,29 +43,30 @@ def require_summary(engine, summary, pairs):
         raise Failure(f"{engine} answers '{summary}', which is not '{summary_of(pairs)}'")
 
 
-def pages_needed(pairs):
+def pages_needed(pairs, words):
     """The first page, and the nodes of all levels of the tree as it is built."""
-    nodes = max(1, -(-pairs // PAIRS_A_LEAF))
+    pairs_a_node = PAIRS_A_LEAF[words]
+    nodes = max(1, -(-pairs // pairs_a_node))
     pages = 1 + nodes
     while nodes > 1:
-        nodes = -(-nodes // PAIRS_A_LEAF)
+        nodes = -(-nodes // pairs_a_node)
         pages += nodes
     return pages
 
 
-def image_pages(pairs):
+def image_pages(pairs, words):
     """How many pages churn gives its image, so that no split wants for one."""
-    return 4 * pages_needed(pairs) + 64
+    return 4 * pages_needed(pairs, words) + 64
 
 
-def resident_job(pairs, workers):
+def resident_job(pairs, workers, words):
     """A run whose pages all have a frame."""
-    return Job(pairs, workers, frames_near(image_pages(pairs), workers), bounded=False)
+    return Job(pairs, workers, frames_near(image_pages(pairs, words), workers), bounded=False, words=words)
 
 
-def tenth_job(pairs, workers):
+def tenth_job(pairs, workers, words):
     """A run with frames for a tenth of its pages, as far as so few are allowed."""
-    return Job(pairs, workers, frames_near(image_pages(pairs) // 10, workers), bounded=True)
+    return Job(pairs, workers, frames_near(image_pages(pairs, words) // 10, workers), bounded=True, words=words)
 
 
 def frames_near(wish, workers):
