@@ -1,6 +1,6 @@
 -- A call that looked at a page's word and was denied: at once, or by an exchange that was lost.
 use Rattle.vm_guard.proofs.Prelude.{[], At, cond-false, Deny, Did, did_exchange, did_load, Each, eqb, inl, inr, IsAlone, IsDenied, IsEvidence, IsQuiet, IsSaw, LeavesNone, LeavesTable, List, look-others, LookTold}
-use Rattle.vm_guard.proofs.Prelude.{lost-saw, ne_eqb, None, NoWord, one-given, Option, Place, refl, rules, same, Saw, SaysWhy, Some, Start, subst, sym, View, ℕ, ◌++◌, ◌∙◌, ◌∷◌, ◌≡◌}
+use Rattle.vm_guard.proofs.Prelude.{lost-saw, ne_eqb, None, one-given, Option, Place, refl, rules, same, Saw, SaysWhy, Some, Start, subst, sym, View, ℕ, ◌++◌, ◌∙◌, ◌∷◌, ◌≡◌}
 use Rattle.vm_guard.proofs.Prelude.{◌≢◌, ◌⊎◌}
 use Rattle.vm_guard.proofs.QuietSteps.{look-quiet, quiet-then}
 use Rattle.vm_guard.proofs.Sure.{alone-on, look-current, look-leaves, lost-leaves}
@@ -24,15 +24,15 @@ module _ {X : Type 0} (tied : Start → ℕ → List ℕ → ℕ → List ℕ �
       let f : IsDenied allowed kept instead p d v w = search (rules, look-quiet tied p word v w t, word-shows kept instead p word d why, look-leaves tied p None word v w t, load-unmarks p (Place.State p) word, look-current tied p None word v w t) in
       (f, (refl, tt), (refl, tt))
 
-  pub denied-lost : (p word expects found new : ℕ) (v u w : View X) → LookTold tied p None word v u → IsQuiet p (did_exchange (Place.State p) expects found new ∷ []) u w
+  pub denied-lost : {kept : ℕ → Type 0} (p word expects found new : ℕ) (v u w : View X) → LookTold tied p None word v u → IsQuiet p (did_exchange (Place.State p) expects found new ∷ []) u w
       → (word ≡ expects) ⊎ instead word expects → found ≢ expects → allowed (Deny.Again (record { at = At.Page p; first = expects; seen = found }))
-      → IsDeniedThere NoWord p (Deny.Again (record { at = At.Page p; first = expects; seen = found })) v w
-  denied-lost p word expects found new v u w t quiet from ne kind =
+      → IsDeniedThere kept p (Deny.Again (record { at = At.Page p; first = expects; seen = found })) v w
+  denied-lost {kept = kept} p word expects found new v u w t quiet from ne kind =
       let first : List Did = did_load (Place.State p) word ∷ [] in
       let all : IsQuiet p (first ++ did_exchange (Place.State p) expects found new ∷ []) v w = quiet-then p first (did_exchange (Place.State p) expects found new ∷ []) v u w (look-quiet tied p word v u t) quiet in
       let table = λ (a : IsAlone v). lost-leaves p expects found new u w quiet ne (alone-on tied p word v u t a) ∙ look-leaves tied p None word v u t a in
-      let f : IsDenied allowed NoWord instead p (Deny.Again (record { at = At.Page p; first = expects; seen = found })) v w =
-      search (rules, all, lost-saw instead p word expects found new from ne, table, load-unmarks p (Place.State p) word, lost-unmarks p expects found new ne, quiet.alone.current (look-current tied p None word v u t)) in
+      let f : IsDenied allowed kept instead p (Deny.Again (record { at = At.Page p; first = expects; seen = found })) v w =
+      search (rules, all, lost-saw {kept = kept} instead p word expects found new from ne, table, load-unmarks p (Place.State p) word, lost-unmarks p expects found new ne, quiet.alone.current (look-current tied p None word v u t)) in
       (f, (refl, (refl, tt)), (refl, (cond-false (eqb found expects) (Some new) None (ne_eqb found expects ne), tt)))
 
 -- ---- a denied call leaves no word

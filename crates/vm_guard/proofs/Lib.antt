@@ -8,6 +8,7 @@ pub mod Validating
 pub mod Denials
 pub mod GuardSteps
 pub mod Lockings
+pub mod Sharing
 pub mod Upgrading
 pub mod Expecting
 pub mod Leaving

@@ -108,12 +108,12 @@ module _ {X : Type 0} (tied : Start → ℕ → List ℕ → ℕ → List ℕ �
 
 -- ---- a share
 
-module _ {X : Type 0} {tied : Start → ℕ → List ℕ → ℕ → List ℕ → Type 0} {p word : ℕ} {u x : View X} (t : ShareTold tied p word word u x) where
+module _ {X : Type 0} {tied : Start → ℕ → List ℕ → ℕ → List ℕ → Type 0} {p word : ℕ} {u x : View X} {said : Option X} (t : ShareTold tied p word said word u x) where
   pub share-locking : IsLocking (seat_of x p)
   share-locking = inr (subst (λ (n : ℕ). 1 ≤ n) (sym (ap (λ (s : Seat). s.shares) (share-seat refl t))) (omega arith))
 
   -- what the pass knew of the page, under a lock of its own, it still knows
-  share-knows : IsLocking (seat_of u p) → KnowsAsBefore u x p
+  pub share-knows : IsLocking (seat_of u p) → KnowsAsBefore u x p
   share-knows l =
       let view = (share-brings refl t).view in
       record {
@@ -123,7 +123,7 @@ module _ {X : Type 0} {tied : Start → ℕ → List ℕ → ℕ → List ℕ �
       }
 
 module _ {X : Type 0} (tied : Start → ℕ → List ℕ → ℕ → List ℕ → Type 0) where
-  pub shared : (p word found : ℕ) (m : Mapping) (v u x w : View X) → LookTold tied p None word v u → HasRoom word → ShareTold tied p word word u x → TranslationTold p found x w → mapping_of found ≡ Some m
+  pub shared : (p word found : ℕ) (m : Mapping) (v u x w : View X) → LookTold tied p None word v u → HasRoom word → ShareTold tied p word None word u x → TranslationTold p found x w → mapping_of found ≡ Some m
       → p < v.start.pages → IsShared tied p m.frame v w
   shared p word found m v u x w look room t load named page =
       let all = others-then (look-others look (λ q. q ≡ p) refl) (others-then (share-others refl t (λ q. q ≡ p) refl) (tload-others load (λ q. q ≡ p) refl)) in

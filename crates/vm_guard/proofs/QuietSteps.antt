@@ -1,11 +1,13 @@
 -- What each kind of step leaves of a view that it does not speak of, in the words of the guards, and that this holds of several steps in a row.
+use Rattle.vm_rule.specs.Prelude.{entries_where}
+use Rattle.vm_step.proofs.{Evidenced.lost-view, steps.Share.where-lost}
 use Rattle.vm_guard.proofs.Prelude.{[], alone-then, ap, append_assoc, Brings, Did, did_exchange, did_load, entries_of, holds-still, holds-then, HoldsPage}
 use Rattle.vm_guard.proofs.Prelude.{IsElsewhere, IsLocking, IsQuiet, IsSteady, knows-then, KnowsAsBefore, last_of, LeavesOthers, LeavesOwn, left_at, List}
 use Rattle.vm_guard.proofs.Prelude.{load-holds, load-knows, load-others, load-own, LoadTold, LOCKED, locked_view, LockTold, look-holds, look-others, look-own}
-use Rattle.vm_guard.proofs.Prelude.{look-says, looked-knows, LookTold, lost-brings, None, one_share_more, Option, others-none, others-still, Place, ReadIs}
+use Rattle.vm_guard.proofs.Prelude.{look-says, looked-knows, LookTold, lost-brings, ne_eqb, None, one_share_more, Option, others-none, others-still, Place, ReadIs}
 use Rattle.vm_guard.proofs.Prelude.{reads-then, refl, Release, rules, runs-then, seat_of, shared_view, ShareTold, Start, starts-then, state_of, stays-alone}
 use Rattle.vm_guard.proofs.Prelude.{StaysAlone, still-holds, still-knows, still-locking, still-own, sym, Tie, tload-holds, tload-knows, tload-others, tload-own}
-use Rattle.vm_guard.proofs.Prelude.{TranslationTold, version_of, View, where_same, word_of, ℕ, ◌++◌, ◌∙◌, ◌∷◌, ◌≡◌, ◌≢◌}
+use Rattle.vm_guard.proofs.Prelude.{subst, TranslationTold, version_of, View, where_same, word_of, ℕ, ◌++◌, ◌∙◌, ◌∷◌, ◌≡◌, ◌≢◌}
 
 -- the other one, where the read does not stay
 pub where-other : {A : Type 0} (left : ReadIs) (x y : A) → left ≢ ReadIs.Same → where_same left x y ≡ y
@@ -88,6 +90,9 @@ module _ {X : Type 0} where
       → IsQuiet p (did_exchange (Place.State p) expects found (word_of LOCKED (version_of expects)) ∷ []) v w
   lock-lost tied p expects found v w ne t = still-quiet (lost-brings (locked_view p t.held (last_of w p).words v) ne t.brings)
 
-  pub share-lost : (tied : Start → ℕ → List ℕ → ℕ → List ℕ → Type 0) (p expects found : ℕ) (v w : View X) → found ≢ expects → ShareTold tied p expects found v w
+  pub share-lost : (tied : Start → ℕ → List ℕ → ℕ → List ℕ → Type 0) {said : Option X} (p expects found : ℕ) (v w : View X) → found ≢ expects → ShareTold tied p expects said found v w
       → IsQuiet p (did_exchange (Place.State p) expects found (word_of (one_share_more (state_of expects)) (version_of expects)) ∷ []) v w
-  share-lost tied p expects found v w ne t = still-quiet (lost-brings (shared_view p t.held v) ne t.brings)
+  share-lost tied {said = said} p expects found v w ne t =
+      still-quiet
+      (subst (λ es. Brings (did_exchange (Place.State p) expects found (word_of (one_share_more (state_of expects)) (version_of expects))) [] es v v w) (ap (entries_where v said) (ne_eqb found expects ne) ∙ where-lost v said)
+      (lost-view _ expects found v (shared_view p t.held said v) w ne t.brings))

@@ -160,8 +160,8 @@ module _ {X : Type 0} (tied : Start → ℕ → List ℕ → ℕ → List ℕ �
         ne (finds-again found (found-known _ found None [] [] u _ w t.brings refl alone-on) ∙ sym (none-expected word expects kept (found-as LocksNone none)))
 
     -- nor is a share
-    pub share-sure : (found : ℕ) (w : View X) → ShareTold tied p word found u w → found ≢ word → ⊥
-    share-sure found w t ne = ne (finds-again found (found-known _ found None [] [] u _ w t.brings refl alone-on))
+    pub share-sure : {said : Option X} → (found : ℕ) (w : View X) → ShareTold tied p word said found u w → found ≢ word → ⊥
+    share-sure found w t ne = ne (finds-again found (found-known _ found None [] _ u _ w t.brings refl alone-on))
 
   -- ---- the start of an optimistic guard
 

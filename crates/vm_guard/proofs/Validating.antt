@@ -95,7 +95,7 @@ ok-unless (Err e) P never h = absurd (never e h)
 
 -- what is told where the read stays open is told on a condition by which it does
 pub kept-as : {X : Type 0} (keeps : Start → Kept X → Type 0) (p : ℕ) (free when : Type 0) (w : View X) → (when → free) → IsKeptNow keeps p free w → IsKeptNow keeps p when w
-kept-as keeps p free when w so k = record { kept = k.kept; holds = k.holds; history = k.history; pages = k.pages; page = λ x. k.page (so x); members = k.members; held = k.held; zero = k.zero; next = k.next }
+kept-as keeps p free when w so k = record { kept = k.kept; holds = k.holds; history = k.history; pages = k.pages; page = λ x. k.page (so x); members = k.members; held = k.held; shared = k.shared; zero = k.zero; next = k.next }
 
 -- ---- a word that was loaded and validated
 

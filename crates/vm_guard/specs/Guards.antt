@@ -4,13 +4,13 @@ use Rattle.std.specs.Prelude.{true, ℕ}
 use Rattle.vm_core.specs.Prelude.{frame_of, is_readable, LOCKED, mapping_of, MARKED, MAX_VERSION, one_share_more, state_of, trans_word, UNLOCKED}
 use Rattle.vm_core.specs.Prelude.{unshared, version_of, word_of}
 use Rattle.vm_rule.specs.Prelude.{did_change, did_exchange, did_load, did_store, dirty_in, draft_of, Each, entries_of, frame_read_by, has, IsLocking, IsUnheld}
-use Rattle.vm_rule.specs.Prelude.{IsWhole, last_of, loads_at, LockValidates, Mapping, next_after, no_held, Open, put_at, seat_of, Start, ties_below}
-use Rattle.vm_rule.specs.Prelude.{without}
+use Rattle.vm_rule.specs.Prelude.{IsWhole, last_of, loads_at, LockValidates, LookTold, Mapping, next_after, no_held, Open, put_at, seat_of, Start}
+use Rattle.vm_rule.specs.Prelude.{ties_below, without}
 use Rattle.vm_rule.specs.declared.view.Place.{Place}
 use Rattle.vm_step.specs.Prelude.{Did, HasWritten, HoldsPage, IsAlone, KnowsAsBefore, KnowsSame, ReadsAsBefore, Release, StaysAlone, View}
-use Rattle.vm_guard.specs.LockSteps.{LocksBy, SharesBy}
+use Rattle.vm_guard.specs.LockSteps.{LocksBy, SharesAt, SharesBy}
 use Rattle.vm_guard.specs.Quiet.{IsQuiet, IsSteady, LeavesNone}
-use Rattle.vm_guard.specs.Sure.{IsKnownFree, known_word, KnowsBut, KnowsStates, unmarked_word}
+use Rattle.vm_guard.specs.{Sure.IsKnownFree, Sure.known_word, Sure.KnowsBut, Sure.KnowsStates, Sure.unmarked_word, Takes.HasRoom}
 
 -- the words of a page with their places, from i on
 abbrev pub placed : ℕ → List ℕ → List (ℕ × ℕ)
@@ -231,6 +231,36 @@ module _ {X : Type 0} where
     pub takes : SharesBy p frame done
     pub size : length (last_of w p).words ≡ w.start.size
     pub validates : v.start.tells ≡ true → LockValidates tied p (last_of w p).version (last_of w p).words v
+    -- the page's word has one share more
+    pub table : KnowsBut p (word_of (one_share_more (state_of (known_word p v))) (version_of (known_word p v))) v w
+    pub current : w.current ≡ true
+
+  -- a look at page p found this word, which is of this version, not Locked, and has room for a share
+  pub record FindsRoom (tied : Start → ℕ → List ℕ → ℕ → List ℕ → Type 0) (p version word : ℕ) (v w : View X) : Type 0 where
+    pub look : LookTold tied p None word v w
+    pub version_is : version_of word ≡ version
+    pub unlocked : state_of word ≢ LOCKED
+    pub small : state_of word < 256
+    pub room : HasRoom word
+
+  -- page p, which was read at this version, got one share more at it: what is said is an entry there; the open read is closed, and saw the last words
+  pub record IsSharedAt (tied : Start → ℕ → List ℕ → ℕ → List ℕ → Type 0) (p frame version : ℕ) (said : Option X) (v w : View X) : Type 0 where
+    pub done : List Did
+    pub elsewhere : IsElsewhere p done [] v w
+    pub mine : w.mine ≡ v.mine ++ entries_of v said
+    pub entry : (others : List _) × (w.seen ≡ (v.seen ++ others) ++ entries_of v said)
+    pub group : (w.pending ≡ v.pending) × (w.owed ≡ v.owed) × (w.next ≡ v.next)
+    pub alone : StaysAlone v w
+    pub seat : seat_of w p ≡ record (seat_of v p) { shares = (seat_of v p).shares + 1; reading = None }
+    pub knows : IsLocking (seat_of v p) → KnowsAsBefore v w p
+    -- a pass that writes the page back had a share of it before
+    pub writes : (seat_of v p).writing ≡ true → 1 ≤ (seat_of v p).shares
+    pub sharing : IsSharing p frame w
+    -- one exchange alone left a word
+    pub takes : SharesAt p version done
+    pub version_is : (last_of w p).version ≡ version
+    pub size : length (last_of w p).words ≡ w.start.size
+    pub validates : v.start.tells ≡ true → LockValidates tied p version (last_of w p).words v
     -- the page's word has one share more
     pub table : KnowsBut p (word_of (one_share_more (state_of (known_word p v))) (version_of (known_word p v))) v w
     pub current : w.current ≡ true

@@ -34,3 +34,12 @@ pub record SharesBy (p frame : ℕ) (done : List Did) : Type 0 where
   pub translation : ℕ
   pub names : frame_of (mapping_of translation) ≡ Some frame
   pub steps : TakesBy p (share_did p expects) translation done
+
+-- a share of page p was taken at last, by an exchange that expected a word of this version; all steps before were at the page's state word, and left
+-- none there
+pub record SharesAt (p version : ℕ) (done : List Did) : Type 0 where
+  pub expects : ℕ
+  pub at : version_of expects ≡ version
+  pub before : List Did
+  pub cut : done ≡ before ++ share_did p expects ∷ []
+  pub looks : Each (λ d. (d.at ≡ Place.State p) × (d.wrote ≡ None)) before

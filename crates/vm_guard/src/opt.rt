@@ -1,16 +1,17 @@
 // Optimistic guards: a page is read without a lock, and a later look at its word tells whether all words read were of one version.
 ghost use Rattle.std.specs.Prelude.{[], ◌<◌, ◌∷◌, ◌≡◌, ◌≢◌, ◌⊎◌, IfErr, IfOk, IsOk, length, None, option_map, true};
 ghost use Rattle.vm_page.specs.Sizes.{IsSize};
-ghost use Rattle.vm_core.specs.Prelude.{is_readable, LOCKED, MAX_VERSION, state_of, version_of};
-ghost use Rattle.vm_step.specs.Prelude.{IsAlone, IsFrameAt, IsKeptNow, IsReady, IsSamePass, KnowsUnheld, MayStep, MayTell, NoneExpected, NoWord};
-ghost use Rattle.vm_step.specs.Prelude.{UnlockedExpected, view};
-ghost use Rattle.vm_guard.specs.Denied.{AgainOrNeed, AgainOrWorn, IsDenied, KeptWord, SameOrUnlocked};
-ghost use Rattle.vm_guard.specs.Guards.{BeginsReading, HasLeft, IsLocked, IsReading, IsUnmarked, IsValid, Loads, placed};
+ghost use Rattle.vm_core.specs.Prelude.{is_readable, LOCKED, MAX_VERSION, MayShare, state_of, version_of};
+ghost use Rattle.vm_step.specs.Prelude.{IsAlone, IsFrameAt, IsKeptNow, IsReady, IsSamePass, KnowsUnheld, MayStep, MayTell, MayTellHeld, NoneExpected};
+ghost use Rattle.vm_step.specs.Prelude.{NoWord, UnlockedExpected, view};
+ghost use Rattle.vm_guard.specs.Denied.{AgainOrNeed, AgainOrWorn, IsDenied, KeptWord, NotWorn, SameOrUnlocked};
+ghost use Rattle.vm_guard.specs.Guards.{BeginsReading, FindsRoom, HasLeft, IsLocked, IsReading, IsSharedAt, IsUnmarked, IsValid, Loads, placed};
 ghost use Rattle.vm_guard.specs.{PageWords.LoadsWords, Quiet.LeavesTable, Sure.IsKnownAt, Sure.IsKnownFree, Sure.known_word};
 ghost use Rattle.vm_guard.specs.Takes.{IsToExpect};
 
 use crate::deny::Deny;
 use crate::exclusive::ExclusiveGuard;
+use crate::shared::{SharedGuard, room};
 use crate::standing::{Lock, standing};
 use vm_block::Block;
 use vm_core::{MAX_VERSION, StateWord, TransWord};
@@ -18,7 +19,8 @@ use vm_owner::Owner;
 use vm_page::PageBuf;
 use vm_rule::words::{Pass, Words};
 use vm_step::{
-    At, Saw, Took, frame_place, load_at, lock_exclusive, look, look_silently, tload, unmark,
+    At, Saw, Took, frame_place, load_at, lock_exclusive, lock_shared, lock_shared_silently, look,
+    look_silently, tload, unmark,
 };
 
 /// How many words are loaded in a turn.
@@ -264,6 +266,108 @@ impl OptGuard {
                 })
             }
         }
+    }
+
+    /// Takes a share of the page at the guard's version, which proves of all that was read through the guard what a validation would, and makes
+    /// what is said an entry of the history there: this page, with others of which the pass has shares, has to prove it. A page with another version
+    /// may be tried again; one with 252 shares is crowded.
+    pub fn share<U: Owner, B: Block>(
+        self,
+        words: &Words<U, B>,
+        pass: &mut Pass<U>,
+        said: Option<&U::Said>,
+    ) -> Result<SharedGuard, Deny>
+        requires ready { IsReady words.now.table.shared.key B.tells words.now.table.shared.table_id pass.old }
+        requires page { self.pid < words.now.table.shared.key.pages }
+        requires reading { IsReading self.pid self.word self.frame (view pass.old) }
+        requires owner { MayTellHeld U.tied U.may_hold self.pid (version_of self.word) (option_map (λ b. b.now) said) (view pass.old) }
+        ensures pass { IsSamePass pass.old pass.new }
+        ensures ready { IsReady words.now.table.shared.key B.tells words.now.table.shared.table_id pass.new }
+        ensures taken { IfOk result (λ guard. (guard.pid ≡ self.pid)
+            × IsSharedAt U.tied self.pid guard.frame (version_of self.word) (option_map (λ b. b.now) said.entry) (view pass.old) (view pass.new)) }
+        ensures kept { B.tells ≡ true → IfOk result (λ _. IsKeptNow U.keeps self.pid (Unit {0}) (view pass.new)) }
+        ensures denied { IfErr result (λ deny. IsDenied NotWorn (KeptWord self.word) NoneExpected self.pid deny (view pass.old) (view pass.new)) }
+        ensures bare { IfErr result (λ _. LeavesTable (view pass.old) (view pass.new)) }
+        ensures sure { IsAlone (view pass.old) → IsKnownAt self.pid self.word (view pass.old) → MayShare (known_word self.pid (view pass.old)) → IsOk result }
+    {
+        let pid = self.pid;
+        let frame = self.frame;
+        let word = self.word_to_share(words, pass)?;
+        match lock_shared(words, pass, pid, word, said) {
+            Took::Lost(seen) => Err(Deny::Again(Saw {
+                at: At::Page(pid),
+                first: word,
+                seen,
+            })),
+            Took::Taken => Ok(SharedGuard {
+                pid,
+                frame,
+                lock: Lock,
+            }),
+        }
+    }
+
+    /// Takes a share of the page in the same way, with nothing to say.
+    pub fn share_silently<U: Owner, B: Block>(
+        self,
+        words: &Words<U, B>,
+        pass: &mut Pass<U>,
+    ) -> Result<SharedGuard, Deny>
+        requires ready { IsReady words.now.table.shared.key B.tells words.now.table.shared.table_id pass.old }
+        requires page { self.pid < words.now.table.shared.key.pages }
+        requires reading { IsReading self.pid self.word self.frame (view pass.old) }
+        ensures pass { IsSamePass pass.old pass.new }
+        ensures ready { IsReady words.now.table.shared.key B.tells words.now.table.shared.table_id pass.new }
+        ensures taken { IfOk result (λ guard. (guard.pid ≡ self.pid)
+            × IsSharedAt U.tied self.pid guard.frame (version_of self.word) None (view pass.old) (view pass.new)) }
+        ensures kept { B.tells ≡ true → IfOk result (λ _. IsKeptNow U.keeps self.pid (Unit {0}) (view pass.new)) }
+        ensures denied { IfErr result (λ deny. IsDenied NotWorn (KeptWord self.word) NoneExpected self.pid deny (view pass.old) (view pass.new)) }
+        ensures bare { IfErr result (λ _. LeavesTable (view pass.old) (view pass.new)) }
+        ensures sure { IsAlone (view pass.old) → IsKnownAt self.pid self.word (view pass.old) → MayShare (known_word self.pid (view pass.old)) → IsOk result }
+    {
+        let pid = self.pid;
+        let frame = self.frame;
+        let word = self.word_to_share(words, pass)?;
+        match lock_shared_silently(words, pass, pid, word) {
+            Took::Lost(seen) => Err(Deny::Again(Saw {
+                at: At::Page(pid),
+                first: word,
+                seen,
+            })),
+            Took::Taken => Ok(SharedGuard {
+                pid,
+                frame,
+                lock: Lock,
+            }),
+        }
+    }
+
+    /// The page's word, where it is of the guard's version and has room for a share. It is the word that a share is to expect: the guard's own may
+    /// have got or lost shares of others since, which changes nothing that was read.
+    fn word_to_share<U: Owner, B: Block>(
+        &self,
+        words: &Words<U, B>,
+        pass: &mut Pass<U>,
+    ) -> Result<u64, Deny>
+        requires pass { MayStep words.now.table.shared.table_id pass.old }
+        requires page { self.now.pid < words.now.table.shared.key.pages }
+        requires reading { IsReading self.now.pid self.now.word self.now.frame (view pass.old) }
+        ensures pass { IsSamePass pass.old pass.new }
+        ensures ready { IsReady words.now.table.shared.key B.tells words.now.table.shared.table_id pass.new }
+        ensures found { IfOk result (λ word. FindsRoom U.tied self.now.pid (version_of self.now.word) word (view pass.old) (view pass.new)) }
+        ensures denied { IfErr result
+            (λ deny. IsDenied NotWorn (KeptWord self.now.word) NoneExpected self.now.pid deny (view pass.old) (view pass.new)) }
+        ensures bare { IfErr result (λ _. LeavesTable (view pass.old) (view pass.new)) }
+        ensures sure { IsAlone (view pass.old) → IsKnownAt self.now.pid self.now.word (view pass.old)
+            → MayShare (known_word self.now.pid (view pass.old)) → IsOk result }
+    {
+        let word = look_silently(words, pass, self.pid);
+        match self.judge(word) {
+            Ok(()) => {}
+            Err(saw) => return Err(Deny::Again(saw)),
+        }
+        room(word, self.pid)?;
+        Ok(word)
     }
 
     /// Whether the word seen is of the guard's version, and not Locked; else the evidence that the page's word is not the guard's any more.

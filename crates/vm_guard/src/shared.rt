@@ -12,7 +12,7 @@ use vm_block::Block;
 use vm_core::StateWord;
 use vm_owner::Owner;
 use vm_rule::words::{Pass, Words};
-use vm_step::{At, Saw, Took, load, lock_shared, look_silently, unlock_shared};
+use vm_step::{At, Saw, Took, load, lock_shared_silently, look_silently, unlock_shared};
 
 /// A share of a page, and the frame that the page stands in.
 ///
@@ -24,7 +24,7 @@ pub struct SharedGuard {
 }
 
 /// Whether a page whose word is this one has room for a share.
-fn room(word: u64, pid: u32) -> Result<(), Deny>
+pub(crate) fn room(word: u64, pid: u32) -> Result<(), Deny>
     ensures ok { IfOk result (λ _. HasRoom word) }
     ensures refused { IfErr result (λ d. SaysWhy pid word d × NotWorn d) }
 {
@@ -58,7 +58,7 @@ impl SharedGuard {
     {
         let word = look_silently(words, pass, pid);
         room(word, pid)?;
-        match lock_shared(words, pass, pid, word) {
+        match lock_shared_silently(words, pass, pid, word) {
             Took::Lost(seen) => Err(Deny::Again(Saw {
                 at: At::Page(pid),
                 first: word,

@@ -31,6 +31,11 @@ abbrev pub Agrees : List (List ℕ) → List Change → Type 0
 Agrees pages [] = Unit {0}
 Agrees pages (c ∷ cs) = (c.page < length pages) × (page_at pages c.page ≡ c.old) × Agrees pages cs
 
+-- each of these pages has these words
+abbrev pub PagesHave : List (List ℕ) → List (ℕ × List ℕ) → Type 0
+PagesHave pages [] = Unit {0}
+PagesHave pages (q ∷ qs) = (q.0 < length pages) × (page_at pages q.0 ≡ q.1) × PagesHave pages qs
+
 -- the pages after all changes
 abbrev pub changed : List Change → List (List ℕ) → List (List ℕ)
 changed [] pages = pages

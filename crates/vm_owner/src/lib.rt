@@ -18,7 +18,7 @@ pub trait Owner {
     ghost use Rattle.std.specs.Prelude.{Bool, true, ℕ, ◌<◌, List, length};
     ghost use Rattle.vm_page.specs.Pages.{page_at};
     ghost use Rattle.vm_owner.specs.declared.Entry.{Entry};
-    ghost use Rattle.vm_owner.specs.Kept.{Start, Kept, Change, Fits, IsTurn, after_release, told, claimed, AreZero};
+    ghost use Rattle.vm_owner.specs.Kept.{Start, Kept, Change, Fits, IsTurn, after_release, told, claimed, AreZero, PagesHave};
 
     // Of how many words each page may be, for this layer.
     ghost takes_size: { ℕ → Bool } = { λ _. true };
@@ -32,12 +32,17 @@ pub trait Owner {
     // When a page's words, read whole at one moment, prove these entries.
     ghost may_read: { Start → ℕ → List ℕ → List (Entry Self.Said) → Type 0 };
 
+    // When pages of which a pass has shares, each with its words, prove these entries together.
+    ghost may_hold: { Start → List (ℕ × List ℕ) → List (Entry Self.Said) → Type 0 };
+
     // What a page's words say of another page's words.
     ghost tied: { Start → ℕ → List ℕ → ℕ → List ℕ → Type 0 };
 
     ghost releases: { (start : Start) (kept : Kept Self.Said) (due : List ℕ) (changes : List Change) (entries : List (Entry Self.Said)) → keeps start kept → Fits kept due changes → IsTurn kept.history entries → may_release start due changes entries → keeps start (after_release changes entries kept) };
 
     ghost reads: { (start : Start) (kept : Kept Self.Said) (page : ℕ) (entries : List (Entry Self.Said)) → keeps start kept → page < length kept.pages → IsTurn kept.history entries → may_read start page (page_at kept.pages page) entries → keeps start (told entries kept) };
+
+    ghost holds: { (start : Start) (kept : Kept Self.Said) (pages : List (ℕ × List ℕ)) (entries : List (Entry Self.Said)) → keeps start kept → PagesHave kept.pages pages → IsTurn kept.history entries → may_hold start pages entries → keeps start (told entries kept) };
 
     ghost claims: { (start : Start) (kept : Kept Self.Said) (n : ℕ) → keeps start kept → AreZero kept n → keeps start (claimed n kept) };
 
@@ -57,11 +62,15 @@ impl Owner for Bare {
 
     ghost may_read = { λ _ _ _ entries. entries ≡ [] };
 
+    ghost may_hold = { λ _ _ entries. entries ≡ [] };
+
     ghost tied = { λ _ _ _ _ _. Unit {0} };
 
     ghost releases = { λ _ _ _ _ _ _ _ _ _. tt };
 
     ghost reads = { λ _ _ _ _ _ _ _ _. tt };
+
+    ghost holds = { λ _ _ _ _ _ _ _ _. tt };
 
     ghost claims = { λ _ _ _ _ _. tt };
 

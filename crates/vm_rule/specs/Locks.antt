@@ -1,11 +1,12 @@
 -- What the steps on locks tell: an exclusive lock, a share or a lock for write-back that is tried, a share that is given up, and a lock for
 -- write-back that becomes exclusive. So do the steps on marks. A step that expects a word changes the view only where it found that word.
-use Rattle.std.specs.Prelude.{[], Bool, false, if◌then◌else◌, IsSome, length, List, nat_lt, None, Some, true, ℕ, ◌+◌, ◌-◌, ◌<◌, ◌==◌, ◌^◌, ◌||◌, ◌≡◌, ◌≢◌, ◌≤◌}
+use Rattle.std.specs.Prelude.{[], Bool, false, if◌then◌else◌, IsSome, length, List, nat_lt, None, Option, Some, true, ℕ, ◌++◌, ◌+◌, ◌-◌, ◌<◌, ◌==◌, ◌^◌, ◌||◌}
+use Rattle.std.specs.Prelude.{◌∷◌, ◌≡◌, ◌≢◌, ◌≤◌}
 use Rattle.vm_core.specs.Prelude.{EVICTED, LoadsAre, LOCKED, mapping_of, MAX_VERSION, one_share_more, state_of, unshared, version_of, word_of}
 use Rattle.vm_core.specs.{declared.event.Mapping.Mapping, declared.event.Open.Open, declared.event.Seat.Seat}
 use Rattle.vm_laws_others.specs.Leaves.{stands_dirty}
-use Rattle.vm_owner.specs.{Kept.Start, Numbers.has}
-use Rattle.vm_rule.specs.{Brought.Brings, declared.view.Held.Held, declared.view.View.View, Log.did_change, Log.did_exchange, Looks.IsOlder, Looks.IsSinceAll}
+use Rattle.vm_owner.specs.{declared.Entry.Entry, Kept.Start, Numbers.has}
+use Rattle.vm_rule.specs.{Brought.Brings, Brought.entry_of, declared.view.Held.Held, declared.view.View.View, Log.did_change, Log.did_exchange, Looks.IsOlder, Looks.IsSinceAll}
 use Rattle.vm_rule.specs.{Puts.put, Puts.put_at, Reading.last_of, Rule.began_of, Rule.no_held, Views.Each, Views.loads_at, Views.seat_of}
 use Rattle.vm_rule.specs.declared.view.Place.TheVariants as places
 
@@ -67,26 +68,42 @@ module _ {X : Type 0} where
         stands_dirty (mapping_of t.word) ≡ true) v.translations
     pub validates : v.start.tells ≡ true → found ≡ expects → LockValidates tied p (version_of expects) (last_of w p).words v
 
-  -- the pass has one share of p more: the open read is closed, and it knows the page, if it did not yet
-  abbrev pub shared_view : ℕ → Held → View X → View X
-  shared_view p h v =
+  -- the entry that comes with what is said where a step is taken, if something is said
+  abbrev pub entries_where : View X → Option X → Bool → List (Entry X)
+  entries_where v None taken = []
+  entries_where v (Some x) taken = if taken then entry_of v x ∷ [] else []
+
+  -- the pass's own entries with what is said
+  abbrev pub mine_with : View X → Option X → List (Entry X)
+  mine_with v None = v.mine
+  mine_with v (Some x) = v.mine ++ entry_of v x ∷ []
+
+  -- the pass has one share of p more: the open read is closed, and it knows the page, if it did not yet; what is said is its entry
+  abbrev pub shared_view : ℕ → Held → Option X → View X → View X
+  shared_view p h said v =
       record v {
         seats = put p (record (seat_of v p) { shares = (seat_of v p).shares + 1; reading = None }) v.seats;
         loads = put p [] v.loads;
         held = if has_lock (seat_of v p) then v.held else put p h v.held;
+        mine = mine_with v said;
       }
 
-  -- the same of a share
-  pub record ShareTold (tied : Start → ℕ → List ℕ → ℕ → List ℕ → Type 0) (p expects found : ℕ) (v w : View X) : Type 0 where
+  -- the same of a share; what is said becomes an entry where the share is taken
+  pub record ShareTold (tied : Start → ℕ → List ℕ → ℕ → List ℕ → Type 0) (p expects : ℕ) (said : Option X) (found : ℕ) (v w : View X) : Type 0 where
     pub held : Held
-    pub brings : Brings (did_exchange (places.State p) expects found (word_of (one_share_more (state_of expects)) (version_of expects))) [] [] v
-        (if found == expects then shared_view p held v else v) w
+    pub brings : Brings (did_exchange (places.State p) expects found (word_of (one_share_more (state_of expects)) (version_of expects))) []
+        (entries_where v said (found == expects)) v (if found == expects then shared_view p held said v else v) w
     pub version : (last_of w p).version ≡ version_of found
     pub since : IsSinceAll p found v.log
     pub older : IsOlder found (seat_of v p).reading
     pub size : length (last_of w p).words ≡ w.start.size
     pub resident : found ≡ expects → IsSome (put_at no_held w.held p).mapping
     pub inside : found ≡ expects → (m : Mapping) → (put_at no_held w.held p).mapping ≡ Some m → m.frame < v.start.frames
+    -- a pass that writes the page back had a share of it before
+    pub writes : (seat_of v p).writing ≡ true → 1 ≤ (seat_of v p).shares
+    -- the frame of the pass's open read at this version is the page's
+    pub reads_from : found ≡ expects → (o : Open) → (seat_of v p).reading ≡ Some o → o.version ≡ version_of expects → (f : ℕ) → o.frame ≡ Some f →
+        (m : Mapping) → (put_at no_held w.held p).mapping ≡ Some m → m.frame ≡ f
     pub validates : v.start.tells ≡ true → found ≡ expects → LockValidates tied p (version_of expects) (last_of w p).words v
 
   -- one share of p is given up

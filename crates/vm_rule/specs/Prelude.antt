@@ -7,7 +7,7 @@ pub use Rattle.vm_core.specs.{declared.event.CoreShape.CoreShape, declared.event
 pub use Rattle.vm_core.specs.{declared.event.ReadIs.ReadIs, declared.event.Seat.Seat, declared.words.TheConstants.FRAMES}
 pub use Rattle.vm_laws_others.specs.Leaves.{actor_of, Leaves, stands_dirty}
 pub use Rattle.vm_owner.specs.{declared.Entry.Entry, Numbers.AreApart, Numbers.has, Numbers.without}
-pub use Rattle.vm_owner.specs.Kept.{AreUnchanged, Change, changed_pages, claimed, entries_under, Kept, Start}
+pub use Rattle.vm_owner.specs.Kept.{AreUnchanged, Change, changed_pages, claimed, entries_under, PagesHave, Kept, Start}
 pub use Rattle.vm_rule.specs.{Begun.HasShape, Begun.Stands, Begun.unborn, Faults.notes_of, Faults.RaiseTold, Hearing.hearer, Hearing.OnlyKnows}
 pub use Rattle.vm_rule.specs.{Hearing.TakesOver, Loads.frame_read_by, Loads.LoadTold, Loads.translation_of, Loads.TranslationTold, Log.did_change}
 pub use Rattle.vm_rule.specs.{Log.did_exchange, Log.did_load, Log.did_store, Nexts.claimed_view, Nexts.ClaimTold, Nexts.next_view, Nexts.NextTold, Puts.put}
@@ -16,8 +16,8 @@ pub use Rattle.vm_rule.specs.Brought.{Brings, BringsWith, brought, entries_of, e
 pub use Rattle.vm_rule.specs.Bundles.{BundleTold, frames_below, GiveTold, HandTold, TakeTold, with_contents}
 pub use Rattle.vm_rule.specs.Joins.{CaughtUp, first_part, giver, HoldsNoPage, joined, JoinTold, newcomer, other_parts}
 pub use Rattle.vm_rule.specs.Layout.{at_next, at_state, bundle_count, bundles_of, index_of, table_words, width, width_of, with_word, Within, Words}
-pub use Rattle.vm_rule.specs.Locks.{has_lock, IsHeldAt, IsUnheld, locked_view, LockTold, LockValidates, MarkTold, MayRaiseLock, shared_view, ShareTold}
-pub use Rattle.vm_rule.specs.Locks.{UnshareTold, upgraded_view, UpgradeTold, WriteLockTold}
+pub use Rattle.vm_rule.specs.Locks.{entries_where, has_lock, IsHeldAt, IsUnheld, locked_view, LockTold, LockValidates, MarkTold, MayRaiseLock, mine_with}
+pub use Rattle.vm_rule.specs.Locks.{shared_view, ShareTold, UnshareTold, upgraded_view, UpgradeTold, WriteLockTold}
 pub use Rattle.vm_rule.specs.Looks.{IsOlder, IsSince, IsSinceAll, left_at, LookTold, ties_below, where_same}
 pub use Rattle.vm_rule.specs.Mappings.{clean_in, CleanTold, ClearTold, contents_at, dirty_in, DirtyTold, held_at, InstallTold, IsWritten, MayPutInto}
 pub use Rattle.vm_rule.specs.Mappings.{StandsClean, StandsIn}

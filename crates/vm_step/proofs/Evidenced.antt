@@ -1,5 +1,5 @@
 -- Evidence in a longer list of steps, the view after an exchange, and what a look counts of a page.
-use Rattle.vm_step.proofs.Prelude.{[], ap, append-none, append_assoc, arith, Brings, cond-false, cond-true, Did, each-both, eq-eqb, eqb, first_or, HasGiven, HasWritten, if◌then◌else◌}
+use Rattle.vm_step.proofs.Prelude.{[], ap, append-none, append_assoc, arith, Brings, cond-false, cond-true, Did, each-both, Entry, eq-eqb, eqb, first_or, HasGiven, HasWritten, if◌then◌else◌}
 use Rattle.vm_step.proofs.Prelude.{IsHeld, LeavesOnly, List, nat_tests, ne_eqb, next_after, None, Option, option_or, Place, Some, state_of, subst, sym, View, WritesNone, ℕ, ◌++◌, ◌<◌, ◌==◌}
 use Rattle.vm_step.proofs.Prelude.{◌∙◌, ◌∷◌, ◌≡◌, ◌≢◌}
 
@@ -39,11 +39,11 @@ next-stays p o ne = grind (arith, nat_tests)
 
 module _ {X : Type 0} where
   -- the view after an exchange that was lost, and after one that took
-  pub lost-view : (did : Did) (expects found : ℕ) (v inner w : View X) → found ≢ expects → Brings did [] [] v (if found == expects then inner else v) w → Brings did [] [] v v w
-  lost-view did expects found v inner w ne b = subst (λ (x : View X). Brings did [] [] v x w) (cond-false (eqb found expects) inner v (ne_eqb found expects ne)) b
+  pub lost-view : {es : List (Entry X)} → (did : Did) (expects found : ℕ) (v inner w : View X) → found ≢ expects → Brings did [] es v (if found == expects then inner else v) w → Brings did [] es v v w
+  lost-view {es = es} did expects found v inner w ne b = subst (λ (x : View X). Brings did [] es v x w) (cond-false (eqb found expects) inner v (ne_eqb found expects ne)) b
 
-  pub taken-view : (did : Did) (expects found : ℕ) (v inner w : View X) → found ≡ expects → Brings did [] [] v (if found == expects then inner else v) w → Brings did [] [] v inner w
-  taken-view did expects found v inner w e b = subst (λ (x : View X). Brings did [] [] v x w) (cond-true (eqb found expects) inner v (eq-eqb found expects e)) b
+  pub taken-view : {es : List (Entry X)} → (did : Did) (expects found : ℕ) (v inner w : View X) → found ≡ expects → Brings did [] es v (if found == expects then inner else v) w → Brings did [] es v inner w
+  taken-view {es = es} did expects found v inner w e b = subst (λ (x : View X). Brings did [] es v x w) (cond-true (eqb found expects) inner v (eq-eqb found expects e)) b
 
 -- ---- what a look counts of a page
 

@@ -6,7 +6,7 @@ use Rattle.vm_rule.specs.declared.view.Place.TheVariants as places
 use Rattle.vm_step.proofs.{Evidenced.lost-view, Evidenced.taken-view, Here.frame-inside, Here.last, Here.last-told, Here.older, Here.since, Here.validates}
 use Rattle.vm_step.proofs.{Here.world, Logical.not-pending, Quiet.quiet-shows, Quiet.ShowsQuiet, Written.IsWordOf, Written.word-left}
 use Rattle.vm_step.proofs.Prelude.{[], actor_of, after_event, after_step, any-here, ap, arith, at-bound, became, block-here, block-is_last, block_of, Bool}
-use Rattle.vm_step.proofs.Prelude.{Brings, cases_eq, core-still, core_shown, Did, did_exchange, draft-is, draft_of, Each, each-upd, each-upd2, either, eqb}
+use Rattle.vm_step.proofs.Prelude.{Brings, cases_eq, core-still, core_shown, Did, did_exchange, draft-is, draft_of, Each, each-upd, each-upd2, either, Entry, eqb}
 use Rattle.vm_step.proofs.Prelude.{Event, exchange_seen, exchange_sees, exchanged, false, false_from_ne_true, finds, finds-hit, finds-miss, FindsAt, frame_of}
 use Rattle.vm_step.proofs.Prelude.{get_elem?, has, Held, if◌then◌else◌, index_of, is_pending, IsEvent, IsHeldAt, IsOlder, IsPassOf, IsSinceAll, IsUnheld, Kept}
 use Rattle.vm_step.proofs.Prelude.{KnowsOwner, KnowsOwners, KnowsPage, last-is, last_in, last_of, Legal, length, List, LOCKED, locked, locked_view, LockS}
@@ -35,35 +35,47 @@ module _ {X B : Type 0} (stored : B → Stored) (keeps : Start → Kept X → Ty
   abbrev pub exchanged_at : List ℕ
   exchanged_at = slice_set s.words (index_of start at) (either (eqb finding_at expects) x finding_at)
 
-  -- taken or lost, it keeps the rule, where it is an event; and the pass has the view `inner` where it is taken
+  -- taken or lost, it keeps the rule, where it is an event; and the pass has the view `inner` and the entries where it is taken, and none where it is lost
+  pub exchange-says : (es : Bool → List (Entry X)) → es false ≡ [] → (drafts : ℕ → List ℕ) (inner : View X) (e : Event) → actor_of e ≡ id → Legal (core_shown stored start s) e
+      → (finding_at ≡ expects → Shows stored keeps tied start tells s r id v (slice_set s.words (index_of start at) x) drafts [] (es true) exchange_did inner e)
+      → (finding_at ≢ expects → world_after (world stored keeps tied start tells s r) e ≡ world stored keeps tied start tells s r)
+      → (w : View X) × Ruled stored keeps tied start tells (became stored keeps tied start tells s exchanged_at id w) × Brings exchange_did [] (es (eqb finding_at expects)) v (if eqb finding_at expects then inner else v) w × (w.start ≡ v.start) × (w.releases ≡ r.releases ++ [])
+      × (finding_at ≡ expects → (w ≡ after_step stored keeps tied start tells s r (slice_set s.words (index_of start at) x) [] (es true) exchange_did inner)
+      × Ruled stored keeps tied start tells (became stored keeps tied start tells s (slice_set s.words (index_of start at) x) id (after_step stored keeps tied start tells s r (slice_set s.words (index_of start at) x) [] (es true) exchange_did inner)))
+  exchange-says es silent drafts inner e actor legal shows none =
+      let i : ℕ = index_of start at in
+      let told : Bool → View X → Type 0 = λ b w. Ruled stored keeps tied start tells (became stored keeps tied start tells s (slice_set s.words i (either b x finding_at)) id w) × Brings exchange_did [] (es b) v (if b then inner else v) w in
+      ⊎_elim
+      (λ hit.
+      let is : eqb finding_at expects ≡ true = eq-eqb finding_at expects hit in
+      let words : List ℕ = slice_set s.words i x in
+      let w : View X = after_step stored keeps tied start tells s r words [] (es true) exchange_did inner in
+      let one = steps stored keeps tied start tells s r id v words drafts [] (es true) exchange_did inner e there live number actor
+      (subst (λ b. words ≡ set_if (if b then Some x else None) i s.words) (sym is) refl) (shows hit) in
+      let k = subst (λ (b : Bool). told b w) (sym is) one in
+      (w, k.0, k.1, (shows hit).same_start, refl, λ _. (refl, one.0)))
+      (λ miss.
+      let is : eqb finding_at expects ≡ false = ne_eqb finding_at expects miss in
+      let w : View X = after_step stored keeps tied start tells s r s.words [] [] exchange_did v in
+      let m = rested stored keeps tied start tells s r id v exchange_did e there live number actor legal (none miss) l refl (ap {B = Option ℕ} (λ b. if b then Some x else None) is) in
+      let k = subst (λ (b : Bool). told b w) (sym is) (subst (λ words. Ruled stored keeps tied start tells (became stored keeps tied start tells s words id w)) (sym (same-word s.words i)) m.0, subst (λ es'. Brings exchange_did [] es' v v w) (sym silent) m.1) in
+      (w, k.0, k.1, refl, refl, λ hit. absurd (miss hit)))
+      (cases_eq finding_at expects)
+
+  -- the same of one that says nothing
   pub exchange-tells : (drafts : ℕ → List ℕ) (inner : View X) (e : Event) → actor_of e ≡ id → Legal (core_shown stored start s) e
       → (finding_at ≡ expects → Shows stored keeps tied start tells s r id v (slice_set s.words (index_of start at) x) drafts [] [] exchange_did inner e)
       → (finding_at ≢ expects → world_after (world stored keeps tied start tells s r) e ≡ world stored keeps tied start tells s r)
       → (w : View X) × Ruled stored keeps tied start tells (became stored keeps tied start tells s exchanged_at id w) × Brings exchange_did [] [] v (if eqb finding_at expects then inner else v) w × (w.start ≡ v.start) × (w.releases ≡ r.releases ++ [])
   exchange-tells drafts inner e actor legal shows none =
-      let i : ℕ = index_of start at in
-      let told : Bool → View X → Type 0 = λ b w. Ruled stored keeps tied start tells (became stored keeps tied start tells s (slice_set s.words i (either b x finding_at)) id w) × Brings exchange_did [] [] v (if b then inner else v) w in
-      ⊎_elim
-      (λ hit.
-      let is : eqb finding_at expects ≡ true = eq-eqb finding_at expects hit in
-      let words : List ℕ = slice_set s.words i x in
-      let w : View X = after_step stored keeps tied start tells s r words [] [] exchange_did inner in
-      let k = subst (λ (b : Bool). told b w) (sym is) (steps stored keeps tied start tells s r id v words drafts [] [] exchange_did inner e there live number actor
-      (subst (λ b. words ≡ set_if (if b then Some x else None) i s.words) (sym is) refl) (shows hit)) in
-      (w, k.0, k.1, (shows hit).same_start, refl))
-      (λ miss.
-      let is : eqb finding_at expects ≡ false = ne_eqb finding_at expects miss in
-      let w : View X = after_step stored keeps tied start tells s r s.words [] [] exchange_did v in
-      let m = rested stored keeps tied start tells s r id v exchange_did e there live number actor legal (none miss) l refl (ap {B = Option ℕ} (λ b. if b then Some x else None) is) in
-      let k = subst (λ (b : Bool). told b w) (sym is) (subst (λ words. Ruled stored keeps tied start tells (became stored keeps tied start tells s words id w)) (sym (same-word s.words i)) m.0, m.1) in
-      (w, k.0, k.1, refl, refl))
-      (cases_eq finding_at expects)
+      let k = exchange-says (λ _. []) refl drafts inner e actor legal shows none in
+      (k.0, k.1, k.2, k.3, k.4)
 
 module _ {X B : Type 0} (stored : B → Stored) (start : Origin) (keeps : Start → Kept X → Type 0) (tied : Start → ℕ → List ℕ → ℕ → List ℕ → Type 0) (tells : Bool) (s : Table (Option B) (View X)) (id : ℕ) where
   -- it is an event, where it is one with the view `inner` if it is taken, and one that changes nothing if it is lost
-  pub tried-event : (at : Place) (expects found x : ℕ) (did : Did) (v inner w : View X) (e : Event) → IsPassOf stored start keeps tied tells s id v → FindsAt start s at found → Brings did [] [] v (if eqb found expects then inner else v) w
+  pub tried-event : {es : List (Entry X)} → (at : Place) (expects found x : ℕ) (did : Did) (v inner w : View X) (e : Event) → IsPassOf stored start keeps tied tells s id v → FindsAt start s at found → Brings did [] es v (if eqb found expects then inner else v) w
       → Legal (core_shown stored start s) e
-      → (found ≡ expects → Brings did [] [] v inner w → core_shown stored start (table_after s (slice_set s.words (index_of start at) x) id w) ≡ after_event (core_shown stored start s) e)
+      → (found ≡ expects → Brings did [] es v inner w → core_shown stored start (table_after s (slice_set s.words (index_of start at) x) id w) ≡ after_event (core_shown stored start s) e)
       → (found ≢ expects → after_event (core_shown stored start s) e ≡ core_shown stored start s)
       → seen (core_shown stored start s) e ≡ exchange_sees expects found
       → IsEvent stored start s (table_after s (exchanged s.words (index_of start at) expects found x) id w) e (exchange_sees expects found)
@@ -138,8 +150,8 @@ module _ {X B : Type 0} (stored : B → Stored) (start : Origin) (s : Table (Opt
     lockx-exchange may held words = exchange-of LOCKED _ _ _ _ (named, may) (λ w. lockx-step stored start s releases drafts id v w p expects (word_of LOCKED (version_of expects)) wide l there) (λ f. rw f refl) (lost-lockx old id p expects)
 
     -- a share
-    pub locks-exchange : MayShare expects → (held : Held) → IsExchange p expects (word_of (one_share_more (state_of expects)) (version_of expects)) drafts (shared_view p held v) (LockS id p expects) (shared (old.core.pages p) id)
-    locks-exchange may held =
+    pub locks-exchange : MayShare expects → (held : Held) (said : Option X) → IsExchange p expects (word_of (one_share_more (state_of expects)) (version_of expects)) drafts (shared_view p held said v) (LockS id p expects) (shared (old.core.pages p) id)
+    locks-exchange may held said =
         exchange-of (one_share_more (state_of expects)) _ _ _ _ (named, may)
         (λ w. locks-step stored start s releases drafts id v w p expects (word_of (one_share_more (state_of expects)) (version_of expects)) wide l there) (λ f. rw f refl) (lost-locks old id p expects)
 
@@ -166,32 +178,42 @@ module _ {X B : Type 0} (stored : B → Stored) (start : Origin) (s : Table (Opt
 
 module _ {X B : Type 0} (stored : B → Stored) (keeps : Start → Kept X → Type 0) (tied : Start → ℕ → List ℕ → ℕ → List ℕ → Type 0) (start : Origin) (tells : Bool) (s : Table (Option B) (View X)) (r : Ruled stored keeps tied start tells s) (id : ℕ) (v : View X)
     (there : get_elem? s.views id ≡ some v) (live : v.live ≡ true) (number : 0 < length v.used) (p expects x : ℕ) (l : p < start.pages) where
-  -- what any exchange tells, which gives the pass the view `inner` where it is taken
-  pub record Tried (inner w : View X) : Type 0 where
+  -- what any exchange tells, which gives the pass the view `inner` and these entries where it is taken
+  pub record Tried (es : Bool → List (Entry X)) (inner w : View X) : Type 0 where
     pub rule : Ruled stored keeps tied start tells (became stored keeps tied start tells s (exchanged_at stored keeps tied start tells s r id v there live number (places.State p) expects x l) id w)
-    pub brings : Brings (did_exchange (places.State p) expects (slice_index s.words p) x) [] [] v (if eqb (slice_index s.words p) expects then inner else v) w
+    pub brings : Brings (did_exchange (places.State p) expects (slice_index s.words p) x) [] (es (eqb (slice_index s.words p) expects)) v (if eqb (slice_index s.words p) expects then inner else v) w
     pub last : last_of w p ≡ last stored keeps tied start tells s r p
     pub version : (last_of w p).version ≡ version_of (slice_index s.words p)
     pub since : IsSinceAll p (slice_index s.words p) v.log
     pub older : IsOlder (slice_index s.words p) (seat_of v p).reading
     pub size : length (last_of w p).words ≡ w.start.size
 
-  -- so it tells, where it is an event, and shows what is to be shown of it when it is taken
-  pub tried : (drafts : ℕ → List ℕ) (inner : View X) (e : Event) (y : Page) → actor_of e ≡ id → IsExchange stored start s r.releases r.drafts id p expects x drafts inner e y
-      → (slice_index s.words p ≡ expects → ShowsQuiet stored keeps tied start tells s r id v (slice_set s.words p x) drafts (did_exchange (places.State p) expects (slice_index s.words p) x) inner e)
-      → (w : View X) × Tried inner w
-  tried drafts inner e y actor is shows =
-      let k = exchange-tells stored keeps tied start tells s r id v there live number (places.State p) expects x l drafts inner e actor is.legal
-      (λ hit. quiet-shows stored keeps tied start tells s r id v (slice_set s.words p x) drafts (did_exchange (places.State p) expects (slice_index s.words p) x) inner e there live (shows hit))
+  -- so it tells, where it is an event, and shows what is to be shown of it when it is taken; and then its view is the one after that step
+  pub tried-says : (es : Bool → List (Entry X)) → es false ≡ [] → (drafts : ℕ → List ℕ) (inner : View X) (e : Event) (y : Page) → actor_of e ≡ id → {known : View X} → IsExchange stored start s r.releases r.drafts id p expects x drafts known e y
+      → (slice_index s.words p ≡ expects → Shows stored keeps tied start tells s r id v (slice_set s.words p x) drafts [] (es true) (did_exchange (places.State p) expects (slice_index s.words p) x) inner e)
+      → (w : View X) × Tried es inner w × (slice_index s.words p ≡ expects → (w ≡ after_step stored keeps tied start tells s r (slice_set s.words p x) [] (es true) (did_exchange (places.State p) expects (slice_index s.words p) x) inner)
+      × Ruled stored keeps tied start tells (became stored keeps tied start tells s (slice_set s.words p x) id (after_step stored keeps tied start tells s r (slice_set s.words p x) [] (es true) (did_exchange (places.State p) expects (slice_index s.words p) x) inner)))
+  tried-says es silent drafts inner e y actor is shows =
+      let k = exchange-says stored keeps tied start tells s r id v there live number (places.State p) expects x l es silent drafts inner e actor is.legal shows
       (λ miss. is.none (missing stored keeps tied start tells s r id v there p expects l miss)) in
       let told : last_of k.0 p ≡ last stored keeps tied start tells s r p = (λ i. last_in (k.3 i) (k.4 i) p) ∙ last-told stored keeps tied start tells s r id v there live p in
       let version = ap (λ (y : Version). y.version) told ∙ (r.inv.pages p).stands.last ∙ version-here stored start s p l in
       let size = ap (λ (y : Version). length y.words) told ∙ (r.inv.pages p).sizes.last ∙ sym (ap (λ (o : Origin). o.size) (k.3 ∙ (r.heard id v there live).same_start)) in
-      (k.0, search (rules, k.1, k.2, told, version, since stored keeps tied start tells s r id v there live p l, older stored keeps tied start tells s r id v there live p l, size))
+      let t : Tried es inner k.0 = search (rules, k.1, k.2, told, version, since stored keeps tied start tells s r id v there live p l, older stored keeps tied start tells s r id v there live p l, size) in
+      (k.0, t, k.5)
+
+  -- the same of one that says nothing
+  pub tried : (drafts : ℕ → List ℕ) (inner : View X) (e : Event) (y : Page) → actor_of e ≡ id → IsExchange stored start s r.releases r.drafts id p expects x drafts inner e y
+      → (slice_index s.words p ≡ expects → ShowsQuiet stored keeps tied start tells s r id v (slice_set s.words p x) drafts (did_exchange (places.State p) expects (slice_index s.words p) x) inner e)
+      → (w : View X) × Tried (λ _. []) inner w
+  tried drafts inner e y actor is shows =
+      let k = tried-says (λ _. []) refl drafts inner e y actor is
+      (λ hit. quiet-shows stored keeps tied start tells s r id v (slice_set s.words p x) drafts (did_exchange (places.State p) expects (slice_index s.words p) x) inner e there live (shows hit)) in
+      (k.0, k.1)
 
   -- where nobody has the page locked exclusively, the exchange validates the open read and the ties
   pub tried-validates : (law : (start : Start) (kept : Kept X) (q p : ℕ) → keeps start kept → q < length kept.pages → p < length kept.pages → tied start q (page_at kept.pages q) p (page_at kept.pages p))
-      → (inner w : View X) → Tried inner w → ((world stored keeps tied start tells s r).core.pages p).state ≢ LOCKED → v.start.tells ≡ true → slice_index s.words p ≡ expects → LockValidates tied p (version_of expects) (last_of w p).words v
+      → {es : Bool → List (Entry X)} → (inner w : View X) → Tried es inner w → ((world stored keeps tied start tells s r).core.pages p).state ≢ LOCKED → v.start.tells ≡ true → slice_index s.words p ≡ expects → LockValidates tied p (version_of expects) (last_of w p).words v
   tried-validates law inner w t free tells' hit =
       subst (λ (y : Version). LockValidates tied p (version_of expects) y.words v) (sym t.last) (validates stored keeps tied start tells s r id v there live law p expects l hit free tells')
 
@@ -362,8 +384,8 @@ module _ {X B : Type 0} (stored : B → Stored) (keeps : Start → Kept X → Ty
 
 module _ {X B : Type 0} (stored : B → Stored) (start : Origin) (keeps : Start → Kept X → Type 0) (tied : Start → ℕ → List ℕ → ℕ → List ℕ → Type 0) (tells : Bool) (s : Table (Option B) (View X)) (id p : ℕ) where
   -- what an exchange on a page's state word tells, of a kind whose view where it was taken is `inner`: the event is this one
-  pub exchange-event : (expects found x : ℕ) (drafts : ℕ → List ℕ) (did : Did) (v inner w : View X) (e : Event) (z : Page) → IsPassOf stored start keeps tied tells s id v → FindsAt start s (places.State p) found
-      → IsExchange stored start s [] (λ _. []) id p expects x drafts inner e z → Brings did [] [] v (if eqb found expects then inner else v) w → seen (core_shown stored start s) e ≡ exchange_seen ((core_shown stored start s).pages p) expects
+  pub exchange-event : {es : List (Entry X)} → (expects found x : ℕ) (drafts : ℕ → List ℕ) (did : Did) (v inner w : View X) (e : Event) (z : Page) → IsPassOf stored start keeps tied tells s id v → FindsAt start s (places.State p) found
+      → IsExchange stored start s [] (λ _. []) id p expects x drafts inner e z → Brings did [] es v (if eqb found expects then inner else v) w → seen (core_shown stored start s) e ≡ exchange_seen ((core_shown stored start s).pages p) expects
       → IsEvent stored start s (table_after s (exchanged s.words p expects found x) id w) e (exchange_sees expects found)
   exchange-event expects found x drafts did v inner w e z pass at event brings sees =
       let y : Page = (core_shown stored start s).pages p in

@@ -2,7 +2,7 @@
 use Rattle.vm_rule.specs.declared.view.Place.TheVariants as places
 use Rattle.vm_step.specs.Evidence.{read}
 use Rattle.vm_step.specs.declared.saw.At.TheVariants as ats
-use Rattle.vm_step.proofs.Prelude.{[], ap, cond-false, did_exchange, did_load, eqb, expected, HasGiven, inr, IsSaw, ne_eqb, none-some, NoWord, refl}
+use Rattle.vm_step.proofs.Prelude.{[], ap, cond-false, did_exchange, did_load, eqb, expected, HasGiven, inr, IsSaw, ne_eqb, none-some, refl}
 use Rattle.vm_step.proofs.Prelude.{Some, ℕ, ⊎_elim, ◌∷◌, ◌≡◌, ◌≢◌, ◌⊎◌}
 
 -- the one step gave the word
@@ -10,9 +10,9 @@ abbrev pub one-given : (p word : ℕ) → HasGiven (did_load (places.State p) wo
 one-given p word = record { earlier = []; step = did_load (places.State p) word; later = []; cut = refl; gives = (refl, refl) }
 
 -- the word expected stands in the place of the word seen, and another word was found
-pub lost-saw : (instead : ℕ → ℕ → Type 0) (p word expects found new : ℕ) → (word ≡ expects) ⊎ instead word expects → found ≢ expects
-    → IsSaw NoWord instead (did_load (places.State p) word ∷ did_exchange (places.State p) expects found new ∷ []) (record { at = ats.Page p; first = expects; seen = found })
-lost-saw instead p word expects found new from ne = record {
+pub lost-saw : {kept : ℕ → Type 0} → (instead : ℕ → ℕ → Type 0) (p word expects found new : ℕ) → (word ≡ expects) ⊎ instead word expects → found ≢ expects
+    → IsSaw kept instead (did_load (places.State p) word ∷ did_exchange (places.State p) expects found new ∷ []) (record { at = ats.Page p; first = expects; seen = found })
+lost-saw {kept = kept} instead p word expects found new from ne = record {
   earlier = did_load (places.State p) word ∷ [];
   last = did_exchange (places.State p) expects found new;
   later = [];

@@ -18,6 +18,8 @@ module _ {X : Type 0} where
     pub members : (q : ℕ) → q < w.start.pages → has q w.pending ≡ true → page_at kept.pages q ≡ draft_of w q
     -- each other page that the pass has locked or shared, with its last words
     pub held : (q : ℕ) → q < w.start.pages → IsLocking (seat_of w q) → has q w.pending ≡ false → page_at kept.pages q ≡ (last_of w q).words
+    -- a page of which the pass has a share is no such member
+    pub shared : (q : ℕ) → q < w.start.pages → 1 ≤ (seat_of w q).shares → page_at kept.pages q ≡ (last_of w q).words
     -- pages that were never claimed have words of zeros; a pass that is alone knows the next one
     pub zero : (q : ℕ) → kept.next ≤ q → q < w.start.pages → page_at kept.pages q ≡ replicate w.start.size 0
     pub next : IsAlone w → known_word_at w places.Next ≡ kept.next

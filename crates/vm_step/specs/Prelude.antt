@@ -9,7 +9,7 @@ pub use Rattle.vm_step.specs.{DeviceCalls.Unstored}
 pub use Rattle.vm_step.specs.{Events.exchange_sees, Events.exchanged, Events.IsEvent, Events.IsPassOf, Events.table_after, Fills.Stores, HeldFrames.AreHeld}
 pub use Rattle.vm_step.specs.{Keeping.IsKeptNow, Meeting.Meets, Passes.found_by, Passes.IsSamePass, Passes.MayStep, Passes.view, Ready.IsReady}
 pub use Rattle.vm_step.specs.{steps.Block.MayTakeOut, steps.Bundle.PassMayGive, steps.Look.LookTells, steps.Look.MayTell, steps.Next.PassMayClaim}
-pub use Rattle.vm_step.specs.{steps.Raise.MayRaise, steps.Share.MayUnshare, Still.HasStill, Tables.KnowsAt, Tables.KnowsElse, Tables.KnowsSame}
+pub use Rattle.vm_step.specs.{steps.Raise.MayRaise, steps.Share.MayTellHeld, steps.Share.MayUnshare, Still.HasStill, Tables.KnowsAt, Tables.KnowsElse, Tables.KnowsSame}
 pub use Rattle.vm_step.specs.{Together.HasJoined, Together.PassesSplit, Whole.CatchTold, Whole.KnowsAll, Works.LeavesRest, Works.Works}
 pub use Rattle.vm_step.specs.Alone.{Follows, IsAlone, known_word_at, KnowsUnheld, LeavesLast, LeavesOnly, LocksNone, RunsAlone, WritesNone}
 pub use Rattle.vm_step.specs.Asides.{HoldsPage, IsAside, IsAsideOf, KeepsFrames, KnowsAsBefore, ReadsAsBefore, StaysAlone}

@@ -28,7 +28,7 @@ pub use kinds::owner::{disown, oload, own};
 pub use kinds::pass::{follow_pass, hear_pass, join_pass, split_pass};
 pub use kinds::raise::raise;
 pub use kinds::release::{downgrade, release, release_evicted, release_silently};
-pub use kinds::share::{lock_shared, unlock_shared};
+pub use kinds::share::{lock_shared, lock_shared_silently, unlock_shared};
 pub use kinds::translate::tload;
 pub use kinds::write_back::{lock_write_back, upgrade};
 pub use layout::frame_place;

@@ -12,7 +12,7 @@ use vm_core::MAX_VERSION;
 use vm_owner::Bare;
 use vm_page::{PageBuf, WORDS};
 use vm_rule::words::{Pass, Words};
-use vm_step::{Candidates, Looks, Took, lock_shared};
+use vm_step::{Candidates, Looks, Took, lock_shared_silently};
 
 /// The state word of a marked page at version 7.
 const MARKED_7: u64 = 0xfe00_0000_0000_0007;
@@ -56,7 +56,7 @@ fn both_pages_are_marked_and_the_first_is_chosen(rt: HostRuntime) -> Result<(), 
 #[test]
 fn a_shared_page_counts_as_held(rt: HostRuntime) -> Result<(), Fail> {
     let (words, mut pass) = zero_pages(&rt, rt.alloc(), 2, 7)?;
-    let taken = matches!(lock_shared(&words, &mut pass, 0, 7), Took::Taken);
+    let taken = matches!(lock_shared_silently(&words, &mut pass, 0, 7), Took::Taken);
     assert!(rt; taken);
     let chosen = candidates(&words, &mut pass, 1);
     let mut list = ArrayVec::new();

@@ -18,7 +18,7 @@ use vm_owner::Bare;
 use vm_page::WORDS;
 use vm_pool::{Bring, Pool, Shape};
 use vm_rule::words::Pass;
-use vm_step::{Looks, Took, lock_shared};
+use vm_step::{Looks, Took, lock_shared_silently};
 
 /// No look.
 const NONE: Looks = Looks {
@@ -113,7 +113,7 @@ fn share_first<B: PageBlock<WORDS>>(
     }
     share_first(rt, pool, pass, n - 1);
     // Each page is unlocked at version 1, to which its fault-in brought it.
-    match lock_shared(&pool.words, pass, n - 1, 1) {
+    match lock_shared_silently(&pool.words, pass, n - 1, 1) {
         Took::Taken => {}
         Took::Lost(_) => panic!(rt; "the page can be shared"),
     }

@@ -26,11 +26,15 @@ impl Owner for Tally {
 
     ghost may_read = { λ _ _ _ _. Unit {0} };
 
+    ghost may_hold = { λ _ _ _. Unit {0} };
+
     ghost tied = { λ _ _ _ _ _. Unit {0} };
 
     ghost releases = { λ _ _ _ _ _ _ _ _ _. tt };
 
     ghost reads = { λ _ _ _ _ _ _ _ _. tt };
+
+    ghost holds = { λ _ _ _ _ _ _ _ _. tt };
 
     ghost claims = { λ _ _ _ _ _. tt };
 

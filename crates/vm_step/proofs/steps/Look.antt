@@ -6,7 +6,7 @@ use Rattle.std.proofs.Common.{eq-eqb, ne_eqb}
 use Rattle.vm_core.specs.declared.event.ReadIs.TheVariants as read
 use Rattle.vm_core.specs.declared.event.Seen.TheVariants as sights
 use Rattle.vm_rule.specs.declared.view.Place.TheVariants as places
-use Rattle.vm_step.proofs.{Asides.alone-silent, Asides.OnlyReads, Fit.fit, Keeping.kept-now, Quiet.event-shows, Standing.allows}
+use Rattle.vm_step.proofs.{Asides.alone-silent, Asides.OnlyReads, Fit.fit, Keeping.kept-now, Keeping.shared-free, Quiet.event-shows, Standing.allows}
 use Rattle.vm_step.proofs.{Unclaimed.logical-zero, Written.word-loaded}
 use Rattle.vm_step.proofs.Here.{frame-inside, last-told, older, read-valid, reads, since, size-told, tied-itself, ties-hold, version-told}
 use Rattle.vm_step.proofs.Logical.{not-pending, page-kept, pages-kept, tied-now}
@@ -256,8 +256,8 @@ module _ {X B : Type 0} (stored : B → Stored) (keeps : Start → Kept X → Ty
                   (keeps-said t was);
             })
 
-        pub look-kept : tells ≡ true → IsKeptNow keeps p (look-left ≡ Same) look-after
-        look-kept t =
+        pub look-kept : Ruled stored keeps tied start tells (became stored keeps tied start tells s s.words id look-after) → tells ≡ true → IsKeptNow keeps p (look-left ≡ Same) look-after
+        look-kept ruled t =
             let telling : start.tells ≡ true = r.telling ∙ t in
             let same : look-after.start ≡ start = (r.heard id v there live).same_start in
             kept-now stored keeps start (became stored keeps tied start tells s s.words id look-after) r.drafts look-after p (look-left ≡ Same) l same
@@ -274,6 +274,7 @@ module _ {X B : Type 0} (stored : B → Stored) (keeps : Start → Kept X → Ty
             (λ i. logical (histories_of start (append-none r.releases i) r.drafts) (pending-looked i) q)
             ∙ logical-zero stored keeps tied start tells s r telling q le l')
             (λ _. ap (λ (o : Origin). slice_index s.words (index_of o places.Next)) same ∙ sym (next-here stored start s))
+            (shared-free stored keeps tied start tells (became stored keeps tied start tells s s.words id look-after) ruled id look-after (set_here s.views id look-after (at-bound s.views id v there)))
 
 module _ {X B : Type 0} (stored : B → Stored) (keeps : Start → Kept X → Type 0) (tied : Start → ℕ → List ℕ → ℕ → List ℕ → Type 0) (tells : Bool) (may_read : Start → ℕ → List ℕ → List (Entry X) → Type 0)
     (reads : (start : Start) (kept : Kept X) (q : ℕ) (entries : List (Entry X)) → keeps start kept → q < length kept.pages → IsTurn kept.history entries → may_read start q (page_at kept.pages q) entries → keeps start (told entries kept))
@@ -290,7 +291,7 @@ module _ {X B : Type 0} (stored : B → Stored) (keeps : Start → Kept X → Ty
       steps stored keeps tied start tells s r id v s.words r.drafts [] _ _ _ (Look id p) there live number refl refl (look-shows stored keeps tied start tells s r id v p said there live low ties may_read reads may number) in (
         w,
         subst (λ words. Ruled stored keeps tied start tells (became stored keeps tied start tells s words id w)) (sym (same-word s.words p)) k.0,
-        (look-told stored keeps tied start tells s r id v p said there live low ties k.1, look-kept stored keeps tied start tells s r id v p said there live low ties may_read reads may number, look-unheld stored keeps tied start tells s r id v p said there live low),
+        (look-told stored keeps tied start tells s r id v p said there live low ties k.1, look-kept stored keeps tied start tells s r id v p said there live low ties may_read reads may number k.0, look-unheld stored keeps tied start tells s r id v p said there live low),
       ))
 
 module _ {X B : Type 0} (stored : B → Stored) (keeps : Start → Kept X → Type 0) (tied : Start → ℕ → List ℕ → ℕ → List ℕ → Type 0) (tells : Bool) where

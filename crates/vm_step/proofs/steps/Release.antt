@@ -6,7 +6,7 @@
 use Rattle.vm_core.specs.declared.event.Seen.TheVariants as sights
 use Rattle.vm_owner.specs.Kept.{after_release as released_kept}
 use Rattle.vm_rule.specs.declared.view.Place.TheVariants as places
-use Rattle.vm_step.proofs.{Asides.alone-release, Evidenced.next-stays, Fit.fit, Keeping.kept-now, OwedPages.owed_after-chosen, Releasing.Way.Evicts}
+use Rattle.vm_step.proofs.{Asides.alone-release, Evidenced.next-stays, Fit.fit, Keeping.kept-now, Keeping.shared-free, OwedPages.owed_after-chosen, Releasing.Way.Evicts}
 use Rattle.vm_step.proofs.{Standing.allows, steps.Look.is-turn, Unclaimed.draft-unclaimed, Written.spelled-still, Written.stands-there}
 use Rattle.vm_step.proofs.Groups.{changed-listed, chosen-has, has-without_all, has-without_all_other, has-without_all_same, listed-agrees}
 use Rattle.vm_step.proofs.Logical.{logical-draft, logical-last, logical-same, not-pending}
@@ -169,6 +169,7 @@ module _ {X B : Type 0} {stored : B → Stored} {keeps : Start → Kept X → Ty
       (no-member stored keeps tied start tells (new rel) ruled rel.id (left rel) (set_here rel.s.views rel.id (left rel) (at-bound rel.s.views rel.id rel.v rel.there)) rel.live)
       (release-zero (release-shows owner) telling)
       (λ _. ap (λ (o : Origin). slice_index (words rel) (index_of o places.Next)) same ∙ sym (next-here stored start (new rel)))
+      (shared-free stored keeps tied start tells (new rel) ruled rel.id (left rel) (set_here rel.s.views rel.id (left rel) (at-bound rel.s.views rel.id rel.v rel.there)))
 
   -- it is its event, after which the pass holds the page no more
   left-event : {did : Did} {released : List Release} {entries : List (Entry X)} {y w : View X} → BringsWith did None released entries rel.v y w

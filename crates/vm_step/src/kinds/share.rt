@@ -1,8 +1,8 @@
 // A share of a page is taken, and given up.
-ghost use Rattle.std.specs.Prelude.{◌<◌, ◌≡◌, ◌≢◌, ℕ};
-ghost use Rattle.vm_core.specs.Prelude.{MayShare};
+ghost use Rattle.std.specs.Prelude.{◌<◌, ◌≡◌, ◌≢◌, None, option_map, true, ℕ};
+ghost use Rattle.vm_core.specs.Prelude.{MayShare, version_of};
 ghost use Rattle.vm_rule.specs.Prelude.{ShareTold, UnshareTold};
-ghost use Rattle.vm_step.specs.Prelude.{found_by, IsReady, IsSamePass, MayStep, MayUnshare, view};
+ghost use Rattle.vm_step.specs.Prelude.{found_by, IsKeptNow, IsReady, IsSamePass, MayStep, MayTellHeld, MayUnshare, view};
 ghost use Rattle.vm_step.specs.{declared.took.Took.TheVariants.Lost, steps.Share.LockSharedIsItsEvent, steps.Share.UnlockSharedIsItsEvent};
 
 use crate::layout::state_place;
@@ -14,8 +14,42 @@ use vm_block::Block;
 use vm_owner::Owner;
 use vm_rule::words::{Pass, Words};
 
-/// Takes one share of the page, where its word is the one expected: with room for a share, or Marked.
+/// Takes one share of the page, where its word is the one expected: with room for a share, or Marked. What is said becomes an entry of the
+/// history there, and nowhere else: this page, with others of which the pass has shares, has to prove it.
 pub fn lock_shared<U: Owner, B: Block>(
+    words: &Words<U, B>,
+    pass: &mut Pass<U>,
+    p: u32,
+    expects: u64,
+    said: Option<&U::Said>,
+) -> Took
+    requires pass { MayStep words.now.table.shared.table_id pass.old }
+    requires page { p < words.now.table.shared.key.pages }
+    requires legal { MayShare expects }
+    requires owner { MayTellHeld U.tied U.may_hold p (version_of expects) (option_map (λ b. b.now) said) (view pass.old) }
+    ensures pass { IsSamePass pass.old pass.new }
+    ensures ready { IsReady words.now.table.shared.key B.tells words.now.table.shared.table_id pass.new }
+    ensures told { ShareTold U.tied p expects (option_map (λ b. b.now) said.entry) (found_by expects result) (view pass.old) (view pass.new) }
+    ensures kept { B.tells ≡ true → found_by expects result ≡ expects → IsKeptNow U.keeps p (Unit {0}) (view pass.new) }
+    ensures lost { (word : ℕ) → result ≡ Lost word → word ≢ expects }
+{
+    let at = state_place(words, p);
+    let shared = shared_word(expects);
+    answer(
+        compare_exchange::<U, B, (u32, Option<&U::Said>), Brand>(
+            words,
+            pass,
+            at,
+            expects,
+            shared,
+            (p, said),
+        ),
+        expects,
+    )
+}
+
+/// Takes one share of the page in the same way, and says nothing.
+pub fn lock_shared_silently<U: Owner, B: Block>(
     words: &Words<U, B>,
     pass: &mut Pass<U>,
     p: u32,
@@ -26,7 +60,8 @@ pub fn lock_shared<U: Owner, B: Block>(
     requires legal { MayShare expects }
     ensures pass { IsSamePass pass.old pass.new }
     ensures ready { IsReady words.now.table.shared.key B.tells words.now.table.shared.table_id pass.new }
-    ensures told { ShareTold U.tied p expects (found_by expects result) (view pass.old) (view pass.new) }
+    ensures told { ShareTold U.tied p expects None (found_by expects result) (view pass.old) (view pass.new) }
+    ensures kept { B.tells ≡ true → found_by expects result ≡ expects → IsKeptNow U.keeps p (Unit {0}) (view pass.new) }
     ensures lost { (word : ℕ) → result ≡ Lost word → word ≢ expects }
 {
     let at = state_place(words, p);

@@ -6,5 +6,5 @@ no-shares : state_of 7 ≤ 251
 unfolding state_of
 no-shares = omega arith
 
-pub lock_shared-requires-clause-legal : goal.lock_shared-requires-clause-legal
-lock_shared-requires-clause-legal g c = inl no-shares
+pub lock_shared_silently-requires-clause-legal : goal.lock_shared_silently-requires-clause-legal
+lock_shared_silently-requires-clause-legal g c = inl no-shares

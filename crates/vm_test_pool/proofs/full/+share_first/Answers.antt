@@ -6,5 +6,5 @@ no_shares : state_of 1 ≤ 251
 unfolding state_of
 no_shares = omega arith
 
-pub lock_shared-requires-clause-legal : goal.lock_shared-requires-clause-legal
-lock_shared-requires-clause-legal t g c = inl no_shares
+pub lock_shared_silently-requires-clause-legal : goal.lock_shared_silently-requires-clause-legal
+lock_shared_silently-requires-clause-legal t g c = inl no_shares
