@@ -3,3 +3,5 @@ pub mod EditedSizes
 pub mod Entries
 pub mod FirstPairs
 pub mod WindowLaws
+pub mod RangeLaws
+pub mod SwapLaws

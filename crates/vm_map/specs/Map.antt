@@ -1,5 +1,5 @@
 -- A finite map is the list of its pairs by rising key: what look-ups and edits of it are.
-use Rattle.std.specs.Prelude.{◌≡◌, ℕ, ◌+◌, ◌<◌, ◌≤◌, List, [], ◌∷◌, Option, Some, None, if◌then◌else◌, ◌==◌, nat_lt, unwrap_or}
+use Rattle.std.specs.Prelude.{◌≡◌, ℕ, ◌+◌, ◌<◌, ◌≤◌, Bool, false, List, [], ◌∷◌, Option, Some, None, if◌then◌else◌, ◌==◌, nat_lt, unwrap_or}
 
 -- a key, then its value
 abbrev pub Pairs : Type 0
@@ -44,3 +44,12 @@ floor_pair (e ∷ es) k = if nat_lt k e.0 then None else Some (unwrap_or (floor_
 abbrev pub gather : Pairs → Pairs
 gather [] = []
 gather (e ∷ es) = put_pair (gather es) e.0 e.1
+
+-- it is this value
+abbrev pub is_value : Option ℕ → ℕ → Bool
+is_value None v = false
+is_value (Some w) v = w == v
+
+-- with the value v at k, where the value there is the one that is wanted
+abbrev pub swap_pair : Pairs → ℕ → ℕ → ℕ → Pairs
+swap_pair m k want v = if is_value (lookup_at m k) want then put_pair m k v else m

@@ -1,5 +1,9 @@
 // The calls on a map, what they are answered, and the pairs that a map holds.
-use crate::window::Window;
+ghost use Rattle.std.specs.Prelude.{◌≡◌};
+ghost use Rattle.vm_map.specs.History.{outcome_of};
+
+use crate::span::Span;
+use crate::window::{Bound, Window};
 use std::marker::Model;
 
 /// A call on the map.
@@ -13,6 +17,10 @@ pub enum Call {
     Del { key: u64 },
     /// Asks for the first pairs from a key on: at least one and at most 28 of them.
     Window { start: u64, most: u32 },
+    /// Puts a value at a key where the value there is `want`.
+    Swap { key: u64, want: u64, value: u64 },
+    /// Asks for all pairs from the key `low` on and below a bound above it.
+    Range { low: u64, bound: Bound },
 }
 
 /// What a call is answered.
@@ -26,6 +34,36 @@ pub enum Reply {
     Gone(Option<u64>),
     /// What a `Window` shows.
     Win(Window),
+    /// What a `Swap` did.
+    Swapped(Swap),
+    /// All pairs of a `Range`.
+    Many(Span),
+    /// A `Range` was too wide to be answered at once: it has more leaves than can be held, which cover it up to this key.
+    Wide(u64),
+}
+
+/// What a `Swap` did.
+#[derive(Clone, Copy, Debug, Drop, PartialEq)]
+pub enum Swap {
+    /// The key had the value that was wanted, and has the new one.
+    Done,
+    /// The key has this value, which is another one.
+    Kept(u64),
+    /// There is no pair of the key.
+    Missing,
+}
+
+impl Swap {
+    /// What a swap does where this is the value of the key.
+    pub fn outcome(there: Option<u64>, want: u64) -> Self
+        ensures { result ≡ outcome_of there want }
+    {
+        match there {
+            None => Swap::Missing,
+            Some(value) if value == want => Swap::Done,
+            Some(value) => Swap::Kept(value),
+        }
+    }
 }
 
 /// A call with its reply.

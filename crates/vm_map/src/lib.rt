@@ -3,4 +3,5 @@
 
 pub mod call;
 pub mod plain;
+pub mod span;
 pub mod window;

@@ -1,11 +1,12 @@
 // A map in memory that answers calls at once, one after another.
 ghost use Rattle.vm_map.specs.Keys.{KEY_END};
-ghost use Rattle.std.specs.Prelude.{◌≡◌, ◌≤◌, [], min, OnOk, OnErr, IfOk};
-ghost use Rattle.vm_map.specs.Map.{Rises};
-ghost use Rattle.vm_map.specs.History.{IsAskable, IsReply, after, AddsKey};
-ghost use Rattle.vm_map.specs.Windows.{IsWindow, IsFirstWindow};
+ghost use Rattle.std.specs.Prelude.{◌≡◌, ◌≤◌, [], filter, min, nat_lt, OnOk, OnErr, IfOk};
+ghost use Rattle.vm_map.specs.Map.{lookup_at, Rises, swap_pair};
+ghost use Rattle.vm_map.specs.History.{IsAskable, IsReply, after, TakesMemory, between, bound_of, outcome_of};
+ghost use Rattle.vm_map.specs.Windows.{IsWindow, IsFirstWindow, from_key};
 
-use crate::call::{Call, Pair, Reply};
+use crate::call::{Call, Pair, Reply, Swap};
+use crate::span::Span;
 use crate::window::{Bound, MOST_PAIRS, Pairs, Window};
 use std::alloc::{AllocError, Global};
 use std::collections::BTreeMap;
@@ -14,6 +15,7 @@ use std::marker::Model;
 /// An ordered map that answers calls: contracts see its pairs by rising key.
 #[derive(Drop)]
 pub struct PlainMap {
+    alloc: Global,
     entries: BTreeMap<u64, u64>,
 }
 
@@ -35,6 +37,7 @@ impl PlainMap {
         ensures { result ≡ [] }
     {
         PlainMap {
+            alloc,
             entries: BTreeMap::new(alloc),
         }
     }
@@ -48,10 +51,10 @@ impl PlainMap {
         'pairs: for pair in pairs {
             entries.insert(pair.key, pair.value)?;
         }
-        Ok(PlainMap { entries })
+        Ok(PlainMap { alloc, entries })
     }
 
-    /// Answers a call and goes on to the next map. Only a `Put` at a new key takes memory; where
+    /// Answers a call and goes on to the next map. Only a `Put` at a new key and a `Range` take memory; where
     /// there is none, nothing changes. A `Window` shows the first `most` pairs from its start, at most 28,
     /// and ends at the first pair that is left, or at the end; one that asks for no pair shows none.
     pub fn apply(&mut self, call: &Call) -> Result<Reply, AllocError>
@@ -59,7 +62,7 @@ impl PlainMap {
         ensures window { IfOk result (IsFirstWindow self.old call.now) }
         ensures after { OnOk result (self.new ≡ after self.old call.now) }
         ensures err { OnErr result (self.new ≡ self.old) }
-        ensures only_new_key { OnErr result (AddsKey self.old call.now) }
+        ensures takes_memory { OnErr result (TakesMemory self.old call.now) }
         ensures rises { Rises 0 KEY_END self.new }
     {
         match *call {
@@ -67,6 +70,15 @@ impl PlainMap {
             Call::Put { key, value } => Ok(Reply::Was(self.entries.insert(key, value)?)),
             Call::Del { key } => Ok(Reply::Gone(self.entries.remove(&key))),
             Call::Window { start, most } => Ok(Reply::Win(window_of(&self.entries, start, most))),
+            Call::Swap { key, want, value } => {
+                Ok(Reply::Swapped(swap_in(&mut self.entries, key, want, value)))
+            }
+            Call::Range { low, bound } => Ok(Reply::Many(span_of(
+                self.alloc,
+                &self.entries,
+                low,
+                bound,
+            )?)),
         }
     }
 
@@ -98,6 +110,54 @@ fn window_of(entries: &BTreeMap<u64, u64>, start: u64, most: u32) -> Window
         bound: Bound::End,
         pairs,
     }
+}
+
+// Puts a value at a key of a map in memory, where the value there is the one that is wanted. No pair comes, so no memory is taken.
+fn swap_in(entries: &mut BTreeMap<u64, u64>, key: u64, want: u64, value: u64) -> Swap
+    ensures reply { result ≡ outcome_of (lookup_at entries.old.entries key) want }
+    ensures after { Rises 0 KEY_END entries.old.entries → entries.new.entries ≡ swap_pair entries.old.entries key want value }
+{
+    let Some(there) = entries.get_mut(&key) else {
+        return Swap::Missing;
+    };
+    let found = *there;
+    if found == want {
+        *there = value;
+        return Swap::Done;
+    }
+    Swap::Kept(found)
+}
+
+// All pairs of a map in memory from a key on and below a bound.
+#[tactic(auto, using(crate::proofs::RangeLaws::between_twice))]
+fn span_of(
+    alloc: Global,
+    entries: &BTreeMap<u64, u64>,
+    low: u64,
+    bound: Bound,
+) -> Result<Span, AllocError>
+    ensures { IfOk result (λ span. span.0 ≡ between entries.now.entries low (bound_of bound)) }
+{
+    Ok(Span::of(pairs_below(alloc, entries, low, bound)?))
+}
+
+// The pairs of a map in memory from a key on, without those from a bound on.
+fn pairs_below(
+    alloc: Global,
+    entries: &BTreeMap<u64, u64>,
+    low: u64,
+    bound: Bound,
+) -> Result<Vec<Pair>, AllocError>
+    ensures { IfOk result (λ v. v.items ≡ filter (λ e. nat_lt e.0 (bound_of bound)) (from_key low entries.now.entries)) }
+{
+    entries
+        .range(low..)
+        .filter(|entry| bound.is_above(*entry.0))
+        .map(|(key, value)| Pair {
+            key: *key,
+            value: *value,
+        })
+        .collect(alloc)
 }
 
 // The pairs of a map in memory, in order.

@@ -1,9 +1,11 @@
 // What a window of the map shows: a few pairs from a key on, and the bound up to which they are all.
-ghost use Rattle.std.specs.Prelude.{◌≡◌, ◌==◌, ◌<◌, ◌≤◌, [], ◌∷◌, ◌++◌, length};
+ghost use Rattle.std.specs.Prelude.{◌≡◌, ◌==◌, ◌<◌, ◌≤◌, [], ◌∷◌, ◌++◌, length, nat_lt};
+ghost use Rattle.vm_map.specs.History.{bound_of};
 
 use crate::call::Pair;
 use arrayvec::ArrayVec;
 use std::marker::Model;
+use std::mem;
 
 /// How many pairs a window has at most: as many as a node of a tree.
 pub const MOST_PAIRS: usize = 28;
@@ -79,9 +81,36 @@ pub enum Bound {
     End,
 }
 
+impl Bound {
+    /// Whether the bound lies above the key.
+    pub fn is_above(self, key: u64) -> bool
+        ensures { result ≡ nat_lt key (bound_of self) }
+    {
+        match self {
+            Bound::Key(end) => key < end,
+            Bound::End => true,
+        }
+    }
+}
+
 /// The pairs of the map from a key up to a bound, all of them, by rising key.
 #[derive(Debug, Drop, PartialEq)]
 pub struct Window {
     pub bound: Bound,
     pub pairs: Pairs,
+}
+
+impl Window {
+    /// Moves what it shows out, and leaves a window without a pair: a reply that is held by value is taken apart in this way.
+    pub fn take(&mut self) -> Self
+        ensures { result ≡ self.old }
+    {
+        mem::replace(
+            self,
+            Window {
+                bound: Bound::End,
+                pairs: Pairs::new(),
+            },
+        )
+    }
 }

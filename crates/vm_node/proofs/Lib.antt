@@ -9,6 +9,7 @@ pub mod Making
 pub mod CutPairs
 pub mod Leaves
 mod WindowSteps
+mod RangeSteps
 pub mod Telling
 pub mod ReadPairs
 pub mod Searches

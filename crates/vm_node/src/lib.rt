@@ -30,4 +30,4 @@ pub use full::Full;
 pub use halves::{left_word, right_half, split};
 pub use leaf::{covers, covers_at, del, find, find_at, is_leaf, is_leaf_at, put};
 pub use place::{Place, in_buffer};
-pub use shown::{window, window_at};
+pub use shown::{range_at, window, window_at};

@@ -1,17 +1,18 @@
 //! What a leaf shows from a key on.
 
-ghost use Rattle.std.specs.Prelude.{◌≡◌, ℕ, ◌+◌, ◌*◌, ◌≤◌, min};
-ghost use Rattle.vm_map.specs.History.{bound_of};
+ghost use Rattle.std.specs.Prelude.{[], ◌≡◌, ℕ, ◌&&◌, ◌+◌, ◌++◌, ◌*◌, ◌∷◌, ◌≤◌, length, min, nat_le, nat_lt};
+ghost use Rattle.vm_map.specs.History.{between, bound_of};
 ghost use Rattle.vm_map.specs.Map.{Rises};
 ghost use Rattle.vm_map.specs.Windows.{IsWindow};
 ghost use Rattle.vm_page.specs.Sizes.{IsSize};
-ghost use Rattle.vm_tree_model.specs.Fixed.{fixed, high_of};
+ghost use Rattle.vm_tree_model.specs.Fixed.{capacity, fixed, high_of};
 ghost use Rattle.vm_tree_model.specs.Node.{Covers};
 ghost use Rattle.vm_tree_model.specs.Page.{pairs_of, node_of, IsLeaf};
-ghost use Rattle.vm_node.specs.{Loads.Tells, Shows.IsLeafWindow, Shows.ShowsFirst, Sizes.looks_for};
+ghost use Rattle.vm_node.specs.{Loads.Tells, Shows.AppendsRange, Shows.IsLeafWindow, Shows.ShowsFirst, Sizes.looks_for};
 
 use crate::pairs::{count_at, lower_bound_at};
 use crate::place::{Place, in_buffer};
+use vm_map::span::Span;
 use vm_map::window::{Bound, MOST_PAIRS, Pairs, Window};
 use vm_page::PageBuf;
 
@@ -55,6 +56,55 @@ pub fn window<const N: usize>(page: &PageBuf<N>, start: u64, most: u32) -> Windo
 {
     let mut place = in_buffer(page);
     window_at(&mut place, N, start, most)
+}
+
+/// Appends the page's pairs from the key `from` on and below both `bound` and its high fence, and answers that fence. There must be room for as many
+/// pairs as a page has place for. Each pair is looked at, so this is told of any page; at most two words for each and three more are loaded.
+pub fn range_at<P: Place>(
+    place: &mut P,
+    words: usize,
+    from: u64,
+    bound: Bound,
+    out: &mut Span,
+) -> Bound
+    requires ready { P.ready place.old }
+    requires sized { IsSize words }
+    requires size { P.size place.old ≡ words }
+    requires room { capacity words ≤ out.old.1 }
+    ensures ready { P.ready place.new }
+    ensures size { P.size place.new ≡ words }
+    ensures told { Tells words P.loads place.old (2 * capacity words + 3) place.new
+        (λ page. AppendsRange (fixed words) page from bound out.old.0 out.new.0 result) }
+    ensures room { out.old.1 ≤ out.new.1 + capacity words }
+    ensures kept { out.new.1 + length out.new.0 ≡ out.old.1 + length out.old.0 }
+{
+    let high = high_bound_at(place, words);
+    let count = count_at(place, words);
+    for i in 0..count {
+        let key = place.word(8 + 2 * i);
+        let value = place.word(9 + 2 * i);
+        push_within(out, from, high, bound, key, value);
+    }
+    high
+}
+
+// Whether the key lies in the range from `from` on and below both bounds.
+fn lies_within(from: u64, high: Bound, bound: Bound, key: u64) -> bool
+    ensures { result ≡ (nat_le from key && nat_lt key (min (bound_of high) (bound_of bound))) }
+{
+    from <= key && high.is_above(key) && bound.is_above(key)
+}
+
+// Appends a pair where it lies in the range.
+fn push_within(out: &mut Span, from: u64, high: Bound, bound: Bound, key: u64, value: u64)
+    requires room { 1 ≤ out.old.1 }
+    ensures pairs { out.new.0 ≡ out.old.0 ++ between ((key, value) ∷ []) from (min (bound_of high) (bound_of bound)) }
+    ensures room { out.old.1 ≤ out.new.1 + 1 }
+    ensures kept { out.new.1 + length out.new.0 ≡ out.old.1 + length out.old.0 }
+{
+    if lies_within(from, high, bound, key) {
+        out.push(key, value);
+    }
 }
 
 // The high fence as a bound.

@@ -1,5 +1,5 @@
 -- What the node calls say of their pages is what the laws ask of a release and of a read.
-use Rattle.std.proofs.Common.{◌≡◌, ℕ, ◌+◌, ◌<◌, ◌≤◌, List, [], ◌∷◌, length, min, slice_index, slice_set, true, Option, Some, None, refl, ap, ◌∙◌, arith, option_map}
+use Rattle.std.proofs.Common.{◌≡◌, ◌≢◌, ℕ, ◌+◌, ◌<◌, ◌≤◌, List, [], ◌∷◌, length, min, slice_index, slice_set, true, Option, Some, None, refl, sym, ap, ◌∙◌, arith, option_map}
 use Rattle.std.proofs.lemmas.Bool.Decides.{nat_tests}
 use Rattle.vm_tree_model.specs.Layout.{Layout, size, IsFullNode}
 use Rattle.vm_map.specs.Map.{Rises, lookup_at, del_pair, floor_pair}
@@ -9,8 +9,9 @@ use Rattle.vm_map.proofs.MapLemmas.{floor_is}
 use Rattle.vm_tree_model.specs.Edits.{child_of, PutsInLeaf, IsLeafWith, AddsPair, IsSplit, IsNewRoot}
 use Rattle.vm_owner.specs.Numbers.{has}
 use Rattle.vm_owner.specs.Kept.{Start, Change}
-use Rattle.vm_map.specs.declared.call.Call.TheVariants.{Get, Put, Del, Window as AWindow}
-use Rattle.vm_map.specs.declared.call.Reply.TheVariants.{Got, Was, Gone, Win}
+use Rattle.vm_map.specs.declared.call.Call.TheVariants.{Get, Put, Del, Swap, Window as AWindow}
+use Rattle.vm_map.specs.declared.call.Reply.TheVariants.{Got, Was, Gone, Swapped, Win}
+use Rattle.vm_map.specs.declared.call.Swap.TheVariants.{Done, Kept, Missing}
 use Rattle.vm_map.specs.declared.window.Window.{Window}
 use Rattle.vm_map.specs.Windows.{IsWindow}
 use Rattle.vm_tree_laws.specs.May.{entry, MayRelease, MaySplit, MayRead}
@@ -22,6 +23,9 @@ module _ (L : Layout) (start : Start) (due : List ℕ) (leaf : Change) (number c
   pub may_del : (was : Option ℕ) → was ≡ lookup_at (pairs_of L leaf.old) k → IsLeafWith L leaf.old leaf.new (del_pair (pairs_of L leaf.old) k) → MayRelease L start due (leaf ∷ []) (entry number count (Del k) (Gone was))
   may_del was was_is after = (tag, (covers, was_is, after))
 
+  pub may_swap : (want v : ℕ) → PutsInLeaf L leaf.old leaf.new k v (Some want) → MayRelease L start due (leaf ∷ []) (entry number count (Swap k want v) (Swapped Done))
+  may_swap want v puts = (tag, (covers, sym puts.was_there, puts.after))
+
 module _ (L : Layout) (start : Start) (p number count : ℕ) (words : List ℕ) (tag : (node_of L words).tag ≡ 2) (k : ℕ) (covers : Covers (node_of L words) k) where
   pub may_get : (found : Option ℕ) → ((low high : ℕ) → Rises low high (pairs_of L words) → found ≡ lookup_at (pairs_of L words) k) → MayRead L start p words (entry number count (Get k) (Got found))
   may_get found found_is = (tag, λ low high rises. (covers, found_is low high rises))
@@ -29,6 +33,13 @@ module _ (L : Layout) (start : Start) (p number count : ℕ) (words : List ℕ) 
   -- a del of a key that the leaf lacks
   pub may_miss : ((low high : ℕ) → Rises low high (pairs_of L words) → lookup_at (pairs_of L words) k ≡ None) → MayRead L start p words (entry number count (Del k) (Gone None))
   may_miss none = (tag, λ low high rises. (covers, refl, none low high rises))
+
+  -- a swap of a key whose value is another, or that the leaf lacks
+  pub may_keep : (want v there : ℕ) → there ≢ want → ((low high : ℕ) → Rises low high (pairs_of L words) → lookup_at (pairs_of L words) k ≡ Some there) → MayRead L start p words (entry number count (Swap k want v) (Swapped (Kept there)))
+  may_keep want v there other found = (tag, λ low high rises. (covers, found low high rises, other))
+
+  pub may_lack : (want v : ℕ) → ((low high : ℕ) → Rises low high (pairs_of L words) → lookup_at (pairs_of L words) k ≡ None) → MayRead L start p words (entry number count (Swap k want v) (Swapped Missing))
+  may_lack want v none = (tag, λ low high rises. (covers, none low high rises))
 
   pub may_window : (most : ℕ) (window : Window) → 1 ≤ most → ((low high : ℕ) → Rises low high (pairs_of L words) → IsWindow (pairs_of L words) (node_of L words).high k (min most 28) window) → MayRead L start p words (entry number count (AWindow k most) (Win window))
   may_window most window some is_window = (tag, λ low high rises. (covers, some, is_window low high rises))

@@ -1,4 +1,4 @@
--- The release of a leaf after a put or a del keeps what the tree keeps.
+-- The release of a leaf after a put, a del or a swap keeps what the tree keeps.
 use Rattle.std.proofs.Common.{◌≡◌, ◌≢◌, ◌⊎◌, inl, inr, ℕ, ◌+◌, ◌*◌, ◌<◌, ◌≤◌, true, false, true≢false, List, [], ◌∷◌, ◌++◌, length, set, Bool, if◌then◌else◌, Option, Some, None, refl, sym, ap, ◌∙◌, arith, length-set, get_or-set_same, get_or-set_other}
 use Rattle.std.proofs.lemmas.Bool.{cases_eq}
 use Rattle.std.proofs.lemmas.Bool.Decides.{nat_tests}
@@ -21,9 +21,11 @@ use Rattle.vm_owner.specs.Kept.{Start, Kept, entries_under}
 use Rattle.vm_owner.proofs.NumberLemmas.{without-none}
 use Rattle.vm_map.specs.declared.call.Said.{Said}
 use Rattle.vm_map.specs.declared.call.Call.{Call}
-use Rattle.vm_map.specs.declared.call.Call.TheVariants.{Put, Del}
+use Rattle.vm_map.specs.declared.call.Call.TheVariants.{Put, Del, Swap}
+use Rattle.vm_map.specs.declared.call.Swap.TheVariants as swaps
+use Rattle.vm_map.proofs.SwapLaws.{outcome-done, swap-done}
 use Rattle.vm_map.specs.declared.call.Reply.{Reply}
-use Rattle.vm_map.specs.declared.call.Reply.TheVariants.{Was, Gone}
+use Rattle.vm_map.specs.declared.call.Reply.TheVariants.{Was, Gone, Swapped}
 use Rattle.vm_map.specs.History.{IsReply, after}
 use Rattle.vm_tree_laws.specs.Keeps.{KeepsTree, full_weight}
 use Rattle.vm_tree_laws.specs.History.{is_new, news}
@@ -118,4 +120,10 @@ module _ (L : Layout) (laws : IsLayout L) (start : Start) (kept : Kept Said) (ke
       (was_is ∙ sym (lookup-map_of L laws kept.pages keeps.tree p k at covers))
       (del_map L laws kept.pages keeps.tree p words (replaced _ with) k covers with.pairs)
       (del_grows _ with k refl)
+  edit_keeps (Swap k want v) (Swapped swaps.Done) is (covers, found, with) =
+      let wanted = lookup-map_of L laws kept.pages keeps.tree p k at covers ∙ found in
+      leaf_keeps (replaced _ with) (Swap k want v) (Swapped swaps.Done) is
+      (sym (outcome-done (lookup_at (map_of L kept.pages) k) want wanted))
+      (put_map L laws kept.pages keeps.tree p words (replaced _ with) k v covers (omega (arith, covers.1, high_le L laws kept.pages keeps.tree p at)) with.pairs ∙ sym (swap-done (map_of L kept.pages) k want v wanted))
+      (put_grows _ with k v (Some want) (sym found) refl)
   edit_keeps _ _ is edit = absurd edit

@@ -11,6 +11,8 @@ pub mod GroupReleases
 pub mod Halves
 pub mod NodeSplits
 pub mod RootSplits
+pub mod Ranges
+pub mod Widths
 pub mod Laws
 pub mod Descents
 pub mod Fullness

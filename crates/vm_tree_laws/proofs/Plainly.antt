@@ -4,13 +4,14 @@ use Rattle.std.proofs.lemmas.List.{map-append}
 use Rattle.vm_map.specs.declared.call.Said.{Said}
 use Rattle.vm_page.specs.Pages.{page_at}
 use Rattle.vm_owner.specs.declared.Entry.{Entry}
-use Rattle.vm_owner.specs.Kept.{Start, Kept, Change, Fits, IsTurn, entries_under, after_release, told, claimed, AreZero}
+use Rattle.vm_owner.specs.Kept.{Start, Kept, Change, Fits, PagesHave, IsTurn, entries_under, after_release, told, claimed, AreZero}
 use Rattle.vm_tree_model.specs.Layout.{Layout, IsLayout}
-use Rattle.vm_tree_laws.specs.Plain.{plain_entry, plain_history, plain_kept, KeepsPlain, ReleasesPlain, ReadsPlain}
+use Rattle.vm_tree_laws.specs.Plain.{plain_entry, plain_history, plain_kept, ProvesHeld, KeepsPlain, ReleasesPlain, ReadsPlain}
 use Rattle.vm_tree_laws.specs.Tied.{Tied}
 use Rattle.vm_tree_laws.specs.Keeps.{KeepsTree}
 use Rattle.vm_tree_laws.proofs.Laws.{releases_keep, reads_keep}
 use Rattle.vm_tree_laws.proofs.Claims.{claims_keep}
+use Rattle.vm_tree_laws.proofs.Ranges.{holds_keep}
 use Rattle.vm_tree_laws.proofs.Ties.{ties_hold}
 
 -- what speaks of numbers reads as it is
@@ -51,6 +52,12 @@ module _ {S : Type 0} (plain : S → Said) where
     plain_reads page entries keeps turn may =
         subst (λ (k : Kept Said). KeepsTree L start k) (sym (plain_after _ _ _ kept.history entries))
         (reads_keep L laws start (plain_kept plain kept) page (plain_history plain entries) keeps (plain_turn kept.history entries turn) may)
+
+    pub plain_holds : (pages : List (ℕ × List ℕ)) (entries : List (Entry S)) → KeepsPlain plain L start kept → PagesHave kept.pages pages → IsTurn kept.history entries
+        → ProvesHeld plain L start pages entries → KeepsPlain plain L start (told entries kept)
+    plain_holds pages entries keeps have turn may =
+        subst (λ (k : Kept Said). KeepsTree L start k) (sym (plain_after _ _ _ kept.history entries))
+        (holds_keep L laws start (plain_kept plain kept) pages (plain_history plain entries) keeps have (plain_turn kept.history entries turn) may)
 
     pub plain_claims : (n : ℕ) → KeepsPlain plain L start kept → AreZero kept n → KeepsPlain plain L start (claimed n kept)
     plain_claims n keeps zeros =

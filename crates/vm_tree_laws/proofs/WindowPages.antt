@@ -1,13 +1,17 @@
--- Between two keys in a leaf's fences the map has just the leaf's pairs.
+-- A leaf's pairs in the map: between two keys in the leaf's fences the map has just these.
 use Rattle.std.proofs.Common.{◌≡◌, ℕ, ◌≤◌, List, sym, ◌∙◌, arith, inl, inr}
 use Rattle.std.proofs.lemmas.Bool.{cases_lt}
 use Rattle.vm_tree_model.specs.Layout.{Layout, IsLayout}
 use Rattle.vm_map.specs.Map.{Rises}
 use Rattle.vm_map.specs.History.{between}
-use Rattle.vm_map.proofs.MapLemmas.{map_ext}
+use Rattle.vm_map.proofs.MapLemmas.{map_ext, Rises-from, Rises-to}
 use Rattle.vm_map.proofs.WindowLaws.{Rises-between, lookup-between_in, lookup-between_out}
 use Rattle.vm_tree_model.specs.Tree.{node_at, IsTree, IsLeafAt, map_of}
-use Rattle.vm_tree_model.proofs.Laws.{lookup-map_of, Rises-map_of}
+use Rattle.vm_tree_model.proofs.Laws.{high_le, lookup-map_of, Rises-map_of}
+
+-- a leaf's keys rise, up to the end of all keys
+pub leaf_rises : (L : Layout) (laws : IsLayout L) (pages : List (List ℕ)) (tree : IsTree L pages) (p : ℕ) → IsLeafAt L pages p → Rises 0 L.key_end (node_at L pages p).pairs
+leaf_rises L laws pages tree p at = Rises-to _ 0 _ L.key_end (Rises-from _ _ 0 _ (tree.tree.leaf p at.2).rises (omega arith)) (high_le L laws pages tree p at)
 
 pub between-map_of : (L : Layout) (laws : IsLayout L) (pages : List (List ℕ)) (tree : IsTree L pages) (p from upto : ℕ) → IsLeafAt L pages p → (node_at L pages p).low ≤ from → upto ≤ (node_at L pages p).high → Rises 0 L.key_end (node_at L pages p).pairs
     → between (map_of L pages) from upto ≡ between (node_at L pages p).pairs from upto

@@ -1,7 +1,8 @@
--- When pages of the tree may be released together, and what a leaf that was read whole proves.
-use Rattle.std.specs.Prelude.{◌≡◌, ℕ, ◌+◌, ◌<◌, ◌≤◌, true, List, [], ◌∷◌, length, min, slice_index, slice_set, Some, None}
+-- When pages of the tree may be released together, and what a leaf that was read whole proves, or leaves that are held together.
+use Rattle.std.specs.Prelude.{◌≡◌, ◌≢◌, ℕ, ◌+◌, ◌<◌, ◌≤◌, true, List, [], ◌∷◌, ◌++◌, length, min, slice_index, slice_set, Some, None}
 use Rattle.vm_tree_model.specs.Layout.{Layout, size, IsFullNode}
-use Rattle.vm_map.specs.Map.{Rises, lookup_at, put_pair, del_pair}
+use Rattle.vm_map.specs.Keys.{KEY_END}
+use Rattle.vm_map.specs.Map.{Pairs, Rises, lookup_at, put_pair, del_pair}
 use Rattle.vm_tree_model.specs.Node.{Covers}
 use Rattle.vm_tree_model.specs.Page.{pairs_of, node_of}
 use Rattle.vm_tree_model.specs.Edits.{IsLeafWith, AddsPair, IsSplit, IsNewRoot}
@@ -10,9 +11,11 @@ use Rattle.vm_owner.specs.declared.Entry.{Entry}
 use Rattle.vm_owner.specs.Kept.{Start, Change}
 use Rattle.vm_map.specs.declared.call.Said.{Said}
 use Rattle.vm_map.specs.declared.call.Call.{Call}
-use Rattle.vm_map.specs.declared.call.Call.TheVariants.{Get, Put, Del, Window}
+use Rattle.vm_map.specs.declared.call.Call.TheVariants.{Get, Put, Del, Window, Swap, Range}
 use Rattle.vm_map.specs.declared.call.Reply.{Reply}
-use Rattle.vm_map.specs.declared.call.Reply.TheVariants.{Got, Was, Gone, Win}
+use Rattle.vm_map.specs.declared.call.Reply.TheVariants.{Got, Was, Gone, Win, Swapped, Many, Wide}
+use Rattle.vm_map.specs.declared.call.Swap.TheVariants as swaps
+use Rattle.vm_map.specs.History.{between, bound_of}
 use Rattle.vm_map.specs.Windows.{IsWindow}
 use Rattle.vm_map.specs.declared.window.TheConstants.{MOST_PAIRS}
 
@@ -24,6 +27,7 @@ entry n c call reply = record { number = n; count = c; said = record { call = ca
 abbrev pub IsEdit : Layout → List ℕ → List ℕ → Call → Reply → Type 0
 IsEdit L old new (Put k v) (Was was) = Covers (node_of L old) k × (was ≡ lookup_at (pairs_of L old) k) × IsLeafWith L old new (put_pair (pairs_of L old) k v)
 IsEdit L old new (Del k) (Gone was) = Covers (node_of L old) k × (was ≡ lookup_at (pairs_of L old) k) × IsLeafWith L old new (del_pair (pairs_of L old) k)
+IsEdit L old new (Swap k want v) (Swapped swaps.Done) = Covers (node_of L old) k × (lookup_at (pairs_of L old) k ≡ Some want) × IsLeafWith L old new (put_pair (pairs_of L old) k v)
 IsEdit L _ _ _ _ = ⊥
 
 -- a full node below the root is split: its parent has room and names it, and its right sibling's page is owed
@@ -64,9 +68,40 @@ abbrev pub IsProved : Layout → List ℕ → Call → Reply → Type 0
 IsProved L leaf (Get k) (Got found) = Covers (node_of L leaf) k × (found ≡ lookup_at (pairs_of L leaf) k)
 IsProved L leaf (Del k) (Gone was) = Covers (node_of L leaf) k × (was ≡ None) × (lookup_at (pairs_of L leaf) k ≡ None)
 IsProved L leaf (Window start most) (Win window) = Covers (node_of L leaf) start × (1 ≤ most) × IsWindow (pairs_of L leaf) (node_of L leaf).high start (min most MOST_PAIRS) window
+IsProved L leaf (Swap k want v) (Swapped (swaps.Kept there)) = Covers (node_of L leaf) k × (lookup_at (pairs_of L leaf) k ≡ Some there) × (there ≢ want)
+IsProved L leaf (Swap k want v) (Swapped swaps.Missing) = Covers (node_of L leaf) k × (lookup_at (pairs_of L leaf) k ≡ None)
 IsProved L _ _ _ = ⊥
 
 -- the words of a page, read whole at one moment, prove the entry, as a leaf's do whose keys rise
 abbrev pub MayRead : Layout → Start → ℕ → List ℕ → List (Entry Said) → Type 0
 MayRead L start page words [] = Unit {0}
 MayRead L start page words (e ∷ es) = ((node_of L words).tag ≡ 2) × ((low high : ℕ) → Rises low high (pairs_of L words) → IsProved L words e.said.call e.said.reply)
+
+-- ---- several leaves
+
+-- as many leaves are held together at most
+abbrev pub MOST_LEAVES : ℕ
+MOST_LEAVES = 16
+
+-- pages that are leaves, one after another: the first covers the key `from`, each further one the high fence of the one before, and the last one's
+-- high fence is `upto`
+abbrev pub AreLeavesFrom : Layout → List (ℕ × List ℕ) → ℕ → ℕ → Type 0
+AreLeavesFrom L [] from upto = upto ≡ from
+AreLeavesFrom L (q ∷ qs) from upto = ((node_of L q.1).tag ≡ 2) × Covers (node_of L q.1) from × AreLeavesFrom L qs (node_of L q.1).high upto
+
+-- their pairs from a key on and below another, leaf by leaf
+abbrev pub pairs_held : Layout → List (ℕ × List ℕ) → ℕ → ℕ → Pairs
+pairs_held L [] from upto = []
+pairs_held L (q ∷ qs) from upto = between (pairs_of L q.1) from (min (node_of L q.1).high upto) ++ pairs_held L qs (node_of L q.1).high upto
+
+-- leaves that are held together prove the reply to a range: they cover it, and the reply has their pairs of it; or they are as many as can be held,
+-- and what they cover ends at a key below its bound
+abbrev pub IsProvedByAll : Layout → List (ℕ × List ℕ) → Call → Reply → Type 0
+IsProvedByAll L leaves (Range low bound) (Many span) = (reach : ℕ) × AreLeavesFrom L leaves low reach × (bound_of bound ≤ reach) × (span.0 ≡ pairs_held L leaves low (bound_of bound))
+IsProvedByAll L leaves (Range low bound) (Wide reach) = AreLeavesFrom L leaves low reach × (length leaves ≡ MOST_LEAVES) × (reach < bound_of bound) × (reach < KEY_END)
+IsProvedByAll L _ _ _ = ⊥
+
+-- pages held together, with their words, prove the entry
+abbrev pub MayHold : Layout → Start → List (ℕ × List ℕ) → List (Entry Said) → Type 0
+MayHold L start leaves [] = Unit {0}
+MayHold L start leaves (e ∷ es) = IsProvedByAll L leaves e.said.call e.said.reply

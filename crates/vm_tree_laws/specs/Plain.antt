@@ -5,7 +5,7 @@ use Rattle.vm_owner.specs.declared.Entry.{Entry}
 use Rattle.vm_owner.specs.Kept.{Start, Kept, Change}
 use Rattle.vm_tree_model.specs.Layout.{Layout}
 use Rattle.vm_tree_laws.specs.Keeps.{KeepsTree}
-use Rattle.vm_tree_laws.specs.May.{MayRelease, MayRead}
+use Rattle.vm_tree_laws.specs.May.{MayHold, MayRelease, MayRead}
 
 module _ {S : Type 0} (plain : S → Said) where
   -- an entry, a history and what is kept, with numbers for keys
@@ -18,7 +18,7 @@ module _ {S : Type 0} (plain : S → Said) where
   abbrev pub plain_kept : Kept S → Kept Said
   plain_kept kept = record { pages = kept.pages; next = kept.next; owed = kept.owed; history = plain_history kept.history }
 
-  -- what the tree keeps, what may be released and what may be read, as the history reads so
+  -- what the tree keeps, what may be released, what may be read and what pages held together prove, as the history reads so
   abbrev pub KeepsPlain : Layout → Start → Kept S → Type 0
   KeepsPlain L start kept = KeepsTree L start (plain_kept kept)
 
@@ -27,3 +27,6 @@ module _ {S : Type 0} (plain : S → Said) where
 
   abbrev pub ReadsPlain : Layout → Start → ℕ → List ℕ → List (Entry S) → Type 0
   ReadsPlain L start page words entries = MayRead L start page words (plain_history entries)
+
+  abbrev pub ProvesHeld : Layout → Start → List (ℕ × List ℕ) → List (Entry S) → Type 0
+  ProvesHeld L start pages entries = MayHold L start pages (plain_history entries)

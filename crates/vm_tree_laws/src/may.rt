@@ -1,9 +1,10 @@
 //! What the calls on nodes say of their pages is what a release and a read ask. The premises are those calls' clauses, and what was
 //! seen in the words themselves: a leaf's tag, and that its fences cover the key. So a read can show them before it is validated.
-ghost use Rattle.std.specs.Prelude.{◌≡◌, ℕ, ◌+◌, ◌<◌, ◌≤◌, List, [], ◌∷◌, length, min, slice_index, slice_set, true, Option, Some, None};
+ghost use Rattle.std.specs.Prelude.{◌≡◌, ◌≢◌, ℕ, ◌+◌, ◌<◌, ◌≤◌, List, [], ◌∷◌, length, min, slice_index, slice_set, true, Option, Some, None};
 ghost use Rattle.vm_map.specs.Map.{Rises, lookup_at, del_pair};
-ghost use Rattle.vm_map.specs.declared.call.Call.TheVariants.{Get, Put, Del, Window as ForWindow};
-ghost use Rattle.vm_map.specs.declared.call.Reply.TheVariants.{Got, Was, Gone, Win};
+ghost use Rattle.vm_map.specs.declared.call.Call.TheVariants.{Get, Put, Del, Swap, Window as ForWindow};
+ghost use Rattle.vm_map.specs.declared.call.Reply.TheVariants.{Got, Was, Gone, Swapped, Win};
+ghost use Rattle.vm_map.specs.declared.call.Swap.TheVariants.{Done, Kept, Missing};
 ghost use Rattle.vm_map.specs.declared.window.Window.{Window};
 ghost use Rattle.vm_map.specs.Windows.{IsWindow};
 ghost use Rattle.vm_tree_model.specs.Layout.{Layout, size, IsFullNode};
@@ -32,6 +33,15 @@ pub fn may_del()
         → Covers (node_of L leaf.old) key
         → (was : Option ℕ) → was ≡ lookup_at (pairs_of L leaf.old) key → IsLeafWith L leaf.old leaf.new (del_pair (pairs_of L leaf.old) key)
         → MayRelease L start due (leaf ∷ []) (entry number count (Del key) (Gone was)) }
+{}
+
+/// A leaf may be released after a swap at a key that it covers and whose value is the one that is wanted.
+#[tactic(auto, using(crate::proofs::Established::may_swap))]
+pub fn may_swap()
+    ensures { (L : Layout) (start : Start) (due : List ℕ) (leaf : Change) (number count key : ℕ) → (node_of L leaf.old).tag ≡ 2
+        → Covers (node_of L leaf.old) key
+        → (want value : ℕ) → PutsInLeaf L leaf.old leaf.new key value (Some want)
+        → MayRelease L start due (leaf ∷ []) (entry number count (Swap key want value) (Swapped Done)) }
 {}
 
 /// A full node below the root may be released after a split, together with its parent, which has room and which the descent of some key
@@ -71,6 +81,17 @@ pub fn may_miss()
     ensures { (L : Layout) (start : Start) (p number count : ℕ) (words : List ℕ) → (node_of L words).tag ≡ 2 → (key : ℕ) → Covers (node_of L words) key
         → ((low high : ℕ) → Rises low high (pairs_of L words) → lookup_at (pairs_of L words) key ≡ None)
         → MayRead L start p words (entry number count (Del key) (Gone None)) }
+{}
+
+/// A leaf that covers the key proves a swap that does nothing: the key's value is not the one that is wanted, or there is none.
+#[tactic(auto, using(crate::proofs::Established::may_keep, crate::proofs::Established::may_lack))]
+pub fn may_keep()
+    ensures kept { (L : Layout) (start : Start) (p number count : ℕ) (words : List ℕ) → (node_of L words).tag ≡ 2 → (key : ℕ) → Covers (node_of L words) key
+        → (want value there : ℕ) → there ≢ want → ((low high : ℕ) → Rises low high (pairs_of L words) → lookup_at (pairs_of L words) key ≡ Some there)
+        → MayRead L start p words (entry number count (Swap key want value) (Swapped (Kept there))) }
+    ensures lacks { (L : Layout) (start : Start) (p number count : ℕ) (words : List ℕ) → (node_of L words).tag ≡ 2 → (key : ℕ) → Covers (node_of L words) key
+        → (want value : ℕ) → ((low high : ℕ) → Rises low high (pairs_of L words) → lookup_at (pairs_of L words) key ≡ None)
+        → MayRead L start p words (entry number count (Swap key want value) (Swapped Missing)) }
 {}
 
 /// A leaf that covers the start proves a window of at least one pair: the leaf's first pairs from there on, at most 28, up to its next

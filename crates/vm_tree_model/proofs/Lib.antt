@@ -9,6 +9,7 @@ pub mod SameTree
 pub mod SplitPages
 pub mod RootSplit
 pub mod Load
+pub mod NodeCounts
 pub mod WordTests
 pub mod Tests
 mod Slots

@@ -3,11 +3,13 @@
 //! definitions and laws; the laws that a contract names stand on functions without a body, and the others in proofs/.
 #![tactic(auto)]
 
-ghost use Rattle.std.specs.Prelude.{◌≡◌, ◌↔◌, ℕ, ◌+◌, ◌≤◌, List, length, slice_index, None, Ok};
+ghost use Rattle.std.specs.Prelude.{◌≡◌, ◌↔◌, ℕ, ◌+◌, ◌<◌, ◌≤◌, List, length, slice_index, None, Ok};
 ghost use Rattle.vm_map.specs.Map.{Rises};
 ghost use Rattle.vm_page.specs.{Pages.page_at, Sizes.IsSize};
 ghost use Rattle.vm_tree_model.specs.Layout.{Layout, IsLayout};
 ghost use Rattle.vm_tree_model.specs.Fixed.{fixed};
+ghost use Rattle.vm_tree_model.specs.Count.{node_count};
+ghost use Rattle.vm_tree_model.specs.Page.{IsFree};
 ghost use Rattle.vm_tree_model.specs.Tree.{IsTree, IsParted, map_of};
 ghost use Rattle.vm_tree_model.specs.Reason.{reason, walked};
 
@@ -33,6 +35,12 @@ pub fn map_rises()
 #[tactic(auto, using(crate::proofs::Height::height_fits))]
 pub fn height_fits()
     ensures { (L : Layout) → IsLayout L → (pages : List (List ℕ)) → IsTree L pages → slice_index (page_at pages 0) 2 + 2 ≤ length pages }
+{}
+
+/// Where the pages of a tree from one on are free, its nodes are fewer than the pages before that one: page 0 is none.
+#[tactic(auto, using(crate::proofs::NodeCounts::nodes_below))]
+pub fn nodes_are_below()
+    ensures { (L : Layout) → IsLayout L → (pages : List (List ℕ)) → IsTree L pages → (next : ℕ) → ((p : ℕ) → next ≤ p → p < length pages → IsFree L (page_at pages p)) → node_count L pages + 1 ≤ next }
 {}
 
 /// Pages of 64 words and of 512 words are layouts.
