@@ -21,13 +21,15 @@ pub trait Edits: Pages {
     // The words of the left half of a page that is split at this key.
     ghost left_half: { List ℕ → ℕ → List ℕ };
 
-    /// What a put of this value at the key changes, and the old value. `Full` comes where less room is left than a pair of the key takes, and the key is
-    /// not found; of a leaf it comes exactly where it has no room for a pair of the key, and not the key.
+    /// What a put of this value at the key changes, and the old value, of any page whose keys rise. `Full` comes where less room is left than a pair of
+    /// the key takes, and the key is not found; of a leaf it comes exactly where it has no room for a pair of the key, and not the key.
     fn put_edit(
         page: &Self::Page,
         key: &Self::Key,
         value: u64,
     ) -> Result<(Option<u64>, Self::Edit), Full>
+        ensures was { (low high : ℕ) → Rises low high (pairs_of Self.layout (Self.words_of page.now))
+            → IfOk result (λ r. r.0 ≡ lookup_at (pairs_of Self.layout (Self.words_of page.now)) (Self.rank key.now)) }
         ensures room { IfOk result (λ _. HasRoomFor Self.layout Self.spare (Self.words_of page.now) (Self.rank key.now)) }
         ensures refused { OnErr result (IsTightFor Self.layout Self.spare (Self.words_of page.now) (Self.rank key.now)) }
         ensures full { IsLeaf Self.layout (Self.words_of page.now) → MatchResult result

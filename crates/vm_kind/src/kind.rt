@@ -1,6 +1,7 @@
 //! A kind of node: what the words of a page mean, and the calls on a page that stands in a frame.
 
 use vm_inner::Fenced;
+use vm_map::call::Swap;
 use vm_node::Place;
 
 /// A kind of node. It is no value: a type stands for it. The calls work on any words, and what they answer they tell of each page that has the
@@ -13,8 +14,8 @@ pub trait Kind {
     ghost use Rattle.std.specs.Prelude.{◌≡◌, ◌+◌, ◌<◌, ◌≤◌, List, MatchOption, ℕ};
     ghost use Rattle.std.specs.Option.{option_map};
     ghost use Rattle.vm_map.specs.declared.call.Said.{Said as PlainSaid};
-    ghost use Rattle.vm_map.specs.declared.call.Call.TheVariants.{Get, Put, Del};
-    ghost use Rattle.vm_map.specs.declared.call.Reply.TheVariants.{Got, Was, Gone};
+    ghost use Rattle.vm_map.specs.declared.call.Call.TheVariants.{Get, Put, Del, Swap as ForSwap};
+    ghost use Rattle.vm_map.specs.declared.call.Reply.TheVariants.{Got, Was, Gone, Swapped};
     ghost use Rattle.vm_map.specs.Map.{Rises, lookup_at};
     ghost use Rattle.vm_tree_model.specs.Layout.{Layout, IsLayout, IsClean, size};
     ghost use Rattle.vm_tree_model.specs.{Node.Covers, Page.pairs_of, Page.node_of};
@@ -121,4 +122,8 @@ pub trait Kind {
     /// The del of a key, with the value that was there.
     fn gone(key: &Self::Key, old: Option<u64>) -> Self::Said
         ensures { plain result ≡ record { call = Del (rank key.now); reply = Gone old } };
+
+    /// The swap of the value at a key, with what it did.
+    fn swapped(key: &Self::Key, want: u64, value: u64, outcome: Swap) -> Self::Said
+        ensures { plain result ≡ record { call = ForSwap (rank key.now) want value; reply = Swapped outcome } };
 }

@@ -5,6 +5,7 @@
 mod edits;
 mod kind;
 mod pages;
+mod ranges;
 mod tree;
 mod windows;
 mod word_keys;
@@ -12,6 +13,7 @@ mod word_keys;
 pub use edits::Edits;
 pub use kind::Kind;
 pub use pages::Pages;
+pub use ranges::Ranges;
 pub use tree::{Tree, TreeOf};
 pub use windows::Windows;
 pub use word_keys::{OfSize, Sizes, WordKeys, Words64, Words512};

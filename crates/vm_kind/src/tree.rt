@@ -1,7 +1,7 @@
 //! The tree of a kind of nodes as the owner of a page store.
 ghost use Rattle.std.specs.Prelude.{◌==◌};
-ghost use Rattle.vm_tree_laws.specs.{Plain.KeepsPlain, Plain.ReadsPlain, Plain.ReleasesPlain, Tied.Tied};
-ghost use Rattle.vm_tree_laws.proofs.Plainly.{plain_claims, plain_reads, plain_releases, plain_ties};
+ghost use Rattle.vm_tree_laws.specs.{Plain.ProvesHeld, Plain.KeepsPlain, Plain.ReadsPlain, Plain.ReleasesPlain, Tied.Tied};
+ghost use Rattle.vm_tree_laws.proofs.Plainly.{plain_claims, plain_holds, plain_reads, plain_releases, plain_ties};
 
 use crate::kind::Kind;
 use crate::word_keys::Words64;
@@ -28,11 +28,15 @@ impl<K: Kind> Owner for TreeOf<K> {
 
     ghost may_read = { ReadsPlain K.plain K.layout };
 
+    ghost may_hold = { ProvesHeld K.plain K.layout };
+
     ghost tied = { Tied K.layout };
 
     ghost releases = { plain_releases K.plain K.layout K.is_layout };
 
     ghost reads = { λ start kept page entries keeps there. plain_reads K.plain K.layout K.is_layout start kept page entries keeps };
+
+    ghost holds = { plain_holds K.plain K.layout K.is_layout };
 
     ghost claims = { plain_claims K.plain K.layout K.is_layout };
 

@@ -2,7 +2,7 @@
 ghost use Rattle.std.specs.Prelude.{◌+◌, ◌<◌, refl};
 ghost use Rattle.vm_map.specs.Keys.{KEY_END};
 ghost use Rattle.vm_page.specs.Sizes.{IsSize};
-ghost use Rattle.vm_tree_model.specs.Fixed.{fixed};
+ghost use Rattle.vm_tree_model.specs.Fixed.{capacity, fixed};
 ghost use Rattle.vm_tree_model.proofs.FixedLaws.{sized_layout};
 ghost use Rattle.vm_node.specs.{Edited.edited, Halves.left_half, Sizes.looks_for};
 ghost use Rattle.vm_kind.specs.WordRoom.{spare_in, spare_is};
@@ -10,17 +10,19 @@ ghost use Rattle.vm_kind.specs.WordRoom.{spare_in, spare_is};
 use crate::edits::Edits;
 use crate::kind::Kind;
 use crate::pages::Pages;
+use crate::ranges::Ranges;
 use crate::windows::Windows;
 use std::marker::PhantomData;
 use vm_block::Block;
 use vm_guard::OptGuard;
 use vm_inner::{Fenced, add_edit, child_at, new_root};
-use vm_map::call::{Call, Reply, Said};
-use vm_map::window::Window;
+use vm_map::call::{Call, Reply, Said, Swap};
+use vm_map::span::Span;
+use vm_map::window::{Bound, Window};
 use vm_node::pairs::{count_at, count_of, most_pairs};
 use vm_node::{
     Edit, Full, Place, covers, covers_at, del_edit, find_at, in_buffer, is_leaf, is_leaf_at,
-    left_word, put_edit, right_half, window_at,
+    left_word, put_edit, range_at, right_half, window_at,
 };
 use vm_owner::Owner;
 use vm_page::PageBuf;
@@ -148,6 +150,17 @@ impl<S: OfSize<N>, const N: usize> Kind for WordKeys<S, N> {
             reply: Reply::Gone(old),
         }
     }
+
+    fn swapped(key: &u64, want: u64, value: u64, outcome: Swap) -> Said {
+        Said {
+            call: Call::Swap {
+                key: *key,
+                want,
+                value,
+            },
+            reply: Reply::Swapped(outcome),
+        }
+    }
 }
 
 impl<S: OfSize<N>, const N: usize> Pages for WordKeys<S, N> {
@@ -204,6 +217,36 @@ impl<S: OfSize<N>, const N: usize> Windows for WordKeys<S, N> {
 
     fn reply_of(said: Said) -> Reply {
         said.reply
+    }
+}
+
+impl<S: OfSize<N>, const N: usize> Ranges for WordKeys<S, N> {
+    ghost pairs_most = { capacity N };
+
+    fn most_pairs() -> usize {
+        most_pairs(N)
+    }
+
+    fn key_of(number: u64) -> u64 {
+        number
+    }
+
+    fn range_at<P: Place>(place: &mut P, from: &u64, bound: Bound, out: &mut Span) -> Bound {
+        range_at(place, N, *from, bound, out)
+    }
+
+    fn many(low: &u64, bound: Bound, pairs: Span) -> Said {
+        Said {
+            call: Call::Range { low: *low, bound },
+            reply: Reply::Many(pairs),
+        }
+    }
+
+    fn wide(low: &u64, bound: Bound, reach: u64) -> Said {
+        Said {
+            call: Call::Range { low: *low, bound },
+            reply: Reply::Wide(reach),
+        }
     }
 }
 

@@ -8,7 +8,7 @@ use Rattle.vm_tree_read.specs.Waiting.{Waits}
 use Rattle.vm_tree_write.specs.{declared.write.TryWrite.TryWrite, Splits.KeepsLocksOnly}
 use Rattle.vm_tree_write.specs.declared.write.TryWrite.TheVariants as writes
 use Rattle.vm_tree_write.specs.Waiting.{faulted, IsDelRound, IsPutFaulted, IsPutRound, IsWriteFaulted, IsWriteReplied, missing, tight, worn}
-use Rattle.vm_tree_write.specs.Writes.{HasKeyIn, IsDel, IsPut, OnlyWrites}
+use Rattle.vm_tree_write.specs.Writes.{IsDel, IsPut, IsSwap, OnlyWrites}
 use Rattle.vm_test_tree.proofs.Homes.{of-reads, Rests}
 
 of-writes : {X : Type 0} (p : ℕ) (v w : View X) → OnlyWrites p v w → Rests v w
@@ -23,10 +23,18 @@ module _ {S : Type 0} (plain : S → Said) (L : Layout) where
   del-rests key (writes.Worn p) v w a = of-reads v w a.0.0
   del-rests key (writes.Tight p) v w a = absurd a
 
-  pub del-home : (call : Call) (key : ℕ) (r : Result Reply TreeFault) (v w : View S) → IfOk r (λ reply. IsWriteReplied plain L Waits (IsDelRound L) (record { call = call; reply = reply }) v w) → IfErr r (λ fault. IsWriteFaulted L Waits (IsDelRound L) (HasKeyIn L) key fault v w) → w.out ≡ v.out
-  del-home call key (Ok reply) v w a b = a.out
-  del-home call key (Err fault) v w a (missing tried found page rounds k r n f all) = all.out
-  del-home call key (Err fault) v w a (worn tried page rounds k r n would f all) = all.out
+  pub swap-rests : (key want value : ℕ) (t : TryWrite) (v w : View S) → IsSwap plain L key want value t v w → Rests v w
+  swap-rests key want value (writes.Done reply) v w a = ⊎_elim (λ b. of-writes b.0.page v w b.0.writes) (λ b. of-reads v w b.0.reads) a
+  swap-rests key want value (writes.Again saw) v w a = of-reads v w a.0.0
+  swap-rests key want value (writes.Need p) v w a = of-reads v w a.0.0
+  swap-rests key want value (writes.Worn p) v w a = of-reads v w a.0.0
+  swap-rests key want value (writes.Tight p) v w a = absurd a
+
+  -- a del, and a swap, which differs in what it tells of the leaf that it would have written
+  pub del-home : (may : List ℕ → ℕ → Type 0) (call : Call) (key : ℕ) (r : Result Reply TreeFault) (v w : View S) → IfOk r (λ reply. IsWriteReplied plain L Waits (IsDelRound L) (record { call = call; reply = reply }) v w) → IfErr r (λ fault. IsWriteFaulted L Waits (IsDelRound L) may key fault v w) → w.out ≡ v.out
+  del-home may call key (Ok reply) v w a b = a.out
+  del-home may call key (Err fault) v w a (missing tried found page rounds k r n f all) = all.out
+  del-home may call key (Err fault) v w a (worn tried page rounds k r n would f all) = all.out
 
   module _ (spare : List ℕ → ℕ) where
     pub put-rests : (key value : ℕ) (t : TryWrite) (v w : View S) → IsPut plain L spare key value t v w → Rests v w

@@ -15,6 +15,7 @@ use vm_guard::ExclusiveGuard;
 use vm_image::{PlannedFault, blocks_of, read_image};
 use vm_kind::{OfSize, Sizes, TreeOf, WordKeys, Words64};
 use vm_map::call::Reply;
+use vm_map::window::Bound;
 use vm_page::WORDS;
 use vm_pool::{Bring, Pool, Shape};
 use vm_rule::words::Pass;
@@ -183,7 +184,15 @@ pub(crate) fn got<S: OfSize<N>, R: Wait, const N: usize>(
     get(rt, pool, pass, iface, &key)
 }
 
-/// `window`, of at most so many pairs.
+/// What a reply shows that is a window: where it ends, and how many pairs it has.
+fn shown(reply: &Reply) -> Option<(Bound, usize)> {
+    match reply {
+        Reply::Win(win) => Some((win.bound, win.pairs.len())),
+        _ => None,
+    }
+}
+
+/// What `window` shows, of at most so many pairs.
 pub(crate) fn window_from<S: OfSize<N>, R: Wait, const N: usize>(
     rt: &R,
     pool: &Pool<TreeOf<WordKeys<S, N>>, MemBlock<N>, N>,
@@ -191,7 +200,7 @@ pub(crate) fn window_from<S: OfSize<N>, R: Wait, const N: usize>(
     iface: &mut Interface,
     start: u64,
     most: u32,
-) -> Result<Reply, TreeFault>
+) -> Option<(Bound, usize)>
     requires pages { 1 ≤ pool.now.words.table.shared.key.pages }
     requires most { 1 ≤ most }
     requires ready { IsReady pool.now.words.table.shared.key ⟦<MemBlock<N> as Block>⟧.tells pool.now.words.table.shared.table_id pass.old }
@@ -201,7 +210,10 @@ pub(crate) fn window_from<S: OfSize<N>, R: Wait, const N: usize>(
     ensures home { (view pass.new).out ≡ None }
     ensures held { AreHeld iface.new.frames (view pass.new) }
 {
-    window(rt, pool, pass, iface, &start, most)
+    match &window(rt, pool, pass, iface, &start, most) {
+        Ok(reply) => shown(reply),
+        Err(_) => None,
+    }
 }
 
 /// `try_get`, by a pass that keeps its frames.
@@ -223,14 +235,14 @@ pub(crate) fn get_once(
     try_get(pool.words(), pass, &key)
 }
 
-/// `try_window`, by a pass that keeps its frames.
+/// What `try_window` shows, by a pass that keeps its frames.
 pub(crate) fn window_once(
     pool: &Pool<Tree, MemBlock<WORDS>, WORDS>,
     pass: &mut Pass<Tree>,
     iface: &Interface,
     start: u64,
     most: u32,
-) -> TryRead
+) -> Option<(Bound, usize)>
     requires pages { 1 ≤ pool.now.words.table.shared.key.pages }
     requires most { 1 ≤ most }
     requires ready { IsReady pool.now.words.table.shared.key ⟦<MemBlock<WORDS> as Block>⟧.tells pool.now.words.table.shared.table_id pass.old }
@@ -241,7 +253,10 @@ pub(crate) fn window_once(
     ensures held { AreHeld iface.now.frames (view pass.new) }
 {
     let _ = iface;
-    try_window(pool.words(), pass, &start, most)
+    match &try_window(pool.words(), pass, &start, most) {
+        TryRead::Done(reply) => shown(reply),
+        _ => None,
+    }
 }
 
 /// `try_get`, by a pass that holds a page that it has not written: it holds it still, as it was.

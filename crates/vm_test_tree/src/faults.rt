@@ -1,12 +1,12 @@
 //! Devices that fail and pages at the last version, with ample memory: each fault names its page, leaves the map as it was, and holds nothing up that can go on.
 use crate::calls::{empty, get_once, got, open_with, two_leaves, window_from};
-use crate::write_calls::{del_at, del_once, put_at, put_once, split_once};
+use crate::write_calls::{del_at, del_once, put_at, put_once, split_once, swap_at, swap_once};
 use crate::writes::fill;
 use std::test::Fail;
 use vm_core::MAX_VERSION;
 use vm_exmap::Interface;
 use vm_image::PlannedFault;
-use vm_map::call::Reply;
+use vm_map::call::{Reply, Swap};
 use vm_map::window::Bound;
 use vm_tree_read::TryRead;
 use vm_tree_rule::TreeFault;
@@ -57,12 +57,31 @@ fn a_failed_read_of_a_leaf_leaves_its_sibling(rt: HostRuntime) -> Result<(), Fai
     assert!(rt; matches!(&needed, TryRead::Need(3)));
     let failed = got(&rt, &pool, &mut pass, &mut iface, 150);
     assert_eq!(rt; failed, Err(TreeFault::Device { pid: 3, count: 1 }));
-    let Ok(Reply::Win(all)) = window_from(&rt, &pool, &mut pass, &mut iface, 6, 28) else {
-        return Err(Fail::from("no window"));
-    };
-    assert_eq!(rt; all.bound, Bound::Key(100));
+    let below = window_from(&rt, &pool, &mut pass, &mut iface, 6, 28);
+    assert_eq!(rt; below, Some((Bound::Key(100), 1)));
     let reply = got(&rt, &pool, &mut pass, &mut iface, 150);
     assert_eq!(rt; reply, Ok(Reply::Got(Some(15))));
+    Ok(())
+}
+
+/// The leaf comes to the last version as it is brought in: it is read, but not written. So a swap is answered where it writes nothing.
+#[test]
+fn a_worn_leaf_answers_the_swaps_that_write_nothing(rt: HostRuntime) -> Result<(), Fail> {
+    let bytes = two_leaves(rt.alloc())?;
+    let (pool, mut pass) = open_with(rt.alloc(), bytes.as_slice(), &[], MAX_VERSION - 1)?;
+    let mut iface = Interface::new(0, 16);
+    let reply = got(&rt, &pool, &mut pass, &mut iface, 5);
+    assert_eq!(rt; reply, Ok(Reply::Got(Some(50))));
+    let kept = swap_once(&pool, &mut pass, &iface, 5, 51, 52);
+    assert!(rt; matches!(&kept, TryWrite::Done(Reply::Swapped(Swap::Kept(50)))));
+    let missing = swap_once(&pool, &mut pass, &iface, 6, 50, 52);
+    assert!(rt; matches!(&missing, TryWrite::Done(Reply::Swapped(Swap::Missing))));
+    let worn = swap_once(&pool, &mut pass, &iface, 5, 50, 50);
+    assert!(rt; matches!(&worn, TryWrite::Worn(2)));
+    let failed = swap_at(&rt, &pool, &mut pass, &mut iface, 5, 50, 52);
+    assert_eq!(rt; failed, Err(TreeFault::Worn { pid: 2 }));
+    let reply = got(&rt, &pool, &mut pass, &mut iface, 5);
+    assert_eq!(rt; reply, Ok(Reply::Got(Some(50))));
     Ok(())
 }
 
@@ -124,20 +143,11 @@ fn windows_reach_both_ends_of_the_keys(rt: HostRuntime) -> Result<(), Fail> {
     assert_eq!(rt; reply, Ok(Reply::Was(None)));
     let reply = put_at(&rt, &pool, &mut pass, &mut iface, 0, 2);
     assert_eq!(rt; reply, Ok(Reply::Was(None)));
-    let Ok(Reply::Win(last)) = window_from(&rt, &pool, &mut pass, &mut iface, u64::MAX, 1) else {
-        return Err(Fail::from("no window"));
-    };
-    assert_eq!(rt; last.bound, Bound::End);
-    assert_eq!(rt; last.pairs.len(), 1);
-    let Ok(Reply::Win(first)) = window_from(&rt, &pool, &mut pass, &mut iface, 0, 1) else {
-        return Err(Fail::from("no window"));
-    };
-    assert_eq!(rt; first.bound, Bound::Key(u64::MAX));
-    assert_eq!(rt; first.pairs.len(), 1);
-    let Ok(Reply::Win(all)) = window_from(&rt, &pool, &mut pass, &mut iface, 0, 28) else {
-        return Err(Fail::from("no window"));
-    };
-    assert_eq!(rt; all.bound, Bound::End);
-    assert_eq!(rt; all.pairs.len(), 2);
+    let last = window_from(&rt, &pool, &mut pass, &mut iface, u64::MAX, 1);
+    assert_eq!(rt; last, Some((Bound::End, 1)));
+    let first = window_from(&rt, &pool, &mut pass, &mut iface, 0, 1);
+    assert_eq!(rt; first, Some((Bound::Key(u64::MAX), 1)));
+    let all = window_from(&rt, &pool, &mut pass, &mut iface, 0, 28);
+    assert_eq!(rt; all, Some((Bound::End, 2)));
     Ok(())
 }

@@ -64,19 +64,12 @@ fn a_descent_reaches_each_leaf(rt: HostRuntime) -> Result<(), Fail> {
     assert_eq!(rt; reply, Ok(Reply::Got(Some(15))));
     let reply = got(&rt, &pool, &mut pass, &mut iface, u64::MAX);
     assert_eq!(rt; reply, Ok(Reply::Got(None)));
-    let Ok(Reply::Win(all)) = window_from(&rt, &pool, &mut pass, &mut iface, 6, 28) else {
-        return Err(Fail::from("no window"));
-    };
-    assert_eq!(rt; all.bound, Bound::Key(100));
-    assert_eq!(rt; all.pairs.len(), 1);
-    let TryRead::Done(Reply::Win(first)) = window_once(&pool, &mut pass, &iface, 0, 1) else {
-        return Err(Fail::from("no window"));
-    };
-    assert_eq!(rt; first.bound, Bound::Key(7));
-    let TryRead::Done(Reply::Win(last)) = window_once(&pool, &mut pass, &iface, u64::MAX, 1) else {
-        return Err(Fail::from("no window"));
-    };
-    assert_eq!(rt; last.bound, Bound::End);
+    let middle = window_from(&rt, &pool, &mut pass, &mut iface, 6, 28);
+    assert_eq!(rt; middle, Some((Bound::Key(100), 1)));
+    let first = window_once(&pool, &mut pass, &iface, 0, 1);
+    assert_eq!(rt; first, Some((Bound::Key(7), 1)));
+    let last = window_once(&pool, &mut pass, &iface, u64::MAX, 1);
+    assert_eq!(rt; last, Some((Bound::End, 0)));
     Ok(())
 }
 

@@ -11,7 +11,7 @@ use vm_page::WORDS;
 use vm_pool::Pool;
 use vm_rule::words::Pass;
 use vm_tree_rule::{Tree, TreeFault};
-use vm_tree_write::{TrySplit, TryWrite, del, put, try_del, try_put, try_split};
+use vm_tree_write::{TrySplit, TryWrite, del, put, swap, try_del, try_put, try_split, try_swap};
 
 /// `put`.
 pub(crate) fn put_at<S: OfSize<N>, R: Wait, const N: usize>(
@@ -52,6 +52,27 @@ pub(crate) fn del_at<S: OfSize<N>, R: Wait, const N: usize>(
     del(rt, pool, pass, iface, &key)
 }
 
+/// `swap`.
+pub(crate) fn swap_at<S: OfSize<N>, R: Wait, const N: usize>(
+    rt: &R,
+    pool: &Pool<TreeOf<WordKeys<S, N>>, MemBlock<N>, N>,
+    pass: &mut Pass<TreeOf<WordKeys<S, N>>>,
+    iface: &mut Interface,
+    key: u64,
+    want: u64,
+    value: u64,
+) -> Result<Reply, TreeFault>
+    requires pages { 1 ≤ pool.now.words.table.shared.key.pages }
+    requires ready { IsReady pool.now.words.table.shared.key ⟦<MemBlock<N> as Block>⟧.tells pool.now.words.table.shared.table_id pass.old }
+    requires home { (view pass.old).out ≡ None }
+    requires held { AreHeld iface.old.frames (view pass.old) }
+    ensures ready { IsReady pool.now.words.table.shared.key ⟦<MemBlock<N> as Block>⟧.tells pool.now.words.table.shared.table_id pass.new }
+    ensures home { (view pass.new).out ≡ None }
+    ensures held { AreHeld iface.new.frames (view pass.new) }
+{
+    swap(rt, pool, pass, iface, &key, want, value)
+}
+
 /// `try_put`, by a pass that keeps its frames.
 pub(crate) fn put_once<S: OfSize<N>, const N: usize>(
     pool: &Pool<TreeOf<WordKeys<S, N>>, MemBlock<N>, N>,
@@ -89,6 +110,27 @@ pub(crate) fn del_once(
 {
     let _ = iface;
     try_del(pool.words(), pass, &key)
+}
+
+/// `try_swap`, by a pass that keeps its frames.
+pub(crate) fn swap_once(
+    pool: &Pool<Tree, MemBlock<WORDS>, WORDS>,
+    pass: &mut Pass<Tree>,
+    iface: &Interface,
+    key: u64,
+    want: u64,
+    value: u64,
+) -> TryWrite
+    requires pages { 1 ≤ pool.now.words.table.shared.key.pages }
+    requires ready { IsReady pool.now.words.table.shared.key ⟦<MemBlock<WORDS> as Block>⟧.tells pool.now.words.table.shared.table_id pass.old }
+    requires home { (view pass.old).out ≡ None }
+    requires held { AreHeld iface.now.frames (view pass.old) }
+    ensures ready { IsReady pool.now.words.table.shared.key ⟦<MemBlock<WORDS> as Block>⟧.tells pool.now.words.table.shared.table_id pass.new }
+    ensures home { (view pass.new).out ≡ None }
+    ensures held { AreHeld iface.now.frames (view pass.new) }
+{
+    let _ = iface;
+    try_swap(pool.words(), pass, &key, want, value)
 }
 
 /// `try_split`.

@@ -1,11 +1,11 @@
-//! Writes of small trees, with ample memory: puts that split leaves and the root, and dels.
+//! Writes of small trees, with ample memory: puts that split leaves and the root, dels and swaps.
 ghost use Rattle.std.specs.Prelude.{◌≡◌, ◌≤◌, None};
 ghost use Rattle.vm_step.specs.Prelude.{AreHeld, IsReady, view};
 
 use crate::calls::{
     empty, empty_sized, got, open, open_sized, open_with, state_word, two_leaves, window_from,
 };
-use crate::write_calls::{del_at, del_once, put_at, put_once, split_once};
+use crate::write_calls::{del_at, del_once, put_at, put_once, split_once, swap_at, swap_once};
 use std::process::Abort;
 use std::sync::Wait;
 use std::test::Fail;
@@ -13,7 +13,7 @@ use vm_block::{Block, MemBlock};
 use vm_core::{MAX_VERSION, StateWord};
 use vm_exmap::Interface;
 use vm_kind::{OfSize, Sizes, TreeOf, WordKeys};
-use vm_map::call::Reply;
+use vm_map::call::{Reply, Swap};
 use vm_map::window::Bound;
 use vm_page::{LARGE, WORDS};
 use vm_pool::Pool;
@@ -189,16 +189,10 @@ fn a_leaf_of_512_words_takes_252_pairs(rt: HostRuntime) -> Result<(), Fail> {
     assert_eq!(rt; reply, Ok(Reply::Was(None)));
     let reply = got(&rt, &pool, &mut pass, &mut iface, 252);
     assert_eq!(rt; reply, Ok(Reply::Got(Some(7))));
-    let Ok(Reply::Win(lower)) = window_from(&rt, &pool, &mut pass, &mut iface, 100, 28) else {
-        return Err(Fail::from("no window"));
-    };
-    assert_eq!(rt; lower.bound, Bound::Key(126));
-    assert_eq!(rt; lower.pairs.len(), 26);
-    let Ok(Reply::Win(upper)) = window_from(&rt, &pool, &mut pass, &mut iface, 126, 252) else {
-        return Err(Fail::from("no window"));
-    };
-    assert_eq!(rt; upper.bound, Bound::Key(154));
-    assert_eq!(rt; upper.pairs.len(), 28);
+    let lower = window_from(&rt, &pool, &mut pass, &mut iface, 100, 28);
+    assert_eq!(rt; lower, Some((Bound::Key(126), 26)));
+    let upper = window_from(&rt, &pool, &mut pass, &mut iface, 126, 252);
+    assert_eq!(rt; upper, Some((Bound::Key(154), 28)));
     let reply = del_at(&rt, &pool, &mut pass, &mut iface, 252);
     assert_eq!(rt; reply, Ok(Reply::Gone(Some(7))));
     let reply = got(&rt, &pool, &mut pass, &mut iface, 252);
@@ -253,6 +247,54 @@ fn puts_that_a_full_image_refuses_wear_no_page(rt: HostRuntime) -> Result<(), Fa
     assert_eq!(rt; worn, Err(TreeFault::Worn { pid: 1 }));
     // A worn leaf is no reason where the image is full, too.
     refuse_many(&rt, &pool, &mut pass, &mut iface, 28, 3);
+    Ok(())
+}
+
+/// A swap is made where the key has the value that is wanted, and raises the leaf's version; else the leaf is not locked.
+#[test]
+fn a_swap_is_made_where_the_value_is_the_one_wanted(rt: HostRuntime) -> Result<(), Fail> {
+    let bytes = two_leaves(rt.alloc())?;
+    let (pool, mut pass) = open(rt.alloc(), bytes.as_slice())?;
+    let mut iface = Interface::new(0, 16);
+    let reply = swap_at(&rt, &pool, &mut pass, &mut iface, 5, 51, 52);
+    assert_eq!(rt; reply, Ok(Reply::Swapped(Swap::Kept(50))));
+    let reply = swap_at(&rt, &pool, &mut pass, &mut iface, 6, 50, 52);
+    assert_eq!(rt; reply, Ok(Reply::Swapped(Swap::Missing)));
+    let leaf = state_word(&pool, &mut pass, &iface, 2);
+    assert_eq!(rt; leaf, Some(1));
+    let reply = swap_at(&rt, &pool, &mut pass, &mut iface, 5, 50, 52);
+    assert_eq!(rt; reply, Ok(Reply::Swapped(Swap::Done)));
+    let leaf = state_word(&pool, &mut pass, &iface, 2);
+    assert_eq!(rt; leaf, Some(2));
+    let reply = got(&rt, &pool, &mut pass, &mut iface, 5);
+    assert_eq!(rt; reply, Ok(Reply::Got(Some(52))));
+    Ok(())
+}
+
+/// The tries of swaps tell the same. One is made also where the value that it wants is the new one.
+#[test]
+fn a_try_of_a_swap_is_done_with_equal_values_too(rt: HostRuntime) -> Result<(), Fail> {
+    let bytes = two_leaves(rt.alloc())?;
+    let (pool, mut pass) = open(rt.alloc(), bytes.as_slice())?;
+    let mut iface = Interface::new(0, 16);
+    let needed = swap_once(&pool, &mut pass, &iface, 5, 50, 52);
+    assert!(rt; matches!(&needed, TryWrite::Need(0)));
+    let reply = got(&rt, &pool, &mut pass, &mut iface, 5);
+    assert_eq!(rt; reply, Ok(Reply::Got(Some(50))));
+    let done = swap_once(&pool, &mut pass, &iface, 5, 50, 52);
+    assert!(rt; matches!(&done, TryWrite::Done(Reply::Swapped(Swap::Done))));
+    let kept = swap_once(&pool, &mut pass, &iface, 5, 50, 53);
+    assert!(rt; matches!(&kept, TryWrite::Done(Reply::Swapped(Swap::Kept(52)))));
+    let missing = swap_once(&pool, &mut pass, &iface, 6, 50, 53);
+    assert!(rt; matches!(&missing, TryWrite::Done(Reply::Swapped(Swap::Missing))));
+    let leaf = state_word(&pool, &mut pass, &iface, 2);
+    assert_eq!(rt; leaf, Some(2));
+    let same = swap_once(&pool, &mut pass, &iface, 5, 52, 52);
+    assert!(rt; matches!(&same, TryWrite::Done(Reply::Swapped(Swap::Done))));
+    let leaf = state_word(&pool, &mut pass, &iface, 2);
+    assert_eq!(rt; leaf, Some(3));
+    let reply = got(&rt, &pool, &mut pass, &mut iface, 5);
+    assert_eq!(rt; reply, Ok(Reply::Got(Some(52))));
     Ok(())
 }
 

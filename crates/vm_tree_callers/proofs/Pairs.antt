@@ -2,7 +2,7 @@
 use Rattle.std.proofs.Common.{[], ◌++◌, ◌∙◌, ◌∷◌, ◌≡◌, ap, List, Option, Some, subst, ℕ}
 use Rattle.vm_map.specs.{declared.call.Call.Call, declared.call.Call.TheVariants.Get, declared.call.Call.TheVariants.Put, declared.call.Reply.Reply}
 use Rattle.vm_map.specs.{declared.call.Said.Said, Map.Pairs, Map.put_pair}
-use Rattle.vm_map.specs.declared.call.Reply.TheVariants.{Gone, Got, Was, Win}
+use Rattle.vm_map.specs.declared.call.Reply.TheVariants.{Gone, Got, Many, Swapped, Was, Wide, Win}
 use Rattle.vm_map.specs.History.{after, AreReplies, IsReply}
 use Rattle.vm_map.proofs.MapLemmas.{lookup-put_same}
 use Rattle.vm_rule.specs.Prelude.{Entry}
@@ -14,6 +14,9 @@ got-is m key value (Got found) e = ap (λ (o : Option ℕ). Got o) (e ∙ lookup
 got-is m key value (Was old) e = absurd e
 got-is m key value (Gone old) e = absurd e
 got-is m key value (Win window) e = absurd e
+got-is m key value (Swapped outcome) e = absurd e
+got-is m key value (Many span) e = absurd e
+got-is m key value (Wide reach) e = absurd e
 
 pub put-got : {S : Type 0} (plain : S → Said) (m : Pairs) (h : List (Entry S)) (p g : Entry S) (key value : ℕ) (reply : Reply) → (plain p.said).call ≡ Put key value → plain g.said ≡ record { call = Get key; reply = reply }
     → AreReplies m (saids (plain_history plain (h ++ p ∷ g ∷ []))) → reply ≡ Got (Some value)

@@ -4,7 +4,7 @@ use Rattle.std.proofs.Common.{[], ⊎_elim, ◌*◌, ◌+◌, ◌<◌, ◌∙◌
 use Rattle.std.proofs.lemmas.Bool.{cases_eq, lt-ltb}
 use Rattle.vm_map.specs.{declared.call.Reply.Reply, declared.call.Said.Said, Map.lookup_at}
 use Rattle.vm_map.specs.declared.call.Call.TheVariants.{Get}
-use Rattle.vm_map.specs.declared.call.Reply.TheVariants.{Gone, Got, Was, Win}
+use Rattle.vm_map.specs.declared.call.Reply.TheVariants.{Gone, Got, Many, Swapped, Was, Wide, Win}
 use Rattle.vm_tree_model.specs.{Layout.IsLayout, Layout.Layout, Node.Covers, Page.node_of, Page.pairs_of, Tree.IsLeafAt, Tree.map_of}
 use Rattle.vm_tree_model.proofs.Laws.{lookup-map_of}
 use Rattle.vm_core.specs.Prelude.{at, MAX_VERSION, page_at, state_of, UNLOCKED}
@@ -56,6 +56,9 @@ got-is L leaf key (Got found) p = (p.0, ap Got p.1)
 got-is L leaf key (Was was) p = absurd p
 got-is L leaf key (Gone was) p = absurd p
 got-is L leaf key (Win window) p = absurd p
+got-is L leaf key (Swapped outcome) p = absurd p
+got-is L leaf key (Many span) p = absurd p
+got-is L leaf key (Wide reach) p = absurd p
 
 -- ---- how the pool began
 

@@ -23,8 +23,8 @@ pub fn why_again<K: Kind, B: Block>(
     ensures seen { IfSome result (λ saw. (done : _) × ((view pass.new).log ≡ (view pass.old).log ++ done) × HasGiven done (place_at saw.at) saw.seen) }
     ensures other { B.tells ≡ true → IfSome result (λ saw. (saw.first ≢ saw.seen) ⊎ (state_of saw.seen ≡ LOCKED)) }
 {
-    match try_get(words, pass, key) {
-        TryRead::Again(saw) => Some(saw),
-        _ => None,
-    }
+    let TryRead::Again(saw) = try_get(words, pass, key) else {
+        return None;
+    };
+    Some(saw)
 }

@@ -138,6 +138,9 @@ module _ {X : Type 0} where
   bring-loses home cap p old new before after v w answer (is_bring.framed f kept x g t) = loses-then old (f ∷ kept) new v x w (gets-loses home cap f old kept before after v x g) (fetches-loses cap p f kept new x w answer t)
   bring-loses home cap p old new before after v w answer (is_bring.frameless g) = none-loses home cap old new before after v w answer g
 
-  -- a try read, and then a call lost none
+  -- a try left the frames, and then a call lost none
+  pub lost-over : (old mid new : List ℕ) (u v x w : View X) → LosesNone old u mid v → x.frames ≡ v.frames → LosesNone mid x new w → LosesNone old u new w
+  lost-over old mid new u v x w before same after = loses-then old mid new u v w before (loses-then mid mid new v x w (loses-same mid mid v x same (λ f e. e)) after)
+
   pub lost-on : (old mid new : List ℕ) (u v x w : View X) → LosesNone old u mid v → ReadsOn v x → LosesNone mid x new w → LosesNone old u new w
-  lost-on old mid new u v x w before r after = loses-then old mid new u v w before (loses-then mid mid new v x w (reads-lose mid v x r) after)
+  lost-on old mid new u v x w before r after = lost-over old mid new u v x w before r.0.frames.0 after

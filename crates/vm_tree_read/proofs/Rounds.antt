@@ -7,7 +7,7 @@ use Rattle.vm_exmap.specs.declared.interface.Interface.{Interface}
 use Rattle.vm_exmap.proofs.Handing.{held-on}
 use Rattle.vm_tree_rule.specs.Leaves.{ReadsOn}
 use Rattle.vm_tree_read.specs.Waiting.{LosesNone}
-use Rattle.vm_tree_read.proofs.Losing.{loses-same, loses-then, lost-on, reads-lose}
+use Rattle.vm_tree_read.proofs.Losing.{loses-same, loses-then, lost-over}
 
 module _ {U X : Type 0} {o : _} where
   pub record HasTried (leaves : View X → View X → Type 0) (shape : Shape) (tells : Bool) (t : TableId) (p q : Pass U X o) (old new : Interface) : Type 0 where
@@ -22,26 +22,35 @@ module _ {U X : Type 0} {o : _} where
     pub tried-none : (p : Pass U X o) (i : Interface) → leaves (view p) (view p) → IsReady shape tells t p → AreHeld i.frames (view p) → HasTried leaves shape tells t p p i i
     tried-none p i left ready held = record { same = (refl, refl); ready = ready; held = held; lost = loses-same i.frames i.frames (view p) (view p) refl (λ f e. e); iface = (refl, refl); left = left }
 
-    module _ {p q : Pass U X o} {old mid : Interface} (h : HasTried leaves shape tells t p q old mid) (r : Pass U X o) (same : IsSamePass q r) (reads : ReadsOn (view q) (view r)) where
-      -- one try more read
-      pub tried-read : IsReady shape tells t r → leaves (view p) (view r) → HasTried leaves shape tells t p r old mid
-      tried-read ready left = record {
+    module _ {p q : Pass U X o} {old mid : Interface} (h : HasTried leaves shape tells t p q old mid) (r : Pass U X o) (same : IsSamePass q r) (start : (view r).start ≡ (view q).start) (frames : (view r).frames ≡ (view q).frames) where
+      -- one try more left the frames
+      pub tried-more : IsReady shape tells t r → leaves (view p) (view r) → HasTried leaves shape tells t p r old mid
+      tried-more ready left = record {
         same = (same.0 ∙ h.same.0, same.1 ∙ h.same.1);
         ready = ready;
-        held = held-on mid.frames (view q) (view r) h.held reads.0.start reads.0.frames.0;
-        lost = loses-then old.frames mid.frames mid.frames (view p) (view q) (view r) h.lost (reads-lose mid.frames (view q) (view r) reads);
+        held = held-on mid.frames (view q) (view r) h.held start frames;
+        lost = loses-then old.frames mid.frames mid.frames (view p) (view q) (view r) h.lost (loses-same mid.frames mid.frames (view q) (view r) frames (λ f e. e));
         iface = h.iface;
         left = left;
       }
 
       -- and then a call was made that moves frames
-      pub tried-call : (w : Pass U X o) (new : Interface) → IsSamePass r w → IsReady shape tells t w → AreHeld new.frames (view w) → LosesNone mid.frames (view r) new.frames (view w)
+      pub tried-fetch : (w : Pass U X o) (new : Interface) → IsSamePass r w → IsReady shape tells t w → AreHeld new.frames (view w) → LosesNone mid.frames (view r) new.frames (view w)
           → (new.home ≡ mid.home) × (new.cap ≡ mid.cap) → leaves (view p) (view w) → HasTried leaves shape tells t p w old new
-      tried-call w new then ready held lost iface left = record {
+      tried-fetch w new then ready held lost iface left = record {
         same = (then.0 ∙ same.0 ∙ h.same.0, then.1 ∙ same.1 ∙ h.same.1);
         ready = ready;
         held = held;
-        lost = lost-on old.frames mid.frames new.frames (view p) (view q) (view r) (view w) h.lost reads lost;
+        lost = lost-over old.frames mid.frames new.frames (view p) (view q) (view r) (view w) h.lost frames lost;
         iface = (iface.0 ∙ h.iface.0, iface.1 ∙ h.iface.1);
         left = left;
       }
+
+    -- so did one that read
+    module _ {p q : Pass U X o} {old mid : Interface} (h : HasTried leaves shape tells t p q old mid) (r : Pass U X o) (same : IsSamePass q r) (reads : ReadsOn (view q) (view r)) where
+      pub tried-read : IsReady shape tells t r → leaves (view p) (view r) → HasTried leaves shape tells t p r old mid
+      tried-read = tried-more h r same reads.0.start reads.0.frames.0
+
+      pub tried-call : (w : Pass U X o) (new : Interface) → IsSamePass r w → IsReady shape tells t w → AreHeld new.frames (view w) → LosesNone mid.frames (view r) new.frames (view w)
+          → (new.home ≡ mid.home) × (new.cap ≡ mid.cap) → leaves (view p) (view w) → HasTried leaves shape tells t p w old new
+      tried-call = tried-fetch h r same reads.0.start reads.0.frames.0

@@ -1,8 +1,8 @@
 -- What a read of the tree answers: the reply at one step of the history, or why it is to be tried again.
 use Rattle.std.specs.Prelude.{[], ◌++◌, ◌∷◌, ◌≡◌, ◌≢◌, ◌⊎◌, Bool, false, List, true, ℕ}
 use Rattle.vm_map.specs.{declared.call.Call.Call, declared.call.Reply.Reply, declared.call.Said.Said, Map.Rises}
-use Rattle.vm_map.specs.declared.call.Call.TheVariants.{Del, Get, Put, Window}
-use Rattle.vm_map.specs.declared.call.Reply.TheVariants.{Gone, Got, Was, Win}
+use Rattle.vm_map.specs.declared.call.Call.TheVariants.{Del, Get, Put, Range, Swap, Window}
+use Rattle.vm_map.specs.declared.call.Reply.TheVariants.{Gone, Got, Many, Swapped, Was, Wide, Win}
 use Rattle.vm_tree_model.specs.{Layout.Layout, Node.Covers, Page.node_of, Page.pairs_of, Tree.map_of}
 use Rattle.vm_node.specs.Loads.{IsPageWith}
 use Rattle.vm_core.specs.Prelude.{page_at}
@@ -19,13 +19,18 @@ key_of (Get key) = key
 key_of (Put key value) = key
 key_of (Del key) = key
 key_of (Window start most) = start
+key_of (Swap key want value) = key
+key_of (Range low bound) = low
 
--- the reply is one to such a call: a value to a get, a put or a del, and a window to a window
+-- the reply is one to such a call: a value to a get, a put or a del, a window to a window, what it did to a swap, and pairs or a reach to a range
 abbrev pub IsOfKind : Call → Reply → Type 0
 IsOfKind (Get key) (Got found) = Unit {0}
 IsOfKind (Put key value) (Was old) = Unit {0}
 IsOfKind (Del key) (Gone old) = Unit {0}
 IsOfKind (Window start most) (Win window) = Unit {0}
+IsOfKind (Swap key want value) (Swapped outcome) = Unit {0}
+IsOfKind (Range low bound) (Many span) = Unit {0}
+IsOfKind (Range low bound) (Wide reach) = Unit {0}
 IsOfKind _ _ = ⊥
 
 -- the words are a leaf's that covers the call's key; and they prove the reply where their keys rise, as those of a tree's leaf do

@@ -5,7 +5,8 @@ ghost use Rattle.vm_node.specs.Loads.{IsPageWith, Tells};
 ghost use Rattle.vm_step.specs.Prelude.{IsReady, IsSamePass, MayStep, NoneExpected, view};
 ghost use Rattle.vm_guard.specs.{Guards.IsReading, Guards.Loads, Guards.placed, PageWords.LoadsWords};
 ghost use Rattle.vm_guard.specs.Denied.{AgainOrNeed, IsDenied, KeptWord};
-ghost use Rattle.vm_tree_rule.specs.{Leaves.ReadsOn, Resident.IsKnownNow, Resident.KnowsResident, Standing.Awaits, Standing.IsOpened};
+ghost use Rattle.vm_tree_rule.specs.{Leaves.ReadsOn, Standing.Awaits, Standing.IsOpened};
+ghost use Rattle.vm_tree_rule.specs.Resident.{IsKnownNow, IsReadNow, KnowsReadable, KnowsResident};
 ghost use Rattle.vm_tree_rule.specs.Few.{LoadsHeight, LoadsWithin, ReadsInPlace};
 ghost use Rattle.vm_tree_rule.specs.Seeks.{HasLoaded};
 ghost use Rattle.vm_tree_rule.specs.Turns.{IsTurnedBack, TellLeaf, TellNoLeaf};
@@ -64,7 +65,8 @@ fn no_leaf<K: Kind, B: Block>(
     ensures ready { IsReady words.now.table.shared.key B.tells words.now.table.shared.table_id pass.new }
     ensures turn { (v : _) (key : ℕ) (loaded : _) → IsOpened v guard.now.pid guard.now.word guard.now.frame (view pass.old) → Awaits K.layout (view pass.old) guard.now.pid guard.now.word 0 key
         → HasLoaded (view pass.old) guard.now.pid loaded → TellNoLeaf K.layout loaded key → IsTurnedBack K.layout v key result (view pass.new) }
-    ensures sure { (key : ℕ) (loaded : _) → B.tells ≡ true → IsKnownNow guard.now.pid guard.now.word (view pass.old) → Awaits K.layout (view pass.old) guard.now.pid guard.now.word 0 key
+    ensures sure { (shares : ℕ → ℕ) (key : ℕ) (loaded : _) → B.tells ≡ true → IsReadNow shares guard.now.pid guard.now.word (view pass.old)
+        → Awaits K.layout (view pass.old) guard.now.pid guard.now.word 0 key
         → HasLoaded (view pass.old) guard.now.pid loaded → TellNoLeaf K.layout loaded key → ⊥ }
     ensures words { LoadsWords [] (view pass.old) (view pass.new) }
 {
@@ -75,7 +77,7 @@ fn no_leaf<K: Kind, B: Block>(
 }
 
 /// Descends to the leaf that covers the key, and looks at its tag and its fences where it stands. Its guard is still open: what is loaded of it has to
-/// be validated.
+/// be validated. It is found for sure also by a pass that has shares of pages itself.
 pub fn leaf_at<K: Kind, B: Block>(
     words: &Words<TreeOf<K>, B>,
     pass: &mut Pass<TreeOf<K>>,
@@ -91,6 +93,9 @@ pub fn leaf_at<K: Kind, B: Block>(
     ensures err { IfErr result (λ turn. IsTurnedBack K.layout (view pass.old) (K.rank key.now) turn (view pass.new)) }
     ensures sure { B.tells ≡ true → KnowsResident (view pass.old) → IsOk result }
     ensures known { B.tells ≡ true → KnowsResident (view pass.old) → IfOk result (λ guard. IsKnownNow guard.pid guard.word (view pass.new)) }
+    ensures sure_shared { (shares : ℕ → ℕ) → B.tells ≡ true → KnowsReadable shares (view pass.old) → IsOk result }
+    ensures known_shared { (shares : ℕ → ℕ) → B.tells ≡ true → KnowsReadable shares (view pass.old)
+        → IfOk result (λ guard. IsReadNow shares guard.pid guard.word (view pass.new)) }
     ensures few { LoadsWithin (λ h. 2 + K.bounds.child * h + (1 + K.bounds.covers)) (view pass.old) (view pass.new) }
     ensures height { IfOk result (λ _. (h : ℕ) × LoadsHeight (2 + K.bounds.child * h + (1 + K.bounds.covers)) h (view pass.old) (view pass.new)) }
 {

@@ -1,7 +1,7 @@
 -- A pass that is alone and knows the pages below the next one to be resident: its reads leave it so, and none of them is denied.
 use Rattle.std.proofs.Common.{⊎_elim, ◌<◌, ◌==◌, ◌∙◌, ◌≡◌, ◌≢◌, ◌≤◌, ◌⊎◌, ap, arith, Bool, Err, false, IfErr, IfOk, if◌then◌else◌, inl, length, List}
-use Rattle.std.proofs.Common.{None, Ok, replicate, Result, slice_index, subst, sym, true, ℕ}
-use Rattle.std.proofs.lemmas.Bool.{cases_eq, cases_lt}
+use Rattle.std.proofs.Common.{None, Ok, replicate, Result, slice_index, subst, suc, sym, true, zero, ℕ}
+use Rattle.std.proofs.lemmas.Bool.{cases_eq, cases_lt, Decides.nat_tests, ne_eqb}
 use Rattle.std.proofs.lemmas.List.{get_or-set_other}
 use Rattle.vm_map.specs.declared.call.Said.{Said}
 use Rattle.vm_tree_model.specs.{Layout.IsLayout, Layout.Layout, Page.IsInner, Page.IsLeaf}
@@ -18,49 +18,62 @@ use Rattle.vm_guard.proofs.Reading.{reading-kept}
 use Rattle.vm_tree_laws.specs.{Plain.KeepsPlain, Tied.IsTied, Tied.Tied}
 use Rattle.vm_tree_laws.proofs.Plainly.{plain_ties}
 use Rattle.vm_tree_rule.specs.Leaves.{LeavesWord, OnlyReads, ReadsOn}
-use Rattle.vm_tree_rule.specs.Resident.{IsKnownNow, KnowsLocks, KnowsResident}
+use Rattle.vm_tree_rule.specs.Resident.{IsReadableWord, IsReadNow, KnowsLocks, KnowsReadable}
 use Rattle.vm_tree_rule.specs.Standing.{IsNameIn, NamesNode, tree_pages}
 use Rattle.vm_tree_rule.proofs.Entering.{pages-are, sees-back}
 use Rattle.vm_tree_rule.proofs.Readings.{begins-leave, begins-reads, denied-leave, denied-reads, loads-reads, valid-reads}
 use Rattle.vm_tree_rule.proofs.Whole.{zero-at}
 
--- a free page's word is free without its mark
-unmarked-free : (word : ℕ) → IsUnlockedWord word → IsUnlockedWord (unmarked_word word)
-unmarked-free word free = go (state_of word == MARKED)
+-- ---- words
+
+not-marked : (word : ℕ) → state_of word ≢ MARKED → unmarked_word word ≡ word
+not-marked word other = ap (λ (b : Bool). if b then word_of UNLOCKED (version_of word) else word) (ne_eqb _ _ other)
+
+-- a readable page's word is so without its mark
+pub unmarked-readable : (n word : ℕ) → IsReadableWord n word → IsReadableWord n (unmarked_word word)
+unmarked-readable zero word free = go (state_of word == MARKED)
   where
     go : (b : Bool) → IsUnlockedWord (if b then word_of UNLOCKED (version_of word) else word)
     go true = inl (word-state UNLOCKED (version_of word) (version-within word))
     go false = free
+unmarked-readable (suc n) word shared =
+    let other : state_of word ≢ MARKED = λ marked. let is : state_of word ≡ 254 = marked in let count : state_of word ≡ suc n = shared.0 in let few : suc n < 253 = shared.1 in omega (arith, is, count, few) in
+    (ap state_of (not-marked word other) ∙ shared.0, shared.1)
 
-free-unlocked : (word : ℕ) → IsUnlockedWord word → state_of word ≢ LOCKED
-free-unlocked word free locked =
+pub readable-unlocked : (n word : ℕ) → IsReadableWord n word → state_of word ≢ LOCKED
+readable-unlocked zero word free locked =
     let full : state_of word ≡ 253 = locked in
     ⊎_elim (λ (e : state_of word ≡ 0). omega (arith, e, full)) (λ (e : state_of word ≡ 254). omega (arith, e, full)) free
+readable-unlocked (suc n) word shared locked = let full : state_of word ≡ 253 = locked in let count : state_of word ≡ suc n = shared.0 in let few : suc n < 253 = shared.1 in omega (arith, count, few, full)
 
-pub free-readable : (word : ℕ) → IsUnlockedWord word → is_readable (state_of word) ≡ true
-free-readable word free = ⊎_elim (λ (e : state_of word ≡ UNLOCKED). ap is_readable e) (λ (e : state_of word ≡ MARKED). ap is_readable e) free
+below-readable : (state : ℕ) → state < 253 → is_readable state ≡ true
+below-readable state below = grind (arith, nat_tests)
+
+pub free-readable : (n word : ℕ) → IsReadableWord n word → is_readable (state_of word) ≡ true
+free-readable zero word free = ⊎_elim (λ (e : state_of word ≡ UNLOCKED). ap is_readable e) (λ (e : state_of word ≡ MARKED). ap is_readable e) free
+free-readable (suc n) word shared = below-readable (state_of word) (subst (λ (s : ℕ). s < 253) (sym shared.0) shared.1)
 
 module _ {X : Type 0} where
-  pub resident-same : (v w : View X) → OnlyReads v w → KnowsSame v w → KnowsResident v → KnowsResident w
-  resident-same v w reads table k =
+  pub resident-same : {shares : ℕ → ℕ} (v w : View X) → OnlyReads v w → KnowsSame v w → KnowsReadable shares v → KnowsReadable shares w
+  resident-same {shares} v w reads table k =
       let words = table k.alone in
       record {
         alone = still-alone v w reads.parts reads.alone.current k.alone;
         each = λ q l m.
-            subst IsUnlockedWord (sym (same-word v w reads.start words (places.State q)))
-            (k.each q (subst (λ (n : ℕ). q < n) (same-word v w reads.start words places.Next) l) (subst (λ (o : Origin). q < o.pages) reads.start m));
+            subst (IsReadableWord (shares q)) (sym (same-word v w reads.start words (places.State q)))
+            (k.each q (subst (λ (end : ℕ). q < end) (same-word v w reads.start words places.Next) l) (subst (λ (o : Origin). q < o.pages) reads.start m));
       }
 
   -- the next word is known on
   pub same-next : (v w : View X) → OnlyReads v w → KnowsSame v w → IsAlone v → known_next w ≡ known_next v
   same-next v w reads table a = same-word v w reads.start (table a) places.Next
 
-  pub known-same : (p word : ℕ) (v w : View X) → OnlyReads v w → KnowsSame v w → IsKnownNow p word v → IsKnownNow p word w
+  pub known-same : {shares : ℕ → ℕ} (p word : ℕ) (v w : View X) → OnlyReads v w → KnowsSame v w → IsReadNow shares p word v → IsReadNow shares p word w
   known-same p word v w reads table k = record {
     resident = resident-same v w reads table k.resident;
     known = same-word v w reads.start (table k.resident.alone) (places.State p) ∙ k.known;
     free = k.free;
-    below = subst (λ (n : ℕ). p < n) (sym (same-next v w reads table k.resident.alone)) k.below;
+    below = subst (λ (end : ℕ). p < end) (sym (same-next v w reads table k.resident.alone)) k.below;
   }
 
   -- a pass that knew the locks knows them on
@@ -73,8 +86,8 @@ module _ {X : Type 0} where
         (k.unheld alone q (subst (λ (o : Origin). q < o.pages) reads.start inside) (sym (reads.holds q).exclusive ∙ exclusive) (sym (reads.holds q).shares ∙ shares));
   }
 
-  pub known-at : (p word : ℕ) (v : View X) → IsKnownNow p word v → IsKnownAt p word v
-  known-at p word v k = (ap version_of k.known, λ l. free-unlocked word k.free (ap state_of (sym k.known) ∙ l))
+  pub known-at : {shares : ℕ → ℕ} (p word : ℕ) (v : View X) → IsReadNow shares p word v → IsKnownAt p word v
+  known-at {shares} p word v k = (ap version_of k.known, λ l. readable-unlocked (shares p) word k.free (ap state_of (sym k.known) ∙ l))
 
   module _ (p word frame : ℕ) (v w : View X) (b : BeginsReading p word frame v w) (a : IsAlone v) where
     begun-word : (q : ℕ) → q ≢ p → known_word q w ≡ known_word q v
@@ -88,39 +101,39 @@ module _ {X : Type 0} where
         ∙ ap (λ (l : List ℕ). slice_index l (index_of v.start places.Next)) (b.table a)
         ∙ get_or-set_other v.snapshot.words p (index_of v.start places.Next) word 0 (λ e. let more = bundle_count v.start in omega (arith, inside, e))
 
-  -- a page that the pass begins to read is read, and free
-  pub resident-begun : (p word frame : ℕ) (v w : View X) → BeginsReading p word frame v w → KnowsResident v → KnowsResident w
-  resident-begun p word frame v w b k =
+  -- a page that the pass begins to read is read, and readable on
+  pub resident-begun : {shares : ℕ → ℕ} (p word frame : ℕ) (v w : View X) → BeginsReading p word frame v w → KnowsReadable shares v → KnowsReadable shares w
+  resident-begun {shares} p word frame v w b k =
       let reads : OnlyReads v w = (begins-reads p word frame v w b).0 in
       let known = b.known k.alone in
       record {
         alone = still-alone v w reads.parts reads.alone.current k.alone;
         each = λ q l m.
-            let below : q < known_next v = subst (λ (n : ℕ). q < n) (begun-next p word frame v w b k.alone) l in
+            let below : q < known_next v = subst (λ (end : ℕ). q < end) (begun-next p word frame v w b k.alone) l in
             let inside : q < v.start.pages = subst (λ (o : Origin). q < o.pages) reads.start m in
             ⊎_elim
-            (λ (e : q ≡ p). subst IsUnlockedWord (sym (ap (λ (n : ℕ). known_word n w) e ∙ known.0 ∙ known.1 ∙ ap (λ (n : ℕ). unmarked_word (known_word n v)) (sym e))) (unmarked-free (known_word q v) (k.each q below inside)))
-            (λ ne. subst IsUnlockedWord (sym (begun-word p word frame v w b k.alone q ne)) (k.each q below inside))
+            (λ (e : q ≡ p). subst (IsReadableWord (shares q)) (sym (ap (λ (x : ℕ). known_word x w) e ∙ known.0 ∙ known.1 ∙ ap (λ (x : ℕ). unmarked_word (known_word x v)) (sym e))) (unmarked-readable (shares q) (known_word q v) (k.each q below inside)))
+            (λ ne. subst (IsReadableWord (shares q)) (sym (begun-word p word frame v w b k.alone q ne)) (k.each q below inside))
             (cases_eq q p);
       }
 
-  pub known-begun : (p word frame : ℕ) (v w : View X) → BeginsReading p word frame v w → p < known_next v → KnowsResident v → IsKnownNow p word w
-  known-begun p word frame v w b below k =
+  pub known-begun : {shares : ℕ → ℕ} (p word frame : ℕ) (v w : View X) → BeginsReading p word frame v w → p < known_next v → KnowsReadable shares v → IsReadNow shares p word w
+  known-begun {shares} p word frame v w b below k =
       let known = b.known k.alone in
       let inside : p < v.start.pages = subst (λ (o : Origin). p < o.pages) b.quiet.steady.start b.reads.page in
       record {
         resident = resident-begun p word frame v w b k;
         known = known.0;
-        free = subst IsUnlockedWord (sym known.1) (unmarked-free (known_word p v) (k.each p below inside));
-        below = subst (λ (n : ℕ). p < n) (sym (begun-next p word frame v w b k.alone)) below;
+        free = subst (IsReadableWord (shares p)) (sym known.1) (unmarked-readable (shares p) (known_word p v) (k.each p below inside));
+        below = subst (λ (end : ℕ). p < end) (sym (begun-next p word frame v w b k.alone)) below;
       }
 
-  pub known-beside : (q x p word frame : ℕ) (v w : View X) → q ≢ p → BeginsReading p word frame v w → IsKnownNow q x v → IsKnownNow q x w
+  pub known-beside : {shares : ℕ → ℕ} (q x p word frame : ℕ) (v w : View X) → q ≢ p → BeginsReading p word frame v w → IsReadNow shares q x v → IsReadNow shares q x w
   known-beside q x p word frame v w ne b k = record {
     resident = resident-begun p word frame v w b k.resident;
     known = begun-word p word frame v w b k.resident.alone q ne ∙ k.known;
     free = k.free;
-    below = subst (λ (n : ℕ). q < n) (sym (begun-next p word frame v w b k.resident.alone)) k.below;
+    below = subst (λ (end : ℕ). q < end) (sym (begun-next p word frame v w b k.resident.alone)) k.below;
   }
 
 -- page q was looked at, with whatever answer: page p, another one, is as it was
@@ -147,13 +160,13 @@ pub looked-reading : {X : Type 0} (p word frame : ℕ) (v x : View X) → HasLoo
 looked-reading p word frame v x l r = reading-kept p word frame v x r l.reads.0.start (l.reads.0.holds p) (λ k. (l.reads.0.knows p k).held) l.same.reading
 
 -- and what is known of it too
-pub looked-known : {X : Type 0} (q p word : ℕ) (r : Result OptGuard Deny) (v x : View X) → q ≢ p → IfOk r (λ g. (g.pid ≡ q) × BeginsReading q g.word g.frame v x) → IfErr r (λ d. IsDenied AgainOrNeed NoWord NoneExpected q d v x) → IsKnownNow p word v → IsKnownNow p word x
+pub looked-known : {X : Type 0} {shares : ℕ → ℕ} (q p word : ℕ) (r : Result OptGuard Deny) (v x : View X) → q ≢ p → IfOk r (λ g. (g.pid ≡ q) × BeginsReading q g.word g.frame v x) → IfErr r (λ d. IsDenied AgainOrNeed NoWord NoneExpected q d v x) → IsReadNow shares p word v → IsReadNow shares p word x
 looked-known q p word (Ok g) v x ne ok err k = known-beside p word q g.word g.frame v x (λ e. ne (sym e)) ok.1 k
 looked-known q p word (Err d) v x ne ok err k = known-same p word v x (denied-reads AgainOrNeed NoWord NoneExpected q d v x err).0 err.table k
 
--- a page that is below the next one is free, as the pass knows it
-pub free-below : {S : Type 0} (p : ℕ) (v : View S) → KnowsResident v → p < known_next v → p < v.start.pages → is_readable (state_of (known_word p v)) ≡ true
-free-below p v k below inside = free-readable (known_word p v) (k.each p below inside)
+-- a page that is below the next one is readable, as the pass knows it
+pub free-below : {S : Type 0} {shares : ℕ → ℕ} (p : ℕ) (v : View S) → KnowsReadable shares v → p < known_next v → p < v.start.pages → is_readable (state_of (known_word p v)) ≡ true
+free-below {S} {shares} p v k below inside = free-readable (shares p) (known_word p v) (k.each p below inside)
 
 module _ {S : Type 0} (plain : S → Said) (L : Layout) (laws : IsLayout L) where
   -- a page of zeros is no node
@@ -197,18 +210,18 @@ module _ {S : Type 0} (plain : S → Said) (L : Layout) (laws : IsLayout L) wher
       subst (λ (n : ℕ). named < n) (sym (kept.next here) ∙ same-next x w valid.0 k.table there ∙ next) claimed
 
   -- page 0 is not denied
-  pub first-readable : (free : Type 0) (deny : Deny) (v x : View S) → IsDenied AgainOrNeed NoWord NoneExpected 0 deny v x → IsKeptNow (KeepsPlain plain L) 0 free x → 0 < v.start.pages → KnowsResident v → is_readable (state_of (known_word 0 v)) ≡ true
+  pub first-readable : {shares : ℕ → ℕ} (free : Type 0) (deny : Deny) (v x : View S) → IsDenied AgainOrNeed NoWord NoneExpected 0 deny v x → IsKeptNow (KeepsPlain plain L) 0 free x → 0 < v.start.pages → KnowsReadable shares v → is_readable (state_of (known_word 0 v)) ≡ true
   first-readable free deny v x d kept some k =
       let reads : OnlyReads v x = (denied-reads AgainOrNeed NoWord NoneExpected 0 deny v x d).0 in
       let there : IsAlone x = still-alone v x reads.parts reads.alone.current k.alone in
       let claimed : 0 < kept.kept.next = first-claimed free x kept (subst (λ (o : Origin). 0 < o.pages) (sym reads.start) some) in
-      free-below 0 v k (subst (λ (n : ℕ). 0 < n) (sym (kept.next there) ∙ same-next v x reads d.table k.alone) claimed) some
+      free-below 0 v k (subst (λ (end : ℕ). 0 < end) (sym (kept.next there) ∙ same-next v x reads d.table k.alone) claimed) some
 
   -- page 0 is read, and two words of it
-  pub first-known : (free : Type 0) (p word frame : ℕ) (one two : List (ℕ × ℕ)) (v a b y : View S) → p ≡ 0 → BeginsReading 0 word frame v a → IsKeptNow (KeepsPlain plain L) 0 free a → Loads p word frame one a b → Loads p word frame two b y → KnowsResident v → IsKnownNow p word y
-  first-known free p word frame one two v a b y zero begins kept first second k =
+  pub first-known : {shares : ℕ → ℕ} (free : Type 0) (p word frame : ℕ) (one two : List (ℕ × ℕ)) (v a b y : View S) → p ≡ 0 → BeginsReading 0 word frame v a → IsKeptNow (KeepsPlain plain L) 0 free a → Loads p word frame one a b → Loads p word frame two b y → KnowsReadable shares v → IsReadNow shares p word y
+  first-known {shares} free p word frame one two v a b y first_is begins kept first second k =
       let reads : OnlyReads v a = (begins-reads 0 word frame v a begins).0 in
       let there : IsAlone a = still-alone v a reads.parts reads.alone.current k.alone in
       let claimed : 0 < kept.kept.next = first-claimed free a kept begins.reads.page in
-      let known : IsKnownNow 0 word a = known-begun 0 word frame v a begins (subst (λ (n : ℕ). 0 < n) (sym (kept.next there) ∙ begun-next 0 word frame v a begins k.alone) claimed) k in
-      known-same p word b y (loads-reads p word frame two b y second).0 second.table (known-same p word a b (loads-reads p word frame one a b first).0 first.table (subst (λ (n : ℕ). IsKnownNow n word a) (sym zero) known))
+      let known : IsReadNow shares 0 word a = known-begun 0 word frame v a begins (subst (λ (end : ℕ). 0 < end) (sym (kept.next there) ∙ begun-next 0 word frame v a begins k.alone) claimed) k in
+      known-same p word b y (loads-reads p word frame two b y second).0 second.table (known-same p word a b (loads-reads p word frame one a b first).0 first.table (subst (λ (x : ℕ). IsReadNow shares x word a) (sym first_is) known))

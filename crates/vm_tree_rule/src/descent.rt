@@ -6,7 +6,7 @@ ghost use Rattle.vm_guard.specs.{Guards.IsReading, PageWords.LoadsWords};
 ghost use Rattle.vm_tree_rule.specs.Leaves.{LeavesWord, ReadsOn};
 ghost use Rattle.vm_tree_rule.specs.Few.{HasHeight, LoadsAtMost, LoadsHeight, LoadsWithin, ReadsInPlace};
 ghost use Rattle.vm_tree_rule.specs.Seeks.{IsMetaRead, IsNamedRoot, GoesPast, TellChildIn, TellNoChild};
-ghost use Rattle.vm_tree_rule.specs.Resident.{IsKnownNow, KnowsLocks, KnowsResident};
+ghost use Rattle.vm_tree_rule.specs.Resident.{IsReadNow, KnowsLocks, KnowsReadable};
 ghost use Rattle.vm_tree_rule.specs.Standing.{Awaits, AwaitsNode, fence_of, HasSteppedDown, IsOpened, IsStand, NamesNode, StaysOpen, tree_pages};
 ghost use Rattle.vm_tree_rule.specs.Turns.{IsStopped, IsTurnedBack};
 
@@ -40,9 +40,9 @@ pub(crate) fn enter<K: Kind, B: Block>(
     ensures pages { B.tells ≡ true → IfOk result (λ _. tree_pages (view pass.new) ≡ (view pass.new).start.pages) }
     ensures parent { IfOk result (λ guard. StaysOpen parent.now.pid parent.now.word parent.now.frame guard.pid (view pass.old) (view pass.new)) }
     ensures err { IfErr result (λ turn. IsStopped K.layout parent.now.pid parent.now.word parent.now.frame named turn (view pass.old) (view pass.new)) }
-    ensures sure { B.tells ≡ true → IsKnownNow parent.now.pid parent.now.word (view pass.old) → IsOk result }
-    ensures known { B.tells ≡ true → IsKnownNow parent.now.pid parent.now.word (view pass.old)
-        → IfOk result (λ guard. IsKnownNow guard.pid guard.word (view pass.new) × IsKnownNow parent.now.pid parent.now.word (view pass.new)) }
+    ensures sure { (shares : ℕ → ℕ) → B.tells ≡ true → IsReadNow shares parent.now.pid parent.now.word (view pass.old) → IsOk result }
+    ensures known { (shares : ℕ → ℕ) → B.tells ≡ true → IsReadNow shares parent.now.pid parent.now.word (view pass.old)
+        → IfOk result (λ guard. IsReadNow shares guard.pid guard.word (view pass.new) × IsReadNow shares parent.now.pid parent.now.word (view pass.new)) }
     ensures locks { IfOk result (λ _. KnowsLocks (view pass.new)) }
     ensures others { IfOk result (λ guard. (q : ℕ) → q ≢ guard.pid
         → ReadsAsBefore (view pass.old) (view pass.new) q × LeavesWord q (view pass.old) (view pass.new)) }
@@ -113,10 +113,10 @@ pub(crate) fn step<K: Kind, B: Block>(
         below.guard.pid (view pass.old) (view pass.new)) }
     ensures err { IfErr result (λ turn. (v : _) → IsOpened v stand.now.guard.pid stand.now.guard.word stand.now.guard.frame (view pass.old)
         → IsTurnedBack K.layout v (K.rank key.now) turn (view pass.new)) }
-    ensures sure { B.tells ≡ true → IsKnownNow stand.now.guard.pid stand.now.guard.word (view pass.old) → IsOk result }
-    ensures known { B.tells ≡ true → IsKnownNow stand.now.guard.pid stand.now.guard.word (view pass.old)
-        → IfOk result (λ below. IsKnownNow below.guard.pid below.guard.word (view pass.new)
-        × IsKnownNow stand.now.guard.pid stand.now.guard.word (view pass.new)) }
+    ensures sure { (shares : ℕ → ℕ) → B.tells ≡ true → IsReadNow shares stand.now.guard.pid stand.now.guard.word (view pass.old) → IsOk result }
+    ensures known { (shares : ℕ → ℕ) → B.tells ≡ true → IsReadNow shares stand.now.guard.pid stand.now.guard.word (view pass.old)
+        → IfOk result (λ below. IsReadNow shares below.guard.pid below.guard.word (view pass.new)
+        × IsReadNow shares stand.now.guard.pid stand.now.guard.word (view pass.new)) }
     ensures locks { IfOk result (λ _. KnowsLocks (view pass.new)) }
     ensures few { LoadsAtMost K.bounds.child (view pass.old) (view pass.new) }
 {
@@ -183,9 +183,9 @@ pub(crate) fn enter_root<K: Kind, B: Block>(
     ensures ok { IfOk result (λ top. IsOpened (view pass.old) top.stand.guard.pid top.stand.guard.word top.stand.guard.frame (view pass.new)
         × IsStand K.layout K.rank (K.rank key.now) top.stand (view pass.new)) }
     ensures reads { IfOk result (λ _. ReadsOn (view pass.old) (view pass.new)) }
-    ensures sure { B.tells ≡ true → KnowsResident (view pass.old) → IsOk result }
-    ensures known { B.tells ≡ true → KnowsResident (view pass.old)
-        → IfOk result (λ top. IsKnownNow top.stand.guard.pid top.stand.guard.word (view pass.new) × IsKnownNow top.meta.pid top.meta.word (view pass.new)) }
+    ensures sure { (shares : ℕ → ℕ) → B.tells ≡ true → KnowsReadable shares (view pass.old) → IsOk result }
+    ensures known { (shares : ℕ → ℕ) → B.tells ≡ true → KnowsReadable shares (view pass.old)
+        → IfOk result (λ top. IsReadNow shares top.stand.guard.pid top.stand.guard.word (view pass.new) × IsReadNow shares top.meta.pid top.meta.word (view pass.new)) }
     ensures locks { IfOk result (λ _. KnowsLocks (view pass.new)) }
     ensures named { IfOk result (λ top. IsNamedRoot K.layout (view pass.old) top.stand.guard.pid (view pass.new)) }
     ensures meta { IfOk result (λ top. IsMetaRead top.meta.pid top.meta.word top.meta.frame top.stand.guard.pid
@@ -236,8 +236,8 @@ pub fn descend<K: Kind, B: Block>(
     ensures fences { IfOk result (λ guard. (low high : ℕ) × (low ≤ K.rank key.now) × (K.rank key.now < high)
         × AwaitsNode K.layout (view pass.new) guard.pid guard.word 0 low high) }
     ensures err { IfErr result (λ turn. IsTurnedBack K.layout (view pass.old) (K.rank key.now) turn (view pass.new)) }
-    ensures sure { B.tells ≡ true → KnowsResident (view pass.old) → IsOk result }
-    ensures known { B.tells ≡ true → KnowsResident (view pass.old) → IfOk result (λ guard. IsKnownNow guard.pid guard.word (view pass.new)) }
+    ensures sure { (shares : ℕ → ℕ) → B.tells ≡ true → KnowsReadable shares (view pass.old) → IsOk result }
+    ensures known { (shares : ℕ → ℕ) → B.tells ≡ true → KnowsReadable shares (view pass.old) → IfOk result (λ guard. IsReadNow shares guard.pid guard.word (view pass.new)) }
     ensures few { LoadsWithin (λ h. 2 + K.bounds.child * h) (view pass.old) (view pass.new) }
     ensures height { IfOk result (λ _. (h : ℕ) × LoadsHeight (2 + K.bounds.child * h) h (view pass.old) (view pass.new)) }
 {

@@ -1,7 +1,10 @@
 -- Why a write gave no reply.
-use Rattle.std.proofs.Common.{◌+◌, ◌∙◌, ◌≡◌, ◌⊎◌, ap, arith, inl, inr, length, List, None, Option, refl, Some, subst, sym, true, ℕ}
-use Rattle.vm_map.specs.{declared.call.Call.TheVariants.Del, declared.call.Call.TheVariants.Put, declared.call.Reply.Reply}
-use Rattle.vm_map.specs.{declared.call.Reply.TheVariants.Gone, declared.call.Reply.TheVariants.Was, declared.call.Said.Said}
+use Rattle.std.proofs.Common.{◌+◌, ◌∙◌, ◌≡◌, ◌≢◌, ◌⊎◌, ap, arith, inl, inr, length, List, None, Option, refl, Some, subst, sym, true, ℕ}
+use Rattle.vm_map.specs.{declared.call.Reply.Reply, declared.call.Said.Said, declared.call.Swap.Swap as Outcome, History.outcome_of}
+use Rattle.vm_map.specs.declared.call.Call.TheVariants.{Del, Put, Swap}
+use Rattle.vm_map.specs.declared.call.Reply.TheVariants.{Gone, Swapped, Was}
+use Rattle.vm_map.specs.declared.call.Swap.TheVariants as swaps
+use Rattle.vm_map.proofs.SwapLaws.{outcome-done, outcome-kept}
 use Rattle.vm_map.specs.Map.{del_pair, lookup_at, Rises}
 use Rattle.vm_tree_model.specs.{Edits.IsLeafWith, Edits.PutsInLeaf, Layout.IsClean, Layout.IsLayout, Layout.Layout, Layout.size, Node.Covers}
 use Rattle.vm_tree_model.specs.Page.{IsLeaf, node_of, pairs_of}
@@ -13,7 +16,7 @@ use Rattle.vm_guard.specs.declared.deny.Deny.{Deny}
 use Rattle.vm_guard.specs.declared.deny.Deny.TheVariants as denies
 use Rattle.vm_guard.specs.Denied.{AgainOrNeed, AgainOrWorn, IsDenied, KeptWord}
 use Rattle.vm_guard.specs.Guards.{IsReading, IsValid, Loads, placed}
-use Rattle.vm_tree_laws.specs.{May.IsEdit, Tied.Tied}
+use Rattle.vm_tree_laws.specs.{May.IsEdit, May.IsProved, Tied.Tied}
 use Rattle.vm_tree_rule.specs.{Leaves.ReadsOn, Seeks.HasLoaded, Seeks.HasRead, Standing.Awaits, Standing.IsOpened, Turns.IsTurnedBack, Turns.TellLeaf}
 use Rattle.vm_tree_rule.specs.declared.turn.Turn.TheVariants as turns
 use Rattle.vm_tree_rule.proofs.Entering.{opened-reads}
@@ -23,7 +26,8 @@ use Rattle.vm_tree_rule.specs.Resident.{IsKnownNow}
 use Rattle.vm_kind.specs.Room.{HasRoomFor}
 use Rattle.vm_tree_read.specs.Reads.{IsAnswered}
 use Rattle.vm_tree_read.proofs.Answering.{answered-as, answered-later, page-with}
-use Rattle.vm_tree_write.specs.Writes.{IsFullLeaf, IsTight, IsVain, IsWornLeaf, IsWriteDone, IsWriteToTry, TellTight}
+use Rattle.vm_tree_write.specs.Writes.{IsFullLeaf, IsSwap, IsTight, IsVain, IsWornLeaf, IsWriteDone, IsWriteToTry, swap_reply, TellTight, WritesNothing}
+use Rattle.vm_tree_write.specs.declared.write.TryWrite.TheVariants as tries
 use Rattle.vm_tree_write.proofs.Backing.{shown-refused, shown-unlocked, shown-wider}
 use Rattle.vm_tree_write.proofs.Writing.{leaf-is, written-later}
 
@@ -126,17 +130,36 @@ module _ (L : Layout) (page after : List ℕ) where
   pub del-edit : (key : ℕ) (was : Option ℕ) → Covers (node_of L page) key → ((low high : ℕ) → Rises low high (pairs_of L page) → was ≡ lookup_at (pairs_of L page) key) → (IsLeaf L page → IsLeafWith L page after (del_pair (pairs_of L page) key)) → IsLeaf L page → IsEdit L page after (Del key) (Gone was)
   del-edit key was covers is dels leaf = (covers, is _ _ leaf.node.rises, dels leaf)
 
+  -- the put of a leaf where the key has the value that is wanted is the swap
+  pub swap-edit : (key want value : ℕ) (was : Option ℕ) → was ≡ Some want → Covers (node_of L page) key → (IsLeaf L page → Covers (node_of L page) key → PutsInLeaf L page after key value was) → IsLeaf L page → IsEdit L page after (Swap key want value) (Swapped swaps.Done)
+  swap-edit key want value was is covers puts leaf = let k = puts leaf covers in (covers, sym k.was_there ∙ is, k.after)
+
   -- it does so by whatever reading of what is said
   pub edit-as : (said other : Said) → said ≡ other → (IsLeaf L page → IsEdit L page after other.call other.reply) → IsLeaf L page → IsEdit L page after said.call said.reply
   edit-as said other same edit = subst (λ (s : Said). IsLeaf L page → IsEdit L page after s.call s.reply) (sym same) edit
 
--- a reply with a value is not that of a key that was missing
-had-not : (key was : ℕ) → ¬ (IsVain (record { call = Del key; reply = Gone (Some was) }))
-had-not key was k = let no : Gone (Some was) ≡ Gone None = ap (λ (s : Said). s.reply) k.1 in absurd (cc)
+-- another value is not the one that is wanted
+not-wanted : (there want : ℕ) → Some there ≢ Some want → there ≢ want
+not-wanted there want other same = other (ap Some same)
 
--- a put is no del
-pub put-not : (key value : ℕ) (reply : Reply) → ¬ (IsVain (record { call = Put key value; reply = reply }))
-put-not key value reply k = let no : Put key value ≡ Del k.0 = ap (λ (s : Said). s.call) k.1 in absurd (cc)
+-- what is said of a swap, by the value that the key has
+pub swap-said : (said : Said) (key want value : ℕ) (there : Option ℕ) (outcome : Outcome) → said ≡ record { call = Swap key want value; reply = Swapped outcome } → outcome ≡ outcome_of there want → said ≡ record { call = Swap key want value; reply = swap_reply want there }
+swap-said said key want value there outcome same is = same ∙ (λ i. record { call = Swap key want value; reply = Swapped (is i) })
+
+-- a leaf in which the key has not the value that is wanted proves the swap's reply
+pub swap-proved : (L : Layout) (words : List ℕ) (key want value : ℕ) (there : Option ℕ) → Covers (node_of L words) key → there ≢ Some want → there ≡ lookup_at (pairs_of L words) key → IsProved L words (Swap key want value) (swap_reply want there)
+swap-proved L words key want value None covers other is = (covers, sym is)
+swap-proved L words key want value (Some there) covers other is =
+    let ne = not-wanted there want other in subst (λ (o : Outcome). IsProved L words (Swap key want value) (Swapped o)) (sym (outcome-kept (Some there) there want refl ne)) (covers, sym is, ne)
+
+-- such a swap writes nothing
+kept-vain : (key want value : ℕ) (there : Option ℕ) → there ≢ Some want → IsVain (record { call = Swap key want value; reply = swap_reply want there })
+kept-vain key want value None other = tt
+kept-vain key want value (Some there) other = subst (λ (o : Outcome). WritesNothing (Swap key want value) (Swapped o)) (sym (outcome-kept (Some there) there want refl (not-wanted there want other))) tt
+
+-- a swap that is done writes
+swap-not : (key want value : ℕ) → ¬ (IsVain (record { call = Swap key want value; reply = swap_reply want (Some want) }))
+swap-not key want value = subst (λ (o : Outcome). ¬ (WritesNothing (Swap key want value) (Swapped o))) (sym (outcome-done (Some want) want refl)) (λ none. none)
 
 module _ {S : Type 0} (plain : S → Said) (L : Layout) where
   -- a write that was read as this, of what was read before
@@ -146,11 +169,20 @@ module _ {S : Type 0} (plain : S → Said) (L : Layout) where
 
   pub del-done : (said : Said) (key was : ℕ) (page : List ℕ) (v x w : View S) → said ≡ record { call = Del key; reply = Gone (Some was) } → ReadsOn v x → (a : IsWriteDone plain L said x w) × (a.old ≡ page)
       → (IsWriteDone plain L (record { call = Del key; reply = Gone (Some was) }) v w × ¬ (IsVain (record { call = Del key; reply = Gone (Some was) }))) ⊎ (IsAnswered plain L (record { call = Del key; reply = Gone (Some was) }) v w × IsVain (record { call = Del key; reply = Gone (Some was) }))
-  del-done said key was page v x w same reads a = inl ((done-as said _ page v x w same reads a).0, had-not key was)
+  del-done said key was page v x w same reads a = inl ((done-as said _ page v x w same reads a).0, λ none. none)
 
   pub del-missed : (said : Said) (key : ℕ) (v x w : View S) → said ≡ record { call = Del key; reply = Gone None } → ReadsOn v x → IsAnswered plain L said x w
       → (IsWriteDone plain L (record { call = Del key; reply = Gone None }) v w × ¬ (IsVain (record { call = Del key; reply = Gone None }))) ⊎ (IsAnswered plain L (record { call = Del key; reply = Gone None }) v w × IsVain (record { call = Del key; reply = Gone None }))
-  del-missed said key v x w same reads a = inr (answered-later plain L _ v x w reads (answered-as plain L said _ x w same a), (key, refl))
+  del-missed said key v x w same reads a = inr (answered-later plain L _ v x w reads (answered-as plain L said _ x w same a), tt)
+
+  pub swap-done : (said : Said) (key want value : ℕ) (page : List ℕ) (v x w : View S) → said ≡ record { call = Swap key want value; reply = Swapped swaps.Done } → ReadsOn v x → (a : IsWriteDone plain L said x w) × (a.old ≡ page)
+      → IsSwap plain L key want value (tries.Done (swap_reply want (Some want))) v w
+  swap-done said key want value page v x w same reads a =
+      inl ((done-as said _ page v x w (swap-said said key want value (Some want) swaps.Done same (sym (outcome-done (Some want) want refl))) reads a).0, swap-not key want value)
+
+  pub swap-kept : (said : Said) (key want value : ℕ) (there : Option ℕ) (v x w : View S) → said ≡ record { call = Swap key want value; reply = swap_reply want there } → there ≢ Some want → ReadsOn v x → IsAnswered plain L said x w
+      → IsSwap plain L key want value (tries.Done (swap_reply want there)) v w
+  swap-kept said key want value there v x w same other reads a = inr (answered-later plain L _ v x w reads (answered-as plain L said _ x w same a), kept-vain key want value there other)
 
 module _ {S : Type 0} (plain : S → Said) (L : Layout) (spare : List ℕ → ℕ) where
   pub put-done : (said : Said) (key value : ℕ) (was : Option ℕ) (page : List ℕ) (v x w : View S) → said ≡ record { call = Put key value; reply = Was was } → HasRoomFor L spare page key → ReadsOn v x → (a : IsWriteDone plain L said x w) × (a.old ≡ page)

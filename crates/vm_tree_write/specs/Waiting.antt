@@ -39,7 +39,7 @@ module _ {S : Type 0} (plain : S → Said) (L : Layout) where
     pub parts : (w.used ≡ v.used) × (w.fresh ≡ v.fresh)
 
 module _ {X : Type 0} (L : Layout) where
-  -- a round of a del is that of a read, but for the lock that it may have tried
+  -- a round of a del or a swap is that of a read, but for the lock that it may have tried
   abbrev pub IsDelRound : ℕ → View X → View X → Type 0
   IsDelRound key v w = IsRound L UnlockedExpected key v w
 

@@ -1,7 +1,9 @@
 -- What a write of the tree answers: the reply at the release of the leaf, or why it is to be tried again.
 use Rattle.std.specs.Prelude.{[], ◌++◌, ◌+◌, ◌∷◌, ◌≡◌, ◌≢◌, ◌⊎◌, Bool, List, None, Option, slice_index, Some, true, ℕ}
-use Rattle.vm_map.specs.{declared.call.Call.TheVariants.Del, declared.call.Call.TheVariants.Put, declared.call.Reply.TheVariants.Gone}
-use Rattle.vm_map.specs.{declared.call.Reply.Reply, declared.call.Said.Said}
+use Rattle.vm_map.specs.{declared.call.Call.Call, declared.call.Reply.Reply, declared.call.Said.Said, History.outcome_of}
+use Rattle.vm_map.specs.declared.call.Call.TheVariants.{Del, Put, Swap}
+use Rattle.vm_map.specs.declared.call.Reply.TheVariants.{Gone, Swapped}
+use Rattle.vm_map.specs.declared.call.Swap.TheVariants as swaps
 use Rattle.vm_map.specs.Map.{lookup_at, Rises}
 use Rattle.vm_tree_model.specs.{Edits.IsFullFor, Layout.Layout, Node.Covers, Tree.map_of}
 use Rattle.vm_tree_model.specs.Page.{IsLeaf, node_of, pairs_of}
@@ -65,6 +67,10 @@ TellTight L spare loaded key = (words : List ℕ) → IsPageWith L.words loaded 
 -- where the keys of these words rise, one of them is this key
 abbrev pub HasKeyIn : Layout → List ℕ → ℕ → Type 0
 HasKeyIn L words key = (low high : ℕ) → Rises low high (pairs_of L words) → lookup_at (pairs_of L words) key ≢ None
+
+-- where the keys of these words rise, this key has this value
+abbrev pub HasValueIn : Layout → List ℕ → ℕ → ℕ → Type 0
+HasValueIn L words key value = (low high : ℕ) → Rises low high (pairs_of L words) → lookup_at (pairs_of L words) key ≡ Some value
 
 module _ {X : Type 0} (L : Layout) where
   -- a page could not be read, or the leaf not be locked at the version that was read, as the steps of the call show; or blocks do not tell their
@@ -145,9 +151,15 @@ module _ {S : Type 0} (plain : S → Said) (L : Layout) where
     pub last : (last_of w page).version ≡ version + 1
     pub told : v.start.tells ≡ true → IsBorneOutBy page old new said v w
 
--- a del of a key that its leaf has not: it writes nothing
+-- a del of a key that its leaf has not, or a swap of such a key or of one whose value is not the one that is wanted: it writes nothing
+abbrev pub WritesNothing : Call → Reply → Type 0
+WritesNothing (Del key) (Gone None) = Unit {0}
+WritesNothing (Swap key want value) (Swapped (swaps.Kept there)) = Unit {0}
+WritesNothing (Swap key want value) (Swapped swaps.Missing) = Unit {0}
+WritesNothing _ _ = ⊥
+
 abbrev pub IsVain : Said → Type 0
-IsVain said = (key : ℕ) × (said ≡ record { call = Del key; reply = Gone None })
+IsVain said = WritesNothing said.call said.reply
 
 module _ {S : Type 0} (plain : S → Said) (L : Layout) where
   -- a try of a put: made in a leaf that had the key or room; or the leaf is full; or to be tried again; or for a page that is needed; or such a leaf as
@@ -168,6 +180,19 @@ module _ {S : Type 0} (plain : S → Said) (L : Layout) where
   IsDel key (tries.Need p) v w = ReadsOn v w × IsNeeded L v key p w
   IsDel key (tries.Worn p) v w = ReadsOn v w × (a : IsWornLeaf L v key p w) × HasKeyIn L a.words key
   IsDel key (tries.Tight p) v w = ⊥
+
+  -- a try of a swap: made in a leaf where the key has the value that is wanted, which may be at the last version; or answered by a validation of a leaf
+  -- where it has not, which locks nothing, at whatever version
+  abbrev pub IsSwap : ℕ → ℕ → ℕ → TryWrite → View S → View S → Type 0
+  IsSwap key want value (tries.Done reply) v w = (IsWriteDone plain L (record { call = Swap key want value; reply = reply }) v w × ¬ (IsVain (record { call = Swap key want value; reply = reply }))) ⊎ (IsAnswered plain L (record { call = Swap key want value; reply = reply }) v w × IsVain (record { call = Swap key want value; reply = reply }))
+  IsSwap key want value (tries.Again saw) v w = ReadsOn v w × IsWriteToTry L v key saw w
+  IsSwap key want value (tries.Need p) v w = ReadsOn v w × IsNeeded L v key p w
+  IsSwap key want value (tries.Worn p) v w = ReadsOn v w × (a : IsWornLeaf L v key p w) × HasValueIn L a.words key want
+  IsSwap key want value (tries.Tight p) v w = ⊥
+
+-- the reply to a swap, by the value that the key had
+abbrev pub swap_reply : ℕ → Option ℕ → Reply
+swap_reply want was = Swapped (outcome_of was want)
 
 -- a try with its reply, which is made of the value that the key had
 abbrev pub with_reply : (Option ℕ → Reply) → Tried → TryWrite

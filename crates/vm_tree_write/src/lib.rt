@@ -1,4 +1,4 @@
-//! Writes of the tree: a put and a del, made in the leaf that covers the key, at the step that releases it; and splits of full nodes.
+//! Writes of the tree: a put, a del and a swap, made in the leaf that covers the key, at the step that releases it; and splits of full nodes.
 #![tactic(auto)]
 
 pub mod draft;
@@ -10,5 +10,5 @@ pub mod waiting;
 pub mod write;
 
 pub use tries::{TrySplit, try_split};
-pub use waiting::{del, put};
-pub use write::{TryWrite, try_del, try_put};
+pub use waiting::{del, put, swap};
+pub use write::{TryWrite, try_del, try_put, try_swap};

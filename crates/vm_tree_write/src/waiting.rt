@@ -1,21 +1,21 @@
 // The writes that wait: they try again until they are answered, and bring the pages that they need.
 ghost use Rattle.std.specs.Prelude.{◌<◌, ◌≡◌, ◌≤◌, IfErr, IfOk, None};
-ghost use Rattle.vm_map.specs.declared.call.Call.TheVariants.{Del, Put};
+ghost use Rattle.vm_map.specs.declared.call.Call.TheVariants.{Del, Put, Swap as ForSwap};
 ghost use Rattle.vm_step.specs.Prelude.{AreHeld, IsReady, IsSamePass, view};
 ghost use Rattle.vm_tree_read.specs.Reads.{IsOfKind};
 ghost use Rattle.vm_tree_read.specs.Waiting.{LosesNone, Waits};
 ghost use Rattle.vm_tree_write.specs.{Splits.KeepsLocksOnly, Tries.IsTrySplit};
 ghost use Rattle.vm_tree_write.specs.Waiting.{IsDelRound, IsNoRoomFault, IsPutFaulted, IsPutRound, IsRoomFault, IsWriteFaulted, IsWriteReplied};
-ghost use Rattle.vm_tree_write.specs.Writes.{HasKeyIn};
+ghost use Rattle.vm_tree_write.specs.Writes.{HasKeyIn, HasValueIn};
 
 use crate::tries::{TrySplit, try_split};
-use crate::write::{Tried, del_once, put_once};
+use crate::write::{Tried, del_once, put_once, swap_once};
 use crossbeam_utils::Backoff;
 use std::sync::Wait;
 use vm_block::PageBlock;
 use vm_exmap::Interface;
 use vm_kind::{Edits, Kind, TreeOf};
-use vm_map::call::Reply;
+use vm_map::call::{Reply, Swap};
 use vm_pool::{Pool, dry_cause};
 use vm_rule::words::Pass;
 use vm_tree_read::waiting::{fetch, settle};
@@ -46,6 +46,47 @@ pub fn del<K: Edits, R: Wait, B: PageBlock<N>, const N: usize>(
     for _ in rt.forever() {
         match del_once(&pool.words, pass, key) {
             Tried::Done(was) => return Ok(Reply::Gone(was)),
+            Tried::Again(_) => backoff.snooze(),
+            Tried::Need(pid) => match fetch(pool, pass, iface, pid, &backoff) {
+                Ok(()) => {}
+                Err(fault) => return Err(fault),
+            },
+            Tried::Worn(pid) => return Err(TreeFault::Worn { pid }),
+            Tried::Tight(_) => unreachable!(),
+        }
+    }
+    unreachable!()
+}
+
+/// Puts a value at the key where its value is the one that is wanted.
+pub fn swap<K: Edits, R: Wait, B: PageBlock<N>, const N: usize>(
+    rt: &R,
+    pool: &Pool<TreeOf<K>, B, N>,
+    pass: &mut Pass<TreeOf<K>>,
+    iface: &mut Interface,
+    key: &K::Key,
+    want: u64,
+    value: u64,
+) -> Result<Reply, TreeFault>
+    requires ready { IsReady pool.now.words.table.shared.key B.tells pool.now.words.table.shared.table_id pass.old }
+    requires pages { 1 ≤ pool.now.words.table.shared.key.pages }
+    requires home { (view pass.old).out ≡ None }
+    requires frames { AreHeld iface.old.frames (view pass.old) }
+    ensures pass { IsSamePass pass.old pass.new }
+    ensures ready { IsReady pool.now.words.table.shared.key B.tells pool.now.words.table.shared.table_id pass.new }
+    ensures held { AreHeld iface.new.frames (view pass.new) }
+    ensures iface { (iface.new.home ≡ iface.old.home) × (iface.new.cap ≡ iface.old.cap) }
+    ensures lost { LosesNone iface.old.frames (view pass.old) iface.new.frames (view pass.new) }
+    ensures ok { IfOk result (λ reply. IsWriteReplied K.plain K.layout Waits (IsDelRound K.layout)
+        (record { call = ForSwap (K.rank key.now) want value; reply = reply }) (view pass.old) (view pass.new)) }
+    ensures kind { IfOk result (λ reply. IsOfKind (ForSwap (K.rank key.now) want value) reply) }
+    ensures err { IfErr result (λ fault. IsWriteFaulted K.layout Waits (IsDelRound K.layout) (λ words key. HasValueIn K.layout words key want)
+        (K.rank key.now) fault (view pass.old) (view pass.new)) }
+{
+    let backoff = Backoff::new();
+    for _ in rt.forever() {
+        match swap_once(&pool.words, pass, key, want, value) {
+            Tried::Done(was) => return Ok(Reply::Swapped(Swap::outcome(was, want))),
             Tried::Again(_) => backoff.snooze(),
             Tried::Need(pid) => match fetch(pool, pass, iface, pid, &backoff) {
                 Ok(()) => {}

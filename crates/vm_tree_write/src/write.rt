@@ -1,6 +1,7 @@
 // The writes that never wait: each answers, or says why it is to be tried again.
-ghost use Rattle.std.specs.Prelude.{◌+◌, ◌<◌, ◌≡◌, ◌≤◌, List, None, true, ℕ};
-ghost use Rattle.vm_map.specs.declared.{call.Call.TheVariants.Del, call.Reply.TheVariants.Gone, call.Reply.TheVariants.Was};
+ghost use Rattle.std.specs.Prelude.{◌+◌, ◌<◌, ◌≡◌, ◌≢◌, ◌≤◌, false, List, None, Some, true, ℕ};
+ghost use Rattle.vm_map.specs.declared.call.Call.TheVariants.{Del, Swap as ForSwap};
+ghost use Rattle.vm_map.specs.declared.call.Reply.TheVariants.{Gone, Was};
 ghost use Rattle.vm_tree_model.specs.{Node.Covers, Page.node_of};
 ghost use Rattle.vm_node.specs.Loads.{IsPageWith, Tells};
 ghost use Rattle.vm_step.specs.Prelude.{IsReady, IsSamePass, MayStep, UnlockedExpected, view};
@@ -10,13 +11,13 @@ ghost use Rattle.vm_tree_rule.specs.{Few.ReadsInPlace, Resident.IsKnownNow, Resi
 ghost use Rattle.vm_tree_rule.specs.Turns.{IsTurnedBack, TellLeaf};
 ghost use Rattle.vm_tree_read.specs.Reads.{TellReply};
 ghost use Rattle.vm_kind.specs.Room.{HasRoomFor, IsTightFor};
-ghost use Rattle.vm_tree_write.specs.Writes.{HasKeyIn, IsDel, IsFinal, IsPut, SaysWorn, TellTight, with_reply};
+ghost use Rattle.vm_tree_write.specs.Writes.{HasKeyIn, HasValueIn, IsDel, IsFinal, IsPut, IsSwap, SaysWorn, swap_reply, TellTight, with_reply};
 
 use crate::leaf::write_leaf;
 use vm_block::Block;
 use vm_guard::{Deny, OptGuard};
 use vm_kind::{Edits, Kind, TreeOf};
-use vm_map::call::Reply;
+use vm_map::call::{Reply, Swap};
 use vm_node::Place;
 use vm_rule::words::{Pass, Words};
 use vm_step::{Saw, frame_place};
@@ -27,7 +28,8 @@ use vm_tree_rule::{InPlace, Turn};
 /// What a try of a write answers.
 #[derive(Debug, Drop)]
 pub enum TryWrite {
-    /// The reply, at the step that released the leaf, or that validated a leaf without the key of a del.
+    /// The reply, at the step that released the leaf, or that validated a leaf in which there is nothing to write: it has not the key of a del or a swap,
+    /// or not the value that a swap wants.
     Done(Reply),
     /// A page's word had changed, or the page was Locked, or the leaf had shares: the call may be tried again. So it may where blocks do not tell
     /// their words and a page has not those that the way to it asks for: both words are the one that the page was read at.
@@ -55,6 +57,7 @@ pub(crate) enum Tried {
 fn not_yet<K: Kind>(turn: Turn) -> Tried
     ensures put { (key value : _) (v w : _) → IsTurnedBack K.layout v key turn w → IsPut K.plain K.layout K.spare key value (with_reply Was result) v w }
     ensures del { (key : _) (v w : _) → IsTurnedBack K.layout v key turn w → IsDel K.plain K.layout key (with_reply Gone result) v w }
+    ensures swap { (key want value : _) (v w : _) → IsTurnedBack K.layout v key turn w → IsSwap K.plain K.layout key want value (with_reply (swap_reply want) result) v w }
 {
     match turn {
         Turn::Again(saw) => Tried::Again(saw),
@@ -72,6 +75,9 @@ fn unwritten<K: Kind>(deny: Deny) -> Tried
     ensures del { (key p word frame : _) (page : _) (v x w : _) → IsOpened v p word frame x → Awaits K.layout x p word 0 key → HasRead x p page
         → ((node_of K.layout page).tag ≡ 2) × Covers (node_of K.layout page) key → HasKeyIn K.layout page key
         → IsDenied AgainOrWorn (KeptWord word) UnlockedExpected p deny x w → IsDel K.plain K.layout key (with_reply Gone result) v w }
+    ensures swap { (key want value p word frame : _) (page : _) (v x w : _) → IsOpened v p word frame x → Awaits K.layout x p word 0 key → HasRead x p page
+        → ((node_of K.layout page).tag ≡ 2) × Covers (node_of K.layout page) key → HasValueIn K.layout page key want
+        → IsDenied AgainOrWorn (KeptWord word) UnlockedExpected p deny x w → IsSwap K.plain K.layout key want value (with_reply (swap_reply want) result) v w }
     ensures settled { (reply : _) → SaysWorn deny → IsFinal (with_reply reply result) }
 {
     match deny {
@@ -287,6 +293,114 @@ pub fn try_del<K: Edits, B: Block>(
 {
     match del_once(words, pass, key) {
         Tried::Done(was) => TryWrite::Done(Reply::Gone(was)),
+        Tried::Again(saw) => TryWrite::Again(saw),
+        Tried::Need(pid) => TryWrite::Need(pid),
+        Tried::Worn(pid) => TryWrite::Worn(pid),
+        Tried::Tight(pid) => TryWrite::Tight(pid),
+    }
+}
+
+/// Answers a swap of a key that has not the value that is wanted, as words loaded of the leaf tell, once they are validated.
+fn kept<K: Kind, B: Block>(
+    words: &Words<TreeOf<K>, B>,
+    pass: &mut Pass<TreeOf<K>>,
+    guard: &OptGuard,
+    key: &K::Key,
+    want: u64,
+    value: u64,
+    there: Option<u64>,
+) -> Tried
+    requires ready { IsReady words.now.table.shared.key B.tells words.now.table.shared.table_id pass.old }
+    requires reading { IsReading guard.now.pid guard.now.word guard.now.frame (view pass.old) }
+    requires other { there ≢ Some want }
+    requires proves { (loaded : List (ℕ × ℕ)) × HasLoaded (view pass.old) guard.now.pid loaded
+        × TellReply K.layout loaded (record { call = ForSwap (K.rank key.now) want value; reply = swap_reply want there }) }
+    ensures pass { IsSamePass pass.old pass.new }
+    ensures ready { IsReady words.now.table.shared.key B.tells words.now.table.shared.table_id pass.new }
+    ensures swap { (v : _) → IsOpened v guard.now.pid guard.now.word guard.now.frame (view pass.old)
+        → IsSwap K.plain K.layout (K.rank key.now) want value (with_reply (swap_reply want) result) v (view pass.new) }
+    ensures sure { IsKnownNow guard.now.pid guard.now.word (view pass.old) → IsFinal (with_reply (swap_reply want) result) }
+    ensures known { IsKnownNow guard.now.pid guard.now.word (view pass.old) → KnowsResident (view pass.new) }
+{
+    let said = K::swapped(key, want, value, Swap::outcome(there, want));
+    match answer(words, pass, guard, &said) {
+        Ok(()) => Tried::Done(there),
+        Err(saw) => Tried::Again(saw),
+    }
+}
+
+/// Whether the key's value is not the one that is wanted.
+fn is_other(there: Option<u64>, want: u64) -> bool
+    ensures yes { result ≡ true → there ≢ Some want }
+    ensures no { result ≡ false → there ≡ Some want }
+{
+    match there {
+        None => true,
+        Some(value) => value != want,
+    }
+}
+
+/// Puts a value at the key where its value is the one that is wanted, or says why not. The leaf is read whole only where it is.
+pub(crate) fn swap_once<K: Edits, B: Block>(
+    words: &Words<TreeOf<K>, B>,
+    pass: &mut Pass<TreeOf<K>>,
+    key: &K::Key,
+    want: u64,
+    value: u64,
+) -> Tried
+    requires pass { MayStep words.now.table.shared.table_id pass.old }
+    requires pages { 1 ≤ words.now.table.shared.key.pages }
+    requires home { (view pass.old).out ≡ None }
+    ensures pass { IsSamePass pass.old pass.new }
+    ensures ready { IsReady words.now.table.shared.key B.tells words.now.table.shared.table_id pass.new }
+    ensures tried { IsSwap K.plain K.layout (K.rank key.now) want value (with_reply (swap_reply want) result) (view pass.old) (view pass.new) }
+    ensures sure { B.tells ≡ true → KnowsResident (view pass.old) → IsFinal (with_reply (swap_reply want) result) }
+    ensures known { B.tells ≡ true → KnowsResident (view pass.old) → KnowsResident (view pass.new) }
+{
+    let guard = match leaf_at(words, pass, key) {
+        Ok(guard) => guard,
+        Err(turn) => return not_yet::<K>(turn),
+    };
+    let found = find_in_place(words, pass, &guard, key);
+    if is_other(found, want) {
+        return kept(words, pass, &guard, key, want, value, found);
+    }
+    let mut page = K::zero();
+    if let Err(turn) = read_leaf(words, pass, &guard, key, &mut page) {
+        return not_yet::<K>(turn);
+    }
+    let Ok((was, edit)) = K::put_edit(&page, key, value) else {
+        return kept(words, pass, &guard, key, want, value, None);
+    };
+    if is_other(was, want) {
+        return kept(words, pass, &guard, key, want, value, was);
+    }
+    let said = K::swapped(key, want, value, Swap::Done);
+    match write_leaf(words, pass, guard, &page, edit, &said) {
+        Ok(()) => Tried::Done(Some(want)),
+        Err(deny) => unwritten::<K>(deny),
+    }
+}
+
+/// Puts a value at the key where its value is the one that is wanted. Where it is not nothing is locked.
+pub fn try_swap<K: Edits, B: Block>(
+    words: &Words<TreeOf<K>, B>,
+    pass: &mut Pass<TreeOf<K>>,
+    key: &K::Key,
+    want: u64,
+    value: u64,
+) -> TryWrite
+    requires pass { MayStep words.now.table.shared.table_id pass.old }
+    requires pages { 1 ≤ words.now.table.shared.key.pages }
+    requires home { (view pass.old).out ≡ None }
+    ensures pass { IsSamePass pass.old pass.new }
+    ensures ready { IsReady words.now.table.shared.key B.tells words.now.table.shared.table_id pass.new }
+    ensures tried { IsSwap K.plain K.layout (K.rank key.now) want value result (view pass.old) (view pass.new) }
+    ensures sure { B.tells ≡ true → KnowsResident (view pass.old) → IsFinal result }
+    ensures known { B.tells ≡ true → KnowsResident (view pass.old) → KnowsResident (view pass.new) }
+{
+    match swap_once(words, pass, key, want, value) {
+        Tried::Done(was) => TryWrite::Done(Reply::Swapped(Swap::outcome(was, want))),
         Tried::Again(saw) => TryWrite::Again(saw),
         Tried::Need(pid) => TryWrite::Need(pid),
         Tried::Worn(pid) => TryWrite::Worn(pid),

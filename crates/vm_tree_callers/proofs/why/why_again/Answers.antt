@@ -3,11 +3,11 @@ use Rattle.vm_step.specs.Prelude.{Origin}
 use Rattle.vm_tree_callers.proofs.Evidence.{again-other, again-seen}
 use Rattle.vm_tree_callers.proofs.why.why_again.Goals as goal
 
-pub returns-in-Again-clause-seen : goal.returns-in-Again-clause-seen
-returns-in-Again-clause-seen g c = again-seen g.K.Kind.layout (g.K.Kind.rank c.args.key.now) _ _ _ c.in-Again.ensures.tried.1
+pub returns-clause-seen : goal.returns-clause-seen
+returns-clause-seen g c = again-seen g.K.Kind.layout (g.K.Kind.rank c.args.key.now) _ _ _ c.in-Again.ensures.tried.1
 
-pub returns-in-Again-clause-other : goal.returns-in-Again-clause-other
-returns-in-Again-clause-other g c tells =
+pub returns-clause-other : goal.returns-clause-other
+returns-clause-other g c tells =
     let tried = c.in-Again.ensures.tried in
     let told = sym (ap (λ (o : Origin). o.tells) tried.0.0.start) ∙ c.in-Again.ensures.ready.table.tells_is ∙ tells in
     again-other g.K.Kind.layout (g.K.Kind.rank c.args.key.now) _ _ _ (λ no. true≢false (sym told ∙ no)) tried.1

@@ -5,8 +5,11 @@ use Rattle.vm_tree_rule.proofs.Readings.{loads-reads, opened-loads, reads-then}
 use Rattle.vm_tree_read.proofs.Reckoning.{place-few}
 use Rattle.vm_tree_read.proofs.answer.leaf_at.Goals as goal
 
+pub returns-in-Err-clause-sure_shared : goal.returns-in-Err-clause-sure_shared
+returns-in-Err-clause-sure_shared g c shares tells k = c.in-Err.ensures.sure shares tells k
+
 pub returns-in-Err-clause-sure : goal.returns-in-Err-clause-sure
-returns-in-Err-clause-sure g c tells k = c.in-Err.ensures.sure tells k
+returns-in-Err-clause-sure g c tells k = c.in-Err.ensures.sure _ tells k
 
 pub returns-in-Err-clause-few : goal.returns-in-Err-clause-few
 returns-in-Err-clause-few g c = within-wider _ _ _ _ (λ h. omega arith) c.in-Err.ensures.few
@@ -24,10 +27,15 @@ returns-then-is_leaf_in_place-clause-leaf g c =
 pub returns-then-is_leaf_in_place-clause-awaits : goal.returns-then-is_leaf_in_place-clause-awaits
 returns-then-is_leaf_in_place-clause-awaits g c = awaits-later _ _ _ _ _ _ (loads-reads _ _ _ _ _ _ c.is_leaf_in_place.ensures.found.loads).0 c.in-Ok.ensures.awaits
 
+pub returns-then-is_leaf_in_place-clause-known_shared : goal.returns-then-is_leaf_in_place-clause-known_shared
+returns-then-is_leaf_in_place-clause-known_shared g c shares tells k =
+    let loads = c.is_leaf_in_place.ensures.found.loads in
+    known-same _ _ _ _ (loads-reads _ _ _ _ _ _ loads).0 loads.table (c.in-Ok.ensures.known shares tells k)
+
 pub returns-then-is_leaf_in_place-clause-known : goal.returns-then-is_leaf_in_place-clause-known
 returns-then-is_leaf_in_place-clause-known g c tells k =
     let loads = c.is_leaf_in_place.ensures.found.loads in
-    known-same _ _ _ _ (loads-reads _ _ _ _ _ _ loads).0 loads.table (c.in-Ok.ensures.known tells k)
+    known-same _ _ _ _ (loads-reads _ _ _ _ _ _ loads).0 loads.table (c.in-Ok.ensures.known _ tells k)
 
 pub returns-then-is_leaf_in_place-clause-height : goal.returns-then-is_leaf_in_place-clause-height
 returns-then-is_leaf_in_place-clause-height g c =
@@ -45,12 +53,15 @@ returns-clause-err g c =
     c.no_leaf.ensures.turn _ (g.K.Kind.rank c.args.key.now) f.loaded (opened-loads _ _ _ _ _ _ _ c.in-Ok.ensures.reads.1 f.loads) (awaits-later _ _ _ _ _ _ (loads-reads _ _ _ _ _ _ f.loads).0 c.in-Ok.ensures.awaits)
     (_, f.loads.loads) (λ page with. (f.tells page with).no c.if-is_leaf_in_place.false)
 
-pub returns-clause-sure : goal.returns-clause-sure
-returns-clause-sure g c tells k =
+pub returns-clause-sure_shared : goal.returns-clause-sure_shared
+returns-clause-sure_shared g c shares tells k =
     let f = c.is_leaf_in_place.ensures.found in
     let reads = (loads-reads _ _ _ _ _ _ f.loads).0 in
-    absurd (c.no_leaf.ensures.sure (g.K.Kind.rank c.args.key.now) f.loaded tells (known-same _ _ _ _ reads f.loads.table (c.in-Ok.ensures.known tells k)) (awaits-later _ _ _ _ _ _ reads c.in-Ok.ensures.awaits)
+    absurd (c.no_leaf.ensures.sure shares (g.K.Kind.rank c.args.key.now) f.loaded tells (known-same _ _ _ _ reads f.loads.table (c.in-Ok.ensures.known shares tells k)) (awaits-later _ _ _ _ _ _ reads c.in-Ok.ensures.awaits)
     (_, f.loads.loads) (λ page with. (f.tells page with).no c.if-is_leaf_in_place.false))
+
+pub returns-clause-sure : goal.returns-clause-sure
+returns-clause-sure g c tells k = returns-clause-sure_shared g c (λ _. 0) tells k
 
 pub returns-clause-few : goal.returns-clause-few
 returns-clause-few g c =

@@ -20,7 +20,7 @@ returns-in-Ok-clause-turn g c =
     (no_tree.leafless loaded (has.0, (valid.same_reads _).loads ∙ has.1) none))
 
 pub returns-in-Ok-clause-sure : goal.returns-in-Ok-clause-sure
-returns-in-Ok-clause-sure g c key loaded tells known awaits has none =
+returns-in-Ok-clause-sure g c shares key loaded tells known awaits has none =
     let valid = c.in-Ok.ensures.ok in
     let told = c.requires.ready.table.tells_is ∙ tells in
     leaf-must g.K.Kind.layout _ _ _ key loaded _ (last_of (view c.validate_silently.new.pass) c.args.guard.now.pid).words c.requires.reading has awaits told (valid.size ∙ tree-size _ _ _ c.validate_silently.ensures.ready.table.is_shape.size c.args.words.now.sized.0 c.args.words.now.size.takes) (valid.validates told) none
@@ -29,4 +29,4 @@ pub returns-in-Err-clause-turn : goal.returns-in-Err-clause-turn
 returns-in-Err-clause-turn g c u key loaded o awaits has none = refused-turn _ _ _ g.K.Kind.layout key _ u _ _ _ o (reads-self _) (leaves-self _ _) c.in-Err.ensures.err
 
 pub returns-in-Err-clause-sure : goal.returns-in-Err-clause-sure
-returns-in-Err-clause-sure g c key loaded tells known awaits has none = true≢false (sym (c.in-Err.ensures.sure known.resident.alone (known-at _ _ _ known)))
+returns-in-Err-clause-sure g c shares key loaded tells known awaits has none = true≢false (sym (c.in-Err.ensures.sure known.resident.alone (known-at _ _ _ known)))

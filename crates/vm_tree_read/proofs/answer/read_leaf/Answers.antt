@@ -21,7 +21,7 @@ pub returns-clause-sure : goal.returns-clause-sure
 returns-clause-sure g c tells k awaits =
     let loads = c.read_all.ensures.loads in
     let reads = (loads-reads _ _ _ _ _ _ loads).0 in
-    absurd (c.no_leaf.ensures.sure (g.K.Kind.rank c.args.key.now) (placed 0 (g.K.Pages.words_of c.read_all.new.into)) tells (known-same _ _ _ _ reads loads.table k) (awaits-later _ _ _ _ _ _ reads awaits)
+    absurd (c.no_leaf.ensures.sure _ (g.K.Kind.rank c.args.key.now) (placed 0 (g.K.Pages.words_of c.read_all.new.into)) tells (known-same _ _ _ _ reads loads.table k) (awaits-later _ _ _ _ _ _ reads awaits)
     (_, loads.loads)
     (none-whole g.K.Kind.layout (g.K.Pages.words_of c.read_all.new.into) (g.K.Kind.rank c.args.key.now) c.read_all.ensures.size (elim c.else-is_leaf.branch [
       | else-is_leaf-via-then-is_leaf+else-covers w ↦ inr (w.covers.ensures.1 w.if-covers.false)

@@ -21,7 +21,7 @@ loop-init g c = record {
   opened = c.in-Ok.ensures.ok.0;
   left = omega arith;
   words = record { loaded = c.in-Ok.top.stand.guard.pid ∷ c.in-Ok.top.stand.level ∷ []; words = c.in-Ok.ensures.words; two = omega arith; is = refl; few = omega arith; tells = c.in-Ok.ensures.height };
-  known = λ tells k. (c.in-Ok.ensures.known tells k).0;
+  known = λ shares tells k. (c.in-Ok.ensures.known shares tells k).0;
   level = whole c.in-Ok.top.stand.level;
   stands = c.in-Ok.ensures.ok.1;
 }
@@ -50,7 +50,7 @@ loop-preserved g c =
       opened = opened-earlier _ _ _ _ _ _ i.reads k.reads.1;
       left = omega (arith, less);
       words = height-more (2 + g.K.Kind.bounds.child * c.loop.counter) g.K.Kind.bounds.child (2 + g.K.Kind.bounds.child * (c.loop.counter + 1)) _ _ _ _ i.words k.few (one-more g.K.Kind.bounds.child c.loop.counter);
-      known = λ tells r. (k.known tells (i.known tells r)).0;
+      known = λ shares tells r. (k.known shares tells (i.known shares tells r)).0;
       level = level-on c.in-Ok.top.stand.level c.loop.counter c.loop.stand.level _ i.level k.level less;
       stands = k.stands;
     }
@@ -76,7 +76,7 @@ returns-clause-awaits g c =
     (stand-awaits g.K.Kind.rank (g.K.Kind.rank c.args.key.now) c.loop.stand _ i.stands)
 
 pub returns-clause-known : goal.returns-clause-known
-returns-clause-known g c tells k = c.loop.invariant.known tells k
+returns-clause-known g c shares tells k = c.loop.invariant.known shares tells k
 
 left-over : (m i n : ℕ) → i ≤ n → 2 + m * i ≤ 2 + m * n
 left-over m i n l = let e : m * i ≤ m * n = mul-le-mul_left m l in omega (arith, e)
@@ -91,13 +91,13 @@ pub returns-in-Err-clause-few : goal.returns-in-Err-clause-few
 returns-in-Err-clause-few g c = within-wider _ _ _ _ (λ h. omega arith) c.in-Err.ensures.few
 
 pub returns-in-Err-clause-sure : goal.returns-in-Err-clause-sure
-returns-in-Err-clause-sure g c tells k = c.in-Err.ensures.sure tells k
+returns-in-Err-clause-sure g c shares tells k = c.in-Err.ensures.sure shares tells k
 
 pub returns-in-Err-step-clause-err : goal.returns-in-Err-step-clause-err
 returns-in-Err-step-clause-err g c = c.in-Err-step.ensures.err _ c.loop.invariant.opened
 
 pub returns-in-Err-step-clause-sure : goal.returns-in-Err-step-clause-sure
-returns-in-Err-step-clause-sure g c tells k = c.in-Err-step.ensures.sure tells (c.loop.invariant.known tells k)
+returns-in-Err-step-clause-sure g c shares tells k = c.in-Err-step.ensures.sure shares tells (c.loop.invariant.known shares tells k)
 
 failed-last : (m i n : ℕ) → i < n → 2 + m * i + m ≤ 2 + m * n
 failed-last m i n l = let e : m * (i + 1) ≡ m * i + m * 1 = mul-add m i 1 in let h : m * (i + 1) ≤ m * n = mul-le-mul_left m (omega (arith, l)) in omega (arith, e, h)

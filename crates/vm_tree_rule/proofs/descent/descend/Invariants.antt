@@ -1,7 +1,7 @@
-use Rattle.std.proofs.Common.{◌*◌, ◌+◌, ◌-◌, ◌≡◌, ◌≤◌, true}
+use Rattle.std.proofs.Common.{◌*◌, ◌+◌, ◌-◌, ◌≡◌, ◌≤◌, true, ℕ}
 use Rattle.vm_step.specs.Prelude.{IsReady, IsSamePass, view}
 use Rattle.vm_tree_rule.specs.Few.{LoadsHeight}
-use Rattle.vm_tree_rule.specs.{Leaves.ReadsOn, Resident.IsKnownNow, Resident.KnowsResident, Standing.IsOpened, Standing.IsStand}
+use Rattle.vm_tree_rule.specs.{Leaves.ReadsOn, Resident.IsReadNow, Resident.KnowsReadable, Standing.IsOpened, Standing.IsStand}
 use Rattle.vm_tree_rule.proofs.descent.descend.Given as goal
 
 -- the page on the way is read, and its level is the number of steps that are left
@@ -13,7 +13,7 @@ invariant-loop g l = record {
   opened : IsOpened (view l.fn.pass) l.stand.guard.pid l.stand.guard.word l.stand.guard.frame (view l.pass);
   left : l.counter ≤ l.end;
   words : LoadsHeight (2 + g.K.Kind.bounds.child * l.counter) l.end (view l.fn.pass) (view l.pass);
-  known : g.B.Block.tells ≡ true → KnowsResident (view l.fn.pass) → IsKnownNow l.stand.guard.pid l.stand.guard.word (view l.pass);
+  known : (shares : ℕ → ℕ) → g.B.Block.tells ≡ true → KnowsReadable shares (view l.fn.pass) → IsReadNow shares l.stand.guard.pid l.stand.guard.word (view l.pass);
   level : l.stand.level ≡ l.end - l.counter;
   stands : IsStand g.K.Kind.layout g.K.Kind.rank (g.K.Kind.rank l.key) l.stand (view l.pass);
 }

@@ -2,7 +2,7 @@ use Rattle.std.proofs.Common.{◌∙◌, ◌≡◌, arith, Err, IfErr, IfOk, inl
 use Rattle.vm_step.specs.Prelude.{NoneExpected, NoWord, View, view}
 use Rattle.vm_guard.specs.{declared.deny.Deny.Deny, declared.opt.OptGuard.OptGuard, Denied.AgainOrNeed, Denied.IsDenied, Guards.BeginsReading}
 use Rattle.vm_guard.proofs.PageLoads.{words-then}
-use Rattle.vm_tree_rule.specs.{Resident.IsKnownNow, Standing.HasSteppedDown, Standing.StaysOpen}
+use Rattle.vm_tree_rule.specs.{Resident.IsReadNow, Standing.HasSteppedDown, Standing.StaysOpen}
 use Rattle.vm_tree_rule.proofs.descent.enter.Goals as goal
 use Rattle.vm_tree_rule.proofs.Downward.{awaits-named}
 use Rattle.vm_tree_rule.proofs.Entering.{ended, lost, stepped}
@@ -24,7 +24,7 @@ returns-in-Err-validate_silently-clause-err g c =
     lost _ _ _ c.args.named c.in-Err-validate_silently.saw (view c.args.pass.now) (view c.start-started.new.pass) _ l.reads l.leaves c.in-Err-validate_silently.ensures.err
 
 pub returns-in-Err-validate_silently-clause-sure : goal.returns-in-Err-validate_silently-clause-sure
-returns-in-Err-validate_silently-clause-sure g c tells k =
+returns-in-Err-validate_silently-clause-sure g c shares tells k =
     let n = looked-known c.args.named c.args.parent.now.pid c.args.parent.now.word c.start-started.result (view c.args.pass.now) (view c.start-started.new.pass) c.if-named-parent.false c.start-started.ensures.ok c.start-started.ensures.err k in
     c.in-Err-validate_silently.ensures.sure n.resident.alone (known-at _ _ _ n)
 
@@ -53,15 +53,15 @@ returns-in-Ok-started-clause-others g c q ne =
     others-stay q c.args.named _ _ _ _ _ _ _ _ (λ e. ne (e ∙ sym begun.0)) begun.1 c.in-Ok-validate_silently.ensures.ok
 
 pub returns-in-Ok-started-clause-known : goal.returns-in-Ok-started-clause-known
-returns-in-Ok-started-clause-known g c tells k =
+returns-in-Ok-started-clause-known g c shares tells k =
     let begun = subst (λ r. IfOk r (λ guard. (guard.pid ≡ c.args.named) × BeginsReading c.args.named guard.word guard.frame (view c.args.pass.now) (view c.start-started.new.pass))) c.in-Ok-started.is c.start-started.ensures.ok in
     let l = looked c.args.named c.args.parent.now.pid c.start-started.result (view c.args.pass.now) (view c.start-started.new.pass) c.if-named-parent.false c.start-started.ensures.ok c.start-started.ensures.err in
-    let n = looked-known c.args.named c.args.parent.now.pid c.args.parent.now.word c.start-started.result (view c.args.pass.now) (view c.start-started.new.pass) c.if-named-parent.false c.start-started.ensures.ok c.start-started.ensures.err k in
+    let beside = looked-known c.args.named c.args.parent.now.pid c.args.parent.now.word c.start-started.result (view c.args.pass.now) (view c.start-started.new.pass) c.if-named-parent.false c.start-started.ensures.ok c.start-started.ensures.err k in
     let valid = c.in-Ok-validate_silently.ensures.ok in
     let reads = (valid-reads _ _ _ _ _ _ valid).0 in
     let below = named-below g.K.Kind.plain g.K.Kind.layout g.K.Kind.is_layout _ _ _ c.args.named c.requires.names.0 c.requires.names.1 c.requires.names.2 (view c.args.pass.now) (view c.start-started.new.pass) (view c.validate_silently-2.new.pass) l.reads l.same (l.next k.resident.alone) valid (tree-size _ _ _ c.validate_silently-2.ensures.ready.table.is_shape.size c.args.words.now.sized.0 c.args.words.now.size.takes) (c.in-Ok-validate_silently.ensures.kept tells) c.requires.names.3 (c.requires.ready.table.tells_is ∙ tells) k.resident.alone in (
-      subst (λ p. IsKnownNow p c.in-Ok-started.guard.word (view c.validate_silently-2.new.pass)) (sym begun.0) (known-same _ _ _ _ reads valid.table (known-begun c.args.named _ _ (view c.args.pass.now) (view c.start-started.new.pass) begun.1 below k.resident)),
-      known-same _ _ _ _ reads valid.table n,
+      subst (λ p. IsReadNow shares p c.in-Ok-started.guard.word (view c.validate_silently-2.new.pass)) (sym begun.0) (known-same _ _ _ _ reads valid.table (known-begun c.args.named _ _ (view c.args.pass.now) (view c.start-started.new.pass) begun.1 below k.resident)),
+      known-same _ _ _ _ reads valid.table beside,
     )
 
 pub returns-in-Ok-started-clause-locks : goal.returns-in-Ok-started-clause-locks
@@ -85,7 +85,7 @@ returns-in-Err-started-clause-err g c =
     (denied-is c.start-started.result c.args.named c.in-Err-started.deny (view c.args.pass.now) (view c.start-started.new.pass) c.in-Err-started.is c.start-started.ensures.err) c.in-Ok-validate_silently.ensures.ok
 
 pub returns-in-Err-started-clause-sure : goal.returns-in-Err-started-clause-sure
-returns-in-Err-started-clause-sure g c tells k =
+returns-in-Err-started-clause-sure g c shares tells k =
     let l = looked c.args.named c.args.parent.now.pid c.start-started.result (view c.args.pass.now) (view c.start-started.new.pass) c.if-named-parent.false c.start-started.ensures.ok c.start-started.ensures.err in
     let a = k.resident.alone in
     let high = c.if-named-pages.false in

@@ -24,7 +24,7 @@ returns-in-Err-clause-err g c =
     first-ended g.K.Kind.layout (g.K.Kind.rank c.args.key.now) c.in-Err.deny c.of_denied.result (view c.args.pass.now) (view c.start.new.pass) c.of_denied.ensures (subst (λ (o : Origin). 0 < o.pages) d.quiet.steady.start (some-pages _ 0 _ c.requires.pages c.in-Err.ensures.ready.table.is_shape.pages)) d
 
 pub returns-in-Err-clause-sure : goal.returns-in-Err-clause-sure
-returns-in-Err-clause-sure g c tells k =
+returns-in-Err-clause-sure g c shares tells k =
     let d = c.in-Err.ensures.err in
     c.in-Err.ensures.sure k.alone (first-readable g.K.Kind.plain g.K.Kind.layout g.K.Kind.is_layout _ _ (view c.args.pass.now) (view c.start.new.pass) d (c.in-Err.ensures.kept tells) (subst (λ (o : Origin). 0 < o.pages) d.quiet.steady.start (some-pages _ 0 _ c.requires.pages c.in-Err.ensures.ready.table.is_shape.pages)) k)
 
@@ -38,8 +38,8 @@ returns-in-Err-enter-clause-err g c =
     (root-loaded _ _ _ _ _ (g.K.Kind.rank c.args.key.now) _ _ _ _ c.in-Ok.ensures.ok.0 c.in-Ok.ensures.ok.1 c.word-root.ensures.loads c.word-level.ensures.loads) (tree-size _ _ _ c.enter.ensures.ready.table.is_shape.size c.args.words.now.sized.0 c.args.words.now.size.takes) c.in-Err-enter.ensures.err
 
 pub returns-in-Err-enter-clause-sure : goal.returns-in-Err-enter-clause-sure
-returns-in-Err-enter-clause-sure g c tells k =
-    c.in-Err-enter.ensures.sure tells (first-known g.K.Kind.plain g.K.Kind.layout g.K.Kind.is_layout _ _ _ _ _ _ (view c.args.pass.now) (view c.start.new.pass) (view c.word-root.new.pass) (view c.word-level.new.pass) c.in-Ok.ensures.ok.0 c.in-Ok.ensures.ok.1 (c.in-Ok.ensures.kept tells) c.word-root.ensures.loads c.word-level.ensures.loads k)
+returns-in-Err-enter-clause-sure g c shares tells k =
+    c.in-Err-enter.ensures.sure shares tells (first-known g.K.Kind.plain g.K.Kind.layout g.K.Kind.is_layout _ _ _ _ _ _ (view c.args.pass.now) (view c.start.new.pass) (view c.word-root.new.pass) (view c.word-level.new.pass) c.in-Ok.ensures.ok.0 c.in-Ok.ensures.ok.1 (c.in-Ok.ensures.kept tells) c.word-root.ensures.loads c.word-level.ensures.loads k)
 
 pub returns-then-level-words-clause-err : goal.returns-then-level-words-clause-err
 returns-then-level-words-clause-err g c =
@@ -61,7 +61,7 @@ returns-then-level-words-clause-err g c =
     (no_tree.high loads.0 c.word-root.result c.word-level.result c.in-Ok.ensures.ok.0 ((step.valid.same_reads _).loads ∙ step.stays.loads ∙ loads.1) (let same = c.args.words.now.shape.0 in let pages = s.ready.table.is_shape.pages in let high = c.if-level-words.true in omega (arith, same, pages, high))))
 
 pub returns-then-level-words-clause-sure : goal.returns-then-level-words-clause-sure
-returns-then-level-words-clause-sure g c tells k =
+returns-then-level-words-clause-sure g c shares tells k =
     let s = c.in-Ok-enter.ensures in
     let reads = s.ok.1.reads in
     let below : c.word-level.result < (view c.enter.new.pass).start.pages = low-enough _ _ _ (root-height _ _ _ _ _ (g.K.Kind.rank c.args.key.now) _ _ _ _ c.in-Ok.ensures.ok.0 c.in-Ok.ensures.ok.1 c.word-root.ensures.loads c.word-level.ensures.loads (last_of (view c.enter.new.pass) c.in-Ok.guard.pid).words (s.ok.1.sees (ap (λ (o : Origin). o.tells) (sym reads.0.start) ∙ s.ready.table.tells_is ∙ tells))) (ap (λ (o : Origin). length o.contents) (sym reads.0.start) ∙ s.pages tells) in
@@ -89,8 +89,8 @@ returns-clause-reads g c =
     reads-then _ _ _ (opened-reads _ _ _ _ _ opened) c.in-Ok-enter.ensures.ok.1.reads
 
 pub returns-clause-known : goal.returns-clause-known
-returns-clause-known g c tells k =
-    c.in-Ok-enter.ensures.known tells (first-known g.K.Kind.plain g.K.Kind.layout g.K.Kind.is_layout _ _ _ _ _ _ (view c.args.pass.now) (view c.start.new.pass) (view c.word-root.new.pass) (view c.word-level.new.pass) c.in-Ok.ensures.ok.0 c.in-Ok.ensures.ok.1 (c.in-Ok.ensures.kept tells) c.word-root.ensures.loads c.word-level.ensures.loads k)
+returns-clause-known g c shares tells k =
+    c.in-Ok-enter.ensures.known shares tells (first-known g.K.Kind.plain g.K.Kind.layout g.K.Kind.is_layout _ _ _ _ _ _ (view c.args.pass.now) (view c.start.new.pass) (view c.word-root.new.pass) (view c.word-level.new.pass) c.in-Ok.ensures.ok.0 c.in-Ok.ensures.ok.1 (c.in-Ok.ensures.kept tells) c.word-root.ensures.loads c.word-level.ensures.loads k)
 
 pub returns-clause-locks : goal.returns-clause-locks
 returns-clause-locks g c = c.in-Ok-enter.ensures.locks

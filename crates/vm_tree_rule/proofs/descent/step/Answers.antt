@@ -91,9 +91,9 @@ returns-in-Ok-clause-passed g c =
     (tells-page g.K.Kind.layout f.loaded (g.K.Kind.rank c.args.key.now) c.in-Some.child.page (g.K.Kind.rank c.in-Some.child.low) (option_map g.K.Kind.rank c.in-Some.child.next) f.tells) _ _ _ c.in-Ok.ensures.ok.0 (tree-size _ _ _ c.enter.ensures.ready.table.is_shape.size c.args.words.now.sized.0 c.args.words.now.size.takes) c.in-Ok.ensures.ok.1
 
 pub returns-in-Ok-clause-known : goal.returns-in-Ok-clause-known
-returns-in-Ok-clause-known g c tells known =
+returns-in-Ok-clause-known g c shares tells known =
     let loads = c.in-Some.ensures.found.loads in
-    c.in-Ok.ensures.known tells (known-same _ _ _ _ (loads-reads _ _ _ _ _ _ loads).0 loads.table known)
+    c.in-Ok.ensures.known shares tells (known-same _ _ _ _ (loads-reads _ _ _ _ _ _ loads).0 loads.table known)
 
 pub returns-in-Ok-clause-locks : goal.returns-in-Ok-clause-locks
 returns-in-Ok-clause-locks g c = c.in-Ok.ensures.locks
@@ -111,9 +111,9 @@ returns-in-Err-clause-err g c u o =
     (inr (f.loaded, (_, f.loads.loads), page)) (tree-size _ _ _ c.enter.ensures.ready.table.is_shape.size c.args.words.now.sized.0 c.args.words.now.size.takes) c.in-Err.ensures.err
 
 pub returns-in-Err-clause-sure : goal.returns-in-Err-clause-sure
-returns-in-Err-clause-sure g c tells known =
+returns-in-Err-clause-sure g c shares tells known =
     let loads = c.in-Some.ensures.found.loads in
-    c.in-Err.ensures.sure tells (known-same _ _ _ _ (loads-reads _ _ _ _ _ _ loads).0 loads.table known)
+    c.in-Err.ensures.sure shares tells (known-same _ _ _ _ (loads-reads _ _ _ _ _ _ loads).0 loads.table known)
 
 pub returns-in-Err-clause-few : goal.returns-in-Err-clause-few
 returns-in-Err-clause-few g c = place-within _ _ _ _ _ _ _ _ c.in-Some.ensures.found c.in-Err.ensures.words
@@ -134,7 +134,7 @@ returns-in-Ok-validate_silently-clause-err g c u o =
     (no_tree.childless f.loaded (_, (valid.same_reads _).loads ∙ f.loads.loads) f.tells))
 
 pub returns-in-Ok-validate_silently-clause-sure : goal.returns-in-Ok-validate_silently-clause-sure
-returns-in-Ok-validate_silently-clause-sure g c tells known =
+returns-in-Ok-validate_silently-clause-sure g c shares tells known =
     let f = c.in-None.ensures.found in
     let valid = c.in-Ok-validate_silently.ensures.ok in
     let told = c.in-None.ensures.ready.table.tells_is ∙ tells in
@@ -150,7 +150,7 @@ returns-in-Err-validate_silently-clause-err g c u o =
     let loads = c.in-None.ensures.found.loads in refused-turn _ _ _ g.K.Kind.layout (g.K.Kind.rank c.args.key.now) _ u _ _ _ (opened-loads _ _ _ _ _ _ _ o loads) (reads-self _) (leaves-self _ _) c.in-Err-validate_silently.ensures.err
 
 pub returns-in-Err-validate_silently-clause-sure : goal.returns-in-Err-validate_silently-clause-sure
-returns-in-Err-validate_silently-clause-sure g c tells known =
+returns-in-Err-validate_silently-clause-sure g c shares tells known =
     let loads = c.in-None.ensures.found.loads in
     let k = known-same _ _ _ _ (loads-reads _ _ _ _ _ _ loads).0 loads.table known in
     c.in-Err-validate_silently.ensures.sure k.resident.alone (known-at _ _ _ k)

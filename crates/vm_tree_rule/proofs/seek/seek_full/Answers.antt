@@ -102,7 +102,7 @@ loop-init g c =
       room = at-least _ _ _ c.growth-growth.ensures c.if-left-growth.false;
       left = omega arith;
       words = counted-height g.K.Kind.bounds.child g.K.Kind.bounds.spare c.in-Ok.top.stand.guard.pid c.in-Ok.top.stand.level _ _ _ k.words k.height (place-within _ _ _ _ _ _ _ _ f (none-words _));
-      known = λ tells r. known-same _ _ _ _ reads.0 f.loads.table (k.known tells r).0;
+      known = λ tells r. known-same _ _ _ _ reads.0 f.loads.table (k.known _ tells r).0;
       locks = locks-same _ _ reads.0 f.loads.table k.locks;
       way = ([], passed-later g.K.Kind.layout g.K.Kind.spare (view c.args.pass.now) (g.K.Kind.rank c.args.key.now) [] c.in-Ok.top.stand.guard.pid (view c.enter_root.new.pass) (view c.spare_in_place-left.new.pass) reads k.named);
       level = whole c.in-Ok.top.stand.level;
@@ -133,7 +133,7 @@ loop-preserved g c =
       words =
           height-more (so-far g.K.Kind.bounds.child g.K.Kind.bounds.spare c.loop.counter + g.K.Kind.bounds.child) g.K.Kind.bounds.spare (so-far g.K.Kind.bounds.child g.K.Kind.bounds.spare (c.loop.counter + 1)) _ _ _ _ (height-more (so-far g.K.Kind.bounds.child g.K.Kind.bounds.spare c.loop.counter) g.K.Kind.bounds.child (so-far g.K.Kind.bounds.child g.K.Kind.bounds.spare c.loop.counter + g.K.Kind.bounds.child) _ _ _ _ i.words k.few (omega arith))
           (place-within _ _ _ _ _ _ _ _ f (none-words _)) (one-on g.K.Kind.bounds.child g.K.Kind.bounds.spare c.loop.counter);
-      known = λ tells r. known-same _ _ _ _ reads.0 f.loads.table (k.known tells (i.known tells r)).0;
+      known = λ tells r. known-same _ _ _ _ reads.0 f.loads.table (k.known _ tells (i.known tells r)).0;
       locks = locks-same _ _ reads.0 f.loads.table k.locks;
       way = (
         (c.loop.stand.guard.pid, i.counted.0 ++ k.passed.0) ∷ i.way.0,
@@ -156,7 +156,7 @@ pub returns-in-Err-clause-err : goal.returns-in-Err-clause-err
 returns-in-Err-clause-err g c = c.in-Err.ensures.err
 
 pub returns-in-Err-clause-sure : goal.returns-in-Err-clause-sure
-returns-in-Err-clause-sure g c tells r = c.in-Err.ensures.sure tells r
+returns-in-Err-clause-sure g c tells r = c.in-Err.ensures.sure _ tells r
 
 pub returns-in-Err-clause-few : goal.returns-in-Err-clause-few
 returns-in-Err-clause-few g c = within-wider _ _ _ _ (within-all g.K.Kind.bounds.child g.K.Kind.bounds.spare g.K.Kind.layout.words) c.in-Err.ensures.few
@@ -167,7 +167,7 @@ returns-in-Err-reread-clause-err g c = c.in-Err-reread.ensures.err _ (g.K.Kind.r
 pub returns-in-Err-reread-clause-sure : goal.returns-in-Err-reread-clause-sure
 returns-in-Err-reread-clause-sure g c tells r =
     let f = c.spare_in_place-left.ensures.found in
-    c.in-Err-reread.ensures.sure tells (known-same _ _ _ _ (loads-reads _ _ _ _ _ _ f.loads).0 f.loads.table (c.in-Ok.ensures.known tells r).0)
+    c.in-Err-reread.ensures.sure tells (known-same _ _ _ _ (loads-reads _ _ _ _ _ _ f.loads).0 f.loads.table (c.in-Ok.ensures.known _ tells r).0)
 
 pub returns-in-Err-reread-clause-few : goal.returns-in-Err-reread-clause-few
 returns-in-Err-reread-clause-few g c =
@@ -180,7 +180,7 @@ pub returns-in-Err-step-clause-err : goal.returns-in-Err-step-clause-err
 returns-in-Err-step-clause-err g c = c.in-Err-step.ensures.err _ c.loop.invariant.opened
 
 pub returns-in-Err-step-clause-sure : goal.returns-in-Err-step-clause-sure
-returns-in-Err-step-clause-sure g c tells r = c.in-Err-step.ensures.sure tells (c.loop.invariant.known tells r)
+returns-in-Err-step-clause-sure g c tells r = c.in-Err-step.ensures.sure _ tells (c.loop.invariant.known tells r)
 
 pub returns-in-Err-step-clause-few : goal.returns-in-Err-step-clause-few
 returns-in-Err-step-clause-few g c =
@@ -202,7 +202,7 @@ returns-then-left-growth-clause-met g c =
 
 pub returns-then-left-growth-clause-known : goal.returns-then-left-growth-clause-known
 returns-then-left-growth-clause-known g c tells r =
-    let k = c.in-Ok.ensures.known tells r in
+    let k = c.in-Ok.ensures.known _ tells r in
     let f = c.spare_in_place-left.ensures.found in
     let reads = (loads-reads _ _ _ _ _ _ f.loads).0 in (
       reread-known _ _ _ _ _ _ c.in_default.ensures.ok _ _ (known-same _ _ _ _ reads f.loads.table k.1),
@@ -260,7 +260,7 @@ returns-in-Err-reread-2-clause-err g c =
 pub returns-in-Err-reread-2-clause-sure : goal.returns-in-Err-reread-2-clause-sure
 returns-in-Err-reread-2-clause-sure g c tells r =
     let loads = c.spare_in_place-next.ensures.found.loads in
-    c.in-Err-reread-2.ensures.sure tells (known-same _ _ _ _ (loads-reads _ _ _ _ _ _ loads).0 loads.table (c.in-Ok-step.ensures.known tells (c.loop.invariant.known tells r)).1)
+    c.in-Err-reread-2.ensures.sure tells (known-same _ _ _ _ (loads-reads _ _ _ _ _ _ loads).0 loads.table (c.in-Ok-step.ensures.known _ tells (c.loop.invariant.known tells r)).1)
 
 pub returns-in-Err-reread-2-clause-few : goal.returns-in-Err-reread-2-clause-few
 returns-in-Err-reread-2-clause-few g c =
@@ -280,7 +280,7 @@ pub returns-in-Err-reread-3-clause-sure : goal.returns-in-Err-reread-3-clause-su
 returns-in-Err-reread-3-clause-sure g c tells r =
     let loads = c.spare_in_place-next.ensures.found.loads in
     c.in-Err-reread-3.ensures.sure tells
-    (reread-known _ _ _ _ _ _ c.in_default-reread.ensures.ok _ _ (known-same _ _ _ _ (loads-reads _ _ _ _ _ _ loads).0 loads.table (c.in-Ok-step.ensures.known tells (c.loop.invariant.known tells r)).0))
+    (reread-known _ _ _ _ _ _ c.in_default-reread.ensures.ok _ _ (known-same _ _ _ _ (loads-reads _ _ _ _ _ _ loads).0 loads.table (c.in-Ok-step.ensures.known _ tells (c.loop.invariant.known tells r)).0))
 
 pub returns-in-Err-reread-3-clause-few : goal.returns-in-Err-reread-3-clause-few
 returns-in-Err-reread-3-clause-few g c =
@@ -309,7 +309,7 @@ returns-then-next-growth-clause-met g c =
 
 pub returns-then-next-growth-clause-known : goal.returns-then-next-growth-clause-known
 returns-then-next-growth-clause-known g c tells r =
-    let k = c.in-Ok-step.ensures.known tells (c.loop.invariant.known tells r) in
+    let k = c.in-Ok-step.ensures.known _ tells (c.loop.invariant.known tells r) in
     let loads = c.spare_in_place-next.ensures.found.loads in
     let reads = (loads-reads _ _ _ _ _ _ loads).0 in (
       reread-known _ _ _ _ _ _ c.in_default-reread-2.ensures.ok _ _ (reread-known _ _ _ _ _ _ c.in_default-reread.ensures.ok _ _ (known-same _ _ _ _ reads loads.table k.1)),

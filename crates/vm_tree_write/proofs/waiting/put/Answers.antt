@@ -6,7 +6,7 @@ use Rattle.vm_tree_read.proofs.Losing.{loses-same, loses-then, lost-on, reads-lo
 use Rattle.vm_tree_read.proofs.Rounds.{tried-call, tried-none, tried-read}
 use Rattle.vm_tree_write.specs.Splits.{KeepsLocksOnly}
 use Rattle.vm_tree_write.specs.Waiting.{IsPutFaulted as put_faulted, IsPutRound, IsPutRound as put_round, IsWriteFaulted as faulted}
-use Rattle.vm_tree_write.proofs.{Framing.keeps-self, Framing.keeps-then, Telling.put-not, Trying.reads-keep}
+use Rattle.vm_tree_write.proofs.{Framing.keeps-self, Framing.keeps-then, Trying.reads-keep}
 use Rattle.vm_tree_write.proofs.Lasting.{keeps-last, replied, waits-keep}
 use Rattle.vm_tree_write.proofs.waiting.put.Goals as goal
 
@@ -106,7 +106,7 @@ returns-in-Done-clause-held g c =
 pub returns-in-Done-clause-ok : goal.returns-in-Done-clause-ok
 returns-in-Done-clause-ok g c =
     let i = c.loop.invariant in
-    replied g.K.Kind.plain g.K.Kind.layout KeepsLocksOnly (IsPutRound g.K.Kind.plain g.K.Kind.layout g.K.Kind.spare) _ _ _ _ i.left (keeps-last _ _ i.left.0) (inl (c.in-Done.ensures.tried.0, put-not (g.K.Kind.rank c.args.key.now) c.args.value _))
+    replied g.K.Kind.plain g.K.Kind.layout KeepsLocksOnly (IsPutRound g.K.Kind.plain g.K.Kind.layout g.K.Kind.spare) _ _ _ _ i.left (keeps-last _ _ i.left.0) (inl (c.in-Done.ensures.tried.0, λ none. none))
 
 -- ---- no frame is lost
 

@@ -1,0 +1,9 @@
+//! Tests of ranges of the tree over a pool of blocks in memory, by their public items.
+#![tactic(auto)]
+
+#[cfg(test)]
+mod calls;
+#[cfg(test)]
+mod ranges;
+#[cfg(test)]
+mod trees;
