@@ -7,7 +7,7 @@ use Rattle.std.proofs.lemmas.List.Sums.{count_by-le-length, sum_by-cons, sum_by_
 use Rattle.vm_map.specs.{declared.call.Call.Call, declared.call.Reply.Reply}
 use Rattle.vm_map.specs.declared.call.Call.TheVariants as calls
 use Rattle.vm_tree_rule.specs.declared.fault.TreeFault.{TreeFault}
-use Rattle.vm_drive.specs.{Drives.AreFew, Drives.items_of, Kept.AreKept, Kept.IsRoomFor, Kept.windows_asked}
+use Rattle.vm_drive.specs.{Drives.AreFew, Drives.items_of, Kept.AreKept, Kept.IsRoomFor, Kept.windows_asked, Spans.ranges_asked}
 use Rattle.vm_churn.specs.declared.tally.Tally.{Tally}
 use Rattle.vm_churn.specs.Tallies.{count_in, IsSmall, StandsFor, tally_room, tells_found, tells_gone, tells_new, told_by, told_tally, total_of}
 
@@ -32,11 +32,22 @@ asked-few [] = omega arith
 asked-few (calls.Get key ∷ cs) = omega (arith, asked-few cs)
 asked-few (calls.Put key value ∷ cs) = omega (arith, asked-few cs)
 asked-few (calls.Del key ∷ cs) = omega (arith, asked-few cs)
+asked-few (calls.Swap key want value ∷ cs) = omega (arith, asked-few cs)
+asked-few (calls.Range low bound ∷ cs) = omega (arith, asked-few cs)
 asked-few (calls.Window start most ∷ cs) = omega (arith, asked-few cs)
+
+ranges-few : (calls : List Call) → ranges_asked calls ≤ length calls
+ranges-few [] = omega arith
+ranges-few (calls.Get key ∷ cs) = omega (arith, ranges-few cs)
+ranges-few (calls.Put key value ∷ cs) = omega (arith, ranges-few cs)
+ranges-few (calls.Del key ∷ cs) = omega (arith, ranges-few cs)
+ranges-few (calls.Swap key want value ∷ cs) = omega (arith, ranges-few cs)
+ranges-few (calls.Range low bound ∷ cs) = omega (arith, ranges-few cs)
+ranges-few (calls.Window start most ∷ cs) = omega (arith, ranges-few cs)
 
 -- for so few a tally has room
 pub few_room : (calls : List Call) (tally : Tally) → length calls ≤ 1000000 → IsRoomFor calls (tally_room tally)
-few_room calls tally few = record { answers = few; windows = omega (arith, asked-few calls, few) }
+few_room calls tally few = record { answers = few; windows = omega (arith, asked-few calls, few); spans = omega (arith, ranges-few calls, few) }
 
 -- the tallies of few answers each are small
 pub kept_small : (tallies : List Tally) (told : List (List Answer)) → AreKept StandsFor tallies told → AreFew told → AllByRecursion IsSmall tallies

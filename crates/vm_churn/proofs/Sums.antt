@@ -5,8 +5,8 @@ use Rattle.std.proofs.Common.{Ok, Result, subst, suc, sym, true, zero, ℕ}
 use Rattle.std.proofs.lemmas.List.Concat.{flat_map-cons}
 use Rattle.std.proofs.lemmas.List.Sums.{sum_by-append, sum_by-cons}
 use Rattle.vm_map.specs.{declared.call.Call.Call, declared.call.Reply.Reply, declared.call.Said.Said, History.after, History.after_all}
-use Rattle.vm_map.specs.declared.call.Call.TheVariants.{Del, Get, Put, Window}
-use Rattle.vm_map.specs.Map.{del_pair, gather, Pairs, put_pair}
+use Rattle.vm_map.specs.declared.call.Call.TheVariants.{Del, Get, Put, Range, Swap, Window}
+use Rattle.vm_map.specs.Map.{del_pair, gather, is_value, lookup_at, Pairs, put_pair}
 use Rattle.vm_build.specs.Numbers.{number_at, numbered}
 use Rattle.vm_rule.specs.Prelude.{Entry}
 use Rattle.vm_tree_laws.specs.History.{saids}
@@ -53,6 +53,8 @@ value_in (Get key) = 0
 value_in (Put key value) = value
 value_in (Del key) = 0
 value_in (Window start most) = 0
+value_in (Swap key want value) = value
+value_in (Range low bound) = 0
 
 abbrev puts : Said → ℕ
 puts s = value_in s.call
@@ -62,6 +64,8 @@ sum-after m (Get key) = omega arith
 sum-after m (Put key value) = sum-put m key value
 sum-after m (Del key) = omega (arith, sum-del m key)
 sum-after m (Window start most) = omega arith
+sum-after m (Swap key want value) = elim (is_value (lookup_at m key) want) as (λ b. sum_values (cond b (put_pair m key value) m) ≤ sum_values m + value) [ true ↦ sum-put m key value | false ↦ omega arith ]
+sum-after m (Range low bound) = omega arith
 
 sum-after_all : (m : Pairs) (ss : List Said) → sum_values (after_all m ss) ≤ sum_values m + weight puts ss
 sum-after_all m [] = omega arith

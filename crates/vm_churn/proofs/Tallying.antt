@@ -5,8 +5,8 @@ use Rattle.std.proofs.Common.{Result, Some, subst, suc, sym, true, zero, ℕ}
 use Rattle.std.proofs.lemmas.Bool.{cases_eq, eq-eqb, ne_eqb}
 use Rattle.std.proofs.lemmas.List.Sums.{sum_by-cons}
 use Rattle.vm_map.specs.{declared.call.Call.Call, declared.call.Reply.Reply, declared.call.Said.Said, Map.Pairs}
-use Rattle.vm_map.specs.declared.call.Call.TheVariants.{Del, Get, Put, Window}
-use Rattle.vm_map.specs.declared.call.Reply.TheVariants.{Gone, Got, Was, Win}
+use Rattle.vm_map.specs.declared.call.Call.TheVariants.{Del, Get, Put, Range, Swap, Window}
+use Rattle.vm_map.specs.declared.call.Reply.TheVariants.{Gone, Got, Many, Swapped, Was, Wide, Win}
 use Rattle.vm_map.specs.History.{after, AreReplies, IsReply}
 use Rattle.vm_rule.specs.Prelude.{Each, entries_by, Entry}
 use Rattle.vm_tree_laws.specs.History.{is_new, news, saids}
@@ -142,6 +142,9 @@ right-found (Get key) (Got (Some value)) m is = refl
 right-found (Put key value) (Was old) m is = refl
 right-found (Del key) (Gone old) m is = refl
 right-found (Window start most) (Win window) m is = refl
+right-found (Swap key want value) (Swapped outcome) m is = refl
+right-found (Range low bound) (Many span) m is = refl
+right-found (Range low bound) (Wide reach) m is = refl
 right-found call reply m is = absurd is
 
 right-new : (call : Call) (reply : Reply) (m : Pairs) → IsReply m call reply → is_new call reply ≡ cond (tells_new (Ok reply)) 1 0
@@ -150,6 +153,9 @@ right-new (Put key value) (Was None) m is = refl
 right-new (Put key value) (Was (Some old)) m is = refl
 right-new (Del key) (Gone old) m is = refl
 right-new (Window start most) (Win window) m is = refl
+right-new (Swap key want value) (Swapped outcome) m is = refl
+right-new (Range low bound) (Many span) m is = refl
+right-new (Range low bound) (Wide reach) m is = refl
 right-new call reply m is = absurd is
 
 right-gone : (call : Call) (reply : Reply) (m : Pairs) → IsReply m call reply → is_gone call reply ≡ cond (tells_gone (Ok reply)) 1 0
@@ -158,6 +164,9 @@ right-gone (Put key value) (Was old) m is = refl
 right-gone (Del key) (Gone None) m is = refl
 right-gone (Del key) (Gone (Some old)) m is = refl
 right-gone (Window start most) (Win window) m is = refl
+right-gone (Swap key want value) (Swapped outcome) m is = refl
+right-gone (Range low bound) (Many span) m is = refl
+right-gone (Range low bound) (Wide reach) m is = refl
 right-gone call reply m is = absurd is
 
 founds-weigh : (h : List (Entry Said)) → weight (λ s. is_found s.call s.reply) (saids h) ≡ founds h

@@ -72,9 +72,9 @@ pub record IsSmall (tally : Tally) : Type 0 where
 abbrev pub StandsFor : Tally → List (Result Reply TreeFault) → Type 0
 StandsFor tally told = length told ≤ 1000000 → tally ≡ told_by told
 
--- a tally takes as many answers as a list may have calls, and any of them may be a window
+-- a tally takes as many answers as a list may have calls, and any of them may be a window or have the pairs of a range
 abbrev pub tally_room : Tally → Room
-tally_room tally = record { answers = 1000000; windows = 1000000 }
+tally_room tally = record { answers = 1000000; windows = 1000000; spans = 1000000 }
 
 -- the tallies put together
 abbrev pub total_of : List Tally → Tally

@@ -1,8 +1,8 @@
 -- What the tree's calls that wait tell, in the terms of a worker: what its pass keeps, its entry, its note, or what it found.
 use Rattle.std.specs.Prelude.{IfErr, IfOk}
 use Rattle.std.proofs.Common.{[], ⊎_elim, ◌++◌, ◌<◌, ◌∙◌, ◌∷◌, ◌≡◌, ap, Err, List, Ok, refl, Result, subst, sym, ℕ}
-use Rattle.vm_map.specs.{declared.call.Call.Call, declared.call.Reply.Reply, declared.call.Said.Said}
-use Rattle.vm_map.specs.declared.call.Call.TheVariants.{Del, Get, Put, Window}
+use Rattle.vm_map.specs.{declared.call.Call.Call, declared.call.Reply.Reply, declared.call.Said.Said, declared.window.Bound.Bound}
+use Rattle.vm_map.specs.declared.call.Call.TheVariants.{Del, Get, Put, Range, Swap, Window}
 use Rattle.vm_rule.specs.Prelude.{began_of, entry_of}
 use Rattle.vm_step.specs.Prelude.{Origin, UnlockedExpected, View}
 use Rattle.vm_guard.specs.Denied.{KeptWord}
@@ -10,15 +10,16 @@ use Rattle.vm_tree_model.specs.{Fixed.fixed, Layout.Layout}
 use Rattle.vm_tree_laws.specs.Keeps.{KeepsTree}
 use Rattle.vm_kind.specs.Room.{HasRoomFor}
 use Rattle.vm_tree_rule.specs.declared.fault.TreeFault.{TreeFault}
+use Rattle.vm_tree_read.specs.Ranges.{IsRangeFaulted, IsRangeReplied}
 use Rattle.vm_tree_read.specs.Reads.{IsAnswered, IsOfKind}
 use Rattle.vm_tree_read.specs.Waiting.{IsFaulted as IsReadFaulted, IsReplied as IsReadReplied, Waits}
 use Rattle.vm_tree_write.specs.Splits.{KeepsLocksOnly}
 use Rattle.vm_tree_write.specs.Waiting.{IsDelRound, IsPutFaulted, IsPutFaulted as put_faulted, IsPutRound, IsWriteFaulted, IsWriteFaulted as faulted, IsWriteReplied}
-use Rattle.vm_tree_write.specs.Writes.{HasKeyIn, IsVain, IsWornLeaf, IsWriteDone}
-use Rattle.vm_drive.specs.{Calls.KeepsPass, Shows.IsWindowShown, TreeCalls.as_said, TreeCalls.IsTreeCall}
+use Rattle.vm_tree_write.specs.Writes.{HasKeyIn, HasValueIn, IsVain, IsWornLeaf, IsWriteDone}
+use Rattle.vm_drive.specs.{Calls.KeepsPass, Shows.IsReplyShown, TreeCalls.as_said, TreeCalls.IsTreeCall}
 use Rattle.vm_kind.specs.WordRoom.{spare_in}
 use Rattle.vm_drive.proofs.{Bringing.fault-called, Called.HasFoundWorn, Called.IsCalled, Doing.keeps-then, Finding.denied-worn, Rooms.room-called}
-use Rattle.vm_drive.proofs.Plainly.{plain-keeps}
+use Rattle.vm_drive.proofs.{Plainly.plain-keeps, Spanning.range-called, Spanning.range-faulted}
 use Rattle.vm_drive.proofs.Keeping.{all-pass, reads-pass, same-front, waits-pass, writes-pass}
 
 module _ (size : ℕ) where
@@ -42,10 +43,12 @@ module _ (size : ℕ) where
       r.answered)
 
   -- a window is the leaf's that proved it
-  answered-shown : (call : Call) (reply : Reply) (x w : View Said) → IsAnswered as_said L (record { call = call; reply = reply }) x w → IsWindowShown size w call reply
+  answered-shown : (call : Call) (reply : Reply) (x w : View Said) → IsAnswered as_said L (record { call = call; reply = reply }) x w → IsReplyShown size w call reply
   answered-shown (Get key) reply x w a = tt
   answered-shown (Put key value) reply x w a = tt
   answered-shown (Del key) reply x w a = tt
+  answered-shown (Swap key want value) reply x w a = tt
+  answered-shown (Range low bound) reply x w a = λ told. absurd (a.told (ap (λ (o : Origin). o.tells) (sym a.reads.start) ∙ told)).proved
   answered-shown (Window start most) reply x w a = λ told.
       let tells = ap (λ (o : Origin). o.tells) (sym a.reads.start) ∙ told in
       let b = a.told tells in
@@ -116,6 +119,14 @@ module _ (size : ℕ) where
   del-tells key (Ok reply) v w ok kind err = (ok, kind)
   del-tells key (Err fault) v w ok kind err = err
 
+  pub swap-tells : (key want value : ℕ) (r : Result Reply TreeFault) (v w : View Said) → IfOk r (λ reply. IsWriteReplied as_said L Waits (IsDelRound L) (record { call = Swap key want value; reply = reply }) v w) → IfOk r (λ reply. IsOfKind (Swap key want value) reply) → IfErr r (λ fault. IsWriteFaulted L Waits (IsDelRound L) (λ words key. HasValueIn L words key want) key fault v w) → IsTreeCall size (Swap key want value) r v w
+  swap-tells key want value (Ok reply) v w ok kind err = (ok, kind)
+  swap-tells key want value (Err fault) v w ok kind err = err
+
+  pub range-tells : (low : ℕ) (bound : Bound) (r : Result Reply TreeFault) (v w : View Said) → IfOk r (λ reply. IsRangeReplied as_said L (record { call = Range low bound; reply = reply }) v w) → IfOk r (λ reply. IsOfKind (Range low bound) reply) → IfErr r (λ fault. IsRangeFaulted L low bound fault v w) → IsTreeCall size (Range low bound) r v w
+  range-tells low bound (Ok reply) v w ok kind err = (ok, kind)
+  range-tells low bound (Err fault) v w ok kind err = err
+
   reply-shown : (call : Call) (reply : Reply) (v w : View Said) → IsReadReplied as_said L (record { call = call; reply = reply }) v w → KeepsPass v w × IsCalled size call (Ok reply) v w
   reply-shown call reply v w ok = (read-replied (record { call = call; reply = reply }) v w ok, (ok.mine ∙ ap (λ (s : Said). v.mine ++ entry_of v s ∷ []) ok.answered.says_is, answered-shown call reply ok.tried w ok.answered))
 
@@ -127,5 +138,9 @@ module _ (size : ℕ) where
   tree-called (Put key value) (Err fault) v w t = put-faulted key value fault v w t
   tree-called (Del key) (Ok reply) v w t = (write-replied Waits (IsDelRound L) waits-pass (record { call = Del key; reply = reply }) v w t.0, (t.0.mine ∙ ap (λ (s : Said). v.mine ++ entry_of v s ∷ []) t.0.says_is, tt))
   tree-called (Del key) (Err fault) v w t = write-faulted Waits (IsDelRound L) (HasKeyIn L) waits-pass (λ x y k. k.mine) (Del key) key fault v w t
+  tree-called (Swap key want value) (Ok reply) v w t = (write-replied Waits (IsDelRound L) waits-pass (record { call = Swap key want value; reply = reply }) v w t.0, (t.0.mine ∙ ap (λ (s : Said). v.mine ++ entry_of v s ∷ []) t.0.says_is, tt))
+  tree-called (Swap key want value) (Err fault) v w t = write-faulted Waits (IsDelRound L) (λ words key. HasValueIn L words key want) waits-pass (λ x y k. k.mine) (Swap key want value) key fault v w t
+  tree-called (Range low bound) (Ok reply) v w t = range-called size low bound reply v w t.0
+  tree-called (Range low bound) (Err fault) v w t = range-faulted size (Range low bound) low bound fault v w t
   tree-called (Window start most) (Ok reply) v w t = reply-shown (Window start most) reply v w t.0
   tree-called (Window start most) (Err fault) v w t = read-faulted (Window start most) start fault v w t

@@ -8,7 +8,7 @@ use Rattle.vm_step.specs.Prelude.{HasGiven, Note, View}
 use Rattle.vm_tree_laws.specs.History.{saids}
 use Rattle.vm_tree_rule.specs.declared.fault.TreeFault.{TreeFault}
 use Rattle.vm_tree_rule.specs.declared.fault.TreeFault.TheVariants.{Device, Full, Worn}
-use Rattle.vm_drive.specs.{Calls.IsPutCall, Calls.KeepsPass, Holds.answered, Shows.AreShown, Shows.IsWindowShown}
+use Rattle.vm_drive.specs.{Calls.IsPutCall, Calls.KeepsPass, Holds.answered, Shows.AreShown, Shows.IsReplyShown}
 use Rattle.vm_drive.specs.Causes.{AreCausedBy, faults_of, notes_about}
 
 module _ {X : Type 0} where
@@ -39,15 +39,16 @@ module _ {X : Type 0} where
     pub after : List Note
     pub grew : w.notes ≡ v.notes ++ (before ++ record { page = p; count = count } ∷ after)
 
--- on pages of n words, what the answer says: a reply became an entry of the pass, its next one, and a window is a leaf's; a fault has none, and its cause
+-- on pages of n words, what the answer says: a reply became an entry of the pass, its next one, a window is a leaf's, and a range is that of
+-- leaves that stood together; a fault has none, and its cause
 abbrev pub IsCalled : ℕ → Call → Result Reply TreeFault → View Said → View Said → Type 0
-IsCalled n call (Ok reply) v w = (w.mine ≡ v.mine ++ entry_of v (record { call = call; reply = reply }) ∷ []) × IsWindowShown n w call reply
+IsCalled n call (Ok reply) v w = (w.mine ≡ v.mine ++ entry_of v (record { call = call; reply = reply }) ∷ []) × IsReplyShown n w call reply
 IsCalled n call (Err (Device p count)) v w = (w.mine ≡ v.mine) × HasNoted p count v w
 IsCalled n call (Err (Full pages)) v w = (w.mine ≡ v.mine) × IsPutCall call × (pages ≡ v.start.pages) × HasFoundNext pages w
 IsCalled n call (Err (Worn p)) v w = (w.mine ≡ v.mine) × HasFoundWorn p w
 
 -- the calls were made, in order, with these answers: the pass's own entries are those before and the calls that had a reply; each fault of a
--- device has a note of its own, and each other one its cause; each window is a leaf's
+-- device has a note of its own, and each other one its cause; each window is a leaf's, and each range is that of leaves that stood together
 pub record HasDone (n : ℕ) (calls : List Call) (answers : List (Result Reply TreeFault)) (v w : View Said) : Type 0 where
   pub keeps : KeepsPass v w
   pub long : length answers ≡ length calls

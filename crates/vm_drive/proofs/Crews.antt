@@ -9,7 +9,7 @@ use Rattle.vm_step.specs.Prelude.{Shape}
 use Rattle.vm_tree_rule.specs.declared.fault.TreeFault.{TreeFault}
 use Rattle.vm_drive.specs.{declared.worker.Worker.Worker, Drives.items_of, Holds.list_at}
 use Rattle.vm_drive.specs.Crews.{AllWorked, AreIdle, HasWorked, IsIdle}
-use Rattle.vm_drive.specs.{Compact.all_replies, Compact.HasWindows, Compact.KeepsAnswers, declared.compact.Replies.Replies}
+use Rattle.vm_drive.specs.{Compact.all_replies, Compact.HasContents, Compact.KeepsAnswers, declared.compact.Replies.Replies}
 use Rattle.vm_drive.specs.Kept.{AreKept, HaveRoom, IsRoomFor, Room}
 
 module _ {A : Type 0} (keeps : A → List (Result Reply TreeFault) → Type 0) (space : A → Room) where
@@ -25,18 +25,18 @@ module _ {A : Type 0} (keeps : A → List (Result Reply TreeFault) → Type 0) (
   room-long (r ∷ rs) [] h = absurd h
   room-long (r ∷ rs) (c ∷ cs) h = ap suc (room-long rs cs h.2)
 
--- lists that stand for answers hold them, and have their windows
+-- lists that stand for answers hold them, and have their windows and spans
 pub kept-replies : (kept : List Replies) (told : List (List (Result Reply TreeFault))) → AreKept KeepsAnswers kept told → all_replies kept ≡ told
 kept-replies [] [] k = refl
 kept-replies [] (t ∷ ts) k = absurd k
 kept-replies (r ∷ rs) [] k = absurd k
 kept-replies (r ∷ rs) (t ∷ ts) k = let first = k.0.stands in let rest : all_replies rs ≡ ts = kept-replies rs ts k.1 in cc
 
-pub kept-windows : (kept : List Replies) (told : List (List (Result Reply TreeFault))) → AreKept KeepsAnswers kept told → AllByRecursion HasWindows kept
-kept-windows [] [] k = tt
-kept-windows [] (t ∷ ts) k = absurd k
-kept-windows (r ∷ rs) [] k = absurd k
-kept-windows (r ∷ rs) (t ∷ ts) k = (omega (arith, k.0.shown), kept-windows rs ts k.1)
+pub kept-contents : (kept : List Replies) (told : List (List (Result Reply TreeFault))) → AreKept KeepsAnswers kept told → AllByRecursion HasContents kept
+kept-contents [] [] k = tt
+kept-contents [] (t ∷ ts) k = absurd k
+kept-contents (r ∷ rs) [] k = absurd k
+kept-contents (r ∷ rs) (t ∷ ts) k = (record { windows = omega (arith, k.0.shown); spans = omega (arith, k.0.paired) }, kept-contents rs ts k.1)
 
 pub items-long : {X : Type 0} (vectors : List (Vec X Global)) → length (items_of vectors) ≡ length vectors
 items-long [] = refl
@@ -51,18 +51,18 @@ whole-back (x ∷ xs) [] n e f = absurd (omega arith)
 whole-back (x ∷ xs) (y ∷ ys) zero e f = absurd (omega arith)
 whole-back (x ∷ xs) (y ∷ ys) (suc n) e f = ap (λ (l : List _). x ∷ l) (whole-back xs ys n (omega arith) (omega arith))
 
-module _ {U X A : Type 0} {owner : _} (keeps : A → List (Result Reply TreeFault) → Type 0) (space : A → Room) (shape : Shape) (tells : Bool) (t : TableId) where
-  pub idle-long : (lists : List (List Call)) (workers : List (Worker U A X owner)) → AreIdle keeps space shape tells t lists workers → length lists ≡ length workers
+module _ (size : ℕ) {U X A : Type 0} {owner : _} (keeps : A → List (Result Reply TreeFault) → Type 0) (space : A → Room) (shape : Shape) (tells : Bool) (t : TableId) where
+  pub idle-long : (lists : List (List Call)) (workers : List (Worker U A X owner)) → AreIdle size keeps space shape tells t lists workers → length lists ≡ length workers
   idle-long [] [] a = refl
   idle-long [] (w ∷ ws) a = absurd a
   idle-long (c ∷ cs) [] a = absurd a
   idle-long (c ∷ cs) (w ∷ ws) a = ap suc (idle-long cs ws a.1)
 
-  pub idle-at : (lists : List (List Call)) (workers : List (Worker U A X owner)) (i : ℕ) (w : Worker U A X owner) → AreIdle keeps space shape tells t lists workers → i < length workers → w ≡ get_or workers i w → IsIdle keeps space shape tells t (list_at lists i) w
+  pub idle-at : (lists : List (List Call)) (workers : List (Worker U A X owner)) (i : ℕ) (w : Worker U A X owner) → AreIdle size keeps space shape tells t lists workers → i < length workers → w ≡ get_or workers i w → IsIdle size keeps space shape tells t (list_at lists i) w
   idle-at [] [] i w a l e = absurd (omega arith)
   idle-at [] (x ∷ xs) i w a l e = absurd a
   idle-at (c ∷ cs) [] i w a l e = absurd a
-  idle-at (c ∷ cs) (x ∷ xs) zero w a l e = subst (λ (y : Worker U A X owner). IsIdle keeps space shape tells t c y) (sym e) a.0
+  idle-at (c ∷ cs) (x ∷ xs) zero w a l e = subst (λ (y : Worker U A X owner). IsIdle size keeps space shape tells t c y) (sym e) a.0
   idle-at (c ∷ cs) (x ∷ xs) (suc i) w a l e = idle-at cs xs i w a.1 (omega arith) e
 
 module _ (size : ℕ) {U A : Type 0} {owner : _} (keeps : A → List (Result Reply TreeFault) → Type 0) (shape : Shape) (tells : Bool) (t : TableId) where

@@ -1,8 +1,9 @@
 -- What a drive leaves, from what was hired, what was worked and what was joined.
-use Rattle.std.proofs.Common.{[], ⊎_elim, ◌++◌, ◌+◌, ◌<◌, ◌∙◌, ◌∷◌, ◌≡◌, ◌≤◌, ap, append_assoc, arith, Bool, false, length, List, map, refl, Result}
-use Rattle.std.proofs.Common.{slice_index, subst, suc, sym, true, zero, ℕ}
+use Rattle.std.proofs.Common.{[], ⊎_elim, ◌++◌, ◌+◌, ◌<◌, ◌∙◌, ◌∷◌, ◌≡◌, ◌≤◌, ap, append_assoc, arith, Bool, false, length, List, refl, Result}
+use Rattle.std.proofs.Common.{slice_index, subst, suc, sym, true, Vec, zero, ℕ}
+use Rattle.std.specs.declared.alloc.Global.{Global}
 use Rattle.std.proofs.lemmas.List.{length-map}
-use Rattle.vm_map.specs.{declared.call.Call.Call, declared.call.Reply.Reply, declared.call.Said.Said}
+use Rattle.vm_map.specs.{declared.call.Call.Call, declared.call.Reply.Reply, declared.call.Said.Said, Map.Pairs}
 use Rattle.vm_tree_model.specs.{Fixed.fixed, Tree.map_of}
 use Rattle.vm_rule.specs.Prelude.{AreApart, Each, entries_by, Entry, has, HoldsNoPage, IsWhole, owns, TableId, times}
 use Rattle.vm_rule.proofs.Entries.{each-map}
@@ -14,7 +15,8 @@ use Rattle.vm_tree_rule.specs.declared.fault.TreeFault.{TreeFault}
 use Rattle.vm_drive.specs.{declared.worker.Worker.Worker, Kept.AreKept, Kept.HaveRoom, Kept.Room, Shows.AllShown, Shows.AreShown}
 use Rattle.vm_drive.specs.Causes.{all_faults_of, faults_of, notes_about}
 use Rattle.vm_drive.specs.Crews.{all_notes_of, AllWorked, answers_of, AreHired, AreIdle, AreJoined, HasWorked, IsBack, IsIn, IsNewWorker, number_of}
-use Rattle.vm_drive.specs.Crews.{numbers_of, worker_logs, worker_notes}
+use Rattle.vm_drive.specs.Crews.{numbers_of, spans_given, worker_logs, worker_notes}
+use Rattle.vm_drive.specs.Spans.{HaveSpans}
 use Rattle.vm_drive.specs.Parts.{HasPart, HaveParts, logs_of, noted_by, StandBehind, StandIn}
 use Rattle.vm_drive.specs.Drives.{IsAtLastVersion, IsDriven, IsUsedUp}
 use Rattle.vm_drive.specs.Holds.{answered, list_at, said_by}
@@ -212,11 +214,11 @@ module _ (size : ℕ) {U A : Type 0} {owner : _} (keeps : A → List (Result Rep
   notes-in (c ∷ cs) (o ∷ os) [] a all s = absurd a
   notes-in (c ∷ cs) (o ∷ os) (n ∷ ns) a all s = (s.0, s.1, s.2 ∙ ap (λ (l : List Note). s.0 ++ (l ++ s.1)) a.0.done.back.1.notes, notes-in cs os ns a.1 s.1 s.3)
 
-  pub driven : (lists : List (List Call)) (rooms : List A) (v x w : View Said) (olds news : List (Worker U A Said owner))
+  pub driven : (lists : List (List Call)) (rooms : List A) (spans : List (Vec (Pairs × ℕ) Global)) (v x w : View Said) (olds news : List (Worker U A Said owner))
       → IsWhole v → HoldsNoPage v → 1 ≤ length olds
-      → AreHired shape tells t rooms v olds x → (a : AllWorked size keeps shape tells t lists olds news) → AreJoined size tells x news w
+      → AreHired shape tells t rooms spans v olds x → (a : AllWorked size keeps shape tells t lists olds news) → AreJoined size tells x news w
       → IsDriven size tells lists (told_of lists olds news a) v w
-  driven lists rooms v x w olds news whole holds some' h a j =
+  driven lists rooms spans v x w olds news whole holds some' h a j =
       let same : numbers_of news ≡ numbers_of olds = same-numbers lists olds news a in
       let kept : KeepsAll v w = all-then v x w h.kept j.kept in
       let alone : IsWhole w = λ k l.
@@ -291,16 +293,17 @@ module _ (size : ℕ) {U A : Type 0} {owner : _} (keeps : A → List (Result Rep
 
 -- ---- between the parts of a drive
 
-module _ {U A : Type 0} {owner : _} (keeps : A → List (Result Reply TreeFault) → Type 0) (shape : Shape) (tells : Bool) (t : TableId) where
-  idle-with : (space : A → Room) (lists : List (List Call)) (ds : List (Worker U A Said owner)) (v : View Said) → Each (IsNewWorker shape tells t v) ds → HaveRoom keeps space (map (λ (d : Worker U A Said owner). d.answers) ds) lists → AreIdle keeps space shape tells t lists ds
-  idle-with space [] [] v new r = tt
-  idle-with space [] (d ∷ ds) v new r = absurd r
-  idle-with space (c ∷ cs) [] v new r = absurd r
-  idle-with space (c ∷ cs) (d ∷ ds) v new r = (record { work = new.0.work; holds = new.0.holds; empty = r.0; room = r.1 }, idle-with space cs ds v new.1 r.2)
+module _ (size : ℕ) {U A : Type 0} {owner : _} (keeps : A → List (Result Reply TreeFault) → Type 0) (shape : Shape) (tells : Bool) (t : TableId) where
+  idle-with : (space : A → Room) (lists : List (List Call)) (ds : List (Worker U A Said owner)) (v : View Said) → Each (IsNewWorker shape tells t v) ds → HaveRoom keeps space (answers_of ds) lists → HaveSpans size lists (spans_given ds) → AreIdle size keeps space shape tells t lists ds
+  idle-with space [] [] v new r s = tt
+  idle-with space [] (d ∷ ds) v new r s = absurd r
+  idle-with space (c ∷ cs) [] v new r s = absurd r
+  idle-with space (c ∷ cs) (d ∷ ds) v new r s = (record { work = new.0.work; holds = new.0.holds; empty = r.0; room = r.1; spans = s.0 }, idle-with space cs ds v new.1 r.2 s.1)
 
-  -- those that were hired are idle, with room for their lists
-  pub hired-idle : (space : A → Room) (lists : List (List Call)) (rooms : List A) (v : View Said) (ds : List (Worker U A Said owner)) → Each (IsNewWorker shape tells t v) ds → map (λ (d : Worker U A Said owner). d.answers) ds ≡ rooms → HaveRoom keeps space rooms lists → AreIdle keeps space shape tells t lists ds
-  hired-idle space lists rooms v ds new e r = idle-with space lists ds v new (subst (λ l. HaveRoom keeps space l lists) (sym e) r)
+  -- those that were hired are idle, with room and spans for their lists
+  pub hired-idle : (space : A → Room) (lists : List (List Call)) (rooms : List A) (spans : List (Vec (Pairs × ℕ) Global)) (v x : View Said) (ds : List (Worker U A Said owner)) → AreHired shape tells t rooms spans v ds x → HaveRoom keeps space rooms lists → HaveSpans size lists spans → AreIdle size keeps space shape tells t lists ds
+  hired-idle space lists rooms spans v x ds h r s =
+      idle-with space lists ds v h.each (subst (λ l. HaveRoom keeps space l lists) (sym h.answers) r) (subst (λ l. HaveSpans size lists l) (sym h.spans) s)
 
-  pub hired-long : (space : A → Room) (lists : List (List Call)) (rooms : List A) (v : View Said) (ds : List (Worker U A Said owner)) (x : View Said) → AreHired shape tells t rooms v ds x → HaveRoom keeps space rooms lists → length ds ≡ length lists
-  hired-long space lists rooms v ds x h r = sym (length-map ds (λ (d : Worker U A Said owner). d.answers)) ∙ ap (λ (l : List A). length l) h.answers ∙ room-long keeps space rooms lists r
+  pub hired-long : (space : A → Room) (lists : List (List Call)) (rooms : List A) (spans : List (Vec (Pairs × ℕ) Global)) (v : View Said) (ds : List (Worker U A Said owner)) (x : View Said) → AreHired shape tells t rooms spans v ds x → HaveRoom keeps space rooms lists → length ds ≡ length lists
+  hired-long space lists rooms spans v ds x h r = sym (length-map ds (λ (d : Worker U A Said owner). d.answers)) ∙ ap (λ (l : List A). length l) h.answers ∙ room-long keeps space rooms lists r

@@ -1,15 +1,16 @@
 -- One worker more is hired.
 use Rattle.std.proofs.Common.{[], ⊎_elim, ◌++◌, ◌+◌, ◌==◌, ◌∙◌, ◌∷◌, ◌≡◌, ◌≤◌, ap, arith, Bool, false, if◌then◌else◌, inr, length, List, refl}
-use Rattle.std.proofs.Common.{slice_index, subst, sym, true, true≢false, ℕ}
+use Rattle.std.proofs.Common.{slice_index, subst, sym, true, true≢false, Vec, ℕ}
+use Rattle.std.specs.declared.alloc.Global.{Global}
 use Rattle.std.proofs.lemmas.Bool.{cases_eq, eq-eqb, ne_eqb}
 use Rattle.std.proofs.lemmas.List.{length-append, map-append}
-use Rattle.vm_map.specs.declared.call.Said.{Said}
+use Rattle.vm_map.specs.{declared.call.Said.Said, Map.Pairs}
 use Rattle.vm_rule.specs.Prelude.{Each, entries_by, has, HoldsNoPage, HoldsNothing, IsWhole, other_parts, owns, TableId, times}
 use Rattle.vm_rule.proofs.Entries.{each-map}
 use Rattle.vm_step.specs.Prelude.{AreHeld, HasStill, IsReady, Shape, View, view}
 use Rattle.vm_step.proofs.{Still.caught-still, Still.still-fresh, Together.holds-none as nothing-holds, Together.new-nothing}
 use Rattle.vm_pool.specs.Parting.{KeepsAll, Splits}
-use Rattle.vm_drive.specs.Crews.{AreAtHome, AreHired, IsNewWorker, number_of, numbers_of}
+use Rattle.vm_drive.specs.Crews.{AreAtHome, AreHired, IsNewWorker, number_of, numbers_of, spans_given}
 use Rattle.vm_drive.specs.declared.worker.Worker.{Worker}
 use Rattle.vm_drive.proofs.Lists.{apart-snoc, each-snoc, front-none, starts-then, times-both}
 
@@ -74,10 +75,10 @@ module _ {U A : Type 0} {owner : _} (shape : Shape) (tells : Bool) (t : TableId)
         frames = ap (λ (y : View Said). y.frames) is;
       }
 
-  pub hired-more : 1 ≤ shape.pages → (rooms : List A) (v : View Said) (ds : List (Worker U A Said owner)) (w x : View Said) (d : Worker U A Said owner)
-      → AreHired shape tells t rooms v ds w → Splits w (view d.pass) x → IsReady shape tells t d.pass → d.iface.frames ≡ []
-      → AreHired shape tells t (rooms ++ d.answers ∷ []) v (ds ++ d ∷ []) x
-  hired-more pages rooms v ds w x d h s ready none =
+  pub hired-more : 1 ≤ shape.pages → (rooms : List A) (spans : List (Vec (Pairs × ℕ) Global)) (v : View Said) (ds : List (Worker U A Said owner)) (w x : View Said) (d : Worker U A Said owner)
+      → AreHired shape tells t rooms spans v ds w → Splits w (view d.pass) x → IsReady shape tells t d.pass → d.iface.frames ≡ []
+      → AreHired shape tells t (rooms ++ d.answers ∷ []) (spans_given (ds ++ d ∷ [])) v (ds ++ d ∷ []) x
+  hired-more pages rooms spans v ds w x d h s ready none =
       let still : HasStill w x = split-keeps w (view d.pass) x s in
       let one : number_of d ≡ s.number = ap (λ (y : View Said). slice_index y.used 0) s.new in
       let numbers : numbers_of (ds ++ d ∷ []) ≡ numbers_of ds ++ number_of d ∷ [] = map-append number_of ds (d ∷ []) in
@@ -106,5 +107,6 @@ module _ {U A : Type 0} {owner : _} (shape : Shape) (tells : Bool) (t : TableId)
             (front-none (number_of d ∷ []) v.seen kept.seen.0 (ap (λ l. entries_by (number_of d ∷ []) l) (sym kept.seen.1) ∙ ap (λ n. entries_by (n ∷ []) x.seen) one ∙ s.unused)));
         each = each-snoc (IsNewWorker shape tells t v) ds d h.each (is-new pages v w x d h.kept s ready none);
         answers = map-append (λ (worker : Worker U A Said owner). worker.answers) ds (d ∷ []) ∙ ap (λ l. l ++ d.answers ∷ []) h.answers;
+        spans = refl;
         all = inr (⊎_elim (λ empty. subst (λ (y : View Said). IsWhole y → y.mine ≡ y.seen) empty.1 s.all) (λ known. known) h.all);
       }

@@ -1,4 +1,5 @@
 pub mod Lists
+pub mod Memory
 pub mod Called
 pub mod Showing
 pub mod Tracing
@@ -9,6 +10,7 @@ pub mod Finding
 pub mod Sweeping
 pub mod Bringing
 pub mod Rooms
+pub mod Spanning
 pub mod Answering
 pub mod Hiring
 pub mod Chain

@@ -1,14 +1,14 @@
--- What a window shows it shows in each later view of the pass, and of the pass that took it in.
+-- What a window or a range shows it shows in each later view of the pass, and of the pass that took it in.
 use Rattle.std.proofs.Common.{[], ◌++◌, ◌∙◌, ◌∷◌, ◌≡◌, ap, arith, Err, length, List, Ok, Result, subst, sym, ℕ}
 use Rattle.vm_map.specs.{declared.call.Call.Call, declared.call.Reply.Reply, declared.call.Said.Said}
-use Rattle.vm_map.specs.declared.call.Call.TheVariants.{Del, Get, Put, Window}
+use Rattle.vm_map.specs.declared.call.Call.TheVariants.{Del, Get, Put, Range, Swap, Window}
 use Rattle.vm_tree_model.specs.Fixed.{fixed}
 use Rattle.vm_core.specs.Prelude.{page_at}
 use Rattle.vm_rule.specs.Prelude.{began_of, last_in, StartsWith}
 use Rattle.vm_step.specs.Prelude.{Origin, View}
 use Rattle.vm_tree_laws.specs.Keeps.{KeepsTree}
 use Rattle.vm_tree_rule.specs.declared.fault.TreeFault.{TreeFault}
-use Rattle.vm_drive.specs.Shows.{AllShown, AreShown, IsOfLeaf, IsWindowShown}
+use Rattle.vm_drive.specs.Shows.{AllShown, AreShown, IsOfLeaf, IsOfLeaves, IsReplyShown}
 use Rattle.vm_drive.proofs.Lists.{starts-then}
 
 module _ (size : ℕ) where
@@ -29,12 +29,28 @@ module _ (size : ℕ) where
     proved = l.proved;
   }
 
+  of-leaves-more : (said : Said) (v w : View Said) → w.start ≡ v.start → StartsWith w.seen v.seen → IsOfLeaves size said v → IsOfLeaves size said w
+  of-leaves-more said v w start seen l = record {
+    kept = l.kept;
+    keeps = subst (λ (o : Origin). KeepsTree (fixed size) (began_of o) l.kept) (sym start) l.keeps;
+    history = starts-then w.seen v.seen l.kept.history seen l.history;
+    earlier = l.earlier;
+    entry = l.entry;
+    step = l.step;
+    says = l.says;
+    leaves = l.leaves;
+    there = l.there;
+    proved = l.proved;
+  }
+
   module _ (v w : View Said) (start : w.start ≡ v.start) (seen : StartsWith w.seen v.seen) (releases : StartsWith w.releases v.releases) where
-    shown-more : (c : Call) (r : Reply) → IsWindowShown size v c r → IsWindowShown size w c r
+    shown-more : (c : Call) (r : Reply) → IsReplyShown size v c r → IsReplyShown size w c r
     shown-more (Get key) r h = tt
     shown-more (Put key value) r h = tt
     shown-more (Del key) r h = tt
+    shown-more (Swap key want value) r h = tt
     shown-more (Window from most) r h = λ told. of-leaf-more (record { call = Window from most; reply = r }) v w start seen releases (h (ap (λ (o : Origin). o.tells) (sym start) ∙ told))
+    shown-more (Range low bound) r h = λ told. of-leaves-more (record { call = Range low bound; reply = r }) v w start seen (h (ap (λ (o : Origin). o.tells) (sym start) ∙ told))
 
     pub are-shown-more : (cs : List Call) (rs : List (Result Reply TreeFault)) → AreShown size v cs rs → AreShown size w cs rs
     are-shown-more [] rs h = tt

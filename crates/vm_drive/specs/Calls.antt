@@ -1,7 +1,7 @@
 -- What a call of the tree that waits leaves of a worker's pass.
 use Rattle.std.specs.Prelude.{◌≡◌, ℕ}
 use Rattle.vm_map.specs.declared.call.Call.{Call}
-use Rattle.vm_map.specs.declared.call.Call.TheVariants.{Del, Get, Put, Window}
+use Rattle.vm_map.specs.declared.call.Call.TheVariants.{Del, Get, Put, Range, Swap, Window}
 use Rattle.vm_rule.specs.Prelude.{StartsWith}
 use Rattle.vm_step.specs.Prelude.{HoldsPage, View}
 
@@ -24,3 +24,5 @@ IsPutCall (Get key) = ⊥
 IsPutCall (Put key value) = Unit {0}
 IsPutCall (Del key) = ⊥
 IsPutCall (Window start most) = ⊥
+IsPutCall (Swap key want value) = ⊥
+IsPutCall (Range low bound) = ⊥

@@ -1,6 +1,7 @@
 -- The workers of a drive: those that were hired, and those that have done their work.
-use Rattle.std.specs.Prelude.{[], ◌*◌, ◌++◌, ◌+◌, ◌/◌, ◌∷◌, ◌≡◌, ◌⊎◌, Bool, false, length, List, map, min, Result, slice_index, true, ℕ}
-use Rattle.vm_map.specs.{declared.call.Call.Call, declared.call.Reply.Reply, declared.call.Said.Said}
+use Rattle.std.specs.declared.alloc.Global.{Global}
+use Rattle.std.specs.Prelude.{[], ◌*◌, ◌++◌, ◌+◌, ◌/◌, ◌∷◌, ◌≡◌, ◌⊎◌, Bool, false, length, List, map, min, Result, slice_index, true, Vec, ℕ}
+use Rattle.vm_map.specs.{declared.call.Call.Call, declared.call.Reply.Reply, declared.call.Said.Said, Map.Pairs}
 use Rattle.vm_rule.specs.Prelude.{AreApart, Each, entries_by, has, HoldsNoPage, IsWhole, owns, StartsWith, TableId, times}
 use Rattle.vm_step.specs.Prelude.{Did, IsReady, KnowsAll, Note, Shape, View, view}
 use Rattle.vm_pool.specs.Parting.{KeepsAll}
@@ -8,7 +9,7 @@ use Rattle.vm_tree_model.specs.Fixed.{fixed}
 use Rattle.vm_tree_laws.specs.Plain.{KeepsPlain}
 use Rattle.vm_tree_rule.specs.declared.fault.TreeFault.{TreeFault}
 use Rattle.vm_tree_read.specs.Waiting.{LosesNone}
-use Rattle.vm_drive.specs.{Causes.notes_about, declared.worker.Worker.Worker, Kept.IsRoomFor, Kept.Room, Parts.StandBehind, TreeCalls.as_said, Workers.HasKept, Workers.IsAtWork}
+use Rattle.vm_drive.specs.{Causes.notes_about, declared.worker.Worker.Worker, Kept.IsRoomFor, Kept.Room, Parts.StandBehind, Spans.HasSpans, TreeCalls.as_said, Workers.HasKept, Workers.IsAtWork}
 
 -- the worker's number
 abbrev pub number_of : {U X A : Type 0} {owner : _} → Worker U A X owner → ℕ
@@ -16,6 +17,10 @@ number_of worker = slice_index (view worker.pass).used 0
 
 abbrev pub numbers_of : {U X A : Type 0} {owner : _} → List (Worker U A X owner) → List ℕ
 numbers_of workers = map number_of workers
+
+-- the spans that the workers have
+abbrev pub spans_given : {U X A : Type 0} {owner : _} → List (Worker U A X owner) → List (Vec (Pairs × ℕ) Global)
+spans_given workers = map (λ worker. worker.spans) workers
 
 -- how many frames the interface of each of so many workers keeps: a quarter of the worker's share, at most 64
 abbrev pub share_of : (frames workers : ℕ) → ℕ
@@ -38,8 +43,8 @@ module _ {U A : Type 0} {owner : _} (shape : Shape) (tells : Bool) (t : TableId)
     pub log : (view worker.pass).log ≡ []
     pub frames : (view worker.pass).frames ≡ []
 
-  -- The pass with the view v, which then has the view w, gave a part to each of these workers, who have these rooms for answers
-  pub record AreHired (rooms : List A) (v : View Said) (workers : List (Worker U A Said owner)) (w : View Said) : Type 0 where
+  -- The pass with the view v, which then has the view w, gave a part to each of these workers, who have these rooms for answers and these spans
+  pub record AreHired (rooms : List A) (given : List (Vec (Pairs × ℕ) Global)) (v : View Said) (workers : List (Worker U A Said owner)) (w : View Said) : Type 0 where
     pub kept : KeepsAll v w
     pub mine : w.mine ≡ v.mine
     pub notes : w.notes ≡ v.notes
@@ -53,15 +58,17 @@ module _ {U A : Type 0} {owner : _} (shape : Shape) (tells : Bool) (t : TableId)
     pub unused : Each (λ n. entries_by (n ∷ []) v.seen ≡ []) (numbers_of workers)
     pub each : Each (IsNewWorker v) workers
     pub answers : map (λ (worker : Worker U A Said owner). worker.answers) workers ≡ rooms
+    pub spans : spans_given workers ≡ given
     pub all : ((workers ≡ []) × (w ≡ v)) ⊎ (IsWhole v → v.mine ≡ v.seen)
 
-module _ {U X A : Type 0} {owner : _} (keeps : A → List (Result Reply TreeFault) → Type 0) (space : A → Room) (shape : Shape) (tells : Bool) (t : TableId) where
-  -- the worker is at work with no page, and has room for answers to the calls
+module _ (n : ℕ) {U X A : Type 0} {owner : _} (keeps : A → List (Result Reply TreeFault) → Type 0) (space : A → Room) (shape : Shape) (tells : Bool) (t : TableId) where
+  -- the worker is at work with no page, and has room for answers to the calls, and a span for each of them that asks for a range
   pub record IsIdle (calls : List Call) (worker : Worker U A X owner) : Type 0 where
     pub work : IsAtWork shape tells t worker
     pub holds : HoldsNoPage (view worker.pass)
     pub empty : keeps worker.answers []
     pub room : IsRoomFor calls (space worker.answers)
+    pub spans : HasSpans n calls worker.spans.items
 
   -- there is such a worker for each list
   abbrev pub AreIdle : List (List Call) → List (Worker U A X owner) → Type 0

@@ -22,7 +22,7 @@ items_of vectors = map (λ v. v.items) vectors
 abbrev pub AreFew : {X : Type 0} → List (List X) → Type 0
 AreFew lists = AllByRecursion (λ list. length list ≤ 1000000) lists
 
--- every window of the lists is asked for at least one pair
+-- each window is asked for at least one pair, and each range up to a bound above its key
 abbrev pub AreAskable : List (List Call) → Type 0
 AreAskable lists = AllByRecursion (λ calls. AllByRecursion IsAskable calls) lists
 
@@ -37,8 +37,8 @@ IsAtLastVersion w p = MAX_VERSION ≤ (last_of w p).version
 -- The workers have made the calls of their lists on a tree of pages of n words, with these answers, and their passes went into the one that had the
 -- view v and has the view w: it is whole again, holds no page, and has just the frames that it had. What it has seen begins with what it had seen, is
 -- legal, and is all its own. Its own entries grew by just the lists' calls that had a reply, each list in order under a number of its own. Each fault
--- of a device has its own new note of the page; each other fault has its cause, and each window is a leaf's, the table's page as it stood. Each
--- worker made its calls one after another, and what each was answered comes of the steps and notes of that very call
+-- of a device has its own new note of the page; each other fault has its cause, each window is a leaf's, the table's page as it stood, and each range
+-- is that of leaves that stood together. Each worker made its calls one after another, and what each was answered comes of the steps and notes of that very call
 pub record IsDriven (n : ℕ) (tells : Bool) (lists : List (List Call)) (answers : List (List (Result Reply TreeFault))) (v w : View Said) : Type 0 where
   pub alone : IsAlone w
   pub holds : HoldsNoPage w

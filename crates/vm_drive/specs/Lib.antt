@@ -3,6 +3,7 @@ pub mod Calls
 pub mod TreeCalls
 pub mod Holds
 pub mod Causes
+pub mod Spans
 pub mod Kept
 pub mod Compact
 pub mod Workers

@@ -1,16 +1,17 @@
 -- A worker's calls of the tree, one after another: what each tells is of this call alone, between what the pass knew before it and behind it.
 use Rattle.std.specs.Prelude.{[], ◌∷◌, ◌≡◌, Err, List, Ok, Result, ℕ}
 use Rattle.vm_map.specs.{declared.call.Call.Call, declared.call.Reply.Reply, declared.call.Said.Said}
-use Rattle.vm_map.specs.declared.call.Call.TheVariants.{Del, Get, Put, Window}
+use Rattle.vm_map.specs.declared.call.Call.TheVariants.{Del, Get, Put, Range, Swap, Window}
 use Rattle.vm_tree_model.specs.Fixed.{fixed}
 use Rattle.vm_kind.specs.WordRoom.{spare_in}
 use Rattle.vm_step.specs.Prelude.{View}
 use Rattle.vm_tree_rule.specs.declared.fault.TreeFault.{TreeFault}
+use Rattle.vm_tree_read.specs.Ranges.{IsRangeFaulted, IsRangeReplied}
 use Rattle.vm_tree_read.specs.Reads.{IsOfKind}
 use Rattle.vm_tree_read.specs.Waiting.{IsFaulted, IsReplied, Waits}
 use Rattle.vm_tree_write.specs.Splits.{KeepsLocksOnly}
 use Rattle.vm_tree_write.specs.Waiting.{IsDelRound, IsPutFaulted, IsPutRound, IsWriteFaulted, IsWriteReplied}
-use Rattle.vm_tree_write.specs.Writes.{HasKeyIn}
+use Rattle.vm_tree_write.specs.Writes.{HasKeyIn, HasValueIn}
 
 -- keys are words, so what is said reads as it is
 abbrev pub as_said : Said → Said
@@ -27,6 +28,10 @@ IsTreeCall n (Del key) (Ok reply) v w = IsWriteReplied as_said (fixed n) Waits (
 IsTreeCall n (Del key) (Err fault) v w = IsWriteFaulted (fixed n) Waits (IsDelRound (fixed n)) (HasKeyIn (fixed n)) key fault v w
 IsTreeCall n (Window start most) (Ok reply) v w = IsReplied as_said (fixed n) (record { call = Window start most; reply = reply }) v w × IsOfKind (Window start most) reply
 IsTreeCall n (Window start most) (Err fault) v w = IsFaulted (fixed n) start fault v w
+IsTreeCall n (Swap key want value) (Ok reply) v w = IsWriteReplied as_said (fixed n) Waits (IsDelRound (fixed n)) (record { call = Swap key want value; reply = reply }) v w × IsOfKind (Swap key want value) reply
+IsTreeCall n (Swap key want value) (Err fault) v w = IsWriteFaulted (fixed n) Waits (IsDelRound (fixed n)) (λ words key. HasValueIn (fixed n) words key want) key fault v w
+IsTreeCall n (Range low bound) (Ok reply) v w = IsRangeReplied as_said (fixed n) (record { call = Range low bound; reply = reply }) v w × IsOfKind (Range low bound) reply
+IsTreeCall n (Range low bound) (Err fault) v w = IsRangeFaulted (fixed n) low bound fault v w
 
 -- The calls were made in order, with these answers: what one leaves the next one begins with
 abbrev pub AreTreeCalls : ℕ → List Call → List (Result Reply TreeFault) → View Said → View Said → Type 0

@@ -3,7 +3,7 @@
 ghost use Rattle.std.specs.Prelude.{[], ◌++◌, ◌+◌, ◌∷◌, ◌≤◌, List, Result};
 ghost use Rattle.vm_map.specs.declared.call.Reply.{Reply};
 ghost use Rattle.vm_tree_rule.specs.declared.fault.TreeFault.{TreeFault};
-ghost use Rattle.vm_drive.specs.Kept.{Room, windows_of};
+ghost use Rattle.vm_drive.specs.Kept.{Room, spans_of, windows_of};
 
 use vm_map::call::Reply;
 use vm_tree_rule::TreeFault;
@@ -16,14 +16,16 @@ pub trait Answers {
     /// It stands for these answers, in order.
     ghost keeps: { Self → List (Result Reply TreeFault) → Type 0 };
 
-    /// How many more it takes, and how many windows among them.
+    /// How many more it takes, and how many windows and how many ranges' pairs among them.
     ghost room: { Self → Room };
 
     /// Keeps an answer more.
     fn keep(&mut self, answer: Answer)
         requires answers { 1 ≤ (room self.old).answers }
         requires windows { windows_of answer ≤ (room self.old).windows }
+        requires spans { spans_of answer ≤ (room self.old).spans }
         ensures told { (told : List (Result Reply TreeFault)) → keeps self.old told → keeps self.new (told ++ answer ∷ []) }
         ensures answers { (room self.old).answers ≤ (room self.new).answers + 1 }
-        ensures windows { (room self.old).windows ≤ (room self.new).windows + windows_of answer };
+        ensures windows { (room self.old).windows ≤ (room self.new).windows + windows_of answer }
+        ensures spans { (room self.old).spans ≤ (room self.new).spans + spans_of answer };
 }

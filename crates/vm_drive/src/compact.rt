@@ -1,24 +1,30 @@
 //! The answers to a list of calls in little memory. A window is as wide as a node of the tree and most answers are none, so an answer is 24 bytes, and the
-//! windows stand in a list of their own, with room for as many as calls ask for.
+//! windows stand in a list of their own, with room for as many as calls ask for. So do the spans with the pairs of ranges.
 
 ghost use Rattle.std.specs.Prelude.{[], ◌+◌, ◌++◌, ◌<◌, ◌∷◌, ◌≡◌, ◌≤◌, IfOk, vec_len};
 ghost use Rattle.vm_drive.specs.{Compact.KeepsAnswers, Compact.room_in, Drives.items_of, Kept.HaveRoom, Kept.windows_asked};
 ghost use Rattle.std.specs.Vec.{vec_capacity};
 
 use crate::answers::{Answer, Answers};
+use crate::spans::ranges_among;
 use std::alloc::{AllocError, Global};
-use vm_map::call::{Call, Reply};
+use vm_map::call::{Call, Reply, Swap};
+use vm_map::span::Span;
 use vm_map::window::Window;
 use vm_tree_rule::TreeFault;
 
-/// An answer without the window that it may show.
+/// An answer without the window that it may show, and without the pairs of a range.
 #[derive(Debug, Drop, PartialEq)]
 pub enum Short {
     Got(Option<u64>),
     Was(Option<u64>),
     Gone(Option<u64>),
+    Swapped(Swap),
     /// The next of the windows.
     Win,
+    /// The next of the spans.
+    Many,
+    Wide(u64),
     Fault(TreeFault),
 }
 
@@ -32,16 +38,19 @@ pub struct Replies {
     pub short: Vec<Short>,
     /// The windows, in the order of the answers that show them.
     pub windows: Vec<Window>,
+    /// The pairs of ranges, in the order of the answers that have them.
+    pub spans: Vec<Span>,
 }
 
 impl Replies {
-    // With an answer more, whose window stands already.
+    // With an answer more, whose window or pairs stand already.
     fn add(&mut self, short: Short)
         requires { vec_len self.old.short < vec_capacity self.old.short }
         ensures short { self.new.short.items ≡ self.old.short.items ++ short ∷ [] }
         ensures len { vec_len self.new.short ≡ vec_len self.old.short + 1 }
         ensures capacity { vec_capacity self.old.short ≤ vec_capacity self.new.short }
         ensures windows { self.new.windows ≡ self.old.windows }
+        ensures spans { self.new.spans ≡ self.old.spans }
     {
         if self.short.push(short).is_err() {
             unreachable!()
@@ -49,24 +58,33 @@ impl Replies {
     }
 }
 
-/// As many answers and windows as there is room for.
+/// As many answers, windows and spans as there is room for.
 impl Answers for Replies {
     ghost keeps = { KeepsAnswers };
 
     ghost room = { room_in };
 
     fn keep(&mut self, answer: Answer) {
-        match answer {
-            Ok(Reply::Got(found)) => self.add(Short::Got(found)),
-            Ok(Reply::Was(old)) => self.add(Short::Was(old)),
-            Ok(Reply::Gone(old)) => self.add(Short::Gone(old)),
+        let mut answer = answer;
+        match &mut answer {
+            Ok(Reply::Got(found)) => self.add(Short::Got(*found)),
+            Ok(Reply::Was(old)) => self.add(Short::Was(*old)),
+            Ok(Reply::Gone(old)) => self.add(Short::Gone(*old)),
+            Ok(Reply::Swapped(outcome)) => self.add(Short::Swapped(*outcome)),
+            Ok(Reply::Wide(reach)) => self.add(Short::Wide(*reach)),
             Ok(Reply::Win(window)) => {
-                if self.windows.push(window).is_err() {
+                if self.windows.push(window.take()).is_err() {
                     unreachable!()
                 }
                 self.add(Short::Win)
             }
-            Err(fault) => self.add(Short::Fault(fault)),
+            Ok(Reply::Many(span)) => {
+                if self.spans.push(span.take()).is_err() {
+                    unreachable!()
+                }
+                self.add(Short::Many)
+            }
+            Err(fault) => self.add(Short::Fault(*fault)),
         }
     }
 }
@@ -84,7 +102,7 @@ fn windows_in(calls: &[Call]) -> usize
     count
 }
 
-/// For each list, room for an answer to each of its calls, and for a window to each that asks for one.
+/// For each list, room for an answer to each of its calls, and for a window or a range's pairs to each that asks for them.
 pub fn rooms_for(alloc: Global, lists: &[Vec<Call>]) -> Result<Vec<Replies>, AllocError>
     ensures { IfOk result (λ rooms. HaveRoom KeepsAnswers room_in rooms.items (items_of lists.now)) }
 {
@@ -92,7 +110,12 @@ pub fn rooms_for(alloc: Global, lists: &[Vec<Call>]) -> Result<Vec<Replies>, All
     'lists: for calls in lists {
         let short = Vec::with_capacity(alloc, calls.len())?;
         let windows = Vec::with_capacity(alloc, windows_in(calls.as_slice()))?;
-        rooms.push(Replies { short, windows })?;
+        let spans = Vec::with_capacity(alloc, ranges_among(calls.as_slice()))?;
+        rooms.push(Replies {
+            short,
+            windows,
+            spans,
+        })?;
     }
     Ok(rooms)
 }

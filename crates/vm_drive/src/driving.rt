@@ -8,11 +8,12 @@ ghost use Rattle.vm_step.specs.Prelude.{IsReady, IsSamePass, view};
 ghost use Rattle.vm_drive.specs.Crews.{AllWorked, answers_of, AreAtHome, AreHired, AreIdle, AreJoined, HasWorked, IsBack, IsIdle, share_of};
 ghost use Rattle.vm_drive.specs.Drives.{AreAskable, AreFew, IsDriven, IsDrivenInto, items_of};
 ghost use Rattle.vm_drive.specs.Holds.{list_at};
-ghost use Rattle.vm_drive.specs.{Compact.all_replies, Compact.HasWindows, Kept.HaveRoom};
+ghost use Rattle.vm_drive.specs.{Compact.all_replies, Compact.HasContents, Kept.HaveRoom};
 
 use crate::answers::Answers;
 use crate::compact::{Replies, rooms_for};
 use crate::gate::Gate;
+use crate::spans::spans_for;
 use crate::worker::{Worker, work};
 use std::alloc::{AllocError, Global};
 use std::sync::Wait;
@@ -23,6 +24,7 @@ use vm_core::Memory;
 use vm_exmap::Interface;
 use vm_kind::{OfSize, TreeOf, WordKeys};
 use vm_map::call::Call;
+use vm_map::span::Span;
 use vm_owner::Owner;
 use vm_pool::Pool;
 use vm_rule::words::Pass;
@@ -74,7 +76,7 @@ pub fn drive<
     ensures pass { IsSamePass pass.old pass.new }
     ensures ready { IsReady pool.now.words.table.shared.key B.tells pool.now.words.table.shared.table_id pass.new }
     ensures driven { IfOk result (λ driven. IsDriven N B.tells (items_of lists.now) (all_replies driven.replies.items) (view pass.old) (view pass.new)) }
-    ensures windows { IfOk result (λ driven. AllByRecursion HasWindows driven.replies.items) }
+    ensures contents { IfOk result (λ driven. AllByRecursion HasContents driven.replies.items) }
     ensures memory { IfErr result (λ _. pass.new ≡ pass.old) }
 {
     let rooms = match rooms_for(alloc, lists) {
@@ -89,7 +91,7 @@ pub fn drive<
 }
 
 /// The same, where each list has something that keeps its answers, in the lists' order: it stands for no answer yet, and has room for one to
-/// each of the list's calls, and for a window to each that asks for one.
+/// each of the list's calls, and for a window or a range's pairs to each that asks for them.
 pub fn drive_into<
     S: OfSize<N> + Sync,
     R: Threads + Wait + Sync,
@@ -125,8 +127,12 @@ pub fn drive_into<
         Ok(places) => places,
         Err(AllocError) => return Err(Memory),
     };
+    let spans = match spans_for::<S, N>(alloc, lists) {
+        Ok(spans) => spans,
+        Err(AllocError) => return Err(Memory),
+    };
     let cap = cap_for(pool.words.frames, lists.len());
-    let mut workers = hire(pool, pass, cap, rooms, workers);
+    let mut workers = hire(pool, pass, cap, rooms, spans, workers);
     work_all(rt, pool, gate, lists, workers.as_mut_slice());
     Ok(gather(pool, pass, workers, kept))
 }
@@ -155,12 +161,13 @@ fn cap_for(frames: usize, workers: usize) -> u32
     (frames / (4 * workers)).min(64) as u32
 }
 
-// Splits off a pass for each room. An interface is at home at its worker's place, modulo the number of bundles.
+// Splits off a pass for each room, which gets its list's spans. An interface is at home at its worker's place, modulo the number of bundles.
 fn hire<S: OfSize<N>, B: Block, A: Drop, const N: usize>(
     pool: &Pool<TreeOf<WordKeys<S, N>>, B, N>,
     pass: &mut Pass<TreeOf<WordKeys<S, N>>>,
     cap: u32,
     rooms: Vec<A>,
+    spans: Vec<Vec<Span>>,
     mut workers: Vec<Worker<TreeOf<WordKeys<S, N>>, A>>,
 ) -> Vec<Worker<TreeOf<WordKeys<S, N>>, A>>
     requires ready { IsReady pool.now.words.table.shared.key B.tells pool.now.words.table.shared.table_id pass.old }
@@ -169,14 +176,19 @@ fn hire<S: OfSize<N>, B: Block, A: Drop, const N: usize>(
     requires pages { 1 ≤ pool.now.words.table.shared.key.pages }
     requires cap { (1 ≤ cap) × (cap ≤ 64) }
     requires few { length rooms.items ≤ 64 }
+    requires spans { length spans.items ≡ length rooms.items }
     requires room { (workers.items ≡ []) × (length rooms.items ≤ vec_capacity workers) }
     ensures pass { IsSamePass pass.old pass.new }
     ensures ready { IsReady pool.now.words.table.shared.key B.tells pool.now.words.table.shared.table_id pass.new }
-    ensures hired { AreHired pool.now.words.table.shared.key B.tells pool.now.words.table.shared.table_id rooms.items (view pass.old) result.items (view pass.new) }
+    ensures hired { AreHired pool.now.words.table.shared.key B.tells pool.now.words.table.shared.table_id rooms.items spans.items (view pass.old) result.items (view pass.new) }
     ensures homes { AreAtHome 0 cap result.items }
 {
     let mut home = 0u32;
+    let mut each = spans.into_iter();
     'rooms: for answers in rooms {
+        let Some(spans) = each.next() else {
+            unreachable!()
+        };
         let own = pool.split_one(pass);
         let iface = Interface::new(home, cap);
         home = home.saturating_add(1);
@@ -184,6 +196,7 @@ fn hire<S: OfSize<N>, B: Block, A: Drop, const N: usize>(
             pass: own,
             iface,
             answers,
+            spans,
         };
         if workers.push(worker).is_err() {
             unreachable!()
@@ -209,7 +222,7 @@ fn work_all<
 )
     requires lists { (1 ≤ length lists.now) × (length lists.now ≤ 64) }
     requires askable { AreAskable (items_of lists.now) }
-    requires idle { AreIdle A.keeps A.room pool.now.words.table.shared.key B.tells pool.now.words.table.shared.table_id (items_of lists.now) workers.old }
+    requires idle { AreIdle N A.keeps A.room pool.now.words.table.shared.key B.tells pool.now.words.table.shared.table_id (items_of lists.now) workers.old }
     requires homes { AreAtHome 0 (share_of pool.now.words.frames (length lists.now)) workers.old }
     ensures { AllWorked N A.keeps pool.now.words.table.shared.key B.tells pool.now.words.table.shared.table_id (items_of lists.now) workers.old workers.new }
 {
@@ -220,7 +233,7 @@ fn work_all<
         &|i: usize, worker: &mut Worker<TreeOf<WordKeys<S, N>>, A>|
             requires inside { (i < length lists.now) × (length lists.now ≤ 64) }
             requires askable { AreAskable (items_of lists.now) }
-            requires idle { IsIdle A.keeps A.room pool.now.words.table.shared.key B.tells pool.now.words.table.shared.table_id (list_at (items_of lists.now) i) worker.old }
+            requires idle { IsIdle N A.keeps A.room pool.now.words.table.shared.key B.tells pool.now.words.table.shared.table_id (list_at (items_of lists.now) i) worker.old }
             ensures { HasWorked N A.keeps pool.entry.now.words.table.shared.key B.tells pool.entry.now.words.table.shared.table_id (list_at (items_of lists.entry.now) i) worker.old worker.new }
         { work(rt, pool, gate, i as u32, lists[i].as_slice(), worker) },
     );
@@ -249,6 +262,7 @@ fn gather<S: OfSize<N>, B: Block, A: Drop, const N: usize>(
             pass: own,
             iface,
             answers,
+            ..
         } = worker;
         evicted = evicted.saturating_add(iface.swept());
         pool.join(pass, own);

@@ -5,6 +5,7 @@ pub mod answers;
 pub mod compact;
 mod driving;
 pub mod gate;
+pub mod spans;
 pub mod worker;
 
 pub use compact::rooms_for;

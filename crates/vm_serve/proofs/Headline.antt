@@ -4,8 +4,8 @@ use Rattle.std.proofs.Common.{replicate, Result, slice_index, slice_index_or, So
 use Rattle.std.proofs.lemmas.Bool.{cases_lt, ne_eqb}
 use Rattle.vm_map.specs.{declared.call.Call.Call, declared.call.Reply.Reply, declared.call.Said.Said, History.after_all}
 use Rattle.vm_page.specs.Sizes.{IsSize}
-use Rattle.vm_tree_model.specs.{Count.node_count, Fixed.capacity, Fixed.fixed, Tree.IsTree, Tree.map_of}
-use Rattle.vm_tree_model.proofs.FixedLaws.{size_is, sized_layout}
+use Rattle.vm_tree_model.specs.{Count.node_count, Fixed.fixed, Tree.IsTree, Tree.map_of}
+use Rattle.vm_tree_model.proofs.FixedLaws.{sized_layout}
 use Rattle.vm_node.specs.Halves.{half_of}
 use Rattle.vm_image.specs.{declared.blocks.PlannedFault.PlannedFault, File.IsNextPage}
 use Rattle.vm_image.specs.Blocks.{AreBlocksOf, numbers_for, pages_of_blocks}
@@ -25,13 +25,14 @@ use Rattle.vm_pool.specs.declared.ended.Ended.{Ended}
 use Rattle.vm_tree_laws.specs.{History.IsLegal, History.news, History.saids, Keeps.KeepsTree, Plain.KeepsPlain}
 use Rattle.vm_tree_laws.proofs.{Fullness.room_used, Starts.start_keeps}
 use Rattle.vm_tree_rule.specs.declared.fault.TreeFault.{TreeFault}
-use Rattle.vm_drive.specs.{Drives.IsAtLastVersion, Drives.IsDriven, Holds.HoldsCalls}
+use Rattle.vm_drive.specs.{Drives.IsAtLastVersion, Drives.IsDriven, Holds.HoldsCalls, Shows.AllShown}
 use Rattle.vm_drive.specs.{Causes.all_faults_of, Causes.notes_about, Parts.logs_of, Parts.noted_by, TreeCalls.as_said}
 use Rattle.vm_drive.proofs.{Called.FoundFull, Called.FoundWorn, Doing.notes-both, Parted.parts-later, Parted.traced, Parts.behind-in, Plainly.plain-keeps}
 use Rattle.vm_drive.proofs.Showing.{all-shown-more}
 use Rattle.vm_drive.proofs.Tracing.{found-later, lists-caused, max-later, used-up, worn-out}
 use Rattle.vm_serve.specs.Served.{is_first, IsFilled, IsServed}
 use Rattle.vm_serve.proofs.Counting.{few-faults, few-notes, small-plan}
+use Rattle.vm_serve.proofs.Widening.{all-widened, other-half}
 
 -- the words of the blocks are the start's
 contents-held : {size : ℕ} (blocks : List (MemBlock size)) → contents_of size true (map stored_of blocks) ≡ pages_of_blocks blocks
@@ -61,10 +62,6 @@ begins-held size sized next blocks tree free =
 pub begins : (size : ℕ) → IsSize size → (pages : List (List ℕ)) (plan : List PlannedFault) (next : ℕ) (blocks : List (MemBlock size)) → IsTree (fixed size) pages → IsNextPage size pages next → AreBlocksOf pages plan blocks → MayBegin (KeepsPlain as_said (fixed size)) next (block_words (map stored_of blocks))
 begins size sized pages plan next blocks tree free held =
     begins-held size sized next blocks (subst (λ (l : List (List ℕ)). IsTree (fixed size) l) (sym held.held) tree) (subst (λ (l : List (List ℕ)). IsNextPage size l next) (sym held.held) free)
-
--- a page has place for an even number of pairs
-other-half : (size : ℕ) → IsSize size → 2 * (capacity size - half_of size) ≡ 2 * half_of size
-other-half size sized = size_is (λ n. 2 * (capacity n - half_of n) ≡ 2 * half_of n) size sized refl refl
 
 numbers-long : (a n : ℕ) → length (numbers a n) ≡ n
 unfolding numbers
@@ -138,7 +135,7 @@ blocks-hold blocks n words long each =
     ∙ listed-same n (at [] (pages_of_blocks blocks)) words (λ p l. same-words blocks p (subst (λ k. p < k) (sym long) l) ∙ each p l)
 
 module _ (size : ℕ) (sized : IsSize size) {U : Type 0} (pages : List (List ℕ)) (plan : List PlannedFault) (version next frames : ℕ) (before after : List (MemBlock size)) (lists : List (List Call)) (replies : List (List (Result Reply TreeFault))) (report : Flushed) (end : Ended U Said) (v w : View Said)
-    (held : AreBlocksOf pages plan before) (count : length before ≡ length pages) (is : v ≡ begun (unborn (started_shape size true version next frames (map stored_of before)))) (next_page : IsNextPage size pages next)
+    (held : AreBlocksOf pages plan before) (count : length before ≡ length pages) (is : v ≡ begun (unborn (started_shape size true version next frames (map stored_of before)))) (next_page : IsNextPage size pages next) (tree : IsTree (fixed size) pages)
     (driven : IsDriven size true lists replies v w) (flushed : IsFlushed report w (view_at_end end)) (last : ℕ) (closed : IsClosed true (KeepsPlain as_said (fixed size)) (view_at_end end) (map stored_of after) last) where
   abbrev e : View Said
   e = view_at_end end
@@ -178,6 +175,13 @@ module _ (size : ℕ) (sized : IsSize size) {U : Type 0} (pages : List (List ℕ
             subst (λ (l : List (List ℕ)). (half_of size - 1) * length l ≤ 2 * half_of size * node_count (fixed size) l + 2 * news e.seen + (half_of size - 1) * (e.start.next + 1)) began
             (subst (λ (k : ℕ). (half_of size - 1) * length e.start.contents ≤ k * node_count (fixed size) e.start.contents + 2 * news e.seen + (half_of size - 1) * (e.start.next + 1)) (other-half size sized) cause);
       }
+
+  -- from the next word at the start on the image's pages are free
+  begun_next : IsNextPage size pages e.start.next
+  begun_next = subst (λ n. IsNextPage size pages n) (sym (ap (λ (o : Origin). o.next) start-is)) next_page
+
+  shown : AllShown size e lists replies
+  shown = all-shown-more size w e flushed.aside.start flushed.aside.seen flushed.aside.releases lists replies driven.shown
 
   saved : report.failed ≡ 0 → length after ≡ e.start.pages → ((p : ℕ) → p < e.start.pages → (at no_block (map stored_of after) p).words ≡ (last_of w p).words) → IsTree (fixed size) (pages_of_blocks after) × (map_of (fixed size) (pages_of_blocks after) ≡ after_all (map_of (fixed size) pages) (saids e.seen))
   saved none long words =
@@ -255,7 +259,7 @@ module _ (size : ℕ) (sized : IsSize size) {U : Type 0} (pages : List (List ℕ
     closed = closed.shown;
     tells = ap (λ (o : Origin). o.tells) start-is;
     began = began;
-    next = subst (λ n. IsNextPage size pages n) (sym (ap (λ (o : Origin). o.next) start-is)) next_page;
+    next = begun_next;
     bounds = bound-is;
     legal = legal;
     calls = subst (λ (l : List (Entry Said)). HoldsCalls l lists replies) (sym grew-all) driven.calls;
@@ -266,7 +270,8 @@ module _ (size : ℕ) (sized : IsSize size) {U : Type 0} (pages : List (List ℕ
     all_made = sym all-seen;
     planned = planned few sums.each;
     caused = lists-caused (FoundFull w) (FoundWorn w) (IsFilled size pages end) (IsAtLastVersion e) filled (λ p m. worn-out e p closed.versions (max-later w e p flushed.aside.start (flushed.done, flushed.aside.log) m)) lists replies (traced size v.log w lists replies driven.passes driven.parts driven.logs);
-    shown = all-shown-more size w e flushed.aside.start flushed.aside.seen flushed.aside.releases lists replies driven.shown;
+    widened = all-widened size sized pages end tree began begun_next (ap (λ (o : Origin). o.tells) start-is) lists replies w driven.passes shown driven.parts;
+    shown = shown;
     passes = driven.passes;
     parts = parts-later size w e flushed.aside.start all-seen flushed.aside.releases lists replies driven.passes driven.parts;
     logs = behind-in v.log (logs_of driven.passes) w.log flushed.done e.log driven.logs flushed.aside.log;

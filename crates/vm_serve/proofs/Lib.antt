@@ -1,3 +1,4 @@
 pub mod Counting
+pub mod Widening
 pub mod Headline
 pub mod Unplanned

@@ -19,6 +19,7 @@ use Rattle.vm_tree_rule.specs.declared.fault.TreeFault.{TreeFault}
 use Rattle.vm_drive.specs.{Drives.IsAtLastVersion, Holds.HoldsCalls, Kept.AreKept, Shows.AllShown}
 use Rattle.vm_drive.specs.Causes.{all_faults_of, AllCausedBy, notes_about}
 use Rattle.vm_drive.specs.Parts.{HaveParts, logs_of, noted_by, StandIn}
+use Rattle.vm_serve.specs.Wide.{AllWidenedBy}
 
 -- the end of a pool with a tree of pages of n words
 abbrev pub TreeEnd : ℕ → Type 0
@@ -31,6 +32,14 @@ pub record IsFilled (n : ℕ) {U : Type 0} (pages : List (List ℕ)) (end : Ende
   pub all : count ≡ length pages
   pub high : count ≤ (kept_by (view_at_end end)).next + 1
   pub cause : (half_of n - 1) * length pages ≤ 2 * half_of n * node_count (fixed n) pages + 2 * news (view_at_end end).seen + (half_of n - 1) * ((view_at_end end).start.next + 1)
+
+-- an image of pages of n words in which leaves held together did not reach a range's bound, as many as can be held, which are sixteen: it has page 0,
+-- these leaves, one behind them and the root, so nineteen pages, and the puts of new keys account for its nodes, from the next word at the start on. With
+-- X pages used at the start by N nodes, and with G such puts, 13 * 19 is at most 28 * N + 2 * G + 13 * X where a page has 64 words, and 125 * 19 at most
+-- 252 * N + 2 * G + 125 * X where it has 512: no difference is taken, so X may be above 19
+pub record IsWidened (n : ℕ) {U : Type 0} (pages : List (List ℕ)) (end : Ended U Said) : Type 0 where
+  pub enough : 19 ≤ length pages
+  pub cause : (half_of n - 1) * 19 ≤ 2 * half_of n * node_count (fixed n) pages + 2 * news (view_at_end end).seen + (half_of n - 1) * (view_at_end end).start.next
 
 -- whether two entries of a plan name the same call of the same page's block
 abbrev pub same_entry : PlannedFault → PlannedFault → Bool
@@ -48,8 +57,8 @@ is_first (Some q) p = if q == p then 1 else 0
 -- The calls of the lists were made on the tree of an image of pages of n words, over blocks that tell their words and may fail as often as the plan
 -- says; which of their calls fail is not said. The history is the one that `end` keeps, which the end of the pool alone makes: it is legal from the
 -- image's map on, and holds each worker's calls once, in order, with these replies. Each fault of a device, and the first write of the last flush
--- that failed, has its own note, and there are no more notes of a page than entries for it in the plan. Each other fault has its cause, and each
--- window is a leaf's, the table's page as it stood. Each worker made its calls one after another, and what each was answered comes of the steps and
+-- that failed, has its own note, and there are no more notes of a page than entries for it in the plan. Each other fault has its cause, and so has each
+-- range that was too wide; each window is a leaf's, the table's page as it stood, and each range that of leaves held together. Each worker made its calls one after another, and what each was answered comes of the steps and
 -- notes of that very call. The report is that of the flush which came behind all calls, and was the last thing that was done; the blocks are those
 -- that the end shows. Where no write of the flush failed, each block has its page's last words, and the blocks hold a tree whose map is the history's
 -- last one; each page below the first whose write failed is stored, so its block has its last words. No more faults are counted than the plan has
@@ -72,6 +81,7 @@ pub record IsServed (n : ℕ) {U : Type 0} (pages : List (List ℕ)) (plan : Lis
   pub all_made : worked.seen ≡ (view_at_end end).seen
   pub planned : (p : ℕ) → notes_about p (view_at_end end).notes ≤ most_faults (numbers_for plan p)
   pub caused : AllCausedBy (IsFilled n pages end) (IsAtLastVersion (view_at_end end)) lists replies
+  pub widened : AllWidenedBy (IsWidened n pages end) lists replies
   pub shown : AllShown n (view_at_end end) lists replies
   -- what each worker's pass knew behind its last call; its steps and notes stand in those of the end, one worker's behind another's
   pub passes : List (View Said)

@@ -8,7 +8,7 @@ ghost use Rattle.vm_image.specs.{Blocks.AreBlocksOf, Blocks.pages_of_blocks, dec
 ghost use Rattle.vm_core.specs.Prelude.{MAX_VERSION};
 ghost use Rattle.vm_pool.specs.Closing.{view_at_end};
 ghost use Rattle.vm_drive.specs.Drives.{AreAskable, AreFew, items_of};
-ghost use Rattle.vm_drive.specs.{Compact.all_replies, Compact.HasWindows, Kept.HaveRoom};
+ghost use Rattle.vm_drive.specs.{Compact.all_replies, Compact.HasContents, Kept.HaveRoom};
 ghost use Rattle.vm_serve.specs.Served.{IsServed, IsServedInto};
 
 use std::alloc::Global;
@@ -78,7 +78,7 @@ pub fn serve<S: OfSize<N> + Sync, R: Threads + Wait + Sync, G: Gate + Sync, cons
     requires few { AreFew (items_of lists.now) }
     requires askable { AreAskable (items_of lists.now) }
     ensures served { IfOk result (λ s. IsServed N image.now plan.now (items_of lists.now) (all_replies s.replies.items) s.report s.blocks.items s.ended) }
-    ensures windows { IfOk result (λ s. AllByRecursion HasWindows s.replies.items) }
+    ensures contents { IfOk result (λ s. AllByRecursion HasContents s.replies.items) }
     ensures version { IfOk result (λ s. (view_at_end s.ended).start.version ≡ first_version) }
     ensures frames { IfOk result (λ s. (view_at_end s.ended).start.frames ≡ frames) }
 {

@@ -9,6 +9,8 @@ mod faults;
 #[cfg(test)]
 mod overlap;
 #[cfg(test)]
+mod ranges;
+#[cfg(test)]
 mod rounds;
 #[cfg(test)]
 mod served;

@@ -3,7 +3,7 @@ use Rattle.vm_map.specs.declared.call.Reply.{Reply}
 use Rattle.vm_step.specs.Prelude.{view}
 use Rattle.vm_tree_rule.specs.declared.fault.TreeFault.{TreeFault}
 use Rattle.vm_drive.specs.Drives.{IsDriven, items_of}
-use Rattle.vm_drive.proofs.Crews.{kept-replies, kept-windows}
+use Rattle.vm_drive.proofs.Crews.{kept-contents, kept-replies}
 use Rattle.vm_drive.proofs.driving.drive.Goals as goal
 
 pub returns-clause-driven : goal.returns-clause-driven
@@ -11,5 +11,5 @@ returns-clause-driven g c =
     let into = c.in_ok-kept.ensures.driven in
     subst (λ (told : List (List (Result Reply TreeFault))). IsDriven g.row.N g.B.Block.tells (items_of c.args.lists.now) told (view c.args.pass.now) (view c.drive_into.new.pass)) (sym (kept-replies _ _ into.stand)) into.driven
 
-pub returns-clause-windows : goal.returns-clause-windows
-returns-clause-windows g c = kept-windows _ _ c.in_ok-kept.ensures.driven.stand
+pub returns-clause-contents : goal.returns-clause-contents
+returns-clause-contents g c = kept-contents _ _ c.in_ok-kept.ensures.driven.stand

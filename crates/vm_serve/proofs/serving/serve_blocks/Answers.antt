@@ -1,6 +1,7 @@
 use Rattle.std.proofs.Common.{◌*◌, ◌<◌, ◌∙◌, ◌≡◌, ◌≤◌, ap, arith, length, List, refl, rules, subst, sym, ℕ}
 use Rattle.std.proofs.lemmas.Bool.{eq-eqb}
 use Rattle.vm_map.specs.declared.call.Said.{Said}
+use Rattle.vm_tree_model.specs.{Fixed.fixed, Tree.IsTree}
 use Rattle.vm_image.specs.File.{IsNextPage}
 use Rattle.vm_rule.specs.Prelude.{stored_of, words_of}
 use Rattle.vm_rule.proofs.ListFacts.{length-mapped}
@@ -36,11 +37,12 @@ returns-in-Ok-clause-served g c = λ pages plan few held.
     let count : length before ≡ length pages = sym (length-mapped words_of before) ∙ ap (λ (l : List (List ℕ)). length l) held.held in
     let into = c.in_ok-driven.ensures.driven in
     let next : IsNextPage g.row.N pages c.args.shape.next = subst (λ (l : List (List ℕ)). IsNextPage g.row.N l c.args.shape.next) held.held c.requires.next in
+    let tree : IsTree (fixed g.row.N) pages = subst (λ (l : List (List ℕ)). IsTree (fixed g.row.N) l) held.held c.requires.tree in
     record {
       told = into.told;
       stand = into.stand;
       served = served g.row.N g.S.OfSize.is_size pages plan _ c.args.shape.next _ before c.in-Ok.saved.closed.blocks.items (items_of c.args.lists.now) into.told c.in-Ok.saved.report c.in-Ok.saved.closed.ended (view c.in_ok-pool.pass) (view c.drive_into.new.pass)
-          held count c.in_ok-pool.ensures.view next into.driven c.in-Ok.ensures.flushed c.in-Ok.saved.closed.next c.in-Ok.ensures.closed
+          held count c.in_ok-pool.ensures.view next tree into.driven c.in-Ok.ensures.flushed c.in-Ok.saved.closed.next c.in-Ok.ensures.closed
           few c.in-Ok.ensures.sums (λ none p l. c.in-Ok.ensures.words refl none p (subst (λ n. p < n) (sym (key ∙ count)) l));
     }
 

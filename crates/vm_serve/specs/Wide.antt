@@ -1,0 +1,38 @@
+-- Ranges that were answered as too wide: each such answer has the same cause.
+use Rattle.std.specs.Prelude.{[], ◌∷◌, Err, List, Ok, Result}
+use Rattle.vm_map.specs.{declared.call.Call.Call, declared.call.Reply.Reply}
+use Rattle.vm_map.specs.declared.call.Call.TheVariants.{Del, Get, Put, Range, Swap, Window}
+use Rattle.vm_map.specs.declared.call.Reply.TheVariants.{Gone, Got, Many, Swapped, Was, Wide, Win}
+use Rattle.vm_tree_rule.specs.declared.fault.TreeFault.{TreeFault}
+
+-- the call is a range
+abbrev pub IsRangeCall : Call → Type 0
+IsRangeCall (Get key) = ⊥
+IsRangeCall (Put key value) = ⊥
+IsRangeCall (Del key) = ⊥
+IsRangeCall (Window start most) = ⊥
+IsRangeCall (Swap key want value) = ⊥
+IsRangeCall (Range low bound) = Unit {0}
+
+-- where the answer is `wide` the call is a range, and this is so
+abbrev pub WidenedBy : Type 0 → Call → Result Reply TreeFault → Type 0
+WidenedBy cause call (Ok (Got found)) = Unit {0}
+WidenedBy cause call (Ok (Was old)) = Unit {0}
+WidenedBy cause call (Ok (Gone old)) = Unit {0}
+WidenedBy cause call (Ok (Win window)) = Unit {0}
+WidenedBy cause call (Ok (Swapped outcome)) = Unit {0}
+WidenedBy cause call (Ok (Many span)) = Unit {0}
+WidenedBy cause call (Ok (Wide reach)) = IsRangeCall call × cause
+WidenedBy cause call (Err fault) = Unit {0}
+
+-- so it is of a list's answers
+abbrev pub AreWidenedBy : Type 0 → List Call → List (Result Reply TreeFault) → Type 0
+AreWidenedBy cause [] rs = Unit {0}
+AreWidenedBy cause (c ∷ cs) [] = Unit {0}
+AreWidenedBy cause (c ∷ cs) (r ∷ rs) = WidenedBy cause c r × AreWidenedBy cause cs rs
+
+-- and of all lists' answers
+abbrev pub AllWidenedBy : Type 0 → List (List Call) → List (List (Result Reply TreeFault)) → Type 0
+AllWidenedBy cause [] answers = Unit {0}
+AllWidenedBy cause (cs ∷ lists) [] = Unit {0}
+AllWidenedBy cause (cs ∷ lists) (rs ∷ answers) = AreWidenedBy cause cs rs × AllWidenedBy cause lists answers
