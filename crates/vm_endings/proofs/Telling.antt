@@ -4,19 +4,22 @@ use Rattle.std.specs.List.{AllByRecursion}
 use Rattle.std.proofs.Common.{[], ◌++◌, ◌+◌, ◌-◌, ◌<◌, ◌∙◌, ◌∷◌, ◌≡◌, ◌≤◌, add-one, ap, append-nil, append_assoc, arith, drop, get_or, length, List, refl}
 use Rattle.std.proofs.Common.{Err, Ok, Result, subst, suc, sym, Vec, zero, ℕ}
 use Rattle.std.proofs.lemmas.List.{drop-drop, drop_all, drop_more, length-drop}
-use Rattle.vm_map.specs.{declared.call.Call.Call, declared.call.Reply.Reply, declared.call.Said.Said, declared.window.Window.Window}
+use Rattle.vm_map.specs.{declared.call.Call.Call, declared.call.Reply.Reply, declared.call.Said.Said, declared.window.Window.Window, Map.Pairs}
 use Rattle.vm_map.specs.declared.call.Reply.TheVariants as kinds
 use Rattle.vm_owner.specs.declared.Entry.{Entry}
 use Rattle.vm_tree_rule.specs.declared.fault.TreeFault.{TreeFault}
 use Rattle.vm_drive.specs.{Drives.AreFew, Drives.items_of, Holds.HoldsCalls, Holds.list_at}
 use Rattle.vm_drive.specs.{declared.compact.Replies.Replies, declared.compact.Short.Short}
-use Rattle.vm_drive.specs.Compact.{all_replies, HasWindows, replies_in, told_in, wins_in}
+use Rattle.vm_drive.specs.Compact.{all_replies, HasContents, ranges_in, replies_in, told_in, wins_in}
 use Rattle.vm_drive.specs.declared.compact.Short.TheVariants as shorts
 use Rattle.vm_script.specs.{declared.text.Line.Line, Texts.replies_text, Texts.reply_line, Texts.worker_replies}
 use Rattle.vm_endings.specs.Replies.{all_lines, AreMatched, line_in, lines_in}
 
 abbrev pub Answer : Type 0
 Answer = Result Reply TreeFault
+
+abbrev Spans : Type 0
+Spans = List (Pairs × ℕ)
 
 abbrev pub Calls : Type 0
 Calls = Vec Call Global
@@ -35,11 +38,11 @@ matched_at [] (a ∷ replies) i calls answers same h e f = absurd same
 matched_at (c ∷ lists) (a ∷ replies) zero calls answers same h e f = ap (λ (v : Replies). length (replies_in v)) f ∙ same.0 ∙ sym (ap (λ (v : Calls). length v.items) e)
 matched_at (c ∷ lists) (a ∷ replies) (suc i) calls answers same h e f = matched_at lists replies i calls answers same.1 (omega arith) e f
 
--- and each window that it shows
-pub windows_at : (replies : List Replies) (i : ℕ) (answers : Replies) → AllByRecursion HasWindows replies → i < length replies → answers ≡ get_or replies i answers → HasWindows answers
-windows_at [] i answers all h e = absurd (omega arith)
-windows_at (a ∷ replies) zero answers all h e = subst HasWindows (sym e) all.0
-windows_at (a ∷ replies) (suc i) answers all h e = windows_at replies i answers all.1 (omega arith) e
+-- and each window and each range's pairs that it shows
+pub contents_at : (replies : List Replies) (i : ℕ) (answers : Replies) → AllByRecursion HasContents replies → i < length replies → answers ≡ get_or replies i answers → HasContents answers
+contents_at [] i answers all h e = absurd (omega arith)
+contents_at (a ∷ replies) zero answers all h e = subst HasContents (sym e) all.0
+contents_at (a ∷ replies) (suc i) answers all h e = contents_at replies i answers all.1 (omega arith) e
 
 -- one of few lists is short
 pub few_at : (lists : List Calls) (i : ℕ) (calls : Calls) → AreFew (items_of lists) → i < length lists → calls ≡ get_or lists i calls → length calls.items ≤ 1000000
@@ -83,47 +86,78 @@ matched h lists replies holds = matched_lists lists replies holds.lists_long hol
 -- ---- one worker's answers, one after another
 
 -- there is an answer to each short form
-pub told_long : (short : List Short) (windows : List Window) → wins_in short ≤ length windows → length (told_in short windows) ≡ length short
-told_long [] windows h = refl
-told_long (shorts.Got found ∷ short) windows h = ap suc (told_long short windows h)
-told_long (shorts.Was old ∷ short) windows h = ap suc (told_long short windows h)
-told_long (shorts.Gone old ∷ short) windows h = ap suc (told_long short windows h)
-told_long (shorts.Win ∷ short) [] h = absurd (omega arith)
-told_long (shorts.Win ∷ short) (w ∷ windows) h = ap suc (told_long short windows (omega arith))
-told_long (shorts.Fault fault ∷ short) windows h = ap suc (told_long short windows h)
+pub told_long : (short : List Short) (windows : List Window) (spans : Spans) → wins_in short ≤ length windows → ranges_in short ≤ length spans → length (told_in short windows spans) ≡ length short
+told_long [] windows spans h g = refl
+told_long (shorts.Got found ∷ short) windows spans h g = ap suc (told_long short windows spans h g)
+told_long (shorts.Was old ∷ short) windows spans h g = ap suc (told_long short windows spans h g)
+told_long (shorts.Gone old ∷ short) windows spans h g = ap suc (told_long short windows spans h g)
+told_long (shorts.Swapped outcome ∷ short) windows spans h g = ap suc (told_long short windows spans h g)
+told_long (shorts.Win ∷ short) [] spans h g = absurd (omega arith)
+told_long (shorts.Win ∷ short) (w ∷ windows) spans h g = ap suc (told_long short windows spans (omega arith) g)
+told_long (shorts.Many ∷ short) windows [] h g = absurd (omega arith)
+told_long (shorts.Many ∷ short) windows (s ∷ spans) h g = ap suc (told_long short windows spans h (omega arith))
+told_long (shorts.Wide reach ∷ short) windows spans h g = ap suc (told_long short windows spans h g)
+told_long (shorts.Fault fault ∷ short) windows spans h g = ap suc (told_long short windows spans h g)
 
 wins_first : (s : Short) (short : List Short) → wins_in (s ∷ short) ≡ wins_in (s ∷ []) + wins_in short
 wins_first (shorts.Got found) short = omega arith
 wins_first (shorts.Was old) short = omega arith
 wins_first (shorts.Gone old) short = omega arith
+wins_first (shorts.Swapped outcome) short = omega arith
 wins_first shorts.Win short = omega arith
+wins_first shorts.Many short = omega arith
+wins_first (shorts.Wide reach) short = omega arith
 wins_first (shorts.Fault fault) short = omega arith
+
+ranges_first : (s : Short) (short : List Short) → ranges_in (s ∷ short) ≡ ranges_in (s ∷ []) + ranges_in short
+ranges_first (shorts.Got found) short = omega arith
+ranges_first (shorts.Was old) short = omega arith
+ranges_first (shorts.Gone old) short = omega arith
+ranges_first (shorts.Swapped outcome) short = omega arith
+ranges_first shorts.Win short = omega arith
+ranges_first shorts.Many short = omega arith
+ranges_first (shorts.Wide reach) short = omega arith
+ranges_first (shorts.Fault fault) short = omega arith
 
 line_first : (worker number : ℕ) (call : Call) (calls : List Call) (answer : Answer) (answers : List Answer) → replies_text worker number (lines_in (call ∷ calls) (answer ∷ answers)) ≡ replies_text worker number (lines_in (call ∷ []) (answer ∷ [])) ++ replies_text worker (number + 1) (lines_in calls answers)
 line_first worker number call calls answer answers = ap (λ t. t ++ replies_text worker (number + 1) (lines_in calls answers)) (sym (append-nil (reply_line worker number (line_in call answer))))
 
--- the lines are the first answer's, and those of the others with the windows that it leaves
-text_first : (worker number : ℕ) (call : Call) (calls : List Call) (s : Short) (short : List Short) (windows : List Window) → wins_in (s ∷ []) ≤ length windows → replies_text worker number (lines_in (call ∷ calls) (told_in (s ∷ short) windows)) ≡ replies_text worker number (lines_in (call ∷ []) (told_in (s ∷ []) windows)) ++ replies_text worker (number + 1) (lines_in calls (told_in short (drop (wins_in (s ∷ [])) windows)))
-text_first worker number call calls (shorts.Got found) short windows h = line_first worker number call calls (Ok (kinds.Got found)) (told_in short windows)
-text_first worker number call calls (shorts.Was old) short windows h = line_first worker number call calls (Ok (kinds.Was old)) (told_in short windows)
-text_first worker number call calls (shorts.Gone old) short windows h = line_first worker number call calls (Ok (kinds.Gone old)) (told_in short windows)
-text_first worker number call calls shorts.Win short [] h = absurd (omega arith)
-text_first worker number call calls shorts.Win short (w ∷ windows) h = line_first worker number call calls (Ok (kinds.Win w)) (told_in short windows)
-text_first worker number call calls (shorts.Fault fault) short windows h = line_first worker number call calls (Err fault) (told_in short windows)
+-- the lines are the first answer's, and those of the others with the windows and spans that it leaves
+text_first : (worker number : ℕ) (call : Call) (calls : List Call) (s : Short) (short : List Short) (windows : List Window) (spans : Spans) → wins_in (s ∷ []) ≤ length windows → ranges_in (s ∷ []) ≤ length spans
+    → replies_text worker number (lines_in (call ∷ calls) (told_in (s ∷ short) windows spans))
+    ≡ replies_text worker number (lines_in (call ∷ []) (told_in (s ∷ []) windows spans)) ++ replies_text worker (number + 1) (lines_in calls (told_in short (drop (wins_in (s ∷ [])) windows) (drop (ranges_in (s ∷ [])) spans)))
+text_first worker number call calls (shorts.Got found) short windows spans h g = line_first worker number call calls (Ok (kinds.Got found)) (told_in short windows spans)
+text_first worker number call calls (shorts.Was old) short windows spans h g = line_first worker number call calls (Ok (kinds.Was old)) (told_in short windows spans)
+text_first worker number call calls (shorts.Gone old) short windows spans h g = line_first worker number call calls (Ok (kinds.Gone old)) (told_in short windows spans)
+text_first worker number call calls (shorts.Swapped outcome) short windows spans h g = line_first worker number call calls (Ok (kinds.Swapped outcome)) (told_in short windows spans)
+text_first worker number call calls shorts.Win short [] spans h g = absurd (omega arith)
+text_first worker number call calls shorts.Win short (w ∷ windows) spans h g = line_first worker number call calls (Ok (kinds.Win w)) (told_in short windows spans)
+text_first worker number call calls shorts.Many short windows [] h g = absurd (omega arith)
+text_first worker number call calls shorts.Many short windows (s ∷ spans) h g = line_first worker number call calls (Ok (kinds.Many s)) (told_in short windows spans)
+text_first worker number call calls (shorts.Wide reach) short windows spans h g = line_first worker number call calls (Ok (kinds.Wide reach)) (told_in short windows spans)
+text_first worker number call calls (shorts.Fault fault) short windows spans h g = line_first worker number call calls (Err fault) (told_in short windows spans)
 
 -- what was said up to call i, and the text of what is left: the same after that call
-pub answer_told : (calls : List Call) (short : List Short) (windows : List Window) (worker i j : ℕ) (c : Call) (d : Short) (said now whole : List ℕ) → i < length calls → i < length short → wins_in (get_or short i d ∷ []) ≤ length (drop j windows) → said ++ replies_text worker (i + 1) (lines_in (drop i calls) (told_in (drop i short) (drop j windows))) ≡ whole → now ≡ said ++ replies_text worker (i + 1) (lines_in (get_or calls i c ∷ []) (told_in (get_or short i d ∷ []) (drop j windows))) → now ++ replies_text worker (i + 1 + 1) (lines_in (drop (i + 1) calls) (told_in (drop (i + 1) short) (drop (j + wins_in (get_or short i d ∷ [])) windows))) ≡ whole
-answer_told calls short windows worker i j c d said now whole lc ls h told more =
+pub answer_told : (calls : List Call) (short : List Short) (windows : List Window) (spans : Spans) (worker i j k : ℕ) (c : Call) (d : Short) (said now whole : List ℕ) → i < length calls → i < length short
+    → wins_in (get_or short i d ∷ []) ≤ length (drop j windows) → ranges_in (get_or short i d ∷ []) ≤ length (drop k spans)
+    → said ++ replies_text worker (i + 1) (lines_in (drop i calls) (told_in (drop i short) (drop j windows) (drop k spans))) ≡ whole
+    → now ≡ said ++ replies_text worker (i + 1) (lines_in (get_or calls i c ∷ []) (told_in (get_or short i d ∷ []) (drop j windows) (drop k spans)))
+    → now ++ replies_text worker (i + 1 + 1) (lines_in (drop (i + 1) calls) (told_in (drop (i + 1) short) (drop (j + wins_in (get_or short i d ∷ [])) windows) (drop (k + ranges_in (get_or short i d ∷ [])) spans))) ≡ whole
+answer_told calls short windows spans worker i j k c d said now whole lc ls h g told more =
     let call : Call = get_or calls i c in
     let s : Short = get_or short i d in
     let left : List Window = drop j windows in
-    let here : List ℕ = replies_text worker (i + 1) (lines_in (call ∷ []) (told_in (s ∷ []) left)) in
-    let rest : List Window → List ℕ = λ ws. replies_text worker (i + 1 + 1) (lines_in (drop (i + 1) calls) (told_in (drop (i + 1) short) ws)) in
-    let first : replies_text worker (i + 1) (lines_in (drop i calls) (told_in (drop i short) left)) ≡ here ++ rest (drop (wins_in (s ∷ [])) left) =
-    ap (λ (l : List Call). replies_text worker (i + 1) (lines_in l (told_in (drop i short) left))) (drop_more calls i c lc)
-    ∙ ap (λ (l : List Short). replies_text worker (i + 1) (lines_in (call ∷ drop (i + 1) calls) (told_in l left))) (drop_more short i d ls)
-    ∙ text_first worker (i + 1) call (drop (i + 1) calls) s (drop (i + 1) short) left h in
-    ap (λ (ws : List Window). now ++ rest ws) (sym (drop-drop (wins_in (s ∷ [])) j windows)) ∙ ap (λ t. t ++ rest (drop (wins_in (s ∷ [])) left)) more ∙ append_assoc said here (rest (drop (wins_in (s ∷ [])) left)) ∙ ap (λ t. said ++ t) (sym first) ∙ told
+    let kept : Spans = drop k spans in
+    let here : List ℕ = replies_text worker (i + 1) (lines_in (call ∷ []) (told_in (s ∷ []) left kept)) in
+    let rest : List Window → Spans → List ℕ = λ ws ps. replies_text worker (i + 1 + 1) (lines_in (drop (i + 1) calls) (told_in (drop (i + 1) short) ws ps)) in
+    let last : List ℕ = rest (drop (wins_in (s ∷ [])) left) (drop (ranges_in (s ∷ [])) kept) in
+    let first : replies_text worker (i + 1) (lines_in (drop i calls) (told_in (drop i short) left kept)) ≡ here ++ last =
+    ap (λ (l : List Call). replies_text worker (i + 1) (lines_in l (told_in (drop i short) left kept))) (drop_more calls i c lc)
+    ∙ ap (λ (l : List Short). replies_text worker (i + 1) (lines_in (call ∷ drop (i + 1) calls) (told_in l left kept))) (drop_more short i d ls)
+    ∙ text_first worker (i + 1) call (drop (i + 1) calls) s (drop (i + 1) short) left kept h g in
+    ap (λ (ws : List Window). now ++ rest ws (drop (k + ranges_in (s ∷ [])) spans)) (sym (drop-drop (wins_in (s ∷ [])) j windows))
+    ∙ ap (λ (ps : Spans). now ++ rest (drop (wins_in (s ∷ [])) left) ps) (sym (drop-drop (ranges_in (s ∷ [])) k spans))
+    ∙ ap (λ t. t ++ last) more ∙ append_assoc said here last ∙ ap (λ t. said ++ t) (sym first) ∙ told
 
 -- the windows that are left are enough for the answers that are
 pub wins_left : (short : List Short) (windows : List Window) (i j : ℕ) (d : Short) → i < length short → wins_in short ≤ length windows → j + wins_in (drop i short) ≡ wins_in short → (wins_in (get_or short i d ∷ []) ≤ length (drop j windows)) × ((j + wins_in (get_or short i d ∷ [])) + wins_in (drop (i + 1) short) ≡ wins_in short)
@@ -132,19 +166,39 @@ wins_left short windows i j d l enough sum =
     let long : length (drop j windows) ≡ length windows - j = length-drop j windows in
     (omega arith, omega arith)
 
+-- and so are the spans
+pub spans_left : (short : List Short) (spans : Spans) (i k : ℕ) (d : Short) → i < length short → ranges_in short ≤ length spans → k + ranges_in (drop i short) ≡ ranges_in short → (ranges_in (get_or short i d ∷ []) ≤ length (drop k spans)) × ((k + ranges_in (get_or short i d ∷ [])) + ranges_in (drop (i + 1) short) ≡ ranges_in short)
+spans_left short spans i k d l enough sum =
+    let cut : ranges_in (drop i short) ≡ ranges_in (get_or short i d ∷ []) + ranges_in (drop (i + 1) short) = ap ranges_in (drop_more short i d l) ∙ ranges_first (get_or short i d) (drop (i + 1) short) in
+    let long : length (drop k spans) ≡ length spans - k = length-drop k spans in
+    (omega arith, omega arith)
+
 pub wins_one : (s : Short) → wins_in (s ∷ []) ≤ 1
 wins_one (shorts.Got found) = omega arith
 wins_one (shorts.Was old) = omega arith
 wins_one (shorts.Gone old) = omega arith
+wins_one (shorts.Swapped outcome) = omega arith
 wins_one shorts.Win = omega arith
+wins_one shorts.Many = omega arith
+wins_one (shorts.Wide reach) = omega arith
 wins_one (shorts.Fault fault) = omega arith
+
+pub ranges_one : (s : Short) → ranges_in (s ∷ []) ≤ 1
+ranges_one (shorts.Got found) = omega arith
+ranges_one (shorts.Was old) = omega arith
+ranges_one (shorts.Gone old) = omega arith
+ranges_one (shorts.Swapped outcome) = omega arith
+ranges_one shorts.Win = omega arith
+ranges_one shorts.Many = omega arith
+ranges_one (shorts.Wide reach) = omega arith
+ranges_one (shorts.Fault fault) = omega arith
 
 no_lines : (calls : List Call) → lines_in calls [] ≡ []
 no_lines [] = refl
 no_lines (call ∷ calls) = refl
 
 -- and after the last call nothing is left
-pub answers_told : (calls : List Call) (short : List Short) (windows : List Window) (worker number i : ℕ) (said whole : List ℕ) → length short ≤ i → said ++ replies_text worker number (lines_in (drop i calls) (told_in (drop i short) windows)) ≡ whole → said ≡ whole
-answers_told calls short windows worker number i said whole h told =
-    let none : lines_in (drop i calls) (told_in (drop i short) windows) ≡ [] = ap (λ (l : List Short). lines_in (drop i calls) (told_in l windows)) (drop_all i short h) ∙ no_lines (drop i calls) in
+pub answers_told : (calls : List Call) (short : List Short) (windows : List Window) (spans : Spans) (worker number i : ℕ) (said whole : List ℕ) → length short ≤ i → said ++ replies_text worker number (lines_in (drop i calls) (told_in (drop i short) windows spans)) ≡ whole → said ≡ whole
+answers_told calls short windows spans worker number i said whole h told =
+    let none : lines_in (drop i calls) (told_in (drop i short) windows spans) ≡ [] = ap (λ (l : List Short). lines_in (drop i calls) (told_in l windows spans)) (drop_all i short h) ∙ no_lines (drop i calls) in
     sym (append-nil said) ∙ ap (λ (l : List Line). said ++ replies_text worker number l) (sym none) ∙ told

@@ -2,7 +2,7 @@
 
 ghost use Rattle.std.specs.List.{AllByRecursion};
 ghost use Rattle.std.specs.Prelude.{[], ◌+◌, ◌++◌, ◌<◌, ◌^◌, ◌∷◌, ◌≡◌, ◌≤◌, length, OnOk};
-ghost use Rattle.vm_drive.specs.Compact.{all_replies, HasWindows, replies_in, told_in, wins_in};
+ghost use Rattle.vm_drive.specs.Compact.{all_replies, HasContents, ranges_in, replies_in, told_in, wins_in};
 ghost use Rattle.vm_drive.specs.Drives.{AreFew, items_of};
 ghost use Rattle.vm_script.specs.Texts.{replies_text, rows_text, worker_replies};
 ghost use Rattle.vm_endings.specs.Replies.{all_lines, AreMatched, fault_line, lines_in};
@@ -10,8 +10,9 @@ ghost use Rattle.vm_endings.specs.Replies.{all_lines, AreMatched, fault_line, li
 use std::alloc::{AllocError, Global};
 use vm_drive::compact::{Replies, Short};
 use vm_map::call::{Call, Pair, Reply};
+use vm_map::span::Span;
 use vm_map::window::Window;
-use vm_script::text::{Line, reply_text, row_text, said_text, shown_text};
+use vm_script::text::{Line, gathered_text, reply_text, row_text, said_text, shown_text};
 use vm_tree_rule::TreeFault;
 
 // Why a call had no reply, as it is told.
@@ -25,7 +26,7 @@ fn line_of(fault: TreeFault) -> Line
     }
 }
 
-// Appends the line of one call. A window is the first of those that are left.
+// Appends the line of one call. A window is the first of those that are left, and so are the pairs of a range.
 fn add_answer(
     alloc: Global,
     worker: u32,
@@ -33,28 +34,58 @@ fn add_answer(
     call: &Call,
     short: &Short,
     windows: &[Window],
+    spans: &[Span],
     out: &mut Vec<u8>,
 ) -> Result<(), AllocError>
-    requires { wins_in (short.now ∷ []) ≤ length windows.now }
-    ensures { OnOk result (out.new.items ≡ out.old.items ++ replies_text worker number (lines_in (call.now ∷ []) (told_in (short.now ∷ []) windows.now))) }
+    requires windows { wins_in (short.now ∷ []) ≤ length windows.now }
+    requires spans { ranges_in (short.now ∷ []) ≤ length spans.now }
+    ensures { OnOk result (out.new.items ≡ out.old.items ++ replies_text worker number (lines_in (call.now ∷ []) (told_in (short.now ∷ []) windows.now spans.now))) }
 {
     match short {
         Short::Got(found) => said_text(alloc, worker, number, call, &Reply::Got(*found), out),
         Short::Was(old) => said_text(alloc, worker, number, call, &Reply::Was(*old), out),
         Short::Gone(old) => said_text(alloc, worker, number, call, &Reply::Gone(*old), out),
+        Short::Swapped(outcome) => {
+            said_text(alloc, worker, number, call, &Reply::Swapped(*outcome), out)
+        }
         Short::Win => shown_text(alloc, worker, number, call, &windows[0], out),
+        Short::Many => gathered_text(alloc, worker, number, call, &spans[0], out),
+        Short::Wide(reach) => said_text(alloc, worker, number, call, &Reply::Wide(*reach), out),
         Short::Fault(fault) => reply_text(alloc, worker, number, &line_of(*fault), out),
     }
 }
 
 // How many windows were told with this answer.
-fn told_with(shown: usize, short: &Short) -> usize
+fn shown_with(shown: usize, short: &Short) -> usize
     requires { shown < 2 ^ 32 }
     ensures { result ≡ shown + wins_in (short.now ∷ []) }
 {
     match short {
         Short::Win => shown + 1,
-        Short::Got(_) | Short::Was(_) | Short::Gone(_) | Short::Fault(_) => shown,
+        Short::Got(_)
+        | Short::Was(_)
+        | Short::Gone(_)
+        | Short::Swapped(_)
+        | Short::Many
+        | Short::Wide(_)
+        | Short::Fault(_) => shown,
+    }
+}
+
+// How many ranges' pairs were told with this answer.
+fn gathered_with(gathered: usize, short: &Short) -> usize
+    requires { gathered < 2 ^ 32 }
+    ensures { result ≡ gathered + ranges_in (short.now ∷ []) }
+{
+    match short {
+        Short::Many => gathered + 1,
+        Short::Got(_)
+        | Short::Was(_)
+        | Short::Gone(_)
+        | Short::Swapped(_)
+        | Short::Win
+        | Short::Wide(_)
+        | Short::Fault(_) => gathered,
     }
 }
 
@@ -67,18 +98,22 @@ fn add_answers(
     out: &mut Vec<u8>,
 ) -> Result<(), AllocError>
     requires same { length (replies_in answers.now) ≡ length calls.now }
-    requires windows { HasWindows answers.now }
+    requires contents { HasContents answers.now }
     requires few { length calls.now ≤ 1000000 }
     ensures { OnOk result (out.new.items ≡ out.old.items ++ replies_text worker 1 (lines_in calls.now (replies_in answers.now))) }
 {
     let windows = answers.windows.as_slice();
+    let spans = answers.spans.as_slice();
     let mut number = 0u32;
     let mut shown = 0usize;
+    let mut gathered = 0usize;
     'answers: for short in answers.short.as_slice() {
         let call = calls[number as usize];
         number += 1;
-        add_answer(alloc, worker, number, &call, short, &windows[shown..], out)?;
-        shown = told_with(shown, short);
+        let (windows, spans) = (&windows[shown..], &spans[gathered..]);
+        add_answer(alloc, worker, number, &call, short, windows, spans, out)?;
+        shown = shown_with(shown, short);
+        gathered = gathered_with(gathered, short);
     }
     Ok(())
 }
@@ -93,7 +128,7 @@ pub fn add_replies(
     requires few { AreFew (items_of lists.now) }
     requires workers { length lists.now ≤ 64 }
     requires matched { AreMatched (items_of lists.now) (all_replies replies.now) }
-    requires windows { AllByRecursion HasWindows replies.now }
+    requires contents { AllByRecursion HasContents replies.now }
     ensures { OnOk result (out.new.items ≡ out.old.items ++ worker_replies 0 (all_lines (items_of lists.now) (all_replies replies.now))) }
 {
     let mut worker = 0u32;

@@ -6,7 +6,7 @@ use Rattle.std.specs.List.{AllByRecursion, filter}
 use Rattle.vm_io.specs.Shown.{Shown}
 use Rattle.vm_io.specs.Loops.{ReadsWhole}
 use Rattle.vm_map.specs.declared.call.Call.{Call}
-use Rattle.vm_map.specs.declared.call.Call.TheVariants.{Get, Put, Del, Window}
+use Rattle.vm_map.specs.declared.call.Call.TheVariants.{Get, Put, Del, Range, Swap, Window}
 use Rattle.vm_map.specs.History.{IsAskable}
 use Rattle.vm_script.specs.declared.script.Order.{Order}
 use Rattle.vm_script.specs.Scripts.{IsScriptCall, IsOrder, IsScript, calls_by, lists_of, most_lines}
@@ -83,6 +83,8 @@ askable_call (Get key) is = tt
 askable_call (Put key value) is = tt
 askable_call (Del key) is = tt
 askable_call (Window start most) is = is.1
+askable_call (Swap key want value) is = tt
+askable_call (Range low bound) is = is.0
 
 askable_calls : (workers worker : ℕ) (orders : List Order) → AllByRecursion (IsOrder workers) orders → AllByRecursion IsAskable (calls_by worker orders)
 askable_calls workers worker [] each = tt

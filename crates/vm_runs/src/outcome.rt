@@ -6,7 +6,7 @@ ghost use Rattle.vm_page.specs.Sizes.{IsSize};
 ghost use Rattle.vm_tree_model.specs.{Fixed.fixed, Tree.IsTree, Tree.map_of};
 ghost use Rattle.vm_image.specs.{Blocks.pages_of_blocks, File.most_pages};
 ghost use Rattle.vm_core.specs.Prelude.{MAX_VERSION};
-ghost use Rattle.vm_drive.specs.{Compact.all_replies, Compact.HasWindows};
+ghost use Rattle.vm_drive.specs.{Compact.all_replies, Compact.HasContents};
 ghost use Rattle.vm_drive.specs.Drives.{AreAskable, AreFew, items_of};
 ghost use Rattle.vm_script.specs.Texts.{rows_text, unflushed_line, worker_replies};
 ghost use Rattle.vm_endings.specs.Deliveries.{content_of, written_of};
@@ -53,7 +53,7 @@ fn whole_text<U: Owner>(
     requires few { AreFew (items_of lists.now) }
     requires workers { length lists.now ≤ 64 }
     requires matched { AreMatched (items_of lists.now) (all_replies replies.now) }
-    requires windows { AllByRecursion HasWindows replies.now }
+    requires contents { AllByRecursion HasContents replies.now }
     ensures { IfOk result (λ v. v.items ≡ worker_replies 0 (all_lines (items_of lists.now) (all_replies replies.now)) ++ rows_text rows.now ++ counters_of ended.now evicted) }
 {
     let mut out = Vec::new(alloc);
@@ -82,7 +82,7 @@ fn cut_text<U: Owner>(
     requires few { AreFew (items_of lists.now) }
     requires workers { length lists.now ≤ 64 }
     requires matched { AreMatched (items_of lists.now) (all_replies replies.now) }
-    requires windows { AllByRecursion HasWindows replies.now }
+    requires contents { AllByRecursion HasContents replies.now }
     ensures { IfOk result (λ v. v.items ≡ worker_replies 0 (all_lines (items_of lists.now) (all_replies replies.now)) ++ unflushed_line page ++ counters_of ended.now evicted) }
 {
     let mut out = Vec::new(alloc);

@@ -9,7 +9,7 @@ use Rattle.vm_script.specs.EventLines.{event_line_text, fields_text, form, IsEve
 use Rattle.vm_script.specs.Events.{events_text, IsFirstBadEvent, IsFirstBadLine, LacksShape, most_event_lines, SpellsEvents}
 use Rattle.vm_script.proofs.{EventForms.one_event, Words.one_cut}
 use Rattle.vm_script.proofs.EventTexts.{are_counts, lacks_line, lacks_shape, largest, one_shape}
-use Rattle.vm_script.proofs.LineLists.{begins_of, Compared, compared as compared_lines, first_stopped, HasLine, same, second_stopped}
+use Rattle.vm_script.proofs.LineLists.{begins_of, Compared, compared as compared_lines, first_stopped, fewer, GoesOn, same, second_stopped}
 
 -- the event lines, each with its line feed
 abbrev lines_text : List EventLine → List ℕ
@@ -30,10 +30,10 @@ compared : (shape : CoreShape) (a b : List EventLine) (rest rest' : List ℕ) �
 compared shape a b rest rest' s is is' e = compared_lines (IsEventLine shape) event_line_text (λ line ok. lacks_line shape line s ok) (one_event shape s) a b rest rest' is is' e
 
 -- a line is longer than a line feed
-no_line : (shape : CoreShape) (rest : List ℕ) → length rest ≤ 1 → HasLine (IsEventLine shape) event_line_text rest → ⊥
-no_line shape rest few line =
-    let long = ap length line.whole ∙ length-append (event_line_text line.line) (10 ∷ line.behind) in
-    let text = length-append (verb_name (form line.line).0) (32 ∷ fields_text (kinds_of (form line.line).0) (form line.line).1) in
+no_line : (shape : CoreShape) (a b : List EventLine) (rest : List ℕ) → length rest ≤ 1 → GoesOn (IsEventLine shape) event_line_text a b rest → ⊥
+no_line shape a b rest few g =
+    let long = ap length g.whole ∙ length-append (event_line_text g.line) (10 ∷ g.behind) in
+    let text = length-append (verb_name (form g.line).0) (32 ∷ fields_text (kinds_of (form g.line).0) (form g.line).1) in
     omega (arith, long, text)
 
 spelled : (bytes : List ℕ) (shape : CoreShape) (lines : List EventLine) → SpellsEvents bytes shape lines → (bytes ≡ events_text shape lines ++ []) ⊎ (bytes ++ 10 ∷ [] ≡ events_text shape lines ++ [])
@@ -46,8 +46,8 @@ one_of s t a b rest rest' limits limits' is is' few few' e =
     let is'' : AllByRecursion (IsEventLine s) b = subst (λ (x : CoreShape). AllByRecursion (IsEventLine x) b) (sym first.0) is' in
     elim (compared s a b rest rest' limits is is'' first.1) [
       | same all rests ↦ (first.0, all)
-      | first_stopped fewer line ↦ absurd (no_line s rest few line)
-      | second_stopped fewer line ↦ absurd (no_line s rest' few' line)
+      | first_stopped g ↦ absurd (no_line s a b rest few g)
+      | second_stopped g ↦ absurd (no_line s b a rest' few' g)
     ]
 
 pub one_list : (bytes : List ℕ) (s t : CoreShape) (a b : List EventLine) → SpellsEvents bytes s a → SpellsEvents bytes t b → (s ≡ t) × (a ≡ b)
@@ -77,8 +77,9 @@ one_line bytes m n a b =
     let each : AllByRecursion (IsEventLine a.shape) b.good = subst (λ (x : CoreShape). AllByRecursion (IsEventLine x) b.good) (sym first.0) b.each in
     elim (compared a.shape a.good b.good a.rest b.rest a.limits a.each each first.1) [
       | same all rests ↦ omega (arith, ap length all, a.count, b.count)
-      | first_stopped fewer line ↦ absurd (stops bytes m a (length b.good) fewer b.few line.line line.is (inr (line.behind, line.whole)))
-      | second_stopped fewer line ↦ absurd (stops bytes n b (length a.good) fewer a.few line.line (subst (λ (x : CoreShape). IsEventLine x line.line) first.0 line.is) (inr (line.behind, line.whole)))
+      | first_stopped g ↦ absurd (stops bytes m a (length b.good) (fewer (IsEventLine a.shape) event_line_text a.good b.good a.rest g) b.few g.line g.is (inr (g.behind, g.whole)))
+      | second_stopped g ↦
+          absurd (stops bytes n b (length a.good) (fewer (IsEventLine a.shape) event_line_text b.good a.good b.rest g) a.few g.line (subst (λ (x : CoreShape). IsEventLine x g.line) first.0 g.is) (inr (g.behind, g.whole)))
     ]
 
 pub one_bad_line : (bytes : List ℕ) (m n : ℕ) → IsFirstBadEvent bytes m → IsFirstBadEvent bytes n → m ≡ n
@@ -102,16 +103,16 @@ no_bad bytes shape lines n s bad = elim (spelled bytes shape lines s) [
       let each : AllByRecursion (IsEventLine bad.shape) lines = subst (λ (x : CoreShape). AllByRecursion (IsEventLine x) lines) (sym first.0) s.each in
       elim (compared bad.shape bad.good lines bad.rest [] bad.limits bad.each each first.1) [
         | same all rests ↦ omega (arith, ap length rests, bad.more)
-        | first_stopped fewer line ↦ stops bytes n bad (length lines) fewer s.few line.line line.is (inr (line.behind, line.whole))
-        | second_stopped fewer line ↦ no_line bad.shape [] (omega arith) line
+        | first_stopped g ↦ stops bytes n bad (length lines) (fewer (IsEventLine bad.shape) event_line_text bad.good lines bad.rest g) s.few g.line g.is (inr (g.behind, g.whole))
+        | second_stopped g ↦ no_line bad.shape lines bad.good [] (omega arith) g
       ]
   | inr e ↦
       let first = shapes bad.shape shape bad.good lines (bad.rest ++ 10 ∷ []) [] bad.limits s.limits (sym (append_assoc (events_text bad.shape bad.good) bad.rest (10 ∷ [])) ∙ ap (λ (l : List ℕ). l ++ 10 ∷ []) (sym bad.front) ∙ e) in
       let each : AllByRecursion (IsEventLine bad.shape) lines = subst (λ (x : CoreShape). AllByRecursion (IsEventLine x) lines) (sym first.0) s.each in
       elim (compared bad.shape bad.good lines (bad.rest ++ 10 ∷ []) [] bad.limits bad.each each first.1) [
         | same all rests ↦ omega (arith, ap length rests, length-append bad.rest (10 ∷ []))
-        | first_stopped fewer line ↦ stops bytes n bad (length lines) fewer s.few line.line line.is (begins_of bad.rest (event_line_text line.line) line.behind line.whole)
-        | second_stopped fewer line ↦ no_line bad.shape [] (omega arith) line
+        | first_stopped g ↦ stops bytes n bad (length lines) (fewer (IsEventLine bad.shape) event_line_text bad.good lines (bad.rest ++ 10 ∷ []) g) s.few g.line g.is (begins_of bad.rest (event_line_text g.line) g.behind g.whole)
+        | second_stopped g ↦ no_line bad.shape lines bad.good [] (omega arith) g
       ]
 ]
 

@@ -1,7 +1,10 @@
 pub mod Decimals
 pub mod Words
+pub mod Bounds
 pub mod Lines
 pub mod LineLists
+pub mod Orders
+pub mod RangeLines
 pub mod Readings
 pub mod Lists
 pub mod StateWords

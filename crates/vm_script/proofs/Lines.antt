@@ -6,9 +6,10 @@ use Rattle.std.proofs.Common.{ℕ}
 use Rattle.std.proofs.lemmas.Grind.{flat_map-append}
 use Rattle.std.proofs.lemmas.List.{append-nil}
 use Rattle.vm_map.specs.declared.call.Call.{Call}
-use Rattle.vm_map.specs.declared.call.Call.TheVariants.{Del, Get, Put, Window}
+use Rattle.vm_map.specs.declared.call.Call.TheVariants.{Del, Get, Put, Range, Swap, Window}
 use Rattle.vm_script.specs.{Calls.ReadsOrder, Cuts.IsLine, Cuts.Lacks, declared.script.Order.Order}
-use Rattle.vm_script.specs.Scripts.{BeginsWith, call_text, IsFirstBad, IsOrder, IsScriptCall, lines_text, most_lines, order_text, Spells}
+use Rattle.vm_script.specs.Scripts.{BeginsWith, call_text, IsFirstBad, IsOrder, IsScriptCall, lines_text, most_lines, most_ranges, order_text, range_lines, Spells}
+use Rattle.vm_script.proofs.Bounds.{lacks_range}
 use Rattle.vm_script.proofs.Words.{each_append, lacks_decimal, lacks_pair, lacks_verb, no_cut, numbers_text, one_cut, text_is, verb_text}
 
 -- these orders are read, and the rest is still to be read
@@ -21,6 +22,8 @@ lacks_numbers (Get key) is = lacks_decimal 10 key (omega arith) is
 lacks_numbers (Put key value) is = lacks_pair 10 key value (omega arith) is.0 is.1
 lacks_numbers (Del key) is = lacks_decimal 10 key (omega arith) is
 lacks_numbers (Window start most) is = lacks_pair 10 start most (omega arith) is.0 (omega (arith, is.2))
+lacks_numbers (Swap key want value) is = each_append (λ b. b ≢ 10) (decimal key) (32 ∷ (decimal want ++ 32 ∷ decimal value)) (lacks_decimal 10 key (omega arith) is.0) (λ e. omega arith, lacks_pair 10 want value (omega arith) is.1 is.2)
+lacks_numbers (Range low bound) is = lacks_range 10 low bound (omega arith) is
 
 lacks_call : (call : Call) → IsScriptCall call → Lacks 10 (call_text call)
 lacks_call call is = rw (text_is call) (each_append (λ b. b ≢ 10) (verb_text call) (32 ∷ numbers_text call) (lacks_verb 10 call (omega arith)) (λ e. omega arith, lacks_numbers call is))
@@ -45,16 +48,17 @@ pub start : (workers : ℕ) (bytes : List ℕ) → IsRead workers bytes [] bytes
 start workers bytes = record { each = tt; front = inl refl }
 
 -- a bad line behind good ones is the first bad one
-pub bad_line : (workers : ℕ) (bytes rest line behind : List ℕ) (orders : List Order) (n : ℕ) → workers < 2 ^ 32 → IsRead workers bytes orders rest → 0 < length rest → length orders + 1 ≡ n → n ≤ most_lines → IsLine rest line behind → ReadsOrder workers line None → IsFirstBad workers bytes n
-bad_line workers bytes rest line behind orders n w r more count most l none = record {
+pub bad_line : (workers : ℕ) (bytes rest line behind : List ℕ) (orders : List Order) (n : ℕ) → workers < 2 ^ 32 → IsRead workers bytes orders rest → 0 < length rest → length orders + 1 ≡ n → n ≤ most_lines → range_lines orders ≤ most_ranges → IsLine rest line behind → ReadsOrder workers line None → IsFirstBad workers bytes n
+bad_line workers bytes rest line behind orders n w r more count most ranges l none = record {
   good = orders;
   rest = rest;
   each = r.each;
   few = omega (arith, count, most);
+  ranges = ranges;
   front = elim r.front [ inl e ↦ e | inr e ↦ absurd (omega (arith, ap length e.0)) ];
   more = more;
   count = count;
-  bad = inr (λ order is begins. none order is (first_line rest line behind (order_text order) l (lacks_order workers order w is) begins));
+  bad = inr (λ order is begins. absurd (none order is (first_line rest line behind (order_text order) l (lacks_order workers order w is) begins)));
 }
 
 one_more_text : (orders : List Order) (order : Order) → lines_text (orders ++ order ∷ []) ≡ lines_text orders ++ (order_text order ++ 10 ∷ [])
@@ -73,10 +77,11 @@ one_more workers bytes rest line behind orders order r more l is same = record {
       ];
 }
 
-pub all_read : (workers : ℕ) (bytes rest : List ℕ) (orders : List Order) → IsRead workers bytes orders rest → length rest ≡ 0 → length orders ≤ most_lines → Spells workers bytes orders
-all_read workers bytes [] orders r none few = record {
+pub all_read : (workers : ℕ) (bytes rest : List ℕ) (orders : List Order) → IsRead workers bytes orders rest → length rest ≡ 0 → length orders ≤ most_lines → range_lines orders ≤ most_ranges → Spells workers bytes orders
+all_read workers bytes [] orders r none few ranges = record {
   each = r.each;
   few = few;
+  ranges = ranges;
   spelling = elim r.front [ inl e ↦ inl (e ∙ append-nil (lines_text orders)) | inr e ↦ inr e.1 ];
 }
-all_read workers bytes (x ∷ rest) orders r none few = absurd (omega arith)
+all_read workers bytes (x ∷ rest) orders r none few ranges = absurd (omega arith)

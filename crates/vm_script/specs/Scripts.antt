@@ -2,28 +2,39 @@
 use Rattle.std.specs.Fmt.{decimal}
 use Rattle.std.specs.List.{AllByRecursion, flat_map}
 use Rattle.std.specs.Prelude.{[], ◌++◌, ◌+◌, ◌<◌, ◌==◌, ◌^◌, ◌∷◌, ◌≡◌, ◌≤◌, ◌⊎◌, codes, Err, filter, length, List, map, Ok, Result, suc, zero, ℕ}
+use Rattle.vm_map.specs.{declared.window.Bound.Bound, declared.window.Bound.TheVariants.End, declared.window.Bound.TheVariants.Key, History.bound_of}
 use Rattle.vm_map.specs.{declared.call.Call.Call, declared.window.TheConstants.MOST_PAIRS}
-use Rattle.vm_map.specs.declared.call.Call.TheVariants.{Del, Get, Put, Window}
+use Rattle.vm_map.specs.declared.call.Call.TheVariants.{Del, Get, Put, Range, Swap, Window}
 use Rattle.vm_script.specs.{declared.script.Order.Order, declared.script.ScriptFault.ScriptFault}
 use Rattle.vm_script.specs.declared.script.ScriptFault.TheVariants.{Line, Long, Memory}
+use Rattle.vm_script.specs.Texts.{bound_text}
 
--- `get K`, `put K V`, `del K` or `scan K N`
+-- `get K`, `put K V`, `del K`, `scan K N`, `swap K OLD NEW` or `range A B`
 abbrev pub call_text : Call → List ℕ
 call_text (Get key) = codes "get" ++ 32 ∷ decimal key
 call_text (Put key value) = codes "put" ++ 32 ∷ decimal key ++ 32 ∷ decimal value
 call_text (Del key) = codes "del" ++ 32 ∷ decimal key
 call_text (Window start most) = codes "scan" ++ 32 ∷ decimal start ++ 32 ∷ decimal most
+call_text (Swap key want value) = codes "swap" ++ 32 ∷ (decimal key ++ 32 ∷ (decimal want ++ 32 ∷ decimal value))
+call_text (Range low bound) = codes "range" ++ 32 ∷ (decimal low ++ 32 ∷ bound_text bound)
 
 -- `WORKER CALL`
 abbrev pub order_text : Order → List ℕ
 order_text order = decimal order.worker ++ 32 ∷ call_text order.call
 
--- a call that a script may have
+-- a bound that a script may have: a number, or `end`
+abbrev pub IsScriptBound : Bound → Type 0
+IsScriptBound (Key key) = key < 2 ^ 64
+IsScriptBound End = Unit {0}
+
+-- a call that a script may have: of a range, the bound lies above its key
 abbrev pub IsScriptCall : Call → Type 0
 IsScriptCall (Get key) = key < 2 ^ 64
 IsScriptCall (Put key value) = (key < 2 ^ 64) × (value < 2 ^ 64)
 IsScriptCall (Del key) = key < 2 ^ 64
 IsScriptCall (Window start most) = (start < 2 ^ 64) × (1 ≤ most) × (most ≤ MOST_PAIRS)
+IsScriptCall (Swap key want value) = (key < 2 ^ 64) × (want < 2 ^ 64) × (value < 2 ^ 64)
+IsScriptCall (Range low bound) = (low < bound_of bound) × IsScriptBound bound
 
 -- an order that a script for so many workers may have
 pub record IsOrder (workers : ℕ) (order : Order) : Type 0 where
@@ -44,26 +55,45 @@ most_lines = 1000000
 abbrev pub most_bytes : ℕ
 most_bytes = 16777216
 
+abbrev pub most_ranges : ℕ
+most_ranges = 1000
+
+-- one for a range, and nothing for another call
+abbrev pub range_count : Call → ℕ
+range_count (Get key) = 0
+range_count (Put key value) = 0
+range_count (Del key) = 0
+range_count (Window start most) = 0
+range_count (Swap key want value) = 0
+range_count (Range low bound) = 1
+
+-- how many of the orders are ranges
+abbrev pub range_lines : List Order → ℕ
+range_lines [] = 0
+range_lines (order ∷ orders) = range_count order.call + range_lines orders
+
 -- the bytes spell these orders
 pub record Spells (workers : ℕ) (bytes : List ℕ) (orders : List Order) : Type 0 where
   pub each : AllByRecursion (IsOrder workers) orders
   pub few : length orders ≤ most_lines
+  pub ranges : range_lines orders ≤ most_ranges
   pub spelling : IsSpelling bytes (lines_text orders)
 
 -- the bytes begin with this line: it is all of them, or a line feed ends it
 abbrev pub BeginsWith : List ℕ → List ℕ → Type 0
 BeginsWith bytes line = (bytes ≡ line) ⊎ ((rest : List ℕ) × (bytes ≡ line ++ 10 ∷ rest))
 
--- line number n is the first bad one: behind n - 1 good lines something stands that begins with no order, or it is one line too many
+-- line number n is the first bad one: behind n - 1 good lines something stands that begins with no order or with one range too many, or it is one line too many
 pub record IsFirstBad (workers : ℕ) (bytes : List ℕ) (n : ℕ) : Type 0 where
   pub good : List Order
   pub rest : List ℕ
   pub each : AllByRecursion (IsOrder workers) good
   pub few : length good ≤ most_lines
+  pub ranges : range_lines good ≤ most_ranges
   pub front : bytes ≡ lines_text good ++ rest
   pub more : 0 < length rest
   pub count : length good + 1 ≡ n
-  pub bad : (length good ≡ most_lines) ⊎ ((order : Order) → IsOrder workers order → BeginsWith rest (order_text order) → ⊥)
+  pub bad : (length good ≡ most_lines) ⊎ ((order : Order) → IsOrder workers order → BeginsWith rest (order_text order) → most_ranges < range_lines (good ++ order ∷ []))
 
 -- the calls of one worker, in the script's order
 abbrev pub calls_by : ℕ → List Order → List Call

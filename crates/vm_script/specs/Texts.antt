@@ -4,8 +4,10 @@ use Rattle.std.specs.List.{flat_map}
 use Rattle.std.specs.Prelude.{[], ◌++◌, ◌+◌, ◌∷◌, codes, length, List, map, None, Option, Some, ℕ}
 use Rattle.vm_map.specs.{declared.call.Call.Call, declared.call.Reply.Reply, declared.call.Said.Said, declared.window.Bound.Bound}
 use Rattle.vm_map.specs.{declared.window.Bound.TheVariants.End, declared.window.Bound.TheVariants.Key, declared.window.Window.Window, Map.Pairs}
-use Rattle.vm_map.specs.declared.call.Call.TheVariants.{Del, Get, Put, Window as Asked}
-use Rattle.vm_map.specs.declared.call.Reply.TheVariants.{Gone, Got, Was, Win}
+use Rattle.vm_map.specs.declared.call.Call.TheVariants.{Del, Get, Put, Range, Swap, Window as Asked}
+use Rattle.vm_map.specs.declared.call.Reply.TheVariants.{Gone, Got, Many, Swapped, Was, Wide, Win}
+use Rattle.vm_map.specs.declared.call.Swap.{Swap as Outcome}
+use Rattle.vm_map.specs.declared.call.Swap.TheVariants as swaps
 use Rattle.vm_script.specs.declared.text.Line.{Line}
 use Rattle.vm_script.specs.declared.text.Line.TheVariants as lines
 
@@ -27,7 +29,22 @@ abbrev pub value_text : List ℕ → List ℕ → Option ℕ → List ℕ
 value_text word none (Some value) = word ++ 32 ∷ decimal value
 value_text word none None = none
 
--- to a get `some V` or `none`, to a put `was V` or `new`, to a del `gone V` or `none`, to a window `window K B` and the pairs; a reply that is not of the call's kind has no text
+-- what a swap did
+abbrev pub swap_text : Outcome → List ℕ
+swap_text swaps.Done = codes "swapped"
+swap_text (swaps.Kept value) = codes "kept " ++ decimal value
+swap_text swaps.Missing = codes "none"
+
+-- `range COUNT` and the pairs, of all pairs of a range
+abbrev pub range_text : Pairs → List ℕ
+range_text pairs = codes "range " ++ decimal (length pairs) ++ shown_text pairs
+
+-- `wide R`, of a range that has too many leaves, which cover it up to R
+abbrev pub wide_text : ℕ → List ℕ
+wide_text reach = codes "wide " ++ decimal reach
+
+-- to a get `some V` or `none`, to a put `was V` or `new`, to a del `gone V` or `none`, to a window `window K B` and the pairs, to a swap `swapped`, `kept V` or `none`,
+-- to a range `range COUNT` and the pairs, or `wide R`; a reply that is not of the call's kind has no text
 abbrev pub answer_text : Call → Reply → List ℕ
 answer_text (Get key) (Got found) = value_text (codes "some") (codes "none") found
 answer_text (Get key) _ = []
@@ -37,6 +54,11 @@ answer_text (Del key) (Gone old) = value_text (codes "gone") (codes "none") old
 answer_text (Del key) _ = []
 answer_text (Asked start most) (Win window) = window_text start window
 answer_text (Asked start most) _ = []
+answer_text (Swap key want value) (Swapped outcome) = swap_text outcome
+answer_text (Swap key want value) _ = []
+answer_text (Range low bound) (Many span) = range_text span.0
+answer_text (Range low bound) (Wide reach) = wide_text reach
+answer_text (Range low bound) _ = []
 
 -- the reply, or why there is none
 abbrev pub outcome_text : Line → List ℕ

@@ -1,13 +1,14 @@
 //! Writes the lines of what calls were answered, of rows, of counters, of a tree's size, and of what was made, migrated and churned.
 
 ghost use Rattle.std.specs.Prelude.{◌++◌, ◌≡◌, IfOk, if◌then◌else◌, is_ok, string_bytes};
-ghost use Rattle.vm_map.specs.declared.call.Reply.TheVariants.{Win};
+ghost use Rattle.vm_map.specs.declared.call.Reply.TheVariants.{Gone, Got, Many, Swapped, Was, Wide, Win};
 ghost use Rattle.vm_script.specs.declared.text.Line.TheVariants as lines;
-ghost use Rattle.vm_script.specs.Texts.{answer_text, bound_text, churn_line, counters_line, made_line, migrated_line, outcome_text, reply_line};
+ghost use Rattle.vm_script.specs.Texts.{answer_text, bound_text, churn_line, counters_line, made_line, migrated_line, outcome_text, range_text, reply_line};
 ghost use Rattle.vm_script.specs.Texts.{row_line, shown_text, tree_line, unflushed_line, window_text};
 
 use std::alloc::{AllocError, Global};
-use vm_map::call::{Call, Pair, Reply, Said};
+use vm_map::call::{Call, Pair, Reply, Said, Swap};
+use vm_map::span::Span;
 use vm_map::window::{Bound, Window};
 
 /// What a worker is told of one call: its reply, or why there is none.
@@ -56,13 +57,124 @@ fn window_text(alloc: Global, start: u64, window: &Window) -> Result<String, All
     Ok(text)
 }
 
-// The text of a window that answers a call; none where the call asks for none.
+// The text `range COUNT` and the pairs, of all pairs of a range.
+fn range_text(alloc: Global, span: &Span) -> Result<String, AllocError>
+    ensures { IfOk result (λ text. string_bytes text ≡ range_text span.now.0) }
+{
+    let shown = shown(alloc, span.as_slice())?;
+    let count = span.len();
+    let text = format!(in alloc; "range {count}{shown}")?;
+    Ok(text)
+}
+
+// The text of the value that was found for a get. A call of another kind has none, and so it is with each of these functions.
+fn got_answer(alloc: Global, call: &Call, found: Option<u64>) -> Result<String, AllocError>
+    ensures { IfOk result (λ text. string_bytes text ≡ answer_text call.now (Got found)) }
+{
+    match *call {
+        Call::Get { .. } => match found {
+            None => String::from_str(alloc, "none"),
+            Some(value) => format!(in alloc; "some {value}"),
+        },
+        Call::Put { .. }
+        | Call::Del { .. }
+        | Call::Window { .. }
+        | Call::Swap { .. }
+        | Call::Range { .. } => Ok(String::new(alloc)),
+    }
+}
+
+// Of the value before a put.
+fn was_answer(alloc: Global, call: &Call, old: Option<u64>) -> Result<String, AllocError>
+    ensures { IfOk result (λ text. string_bytes text ≡ answer_text call.now (Was old)) }
+{
+    match *call {
+        Call::Put { .. } => match old {
+            None => String::from_str(alloc, "new"),
+            Some(value) => format!(in alloc; "was {value}"),
+        },
+        Call::Get { .. }
+        | Call::Del { .. }
+        | Call::Window { .. }
+        | Call::Swap { .. }
+        | Call::Range { .. } => Ok(String::new(alloc)),
+    }
+}
+
+// Of the value before a del.
+fn gone_answer(alloc: Global, call: &Call, old: Option<u64>) -> Result<String, AllocError>
+    ensures { IfOk result (λ text. string_bytes text ≡ answer_text call.now (Gone old)) }
+{
+    match *call {
+        Call::Del { .. } => match old {
+            None => String::from_str(alloc, "none"),
+            Some(value) => format!(in alloc; "gone {value}"),
+        },
+        Call::Get { .. }
+        | Call::Put { .. }
+        | Call::Window { .. }
+        | Call::Swap { .. }
+        | Call::Range { .. } => Ok(String::new(alloc)),
+    }
+}
+
+// Of a window.
 fn window_answer(alloc: Global, call: &Call, window: &Window) -> Result<String, AllocError>
     ensures { IfOk result (λ text. string_bytes text ≡ answer_text call.now (Win window.now)) }
 {
     match *call {
         Call::Window { start, .. } => window_text(alloc, start, window),
-        Call::Get { .. } | Call::Put { .. } | Call::Del { .. } => Ok(String::new(alloc)),
+        Call::Get { .. }
+        | Call::Put { .. }
+        | Call::Del { .. }
+        | Call::Swap { .. }
+        | Call::Range { .. } => Ok(String::new(alloc)),
+    }
+}
+
+// Of what a swap did.
+fn swap_answer(alloc: Global, call: &Call, outcome: Swap) -> Result<String, AllocError>
+    ensures { IfOk result (λ text. string_bytes text ≡ answer_text call.now (Swapped outcome)) }
+{
+    match *call {
+        Call::Swap { .. } => match outcome {
+            Swap::Done => String::from_str(alloc, "swapped"),
+            Swap::Kept(value) => format!(in alloc; "kept {value}"),
+            Swap::Missing => String::from_str(alloc, "none"),
+        },
+        Call::Get { .. }
+        | Call::Put { .. }
+        | Call::Del { .. }
+        | Call::Window { .. }
+        | Call::Range { .. } => Ok(String::new(alloc)),
+    }
+}
+
+// Of all pairs of a range.
+fn range_answer(alloc: Global, call: &Call, span: &Span) -> Result<String, AllocError>
+    ensures { IfOk result (λ text. string_bytes text ≡ answer_text call.now (Many span.now)) }
+{
+    match *call {
+        Call::Range { .. } => range_text(alloc, span),
+        Call::Get { .. }
+        | Call::Put { .. }
+        | Call::Del { .. }
+        | Call::Window { .. }
+        | Call::Swap { .. } => Ok(String::new(alloc)),
+    }
+}
+
+// Of a range that is too wide.
+fn wide_answer(alloc: Global, call: &Call, reach: u64) -> Result<String, AllocError>
+    ensures { IfOk result (λ text. string_bytes text ≡ answer_text call.now (Wide reach)) }
+{
+    match *call {
+        Call::Range { .. } => format!(in alloc; "wide {reach}"),
+        Call::Get { .. }
+        | Call::Put { .. }
+        | Call::Del { .. }
+        | Call::Window { .. }
+        | Call::Swap { .. } => Ok(String::new(alloc)),
     }
 }
 
@@ -70,26 +182,14 @@ fn window_answer(alloc: Global, call: &Call, window: &Window) -> Result<String, 
 fn answer(alloc: Global, call: &Call, reply: &Reply) -> Result<String, AllocError>
     ensures { IfOk result (λ text. string_bytes text ≡ answer_text call.now reply.now) }
 {
-    match *call {
-        Call::Get { .. } => match reply {
-            Reply::Got(None) => String::from_str(alloc, "none"),
-            Reply::Got(Some(value)) => format!(in alloc; "some {value}"),
-            Reply::Was(_) | Reply::Gone(_) | Reply::Win(_) => Ok(String::new(alloc)),
-        },
-        Call::Put { .. } => match reply {
-            Reply::Was(None) => String::from_str(alloc, "new"),
-            Reply::Was(Some(value)) => format!(in alloc; "was {value}"),
-            Reply::Got(_) | Reply::Gone(_) | Reply::Win(_) => Ok(String::new(alloc)),
-        },
-        Call::Del { .. } => match reply {
-            Reply::Gone(None) => String::from_str(alloc, "none"),
-            Reply::Gone(Some(value)) => format!(in alloc; "gone {value}"),
-            Reply::Got(_) | Reply::Was(_) | Reply::Win(_) => Ok(String::new(alloc)),
-        },
-        Call::Window { start, .. } => match reply {
-            Reply::Win(window) => window_text(alloc, start, window),
-            Reply::Got(_) | Reply::Was(_) | Reply::Gone(_) => Ok(String::new(alloc)),
-        },
+    match reply {
+        Reply::Got(found) => got_answer(alloc, call, *found),
+        Reply::Was(old) => was_answer(alloc, call, *old),
+        Reply::Gone(old) => gone_answer(alloc, call, *old),
+        Reply::Win(window) => window_answer(alloc, call, window),
+        Reply::Swapped(outcome) => swap_answer(alloc, call, *outcome),
+        Reply::Many(span) => range_answer(alloc, call, span),
+        Reply::Wide(reach) => wide_answer(alloc, call, *reach),
     }
 }
 
@@ -106,8 +206,9 @@ fn outcome(alloc: Global, line: &Line) -> Result<String, AllocError>
 }
 
 /// Appends the line `WORKER NUMBER REPLY` of a worker's call: `some V` or `none` to a get, `new` or `was V` to a put,
-/// `gone V` or `none` to a del, `window K B` with ` k=v` for each pair to a window from K on, B being the key of its bound or
-/// `end`; and `fault P`, `full` or `worn P` where there is no reply. A reply that is not of its call's kind has no text.
+/// `gone V` or `none` to a del, `swapped`, `kept V` or `none` to a swap, `window K B` with ` k=v` for each pair to a window from K on, B being the key of its bound or
+/// `end`, `range COUNT` with ` k=v` for each pair, or `wide R`, to a range; and `fault P`, `full` or `worn P` where there is no reply. A reply that is not of its call's
+/// kind has no text.
 ///
 /// # Errors
 ///
@@ -162,6 +263,26 @@ pub fn shown_text(
     ensures { out.new.items ≡ (if is_ok result then out.old.items ++ reply_line worker number (lines.Said (record { call = call.now; reply = Win window.now })) else out.old.items) }
 {
     let told = window_answer(alloc, call, window)?;
+    let line = format!(in alloc; "{worker} {number} {told}\n")?;
+    out.extend_from_slice(line.as_bytes())
+}
+
+/// Appends the line of a call that was answered by all pairs of a range, as `reply_text` does.
+///
+/// # Errors
+///
+/// `AllocError` where memory was refused; `out` is then as before.
+pub fn gathered_text(
+    alloc: Global,
+    worker: u32,
+    number: u32,
+    call: &Call,
+    span: &Span,
+    out: &mut Vec<u8>,
+) -> Result<(), AllocError>
+    ensures { out.new.items ≡ (if is_ok result then out.old.items ++ reply_line worker number (lines.Said (record { call = call.now; reply = Many span.now })) else out.old.items) }
+{
+    let told = range_answer(alloc, call, span)?;
     let line = format!(in alloc; "{worker} {number} {told}\n")?;
     out.extend_from_slice(line.as_bytes())
 }

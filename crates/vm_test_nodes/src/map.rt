@@ -1,8 +1,12 @@
 // Each public call once, with replies that were worked out by hand.
 use std::test::Fail;
-use vm_map::call::{Call, Pair, Reply};
+use vm_map::call::{Call, Pair, Reply, Swap};
 use vm_map::plain::PlainMap;
 use vm_map::window::{Bound, Pairs, Window};
+
+fn swap_of(key: u64, want: u64, value: u64) -> Call {
+    Call::Swap { key, want, value }
+}
 
 #[test]
 fn answers_calls(rt: HostRuntime) -> Result<(), Fail> {
@@ -22,6 +26,11 @@ fn answers_calls(rt: HostRuntime) -> Result<(), Fail> {
         (Call::Put { key: 5, value: 8 }, Reply::Was(Some(7))),
         (Call::Get { key: 5 }, Reply::Got(Some(8))),
         (Call::Get { key: 6 }, Reply::Got(None)),
+        (swap_of(5, 8, 9), Reply::Swapped(Swap::Done)),
+        (swap_of(5, 8, 7), Reply::Swapped(Swap::Kept(9))),
+        (swap_of(5, 9, 8), Reply::Swapped(Swap::Done)),
+        (swap_of(5, 8, 8), Reply::Swapped(Swap::Done)),
+        (swap_of(6, 0, 1), Reply::Swapped(Swap::Missing)),
         (Call::Put { key: 6, value: 9 }, Reply::Was(None)),
         (Call::Del { key: 6 }, Reply::Gone(Some(9))),
         (Call::Del { key: 6 }, Reply::Gone(None)),

@@ -51,6 +51,18 @@ pub(crate) fn large_tree(alloc: Global, free: usize) -> Result<Vec<u8>, AllocErr
     Ok(bytes)
 }
 
+/// Eight pages whose one leaf has the pairs 1 1 and 7806831264735756412 2.
+pub(crate) fn two_rows(alloc: Global) -> Result<Vec<u8>, AllocError> {
+    let mut bytes = Vec::new(alloc);
+    put_page(&mut bytes, &[MAGIC, 1, 0])?;
+    put_page(
+        &mut bytes,
+        &[2, 2, 0, 0, 1, 0, 0, 0, 1, 1, 7_806_831_264_735_756_412, 2],
+    )?;
+    put_free(&mut bytes, 6)?;
+    Ok(bytes)
+}
+
 /// Eight pages: below the root on page 3, leaves with the pairs 1 1 to 14 14 on page 1, and 15 15 to 29 29 on page 2.
 pub(crate) fn two_leaves(alloc: Global) -> Result<Vec<u8>, AllocError> {
     let mut bytes = Vec::new(alloc);

@@ -1,6 +1,6 @@
 use Rattle.std.proofs.Common.{◌+◌, ◌<◌, ap, arith, length}
 use Rattle.vm_endings.proofs.replies.add_replies.Goals as goal
-use Rattle.vm_endings.proofs.Telling.{as_many, few_at, matched_at, windows_at, worker_told, workers_told}
+use Rattle.vm_endings.proofs.Telling.{as_many, contents_at, few_at, matched_at, worker_told, workers_told}
 
 pub bounds-lists-worker : goal.bounds-lists-worker
 bounds-lists-worker c = omega (arith, as_many c.args.lists.now c.args.replies.now c.requires.matched)
@@ -15,8 +15,8 @@ add_answers-requires-clause-few c =
     let within : c.workers.worker < length c.args.lists.now = omega (arith, as_many c.args.lists.now c.args.replies.now c.requires.matched) in
     rw c.as_slice-calls.ensures.value (few_at c.args.lists.now c.workers.worker c.index-lists-worker.result c.requires.few within c.index-lists-worker.is)
 
-pub add_answers-requires-clause-windows : goal.add_answers-requires-clause-windows
-add_answers-requires-clause-windows c = windows_at c.args.replies.now c.workers.answers-index c.answers-item.result c.requires.windows c.workers-test.true c.answers-item.is
+pub add_answers-requires-clause-contents : goal.add_answers-requires-clause-contents
+add_answers-requires-clause-contents c = contents_at c.args.replies.now c.workers.answers-index c.answers-item.result c.requires.contents c.workers-test.true c.answers-item.is
 
 pub overflow_add-worker : goal.overflow_add-worker
 overflow_add-worker c = omega (arith, as_many c.args.lists.now c.args.replies.now c.requires.matched)
