@@ -90,7 +90,7 @@ def bar_chart(part, speeds, titles, footnote):
         f'<svg xmlns="http://www.w3.org/2000/svg" width="{WIDTH}" height="{height}" viewBox="0 0 {WIDTH} {height}" font-family="sans-serif" role="img">',
         f"<title>{html.escape(part.title)}: calls a second</title>",
         f'<rect width="{WIDTH}" height="{height}" fill="#ffffff"/>',
-        text(LEFT, 28, f"churn: {part.title.lower()}", 17, weight="bold"),
+        text(LEFT, 28, part.heading, 17, weight="bold"),
         *legend(part.workers),
         *marks,
         text(MARGIN, bottom + 54, footnote, 11),

@@ -1,5 +1,5 @@
 """The test of the harness: small runs of all engines, whose summaries must be right, and the two clocks beside each other."""
-from harness import rounds, watch, workload
+from harness import ranges, rounds, watch, workload
 from harness.console import Failure, say
 
 PAIRS = 1_000
@@ -10,7 +10,7 @@ APART = 0.1
 
 def check(engines, limit):
     """0 where all is right, else 1; says each step that is wrong."""
-    faults = list(faults_of_sizes())
+    faults = [*faults_of_sizes(), *faults_of_lines()]
     for part in rounds.PARTS:
         taking_part = part.engines_of(engines)
         faults += faults_of_part(part, taking_part, limit)
@@ -27,7 +27,7 @@ def faults_of_part(part, engines, limit):
     for engine in engines:
         for workers in part.workers:
             try:
-                engine.run(part.job(PAIRS, workers, engine.words), limit)
+                part.run(engine, part.job(PAIRS, workers, engine.words), limit)
             except Failure as failure:
                 yield f"{part.name} with {workers} workers: {failure}"
 
@@ -43,6 +43,31 @@ def faults_of_sizes():
     ):  # fmt: skip
         if workload.pages_needed(pairs, words) != pages:
             yield f"{pairs} pairs are said to need {workload.pages_needed(pairs, words)} pages of {words} words, and need {pages}"
+
+
+def faults_of_lines():
+    """Lines of ranges worked out by hand, of a map that is shorter than a range."""
+    rows = [(1, 1), (7_806_831_264_735_756_412, 2), (9_396_908_728_118_811_419, 3)]
+    if ranges.rows_of(3) != rows:
+        yield f"the rows of three pairs are {ranges.rows_of(3)}"
+    job = workload.resident_job(3, 2, workload.SMALL_PAGE)
+    lines = ranges.range_lines(job)
+    if len(lines) != ranges.RANGES or lines[:2] != ["0 range 1 end\n", "1 range 1 end\n"]:
+        yield f"{len(lines)} ranges of three pairs begin with {lines[:2]}"
+    right = [f"{worker} {number} range 3 1=1 {rows[1][0]}=2 {rows[2][0]}=3" for worker in range(2) for number in range(ranges.RANGES // 2)]
+    for wrong in (right[:-1], [*right[:-1], right[-1].removesuffix("3") + "4"]):
+        if is_taken(wrong, job):
+            yield f"{len(wrong)} replies to ranges are taken, the last as '{wrong[-1]}'"
+    if not is_taken(right, job):
+        yield "the right replies to ranges are not taken"
+
+
+def is_taken(lines, job):
+    try:
+        ranges.require_replies("", lines, job)
+    except Failure:
+        return False
+    return True
 
 
 def faults_of_watch(engines, limit):

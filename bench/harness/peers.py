@@ -1,17 +1,18 @@
 """The other engines: their packages, their programs, and how one is run."""
 import dataclasses
+import pathlib
 
-from harness import compiler, packages, process, workload
+from harness import compiler, packages, process, ranges, workload
 from harness.console import Failure
 
 SOURCES = compiler.BENCH / "peers"
-SHARED_SOURCES = ("main.cc", "churn.cc")
+SHARED_SOURCES = ("main.cc", "churn.cc", "ranges.cc", "workers.cc")
 
 
 @dataclasses.dataclass(frozen=True)
 class Peer:
-    """An engine: its name on the command line, its name in tables, its own source files, what it needs of Debian, whether its memory can be bounded, and what
-    a reader of its numbers has to know."""
+    """An engine: its name on the command line, its name in tables, its own source files, what it needs of Debian, whether its memory can be bounded, whether it
+    has ranges of one moment, and what a reader of its numbers has to know."""
 
     name: str
     title: str
@@ -20,6 +21,7 @@ class Peer:
     header: str = ""
     library: str = ""
     can_be_bounded: bool = False
+    has_ranges: bool = True
     remark: str = ""
     # Its memory is bounded to the bytes of the program's frames of this size.
     words: int = workload.SMALL_PAGE
@@ -27,17 +29,35 @@ class Peer:
     def run(self, job, limit, environment=None):
         """Seconds of the workers by the peer's own clock, and what the run cost. Its summary is right, else it has failed."""
         with process.scratch_folder() as folder:
-            words = [program_of(self), job.pairs, workload.SEED, job.workers, folder, job.cache_bytes]
-            ran = process.run([str(word) for word in words], limit, environment or {})
-        summary, _, seconds = ran.output.strip().partition("\nseconds ")
+            summary, seconds, ran = self.ended(self.words_for(job, folder), limit, environment or {})
         workload.require_summary(self.name, summary, job.pairs)
-        return float(seconds), ran
+        return seconds, ran
+
+    def run_ranges(self, job, limit):
+        """Seconds of the workers by the peer's own clock for the ranges once, nothing that is to be taken off, and what the run cost. Its summary is right, else it
+        has failed."""
+        with process.scratch_folder() as folder:
+            script, own_folder = pathlib.Path(folder) / "script", pathlib.Path(folder) / "store"
+            script.write_text("".join(ranges.range_lines(job)), encoding="ascii")
+            own_folder.mkdir()
+            summary, seconds, ran = self.ended([*self.words_for(job, own_folder), script, ranges.TIMES_OF_PEERS], limit, {})
+        ranges.require_summary_of_peer(self.name, summary, job.pairs)
+        return seconds / ranges.TIMES_OF_PEERS, 0.0, ran
+
+    def words_for(self, job, folder):
+        return [program_of(self), job.pairs, workload.SEED, job.workers, folder, job.cache_bytes]
+
+    def ended(self, words, limit, environment):
+        """What it printed as its summary and its seconds, and what the run cost."""
+        ran = process.run([str(word) for word in words], limit, environment)
+        summary, _, seconds = ran.output.strip().partition("\nseconds ")
+        return summary, float(seconds), ran
 
 
 # Seen in a profile of Debian 12's library: sync points, assertions and counters at each comparison of keys.
 DEBUG_BUILD = "RocksDB as Debian 12 builds it has its aids for debugging in it, which cost it much: these numbers say little of a build without them."
 PEERS = (
-    Peer("olc", "B+-tree, plain C++", ("olc.cc", "olc_tree.cc")),
+    Peer("olc", "B+-tree, plain C++", ("olc.cc", "olc_tree.cc"), has_ranges=False),
     Peer("map", "std::map, one mutex", ("map.cc",)),
     Peer("lmdb", "LMDB", ("lmdb.cc",), "liblmdb-dev", "lmdb.h", "lmdb"),
     Peer("wiredtiger", "WiredTiger", ("wiredtiger.cc",), "libwiredtiger-dev", "wiredtiger.h", "wiredtiger", can_be_bounded=True),

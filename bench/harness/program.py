@@ -2,12 +2,14 @@
 import pathlib
 import subprocess
 
-from harness import compiler, process, watch, workload
+from harness import compiler, process, ranges, watch, workload
 from harness.console import Failure
 
 TOP = compiler.BENCH.parent
 BUILD_SECONDS = 3 * 60 * 60
 PROBE_PAIRS = 10
+# With one worker the program makes no thread that could be seen. A second one without a call changes nothing else.
+LEAST_WORKERS_SEEN = 2
 
 
 class Program:
@@ -16,6 +18,7 @@ class Program:
     name = "vmcache"
     title = "vmcache (this repository)"
     can_be_bounded = True
+    has_ranges = True
     words = workload.SMALL_PAGE
 
     def __init__(self, path=None):
@@ -45,6 +48,30 @@ class Program:
             raise Failure(f"{self.name} made no thread that could be seen, so its workers' phase is not known")
         return seconds, ran
 
+    def run_ranges(self, job, limit):
+        """Seconds of the workers that first bring all pages into memory and then make the ranges, seconds of the same without the ranges, and what the run of
+        both cost. Each reply is right, else it has failed."""
+        with process.scratch_folder() as folder:
+            image, gets = pathlib.Path(folder) / "image", ranges.get_lines(job)
+            pages = workload.pages_needed(job.pairs, job.words)
+            process.run([str(self.path), "make", str(image), str(pages), str(job.pairs), str(workload.SEED), *size_of(job)], limit, {})
+            before, _ = self.run_script(image, gets, job, limit)
+            seconds, ran = self.run_script(image, gets + ranges.range_lines(job), job, limit)
+        ranges.require_replies(self.name, ran.output.splitlines(), job)
+        return seconds, before, ran
+
+    def run_script(self, image, lines, job, limit):
+        """Seconds of the workers, and what the run cost."""
+        script = image.with_name("script")
+        script.write_text("".join(lines), encoding="ascii")
+        words = ["run", image, script, "--workers", max(job.workers, LEAST_WORKERS_SEEN), "--frames", job.frames]
+        with watch.Watch() as seen:
+            ran = process.run([str(self.path), *map(str, words)], limit, seen.environment)
+            seconds = seen.seconds()
+        if seconds is None:
+            raise Failure(f"{self.name} made no thread that could be seen, so its workers' phase is not known")
+        return seconds, ran
+
 
 class LargePages(Program):
     """The program on pages of 4 KiB."""
@@ -55,9 +82,12 @@ class LargePages(Program):
 
 
 def words_of(job):
-    words = ["churn", str(job.pairs), str(workload.SEED), "--workers", str(job.workers), "--frames", str(job.frames)]
-    # Programs of before know pages of one size alone.
-    return words if job.words == workload.SMALL_PAGE else [*words, "--words", str(job.words)]
+    return ["churn", str(job.pairs), str(workload.SEED), "--workers", str(job.workers), "--frames", str(job.frames), *size_of(job)]
+
+
+def size_of(job):
+    """The words that say the size of a page. Programs of before know pages of one size alone."""
+    return [] if job.words == workload.SMALL_PAGE else ["--words", str(job.words)]
 
 
 def phase_of_one_worker(wall, others):

@@ -2,29 +2,62 @@
 import dataclasses
 import typing
 
-from harness import program, workload
+from harness import program, ranges, workload
 from harness.console import Failure, say
 
 
 @dataclasses.dataclass(frozen=True)
 class Part:
-    """One table: its name, what it shows, the numbers of workers, how a run is set by pairs and workers, and whether it wants engines whose memory can be
-    bounded."""
+    """One table of churn: its name, what it shows, the numbers of workers, how a run is set by pairs and workers, and whether it wants engines whose memory can
+    be bounded."""
 
     name: str
     title: str
     workers: tuple
     job: typing.Callable
     is_bounded: bool
+    runs_a_round = 1
+
+    @property
+    def heading(self):
+        return f"churn: {self.title.lower()}"
 
     def engines_of(self, engines):
         """Those of the engines that can take part."""
         return [engine for engine in engines if engine.can_be_bounded or not self.is_bounded]
 
+    def calls_of(self, pairs):
+        return workload.calls_of(pairs)
+
+    def run(self, engine, job, limit):
+        """Seconds of the workers' phase, or None where it was not seen; of these, the seconds that are not the calls'; and what the run cost."""
+        seconds, ran = engine.run(job, limit)
+        return seconds, 0.0, ran
+
+
+class RangesPart(Part):
+    """The table of ranges. Its runs are short, so each round has more of them."""
+
+    runs_a_round = 5
+
+    @property
+    def heading(self):
+        return self.title
+
+    def engines_of(self, engines):
+        return [engine for engine in engines if engine.has_ranges]
+
+    def calls_of(self, pairs):
+        return ranges.RANGES
+
+    def run(self, engine, job, limit):
+        return engine.run_ranges(job, limit)
+
 
 PARTS = (
     Part("resident", "All pages in memory", (1, 2, 4), workload.resident_job, is_bounded=False),
     Part("tenth", "Frames for a tenth of the pages", (1, 4), workload.tenth_job, is_bounded=True),
+    RangesPart("ranges", f"Ranges of {ranges.PAIRS_A_RANGE} pairs, all pages in memory", (1, 4), workload.resident_job, is_bounded=False),
 )
 COST = "cost"
 COST_WORKERS = 4
@@ -33,7 +66,8 @@ COST_FRAMES = (workload.FEWEST_FRAMES, workload.MOST_FRAMES)
 
 @dataclasses.dataclass(frozen=True)
 class Sample:
-    """One run of an engine: seconds of the workers' phase (None until it is worked out) and of the whole run, of processor, and the peak in kibibytes."""
+    """One run of an engine: seconds of the workers' phase (None until it is worked out), of these the seconds that are not the calls', seconds of the whole run and
+    of processor, and the peak in kibibytes."""
 
     part: str
     round: int
@@ -41,6 +75,7 @@ class Sample:
     workers: int
     frames: int
     phase: float | None
+    before: float
     wall: float
     processor: float
     peak: int
@@ -53,25 +88,25 @@ class Rounds:
         self.pairs, self.limit = pairs, limit
         self.samples, self.failures, self.was_ended_by_hand = [], {}, False
 
-    def measure(self, part, engine, job, number):
+    def measure(self, part, engine, job, number, run=PARTS[0].run):
         """One run, unless it failed before."""
         setting = (part, engine.name, job.workers, job.frames)
         if setting in self.failures:
             return
         say(f"round {number}, {part}: {engine.name}, workers {job.workers}, frames {job.frames}")
         try:
-            phase, ran = engine.run(job, self.limit)
+            phase, before, ran = run(engine, job, self.limit)
         except Failure as failure:
             say(f"left out from here on: {failure}")
             self.failures[setting] = str(failure)
             return
-        self.samples.append(Sample(part, number, engine.name, job.workers, job.frames, phase, ran.wall, ran.processor, ran.peak))
+        self.samples.append(Sample(part, number, engine.name, job.workers, job.frames, phase, before, ran.wall, ran.processor, ran.peak))
 
     def run_part(self, part, engines, number):
         """One round of a part."""
-        for workers in part.workers:
+        for workers in part.runs_a_round * part.workers:
             for engine in part.engines_of(engines):
-                self.measure(part.name, engine, part.job(self.pairs, workers, engine.words), number)
+                self.measure(part.name, engine, part.job(self.pairs, workers, engine.words), number, part.run)
 
     def run_cost(self, engine, number):
         """One round of the program alone, with the fewest frames and with the most."""

@@ -13,12 +13,18 @@ Cost = collections.namedtuple("Cost", "wall processor peak")
 
 
 def speeds_of(samples, part, calls):
-    """Calls a second of the workers' phase, by engine and number of workers."""
-    phases = collections.defaultdict(list)
+    """Calls a second of the workers' phase, by engine and number of workers. What of the phase is not the calls' is taken off by its own least or median."""
+    found = collections.defaultdict(list)
     for sample in samples:
         if sample.part == part:
-            phases[sample.engine, sample.workers].append(sample.phase)
-    return {setting: Speed(calls / min(seconds), calls / statistics.median(seconds)) for setting, seconds in phases.items()}
+            found[sample.engine, sample.workers].append(sample)
+    seconds = {setting: [seconds_by(middle, runs) for middle in (min, statistics.median)] for setting, runs in found.items()}
+    return {setting: Speed(calls / least, calls / median) for setting, (least, median) in seconds.items() if least > 0 and median > 0}
+
+
+def seconds_by(middle, samples):
+    """The seconds of the calls: the least, or the median, of all runs."""
+    return middle(sample.phase for sample in samples) - middle(sample.before for sample in samples)
 
 
 def engines_by_speed(speeds):
@@ -87,9 +93,9 @@ def write_runs(path, samples):
     """Each run, as it was measured."""
     with open(path, "w", newline="", encoding="utf-8") as file:
         writer = csv.writer(file)
-        writer.writerow(["part", "round", "engine", "workers", "frames", "workers_seconds", "run_seconds", "processor_seconds", "peak_kibibytes"])
+        writer.writerow(["part", "round", "engine", "workers", "frames", "workers_seconds", "before_seconds", "run_seconds", "processor_seconds", "peak_kibibytes"])
         for sample in samples:
-            times = [f"{seconds:.6f}" if seconds is not None else "" for seconds in (sample.phase, sample.wall, sample.processor)]
+            times = [f"{seconds:.6f}" if seconds is not None else "" for seconds in (sample.phase, sample.before, sample.wall, sample.processor)]
             writer.writerow([sample.part, sample.round, sample.engine, sample.workers, sample.frames, *times, sample.peak])
 
 

@@ -60,7 +60,7 @@ def image_pages(pairs, words):
 
 
 def resident_job(pairs, workers, words):
-    """A run whose pages all have a frame."""
+    """A run whose pages all have a frame, of churn or of ranges, which write nothing."""
     return Job(pairs, workers, frames_near(image_pages(pairs, words), workers), bounded=False, words=words)
 
 

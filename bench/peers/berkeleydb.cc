@@ -54,6 +54,23 @@ class BerkeleySession : public Session {
     return status == 0;
   }
 
+  // While the cursor is open no writer gets in.
+  void range(const Span& span, Pairs& found) override {
+    DBC* cursor;
+    must(table_->cursor(table_, nullptr, &cursor, 0));
+    ByteKey words = byte_key(span.low);
+    uint64_t value;
+    DBT key_bytes = bytes_at(words.data(), words.size()), value_bytes = bytes_at(&value, sizeof value);
+    int status = cursor->get(cursor, &key_bytes, &value_bytes, DB_SET_RANGE);
+    for (; status == 0; status = cursor->get(cursor, &key_bytes, &value_bytes, DB_NEXT)) {
+      const uint64_t key = number_of(words.data());
+      if (span.ends_at(key)) break;
+      found.emplace_back(key, value);
+    }
+    cursor->close(cursor);
+    if (status != DB_NOTFOUND) must(status);
+  }
+
  private:
   DB* table_;
 };

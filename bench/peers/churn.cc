@@ -1,22 +1,8 @@
 #include "churn.h"
 
-#include <algorithm>
-#include <chrono>
-#include <exception>
-#include <latch>
-#include <thread>
 #include <vector>
 
-#include "places.h"
-
 namespace {
-
-using Clock = std::chrono::steady_clock;
-
-void build(Store& store, const Work& work, const Places& places) {
-  const auto session = store.session();
-  for (uint64_t i = 1; i <= work.pairs; i++) session->put(places.at(i), i);
-}
 
 // The calls of one worker: no two workers share a key, so each answer is fixed.
 Summary call(Session& session, const Work& work, const Places& places, unsigned worker) {
@@ -56,50 +42,6 @@ void read_rows(Store& store, const Work& work, const Places& places, Summary& su
   }
 }
 
-struct Worker {
-  Summary seen;
-  Clock::time_point end;
-  std::exception_ptr failure;
-};
-
-// One worker's thread. It is counted as ready once it has a session, and also where it could not get one: the others wait for it.
-void run_worker(Store& store, const Work& work, const Places& places, unsigned number, std::latch& ready, std::latch& go, Worker& worker) {
-  std::unique_ptr<Session> session;
-  try {
-    session = store.session();
-  } catch (...) {
-    worker.failure = std::current_exception();
-  }
-  ready.count_down();
-  go.wait();
-  if (!session) return;
-  try {
-    worker.seen = call(*session, work, places, number);
-  } catch (...) {
-    worker.failure = std::current_exception();
-  }
-  worker.end = Clock::now();
-}
-
-// Starts all workers at one point, and gives the seconds from there to the end of the last one.
-double run_workers(Store& store, const Work& work, const Places& places, std::vector<Worker>& workers) {
-  std::latch ready(work.workers), go(1);
-  std::vector<std::thread> threads;
-  for (unsigned number = 0; number < work.workers; number++) {
-    threads.emplace_back([&, number] { run_worker(store, work, places, number, ready, go, workers[number]); });
-  }
-  ready.wait();
-  const auto start = Clock::now();
-  go.count_down();
-  for (auto& thread : threads) thread.join();
-  auto end = start;
-  for (const auto& worker : workers) {
-    if (worker.failure) std::rethrow_exception(worker.failure);
-    end = std::max(end, worker.end);
-  }
-  return std::chrono::duration<double>(end - start).count();
-}
-
 }  // namespace
 
 Churned churn(Store& store, const Work& work) {
@@ -107,15 +49,15 @@ Churned churn(Store& store, const Work& work) {
   build(store, work, places);
   Summary foretold;
   if (!store.answers_writes()) foretold = foretell_writes(store, work, places);
-  std::vector<Worker> workers(work.workers);
+  std::vector<Summary> seen(work.workers);
   Churned churned;
-  churned.seconds = run_workers(store, work, places, workers);
+  churned.seconds = run_workers(store, work.workers, [&](Session& session, unsigned worker) { seen[worker] = call(session, work, places, worker); });
   Summary& summary = churned.summary;
-  for (const auto& worker : workers) {
-    summary.calls += worker.seen.calls;
-    summary.some += worker.seen.some;
-    summary.fresh += worker.seen.fresh;
-    summary.gone += worker.seen.gone;
+  for (const auto& by_worker : seen) {
+    summary.calls += by_worker.calls;
+    summary.some += by_worker.some;
+    summary.fresh += by_worker.fresh;
+    summary.gone += by_worker.gone;
   }
   if (!store.answers_writes()) {
     summary.fresh = foretold.fresh;

@@ -3,13 +3,7 @@
 
 #include <cstdint>
 
-#include "store.h"
-
-struct Work {
-  uint64_t pairs;
-  uint64_t seed;
-  unsigned workers;
-};
+#include "workers.h"
 
 // What the calls were answered, and the rows of the last map with the sum of their values.
 struct Summary {

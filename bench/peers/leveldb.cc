@@ -21,6 +21,7 @@ class LevelStore : public Store {
     engine_.reset(engine);
   }
   std::unique_ptr<Session> session() override { return std::make_unique<LevelSession>(*engine_, leveldb::WriteOptions()); }
+  void settle() override { engine_->CompactRange(nullptr, nullptr); }
   bool answers_writes() const override { return false; }
 
  private:

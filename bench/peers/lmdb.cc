@@ -1,4 +1,4 @@
-// LMDB: a transaction for each call, no sync. A reader's transaction is kept and renewed, as the engine's guide has it.
+// LMDB: a transaction for each call, no sync. A reader's transaction and its cursor are kept and renewed, as the engine's guide has it.
 #include <lmdb.h>
 
 #include <cstring>
@@ -9,6 +9,12 @@ namespace {
 
 MDB_val bytes_of(uint64_t& number) { return {sizeof number, &number}; }
 
+uint64_t number_in(const MDB_val& bytes) {
+  uint64_t number;
+  std::memcpy(&number, bytes.mv_data, sizeof number);
+  return number;
+}
+
 void must(int status) {
   if (status != MDB_SUCCESS) throw std::runtime_error(mdb_strerror(status));
 }
@@ -17,17 +23,18 @@ class LmdbSession : public Session {
  public:
   LmdbSession(MDB_env* env, MDB_dbi table) : env_(env), table_(table) {}
   ~LmdbSession() override {
+    if (cursor_) mdb_cursor_close(cursor_);
     if (reader_) mdb_txn_abort(reader_);
   }
 
   std::optional<uint64_t> get(uint64_t key) override {
-    must(reader_ ? mdb_txn_renew(reader_) : mdb_txn_begin(env_, nullptr, MDB_RDONLY, &reader_));
+    begin_reading();
     MDB_val key_bytes = bytes_of(key), found;
     const int status = mdb_get(reader_, table_, &key_bytes, &found);
     std::optional<uint64_t> value;
     if (status != MDB_NOTFOUND) {
       must(status);
-      std::memcpy(&value.emplace(), found.mv_data, sizeof *value);
+      value = number_in(found);
     }
     mdb_txn_reset(reader_);
     return value;
@@ -56,7 +63,24 @@ class LmdbSession : public Session {
     return status == MDB_SUCCESS;
   }
 
+  void range(const Span& span, Pairs& found) override {
+    begin_reading();
+    must(cursor_ ? mdb_cursor_renew(reader_, cursor_) : mdb_cursor_open(reader_, table_, &cursor_));
+    uint64_t low = span.low;
+    MDB_val key_bytes = bytes_of(low), value_bytes;
+    int status = mdb_cursor_get(cursor_, &key_bytes, &value_bytes, MDB_SET_RANGE);
+    for (; status == MDB_SUCCESS; status = mdb_cursor_get(cursor_, &key_bytes, &value_bytes, MDB_NEXT)) {
+      const uint64_t key = number_in(key_bytes);
+      if (span.ends_at(key)) break;
+      found.emplace_back(key, number_in(value_bytes));
+    }
+    if (status != MDB_NOTFOUND) must(status);
+    mdb_txn_reset(reader_);
+  }
+
  private:
+  void begin_reading() { must(reader_ ? mdb_txn_renew(reader_) : mdb_txn_begin(env_, nullptr, MDB_RDONLY, &reader_)); }
+
   MDB_txn* begin() {
     MDB_txn* writer;
     must(mdb_txn_begin(env_, nullptr, 0, &writer));
@@ -66,6 +90,7 @@ class LmdbSession : public Session {
   MDB_env* env_;
   MDB_dbi table_;
   MDB_txn* reader_ = nullptr;
+  MDB_cursor* cursor_ = nullptr;
 };
 
 class LmdbStore : public Store {

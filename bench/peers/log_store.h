@@ -26,9 +26,7 @@ class LogSession : public Session {
     const auto status = engine_.Get(Reading(), Slice(bytes.data(), bytes.size()), &found_);
     if (status.IsNotFound()) return std::nullopt;
     require(status.ok() && found_.size() == sizeof(uint64_t), "get");
-    uint64_t value;
-    std::memcpy(&value, found_.data(), sizeof value);
-    return value;
+    return value_in(found_.data());
   }
 
   bool put(uint64_t key, uint64_t value) override {
@@ -44,7 +42,27 @@ class LogSession : public Session {
     return true;
   }
 
+  // An iterator sees the pairs as they were when it was made.
+  void range(const Span& span, Pairs& found) override {
+    const ByteKey low = byte_key(span.low);
+    const auto rows = iterator();
+    for (rows->Seek(Slice(low.data(), low.size())); rows->Valid(); rows->Next()) {
+      const uint64_t key = number_of(rows->key().data());
+      if (span.ends_at(key)) break;
+      found.emplace_back(key, value_in(rows->value().data()));
+    }
+    require(rows->status().ok(), "range");
+  }
+
  private:
+  static uint64_t value_in(const char* bytes) {
+    uint64_t value;
+    std::memcpy(&value, bytes, sizeof value);
+    return value;
+  }
+
+  auto iterator() { return std::unique_ptr<std::remove_pointer_t<decltype(engine_.NewIterator(Reading()))>>(engine_.NewIterator(Reading())); }
+
   Engine& engine_;
   Writing writing_;
   std::string found_;

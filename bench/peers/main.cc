@@ -1,4 +1,5 @@
-// Runs the churn workload on the one peer that this program is linked with. Prints the summary in the words of `vmcache churn`, and the seconds of the workers.
+// Runs a workload on the one peer that this program is linked with: churn, or with a script its ranges. Prints a summary, of churn in the words of `vmcache churn`,
+// and the seconds of the workers.
 #include <charconv>
 #include <cstdio>
 #include <cstring>
@@ -6,8 +7,11 @@
 #include <stdexcept>
 
 #include "churn.h"
+#include "ranges.h"
 
 namespace {
+
+constexpr int CHURN_WORDS = 6, RANGES_WORDS = 8;
 
 uint64_t number_of(const char* word, uint64_t least, uint64_t most) {
   uint64_t number = 0;
@@ -17,24 +21,38 @@ uint64_t number_of(const char* word, uint64_t least, uint64_t most) {
   return number;
 }
 
-void run(char** words) {
-  const Work work{number_of(words[1], 1, 10'000'000), number_of(words[2], 0, UINT64_MAX), unsigned(number_of(words[3], 1, 64))};
-  const auto store = open_store({words[4], 2 * work.pairs, number_of(words[5], 0, uint64_t(1) << 40)});
-  const Churned churned = churn(*store, work);
+void run_churn(Store& store, const Work& work) {
+  const Churned churned = churn(store, work);
   const Summary& is = churned.summary;
   std::printf("churn %lu calls %lu some %lu new %lu gone %lu rows %lu sum %lu\n", work.pairs, is.calls, is.some, is.fresh, is.gone, is.rows, is.sum);
   std::printf("seconds %.9f\n", churned.seconds);
 }
 
+void run_ranges(Store& store, const Work& work, const char* script, unsigned times) {
+  const Ranged is = make_ranges(store, work, script, times);
+  std::printf("ranges %lu pairs %lu keys %lu sum %lu\n", is.ranges, is.pairs, is.keys, is.sum);
+  std::printf("seconds %.9f\n", is.seconds);
+}
+
+void run(int count, char** words) {
+  const Work work{number_of(words[1], 1, 10'000'000), number_of(words[2], 0, UINT64_MAX), unsigned(number_of(words[3], 1, 64))};
+  const auto store = open_store({words[4], 2 * work.pairs, number_of(words[5], 0, uint64_t(1) << 40)});
+  if (count == CHURN_WORDS) {
+    run_churn(*store, work);
+  } else {
+    run_ranges(*store, work, words[6], unsigned(number_of(words[7], 1, 1'000)));
+  }
+}
+
 }  // namespace
 
 int main(int count, char** words) {
-  if (count != 6) {
-    std::fprintf(stderr, "usage: %s PAIRS SEED WORKERS FOLDER CACHE_BYTES\n", words[0]);
+  if (count != CHURN_WORDS && count != RANGES_WORDS) {
+    std::fprintf(stderr, "usage: %s PAIRS SEED WORKERS FOLDER CACHE_BYTES [SCRIPT TIMES]\n", words[0]);
     return 2;
   }
   try {
-    run(words);
+    run(count, words);
   } catch (const std::exception& failure) {
     std::fprintf(stderr, "%s\n", failure.what());
     return 1;

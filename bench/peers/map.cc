@@ -32,6 +32,11 @@ class MapSession : public Session {
     return map_.pairs.erase(key) == 1;
   }
 
+  void range(const Span& span, Pairs& found) override {
+    const std::lock_guard held(map_.lock);
+    for (auto pair = map_.pairs.lower_bound(span.low); pair != map_.pairs.end() && !span.ends_at(pair->first); ++pair) found.push_back(*pair);
+  }
+
  private:
   LockedMap& map_;
 };

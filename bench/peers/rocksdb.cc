@@ -29,6 +29,7 @@ class RocksStore : public Store {
     engine_.reset(engine);
   }
   std::unique_ptr<Session> session() override { return std::make_unique<RocksSession>(*engine_, writing_); }
+  void settle() override { require(engine_->CompactRange(rocksdb::CompactRangeOptions(), nullptr, nullptr).ok(), "settle"); }
   bool answers_writes() const override { return false; }
 
  private:

@@ -1,4 +1,4 @@
-// What the churn workload needs of an engine: a store of pairs, and for each worker a session on it. Each peer is one file that implements open_store.
+// What the workloads need of an engine: a store of pairs, and for each worker a session on it. Each peer is one file that implements open_store.
 #pragma once
 
 #include <cstdint>
@@ -6,6 +6,22 @@
 #include <optional>
 #include <stdexcept>
 #include <string>
+#include <utility>
+#include <vector>
+
+using Pairs = std::vector<std::pair<uint64_t, uint64_t>>;
+
+// The keys from `low` on, below the bound where there is one.
+struct Span {
+  uint64_t low;
+  std::optional<uint64_t> bound;
+  bool ends_at(uint64_t key) const { return bound && *bound <= key; }
+};
+
+// An answer of an engine that no call of a workload may get.
+inline void require(bool is_right, const char* call) {
+  if (!is_right) throw std::runtime_error(std::string("refused: ") + call);
+}
 
 // The calls of one thread. A session is made and dropped in the thread that uses it, since some engines tie it to that thread.
 class Session {
@@ -16,12 +32,16 @@ class Session {
   virtual bool put(uint64_t key, uint64_t value) = 0;
   // Whether the key was there.
   virtual bool del(uint64_t key) = 0;
+  // Appends the pairs of a span as they were at one moment, by rising key. An engine that has no such call refuses it.
+  virtual void range(const Span&, Pairs&) { require(false, "range"); }
 };
 
 class Store {
  public:
   virtual ~Store() = default;
   virtual std::unique_ptr<Session> session() = 0;
+  // Brings what was put into the form in which the engine keeps it for long. There is no session meanwhile.
+  virtual void settle() {}
   // False for an engine that writes without looking: what its `put` and `del` return then says nothing.
   virtual bool answers_writes() const { return true; }
 };
@@ -36,8 +56,3 @@ struct Settings {
 };
 
 std::unique_ptr<Store> open_store(const Settings& settings);
-
-// An answer of an engine that no call of churn may get.
-inline void require(bool is_right, const char* call) {
-  if (!is_right) throw std::runtime_error(std::string("refused: ") + call);
-}

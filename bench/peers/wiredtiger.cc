@@ -1,4 +1,4 @@
-// WiredTiger: a table whose keys and values are numbers, with no log and no transaction beyond the call's own.
+// WiredTiger: a table whose keys and values are numbers, with no log and no transaction beyond the call's own; of a range it is a snapshot.
 #include <wiredtiger.h>
 
 #include <algorithm>
@@ -63,6 +63,24 @@ class WiredTigerSession : public Session {
     return status == 0;
   }
 
+  void range(const Span& span, Pairs& found) override {
+    must(session_->begin_transaction(session_, "isolation=snapshot"));
+    cursor_->set_key(cursor_, span.low);
+    int side;
+    int status = cursor_->search_near(cursor_, &side);
+    if (status == 0 && side < 0) status = cursor_->next(cursor_);
+    for (; status == 0; status = cursor_->next(cursor_)) {
+      uint64_t key, value;
+      must(cursor_->get_key(cursor_, &key));
+      if (span.ends_at(key)) break;
+      must(cursor_->get_value(cursor_, &value));
+      found.emplace_back(key, value);
+    }
+    if (status != WT_NOTFOUND) must(status);
+    must(cursor_->reset(cursor_));
+    must(session_->commit_transaction(session_, nullptr));
+  }
+
  private:
   // Makes a call until no other writer's change is in its way.
   template <typename Call>
@@ -79,12 +97,12 @@ class WiredTigerSession : public Session {
 
 class WiredTigerStore : public Store {
  public:
-  WiredTigerStore(const std::string& folder, uint64_t cache_bytes) {
+  WiredTigerStore(const std::string& folder, uint64_t cache_bytes) : folder_(folder) {
     const uint64_t cache = cache_bytes == 0 ? AMPLE_CACHE : std::max(cache_bytes, LEAST_CACHE);
     // With a small cache a page must be small too, or a few of them fill it.
     const std::string pages = cache_bytes == 0 ? "" : ",leaf_page_max=4KB,internal_page_max=4KB,memory_page_max=32KB";
-    const std::string options = "create,log=(enabled=false),session_max=100,cache_size=" + std::to_string(cache);
-    must(wiredtiger_open(folder.c_str(), nullptr, options.c_str(), &connection_));
+    options_ = "create,log=(enabled=false),session_max=100,cache_size=" + std::to_string(cache);
+    open();
     WT_SESSION* session;
     must(connection_->open_session(connection_, nullptr, nullptr, &session));
     must(session->create(session, "table:pairs", ("key_format=Q,value_format=Q" + pages).c_str()));
@@ -92,8 +110,16 @@ class WiredTigerStore : public Store {
   }
   ~WiredTigerStore() override { connection_->close(connection_, nullptr); }
   std::unique_ptr<Session> session() override { return std::make_unique<WiredTigerSession>(connection_); }
+  // Until its table is closed, what was put stands beside its pages, in lists.
+  void settle() override {
+    must(connection_->close(connection_, nullptr));
+    open();
+  }
 
  private:
+  void open() { must(wiredtiger_open(folder_.c_str(), nullptr, options_.c_str(), &connection_)); }
+
+  std::string folder_, options_;
   WT_CONNECTION* connection_ = nullptr;
 };
 
