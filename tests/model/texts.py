@@ -5,9 +5,12 @@ import re
 from .machine import Illegal, Machine
 
 NUMBER = r"(0|[1-9][0-9]*)"
-CALLS = [re.compile(form) for form in (f"{NUMBER} get {NUMBER}", f"{NUMBER} put {NUMBER} {NUMBER}", f"{NUMBER} del {NUMBER}", f"{NUMBER} scan {NUMBER} {NUMBER}")]
-KINDS = ("get", "put", "del", "scan")
-LONG, LINES, EVENT_LINES = 2**24, 10**6, 10**5
+BOUND = r"(end|0|[1-9][0-9]*)"
+CALLS = {
+    kind: re.compile(f"{NUMBER} {kind} {rest}")
+    for kind, rest in {"get": NUMBER, "put": f"{NUMBER} {NUMBER}", "del": NUMBER, "scan": f"{NUMBER} {NUMBER}", "swap": f"{NUMBER} {NUMBER} {NUMBER}", "range": f"{NUMBER} {BOUND}"}.items()
+}
+LONG, LINES, RANGES, EVENT_LINES = 2**24, 10**6, 1000, 10**5
 
 
 def lines_of(data):
@@ -17,16 +20,18 @@ def lines_of(data):
 
 
 def order(line, workers):
-    """A script's line as worker, kind and numbers; None where it is refused."""
+    """A script's line as worker, kind and numbers, the bound `end` as None; None where it is refused."""
     try:
         text = line.decode("ascii")
     except UnicodeDecodeError:
         return None
-    for kind, form in zip(KINDS, CALLS):
+    for kind, form in CALLS.items():
         found = form.fullmatch(text)
         if found:
-            worker, *rest = (int(number) for number in found.groups())
-            if worker >= workers or any(n >= 2**64 for n in rest) or (kind == "scan" and not 1 <= rest[1] <= 28):
+            worker, *rest = (None if word == "end" else int(word) for word in found.groups())
+            if worker >= workers or any(n is not None and n >= 2**64 for n in rest) or (kind == "scan" and not 1 <= rest[1] <= 28):
+                return None
+            if kind == "range" and rest[1] is not None and rest[1] <= rest[0]:
                 return None
             return worker, kind, rest
     return None
@@ -36,10 +41,11 @@ def read_script(data, workers):
     """The orders of a script, or the line that is printed where it is refused."""
     if len(data) > LONG:
         return "script long"
-    orders = []
+    orders, ranges = [], 0
     for number, line in enumerate(lines_of(data), 1):
         found = order(line, workers) if number <= LINES else None
-        if found is None:
+        ranges += found is not None and found[1] == "range"
+        if found is None or ranges > RANGES:
             return f"script line {number}"
         orders.append(found)
     return orders
@@ -56,6 +62,12 @@ def reply(store, kind, rest):
     if kind == "del":
         found = store.delete(*rest)
         return "none" if found is None else f"gone {found}"
+    if kind == "swap":
+        found = store.swap(*rest)
+        return "none" if found is None else "swapped" if found == rest[1] else f"kept {found}"
+    if kind == "range":
+        pairs, reach = store.range(*rest)
+        return f"wide {reach}" if pairs is None else f"range {len(pairs)}" + "".join(f" {k}={v}" for k, v in pairs)
     bound, pairs = store.window(*rest)
     return f"window {rest[0]} {'end' if bound is None else bound}" + "".join(f" {k}={v}" for k, v in pairs)
 

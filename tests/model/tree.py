@@ -11,6 +11,8 @@ MAGIC = {SMALL: 0x564D434143484531, LARGE: 0x564D434143484532}
 PAGES, MOST, BUILT = {SMALL: 65536, LARGE: 8192}, {SMALL: 28, LARGE: 252}, {SMALL: 20, LARGE: 180}
 LEAF, INNER = 2, 3
 TOP, LAST = 2**64, 2**56 - 1
+# how many leaves a range may have
+LEAVES = 16
 
 
 def blank(size):
@@ -261,11 +263,33 @@ class Store:
             self.write(pid, leaf.page(self.size))
         return old
 
+    def swap(self, key, want, value):
+        """The value that the key had. The leaf is locked where it is the one that is wanted, also where the new value is the same."""
+        pid = self.way(key)[-1]
+        leaf = node_of(self.pages[pid])
+        old = dict(leaf.pairs).get(key)
+        if old is not None and old == want:
+            self.raise_version(pid)
+            leaf.pairs = [(k, value if k == key else v) for k, v in leaf.pairs]
+            self.write(pid, leaf.page(self.size))
+        return old
+
     def window(self, start, most):
         leaf = self.node(self.way(start)[-1])
         pairs = [pair for pair in leaf.pairs if pair[0] >= start]
         bound = pairs[most][0] if len(pairs) > most else leaf.high
         return bound, pairs[:most]
+
+    def range(self, low, bound):
+        """All pairs from a key on and below a bound (None: to the last), and None; or None, and the key that as many leaves reach as may be held, where that is below the bound."""
+        pairs, start = [], low
+        for _ in range(LEAVES):
+            leaf = self.node(self.way(start)[-1])
+            pairs += [pair for pair in leaf.pairs if low <= pair[0] and (bound is None or pair[0] < bound)]
+            if leaf.high is None or (bound is not None and bound <= leaf.high):
+                return pairs, None
+            start = leaf.high
+        return None, start
 
     def flush(self):
         """The pages whose write failed, each written page's device called once."""
