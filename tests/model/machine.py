@@ -56,6 +56,8 @@ class Machine:
         self.owners = [0] * self.frame_count  # a frame's owner word: 0, or a page and 1
         self.free = set(range(self.frame_count))
         self.held = [set() for _ in range(self.actors)]
+        self.spare = set()  # the page numbers whose bits are set in the free-number words
+        self.numbers = [set() for _ in range(self.actors)]  # the page numbers that each actor holds
         self.seats = [[Seat() for _ in range(self.size)] for _ in range(self.actors)]
 
     def line(self, verb, numbers):
@@ -143,6 +145,8 @@ class Machine:
         may(not resident or self.owners[page.frame] == p + 1)
         page.state, page.version = state, page.version + 1
         seat.exclusive, seat.shares = False, shares
+        if resident and any(self.frames[page.frame]):
+            self.numbers[a].discard(p)  # a page with words that are not all 0 is in use
         return "done"
 
     def release(self, a, p):
@@ -207,25 +211,29 @@ class Machine:
         self.frames[f][i] = word
         return "done"
 
-    def bits(self, g):
-        return sum(1 << (f - 64 * g) for f in self.free if f // 64 == g)
+    def bits(self, g, free):
+        return sum(1 << (k - 64 * g) for k in free if k // 64 == g)
 
     def of_mask(self, g, mask):
         return {64 * g + i for i in range(64) if mask >> i & 1}
 
-    def bload(self, a, g):
-        return f"bits {self.bits(g)}"
-
-    def take(self, a, g, expects, mask):
+    def take_from(self, free, held, g, expects, mask):
+        """One exchange of a word of `free`: the bits of the mask, among those expected, go to `held`."""
         may(mask != 0, mask & expects == mask)
-        if self.bits(g) != expects:
-            return f"lost {self.bits(g)}"
-        self.free -= self.of_mask(g, mask)
-        self.held[a] |= self.of_mask(g, mask)
+        if self.bits(g, free) != expects:
+            return f"lost {self.bits(g, free)}"
+        free -= self.of_mask(g, mask)
+        held |= self.of_mask(g, mask)
         return "taken"
 
+    def bload(self, a, g):
+        return f"bits {self.bits(g, self.free)}"
+
+    def take(self, a, g, expects, mask):
+        return self.take_from(self.free, self.held[a], g, expects, mask)
+
     def give(self, a, g, mask):
-        frames, before = self.of_mask(g, mask), self.bits(g)
+        frames, before = self.of_mask(g, mask), self.bits(g, self.free)
         may(mask != 0, frames <= self.held[a])
         self.held[a] -= frames
         self.free |= frames
@@ -263,6 +271,22 @@ class Machine:
     def oload(self, a, f):
         word = self.owners[f]
         return f"owner {word - 1}" if word else "owner none"
+
+    # ---- free-number words
+
+    def pbload(self, a, g):
+        return f"bits {self.bits(g, self.spare)}"
+
+    def ptake(self, a, g, expects, mask):
+        return self.take_from(self.spare, self.numbers[a], g, expects, mask)
+
+    def pgive(self, a, g, mask):
+        pages, before = self.of_mask(g, mask), self.bits(g, self.spare)
+        may(mask != 0, all(p < self.size for p in pages), not pages & self.spare)
+        may(not any(pages & held for b, held in enumerate(self.numbers) if b != a))
+        self.numbers[a] -= pages
+        self.spare |= pages
+        return f"bits {before}"
 
     # ---- a page's device and fault word
 

@@ -74,12 +74,13 @@ def reply(store, kind, rest):
 
 # ---- event lists: a verb, and the kind of each of its numbers
 
-ACTOR, PAGE, FRAME, WORD, BUNDLE, STATE, ANY, COUNT = "a", "p", "f", "i", "g", "S", "n", "c"
+ACTOR, PAGE, FRAME, WORD, BUNDLE, NUMBERS, STATE, ANY, COUNT = "a", "p", "f", "i", "g", "b", "S", "n", "c"
 VERBS = {
     "look": "ap", "lockx": "apS", "locks": "apS", "unlocks": "ap", "mark": "apS", "unmark": "apS", "lockw": "apS", "upgrade": "apS",
     "release": "ap", "releasee": "ap", "downgrade": "ap", "tload": "ap", "install": "apf", "clear": "ap", "dirty": "ap", "clean": "ap",
     "load": "api", "store": "afin", "bload": "ag", "take": "agnn", "give": "agn", "read": "ap", "rfail": "ap", "write": "ap", "wfail": "ap",
-    "raise": "ap", "nload": "a", "claim": "anc", "hand": "a", "own": "ap", "disown": "ap", "oload": "af", "fill": "apf", "loads": "ap",
+    "raise": "ap", "nload": "a", "claim": "anc", "hand": "a", "own": "ap", "disown": "ap", "oload": "af",
+    "pbload": "ab", "ptake": "abnn", "pgive": "abn", "fill": "apf", "loads": "ap",
 }
 
 
@@ -111,7 +112,7 @@ def event(line, shape):
     if kinds is None or len(kinds) != len(words):
         return None
     pages, frames, actors, _ = shape
-    limits = {ACTOR: actors, PAGE: pages, FRAME: frames, WORD: 64, BUNDLE: -(-frames // 64), ANY: 2**64, COUNT: 2**32}
+    limits = {ACTOR: actors, PAGE: pages, FRAME: frames, WORD: 64, BUNDLE: -(-frames // 64), NUMBERS: -(-pages // 64), ANY: 2**64, COUNT: 2**32}
     numbers = []
     for kind, word in zip(kinds, words):
         number = state_word(word) if kind == STATE else decimal(word)

@@ -13,3 +13,6 @@ pub mod Running
 pub mod Cleaning
 pub mod Fits
 pub mod Starting
+pub mod Spares
+pub mod Numbers
+pub mod Leaving

@@ -3,14 +3,14 @@ use Rattle.std.specs.Int.{bit_at, bit_not, w64}
 use Rattle.std.specs.List.{All}
 use Rattle.std.specs.Prelude.{bit_xor}
 use Rattle.std.proofs.Common.{[], ⊎_elim, ◌%◌, ◌&&◌, ◌*◌, ◌+◌, ◌-◌, ◌/◌, ◌<◌, ◌^◌, ◌∙◌, ◌≡◌, ap, arith, bit_and, bit_or, cond, eqb, false, get_or}
-use Rattle.std.proofs.Common.{length, List, max, min, replicate, slice_set, Some, sym, true, ℕ}
+use Rattle.std.proofs.Common.{length, List, max, min, replicate, slice_set, Some, sym, true, true≢false, ℕ, ◌≢◌}
 use Rattle.std.proofs.lemmas.Bool.{and_from, and_left, and_parts, cases_eq, cases_lt, cond-false, cond-true, eq-eqb, eqb-true, ne_eqb}
-use Rattle.std.proofs.lemmas.Nat.Bits.{bit_at-lt, bit_at_above, bit_at_and, bit_at_clear_other, bit_at_clear_same, bit_at_not, bit_at_or}
+use Rattle.std.proofs.lemmas.Nat.Bits.{bit_at-lt, bit_at-zero, bit_at_above, bit_at_and, bit_at_clear_other, bit_at_clear_same, bit_at_not, bit_at_or}
 use Rattle.std.proofs.lemmas.Nat.Bits.{bit_at_set_other, bit_at_set_same, same_from_bits}
 use mathlib.Core.Path.{fun_ext}
 use Rattle.vm_core.specs.Prelude.{at, cleared, core_of, CoreData, gains, has_free_bit, held_of, in_mask, installed, page_of, PageData, pages_of}
 use Rattle.vm_core.specs.Prelude.{State, stored_at, taken, upd}
-use Rattle.vm_core.specs.Step.{given, put_under, taken_out}
+use Rattle.vm_core.specs.Step.{given, numbers_given, numbers_taken, put_under, taken_out}
 use Rattle.vm_core.proofs.At.{at-value, at_set, core-page, core-page_at}
 use Rattle.vm_core.proofs.Upd.{upd-map, upd-other, upd-same}
 
@@ -132,6 +132,37 @@ all-held words g x m e lt = (
         (λ high. let none : bit_at m i ≡ 0 = bit_at_above m 64 i lt high in omega arith)
         (cases_lt i 64)
 
+-- the mask has none of a word's bits exactly where none of its frames is in the set
+pub none-held : (words : ℕ → ℕ) (g x m : ℕ) → words g ≡ x → m < 2 ^ 64 → (bit_and m x ≡ 0 → (f : ℕ) → in_mask g m f ≡ true → has_free_bit words f ≡ false) × (((f : ℕ) → in_mask g m f ≡ true → has_free_bit words f ≡ false) → bit_and m x ≡ 0)
+unfolding has_free_bit in_mask
+none-held words g x m e lt = (
+  (λ none f q. let parts : (eqb (f / 64) g ≡ true) × (eqb (bit_at m (f % 64)) 1 ≡ true) = and_parts _ _ q in
+      let one : bit_at m (f % 64) ≡ 1 = eqb-true _ _ parts.1 in
+      let both : min (bit_at m (f % 64)) (bit_at x (f % 64)) ≡ 0 = sym (bit_at_and m x (f % 64)) ∙ ap (λ v. bit_at v (f % 64)) none ∙ bit_at-zero (f % 64) in
+      let here : bit_at x (f % 64) ≡ 0 = omega (arith, one, both) in
+      let was : bit_at (words (f / 64)) (f % 64) ≡ bit_at x (f % 64) = ap (λ v. bit_at v (f % 64)) (ap words (eqb-true _ _ parts.0) ∙ e) in
+      ne_eqb (bit_at (words (f / 64)) (f % 64)) 1 (λ set. omega (arith, was, here, set))),
+  (λ free. same_from_bits (bit_and m x) 0 (λ i. bit_at_and m x i ∙ each free i ∙ sym (bit_at-zero i))),
+)
+  where
+    each : ((f : ℕ) → (eqb (f / 64) g && eqb (bit_at m (f % 64)) 1) ≡ true → eqb (bit_at (words (f / 64)) (f % 64)) 1 ≡ false) → (i : ℕ) → min (bit_at m i) (bit_at x i) ≡ 0
+    each free i =
+        let small : bit_at m i < 2 = bit_at-lt m i in
+        let word : bit_at x i < 2 = bit_at-lt x i in
+        ⊎_elim
+        (λ low. ⊎_elim
+        (λ one. let q : (64 * g + i) / 64 ≡ g = omega (arith, low) in
+        let r : (64 * g + i) % 64 ≡ i = omega (arith, low) in
+        let h : eqb (bit_at (words ((64 * g + i) / 64)) ((64 * g + i) % 64)) 1 ≡ false =
+        free (64 * g + i) (and_from _ _ (eq-eqb _ _ q) (eq-eqb _ _ (ap (bit_at m) r ∙ one))) in
+        let here : eqb (bit_at x i) 1 ≡ false = sym (ap (λ v. eqb (bit_at v i) 1) (ap words q ∙ e)) ∙ sym (ap (λ j. eqb (bit_at (words ((64 * g + i) / 64)) j) 1) r) ∙ h in
+        let ne : bit_at x i ≢ 1 = λ set. true≢false (sym (eq-eqb _ _ set) ∙ here) in
+        omega (arith, word, ne))
+        (λ ne. omega (arith, small, ne))
+        (cases_eq (bit_at m i) 1))
+        (λ high. let none : bit_at m i ≡ 0 = bit_at_above m 64 i lt high in omega (arith, none))
+        (cases_lt i 64)
+
 -- a word of a frame is written
 pub core-words : (c : CoreData) (f i w : ℕ) (row : List ℕ) → f < length c.frames → row ≡ get_or c.frames f row → core_of (record c { frames = slice_set c.frames f (slice_set row i w) }) ≡ stored_at (core_of c) f i w
 core-words c f i w row lt e =
@@ -195,3 +226,21 @@ core-given c a g w m row row' la lg ew e n =
     (λ ne. ap (λ y. has_free_bit (at 0 y) f) (upd-other (at [] c.held) a row' b ne)
     ∙ sym (ap (λ v. cond (v && in_mask g m f) false (held_of c.held b f)) (ne_eqb b a ne)))
     (cases_eq b a))))
+
+-- the same of page numbers and free-number words: what is moved are lists of the same form
+pub core-numbers_taken : (c : CoreData) (a g w m : ℕ) (row row' : List ℕ) → a < length c.numbers → g < length c.spares → row ≡ get_or c.numbers a row → at 0 row' ≡ upd (at 0 row) g (bit_or (at 0 row g) m) → core_of (record c { spares = slice_set c.spares g (bit_xor w m); numbers = slice_set c.numbers a row' }) ≡ numbers_taken (core_of c) a g w m
+core-numbers_taken c a g w m row row' la lg e n =
+    let k = core-taken (record c { bundles = c.spares; held = c.numbers }) a g w m row row' la lg e n in
+    λ i. record (core_of c) { spares = (k i).bundles; numbers = (k i).held }
+
+pub core-numbers_given : (c : CoreData) (a g w m : ℕ) (row row' : List ℕ) → a < length c.numbers → g < length c.spares → w ≡ get_or c.spares g w → row ≡ get_or c.numbers a row → ((f : ℕ) → has_free_bit (at 0 row') f ≡ cond (in_mask g m f) false (has_free_bit (at 0 row) f)) → core_of (record c { spares = slice_set c.spares g (bit_or w m); numbers = slice_set c.numbers a row' }) ≡ numbers_given (core_of c) a g m
+core-numbers_given c a g w m row row' la lg ew e n =
+    let k = core-given (record c { bundles = c.spares; held = c.numbers }) a g w m row row' la lg ew e n in
+    λ i. record (core_of c) { spares = (k i).bundles; numbers = (k i).held }
+
+-- an actor holds one number no more
+pub core-ended : (c : CoreData) (a p : ℕ) (row row' : List ℕ) → a < length c.numbers → row ≡ get_or c.numbers a row → has_free_bit (at 0 row') ≡ upd (has_free_bit (at 0 row)) p false → core_of (record c { numbers = slice_set c.numbers a row' }) ≡ record (core_of c) { numbers = upd (core_of c).numbers a (upd ((core_of c).numbers a) p false) }
+core-ended c a p row row' la ew n =
+    ap (λ hs. record (core_of c) { numbers = hs })
+    (fun_ext (λ b. ap (λ rows. has_free_bit (at 0 (rows b))) (at_set [] c.numbers a row' la) ∙ upd-map (λ y. has_free_bit (at 0 y)) (at [] c.numbers) a row' b
+    ∙ ap (λ v. upd (held_of c.numbers) a v b) (n ∙ ap (λ y. upd (has_free_bit (at 0 y)) p false) (sym (at-value [] c.numbers a row la ew)))))

@@ -36,12 +36,14 @@ words-more frames n xs x i s =
     }
 
 -- the lists of the start
-pub record StartLists (shape : CoreShape) (pages : List PageData) (frames : List (List ℕ)) (bundles : List ℕ) (held : List (List ℕ)) (owners : List ℕ) : Type 0 where
+pub record StartLists (shape : CoreShape) (pages : List PageData) (frames : List (List ℕ)) (bundles : List ℕ) (held : List (List ℕ)) (owners : List ℕ) (spares : List ℕ) (numbers : List (List ℕ)) : Type 0 where
   pub pages_are : StartPages shape shape.pages pages
   pub frames_are : frames ≡ replicate shape.frames (replicate 64 0)
   pub bundles_are : StartBundles shape.frames ((shape.frames + 63) / 64) bundles
   pub held_are : held ≡ replicate shape.actors (replicate ((shape.frames + 63) / 64) 0)
   pub owners_are : owners ≡ replicate shape.frames 0
+  pub spares_are : spares ≡ replicate ((shape.pages + 63) / 64) 0
+  pub numbers_are : numbers ≡ replicate shape.actors (replicate ((shape.pages + 63) / 64) 0)
 
 pub block-past : (next p : ℕ) → next ≤ p → core_block next p ≡ replicate 64 0
 unfolding core_block
@@ -100,7 +102,7 @@ start-bundles frames bundles i =
     (λ le. get_or-eq_default bundles 0 (omega (arith, i.len, le)) ∙ sym (full-past frames g (omega arith)))
     (cases_lt g ((frames + 63) / 64)))
 
-none-free : (n f : ℕ) → has_free_bit (at 0 (replicate n 0)) f ≡ false
+pub none-free : (n f : ℕ) → has_free_bit (at 0 (replicate n 0)) f ≡ false
 unfolding has_free_bit
 none-free n f = ne_eqb (bit_at (at 0 (replicate n 0) (f / 64)) (f % 64)) 1
     (λ q. let z : bit_at (at 0 (replicate n 0) (f / 64)) (f % 64) ≡ 0 = ap (λ v. bit_at v (f % 64)) (all-same n (f / 64) 0) ∙ bit_at-zero (f % 64) in omega arith)
@@ -114,11 +116,13 @@ start-held actors n =
     (λ le. ap (λ row. has_free_bit (at 0 row) f) (at-get [] rows a ∙ get_or-eq_default rows [] (omega (arith, length-replicate actors none, le))) ∙ none-free 0 f)
     (cases_lt a actors)))
 
-pub start-is : (shape : CoreShape) (pages : List PageData) (frames : List (List ℕ)) (bundles : List ℕ) (held : List (List ℕ)) (owners : List ℕ) → shape.next ≤ shape.pages → StartLists shape pages frames bundles held owners → core_of (record { shape = shape; pages = pages; frames = frames; bundles = bundles; held = held; next = shape.next; hand = 0; owners = owners }) ≡ start (core_start shape)
-start-is shape pages frames bundles held owners le i =
+pub start-is : (shape : CoreShape) (pages : List PageData) (frames : List (List ℕ)) (bundles : List ℕ) (held : List (List ℕ)) (owners : List ℕ) (spares : List ℕ) (numbers : List (List ℕ)) → shape.next ≤ shape.pages → StartLists shape pages frames bundles held owners spares numbers → core_of (record { shape = shape; pages = pages; frames = frames; bundles = bundles; held = held; next = shape.next; hand = 0; owners = owners; spares = spares; numbers = numbers }) ≡ start (core_start shape)
+start-is shape pages frames bundles held owners spares numbers le i =
     let ps : pages_of pages ≡ (λ p. evicted_page 0 (core_block shape.next p) 0) = start-pages shape pages le i.pages_are in
     let ws : words_of_frames frames ≡ (λ f. replicate 64 0) = ap words_of_frames i.frames_are ∙ fun_ext (λ f. all-same shape.frames f (replicate 64 0)) in
     let bs : at 0 bundles ≡ full_bundle shape.frames = start-bundles shape.frames bundles i.bundles_are in
     let hs : held_of held ≡ (λ a f. false) = ap held_of i.held_are ∙ start-held shape.actors ((shape.frames + 63) / 64) in
     let os : at 0 owners ≡ (λ f. 0) = ap (at 0) i.owners_are ∙ fun_ext (λ f. all-same shape.frames f 0) in
-    λ k. record { shape = shape; size = 64; tells = true; pages = ps k; words = ws k; bundles = bs k; held = hs k; next = shape.next; hand = 0; owners = os k }
+    let ss : at 0 spares ≡ (λ g. 0) = ap (at 0) i.spares_are ∙ fun_ext (λ g. all-same ((shape.pages + 63) / 64) g 0) in
+    let ns : held_of numbers ≡ (λ a p. false) = ap held_of i.numbers_are ∙ start-held shape.actors ((shape.pages + 63) / 64) in
+    λ k. record { shape = shape; size = 64; tells = true; pages = ps k; words = ws k; bundles = bs k; held = hs k; next = shape.next; hand = 0; owners = os k; spares = ss k; numbers = ns k }

@@ -4,7 +4,7 @@ use Rattle.vm_core.specs.{declared.event.Event.Event, declared.event.ReadIs.Read
 use Rattle.vm_core.specs.{StateActs.left_of, Step.after_event, Step.word_at}
 use Rattle.vm_core.specs.declared.event.Event.TheVariants.{BLoad, Claim, Clean, Clear, Dirty, Disown, Downgrade, Give, Hand, Install, Load, LockS}
 use Rattle.vm_core.specs.declared.event.Event.TheVariants.{LockW, LockX, Look, Mark, NLoad, OLoad, Own, Raise, Read, Release, ReleaseE, RFail, Store}
-use Rattle.vm_core.specs.declared.event.Event.TheVariants.{Take, TLoad, UnlockS, Unmark, Upgrade, WFail, Write}
+use Rattle.vm_core.specs.declared.event.Event.TheVariants.{PBLoad, PGive, PTake, Take, TLoad, UnlockS, Unmark, Upgrade, WFail, Write}
 use Rattle.vm_core.specs.declared.event.ReadIs.TheVariants.{Closed, Moved, Opened, Same}
 use Rattle.vm_core.specs.FrameActs.{load_frame, open_frame, stands_in}
 
@@ -85,6 +85,9 @@ histories_after w (Hand a) = w.histories
 histories_after w (Own a p) = w.histories
 histories_after w (Disown a p) = w.histories
 histories_after w (OLoad a f) = w.histories
+histories_after w (PBLoad a g) = w.histories
+histories_after w (PTake a g expects mask) = w.histories
+histories_after w (PGive a g mask) = w.histories
 
 -- ---- loads
 
@@ -147,6 +150,9 @@ loads_after w (Hand a) = w.loads
 loads_after w (Own a p) = w.loads
 loads_after w (Disown a p) = w.loads
 loads_after w (OLoad a f) = w.loads
+loads_after w (PBLoad a g) = w.loads
+loads_after w (PTake a g expects mask) = w.loads
+loads_after w (PGive a g mask) = w.loads
 
 -- ---- the world
 

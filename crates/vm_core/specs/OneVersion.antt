@@ -4,7 +4,7 @@ use Rattle.vm_core.specs.{declared.event.Event.Event, declared.event.Open.Open, 
 use Rattle.vm_core.specs.{History.world_after, Inv.Inv, Inv.LoadsAre, StateActs.finds, StateActs.left_of, Step.Legal, Words.version_of}
 use Rattle.vm_core.specs.declared.event.Event.TheVariants.{BLoad, Claim, Clean, Clear, Dirty, Disown, Downgrade, Give, Hand, Install, Load, LockS}
 use Rattle.vm_core.specs.declared.event.Event.TheVariants.{LockW, LockX, Look, Mark, NLoad, OLoad, Own, Raise, Read, Release, ReleaseE, RFail, Store}
-use Rattle.vm_core.specs.declared.event.Event.TheVariants.{Take, TLoad, UnlockS, Unmark, Upgrade, WFail, Write}
+use Rattle.vm_core.specs.declared.event.Event.TheVariants.{PBLoad, PGive, PTake, Take, TLoad, UnlockS, Unmark, Upgrade, WFail, Write}
 
 -- the last version has the version of the actor's open read, and each word loaded through it is the word at its place there
 pub record IsOneVersion (w : World) (a p : ℕ) (o : Open) : Type 0 where
@@ -57,6 +57,9 @@ ReadsOne w (Hand a) = Unit {0}
 ReadsOne w (Own a p) = Unit {0}
 ReadsOne w (Disown a p) = Unit {0}
 ReadsOne w (OLoad a f) = Unit {0}
+ReadsOne w (PBLoad a g) = Unit {0}
+ReadsOne w (PTake a g expects mask) = Unit {0}
+ReadsOne w (PGive a g mask) = Unit {0}
 
 -- where the blocks tell their words, a legal event validates only what is one version
 abbrev pub Validates : World → Event → Type 0

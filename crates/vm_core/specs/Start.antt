@@ -47,6 +47,8 @@ start s =
       next = s.shape.next;
       hand = 0;
       owners = λ f. 0;
+      spares = λ g. 0;
+      numbers = λ a p. false;
     }
 
 -- with its histories: the first version of each page has its block's words

@@ -220,6 +220,24 @@ pub enum Event {
         a: u32,
         f: u32,
     },
+    /// Actor `a` loads free-number word `g`.
+    PBLoad {
+        a: u32,
+        g: u32,
+    },
+    /// Actor `a` exchanges free-number word `g`, if it is `expects`, for that without the bits of `mask`, and holds those page numbers.
+    PTake {
+        a: u32,
+        g: u32,
+        expects: u64,
+        mask: u64,
+    },
+    /// Actor `a` sets the bits of `mask` in free-number word `g`: these page numbers are free.
+    PGive {
+        a: u32,
+        g: u32,
+        mask: u64,
+    },
 }
 
 /// What a look leaves of the actor's open read.

@@ -73,6 +73,14 @@ impl FrameSet {
         mask & self.masks[g] == mask
     }
 
+    /// Whether a frame of the mask is in the set.
+    pub fn has_any(&self, g: usize, mask: u64) -> bool
+        requires { g < length self.now }
+        ensures { (result ≡ false) ↔ ((f : ℕ) → in_mask g mask f ≡ true → has_free_bit (at 0 self.now) f ≡ false) }
+    {
+        mask & self.masks[g] != 0
+    }
+
     /// The frames of the mask go out.
     pub fn remove_all(&mut self, g: usize, mask: u64)
         requires { g < length self.old }

@@ -10,6 +10,7 @@ ghost use Rattle.vm_core.specs.CoreOf.{ActSteps};
 mod bundles;
 mod counters;
 mod frames;
+mod numbers;
 mod owners;
 
 use crate::event::{CoreShape, Event, Illegal, PageAct, Seen};
@@ -35,7 +36,8 @@ impl From<AllocError> for Memory {
 }
 
 /// The machine. For contracts it is the state `core_of core` of `specs/State.antt`: its shape, its pages, the words of its frames, its bundle
-/// words, the frames that each actor holds, the next word, the hand and the owner words.
+/// words, the frames that each actor holds, the next word, the hand, the owner words, the free-number words and the page numbers
+/// that each actor holds.
 #[derive(Drop)]
 pub struct Core {
     shape: CoreShape,
@@ -46,14 +48,16 @@ pub struct Core {
     next: u64,
     hand: u64,
     owners: Vec<u64>,
+    spares: Vec<u64>,
+    numbers: Vec<FrameSet>,
 }
 
 impl Model for Core {
     ghost Value = { CoreData };
 
-    ghost view = { λ c. record { shape = c.shape; pages = c.pages.items; frames = c.frames.items; bundles = c.bundles.items; held = c.held.items; next = c.next; hand = c.hand; owners = c.owners.items } };
+    ghost view = { λ c. record { shape = c.shape; pages = c.pages.items; frames = c.frames.items; bundles = c.bundles.items; held = c.held.items; next = c.next; hand = c.hand; owners = c.owners.items; spares = c.spares.items; numbers = c.numbers.items } };
 
-    ghost invariant = { λ c. CoreFits (record { shape = c.shape; pages = c.pages.items; frames = c.frames.items; bundles = c.bundles.items; held = c.held.items; next = c.next; hand = c.hand; owners = c.owners.items }) };
+    ghost invariant = { λ c. CoreFits (record { shape = c.shape; pages = c.pages.items; frames = c.frames.items; bundles = c.bundles.items; held = c.held.items; next = c.next; hand = c.hand; owners = c.owners.items; spares = c.spares.items; numbers = c.numbers.items }) };
 }
 
 impl Core {
@@ -69,6 +73,9 @@ impl Core {
         let bundles = start_bundles(alloc, shape.frames, count)?;
         let held = start_held(alloc, shape.actors, count)?;
         let owners = start_words(alloc, shape.frames)?;
+        let words = bundle_count(shape.pages);
+        let spares = start_words(alloc, words)?;
+        let numbers = start_held(alloc, shape.actors, words)?;
         Ok(Core {
             shape,
             pages,
@@ -78,6 +85,8 @@ impl Core {
             next: u64::from(shape.next),
             hand: 0,
             owners,
+            spares,
+            numbers,
         })
     }
 
@@ -140,6 +149,14 @@ impl Core {
             Event::Own { a, p } => self.own(a, p),
             Event::Disown { a, p } => self.disown(a, p),
             Event::OLoad { a, f } => self.owner_load(a, f),
+            Event::PBLoad { a, g } => self.spare_load(a, g),
+            Event::PTake {
+                a,
+                g,
+                expects,
+                mask,
+            } => self.take_numbers(a, g, expects, mask),
+            Event::PGive { a, g, mask } => self.give_numbers(a, g, mask),
         }
     }
 

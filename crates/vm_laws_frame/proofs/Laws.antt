@@ -4,8 +4,11 @@ use Rattle.std.proofs.lemmas.Bool.{and_from, and_right, cases_Bool, eq-eqb, eqb-
 use Rattle.std.proofs.lemmas.List.{length-set}
 use Rattle.vm_core.specs.Prelude.{at_actor, at_page, cleared, FrameInv, Free, gains, has_free_bit, HoldsAt, in_mask, installed, Inv, Keeps, Legal}
 use Rattle.vm_core.specs.Prelude.{Mapped, MayDirty, Page, PageInv, stands_in, State, upd, World}
-use Rattle.vm_core.specs.declared.event.Event.TheVariants.{BLoad, Clean, Clear, Dirty, Disown, Give, Install, Load, OLoad, Own, Store, Take, TLoad}
+use Rattle.vm_core.specs.declared.event.Event.TheVariants.{BLoad, Clean, Clear, Dirty, Disown, Give, Install, Load, OLoad, Own, PBLoad, PGive, PTake, Store, Take, TLoad}
 use Rattle.vm_core.specs.{Inv.Place.Held, Step.owned}
+use Rattle.vm_core.proofs.Spares.{inv-beside}
+use Rattle.std.specs.Prelude.{bit_or, bit_xor}
+use Rattle.vm_core.specs.Step.{given_by, taken_by}
 use Rattle.vm_core.proofs.Upd.{each-upd, upd-keeps, upd-map, upd-other, upd-same}
 use Rattle.vm_core.proofs.Whole.{frame-same, page-alone, pages-page}
 use Rattle.vm_laws_frame.proofs.{Bits.given-free, Bits.taken-free, Put.cleared-keeps, Put.installed-keeps, Read.frame_read-keeps, Read.loaded-keeps}
@@ -168,3 +171,18 @@ disown_law w a p i m = word-law w a p 0 i m.page (λ q e. absurd (omega (arith, 
 
 pub owner_load_law : (w : World) (a f : ℕ) → Keeps w (OLoad a f)
 owner_load_law w a f i m = i
+
+-- ---- free-number words
+
+pub spare_load_law : (w : World) (a g : ℕ) → Keeps w (PBLoad a g)
+spare_load_law w a g i m = i
+
+pub take_numbers_law : (w : World) (a g expects mask : ℕ) → Keeps w (PTake a g expects mask)
+take_numbers_law w a g expects mask i m =
+    ⊎_elim
+    (λ e. rw e (inv-beside w (upd w.core.spares g (bit_xor expects mask)) (taken_by w.core.numbers a g mask) i))
+    (λ e. rw e i)
+    (cases_Bool (eqb (w.core.spares g) expects))
+
+pub give_numbers_law : (w : World) (a g mask : ℕ) → Keeps w (PGive a g mask)
+give_numbers_law w a g mask i m = inv-beside w (upd w.core.spares g (bit_or (w.core.spares g) mask)) (given_by w.core.numbers a g mask) i

@@ -3,7 +3,7 @@
 
 ghost use Rattle.std.specs.Prelude.{ℕ};
 ghost use Rattle.vm_core.specs.Prelude.{Keeps, World};
-ghost use Rattle.vm_core.specs.declared.event.Event.TheVariants.{BLoad, Clean, Clear, Dirty, Disown, Give, Install, Load, OLoad, Own, Store, Take, TLoad};
+ghost use Rattle.vm_core.specs.declared.event.Event.TheVariants.{BLoad, Clean, Clear, Dirty, Disown, Give, Install, Load, OLoad, Own, PBLoad, PGive, PTake, Store, Take, TLoad};
 ghost use Rattle.vm_laws_frame.specs.Translations.{TranslationsRead};
 
 /// A translation load keeps the invariant.
@@ -82,6 +82,24 @@ pub fn disown_keeps()
 #[tactic(auto, using(crate::proofs::Laws::owner_load_law))]
 pub fn owner_load_keeps()
     ensures { (w : World) (a f : ℕ) → Keeps w (OLoad a f) }
+{}
+
+/// A load of a free-number word keeps the invariant.
+#[tactic(auto, using(crate::proofs::Laws::spare_load_law))]
+pub fn spare_load_keeps()
+    ensures { (w : World) (a g : ℕ) → Keeps w (PBLoad a g) }
+{}
+
+/// Page numbers that are taken, or a lost exchange, keep the invariant.
+#[tactic(auto, using(crate::proofs::Laws::take_numbers_law))]
+pub fn take_numbers_keeps()
+    ensures { (w : World) (a g expects mask : ℕ) → Keeps w (PTake a g expects mask) }
+{}
+
+/// Page numbers that are given keep the invariant.
+#[tactic(auto, using(crate::proofs::Laws::give_numbers_law))]
+pub fn give_numbers_keeps()
+    ensures { (w : World) (a g mask : ℕ) → Keeps w (PGive a g mask) }
 {}
 
 /// A translation word says the translation that it was written from; one without a frame says none, dirty or not.

@@ -5,12 +5,14 @@ use Rattle.vm_core.specs.Prelude.{finds, History, on_page, Page, upd, World}
 use Rattle.vm_core.specs.declared.event.Event.{Event}
 use Rattle.vm_core.specs.declared.event.Event.TheVariants.{BLoad, Claim, Clean, Clear, Dirty, Disown, Downgrade, Give, Hand, Install, Load, LockS}
 use Rattle.vm_core.specs.declared.event.Event.TheVariants.{LockW, LockX, Look, Mark, NLoad, OLoad, Own, Raise, Read, Release, ReleaseE, RFail, Store}
-use Rattle.vm_core.specs.declared.event.Event.TheVariants.{Take, TLoad, UnlockS, Unmark, Upgrade, WFail, Write}
+use Rattle.vm_core.specs.declared.event.Event.TheVariants.{PBLoad, PGive, PTake, Take, TLoad, UnlockS, Unmark, Upgrade, WFail, Write}
 use Rattle.vm_core.proofs.Upd.{upd-other, upd-self}
 use Rattle.vm_laws_others.specs.Leaves.{Leaves, LeavesOthers}
 use Rattle.vm_laws_others.proofs.Device.{cleaned-leaves, failed-leaves, mapped-leaves, raised-leaves, written-leaves}
 use Rattle.vm_laws_others.proofs.Frames.{bundle_load-leaves, claim-leaves, disown-leaves, give-leaves, hand-leaves, load-leaves, next_load-leaves}
 use Rattle.vm_laws_others.proofs.Frames.{own_page-leaves, owner_load-leaves, store-leaves, take-leaves}
+use Rattle.vm_core.specs.Step.{number_left}
+use Rattle.vm_laws_others.proofs.Spares.{give_numbers-leaves, leaves-beside, spare_load-leaves, take_numbers-leaves}
 use Rattle.vm_laws_others.proofs.Page.{loads-other, page-leaves, page-same, PageLeaves}
 use Rattle.vm_laws_others.proofs.State.{locked-leaves, marked-leaves, release-leaves, seat-leaves, shared-leaves, unlocked-leaves, unmarked-leaves}
 use Rattle.vm_laws_others.proofs.State.{upgraded-leaves, write_locked-leaves}
@@ -81,13 +83,13 @@ upgrade-leaves w a p expects i m =
     (cases_Bool (finds (w.core.pages p) expects))
 
 release_full-leaves : (w : World) (a p : ℕ) → LeavesOthers w (Release a p)
-release_full-leaves w a p i m = page-acts w a p _ _ _ (release-leaves _ a (w.core.pages p) (w.histories p) _ _ (i.pages p).locks m.1.owns) (λ b q ne. refl)
+release_full-leaves w a p i m = leaves-beside a w _ w.core.spares (number_left w.core a p) (page-acts w a p _ _ _ (release-leaves _ a (w.core.pages p) (w.histories p) _ _ (i.pages p).locks m.1.owns) (λ b q ne. refl))
 
 release_evicted-leaves : (w : World) (a p : ℕ) → LeavesOthers w (ReleaseE a p)
 release_evicted-leaves w a p i m = page-acts w a p _ _ _ (release-leaves _ a (w.core.pages p) (w.histories p) _ _ (i.pages p).locks m.1.owns) (λ b q ne. refl)
 
 downgrade-leaves : (w : World) (a p : ℕ) → LeavesOthers w (Downgrade a p)
-downgrade-leaves w a p i m = page-acts w a p _ _ _ (release-leaves _ a (w.core.pages p) (w.histories p) _ _ (i.pages p).locks m.1.owns) (λ b q ne. refl)
+downgrade-leaves w a p i m = leaves-beside a w _ w.core.spares (number_left w.core a p) (page-acts w a p _ _ _ (release-leaves _ a (w.core.pages p) (w.histories p) _ _ (i.pages p).locks m.1.owns) (λ b q ne. refl))
 
 -- ---- the events on a translation
 
@@ -158,3 +160,6 @@ leave_others w (Hand a) = hand-leaves w a
 leave_others w (Own a p) = own_page-leaves w a p
 leave_others w (Disown a p) = disown-leaves w a p
 leave_others w (OLoad a f) = owner_load-leaves w a f
+leave_others w (PBLoad a g) = spare_load-leaves w a g
+leave_others w (PTake a g expects mask) = take_numbers-leaves w a g expects mask
+leave_others w (PGive a g mask) = give_numbers-leaves w a g mask

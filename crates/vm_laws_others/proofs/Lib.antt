@@ -3,4 +3,5 @@ pub mod Page
 pub mod State
 pub mod Device
 pub mod Frames
+pub mod Spares
 pub mod Laws

@@ -4,7 +4,7 @@ use Rattle.vm_core.specs.Prelude.{EVICTED, frame_of, Inv, Legal, LOCKED, MAX_COU
 use Rattle.vm_core.specs.{declared.event.Event.Event, declared.event.Mapping.Mapping, declared.event.Seat.Seat}
 use Rattle.vm_core.specs.declared.event.Event.TheVariants.{BLoad, Claim, Clean, Clear, Dirty, Disown, Downgrade, Give, Hand, Install, Load, LockS}
 use Rattle.vm_core.specs.declared.event.Event.TheVariants.{LockW, LockX, Look, Mark, NLoad, OLoad, Own, Raise, Read, Release, ReleaseE, RFail, Store}
-use Rattle.vm_core.specs.declared.event.Event.TheVariants.{Take, TLoad, UnlockS, Unmark, Upgrade, WFail, Write}
+use Rattle.vm_core.specs.declared.event.Event.TheVariants.{PBLoad, PGive, PTake, Take, TLoad, UnlockS, Unmark, Upgrade, WFail, Write}
 
 -- the actor of the event
 abbrev pub actor_of : Event → ℕ
@@ -40,6 +40,9 @@ actor_of (Hand a) = a
 actor_of (Own a p) = a
 actor_of (Disown a p) = a
 actor_of (OLoad a f) = a
+actor_of (PBLoad a g) = a
+actor_of (PTake a g expects mask) = a
+actor_of (PGive a g mask) = a
 
 -- the page stands in a frame, dirty
 abbrev pub stands_dirty : Option Mapping → Bool

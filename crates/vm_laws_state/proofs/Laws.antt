@@ -5,6 +5,8 @@ use Rattle.vm_core.specs.Prelude.{finds, History, Keeps, LOCKED, LocksInv, MARKE
 use Rattle.vm_core.specs.declared.event.Seat.{Seat}
 use Rattle.vm_core.specs.declared.event.Event.TheVariants.{Downgrade, LockS, LockW, LockX, Look, Mark, Release, ReleaseE, UnlockS, Unmark, Upgrade}
 use Rattle.vm_core.proofs.{Locks.shared-state, Locks.sum_below-at, PageFacts.found, PageFacts.none-some, Upd.upd-self}
+use Rattle.vm_core.proofs.Spares.{inv-beside}
+use Rattle.vm_core.specs.Step.{number_left}
 use Rattle.vm_core.proofs.Whole.{page-alone, page-both, page-history, page-loads}
 use Rattle.vm_laws_state.proofs.{Lock.locked-keeps, Lock.upgraded-keeps, Look.looked-keeps, Share.shared-keeps, Share.write_locked-keeps}
 use Rattle.vm_laws_state.proofs.Release.{downgraded-keeps, emptied-keeps, released-keeps}
@@ -77,10 +79,10 @@ upgrade_law w a p expects i m =
     (cases_Bool (finds (w.core.pages p) expects))
 
 pub release_law : (w : World) (a p : ℕ) → Keeps w (Release a p)
-release_law w a p i m = page-history w p _ _ i (λ _. refl) (λ _. m.2) (released-keeps a (i.pages p) m.1)
+release_law w a p i m = inv-beside _ w.core.spares (number_left w.core a p) (page-history w p _ _ i (λ _. refl) (λ _. m.2) (released-keeps a (i.pages p) m.1))
 
 pub release_evicted_law : (w : World) (a p : ℕ) → Keeps w (ReleaseE a p)
 release_evicted_law w a p i m = page-history w p _ _ i (λ _. refl) (λ _ n at. absurd (none-some n (sym m.1.empty ∙ at))) (emptied-keeps a (i.pages p) m.1)
 
 pub downgrade_law : (w : World) (a p : ℕ) → Keeps w (Downgrade a p)
-downgrade_law w a p i m = page-history w p _ _ i (λ _. refl) (λ _. m.2) (downgraded-keeps a m.0.actor (i.pages p) m.1)
+downgrade_law w a p i m = inv-beside _ w.core.spares (number_left w.core a p) (page-history w p _ _ i (λ _. refl) (λ _. m.2) (downgraded-keeps a m.0.actor (i.pages p) m.1))

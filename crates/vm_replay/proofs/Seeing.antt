@@ -6,7 +6,7 @@ use Rattle.std.proofs.lemmas.List.FromFn.{length-map-range_with_len}
 use Rattle.vm_core.specs.Prelude.{after_event, Replayed, seen, sees, State}
 use Rattle.vm_core.specs.declared.event.Event.TheVariants.{BLoad, Claim, Clean, Clear, Dirty, Disown, Downgrade, Give, Hand, Install, Load, LockS}
 use Rattle.vm_core.specs.declared.event.Event.TheVariants.{LockW, LockX, Look, Mark, NLoad, OLoad, Own, Raise, Read, Release, ReleaseE, RFail}
-use Rattle.vm_core.specs.declared.event.Event.TheVariants.{Store, Take, TLoad, UnlockS, Unmark, Upgrade, WFail, Write}
+use Rattle.vm_core.specs.declared.event.Event.TheVariants.{PBLoad, PGive, PTake, Store, Take, TLoad, UnlockS, Unmark, Upgrade, WFail, Write}
 use Rattle.vm_core.specs.declared.event.Seen.{Seen}
 use Rattle.vm_core.specs.declared.event.Seen.TheVariants as seens
 use Rattle.vm_rule.specs.Prelude.{Event}
@@ -57,6 +57,9 @@ event_fits c (Hand a) = tt
 event_fits c (Own a p) = tt
 event_fits c (Disown a p) = tt
 event_fits c (OLoad a f) = tt
+event_fits c (PBLoad a g) = tt
+event_fits c (PTake a g expects mask) = number_fits _ _
+event_fits c (PGive a g mask) = tt
 
 -- events whose sights are told as that of `one` are
 many_fit : (one : Event) (event : ℕ → Event) → ((i : ℕ) → sight_of (event i) ≡ sight_of one) → (c : State) (is : List ℕ) → AllByRecursion (FitsSight (sight_of one)) (sees c (map event is))

@@ -3,7 +3,7 @@ use Rattle.std.proofs.Common.{[], ◌∙◌, ◌∷◌, ◌≡◌, Bool, false, 
 use Rattle.vm_core.specs.Prelude.{after_event, run, State}
 use Rattle.vm_core.specs.declared.event.Event.TheVariants.{BLoad, Claim, Clean, Clear, Dirty, Disown, Downgrade, Give, Hand, Install, Load, LockS}
 use Rattle.vm_core.specs.declared.event.Event.TheVariants.{LockW, LockX, Look, Mark, NLoad, OLoad, Own, Raise, Read, Release, ReleaseE, RFail}
-use Rattle.vm_core.specs.declared.event.Event.TheVariants.{Store, Take, TLoad, UnlockS, Unmark, Upgrade, WFail, Write}
+use Rattle.vm_core.specs.declared.event.Event.TheVariants.{PBLoad, PGive, PTake, Store, Take, TLoad, UnlockS, Unmark, Upgrade, WFail, Write}
 use Rattle.vm_rule.specs.Prelude.{Event}
 
 either_shape : (b : Bool) (c d : State) → c.shape ≡ d.shape → (if b then c else d).shape ≡ d.shape
@@ -43,6 +43,9 @@ after_shape c (Hand a) = refl
 after_shape c (Own a p) = refl
 after_shape c (Disown a p) = refl
 after_shape c (OLoad a f) = refl
+after_shape c (PBLoad a g) = refl
+after_shape c (PTake a g expects mask) = either_shape _ _ c refl
+after_shape c (PGive a g mask) = refl
 
 pub run_shape : (c : State) (es : List Event) → (run c es).shape ≡ c.shape
 run_shape c [] = refl

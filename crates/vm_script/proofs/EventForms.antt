@@ -3,7 +3,7 @@ use Rattle.std.proofs.Common.{◌∙◌, ◌≡◌, ap, ap₂, get_or, List, lit
 use Rattle.vm_core.specs.{declared.event.CoreShape.CoreShape, declared.event.Event.Event}
 use Rattle.vm_core.specs.declared.event.Event.TheVariants.{BLoad, Claim, Clean, Clear, Dirty, Disown, Downgrade, Give, Hand, Install, Load, LockS}
 use Rattle.vm_core.specs.declared.event.Event.TheVariants.{LockW, LockX, Look, Mark, NLoad, OLoad, Own, Raise, Read, Release, ReleaseE, RFail}
-use Rattle.vm_core.specs.declared.event.Event.TheVariants.{Store, Take, TLoad, UnlockS, Unmark, Upgrade, WFail, Write}
+use Rattle.vm_core.specs.declared.event.Event.TheVariants.{PBLoad, PGive, PTake, Store, Take, TLoad, UnlockS, Unmark, Upgrade, WFail, Write}
 use Rattle.vm_script.specs.{declared.event_line.EventLine.EventLine, declared.event_line.Verb.Verb, Verbs.kinds_of, Verbs.verb_name}
 use Rattle.vm_script.specs.declared.event_line.EventLine.TheVariants.{Fill, Loads, One}
 use Rattle.vm_script.specs.declared.event_line.Verb.TheVariants as verbs
@@ -44,6 +44,9 @@ line_by verbs.Hand a p x y = One (Hand a)
 line_by verbs.Own a p x y = One (Own a p)
 line_by verbs.Disown a p x y = One (Disown a p)
 line_by verbs.OLoad a p x y = One (OLoad a p)
+line_by verbs.PBLoad a p x y = One (PBLoad a p)
+line_by verbs.PTake a p x y = One (PTake a p x y)
+line_by verbs.PGive a p x y = One (PGive a p x)
 line_by verbs.Fill a p x y = Fill a p x
 line_by verbs.Loads a p x y = Loads a p
 

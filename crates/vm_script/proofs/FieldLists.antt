@@ -4,7 +4,7 @@ use Rattle.std.proofs.Common.{[], ◌++◌, ◌<◌, ◌^◌, ◌∙◌, ◌∷�
 use Rattle.std.proofs.lemmas.Fmt.{decimal_injective}
 use Rattle.vm_core.specs.declared.event.CoreShape.{CoreShape}
 use Rattle.vm_script.specs.{Cuts.IsCut, Cuts.Lacks, declared.event_line.Kind.Kind}
-use Rattle.vm_script.specs.declared.event_line.Kind.TheVariants.{Actor, Bundle, Count, Frame, Page, Place, State, Word}
+use Rattle.vm_script.specs.declared.event_line.Kind.TheVariants.{Actor, Bundle, Count, Frame, Page, Place, Spare, State, Word}
 use Rattle.vm_script.specs.EventLines.{AreFields, field_text, fields_text, IsField, IsShape}
 use Rattle.vm_script.specs.EventWords.{AreNarrow, IsNarrow, used}
 use Rattle.vm_script.proofs.StateWords.{lacks_state, one_state}
@@ -16,6 +16,7 @@ field_small shape Page value s is = omega (arith, s.pages)
 field_small shape Frame value s is = omega (arith, s.frames)
 field_small shape Place value s is = omega arith
 field_small shape Bundle value s is = omega (arith, s.frames)
+field_small shape Spare value s is = omega (arith, s.pages)
 field_small shape Word value s is = is
 field_small shape State value s is = is
 field_small shape Count value s is = omega arith
@@ -26,6 +27,7 @@ field_narrow shape Page value s is = omega (arith, s.pages)
 field_narrow shape Frame value s is = omega (arith, s.frames)
 field_narrow shape Place value s is = omega arith
 field_narrow shape Bundle value s is = omega (arith, s.frames)
+field_narrow shape Spare value s is = omega (arith, s.pages)
 field_narrow shape Word value s is = tt
 field_narrow shape State value s is = tt
 field_narrow shape Count value s is = is

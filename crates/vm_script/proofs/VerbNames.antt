@@ -9,7 +9,7 @@ use Rattle.std.proofs.lemmas.Slice.Eq.{slice_eq-Decides}
 use Rattle.vm_script.specs.{Cuts.Lacks, declared.event_line.Verb.Verb, Verbs.verb_name}
 use Rattle.vm_script.specs.declared.event_line.Verb.TheVariants.{BLoad, Claim, Clean, Clear, Dirty, Disown, Downgrade, Fill, Give, Hand, Install, Load}
 use Rattle.vm_script.specs.declared.event_line.Verb.TheVariants.{Loads, LockS, LockW, LockX, Look, Mark, NLoad, OLoad, Own, Raise, Read, Release}
-use Rattle.vm_script.specs.declared.event_line.Verb.TheVariants.{ReleaseE, RFail, Store, Take, TLoad, UnlockS, Unmark, Upgrade, WFail, Write}
+use Rattle.vm_script.specs.declared.event_line.Verb.TheVariants.{PBLoad, PGive, PTake, ReleaseE, RFail, Store, Take, TLoad, UnlockS, Unmark, Upgrade, WFail, Write}
 
 and_left : (a b : Bool) → (a && b) ≡ true → a ≡ true
 and_left true b h = refl
@@ -34,7 +34,7 @@ pub lacks_verb : (at : ℕ) (verb : Verb) → at < 48 → Lacks at (verb_name ve
 lacks_verb at verb low = lacks_letters at low (verb_name verb) (letters verb)
 
 abbrev verbs : List Verb
-verbs = Look ∷ LockX ∷ LockS ∷ UnlockS ∷ Mark ∷ Unmark ∷ LockW ∷ Upgrade ∷ Release ∷ ReleaseE ∷ Downgrade ∷ TLoad ∷ Install ∷ Clear ∷ Dirty ∷ Clean ∷ Load ∷ Store ∷ BLoad ∷ Take ∷ Give ∷ Read ∷ RFail ∷ Write ∷ WFail ∷ Raise ∷ NLoad ∷ Claim ∷ Hand ∷ Own ∷ Disown ∷ OLoad ∷ Fill ∷ Loads ∷ []
+verbs = Look ∷ LockX ∷ LockS ∷ UnlockS ∷ Mark ∷ Unmark ∷ LockW ∷ Upgrade ∷ Release ∷ ReleaseE ∷ Downgrade ∷ TLoad ∷ Install ∷ Clear ∷ Dirty ∷ Clean ∷ Load ∷ Store ∷ BLoad ∷ Take ∷ Give ∷ Read ∷ RFail ∷ Write ∷ WFail ∷ Raise ∷ NLoad ∷ Claim ∷ Hand ∷ Own ∷ Disown ∷ OLoad ∷ PBLoad ∷ PTake ∷ PGive ∷ Fill ∷ Loads ∷ []
 
 -- the verb with this word
 abbrev verb_at : List ℕ → Option Verb

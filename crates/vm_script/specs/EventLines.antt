@@ -5,11 +5,11 @@ use Rattle.vm_core.specs.Prelude.{EVICTED, LOCKED, MARKED, state_of, UNLOCKED, v
 use Rattle.vm_core.specs.{declared.event.CoreShape.CoreShape, declared.words.TheConstants.FRAMES}
 use Rattle.vm_core.specs.declared.event.Event.TheVariants.{BLoad, Claim, Clean, Clear, Dirty, Disown, Downgrade, Give, Hand, Install, Load, LockS}
 use Rattle.vm_core.specs.declared.event.Event.TheVariants.{LockW, LockX, Look, Mark, NLoad, OLoad, Own, Raise, Read, Release, ReleaseE, RFail}
-use Rattle.vm_core.specs.declared.event.Event.TheVariants.{Store, Take, TLoad, UnlockS, Unmark, Upgrade, WFail, Write}
+use Rattle.vm_core.specs.declared.event.Event.TheVariants.{PBLoad, PGive, PTake, Store, Take, TLoad, UnlockS, Unmark, Upgrade, WFail, Write}
 use Rattle.vm_script.specs.{declared.event_line.EventLine.EventLine, declared.event_line.Kind.Kind, declared.event_line.Verb.Verb, Verbs.kinds_of}
 use Rattle.vm_script.specs.{Verbs.verb_name}
 use Rattle.vm_script.specs.declared.event_line.EventLine.TheVariants.{Fill, Loads, One}
-use Rattle.vm_script.specs.declared.event_line.Kind.TheVariants.{Actor, Bundle, Count, Frame, Page, Place, State, Word}
+use Rattle.vm_script.specs.declared.event_line.Kind.TheVariants.{Actor, Bundle, Count, Frame, Page, Place, Spare, State, Word}
 use Rattle.vm_script.specs.declared.event_line.Verb.TheVariants as verbs
 
 -- the limits of a shape
@@ -35,6 +35,7 @@ IsField shape Page p = p < shape.pages
 IsField shape Frame f = f < shape.frames
 IsField shape Place i = i < WORDS
 IsField shape Bundle g = g * FRAMES < shape.frames
+IsField shape Spare g = g * FRAMES < shape.pages
 IsField shape Word w = w < 2 ^ 64
 IsField shape State w = w < 2 ^ 64
 IsField shape Count n = n < 2 ^ 32
@@ -47,6 +48,7 @@ field_text Page p = decimal p
 field_text Frame f = decimal f
 field_text Place i = decimal i
 field_text Bundle g = decimal g
+field_text Spare g = decimal g
 field_text Word w = decimal w
 field_text Count n = decimal n
 
@@ -97,6 +99,9 @@ form (One (Hand a)) = (verbs.Hand, a ∷ [])
 form (One (Own a p)) = (verbs.Own, a ∷ p ∷ [])
 form (One (Disown a p)) = (verbs.Disown, a ∷ p ∷ [])
 form (One (OLoad a f)) = (verbs.OLoad, a ∷ f ∷ [])
+form (One (PBLoad a g)) = (verbs.PBLoad, a ∷ g ∷ [])
+form (One (PTake a g expects mask)) = (verbs.PTake, a ∷ g ∷ expects ∷ mask ∷ [])
+form (One (PGive a g mask)) = (verbs.PGive, a ∷ g ∷ mask ∷ [])
 form (Fill a p f) = (verbs.Fill, a ∷ p ∷ f ∷ [])
 form (Loads a p) = (verbs.Loads, a ∷ p ∷ [])
 

@@ -1,7 +1,7 @@
 -- What the readers of parts of an event line answer.
 use Rattle.std.specs.Prelude.{[], ◌<◌, ◌^◌, ◌∷◌, ◌≡◌, ◌≢◌, ◌≤◌, length, List, None, Option, Some, take, ℕ}
 use Rattle.vm_script.specs.declared.event_line.Kind.{Kind}
-use Rattle.vm_script.specs.declared.event_line.Kind.TheVariants.{Actor, Bundle, Count, Frame, Page, Place, State, Word}
+use Rattle.vm_script.specs.declared.event_line.Kind.TheVariants.{Actor, Bundle, Count, Frame, Page, Place, Spare, State, Word}
 
 -- the bytes spell the value that is answered, or none that they could
 abbrev pub ReadsAs : {X : Type 0} → (X → Type 0) → (X → List ℕ) → List ℕ → Option X → Type 0
@@ -29,6 +29,7 @@ IsNarrow Page n = n < 2 ^ 32
 IsNarrow Frame n = n < 2 ^ 32
 IsNarrow Place n = n < 2 ^ 32
 IsNarrow Bundle n = n < 2 ^ 32
+IsNarrow Spare n = n < 2 ^ 32
 IsNarrow Count n = n < 2 ^ 32
 
 abbrev pub AreNarrow : List Kind → List ℕ → Type 0

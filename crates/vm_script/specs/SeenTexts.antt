@@ -6,7 +6,7 @@ use Rattle.vm_core.specs.Prelude.{WORDS}
 use Rattle.vm_core.specs.{declared.event.Event.Event, declared.event.Seen.Seen}
 use Rattle.vm_core.specs.declared.event.Event.TheVariants.{BLoad, Claim, Clean, Clear, Dirty, Disown, Downgrade, Give, Hand, Install, Load, LockS}
 use Rattle.vm_core.specs.declared.event.Event.TheVariants.{LockW, LockX, Look, Mark, NLoad, OLoad, Own, Raise, Read, Release, ReleaseE, RFail}
-use Rattle.vm_core.specs.declared.event.Event.TheVariants.{Store, Take, TLoad, UnlockS, Unmark, Upgrade, WFail, Write}
+use Rattle.vm_core.specs.declared.event.Event.TheVariants.{PBLoad, PGive, PTake, Store, Take, TLoad, UnlockS, Unmark, Upgrade, WFail, Write}
 use Rattle.vm_script.specs.{declared.event_line.EventLine.EventLine, declared.seen.Sight.Sight}
 use Rattle.vm_script.specs.declared.event_line.EventLine.TheVariants.{Fill, Loads, One}
 use Rattle.vm_script.specs.declared.seen.Sight.TheVariants as sights
@@ -46,6 +46,9 @@ sight_of (Hand a) = sights.Place
 sight_of (Own a p) = sights.Done
 sight_of (Disown a p) = sights.Done
 sight_of (OLoad a f) = sights.Owner
+sight_of (PBLoad a g) = sights.Bits
+sight_of (PTake a g expects mask) = sights.NumberExchange
+sight_of (PGive a g mask) = sights.Bits
 
 -- how what each event of a line sees is told
 abbrev pub line_sight : EventLine → Sight

@@ -1,10 +1,10 @@
 -- The verbs of event lines, and the kinds of the numbers behind each.
 use Rattle.std.specs.Prelude.{[], ◌∷◌, codes, List, ℕ}
 use Rattle.vm_script.specs.{declared.event_line.Kind.Kind, declared.event_line.Verb.Verb}
-use Rattle.vm_script.specs.declared.event_line.Kind.TheVariants.{Actor, Bundle, Count, Frame, Page, Place, State, Word}
+use Rattle.vm_script.specs.declared.event_line.Kind.TheVariants.{Actor, Bundle, Count, Frame, Page, Place, Spare, State, Word}
 use Rattle.vm_script.specs.declared.event_line.Verb.TheVariants.{BLoad, Claim, Clean, Clear, Dirty, Disown, Downgrade, Fill, Give, Hand, Install, Load}
 use Rattle.vm_script.specs.declared.event_line.Verb.TheVariants.{Loads, LockS, LockW, LockX, Look, Mark, NLoad, OLoad, Own, Raise, Read, Release}
-use Rattle.vm_script.specs.declared.event_line.Verb.TheVariants.{ReleaseE, RFail, Store, Take, TLoad, UnlockS, Unmark, Upgrade, WFail, Write}
+use Rattle.vm_script.specs.declared.event_line.Verb.TheVariants.{PBLoad, PGive, PTake, ReleaseE, RFail, Store, Take, TLoad, UnlockS, Unmark, Upgrade, WFail, Write}
 
 -- the word of a verb
 abbrev pub verb_name : Verb → List ℕ
@@ -40,6 +40,9 @@ verb_name Hand = codes "hand"
 verb_name Own = codes "own"
 verb_name Disown = codes "disown"
 verb_name OLoad = codes "oload"
+verb_name PBLoad = codes "pbload"
+verb_name PTake = codes "ptake"
+verb_name PGive = codes "pgive"
 verb_name Fill = codes "fill"
 verb_name Loads = codes "loads"
 
@@ -77,5 +80,8 @@ kinds_of Hand = Actor ∷ []
 kinds_of Own = Actor ∷ Page ∷ []
 kinds_of Disown = Actor ∷ Page ∷ []
 kinds_of OLoad = Actor ∷ Frame ∷ []
+kinds_of PBLoad = Actor ∷ Spare ∷ []
+kinds_of PTake = Actor ∷ Spare ∷ Word ∷ Word ∷ []
+kinds_of PGive = Actor ∷ Spare ∷ Word ∷ []
 kinds_of Fill = Actor ∷ Page ∷ Frame ∷ []
 kinds_of Loads = Actor ∷ Page ∷ []

@@ -51,6 +51,9 @@ pub(crate) enum Verb {
     Own,
     Disown,
     OLoad,
+    PBLoad,
+    PTake,
+    PGive,
     Fill,
     Loads,
 }
@@ -63,13 +66,14 @@ pub(crate) enum Kind {
     Frame,
     Place,
     Bundle,
+    Spare,
     Word,
     State,
     Count,
 }
 
 // Every verb.
-pub(crate) const VERBS: [Verb; 34] = [
+pub(crate) const VERBS: [Verb; 37] = [
     Verb::Look,
     Verb::LockX,
     Verb::LockS,
@@ -102,6 +106,9 @@ pub(crate) const VERBS: [Verb; 34] = [
     Verb::Own,
     Verb::Disown,
     Verb::OLoad,
+    Verb::PBLoad,
+    Verb::PTake,
+    Verb::PGive,
     Verb::Fill,
     Verb::Loads,
 ];
@@ -143,6 +150,9 @@ pub(crate) fn name_of(verb: Verb) -> &'static [u8]
         Verb::Own => b"own",
         Verb::Disown => b"disown",
         Verb::OLoad => b"oload",
+        Verb::PBLoad => b"pbload",
+        Verb::PTake => b"ptake",
+        Verb::PGive => b"pgive",
         Verb::Fill => b"fill",
         Verb::Loads => b"loads",
     }
@@ -182,6 +192,9 @@ pub(crate) fn kinds_of(verb: Verb) -> &'static [Kind]
         Verb::BLoad => &[Kind::Actor, Kind::Bundle],
         Verb::Take => &[Kind::Actor, Kind::Bundle, Kind::Word, Kind::Word],
         Verb::Give => &[Kind::Actor, Kind::Bundle, Kind::Word],
+        Verb::PBLoad => &[Kind::Actor, Kind::Spare],
+        Verb::PTake => &[Kind::Actor, Kind::Spare, Kind::Word, Kind::Word],
+        Verb::PGive => &[Kind::Actor, Kind::Spare, Kind::Word],
         Verb::NLoad | Verb::Hand => &[Kind::Actor],
         Verb::Claim => &[Kind::Actor, Kind::Word, Kind::Count],
     }
@@ -273,6 +286,18 @@ pub(crate) fn line_with(verb: Verb, values: (u64, u64, u64, u64)) -> EventLine
         Verb::Own => Event::Own { a, p },
         Verb::Disown => Event::Disown { a, p },
         Verb::OLoad => Event::OLoad { a, f: p },
+        Verb::PBLoad => Event::PBLoad { a, g: p },
+        Verb::PTake => Event::PTake {
+            a,
+            g: p,
+            expects: third,
+            mask: fourth,
+        },
+        Verb::PGive => Event::PGive {
+            a,
+            g: p,
+            mask: third,
+        },
         Verb::Fill => return EventLine::Fill { a, p, f },
         Verb::Loads => return EventLine::Loads { a, p },
     };

@@ -88,6 +88,7 @@ fn is_field(kind: Kind, shape: &CoreShape, value: u64) -> bool
         Kind::Frame => value < u64::from(shape.frames),
         Kind::Place => value < WORDS as u64,
         Kind::Bundle => value <= u64::from((shape.frames - 1) / FRAMES as u32),
+        Kind::Spare => value <= u64::from((shape.pages - 1) / FRAMES as u32),
         Kind::Word | Kind::State => true,
         Kind::Count => value < 0x1_0000_0000,
     }

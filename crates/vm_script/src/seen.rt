@@ -55,8 +55,10 @@ fn sight_of(event: &Event) -> Sight
         | Event::Disown { .. } => Sight::Done,
         Event::TLoad { .. } => Sight::Translation,
         Event::Load { .. } => Sight::Loaded,
-        Event::BLoad { .. } | Event::Give { .. } => Sight::Bits,
-        Event::Take { .. } | Event::Claim { .. } => Sight::NumberExchange,
+        Event::BLoad { .. } | Event::Give { .. } | Event::PBLoad { .. } | Event::PGive { .. } => {
+            Sight::Bits
+        }
+        Event::Take { .. } | Event::Claim { .. } | Event::PTake { .. } => Sight::NumberExchange,
         Event::RFail { .. } | Event::WFail { .. } => Sight::Failed,
         Event::NLoad { .. } => Sight::Next,
         Event::Hand { .. } => Sight::Place,

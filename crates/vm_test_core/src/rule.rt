@@ -63,10 +63,19 @@ fn a_started_table_has_its_words_by_the_layout(rt: HostRuntime) -> Result<(), Fa
     let mut blocks = Vec::new(alloc);
     blocks.push(MemBlock::new(alloc, PageBuf::zero(), &[])?)?;
     blocks.push(MemBlock::new(alloc, PageBuf::zero(), &[])?)?;
-    let (words, _pass) = Words::<Bare, MemBlock<WORDS>>::started(alloc, WORDS, 67, 1, 7, blocks)?;
+    let (words, _pass) = Words::<Bare, MemBlock<WORDS>>::started(
+        alloc,
+        WORDS,
+        67,
+        2,
+        7,
+        blocks,
+        &[1],
+    )?;
     let table = &words.table.shared;
-    // Two state words, two translations, two fault words, 4288 words of frames, two bundles, the next word, the hand, 67 owner words.
-    assert_eq!(rt; words.table.word_count(), 4365);
+    // Two state words, two translations, two fault words, 4288 words of frames, two bundles, the next word, the hand, 67 owner words, one
+    // free-number word, in which the bit of page 1 is set.
+    assert_eq!(rt; words.table.word_count(), 4366);
     assert_eq!(rt; table.peek(0), EVICTED_AT_7);
     assert_eq!(rt; table.peek(1), EVICTED_AT_7);
     assert_eq!(rt; table.peek(3), 0);
@@ -74,9 +83,10 @@ fn a_started_table_has_its_words_by_the_layout(rt: HostRuntime) -> Result<(), Fa
     assert_eq!(rt; table.peek(4293), 0);
     assert_eq!(rt; table.peek(4294), u64::MAX);
     assert_eq!(rt; table.peek(4295), 7);
-    assert_eq!(rt; table.peek(4296), 1);
+    assert_eq!(rt; table.peek(4296), 2);
     assert_eq!(rt; table.peek(4297), 0);
     assert_eq!(rt; table.peek(4298), 0);
     assert_eq!(rt; table.peek(4364), 0);
+    assert_eq!(rt; table.peek(4365), 2);
     Ok(())
 }

@@ -46,7 +46,12 @@ impl Core {
         if !self.names(a, p) || !self.is_owned(p, u64::from(p) + 1) {
             return Err(Illegal);
         }
-        self.on_page(a, p, act)
+        let keeps = self.keeps_number(p);
+        let seen = self.on_page(a, p, act)?;
+        if !keeps {
+            self.end_hold(a, p);
+        }
+        Ok(seen)
     }
 
     /// The owner word of a frame is written.

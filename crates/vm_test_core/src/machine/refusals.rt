@@ -135,6 +135,20 @@ const ON_OWNERS: [Case; 11] = [
     case!(WRITING; Disown, a = 0, p = 1),
     case!(NOTHING; OLoad, a = 0, f = 2),
 ];
+/// Events on free-number words: on a word that is not there, of no number, of one that is not among those expected, of one of no page, and of one
+/// whose bit is set.
+const ON_NUMBERS: [Case; 10] = [
+    case!(NOTHING; PBLoad, a = 0, g = 1),
+    case!(NOTHING; PTake, a = 0, g = 1, expects = 1, mask = 1),
+    case!(NOTHING; PTake, a = 0, g = 0, expects = 1, mask = 0),
+    case!(NOTHING; PTake, a = 0, g = 0, expects = 1, mask = 3),
+    case!(NOTHING; PGive, a = 0, g = 1, mask = 1),
+    case!(NOTHING; PGive, a = 0, g = 0, mask = 0),
+    case!(NOTHING; PGive, a = 0, g = 0, mask = 4),
+    case!(NOTHING; PGive, a = 0, g = 0, mask = 5),
+    case!(NOTHING; PGive, a = 0, g = 0, mask = 0x8000_0000_0000_0000),
+    case!(NOTHING; PGive, a = 0, g = 0, mask = 1; PGive, a = 1, g = 0, mask = 3),
+];
 /// Calls of the device.
 const ON_DEVICES: [Case; 8] = [
     case!(RELEASED; Read, a = 0, p = 1),
@@ -147,7 +161,7 @@ const ON_DEVICES: [Case; 8] = [
     case!(FRAME; Store, a = 0, f = 2, i = 0, w = 1),
 ];
 /// Each event by an actor that is not there.
-const NO_ACTOR: [Event; 32] = [
+const NO_ACTOR: [Event; 35] = [
     event!(Look, a = 2, p = 0),
     event!(LockX, a = 2, p = 0, expects = EVICTED),
     event!(LockS, a = 2, p = 0, expects = 0),
@@ -180,6 +194,9 @@ const NO_ACTOR: [Event; 32] = [
     event!(Own, a = 2, p = 0),
     event!(Disown, a = 2, p = 0),
     event!(OLoad, a = 2, f = 0),
+    event!(PBLoad, a = 2, g = 0),
+    event!(PTake, a = 2, g = 0, expects = 3, mask = 1),
+    event!(PGive, a = 2, g = 0, mask = 1),
 ];
 /// Each event on a page that is not there.
 const NO_PAGE: [Event; 24] = [
@@ -236,6 +253,7 @@ fn events_that_may_not_happen(rt: HostRuntime) -> Result<(), Fail> {
     cases.extend_from_slice(&ON_FRAMES)?;
     cases.extend_from_slice(&ON_COUNTERS)?;
     cases.extend_from_slice(&ON_OWNERS)?;
+    cases.extend_from_slice(&ON_NUMBERS)?;
     cases.extend_from_slice(&ON_DEVICES)?;
     for event in NO_ACTOR {
         cases.push((NOTHING, None, event))?;

@@ -166,6 +166,18 @@ const OWNS: [Row; 8] = [
     row!(Seen::Word(2); OLoad, a = 0, f = 0),
 ];
 
+/// It gives both pages' numbers, takes that of the page back, and releases the page, whose words are not all 0: so it holds its number no more,
+/// and actor 1 may give it.
+const NUMBERS: [Row; 7] = [
+    row!(Seen::Word(0); PGive, a = 0, g = 0, mask = 3),
+    row!(Seen::Word(3); PBLoad, a = 1, g = 0),
+    row!(Seen::Taken; PTake, a = 0, g = 0, expects = 3, mask = 2),
+    row!(Seen::Lost(1); PTake, a = 1, g = 0, expects = 3, mask = 1),
+    row!(Seen::Done; Release, a = 0, p = 1),
+    row!(Seen::Word(1); PGive, a = 1, g = 0, mask = 2),
+    row!(Seen::Word(3); PBLoad, a = 0, g = 0),
+];
+
 /// Each event that the first script lacks.
 #[test]
 fn a_page_is_written_back(rt: HostRuntime) -> Result<(), Fail> {
@@ -175,7 +187,61 @@ fn a_page_is_written_back(rt: HostRuntime) -> Result<(), Fail> {
     plays(&rt, alloc, &mut core, &WRITES_BACK)?;
     plays(&rt, alloc, &mut core, &CLAIMS)?;
     plays(&rt, alloc, &mut core, &OWNS)?;
+    plays(&rt, alloc, &mut core, &NUMBERS)?;
     assert_eq!(rt; core.shape().pages, 2);
     assert_eq!(rt; core.block_word(1, 9), 77);
     Ok(())
+}
+
+/// Actor 0 gives the number of page 1 and takes it again.
+const TAKES_NUMBER: [Row; 3] = [
+    row!(Seen::Word(0); PGive, a = 0, g = 0, mask = 2),
+    row!(Seen::Taken; PTake, a = 0, g = 0, expects = 2, mask = 2),
+    row!(Seen::Word(0); PBLoad, a = 1, g = 0),
+];
+/// It brings the page, whose block has zeros as the frame has, and releases it: it holds its number yet, and gives and takes it once more.
+const LEAVES_ZEROS: [Row; 7] = [
+    row!(Seen::Taken; Take, a = 0, g = 0, expects = 3, mask = 1),
+    row!(Seen::Taken; LockX, a = 0, p = 1, expects = EVICTED),
+    row!(Seen::Done; Install, a = 0, p = 1, f = 0),
+    row!(Seen::Done; Own, a = 0, p = 1),
+    row!(Seen::Done; Release, a = 0, p = 1),
+    row!(Seen::Word(0); PGive, a = 0, g = 0, mask = 2),
+    row!(Seen::Taken; PTake, a = 0, g = 0, expects = 2, mask = 2),
+];
+/// It writes a word and leaves the page with a share: it holds the number no more, and actor 1 may give it.
+const LEAVES_A_WORD: [Row; 6] = [
+    row!(Seen::Taken; LockX, a = 0, p = 1, expects = 1),
+    row!(Seen::Done; Dirty, a = 0, p = 1),
+    row!(Seen::Done; Store, a = 0, f = 0, i = 63, w = 1),
+    row!(Seen::Done; Downgrade, a = 0, p = 1),
+    row!(Seen::Word(0); PGive, a = 1, g = 0, mask = 2),
+    row!(Seen::Word(2); PBLoad, a = 0, g = 0),
+];
+
+/// Actor 1 may not give the number of page 1, and the machine stays as it was.
+fn another_may_not_give(alloc: Global, core: &mut Core) -> bool {
+    let gives = [Event::PGive {
+        a: 1,
+        g: 0,
+        mask: 2,
+    }];
+    matches!(
+        replay(alloc, core, &gives),
+        Err(ReplayFault::Illegal { index: 0 })
+    )
+}
+
+/// Nobody else may give a number that an actor holds, until it leaves the page with words that are not all 0.
+#[test]
+fn a_number_is_held(rt: HostRuntime) -> Result<(), Fail> {
+    let alloc = rt.alloc();
+    let mut core = core(alloc, 2, 2, 1)?;
+    plays(&rt, alloc, &mut core, &TAKES_NUMBER)?;
+    let before = another_may_not_give(alloc, &mut core);
+    assert!(rt; before);
+    plays(&rt, alloc, &mut core, &LEAVES_ZEROS)?;
+    let after = another_may_not_give(alloc, &mut core);
+    assert!(rt; after);
+    plays(&rt, alloc, &mut core, &LEAVES_A_WORD)
 }
