@@ -1,5 +1,5 @@
 -- Lists of page numbers, read as sets.
-use Rattle.std.proofs.Common.{◌≡◌, ◌≢◌, ℕ, ◌+◌, ◌||◌, eqb, eq-eqb, Bool, true, false, List, [], ◌∷◌, ◌++◌, length, if◌then◌else◌, refl, ap, ◌∙◌, ⊎_elim, arith}
+use Rattle.std.proofs.Common.{◌≡◌, ◌≢◌, ℕ, ◌+◌, ◌≤◌, ◌||◌, eqb, eq-eqb, Bool, true, false, List, [], ◌∷◌, ◌++◌, length, if◌then◌else◌, refl, ap, ◌∙◌, ⊎_elim, arith}
 use Rattle.std.proofs.lemmas.Bool.{cases_Bool, ne_eqb}
 use Rattle.std.proofs.lemmas.Bool.Decides.{nat_tests}
 use Rattle.vm_owner.specs.Numbers.{has, without, AreApart}
@@ -19,6 +19,13 @@ without-none p (q ∷ qs) none = grind (arith, nat_tests, without-none p qs)
 pub length-without : (p : ℕ) (l : List ℕ) → AreApart l → has p l ≡ true → length (without p l) + 1 ≡ length l
 length-without p [] apart some = absurd (cc)
 length-without p (q ∷ qs) apart some = grind (arith, nat_tests, apart.0, without-none p qs, length-without p qs apart.1)
+
+pub without-few : (p : ℕ) (l : List ℕ) → AreApart l → length l ≤ length (without p l) + 1
+without-few p l apart =
+    ⊎_elim
+    (λ some. let one = length-without p l apart some in omega (arith, one))
+    (λ none. let same = ap (λ (m : List ℕ). length m) (without-none p l none) in omega (arith, same))
+    (cases_Bool (has p l))
 
 pub has-without : (p x : ℕ) (l : List ℕ) → has x (without p l) ≡ true → has x l ≡ true
 has-without p x [] some = some

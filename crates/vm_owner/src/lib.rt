@@ -18,7 +18,7 @@ pub trait Owner {
     ghost use Rattle.std.specs.Prelude.{Bool, true, ℕ, ◌<◌, List, length};
     ghost use Rattle.vm_page.specs.Pages.{page_at};
     ghost use Rattle.vm_owner.specs.declared.Entry.{Entry};
-    ghost use Rattle.vm_owner.specs.Kept.{Start, Kept, Change, Fits, IsTurn, after_release, told, claimed, AreZero, PagesHave};
+    ghost use Rattle.vm_owner.specs.Kept.{Start, Kept, Change, Fits, IsTurn, after_release, told, claimed, AreZero, PagesHave, MayMove, moved, NumberMove};
 
     // Of how many words each page may be, for this layer.
     ghost takes_size: { ℕ → Bool } = { λ _. true };
@@ -45,6 +45,8 @@ pub trait Owner {
     ghost holds: { (start : Start) (kept : Kept Self.Said) (pages : List (ℕ × List ℕ)) (entries : List (Entry Self.Said)) → keeps start kept → PagesHave kept.pages pages → IsTurn kept.history entries → may_hold start pages entries → keeps start (told entries kept) };
 
     ghost claims: { (start : Start) (kept : Kept Self.Said) (n : ℕ) → keeps start kept → AreZero kept n → keeps start (claimed n kept) };
+
+    ghost numbers: { (start : Start) (kept : Kept Self.Said) (move : NumberMove) → keeps start kept → MayMove kept move → keeps start (moved move kept) };
 
     ghost ties: { (start : Start) (kept : Kept Self.Said) (r p : ℕ) → keeps start kept → r < length kept.pages → p < length kept.pages → tied start r (page_at kept.pages r) p (page_at kept.pages p) };
 }
@@ -73,6 +75,8 @@ impl Owner for Bare {
     ghost holds = { λ _ _ _ _ _ _ _ _. tt };
 
     ghost claims = { λ _ _ _ _ _. tt };
+
+    ghost numbers = { λ _ _ _ _ _. tt };
 
     ghost ties = { λ _ _ _ _ _ _ _. tt };
 }

@@ -2,9 +2,13 @@
 -- what the others know stays by what the step leaves, so it is the pass's own part alone. `Shows` is a step that is an event of the core and moves
 -- no block.
 use mathlib.Core.Option as maybe
-use Rattle.vm_rule.proofs.{Facts.blocks-still, Found.outside-here, Found.seat-here, Runs.event_law, Views.at-bound, Views.at-there, Views.block-same}
+use Rattle.vm_rule.proofs.{Facts.blocks-still, Found.outside-here, Found.seat-here, Runs.event_law, Runs.spares-inside, Views.at-bound, Views.at-there, Views.block-same}
 use Rattle.vm_rule.proofs.{Views.set-each, Were.were-did, Were.were-moves, Worlds.draft-is, Worlds.last-is}
 use Rattle.vm_rule.proofs.Entries.{append-none, each-map, entries-both, entries-none, entries-within, mine-in, not-whole, starts-self, total-same}
+use Rattle.std.specs.Prelude.{map}
+use Rattle.vm_core.specs.Prelude.{has_free_bit}
+use Rattle.vm_numbers.specs.Hands.{NumbersFit}
+use Rattle.vm_rule.specs.Rule.{hands_of, logical}
 use Rattle.vm_rule.proofs.Heard.{Added, added, each-both, has-first, next-both, starts-more, times-has}
 use Rattle.vm_rule.proofs.Known.{any-gone, histories-outside, known-else, tie-moves, translation-moves}
 use Rattle.vm_rule.proofs.Prelude.{[], ap, append_assoc, AreNext, ArePlain, arith, began_of, block_of, BlocksFit, Bool, brought, cases_Bool, core_shown, Did}
@@ -58,6 +62,10 @@ module _ {X B : Type 0} (stored : B → Stored) (keeps : Start → Kept X → Ty
       pub mine : inner.mine ≡ v.mine ++ entries
       pub next_versions : AreNext start r.releases own
       pub zero : start.tells ≡ true → (p : ℕ) → world_more.core.next ≤ p → p < start.pages → (world_more.histories p).last.words ≡ replicate start.size 0
+      -- page numbers
+      pub numbers : start.tells ≡ true → NumbersFit (has_free_bit world_more.core.spares) world_more.core.next (λ p. (world_more.histories p).last.words)
+          (logical world_more.histories (is_pending (slice_set s.views id after_more))) (map hands_of (slice_set s.views id after_more))
+      pub spares : (p : ℕ) → has_free_bit world_more.core.spares p ≡ true → p < start.pages
       -- what it knows of what it holds
       pub knows : (p : ℕ) → KnowsPage (seat_of inner p) (put_at no_held inner.held p) (world_more.core.pages p)
       pub owners : KnowsOwners world_more.core.owners (seat_of inner) (put_at no_held inner.held)
@@ -186,6 +194,8 @@ module _ {X B : Type 0} (stored : B → Stored) (keeps : Start → Kept X → Ty
         inv = sh.inv;
         risen = (let up : world_before.core.next ≤ world_more.core.next = sh.left.next in let risen : start.next ≤ world_before.core.next = r.risen in omega arith);
         zero = sh.zero;
+        numbers = sh.numbers;
+        spares = sh.spares;
         blocks = sh.fit;
         faults = sh.faults;
         lists = record {
@@ -235,6 +245,10 @@ module _ {X B : Type 0} (stored : B → Stored) (keeps : Start → Kept X → Ty
     pub mine : inner.mine ≡ v.mine ++ entries
     pub next_versions : AreNext start r.releases own
     pub zero : start.tells ≡ true → (p : ℕ) → (core_shown stored start (became s words id (after_step s r words own entries did inner))).next ≤ p → p < start.pages → (histories_of start (r.releases ++ own) drafts p).last.words ≡ replicate start.size 0
+    -- page numbers
+    pub numbers : start.tells ≡ true → NumbersFit (has_free_bit (core_shown stored start (became s words id (after_step s r words own entries did inner))).spares)
+        (core_shown stored start (became s words id (after_step s r words own entries did inner))).next (λ p. (histories_of start (r.releases ++ own) drafts p).last.words)
+        (logical (histories_of start (r.releases ++ own) drafts) (is_pending (slice_set s.views id (after_step s r words own entries did inner)))) (map hands_of (slice_set s.views id (after_step s r words own entries did inner)))
     -- what it knows of what it holds
     pub knows : (p : ℕ) → KnowsPage (seat_of inner p) (put_at no_held inner.held p) ((core_shown stored start (became s words id (after_step s r words own entries did inner))).pages p)
     pub owners : KnowsOwners (core_shown stored start (became s words id (after_step s r words own entries did inner))).owners (seat_of inner) (put_at no_held inner.held)
@@ -305,6 +319,8 @@ module _ {X B : Type 0} (stored : B → Stored) (keeps : Start → Kept X → Ty
         mine = sh.mine;
         next_versions = sh.next_versions;
         zero = sh.zero;
+        numbers = sh.numbers;
+        spares = λ p set. spares-inside old.core e sh.legal r.spares p (ap (λ (y : World). has_free_bit y.core.spares p) (sym sh.world) ∙ set);
         knows = sh.knows;
         owners = sh.owners;
         contents = sh.contents;

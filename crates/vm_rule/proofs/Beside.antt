@@ -27,7 +27,7 @@ module _ {X B : Type 0} (stored : B → Stored) (keeps : Start → Kept X → Ty
       let none : (k : ℕ) → 1 ≤ owns k u → ⊥ = λ k l. not-whole s.views id j v u r.parts.parts (λ e. ne (sym e)) there at (k, l) whole in
       ⊎_elim
       (λ on. (r.heard j u at on).idle (no-times u.used (λ n l. none n (more-left (times n u.used) (times n u.fresh) l))) (no-times u.fresh (λ n l. none n (more-right (times n u.used) (times n u.fresh) l))))
-      (λ off. subst HoldsNothing (sym (r.parts.spent j u at off)) (record { shares = λ p. refl; exclusive = λ p. refl; writing = λ p. refl; frames = refl; out = refl }))
+      (λ off. subst HoldsNothing (sym (r.parts.spent j u at off)) (record { shares = λ p. refl; exclusive = λ p. refl; writing = λ p. refl; frames = refl; numbers = (refl, refl); out = refl }))
       (cases_Bool u.live)
 
   module _ (p : ℕ) (l : p < start.pages) (alone : (seat_of v p).exclusive ≡ false) (none : (seat_of v p).shares ≡ 0) where

@@ -8,6 +8,9 @@ use Rattle.vm_rule.proofs.Prelude.{IsStepOf, Kept, KnowsLists, KnowsPage, KnowsP
 use Rattle.vm_rule.proofs.Prelude.{logical, no_held, None, Option, Origin, Page, put_at, refl, Release, Ruled, seat_of, set_block, set_here, set_if}
 use Rattle.vm_rule.proofs.Prelude.{slice_set, Snapshot, some, Start, StartsWith, Stored, subst, sym, Table, true, true≢false, View, Within, World}
 use Rattle.vm_rule.proofs.Prelude.{KnowsOwners, world_after, world_of, ℕ, ◌++◌, ◌<◌, ◌∙◌, ◌≡◌}
+use Rattle.vm_core.specs.Prelude.{has_free_bit}
+use Rattle.vm_rule.specs.Views.{any}
+use Rattle.vm_rule.proofs.Numbered.{hands-still, numbers-as}
 use Rattle.vm_rule.proofs.Worlds.{core-still, draft-is, last-is, world-still}
 
 -- who has seen all has nothing behind it
@@ -81,6 +84,8 @@ module _ {X B : Type 0} (stored : B → Stored) (keeps : Start → Kept X → Ty
       let world : world_of stored start (r.releases ++ []) r.drafts new ≡ world_of stored start r.releases r.drafts s = ap (λ l. world_of stored start l r.drafts new) releases ∙ still in
       let pending : is_pending (slice_set s.views id w) ≡ is_pending s.views = fun_ext (λ p. any-same (λ y. has p y.pending) s.views id v w there refl) in
       let owed : is_owed (slice_set s.views id w) ≡ is_owed s.views = fun_ext (λ p. any-same (λ y. has p y.owed) s.views id v w there refl) in
+      let holding : (λ p. any (λ (y : View X). has p y.numbers) (slice_set s.views id w)) ≡ (λ p. any (λ (y : View X). has p y.numbers) s.views) = fun_ext (λ p. any-same (λ y. has p y.numbers) s.views id v w there refl) in
+      let giving : (λ p. any (λ (y : View X). has p y.freed) (slice_set s.views id w)) ≡ (λ p. any (λ (y : View X). has p y.freed) s.views) = fun_ext (λ p. any-same (λ y. has p y.freed) s.views id v w there refl) in
       steps s r id v s.words r.drafts [] [] did v e there live number actor
       (sym (ap (λ o. set_if o (index_of start did.at) s.words) none))
       (record {
@@ -103,6 +108,8 @@ module _ {X B : Type 0} (stored : B → Stored) (keeps : Start → Kept X → Ty
         mine = sym (append-none v.mine);
         next_versions = tt;
         zero = λ t p le l. ap (λ y. (histories_of start y r.drafts p).last.words) releases ∙ r.zero t p le l;
+        numbers = λ t. numbers-as (ap (λ c. has_free_bit c.spares) (sym core)) (ap (λ c. c.next) (sym core)) (ap (λ l p. (histories_of start l r.drafts p).last.words) (sym releases))
+            (λ i. logical (histories_of start (sym releases i) r.drafts) (sym pending i)) (sym (hands-still s.views id v w there refl)) (r.numbers t);
         knows = λ p. subst (λ (y : ℕ → Page). KnowsPage (seat_of v p) (put_at no_held v.held p) (y p)) (sym (ap (λ c. c.pages) core)) (k.knows p);
         owners = subst (λ (f : ℕ → ℕ). KnowsOwners f (seat_of v) (put_at no_held v.held)) (sym (ap (λ c. c.owners) core)) k.owners;
         contents = k.contents;
@@ -117,6 +124,9 @@ module _ {X B : Type 0} (stored : B → Stored) (keeps : Start → Kept X → Ty
           pages = listed start.pages (logical (sym world i).histories (sym pending i));
           next = (sym world i).core.next;
           owed = chosen start.pages (sym owed i);
+          free = has_free_bit (sym world i).core.spares;
+          held = sym holding i;
+          freed = sym giving i;
           history = sym history i;
         });
       })

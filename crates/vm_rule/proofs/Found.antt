@@ -2,7 +2,7 @@
 use Rattle.vm_page.proofs.Sizes.{room}
 use Rattle.vm_rule.specs.declared.view.Place.TheVariants as places
 use Rattle.vm_rule.proofs.{ListFacts.at-listed, Pages.page-in, Pages.page-out, Views.at-there, WordFacts.word-made}
-use Rattle.vm_rule.proofs.Prelude.{ap, arith, at-get, block_of, bundle_count, core_shown, frame_words, get_elem?, has, index_of, List, loads_at, loads_of}
+use Rattle.vm_rule.proofs.Prelude.{ap, arith, at-get, block_of, bundle_count, bundles_of, core_shown, frame_words, get_elem?, has, index_of, List, loads_at, loads_of}
 use Rattle.vm_rule.proofs.Prelude.{lt-ltb, mapping_of, Option, Origin, outside_page, Page, page_from, page_word, part, refl, seat_of, seats_of, set-get_or}
 use Rattle.vm_rule.proofs.Prelude.{slice_index, slice_set, some, spent, state_of, Stored, sym, Table, table_words, version_of, View, ℕ, ◌*◌, ◌+◌, ◌<◌, ◌∙◌, ◌≡◌}
 use Rattle.vm_rule.proofs.Prelude.{◌≤◌}
@@ -73,6 +73,10 @@ module _ {X B : Type 0} (stored : B → Stored) (start : Origin) where
 
   pub hand-here : (s : Table (Option B) (View X)) → (core_shown stored start s).hand ≡ slice_index s.words (index_of start places.Hand)
   hand-here s = at-get 0 s.words (index_of start places.Hand)
+
+  -- a free-number word
+  pub spare-here : (s : Table (Option B) (View X)) (g : ℕ) → g < bundles_of start.pages → (core_shown stored start s).spares g ≡ slice_index s.words (index_of start (places.Spare g))
+  spare-here s g l = part-found (3 * start.pages + start.size * start.frames + bundle_count start + 2 + start.frames) (bundles_of start.pages) s.words g (3 * start.pages + start.size * start.frames + bundle_count start + 2 + start.frames + g) l refl
 
   -- an owner word
   pub owner-here : (s : Table (Option B) (View X)) (f : ℕ) → f < start.frames → (core_shown stored start s).owners f ≡ slice_index s.words (index_of start (places.Owner f))

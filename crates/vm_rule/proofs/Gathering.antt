@@ -58,10 +58,10 @@ wider actors k pages (Mapped p) i = i
 
 -- ---- the world
 
--- the core with these seats, frames held and loads, and k actors more
-abbrev pub regathered : World → ℕ → (ℕ → ℕ → Seat) → (ℕ → ℕ → Bool) → (ℕ → ℕ → List (ℕ × ℕ)) → World
-regathered w k seats held loads =
-    record w { core = record w.core { shape = record w.core.shape { actors = k + w.core.shape.actors }; pages = λ p. record (w.core.pages p) { seats = seats p }; held = held }; loads = loads }
+-- the core with these seats, frames and page numbers held and loads, and k actors more
+abbrev pub regathered : World → ℕ → (ℕ → ℕ → Seat) → (ℕ → ℕ → Bool) → (ℕ → ℕ → Bool) → (ℕ → ℕ → List (ℕ × ℕ)) → World
+regathered w k seats held numbers loads =
+    record w { core = record w.core { shape = record w.core.shape { actors = k + w.core.shape.actors }; pages = λ p. record (w.core.pages p) { seats = seats p }; held = held; numbers = numbers }; loads = loads }
 
 -- each actor's reads are closed or as they were; the frames of the actor `from` are those of `to`
 pub record Regathers (w : World) (k from to : ℕ) (seats : ℕ → ℕ → Seat) (held : ℕ → ℕ → Bool) (loads : ℕ → ℕ → List (ℕ × ℕ)) : Type 0 where
@@ -73,9 +73,9 @@ pub record Regathers (w : World) (k from to : ℕ) (seats : ℕ → ℕ → Seat
   pub gives : (f : ℕ) → held from f ≡ false
   pub keeps : (a f : ℕ) → a ≢ from → a ≢ to → held a f ≡ w.core.held a f
 
-module _ (w : World) (k from to : ℕ) (seats : ℕ → ℕ → Seat) (held : ℕ → ℕ → Bool) (loads : ℕ → ℕ → List (ℕ × ℕ)) (g : Regathers w k from to seats held loads) (i : Inv w) where
+module _ (w : World) (k from to : ℕ) (seats : ℕ → ℕ → Seat) (held numbers : ℕ → ℕ → Bool) (loads : ℕ → ℕ → List (ℕ × ℕ)) (g : Regathers w k from to seats held loads) (i : Inv w) where
   -- a frame that the actor `from` had is the actor `to`'s, and each other stands where it stood
-  regathered-frame : (f : ℕ) → FrameIsAt (regathered w k seats held loads).core f (if w.core.held from f then Held to else i.place f)
+  regathered-frame : (f : ℕ) → FrameIsAt (regathered w k seats held numbers loads).core f (if w.core.held from f then Held to else i.place f)
   regathered-frame f =
       let fr = i.frames f in
       ⊎_elim
@@ -111,7 +111,7 @@ module _ (w : World) (k from to : ℕ) (seats : ℕ → ℕ → Seat) (held : �
       }))
       (cases_Bool (w.core.held from f))
 
-  pub regathered-inv : Inv (regathered w k seats held loads)
+  pub regathered-inv : Inv (regathered w k seats held numbers loads)
   regathered-inv = record {
     place = λ f. if w.core.held from f then Held to else i.place f;
     frames = regathered-frame;

@@ -1,5 +1,12 @@
 -- A pass takes over all that another one has, which holds no page and is spent then: the table meets the rule. So it does where a pass takes in
 -- another.
+use Rattle.std.specs.Prelude.{map}
+use Rattle.vm_numbers.specs.Hands.{joined_hands, no_hands}
+use Rattle.vm_numbers.proofs.Passes.{join_keeps}
+use Rattle.vm_rule.proofs.Numbered.{hands-set, hands-there, numbers-as}
+use Rattle.vm_rule.specs.Rule.{hands_of}
+use Rattle.vm_rule.proofs.Facts.{any-here, any-true}
+use Rattle.std.proofs.lemmas.Bool.{false_from_ne_true, or_cases}
 use Rattle.vm_rule.proofs.{Bundled.with_contents-at, Facts.either-way, Gathering.ReadsLess, Heard.each-both, Known.known-with}
 use Rattle.vm_rule.proofs.Entries.{entries-union, has-joined, none-each, none-left}
 use Rattle.vm_rule.proofs.Prelude.{[], any, ap, arith, at, at_set, Bool, cases_Bool, cases_eq, cases_lt, entries_by, Entry, false, false≢true, get_elem?, has}
@@ -64,11 +71,31 @@ module _ {X : Type 0} where
         (cases_eq l.0 j))
         (cases_eq l.0 i)
 
+    -- what any says, where the first of the two says it where either did, and the second does not
+    twice-or : (f : View X → Bool) → f x ≡ (f u || f v) → f y ≡ false → any f twice ≡ any f views
+    twice-or f e none =
+        ⊎_elim
+        (λ t. let k = any-true f views t in
+        let l = twice-some (λ z. f z ≡ true) (λ a. e ∙ ap (λ b. b || f v) a) (λ a. e ∙ ap (λ b. f u || b) a ∙ or-true (f u)) k in
+        any-here f twice l.0 l.1 l.2 l.3 ∙ sym t)
+        (λ n. false_from_ne_true (any f twice) (λ t.
+        let k = any-true f twice t in
+        true≢false (sym (⊎_elim
+        (λ q. absurd (true≢false (sym k.3 ∙ sym (ap f q) ∙ none)))
+        (λ r. ⊎_elim
+        (λ q. ⊎_elim (λ a. any-here f views i u at-i a) (λ a. any-here f views j v at-j a) (or_cases (f u) (f v) (sym e ∙ ap f q ∙ k.3)))
+        (λ q. any-here f views k.0 k.1 q k.3)
+        r)
+        (twice-at k.0 k.1 k.2)) ∙ n)) ∙ sym n)
+        (cases_Bool (any f views))
+
   -- the view x has what v holds, and frames, notes and parts of w as well; it was told what w had seen
   pub record Absorbs (v w x : View X) : Type 0 where
     pub seats : x.seats ≡ v.seats
     pub loads : x.loads ≡ v.loads
     pub frames : (f : ℕ) → has f x.frames ≡ (has f w.frames || has f v.frames)
+    pub numbers : x.numbers ≡ v.numbers ++ w.numbers
+    pub freed : x.freed ≡ v.freed ++ w.freed
     pub out : x.out ≡ v.out
     pub pending : x.pending ≡ v.pending
     pub owed : x.owed ≡ v.owed
@@ -145,6 +172,8 @@ module _ {X : Type 0} where
     seats = refl;
     loads = refl;
     frames = λ f. has-joined f w.frames v.frames;
+    numbers = refl;
+    freed = refl;
     out = refl;
     pending = refl;
     owed = refl;
@@ -201,6 +230,14 @@ module _ {X B : Type 0} (stored : B → Stored) (keeps : Start → Kept X → Ty
               (twice-at s.views id other v w x spent there apart at-other j u e);
           notes = λ p n. twice-total s.views id other v w x spent there apart at-other (λ y. times_noted p n y.notes) (omega (arith, ab.notes p n));
           parts = λ k. twice-total s.views id other v w x spent there apart at-other (owns k) (omega (arith, ab.parts k));
+          numbers = λ t.
+              let same : hands_of x ≡ joined_hands (hands_of v) (hands_of w) = (λ i. record { numbers = ab.numbers i; freed = ab.freed i; owed = ab.owed i; pending = ab.pending i }) in
+              numbers-as refl refl refl refl
+              (ap (λ h. slice_set (slice_set (map hands_of s.views) id h) other no_hands) (sym same) ∙ ap (λ l. slice_set l other no_hands) (sym (hands-set s.views id x)) ∙ sym (hands-set (slice_set s.views id x) other spent))
+              (join_keeps _ _ _ _ (map hands_of s.views) (r.numbers t) id other (hands_of v) (hands_of w) apart (hands-there s.views id v there) (hands-there s.views other w at-other)
+              (λ p. sym (not-held p (has p w.owed) (λ o. (pages.owed p o).0))) (λ p. sym (not-held p (has p w.pending) (λ o. (pages.pending p o).0))));
+          holding = λ t p. twice-or s.views id other v w x spent there apart at-other (λ y. has p y.numbers) (ap (has p) ab.numbers ∙ has-joined p v.numbers w.numbers) refl;
+          giving = λ t p. twice-or s.views id other v w x spent there apart at-other (λ y. has p y.freed) (ap (has p) ab.freed ∙ has-joined p v.freed w.freed) refl;
           releases = twice-some s.views id other v w x spent there apart at-other (KnowsReleases stored keeps tied start tells s r) (λ a. inl (ab.releases.0 ∙ mine.0 a)) (λ a. inr (ab.releases.1 ∙ theirs.0 a)) r.lists.longest_releases;
           history = twice-some s.views id other v w x spent there apart at-other (KnowsHistory stored keeps tied start tells s r) (λ a. ab.history r.history (inl (mine.1 a))) (λ a. ab.history r.history (inr (theirs.1 a))) r.lists.longest;
         }
@@ -223,7 +260,7 @@ module _ {X B : Type 0} (stored : B → Stored) (keeps : Start → Kept X → Ty
             let n = none-left v.used w.used a in
             let m = none-left v.fresh w.fresh b in
             let h = mine.idle n.0 m.0 in
-            record { shares = h.shares; exclusive = h.exclusive; writing = h.writing; frames = λ i. (theirs.idle n.1 m.1).frames i ++ h.frames i; out = h.out };
+            record { shares = h.shares; exclusive = h.exclusive; writing = h.writing; frames = λ i. (theirs.idle n.1 m.1).frames i ++ h.frames i; numbers = (λ i. h.numbers.0 i ++ (theirs.idle n.1 m.1).numbers.0 i, λ i. h.numbers.1 i ++ (theirs.idle n.1 m.1).numbers.1 i); out = h.out };
       }
 
   joined-fit : IsFit stored keeps tied start tells s r (joined v w)

@@ -49,13 +49,15 @@ tie-moves tied began w w' pending pending' shape moves last members t h =
 
 module _ {X : Type 0} (tied : Start → ℕ → List ℕ → ℕ → List ℕ → Type 0) (start : Origin) (w : World) (unreleased : ℕ → Bool) where
   -- what a view knows of pages stays true of it with other lists, parts and notes, and with other frames and steps where that is shown of these
-  pub known-with : (v : View X) {frames : List ℕ} {contents : List (Put (List ℕ))} {notes : List Note} {releases told_releases : List Released} {seen mine told : List (Entry X)} {used fresh told_used : List ℕ} {current : Bool} {log : List Did}
+  pub known-with : (v : View X) {frames numbers freed : List ℕ} {contents : List (Put (List ℕ))} {notes : List Note} {releases told_releases : List Released} {seen mine told : List (Entry X)} {used fresh told_used : List ℕ} {current : Bool} {log : List Did}
       → KnowsPages tied start w unreleased v
       → ((f : ℕ) → has f frames ≡ true → put_at [] contents f ≡ w.core.words f)
       → ((p : ℕ) → IsLocking (seat_of v p) → last_in v.start releases p ≡ (w.histories p).last)
       → Each (WereWords w) log
       → KnowsPages tied start w unreleased (record v {
         frames = frames;
+        numbers = numbers;
+        freed = freed;
         contents = contents;
         notes = notes;
         releases = releases;

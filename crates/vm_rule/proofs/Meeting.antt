@@ -1,5 +1,6 @@
 -- A pass takes in another that only knows the two lists, and then takes over what it was told: the table meets the rule.
 use Rattle.vm_rule.specs.declared.view.Place.TheVariants as places
+use Rattle.vm_rule.proofs.Numbered.{hands-still, numbers-as}
 use Rattle.vm_rule.proofs.{Found.next-here, Heard.each-both, Known.known-with, Sound.is-sound, Sound.never-falls, Sound.next-front, Views.any-same}
 use Rattle.vm_rule.proofs.{Views.at-bound, Views.field-still, Views.out-same, Views.set-each, Worlds.last-else, Worlds.last-here, Worlds.last-is}
 use Rattle.vm_rule.proofs.Entries.{append-none, entries-both, entries-none, none-each, total-same}
@@ -51,6 +52,8 @@ module _ {X B : Type 0} (stored : B → Stored) (keeps : Start → Kept X → Ty
       seats = refl;
       loads = refl;
       frames = λ f. ap (λ l. has f l || has f v.frames) (sym nothing.frames);
+      numbers = sym (append-none v.numbers) ∙ ap (λ (l : List ℕ). v.numbers ++ l) (sym nothing.numbers.0);
+      freed = sym (append-none v.freed) ∙ ap (λ (l : List ℕ). v.freed ++ l) (sym nothing.numbers.1);
       out = refl;
       pending = refl;
       owed = refl;
@@ -75,7 +78,7 @@ module _ {X B : Type 0} (stored : B → Stored) (keeps : Start → Kept X → Ty
             told = (theirs.saw, (theirs.heard.0, theirs.heard.1, entries-none theirs.heard.0), λ k e. absurd (true≢false (sym e)));
             mine = mine.mine;
             fresh = mine.fresh;
-            idle = λ a b. let h = mine.idle a b in record { shares = h.shares; exclusive = h.exclusive; writing = h.writing; frames = h.frames; out = h.out };
+            idle = λ a b. let h = mine.idle a b in record { shares = h.shares; exclusive = h.exclusive; writing = h.writing; frames = h.frames; numbers = h.numbers; out = h.out };
           };
           known = λ _. known-with tied start _ _ v k k.contents k.latest k.words;
           whole = c.whole;
@@ -149,7 +152,7 @@ module _ {X B : Type 0} (stored : B → Stored) (keeps : Start → Kept X → Ty
             told = ((r.releases, refl), (r.history, refl, entries-none r.history), λ k e. absurd (true≢false (sym e)));
             mine = own-lists.mine ∙ sym (ap (entries_by v.used) heard-told.1 ∙ entries-both v.used v.seen heard-told.0 ∙ (λ i. entries_by v.used v.seen ++ heard-told.2 i) ∙ append-none (entries_by v.used v.seen));
             fresh = own-lists.fresh;
-            idle = λ a b. let h = own-lists.idle a b in record { shares = h.shares; exclusive = h.exclusive; writing = h.writing; frames = h.frames; out = h.out };
+            idle = λ a b. let h = own-lists.idle a b in record { shares = h.shares; exclusive = h.exclusive; writing = h.writing; frames = h.frames; numbers = h.numbers; out = h.out };
           };
           known = λ _. known-with tied start _ _ v own-pages own-pages.contents
               (λ p locks. kept-since p locks ∙ own-pages.latest p locks)
@@ -164,6 +167,9 @@ module _ {X B : Type 0} (stored : B → Stored) (keeps : Start → Kept X → Ty
       fit = set-each (IsFit stored keeps tied start tells s r) s.views id after follower-fit (λ j u _. fit-now stored keeps tied start tells s r j u);
       notes = λ p n. total-same (λ y. times_noted p n y.notes) s.views id v after there refl;
       parts = λ k. total-same (owns k) s.views id v after there refl;
+      numbers = λ t. numbers-as refl refl refl refl (sym (hands-still s.views id v after there refl)) (r.numbers t);
+      holding = λ t p. any-same (λ y. has p y.numbers) s.views id v after there refl;
+      giving = λ t p. any-same (λ y. has p y.freed) s.views id v after there refl;
       releases = set-some (KnowsReleases stored keeps tied start tells s r) s.views id v after there
           (⊎_elim (λ q. inl (all-told r.releases v.told_releases v.releases own-lists.told.0 on-releases q)) inl) r.lists.longest_releases;
       history = set-some (KnowsHistory stored keeps tied start tells s r) s.views id v after there

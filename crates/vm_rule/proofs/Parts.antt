@@ -3,9 +3,9 @@ use Rattle.std.proofs.lemmas.List.{get_or-set_other}
 use Rattle.vm_core.proofs.At.{at_set}
 use Rattle.vm_page.proofs.Sizes.{room, same-page}
 use Rattle.vm_rule.specs.declared.view.Place.TheVariants as places
-use Rattle.vm_rule.proofs.Prelude.{ap, arith, at, bundle_count, cases_eq, cases_lt, frame_words, fun_ext, index_of, le-ltb, length, List, listed, lt-ltb}
+use Rattle.vm_rule.proofs.Prelude.{ap, arith, at, bundle_count, bundles_of, cases_eq, cases_lt, frame_words, fun_ext, index_of, le-ltb, length, List, listed, lt-ltb}
 use Rattle.vm_rule.proofs.Prelude.{Origin, part, Place, refl, slice_set, suc, sym, table_words, upd, upd-other, upd-same, width, with_word, Within, Words, zero}
-use Rattle.vm_rule.proofs.Prelude.{ℕ, ⊎_elim, ◌*◌, ◌+◌, ◌<◌, ◌∙◌, ◌∷◌, ◌≡◌, ◌≢◌, ◌⊎◌}
+use Rattle.vm_rule.proofs.Prelude.{ℕ, ⊎_elim, ◌*◌, ◌+◌, ◌<◌, ◌∙◌, ◌∷◌, ◌≡◌, ◌≢◌}
 
 -- a function that differs from f at k alone
 pub upd-is : {A : Type 0} (f g : ℕ → A) (k : ℕ) (x : A) → g k ≡ x → ((j : ℕ) → j ≢ k → g j ≡ f j) → g ≡ upd f k x
@@ -20,9 +20,9 @@ unfolding at
 at-else words i x j ne = get_or-set_other words i j x 0 ne
 
 -- the words, part by part, in the order of the layout
-words-as : {size : ℕ} → {a a' b b' c c' d d' e e' h h' : ℕ → ℕ} {f f' g g' : ℕ} → a ≡ a' → b ≡ b' → c ≡ c' → d ≡ d' → e ≡ e' → f ≡ f' → g ≡ g' → h ≡ h'
-    → ◌≡◌ {A = Words} (record { size = size; states = a; translations = b; faults = c; contents = d; bundles = e; next = f; hand = g; owners = h }) (record { size = size; states = a'; translations = b'; faults = c'; contents = d'; bundles = e'; next = f'; hand = g'; owners = h' })
-words-as {size} a b c d e f g h i = record { size = size; states = a i; translations = b i; faults = c i; contents = d i; bundles = e i; next = f i; hand = g i; owners = h i }
+words-as : {size : ℕ} → {a a' b b' c c' d d' e e' h h' n n' : ℕ → ℕ} {f f' g g' : ℕ} → a ≡ a' → b ≡ b' → c ≡ c' → d ≡ d' → e ≡ e' → f ≡ f' → g ≡ g' → h ≡ h' → n ≡ n'
+    → ◌≡◌ {A = Words} (record { size = size; states = a; translations = b; faults = c; contents = d; bundles = e; next = f; hand = g; owners = h; spares = n }) (record { size = size; states = a'; translations = b'; faults = c'; contents = d'; bundles = e'; next = f'; hand = g'; owners = h'; spares = n' })
+words-as {size} a b c d e f g h n i = record { size = size; states = a i; translations = b i; faults = c i; contents = d i; bundles = e i; next = f i; hand = g i; owners = h i; spares = n i }
 
 -- one word is written, the word k
 module _ (start : Origin) (words : List ℕ) (x k : ℕ) (wide : length words ≡ width start) where
@@ -49,17 +49,17 @@ module _ (start : Origin) (words : List ℕ) (x k : ℕ) (wide : length words �
       words-as
       (own 0 start.pages p l (omega arith) (omega arith)) (other start.pages start.pages (λ j below same. omega arith)) (other (2 * start.pages) start.pages (λ j below same. omega arith))
       (other (3 * start.pages) (start.size * start.frames) (λ j below same. omega arith)) (other bundles-from (bundle_count start) (λ j below same. omega arith))
-      (at-else words k x (index_of start places.Next) (λ same. omega arith)) (at-else words k x (index_of start places.Hand) (λ same. omega arith)) (other (bundles-from + bundle_count start + 2) start.frames (λ j below same. omega arith))
+      (at-else words k x (index_of start places.Next) (λ same. omega arith)) (at-else words k x (index_of start places.Hand) (λ same. omega arith)) (other (bundles-from + bundle_count start + 2) start.frames (λ j below same. omega arith)) (other (bundles-from + bundle_count start + 2 + start.frames) (bundles_of start.pages) (λ j below same. omega arith))
   placed (places.Translation p) l e =
       words-as
       (other 0 start.pages (λ j below same. omega arith)) (own start.pages start.pages p l (omega arith) (omega arith)) (other (2 * start.pages) start.pages (λ j below same. omega arith))
       (other (3 * start.pages) (start.size * start.frames) (λ j below same. omega arith)) (other bundles-from (bundle_count start) (λ j below same. omega arith))
-      (at-else words k x (index_of start places.Next) (λ same. omega arith)) (at-else words k x (index_of start places.Hand) (λ same. omega arith)) (other (bundles-from + bundle_count start + 2) start.frames (λ j below same. omega arith))
+      (at-else words k x (index_of start places.Next) (λ same. omega arith)) (at-else words k x (index_of start places.Hand) (λ same. omega arith)) (other (bundles-from + bundle_count start + 2) start.frames (λ j below same. omega arith)) (other (bundles-from + bundle_count start + 2 + start.frames) (bundles_of start.pages) (λ j below same. omega arith))
   placed (places.Fault p) l e =
       words-as
       (other 0 start.pages (λ j below same. omega arith)) (other start.pages start.pages (λ j below same. omega arith)) (own (2 * start.pages) start.pages p l (omega arith) (omega arith))
       (other (3 * start.pages) (start.size * start.frames) (λ j below same. omega arith)) (other bundles-from (bundle_count start) (λ j below same. omega arith))
-      (at-else words k x (index_of start places.Next) (λ same. omega arith)) (at-else words k x (index_of start places.Hand) (λ same. omega arith)) (other (bundles-from + bundle_count start + 2) start.frames (λ j below same. omega arith))
+      (at-else words k x (index_of start places.Next) (λ same. omega arith)) (at-else words k x (index_of start places.Hand) (λ same. omega arith)) (other (bundles-from + bundle_count start + 2) start.frames (λ j below same. omega arith)) (other (bundles-from + bundle_count start + 2 + start.frames) (bundles_of start.pages) (λ j below same. omega arith))
   placed (places.Content f n) l e =
       let frame : f < start.frames = l.0 in
       let inside : n < start.size = l.1 in
@@ -67,27 +67,33 @@ module _ (start : Origin) (words : List ℕ) (x k : ℕ) (wide : length words �
       words-as
       (other 0 start.pages (λ j below same. omega arith)) (other start.pages start.pages (λ j below same. omega arith)) (other (2 * start.pages) start.pages (λ j below same. omega arith))
       (own (3 * start.pages) (start.size * start.frames) (start.size * f + n) among (omega arith) (omega arith)) (other bundles-from (bundle_count start) (λ j below same. omega arith))
-      (at-else words k x (index_of start places.Next) (λ same. omega arith)) (at-else words k x (index_of start places.Hand) (λ same. omega arith)) (other (bundles-from + bundle_count start + 2) start.frames (λ j below same. omega arith))
+      (at-else words k x (index_of start places.Next) (λ same. omega arith)) (at-else words k x (index_of start places.Hand) (λ same. omega arith)) (other (bundles-from + bundle_count start + 2) start.frames (λ j below same. omega arith)) (other (bundles-from + bundle_count start + 2 + start.frames) (bundles_of start.pages) (λ j below same. omega arith))
   placed (places.Bundle g) l e =
       words-as
       (other 0 start.pages (λ j below same. omega arith)) (other start.pages start.pages (λ j below same. omega arith)) (other (2 * start.pages) start.pages (λ j below same. omega arith))
       (other (3 * start.pages) (start.size * start.frames) (λ j below same. omega arith)) (own bundles-from (bundle_count start) g l (omega arith) (omega arith))
-      (at-else words k x (index_of start places.Next) (λ same. omega arith)) (at-else words k x (index_of start places.Hand) (λ same. omega arith)) (other (bundles-from + bundle_count start + 2) start.frames (λ j below same. omega arith))
+      (at-else words k x (index_of start places.Next) (λ same. omega arith)) (at-else words k x (index_of start places.Hand) (λ same. omega arith)) (other (bundles-from + bundle_count start + 2) start.frames (λ j below same. omega arith)) (other (bundles-from + bundle_count start + 2 + start.frames) (bundles_of start.pages) (λ j below same. omega arith))
   placed places.Next l e =
       words-as
       (other 0 start.pages (λ j below same. omega arith)) (other start.pages start.pages (λ j below same. omega arith)) (other (2 * start.pages) start.pages (λ j below same. omega arith))
       (other (3 * start.pages) (start.size * start.frames) (λ j below same. omega arith)) (other bundles-from (bundle_count start) (λ j below same. omega arith))
-      (ap (at 0 (slice_set words k x)) e ∙ at-here words k x (omega arith)) (at-else words k x (index_of start places.Hand) (λ same. omega arith)) (other (bundles-from + bundle_count start + 2) start.frames (λ j below same. omega arith))
+      (ap (at 0 (slice_set words k x)) e ∙ at-here words k x (omega arith)) (at-else words k x (index_of start places.Hand) (λ same. omega arith)) (other (bundles-from + bundle_count start + 2) start.frames (λ j below same. omega arith)) (other (bundles-from + bundle_count start + 2 + start.frames) (bundles_of start.pages) (λ j below same. omega arith))
   placed places.Hand l e =
       words-as
       (other 0 start.pages (λ j below same. omega arith)) (other start.pages start.pages (λ j below same. omega arith)) (other (2 * start.pages) start.pages (λ j below same. omega arith))
       (other (3 * start.pages) (start.size * start.frames) (λ j below same. omega arith)) (other bundles-from (bundle_count start) (λ j below same. omega arith))
-      (at-else words k x (index_of start places.Next) (λ same. omega arith)) (ap (at 0 (slice_set words k x)) e ∙ at-here words k x (omega arith)) (other (bundles-from + bundle_count start + 2) start.frames (λ j below same. omega arith))
+      (at-else words k x (index_of start places.Next) (λ same. omega arith)) (ap (at 0 (slice_set words k x)) e ∙ at-here words k x (omega arith)) (other (bundles-from + bundle_count start + 2) start.frames (λ j below same. omega arith)) (other (bundles-from + bundle_count start + 2 + start.frames) (bundles_of start.pages) (λ j below same. omega arith))
   placed (places.Owner f) l e =
       words-as
       (other 0 start.pages (λ j below same. omega arith)) (other start.pages start.pages (λ j below same. omega arith)) (other (2 * start.pages) start.pages (λ j below same. omega arith))
       (other (3 * start.pages) (start.size * start.frames) (λ j below same. omega arith)) (other bundles-from (bundle_count start) (λ j below same. omega arith))
-      (at-else words k x (index_of start places.Next) (λ same. omega arith)) (at-else words k x (index_of start places.Hand) (λ same. omega arith)) (own (bundles-from + bundle_count start + 2) start.frames f l (omega arith) (omega arith))
+      (at-else words k x (index_of start places.Next) (λ same. omega arith)) (at-else words k x (index_of start places.Hand) (λ same. omega arith)) (own (bundles-from + bundle_count start + 2) start.frames f l (omega arith) (omega arith)) (other (bundles-from + bundle_count start + 2 + start.frames) (bundles_of start.pages) (λ j below same. omega arith))
+  placed (places.Spare g) l e =
+      words-as
+      (other 0 start.pages (λ j below same. omega arith)) (other start.pages start.pages (λ j below same. omega arith)) (other (2 * start.pages) start.pages (λ j below same. omega arith))
+      (other (3 * start.pages) (start.size * start.frames) (λ j below same. omega arith)) (other bundles-from (bundle_count start) (λ j below same. omega arith))
+      (at-else words k x (index_of start places.Next) (λ same. omega arith)) (at-else words k x (index_of start places.Hand) (λ same. omega arith)) (other (bundles-from + bundle_count start + 2) start.frames (λ j below same. omega arith))
+      (own (bundles-from + bundle_count start + 2 + start.frames) (bundles_of start.pages) g l (omega arith) (omega arith))
 
 pub words-written : (start : Origin) (words : List ℕ) (w : Place) (x : ℕ) → length words ≡ width start → Within start w → table_words start (slice_set words (index_of start w) x) ≡ with_word (table_words start words) w x
 words-written start words w x wide l = placed start words x (index_of start w) wide w l refl

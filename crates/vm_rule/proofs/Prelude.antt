@@ -44,7 +44,7 @@ pub use Rattle.vm_rule.specs.{declared.view.Origin.Origin, declared.view.Out.Out
 pub use Rattle.vm_rule.specs.{declared.view.Put.Put, declared.view.Release.Release, declared.view.Shape.Shape, declared.view.Snapshot.Snapshot}
 pub use Rattle.vm_rule.specs.{declared.view.Tie.Tie, declared.view.Translation.Translation, declared.view.View.View, Hearing.follower, Joins.given_part}
 pub use Rattle.vm_rule.specs.{Joins.knows_more, Kept.IsRunKept, Kept.KeptFault, Kept.KeptFrom, Started.contents_of}
-pub use Rattle.vm_rule.specs.Prelude.{AreWhole}
+pub use Rattle.vm_rule.specs.Prelude.{AreClaimed, AreWhole, free_words}
 pub use Rattle.vm_rule.specs.Prelude.{actor_of, after_releases, Allows, any, AreApart, AreNext, ArePlain, at_next, at_state, began_of, block_words, BlocksFit}
 pub use Rattle.vm_rule.specs.Prelude.{Brings, BringsWith, brought, bundle_count, bundles_of, core_from, core_shown, CoreShape, counts_of, did_load, draft_of}
 pub use Rattle.vm_rule.specs.Prelude.{Each, entries_by, entries_under, Entry, entry_of, Event, FaultsFit, first_history, first_part, first_view, frames_below}
@@ -58,4 +58,4 @@ pub use Rattle.vm_rule.specs.Prelude.{view_from, WasNext, WasWord, WereWords, wi
 pub use Rattle.vm_rule.specs.Prelude.{world_of}
 unfoldable pub use Rattle.vm_core.specs.Prelude.{at, core_block, count_more, frame_in, full_bundle, hand_more, has_free_bit, in_mask, state_of, sum_below, upd}
 unfoldable pub use Rattle.vm_core.specs.Prelude.{version_of, word_of}
-unfoldable pub use Rattle.vm_rule.specs.Prelude.{block_of, chosen, frame_words, frames_in, histories_of, listed, logical, numbers, pages_from, part}
+unfoldable pub use Rattle.vm_rule.specs.Prelude.{block_of, chosen, frame_words, frames_in, histories_of, listed, logical, numbers, pages_from, part, with_free}

@@ -3,6 +3,11 @@
 -- where each view that came is shown to be fit.
 use mathlib.Core.Option as maybe
 use Rattle.vm_rule.proofs.{Entries.append-none, Pages.page-in, Pages.page-out, Views.at-bound, Views.at-there, Views.views-set}
+use Rattle.std.specs.Prelude.{map}
+use Rattle.vm_core.specs.Prelude.{has_free_bit}
+use Rattle.vm_numbers.specs.Hands.{NumbersFit}
+use Rattle.vm_rule.proofs.Numbered.{numbers-as}
+use Rattle.vm_rule.specs.{Reading.numbers_held, Rule.hands_of, Views.any}
 use Rattle.vm_rule.proofs.Gathering.{ReadsLess, regathered, regathered-inv, Regathers}
 use Rattle.vm_rule.proofs.Prelude.{[], ap, arith, at, began_of, block_of, Bool, cases_eq, cases_lt, chosen, core_shown, each-upd, false, FaultsFit, frames_held}
 use Rattle.vm_rule.proofs.Prelude.{fun_ext, get_elem?, has, histories_of, home, if◌then◌else◌, inl, inr, Inv, is_owed, is_pending, IsWhole, Kept, known}
@@ -80,12 +85,13 @@ module _ {X B : Type 0} (stored : B → Stored) (start : Origin) (releases : Lis
   abbrev rows : ℕ → ℕ → Seat
   rows p = (pages_from start.pages (table_words start s.words) (block_of stored s.homes s.views) (seats_of views') p).seats
 
-  pub settled-world : world_of stored start releases drafts settled ≡ regathered old k rows (frames_held views') (loads_of views')
+  pub settled-world : world_of stored start releases drafts settled ≡ regathered old k rows (frames_held views') (numbers_held views') (loads_of views')
   settled-world i = record {
     core = record (core_shown stored start s) {
       shape = record { pages = start.pages; frames = start.frames; actors = g.count i; next = start.next };
       pages = (ap (λ b. pages_from start.pages (table_words start s.words) b (seats_of views')) settled-blocks ∙ reseated start.pages (table_words start s.words) (block_of stored s.homes s.views) (seats_of s.views) (seats_of views')) i;
       held = frames_held views';
+      numbers = numbers_held views';
     };
     histories = histories_of start releases drafts;
     loads = loads_of views';
@@ -203,6 +209,11 @@ module _ {X B : Type 0} (stored : B → Stored) (keeps : Start → Kept X → Ty
       pub fit : (j : ℕ) (u : View X) → get_elem? views' j ≡ some u → IsFit u
       pub notes : (p n : ℕ) → total (λ y. times_noted p n y.notes) views' ≡ total (λ y. times_noted p n y.notes) s.views
       pub parts : (n : ℕ) → total (owns n) views' ≡ total (owns n) s.views
+      -- page numbers
+      pub numbers : start.tells ≡ true → NumbersFit (has_free_bit (core_shown stored start s).spares) (core_shown stored start s).next (λ p. (histories_of start r.releases r.drafts p).last.words)
+          (logical (histories_of start r.releases r.drafts) (is_pending s.views)) (map hands_of views')
+      pub holding : start.tells ≡ true → (p : ℕ) → any (λ y. has p y.numbers) views' ≡ any (λ y. has p y.numbers) s.views
+      pub giving : start.tells ≡ true → (p : ℕ) → any (λ y. has p y.freed) views' ≡ any (λ y. has p y.freed) s.views
       pub releases : HasSome KnowsReleases views'
       pub history : HasSome KnowsHistory views'
 
@@ -219,9 +230,11 @@ module _ {X B : Type 0} (stored : B → Stored) (keeps : Start → Kept X → Ty
             wide = r.wide;
             sized = r.sized;
             spelled = r.spelled;
-            inv = subst Inv (sym world) (regathered-inv _ k from to _ _ _ (regathers stored start r.releases r.drafts s views' k from to g) r.inv);
+            inv = subst Inv (sym world) (regathered-inv _ k from to _ _ _ _ (regathers stored start r.releases r.drafts s views' k from to g) r.inv);
             risen = r.risen;
             zero = r.zero;
+            numbers = λ t. numbers-as refl refl refl (ap (logical (histories_of start r.releases r.drafts)) (sym (fun_ext g.pending))) refl (f.numbers t);
+            spares = r.spares;
             blocks = record {
               away = λ j u o there. (f.fit j u there).away o;
               home = λ p l e. r.blocks.home p l (sym (g.out p) ∙ e);
@@ -246,6 +259,9 @@ module _ {X B : Type 0} (stored : B → Stored) (keeps : Start → Kept X → Ty
                   pages = listed start.pages (logical (histories_of start r.releases r.drafts) (λ p. sym (g.pending p) i));
                   next = (core_shown stored start s).next;
                   owed = chosen start.pages (λ p. sym (g.owed p) i);
+                  free = has_free_bit (core_shown stored start s).spares;
+                  held = λ p. sym (f.holding t p) i;
+                  freed = λ p. sym (f.giving t p) i;
                   history = r.history;
                 })
                 (r.owner t);

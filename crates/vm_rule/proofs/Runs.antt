@@ -1,5 +1,10 @@
 -- Lists of events keep the invariant, and each validated read saw one version.
-use Rattle.vm_core.specs.declared.event.Event.TheVariants.{Release}
+use Rattle.vm_core.specs.declared.event.Event.TheVariants.{PBLoad, PGive, PTake, Release}
+use Rattle.vm_laws_frame.proofs.Laws.{give_numbers_law, spare_load_law, take_numbers_law}
+use Rattle.std.proofs.lemmas.Bool.{eqb-true}
+use Rattle.vm_core.specs.Prelude.{has_free_bit}
+use Rattle.vm_laws_frame.proofs.Bits.{given-free}
+use Rattle.vm_rule.proofs.Prelude.{Bool, false, if◌then◌else◌, Legal, sym, taken-free, true≢false, ℕ, ◌<◌}
 use Rattle.vm_rule.proofs.Prelude.{[], after_event, AllLegal, AllReadOne, BLoad, bundle_load_law, cases_Bool, Claim, claim_law, Clean, clean_law, Clear}
 use Rattle.vm_rule.proofs.Prelude.{clear_law, Dirty, dirty_law, Disown, disown_law, Downgrade, downgrade_law, eqb, Event, Give, give_law, Hand, hand_law}
 use Rattle.vm_rule.proofs.Prelude.{Install, install_law, Inv, Keeps, List, Load, load_law, lock_exclusive_law, lock_exclusive_validates, lock_shared_law}
@@ -42,6 +47,9 @@ event_law w (Hand a) i m = hand_law w a i m
 event_law w (Own a p) i m = own_law w a p i m
 event_law w (Disown a p) i m = disown_law w a p i m
 event_law w (OLoad a f) i m = owner_load_law w a f i m
+event_law w (PBLoad a g) i m = spare_load_law w a g i m
+event_law w (PTake a g expects mask) i m = take_numbers_law w a g expects mask i m
+event_law w (PGive a g mask) i m = give_numbers_law w a g mask i m
 
 event-one : (w : World) (e : Event) → Validates w e
 event-one w (Look a p) t i m = look_validates w a p t i m
@@ -54,7 +62,30 @@ event-one w e t i m = tt
 -- whether the blocks tell their words is settled at the start
 same-tells : (c : State) (e : Event) → (after_event c e).tells ≡ c.tells
 same-tells c (Take a g expects mask) = ⊎_elim (λ e. rw e refl) (λ e. rw e refl) (cases_Bool (eqb (c.bundles g) expects))
+same-tells c (PTake a g expects mask) = ⊎_elim (λ e. rw e refl) (λ e. rw e refl) (cases_Bool (eqb (c.spares g) expects))
 same-tells c e = refl
+
+-- the bits of the free-number words are of pages, of so many
+abbrev ArePages : ℕ → State → Type 0
+ArePages pages c = (p : ℕ) → has_free_bit c.spares p ≡ true → p < pages
+
+either-state : (P : State → Type 0) (b : Bool) (x y : State) → (b ≡ true → P x) → P y → P (if b then x else y)
+either-state P true x y f g = f refl
+either-state P false x y f g = g
+
+-- they stay so: numbers that are taken clear bits, and those that are given are of pages
+pub spares-inside : (c : State) (e : Event) → Legal c e → ArePages c.shape.pages c → ArePages c.shape.pages (after_event c e)
+spares-inside c (Take a g expects mask) m inside = either-state (ArePages c.shape.pages) (eqb (c.bundles g) expects) _ c (λ _. inside) inside
+spares-inside c (PTake a g expects mask) m inside =
+    either-state (ArePages c.shape.pages) (eqb (c.spares g) expects) _ c
+    (λ hit p set. ⊎_elim
+    (λ gone. absurd (true≢false (sym set ∙ gone.2)))
+    (λ still. inside p (sym still.1 ∙ set))
+    (taken-free c.spares g expects mask p (eqb-true _ _ hit) m.among))
+    inside
+spares-inside c (PGive a g mask) m inside =
+    λ p set. ⊎_elim (λ given. m.inside p given.0) (λ still. inside p (sym still.1 ∙ set)) (given-free c.spares g mask p)
+spares-inside c e m inside = inside
 
 pub run_law : (w : World) (es : List Event) → Inv w → AllLegal w.core es → Inv (world_run w es)
 run_law w [] i m = i

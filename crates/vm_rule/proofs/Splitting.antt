@@ -1,4 +1,9 @@
 -- A pass is split: the table meets the rule with the view of the new pass, which has one of its fresh parts or none.
+use Rattle.std.specs.Prelude.{map}
+use Rattle.vm_numbers.specs.Hands.{Hands, no_hands}
+use Rattle.vm_numbers.proofs.Passes.{split_keeps}
+use Rattle.vm_rule.proofs.Numbered.{hands-snoc, hands-still, numbers-as}
+use Rattle.vm_rule.specs.Rule.{hands_of}
 use Rattle.vm_rule.proofs.{Entries.entries-none, Entries.none-each, Known.known-nothing, Known.known-with}
 use Rattle.vm_rule.proofs.Prelude.{[], any, ap, arith, at, at_longer, at_set, at_snoc, Bool, entries_by, Entry, eq-eqb, eqb, false, false≢true, first_part}
 use Rattle.vm_rule.proofs.Prelude.{get_elem?, given_part, giver, has, inl, inr, is_pending, Kept, KnowsLists, KnowsPages, length, length-append, length-set}
@@ -146,7 +151,7 @@ module _ {X B : Type 0} (stored : B → Stored) (keeps : Start → Kept X → Ty
           told = ((r.releases, refl), (r.history, refl, entries-none r.history), λ k e. absurd (true≢false (sym e)));
           mine = sym (none-each (given_part part v) v.seen mine.heard.0 cut).0;
           fresh = λ k e. absurd (true≢false (sym e));
-          idle = λ _ _. record { shares = λ p. refl; exclusive = λ p. refl; writing = λ p. refl; frames = refl; out = refl };
+          idle = λ _ _. record { shares = λ p. refl; exclusive = λ p. refl; writing = λ p. refl; frames = refl; numbers = (refl, refl); out = refl };
         };
         known = λ _. known-nothing tied start _ _ true v.start (given_part part v) [] v.releases v.seen;
         whole = λ _ _ current. absurd (false≢true current);
@@ -160,6 +165,11 @@ module _ {X B : Type 0} (stored : B → Stored) (keeps : Start → Kept X → Ty
         (split-at s.views id part v there j u e);
     notes = λ p n. split-total s.views id part v there (λ y. times_noted p n y.notes) (omega arith);
     parts = λ k. split-total s.views id part v there (owns k) (parts-cut part v k);
+    numbers = λ t. numbers-as refl refl refl refl
+        (ap (λ (l : List Hands). l ++ no_hands ∷ []) (sym (hands-still s.views id v (giver part v) there refl)) ∙ sym (hands-snoc (slice_set s.views id (giver part v)) (newcomer part v)))
+        (split_keeps _ _ _ _ (map hands_of s.views) (r.numbers t));
+    holding = λ t p. any-snoc (λ y. has p y.numbers) (slice_set s.views id (giver part v)) (newcomer part v) refl ∙ any-same (λ y. has p y.numbers) s.views id v (giver part v) there refl;
+    giving = λ t p. any-snoc (λ y. has p y.freed) (slice_set s.views id (giver part v)) (newcomer part v) refl ∙ any-same (λ y. has p y.freed) s.views id v (giver part v) there refl;
     releases = split-some s.views id part v there (KnowsReleases stored keeps tied start tells s r) (λ z. z) r.lists.longest_releases;
     history = split-some s.views id part v there (KnowsHistory stored keeps tied start tells s r) (λ z. z) r.lists.longest;
   }

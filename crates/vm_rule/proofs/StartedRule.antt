@@ -2,9 +2,13 @@
 -- has all parts and knows nothing yet, and the lists are empty.
 use mathlib.Core.Option as maybe
 use Rattle.vm_core.specs.Prelude.{start as start_of}
+use Rattle.vm_core.specs.Prelude.{has_free_bit}
+use Rattle.vm_numbers.specs.Hands.{all_zero, Hands, no_hands, unit_if}
+use Rattle.vm_rule.proofs.FreeWords.{free_words-bits}
+use Rattle.vm_rule.proofs.StartedWords.{started-spare}
 use Rattle.vm_rule.proofs.{Known.known-nothing, Pages.page-in, Pages.page-out, Parted.opened, Parts.listed-same, Starts.evicted-inv, Starts.start-frames}
 use Rattle.vm_rule.proofs.ListFacts.{at-any, at-map, length-mapped, listed-long}
-use Rattle.vm_rule.proofs.Prelude.{[], ap, AreWhole, arith, at, began_of, block_of, block_words, Bool, cases_Bool, cases_lt, chosen, cond, contents_of, core_shown}
+use Rattle.vm_rule.proofs.Prelude.{[], ap, AreClaimed, AreWhole, arith, at, began_of, block_of, block_words, Bool, cases_Bool, cases_lt, chosen, cond, contents_of, core_shown}
 use Rattle.vm_rule.proofs.Prelude.{CoreStart, counts_of, EVICTED, evicted_page, false, first_view, FrameIsAt, Free, fun_ext, get_elem?, has, has_free_bit}
 use Rattle.vm_rule.proofs.Prelude.{histories_of, home, if◌then◌else◌, inl, inr, Inv, is_owed, is_pending, IsSome, IsStarted, IsWhole, Kept, known, KnowsLists}
 use Rattle.vm_rule.proofs.Prelude.{KnowsPages, le-ltb, length, length-replicate, List, loads_at, logical, lt-ltb, ltb, map, mapping_of, MAX_COUNT, MayBegin}
@@ -40,15 +44,15 @@ only-one x zero y e = (refl, sym (some-injective x y e))
 only-one x (suc j) y e = absurd (maybe.some-ne-none y (sym e))
 
 module _ (X : Type 0) {B : Type 0} (stored : B → Stored) (size : ℕ) (tells : Bool)
-    (version next frames : ℕ) (items : List B) (whole : tells ≡ true → AreWhole size (map stored items)) (ok : IsStarted version next frames (length items)) where
+    (version next : ℕ) (free : List ℕ) (frames : ℕ) (items : List B) (whole : tells ≡ true → AreWhole size (map stored items)) (ok : IsStarted version next frames (length items)) where
   abbrev blocks : List Stored
   blocks = map stored items
 
   abbrev start : Origin
-  start = started_origin size tells version next frames blocks
+  start = started_origin size tells version next free frames blocks
 
   abbrev words : List ℕ
-  words = started_words size (length blocks) frames version next (counts_of blocks)
+  words = started_words size (length blocks) frames version next free (counts_of blocks)
 
   abbrev table : Table (Option B) (View X)
   table = opening words (map Some items) (first_view start)
@@ -64,10 +68,10 @@ module _ (X : Type 0) {B : Type 0} (stored : B → Stored) (size : ℕ) (tells :
   page-evicted p l =
       page-in (length blocks) (table_words start words) (block_of stored table.homes table.views) (seats_of table.views) p l
       ∙ (λ i. record {
-        state = (ap state_of (started-state size tells version next frames blocks p l) ∙ word-state EVICTED version ok.in_range) i;
-        version = (ap version_of (started-state size tells version next frames blocks p l) ∙ word-version EVICTED version ok.in_range) i;
-        trans = (ap mapping_of (started-translation size tells version next frames blocks p l) ∙ mapping-none) i;
-        fault = started-fault size tells version next frames blocks no_block p l i;
+        state = (ap state_of (started-state size tells version next free frames blocks p l) ∙ word-state EVICTED version ok.in_range) i;
+        version = (ap version_of (started-state size tells version next free frames blocks p l) ∙ word-version EVICTED version ok.in_range) i;
+        trans = (ap mapping_of (started-translation size tells version next free frames blocks p l) ∙ mapping-none) i;
+        fault = started-fault size tells version next free frames blocks no_block p l i;
         count = (first-block p l i).count;
         block = (first-block p l i).words;
         seats = λ a. lone {X = X} (λ y. seat_of y p) start refl a i;
@@ -112,7 +116,7 @@ module _ (X : Type 0) {B : Type 0} (stored : B → Stored) (size : ℕ) (tells :
       record {
         inside = s.inside;
         outside = s.outside;
-        free = ap (λ b. has_free_bit b f) (fun_ext (started-bundle size tells version next frames blocks)) ∙ s.free;
+        free = ap (λ b. has_free_bit b f) (fun_ext (started-bundle size tells version next free frames blocks)) ∙ s.free;
         holds = λ a. lone {X = X} (λ y. has f y.frames) start refl a ∙ s.holds a;
         mapped = λ p. ap (λ t. stands_in t f) (empty p) ∙ s.mapped p;
       }
@@ -121,11 +125,11 @@ module _ (X : Type 0) {B : Type 0} (stored : B → Stored) (size : ℕ) (tells :
   started-inv = record {
     place = λ f. cond (ltb f frames) Free Nowhere;
     frames = frame-free;
-    words = λ f. ap length (started-frame size tells version next frames blocks f) ∙ length-replicate {A = ℕ} size 0;
-    next = (let is : (table_words start words).next ≡ next = started-next size tells version next frames blocks in let le : next ≤ length items = ok.claimed in omega (arith, is, le, many));
+    words = λ f. ap length (started-frame size tells version next free frames blocks f) ∙ length-replicate {A = ℕ} size 0;
+    next = (let is : (table_words start words).next ≡ next = started-next size tells version next free frames blocks in let le : next ≤ length items = ok.claimed in omega (arith, is, le, many));
     pages = λ p. subst (PageInv 1 size tells (core_shown stored start table).words ((core_shown stored start table).pages p) (histories_of start [] (λ q. []) p)) (sym (fun_ext (lone {X = X} (λ y. loads_at y p) start refl))) (page-inv p);
     owners = record {
-      named = λ f p e. let none : (table_words start words).owners f ≡ 0 = started-owner size tells version next frames blocks f in absurd (omega (arith, none, e));
+      named = λ f p e. let none : (table_words start words).owners f ≡ 0 = started-owner size tells version next free frames blocks f in absurd (omega (arith, none, e));
       owned = λ p free m at. absurd (none-some m (sym (empty p) ∙ at));
     };
   }
@@ -133,18 +137,18 @@ module _ (X : Type 0) {B : Type 0} (stored : B → Stored) (size : ℕ) (tells :
   -- ---- the rule
 
   module _ (keeps : Start → Kept X → Type 0) (tied : Start → ℕ → List ℕ → ℕ → List ℕ → Type 0) (bounded : (b : B) → (stored b).count ≤ (stored b).bound) (capped : (b : B) → (stored b).bound ≤ 2 ^ 64 - 1)
-      (may : tells ≡ true → MayBegin keeps next (block_words blocks)) where
+      (claimed : AreClaimed next free) (may : tells ≡ true → MayBegin keeps next free (block_words blocks)) where
     abbrev shape : Shape
-    shape = started_shape size tells version next frames blocks
+    shape = started_shape size tells version next free frames blocks
 
     abbrev c : State
     c = core_shown stored start table
 
     next-is : c.next ≡ next
-    next-is = started-next size tells version next frames blocks
+    next-is = started-next size tells version next free frames blocks
 
-    begins : tells ≡ true → MayBegin keeps next start.contents
-    begins t = subst (MayBegin keeps next) (sym (ap (λ y. contents_of size y blocks) t)) (may t)
+    begins : tells ≡ true → MayBegin keeps next free start.contents
+    begins t = subst (MayBegin keeps next free) (sym (ap (λ y. contents_of size y blocks) t)) (may t)
 
     many-contents : length start.contents ≡ length blocks
     many-contents = length-mapped (λ (b : Stored). if tells then b.words else replicate size 0) blocks
@@ -167,6 +171,41 @@ module _ (X : Type 0) {B : Type 0} (stored : B → Stored) (size : ℕ) (tells :
         (λ le. rw (page-out start.pages (table_words start words) (block_of stored table.homes table.views) (seats_of table.views) p le) (omega arith, omega arith))
         (cases_lt p start.pages)
 
+    -- the numbers that are free are those handed in, of pages; no pass has one
+    of-pages : (p : ℕ) → has p free ≡ true → p < length blocks
+    of-pages p e = let low : p < next = claimed p e in let le : next ≤ length items = ok.claimed in omega (arith, low, le, many)
+
+    spares-are : (p : ℕ) → has_free_bit c.spares p ≡ has p free
+    spares-are p = ap (λ w. has_free_bit w p) (fun_ext (started-spare size tells version next free frames blocks of-pages)) ∙ free_words-bits free p
+
+    set-there : (p : ℕ) → has_free_bit c.spares p ≡ true → has p free ≡ true
+    set-there p e = sym (spares-are p) ∙ e
+
+    -- their pages are zero
+    spare-zero : tells ≡ true → (p : ℕ) → has_free_bit c.spares p ≡ true → all_zero (histories_of start [] (λ q. []) p).last.words ≡ true
+    unfolding at
+    spare-zero t p e =
+        let low : p < length blocks = of-pages p (set-there p e) in
+        ap all_zero (last-words p low ∙ at-any (replicate size 0) [] start.contents p (omega (arith, many-contents, low))) ∙ (begins t).spare p (set-there p e)
+
+    few-set : (p : ℕ) → unit_if (has_free_bit c.spares p) ≤ 1
+    few-set p =
+        ⊎_elim
+        (λ t. let one : unit_if (has_free_bit c.spares p) ≡ 1 = ap unit_if t in omega (arith, one))
+        (λ f. let none : unit_if (has_free_bit c.spares p) ≡ 0 = ap unit_if f in omega (arith, none))
+        (cases_Bool (has_free_bit c.spares p))
+
+    some-set : (p : ℕ) → 1 ≤ unit_if (has_free_bit c.spares p) → has_free_bit c.spares p ≡ true
+    some-set p some' =
+        ⊎_elim
+        (λ t. t)
+        (λ f. absurd (let none : unit_if (has_free_bit c.spares p) ≡ 0 = ap unit_if f in omega (arith, none, some')))
+        (cases_Bool (has_free_bit c.spares p))
+
+    only-none : (j : ℕ) (h : Hands) → get_elem? (no_hands ∷ []) j ≡ some h → h ≡ no_hands
+    only-none zero h e = sym (maybe.some-injective no_hands h e)
+    only-none (suc j) h e = absurd (maybe.some-ne-none h (sym e))
+
     first-ruled : Ruled stored keeps tied start tells table
     unfolding at logical
     first-ruled = record {
@@ -174,14 +213,22 @@ module _ (X : Type 0) {B : Type 0} (stored : B → Stored) (size : ℕ) (tells :
       history = [];
       drafts = λ p. [];
       telling = refl;
-      wide = (started-wide size tells version next frames blocks, length-mapped maybe.some (map Some items) ∙ length-mapped Some items ∙ many);
+      wide = (started-wide size tells version next free frames blocks, length-mapped maybe.some (map Some items) ∙ length-mapped Some items ∙ many);
       sized = (many-contents, length-mapped (λ (b : Stored). b.bound) blocks);
-      spelled = λ p l. let is = started-translation size tells version next frames blocks p l in is ∙ sym (ap (λ w. trans_word (mapping_of w)) is ∙ ap trans_word mapping-none);
+      spelled = λ p l. let is = started-translation size tells version next free frames blocks p l in is ∙ sym (ap (λ w. trans_word (mapping_of w)) is ∙ ap trans_word mapping-none);
       inv = started-inv;
       risen = omega (arith, next-is);
       zero = λ t p le l.
           let any = at-any (replicate size 0) [] start.contents p (omega (arith, many-contents, l)) in
           last-words p l ∙ any ∙ (begins t).zero p (omega (arith, next-is, le)) (omega (arith, many-contents, l)) ∙ ap (λ n. replicate n 0) (ap length (sym any) ∙ contents-long p l);
+      numbers = λ t. record {
+        once = λ p. let few = few-set p in omega (arith, few);
+        below = λ p e. let low : p < next = claimed p (set-there p (some-set p (omega (arith, e)))) in omega (arith, low, next-is);
+        free = λ p e. (spare-zero t p e, spare-zero t p e);
+        held = λ j h at p e. absurd (true≢false (sym e ∙ ap (λ (y : Hands). has p y.numbers) (only-none j h at)));
+        freed = λ j h at p e. absurd (true≢false (sym e ∙ ap (λ (y : Hands). has p y.freed) (only-none j h at)));
+      };
+      spares = λ p e. of-pages p (set-there p e);
       blocks = record {
         away = λ j v o there e. absurd (let none : None ≡ Some o = only (λ y. None ≡ y.out) refl j v there ∙ e in cc);
         home = λ p l _. subst IsSome (sym (item-there stored items p l).2) refl;
@@ -214,6 +261,9 @@ module _ (X : Type 0) {B : Type 0} (stored : B → Stored) (size : ℕ) (tells :
             pages = (listed-same start.pages (logical (histories_of start [] (λ p. [])) (is_pending table.views)) (at (replicate size 0) start.contents) last-words ∙ listed-long (replicate size 0) start.pages start.contents many-contents) i;
             next = next-is i;
             owed = chosen-none start.pages (is_owed table.views) (λ p. refl) i;
+            free = fun_ext spares-are i;
+            held = λ p. false;
+            freed = λ p. false;
             history = [];
           }))
           (begins t).kept;
@@ -232,12 +282,12 @@ module _ (X : Type 0) {B : Type 0} (stored : B → Stored) (size : ℕ) (tells :
     -- the table meets its rule when it is made with the shape, the words and the slots that were made of these blocks; these are as many as the
     -- shape says
     pub opens : (xs ys : List B) → xs ≡ items → ys ≡ items → (shape' : Shape) (row : List ℕ) (slots : List (Option B))
-        → shape' ≡ record { size = size; pages = length xs; frames = frames; version = version; next = next; began = (started_shape size tells version next frames (map stored xs)).began }
-        → row ≡ started_words size (length ys) frames version next (counts_of (map stored ys)) → slots ≡ map Some items
+        → shape' ≡ record { size = size; pages = length xs; frames = frames; version = version; next = next; began = (started_shape size tells version next free frames (map stored xs)).began }
+        → row ≡ started_words size (length ys) frames version next free (counts_of (map stored ys)) → slots ≡ map Some items
         → Stands stored keeps tied shape' tells (opening row slots (unborn shape')) × ((length row ≡ width_of shape'.size shape'.pages shape'.frames) × (length slots ≡ shape'.pages))
     opens xs ys same same' shape' row slots e f h =
         subst₃ (λ (y : Shape) (l : List ℕ) (m : List (Option B)). Stands stored keeps tied y tells (opening l m (unborn y)) × ((length l ≡ width_of y.size y.pages y.frames) × (length m ≡ y.pages)))
-        (sym (e ∙ (λ i. record { size = size; pages = sym (length-mapped stored xs) i; frames = frames; version = version; next = next; began = (started_shape size tells version next frames (map stored xs)).began }) ∙ ap (λ l. started_shape size tells version next frames (map stored l)) same))
-        (sym (f ∙ ap (λ n. started_words size n frames version next (counts_of (map stored ys))) (sym (length-mapped stored ys)) ∙ ap (λ l. started_words size (length (map stored l)) frames version next (counts_of (map stored l))) same'))
+        (sym (e ∙ (λ i. record { size = size; pages = sym (length-mapped stored xs) i; frames = frames; version = version; next = next; began = (started_shape size tells version next free frames (map stored xs)).began }) ∙ ap (λ l. started_shape size tells version next free frames (map stored l)) same))
+        (sym (f ∙ ap (λ n. started_words size n frames version next free (counts_of (map stored ys))) (sym (length-mapped stored ys)) ∙ ap (λ l. started_words size (length (map stored l)) frames version next free (counts_of (map stored l))) same'))
         (sym h)
-        (first-stands, (started-wide size tells version next frames blocks, length-mapped Some items ∙ many))
+        (first-stands, (started-wide size tells version next free frames blocks, length-mapped Some items ∙ many))

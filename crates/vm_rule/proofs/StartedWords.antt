@@ -1,14 +1,21 @@
 -- The words with which a pool's table opens, laid one part after another, read by the layout.
+use Rattle.vm_rule.proofs.FreeWords.{with_free-other}
 use Rattle.vm_rule.proofs.ListFacts.{at-left, at-listed, at-map, at-past, at-right, at-zeros, length-listed, length-mapped}
 use Rattle.vm_rule.proofs.Parts.{listed-same}
-use Rattle.vm_rule.proofs.Prelude.{[], ap, append-nil, append_assoc, arith, at, Bool, bundles_of, cases_lt, counts_of, EVICTED, frame_words, full_bundle}
+use Rattle.vm_rule.proofs.Prelude.{[], ap, append-nil, append_assoc, arith, AreClaimed, at, Bool, bundles_of, cases_lt, counts_of, EVICTED, frame_words, free_words, full_bundle}
 use Rattle.vm_rule.proofs.Prelude.{le-ltb, length, length-append, List, listed, lt-ltb, min, Origin, part, refl, replicate, started_origin, started_words}
 use Rattle.vm_rule.proofs.Prelude.{Stored, suc, sym, table_words, width, word_of, zero, ℕ, ⊎_elim, ◌*◌, ◌++◌, ◌+◌, ◌-◌, ◌<◌, ◌^◌, ◌∙◌, ◌∷◌, ◌≡◌}
 
 -- the parts are pushed one after another
-pub pushed-parts : (states translations faults contents bundles : List ℕ) (next hand : ℕ) (owners w0 w1 w2 w3 w4 w5 w6 w7 w8 : List ℕ) → w0 ≡ [] → w1 ≡ w0 ++ states → w2 ≡ w1 ++ translations → w3 ≡ w2 ++ faults → w4 ≡ w3 ++ contents → w5 ≡ w4 ++ bundles → w6 ≡ w5 ++ next ∷ [] → w7 ≡ w6 ++ hand ∷ [] → w8 ≡ w7 ++ owners
-    → w8 ≡ states ++ (translations ++ (faults ++ (contents ++ (bundles ++ (next ∷ (hand ∷ owners))))))
-pushed-parts a b c d e x y o w0 w1 w2 w3 w4 w5 w6 w7 w8 e0 e1 e2 e3 e4 e5 e6 e7 e8 = e8 ∙ rw (e7, e6, e5, e4, e3, e2, e1, e0) (simp append_assoc)
+pub pushed-parts : (states translations faults contents bundles : List ℕ) (next hand : ℕ) (owners spares w0 w1 w2 w3 w4 w5 w6 w7 w8 w9 : List ℕ) → w0 ≡ [] → w1 ≡ w0 ++ states → w2 ≡ w1 ++ translations → w3 ≡ w2 ++ faults → w4 ≡ w3 ++ contents → w5 ≡ w4 ++ bundles → w6 ≡ w5 ++ next ∷ [] → w7 ≡ w6 ++ hand ∷ [] → w8 ≡ w7 ++ owners → w9 ≡ w8 ++ spares
+    → w9 ≡ states ++ (translations ++ (faults ++ (contents ++ (bundles ++ (next ∷ (hand ∷ (owners ++ spares)))))))
+pushed-parts a b c d e x y o n w0 w1 w2 w3 w4 w5 w6 w7 w8 w9 e0 e1 e2 e3 e4 e5 e6 e7 e8 e9 = e9 ∙ rw (e8, e7, e6, e5, e4, e3, e2, e1, e0) (simp append_assoc)
+
+-- the same, where the last of them are as many as another number says
+pub pushed-many : (states translations faults contents bundles : List ℕ) (next hand : ℕ) (owners : List ℕ) (f : ℕ → ℕ) (n m : ℕ) (w0 w1 w2 w3 w4 w5 w6 w7 w8 w9 : List ℕ) → n ≡ m → w0 ≡ [] → w1 ≡ w0 ++ states → w2 ≡ w1 ++ translations → w3 ≡ w2 ++ faults → w4 ≡ w3 ++ contents → w5 ≡ w4 ++ bundles → w6 ≡ w5 ++ next ∷ [] → w7 ≡ w6 ++ hand ∷ [] → w8 ≡ w7 ++ owners → w9 ≡ w8 ++ listed n f
+    → w9 ≡ states ++ (translations ++ (faults ++ (contents ++ (bundles ++ (next ∷ (hand ∷ (owners ++ listed m f)))))))
+pushed-many a b c d e x y o f n m w0 w1 w2 w3 w4 w5 w6 w7 w8 w9 same e0 e1 e2 e3 e4 e5 e6 e7 e8 e9 =
+    pushed-parts a b c d e x y o (listed m f) w0 w1 w2 w3 w4 w5 w6 w7 w8 w9 e0 e1 e2 e3 e4 e5 e6 e7 e8 (e9 ∙ ap (λ k. w8 ++ listed k f) same)
 
 -- rows laid one after another, and how long they are together
 abbrev laid : List (List ℕ) → List ℕ
@@ -43,12 +50,12 @@ unfolding listed
 listed-zeros zero = refl
 listed-zeros (suc n) = ap (λ (l : List ℕ). 0 ∷ l) (listed-zeros n)
 
-module _ (size : ℕ) (tells : Bool) (version next frames : ℕ) (blocks : List Stored) where
+module _ (size : ℕ) (tells : Bool) (version next : ℕ) (free : List ℕ) (frames : ℕ) (blocks : List Stored) where
   abbrev start : Origin
-  start = started_origin size tells version next frames blocks
+  start = started_origin size tells version next free frames blocks
 
   abbrev words : List ℕ
-  words = started_words size (length blocks) frames version next (counts_of blocks)
+  words = started_words size (length blocks) frames version next free (counts_of blocks)
 
   -- ---- the rows
 
@@ -62,13 +69,16 @@ module _ (size : ℕ) (tells : Bool) (version next frames : ℕ) (blocks : List 
   abbrev bundles : List ℕ
   bundles = listed (bundles_of frames) (full_bundle frames)
 
+  abbrev spares : List ℕ
+  spares = listed (bundles_of (length blocks)) (free_words free)
+
   abbrev rows : List (List ℕ)
-  rows = states ∷ blank (length blocks) ∷ counts_of blocks ∷ blank (size * frames) ∷ bundles ∷ (next ∷ 0 ∷ []) ∷ blank frames ∷ []
+  rows = states ∷ blank (length blocks) ∷ counts_of blocks ∷ blank (size * frames) ∷ bundles ∷ (next ∷ 0 ∷ []) ∷ blank frames ∷ spares ∷ []
 
   words-laid : words ≡ laid rows
-  words-laid = ap (λ (l : List ℕ). states ++ (blank (length blocks) ++ (counts_of blocks ++ (blank (size * frames) ++ (bundles ++ (next ∷ 0 ∷ l)))))) (sym (append-nil (blank frames)))
+  words-laid = ap (λ (l : List ℕ). states ++ (blank (length blocks) ++ (counts_of blocks ++ (blank (size * frames) ++ (bundles ++ (next ∷ 0 ∷ (blank frames ++ l))))))) (sym (append-nil spares))
 
-  long : (length states ≡ length blocks) × (length (blank (length blocks)) ≡ length blocks) × (length (counts_of blocks) ≡ length blocks) × (length (blank (size * frames)) ≡ size * frames) × (length bundles ≡ bundles_of frames) × (length (blank frames) ≡ frames)
+  long : (length states ≡ length blocks) × (length (blank (length blocks)) ≡ length blocks) × (length (counts_of blocks) ≡ length blocks) × (length (blank (size * frames)) ≡ size * frames) × (length bundles ≡ bundles_of frames) × (length (blank frames) ≡ frames) × (length spares ≡ bundles_of (length blocks))
   long = (
     length-listed (length blocks) (λ p. word_of EVICTED version),
     length-listed {A = ℕ} (length blocks) (λ p. 0),
@@ -76,12 +86,13 @@ module _ (size : ℕ) (tells : Bool) (version next frames : ℕ) (blocks : List 
     length-listed {A = ℕ} (size * frames) (λ i. 0),
     length-listed (bundles_of frames) (full_bundle frames),
     length-listed {A = ℕ} frames (λ f. 0),
+    length-listed (bundles_of (length blocks)) (free_words free),
   )
 
   -- ---- the words
 
   pub started-wide : length words ≡ width start
-  started-wide = let all : length words ≡ long_of rows = ap length words-laid ∙ length-laid rows in omega (arith, all, long.0, long.1, long.2, long.3, long.4, long.5)
+  started-wide = let all : length words ≡ long_of rows = ap length words-laid ∙ length-laid rows in omega (arith, all, long.0, long.1, long.2, long.3, long.4, long.5, long.6)
 
   pub started-state : (p : ℕ) → p < length blocks → (table_words start words).states p ≡ word_of EVICTED version
   started-state p l =
@@ -122,8 +133,18 @@ module _ (size : ℕ) (tells : Bool) (version next frames : ℕ) (blocks : List 
       (omega (arith, long.0, long.1, long.2, long.3, long.4)) long.5 f
       ∙ at-zeros frames f
 
+  pub started-spare : AreClaimed (length blocks) free → (g : ℕ) → (table_words start words).spares g ≡ free_words free g
+  started-spare claimed g =
+      part-laid words rows _ (states ∷ blank (length blocks) ∷ counts_of blocks ∷ blank (size * frames) ∷ bundles ∷ (next ∷ 0 ∷ []) ∷ blank frames ∷ []) spares (3 * length blocks + size * frames + bundles_of frames + 2 + frames) (bundles_of (length blocks)) words-laid refl
+      (omega (arith, long.0, long.1, long.2, long.3, long.4, long.5)) long.6 g
+      ∙ ⊎_elim
+      (λ l. at-listed 0 (bundles_of (length blocks)) (free_words free) g l)
+      -- past the last page a word has no bit
+      (λ le. at-past 0 spares g (omega (arith, long.6, le)) ∙ sym (with_free-other (λ g. 0) free g (λ p e same. let low : p < length blocks = claimed p e in absurd (omega (arith, low, same, le)))))
+      (cases_lt g (bundles_of (length blocks)))
+
   pub started-next : (table_words start words).next ≡ next
   unfolding at
   started-next =
       ap (λ l. at 0 l (3 * length blocks + size * frames + bundles_of frames)) words-laid
-      ∙ past-laid (states ∷ blank (length blocks) ∷ counts_of blocks ∷ blank (size * frames) ∷ bundles ∷ []) ((next ∷ 0 ∷ []) ∷ blank frames ∷ []) (3 * length blocks + size * frames + bundles_of frames) 0 (omega (arith, long.0, long.1, long.2, long.3, long.4))
+      ∙ past-laid (states ∷ blank (length blocks) ∷ counts_of blocks ∷ blank (size * frames) ∷ bundles ∷ []) ((next ∷ 0 ∷ []) ∷ blank frames ∷ spares ∷ []) (3 * length blocks + size * frames + bundles_of frames) 0 (omega (arith, long.0, long.1, long.2, long.3, long.4))

@@ -4,7 +4,12 @@ use Rattle.vm_core.specs.{declared.event.Event.TheVariants.Release, History.stor
 use Rattle.vm_rule.specs.declared.view.Place.TheVariants as places
 use Rattle.vm_rule.specs.declared.view.Release.{Release as Released}
 use Rattle.vm_rule.proofs.{Found.content-here, Found.loads-here, Found.seat-here, Found.seats-here, Parts.upd-is, Views.block-same}
-use Rattle.vm_rule.proofs.Cores.{core-seat, core-state, core-step, core-word, held-still, loads-put, loads-still, seats-put, seats-still}
+use Rattle.vm_core.specs.Step.{keeps_number, number_left}
+use Rattle.vm_owner.specs.Numbers.{has}
+use Rattle.vm_rule.specs.Reading.{holdings, numbers_held}
+use Rattle.vm_rule.proofs.Views.{at-there}
+use Rattle.vm_rule.proofs.Prelude.{cases_eq, fun_ext, spent, ◌==◌}
+use Rattle.vm_rule.proofs.Cores.{core-seat, core-state, core-step, core-word, held-still, loads-put, loads-still, numbers-put, numbers-still, seats-put, seats-still}
 use Rattle.vm_rule.proofs.Prelude.{[], after_releases, ap, appended, at_page, block_of, Bool, cases_Bool, core_from, core_shown, Downgrade, drafted, eqb}
 use Rattle.vm_rule.proofs.Prelude.{EVICTED, false, finds, first_history, found, framed, frames_held, get_elem?, histories_of, History, if◌then◌else◌, index_of}
 use Rattle.vm_rule.proofs.Prelude.{Inv, kept_loads, last_in, left_of, length, length-set, List, Load, load_frame, loads_at, loads_more, loads_of, LOCKED, LockS}
@@ -134,18 +139,18 @@ module _ {X B : Type 0} (stored : B → Stored) (start : Origin) where
   stayed s id w = record { words = s.words; homes = s.homes; views = slice_set s.views id w }
 
   -- a view that tells the same, and no word
-  pub core-still : (s : Table (Option B) (View X)) (id : ℕ) (v w : View X) → get_elem? s.views id ≡ some v → w.out ≡ v.out → w.frames ≡ v.frames → w.seats ≡ v.seats
+  pub core-still : (s : Table (Option B) (View X)) (id : ℕ) (v w : View X) → get_elem? s.views id ≡ some v → w.out ≡ v.out → holdings w ≡ holdings v → w.seats ≡ v.seats
       → core_shown stored start (stayed s id w) ≡ core_shown stored start s
   core-still s id v w there out frames seats i =
-      core_from start (length-set s.views id w i) (table_words start s.words) (block-same stored s.homes s.views id v w there out i) (seats-still s.views id v w there seats i) (held-still s.views id v w there frames i)
+      core_from start (length-set s.views id w i) (table_words start s.words) (block-same stored s.homes s.views id v w there out i) (seats-still s.views id v w there seats i) (held-still s.views id v w there (ap (λ (h : List ℕ × List ℕ). h.0) frames) i) (numbers-still s.views id v w there (ap (λ (h : List ℕ × List ℕ). h.1) frames) i)
 
   -- a word is stored into a frame; which drafts it changes is the event's
   pub store-core : (s : Table (Option B) (View X)) (id : ℕ) (v w : View X) (f i x : ℕ) → length s.words ≡ width start → f < start.frames → i < start.size → get_elem? s.views id ≡ some v
-      → w.out ≡ v.out → w.frames ≡ v.frames → w.seats ≡ v.seats
+      → w.out ≡ v.out → holdings w ≡ holdings v → w.seats ≡ v.seats
       → core_shown stored start (wrote s id (places.Content f i) x w) ≡ stored_at (core_shown stored start s) f i x
   store-core s id v w f i x wide lf li there out frames seats =
-      core-step stored start s id v w (places.Content f i) x wide (lf, li) there out _ _ (seats-still s.views id v w there seats) (held-still s.views id v w there frames)
-      ∙ core-word start (length s.views) (table_words start s.words) (block_of stored s.homes s.views) (seats_of s.views) (frames_held s.views) f i x li
+      core-step stored start s id v w (places.Content f i) x wide (lf, li) there out _ _ _ (seats-still s.views id v w there seats) (held-still s.views id v w there (ap (λ (h : List ℕ × List ℕ). h.0) frames)) (numbers-still s.views id v w there (ap (λ (h : List ℕ × List ℕ). h.1) frames))
+      ∙ core-word start (length s.views) (table_words start s.words) (block_of stored s.homes s.views) (seats_of s.views) (frames_held s.views) (numbers_held s.views) f i x li
 
   module _ (s : Table (Option B) (View X)) (releases : List Released) (drafts : ℕ → List ℕ) (id : ℕ) (v w : View X) where
     abbrev c : State
@@ -160,7 +165,7 @@ module _ {X B : Type 0} (stored : B → Stored) (start : Origin) where
     abbrev histories : ℕ → History
     histories = histories_of start releases drafts
 
-    pub world-still : get_elem? s.views id ≡ some v → w.out ≡ v.out → w.frames ≡ v.frames → w.seats ≡ v.seats → w.loads ≡ v.loads → world_of stored start releases drafts (stayed s id w) ≡ old
+    pub world-still : get_elem? s.views id ≡ some v → w.out ≡ v.out → holdings w ≡ holdings v → w.seats ≡ v.seats → w.loads ≡ v.loads → world_of stored start releases drafts (stayed s id w) ≡ old
     world-still there out frames seats loads = worlds-same (core-still s id v w there out frames seats) refl (loads-still s.views id v w there loads)
 
     -- what the pass has of page p becomes g of it
@@ -168,27 +173,34 @@ module _ {X B : Type 0} (stored : B → Stored) (start : Origin) where
     row-moved p g l there i = upd (sym (seats-here stored start s p l) i) id (g (sym (seat-here stored start s id p v l there) i))
 
     -- the core that is read where that changes, and no word
-    seat-step : (p : ℕ) (g : Seat → Seat) → p < start.pages → get_elem? s.views id ≡ some v → w.out ≡ v.out → w.frames ≡ v.frames → w.seats ≡ put p (g (seat_of v p)) v.seats
+    seat-step : (p : ℕ) (g : Seat → Seat) → p < start.pages → get_elem? s.views id ≡ some v → w.out ≡ v.out → holdings w ≡ holdings v → w.seats ≡ put p (g (seat_of v p)) v.seats
         → core_shown stored start (stayed s id w) ≡ on_page c p (seated (page p) id (g ((page p).seats id)))
     seat-step p g l there out frames seats =
-        (λ i. core_from start (length-set s.views id w i) (table_words start s.words) (block-same stored s.homes s.views id v w there out i) (seats-put s.views id p v w (g (seat_of v p)) there seats i) (held-still s.views id v w there frames i))
-        ∙ core-seat start (length s.views) (table_words start s.words) (block_of stored s.homes s.views) (seats_of s.views) (frames_held s.views) p (upd (seats_of s.views p) id (g (seat_of v p))) l
+        (λ i. core_from start (length-set s.views id w i) (table_words start s.words) (block-same stored s.homes s.views id v w there out i) (seats-put s.views id p v w (g (seat_of v p)) there seats i) (held-still s.views id v w there (ap (λ (h : List ℕ × List ℕ). h.0) frames) i) (numbers-still s.views id v w there (ap (λ (h : List ℕ × List ℕ). h.1) frames) i))
+        ∙ core-seat start (length s.views) (table_words start s.words) (block_of stored s.homes s.views) (seats_of s.views) (frames_held s.views) (numbers_held s.views) p (upd (seats_of s.views p) id (g (seat_of v p))) l
         ∙ (λ i. on_page c p (record (page p) { seats = row-moved p g l there i }))
 
-    -- and where a state word is written
-    state-step : (p x state version : ℕ) (row row' : ℕ → Seat) → length s.words ≡ width start → p < start.pages → get_elem? s.views id ≡ some v → w.out ≡ v.out → w.frames ≡ v.frames
+    -- and where a state word is written; the pass may hold other page numbers then
+    state-moved : (p x state version : ℕ) (row row' : ℕ → Seat) (numbers' : ℕ → ℕ → Bool) → length s.words ≡ width start → p < start.pages → get_elem? s.views id ≡ some v → w.out ≡ v.out → w.frames ≡ v.frames
+        → numbers_held (slice_set s.views id w) ≡ numbers'
+        → seats_of (slice_set s.views id w) ≡ upd (seats_of s.views) p row → row ≡ row' → state_of x ≡ state → version_of x ≡ version
+        → core_shown stored start (wrote s id (places.State p) x w) ≡ record (on_page c p (record (page p) { state = state; version = version; seats = row' })) { numbers = numbers' }
+    state-moved p x state version row row' numbers' wide l there out frames numbers seats moved is keeps =
+        core-step stored start s id v w (places.State p) x wide l there out _ _ _ seats (held-still s.views id v w there frames) numbers
+        ∙ core-state start (length s.views) (table_words start s.words) (block_of stored s.homes s.views) (seats_of s.views) (frames_held s.views) numbers' p x row l
+        ∙ (λ i. record (on_page c p (record (page p) { state = is i; version = keeps i; seats = moved i })) { numbers = numbers' })
+
+    state-step : (p x state version : ℕ) (row row' : ℕ → Seat) → length s.words ≡ width start → p < start.pages → get_elem? s.views id ≡ some v → w.out ≡ v.out → holdings w ≡ holdings v
         → seats_of (slice_set s.views id w) ≡ upd (seats_of s.views) p row → row ≡ row' → state_of x ≡ state → version_of x ≡ version
         → core_shown stored start (wrote s id (places.State p) x w) ≡ on_page c p (record (page p) { state = state; version = version; seats = row' })
     state-step p x state version row row' wide l there out frames seats moved is keeps =
-        core-step stored start s id v w (places.State p) x wide l there out _ _ seats (held-still s.views id v w there frames)
-        ∙ core-state start (length s.views) (table_words start s.words) (block_of stored s.homes s.views) (seats_of s.views) (frames_held s.views) p x row l
-        ∙ (λ i. on_page c p (record (page p) { state = is i; version = keeps i; seats = moved i }))
+        state-moved p x state version row row' (numbers_held s.views) wide l there out (ap (λ (h : List ℕ × List ℕ). h.0) frames) (numbers-still s.views id v w there (ap (λ (h : List ℕ × List ℕ). h.1) frames)) seats moved is keeps
 
     -- ---- loads
 
     -- a look; y is any page with the state and the version of the page
     pub look-step : (p : ℕ) (y : Page) → p < start.pages → get_elem? s.views id ≡ some v
-        → w.out ≡ v.out → w.frames ≡ v.frames → y.state ≡ (page p).state → y.version ≡ (page p).version
+        → w.out ≡ v.out → holdings w ≡ holdings v → y.state ≡ (page p).state → y.version ≡ (page p).version
         → w.seats ≡ put p (record (seat_of v p) { reading = open_after (left_of y (seat_of v p).reading) (seat_of v p).reading y.version }) v.seats
         → w.loads ≡ put p (kept_loads (left_of y (seat_of v p).reading) (loads_at v p)) v.loads
         → world_of stored start releases drafts (stayed s id w) ≡ world_after old (Look id p)
@@ -205,7 +217,7 @@ module _ {X B : Type 0} (stored : B → Stored) (start : Origin) where
 
     -- a translation word is loaded
     pub tload-step : (p : ℕ) (t : Option Mapping) → p < start.pages → get_elem? s.views id ≡ some v
-        → w.out ≡ v.out → w.frames ≡ v.frames → w.loads ≡ v.loads → (page p).trans ≡ t → w.seats ≡ put p (record (seat_of v p) { reading = framed (seat_of v p).reading t }) v.seats
+        → w.out ≡ v.out → holdings w ≡ holdings v → w.loads ≡ v.loads → (page p).trans ≡ t → w.seats ≡ put p (record (seat_of v p) { reading = framed (seat_of v p).reading t }) v.seats
         → world_of stored start releases drafts (stayed s id w) ≡ world_after old (TLoad id p)
     tload-step p t l there out frames loads trans seats =
         let r : Page = page p in
@@ -216,7 +228,7 @@ module _ {X B : Type 0} (stored : B → Stored) (start : Origin) where
 
     -- a word of a frame is loaded
     pub load-step : (p i f n : ℕ) → p < start.pages → f < start.frames → i < start.size → get_elem? s.views id ≡ some v
-        → w.out ≡ v.out → w.frames ≡ v.frames → w.seats ≡ v.seats → load_frame (page p) id ≡ Some f → n ≡ slice_index s.words (index_of start (places.Content f i))
+        → w.out ≡ v.out → holdings w ≡ holdings v → w.seats ≡ v.seats → load_frame (page p) id ≡ Some f → n ≡ slice_index s.words (index_of start (places.Content f i))
         → w.loads ≡ put p (loads_more (open_frame (seat_of v p).reading) (loads_at v p) i n) v.loads
         → world_of stored start releases drafts (stayed s id w) ≡ world_after old (Load id p i)
     load-step p i f n l lf li there out frames seats reads is loads =
@@ -231,7 +243,7 @@ module _ {X B : Type 0} (stored : B → Stored) (start : Origin) where
 
     -- what such a step asks: the views but that of the pass are as they were, and so is this pass's but for its seat and its loads
     abbrev Writes : ℕ → Type 0 → Type 0
-    Writes p T = length s.words ≡ width start → p < start.pages → get_elem? s.views id ≡ some v → w.out ≡ v.out → w.frames ≡ v.frames → T
+    Writes p T = length s.words ≡ width start → p < start.pages → get_elem? s.views id ≡ some v → w.out ≡ v.out → holdings w ≡ holdings v → T
 
     -- the word x is the page's at this state, and has the version expected, which the page has
     abbrev Exchanges : (p expects x state : ℕ) → Type 0 → Type 0
@@ -318,19 +330,51 @@ module _ {X B : Type 0} (stored : B → Stored) (start : Origin) where
         (state-step p x state ((page p).version + 1) _ _ wide l there out frames (seats-put s.views id p v w (g (seat_of v p)) there seats) (row-moved p g l there) is next)
         (release-appends start releases drafts p) (loads-still s.views id v w there loads)
 
-    -- the page stays in its frame; it is evicted; the pass keeps a share
-    pub release-step : (p x : ℕ) → Releases p x UNLOCKED (record (seat_of v p) { exclusive = false }) (world_after old (Release id p))
-    release-step p x = released p x UNLOCKED (λ k. record k { exclusive = false })
-
+    -- it is evicted
     pub releasee-step : (p x : ℕ) → Releases p x EVICTED (record (seat_of v p) { exclusive = false }) (world_after old (ReleaseE id p))
     releasee-step p x = released p x EVICTED (λ k. record k { exclusive = false })
 
-    pub downgrade-step : (p x : ℕ) → Releases p x 1 (record (seat_of v p) { shares = 1; exclusive = false }) (world_after old (Downgrade id p))
-    downgrade-step p x = released p x 1 (λ k. record k { shares = 1; exclusive = false })
+    -- the page stays in its frame, and the pass may hold its number no more
+    abbrev Leaves : (p x state : ℕ) → Seat → World → Type 0
+    Leaves p x state seat new = length s.words ≡ width start → p < start.pages → get_elem? s.views id ≡ some v → w.out ≡ v.out → w.frames ≡ v.frames
+        → ((h : ℕ) → has h w.numbers ≡ (if keeps_number c p then has h v.numbers else (if h == p then false else has h v.numbers)))
+        → w.loads ≡ v.loads → w.seats ≡ put p seat v.seats → state_of x ≡ state → version_of x ≡ (page p).version + 1
+        → world_of stored start (releases ++ release_of start releases drafts p ∷ []) drafts (wrote s id (places.State p) x w) ≡ new
+
+    numbers-now : (p : ℕ) → get_elem? s.views id ≡ some v → ((h : ℕ) → has h w.numbers ≡ (if keeps_number c p then has h v.numbers else (if h == p then false else has h v.numbers)))
+        → numbers_held (slice_set s.views id w) ≡ number_left c id p
+    numbers-now p there is =
+        numbers-put s.views id v w there
+        ∙ ⊎_elim
+        (λ t. rw t (ap (upd (numbers_held s.views) id) (fun_ext (λ h. is h ∙ rw t (own h))) ∙ upd-self (numbers_held s.views) id))
+        (λ f. rw f (ap (upd (numbers_held s.views) id) (fun_ext (λ h. is h ∙ rw f (⊎_elim
+        (λ e. rw (eq-eqb h p e) (sym (ap (upd (numbers_held s.views id) p false) e ∙ upd-same (numbers_held s.views id) p false)))
+        (λ ne. rw (ne_eqb h p ne) (own h ∙ sym (upd-other (numbers_held s.views id) p false h ne)))
+        (cases_eq h p))))))
+        (cases_Bool (keeps_number c p))
+      where
+        own : (h : ℕ) → has h v.numbers ≡ numbers_held s.views id h
+        own h = ap (λ (y : View X). has h y.numbers) (sym (at-there spent s.views id v there))
+
+    left-in-frame : (p x state : ℕ) (g : Seat → Seat) → Leaves p x state (g (seat_of v p)) (record {
+      core = record (on_page c p (record (page p) { state = state; version = (page p).version + 1; seats = upd (page p).seats id (g ((page p).seats id)) })) { numbers = number_left c id p };
+      histories = upd histories p (appended (histories p));
+      loads = loads_of s.views;
+    })
+    left-in-frame p x state g wide l there out frames numbers loads seats is next =
+        worlds-same
+        (state-moved p x state ((page p).version + 1) _ _ _ wide l there out frames (numbers-now p there numbers) (seats-put s.views id p v w (g (seat_of v p)) there seats) (row-moved p g l there) is next)
+        (release-appends start releases drafts p) (loads-still s.views id v w there loads)
+
+    pub release-step : (p x : ℕ) → Leaves p x UNLOCKED (record (seat_of v p) { exclusive = false }) (world_after old (Release id p))
+    release-step p x = left-in-frame p x UNLOCKED (λ k. record k { exclusive = false })
+
+    pub downgrade-step : (p x : ℕ) → Leaves p x 1 (record (seat_of v p) { shares = 1; exclusive = false }) (world_after old (Downgrade id p))
+    downgrade-step p x = left-in-frame p x 1 (λ k. record k { shares = 1; exclusive = false })
 
     -- a word is stored into the frame of a page that the pass holds exclusively
     pub store-step : (p f i x : ℕ) (dirty : Bool) → Inv old → length s.words ≡ width start → p < start.pages → f < start.frames → i < start.size → get_elem? s.views id ≡ some v
-        → w.out ≡ v.out → w.frames ≡ v.frames → w.seats ≡ v.seats → w.loads ≡ v.loads → (seat_of v p).exclusive ≡ true → (page p).trans ≡ Some (record { frame = f; dirty = dirty })
+        → w.out ≡ v.out → holdings w ≡ holdings v → w.seats ≡ v.seats → w.loads ≡ v.loads → (seat_of v p).exclusive ≡ true → (page p).trans ≡ Some (record { frame = f; dirty = dirty })
         → world_of stored start releases (upd drafts p (slice_set (drafts p) i x)) (wrote s id (places.Content f i) x w) ≡ world_after old (Store id f i x)
     store-step p f i x dirty inv wide l lf li there out frames seats loads owns stands =
         let h : ℕ → History = histories in

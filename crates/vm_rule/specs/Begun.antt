@@ -18,7 +18,7 @@ no_shape =
       version = 0;
       next = 0;
       began = record {
-        origin = record { tells = false; size = 0; pages = 0; frames = 0; version = 0; next = 0; contents = []; bounds = [] };
+        origin = record { tells = false; size = 0; pages = 0; frames = 0; version = 0; next = 0; free = []; contents = []; bounds = [] };
         snapshot = record { words = []; blocks = [] };
       };
     }

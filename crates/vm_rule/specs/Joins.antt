@@ -48,6 +48,8 @@ module _ {X : Type 0} where
       record v {
         frames = w.frames ++ v.frames;
         contents = with_contents (put_at [] w.contents) w.frames v.contents;
+        numbers = v.numbers ++ w.numbers;
+        freed = v.freed ++ w.freed;
         notes = v.notes ++ w.notes;
         seen = if knows_more v w then w.seen else v.seen;
         mine = entries_by (v.used ++ w.used) (if knows_more v w then w.seen else v.seen);

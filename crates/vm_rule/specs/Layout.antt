@@ -1,9 +1,9 @@
 -- Where each word of the table stands: P state words, P translation words, P fault words, a page's words for each frame, a word for each
--- bundle of 64 frames, the next word, the hand word, an owner word for each frame.
+-- bundle of 64 frames, the next word, the hand word, an owner word for each frame, a free-number word for each 64 pages.
 use Rattle.std.specs.Prelude.{◌*◌, ◌+◌, ◌-◌, ◌/◌, ◌<◌, if◌then◌else◌, List, nat_lt, ℕ}
 use Rattle.vm_core.specs.{declared.words.TheConstants.FRAMES, Prelude.at, Prelude.upd}
 use Rattle.vm_rule.specs.{declared.view.Origin.Origin, declared.view.Place.Place}
-use Rattle.vm_rule.specs.declared.view.Place.TheVariants.{Bundle, Content, Fault, Hand, Next, Owner, State, Translation}
+use Rattle.vm_rule.specs.declared.view.Place.TheVariants.{Bundle, Content, Fault, Hand, Next, Owner, Spare, State, Translation}
 
 -- the bundles of 64 frames
 abbrev pub bundles_of : ℕ → ℕ
@@ -22,6 +22,7 @@ index_of start (Bundle g) = 3 * start.pages + start.size * start.frames + g
 index_of start Next = 3 * start.pages + start.size * start.frames + bundle_count start
 index_of start Hand = 3 * start.pages + start.size * start.frames + bundle_count start + 1
 index_of start (Owner f) = 3 * start.pages + start.size * start.frames + bundle_count start + 2 + f
+index_of start (Spare g) = 3 * start.pages + start.size * start.frames + bundle_count start + 2 + start.frames + g
 
 -- what is said of page p, if the place is its state word
 abbrev pub at_state : Place → (ℕ → Type 0) → Type 0
@@ -35,7 +36,7 @@ at_next w P = Unit {0}
 
 -- how many words the table has, whose pages have so many
 abbrev pub width_of : ℕ → ℕ → ℕ → ℕ
-width_of size pages frames = 3 * pages + size * frames + bundles_of frames + 2 + frames
+width_of size pages frames = 3 * pages + size * frames + bundles_of frames + 2 + frames + bundles_of pages
 
 -- how many words a table has
 abbrev pub width : Origin → ℕ
@@ -51,6 +52,7 @@ Within start (Bundle g) = g < bundle_count start
 Within start Next = Unit {0}
 Within start Hand = Unit {0}
 Within start (Owner f) = f < start.frames
+Within start (Spare g) = g < bundles_of start.pages
 
 -- the n words from base on, as a function
 unfoldable pub part : ℕ → ℕ → List ℕ → ℕ → ℕ
@@ -67,6 +69,7 @@ pub record Words : Type 0 where
   pub next : ℕ
   pub hand : ℕ
   pub owners : ℕ → ℕ
+  pub spares : ℕ → ℕ
 
 -- the words of a table, by what they are
 abbrev pub table_words : Origin → List ℕ → Words
@@ -81,6 +84,7 @@ table_words start words =
       next = at 0 words (index_of start Next);
       hand = at 0 words (index_of start Hand);
       owners = part (3 * start.pages + start.size * start.frames + bundle_count start + 2) start.frames words;
+      spares = part (3 * start.pages + start.size * start.frames + bundle_count start + 2 + start.frames) (bundles_of start.pages) words;
     }
 
 -- one word is set
@@ -93,3 +97,4 @@ with_word r (Bundle g) x = record r { bundles = upd r.bundles g x }
 with_word r Next x = record r { next = x }
 with_word r Hand x = record r { hand = x }
 with_word r (Owner f) x = record r { owners = upd r.owners f x }
+with_word r (Spare g) x = record r { spares = upd r.spares g x }

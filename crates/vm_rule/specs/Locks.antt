@@ -5,6 +5,7 @@ use Rattle.std.specs.Prelude.{◌∷◌, ◌≡◌, ◌≢◌, ◌≤◌}
 use Rattle.vm_core.specs.Prelude.{EVICTED, LoadsAre, LOCKED, mapping_of, MAX_VERSION, one_share_more, state_of, unshared, version_of, word_of}
 use Rattle.vm_core.specs.{declared.event.Mapping.Mapping, declared.event.Open.Open, declared.event.Seat.Seat}
 use Rattle.vm_laws_others.specs.Leaves.{stands_dirty}
+use Rattle.vm_numbers.specs.Hands.{all_zero}
 use Rattle.vm_owner.specs.{declared.Entry.Entry, Kept.Start, Numbers.has}
 use Rattle.vm_rule.specs.{Brought.Brings, Brought.entry_of, declared.view.Held.Held, declared.view.View.View, Log.did_change, Log.did_exchange, Looks.IsOlder, Looks.IsSinceAll}
 use Rattle.vm_rule.specs.{Puts.put, Puts.put_at, Reading.last_of, Rule.began_of, Rule.no_held, Views.Each, Views.loads_at, Views.seat_of}
@@ -62,6 +63,8 @@ module _ {X : Type 0} where
     -- a page that was not locked is no member still to be released
     pub free : found ≡ expects → has p v.pending ≡ false
     pub unheld : found ≡ expects → IsUnheld v p
+    -- a page whose number the pass holds has zero words
+    pub zero : v.start.tells ≡ true → found ≡ expects → has p v.numbers ≡ true → all_zero (last_of w p).words ≡ true
     -- a page whose translation was loaded as clean while the pass read it at this version is clean
     pub clean : found ≡ expects → state_of expects ≢ EVICTED →
         Each (λ t. t.page ≡ p → t.version ≡ version_of expects → stands_dirty held.mapping ≡ true →

@@ -21,15 +21,15 @@ pub use Rattle.vm_rule.specs.Locks.{shared_view, ShareTold, UnshareTold, upgrade
 pub use Rattle.vm_rule.specs.Looks.{IsOlder, IsSince, IsSinceAll, left_at, LookTold, ties_below, where_same}
 pub use Rattle.vm_rule.specs.Mappings.{clean_in, CleanTold, ClearTold, contents_at, dirty_in, DirtyTold, held_at, InstallTold, IsWritten, MayPutInto}
 pub use Rattle.vm_rule.specs.Mappings.{StandsClean, StandsIn}
-pub use Rattle.vm_rule.specs.Reading.{after_releases, core_from, core_shown, first_history, frames_held, home, known, last_in, last_of, loads_of, no_block}
+pub use Rattle.vm_rule.specs.Reading.{after_releases, core_from, core_shown, first_history, frames_held, holdings, numbers_held, home, known, last_in, last_of, loads_of, no_block}
 pub use Rattle.vm_rule.specs.Reading.{out_of, out_or, page_from, pushed, seats_of, world_of}
 pub use Rattle.vm_rule.specs.Releases.{change_of, changes_of, DowngradeTold, EvictTold, next_after, ReleaseTold, without_all}
 pub use Rattle.vm_rule.specs.Rule.{AreNext, ArePlain, began_of, BlocksFit, FaultsFit, HoldsNothing, is_owed, is_pending, kept_of, KnowsLists, KnowsOwner}
 pub use Rattle.vm_rule.specs.Rule.{KnowsOwners, KnowsPage, KnowsPages, no_held, PartsFit, Ruled, slot_of, snapshot_of, TieHolds, TranslationHolds}
 pub use Rattle.vm_rule.specs.Rule.{WasNext, WasWord, WereWords}
 pub use Rattle.vm_rule.specs.Slots.{DeviceDid, HomeTold, MayBring, out_at, OutTold, ReturnTold, ShiftTold, SlotTold, words_held}
-pub use Rattle.vm_rule.specs.Started.{AreWhole, block_words, bounds_of, counts_of, IsStarted, MayBegin, started_origin, started_shape, started_words}
+pub use Rattle.vm_rule.specs.Started.{AreClaimed, AreWhole, block_words, bounds_of, counts_of, free_words, IsStarted, MayBegin, started_origin, started_shape, started_words}
 pub use Rattle.vm_rule.specs.Views.{any, draft_of, Each, entries_by, first_view, Hears, IsLocking, IsWhole, loads_at, may_call, one_part, owns, PARTS, seat_of}
 pub use Rattle.vm_rule.specs.Views.{spent, StartsWith, times, times_noted, total, view_from, view_of}
-unfoldable pub use Rattle.vm_rule.specs.{Bundles.frames_in, Layout.part, Puts.chosen, Puts.listed, Rule.logical, Views.numbers}
+unfoldable pub use Rattle.vm_rule.specs.{Bundles.frames_in, Layout.part, Puts.chosen, Puts.listed, Rule.logical, Started.with_free, Views.numbers}
 unfoldable pub use Rattle.vm_rule.specs.Reading.{block_of, frame_words, histories_of, pages_from}

@@ -32,8 +32,8 @@ unfoldable pub pages_from : ℕ → Words → (ℕ → Stored) → (ℕ → ℕ 
 pages_from pages r blocks seats p = if nat_lt p pages then page_from r blocks seats p else outside_page r.size
 
 -- the core state; its actors are the passes
-abbrev pub core_from : Origin → ℕ → Words → (ℕ → Stored) → (ℕ → ℕ → Seat) → (ℕ → ℕ → Bool) → State
-core_from start actors r blocks seats held =
+abbrev pub core_from : Origin → ℕ → Words → (ℕ → Stored) → (ℕ → ℕ → Seat) → (ℕ → ℕ → Bool) → (ℕ → ℕ → Bool) → State
+core_from start actors r blocks seats held numbers =
     record {
       shape = record { pages = start.pages; frames = start.frames; actors = actors; next = start.next };
       size = r.size;
@@ -45,6 +45,8 @@ core_from start actors r blocks seats held =
       next = r.next;
       hand = r.hand;
       owners = r.owners;
+      spares = r.spares;
+      numbers = numbers;
     }
 
 -- ---- versions
@@ -115,6 +117,13 @@ module _ {X : Type 0} where
   abbrev pub frames_held : List (View X) → ℕ → ℕ → Bool
   frames_held views a = λ f. has f (at spent views a).frames
 
+  -- the frames and the page numbers that a pass holds
+  abbrev pub holdings : View X → List ℕ × List ℕ
+  holdings v = (v.frames, v.numbers)
+
+  abbrev pub numbers_held : List (View X) → ℕ → ℕ → Bool
+  numbers_held views a = λ p. has p (at spent views a).numbers
+
   -- the block of page p that a pass has out
   abbrev pub out_of : List (View X) → ℕ → Option Stored
   out_of [] p = None
@@ -131,7 +140,7 @@ module _ {X : Type 0} where
 
     -- the core state that the table shows
     abbrev pub core_shown : Origin → Table (Option B) (View X) → State
-    core_shown start s = core_from start (length s.views) (table_words start s.words) (block_of s.homes s.views) (seats_of s.views) (frames_held s.views)
+    core_shown start s = core_from start (length s.views) (table_words start s.words) (block_of s.homes s.views) (seats_of s.views) (frames_held s.views) (numbers_held s.views)
 
     -- with the versions of its pages and the loads of the open reads
     abbrev pub world_of : Origin → List Release → (ℕ → List ℕ) → Table (Option B) (View X) → World

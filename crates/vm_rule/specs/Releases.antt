@@ -1,7 +1,8 @@
 -- What a release tells: the draft is the next version. The first release of a group makes the drafts of all its members logical. A page that
 -- is not resident is released as evicted.
-use Rattle.std.specs.Prelude.{[], ◌++◌, ◌+◌, ◌==◌, ◌∷◌, ◌≡◌, false, if◌then◌else◌, List, None, Option, Some, true, ℕ}
+use Rattle.std.specs.Prelude.{[], ◌&&◌, ◌++◌, ◌+◌, ◌==◌, ◌∷◌, ◌≡◌, false, if◌then◌else◌, List, None, Option, Some, true, ℕ}
 use Rattle.vm_core.specs.Prelude.{EVICTED, word_of}
+use Rattle.vm_numbers.specs.Hands.{all_zero, freed_of}
 use Rattle.vm_owner.specs.{Kept.Change, Numbers.has, Numbers.without}
 use Rattle.vm_rule.specs.{Brought.Brings, Brought.entries_of, declared.view.View.View, Log.did_store, Puts.put, Reading.last_of, Views.draft_of, Views.seat_of}
 use Rattle.vm_rule.specs.declared.view.Place.TheVariants as places
@@ -25,6 +26,15 @@ module _ {X : Type 0} where
   changes_of v [] = []
   changes_of v (q ∷ qs) = change_of v q ∷ changes_of v qs
 
+  -- the numbers that the pass holds after it gave up page p: of a page whose words are not all 0 it holds the number no more; where the blocks do not tell
+  -- their words, of none
+  abbrev pub numbers_left : ℕ → View X → List ℕ
+  numbers_left p v = if v.start.tells && all_zero (draft_of v p) then v.numbers else without p v.numbers
+
+  -- those of the group that its first release frees: their words were not all 0, and their drafts' are
+  abbrev pub freed_by : View X → List ℕ → List ℕ
+  freed_by v qs = freed_of (λ q. (last_of v q).words) (draft_of v) qs
+
   -- p is released: alone, or first of a group, whose other members are pending then; or as a pending member
   abbrev pub released_view : ℕ → List ℕ → Option X → View X → View X
   released_view p rest said v =
@@ -32,6 +42,8 @@ module _ {X : Type 0} where
         seats = put p (record (seat_of v p) { exclusive = false }) v.seats;
         pending = if has p v.pending then without p v.pending else rest ++ v.pending;
         owed = without_all (p ∷ rest) v.owed;
+        numbers = numbers_left p v;
+        freed = if has p v.pending then v.freed else freed_by v (p ∷ rest) ++ v.freed;
         next = next_after p v.next;
         mine = v.mine ++ entries_of v said;
       }
@@ -40,6 +52,8 @@ module _ {X : Type 0} where
   pub record ReleaseTold (p version : ℕ) (rest : List ℕ) (said : Option X) (v w : View X) : Type 0 where
     pub brings : Brings (did_store (places.State p) (version + 1)) (record { page = p; version = version + 1; words = draft_of v p } ∷ [])
         (entries_of v said) v (released_view p rest said v) w
+    -- with the words that the page had, the pass holds the numbers that it held
+    pub numbers : v.start.tells ≡ true → draft_of v p ≡ (last_of v p).words → numbers_left p v ≡ v.numbers
 
   -- p, which is not resident, is released as evicted
   abbrev pub evicted_view : ℕ → View X → View X
@@ -54,9 +68,11 @@ module _ {X : Type 0} where
   -- p is released to a share of the pass
   abbrev pub downgraded_view : ℕ → View X → View X
   downgraded_view p v =
-      record v { seats = put p (record (seat_of v p) { shares = 1; exclusive = false }) v.seats; owed = without p v.owed; next = next_after p v.next }
+      record v { seats = put p (record (seat_of v p) { shares = 1; exclusive = false }) v.seats; owed = without p v.owed; numbers = numbers_left p v; freed = freed_by v (p ∷ []) ++ v.freed; next = next_after p v.next }
 
   -- its draft is its next version
   pub record DowngradeTold (p version : ℕ) (v w : View X) : Type 0 where
     pub brings : Brings (did_store (places.State p) (word_of 1 (version + 1)))
         (record { page = p; version = version + 1; words = draft_of v p } ∷ []) [] v (downgraded_view p v) w
+    -- with the words that the page had, the pass holds the numbers that it held
+    pub numbers : v.start.tells ≡ true → draft_of v p ≡ (last_of v p).words → numbers_left p v ≡ v.numbers

@@ -4,10 +4,12 @@ use Rattle.std.specs.Prelude.{Some, true, ℕ}
 use mathlib.Core.Option as maybe
 use Rattle.atomic_table.specs.Table.{State as Table}
 use Rattle.vm_block.specs.declared.stored.Stored.{Stored}
-use Rattle.vm_core.specs.Prelude.{at, EVICTED, frame_of, get_elem?, History, Inv, is_readable, LOCKED, mapping_of, MAX_COUNT, Page, state_of}
+use Rattle.vm_core.specs.Prelude.{at, EVICTED, frame_of, get_elem?, has_free_bit, History, Inv, is_readable, LOCKED, mapping_of, MAX_COUNT, Page, state_of}
 use Rattle.vm_core.specs.Prelude.{trans_word, version_of, World}
 use Rattle.vm_core.specs.declared.event.{Mapping.Mapping, Seat.Seat}
 use Rattle.vm_laws_others.specs.Leaves.{stands_dirty}
+use Rattle.vm_numbers.specs.Hands.{Hands, NumbersFit}
+use Rattle.std.specs.Prelude.{map}
 use Rattle.vm_owner.specs.{declared.Entry.Entry, Kept.AreCounted, Kept.Kept, Kept.Start, Numbers.has}
 use Rattle.vm_rule.specs.{declared.view.Did.Did, declared.view.Held.Held, declared.view.Origin.Origin, declared.view.Out.Out, declared.view.Release.Release}
 use Rattle.vm_rule.specs.{declared.view.Snapshot.Snapshot, declared.view.Tie.Tie, declared.view.Translation.Translation, declared.view.View.View}
@@ -88,7 +90,7 @@ ArePlain start words = (p : ℕ) → p < start.pages → (table_words start word
 
 -- the start, as the layer above knows it
 abbrev pub began_of : Origin → Start
-began_of start = record { pages = start.contents; next = start.next }
+began_of start = record { pages = start.contents; next = start.next; free = start.free }
 
 -- the logical words of page p: its draft, where it is a member still to be released of a group that was released in part
 unfoldable pub logical : (ℕ → History) → (ℕ → Bool) → ℕ → List ℕ
@@ -103,13 +105,20 @@ module _ {X : Type 0} where
   abbrev pub is_owed : List (View X) → ℕ → Bool
   is_owed views p = any (λ v. has p v.owed) views
 
-  -- the logical pages, the next page, the pages owed, by rising number, and the history
+  -- what the pass has of page numbers
+  abbrev pub hands_of : View X → Hands
+  hands_of v = record { numbers = v.numbers; freed = v.freed; owed = v.owed; pending = v.pending }
+
+  -- the logical pages, the next page, the pages owed, by rising number, the numbers that are free, held and still to be given, and the history
   abbrev pub kept_of : World → List (Entry X) → List (View X) → Kept X
   kept_of w history views =
       record {
         pages = listed w.core.shape.pages (logical w.histories (is_pending views));
         next = w.core.next;
         owed = chosen w.core.shape.pages (is_owed views);
+        free = has_free_bit w.core.spares;
+        held = λ p. any (λ v. has p v.numbers) views;
+        freed = λ p. any (λ v. has p v.freed) views;
         history = history;
       }
 
@@ -121,6 +130,7 @@ module _ {X : Type 0} where
     pub exclusive : (p : ℕ) → (seat_of v p).exclusive ≡ false
     pub writing : (p : ℕ) → (seat_of v p).writing ≡ false
     pub frames : v.frames ≡ []
+    pub numbers : (v.numbers ≡ []) × (v.freed ≡ [])
     pub out : v.out ≡ None
 
   -- what the pass knows of the lists that all passes share
@@ -218,6 +228,11 @@ module _ {X : Type 0} where
         -- pages that were never claimed have zero words
         pub zero : start.tells ≡ true → (p : ℕ) → (core_shown stored start s).next ≤ p → p < start.pages →
             (histories_of start releases drafts p).last.words ≡ replicate start.size 0
+        -- page numbers: each stands in one place at most, and what that says of its page's words
+        pub numbers : start.tells ≡ true → NumbersFit (has_free_bit (core_shown stored start s).spares) (core_shown stored start s).next
+            (λ p. (histories_of start releases drafts p).last.words) (logical (histories_of start releases drafts) (is_pending s.views)) (map hands_of s.views)
+        -- a bit of a free-number word that is set is a page's, whether or not the blocks tell
+        pub spares : (p : ℕ) → has_free_bit (core_shown stored start s).spares p ≡ true → p < start.pages
         pub blocks : BlocksFit start s.homes s.views
         pub faults : FaultsFit (core_shown stored start s).pages s.views
         pub lists : ListsFit start releases history s.views

@@ -100,6 +100,8 @@ module _ {X : Type 0} where
         ties = [];
         pending = [];
         owed = [];
+        numbers = [];
+        freed = [];
         next = None;
         notes = [];
         releases = [];
@@ -121,7 +123,7 @@ module _ {X : Type 0} where
 
   -- the view of a pass that was joined away
   abbrev pub spent : View X
-  spent = view_from false (record { tells = false; size = 0; pages = 0; frames = 0; version = 0; next = 0; contents = []; bounds = [] }) [] []
+  spent = view_from false (record { tells = false; size = 0; pages = 0; frames = 0; version = 0; next = 0; free = []; contents = []; bounds = [] }) [] []
 
   abbrev pub view_of : List (View X) → View X
   view_of [] = spent

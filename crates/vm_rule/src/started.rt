@@ -1,8 +1,8 @@
 //! The maker of a table: every page is evicted, its words in its block, and every frame is free.
 
-ghost use Rattle.std.specs.Prelude.{◌++◌, ◌-◌, ◌^◌, ◌≡◌, ◌≤◌, IfOk, length, map, true};
+ghost use Rattle.std.specs.Prelude.{◌*◌, ◌++◌, ◌-◌, ◌^◌, ◌≡◌, ◌≤◌, IfOk, length, map, true};
 ghost use Rattle.vm_core.specs.Prelude.{full_bundle, MAX_VERSION};
-ghost use Rattle.vm_rule.specs.Prelude.{block_words, bundles_of, counts_of, AreWhole, IsStarted, listed, MayBegin, started_shape, started_words, unborn};
+ghost use Rattle.vm_rule.specs.Prelude.{AreClaimed, block_words, bundles_of, counts_of, AreWhole, free_words, IsStarted, listed, MayBegin, started_shape, started_words, unborn};
 ghost use Rattle.vm_page.specs.Sizes.{IsSize};
 ghost use Rattle.vm_rule.specs.Prelude.{view_of};
 ghost use Rattle.vm_rule.specs.{Begun.begun, declared.began.Began.Began};
@@ -21,8 +21,9 @@ impl<U: Owner, B: Block + Drop> Words<U, B> {
     ///
     /// Takes 1 to 65536 pages of `size` words (64 or 512, as the owner takes them), 1 to 65536 frames, and a version of at most 2^56 - 1. Every
     /// page is evicted at that version, with its words in its block; every frame is zero and free. The pages from `next` on are zero, where the
-    /// blocks tell, and not claimed yet. The pass has made one step, a load of the first state word, and knows all words and blocks. Where
-    /// there is no memory the blocks are dropped.
+    /// blocks tell, and not claimed yet. The numbers in `free`, of pages below `next`, are free: these pages are zero too, where the blocks tell.
+    /// The pass has made one step, a load of the first state word, and knows all words and blocks. Where there is no memory the blocks are
+    /// dropped.
     pub fn started(
         alloc: Global,
         size: usize,
@@ -30,31 +31,34 @@ impl<U: Owner, B: Block + Drop> Words<U, B> {
         next: u32,
         version: u64,
         blocks: Vec<B>,
+        free: &[u32],
     ) -> Result<(Words<U, B>, Pass<U>), Memory>
         requires sized { IsSize size }
         requires takes { U.takes_size size ≡ true }
         requires whole { B.tells ≡ true → AreWhole size (map B.stored blocks.items) }
         requires fits { IsStarted version next frames (length blocks.items) }
-        requires begins { B.tells ≡ true → MayBegin U.keeps next (block_words (map B.stored blocks.items)) }
-        ensures key { IfOk result (λ made. made.0.table.shared.key ≡ started_shape size B.tells version next frames (map B.stored blocks.items)) }
+        requires claimed { AreClaimed next free.now }
+        requires begins { B.tells ≡ true → MayBegin U.keeps next free.now (block_words (map B.stored blocks.items)) }
+        ensures key { IfOk result (λ made. made.0.table.shared.key ≡ started_shape size B.tells version next free.now frames (map B.stored blocks.items)) }
         ensures pass { IfOk result (λ made. made.1.badge.table_id ≡ made.0.table.shared.table_id) }
         ensures view { IfOk result (λ made. view_of made.1.badge.views ≡
-            begun (unborn (started_shape size B.tells version next frames (map B.stored blocks.items)))) }
+            begun (unborn (started_shape size B.tells version next free.now frames (map B.stored blocks.items)))) }
     {
-        let words = evicted_words(alloc, blocks.as_slice(), size, frames, next, version)?;
-        let shape = shape_of(blocks.as_slice(), size, frames, next, version);
+        let words = evicted_words(alloc, blocks.as_slice(), size, frames, next, version, free)?;
+        let shape = shape_of(blocks.as_slice(), size, frames, next, version, free);
         let slots = slots_of(alloc, blocks)?;
         opened(alloc, words.as_slice(), slots, &shape)
     }
 }
 
-/// The shape of the table. What its proofs are told is picked by the caller's proof, which takes it from these arguments.
+/// The shape of the table. What its proofs are told is picked by the caller's proof, which takes it from these arguments: `_free` serves that alone.
 pub(crate) fn shape_of<B: Block>(
     blocks: &[B],
     size: usize,
     frames: u32,
     next: u32,
     version: u64,
+    _free: &[u32],
 ) -> Shape
     ghost told: { Began }
     ensures { result ≡ record { size = size; pages = length blocks.now; frames = frames; version = version; next = next; began = told } }
@@ -77,16 +81,19 @@ pub(crate) fn evicted_words<B: Block>(
     frames: u32,
     next: u32,
     version: u64,
+    free: &[u32],
 ) -> Result<Vec<u64>, AllocError>
     requires size { size ≤ 512 }
     requires pages { length blocks.now ≤ 65536 }
     requires frames { frames ≤ 65536 }
     requires version { version ≤ MAX_VERSION }
-    ensures { IfOk result (λ words. words.items ≡ started_words size (length blocks.now) frames version next (counts_of (map B.stored blocks.now))) }
+    requires claimed { AreClaimed (length blocks.now) free.now }
+    ensures { IfOk result (λ words. words.items ≡ started_words size (length blocks.now) frames version next free.now (counts_of (map B.stored blocks.now))) }
 {
     let pages = blocks.len();
     let count = frames as usize;
-    let mut words = Vec::with_capacity(alloc, 3 * pages + (size + 2) * count + 2)?;
+    let spares = pages.div_ceil(FRAMES);
+    let mut words = Vec::with_capacity(alloc, 3 * pages + (size + 2) * count + 2 + spares)?;
     push_same(
         &mut words,
         pages,
@@ -99,6 +106,7 @@ pub(crate) fn evicted_words<B: Block>(
     words.push(next as u64)?;
     words.push(0)?;
     push_same(&mut words, count, 0)?;
+    push_free(&mut words, spares, free)?;
     Ok(words)
 }
 
@@ -109,6 +117,21 @@ fn push_bundles(words: &mut Vec<u64>, frames: usize) -> Result<(), AllocError>
 {
     for g in 0..frames.div_ceil(FRAMES) {
         words.push(low_bits((frames - FRAMES * g).min(FRAMES)))?;
+    }
+    Ok(())
+}
+
+/// The free-number words, `count` of them: the bits of these pages are set.
+fn push_free(words: &mut Vec<u64>, count: usize, free: &[u32]) -> Result<(), AllocError>
+    requires { AreClaimed (64 * count) free.now }
+    ensures { IfOk result (λ _. words.new.items ≡ words.old.items ++ listed count (free_words free.now)) }
+{
+    let base = words.len();
+    push_same(words, count, 0)?;
+    for p in free {
+        let page = *p as usize;
+        let word = base + page / FRAMES;
+        words[word] |= 1 << (page % FRAMES);
     }
     Ok(())
 }

@@ -43,6 +43,8 @@ pub struct Origin {
     pub version: u64,
     /// The least page number that was not claimed.
     pub next: u64,
+    /// The pages below it whose numbers were free.
+    pub free: LinkedList<u64>,
     /// The words of each page.
     pub contents: LinkedList<LinkedList<u64>>,
     /// The bound of each page's block.
@@ -97,6 +99,8 @@ pub enum Place {
     Hand,
     /// The owner word of a frame.
     Owner(u64),
+    /// A free-number word: 64 pages, one bit each.
+    Spare(u64),
 }
 
 /// One step of the pass on a word: what it expected, the word found, the word left there. A load leaves none, a store finds none.
@@ -139,6 +143,10 @@ pub struct View<X> {
     /// The pages claimed for a group that is not released yet. Only which they are counts: here the pages of a later claim stand in front, in what
     /// the layer above keeps they stand behind.
     pub owed: LinkedList<u64>,
+    /// The page numbers that the pass holds.
+    pub numbers: LinkedList<u64>,
+    /// The pages that the first release of a group of the pass freed, and whose numbers it has still to give.
+    pub freed: LinkedList<u64>,
     /// The next word, where the pass loaded it while it held that very page.
     pub next: Option<u64>,
     pub notes: LinkedList<Note>,

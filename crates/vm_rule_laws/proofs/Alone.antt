@@ -41,7 +41,7 @@ module _ {X B : Type 0} (stored : B → Stored) (keeps : Start → Kept X → Ty
   spent-has-nothing = record {
     used = refl;
     fresh = refl;
-    holds = record { shares = λ p. refl; exclusive = λ p. refl; writing = λ p. refl; frames = refl; out = refl };
+    holds = record { shares = λ p. refl; exclusive = λ p. refl; writing = λ p. refl; frames = refl; numbers = (refl, refl); out = refl };
     pending = refl;
     owed = refl;
   }

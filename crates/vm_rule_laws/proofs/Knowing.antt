@@ -2,7 +2,7 @@
 use Rattle.std.proofs.Common.{[], ⊎_elim, ◌++◌, ◌<◌, ◌∙◌, ◌≡◌, ◌≢◌, ap, Bool, false, List, Option, refl, subst, suc, sym, true, true≢false, zero, ℕ}
 use Rattle.std.proofs.lemmas.Bool.{cases_Bool, cases_eq, cases_lt}
 use mathlib.Core.Path.{fun_ext}
-use Rattle.vm_core.specs.Prelude.{at, get_elem?, History, some, some-injective}
+use Rattle.vm_core.specs.Prelude.{at, get_elem?, has_free_bit, History, some, some-injective}
 use Rattle.vm_rule.specs.Prelude.{any, began_of, block_of, chosen, core_shown, has, histories_of, is_owed, is_pending, Kept, kept_of, last_in, listed}
 use Rattle.vm_rule.specs.Prelude.{logical, no_block, page_from, pages_from, Ruled, Seat, seats_of, snapshot_of, Start, Stored, Table, table_words}
 use Rattle.vm_rule.specs.Prelude.{Words, world_of}
@@ -74,6 +74,10 @@ module _ {X B : Type 0} (stored : B → Stored) (keeps : Start → Kept X → Ty
       λ p. any-only (λ u. has p u.pending) s.views id v stepped.pass.there (λ j u ne there. ap (has p) (others j u ne there).pending) ∙ ap (has p) none in
       let owes : (p : ℕ) → is_owed s.views p ≡ has p v.owed =
       λ p. any-only (λ u. has p u.owed) s.views id v stepped.pass.there (λ j u ne there. ap (has p) (others j u ne there).owed) in
+      let held : (p : ℕ) → any (λ u. has p u.numbers) s.views ≡ has p v.numbers =
+      λ p. any-only (λ u. has p u.numbers) s.views id v stepped.pass.there (λ j u ne there. ap (has p) (others j u ne there).holds.numbers.0) in
+      let freed : (p : ℕ) → any (λ u. has p u.freed) s.views ≡ has p v.freed =
+      λ p. any-only (λ u. has p u.freed) s.views id v stepped.pass.there (λ j u ne there. ap (has p) (others j u ne there).holds.numbers.1) in
       let pages : listed start.pages (logical (histories_of start r.releases r.drafts) (is_pending s.views)) ≡ listed v.start.pages (λ p. (last_in v.start v.releases p).words) =
       listed-same start.pages (logical (histories_of start r.releases r.drafts) (is_pending s.views)) (λ p. (last_in start r.releases p).words)
       (λ p _. logical-last (histories_of start r.releases r.drafts) (is_pending s.views) p (members p) ∙ ap (λ y. y.words) (sym (last-is start r.releases r.drafts p)))
@@ -84,6 +88,9 @@ module _ {X B : Type 0} (stored : B → Stored) (keeps : Start → Kept X → Ty
         pages = pages i;
         next = (table_words (sym known.start_known i) (sym known.words_known i)).next;
         owed = owed i;
+        free = has_free_bit (table_words (sym known.start_known i) (sym known.words_known i)).spares;
+        held = λ p. held p i;
+        freed = λ p. freed p i;
         history = sym known.history_known i;
       }
 

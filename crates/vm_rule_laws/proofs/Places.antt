@@ -16,7 +16,8 @@ place_at start k =
     else if nat_lt k (3 * start.pages + start.size * start.frames + bundle_count start) then places.Bundle (k - (3 * start.pages + start.size * start.frames))
     else if nat_lt k (3 * start.pages + start.size * start.frames + bundle_count start + 1) then places.Next
     else if nat_lt k (3 * start.pages + start.size * start.frames + bundle_count start + 2) then places.Hand
-    else places.Owner (k - (3 * start.pages + start.size * start.frames + bundle_count start + 2))
+    else if nat_lt k (3 * start.pages + start.size * start.frames + bundle_count start + 2 + start.frames) then places.Owner (k - (3 * start.pages + start.size * start.frames + bundle_count start + 2))
+    else places.Spare (k - (3 * start.pages + start.size * start.frames + bundle_count start + 2 + start.frames))
 
 below : {A : Type 0} {a : A} (b : A) (k n : ℕ) → k < n → (if nat_lt k n then a else b) ≡ a
 below b k n l = rw (lt-ltb k n l) refl
@@ -84,7 +85,19 @@ read-back start (places.Owner f) l =
     ∙ above _ k (3 * start.pages + start.size * start.frames + bundle_count start) (omega arith)
     ∙ above _ k (3 * start.pages + start.size * start.frames + bundle_count start + 1) (omega arith)
     ∙ above _ k (3 * start.pages + start.size * start.frames + bundle_count start + 2) (omega arith)
+    ∙ below _ k (3 * start.pages + start.size * start.frames + bundle_count start + 2 + start.frames) (omega arith)
     ∙ ap places.Owner (omega arith)
+read-back start (places.Spare g) l =
+    let k : ℕ = 3 * start.pages + start.size * start.frames + bundle_count start + 2 + start.frames + g in
+    above _ k start.pages (omega arith)
+    ∙ above _ k (2 * start.pages) (omega arith)
+    ∙ above _ k (3 * start.pages) (omega arith)
+    ∙ above _ k (3 * start.pages + start.size * start.frames) (omega arith)
+    ∙ above _ k (3 * start.pages + start.size * start.frames + bundle_count start) (omega arith)
+    ∙ above _ k (3 * start.pages + start.size * start.frames + bundle_count start + 1) (omega arith)
+    ∙ above _ k (3 * start.pages + start.size * start.frames + bundle_count start + 2) (omega arith)
+    ∙ above _ k (3 * start.pages + start.size * start.frames + bundle_count start + 2 + start.frames) (omega arith)
+    ∙ ap places.Spare (omega arith)
 
 pub places-apart : (start : Origin) (w x : Place) → Within start w → Within start x → index_of start w ≡ index_of start x → w ≡ x
 places-apart start w x lw lx same = sym (read-back start w lw) ∙ ap (place_at start) same ∙ read-back start x lx
@@ -99,3 +112,4 @@ places-inside start (places.Bundle g) l = omega arith
 places-inside start places.Next l = omega arith
 places-inside start places.Hand l = omega arith
 places-inside start (places.Owner f) l = omega arith
+places-inside start (places.Spare g) l = omega arith

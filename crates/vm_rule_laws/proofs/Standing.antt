@@ -22,7 +22,7 @@ module _ {X B : Type 0} (stored : B → Stored) (keeps : Start → Kept X → Ty
   others-hold id v pass a ne =
       ⊎_elim
       (λ l. (others-have-nothing stored keeps tied start tells s r id v pass a (at spent s.views a) ne (there-at spent s.views a l)).holds)
-      (λ le. subst HoldsNothing (sym (at-past spent s.views a le)) (record { shares = λ p. refl; exclusive = λ p. refl; writing = λ p. refl; frames = refl; out = refl }))
+      (λ le. subst HoldsNothing (sym (at-past spent s.views a le)) (record { shares = λ p. refl; exclusive = λ p. refl; writing = λ p. refl; frames = refl; numbers = (refl, refl); out = refl }))
       (cases_lt a (length s.views))
 
   pub page-stands : (id : ℕ) (v : View X) → IsWholePass s.views id v → (p : ℕ) → p < start.pages → PageStands start r.releases (snapshot_of stored start s) (seat_of v p) p

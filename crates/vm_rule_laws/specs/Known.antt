@@ -1,7 +1,7 @@
 -- What a pass with all parts of a table knows of it once it has made a step, read off its view alone.
 use Rattle.std.specs.Prelude.{◌≡◌, length, List, Option, true, ℕ}
-use Rattle.vm_core.specs.Prelude.{at, get_elem?, some, State}
-use Rattle.vm_rule.specs.Prelude.{chosen, core_from, core_shown, Entry, frames_held, has, IsWhole, Kept, last_of, listed, no_block, seats_of, Stored}
+use Rattle.vm_core.specs.Prelude.{at, get_elem?, has_free_bit, some, State}
+use Rattle.vm_rule.specs.Prelude.{chosen, core_from, core_shown, Entry, frames_held, has, numbers_held, IsWhole, Kept, last_of, listed, no_block, seats_of, Stored}
 use Rattle.vm_rule.specs.Prelude.{Table, table_words}
 use Rattle.vm_rule.specs.{declared.view.Origin.Origin, declared.view.Release.Release, declared.view.Snapshot.Snapshot, declared.view.View.View}
 
@@ -18,16 +18,19 @@ module _ {X : Type 0} where
 
   -- the core, from the words and blocks of a snapshot
   abbrev pub core_in : Origin → Snapshot → List (View X) → State
-  core_in start snapshot views = core_from start (length views) (table_words start snapshot.words) (at no_block snapshot.blocks) (seats_of views) (frames_held views)
+  core_in start snapshot views = core_from start (length views) (table_words start snapshot.words) (at no_block snapshot.blocks) (seats_of views) (frames_held views) (numbers_held views)
 
-  -- what the layer above keeps, as the pass knows it: the pages with their last words, the next word, the pages that the pass owes, and
-  -- the history that it has seen
+  -- what the layer above keeps, as the pass knows it: the pages with their last words, the next word, the pages that the pass owes, the
+  -- page numbers that are free, that it holds and has still to give, and the history that it has seen
   abbrev pub kept_by : View X → Kept X
   kept_by v =
       record {
         pages = listed v.start.pages (λ p. (last_of v p).words);
         next = (table_words v.start v.snapshot.words).next;
         owed = chosen v.start.pages (λ p. has p v.owed);
+        free = has_free_bit (table_words v.start v.snapshot.words).spares;
+        held = λ p. has p v.numbers;
+        freed = λ p. has p v.freed;
         history = v.seen;
       }
 

@@ -28,8 +28,8 @@ pub fn a_whole_pass_lives<U: Owner, B: Block>()
     ensures { (start : Origin) (s : Table (Option B) (View U.Said)) → Ruled B.stored U.keeps U.tied start B.tells s → (id : ℕ) (v : View U.Said) → IsWholePass s.views id v → v.live ≡ true }
 {}
 
-/// Where a pass has all parts of a table, no other has anything of it: no lock, frame or block, no member of a group still to be
-/// released, no page that it owes.
+/// Where a pass has all parts of a table, no other has anything of it: no lock, frame, page number or block, no member of a group still to
+/// be released, no page that it owes.
 pub fn a_whole_pass_is_alone<U: Owner, B: Block>()
     ensures { (start : Origin) (s : Table (Option B) (View U.Said)) → Ruled B.stored U.keeps U.tied start B.tells s → (id : ℕ) (v : View U.Said) → IsWholePass s.views id v → (j : ℕ) (u : View U.Said) → j ≢ id → get_elem? s.views j ≡ some u → HasNothing u }
 {}
@@ -46,7 +46,7 @@ pub fn a_whole_pass_knows_the_table<U: Owner, B: Block>()
 {}
 
 /// Where no group is released in part, such a pass knows what the layer above keeps: the last words of each page, the next word, the pages
-/// that are owed, and the history.
+/// that are owed, the page numbers that are free, held and still to be given, and the history.
 pub fn a_whole_pass_knows_what_is_kept<U: Owner, B: Block>()
     ensures { (start : Origin) (s : Table (Option B) (View U.Said)) → Ruled B.stored U.keeps U.tied start B.tells s → (id : ℕ) (v : View U.Said) → HasStepped s.views id v → v.pending ≡ [] → start.tells ≡ true → U.keeps (began_of start) (kept_by v) }
 {}

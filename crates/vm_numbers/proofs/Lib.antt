@@ -1,0 +1,4 @@
+pub mod Sums
+pub mod Moves
+pub mod Steps
+pub mod Passes
