@@ -7,7 +7,7 @@ use Rattle.vm_evict.proofs.Passing.{Passes}
 use Rattle.vm_evict.proofs.Prelude.{[], alone-self, ap, append-none, append_assoc, arith, Bool, candidate_at, candidate_pages, cases_Bool, Counts, Did}
 use Rattle.vm_evict.proofs.Prelude.{DoesOne, Each, else-knows, Evicted, false, first_of, first_pair, frame_at, FramesCome, gathered, has, if◌then◌else◌}
 use Rattle.vm_evict.proofs.Prelude.{InPhases, IsAdded, IsAllowed, IsAlone, IsAsideOf, IsAt, IsBatch, IsEnd, IsOfAny, IsOver, IsPhaseMade, IsUnderWay}
-use Rattle.vm_evict.proofs.Prelude.{KnowsEvicted, KnowsStage, length, length-append, List, Looks, lost_at, None, none_of, Note, note_at, one_if, refl}
+use Rattle.vm_evict.proofs.Prelude.{KnowsEvicted, KnowsStage, length, length-append, List, Looks, lost_at, None, none_of, Note, note_at, numbers-self, one_if, refl}
 use Rattle.vm_evict.proofs.Prelude.{release_at, Rests, rules, runs-self, RunsAlone, Stage, stage_at, subst, suc, sym, Tallies, true, View, written_at, zero}
 use Rattle.vm_evict.proofs.Prelude.{ℕ, ⊎_elim, ◌++◌, ◌+◌, ◌<◌, ◌∙◌, ◌∷◌, ◌≡◌, ◌≤◌}
 use Rattle.vm_evict.proofs.Tables.{each-two}
@@ -101,7 +101,7 @@ module _ {X : Type 0} where
 
   pub waiting-all : (list : List (ℕ × ℕ)) (ends : List Stage) (v : View X) → v.out ≡ None → ((n : ℕ) → n < length list → stage_at ends n ≡ stages.Waiting) → IsUnderWay list ends [] v v
   waiting-all list ends v none wait = record {
-    leaves = search (rules, append-none);
+    leaves = search (rules, append-none, numbers-self v);
     none = none;
     home = none;
     each = λ n b. subst (λ (s : Stage). IsAt (candidate_at list n) s [] v v) (sym (wait n b)) record { quiet = tt; kept = record { kept = tt; home = tt }; rests = search rules; start = refl; since = ([], sym (append-none v.releases)) };

@@ -1,8 +1,8 @@
 -- The pages of a flush, one after another: what they come to together.
 use Rattle.vm_rule.specs.declared.view.Place.TheVariants as places
 use Rattle.vm_evict.proofs.{FlushVisits.mapping-shown, FlushVisits.state-shown, Moving.own-else, Tables.else-page}
-use Rattle.vm_evict.proofs.Prelude.{[], ap, append-none, append_assoc, arith, aside-then, aside-within, called-behind, called-front, cases_eq, clean, Did}
-use Rattle.vm_evict.proofs.Prelude.{done_of, Each, each-both, each-map, failed, first_noted, first_or, Flushed, FlushVisits, gone, has}
+use Rattle.vm_evict.proofs.Prelude.{[], ap, append-none, append_assoc, arith, aside-self, aside-then, aside-within, called-behind, called-front, cases_eq, clean}
+use Rattle.vm_evict.proofs.Prelude.{Did, done_of, Each, each-both, each-map, failed, first_noted, first_or, Flushed, FlushVisits, gone, has}
 use Rattle.vm_evict.proofs.Prelude.{has-last, has-left, HasNoLock, held, home-else, inl, inr, IsAllowed, IsAlone, IsAsideOf, IsCalledOnce, IsFlushedAlone}
 use Rattle.vm_evict.proofs.Prelude.{IsFlushedTo, IsNoted, IsOwnPlace, IsSaved, IsSettled, IsUnwritten, IsVisit, KeepsPage, KnowsKept, length-append, List}
 use Rattle.vm_evict.proofs.Prelude.{lost, mapping_in, mapping_of, Note, noted_pages, nothing_flushed, Option, Origin}
@@ -112,7 +112,7 @@ module _ {X : Type 0} where
   -- ---- all pages below n
 
   pub flushed-none : (v : View X) → IsFlushedTo 0 nothing_flushed v v
-  flushed-none v = search (rules, append-none)
+  flushed-none v = search (rules, append-none, aside-self (λ p. p < v.start.pages) v)
 
   -- ---- a pass that is alone
 

@@ -8,8 +8,8 @@ use Rattle.vm_evict.proofs.Prelude.{cases_eq, Did, Does, DoesOne, Each, each-bot
 use Rattle.vm_evict.proofs.Prelude.{get_or-set_other, get_or-set_same, has, HasLockTaken, HasNotSaved, HasReleased, Held, home-both, home-else, inl, inr}
 use Rattle.vm_evict.proofs.Prelude.{IsAlone, IsAt, IsEmptied, IsLocking, IsMissed, IsOwning, IsPageFreed, IsPhaseMade, IsSeenClean, IsSome, IsTakenOut}
 use Rattle.vm_evict.proofs.Prelude.{IsUnderWay, IsWaiting, IsWhole, IsWriteFailed, IsWriting, KnowsStage, last_of, LeavesAll, LeavesRest, length, List}
-use Rattle.vm_evict.proofs.Prelude.{MayBeginPhase, MayEnd, Moves, None, Note, note_at, once-front, Origin, owning_seat, Phase, reads-then, ReadsAsBefore}
-use Rattle.vm_evict.proofs.Prelude.{refl, Release, release_at, Rests, rules, runs-then, RunsAlone, Seat, slice_set, Some, Stage, stage_at, starts-then}
+use Rattle.vm_evict.proofs.Prelude.{MayBeginPhase, MayEnd, Moves, None, Note, note_at, numbers-then, once-front, Origin, owning_seat, Phase, reads-then}
+use Rattle.vm_evict.proofs.Prelude.{ReadsAsBefore, refl, Release, release_at, Rests, rules, runs-then, RunsAlone, Seat, slice_set, Some, Stage, stage_at, starts-then}
 use Rattle.vm_evict.proofs.Prelude.{StaysHome, still-alone, subst, sym, Tie, Translation, true, version_of, View, word_of, writing_seat, written-front, ℕ}
 use Rattle.vm_evict.proofs.Prelude.{⊎_elim, ◌++◌, ◌+◌, ◌<◌, ◌∙◌, ◌∷◌, ◌≡◌, ◌≢◌, ◌≤◌, ◌⊎◌}
 use Rattle.vm_rule.specs.declared.view.Place.TheVariants as places
@@ -128,7 +128,7 @@ module _ {X : Type 0} where
       let others : (q : ℕ) → has q (candidate_pages list) ≡ false → Rests q u w × ReadsAsBefore u w q = λ q no.
       let ne : q ≢ p = λ e. false≢true (sym no ∙ subst (λ (k : ℕ). has k (candidate_pages list) ≡ true) (sym e) among-them) in
       (rests-stay p q b u v w g ne (f.others q no).0, reads-then u v w q (f.others q no).1 record { reading = ap (λ (s : Seat). s.reading) (g.seats q ne); loads = g.loads q ne }) in
-      search (rules, append_assoc u.log a b, starts-then u.seen v.seen w.seen f.seen g.seen, starts-then u.releases v.releases w.releases f.releases g.releases, ties, others)
+      search (rules, append_assoc u.log a b, starts-then u.seen v.seen w.seen f.seen g.seen, starts-then u.releases v.releases w.releases f.releases g.releases, ties, numbers-then u v w f.start f.numbers g.numbers, others)
 
 -- ---- what is given
 

@@ -33,7 +33,8 @@ pub use Rattle.vm_step.proofs.{steps.Look.look-own, steps.Mapping.clean-held, st
 pub use Rattle.vm_step.proofs.{steps.Owner.owner-held, steps.Owner.owner-works, steps.Raise.raise-held, steps.Raise.raise-works, steps.Release.evict-alone}
 pub use Rattle.vm_step.proofs.{steps.Release.evict-leaves, steps.Release.evict-seat, steps.Unchanged.lost-only, steps.Unchanged.still-own}
 pub use Rattle.vm_step.proofs.{steps.Unchanged.still-works, steps.WriteBack.write_lock-own, steps.WriteBack.write_lock-seat, Tables.else-knows}
-pub use Rattle.vm_step.proofs.Asides.{alone-self, alone-then, aside-then, aside-within, holds-then, keeps-self, keeps-then, knows-then, only-then, OnlyReads}
+pub use Rattle.vm_step.proofs.Asides.{alone-self, alone-then, aside-then, aside-within, holds-then, keeps-self, keeps-then, knows-then, numbers-self, numbers-then}
+pub use Rattle.vm_step.proofs.Asides.{only-then, OnlyReads}
 pub use Rattle.vm_step.proofs.steps.WriteBack.{upgrade-brings, upgrade-did, upgrade-draft, upgrade-held, upgrade-last, upgrade-others, upgrade-own}
 pub use Rattle.vm_step.proofs.steps.WriteBack.{upgrade-seat, write_lock-brings, write_lock-did, write_lock-held, write_lock-leaves, write_lock-others}
 pub use Rattle.vm_step.proofs.Device.{comes-home, counts-one, goes-out, may-bring-written, noted-more, two-loads}

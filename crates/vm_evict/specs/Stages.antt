@@ -4,8 +4,8 @@ use Rattle.std.specs.Prelude.{[], Bool, false, IsSome, length, List, None, Some,
 use Rattle.vm_core.specs.Prelude.{mapping_of, version_of, word_of}
 use Rattle.vm_rule.specs.Prelude.{clean_in, draft_of, Each, has, held_at, IsLocking, last_of, Seat, seat_of, stands_dirty, StartsWith}
 use Rattle.vm_rule.specs.declared.view.Place.TheVariants as places
-use Rattle.vm_step.specs.Prelude.{candidate_pages, Did, HoldsPage, IsAlone, IsToldOf, KnowsAsBefore, LeavesRest, Note, ReadsAsBefore, Release}
-use Rattle.vm_step.specs.Prelude.{RunsAlone, StaysAlone, Tie, Translation, Unstored, View}
+use Rattle.vm_step.specs.Prelude.{candidate_pages, Did, HoldsPage, IsAlone, IsToldOf, KeepsNumbers, KnowsAsBefore, LeavesRest, Note, ReadsAsBefore}
+use Rattle.vm_step.specs.Prelude.{Release, RunsAlone, StaysAlone, Tie, Translation, Unstored, View}
 use Rattle.vm_step.specs.declared.choice.Looks.{Looks}
 use Rattle.vm_evict.specs.{declared.candidate.Phase.Phase, declared.candidate.Stage.Stage, declared.report.Evicted.Evicted}
 use Rattle.vm_evict.specs.{declared.report.Report.Report, Phases.Does, Phases.DoesOne, Tables.KnowsStage, Writes.HasNotSaved, Writes.writing_seat}
@@ -203,6 +203,7 @@ module _ {X : Type 0} where
     pub releases : StartsWith x.releases v.releases
     pub ties : (more : List Tie) × (x.ties ≡ more ++ v.ties)
     pub group : (x.pending ≡ v.pending) × (x.owed ≡ v.owed) × (x.next ≡ v.next)
+    pub numbers : KeepsNumbers v x
     pub others : (q : ℕ) → has q (candidate_pages list) ≡ false → Rests q v x × ReadsAsBefore v x q
 
   -- how far the eviction is

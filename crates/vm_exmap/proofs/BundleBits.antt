@@ -1,30 +1,9 @@
--- The bits of a bundle's word and the frames that they are of, gathered one at a time: the bits of a mask into a list, and a list into a
--- mask. Some bits are asked of a word that is not 0.
+-- The bits of a bundle's word and the frames that they are of, gathered from a list into a mask, one at a time. Some bits are asked of a word that is not 0.
+use Rattle.vm_step.proofs.Masks.{mask-count, no-bit}
 use Rattle.vm_exmap.proofs.Prelude.{[], ap, AreLowest, arith, bit_at, bit_at-lt, bit_at-pow_other, bit_at-pow_same, bit_at-zero, bit_at_or, bit_count, bit_or}
-use Rattle.vm_exmap.proofs.Prelude.{cases_eq, eq-eqb, eqb, false, frames_below, frames_in, has, has-both, if◌then◌else◌, in_mask, is_of, length, length-append}
-use Rattle.vm_exmap.proofs.Prelude.{List, max, nat_tests, ne_eqb, refl, same_from_bits_below, suc, sum_below, sum_below-at, sym, zero, ℕ, ⊎_elim, ◌%◌, ◌&&◌}
-use Rattle.vm_exmap.proofs.Prelude.{◌*◌, ◌++◌, ◌+◌, ◌/◌, ◌<◌, ◌^◌, ◌||◌, ◌∙◌, ◌∷◌, ◌≡◌, ◌≢◌, ◌≤◌}
-
--- ---- from a mask into a list
-
-below-next : (i g mask : ℕ) → frames_below (i + 1) g mask ≡ frames_below i g mask ++ (if eqb (bit_at mask i) 1 then (64 * g + i) ∷ [] else [])
-below-next i g mask = let e : i + 1 ≡ suc i = omega arith in ap (λ n. frames_below n g mask) e
-
--- one more of the first bits is set
-pub below-set : (i g mask : ℕ) → bit_at mask i ≡ 1 → frames_below (i + 1) g mask ≡ frames_below i g mask ++ (64 * g + i) ∷ []
-below-set i g mask e = below-next i g mask ∙ ap (λ b. frames_below i g mask ++ (if b then (64 * g + i) ∷ [] else [])) (eq-eqb (bit_at mask i) 1 e)
-
--- it is not
-pub below-clear : (i g mask : ℕ) → bit_at mask i ≢ 1 → frames_below (i + 1) g mask ≡ frames_below i g mask
-below-clear i g mask ne = below-next i g mask ∙ ap (λ b. frames_below i g mask ++ (if b then (64 * g + i) ∷ [] else [])) (ne_eqb (bit_at mask i) 1 ne) ∙ append-nil (frames_below i g mask)
-  where
-    append-nil : (l : List ℕ) → l ++ [] ≡ l
-    append-nil [] = refl
-    append-nil (x ∷ xs) = ap (λ t. x ∷ t) (append-nil xs)
-
-pub all-below : (g mask : ℕ) → frames_below 64 g mask ≡ frames_in g mask
-unfolding frames_in
-all-below g mask = refl
+use Rattle.vm_exmap.proofs.Prelude.{cases_eq, eqb, false, frames_in, has, has-both, in_mask, is_of, length}
+use Rattle.vm_exmap.proofs.Prelude.{List, max, nat_tests, same_from_bits_below, sum_below-at, sym, ℕ, ⊎_elim, ◌%◌, ◌&&◌}
+use Rattle.vm_exmap.proofs.Prelude.{◌++◌, ◌/◌, ◌<◌, ◌^◌, ◌||◌, ◌∙◌, ◌∷◌, ◌≡◌, ◌≢◌, ◌≤◌}
 
 -- ---- from a list into a mask
 
@@ -75,14 +54,6 @@ some-bit word small ne =
     (λ (some : bit_count word ≢ 0). omega (arith, some))
     (cases_eq (bit_count word) 0)
 
-no-bit : bit_count 0 ≡ 0
-unfolding sum_below
-no-bit = none 64
-  where
-    none : (n : ℕ) → sum_below n (bit_at 0) ≡ 0
-    none zero = refl
-    none (suc n) = let before : sum_below n (bit_at 0) ≡ 0 = none n in let bit : bit_at 0 n ≡ 0 = bit_at-zero n in omega (arith, before, bit)
-
 -- the lowest bits of it are not none
 pub some-lowest : (word most mask : ℕ) → word < 2 ^ 64 → word ≢ 0 → 1 ≤ most → AreLowest word most mask → mask ≢ 0
 some-lowest word most mask small ne some low e =
@@ -90,25 +61,9 @@ some-lowest word most mask small ne some low e =
     let none : bit_count mask ≡ 0 = ap bit_count e ∙ no-bit in
     absurd (omega (arith, bits, none, some, low.count))
 
--- a bundle has as many frames of a mask as bits are set there
-count-below : (n g mask : ℕ) → length (frames_below n g mask) ≡ sum_below n (bit_at mask)
-unfolding sum_below
-count-below zero g mask = refl
-count-below (suc n) g mask =
-    let before : length (frames_below n g mask) ≡ sum_below n (bit_at mask) = count-below n g mask in
-    let small : bit_at mask n < 2 = bit_at-lt mask n in
-    let next : n + 1 ≡ suc n = omega arith in
-    ap (λ k. length (frames_below k g mask)) (sym next)
-    ∙ ⊎_elim
-    (λ (set : bit_at mask n ≡ 1).
-    let longer : length (frames_below n g mask ++ (64 * g + n) ∷ []) ≡ length (frames_below n g mask) + 1 = length-append (frames_below n g mask) ((64 * g + n) ∷ []) in
-    ap length (below-set n g mask set) ∙ (let e : length (frames_below n g mask ++ (64 * g + n) ∷ []) ≡ sum_below n (bit_at mask) + bit_at mask n = omega (arith, longer, before, set) in e))
-    (λ (clear : bit_at mask n ≢ 1). ap length (below-clear n g mask clear) ∙ (let e : length (frames_below n g mask) ≡ sum_below n (bit_at mask) + bit_at mask n = omega (arith, before, small, clear) in e))
-    (cases_eq (bit_at mask n) 1)
-
 -- the frames of the lowest bits of a word that is not 0 are not none
 pub some-taken : (word most mask g : ℕ) → word < 2 ^ 64 → word ≢ 0 → 1 ≤ most → AreLowest word most mask → 1 ≤ length (frames_in g mask)
 some-taken word most mask g small ne some low =
     let bits : 1 ≤ bit_count word = some-bit word small ne in
-    let count : length (frames_in g mask) ≡ bit_count mask = ap length (sym (all-below g mask)) ∙ count-below 64 g mask in
+    let count : length (frames_in g mask) ≡ bit_count mask = mask-count g mask in
     omega (arith, bits, some, low.count, count)

@@ -1,4 +1,6 @@
 -- What steps leave of a view that move free frames alone: of one step, and of several in a row.
+use Rattle.vm_step.specs.Prelude.{KeepsNumbers}
+use Rattle.vm_step.proofs.Asides.{numbers-self, numbers-then}
 use Rattle.vm_exmap.proofs.Prelude.{[], alone-silent, alone-then, ap, append-none, append_assoc, Brings, bundles_of, contents_at, Did, Each, each-both}
 use Rattle.vm_exmap.proofs.Prelude.{each-map, else-knows, else-then, has, HoldsPage, inr, IsAlone, IsAsideOf, IsBundleOf, IsLocking}
 use Rattle.vm_exmap.proofs.Prelude.{KnowsAsBefore, KnowsElse, last_in, List, MovesFrames, no_seat, None, Origin, Place, Put, put_at, ReadsAsBefore}
@@ -8,7 +10,7 @@ use Rattle.vm_exmap.proofs.Prelude.{subst, sym, Tie, true, View, view, Within, �
 module _ {X : Type 0} where
   -- no step at all
   pub moved-nothing : (v : View X) → MovesFrames [] v v
-  moved-nothing v = search (rules, append-none)
+  moved-nothing v = search (rules, append-none, numbers-self v)
 
   -- one step that changes the free frames and what is known of their words
   pub moved-by : (did : Did) (g : ℕ) (frames : List ℕ) (contents : List (Put (List ℕ))) (v w : View X) → did.at ≡ Place.Bundle g → g < bundles_of v.start.frames → Brings did [] [] v (record v { frames = frames; contents = contents }) w
@@ -19,7 +21,8 @@ module _ {X : Type 0} where
       let last = λ (p : ℕ) (l : IsLocking (seat_of v p)). ap (λ (x : View X). last_in x.start x.releases p) b.view ∙ ap (λ (t : List Release). last_in v.start t p) (append-none (v.releases ++ b.between)) ∙ b.kept p l in
       let words = λ (f : ℕ) (h : has f v.frames ≡ true) (k : has f w.frames ≡ true). ap (λ (x : View X). contents_at x f) b.view ∙ same f h (sym (ap (λ (x : View X). has f x.frames) b.view) ∙ k) in
       let table = else-knows (IsBundleOf v.start) (did ∷ []) [] v w (ap (λ (x : View X). x.start) b.view) runs ((subst (Within v.start) (sym at) inside, inr here), tt) in
-      search (rules, ap, b.view, seen, releases, last, words, alone-silent did None [] v (record v { frames = frames; contents = contents }) w b refl, runs, here, table)
+      let numbers : KeepsNumbers v w = λ _. (ap (λ (x : View X). x.numbers) b.view, ap (λ (x : View X). x.freed) b.view) in
+      search (rules, ap, b.view, seen, releases, last, words, numbers, alone-silent did None [] v (record v { frames = frames; contents = contents }) w b refl, runs, here, table)
     where
       here : IsBundleOf v.start did.at
       here = subst (IsBundleOf v.start) (sym at) inside
@@ -37,7 +40,7 @@ module _ {X : Type 0} where
       let steps = each-both (λ (d : Did). IsBundleOf u.start d.at) a b f.steps (subst (λ (o : Origin). Each (λ (d : Did). IsBundleOf o d.at) b) f.start g.steps) in
       let seen = starts-then u.seen v.seen w.seen f.seen g.seen in
       let releases = starts-then u.releases v.releases w.releases f.releases g.releases in
-      search (rules, append_assoc u.log a b, seen, releases, alone-then u v w f.parts f.alone g.alone, runs, steps, last, contents, table)
+      search (rules, append_assoc u.log a b, seen, releases, alone-then u v w f.parts f.alone g.alone, numbers-then u v w f.start f.numbers g.numbers, runs, steps, last, contents, table)
 
   -- none of the steps is on a page's state word
   pub leaves-states : (done : List Did) (v w : View X) → MovesFrames done v w → Each (λ (d : Did). (p : ℕ) → d.at ≢ Place.State p) done

@@ -2,7 +2,7 @@
 use Rattle.std.specs.Prelude.{[], List, true, ℕ, ◌++◌, ◌<◌, ◌≡◌, ◌≢◌, ◌⊎◌}
 use Rattle.vm_rule.specs.Prelude.{bundles_of, contents_at, Each, has, IsLocking, last_of, seat_of, StartsWith}
 use Rattle.vm_rule.specs.declared.view.Place.{Place}
-use Rattle.vm_step.specs.Prelude.{Did, IsAlone, known_word_at, KnowsElse, Origin, RunsAlone, StaysAlone, View}
+use Rattle.vm_step.specs.Prelude.{Did, IsAlone, KeepsNumbers, known_word_at, KnowsElse, Origin, RunsAlone, StaysAlone, View}
 pub use Rattle.vm_step.specs.HeldFrames.{AreHeld}
 
 -- the place is a bundle's word
@@ -26,6 +26,7 @@ module _ {X : Type 0} where
     pub out : w.out ≡ v.out
     pub notes : w.notes ≡ v.notes
     pub group : (w.pending ≡ v.pending) × (w.owed ≡ v.owed) × (w.next ≡ v.next)
+    pub numbers : KeepsNumbers v w
     pub mine : w.mine ≡ v.mine
     pub seen : StartsWith w.seen v.seen
     pub releases : StartsWith w.releases v.releases

@@ -288,7 +288,7 @@ module _ {X : Type 0} (p version : ℕ) (words : List ℕ) (before more : List D
   module _ (silent : WritesNone (Place.State p) more) (below : version < MAX_VERSION) (w : View X) where
     pub unlocked-ends : ReleaseTold p version [] None f w → EndsAs UNLOCKED (all-before ++ did_store (Place.State p) (version + 1) ∷ []) w
     unlocked-ends t =
-        ends UNLOCKED (version + 1) (unlocked-is (version + 1)) silent below _ w t.brings (ap (λ (y : View X). y.out) t.brings.view) (release-silent t still-free still-paid still-next) (release-others t (λ q. q ≡ p) refl) (release-seat t) (release-last t) (release-alone t)
+        ends UNLOCKED (version + 1) (unlocked-is (version + 1)) silent below _ w t.brings (ap (λ (y : View X). y.out) t.brings.view) (release-silent t still-free still-paid still-next (still-draft ∙ ap (λ (y : Version). y.words) (sym still-last))) (release-others t (λ q. q ≡ p) refl) (release-seat t) (release-last t) (release-alone t)
 
     pub evicted-ends : EvictTold p version f w → EndsAs EVICTED (all-before ++ did_store (Place.State p) (word_of EVICTED (version + 1)) ∷ []) w
     evicted-ends t =

@@ -1,8 +1,8 @@
 -- Calls that say nothing and change no lock, one after another; `OnlyReads` is what the steps of such calls leave that change nothing of the view but
 -- open reads. The files of the kinds of steps say which do.
 use Rattle.vm_step.proofs.Prelude.{[], after_releases, ap, append-none, append_assoc, BringsWith, cases_eq, Did, Entry, eq-eqb, first_history, History}
-use Rattle.vm_step.proofs.Prelude.{HoldsPage, if◌then◌else◌, inl, inr, IsAsideOf, IsLocking, IsWhole, KeepsFrames, KnowsAsBefore, last_in, last_of, List}
-use Rattle.vm_step.proofs.Prelude.{ne_eqb, None, Option, pushed, ReadsAsBefore, refl, Release, rules, seat_of, StartsWith, StaysAlone, Stored, subst, sym, Tie}
+use Rattle.vm_step.proofs.Prelude.{HoldsPage, if◌then◌else◌, inl, inr, IsAsideOf, IsLocking, IsWhole, KeepsFrames, KeepsNumbers, KnowsAsBefore, last_in, last_of, List}
+use Rattle.vm_step.proofs.Prelude.{ne_eqb, None, Option, Origin, pushed, ReadsAsBefore, refl, Release, rules, seat_of, StartsWith, StaysAlone, Stored, subst, sym, Tie}
 use Rattle.vm_step.proofs.Prelude.{times, View, ℕ, ⊎_elim, ◌++◌, ◌+◌, ◌==◌, ◌∙◌, ◌∷◌, ◌≡◌, ◌≤◌}
 
 -- what begins with what begins with it
@@ -69,13 +69,19 @@ module _ {X : Type 0} where
   pub reads-then : (u v w : View X) (q : ℕ) → ReadsAsBefore u v q → ReadsAsBefore v w q → ReadsAsBefore u w q
   reads-then u v w q f g = record { reading = g.reading ∙ f.reading; loads = g.loads ∙ f.loads }
 
+  pub numbers-self : (v : View X) → KeepsNumbers v v
+  numbers-self v t = (refl, refl)
+
+  pub numbers-then : (u v w : View X) → v.start ≡ u.start → KeepsNumbers u v → KeepsNumbers v w → KeepsNumbers u w
+  numbers-then u v w start f g t = let more = g (ap (λ (o : Origin). o.tells) start ∙ t) in (more.0 ∙ (f t).0, more.1 ∙ (f t).1)
+
   pub aside-then : (touched : ℕ → Type 0) (a b : List Did) (u v w : View X) → IsAsideOf touched a u v → IsAsideOf touched b v w → IsAsideOf touched (a ++ b) u w
   aside-then touched a b u v w f g =
       let log : w.log ≡ u.log ++ (a ++ b) = g.log ∙ ap (λ (t : List Did). t ++ b) f.log ∙ append_assoc u.log a b in
       let ties : (more : List Tie) × (w.ties ≡ more ++ u.ties) = (g.ties.0 ++ f.ties.0, g.ties.1 ∙ ap (λ (t : List Tie). g.ties.0 ++ t) f.ties.1 ∙ sym (append_assoc g.ties.0 f.ties.0 u.ties)) in
       let knows : (q : ℕ) → IsLocking (seat_of u q) → KnowsAsBefore u w q = λ q l. knows-then u v w q (f.knows q l) (g.knows q (still-locking u v q (f.holds q) l)) in
       let others : (q : ℕ) → (touched q → ⊥) → ReadsAsBefore u w q = λ q ne. reads-then u v w q (f.others q ne) (g.others q ne) in
-      search (rules, log, starts-then u.seen v.seen w.seen f.seen g.seen, starts-then u.releases v.releases w.releases f.releases g.releases, ties, holds-then u v w, knows, others, alone-then u v w f.parts f.alone g.alone)
+      search (rules, log, starts-then u.seen v.seen w.seen f.seen g.seen, starts-then u.releases v.releases w.releases f.releases g.releases, ties, numbers-then u v w f.start f.numbers g.numbers, holds-then u v w, knows, others, alone-then u v w f.parts f.alone g.alone)
 
   -- what leaves all but the open reads of some pages leaves all but those of more pages
   pub aside-within : (touched more : ℕ → Type 0) (done : List Did) (v w : View X) → ((q : ℕ) → touched q → more q) → IsAsideOf touched done v w → IsAsideOf more done v w

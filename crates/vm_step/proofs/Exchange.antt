@@ -8,7 +8,7 @@ use Rattle.vm_step.proofs.{Here.world, Logical.not-pending, Quiet.quiet-shows, Q
 use Rattle.vm_step.proofs.Prelude.{[], actor_of, after_event, after_step, any-here, ap, arith, at-bound, became, block-here, block-is_last, block_of, Bool}
 use Rattle.vm_step.proofs.Prelude.{Brings, cases_eq, core-still, core_shown, Did, did_exchange, draft-is, draft_of, Each, each-upd, each-upd2, either, Entry, eqb}
 use Rattle.vm_step.proofs.Prelude.{Event, exchange_seen, exchange_sees, exchanged, false, false_from_ne_true, finds, finds-hit, finds-miss, FindsAt, frame_of}
-use Rattle.vm_step.proofs.Prelude.{get_elem?, has, Held, if◌then◌else◌, index_of, is_pending, IsEvent, IsHeldAt, IsOlder, IsPassOf, IsSinceAll, IsUnheld, Kept}
+use Rattle.vm_step.proofs.Prelude.{get_elem?, has, Held, holdings, if◌then◌else◌, index_of, is_pending, IsEvent, IsHeldAt, IsOlder, IsPassOf, IsSinceAll, IsUnheld, Kept}
 use Rattle.vm_step.proofs.Prelude.{KnowsOwner, KnowsOwners, KnowsPage, last-is, last_in, last_of, Legal, length, List, LOCKED, locked, locked_view, LockS}
 use Rattle.vm_step.proofs.Prelude.{locks-step, LockValidates, LockW, lockw-step, LockX, lockx-step, lost-locks, lost-lockw, lost-lockx, lost-mark, lost-unmark}
 use Rattle.vm_step.proofs.Prelude.{lost-upgrade, Mapping, Mark, mark-step, MARKED, marked, may_call, MayLock, MayRaiseLock, MayShare, NamesActorAndPage}
@@ -88,7 +88,7 @@ module _ {X B : Type 0} (stored : B → Stored) (start : Origin) (keeps : Start 
             (λ miss. let view = (lost-view did expects found v inner w miss brings).view in
             rw (ne_eqb found expects miss)
             (ap (λ l. core_shown stored start (table_after s l id w)) (ap (slice_set s.words i) finds.1 ∙ same-word s.words i)
-            ∙ core-still stored start s id v w pass.there (ap (λ (k : View X). k.out) view) (ap (λ (k : View X). k.frames) view) (ap (λ (k : View X). k.seats) view)
+            ∙ core-still stored start s id v w pass.there (ap (λ (k : View X). k.out) view) (ap (λ (k : View X). holdings k) view) (ap (λ (k : View X). k.seats) view)
             ∙ sym (lost miss)))
             (cases_eq found expects);
         sees = sees;
@@ -125,7 +125,7 @@ module _ {X B : Type 0} (stored : B → Stored) (start : Origin) (s : Table (Opt
   -- then, with these drafts and any view that has of the pages what `inner` has, and the page is `y`; where it is lost, to the same world.
   pub record IsExchange (p expects x : ℕ) (drafts' : ℕ → List ℕ) (inner : View X) (e : Event) (y : Page) : Type 0 where
     pub legal : Legal old.core e
-    pub leads : (w : View X) → w.out ≡ inner.out → w.frames ≡ inner.frames → w.seats ≡ inner.seats → w.loads ≡ inner.loads → finds (old.core.pages p) expects ≡ true
+    pub leads : (w : View X) → w.out ≡ inner.out → holdings w ≡ holdings inner → w.seats ≡ inner.seats → w.loads ≡ inner.loads → finds (old.core.pages p) expects ≡ true
         → world_of stored start releases drafts' (wrote stored start s id (places.State p) x w) ≡ world_after old e
     pub core : finds (old.core.pages p) expects ≡ true → (world_after old e).core ≡ on_page old.core p y
     pub none : finds (old.core.pages p) expects ≡ false → world_after old e ≡ old
@@ -136,7 +136,7 @@ module _ {X B : Type 0} (stored : B → Stored) (start : Origin) (s : Table (Opt
 
     -- an exchange for a word of this state at the version expected, by what it is as a step
     exchange-of : (state : ℕ) (drafts' : ℕ → List ℕ) (inner : View X) (e : Event) (y : Page) → Legal old.core e
-        → ((w : View X) → w.out ≡ inner.out → w.frames ≡ inner.frames → w.seats ≡ inner.seats → w.loads ≡ inner.loads
+        → ((w : View X) → w.out ≡ inner.out → holdings w ≡ holdings inner → w.seats ≡ inner.seats → w.loads ≡ inner.loads
         → state_of (word_of state (version_of expects)) ≡ state → version_of (word_of state (version_of expects)) ≡ version_of expects → finds (old.core.pages p) expects ≡ true
         → world_of stored start releases drafts' (wrote stored start s id (places.State p) (word_of state (version_of expects)) w) ≡ world_after old e)
         → (finds (old.core.pages p) expects ≡ true → (world_after old e).core ≡ on_page old.core p y)
@@ -326,8 +326,8 @@ module _ {X B : Type 0} (stored : B → Stored) (keeps : Start → Kept X → Ty
         → ((q : ℕ) → (put_at no_seat seats q).exclusive ≡ true → put_at [] own q ≡ drafts q)
         → ShowsQuiet stored keeps tied start tells s r id v (slice_set s.words p x) drafts did (locking v seats loads held own) e
     word-shows seats loads held own is calls holds knows owners members drafted =
-        let known = subst (λ (c : State). (c.next ≡ old'.core.next) × ((q : ℕ) → KnowsPage (put_at no_seat seats q) (put_at no_held held q) (c.pages q))
-        × KnowsOwners c.owners (put_at no_seat seats) (put_at no_held held) × ((f : ℕ) → has f v.frames ≡ true → put_at [] v.contents f ≡ c.words f)) (sym is.core) (refl, knows, owners, (r.known id v there live).contents) in
+        let known = subst (λ (c : State). (c.next ≡ old'.core.next) × (c.spares ≡ old'.core.spares) × ((q : ℕ) → KnowsPage (put_at no_seat seats q) (put_at no_held held q) (c.pages q))
+        × KnowsOwners c.owners (put_at no_seat seats) (put_at no_held held) × ((f : ℕ) → has f v.frames ≡ true → put_at [] v.contents f ≡ c.words f)) (sym is.core) (refl, refl, knows, owners, (r.known id v there live).contents) in
         let loaded : (l : List Translation) × (v.translations ≡ l ++ v.translations) × Each (TranslationHolds (world_after old' e).core.pages) l = ([], refl, tt) in
         assumption
 
@@ -393,7 +393,7 @@ module _ {X B : Type 0} (stored : B → Stored) (start : Origin) (keeps : Start 
       let hits : found ≡ expects → finds y expects ≡ true = (λ hit. finding stored keeps tied start tells s pass.rule id v pass.there p expects at.0 (sym at.1 ∙ hit)) in
       let misses : found ≢ expects → finds y expects ≡ false = (λ miss. missing stored keeps tied start tells s pass.rule id v pass.there p expects at.0 (λ q. miss (at.1 ∙ q))) in
       tried-event stored start keeps tied tells s id (places.State p) expects found x did v inner w e pass at brings event.legal
-      (λ hit b. ap (λ (k : World). k.core) (event.leads w (ap (λ (k : View X). k.out) b.view) (ap (λ (k : View X). k.frames) b.view) (ap (λ (k : View X). k.seats) b.view) (ap (λ (k : View X). k.loads) b.view) (hits hit)))
+      (λ hit b. ap (λ (k : World). k.core) (event.leads w (ap (λ (k : View X). k.out) b.view) (ap (λ (k : View X). holdings k) b.view) (ap (λ (k : View X). k.seats) b.view) (ap (λ (k : View X). k.loads) b.view) (hits hit)))
       (λ miss. ap (λ (k : World). k.core) (event.none (misses miss)))
       (sees ∙ ⊎_elim
       (λ hit. rw (hits hit, eq-eqb found expects hit) refl)

@@ -1,6 +1,6 @@
 -- What the steps of a call that speaks of one page leave of a view, and that this holds of several steps in a row.
-use Rattle.vm_step.proofs.{Alone.runs-one, Alone.runs-self, Alone.runs-then, Asides.starts-then, steps.Leaving.last-still}
-use Rattle.vm_step.proofs.Prelude.{[], ap, append-none, append_assoc, BringsWith, cases_eq, Did, Held, held_at, HoldsPage, IsAside, IsLocking, KnowsAsBefore}
+use Rattle.vm_step.proofs.{Alone.runs-one, Alone.runs-self, Alone.runs-then, Asides.numbers-then, Asides.starts-then, steps.Leaving.last-still}
+use Rattle.vm_step.proofs.Prelude.{[], ap, append-none, append_assoc, BringsWith, cases_eq, Did, Held, held_at, HoldsPage, IsAside, IsLocking, KeepsNumbers, KnowsAsBefore}
 use Rattle.vm_step.proofs.Prelude.{last_of, LeavesRest, List, no_held, Note, Option, Out, Put, put_at, ReadsAsBefore, refl, rules, Seat, seat_of, StartsWith}
 use Rattle.vm_step.proofs.Prelude.{StaysAlone, Stored, subst, sym, Tie, View, Works, ℕ, ⊎_elim, ◌++◌, ◌∙◌, ◌∷◌, ◌≡◌, ◌≢◌}
 
@@ -14,7 +14,7 @@ module _ {X : Type 0} (p : ℕ) where
       let held = λ (q : ℕ) (ne : q ≢ p). g.held q ne ∙ f.held q ne in
       let drafts = λ (q : ℕ) (ne : q ≢ p). g.drafts q ne ∙ f.drafts q ne in
       let last : (q : ℕ) → q ≢ p → IsLocking (seat_of u q) → last_of w q ≡ last_of u q = λ q ne l. g.last q ne (subst (λ (s : Seat). IsLocking s) (sym (f.seats q ne)) l) ∙ f.last q ne l in
-      search (rules, log, starts-then u.seen v.seen w.seen f.seen g.seen, starts-then u.releases v.releases w.releases f.releases g.releases, ties, seats, loads, held, drafts, last)
+      search (rules, log, starts-then u.seen v.seen w.seen f.seen g.seen, starts-then u.releases v.releases w.releases f.releases g.releases, ties, numbers-then u v w f.start f.numbers g.numbers, seats, loads, held, drafts, last)
 
   -- ---- the call as a whole
 
@@ -49,4 +49,5 @@ module _ {X : Type 0} (p : ℕ) where
       let releases : StartsWith w.releases v.releases = (b.between ++ [], ap (λ (x : View X). x.releases) b.view ∙ append_assoc v.releases b.between []) in
       let known : (q : ℕ) → q ≢ p → held_at w q ≡ held_at v q = λ q ne. ap (λ (x : View X). held_at x q) b.view ∙ others q ne in
       let last : (q : ℕ) → IsLocking (seat_of v q) → last_of w q ≡ last_of v q = λ q. last-still b refl q in
-      search (rules, ap, b.view, seen, releases, known, last, runs-one did block [] [] v _ w b)
+      let numbers : KeepsNumbers v w = λ _. (ap (λ (x : View X). x.numbers) b.view, ap (λ (x : View X). x.freed) b.view) in
+      search (rules, ap, b.view, seen, releases, numbers, known, last, runs-one did block [] [] v _ w b)

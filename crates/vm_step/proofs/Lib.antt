@@ -30,3 +30,4 @@ pub mod MetPasses
 pub mod HeldFrames
 pub mod steps
 pub mod Releasing
+pub mod Masks

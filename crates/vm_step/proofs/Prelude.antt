@@ -41,6 +41,8 @@ pub use Rattle.vm_rule.specs.Prelude.{BringsWith, bundle_count, BundleTold, Caug
 pub use Rattle.vm_rule.specs.Prelude.{ClaimTold, clean_in, CleanTold, ClearTold, contents_at, core_from, core_shown, DeviceDid, did_change, did_exchange}
 pub use Rattle.vm_rule.specs.Prelude.{did_load, did_store, dirty_in, DirtyTold, DowngradeTold, draft_of, Drafts, Each, entries_by, entries_of, entries_under}
 pub use Rattle.vm_rule.specs.Prelude.{Entry, entry_of, Event, EvictTold, FaultsFit, FillTold, first_history, first_part, frame_read_by, frames_held, giver}
+pub use Rattle.vm_rule.specs.Prelude.{holdings, numbers_held}
+pub use Rattle.vm_rule.proofs.Cores.{numbers-still}
 pub use Rattle.vm_rule.specs.Prelude.{GiveTold, HandTold, has, has_lock, HasShape, hearer, Hears, held_at, HoldsNoPage, HoldsNothing, home, HomeTold, index_of}
 pub use Rattle.vm_rule.specs.Prelude.{InstallTold, is_owed, is_pending, IsFoundAt, IsHeldAt, IsLocking, IsOlder, IsSince, IsSinceAll, IsUnheld, IsWhole}
 pub use Rattle.vm_rule.specs.Prelude.{IsWritten, joined, JoinTold, Kept, kept_of, known, KnowsLists, KnowsOwner, KnowsOwners, KnowsPage, KnowsPages, last_in}
@@ -81,12 +83,12 @@ pub use Rattle.vm_step.specs.{steps.Block.slot_play, steps.CatchUp.CatchUpIsItsE
 pub use Rattle.vm_step.specs.{steps.Content.StoreIsItsEvent, steps.Hand.HandIsItsEvent, steps.Lock.LockExclusiveIsItsEvent, steps.Look.LookIsItsEvent}
 pub use Rattle.vm_step.specs.{steps.Mark.MarkIsItsEvent, steps.Mark.UnmarkIsItsEvent, steps.Next.ClaimIsItsEvent, steps.Next.NloadIsItsEvent}
 pub use Rattle.vm_step.specs.{steps.Pass.FollowIsItsEvent, steps.Share.LockSharedIsItsEvent, steps.Share.UnlockSharedIsItsEvent}
-pub use Rattle.vm_step.specs.{steps.Translate.TloadIsItsEvent, steps.WriteBack.LockWriteBackIsItsEvent, steps.WriteBack.UpgradeIsItsEvent, Together.all_notes}
+pub use Rattle.vm_step.specs.{steps.Translate.TloadIsItsEvent, steps.WriteBack.LockWriteBackIsItsEvent, steps.WriteBack.UpgradeIsItsEvent, Together.all_freed, Together.all_notes, Together.all_numbers}
 pub use Rattle.vm_step.specs.{Together.all_used, Together.HasPiece}
 pub use Rattle.vm_step.specs.BlockMoves.{brought_to, IsCall, IsHome, ShowsBut, ShowsSame, taken_from, with_block}
 pub use Rattle.vm_step.specs.NoEvents.{HasNone, IsSplitOff, IsTakenIn, table_heard, table_joined, table_split, taken_in, with_actor}
 pub use Rattle.vm_step.specs.Prelude.{AllowsStep, AreHeld, CatchTold, Did, exchange_sees, exchanged, first_or, Follows, GoesOnce, HasGiven, HasJoined, HasStill}
-pub use Rattle.vm_step.specs.Prelude.{HasWritten, HoldsPage, IsAlone, IsAside, IsAsideOf, IsCalledOnce, IsClaimed, IsEvent, IsFirst, IsFit, IsHeld, IsKeptNow}
+pub use Rattle.vm_step.specs.Prelude.{HasWritten, HoldsPage, IsAlone, IsAside, KeepsNumbers, IsAsideOf, IsCalledOnce, IsClaimed, IsEvent, IsFirst, IsFit, IsHeld, IsKeptNow}
 pub use Rattle.vm_step.specs.Prelude.{IsMember, IsNotOut, IsOf, IsPassOf, IsPlacedAt, IsReady, IsSamePass, IsSaw, IsToldOf, KeepsFrames, known_word_at}
 pub use Rattle.vm_step.specs.Prelude.{KnowsAll, KnowsAsBefore, KnowsAt, KnowsElse, KnowsUnheld, LeavesLast, LeavesOnly, LeavesRest, LocksNone, LookTells}
 pub use Rattle.vm_step.specs.Prelude.{MayDowngrade, MayEvict, MayGiveUp, MayGoOn, MayRaise, MayTakeOut, MayTell, MayUnshare, Meets, Note, NoWord, Origin, Out}

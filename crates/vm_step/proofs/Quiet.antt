@@ -1,13 +1,19 @@
 -- A step that releases no page: of it the layer above sees an entry, the next page and the pages owed, at most. So the step shows little more than what the pass
 -- knows of pages and of the frames that it holds.
 use mathlib.Core.Option as maybe
+use Rattle.std.specs.Prelude.{map}
+use Rattle.vm_core.specs.Prelude.{has_free_bit}
+use Rattle.vm_numbers.proofs.Steps.{quiet_keeps}
+use Rattle.vm_numbers.specs.Hands.{Hands, NumbersFit}
+use Rattle.vm_rule.proofs.Numbered.{hands-still, numbers-as}
+use Rattle.vm_rule.specs.{Rule.hands_of, Views.any}
 use Rattle.vm_step.proofs.{Logical.logical-same, Written.IsWordOf}
 use Rattle.vm_step.proofs.Prelude.{[], after_more, after_step, any-here, any-same, ap, append-none, arith, became, became_more, began_of, block_of, Bool}
 use Rattle.vm_step.proofs.Prelude.{chosen, core_shown, Did, draft-is, draft_of, Each, Entry, entry_of, Event, false, fun_ext, get_elem?, has, Held}
 use Rattle.vm_step.proofs.Prelude.{histories_of, inl, is_owed, is_pending, Kept, kept_of, KnowsOwners, KnowsPage, KnowsPages, last-same, Legal, List, listed}
 use Rattle.vm_step.proofs.Prelude.{logical, may_call, no_held, Option, Origin, Out, Put, put_at, refl, replicate, Ruled, rules, seat_of, Shows, slice_set, Some}
 use Rattle.vm_step.proofs.Prelude.{some, Start, State, Stored, subst, sym, Table, Tie, TieHolds, Translation, TranslationHolds, true, true≢false, View, World}
-use Rattle.vm_step.proofs.Prelude.{world_after, world_of, ℕ, ◌++◌, ◌<◌, ◌∙◌, ◌∷◌, ◌≡◌, ◌≢◌, ◌≤◌, ◌⊎◌}
+use Rattle.vm_step.proofs.Prelude.{world_after, world_of, ℕ, ⊎_elim, ◌++◌, ◌<◌, ◌∙◌, ◌∷◌, ◌≡◌, ◌≢◌, ◌≤◌, ◌⊎◌}
 
 -- ---- what follows of any such step
 
@@ -21,12 +27,17 @@ module _ {X B : Type 0} (stored : B → Stored) (keeps : Start → Kept X → Ty
   abbrev old : World
   old = world_of stored start r.releases r.drafts s
 
-  -- the table shows this world then; each member still to be released keeps its draft, and the next page goes up, if it moves
+  -- the table shows this world then; each member still to be released keeps its draft, and the next page goes up, if it moves; no page number is taken or given, and the
+  -- pages owed stay, or what is said of page numbers holds with those that come
   pub record LeadsTo : Type 0 where
     pub world : world_of stored start r.releases drafts new ≡ later
     pub pending : inner.pending ≡ v.pending
     pub members : (q : ℕ) → is_pending s.views q ≡ true → drafts q ≡ r.drafts q
     pub up : old.core.next ≤ later.core.next
+    pub spares : later.core.spares ≡ old.core.spares
+    pub numbers : inner.numbers ≡ v.numbers
+    pub freed : inner.freed ≡ v.freed
+    pub owes : (inner.owed ≡ v.owed) ⊎ (start.tells ≡ true → NumbersFit (has_free_bit later.core.spares) later.core.next (λ q. (old.histories q).last.words) (logical old.histories (is_pending s.views)) (map hands_of (slice_set s.views id after)))
 
   -- so it does with the releases after the step, and this is so of the members and of what the layer above has then
   pub record HasLed : Type 0 where
@@ -35,6 +46,8 @@ module _ {X B : Type 0} (stored : B → Stored) (keeps : Start → Kept X → Ty
     pub zero : start.tells ≡ true → (q : ℕ) → (core_shown stored start new).next ≤ q → q < start.pages → (histories_of start (r.releases ++ []) drafts q).last.words ≡ replicate start.size 0
     pub members : (q : ℕ) → has q inner.pending ≡ true
         → ((seat_of v q).exclusive ≡ true) × (start.tells ≡ true → (core_shown stored start new).next ≤ q → drafts q ≡ (histories_of start (r.releases ++ []) drafts q).last.words)
+    pub fits : start.tells ≡ true → NumbersFit (has_free_bit (core_shown stored start new).spares) (core_shown stored start new).next (λ q. (histories_of start (r.releases ++ []) drafts q).last.words)
+        (logical (histories_of start (r.releases ++ []) drafts) (is_pending (slice_set s.views id after))) (map hands_of (slice_set s.views id after))
     pub kept : kept_of (world_of stored start (r.releases ++ []) drafts new) (r.history ++ entries) (slice_set s.views id after)
         ≡ record (kept_of old r.history s.views) { next = later.core.next; owed = chosen start.pages (is_owed (slice_set s.views id after)); history = r.history ++ entries }
 
@@ -57,6 +70,24 @@ module _ {X B : Type 0} (stored : B → Stored) (keeps : Start → Kept X → Ty
         (λ t. draft-is start (r.releases ++ []) drafts q ∙ to.members q t ∙ sym (draft-is start r.releases r.drafts q))
         (λ _. ap (λ x. x.words) (last-stays q)))
 
+    held-stays : (q : ℕ) → any (λ (y : View X). has q y.numbers) (slice_set s.views id after) ≡ any (λ (y : View X). has q y.numbers) s.views
+    held-stays q = any-same (λ (y : View X). has q y.numbers) s.views id v after there (ap (has q) to.numbers)
+
+    freed-stays : (q : ℕ) → any (λ (y : View X). has q y.freed) (slice_set s.views id after) ≡ any (λ (y : View X). has q y.freed) s.views
+    freed-stays q = any-same (λ (y : View X). has q y.freed) s.views id v after there (ap (has q) to.freed)
+
+    -- what is said of page numbers, in the world that the table shows then
+    fits-then : start.tells ≡ true → NumbersFit (has_free_bit later.core.spares) later.core.next (λ q. (old.histories q).last.words) (logical old.histories (is_pending s.views)) (map hands_of (slice_set s.views id after))
+    fits-then t =
+        ⊎_elim
+        (λ same.
+        let hands : hands_of after ≡ hands_of v = λ i. record { numbers = to.numbers i; freed = to.freed i; owed = same i; pending = to.pending i } in
+        subst (λ (f : ℕ → ℕ). NumbersFit (has_free_bit f) later.core.next (λ q. (old.histories q).last.words) (logical old.histories (is_pending s.views)) (map hands_of (slice_set s.views id after))) (sym to.spares)
+        (subst (λ (l : List Hands). NumbersFit (has_free_bit old.core.spares) later.core.next (λ q. (old.histories q).last.words) (logical old.histories (is_pending s.views)) l) (sym (hands-still s.views id v after there hands))
+        (quiet_keeps _ _ _ _ _ _ _ (map hands_of s.views) to.up (λ q. ((λ z. z), (λ z. z))) (r.numbers t))))
+        (λ more. more t)
+        to.owes
+
     pub has-led : HasLed
     has-led = record {
       world = world-told;
@@ -72,8 +103,13 @@ module _ {X B : Type 0} (stored : B → Stored) (keeps : Start → Kept X → Ty
                 ∙ m.1 t (past q le)
                 ∙ sym (ap (λ y. y.words) (last-stays q)),
           );
+      fits = λ t. numbers-as (ap (λ (w : World). has_free_bit w.core.spares) (sym world-told)) (ap (λ (w : World). w.core.next) (sym world-told)) (fun_ext (λ q. ap (λ x. x.words) (sym (last-stays q))))
+          (sym ((λ j. logical (histories_of start (r.releases ++ []) drafts) (pending-stays j)) ∙ logical-stays)) refl (fits-then t);
       kept = λ i. record {
         pages = listed start.pages (((λ j. logical (histories_of start (r.releases ++ []) drafts) (pending-stays j)) ∙ logical-stays) i);
+        free = has_free_bit ((ap (λ (w : World). w.core.spares) world-told ∙ to.spares) i);
+        held = λ q. held-stays q i;
+        freed = λ q. freed-stays q i;
         next = ap (λ (w : World). w.core.next) world-told i;
         owed = chosen start.pages (is_owed (slice_set s.views id after));
         history = r.history ++ entries;
@@ -130,7 +166,7 @@ module _ {X B : Type 0} (stored : B → Stored) (keeps : Start → Kept X → Ty
       let tying : (l : List Tie) × (inner.ties ≡ l ++ v.ties) × (start.tells ≡ true → Each (TieHolds tied (began_of start) (world_of stored start (r.releases ++ []) drafts new) (is_pending views)) l) = (sh.tying.0, sh.tying.1, ties) in
       let members : (q : ℕ) → has q v.pending ≡ true → has q inner.pending ≡ false → ((core_shown stored start new).pages q).version ≢ (now.core.pages q).version = λ q was gone. absurd (true≢false (sym was ∙ sym (ap (has q) sh.leads.pending) ∙ gone)) in
       let owner = λ (t : start.tells ≡ true) (kept : keeps (began_of start) (kept_of now r.history s.views)). subst (keeps (began_of start)) (sym led.kept) (sh.owner t kept) in
-      search (rules, sh, led, known, pending, tying, members, owner)
+      search (rules, sh, led, led.fits, known, pending, tying, members, owner)
 
 -- ---- where nothing is said, and the pages owed and the next page are as they were
 
@@ -151,6 +187,7 @@ module _ {X B : Type 0} (stored : B → Stored) (keeps : Start → Kept X → Ty
     pub holds : (q : ℕ) → (seat_of v q).exclusive ≡ true → (seat_of inner q).exclusive ≡ true
     pub members : (q : ℕ) → is_pending s.views q ≡ true → drafts q ≡ r.drafts q
     pub next : (world_after before e).core.next ≡ before.core.next
+    pub spares : (world_after before e).core.spares ≡ before.core.spares
     pub knows : (q : ℕ) → KnowsPage (seat_of inner q) (put_at no_held inner.held q) ((world_after before e).core.pages q)
     pub owners : KnowsOwners (world_after before e).core.owners (seat_of inner) (put_at no_held inner.held)
     pub contents : (f : ℕ) → has f inner.frames ≡ true → put_at [] inner.contents f ≡ (world_after before e).core.words f
@@ -165,7 +202,7 @@ module _ {X B : Type 0} (stored : B → Stored) (keeps : Start → Kept X → Ty
         let owed : inner.owed ≡ v.owed = ap (λ (x : View X). x.owed) sh.leaves in
         let owed-stays : is_owed (slice_set s.views id behind) ≡ is_owed s.views = fun_ext (λ q. any-same (λ (y : View X). has q y.owed) s.views id v behind there (ap (has q) owed)) in
         let leads : LeadsTo stored keeps tied start tells s r id v words s.homes (listed start.pages (block_of stored s.homes s.views)) drafts [] did inner (world_after before e)
-        = record { world = sh.world; pending = pending; members = sh.members; up = let same = sh.next in omega (arith, same) } in
+        = record { world = sh.world; pending = pending; members = sh.members; up = let same = sh.next in omega (arith, same); spares = sh.spares; numbers = ap (λ (x : View X). x.numbers) sh.leaves; freed = ap (λ (x : View X). x.freed) sh.leaves; owes = inl owed } in
         let owes : (q : ℕ) → has q inner.owed ≡ true → ((seat_of inner q).exclusive ≡ true) × (start.next ≤ q) × (q < (world_after before e).core.next) × (has q inner.pending ≡ false)
         = λ q x. let m = k.owed q (sym (ap (has q) owed) ∙ x) in (sh.holds q m.0, m.1, subst (λ n. q < n) (sym sh.next) m.2, ap (has q) pending ∙ m.3) in
         let next : (x : ℕ) → inner.next ≡ Some x → ((seat_of inner x).exclusive ≡ true) × ((world_after before e).core.next ≡ x)
@@ -187,11 +224,12 @@ module _ {X B : Type 0} (stored : B → Stored) (keeps : Start → Kept X → Ty
   pub held-shows : IsWordOf start s.words words did → Legal was.core e
       → world_of stored start r.releases r.drafts (became stored keeps tied start tells s words id (after_step stored keeps tied start tells s r words [] [] did with_these)) ≡ world_after was e
       → (world_after was e).core.next ≡ was.core.next
+      → (world_after was e).core.spares ≡ was.core.spares
       → ((q : ℕ) → KnowsPage (seat_of v q) (put_at no_held held q) ((world_after was e).core.pages q))
       → KnowsOwners (world_after was e).core.owners (seat_of v) (put_at no_held held)
       → ((f : ℕ) → has f frames ≡ true → put_at [] contents f ≡ (world_after was e).core.words f)
       → Shows stored keeps tied start tells s r id v words r.drafts [] [] did with_these e
-  held-shows word legal world next knows owners contents' =
+  held-shows word legal world next spares knows owners contents' =
       let calls = λ (o : Out) (x : v.out ≡ Some o). (r.blocks.away id v o there x).1 in
       let drafted = λ (q : ℕ) (x : (seat_of v q).exclusive ≡ true). (r.known id v there live).drafts q x ∙ draft-is start r.releases r.drafts q in
       let loaded : (l : List Translation) × (v.translations ≡ l ++ v.translations) × Each (TranslationHolds (world_after was e).core.pages) l = ([], refl, tt) in

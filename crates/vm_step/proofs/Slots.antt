@@ -2,6 +2,7 @@
 use Rattle.std.proofs.Common.{eq-eqb, ne_eqb}
 use mathlib.Core.Option as maybe
 use Rattle.atomic_table.proofs.Lists.{at_set as list-set}
+use Rattle.vm_core.specs.Prelude.{has_free_bit}
 use Rattle.vm_core.proofs.{At.at_set, PageFacts.none-some}
 use Rattle.vm_rule.specs.Slots.DeviceDid.{failed, read, wrote}
 use Rattle.vm_rule.specs.declared.view.Place.TheVariants as places
@@ -9,7 +10,7 @@ use Rattle.vm_step.proofs.{Here.last-told, Quiet.has-led, Quiet.HasLed, Written.
 use Rattle.vm_step.proofs.Prelude.{[], after_more, any-same, ap, append-none, arith, at, at-bound, at_home, became_more, began_of, block-here, block_after}
 use Rattle.vm_step.proofs.Prelude.{block_of, BlocksFit, Bool, Brings, called, called-inv, called-left, caller-here, cases_Bool, cases_eq, chosen, core-block}
 use Rattle.vm_step.proofs.Prelude.{core_from, core_shown, count_more, DeviceDid, Did, did_load, draft-is, Each, each-upd, each-upd2, false, faults-still}
-use Rattle.vm_step.proofs.Prelude.{FaultsFit, frames_held, fun_ext, get_elem?, has, Held, held-still, held_at, histories_of, home, home_view, idle, index_of}
+use Rattle.vm_step.proofs.Prelude.{FaultsFit, frames_held, holdings, numbers_held, numbers-still, fun_ext, get_elem?, has, Held, held-still, held_at, histories_of, home, home_view, idle, index_of}
 use Rattle.vm_step.proofs.Prelude.{inl, inr, Inv, is_owed, is_pending, IsBlockOf, IsCalled, IsSome, Kept, kept_of, known, KnowsOwner, KnowsOwners, KnowsPage}
 use Rattle.vm_step.proofs.Prelude.{KnowsPages, leave_others, Leaves, length, length-set, List, listed, listed-upd, loads-still, LOCKED, locked-here, Mapping}
 use Rattle.vm_step.proofs.Prelude.{may_call, MayCall, nat_tests, NLoad, no_held, None, Note, on_page, Option, or_cases, Origin, Out, out_at, out_of, out_or}
@@ -103,6 +104,7 @@ module _ {X B : Type 0} (stored : B → Stored) (keeps : Start → Kept X → Ty
     pub inv : Inv later
     pub left : Leaves id old later
     pub next : core.next ≡ old.core.next
+    pub spares : core.spares ≡ old.core.spares
     pub contents : core.words ≡ old.core.words
     pub owners : KnowsOwners core.owners (seat_of v) (put_at no_held held)
     pub told : listed start.pages (block_of stored homes (slice_set s.views id after)) ≡ blocks
@@ -119,6 +121,10 @@ module _ {X B : Type 0} (stored : B → Stored) (keeps : Start → Kept X → Ty
         pending = refl;
         members = λ q _. refl;
         up = let same = sh.next in omega (arith, same);
+        spares = sh.spares;
+        numbers = refl;
+        freed = refl;
+        owes = inl refl;
       }) in
       let owed-stays : is_owed (slice_set s.views id after) ≡ is_owed s.views = fun_ext (λ q. any-same (λ (y : View X). has q y.owed) s.views id v after there refl) in
       let known = subst (λ (c : State). ((q : ℕ) → KnowsPage (seat_of v q) (put_at no_held held q) (c.pages q)) × KnowsOwners c.owners (seat_of v) (put_at no_held held)
@@ -132,6 +138,7 @@ module _ {X B : Type 0} (stored : B → Stored) (keeps : Start → Kept X → Ty
         λ q x. let m = k.owed q x in (m.0, m.1, subst (λ n. q < n) (sym sh.next) m.2, m.3),
         λ x e. let m = k.next x e in (m.0, sh.next ∙ m.1),
       ) in
+      let spares : (p : ℕ) → has_free_bit (core_shown stored start new).spares p ≡ true → p < start.pages = λ p set. r.spares p (ap (λ (f : ℕ → ℕ). has_free_bit f p) (sym (ap (λ (c : State). c.spares) sh.core_is ∙ sh.spares)) ∙ set) in
       let outside = λ (q : ℕ) (past : start.pages ≤ q). ap (λ (w : World). w.histories q) led.world in
       let drafted = λ (q : ℕ) (x : (seat_of v q).exclusive ≡ true). k.drafts q x ∙ draft-is start r.releases r.drafts q in
       let loaded : (l : List Translation) × (v.translations ≡ l ++ v.translations) × Each (TranslationHolds (core_shown stored start new).pages) l = ([], refl, tt) in
@@ -139,7 +146,7 @@ module _ {X B : Type 0} (stored : B → Stored) (keeps : Start → Kept X → Ty
       let members : (q : ℕ) → has q v.pending ≡ true → has q v.pending ≡ false → ((core_shown stored start new).pages q).version ≢ (old.core.pages q).version = λ q was gone. absurd (true≢false (sym was ∙ gone)) in
       let owner = λ (t : start.tells ≡ true) (kept : keeps (began_of start) (kept_of old r.history s.views)). subst (keeps (began_of start)) (sym led.kept)
       (subst (keeps (began_of start)) (λ i. record (kept_of old r.history s.views) { next = sym sh.next i; owed = chosen start.pages (sym owed-stays i); history = sym (append-none r.history) i }) kept) in
-      search (rules, inl, sh.word, subst Inv (sym led.world) sh.inv, subst (Leaves id old) (sym led.world) sh.left, outside, sym (append-none v.mine), known, drafted, loaded, tying, members, owner)
+      search (rules, inl, sh.word, led.fits, spares, subst Inv (sym led.world) sh.inv, subst (Leaves id old) (sym led.world) sh.left, outside, sym (append-none v.mine), known, drafted, loaded, tying, members, owner)
 
 -- an empty slot, or one that is with a pass, has no block at home
 pub slot-empty : {B : Type 0} (stored : B → Stored) (o : Out) (d : Option Stored) → known stored (at_home (slot_of o)) d ≡ known stored None d
@@ -147,11 +154,11 @@ slot-empty stored o d = ⊎_elim (λ t. rw t refl) (λ e. rw e refl) (cases_Bool
 
 module _ {X B : Type 0} (stored : B → Stored) (start : Origin) where
   -- the core, where only the slots and the pass's own view changed
-  pub core-slots : (s : Table (Option B) (View X)) (homes : List (maybe.Option (Option B))) (id : ℕ) (v w : View X) (blocks : ℕ → Stored) → get_elem? s.views id ≡ some v → w.seats ≡ v.seats → w.frames ≡ v.frames
+  pub core-slots : (s : Table (Option B) (View X)) (homes : List (maybe.Option (Option B))) (id : ℕ) (v w : View X) (blocks : ℕ → Stored) → get_elem? s.views id ≡ some v → w.seats ≡ v.seats → holdings w ≡ holdings v
       → block_of stored homes (slice_set s.views id w) ≡ blocks
-      → core_shown stored start (record { words = s.words; homes = homes; views = slice_set s.views id w }) ≡ core_from start (length s.views) (table_words start s.words) blocks (seats_of s.views) (frames_held s.views)
+      → core_shown stored start (record { words = s.words; homes = homes; views = slice_set s.views id w }) ≡ core_from start (length s.views) (table_words start s.words) blocks (seats_of s.views) (frames_held s.views) (numbers_held s.views)
   core-slots s homes id v w blocks there seats frames e i =
-      core_from start (length-set s.views id w i) (table_words start s.words) (e i) (seats-still s.views id v w there seats i) (held-still s.views id v w there frames i)
+      core_from start (length-set s.views id w i) (table_words start s.words) (e i) (seats-still s.views id v w there seats i) (held-still s.views id v w there (ap (λ (y : List ℕ × List ℕ). y.0) frames) i) (numbers-still s.views id v w there (ap (λ (y : List ℕ × List ℕ). y.1) frames) i)
 
 module _ {X B : Type 0} (stored : B → Stored) (keeps : Start → Kept X → Type 0) (tied : Start → ℕ → List ℕ → ℕ → List ℕ → Type 0) (start : Origin) (tells : Bool) (s : Table (Option B) (View X)) (r : Ruled stored keeps tied start tells s) (id : ℕ) (v : View X) (there : get_elem? s.views id ≡ some v) (live : v.live ≡ true) where
   abbrev fault-load : ℕ → Did
@@ -430,11 +437,11 @@ module _ {X B : Type 0} (stored : B → Stored) (keeps : Start → Kept X → Ty
         }
 
     -- the core that is read then
-    pub core-home : (w : View X) → w.out ≡ None → w.seats ≡ v.seats → w.frames ≡ v.frames
+    pub core-home : (w : View X) → w.out ≡ None → w.seats ≡ v.seats → holdings w ≡ holdings v
         → core_shown stored start (record { words = s.words; homes = home-slots p b; views = slice_set s.views id w }) ≡ on_page world.core p (called (page p) (stored b).count (stored b).words)
     core-home w none seats frames =
         core-slots stored start s (home-slots p b) id v w (upd (block_of stored s.homes s.views) p (stored b)) there seats frames (blocks-home w none)
-        ∙ core-block start (length s.views) (table_words start s.words) (block_of stored s.homes s.views) (seats_of s.views) (frames_held s.views) p (stored b) (r.blocks.away id v o there out).0
+        ∙ core-block start (length s.views) (table_words start s.words) (block_of stored s.homes s.views) (seats_of s.views) (frames_held s.views) (numbers_held s.views) p (stored b) (r.blocks.away id v o there out).0
 
     pub returns-home : 0 < length v.used → DeviceDid v p o.block (stored b) → (stored b).bound ≡ o.block.bound
         → Ruled stored keeps tied start tells (became_more stored keeps tied start tells s r id v s.words (home-slots p b) (home-blocks p b) r.drafts [] [] (fault-load p) (home_view p (stored b) v)) × ReturnTold p (stored b) (slice_index s.words (index_of start (places.Fault p))) v (home-after p b)

@@ -1,52 +1,17 @@
 -- The words of the table over the steps of a pass that is alone: a place is told by its index, and the words where no step wrote stay.
 use Rattle.std.proofs.lemmas.List.{length-set}
-use Rattle.vm_page.proofs.Sizes.{page-of, place-of, room}
-use Rattle.vm_rule.specs.declared.view.Place.TheVariants as places
+use Rattle.vm_rule_laws.proofs.Places.{places-apart}
 use Rattle.vm_step.proofs.Alone.{set-else}
-use Rattle.vm_step.proofs.Prelude.{[], ap, arith, bundle_count, cases_lt, Did, Each, each-map, Follows, get_or-set_same, get_or_past, HasGiven, if◌then◌else◌}
-use Rattle.vm_step.proofs.Prelude.{index_of, inl, inr, IsAlone, IsFoundAt, KnowsAt, KnowsElse, le-ltb, length, List, lt-ltb, nat_lt, nat_tests, None, Option, Origin, Place}
-use Rattle.vm_step.proofs.Prelude.{refl, Release, RunsAlone, set_if, slice_index, slice_set, Some, subst, sym, View, Within, ℕ, ⊎_elim, ◌%◌, ◌*◌, ◌++◌, ◌+◌}
-use Rattle.vm_step.proofs.Prelude.{◌-◌, ◌/◌, ◌<◌, ◌==◌, ◌∙◌, ◌∷◌, ◌≡◌, ◌≢◌, ◌⊎◌}
+use Rattle.vm_step.proofs.Prelude.{[], ap, arith, cases_lt, Did, Each, each-map, Follows, get_or-set_same, get_or_past, HasGiven}
+use Rattle.vm_step.proofs.Prelude.{index_of, inl, inr, IsAlone, IsFoundAt, KnowsAt, KnowsElse, length, List, None, Option, Origin, Place}
+use Rattle.vm_step.proofs.Prelude.{refl, Release, RunsAlone, set_if, slice_index, slice_set, Some, subst, sym, View, Within, ℕ, ⊎_elim, ◌++◌}
+use Rattle.vm_step.proofs.Prelude.{◌<◌, ◌∙◌, ◌∷◌, ◌≡◌, ◌≢◌, ◌⊎◌}
 
 -- ---- a place and its index
 
--- the place with this index
-unfoldable place_at : Origin → ℕ → Place
-place_at start i =
-    if nat_lt i start.pages then places.State i
-    else if nat_lt i (2 * start.pages) then places.Translation (i - start.pages)
-    else if nat_lt i (3 * start.pages) then places.Fault (i - 2 * start.pages)
-    else if nat_lt i (3 * start.pages + start.size * start.frames) then places.Content ((i - 3 * start.pages) / start.size) ((i - 3 * start.pages) % start.size)
-    else if nat_lt i (3 * start.pages + start.size * start.frames + bundle_count start) then places.Bundle (i - (3 * start.pages + start.size * start.frames))
-    else if i == 3 * start.pages + start.size * start.frames + bundle_count start then places.Next
-    else if i == 3 * start.pages + start.size * start.frames + bundle_count start + 1 then places.Hand
-    else places.Owner (i - (3 * start.pages + start.size * start.frames + bundle_count start + 2))
-
-place-at : (start : Origin) (at : Place) → Within start at → place_at start (index_of start at) ≡ at
-unfolding place_at
-place-at start (places.State p) l = grind (arith, nat_tests)
-place-at start (places.Translation p) l = grind (arith, nat_tests)
-place-at start (places.Fault p) l = grind (arith, nat_tests)
-place-at start (places.Content f i) l =
-    let below : start.size * f + i < start.size * start.frames = room start.size f start.frames i l.0 l.1 in
-    let off : 3 * start.pages + (start.size * f + i) - 3 * start.pages ≡ start.size * f + i = omega arith in
-    rw (
-      le-ltb (3 * start.pages + (start.size * f + i)) start.pages (omega arith),
-      le-ltb (3 * start.pages + (start.size * f + i)) (2 * start.pages) (omega arith),
-      le-ltb (3 * start.pages + (start.size * f + i)) (3 * start.pages) (omega arith),
-      lt-ltb (3 * start.pages + (start.size * f + i)) (3 * start.pages + start.size * start.frames) (omega arith),
-      off,
-      page-of start.size f i l.1,
-      place-of start.size f i l.1,
-    ) refl
-place-at start (places.Bundle g) l = grind (arith, nat_tests)
-place-at start places.Next l = grind (arith, nat_tests)
-place-at start places.Hand l = grind (arith, nat_tests)
-place-at start (places.Owner f) l = grind (arith, nat_tests)
-
 -- two places of the table with one index are one
 pub index-same : (start : Origin) (a b : Place) → Within start a → Within start b → index_of start a ≡ index_of start b → a ≡ b
-index-same start a b in-a in-b e = sym (place-at start a in-a) ∙ ap (place_at start) e ∙ place-at start b in-b
+index-same start a b in-a in-b e = places-apart start a b in-a in-b e
 
 -- ---- lists of words
 

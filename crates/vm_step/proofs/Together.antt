@@ -1,6 +1,6 @@
 -- One pass more is taken in.
 use Rattle.vm_rule.specs.declared.view.Place.TheVariants as places
-use Rattle.vm_step.proofs.Prelude.{[], All, all_notes, all_used, any, ap, append-none, append_assoc, AreApart, arith, Bool, CaughtUp, Did, did_load, Each}
+use Rattle.vm_step.proofs.Prelude.{[], All, all_freed, all_notes, all_numbers, all_used, any, ap, append-none, append_assoc, AreApart, arith, Bool, CaughtUp, Did, did_load, Each}
 use Rattle.vm_step.proofs.Prelude.{each-both, each-map, entries-both, entries-within, entries_by, Entry, first_part, giver, has, has-joined, has-left}
 use Rattle.vm_step.proofs.Prelude.{has-right, HasJoined, HasPiece, HasShape, HasStill, Hears, HoldsNoPage, HoldsNothing, IsReady, IsWhole, joined, JoinTold}
 use Rattle.vm_step.proofs.Prelude.{length, List, map, newcomer, numbers, or-false, or_assoc, Origin, other_parts, owns, parts-cut, Pass}
@@ -59,6 +59,14 @@ module _ {X : Type 0} where
   notes-snoc : (vs : List (View X)) (w : View X) → all_notes (vs ++ w ∷ []) ≡ all_notes vs ++ w.notes
   notes-snoc [] w = append-none w.notes
   notes-snoc (v ∷ vs) w = ap (λ l. v.notes ++ l) (notes-snoc vs w) ∙ sym (append_assoc v.notes (all_notes vs) w.notes)
+
+  numbers-snoc : (vs : List (View X)) (w : View X) → all_numbers (vs ++ w ∷ []) ≡ all_numbers vs ++ w.numbers
+  numbers-snoc [] w = append-none w.numbers
+  numbers-snoc (v ∷ vs) w = ap (λ l. v.numbers ++ l) (numbers-snoc vs w) ∙ sym (append_assoc v.numbers (all_numbers vs) w.numbers)
+
+  freed-snoc : (vs : List (View X)) (w : View X) → all_freed (vs ++ w ∷ []) ≡ all_freed vs ++ w.freed
+  freed-snoc [] w = append-none w.freed
+  freed-snoc (v ∷ vs) w = ap (λ l. v.freed ++ l) (freed-snoc vs w) ∙ sym (append_assoc v.freed (all_freed vs) w.freed)
 
   total-snoc : (f : View X → ℕ) (l : List (View X)) (w : View X) → total f (l ++ w ∷ []) ≡ total f l + f w
   total-snoc f [] w = omega arith
@@ -126,6 +134,10 @@ module _ {X : Type 0} where
         start = ap (λ (u : View X). u.start) is ∙ h.start;
         used = ap (λ (u : View X). u.used) is ∙ (λ i. h.used i ++ same i) ∙ append_assoc v.used (all_used others) w.used ∙ ap (λ l. v.used ++ l) (sym (used-snoc others w));
         notes = ap (λ (u : View X). u.notes) is ∙ (λ i. h.notes i ++ (ap (λ (u : View X). u.notes) was) i) ∙ append_assoc v.notes (all_notes others) w.notes ∙ ap (λ l. v.notes ++ l) (sym (notes-snoc others w));
+        numbers = (
+          ap (λ (u : View X). u.numbers) is ∙ (λ i. h.numbers.0 i ++ (ap (λ (u : View X). u.numbers) was) i) ∙ append_assoc v.numbers (all_numbers others) w.numbers ∙ ap (λ l. v.numbers ++ l) (sym (numbers-snoc others w)),
+          ap (λ (u : View X). u.freed) is ∙ (λ i. h.numbers.1 i ++ (ap (λ (u : View X). u.freed) was) i) ∙ append_assoc v.freed (all_freed others) w.freed ∙ ap (λ l. v.freed ++ l) (sym (freed-snoc others w)),
+        );
         parts = λ k. omega (arith, times-joined k x.used w'.used, times-joined k x.fresh w'.fresh, ap (owns k) is, ap (owns k) was, h.parts k, total-snoc (owns k) others w);
         frames = λ f.
             grind (arith, ap (λ (u : View X). has f u.frames) is, has-joined f w'.frames x.frames, ap (λ (u : View X). has f u.frames) was, h.frames f, any-more (λ (u : View X). has f u.frames) others w);
@@ -148,7 +160,7 @@ module _ {X : Type 0} where
 
   -- a pass that knows the two lists, and nothing else, holds nothing
   pub new-nothing : (start : Origin) (used : List ℕ) (releases : List Release) (seen : List (Entry X)) (w : View X) → w ≡ record (view_from true start used []) { releases = releases; seen = seen } → HoldsNothing w
-  new-nothing start used releases seen w new = subst HoldsNothing (sym new) (record { shares = λ p. refl; exclusive = λ p. refl; writing = λ p. refl; frames = refl; out = refl })
+  new-nothing start used releases seen w new = subst HoldsNothing (sym new) (record { shares = λ p. refl; exclusive = λ p. refl; writing = λ p. refl; frames = refl; numbers = (refl, refl); out = refl })
 
   pub holds-none : (v : View X) → HoldsNothing v → HoldsNoPage v
   holds-none v h = record { shares = h.shares; exclusive = h.exclusive; writing = h.writing; out = h.out }

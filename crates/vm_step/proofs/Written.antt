@@ -15,6 +15,7 @@ index-below start (places.Bundle g) l = omega (arith, l)
 index-below start places.Next l = omega arith
 index-below start places.Hand l = omega arith
 index-below start (places.Owner f) l = omega (arith, l)
+index-below start (places.Spare g) l = omega (arith, l)
 
 -- the number that was written stands there
 pub stands-there : (start : Origin) (words : List ℕ) (w : Place) (x : ℕ) → length words ≡ width start → Within start w → x ≡ slice_index (slice_set words (index_of start w) x) (index_of start w)

@@ -17,3 +17,4 @@ pub mod CatchUp
 pub mod Pass
 pub mod Block
 pub mod Release
+pub mod Number

@@ -27,6 +27,11 @@ module _ {X : Type 0} where
     pub current : v.current ≡ true → w.current ≡ true
     pub words : IsWhole v → v.current ≡ true → (q : ℕ) → (last_of w q).words ≡ (last_of v q).words
 
+  -- The pass has the page numbers that it had, those held and those still to be given. It is said where the blocks tell their words: else a page that is given
+  -- up takes its number along, whatever its words.
+  abbrev pub KeepsNumbers : View X → View X → Type 0
+  KeepsNumbers v w = v.start.tells ≡ true → (w.numbers ≡ v.numbers) × (w.freed ≡ v.freed)
+
   -- the call made these steps, and at most the open reads of the pages touched are others
   pub record IsAsideOf (touched : ℕ → Type 0) (done : List Did) (v w : View X) : Type 0 where
     pub log : w.log ≡ v.log ++ done
@@ -39,6 +44,7 @@ module _ {X : Type 0} where
     pub out : w.out ≡ v.out
     pub ties : (more : List Tie) × (w.ties ≡ more ++ v.ties)
     pub group : (w.pending ≡ v.pending) × (w.owed ≡ v.owed) × (w.next ≡ v.next)
+    pub numbers : KeepsNumbers v w
     pub holds : (q : ℕ) → HoldsPage v w q
     pub knows : (q : ℕ) → IsLocking (seat_of v q) → KnowsAsBefore v w q
     pub others : (q : ℕ) → (touched q → ⊥) → ReadsAsBefore v w q

@@ -10,6 +10,7 @@ abbrev pub place_at : At → Place
 place_at (ats.Page p) = places.State p
 place_at (ats.Bundle g) = places.Bundle g
 place_at ats.Next = places.Next
+place_at (ats.Free g) = places.Spare g
 
 -- the step found this word there
 abbrev pub Gives : Did → Place → ℕ → Type 0
@@ -69,6 +70,7 @@ abbrev pub WhyAgain : At → ℕ → ℕ → Did → Type 0
 WhyAgain (ats.Page p) first seen last = (version_of first ≢ version_of seen) ⊎ ((state_of seen ≡ LOCKED) ⊎ IsLost last (places.State p) first seen)
 WhyAgain (ats.Bundle g) first seen last = IsLost last (places.Bundle g) first seen
 WhyAgain ats.Next first seen last = first ≢ seen
+WhyAgain (ats.Free g) first seen last = IsLost last (places.Spare g) first seen
 
 -- the words are the evidence of these steps; none before the last left the word that it found
 pub record IsSaw (kept : ℕ → Type 0) (expects : ℕ → ℕ → Type 0) (done : List Did) (saw : Saw) : Type 0 where

@@ -11,19 +11,21 @@ use Rattle.vm_step.specs.Prelude.{Origin, View}
 abbrev pub with_actor : World → World
 with_actor w = record w { core = record w.core { shape = record w.core.shape { actors = w.core.shape.actors + 1 } } }
 
--- the actor has nothing: no share, no lock, no write-back, no open read, no frame
+-- the actor has nothing: no share, no lock, no write-back, no open read, no frame, no page number
 pub record HasNone (w : World) (a : ℕ) : Type 0 where
   pub seats : (p : ℕ) → (w.core.pages p).seats a ≡ no_seat
   pub held : (f : ℕ) → w.core.held a f ≡ false
+  pub numbers : (p : ℕ) → w.core.numbers a p ≡ false
   pub loads : (p : ℕ) → w.loads p a ≡ []
 
--- the frames of the actor b are a's, and b has nothing, no open read either
+-- the frames and the page numbers of the actor b are a's, and b has nothing, no open read either
 abbrev pub taken_in : ℕ → ℕ → World → World
 taken_in a b w =
     record w {
       core = record w.core {
         pages = λ p. record (w.core.pages p) { seats = upd (w.core.pages p).seats b no_seat };
         held = upd (upd w.core.held a (λ f. w.core.held b f || w.core.held a f)) b (λ f. false);
+        numbers = upd (upd w.core.numbers a (λ p. w.core.numbers a p || w.core.numbers b p)) b (λ p. false);
       };
       loads = λ p. upd (w.loads p) b [];
     }
@@ -59,7 +61,7 @@ module _ {X B : Type 0} where
       pub core : shown before r later ≡ with_actor (shown before r before)
       pub new : HasNone (shown before r later) (length before.views)
 
-    -- the frames of the actor `other` are the actor id's, and its reads are closed; all else is as before
+    -- the frames and the page numbers of the actor `other` are the actor id's, and its reads are closed; all else is as before
     pub record IsTakenIn (before : Table (Option B) (View X)) (r : Ruled stored keeps tied start tells before) (id other : ℕ)
         (later : Table (Option B) (View X)) : Type 0 where
       pub goes : GoesOn before r later

@@ -12,7 +12,7 @@ pub use Rattle.vm_step.specs.{steps.Block.MayTakeOut, steps.Bundle.PassMayGive, 
 pub use Rattle.vm_step.specs.{steps.Raise.MayRaise, steps.Share.MayTellHeld, steps.Share.MayUnshare, Still.HasStill, Tables.KnowsAt, Tables.KnowsElse, Tables.KnowsSame}
 pub use Rattle.vm_step.specs.{Together.HasJoined, Together.PassesSplit, Whole.CatchTold, Whole.KnowsAll, Works.LeavesRest, Works.Works}
 pub use Rattle.vm_step.specs.Alone.{Follows, IsAlone, known_word_at, KnowsUnheld, LeavesLast, LeavesOnly, LocksNone, RunsAlone, WritesNone}
-pub use Rattle.vm_step.specs.Asides.{HoldsPage, IsAside, IsAsideOf, KeepsFrames, KnowsAsBefore, ReadsAsBefore, StaysAlone}
+pub use Rattle.vm_step.specs.Asides.{HoldsPage, IsAside, IsAsideOf, KeepsFrames, KeepsNumbers, KnowsAsBefore, ReadsAsBefore, StaysAlone}
 pub use Rattle.vm_step.specs.Evidence.{AreQuiet, Begins, HasGiven, HasWritten, IsLost, IsSaw, IsWorn, NeedsPage, NoneExpected, NoWord, place_at}
 pub use Rattle.vm_step.specs.Evidence.{UnlockedExpected, WhyAgain}
 pub use Rattle.vm_step.specs.Operations.{AllowsStep, IsFit, IsFrameAt, IsOf, IsPlacedAt, MayGoOn, told_of}

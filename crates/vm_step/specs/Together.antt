@@ -10,7 +10,7 @@ pub record HasPiece {A : Type 0} (l m : List A) : Type 0 where
   pub cut : l ≡ before ++ (m ++ behind)
 
 module _ {X : Type 0} where
-  -- the numbers and the notes of several views, one after another
+  -- the numbers and the notes of several views, the page numbers that they hold, and those that they have still to give, one after another
   abbrev pub all_used : List (View X) → List ℕ
   all_used [] = []
   all_used (v ∷ vs) = v.used ++ all_used vs
@@ -19,6 +19,14 @@ module _ {X : Type 0} where
   all_notes [] = []
   all_notes (v ∷ vs) = v.notes ++ all_notes vs
 
+  abbrev pub all_numbers : List (View X) → List ℕ
+  all_numbers [] = []
+  all_numbers (v ∷ vs) = v.numbers ++ all_numbers vs
+
+  abbrev pub all_freed : List (View X) → List ℕ
+  all_freed [] = []
+  all_freed (v ∷ vs) = v.freed ++ all_freed vs
+
   -- the pass w was brought up to date, and then the pass v took it in
   pub record TakesIn (v w x : View X) : Type 0 where
     pub middle : View X
@@ -26,11 +34,12 @@ module _ {X : Type 0} where
     pub joins : JoinTold v middle x
 
   -- The pass with the view v took in those with the views `others`, and has the view x then: its numbers and notes are its own and then
-  -- theirs, and so are its frames; the history that it knows goes on from what each of them had seen, and has no further entry of any of them.
+  -- theirs, and so are its page numbers and its frames; the history that it knows goes on from what each of them had seen, and has no further entry of any of them.
   pub record HasJoined (v : View X) (others : List (View X)) (x : View X) : Type 0 where
     pub start : x.start ≡ v.start
     pub used : x.used ≡ v.used ++ all_used others
     pub notes : x.notes ≡ v.notes ++ all_notes others
+    pub numbers : (x.numbers ≡ v.numbers ++ all_numbers others) × (x.freed ≡ v.freed ++ all_freed others)
     pub parts : (k : ℕ) → owns k x ≡ owns k v + total (owns k) others
     pub frames : (f : ℕ) → has f x.frames ≡ (any (λ w. has f w.frames) others || has f v.frames)
     -- its steps go on from its own, and those of each are among them

@@ -3,7 +3,7 @@
 use Rattle.std.specs.Prelude.{[], ◌++◌, ◌≡◌, ◌≢◌, List, ℕ}
 use Rattle.vm_rule.specs.Prelude.{draft_of, held_at, IsLocking, last_of, loads_at, seat_of, StartsWith}
 use Rattle.vm_rule.specs.{declared.view.Did.Did, declared.view.Tie.Tie, declared.view.View.View}
-use Rattle.vm_step.specs.Alone.{RunsAlone}
+use Rattle.vm_step.specs.{Alone.RunsAlone, Asides.KeepsNumbers}
 
 module _ {X : Type 0} (p : ℕ) where
   -- the steps speak of page p alone: all other pages are as they were
@@ -17,6 +17,7 @@ module _ {X : Type 0} (p : ℕ) where
     pub releases : StartsWith w.releases v.releases
     pub ties : (more : List Tie) × (w.ties ≡ more ++ v.ties)
     pub group : (w.pending ≡ v.pending) × (w.owed ≡ v.owed) × (w.next ≡ v.next)
+    pub numbers : KeepsNumbers v w
     pub seats : (q : ℕ) → q ≢ p → seat_of w q ≡ seat_of v q
     pub loads : (q : ℕ) → q ≢ p → loads_at w q ≡ loads_at v q
     pub held : (q : ℕ) → q ≢ p → held_at w q ≡ held_at v q

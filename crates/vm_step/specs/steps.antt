@@ -8,6 +8,7 @@ pub mod Look
 pub mod Mapping
 pub mod Mark
 pub mod Next
+pub mod Number
 pub mod Owner
 pub mod Pass
 pub mod Raise

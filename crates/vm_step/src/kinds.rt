@@ -10,6 +10,7 @@ pub mod look;
 pub mod mapping;
 pub mod mark;
 pub mod next;
+pub mod number;
 pub mod owner;
 pub mod pass;
 pub mod raise;

@@ -1,4 +1,5 @@
-// Where a word stands among the words of a table: those of the pages, the frames and the bundles, the next word, the hand's word, and the owner words.
+// Where a word stands among the words of a table: those of the pages, the frames and the bundles, the next word, the hand's word, the owner words,
+// and the free-number words.
 ghost use Rattle.std.specs.Prelude.{◌*◌, ◌+◌, ◌<◌, ◌≡◌, ◌≤◌};
 ghost use Rattle.vm_rule.specs.declared.view.Place.TheVariants as places;
 ghost use Rattle.vm_step.specs.Prelude.{IsFrameAt, IsPlacedAt};
@@ -92,4 +93,13 @@ pub(crate) fn owner_place<U: Owner, B: Block>(words: &Words<U, B>, f: u32) -> us
     ensures inside { result < words.now.table.shared.table_id.words }
 {
     behind_frames(words) + words.frames.div_ceil(FRAMES) + 2 + f as usize
+}
+
+/// The place of a free-number word, behind the owner words.
+pub(crate) fn spare_place<U: Owner, B: Block>(words: &Words<U, B>, g: u32) -> usize
+    requires word { g * FRAMES < words.now.table.shared.key.pages }
+    ensures place { IsPlacedAt words.now.table.shared.key (places.Spare g) result }
+    ensures inside { result < words.now.table.shared.table_id.words }
+{
+    behind_frames(words) + words.frames.div_ceil(FRAMES) + 2 + words.frames + g as usize
 }

@@ -24,6 +24,7 @@ pub use kinds::look::{look, look_silently};
 pub use kinds::mapping::{clear, install, set_clean, set_dirty};
 pub use kinds::mark::{mark, unmark};
 pub use kinds::next::{claim, nload};
+pub use kinds::number::{pbload, pgive, ptake};
 pub use kinds::owner::{disown, oload, own};
 pub use kinds::pass::{follow_pass, hear_pass, join_pass, split_pass};
 pub use kinds::raise::raise;

@@ -9,6 +9,8 @@ pub enum At {
     Bundle(u32),
     /// The next word.
     Next,
+    /// A free-number word.
+    Free(u32),
 }
 
 /// Why a call may be tried again: a word that it knew, and the word that it saw there.

@@ -40,7 +40,7 @@ fn one_page<const N: usize>(
     page.set(i, 5);
     let mut blocks = Vec::new(alloc);
     blocks.push(MemBlock::new(alloc, page, plan)?)?;
-    Ok(Words::started(alloc, N, 2, 1, version, blocks)?)
+    Ok(Words::started(alloc, N, 2, 1, version, blocks, &[])?)
 }
 
 /// Takes both frames.
@@ -128,8 +128,8 @@ fn a_table_of_resident_pages_has_its_words_by_the_layout(rt: HostRuntime) -> Res
     blocks.push(MemBlock::new(alloc, last, &[])?)?;
     let (words, _pass) = resident::<HostRuntime, MemBlock<WORDS>, WORDS>(&rt, alloc, blocks, 7)?;
     let table = &words.table.shared;
-    // Two state words, two translations, two fault words, 128 words of frames, a bundle, the next word, the hand, two owner words.
-    assert_eq!(rt; words.table.word_count(), 139);
+    // Two state words, two translations, two fault words, 128 words of frames, a bundle, the next word, the hand, two owner words, a free-number word.
+    assert_eq!(rt; words.table.word_count(), 140);
     assert_eq!(rt; table.peek(0), 7);
     assert_eq!(rt; table.peek(1), 7);
     assert_eq!(rt; table.peek(2), 1);
@@ -142,6 +142,7 @@ fn a_table_of_resident_pages_has_its_words_by_the_layout(rt: HostRuntime) -> Res
     assert_eq!(rt; table.peek(136), 0);
     assert_eq!(rt; table.peek(137), 1);
     assert_eq!(rt; table.peek(138), 2);
+    assert_eq!(rt; table.peek(139), 0);
     Ok(())
 }
 
@@ -155,8 +156,9 @@ fn a_table_of_a_large_page_has_its_words_by_the_layout(rt: HostRuntime) -> Resul
     blocks.push(MemBlock::new(alloc, page, &[])?)?;
     let (words, _pass) = resident::<HostRuntime, MemBlock<LARGE>, LARGE>(&rt, alloc, blocks, 7)?;
     let table = &words.table.shared;
-    // A state word, a translation, a fault word, 512 words of the frame, a bundle, the next word, the hand, an owner word.
-    assert_eq!(rt; words.table.word_count(), 519);
+    // A state word, a translation, a fault word, 512 words of the frame, a bundle, the next word, the hand, an owner word, a
+    // free-number word.
+    assert_eq!(rt; words.table.word_count(), 520);
     assert_eq!(rt; table.peek(0), 7);
     assert_eq!(rt; table.peek(1), 1);
     assert_eq!(rt; table.peek(2), 0);
@@ -166,5 +168,6 @@ fn a_table_of_a_large_page_has_its_words_by_the_layout(rt: HostRuntime) -> Resul
     assert_eq!(rt; table.peek(516), 1);
     assert_eq!(rt; table.peek(517), 0);
     assert_eq!(rt; table.peek(518), 1);
+    assert_eq!(rt; table.peek(519), 0);
     Ok(())
 }

@@ -1,10 +1,12 @@
 //! Guards over a table of one resident page, with ample memory. The values are worked out by hand from the rules, and not taken from a run.
 ghost use Rattle.std.specs.Prelude.{◌<◌, ◌≡◌, false, None};
+ghost use Rattle.vm_page.specs.Sizes.{IsSize};
 ghost use Rattle.vm_rule.specs.Prelude.{seat_of};
 ghost use Rattle.vm_step.specs.Prelude.{IsReady, MayStep, view};
 ghost use Rattle.vm_guard.specs.Shares.{KeepsShares};
 
 use crate::resident::{resident, zero_pages};
+use std::alloc::Global;
 use std::process::Abort;
 use std::test::Fail;
 use vm_block::{Block, Failed, MemBlock, PageBlock};
@@ -95,11 +97,10 @@ fn a_page_has_at_most_252_shares(rt: HostRuntime) -> Result<(), Fail> {
     Ok(())
 }
 
-/// Word `i` of the one page of a table is set, and read again.
+/// Word `i` of the one page of a table, which is in use, is set, and read again.
 fn read_again<R: Abort, B: Block>(rt: &R, words: &Words<Bare, B>, pass: &mut Pass<Bare>, i: usize)
     requires pass { MayStep words.now.table.shared.table_id pass.old }
     requires pages { words.now.table.shared.key.pages ≡ 1 }
-    requires next { (view pass.old).start.next ≡ 1 }
     requires out { (view pass.old).out ≡ None }
     requires place { i < words.now.table.shared.key.size }
 {
@@ -109,6 +110,9 @@ fn read_again<R: Abort, B: Block>(rt: &R, words: &Words<Bare, B>, pass: &mut Pas
     // A page that was brought in is clean.
     let clean = !held.dirty;
     assert!(rt; clean);
+    if held.read(words, pass, 0) == 0 {
+        panic!(rt; "the page is in use");
+    }
     held.set(words, pass, i, 5);
     let dirty = held.dirty;
     assert!(rt; dirty);
@@ -124,25 +128,28 @@ fn read_again<R: Abort, B: Block>(rt: &R, words: &Words<Bare, B>, pass: &mut Pas
     assert_eq!(rt; read, 5);
 }
 
-#[test]
-fn a_validated_read_has_the_word_that_was_set(rt: HostRuntime) -> Result<(), Fail> {
-    let (words, mut pass) = zero_pages(&rt, rt.alloc(), 1, 1)?;
-    read_again(&rt, &words, &mut pass, 63);
+/// Word `i` of a page of `N` words, of which only the first is not 0, is set, and read again.
+fn set_and_read<R: Abort, const N: usize>(rt: &R, alloc: Global, i: usize) -> Result<(), Fail>
+    requires sized { IsSize N }
+    requires place { i < N }
+{
+    let mut page = PageBuf::<N>::zero();
+    page.set(0, 1);
+    let mut blocks = Vec::new(alloc);
+    blocks.push(MemBlock::new(alloc, page, &[])?)?;
+    let (words, mut pass) = resident::<R, MemBlock<N>, N>(rt, alloc, blocks, 1)?;
+    read_again(rt, &words, &mut pass, i);
     Ok(())
 }
 
 #[test]
+fn a_validated_read_has_the_word_that_was_set(rt: HostRuntime) -> Result<(), Fail> {
+    set_and_read::<HostRuntime, WORDS>(&rt, rt.alloc(), 63)
+}
+
+#[test]
 fn a_validated_read_has_the_last_word_of_a_large_page(rt: HostRuntime) -> Result<(), Fail> {
-    let mut blocks = Vec::new(rt.alloc());
-    blocks.push(MemBlock::new(rt.alloc(), PageBuf::<LARGE>::zero(), &[])?)?;
-    let (words, mut pass) = resident::<HostRuntime, MemBlock<LARGE>, LARGE>(
-        &rt,
-        rt.alloc(),
-        blocks,
-        1,
-    )?;
-    read_again(&rt, &words, &mut pass, 511);
-    Ok(())
+    set_and_read::<HostRuntime, LARGE>(&rt, rt.alloc(), 511)
 }
 
 #[test]

@@ -6,6 +6,7 @@ use Rattle.vm_core.specs.DeviceActs.{failed}
 use Rattle.vm_core.specs.declared.event.Seen.TheVariants as sights
 use Rattle.vm_rule.specs.declared.view.Place.TheVariants as places
 use Rattle.vm_step.proofs.{Here.is-of, Standing.allows-any, steps.Raise.count-known, steps.Raise.raise-legal}
+use Rattle.vm_step.proofs.Prelude.{holdings}
 use Rattle.vm_step.proofs.Prelude.{[], Allows, ap, arith, at-bound, at-there, block-here, block_of, Bool, BringsWith, brought_to, called, cases_Bool}
 use Rattle.vm_step.proofs.Prelude.{core_shown, count_more, DeviceDid, Did, did_load, empty_play, Entry, false, gives, HasShape, held_at, home_view, HomeTold, index_of}
 use Rattle.vm_step.proofs.Prelude.{inl, inr, IsCall, IsEvent, IsFit, IsHome, IsOf, IsPassOf, IsPlacedAt, IsSome, Kept, length, lift_play, List, LOCKED, may_call, MayGoOn}
@@ -256,7 +257,7 @@ module _ {X B : Type 0} (stored : B → Stored) (start : Origin) (keeps : Start 
   raise-event count v w pass l may told =
       let view = told.brings.view in
       is-event (raise-legal stored keeps tied start tells s pass.rule id v pass.there pass.live p l may.calls)
-      (raise-step stored start s [] (λ _. []) id v w p count pass.rule.wide.0 l pass.there (ap (λ (y : View X). y.out) view) (ap (λ (y : View X). y.frames) view) (ap (λ (y : View X). y.seats) view) (ap (λ (y : View X). y.loads) view)
+      (raise-step stored start s [] (λ _. []) id v w p count pass.rule.wide.0 l pass.there (ap (λ (y : View X). y.out) view) (ap (λ (y : View X). holdings y) view) (ap (λ (y : View X). y.seats) view) (ap (λ (y : View X). y.loads) view)
       (count-known stored keeps tied start tells s pass.rule id v pass.there pass.live p count may))
       refl
 
@@ -265,14 +266,14 @@ module _ {X B : Type 0} (stored : B → Stored) (start : Origin) (keeps : Start 
   pub taken_same : (found : ℕ) (b : B) (v w : View X) → IsPassOf stored start keeps tied tells s id v → p < start.pages → MayTakeOut v p → IsHome s p b → SlotTold p (stored b) found v w → ShowsSame stored start s (taken_from s p id w)
   taken_same found b v w pass l may here told =
       let view = told.brings.view in
-      core-slots stored start s (slice_set s.homes p maybe.none) id v w (block_of stored s.homes s.views) pass.there (ap (λ (y : View X). y.seats) view) (ap (λ (y : View X). y.frames) view)
+      core-slots stored start s (slice_set s.homes p maybe.none) id v w (block_of stored s.homes s.views) pass.there (ap (λ (y : View X). y.seats) view) (ap (λ (y : View X). holdings y) view)
       (taken-blocks stored keeps tied start tells s pass.rule id v pass.there pass.live p b w l may.calls may.none (at-there maybe.none s.homes p (some (Some b)) here) (ap (λ (y : View X). y.out) view))
 
   pub shifted_same : (was moving : Bool) (found : ℕ) (b : Stored) (v w : View X) → IsPassOf stored start keeps tied tells s id v → v.out ≡ Some (out_at p was b) → ShiftTold p moving b found v w
       → ShowsSame stored start s (record { words = s.words; homes = slice_set s.homes p (slot_of (out_at p moving b)); views = slice_set s.views id w })
   shifted_same was moving found b v w pass out told =
       let view = told.brings.view in
-      core-slots stored start s (slice_set s.homes p (slot_of (out_at p moving b))) id v w (block_of stored s.homes s.views) pass.there (ap (λ (y : View X). y.seats) view) (ap (λ (y : View X). y.frames) view)
+      core-slots stored start s (slice_set s.homes p (slot_of (out_at p moving b))) id v w (block_of stored s.homes s.views) pass.there (ap (λ (y : View X). y.seats) view) (ap (λ (y : View X). holdings y) view)
       (shifted-blocks stored keeps tied start tells s pass.rule id v pass.there pass.live (out_at p was b) moving w out (ap (λ (y : View X). y.out) view))
 
   -- ---- a block that comes home
@@ -302,7 +303,7 @@ module _ {X B : Type 0} (stored : B → Stored) (start : Origin) (keeps : Start 
     shows-page y count words same =
         let view = told.brings.view in
         let is : core_shown stored start later ≡ on_page c p (called y (stored b).count (stored b).words) =
-        core-home stored keeps tied start tells s pass.rule id v pass.there pass.live (out_at p true old) b out w (ap (λ (y : View X). y.out) view) (ap (λ (y : View X). y.seats) view) (ap (λ (y : View X). y.frames) view)
+        core-home stored keeps tied start tells s pass.rule id v pass.there pass.live (out_at p true old) b out w (ap (λ (y : View X). y.out) view) (ap (λ (y : View X). y.seats) view) (ap (λ (y : View X). holdings y) view)
         ∙ ap (on_page c p) (same (stored b).count (stored b).words) in
         record {
           core = is ∙ (λ i. on_page c p (called y (count i) (stored b).words)) ∙ sym (with-block-on c p y (stored b).words);

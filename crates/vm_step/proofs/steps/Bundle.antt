@@ -8,6 +8,7 @@ use Rattle.vm_rule.specs.declared.view.Place.TheVariants as places
 use Rattle.vm_step.proofs.{Exchange.exchange-tells, Exchange.tried-event, Fit.either-has, Fit.either-lives, Fit.fit, Here.world, Quiet.held-shows, Standing.allows}
 use Rattle.vm_step.proofs.{Standing.allows-load, Written.word-left}
 use Rattle.vm_step.proofs.Groups.{has-without_all as still-has}
+use Rattle.vm_step.proofs.Prelude.{holdings}
 use Rattle.vm_step.proofs.Prelude.{[], after_event, after_step, AllowsStep, ap, arith, at-bound, bit_and, bit_or, bit_xor, BLoad, BloadIsItsEvent, Bool}
 use Rattle.vm_step.proofs.Prelude.{bundle-here, BundleTold, cases_Bool, core-still, core_shown, Did, did_change, did_exchange, did_load, either, either-way}
 use Rattle.vm_step.proofs.Prelude.{eqb, false, frames_in, get_elem?, Give, give-step, GiveIsItsEvent, given-bits, given_view, GiveTold, Hand, hand-here}
@@ -80,8 +81,9 @@ module _ {X B : Type 0} (stored : B → Stored) (keeps : Start → Kept X → Ty
       held-shows stored keeps tied start tells s r id v (slice_set s.words i x) did v.held inner.frames inner.contents (Take id g expects mask) there live
       (word-left start s.words did x r.wide.0 r.spelled at refl refl (ap {B = Option ℕ} (λ b. if b then Some x else None) (eq-eqb found expects hit)))
       (take-legal stored start s id v there g expects mask l may)
-      (take-step stored start s r.releases r.drafts id v _ g expects mask r.wide.0 at there refl refl refl (frames-with g mask v.frames) (finds hit))
+      (take-step stored start s r.releases r.drafts id v _ g expects mask r.wide.0 at there refl refl refl refl (frames-with g mask v.frames) (finds hit))
       (ap (λ (c : State). c.next) core)
+      (ap (λ (c : State). c.spares) core)
       (λ q. subst (λ (c : State). KnowsPage (seat_of v q) (put_at no_held v.held q) (c.pages q)) (sym core) (known.knows q))
       (λ q m x at. known.owners q m x at ∙ sym (ap (λ (c : State). c.owners m.frame) core))
       (λ f e. contents f e ∙ sym (ap (λ (c : State). c.words f) core)))
@@ -122,8 +124,8 @@ module _ {X B : Type 0} (stored : B → Stored) (keeps : Start → Kept X → Ty
       let k = steps stored keeps tied start tells s r id v words r.drafts [] [] did (given_view g mask v) (Give id g mask) there live number refl refl
       (held-shows stored keeps tied start tells s r id v words did v.held (given_view g mask v).frames v.contents (Give id g mask) there live
       (word-left start s.words did (bit_or found mask) r.wide.0 r.spelled at refl refl refl) (give-legal stored start s id v there g mask l may)
-      (give-step stored start s r.releases r.drafts id v _ g mask (bit_or found mask) r.wide.0 at there refl refl refl (frames-without g mask v.frames) (ap (λ n. bit_or n mask) (sym (bundle-here stored start s g at))))
-      refl known.knows known.owners
+      (give-step stored start s r.releases r.drafts id v _ g mask (bit_or found mask) r.wide.0 at there refl refl refl refl (frames-without g mask v.frames) (ap (λ n. bit_or n mask) (sym (bundle-here stored start s g at))))
+      refl refl known.knows known.owners
       (λ f e. known.contents f (still-has (frames_in g mask) v.frames f e).0)) in (
         _,
         k.0,
@@ -144,7 +146,7 @@ module _ {X B : Type 0} (stored : B → Stored) (keeps : Start → Kept X → Ty
       let k = steps stored keeps tied start tells s r id v words r.drafts [] [] did v (Hand id) there live number refl refl
       (held-shows stored keeps tied start tells s r id v words did v.held v.frames v.contents (Hand id) there live (word-left start s.words did (hand_more found) r.wide.0 r.spelled tt refl refl refl) (at-bound s.views id v there)
       (hand-step stored start s r.releases r.drafts id v (after_step stored keeps tied start tells s r words [] [] did v) (hand_more found) r.wide.0 there refl refl refl refl (ap hand_more (sym (hand-here stored start s))))
-      refl (r.known id v there live).knows (r.known id v there live).owners (r.known id v there live).contents) in
+      refl refl (r.known id v there live).knows (r.known id v there live).owners (r.known id v there live).contents) in
       (_, k.0, record { brings = k.1 }))
 
   -- a load
@@ -153,7 +155,7 @@ module _ {X B : Type 0} (stored : B → Stored) (keeps : Start → Kept X → Ty
       let view = told.brings.view in
       record {
         legal = names-bundle stored start s id v pass.there g (omega (arith, at.0));
-        core = core-still stored start s id v w pass.there (ap (λ (y : View X). y.out) view) (ap (λ (y : View X). y.frames) view) (ap (λ (y : View X). y.seats) view);
+        core = core-still stored start s id v w pass.there (ap (λ (y : View X). y.out) view) (ap (λ (y : View X). holdings y) view) (ap (λ (y : View X). y.seats) view);
         sees = ap sights.Word (bundle-here stored start s g at.0 ∙ sym at.1);
       }
 
@@ -164,7 +166,7 @@ module _ {X B : Type 0} (stored : B → Stored) (keeps : Start → Kept X → Ty
       tried-event stored start keeps tied tells s id (places.Bundle g) expects found (bit_xor expects mask) _ v (taken_view g mask told.words v) w (Take id g expects mask) pass at told.brings
       (take-legal stored start s id v pass.there g expects mask (omega (arith, at.0)) may)
       (λ hit b. ap (λ (y : World). y.core)
-      (take-step stored start s [] (λ _. []) id v w g expects mask pass.rule.wide.0 at.0 pass.there (ap (λ (y : View X). y.out) b.view) (ap (λ (y : View X). y.seats) b.view) (ap (λ (y : View X). y.loads) b.view)
+      (take-step stored start s [] (λ _. []) id v w g expects mask pass.rule.wide.0 at.0 pass.there (ap (λ (y : View X). y.out) b.view) (ap (λ (y : View X). y.numbers) b.view) (ap (λ (y : View X). y.seats) b.view) (ap (λ (y : View X). y.loads) b.view)
       (λ h. ap (λ (y : View X). has h y.frames) b.view ∙ frames-with g mask v.frames h) (word ∙ hit)))
       (λ miss. ap (λ (y : World). y.core) (lost-take (world_of stored start [] (λ _. []) s) id g expects mask (λ q. miss (sym word ∙ q))))
       (ap {B = Seen} (λ n. if eqb n expects then sights.Taken else sights.Lost n) word)
@@ -175,7 +177,7 @@ module _ {X B : Type 0} (stored : B → Stored) (keeps : Start → Kept X → Ty
       let view = told.brings.view in
       let word : (core_shown stored start s).bundles g ≡ found = bundle-here stored start s g at.0 ∙ sym at.1 in
       is-event (give-legal stored start s id v pass.there g mask (omega (arith, at.0)) may)
-      (give-step stored start s [] (λ _. []) id v w g mask (bit_or found mask) pass.rule.wide.0 at.0 pass.there (ap (λ (y : View X). y.out) view) (ap (λ (y : View X). y.seats) view) (ap (λ (y : View X). y.loads) view)
+      (give-step stored start s [] (λ _. []) id v w g mask (bit_or found mask) pass.rule.wide.0 at.0 pass.there (ap (λ (y : View X). y.out) view) (ap (λ (y : View X). y.numbers) view) (ap (λ (y : View X). y.seats) view) (ap (λ (y : View X). y.loads) view)
       (λ h. ap (λ (y : View X). has h y.frames) view ∙ frames-without g mask v.frames h)
       (ap (λ n. bit_or n mask) (sym word)))
       (ap sights.Word word)
@@ -186,6 +188,6 @@ module _ {X B : Type 0} (stored : B → Stored) (keeps : Start → Kept X → Ty
       let view = told.brings.view in
       let word : (core_shown stored start s).hand ≡ found = hand-here stored start s ∙ sym at.1 in
       is-event (at-bound s.views id v pass.there)
-      (hand-step stored start s [] (λ _. []) id v w (hand_more found) pass.rule.wide.0 pass.there (ap (λ (y : View X). y.out) view) (ap (λ (y : View X). y.frames) view) (ap (λ (y : View X). y.seats) view) (ap (λ (y : View X). y.loads) view)
+      (hand-step stored start s [] (λ _. []) id v w (hand_more found) pass.rule.wide.0 pass.there (ap (λ (y : View X). y.out) view) (ap (λ (y : View X). holdings y) view) (ap (λ (y : View X). y.seats) view) (ap (λ (y : View X). y.loads) view)
       (ap hand_more (sym word)))
       (ap sights.Word word)

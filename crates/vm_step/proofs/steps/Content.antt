@@ -9,6 +9,7 @@ use Rattle.vm_core.specs.declared.event.Seen.TheVariants as sights
 use Rattle.vm_rule.specs.declared.view.Place.TheVariants as places
 use Rattle.vm_step.proofs.{Fit.fit, Mine.member-mine, Mine.stands-known, Quiet.held-shows, Quiet.quiet-shows, Standing.allows, Standing.allows-load}
 use Rattle.vm_step.proofs.{Written.word-left, Written.word-loaded}
+use Rattle.vm_step.proofs.Prelude.{holdings}
 use Rattle.vm_step.proofs.Prelude.{[], after_step, AllowsStep, ap, arith, at-bound, Bool, Brings, cases_eq, content-here, core_shown, Did, did_load, did_store}
 use Rattle.vm_step.proofs.Prelude.{draft-is, draft_of, drafted_view, Drafts, each-upd2, eq-eqb, EVICTED, false, fill-step, filled_view, FillIsItsEvent}
 use Rattle.vm_step.proofs.Prelude.{frame_of, frame_read_by, get_elem?, has, Held, held-here, held_at, HoldsPage, if◌then◌else◌, index_of, inl, inr, is_pending}
@@ -113,6 +114,7 @@ module _ {X B : Type 0} (stored : B → Stored) (keeps : Start → Kept X → Ty
         members = λ q some'. upd-other r.drafts p (slice_set (r.drafts p) i x) q
             (λ e. true≢false (sym (member-mine stored keeps tied start tells s r id v there live p known.0 d.owns (ap (is_pending s.views) (sym e) ∙ some')) ∙ d.free));
         next = refl;
+        spares = refl;
         knows = k.knows;
         owners = k.owners;
         contents = λ g e.
@@ -145,7 +147,7 @@ module _ {X B : Type 0} (stored : B → Stored) (keeps : Start → Kept X → Ty
       (word-left start s.words (did_store (places.Content f i) x) x r.wide.0 r.spelled (lf, li) refl tt refl)
       (fill-legal f i x lf li owns)
       (fill-step stored start s r.releases r.drafts id v _ f i x r.inv r.wide.0 lf li there refl refl refl refl owns)
-      refl k.knows k.owners
+      refl refl k.knows k.owners
       (each-upd2 (λ g l m. has g v.frames ≡ true → l ≡ m) contents c.words f (slice_set (contents f) i x) (slice_set (c.words f) i x) (λ _. ap (λ l. slice_set l i x) (k.contents f owns)) (λ g _. k.contents g))
 
   -- one page alone stands in the frame
@@ -186,6 +188,7 @@ module _ {X B : Type 0} (stored : B → Stored) (keeps : Start → Kept X → Ty
         holds = λ q x. x;
         members = λ q _. refl;
         next = refl;
+        spares = refl;
         knows = known.knows;
         owners = known.owners;
         contents = known.contents;
@@ -243,12 +246,12 @@ module _ {X B : Type 0} (stored : B → Stored) (keeps : Start → Kept X → Ty
   pub store-event : StoreIsItsEvent stored keeps tied tells
   store-event start s id p f i x v w pass lf li d told =
       let view = told.brings.view in
-      record { legal = store-legal stored keeps tied start tells s pass.rule id v pass.there pass.live p f i x lf li d; core = store-core stored start s id v w f i x pass.rule.wide.0 lf li pass.there (ap (λ (y : View X). y.out) view) (ap (λ (y : View X). y.frames) view) (ap (λ (y : View X). y.seats) view); sees = refl }
+      record { legal = store-legal stored keeps tied start tells s pass.rule id v pass.there pass.live p f i x lf li d; core = store-core stored start s id v w f i x pass.rule.wide.0 lf li pass.there (ap (λ (y : View X). y.out) view) (ap (λ (y : View X). holdings y) view) (ap (λ (y : View X). y.seats) view); sees = refl }
 
   pub fill-event : FillIsItsEvent stored keeps tied tells
   fill-event start s id f i x v w pass lf li owns told =
       let view = told.brings.view in
-      record { legal = fill-legal stored keeps tied start tells s pass.rule id v pass.there pass.live f i x lf li owns; core = store-core stored start s id v w f i x pass.rule.wide.0 lf li pass.there (ap (λ (y : View X). y.out) view) (ap (λ (y : View X). y.frames) view) (ap (λ (y : View X). y.seats) view); sees = refl }
+      record { legal = fill-legal stored keeps tied start tells s pass.rule id v pass.there pass.live f i x lf li owns; core = store-core stored start s id v w f i x pass.rule.wide.0 lf li pass.there (ap (λ (y : View X). y.out) view) (ap (λ (y : View X). holdings y) view) (ap (λ (y : View X). y.seats) view); sees = refl }
 
   pub load-event : LoadIsItsEvent stored keeps tied tells
   load-event start s id p f i found v w pass finds l by told =
@@ -256,7 +259,7 @@ module _ {X B : Type 0} (stored : B → Stored) (keeps : Start → Kept X → Ty
       let c : State = core_shown stored start s in
       let reads : load_frame (c.pages p) id ≡ Some f = reads-known stored start s id p v l pass.there ((pass.rule.known id v pass.there pass.live).knows p) ∙ by in
       is-event (record { names = record { actor = at-bound s.views id v pass.there; page = l }; place = finds.0.1; frame = subst IsSome (sym reads) refl })
-      (load-step stored start s [] (λ _. []) id v w p i f found l finds.0.0 finds.0.1 pass.there (ap (λ (y : View X). y.out) view) (ap (λ (y : View X). y.frames) view) (ap (λ (y : View X). y.seats) view)
+      (load-step stored start s [] (λ _. []) id v w p i f found l finds.0.0 finds.0.1 pass.there (ap (λ (y : View X). y.out) view) (ap (λ (y : View X). holdings y) view) (ap (λ (y : View X). y.seats) view)
       reads finds.1 (ap (λ (y : View X). y.loads) view))
       (ap sights.Word (ap (λ o. word_at c.words o i) reads ∙ content-here stored start s f i finds.0.0 finds.0.1 ∙ sym finds.1))
 
@@ -265,7 +268,7 @@ module _ {X : Type 0} {p f i x : ℕ} {v w : View X} (t : StoreTold p f i x v w)
   store-others touched at = others-tied t.brings ([], refl) tt (λ q ne. refl) (λ q ne. refl) (λ q ne. refl) (λ q ne. upd-other (put_at [] v.drafts) p _ q (apart touched at q ne))
 
   pub store-own : LeavesOwn v w
-  store-own = own-from t.brings refl (refl, refl, refl)
+  store-own = own-from t.brings refl (refl, refl, refl) (refl, λ _. (refl, refl))
 
   pub store-seat : (q : ℕ) → seat_of w q ≡ seat_of v q
   store-seat q = ap (λ (y : View X). seat_of y q) t.brings.view
@@ -287,7 +290,7 @@ module _ {X : Type 0} {p f i found : ℕ} {v w : View X} (t : LoadTold p f i fou
   load-others touched at = others-tied t.brings ([], refl) tt (λ q ne. refl) (λ q ne. upd-other (put_at [] v.loads) p _ q (apart touched at q ne)) (λ q ne. refl) (λ q ne. refl)
 
   pub load-own : LeavesOwn v w
-  load-own = own-from t.brings refl (refl, refl, refl)
+  load-own = own-from t.brings refl (refl, refl, refl) (refl, λ _. (refl, refl))
 
   pub load-seat : (q : ℕ) → seat_of w q ≡ seat_of v q
   load-seat q = ap (λ (x : View X). seat_of x q) t.brings.view

@@ -1,11 +1,11 @@
 -- What a step of a pass leaves, whatever it does to the pages that it speaks of: said once of a step of any kind, and of several steps in a row.
 -- The files of the kinds beside this one say of each which pages it speaks of, and what it leaves of them.
 use Rattle.vm_step.proofs.Alone.{runs-one, runs-self, runs-then}
-use Rattle.vm_step.proofs.Asides.{alone-self, keeps-self, keeps-then, OnlyReads, starts-then}
+use Rattle.vm_step.proofs.Asides.{alone-self, keeps-self, keeps-then, numbers-self, numbers-then, OnlyReads, starts-then}
 use Rattle.vm_step.proofs.Prelude.{[], ap, append-none, append_assoc, BringsWith, Did, draft_of, Each, Entry, Held, held_at, History, HoldsPage, IsAsideOf}
-use Rattle.vm_step.proofs.Prelude.{IsLocking, KeepsFrames, KnowsAsBefore, last-is, last_in, last_of, LeavesRest, List, loads_at, no_held, no_seat, None, Option}
+use Rattle.vm_step.proofs.Prelude.{IsLocking, KeepsFrames, KeepsNumbers, KnowsAsBefore, last-is, last_in, last_of, LeavesRest, List, loads_at, no_held, no_seat, None, Option}
 use Rattle.vm_step.proofs.Prelude.{Origin, Put, put_at, refl, Release, release-else, RunsAlone, Seat, seat_of, StartsWith, StaysAlone, Stored, subst, sym, Tie}
-use Rattle.vm_step.proofs.Prelude.{Translation, View, Works, ℕ, ◌++◌, ◌∙◌, ◌∷◌, ◌≡◌, ◌≢◌}
+use Rattle.vm_step.proofs.Prelude.{Translation, true, View, Works, ℕ, ◌++◌, ◌∙◌, ◌∷◌, ◌≡◌, ◌≢◌}
 
 -- a page that is none of those touched is not page p, which is one
 pub apart : (touched : ℕ → Type 0) {p : ℕ} → touched p → (q : ℕ) → (touched q → ⊥) → q ≢ p
@@ -120,8 +120,8 @@ module _ {X : Type 0} where
   -- by what it changes of the view: seats, loads, what is known of pages and drafts, of the pages touched alone; and what it says, ties, owes and
   -- waits for
   pub others-tied : {touched : ℕ → Type 0} {did : Did} {own : List Release} {entries : List (Entry X)} {v w : View X} {seats : List (Put Seat)} {loads : List (Put (List (ℕ × ℕ)))} {held : List (Put Held)} {drafts : List (Put (List ℕ))}
-      {translations : List Translation} {ties : List Tie} {pending owed : List ℕ} {next : Option ℕ} {mine : List (Entry X)}
-      → BringsWith did None own entries v (record v { seats = seats; loads = loads; held = held; drafts = drafts; translations = translations; ties = ties; pending = pending; owed = owed; next = next; mine = mine }) w
+      {translations : List Translation} {ties : List Tie} {pending owed numbers freed : List ℕ} {next : Option ℕ} {mine : List (Entry X)}
+      → BringsWith did None own entries v (record v { seats = seats; loads = loads; held = held; drafts = drafts; translations = translations; ties = ties; pending = pending; owed = owed; numbers = numbers; freed = freed; next = next; mine = mine }) w
       → (more : List Tie) × (ties ≡ more ++ v.ties) → Each (λ r. touched r.page) own
       → ((q : ℕ) → (touched q → ⊥) → put_at no_seat seats q ≡ seat_of v q)
       → ((q : ℕ) → (touched q → ⊥) → put_at [] loads q ≡ loads_at v q)
@@ -169,16 +169,25 @@ module _ {X : Type 0} where
   pub record LeavesOwn (v w : View X) : Type 0 where
     pub mine : w.mine ≡ v.mine
     pub group : (w.pending ≡ v.pending) × (w.owed ≡ v.owed) × (w.next ≡ v.next)
+    pub start : w.start ≡ v.start
+    pub numbers : KeepsNumbers v w
+
+  pub own-self : (v : View X) → LeavesOwn v v
+  own-self v = record { mine = refl; group = (refl, refl, refl); start = refl; numbers = numbers-self v }
 
   pub own-then : {u v w : View X} → LeavesOwn u v → LeavesOwn v w → LeavesOwn u w
-  own-then f g = record { mine = g.mine ∙ f.mine; group = (g.group.0 ∙ f.group.0, g.group.1 ∙ f.group.1, g.group.2 ∙ f.group.2) }
+  own-then {u = u} {v = v} {w = w} f g =
+      record { mine = g.mine ∙ f.mine; group = (g.group.0 ∙ f.group.0, g.group.1 ∙ f.group.1, g.group.2 ∙ f.group.2); start = g.start ∙ f.start; numbers = numbers-then u v w f.start f.numbers g.numbers }
 
   -- by what the step changed
   pub own-from : {did : Did} {block : Option (ℕ × Stored)} {own : List Release} {entries : List (Entry X)} {v inner w : View X} → BringsWith did block own entries v inner w
-      → inner.mine ≡ v.mine → (inner.pending ≡ v.pending) × (inner.owed ≡ v.owed) × (inner.next ≡ v.next) → LeavesOwn v w
-  own-from b mine group = record {
+      → inner.mine ≡ v.mine → (inner.pending ≡ v.pending) × (inner.owed ≡ v.owed) × (inner.next ≡ v.next)
+      → (inner.start ≡ v.start) × (v.start.tells ≡ true → (inner.numbers ≡ v.numbers) × (inner.freed ≡ v.freed)) → LeavesOwn v w
+  own-from b mine group numbers = record {
     mine = ap (λ (x : View X). x.mine) b.view ∙ mine;
     group = (ap (λ (x : View X). x.pending) b.view ∙ group.0, ap (λ (x : View X). x.owed) b.view ∙ group.1, ap (λ (x : View X). x.next) b.view ∙ group.2);
+    start = ap (λ (x : View X). x.start) b.view ∙ numbers.0;
+    numbers = λ t. (ap (λ (x : View X). x.numbers) b.view ∙ (numbers.1 t).0, ap (λ (x : View X). x.freed) b.view ∙ (numbers.1 t).1);
   }
 
   -- steps that speak of page p alone, and say nothing
@@ -193,6 +202,7 @@ module _ {X : Type 0} where
     releases = f.releases;
     ties = f.ties;
     group = o.group;
+    numbers = o.numbers;
     seats = f.seats;
     loads = f.loads;
     held = f.held;
@@ -220,6 +230,7 @@ module _ {X : Type 0} where
       out = f.out;
       ties = f.ties;
       group = o.group;
+      numbers = o.numbers;
       holds = holds;
       knows = knows;
       others = λ q ne. record { reading = ap (λ (s : Seat). s.reading) (f.seats q ne); loads = f.loads q ne };
@@ -231,4 +242,4 @@ module _ {X : Type 0} where
   -- no step does
   pub aside-self : (touched : ℕ → Type 0) (v : View X) → IsAsideOf touched [] v v
   aside-self touched v =
-      (only-of {touched = touched} (others-none v) (record { mine = refl; group = (refl, refl, refl) }) (λ q. holds-still q refl) (λ q l. record { held = refl; draft = refl; last = refl }) (alone-self v)).aside
+      (only-of {touched = touched} (others-none v) (own-self v) (λ q. holds-still q refl) (λ q l. record { held = refl; draft = refl; last = refl }) (alone-self v)).aside

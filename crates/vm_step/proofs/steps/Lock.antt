@@ -2,13 +2,16 @@
 --
 -- What an exclusive lock leaves that was taken: it speaks of one page, whose open read is closed, whose draft is its last words, and which the
 -- pass knows from then on.
+use Rattle.vm_page.specs.Pages.{all_zero}
+use Rattle.vm_rule.proofs.Numbered.{hands-there}
+use Rattle.vm_rule.specs.Rule.{hands_of}
 use Rattle.vm_rule.specs.declared.view.Place.TheVariants as places
 use Rattle.vm_step.proofs.{Evidenced.taken-view, Fit.either-has, Fit.either-lives, Fit.fit, Here.last, Here.world, Standing.allows}
 use Rattle.vm_step.proofs.Exchange.{exchange-event, free-member, free-unheld, held-at, known-held, lockx-exchange, opened, owner-shows}
 use Rattle.vm_step.proofs.Exchange.{known-owner, page_held, tried, tried-validates}
 use Rattle.vm_step.proofs.Prelude.{[], AllowsStep, ap, arith, Bool, Brings, Did, did_exchange, draft_of, each-map, either, eqb, Held, held_at, if◌then◌else◌}
 use Rattle.vm_step.proofs.Prelude.{IsHeldAt, IsPlacedAt, Kept, last_of, LeavesRest, length, List, LOCKED, locked, locked_view, LockExclusiveIsItsEvent}
-use Rattle.vm_step.proofs.Prelude.{LockTold, LockX, MayLock, nat_tests, no_held, no_seat, None, Page, page_at, put, put_at, refl, Seat, seat_of, Shape}
+use Rattle.vm_step.proofs.Prelude.{LockTold, LockX, MayLock, nat_tests, no_held, no_seat, None, Origin, Page, page_at, put, put_at, refl, Seat, seat_of, Shape}
 use Rattle.vm_step.proofs.Prelude.{share_count, slice_index, Stands, stands_dirty, Start, state-here, state_of, Stored, subst, sym, told_of, TranslationHolds}
 use Rattle.vm_step.proofs.Prelude.{true, upd-other, upd-same, Version, version-here, version_of, View, word_of, ℕ, ◌<◌, ◌∙◌, ◌∷◌, ◌≡◌, ◌≢◌}
 use Rattle.vm_step.proofs.steps.Leaving.{apart, LeavesOthers, LeavesOwn, others-tied, own-from, rest-of}
@@ -50,6 +53,8 @@ module _ {X B : Type 0} (stored : B → Stored) (keeps : Start → Kept X → Ty
           stands = λ hit. subst (λ (y : Version). IsHeldAt p expects v.start.frames v.start.tells y.words held) (sym k.1.last) (held-at stored keeps tied start tells s r id v there p l (free hit) (none hit) live expects hit);
           free = λ hit. free-member stored keeps tied start tells s r id v there p l (free hit);
           unheld = λ hit. free-unheld stored keeps tied start tells s r id v there p l (free hit) (none hit) live;
+          zero = λ t hit mine. ap (λ (y : Version). all_zero y.words) k.1.last
+              ∙ ((r.numbers (sym (ap (λ (o : Origin). o.tells) (r.heard id v there live).same_start) ∙ t)).held id (hands_of v) (hands-there s.views id v there) p mine).0;
           clean = λ hit stays. each-map (TranslationHolds pages) _
               (λ t h here version dirty.
               let at : t.version ≡ (pages t.page).version = version ∙ ap version_of (sym hit) ∙ sym (version-here stored start s p l) ∙ ap (λ q. (pages q).version) (sym here) in
@@ -80,7 +85,7 @@ module _ {X : Type 0} {tied : Start → ℕ → List ℕ → ℕ → List ℕ �
       (λ q ne. upd-other (put_at [] v.drafts) p _ q (apart touched at q ne))
 
   pub lock-own : LeavesOwn v w
-  lock-own = own-from lock-brings refl (refl, refl, refl)
+  lock-own = own-from lock-brings refl (refl, refl, refl) (refl, λ _. (refl, refl))
 
   pub lock-leaves : LeavesRest p (lock-did ∷ []) v w
   lock-leaves = rest-of (lock-others (λ q. q ≡ p) refl) lock-own

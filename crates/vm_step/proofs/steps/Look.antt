@@ -11,6 +11,7 @@ use Rattle.vm_step.proofs.{Unclaimed.logical-zero, Written.word-loaded}
 use Rattle.vm_step.proofs.Here.{frame-inside, last-told, older, read-valid, reads, since, size-told, tied-itself, ties-hold, version-told}
 use Rattle.vm_step.proofs.Logical.{not-pending, page-kept, pages-kept, tied-now}
 use Rattle.vm_step.proofs.Mine.{no-member}
+use Rattle.vm_step.proofs.Prelude.{holdings}
 use Rattle.vm_step.proofs.Prelude.{[], after_step, AllowsStep, any-here, any-same, ap, append-none, arith, at-bound, became, began_of, Bool, Brings, calls-by}
 use Rattle.vm_step.proofs.Prelude.{cases_Bool, cases_eq, chosen, Closed, cond-false, cond-true, core_shown, Did, did_load, draft-is, Each, each-both, each-map}
 use Rattle.vm_step.proofs.Prelude.{each-upd2, entries_of, entries_under, Entry, entry_of, eqb, eqb-true, EVICTED, false, frame_of, fun_ext, get_elem?, has}
@@ -237,7 +238,7 @@ module _ {X B : Type 0} (stored : B → Stored) (keeps : Start → Kept X → Ty
             (record {
               word = word-loaded start s.words (places.State p) r.wide.0 r.spelled l;
               legal = (record { actor = at-bound s.views id v there; page = l }, tt);
-              leads = record { world = look-step stored start s r.releases r.drafts id v look-after p page l there refl refl (sym (state-here stored start s p l)) (sym (version-here stored start s p l)) refl refl; pending = refl; members = λ q _. refl; up = omega arith };
+              leads = record { world = look-step stored start s r.releases r.drafts id v look-after p page l there refl refl (sym (state-here stored start s p l)) (sym (version-here stored start s p l)) refl refl; pending = refl; members = λ q _. refl; up = omega arith; spares = refl; numbers = refl; freed = refl; owes = inl refl };
               same = (refl, refl, refl, refl, refl, refl, refl);
               calls = λ o x. seat-keeps may_call refl o.page ∙ (r.blocks.away id v o there x).1;
               holds = λ q x. seat-keeps (λ y. y.exclusive) refl q ∙ x;
@@ -302,7 +303,7 @@ module _ {X B : Type 0} (stored : B → Stored) (keeps : Start → Kept X → Ty
       let state : state_of found ≡ page.state = ap state_of finds.1 ∙ sym (state-here stored start s p finds.0) in
       let version : version_of found ≡ page.version = ap version_of finds.1 ∙ sym (version-here stored start s p finds.0) in
       is-event (record { actor = at-bound s.views id v pass.there; page = finds.0 }, tt)
-      (look-step stored start s [] (λ _. []) id v w p (record page { state = state_of found; version = version_of found }) finds.0 pass.there (ap (λ (y : View X). y.out) view) (ap (λ (y : View X). y.frames) view) state version (ap (λ (y : View X). y.seats) view)
+      (look-step stored start s [] (λ _. []) id v w p (record page { state = state_of found; version = version_of found }) finds.0 pass.there (ap (λ (y : View X). y.out) view) (ap (λ (y : View X). holdings y) view) state version (ap (λ (y : View X). y.seats) view)
       (ap (λ (y : View X). y.loads) view))
       (λ i. sights.Look ((word-here stored start s p finds.0 ∙ sym finds.1) i) (left_of (record page { state = sym state i; version = sym version i }) (seat-here stored start s id p v finds.0 pass.there i).reading))
 
@@ -328,7 +329,7 @@ module _ {X : Type 0} {tied : Start → ℕ → List ℕ → ℕ → List ℕ �
 
   -- it says what becomes an entry, where it makes one
   pub look-says : where_same (left_at found (seat_of v p).reading) (entries_of v said) [] ≡ [] → LeavesOwn v w
-  look-says none = own-from t.brings (ap (λ (l : List (Entry X)). v.mine ++ l) none ∙ append-none v.mine) (refl, refl, refl)
+  look-says none = own-from t.brings (ap (λ (l : List (Entry X)). v.mine ++ l) none ∙ append-none v.mine) (refl, refl, refl) (refl, λ _. (refl, refl))
 
   -- the locks of every page stay, and what is known under them
   pub look-holds : (q : ℕ) → HoldsPage v w q

@@ -9,6 +9,7 @@ use Rattle.vm_rule.specs.declared.view.Place.TheVariants as places
 use Rattle.vm_rule.proofs.Facts.{has-left}
 use Rattle.vm_step.proofs.{Fit.fit, Here.frame-inside, Leaves.works-one, Mine.owner-known, Mine.stands-called, Quiet.held-shows, Standing.allows, Written.spelled-now}
 use Rattle.vm_step.proofs.{Written.stands-there}
+use Rattle.vm_step.proofs.Prelude.{holdings}
 use Rattle.vm_step.proofs.Prelude.{[], actor_of, after_step, AllowsStep, ap, arith, at-bound, became, Bool, Brings, cases_eq, Clean, clean-step, clean_in}
 use Rattle.vm_step.proofs.Prelude.{clean_view, CleanTold, Clear, clear-step, cleared_view, ClearTold, core_shown, Did, did_store, Dirty, dirty-step, dirty_in}
 use Rattle.vm_step.proofs.Prelude.{dirty_view, DirtyTold, each-upd, each-upd2, either-way, eq-eqb, Event, false, false_from_ne_true, frame_in, gains, get_elem?}
@@ -84,11 +85,12 @@ module _ {X B : Type 0} (stored : B → Stored) (keeps : Start → Kept X → Ty
         → world_of stored start r.releases r.drafts (became stored keeps tied start tells s (words_with t) id (view_then t (view_with t owner frames contents))) ≡ world_after old e
         → (world_after old e).core.pages ≡ upd core.pages p (record (core.pages p) { trans = t })
         → (world_after old e).core.next ≡ core.next
+        → (world_after old e).core.spares ≡ core.spares
         → (world_after old e).core.owners ≡ core.owners
         → KnowsOwner core.owners (seat_of v p) (held_with t owner)
         → ((f : ℕ) → has f frames ≡ true → put_at [] contents f ≡ (world_after old e).core.words f)
         → Shows stored keeps tied start tells s r id v (words_with t) r.drafts [] [] (did_store (places.Translation p) (trans_word t)) (view_with t owner frames contents) e
-    mapping-shows l t owner frames contents e fits legal world pages next owners here words =
+    mapping-shows l t owner frames contents e fits legal world pages next spares owners here words =
         held-shows stored keeps tied start tells s r id v (words_with t) (did_store (places.Translation p) (trans_word t)) (put p (held_with t owner) v.held) frames contents e there live
         (record {
           wide = length-set s.words (index_of start (places.Translation p)) (trans_word t) ∙ r.wide.0;
@@ -97,7 +99,7 @@ module _ {X B : Type 0} (stored : B → Stored) (keeps : Start → Kept X → Ty
           found = tt;
           wrote = stands-there start s.words (places.Translation p) (trans_word t) r.wide.0 l;
         })
-        legal world next
+        legal world next spares
         (λ q. subst (λ (y : ℕ → Page). KnowsPage (seat_of v q) (upd (put_at no_held v.held) p (held_with t owner) q) (y q)) (sym pages) (knows-mapped t owner q))
         (subst (λ (o : ℕ → ℕ). KnowsOwners o (seat_of v) (upd (put_at no_held v.held) p (held_with t owner))) (sym owners) (each-upd (λ q (h : Held). KnowsOwner core.owners (seat_of v q) h) (put_at no_held v.held) p (held_with t owner) here (λ q _. known.owners q)))
         words
@@ -133,8 +135,8 @@ module _ {X B : Type 0} (stored : B → Stored) (keeps : Start → Kept X → Ty
           let t : Option Mapping = Some (clean_in f) in
           let inner : View X = installed_view p f v in
           mapping-shows l t 0 (without f v.frames) v.contents (Install id p f) (fits f false small) (install-legal l lf)
-          (install-step stored start s r.releases r.drafts id v (view_then t inner) p f (trans_word t) r.wide.0 l there refl refl refl (fits f false small) (λ h. has-left f h v.frames))
-          refl refl refl (λ m _ at. sym unowned ∙ ap (λ (y : Mapping). core.owners y.frame) (some-same (clean_in f) m at))
+          (install-step stored start s r.releases r.drafts id v (view_then t inner) p f (trans_word t) r.wide.0 l there refl refl refl refl (fits f false small) (λ h. has-left f h v.frames))
+          refl refl refl refl (λ m _ at. sym unowned ∙ ap (λ (y : Mapping). core.owners y.frame) (some-same (clean_in f) m at))
           (λ g x. known.contents g (has-without f g v.frames x))
 
     -- ---- a clean page is taken out of its frame
@@ -159,8 +161,8 @@ module _ {X B : Type 0} (stored : B → Stored) (keeps : Start → Kept X → Ty
       clear-shows =
           let inner : View X = cleared_view p f (core.words f) v in
           mapping-shows clear-known.0 None (held_at v p).owner (f ∷ v.frames) (put f (core.words f) v.contents) (Clear id p) mapping-none clear-legal
-          (clear-step stored start s r.releases r.drafts id v (view_then None inner) p 0 r.wide.0 clear-known.0 there refl refl refl mapping-none frames-gained)
-          refl refl refl (λ m _ at. absurd (none-some m at))
+          (clear-step stored start s r.releases r.drafts id v (view_then None inner) p 0 r.wide.0 clear-known.0 there refl refl refl refl mapping-none frames-gained)
+          refl refl refl refl (λ m _ at. absurd (none-some m at))
           (each-upd (λ g l. has g (f ∷ v.frames) ≡ true → l ≡ core.words g) (put_at [] v.contents) f (core.words f) (λ _. refl) (λ g ne x. known.contents g (sym (has-other g f v.frames ne) ∙ x)))
 
       -- it tells of the one frame that the page can stand in
@@ -192,15 +194,16 @@ module _ {X B : Type 0} (stored : B → Stored) (keeps : Start → Kept X → Ty
         → world_of stored start r.releases r.drafts (became stored keeps tied start tells s (words_with (in_frame f dirty)) id (view_then (in_frame f dirty) (view_with (in_frame f dirty) (held_at v p).owner v.frames v.contents))) ≡ world_after old e)
         → (world_after old e).core.pages ≡ upd core.pages p (record (core.pages p) { trans = with_dirty dirty (core.pages p).trans })
         → (world_after old e).core.next ≡ core.next
+        → (world_after old e).core.spares ≡ core.spares
         → (world_after old e).core.owners ≡ core.owners
         → (held_at v p).mapping ≡ in_frame f was
         → ((g : ℕ) → (world_after old e).core.words g ≡ core.words g)
         → Shows stored keeps tied start tells s r id v (words_with (in_frame f dirty)) r.drafts [] [] (did_store (places.Translation p) (trans_word (in_frame f dirty))) (view_with (in_frame f dirty) (held_at v p).owner v.frames v.contents) e
-    remapped-shows f was dirty e l stood legal world pages next owners held words =
+    remapped-shows f was dirty e l stood legal world pages next spares owners held words =
         let says = remaps f was dirty l stood in
         mapping-shows l (in_frame f dirty) (held_at v p).owner v.frames v.contents e says.0 legal (world says.1)
         (pages ∙ ap (λ o. upd core.pages p (record (core.pages p) { trans = o })) (ap (with_dirty dirty) stood))
-        next owners
+        next spares owners
         (λ m calls at. known.owners p (record { frame = f; dirty = was }) calls held ∙ ap (λ (y : Mapping). core.owners y.frame) (some-same (record { frame = f; dirty = dirty }) m at))
         (λ g x. known.contents g x ∙ sym (words g))
 
@@ -218,7 +221,7 @@ module _ {X B : Type 0} (stored : B → Stored) (keeps : Start → Kept X → Ty
       dirty-shows =
           remapped-shows f stands.dirty true (Dirty id p) dirty-known.0 dirty-known.1 dirty-legal
           (dirty-step stored start s r.releases r.drafts id v (view_then (Some (dirty_in f)) (dirty_view p f v)) p (trans_word (Some (dirty_in f))) r.wide.0 dirty-known.0 there refl refl refl refl)
-          refl refl refl stands.stands (λ g. refl)
+          refl refl refl refl stands.stands (λ g. refl)
 
     module _ (f : ℕ) (may : IsWritten v p f) where
       -- the pass has a share of it, so it is not locked and its last words stand in its frame
@@ -253,7 +256,7 @@ module _ {X B : Type 0} (stored : B → Stored) (keeps : Start → Kept X → Ty
       clean-shows =
           remapped-shows f may.dirty false (Clean id p) clean-known.0 clean-known.1 clean-legal
           (clean-step stored start s r.releases r.drafts id v (view_then (Some (clean_in f)) (clean_view p f v)) p (trans_word (Some (clean_in f))) r.wide.0 clean-known.0 there refl refl refl refl)
-          refl refl refl may.stands (λ g. refl)
+          refl refl refl refl may.stands (λ g. refl)
 
 module _ {X B : Type 0} (stored : B → Stored) (keeps : Start → Kept X → Type 0) (tied : Start → ℕ → List ℕ → ℕ → List ℕ → Type 0) (tells : Bool) (shape : Shape) (slots id : ℕ) (v : View X) (i : ℕ) (p x : ℕ) (live : v.live ≡ true) (number : 0 < length v.used) (is : IsPlacedAt shape (places.Translation p) i) where
   -- the step that leaves this word is allowed on every table that stands, where on each that meets the rule it shows this event, and tells what it is to tell
@@ -298,7 +301,7 @@ module _ {X B : Type 0} (stored : B → Stored) (start : Origin) (keeps : Start 
   install-event l lf small may told =
       let view = told.brings.view in
       is-event (install-legal stored keeps tied start tells s pass.rule id v p pass.there pass.live f may l lf)
-      (install-step stored start s [] (λ _. []) id v w p f (trans_word (Some (clean_in f))) pass.rule.wide.0 l pass.there (ap (λ (y : View X). y.out) view) (ap (λ (y : View X). y.seats) view) (ap (λ (y : View X). y.loads) view)
+      (install-step stored start s [] (λ _. []) id v w p f (trans_word (Some (clean_in f))) pass.rule.wide.0 l pass.there (ap (λ (y : View X). y.out) view) (ap (λ (y : View X). y.numbers) view) (ap (λ (y : View X). y.seats) view) (ap (λ (y : View X). y.loads) view)
       (fits f false small) (λ h. ap (λ (y : View X). has h y.frames) view ∙ has-left f h v.frames))
       refl
 
@@ -306,7 +309,7 @@ module _ {X B : Type 0} (stored : B → Stored) (start : Origin) (keeps : Start 
   clear-event stands told =
       let view = told.brings.view in
       is-event (clear-legal stored keeps tied start tells s pass.rule id v p pass.there pass.live f stands)
-      (clear-step stored start s [] (λ _. []) id v w p 0 pass.rule.wide.0 (clear-known stored keeps tied start tells s pass.rule id v p pass.there pass.live f stands).0 pass.there (ap (λ (y : View X). y.out) view) (ap (λ (y : View X). y.seats) view) (ap (λ (y : View X). y.loads) view)
+      (clear-step stored start s [] (λ _. []) id v w p 0 pass.rule.wide.0 (clear-known stored keeps tied start tells s pass.rule id v p pass.there pass.live f stands).0 pass.there (ap (λ (y : View X). y.out) view) (ap (λ (y : View X). y.numbers) view) (ap (λ (y : View X). y.seats) view) (ap (λ (y : View X). y.loads) view)
       mapping-none (λ h. ap (λ (y : View X). has h y.frames) view ∙ frames-gained stored keeps tied start tells s pass.rule id v p pass.there pass.live f stands h))
       refl
 
@@ -315,7 +318,7 @@ module _ {X B : Type 0} (stored : B → Stored) (start : Origin) (keeps : Start 
       let view = told.brings.view in
       let known = dirty-known stored keeps tied start tells s pass.rule id v p pass.there pass.live f stands in
       is-event (dirty-legal stored keeps tied start tells s pass.rule id v p pass.there pass.live f stands)
-      (dirty-step stored start s [] (λ _. []) id v w p (trans_word (Some (dirty_in f))) pass.rule.wide.0 known.0 pass.there (ap (λ (y : View X). y.out) view) (ap (λ (y : View X). y.frames) view) (ap (λ (y : View X). y.seats) view) (ap (λ (y : View X). y.loads) view)
+      (dirty-step stored start s [] (λ _. []) id v w p (trans_word (Some (dirty_in f))) pass.rule.wide.0 known.0 pass.there (ap (λ (y : View X). y.out) view) (ap (λ (y : View X). holdings y) view) (ap (λ (y : View X). y.seats) view) (ap (λ (y : View X). y.loads) view)
       (remaps stored keeps tied start tells s pass.rule id v p pass.there pass.live f stands.dirty true known.0 known.1).1)
       refl
 
@@ -324,7 +327,7 @@ module _ {X B : Type 0} (stored : B → Stored) (start : Origin) (keeps : Start 
       let view = told.brings.view in
       let known = clean-known stored keeps tied start tells s pass.rule id v p pass.there pass.live f may in
       is-event (clean-legal stored keeps tied start tells s pass.rule id v p pass.there pass.live f may)
-      (clean-step stored start s [] (λ _. []) id v w p (trans_word (Some (clean_in f))) pass.rule.wide.0 known.0 pass.there (ap (λ (y : View X). y.out) view) (ap (λ (y : View X). y.frames) view) (ap (λ (y : View X). y.seats) view) (ap (λ (y : View X). y.loads) view)
+      (clean-step stored start s [] (λ _. []) id v w p (trans_word (Some (clean_in f))) pass.rule.wide.0 known.0 pass.there (ap (λ (y : View X). y.out) view) (ap (λ (y : View X). holdings y) view) (ap (λ (y : View X). y.seats) view) (ap (λ (y : View X). y.loads) view)
       (remaps stored keeps tied start tells s pass.rule id v p pass.there pass.live f may.dirty false known.0 known.1).1)
       refl
 

@@ -4,18 +4,25 @@
 -- What a step on the next word leaves: it speaks of no page. A load tells the next page to who holds it; a claim owes pages.
 use Rattle.std.proofs.Common.{eq-eqb}
 use Rattle.vm_core.specs.declared.event.Seen.TheVariants as sights
+use Rattle.std.specs.Prelude.{map}
+use Rattle.vm_core.specs.Prelude.{has_free_bit}
+use Rattle.vm_numbers.proofs.Steps.{claim_keeps}
+use Rattle.vm_numbers.specs.Hands.{Hands, NumbersFit}
 use Rattle.vm_owner.proofs.NumberLemmas.{has-both}
+use Rattle.vm_rule.proofs.Numbered.{hands-set, hands-there}
+use Rattle.vm_rule.specs.Rule.{hands_of}
 use Rattle.vm_rule.specs.declared.view.Place.TheVariants as places
 use Rattle.vm_step.proofs.{Evidenced.taken-view, Exchange.exchange-tells, Exchange.tried-event, Fit.either-has, Fit.either-lives, Fit.fit, Here.last-told, Here.world}
 use Rattle.vm_step.proofs.{Logical.page-kept, Logical.pages-kept, Mine.member-mine, OwedPages.claimed-chosen, Quiet.event-shows, Standing.allows}
 use Rattle.vm_step.proofs.{Standing.allows-load, steps.Leaving.LeavesOthers, steps.Leaving.others-tied, Written.word-left, Written.word-loaded}
 use Rattle.vm_step.proofs.Numbers.{all-zeros, claimed-is, has-numbers, numbers-has}
+use Rattle.vm_step.proofs.Prelude.{holdings}
 use Rattle.vm_step.proofs.Prelude.{[], after_event, after_step, AllowsStep, any-here, any-same, any-true, ap, append-none, AreZero, arith, at-bound, at_next}
 use Rattle.vm_step.proofs.Prelude.{began_of, Bool, Brings, cases_Bool, CatchUpIsItsEvent, chosen, Claim, claim-step, claimed, claimed_view, ClaimIsItsEvent}
 use Rattle.vm_step.proofs.Prelude.{ClaimTold, core-still, core_shown, Did, did_exchange, did_load, draft-is, each-map, either, eqb, false, false_from_ne_true}
 use Rattle.vm_step.proofs.Prelude.{false≢true, FindsAt, FollowIsItsEvent, fun_ext, get_elem?, has, if◌then◌else◌, index_of, inl, inr, is_owed, is_pending}
 use Rattle.vm_step.proofs.Prelude.{IsEvent, IsPassOf, IsPlacedAt, IsSome, Kept, kept_of, KnowsPage, KnowsPages, last_in, Legal, length, List, lost-claim}
-use Rattle.vm_step.proofs.Prelude.{may_call, next-here, next_view, NextStepTold, NextTold, NLoad, NloadIsItsEvent, no_held, None, numbers, Option, or_cases}
+use Rattle.vm_step.proofs.Prelude.{logical, may_call, next-here, next_view, NextStepTold, NextTold, NLoad, NloadIsItsEvent, no_held, None, numbers, Option, or_cases}
 use Rattle.vm_step.proofs.Prelude.{Origin, PassMayClaim, Place, put_at, refl, replicate, Ruled, Seat, seat-here, seat_of, Seen, set_here, Shape, Shows, slice_index}
 use Rattle.vm_step.proofs.Prelude.{slice_set, Some, some, Stands, Start, State, steps, Stored, subst, sym, Table, table_after, told_of, true, true≢false}
 use Rattle.vm_step.proofs.Prelude.{Version, View, WasNext, WereWords, World, world-still, world_after, world_of, ℕ, ⊎_elim, ◌++◌, ◌+◌, ◌<◌, ◌||◌, ◌∙◌, ◌∷◌, ◌≡◌}
@@ -72,7 +79,7 @@ module _ {X B : Type 0} (stored : B → Stored) (keeps : Start → Kept X → Ty
       (record {
         word = word-loaded start s.words places.Next r.wide.0 r.spelled tt;
         legal = at-bound s.views id v there;
-        leads = record { world = world-still stored start s r.releases r.drafts id v w there refl refl refl refl; pending = refl; members = λ q _. refl; up = omega arith };
+        leads = record { world = world-still stored start s r.releases r.drafts id v w there refl refl refl refl; pending = refl; members = λ q _. refl; up = omega arith; spares = refl; numbers = refl; freed = refl; owes = inl refl };
         same = (refl, refl, refl, refl, refl, refl, refl);
         calls = λ o is. (r.blocks.away id v o there is).1;
         holds = λ q x. x;
@@ -182,6 +189,17 @@ module _ {X B : Type 0} (stored : B → Stored) (keeps : Start → Kept X → Ty
       not-claimed q out =
           false_from_ne_true (has q (numbers x n)) (λ t. let k = has-numbers n x q t in let low = k.0 in let high = k.1 in ⊎_elim (λ l. omega (arith, l, low)) (λ le. omega (arith, le, high)) out)
 
+      -- a number that comes to the pages owed was nowhere
+      numbers-claimed : start.tells ≡ true → NumbersFit (has_free_bit claim-old.core.spares) (world_after claim-old (Claim id x n)).core.next (λ q. (claim-old.histories q).last.words)
+          (logical claim-old.histories (is_pending s.views)) (map hands_of (slice_set s.views id w))
+      numbers-claimed t =
+          let is = finds in
+          let after = next-after in
+          subst (λ (l : List Hands). NumbersFit (has_free_bit claim-old.core.spares) (world_after claim-old (Claim id x n)).core.next (λ q. (claim-old.histories q).last.words) (logical claim-old.histories (is_pending s.views)) l)
+          (sym (hands-set s.views id w))
+          (claim_keeps _ _ _ _ _ id (hands_of v) (hands-there s.views id v there) (r.numbers t) (world_after claim-old (Claim id x n)).core.next (numbers x n) (omega (arith, is, after))
+          (λ q e. let k = has-numbers n x q e in let low = k.0 in let high = k.1 in (omega (arith, is, low), omega (arith, after, high))))
+
       -- they are those that were, and then the pages claimed
       owed-claimed : (claimed n before).owed ≡ chosen start.pages owes'
       owed-claimed =
@@ -209,6 +227,10 @@ module _ {X B : Type 0} (stored : B → Stored) (keeps : Start → Kept X → Ty
               pending = refl;
               members = λ q _. refl;
               up = (let is = finds in let after_event = next-after in omega (arith, is, after_event));
+              spares = refl;
+              numbers = refl;
+              freed = refl;
+              owes = inr numbers-claimed;
             };
             same = (refl, refl, refl, refl, refl, refl, refl);
             calls = λ o is. (r.blocks.away id v o there is).1;
@@ -259,7 +281,7 @@ module _ {X B : Type 0} (stored : B → Stored) (keeps : Start → Kept X → Ty
       (k.0, k.1, told-next stored keeps tied start tells s r id v there live _ _ k.0 k.3 k.4 k.2))
 
   -- a load that leaves the pass its frames, its seats and its block
-  load-event : (start : Origin) (s : Table (Option B) (View X)) (id found : ℕ) (v w : View X) → IsPassOf stored start keeps tied tells s id v → FindsAt start s places.Next found → w.out ≡ v.out → w.frames ≡ v.frames → w.seats ≡ v.seats
+  load-event : (start : Origin) (s : Table (Option B) (View X)) (id found : ℕ) (v w : View X) → IsPassOf stored start keeps tied tells s id v → FindsAt start s places.Next found → w.out ≡ v.out → holdings w ≡ holdings v → w.seats ≡ v.seats
       → IsEvent stored start s (table_after s s.words id w) (NLoad id) (sights.Word found)
   load-event start s id found v w pass at out frames seats = record {
     legal = at-bound s.views id v pass.there;
@@ -269,14 +291,14 @@ module _ {X B : Type 0} (stored : B → Stored) (keeps : Start → Kept X → Ty
 
   pub nload-event : NloadIsItsEvent stored keeps tied tells
   nload-event start s id found v w pass at told =
-      let view = told.brings.view in load-event start s id found v w pass at (ap (λ (y : View X). y.out) view) (ap (λ (y : View X). y.frames) view) (ap (λ (y : View X). y.seats) view)
+      let view = told.brings.view in load-event start s id found v w pass at (ap (λ (y : View X). y.out) view) (ap (λ (y : View X). holdings y) view) (ap (λ (y : View X). y.seats) view)
 
   pub catch_up-event : CatchUpIsItsEvent stored keeps tied tells
   catch_up-event start s id v w c pass at =
-      let view = c.brings.view in load-event start s id c.found v w pass at (ap (λ (y : View X). y.out) view) (ap (λ (y : View X). y.frames) view) (ap (λ (y : View X). y.seats) view)
+      let view = c.brings.view in load-event start s id c.found v w pass at (ap (λ (y : View X). y.out) view) (ap (λ (y : View X). holdings y) view) (ap (λ (y : View X). y.seats) view)
 
   pub follow-event : FollowIsItsEvent stored keeps tied tells
-  follow-event start s id v w f pass at = load-event start s id f.found v w pass at (ap (λ (y : View X). y.out) f.view) (ap (λ (y : View X). y.frames) f.view) (ap (λ (y : View X). y.seats) f.view)
+  follow-event start s id v w f pass at = load-event start s id f.found v w pass at (ap (λ (y : View X). y.out) f.view) (ap (λ (y : View X). holdings y) f.view) (ap (λ (y : View X). y.seats) f.view)
 
   -- a claim sees whether the word was the one expected, and the word where it was not
   pub claim-event : ClaimIsItsEvent stored keeps tied tells
@@ -285,7 +307,7 @@ module _ {X B : Type 0} (stored : B → Stored) (keeps : Start → Kept X → Ty
       tried-event stored start keeps tied tells s id places.Next x found (x + n) _ v (claimed_view x n v) w (Claim id x n) pass at told.brings
       (claim-legal stored keeps tied start tells s pass.rule id v pass.there pass.live x n may)
       (λ hit b. ap (λ (y : World). y.core)
-      (claim-step stored start s [] (λ _. []) id v w x n (x + n) pass.rule.wide.0 pass.there (ap (λ (y : View X). y.out) b.view) (ap (λ (y : View X). y.frames) b.view) (ap (λ (y : View X). y.seats) b.view) (ap (λ (y : View X). y.loads) b.view) (word ∙ hit) refl))
+      (claim-step stored start s [] (λ _. []) id v w x n (x + n) pass.rule.wide.0 pass.there (ap (λ (y : View X). y.out) b.view) (ap (λ (y : View X). holdings y) b.view) (ap (λ (y : View X). y.seats) b.view) (ap (λ (y : View X). y.loads) b.view) (word ∙ hit) refl))
       (λ miss. ap (λ (y : World). y.core) (lost-claim (world_of stored start [] (λ _. []) s) id x n (λ q. miss (sym word ∙ q))))
       (ap {B = Seen} (λ n. if eqb n x then sights.Taken else sights.Lost n) word)
 

@@ -7,6 +7,7 @@ use Rattle.vm_core.proofs.OwnerWords.{word-elsewhere, word-written}
 use Rattle.vm_step.proofs.Leaves.{works-one, works-then}
 use Rattle.vm_step.proofs.Mine.{owner-inside}
 use Rattle.vm_step.proofs.steps.Mapping.{install-frames, install-held, install-works}
+use Rattle.vm_step.proofs.Prelude.{holdings}
 use Rattle.vm_step.proofs.Prelude.{[], actor_of, AllowsStep, ap, at-bound, Bool, clean_in, core-still, core_shown, Did, did_store, Disown, DisownIsItsEvent}
 use Rattle.vm_step.proofs.Prelude.{each-upd, Event, false, get_elem?, Held, held_at, index_of, InstallTold, IsOwnerEvent, IsPlacedAt, IsSome, Kept, KnowsOwner}
 use Rattle.vm_step.proofs.Prelude.{KnowsOwners, KnowsPage, Legal, length, List, MayOwn, no_held, None, OLoad, OloadIsItsEvent, Option, Origin, Own, owned}
@@ -55,6 +56,7 @@ module _ {X B : Type 0} (stored : B → Stored) (keeps : Start → Kept X → Ty
       (held-shows stored keeps tied start tells s r id v words did inner.held v.frames v.contents (event id p) there live (word-left start s.words did word r.wide.0 r.spelled inside refl tt refl) (legal start s r (may-own stored keeps tied start tells s r id v there live p f stands))
       (owner-step stored start s r.releases r.drafts id v _ p f word r.wide.0 inside there refl refl refl refl (ap frame_of stood) ∙ sym led)
       (ap (λ (y : World). y.core.next) led)
+      (ap (λ (y : World). y.core.spares) led)
       (λ q. subst (λ (y : World). KnowsPage (seat_of v q) (put_at no_held inner.held q) (y.core.pages q)) (sym led)
       (each-upd (λ k (h : Held). KnowsPage (seat_of v k) h (core.pages k)) (put_at no_held v.held) p (record (held_at v p) { owner = word }) (record { calls = (known.knows p).calls; shares = (known.knows p).shares }) (λ k _. known.knows k) q))
       (subst (λ (y : World). KnowsOwners y.core.owners (seat_of v) (put_at no_held inner.held)) (sym led)
@@ -89,7 +91,7 @@ module _ {X B : Type 0} (stored : B → Stored) (keeps : Start → Kept X → Ty
       let view = told.brings.view in
       let inside : f < start.frames = frame-inside stored keeps tied start tells s pass.rule p (record { frame = f; dirty = stands.dirty }) (standing stored keeps tied start tells s pass.rule id v pass.there pass.live p f stands).1 in
       is-event (legal (core_shown stored start s) id p (may-own stored keeps tied start tells s pass.rule id v pass.there pass.live p f stands))
-      ((owner-step stored start s [] (λ _. []) id v w p f (word p) pass.rule.wide.0 inside pass.there (ap (λ (y : View X). y.out) view) (ap (λ (y : View X). y.frames) view) (ap (λ (y : View X). y.seats) view) (ap (λ (y : View X). y.loads) view)
+      ((owner-step stored start s [] (λ _. []) id v w p f (word p) pass.rule.wide.0 inside pass.there (ap (λ (y : View X). y.out) view) (ap (λ (y : View X). holdings y) view) (ap (λ (y : View X). y.seats) view) (ap (λ (y : View X). y.loads) view)
       (ap frame_of (standing stored keeps tied start tells s pass.rule id v pass.there pass.live p f stands).1))
       ∙ sym (is (world_of stored start [] (λ _. []) s) id p))
       (sees (core_shown stored start s) id p)
@@ -105,7 +107,7 @@ module _ {X B : Type 0} (stored : B → Stored) (keeps : Start → Kept X → Ty
       let view = told.brings.view in
       record {
         legal = record { actor = at-bound s.views id v pass.there; frame = at.0 };
-        core = core-still stored start s id v w pass.there (ap (λ (y : View X). y.out) view) (ap (λ (y : View X). y.frames) view) (ap (λ (y : View X). y.seats) view);
+        core = core-still stored start s id v w pass.there (ap (λ (y : View X). y.out) view) (ap (λ (y : View X). holdings y) view) (ap (λ (y : View X). y.seats) view);
         sees = ap sights.Word (owner-here stored start s f at.0 ∙ sym at.1);
       }
 

@@ -6,7 +6,7 @@ use Rattle.vm_step.proofs.Prelude.{cases_Bool, cases_lt, CaughtUp, core_shown, d
 use Rattle.vm_step.proofs.Prelude.{follows-ruled, frames_held, fun_ext, get_elem?, giver, has, has-left, has-right, HasNone, hearer, Hears, hears-past}
 use Rattle.vm_step.proofs.Prelude.{hears-ruled, histories_of, HoldsNoPage, HoldsNothing, if◌then◌else◌, index_of, inl, IsPassOf, IsPlacedAt, IsSplitOff}
 use Rattle.vm_step.proofs.Prelude.{IsTakenIn, joined, Joins, joins-past, joins-ruled, JoinTold, Kept, knows_more, length, length-append, length-set, List}
-use Rattle.vm_step.proofs.Prelude.{loads_at, loads_of, newcomer, no_seat, None, once-second, OnlyKnows, Option, Origin, outside_page, Page, page-in, page-out}
+use Rattle.vm_step.proofs.Prelude.{loads_at, loads_of, newcomer, no_seat, None, numbers_held, once-second, OnlyKnows, Option, or-false, Origin, outside_page, Page, page-in, page-out}
 use Rattle.vm_step.proofs.Prelude.{page_from, pages_from, refl, Ruled, same-field, seat_of, seats_of, set_else, settled-blocks, Shape, slice_index, slice_set}
 use Rattle.vm_step.proofs.Prelude.{some, spent, split-resettles, split-views, Splits, splits-past, splits-ruled, Stands, Start, StartsWith, Stored, subst, sym}
 use Rattle.vm_step.proofs.Prelude.{Table, table_heard, table_joined, table_split, table_words, taken_in, TakesOver, told_of, true, twice, upd, upd-self, View}
@@ -94,12 +94,14 @@ module _ {X B : Type 0} (stored : B → Stored) (keeps : Start → Kept X → Ty
         let one-more : length views' ≡ length s.views + 1 = (let n = (split-resettles s.views id part v is.there).count in omega (arith, n)) in
         let seats-same : seats_of views' ≡ seats_of s.views = fun_ext (λ p. fun_ext (λ a. same-field s.views id part v is.there (λ y. seat_of y p) refl refl a)) in
         let held-same : frames_held views' ≡ frames_held s.views = fun_ext (λ a. fun_ext (λ f. same-field s.views id part v is.there (λ y. has f y.frames) refl refl a)) in
+        let numbers-same : numbers_held views' ≡ numbers_held s.views = fun_ext (λ a. fun_ext (λ p. same-field s.views id part v is.there (λ y. has p y.numbers) refl refl a)) in
         let loads-same : loads_of views' ≡ loads_of s.views = fun_ext (λ p. fun_ext (λ a. same-field s.views id part v is.there (λ y. loads_at y p) refl refl a)) in
         (λ i. record {
           core = record (core_shown stored start s) {
             shape = record { pages = start.pages; frames = start.frames; actors = one-more i; next = start.next };
             pages = pages_from start.pages (table_words start s.words) ((settled-blocks stored start r.releases r.drafts s views' 1 (length s.views) id (split-resettles s.views id part v is.there)) i) (seats-same i);
             held = held-same i;
+            numbers = numbers-same i;
           };
           histories = histories_of start r.releases r.drafts;
           loads = loads-same i;
@@ -113,6 +115,7 @@ module _ {X B : Type 0} (stored : B → Stored) (keeps : Start → Kept X → Ty
           (λ le. ap (λ (y : Page). y.seats (length s.views)) (page-out start.pages (table_words start s.words) (block_of stored s.homes s.views) (seats_of s.views) p le))
           (cases_lt p start.pages);
       held = λ f. ap (λ (y : View X). has f y.frames) (at-past spent s.views (length s.views) (omega arith));
+      numbers = λ p. ap (λ (y : View X). has p y.numbers) (at-past spent s.views (length s.views) (omega arith));
       loads = λ p. ap (λ (y : View X). loads_at y p) (at-past spent s.views (length s.views) (omega arith));
     }
 
@@ -128,7 +131,8 @@ module _ {X B : Type 0} (stored : B → Stored) (keeps : Start → Kept X → Ty
   -- ---- the pass takes in another, and has the view `took` then
 
   module _ (other : ℕ) (w took : View X) (apart : other ≢ id) (at-other : get_elem? s.views other ≡ some w) (goes : w.out ≡ None) (stays : took.out ≡ v.out)
-      (seats : (p : ℕ) → seat_of took p ≡ seat_of v p) (loads : (p : ℕ) → loads_at took p ≡ loads_at v p) (frames : (f : ℕ) → has f took.frames ≡ (has f w.frames || has f v.frames)) where
+      (seats : (p : ℕ) → seat_of took p ≡ seat_of v p) (loads : (p : ℕ) → loads_at took p ≡ loads_at v p) (frames : (f : ℕ) → has f took.frames ≡ (has f w.frames || has f v.frames))
+      (numbers : (p : ℕ) → has p took.numbers ≡ (has p v.numbers || has p w.numbers)) where
     abbrev both' : List (View X)
     both' = twice s.views id other v w took spent is.there apart at-other
 
@@ -169,6 +173,11 @@ module _ {X B : Type 0} (stored : B → Stored) (keeps : Start → Kept X → Ty
         field-taken (λ y f. has f y.frames) (λ f. false) (λ f. frames_held s.views other f || frames_held s.views id f) refl
         (fun_ext (λ f. frames f ∙ (λ i. has f (sym (at-there spent s.views other w at-other) i).frames || has f (sym (at-there spent s.views id v is.there) i).frames)))
 
+    numbers-taken : numbers_held both' ≡ upd (upd (numbers_held s.views) id (λ p. numbers_held s.views id p || numbers_held s.views other p)) other (λ p. false)
+    numbers-taken =
+        field-taken (λ y p. has p y.numbers) (λ p. false) (λ p. numbers_held s.views id p || numbers_held s.views other p) refl
+        (fun_ext (λ p. numbers p ∙ (λ i. has p (sym (at-there spent s.views id v is.there) i).numbers || has p (sym (at-there spent s.views other w at-other) i).numbers)))
+
     loads-taken : loads_of both' ≡ (λ p. upd (loads_of s.views p) other [])
     loads-taken = fun_ext (λ p. field-kept (λ y. loads_at y p) [] refl (loads p))
 
@@ -178,6 +187,7 @@ module _ {X B : Type 0} (stored : B → Stored) (keeps : Start → Kept X → Ty
         shape = record { pages = start.pages; frames = start.frames; actors = (length-set (slice_set s.views id took) other spent ∙ length-set s.views id took) i; next = start.next };
         pages = pages-taken i;
         held = held-taken i;
+        numbers = numbers-taken i;
       };
       histories = histories_of start r.releases r.drafts;
       loads = loads-taken i;
@@ -191,7 +201,7 @@ module _ {X B : Type 0} (stored : B → Stored) (keeps : Start → Kept X → Ty
         let past = joins-past stored keeps tied start tells s r id other v w is.there apart at-other is.live live' settled-here settled-other nothing in
         record {
           goes = record { rule = joins-ruled stored keeps tied start tells s r id other v w is.there apart at-other is.live live' settled-here settled-other nothing; releases = past.0; history = past.1; drafts = past.2 };
-          core = taken-world other w (joined v w) apart at-other nothing.out refl (λ p. refl) (λ p. refl) (λ f. has-both f w.frames v.frames);
+          core = taken-world other w (joined v w) apart at-other nothing.out refl (λ p. refl) (λ p. refl) (λ f. has-both f w.frames v.frames) (λ p. has-both p v.numbers w.numbers);
         }
 
     -- ---- hearing
@@ -202,5 +212,6 @@ module _ {X B : Type 0} (stored : B → Stored) (keeps : Start → Kept X → Ty
         let past = hears-past stored keeps tied start tells s r id other v w is.there apart at-other is.live live' settled-here settled-other only in
         record {
           goes = record { rule = hears-ruled stored keeps tied start tells s r id other v w is.there apart at-other is.live live' settled-here settled-other only; releases = past.0; history = past.1; drafts = past.2 };
-          core = taken-world other w (hearer v w) apart at-other nothing.out refl (λ p. refl) (λ p. refl) (λ f. ap (λ l. has f l || has f v.frames) (sym nothing.frames));
+          core = taken-world other w (hearer v w) apart at-other nothing.out refl (λ p. refl) (λ p. refl) (λ f. ap (λ l. has f l || has f v.frames) (sym nothing.frames))
+              (λ p. sym (or-false (has p v.numbers)) ∙ ap (λ l. has p v.numbers || has p l) (sym nothing.numbers.0));
         }

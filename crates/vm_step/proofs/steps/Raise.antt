@@ -142,6 +142,7 @@ module _ {X B : Type 0} (stored : B → Stored) (keeps : Start → Kept X → Ty
           inv = event_law world (Raise id p) r.inv (raise-legal p l may.calls);
           left = raise-left;
           next = refl;
+          spares = refl;
           contents = refl;
           owners = each-upd (λ q (x : Held). KnowsOwner world.core.owners (seat_of v q) x) (put_at no_held v.held) p h (mine.owners p) (λ q _. mine.owners q);
           told = ap (listed start.pages) (block-same stored s.homes s.views id v w there refl);

@@ -4,30 +4,38 @@
 -- What a release leaves: it speaks of one page, whose exclusive lock it gives up, of what the pass says, and of the group. So do a release of a
 -- page that is not resident, and a release to a share, which say nothing.
 use Rattle.vm_core.specs.declared.event.Seen.TheVariants as sights
-use Rattle.vm_owner.specs.Kept.{after_release as released_kept}
+use Rattle.std.proofs.Math.Bool.{and-false, and-true}
+use Rattle.std.specs.Prelude.{◌&&◌, ◌==◌, if◌then◌else◌, map}
+use Rattle.vm_core.specs.Prelude.{has_free_bit}
+use Rattle.vm_numbers.specs.Hands.{all_zero, Hands, NumbersFit, zeroed}
+use Rattle.vm_owner.specs.Kept.{after_release as released_kept, changed, frees, MayMove, moved, NumberMove}
+use Rattle.vm_owner.specs.Kept.NumberMove.{Ended}
+use Rattle.vm_rule.specs.Releases.{freed_by}
+use Rattle.vm_rule.specs.Rule.{hands_of}
+use Rattle.vm_rule.proofs.{NumberReleases.first-release-fits, NumberReleases.later-release-fits, Numbered.hands-there, Numbered.numbers-as}
 use Rattle.vm_rule.specs.declared.view.Place.TheVariants as places
 use Rattle.vm_step.proofs.{Asides.alone-release, Evidenced.next-stays, Fit.fit, Keeping.kept-now, Keeping.shared-free, OwedPages.owed_after-chosen, Releasing.Way.Evicts}
 use Rattle.vm_step.proofs.{Standing.allows, steps.Look.is-turn, Unclaimed.draft-unclaimed, Written.spelled-still, Written.stands-there}
 use Rattle.vm_step.proofs.Groups.{changed-listed, chosen-has, has-without_all, has-without_all_other, has-without_all_same, listed-agrees}
-use Rattle.vm_step.proofs.Logical.{logical-draft, logical-last, logical-same, not-pending}
+use Rattle.vm_step.proofs.Logical.{logical-draft, logical-last, logical-same, not-pending, page-listed}
 use Rattle.vm_step.proofs.Mine.{member-mine, no-member, not-member, not-owed, owed-mine}
 use Rattle.vm_step.proofs.Prelude.{[], after_release, Agrees, AllowsStep, any-here, any-same, any-true, ap, append-none, AreApart, AreSized, AreUnchanged}
 use Rattle.vm_step.proofs.Prelude.{arith, at-bound, at_set, began_of, Bool, Brings, BringsWith, cases_Bool, cases_eq, Change, changes_of, chosen, cond-false}
 use Rattle.vm_step.proofs.Prelude.{core_shown, Did, did_store, DowngradeIsItsEvent, DowngradeTold, draft-is, draft_of, Each, entries_of, Entry, eq-eqb, eqb}
-use Rattle.vm_step.proofs.Prelude.{EVICTED, EvictTold, false, false_from_ne_true, false≢true, Fits, frame_of, fun_ext, get_elem?, has, histories_of, History}
+use Rattle.vm_step.proofs.Prelude.{EVICTED, EvictTold, false, false_from_ne_true, false≢true, Fits, frame_of, has-both, has-without_other, fun_ext, get_elem?, has, histories_of, History}
 use Rattle.vm_step.proofs.Prelude.{index_of, is_owed, is_pending, IsEvent, IsFirst, IsKeptNow, IsLater, IsMember, IsPlacedAt, IsTurn, Kept, kept_of, KnowsPage}
 use Rattle.vm_step.proofs.Prelude.{last-is, last_in, last_of, LeavesRest, length, length-set, List, listed-same, loads_at, LOCKED, locked-here, logical}
 use Rattle.vm_step.proofs.Prelude.{MAX_VERSION, may_call, MayDowngrade, MayEvict, MayGiveUp, ne_eqb, next-here, no_held, no_seat, None, Option, or_parts}
-use Rattle.vm_step.proofs.Prelude.{Origin, owed_after, Page, put, put_at, refl, Release, release-here, released_same, ReleaseEvictedIsItsEvent}
+use Rattle.vm_step.proofs.Prelude.{Origin, owed_after, Page, page_at, put, put_at, refl, Release, release-here, released_same, released_view, ReleaseEvictedIsItsEvent}
 use Rattle.vm_step.proofs.Prelude.{ReleaseIsItsEvent, ReleaseTells, ReleaseTold, replicate, Ruled, Seat, seat_of, set_here, Shape, Shows, slice_index}
 use Rattle.vm_step.proofs.Prelude.{slice_set, Some, some, Stands, Start, StaysAlone, steps, Stored, subst, suc, sym, table_after, told_of, true, true≢false}
 use Rattle.vm_step.proofs.Prelude.{upd-other, upd-same, View, without, without-none, word_of, world_of, ℕ, ⊎_elim, ◌++◌, ◌+◌, ◌<◌, ◌||◌, ◌∙◌, ◌∷◌, ◌≡◌, ◌≢◌}
 use Rattle.vm_step.proofs.Prelude.{◌≤◌}
 use Rattle.vm_step.proofs.Releasing.{calls-p, changes-each, changes-pages, claimed, downgraded-is, downgrading, draft-known, each-has, entries-one}
-use Rattle.vm_step.proofs.Releasing.{event, evicted-is, evicted-same, evicting, frames-are, giving-up, history-else, inner, last-here, last-known}
-use Rattle.vm_step.proofs.Releasing.{left, left-actor, left-exclusive, left-sees, left-step, member-is, member-page, members-are, mine, new}
-use Rattle.vm_step.proofs.Releasing.{next-is, next-kept, next-version, old, own, owners-are, page-else, page-here, release-legal, released-state}
-use Rattle.vm_step.proofs.Releasing.{released-version, releases, Releasing, seat-else, seat-p, seat_left, state_left, still-owns, unwritten, Way}
+use Rattle.vm_step.proofs.Releasing.{event, evicted-is, evicted-same, evicting, frames-are, freed-none, giving-up, hands-are, held-zero, history-else, inner, last-here, last-known}
+use Rattle.vm_step.proofs.Releasing.{left, left-actor, left-exclusive, left-sees, left-step, member-is, member-page, members-are, mine, new, number-kept, numbers-for, numbers-kept}
+use Rattle.vm_step.proofs.Releasing.{next-is, next-kept, next-version, numbers_after, old, own, owners-are, page-else, page-here, release-legal, released-state}
+use Rattle.vm_step.proofs.Releasing.{released-version, releases, Releasing, seat-else, seat-p, seat_left, spares-are, state_left, still-owns, tells-here, unwritten, Way}
 use Rattle.vm_step.proofs.Releasing.{word, words, world-is}
 use Rattle.vm_step.proofs.steps.Event.{is-event}
 use Rattle.vm_step.proofs.steps.Leaving.{apart, LeavesOthers, LeavesOwn, others-tied, own-from, rest-of}
@@ -49,6 +57,18 @@ sized-each (c ∷ cs) e = (e.0, sized-each cs e.1)
 changes-many : {X : Type 0} (v : View X) (qs : List ℕ) → length (changes_of v qs) ≡ length qs
 changes-many v [] = refl
 changes-many v (q ∷ qs) = ap suc (changes-many v qs)
+
+-- the changes free what the pass frees by them
+swapped : (x q : ℕ) → eqb x q ≡ eqb q x
+swapped x q = ⊎_elim (λ e. eq-eqb x q e ∙ sym (eq-eqb q x (sym e))) (λ ne. ne_eqb x q ne ∙ sym (ne_eqb q x (λ e. ne (sym e)))) (cases_eq x q)
+
+frees-one : (b : Bool) (x q : ℕ) (f : Bool) (l : List ℕ) → f ≡ has q l → ((eqb x q && b) || f) ≡ has q (if b then x ∷ l else l)
+frees-one true x q f l e = (λ i. (and-true (eqb x q) ∙ swapped x q) i || e i)
+frees-one false x q f l e = ap (λ b. b || f) (and-false (eqb x q)) ∙ e
+
+frees-has : {X : Type 0} (v : View X) (qs : List ℕ) (q : ℕ) → frees (changes_of v qs) q ≡ has q (freed_by v qs)
+frees-has v [] q = refl
+frees-has v (x ∷ qs) q = frees-one (zeroed (λ n. (last_of v n).words) (draft_of v) x) x q (frees (changes_of v qs) q) (freed_by v qs) (frees-has v qs q)
 
 module _ {X B : Type 0} {stored : B → Stored} {keeps : Start → Kept X → Type 0} {tied : Start → ℕ → List ℕ → ℕ → List ℕ → Type 0} {start : Origin} {tells : Bool} {may_release : Start → List ℕ → List Change → List (Entry X) → Type 0} (rel : Releasing stored keeps tied start tells may_release) where
   abbrev before : Kept X
@@ -87,6 +107,19 @@ module _ {X B : Type 0} {stored : B → Stored} {keeps : Start → Kept X → Ty
       let ne : q ≢ rel.p = (λ h. true≢false (sym (eq-eqb q rel.p h) ∙ none.0)) in
       (still-owns rel q ne o.0, o.1, subst (λ n. q < n) (sym (next-is rel)) o.2, (members-are rel).others q ne none.1 ∙ o.3)
 
+  -- what is said of page numbers holds after it
+  numbers-fit : start.tells ≡ true → NumbersFit (has_free_bit (old rel).core.spares) (old rel).core.next (λ q. (h' q).last.words) (logical h' m') (map hands_of (slice_set rel.s.views rel.id w))
+  numbers-fit t =
+      ⊎_elim
+      (λ (first : IsFirst may_release rel.p rel.rest rel.said rel.v).
+      let member : (q : ℕ) → has q (rel.p ∷ rel.rest) ≡ true → IsMember rel.v q = λ q e. each-has (IsMember rel.v) (rel.p ∷ rel.rest) q first.members e in
+      first-release-fits stored keeps tied start tells rel.s rel.r rel.id rel.v rel.there rel.live t rel.p rel.rest rel.said first.apart.0
+      (λ q e. member-page rel q (member q e)) (λ q e. (member q e).owns) (λ q e. (member q e).free) (λ q e. (member q e).claimed (tells-here rel ∙ t)) w (hands-are rel t) (own rel) refl refl)
+      (λ (later : IsLater rel.p rel.rest rel.said rel.v).
+      later-release-fits stored keeps tied start tells rel.s rel.r rel.id rel.v rel.there rel.live t rel.p rel.said rel.inside later.pending w
+      (hands-are rel t ∙ ap (λ l. hands_of (released_view rel.p l rel.said rel.v)) later.alone) (own rel) refl refl)
+      rel.group
+
   pub release-shows : (start.tells ≡ true → keeps (began_of start) before → keeps (began_of start) after)
       → Shows stored keeps tied start tells rel.s rel.r rel.id rel.v (words rel) rel.r.drafts (own rel ∷ []) (entries_of rel.v rel.said) (did_store (places.State rel.p) (word rel)) (inner rel) (event rel)
   release-shows owner = record {
@@ -111,6 +144,7 @@ module _ {X B : Type 0} {stored : B → Stored} {keeps : Start → Kept X → Ty
     zero = λ t. at-page (λ q. (core_shown stored start (new rel)).next ≤ q → q < start.pages → (h' q).last.words ≡ replicate start.size 0) rel.p
         (λ le l. let early = subst (λ n. n ≤ rel.p) (next-is rel) le in last-here rel ∙ unwritten rel t early ∙ rel.r.zero t rel.p early rel.inside)
         (λ q ne le l. ap (λ (y : History). y.last.words) (history-else rel q ne) ∙ rel.r.zero t q (subst (λ n. n ≤ q) (next-is rel) le) l);
+    numbers = λ t. numbers-as (ap has_free_bit (sym (spares-are rel))) (sym (next-is rel)) refl refl refl (numbers-fit t);
     knows = at-page (λ q. KnowsPage (seat_of (inner rel) q) (put_at no_held rel.v.held q) ((core_shown stored start (new rel)).pages q)) rel.p
         (subst (λ y. KnowsPage y (put_at no_held rel.v.held rel.p) ((core_shown stored start (new rel)).pages rel.p)) (sym (seat-p rel))
         (subst (λ y. KnowsPage (seat_left rel.way (seat_of rel.v rel.p)) (put_at no_held rel.v.held rel.p) y) (sym (page-here rel))
@@ -173,12 +207,13 @@ module _ {X B : Type 0} {stored : B → Stored} {keeps : Start → Kept X → Ty
 
   -- it is its event, after which the pass holds the page no more
   left-event : {did : Did} {released : List Release} {entries : List (Entry X)} {y w : View X} → BringsWith did None released entries rel.v y w
-      → y.out ≡ rel.v.out → y.frames ≡ rel.v.frames → y.loads ≡ rel.v.loads → y.seats ≡ put rel.p (seat_left rel.way (seat_of rel.v rel.p)) rel.v.seats
+      → y.out ≡ rel.v.out → y.frames ≡ rel.v.frames → y.numbers ≡ numbers_after rel.way rel.p rel.v → y.loads ≡ rel.v.loads → y.seats ≡ put rel.p (seat_left rel.way (seat_of rel.v rel.p)) rel.v.seats
       → IsEvent stored start rel.s (table_after rel.s (words rel) rel.id w) (event rel) sights.Done
-  left-event {w = w} b out frames loads seats =
+  left-event {w = w} b out frames numbers loads seats =
       is-event (release-legal rel)
       (left-step stored start rel.way rel.s [] (λ _. []) rel.id rel.v w rel.p (word rel) rel.r.wide.0 rel.inside rel.there
-      (ap (λ (x : View X). x.out) b.view ∙ out) (ap (λ (x : View X). x.frames) b.view ∙ frames) (ap (λ (x : View X). x.loads) b.view ∙ loads) (ap (λ (x : View X). x.seats) b.view ∙ seats)
+      (ap (λ (x : View X). x.out) b.view ∙ out) (ap (λ (x : View X). x.frames) b.view ∙ frames)
+      (numbers-for rel.way (old rel).core rel.p rel.v w (number-kept rel) (ap (λ (x : View X). x.numbers) b.view ∙ numbers)) (ap (λ (x : View X). x.loads) b.view ∙ loads) (ap (λ (x : View X). x.seats) b.view ∙ seats)
       (released-state rel) (released-version rel))
       (left-sees rel.way (core_shown stored start rel.s) rel.id rel.p)
 
@@ -203,6 +238,35 @@ module _ {X B : Type 0} {stored : B → Stored} {keeps : Start → Kept X → Ty
       logical-same h' h m' (is_pending rel.s.views) q (any-same (λ (u : View X). has q u.pending) rel.s.views rel.id rel.v w rel.there ((members-are rel).others q ne none))
       (λ _. ap (λ (y : History). y.draft) (history-else rel q ne))
       (λ _. ap (λ (y : History). y.last.words) (history-else rel q ne))
+
+  -- ---- the page numbers, where the blocks tell their words
+
+  module _ (t : start.tells ≡ true) where
+    numbers-are : (b : Bool) → all_zero (draft_of rel.v rel.p) ≡ b → w.numbers ≡ (if b then rel.v.numbers else without rel.p rel.v.numbers)
+    numbers-are b is = ap (λ (x : Hands). x.numbers) (hands-are rel t) ∙ ap (λ c. if c then rel.v.numbers else without rel.p rel.v.numbers) ((λ i. (tells-here rel ∙ t) i && is i))
+
+    -- with words that are all 0 the pass holds what it held
+    held-same : all_zero (draft_of rel.v rel.p) ≡ true → after.held ≡ before.held
+    held-same z = fun_ext (λ q. any-same (λ (u : View X). has q u.numbers) rel.s.views rel.id rel.v w rel.there (ap (has q) (numbers-are true z)))
+
+    -- with others nobody holds the page's number, and each other one is held as it was
+    nobody : all_zero (draft_of rel.v rel.p) ≡ false → after.held rel.p ≡ false
+    nobody z =
+        false_from_ne_true (after.held rel.p)
+        (λ e. let k = any-true (λ (u : View X). has rel.p u.numbers) (slice_set rel.s.views rel.id w) e in
+        true≢false (sym ((numbers-fit t).held k.0 (hands_of k.1) (hands-there (slice_set rel.s.views rel.id w) k.0 k.1 k.2) rel.p k.3).0 ∙ ap all_zero (last-here rel) ∙ z))
+
+    held-ends : all_zero (draft_of rel.v rel.p) ≡ false → after.held ≡ (λ q. if q == rel.p then false else before.held q)
+    held-ends z =
+        fun_ext (λ q. ⊎_elim
+        (λ (e : q ≡ rel.p). ap after.held e ∙ nobody z ∙ sym (ap (λ b. if b then false else before.held q) (eq-eqb q rel.p e)))
+        (λ (ne : q ≢ rel.p).
+        any-same (λ (u : View X). has q u.numbers) rel.s.views rel.id rel.v w rel.there (ap (has q) (numbers-are false z) ∙ has-without_other rel.p q rel.v.numbers ne)
+        ∙ sym (ap (λ b. if b then false else before.held q) (ne_eqb q rel.p ne)))
+        (cases_eq q rel.p))
+
+  free-same : after.free ≡ before.free
+  free-same = ap has_free_bit (spares-are rel)
 
   -- ---- the first of a group
 
@@ -249,17 +313,40 @@ module _ {X B : Type 0} {stored : B → Stored} {keeps : Start → Kept X → Ty
         (λ q l e. let e' : has q (rel.p ∷ rel.rest) ≡ true = sym (ap (has q) pages) ∙ e in not-owed stored keeps tied start tells rel.s rel.r rel.id rel.v rel.there rel.live q w l (member q e').owns (has-without_all_same (rel.p ∷ rel.rest) rel.v.owed q e'))
         (λ q l e. any-same (λ (u : View X). has q u.owed) rel.s.views rel.id rel.v w rel.there (has-without_all_other (rel.p ∷ rel.rest) rel.v.owed q (sym (ap (has q) pages) ∙ e)))
 
-    after-is : released_kept (changes_of rel.v (rel.p ∷ rel.rest)) (entries_of rel.v rel.said) before ≡ after
-    after-is i = record {
-      pages = changed-listed start.pages (logical h (is_pending rel.s.views)) (logical h' m') (changes_of rel.v (rel.p ∷ rel.rest)) (changes-each rel.v (λ c. (c.page < start.pages) × (logical h' m' c.page ≡ c.new)) (rel.p ∷ rel.rest) (λ q e. (page q e, new-words q e)))
-          (λ q l none. let k = apart-of q (sym (ap (has q) (changes-pages rel.v (rel.p ∷ rel.rest))) ∙ none) in logical-else q k.0 k.1) i;
-      next = sym (next-is rel) i;
-      owed = owed-released i;
-      history = rel.r.history ++ entries_of rel.v rel.said;
-    }
+    -- the pages that it frees
+    freed-are : start.tells ≡ true → after.freed ≡ (λ q. frees (changes_of rel.v (rel.p ∷ rel.rest)) q || before.freed q)
+    freed-are t =
+        let group : List ℕ = freed_by rel.v (rel.p ∷ rel.rest) in
+        let now : w.freed ≡ group ++ rel.v.freed = ap (λ (x : Hands). x.freed) (hands-are rel t) ∙ ap (λ b. if b then rel.v.freed else group ++ rel.v.freed) (member rel.p (ap (λ b. b || has rel.p rel.rest) (eq-eqb rel.p rel.p refl))).free in
+        let has-now : (q : ℕ) → has q w.freed ≡ (has q group || has q rel.v.freed) = λ q. ap (has q) now ∙ has-both q group rel.v.freed in
+        fun_ext (λ q. ⊎_elim
+        (λ (e : has q group ≡ true).
+        any-here (λ (u : View X). has q u.freed) (slice_set rel.s.views rel.id w) rel.id w (set_here rel.s.views rel.id w (at-bound rel.s.views rel.id rel.v rel.there)) (has-now q ∙ ap (λ b. b || has q rel.v.freed) e)
+        ∙ sym (ap (λ b. b || before.freed q) (frees-has rel.v (rel.p ∷ rel.rest) q ∙ e)))
+        (λ (none : has q group ≡ false).
+        any-same (λ (u : View X). has q u.freed) rel.s.views rel.id rel.v w rel.there (has-now q ∙ ap (λ b. b || has q rel.v.freed) none)
+        ∙ sym (ap (λ b. b || before.freed q) (frees-has rel.v (rel.p ∷ rel.rest) q ∙ none)))
+        (cases_Bool (has q group)))
+
+    pages-are : changed (changes_of rel.v (rel.p ∷ rel.rest)) before.pages ≡ after.pages
+    pages-are =
+        changed-listed start.pages (logical h (is_pending rel.s.views)) (logical h' m') (changes_of rel.v (rel.p ∷ rel.rest)) (changes-each rel.v (λ c. (c.page < start.pages) × (logical h' m' c.page ≡ c.new)) (rel.p ∷ rel.rest) (λ q e. (page q e, new-words q e)))
+        (λ q l none. let k = apart-of q (sym (ap (has q) (changes-pages rel.v (rel.p ∷ rel.rest))) ∙ none) in logical-else q k.0 k.1)
       where
         apart-of : (q : ℕ) → has q (rel.p ∷ rel.rest) ≡ false → (q ≢ rel.p) × (has q rel.rest ≡ false)
         apart-of q e = let none = or_parts (eqb q rel.p) (has q rel.rest) e in ((λ same. true≢false (sym (eq-eqb q rel.p same) ∙ none.0)), none.1)
+
+    -- what the layer above keeps after it, with the numbers that are held then
+    after-is : start.tells ≡ true → (held : ℕ → Bool) → after.held ≡ held → record (released_kept (changes_of rel.v (rel.p ∷ rel.rest)) (entries_of rel.v rel.said) before) { held = held } ≡ after
+    after-is t held is = λ i. record {
+      pages = pages-are i;
+      next = sym (next-is rel) i;
+      owed = owed-released i;
+      free = sym free-same i;
+      held = sym is i;
+      freed = sym (freed-are t) i;
+      history = rel.r.history ++ entries_of rel.v rel.said;
+    }
 
     -- without an entry and a change, all is as before
     unchanged : rel.said ≡ None → AreUnchanged rel.v.owed (changes_of rel.v (rel.p ∷ rel.rest)) → released_kept (changes_of rel.v (rel.p ∷ rel.rest)) (entries_of rel.v rel.said) before ≡ before
@@ -271,41 +358,59 @@ module _ {X B : Type 0} {stored : B → Stored} {keeps : Start → Kept X → Ty
         ∙ false_from_ne_true (is_owed rel.s.views q) (λ t. true≢false (sym (owed-mine stored keeps tied start tells rel.s rel.r rel.id rel.v rel.there rel.live q (page q e') (member q e').owns t) ∙ due)))
         same
 
-    pub first-keeps : (law : (start : Start) (kept : Kept X) (due : List ℕ) (changes : List Change) (entries : List (Entry X)) → keeps start kept → Fits kept due changes → IsTurn kept.history entries → may_release start due changes entries → keeps start (released_kept changes entries kept)) → 0 < length rel.v.used → start.tells ≡ true → keeps (began_of start) before → keeps (began_of start) after
-    first-keeps law number t kept =
+    pub first-keeps : (law : (start : Start) (kept : Kept X) (due : List ℕ) (changes : List Change) (entries : List (Entry X)) → keeps start kept → Fits kept due changes → IsTurn kept.history entries → may_release start due changes entries → keeps start (released_kept changes entries kept)) → ((start : Start) (kept : Kept X) (move : NumberMove) → keeps start kept → MayMove kept move → keeps start (moved move kept))
+        → 0 < length rel.v.used → start.tells ≡ true → keeps (began_of start) before → keeps (began_of start) after
+    first-keeps law moves number t kept =
         let same = (rel.r.heard rel.id rel.v rel.there rel.live).same_start in
-        subst (keeps (began_of start)) after-is
-        (⊎_elim
+        let released : keeps (began_of start) (released_kept (changes_of rel.v (rel.p ∷ rel.rest)) (entries_of rel.v rel.said) before) =
+        ⊎_elim
         (λ k. subst (keeps (began_of start)) (sym (unchanged k.0 k.1)) kept)
         (λ may. law (began_of start) before rel.v.owed (changes_of rel.v (rel.p ∷ rel.rest)) (entries_of rel.v rel.said) kept fits (is-turn start rel.r.releases rel.r.history rel.v rel.said (rel.r.heard rel.id rel.v rel.there rel.live) number) (subst (λ (o : Origin). may_release (began_of o) rel.v.owed (changes_of rel.v (rel.p ∷ rel.rest)) (entries_of rel.v rel.said)) same may))
-        (first.owner (ap (λ (o : Origin). o.tells) same ∙ t)))
+        (first.owner (ap (λ (o : Origin). o.tells) same ∙ t)) in
+        let here : page_at (changed (changes_of rel.v (rel.p ∷ rel.rest)) before.pages) rel.p ≡ draft_of rel.v rel.p = ap (λ l. page_at l rel.p) pages-are ∙ page-listed start.pages (logical h' m') rel.p rel.inside ∙ logical-here in
+        ⊎_elim
+        (λ z. subst (keeps (began_of start)) (after-is t before.held (held-same t z)) released)
+        (λ z. subst (keeps (began_of start)) (after-is t (λ q. if q == rel.p then false else before.held q) (held-ends t z)) (moves (began_of start) _ (Ended rel.p) released (ap all_zero here ∙ z)))
+        (cases_Bool (all_zero (draft_of rel.v rel.p)))
 
   -- ---- a later member
 
-  pub later-keeps : IsLater rel.p rel.rest rel.said rel.v → start.tells ≡ true → keeps (began_of start) before → keeps (began_of start) after
-  later-keeps later t =
+  pub later-keeps : IsLater rel.p rel.rest rel.said rel.v → ((start : Start) (kept : Kept X) (move : NumberMove) → keeps start kept → MayMove kept move → keeps start (moved move kept)) → start.tells ≡ true → keeps (began_of start) before → keeps (began_of start) after
+  later-keeps later moves t kept =
       let member : is_pending rel.s.views rel.p ≡ true = any-here (λ (u : View X). has rel.p u.pending) rel.s.views rel.id rel.v rel.there later.pending in
       let none : (q : ℕ) → has q rel.rest ≡ false = λ q. ap (has q) later.alone in
+      let was : logical h (is_pending rel.s.views) rel.p ≡ draft_of rel.v rel.p = logical-draft h (is_pending rel.s.views) rel.p member ∙ draft-is start rel.r.releases rel.r.drafts rel.p ∙ sym (draft-known rel rel.p rel.owns) in
       let same-words : (q : ℕ) → logical h (is_pending rel.s.views) q ≡ logical h' m' q = at-page (λ q. logical h (is_pending rel.s.views) q ≡ logical h' m' q) rel.p
-      (logical-draft h (is_pending rel.s.views) rel.p member ∙ draft-is start rel.r.releases rel.r.drafts rel.p ∙ sym (draft-known rel rel.p rel.owns) ∙ sym logical-here)
+      (was ∙ sym logical-here)
       (λ q ne. sym (logical-else q ne (none q))) in
       let due : has rel.p rel.v.owed ≡ false = false_from_ne_true (has rel.p rel.v.owed) (λ e. true≢false (sym later.pending ∙ ((mine rel).owed rel.p e).3)) in
       let owed-same : (q : ℕ) → has q w.owed ≡ has q rel.v.owed = at-page (λ q. has q w.owed ≡ has q rel.v.owed) rel.p
       (has-without_all_same (rel.p ∷ rel.rest) rel.v.owed rel.p (ap (λ b. b || has rel.p rel.rest) (eq-eqb rel.p rel.p refl)) ∙ sym due)
       (λ q ne. has-without_all_other (rel.p ∷ rel.rest) rel.v.owed q (ap (λ b. b || has q rel.rest) (ne_eqb q rel.p ne) ∙ none q)) in
-      subst (keeps (began_of start)) (λ i. record {
+      let freed-same : after.freed ≡ before.freed = fun_ext (λ q. any-same (λ (u : View X). has q u.freed) rel.s.views rel.id rel.v w rel.there
+      (ap (has q) (ap (λ (x : Hands). x.freed) (hands-are rel t) ∙ ap (λ b. if b then rel.v.freed else freed_by rel.v (rel.p ∷ rel.rest) ++ rel.v.freed) later.pending))) in
+      let after-is : (held : ℕ → Bool) → after.held ≡ held → record before { held = held } ≡ after = λ held is i. record {
         pages = listed-same start.pages (logical h (is_pending rel.s.views)) (logical h' m') (λ q _. same-words q) i;
         next = sym (next-is rel) i;
         owed = chosen start.pages (sym (fun_ext (λ q. any-same (λ (u : View X). has q u.owed) rel.s.views rel.id rel.v w rel.there (owed-same q))) i);
+        free = sym free-same i;
+        held = sym is i;
+        freed = sym freed-same i;
         history = sym (ap (λ o. rel.r.history ++ entries_of rel.v o) later.silent ∙ append-none rel.r.history) i;
-      })
+      } in
+      let here : page_at before.pages rel.p ≡ draft_of rel.v rel.p = page-listed start.pages (logical h (is_pending rel.s.views)) rel.p rel.inside ∙ was in
+      ⊎_elim
+      (λ z. subst (keeps (began_of start)) (after-is before.held (held-same t z)) kept)
+      (λ z. subst (keeps (began_of start)) (after-is (λ q. if q == rel.p then false else before.held q) (held-ends t z)) (moves (began_of start) before (Ended rel.p) kept (ap all_zero here ∙ z)))
+      (cases_Bool (all_zero (draft_of rel.v rel.p)))
 
 module _ {X B : Type 0} (stored : B → Stored) (keeps : Start → Kept X → Type 0) (tied : Start → ℕ → List ℕ → ℕ → List ℕ → Type 0) (may_release : Start → List ℕ → List Change → List (Entry X) → Type 0)
-    (law : (start : Start) (kept : Kept X) (due : List ℕ) (changes : List Change) (entries : List (Entry X)) → keeps start kept → Fits kept due changes → IsTurn kept.history entries → may_release start due changes entries → keeps start (after_release changes entries kept)) where
+    (law : (start : Start) (kept : Kept X) (due : List ℕ) (changes : List Change) (entries : List (Entry X)) → keeps start kept → Fits kept due changes → IsTurn kept.history entries → may_release start due changes entries → keeps start (after_release changes entries kept))
+    (moves : (start : Start) (kept : Kept X) (move : NumberMove) → keeps start kept → MayMove kept move → keeps start (moved move kept)) where
   -- the layer above keeps its relation
   release-owner : (start : Origin) (tells : Bool) (rel : Releasing stored keeps tied start tells may_release) → 0 < length rel.v.used
       → start.tells ≡ true → keeps (began_of start) (kept_of (old rel) rel.r.history rel.s.views) → keeps (began_of start) (kept_of (world_of stored start (releases rel) rel.r.drafts (new rel)) (rel.r.history ++ entries_of rel.v rel.said) (slice_set rel.s.views rel.id (left rel)))
-  release-owner start tells rel number t kept = ⊎_elim (λ first. first-keeps rel first law number t kept) (λ later. later-keeps rel later t kept) rel.group
+  release-owner start tells rel number t kept = ⊎_elim (λ first. first-keeps rel first law moves number t kept) (λ later. later-keeps rel later moves t kept) rel.group
 
   -- either release keeps the rule and tells what it brings
   release-steps : (start : Origin) (tells : Bool) (rel : Releasing stored keeps tied start tells may_release) → 0 < length rel.v.used
@@ -324,7 +429,7 @@ module _ {X B : Type 0} (stored : B → Stored) (keeps : Start → Kept X → Ty
       let low : p < start.pages = subst (λ n. p < n) (sym has.pages) l in
       let rel : Releasing stored keeps tied start tells may_release = giving-up s r id v there live p version rest said low below g in
       let k = release-steps start tells rel number in
-      (left rel, k.0, (record { brings = k.1 }, release-kept rel k.0 (release-owner start tells rel number))))
+      (left rel, k.0, (record { brings = k.1; numbers = λ t same. numbers-kept p v t same (held-zero rel (sym (tells-here rel) ∙ t)) }, release-kept rel k.0 (release-owner start tells rel number))))
 
   -- a page that is not resident becomes Evicted, with the words that it had
   pub release_evicted-allows : (shape : Shape) (tells : Bool) (slots id : ℕ) (v : View X) (i : ℕ) (p version x : ℕ) → v.live ≡ true → 0 < length v.used → p < shape.pages → version < MAX_VERSION → MayEvict v p version → x ≡ word_of EVICTED (version + 1) → IsPlacedAt shape (places.State p) i
@@ -346,20 +451,20 @@ module _ {X B : Type 0} (stored : B → Stored) (keeps : Start → Kept X → Ty
       let low : p < start.pages = subst (λ n. p < n) (sym has.pages) l in
       let rel : Releasing stored keeps tied start tells may_release = downgrading s r id v there live p version low below g in
       let k = release-steps start tells rel number in
-      (left rel, k.0, (record { brings = subst (λ y. Brings (did_store (places.State p) (word_of 1 (version + 1))) (own rel ∷ []) [] v y (left rel)) (downgraded-is v p version g) k.1 }, release-kept rel k.0 (release-owner start tells rel number))))
+      (left rel, k.0, (record { brings = subst (λ y. Brings (did_store (places.State p) (word_of 1 (version + 1))) (own rel ∷ []) [] v y (left rel)) (downgraded-is v p version g) k.1; numbers = λ t same. numbers-kept p v t same (held-zero rel (sym (tells-here rel) ∙ t)) }, release-kept rel k.0 (release-owner start tells rel number))))
 
 module _ {X B : Type 0} (stored : B → Stored) (keeps : Start → Kept X → Type 0) (tied : Start → ℕ → List ℕ → ℕ → List ℕ → Type 0) (tells : Bool) where
   pub release-event : (may_release : Start → List ℕ → List Change → List (Entry X) → Type 0) → ReleaseIsItsEvent stored keeps tied tells may_release
   release-event may_release start s id p version rest said v w pass lp below g told =
-      left-event (giving-up s pass.rule id v pass.there pass.live p version rest said lp below g) told.brings refl refl refl refl
+      left-event (giving-up s pass.rule id v pass.there pass.live p version rest said lp below g) told.brings refl refl refl refl refl
 
   pub release_evicted-event : (may_release : Start → List ℕ → List Change → List (Entry X) → Type 0) → ReleaseEvictedIsItsEvent stored keeps tied tells
   release_evicted-event may_release start s id p version v w pass lp below g told =
-      left-event {may_release = may_release} (evicting s pass.rule id v pass.there pass.live p version lp below g) told.brings refl refl refl refl
+      left-event {may_release = may_release} (evicting s pass.rule id v pass.there pass.live p version lp below g) told.brings refl refl refl refl refl
 
   pub downgrade-event : (may_release : Start → List ℕ → List Change → List (Entry X) → Type 0) → DowngradeIsItsEvent stored keeps tied tells may_release
   downgrade-event may_release start s id p version v w pass lp below g told =
-      left-event (downgrading s pass.rule id v pass.there pass.live p version lp below g) told.brings refl refl refl refl
+      left-event (downgrading s pass.rule id v pass.there pass.live p version lp below g) told.brings refl refl refl refl refl
 
 -- ---- the last version of the page
 
@@ -388,12 +493,13 @@ module _ {X : Type 0} {p version : ℕ} {rest : List ℕ} {said : Option X} {v w
   pub release-last : last_of w p ≡ record { version = version + 1; words = draft_of v p }
   release-last = released-last t.brings refl
 
--- alone, of a page that was not claimed, which is not the next one, and without a word to say
+-- alone, with the words that the page had, of a page that was not claimed, which is not the next one, and without a word to say
 module _ {X : Type 0} {p version : ℕ} {v w : View X} (t : ReleaseTold p version [] None v w) where
-  pub release-silent : has p v.pending ≡ false → has p v.owed ≡ false → v.next ≢ Some p → LeavesOwn v w
-  release-silent free paid next =
+  pub release-silent : has p v.pending ≡ false → has p v.owed ≡ false → v.next ≢ Some p → draft_of v p ≡ (last_of v p).words → LeavesOwn v w
+  release-silent free paid next same =
       own-from t.brings (append-none v.mine)
       (cond-false (has p v.pending) (without p v.pending) v.pending free, without-none p v.owed paid, next-stays p v.next next)
+      (refl, λ tells. (t.numbers tells same, cond-false (has p v.pending) v.freed (freed_by v (p ∷ []) ++ v.freed) free ∙ ap (λ l. l ++ v.freed) (freed-none p v same)))
 
   -- a pass that is alone finds the words as they were, where the draft had them
   pub release-alone : draft_of v p ≡ (last_of v p).words → StaysAlone v w
@@ -406,7 +512,7 @@ module _ {X : Type 0} {p version : ℕ} {v w : View X} (t : EvictTold p version 
   evict-others touched at = others-tied t.brings ([], refl) (at, tt) (λ q ne. upd-other (put_at no_seat v.seats) p _ q (apart touched at q ne)) (λ q ne. refl) (λ q ne. refl) (λ q ne. refl)
 
   pub evict-silent : v.next ≢ Some p → LeavesOwn v w
-  evict-silent next = own-from t.brings refl (refl, refl, next-stays p v.next next)
+  evict-silent next = own-from t.brings refl (refl, refl, next-stays p v.next next) (refl, λ _. (refl, refl))
 
   pub evict-leaves : v.next ≢ Some p → LeavesRest p (did_store (places.State p) (word_of EVICTED (version + 1)) ∷ []) v w
   evict-leaves next = rest-of (evict-others (λ q. q ≡ p) refl) (evict-silent next)

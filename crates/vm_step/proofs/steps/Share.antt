@@ -15,7 +15,7 @@ use Rattle.vm_step.proofs.Exchange.{draft-stays, exchange-event, finding, IsExch
 use Rattle.vm_step.proofs.Exchange.{sharer-shows, tried-says, tried-validates}
 use Rattle.vm_step.proofs.Here.{frame-inside, reads, validates, version-told, world}
 use Rattle.vm_step.proofs.Prelude.{any-here, any-same, append-none, at-bound, began_of, chosen, core_shown, draft-is, Each, entries_of, Entry, entry_of, finds}
-use Rattle.vm_step.proofs.Prelude.{fun_ext, has, histories_of, index_of, is_owed, is_pending, IsKeptNow, kept_of, KnowsPages, logical, next-here, set_here, Shows}
+use Rattle.vm_step.proofs.Prelude.{fun_ext, has, histories_of, holdings, index_of, is_owed, is_pending, IsKeptNow, kept_of, KnowsPages, logical, next-here, set_here, Shows}
 use Rattle.vm_step.proofs.Prelude.{Version, World, world_after, ◌++◌}
 use Rattle.vm_step.proofs.Prelude.{[], after_step, AllowsStep, ap, arith, became, block-here, Bool, Brings, Did, did_change, did_exchange, either, eqb, EVICTED}
 use Rattle.vm_step.proofs.Prelude.{false, frame_of, get_elem?, has_lock, Held, if◌then◌else◌, inl, inr, IsLocking, IsPlacedAt, IsSome, Kept, KnowsAsBefore}
@@ -171,7 +171,7 @@ module _ {X B : Type 0} (stored : B → Stored) (keeps : Start → Kept X → Ty
         (record {
           word = sh.word;
           legal = sh.legal;
-          leads = record { world = taken.leads _ refl refl refl refl found; pending = refl; members = λ q _. refl; up = let same = sh.next in omega (arith, same) };
+          leads = record { world = taken.leads _ refl refl refl refl found; pending = refl; members = λ q _. refl; up = let same = sh.next in omega (arith, same); spares = sh.spares; numbers = refl; freed = refl; owes = inl refl };
           same = (refl, refl, refl, refl, refl, refl, refl);
           calls = sh.calls;
           holds = sh.holds;
@@ -329,7 +329,7 @@ module _ {X B : Type 0} (stored : B → Stored) (keeps : Start → Kept X → Ty
       is-event (names stored keeps tied start tells s r id v pass.there p at.0, may-unlock stored keeps tied start tells s r id v pass.there pass.live p at.0 may)
       (unlocks-step stored start s [] (λ _. []) id v w p (found - 2 ^ 56) r.wide.0 at.0 pass.there
       (ap (λ (k : View X). k.out) view)
-      (ap (λ (k : View X). k.frames) view)
+      (ap (λ (k : View X). holdings k) view)
       (ap (λ (k : View X). k.loads) view)
       (ap (λ (k : View X). k.seats) view)
       (less-state found told.shared ∙ ap (λ n. state_of n - 1) at.1 ∙ ap (λ n. n - 1) (sym (state-here stored start s p at.0)))
@@ -361,7 +361,7 @@ module _ {X : Type 0} {tied : Start → ℕ → List ℕ → ℕ → List ℕ �
 
 -- without a word to say
 pub share-own : {X : Type 0} {tied : Start → ℕ → List ℕ → ℕ → List ℕ → Type 0} {p expects found : ℕ} {v w : View X} → (e : found ≡ expects) → ShareTold tied p expects None found v w → LeavesOwn v w
-share-own {v = v} e t = own-from (share-brings e t) refl (refl, refl, refl)
+share-own {v = v} e t = own-from (share-brings e t) refl (refl, refl, refl) (refl, λ _. (refl, refl))
 
 -- ---- given up
 
@@ -373,7 +373,7 @@ module _ {X : Type 0} {p found : ℕ} {v w : View X} (t : UnshareTold p found v 
   unshare-others touched at = others-tied t.brings ([], refl) tt (λ q ne. upd-other (put_at no_seat v.seats) p _ q (apart touched at q ne)) (λ q ne. refl) (λ q ne. refl) (λ q ne. refl)
 
   pub unshare-own : LeavesOwn v w
-  unshare-own = own-from t.brings refl (refl, refl, refl)
+  unshare-own = own-from t.brings refl (refl, refl, refl) (refl, λ _. (refl, refl))
 
   pub unshare-leaves : LeavesRest p (unshare-did ∷ []) v w
   unshare-leaves = rest-of (unshare-others (λ q. q ≡ p) refl) unshare-own

@@ -5,6 +5,7 @@ use Rattle.vm_core.specs.declared.event.Seen.TheVariants as sights
 use Rattle.vm_rule.specs.declared.view.Place.TheVariants as places
 use Rattle.vm_step.proofs.{Asides.alone-silent, Asides.OnlyReads, Fit.fit, Here.frame-inside, Quiet.quiet-shows, Standing.allows-load}
 use Rattle.vm_step.proofs.{steps.Content.frame-known, Written.word-loaded}
+use Rattle.vm_step.proofs.Prelude.{holdings}
 use Rattle.vm_step.proofs.Prelude.{[], AllowsStep, ap, at-bound, Bool, core_shown, Did, did_load, draft-is, draft_of, Each, each-upd2, frame_of, frame_read}
 use Rattle.vm_step.proofs.Prelude.{framed, HoldsPage, IsLocking, IsPlacedAt, Kept, KnowsAsBefore, KnowsPage, length, List, loads_at, mapping_of, may_call}
 use Rattle.vm_step.proofs.Prelude.{no_held, no_seat, None, Open, Option, Origin, Page, part-found, put_at, refl, Seat, seat-here, seat_of, Shape, slice_index}
@@ -48,6 +49,7 @@ module _ {X B : Type 0} (stored : B → Stored) (keeps : Start → Kept X → Ty
         holds = λ q x. owns q ∙ x;
         members = λ q _. refl;
         next = refl;
+        spares = refl;
         knows = each-upd2 (λ q (y : Seat) (z : Page). KnowsPage y (put_at no_held v.held q) z) (seat_of v) pages p seat page (record { calls = (known.knows p).calls; shares = (known.knows p).shares }) (λ q _. known.knows q);
         owners = λ q m x. known.owners q m (sym (upd-keeps may_call (seat_of v) p seat refl q) ∙ x);
         contents = known.contents;
@@ -77,7 +79,7 @@ module _ {X B : Type 0} (stored : B → Stored) (keeps : Start → Kept X → Ty
       let spelled : slice_index s.words (start.pages + p) ≡ trans_word (mapping_of (slice_index s.words (start.pages + p))) =
       subst (λ n. n ≡ trans_word (mapping_of n)) (part-found start.pages start.pages s.words p (start.pages + p) l refl) (pass.rule.spelled p l) in
       is-event (record { actor = at-bound s.views id v pass.there; page = l }, tt)
-      (tload-step stored start s [] (λ _. []) id v w p (mapping_of found) l pass.there (ap (λ (y : View X). y.out) view) (ap (λ (y : View X). y.frames) view) (ap (λ (y : View X). y.loads) view)
+      (tload-step stored start s [] (λ _. []) id v w p (mapping_of found) l pass.there (ap (λ (y : View X). y.out) view) (ap (λ (y : View X). holdings y) view) (ap (λ (y : View X). y.loads) view)
       (translation-here stored start s p l ∙ ap mapping_of (sym finds.1)) (ap (λ (y : View X). y.seats) view))
       (ap sights.Word (ap trans_word (translation-here stored start s p l) ∙ sym spelled ∙ sym finds.1))
 
@@ -86,7 +88,7 @@ module _ {X : Type 0} {p found : ℕ} {v w : View X} (t : TranslationTold p foun
   tload-others touched at = others-tied t.brings ([], refl) tt (λ q ne. upd-other (put_at no_seat v.seats) p _ q (apart touched at q ne)) (λ q ne. refl) (λ q ne. refl) (λ q ne. refl)
 
   pub tload-own : LeavesOwn v w
-  tload-own = own-from t.brings refl (refl, refl, refl)
+  tload-own = own-from t.brings refl (refl, refl, refl) (refl, λ _. (refl, refl))
 
   -- an open read without a frame gets the frame that the word names
   pub tload-seat : seat_of w p ≡ record (seat_of v p) { reading = framed (seat_of v p).reading (mapping_of found) }

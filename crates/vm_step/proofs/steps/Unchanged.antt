@@ -8,7 +8,7 @@ use Rattle.vm_step.proofs.steps.Leaving.{holds-still, knows-still, LeavesOwn, on
 
 module _ {X : Type 0} {did : Did} {v w : View X} (b : Brings did [] [] v v w) where
   pub still-own : LeavesOwn v w
-  still-own = own-from b refl (refl, refl, refl)
+  still-own = own-from b refl (refl, refl, refl) (refl, λ _. (refl, refl))
 
   pub still-seat : (q : ℕ) → seat_of w q ≡ seat_of v q
   still-seat q = ap (λ (x : View X). seat_of x q) b.view

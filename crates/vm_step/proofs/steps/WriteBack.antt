@@ -108,7 +108,7 @@ module _ {X : Type 0} {tied : Start → ℕ → List ℕ → ℕ → List ℕ �
       (λ q ne. refl)
 
   pub write_lock-own : LeavesOwn v w
-  write_lock-own = own-from write_lock-brings refl (refl, refl, refl)
+  write_lock-own = own-from write_lock-brings refl (refl, refl, refl) (refl, λ _. (refl, refl))
 
   pub write_lock-leaves : LeavesRest p (write_lock-did ∷ []) v w
   write_lock-leaves = rest-of (write_lock-others (λ q. q ≡ p) refl) write_lock-own
@@ -137,7 +137,7 @@ module _ {X : Type 0} {tied : Start → ℕ → List ℕ → ℕ → List ℕ �
       (λ q ne. upd-other (put_at [] v.drafts) p _ q (apart touched at q ne))
 
   pub upgrade-own : LeavesOwn v w
-  upgrade-own = own-from upgrade-brings refl (refl, refl, refl)
+  upgrade-own = own-from upgrade-brings refl (refl, refl, refl) (refl, λ _. (refl, refl))
 
   pub upgrade-seat : seat_of w p ≡ record { shares = 0; exclusive = true; writing = false; reading = None }
   upgrade-seat = ap (λ (x : View X). seat_of x p) upgrade-brings.view ∙ upd-same (put_at no_seat v.seats) p _

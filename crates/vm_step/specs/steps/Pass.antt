@@ -14,14 +14,14 @@ module _ {X B : Type 0} (stored : B → Stored) (keeps : Start → Kept X → Ty
       (start : Origin) (s : Table (Option B) (View X)) (id : ℕ) (part : Bool) (v : View X) → (is : IsPassOf stored start keeps tied tells s id v)
       → 0 < length v.used → IsSplitOff stored keeps tied start tells s is.rule (table_split s id part v)
 
-  -- a join changes no word and no block: the frames of the pass that goes are those of the one that takes it in, and its reads are closed
+  -- a join changes no word and no block: the frames and the page numbers of the pass that goes are those of the one that takes it in, and its reads are closed
   abbrev pub JoinIsNoEvent : Type 0
   JoinIsNoEvent =
       (start : Origin) (s : Table (Option B) (View X)) (id other : ℕ) (v w : View X) → (is : IsPassOf stored start keeps tied tells s id v) → other ≢ id
       → get_elem? s.views other ≡ some w → w.live ≡ true → (v.told_releases ≡ []) × (v.told ≡ []) → (w.told_releases ≡ []) × (w.told ≡ []) → HoldsNoPage w
       → IsTakenIn stored keeps tied start tells s is.rule id other (table_joined s id other v w)
 
-  -- a hearing changes no word and no block: the pass that goes has no frames, and its reads are closed
+  -- a hearing changes no word and no block: the pass that goes has no frames and no page numbers, and its reads are closed
   abbrev pub HearingIsNoEvent : Type 0
   HearingIsNoEvent =
       (start : Origin) (s : Table (Option B) (View X)) (id other : ℕ) (v w : View X) → (is : IsPassOf stored start keeps tied tells s id v) → other ≢ id

@@ -1,24 +1,22 @@
 -- A release of a page that is locked exclusively, as Unlocked, as Evicted or to a share: when it may be released, what each tells, and their events.
 -- `ReleaseTold`, `EvictTold` and `DowngradeTold` stand in vm_rule/specs/Releases.
-use Rattle.std.specs.Prelude.{[], ◌+◌, ◌<◌, ◌∷◌, ◌≡◌, ◌≢◌, ◌≤◌, ◌⊎◌, Bool, false, IsSome, length, List, None, Option, replicate, slice_set, true, ℕ}
+use Rattle.std.specs.Prelude.{[], ◌+◌, ◌<◌, ◌∷◌, ◌≡◌, ◌≤◌, ◌⊎◌, Bool, false, IsSome, length, List, None, Option, slice_set, true, ℕ}
 use Rattle.vm_core.specs.Prelude.{EVICTED, MAX_VERSION, word_of}
 use Rattle.vm_core.specs.declared.event.Event.TheVariants.{Downgrade, Release, ReleaseE}
 use Rattle.vm_core.specs.declared.event.Seen.TheVariants as sights
+use Rattle.vm_numbers.specs.Hands.{IsUsable}
+use Rattle.vm_rule.specs.Rule.{hands_of}
 use Rattle.vm_rule.specs.Prelude.{AreApart, AreUnchanged, began_of, Change, changes_of, DowngradeTold, draft_of, Each, entries_of, Entry, EvictTold}
 use Rattle.vm_rule.specs.Prelude.{has, held_at, index_of, Kept, last_of, no_held, put_at, ReleaseTold, seat_of, Start, Stored, Table}
 use Rattle.vm_rule.specs.{declared.view.Origin.Origin, declared.view.View.View}
 use Rattle.vm_rule.specs.declared.view.Place.TheVariants as places
-use Rattle.vm_step.specs.{Conditions.IsNotOut, Conditions.IsToldOf, Evidence.HasGiven, Evidence.HasWritten, Keeping.IsKeptNow}
+use Rattle.vm_step.specs.{Conditions.IsNotOut, Conditions.IsToldOf, Keeping.IsKeptNow}
 use Rattle.vm_step.specs.Events.{IsEvent, IsPassOf, table_after}
 
 module _ {X : Type 0} where
-  -- the page is below a next page that the pass knows of: the one at the start, or one that a step of it found or left
-  abbrev pub IsBelowNext : View X → ℕ → Type 0
-  IsBelowNext v q = (q < v.start.next) ⊎ ((x : ℕ) × (HasGiven v.log places.Next x ⊎ HasWritten v.log places.Next x) × (q < x))
-
-  -- the page was claimed, as far as the pass can know, where its words are not those that it had
+  -- the page is the pass's to use, as far as it can know, where its words are not those that it had: it is in use, is owed to the pass, or the pass holds its number
   abbrev pub IsClaimed : View X → ℕ → Type 0
-  IsClaimed v q = (draft_of v q ≡ (last_of v q).words) ⊎ (((last_of v q).words ≢ replicate v.start.size 0) ⊎ (IsBelowNext v q ⊎ (has q v.owed ≡ true)))
+  IsClaimed v q = IsUsable (hands_of v) (last_of v q).words (draft_of v q) q
 
   -- a member of a group that is not released yet in part
   pub record IsMember (v : View X) (q : ℕ) : Type 0 where

@@ -84,7 +84,7 @@ pub fn split_pass<U: Owner, B: Block>(
     }
 }
 
-/// Takes in the parts, frames and notes of another pass, which holds no page, and all that it had seen; and brings the pass up to date.
+/// Takes in the parts, frames, page numbers and notes of another pass, which holds no page, and all that it had seen; and brings the pass up to date.
 pub fn join_pass<U: Owner, B: Block>(words: &Words<U, B>, pass: &mut Pass<U>, other: Pass<U>)
     requires pass { MayStep words.now.table.shared.table_id pass.old }
     requires other { other.badge.table_id ≡ words.now.table.shared.table_id }
@@ -132,12 +132,13 @@ pub fn split_is_no_event<U: Owner, B: Block>()
     ensures { SplitIsNoEvent B.stored U.keeps U.tied B.tells }
 {}
 
-/// A join changes no word and no block: the frames of the pass that goes are those of the one that takes it in, and its reads are closed.
+/// A join changes no word and no block: the frames and the page numbers of the pass that goes are those of the one that takes it in, and its reads
+/// are closed.
 pub fn join_is_no_event<U: Owner, B: Block>()
     ensures { JoinIsNoEvent B.stored U.keeps U.tied B.tells }
 {}
 
-/// A hearing changes no word and no block: the pass that goes has no frames, and its reads are closed.
+/// A hearing changes no word and no block: the pass that goes has no frames and no page numbers, and its reads are closed.
 pub fn hearing_is_no_event<U: Owner, B: Block>()
     ensures { HearingIsNoEvent B.stored U.keeps U.tied B.tells }
 {}

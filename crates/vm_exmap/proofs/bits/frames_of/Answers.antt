@@ -1,4 +1,4 @@
-use Rattle.vm_exmap.proofs.BundleBits.{all-below, below-clear, below-set}
+use Rattle.vm_step.proofs.Masks.{all-below, below-clear, below-set}
 use Rattle.vm_exmap.proofs.Prelude.{[], ap, arith, bit_and, bit_at, frames_below, length, length-append, List, shr_and_one, sym, ℕ, ◌*◌, ◌++◌, ◌+◌, ◌∙◌, ◌∷◌}
 use Rattle.vm_exmap.proofs.Prelude.{◌≡◌}
 use Rattle.vm_exmap.proofs.bits.frames_of.Goals as goal
