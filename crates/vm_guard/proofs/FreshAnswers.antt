@@ -4,7 +4,7 @@ use Rattle.vm_guard.proofs.FreshNone.{bracket, denied-nil, nil-then, nload-nil, 
 use Rattle.vm_guard.proofs.FreshNumbers.{apart-first, both-first, both-second, numbers-one, numbers-two, within-second}
 use Rattle.vm_guard.proofs.Prelude.{[], AgainOrWorn, ap, append-none, append_assoc, AreHeld, arith, At, Bool, cases_eq, cond-false, cond-true, Deny, Did}
 use Rattle.vm_guard.proofs.Prelude.{did_load, Each, each-both, each-map, eq-eqb, eqb, false, Fresh, GivesBack, GivesUpOnce, has, held-on, if◌then◌else◌, inl, inr, IsAmid}
-use Rattle.vm_guard.proofs.Prelude.{IsBegun, IsEvidence, IsFreshAnswer, IsNil, IsNotSeized, IsQuiet, IsSaw, IsSeized, IsSpared}
+use Rattle.vm_guard.proofs.Prelude.{IsBegun, IsEvidence, IsNextAnswer, IsNil, IsNotSeized, IsQuiet, IsSaw, IsSeized, IsSpared}
 use Rattle.vm_guard.proofs.Prelude.{IsToTry, IsWornOut, LeavesNone, List, Mapping, ne_eqb, next_after, NextTold, nload-others, None, none-some, NoWord, numbers}
 use Rattle.vm_guard.proofs.Prelude.{numbers-has, Option, Origin, Place, read, refl, same_Some, Saw, Seat, seat_of, Seizes, Some, subst}
 use Rattle.vm_guard.proofs.Prelude.{sym, true, true≢false, UnlockedExpected, View, ℕ, ⊎_elim, ◌++◌, ◌+◌, ◌<◌, ◌||◌, ◌∙◌, ◌∷◌, ◌≡◌}
@@ -103,13 +103,13 @@ module _ {X : Type 0} where
   -- ---- the answer to a page that could not be locked
 
   pub answers-denied : (pages : List ℕ) (x n p : ℕ) (frames : List ℕ) (pre done post : List Did) (v w : View X) (d : Deny) (r : Fresh) → pages ≡ numbers x n → x + n ≤ v.start.pages → has p pages ≡ true
-      → Each (λ (k : Did). k.at ≢ Place.State p) pre → IsSpared pages x (pre ++ (done ++ post)) v w → AgainOrWorn d → IsEvidence NoWord UnlockedExpected done p d → Answers d r → IsFreshAnswer n frames frames v w r
+      → Each (λ (k : Did). k.at ≢ Place.State p) pre → IsSpared pages x (pre ++ (done ++ post)) v w → AgainOrWorn d → IsEvidence NoWord UnlockedExpected done p d → Answers d r → IsNextAnswer n frames frames v w r
   answers-denied pages x n p frames pre done post v w (Deny.Again saw) r same inside e apart spared kind ev is =
       let to : IsToTry pages x n saw v w = record { inside = inside; done = pre ++ (done ++ post); spared = spared; at = inr (p, ev.0, e); saw_is = saw-within p saw pre done post ev.0 apart ev.1 } in
-      subst (IsFreshAnswer n frames frames v w) (sym (is.0 saw refl)) (refl, (x, subst (λ (l : List ℕ). IsToTry l x n saw v w) same to))
+      subst (IsNextAnswer n frames frames v w) (sym (is.0 saw refl)) (refl, (x, subst (λ (l : List ℕ). IsToTry l x n saw v w) same to))
   answers-denied pages x n p frames pre done post v w (Deny.Worn q) r same inside e apart spared kind ev is =
       let out : IsWornOut pages x n p v w = record { inside = inside; among = e; done = pre ++ (done ++ post); spared = spared; worn = worn-within p pre done post apart ev.1 } in
-      subst (IsFreshAnswer n frames frames v w) (sym (is.1 q refl)) (refl, (x, subst (λ (k : ℕ). IsWornOut (numbers x n) x n k v w) (sym ev.0) (subst (λ (l : List ℕ). IsWornOut l x n p v w) same out)))
+      subst (IsNextAnswer n frames frames v w) (sym (is.1 q refl)) (refl, (x, subst (λ (k : ℕ). IsWornOut (numbers x n) x n k v w) (sym ev.0) (subst (λ (l : List ℕ). IsWornOut l x n p v w) same out)))
   answers-denied pages x n p frames pre done post v w d r same inside e apart spared kind ev is = absurd kind
 
 -- ---- one page, and two
@@ -167,7 +167,7 @@ module _ {X : Type 0} where
 
   -- the second page could not be locked
   pub second-denied : (x version : ℕ) (stands : Option Mapping) (frames : List ℕ) (v u z w : View X) (d : Deny) (r : Fresh) → IsBegun x version stands v u → x + 2 ≤ u.start.pages → IsNotSeized (x + 1) d u z → GivesBack x version z w → Answers d r
-      → IsFreshAnswer 2 frames frames v w r
+      → IsNextAnswer 2 frames frames v w r
   second-denied x version stands frames v u z w d r b l n g is =
       let done : List Did = n.denied.done in
       let f : IsQuiet (x + 1) done u z = n.denied.quiet in
@@ -205,7 +205,7 @@ module _ {X : Type 0} where
   -- ---- the answer
 
   -- the first page could not be locked
-  pub first-denied : (n x : ℕ) (frames : List ℕ) (v u w : View X) (d : Deny) (r : Fresh) → NextTold x v u → 1 ≤ n → x + n ≤ v.start.pages → IsNotSeized x d u w → Answers d r → IsFreshAnswer n frames frames v w r
+  pub first-denied : (n x : ℕ) (frames : List ℕ) (v u w : View X) (d : Deny) (r : Fresh) → NextTold x v u → 1 ≤ n → x + n ≤ v.start.pages → IsNotSeized x d u w → Answers d r → IsNextAnswer n frames frames v w r
   first-denied n x frames v u w d r t some inside f is =
       let done : List Did = f.denied.done in
       let e : has x (numbers x n) ≡ true = numbers-has n x x (omega arith) (omega (arith, some)) in

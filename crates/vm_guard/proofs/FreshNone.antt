@@ -1,6 +1,7 @@
 -- A call for fresh pages that ends without them: a page that was locked and given up again leaves nothing, and the evidence of the call is that of
 -- its steps.
-use Rattle.vm_step.specs.Evidence.{guarded}
+use Rattle.vm_step.specs.{Evidence.guarded, Prelude.KeepsNumbers}
+use Rattle.vm_step.proofs.{Asides.numbers-then}
 use Rattle.vm_guard.proofs.Amid.{amid-reads, amid-then, amid-within, nload-amid, other}
 use Rattle.vm_guard.proofs.FreshTouches.{give-places, give-states, seize-places, seize-states, unmoved-at}
 use Rattle.vm_guard.proofs.Prelude.{[], ap, append_assoc, arith, asked, At, Begins, Bool, cases_eq, Did, did_load, Each, each-both, each-map, expected, false}
@@ -41,20 +42,23 @@ module _ {X : Type 0} where
   pub nil-then : (pages : List ℕ) (a b : List Did) (u v w : View X) → IsNil pages a u v → IsNil pages b v w → IsNil pages (a ++ b) u w
   nil-then pages a b u v w f g =
       let knows = λ (q : ℕ) (l : IsLocking (seat_of u q)). knows-then u v w q (f.knows q l) (g.knows q (still-locking u v q (f.holds q) l)) in
-      search (rules, amid-then pages a b u v w f.amid g.amid, keeps-then u v w f.keeps g.keeps, (λ (q : ℕ). holds-then u v w q (f.holds q) (g.holds q)), knows, each-both (λ (d : Did). d.at ≡ Place.Next → d.wrote ≡ None) a b f.unmoved g.unmoved, each-both _ a b f.states g.states)
+      search (rules, amid-then pages a b u v w f.amid g.amid, keeps-then u v w f.keeps g.keeps, numbers-then u v w f.amid.start f.numbers g.numbers, (λ (q : ℕ). holds-then u v w q (f.holds q) (g.holds q)), knows, each-both (λ (d : Did). d.at ≡ Place.Next → d.wrote ≡ None) a b f.unmoved g.unmoved, each-both _ a b f.states g.states)
 
   -- a load of the next word
+  pub nload-numbers : (found : ℕ) (v w : View X) → NextTold found v w → KeepsNumbers v w
+  nload-numbers found v w t tells = (ap (λ (y : View X). y.numbers) t.brings.view, ap (λ (y : View X). y.freed) t.brings.view)
+
   pub nload-nil : (pages : List ℕ) (found : ℕ) (v w : View X) → NextTold found v w → IsNil pages (did_load Place.Next found ∷ []) v w
   nload-nil pages found v w t =
       let f = nload-amid [] found v w t in
       let holds : (q : ℕ) → HoldsPage v w q = λ q. holds-still q (f.seats q refl) in
       let states : Each (λ (d : Did). (d.wrote ≡ None) ⊎ ((q : ℕ) × (d.at ≡ Place.State q))) (did_load Place.Next found ∷ []) = (inl refl, tt) in
-      search (rules, nload-amid pages found v w t, (nload-others t (λ q. ⊥)).keeps, t.brings.view, holds, (λ (q : ℕ) (l : IsLocking (seat_of v q)). f.knows q refl l), states)
+      search (rules, nload-amid pages found v w t, nload-numbers found v w t, (nload-others t (λ q. ⊥)).keeps, t.brings.view, holds, (λ (q : ℕ) (l : IsLocking (seat_of v q)). f.knows q refl l), states)
 
   -- a page that could not be locked
   pub denied-nil : (pages : List ℕ) (p : ℕ) (done : List Did) (v w : View X) → has p pages ≡ true → p < v.start.pages → Each (λ (d : Did). d.at ≡ Place.State p) done → LeavesNone done → IsQuiet p done v w → IsNil pages done v w
   denied-nil pages p done v w e l at bare f =
-      search (rules, amid-reads pages p done v w e l at f, f, unmoved-at p done (each-map _ _ (λ (d : Did) is. inl is) done at), each-map (λ (d : Did). d.wrote ≡ None) (λ (d : Did). (d.wrote ≡ None) ⊎ ((q : ℕ) × (d.at ≡ Place.State q))) (λ (d : Did) none. inl none) done bare)
+      search (rules, amid-reads pages p done v w e l at f, f, f.numbers, unmoved-at p done (each-map _ _ (λ (d : Did) is. inl is) done at), each-map (λ (d : Did). d.wrote ≡ None) (λ (d : Did). (d.wrote ≡ None) ⊎ ((q : ℕ) × (d.at ≡ Place.State q))) (λ (d : Did) none. inl none) done bare)
 
   -- a page that was locked, and given up after steps on other pages
   pub bracket : (pages less : List ℕ) (p version : ℕ) (stands : Option Mapping) (done : List Did) (v u z w : View X) → has p pages ≡ true → has p less ≡ false → ((q : ℕ) → has q pages ≡ false → has q less ≡ false)
@@ -80,7 +84,7 @@ module _ {X : Type 0} where
       (cases_eq q p) in
       let unmoved = each-both _ s.done (done ++ g.done) (unmoved-at p s.done (seize-places s)) (each-both _ done g.done f.unmoved (unmoved-at p g.done (give-places g))) in
       let states = each-both _ s.done (done ++ g.done) (seize-states s) (each-both _ done g.done f.states (give-states g)) in
-      search (rules, amid, keeps-then v u w s.keeps (keeps-then u z w f.keeps g.keeps), g.group.0 ∙ f.owed ∙ s.group.0, holds, knows, unmoved, states)
+      search (rules, amid, numbers-then v u w s.amid.start s.numbers (numbers-then u z w f.amid.start f.numbers g.numbers), keeps-then v u w s.keeps (keeps-then u z w f.keeps g.keeps), g.group.0 ∙ f.owed ∙ s.group.0, holds, knows, unmoved, states)
     where
       alone : (q : ℕ) → q ≢ p → has q (p ∷ []) ≡ false
       alone q ne = ap (λ (b : Bool). b || false) (ne_eqb q p ne)

@@ -1,6 +1,8 @@
 -- The fresh pages that a call gives, one or two: each is locked, put into a frame, and all are claimed together.
 use Rattle.std.proofs.lemmas.List.{length-reverse}
-use Rattle.vm_guard.proofs.{FreshNone.seized-on, Groups.each-page, GuardSteps.still-held, Lockings.unheld-same}
+use Rattle.vm_step.specs.Prelude.{KeepsNumbers}
+use Rattle.vm_step.proofs.{Asides.numbers-then}
+use Rattle.vm_guard.proofs.{FreshNone.nload-numbers, FreshNone.seized-on, Groups.each-page, GuardSteps.still-held, Lockings.unheld-same}
 use Rattle.vm_guard.proofs.Amid.{amid-alone, amid-then, claim-amid, claim-silent, IsSilent, known-on, known-states, nload-amid, nload-silent}
 use Rattle.vm_guard.proofs.Amid.{others-known, put-known, silent-then, silent-within}
 use Rattle.vm_guard.proofs.FreshNumbers.{apart-first, apart-second, numbers-one, numbers-two, within-first, within-second}
@@ -52,7 +54,7 @@ module _ {X : Type 0} where
   -- ---- frames
 
   -- pages were put into frames of zeros, where they stood in none
-  record ArePut (before after : List ℕ) (z y : View X) : Type 0 where
+  pub record ArePut (before after : List ℕ) (z y : View X) : Type 0 where
     pub taken : List ℕ
     pub cut : before ≡ after ++ reverse taken
     pub frames : y.frames ≡ without_all taken z.frames
@@ -60,10 +62,10 @@ module _ {X : Type 0} where
     pub contents : (f : ℕ) → has f taken ≡ false → contents_at y f ≡ contents_at z f
     pub group : (y.owed ≡ z.owed) × (y.next ≡ z.next)
 
-  put-one : {p frame version : ℕ} {dirty : Bool} {before after : List ℕ} {z y : View X} → Furnishes p frame version dirty before after z y → ArePut before after z y
+  pub put-one : {p frame version : ℕ} {dirty : Bool} {before after : List ℕ} {z y : View X} → Furnishes p frame version dirty before after z y → ArePut before after z y
   put-one f = search
 
-  put-then : {before mid after : List ℕ} {z y w : View X} → ArePut before mid z y → ArePut mid after y w → ArePut before after z w
+  pub put-then : {before mid after : List ℕ} {z y w : View X} → ArePut before mid z y → ArePut mid after y w → ArePut before after z w
   put-then {after = after} {z = z} f g = record {
     taken = f.taken ++ g.taken;
     cut = f.cut ∙ ap (λ (l : List ℕ). l ++ reverse f.taken) g.cut ∙ append_assoc after (reverse g.taken) (reverse f.taken) ∙ ap (λ (l : List ℕ). after ++ l) (sym (reverse-append f.taken g.taken));
@@ -80,7 +82,7 @@ module _ {X : Type 0} where
   -- ---- one of the pages
 
   -- what the call, from its start on, made of a page that it gives
-  record IsGiven (p frame version : ℕ) (dirty : Bool) (done : List Did) (v w : View X) : Type 0 where
+  pub record IsGiven (p frame version : ℕ) (dirty : Bool) (done : List Did) (v w : View X) : Type 0 where
     pub unheld : IsUnheld v p
     pub seat : seat_of w p ≡ record (seat_of v p) { exclusive = true; reading = None }
     pub held : IsHolding p frame version dirty w
@@ -89,7 +91,7 @@ module _ {X : Type 0} where
     pub once : TakesOnce p version frame dirty done
 
   -- it was locked after steps on other pages, put into a frame after more of them, and then others were
-  given : {p e : ℕ} {stands : Option Mapping} (g : ExclusiveGuard) {before after ps qs rs : List ℕ} {da db dc done : List Did} {v x u z y w : View X}
+  pub given : {p e : ℕ} {stands : Option Mapping} (g : ExclusiveGuard) {before after ps qs rs : List ℕ} {da db dc done : List Did} {v x u z y w : View X}
       → IsAmid ps da v x → Seizes p e stands x u → IsAmid qs db u z → Furnishes p g.frame g.version g.dirty before after z y → IsAmid rs dc y w
       → has p ps ≡ false → has p qs ≡ false → has p rs ≡ false → z.owed ≡ u.owed → g.pid ≡ p → IsUnheld v p → (v.start.tells ≡ true → (last_of z p).words ≡ replicate v.start.size 0)
       → TakesOnce p e g.frame g.dirty done → IsGiven g.pid g.frame g.version g.dirty done v w
@@ -145,9 +147,9 @@ module _ {X : Type 0} where
       (f.own, omega (arith, two, few, ap length f.cut ∙ length-append after (reverse f.taken), length-reverse f.taken))
 
   fresh-of : (x n : ℕ) (pages : List ℕ) (gs : List ExclusiveGuard) (before after : List ℕ) (c : ℕ) (mid : List Did) (v v1 z y w : View X) → NextTold x v v1 → ClaimTold x n c y w → c ≡ x → pages ≡ numbers x n → pids_of gs ≡ pages
-      → x + n ≤ v.start.pages → IsSilent pages mid v1 y → Each (λ (g : ExclusiveGuard). IsGiven g.pid g.frame g.version g.dirty (did_load Place.Next x ∷ (mid ++ did_exchange Place.Next x c (x + n) ∷ [])) v w) gs → KeepsFrames v z → z.owed ≡ v.owed → ArePut before after z y
+      → x + n ≤ v.start.pages → IsSilent pages mid v1 y → Each (λ (g : ExclusiveGuard). IsGiven g.pid g.frame g.version g.dirty (did_load Place.Next x ∷ (mid ++ did_exchange Place.Next x c (x + n) ∷ [])) v w) gs → KeepsFrames v z → z.owed ≡ v.owed → KeepsNumbers v y → ArePut before after z y
       → AreFresh (numbers x n) x n gs before after v w
-  fresh-of x n pages gs before after c mid v v1 z y w first claim is same pids inside steps each keeps owed put =
+  fresh-of x n pages gs before after c mid v v1 z y w first claim is same pids inside steps each keeps owed numbers put =
       let load : Did = did_load Place.Next x in
       let did : Did = did_exchange Place.Next x c (x + n) in
       let rest : List Did = mid ++ did ∷ [] in
@@ -166,6 +168,7 @@ module _ {X : Type 0} where
         held = each-map _ _ (λ (g : ExclusiveGuard) k. k.held) gs each;
         zero = λ t. page (λ p. (draft_of w p ≡ replicate v.start.size 0) × ((last_of w p).words ≡ replicate v.start.size 0)) (λ g k. k.zero t);
         owed = ap (λ (k : View X). k.owed) view ∙ (λ i. sym same i ++ (put.group.0 ∙ owed) i);
+        numbers = λ tells. (ap (λ (k : View X). k.numbers) view ∙ (numbers tells).0, ap (λ (k : View X). k.freed) view ∙ (numbers tells).1);
         next = ap (λ (k : View X). k.next) view;
         taken = put.taken;
         cut = put.cut;
@@ -204,6 +207,7 @@ module _ {X : Type 0} where
       (page, tt)
       (keeps-then v v1 z (nload-others first (λ q. ⊥)).keeps (keeps-then v1 u z s.keeps (nload-others second (λ q. ⊥)).keeps))
       (owed ∙ s.group.0 ∙ ap (λ (k : View X). k.owed) first.brings.view)
+      (numbers-then v v1 y at-first.start (nload-numbers x v v1 first) (numbers-then v1 u y s.amid.start s.numbers (numbers-then u z y at-second.start (nload-numbers x u z second) f.numbers)))
       (put-one f)
 
   pub fresh-two : (x e1 e2 : ℕ) (s1 s2 : Option Mapping) (g1 g2 : ExclusiveGuard) (before mid after : List ℕ) (c : ℕ) (v v1 u1 u2 z y1 y w : View X) → v.next ≡ None → NextTold x v v1 → Seizes x e1 s1 v1 u1 → Seizes (x + 1) e2 s2 u1 u2 → NextTold x u2 z
@@ -244,4 +248,6 @@ module _ {X : Type 0} where
       (page-one, (page-two, tt))
       (keeps-then v v1 z (nload-others first (λ q. ⊥)).keeps (keeps-then v1 u1 z a.keeps (keeps-then u1 u2 z b.keeps (nload-others second (λ q. ⊥)).keeps)))
       (owed ∙ b.group.0 ∙ a.group.0 ∙ ap (λ (k : View X). k.owed) first.brings.view)
+      (numbers-then v v1 y at-first.start (nload-numbers x v v1 first) (numbers-then v1 u1 y a.amid.start a.numbers (numbers-then u1 u2 y b.amid.start b.numbers
+      (numbers-then u2 z y at-second.start (nload-numbers x u2 z second) (numbers-then z y1 y f.amid.start f.numbers h.numbers)))))
       (put-then (put-one f) (put-one h))

@@ -24,6 +24,11 @@ stores-places : (start : Origin) (pages : List ℕ) (f : ℕ) → f < start.fram
 stores-places start pages f l i [] few = tt
 stores-places start pages f l i (x ∷ xs) few = ((l, (let many : i + suc (length xs) ≤ start.size = few in omega (arith, many))), stores-places start pages f l (i + 1) xs (let many : i + suc (length xs) ≤ start.size = few in omega (arith, many)))
 
+-- so they leave the word at each other place
+stores-none : (at : Place) (f i : ℕ) (xs : List ℕ) → ((k : ℕ) → Place.Content f k ≢ at) → WritesNone at (stores-did f i xs)
+stores-none at f i [] ne = tt
+stores-none at f i (x ∷ xs) ne = ((λ e. absurd (ne i e)), stores-none at f (i + 1) xs ne)
+
 abbrev pub zeros : ℕ → List ℕ
 zeros n = replicate n 0
 
@@ -50,6 +55,7 @@ module _ {X : Type 0} where
     done = [];
     amid = (none-silent (p ∷ []) v).0;
     group = (refl, refl);
+    numbers = λ _. (refl, refl);
     seat = refl;
     holding = seized-holding s;
     draft = refl;
@@ -64,6 +70,8 @@ module _ {X : Type 0} where
     states = λ a q l. refl;
     locks = tt;
     puts = inl tt;
+    unmoved = tt;
+    spares = λ g. tt;
   }
 
   module _ (p version f : ℕ) (before after : List ℕ) (v : View X) (s : IsSeized p version None v) (zero : v.start.tells ≡ true → (last_of v p).words ≡ zeros v.start.size) (some : 0 < v.start.size) (own : AreHeld before v) (cut : before ≡ after ++ f ∷ []) where
@@ -117,6 +125,19 @@ module _ {X : Type 0} where
             (each-map (λ (d : Did). IsPlaceOf v.start [] d.at) (λ (d : Did). d.at ≡ Place.State q → d.wrote ≡ None) (λ (d : Did) is at. absurd (false≢true (subst (IsPlaceOf v.start []) at is).1)) (stores-did f 0 (zeros v.start.size)) (stores-places v.start [] f frame-own.0 0 (zeros v.start.size) zeros-within))
             ((λ e. absurd (let no : Place.Translation p ≡ Place.State q = e in cc)), ((λ e. absurd (let no : Place.Owner f ≡ Place.State q = e in cc)), tt))
 
+        -- nor at the next word or a free-number word
+        unmoved-w : WritesNone Place.Next done
+        unmoved-w =
+            each-both (λ (d : Did). d.at ≡ Place.Next → d.wrote ≡ None) (stores-did f 0 (zeros v.start.size)) (settle-did t named)
+            (stores-none Place.Next f 0 (zeros v.start.size) (λ k e. absurd (let no : Place.Content f k ≡ Place.Next = e in cc)))
+            ((λ e. absurd (let no : Place.Translation p ≡ Place.Next = e in cc)), ((λ e. absurd (let no : Place.Owner f ≡ Place.Next = e in cc)), tt))
+
+        spares-w : (g : ℕ) → WritesNone (Place.Spare g) done
+        spares-w g =
+            each-both (λ (d : Did). d.at ≡ Place.Spare g → d.wrote ≡ None) (stores-did f 0 (zeros v.start.size)) (settle-did t named)
+            (stores-none (Place.Spare g) f 0 (zeros v.start.size) (λ k e. absurd (let no : Place.Content f k ≡ Place.Spare g = e in cc)))
+            ((λ e. absurd (let no : Place.Translation p ≡ Place.Spare g = e in cc)), ((λ e. absurd (let no : Place.Owner f ≡ Place.Spare g = e in cc)), tt))
+
         puts-w : PutsOnce p f false done
         puts-w =
             inr (
@@ -144,6 +165,7 @@ module _ {X : Type 0} where
               done = done;
               amid = steps.0;
               group = (work.leaves.group.1, work.leaves.group.2);
+              numbers = work.leaves.numbers;
               seat = work.seat;
               holding = holding;
               draft = work.draft;
@@ -162,4 +184,6 @@ module _ {X : Type 0} where
               states = states-w;
               locks = states-none p;
               puts = puts-w;
+              unmoved = unmoved-w;
+              spares = spares-w;
             }

@@ -1,5 +1,6 @@
 -- A group is released: what its releases leave together, and what a pass that is alone knows then: the words of the table, and the last versions.
-use Rattle.vm_guard.proofs.Groups.{all-beside, all-then, among, AreAllGiven, each-page, given-up, IsRest, lacks, without-absent, without-front}
+use Rattle.vm_rule.specs.Releases.{freed_by}
+use Rattle.vm_guard.proofs.Groups.{all-beside, all-then, among, AreAllGiven, each-page, given-up, IsRest, lacks, numbers-more, without-absent, without-front}
 use Rattle.vm_guard.proofs.Prelude.{[], ap, append_assoc, AreApart, AreGivenUp, AreReleased, arith, Change, cond-false, draft_of, Each, each-map, entries_of}
 use Rattle.vm_guard.proofs.Prelude.{Entry, eqb, ExclusiveGuard, false, Follows, get_or-set_other, has, has-left_of, has-without_all_same, History, IsAlone}
 use Rattle.vm_guard.proofs.Prelude.{IsGroupReleased, IsKeptNow, IsUnlockedWord, Kept, last-is, last_in, last_of, last_pid, List, MAX_VERSION, MayReleaseAll}
@@ -71,13 +72,15 @@ module _ {X : Type 0} where
       let entry : (others more : List (Entry X)) × (w.seen ≡ ((v.seen ++ others) ++ entries_of v said) ++ more) = (t.brings.others, seen.0, seen.1 ∙ ap (λ (y : View X). y.seen ++ seen.0) view) in
       let pending-then = rest.group.0 ∙ ap (without_all ps) pending ∙ without-front ps v.pending may.apart.1 (λ q e. each-page (λ p. has p v.pending ≡ false) gs q e (each-map _ _ (λ (x : ExclusiveGuard) h. h.free) gs may.held.1)) in
       let owed = rest.group.1 ∙ ap (λ (y : View X). without_all ps y.owed) view ∙ without-absent ps (without_all (p ∷ ps) v.owed) (λ q x. has-without_all_same (p ∷ ps) v.owed q (or_right (eqb q p) (has q ps) x)) in
+      let numbers = numbers-more p ps v u w (ap (λ (y : View X). y.numbers) view) (ap (λ (y : View X). y.start) view) (ap (λ (y : View X). y.drafts) view) may.apart.0 rest.numbers in
+      let freed = rest.freed ∙ ap (λ (y : View X). y.freed) view ∙ cond-false (has p v.pending) v.freed (freed_by v (p ∷ ps) ++ v.freed) may.held.0.free in
       let words = λ (a : IsAlone v). words-released v.start (g ∷ gs) v.snapshot.words w.snapshot.words (run.words a.0 a.1) in
       let free = λ (a : IsAlone v). subst (λ (l : List ℕ). Each (λ (x : ExclusiveGuard). IsUnlockedWord (slice_index l x.pid) × (version_of (slice_index l x.pid) ≤ x.version + 1)) (g ∷ gs))
       (sym (words a)) (free-each v.start (g ∷ gs) v.snapshot.words may.apart (each-map _ _ (λ (x : ExclusiveGuard) h. h.below) (g ∷ gs) may.held)) in
       let same : IsAlone v → (q : ℕ) → last_of w q ≡ last_in v.start (v.releases ++ releases_of v (g ∷ gs)) q = λ a q i. last_in (all.steps.start i) (run.releases a.0 a.1 i) q in
       let last : IsAlone v → Each (λ (x : ExclusiveGuard). last_of w x.pid ≡ record { version = x.version + 1; words = draft_of v x.pid }) (g ∷ gs) = λ a. each-map _ _ (λ (x : ExclusiveGuard) is. same a x.pid ∙ is) (g ∷ gs) (last-each v (g ∷ gs) v.releases may.apart) in
       let alone = λ (a : IsAlone v) (q : ℕ) (none : has q (pids_of (g ∷ gs)) ≡ false). ap (λ (x : Version). x.words) (same a q ∙ last-else v (g ∷ gs) v.releases q none) in
-      search (rules, t, k, all-beside (g ∷ gs) v w all, rest.mine ∙ ap (λ (y : View X). y.mine) view, entry, pending-then, owed, rest.group.2 ∙ ap (λ (y : View X). next_after_all ps y.next) view, all, rest.current (ap (λ (y : View X). y.current) view), words, free, last, alone)
+      search (rules, t, k, numbers, freed, all-beside (g ∷ gs) v w all, rest.mine ∙ ap (λ (y : View X). y.mine) view, entry, pending-then, owed, rest.group.2 ∙ ap (λ (y : View X). next_after_all ps y.next) view, all, rest.current (ap (λ (y : View X). y.current) view), words, free, last, alone)
 
   -- and what the layer above keeps at the first of them, and at the last
   pub group-released : (may_release : Start → List ℕ → List Change → List (Entry X) → Type 0) (keeps : Start → Kept X → Type 0) (g : ExclusiveGuard) (gs : List ExclusiveGuard) (said : Option X) (v u w : View X) → MayReleaseAll may_release (g ∷ gs) said v

@@ -1,5 +1,9 @@
 -- A group is released: what each release leaves of the members that are still to be released, and what all of them leave together.
-use Rattle.vm_guard.proofs.Prelude.{[], ap, append-none, AreApart, AreGivenUp, Bool, cases_eq, Change, cond-false, cond-true, Each, each-map, Entry, eq-eqb}
+use Rattle.std.specs.Prelude.{◌&&◌}
+use Rattle.vm_owner.proofs.NumberLemmas.{has-without_same}
+use Rattle.vm_page.specs.Pages.{all_zero}
+use Rattle.vm_rule.specs.Releases.{freed_by, numbers_left}
+use Rattle.vm_guard.proofs.Prelude.{[], ap, append-none, AreApart, AreGivenUp, Bool, cases_eq, Change, cond-false, cond-true, draft_of, Each, each-map, Entry, eq-eqb}
 use Rattle.vm_guard.proofs.Prelude.{eqb, ExclusiveGuard, false, false≢true, GuardsHeld, has, has-both, has-left_of, has-without_other, Held, held_at}
 use Rattle.vm_guard.proofs.Prelude.{holds-still, if◌then◌else◌, inl, inr, IsBeside, IsClaimed, IsDue, IsFirst, IsMember, IsNotOut, IsSome, IsToldOf, last_of}
 use Rattle.vm_guard.proofs.Prelude.{LeavesOthers, length, List, loads_at, MAX_VERSION, MayGiveUp, MayReleaseAll, ne_eqb, next_after_all, None, Option, or_parts}
@@ -52,6 +56,19 @@ among q (g ∷ gs) none =
 pub each-with : {A : Type 0} (P Q : A → Type 0) (l : List A) → Each P l → Each Q l → Each (λ a. P a × Q a) l
 each-with P Q [] e f = tt
 each-with P Q (x ∷ xs) e f = ((e.0, f.0), each-with P Q xs e.1 f.1)
+
+-- the numbers held after the release of page p
+same-if : (b x : Bool) → (if b then x else x) ≡ x
+same-if true x = refl
+same-if false x = refl
+
+left-has : (b : Bool) (p q : ℕ) (l : List ℕ) → has q (if b then l else without p l) ≡ (if eqb q p then b && has q l else has q l)
+left-has true p q l = sym (same-if (eqb q p) (has q l))
+left-has false p q l =
+    ⊎_elim
+    (λ (e : q ≡ p). ap (λ n. has n (without p l)) e ∙ has-without_same p l ∙ sym (ap (λ b. if b then false else has q l) (eq-eqb q p e)))
+    (λ (ne : q ≢ p). has-without_other p q l ne ∙ sym (ap (λ b. if b then false else has q l) (ne_eqb q p ne)))
+    (cases_eq q p)
 
 module _ {X : Type 0} where
   -- ---- what the release asks for
@@ -128,7 +145,30 @@ module _ {X : Type 0} where
     pub all : AreAllGiven gs v w
     pub mine : w.mine ≡ v.mine
     pub group : (w.pending ≡ without_all (pids_of gs) v.pending) × (w.owed ≡ without_all (pids_of gs) v.owed) × (w.next ≡ next_after_all (pids_of gs) v.next)
+    pub numbers : (q : ℕ) → has q w.numbers ≡ (if has q (pids_of gs) then (v.start.tells && all_zero (draft_of v q)) && has q v.numbers else has q v.numbers)
+    pub freed : w.freed ≡ v.freed
     pub current : v.current ≡ true → w.current ≡ true
+
+  -- the page numbers that are held after those releases, where page p is released first
+  pub numbers-more : (p : ℕ) (qs : List ℕ) (v u w : View X) → u.numbers ≡ numbers_left p v → u.start ≡ v.start → u.drafts ≡ v.drafts → has p qs ≡ false
+      → ((q : ℕ) → has q w.numbers ≡ (if has q qs then (u.start.tells && all_zero (draft_of u q)) && has q u.numbers else has q u.numbers))
+      → (q : ℕ) → has q w.numbers ≡ (if has q (p ∷ qs) then (v.start.tells && all_zero (draft_of v q)) && has q v.numbers else has q v.numbers)
+  numbers-more p qs v u w left start drafts apart rest q =
+      let mid : Bool = if eqb q p then (v.start.tells && all_zero (draft_of v p)) && has q v.numbers else has q v.numbers in
+      let now : has q u.numbers ≡ mid = ap (has q) left ∙ left-has (v.start.tells && all_zero (draft_of v p)) p q v.numbers in
+      rest q
+      ∙ (λ i. if has q qs then ((start i).tells && all_zero (put_at [] (drafts i) q)) && now i else now i)
+      ∙ ⊎_elim
+      (λ (e : q ≡ p).
+      ap (λ b. if b then (v.start.tells && all_zero (draft_of v q)) && mid else mid) (ap (λ n. has n qs) e ∙ apart)
+      ∙ ap (λ b. if b then (v.start.tells && all_zero (draft_of v p)) && has q v.numbers else has q v.numbers) (eq-eqb q p e)
+      ∙ ap (λ n. (v.start.tells && all_zero (draft_of v n)) && has q v.numbers) (sym e)
+      ∙ sym (ap (λ b. if b || has q qs then (v.start.tells && all_zero (draft_of v q)) && has q v.numbers else has q v.numbers) (eq-eqb q p e)))
+      (λ (ne : q ≢ p).
+      let same : mid ≡ has q v.numbers = ap (λ b. if b then (v.start.tells && all_zero (draft_of v p)) && has q v.numbers else has q v.numbers) (ne_eqb q p ne) in
+      ap (λ b. if has q qs then (v.start.tells && all_zero (draft_of v q)) && b else b) same
+      ∙ sym (ap (λ b. if b || has q qs then (v.start.tells && all_zero (draft_of v q)) && has q v.numbers else has q v.numbers) (ne_eqb q p ne)))
+      (cases_eq q p)
 
   -- a page that is as it was has the seat that it had
   pub same-seat : (v w : View X) (q : ℕ) → (seat_of w q).shares ≡ (seat_of v q).shares → (seat_of w q).exclusive ≡ (seat_of v q).exclusive → (seat_of w q).writing ≡ (seat_of v q).writing → (seat_of w q).reading ≡ (seat_of v q).reading → seat_of w q ≡ seat_of v q
@@ -148,7 +188,9 @@ module _ {X : Type 0} where
       let mine = rest.mine ∙ ap (λ (y : View X). y.mine) t.brings.view ∙ append-none v.mine in
       let owed = rest.group.1 ∙ ap (λ (y : View X). without_all (pids_of gs) y.owed) t.brings.view in
       let next = rest.group.2 ∙ ap (λ (y : View X). next_after_all (pids_of gs) y.next) t.brings.view in
-      search (rules, all-then g gs [] None v u w t apart.0 rest.all, mine, rest.group.0 ∙ ap (without_all (pids_of gs)) pending, owed, next)
+      let numbers = numbers-more p (pids_of gs) v u w (ap (λ (y : View X). y.numbers) t.brings.view) (ap (λ (y : View X). y.start) t.brings.view) (ap (λ (y : View X). y.drafts) t.brings.view) apart.0 rest.numbers in
+      let freed = rest.freed ∙ ap (λ (y : View X). y.freed) t.brings.view ∙ cond-true (has p v.pending) v.freed (freed_by v (p ∷ []) ++ v.freed) due.0 in
+      search (rules, numbers, freed, all-then g gs [] None v u w t apart.0 rest.all, mine, rest.group.0 ∙ ap (without_all (pids_of gs)) pending, owed, next)
 
   -- ---- each release of a group may be made
 

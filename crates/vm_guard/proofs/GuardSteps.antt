@@ -11,6 +11,8 @@ use Rattle.vm_guard.proofs.Prelude.{release-seat, releases-else, ReleaseTold, ru
 use Rattle.vm_guard.proofs.Prelude.{state_of, still-alone, store-draft, store-held, store-last, store-loads, store-others, store-own, store-seat, StoresTold}
 use Rattle.vm_guard.proofs.Prelude.{StoreTold, subst, sym, trans_word, true, unshare-knows, unshare-loads, unshare-others, unshare-own, unshare-seat}
 use Rattle.vm_guard.proofs.Prelude.{UnshareTold, Version, version_of, View, without, ℕ, ◌*◌, ◌++◌, ◌+◌, ◌-◌, ◌<◌, ◌^◌, ◌∙◌, ◌∷◌, ◌≡◌, ◌≢◌, ◌≤◌}
+use Rattle.vm_rule.specs.Releases.{freed_by, numbers_left}
+use Rattle.vm_step.proofs.{Asides.numbers-self}
 use Rattle.vm_guard.proofs.QuietSteps.{alone-of, elsewhere-of, elsewhere-then, quiet-elsewhere, quiet-none}
 use Rattle.vm_guard.proofs.Sure.{free-after, state-inside}
 
@@ -59,7 +61,7 @@ module _ {X : Type 0} where
   pub was-dirty : (p f version : ℕ) (dirty : Bool) (v : View X) → IsHolding p f version dirty v → dirty ≡ true → IsDirtied p f dirty v v
   was-dirty p f version dirty v h e =
       let held : put_at no_held v.held p ≡ record (put_at no_held v.held p) { mapping = Some (dirty_in f) } = (λ i. record (put_at no_held v.held p) { mapping = (h.stands ∙ ap (λ (b : Bool). Some (record { frame = f; dirty = b })) e) i }) in
-      search (rules, sym (ap (dirty_steps p f) e), quiet-elsewhere p [] v v (quiet-none p v), alone-self v, held)
+      search (rules, sym (ap (dirty_steps p f) e), quiet-elsewhere p [] v v (quiet-none p v), numbers-self v, alone-self v, held)
 
   -- a store at another place leaves the state word that a pass knows
   stored-else : (at : Place) (x q : ℕ) (v w : View X) → RunsAlone (did_store at x ∷ []) [] v w → IsAlone v → q ≢ index_of v.start at → known_word q w ≡ known_word q v
@@ -84,7 +86,7 @@ module _ {X : Type 0} where
       let t : StoreTold p f i x u w = stores.page p (drafts-of p f version u h) in
       let did : Did = did_store (Place.Content f i) x in
       let k = store-others t (λ q. q ≡ p) refl in
-      let own : LeavesOwn v w = own-then (record { mine = d.mine; group = d.group }) (store-own t) in
+      let own : LeavesOwn v w = own-then (record { mine = d.mine; group = d.group; start = d.elsewhere.steady.start; numbers = d.numbers }) (store-own t) in
       let states : KnowsStates v w = λ a q l.
       let below : q < u.start.pages = subst (λ (o : Origin). q < o.pages) (sym d.elsewhere.steady.start) l in
       stored-else (Place.Content f i) x q u w k.runs (still-alone v u d.elsewhere.steady.parts d.alone.current a) (λ (e : q ≡ 3 * u.start.pages + (u.start.size * f + i)). omega (arith, below, e))
@@ -114,6 +116,8 @@ module _ {X : Type 0} where
       let e = release-others t (λ q. q ≡ p) refl in
       let view = t.brings.view in
       let pending = ap (λ (y : View X). y.pending) view ∙ cond-false (has p v.pending) (without p v.pending) v.pending h.free in
+      let numbers : (w.numbers ≡ numbers_left p v) × (w.freed ≡ freed_by v (p ∷ []) ++ v.freed) =
+      (ap (λ (y : View X). y.numbers) view, ap (λ (y : View X). y.freed) view ∙ cond-false (has p v.pending) v.freed (freed_by v (p ∷ []) ++ v.freed) h.free) in
       let entry : (others : List (Entry X)) × (w.seen ≡ (v.seen ++ others) ++ entries_of v said) = (t.brings.others, ap (λ (y : View X). y.seen) view) in
       let last = λ (all : IsWhole v) (k : v.current ≡ true) (q : ℕ) (ne : q ≢ p).
       ap (λ (o : Origin). (last_in o w.releases q).words) e.start
@@ -124,7 +128,7 @@ module _ {X : Type 0} where
       let below : version < MAX_VERSION = h.below in
       subst (λ (l : List ℕ). IsUnlockedWord (slice_index l p) × (version_of (slice_index l p) ≤ version + 1)) (sym (e.runs.words a.0 a.1).1)
       (free-after p (version + 1) v.snapshot.words (omega (arith, below))) in
-      search (rules, elsewhere-of e, view, entry, pending, release-seat t, release-loads t p, release-last t, last, wrote, (λ (a : IsAlone v). (e.runs.words a.0 a.1).1), free)
+      search (rules, elsewhere-of e, view, entry, pending, numbers, release-seat t, release-loads t p, release-last t, last, wrote, (λ (a : IsAlone v). (e.runs.words a.0 a.1).1), free)
 
 -- ---- a release to a share
 

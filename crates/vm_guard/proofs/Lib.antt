@@ -7,6 +7,7 @@ pub mod Reading
 pub mod Validating
 pub mod Denials
 pub mod GuardSteps
+pub mod InUse
 pub mod Lockings
 pub mod Sharing
 pub mod Upgrading
@@ -24,5 +25,10 @@ pub mod FreshNone
 pub mod Freshly
 pub mod FreshSure
 pub mod FreshAnswers
+pub mod FreeBits
+pub mod Reusing
+pub mod ReusedPages
+pub mod Searching
+pub mod FreeSure
 pub mod Pairs
 pub mod PageLoads

@@ -55,7 +55,7 @@ pub use Rattle.vm_guard.specs.{declared.deny.Deny.Deny, declared.exclusive.Exclu
 pub use Rattle.vm_guard.specs.{FreshPlaces.IsPlaceOf, FreshPlaces.KnowsOthers, Pairs.HasFirst}
 pub use Rattle.vm_guard.specs.FreshWords.{GivesUpOnce, IsNextWord, put_did, PutsOnce, TakesOnce}
 pub use Rattle.vm_guard.specs.Denied.{AgainOrNeed, AgainOrWorn, IsDenied, IsEvidence, KeptWord, NotCrowded, NotWorn, OnlyWorn, SameOrUnlocked}
-pub use Rattle.vm_guard.specs.Fresh.{AreFresh, Furnishes, GivesBack, HasPagesFor, IsAmid, IsBegun, IsFreshAnswer, IsFull, IsNil, IsNotSeized, IsPages, IsPagesOrWorn}
+pub use Rattle.vm_guard.specs.Fresh.{AreFresh, Furnishes, GivesBack, HasPagesFor, IsAmid, IsBegun, IsNextAnswer, IsFull, IsNil, IsNotSeized, IsPages, IsPagesOrWorn}
 pub use Rattle.vm_guard.specs.Fresh.{IsSeized, IsSpared, IsToSeize, IsToTry, IsWornOut, Seizes}
 pub use Rattle.vm_guard.specs.Groups.{AreGivenUp, AreReleased, guards_of, GuardsHeld, IsBeside, IsDue, IsGroupReleased, last_pid, MayReleaseAll, next_after_all, pids_of}
 pub use Rattle.vm_guard.specs.Groups.{release_steps, released_words, releases_of}

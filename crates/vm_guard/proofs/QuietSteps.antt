@@ -1,6 +1,6 @@
 -- What each kind of step leaves of a view that it does not speak of, in the words of the guards, and that this holds of several steps in a row.
 use Rattle.vm_rule.specs.Prelude.{entries_where}
-use Rattle.vm_step.proofs.{Evidenced.lost-view, steps.Share.where-lost}
+use Rattle.vm_step.proofs.{Asides.numbers-then, Evidenced.lost-view, steps.Leaving.own-self, steps.Share.where-lost}
 use Rattle.vm_guard.proofs.Prelude.{[], alone-then, ap, append_assoc, Brings, Did, did_exchange, did_load, entries_of, holds-still, holds-then, HoldsPage}
 use Rattle.vm_guard.proofs.Prelude.{IsElsewhere, IsLocking, IsQuiet, IsSteady, knows-then, KnowsAsBefore, last_of, LeavesOthers, LeavesOwn, left_at, List}
 use Rattle.vm_guard.proofs.Prelude.{load-holds, load-knows, load-others, load-own, LoadTold, LOCKED, locked_view, LockTold, look-holds, look-others, look-own}
@@ -27,7 +27,7 @@ module _ {X : Type 0} where
       let holds = λ (q : ℕ). holds-then u v w q (f.holds q) (g.holds q) in
       let knows = λ (q : ℕ) (l : IsLocking (seat_of u q)). knows-then u v w q (f.knows q l) (g.knows q (still-locking u v q (f.holds q) l)) in
       let others = λ (q : ℕ) (ne : q ≢ p). reads-then u v w q (f.others q ne) (g.others q ne) in
-      search (rules, steady-then a b [] [] u v w f.steady g.steady, holds, knows, others, alone-then u v w f.steady.parts f.alone g.alone)
+      search (rules, steady-then a b [] [] u v w f.steady g.steady, numbers-then u v w f.steady.start f.numbers g.numbers, holds, knows, others, alone-then u v w f.steady.parts f.alone g.alone)
 
   pub elsewhere-then : (p : ℕ) (a b : List Did) {c d : List Release} (u v w : View X) → IsElsewhere p a c u v → IsElsewhere p b d v w → IsElsewhere p (a ++ b) (c ++ d) u w
   elsewhere-then p a b {c = c} {d = d} u v w f g =
@@ -56,11 +56,11 @@ module _ {X : Type 0} where
   alone-of {done = done} {v = v} {w = w} f = stays-alone done v w f.start f.runs
 
   quiet-of : {p : ℕ} {done : List Did} {v w : View X} → LeavesOthers (λ q. q ≡ p) done [] v w → LeavesOwn v w → ((q : ℕ) → HoldsPage v w q) → ((q : ℕ) → IsLocking (seat_of v q) → KnowsAsBefore v w q) → IsQuiet p done v w
-  quiet-of f o holds knows = record { steady = steady-of f; mine = o.mine; group = o.group; holds = holds; knows = knows; others = (elsewhere-of f).others; alone = alone-of f }
+  quiet-of f o holds knows = record { steady = steady-of f; mine = o.mine; group = o.group; numbers = o.numbers; holds = holds; knows = knows; others = (elsewhere-of f).others; alone = alone-of f }
 
   -- no step at all
   pub quiet-none : (p : ℕ) (v : View X) → IsQuiet p [] v v
-  quiet-none p v = quiet-of (others-none v) (record { mine = refl; group = (refl, refl, refl) }) (λ q. holds-still q refl) (λ q l. record { held = refl; draft = refl; last = refl })
+  quiet-none p v = quiet-of (others-none v) (own-self v) (λ q. holds-still q refl) (λ q l. record { held = refl; draft = refl; last = refl })
 
   -- ---- each kind of step
 

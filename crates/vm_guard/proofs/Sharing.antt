@@ -108,6 +108,7 @@ module _ {X : Type 0} (tied : Start → ℕ → List ℕ → ℕ → List ℕ �
             mine = mine;
             entry = entry;
             group = group;
+            numbers = λ tells. (ap (λ (y : View X). y.numbers) view ∙ (own.numbers tells).0, ap (λ (y : View X). y.freed) view ∙ (own.numbers tells).1);
             alone = alone-of all;
             seat = seat-then;
             knows = λ l. knows-then v u x p (looked-knows look p l) (share-knows t (still-locking v u p before l));

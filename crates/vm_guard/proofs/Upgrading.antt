@@ -1,5 +1,6 @@
 -- An optimistic guard that becomes an exclusive one: what each answer proves.
 use Rattle.vm_step.specs.Evidence.Begins.{asked}
+use Rattle.vm_step.proofs.{steps.Leaving.own-self}
 use Rattle.vm_guard.proofs.{Denials.denied-at-once, Expecting.expect-resident, Expecting.seize-same, Leaving.older-read, Lockings.locked-after, QuietSteps.lock-lost}
 use Rattle.vm_guard.proofs.{Sure.lost-leaves, Unmarking.lost-unmarks, Unmarking.one-saw, Validating.left-since}
 use Rattle.vm_guard.proofs.Prelude.{[], AgainOrWorn, ap, arith, At, cond-false, Deny, Did, did_exchange, eqb, guarded, HasLeft, inl, inr, IsDenied, IsLocked}
@@ -54,5 +55,5 @@ module _ {X : Type 0} (tied : Start → ℕ → List ℕ → ℕ → List ℕ �
   -- the page is locked at the version expected, and stands where its translation word says
   pub upgraded : IsToExpect expects expects → LockTold tied p expects expects v x → TranslationTold p found x w → mapping_of found ≡ Some m → p < v.start.pages → IsLocked tied p m.frame (version_of expects) m.dirty v w
   upgraded to t load named page =
-      locked-after expects to.version to.may_lock.version t load named (others-none v) (record { mine = refl; group = (refl, refl, refl) }) (record { shares = refl; exclusive = refl; writing = refl }) (λ _. refl) page
+      locked-after expects to.version to.may_lock.version t load named (others-none v) (own-self v) (record { shares = refl; exclusive = refl; writing = refl }) (λ _. refl) page
       (older-read expects (seat_of v p).reading t.older) (λ tells. t.validates tells refl) tt

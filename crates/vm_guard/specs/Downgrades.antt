@@ -1,7 +1,8 @@
 -- What a guard's release to a share leaves: the draft is the page's next version, and the pass has one share of the page.
-use Rattle.std.specs.Prelude.{[], ◌+◌, ◌∷◌, ◌≡◌, false, List, true, ℕ}
+use Rattle.std.specs.Prelude.{[], ◌++◌, ◌+◌, ◌∷◌, ◌≡◌, false, List, true, ℕ}
 use Rattle.vm_core.specs.Prelude.{word_of}
 use Rattle.vm_rule.specs.Prelude.{did_store, draft_of, held_at, last_of, loads_at, next_after, seat_of, without}
+use Rattle.vm_rule.specs.Releases.{freed_by, numbers_left}
 use Rattle.vm_rule.specs.declared.view.Place.{Place}
 use Rattle.vm_step.specs.Prelude.{Did, View}
 use Rattle.vm_guard.specs.{Guards.IsElsewhere, Guards.IsSharing, Sure.KnowsBut}
@@ -13,6 +14,7 @@ module _ {X : Type 0} where
     pub elsewhere : IsElsewhere p done (record { page = p; version = version + 1; words = draft_of v p } ∷ []) v w
     pub mine : w.mine ≡ v.mine
     pub group : (w.pending ≡ v.pending) × (w.owed ≡ without p v.owed) × (w.next ≡ next_after p v.next)
+    pub numbers : (w.numbers ≡ numbers_left p v) × (w.freed ≡ freed_by v (p ∷ []) ++ v.freed)
     pub seat : seat_of w p ≡ record (seat_of v p) { shares = 1; exclusive = false }
     pub loads : loads_at w p ≡ loads_at v p
     pub sharing : IsSharing p frame w

@@ -4,8 +4,9 @@ use Rattle.std.specs.Prelude.{[], ◌++◌, ◌+◌, ◌<◌, ◌∷◌, ◌≡�
 use Rattle.vm_core.specs.Prelude.{LOCKED, MAX_VERSION, MayLock, version_of, word_of}
 use Rattle.vm_rule.specs.Prelude.{contents_at, did_load, did_store, draft_of, Each, has, held_at, IsLocking, IsUnheld, last_of, loads_at, Mapping, next_after}
 use Rattle.vm_rule.specs.Prelude.{NextTold, numbers, seat_of, StartsWith, without_all}
+use Rattle.vm_page.specs.Pages.{all_zero}
 use Rattle.vm_rule.specs.declared.view.Place.{Place}
-use Rattle.vm_step.specs.Prelude.{AreHeld, Did, HasWritten, HoldsPage, IsAlone, IsSaw, IsToldOf, IsWorn, KeepsFrames, KnowsAsBefore}
+use Rattle.vm_step.specs.Prelude.{AreHeld, Did, HasWritten, HoldsPage, IsAlone, IsSaw, IsToldOf, IsWorn, KeepsFrames, KeepsNumbers, KnowsAsBefore}
 use Rattle.vm_step.specs.Prelude.{NoWord, Release, RunsAlone, StaysAlone, Tie, UnlockedExpected, View, WritesNone}
 use Rattle.vm_step.specs.declared.saw.At.{At}
 use Rattle.vm_step.specs.declared.saw.Saw.{Saw}
@@ -67,9 +68,12 @@ module _ {X : Type 0} where
     pub takes : LocksBy p version stands done
     pub keeps : KeepsFrames v w
     pub group : (w.owed ≡ v.owed) × (w.next ≡ v.next)
+    pub numbers : KeepsNumbers v w
     pub unheld : IsUnheld v p
     pub seat : seat_of w p ≡ record (seat_of v p) { exclusive = true; reading = None }
     pub seized : IsSeized p version stands w
+    -- a page whose number the pass has is one of zeros
+    pub zero : v.start.tells ≡ true → has p v.numbers ≡ true → all_zero (last_of w p).words ≡ true
     -- no page was released; a pass that was alone knows the table as it was, but for the page's word
     pub silent : amid.own ≡ []
     pub table : KnowsBut p (word_of LOCKED version) v w
@@ -97,6 +101,7 @@ module _ {X : Type 0} where
     pub steps : done ≡ did_store (Place.State p) left ∷ []
     pub keeps : KeepsFrames v w
     pub group : (w.owed ≡ v.owed) × (w.next ≡ next_after p v.next)
+    pub numbers : KeepsNumbers v w
     pub seat : seat_of w p ≡ record (seat_of v p) { exclusive = false }
 
   -- it was put into a frame of zeros, the last of these, where it stood in none
@@ -104,6 +109,7 @@ module _ {X : Type 0} where
     pub done : List Did
     pub amid : IsAmid (p ∷ []) done v w
     pub group : (w.owed ≡ v.owed) × (w.next ≡ v.next)
+    pub numbers : KeepsNumbers v w
     pub seat : seat_of w p ≡ seat_of v p
     pub holding : IsHolding p frame version dirty w
     pub draft : draft_of w p ≡ draft_of v p
@@ -118,6 +124,9 @@ module _ {X : Type 0} where
     -- the state word was left alone; so was the translation word, or it names the frame, clean
     pub locks : WritesNone (Place.State p) done
     pub puts : PutsOnce p frame dirty done
+    -- so were the next word and the free-number words
+    pub unmoved : WritesNone Place.Next done
+    pub spares : (g : ℕ) → WritesNone (Place.Spare g) done
     -- no page was released; a pass that was alone knows the state words as they were
     pub silent : amid.own ≡ []
     pub states : KnowsStates v w
@@ -133,6 +142,7 @@ module _ {X : Type 0} where
     pub held : GuardsHeld w gs
     pub zero : v.start.tells ≡ true → (q : ℕ) → has q pages ≡ true → (draft_of w q ≡ replicate v.start.size 0) × ((last_of w q).words ≡ replicate v.start.size 0)
     pub owed : w.owed ≡ pages ++ v.owed
+    pub numbers : KeepsNumbers v w
     pub next : w.next ≡ None
     pub taken : List ℕ
     pub cut : before ≡ after ++ reverse taken
@@ -157,6 +167,7 @@ module _ {X : Type 0} where
     pub amid : IsAmid pages done v w
     pub keeps : KeepsFrames v w
     pub owed : w.owed ≡ v.owed
+    pub numbers : KeepsNumbers v w
     pub holds : (q : ℕ) → HoldsPage v w q
     pub knows : (q : ℕ) → IsLocking (seat_of v q) → KnowsAsBefore v w q
     -- no step left another next word, nor a word that is no state word
@@ -203,12 +214,12 @@ module _ {X : Type 0} where
     pub full : pages < next + need
     pub loaded : NextTold next v w
 
-  -- what a call for n fresh pages answers, with these frames before and after
-  abbrev pub IsFreshAnswer : ℕ → List ℕ → List ℕ → View X → View X → Fresh → Type 0
-  IsFreshAnswer n before after v w (Fresh.Pages group) = (x : ℕ) × AreFresh (numbers x n) x n (guards_of group) before after v w
-  IsFreshAnswer n before after v w (Fresh.Again saw) = (after ≡ before) × ((x : ℕ) × IsToTry (numbers x n) x n saw v w)
-  IsFreshAnswer n before after v w (Fresh.Worn p) = (after ≡ before) × ((x : ℕ) × IsWornOut (numbers x n) x n p v w)
-  IsFreshAnswer n before after v w (Fresh.Full pages next need) = (after ≡ before) × IsFull n pages next need v w
+  -- what a claim of n pages from the next one on answers, with these frames before and after
+  abbrev pub IsNextAnswer : ℕ → List ℕ → List ℕ → View X → View X → Fresh → Type 0
+  IsNextAnswer n before after v w (Fresh.Pages group) = (x : ℕ) × AreFresh (numbers x n) x n (guards_of group) before after v w
+  IsNextAnswer n before after v w (Fresh.Again saw) = (after ≡ before) × ((x : ℕ) × IsToTry (numbers x n) x n saw v w)
+  IsNextAnswer n before after v w (Fresh.Worn p) = (after ≡ before) × ((x : ℕ) × IsWornOut (numbers x n) x n p v w)
+  IsNextAnswer n before after v w (Fresh.Full pages next need) = (after ≡ before) × IsFull n pages next need v w
 
 -- pages were given
 abbrev pub IsPages : Fresh → Type 0

@@ -1,8 +1,10 @@
 -- Groups of guards: pages whose drafts become their last words at one point, the first release of the group.
-use Rattle.std.specs.Prelude.{[], ◌++◌, ◌+◌, ◌<◌, ◌∷◌, ◌≡◌, ◌≤◌, ◌⊎◌, false, IsSome, List, None, Option, true, ℕ}
+use Rattle.std.specs.Prelude.{[], ◌&&◌, ◌++◌, ◌+◌, ◌<◌, ◌∷◌, ◌≡◌, ◌≤◌, ◌⊎◌, false, if◌then◌else◌, IsSome, List, None, Option, true, ℕ}
 use Rattle.vm_core.specs.Prelude.{MAX_VERSION, version_of}
 use Rattle.vm_rule.specs.Prelude.{AreApart, AreUnchanged, began_of, Change, changes_of, did_store, draft_of, Each, entries_of, Entry, has, held_at}
 use Rattle.vm_rule.specs.Prelude.{IsLocking, Kept, last_of, loads_at, next_after, ReleaseTold, seat_of, Start, without_all}
+use Rattle.vm_page.specs.Pages.{all_zero}
+use Rattle.vm_rule.specs.Releases.{freed_by}
 use Rattle.vm_rule.specs.declared.view.Place.{Place}
 use Rattle.vm_step.specs.Prelude.{Did, HoldsPage, IsAlone, IsClaimed, IsKeptNow, IsNotOut, IsToldOf, KnowsAsBefore, ReadsAsBefore, Release, View}
 use Rattle.vm_guard.specs.{declared.exclusive.ExclusiveGuard.ExclusiveGuard, declared.group.Group.Group, Guards.IsHolding, Quiet.IsSteady}
@@ -96,6 +98,10 @@ module _ {X : Type 0} where
     pub mine : w.mine ≡ v.mine ++ entries_of v said
     pub entry : (others more : List (Entry X)) × (w.seen ≡ ((v.seen ++ others) ++ entries_of v said) ++ more)
     pub group : (w.pending ≡ v.pending) × (w.owed ≡ without_all (pids_of (first ∷ rest)) v.owed) × (w.next ≡ next_after_all (pids_of (first ∷ rest)) v.next)
+    -- The pass holds the numbers that it held, but those of these pages whose words are not all 0; where the blocks do not tell their words, of none of these
+    -- pages. It has still to give those of the pages that the group frees: their words were not all 0, and are now.
+    pub numbers : (q : ℕ) → has q w.numbers ≡ (if has q (pids_of (first ∷ rest)) then (v.start.tells && all_zero (draft_of v q)) && has q v.numbers else has q v.numbers)
+    pub freed : w.freed ≡ freed_by v (pids_of (first ∷ rest)) ++ v.freed
     pub seats : (q : ℕ) → has q (pids_of (first ∷ rest)) ≡ true → seat_of w q ≡ record (seat_of v q) { exclusive = false }
     pub loads : (q : ℕ) → loads_at w q ≡ loads_at v q
     pub current : w.current ≡ true

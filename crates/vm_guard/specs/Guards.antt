@@ -6,8 +6,9 @@ use Rattle.vm_core.specs.Prelude.{unshared, version_of, word_of}
 use Rattle.vm_rule.specs.Prelude.{did_change, did_exchange, did_load, did_store, dirty_in, draft_of, Each, entries_of, frame_read_by, has, IsLocking, IsUnheld}
 use Rattle.vm_rule.specs.Prelude.{IsWhole, last_of, loads_at, LockValidates, LookTold, Mapping, next_after, no_held, Open, put_at, seat_of, Start}
 use Rattle.vm_rule.specs.Prelude.{ties_below, without}
+use Rattle.vm_rule.specs.Releases.{freed_by, numbers_left}
 use Rattle.vm_rule.specs.declared.view.Place.{Place}
-use Rattle.vm_step.specs.Prelude.{Did, HasWritten, HoldsPage, IsAlone, KnowsAsBefore, KnowsSame, ReadsAsBefore, Release, StaysAlone, View}
+use Rattle.vm_step.specs.Prelude.{Did, HasWritten, HoldsPage, IsAlone, KeepsNumbers, KnowsAsBefore, KnowsSame, ReadsAsBefore, Release, StaysAlone, View}
 use Rattle.vm_guard.specs.LockSteps.{LocksBy, SharesAt, SharesBy}
 use Rattle.vm_guard.specs.Quiet.{IsQuiet, IsSteady, LeavesNone}
 use Rattle.vm_guard.specs.{Sure.IsKnownFree, Sure.known_word, Sure.KnowsBut, Sure.KnowsStates, Sure.unmarked_word, Takes.HasRoom}
@@ -100,6 +101,7 @@ module _ {X : Type 0} where
     pub mine : w.mine ≡ v.mine ++ entries_of v said
     pub entry : (others : List _) × (w.seen ≡ (v.seen ++ others) ++ entries_of v said)
     pub group : (w.pending ≡ v.pending) × (w.owed ≡ v.owed) × (w.next ≡ v.next)
+    pub numbers : KeepsNumbers v w
     pub holds : (q : ℕ) → HoldsPage v w q
     pub knows : (q : ℕ) → IsLocking (seat_of v q) → KnowsAsBefore v w q
     pub reads : IsReading p word frame w
@@ -141,6 +143,7 @@ module _ {X : Type 0} where
     pub elsewhere : IsElsewhere p done [] v w
     pub mine : w.mine ≡ v.mine
     pub group : (w.pending ≡ v.pending) × (w.owed ≡ v.owed) × (w.next ≡ v.next)
+    pub numbers : KeepsNumbers v w
     pub alone : StaysAlone v w
     -- the pass had no lock of the page, and has this one; its read of the page is closed
     pub before : IsUnheld v p
@@ -164,6 +167,7 @@ module _ {X : Type 0} where
     pub elsewhere : IsElsewhere p done [] v w
     pub mine : w.mine ≡ v.mine
     pub group : (w.pending ≡ v.pending) × (w.owed ≡ v.owed) × (w.next ≡ v.next)
+    pub numbers : KeepsNumbers v w
     pub alone : StaysAlone v w
     pub holds : HoldsPage v w p
     pub reads : ReadsAsBefore v w p
@@ -179,6 +183,7 @@ module _ {X : Type 0} where
     pub elsewhere : IsElsewhere p done [] v w
     pub mine : w.mine ≡ v.mine
     pub group : (w.pending ≡ v.pending) × (w.owed ≡ v.owed) × (w.next ≡ v.next)
+    pub numbers : KeepsNumbers v w
     pub alone : StaysAlone v w
     pub holds : HoldsPage v w p
     pub reads : ReadsAsBefore v w p
@@ -194,6 +199,8 @@ module _ {X : Type 0} where
     pub mine : w.mine ≡ v.mine ++ entries_of v said
     pub entry : (others : List _) × (w.seen ≡ (v.seen ++ others) ++ entries_of v said)
     pub group : (w.pending ≡ v.pending) × (w.owed ≡ without p v.owed) × (w.next ≡ next_after p v.next)
+    -- the pass holds the page's number no more, where its words are not all 0; where they were and are now, it has its number still to give
+    pub numbers : (w.numbers ≡ numbers_left p v) × (w.freed ≡ freed_by v (p ∷ []) ++ v.freed)
     pub seat : seat_of w p ≡ record (seat_of v p) { exclusive = false }
     pub loads : loads_at w p ≡ loads_at v p
     pub last : last_of w p ≡ record { version = version + 1; words = draft_of v p }
@@ -223,6 +230,7 @@ module _ {X : Type 0} where
     pub elsewhere : IsElsewhere p done [] v w
     pub mine : w.mine ≡ v.mine
     pub group : (w.pending ≡ v.pending) × (w.owed ≡ v.owed) × (w.next ≡ v.next)
+    pub numbers : KeepsNumbers v w
     pub alone : StaysAlone v w
     pub seat : seat_of w p ≡ record (seat_of v p) { shares = (seat_of v p).shares + 1; reading = None }
     pub knows : IsLocking (seat_of v p) → KnowsAsBefore v w p
@@ -250,6 +258,7 @@ module _ {X : Type 0} where
     pub mine : w.mine ≡ v.mine ++ entries_of v said
     pub entry : (others : List _) × (w.seen ≡ (v.seen ++ others) ++ entries_of v said)
     pub group : (w.pending ≡ v.pending) × (w.owed ≡ v.owed) × (w.next ≡ v.next)
+    pub numbers : KeepsNumbers v w
     pub alone : StaysAlone v w
     pub seat : seat_of w p ≡ record (seat_of v p) { shares = (seat_of v p).shares + 1; reading = None }
     pub knows : IsLocking (seat_of v p) → KnowsAsBefore v w p
@@ -271,6 +280,7 @@ module _ {X : Type 0} where
     pub elsewhere : IsElsewhere p done [] v w
     pub mine : w.mine ≡ v.mine
     pub group : (w.pending ≡ v.pending) × (w.owed ≡ v.owed) × (w.next ≡ v.next)
+    pub numbers : KeepsNumbers v w
     pub alone : StaysAlone v w
     pub seat : seat_of w p ≡ unshared (seat_of v p)
     pub loads : loads_at w p ≡ loads_at v p

@@ -1,4 +1,5 @@
 pub mod Quiet
+pub mod Spares
 pub mod PageWords
 pub mod LockSteps
 pub mod Guards
@@ -10,5 +11,7 @@ pub mod Groups
 pub mod FreshPlaces
 pub mod FreshWords
 pub mod Fresh
+pub mod Reused
+pub mod Given
 pub mod Downgrades
 pub mod Pairs

@@ -4,7 +4,7 @@ use Rattle.std.specs.Prelude.{[], ◌++◌, ◌≡◌, ◌≢◌, ◌⊎◌, Lis
 use Rattle.vm_core.specs.Prelude.{MARKED, state_of, UNLOCKED, version_of, word_of}
 use Rattle.vm_rule.specs.Prelude.{Each, IsLocking, seat_of, StartsWith}
 use Rattle.vm_rule.specs.declared.view.Place.{Place}
-use Rattle.vm_step.specs.Prelude.{Did, HoldsPage, KnowsAsBefore, ReadsAsBefore, Release, RunsAlone, StaysAlone, Tie, View}
+use Rattle.vm_step.specs.Prelude.{Did, HoldsPage, KeepsNumbers, KnowsAsBefore, ReadsAsBefore, Release, RunsAlone, StaysAlone, Tie, View}
 
 -- the steps leave no word
 abbrev pub LeavesNone : List Did → Type 0
@@ -44,6 +44,7 @@ module _ {X : Type 0} where
     pub steady : IsSteady done [] v w
     pub mine : w.mine ≡ v.mine
     pub group : (w.pending ≡ v.pending) × (w.owed ≡ v.owed) × (w.next ≡ v.next)
+    pub numbers : KeepsNumbers v w
     pub holds : (q : ℕ) → HoldsPage v w q
     pub knows : (q : ℕ) → IsLocking (seat_of v q) → KnowsAsBefore v w q
     pub others : (q : ℕ) → q ≢ p → ReadsAsBefore v w q

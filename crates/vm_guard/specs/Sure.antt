@@ -1,10 +1,13 @@
 -- What a pass that is alone knows of a page, with which a call on the page is sure to succeed; and what it knows of the table afterwards.
-use Rattle.std.specs.Prelude.{[], ◌+◌, ◌<◌, ◌==◌, ◌∷◌, ◌≡◌, ◌≢◌, ◌≤◌, ◌⊎◌, if◌then◌else◌, List, slice_set, ℕ}
-use Rattle.vm_core.specs.Prelude.{EVICTED, LOCKED, MARKED, MAX_VERSION, state_of, UNLOCKED, version_of, word_of}
-use Rattle.vm_rule.specs.Prelude.{index_of}
+use Rattle.std.specs.Prelude.{[], false, ◌*◌, ◌+◌, ◌<◌, ◌==◌, ◌∷◌, ◌≡◌, ◌≢◌, ◌≤◌, ◌⊎◌, if◌then◌else◌, List, slice_set, true, ℕ}
+use Rattle.vm_core.specs.Words.{bit_count}
+use Rattle.vm_core.specs.Prelude.{AreLowest, EVICTED, in_mask, LOCKED, MARKED, MAX_VERSION, state_of, UNLOCKED, version_of, word_of}
+use Rattle.vm_page.specs.Pages.{all_zero}
+use Rattle.vm_rule.specs.Prelude.{index_of, IsLocking, last_of, seat_of}
 use Rattle.vm_rule.specs.declared.view.Place.{Place}
 use Rattle.vm_step.specs.Prelude.{IsAlone, known_word_at, LocksNone, Origin, View}
 pub use Rattle.vm_step.specs.Tables.{KnowsAt, KnowsSame}
+use Rattle.vm_guard.specs.Spares.{known_spare, KnowsFew}
 
 -- the page with this word is resident, and locked by nobody
 abbrev pub IsUnlockedWord : ℕ → Type 0
@@ -41,14 +44,40 @@ module _ {X : Type 0} where
   known_next v = known_word_at v Place.Next
 
   -- the pass knows that there are n pages from the next one on, and that each can be locked
-  pub record MayBeGiven (n : ℕ) (v : View X) : Type 0 where
+  pub record MayBeClaimed (n : ℕ) (v : View X) : Type 0 where
     pub room : known_next v + n ≤ v.start.pages
     pub each : (q : ℕ) → known_next v ≤ q → q < known_next v + n → MayBeSeized (known_word q v)
 
   -- the pass knows that there are n pages from the next one on, and that each is locked by nobody
-  pub record MayBeTried (n : ℕ) (v : View X) : Type 0 where
+  pub record MayTryClaim (n : ℕ) (v : View X) : Type 0 where
     pub room : known_next v + n ≤ v.start.pages
     pub each : (q : ℕ) → known_next v ≤ q → q < known_next v + n → LocksNone (known_word q v)
+
+  -- the pages of the mask over free-number word g have such words, as the pass knows the table
+  abbrev pub FreePagesHave : (ℕ → Type 0) → ℕ → ℕ → View X → Type 0
+  FreePagesHave P g mask v = (q : ℕ) → in_mask g mask q ≡ true → P (known_word q v)
+
+  -- the pass has page q locked, and its last words are not all 0, as its block tells; so the page's number is not free
+  abbrev pub HoldsUsed : View X → ℕ → Type 0
+  HoldsUsed v q = (v.start.tells ≡ true) × IsLocking (seat_of v q) × (all_zero (last_of v q).words ≡ false)
+
+  -- each page of the mask is locked by nobody, as the pass knows the table, or is one that it has locked itself, and whose number is not free
+  abbrev pub FreePagesTried : ℕ → ℕ → View X → Type 0
+  FreePagesTried g mask v = (q : ℕ) → q < v.start.pages → in_mask g mask q ≡ true → LocksNone (known_word q v) ⊎ HoldsUsed v q
+
+  -- this is so of the n lowest bits of the first free-number word with so many
+  abbrev pub FirstFreeHave : (ℕ → ℕ → Type 0) → ℕ → View X → Type 0
+  FirstFreeHave P n v = (g mask : ℕ) → g * 64 < v.start.pages → KnowsFew n g v → n ≤ bit_count (known_spare g v) → AreLowest (known_spare g v) n mask → P g mask
+
+  -- of the pages that a call for n fresh ones takes, the pass knows that each can be locked: those of the first free-number word with n bits, or else the next
+  pub record MayBeGiven (n : ℕ) (v : View X) : Type 0 where
+    pub free : FirstFreeHave (λ g mask. FreePagesHave MayBeSeized g mask v) n v
+    pub next : KnowsFew n v.start.pages v → MayBeClaimed n v
+
+  -- or that each is locked by nobody
+  pub record MayBeTried (n : ℕ) (v : View X) : Type 0 where
+    pub free : FirstFreeHave (λ g mask. FreePagesTried g mask v) n v
+    pub next : KnowsFew n v.start.pages v → MayTryClaim n v
 
   -- it knows them as they were, but for the word of page p, which is this one
   abbrev pub KnowsBut : ℕ → ℕ → View X → View X → Type 0

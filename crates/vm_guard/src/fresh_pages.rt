@@ -1,12 +1,13 @@
-// Pages that were never claimed: they are locked, given frames of zeros where they have none, and claimed for a group of the pass.
+// Pages that were never claimed: they are locked, given frames of zeros where they have none, and claimed for a group of the pass. Where the free-number words
+// have no page numbers they are what a call for fresh pages gives.
 ghost use Rattle.std.specs.Prelude.{◌+◌, ◌<◌, ◌≡◌, ◌≤◌, ◌⊎◌, IfErr, IfOk, IsOk, length, None, replicate, Some, true};
 ghost use Rattle.vm_core.specs.Prelude.{mapping_of};
 ghost use Rattle.vm_rule.specs.Prelude.{last_of};
 ghost use Rattle.vm_step.specs.Prelude.{AreHeld, IsAlone, IsReady, IsSamePass, LocksNone, MayStep, view};
 ghost use Rattle.vm_guard.specs.Denied.{AgainOrWorn, OnlyWorn, SameOrUnlocked};
-ghost use Rattle.vm_guard.specs.Fresh.{Furnishes, GivesBack, HasPagesFor, IsBegun, IsFreshAnswer, IsFull, IsFullAnswer, IsNotSeized, IsPages};
+ghost use Rattle.vm_guard.specs.Fresh.{Furnishes, GivesBack, HasPagesFor, IsBegun, IsFull, IsFullAnswer, IsNextAnswer, IsNotSeized, IsPages};
 ghost use Rattle.vm_guard.specs.Fresh.{IsPagesOrWorn, IsSeized, IsToSeize, Seizes};
-ghost use Rattle.vm_guard.specs.Sure.{known_next, known_word, MayBeGiven, MayBeSeized, MayBeTried};
+ghost use Rattle.vm_guard.specs.Sure.{known_next, known_word, MayBeClaimed, MayBeSeized, MayTryClaim};
 ghost use Rattle.vm_guard.specs.Takes.{SaysWhy};
 
 use crate::deny::Deny;
@@ -24,11 +25,11 @@ use vm_step::{
 };
 
 /// A page that was locked exclusively, resident or not: its version, and where it stands.
-struct Seized {
-    pid: u32,
-    version: u64,
-    stands: Option<Mapping>,
-    lock: Lock,
+pub(crate) struct Seized {
+    pub(crate) pid: u32,
+    pub(crate) version: u64,
+    pub(crate) stands: Option<Mapping>,
+    pub(crate) lock: Lock,
 }
 
 /// The translation that the word says.
@@ -63,7 +64,7 @@ pub(crate) fn expected(word: u64, pid: u32) -> Result<u64, Deny>
 }
 
 /// Locks the page exclusively, whether or not it is resident, and sees where it stands.
-fn seize<U: Owner, B: Block>(
+pub(crate) fn seize<U: Owner, B: Block>(
     words: &Words<U, B>,
     pass: &mut Pass<U>,
     pid: u32,
@@ -98,7 +99,7 @@ fn seize<U: Owner, B: Block>(
 }
 
 /// Gives the lock up, with the words that the page had: the page is resident or evicted as it was, at its next version.
-fn give_back<U: Owner, B: Block>(words: &Words<U, B>, pass: &mut Pass<U>, page: Seized)
+pub(crate) fn give_back<U: Owner, B: Block>(words: &Words<U, B>, pass: &mut Pass<U>, page: Seized)
     requires ready { IsReady words.now.table.shared.key B.tells words.now.table.shared.table_id pass.old }
     requires seized { IsSeized page.pid page.version page.stands (view pass.old) }
     requires home { (view pass.old).out ≡ None }
@@ -119,7 +120,7 @@ fn give_back<U: Owner, B: Block>(words: &Words<U, B>, pass: &mut Pass<U>, page: 
 }
 
 /// The page as a guard: in the frame in which it stands, or else in a frame of zeros, the last of these.
-fn furnish<U: Owner, B: Block>(
+pub(crate) fn furnish<U: Owner, B: Block>(
     words: &Words<U, B>,
     pass: &mut Pass<U>,
     page: Seized,
@@ -167,7 +168,7 @@ fn furnish<U: Owner, B: Block>(
 }
 
 /// The answer of a call that could not lock a page.
-fn denied(deny: Deny) -> Fresh
+pub(crate) fn denied(deny: Deny) -> Fresh
     requires { AgainOrWorn deny }
     ensures again { (saw : _) → deny ≡ Deny.Again saw → result ≡ Fresh.Again saw }
     ensures worn { (p : _) → deny ≡ Deny.Worn p → result ≡ Fresh.Worn p }
@@ -194,7 +195,7 @@ fn give_one<U: Owner, B: Block>(
     requires frames { AreHeld frames.old (view pass.old) × (1 ≤ length frames.old) }
     ensures pass { IsSamePass pass.old pass.new }
     ensures ready { IsReady words.now.table.shared.key B.tells words.now.table.shared.table_id pass.new }
-    ensures answer { (v : _) → IsBegun one.pid one.version one.stands v (view pass.old) → IsFreshAnswer 1 frames.old frames.new v (view pass.new) result }
+    ensures answer { (v : _) → IsBegun one.pid one.version one.stands v (view pass.old) → IsNextAnswer 1 frames.old frames.new v (view pass.new) result }
     ensures sure { IsAlone (view pass.old) → known_next (view pass.old) ≡ one.pid → IsPages result }
 {
     let x = one.pid;
@@ -226,7 +227,7 @@ fn give_two<U: Owner, B: Block>(
     requires frames { AreHeld frames.old (view pass.old) × (2 ≤ length frames.old) }
     ensures pass { IsSamePass pass.old pass.new }
     ensures ready { IsReady words.now.table.shared.key B.tells words.now.table.shared.table_id pass.new }
-    ensures answer { (v : _) → IsBegun one.pid one.version one.stands v (view pass.old) → IsFreshAnswer 2 frames.old frames.new v (view pass.new) result }
+    ensures answer { (v : _) → IsBegun one.pid one.version one.stands v (view pass.old) → IsNextAnswer 2 frames.old frames.new v (view pass.new) result }
     ensures sure { IsAlone (view pass.old) → known_next (view pass.old) ≡ one.pid → MayBeSeized (known_word (one.pid + 1) (view pass.old)) → IsPages result }
     ensures settled { IsAlone (view pass.old) → known_next (view pass.old) ≡ one.pid → LocksNone (known_word (one.pid + 1) (view pass.old))
         → IsPagesOrWorn result }
@@ -257,7 +258,7 @@ fn give_two<U: Owner, B: Block>(
 
 /// Whether `n` pages are left from the next one on, as one load of the next word shows: then that page, which the load found. It locks and
 /// claims nothing, so other passes may have claimed it by then; but where too few pages are left there will never be more.
-pub fn room_for<U: Owner, B: Block>(
+pub(crate) fn next_room<U: Owner, B: Block>(
     words: &Words<U, B>,
     pass: &mut Pass<U>,
     n: u32,
@@ -284,7 +285,7 @@ pub fn room_for<U: Owner, B: Block>(
 /// Claims `n` pages (1 or 2) from the next one on for a group of the pass, each with words of zeros. A page that is not resident takes the
 /// last frame of `frames`, of which there are at least `n`, without a read of its block. On every other answer nothing is claimed, no lock
 /// is kept, and the frames are as they were. A pass that is alone and knows that each of these pages can be locked is given them.
-pub fn fresh<U: Owner, B: Block>(
+pub(crate) fn next_pages<U: Owner, B: Block>(
     words: &Words<U, B>,
     pass: &mut Pass<U>,
     frames: &mut Batch,
@@ -296,12 +297,12 @@ pub fn fresh<U: Owner, B: Block>(
     requires frames { AreHeld frames.old (view pass.old) × (n ≤ length frames.old) }
     ensures pass { IsSamePass pass.old pass.new }
     ensures ready { IsReady words.now.table.shared.key B.tells words.now.table.shared.table_id pass.new }
-    ensures answer { IsFreshAnswer n frames.old frames.new (view pass.old) (view pass.new) result }
-    ensures sure { IsAlone (view pass.old) → MayBeGiven n (view pass.old) → IsPages result }
-    ensures settled { IsAlone (view pass.old) → MayBeTried n (view pass.old) → IsPagesOrWorn result }
+    ensures answer { IsNextAnswer n frames.old frames.new (view pass.old) (view pass.new) result }
+    ensures sure { IsAlone (view pass.old) → MayBeClaimed n (view pass.old) → IsPages result }
+    ensures settled { IsAlone (view pass.old) → MayTryClaim n (view pass.old) → IsPagesOrWorn result }
     ensures full { IsAlone (view pass.old) → words.now.table.shared.key.pages < known_next (view pass.old) + n → IsFullAnswer result }
 {
-    let next = match room_for(words, pass, n) {
+    let next = match next_room(words, pass, n) {
         Ok(next) => next,
         Err(NoRoom { pages, next, need }) => return Fresh::Full { pages, next, need },
     };

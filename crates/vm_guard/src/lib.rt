@@ -3,6 +3,7 @@
 
 mod deny;
 mod exclusive;
+mod free_pages;
 mod fresh_pages;
 mod given;
 mod group;
@@ -15,7 +16,7 @@ mod standing;
 
 pub use deny::Deny;
 pub use exclusive::ExclusiveGuard;
-pub use fresh_pages::{fresh, room_for};
+pub use free_pages::{fresh, room_for};
 pub use given::{Fresh, NoRoom};
 pub use group::{Group, release_group};
 pub use held::say_of_two;

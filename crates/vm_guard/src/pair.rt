@@ -1,10 +1,10 @@
 // Two fresh pages that are written and released together: the least that a caller of fresh pages and groups does. It stands on their
 // contracts alone.
-ghost use Rattle.std.specs.Prelude.{◌+◌, ◌≡◌, ◌≤◌, IfSome, length, None, true};
+ghost use Rattle.std.specs.Prelude.{◌≡◌, ◌≤◌, IfSome, length, None, true};
 ghost use Rattle.vm_step.specs.Prelude.{AreHeld, IsAlone, IsReady, IsSamePass, view};
 ghost use Rattle.vm_guard.specs.Pairs.{HasFirst};
 
-use crate::fresh_pages::fresh;
+use crate::free_pages::fresh;
 use crate::given::Fresh;
 use crate::group::{Group, release_group};
 use vm_block::Block;
@@ -12,20 +12,20 @@ use vm_owner::Bare;
 use vm_rule::words::{Pass, Words};
 use vm_step::Batch;
 
-/// The first of two fresh pages, whose first words are `a` and `b`, all else zeros; or `None` where there are none, or others came before.
+/// Two fresh pages, whose first words are `a` and `b`, all else zeros; or `None` where there are none, or others came before.
 pub fn write_two<B: Block>(
     words: &Words<Bare, B>,
     pass: &mut Pass<Bare>,
     frames: &mut Batch,
     a: u64,
     b: u64,
-) -> Option<u32>
+) -> Option<(u32, u32)>
     requires ready { IsReady words.now.table.shared.key B.tells words.now.table.shared.table_id pass.old }
     requires home { (view pass.old).out ≡ None }
     requires frames { AreHeld frames.old (view pass.old) × (2 ≤ length frames.old) }
     ensures pass { IsSamePass pass.old pass.new }
     ensures ready { IsReady words.now.table.shared.key B.tells words.now.table.shared.table_id pass.new }
-    ensures written { IfSome result (λ x. B.tells ≡ true → IsAlone (view pass.old) → HasFirst x a (view pass.new) × HasFirst (x + 1) b (view pass.new)) }
+    ensures written { IfSome result (λ p. B.tells ≡ true → IsAlone (view pass.old) → HasFirst p.0 a (view pass.new) × HasFirst p.1 b (view pass.new)) }
 {
     match fresh(words, pass, frames, 2) {
         Fresh::Pages(given) => {
@@ -39,9 +39,9 @@ pub fn write_two<B: Block>(
             group.end();
             first.set(words, pass, 0, a);
             second.set(words, pass, 0, b);
-            let x = first.pid;
+            let pages = (first.pid, second.pid);
             release_group(words, pass, Group::Two(first, second), None);
-            Some(x)
+            Some(pages)
         }
         Fresh::Again(_saw) => None,
         Fresh::Worn(_pid) => None,

@@ -1,2 +1,3 @@
 mod Beginnings
 mod Released
+mod Rounds

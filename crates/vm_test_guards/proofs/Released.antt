@@ -1,34 +1,29 @@
 -- What the steps of the tests need: frames of an allocation, pages that are fresh and may be released, and pages that are held on.
-use Rattle.std.proofs.Common.{[], ⊎_elim, ◌++◌, ◌<◌, ◌||◌, ◌∙◌, ◌∷◌, ◌≡◌, ◌≢◌, ◌⊎◌, ap, arith, Bool, eqb, false, inl, inr, length, List, None, refl}
+use Rattle.std.proofs.Common.{[], ⊎_elim, ◌++◌, ◌<◌, ◌∙◌, ◌∷◌, ◌≡◌, ◌≢◌, ◌⊎◌, ap, arith, Bool, eqb, false, inl, inr, length, List, None, refl}
 use Rattle.std.proofs.Common.{subst, sym, true, ℕ}
 use Rattle.std.proofs.lemmas.Bool.{eq-eqb, or_left, or_right}
 use Rattle.std.proofs.lemmas.Option.{none-some}
 use Rattle.vm_core.specs.Prelude.{Version}
-use Rattle.vm_rule.specs.Prelude.{AreApart, began_of, Change, changes_of, Each, Entry, has, Kept, numbers, Start, view_from}
+use Rattle.vm_page.specs.Pages.{all_zero}
+use Rattle.vm_rule.specs.Prelude.{AreApart, began_of, Change, changes_of, Each, Entry, has, Kept, last_of, numbers, Start, view_from}
 use Rattle.vm_rule.specs.{Begun.begun, declared.view.Held.Held}
-use Rattle.vm_rule.proofs.Facts.{has-both}
 use Rattle.vm_step.specs.Prelude.{AreHeld, Did, IsClaimed, IsNotOut, Origin, Snapshot, View}
 use Rattle.vm_step.proofs.{HeldFrames.held-on, Together.numbers-length}
 use Rattle.vm_exmap.proofs.Handing.{apart-left, each-left}
-use Rattle.vm_guard.specs.{declared.exclusive.ExclusiveGuard.ExclusiveGuard, Fresh.AreFresh, Guards.IsElsewhere, Guards.IsHolding}
+use Rattle.vm_guard.specs.{declared.exclusive.ExclusiveGuard.ExclusiveGuard, Given.AreFreshPages, Guards.IsElsewhere, Guards.IsHolding, Quiet.IsQuiet}
 use Rattle.vm_guard.specs.Groups.{IsGroupReleased, MayReleaseAll, pids_of}
-use Rattle.vm_guard.proofs.FreshNumbers.{apart-first, numbers-one, numbers-two}
+use Rattle.vm_guard.specs.declared.given.Fresh.TheVariants as freshes
+use Rattle.vm_guard.specs.Reused.{IsFreshAnswer}
+use Rattle.vm_guard.proofs.Searching.{looks-none}
+use Rattle.vm_step.proofs.steps.Next.{nload-others}
+use Rattle.vm_guard.proofs.InUse.{claims-used}
 
 -- the guards of one page, or of two, are some
-pub fresh-some : (x n : ℕ) (gs : List ExclusiveGuard) → pids_of gs ≡ numbers x n → (n ≡ 1) ⊎ (n ≡ 2) → gs ≢ []
-fresh-some x n gs pages few none =
-    absurd (let long : length (numbers x n) ≡ n = numbers-length x n in
-    let same : length (pids_of gs) ≡ length (numbers x n) = ap length pages in
+pub fresh-some : (n : ℕ) (pages : List ℕ) (gs : List ExclusiveGuard) → pids_of gs ≡ pages → length pages ≡ n → (n ≡ 1) ⊎ (n ≡ 2) → gs ≢ []
+fresh-some n pages gs are count few none =
+    absurd (let same : length (pids_of gs) ≡ length pages = ap length are in
     let zero : length (pids_of gs) ≡ 0 = ap (λ (l : List ExclusiveGuard). length (pids_of l)) none in
-    omega (arith, long, same, zero, few))
-
--- one page, or two that follow each other, are apart
-numbers-apart : (x n : ℕ) → (n ≡ 1) ⊎ (n ≡ 2) → AreApart (numbers x n)
-numbers-apart x n few =
-    ⊎_elim
-    (λ (one : n ≡ 1). subst (λ k. AreApart (numbers x k)) (sym one) (subst AreApart (sym (numbers-one x)) (refl, tt)))
-    (λ (two : n ≡ 2). subst (λ k. AreApart (numbers x k)) (sym two) (subst AreApart (sym (numbers-two x)) (apart-first x, (refl, tt))))
-    few
+    omega (arith, count, same, zero, few))
 
 each-guard : (P : ExclusiveGuard → Type 0) (gs : List ExclusiveGuard) → ((g : ExclusiveGuard) → P g) → Each P gs
 each-guard P [] h = tt
@@ -43,23 +38,22 @@ module _ {X : Type 0} where
     held = each-left (λ f. has f v.frames ≡ true) l m h.held;
   }
 
-  -- a page that is owed was claimed
-  each-owed : (w : View X) (gs : List ExclusiveGuard) → ((q : ℕ) → has q (pids_of gs) ≡ true → has q w.owed ≡ true) → Each (λ (g : ExclusiveGuard). IsClaimed w g.pid) gs
-  each-owed w [] owed = tt
-  each-owed w (g ∷ gs) owed = (
-    inr (inr (inr (owed g.pid (or_left (eqb g.pid g.pid) (has g.pid (pids_of gs)) (eq-eqb g.pid g.pid refl))))),
-    each-owed w gs (λ q e. owed q (or_right (eqb q g.pid) (has q (pids_of gs)) e)),
+  -- a page that is owed, or whose number the pass holds, is the pass's to use
+  each-usable : (w : View X) (gs : List ExclusiveGuard) → ((q : ℕ) → has q (pids_of gs) ≡ true → (has q w.owed ≡ true) ⊎ (has q w.numbers ≡ true)) → Each (λ (g : ExclusiveGuard). IsClaimed w g.pid) gs
+  each-usable w [] usable = tt
+  each-usable w (g ∷ gs) usable = (
+    inr (inr (usable g.pid (or_left (eqb g.pid g.pid) (has g.pid (pids_of gs)) (eq-eqb g.pid g.pid refl)))),
+    each-usable w gs (λ q e. usable q (or_right (eqb q g.pid) (has q (pids_of gs)) e)),
   )
 
   -- fresh pages may be released together, as they are
-  pub may-release : (may_release : Start → List ℕ → List Change → List (Entry X) → Type 0) (x n : ℕ) (gs : List ExclusiveGuard) (before after : List ℕ) (v w : View X) → AreFresh (numbers x n) x n gs before after v w → (n ≡ 1) ⊎ (n ≡ 2) → v.out ≡ None
+  pub may-release : (may_release : Start → List ℕ → List Change → List (Entry X) → Type 0) (n : ℕ) (pages : List ℕ) (gs : List ExclusiveGuard) (before after : List ℕ) (v w : View X) → AreFreshPages n pages gs before after v w → v.out ≡ None
       → may_release (began_of w.start) w.owed (changes_of w (pids_of gs)) [] → MayReleaseAll may_release gs None w
-  may-release may_release x n gs before after v w f few none owner = record {
+  may-release may_release n pages gs before after v w f none owner = record {
     held = f.held;
-    apart = subst AreApart (sym f.guards) (numbers-apart x n few);
+    apart = subst AreApart (sym f.guards) f.apart;
     home = each-guard (λ (g : ExclusiveGuard). IsNotOut w g.pid) gs (λ g o e. absurd (none-some o (sym (f.amid.out ∙ none) ∙ e)));
-    claimed = λ t. each-owed w gs
-        (λ q e. ap (has q) f.owed ∙ has-both q (numbers x n) v.owed ∙ ap (λ k. k || has q v.owed) (ap (has q) (sym f.guards) ∙ e));
+    claimed = λ t. each-usable w gs (λ q e. f.usable (ap (λ (o : Origin). o.tells) (sym f.amid.start) ∙ t) q (subst (λ (l : List ℕ). has q l ≡ true) f.guards e));
     owner = λ t. inr owner;
   }
 
@@ -88,20 +82,38 @@ module _ {X : Type 0} where
         free = ap (has p) pending ∙ h.free;
       }
 
-  -- three pages that are held and were claimed may be released together
-  pub may-three : (may_release : Start → List ℕ → List Change → List (Entry X) → Type 0) (a b c : ExclusiveGuard) (v : View X) → (a.pid ≡ 2) × (b.pid ≡ 0) × (c.pid ≡ 1) → v.start.next ≡ 3
+  -- a call that leaves all but the open read of a page leaves the others
+  pub quiet-elsewhere : (p : ℕ) (done : List Did) (v w : View X) → IsQuiet p done v w → IsElsewhere p done [] v w
+  quiet-elsewhere p done v w q = record { steady = q.steady; holds = λ k ne. q.holds k; knows = λ k ne lock. q.knows k lock; others = q.others }
+
+  -- a call for fresh pages that finds too few leaves the pass its frames, and its block at home
+  pub full-leaves : (n pages next need : ℕ) (before after : List ℕ) (v w : View X) → IsFreshAnswer n before after v w (freshes.Full pages next need) → (w.out ≡ v.out) × (AreHeld before v → AreHeld after w)
+  full-leaves n pages next need before after v w answer =
+      ⊎_elim
+      (λ few.
+      let look = looks-none n v few.0 few.1 in
+      let load = nload-others few.2.1.loaded (λ _. ⊥) in (
+        load.out ∙ look.others.out,
+        λ h. held-on after v w (subst (λ (l : List ℕ). AreHeld l v) (sym few.2.0) h) (load.start ∙ look.others.start) (load.keeps.frames ∙ look.others.keeps.frames),
+      ))
+      (λ some. ⊎_elim (λ lost. absurd (let no : freshes.Full pages next need ≡ freshes.Again lost.0 = lost.1 in cc)) (λ none. absurd none) some.4.2)
+      answer
+
+  -- three pages that are held and in use may be released together
+  pub may-three : (may_release : Start → List ℕ → List Change → List (Entry X) → Type 0) (a b c : ExclusiveGuard) (v : View X) → (a.pid ≡ 2) × (b.pid ≡ 0) × (c.pid ≡ 1)
+      → (v.start.tells ≡ true → (all_zero (last_of v 2).words ≡ false) × (all_zero (last_of v 0).words ≡ false) × (all_zero (last_of v 1).words ≡ false))
       → IsHolding a.pid a.frame a.version a.dirty v → IsHolding b.pid b.frame b.version b.dirty v → IsHolding c.pid c.frame c.version c.dirty v → v.out ≡ None
       → may_release (began_of v.start) v.owed (changes_of v (pids_of (a ∷ b ∷ c ∷ []))) [] → MayReleaseAll may_release (a ∷ b ∷ c ∷ []) None v
-  may-three may_release a b c v is next ha hb hc none owner =
+  may-three may_release a b c v is used ha hb hc none owner =
       let pids : pids_of (a ∷ b ∷ c ∷ []) ≡ 2 ∷ 0 ∷ 1 ∷ [] = (λ i. is.0 i ∷ is.1 i ∷ is.2 i ∷ []) in
-      let below-a : a.pid < v.start.next = (let p = is.0 in omega (arith, p, next)) in
-      let below-b : b.pid < v.start.next = (let p = is.1 in omega (arith, p, next)) in
-      let below-c : c.pid < v.start.next = (let p = is.2 in omega (arith, p, next)) in
       record {
         held = (ha, (hb, (hc, tt)));
         apart = subst AreApart (sym pids) (refl, (refl, (refl, tt)));
         home = each-guard (λ (g : ExclusiveGuard). IsNotOut v g.pid) (a ∷ b ∷ c ∷ []) (λ g o e. absurd (none-some o (sym none ∙ e)));
-        claimed = λ t. (inr (inr (inl (inl below-a))), (inr (inr (inl (inl below-b))), (inr (inr (inl (inl below-c))), tt)));
+        claimed = λ t.
+            let u = used t in
+            let claims = λ (n : ℕ) (words : all_zero (last_of v n).words ≡ false). claims-used v n words in
+            (subst (IsClaimed v) (sym is.0) (claims 2 u.0), (subst (IsClaimed v) (sym is.1) (claims 0 u.1), (subst (IsClaimed v) (sym is.2) (claims 1 u.2), tt)));
         owner = λ t. inr owner;
       }
 

@@ -121,7 +121,7 @@ fn is_full<B: Block>(
 #[test]
 fn pages_are_given_until_none_is_left(rt: HostRuntime) -> Result<(), Fail> {
     let blocks = zeros::<WORDS>(rt.alloc(), 4)?;
-    let (pool, mut pass, _other) = two_passes(rt.alloc(), 64, 1, blocks)?;
+    let (pool, mut pass, _other) = two_passes(rt.alloc(), 64, 1, blocks, &[])?;
     let words = pool.words();
     let mut frames = free_frames(&rt, words, &mut pass, 8);
     let one = claimed(&rt, words, &mut pass, &mut frames, 1);
@@ -139,7 +139,7 @@ fn pages_are_given_until_none_is_left(rt: HostRuntime) -> Result<(), Fail> {
 #[test]
 fn two_passes_claim_no_page_twice(rt: HostRuntime) -> Result<(), Fail> {
     let blocks = zeros::<WORDS>(rt.alloc(), 7)?;
-    let (pool, mut pass, mut other) = two_passes(rt.alloc(), 64, 1, blocks)?;
+    let (pool, mut pass, mut other) = two_passes(rt.alloc(), 64, 1, blocks, &[])?;
     let words = pool.words();
     let mut frames = free_frames(&rt, words, &mut pass, 8);
     let mut others = free_frames(&rt, words, &mut other, 8);
@@ -163,14 +163,14 @@ fn two_passes_claim_no_page_twice(rt: HostRuntime) -> Result<(), Fail> {
 #[test]
 fn a_group_is_read_back(rt: HostRuntime) -> Result<(), Fail> {
     let blocks = zeros::<WORDS>(rt.alloc(), 4)?;
-    let (pool, mut pass, _other) = two_passes(rt.alloc(), 64, 2, blocks)?;
+    let (pool, mut pass, _other) = two_passes(rt.alloc(), 64, 2, blocks, &[])?;
     let words = pool.words();
     let mut frames = free_frames(&rt, words, &mut pass, 8);
     if frames.len() < 2 {
         panic!(rt; "there are frames");
     }
-    let first = write_two(words, &mut pass, &mut frames, 11, 12);
-    assert_eq!(rt; first, Some(2));
+    let pages = write_two(words, &mut pass, &mut frames, 11, 12);
+    assert_eq!(rt; pages, Some((2, 3)));
     let low = read_word(words, &mut pass, 2, 0);
     assert_eq!(rt; low, Some(11));
     let high = read_word(words, &mut pass, 3, 0);

@@ -1,10 +1,11 @@
 //! Groups of three pages, small and large ones, which a second pass reads before and after their release. The values are worked out by hand from the rules.
-ghost use Rattle.std.specs.Prelude.{◌<◌, ◌≡◌, ◌≢◌, Bool, None, ℕ};
-ghost use Rattle.vm_page.specs.Sizes.{IsSize};
+ghost use Rattle.std.specs.Prelude.{◌<◌, ◌≡◌, ◌≢◌, Bool, false, None, true, ℕ};
+ghost use Rattle.vm_page.specs.{Pages.all_zero, Sizes.IsSize};
+ghost use Rattle.vm_rule.specs.Prelude.{last_of};
 ghost use Rattle.vm_step.specs.Prelude.{IsReady, view};
 ghost use Rattle.vm_guard.specs.Guards.{IsHolding};
 
-use crate::table::{two_passes, zeros};
+use crate::table::{two_passes, used_pages};
 use std::alloc::Global;
 use std::process::Abort;
 use std::test::Fail;
@@ -52,7 +53,7 @@ fn words_at<B: Block>(
     )
 }
 
-/// The page, with this word `i`. The other pages that the pass holds it holds on.
+/// The page, which is in use, with this word `i`. The other pages that the pass holds it holds on.
 fn written<B: Block>(
     rt: &impl Abort,
     words: &Words<Bare, B>,
@@ -64,21 +65,26 @@ fn written<B: Block>(
     requires ready { IsReady words.now.table.shared.key B.tells words.now.table.shared.table_id pass.old }
     requires home { (view pass.old).out ≡ None }
     requires page { pid < words.now.table.shared.key.pages }
-    requires place { i < words.now.table.shared.key.size }
+    requires place { (i < words.now.table.shared.key.size) × (1 < words.now.table.shared.key.size) }
     ensures ready { IsReady words.now.table.shared.key B.tells words.now.table.shared.table_id pass.new }
     ensures home { (view pass.new).out ≡ None }
     ensures page { result.pid ≡ pid }
     ensures holds { IsHolding result.pid result.frame result.version result.dirty (view pass.new) }
-    ensures others { (q f v : ℕ) (d : Bool) → q ≢ pid → IsHolding q f v d (view pass.old) → IsHolding q f v d (view pass.new) }
+    ensures used { B.tells ≡ true → all_zero (last_of (view pass.new) pid).words ≡ false }
+    ensures others { (q f v : ℕ) (d : Bool) → q ≢ pid → IsHolding q f v d (view pass.old)
+        → IsHolding q f v d (view pass.new) × (last_of (view pass.new) q ≡ last_of (view pass.old) q) }
 {
     let Ok(mut guard) = ExclusiveGuard::take(words, pass, pid) else {
         panic!(rt; "the page is free");
     };
+    if guard.read(words, pass, 1) == 0 {
+        panic!(rt; "the page is in use");
+    }
     guard.set(words, pass, i, word);
     guard
 }
 
-/// Releases the pages 2, 0 and 1 together, which are claimed.
+/// Releases the pages 2, 0 and 1 together, which are in use.
 fn released<B: Block>(
     words: &Words<Bare, B>,
     pass: &mut Pass<Bare>,
@@ -88,7 +94,8 @@ fn released<B: Block>(
 )
     requires ready { IsReady words.now.table.shared.key B.tells words.now.table.shared.table_id pass.old }
     requires home { (view pass.old).out ≡ None }
-    requires next { words.now.table.shared.key.next ≡ 3 }
+    requires used { B.tells ≡ true → (all_zero (last_of (view pass.old) 2).words ≡ false) × (all_zero (last_of (view pass.old) 0).words ≡ false)
+        × (all_zero (last_of (view pass.old) 1).words ≡ false) }
     requires pages { (a.pid ≡ 2) × (b.pid ≡ 0) × (c.pid ≡ 1) }
     requires first { IsHolding a.pid a.frame a.version a.dirty (view pass.old) }
     requires second { IsHolding b.pid b.frame b.version b.dirty (view pass.old) }
@@ -98,13 +105,13 @@ fn released<B: Block>(
     release_group(words, pass, Group::Three(a, b, c), None);
 }
 
-/// A group of three pages of `N` words, of which word `i` is written, is released.
+/// A group of three pages of `N` words, of which only the second is not 0, is released with word `i` of each written.
 fn group_of_three<R: Abort, const N: usize>(rt: &R, alloc: Global, i: usize) -> Result<(), Fail>
     requires sized { IsSize N }
-    requires place { i < N }
+    requires place { (i < N) × (1 < N) }
 {
-    let blocks = zeros::<N>(alloc, 3)?;
-    let (pool, mut pass, mut other) = two_passes(alloc, 64, 3, blocks)?;
+    let blocks = used_pages::<N>(alloc, 3)?;
+    let (pool, mut pass, mut other) = two_passes(alloc, 64, 3, blocks, &[])?;
     three_brought(rt, &pool, &mut pass);
     let words = pool.words();
     let before = words_at(words, &mut other, i);

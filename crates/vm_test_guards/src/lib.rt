@@ -1,4 +1,4 @@
-//! Tests of the guards of `vm_guard` over pools with more than one pass, over their public items. They stand here so that no crate of the
+//! Tests of the guards of `vm_guard` and of page numbers over pools with more than one pass, over their public items. They stand here so that no crate of the
 //! layers below is proved twice.
 #![tactic(auto)]
 
@@ -6,6 +6,8 @@
 mod fresh;
 #[cfg(test)]
 mod groups;
+#[cfg(test)]
+mod numbers;
 #[cfg(test)]
 mod reads;
 #[cfg(test)]

@@ -1,7 +1,7 @@
 // A pool of a few evicted pages with two passes, and frames for the pages that they claim.
-ghost use Rattle.std.specs.Prelude.{◌≡◌, ◌≤◌, IfOk, length, map, None, ℕ};
+ghost use Rattle.std.specs.Prelude.{◌≡◌, ◌≤◌, IfOk, length, List, map, None, ℕ};
 ghost use Rattle.vm_page.specs.Sizes.{IsSize};
-ghost use Rattle.vm_rule.specs.Prelude.{block_words, MayBegin, stored_of};
+ghost use Rattle.vm_rule.specs.Prelude.{AreClaimed, block_words, MayBegin, stored_of};
 ghost use Rattle.vm_step.specs.Prelude.{AreHeld, IsReady, view};
 
 use std::alloc::Global;
@@ -21,7 +21,7 @@ pub(crate) fn zeros<const N: usize>(alloc: Global, pages: u32) -> Result<Vec<Mem
     requires sized { IsSize N }
     requires pages { pages ≤ 65536 }
     ensures count { IfOk result (λ blocks. length blocks.items ≡ pages) }
-    ensures begins { IfOk result (λ blocks. (next : ℕ) → MayBegin ⟦<Bare as Owner>⟧.keeps next (block_words (map stored_of blocks.items))) }
+    ensures begins { IfOk result (λ blocks. (next : ℕ) (free : List ℕ) → MayBegin ⟦<Bare as Owner>⟧.keeps next free (block_words (map stored_of blocks.items))) }
 {
     if pages == 0 {
         return Ok(Vec::new(alloc));
@@ -31,18 +31,40 @@ pub(crate) fn zeros<const N: usize>(alloc: Global, pages: u32) -> Result<Vec<Mem
     Ok(blocks)
 }
 
-/// A pool of these blocks, whose pages are evicted at version 7, with so many frames (1 to 65536), whose next page is `next`, and two passes.
+/// Blocks of so many pages (0 to 65536) that are in use, which answer every call: the second word of each is 1, and the others are 0.
+pub(crate) fn used_pages<const N: usize>(
+    alloc: Global,
+    pages: u32,
+) -> Result<Vec<MemBlock<N>>, Fail>
+    requires sized { IsSize N }
+    requires pages { pages ≤ 65536 }
+    ensures count { IfOk result (λ blocks. length blocks.items ≡ pages) }
+{
+    if pages == 0 {
+        return Ok(Vec::new(alloc));
+    }
+    let mut blocks = used_pages(alloc, pages - 1)?;
+    let mut page = PageBuf::zero();
+    page.set(1, 1);
+    blocks.push(MemBlock::new(alloc, page, &[])?)?;
+    Ok(blocks)
+}
+
+/// A pool of these blocks, whose pages are evicted at version 7, with so many frames (1 to 65536), whose next page is `next` and whose free
+/// numbers are these, and two passes.
 pub(crate) fn two_passes<const N: usize>(
     alloc: Global,
     frames: u32,
     next: u32,
     blocks: Vec<MemBlock<N>>,
+    free: &[u32],
 ) -> Result<(Pool<Bare, MemBlock<N>, N>, Pass<Bare>, Pass<Bare>), Fail>
     requires sized { IsSize N }
     requires pages { (1 ≤ length blocks.items) × (length blocks.items ≤ 65536) }
     requires frames { (1 ≤ frames) × (frames ≤ 65536) }
     requires next { next ≤ length blocks.items }
-    requires begins { MayBegin ⟦<Bare as Owner>⟧.keeps next (block_words (map stored_of blocks.items)) }
+    requires claimed { AreClaimed next free.now }
+    requires begins { MayBegin ⟦<Bare as Owner>⟧.keeps next free.now (block_words (map stored_of blocks.items)) }
     ensures pages { IfOk result (λ made. (made.0.words.table.shared.key.pages ≡ length blocks.entry.items) × (made.0.words.table.shared.key.next ≡ next)) }
     ensures first { IfOk result (λ made. IsReady made.0.words.table.shared.key ⟦<MemBlock<N> as Block>⟧.tells made.0.words.table.shared.table_id made.1) }
     ensures second { IfOk result (λ made. IsReady made.0.words.table.shared.key ⟦<MemBlock<N> as Block>⟧.tells made.0.words.table.shared.table_id made.2) }
@@ -55,7 +77,7 @@ pub(crate) fn two_passes<const N: usize>(
         next,
         first_version: 7,
     };
-    let (pool, mut pass) = Pool::start(alloc, shape, blocks)?;
+    let (pool, mut pass) = Pool::start(alloc, shape, blocks, free)?;
     let other = pool.split_one(&mut pass);
     Ok((pool, pass, other))
 }

@@ -1,5 +1,5 @@
 use Rattle.vm_guard.proofs.Prelude.{arith, refl, view, ◌+◌, ◌<◌, ◌≡◌, ◌≤◌}
-use Rattle.vm_guard.proofs.fresh_pages.room_for.Goals as goal
+use Rattle.vm_guard.proofs.fresh_pages.next_room.Goals as goal
 
 pub returns-then-pages-next-clause-full : goal.returns-then-pages-next-clause-full
 returns-then-pages-next-clause-full g c =

@@ -1,7 +1,7 @@
 use Rattle.vm_guard.proofs.FreshAnswers.{begins, first-denied, held-after, out-after}
 use Rattle.vm_guard.proofs.FreshSure.{first-word, loaded-alone, next-now, no-room, not-full, pages-settle, second-word}
-use Rattle.vm_guard.proofs.Prelude.{arith, false≢true, held-on, IsFreshAnswer, LocksNone, sym, ◌∙◌, MayBeSeized, refl, subst, view, ℕ, ◌≤◌}
-use Rattle.vm_guard.proofs.fresh_pages.fresh.Goals as goal
+use Rattle.vm_guard.proofs.Prelude.{arith, false≢true, held-on, IsNextAnswer, LocksNone, sym, ◌∙◌, MayBeSeized, refl, subst, view, ℕ, ◌≤◌}
+use Rattle.vm_guard.proofs.fresh_pages.next_pages.Goals as goal
 
 pub returns-in-Err-clause-answer : goal.returns-in-Err-clause-answer
 returns-in-Err-clause-answer g c = (refl, c.in-Err.ensures.full)
@@ -79,10 +79,10 @@ give_two-requires-clause-home g c = c.in-Ok-seize.ensures.taken.1.amid.out ∙ o
 
 pub returns-then-n-eq1-clause-answer : goal.returns-then-n-eq1-clause-answer
 returns-then-n-eq1-clause-answer g c =
-    subst (λ (n : ℕ). IsFreshAnswer n c.args.frames.now c.give_one.new.frames (view c.args.pass.now) (view c.give_one.new.pass) c.give_one.result) (sym c.if-n-eq1.true)
+    subst (λ (n : ℕ). IsNextAnswer n c.args.frames.now c.give_one.new.frames (view c.args.pass.now) (view c.give_one.new.pass) c.give_one.result) (sym c.if-n-eq1.true)
     (c.give_one.ensures.answer (view c.args.pass.now) (begins c.in-Ok.ensures.room.loaded c.in-Ok-seize.ensures.taken))
 
 pub returns-else-n-eq1-clause-answer : goal.returns-else-n-eq1-clause-answer
 returns-else-n-eq1-clause-answer g c =
-    subst (λ (n : ℕ). IsFreshAnswer n c.args.frames.now c.give_two.new.frames (view c.args.pass.now) (view c.give_two.new.pass) c.give_two.result) (omega (arith, c.requires.few, c.if-n-eq1.false))
+    subst (λ (n : ℕ). IsNextAnswer n c.args.frames.now c.give_two.new.frames (view c.args.pass.now) (view c.give_two.new.pass) c.give_two.result) (omega (arith, c.requires.few, c.if-n-eq1.false))
     (c.give_two.ensures.answer (view c.args.pass.now) (begins c.in-Ok.ensures.room.loaded c.in-Ok-seize.ensures.taken))
