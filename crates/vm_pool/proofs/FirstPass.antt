@@ -4,6 +4,11 @@ use Rattle.vm_pool.proofs.Prelude.{ap, arith, begun, Bool, bundles_of, counts_of
 use Rattle.vm_pool.proofs.Prelude.{IsKnownOut, IsOf, IsStarted, IsWhole, known_word_at, length, List, MAX_VERSION, min, Origin, part-found, pow-le-pow_right}
 use Rattle.vm_pool.proofs.Prelude.{refl, Shape, slice_index, started-bundle, started-state, started_origin, started_shape, started_words, state_of, Stored}
 use Rattle.vm_pool.proofs.Prelude.{subst, sym, unborn, version_of, View, word-state, word-version, word_of, ℕ, ◌*◌, ◌+◌, ◌-◌, ◌<◌, ◌^◌, ◌∙◌, ◌≡◌, ◌≢◌, ◌≤◌}
+use Rattle.vm_pool.proofs.Prelude.{[], at-any, if◌then◌else◌, last_of, length-mapped, lt-ltb, true}
+use Rattle.std.proofs.Common.{replicate}
+use Rattle.vm_core.specs.Prelude.{at, page_at}
+use Rattle.vm_core.proofs.At.{at-get}
+use Rattle.vm_rule.specs.Prelude.{block_words}
 
 -- the first bundle of a table with frames has some
 pub some-frames : (frames : ℕ) → 1 ≤ frames → full_bundle frames 0 ≢ 0
@@ -13,30 +18,45 @@ some-frames frames some =
     let one : 2 ^ 1 ≤ 2 ^ min 64 (frames - 64 * 0) = pow-le-pow_right (omega arith) low in
     omega (arith, one)
 
-module _ {X : Type 0} (size : ℕ) (tells : Bool) (version next frames : ℕ) (blocks : List Stored) (v : View X) (is : v ≡ begun (unborn (started_shape size tells version next frames blocks))) where
-  abbrev words : List ℕ
-  words = started_words size (length blocks) frames version next (counts_of blocks)
+-- each page's last words are its block's
+words-told : (X : Type 0) (size version next : ℕ) (free : List ℕ) (frames : ℕ) (blocks : List Stored) (p : ℕ) → p < length blocks
+    → (last_of {X = X} (begun (unborn (started_shape size true version next free frames blocks))) p).words ≡ page_at (block_words blocks) p
+words-told X size version next free frames blocks p l =
+    let inside : p < length (block_words blocks) = omega (arith, l, length-mapped (λ (b : Stored). b.words) blocks) in
+    ap (λ b. if b then at (replicate size 0) (block_words blocks) p else replicate size 0) (lt-ltb p (length blocks) l)
+    ∙ at-any (replicate size 0) [] (block_words blocks) p inside
+    ∙ at-get [] (block_words blocks) p
 
-  pub start-is : v.start ≡ started_origin size tells version next frames blocks
+module _ {X : Type 0} (size : ℕ) (tells : Bool) (version next : ℕ) (free : List ℕ) (frames : ℕ) (blocks : List Stored) (v : View X) (is : v ≡ begun (unborn (started_shape size tells version next free frames blocks))) where
+  abbrev words : List ℕ
+  words = started_words size (length blocks) frames version next free (counts_of blocks)
+
+  pub start-is : v.start ≡ started_origin size tells version next free frames blocks
   start-is = ap (λ (x : View X). x.start) is
+
+  pub first-words : tells ≡ true → (p : ℕ) → p < length blocks → (last_of v p).words ≡ page_at (block_words blocks) p
+  first-words told p l =
+      ap (λ (x : View X). (last_of x p).words) is
+      ∙ subst (λ (t : Bool). (last_of {X = X} (begun (unborn (started_shape size t version next free frames blocks))) p).words ≡ page_at (block_words blocks) p) (sym told)
+      (words-told X size version next free frames blocks p l)
 
   words-are : v.snapshot.words ≡ words
   words-are = ap (λ (x : View X). x.snapshot.words) is
 
   -- it may call on the table that began so
-  pub first-of : (shape : Shape) → shape ≡ started_shape size tells version next frames blocks → IsOf shape tells v
+  pub first-of : (shape : Shape) → shape ≡ started_shape size tells version next free frames blocks → IsOf shape tells v
   first-of shape same =
       subst (λ (s : Shape). IsOf s tells v) (sym same)
-      (subst (IsOf (started_shape size tells version next frames blocks) tells) (sym is) record { is_shape = record { same = refl; size = refl; pages = refl; frames = refl; version = refl; next = refl }; tells_is = refl })
+      (subst (IsOf (started_shape size tells version next free frames blocks) tells) (sym is) record { is_shape = record { same = refl; size = refl; pages = refl; frames = refl; version = refl; next = refl }; tells_is = refl })
 
   pub first-alone : IsAlone v
-  first-alone = (subst IsWhole (sym is) (first-whole X (started_origin size tells version next frames blocks)), ap (λ (x : View X). x.current) is)
+  first-alone = (subst IsWhole (sym is) (first-whole X (started_origin size tells version next free frames blocks)), ap (λ (x : View X). x.current) is)
 
   module _ (pages : ℕ) (long : length blocks ≡ pages) (fits : IsStarted version next frames pages) where
     state-there : (p : ℕ) → p < pages → known_word_at v (places.State p) ≡ word_of EVICTED version
     state-there p l =
         let inside : p < length blocks = omega (arith, l, long) in
-        ap (λ (t : List ℕ). slice_index t p) words-are ∙ sym (part-found 0 (length blocks) words p p inside (omega arith)) ∙ started-state size tells version next frames blocks p inside
+        ap (λ (t : List ℕ). slice_index t p) words-are ∙ sym (part-found 0 (length blocks) words p p inside (omega arith)) ∙ started-state size tells version next free frames blocks p inside
 
     -- each page is at the first version
     pub first-version : (p : ℕ) → p < pages → version_of (known_word_at v (places.State p)) ≡ version
@@ -54,7 +74,7 @@ module _ {X : Type 0} (size : ℕ) (tells : Bool) (version next frames : ℕ) (b
         ap (λ (s : Origin). slice_index v.snapshot.words (index_of s (places.Bundle 0))) start-is
         ∙ ap (λ (t : List ℕ). slice_index t (3 * length blocks + size * frames + 0)) words-are
         ∙ sym (part-found (3 * length blocks + size * frames) (bundles_of frames) words 0 (3 * length blocks + size * frames + 0) inside refl)
-        ∙ started-bundle size tells version next frames blocks 0
+        ∙ started-bundle size tells version next free frames blocks 0
 
     pub first-free : (old : List ℕ) → HasFree old v
     first-free old =

@@ -1,5 +1,6 @@
 -- What a sweep and bringing a page leave of the pass, by what they answer.
 use Rattle.vm_exmap.specs.declared.interface.Alloc.TheVariants as allocs
+use Rattle.vm_step.proofs.Asides.{numbers-then}
 use Rattle.vm_pool.specs.Brings.{Fetches as fetched, Gets as gets, GetsNone as none}
 use Rattle.vm_pool.proofs.Prelude.{[], Alloc, alone-then, append-none, aside-self, Bring, Did, Err, Fetches, holds-then, inl, inr, IsAlloc, IsAlone}
 use Rattle.vm_pool.proofs.Prelude.{IsAsideOf, IsFramed, IsFreed, IsLocking, IsSwept, KeepsLocks, knows-then, List, moved-aside, MovesFrames, Ok, refl, Report}
@@ -12,7 +13,7 @@ module _ {X : Type 0} where
   pub keeps-then : (u v w : View X) → KeepsLocks u v → KeepsLocks v w → KeepsLocks u w
   keeps-then u v w f g =
       let knows = λ (q : ℕ) (l : IsLocking (seat_of u q)). knows-then u v w q (f.knows q l) (g.knows q (still-locking u v q (f.holds q) l)) in
-      search (rules, (λ (q : ℕ). holds-then u v w q (f.holds q) (g.holds q)), knows, starts-then u.seen v.seen w.seen f.seen g.seen, starts-then u.releases v.releases w.releases f.releases g.releases, starts-then u.notes v.notes w.notes f.notes g.notes, starts-then u.log v.log w.log f.log g.log, alone-then u v w f.parts f.alone g.alone)
+      search (rules, (λ (q : ℕ). holds-then u v w q (f.holds q) (g.holds q)), knows, starts-then u.seen v.seen w.seen f.seen g.seen, starts-then u.releases v.releases w.releases f.releases g.releases, starts-then u.notes v.notes w.notes f.notes g.notes, starts-then u.log v.log w.log f.log g.log, numbers-then u v w f.start f.numbers g.numbers, alone-then u v w f.parts f.alone g.alone)
 
   pub keeps-alone : {v w : View X} → KeepsLocks v w → IsAlone v → IsAlone w
   keeps-alone {v} {w} k = still-alone v w k.parts k.alone.current

@@ -80,6 +80,10 @@ module _ {X : Type 0} where
             omega (arith, times-joined n v.used m.used, times-joined n v.fresh m.fresh);
         notes = ap (λ (y : View X). y.notes) is ∙ ap (λ l. v.notes ++ l) (ap (λ (y : View X). y.notes) was);
         frames = ap (λ (y : View X). y.frames) is ∙ ap (λ l. l ++ v.frames) (ap (λ (y : View X). y.frames) was);
+        numbers = (
+          ap (λ (y : View X). y.numbers) is ∙ ap (λ l. v.numbers ++ l) (ap (λ (y : View X). y.numbers) was),
+          ap (λ (y : View X). y.freed) is ∙ ap (λ l. v.freed ++ l) (ap (λ (y : View X). y.freed) was),
+        );
         steps = first ++ last;
         log = ap (λ (y : View X). y.log) is ∙ ap (λ (y : View X). (v.log ++ y.log) ++ last) was ∙ simp append_assoc;
         heard = starts-on x.seen m.seen u.seen (j.heard.1.0, j.heard.1.1) (heard.0.0, heard.0.1);

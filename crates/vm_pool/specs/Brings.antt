@@ -3,7 +3,7 @@
 use Rattle.std.specs.Prelude.{[], ◌++◌, ◌+◌, ◌-◌, ◌^◌, ◌∷◌, ◌≡◌, ◌≤◌, ◌⊎◌, Err, List, min, None, Ok, Option, Result, Some, ℕ}
 use Rattle.vm_core.specs.Prelude.{at}
 use Rattle.vm_rule.specs.Prelude.{IsLocking, seat_of, StartsWith}
-use Rattle.vm_step.specs.Prelude.{HoldsPage, KnowsAsBefore, StaysAlone, View}
+use Rattle.vm_step.specs.Prelude.{HoldsPage, KeepsNumbers, KnowsAsBefore, StaysAlone, View}
 use Rattle.vm_step.specs.{declared.choice.Looks.Looks, declared.saw.Saw.Saw}
 use Rattle.vm_exmap.specs.{Returns.IsFreed, Walks.IsAlloc}
 use Rattle.vm_exmap.specs.declared.interface.Alloc.TheVariants as allocs
@@ -111,6 +111,7 @@ module _ {X : Type 0} where
     pub start : w.start ≡ v.start
     pub parts : (w.used ≡ v.used) × (w.fresh ≡ v.fresh)
     pub group : (w.pending ≡ v.pending) × (w.owed ≡ v.owed) × (w.next ≡ v.next)
+    pub numbers : KeepsNumbers v w
     pub seen : StartsWith w.seen v.seen
     pub releases : StartsWith w.releases v.releases
     pub notes : StartsWith w.notes v.notes

@@ -28,8 +28,8 @@ module _ {X : Type 0} where
     -- a pass with all parts has made every entry
     pub all : IsWhole v → v.mine ≡ v.seen
 
-  -- the pass with the view v has the view w after the one with the view u went into it: its parts, notes and steps stand behind the pass's own, its frames
-  -- before them, and both lists go on from what either had seen
+  -- the pass with the view v has the view w after the one with the view u went into it: its parts, page numbers, notes and steps stand behind the pass's
+  -- own, its frames before them, and both lists go on from what either had seen
   pub record Joins (tells : Bool) (keeps : Start → Kept X → Type 0) (v u w : View X) : Type 0 where
     pub kept : KeepsAll v w
     pub current : w.current ≡ true
@@ -38,6 +38,7 @@ module _ {X : Type 0} where
     pub parts : (k : ℕ) → owns k w ≡ owns k v + owns k u
     pub notes : w.notes ≡ v.notes ++ u.notes
     pub frames : w.frames ≡ u.frames ++ v.frames
+    pub numbers : (w.numbers ≡ v.numbers ++ u.numbers) × (w.freed ≡ v.freed ++ u.freed)
     pub steps : List Did
     pub log : w.log ≡ (v.log ++ u.log) ++ steps
     pub heard : StartsWith w.seen u.seen

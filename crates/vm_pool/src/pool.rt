@@ -1,7 +1,7 @@
 //! A pool: the shared words with their blocks, from the start to the end.
 
 ghost use Rattle.std.specs.Prelude.{◌≡◌, IfErr, IfOk, length, map, true};
-ghost use Rattle.vm_rule.specs.Prelude.{block_words, HoldsNoPage, IsStarted, IsWhole, MayBegin, started_shape, unborn, view_of};
+ghost use Rattle.vm_rule.specs.Prelude.{AreClaimed, block_words, HoldsNoPage, IsStarted, IsWhole, MayBegin, started_shape, unborn, view_of};
 ghost use Rattle.vm_rule.specs.Begun.{begun};
 ghost use Rattle.vm_page.specs.Sizes.{IsSize};
 ghost use Rattle.vm_pool.specs.Closing.{AreSums, IsClosed, view_at_end};
@@ -41,23 +41,26 @@ impl<U: Owner, B: Block + Drop, const N: usize> Drop for Pool<U, B, N> {
 
 impl<U: Owner, B: PageBlock<N> + Drop, const N: usize> Pool<U, B, N> {
     /// A pool whose pages are all evicted, with their words in the blocks, and whose frames are all free; and its first pass, which has all
-    /// parts and knows every word and block. The pages from the next one on are zero, where the blocks tell. Where there is no memory the
+    /// parts and knows every word and block. The pages from the next one on are zero, where the blocks tell. The numbers in `free` are those of
+    /// pages below it that `ExclusiveGuard::fresh` may give anew: these pages are zero too, where the blocks tell. Where there is no memory the
     /// blocks are dropped.
     pub fn start(
         alloc: Global,
         shape: Shape,
         blocks: Vec<B>,
+        free: &[u32],
     ) -> Result<(Pool<U, B, N>, Pass<U>), Memory>
         requires sized { IsSize N }
         requires takes { U.takes_size N ≡ true }
         requires pages { shape.pages ≡ length blocks.items }
         requires fits { IsStarted shape.first_version shape.next shape.frames (length blocks.items) }
-        requires begins { B.tells ≡ true → MayBegin U.keeps shape.next (block_words (map B.stored blocks.items)) }
+        requires claimed { AreClaimed shape.next free.now }
+        requires begins { B.tells ≡ true → MayBegin U.keeps shape.next free.now (block_words (map B.stored blocks.items)) }
         ensures key { IfOk result (λ made. made.0.words.table.shared.key
-            ≡ started_shape N B.tells shape.first_version shape.next shape.frames (map B.stored blocks.items)) }
+            ≡ started_shape N B.tells shape.first_version shape.next free.now shape.frames (map B.stored blocks.items)) }
         ensures pass { IfOk result (λ made. made.1.badge.table_id ≡ made.0.words.table.shared.table_id) }
         ensures view { IfOk result (λ made. view_of made.1.badge.views
-            ≡ begun (unborn (started_shape N B.tells shape.first_version shape.next shape.frames (map B.stored blocks.items)))) }
+            ≡ begun (unborn (started_shape N B.tells shape.first_version shape.next free.now shape.frames (map B.stored blocks.items)))) }
     {
         let (words, pass) = Words::started(
             alloc,
@@ -66,6 +69,7 @@ impl<U: Owner, B: PageBlock<N> + Drop, const N: usize> Pool<U, B, N> {
             shape.next,
             shape.first_version,
             blocks,
+            free,
         )?;
         Ok((Pool { words }, pass))
     }

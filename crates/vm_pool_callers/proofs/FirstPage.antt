@@ -13,19 +13,19 @@ use Rattle.vm_pool_callers.proofs.Prelude.{Did, false, false≢true, Held, held_
 use Rattle.vm_pool_callers.proofs.Prelude.{state_of, Stored, subst, suc, sum_below, sum_below-past, sym, true, unborn, version_of, View, zero, ℕ, ⊎_elim, ◌%◌}
 use Rattle.vm_pool_callers.proofs.Prelude.{◌*◌, ◌+◌, ◌-◌, ◌<◌, ◌^◌, ◌∙◌, ◌∷◌, ◌≡◌, ◌≢◌, ◌≤◌}
 
-module _ {X : Type 0} (size : ℕ) (tells : Bool) (version next frames : ℕ) (blocks : List Stored) (v : View X) (is : v ≡ begun (unborn (started_shape size tells version next frames blocks))) where
+module _ {X : Type 0} (size : ℕ) (tells : Bool) (version next frames : ℕ) (blocks : List Stored) (v : View X) (is : v ≡ begun (unborn (started_shape size tells version next [] frames blocks))) where
   pub sure-on : (p : ℕ) (u w : View X) (answer : Bring) → u.start ≡ v.start → IsSure p u w answer → IsBroughtOrFailed p (bounds_of blocks) answer
-  sure-on p u w answer same s = ⊎_elim (λ b. inl b) (λ d. inr (d.0, d.1, d.3, subst (λ (o : Origin). d.0 ≤ at 0 o.bounds p) (same ∙ start-is size tells version next frames blocks v is) d.4)) s
+  sure-on p u w answer same s = ⊎_elim (λ b. inl b) (λ d. inr (d.0, d.1, d.3, subst (λ (o : Origin). d.0 ≤ at 0 o.bounds p) (same ∙ start-is size tells version next [] frames blocks v is) d.4)) s
 
   module _ (pages : ℕ) (long : length blocks ≡ pages) (fits : IsStarted version next frames pages) where
     pub first-sure : (p : ℕ) → p < pages → version < MAX_VERSION → (old : List ℕ) (w : View X) (answer : Bring) → (IsAlone v → IsKnownOut p v → HasFree old v → IsSure p v w answer) → IsBroughtOrFailed p (bounds_of blocks) answer
-    first-sure p inside below old w answer sure = sure-on p v w answer refl (sure (first-alone size tells version next frames blocks v is) (first-out size tells version next frames blocks v is pages long fits p inside below) (first-free size tells version next frames blocks v is pages long fits old))
+    first-sure p inside below old w answer sure = sure-on p v w answer refl (sure (first-alone size tells version next [] frames blocks v is) (first-out size tells version next [] frames blocks v is pages long fits p inside below) (first-free size tells version next [] frames blocks v is pages long fits old))
 
     -- by an interface for one frame that had none
     pub has-asked : (p cap : ℕ) (old new : List ℕ) (w : View X) (answer : Bring) → cap ≡ 1 → old ≡ [] → KeepsLocks v w → (IsAlone v → KnowsAsked cap p old new v w answer)
-        → HasAskedFirst p (begun (unborn (started_shape size tells version next frames blocks))) new w answer
+        → HasAskedFirst p (begun (unborn (started_shape size tells version next [] frames blocks))) new w answer
     has-asked p cap old new w answer one none keeps table =
-        let knows : KnowsBring cap p [] new v w answer = subst (λ (l : List ℕ). KnowsBring cap p l new v w answer) none (when-free cap p old new v w answer (first-free size tells version next frames blocks v is pages long fits old) (table (first-alone size tells version next frames blocks v is))) in
+        let knows : KnowsBring cap p [] new v w answer = subst (λ (l : List ℕ). KnowsBring cap p l new v w answer) none (when-free cap p old new v w answer (first-free size tells version next [] frames blocks v is pages long fits old) (table (first-alone size tells version next [] frames blocks v is))) in
         subst (λ (u : View X). HasAskedFirst p u new w answer) is (record { keeps = keeps; knows = subst (λ (n : ℕ). KnowsBring n p [] new v w answer) one knows })
 
 -- ---- two bits of a word
@@ -116,16 +116,16 @@ module _ {X : Type 0} where
 
   -- the first pass of a pool with two frames asked for one page: it is alone, the other page is evicted, and a frame is free
   module _ (size : ℕ) (tells : Bool) (version next frames : ℕ) (blocks : List Stored) (pages : ℕ) (long : length blocks ≡ pages) (fits : IsStarted version next frames pages) (below : version < MAX_VERSION) (two : 2 ≤ frames)
-      (a b : ℕ) (ne : a ≢ b) (in-a : a < pages) (in-b : b < pages) (new : List ℕ) (w : View X) (answer : Bring) (asked : HasAskedFirst a (begun (unborn (started_shape size tells version next frames blocks))) new w answer) where
+      (a b : ℕ) (ne : a ≢ b) (in-a : a < pages) (in-b : b < pages) (new : List ℕ) (w : View X) (answer : Bring) (asked : HasAskedFirst a (begun (unborn (started_shape size tells version next [] frames blocks))) new w answer) where
     abbrev first : View X
-    first = begun (unborn (started_shape size tells version next frames blocks))
+    first = begun (unborn (started_shape size tells version next [] frames blocks))
 
     pub again : IsAlone w × IsKnownOut b w × HasFree new w
     again =
-        let there : known_word_at first (places.Bundle 0) ≡ full_bundle frames 0 = bundle-there size tells version next frames blocks first refl pages long fits in
+        let there : known_word_at first (places.Bundle 0) ≡ full_bundle frames 0 = bundle-there size tells version next [] frames blocks first refl pages long fits in
         let some : 0 < bundles_of frames = omega (arith, two) in (
-          keeps-alone asked.keeps (first-alone size tells version next frames blocks first refl),
-          still-out 1 a b [] new first w answer (λ e. ne (sym e)) (omega (arith, in-b, long)) (first-out size tells version next frames blocks first refl pages long fits b in-b below) asked.knows,
+          keeps-alone asked.keeps (first-alone size tells version next [] frames blocks first refl),
+          still-out 1 a b [] new first w answer (λ e. ne (sym e)) (omega (arith, in-b, long)) (first-out size tells version next [] frames blocks first refl pages long fits b in-b below) asked.knows,
           still-free a new first w asked.keeps.start some (subst (λ n. 2 ≤ bit_count n) (sym there) (two-frames frames two)) (λ none. some-frames frames (omega (arith, two)) (sym there ∙ none)) answer asked.knows,
         )
 
@@ -139,7 +139,7 @@ module _ {X : Type 0} where
         keeps-alone keeps again.0,
         ap (λ (n : ℕ). is_readable (state_of n))
             (other-page cap b a new last w z r ne (subst (λ (o : Origin). a < o.pages) (sym asked.keeps.start) (omega (arith, in-a, long))) (when-free cap b new last w z r again.2 (table again.0)))
-            ∙ can-be-read (first-out size tells version next frames blocks first refl pages long fits a in-a below).1 (subst (KnowsBring 1 a [] new first w) brought asked.knows),
+            ∙ can-be-read (first-out size tells version next [] frames blocks first refl pages long fits a in-a below).1 (subst (KnowsBring 1 a [] new first w) brought asked.knows),
       )
 
 -- ---- a share of a page

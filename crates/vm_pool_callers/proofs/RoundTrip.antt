@@ -45,10 +45,13 @@ module _ {X : Type 0} where
       (inl (ap state_of is ∙ word-state UNLOCKED (known_version v p + 1) (omega (arith, low))), ap version_of is ∙ word-version UNLOCKED (known_version v p + 1) (omega (arith, low)))
 
   -- steps of a pass that is alone, without a release, leave the last version of each page
+  pub same-last : (done : List Did) (p : ℕ) (v w : View X) → IsAlone v → IsSteady done [] v w → last_of w p ≡ last_of v p
+  same-last done p v w a s =
+      ap (λ (o : Origin). last_in o w.releases p) s.start
+      ∙ ap (λ (l : List Release). last_in v.start l p) (s.alone.releases a.0 a.1 ∙ append-none v.releases)
+
   pub same-version : (done : List Did) (p : ℕ) (v w : View X) → IsAlone v → IsSteady done [] v w → (last_of w p).version ≡ (last_of v p).version
-  same-version done p v w a s =
-      ap (λ (o : Origin). (last_in o w.releases p).version) s.start
-      ∙ ap (λ (l : List Release). (last_in v.start l p).version) (s.alone.releases a.0 a.1 ∙ append-none v.releases)
+  same-version done p v w a s = ap (λ (y : Version). y.version) (same-last done p v w a s)
 
   -- a page that is free can be read after a sweep and another call of `bring`
   pub reads-again : (want cap most p : ℕ) (old new last : List ℕ) (report : Report) (v x w : View X) (answer : Bring) → IsAlone v → 1 ≤ cap → 1 ≤ most → p < v.start.pages → IsKnownFree p v → version_of (known_word_at v (places.State p)) + 1 < MAX_VERSION

@@ -1,6 +1,6 @@
 // A pool is started and a page brought at once. It stands on the contracts of `start` and `bring` alone, and shows that what `bring` promises
 // a pass that is alone can be had: the first pass is such a one, and knows each page to be evicted and each frame to be free.
-ghost use Rattle.std.specs.Prelude.{◌<◌, ◌≡◌, IfOk, length, map, true};
+ghost use Rattle.std.specs.Prelude.{[], ◌<◌, ◌≡◌, IfOk, length, map, true};
 ghost use Rattle.vm_core.specs.Prelude.{MAX_VERSION};
 ghost use Rattle.vm_page.specs.Sizes.{IsSize};
 ghost use Rattle.vm_rule.specs.Prelude.{block_words, bounds_of, IsStarted, MayBegin, started_shape, unborn};
@@ -39,17 +39,17 @@ pub fn open_page<U: Owner, B: PageBlock<N> + Drop, const N: usize>(
     requires fits { IsStarted shape.first_version shape.next shape.frames (length blocks.items) }
     requires below { shape.first_version < MAX_VERSION }
     requires page { pid < shape.pages }
-    requires begins { B.tells ≡ true → MayBegin U.keeps shape.next (block_words (map B.stored blocks.items)) }
+    requires begins { B.tells ≡ true → MayBegin U.keeps shape.next [] (block_words (map B.stored blocks.items)) }
     ensures answer { IfOk result (λ opened. IsBroughtOrFailed pid (bounds_of (map B.stored blocks.items)) opened.answer) }
     ensures key { IfOk result (λ opened. opened.pool.words.table.shared.key
-        ≡ started_shape N B.tells shape.first_version shape.next shape.frames (map B.stored blocks.items)) }
+        ≡ started_shape N B.tells shape.first_version shape.next [] shape.frames (map B.stored blocks.items)) }
     ensures ready { IfOk result (λ opened. IsReady opened.pool.words.table.shared.key B.tells opened.pool.words.table.shared.table_id opened.pass) }
     ensures held { IfOk result (λ opened. AreHeld opened.iface.frames (view opened.pass)) }
     ensures asked { IfOk result (λ opened. HasAskedFirst pid
-        (begun (unborn (started_shape N B.tells shape.first_version shape.next shape.frames (map B.stored blocks.items))))
+        (begun (unborn (started_shape N B.tells shape.first_version shape.next [] shape.frames (map B.stored blocks.items))))
         opened.iface.frames (view opened.pass) opened.answer) }
 {
-    let (pool, mut pass) = Pool::start(alloc, shape, blocks)?;
+    let (pool, mut pass) = Pool::start(alloc, shape, blocks, &[])?;
     let mut iface = Interface::new(0, 1);
     let answer = pool.bring(&mut pass, &mut iface, pid);
     Ok(Opened {

@@ -1,6 +1,6 @@
 // A pool is started, a page brought, shared and read: it stands on the contracts of `open_page` and the shared guard alone, and shows that a page
 // that was brought can be shared for sure.
-ghost use Rattle.std.specs.Prelude.{◌<◌, ◌≡◌, IfOk, IsSome, length, map, true};
+ghost use Rattle.std.specs.Prelude.{[], ◌<◌, ◌≡◌, IfOk, IsSome, length, map, true};
 ghost use Rattle.vm_core.specs.Prelude.{MAX_VERSION};
 ghost use Rattle.vm_page.specs.Sizes.{IsSize};
 ghost use Rattle.vm_rule.specs.Prelude.{block_words, bounds_of, IsStarted, MayBegin};
@@ -40,7 +40,7 @@ pub fn open_shared<U: Owner, B: PageBlock<N> + Drop, const N: usize>(
     requires fits { IsStarted shape.first_version shape.next shape.frames (length blocks.items) }
     requires below { shape.first_version < MAX_VERSION }
     requires page { (pid < shape.pages) × (i < N) }
-    requires begins { B.tells ≡ true → MayBegin U.keeps shape.next (block_words (map B.stored blocks.items)) }
+    requires begins { B.tells ≡ true → MayBegin U.keeps shape.next [] (block_words (map B.stored blocks.items)) }
     ensures answer { IfOk result (λ opened. IsBroughtOrFailed pid (bounds_of (map B.stored blocks.items)) opened.answer) }
     ensures word { IfOk result (λ opened. opened.answer ≡ Bring.Brought → IsSome opened.word) }
 {

@@ -1,6 +1,6 @@
 // A pool is started, two pages are brought, and a word of the first is read. It stands on the contracts of `open_page`, `bring` and `read_word`
 // alone, and shows that they can be chained: what a pass that is alone knows after one call is what makes the next one sure.
-ghost use Rattle.std.specs.Prelude.{◌<◌, ◌≡◌, ◌≢◌, ◌≤◌, IfOk, IsSome, length, map, true};
+ghost use Rattle.std.specs.Prelude.{[], ◌<◌, ◌≡◌, ◌≢◌, ◌≤◌, IfOk, IsSome, length, map, true};
 ghost use Rattle.vm_core.specs.Prelude.{MAX_VERSION};
 ghost use Rattle.vm_page.specs.Sizes.{IsSize};
 ghost use Rattle.vm_rule.specs.Prelude.{block_words, bounds_of, IsStarted, MayBegin};
@@ -43,7 +43,7 @@ pub fn open_two<U: Owner, B: PageBlock<N> + Drop, const N: usize>(
     requires below { shape.first_version < MAX_VERSION }
     requires frames { 2 ≤ shape.frames }
     requires page { (a < shape.pages) × (b < shape.pages) × (a ≢ b) × (i < N) }
-    requires begins { B.tells ≡ true → MayBegin U.keeps shape.next (block_words (map B.stored blocks.items)) }
+    requires begins { B.tells ≡ true → MayBegin U.keeps shape.next [] (block_words (map B.stored blocks.items)) }
     ensures first { IfOk result (λ two. IsBroughtOrFailed a (bounds_of (map B.stored blocks.items)) two.first) }
     ensures second { IfOk result (λ two. IsBroughtOrFailed b (bounds_of (map B.stored blocks.items)) two.second) }
     ensures word { IfOk result (λ two. two.first ≡ Bring.Brought → IsSome two.word) }

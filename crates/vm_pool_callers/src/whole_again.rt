@@ -1,6 +1,6 @@
 // A pool whose pass is split and joined again is closed: it stands on the contracts of the pool alone, and shows that a pass that has taken
 // in all that it split off has all parts again.
-ghost use Rattle.std.specs.Prelude.{◌≡◌, ◌≤◌, All, IfOk, length, map, true};
+ghost use Rattle.std.specs.Prelude.{[], ◌≡◌, ◌≤◌, All, IfOk, length, map, true};
 ghost use Rattle.vm_page.specs.Sizes.{IsSize};
 ghost use Rattle.vm_rule.specs.Prelude.{block_words, HoldsNoPage, IsStarted, MayBegin};
 ghost use Rattle.vm_step.specs.Prelude.{HasJoined, IsReady, IsSamePass, MayStep, view};
@@ -41,11 +41,11 @@ pub fn split_and_join<U: Owner, B: PageBlock<N> + Drop, const N: usize>(
     requires takes { U.takes_size N ≡ true }
     requires pages { shape.pages ≡ length blocks.items }
     requires fits { IsStarted shape.first_version shape.next shape.frames (length blocks.items) }
-    requires begins { B.tells ≡ true → MayBegin U.keeps shape.next (block_words (map B.stored blocks.items)) }
+    requires begins { B.tells ≡ true → MayBegin U.keeps shape.next [] (block_words (map B.stored blocks.items)) }
     requires parts { n ≤ 4294967295 }
     ensures count { IfOk result (λ end. length end.blocks.items ≡ length blocks.items) }
 {
-    let (pool, mut pass) = Pool::start(alloc, shape, blocks)?;
+    let (pool, mut pass) = Pool::start(alloc, shape, blocks, &[])?;
     let given = pool.split(alloc, &mut pass, n)?;
     join_each(&pool, &mut pass, given);
     match pool.close(alloc, pass) {

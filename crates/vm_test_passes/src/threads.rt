@@ -17,7 +17,16 @@ use vm_pool::{Closed, Pool, Shape};
 use vm_rule::words::Pass;
 use vm_workers::puts::put_and_join;
 
-/// A pool of eight pages of zeros, all claimed, and six frames, and its first pass.
+/// A page that is in use: its last word is 1, and the others are 0.
+fn used_page<const N: usize>() -> PageBuf<N>
+    requires sized { IsSize N }
+{
+    let mut page = PageBuf::zero();
+    page.set(N - 1, 1);
+    page
+}
+
+/// A pool of eight pages, all in use, and six frames, and its first pass.
 fn eight_pages<const N: usize>(
     alloc: Global,
 ) -> Result<(Pool<Bare, MemBlock<N>, N>, Pass<Bare>), Fail>
@@ -29,24 +38,24 @@ fn eight_pages<const N: usize>(
     ensures parts { IfOk result (λ made. 4 ≤ length (view made.1).fresh) }
 {
     let mut blocks = Vec::new(alloc);
-    blocks.push(MemBlock::new(alloc, PageBuf::zero(), &[])?)?;
-    blocks.push(MemBlock::new(alloc, PageBuf::zero(), &[])?)?;
-    blocks.push(MemBlock::new(alloc, PageBuf::zero(), &[])?)?;
-    blocks.push(MemBlock::new(alloc, PageBuf::zero(), &[])?)?;
-    blocks.push(MemBlock::new(alloc, PageBuf::zero(), &[])?)?;
-    blocks.push(MemBlock::new(alloc, PageBuf::zero(), &[])?)?;
-    blocks.push(MemBlock::new(alloc, PageBuf::zero(), &[])?)?;
-    blocks.push(MemBlock::new(alloc, PageBuf::zero(), &[])?)?;
+    blocks.push(MemBlock::new(alloc, used_page(), &[])?)?;
+    blocks.push(MemBlock::new(alloc, used_page(), &[])?)?;
+    blocks.push(MemBlock::new(alloc, used_page(), &[])?)?;
+    blocks.push(MemBlock::new(alloc, used_page(), &[])?)?;
+    blocks.push(MemBlock::new(alloc, used_page(), &[])?)?;
+    blocks.push(MemBlock::new(alloc, used_page(), &[])?)?;
+    blocks.push(MemBlock::new(alloc, used_page(), &[])?)?;
+    blocks.push(MemBlock::new(alloc, used_page(), &[])?)?;
     let shape = Shape {
         pages: 8,
         frames: 6,
         next: 8,
         first_version: 0,
     };
-    Ok(Pool::start(alloc, shape, blocks)?)
+    Ok(Pool::start(alloc, shape, blocks, &[])?)
 }
 
-/// Worker number 2 sets word 2 of page 5 to 205, and so on. The last word of each page, `last`, stays 0.
+/// Worker number 2 sets word 2 of page 5 to 205, and so on. The last word of each page, `last`, stays 1.
 fn all_set<R: Abort + Threads + Sync, const N: usize>(
     rt: &R,
     alloc: Global,
@@ -80,7 +89,7 @@ fn all_set<R: Abort + Threads + Sync, const N: usize>(
             read.get(3),
             read.get(last),
         ];
-        let due = [p, 100 + p, 200 + p, 300 + p, 0];
+        let due = [p, 100 + p, 200 + p, 300 + p, 1];
         assert_eq!(rt; words, due);
         p += 1;
     }

@@ -1,6 +1,8 @@
 //! Callers that stand on the contracts of pools and guards alone, run over two pages and one frame, with ample memory. The values are worked out by
 //! hand from the rules, and not taken from a run.
-ghost use Rattle.std.specs.Prelude.{◌≡◌, IfOk, length};
+ghost use Rattle.std.specs.Prelude.{◌≡◌, false, IfOk, length, map};
+ghost use Rattle.vm_page.specs.Pages.{all_zero, page_at};
+ghost use Rattle.vm_rule.specs.Prelude.{block_words, stored_of};
 
 use std::alloc::Global;
 use std::test::Fail;
@@ -21,7 +23,8 @@ const SHAPE: Shape = Shape {
 
 /// The blocks of two pages: one of zeros, which answers every call, and one whose last word is 5, which fails the calls of this plan.
 fn two_blocks(alloc: Global, plan: &[u64]) -> Result<Vec<MemBlock<WORDS>>, Fail>
-    ensures { IfOk result (λ blocks. length blocks.items ≡ 2) }
+    ensures count { IfOk result (λ blocks. length blocks.items ≡ 2) }
+    ensures used { IfOk result (λ blocks. all_zero (page_at (block_words (map stored_of blocks.items)) 1) ≡ false) }
 {
     let mut second = PageBuf::zero();
     second.set(63, 5);

@@ -4,6 +4,7 @@ ghost use Rattle.std.specs.Prelude.{◌≡◌, IfOk, None};
 ghost use Rattle.vm_step.specs.Prelude.{AreCandidates, IsReady, view};
 
 use crate::flush::flush_all;
+use crate::pool::used_page;
 use arrayvec::ArrayVec;
 use std::alloc::Global;
 use std::process::Abort;
@@ -71,7 +72,7 @@ fn bring_first<B: PageBlock<WORDS>>(rt: &impl Abort, words: &Words<Bare, B>, pas
 }
 
 /// A table of one page, unlocked at version 7 and dirty in its frame, and its first pass. The page was evicted at version 5, was brought in by the
-/// first call of its block, and then had its last word set. The block has zeros and this plan.
+/// first call of its block, and then had its last word set. The block has such a page and this plan.
 pub(crate) fn one_page(
     rt: &impl Abort,
     alloc: Global,
@@ -84,12 +85,15 @@ pub(crate) fn one_page(
     ensures out { IfOk result (λ made. (view made.1).out ≡ None) }
 {
     let mut blocks = Vec::new(alloc);
-    blocks.push(MemBlock::new(alloc, PageBuf::zero(), plan)?)?;
-    let (words, mut pass) = Words::started(alloc, WORDS, 1, 1, 5, blocks)?;
+    blocks.push(MemBlock::new(alloc, used_page(), plan)?)?;
+    let (words, mut pass) = Words::started(alloc, WORDS, 1, 1, 5, blocks, &[])?;
     bring_first(rt, &words, &mut pass);
     let Ok(mut held) = ExclusiveGuard::take(&words, &mut pass, 0) else {
         panic!(rt; "the page can be locked");
     };
+    if held.read(&words, &mut pass, 1) == 0 {
+        panic!(rt; "the page is in use");
+    }
     held.set(&words, &mut pass, 63, 5);
     held.release(&words, &mut pass, None);
     Ok((words, pass))

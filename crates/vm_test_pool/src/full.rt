@@ -4,7 +4,7 @@ ghost use Rattle.std.specs.Prelude.{◌≡◌, ◌≤◌, IfOk, None};
 ghost use Rattle.vm_core.specs.Prelude.{MAX_VERSION};
 ghost use Rattle.vm_step.specs.Prelude.{AreHeld, IsReady, view};
 
-use crate::pool::{brought, put, zeros};
+use crate::pool::{brought, put, used_pages};
 use std::alloc::Global;
 use std::process::Abort;
 use std::test::Fail;
@@ -48,7 +48,7 @@ fn pool_at(
         next: 66,
         first_version: version,
     };
-    Ok(Pool::start(alloc, shape, zeros::<WORDS>(alloc, 66)?)?)
+    Ok(Pool::start(alloc, shape, used_pages::<WORDS>(alloc, 66)?, &[])?)
 }
 
 /// Brings each of the first `n` pages, which are evicted.

@@ -1,7 +1,7 @@
 //! Pools of a few pages, with ample memory. The values are worked out by hand from the rules, and not taken from a run.
-ghost use Rattle.std.specs.Prelude.{[], ◌<◌, ◌≡◌, ◌≤◌, false, IfOk, length, None, ℕ};
-ghost use Rattle.vm_page.specs.Sizes.{IsSize};
-ghost use Rattle.vm_rule.specs.Prelude.{HoldsNoPage, seat_of};
+ghost use Rattle.std.specs.Prelude.{[], ◌<◌, ◌≡◌, ◌≤◌, false, IfOk, length, map, None, ℕ};
+ghost use Rattle.vm_page.specs.{Pages.all_zero, Pages.page_at, Sizes.IsSize};
+ghost use Rattle.vm_rule.specs.Prelude.{block_words, HoldsNoPage, last_of, seat_of, stored_of};
 ghost use Rattle.vm_step.specs.Prelude.{AreHeld, IsAlone, IsReady, view};
 
 use std::alloc::Global;
@@ -39,6 +39,8 @@ pub(crate) fn pool_of<const N: usize>(
     ensures idle { IfOk result (λ made. (p : ℕ) → (seat_of (view made.1) p).writing ≡ false) }
     ensures alone { IfOk result (λ made. IsAlone (view made.1)) }
     ensures holds { IfOk result (λ made. HoldsNoPage (view made.1)) }
+    ensures words { IfOk result (λ made. (p : ℕ) → p < length blocks.entry.items
+        → (last_of (view made.1) p).words ≡ page_at (block_words (map stored_of blocks.entry.items)) p) }
     ensures claimed { IfOk result (λ made. (view made.1).start.next ≡ length blocks.entry.items) }
 {
     let pages = blocks.len() as u32;
@@ -48,20 +50,34 @@ pub(crate) fn pool_of<const N: usize>(
         next: pages,
         first_version: 0,
     };
-    Ok(Pool::start(alloc, shape, blocks)?)
+    Ok(Pool::start(alloc, shape, blocks, &[])?)
 }
 
-/// Blocks of so many pages (0 to 65536) of zeros, which answer every call.
-pub(crate) fn zeros<const N: usize>(alloc: Global, pages: u32) -> Result<Vec<MemBlock<N>>, Fail>
+/// A page that is in use: its second word is 1, and the others are 0.
+pub(crate) fn used_page<const N: usize>() -> PageBuf<N>
+    requires sized { IsSize N }
+    ensures { all_zero result ≡ false }
+{
+    let mut page = PageBuf::zero();
+    page.set(1, 1);
+    page
+}
+
+/// Blocks of so many pages (0 to 65536) that are in use, which answer every call.
+pub(crate) fn used_pages<const N: usize>(
+    alloc: Global,
+    pages: u32,
+) -> Result<Vec<MemBlock<N>>, Fail>
     requires sized { IsSize N }
     requires pages { pages ≤ 65536 }
-    ensures { IfOk result (λ blocks. length blocks.items ≡ pages) }
+    ensures count { IfOk result (λ blocks. length blocks.items ≡ pages) }
+    ensures used { IfOk result (λ blocks. (p : ℕ) → p < length (block_words (map stored_of blocks.items)) → all_zero (page_at (block_words (map stored_of blocks.items)) p) ≡ false) }
 {
     if pages == 0 {
         return Ok(Vec::new(alloc));
     }
-    let mut blocks = zeros(alloc, pages - 1)?;
-    blocks.push(MemBlock::new(alloc, PageBuf::zero(), &[])?)?;
+    let mut blocks = used_pages(alloc, pages - 1)?;
+    blocks.push(MemBlock::new(alloc, used_page(), &[])?)?;
     Ok(blocks)
 }
 
@@ -86,7 +102,7 @@ pub(crate) fn brought<B: PageBlock<N>, const N: usize>(
     assert_eq!(rt; answer, Bring::Brought);
 }
 
-/// Sets word `i` of page `p`, which is resident, and not locked by anyone.
+/// Sets word `i` of page `p`, which is in use, resident, and not locked by anyone.
 pub(crate) fn put<B: PageBlock<N>, const N: usize>(
     rt: &impl Abort,
     pool: &Pool<Bare, B, N>,
@@ -106,11 +122,14 @@ pub(crate) fn put<B: PageBlock<N>, const N: usize>(
     let Ok(mut guard) = ExclusiveGuard::take(&pool.words, pass, p) else {
         panic!(rt; "the page can be locked");
     };
+    if guard.read(&pool.words, pass, 1) == 0 {
+        panic!(rt; "the page is in use");
+    }
     guard.set(&pool.words, pass, i, w);
     guard.release(&pool.words, pass, None);
 }
 
-/// Sets word `i` of page `p`, which is resident, by a pass that is alone and holds no page.
+/// Sets word `i` of page `p`, which is in use and resident, by a pass that is alone and holds no page.
 fn put_alone<B: PageBlock<N>, const N: usize>(
     rt: &impl Abort,
     pool: &Pool<Bare, B, N>,
@@ -131,6 +150,9 @@ fn put_alone<B: PageBlock<N>, const N: usize>(
     let Ok(mut guard) = ExclusiveGuard::take(&pool.words, pass, p) else {
         panic!(rt; "the page can be locked");
     };
+    if guard.read(&pool.words, pass, 1) == 0 {
+        panic!(rt; "the page is in use");
+    }
     guard.set(&pool.words, pass, i, w);
     guard.release(&pool.words, pass, None);
 }
@@ -272,7 +294,7 @@ fn a_pool_that_is_closed_at_once_gives_its_blocks_back(rt: HostRuntime) -> Resul
         next: 1,
         first_version: 7,
     };
-    let (pool, pass) = Pool::<Bare, MemBlock<WORDS>, WORDS>::start(alloc, shape, blocks)?;
+    let (pool, pass) = Pool::<Bare, MemBlock<WORDS>, WORDS>::start(alloc, shape, blocks, &[])?;
     let frames = pool.words().frames;
     assert_eq!(rt; frames, 3);
     let Ok(end) = pool.close(alloc, pass) else {
@@ -302,7 +324,7 @@ fn a_pool_that_is_closed_at_once_gives_its_blocks_back(rt: HostRuntime) -> Resul
 
 #[test]
 fn a_page_that_goes_ends_an_older_read(rt: HostRuntime) -> Result<(), Fail> {
-    let blocks = zeros::<WORDS>(rt.alloc(), 2)?;
+    let blocks = used_pages::<WORDS>(rt.alloc(), 2)?;
     let (pool, mut pass) = pool_of(rt.alloc(), 1, blocks)?;
     let mut iface = Interface::new(0, 1);
     brought(&rt, &pool, &mut pass, &mut iface, 0);
@@ -333,7 +355,7 @@ fn written_again<R: Abort, const N: usize>(rt: &R, alloc: Global, i: usize) -> R
 {
     let mut blocks = Vec::new(alloc);
     // The block's first call is a read, and its second call a write.
-    blocks.push(MemBlock::<N>::new(alloc, PageBuf::zero(), &[2])?)?;
+    blocks.push(MemBlock::<N>::new(alloc, used_page(), &[2])?)?;
     let (pool, mut pass) = pool_of(alloc, 1, blocks)?;
     let mut iface = Interface::new(0, 1);
     brought(rt, &pool, &mut pass, &mut iface, 0);
@@ -363,7 +385,7 @@ fn a_write_of_a_large_page_that_fails_once_leaves_it_dirty(rt: HostRuntime) -> R
 
 #[test]
 fn more_pages_than_frames_keep_their_words(rt: HostRuntime) -> Result<(), Fail> {
-    let blocks = zeros::<WORDS>(rt.alloc(), 6)?;
+    let blocks = used_pages::<WORDS>(rt.alloc(), 6)?;
     let (pool, mut pass) = pool_of(rt.alloc(), 2, blocks)?;
     let mut iface = Interface::new(0, 1);
     put_round(&rt, &pool, &mut pass, &mut iface, 6, 1);
@@ -378,7 +400,7 @@ fn found_again<R: Abort, const N: usize>(rt: &R, alloc: Global, i: usize) -> Res
     requires sized { IsSize N }
     requires place { i < N }
 {
-    let blocks = zeros::<N>(alloc, 2)?;
+    let blocks = used_pages::<N>(alloc, 2)?;
     let (pool, mut pass) = pool_of(alloc, 1, blocks)?;
     let mut iface = Interface::new(0, 1);
     let word = round_trip(&pool, &mut pass, &mut iface, 1, i, 7);
@@ -399,7 +421,7 @@ fn the_last_word_of_a_large_page_is_found_again(rt: HostRuntime) -> Result<(), F
 
 #[test]
 fn a_held_page_is_no_candidate(rt: HostRuntime) -> Result<(), Fail> {
-    let blocks = zeros::<WORDS>(rt.alloc(), 2)?;
+    let blocks = used_pages::<WORDS>(rt.alloc(), 2)?;
     let (pool, mut pass) = pool_of(rt.alloc(), 1, blocks)?;
     let mut iface = Interface::new(0, 1);
     brought(&rt, &pool, &mut pass, &mut iface, 0);
@@ -425,7 +447,7 @@ fn a_held_page_is_no_candidate(rt: HostRuntime) -> Result<(), Fail> {
 #[test]
 fn a_page_that_was_flushed_is_in_its_block(rt: HostRuntime) -> Result<(), Fail> {
     let alloc = rt.alloc();
-    let blocks = zeros::<WORDS>(alloc, 2)?;
+    let blocks = used_pages::<WORDS>(alloc, 2)?;
     let (pool, mut pass) = pool_of(alloc, 1, blocks)?;
     let mut iface = Interface::new(0, 1);
     bring_and_put(&rt, &pool, &mut pass, &mut iface, 1, 5, 7);
@@ -466,7 +488,7 @@ fn a_page_that_was_flushed_is_in_its_block(rt: HostRuntime) -> Result<(), Fail> 
 #[test]
 fn the_last_words_of_a_large_page_are_in_its_block(rt: HostRuntime) -> Result<(), Fail> {
     let alloc = rt.alloc();
-    let blocks = zeros::<LARGE>(alloc, 2)?;
+    let blocks = used_pages::<LARGE>(alloc, 2)?;
     let (pool, mut pass) = pool_of(alloc, 1, blocks)?;
     let mut iface = Interface::new(0, 1);
     bring_and_put(&rt, &pool, &mut pass, &mut iface, 1, 511, 7);
@@ -508,7 +530,7 @@ fn a_page_whose_write_failed_is_not_in_its_block(rt: HostRuntime) -> Result<(), 
     let alloc = rt.alloc();
     let mut blocks = Vec::new(alloc);
     // The block's first call is a read, and its second call a write.
-    blocks.push(MemBlock::<WORDS>::new(alloc, PageBuf::zero(), &[2])?)?;
+    blocks.push(MemBlock::<WORDS>::new(alloc, used_page(), &[2])?)?;
     let (pool, mut pass) = pool_of(alloc, 1, blocks)?;
     let mut iface = Interface::new(0, 1);
     bring_and_put(&rt, &pool, &mut pass, &mut iface, 0, 5, 7);

@@ -1,7 +1,7 @@
 //! A pool of 1,000 pages and 64 frames, one of which has a page, with ample memory. The values are worked out by hand from the rules, and not taken
 //! from a run.
 
-use crate::pool::{brought, pool_of, zeros};
+use crate::pool::{brought, pool_of, used_pages};
 use arrayvec::ArrayVec;
 use std::test::Fail;
 use vm_clock::candidates;
@@ -16,7 +16,7 @@ const MARKED_AT_1: u64 = 0xfe00_0000_0000_0001;
 /// So no look is at a page that is not resident.
 #[test]
 fn a_walk_looks_at_frames_alone(rt: HostRuntime) -> Result<(), Fail> {
-    let blocks = zeros::<WORDS>(rt.alloc(), 1000)?;
+    let blocks = used_pages::<WORDS>(rt.alloc(), 1000)?;
     let (pool, mut pass) = pool_of(rt.alloc(), 64, blocks)?;
     let mut iface = Interface::new(0, 1);
     brought(&rt, &pool, &mut pass, &mut iface, 500);

@@ -9,7 +9,7 @@ use Rattle.vm_step.specs.Together.{IsNew}
 use Rattle.vm_step.proofs.{HeldFrames.held-on, Still.still-nothing}
 use Rattle.vm_step.proofs.Together.{each-at, holds-none, new-nothing, split-current, split-still, whole-again}
 use Rattle.vm_exmap.specs.Frames.{MovesFrames}
-use Rattle.vm_guard.specs.Guards.{IsLocked, IsReleased, IsSet}
+use Rattle.vm_guard.specs.{Guards.IsLocked, Guards.IsReleased, Guards.IsSet, Quiet.IsQuiet}
 use Rattle.vm_workers.specs.Puts.{HasPut, KeepsParts, MayStartWork}
 use Rattle.vm_workers.proofs.Staying.{parts-kept}
 
@@ -38,32 +38,58 @@ module _ {X : Type 0} where
   pub nothing-again : (v x y : View X) (olds news : List (View X)) → PassesSplit v olds x → HasJoined x news y → HoldsNoPage v → HoldsNoPage y
   nothing-again v x y olds news s j n = j.nothing (still-nothing v x (split-still v olds x s) n)
 
-  module _ (tied : Start → ℕ → List ℕ → ℕ → List ℕ → Type 0) (p frame version s : ℕ) (dirty : Bool) (i x : ℕ) (said : Option X) (v a b w : View X)
-      (locked : IsLocked tied p frame version dirty v a) (set : IsSet p frame dirty i x a b) (released : IsReleased p s said b w) where
-    -- a page was locked, a word of it set, and the page released
+  -- the pass holds what it held, and has its frames
+  pub record HoldsAll (v w : View X) : Type 0 where
+    pub holds : (q : ℕ) → HoldsPage v w q
+    pub out : w.out ≡ v.out
+    pub start : w.start ≡ v.start
+    pub frames : w.frames ≡ v.frames
+
+  pub holds-read : (p : ℕ) (done : List Did) (v w : View X) → IsQuiet p done v w → HoldsAll v w
+  holds-read p done v w reads = record { holds = reads.holds; out = reads.steady.out; start = reads.steady.start; frames = reads.steady.frames.0 }
+
+  pub holds-set : (p frame : ℕ) (dirty : Bool) (i x : ℕ) (v w : View X) → IsSet p frame dirty i x v w → HoldsAll v w
+  holds-set p frame dirty i x v w set = record {
+    holds = λ q. ⊎_elim (λ (e : q ≡ p). subst (HoldsPage v w) (sym e) set.holds) (λ (ne : q ≢ p). set.elsewhere.holds q ne) (cases_eq q p);
+    out = set.elsewhere.steady.out;
+    start = set.elsewhere.steady.start;
+    frames = set.elsewhere.steady.frames.0;
+  }
+
+  pub holds-both : (u v w : View X) → HoldsAll u v → HoldsAll v w → HoldsAll u w
+  holds-both u v w a b = record {
+    holds = λ q. record { shares = (b.holds q).shares ∙ (a.holds q).shares; exclusive = (b.holds q).exclusive ∙ (a.holds q).exclusive; writing = (b.holds q).writing ∙ (a.holds q).writing };
+    out = b.out ∙ a.out;
+    start = b.start ∙ a.start;
+    frames = b.frames ∙ a.frames;
+  }
+
+  module _ (tied : Start → ℕ → List ℕ → ℕ → List ℕ → Type 0) (p frame version s : ℕ) (dirty : Bool) (said : Option X) (v a b w : View X)
+      (locked : IsLocked tied p frame version dirty v a) (amid : HoldsAll a b) (released : IsReleased p s said b w) where
+    -- a page was locked, and words of it were read or set, and it was released
     put-holds : HoldsNoPage v → (q : ℕ) → HoldsPage v w q
     put-holds n q =
         ⊎_elim
         (λ (e : q ≡ p).
         subst (HoldsPage v w) (sym e) (record {
-          shares = ap (λ (y : Seat). y.shares) released.seat ∙ set.holds.shares ∙ ap (λ (y : Seat). y.shares) locked.seat;
+          shares = ap (λ (y : Seat). y.shares) released.seat ∙ (amid.holds p).shares ∙ ap (λ (y : Seat). y.shares) locked.seat;
           exclusive = ap (λ (y : Seat). y.exclusive) released.seat ∙ sym (n.exclusive p);
-          writing = ap (λ (y : Seat). y.writing) released.seat ∙ set.holds.writing ∙ ap (λ (y : Seat). y.writing) locked.seat;
+          writing = ap (λ (y : Seat). y.writing) released.seat ∙ (amid.holds p).writing ∙ ap (λ (y : Seat). y.writing) locked.seat;
         }))
         (λ (ne : q ≢ p).
         let one = locked.elsewhere.holds q ne in
-        let two = set.elsewhere.holds q ne in
+        let two = amid.holds q in
         let three = released.elsewhere.holds q ne in
         record { shares = three.shares ∙ two.shares ∙ one.shares; exclusive = three.exclusive ∙ two.exclusive ∙ one.exclusive; writing = three.writing ∙ two.writing ∙ one.writing })
         (cases_eq q p)
 
     pub put-nothing : HoldsNoPage v → HoldsNoPage w
-    put-nothing n = nothing-on v w (put-holds n) (released.elsewhere.steady.out ∙ set.elsewhere.steady.out ∙ locked.elsewhere.steady.out) n
+    put-nothing n = nothing-on v w (put-holds n) (released.elsewhere.steady.out ∙ amid.out ∙ locked.elsewhere.steady.out) n
 
     pub put-held : (frames : List ℕ) → AreHeld frames v → AreHeld frames w
     put-held frames h =
-        held-on frames v w h (released.elsewhere.steady.start ∙ set.elsewhere.steady.start ∙ locked.elsewhere.steady.start)
-        (released.elsewhere.steady.frames.0 ∙ set.elsewhere.steady.frames.0 ∙ locked.elsewhere.steady.frames.0)
+        held-on frames v w h (released.elsewhere.steady.start ∙ amid.start ∙ locked.elsewhere.steady.start)
+        (released.elsewhere.steady.frames.0 ∙ amid.frames ∙ locked.elsewhere.steady.frames.0)
 
 -- ---- passes that were split off for the workers
 

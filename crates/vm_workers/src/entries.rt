@@ -1,5 +1,5 @@
 // A pass that makes three entries: they are its own, under its first number, with the counts 1, 2 and 3.
-ghost use Rattle.std.specs.Prelude.{◌<◌, ◌≡◌, IfOk, length, map, true};
+ghost use Rattle.std.specs.Prelude.{[], ◌<◌, ◌≡◌, IfOk, length, map, true};
 ghost use Rattle.vm_page.specs.Sizes.{IsSize};
 ghost use Rattle.vm_rule.specs.Prelude.{block_words, IsStarted, MayBegin};
 ghost use Rattle.vm_step.specs.Prelude.{IsReady, IsSamePass, view};
@@ -72,11 +72,11 @@ pub fn three_entries<B: PageBlock<N> + Drop, const N: usize>(
     requires sized { IsSize N }
     requires pages { shape.pages ≡ length blocks.items }
     requires fits { IsStarted shape.first_version shape.next shape.frames (length blocks.items) }
-    requires begins { B.tells ≡ true → MayBegin ⟦<Tally as Owner>⟧.keeps shape.next (block_words (map B.stored blocks.items)) }
+    requires begins { B.tells ≡ true → MayBegin ⟦<Tally as Owner>⟧.keeps shape.next [] (block_words (map B.stored blocks.items)) }
     requires page { p < shape.pages }
     ensures told { IfOk result (λ told. HasThree p (view told.pass)) }
 {
-    let (pool, mut pass) = Pool::start(alloc, shape, blocks)?;
+    let (pool, mut pass) = Pool::start(alloc, shape, blocks, &[])?;
     let mut iface = Interface::new(0, 1);
     let answer = pool.bring(&mut pass, &mut iface, p);
     if answer != Bring::Brought {

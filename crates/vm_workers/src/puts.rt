@@ -23,7 +23,8 @@ const PAGES: u32 = 8;
 /// How often a worker tries to set a word: a page may be locked by another worker, or its frame may go to another page, each time.
 const TRIES: u32 = 100_000_000;
 
-/// One try to set word `i` of page `p`. Where the page can't be locked it is brought, if it is evicted.
+/// One try to set word `i` of page `p`: whether no other is needed. Where the page can't be locked it is brought, if it is evicted. A page whose
+/// last word is 0 may be one that nobody uses, and is left as it is.
 fn try_put<B: PageBlock<N>, const N: usize>(
     pool: &Pool<Bare, B, N>,
     pass: &mut Pass<Bare>,
@@ -41,6 +42,10 @@ fn try_put<B: PageBlock<N>, const N: usize>(
 {
     match ExclusiveGuard::take(&pool.words, pass, p) {
         Ok(mut guard) => {
+            if guard.read(&pool.words, pass, N - 1) == 0 {
+                guard.release(&pool.words, pass, None);
+                return true;
+            }
             guard.set(&pool.words, pass, i, w);
             guard.release(&pool.words, pass, None);
             true
@@ -52,7 +57,7 @@ fn try_put<B: PageBlock<N>, const N: usize>(
     }
 }
 
-/// Tries to set word `i` of page `p` until it is set.
+/// Tries to set word `i` of page `p` until it is set, or the page is found to be one that nobody uses.
 fn put<B: PageBlock<N>, const N: usize>(
     pool: &Pool<Bare, B, N>,
     pass: &mut Pass<Bare>,

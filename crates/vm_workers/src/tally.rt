@@ -38,6 +38,8 @@ impl Owner for Tally {
 
     ghost claims = { λ _ _ _ _ _. tt };
 
+    ghost numbers = { λ _ _ _ _ _. tt };
+
     ghost ties = { λ _ _ _ _ _ _ _. tt };
 }
 

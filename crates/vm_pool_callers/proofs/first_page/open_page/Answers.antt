@@ -12,7 +12,7 @@ bring-answer-requires g c =
     let page = subst (λ (s : Shape). c.args.pid < s.pages) (sym made.key) (subst (λ (n : ℕ). c.args.pid < n) (c.requires.pages ∙ sym mapped) c.requires.page) in (
       search rules,
       (
-        record { may = (made.pass, subst (λ x. 0 < length x.used) (sym made.view) (omega arith)); table = first-of _ _ _ _ _ blocks _ made.view _ made.key },
+        record { may = (made.pass, subst (λ x. 0 < length x.used) (sym made.view) (omega arith)); table = first-of _ _ _ _ _ _ blocks _ made.view _ made.key },
         (ap (λ x. x.out) made.view, (subst (λ (l : List ℕ). AreHeld l (view c.in_ok-pool.pass)) (sym c.new-iface.ensures.2) record { apart = tt; inside = tt; held = tt }, page)),
       ),
     )

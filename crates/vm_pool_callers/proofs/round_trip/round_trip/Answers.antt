@@ -5,8 +5,10 @@ use Rattle.vm_exmap.proofs.Handing.{held-on}
 use Rattle.vm_pool.proofs.{Keeping.keeps-alone, Knowing.answered-free, Knowing.when-free}
 use Rattle.vm_pool_callers.proofs.Prelude.{ap, arith, at, draft_of, false≢true, IfSome_then, is_readable, IsAlone, IsKnownFree, IsOk, known_version, known_word, rules}
 use Rattle.vm_pool_callers.proofs.Prelude.{last_of, length, List, MAX_VERSION, Origin, slice_set, state_of, subst, sym, true, version_of, view, ℕ, ◌+◌, ◌<◌, ◌∙◌, ◌≡◌}
-use Rattle.vm_pool_callers.proofs.Prelude.{inr, None, refl, Some, ◌≤◌}
-use Rattle.vm_pool_callers.proofs.RoundTrip.{first-locks, reads-again, same-version, set-words, some-is, steady-alone, word-back}
+use Rattle.vm_page.specs.Pages.{all_zero}
+use Rattle.vm_step.specs.Prelude.{IsClaimed}
+use Rattle.vm_pool_callers.proofs.Prelude.{inl, inr, None, refl, Some, Version, ◌≤◌}
+use Rattle.vm_pool_callers.proofs.RoundTrip.{first-locks, reads-again, same-last, same-version, set-words, some-is, steady-alone, word-back}
 use Rattle.vm_pool_callers.proofs.round_trip.round_trip.Goals as goal
 
 pub returns-in_default-clause-sure : goal.returns-in_default-clause-sure
@@ -28,6 +30,18 @@ pub release-requires-clause-home : goal.release-requires-clause-home
 release-requires-clause-home g c o out same =
     let clash : None ≡ Some o = sym (c.set.ensures.set.elsewhere.steady.out ∙ c.in-Ok.ensures.taken.1.elsewhere.steady.out ∙ c.bring.ensures.keeps.out ∙ c.requires.home) ∙ out in
     absurd (cc)
+
+-- the page is in use, as it was: the pass, which is alone, has made no release since
+pub release-requires-clause-claimed : goal.release-requires-clause-claimed
+release-requires-clause-claimed g c tells =
+    let taken = c.in-Ok.ensures.taken in
+    let one : IsAlone (view c.bring.new.pass) = keeps-alone c.bring.ensures.keeps c.requires.alone in
+    let two : IsAlone (view c.take.new.pass) = steady-alone taken.1.elsewhere.steady one in
+    let pid : c.set.new.self.pid ≡ c.args.pid = ap (λ s. s.pid) c.set.ensures.guard ∙ taken.0 in
+    let stays : (last_of (view c.set.new.pass) c.args.pid).words ≡ (last_of (view c.args.pass.now) c.args.pid).words =
+    ap (λ (y : Version). y.words) (same-last _ c.args.pid _ _ two c.set.ensures.set.elsewhere.steady ∙ same-last _ c.args.pid _ _ one taken.1.elsewhere.steady)
+    ∙ c.bring.ensures.keeps.alone.words c.requires.alone.0 c.requires.alone.1 c.args.pid in
+    subst (λ (n : ℕ). IsClaimed (view c.set.new.pass) n) (sym pid) (inr (inl (ap all_zero stays ∙ c.requires.used)))
 
 pub release-requires-clause-owner : goal.release-requires-clause-owner
 release-requires-clause-owner g c tells = inr refl

@@ -41,15 +41,15 @@ drop_with-requires-clause-legal g c =
 pub returns-clause-word : goal.returns-clause-word
 returns-clause-word g c brought =
     let blocks : List Stored = map g.B.Block.stored c.args.blocks.items in
-    let first : View g.row.U-Said.Denot = begun (unborn (started_shape g.row.N g.B.Block.tells c.args.shape.first_version c.args.shape.next c.args.shape.frames blocks)) in
+    let first : View g.row.U-Said.Denot = begun (unborn (started_shape g.row.N g.B.Block.tells c.args.shape.first_version c.args.shape.next [] c.args.shape.frames blocks)) in
     let v = view c.in_ok-pool.field-0.pass in
     let asked = c.in_ok-pool.ensures.asked in
     let below : known_version first c.args.pid < MAX_VERSION =
-    (first-out _ _ _ _ _ blocks first refl _ (length-mapped g.B.Block.stored c.args.blocks.items) c.requires.fits c.args.pid (subst (λ (n : ℕ). c.args.pid < n) c.requires.pages c.requires.page.0) c.requires.below).1 in
+    (first-out _ _ _ _ _ _ blocks first refl _ (length-mapped g.B.Block.stored c.args.blocks.items) c.requires.fits c.args.pid (subst (λ (n : ℕ). c.args.pid < n) c.requires.pages c.requires.page.0) c.requires.below).1 in
     let knows : KnowsBrought 1 c.args.pid [] c.in_ok-pool.field-0.iface.frames first v = subst (KnowsBring 1 c.args.pid [] c.in_ok-pool.field-0.iface.frames first v) brought asked.knows in
     let unlocked : state_of (known_word c.args.pid v) ≡ UNLOCKED = ap state_of (brought-word knows) ∙ word-state UNLOCKED (known_version first c.args.pid + 1) (omega (arith, below)) in
     let may : MayShare (known_word c.args.pid v) = inl (omega (arith, unlocked)) in
-    let sure : IsOk c.take.result = c.take.ensures.sure (keeps-alone asked.keeps (first-alone _ _ _ _ _ blocks first refl)) may in
+    let sure : IsOk c.take.result = c.take.ensures.sure (keeps-alone asked.keeps (first-alone _ _ _ _ _ _ blocks first refl)) may in
     elim c.match-take.branch [
       | in-Ok w ↦ subst (λ o. IsSome o) (sym w.word-is) refl
       | in-Err w ↦ absurd (false≢true (subst (λ r. IsOk r) w.in-Err.is sure))

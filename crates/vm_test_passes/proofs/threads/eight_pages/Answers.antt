@@ -5,7 +5,7 @@ use Rattle.vm_pool.proofs.FirstPass.{first-alone}
 use Rattle.vm_test_passes.proofs.threads.eight_pages.Goals as goal
 
 pub returns-clause-alone : goal.returns-clause-alone
-returns-clause-alone g c = first-alone _ _ _ _ _ _ _ c.in_ok-start.ensures.view
+returns-clause-alone g c = first-alone _ _ _ _ _ _ _ _ c.in_ok-start.ensures.view
 
 pub returns-clause-parts : goal.returns-clause-parts
 returns-clause-parts g c =
