@@ -2,11 +2,12 @@
 use Rattle.std.proofs.Common.{◌≡◌, ◌≢◌, ℕ, zero, suc, ◌<◌, ◌≤◌, List, [], ◌∷◌, length, take, None, refl, sym, subst, arith}
 use Rattle.std.proofs.lemmas.Bool.Decides.{nat_tests}
 use Rattle.vm_map.specs.Map.{Pairs, put_pair, StartsAt}
-use Rattle.vm_map.proofs.MapLemmas.{Rises-put, floor_some}
+use Rattle.vm_map.proofs.MapLemmas.{Rises-put, Rises-del, floor_some}
 use Rattle.vm_tree_model.specs.Layout.{Layout, IsClean, cut}
 use Rattle.vm_tree_model.specs.Node.{Node, Covers, IsInnerNode}
 use Rattle.vm_tree_model.specs.Page.{pairs_of, node_of, IsInner}
-use Rattle.vm_tree_model.specs.Edits.{AddsPair, IsSplit, IsNewRoot, child_of}
+use Rattle.vm_tree_model.specs.Edits.{AddsPair, IsSplit, IsNewRoot, TakesPair, child_of}
+use Rattle.vm_tree_model.proofs.DelLemmas.{StartsAt-del}
 use Rattle.vm_node.proofs.CutPairs.{left_rises, right_rises, StartsAt-drop}
 
 starts_put : (m : Pairs) (low k v : ℕ) → StartsAt low m → low ≤ k → StartsAt low (put_pair m k v)
@@ -29,6 +30,15 @@ module _ (L : Layout) where
     level = inner.node.level;
     rises = Rises-put _ _ _ key page inner.node.rises covers.0 covers.1;
     starts = starts_put _ _ key page inner.node.starts covers.0;
+  })
+
+  -- a key that goes is not the low fence
+  pub takes_inner : (old new : List ℕ) (key : ℕ) → TakesPair L old new key → IsInner L old → (node_of L old).low < key → IsInner L new
+  takes_inner old new key takes inner above = inner_with new _ (takes.clean inner.clean) takes.node (record {
+    tag = inner.node.tag;
+    level = inner.node.level;
+    rises = Rises-del _ _ _ key inner.node.rises;
+    starts = StartsAt-del _ _ key inner.node.starts above;
   })
 
   module _ (old new right : List ℕ) (separator : ℕ) (split : IsSplit L old new right separator) (first : 1 ≤ cut L (pairs_of L old)) (some : cut L (pairs_of L old) < length (pairs_of L old)) (inner : IsInner L old) where

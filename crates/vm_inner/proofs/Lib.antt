@@ -1,3 +1,4 @@
 mod Floor
 mod NewRoots
 pub mod InnerNodes
+mod Siblings

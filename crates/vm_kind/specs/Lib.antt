@@ -1,3 +1,4 @@
 pub mod Bounds
 pub mod Room
 pub mod WordRoom
+pub mod Joins

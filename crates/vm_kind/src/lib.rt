@@ -4,6 +4,7 @@
 
 mod edits;
 mod kind;
+mod merges;
 mod pages;
 mod ranges;
 mod tree;
@@ -12,6 +13,7 @@ mod word_keys;
 
 pub use edits::Edits;
 pub use kind::Kind;
+pub use merges::Merges;
 pub use pages::Pages;
 pub use ranges::Ranges;
 pub use tree::{Tree, TreeOf};

@@ -1,7 +1,7 @@
 //! The tree of a kind of nodes as the owner of a page store.
 ghost use Rattle.std.specs.Prelude.{◌==◌};
 ghost use Rattle.vm_tree_laws.specs.{Plain.ProvesHeld, Plain.KeepsPlain, Plain.ReadsPlain, Plain.ReleasesPlain, Tied.Tied};
-ghost use Rattle.vm_tree_laws.proofs.Plainly.{plain_claims, plain_holds, plain_reads, plain_releases, plain_ties};
+ghost use Rattle.vm_tree_laws.proofs.Plainly.{plain_claims, plain_holds, plain_moves, plain_reads, plain_releases, plain_ties};
 
 use crate::kind::Kind;
 use crate::word_keys::Words64;
@@ -39,6 +39,8 @@ impl<K: Kind> Owner for TreeOf<K> {
     ghost holds = { plain_holds K.plain K.layout K.is_layout };
 
     ghost claims = { plain_claims K.plain K.layout K.is_layout };
+
+    ghost numbers = { plain_moves K.plain K.layout };
 
     ghost ties = { λ start kept r p keeps there other. plain_ties K.plain K.layout K.is_layout start kept r p keeps there };
 }

@@ -9,20 +9,21 @@ ghost use Rattle.vm_kind.specs.WordRoom.{spare_in, spare_is};
 
 use crate::edits::Edits;
 use crate::kind::Kind;
+use crate::merges::Merges;
 use crate::pages::Pages;
 use crate::ranges::Ranges;
 use crate::windows::Windows;
 use std::marker::PhantomData;
 use vm_block::Block;
 use vm_guard::OptGuard;
-use vm_inner::{Fenced, add_edit, child_at, new_root};
+use vm_inner::{ChildPair, Fenced, add_edit, beside, child_at, new_root, remove_edit};
 use vm_map::call::{Call, Reply, Said, Swap};
 use vm_map::span::Span;
 use vm_map::window::{Bound, Window};
 use vm_node::pairs::{count_at, count_of, most_pairs};
 use vm_node::{
-    Edit, Full, Place, covers, covers_at, del_edit, find_at, in_buffer, is_leaf, is_leaf_at,
-    left_word, put_edit, range_at, right_half, window_at,
+    Edit, Full, Place, covers, covers_at, del, del_edit, find_at, in_buffer, is_leaf, is_leaf_at,
+    join, left_word, put_edit, range_at, right_half, window_at,
 };
 use vm_owner::Owner;
 use vm_page::PageBuf;
@@ -290,5 +291,37 @@ impl<S: OfSize<N>, const N: usize> Edits for WordKeys<S, N> {
 
     fn new_root(page: &mut PageBuf<N>, level: u64, left: u64, separator: &u64, right: u64) {
         new_root(page, level, left, *separator, right)
+    }
+}
+
+impl<S: OfSize<N>, const N: usize> Merges for WordKeys<S, N> {
+    fn copy(into: &mut PageBuf<N>, page: &PageBuf<N>) {
+        into.copy_from(page)
+    }
+
+    fn del(page: &mut PageBuf<N>, key: &u64) -> Option<u64> {
+        del(page, *key)
+    }
+
+    fn is_sparse(page: &PageBuf<N>) -> bool {
+        4 * count_of(page) <= most_pairs(N)
+    }
+
+    fn may_join(left: &PageBuf<N>, right: &PageBuf<N>) -> bool {
+        count_of(left) + count_of(right) <= most_pairs(N) * 5 / 7
+    }
+
+    #[tactic(auto, using(crate::proofs::WordJoins::both_fit))]
+    fn join(left: &mut PageBuf<N>, right: &PageBuf<N>) {
+        join(left, right);
+        let _ = in_buffer(left);
+    }
+
+    fn beside(page: &PageBuf<N>, key: &u64) -> Option<ChildPair<u64>> {
+        beside(page, *key)
+    }
+
+    fn remove_edit(page: &PageBuf<N>, key: &u64) -> Option<(u64, Edit)> {
+        remove_edit(page, *key)
     }
 }

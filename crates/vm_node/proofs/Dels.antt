@@ -11,7 +11,7 @@ use Rattle.vm_page.specs.Sizes.{IsSize}
 use Rattle.vm_node.proofs.Sizes.{whole}
 use Rattle.vm_tree_model.proofs.PairWords.{length-pairs_of, places_same}
 use Rattle.vm_node.specs.Places.{index_at}
-use Rattle.vm_node.specs.Takes.{TakesPair}
+use Rattle.vm_tree_model.specs.Edits.{TakesPair}
 use Rattle.vm_node.proofs.Indexes.{del-index, no_key-del}
 use Rattle.vm_node.proofs.Puts.{node_with, clean_rest, clean_with}
 

@@ -5,8 +5,7 @@ use Rattle.vm_map.proofs.MapLemmas.{Rises-put, Rises-del}
 use Rattle.vm_tree_model.specs.Layout.{Layout, IsClean, cut}
 use Rattle.vm_tree_model.specs.Node.{Node, Covers, IsLeafNode}
 use Rattle.vm_tree_model.specs.Page.{pairs_of, node_of, IsLeaf}
-use Rattle.vm_tree_model.specs.Edits.{AddsPair, IsLeafWith, IsSplit}
-use Rattle.vm_node.specs.Takes.{TakesPair}
+use Rattle.vm_tree_model.specs.Edits.{AddsPair, IsLeafWith, IsSplit, TakesPair}
 use Rattle.vm_node.proofs.CutPairs.{left_rises, right_rises}
 
 module _ (L : Layout) where

@@ -16,3 +16,4 @@ pub mod Searches
 pub mod LeafWindows
 pub mod SplitWords
 pub mod Halving
+pub mod JoinedPages

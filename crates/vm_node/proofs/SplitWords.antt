@@ -35,7 +35,7 @@ pub record IsHalved (z half : ℕ) (old new right : List ℕ) : Type 0 where
   pub moved : (k : ℕ) → k < 2 * half → get_or right (8 + k) 0 ≡ get_or old (8 + 2 * half + k) 0
   pub right_above : (k : ℕ) → 8 + 2 * half ≤ k → get_or right k 0 ≡ 0
 
-node_path : (n m : Node) → n.tag ≡ m.tag → n.level ≡ m.level → n.low ≡ m.low → n.high ≡ m.high → n.pairs ≡ m.pairs → n ≡ m
+pub node_path : (n m : Node) → n.tag ≡ m.tag → n.level ≡ m.level → n.low ≡ m.low → n.high ≡ m.high → n.pairs ≡ m.pairs → n ≡ m
 node_path n m t l a b p = λ i. record { tag = t i; level = l i; low = a i; high = b i; pairs = p i }
 
 less_none : (k : ℕ) → k - 0 ≡ k

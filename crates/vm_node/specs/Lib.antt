@@ -1,7 +1,7 @@
 pub mod Places
-pub mod Takes
 pub mod Shows
 pub mod Loads
 pub mod Edited
 pub mod Halves
 pub mod Sizes
+pub mod Joined

@@ -7,9 +7,8 @@ ghost use Rattle.vm_page.specs.Sizes.{IsSize};
 ghost use Rattle.vm_tree_model.specs.Fixed.{fixed};
 ghost use Rattle.vm_tree_model.specs.Node.{Covers};
 ghost use Rattle.vm_tree_model.specs.Page.{pairs_of, node_of, IsLeaf};
-ghost use Rattle.vm_tree_model.specs.Edits.{IsFullFor, AddsPair, IsRefused, PutsInLeaf, IsLeafWith};
+ghost use Rattle.vm_tree_model.specs.Edits.{IsFullFor, AddsPair, IsRefused, PutsInLeaf, IsLeafWith, TakesPair};
 ghost use Rattle.vm_node.specs.Edited.{edited, edited_word, LeavesElse};
-ghost use Rattle.vm_node.specs.Takes.{TakesPair};
 
 use crate::full::Full;
 use crate::pairs::{count_of, index_of, key_at, lower_bound, most_pairs, value_at};

@@ -6,10 +6,9 @@ ghost use Rattle.vm_page.specs.Sizes.{IsSize};
 ghost use Rattle.vm_tree_model.specs.Fixed.{fixed};
 ghost use Rattle.vm_tree_model.specs.Node.{Covers};
 ghost use Rattle.vm_tree_model.specs.Page.{pairs_of, node_of, IsLeaf};
-ghost use Rattle.vm_tree_model.specs.Edits.{IsFullFor, AddsPair, IsRefused, PutsInLeaf, IsLeafWith};
+ghost use Rattle.vm_tree_model.specs.Edits.{IsFullFor, AddsPair, IsRefused, PutsInLeaf, IsLeafWith, TakesPair};
 ghost use Rattle.vm_node.specs.Loads.{IsAnswer, Tells};
 ghost use Rattle.vm_node.specs.Sizes.{looks_for};
-ghost use Rattle.vm_node.specs.Takes.{TakesPair};
 
 use crate::edit::{del_edit, put_edit};
 use crate::full::Full;

@@ -17,6 +17,8 @@ mod inner;
 #[cfg(test)]
 mod map;
 #[cfg(test)]
+mod merging;
+#[cfg(test)]
 mod node;
 #[cfg(test)]
 mod page;

@@ -1,15 +1,16 @@
 -- A claim of zero pages keeps what the tree keeps.
 use Rattle.std.proofs.Common.{◌≡◌, ◌⊎◌, inl, inr, ℕ, zero, suc, ◌+◌, ◌<◌, ◌≤◌, Bool, true, false, [], ◌∷◌, ◌++◌, length, slice_index, refl, sym, ap, ◌∙◌, arith, length-append}
 use Rattle.std.proofs.lemmas.Bool.{cases_eq}
+use Rattle.vm_page.specs.Pages.{all_zero}
 use Rattle.vm_tree_model.specs.Layout.{Layout, IsLayout}
-use Rattle.vm_tree_model.specs.Node.{IsNode}
 use Rattle.vm_tree_model.specs.Page.{IsFree}
-use Rattle.vm_tree_model.specs.Tree.{page_at, node_at}
+use Rattle.vm_tree_model.specs.Tree.{page_at}
 use Rattle.vm_owner.specs.Numbers.{has}
-use Rattle.vm_owner.specs.Kept.{Start, Kept, claimed, AreZero}
+use Rattle.vm_owner.specs.Kept.{Start, Kept, claimed, AreZero, is_spare}
 use Rattle.vm_owner.proofs.NumberLemmas.{has-end, has-last, apart-end}
 use Rattle.vm_map.specs.declared.call.Said.{Said}
 use Rattle.vm_tree_laws.specs.Keeps.{KeepsTree}
+use Rattle.vm_tree_laws.proofs.Payments.{paid_more}
 
 module _ (L : Layout) (laws : IsLayout L) (start : Start) (kept : Kept Said) (keeps : KeepsTree L start kept) where
   next_not_owed : has kept.next kept.owed ≡ false
@@ -58,16 +59,19 @@ module _ (L : Layout) (laws : IsLayout L) (start : Start) (kept : Kept Said) (ke
         | inr before ↦ keeps.owed.free x before
       ];
     };
-    count = omega (arith, keeps.count, length-append kept.owed (kept.next ∷ []));
     room = keeps.room;
+    paid = paid_more L.node_weight kept.next _ _ start.next (length kept.owed) (length (kept.owed ++ kept.next ∷ [])) (length-append kept.owed (kept.next ∷ [])) keeps.paid;
   }
     where
-      claimed_or_owed : (x : ℕ) → start.next ≤ x → x < kept.next + 1 → IsNode (node_at L kept.pages x) ⊎ (has x (kept.owed ++ kept.next ∷ []) ≡ true)
+      claimed_or_owed : (x : ℕ) → start.next ≤ x → x < kept.next + 1 → (all_zero (page_at kept.pages x) ≡ false) ⊎ (has x (kept.owed ++ kept.next ∷ []) ≡ true) ⊎ (is_spare kept x ≡ true)
       claimed_or_owed x ge lt = elim (cases_eq x kept.next) [
-        | inl same ↦ inr (ap (λ y. has y (kept.owed ++ kept.next ∷ [])) same ∙ has-last kept.owed kept.next)
+        | inl same ↦ inr (inl (ap (λ y. has y (kept.owed ++ kept.next ∷ [])) same ∙ has-last kept.owed kept.next))
         | inr other ↦ elim (keeps.claimed x ge (omega arith)) [
           | inl is ↦ inl is
-          | inr some ↦ inr (has-end kept.owed kept.next x other ∙ some)
+          | inr rest ↦ elim rest [
+            | inl some ↦ inr (inl (has-end kept.owed kept.next x other ∙ some))
+            | inr spare ↦ inr (inr spare)
+          ]
         ]
       ]
 

@@ -1,13 +1,12 @@
 -- What the node calls say of their pages is what the laws ask of a release and of a read.
-use Rattle.std.proofs.Common.{◌≡◌, ◌≢◌, ℕ, ◌+◌, ◌<◌, ◌≤◌, List, [], ◌∷◌, length, min, slice_index, slice_set, true, Option, Some, None, refl, sym, ap, ◌∙◌, arith, option_map}
+use Rattle.std.proofs.Common.{◌≡◌, ◌≢◌, ℕ, ◌+◌, ◌<◌, ◌≤◌, List, [], ◌∷◌, length, min, slice_index, slice_set, Option, Some, None, refl, sym, ap, ◌∙◌, arith, option_map}
 use Rattle.std.proofs.lemmas.Bool.Decides.{nat_tests}
 use Rattle.vm_tree_model.specs.Layout.{Layout, size, IsFullNode}
 use Rattle.vm_map.specs.Map.{Rises, lookup_at, del_pair, floor_pair}
 use Rattle.vm_tree_model.specs.Node.{Covers}
-use Rattle.vm_tree_model.specs.Page.{pairs_of, node_of, IsInner}
+use Rattle.vm_tree_model.specs.Page.{pairs_of, node_of, IsFree, IsInner}
 use Rattle.vm_map.proofs.MapLemmas.{floor_is}
 use Rattle.vm_tree_model.specs.Edits.{child_of, PutsInLeaf, IsLeafWith, AddsPair, IsSplit, IsNewRoot}
-use Rattle.vm_owner.specs.Numbers.{has}
 use Rattle.vm_owner.specs.Kept.{Start, Change}
 use Rattle.vm_map.specs.declared.call.Call.TheVariants.{Get, Put, Del, Swap, Window as AWindow}
 use Rattle.vm_map.specs.declared.call.Reply.TheVariants.{Got, Was, Gone, Swapped, Win}
@@ -46,22 +45,22 @@ module _ (L : Layout) (start : Start) (p number count : ℕ) (words : List ℕ) 
 
 -- the parent that the descent of a key reached, and its child for that key
 pub may_split : (L : Layout) (start : Start) (due : List ℕ) (parent node sibling : Change) (key separator : ℕ) → IsInner L parent.old → Covers (node_of L parent.old) key → child_of L parent.old key ≡ Some node.page
-    → size L (node_of L parent.old) + L.growth ≤ L.room → IsFullNode L (node_of L node.old) → IsSplit L node.old node.new sibling.new separator → AddsPair L parent.old parent.new separator sibling.page → has sibling.page due ≡ true → MayRelease L start due (parent ∷ node ∷ sibling ∷ []) []
-may_split L start due parent node sibling key separator inner covers names room full split adds owed = go (floor_pair (pairs_of L parent.old) key) refl
+    → size L (node_of L parent.old) + L.growth ≤ L.room → IsFullNode L (node_of L node.old) → IsSplit L node.old node.new sibling.new separator → AddsPair L parent.old parent.new separator sibling.page → IsFree L sibling.old → MayRelease L start due (parent ∷ node ∷ sibling ∷ []) []
+may_split L start due parent node sibling key separator inner covers names room full split adds free = go (floor_pair (pairs_of L parent.old) key) refl
   where
-    go : (o : Option (ℕ × ℕ)) → floor_pair (pairs_of L parent.old) key ≡ o → MaySplit L due parent node sibling
+    go : (o : Option (ℕ × ℕ)) → floor_pair (pairs_of L parent.old) key ≡ o → MaySplit L parent node sibling
     go None none = let no : child_of L parent.old key ≡ None = ap (option_map (λ (y : ℕ × ℕ). y.1)) none in absurd (cc)
     go (Some x) is =
         let some : child_of L parent.old key ≡ Some x.1 = ap (option_map (λ (y : ℕ × ℕ). y.1)) is in
         let page : x.1 ≡ node.page = grind (arith, nat_tests, some, names) in
         let floor = floor_is (pairs_of L parent.old) (node_of L parent.old).low (node_of L parent.old).high key x inner.node.rises covers.1 is in
-        record { key = x.0; separator = separator; inner = inner.node.tag; room = room; names = floor.found ∙ ap (λ (c : ℕ). Some c) page; full = full; split = split; adds = adds; owed = owed }
+        record { key = x.0; separator = separator; inner = inner.node.tag; room = room; names = floor.found ∙ ap (λ (c : ℕ). Some c) page; full = full; split = split; adds = adds; free = free }
 
--- page 0, the root that it names, and the two pages that are owed
+-- page 0, the root that it names, and the two pages that were free
 pub may_split_root : (L : Layout) (start : Start) (due : List ℕ) (meta root sibling top : Change) (height separator : ℕ) → meta.page ≡ 0 → slice_index meta.old 1 ≡ root.page → slice_index meta.old 2 ≡ height
     → IsFullNode L (node_of L root.old) → IsSplit L root.old root.new sibling.new separator → IsNewRoot L top.new (height + 1) root.page separator sibling.page
-    → meta.new ≡ slice_set (slice_set meta.old 1 top.page) 2 (height + 1) → has sibling.page due ≡ true → has top.page due ≡ true → MayRelease L start due (meta ∷ root ∷ sibling ∷ top ∷ []) []
-may_split_root L start due meta root sibling top height separator zero_page root_page is full split grows meta_new owed owed_top = record {
+    → meta.new ≡ slice_set (slice_set meta.old 1 top.page) 2 (height + 1) → IsFree L sibling.old → IsFree L top.old → MayRelease L start due (meta ∷ root ∷ sibling ∷ top ∷ []) []
+may_split_root L start due meta root sibling top height separator zero_page root_page is full split grows meta_new free free_top = record {
   separator = separator;
   page_zero = zero_page;
   root_page = root_page;
@@ -69,6 +68,6 @@ may_split_root L start due meta root sibling top height separator zero_page root
   split = split;
   grows = rw is grows;
   meta_new = rw is meta_new;
-  owed = owed;
-  owed_top = owed_top;
+  free = free;
+  free_top = free_top;
 }

@@ -10,7 +10,7 @@ use Rattle.vm_tree_model.specs.Tree.{map_of}
 use Rattle.vm_owner.specs.declared.Entry.{Entry}
 use Rattle.vm_owner.specs.Kept.{Start, Kept, entries_under}
 use Rattle.vm_owner.proofs.Counts.{counted-more}
-use Rattle.vm_tree_laws.specs.History.{saids, IsLegal, is_new, news}
+use Rattle.vm_tree_laws.specs.History.{gones, saids, is_gone, IsLegal, is_new, news}
 use Rattle.vm_tree_laws.specs.Keeps.{KeepsTree}
 
 after_all-push : (m : Pairs) (h : List (Entry Said)) (e : Entry Said) → after_all m (saids (h ++ e ∷ [])) ≡ after (after_all m (saids h)) e.said.call
@@ -28,6 +28,10 @@ news-push : (h : List (Entry Said)) (e : Entry Said) → news (h ++ e ∷ []) �
 news-push [] e = omega arith
 news-push (f ∷ h) e = omega (arith, news-push h e)
 
+gones-push : (h : List (Entry Said)) (e : Entry Said) → gones (h ++ e ∷ []) ≡ gones h + is_gone e.said.call e.said.reply
+gones-push [] e = omega arith
+gones-push (f ∷ h) e = omega (arith, gones-push h e)
+
 module _ (L : Layout) (start : Start) (kept : Kept Said) (keeps : KeepsTree L start kept) (e : Entry Said) (call : Call) (reply : Reply) (is : e.said ≡ record { call = call; reply = reply }) where
   pub legal_after : e.count ≡ entries_under e.number kept.history + 1 → IsReply (map_of L kept.pages) call reply → IsLegal (map_of L start.pages) (kept.history ++ e ∷ [])
   legal_after turn right = legal_push _ kept.history e keeps.legal (rw is (rw keeps.contents at right)) turn
@@ -39,3 +43,6 @@ module _ (L : Layout) (start : Start) (kept : Kept Said) (keeps : KeepsTree L st
 
   pub news_after : news (kept.history ++ e ∷ []) ≡ news kept.history + is_new call reply
   news_after = news-push kept.history e ∙ ap (λ (s : Said). news kept.history + is_new s.call s.reply) is
+
+  pub gones_after : gones (kept.history ++ e ∷ []) ≡ gones kept.history + is_gone call reply
+  gones_after = gones-push kept.history e ∙ ap (λ (s : Said). gones kept.history + is_gone s.call s.reply) is

@@ -21,7 +21,7 @@ unfolding walk
 large_fault = refl
 
 abbrev pub large_start : Start
-large_start = record { pages = large; next = 2 }
+large_start = record { pages = large; next = 2; free = [] }
 
 pub large_keeps : KeepsTree (fixed 512) large_start (first_kept large_start)
 large_keeps = start_keeps (fixed 512) layout_512 large_start ((no_reason (fixed 512) layout_512 large).0 large_fault) (omega arith)

@@ -1,8 +1,9 @@
 -- The entry that a validated leaf proves keeps what the tree keeps.
-use Rattle.std.proofs.Common.{◌≡◌, ◌≤◌, ℕ, min, ◌+◌, ◌*◌, [], ◌∷◌, refl, sym, ◌∙◌, arith}
+use Rattle.std.proofs.Common.{◌≡◌, ◌≤◌, ℕ, min, ◌+◌, ◌-◌, ◌*◌, [], ◌∷◌, length, refl, sym, ◌∙◌, arith}
 use Rattle.std.proofs.Math.Nat.{mul-add}
 use Rattle.vm_tree_model.specs.Layout.{Layout, IsLayout}
 use Rattle.vm_tree_model.specs.Tree.{page_at, IsLeafAt, map_of}
+use Rattle.vm_tree_model.specs.Count.{excess, node_count}
 use Rattle.vm_map.proofs.EditedSizes.{del-none}
 use Rattle.vm_tree_model.proofs.Laws.{lookup-map_of}
 use Rattle.vm_owner.specs.declared.Entry.{Entry}
@@ -17,10 +18,12 @@ use Rattle.vm_map.specs.declared.call.Reply.{Reply}
 use Rattle.vm_map.specs.declared.call.Reply.TheVariants.{Got, Gone, Swapped, Win}
 use Rattle.vm_map.specs.History.{IsReply, after, bound_of}
 use Rattle.vm_map.proofs.WindowLaws.{window_replies}
-use Rattle.vm_tree_laws.specs.Keeps.{KeepsTree}
+use Rattle.vm_tree_laws.specs.History.{is_gone, is_new}
+use Rattle.vm_tree_laws.specs.Keeps.{KeepsTree, merge_weight}
 use Rattle.vm_tree_laws.specs.May.{IsProved}
 use Rattle.vm_tree_laws.proofs.WindowPages.{between-map_of, leaf_rises}
-use Rattle.vm_tree_laws.proofs.Histories.{legal_after, map_after, news_after}
+use Rattle.vm_tree_laws.proofs.Histories.{gones_after, legal_after, map_after, news_after}
+use Rattle.vm_tree_laws.proofs.Payments.{paid_told}
 
 -- a further put adds to what may be weighed
 more_room : (each a b c l k : ℕ) → a ≡ b + c → l ≤ k + each * b → l ≤ k + each * a
@@ -39,8 +42,10 @@ module _ (L : Layout) (start : Start) (kept : Kept Said) (keeps : KeepsTree L st
     bounded = keeps.bounded;
     claimed = keeps.claimed;
     owed = record { apart = keeps.owed.apart; range = keeps.owed.range; free = keeps.owed.free };
-    count = keeps.count;
     room = more_room (L.excess_weight * L.growth) _ _ _ _ _ (news_after L start kept keeps e call reply is) keeps.room;
+    paid = (let less = paid_told (L.excess_weight * L.growth) (merge_weight L) (L.node_weight * kept.next) (L.excess_weight * excess L kept.pages) (L.excess_weight * excess L kept.pages) (is_new call reply) (is_gone call reply)
+        _ _ _ _ (L.excess_weight * (L.room - L.base) * node_count L start.pages) (L.node_weight * (start.next + length kept.owed)) (omega arith)
+        (news_after L start kept keeps e call reply is) (gones_after L start kept keeps e call reply is) keeps.paid in omega (arith, less));
   }
 
 module _ (L : Layout) (laws : IsLayout L) (start : Start) (kept : Kept Said) (keeps : KeepsTree L start kept) (p : ℕ) (at : IsLeafAt L kept.pages p) (e : Entry Said) (turn : e.count ≡ entries_under e.number kept.history + 1) where

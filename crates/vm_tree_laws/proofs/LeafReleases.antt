@@ -1,23 +1,25 @@
 -- The release of a leaf after a put, a del or a swap keeps what the tree keeps.
-use Rattle.std.proofs.Common.{◌≡◌, ◌≢◌, ◌⊎◌, inl, inr, ℕ, ◌+◌, ◌*◌, ◌<◌, ◌≤◌, true, false, true≢false, List, [], ◌∷◌, ◌++◌, length, set, Bool, if◌then◌else◌, Option, Some, None, refl, sym, ap, ◌∙◌, arith, length-set, get_or-set_same, get_or-set_other}
+use Rattle.std.proofs.Common.{◌≡◌, ◌≢◌, ◌⊎◌, inl, inr, ℕ, ◌+◌, ◌-◌, ◌*◌, ◌<◌, ◌≤◌, true, false, true≢false, List, [], ◌∷◌, ◌++◌, length, set, Bool, if◌then◌else◌, Option, Some, None, refl, sym, ap, ◌∙◌, arith, length-set, get_or-set_same, get_or-set_other}
 use Rattle.std.proofs.lemmas.Bool.{cases_eq}
 use Rattle.std.proofs.lemmas.Bool.Decides.{nat_tests}
 use Rattle.std.proofs.lemmas.List.Sums.{sum_by-set}
 use Rattle.vm_tree_model.specs.Layout.{Layout, IsLayout}
 use Rattle.vm_map.specs.Map.{Pairs, lookup_at, put_pair, del_pair, Rises}
-use Rattle.vm_tree_model.specs.Node.{IsNode}
+use Rattle.vm_page.specs.Pages.{all_zero}
+use Rattle.vm_tree_laws.proofs.Zeros.{node_words}
 use Rattle.vm_tree_model.specs.Page.{pairs_of, node_of, IsFree}
 use Rattle.vm_tree_model.specs.Tree.{page_at, node_at, IsLeafAt, map_of}
-use Rattle.vm_tree_model.specs.Count.{is_node, node_count}
+use Rattle.vm_tree_model.specs.Count.{excess, is_node, node_count}
 use Rattle.vm_tree_model.proofs.Laws.{parted_leaves, lookup-map_of, high_le}
 use Rattle.vm_tree_model.proofs.LeafPages.{IsLeafReplaced, replaced_tree, put_map, del_map}
 use Rattle.vm_tree_model.specs.Layout.{pairs_size, size}
 use Rattle.vm_tree_model.proofs.Load.{load_of, load, load-set, load_is}
 use Rattle.vm_tree_laws.proofs.Weights.{size-put, size-put_found, size-del, weighs_more, weighs_less, grown_room}
+use Rattle.vm_tree_laws.proofs.Payments.{excess_grows, paid_told}
 use Rattle.vm_tree_model.specs.Edits.{IsLeafWith}
 use Rattle.vm_owner.specs.Numbers.{has, without}
 use Rattle.vm_owner.specs.declared.Entry.{Entry}
-use Rattle.vm_owner.specs.Kept.{Start, Kept, entries_under}
+use Rattle.vm_owner.specs.Kept.{Start, Kept, entries_under, is_spare}
 use Rattle.vm_owner.proofs.NumberLemmas.{without-none}
 use Rattle.vm_map.specs.declared.call.Said.{Said}
 use Rattle.vm_map.specs.declared.call.Call.{Call}
@@ -27,10 +29,10 @@ use Rattle.vm_map.proofs.SwapLaws.{outcome-done, swap-done}
 use Rattle.vm_map.specs.declared.call.Reply.{Reply}
 use Rattle.vm_map.specs.declared.call.Reply.TheVariants.{Was, Gone, Swapped}
 use Rattle.vm_map.specs.History.{IsReply, after}
-use Rattle.vm_tree_laws.specs.Keeps.{KeepsTree, full_weight}
-use Rattle.vm_tree_laws.specs.History.{is_new, news}
+use Rattle.vm_tree_laws.specs.Keeps.{KeepsTree, full_weight, merge_weight}
+use Rattle.vm_tree_laws.specs.History.{gones, is_gone, is_new, news}
 use Rattle.vm_tree_laws.specs.May.{IsEdit}
-use Rattle.vm_tree_laws.proofs.Histories.{legal_after, map_after, news_after}
+use Rattle.vm_tree_laws.proofs.Histories.{gones_after, legal_after, map_after, news_after}
 use Rattle.vm_tree_laws.proofs.Nodes.{not_owed}
 
 module _ (L : Layout) (laws : IsLayout L) (start : Start) (kept : Kept Said) (keeps : KeepsTree L start kept) (p : ℕ) (words : List ℕ) (at : IsLeafAt L kept.pages p) (e : Entry Said) (turn : e.count ≡ entries_under e.number kept.history + 1) where
@@ -51,19 +53,28 @@ module _ (L : Layout) (laws : IsLayout L) (start : Start) (kept : Kept Said) (ke
     both_nodes : is_node L words ≡ is_node L (page_at kept.pages p)
     both_nodes = let after = step.leaf.node.tag in let before = at.2 in grind (arith, nat_tests, after, before)
 
-    same_count : node_count L (set kept.pages p words) ≡ node_count L kept.pages
+    pub same_count : node_count L (set kept.pages p words) ≡ node_count L kept.pages
     same_count = let sums = sum_by-set (λ (w : List ℕ). if (is_node L) w then 1 else 0) kept.pages p words [] at.1 in
         let each = ap (λ (b : Bool). let n : ℕ = (if b then 1 else 0) in n) both_nodes in
         omega (arith, sums, each)
 
-    claimed : (x : ℕ) → start.next ≤ x → x < kept.next → IsNode (node_at L (set kept.pages p words) x) ⊎ (has x kept.owed ≡ true)
+    claimed : (x : ℕ) → start.next ≤ x → x < kept.next → (all_zero (page_at (set kept.pages p words) x) ≡ false) ⊎ (has x kept.owed ≡ true) ⊎ (is_spare kept x ≡ true)
     claimed x ge lt = elim (cases_eq x p) [
-      | inl same ↦ let tag = step.leaf.node.tag in inl (rw same (rw (node_at, here) (omega (arith, tag), omega (arith, tag))))
-      | inr other ↦ rw (node_at, there x other) (keeps.claimed x ge lt)
+      | inl same ↦ let tag = step.leaf.node.tag in inl (rw same (rw here (node_words L laws words (omega (arith, tag), omega (arith, tag)))))
+      | inr other ↦ rw (there x other) (keeps.claimed x ge lt)
     ]
 
     free : (x : ℕ) → has x kept.owed ≡ true → IsFree L (page_at (set kept.pages p words) x)
     free x some = let other : x ≢ p = λ same. true≢false (sym some ∙ ap (λ y. has y kept.owed) same ∙ p_not_owed) in rw (there x other) (keeps.owed.free x some)
+
+    -- what is left of what is paid: what a node that two became exceeds the base, where a del gave a value
+    pub paid_left : (call : Call) (reply : Reply) → e.said ≡ record { call = call; reply = reply } → load_of L words ≤ load_of L (page_at kept.pages p) + L.excess_weight * L.growth * is_new call reply
+        → L.node_weight * kept.next + L.excess_weight * excess L (set kept.pages p words) + merge_weight L * is_gone call reply
+        ≤ L.excess_weight * (L.room - L.base) * node_count L start.pages + L.excess_weight * L.growth * news (kept.history ++ e ∷ []) + merge_weight L * gones (kept.history ++ e ∷ []) + L.node_weight * (start.next + length kept.owed)
+    paid_left call reply is grows =
+        let sums = load-set L kept.pages p words at.1 in
+        let more = excess_grows L kept.pages (set kept.pages p words) (L.excess_weight * L.growth * is_new call reply) same_count (omega (arith, sums, grows)) in
+        paid_told (L.excess_weight * L.growth) (merge_weight L) _ _ _ (is_new call reply) (is_gone call reply) _ _ _ _ _ _ more (news_after L start kept keeps e call reply is) (gones_after L start kept keeps e call reply is) keeps.paid
 
     leaf_keeps : (call : Call) (reply : Reply) → e.said ≡ record { call = call; reply = reply } → IsReply (map_of L kept.pages) call reply → map_of L (set kept.pages p words) ≡ after (map_of L kept.pages) call
         → load_of L words ≤ load_of L (page_at kept.pages p) + L.excess_weight * L.growth * is_new call reply → KeepsTree L start now
@@ -81,12 +92,12 @@ module _ (L : Layout) (laws : IsLayout L) (start : Start) (kept : Kept Said) (ke
           bounded = rw length-set keeps.bounded;
           claimed = claimed;
           owed = record { apart = keeps.owed.apart; range = keeps.owed.range; free = free };
-          count = rw same_count keeps.count;
           room = rw (← load_is L (set kept.pages p words)) grown;
+          paid = let less = paid_left call reply is grows in omega (arith, less);
         })
 
   module _ (holds : Pairs) (with : IsLeafWith L (page_at kept.pages p) words holds) where
-    replaced : IsLeafReplaced L kept.pages p words
+    pub replaced : IsLeafReplaced L kept.pages p words
     replaced = record { at = at; leaf = with.leaf; low = with.low; high = with.high }
 
     rises : Rises (node_at L kept.pages p).low (node_at L kept.pages p).high (pairs_of L (page_at kept.pages p))
@@ -106,7 +117,7 @@ module _ (L : Layout) (laws : IsLayout L) (start : Start) (kept : Kept Said) (ke
         let same : pairs_size L.pair_size (pairs_of L words) ≡ pairs_size L.pair_size (pairs_of L (page_at kept.pages p)) = rw (with.pairs ∙ is) (size-put_found L.pair_size _ _ _ k v w rises (sym was_is)) in
         weighs_less L words (page_at kept.pages p) (L.excess_weight * L.growth * 0) both (omega (arith, same, fences))
 
-    del_grows : (k : ℕ) → holds ≡ del_pair (pairs_of L (page_at kept.pages p)) k → load_of L words ≤ load_of L (page_at kept.pages p) + L.excess_weight * L.growth * 0
+    pub del_grows : (k : ℕ) → holds ≡ del_pair (pairs_of L (page_at kept.pages p)) k → load_of L words ≤ load_of L (page_at kept.pages p) + L.excess_weight * L.growth * 0
     del_grows k is =
         let less : pairs_size L.pair_size (pairs_of L words) ≤ pairs_size L.pair_size (pairs_of L (page_at kept.pages p)) = rw (with.pairs ∙ is) (size-del L.pair_size (pairs_of L (page_at kept.pages p)) k) in
         weighs_less L words (page_at kept.pages p) (L.excess_weight * L.growth * 0) both (omega (arith, less, fences))

@@ -32,7 +32,7 @@ pub least_map : map_of (fixed 64) least ≡ []
 least_map = refl
 
 abbrev pub least_start : Start
-least_start = record { pages = least; next = 2 }
+least_start = record { pages = least; next = 2; free = [] }
 
 pub least_keeps : KeepsTree (fixed 64) least_start (first_kept least_start)
 least_keeps = start_keeps (fixed 64) layout_64 least_start least_tree (omega arith)

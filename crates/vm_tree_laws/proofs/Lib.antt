@@ -1,3 +1,6 @@
+pub mod Payments
+pub mod Zeros
+mod Among
 pub mod Histories
 pub mod Ties
 pub mod Nodes
@@ -13,6 +16,8 @@ pub mod NodeSplits
 pub mod RootSplits
 pub mod Ranges
 pub mod Widths
+pub mod Merges
+pub mod Collapses
 pub mod Laws
 pub mod Descents
 pub mod Fullness
@@ -20,5 +25,6 @@ pub mod Established
 pub mod SamplePages
 pub mod LeafSamples
 pub mod SplitSamples
+pub mod MergeSamples
 pub mod Plainly
 pub mod LargeSamples

@@ -7,16 +7,17 @@ use Rattle.vm_map.specs.Map.{put_pair}
 use Rattle.vm_tree_model.specs.Node.{Node, IsNode}
 use Rattle.vm_tree_model.specs.Page.{pairs_of, node_of}
 use Rattle.vm_tree_model.specs.Tree.{page_at, node_at}
-use Rattle.vm_tree_model.specs.Count.{is_node, node_count}
+use Rattle.vm_tree_model.specs.Count.{excess, is_node, node_count}
 use Rattle.vm_tree_model.proofs.Load.{load_of, load}
 use Rattle.vm_tree_model.specs.Layout.{IsClean, cut, size}
 use Rattle.vm_tree_model.proofs.Laws.{in_range}
 use Rattle.vm_tree_laws.proofs.Weights.{size-put, weighs_more}
+use Rattle.vm_tree_laws.proofs.Payments.{split_pays}
 use Rattle.vm_tree_model.proofs.SplitLaw.{IsSplitStep}
 use Rattle.vm_tree_model.proofs.SplitPages.{IsSplitPages, split_pages_tree, split_pages_map}
 use Rattle.vm_owner.specs.Numbers.{has, AreApart}
 use Rattle.vm_owner.specs.Kept.{Start, Kept, Change, changed_pages, Agrees, changed, owed_after, after_release}
-use Rattle.vm_owner.proofs.NumberLemmas.{without-none, length-without}
+use Rattle.vm_owner.proofs.NumberLemmas.{without-none, without-few}
 use Rattle.vm_owner.proofs.ChangeLemmas.{length-changed, changed-other, changed-here, sum-changed}
 use Rattle.vm_map.specs.declared.call.Said.{Said}
 use Rattle.vm_tree_laws.specs.Keeps.{KeepsTree}
@@ -44,8 +45,8 @@ module _ (L : Layout) (laws : IsLayout L) (start : Start) (kept : Kept Said) (ke
   abbrev new : List (List ℕ)
   new = changed changes old
 
-  module _ (due : List ℕ) (may : MaySplit L due parent_change node_change sibling_change)
-      (agrees : Agrees old changes) (apart : AreApart (changed_pages changes)) (owed : has r kept.owed ≡ true) where
+  module _ (may : MaySplit L parent_change node_change sibling_change)
+      (agrees : Agrees old changes) (apart : AreApart (changed_pages changes)) where
     q_is : IsNode (node_at L old q)
     q_is = let tag = may.inner in (omega (arith, tag), omega (arith, tag))
 
@@ -56,7 +57,7 @@ module _ (L : Layout) (laws : IsLayout L) (start : Start) (kept : Kept Said) (ke
     p_clean = clean_at L laws start kept keeps p p_is
 
     r_zero : (node_at L old r).tag ≡ 0
-    r_zero = laws.free_tag _ (keeps.owed.free r owed).zero
+    r_zero = laws.free_tag _ may.free.zero
 
     at_q : page_at new q ≡ parent
     at_q = changed-here parent_change (node_change ∷ sibling_change ∷ []) old apart.0 agrees.0
@@ -75,7 +76,7 @@ module _ (L : Layout) (laws : IsLayout L) (start : Start) (kept : Kept Said) (ke
     page_zero = others 0
         (λ e. laws.meta_tag _ keeps.tree.meta.magic (subst (λ x. IsNode (node_at L old x)) (sym e) q_is))
         (λ e. laws.meta_tag _ keeps.tree.meta.magic (subst (λ x. IsNode (node_at L old x)) (sym e) p_is))
-        (λ e. omega (arith, ap (λ x. get_or (page_at old x) 0 0) e, (keeps.owed.free r owed).zero 0, keeps.tree.meta.magic, laws.some_magic))
+        (λ e. omega (arith, ap (λ x. get_or (page_at old x) 0 0) e, may.free.zero 0, keeps.tree.meta.magic, laws.some_magic))
 
     r_other : IsOther (node_at L old r)
     r_other = let tag = r_zero in ((λ e. omega (arith, tag, e)), (λ e. omega (arith, tag, e)))
@@ -135,8 +136,12 @@ module _ (L : Layout) (laws : IsLayout L) (start : Start) (kept : Kept Said) (ke
     more_nodes : node_count L new ≡ node_count L old + 1
     more_nodes = omega (arith, sum-changed (counted L) changes old agrees apart, counted_node L parent parent_node, counted_node L node left_is_node, counted_node L sibling sibling_node, counted_node L (page_at old q) q_is, counted_node L (page_at old p) p_is, counted_other L (page_at old r) r_other)
 
-    fewer_owed : length (owed_after changes kept.owed) + 1 ≡ length kept.owed
-    fewer_owed = rw (without-none q kept.owed (not_owed L laws start kept keeps q q_is)) (rw (without-none p kept.owed (not_owed L laws start kept keeps p p_is)) (length-without r kept.owed keeps.owed.apart owed))
+    -- the sibling's page may be owed, and is not any more
+    fewer_owed : length kept.owed ≤ length (owed_after changes kept.owed) + 1
+    fewer_owed = rw (without-none q kept.owed (not_owed L laws start kept keeps q q_is)) (rw (without-none p kept.owed (not_owed L laws start kept keeps p p_is)) (without-few r kept.owed keeps.owed.apart))
+
+    paid : L.excess_weight * excess L new + L.node_weight * length kept.owed ≤ L.excess_weight * excess L old + L.node_weight * length (owed_after changes kept.owed)
+    paid = split_pays L old new 1 (length kept.owed) (length (owed_after changes kept.owed)) room more_nodes fewer_owed
 
     nodes : (x : ℕ) → has x (changed_pages changes) ≡ true → (x ≡ 0) ⊎ IsNode (node_at L new x)
     nodes x some = elim (cases_eq x q) [
@@ -152,6 +157,6 @@ module _ (L : Layout) (laws : IsLayout L) (start : Start) (kept : Kept Said) (ke
       tree = split_pages_tree L laws old new _ _ _ _ _ _ _ _ _ _ keeps.tree pages;
       contents = split_pages_map L laws old new _ _ _ _ _ _ _ _ _ _ keeps.tree pages;
       nodes = nodes;
-      count = omega (arith, more_nodes, fewer_owed);
       room = room;
+      paid = paid;
     }

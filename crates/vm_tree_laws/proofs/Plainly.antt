@@ -1,15 +1,16 @@
 -- A history that is read with a number for each key meets the laws of the tree: each step of it is a step as it reads.
-use Rattle.std.proofs.Common.{◌≡◌, ◌<◌, ◌+◌, ◌==◌, ℕ, zero, suc, List, [], ◌∷◌, ◌++◌, length, map, if◌then◌else◌, refl, sym, ap, ◌∙◌, subst}
+use Rattle.std.proofs.Common.{◌≡◌, ◌<◌, ◌+◌, ◌==◌, Bool, ℕ, zero, suc, List, [], ◌∷◌, ◌++◌, length, map, if◌then◌else◌, refl, sym, ap, ◌∙◌, subst}
 use Rattle.std.proofs.lemmas.List.{map-append}
 use Rattle.vm_map.specs.declared.call.Said.{Said}
 use Rattle.vm_page.specs.Pages.{page_at}
 use Rattle.vm_owner.specs.declared.Entry.{Entry}
-use Rattle.vm_owner.specs.Kept.{Start, Kept, Change, Fits, PagesHave, IsTurn, entries_under, after_release, told, claimed, AreZero}
+use Rattle.vm_owner.specs.Kept.{Start, Kept, Change, Fits, PagesHave, IsTurn, entries_under, after_release, told, claimed, AreZero, MayMove, moved, NumberMove}
+use Rattle.vm_owner.specs.Kept.NumberMove.{Ended, Given, Taken}
 use Rattle.vm_tree_model.specs.Layout.{Layout, IsLayout}
 use Rattle.vm_tree_laws.specs.Plain.{plain_entry, plain_history, plain_kept, ProvesHeld, KeepsPlain, ReleasesPlain, ReadsPlain}
 use Rattle.vm_tree_laws.specs.Tied.{Tied}
 use Rattle.vm_tree_laws.specs.Keeps.{KeepsTree}
-use Rattle.vm_tree_laws.proofs.Laws.{releases_keep, reads_keep}
+use Rattle.vm_tree_laws.proofs.Laws.{moves_keep, releases_keep, reads_keep}
 use Rattle.vm_tree_laws.proofs.Claims.{claims_keep}
 use Rattle.vm_tree_laws.proofs.Ranges.{holds_keep}
 use Rattle.vm_tree_laws.proofs.Ties.{ties_hold}
@@ -29,9 +30,9 @@ module _ {S : Type 0} (plain : S → Said) where
   plain_turn h (e ∷ es) turn = (turn.0 ∙ ap (λ (x : ℕ). x + 1) (sym (plain_under e.number h)), ap (plain_history plain) turn.1)
 
   -- what is kept after entries, as it reads
-  plain_after : (pages : List (List ℕ)) (next : ℕ) (owed : List ℕ) (h es : List (Entry S))
-      → plain_kept plain (record { pages = pages; next = next; owed = owed; history = h ++ es }) ≡ record { pages = pages; next = next; owed = owed; history = plain_history plain h ++ plain_history plain es }
-  plain_after pages next owed h es = ap (λ (x : List (Entry Said)). record { pages = pages; next = next; owed = owed; history = x }) (map-append (plain_entry plain) h es)
+  plain_after : (pages : List (List ℕ)) (next : ℕ) (owed : List ℕ) (free held freed : ℕ → Bool) (h es : List (Entry S))
+      → plain_kept plain (record { pages = pages; next = next; owed = owed; free = free; held = held; freed = freed; history = h ++ es }) ≡ record { pages = pages; next = next; owed = owed; free = free; held = held; freed = freed; history = plain_history plain h ++ plain_history plain es }
+  plain_after pages next owed free held freed h es = ap (λ (x : List (Entry Said)). record { pages = pages; next = next; owed = owed; free = free; held = held; freed = freed; history = x }) (map-append (plain_entry plain) h es)
 
   plain_claimed : (n : ℕ) (kept : Kept S) → plain_kept plain (claimed n kept) ≡ claimed n (plain_kept plain kept)
   plain_claimed zero kept = refl
@@ -44,19 +45,19 @@ module _ {S : Type 0} (plain : S → Said) where
     pub plain_releases : (due : List ℕ) (changes : List Change) (entries : List (Entry S)) → KeepsPlain plain L start kept → Fits kept due changes → IsTurn kept.history entries
         → ReleasesPlain plain L start due changes entries → KeepsPlain plain L start (after_release changes entries kept)
     plain_releases due changes entries keeps fits turn may =
-        subst (λ (k : Kept Said). KeepsTree L start k) (sym (plain_after _ _ _ kept.history entries))
+        subst (λ (k : Kept Said). KeepsTree L start k) (sym (plain_after _ _ _ _ _ _ kept.history entries))
         (releases_keep L laws start (plain_kept plain kept) due changes (plain_history plain entries) keeps (plain_fits due changes fits) (plain_turn kept.history entries turn) may)
 
     pub plain_reads : (page : ℕ) (entries : List (Entry S)) → KeepsPlain plain L start kept → IsTurn kept.history entries
         → ReadsPlain plain L start page (page_at kept.pages page) entries → KeepsPlain plain L start (told entries kept)
     plain_reads page entries keeps turn may =
-        subst (λ (k : Kept Said). KeepsTree L start k) (sym (plain_after _ _ _ kept.history entries))
+        subst (λ (k : Kept Said). KeepsTree L start k) (sym (plain_after _ _ _ _ _ _ kept.history entries))
         (reads_keep L laws start (plain_kept plain kept) page (plain_history plain entries) keeps (plain_turn kept.history entries turn) may)
 
     pub plain_holds : (pages : List (ℕ × List ℕ)) (entries : List (Entry S)) → KeepsPlain plain L start kept → PagesHave kept.pages pages → IsTurn kept.history entries
         → ProvesHeld plain L start pages entries → KeepsPlain plain L start (told entries kept)
     plain_holds pages entries keeps have turn may =
-        subst (λ (k : Kept Said). KeepsTree L start k) (sym (plain_after _ _ _ kept.history entries))
+        subst (λ (k : Kept Said). KeepsTree L start k) (sym (plain_after _ _ _ _ _ _ kept.history entries))
         (holds_keep L laws start (plain_kept plain kept) pages (plain_history plain entries) keeps have (plain_turn kept.history entries turn) may)
 
     pub plain_claims : (n : ℕ) → KeepsPlain plain L start kept → AreZero kept n → KeepsPlain plain L start (claimed n kept)
@@ -66,3 +67,9 @@ module _ {S : Type 0} (plain : S → Said) where
 
     pub plain_ties : (r p : ℕ) → KeepsPlain plain L start kept → r < length kept.pages → Tied L start r (page_at kept.pages r) p (page_at kept.pages p)
     plain_ties r p keeps there = ties_hold L laws start (plain_kept plain kept) r p keeps there
+
+  module _ (L : Layout) (start : Start) (kept : Kept S) where
+    pub plain_moves : (move : NumberMove) → KeepsPlain plain L start kept → MayMove kept move → KeepsPlain plain L start (moved move kept)
+    plain_moves (Taken mask) keeps may = moves_keep L start (plain_kept plain kept) (Taken mask) keeps may
+    plain_moves (Given mask) keeps may = moves_keep L start (plain_kept plain kept) (Given mask) keeps may
+    plain_moves (Ended p) keeps may = moves_keep L start (plain_kept plain kept) (Ended p) keeps may

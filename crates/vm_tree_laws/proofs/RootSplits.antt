@@ -5,17 +5,18 @@ use Rattle.std.proofs.lemmas.Bool.Decides.{nat_tests}
 use Rattle.vm_tree_model.specs.Layout.{Layout, IsLayout}
 use Rattle.vm_map.specs.Map.{Pairs, lookup_at, put_pair}
 use Rattle.vm_tree_model.specs.Node.{Node, IsNode}
-use Rattle.vm_tree_model.specs.Page.{pairs_of, node_of, IsMeta}
+use Rattle.vm_tree_model.specs.Page.{pairs_of, node_of, IsFree, IsMeta}
 use Rattle.vm_tree_model.specs.Tree.{page_at, node_at}
-use Rattle.vm_tree_model.specs.Count.{node_count}
+use Rattle.vm_tree_model.specs.Count.{excess, node_count}
 use Rattle.vm_tree_model.proofs.Load.{load_of, load}
 use Rattle.vm_tree_model.specs.Layout.{IsClean, cut, size}
 use Rattle.vm_tree_model.proofs.Laws.{in_range}
+use Rattle.vm_tree_laws.proofs.Payments.{split_pays}
 use Rattle.vm_tree_model.proofs.SplitLaw.{IsSplitStep}
 use Rattle.vm_tree_model.proofs.RootSplit.{root_page, height_word, with_top, with_top-same, with_top-other, with_top-zero, IsRootSplit, root_split_tree, root_split_map}
 use Rattle.vm_owner.specs.Numbers.{has, without, AreApart}
 use Rattle.vm_owner.specs.Kept.{Start, Kept, Change, changed_pages, Agrees, changed, owed_after, after_release}
-use Rattle.vm_owner.proofs.NumberLemmas.{without-none, length-without, has-without_other, AreApart-without}
+use Rattle.vm_owner.proofs.NumberLemmas.{without-none, without-few, AreApart-without}
 use Rattle.vm_owner.proofs.ChangeLemmas.{length-changed, changed-other, changed-here, sum-changed}
 use Rattle.vm_map.specs.declared.call.Said.{Said}
 use Rattle.vm_tree_laws.specs.Keeps.{KeepsTree}
@@ -25,7 +26,7 @@ use Rattle.vm_tree_laws.proofs.Halves.{IsOther, counted, counted_node, counted_o
 use Rattle.vm_tree_laws.proofs.Nodes.{other_not_owed, not_owed, clean_at, rises_at}
 
 -- page 0 with another root and height
-grown_meta : (L : Layout) (laws : IsLayout L) (pages s height : ℕ) (w : List ℕ) → IsMeta L pages w → 1 ≤ s → s < pages → IsMeta L pages (set (set w 1 s) 2 height)
+pub grown_meta : (L : Layout) (laws : IsLayout L) (pages s height : ℕ) (w : List ℕ) → IsMeta L pages w → 1 ≤ s → s < pages → IsMeta L pages (set (set w 1 s) 2 height)
 grown_meta L laws pages s height w meta ge lt = record {
   length = length-set (set w 1 s) 2 height ∙ length-set w 1 s ∙ meta.length;
   magic = same 0 (λ e. omega (arith, e)) (λ e. omega (arith, e)) ∙ meta.magic;
@@ -69,8 +70,8 @@ module _ (L : Layout) (laws : IsLayout L) (start : Start) (kept : Kept Said) (ke
   abbrev new : List (List ℕ)
   new = changed changes old
 
-  module _ (due : List ℕ) (may : MaySplitRoot L due meta_change root_change sibling_change top_change)
-      (agrees : Agrees old changes) (apart : AreApart (changed_pages changes)) (owed : has r kept.owed ≡ true) (owed_top : has s kept.owed ≡ true) where
+  module _ (may : MaySplitRoot L meta_change root_change sibling_change top_change)
+      (agrees : Agrees old changes) (apart : AreApart (changed_pages changes)) where
     p_is : IsNode (node_at L old p)
     p_is = keeps.tree.tree.root_is
 
@@ -125,7 +126,7 @@ module _ (L : Layout) (laws : IsLayout L) (start : Start) (kept : Kept Said) (ke
     step : IsSplitStep (with_top L old new s) (node_at L new) s 0 p r may.separator (take (cut L (pairs_of L (page_at old p))) (pairs_of L (page_at old p))) (drop (cut L (pairs_of L (page_at old p))) (pairs_of L (page_at old p)))
     step = record {
       named = subst (λ (n : Node). (n.tag ≡ 3) × (lookup_at n.pairs 0 ≡ Some p)) (sym over_s) (refl, refl);
-      free = ap (λ (n : Node). n.tag) over_r ∙ laws.free_tag _ (keeps.owed.free r owed).zero;
+      free = ap (λ (n : Node). n.tag) over_r ∙ laws.free_tag _ may.free.zero;
       halves = ap (λ (n : Node). n.pairs) over_p ∙ halves L laws (page_at old p) root sibling may.separator p_clean may.full may.split;
       left_some = left_some L laws (page_at old p) root sibling may.separator p_clean may.full may.split;
       starts = starts L laws (page_at old p) root sibling may.separator p_clean may.full may.split;
@@ -150,7 +151,7 @@ module _ (L : Layout) (laws : IsLayout L) (start : Start) (kept : Kept Said) (ke
       new_root = ap (λ (w : List ℕ). get_or w 1 0) meta_is ∙ get_or-set_other (set (page_at old 0) 1 s) 2 1 (height_word old + 1) 0 (λ e. omega (arith, e)) ∙ get_or-set_same (page_at old 0) 1 s 0 (omega (arith, meta_length, laws.some_words));
       new_height = ap (λ (w : List ℕ). get_or w 2 0) meta_is ∙ get_or-set_same (set (page_at old 0) 1 s) 2 (height_word old + 1) 0 (omega (arith, length-set (page_at old 0) 1 s, meta_length, laws.some_words));
       top_page = s_above;
-      free = laws.free_tag _ (keeps.owed.free s owed_top).zero;
+      free = laws.free_tag _ may.free_top.zero;
       clean_top = rw at_s may.grows.clean;
       clean_left = rw at_p (may.split.left_clean (clean_at L laws start kept keeps p p_is));
       clean_right = rw at_r (may.split.right_clean (clean_at L laws start kept keeps p p_is));
@@ -167,8 +168,8 @@ module _ (L : Layout) (laws : IsLayout L) (start : Start) (kept : Kept Said) (ke
     sibling_node : IsNode (node_of L sibling)
     sibling_node = right_node L laws (page_at old p) root sibling may.separator p_clean may.full may.split p_is
 
-    free_other : (x : ℕ) → has x kept.owed ≡ true → IsOther (node_at L old x)
-    free_other x some = let tag = laws.free_tag _ (keeps.owed.free x some).zero in ((λ e. omega (arith, tag, e)), (λ e. omega (arith, tag, e)))
+    free_other : (w : List ℕ) → IsFree L w → IsOther (node_of L w)
+    free_other w free = let tag = laws.free_tag _ free.zero in ((λ e. omega (arith, tag, e)), (λ e. omega (arith, tag, e)))
 
     none_at : (w : List ℕ) → get_or w 0 0 ≡ L.magic → IsOther (node_of L w)
     none_at w magic = ((λ e. laws.meta_tag w magic (omega (arith, e), omega (arith, e))), (λ e. laws.meta_tag w magic (omega (arith, e), omega (arith, e))))
@@ -199,16 +200,20 @@ module _ (L : Layout) (laws : IsLayout L) (start : Start) (kept : Kept Said) (ke
       counted_node L top top_node,
       counted_other L (page_at old 0) old_meta,
       counted_node L (page_at old p) p_is,
-      counted_other L (page_at old r) (free_other r owed),
-      counted_other L (page_at old s) (free_other s owed_top),
+      counted_other L (page_at old r) (free_other (page_at old r) may.free),
+      counted_other L (page_at old s) (free_other (page_at old s) may.free_top),
     )
 
     zero_not_owed : has 0 kept.owed ≡ false
     zero_not_owed = other_not_owed L laws start kept keeps 0 (λ free. omega (arith, free, keeps.tree.meta.magic, laws.some_magic))
 
-    fewer_owed : length (owed_after changes kept.owed) + 2 ≡ length kept.owed
+    -- the pages of the sibling and of the new root may be owed, and are not any more
+    fewer_owed : length kept.owed ≤ length (owed_after changes kept.owed) + 2
     fewer_owed = rw (without-none 0 kept.owed zero_not_owed) (rw (without-none p kept.owed (not_owed L laws start kept keeps p p_is))
-        (omega (arith, length-without r kept.owed keeps.owed.apart owed, length-without s (without r kept.owed) (AreApart-without r kept.owed keeps.owed.apart) (has-without_other r s kept.owed (λ e. r_ne_s (sym e)) ∙ owed_top))))
+        (omega (arith, without-few r kept.owed keeps.owed.apart, without-few s (without r kept.owed) (AreApart-without r kept.owed keeps.owed.apart))))
+
+    paid : L.excess_weight * excess L new + L.node_weight * length kept.owed ≤ L.excess_weight * excess L old + L.node_weight * length (owed_after changes kept.owed)
+    paid = split_pays L old new 2 (length kept.owed) (length (owed_after changes kept.owed)) room more_nodes fewer_owed
 
     nodes : (x : ℕ) → has x (changed_pages changes) ≡ true → (x ≡ 0) ⊎ IsNode (node_at L new x)
     nodes x some = elim (cases_eq x 0) [
@@ -227,6 +232,6 @@ module _ (L : Layout) (laws : IsLayout L) (start : Start) (kept : Kept Said) (ke
       tree = root_split_tree L laws old new s r may.separator _ _ keeps.tree pages;
       contents = root_split_map L laws old new s r may.separator _ _ keeps.tree pages;
       nodes = nodes;
-      count = omega (arith, more_nodes, fewer_owed);
       room = room;
+      paid = paid;
     }

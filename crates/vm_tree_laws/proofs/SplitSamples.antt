@@ -2,9 +2,10 @@
 use Rattle.std.proofs.Common.{◌≡◌, ℕ, zero, suc, ◌^◌, ◌<◌, ◌≤◌, List, [], ◌∷◌, length, get_or, replicate, None, refl, arith}
 use Rattle.vm_tree_model.specs.Fixed.{fixed}
 use Rattle.vm_tree_model.proofs.FixedLaws.{layout_64}
+use Rattle.vm_tree_model.proofs.WordTests.{free_zeros}
 use Rattle.vm_map.specs.declared.call.Said.{Said}
 use Rattle.vm_tree_model.specs.Node.{Covers}
-use Rattle.vm_tree_model.specs.Page.{node_of, IsLeaf}
+use Rattle.vm_tree_model.specs.Page.{node_of, IsFree, IsLeaf}
 use Rattle.vm_tree_model.specs.Tree.{page_at, map_of}
 use Rattle.vm_tree_model.specs.Reason.{walk, reason}
 use Rattle.vm_tree_model.proofs.Theorem.{no_reason}
@@ -28,7 +29,7 @@ unfolding walk
 full_fault = refl
 
 abbrev pub full_start : Start
-full_start = record { pages = full; next = 2 }
+full_start = record { pages = full; next = 2; free = [] }
 
 -- two pages were claimed
 pub full_keeps : KeepsTree (fixed 64) full_start (claimed 2 (first_kept full_start))
@@ -47,6 +48,9 @@ root_changes = record { page = 0; old = meta_page 1 0; new = meta_page 3 1 }
     ∷ record { page = 3; old = replicate 64 0; new = page_from (3 ∷ 2 ∷ 0 ∷ 0 ∷ 1 ∷ 1 ∷ 0 ∷ 0 ∷ 0 ∷ 1 ∷ 15 ∷ 2 ∷ []) }
     ∷ []
 
+free_page : IsFree (fixed 64) (replicate 64 0)
+free_page = free_zeros (fixed 64)
+
 root_may : MayRelease (fixed 64) full_start (2 ∷ 3 ∷ []) root_changes []
 root_may = record {
   separator = 15;
@@ -62,8 +66,8 @@ root_may = record {
   };
   grows = record { node = refl; clean = (inner_from 0 (2 ^ 64) (page_from (3 ∷ 2 ∷ 0 ∷ 0 ∷ 1 ∷ 1 ∷ 0 ∷ 0 ∷ 0 ∷ 1 ∷ 15 ∷ 2 ∷ [])) (omega arith) refl).clean };
   meta_new = refl;
-  owed = refl;
-  owed_top = refl;
+  free = free_page;
+  free_top = free_page;
 }
 
 abbrev pub after_root_split : Kept Said
@@ -96,7 +100,7 @@ unfolding walk
 high_fault = refl
 
 abbrev pub high_start : Start
-high_start = record { pages = high; next = 4 }
+high_start = record { pages = high; next = 4; free = [] }
 
 -- one page was claimed
 pub high_keeps : KeepsTree (fixed 64) high_start (claimed 1 (first_kept high_start))
@@ -136,7 +140,7 @@ leaf_may = record {
     node = refl;
     clean = λ _. (inner_from 0 (2 ^ 64) (page_from (3 ∷ 3 ∷ 0 ∷ 0 ∷ 1 ∷ 1 ∷ 0 ∷ 0 ∷ 0 ∷ 1 ∷ 15 ∷ 4 ∷ 100 ∷ 2 ∷ [])) (omega arith) refl).clean;
   };
-  owed = refl;
+  free = free_page;
 }
 
 abbrev pub after_leaf_split : Kept Said

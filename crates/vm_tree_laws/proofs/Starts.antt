@@ -2,7 +2,7 @@
 use Rattle.std.proofs.Common.{◌≡◌, ℕ, zero, suc, ◌+◌, ◌-◌, ◌*◌, ◌<◌, ◌≤◌, inl, inr, List, [], ◌∷◌, length, ◌==◌, ◌||◌, Bool, true, false, if◌then◌else◌, refl, arith}
 use Rattle.std.proofs.lemmas.List.Sums.{sum_by-cons}
 use Rattle.std.proofs.lemmas.Bool.{eqb-true, or_cases}
-use Rattle.std.proofs.Math.Nat.{mul-add, mul-le-mul_left}
+use Rattle.std.proofs.Math.Nat.{add-mul, mul-add, mul-le-mul_left}
 use Rattle.vm_tree_model.specs.Node.{IsNode}
 use Rattle.vm_tree_model.specs.Layout.{Layout, IsLayout, size, weight}
 use Rattle.vm_tree_model.specs.Tree.{page_at, node_at, IsTree}
@@ -45,10 +45,13 @@ module _ (L : Layout) (laws : IsLayout L) where
     legal = record { replies = tt; counted = tt };
     risen = omega arith;
     bounded = bounded;
-    claimed = λ p ge lt. absurd (omega arith);
+    claimed = λ p ge lt. absurd (omega (arith, ge, lt));
     owed = record { apart = tt; range = λ p some. absurd (cc); free = λ p some. absurd (cc) };
-    count = omega arith;
     room = (let le = fitting L start.pages fits in omega (arith, le, load_is L start.pages));
+    paid = (let le = fitting L start.pages fits in
+        let full = add-mul L.node_weight (L.excess_weight * (L.room - L.base)) (node_count L start.pages) in
+        let none = mul-add L.node_weight start.next 0 in
+        omega (arith, le, full, none, load_is L start.pages));
   }
     where
       fits : (p : ℕ) → IsNode (node_at L start.pages p) → size L (node_at L start.pages p) ≤ L.room

@@ -1,17 +1,17 @@
-//! What keeps the tree's relation: the start has it, and a release, a read, pages held together and a claim keep it.
+//! What keeps the tree's relation: the start has it, and a release, a read, pages held together, a claim and moves of page numbers keep it.
 //! Three things follow from it: what a page tells of the pages that it names, what has become of the pages where they are used up, and how many
 //! nodes there are where leaves held together do not reach the last key.
 ghost use Rattle.std.specs.Prelude.{◌≡◌, ℕ, ◌+◌, ◌-◌, ◌*◌, ◌<◌, ◌≤◌, List, [], length};
 ghost use Rattle.vm_map.specs.{declared.call.Said.Said, Keys.KEY_END};
 ghost use Rattle.vm_owner.specs.declared.Entry.{Entry};
-ghost use Rattle.vm_owner.specs.Kept.{Start, Kept, Change, Fits, IsTurn, after_release, told, claimed, AreZero, first_kept, PagesHave};
+ghost use Rattle.vm_owner.specs.Kept.{Start, Kept, Change, Fits, IsTurn, after_release, told, claimed, AreZero, first_kept, PagesHave, MayMove, moved, NumberMove};
 ghost use Rattle.vm_page.specs.Pages.{page_at};
 ghost use Rattle.vm_tree_model.specs.{Fixed.fixed, Layout.Layout, Layout.IsLayout};
 ghost use Rattle.vm_tree_model.specs.Page.{IsFree};
 ghost use Rattle.vm_tree_model.specs.Tree.{IsTree};
 ghost use Rattle.vm_tree_model.specs.Count.{node_count};
-ghost use Rattle.vm_tree_laws.specs.History.{news};
-ghost use Rattle.vm_tree_laws.specs.Keeps.{full_weight, KeepsTree};
+ghost use Rattle.vm_tree_laws.specs.History.{gones, news};
+ghost use Rattle.vm_tree_laws.specs.Keeps.{full_weight, merge_weight, KeepsTree};
 ghost use Rattle.vm_tree_laws.specs.May.{AreLeavesFrom, MayHold, MayRelease, MayRead, MOST_LEAVES};
 ghost use Rattle.vm_tree_laws.specs.Tied.{Tied};
 
@@ -23,7 +23,7 @@ pub fn start_keeps()
 {}
 
 /// What may be released keeps the relation: a leaf after a put or a del with its entry, the three pages of a split below the root, the
-/// four pages of a split of the root.
+/// four pages of a split of the root, and the three or four pages of two leaves that become one, with the entry of the del before.
 pub fn releases_keep()
     ensures { (L : Layout) → IsLayout L → (start : Start) (kept : Kept Said) (due : List ℕ) (changes : List Change) (entries : List (Entry Said))
         → KeepsTree L start kept → Fits kept due changes → IsTurn kept.history entries → MayRelease L start due changes entries
@@ -60,13 +60,18 @@ pub fn pages_are_tied()
 {}
 
 /// Where no page is owed and at most one was never claimed, the puts of new keys account for the pages. With P pages, of which X were
-/// used at the start by N nodes, and with G such puts, 13 * (P - 1 - X) is at most 28 * N + 2 * G where a page has 64 words, and
-/// 125 * (P - 1 - X) is at most 252 * N + 2 * G where it has 512.
+/// used at the start by N nodes, and with G such puts and D dels that gave a value, 13 * (P - 1 - X) is at most 28 * N + 2 * G + 12 * D where a
+/// page has 64 words, and 125 * (P - 1 - X) is at most 252 * N + 2 * G + 108 * D where it has 512.
 #[tactic(auto, using(crate::proofs::Fullness::room_used))]
 pub fn full_has_a_cause()
     ensures { (L : Layout) (start : Start) (kept : Kept Said) → KeepsTree L start kept → kept.owed ≡ [] → length start.pages ≤ kept.next + 1
         → L.node_weight * length start.pages ≤ L.excess_weight * (L.room - L.base) * node_count L start.pages + L.excess_weight * L.growth * news kept.history
-        + L.node_weight * (start.next + 1) }
+        + merge_weight L * gones kept.history + L.node_weight * (start.next + 1) }
+{}
+
+/// Page numbers that are taken and given, and a hold that ends, keep the relation.
+pub fn moves_keep()
+    ensures { (L : Layout) (start : Start) (kept : Kept Said) (move : NumberMove) → KeepsTree L start kept → MayMove kept move → KeepsTree L start (moved move kept) }
 {}
 
 /// Where sixteen leaves that follow one another do not reach the last key, the tree has eighteen nodes at least, so nineteen pages, and the puts of new

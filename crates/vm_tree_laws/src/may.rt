@@ -1,6 +1,6 @@
 //! What the calls on nodes say of their pages is what a release and a read ask. The premises are those calls' clauses, and what was
 //! seen in the words themselves: a leaf's tag, and that its fences cover the key. So a read can show them before it is validated.
-ghost use Rattle.std.specs.Prelude.{◌≡◌, ◌≢◌, ℕ, ◌+◌, ◌<◌, ◌≤◌, List, [], ◌∷◌, length, min, slice_index, slice_set, true, Option, Some, None};
+ghost use Rattle.std.specs.Prelude.{◌≡◌, ◌≢◌, ℕ, ◌+◌, ◌<◌, ◌≤◌, List, [], ◌∷◌, length, min, slice_index, slice_set, Option, Some, None};
 ghost use Rattle.vm_map.specs.Map.{Rises, lookup_at, del_pair};
 ghost use Rattle.vm_map.specs.declared.call.Call.TheVariants.{Get, Put, Del, Swap, Window as ForWindow};
 ghost use Rattle.vm_map.specs.declared.call.Reply.TheVariants.{Got, Was, Gone, Swapped, Win};
@@ -9,9 +9,8 @@ ghost use Rattle.vm_map.specs.declared.window.Window.{Window};
 ghost use Rattle.vm_map.specs.Windows.{IsWindow};
 ghost use Rattle.vm_tree_model.specs.Layout.{Layout, size, IsFullNode};
 ghost use Rattle.vm_tree_model.specs.Node.{Covers};
-ghost use Rattle.vm_tree_model.specs.Page.{pairs_of, node_of, IsInner};
+ghost use Rattle.vm_tree_model.specs.Page.{pairs_of, node_of, IsFree, IsInner};
 ghost use Rattle.vm_tree_model.specs.Edits.{child_of, PutsInLeaf, IsLeafWith, AddsPair, IsSplit, IsNewRoot};
-ghost use Rattle.vm_owner.specs.Numbers.{has};
 ghost use Rattle.vm_owner.specs.Kept.{Start, Change};
 ghost use Rattle.vm_tree_laws.specs.May.{entry, MayRelease, MayRead};
 
@@ -51,7 +50,7 @@ pub fn may_split()
         → IsInner L parent.old → Covers (node_of L parent.old) key → child_of L parent.old key ≡ Some node.page
         → size L (node_of L parent.old) + L.growth ≤ L.room → IsFullNode L (node_of L node.old)
         → IsSplit L node.old node.new sibling.new separator → AddsPair L parent.old parent.new separator sibling.page
-        → has sibling.page due ≡ true
+        → IsFree L sibling.old
         → MayRelease L start due (parent ∷ node ∷ sibling ∷ []) [] }
 {}
 
@@ -63,7 +62,7 @@ pub fn may_split_root()
         → meta.page ≡ 0 → slice_index meta.old 1 ≡ root.page → slice_index meta.old 2 ≡ height → IsFullNode L (node_of L root.old)
         → IsSplit L root.old root.new sibling.new separator → IsNewRoot L top.new (height + 1) root.page separator sibling.page
         → meta.new ≡ slice_set (slice_set meta.old 1 top.page) 2 (height + 1)
-        → has sibling.page due ≡ true → has top.page due ≡ true
+        → IsFree L sibling.old → IsFree L top.old
         → MayRelease L start due (meta ∷ root ∷ sibling ∷ top ∷ []) [] }
 {}
 

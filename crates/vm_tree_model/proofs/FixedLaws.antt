@@ -173,6 +173,7 @@ module _ (n h : ℕ) (some : 3 ≤ h) (is : n ≡ 4 * h + 8) where
     passed = λ w level low high upto tag. passed w level low high upto;
     grows = λ key. omega arith;
     new_root = λ separator. omega (arith, capacity_is, some);
+    joins = omega (arith, capacity_is, some);
     splits = splits;
   }
 

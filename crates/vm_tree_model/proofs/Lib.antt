@@ -4,6 +4,10 @@ pub mod MapOf
 pub mod Laws
 pub mod LeafPages
 pub mod SplitLaw
+pub mod DelLemmas
+pub mod MergeLaw
+pub mod CollapseLaw
+pub mod MergePages
 pub mod GrowLaw
 pub mod SameTree
 pub mod SplitPages

@@ -1,8 +1,8 @@
 -- What the single tests of words and pairs say, each both ways.
-use Rattle.std.proofs.Common.{◌≡◌, ℕ, zero, suc, ◌+◌, ◌<◌, ◌≤◌, inl, inr, List, [], ◌∷◌, length, get_or, drop, Some, true, ◌&&◌, eqb, ltb, leb, ◌-◌, refl, arith, sym, ◌∙◌}
+use Rattle.std.proofs.Common.{◌≡◌, ℕ, zero, suc, ◌+◌, ◌<◌, ◌≤◌, inl, inr, List, [], ◌∷◌, length, get_or, drop, replicate, Some, true, ◌&&◌, eqb, ltb, leb, ◌-◌, refl, arith, sym, ◌∙◌}
 use Rattle.std.proofs.lemmas.Bool.{cases_eq, and_parts, and_from, eqb-true, eq-eqb, leb-true, ltb-true, lt-ltb, le-leb}
 use Rattle.std.proofs.lemmas.Bool.Decides.{nat_tests}
-use Rattle.std.proofs.lemmas.List.{get_or-drop}
+use Rattle.std.proofs.lemmas.List.{get_or-drop, length-replicate}
 use Rattle.vm_tree_model.specs.Layout.{Layout}
 use Rattle.vm_map.specs.Map.{Pairs, lookup_at, Rises, StartsAt}
 use Rattle.vm_tree_model.specs.Page.{IsFree}
@@ -30,6 +30,15 @@ is_free-tells L ws is = let (long, zeros) = and_parts (eqb (length ws) L.words) 
 
 pub is_free-from : (L : Layout) (ws : List ℕ) → IsFree L ws → is_free L ws ≡ true
 is_free-from L ws free = and_from (eqb (length ws) L.words) (all_zero ws) (eq-eqb (length ws) L.words free.length) (all_zero-from ws free.zero)
+
+-- a page of zeros is free
+pub free_zeros : (L : Layout) → IsFree L (replicate L.words 0)
+free_zeros L = record { length = length-replicate L.words 0; zero = zeros L.words }
+  where
+    zeros : (n i : ℕ) → get_or {A = ℕ} (replicate n 0) i 0 ≡ 0
+    zeros zero i = refl
+    zeros (suc n) zero = refl
+    zeros (suc n) (suc i) = zeros n i
 
 pub rises-tells : (m : Pairs) (low high : ℕ) → rises low high m ≡ true → Rises low high m
 rises-tells [] low high is = tt

@@ -1,7 +1,7 @@
--- What an edit of one node does to its pairs and fences: a pair is added, a leaf gets other pairs, a node is split, a root grows.
+-- What an edit of one node does to its pairs and fences: a pair is added or taken out, a leaf gets other pairs, a node is split, a root grows.
 use Rattle.std.specs.Prelude.{◌≡◌, ℕ, ◌+◌, ◌<◌, List, [], ◌∷◌, take, drop, slice_index_or, Option, None}
 use Rattle.std.specs.Option.{option_map}
-use Rattle.vm_map.specs.Map.{Pairs, lookup_at, put_pair, Rises, floor_pair}
+use Rattle.vm_map.specs.Map.{Pairs, lookup_at, put_pair, del_pair, Rises, floor_pair}
 use Rattle.vm_tree_model.specs.Layout.{Layout, IsClean, size, cut, left_part, right_part}
 use Rattle.vm_tree_model.specs.Page.{pairs_of, node_of, IsLeaf}
 
@@ -14,6 +14,11 @@ pub record IsFullFor (L : Layout) (words : List ℕ) (key : ℕ) : Type 0 where
 pub record AddsPair (L : Layout) (old new : List ℕ) (key value : ℕ) : Type 0 where
   pub not_full : ¬ (IsFullFor L old key)
   pub node : node_of L new ≡ record (node_of L old) { pairs = put_pair (pairs_of L old) key value }
+  pub clean : IsClean L old → IsClean L new
+
+-- new is old without the first pair of the key, if it has one
+pub record TakesPair (L : Layout) (old new : List ℕ) (key : ℕ) : Type 0 where
+  pub node : node_of L new ≡ record (node_of L old) { pairs = del_pair (pairs_of L old) key }
   pub clean : IsClean L old → IsClean L new
 
 -- there was no place for the key, and nothing changed

@@ -1,7 +1,8 @@
 -- Nodes on pages of n words whose keys are words: a header of eight words, then a key and a value for each pair.
-use Rattle.std.specs.Prelude.{◌≡◌, ◌⊎◌, ℕ, ◌+◌, ◌-◌, ◌*◌, ◌/◌, ◌^◌, ◌<◌, ◌≤◌, ◌==◌, ◌||◌, ◌&&◌, nat_le, nat_lt, List, [], ◌∷◌, length, take, drop, min, slice_index, Bool, true, if◌then◌else◌}
+use Rattle.std.specs.Prelude.{◌≡◌, ◌⊎◌, ℕ, ◌+◌, ◌-◌, ◌*◌, ◌/◌, ◌^◌, ◌<◌, ◌≤◌, ◌==◌, ◌||◌, ◌&&◌, nat_le, nat_lt, List, [], ◌∷◌, length, take, drop, min, slice_index, Bool, if◌then◌else◌}
 use Rattle.vm_map.specs.Keys.{KEY_END}
 use Rattle.vm_map.specs.Map.{Pairs}
+pub use Rattle.vm_page.specs.Pages.{all_zero}
 use Rattle.vm_tree_model.specs.Node.{Node}
 use Rattle.vm_tree_model.specs.Layout.{Layout}
 
@@ -29,10 +30,6 @@ high_of words = if slice_index words 4 == 0 then slice_index words 3 else KEY_EN
 
 abbrev pub fixed_node : ℕ → List ℕ → Node
 fixed_node n words = record { tag = slice_index words 0; level = slice_index words 5; low = slice_index words 2; high = high_of words; pairs = fixed_pairs n words }
-
-abbrev pub all_zero : List ℕ → Bool
-all_zero [] = true
-all_zero (w ∷ ws) = w == 0 && all_zero ws
 
 -- n words, a count that fits, a high fence or none, and zeros where no word has a meaning
 abbrev pub fixed_is_clean : ℕ → List ℕ → Bool
@@ -64,6 +61,7 @@ fixed n = record {
   pair_size = λ _. 1;
   room = capacity n;
   growth = 1;
+  merge_room = capacity n * 5 / 7;
   base = capacity n / 2;
   node_weight = capacity n / 2 - 1;
   excess_weight = 2;

@@ -20,6 +20,8 @@ pub record Layout : Type 0 where
   pub pair_size : ℕ → ℕ
   pub room : ℕ
   pub growth : ℕ
+  -- two neighbouring leaves may become one that takes at most so much
+  pub merge_room : ℕ
   -- a node weighs node_weight, and excess_weight for each unit of its size above `base`
   pub base : ℕ
   pub node_weight : ℕ
@@ -90,4 +92,5 @@ pub record IsLayout (L : Layout) : Type 0 where
   -- sizes and weights
   pub grows : (key : ℕ) → L.pair_size key ≤ L.growth
   pub new_root : (separator : ℕ) → L.fence_size 0 + L.fence_size L.key_end + (L.pair_size 0 + L.pair_size separator) ≤ L.base
+  pub joins : L.excess_weight * (L.merge_room - L.base) ≤ L.node_weight
   pub splits : (n : Node) (separator : ℕ) → size L n ≤ L.room → IsFullNode L n → PaysForSplit L n separator

@@ -3,6 +3,7 @@ pub mod Layout
 pub mod Fixed
 pub mod Page
 pub mod Edits
+pub mod Merges
 pub mod Tree
 pub mod Count
 pub mod Walk

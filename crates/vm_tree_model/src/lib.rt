@@ -11,6 +11,7 @@ ghost use Rattle.vm_tree_model.specs.Fixed.{fixed};
 ghost use Rattle.vm_tree_model.specs.Count.{node_count};
 ghost use Rattle.vm_tree_model.specs.Page.{IsFree};
 ghost use Rattle.vm_tree_model.specs.Tree.{IsTree, IsParted, map_of};
+ghost use Rattle.vm_tree_model.specs.Merges.{IsMergeOf, IsCollapseOf};
 ghost use Rattle.vm_tree_model.specs.Reason.{reason, walked};
 
 /// The walk meets no reason exactly where the pages are a tree, and its rows are then the map that the pages hold.
@@ -47,4 +48,16 @@ pub fn nodes_are_below()
 #[tactic(auto, using(crate::proofs::FixedLaws::sized_layout))]
 pub fn sizes_are_layouts()
     ensures { (n : ℕ) → IsSize n → IsLayout (fixed n) }
+{}
+
+/// Two neighbouring leaves that became one leave a tree with the same map.
+pub fn merges_keep()
+    ensures tree { (L : Layout) → IsLayout L → (old new : List (List ℕ)) (q k p s r : ℕ) → IsTree L old → IsMergeOf L old new q k p s r → IsTree L new }
+    ensures map { (L : Layout) → IsLayout L → (old new : List (List ℕ)) (q k p s r : ℕ) → IsTree L old → IsMergeOf L old new q k p s r → map_of L new ≡ map_of L old }
+{}
+
+/// So do the last two leaves under the root.
+pub fn collapses_keep()
+    ensures tree { (L : Layout) → IsLayout L → (old new : List (List ℕ)) (q k p s r : ℕ) → IsTree L old → IsCollapseOf L old new q k p s r → IsTree L new }
+    ensures map { (L : Layout) → IsLayout L → (old new : List (List ℕ)) (q k p s r : ℕ) → IsTree L old → IsCollapseOf L old new q k p s r → map_of L new ≡ map_of L old }
 {}
