@@ -9,10 +9,10 @@ use Rattle.vm_map.specs.declared.call.Call.TheVariants.{Del, Get, Put, Range, Sw
 use Rattle.vm_map.specs.declared.call.Reply.TheVariants.{Gone, Got, Many, Swapped, Was, Wide, Win}
 use Rattle.vm_map.specs.History.{after, AreReplies, IsReply}
 use Rattle.vm_rule.specs.Prelude.{Each, entries_by, Entry}
-use Rattle.vm_tree_laws.specs.History.{is_new, news, saids}
+use Rattle.vm_tree_laws.specs.History.{gones, is_gone, is_new, news, saids}
 use Rattle.vm_tree_rule.specs.declared.fault.TreeFault.{TreeFault}
 use Rattle.vm_drive.specs.Holds.{answered, HoldsCalls, list_at, said_by}
-use Rattle.vm_churn.specs.Tallies.{count_in, founds, gones, is_found, is_gone, tally_of, tells_found, tells_gone, tells_new, told_tally}
+use Rattle.vm_churn.specs.Tallies.{count_in, founds, is_found, tally_of, tells_found, tells_gone, tells_new, told_tally}
 
 abbrev Answer : Type 0
 Answer = Result Reply TreeFault

@@ -2,11 +2,11 @@
 -- among the answers.
 use Rattle.std.specs.List.{count_by, sum_by}
 use Rattle.std.specs.Prelude.{[], ◌+◌, ◌∷◌, ◌≡◌, ◌≤◌, Bool, false, if◌then◌else◌, length, List, None, Ok, Result, Some, true, ℕ}
-use Rattle.vm_map.specs.{declared.call.Call.Call, declared.call.Call.TheVariants.Del, declared.call.Call.TheVariants.Get, declared.call.Reply.Reply}
+use Rattle.vm_map.specs.{declared.call.Call.Call, declared.call.Call.TheVariants.Get, declared.call.Reply.Reply}
 use Rattle.vm_map.specs.{declared.call.Said.Said, Map.Pairs}
 use Rattle.vm_map.specs.declared.call.Reply.TheVariants.{Gone, Got, Was}
 use Rattle.vm_rule.specs.Prelude.{Entry}
-use Rattle.vm_tree_laws.specs.History.{news}
+use Rattle.vm_tree_laws.specs.History.{gones, news}
 use Rattle.vm_tree_rule.specs.declared.fault.TreeFault.{TreeFault}
 use Rattle.vm_drive.specs.Kept.{Room}
 use Rattle.vm_churn.specs.declared.tally.Tally.{Tally}
@@ -16,20 +16,10 @@ abbrev pub is_found : Call → Reply → ℕ
 is_found (Get key) (Got (Some value)) = 1
 is_found _ _ = 0
 
--- 1 for a del that found a pair of its key
-abbrev pub is_gone : Call → Reply → ℕ
-is_gone (Del key) (Gone (Some value)) = 1
-is_gone _ _ = 0
-
 -- how many gets of a history found a value
 abbrev pub founds : List (Entry Said) → ℕ
 founds [] = 0
 founds (e ∷ h) = is_found e.said.call e.said.reply + founds h
-
--- how many dels of a history found a pair of their key
-abbrev pub gones : List (Entry Said) → ℕ
-gones [] = 0
-gones (e ∷ h) = is_gone e.said.call e.said.reply + gones h
 
 -- the tally of a history
 abbrev pub tally_of : List (Entry Said) → Tally

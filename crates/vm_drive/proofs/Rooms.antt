@@ -2,12 +2,14 @@
 use Rattle.std.proofs.Common.{[], ap, arith, Err, List, refl, subst, sym, ℕ, ⊎_elim, ◌+◌, ◌<◌, ◌∙◌, ◌∷◌, ◌≡◌, ◌≤◌}
 use Rattle.vm_map.specs.{declared.call.Call.Call, declared.call.Call.TheVariants.Put, declared.call.Said.Said}
 use Rattle.vm_tree_model.specs.Layout.{Layout}
-use Rattle.vm_rule.specs.Prelude.{did_load, StartsWith}
+use Rattle.vm_rule.specs.Bundles.{frames_in}
+use Rattle.vm_rule.specs.Prelude.{did_load, Each, StartsWith}
 use Rattle.vm_rule.specs.declared.view.Place.TheVariants as places
-use Rattle.vm_step.specs.Prelude.{Origin, UnlockedExpected, View}
+use Rattle.vm_step.specs.Prelude.{Did, HasGiven, Origin, UnlockedExpected, View}
 use Rattle.vm_step.proofs.Numbers.{has-numbers}
 use Rattle.vm_exmap.specs.declared.interface.Alloc.TheVariants as allocs
 use Rattle.vm_guard.specs.{declared.given.Fresh.Fresh, declared.opt.OptGuard.OptGuard, Denied.KeptWord, Fresh.IsFull}
+use Rattle.vm_guard.specs.{FreshPlaces.IsPlaceOf, Reused.IsFreshAnswer}
 use Rattle.vm_guard.specs.declared.deny.Deny.TheVariants as denies
 use Rattle.vm_guard.specs.declared.given.Fresh.TheVariants as freshes
 use Rattle.vm_guard.proofs.Amid.{nload-amid}
@@ -20,7 +22,8 @@ use Rattle.vm_tree_write.specs.Prepares.{IsLockDenied, IsLockDenied as locks, Is
 use Rattle.vm_tree_write.specs.Tries.{IsEnded, IsEnded as ends, IsUnsplit, IsUnsplit as unsplit}
 use Rattle.vm_tree_write.specs.Waiting.{IsRoomFault, IsRoomFault as rooms}
 use Rattle.vm_tree_write.specs.declared.tries.TrySplit.TheVariants as splits
-use Rattle.vm_tree_write.proofs.Roomy.{roomy-start}
+use Rattle.vm_tree_rule.proofs.Readings.{each-behind}
+use Rattle.vm_tree_write.proofs.{Roomy.roomy-start, Seeing.sees-few, Seeing.sees-room}
 use Rattle.vm_drive.specs.{Calls.KeepsPass, TreeCalls.as_said}
 use Rattle.vm_drive.proofs.Called.{HasFoundNext, HasFoundWorn, IsCalled}
 use Rattle.vm_drive.proofs.{Bringing.fault-called, Doing.keeps-then, Keeping.all-pass, Keeping.reads-pass, Lists.starts-then, Sweeping.swept-noted}
@@ -37,6 +40,42 @@ next-full n pages next need v w few f =
       given = given-in (did_load places.Next next ∷ []) places.Next next v w (nload-amid [] next v w f.loaded).log (record { earlier = []; step = did_load places.Next next; later = []; cut = refl; gives = (refl, refl) });
       high = omega (arith, asked, high, few);
     }
+
+-- a step at a page's state word is at one of the table's pages
+place-inside : (start : Origin) (pages : List ℕ) (p word : ℕ) (done : List Did) → Each (λ (d : Did). IsPlaceOf start pages d.at) done → HasGiven done (places.State p) word → p < start.pages
+place-inside start pages p word done are g =
+    let here : IsPlaceOf start pages g.step.at =
+    (each-behind (λ (d : Did). IsPlaceOf start pages d.at) g.earlier (g.step ∷ g.later) (subst (Each (λ (d : Did). IsPlaceOf start pages d.at)) g.cut are)).0 in
+    (subst (IsPlaceOf start pages) g.gives.0 here).0
+
+-- a fresh page was at the last version, whether it was to be claimed or its number was taken
+answer-worn : (n : ℕ) (before after : List ℕ) (p : ℕ) (v w : View Said) → IsFreshAnswer n before after v w (freshes.Worn p) → HasFoundWorn p w
+answer-worn n before after p v w answer =
+    ⊎_elim
+    (λ a.
+    let out = a.2.1.1 in
+    let x : ℕ = a.2.1.0 in
+    let below : p < x + n = (has-numbers n x p out.among).1 in
+    let most : x + n ≤ a.0.start.pages = out.inside in
+    found-worn p out.done a.0 a.0 w out.spared.nil.amid.log refl out.spared.nil.amid.start (omega (arith, below, most)) out.worn.word out.worn.given out.worn.last)
+    (λ a.
+    ⊎_elim
+    (λ lost. absurd (let no : freshes.Worn p ≡ freshes.Again lost.0 = lost.1 in cc))
+    (λ taken.
+    let out = taken.1 in
+    let inside : p < a.0.start.pages = place-inside a.0.start (frames_in a.1 a.4.0) p out.worn.word out.done out.unused.amid.places_are out.worn.given in
+    found-worn p out.done a.0 a.0 w out.unused.amid.log refl out.unused.amid.start inside out.worn.word out.worn.given out.worn.last)
+    a.4.2)
+    answer
+
+-- no word had so many bits, and too few pages were left
+answer-full : (n : ℕ) (before after : List ℕ) (pages next need : ℕ) (v w : View Said) → n ≤ 2 → IsFreshAnswer n before after v w (freshes.Full pages next need)
+    → (pages ≡ v.start.pages) × HasFoundNext pages w
+answer-full n before after pages next need v w few answer =
+    ⊎_elim
+    (λ a. (a.2.1.there ∙ ap (λ (o : Origin). o.pages) (sees-few n v a.0 a.1).nil.amid.start, next-full n pages next need a.0 w few a.2.1))
+    (λ a. ⊎_elim (λ lost. absurd (let no : freshes.Full pages next need ≡ freshes.Again lost.0 = lost.1 in cc)) (λ taken. absurd taken) a.4.2)
+    answer
 
 -- a sweep for a split made no frame free
 swept-called : (size : ℕ) (call : Call) (fault : TreeFault) (u v w : View Said) (want cap : ℕ) (old new : List ℕ) (report : Report) (answer : Bring) → KeepsPass u v → w.mine ≡ u.mine → IsSwept want cap old new report v w → SaysDry report answer → NamesFault answer fault → IsCalled size call (Err fault) u w
@@ -76,13 +115,7 @@ module _ (L : Layout) where
 
   fresh-worn : (n : ℕ) (a b : OptGuard) (p : ℕ) (v w : View Said) → IsRefusedPages L n a b (freshes.Worn p) v w → HasFoundWorn p w
   fresh-worn n a b p v w h =
-      let x : ℕ = h.fresh.1.0 in
-      let out = h.fresh.1.1 in
-      let worn = out.worn in
-      let below : p < x + n = (has-numbers n x p out.among).1 in
-      let most : x + n ≤ h.locked.start.pages = out.inside in
-      max-later h.refused w p (back-start n a b (freshes.Worn p) v w h) (back-log n a b (freshes.Worn p) v w h)
-      (found-worn p out.done h.locked h.locked h.refused out.spared.nil.amid.log refl out.spared.nil.amid.start (omega (arith, below, most)) worn.word worn.given worn.last)
+      max-later h.refused w p (back-start n a b (freshes.Worn p) v w h) (back-log n a b (freshes.Worn p) v w h) (answer-worn n h.before h.after p h.locked h.refused h.fresh)
 
   untaken-worn : (n : ℕ) (a b : OptGuard) (p : ℕ) (v w : View Said) → a.pid < v.start.pages → b.pid < v.start.pages → IsUntaken L n a b v w (splits.Worn p) → HasFoundWorn p w
   untaken-worn n a b p v w la lb (untaken.short (allocs.Batch batch) h says) = absurd says
@@ -103,10 +136,9 @@ module _ (L : Layout) where
 
   fresh-full : (n : ℕ) (a b : OptGuard) (pages next need : ℕ) (v w : View Said) → n ≤ 2 → IsRefusedPages L n a b (freshes.Full pages next need) v w → (pages ≡ v.start.pages) × HasFoundNext pages w
   fresh-full n a b pages next need v w few h =
-      let f = h.fresh.1 in
-      let k = next-full n pages next need h.locked h.refused few f in (
-        f.there ∙ ap (λ (o : Origin). o.pages) (locked-start n a b (freshes.Full pages next need) v w h),
-        record { found = k.found; given = given-more w.log h.refused.log places.Next k.found (back-log n a b (freshes.Full pages next need) v w h) k.given; high = k.high },
+      let k = answer-full n h.before h.after pages next need h.locked h.refused few h.fresh in (
+        k.0 ∙ ap (λ (o : Origin). o.pages) (locked-start n a b (freshes.Full pages next need) v w h),
+        record { found = k.1.found; given = given-more w.log h.refused.log places.Next k.1.found (back-log n a b (freshes.Full pages next need) v w h) k.1.given; high = k.1.high },
       )
 
   untaken-full : (n : ℕ) (a b : OptGuard) (pages next need : ℕ) (v w : View Said) → n ≤ 2 → IsUntaken L n a b v w (splits.Full pages next need) → (pages ≡ v.start.pages) × HasFoundNext pages w
@@ -126,9 +158,9 @@ module _ (L : Layout) where
 
   module _ (spare : List ℕ → ℕ) where
     unsplit-worn : (n : ℕ) (a b : OptGuard) (p : ℕ) (v w : View Said) → a.pid < v.start.pages → b.pid < v.start.pages → IsUnsplit as_said L spare n a b v w (splits.Worn p) → HasFoundWorn p w
-    unsplit-worn n a b p v w la lb (unsplit.full pages next need h says) = absurd (let no : splits.Worn p ≡ splits.Full pages next need = says in cc)
-    unsplit-worn n a b p v w la lb (unsplit.untaken next roomy room h) =
-        let here : (q : ℕ) → q < v.start.pages → q < roomy.start.pages = λ q l. subst (λ (o : Origin). q < o.pages) (sym (roomy-start next v roomy room.loaded)) l in
+    unsplit-worn n a b p v w la lb (unsplit.full pages next need searched f h says) = absurd (let no : splits.Worn p ≡ splits.Full pages next need = says in cc)
+    unsplit-worn n a b p v w la lb (unsplit.untaken roomy room h) =
+        let here : (q : ℕ) → q < v.start.pages → q < roomy.start.pages = λ q l. subst (λ (o : Origin). q < o.pages) (sym (roomy-start v roomy (sees-room n v roomy room))) l in
         untaken-worn n a b p roomy w (here a.pid la) (here b.pid lb) h
 
     ended-worn : (key p : ℕ) (v w : View Said) → IsEnded as_said L spare v key w (splits.Worn p) → HasFoundWorn p w
@@ -144,11 +176,11 @@ module _ (L : Layout) where
         end
 
     unsplit-full : (n : ℕ) (a b : OptGuard) (pages next need : ℕ) (v w : View Said) → n ≤ 2 → IsUnsplit as_said L spare n a b v w (splits.Full pages next need) → (pages ≡ v.start.pages) × HasFoundNext pages w
-    unsplit-full n a b pages next need v w few (unsplit.full pages' next' need' h says) =
+    unsplit-full n a b pages next need v w few (unsplit.full pages' next' need' searched f h says) =
         let same : pages' ≡ pages = (let e : splits.Full pages next need ≡ splits.Full pages' next' need' = says in cc) in
-        subst (λ m. (m ≡ v.start.pages) × HasFoundNext m w) same (h.there, next-full n pages' next' need' v w few h)
-    unsplit-full n a b pages next need v w few (unsplit.untaken next' roomy room h) =
-        let k = untaken-full n a b pages next need roomy w few h in (k.0 ∙ ap (λ (o : Origin). o.pages) (roomy-start next' v roomy room.loaded), k.1)
+        subst (λ m. (m ≡ v.start.pages) × HasFoundNext m w) same (h.there ∙ ap (λ (o : Origin). o.pages) (sees-few n v searched f).nil.amid.start, next-full n pages' next' need' searched w few h)
+    unsplit-full n a b pages next need v w few (unsplit.untaken roomy room h) =
+        let k = untaken-full n a b pages next need roomy w few h in (k.0 ∙ ap (λ (o : Origin). o.pages) (roomy-start v roomy (sees-room n v roomy room)), k.1)
 
     ended-full : (key pages next need : ℕ) (v w : View Said) → IsEnded as_said L spare v key w (splits.Full pages next need) → (pages ≡ v.start.pages) × HasFoundNext pages w
     ended-full key pages next need v w (ends.root meta low height page x reads full end) =

@@ -22,7 +22,7 @@ use Rattle.vm_evict.specs.declared.flushing.Flushed.{Flushed}
 use Rattle.vm_evict.specs.Flushes.{first_noted, HasNoLock, IsFlushed, noted_pages, RisesFrom}
 use Rattle.vm_pool.specs.Closing.{AreSums, IsClosed, IsStored, view_at_end}
 use Rattle.vm_pool.specs.declared.ended.Ended.{Ended}
-use Rattle.vm_tree_laws.specs.{History.IsLegal, History.news, History.saids, Keeps.KeepsTree, Plain.KeepsPlain}
+use Rattle.vm_tree_laws.specs.{History.gones, History.IsLegal, History.news, History.saids, Keeps.KeepsTree, Keeps.merge_weight, Plain.KeepsPlain}
 use Rattle.vm_tree_laws.proofs.{Fullness.room_used, Starts.start_keeps}
 use Rattle.vm_tree_rule.specs.declared.fault.TreeFault.{TreeFault}
 use Rattle.vm_drive.specs.{Drives.IsAtLastVersion, Drives.IsDriven, Holds.HoldsCalls, Shows.AllShown}
@@ -50,16 +50,17 @@ all-zero (suc n) [] e z = absurd (omega arith)
 all-zero (suc n) (x ∷ xs) e z = let first : x ≡ 0 = z 0 in let rest : xs ≡ replicate n 0 = all-zero n xs (omega arith) (λ i. z (suc i)) in cc
 
 -- the tree may begin with the pages of blocks that are one
-pub begins-held : (size : ℕ) → IsSize size → (next : ℕ) (blocks : List (MemBlock size)) → IsTree (fixed size) (pages_of_blocks blocks) → IsNextPage size (pages_of_blocks blocks) next → MayBegin (KeepsPlain as_said (fixed size)) next (block_words (map stored_of blocks))
+pub begins-held : (size : ℕ) → IsSize size → (next : ℕ) (blocks : List (MemBlock size)) → IsTree (fixed size) (pages_of_blocks blocks) → IsNextPage size (pages_of_blocks blocks) next → MayBegin (KeepsPlain as_said (fixed size)) next [] (block_words (map stored_of blocks))
 begins-held size sized next blocks tree free =
-    subst (λ (l : List (List ℕ)). MayBegin (KeepsPlain as_said (fixed size)) next l) (sym (words-held blocks))
+    subst (λ (l : List (List ℕ)). MayBegin (KeepsPlain as_said (fixed size)) next [] l) (sym (words-held blocks))
     (record {
       zero = λ p l m. let f = free.free p l m in all-zero (length (page_at (pages_of_blocks blocks) p)) (page_at (pages_of_blocks blocks) p) refl f.zero;
-      kept = start_keeps (fixed size) (sized_layout size sized) (record { pages = pages_of_blocks blocks; next = next }) tree free.within;
+      spare = λ p e. absurd (true≢false (sym e));
+      kept = start_keeps (fixed size) (sized_layout size sized) (record { pages = pages_of_blocks blocks; next = next; free = [] }) tree free.within;
     })
 
 -- so it may with the pages of an image that is one
-pub begins : (size : ℕ) → IsSize size → (pages : List (List ℕ)) (plan : List PlannedFault) (next : ℕ) (blocks : List (MemBlock size)) → IsTree (fixed size) pages → IsNextPage size pages next → AreBlocksOf pages plan blocks → MayBegin (KeepsPlain as_said (fixed size)) next (block_words (map stored_of blocks))
+pub begins : (size : ℕ) → IsSize size → (pages : List (List ℕ)) (plan : List PlannedFault) (next : ℕ) (blocks : List (MemBlock size)) → IsTree (fixed size) pages → IsNextPage size pages next → AreBlocksOf pages plan blocks → MayBegin (KeepsPlain as_said (fixed size)) next [] (block_words (map stored_of blocks))
 begins size sized pages plan next blocks tree free held =
     begins-held size sized next blocks (subst (λ (l : List (List ℕ)). IsTree (fixed size) l) (sym held.held) tree) (subst (λ (l : List (List ℕ)). IsNextPage size l next) (sym held.held) free)
 
@@ -69,7 +70,7 @@ numbers-long a zero = refl
 numbers-long a (suc n) = ap suc (numbers-long (suc a) n)
 
 -- the first pass has fresh parts enough
-pub fresh-enough : (size : ℕ) (tells : Bool) (version next frames count : ℕ) (blocks : List Stored) (v : View Said) → v ≡ begun (unborn (started_shape size tells version next frames blocks)) → count ≤ 64 → count ≤ length v.fresh
+pub fresh-enough : (size : ℕ) (tells : Bool) (version next frames count : ℕ) (blocks : List Stored) (v : View Said) → v ≡ begun (unborn (started_shape size tells version next [] frames blocks)) → count ≤ 64 → count ≤ length v.fresh
 fresh-enough size tells version next frames count blocks v is few =
     let long : length v.fresh ≡ 4294967295 = ap (λ (x : View Said). length x.fresh) is ∙ numbers-long 1 4294967295 in
     omega arith
@@ -135,12 +136,12 @@ blocks-hold blocks n words long each =
     ∙ listed-same n (at [] (pages_of_blocks blocks)) words (λ p l. same-words blocks p (subst (λ k. p < k) (sym long) l) ∙ each p l)
 
 module _ (size : ℕ) (sized : IsSize size) {U : Type 0} (pages : List (List ℕ)) (plan : List PlannedFault) (version next frames : ℕ) (before after : List (MemBlock size)) (lists : List (List Call)) (replies : List (List (Result Reply TreeFault))) (report : Flushed) (end : Ended U Said) (v w : View Said)
-    (held : AreBlocksOf pages plan before) (count : length before ≡ length pages) (is : v ≡ begun (unborn (started_shape size true version next frames (map stored_of before)))) (next_page : IsNextPage size pages next) (tree : IsTree (fixed size) pages)
+    (held : AreBlocksOf pages plan before) (count : length before ≡ length pages) (is : v ≡ begun (unborn (started_shape size true version next [] frames (map stored_of before)))) (next_page : IsNextPage size pages next) (tree : IsTree (fixed size) pages)
     (driven : IsDriven size true lists replies v w) (flushed : IsFlushed report w (view_at_end end)) (last : ℕ) (closed : IsClosed true (KeepsPlain as_said (fixed size)) (view_at_end end) (map stored_of after) last) where
   abbrev e : View Said
   e = view_at_end end
 
-  start-is : e.start ≡ started_origin size true version next frames (map stored_of before)
+  start-is : e.start ≡ started_origin size true version next [] frames (map stored_of before)
   start-is = flushed.aside.start ∙ driven.start ∙ ap (λ (x : View Said). x.start) is
 
   began : e.start.contents ≡ pages
@@ -172,8 +173,8 @@ module _ (size : ℕ) (sized : IsSize size) {U : Type 0} (pages : List (List ℕ
         all = all;
         high = (omega arith);
         cause =
-            subst (λ (l : List (List ℕ)). (half_of size - 1) * length l ≤ 2 * half_of size * node_count (fixed size) l + 2 * news e.seen + (half_of size - 1) * (e.start.next + 1)) began
-            (subst (λ (k : ℕ). (half_of size - 1) * length e.start.contents ≤ k * node_count (fixed size) e.start.contents + 2 * news e.seen + (half_of size - 1) * (e.start.next + 1)) (other-half size sized) cause);
+            subst (λ (l : List (List ℕ)). (half_of size - 1) * length l ≤ 2 * half_of size * node_count (fixed size) l + 2 * news e.seen + merge_weight (fixed size) * gones e.seen + (half_of size - 1) * (e.start.next + 1)) began
+            (subst (λ (k : ℕ). (half_of size - 1) * length e.start.contents ≤ k * node_count (fixed size) e.start.contents + 2 * news e.seen + merge_weight (fixed size) * gones e.seen + (half_of size - 1) * (e.start.next + 1)) (other-half size sized) cause);
       }
 
   -- from the next word at the start on the image's pages are free

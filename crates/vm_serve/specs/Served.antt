@@ -13,7 +13,8 @@ use Rattle.vm_evict.specs.declared.flushing.Flushed.{Flushed}
 use Rattle.vm_evict.specs.Flushes.{IsFlushed}
 use Rattle.vm_pool.specs.Closing.{AreSums, IsStored, view_at_end}
 use Rattle.vm_pool.specs.declared.ended.Ended.{Ended}
-use Rattle.vm_tree_laws.specs.History.{IsLegal, news, saids}
+use Rattle.vm_tree_laws.specs.History.{gones, IsLegal, news, saids}
+use Rattle.vm_tree_laws.specs.Keeps.{merge_weight}
 use Rattle.vm_kind.specs.{declared.tree.TreeOf.TreeOf, declared.word_keys.Sizes.Sizes, declared.word_keys.WordKeys.WordKeys}
 use Rattle.vm_tree_rule.specs.declared.fault.TreeFault.{TreeFault}
 use Rattle.vm_drive.specs.{Drives.IsAtLastVersion, Holds.HoldsCalls, Kept.AreKept, Shows.AllShown}
@@ -25,13 +26,14 @@ use Rattle.vm_serve.specs.Wide.{AllWidenedBy}
 abbrev pub TreeEnd : ℕ → Type 0
 TreeEnd n = Ended (TreeOf (WordKeys Sizes n)) Said
 
--- an image of pages of n words that was used up: the next word that the end keeps leaves no room for a split, and the puts of new keys account
--- for it, from the next word at the start on. With P pages, of which X were used at the start by N nodes, and with G such puts, 13 * P is at most
--- 28 * N + 2 * G + 13 * (X + 1) where a page has 64 words, and 125 * P at most 252 * N + 2 * G + 125 * (X + 1) where it has 512
+-- an image of pages of n words that was used up: the next word that the end keeps leaves no room for a split, and the puts of new keys and the dels
+-- that gave a value account for it, from the next word at the start on. With P pages, of which X were used at the start by N nodes, and with G such puts
+-- and D such dels, 13 * P is at most 28 * N + 2 * G + 12 * D + 13 * (X + 1) where a page has 64 words, and 125 * P at most
+-- 252 * N + 2 * G + 108 * D + 125 * (X + 1) where it has 512
 pub record IsFilled (n : ℕ) {U : Type 0} (pages : List (List ℕ)) (end : Ended U Said) (count : ℕ) : Type 0 where
   pub all : count ≡ length pages
   pub high : count ≤ (kept_by (view_at_end end)).next + 1
-  pub cause : (half_of n - 1) * length pages ≤ 2 * half_of n * node_count (fixed n) pages + 2 * news (view_at_end end).seen + (half_of n - 1) * ((view_at_end end).start.next + 1)
+  pub cause : (half_of n - 1) * length pages ≤ 2 * half_of n * node_count (fixed n) pages + 2 * news (view_at_end end).seen + merge_weight (fixed n) * gones (view_at_end end).seen + (half_of n - 1) * ((view_at_end end).start.next + 1)
 
 -- an image of pages of n words in which leaves held together did not reach a range's bound, as many as can be held, which are sixteen: it has page 0,
 -- these leaves, one behind them and the root, so nineteen pages, and the puts of new keys account for its nodes, from the next word at the start on. With

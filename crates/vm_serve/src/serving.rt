@@ -186,7 +186,7 @@ fn serve_blocks<
     ensures version { IfOk result (λ s. (view_at_end s.ended).start.version ≡ shape.first_version) }
     ensures frames { IfOk result (λ s. (view_at_end s.ended).start.frames ≡ shape.frames) }
 {
-    let (pool, mut pass) = Pool::start(alloc, shape, blocks)?;
+    let (pool, mut pass) = Pool::start(alloc, shape, blocks, &[])?;
     let driven = drive_into(rt, alloc, &pool, &mut pass, lists, gate, rooms)?;
     let DrivenInto { kept, evicted } = driven;
     match flush_and_close(pool, alloc, pass) {

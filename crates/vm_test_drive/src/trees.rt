@@ -115,5 +115,5 @@ pub(crate) fn open(
         next: image.next(),
         first_version,
     };
-    Ok(Pool::start(alloc, shape, blocks)?)
+    Ok(Pool::start(alloc, shape, blocks, &[])?)
 }

@@ -43,6 +43,7 @@ quiet-on p done v w q = record {
   frames = q.steady.frames;
   out = q.steady.out;
   group = q.group;
+  numbers = q.numbers;
   start = q.steady.start;
   parts = q.steady.parts;
   alone = q.alone;

@@ -84,5 +84,5 @@ pub(crate) fn open<S: OfSize<N>, const N: usize>(
         next: image.next(),
         first_version,
     };
-    Ok(Pool::start(alloc, shape, blocks)?)
+    Ok(Pool::start(alloc, shape, blocks, &[])?)
 }

@@ -6,10 +6,18 @@ use Rattle.vm_tree_model.specs.{Layout.Layout, Tree.map_of}
 use Rattle.vm_rule.specs.Prelude.{Entry, entry_of}
 use Rattle.vm_step.specs.Prelude.{Origin, View}
 use Rattle.vm_tree_laws.specs.{History.saids, Plain.plain_history}
-use Rattle.vm_tree_read.specs.Reads.{IsAnswered}
+use Rattle.vm_tree_read.specs.Reads.{IsAnswered, IsDone}
+use Rattle.vm_tree_read.specs.declared.read.TryRead.{TryRead}
+use Rattle.vm_tree_read.specs.declared.read.TryRead.TheVariants as tries
 use Rattle.vm_tree_write.specs.Writes.{IsWriteDone}
 use Rattle.vm_tree_callers.specs.Pairs.{AnswersPut}
 use Rattle.vm_tree_callers.proofs.Pairs.{put-got}
+
+-- a try that is Done is not one that is none of the Dones
+pub done-not : (t : TryRead) → IsDone t → ((reply : Reply) → t ≡ tries.Done reply → ⊥) → ⊥
+done-not (tries.Done reply) done other = other reply refl
+done-not (tries.Again saw) done other = absurd done
+done-not (tries.Need p) done other = absurd done
 
 joined : {E : Type 0} (l : List E) (p g : E) → ((l ++ p ∷ []) ++ []) ++ g ∷ [] ≡ l ++ p ∷ g ∷ []
 joined [] p g = refl

@@ -1,18 +1,18 @@
 -- What the first pass of a pool over a tree of one leaf knows once both its pages were brought: the pages below the next one are resident, and each
 -- page's last words are those of its block. So a get is answered at once, with what the map of the pages has.
-use Rattle.std.proofs.Common.{[], ⊎_elim, ◌*◌, ◌+◌, ◌<◌, ◌∙◌, ◌≡◌, ◌≢◌, ◌≤◌, ap, arith, if◌then◌else◌, inl, inr, length, List, refl, replicate, subst, sym, true, ℕ}
-use Rattle.std.proofs.lemmas.Bool.{cases_eq, lt-ltb}
+use Rattle.std.proofs.Common.{[], ⊎_elim, ◌*◌, ◌+◌, ◌<◌, ◌∙◌, ◌≡◌, ◌≢◌, ◌≤◌, ap, arith, inl, inr, length, List, refl, subst, sym, true, ℕ}
+use Rattle.std.proofs.lemmas.Bool.{cases_eq}
 use Rattle.vm_map.specs.{declared.call.Reply.Reply, declared.call.Said.Said, Map.lookup_at}
 use Rattle.vm_map.specs.declared.call.Call.TheVariants.{Get}
 use Rattle.vm_map.specs.declared.call.Reply.TheVariants.{Gone, Got, Many, Swapped, Was, Wide, Win}
 use Rattle.vm_tree_model.specs.{Layout.IsLayout, Layout.Layout, Node.Covers, Page.node_of, Page.pairs_of, Tree.IsLeafAt, Tree.map_of}
 use Rattle.vm_tree_model.proofs.Laws.{lookup-map_of}
-use Rattle.vm_core.specs.Prelude.{at, MAX_VERSION, page_at, state_of, UNLOCKED}
+use Rattle.vm_core.specs.Prelude.{MAX_VERSION, page_at, state_of, UNLOCKED}
 use Rattle.vm_core.proofs.At.{at-get}
-use Rattle.vm_rule.specs.Prelude.{block_words, bundles_of, counts_of, IsStarted, last_of, MayBegin, started_shape, started_words, Stored, unborn}
+use Rattle.vm_rule.specs.Prelude.{block_words, bundles_of, counts_of, IsStarted, MayBegin, started_shape, started_words, Stored, unborn}
 use Rattle.vm_rule.specs.Begun.{begun}
 use Rattle.vm_rule.specs.declared.view.Place.TheVariants as places
-use Rattle.vm_rule.proofs.{ListFacts.at-any, ListFacts.length-mapped, StartedWords.started-next, WordFacts.word-state}
+use Rattle.vm_rule.proofs.{ListFacts.length-mapped, StartedWords.started-next, WordFacts.word-state}
 use Rattle.vm_step.specs.Prelude.{IsAlone, Origin, StaysAlone, View}
 use Rattle.vm_step.proofs.Asides.{alone-then}
 use Rattle.vm_guard.specs.Sure.{IsKnownFree, IsUnlockedWord, known_next}
@@ -21,7 +21,7 @@ use Rattle.vm_fault.specs.Fetches.{IsKnownOut, IsOfBoth}
 use Rattle.vm_pool.specs.{Brings.KeepsLocks, declared.bring.Bring.Bring, Known.known_version, Known.KnowsAsked, Known.KnowsBring, Known.KnowsBrought}
 use Rattle.vm_pool.specs.Known.{KnowsBrought as brought}
 use Rattle.vm_pool.specs.declared.bring.Bring.TheVariants as brings
-use Rattle.vm_pool.proofs.{FirstPass.first-alone, FirstPass.first-out, Keeping.keeps-alone, Knowing.brought-word, Knowing.when-free}
+use Rattle.vm_pool.proofs.{FirstPass.first-alone, FirstPass.first-out, FirstPass.first-words, Keeping.keeps-alone, Knowing.brought-word, Knowing.when-free}
 use Rattle.vm_pool_callers.specs.Known.{HasAskedFirst}
 use Rattle.vm_pool_callers.proofs.FirstPage.{again, other-page}
 use Rattle.vm_tree_laws.specs.{May.IsProved, Plain.KeepsPlain, Plain.plain_kept}
@@ -64,17 +64,10 @@ got-is L leaf key (Wide reach) p = absurd p
 
 module _ {S : Type 0} (plain : S → Said) (L : Layout) (laws : IsLayout L) (size version next frames : ℕ) (blocks : List Stored) where
   abbrev first : View S
-  first = begun (unborn (started_shape size true version next frames blocks))
+  first = begun (unborn (started_shape size true version next [] frames blocks))
 
   first-next : known_next first ≡ next
-  first-next = sym (at-get 0 (started_words size (length blocks) frames version next (counts_of blocks)) (3 * length blocks + size * frames + bundles_of frames)) ∙ started-next size true version next frames blocks
-
-  first-words : (p : ℕ) → p < length blocks → (last_of first p).words ≡ page_at (block_words blocks) p
-  first-words p l =
-      let inside : p < length (block_words blocks) = omega (arith, l, length-mapped (λ (b : Stored). b.words) blocks) in
-      ap (λ b. if b then at (replicate size 0) (block_words blocks) p else replicate size 0) (lt-ltb p (length blocks) l)
-      ∙ at-any (replicate size 0) [] (block_words blocks) p inside
-      ∙ at-get [] (block_words blocks) p
+  first-next = sym (at-get 0 (started_words size (length blocks) frames version next [] (counts_of blocks)) (3 * length blocks + size * frames + bundles_of frames)) ∙ started-next size true version next [] frames blocks
 
   -- ---- once both pages were brought
 
@@ -103,7 +96,7 @@ module _ {S : Type 0} (plain : S → Said) (L : Layout) (laws : IsLayout L) (siz
     meta-free =
         let inside : 0 < w.start.pages = subst (λ (o : Origin). 0 < o.pages) (sym asked.keeps.start) (omega (arith, many, long)) in
         subst IsUnlockedWord (sym (other-page cap 1 0 new last w z root (omega arith) inside then-knows))
-        (free-word 1 0 [] new first w (first-out size true version next frames blocks first refl pages long fits 0 (omega (arith, many)) below) first-brought)
+        (free-word 1 0 [] new first w (first-out size true version next [] frames blocks first refl pages long fits 0 (omega (arith, many)) below) first-brought)
 
     both-free : (q : ℕ) → q < 2 → IsKnownFree q z
     both-free q l =
@@ -114,7 +107,7 @@ module _ {S : Type 0} (plain : S → Said) (L : Layout) (laws : IsLayout L) (siz
     resident : KnowsResident z
     resident = record { alone = keeps-alone keeps before.0; each = λ q l _. both-free q (subst (λ n. q < n) known-two l) }
 
-    module _ (key : ℕ) (y : View S) (may : MayBegin (KeepsPlain plain L) next (block_words blocks)) where
+    module _ (key : ℕ) (y : View S) (may : MayBegin (KeepsPlain plain L) next [] (block_words blocks)) where
       answered : (reply : Reply) → IsAnswered plain L (record { call = Get key; reply = reply }) z y → reply ≡ Got (lookup_at (map_of L (block_words blocks)) key)
       answered reply a =
           let start : z.start ≡ first.start = keeps.start ∙ asked.keeps.start in
@@ -123,9 +116,9 @@ module _ {S : Type 0} (plain : S → Said) (L : Layout) (laws : IsLayout L) (siz
           let count : length b.kept.pages ≡ length blocks = b.keeps.same_count ∙ ap (λ (o : Origin). length o.contents) start ∙ length-mapped (λ (s : Stored). s.words) blocks in
           let inside : a.page < length blocks = (let l : a.page < length b.kept.pages = leaf-there.1 in omega (arith, l, count)) in
           let stays : StaysAlone first z = alone-then first w z asked.keeps.parts asked.keeps.alone keeps.alone in
-          let whole = first-alone size true version next frames blocks first refl in
+          let whole = first-alone size true version next [] frames blocks first refl in
           let same : page_at b.kept.pages a.page ≡ page_at (block_words blocks) a.page =
-          b.last ∙ a.reads.alone.words resident.alone.0 resident.alone.1 a.page ∙ stays.words whole.0 whole.1 a.page ∙ first-words a.page inside in
+          b.last ∙ a.reads.alone.words resident.alone.0 resident.alone.1 a.page ∙ stays.words whole.0 whole.1 a.page ∙ first-words size true version next [] frames blocks first refl refl a.page inside in
           let got = got-is L (page_at b.kept.pages a.page) key reply b.proved in
           let leaf-first : IsLeafAt L (block_words blocks) a.page = leaf_by_tag L laws _ _ may.kept a.page (ap (λ (l : List ℕ). (node_of L l).tag) (sym same) ∙ (a.proves _ b.has).leaf) in
           got.1 ∙ ap (λ (l : List ℕ). Got (lookup_at (pairs_of L l) key)) same

@@ -1,6 +1,6 @@
 // A pool is started over the pages of a tree that is one leaf, both pages are brought, and a key is looked up. It stands on the contracts of `open_page`,
 // `bring` and `try_get` alone, and shows that what `try_get` promises a pass that knows the pages to be resident can be had from the very start.
-ghost use Rattle.std.specs.Prelude.{◌<◌, ◌≡◌, ◌≤◌, IfOk, length, map, true};
+ghost use Rattle.std.specs.Prelude.{[], ◌<◌, ◌≡◌, ◌≤◌, IfOk, length, map, true};
 ghost use Rattle.vm_map.specs.Map.{lookup_at};
 ghost use Rattle.vm_tree_model.specs.Tree.{map_of};
 ghost use Rattle.vm_core.specs.Prelude.{MAX_VERSION};
@@ -48,7 +48,7 @@ pub fn get_from_start<K: Kind, B: PageBlock<N> + Drop, const N: usize>(
     requires frames { 2 ≤ shape.frames }
     requires leaf { shape.next ≡ 2 }
     requires tells { B.tells ≡ true }
-    requires begins { MayBegin (KeepsPlain K.plain K.layout) shape.next (block_words (map B.stored blocks.items)) }
+    requires begins { MayBegin (KeepsPlain K.plain K.layout) shape.next [] (block_words (map B.stored blocks.items)) }
     ensures meta { IfOk result (λ started. IsBroughtOrFailed 0 (bounds_of (map B.stored blocks.items)) started.meta) }
     ensures root { IfOk result (λ started. IsBroughtOrFailed 1 (bounds_of (map B.stored blocks.items)) started.root) }
     ensures reply { IfOk result (λ started. started.meta ≡ Bring.Brought → started.root ≡ Bring.Brought

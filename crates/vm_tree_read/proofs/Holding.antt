@@ -8,7 +8,7 @@ use Rattle.vm_rule.specs.declared.view.Held.{Held}
 use Rattle.vm_rule.proofs.Entries.{append-none}
 use Rattle.vm_step.specs.Prelude.{HoldsPage, KnowsAsBefore, MayUnshare, Origin, View}
 use Rattle.vm_step.specs.steps.Share.{HasShare, pages_known}
-use Rattle.vm_step.proofs.Asides.{alone-self, alone-then, holds-then, knows-then, starts-then, still-locking}
+use Rattle.vm_step.proofs.Asides.{alone-self, alone-then, holds-then, knows-then, numbers-then, starts-then, still-locking}
 use Rattle.vm_guard.specs.Guards.{IsSharedAt, IsSharing, IsUnshared}
 use Rattle.vm_tree_rule.specs.Leaves.{ReadsOn}
 use Rattle.vm_tree_read.specs.Ranges.{HoldsOn, HoldsSilently, StepsOn}
@@ -48,6 +48,7 @@ module _ {X : Type 0} where
     frames = (refl, refl);
     out = refl;
     group = (refl, refl, refl);
+    numbers = λ tells. (refl, refl);
     start = refl;
     parts = (refl, refl);
     alone = alone-self v;
@@ -64,13 +65,14 @@ module _ {X : Type 0} where
     frames = (g.frames.0 ∙ f.frames.0, g.frames.1 ∙ f.frames.1);
     out = g.out ∙ f.out;
     group = (g.group.0 ∙ f.group.0, g.group.1 ∙ f.group.1, g.group.2 ∙ f.group.2);
+    numbers = numbers-then u v w f.start f.numbers g.numbers;
     start = g.start ∙ f.start;
     parts = (g.parts.0 ∙ f.parts.0, g.parts.1 ∙ f.parts.1);
     alone = alone-then u v w f.parts f.alone g.alone;
   }
 
   pub reads-on : (v w : View X) → ReadsOn v w → HoldsOn v w
-  reads-on v w r = record { holds = r.0.holds; knows = r.0.knows; seen = r.0.seen; releases = r.0.releases; log = (r.0.done, r.0.log); notes = r.0.notes; frames = r.0.frames; out = r.0.out; group = r.0.group; start = r.0.start; parts = r.0.parts; alone = r.0.alone }
+  reads-on v w r = record { holds = r.0.holds; knows = r.0.knows; seen = r.0.seen; releases = r.0.releases; log = (r.0.done, r.0.log); notes = r.0.notes; frames = r.0.frames; out = r.0.out; group = r.0.group; numbers = r.0.numbers; start = r.0.start; parts = r.0.parts; alone = r.0.alone }
 
   pub silent-reads : (v w : View X) → ReadsOn v w → HoldsSilently v w
   silent-reads v w r = (reads-on v w r, r.1)
@@ -158,6 +160,7 @@ module _ {X : Type 0} where
         frames = (g.elsewhere.steady.frames.0 ∙ h.frames.0 ∙ s.elsewhere.steady.frames.0, g.elsewhere.steady.frames.1 ∙ h.frames.1 ∙ s.elsewhere.steady.frames.1);
         out = g.elsewhere.steady.out ∙ h.out ∙ s.elsewhere.steady.out;
         group = (g.group.0 ∙ h.group.0 ∙ s.group.0, g.group.1 ∙ h.group.1 ∙ s.group.1, g.group.2 ∙ h.group.2 ∙ s.group.2);
+        numbers = numbers-then u y w (h.start ∙ s.elsewhere.steady.start) (numbers-then u x y s.elsewhere.steady.start s.numbers h.numbers) g.numbers;
         start = g.elsewhere.steady.start ∙ h.start ∙ s.elsewhere.steady.start;
         parts = (g.elsewhere.steady.parts.0 ∙ h.parts.0 ∙ s.elsewhere.steady.parts.0, g.elsewhere.steady.parts.1 ∙ h.parts.1 ∙ s.elsewhere.steady.parts.1);
         alone = alone-then u y w (h.parts.0 ∙ s.elsewhere.steady.parts.0, h.parts.1 ∙ s.elsewhere.steady.parts.1) (alone-then u x y s.elsewhere.steady.parts s.alone h.alone) g.alone;

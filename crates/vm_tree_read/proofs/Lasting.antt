@@ -5,7 +5,7 @@ use Rattle.vm_tree_model.specs.{Layout.Layout, Tree.map_of}
 use Rattle.vm_rule.specs.Prelude.{entries_under, Entry, entry_of}
 use Rattle.vm_rule.proofs.Entries.{append-none}
 use Rattle.vm_step.specs.Prelude.{NoneExpected, Origin, View}
-use Rattle.vm_step.proofs.Asides.{alone-self, alone-then, holds-then, knows-then, starts-then, still-locking}
+use Rattle.vm_step.proofs.Asides.{alone-self, alone-then, holds-then, knows-then, numbers-then, starts-then, still-locking}
 use Rattle.vm_pool.specs.{Brings.IsBring, Brings.KeepsLocks, declared.bring.Bring.Bring}
 use Rattle.vm_pool.specs.declared.bring.Bring.TheVariants as brings
 use Rattle.vm_tree_laws.specs.{History.IsLegal, Plain.plain_history}
@@ -25,6 +25,7 @@ module _ {X : Type 0} where
     notes = ([], sym (append-none v.notes));
     log = ([], sym (append-none v.log));
     group = (refl, refl, refl);
+    numbers = λ tells. (refl, refl);
     out = refl;
     start = refl;
     parts = (refl, refl);
@@ -41,6 +42,7 @@ module _ {X : Type 0} where
     notes = starts-then u.notes v.notes w.notes f.notes g.notes;
     log = starts-then u.log v.log w.log f.log g.log;
     group = (g.group.0 ∙ f.group.0, g.group.1 ∙ f.group.1, g.group.2 ∙ f.group.2);
+    numbers = numbers-then u v w f.start f.numbers g.numbers;
     out = g.out ∙ f.out;
     start = g.start ∙ f.start;
     parts = (g.parts.0 ∙ f.parts.0, g.parts.1 ∙ f.parts.1);
@@ -48,7 +50,7 @@ module _ {X : Type 0} where
   }
 
   pub reads-wait : (v w : View X) → ReadsOn v w → Waits v w
-  reads-wait v w r = record { holds = r.0.holds; knows = r.0.knows; mine = r.1; seen = r.0.seen; releases = r.0.releases; notes = ([], r.0.notes ∙ sym (append-none v.notes)); log = (r.0.done, r.0.log); group = r.0.group; out = r.0.out; start = r.0.start; parts = r.0.parts; alone = r.0.alone }
+  reads-wait v w r = record { holds = r.0.holds; knows = r.0.knows; mine = r.1; seen = r.0.seen; releases = r.0.releases; notes = ([], r.0.notes ∙ sym (append-none v.notes)); log = (r.0.done, r.0.log); group = r.0.group; numbers = r.0.numbers; out = r.0.out; start = r.0.start; parts = r.0.parts; alone = r.0.alone }
 
   -- a call that was turned back only read
   pub turned-reads : (L : Layout) (v : View X) (key : ℕ) (turn : Turn) (w : View X) → IsTurnedBack L v key turn w → ReadsOn v w
@@ -57,7 +59,7 @@ module _ {X : Type 0} where
   turned-reads L v key (turns.Astray saw) w t = t.0
 
   pub bring-waits : (v w : View X) → KeepsLocks v w → Waits v w
-  bring-waits v w k = record { holds = k.holds; knows = k.knows; mine = k.mine; seen = k.seen; releases = k.releases; notes = k.notes; log = k.log; group = k.group; out = k.out; start = k.start; parts = k.parts; alone = k.alone }
+  bring-waits v w k = record { holds = k.holds; knows = k.knows; mine = k.mine; seen = k.seen; releases = k.releases; notes = k.notes; log = k.log; group = k.group; numbers = k.numbers; out = k.out; start = k.start; parts = k.parts; alone = k.alone }
 
   -- the fault that the answer of a page's bringing names
   pub names-fault : (home cap p : ℕ) (old new : List ℕ) (before after : ℕ) (v w : View X) (answer : Bring) (fault : TreeFault) → IsBring home cap p old new before after v w answer → NamesFault answer fault → IsBringFault p fault v w

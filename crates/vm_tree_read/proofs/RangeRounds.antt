@@ -50,6 +50,7 @@ module _ {X : Type 0} where
     log = h.0.log;
     out = h.0.out;
     group = h.0.group;
+    numbers = h.0.numbers;
     start = h.0.start;
     parts = h.0.parts;
     alone = h.0.alone;

@@ -10,7 +10,7 @@ use Rattle.vm_node.specs.Loads.{IsPageWith}
 use Rattle.vm_owner.specs.Kept.{PagesHave}
 use Rattle.vm_rule.specs.Prelude.{began_of, did_change, Each, Entry, entry_of, IsLocking, Kept, seat_of, StartsWith}
 use Rattle.vm_rule.specs.declared.view.Place.{Place}
-use Rattle.vm_step.specs.{Prelude.Did, Prelude.HoldsPage, Prelude.KnowsAsBefore, Prelude.NoneExpected, Prelude.StaysAlone, Prelude.View, steps.Share.HasShare, steps.Share.pages_known}
+use Rattle.vm_step.specs.{Prelude.Did, Prelude.HoldsPage, Prelude.KeepsNumbers, Prelude.KnowsAsBefore, Prelude.NoneExpected, Prelude.StaysAlone, Prelude.View, steps.Share.HasShare, steps.Share.pages_known}
 use Rattle.vm_step.specs.declared.saw.Saw.{Saw}
 use Rattle.vm_guard.specs.{declared.deny.Deny.Deny, Denied.IsDenied, Denied.KeptWord, Denied.NotWorn, LockSteps.share_did, Quiet.IsUnmark}
 use Rattle.vm_guard.specs.declared.deny.Deny.TheVariants as denies
@@ -46,7 +46,7 @@ abbrev pub IsOnTheWay : {X : Type 0} → ℕ → Bound → ℕ → View X → Ty
 IsOnTheWay low bound key v = (key ≡ low) ⊎ ((key < bound_of bound) × (v.start.tells ≡ true → low < key))
 
 module _ {X : Type 0} where
-  -- the pass holds just the locks that it held, and knows under them what it knew; its steps, its entries and what it has seen go on
+  -- the pass holds just the locks and page numbers that it held, and knows under them what it knew; its steps, its entries and what it has seen go on
   pub record HoldsOn (v w : View X) : Type 0 where
     pub holds : (q : ℕ) → HoldsPage v w q
     pub knows : (q : ℕ) → IsLocking (seat_of v q) → KnowsAsBefore v w q
@@ -57,6 +57,7 @@ module _ {X : Type 0} where
     pub frames : (w.frames ≡ v.frames) × (w.contents ≡ v.contents)
     pub out : w.out ≡ v.out
     pub group : (w.pending ≡ v.pending) × (w.owed ≡ v.owed) × (w.next ≡ v.next)
+    pub numbers : KeepsNumbers v w
     pub start : w.start ≡ v.start
     pub parts : (w.used ≡ v.used) × (w.fresh ≡ v.fresh)
     pub alone : StaysAlone v w

@@ -3,7 +3,7 @@ use Rattle.std.specs.Prelude.{[], ◌++◌, ◌∷◌, ◌≡◌, ◌⊎◌, fal
 use Rattle.vm_map.specs.{declared.call.Said.Said}
 use Rattle.vm_tree_model.specs.{Layout.Layout, Tree.map_of}
 use Rattle.vm_rule.specs.Prelude.{entry_of, has, IsLocking, seat_of, StartsWith}
-use Rattle.vm_step.specs.Prelude.{HoldsPage, KnowsAsBefore, NoneExpected, StaysAlone, View}
+use Rattle.vm_step.specs.Prelude.{HoldsPage, KeepsNumbers, KnowsAsBefore, NoneExpected, StaysAlone, View}
 use Rattle.vm_step.specs.declared.saw.Saw.{Saw}
 use Rattle.vm_pool.specs.{Brings.IsBring, declared.bring.Bring.Bring}
 use Rattle.vm_pool.specs.declared.bring.Bring.TheVariants as brings
@@ -25,7 +25,7 @@ abbrev pub NamesNone : Bring → Type 0
 NamesNone answer = (fault : TreeFault) → ¬ (NamesFault answer fault)
 
 module _ {X : Type 0} where
-  -- the pass holds just the locks that it held, made no entry, and has its block at home; what it has seen of entries and releases, its notes and its steps
+  -- the pass holds just the locks and page numbers that it held, made no entry, and has its block at home; what it has seen of entries and releases, its notes and its steps
   -- go on
   pub record Waits (v w : View X) : Type 0 where
     pub holds : (q : ℕ) → HoldsPage v w q
@@ -38,6 +38,7 @@ module _ {X : Type 0} where
     pub log : StartsWith w.log v.log
     pub out : w.out ≡ v.out
     pub group : (w.pending ≡ v.pending) × (w.owed ≡ v.owed) × (w.next ≡ v.next)
+    pub numbers : KeepsNumbers v w
     pub start : w.start ≡ v.start
     pub parts : (w.used ≡ v.used) × (w.fresh ≡ v.fresh)
     pub alone : StaysAlone v w

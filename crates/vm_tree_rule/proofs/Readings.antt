@@ -1,19 +1,21 @@
 -- What reads of pages leave of the view, one after the other.
+use Rattle.std.proofs.Common.{⊎_elim, inl, inr}
 use Rattle.std.proofs.Common.{[], ◌++◌, ◌+◌, ◌<◌, ◌∙◌, ◌∷◌, ◌≡◌, ◌≢◌, ◌⊎◌, ap, append_assoc, arith, Err, IfErr, IfOk, length, List, None, Ok, Option, refl}
 use Rattle.std.proofs.Common.{Result, slice_index, subst, suc, sym, zero, ℕ}
 use Rattle.std.proofs.lemmas.Grind.{same_number_lists}
 use Rattle.std.specs.List.{All}
 use Rattle.vm_node.specs.Loads.{IsPageWith}
 use Rattle.vm_core.specs.Prelude.{LoadsAre, version_of}
-use Rattle.vm_rule.specs.Prelude.{began_of, Each, LockValidates, Start}
+use Rattle.vm_rule.specs.Prelude.{began_of, Each, LockValidates, Start, Within}
 use Rattle.vm_rule.specs.declared.view.Place.TheVariants as places
-use Rattle.vm_rule.proofs.{Entries.append-none, Heard.each-both}
-use Rattle.vm_step.specs.Prelude.{Did, Origin, ReadsAsBefore, Tie, View}
-use Rattle.vm_step.proofs.Asides.{alone-self, alone-then, holds-then, knows-then, starts-then, still-locking}
-use Rattle.vm_guard.specs.{declared.deny.Deny.Deny, Denied.IsDenied, Quiet.IsQuiet, Quiet.IsUnmark}
+use Rattle.vm_rule.proofs.{Entries.append-none, Entries.each-map, Heard.each-both}
+use Rattle.vm_step.specs.Prelude.{Did, IsAlone, KnowsElse, Origin, ReadsAsBefore, Tie, View}
+use Rattle.vm_step.proofs.{Alone.still-alone, Tables.else-knows, Tables.else-self, Tables.else-then}
+use Rattle.vm_step.proofs.Asides.{alone-self, alone-then, holds-then, knows-then, numbers-then, starts-then, still-locking}
+use Rattle.vm_guard.specs.{declared.deny.Deny.Deny, Denied.IsDenied, Quiet.IsQuiet, Quiet.IsSteady, Quiet.IsUnmark}
 use Rattle.vm_guard.specs.Guards.{BeginsReading, IsReading, IsValid, Loads, placed}
-use Rattle.vm_guard.proofs.Reading.{reading-kept}
-use Rattle.vm_tree_rule.specs.Leaves.{LeavesWord, OnlyClears, OnlyReads, ReadsOn}
+use Rattle.vm_guard.proofs.{Groups.each-with, Reading.reading-kept}
+use Rattle.vm_tree_rule.specs.Leaves.{IsAnyState, LeavesWord, OnlyClears, OnlyReads, ReadsOn}
 use Rattle.vm_tree_rule.specs.Standing.{IsOpened}
 use Rattle.vm_tree_rule.proofs.Showing.{nones-clear, nones-there, start-unmarks, unmarks-clear, unmarks-elsewhere}
 
@@ -77,9 +79,11 @@ module _ {X : Type 0} where
       notes = refl;
       ties = ([], refl);
       group = (refl, refl, refl);
+      numbers = λ tells. (refl, refl);
       holds = λ q. record { shares = refl; exclusive = refl; writing = refl };
       knows = λ q l. record { held = refl; draft = refl; last = refl };
       alone = alone-self v;
+      table = λ a. else-self IsAnyState v;
     },
     refl,
   )
@@ -103,13 +107,23 @@ module _ {X : Type 0} where
     notes = g.notes ∙ f.notes;
     ties = (g.ties.0 ++ f.ties.0, g.ties.1 ∙ ap (λ (t : List Tie). g.ties.0 ++ t) f.ties.1 ∙ sym (append_assoc g.ties.0 f.ties.0 u.ties));
     group = (g.group.0 ∙ f.group.0, g.group.1 ∙ f.group.1, g.group.2 ∙ f.group.2);
+    numbers = numbers-then u v w f.start f.numbers g.numbers;
     holds = λ q. holds-then u v w q (f.holds q) (g.holds q);
     knows = λ q l. knows-then u v w q (f.knows q l) (g.knows q (still-locking u v q (f.holds q) l));
     alone = alone-then u v w f.parts f.alone g.alone;
+    table = λ a. else-then IsAnyState u v w f.start (f.table a) (g.table (still-alone u v f.parts f.alone.current a));
   }
 
   pub reads-then : (u v w : View X) → ReadsOn u v → ReadsOn v w → ReadsOn u w
   reads-then u v w f g = (only-then u v w f.0 g.0, g.1 ∙ f.1)
+
+  -- steps that take marks away leave all words but state words
+  steady-else : (done : List Did) (v w : View X) → IsSteady done [] v w → OnlyClears done → IsAlone v → KnowsElse IsAnyState v w
+  steady-else done v w s clears a =
+      else-knows IsAnyState done [] v w s.start s.alone
+      (each-map _ _ (λ (d : Did) both. (both.0, ⊎_elim (λ none. inl none) (λ (u : IsUnmark d). inr (u.page, u.at)) both.1)) done
+      (each-with (λ (d : Did). Within v.start d.at) (λ (d : Did). (d.wrote ≡ None) ⊎ IsUnmark d) done s.alone.inside clears))
+      a
 
   pub quiet-reads : (p : ℕ) (done : List Did) (v w : View X) → IsQuiet p done v w → OnlyClears done → ReadsOn v w
   quiet-reads p done v w q clears = (
@@ -127,9 +141,11 @@ module _ {X : Type 0} where
       notes = q.steady.notes;
       ties = q.steady.ties;
       group = q.group;
+      numbers = q.numbers;
       holds = q.holds;
       knows = q.knows;
       alone = q.alone;
+      table = λ a. steady-else done v w q.steady clears a;
     },
     q.mine,
   )
@@ -159,9 +175,11 @@ module _ {X : Type 0} where
       notes = k.steady.notes;
       ties = k.steady.ties;
       group = k.group;
+      numbers = k.numbers;
       holds = k.holds;
       knows = k.knows;
       alone = k.alone;
+      table = λ a. steady-else k.done v w k.steady (nones-clear k.done k.leaves) a;
     }
 
     pub valid-reads : (v w : View X) → IsValid tied p word frame None v w → ReadsOn v w

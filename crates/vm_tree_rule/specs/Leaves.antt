@@ -1,9 +1,14 @@
 -- What calls leave of a view that read pages of the tree optimistically: the pass holds what it held. The entries of the pass stand beside it.
 use Rattle.std.specs.Prelude.{◌++◌, ◌≡◌, ◌⊎◌, List, None, ℕ}
 use Rattle.vm_rule.specs.Prelude.{Each, IsLocking, seat_of, StartsWith}
+use Rattle.vm_rule.specs.declared.view.Place.{Place}
 use Rattle.vm_rule.specs.declared.view.Place.TheVariants as places
-use Rattle.vm_step.specs.Prelude.{Did, HoldsPage, KnowsAsBefore, StaysAlone, Tie, View}
+use Rattle.vm_step.specs.Prelude.{Did, HoldsPage, IsAlone, KeepsNumbers, KnowsAsBefore, KnowsElse, StaysAlone, Tie, View}
 use Rattle.vm_guard.specs.Quiet.{IsUnmark}
+
+-- the place is that of a page's state word
+abbrev pub IsAnyState : Place → Type 0
+IsAnyState at = (q : ℕ) × (at ≡ places.State q)
 
 -- the steps leave no word but where they take a mark away
 abbrev pub OnlyClears : List Did → Type 0
@@ -26,9 +31,12 @@ module _ {X : Type 0} where
     pub notes : w.notes ≡ v.notes
     pub ties : (more : List Tie) × (w.ties ≡ more ++ v.ties)
     pub group : (w.pending ≡ v.pending) × (w.owed ≡ v.owed) × (w.next ≡ v.next)
+    pub numbers : KeepsNumbers v w
     pub holds : (q : ℕ) → HoldsPage v w q
     pub knows : (q : ℕ) → IsLocking (seat_of v q) → KnowsAsBefore v w q
     pub alone : StaysAlone v w
+    -- a pass that was alone knows all words of the table but state words as they were
+    pub table : IsAlone v → KnowsElse IsAnyState v w
 
   -- these steps, which the pass made from v to w, left no word on the state word of page p
   pub record LeavesWord (p : ℕ) (v w : View X) : Type 0 where

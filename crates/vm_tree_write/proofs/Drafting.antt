@@ -9,7 +9,7 @@ use Rattle.vm_rule.specs.declared.view.Place.TheVariants as places
 use Rattle.vm_rule.proofs.Entries.{append-none}
 use Rattle.vm_step.specs.Prelude.{Did, Follows, IsAlone, Origin, View}
 use Rattle.vm_step.proofs.Alone.{set-else, still-alone}
-use Rattle.vm_step.proofs.Asides.{alone-self, alone-then, holds-then, reads-then}
+use Rattle.vm_step.proofs.Asides.{alone-self, alone-then, holds-then, numbers-self, numbers-then, reads-then}
 use Rattle.vm_guard.specs.{Guards.dirty_steps, Guards.IsSet, Sure.known_next}
 use Rattle.vm_guard.proofs.QuietSteps.{elsewhere-then, quiet-elsewhere, quiet-none}
 use Rattle.vm_tree_write.specs.Drafts.{DraftsIn, IsDraftedAmong, IsDraftPlace, IsRedrafted, KnowsSameStates, SetsDiffering}
@@ -41,6 +41,7 @@ module _ {X : Type 0} (p : ℕ) where
     elsewhere = quiet-elsewhere p [] v v (quiet-none p v);
     mine = refl;
     group = (refl, refl, refl);
+    numbers = numbers-self v;
     alone = alone-self v;
     holds = record { shares = refl; exclusive = refl; writing = refl };
     reads = record { reading = refl; loads = refl };
@@ -53,6 +54,7 @@ module _ {X : Type 0} (p : ℕ) where
     elsewhere = elsewhere-then p a.done s.done u v w a.elsewhere s.elsewhere;
     mine = s.mine ∙ a.mine;
     group = (s.group.0 ∙ a.group.0, s.group.1 ∙ a.group.1, s.group.2 ∙ a.group.2);
+    numbers = numbers-then u v w a.elsewhere.steady.start a.numbers s.numbers;
     alone = alone-then u v w a.elsewhere.steady.parts a.alone s.alone;
     holds = holds-then u v w p a.holds s.holds;
     reads = reads-then u v w p a.reads s.reads;
@@ -65,6 +67,7 @@ module _ {X : Type 0} (p : ℕ) where
     elsewhere = elsewhere-then p a.done b.done u v w a.elsewhere b.elsewhere;
     mine = b.mine ∙ a.mine;
     group = (b.group.0 ∙ a.group.0, b.group.1 ∙ a.group.1, b.group.2 ∙ a.group.2);
+    numbers = numbers-then u v w a.elsewhere.steady.start a.numbers b.numbers;
     alone = alone-then u v w a.elsewhere.steady.parts a.alone b.alone;
     holds = holds-then u v w p a.holds b.holds;
     reads = reads-then u v w p a.reads b.reads;

@@ -13,6 +13,7 @@ use Rattle.vm_exmap.specs.declared.interface.Alloc.TheVariants as allocs
 use Rattle.vm_exmap.proofs.FrameMoves.{moved-aside, moved-nothing, moved-then}
 use Rattle.vm_exmap.proofs.Handing.{apart-join, apart-not, each-has, each-join, each-of, held-rest, held-swap}
 use Rattle.vm_tree_write.specs.Splits.{KeepsLocksOnly}
+use Rattle.vm_tree_write.proofs.Numbering.{worn-kept, worn-then}
 
 -- a page that the pass did not hold is not locked
 pub unheld-not : {X : Type 0} (p : ℕ) (v : View X) → IsUnheld v p → IsLocking (seat_of v p) → ⊥
@@ -49,6 +50,7 @@ module _ {X : Type 0} where
     out = refl;
     pending = refl;
     owed = refl;
+    numbers = worn-kept v v (λ tells. (refl, refl));
     next = λ q e. inl e;
     holds = λ q. record { shares = refl; exclusive = refl; writing = refl };
     knows = λ q l. record { held = refl; draft = refl; last = refl };
@@ -67,6 +69,7 @@ module _ {X : Type 0} where
     out = g.out ∙ f.out;
     pending = g.pending ∙ f.pending;
     owed = g.owed ∙ f.owed;
+    numbers = worn-then u v w f.start f.log g.log f.numbers g.numbers;
     next = λ q e. ⊎_elim (λ (k : v.next ≡ Some q). f.next q k) (λ (own : (seat_of v q).exclusive ≡ true). inr (sym (f.holds q).exclusive ∙ own)) (g.next q e);
     holds = λ q. holds-then u v w q (f.holds q) (g.holds q);
     knows = λ q l. knows-then u v w q (f.knows q l) (g.knows q (still-locking u v q (f.holds q) l));
@@ -85,6 +88,7 @@ module _ {X : Type 0} where
     out = m.out;
     pending = m.group.0;
     owed = m.group.1;
+    numbers = worn-kept v w m.numbers;
     next = λ q e. inl (sym m.group.2 ∙ e);
     knows = (moved-aside (λ q. Unit {0}) done v w m).knows;
     current = m.alone.current;

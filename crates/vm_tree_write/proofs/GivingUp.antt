@@ -10,7 +10,7 @@ use Rattle.vm_tree_read.specs.Waiting.{LosesNone}
 use Rattle.vm_tree_read.proofs.Losing.{loses-swap}
 use Rattle.vm_tree_write.specs.{Prepares.AreLocked, Prepares.GivesUpBoth, Splits.HasDraft, Splits.KeepsLocksOnly}
 use Rattle.vm_tree_write.proofs.{Framing.keeps-then, Framing.moves-keep, Under.draft-else, Under.holding-else}
-use Rattle.vm_tree_write.proofs.Refusing.{back-keeps, holding-nil, IsNone, nil-keeps}
+use Rattle.vm_tree_write.proofs.Refusing.{back-keeps, holding-none, IsNone, none-keeps}
 
 -- the pass keeps both, each with its last words as its draft
 pub record AreKept {X : Type 0} (up low : ExclusiveGuard) (w : View X) : Type 0 where
@@ -53,28 +53,28 @@ module _ {X : Type 0} {L : Layout} (a b : OptGuard) (up low : ExclusiveGuard) (v
     pub none-kept : AreKept up low y
     none-kept =
         let k = locks-kept in
-        let ku = none.nil.knows up.pid (inl k.held.0.owns) in
-        let kl = none.nil.knows low.pid (inl k.held.1.owns) in
+        let ku = none.knows up.pid (inl k.held.0.owns) in
+        let kl = none.knows low.pid (inl k.held.1.owns) in
         record {
-          held = (holding-nil up.pid up.frame up.version up.dirty none.pages none.done w y k.held.0 none.nil, holding-nil low.pid low.frame low.version low.dirty none.pages none.done w y k.held.1 none.nil);
+          held = (holding-none up.pid up.frame up.version up.dirty before after w y k.held.0 none, holding-none low.pid low.frame low.version low.dirty before after w y k.held.1 none);
           same = (ku.draft ∙ k.same.0 ∙ sym (ap (λ (t : Version). t.words) ku.last), kl.draft ∙ k.same.1 ∙ sym (ap (λ (t : Version). t.words) kl.last));
-          unpaid = (ap (has up.pid) none.nil.owed ∙ k.unpaid.0, ap (has low.pid) none.nil.owed ∙ k.unpaid.1);
+          unpaid = (ap (has up.pid) none.owed ∙ k.unpaid.0, ap (has low.pid) none.owed ∙ k.unpaid.1);
         }
 
     pub none-out : y.out ≡ v.out
-    none-out = none.nil.amid.out ∙ locks-out
+    none-out = none.amid.out ∙ locks-out
 
     pub none-frames : (own : List ℕ) → AreHeld (before ++ own) v → AreHeld (own ++ after) y
     none-frames own h =
         subst (λ (m : List ℕ). AreHeld (own ++ m) y) (sym none.same)
-        (held-on (own ++ before) v y (held-swap before own v h) (none.nil.amid.start ∙ locks-start) (none.nil.keeps.frames ∙ locks-frames))
+        (held-on (own ++ before) v y (held-swap before own v h) (none.amid.start ∙ locks-start) (none.keeps.frames ∙ locks-frames))
 
     pub none-lost : (own : List ℕ) → LosesNone (before ++ own) v (own ++ after) y
-    none-lost own = subst (λ (m : List ℕ). LosesNone (before ++ own) v (own ++ m) y) (sym none.same) (loses-swap before own v y (none.nil.keeps.frames ∙ locks-frames))
+    none-lost own = subst (λ (m : List ℕ). LosesNone (before ++ own) v (own ++ m) y) (sym none.same) (loses-swap before own v y (none.keeps.frames ∙ locks-frames))
 
     pub none-ended : (u z : View X) → KeepsLocksOnly u v → GivesUpBoth up low y z → KeepsLocksOnly u z
     none-ended u z k g =
-        let nil = nil-keeps none.pages none.done w y none.nil none.next in
+        let nil = none-keeps before after w y none in
         let low-back = subst (λ p. IsReleased p low.version None y g.between) l.low_page g.low_back in
         let up-back = subst (λ p. IsReleased p up.version None g.between g.released) l.up_page g.up_back in
         let one = back-keeps b.pid low.frame low.version low.dirty l.between w y g.between l.low_locked nil low-back in

@@ -10,7 +10,7 @@ use Rattle.vm_tree_laws.specs.{History.IsLegal, Plain.plain_history}
 use Rattle.vm_tree_read.specs.{Reads.GainsEntry, Reads.IsAnswered, Reads.key_of, Waiting.AreRounds, Waiting.Waits}
 use Rattle.vm_tree_read.proofs.Lasting.{bring-waits}
 use Rattle.vm_tree_write.specs.{Splits.KeepsLocksOnly, Waiting.IsWriteReplied, Writes.IsVain, Writes.IsWriteDone}
-use Rattle.vm_tree_write.proofs.{Framing.keeps-then, Writing.entry-same}
+use Rattle.vm_tree_write.proofs.{Framing.keeps-then, Numbering.worn-kept, Writing.entry-same}
 
 module _ {S : Type 0} (plain : S → Said) (L : Layout) where
   -- what both kinds of answers have
@@ -57,7 +57,7 @@ module _ {X : Type 0} where
   keeps-last v x k = record { start = k.start; parts = k.parts; mine = k.mine; seen = k.seen; out = k.out; notes = k.notes; holds = k.holds; knows = k.knows }
 
   pub waits-keep : (v x : View X) → Waits v x → KeepsLocksOnly v x
-  waits-keep v x k = record { start = k.start; parts = k.parts; mine = k.mine; seen = k.seen; releases = k.releases; notes = k.notes; log = k.log; out = k.out; pending = k.group.0; owed = k.group.1; next = λ q e. inl (sym k.group.2 ∙ e); holds = k.holds; knows = k.knows; current = k.alone.current }
+  waits-keep v x k = record { start = k.start; parts = k.parts; mine = k.mine; seen = k.seen; releases = k.releases; notes = k.notes; log = k.log; out = k.out; pending = k.group.0; owed = k.group.1; numbers = worn-kept v x k.numbers; next = λ q e. inl (sym k.group.2 ∙ e); holds = k.holds; knows = k.knows; current = k.alone.current }
 
   -- a sweep after a try
   pub sweep-keeps : (v x w : View X) → KeepsLocksOnly v x → KeepsLocks x w → KeepsLocksOnly v w

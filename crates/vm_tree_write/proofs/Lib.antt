@@ -1,4 +1,7 @@
 pub mod Drafting
+pub mod Numbering
+pub mod Seeing
+pub mod Given
 pub mod Writing
 pub mod Telling
 pub mod Splitting

@@ -1,22 +1,25 @@
 -- Two pages that are locked, and fresh pages beside them: what the search read is what the locks prove, and once all are released the pass holds
 -- what it held.
-use Rattle.std.proofs.Common.{[], ⊎_elim, ◌++◌, ◌||◌, ◌∙◌, ◌∷◌, ◌≡◌, ◌≢◌, ap, false, length, List, None, refl, replicate, Some, subst, suc, sym, true, ℕ}
+use Rattle.std.proofs.Common.{[], ⊎_elim, ◌++◌, ◌||◌, ◌∙◌, ◌∷◌, ◌≡◌, ◌≢◌, ap, false, inl, length, List, refl, replicate, Some, subst, suc, sym, true, ℕ}
 use Rattle.std.proofs.lemmas.Bool.{cases_Bool, cases_eq, eq-eqb, ne_eqb}
 use Rattle.vm_map.specs.declared.call.Said.{Said}
 use Rattle.vm_tree_model.specs.{Layout.Layout, Node.Covers, Page.IsInner, Page.node_of}
 use Rattle.vm_owner.proofs.NumberLemmas.{without-none}
-use Rattle.vm_rule.specs.Prelude.{AreApart, has, IsLocking, numbers, seat_of, without, without_all}
+use Rattle.vm_rule.specs.Prelude.{has, IsLocking, seat_of, without, without_all}
 use Rattle.vm_rule.proofs.Facts.{has-both}
-use Rattle.vm_step.specs.Prelude.{Did, HoldsPage, Origin, View}
-use Rattle.vm_step.proofs.Asides.{holds-then, still-locking}
+use Rattle.vm_step.specs.Prelude.{Did, HoldsPage, KeepsNumbers, Origin, View}
+use Rattle.vm_step.proofs.Asides.{holds-then, numbers-then, still-locking}
 use Rattle.vm_exmap.specs.Frames.{MovesFrames}
 use Rattle.vm_guard.specs.{declared.exclusive.ExclusiveGuard.ExclusiveGuard, declared.opt.OptGuard.OptGuard, Guards.IsHolding, Guards.IsReading}
+use Rattle.vm_guard.specs.{Groups.guards_of, Groups.pids_of, Reused.IsFreshAnswer}
+use Rattle.vm_guard.specs.declared.given.Fresh.TheVariants as freshes
 use Rattle.vm_guard.proofs.{Freshly.holding-on, Groups.lacks, Groups.without-front, Reading.reading-elsewhere}
 use Rattle.vm_tree_laws.specs.Descent.{IsReached}
 use Rattle.vm_tree_rule.specs.{Seeks.HasRead, Standing.Awaits, Standing.tree_pages}
 use Rattle.vm_tree_write.specs.Prepares.{AreTaken}
 use Rattle.vm_tree_write.specs.Splits.{HasDraft, IsSplitUp, KeepsLocksOnly}
-use Rattle.vm_tree_write.proofs.Framing.{unheld-not}
+use Rattle.vm_tree_write.specs.PageNumbers.{GainsNone}
+use Rattle.vm_tree_write.proofs.{Framing.unheld-not, Given.next-given, Given.owed-either, Given.without-each, Numbering.gains-worn}
 use Rattle.vm_tree_write.proofs.Under.{amid-holds, awaits-more, but-then, done-but, draft-amid, draft-else, fresh-but, holding-else, KeepsBut}
 use Rattle.vm_tree_write.proofs.Under.{locked-but, locked-draft, locked-inner, locked-reached, moved-holds, moves-but, read-moved, reading-moved, true-false}
 use Rattle.vm_tree_write.proofs.Under.{was-before, was-done, was-fresh, was-locked, was-on}
@@ -29,7 +32,7 @@ module _ {X : Type 0} {L : Layout} (n : ℕ) (first second : OptGuard) (up low :
   b = second.pid
 
   abbrev pages : List ℕ
-  pages = numbers all.x n
+  pages = all.pids
 
   abbrev between : View X
   between = all.locks.between
@@ -119,7 +122,7 @@ module _ {X : Type 0} {L : Layout} (n : ℕ) (first second : OptGuard) (up low :
 
   -- ---- once all are released
 
-  module _ {plain : X → Said} (d : List Did) (y z : View X) (rises : AreApart pages) (su : IsSplitUp plain L (a ∷ b ∷ pages) w y) (m : MovesFrames d y z) where
+  module _ {plain : X → Said} (d : List Did) (y z : View X) (su : IsSplitUp plain L (a ∷ b ∷ pages) w y) (m : MovesFrames d y z) where
     abbrev group : List ℕ
     group = a ∷ b ∷ pages
 
@@ -141,7 +144,7 @@ module _ {X : Type 0} {L : Layout} (n : ℕ) (first second : OptGuard) (up low :
         but-then group v all.asked z (moves-but group all.done v all.asked all.moves)
         (but-then group all.asked between z (locked-but group a up.frame up.version up.dirty all.asked between in-first all.locks.up_locked)
         (but-then group between all.locked z (locked-but group b low.frame low.version low.dirty between all.locked in-second all.locks.low_locked)
-        (but-then group all.locked w z (fresh-but group pages all.x n gs all.before all.after all.locked w within all.fresh)
+        (but-then group all.locked w z (fresh-but group pages n gs all.before all.after all.locked w within all.fresh)
         (but-then group w y z (done-but group w y su.done) (moves-but group d y z m)))))
 
     moved : (q : ℕ) → HoldsPage v all.asked q
@@ -173,16 +176,58 @@ module _ {X : Type 0} {L : Layout} (n : ℕ) (first second : OptGuard) (up low :
         (was-done q group v w y (in-fresh q among)
         (was-before q v all.asked w (moved q)
         (was-before q all.asked between w (all.locks.up_locked.elsewhere.holds q na)
-        (was-before q between all.locked w (all.locks.low_locked.elsewhere.holds q nb) (was-fresh pages all.x n q gs all.before all.after all.locked w among all.fresh)))) su.done) (later q)
+        (was-before q between all.locked w (all.locks.low_locked.elsewhere.holds q nb) (was-fresh pages n q gs all.before all.after all.locked w among all.fresh)))) su.done) (later q)
 
     owed-back : (o : List ℕ) → has a o ≡ false → has b o ≡ false → ((q : ℕ) → has q pages ≡ true → has q o ≡ false) → without_all group (pages ++ o) ≡ o
     owed-back o na nb none =
         ap (λ l. without_all pages (without b l)) (without-none a (pages ++ o) (has-both a pages o ∙ (λ i. first-not i || na i)))
         ∙ ap (without_all pages) (without-none b (pages ++ o) (has-both b pages o ∙ (λ i. second-not i || nb i)))
-        ∙ without-front pages o rises none
+        ∙ without-front pages o all.fresh.apart none
 
-    none-some : (q : ℕ) → None ≡ Some q → ⊥
-    none-some q e = absurd (cc)
+    owed-still : (o : List ℕ) → has a o ≡ false → has b o ≡ false → ((q : ℕ) → has q pages ≡ true → has q o ≡ false) → without_all group o ≡ o
+    owed-still o na nb none =
+        ap (λ l. without_all pages (without b l)) (without-none a o na) ∙ ap (without_all pages) (without-none b o nb) ∙ without-each pages o none
+
+    answered : IsFreshAnswer n all.before all.after all.locked w (freshes.Pages all.group)
+    answered = all.answer
+
+    -- the fresh pages were owed, or nothing more was
+    owed-then : (o : List ℕ) → o ≡ all.locked.owed → has a o ≡ false → has b o ≡ false → ((q : ℕ) → has q pages ≡ true → has q o ≡ false) → without_all group w.owed ≡ o
+    owed-then o is na nb none =
+        ⊎_elim
+        (λ (claimed : w.owed ≡ pids_of (guards_of all.group) ++ all.locked.owed).
+        let pids : pids_of (guards_of all.group) ≡ pages = ap pids_of all.guards ∙ all.fresh.guards in
+        ap (without_all group) (claimed ∙ (λ i. pids i ++ sym is i)) ∙ owed-back o na nb none)
+        (λ (same : w.owed ≡ all.locked.owed). ap (without_all group) (same ∙ sym is) ∙ owed-still o na nb none)
+        (owed-either n all.group all.before all.after all.locked w answered)
+
+    next-known' : (q : ℕ) → w.next ≡ Some q → all.locked.next ≡ Some q
+    next-known' q e = next-given n all.group all.before all.after all.locked w answered q e
+
+    tells-locked : v.start.tells ≡ true → all.locked.start.tells ≡ true
+    tells-locked tells = ap (λ (o : Origin). o.tells) start-is ∙ tells
+
+    tells-there : v.start.tells ≡ true → w.start.tells ≡ true
+    tells-there tells = ap (λ (o : Origin). o.tells) start-then ∙ tells
+
+    -- both locks leave the numbers, and so do frames that move
+    kept-locked : KeepsNumbers v all.locked
+    kept-locked =
+        numbers-then v all.asked all.locked all.moves.start all.moves.numbers
+        (numbers-then all.asked between all.locked all.locks.up_locked.elsewhere.steady.start all.locks.up_locked.numbers all.locks.low_locked.numbers)
+
+    -- once the group is released the pass has the number of no page of it, and none that it had not
+    pub prepared-gains : GainsNone v z
+    prepared-gains tells =
+        let early = kept-locked tells in
+        let given = all.fresh.numbers (tells-locked tells) in
+        let done = su.done.numbers (tells-there tells) in
+        let late = m.numbers (ap (λ (o : Origin). o.tells) su.done.start ∙ tells-there tells) in (
+          λ q e.
+              let there = done.0 q (ap (has q) (sym late.0) ∙ e) in
+              ap (has q) (sym early.0) ∙ sym (given.0 q (within q there.0)) ∙ there.1,
+          late.1 ∙ done.1 ∙ given.1 ∙ early.1,
+        )
 
     -- a page that the pass had locked is none of the group
     locked-else : (q : ℕ) → IsLocking (seat_of v q) → has q group ≡ false
@@ -213,10 +258,13 @@ module _ {X : Type 0} {L : Layout} (n : ℕ) (first second : OptGuard) (up low :
           log = but.log;
           out = but.out;
           pending = but.pending;
-          owed = m.group.1 ∙ su.done.owed ∙ ap (without_all group) all.fresh.owed
-              ∙ owed-back all.locked.owed (ap (has a) o3 ∙ la.before.paid) (ap (has b) lb.group.1 ∙ lb.before.paid) (λ q e. (all.fresh.unheld q e).paid)
+          owed = m.group.1 ∙ su.done.owed
+              ∙ owed-then all.locked.owed refl (ap (has a) o3 ∙ la.before.paid) (ap (has b) lb.group.1 ∙ lb.before.paid) (λ q e. (all.fresh.unheld q e).paid)
               ∙ o3 ∙ all.moves.group.1;
-          next = λ q e. absurd (none-some q (sym (m.group.2 ∙ su.done.next all.fresh.next) ∙ e));
+          numbers = gains-worn v z prepared-gains;
+          next = λ q e.
+              let there = next-known' q (su.done.next q (sym m.group.2 ∙ e)) in
+              inl (sym (lb.group.2 ∙ la.group.2 ∙ all.moves.group.2) ∙ there);
           current = but.current;
           knows = λ q l. but.knows q (locked-else q l) l;
           holds = λ q.

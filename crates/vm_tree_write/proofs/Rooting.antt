@@ -1,8 +1,12 @@
 -- Four pages that are held get their new drafts one after the other, and are released together: page 0, the full root, and two fresh pages.
-use Rattle.std.proofs.Common.{[], ◌+◌, ◌<◌, ◌∙◌, ◌∷◌, ◌≡◌, ◌≢◌, ap, Bool, inl, inr, List, None, refl, replicate, slice_index, slice_set, subst, sym}
+use Rattle.std.proofs.Common.{[], ◌+◌, ◌<◌, ◌∙◌, ◌∷◌, ◌≡◌, ◌≢◌, ap, Bool, false, inl, inr, List, None, refl, replicate, slice_index, slice_set, subst, sym}
 use Rattle.std.proofs.Common.{true, ℕ}
 use Rattle.vm_map.specs.declared.call.Said.{Said}
-use Rattle.vm_tree_model.specs.{Edits.IsNewRoot, Edits.IsSplit, Page.node_of}
+use Rattle.std.proofs.Common.{arith, length}
+use Rattle.std.proofs.lemmas.List.{get_or-set_same, length-set}
+use Rattle.vm_page.specs.Pages.{all_zero}
+use Rattle.vm_tree_laws.proofs.Zeros.{node_words, other_words}
+use Rattle.vm_tree_model.specs.{Edits.IsNewRoot, Edits.IsSplit, Node.Node, Page.IsFree, Page.node_of}
 use Rattle.vm_tree_model.specs.Layout.{IsClean, IsFullNode, IsLayout, Layout, size}
 use Rattle.vm_core.specs.Prelude.{Version}
 use Rattle.vm_rule.specs.Prelude.{AreApart, began_of, change_of, changes_of, draft_of, has, last_of, seat_of}
@@ -14,10 +18,10 @@ use Rattle.vm_guard.proofs.Groups.{lacks}
 use Rattle.vm_tree_laws.specs.Plain.{ReleasesPlain}
 use Rattle.vm_tree_laws.proofs.Established.{may_split_root}
 use Rattle.vm_tree_write.specs.Drafts.{IsRedrafted}
-use Rattle.vm_tree_write.specs.Splits.{HasDraft, IsRootToSplit, IsSplitUp, Stays}
+use Rattle.vm_tree_write.specs.Splits.{HasDraft, IsRootToSplit, IsSplitUp, MayUse, Stays}
 use Rattle.vm_tree_write.proofs.Drafting.{drafts-more, drafts-self, pages-more, pages-self, redrafted-self, set-more}
-use Rattle.vm_tree_write.proofs.Splitting.{among-first, among-later, draft-new, draft-past, group-done, node-clean, node-not, none-not, redrafted-holds, redrafted-stays}
-use Rattle.vm_tree_write.proofs.Splitting.{Redrafts, spare-full, stays-then, told-before, words-claimed}
+use Rattle.vm_tree_write.proofs.Splitting.{among-first, among-later, draft-new, draft-past, each-used, group-done, node-clean, node-is, node-not, none-not, none-used, redrafted-holds, redrafted-stays}
+use Rattle.vm_tree_write.proofs.Splitting.{Redrafts, spare-full, stays-then, tag-not, told-before, use-then, words-claimed, zeros-free}
 
 -- pages that are apart
 pub record AreFour (a b c d : ℕ) : Type 0 where
@@ -37,6 +41,10 @@ four-apart a b c d k =
     let q2 = lacks b d [] q1.1 in
     let r = lacks c d [] k.1.1.0 in
     record { ab = p1.0; ac = p2.0; ad = p3.0; bc = q1.0; bd = q2.0; cd = r.0 }
+
+-- page 0 has the height of the new root, which is above 0
+set-not : (words : List ℕ) (height : ℕ) → 2 < length words → all_zero (slice_set words 2 (height + 1)) ≡ false
+set-not words height long = other_words (slice_set words 2 (height + 1)) (λ zeros. let z = zeros 2 in let x = get_or-set_same words 2 (height + 1) 0 long in omega (arith, z, x))
 
 -- two words of page 0
 pub set-two : {X : Type 0} (p f1 f2 : ℕ) (d1 d2 : Bool) (i j x y : ℕ) (old : List ℕ) (v u w : View X) → IsSet p f1 d1 i x v u → IsSet p f2 d2 j y u w → (last_of v p).words ≡ old → draft_of v p ≡ old → IsRedrafted p v w × HasDraft p old (slice_set (slice_set old i x) j y) w
@@ -116,12 +124,15 @@ four-stay a b c d v x1 x2 x3 y d1 d2 d3 d4 =
 
 module _ {S : Type 0} (plain : S → Said) (L : Layout) (laws : IsLayout L) (spare : List ℕ → ℕ) (spare_is : (words : List ℕ) → IsClean L words → spare words + size L (node_of L words) ≡ L.room)
     (a b c d height separator : ℕ) (page left half crown : List ℕ) (v y : View S) (g1 g2 g3 g4 : ExclusiveGuard) (stays : Stays (g1 ∷ g2 ∷ g3 ∷ g4 ∷ []) v y) (four : y.start.tells ≡ true → AreDrafted L a b c d (last_of v a).words (slice_set (slice_set (last_of v a).words 1 d) 2 (height + 1)) page left half crown y) (zero : a ≡ 0)
-    (told : v.start.tells ≡ true → IsRootToSplit L a b c d height page v) (full : spare page < L.growth) (split : IsClean L page → IsSplit L page left half separator) (grows : IsNewRoot L crown (height + 1) b separator c) (owed : (has c v.owed ≡ true) × (has d v.owed ≡ true)) where
-  owed-c : has c y.owed ≡ true
-  owed-c = ap (has c) stays.group.1 ∙ owed.0
+    (told : v.start.tells ≡ true → IsRootToSplit L a b c d height page v) (full : spare page < L.growth) (split : IsClean L page → IsSplit L page left half separator) (grows : IsNewRoot L crown (height + 1) b separator c) (usable : v.start.tells ≡ true → MayUse c v × MayUse d v) where
+  tells-then : y.start.tells ≡ true → v.start.tells ≡ true
+  tells-then tells = ap (λ (o : Origin). o.tells) (sym stays.start) ∙ tells
 
-  owed-d : has d y.owed ≡ true
-  owed-d = ap (has d) stays.group.1 ∙ owed.1
+  use-c : y.start.tells ≡ true → IsClaimed y c
+  use-c tells = use-then c v y stays.group.1 ((stays.numbers (tells-then tells)).0) (usable (tells-then tells)).0
+
+  use-d : y.start.tells ≡ true → IsClaimed y d
+  use-d tells = use-then d v y stays.group.1 ((stays.numbers (tells-then tells)).0) (usable (tells-then tells)).1
 
   to-split : y.start.tells ≡ true → IsRootToSplit L a b c d height page v
   to-split tells = told (ap (λ (o : Origin). o.tells) (sym stays.start) ∙ tells)
@@ -140,7 +151,7 @@ module _ {S : Type 0} (plain : S → Said) (L : Layout) (laws : IsLayout L) (spa
       (subst (λ (l : List ℕ). IsSplit L page left l separator) (sym f.third.draft) (split clean))))
       (subst (λ (l : List ℕ). IsNewRoot L l (height + 1) b separator c) (sym f.fourth.draft) grows)
       (f.first.draft ∙ ap (λ (l : List ℕ). slice_set (slice_set l 1 d) 2 (height + 1)) (sym f.first.last))
-      owed-c owed-d
+      (subst (IsFree L) (sym f.third.last) (zeros-free L)) (subst (IsFree L) (sym f.fourth.last) (zeros-free L))
 
   pub four-all : y.start.size ≡ L.words → g1.pid ≡ a → g2.pid ≡ b → g3.pid ≡ c → g4.pid ≡ d → IsHolding g1.pid g1.frame g1.version g1.dirty y → IsHolding g2.pid g2.frame g2.version g2.dirty y → IsHolding g3.pid g3.frame g3.version g3.dirty y → IsHolding g4.pid g4.frame g4.version g4.dirty y
       → AreApart (a ∷ b ∷ c ∷ d ∷ []) → v.out ≡ None → MayReleaseAll (ReleasesPlain plain L) (g1 ∷ g2 ∷ g3 ∷ g4 ∷ []) None y
@@ -152,12 +163,29 @@ module _ {S : Type 0} (plain : S → Said) (L : Layout) (laws : IsLayout L) (spa
         apart = subst AreApart (sym pids) apart;
         home = ((λ o e. absurd (none-not o (sym none ∙ e))), ((λ o e. absurd (none-not o (sym none ∙ e))), ((λ o e. absurd (none-not o (sym none ∙ e))), ((λ o e. absurd (none-not o (sym none ∙ e))), tt))));
         claimed = λ t.
-            (subst (IsClaimed y) (sym i1) (words-claimed L.words a (last_of v a).words _ y whole (four t).first (to-split t).claimed), (subst (IsClaimed y) (sym i2) (words-claimed L.words b page left y whole (four t).second (node-not L laws page (to-split t).kind)), (subst (IsClaimed y) (sym i3) (inr (inr (inr owed-c))), (subst (IsClaimed y) (sym i4) (inr (inr (inr owed-d))), tt))));
+            (subst (IsClaimed y) (sym i1) (words-claimed a (last_of v a).words _ y (four t).first (to-split t).claimed), (subst (IsClaimed y) (sym i2) (words-claimed b page left y (four t).second (node-not L laws page (to-split t).kind)), (subst (IsClaimed y) (sym i3) (use-c t), (subst (IsClaimed y) (sym i4) (use-d t), tt))));
         owner = λ t. inr (subst (λ (l : List ℕ). ReleasesPlain plain L (began_of y.start) y.owed (changes_of y l) []) (sym pids) (four-may t));
       }
 
-  pub four-released : (w : View S) → g1.pid ≡ a → g2.pid ≡ b → g3.pid ≡ c → g4.pid ≡ d → AreReleased g1 (g2 ∷ g3 ∷ g4 ∷ []) None y w → IsSplitUp plain L (a ∷ b ∷ c ∷ d ∷ []) v w
-  four-released w i1 i2 i3 i4 r =
+  -- each of the four is in use then
+  four-used : y.start.size ≡ L.words → IsHolding g1.pid g1.frame g1.version g1.dirty y → g1.pid ≡ a
+      → y.start.tells ≡ true → (q : ℕ) → has q (a ∷ b ∷ c ∷ d ∷ []) ≡ true → all_zero (draft_of y q) ≡ false
+  four-used whole h i1 tells =
+      let k = four tells in
+      let to = to-split tells in
+      let halves = split (node-clean page to.kind) in
+      let f : ℕ → Bool = λ q. all_zero (draft_of y q) in
+      let tag : (node_of L crown).tag ≡ 3 = ap (λ (n : Node). n.tag) grows.node in
+      let crown-not : all_zero crown ≡ false = node_words L laws crown (omega (arith, tag), omega (arith, tag)) in
+      let long : length (draft_of y a) ≡ L.words = ap (λ (n : ℕ). length (draft_of y n)) (sym i1) ∙ h.size ∙ whole in
+      each-used f a (b ∷ c ∷ d ∷ []) (ap all_zero k.first.draft
+      ∙ set-not (slice_set (last_of v a).words 1 d) height (omega (arith, laws.some_words, long, ap length k.first.draft, length-set (slice_set (last_of v a).words 1 d) 2 (height + 1))))
+      (each-used f b (c ∷ d ∷ []) (ap all_zero k.second.draft ∙ tag-not L laws left (node_of L page) (ap (λ (n : Node). n.tag) halves.left_is) (node-is L page to.kind))
+      (each-used f c (d ∷ []) (ap all_zero k.third.draft ∙ tag-not L laws half (node_of L page) (ap (λ (n : Node). n.tag) halves.right_is) (node-is L page to.kind))
+      (each-used f d [] (ap all_zero k.fourth.draft ∙ crown-not) (none-used f))))
+
+  pub four-released : (w : View S) → y.start.size ≡ L.words → IsHolding g1.pid g1.frame g1.version g1.dirty y → g1.pid ≡ a → g2.pid ≡ b → g3.pid ≡ c → g4.pid ≡ d → AreReleased g1 (g2 ∷ g3 ∷ g4 ∷ []) None y w → IsSplitUp plain L (a ∷ b ∷ c ∷ d ∷ []) v w
+  four-released w whole h i1 i2 i3 i4 r =
       let pids : pids_of (g1 ∷ g2 ∷ g3 ∷ g4 ∷ []) ≡ a ∷ b ∷ c ∷ d ∷ [] = (λ i. i1 i ∷ i2 i ∷ i3 i ∷ i4 i ∷ []) in
       record {
         held = y;
@@ -168,5 +196,5 @@ module _ {S : Type 0} (plain : S → Said) (L : Layout) (laws : IsLayout L) (spa
         several = inr refl;
         released = r;
         may = four-may;
-        done = group-done g1 (g2 ∷ g3 ∷ g4 ∷ []) (a ∷ b ∷ c ∷ d ∷ []) v y w pids stays r;
+        done = group-done g1 (g2 ∷ g3 ∷ g4 ∷ []) (a ∷ b ∷ c ∷ d ∷ []) v y w pids stays (four-used whole h i1) r;
       }

@@ -1,19 +1,23 @@
 -- Three pages that are held get their new drafts one after the other, and are released together.
 use Rattle.std.proofs.Common.{[], ⊎_elim, ◌++◌, ◌+◌, ◌<◌, ◌∙◌, ◌∷◌, ◌≡◌, ◌≢◌, ◌≤◌, ◌⊎◌, ap, append_assoc, arith, Bool, eqb, false, inl, inr, is_some, length, List, None, Option, option_map, refl, replicate}
+use Rattle.vm_page.specs.Pages.{all_zero}
+use Rattle.vm_tree_laws.proofs.Zeros.{node_words}
+use Rattle.std.proofs.lemmas.List.{length-replicate}
 use Rattle.std.proofs.Common.{Some, subst, sym, true, true≢false, ℕ}
-use Rattle.std.proofs.lemmas.Bool.{cases_eq, eq-eqb, or_left, or_right}
+use Rattle.std.proofs.Common.{◌&&◌, ◌||◌, if◌then◌else◌}
+use Rattle.std.proofs.lemmas.Bool.{cases_Bool, cases_eq, cond-false, eq-eqb, ne_eqb, or_left, or_right}
 use Rattle.vm_map.specs.declared.call.Said.{Said}
 use Rattle.vm_tree_model.specs.Edits.{AddsPair, child_of, IsSplit}
 use Rattle.vm_tree_model.specs.Layout.{IsClean, IsFullNode, IsLayout, Layout, size}
-use Rattle.vm_tree_model.specs.Node.{Covers}
-use Rattle.vm_tree_model.specs.Page.{IsInner, IsLeaf, node_of}
+use Rattle.vm_tree_model.specs.Node.{Covers, IsNode, Node}
+use Rattle.vm_tree_model.specs.Page.{IsFree, IsInner, IsLeaf, node_of}
 use Rattle.vm_core.specs.Prelude.{Version}
-use Rattle.vm_rule.specs.Prelude.{AreApart, began_of, change_of, changes_of, draft_of, has, last_of, Seat, seat_of, without_all}
+use Rattle.vm_rule.specs.Prelude.{AreApart, began_of, change_of, changes_of, draft_of, has, last_of, next_after, Seat, seat_of, without_all}
 use Rattle.vm_rule.specs.declared.view.Held.{Held}
 use Rattle.vm_rule.specs.declared.view.Place.{Place}
 use Rattle.vm_rule.proofs.Entries.{append-none, each-map}
 use Rattle.vm_step.specs.Prelude.{Did, HoldsPage, IsClaimed, KnowsAsBefore, Origin, View}
-use Rattle.vm_step.proofs.{Alone.still-alone, Asides.alone-then, Asides.holds-then, Asides.knows-then, Asides.starts-then, Asides.still-locking}
+use Rattle.vm_step.proofs.{Alone.still-alone, Asides.alone-then, Asides.holds-then, Asides.knows-then, Asides.numbers-then, Asides.starts-then, Asides.still-locking}
 use Rattle.vm_guard.specs.{declared.exclusive.ExclusiveGuard.ExclusiveGuard, Guards.IsHolding}
 use Rattle.vm_guard.specs.Groups.{AreReleased, MayReleaseAll, next_after_all, pids_of}
 use Rattle.vm_guard.proofs.Groups.{lacks}
@@ -21,8 +25,8 @@ use Rattle.vm_tree_laws.specs.Plain.{ReleasesPlain}
 use Rattle.vm_tree_laws.proofs.Established.{may_split}
 use Rattle.vm_tree_rule.proofs.Whole.{zero-at}
 use Rattle.vm_tree_write.specs.Drafts.{DraftsIn, IsDraftPlace, IsRedrafted, KnowsSameStates}
-use Rattle.vm_tree_write.specs.Splits.{AreToSplit, HasDraft, IsDrafted, IsGroupDone, IsSplitUp, Stays}
-use Rattle.vm_tree_write.proofs.Drafting.{each-append}
+use Rattle.vm_tree_write.specs.Splits.{AreToSplit, HasDraft, IsDrafted, IsGroupDone, IsSplitUp, MayUse, Stays}
+use Rattle.vm_tree_write.proofs.{Drafting.each-append, Framing.after-some, Numbering.freed-used}
 
 -- pages that are apart
 pub first-apart : (a b c : ℕ) → AreApart (a ∷ b ∷ c ∷ []) → (a ≢ b) × (a ≢ c) × (b ≢ c)
@@ -32,10 +36,22 @@ first-apart a b c k =
     let bc = lacks b c [] k.1.0 in
     (ab.0, ac.0, bc.0)
 
--- no next page is known after releases where none was known before
-none-after : (ps : List ℕ) → next_after_all ps None ≡ None
-none-after [] = refl
-none-after (p ∷ ps) = none-after ps
+-- the next page that is known after releases was known before
+some-after : (ps : List ℕ) (o : Option ℕ) (q : ℕ) → next_after_all ps o ≡ Some q → o ≡ Some q
+some-after [] o q e = e
+some-after (p ∷ ps) o q e = (after-some p o q (some-after ps (next_after p o) q e)).0
+
+-- the number of a page that is in use is left by its release
+none-left : (among tells zero held : Bool) → among ≡ true → zero ≡ false → (if among then (tells && zero) && held else held) ≡ false
+none-left among tells zero held is used = grind (arith, is, used)
+
+-- each of these pages is in use
+pub each-used : (f : ℕ → Bool) (a : ℕ) (l : List ℕ) → f a ≡ false → ((q : ℕ) → has q l ≡ true → f q ≡ false) → (q : ℕ) → has q (a ∷ l) ≡ true → f q ≡ false
+each-used f a l here rest q e =
+    ⊎_elim (λ (same : q ≡ a). ap f same ∙ here) (λ (ne : q ≢ a). rest q (sym (ap (λ b. b || has q l) (ne_eqb q a ne)) ∙ e)) (cases_eq q a)
+
+pub none-used : (f : ℕ → Bool) (q : ℕ) → has q [] ≡ true → f q ≡ false
+none-used f q e = absurd (true≢false (sym e))
 
 module _ {X : Type 0} where
   -- what setting words of a draft of page p in frame f leaves
@@ -64,6 +80,7 @@ module _ {X : Type 0} where
     frames = g.frames ∙ f.frames;
     out = g.out ∙ f.out;
     group = (g.group.0 ∙ f.group.0, g.group.1 ∙ f.group.1, g.group.2 ∙ f.group.2);
+    numbers = numbers-then u v w f.start f.numbers g.numbers;
     holds = λ q. holds-then u v w q (f.holds q) (g.holds q);
     last = λ q e. g.last q ((f.holds q).exclusive ∙ e) ∙ f.last q e;
   }
@@ -94,6 +111,7 @@ module _ {X : Type 0} where
     frames = d.elsewhere.steady.frames.0;
     out = d.elsewhere.steady.out;
     group = d.group;
+    numbers = d.numbers;
     holds = redrafted-holds p v w d;
     last = λ q e. ⊎_elim (λ (s : q ≡ p). subst (λ n. last_of w n ≡ last_of v n) (sym s) d.last) (λ ne. (d.elsewhere.knows q ne (inl e)).last) (cases_eq q p);
   }
@@ -129,9 +147,29 @@ module _ {X : Type 0} where
   pub draft-new : (p : ℕ) (old new new' : List ℕ) (v w : View X) → HasDraft p old new v → IsRedrafted p v w → draft_of w p ≡ new' → HasDraft p old new' w
   draft-new p old new new' v w h d is = record { last = ap (λ (y : Version). y.words) d.last ∙ h.last; draft = is }
 
+  -- The pages are in use: so the pass has the number of none of them once they are released, and frees none
+  group-numbers : (first : ExclusiveGuard) (rest : List ExclusiveGuard) (pages : List ℕ) (v y w : View X) → pids_of (first ∷ rest) ≡ pages → Stays (first ∷ rest) v y
+      → (y.start.tells ≡ true → (q : ℕ) → has q pages ≡ true → all_zero (draft_of y q) ≡ false) → AreReleased first rest None y w
+      → v.start.tells ≡ true → ((q : ℕ) → has q w.numbers ≡ true → (has q pages ≡ false) × (has q v.numbers ≡ true)) × (w.freed ≡ v.freed)
+  group-numbers first rest pages v y w is s used r tells =
+      let there : y.start.tells ≡ true = ap (λ (o : Origin). o.tells) s.start ∙ tells in
+      let in-use : (q : ℕ) → has q (pids_of (first ∷ rest)) ≡ true → all_zero (draft_of y q) ≡ false = λ q e. used there q (ap (has q) (sym is) ∙ e) in (
+        λ q e.
+            ⊎_elim
+            (λ (among : has q (pids_of (first ∷ rest)) ≡ true).
+            absurd (true≢false (sym e ∙ r.numbers q ∙ none-left (has q (pids_of (first ∷ rest))) y.start.tells (all_zero (draft_of y q)) (has q y.numbers) among (in-use q among))))
+            (λ (none : has q (pids_of (first ∷ rest)) ≡ false). (
+              ap (has q) (sym is) ∙ none,
+              ap (has q) (sym (s.numbers tells).0) ∙ sym (cond-false (has q (pids_of (first ∷ rest))) _ _ none) ∙ sym (r.numbers q) ∙ e,
+            ))
+            (cases_Bool (has q (pids_of (first ∷ rest)))),
+        r.freed ∙ ap (λ (l : List ℕ). l ++ y.freed) (freed-used y (pids_of (first ∷ rest)) in-use) ∙ (s.numbers tells).1,
+      )
+
   -- a claimed page, told of its words
-  pub group-done : (first : ExclusiveGuard) (rest : List ExclusiveGuard) (pages : List ℕ) (v y w : View X) → pids_of (first ∷ rest) ≡ pages → Stays (first ∷ rest) v y → AreReleased first rest None y w → IsGroupDone pages v w
-  group-done first rest pages v y w is s r = record {
+  pub group-done : (first : ExclusiveGuard) (rest : List ExclusiveGuard) (pages : List ℕ) (v y w : View X) → pids_of (first ∷ rest) ≡ pages → Stays (first ∷ rest) v y
+      → (y.start.tells ≡ true → (q : ℕ) → has q pages ≡ true → all_zero (draft_of y q) ≡ false) → AreReleased first rest None y w → IsGroupDone pages v w
+  group-done first rest pages v y w is s used r = record {
     start = r.beside.steady.start ∙ s.start;
     parts = (r.beside.steady.parts.0 ∙ s.parts.0, r.beside.steady.parts.1 ∙ s.parts.1);
     mine = r.mine ∙ append-none y.mine ∙ s.mine;
@@ -148,7 +186,8 @@ module _ {X : Type 0} where
     out = r.beside.steady.out ∙ s.out;
     pending = r.group.0 ∙ s.group.0;
     owed = r.group.1 ∙ (λ i. without_all (is i) (s.group.1 i));
-    next = λ none. r.group.2 ∙ ap (next_after_all (pids_of (first ∷ rest))) (s.group.2 ∙ none) ∙ none-after (pids_of (first ∷ rest));
+    numbers = group-numbers first rest pages v y w is s used r;
+    next = λ q e. sym s.group.2 ∙ some-after (pids_of (first ∷ rest)) y.next q (sym r.group.2 ∙ e);
     holds = λ q e. holds-then v y w q (s.holds q) (r.beside.holds q (ap (has q) is ∙ e));
     released = λ q e.
         let k = r.seats q (ap (has q) is ∙ e) in (
@@ -166,23 +205,40 @@ pub none-said : {A B : Type 0} (f : A → B) (o : Option A) → is_some o ≡ fa
 none-said f None e = refl
 none-said f (Some x) e = absurd (cc)
 
+-- a fresh page that is the pass's to use is so on
+pub use-then : {X : Type 0} (p : ℕ) (v y : View X) → y.owed ≡ v.owed → y.numbers ≡ v.numbers → MayUse p v → IsClaimed y p
+use-then p v y owed numbers may =
+    ⊎_elim (λ (e : has p v.owed ≡ true). inr (inr (inl (ap (has p) owed ∙ e)))) (λ (e : has p v.numbers ≡ true). inr (inr (inr (ap (has p) numbers ∙ e)))) may
+
 -- the words that were before
-pub words-claimed : {X : Type 0} (n p : ℕ) (old new : List ℕ) (y : View X) → y.start.size ≡ n → HasDraft p old new y → old ≢ replicate n 0 → IsClaimed y p
-words-claimed n p old new y whole h ne = inr (inl (λ e. ne (sym h.last ∙ e ∙ ap (λ (m : ℕ). replicate m 0) whole)))
+pub words-claimed : {X : Type 0} (p : ℕ) (old new : List ℕ) (y : View X) → HasDraft p old new y → all_zero old ≡ false → IsClaimed y p
+words-claimed p old new y h some' = inr (inl (ap all_zero h.last ∙ some'))
+
+-- a page of zeros is free
+pub zeros-free : (L : Layout) → IsFree L (replicate L.words 0)
+zeros-free L = record { length = length-replicate L.words 0; zero = zero-at L.words }
 
 module _ (L : Layout) (laws : IsLayout L) where
-  zero-tag : (node_of L (replicate L.words 0)).tag ≡ 0
-  zero-tag = laws.free_tag (replicate L.words 0) (zero-at L.words)
-
   -- a node's words are not all zero
-  pub inner-not : (words : List ℕ) → IsInner L words → words ≢ replicate L.words 0
-  inner-not words inner is = let t : 0 ≡ 3 = sym zero-tag ∙ ap (λ (l : List ℕ). (node_of L l).tag) (sym is) ∙ inner.node.tag in absurd (omega (arith, t))
+  pub inner-not : (words : List ℕ) → IsInner L words → all_zero words ≡ false
+  inner-not words inner = let tag = inner.node.tag in node_words L laws words (omega (arith, tag), omega (arith, tag))
 
-  pub leaf-not : (words : List ℕ) → IsLeaf L words → words ≢ replicate L.words 0
-  leaf-not words leaf is = let t : 0 ≡ 2 = sym zero-tag ∙ ap (λ (l : List ℕ). (node_of L l).tag) (sym is) ∙ leaf.node.tag in absurd (omega (arith, t))
+  pub leaf-not : (words : List ℕ) → IsLeaf L words → all_zero words ≡ false
+  leaf-not words leaf = let tag = leaf.node.tag in node_words L laws words (omega (arith, tag), omega (arith, tag))
 
-  pub node-not : (words : List ℕ) → IsLeaf L words ⊎ IsInner L words → words ≢ replicate L.words 0
+  pub node-not : (words : List ℕ) → IsLeaf L words ⊎ IsInner L words → all_zero words ≡ false
   node-not words = ⊎_elim (leaf-not words) (inner-not words)
+
+-- the words of a node of this kind
+pub inner-is : (L : Layout) (words : List ℕ) → IsInner L words → IsNode (node_of L words)
+inner-is L words inner = let tag = inner.node.tag in (omega (arith, tag), omega (arith, tag))
+
+pub node-is : (L : Layout) (words : List ℕ) → IsLeaf L words ⊎ IsInner L words → IsNode (node_of L words)
+node-is L words = ⊎_elim (λ leaf. let tag = leaf.node.tag in (omega (arith, tag), omega (arith, tag))) (inner-is L words)
+
+-- those that have the same tag are not all zero
+pub tag-not : (L : Layout) (laws : IsLayout L) (words : List ℕ) (n : Node) → (node_of L words).tag ≡ n.tag → IsNode n → all_zero words ≡ false
+tag-not L laws words n same is = node_words L laws words (subst (λ (t : ℕ). 2 ≤ t) (sym same) is.0, subst (λ (t : ℕ). t ≤ 3) (sym same) is.1)
 
 -- and they stand in their form
 pub node-clean : {L : Layout} (words : List ℕ) → IsLeaf L words ⊎ IsInner L words → IsClean L words
@@ -199,21 +255,21 @@ module _ (L : Layout) (spare : List ℕ → ℕ) (spare_is : (words : List ℕ) 
 
 module _ {S : Type 0} (plain : S → Said) (L : Layout) where
   pub may-three : (g1 g2 g3 : ExclusiveGuard) (a b c : ℕ) (y : View S) → g1.pid ≡ a → g2.pid ≡ b → g3.pid ≡ c → IsHolding g1.pid g1.frame g1.version g1.dirty y → IsHolding g2.pid g2.frame g2.version g2.dirty y → IsHolding g3.pid g3.frame g3.version g3.dirty y
-      → AreApart (a ∷ b ∷ c ∷ []) → y.out ≡ None → (y.start.tells ≡ true → IsClaimed y a) → (y.start.tells ≡ true → IsClaimed y b) → IsClaimed y c → (y.start.tells ≡ true → ReleasesPlain plain L (began_of y.start) y.owed (changes_of y (a ∷ b ∷ c ∷ [])) []) → MayReleaseAll (ReleasesPlain plain L) (g1 ∷ g2 ∷ g3 ∷ []) None y
+      → AreApart (a ∷ b ∷ c ∷ []) → y.out ≡ None → (y.start.tells ≡ true → IsClaimed y a) → (y.start.tells ≡ true → IsClaimed y b) → (y.start.tells ≡ true → IsClaimed y c) → (y.start.tells ≡ true → ReleasesPlain plain L (began_of y.start) y.owed (changes_of y (a ∷ b ∷ c ∷ [])) []) → MayReleaseAll (ReleasesPlain plain L) (g1 ∷ g2 ∷ g3 ∷ []) None y
   may-three g1 g2 g3 a b c y e1 e2 e3 h1 h2 h3 apart out c1 c2 c3 may =
       let pids : pids_of (g1 ∷ g2 ∷ g3 ∷ []) ≡ a ∷ b ∷ c ∷ [] = (λ i. e1 i ∷ e2 i ∷ e3 i ∷ []) in
       record {
         held = (h1, (h2, (h3, tt)));
         apart = subst AreApart (sym pids) apart;
         home = ((λ o e. absurd (none-not o (sym out ∙ e))), ((λ o e. absurd (none-not o (sym out ∙ e))), ((λ o e. absurd (none-not o (sym out ∙ e))), tt)));
-        claimed = λ t. (subst (IsClaimed y) (sym e1) (c1 t), (subst (IsClaimed y) (sym e2) (c2 t), (subst (IsClaimed y) (sym e3) c3, tt)));
+        claimed = λ t. (subst (IsClaimed y) (sym e1) (c1 t), (subst (IsClaimed y) (sym e2) (c2 t), (subst (IsClaimed y) (sym e3) (c3 t), tt)));
         owner = λ t. inr (subst (λ (l : List ℕ). ReleasesPlain plain L (began_of y.start) y.owed (changes_of y l) []) (sym pids) (may t));
       }
 
   -- the three changes are a split
   pub splits-three : (a b c key separator : ℕ) (over above page left old half : List ℕ) (y : View S) → HasDraft a over above y → HasDraft b page left y → HasDraft c old half y → IsInner L over → Covers (node_of L over) key → child_of L over key ≡ Some b
-      → size L (node_of L over) + L.growth ≤ L.room → IsFullNode L (node_of L page) → IsSplit L page left half separator → AddsPair L over above separator c → has c y.owed ≡ true → ReleasesPlain plain L (began_of y.start) y.owed (changes_of y (a ∷ b ∷ c ∷ [])) []
-  splits-three a b c key separator over above page left old half y ha hb hc inner covers names room full split adds owed =
+      → size L (node_of L over) + L.growth ≤ L.room → IsFullNode L (node_of L page) → IsSplit L page left half separator → AddsPair L over above separator c → IsFree L old → ReleasesPlain plain L (began_of y.start) y.owed (changes_of y (a ∷ b ∷ c ∷ [])) []
+  splits-three a b c key separator over above page left old half y ha hb hc inner covers names room full split adds free =
       may_split L (began_of y.start) y.owed (change_of y a) (change_of y b) (change_of y c) key separator
       (subst (IsInner L) (sym ha.last) inner)
       (subst (λ (l : List ℕ). Covers (node_of L l) key) (sym ha.last) covers)
@@ -225,7 +281,7 @@ module _ {S : Type 0} (plain : S → Said) (L : Layout) where
       (subst (λ (l : List ℕ). IsSplit L page left l separator) (sym hc.draft) split)))
       (subst (λ (l : List ℕ). AddsPair L l (draft_of y a) separator c) (sym ha.last)
       (subst (λ (l : List ℕ). AddsPair L over l separator c) (sym ha.draft) adds))
-      owed
+      (subst (IsFree L) (sym hc.last) free)
 
 module _ {X : Type 0} (L : Layout) where
   -- three pages after their new drafts
@@ -276,9 +332,9 @@ three-stay a b c v x1 x2 y d1 d2 d3 =
 
 module _ {S : Type 0} (plain : S → Said) (L : Layout) (laws : IsLayout L) (spare : List ℕ → ℕ) (spare_is : (words : List ℕ) → IsClean L words → spare words + size L (node_of L words) ≡ L.room)
     (a b c separator : ℕ) (over above page left half : List ℕ) (v y : View S) (g1 g2 g3 : ExclusiveGuard) (stays : Stays (g1 ∷ g2 ∷ g3 ∷ []) v y) (three : y.start.tells ≡ true → AreThree L a b c over above page left half y) (told : v.start.tells ≡ true → AreToSplit L a b c over page v)
-    (room : L.growth ≤ spare over) (full : spare page < L.growth) (split : IsClean L page → IsSplit L page left half separator) (adds : IsInner L over → AddsPair L over above separator c) (owed : has c v.owed ≡ true) where
-  owed-then : has c y.owed ≡ true
-  owed-then = ap (has c) stays.group.1 ∙ owed
+    (room : L.growth ≤ spare over) (full : spare page < L.growth) (split : IsClean L page → IsSplit L page left half separator) (adds : IsInner L over → AddsPair L over above separator c) (usable : v.start.tells ≡ true → MayUse c v) where
+  tells-then : y.start.tells ≡ true → v.start.tells ≡ true
+  tells-then tells = ap (λ (o : Origin). o.tells) (sym stays.start) ∙ tells
 
   to-split : y.start.tells ≡ true → AreToSplit L a b c over page v
   to-split tells = told (ap (λ (o : Origin). o.tells) (sym stays.start) ∙ tells)
@@ -289,15 +345,26 @@ module _ {S : Type 0} (plain : S → Said) (L : Layout) (laws : IsLayout L) (spa
       let to = to-split tells in
       let clean = node-clean page to.kind in
       splits-three plain L a b c to.names.0 separator over above page left (replicate L.words 0) half y t.first t.second t.third to.inner to.names.1 to.names.2
-      (spare-room L spare spare_is over to.inner.clean room) (spare-full L spare spare_is page clean full) (split clean) (adds to.inner) owed-then
+      (spare-room L spare spare_is over to.inner.clean room) (spare-full L spare spare_is page clean full) (split clean) (adds to.inner) (zeros-free L)
+
+  -- each of the three is in use then
+  three-used : y.start.tells ≡ true → (q : ℕ) → has q (a ∷ b ∷ c ∷ []) ≡ true → all_zero (draft_of y q) ≡ false
+  three-used tells =
+      let t = three tells in
+      let to = to-split tells in
+      let halves = split (node-clean page to.kind) in
+      let f : ℕ → Bool = λ q. all_zero (draft_of y q) in
+      each-used f a (b ∷ c ∷ []) (ap all_zero t.first.draft ∙ tag-not L laws above (node_of L over) (ap (λ (n : Node). n.tag) (adds to.inner).node) (inner-is L over to.inner))
+      (each-used f b (c ∷ []) (ap all_zero t.second.draft ∙ tag-not L laws left (node_of L page) (ap (λ (n : Node). n.tag) halves.left_is) (node-is L page to.kind))
+      (each-used f c [] (ap all_zero t.third.draft ∙ tag-not L laws half (node_of L page) (ap (λ (n : Node). n.tag) halves.right_is) (node-is L page to.kind)) (none-used f)))
 
   pub three-all : y.start.size ≡ L.words → g1.pid ≡ a → g2.pid ≡ b → g3.pid ≡ c → IsHolding g1.pid g1.frame g1.version g1.dirty y → IsHolding g2.pid g2.frame g2.version g2.dirty y → IsHolding g3.pid g3.frame g3.version g3.dirty y
       → AreApart (a ∷ b ∷ c ∷ []) → v.out ≡ None → MayReleaseAll (ReleasesPlain plain L) (g1 ∷ g2 ∷ g3 ∷ []) None y
   three-all whole e1 e2 e3 h1 h2 h3 apart out =
       may-three plain L g1 g2 g3 a b c y e1 e2 e3 h1 h2 h3 apart (stays.out ∙ out)
-      (λ tells. words-claimed L.words a over above y whole (three tells).first (inner-not L laws over (to-split tells).inner))
-      (λ tells. words-claimed L.words b page left y whole (three tells).second (node-not L laws page (to-split tells).kind))
-      (inr (inr (inr owed-then))) three-may
+      (λ tells. words-claimed a over above y (three tells).first (inner-not L laws over (to-split tells).inner))
+      (λ tells. words-claimed b page left y (three tells).second (node-not L laws page (to-split tells).kind))
+      (λ tells. use-then c v y stays.group.1 ((stays.numbers (tells-then tells)).0) (usable (tells-then tells))) three-may
 
   pub three-released : (w : View S) → g1.pid ≡ a → g2.pid ≡ b → g3.pid ≡ c → AreReleased g1 (g2 ∷ g3 ∷ []) None y w → IsSplitUp plain L (a ∷ b ∷ c ∷ []) v w
   three-released w e1 e2 e3 r =
@@ -311,5 +378,5 @@ module _ {S : Type 0} (plain : S → Said) (L : Layout) (laws : IsLayout L) (spa
         several = inl refl;
         released = r;
         may = three-may;
-        done = group-done g1 (g2 ∷ g3 ∷ []) (a ∷ b ∷ c ∷ []) v y w pids stays r;
+        done = group-done g1 (g2 ∷ g3 ∷ []) (a ∷ b ∷ c ∷ []) v y w pids stays three-used r;
       }

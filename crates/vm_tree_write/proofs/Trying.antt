@@ -2,7 +2,7 @@
 use Rattle.std.proofs.Common.{[], ⊎_elim, ◌∙◌, ◌≡◌, ◌≢◌, ap, inl, inr, List, None, subst, sym, ℕ}
 use Rattle.vm_map.specs.declared.call.Said.{Said}
 use Rattle.vm_tree_model.specs.Layout.{Layout}
-use Rattle.vm_rule.specs.Prelude.{NextTold, StartsWith}
+use Rattle.vm_rule.specs.Prelude.{StartsWith}
 use Rattle.vm_rule.proofs.Entries.{append-none}
 use Rattle.vm_step.specs.Prelude.{NoneExpected, View}
 use Rattle.vm_step.specs.declared.saw.Saw.{Saw}
@@ -26,7 +26,7 @@ use Rattle.vm_tree_write.specs.Prepares.IsUntaken.{short, unclaimed, unlocked}
 use Rattle.vm_tree_write.specs.Tries.{IsBackedBy, IsCause, IsEnded, IsEndOf, IsTrySplit, IsUnsplit}
 use Rattle.vm_tree_write.specs.Tries.IsUnsplit.{full, untaken}
 use Rattle.vm_tree_write.proofs.Backing.{backed-lock, backed-pages, backed-short, backed-shown, shown-refused, shown-wider}
-use Rattle.vm_tree_write.proofs.{Framing.keeps-then, Roomy.roomy-keeps, Roomy.roomy-leaves}
+use Rattle.vm_tree_write.proofs.{Framing.keeps-then, Numbering.worn-kept, Roomy.roomy-keeps, Roomy.roomy-leaves, Seeing.OnlySees, Seeing.sees-room}
 
 module _ {X : Type 0} where
   pub reads-keep : (v w : View X) → ReadsOn v w → KeepsLocksOnly v w
@@ -41,6 +41,7 @@ module _ {X : Type 0} where
     out = r.0.out;
     pending = r.0.group.0;
     owed = r.0.group.1;
+    numbers = worn-kept v w r.0.numbers;
     next = λ q e. inl (sym r.0.group.2 ∙ e);
     holds = r.0.holds;
     knows = r.0.knows;
@@ -133,8 +134,8 @@ module _ {S : Type 0} (plain : S → Said) (L : Layout) (spare : List ℕ → �
   of-untaken n a b v w answer (unclaimed refused h is) = of-refused refused answer is
 
   of-unsplit : (n : ℕ) (a b : OptGuard) (v w : View S) (answer : TrySplit) → IsUnsplit plain L spare n a b v w answer → OfFull answer
-  of-unsplit n a b v w answer (full pages next need h is) = OfFull.was_full pages next need is
-  of-unsplit n a b v w answer (untaken next roomy room h) = of-untaken n a b roomy w answer h
+  of-unsplit n a b v w answer (full pages next need searched f h is) = OfFull.was_full pages next need is
+  of-unsplit n a b v w answer (untaken roomy room h) = of-untaken n a b roomy w answer h
 
   of-end : (n : ℕ) (a b : OptGuard) (v w : View S) (answer : TrySplit) → IsEndOf plain L spare n a b v w answer → OfFull answer
   of-end n a b v w answer e = ⊎_elim (λ s. OfFull.was_split s.0) (λ u. of-unsplit n a b v w answer u) e
@@ -143,18 +144,18 @@ module _ {S : Type 0} (plain : S → Said) (L : Layout) (spare : List ℕ → �
   of-ended v key w answer (root meta low height page x r met e) = of-end 2 meta low x w answer e
   of-ended v key w answer (below parent node over page x r met e) = of-end 1 parent node x w answer e
 
-  -- the next word was loaded before
-  backed-untaken : (n : ℕ) (a b : OptGuard) (saw : Saw) (next : ℕ) (u v x w : View S) → StartsWith v.log u.log → IsOpened u a.pid a.word a.frame v → IsOpened u b.pid b.word b.frame v → b.pid ≢ a.pid → NextTold next v x → IsUntaken L n a b x w (tries.Again saw) → IsBackedBy u saw w
-  backed-untaken n a b saw next u v x w log oa ob apart t (short refused h is) =
-      backed-short n saw u x w (starts-then u.log v.log x.log log (roomy-keeps next v x t).log) (subst (λ (r : Alloc). IsShort n r x w) (short-again refused saw is) h)
-  backed-untaken n a b saw next u v x w log oa ob apart t (unlocked deny h is) =
-      backed-lock a b saw u v x w oa ob apart (roomy-leaves next v x t) (subst (λ (d : Deny). IsNotLocked L a b d x w) (denied-again deny saw is) h)
-  backed-untaken n a b saw next u v x w log oa ob apart t (unclaimed refused h is) =
-      backed-pages n a b saw u x w (starts-then u.log v.log x.log log (roomy-keeps next v x t).log) (subst (λ (r : Fresh). IsRefusedPages L n a b r x w) (refused-again refused saw is) h)
+  -- the free-number words, and the next word, were loaded before
+  backed-untaken : (n : ℕ) (a b : OptGuard) (saw : Saw) (u v x w : View S) → StartsWith v.log u.log → IsOpened u a.pid a.word a.frame v → IsOpened u b.pid b.word b.frame v → b.pid ≢ a.pid → OnlySees v x → IsUntaken L n a b x w (tries.Again saw) → IsBackedBy u saw w
+  backed-untaken n a b saw u v x w log oa ob apart t (short refused h is) =
+      backed-short n saw u x w (starts-then u.log v.log x.log log (roomy-keeps v x t).log) (subst (λ (r : Alloc). IsShort n r x w) (short-again refused saw is) h)
+  backed-untaken n a b saw u v x w log oa ob apart t (unlocked deny h is) =
+      backed-lock a b saw u v x w oa ob apart (roomy-leaves v x t) (subst (λ (d : Deny). IsNotLocked L a b d x w) (denied-again deny saw is) h)
+  backed-untaken n a b saw u v x w log oa ob apart t (unclaimed refused h is) =
+      backed-pages n a b saw u x w (starts-then u.log v.log x.log log (roomy-keeps v x t).log) (subst (λ (r : Fresh). IsRefusedPages L n a b r x w) (refused-again refused saw is) h)
 
   backed-unsplit : (n : ℕ) (a b : OptGuard) (saw : Saw) (u v w : View S) → StartsWith v.log u.log → IsOpened u a.pid a.word a.frame v → IsOpened u b.pid b.word b.frame v → b.pid ≢ a.pid → IsUnsplit plain L spare n a b v w (tries.Again saw) → IsBackedBy u saw w
-  backed-unsplit n a b saw u v w log oa ob apart (full pages next need h is) = let no : tries.Again saw ≡ tries.Full pages next need = is in absurd (cc)
-  backed-unsplit n a b saw u v w log oa ob apart (untaken next roomy room h) = backed-untaken n a b saw next u v roomy w log oa ob apart room.loaded h
+  backed-unsplit n a b saw u v w log oa ob apart (full pages next need searched f h is) = let no : tries.Again saw ≡ tries.Full pages next need = is in absurd (cc)
+  backed-unsplit n a b saw u v w log oa ob apart (untaken roomy room h) = backed-untaken n a b saw u v roomy w log oa ob apart (sees-room n v roomy room) h
 
   backed-end : (n : ℕ) (a b : OptGuard) (saw : Saw) (u v w : View S) → ReadsOn u v → IsOpened u a.pid a.word a.frame v → IsOpened u b.pid b.word b.frame v → b.pid ≢ a.pid → IsEndOf plain L spare n a b v w (tries.Again saw) → IsBackedBy u saw w
   backed-end n a b saw u v w r oa ob apart e =

@@ -1,68 +1,90 @@
 -- A full node below its parent: what the search read of both is what the locks prove of them, and a fresh page stands beside them.
-use Rattle.std.proofs.Common.{[], ◌++◌, ◌+◌, ◌<◌, ◌∙◌, ◌∷◌, ◌≡◌, ◌≢◌, ap, arith, Bool, false, inl, length, List, refl, slice_index, subst, suc, sym}
+use Rattle.std.proofs.Common.{[], ◌++◌, ◌+◌, ◌<◌, ◌∙◌, ◌∷◌, ◌≡◌, ◌≢◌, ap, arith, Bool, false, inl, length, List, refl, subst, suc, sym}
 use Rattle.std.proofs.Common.{true, ℕ}
 use Rattle.std.proofs.lemmas.List.{length-append}
 use Rattle.vm_tree_model.specs.{Layout.Layout, Node.Covers, Page.IsInner, Page.node_of}
 use Rattle.vm_core.specs.Prelude.{no_seat, Version, version_of}
-use Rattle.vm_rule.specs.Prelude.{began_of, draft_of, Each, has, IsLocking, last_of, no_held, numbers, put_at, Seat, seat_of, StartsWith}
+use Rattle.vm_page.specs.Pages.{all_zero}
+use Rattle.vm_rule.specs.Prelude.{began_of, draft_of, Each, has, IsLocking, last_of, no_held, put_at, Seat, seat_of, StartsWith}
 use Rattle.vm_rule.specs.declared.view.Held.{Held}
 use Rattle.vm_rule.proofs.Entries.{append-none}
 use Rattle.vm_step.specs.Prelude.{Did, HoldsPage, KnowsAsBefore, Origin, Release, Tie, View}
 use Rattle.vm_step.proofs.Asides.{holds-then, knows-then, starts-then, still-locking}
 use Rattle.vm_exmap.specs.Frames.{MovesFrames}
 use Rattle.vm_exmap.proofs.FrameMoves.{moved-aside}
-use Rattle.vm_guard.specs.{declared.exclusive.ExclusiveGuard.ExclusiveGuard, Fresh.AreFresh, Fresh.IsAmid, Groups.pids_of}
+use Rattle.vm_guard.specs.{declared.exclusive.ExclusiveGuard.ExclusiveGuard, Fresh.IsAmid, Given.AreFreshPages, Groups.pids_of}
 use Rattle.vm_guard.specs.Guards.{IsElsewhere, IsHolding, IsLocked, IsReading}
 use Rattle.vm_guard.proofs.Reading.{reading-kept}
 use Rattle.vm_tree_laws.specs.{Descent.IsReached, Tied.Tied}
-use Rattle.vm_tree_rule.specs.{Seeks.HasRead, Standing.Awaits, Standing.tree_pages}
+use Rattle.vm_tree_rule.specs.{Seeks.HasRead, Standing.Awaits, Standing.MeetsTies, Standing.tree_pages}
 use Rattle.vm_tree_rule.proofs.{Downward.inner-here, Readings.each-behind}
 use Rattle.vm_tree_read.proofs.Answering.{words-are}
+use Rattle.vm_tree_write.specs.Prepares.{IsInUseAt}
 use Rattle.vm_tree_write.specs.Splits.{HasDraft, IsGroupDone}
 
 pub true-false : (b : Bool) → b ≡ true → b ≡ false → ⊥
 true-false b t f = absurd (cc)
 
-pub numbers-one : (x : ℕ) → numbers x 1 ≡ x ∷ []
-unfolding numbers
-numbers-one x = refl
-
-pub numbers-two : (x : ℕ) → numbers x 2 ≡ x ∷ suc x ∷ []
-unfolding numbers
-numbers-two x = refl
-
--- ---- the one guard of a group of one
+-- ---- the guards of a group of one, and of two
 
 pids-length : (gs : List ExclusiveGuard) → length (pids_of gs) ≡ length gs
 pids-length [] = refl
 pids-length (g ∷ gs) = ap suc (pids-length gs)
 
-pub taken-one : (x : ℕ) (gs rest : List ExclusiveGuard) (right : ExclusiveGuard) → pids_of gs ≡ numbers x 1 → gs ≡ rest ++ right ∷ [] → (rest ≡ []) × (gs ≡ right ∷ [])
-taken-one x gs [] right pids e = (refl, e)
-taken-one x gs (g ∷ rs) right pids e =
-    let one : length gs ≡ 1 = sym (pids-length gs) ∙ ap length (pids ∙ numbers-one x) in
-    let more : length gs ≡ suc (length (rs ++ right ∷ [])) = ap length e in
-    let tail : length (rs ++ right ∷ []) ≡ length rs + 1 = length-append rs (right ∷ []) in
-    absurd (omega (arith, one, more, tail))
+module _ (pids : List ℕ) (gs : List ExclusiveGuard) (guards : pids_of gs ≡ pids) where
+  many : (n : ℕ) → length pids ≡ n → length gs ≡ n
+  many n count = sym (pids-length gs) ∙ ap length guards ∙ count
 
-pub some-taken : (x : ℕ) (gs : List ExclusiveGuard) → pids_of gs ≡ numbers x 1 → gs ≡ [] → ⊥
-some-taken x gs pids e =
-    let one : length gs ≡ 1 = sym (pids-length gs) ∙ ap length (pids ∙ numbers-one x) in
-    let none : length gs ≡ 0 = ap length e in
-    absurd (omega (arith, one, none))
+  pub taken-one : (rest : List ExclusiveGuard) (right : ExclusiveGuard) → length pids ≡ 1 → gs ≡ rest ++ right ∷ [] → (rest ≡ []) × (gs ≡ right ∷ [])
+  taken-one [] right count e = (refl, e)
+  taken-one (g ∷ rs) right count e =
+      let one : length gs ≡ 1 = many 1 count in
+      let more : length gs ≡ suc (length (rs ++ right ∷ [])) = ap length e in
+      let tail : length (rs ++ right ∷ []) ≡ length rs + 1 = length-append rs (right ∷ []) in
+      absurd (omega (arith, one, more, tail))
 
-pub right-is : (x : ℕ) (gs : List ExclusiveGuard) (right : ExclusiveGuard) → pids_of gs ≡ numbers x 1 → gs ≡ right ∷ [] → right.pid ≡ x
-right-is x gs right pids e = ap (λ (l : List ℕ). slice_index l 0) (sym (ap pids_of e) ∙ pids ∙ numbers-one x)
+  -- a group of so many has a last guard
+  pub some-taken : (n : ℕ) → length pids ≡ suc n → gs ≡ [] → ⊥
+  some-taken n count e =
+      let one : length gs ≡ suc n = many (suc n) count in
+      let none : length gs ≡ 0 = ap length e in
+      absurd (omega (arith, one, none))
+
+  -- and one of two has another
+  pub other-taken : (rest : List ExclusiveGuard) (top : ExclusiveGuard) → length pids ≡ 2 → gs ≡ rest ++ top ∷ [] → rest ≡ [] → ⊥
+  other-taken rest top count e none =
+      let two : length gs ≡ 2 = many 2 count in
+      let all : length gs ≡ length rest + 1 = ap length e ∙ length-append rest (top ∷ []) in
+      let zero : length rest ≡ 0 = ap length none in
+      absurd (omega (arith, two, all, zero))
+
+  pub taken-two : (more rest : List ExclusiveGuard) (right top : ExclusiveGuard) → length pids ≡ 2 → gs ≡ more ++ top ∷ [] → more ≡ rest ++ right ∷ [] → (rest ≡ []) × (gs ≡ right ∷ top ∷ [])
+  taken-two more [] right top count e f = (refl, e ∙ ap (λ (l : List ExclusiveGuard). l ++ top ∷ []) f)
+  taken-two more (g ∷ rs) right top count e f =
+      let two : length gs ≡ 2 = many 2 count in
+      let all : length gs ≡ length more + 1 = ap length e ∙ length-append more (top ∷ []) in
+      let front : length more ≡ suc (length (rs ++ right ∷ [])) = ap length f in
+      let tail : length (rs ++ right ∷ []) ≡ length rs + 1 = length-append rs (right ∷ []) in
+      absurd (omega (arith, two, all, front, tail))
+
+module _ {X : Type 0} (L : Layout) where
+  -- words that meet more ties meet those that were there before
+  meets-fewer : (p word : ℕ) (words : List ℕ) (v w : View X) → w.start ≡ v.start → (more : List Tie) × (w.ties ≡ more ++ v.ties) → MeetsTies L w p word words → MeetsTies L v p word words
+  meets-fewer p word words v w start ties all =
+      subst (λ (o : Origin). Each (λ (t : Tie). t.page ≡ p → t.version ≡ version_of word → Tied L (began_of o) t.of t.words p words) v.ties) start
+      (each-behind (λ (t : Tie). t.page ≡ p → t.version ≡ version_of word → Tied L (began_of w.start) t.of t.words p words) ties.0 v.ties
+      (subst (λ (l : List Tie). Each (λ (t : Tie). t.page ≡ p → t.version ≡ version_of word → Tied L (began_of w.start) t.of t.words p words) l) ties.1 all))
+
+  pub use-more : (p word : ℕ) (v w : View X) → w.start ≡ v.start → (more : List Tie) × (w.ties ≡ more ++ v.ties) → IsInUseAt L p word v → IsInUseAt L p word w
+  use-more p word v w start ties used words all itself =
+      used words (meets-fewer p word words v w start ties all) (subst (λ (o : Origin). Tied L (began_of o) p words p words) start itself)
 
 module _ {X : Type 0} {L : Layout} where
-  -- what a page's ties ask for is asked where there are more ties
+  -- so what a page's ties ask for is asked where there are more ties
   pub awaits-more : (p word level key : ℕ) (v w : View X) → w.start ≡ v.start → (more : List Tie) × (w.ties ≡ more ++ v.ties) → Awaits L v p word level key → Awaits L w p word level key
   awaits-more p word level key v w start ties awaits tells words all =
       subst (λ (o : Origin). IsReached L (length o.contents) p words level key) (sym start)
-      (awaits (ap (λ (o : Origin). o.tells) (sym start) ∙ tells) words
-      (subst (λ (o : Origin). Each (λ (t : Tie). t.page ≡ p → t.version ≡ version_of word → Tied L (began_of o) t.of t.words p words) v.ties) start
-      (each-behind (λ (t : Tie). t.page ≡ p → t.version ≡ version_of word → Tied L (began_of w.start) t.of t.words p words) ties.0 v.ties
-      (subst (λ (l : List Tie). Each (λ (t : Tie). t.page ≡ p → t.version ≡ version_of word → Tied L (began_of w.start) t.of t.words p words) l) ties.1 all))))
+      (awaits (ap (λ (o : Origin). o.tells) (sym start) ∙ tells) words (meets-fewer L p word words v w start ties all))
 
 -- ---- frames that move leave what was read
 
@@ -95,6 +117,13 @@ module _ {X : Type 0} {L : Layout} (p f version word frame : ℕ) (dirty : Bool)
 
   pub locked-inner : (level key : ℕ) → Awaits L v p word (suc level) key → IsInner L page × Covers (node_of L page) key
   locked-inner level key awaits = let k = locked-reached (suc level) key awaits in (inner-here (tree_pages v) p page level key k, k.covers)
+
+module _ {X : Type 0} {L : Layout} (p f version word : ℕ) (dirty : Bool) (v x : View X) (l : IsLocked (Tied L) p f version dirty v x) where
+  -- a page in use has words that are not all 0 once it is locked at the word
+  pub locked-in-use : v.start.tells ≡ true → version ≡ version_of word → IsInUseAt L p word v → all_zero (last_of x p).words ≡ false
+  locked-in-use tells at used =
+      let k = l.validates tells in
+      used (last_of x p).words (subst (λ (n : ℕ). Each (λ (t : Tie). t.page ≡ p → t.version ≡ n → Tied L (began_of v.start) t.of t.words p (last_of x p).words) v.ties) at k.holds) k.itself
 
 module _ {X : Type 0} where
   -- ---- what is held stays over steps on other pages
@@ -172,8 +201,8 @@ module _ {X : Type 0} where
     holds = λ q e. record { shares = ap (λ s. (put_at no_seat s q).shares) m.pages.0; exclusive = ap (λ s. (put_at no_seat s q).exclusive) m.pages.0; writing = ap (λ s. (put_at no_seat s q).writing) m.pages.0 };
   }
 
-  pub fresh-but : (pages fresh : List ℕ) (x n : ℕ) (gs : List ExclusiveGuard) (before after : List ℕ) (v w : View X) → ((q : ℕ) → has q pages ≡ false → has q fresh ≡ false) → AreFresh fresh x n gs before after v w → KeepsBut pages v w
-  fresh-but pages fresh x n gs before after v w within f = record {
+  pub fresh-but : (pages fresh : List ℕ) (n : ℕ) (gs : List ExclusiveGuard) (before after : List ℕ) (v w : View X) → ((q : ℕ) → has q pages ≡ false → has q fresh ≡ false) → AreFreshPages n fresh gs before after v w → KeepsBut pages v w
+  fresh-but pages fresh n gs before after v w within f = record {
     start = f.amid.start;
     parts = f.amid.parts;
     mine = f.amid.mine;
@@ -197,8 +226,8 @@ module _ {X : Type 0} where
     pub writing : (seat_of z q).writing ≡ (seat_of v q).writing
     pub free : (seat_of v q).exclusive ≡ false
 
-  pub was-fresh : (fresh : List ℕ) (x n q : ℕ) (gs : List ExclusiveGuard) (before after : List ℕ) (v w : View X) → has q fresh ≡ true → AreFresh fresh x n gs before after v w → Was q v w
-  was-fresh fresh x n q gs before after v w among f = record { shares = ap (λ (s : Seat). s.shares) (f.seats q among); writing = ap (λ (s : Seat). s.writing) (f.seats q among); free = (f.unheld q among).exclusive }
+  pub was-fresh : (fresh : List ℕ) (n q : ℕ) (gs : List ExclusiveGuard) (before after : List ℕ) (v w : View X) → has q fresh ≡ true → AreFreshPages n fresh gs before after v w → Was q v w
+  was-fresh fresh n q gs before after v w among f = record { shares = ap (λ (s : Seat). s.shares) (f.seats q among); writing = ap (λ (s : Seat). s.writing) (f.seats q among); free = (f.unheld q among).exclusive }
 
   pub was-on : (q : ℕ) (v x z : View X) → Was q v x → HoldsPage x z q → Was q v z
   was-on q v x z a h = record { shares = h.shares ∙ a.shares; writing = h.writing ∙ a.writing; free = a.free }

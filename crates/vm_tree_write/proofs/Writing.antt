@@ -1,9 +1,14 @@
 -- A leaf is locked, written and released: the call is answered there.
-use Rattle.std.proofs.Common.{[], ⊎_elim, ◌++◌, ◌+◌, ◌∙◌, ◌∷◌, ◌≡◌, ◌≢◌, ◌⊎◌, ap, append_assoc, arith, Bool, inl, inr, length, List, None, refl}
-use Rattle.std.proofs.Common.{replicate, slice_index, Some, subst, sym, true, ℕ}
+use Rattle.std.proofs.Common.{[], ⊎_elim, ◌++◌, ◌+◌, ◌∙◌, ◌∷◌, ◌≡◌, ◌⊎◌, ap, append_assoc, arith, Bool, false, inl, inr, length, List, None, refl}
+use Rattle.vm_page.specs.Pages.{all_zero}
+use Rattle.vm_tree_laws.proofs.Zeros.{node_words}
+use Rattle.std.proofs.Common.{slice_index, Some, subst, sym, true, ℕ}
 use Rattle.std.proofs.lemmas.Bool.{cases_eq}
 use Rattle.std.proofs.lemmas.List.{append_cancel_left}
-use Rattle.vm_map.specs.declared.call.Said.{Said}
+use Rattle.vm_map.specs.{declared.call.Call.Call, declared.call.Reply.Reply, declared.call.Said.Said}
+use Rattle.vm_map.specs.declared.call.Call.TheVariants.{Del, Put, Swap}
+use Rattle.vm_map.specs.declared.call.Reply.TheVariants.{Gone, Swapped, Was}
+use Rattle.vm_map.specs.declared.call.Swap.TheVariants as swaps
 use Rattle.vm_tree_model.specs.{Layout.IsLayout, Layout.Layout, Tree.map_of}
 use Rattle.vm_tree_model.specs.Page.{IsFree, IsInner, IsLeaf, node_of}
 use Rattle.vm_core.specs.Prelude.{LOCKED, version_of, word_of}
@@ -21,11 +26,11 @@ use Rattle.vm_guard.proofs.QuietSteps.{elsewhere-then}
 use Rattle.vm_tree_laws.specs.{History.IsLegal, May.IsEdit, Plain.KeepsPlain, Plain.plain_history, Plain.ReleasesPlain, Tied.IsSound, Tied.Tied}
 use Rattle.vm_tree_rule.specs.Leaves.{ReadsOn}
 use Rattle.vm_tree_rule.proofs.Readings.{reads-self, reads-then}
-use Rattle.vm_tree_rule.proofs.Whole.{zero-at}
 use Rattle.vm_tree_read.proofs.Answering.{words-are}
 use Rattle.vm_tree_write.specs.Drafts.{DraftsIn, IsRedrafted, SetsDiffering}
+use Rattle.vm_tree_write.specs.PageNumbers.{GainsNone}
 use Rattle.vm_tree_write.specs.Writes.{IsBorneOutBy, IsWriteDone, IsWritePlace, OnlyWrites}
-use Rattle.vm_tree_write.proofs.{Drafting.Stores, Framing.unheld-not}
+use Rattle.vm_tree_write.proofs.{Drafting.Stores, Framing.unheld-not, Numbering.gains-kept, Numbering.gains-then, Numbering.released-used}
 
 -- a page of the tree with a leaf's tag is a leaf
 pub leaf-is : (L : Layout) (laws : IsLayout L) (pages p : ℕ) (words : List ℕ) → IsSound L pages p words → (node_of L words).tag ≡ 2 → IsLeaf L words
@@ -72,9 +77,15 @@ cleared-none before after d clears n i is k wrote =
     ⊎_elim (λ (none : d.wrote ≡ None). let no : None ≡ Some k = sym none ∙ wrote in absurd (cc)) (λ (u : IsUnmark d). let no : places.State u.page ≡ places.Content n i = sym u.at ∙ is in absurd (cc)) clears
 
 -- a leaf's words are not all zero
-pub not-zeros : (L : Layout) (laws : IsLayout L) (n : ℕ) (words : List ℕ) → (node_of L words).tag ≡ 2 → words ≢ replicate n 0
-not-zeros L laws n words tag is =
-    let t : (node_of L words).tag ≡ 0 = laws.free_tag words (λ i. ap (λ (l : List ℕ). slice_index l i) is ∙ zero-at n i) in absurd (omega (arith, t, tag))
+pub not-zeros : (L : Layout) (laws : IsLayout L) (words : List ℕ) → (node_of L words).tag ≡ 2 → all_zero words ≡ false
+not-zeros L laws words tag = node_words L laws words (omega (arith, tag), omega (arith, tag))
+
+-- nor are those that an edit leaves
+edit-used : (L : Layout) (laws : IsLayout L) (old new : List ℕ) (call : Call) (reply : Reply) → IsEdit L old new call reply → all_zero new ≡ false
+edit-used L laws old new (Put key value) (Was was) e = not-zeros L laws new e.2.leaf.node.tag
+edit-used L laws old new (Del key) (Gone was) e = not-zeros L laws new e.2.leaf.node.tag
+edit-used L laws old new (Swap key want value) (Swapped swaps.Done) e = not-zeros L laws new e.2.leaf.node.tag
+edit-used L laws old new call reply e = absurd e
 
 module _ {S : Type 0} (plain : S → Said) (L : Layout) (laws : IsLayout L) where
   module _ (p f version word frame : ℕ) (dirty : Bool) (said : S) (earlier : List (ℕ × ℕ)) (before after : List ℕ) (v x y w : View S) (r : IsReading p word frame v) (long : length before ≡ L.words) (whole : x.start.size ≡ L.words) (loads : loads_at v p ≡ earlier ++ placed 0 before) (at : version ≡ version_of word) (l : IsLocked (Tied L) p f version dirty v x) where
@@ -133,8 +144,17 @@ module _ {S : Type 0} (plain : S → Said) (L : Layout) (laws : IsLayout L) wher
             (subst (Each Writes) same (each-map _ Writes (λ t here k wrote. inl (inr (here k wrote))) s.done s.steps))
             (each-map _ Writes (λ t here k wrote. inl (inl here)) e.done e.places_are))
 
-        pub only : DraftsIn p f x y → OnlyWrites p v w
-        only s = record {
+        -- the leaf is in use: its number comes to no hand
+        gains : (v.start.tells ≡ true → all_zero after ≡ false) → GainsNone v w
+        gains used =
+            gains-then v x w l.elsewhere.steady.start (gains-kept v x l.numbers)
+            (gains-then x y w d.elsewhere.steady.start (gains-kept x y d.numbers)
+            (released-used p version (Some said) y w
+            (λ tells.
+            let before' = ap (λ (o : Origin). o.tells) (sym l.elsewhere.steady.start) ∙ ap (λ (o : Origin). o.tells) (sym d.elsewhere.steady.start) ∙ tells in ap all_zero (drafted before') ∙ used before') e))
+
+        pub only : (v.start.tells ≡ true → all_zero after ≡ false) → DraftsIn p f x y → OnlyWrites p v w
+        only used s = record {
           frame = f;
           done = all;
           log = rest.steady.log;
@@ -153,6 +173,7 @@ module _ {S : Type 0} (plain : S → Said) (L : Layout) (laws : IsLayout L) wher
             e.group.1 ∙ ap (Rattle.vm_owner.specs.Numbers.without p) (d.group.1 ∙ l.group.1) ∙ without-none p v.owed l.before.paid,
             e.group.2 ∙ ap (next_after p) (d.group.2 ∙ l.group.2) ∙ next-stays p v.next l.before.next,
           );
+          numbers = gains used;
           holds = λ q. ⊎_elim (λ (s : q ≡ p). subst (HoldsPage v w) (sym s) holds-here) (λ ne. rest.holds q ne) (cases_eq q p);
           knows = λ q lk. ⊎_elim (λ (s : q ≡ p). absurd (unheld-not p v l.before (subst (λ n. IsLocking (seat_of v n)) s lk))) (λ ne. rest.knows q ne lk) (cases_eq q p);
           current = e.current;
@@ -208,7 +229,7 @@ module _ {S : Type 0} (plain : S → Said) (L : Layout) (laws : IsLayout L) wher
                 tag = tag;
                 new = after;
                 edit = edit;
-                writes = only drafts;
+                writes = only (λ tells. edit-used L laws before after (plain said).call (plain said).reply (edit (leaf-before tells tag))) drafts;
                 dirty = dirty;
                 held = x;
                 taken = l;
@@ -261,6 +282,7 @@ only-later p v x w r a = record {
   notes = a.notes ∙ r.0.notes;
   ties = (a.ties.0 ++ r.0.ties.0, a.ties.1 ∙ ap (λ (t : List _). a.ties.0 ++ t) r.0.ties.1 ∙ sym (append_assoc a.ties.0 r.0.ties.0 v.ties));
   group = (a.group.0 ∙ r.0.group.0, a.group.1 ∙ r.0.group.1, a.group.2 ∙ r.0.group.2);
+  numbers = gains-then v x w r.0.start (gains-kept v x r.0.numbers) a.numbers;
   holds = λ q. Rattle.vm_step.proofs.Asides.holds-then v x w q (r.0.holds q) (a.holds q);
   knows = λ q l. Rattle.vm_step.proofs.Asides.knows-then v x w q (r.0.knows q l) (a.knows q (Rattle.vm_step.proofs.Asides.still-locking v x q (r.0.holds q) l));
   current = a.current;

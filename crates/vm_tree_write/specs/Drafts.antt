@@ -3,7 +3,7 @@ use Rattle.std.specs.Prelude.{[], ◌++◌, ◌<◌, ◌≡◌, ◌≢◌, ◌�
 use Rattle.vm_rule.specs.Prelude.{Each, last_of}
 use Rattle.vm_rule.specs.declared.view.Place.{Place}
 use Rattle.vm_rule.specs.declared.view.Place.TheVariants as places
-use Rattle.vm_step.specs.Prelude.{Did, HoldsPage, IsAlone, ReadsAsBefore, StaysAlone, View}
+use Rattle.vm_step.specs.Prelude.{Did, HoldsPage, IsAlone, KeepsNumbers, ReadsAsBefore, StaysAlone, View}
 use Rattle.vm_guard.specs.{Guards.IsElsewhere, Sure.known_next, Sure.KnowsStates}
 
 -- a draft from one place on and before another has the wanted words; behind these it has those of the page before, and before these its own
@@ -23,6 +23,7 @@ module _ {X : Type 0} where
     pub elsewhere : IsElsewhere p done [] v w
     pub mine : w.mine ≡ v.mine
     pub group : (w.pending ≡ v.pending) × (w.owed ≡ v.owed) × (w.next ≡ v.next)
+    pub numbers : KeepsNumbers v w
     pub alone : StaysAlone v w
     pub holds : HoldsPage v w p
     pub reads : ReadsAsBefore v w p

@@ -1,4 +1,5 @@
 pub mod Drafts
+pub mod PageNumbers
 pub mod Writes
 pub mod Splits
 pub mod Tries

@@ -1,19 +1,21 @@
--- What a split has taken before it writes: frames, two pages that are locked at the versions read, and fresh pages, for which the next word left
--- room; and what is left where one of these is refused.
-use Rattle.std.specs.Prelude.{◌<◌, ◌≡◌, Bool, length, List, None, ℕ}
+-- What a split has taken before it writes: frames, two pages that are locked at the versions read, and fresh pages, for which a free-number word or the next word
+-- left room; and what is left where one of these is refused.
+use Rattle.std.specs.Prelude.{◌<◌, ◌≡◌, Bool, false, length, List, None, true, ℕ}
 use Rattle.vm_tree_model.specs.Layout.{Layout}
 use Rattle.vm_core.specs.Prelude.{version_of}
-use Rattle.vm_rule.specs.Prelude.{HoldsNoPage, numbers}
+use Rattle.vm_page.specs.Pages.{all_zero}
+use Rattle.vm_rule.specs.Prelude.{began_of, HoldsNoPage}
 use Rattle.vm_step.specs.Prelude.{Did, IsAlone, KnowsUnheld, UnlockedExpected, View}
 use Rattle.vm_exmap.specs.{declared.interface.Alloc.Alloc, Frames.MovesFrames, Returns.IsFreed, Walks.IsAlloc}
 use Rattle.vm_exmap.specs.declared.interface.Alloc.TheVariants as allocs
-use Rattle.vm_guard.specs.{declared.deny.Deny.Deny, declared.exclusive.ExclusiveGuard.ExclusiveGuard, declared.given.Fresh.Fresh}
-use Rattle.vm_guard.specs.{declared.opt.OptGuard.OptGuard, Fresh.AreFresh, Fresh.HasPagesFor, Fresh.IsFreshAnswer, Guards.IsLocked, Guards.IsReleased}
+use Rattle.vm_guard.specs.{declared.deny.Deny.Deny, declared.exclusive.ExclusiveGuard.ExclusiveGuard, declared.given.Fresh.Fresh, declared.group.Group.Group}
+use Rattle.vm_guard.specs.{declared.opt.OptGuard.OptGuard, Given.AreFreshPages, Groups.guards_of, Guards.IsLocked, Guards.IsReleased, Reused.HasFreshRoom, Reused.IsFreshAnswer}
 use Rattle.vm_guard.specs.declared.deny.Deny.TheVariants as denies
 use Rattle.vm_guard.specs.declared.given.Fresh.TheVariants as freshes
 use Rattle.vm_guard.specs.Denied.{AgainOrWorn, IsDenied, KeptWord}
 use Rattle.vm_guard.specs.Sure.{IsUnlockedWord, known_next, known_word}
 use Rattle.vm_tree_laws.specs.Tied.{Tied}
+use Rattle.vm_tree_rule.specs.Standing.{MeetsTies}
 use Rattle.vm_tree_write.specs.declared.tries.TrySplit.{TrySplit}
 use Rattle.vm_tree_write.specs.declared.tries.TrySplit.TheVariants as tries
 
@@ -28,23 +30,25 @@ module _ {X : Type 0} (L : Layout) where
     pub low_version : low.version ≡ version_of second.word
     pub low_locked : IsLocked (Tied L) second.pid low.frame low.version low.dirty between w
 
-  -- frames were taken, both pages were locked, and n pages were claimed, those from x on
+  -- frames were taken, both pages were locked, and n fresh pages were given, by a call for them that answered this group
   pub record AreTaken (n : ℕ) (first second : OptGuard) (up low : ExclusiveGuard) (pages : List ExclusiveGuard) (v w : View X) : Type 0 where
     pub asked : View X
     pub done : List Did
     pub moves : MovesFrames done v asked
     pub locked : View X
     pub locks : AreLocked first second up low asked locked
-    pub x : ℕ
     pub before : List ℕ
     pub after : List ℕ
-    pub fresh : AreFresh (numbers x n) x n pages before after locked w
+    pub group : Group
+    pub guards : guards_of group ≡ pages
+    pub answer : IsFreshAnswer n before after locked w (freshes.Pages group)
+    pub pids : List ℕ
+    pub fresh : AreFreshPages n pids pages before after locked w
 
-  -- the next word was loaded, which left room for n pages, and then all was taken
+  -- there was room for n pages, as loads of the free-number words, and of the next word, showed, and then all was taken
   pub record IsPrepared (n : ℕ) (first second : OptGuard) (up low : ExclusiveGuard) (pages : List ExclusiveGuard) (v w : View X) : Type 0 where
-    pub next : ℕ
     pub roomy : View X
-    pub room : HasPagesFor n next v roomy
+    pub room : HasFreshRoom n v roomy
     pub taken : AreTaken n first second up low pages roomy w
 
 module _ {X : Type 0} where
@@ -54,13 +58,6 @@ module _ {X : Type 0} where
     pub free : IsUnlockedWord first.word × IsUnlockedWord second.word
     pub words : (known_word first.pid v ≡ first.word) × (known_word second.pid v ≡ second.word)
 
-  -- and that they are below the next page; it holds nothing, and knows that nobody else does
-  pub record KnowsToSplit (first second : OptGuard) (v : View X) : Type 0 where
-    pub both : KnowsBoth first second v
-    pub below : (first.pid < known_next v) × (second.pid < known_next v)
-    pub holds : HoldsNoPage v
-    pub unheld : KnowsUnheld v
-
   -- two pages that the pass held were released, the second one first, and then frames were moved
   pub record GivesUpBoth (up low : ExclusiveGuard) (v w : View X) : Type 0 where
     pub between : View X
@@ -69,6 +66,21 @@ module _ {X : Type 0} where
     pub up_back : IsReleased up.pid up.version None between released
     pub done : List Did
     pub moves : MovesFrames done released w
+
+module _ {X : Type 0} (L : Layout) where
+  -- words that page p may have at this word, by itself and by its ties, are not all 0
+  abbrev pub IsInUseAt : ℕ → ℕ → View X → Type 0
+  IsInUseAt p word v = (words : List ℕ) → MeetsTies L v p word words → Tied L (began_of v.start) p words p words → all_zero words ≡ false
+
+  -- A pass that is alone knows that both pages are free, at the words of their guards, and below the next page; blocks tell their words, and both pages are in
+  -- use. It holds nothing, and knows that nobody else does
+  pub record KnowsToSplit (first second : OptGuard) (v : View X) : Type 0 where
+    pub both : KnowsBoth first second v
+    pub below : (first.pid < known_next v) × (second.pid < known_next v)
+    pub tells : v.start.tells ≡ true
+    pub used : IsInUseAt first.pid first.word v × IsInUseAt second.pid second.word v
+    pub holds : HoldsNoPage v
+    pub unheld : KnowsUnheld v
 
 -- ---- what was refused
 

@@ -1,15 +1,16 @@
 -- What a split of a full node does: its pages are locked, written and released together.
-use Rattle.std.specs.Prelude.{[], ◌++◌, ◌<◌, ◌∷◌, ◌≡◌, ◌≢◌, ◌≤◌, ◌⊎◌, false, length, List, None, replicate, slice_index, Some, true, ℕ}
+use Rattle.std.specs.Prelude.{[], ◌++◌, ◌<◌, ◌∷◌, ◌≡◌, ◌≤◌, ◌⊎◌, false, length, List, None, replicate, slice_index, Some, true, ℕ}
+use Rattle.vm_page.specs.Pages.{all_zero}
 use Rattle.vm_map.specs.declared.call.Said.{Said}
 use Rattle.vm_tree_model.specs.{Edits.child_of, Layout.Layout, Node.Covers}
 use Rattle.vm_tree_model.specs.Page.{IsInner, IsLeaf, node_of}
 use Rattle.vm_rule.specs.declared.view.Place.{Place}
 use Rattle.vm_rule.specs.Prelude.{AreApart, began_of, changes_of, draft_of, Each, has, IsLocking, last_of, seat_of, StartsWith, without_all}
-use Rattle.vm_step.specs.Prelude.{Did, HoldsPage, IsAlone, KnowsAsBefore, StaysAlone, View}
+use Rattle.vm_step.specs.Prelude.{Did, HoldsPage, IsAlone, KeepsNumbers, KnowsAsBefore, StaysAlone, View}
 use Rattle.vm_guard.specs.declared.exclusive.ExclusiveGuard.{ExclusiveGuard}
 use Rattle.vm_guard.specs.Groups.{AreReleased, GuardsHeld, pids_of}
 use Rattle.vm_tree_laws.specs.Plain.{ReleasesPlain}
-use Rattle.vm_tree_write.specs.Drafts.{IsDraftPlace, KnowsSameStates}
+use Rattle.vm_tree_write.specs.{Drafts.IsDraftPlace, Drafts.KnowsSameStates, PageNumbers.GainsWorn}
 
 -- the place is one at which the page of one of these guards is drafted
 abbrev pub IsDrafted : List ExclusiveGuard → Place → Type 0
@@ -17,6 +18,10 @@ IsDrafted [] at = ⊥
 IsDrafted (g ∷ gs) at = IsDraftPlace g.pid g.frame at ⊎ IsDrafted gs at
 
 module _ {X : Type 0} where
+  -- a fresh page is the pass's to use: it is owed to the pass, or the pass holds its number
+  abbrev pub MayUse : ℕ → View X → Type 0
+  MayUse p v = (has p v.owed ≡ true) ⊎ (has p v.numbers ≡ true)
+
   -- page p, which the pass holds, has these last words, and this draft
   pub record HasDraft (p : ℕ) (old new : List ℕ) (v : View X) : Type 0 where
     pub last : (last_of v p).words ≡ old
@@ -41,6 +46,7 @@ module _ {X : Type 0} where
     pub frames : w.frames ≡ v.frames
     pub out : w.out ≡ v.out
     pub group : (w.pending ≡ v.pending) × (w.owed ≡ v.owed) × (w.next ≡ v.next)
+    pub numbers : KeepsNumbers v w
     pub holds : (q : ℕ) → HoldsPage v w q
     -- the last words of the pages that it holds exclusively are as they were
     pub last : (q : ℕ) → (seat_of v q).exclusive ≡ true → last_of w q ≡ last_of v q
@@ -58,7 +64,9 @@ module _ {X : Type 0} where
     pub out : w.out ≡ v.out
     pub pending : w.pending ≡ v.pending
     pub owed : w.owed ≡ without_all pages v.owed
-    pub next : v.next ≡ None → w.next ≡ None
+    -- it holds the number of none of them, and none that it did not hold; and no page was freed
+    pub numbers : v.start.tells ≡ true → ((q : ℕ) → has q w.numbers ≡ true → (has q pages ≡ false) × (has q v.numbers ≡ true)) × (w.freed ≡ v.freed)
+    pub next : (q : ℕ) → w.next ≡ Some q → v.next ≡ Some q
     pub holds : (q : ℕ) → has q pages ≡ false → HoldsPage v w q
     pub knows : (q : ℕ) → has q pages ≡ false → IsLocking (seat_of v q) → KnowsAsBefore v w q
     -- the pass knows the table; where it was alone it finds the last words of each other page as they were
@@ -79,7 +87,7 @@ module _ {X : Type 0} (L : Layout) where
   -- page 0 names the root at this height, the root has these words, and the fresh pages have none
   pub record IsRootToSplit (meta low right top : ℕ) (height : ℕ) (page : List ℕ) (v : View X) : Type 0 where
     pub names : (slice_index (last_of v meta).words 1 ≡ low) × (slice_index (last_of v meta).words 2 ≡ height)
-    pub claimed : (last_of v meta).words ≢ replicate L.words 0
+    pub claimed : all_zero (last_of v meta).words ≡ false
     pub node : HasDraft low page page v
     pub kind : IsLeaf L page ⊎ IsInner L page
     pub fresh : HasDraft right (replicate L.words 0) (replicate L.words 0) v × HasDraft top (replicate L.words 0) (replicate L.words 0) v
@@ -91,7 +99,7 @@ module _ {X : Type 0} (L : Layout) (spare : List ℕ → ℕ) where
     pub home : v.out ≡ None
     pub held : GuardsHeld v (up ∷ low ∷ right ∷ [])
     pub apart : AreApart (up.pid ∷ low.pid ∷ right.pid ∷ [])
-    pub owed : has right.pid v.owed ≡ true
+    pub usable : v.start.tells ≡ true → MayUse right.pid v
     pub room : L.growth ≤ spare over
     pub full : spare page < L.growth
     pub told : v.start.tells ≡ true → AreToSplit L up.pid low.pid right.pid over page v
@@ -103,7 +111,7 @@ module _ {X : Type 0} (L : Layout) (spare : List ℕ → ℕ) where
     pub apart : AreApart (meta.pid ∷ low.pid ∷ right.pid ∷ top.pid ∷ [])
     pub zero : meta.pid ≡ 0
     pub same : draft_of v meta.pid ≡ (last_of v meta.pid).words
-    pub owed : (has right.pid v.owed ≡ true) × (has top.pid v.owed ≡ true)
+    pub usable : v.start.tells ≡ true → MayUse right.pid v × MayUse top.pid v
     pub full : spare page < L.growth
     pub told : v.start.tells ≡ true → IsRootToSplit L meta.pid low.pid right.pid top.pid height page v
 
@@ -133,6 +141,8 @@ pub record KeepsLocksOnly {X : Type 0} (v w : View X) : Type 0 where
   pub out : w.out ≡ v.out
   pub pending : w.pending ≡ v.pending
   pub owed : w.owed ≡ v.owed
+  -- it holds no page number more, but for those of pages at the last version
+  pub numbers : GainsWorn v w
   -- it knows the next page at most where it knew it, or held it
   pub next : (q : ℕ) → w.next ≡ Some q → (v.next ≡ Some q) ⊎ ((seat_of v q).exclusive ≡ true)
   pub holds : (q : ℕ) → HoldsPage v w q

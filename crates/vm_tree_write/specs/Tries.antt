@@ -4,24 +4,25 @@ use Rattle.vm_map.specs.declared.call.Said.{Said}
 use Rattle.vm_step.specs.Prelude.{Did, UnlockedExpected, View}
 use Rattle.vm_step.specs.declared.saw.Saw.{Saw}
 use Rattle.vm_exmap.specs.Frames.{MovesFrames}
-use Rattle.vm_guard.specs.{declared.exclusive.ExclusiveGuard.ExclusiveGuard, declared.opt.OptGuard.OptGuard, Fresh.HasPagesFor, Fresh.IsFull}
-use Rattle.vm_guard.specs.{Groups.pids_of, Guards.IsValid}
+use Rattle.vm_guard.specs.{declared.exclusive.ExclusiveGuard.ExclusiveGuard, declared.opt.OptGuard.OptGuard, Fresh.IsFull}
+use Rattle.vm_guard.specs.{Groups.pids_of, Guards.IsValid, Reused.HasFreshRoom, Spares.FindsAllFew}
 use Rattle.vm_tree_model.specs.Layout.{Layout}
 use Rattle.vm_tree_laws.specs.Tied.{Tied}
 use Rattle.vm_tree_rule.specs.{Leaves.ReadsOn, Shown.IsAgain, Shown.IsSeen, Turns.IsAstray, Turns.IsNeeded}
 use Rattle.vm_tree_rule.specs.Seeks.{IsFullBelow, IsRoomy, IsRootFull}
 use Rattle.vm_tree_write.specs.{declared.tries.TrySplit.TrySplit, Splits.IsSplitUp, Splits.KeepsLocksOnly}
 use Rattle.vm_tree_write.specs.declared.tries.TrySplit.TheVariants as tries
-use Rattle.vm_tree_write.specs.Prepares.{IsPrepared, IsUntaken}
+use Rattle.vm_tree_write.specs.{PageNumbers.GainsNone, Prepares.IsPrepared, Prepares.IsUntaken}
 
--- the steps from v to w show both words: of the state word of a page, of a bundle or of the next page
+-- the steps from v to w show both words: of the state word of a page, of a bundle, of the next page or of a free-number word
 pub record IsBackedBy {X : Type 0} (v : View X) (saw : Saw) (w : View X) : Type 0 where
   pub done : List Did
   pub log : w.log ≡ v.log ++ done
   pub seen : IsSeen UnlockedExpected done saw
 
 module _ {S : Type 0} (plain : S → Said) (L : Layout) (spare : List ℕ → ℕ) where
-  -- the pages were prepared, and then released in a group, which splits the second one; what frames were left went back
+  -- the pages were prepared, and then released in a group, which splits the second one; what frames were left went back. The pass holds no page number more than
+  -- before, whether numbers of the fresh pages were free or they were claimed
   pub record HasSplit (n : ℕ) (first second : OptGuard) (v w : View S) : Type 0 where
     pub up : ExclusiveGuard
     pub low : ExclusiveGuard
@@ -32,6 +33,7 @@ module _ {S : Type 0} (plain : S → Said) (L : Layout) (spare : List ℕ → �
     pub split : IsSplitUp plain L (first.pid ∷ second.pid ∷ pids_of pages) before after
     pub done : List Did
     pub freed : MovesFrames done after w
+    pub numbers : GainsNone v w
 
   -- the leaf, the last page of a descent that met no full node, was validated
   pub record MetNoFullNode (v : View S) (key : ℕ) (w : View S) : Type 0 where
@@ -41,12 +43,11 @@ module _ {S : Type 0} (plain : S → Said) (L : Layout) (spare : List ℕ → �
     pub roomy : IsRoomy L spare v key leaf loaded found
     pub valid : IsValid (Tied L) leaf.pid leaf.word leaf.frame None found w
 
-  -- Why nothing was split for which n fresh pages and these two pages were needed: the next word, which was loaded first, left too few pages, and then
-  -- that load was all that was done; or it left room, and what is needed was not all taken
+  -- Why nothing was split for which n fresh pages and these two pages were needed: each free-number word had fewer than n bits at its load, and the next word,
+  -- loaded then, left too few pages, and these loads were all that was done; or there was room, and what is needed was not all taken
   pub data IsUnsplit (n : ℕ) (first second : OptGuard) (v w : View S) (answer : TrySplit) : Type 0 where
-    full : (pages next need : ℕ) → IsFull n pages next need v w → answer ≡ tries.Full pages next need → IsUnsplit n first second v w answer
-    untaken :
-        (next : ℕ) (roomy : View S) → HasPagesFor n next v roomy → IsUntaken L n first second roomy w answer → IsUnsplit n first second v w answer
+    full : (pages next need : ℕ) (searched : View S) → FindsAllFew n v searched → IsFull n pages next need searched w → answer ≡ tries.Full pages next need → IsUnsplit n first second v w answer
+    untaken : (roomy : View S) → HasFreshRoom n v roomy → IsUntaken L n first second roomy w answer → IsUnsplit n first second v w answer
 
   -- what came of a full node, the second page: it was split, or the answer tells why not
   abbrev pub IsEndOf : ℕ → OptGuard → OptGuard → View S → View S → TrySplit → Type 0

@@ -22,7 +22,7 @@ use Rattle.vm_tree_rule.specs.{Leaves.ReadsOn, Seeks.HasLoaded, Seeks.HasRead, S
 use Rattle.vm_tree_rule.specs.Turns.{IsAstray, IsNeeded, TellLeaf}
 use Rattle.vm_node.specs.Loads.{IsPageWith}
 use Rattle.vm_tree_read.specs.Reads.{GainsEntry, IsAnswered}
-use Rattle.vm_tree_write.specs.{declared.write.Tried.Tried, declared.write.TryWrite.TryWrite, Drafts.IsDraftPlace}
+use Rattle.vm_tree_write.specs.{declared.write.Tried.Tried, declared.write.TryWrite.TryWrite, Drafts.IsDraftPlace, PageNumbers.GainsNone}
 use Rattle.vm_tree_write.specs.declared.write.Tried.TheVariants as onces
 use Rattle.vm_tree_write.specs.declared.write.TryWrite.TheVariants as tries
 
@@ -48,6 +48,7 @@ module _ {X : Type 0} where
     pub notes : w.notes ≡ v.notes
     pub ties : (more : List Tie) × (w.ties ≡ more ++ v.ties)
     pub group : (w.pending ≡ v.pending) × (w.owed ≡ v.owed) × (w.next ≡ v.next)
+    pub numbers : GainsNone v w
     pub holds : (q : ℕ) → HoldsPage v w q
     pub knows : (q : ℕ) → IsLocking (seat_of v q) → KnowsAsBefore v w q
     -- a pass that is alone finds the last words of each other page as they were; and it still knows the table

@@ -1,5 +1,5 @@
 // What a split takes before it writes: frames, the locks of two pages at the versions read, and fresh pages. Where one of them is refused the
-// others are given back. A file that has too few pages left is found so before anything is taken, so that such a split leaves no trace.
+// others are given back. A file that has no room for the fresh pages is found so before anything is taken, so that such a split leaves no trace.
 ghost use Rattle.std.specs.Prelude.{◌++◌, ◌≡◌, ◌≢◌, ◌⊎◌, false, IfErr, IfOk, length, None};
 ghost use Rattle.vm_rule.specs.Prelude.{draft_of, has, last_of};
 ghost use Rattle.vm_step.specs.Prelude.{AreHeld, IsAlone, IsReady, IsSamePass, view};
@@ -176,7 +176,7 @@ fn give_up<K: Kind, B: Block>(
     iface.free(words, pass, frames);
 }
 
-/// Takes `n` frames (1 or 2), locks two pages at the versions read, and claims `n` fresh pages; or gives back what it took.
+/// Takes `n` frames (1 or 2), locks two pages at the versions read, and gets `n` fresh pages; or gives back what it took.
 fn take_all<K: Kind, B: Block>(
     words: &Words<TreeOf<K>, B>,
     pass: &mut Pass<TreeOf<K>>,
@@ -200,7 +200,7 @@ fn take_all<K: Kind, B: Block>(
     ensures lost { IfOk result (λ all. LosesNone iface.old.frames (view pass.old) (iface.new.frames ++ all.frames) (view pass.new)) }
     ensures lost_none { IfErr result (λ _. LosesNone iface.old.frames (view pass.old) iface.new.frames (view pass.new)) }
     ensures err { IfErr result (λ answer. AreHeld iface.new.frames (view pass.new) × KeepsLocksOnly (view pass.old) (view pass.new) × IsUntaken K.layout n first second (view pass.old) (view pass.new) answer) }
-    ensures sure { KnowsToSplit first second (view pass.old) → IfErr result IsFinalSplit }
+    ensures sure { KnowsToSplit K.layout first second (view pass.old) → IfErr result IsFinalSplit }
 {
     let mut frames = match frames_for(words, pass, iface, n) {
         Ok(frames) => frames,
@@ -236,8 +236,8 @@ fn take_all<K: Kind, B: Block>(
     }
 }
 
-/// Takes what a split needs for which `n` fresh pages (1 or 2) are claimed, if so many are left; else it locks nothing and takes nothing, and
-/// answers Full.
+/// Takes what a split needs that takes `n` fresh pages (1 or 2), if a free-number word has so many bits, or so many pages are left; else it locks nothing and takes
+/// nothing, and answers Full.
 pub fn prepare<K: Kind, B: Block>(
     words: &Words<TreeOf<K>, B>,
     pass: &mut Pass<TreeOf<K>>,
@@ -261,10 +261,10 @@ pub fn prepare<K: Kind, B: Block>(
     ensures lost { IfOk result (λ all. LosesNone iface.old.frames (view pass.old) (iface.new.frames ++ all.frames) (view pass.new)) }
     ensures lost_none { IfErr result (λ _. LosesNone iface.old.frames (view pass.old) iface.new.frames (view pass.new)) }
     ensures err { IfErr result (λ answer. AreHeld iface.new.frames (view pass.new) × KeepsLocksOnly (view pass.old) (view pass.new) × IsUnsplit K.plain K.layout K.spare n first second (view pass.old) (view pass.new) answer) }
-    ensures sure { KnowsToSplit first second (view pass.old) → IfErr result IsFinalSplit }
+    ensures sure { KnowsToSplit K.layout first second (view pass.old) → IfErr result IsFinalSplit }
 {
     match room_for(words, pass, n) {
-        Ok(_next) => take_all(words, pass, iface, first, second, n),
+        Ok(()) => take_all(words, pass, iface, first, second, n),
         Err(NoRoom { pages, next, need }) => Err(TrySplit::Full { pages, next, need }),
     }
 }

@@ -24,7 +24,7 @@ pub enum TrySplit {
     Split,
     /// No node on the way of the key is full.
     Roomy,
-    /// A page's word had changed, or the page was Locked or had shares, or frames were lost to others: the call may be tried again. So it may where
+    /// A page's word had changed, or the page was Locked or had shares, or frames or page numbers were lost to others: the call may be tried again. So it may where
     /// blocks do not tell their words and a page has not those that the way to it asks for: both words are the one that the page was read at.
     Again(Saw),
     /// This page is Evicted: it has to be brought in first. It is page 0, or a page on the way names it.
@@ -33,7 +33,7 @@ pub enum TrySplit {
     Worn(u32),
     /// No frame was free.
     Dry,
-    /// So many pages there are, this is the next one, and so many were needed.
+    /// So many pages there are, this is the next one, and so many were needed; no free-number word had so many bits.
     Full { pages: u32, next: u32, need: u32 },
 }
 
@@ -70,7 +70,7 @@ fn split_below<K: Edits, B: Block>(
     ensures keeps { KeepsLocksOnly (view pass.old) (view pass.new) }
     ensures lost { LosesNone iface.old.frames (view pass.old) iface.new.frames (view pass.new) }
     ensures cause { IsEndOf K.plain K.layout K.spare 1 parent node (view pass.old) (view pass.new) result }
-    ensures sure { KnowsToSplit parent node (view pass.old) → IsFinalSplit result }
+    ensures sure { KnowsToSplit K.layout parent node (view pass.old) → IsFinalSplit result }
 {
     let all = match prepare(words, pass, iface, parent, node, 1) {
         Ok(all) => all,
@@ -114,7 +114,7 @@ fn split_root<K: Edits, B: Block>(
     ensures keeps { KeepsLocksOnly (view pass.old) (view pass.new) }
     ensures lost { LosesNone iface.old.frames (view pass.old) iface.new.frames (view pass.new) }
     ensures cause { IsEndOf K.plain K.layout K.spare 2 meta root (view pass.old) (view pass.new) result }
-    ensures sure { KnowsToSplit meta root (view pass.old) → IsFinalSplit result }
+    ensures sure { KnowsToSplit K.layout meta root (view pass.old) → IsFinalSplit result }
 {
     let all = match prepare(words, pass, iface, meta, root, 2) {
         Ok(all) => all,

@@ -1,5 +1,5 @@
 use Rattle.std.proofs.Common.{◌*◌, ◌<◌, ◌∙◌, ◌≡◌, ◌≤◌, ap, arith, length, List, refl, rules, subst, sym, ℕ}
-use Rattle.std.proofs.lemmas.Bool.{eq-eqb}
+use Rattle.std.proofs.lemmas.Bool.{eq-eqb, false≢true}
 use Rattle.vm_map.specs.declared.call.Said.{Said}
 use Rattle.vm_tree_model.specs.{Fixed.fixed, Tree.IsTree}
 use Rattle.vm_image.specs.File.{IsNextPage}
@@ -13,13 +13,13 @@ use Rattle.vm_serve.proofs.serving.serve_blocks.Goals as goal
 
 pub start-requires : goal.start-requires
 start-requires g c =
-    (search rules, (g.S.OfSize.is_size, (eq-eqb g.row.N g.row.N refl, (c.requires.pages.0, (search (rules, c.requires, length-mapped words_of c.args.blocks.items), λ told. begins-held g.row.N g.S.OfSize.is_size _ _ c.requires.tree c.requires.next)))))
+    (search rules, (g.S.OfSize.is_size, (eq-eqb g.row.N g.row.N refl, (c.requires.pages.0, (search (rules, c.requires, length-mapped words_of c.args.blocks.items), ((λ p e. absurd (false≢true e)), λ told. begins-held g.row.N g.S.OfSize.is_size _ _ c.requires.tree c.requires.next))))))
 
 pub drive_into-requires-after_bounds : goal.drive_into-requires-after_bounds
 drive_into-requires-after_bounds g c κs within =
     let made = c.in_ok-pool.ensures in
     let few = c.requires.lists.1 in
-    let whole = (first-alone _ _ _ _ _ _ _ made.view).0 in
+    let whole = (first-alone _ _ _ _ _ _ _ _ made.view).0 in
     let fresh : length c.args.lists.now ≤ length (view c.in_ok-pool.pass).fresh = fresh-enough _ _ _ _ _ _ _ _ made.view (omega (arith, few)) in
     let frames : 8 * length c.args.lists.now ≤ c.in_ok-pool.pool.words.frames = omega (arith, c.in_ok-pool.pool.words.shape.1, ap (λ (s : Shape). s.frames) made.key, c.requires.frames.2) in
     let before = c.args.blocks.items in

@@ -43,7 +43,7 @@ returns-clause-reply g c meta root =
     let blocks : List Stored = map g.B.Block.stored c.args.blocks.items in
     let shape = c.args.shape in
     let opened = c.in_ok-pool.field-0 in
-    let asked = subst (λ (t : Bool). HasAskedFirst 0 (begun (unborn (started_shape g.row.N t shape.first_version shape.next shape.frames blocks))) opened.iface.frames (view opened.pass) opened.answer) c.requires.tells
+    let asked = subst (λ (t : Bool). HasAskedFirst 0 (begun (unborn (started_shape g.row.N t shape.first_version shape.next [] shape.frames blocks))) opened.iface.frames (view opened.pass) opened.answer) c.requires.tells
     c.in_ok-pool.ensures.asked in
     let get = c.try_get-reply.ensures in
     answers g.K.Kind.plain g.K.Kind.layout g.K.Kind.is_layout g.row.N shape.first_version shape.next shape.frames blocks _ (length-mapped g.B.Block.stored c.args.blocks.items) c.requires.fits c.requires.below c.requires.frames c.requires.leaf

@@ -1,4 +1,5 @@
-use Rattle.std.proofs.Common.{◌∙◌, ◌≡◌, ◌≢◌, ap, inl, inr, List, None, refl, replicate, Some, subst, sym, true, ℕ}
+use Rattle.std.proofs.Common.{◌∙◌, ◌≡◌, ap, false, inl, inr, List, None, refl, Some, subst, sym, true, ℕ}
+use Rattle.vm_page.specs.Pages.{all_zero}
 use Rattle.vm_rule.specs.Prelude.{draft_of}
 use Rattle.vm_step.specs.Prelude.{IsClaimed, IsKeptNow, Origin, UnlockedExpected, View, view}
 use Rattle.vm_guard.specs.{Denied.AgainOrWorn, Denied.KeptWord, Guards.IsReleased}
@@ -43,8 +44,8 @@ release-requires-clause-claimed g c tells =
     let k = c.in-Ok.ensures.taken in
     let before = ap (λ (o : Origin). o.tells) (sym k.2.elsewhere.steady.start) ∙ ap (λ (o : Origin). o.tells) (sym c.redraft.ensures.redrafted.elsewhere.steady.start) ∙ tells in
     subst (λ (n : ℕ). IsClaimed (view c.redraft.new.pass) n) (sym (c.redraft.ensures.guard.0 ∙ k.0))
-    (inr (inl (subst (λ (l : List ℕ). l ≢ replicate (view c.redraft.new.pass).start.size 0) (sym (old-is g.K.Kind.plain g.K.Kind.layout g.K.Kind.is_layout c.args.guard.pid _ _ c.args.guard.word c.args.guard.frame _ c.args.said.now c.requires.loads.0 (g.K.Pages.words_of c.args.before.now) (g.K.Edits.edited (g.K.Pages.words_of c.args.before.now) c.args.edit) (view c.args.pass.now) (view c.upgrade.new.pass) (view c.redraft.new.pass) (view c.redraft.new.pass) c.requires.reading c.requires.size (tree-size _ _ _ c.upgrade.ensures.ready.table.is_shape.size c.args.words.now.sized.0 c.args.words.now.size.takes) c.requires.loads.1 k.1 k.2
-    (redrafted-at _ _ (view c.upgrade.new.pass) (view c.redraft.new.pass) k.0 c.redraft.ensures.redrafted) (drafted-at _ _ (view c.args.pass.now) (view c.upgrade.new.pass) (view c.redraft.new.pass) _ k.0 k.2.elsewhere.steady.start c.redraft.ensures.draft) before)) (not-zeros g.K.Kind.layout g.K.Kind.is_layout _ (g.K.Pages.words_of c.args.before.now) c.requires.leaf))))
+    (inr (inl (subst (λ (l : List ℕ). all_zero l ≡ false) (sym (old-is g.K.Kind.plain g.K.Kind.layout g.K.Kind.is_layout c.args.guard.pid _ _ c.args.guard.word c.args.guard.frame _ c.args.said.now c.requires.loads.0 (g.K.Pages.words_of c.args.before.now) (g.K.Edits.edited (g.K.Pages.words_of c.args.before.now) c.args.edit) (view c.args.pass.now) (view c.upgrade.new.pass) (view c.redraft.new.pass) (view c.redraft.new.pass) c.requires.reading c.requires.size (tree-size _ _ _ c.upgrade.ensures.ready.table.is_shape.size c.args.words.now.sized.0 c.args.words.now.size.takes) c.requires.loads.1 k.1 k.2
+    (redrafted-at _ _ (view c.upgrade.new.pass) (view c.redraft.new.pass) k.0 c.redraft.ensures.redrafted) (drafted-at _ _ (view c.args.pass.now) (view c.upgrade.new.pass) (view c.redraft.new.pass) _ k.0 k.2.elsewhere.steady.start c.redraft.ensures.draft) before)) (not-zeros g.K.Kind.layout g.K.Kind.is_layout (g.K.Pages.words_of c.args.before.now) c.requires.leaf))))
 
 pub release-requires-clause-owner : goal.release-requires-clause-owner
 release-requires-clause-owner g c tells =

@@ -1,16 +1,17 @@
-use Rattle.std.proofs.Common.{⊎_elim, ◌++◌, ◌+◌, ◌<◌, ◌∙◌, ◌≤◌, arith, refl}
+use Rattle.std.proofs.Common.{⊎_elim, ◌++◌, ◌+◌, ◌<◌, ◌∙◌, ◌≤◌, arith, refl, subst, ℕ}
 use Rattle.std.proofs.lemmas.Bool.{cases_lt}
 use Rattle.vm_step.specs.Prelude.{view}
 use Rattle.vm_exmap.proofs.Handing.{held-on, held-rest, held-swap}
 use Rattle.vm_guard.specs.declared.given.Fresh.TheVariants as freshes
-use Rattle.vm_guard.specs.Sure.{known_next}
+use Rattle.vm_guard.specs.{Spares.KnowsFew, Sure.known_next}
+use Rattle.vm_guard.proofs.Searching.{given-of}
 use Rattle.vm_tree_read.proofs.Losing.{freed-loses, loses-same, loses-swap, loses-then}
 use Rattle.vm_tree_write.specs.Prepares.IsUntaken.{short, unclaimed, unlocked}
 use Rattle.vm_tree_write.proofs.{Losing.fresh-loses, Refusing.none-given, Under.reading-moved}
 use Rattle.vm_tree_write.proofs.Framing.{freed-keeps, fresh-beside, keeps-then}
 use Rattle.vm_tree_write.proofs.GivingUp.{locks-frames, locks-out, locks-start, none-ended, none-frames, none-kept, none-lost, none-out}
 use Rattle.vm_tree_write.proofs.prepare.take_all.Goals as goal
-use Rattle.vm_tree_write.proofs.Settling.{both-alone, both-moved, may-be-tried}
+use Rattle.vm_tree_write.proofs.Settling.{both-alone, both-moved, few-or-not, may-be-tried}
 
 pub lock_two-requires-clause-first : goal.lock_two-requires-clause-first
 lock_two-requires-clause-first g c =
@@ -59,22 +60,25 @@ returns-in-Pages-clause-held g c =
     let w = view c.fresh.new.pass in
     let l = c.in-Ok-lock_two.ensures.ok in
     let here = held-on (c.in-Ok.frames ++ c.frames_for.new.iface.frames) x y c.in-Ok.ensures.ok.1 (locks-start c.args.first c.args.second c.in-Ok-lock_two.locks.up c.in-Ok-lock_two.locks.low x y l c.requires.apart) (locks-frames c.args.first c.args.second c.in-Ok-lock_two.locks.up c.in-Ok-lock_two.locks.low x y l c.requires.apart) in
-    let f = c.in-Pages.ensures.answer.1 in
+    let f = (given-of c.args.n c.in-Pages.pages c.in-Ok.frames c.fresh.new.frames y w c.requires.count c.in-Pages.ensures.answer).1 in
     fresh-beside c.frames_for.new.iface.frames c.in-Ok.frames c.fresh.new.frames f.taken y w here f.cut f.frames f.amid.start
 
 pub returns-in-Pages-clause-ok : goal.returns-in-Pages-clause-ok
 returns-in-Pages-clause-ok g c =
     let m = c.in-Ok.ensures.moves in
-    let a = c.in-Pages.ensures.answer in
+    let a = given-of c.args.n c.in-Pages.pages c.in-Ok.frames c.fresh.new.frames (view c.lock_two.new.pass) (view c.fresh.new.pass) c.requires.count c.in-Pages.ensures.answer in
     record {
       asked = view c.frames_for.new.pass;
       done = m.0;
       moves = m.1;
       locked = view c.lock_two.new.pass;
       locks = c.in-Ok-lock_two.ensures.ok;
-      x = a.0;
       before = c.in-Ok.frames;
       after = c.fresh.new.frames;
+      group = c.in-Pages.pages;
+      guards = refl;
+      answer = c.in-Pages.ensures.answer;
+      pids = a.0;
       fresh = a.1;
     }
 
@@ -243,7 +247,7 @@ returns-in-Pages-clause-lost g c =
     let x = view c.frames_for.new.pass in
     let y = view c.lock_two.new.pass in
     let w = view c.fresh.new.pass in
-    let f = c.in-Pages.ensures.answer.1 in
+    let f = (given-of c.args.n c.in-Pages.pages c.in-Ok.frames c.fresh.new.frames y w c.requires.count c.in-Pages.ensures.answer).1 in
     let same = locks-frames c.args.first c.args.second c.in-Ok-lock_two.locks.up c.in-Ok-lock_two.locks.low x y c.in-Ok-lock_two.ensures.ok c.requires.apart in
     loses-then c.args.iface.now.frames all (own ++ c.fresh.new.frames) (view c.args.pass.now) x w c.in-Ok.ensures.lost
     (loses-then all all (own ++ c.fresh.new.frames) x y w (loses-same all all x y same (λ n e. e)) (fresh-loses own c.in-Ok.frames c.fresh.new.frames f.taken y w f.cut f.frames))
@@ -292,7 +296,13 @@ returns-in-Again-clause-sure g c k =
     let l = c.in-Ok-lock_two.ensures.ok in
     let alone = both-alone c.args.n c.args.first c.args.second locks.up locks.low m.0 v x y m.1 l k in
     let shape = c.in-Ok-lock_two.ensures.ready.table.is_shape.pages in
+    let settled = λ (room : KnowsFew c.args.n y.start.pages y → known_next y + c.args.n ≤ y.start.pages).
+    c.in-Again.ensures.settled alone (may-be-tried c.args.n c.args.first c.args.second locks.up locks.low m.0 v x y m.1 l k c.requires.apart room) in
     ⊎_elim
-    (λ (few : y.start.pages < known_next y + c.args.n). c.in-Again.ensures.full alone (omega (arith, few, shape)))
-    (λ (room : known_next y + c.args.n ≤ y.start.pages). c.in-Again.ensures.settled alone (may-be-tried c.args.n c.args.first c.args.second locks.up locks.low m.0 v x y m.1 l k room))
+    (λ (past : y.start.pages < known_next y + c.args.n).
+    ⊎_elim
+    (λ (few : KnowsFew c.args.n y.start.pages y). c.in-Again.ensures.full alone (subst (λ (p : ℕ). KnowsFew c.args.n p y) shape few) (omega (arith, past, shape)))
+    (λ (some : KnowsFew c.args.n y.start.pages y → ⊥). settled (λ few. absurd (some few)))
+    (few-or-not c.args.n y.start.pages y))
+    (λ (room : known_next y + c.args.n ≤ y.start.pages). settled (λ _. room))
     (cases_lt y.start.pages (known_next y + c.args.n))

@@ -102,7 +102,7 @@ release_group-requires-clause-may g c =
     let h2 = holding-past _ _ _ _ _ _ _ (λ e. ne.bd (sym d2.guard.0 ∙ e)) (holding-past _ _ _ _ _ _ _ (λ e. ne.bc (sym d2.guard.0 ∙ e)) d2.holds d3.redrafted) d4.redrafted in
     let h3 = holding-past _ _ _ _ _ _ _ (λ e. ne.cd (sym d3.guard.0 ∙ e)) d3.holds d4.redrafted in
     subst (λ o. MayReleaseAll (ReleasesPlain g.K.Kind.plain g.K.Kind.layout) (c.set-2.new.self ∷ c.redraft.new.guard ∷ c.redraft-2.new.guard ∷ c.redraft-3.new.guard ∷ []) o (view c.redraft-3.new.pass)) (sym (none-said _ c.as_ref.result c.as_ref.ensures.variant))
-    (four-all g.K.Kind.plain g.K.Kind.layout g.K.Kind.is_layout g.K.Kind.spare g.K.Kind.spare_is c.args.meta.pid c.args.low.pid c.args.right.pid c.args.top.pid c.args.height separator page left half crown (view c.args.pass.now) (view c.redraft-3.new.pass) c.set-2.new.self c.redraft.new.guard c.redraft-2.new.guard c.redraft-3.new.guard stays four r.zero r.told r.full c.right_half-separator.ensures.halves c.new_root.ensures.root r.owed (tree-size _ _ _ c.redraft-3.ensures.ready.table.is_shape.size c.args.words.now.sized.0 c.args.words.now.size.takes) first d2.guard.0 d3.guard.0 d4.guard.0 h1 h2 h3 d4.holds r.apart r.home)
+    (four-all g.K.Kind.plain g.K.Kind.layout g.K.Kind.is_layout g.K.Kind.spare g.K.Kind.spare_is c.args.meta.pid c.args.low.pid c.args.right.pid c.args.top.pid c.args.height separator page left half crown (view c.args.pass.now) (view c.redraft-3.new.pass) c.set-2.new.self c.redraft.new.guard c.redraft-2.new.guard c.redraft-3.new.guard stays four r.zero r.told r.full c.right_half-separator.ensures.halves c.new_root.ensures.root r.usable (tree-size _ _ _ c.redraft-3.ensures.ready.table.is_shape.size c.args.words.now.sized.0 c.args.words.now.size.takes) first d2.guard.0 d3.guard.0 d4.guard.0 h1 h2 h3 d4.holds r.apart r.home)
 
 pub returns-clause-split : goal.returns-clause-split
 returns-clause-split g c =
@@ -125,7 +125,9 @@ returns-clause-split g c =
     (redrafts-of c.args.right c.redraft-2.new.guard _ _ d3.guard d3.redrafted d3.drafts d3.known)
     (redrafts-of c.args.top c.redraft-3.new.guard _ _ d4.guard d4.redrafted d4.drafts d4.known) in
     let first = pid-of c.args.meta c.set.new.self c.set-2.new.self c.set.ensures.guard c.set-2.ensures.guard in
-    four-released g.K.Kind.plain g.K.Kind.layout g.K.Kind.is_layout g.K.Kind.spare g.K.Kind.spare_is c.args.meta.pid c.args.low.pid c.args.right.pid c.args.top.pid c.args.height separator page left half crown (view c.args.pass.now) (view c.redraft-3.new.pass) c.set-2.new.self c.redraft.new.guard c.redraft-2.new.guard c.redraft-3.new.guard stays four r.zero r.told r.full c.right_half-separator.ensures.halves c.new_root.ensures.root r.owed _ first d2.guard.0 d3.guard.0 d4.guard.0 (subst (λ o. AreReleased c.set-2.new.self (c.redraft.new.guard ∷ c.redraft-2.new.guard ∷ c.redraft-3.new.guard ∷ []) o (view c.redraft-3.new.pass) (view c.release_group.new.pass)) (none-said _ c.as_ref.result c.as_ref.ensures.variant) c.release_group.ensures.released.0)
+    let h0 : IsHolding c.set-2.new.self.pid c.set-2.new.self.frame c.set-2.new.self.version c.set-2.new.self.dirty (view c.set-2.new.pass) = held-of c.set.new.self c.set-2.new.self (view c.set-2.new.pass) c.set-2.ensures.guard c.set-2.ensures.holds in
+    let h1 = holding-past _ _ _ _ _ _ _ (λ e. ne.ad (sym first ∙ e)) (holding-past _ _ _ _ _ _ _ (λ e. ne.ac (sym first ∙ e)) (holding-past _ _ _ _ _ _ _ (λ e. ne.ab (sym first ∙ e)) h0 d2.redrafted) d3.redrafted) d4.redrafted in
+    four-released g.K.Kind.plain g.K.Kind.layout g.K.Kind.is_layout g.K.Kind.spare g.K.Kind.spare_is c.args.meta.pid c.args.low.pid c.args.right.pid c.args.top.pid c.args.height separator page left half crown (view c.args.pass.now) (view c.redraft-3.new.pass) c.set-2.new.self c.redraft.new.guard c.redraft-2.new.guard c.redraft-3.new.guard stays four r.zero r.told r.full c.right_half-separator.ensures.halves c.new_root.ensures.root r.usable _ (tree-size _ _ _ c.redraft-3.ensures.ready.table.is_shape.size c.args.words.now.sized.0 c.args.words.now.size.takes) h1 first d2.guard.0 d3.guard.0 d4.guard.0 (subst (λ o. AreReleased c.set-2.new.self (c.redraft.new.guard ∷ c.redraft-2.new.guard ∷ c.redraft-3.new.guard ∷ []) o (view c.redraft-3.new.pass) (view c.release_group.new.pass)) (none-said _ c.as_ref.result c.as_ref.ensures.variant) c.release_group.ensures.released.0)
 
 pub set-requires-clause-word : goal.set-requires-clause-word
 set-requires-clause-word g c = tree_place _ _ _ c.args.words.now.sized.0 c.args.words.now.size.takes (omega (arith, g.K.Kind.is_layout.some_words))

@@ -66,7 +66,7 @@ release_group-requires-clause-may g c =
     let h1 = holding-past _ _ _ _ _ _ _ (λ e. ne.1 (sym d1.guard.0 ∙ e)) (holding-past _ _ _ _ _ _ _ (λ e. ne.0 (sym d1.guard.0 ∙ e)) d1.holds d2.redrafted) d3.redrafted in
     let h2 = holding-past _ _ _ _ _ _ _ (λ e. ne.2 (sym d2.guard.0 ∙ e)) d2.holds d3.redrafted in
     subst (λ o. MayReleaseAll (ReleasesPlain g.K.Kind.plain g.K.Kind.layout) (c.redraft.new.guard ∷ c.redraft-2.new.guard ∷ c.redraft-3.new.guard ∷ []) o (view c.redraft-3.new.pass)) (sym (none-said _ c.as_ref.result c.as_ref.ensures.variant))
-    (three-all g.K.Kind.plain g.K.Kind.layout g.K.Kind.is_layout g.K.Kind.spare g.K.Kind.spare_is _ _ _ separator over above page left half (view c.args.pass.now) (view c.redraft-3.new.pass) c.redraft.new.guard c.redraft-2.new.guard c.redraft-3.new.guard stays three r.told r.room r.full c.right_half-separator.ensures.halves adds r.owed (tree-size _ _ _ c.redraft-3.ensures.ready.table.is_shape.size c.args.words.now.sized.0 c.args.words.now.size.takes) d1.guard.0 d2.guard.0 d3.guard.0 h1 h2 d3.holds r.apart r.home)
+    (three-all g.K.Kind.plain g.K.Kind.layout g.K.Kind.is_layout g.K.Kind.spare g.K.Kind.spare_is _ _ _ separator over above page left half (view c.args.pass.now) (view c.redraft-3.new.pass) c.redraft.new.guard c.redraft-2.new.guard c.redraft-3.new.guard stays three r.told r.room r.full c.right_half-separator.ensures.halves adds r.usable (tree-size _ _ _ c.redraft-3.ensures.ready.table.is_shape.size c.args.words.now.sized.0 c.args.words.now.size.takes) d1.guard.0 d2.guard.0 d3.guard.0 h1 h2 d3.holds r.apart r.home)
 
 pub returns-clause-split : goal.returns-clause-split
 returns-clause-split g c =
@@ -87,7 +87,7 @@ returns-clause-split g c =
     (redrafts-of c.args.low c.redraft-2.new.guard _ _ d2.guard d2.redrafted d2.drafts d2.known)
     (redrafts-of c.args.right c.redraft-3.new.guard _ _ d3.guard d3.redrafted d3.drafts d3.known) in
     let adds : IsInner g.K.Kind.layout over → AddsPair g.K.Kind.layout over above separator c.args.right.pid = c.in-Ok.ensures.node in
-    three-released g.K.Kind.plain g.K.Kind.layout g.K.Kind.is_layout g.K.Kind.spare g.K.Kind.spare_is _ _ _ separator over above page left half (view c.args.pass.now) (view c.redraft-3.new.pass) c.redraft.new.guard c.redraft-2.new.guard c.redraft-3.new.guard stays three r.told r.room r.full c.right_half-separator.ensures.halves adds r.owed _ d1.guard.0 d2.guard.0 d3.guard.0 (subst (λ o. AreReleased c.redraft.new.guard (c.redraft-2.new.guard ∷ c.redraft-3.new.guard ∷ []) o (view c.redraft-3.new.pass) (view c.release_group.new.pass)) (none-said _ c.as_ref.result c.as_ref.ensures.variant) c.release_group.ensures.released.0)
+    three-released g.K.Kind.plain g.K.Kind.layout g.K.Kind.is_layout g.K.Kind.spare g.K.Kind.spare_is _ _ _ separator over above page left half (view c.args.pass.now) (view c.redraft-3.new.pass) c.redraft.new.guard c.redraft-2.new.guard c.redraft-3.new.guard stays three r.told r.room r.full c.right_half-separator.ensures.halves adds r.usable _ d1.guard.0 d2.guard.0 d3.guard.0 (subst (λ o. AreReleased c.redraft.new.guard (c.redraft-2.new.guard ∷ c.redraft-3.new.guard ∷ []) o (view c.redraft-3.new.pass) (view c.release_group.new.pass)) (none-said _ c.as_ref.result c.as_ref.ensures.variant) c.release_group.ensures.released.0)
 
 pub redraft-requires-clause-holds : goal.redraft-requires-clause-holds
 redraft-requires-clause-holds g c = c.requires.can.held.0

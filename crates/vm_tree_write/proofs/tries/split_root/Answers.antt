@@ -1,38 +1,31 @@
-use Rattle.std.proofs.Common.{[], ◌++◌, ◌∙◌, ◌∷◌, ap, arith, inl, inr, length, refl}
-use Rattle.std.proofs.lemmas.List.{length-append}
+use Rattle.std.proofs.Common.{◌++◌, ◌∙◌, arith, inl, inr, refl}
 use Rattle.vm_step.specs.Prelude.{view}
 use Rattle.vm_exmap.proofs.Handing.{held-on}
 use Rattle.vm_guard.specs.Groups.{guards_of}
-use Rattle.vm_guard.proofs.Pairs.{taken-both, two-many}
 use Rattle.vm_tree_rule.proofs.Whole.{tree-size}
 use Rattle.vm_tree_read.proofs.Losing.{freed-loses, loses-same, loses-then}
-use Rattle.vm_tree_write.proofs.Ends.{can-split-root, root-ended}
+use Rattle.vm_tree_write.proofs.{Ends.can-split-root, Ends.root-ended, Under.other-taken, Under.some-taken, Under.taken-two}
 use Rattle.vm_tree_write.proofs.tries.split_root.Goals as goal
 
 pub unreachable-requires : goal.unreachable-requires
 unreachable-requires g c =
     let p = c.in-Ok.ensures.ok in
-    let long = two-many p.taken.x (guards_of c.in-Ok.all.pages) p.taken.fresh.guards in
-    let none = ap length (c.take_last.ensures.none c.in_default.is).0 in
-    absurd (omega (arith, long, none))
+    some-taken p.taken.pids (guards_of c.in-Ok.all.pages) p.taken.fresh.guards 1 p.taken.fresh.count (c.take_last.ensures.none c.in_default.is).0
 
 pub unreachable-requires-in_default-take_last : goal.unreachable-requires-in_default-take_last
 unreachable-requires-in_default-take_last g c =
     let p = c.in-Ok.ensures.ok in
-    let long = two-many p.taken.x (guards_of c.in-Ok.all.pages) p.taken.fresh.guards in
-    let one = ap length c.in-Some.ensures.some ∙ length-append (guards_of c.take_last.new.self) (c.in-Some.top ∷ []) in
-    let none = ap length (c.take_last-2.ensures.none c.in_default-take_last.is).0 in
-    absurd (omega (arith, long, one, none))
+    other-taken p.taken.pids (guards_of c.in-Ok.all.pages) p.taken.fresh.guards (guards_of c.take_last.new.self) c.in-Some.top p.taken.fresh.count c.in-Some.ensures.some (c.take_last-2.ensures.none c.in_default-take_last.is).0
 
 pub end-requires : goal.end-requires
 end-requires g c =
     let p = c.in-Ok.ensures.ok in
-    (taken-both p.taken.x (guards_of c.in-Ok.all.pages) (guards_of c.take_last.new.self) (guards_of c.take_last-2.new.self) c.in-Some-take_last.right c.in-Some.top c.in-Some.ensures.some c.in-Some-take_last.ensures.some p.taken.fresh.guards).0
+    (taken-two p.taken.pids (guards_of c.in-Ok.all.pages) p.taken.fresh.guards (guards_of c.take_last.new.self) (guards_of c.take_last-2.new.self) c.in-Some-take_last.right c.in-Some.top p.taken.fresh.count c.in-Some.ensures.some c.in-Some-take_last.ensures.some).0
 
 pub write_root-requires-clause-can : goal.write_root-requires-clause-can
 write_root-requires-clause-can g c =
     let p = c.in-Ok.ensures.ok in
-    let two = (taken-both p.taken.x (guards_of c.in-Ok.all.pages) (guards_of c.take_last.new.self) (guards_of c.take_last-2.new.self) c.in-Some-take_last.right c.in-Some.top c.in-Some.ensures.some c.in-Some-take_last.ensures.some p.taken.fresh.guards).1 in
+    let two = (taken-two p.taken.pids (guards_of c.in-Ok.all.pages) p.taken.fresh.guards (guards_of c.take_last.new.self) (guards_of c.take_last-2.new.self) c.in-Some-take_last.right c.in-Some.top p.taken.fresh.count c.in-Some.ensures.some c.in-Some-take_last.ensures.some).1 in
     let met = c.requires.met in
     can-split-root g.K.Kind.plain g.K.Kind.layout g.K.Kind.is_layout g.K.Kind.spare c.args.meta c.args.root c.in-Ok.all.up c.in-Ok.all.low c.in-Some-take_last.right c.in-Some.top (guards_of c.in-Ok.all.pages) (view c.args.pass.now) (view c.prepare.new.pass) p two met.0 met.1 c.args.height (g.K.Pages.words_of c.args.page.now) met.2 c.requires.size
     (tree-size _ _ _ c.requires.ready.table.is_shape.size c.args.words.now.sized.0 c.args.words.now.size.takes) c.requires.home
@@ -52,7 +45,7 @@ free-requires-clause-frames g c =
 pub returns-clause-keeps : goal.returns-clause-keeps
 returns-clause-keeps g c =
     let p = c.in-Ok.ensures.ok in
-    let two = (taken-both p.taken.x (guards_of c.in-Ok.all.pages) (guards_of c.take_last.new.self) (guards_of c.take_last-2.new.self) c.in-Some-take_last.right c.in-Some.top c.in-Some.ensures.some c.in-Some-take_last.ensures.some p.taken.fresh.guards).1 in
+    let two = (taken-two p.taken.pids (guards_of c.in-Ok.all.pages) p.taken.fresh.guards (guards_of c.take_last.new.self) (guards_of c.take_last-2.new.self) c.in-Some-take_last.right c.in-Some.top p.taken.fresh.count c.in-Some.ensures.some c.in-Some-take_last.ensures.some).1 in
     let met = c.requires.met in
     let back = c.free.ensures.freed.back in
     (root-ended g.K.Kind.plain g.K.Kind.layout g.K.Kind.is_layout g.K.Kind.spare c.args.meta c.args.root c.in-Ok.all.up c.in-Ok.all.low c.in-Some-take_last.right c.in-Some.top (guards_of c.in-Ok.all.pages) (view c.args.pass.now) (view c.prepare.new.pass) p two met.0 met.1 c.args.height (g.K.Pages.words_of c.args.page.now) met.2 c.requires.size
@@ -61,7 +54,7 @@ returns-clause-keeps g c =
 pub returns-clause-cause : goal.returns-clause-cause
 returns-clause-cause g c =
     let p = c.in-Ok.ensures.ok in
-    let two = (taken-both p.taken.x (guards_of c.in-Ok.all.pages) (guards_of c.take_last.new.self) (guards_of c.take_last-2.new.self) c.in-Some-take_last.right c.in-Some.top c.in-Some.ensures.some c.in-Some-take_last.ensures.some p.taken.fresh.guards).1 in
+    let two = (taken-two p.taken.pids (guards_of c.in-Ok.all.pages) p.taken.fresh.guards (guards_of c.take_last.new.self) (guards_of c.take_last-2.new.self) c.in-Some-take_last.right c.in-Some.top p.taken.fresh.count c.in-Some.ensures.some c.in-Some-take_last.ensures.some).1 in
     let met = c.requires.met in
     let back = c.free.ensures.freed.back in
     inl (

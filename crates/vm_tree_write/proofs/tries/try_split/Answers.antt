@@ -1,11 +1,11 @@
-use Rattle.std.proofs.Common.{◌∙◌, subst}
+use Rattle.std.proofs.Common.{◌∙◌, subst, suc}
 use Rattle.std.proofs.lemmas.Bool.{false≢true}
 use Rattle.vm_step.specs.Prelude.{view}
 use Rattle.vm_exmap.proofs.Handing.{held-on}
 use Rattle.vm_tree_rule.specs.Seeks.{IsMet, KnowsMet}
 use Rattle.vm_tree_rule.proofs.Surely.{known-at}
 use Rattle.vm_tree_read.proofs.Losing.{loses-same, loses-then, reads-lose}
-use Rattle.vm_tree_write.proofs.Settling.{knows-to-split}
+use Rattle.vm_tree_write.proofs.Settling.{awaited-in-use, knows-to-split, meta-in-use}
 use Rattle.vm_tree_write.proofs.tries.try_split.Goals as goal
 use Rattle.vm_tree_write.proofs.Trying.{roomy-lost, roomy-valid, tried-below, tried-root, turn-reads}
 
@@ -110,10 +110,20 @@ returns-in-Roomy-clause-sure g c tells resident holds =
 
 pub returns-in-Below-clause-sure : goal.returns-in-Below-clause-sure
 returns-in-Below-clause-sure g c tells resident holds =
-    let known = subst (λ m. KnowsMet m (view c.seek_full.new.pass)) c.in-Below.is (c.in-Ok.ensures.known tells resident) in
-    c.split_below.ensures.sure (knows-to-split c.in-Below.parent c.in-Below.node (view c.args.pass.now) (view c.seek_full.new.pass) c.in-Ok.ensures.reads holds c.in-Ok.ensures.locks.unheld known.0 known.1)
+    let w = view c.seek_full.new.pass in
+    let known = subst (λ m. KnowsMet m w) c.in-Below.is (c.in-Ok.ensures.known tells resident) in
+    let met = subst (λ m. IsMet g.K.Kind.layout g.K.Kind.spare (view c.args.pass.now) (g.K.Kind.rank c.args.key.now) m (g.K.Pages.words_of c.seek_full.new.over) (g.K.Pages.words_of c.seek_full.new.page) w) c.in-Below.is c.in-Ok.ensures.met in
+    let there = c.in-Ok.ensures.ready.table.tells_is ∙ tells in
+    c.split_below.ensures.sure (knows-to-split c.in-Below.parent c.in-Below.node (view c.args.pass.now) w c.in-Ok.ensures.reads holds c.in-Ok.ensures.locks.unheld there
+    (awaited-in-use g.K.Kind.layout g.K.Kind.is_layout c.in-Below.parent.pid c.in-Below.parent.word (suc met.level) (g.K.Kind.rank c.args.key.now) w there met.awaits)
+    (awaited-in-use g.K.Kind.layout g.K.Kind.is_layout c.in-Below.node.pid c.in-Below.node.word met.level (g.K.Kind.rank c.args.key.now) w there met.below) known.0 known.1)
 
 pub returns-clause-sure : goal.returns-clause-sure
 returns-clause-sure g c tells resident holds =
-    let known = subst (λ m. KnowsMet m (view c.seek_full.new.pass)) c.in-Root.is (c.in-Ok.ensures.known tells resident) in
-    c.split_root.ensures.sure (knows-to-split c.in-Root.meta c.in-Root.root (view c.args.pass.now) (view c.seek_full.new.pass) c.in-Ok.ensures.reads holds c.in-Ok.ensures.locks.unheld known.0 known.1)
+    let w = view c.seek_full.new.pass in
+    let known = subst (λ m. KnowsMet m w) c.in-Root.is (c.in-Ok.ensures.known tells resident) in
+    let met = subst (λ m. IsMet g.K.Kind.layout g.K.Kind.spare (view c.args.pass.now) (g.K.Kind.rank c.args.key.now) m (g.K.Pages.words_of c.seek_full.new.over) (g.K.Pages.words_of c.seek_full.new.page) w) c.in-Root.is c.in-Ok.ensures.met in
+    let there = c.in-Ok.ensures.ready.table.tells_is ∙ tells in
+    c.split_root.ensures.sure (knows-to-split c.in-Root.meta c.in-Root.root (view c.args.pass.now) w c.in-Ok.ensures.reads holds c.in-Ok.ensures.locks.unheld there
+    (meta-in-use g.K.Kind.layout g.K.Kind.is_layout c.in-Root.meta.pid c.in-Root.meta.word w met.named.zero)
+    (awaited-in-use g.K.Kind.layout g.K.Kind.is_layout c.in-Root.root.pid c.in-Root.root.word c.in-Root.height (g.K.Kind.rank c.args.key.now) w there met.awaits) known.0 known.1)
