@@ -240,6 +240,7 @@ impl OptGuard {
         ensures denied { IfErr result (λ deny. IsDenied AgainOrWorn (KeptWord self.word) UnlockedExpected self.pid deny (view pass.old) (view pass.new)) }
         ensures bare { IfErr result (λ _. LeavesTable (view pass.old) (view pass.new)) }
         ensures worn { version_of self.word ≡ MAX_VERSION → result ≡ Err (Deny.Worn self.pid) }
+        ensures unworn { IfErr result (λ deny. (q : _) → deny ≡ Deny.Worn q → version_of self.word ≡ MAX_VERSION) }
         ensures sure { IsAlone (view pass.old) → IsKnownFree self.pid (view pass.old)
             → SameOrUnlocked self.word (known_word self.pid (view pass.old)) → version_of self.word < MAX_VERSION → IsOk result }
     {

@@ -50,3 +50,6 @@ returns-then-version-eq-MAX_VERSION-clause-bare g c = looked-bare c.look_silentl
 
 pub returns-in-Lost-clause-bare : goal.returns-in-Lost-clause-bare
 returns-in-Lost-clause-bare g c = lost-word c.in-Lost.ensures.told (c.in-Lost.ensures.lost _ refl)
+
+pub returns-then-version-eq-MAX_VERSION-clause-unworn : goal.returns-then-version-eq-MAX_VERSION-clause-unworn
+returns-then-version-eq-MAX_VERSION-clause-unworn g c q e = sym c.version.ensures ∙ c.if-version-eq-MAX_VERSION.true
