@@ -49,6 +49,10 @@ pub trait Merges: Edits {
             → MatchOption result (HasNoPair Self.layout (Self.words_of page.now) (Self.rank key.now))
             (λ b. AreBeside Self.layout (Self.words_of page.now) (Self.rank key.now) (Self.rank b.low) b.left (Self.rank b.separator) b.right) };
 
+    /// Whether the page has just two pairs.
+    fn has_two(page: &Self::Page) -> bool
+        ensures { IsAnswer result (length (pairs_of Self.layout (Self.words_of page.now)) ≡ 2) };
+
     /// What it changes in any page whose keys rise that the child of this lowest key goes, and the child's page; none where there is no such child.
     fn remove_edit(page: &Self::Page, key: &Self::Key) -> Option<(u64, Self::Edit)>
         ensures child { (low high : ℕ) → Rises low high (pairs_of Self.layout (Self.words_of page.now))

@@ -321,6 +321,10 @@ impl<S: OfSize<N>, const N: usize> Merges for WordKeys<S, N> {
         beside(page, *key)
     }
 
+    fn has_two(page: &PageBuf<N>) -> bool {
+        count_of(page) == 2
+    }
+
     fn remove_edit(page: &PageBuf<N>, key: &u64) -> Option<(u64, Edit)> {
         remove_edit(page, *key)
     }

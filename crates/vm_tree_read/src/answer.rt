@@ -5,7 +5,7 @@ ghost use Rattle.vm_node.specs.Loads.{IsPageWith, Tells};
 ghost use Rattle.vm_step.specs.Prelude.{IsReady, IsSamePass, MayStep, NoneExpected, view};
 ghost use Rattle.vm_guard.specs.{Guards.IsReading, Guards.Loads, Guards.placed, PageWords.LoadsWords};
 ghost use Rattle.vm_guard.specs.Denied.{AgainOrNeed, IsDenied, KeptWord};
-ghost use Rattle.vm_tree_rule.specs.{Leaves.ReadsOn, Standing.Awaits, Standing.IsOpened};
+ghost use Rattle.vm_tree_rule.specs.{Above.IsAbove, Above.KnowsAbove, Leaves.ReadsOn, Standing.Awaits, Standing.IsOpened};
 ghost use Rattle.vm_tree_rule.specs.Resident.{IsKnownNow, IsReadNow, KnowsReadable, KnowsResident};
 ghost use Rattle.vm_tree_rule.specs.Few.{LoadsHeight, LoadsWithin, ReadsInPlace};
 ghost use Rattle.vm_tree_rule.specs.Seeks.{HasLoaded};
@@ -18,7 +18,7 @@ use vm_kind::{Kind, Pages, TreeOf};
 use vm_node::Place;
 use vm_rule::words::{Pass, Words};
 use vm_step::{Saw, frame_place};
-use vm_tree_rule::{InPlace, Turn, descend};
+use vm_tree_rule::{InPlace, Reached, Turn, descend, reach};
 
 /// Whether the page is a leaf that covers the key, from the words loaded that tell its tag and its fences.
 fn is_leaf_for<K: Kind, P: Place>(place: &mut P, key: &K::Key) -> bool
@@ -107,6 +107,35 @@ pub fn leaf_at<K: Kind, B: Block>(
         return Ok(guard);
     }
     Err(no_leaf(words, pass, &guard))
+}
+
+/// The same for a writer that may change the pages above the leaf with it: as far as it may, these stay open.
+pub fn leaf_below<K: Kind, B: Block>(
+    words: &Words<TreeOf<K>, B>,
+    pass: &mut Pass<TreeOf<K>>,
+    key: &K::Key,
+) -> Result<Reached, Turn>
+    requires pass { MayStep words.now.table.shared.table_id pass.old }
+    requires pages { 1 ≤ words.now.table.shared.key.pages }
+    ensures pass { IsSamePass pass.old pass.new }
+    ensures ready { IsReady words.now.table.shared.key B.tells words.now.table.shared.table_id pass.new }
+    ensures reads { IfOk result (λ r. ReadsOn (view pass.old) (view pass.new) × IsOpened (view pass.old) r.leaf.pid r.leaf.word r.leaf.frame (view pass.new)) }
+    ensures leaf { IfOk result (λ r. (loaded : List (ℕ × ℕ)) × HasLoaded (view pass.new) r.leaf.pid loaded × TellLeaf K.layout loaded (K.rank key.now)) }
+    ensures awaits { IfOk result (λ r. Awaits K.layout (view pass.new) r.leaf.pid r.leaf.word 0 (K.rank key.now)) }
+    ensures above { IfOk result (λ r. IsAbove K.layout (view pass.old) (K.rank key.now) r.above r.leaf.pid (view pass.new)) }
+    ensures err { IfErr result (λ turn. IsTurnedBack K.layout (view pass.old) (K.rank key.now) turn (view pass.new)) }
+    ensures sure { B.tells ≡ true → KnowsResident (view pass.old) → IsOk result }
+    ensures known { B.tells ≡ true → KnowsResident (view pass.old)
+        → IfOk result (λ r. IsKnownNow r.leaf.pid r.leaf.word (view pass.new) × KnowsAbove r.above (view pass.new)) }
+{
+    let reached = match reach(words, pass, key) {
+        Ok(reached) => reached,
+        Err(turn) => return Err(turn),
+    };
+    if is_leaf_in_place(words, pass, &reached.leaf, key) {
+        return Ok(reached);
+    }
+    Err(no_leaf(words, pass, &reached.leaf))
 }
 
 /// Reads the words of the leaf under the guard into the page, for a writer that was led here by its key. They are a leaf's that covers the key, and have to be

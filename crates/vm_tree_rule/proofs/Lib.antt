@@ -8,3 +8,4 @@ pub mod Onward
 pub mod Seeking
 pub mod Surely
 pub mod Counting
+pub mod Reaching

@@ -1,3 +1,4 @@
+pub mod Above
 pub mod Few
 pub mod Leaves
 pub mod Resident

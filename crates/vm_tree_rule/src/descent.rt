@@ -5,7 +5,7 @@ ghost use Rattle.vm_step.specs.Prelude.{IsReady, IsSamePass, MayStep, ReadsAsBef
 ghost use Rattle.vm_guard.specs.{Guards.IsReading, PageWords.LoadsWords};
 ghost use Rattle.vm_tree_rule.specs.Leaves.{LeavesWord, ReadsOn};
 ghost use Rattle.vm_tree_rule.specs.Few.{HasHeight, LoadsAtMost, LoadsHeight, LoadsWithin, ReadsInPlace};
-ghost use Rattle.vm_tree_rule.specs.Seeks.{IsMetaRead, IsNamedRoot, GoesPast, TellChildIn, TellNoChild};
+ghost use Rattle.vm_tree_rule.specs.Seeks.{HasLoaded, IsMetaRead, IsNamedRoot, GoesPast, TellChild, TellChildIn, TellNoChild};
 ghost use Rattle.vm_tree_rule.specs.Resident.{IsReadNow, KnowsLocks, KnowsReadable};
 ghost use Rattle.vm_tree_rule.specs.Standing.{Awaits, AwaitsNode, fence_of, HasSteppedDown, IsOpened, IsStand, NamesNode, StaysOpen, tree_pages};
 ghost use Rattle.vm_tree_rule.specs.Turns.{IsStopped, IsTurnedBack};
@@ -22,7 +22,7 @@ use vm_step::frame_place;
 /// Looks at the page that the parent's words name, and then validates the parent, whatever the look showed: words of a parent that stands no
 /// longer name nobody to wait for. The parent's words are not validated before: where they name no page, the validation fails, or they are no
 /// tree's.
-pub(crate) fn enter<K: Kind, B: Block>(
+pub fn enter<K: Kind, B: Block>(
     words: &Words<TreeOf<K>, B>,
     pass: &mut Pass<TreeOf<K>>,
     parent: &OptGuard,
@@ -46,6 +46,9 @@ pub(crate) fn enter<K: Kind, B: Block>(
     ensures locks { IfOk result (λ _. KnowsLocks (view pass.new)) }
     ensures others { IfOk result (λ guard. (q : ℕ) → q ≢ guard.pid
         → ReadsAsBefore (view pass.old) (view pass.new) q × LeavesWord q (view pass.old) (view pass.new)) }
+    ensures not_zero { IfOk result (λ guard. guard.pid ≢ 0) }
+    ensures beside { (shares : ℕ → ℕ) → B.tells ≡ true → IsReadNow shares parent.now.pid parent.now.word (view pass.old)
+        → IfOk result (λ guard. (q x : ℕ) → q ≢ guard.pid → IsReadNow shares q x (view pass.old) → IsReadNow shares q x (view pass.new)) }
     ensures words { LoadsWords [] (view pass.old) (view pass.new) }
 {
     let pages = words.pages as u64;
@@ -111,6 +114,13 @@ pub(crate) fn step<K: Kind, B: Block>(
         → IsOpened v stand.now.guard.pid stand.now.guard.word stand.now.guard.frame (view pass.new))) }
     ensures passed { IfOk result (λ below. GoesPast K.layout K.spare stand.now.guard.pid stand.now.guard.word stand.now.guard.frame (K.rank key.now)
         below.guard.pid (view pass.old) (view pass.new)) }
+    ensures named { IfOk result (λ below. (loaded : List (ℕ × ℕ)) × HasLoaded (view pass.new) stand.now.guard.pid loaded
+        × TellChild K.layout loaded (K.rank key.now) below.guard.pid) }
+    ensures others { IfOk result (λ below. (q : ℕ) → q ≢ below.guard.pid → q ≢ stand.now.guard.pid
+        → ReadsAsBefore (view pass.old) (view pass.new) q × LeavesWord q (view pass.old) (view pass.new)) }
+    ensures not_zero { IfOk result (λ below. below.guard.pid ≢ 0) }
+    ensures beside { (shares : ℕ → ℕ) → B.tells ≡ true → IsReadNow shares stand.now.guard.pid stand.now.guard.word (view pass.old)
+        → IfOk result (λ below. (q x : ℕ) → q ≢ below.guard.pid → IsReadNow shares q x (view pass.old) → IsReadNow shares q x (view pass.new)) }
     ensures err { IfErr result (λ turn. (v : _) → IsOpened v stand.now.guard.pid stand.now.guard.word stand.now.guard.frame (view pass.old)
         → IsTurnedBack K.layout v (K.rank key.now) turn (view pass.new)) }
     ensures sure { (shares : ℕ → ℕ) → B.tells ≡ true → IsReadNow shares stand.now.guard.pid stand.now.guard.word (view pass.old) → IsOk result }

@@ -1,13 +1,15 @@
 //! The coupled way down a tree on pages, over a kind of nodes: for any number of passes, without a lock.
 #![tactic(auto)]
 
+pub mod above;
 pub mod descent;
 mod fault;
 mod in_place;
 pub mod seek;
 mod turn;
 
-pub use descent::descend;
+pub use above::{Above, Reached, reach};
+pub use descent::{descend, enter};
 pub use fault::TreeFault;
 pub use in_place::InPlace;
 pub use seek::{Met, seek_full};

@@ -8,7 +8,7 @@ use Rattle.vm_tree_rule.proofs.Downward.{awaits-named}
 use Rattle.vm_tree_rule.proofs.Entering.{ended, lost, stepped}
 use Rattle.vm_tree_rule.proofs.Onward.{others-stay, stays}
 use Rattle.vm_tree_rule.proofs.Readings.{leaves-self, reads-self, valid-reads}
-use Rattle.vm_tree_rule.proofs.Surely.{free-below, known-at, known-begun, known-same, locks-same, looked, looked-known, looked-reading, named-below}
+use Rattle.vm_tree_rule.proofs.Surely.{free-below, known-at, known-begun, known-beside, known-same, locks-same, looked, looked-known, looked-reading, named-below}
 use Rattle.vm_tree_rule.proofs.Whole.{tree-size}
 
 pub returns-in-Err-clause-err : goal.returns-in-Err-clause-err
@@ -102,3 +102,9 @@ returns-in-Err-started-clause-words g c = words-then _ _ _ _ _ c.start-started.e
 
 pub returns-in-Err-validate_silently-clause-words : goal.returns-in-Err-validate_silently-clause-words
 returns-in-Err-validate_silently-clause-words g c = words-then _ _ _ _ _ c.start-started.ensures.words c.validate_silently-2.ensures.words
+
+pub returns-in-Ok-started-clause-beside : goal.returns-in-Ok-started-clause-beside
+returns-in-Ok-started-clause-beside g c shares tells k q x ne read =
+    let begun = subst (λ r. IfOk r (λ guard. (guard.pid ≡ c.args.named) × BeginsReading c.args.named guard.word guard.frame (view c.args.pass.now) (view c.start-started.new.pass))) c.in-Ok-started.is c.start-started.ensures.ok in
+    let valid = c.in-Ok-validate_silently.ensures.ok in
+    known-same _ _ _ _ (valid-reads _ _ _ _ _ _ valid).0 valid.table (known-beside q x c.args.named _ _ _ _ (λ e. ne (e ∙ sym begun.0)) begun.1 read)

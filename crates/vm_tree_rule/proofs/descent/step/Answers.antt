@@ -9,8 +9,8 @@ use Rattle.vm_tree_rule.proofs.descent.step.Goals as goal
 use Rattle.vm_tree_rule.proofs.{Counting.place-within, Downward.awaits-later, Downward.node-later, Downward.stand-awaits}
 use Rattle.vm_tree_rule.proofs.Entering.{astray-turn, opened-reads, refused-turn, turned, untold}
 use Rattle.vm_tree_rule.proofs.Onward.{goes-nowhere, goes-on, goes-to}
-use Rattle.vm_tree_rule.proofs.Readings.{leaves-self, loads-reads, opened-earlier, opened-later, opened-loads, reads-self, reads-then}
-use Rattle.vm_tree_rule.proofs.Seeking.{passes-by}
+use Rattle.vm_tree_rule.proofs.Readings.{leaves-self, leaves-then, loads-reads, opened-earlier, opened-later, opened-loads, reads-self, reads-then}
+use Rattle.vm_tree_rule.proofs.Seeking.{beside-loads, passes-by}
 use Rattle.vm_tree_rule.proofs.Surely.{known-at, known-same}
 use Rattle.vm_tree_rule.proofs.Whole.{tree-size}
 
@@ -157,3 +157,22 @@ returns-in-Err-validate_silently-clause-sure g c shares tells known =
 
 pub returns-in-Err-validate_silently-clause-few : goal.returns-in-Err-validate_silently-clause-few
 returns-in-Err-validate_silently-clause-few g c = place-within _ _ _ _ _ _ _ _ c.in-None.ensures.found c.in-Err-validate_silently.ensures.words
+
+pub returns-in-Ok-clause-named : goal.returns-in-Ok-clause-named
+returns-in-Ok-clause-named g c =
+    let f = c.in-Some.ensures.found in
+    let page = tells-page g.K.Kind.layout f.loaded (g.K.Kind.rank c.args.key.now) c.in-Some.child.page (g.K.Kind.rank c.in-Some.child.low) (option_map g.K.Kind.rank c.in-Some.child.next) f.tells in
+    (f.loaded, (_, c.in-Ok.ensures.parent.loads ∙ f.loads.loads), subst (TellChild g.K.Kind.layout f.loaded (g.K.Kind.rank c.args.key.now)) (sym c.in-Ok.ensures.ok.0) page)
+
+pub returns-in-Ok-clause-others : goal.returns-in-Ok-clause-others
+returns-in-Ok-clause-others g c q below here =
+    let loads = c.in-Some.ensures.found.loads in
+    let first = beside-loads q _ _ _ _ _ _ here loads in
+    let then = c.in-Ok.ensures.others q below in
+    (record { reading = then.0.reading ∙ first.same.reading; loads = then.0.loads ∙ first.same.loads }, leaves-then q _ _ _ first.leaves then.1)
+
+pub returns-in-Ok-clause-beside : goal.returns-in-Ok-clause-beside
+returns-in-Ok-clause-beside g c shares tells known q x ne read =
+    let loads = c.in-Some.ensures.found.loads in
+    let reads = (loads-reads _ _ _ _ _ _ loads).0 in
+    c.in-Ok.ensures.beside shares tells (known-same _ _ _ _ reads loads.table known) q x ne (known-same q x _ _ reads loads.table read)

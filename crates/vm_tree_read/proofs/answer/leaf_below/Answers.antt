@@ -1,0 +1,48 @@
+use Rattle.vm_step.specs.Prelude.{view}
+use Rattle.vm_tree_rule.proofs.{Downward.awaits-later, Surely.known-same}
+use Rattle.vm_tree_rule.proofs.Reaching.{above-beside, above-known}
+use Rattle.vm_tree_rule.proofs.Readings.{loads-reads, opened-loads, reads-then}
+use Rattle.vm_tree_rule.proofs.Seeking.{beside-loads}
+use Rattle.vm_tree_read.proofs.answer.leaf_below.Goals as goal
+
+pub returns-in-Err-clause-sure : goal.returns-in-Err-clause-sure
+returns-in-Err-clause-sure g c tells k = c.in-Err.ensures.sure tells k
+
+pub returns-then-is_leaf_in_place-clause-reads : goal.returns-then-is_leaf_in_place-clause-reads
+returns-then-is_leaf_in_place-clause-reads g c =
+    let loads = c.is_leaf_in_place.ensures.found.loads in
+    (reads-then _ _ _ c.in-Ok.ensures.reads.0 (loads-reads _ _ _ _ _ _ loads), opened-loads _ _ _ _ _ _ _ c.in-Ok.ensures.reads.1 loads)
+
+pub returns-then-is_leaf_in_place-clause-leaf : goal.returns-then-is_leaf_in_place-clause-leaf
+returns-then-is_leaf_in_place-clause-leaf g c =
+    let f = c.is_leaf_in_place.ensures.found in
+    (f.loaded, (_, f.loads.loads), λ page with. (f.tells page with).yes c.if-is_leaf_in_place.true)
+
+pub returns-then-is_leaf_in_place-clause-awaits : goal.returns-then-is_leaf_in_place-clause-awaits
+returns-then-is_leaf_in_place-clause-awaits g c = awaits-later _ _ _ _ _ _ (loads-reads _ _ _ _ _ _ c.is_leaf_in_place.ensures.found.loads).0 c.in-Ok.ensures.awaits
+
+pub returns-then-is_leaf_in_place-clause-above : goal.returns-then-is_leaf_in_place-clause-above
+returns-then-is_leaf_in_place-clause-above g c =
+    let loads = c.is_leaf_in_place.ensures.found.loads in
+    let r = c.in-Ok.reached in
+    above-beside g.K.Kind.layout (view c.args.pass.now) (g.K.Kind.rank c.args.key.now) r.above r.leaf.pid _ _ (loads-reads _ _ _ _ _ _ loads) (λ q ne. beside-loads q _ _ _ _ _ _ ne loads) c.in-Ok.ensures.above
+
+pub returns-then-is_leaf_in_place-clause-known : goal.returns-then-is_leaf_in_place-clause-known
+returns-then-is_leaf_in_place-clause-known g c tells k =
+    let loads = c.is_leaf_in_place.ensures.found.loads in
+    let reads = (loads-reads _ _ _ _ _ _ loads).0 in
+    let known = c.in-Ok.ensures.known tells k in
+    (known-same _ _ _ _ reads loads.table known.0, above-known c.in-Ok.reached.above _ _ reads loads.table known.1)
+
+pub returns-clause-err : goal.returns-clause-err
+returns-clause-err g c =
+    let f = c.is_leaf_in_place.ensures.found in
+    c.no_leaf.ensures.turn _ (g.K.Kind.rank c.args.key.now) f.loaded (opened-loads _ _ _ _ _ _ _ c.in-Ok.ensures.reads.1 f.loads) (awaits-later _ _ _ _ _ _ (loads-reads _ _ _ _ _ _ f.loads).0 c.in-Ok.ensures.awaits)
+    (_, f.loads.loads) (λ page with. (f.tells page with).no c.if-is_leaf_in_place.false)
+
+pub returns-clause-sure : goal.returns-clause-sure
+returns-clause-sure g c tells k =
+    let f = c.is_leaf_in_place.ensures.found in
+    let reads = (loads-reads _ _ _ _ _ _ f.loads).0 in
+    absurd (c.no_leaf.ensures.sure (λ _. 0) (g.K.Kind.rank c.args.key.now) f.loaded tells (known-same _ _ _ _ reads f.loads.table (c.in-Ok.ensures.known tells k).0) (awaits-later _ _ _ _ _ _ reads c.in-Ok.ensures.awaits)
+    (_, f.loads.loads) (λ page with. (f.tells page with).no c.if-is_leaf_in_place.false))
