@@ -13,7 +13,7 @@ use Rattle.vm_tree_rule.specs.declared.fault.TreeFault.{TreeFault}
 use Rattle.vm_tree_read.specs.Ranges.{IsRangeFaulted, IsRangeReplied}
 use Rattle.vm_tree_read.specs.Reads.{IsAnswered, IsOfKind}
 use Rattle.vm_tree_read.specs.Waiting.{IsFaulted as IsReadFaulted, IsReplied as IsReadReplied, Waits}
-use Rattle.vm_tree_write.specs.Splits.{KeepsLocksOnly}
+use Rattle.vm_tree_split.specs.Splits.{KeepsLocksOnly}
 use Rattle.vm_tree_write.specs.Waiting.{IsDelRound, IsPutFaulted, IsPutFaulted as put_faulted, IsPutRound, IsWriteFaulted, IsWriteFaulted as faulted, IsWriteReplied}
 use Rattle.vm_tree_write.specs.Writes.{HasKeyIn, HasValueIn, IsVain, IsWornLeaf, IsWriteDone}
 use Rattle.vm_drive.specs.{Calls.KeepsPass, Shows.IsReplyShown, TreeCalls.as_said, TreeCalls.IsTreeCall}

@@ -6,7 +6,8 @@ use Rattle.vm_rule.proofs.Entries.{append-none}
 use Rattle.vm_step.specs.Prelude.{View}
 use Rattle.vm_tree_rule.specs.Leaves.{OnlyReads}
 use Rattle.vm_tree_read.specs.{Ranges.HoldsOn, Waiting.Waits}
-use Rattle.vm_tree_write.specs.{Splits.KeepsLocksOnly, Writes.OnlyWrites}
+use Rattle.vm_tree_split.specs.{Splits.KeepsLocksOnly}
+use Rattle.vm_tree_write.specs.{Writes.OnlyWrites}
 use Rattle.vm_drive.specs.Calls.{KeepsPass}
 
 pub same-front : {A : Type 0} (l m : List A) → l ≡ m → StartsWith l m

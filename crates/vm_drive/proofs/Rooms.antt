@@ -18,12 +18,12 @@ use Rattle.vm_pool.specs.{Brings.SaysDry, declared.bring.Bring.Bring, Sweeps.IsS
 use Rattle.vm_pool.specs.declared.bring.Bring.TheVariants as brings
 use Rattle.vm_tree_rule.specs.declared.fault.TreeFault.{TreeFault}
 use Rattle.vm_tree_read.specs.Waiting.{NamesFault}
-use Rattle.vm_tree_write.specs.Prepares.{IsLockDenied, IsLockDenied as locks, IsNotLocked, IsRefusedPages, IsUntaken, IsUntaken as untaken}
-use Rattle.vm_tree_write.specs.Tries.{IsEnded, IsEnded as ends, IsUnsplit, IsUnsplit as unsplit}
+use Rattle.vm_tree_split.specs.Prepares.{IsDeniedAt, IsLockDenied, IsLockedMeanwhile, IsNotLocked, IsRefusedPages, IsUntaken, IsUntaken as untaken}
+use Rattle.vm_tree_split.specs.Tries.{IsEnded, IsEnded as ends, IsUnsplit, IsUnsplit as unsplit}
 use Rattle.vm_tree_write.specs.Waiting.{IsRoomFault, IsRoomFault as rooms}
-use Rattle.vm_tree_write.specs.declared.tries.TrySplit.TheVariants as splits
+use Rattle.vm_tree_split.specs.declared.tries.TrySplit.TheVariants as splits
 use Rattle.vm_tree_rule.proofs.Readings.{each-behind}
-use Rattle.vm_tree_write.proofs.{Roomy.roomy-start, Seeing.sees-few, Seeing.sees-room}
+use Rattle.vm_tree_split.proofs.{Roomy.roomy-start, Seeing.sees-few, Seeing.sees-room}
 use Rattle.vm_drive.specs.{Calls.KeepsPass, TreeCalls.as_said}
 use Rattle.vm_drive.proofs.Called.{HasFoundNext, HasFoundWorn, IsCalled}
 use Rattle.vm_drive.proofs.{Bringing.fault-called, Doing.keeps-then, Keeping.all-pass, Keeping.reads-pass, Lists.starts-then, Sweeping.swept-noted}
@@ -88,17 +88,21 @@ swept-called size call fault u v w want cap old new report (brings.Worn p) k min
     subst (λ (f : TreeFault). IsCalled size call (Err f) u w) (sym names) (mine, swept-worn want cap old new report v w p s says.2.first)
 
 module _ (L : Layout) where
-  -- one of two pages could not be locked
-  deny-worn : (a b : OptGuard) (p : ℕ) (v w : View Said) → a.pid < v.start.pages → b.pid < v.start.pages → IsLockDenied L a b (denies.Worn p) v w → HasFoundWorn p w
-  deny-worn a b p v w la lb (locks.first_denied d) = denied-worn UnlockedExpected (KeptWord a.word) a.pid p v w la d
-  deny-worn a b p v w la lb (locks.second_denied frame version dirty x y is l d r) =
-      let inside : b.pid < x.start.pages = subst (λ (o : Origin). b.pid < o.pages) (sym l.elsewhere.steady.start) lb in
-      max-later y w p r.elsewhere.steady.start (r.done, r.elsewhere.steady.log) (denied-worn UnlockedExpected (KeptWord b.word) b.pid p x y inside d)
+  -- one of these pages could not be locked
+  deny-worn : (n : ℕ) (gs : List OptGuard) (p : ℕ) (v w : View Said) → v.start.pages ≡ n → Each (λ (g : OptGuard). g.pid < n) gs → IsLockDenied L gs (denies.Worn p) v w → HasFoundWorn p w
+  deny-worn n [] p v w same inside k = absurd k
+  deny-worn n (g ∷ gs) p v w same inside k =
+      ⊎_elim
+      (λ (d : IsDeniedAt L g (denies.Worn p) v w). denied-worn UnlockedExpected (KeptWord g.word) g.pid p v w (subst (λ (k : ℕ). g.pid < k) (sym same) inside.0) d.denied)
+      (λ (m : IsLockedMeanwhile L g (IsLockDenied L gs (denies.Worn p)) v w).
+      max-later m.done w p m.back.elsewhere.steady.start (m.back.done, m.back.elsewhere.steady.log)
+      (deny-worn n gs p m.locked m.done (ap (λ (o : Origin). o.pages) m.taken.elsewhere.steady.start ∙ same) inside.1 m.inner))
+      k
 
   lock-worn : (a b : OptGuard) (p : ℕ) (v w : View Said) → a.pid < v.start.pages → b.pid < v.start.pages → IsNotLocked L a b (denies.Worn p) v w → HasFoundWorn p w
   lock-worn a b p v w la lb h =
       let here : (q : ℕ) → q < v.start.pages → q < h.asked.start.pages = λ q l. subst (λ (o : Origin). q < o.pages) (sym h.moves.start) l in
-      max-later h.back w p h.frees.start (h.freed, h.frees.log) (deny-worn a b p h.asked h.back (here a.pid la) (here b.pid lb) h.denied)
+      max-later h.back w p h.frees.start (h.freed, h.frees.log) (deny-worn h.asked.start.pages (a ∷ b ∷ []) p h.asked h.back refl (here a.pid la, (here b.pid lb, tt)) h.denied)
 
   module _ (n : ℕ) (a b : OptGuard) (answer : Fresh) (v w : View Said) (h : IsRefusedPages L n a b answer v w) where
     locked-start : h.locked.start ≡ v.start

@@ -9,7 +9,7 @@ use Rattle.vm_tree_rule.specs.declared.fault.TreeFault.{TreeFault}
 use Rattle.vm_tree_read.specs.Ranges.{IsRangeFaulted, IsRangeReplied}
 use Rattle.vm_tree_read.specs.Reads.{IsOfKind}
 use Rattle.vm_tree_read.specs.Waiting.{IsFaulted, IsReplied, Waits}
-use Rattle.vm_tree_write.specs.Splits.{KeepsLocksOnly}
+use Rattle.vm_tree_split.specs.Splits.{KeepsLocksOnly}
 use Rattle.vm_tree_write.specs.Waiting.{IsDelRound, IsPutFaulted, IsPutRound, IsWriteFaulted, IsWriteReplied}
 use Rattle.vm_tree_write.specs.Writes.{HasKeyIn, HasValueIn}
 

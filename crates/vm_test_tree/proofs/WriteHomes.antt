@@ -5,7 +5,8 @@ use Rattle.vm_tree_model.specs.Layout.{Layout}
 use Rattle.vm_step.specs.Prelude.{View}
 use Rattle.vm_tree_rule.specs.declared.fault.TreeFault.{TreeFault}
 use Rattle.vm_tree_read.specs.Waiting.{Waits}
-use Rattle.vm_tree_write.specs.{declared.write.TryWrite.TryWrite, Splits.KeepsLocksOnly}
+use Rattle.vm_tree_split.specs.{Splits.KeepsLocksOnly}
+use Rattle.vm_tree_write.specs.{declared.write.TryWrite.TryWrite}
 use Rattle.vm_tree_write.specs.declared.write.TryWrite.TheVariants as writes
 use Rattle.vm_tree_write.specs.Waiting.{faulted, IsDelRound, IsPutFaulted, IsPutRound, IsWriteFaulted, IsWriteReplied, missing, tight, worn}
 use Rattle.vm_tree_write.specs.Writes.{IsDel, IsPut, IsSwap, OnlyWrites}

@@ -11,8 +11,8 @@ use Rattle.vm_guard.specs.Guards.{IsLocked, IsReleased}
 use Rattle.vm_guard.specs.Sure.{IsKnownFree, IsUnlockedWord, known_next, known_word}
 use Rattle.vm_tree_laws.specs.Tied.{Tied}
 use Rattle.vm_tree_rule.specs.Resident.{KnowsResident}
-use Rattle.vm_tree_write.specs.Drafts.{IsRedrafted, KnowsSameStates}
-use Rattle.vm_tree_write.proofs.Settling.{locked-alone, locked-next, locked-word}
+use Rattle.vm_tree_split.specs.Drafts.{IsRedrafted, KnowsSameStates}
+use Rattle.vm_tree_split.proofs.Settling.{locked-alone, locked-next, locked-word}
 
 module _ {X : Type 0} (p version : ℕ) (said : Option X) (v w : View X) (r : IsReleased p version said v w) (alone : IsAlone v) where
   released-word : (q : ℕ) → q ≢ p → known_word q w ≡ known_word q v

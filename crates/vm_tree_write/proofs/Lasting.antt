@@ -9,8 +9,9 @@ use Rattle.vm_pool.specs.Brings.{KeepsLocks}
 use Rattle.vm_tree_laws.specs.{History.IsLegal, Plain.plain_history}
 use Rattle.vm_tree_read.specs.{Reads.GainsEntry, Reads.IsAnswered, Reads.key_of, Waiting.AreRounds, Waiting.Waits}
 use Rattle.vm_tree_read.proofs.Lasting.{bring-waits}
-use Rattle.vm_tree_write.specs.{Splits.KeepsLocksOnly, Waiting.IsWriteReplied, Writes.IsVain, Writes.IsWriteDone}
-use Rattle.vm_tree_write.proofs.{Framing.keeps-then, Numbering.worn-kept, Writing.entry-same}
+use Rattle.vm_tree_split.specs.{Splits.KeepsLocksOnly}
+use Rattle.vm_tree_write.specs.{Waiting.IsWriteReplied, Writes.IsVain, Writes.IsWriteDone}
+use Rattle.vm_tree_split.proofs.{Framing.entry-same, Framing.keeps-then, Numbering.worn-kept}
 
 module _ {S : Type 0} (plain : S → Said) (L : Layout) where
   -- what both kinds of answers have

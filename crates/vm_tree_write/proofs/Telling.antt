@@ -28,7 +28,7 @@ use Rattle.vm_tree_read.specs.Reads.{IsAnswered}
 use Rattle.vm_tree_read.proofs.Answering.{answered-as, answered-later, page-with}
 use Rattle.vm_tree_write.specs.Writes.{IsFullLeaf, IsSwap, IsTight, IsVain, IsWornLeaf, IsWriteDone, IsWriteToTry, swap_reply, TellTight, WritesNothing}
 use Rattle.vm_tree_write.specs.declared.write.TryWrite.TheVariants as tries
-use Rattle.vm_tree_write.proofs.Backing.{shown-refused, shown-unlocked, shown-wider}
+use Rattle.vm_tree_split.proofs.Backing.{shown-refused, shown-unlocked, shown-wider}
 use Rattle.vm_tree_write.proofs.Writing.{leaf-is, written-later}
 
 module _ {X : Type 0} (L : Layout) where

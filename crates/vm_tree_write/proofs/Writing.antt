@@ -27,10 +27,10 @@ use Rattle.vm_tree_laws.specs.{History.IsLegal, May.IsEdit, Plain.KeepsPlain, Pl
 use Rattle.vm_tree_rule.specs.Leaves.{ReadsOn}
 use Rattle.vm_tree_rule.proofs.Readings.{reads-self, reads-then}
 use Rattle.vm_tree_read.proofs.Answering.{words-are}
-use Rattle.vm_tree_write.specs.Drafts.{DraftsIn, IsRedrafted, SetsDiffering}
-use Rattle.vm_tree_write.specs.PageNumbers.{GainsNone}
+use Rattle.vm_tree_split.specs.Drafts.{DraftsIn, IsRedrafted, SetsDiffering}
+use Rattle.vm_tree_split.specs.PageNumbers.{GainsNone}
 use Rattle.vm_tree_write.specs.Writes.{IsBorneOutBy, IsWriteDone, IsWritePlace, OnlyWrites}
-use Rattle.vm_tree_write.proofs.{Drafting.Stores, Framing.unheld-not, Numbering.gains-kept, Numbering.gains-then, Numbering.released-used}
+use Rattle.vm_tree_split.proofs.{Drafting.Stores, Framing.entry-same, Framing.unheld-not, Numbering.gains-kept, Numbering.gains-then, Numbering.released-used}
 
 -- a page of the tree with a leaf's tag is a leaf
 pub leaf-is : (L : Layout) (laws : IsLayout L) (pages p : ℕ) (words : List ℕ) → IsSound L pages p words → (node_of L words).tag ≡ 2 → IsLeaf L words
@@ -65,9 +65,6 @@ written-behind a b at x h = record {
 }
 
 -- the entry of a pass with the same numbers and entries
-pub entry-same : {S : Type 0} (v x : View S) (said : S) → x.used ≡ v.used → x.mine ≡ v.mine → entry_of x said ≡ entry_of v said
-entry-same v x said used mine i = record { number = slice_index (used i) 0; count = entries_under (slice_index (used i) 0) (mine i) + 1; said = said }
-
 no-content-near : (before after : List ℕ) (p : ℕ) (d : Did) → (d.at ≡ places.State p) ⊎ (d.at ≡ places.Translation p) → Stores before after d
 no-content-near before after p d here n i is k wrote =
     ⊎_elim (λ (s : d.at ≡ places.State p). let no : places.State p ≡ places.Content n i = sym s ∙ is in absurd (cc)) (λ (t : d.at ≡ places.Translation p). let no : places.Translation p ≡ places.Content n i = sym t ∙ is in absurd (cc)) here

@@ -13,8 +13,8 @@ use Rattle.vm_tree_rule.specs.{declared.fault.TreeFault.TreeFault, Leaves.ReadsO
 use Rattle.vm_tree_rule.specs.declared.fault.TreeFault.TheVariants as faults
 use Rattle.vm_tree_read.specs.Reads.{GainsEntry, IsAnswered, key_of}
 use Rattle.vm_tree_read.specs.Waiting.{AreRounds, IsBringFault, IsNoBringFault, IsRound, NamesFault, NamesNone}
-use Rattle.vm_tree_write.specs.{Splits.KeepsLocksOnly, Tries.IsCause, Tries.IsEnded, Tries.MetNoFullNode}
-use Rattle.vm_tree_write.specs.declared.tries.TrySplit.TheVariants as splits
+use Rattle.vm_tree_split.specs.{Splits.KeepsLocksOnly, Tries.IsCause, Tries.IsEnded, Tries.MetNoFullNode}
+use Rattle.vm_tree_split.specs.declared.tries.TrySplit.TheVariants as splits
 use Rattle.vm_tree_write.specs.Writes.{IsTight, IsVain, IsWornLeaf, IsWriteDone}
 
 module _ {S : Type 0} (plain : S → Said) (L : Layout) where

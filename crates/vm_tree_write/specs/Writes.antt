@@ -22,7 +22,8 @@ use Rattle.vm_tree_rule.specs.{Leaves.ReadsOn, Seeks.HasLoaded, Seeks.HasRead, S
 use Rattle.vm_tree_rule.specs.Turns.{IsAstray, IsNeeded, TellLeaf}
 use Rattle.vm_node.specs.Loads.{IsPageWith}
 use Rattle.vm_tree_read.specs.Reads.{GainsEntry, IsAnswered}
-use Rattle.vm_tree_write.specs.{declared.write.Tried.Tried, declared.write.TryWrite.TryWrite, Drafts.IsDraftPlace, PageNumbers.GainsNone}
+use Rattle.vm_tree_split.specs.{Drafts.IsDraftPlace, PageNumbers.GainsNone}
+use Rattle.vm_tree_write.specs.{declared.write.Tried.Tried, declared.write.TryWrite.TryWrite}
 use Rattle.vm_tree_write.specs.declared.write.Tried.TheVariants as onces
 use Rattle.vm_tree_write.specs.declared.write.TryWrite.TheVariants as tries
 
@@ -210,10 +211,3 @@ IsFinal (tries.Again saw) = ⊥
 IsFinal (tries.Need p) = ⊥
 IsFinal (tries.Worn p) = Unit {0}
 IsFinal (tries.Tight p) = Unit {0}
-
--- a lock was denied since the page is at the last version
-abbrev pub SaysWorn : Deny → Type 0
-SaysWorn (denies.Again saw) = ⊥
-SaysWorn (denies.Need p) = ⊥
-SaysWorn (denies.Crowded p) = ⊥
-SaysWorn (denies.Worn p) = Unit {0}

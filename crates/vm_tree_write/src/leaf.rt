@@ -7,13 +7,14 @@ ghost use Rattle.vm_guard.specs.Denied.{AgainOrWorn, IsDenied, KeptWord};
 ghost use Rattle.vm_guard.specs.Guards.{IsReading, placed};
 ghost use Rattle.vm_tree_laws.specs.May.{IsEdit};
 ghost use Rattle.vm_tree_rule.specs.Resident.{IsKnownNow, KnowsResident};
-ghost use Rattle.vm_tree_write.specs.Writes.{IsWriteDone, SaysWorn};
+ghost use Rattle.vm_tree_split.specs.Prepares.{SaysWorn};
+ghost use Rattle.vm_tree_write.specs.Writes.{IsWriteDone};
 
-use crate::draft::{Edited, redraft};
 use vm_block::Block;
 use vm_guard::{Deny, OptGuard};
 use vm_kind::{Edits, TreeOf};
 use vm_rule::words::{Pass, Words};
+use vm_tree_split::draft::{Edited, redraft};
 
 /// Locks the leaf whose words stand in `before`, makes the edit, and releases it: what is said becomes an entry there.
 pub fn write_leaf<K: Edits, B: Block>(

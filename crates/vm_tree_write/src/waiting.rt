@@ -4,11 +4,10 @@ ghost use Rattle.vm_map.specs.declared.call.Call.TheVariants.{Del, Put, Swap as 
 ghost use Rattle.vm_step.specs.Prelude.{AreHeld, IsReady, IsSamePass, view};
 ghost use Rattle.vm_tree_read.specs.Reads.{IsOfKind};
 ghost use Rattle.vm_tree_read.specs.Waiting.{LosesNone, Waits};
-ghost use Rattle.vm_tree_write.specs.{Splits.KeepsLocksOnly, Tries.IsTrySplit};
+ghost use Rattle.vm_tree_split.specs.{Splits.KeepsLocksOnly, Tries.IsTrySplit};
 ghost use Rattle.vm_tree_write.specs.Waiting.{IsDelRound, IsNoRoomFault, IsPutFaulted, IsPutRound, IsRoomFault, IsWriteFaulted, IsWriteReplied};
 ghost use Rattle.vm_tree_write.specs.Writes.{HasKeyIn, HasValueIn};
 
-use crate::tries::{TrySplit, try_split};
 use crate::write::{Tried, del_once, put_once, swap_once};
 use crossbeam_utils::Backoff;
 use std::sync::Wait;
@@ -20,6 +19,7 @@ use vm_pool::{Pool, dry_cause};
 use vm_rule::words::Pass;
 use vm_tree_read::waiting::{fetch, settle};
 use vm_tree_rule::TreeFault;
+use vm_tree_split::{TrySplit, try_split};
 
 /// Takes the pair of the key out.
 pub fn del<K: Edits, R: Wait, B: PageBlock<N>, const N: usize>(

@@ -11,7 +11,8 @@ ghost use Rattle.vm_tree_rule.specs.{Few.ReadsInPlace, Resident.IsKnownNow, Resi
 ghost use Rattle.vm_tree_rule.specs.Turns.{IsTurnedBack, TellLeaf};
 ghost use Rattle.vm_tree_read.specs.Reads.{TellReply};
 ghost use Rattle.vm_kind.specs.Room.{HasRoomFor, IsTightFor};
-ghost use Rattle.vm_tree_write.specs.Writes.{HasKeyIn, HasValueIn, IsDel, IsFinal, IsPut, IsSwap, SaysWorn, swap_reply, TellTight, with_reply};
+ghost use Rattle.vm_tree_split.specs.Prepares.{SaysWorn};
+ghost use Rattle.vm_tree_write.specs.Writes.{HasKeyIn, HasValueIn, IsDel, IsFinal, IsPut, IsSwap, swap_reply, TellTight, with_reply};
 
 use crate::leaf::write_leaf;
 use vm_block::Block;

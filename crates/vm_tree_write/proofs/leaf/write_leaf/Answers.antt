@@ -6,8 +6,9 @@ use Rattle.vm_guard.specs.{Denied.AgainOrWorn, Denied.KeptWord, Guards.IsRelease
 use Rattle.vm_tree_laws.specs.Plain.{KeepsPlain}
 use Rattle.vm_tree_rule.proofs.{Readings.denied-reads, Surely.resident-same}
 use Rattle.vm_tree_rule.proofs.Whole.{tree-size}
-use Rattle.vm_tree_write.specs.Drafts.{DraftsIn, IsRedrafted}
-use Rattle.vm_tree_write.proofs.{Knowing.resident-written, Settling.only-worn}
+use Rattle.vm_tree_split.specs.Drafts.{DraftsIn, IsRedrafted}
+use Rattle.vm_tree_split.proofs.{Settling.only-worn}
+use Rattle.vm_tree_write.proofs.{Knowing.resident-written}
 use Rattle.vm_tree_write.proofs.leaf.write_leaf.Goals as goal
 use Rattle.vm_tree_write.proofs.Writing.{draft-is, not-zeros, old-is, owner, written}
 

@@ -3,9 +3,10 @@ use Rattle.std.proofs.lemmas.Result.{IfErr-weaker, IfOk-weaker}
 use Rattle.vm_step.specs.Prelude.{Origin, View, view}
 use Rattle.vm_tree_read.specs.Waiting.{IsBringFault, IsNoBringFault, NamesFault, NamesNone}
 use Rattle.vm_tree_read.proofs.Losing.{loses-same, swept-loses}
-use Rattle.vm_tree_write.specs.Tries.{IsTrySplit}
+use Rattle.vm_tree_split.specs.Tries.{IsTrySplit}
 use Rattle.vm_tree_write.specs.Waiting.{IsNoRoomFault, IsNoRoomFault as no_faults, IsRoomFault, IsRoomFault as room_faults}
-use Rattle.vm_tree_write.proofs.{Framing.keeps-self, Lasting.sweep-keeps, Lasting.waits-keep, Trying.tried-as}
+use Rattle.vm_tree_split.proofs.{Framing.keeps-self, Trying.tried-as}
+use Rattle.vm_tree_write.proofs.{Lasting.sweep-keeps, Lasting.waits-keep}
 use Rattle.vm_tree_write.proofs.waiting.after_split.Goals as goal
 
 -- ---- a page is brought

@@ -4,9 +4,9 @@ use Rattle.vm_exmap.proofs.Handing.{held-on}
 use Rattle.vm_tree_read.specs.Waiting.{AreRounds as rounds, IsRound as round}
 use Rattle.vm_tree_read.proofs.Losing.{loses-same, loses-then, lost-on, reads-lose}
 use Rattle.vm_tree_read.proofs.Rounds.{tried-call, tried-none, tried-read}
-use Rattle.vm_tree_write.specs.Splits.{KeepsLocksOnly}
+use Rattle.vm_tree_split.specs.Splits.{KeepsLocksOnly}
 use Rattle.vm_tree_write.specs.Waiting.{IsPutFaulted as put_faulted, IsPutRound, IsPutRound as put_round, IsWriteFaulted as faulted}
-use Rattle.vm_tree_write.proofs.{Framing.keeps-self, Framing.keeps-then, Trying.reads-keep}
+use Rattle.vm_tree_split.proofs.{Framing.keeps-self, Framing.keeps-then, Trying.reads-keep}
 use Rattle.vm_tree_write.proofs.Lasting.{keeps-last, replied, waits-keep}
 use Rattle.vm_tree_write.proofs.waiting.put.Goals as goal
 

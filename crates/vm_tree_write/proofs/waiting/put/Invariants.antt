@@ -1,7 +1,8 @@
 use Rattle.vm_step.specs.Prelude.{View}
 use Rattle.vm_tree_read.specs.Waiting.{AreRounds}
 use Rattle.vm_tree_read.proofs.Rounds.{HasTried}
-use Rattle.vm_tree_write.specs.{Splits.KeepsLocksOnly, Waiting.IsPutRound}
+use Rattle.vm_tree_split.specs.{Splits.KeepsLocksOnly}
+use Rattle.vm_tree_write.specs.{Waiting.IsPutRound}
 use Rattle.vm_tree_write.proofs.waiting.put.Given as goal
 
 -- no try was answered yet

@@ -1,0 +1,17 @@
+pub mod Drafting
+pub mod Numbering
+pub mod Seeing
+pub mod Given
+pub mod Splitting
+pub mod Under
+pub mod Rooting
+pub mod Framing
+pub mod Refusing
+pub mod Roomy
+pub mod Preparing
+pub mod Ends
+pub mod GivingUp
+pub mod Trying
+pub mod Losing
+pub mod Backing
+pub mod Settling

@@ -1,0 +1,5 @@
+pub mod Drafts
+pub mod PageNumbers
+pub mod Splits
+pub mod Tries
+pub mod Prepares

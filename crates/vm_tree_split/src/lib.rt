@@ -1,0 +1,9 @@
+//! Splits of full nodes: what a split takes before it writes, the pages that it writes, and the try that does both; and drafts of pages, which other writes make too.
+#![tactic(auto)]
+
+pub mod draft;
+pub mod prepare;
+pub mod split;
+pub mod tries;
+
+pub use tries::{TrySplit, try_split};
