@@ -23,7 +23,7 @@ use Rattle.vm_tree_rule.proofs.{Logged.shown-kept, Logged.shown-later, Showing.s
 use Rattle.vm_tree_rule.proofs.Readings.{leaves-self, leaves-then, log-then}
 use Rattle.vm_tree_split.specs.{Prepares.IsShort.after_one}
 use Rattle.vm_tree_split.specs.{Prepares.IsShort.at_once, Tries.IsBackedBy}
-use Rattle.vm_tree_split.specs.Prepares.{IsDeniedAt, IsLockDenied, IsLockedMeanwhile, IsNotLocked, pages_of, IsRefusedPages, IsSecondRefused, IsShort}
+use Rattle.vm_tree_split.specs.Prepares.{IsDeniedAt, IsLockDenied, IsLockedMeanwhile, IsNotLocked, guard_pages, IsRefusedPages, IsSecondRefused, IsShort}
 use Rattle.vm_tree_split.proofs.{Framing.alloc-more, Refusing.locked-leave, Refusing.moves-leave, Seeing.lost-same, Seeing.lost-wrote, Seeing.OnlySees, Seeing.sees-few, Seeing.sees-some}
 use Rattle.vm_tree_split.proofs.Splitting.{among-first, among-later}
 
@@ -180,18 +180,18 @@ module _ {X : Type 0} (L : Layout) where
   AreOpened (g ∷ gs) u v = IsOpened u g.pid g.word g.frame v × AreOpened gs u v
 
   -- one of these pages could not be locked: the word that it had is one that the call read, and left none since
-  pub denied-shown : (gs : List OptGuard) (saw : Saw) (u v x w : View X) → AreOpened gs u v → AreApart (pages_of gs) → ((p : ℕ) → has p (pages_of gs) ≡ true → LeavesWord p v x) → IsLockDenied L gs (denies.Again saw) x w
+  pub denied-shown : (gs : List OptGuard) (saw : Saw) (u v x w : View X) → AreOpened gs u v → AreApart (guard_pages gs) → ((p : ℕ) → has p (guard_pages gs) ≡ true → LeavesWord p v x) → IsLockDenied L gs (denies.Again saw) x w
       → IsShown UnlockedExpected u saw w
   denied-shown [] saw u v x w opened apart leaves k = absurd k
   denied-shown (g ∷ gs) saw u v x w opened apart leaves k =
       ⊎_elim
-      (λ (d : IsDeniedAt L g (denies.Again saw) x w). shown-kept AgainOrWorn UnlockedExpected g.pid g.word g.frame saw u v x w opened.0 (leaves g.pid (among-first g.pid (pages_of gs))) d.denied)
+      (λ (d : IsDeniedAt L g (denies.Again saw) x w). shown-kept AgainOrWorn UnlockedExpected g.pid g.word g.frame saw u v x w opened.0 (leaves g.pid (among-first g.pid (guard_pages gs))) d.denied)
       (λ (m : IsLockedMeanwhile L g (IsLockDenied L gs (denies.Again saw)) x w).
       shown-later UnlockedExpected saw m.back.done u m.done w m.back.elsewhere.steady.log
       (denied-shown gs saw u v m.locked m.done opened.1 apart.1
       (λ p among.
-      leaves-then p v x m.locked (leaves p (among-later p g.pid (pages_of gs) among))
-      (locked-leave p g.pid m.frame m.version m.dirty x m.locked (λ e. true≢false (sym among ∙ ap (λ n. has n (pages_of gs)) e ∙ apart.0)) m.taken)) m.inner))
+      leaves-then p v x m.locked (leaves p (among-later p g.pid (guard_pages gs) among))
+      (locked-leave p g.pid m.frame m.version m.dirty x m.locked (λ e. true≢false (sym among ∙ ap (λ n. has n (guard_pages gs)) e ∙ apart.0)) m.taken)) m.inner))
       k
 
 module _ {X : Type 0} {L : Layout} where

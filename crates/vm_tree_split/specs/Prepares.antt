@@ -157,9 +157,9 @@ SaysWorn (denies.Crowded p) = ⊥
 SaysWorn (denies.Worn p) = Unit {0}
 
 -- the pages of guards
-abbrev pub pages_of : List OptGuard → List ℕ
-pages_of [] = []
-pages_of (g ∷ gs) = g.pid ∷ pages_of gs
+abbrev pub guard_pages : List OptGuard → List ℕ
+guard_pages [] = []
+guard_pages (g ∷ gs) = g.pid ∷ guard_pages gs
 
 -- what a try of a split answers where frames were refused so
 abbrev pub SaysShort : Alloc → TrySplit → Type 0
