@@ -1,28 +1,26 @@
 -- Which of two children of a parent is a leaf's neighbour, and what that tells once the parent is validated.
-use Rattle.std.proofs.Common.{[], ⊎_elim, ◌++◌, ◌+◌, ◌<◌, ◌∙◌, ◌∷◌, ◌≡◌, ◌≢◌, ◌≤◌, ◌⊎◌, ap, arith, Bool, false, inl, inr, length, List, append_assoc, MatchOption, None, Option, refl, Some, subst, sym, true, true≢false, ℕ}
+use Rattle.std.proofs.Common.{[], ⊎_elim, ◌++◌, ◌<◌, ◌∙◌, ◌∷◌, ◌≡◌, ◌≢◌, ◌⊎◌, ap, arith, Bool, false, inl, inr, length, List, append_assoc, MatchOption, None, Option, refl, Some, subst, sym, true, true≢false, ℕ}
 use Rattle.vm_map.specs.Map.{lookup_at, next_key, Rises}
 use Rattle.vm_tree_model.specs.{Edits.child_of, Layout.Layout}
 use Rattle.vm_tree_model.specs.Page.{node_of, pairs_of}
 use Rattle.vm_node.specs.Loads.{IsAnswer}
 use Rattle.vm_inner.specs.Neighbours.{AreBeside}
-use Rattle.vm_rule.specs.Prelude.{last_of, loads_at}
+use Rattle.vm_rule.specs.Prelude.{loads_at}
 use Rattle.vm_core.specs.Prelude.{LoadsAre}
-use Rattle.vm_step.specs.Prelude.{Did, IsAlone, KnowsSame, NoneExpected, NoWord, Origin, View}
-use Rattle.vm_step.specs.declared.saw.At.TheVariants as ats
-use Rattle.vm_step.specs.declared.saw.Saw.{Saw}
+use Rattle.vm_step.specs.Prelude.{NoneExpected, NoWord, Origin, View}
 use Rattle.vm_guard.specs.declared.deny.Deny.TheVariants as denies
-use Rattle.vm_guard.specs.{declared.opt.OptGuard.OptGuard, Guards.IsReading, Guards.IsValid, Guards.Loads, Guards.placed}
-use Rattle.vm_guard.specs.Denied.{AgainOrNeed, KeptWord}
-use Rattle.vm_tree_laws.specs.{Descent.IsReached, Tied.IsNodeAs, Tied.IsTied, Tied.Tied}
+use Rattle.vm_guard.specs.{declared.opt.OptGuard.OptGuard, Guards.Loads, Guards.placed}
+use Rattle.vm_guard.specs.Denied.{AgainOrNeed}
+use Rattle.vm_tree_laws.specs.{Descent.IsReached, Tied.IsNodeAs, Tied.Tied}
 use Rattle.vm_tree_rule.specs.{Above.IsParentOf, declared.turn.Turn.Turn, Leaves.ReadsOn, Seeks.HasRead}
-use Rattle.vm_tree_rule.specs.Standing.{HasSteppedDown, IsNameIn, IsOpened, NamesNode, Sees, StaysOpen, tree_pages}
+use Rattle.vm_tree_rule.specs.Standing.{IsNameIn, IsOpened, NamesNode, Sees, StaysOpen, tree_pages}
 use Rattle.vm_tree_rule.specs.Turns.{IsNoChild, IsStopped, IsStopped as stops}
 use Rattle.vm_tree_rule.proofs.{Downward.awaits-later, Downward.inner-here, Downward.node-later, Reaching.parent-beside, Entering.opened-reads, Entering.refused-turn}
 use Rattle.vm_tree_rule.proofs.Logged.{shown-later, shown-start}
-use Rattle.vm_tree_rule.proofs.Readings.{denied-reads, each-loaded, leaves-self, leaves-then, loads-behind, loads-reads, log-then, opened-earlier, opened-later, opened-loads, placed-are, reads-self, reads-then, valid-reads}
-use Rattle.vm_tree_rule.proofs.Seeking.{beside-loads, beside-then, beside-valid, StaysBeside}
+use Rattle.vm_tree_rule.proofs.Readings.{denied-reads, each-loaded, leaves-self, leaves-then, loads-behind, loads-reads, log-then, opened-later, opened-loads, placed-are, reads-self, reads-then, valid-reads}
+use Rattle.vm_tree_rule.proofs.Seeking.{StaysBeside}
 use Rattle.vm_tree_rule.proofs.Showing.{needs-behind, needs-front}
-use Rattle.vm_tree_merge.specs.Beside.{HasNoOther, IsChoice, IsNeighbour, IsReadWhole, IsTurnedBeside, LeavesBeside, TellBeside}
+use Rattle.vm_tree_merge.specs.Beside.{IsChoice, IsNeighbour, IsTurnedBeside, LeavesBeside, TellBeside}
 
 loads-front : (words : List ℕ) (l m : List (ℕ × ℕ)) → LoadsAre words (l ++ m) → LoadsAre words l
 loads-front words [] m k = tt

@@ -1,10 +1,3 @@
-pub mod Merging
-pub mod Collapsing
-pub mod OneBit
-pub mod Locking
-pub mod Giving
-pub mod Finishing
-pub mod Tags
 pub mod Choosing
 pub mod Pairing
 pub mod Trying

@@ -1,14 +1,13 @@
 -- A leaf and its neighbour that were read: what the locks prove of them makes a merge.
-use Rattle.std.proofs.Common.{[], ⊎_elim, ◌++◌, ◌||◌, ◌∙◌, ◌∷◌, ◌≡◌, ◌≢◌, ◌≤◌, ◌⊎◌, ap, arith, Bool, false, inl, inr, length, List, MatchOption, refl, replicate, slice_index, slice_set, Some, subst, sym, true, true≢false, ℕ}
+use Rattle.std.proofs.Common.{[], ⊎_elim, ◌||◌, ◌∙◌, ◌∷◌, ◌≡◌, ◌≢◌, ◌≤◌, ◌⊎◌, ap, arith, Bool, false, inl, inr, length, List, refl, replicate, slice_index, slice_set, Some, subst, sym, true, true≢false, ℕ}
 use Rattle.std.proofs.lemmas.Bool.{ne_eqb}
-use Rattle.vm_map.specs.{declared.call.Said.Said, Map.Rises}
+use Rattle.vm_map.specs.{declared.call.Said.Said}
 use Rattle.vm_map.specs.declared.call.Call.TheVariants.{Del}
 use Rattle.vm_map.specs.declared.call.Reply.TheVariants.{Gone}
-use Rattle.vm_tree_model.specs.{Edits.child_of, Edits.TakesPair, Layout.Layout, Layout.size, Merges.IsJoined, Node.Node}
+use Rattle.vm_tree_model.specs.{Edits.child_of, Edits.TakesPair, Layout.Layout, Layout.size, Merges.IsJoined}
 use Rattle.vm_tree_model.specs.Page.{IsInner, IsLeaf, node_of, pairs_of}
 use Rattle.vm_core.specs.Prelude.{MAX_VERSION, version_of}
 use Rattle.vm_inner.specs.Neighbours.{AreBeside}
-use Rattle.vm_kind.specs.Joins.{both_as_one}
 use Rattle.vm_rule.specs.Prelude.{AreApart}
 use Rattle.vm_step.specs.Prelude.{Origin, View}
 use Rattle.vm_step.specs.declared.saw.Saw.{Saw}
@@ -20,8 +19,8 @@ use Rattle.vm_tree_rule.specs.{Resident.IsKnownNow, Standing.tree_pages}
 use Rattle.vm_tree_rule.proofs.{Downward.inner-here, Entering.opened-reads}
 use Rattle.vm_tree_split.specs.Prepares.{IsDeniedAt, IsLockDenied, IsLockedMeanwhile}
 use Rattle.vm_tree_split.proofs.Splitting.{zeros-free}
-use Rattle.vm_tree_merge.specs.Beside.{as_one}
-use Rattle.vm_tree_merge.specs.{Locks.IsReadAs, Locks.KnowsFree, Merging.page_change, Tried.IsLeafRead, Tried.IsToMerge}
+use Rattle.vm_tree_join.specs.{Locks.IsReadAs, Locks.KnowsFree, Merging.page_change}
+use Rattle.vm_tree_merge.specs.{Beside.AreInOrder, Beside.as_one, Tried.IsLeafRead, Tried.IsToMerge}
 
 -- ---- an answer of locks that is not Worn
 
@@ -51,161 +50,176 @@ three-apart a b c ab ac bc = ((λ i. ne_eqb a b ab i || (ne_eqb a c ac i || fals
 pub four-are-apart : (a b c d : ℕ) → a ≢ b → a ≢ c → a ≢ d → AreApart (b ∷ c ∷ d ∷ []) → AreApart (a ∷ b ∷ c ∷ d ∷ [])
 four-are-apart a b c d ab ac ad rest = ((λ i. ne_eqb a b ab i || (ne_eqb a c ac i || (ne_eqb a d ad i || false))), rest)
 
-module _ {X : Type 0} (L : Layout) (v : View X) (key : ℕ) (up leaf other : OptGuard) (over page rest opage : List ℕ) (behind : Bool) (low left separator right : ℕ) (said : Said) (x : View X)
-    (r : IsLeafRead L v key leaf page rest said x) (m : IsToMerge L v key up leaf.pid over rest other opage behind low left separator right x) where
-  pub up-read : IsReadAs L up over 3 x
-  up-read = record {
-    reading = m.neighbour.stands.opened.reading;
-    read = m.neighbour.read;
-    kind = λ tells words meets. let inner = inner-here (tree_pages x) up.pid words 0 key (m.neighbour.stands.awaits tells words meets) in (inner.node.tag, inr inner);
-  }
+-- ---- the leaf and its neighbour in their order
 
-  -- a node of level 0 is a leaf
-  level-zero : (words : List ℕ) → IsLeaf L words ⊎ IsInner L words → (node_of L words).level ≡ 0 → IsLeaf L words
-  level-zero words kind zero' = ⊎_elim (λ (leaf' : IsLeaf L words). leaf') (λ (inner : IsInner L words). let one = inner.node.level in absurd (omega (arith, one, zero'))) kind
+-- The leaf and its neighbour, of which `one` stands before `two`, and their parent are as a merge asks for them. `first` and `second` are the words of the two as they were
+-- read, and `joined` are both as one, without the key
+pub record ArePaired {X : Type 0} (L : Layout) (behind : Bool) (leaf other up one two : OptGuard) (over first joined second : List ℕ) (separator : ℕ) (said : Said) (x : View X) : Type 0 where
+  pub order : AreInOrder behind leaf other one two
+  pub apart : AreApart (up.pid ∷ one.pid ∷ two.pid ∷ [])
+  pub apart_from_zero : (zero : ℕ) → zero ≡ 0 → AreApart (zero ∷ up.pid ∷ one.pid ∷ two.pid ∷ [])
+  pub below : AreBelow (up ∷ one ∷ two ∷ [])
+  pub above : IsReadAs L up over 3 x
+  pub left : IsReadAs L one first 2 x
+  pub right : IsReadAs L two second 2 x
+  pub merge : x.start.tells ≡ true → (edited : List ℕ) → TakesPair L over edited separator → IsInner L over → IsLeaf L first → IsLeaf L second
+      → MayMerge L (page_change up.pid over edited) (page_change one.pid first joined) (page_change two.pid second (replicate L.words 0)) said
+  pub collapse : x.start.tells ≡ true → (zero : ℕ) (meta : List ℕ) → zero ≡ 0 → slice_index meta 1 ≡ up.pid → length (pairs_of L over) ≡ 2 → IsInner L over → IsLeaf L first → IsLeaf L second
+      → MayCollapse L (page_change zero meta (slice_set (slice_set meta 1 one.pid) 2 0)) (page_change up.pid over (replicate L.words 0)) (page_change one.pid first joined) (page_change two.pid second (replicate L.words 0)) said
 
-  pub leaf-read : IsReadAs L leaf page 2 x
-  leaf-read = record {
-    reading = r.opened.reading;
-    read = r.read;
-    kind = λ tells words meets. let a = r.awaits tells words meets in let is = level-zero words a.kind a.level_is in (is.node.tag, inl is);
-  }
+-- the words of both, the leaf's without the key, as one leaf's
+abbrev pub AreJoined : Layout → Bool → List ℕ → List ℕ → List ℕ → Type 0
+AreJoined L behind rest other joined = ((behind ≡ true) × IsJoined L rest other joined) ⊎ ((behind ≡ false) × IsJoined L other rest joined)
 
-  pub other-read : IsReadAs L other opage 2 x
-  other-read = record {
-    reading = m.neighbour.opened.reading;
-    read = m.read;
-    kind = λ tells words meets. let a = m.neighbour.awaits.2 tells words meets in let is = level-zero words a.node.kind a.node.level_is in (is.node.tag, inl is);
-  }
-
-  tells-v : x.start.tells ≡ true → v.start.tells ≡ true
-  tells-v tells = ap (λ (o : Origin). o.tells) (sym (opened-reads leaf.pid leaf.word leaf.frame v x r.opened).0.start) ∙ tells
-
-  edit-del : IsLeaf L page → IsEdit L page rest (Del key) (Gone (Some r.says.0))
-  edit-del is = subst (λ (s : Said). IsEdit L page rest s.call s.reply) r.says.1 (r.edit is)
-
-  beside : IsInner L over → AreBeside L over key low left separator right
-  beside inner = m.neighbour.choice.beside _ _ inner.node.rises
-
-  -- ---- the neighbour is behind the leaf
-
-  module _ (is : behind ≡ true) (joined above : List ℕ) (j : IsJoined L rest opage joined) where
-    order-left : (left ≡ leaf.pid) × (right ≡ other.pid)
-    order-left = ⊎_elim (λ (b : (behind ≡ true) × (left ≡ leaf.pid) × (right ≡ other.pid)). (b.1, b.2)) (λ (b : (behind ≡ false) × (left ≢ leaf.pid) × (left ≡ other.pid)). absurd (true≢false (sym is ∙ b.0))) m.neighbour.choice.places
-
-    few-left : size L (node_of L joined) ≤ L.merge_room
-    few-left = subst (λ n. n ≤ L.merge_room) (ap (λ b. size L (as_one L b rest opage)) is ∙ sym (ap (size L) j.node)) m.few
-
-    pub merge-left : TakesPair L over above separator → IsInner L over → IsLeaf L page → IsLeaf L opage
-        → MayMerge L (page_change up.pid over above) (page_change leaf.pid page joined) (page_change other.pid opage (replicate L.words 0)) said
-    merge-left takes inner one two = let b = beside inner in record {
-      key = key;
-      value = r.says.0;
-      said_is = r.says.1;
-      low = low;
-      separator = separator;
-      inner = inner.node.tag;
-      names = b.names ∙ ap (λ n. Some n) order-left.0;
-      names_right = b.names_right ∙ ap (λ n. Some n) order-left.1;
-      next = b.next _;
-      left_leaf = one.node.tag;
-      right_leaf = two.node.tag;
-      left_mid = rest;
-      right_mid = opage;
-      deletes = inl (edit-del one, refl);
-      few = few-left;
-      takes = takes;
-      joined = j;
-      zeroed = zeros-free L;
+module _
+    {X : Type 0}
+    {L : Layout}
+    {v : View X}
+    {key : ℕ}
+    {up leaf other : OptGuard}
+    {over page rest opage : List ℕ}
+    {behind : Bool}
+    {low left separator right : ℕ}
+    {said : Said}
+    {x : View X}
+    (r : IsLeafRead L v key leaf page rest said x)
+    (m : IsToMerge L v key up leaf.pid over rest other opage behind low left separator right x)
+  where
+    up-read : IsReadAs L up over 3 x
+    up-read = record {
+      reading = m.neighbour.stands.opened.reading;
+      read = m.neighbour.read;
+      kind = λ tells words meets. let inner = inner-here (tree_pages x) up.pid words 0 key (m.neighbour.stands.awaits tells words meets) in (inner.node.tag, inr inner);
     }
 
-    pub collapse-left : (zero : ℕ) (meta : List ℕ) → zero ≡ 0 → slice_index meta 1 ≡ up.pid → length (pairs_of L over) ≡ 2 → IsInner L over → IsLeaf L page → IsLeaf L opage
-        → MayCollapse L (page_change zero meta (slice_set (slice_set meta 1 leaf.pid) 2 0)) (page_change up.pid over (replicate L.words 0)) (page_change leaf.pid page joined) (page_change other.pid opage (replicate L.words 0)) said
-    collapse-left zero meta first names two' inner one two = let b = beside inner in record {
-      key = key;
-      value = r.says.0;
-      said_is = r.says.1;
-      low = low;
-      separator = separator;
-      page_zero = first;
-      root_page = names;
-      inner = inner.node.tag;
-      pairs = b.all two' ∙ (λ i. (low, order-left.0 i) ∷ (separator, order-left.1 i) ∷ []);
-      left_leaf = one.node.tag;
-      right_leaf = two.node.tag;
-      left_mid = rest;
-      right_mid = opage;
-      deletes = inl (edit-del one, refl);
-      few = few-left;
-      meta_new = refl;
-      joined = j;
-      zeroed = zeros-free L;
-      gone = zeros-free L;
+    -- a node of level 0 is a leaf
+    level-zero : (words : List ℕ) → IsLeaf L words ⊎ IsInner L words → (node_of L words).level ≡ 0 → IsLeaf L words
+    level-zero words kind zero' = ⊎_elim (λ (leaf' : IsLeaf L words). leaf') (λ (inner : IsInner L words). let one = inner.node.level in absurd (omega (arith, one, zero'))) kind
+
+    leaf-read : IsReadAs L leaf page 2 x
+    leaf-read = record {
+      reading = r.opened.reading;
+      read = r.read;
+      kind = λ tells words meets. let a = r.awaits tells words meets in let is = level-zero words a.kind a.level_is in (is.node.tag, inl is);
     }
 
-  -- ---- it is before the leaf, which is the last child then
+    other-read : IsReadAs L other opage 2 x
+    other-read = record {
+      reading = m.neighbour.opened.reading;
+      read = m.read;
+      kind = λ tells words meets. let a = m.neighbour.awaits.2 tells words meets in let is = level-zero words a.node.kind a.node.level_is in (is.node.tag, inl is);
+    }
 
-  module _ (is : behind ≡ false) (joined above : List ℕ) (j : IsJoined L opage rest joined) where
-    left-is : (left ≢ leaf.pid) × (left ≡ other.pid)
-    left-is = ⊎_elim (λ (b : (behind ≡ true) × (left ≡ leaf.pid) × (right ≡ other.pid)). absurd (true≢false (sym b.0 ∙ is))) (λ (b : (behind ≡ false) × (left ≢ leaf.pid) × (left ≡ other.pid)). (b.1, b.2)) m.neighbour.choice.places
+    tells-v : x.start.tells ≡ true → v.start.tells ≡ true
+    tells-v tells = ap (λ (o : Origin). o.tells) (sym (opened-reads leaf.pid leaf.word leaf.frame v x r.opened).0.start) ∙ tells
 
-    right-is : x.start.tells ≡ true → IsInner L over → right ≡ leaf.pid
-    right-is tells inner =
-        let names : child_of L over key ≡ Some leaf.pid = m.neighbour.names (tells-v tells) in
-        ⊎_elim (λ (c : child_of L over key ≡ Some left). absurd (left-is.0 (some-same left leaf.pid (sym c ∙ names)))) (λ k. some-same right leaf.pid (sym k.0 ∙ names)) (beside inner).among
+    edit-del : IsLeaf L page → IsEdit L page rest (Del key) (Gone (Some r.says.0))
+    edit-del is = subst (λ (s : Said). IsEdit L page rest s.call s.reply) r.says.1 (r.edit is)
+
+    beside : IsInner L over → AreBeside L over key low left separator right
+    beside inner = m.neighbour.choice.beside _ _ inner.node.rises
+
+    few-joined : (joined : List ℕ) → node_of L joined ≡ as_one L behind rest opage → size L (node_of L joined) ≤ L.merge_room
+    few-joined joined is = subst (λ n. n ≤ L.merge_room) (ap (size L) (sym is)) m.few
+
+    module _
+        (one two : OptGuard)
+        (first mid second mid' joined : List ℕ)
+        (order : AreInOrder behind leaf other one two)
+        (apart : (up.pid ≢ one.pid) × (up.pid ≢ two.pid) × (one.pid ≢ two.pid))
+        (not_zero : (one.pid ≢ 0) × (two.pid ≢ 0))
+        (below : (version_of one.word ≢ MAX_VERSION) × (version_of two.word ≢ MAX_VERSION))
+        (one-read : IsReadAs L one first 2 x)
+        (two-read : IsReadAs L two second 2 x)
+        (named : x.start.tells ≡ true → IsInner L over → (left ≡ one.pid) × (right ≡ two.pid))
+        (deletes : IsLeaf L first → IsLeaf L second → (IsEdit L first mid (Del key) (Gone (Some r.says.0)) × (mid' ≡ second)) ⊎ ((mid ≡ first) × IsEdit L second mid' (Del key) (Gone (Some r.says.0))))
+        (few : size L (node_of L joined) ≤ L.merge_room)
+        (j : IsJoined L mid mid' joined)
       where
-        some-same : (a b : ℕ) → Some a ≡ Some b → a ≡ b
-        some-same a b e = cc
+        paired : ArePaired L behind leaf other up one two over first joined second separator said x
+        paired = let three = three-apart up.pid one.pid two.pid apart.0 apart.1 apart.2 in record {
+          order = order;
+          apart = three;
+          apart_from_zero = λ zero first'. four-are-apart zero up.pid one.pid two.pid (λ e. m.neighbour.stands.not_zero.1 (sym e ∙ first')) (λ e. not_zero.0 (sym e ∙ first')) (λ e. not_zero.1 (sym e ∙ first')) three;
+          below = (m.below.0, (below.0, (below.1, tt)));
+          above = up-read;
+          left = one-read;
+          right = two-read;
+          merge = λ tells edited takes inner is-one is-two.
+              let b = beside inner in
+              let n = named tells inner in
+              record {
+                key = key;
+                value = r.says.0;
+                said_is = r.says.1;
+                low = low;
+                separator = separator;
+                inner = inner.node.tag;
+                names = b.names ∙ ap (λ n. Some n) n.0;
+                names_right = b.names_right ∙ ap (λ n. Some n) n.1;
+                next = b.next _;
+                left_leaf = is-one.node.tag;
+                right_leaf = is-two.node.tag;
+                left_mid = mid;
+                right_mid = mid';
+                deletes = deletes is-one is-two;
+                few = few;
+                takes = takes;
+                joined = j;
+                zeroed = zeros-free L;
+              };
+          collapse = λ tells zero meta first' names two' inner is-one is-two.
+              let b = beside inner in
+              let n = named tells inner in
+              record {
+                key = key;
+                value = r.says.0;
+                said_is = r.says.1;
+                low = low;
+                separator = separator;
+                page_zero = first';
+                root_page = names;
+                inner = inner.node.tag;
+                pairs = b.all two' ∙ (λ i. (low, n.0 i) ∷ (separator, n.1 i) ∷ []);
+                left_leaf = is-one.node.tag;
+                right_leaf = is-two.node.tag;
+                left_mid = mid;
+                right_mid = mid';
+                deletes = deletes is-one is-two;
+                few = few;
+                meta_new = refl;
+                joined = j;
+                zeroed = zeros-free L;
+                gone = zeros-free L;
+              };
+        }
 
-    few-right : size L (node_of L joined) ≤ L.merge_room
-    few-right = subst (λ n. n ≤ L.merge_room) (ap (λ b. size L (as_one L b rest opage)) is ∙ sym (ap (size L) j.node)) m.few
+    module _ {joined : List ℕ} (unworn : version_of leaf.word ≢ MAX_VERSION) (both : AreJoined L behind rest opage joined) where
+      -- the neighbour is behind the leaf
+      pub pair-behind : behind ≡ true → ArePaired L behind leaf other up leaf other over page joined opage separator said x
+      pair-behind is =
+          let j : IsJoined L rest opage joined = ⊎_elim (λ (k : (behind ≡ true) × IsJoined L rest opage joined). k.1) (λ (k : (behind ≡ false) × IsJoined L opage rest joined). absurd (true≢false (sym is ∙ k.0))) both in
+          let named : (left ≡ leaf.pid) × (right ≡ other.pid) = ⊎_elim (λ (b : (behind ≡ true) × (left ≡ leaf.pid) × (right ≡ other.pid)). (b.1, b.2)) (λ (b : (behind ≡ false) × (left ≢ leaf.pid) × (left ≡ other.pid)). absurd (true≢false (sym is ∙ b.0))) m.neighbour.choice.places in
+          paired leaf other page rest opage opage joined (inl (is, refl, refl))
+          ((λ e. m.neighbour.stands.apart (sym e)), (λ e. m.neighbour.apart.0 (sym e)), (λ e. m.neighbour.choice.apart (sym e)))
+          (m.neighbour.stands.not_zero.0, m.neighbour.apart.1) (unworn, m.below.1) leaf-read other-read (λ tells inner. named) (λ is-one is-two. inl (edit-del is-one, refl))
+          (few-joined joined (j.node ∙ ap (λ b. as_one L b rest opage) (sym is))) j
 
-    pub merge-right : x.start.tells ≡ true → TakesPair L over above separator → IsInner L over → IsLeaf L opage → IsLeaf L page
-        → MayMerge L (page_change up.pid over above) (page_change other.pid opage joined) (page_change leaf.pid page (replicate L.words 0)) said
-    merge-right tells takes inner one two = let b = beside inner in record {
-      key = key;
-      value = r.says.0;
-      said_is = r.says.1;
-      low = low;
-      separator = separator;
-      inner = inner.node.tag;
-      names = b.names ∙ ap (λ n. Some n) left-is.1;
-      names_right = b.names_right ∙ ap (λ n. Some n) (right-is tells inner);
-      next = b.next _;
-      left_leaf = one.node.tag;
-      right_leaf = two.node.tag;
-      left_mid = opage;
-      right_mid = rest;
-      deletes = inr (refl, edit-del two);
-      few = few-right;
-      takes = takes;
-      joined = j;
-      zeroed = zeros-free L;
-    }
-
-    pub collapse-right : x.start.tells ≡ true → (zero : ℕ) (meta : List ℕ) → zero ≡ 0 → slice_index meta 1 ≡ up.pid → length (pairs_of L over) ≡ 2 → IsInner L over → IsLeaf L opage → IsLeaf L page
-        → MayCollapse L (page_change zero meta (slice_set (slice_set meta 1 other.pid) 2 0)) (page_change up.pid over (replicate L.words 0)) (page_change other.pid opage joined) (page_change leaf.pid page (replicate L.words 0)) said
-    collapse-right tells zero meta first names two' inner one two = let b = beside inner in let here = right-is tells inner in record {
-      key = key;
-      value = r.says.0;
-      said_is = r.says.1;
-      low = low;
-      separator = separator;
-      page_zero = first;
-      root_page = names;
-      inner = inner.node.tag;
-      pairs = b.all two' ∙ (λ i. (low, left-is.1 i) ∷ (separator, here i) ∷ []);
-      left_leaf = one.node.tag;
-      right_leaf = two.node.tag;
-      left_mid = opage;
-      right_mid = rest;
-      deletes = inr (refl, edit-del two);
-      few = few-right;
-      meta_new = refl;
-      joined = j;
-      zeroed = zeros-free L;
-      gone = zeros-free L;
-    }
+      -- it is before the leaf, which is the last child then
+      pub pair-before : behind ≡ false → ArePaired L behind leaf other up other leaf over opage joined page separator said x
+      pair-before is =
+          let j : IsJoined L opage rest joined = ⊎_elim (λ (k : (behind ≡ true) × IsJoined L rest opage joined). absurd (true≢false (sym k.0 ∙ is))) (λ (k : (behind ≡ false) × IsJoined L opage rest joined). k.1) both in
+          let left-is : (left ≢ leaf.pid) × (left ≡ other.pid) = ⊎_elim (λ (b : (behind ≡ true) × (left ≡ leaf.pid) × (right ≡ other.pid)). absurd (true≢false (sym b.0 ∙ is))) (λ (b : (behind ≡ false) × (left ≢ leaf.pid) × (left ≡ other.pid)). (b.1, b.2)) m.neighbour.choice.places in
+          paired other leaf opage opage page rest joined (inr (is, refl, refl))
+          ((λ e. m.neighbour.apart.0 (sym e)), (λ e. m.neighbour.stands.apart (sym e)), m.neighbour.choice.apart)
+          (m.neighbour.apart.1, m.neighbour.stands.not_zero.0) (m.below.1, unworn) other-read leaf-read
+          (λ tells inner.
+          let names : child_of L over key ≡ Some leaf.pid = m.neighbour.names (tells-v tells) in
+          (left-is.1, ⊎_elim (λ (c : child_of L over key ≡ Some left). absurd (left-is.0 (some-same left leaf.pid (sym c ∙ names)))) (λ k. some-same right leaf.pid (sym k.0 ∙ names)) (beside inner).among)) (λ is-one is-two. inr (refl, edit-del is-two))
+          (few-joined joined (j.node ∙ ap (λ b. as_one L b rest opage) (sym is))) j
+        where
+          some-same : (a b : ℕ) → Some a ≡ Some b → a ≡ b
+          some-same a b e = cc
 
 -- ---- what a pass that is alone knows of the pages
 

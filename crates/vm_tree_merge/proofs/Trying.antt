@@ -1,8 +1,6 @@
 -- The end of a try of a merge: what the locks, lost or not, make of what was read.
-use Rattle.std.proofs.Common.{[], ⊎_elim, ◌∙◌, ◌∷◌, ◌≡◌, ◌≢◌, ◌⊎◌, ap, Bool, false, inl, inr, length, List, refl, Some, subst, sym, true, ℕ}
+use Rattle.std.proofs.Common.{[], ⊎_elim, ◌∙◌, ◌∷◌, ◌≡◌, ◌≢◌, ap, Bool, false, List, refl, subst, sym, true, ℕ}
 use Rattle.vm_map.specs.declared.call.Said.{Said}
-use Rattle.vm_map.specs.declared.call.Call.TheVariants.{Del}
-use Rattle.vm_map.specs.declared.call.Reply.TheVariants.{Gone}
 use Rattle.vm_map.specs.Map.{del_pair}
 use Rattle.vm_tree_model.specs.{Edits.IsLeafWith, Layout.Layout}
 use Rattle.vm_tree_model.specs.Page.{IsLeaf, pairs_of}
@@ -12,15 +10,16 @@ use Rattle.vm_step.specs.declared.saw.Saw.{Saw}
 use Rattle.vm_guard.specs.declared.opt.OptGuard.{OptGuard}
 use Rattle.vm_guard.specs.declared.deny.Deny.TheVariants as denies
 use Rattle.vm_tree_laws.specs.May.{IsEdit}
-use Rattle.vm_tree_rule.specs.{Above.IsAbove, Above.IsParentOf, declared.above.Above.Above, Leaves.ReadsOn, Seeks.IsMetaRead, Standing.IsOpened}
+use Rattle.vm_tree_rule.specs.{Above.IsAbove, declared.above.Above.Above, Leaves.ReadsOn, Seeks.IsMetaRead, Standing.IsOpened}
 use Rattle.vm_tree_rule.specs.Resident.{IsKnownNow}
 use Rattle.vm_tree_rule.proofs.Seeking.{meta-beside}
-use Rattle.vm_tree_rule.proofs.{Downward.awaits-later, Entering.opened-reads, Readings.leaves-self, Readings.reads-then, Seeking.opened-beside, Seeking.StaysBeside}
-use Rattle.vm_tree_split.specs.Prepares.{IsLockDenied, pages_of}
+use Rattle.vm_tree_rule.proofs.{Downward.awaits-later, Entering.opened-reads, Readings.leaves-self, Seeking.opened-beside, Seeking.StaysBeside}
+use Rattle.vm_tree_split.specs.Prepares.{IsLockDenied, guard_pages}
 use Rattle.vm_tree_split.proofs.{Backing.AreOpened, Backing.denied-shown, Framing.keeps-then, Refusing.denied-keeps, Trying.reads-keep}
+use Rattle.vm_tree_join.specs.Made.{IsMergeMade}
 use Rattle.vm_tree_merge.specs.Beside.{AreInOrder, LeavesBeside}
 use Rattle.vm_tree_merge.specs.Done.{IsLockLost, IsMergeDone, MergesPages}
-use Rattle.vm_tree_merge.specs.{Made.IsMergeMade, Tried.IsDelRead, Tried.IsLeafRead, Tried.IsToMerge}
+use Rattle.vm_tree_merge.specs.Tried.{IsDelRead, IsLeafRead, IsToMerge}
 use Rattle.vm_tree_merge.proofs.Pairing.{four-are-apart, three-apart}
 
 -- a page that stays as it was read
@@ -117,7 +116,7 @@ module _ {S : Type 0} (plain : S → Said) (L : Layout) (v : View S) (key : ℕ)
       (λ (o : (behind ≡ false) × (one ≡ other) × (two ≡ leaf)). ((λ e. m.neighbour.apart.1 (ap (λ (g : OptGuard). g.pid) (sym o.1) ∙ e)), (λ e. m.neighbour.stands.not_zero.0 (ap (λ (g : OptGuard). g.pid) (sym o.2) ∙ e))))
       order
 
-  lost-of : (saw : Saw) (guards : List OptGuard) → AreOpened L guards v x → AreApart (pages_of guards) → IsLockDenied L guards (denies.Again saw) x w → IsLockLost L v saw w
+  lost-of : (saw : Saw) (guards : List OptGuard) → AreOpened L guards v x → AreApart (guard_pages guards) → IsLockDenied L guards (denies.Again saw) x w → IsLockLost L v saw w
   lost-of saw guards opened apart k = record {
     guards = guards;
     found = x;

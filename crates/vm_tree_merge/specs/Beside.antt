@@ -1,5 +1,5 @@
 -- A leaf's neighbour under the same parent; and why a leaf does not become one with it.
-use Rattle.std.specs.Prelude.{◌*◌, ◌++◌, ◌<◌, ◌∷◌, ◌≡◌, ◌≢◌, ◌≤◌, ◌⊎◌, Bool, false, length, List, None, Some, true, ℕ}
+use Rattle.std.specs.Prelude.{◌*◌, ◌++◌, ◌<◌, ◌≡◌, ◌≢◌, ◌≤◌, ◌⊎◌, Bool, false, length, List, None, Some, true, ℕ}
 use Rattle.vm_map.specs.Map.{Rises}
 use Rattle.vm_tree_model.specs.{Edits.child_of, Layout.Layout, Layout.size, Node.Node}
 use Rattle.vm_tree_model.specs.Page.{node_of, pairs_of}
@@ -11,7 +11,7 @@ use Rattle.vm_step.specs.declared.saw.At.TheVariants as ats
 use Rattle.vm_step.specs.declared.saw.Saw.{Saw}
 use Rattle.vm_guard.specs.{declared.opt.OptGuard.OptGuard, Guards.IsValid}
 use Rattle.vm_tree_laws.specs.Tied.{Tied}
-use Rattle.vm_tree_rule.specs.{Above.IsAbove, Above.IsParentOf, declared.above.Above.Above, declared.turn.Turn.Turn, Leaves.LeavesWord, Leaves.ReadsOn, Seeks.HasRead, Seeks.IsMetaRead, Seeks.IsNamedRoot}
+use Rattle.vm_tree_rule.specs.{Above.IsParentOf, declared.turn.Turn.Turn, Leaves.LeavesWord, Leaves.ReadsOn, Seeks.HasRead, Seeks.IsMetaRead, Seeks.IsNamedRoot}
 use Rattle.vm_tree_rule.specs.declared.turn.Turn.TheVariants as turns
 use Rattle.vm_tree_rule.specs.{Shown.IsAgain, Standing.AwaitsNode, Standing.IsOpened, Turns.IsNoChild}
 

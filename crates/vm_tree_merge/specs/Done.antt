@@ -1,17 +1,18 @@
 -- What a del comes to that may merge: a merge was made, or why not.
-use Rattle.std.specs.Prelude.{[], ◌*◌, ◌++◌, ◌∷◌, ◌≡◌, ◌≢◌, ◌≤◌, ◌⊎◌, Bool, length, List, true, ℕ}
+use Rattle.std.specs.Prelude.{[], ◌*◌, ◌∷◌, ◌≡◌, ◌≢◌, ◌≤◌, ◌⊎◌, Bool, length, List, ℕ}
 use Rattle.vm_map.specs.declared.call.Said.{Said}
 use Rattle.vm_tree_model.specs.{Layout.Layout, Layout.size}
 use Rattle.vm_tree_model.specs.Page.{IsLeaf, node_of, pairs_of}
 use Rattle.vm_step.specs.Prelude.{UnlockedExpected, View}
 use Rattle.vm_step.specs.declared.saw.Saw.{Saw}
-use Rattle.vm_guard.specs.{declared.deny.Deny.Deny, declared.opt.OptGuard.OptGuard}
+use Rattle.vm_guard.specs.{declared.opt.OptGuard.OptGuard}
 use Rattle.vm_guard.specs.declared.deny.Deny.TheVariants as denies
 use Rattle.vm_tree_laws.specs.May.{IsEdit}
 use Rattle.vm_tree_rule.specs.{Above.IsAbove, declared.above.Above.Above, Leaves.ReadsOn, Seeks.HasRead, Shown.IsShown}
 use Rattle.vm_tree_rule.specs.declared.above.Above.TheVariants as aboves
 use Rattle.vm_tree_split.specs.{Prepares.IsLockDenied, Splits.KeepsLocksOnly}
-use Rattle.vm_tree_merge.specs.{Beside.AreInOrder, Beside.IsNeighbour, Made.IsMergeMade}
+use Rattle.vm_tree_join.specs.Made.{IsMergeMade}
+use Rattle.vm_tree_merge.specs.Beside.{AreInOrder, IsNeighbour}
 
 -- The pages that a merge releases, in order, and those that it frees: the parent and both leaves, of which it frees the right one; but page 0 as well, and the parent is freed,
 -- where the parent is the root and has just these two children

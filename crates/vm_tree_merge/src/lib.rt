@@ -2,9 +2,6 @@
 #![tactic(auto)]
 
 pub mod beside;
-pub mod join;
-pub mod locks;
-pub mod merge;
 pub mod pair;
 pub mod tries;
 

@@ -7,16 +7,17 @@ ghost use Rattle.vm_step.specs.Prelude.{IsReady, IsSamePass, view};
 ghost use Rattle.vm_guard.specs.declared.opt.OptGuard.{OptGuard as Guard};
 ghost use Rattle.vm_tree_rule.specs.{Resident.IsKnownNow, Resident.KnowsResident, Seeks.IsMetaRead};
 ghost use Rattle.vm_tree_split.specs.Prepares.{IsLockDenied};
+ghost use Rattle.vm_tree_join.specs.Made.{IsMergeMade};
 ghost use Rattle.vm_tree_merge.specs.Beside.{AreInOrder, as_one};
-ghost use Rattle.vm_tree_merge.specs.{Made.IsMergeMade, Tried.IsLeafRead, Tried.IsToMerge};
+ghost use Rattle.vm_tree_merge.specs.Tried.{IsLeafRead, IsToMerge};
 
 use crate::beside::Neighbour;
-use crate::join::{join_below, join_last};
 use vm_block::Block;
 use vm_guard::{Deny, OptGuard};
 use vm_kind::{Merges, TreeOf};
 use vm_rule::words::{Pass, Words};
 use vm_step::Saw;
+use vm_tree_join::{join_below, join_last};
 
 /// The words of both as one leaf's: `rest`, those of the leaf without a key, and the neighbour's.
 fn joined<K: Merges>(behind: bool, rest: &K::Page, other: &K::Page) -> K::Page

@@ -1,6 +1,4 @@
-use Rattle.std.proofs.Common.{⊎_elim, ◌∙◌, ◌≡◌, ◌≢◌, ap, Bool, false, inl, inr, option_map, subst, sym, true, true≢false, ℕ}
-use Rattle.vm_tree_model.specs.Layout.{Layout}
-use Rattle.vm_inner.specs.Neighbours.{AreBeside}
+use Rattle.std.proofs.Common.{◌∙◌, ap, inr, option_map, sym}
 use Rattle.vm_tree_split.proofs.Splitting.{none-not}
 use Rattle.vm_tree_merge.proofs.Choosing.{both-leaf, chosen}
 use Rattle.vm_tree_merge.proofs.beside.choose_of.Goals as goal

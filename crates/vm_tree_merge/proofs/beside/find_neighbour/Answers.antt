@@ -1,10 +1,9 @@
-use Rattle.std.proofs.Common.{◌++◌, ◌∙◌, ap, inl, refl, subst, sym, ℕ}
+use Rattle.std.proofs.Common.{◌∙◌, ap, inl, subst, sym}
 use Rattle.vm_map.specs.Map.{next_key}
 use Rattle.vm_tree_model.specs.Page.{node_of, pairs_of}
 use Rattle.vm_rule.specs.Prelude.{last_of}
 use Rattle.vm_step.specs.Prelude.{Origin, view}
 use Rattle.vm_tree_rule.proofs.Whole.{tree-size}
-use Rattle.vm_tree_rule.specs.Standing.{AwaitsNode, NamesNode}
 use Rattle.vm_tree_rule.proofs.{Entering.opened-reads, Entering.refused-turn, Reaching.parent-beside, Surely.known-at, Surely.known-same}
 use Rattle.vm_tree_rule.proofs.Readings.{leaves-self, leaves-then, loads-reads, opened-earlier, opened-later, opened-loads, reads-self, reads-then, valid-reads}
 use Rattle.vm_tree_rule.proofs.Seeking.{beside-loads, beside-then, beside-valid}

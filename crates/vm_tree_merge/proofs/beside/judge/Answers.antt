@@ -1,7 +1,6 @@
-use Rattle.std.proofs.Common.{◌∙◌, inl, refl, Some, sym}
-use Rattle.vm_step.specs.Prelude.{view}
+use Rattle.std.proofs.Common.{inl, refl, sym}
 use Rattle.vm_tree_rule.proofs.{Entering.refused-turn, Surely.known-at, Surely.known-same}
-use Rattle.vm_tree_rule.proofs.Readings.{leaves-self, loads-reads, opened-loads, reads-self, reads-then, valid-reads}
+use Rattle.vm_tree_rule.proofs.Readings.{leaves-self, loads-reads, opened-loads, reads-self, valid-reads}
 use Rattle.vm_tree_rule.proofs.Seeking.{beside-loads, beside-then, beside-valid, opened-beside}
 use Rattle.vm_tree_merge.specs.Beside.IsUnmerged.{many, worn_beside}
 use Rattle.vm_tree_split.proofs.Splitting.{none-not}

@@ -1,5 +1,4 @@
-use Rattle.std.proofs.Common.{⊎_elim, ◌∙◌, ◌≡◌, ◌≢◌, ◌⊎◌, inl, inr, refl, sym, ℕ}
-use Rattle.vm_step.specs.Prelude.{view}
+use Rattle.std.proofs.Common.{⊎_elim, ◌∙◌, ◌≡◌, ◌≢◌, ◌⊎◌, inl, inr, sym, ℕ}
 use Rattle.vm_tree_rule.proofs.Reaching.{parent-beside}
 use Rattle.vm_tree_rule.proofs.Readings.{err-then, ok-both, ok-then}
 use Rattle.vm_tree_merge.specs.Beside.IsUnmerged.{full, single, worn_parent}

@@ -1,4 +1,4 @@
-use Rattle.std.proofs.Common.{ap, rules, inl, inr, subst, sym, ◌∙◌, ◌≤◌}
+use Rattle.std.proofs.Common.{rules, inl, inr, subst, sym, ◌≤◌}
 use Rattle.vm_tree_model.specs.{Layout.size, Merges.IsJoined}
 use Rattle.vm_kind.specs.Joins.{both_as_one}
 use Rattle.vm_tree_merge.specs.Beside.{as_one}

@@ -1,22 +1,12 @@
-use Rattle.std.proofs.Common.{[], Bool, false, true, ◌∙◌, ◌∷◌, ◌≡◌, ◌≢◌, ⊎_elim, inl, inr, refl, rules, subst, sym, true≢false, ℕ}
-use Rattle.vm_tree_model.specs.Merges.{IsJoined}
+use Rattle.std.proofs.Common.{[], ◌∷◌, rules, subst}
 use Rattle.vm_step.specs.Prelude.{view}
 use Rattle.vm_tree_split.specs.Prepares.{IsLockDenied, SaysWorn}
-use Rattle.vm_tree_merge.proofs.Pairing.{denied-again, knows-three, leaf-read, merge-left, merge-right, other-read, three-apart, up-read}
+use Rattle.vm_tree_merge.proofs.Pairing.{denied-again, knows-three, pair-before, pair-behind}
 use Rattle.vm_tree_merge.proofs.pair.merge_below.Goals as goal
 
 pub join_below-requires-clause-apart : goal.join_below-requires-clause-apart
 join_below-requires-clause-apart g c =
-    let L = g.K.Kind.layout in
-    let ch = c.args.found.choice in
-    let over = g.K.Pages.words_of c.args.over.now in
-    let page = g.K.Pages.words_of c.args.page.now in
-    let rest = g.K.Pages.words_of c.args.rest.now in
-    let opage = g.K.Pages.words_of c.args.other.now in
-    let leaf = c.args.leaf in
-    let other = c.args.found.guard in
-    let x = view c.args.pass.now in
-    three-apart c.args.up.pid leaf.pid other.pid (λ e. c.requires.leaf.3.neighbour.stands.apart (sym e)) (λ e. c.requires.leaf.3.neighbour.apart.0 (sym e)) (λ e. c.requires.leaf.3.neighbour.choice.apart (sym e))
+    (pair-behind c.requires.leaf.2 c.requires.leaf.3 c.requires.leaf.4 c.joined-both.ensures c.if-choice.true).apart
 
 pub join_below-requires-clause-sizes : goal.join_below-requires-clause-sizes
 join_below-requires-clause-sizes g c =
@@ -24,59 +14,23 @@ join_below-requires-clause-sizes g c =
 
 pub join_below-requires-clause-above : goal.join_below-requires-clause-above
 join_below-requires-clause-above g c =
-    let L = g.K.Kind.layout in
-    let ch = c.args.found.choice in
-    let over = g.K.Pages.words_of c.args.over.now in
-    let page = g.K.Pages.words_of c.args.page.now in
-    let rest = g.K.Pages.words_of c.args.rest.now in
-    let opage = g.K.Pages.words_of c.args.other.now in
-    let leaf = c.args.leaf in
-    let other = c.args.found.guard in
-    let x = view c.args.pass.now in
-    up-read L c.requires.leaf.0 c.requires.leaf.1 c.args.up leaf other over page rest opage ch.behind (g.K.Kind.rank ch.pair.low) ch.pair.left (g.K.Kind.rank ch.pair.separator) ch.pair.right (g.K.Kind.plain c.args.said.now) x c.requires.leaf.2 c.requires.leaf.3
+    (pair-behind c.requires.leaf.2 c.requires.leaf.3 c.requires.leaf.4 c.joined-both.ensures c.if-choice.true).above
 
 pub join_below-requires-clause-left : goal.join_below-requires-clause-left
 join_below-requires-clause-left g c =
-    let L = g.K.Kind.layout in
-    let ch = c.args.found.choice in
-    let over = g.K.Pages.words_of c.args.over.now in
-    let page = g.K.Pages.words_of c.args.page.now in
-    let rest = g.K.Pages.words_of c.args.rest.now in
-    let opage = g.K.Pages.words_of c.args.other.now in
-    let leaf = c.args.leaf in
-    let other = c.args.found.guard in
-    let x = view c.args.pass.now in
-    leaf-read L c.requires.leaf.0 c.requires.leaf.1 c.args.up leaf other over page rest opage ch.behind (g.K.Kind.rank ch.pair.low) ch.pair.left (g.K.Kind.rank ch.pair.separator) ch.pair.right (g.K.Kind.plain c.args.said.now) x c.requires.leaf.2 c.requires.leaf.3
+    (pair-behind c.requires.leaf.2 c.requires.leaf.3 c.requires.leaf.4 c.joined-both.ensures c.if-choice.true).left
 
 pub join_below-requires-clause-right : goal.join_below-requires-clause-right
 join_below-requires-clause-right g c =
-    let L = g.K.Kind.layout in
-    let ch = c.args.found.choice in
-    let over = g.K.Pages.words_of c.args.over.now in
-    let page = g.K.Pages.words_of c.args.page.now in
-    let rest = g.K.Pages.words_of c.args.rest.now in
-    let opage = g.K.Pages.words_of c.args.other.now in
-    let leaf = c.args.leaf in
-    let other = c.args.found.guard in
-    let x = view c.args.pass.now in
-    other-read L c.requires.leaf.0 c.requires.leaf.1 c.args.up leaf other over page rest opage ch.behind (g.K.Kind.rank ch.pair.low) ch.pair.left (g.K.Kind.rank ch.pair.separator) ch.pair.right (g.K.Kind.plain c.args.said.now) x c.requires.leaf.2 c.requires.leaf.3
+    (pair-behind c.requires.leaf.2 c.requires.leaf.3 c.requires.leaf.4 c.joined-both.ensures c.if-choice.true).right
 
 pub join_below-requires-clause-merge : goal.join_below-requires-clause-merge
 join_below-requires-clause-merge g c tells inner one two =
-    let L = g.K.Kind.layout in
-    let ch = c.args.found.choice in
-    let over = g.K.Pages.words_of c.args.over.now in
-    let page = g.K.Pages.words_of c.args.page.now in
-    let rest = g.K.Pages.words_of c.args.rest.now in
-    let opage = g.K.Pages.words_of c.args.other.now in
-    let leaf = c.args.leaf in
-    let other = c.args.found.guard in
-    let x = view c.args.pass.now in
-    merge-left L c.requires.leaf.0 c.requires.leaf.1 c.args.up leaf other over page rest opage ch.behind (g.K.Kind.rank ch.pair.low) ch.pair.left (g.K.Kind.rank ch.pair.separator) ch.pair.right (g.K.Kind.plain c.args.said.now) x c.requires.leaf.2 c.requires.leaf.3 c.if-choice.true (g.K.Pages.words_of c.joined-both.result) (g.K.Edits.edited over ch.edit) (⊎_elim (λ (k : (ch.behind ≡ true) × IsJoined L rest opage (g.K.Pages.words_of c.joined-both.result)). k.1) (λ (k : (ch.behind ≡ false) × IsJoined L opage rest (g.K.Pages.words_of c.joined-both.result)). absurd (true≢false (sym c.if-choice.true ∙ k.0))) c.joined-both.ensures) (c.requires.edit _ _ inner.node.rises) inner one two
+    (pair-behind c.requires.leaf.2 c.requires.leaf.3 c.requires.leaf.4 c.joined-both.ensures c.if-choice.true).merge tells _ (c.requires.edit _ _ inner.node.rises) inner one two
 
 pub returns-in-Ok-clause-ok : goal.returns-in-Ok-clause-ok
 returns-in-Ok-clause-ok g c =
-    (c.args.leaf, c.args.found.guard, inl (c.if-choice.true, refl, refl), c.in-Ok.ensures.ok)
+    (c.args.leaf, c.args.found.guard, (pair-behind c.requires.leaf.2 c.requires.leaf.3 c.requires.leaf.4 c.joined-both.ensures c.if-choice.true).order, c.in-Ok.ensures.ok)
 
 pub returns-in-Ok-clause-known : goal.returns-in-Ok-clause-known
 returns-in-Ok-clause-known g c k =
@@ -84,11 +38,11 @@ returns-in-Ok-clause-known g c k =
 
 pub lost-requires : goal.lost-requires
 lost-requires g c =
-    search (rules, denied-again g.K.Kind.layout (c.args.up ∷ c.args.leaf ∷ c.args.found.guard ∷ []) c.in-Err.deny (view c.args.pass.now) (view c.join_below.new.pass) (c.requires.leaf.3.below.0, (c.requires.leaf.4, (c.requires.leaf.3.below.1, tt))) c.in-Err.ensures.err)
+    search (rules, denied-again g.K.Kind.layout (c.args.up ∷ c.args.leaf ∷ c.args.found.guard ∷ []) c.in-Err.deny (view c.args.pass.now) (view c.join_below.new.pass) (pair-behind c.requires.leaf.2 c.requires.leaf.3 c.requires.leaf.4 c.joined-both.ensures c.if-choice.true).below c.in-Err.ensures.err)
 
 pub returns-in-Err-clause-err : goal.returns-in-Err-clause-err
 returns-in-Err-clause-err g c =
-    (c.args.leaf, c.args.found.guard, inl (c.if-choice.true, refl, refl), subst (λ d. IsLockDenied g.K.Kind.layout (c.args.up ∷ c.args.leaf ∷ c.args.found.guard ∷ []) d (view c.args.pass.now) (view c.join_below.new.pass)) c.lost.ensures c.in-Err.ensures.err.1)
+    (c.args.leaf, c.args.found.guard, (pair-behind c.requires.leaf.2 c.requires.leaf.3 c.requires.leaf.4 c.joined-both.ensures c.if-choice.true).order, subst (λ d. IsLockDenied g.K.Kind.layout (c.args.up ∷ c.args.leaf ∷ c.args.found.guard ∷ []) d (view c.args.pass.now) (view c.join_below.new.pass)) c.lost.ensures c.in-Err.ensures.err.1)
 
 pub returns-in-Err-clause-sure : goal.returns-in-Err-clause-sure
 returns-in-Err-clause-sure g c ku kl ko =
@@ -96,16 +50,7 @@ returns-in-Err-clause-sure g c ku kl ko =
 
 pub join_below-requires-2-clause-apart : goal.join_below-requires-2-clause-apart
 join_below-requires-2-clause-apart g c =
-    let L = g.K.Kind.layout in
-    let ch = c.args.found.choice in
-    let over = g.K.Pages.words_of c.args.over.now in
-    let page = g.K.Pages.words_of c.args.page.now in
-    let rest = g.K.Pages.words_of c.args.rest.now in
-    let opage = g.K.Pages.words_of c.args.other.now in
-    let leaf = c.args.leaf in
-    let other = c.args.found.guard in
-    let x = view c.args.pass.now in
-    three-apart c.args.up.pid other.pid leaf.pid (λ e. c.requires.leaf.3.neighbour.apart.0 (sym e)) (λ e. c.requires.leaf.3.neighbour.stands.apart (sym e)) c.requires.leaf.3.neighbour.choice.apart
+    (pair-before c.requires.leaf.2 c.requires.leaf.3 c.requires.leaf.4 c.joined-both.ensures c.if-choice.false).apart
 
 pub join_below-requires-2-clause-sizes : goal.join_below-requires-2-clause-sizes
 join_below-requires-2-clause-sizes g c =
@@ -113,59 +58,23 @@ join_below-requires-2-clause-sizes g c =
 
 pub join_below-requires-2-clause-above : goal.join_below-requires-2-clause-above
 join_below-requires-2-clause-above g c =
-    let L = g.K.Kind.layout in
-    let ch = c.args.found.choice in
-    let over = g.K.Pages.words_of c.args.over.now in
-    let page = g.K.Pages.words_of c.args.page.now in
-    let rest = g.K.Pages.words_of c.args.rest.now in
-    let opage = g.K.Pages.words_of c.args.other.now in
-    let leaf = c.args.leaf in
-    let other = c.args.found.guard in
-    let x = view c.args.pass.now in
-    up-read L c.requires.leaf.0 c.requires.leaf.1 c.args.up leaf other over page rest opage ch.behind (g.K.Kind.rank ch.pair.low) ch.pair.left (g.K.Kind.rank ch.pair.separator) ch.pair.right (g.K.Kind.plain c.args.said.now) x c.requires.leaf.2 c.requires.leaf.3
+    (pair-before c.requires.leaf.2 c.requires.leaf.3 c.requires.leaf.4 c.joined-both.ensures c.if-choice.false).above
 
 pub join_below-requires-2-clause-left : goal.join_below-requires-2-clause-left
 join_below-requires-2-clause-left g c =
-    let L = g.K.Kind.layout in
-    let ch = c.args.found.choice in
-    let over = g.K.Pages.words_of c.args.over.now in
-    let page = g.K.Pages.words_of c.args.page.now in
-    let rest = g.K.Pages.words_of c.args.rest.now in
-    let opage = g.K.Pages.words_of c.args.other.now in
-    let leaf = c.args.leaf in
-    let other = c.args.found.guard in
-    let x = view c.args.pass.now in
-    other-read L c.requires.leaf.0 c.requires.leaf.1 c.args.up leaf other over page rest opage ch.behind (g.K.Kind.rank ch.pair.low) ch.pair.left (g.K.Kind.rank ch.pair.separator) ch.pair.right (g.K.Kind.plain c.args.said.now) x c.requires.leaf.2 c.requires.leaf.3
+    (pair-before c.requires.leaf.2 c.requires.leaf.3 c.requires.leaf.4 c.joined-both.ensures c.if-choice.false).left
 
 pub join_below-requires-2-clause-right : goal.join_below-requires-2-clause-right
 join_below-requires-2-clause-right g c =
-    let L = g.K.Kind.layout in
-    let ch = c.args.found.choice in
-    let over = g.K.Pages.words_of c.args.over.now in
-    let page = g.K.Pages.words_of c.args.page.now in
-    let rest = g.K.Pages.words_of c.args.rest.now in
-    let opage = g.K.Pages.words_of c.args.other.now in
-    let leaf = c.args.leaf in
-    let other = c.args.found.guard in
-    let x = view c.args.pass.now in
-    leaf-read L c.requires.leaf.0 c.requires.leaf.1 c.args.up leaf other over page rest opage ch.behind (g.K.Kind.rank ch.pair.low) ch.pair.left (g.K.Kind.rank ch.pair.separator) ch.pair.right (g.K.Kind.plain c.args.said.now) x c.requires.leaf.2 c.requires.leaf.3
+    (pair-before c.requires.leaf.2 c.requires.leaf.3 c.requires.leaf.4 c.joined-both.ensures c.if-choice.false).right
 
 pub join_below-requires-2-clause-merge : goal.join_below-requires-2-clause-merge
 join_below-requires-2-clause-merge g c tells inner one two =
-    let L = g.K.Kind.layout in
-    let ch = c.args.found.choice in
-    let over = g.K.Pages.words_of c.args.over.now in
-    let page = g.K.Pages.words_of c.args.page.now in
-    let rest = g.K.Pages.words_of c.args.rest.now in
-    let opage = g.K.Pages.words_of c.args.other.now in
-    let leaf = c.args.leaf in
-    let other = c.args.found.guard in
-    let x = view c.args.pass.now in
-    merge-right L c.requires.leaf.0 c.requires.leaf.1 c.args.up leaf other over page rest opage ch.behind (g.K.Kind.rank ch.pair.low) ch.pair.left (g.K.Kind.rank ch.pair.separator) ch.pair.right (g.K.Kind.plain c.args.said.now) x c.requires.leaf.2 c.requires.leaf.3 c.if-choice.false (g.K.Pages.words_of c.joined-both.result) (g.K.Edits.edited over ch.edit) (⊎_elim (λ (k : (ch.behind ≡ true) × IsJoined L rest opage (g.K.Pages.words_of c.joined-both.result)). absurd (true≢false (sym k.0 ∙ c.if-choice.false))) (λ (k : (ch.behind ≡ false) × IsJoined L opage rest (g.K.Pages.words_of c.joined-both.result)). k.1) c.joined-both.ensures) tells (c.requires.edit _ _ inner.node.rises) inner one two
+    (pair-before c.requires.leaf.2 c.requires.leaf.3 c.requires.leaf.4 c.joined-both.ensures c.if-choice.false).merge tells _ (c.requires.edit _ _ inner.node.rises) inner one two
 
 pub returns-in-Ok-join_below-clause-ok : goal.returns-in-Ok-join_below-clause-ok
 returns-in-Ok-join_below-clause-ok g c =
-    (c.args.found.guard, c.args.leaf, inr (c.if-choice.false, refl, refl), c.in-Ok-join_below.ensures.ok)
+    (c.args.found.guard, c.args.leaf, (pair-before c.requires.leaf.2 c.requires.leaf.3 c.requires.leaf.4 c.joined-both.ensures c.if-choice.false).order, c.in-Ok-join_below.ensures.ok)
 
 pub returns-in-Ok-join_below-clause-known : goal.returns-in-Ok-join_below-clause-known
 returns-in-Ok-join_below-clause-known g c k =
@@ -173,11 +82,11 @@ returns-in-Ok-join_below-clause-known g c k =
 
 pub lost-requires-in-Err-join_below : goal.lost-requires-in-Err-join_below
 lost-requires-in-Err-join_below g c =
-    search (rules, denied-again g.K.Kind.layout (c.args.up ∷ c.args.found.guard ∷ c.args.leaf ∷ []) c.in-Err-join_below.deny (view c.args.pass.now) (view c.join_below-2.new.pass) (c.requires.leaf.3.below.0, (c.requires.leaf.3.below.1, (c.requires.leaf.4, tt))) c.in-Err-join_below.ensures.err)
+    search (rules, denied-again g.K.Kind.layout (c.args.up ∷ c.args.found.guard ∷ c.args.leaf ∷ []) c.in-Err-join_below.deny (view c.args.pass.now) (view c.join_below-2.new.pass) (pair-before c.requires.leaf.2 c.requires.leaf.3 c.requires.leaf.4 c.joined-both.ensures c.if-choice.false).below c.in-Err-join_below.ensures.err)
 
 pub returns-clause-err : goal.returns-clause-err
 returns-clause-err g c =
-    (c.args.found.guard, c.args.leaf, inr (c.if-choice.false, refl, refl), subst (λ d. IsLockDenied g.K.Kind.layout (c.args.up ∷ c.args.found.guard ∷ c.args.leaf ∷ []) d (view c.args.pass.now) (view c.join_below-2.new.pass)) c.lost-in-Err-join_below.ensures c.in-Err-join_below.ensures.err.1)
+    (c.args.found.guard, c.args.leaf, (pair-before c.requires.leaf.2 c.requires.leaf.3 c.requires.leaf.4 c.joined-both.ensures c.if-choice.false).order, subst (λ d. IsLockDenied g.K.Kind.layout (c.args.up ∷ c.args.found.guard ∷ c.args.leaf ∷ []) d (view c.args.pass.now) (view c.join_below-2.new.pass)) c.lost-in-Err-join_below.ensures c.in-Err-join_below.ensures.err.1)
 
 pub returns-clause-sure : goal.returns-clause-sure
 returns-clause-sure g c ku kl ko =

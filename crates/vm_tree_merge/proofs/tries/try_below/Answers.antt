@@ -1,7 +1,6 @@
-use Rattle.std.proofs.Common.{[], ◌∙◌, ◌∷◌, ap, inl, inr, length, refl, ℕ}
+use Rattle.std.proofs.Common.{[], ◌∙◌, ◌∷◌, ap, inl, inr, length, refl}
 use Rattle.std.proofs.lemmas.Bool.{false≢true}
 use Rattle.std.proofs.lemmas.List.{length-replicate}
-use Rattle.vm_step.specs.Prelude.{view}
 use Rattle.vm_tree_rule.specs.declared.above.Above.TheVariants as aboves
 use Rattle.vm_tree_merge.proofs.Choosing.{some-of}
 use Rattle.vm_tree_merge.proofs.Trying.{leaf-later, lost-three, merge-done}
