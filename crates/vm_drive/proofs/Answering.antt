@@ -1,6 +1,6 @@
 -- What the tree's calls that wait tell, in the terms of a worker: what its pass keeps, its entry, its note, or what it found.
 use Rattle.std.specs.Prelude.{IfErr, IfOk}
-use Rattle.std.proofs.Common.{[], ⊎_elim, ◌++◌, ◌<◌, ◌∙◌, ◌∷◌, ◌≡◌, ap, Err, List, Ok, refl, Result, subst, sym, ℕ}
+use Rattle.std.proofs.Common.{[], ⊎_elim, ◌++◌, ◌<◌, ◌∙◌, ◌∷◌, ◌≡◌, ◌⊎◌, ap, Err, List, Ok, refl, Result, subst, sym, ℕ}
 use Rattle.vm_map.specs.{declared.call.Call.Call, declared.call.Reply.Reply, declared.call.Said.Said, declared.window.Bound.Bound}
 use Rattle.vm_map.specs.declared.call.Call.TheVariants.{Del, Get, Put, Range, Swap, Window}
 use Rattle.vm_rule.specs.Prelude.{began_of, entry_of}
@@ -9,18 +9,20 @@ use Rattle.vm_guard.specs.Denied.{KeptWord}
 use Rattle.vm_tree_model.specs.{Fixed.fixed, Layout.Layout}
 use Rattle.vm_tree_laws.specs.Keeps.{KeepsTree}
 use Rattle.vm_kind.specs.Room.{HasRoomFor}
-use Rattle.vm_tree_rule.specs.declared.fault.TreeFault.{TreeFault}
+use Rattle.vm_tree_rule.specs.{declared.fault.TreeFault.TreeFault, Turns.IsNeeded}
 use Rattle.vm_tree_read.specs.Ranges.{IsRangeFaulted, IsRangeReplied}
 use Rattle.vm_tree_read.specs.Reads.{IsAnswered, IsOfKind}
 use Rattle.vm_tree_read.specs.Waiting.{IsFaulted as IsReadFaulted, IsReplied as IsReadReplied, Waits}
 use Rattle.vm_tree_split.specs.Splits.{KeepsLocksOnly}
-use Rattle.vm_tree_write.specs.Waiting.{IsDelRound, IsPutFaulted, IsPutFaulted as put_faulted, IsPutRound, IsWriteFaulted, IsWriteFaulted as faulted, IsWriteReplied}
-use Rattle.vm_tree_write.specs.Writes.{HasKeyIn, HasValueIn, IsVain, IsWornLeaf, IsWriteDone}
+use Rattle.vm_tree_merge.specs.Done.{IsMergeDone}
+use Rattle.vm_tree_write.proofs.Deleting.{needed-inside}
+use Rattle.vm_tree_write.specs.Waiting.{IsDelReplied, IsDelRound, IsNeededByDel, IsPutFaulted, IsPutFaulted as put_faulted, IsPutRound, IsWriteFaulted, IsWriteFaulted as faulted, IsWriteReplied, IsWriteRound}
+use Rattle.vm_tree_write.specs.Writes.{HasKeyIn, IsDelAlone, HasValueIn, IsVain, IsWornLeaf, IsWriteDone}
 use Rattle.vm_drive.specs.{Calls.KeepsPass, Shows.IsReplyShown, TreeCalls.as_said, TreeCalls.IsTreeCall}
 use Rattle.vm_kind.specs.WordRoom.{spare_in}
 use Rattle.vm_drive.proofs.{Bringing.fault-called, Called.HasFoundWorn, Called.IsCalled, Doing.keeps-then, Finding.denied-worn, Rooms.room-called}
 use Rattle.vm_drive.proofs.{Plainly.plain-keeps, Spanning.range-called, Spanning.range-faulted}
-use Rattle.vm_drive.proofs.Keeping.{all-pass, reads-pass, same-front, waits-pass, writes-pass}
+use Rattle.vm_drive.proofs.Keeping.{all-pass, merge-pass, reads-pass, same-front, waits-pass, writes-pass}
 
 module _ (size : ℕ) where
   abbrev L : Layout
@@ -39,6 +41,20 @@ module _ (size : ℕ) where
       keeps-then v r.tried w (pass v r.tried r.waits)
       (⊎_elim
       (λ (k : IsWriteDone as_said L said r.tried w × ¬ (IsVain said)). writes-pass k.0.page r.tried w k.0.writes)
+      (λ (k : IsAnswered as_said L said r.tried w × IsVain said). reads-pass r.tried w k.0.reads)
+      r.answered)
+
+  -- a del made in its leaf alone, or with a merge, or answered by a read
+  pub del-replied : (key : ℕ) (reply : Reply) (v w : View Said) → IsDelReplied as_said L key reply v w → KeepsPass v w
+  del-replied key reply v w r =
+      let said : Said = record { call = Del key; reply = reply } in
+      keeps-then v r.tried w (all-pass v r.tried r.waits)
+      (⊎_elim
+      (λ (k : (IsDelAlone as_said L key said r.tried w ⊎ IsMergeDone as_said L key said r.tried w) × ¬ (IsVain said)).
+      ⊎_elim
+      (λ (a : IsDelAlone as_said L key said r.tried w). writes-pass a.write.page r.tried w a.write.writes)
+      (λ (m : IsMergeDone as_said L key said r.tried w). keeps-then r.tried m.found w (reads-pass r.tried m.found m.earlier.0) (merge-pass m.found w m.made.holds))
+      k.0)
       (λ (k : IsAnswered as_said L said r.tried w × IsVain said). reads-pass r.tried w k.0.reads)
       r.answered)
 
@@ -82,19 +98,20 @@ module _ (size : ℕ) where
   leaf-worn : (key p : ℕ) (v w : View Said) → IsWornLeaf L v key p w → HasFoundWorn p w
   leaf-worn key p v w l = denied-worn UnlockedExpected (KeptWord l.word) p p l.found w l.opened.reading.page l.denied
 
-  pub write-faulted : (keeps : View Said → View Said → Type 0) (round : ℕ → View Said → View Said → Type 0) (may : List ℕ → ℕ → Type 0) → ((x y : View Said) → keeps x y → KeepsPass x y) → ((x y : View Said) → keeps x y → y.mine ≡ x.mine)
-      → (call : Call) (key : ℕ) (fault : TreeFault) (v w : View Said) → IsWriteFaulted L keeps round may key fault v w → KeepsPass v w × IsCalled size call (Err fault) v w
-  write-faulted keeps round may pass mine call key fault v w (faulted.missing tried found page rounds k reads needed fault_is all) = (
+  pub write-faulted : (keeps : View Said → View Said → Type 0) (round : ℕ → View Said → View Said → Type 0) (needs : View Said → ℕ → ℕ → View Said → Type 0) (may : List ℕ → ℕ → Type 0) → ((x y : View Said) → keeps x y → KeepsPass x y) → ((x y : View Said) → keeps x y → y.mine ≡ x.mine)
+      → ((k p : ℕ) (x y : View Said) → needs x k p y → p < x.start.pages)
+      → (call : Call) (key : ℕ) (fault : TreeFault) (v w : View Said) → IsWriteFaulted L keeps round needs may key fault v w → KeepsPass v w × IsCalled size call (Err fault) v w
+  write-faulted keeps round needs may pass mine inside call key fault v w (faulted.missing tried found page rounds k reads needed fault_is all) = (
     pass v w all,
-    fault-called size call fault page v found w (keeps-then v tried found (pass v tried k) (reads-pass tried found reads.0)) (mine v w all) (subst (λ (o : Origin). page < o.pages) (sym reads.0.start) needed.inside) fault_is,
+    fault-called size call fault page v found w (keeps-then v tried found (pass v tried k) (reads-pass tried found reads.0)) (mine v w all) (subst (λ (o : Origin). page < o.pages) (sym reads.0.start) (inside key page tried found needed)) fault_is,
   )
-  write-faulted keeps round may pass mine call key fault v w (faulted.worn tried page rounds k reads leaf would is all) = (
+  write-faulted keeps round needs may pass mine inside call key fault v w (faulted.worn tried page rounds k reads leaf would is all) = (
     pass v w all,
     subst (λ (f : TreeFault). IsCalled size call (Err f) v w) (sym is) (mine v w all, leaf-worn key page tried w leaf),
   )
 
   pub put-faulted : (key value : ℕ) (fault : TreeFault) (v w : View Said) → IsPutFaulted as_said L spare key fault v w → KeepsPass v w × IsCalled size (Put key value) (Err fault) v w
-  put-faulted key value fault v w (put_faulted.faulted f) = write-faulted KeepsLocksOnly (IsPutRound as_said L spare) (HasRoomFor L spare) all-pass (λ x y k. k.mine) (Put key value) key fault v w f
+  put-faulted key value fault v w (put_faulted.faulted f) = write-faulted KeepsLocksOnly (IsPutRound as_said L spare) (IsNeeded L) (HasRoomFor L spare) all-pass (λ x y k. k.mine) (λ k p x y n. n.inside) (Put key value) key fault v w f
   put-faulted key value fault v w (put_faulted.tight tried found page rounds k reads t room all) = (
     all-pass v w all,
     room-called L spare size key value fault v found w (keeps-then v tried found (all-pass v tried k) (reads-pass tried found reads.0)) all.mine room,
@@ -115,11 +132,11 @@ module _ (size : ℕ) where
   put-tells key value (Ok reply) v w ok kind err = (ok, kind)
   put-tells key value (Err fault) v w ok kind err = err
 
-  pub del-tells : (key : ℕ) (r : Result Reply TreeFault) (v w : View Said) → IfOk r (λ reply. IsWriteReplied as_said L Waits (IsDelRound L) (record { call = Del key; reply = reply }) v w) → IfOk r (λ reply. IsOfKind (Del key) reply) → IfErr r (λ fault. IsWriteFaulted L Waits (IsDelRound L) (HasKeyIn L) key fault v w) → IsTreeCall size (Del key) r v w
+  pub del-tells : (key : ℕ) (r : Result Reply TreeFault) (v w : View Said) → IfOk r (λ reply. IsDelReplied as_said L key reply v w) → IfOk r (λ reply. IsOfKind (Del key) reply) → IfErr r (λ fault. IsWriteFaulted L KeepsLocksOnly (IsDelRound L) (IsNeededByDel L) (HasKeyIn L) key fault v w) → IsTreeCall size (Del key) r v w
   del-tells key (Ok reply) v w ok kind err = (ok, kind)
   del-tells key (Err fault) v w ok kind err = err
 
-  pub swap-tells : (key want value : ℕ) (r : Result Reply TreeFault) (v w : View Said) → IfOk r (λ reply. IsWriteReplied as_said L Waits (IsDelRound L) (record { call = Swap key want value; reply = reply }) v w) → IfOk r (λ reply. IsOfKind (Swap key want value) reply) → IfErr r (λ fault. IsWriteFaulted L Waits (IsDelRound L) (λ words key. HasValueIn L words key want) key fault v w) → IsTreeCall size (Swap key want value) r v w
+  pub swap-tells : (key want value : ℕ) (r : Result Reply TreeFault) (v w : View Said) → IfOk r (λ reply. IsWriteReplied as_said L Waits (IsWriteRound L) (record { call = Swap key want value; reply = reply }) v w) → IfOk r (λ reply. IsOfKind (Swap key want value) reply) → IfErr r (λ fault. IsWriteFaulted L Waits (IsWriteRound L) (IsNeeded L) (λ words key. HasValueIn L words key want) key fault v w) → IsTreeCall size (Swap key want value) r v w
   swap-tells key want value (Ok reply) v w ok kind err = (ok, kind)
   swap-tells key want value (Err fault) v w ok kind err = err
 
@@ -136,10 +153,10 @@ module _ (size : ℕ) where
   tree-called (Get key) (Err fault) v w t = read-faulted (Get key) key fault v w t
   tree-called (Put key value) (Ok reply) v w t = (write-replied KeepsLocksOnly (IsPutRound as_said L spare) all-pass (record { call = Put key value; reply = reply }) v w t.0, (t.0.mine ∙ ap (λ (s : Said). v.mine ++ entry_of v s ∷ []) t.0.says_is, tt))
   tree-called (Put key value) (Err fault) v w t = put-faulted key value fault v w t
-  tree-called (Del key) (Ok reply) v w t = (write-replied Waits (IsDelRound L) waits-pass (record { call = Del key; reply = reply }) v w t.0, (t.0.mine ∙ ap (λ (s : Said). v.mine ++ entry_of v s ∷ []) t.0.says_is, tt))
-  tree-called (Del key) (Err fault) v w t = write-faulted Waits (IsDelRound L) (HasKeyIn L) waits-pass (λ x y k. k.mine) (Del key) key fault v w t
-  tree-called (Swap key want value) (Ok reply) v w t = (write-replied Waits (IsDelRound L) waits-pass (record { call = Swap key want value; reply = reply }) v w t.0, (t.0.mine ∙ ap (λ (s : Said). v.mine ++ entry_of v s ∷ []) t.0.says_is, tt))
-  tree-called (Swap key want value) (Err fault) v w t = write-faulted Waits (IsDelRound L) (λ words key. HasValueIn L words key want) waits-pass (λ x y k. k.mine) (Swap key want value) key fault v w t
+  tree-called (Del key) (Ok reply) v w t = (del-replied key reply v w t.0, (t.0.mine ∙ ap (λ (s : Said). v.mine ++ entry_of v s ∷ []) t.0.says_is, tt))
+  tree-called (Del key) (Err fault) v w t = write-faulted KeepsLocksOnly (IsDelRound L) (IsNeededByDel L) (HasKeyIn L) all-pass (λ x y k. k.mine) (λ k p x y n. needed-inside L k p x y n) (Del key) key fault v w t
+  tree-called (Swap key want value) (Ok reply) v w t = (write-replied Waits (IsWriteRound L) waits-pass (record { call = Swap key want value; reply = reply }) v w t.0, (t.0.mine ∙ ap (λ (s : Said). v.mine ++ entry_of v s ∷ []) t.0.says_is, tt))
+  tree-called (Swap key want value) (Err fault) v w t = write-faulted Waits (IsWriteRound L) (IsNeeded L) (λ words key. HasValueIn L words key want) waits-pass (λ x y k. k.mine) (λ k p x y n. n.inside) (Swap key want value) key fault v w t
   tree-called (Range low bound) (Ok reply) v w t = range-called size low bound reply v w t.0
   tree-called (Range low bound) (Err fault) v w t = range-faulted size (Range low bound) low bound fault v w t
   tree-called (Window start most) (Ok reply) v w t = reply-shown (Window start most) reply v w t.0

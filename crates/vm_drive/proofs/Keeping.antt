@@ -7,6 +7,7 @@ use Rattle.vm_step.specs.Prelude.{View}
 use Rattle.vm_tree_rule.specs.Leaves.{OnlyReads}
 use Rattle.vm_tree_read.specs.{Ranges.HoldsOn, Waiting.Waits}
 use Rattle.vm_tree_split.specs.{Splits.KeepsLocksOnly}
+use Rattle.vm_tree_join.specs.Made.{HoldsAll}
 use Rattle.vm_tree_write.specs.{Writes.OnlyWrites}
 use Rattle.vm_drive.specs.Calls.{KeepsPass}
 
@@ -22,6 +23,9 @@ module _ {X : Type 0} where
 
   pub writes-pass : (p : ℕ) (v w : View X) → OnlyWrites p v w → KeepsPass v w
   writes-pass p v w r = record { holds = r.holds; out = r.out; start = r.start; parts = r.parts; seen = r.seen; releases = r.releases; notes = same-front w.notes v.notes r.notes; log = (r.done, r.log) }
+
+  pub merge-pass : (v w : View X) → HoldsAll v w → KeepsPass v w
+  merge-pass v w r = record { holds = r.holds; out = r.out; start = r.start; parts = r.parts; seen = r.seen; releases = r.releases; notes = same-front w.notes v.notes r.notes; log = r.log }
 
   pub on-pass : (v w : View X) → HoldsOn v w → KeepsPass v w
   on-pass v w k = record { holds = k.holds; out = k.out; start = k.start; parts = k.parts; seen = k.seen; releases = k.releases; notes = same-front w.notes v.notes k.notes; log = k.log }

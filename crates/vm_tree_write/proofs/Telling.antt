@@ -1,6 +1,6 @@
 -- Why a write gave no reply.
 use Rattle.std.proofs.Common.{◌+◌, ◌∙◌, ◌≡◌, ◌≢◌, ◌⊎◌, ap, arith, inl, inr, length, List, None, Option, refl, Some, subst, sym, true, ℕ}
-use Rattle.vm_map.specs.{declared.call.Reply.Reply, declared.call.Said.Said, declared.call.Swap.Swap as Outcome, History.outcome_of}
+use Rattle.vm_map.specs.{declared.call.Said.Said, declared.call.Swap.Swap as Outcome, History.outcome_of}
 use Rattle.vm_map.specs.declared.call.Call.TheVariants.{Del, Put, Swap}
 use Rattle.vm_map.specs.declared.call.Reply.TheVariants.{Gone, Swapped, Was}
 use Rattle.vm_map.specs.declared.call.Swap.TheVariants as swaps
@@ -9,6 +9,7 @@ use Rattle.vm_map.specs.Map.{del_pair, lookup_at, Rises}
 use Rattle.vm_tree_model.specs.{Edits.IsLeafWith, Edits.PutsInLeaf, Layout.IsClean, Layout.IsLayout, Layout.Layout, Layout.size, Node.Covers}
 use Rattle.vm_tree_model.specs.Page.{IsLeaf, node_of, pairs_of}
 use Rattle.vm_node.specs.Loads.{IsPageWith}
+use Rattle.vm_core.specs.Prelude.{MAX_VERSION, version_of}
 use Rattle.vm_rule.specs.Prelude.{last_of}
 use Rattle.vm_step.specs.Prelude.{NoneExpected, Origin, UnlockedExpected, View}
 use Rattle.vm_step.specs.declared.saw.Saw.{Saw}
@@ -21,17 +22,30 @@ use Rattle.vm_tree_rule.specs.{Leaves.ReadsOn, Seeks.HasLoaded, Seeks.HasRead, S
 use Rattle.vm_tree_rule.specs.declared.turn.Turn.TheVariants as turns
 use Rattle.vm_tree_rule.proofs.Entering.{opened-reads}
 use Rattle.vm_tree_rule.proofs.Readings.{denied-reads, loads-reads, opened-loads, reads-then, same-page, valid-reads}
-use Rattle.vm_tree_rule.proofs.{Downward.awaits-later, Surely.known-same}
+use Rattle.vm_tree_rule.proofs.{Downward.awaits-later, Reaching.above-beside, Reaching.above-known, Seeking.beside-loads, Surely.known-same}
+use Rattle.vm_tree_rule.specs.{Above.IsAbove, Above.KnowsAbove, declared.above.Reached.Reached}
 use Rattle.vm_tree_rule.specs.Resident.{IsKnownNow}
 use Rattle.vm_kind.specs.Room.{HasRoomFor}
 use Rattle.vm_tree_read.specs.Reads.{IsAnswered}
 use Rattle.vm_tree_read.proofs.Answering.{answered-as, answered-later, page-with}
-use Rattle.vm_tree_write.specs.Writes.{IsFullLeaf, IsSwap, IsTight, IsVain, IsWornLeaf, IsWriteDone, IsWriteToTry, swap_reply, TellTight, WritesNothing}
+use Rattle.vm_tree_merge.specs.{Beside.IsAstrayBeside, Beside.IsUnmerged, Done.IsLockLost, Done.IsMergeDone}
+use Rattle.vm_tree_write.specs.Writes.{IsDel, IsDelAlone, IsFullLeaf, IsSwap, IsTight, IsVain, IsWornLeaf, IsWriteDone, IsWriteOf, IsWriteToTry, swap_reply, TellTight, WritesNothing}
 use Rattle.vm_tree_write.specs.declared.write.TryWrite.TheVariants as tries
 use Rattle.vm_tree_split.proofs.Backing.{shown-refused, shown-unlocked, shown-wider}
 use Rattle.vm_tree_write.proofs.Writing.{leaf-is, written-later}
 
+-- a leaf that was written was below the last version
+pub written-below : {S : Type 0} (plain : S → Said) (L : Layout) (said : Said) (p word : ℕ) (page : List ℕ) (x v w : View S) → IsWriteOf plain L said p word page x v w → version_of word ≢ MAX_VERSION
+written-below plain L said p word page x v w a last =
+    let below = a.0.taken.holding.below in
+    let at : a.0.version ≡ MAX_VERSION = a.0.at ∙ ap version_of a.3 ∙ last in
+    absurd (omega (arith, below, at))
+
 module _ {X : Type 0} (L : Layout) where
+  -- a del is to be tried again
+  pub to-try : (key : ℕ) (saw : Saw) (v w : View X) → ReadsOn v w × IsWriteToTry L v key saw w → (ReadsOn v w × (IsWriteToTry L v key saw w ⊎ IsAstrayBeside L v key saw w)) ⊎ IsLockLost L v saw w
+  to-try key saw v w k = inl (k.0, inl k.1)
+
   pub not-read : (key : ℕ) (saw : Saw) (v w : View X) → IsTurnedBack L v key (turns.Again saw) w → ReadsOn v w × IsWriteToTry L v key saw w
   not-read key saw v w a = (a.0, inl (shown-wider saw v w a.1))
 
@@ -115,6 +129,22 @@ module _ {X : Type 0} (p word frame : ℕ) (first then : List (ℕ × ℕ)) (x y
   pub awaits-twice : {L : Layout} (key : ℕ) → Awaits L x p word 0 key → Awaits L z p word 0 key
   awaits-twice key w = awaits-later p word 0 key x z twice.0 w
 
+-- the pages above the leaf stay open meanwhile
+module _ {X : Type 0} (L : Layout) (v : View X) (key : ℕ) (reached : Reached) where
+  above-once : (loaded : List (ℕ × ℕ)) (x y : View X) → Loads reached.leaf.pid reached.leaf.word reached.leaf.frame loaded x y → IsAbove L v key reached.above reached.leaf.pid x → IsAbove L v key reached.above reached.leaf.pid y
+  above-once loaded x y a k =
+      above-beside L v key reached.above reached.leaf.pid x y (loads-reads reached.leaf.pid reached.leaf.word reached.leaf.frame loaded x y a)
+      (λ q ne. beside-loads q reached.leaf.pid reached.leaf.word reached.leaf.frame loaded x y ne a) k
+
+  pub above-twice : (first then : List (ℕ × ℕ)) (x y z : View X) → Loads reached.leaf.pid reached.leaf.word reached.leaf.frame first x y → Loads reached.leaf.pid reached.leaf.word reached.leaf.frame then y z
+      → IsAbove L v key reached.above reached.leaf.pid x → IsAbove L v key reached.above reached.leaf.pid z
+  above-twice first then x y z a b k = above-once then y z b (above-once first x y a k)
+
+pub above-known-twice : {X : Type 0} (reached : Reached) (first then : List (ℕ × ℕ)) (x y z : View X) → Loads reached.leaf.pid reached.leaf.word reached.leaf.frame first x y → Loads reached.leaf.pid reached.leaf.word reached.leaf.frame then y z
+    → KnowsAbove reached.above x → KnowsAbove reached.above z
+above-known-twice reached first then x y z a b k =
+    above-known reached.above y z (loads-reads _ _ _ _ _ _ b).0 b.table (above-known reached.above x y (loads-reads _ _ _ _ _ _ a).0 a.table k)
+
 pub reads-twice : {X : Type 0} (p word frame : ℕ) (first then : List (ℕ × ℕ)) (v x y z : View X) → ReadsOn v x → Loads p word frame first x y → Loads p word frame then y z → ReadsOn v z
 reads-twice p word frame first then v x y z r a b = reads-then v x z r (twice p word frame first then x y z a b)
 
@@ -167,12 +197,22 @@ module _ {S : Type 0} (plain : S → Said) (L : Layout) where
   done-as said other page v x w same reads a =
       let later = written-later plain L said v x w reads a.0 in subst (λ (s : Said). (b : IsWriteDone plain L s v w) × (b.old ≡ page)) same (later.0, later.1 ∙ a.1)
 
-  pub del-done : (said : Said) (key was : ℕ) (page : List ℕ) (v x w : View S) → said ≡ record { call = Del key; reply = Gone (Some was) } → ReadsOn v x → (a : IsWriteDone plain L said x w) × (a.old ≡ page)
-      → (IsWriteDone plain L (record { call = Del key; reply = Gone (Some was) }) v w × ¬ (IsVain (record { call = Del key; reply = Gone (Some was) }))) ⊎ (IsAnswered plain L (record { call = Del key; reply = Gone (Some was) }) v w × IsVain (record { call = Del key; reply = Gone (Some was) }))
-  del-done said key was page v x w same reads a = inl ((done-as said _ page v x w same reads a).0, λ none. none)
+  pub del-done : (said : Said) (key was p word : ℕ) (page rest : List ℕ) (v x w : View S) → said ≡ record { call = Del key; reply = Gone (Some was) } → ReadsOn v x → IsWriteOf plain L said p word page x x w
+      → (IsLeaf L page → IsEdit L page rest said.call said.reply) → IsUnmerged L v key p rest x → IsDel plain L key (tries.Done (Gone (Some was))) v w
+  del-done said key was p word page rest v x w same reads a edit unmerged =
+      let b = written-later plain L said v x w reads a.0 in
+      let alone : IsDelAlone plain L key said v w = record {
+        write = b.0;
+        rest = rest;
+        without = subst (λ (l : List ℕ). IsLeaf L l → IsEdit L l rest said.call said.reply) (sym (b.1 ∙ a.1)) edit;
+        unmerged = subst (λ n. IsUnmerged L v key n rest b.0.found) (sym (b.2 ∙ a.2)) (subst (λ (y : View S). IsUnmerged L v key p rest y) (sym (b.4 ∙ a.4)) unmerged);
+      } in
+      inl (inl (subst (λ (s : Said). IsDelAlone plain L key s v w) same alone), λ none. none)
 
-  pub del-missed : (said : Said) (key : ℕ) (v x w : View S) → said ≡ record { call = Del key; reply = Gone None } → ReadsOn v x → IsAnswered plain L said x w
-      → (IsWriteDone plain L (record { call = Del key; reply = Gone None }) v w × ¬ (IsVain (record { call = Del key; reply = Gone None }))) ⊎ (IsAnswered plain L (record { call = Del key; reply = Gone None }) v w × IsVain (record { call = Del key; reply = Gone None }))
+  pub del-merged : (said : Said) (key was : ℕ) (v w : View S) → said ≡ record { call = Del key; reply = Gone (Some was) } → IsMergeDone plain L key said v w → IsDel plain L key (tries.Done (Gone (Some was))) v w
+  del-merged said key was v w same d = inl (inr (subst (λ (s : Said). IsMergeDone plain L key s v w) same d), λ none. none)
+
+  pub del-missed : (said : Said) (key : ℕ) (v x w : View S) → said ≡ record { call = Del key; reply = Gone None } → ReadsOn v x → IsAnswered plain L said x w → IsDel plain L key (tries.Done (Gone None)) v w
   del-missed said key v x w same reads a = inr (answered-later plain L _ v x w reads (answered-as plain L said _ x w same a), tt)
 
   pub swap-done : (said : Said) (key want value : ℕ) (page : List ℕ) (v x w : View S) → said ≡ record { call = Swap key want value; reply = Swapped swaps.Done } → ReadsOn v x → (a : IsWriteDone plain L said x w) × (a.old ≡ page)

@@ -2,7 +2,7 @@
 use Rattle.std.proofs.Common.{[], ⊎_elim, ◌++◌, ◌+◌, ◌∙◌, ◌∷◌, ◌≡◌, ◌⊎◌, ap, append_assoc, arith, Bool, false, inl, inr, length, List, None, refl}
 use Rattle.vm_page.specs.Pages.{all_zero}
 use Rattle.vm_tree_laws.proofs.Zeros.{node_words}
-use Rattle.std.proofs.Common.{slice_index, Some, subst, sym, true, ℕ}
+use Rattle.std.proofs.Common.{Some, subst, sym, true, ℕ}
 use Rattle.std.proofs.lemmas.Bool.{cases_eq}
 use Rattle.std.proofs.lemmas.List.{append_cancel_left}
 use Rattle.vm_map.specs.{declared.call.Call.Call, declared.call.Reply.Reply, declared.call.Said.Said}
@@ -13,7 +13,7 @@ use Rattle.vm_tree_model.specs.{Layout.IsLayout, Layout.Layout, Tree.map_of}
 use Rattle.vm_tree_model.specs.Page.{IsFree, IsInner, IsLeaf, node_of}
 use Rattle.vm_core.specs.Prelude.{LOCKED, version_of, word_of}
 use Rattle.vm_owner.proofs.NumberLemmas.{without-none}
-use Rattle.vm_rule.specs.Prelude.{AreUnchanged, began_of, change_of, draft_of, Each, entries_under, Entry, entry_of, IsLocking, last_of}
+use Rattle.vm_rule.specs.Prelude.{AreUnchanged, began_of, change_of, draft_of, Each, Entry, entry_of, IsLocking, last_of}
 use Rattle.vm_rule.specs.Prelude.{loads_at, next_after, Seat, seat_of}
 use Rattle.vm_rule.specs.declared.view.Place.{Place}
 use Rattle.vm_rule.specs.declared.view.Place.TheVariants as places
@@ -29,7 +29,7 @@ use Rattle.vm_tree_rule.proofs.Readings.{reads-self, reads-then}
 use Rattle.vm_tree_read.proofs.Answering.{words-are}
 use Rattle.vm_tree_split.specs.Drafts.{DraftsIn, IsRedrafted, SetsDiffering}
 use Rattle.vm_tree_split.specs.PageNumbers.{GainsNone}
-use Rattle.vm_tree_write.specs.Writes.{IsBorneOutBy, IsWriteDone, IsWritePlace, OnlyWrites}
+use Rattle.vm_tree_write.specs.Writes.{IsBorneOutBy, IsWriteDone, IsWriteOf, IsWritePlace, OnlyWrites}
 use Rattle.vm_tree_split.proofs.{Drafting.Stores, Framing.entry-same, Framing.unheld-not, Numbering.gains-kept, Numbering.gains-then, Numbering.released-used}
 
 -- a page of the tree with a leaf's tag is a leaf
@@ -205,7 +205,7 @@ module _ {S : Type 0} (plain : S → Said) (L : Layout) (laws : IsLayout L) wher
               edit = edit (leaf-before tells tag);
             }
 
-        pub written : ((node_of L before).tag ≡ 2) → (IsLeaf L before → IsEdit L before after (plain said).call (plain said).reply) → SetsDiffering before after x y → DraftsIn p f x y → (v.start.tells ≡ true → IsKeptNow (KeepsPlain plain L) p (Unit {0}) w) → (a : IsWriteDone plain L (plain said) v w) × (a.old ≡ before)
+        pub written : ((node_of L before).tag ≡ 2) → (IsLeaf L before → IsEdit L before after (plain said).call (plain said).reply) → SetsDiffering before after x y → DraftsIn p f x y → (v.start.tells ≡ true → IsKeptNow (KeepsPlain plain L) p (Unit {0}) w) → IsWriteOf plain L (plain said) p word before v v w
         unfolding only
         written tag edit sets drafts kept =
             let used : y.used ≡ v.used = d.elsewhere.steady.parts.0 ∙ l.elsewhere.steady.parts.0 in
@@ -243,6 +243,9 @@ module _ {S : Type 0} (plain : S → Said) (L : Layout) (laws : IsLayout L) wher
                 last = ap (λ (z : Rattle.vm_core.specs.History.Version). z.version) e.last;
                 told = borne-out tag edit kept;
               },
+              refl,
+              refl,
+              refl,
               refl,
             )
 
@@ -287,7 +290,7 @@ only-later p v x w r a = record {
 }
 
 module _ {S : Type 0} (plain : S → Said) (L : Layout) where
-  pub written-later : (said : Said) (v x w : View S) → ReadsOn v x → (a : IsWriteDone plain L said x w) → (b : IsWriteDone plain L said v w) × (b.old ≡ a.old)
+  pub written-later : (said : Said) (v x w : View S) → ReadsOn v x → (a : IsWriteDone plain L said x w) → IsWriteOf plain L said a.page a.word a.old a.found v w
   unfolding only-later
   written-later said v x w r a =
       let same : entry_of x a.says ≡ entry_of v a.says = entry-same v x a.says r.0.parts.0 r.1 in (
@@ -322,5 +325,8 @@ module _ {S : Type 0} (plain : S → Said) (L : Layout) where
           last = a.last;
           told = λ tells. borne-later plain L a.page a.old a.new said v x w r.0.start (a.told (ap (λ (o : Origin). o.tells) r.0.start ∙ tells));
         },
+        refl,
+        refl,
+        refl,
         refl,
       )

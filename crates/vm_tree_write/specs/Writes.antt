@@ -13,7 +13,7 @@ use Rattle.vm_rule.specs.declared.view.Place.{Place}
 use Rattle.vm_rule.specs.declared.view.Place.TheVariants as places
 use Rattle.vm_step.specs.Prelude.{Did, HasWritten, HoldsPage, KnowsAsBefore, Tie, UnlockedExpected, View}
 use Rattle.vm_step.specs.declared.saw.Saw.{Saw}
-use Rattle.vm_guard.specs.{declared.deny.Deny.Deny, Guards.IsLocked, Guards.IsReading, Guards.IsValid, Quiet.IsUnmark}
+use Rattle.vm_guard.specs.{Guards.IsLocked, Guards.IsReading, Guards.IsValid, Quiet.IsUnmark}
 use Rattle.vm_guard.specs.declared.deny.Deny.TheVariants as denies
 use Rattle.vm_guard.specs.Denied.{AgainOrWorn, IsDenied, KeptWord}
 use Rattle.vm_tree_laws.specs.{History.IsLegal, May.IsEdit, Plain.KeepsPlain, Plain.plain_history, Tied.Tied}
@@ -23,6 +23,7 @@ use Rattle.vm_tree_rule.specs.Turns.{IsAstray, IsNeeded, TellLeaf}
 use Rattle.vm_node.specs.Loads.{IsPageWith}
 use Rattle.vm_tree_read.specs.Reads.{GainsEntry, IsAnswered}
 use Rattle.vm_tree_split.specs.{Drafts.IsDraftPlace, PageNumbers.GainsNone}
+use Rattle.vm_tree_merge.specs.{Beside.IsAstrayBeside, Beside.IsNeededBeside, Beside.IsUnmerged, Done.IsLockLost, Done.IsMergeDone}
 use Rattle.vm_tree_write.specs.{declared.write.Tried.Tried, declared.write.TryWrite.TryWrite}
 use Rattle.vm_tree_write.specs.declared.write.Tried.TheVariants as onces
 use Rattle.vm_tree_write.specs.declared.write.TryWrite.TheVariants as tries
@@ -174,12 +175,26 @@ module _ {S : Type 0} (plain : S → Said) (L : Layout) where
   IsPut spare key value (tries.Worn p) v w = ReadsOn v w × (a : IsWornLeaf L v key p w) × HasRoomFor L spare a.words key
   IsPut spare key value (tries.Tight p) v w = ReadsOn v w × IsTight L spare v key p w
 
-  -- a try of a del: made in a leaf that has the key, which may be at the last version; or answered by a validation of a leaf that has it not, which locks
-  -- nothing, at whatever version
+  -- So a write was made of page p, whose open read had this word, at the view x, and these words were read of it
+  abbrev pub IsWriteOf : Said → ℕ → ℕ → List ℕ → View S → View S → View S → Type 0
+  IsWriteOf said p word page x v w = (a : IsWriteDone plain L said v w) × (a.old ≡ page) × (a.page ≡ p) × (a.word ≡ word) × (a.found ≡ x)
+
+  -- A del was made in its leaf alone: as words tell that were validated in this call, a condition for a merge is not met. `rest` is the leaf without the key
+  pub record IsDelAlone (key : ℕ) (said : Said) (v w : View S) : Type 0 where
+    pub write : IsWriteDone plain L said v w
+    pub rest : List ℕ
+    pub without : IsLeaf L write.old → IsEdit L write.old rest said.call said.reply
+    pub unmerged : IsUnmerged L v key write.page rest write.found
+
+  -- a try of a del: made in a leaf that has the key, which may be at the last version, either alone or with a merge; or answered by a validation of a leaf that has it
+  -- not, which locks nothing, at whatever version. What is told as to be tried again may be a lock that was lost for a merge; and a page that is needed, or that is not
+  -- what the way to it says, may be the leaf's neighbour
   abbrev pub IsDel : ℕ → TryWrite → View S → View S → Type 0
-  IsDel key (tries.Done reply) v w = (IsWriteDone plain L (record { call = Del key; reply = reply }) v w × ¬ (IsVain (record { call = Del key; reply = reply }))) ⊎ (IsAnswered plain L (record { call = Del key; reply = reply }) v w × IsVain (record { call = Del key; reply = reply }))
-  IsDel key (tries.Again saw) v w = ReadsOn v w × IsWriteToTry L v key saw w
-  IsDel key (tries.Need p) v w = ReadsOn v w × IsNeeded L v key p w
+  IsDel key (tries.Done reply) v w =
+      ((IsDelAlone key (record { call = Del key; reply = reply }) v w ⊎ IsMergeDone plain L key (record { call = Del key; reply = reply }) v w) × ¬ (IsVain (record { call = Del key; reply = reply })))
+      ⊎ (IsAnswered plain L (record { call = Del key; reply = reply }) v w × IsVain (record { call = Del key; reply = reply }))
+  IsDel key (tries.Again saw) v w = (ReadsOn v w × (IsWriteToTry L v key saw w ⊎ IsAstrayBeside L v key saw w)) ⊎ IsLockLost L v saw w
+  IsDel key (tries.Need p) v w = ReadsOn v w × (IsNeeded L v key p w ⊎ IsNeededBeside L v key p w)
   IsDel key (tries.Worn p) v w = ReadsOn v w × (a : IsWornLeaf L v key p w) × HasKeyIn L a.words key
   IsDel key (tries.Tight p) v w = ⊥
 

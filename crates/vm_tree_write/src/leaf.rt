@@ -8,7 +8,7 @@ ghost use Rattle.vm_guard.specs.Guards.{IsReading, placed};
 ghost use Rattle.vm_tree_laws.specs.May.{IsEdit};
 ghost use Rattle.vm_tree_rule.specs.Resident.{IsKnownNow, KnowsResident};
 ghost use Rattle.vm_tree_split.specs.Prepares.{SaysWorn};
-ghost use Rattle.vm_tree_write.specs.Writes.{IsWriteDone};
+ghost use Rattle.vm_tree_write.specs.Writes.{IsWriteOf};
 
 use vm_block::Block;
 use vm_guard::{Deny, OptGuard};
@@ -35,7 +35,7 @@ pub fn write_leaf<K: Edits, B: Block>(
         → IsEdit K.layout (K.words_of before.now) (K.edited (K.words_of before.now) edit) (K.plain said.now).call (K.plain said.now).reply }
     ensures pass { IsSamePass pass.old pass.new }
     ensures ready { IsReady words.now.table.shared.key B.tells words.now.table.shared.table_id pass.new }
-    ensures ok { IfOk result (λ _. (a : IsWriteDone K.plain K.layout (K.plain said.now) (view pass.old) (view pass.new)) × (a.old ≡ K.words_of before.now)) }
+    ensures ok { IfOk result (λ _. IsWriteOf K.plain K.layout (K.plain said.now) guard.pid guard.word (K.words_of before.now) (view pass.old) (view pass.old) (view pass.new)) }
     ensures err { IfErr result (λ deny. IsDenied AgainOrWorn (KeptWord guard.word) UnlockedExpected guard.pid deny (view pass.old) (view pass.new)) }
     ensures sure { IsKnownNow guard.pid guard.word (view pass.old) → IfErr result SaysWorn }
     ensures known { IsKnownNow guard.pid guard.word (view pass.old) → KnowsResident (view pass.new) }

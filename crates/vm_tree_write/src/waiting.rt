@@ -4,8 +4,9 @@ ghost use Rattle.vm_map.specs.declared.call.Call.TheVariants.{Del, Put, Swap as 
 ghost use Rattle.vm_step.specs.Prelude.{AreHeld, IsReady, IsSamePass, view};
 ghost use Rattle.vm_tree_read.specs.Reads.{IsOfKind};
 ghost use Rattle.vm_tree_read.specs.Waiting.{LosesNone, Waits};
+ghost use Rattle.vm_tree_rule.specs.Turns.{IsNeeded};
 ghost use Rattle.vm_tree_split.specs.{Splits.KeepsLocksOnly, Tries.IsTrySplit};
-ghost use Rattle.vm_tree_write.specs.Waiting.{IsDelRound, IsNoRoomFault, IsPutFaulted, IsPutRound, IsRoomFault, IsWriteFaulted, IsWriteReplied};
+ghost use Rattle.vm_tree_write.specs.Waiting.{IsDelReplied, IsDelRound, IsNeededByDel, IsNoRoomFault, IsPutFaulted, IsPutRound, IsRoomFault, IsWriteFaulted, IsWriteReplied, IsWriteRound};
 ghost use Rattle.vm_tree_write.specs.Writes.{HasKeyIn, HasValueIn};
 
 use crate::write::{Tried, del_once, put_once, swap_once};
@@ -13,7 +14,7 @@ use crossbeam_utils::Backoff;
 use std::sync::Wait;
 use vm_block::PageBlock;
 use vm_exmap::Interface;
-use vm_kind::{Edits, Kind, TreeOf};
+use vm_kind::{Edits, Kind, Merges, TreeOf};
 use vm_map::call::{Reply, Swap};
 use vm_pool::{Pool, dry_cause};
 use vm_rule::words::Pass;
@@ -22,7 +23,7 @@ use vm_tree_rule::TreeFault;
 use vm_tree_split::{TrySplit, try_split};
 
 /// Takes the pair of the key out.
-pub fn del<K: Edits, R: Wait, B: PageBlock<N>, const N: usize>(
+pub fn del<K: Merges, R: Wait, B: PageBlock<N>, const N: usize>(
     rt: &R,
     pool: &Pool<TreeOf<K>, B, N>,
     pass: &mut Pass<TreeOf<K>>,
@@ -38,9 +39,9 @@ pub fn del<K: Edits, R: Wait, B: PageBlock<N>, const N: usize>(
     ensures held { AreHeld iface.new.frames (view pass.new) }
     ensures iface { (iface.new.home ≡ iface.old.home) × (iface.new.cap ≡ iface.old.cap) }
     ensures lost { LosesNone iface.old.frames (view pass.old) iface.new.frames (view pass.new) }
-    ensures ok { IfOk result (λ reply. IsWriteReplied K.plain K.layout Waits (IsDelRound K.layout) (record { call = Del (K.rank key.now); reply = reply }) (view pass.old) (view pass.new)) }
+    ensures ok { IfOk result (λ reply. IsDelReplied K.plain K.layout (K.rank key.now) reply (view pass.old) (view pass.new)) }
     ensures kind { IfOk result (λ reply. IsOfKind (Del (K.rank key.now)) reply) }
-    ensures err { IfErr result (λ fault. IsWriteFaulted K.layout Waits (IsDelRound K.layout) (HasKeyIn K.layout) (K.rank key.now) fault (view pass.old) (view pass.new)) }
+    ensures err { IfErr result (λ fault. IsWriteFaulted K.layout KeepsLocksOnly (IsDelRound K.layout) (IsNeededByDel K.layout) (HasKeyIn K.layout) (K.rank key.now) fault (view pass.old) (view pass.new)) }
 {
     let backoff = Backoff::new();
     for _ in rt.forever() {
@@ -77,10 +78,10 @@ pub fn swap<K: Edits, R: Wait, B: PageBlock<N>, const N: usize>(
     ensures held { AreHeld iface.new.frames (view pass.new) }
     ensures iface { (iface.new.home ≡ iface.old.home) × (iface.new.cap ≡ iface.old.cap) }
     ensures lost { LosesNone iface.old.frames (view pass.old) iface.new.frames (view pass.new) }
-    ensures ok { IfOk result (λ reply. IsWriteReplied K.plain K.layout Waits (IsDelRound K.layout)
+    ensures ok { IfOk result (λ reply. IsWriteReplied K.plain K.layout Waits (IsWriteRound K.layout)
         (record { call = ForSwap (K.rank key.now) want value; reply = reply }) (view pass.old) (view pass.new)) }
     ensures kind { IfOk result (λ reply. IsOfKind (ForSwap (K.rank key.now) want value) reply) }
-    ensures err { IfErr result (λ fault. IsWriteFaulted K.layout Waits (IsDelRound K.layout) (λ words key. HasValueIn K.layout words key want)
+    ensures err { IfErr result (λ fault. IsWriteFaulted K.layout Waits (IsWriteRound K.layout) (IsNeeded K.layout) (λ words key. HasValueIn K.layout words key want)
         (K.rank key.now) fault (view pass.old) (view pass.new)) }
 {
     let backoff = Backoff::new();

@@ -1,30 +1,33 @@
 // The writes that never wait: each answers, or says why it is to be tried again.
-ghost use Rattle.std.specs.Prelude.{◌+◌, ◌<◌, ◌≡◌, ◌≢◌, ◌≤◌, false, List, None, Some, true, ℕ};
+ghost use Rattle.std.specs.Prelude.{◌+◌, ◌<◌, ◌≡◌, ◌≢◌, ◌≤◌, false, length, List, None, Some, true, ℕ};
 ghost use Rattle.vm_map.specs.declared.call.Call.TheVariants.{Del, Swap as ForSwap};
 ghost use Rattle.vm_map.specs.declared.call.Reply.TheVariants.{Gone, Was};
-ghost use Rattle.vm_tree_model.specs.{Node.Covers, Page.node_of};
+ghost use Rattle.vm_map.specs.Map.{del_pair, lookup_at, Rises};
+ghost use Rattle.vm_tree_model.specs.{Edits.IsLeafWith, Node.Covers, Page.IsLeaf, Page.node_of, Page.pairs_of};
 ghost use Rattle.vm_node.specs.Loads.{IsPageWith, Tells};
 ghost use Rattle.vm_step.specs.Prelude.{IsReady, IsSamePass, MayStep, UnlockedExpected, view};
 ghost use Rattle.vm_guard.specs.Denied.{AgainOrWorn, IsDenied, KeptWord};
 ghost use Rattle.vm_guard.specs.Guards.{IsReading};
-ghost use Rattle.vm_tree_rule.specs.{Few.ReadsInPlace, Resident.IsKnownNow, Resident.KnowsResident, Seeks.HasLoaded, Seeks.HasRead, Standing.Awaits, Standing.IsOpened};
+ghost use Rattle.vm_tree_rule.specs.{Above.IsAbove, Above.KnowsAbove, Few.ReadsInPlace, Resident.IsKnownNow, Resident.KnowsResident, Seeks.HasLoaded, Seeks.HasRead, Standing.Awaits, Standing.IsOpened};
 ghost use Rattle.vm_tree_rule.specs.Turns.{IsTurnedBack, TellLeaf};
 ghost use Rattle.vm_tree_read.specs.Reads.{TellReply};
 ghost use Rattle.vm_kind.specs.Room.{HasRoomFor, IsTightFor};
 ghost use Rattle.vm_tree_split.specs.Prepares.{SaysWorn};
+ghost use Rattle.vm_tree_merge.specs.Beside.{IsTurnedBeside};
 ghost use Rattle.vm_tree_write.specs.Writes.{HasKeyIn, HasValueIn, IsDel, IsFinal, IsPut, IsSwap, swap_reply, TellTight, with_reply};
 
 use crate::leaf::write_leaf;
 use vm_block::Block;
 use vm_guard::{Deny, OptGuard};
-use vm_kind::{Edits, Kind, TreeOf};
+use vm_kind::{Edits, Kind, Merges, TreeOf};
 use vm_map::call::{Reply, Swap};
 use vm_node::Place;
 use vm_rule::words::{Pass, Words};
 use vm_step::{Saw, frame_place};
-use vm_tree_read::answer::{answer, leaf_at, read_leaf};
+use vm_tree_merge::{Merge, try_merge};
+use vm_tree_read::answer::{answer, leaf_at, leaf_below, read_leaf};
 use vm_tree_read::read::find_in_place;
-use vm_tree_rule::{InPlace, Turn};
+use vm_tree_rule::{InPlace, Reached, Turn};
 
 /// What a try of a write answers.
 #[derive(Debug, Drop)]
@@ -58,6 +61,7 @@ pub(crate) enum Tried {
 fn not_yet<K: Kind>(turn: Turn) -> Tried
     ensures put { (key value : _) (v w : _) → IsTurnedBack K.layout v key turn w → IsPut K.plain K.layout K.spare key value (with_reply Was result) v w }
     ensures del { (key : _) (v w : _) → IsTurnedBack K.layout v key turn w → IsDel K.plain K.layout key (with_reply Gone result) v w }
+    ensures beside { (key : _) (v w : _) → IsTurnedBeside K.layout v key turn w → IsDel K.plain K.layout key (with_reply Gone result) v w }
     ensures swap { (key want value : _) (v w : _) → IsTurnedBack K.layout v key turn w → IsSwap K.plain K.layout key want value (with_reply (swap_reply want) result) v w }
 {
     match turn {
@@ -238,8 +242,48 @@ fn missed<K: Kind, B: Block>(
     }
 }
 
+/// Takes the pair of the key out of the leaf, whose words say that it has it: as one with a merge where the conditions for that hold, else of the leaf alone.
+fn take_out<K: Merges, B: Block>(
+    words: &Words<TreeOf<K>, B>,
+    pass: &mut Pass<TreeOf<K>>,
+    reached: Reached,
+    key: &K::Key,
+    page: &K::Page,
+    was: u64,
+    edit: K::Edit,
+) -> Tried
+    requires ready { IsReady words.now.table.shared.key B.tells words.now.table.shared.table_id pass.old }
+    requires home { (view pass.old).out ≡ None }
+    requires size { length (K.words_of page.now) ≡ K.layout.words }
+    requires leaf { ((node_of K.layout (K.words_of page.now)).tag ≡ 2) × Covers (node_of K.layout (K.words_of page.now)) (K.rank key.now) }
+    requires there { (from to : ℕ) → Rises from to (pairs_of K.layout (K.words_of page.now)) → Some was ≡ lookup_at (pairs_of K.layout (K.words_of page.now)) (K.rank key.now) }
+    requires edit { IsLeaf K.layout (K.words_of page.now)
+        → IsLeafWith K.layout (K.words_of page.now) (K.edited (K.words_of page.now) edit) (del_pair (pairs_of K.layout (K.words_of page.now)) (K.rank key.now)) }
+    requires read { (v : _) × IsAbove K.layout v (K.rank key.now) reached.above reached.leaf.pid (view pass.old)
+        × IsOpened v reached.leaf.pid reached.leaf.word reached.leaf.frame (view pass.old) × Awaits K.layout (view pass.old) reached.leaf.pid reached.leaf.word 0 (K.rank key.now)
+        × HasRead (view pass.old) reached.leaf.pid (K.words_of page.now) }
+    ensures pass { IsSamePass pass.old pass.new }
+    ensures ready { IsReady words.now.table.shared.key B.tells words.now.table.shared.table_id pass.new }
+    ensures tried { (v : _) → IsAbove K.layout v (K.rank key.now) reached.above reached.leaf.pid (view pass.old)
+        → IsOpened v reached.leaf.pid reached.leaf.word reached.leaf.frame (view pass.old) → Awaits K.layout (view pass.old) reached.leaf.pid reached.leaf.word 0 (K.rank key.now)
+        → HasRead (view pass.old) reached.leaf.pid (K.words_of page.now) → IsDel K.plain K.layout (K.rank key.now) (with_reply Gone result) v (view pass.new) }
+    ensures sure { B.tells ≡ true → IsKnownNow reached.leaf.pid reached.leaf.word (view pass.old) → KnowsAbove reached.above (view pass.old) → IsFinal (with_reply Gone result) }
+    ensures known { B.tells ≡ true → IsKnownNow reached.leaf.pid reached.leaf.word (view pass.old) → KnowsAbove reached.above (view pass.old) → KnowsResident (view pass.new) }
+{
+    let said = K::gone(key, Some(was));
+    match try_merge(words, pass, reached, key, page, &said) {
+        Merge::Made => Tried::Done(Some(was)),
+        Merge::Alone(leaf) => match write_leaf(words, pass, leaf, page, edit, &said) {
+            Ok(()) => Tried::Done(Some(was)),
+            Err(deny) => unwritten::<K>(deny),
+        },
+        Merge::Turned(turn) => not_yet::<K>(turn),
+        Merge::Lost(saw) => Tried::Again(saw),
+    }
+}
+
 /// Takes the pair of the key out, or says why not. The leaf is read whole only where it has the key.
-pub(crate) fn del_once<K: Edits, B: Block>(
+pub(crate) fn del_once<K: Merges, B: Block>(
     words: &Words<TreeOf<K>, B>,
     pass: &mut Pass<TreeOf<K>>,
     key: &K::Key,
@@ -253,32 +297,26 @@ pub(crate) fn del_once<K: Edits, B: Block>(
     ensures sure { B.tells ≡ true → KnowsResident (view pass.old) → IsFinal (with_reply Gone result) }
     ensures known { B.tells ≡ true → KnowsResident (view pass.old) → KnowsResident (view pass.new) }
 {
-    let guard = match leaf_at(words, pass, key) {
-        Ok(guard) => guard,
+    let reached = match leaf_below(words, pass, key) {
+        Ok(reached) => reached,
         Err(turn) => return not_yet::<K>(turn),
     };
-    match find_in_place(words, pass, &guard, key) {
-        None => return missed(words, pass, &guard, key),
+    match find_in_place(words, pass, &reached.leaf, key) {
+        None => return missed(words, pass, &reached.leaf, key),
         Some(_) => {}
     }
     let mut page = K::zero();
-    if let Err(turn) = read_leaf(words, pass, &guard, key, &mut page) {
+    if let Err(turn) = read_leaf(words, pass, &reached.leaf, key, &mut page) {
         return not_yet::<K>(turn);
     }
     match K::del_edit(&page, key) {
-        None => missed(words, pass, &guard, key),
-        Some((was, edit)) => {
-            let said = K::gone(key, Some(was));
-            match write_leaf(words, pass, guard, &page, edit, &said) {
-                Ok(()) => Tried::Done(Some(was)),
-                Err(deny) => unwritten::<K>(deny),
-            }
-        }
+        None => missed(words, pass, &reached.leaf, key),
+        Some((was, edit)) => take_out(words, pass, reached, key, &page, was, edit),
     }
 }
 
 /// Takes the pair of the key out. Where the leaf has none nothing is locked.
-pub fn try_del<K: Edits, B: Block>(
+pub fn try_del<K: Merges, B: Block>(
     words: &Words<TreeOf<K>, B>,
     pass: &mut Pass<TreeOf<K>>,
     key: &K::Key,

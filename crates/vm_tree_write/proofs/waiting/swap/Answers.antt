@@ -8,8 +8,8 @@ use Rattle.vm_tree_read.specs.Waiting.{AreRounds as rounds, IsRound as round, Wa
 use Rattle.vm_tree_read.proofs.Lasting.{reads-wait, waits-self, waits-then}
 use Rattle.vm_tree_read.proofs.Losing.{loses-same, loses-then, lost-on, reads-lose}
 use Rattle.vm_tree_read.proofs.Rounds.{tried-call, tried-none, tried-read}
-use Rattle.vm_tree_write.specs.Waiting.{IsDelRound, IsWriteFaulted as faulted, IsWriteReplied}
-use Rattle.vm_tree_write.proofs.Lasting.{del-frames, replied, waits-last}
+use Rattle.vm_tree_write.specs.Waiting.{IsWriteRound, IsWriteFaulted as faulted, IsWriteReplied}
+use Rattle.vm_tree_write.proofs.Lasting.{write-frames, replied, waits-last}
 use Rattle.vm_tree_write.proofs.waiting.swap.Goals as goal
 
 pub loop-init : goal.loop-init
@@ -56,13 +56,13 @@ returns-in-Worn-clause-err g c =
 
 pub returns-in-Done-clause-held : goal.returns-in-Done-clause-held
 returns-in-Done-clause-held g c =
-    let k = del-frames g.K.Kind.plain g.K.Kind.layout _ _ _ c.in-Done.ensures.tried in held-on _ (view c.loop.pass) (view c.swap_once.new.pass) c.loop.invariant.held k.0 k.1
+    let k = write-frames g.K.Kind.plain g.K.Kind.layout _ _ _ c.in-Done.ensures.tried in held-on _ (view c.loop.pass) (view c.swap_once.new.pass) c.loop.invariant.held k.0 k.1
 
 pub returns-in-Done-clause-ok : goal.returns-in-Done-clause-ok
 returns-in-Done-clause-ok g c =
     let waits = c.loop.invariant.left in
-    subst (λ (o : Outcome). IsWriteReplied g.K.Kind.plain g.K.Kind.layout Waits (IsDelRound g.K.Kind.layout) (record { call = Swap (g.K.Kind.rank c.args.key.now) c.args.want c.args.value; reply = Swapped o }) (view c.args.pass.now) (view c.swap_once.new.pass))
-    (sym c.outcome.ensures) (replied g.K.Kind.plain g.K.Kind.layout Waits (IsDelRound g.K.Kind.layout) _ _ _ _ waits (waits-last _ _ waits.0) c.in-Done.ensures.tried)
+    subst (λ (o : Outcome). IsWriteReplied g.K.Kind.plain g.K.Kind.layout Waits (IsWriteRound g.K.Kind.layout) (record { call = Swap (g.K.Kind.rank c.args.key.now) c.args.want c.args.value; reply = Swapped o }) (view c.args.pass.now) (view c.swap_once.new.pass))
+    (sym c.outcome.ensures) (replied g.K.Kind.plain g.K.Kind.layout Waits (IsWriteRound g.K.Kind.layout) _ _ _ _ waits (waits-last _ _ waits.0) c.in-Done.ensures.tried)
 
 -- ---- no frame is lost
 
@@ -76,5 +76,5 @@ returns-in-Worn-clause-lost g c =
 
 pub returns-in-Done-clause-lost : goal.returns-in-Done-clause-lost
 returns-in-Done-clause-lost g c =
-    let k = del-frames g.K.Kind.plain g.K.Kind.layout _ _ _ c.in-Done.ensures.tried in
+    let k = write-frames g.K.Kind.plain g.K.Kind.layout _ _ _ c.in-Done.ensures.tried in
     loses-then c.args.iface.now.frames c.loop.iface.frames c.loop.iface.frames (view c.args.pass.now) (view c.loop.pass) (view c.swap_once.new.pass) c.loop.invariant.lost (loses-same c.loop.iface.frames c.loop.iface.frames (view c.loop.pass) (view c.swap_once.new.pass) k.1 (λ f e. e))

@@ -1,12 +1,12 @@
-use Rattle.std.proofs.Common.{◌++◌, ◌∙◌, ap, length, option_map, refl, Some, sym}
+use Rattle.std.proofs.Common.{◌++◌, ◌∙◌, ap, length, option_map, refl, sym}
 use Rattle.std.proofs.lemmas.Bool.{false≢true}
 use Rattle.std.proofs.lemmas.List.{length-replicate}
 use Rattle.vm_step.specs.Prelude.{view}
 use Rattle.vm_guard.specs.Guards.{placed}
-use Rattle.vm_tree_rule.proofs.{Downward.awaits-later, Onward.loaded-more, Showing.none-some, Surely.known-same}
+use Rattle.vm_tree_rule.proofs.{Downward.awaits-later, Onward.loaded-more, Surely.known-same}
 use Rattle.vm_tree_rule.proofs.Readings.{loads-reads, opened-loads}
 use Rattle.vm_tree_read.proofs.Answering.{reply-told, reply-whole}
-use Rattle.vm_tree_write.proofs.Telling.{awaits-twice, del-done, del-edit, edit-as, known-twice, opened-twice, reads-twice}
+use Rattle.vm_tree_write.proofs.Telling.{above-known-twice, above-twice, awaits-twice, known-twice, opened-twice, reads-twice}
 use Rattle.vm_tree_write.proofs.write.del_once.Goals as goal
 
 pub returns-in-Err-clause-tried : goal.returns-in-Err-clause-tried
@@ -56,31 +56,29 @@ pub returns-in-None-del_edit-clause-tried : goal.returns-in-None-del_edit-clause
 returns-in-None-del_edit-clause-tried g c =
     c.missed-in-None-del_edit.ensures.del (view c.args.pass.now) (opened-twice _ _ _ _ _ _ _ _ _ c.in-Ok.ensures.reads.1 c.find_in_place.ensures.found.loads c.in_default.ensures.loads)
 
-pub write_leaf-requires-clause-reading : goal.write_leaf-requires-clause-reading
-write_leaf-requires-clause-reading g c = c.in_default.ensures.loads.reads
+pub take_out-requires-clause-home : goal.take_out-requires-clause-home
+take_out-requires-clause-home g c = (reads-twice _ _ _ _ _ _ _ _ _ c.in-Ok.ensures.reads.0 c.find_in_place.ensures.found.loads c.in_default.ensures.loads).0.out ∙ c.requires.home
 
-pub write_leaf-requires-clause-loads : goal.write_leaf-requires-clause-loads
-write_leaf-requires-clause-loads g c = (_, c.in_default.ensures.loads.loads)
+pub take_out-requires-clause-there : goal.take_out-requires-clause-there
+take_out-requires-clause-there g c low high rises = sym (ap (option_map (λ r. r.0)) c.in-Some-del_edit.is) ∙ c.del_edit.ensures.was low high rises
 
-pub write_leaf-requires-clause-home : goal.write_leaf-requires-clause-home
-write_leaf-requires-clause-home g c = (reads-twice _ _ _ _ _ _ _ _ _ c.in-Ok.ensures.reads.0 c.find_in_place.ensures.found.loads c.in_default.ensures.loads).0.out ∙ c.requires.home
-
-pub write_leaf-requires-clause-edit : goal.write_leaf-requires-clause-edit
-write_leaf-requires-clause-edit g c =
-    edit-as g.K.Kind.layout (g.K.Pages.words_of c.read_leaf.new.page) (g.K.Edits.edited (g.K.Pages.words_of c.read_leaf.new.page) c.in-Some-del_edit.edit) _ _ c.gone-said.ensures
-    (del-edit g.K.Kind.layout (g.K.Pages.words_of c.read_leaf.new.page) (g.K.Edits.edited (g.K.Pages.words_of c.read_leaf.new.page) c.in-Some-del_edit.edit) (g.K.Kind.rank c.args.key.now) (Some c.in-Some-del_edit.was) c.in_default.ensures.leaf.1
-    (λ low high rises. sym (ap (option_map (λ r. r.0)) c.in-Some-del_edit.is) ∙ c.del_edit.ensures.was low high rises) c.in-Some-del_edit.ensures.leaf)
-
-pub returns-in-Ok-write_leaf-clause-tried : goal.returns-in-Ok-write_leaf-clause-tried
-returns-in-Ok-write_leaf-clause-tried g c =
-    del-done g.K.Kind.plain g.K.Kind.layout _ (g.K.Kind.rank c.args.key.now) c.in-Some-del_edit.was (g.K.Pages.words_of c.read_leaf.new.page) _ _ _ c.gone-said.ensures (reads-twice _ _ _ _ _ _ _ _ _ c.in-Ok.ensures.reads.0 c.find_in_place.ensures.found.loads c.in_default.ensures.loads) c.in-Ok-write_leaf.ensures.ok
+pub take_out-requires-clause-read : goal.take_out-requires-clause-read
+take_out-requires-clause-read g c =
+    let loads = c.find_in_place.ensures.found.loads in
+    let r = c.in_default.ensures in (
+      view c.args.pass.now,
+      above-twice g.K.Kind.layout (view c.args.pass.now) (g.K.Kind.rank c.args.key.now) c.in-Ok.reached _ _ _ _ _ loads r.loads c.in-Ok.ensures.above,
+      opened-twice _ _ _ _ _ _ _ _ _ c.in-Ok.ensures.reads.1 loads r.loads,
+      awaits-twice _ _ _ _ _ _ _ _ loads r.loads _ c.in-Ok.ensures.awaits,
+      (_, r.loads.loads),
+    )
 
 pub returns-clause-tried : goal.returns-clause-tried
 returns-clause-tried g c =
-    let r = c.in_default.ensures in
     let loads = c.find_in_place.ensures.found.loads in
-    c.unwritten.ensures.del (g.K.Kind.rank c.args.key.now) _ _ _ (g.K.Pages.words_of c.read_leaf.new.page) (view c.args.pass.now) (view c.read_leaf.new.pass) (view c.write_leaf.new.pass) (opened-twice _ _ _ _ _ _ _ _ _ c.in-Ok.ensures.reads.1 loads r.loads)
-    (awaits-twice _ _ _ _ _ _ _ _ loads r.loads _ c.in-Ok.ensures.awaits) (_, r.loads.loads) r.leaf (λ low high rises none. none-some _ c.in-Some-del_edit.was none (sym (sym (ap (option_map (λ r. r.0)) c.in-Some-del_edit.is) ∙ c.del_edit.ensures.was low high rises))) c.in-Err-write_leaf.ensures.err
+    let r = c.in_default.ensures in
+    c.take_out.ensures.tried (view c.args.pass.now) (above-twice g.K.Kind.layout (view c.args.pass.now) (g.K.Kind.rank c.args.key.now) c.in-Ok.reached _ _ _ _ _ loads r.loads c.in-Ok.ensures.above)
+    (opened-twice _ _ _ _ _ _ _ _ _ c.in-Ok.ensures.reads.1 loads r.loads) (awaits-twice _ _ _ _ _ _ _ _ loads r.loads _ c.in-Ok.ensures.awaits) (_, r.loads.loads)
 
 -- ---- a pass that knows its pages to be resident
 
@@ -89,20 +87,22 @@ returns-in-Err-clause-sure g c tells resident = absurd (false≢true (c.in-Err.e
 
 pub returns-in-None-clause-sure : goal.returns-in-None-clause-sure
 returns-in-None-clause-sure g c tells resident =
-    let loads = c.find_in_place.ensures.found.loads in c.missed.ensures.sure (known-same _ _ _ _ (loads-reads _ _ _ _ _ _ loads).0 loads.table (c.in-Ok.ensures.known tells resident))
+    let loads = c.find_in_place.ensures.found.loads in c.missed.ensures.sure (known-same _ _ _ _ (loads-reads _ _ _ _ _ _ loads).0 loads.table (c.in-Ok.ensures.known tells resident).0)
 
 pub returns-in-Err-read_leaf-clause-sure : goal.returns-in-Err-read_leaf-clause-sure
 returns-in-Err-read_leaf-clause-sure g c tells resident =
     let loads = c.find_in_place.ensures.found.loads in
     let reads = (loads-reads _ _ _ _ _ _ loads).0 in
-    absurd (false≢true (c.in-Err-read_leaf.ensures.sure tells (known-same _ _ _ _ reads loads.table (c.in-Ok.ensures.known tells resident)) (awaits-later _ _ _ _ _ _ reads c.in-Ok.ensures.awaits)))
+    absurd (false≢true (c.in-Err-read_leaf.ensures.sure tells (known-same _ _ _ _ reads loads.table (c.in-Ok.ensures.known tells resident).0) (awaits-later _ _ _ _ _ _ reads c.in-Ok.ensures.awaits)))
 
 pub returns-in-None-del_edit-clause-sure : goal.returns-in-None-del_edit-clause-sure
-returns-in-None-del_edit-clause-sure g c tells resident = c.missed-in-None-del_edit.ensures.sure (known-twice _ _ _ _ _ _ _ _ c.find_in_place.ensures.found.loads c.in_default.ensures.loads (c.in-Ok.ensures.known tells resident))
+returns-in-None-del_edit-clause-sure g c tells resident = c.missed-in-None-del_edit.ensures.sure (known-twice _ _ _ _ _ _ _ _ c.find_in_place.ensures.found.loads c.in_default.ensures.loads (c.in-Ok.ensures.known tells resident).0)
 
 pub returns-clause-sure : goal.returns-clause-sure
 returns-clause-sure g c tells resident =
-    c.unwritten.ensures.settled _ (c.in-Err-write_leaf.ensures.sure (known-twice _ _ _ _ _ _ _ _ c.find_in_place.ensures.found.loads c.in_default.ensures.loads (c.in-Ok.ensures.known tells resident)))
+    let loads = c.find_in_place.ensures.found.loads in
+    let known = c.in-Ok.ensures.known tells resident in
+    c.take_out.ensures.sure tells (known-twice _ _ _ _ _ _ _ _ loads c.in_default.ensures.loads known.0) (above-known-twice c.in-Ok.reached _ _ _ _ _ loads c.in_default.ensures.loads known.1)
 
 -- ---- what it knows afterwards
 
@@ -111,19 +111,19 @@ returns-in-Err-clause-known g c tells resident = absurd (false≢true (c.in-Err.
 
 pub returns-in-None-clause-known : goal.returns-in-None-clause-known
 returns-in-None-clause-known g c tells resident =
-    let loads = c.find_in_place.ensures.found.loads in c.missed.ensures.known (known-same _ _ _ _ (loads-reads _ _ _ _ _ _ loads).0 loads.table (c.in-Ok.ensures.known tells resident))
+    let loads = c.find_in_place.ensures.found.loads in c.missed.ensures.known (known-same _ _ _ _ (loads-reads _ _ _ _ _ _ loads).0 loads.table (c.in-Ok.ensures.known tells resident).0)
 
 pub returns-in-Err-read_leaf-clause-known : goal.returns-in-Err-read_leaf-clause-known
 returns-in-Err-read_leaf-clause-known g c tells resident =
     let loads = c.find_in_place.ensures.found.loads in
     let reads = (loads-reads _ _ _ _ _ _ loads).0 in
-    absurd (false≢true (c.in-Err-read_leaf.ensures.sure tells (known-same _ _ _ _ reads loads.table (c.in-Ok.ensures.known tells resident)) (awaits-later _ _ _ _ _ _ reads c.in-Ok.ensures.awaits)))
+    absurd (false≢true (c.in-Err-read_leaf.ensures.sure tells (known-same _ _ _ _ reads loads.table (c.in-Ok.ensures.known tells resident).0) (awaits-later _ _ _ _ _ _ reads c.in-Ok.ensures.awaits)))
 
 pub returns-in-None-del_edit-clause-known : goal.returns-in-None-del_edit-clause-known
-returns-in-None-del_edit-clause-known g c tells resident = c.missed-in-None-del_edit.ensures.known (known-twice _ _ _ _ _ _ _ _ c.find_in_place.ensures.found.loads c.in_default.ensures.loads (c.in-Ok.ensures.known tells resident))
-
-pub returns-in-Ok-write_leaf-clause-known : goal.returns-in-Ok-write_leaf-clause-known
-returns-in-Ok-write_leaf-clause-known g c tells resident = c.write_leaf.ensures.known (known-twice _ _ _ _ _ _ _ _ c.find_in_place.ensures.found.loads c.in_default.ensures.loads (c.in-Ok.ensures.known tells resident))
+returns-in-None-del_edit-clause-known g c tells resident = c.missed-in-None-del_edit.ensures.known (known-twice _ _ _ _ _ _ _ _ c.find_in_place.ensures.found.loads c.in_default.ensures.loads (c.in-Ok.ensures.known tells resident).0)
 
 pub returns-clause-known : goal.returns-clause-known
-returns-clause-known g c tells resident = c.write_leaf.ensures.known (known-twice _ _ _ _ _ _ _ _ c.find_in_place.ensures.found.loads c.in_default.ensures.loads (c.in-Ok.ensures.known tells resident))
+returns-clause-known g c tells resident =
+    let loads = c.find_in_place.ensures.found.loads in
+    let known = c.in-Ok.ensures.known tells resident in
+    c.take_out.ensures.known tells (known-twice _ _ _ _ _ _ _ _ loads c.in_default.ensures.loads known.0) (above-known-twice c.in-Ok.reached _ _ _ _ _ loads c.in_default.ensures.loads known.1)

@@ -2,7 +2,7 @@ use Rattle.std.proofs.lemmas.Bool.{false≢true}
 use Rattle.std.proofs.Common.{subst, sym}
 use Rattle.vm_tree_rule.proofs.Entering.{opened-reads}
 use Rattle.vm_tree_read.specs.Reads.{TellReply}
-use Rattle.vm_tree_write.proofs.Telling.{del-missed, not-valid}
+use Rattle.vm_tree_write.proofs.Telling.{del-missed, not-valid, to-try}
 use Rattle.vm_tree_write.proofs.write.missed.Goals as goal
 
 -- what is said is read as the call that the words prove
@@ -14,7 +14,7 @@ pub returns-in-Ok-clause-del : goal.returns-in-Ok-clause-del
 returns-in-Ok-clause-del g c v o = del-missed g.K.Kind.plain g.K.Kind.layout (g.K.Kind.plain c.gone-said.result) (g.K.Kind.rank c.args.key.now) v _ _ c.gone-said.ensures (opened-reads _ _ _ _ _ o) c.in-Ok.ensures.ok
 
 pub returns-clause-del : goal.returns-clause-del
-returns-clause-del g c v o = not-valid g.K.Kind.layout _ _ _ (g.K.Kind.rank c.args.key.now) _ _ _ _ o c.in-Err.ensures.err
+returns-clause-del g c v o = to-try g.K.Kind.layout (g.K.Kind.rank c.args.key.now) _ _ _ (not-valid g.K.Kind.layout _ _ _ (g.K.Kind.rank c.args.key.now) _ _ _ _ o c.in-Err.ensures.err)
 
 pub returns-clause-sure : goal.returns-clause-sure
 returns-clause-sure g c known = absurd (false≢true (c.in-Err.ensures.sure known))

@@ -68,7 +68,7 @@ write_leaf-requires-clause-edit g c =
 pub returns-in-Ok-write_leaf-clause-tried : goal.returns-in-Ok-write_leaf-clause-tried
 returns-in-Ok-write_leaf-clause-tried g c =
     put-done g.K.Kind.plain g.K.Kind.layout g.K.Kind.spare _ (g.K.Kind.rank c.args.key.now) c.args.value c.in-Ok-put_edit.was (g.K.Pages.words_of c.read_leaf.new.page) (view c.args.pass.now) (view c.read_leaf.new.pass) (view c.write_leaf.new.pass) c.was-said.ensures
-    c.in-Ok-put_edit.ensures.room (reads-twice _ _ _ _ _ _ _ _ _ c.in-Ok.ensures.reads.0 c.is_tight_in_place.ensures.found.loads c.in_default.ensures.loads) c.in-Ok-write_leaf.ensures.ok
+    c.in-Ok-put_edit.ensures.room (reads-twice _ _ _ _ _ _ _ _ _ c.in-Ok.ensures.reads.0 c.is_tight_in_place.ensures.found.loads c.in_default.ensures.loads) (c.in-Ok-write_leaf.ensures.ok.0, c.in-Ok-write_leaf.ensures.ok.1)
 
 pub returns-clause-tried : goal.returns-clause-tried
 returns-clause-tried g c =

@@ -111,7 +111,7 @@ write_leaf-requires-clause-edit g c =
 
 pub returns-in-Ok-write_leaf-clause-tried : goal.returns-in-Ok-write_leaf-clause-tried
 returns-in-Ok-write_leaf-clause-tried g c =
-    swap-done g.K.Kind.plain g.K.Kind.layout _ (g.K.Kind.rank c.args.key.now) c.args.want c.args.value (g.K.Pages.words_of c.read_leaf.new.page) _ _ _ c.swapped-said.ensures (reads-twice _ _ _ _ _ _ _ _ _ c.in-Ok.ensures.reads.0 c.find_in_place-found.ensures.found.loads c.in_default.ensures.loads) c.in-Ok-write_leaf.ensures.ok
+    swap-done g.K.Kind.plain g.K.Kind.layout _ (g.K.Kind.rank c.args.key.now) c.args.want c.args.value (g.K.Pages.words_of c.read_leaf.new.page) _ _ _ c.swapped-said.ensures (reads-twice _ _ _ _ _ _ _ _ _ c.in-Ok.ensures.reads.0 c.find_in_place-found.ensures.found.loads c.in_default.ensures.loads) (c.in-Ok-write_leaf.ensures.ok.0, c.in-Ok-write_leaf.ensures.ok.1)
 
 pub returns-clause-tried : goal.returns-clause-tried
 returns-clause-tried g c =

@@ -4,13 +4,13 @@ use Rattle.vm_guard.specs.Denied.{AgainOrWorn, IsDenied, KeptWord}
 use Rattle.vm_kind.specs.Room.{HasRoomFor}
 use Rattle.vm_tree_split.specs.Prepares.{SaysWorn}
 use Rattle.vm_tree_write.specs.Writes.{HasKeyIn, HasValueIn}
-use Rattle.vm_tree_write.proofs.Telling.{not-locked, worn-leaf}
+use Rattle.vm_tree_write.proofs.Telling.{not-locked, to-try, worn-leaf}
 use Rattle.vm_tree_write.proofs.write.unwritten.Goals as goal
 
 pub returns-in-Again : goal.returns-in-Again
 returns-in-Again g c = record {
   put = λ key value p word frame page v x w o a read leaf more d. not-locked g.K.Kind.layout p word frame key _ v x w o (subst (λ t. IsDenied AgainOrWorn (KeptWord word) UnlockedExpected p t x w) c.in-Again.is d);
-  del = λ key p word frame page v x w o a read leaf more d. not-locked g.K.Kind.layout p word frame key _ v x w o (subst (λ t. IsDenied AgainOrWorn (KeptWord word) UnlockedExpected p t x w) c.in-Again.is d);
+  del = λ key p word frame page v x w o a read leaf more d. to-try g.K.Kind.layout key _ v w (not-locked g.K.Kind.layout p word frame key _ v x w o (subst (λ t. IsDenied AgainOrWorn (KeptWord word) UnlockedExpected p t x w) c.in-Again.is d));
   swap = λ key want value p word frame page v x w o a read leaf more d. not-locked g.K.Kind.layout p word frame key _ v x w o (subst (λ t. IsDenied AgainOrWorn (KeptWord word) UnlockedExpected p t x w) c.in-Again.is d);
   settled = λ reply worn. subst SaysWorn c.in-Again.is worn;
 }
