@@ -1,6 +1,7 @@
--- The bytes of a page file, and the next page of an image.
+-- The bytes of a page file, and the next page and the free pages of an image.
 use Rattle.std.specs.Prelude.{◌≡◌, ℕ, zero, suc, ◌+◌, ◌*◌, ◌/◌, ◌<◌, ◌≤◌, ◌==◌, ◌&&◌, nat_le, List, [], ◌∷◌, ◌++◌, length, take, drop, if◌then◌else◌}
 use Rattle.std.specs.Int.{w64, from_be_bytes}
+use Rattle.std.specs.{List.Contains, List.Sorted.IsStrictlyIncreasing}
 use Rattle.vm_page.specs.Bytes.{bytes_of_words, words_of_bytes}
 use Rattle.vm_page.specs.Pages.{page_at}
 use Rattle.vm_tree_model.specs.Fixed.{fixed, fixed_magic}
@@ -45,3 +46,9 @@ pub record IsNextPage (n : ℕ) (pages : List (List ℕ)) (next : ℕ) : Type 0 
   pub within : next ≤ length pages
   pub free : (p : ℕ) → next ≤ p → p < length pages → IsFree (fixed n) (page_at pages p)
   pub used : (p : ℕ) → p + 1 ≡ next → ¬ (IsFree (fixed n) (page_at pages p))
+
+-- of pages of n words: the numbers of the free pages from 1 to below the next one, rising. Each number is that of such a page, and that of each such page is there
+pub record AreFreePages (n : ℕ) (pages : List (List ℕ)) (next : ℕ) (free : List ℕ) : Type 0 where
+  pub rising : IsStrictlyIncreasing free
+  pub each : (p : ℕ) → Contains free p → (1 ≤ p) × (p < next) × IsFree (fixed n) (page_at pages p)
+  pub all : (p : ℕ) → 1 ≤ p → p < next → IsFree (fixed n) (page_at pages p) → Contains free p

@@ -2,7 +2,7 @@
 
 ghost use Rattle.std.specs.Prelude.{◌≡◌, ℕ, ◌+◌, ◌*◌, ◌<◌, ◌≤◌, length, slice_index, MatchResult, IfOk};
 ghost use Rattle.vm_page.specs.{Pages.page_at, Sizes.IsSize};
-ghost use Rattle.vm_image.specs.File.{IsPageFile, pages_of_bytes, bytes_of_pages, HaveWords, IsNextPage, most_pages};
+ghost use Rattle.vm_image.specs.File.{AreFreePages, IsPageFile, pages_of_bytes, bytes_of_pages, HaveWords, IsNextPage, most_pages};
 ghost use Rattle.vm_image.specs.Faults.{IsRefusedFile};
 
 use crate::fault::ImageFault;
@@ -129,6 +129,22 @@ impl<const N: usize> Image<N> {
             next -= 1;
         }
         0
+    }
+
+    /// The numbers of the pages from 1 to below `next` that are all zero, rising.
+    pub fn free_pages(&self, alloc: Global, next: u32) -> Result<Vec<u32>, Memory>
+        requires { next ≤ length self.now }
+        ensures { IfOk result (λ free. AreFreePages N self.now next free.items) }
+    {
+        // The pages have N words each.
+        let _ = &self.pages;
+        let mut free = Vec::new(alloc);
+        for p in 1..next {
+            if is_free(self.page(p)) {
+                free.push(p)?;
+            }
+        }
+        Ok(free)
     }
 
     /// The bytes of the pages; read back they are the same pages.

@@ -1,16 +1,17 @@
 -- What serving comes to, from what was driven, what was flushed and what was closed.
-use Rattle.std.proofs.Common.{[], ⊎_elim, ◌*◌, ◌++◌, ◌+◌, ◌-◌, ◌<◌, ◌∙◌, ◌∷◌, ◌≡◌, ◌≤◌, ap, arith, Bool, false, inl, inr, length, List, map, None, refl}
+use Rattle.std.proofs.Common.{[], ⊎_elim, ◌*◌, ◌++◌, ◌+◌, ◌-◌, ◌<◌, ◌==◌, ◌∙◌, ◌∷◌, ◌≡◌, ◌≤◌, ap, arith, Bool, false, inl, inr, length, List, map, None, refl}
 use Rattle.std.proofs.Common.{replicate, Result, slice_index, slice_index_or, Some, subst, suc, sym, true, true≢false, zero, ℕ}
-use Rattle.std.proofs.lemmas.Bool.{cases_lt, ne_eqb}
+use Rattle.std.specs.List.{Contains}
+use Rattle.std.proofs.lemmas.Bool.{cases_lt, eqb-true, ne_eqb, or_cases}
 use Rattle.vm_map.specs.{declared.call.Call.Call, declared.call.Reply.Reply, declared.call.Said.Said, History.after_all}
 use Rattle.vm_page.specs.Sizes.{IsSize}
-use Rattle.vm_tree_model.specs.{Count.node_count, Fixed.fixed, Tree.IsTree, Tree.map_of}
-use Rattle.vm_tree_model.proofs.FixedLaws.{sized_layout}
+use Rattle.vm_tree_model.specs.{Count.node_count, Fixed.fixed, Page.IsFree, Tree.IsTree, Tree.map_of}
+use Rattle.vm_tree_model.proofs.{FixedLaws.sized_layout, WordTests.all_zero-from}
 use Rattle.vm_node.specs.Halves.{half_of}
-use Rattle.vm_image.specs.{declared.blocks.PlannedFault.PlannedFault, File.IsNextPage}
+use Rattle.vm_image.specs.{declared.blocks.PlannedFault.PlannedFault, File.AreFreePages, File.IsNextPage}
 use Rattle.vm_image.specs.Blocks.{AreBlocksOf, numbers_for, pages_of_blocks}
 use Rattle.vm_core.specs.Prelude.{at, MAX_COUNT, page_at}
-use Rattle.vm_rule.specs.Prelude.{began_of, block_words, bounds_of, Each, Entry, has, last_of, listed, MayBegin, MemBlock, most_faults, no_block}
+use Rattle.vm_rule.specs.Prelude.{AreClaimed, began_of, block_words, bounds_of, Each, Entry, has, last_of, listed, MayBegin, MemBlock, most_faults, no_block}
 use Rattle.vm_rule.specs.Prelude.{numbers, started_origin, started_shape, Stored, stored_of, unborn, words_of}
 use Rattle.vm_rule.specs.{Begun.begun, Started.contents_of}
 use Rattle.vm_rule.proofs.ListFacts.{at-map, length-mapped, listed-long}
@@ -49,20 +50,38 @@ all-zero zero (x ∷ xs) e z = absurd (omega arith)
 all-zero (suc n) [] e z = absurd (omega arith)
 all-zero (suc n) (x ∷ xs) e z = let first : x ≡ 0 = z 0 in let rest : xs ≡ replicate n 0 = all-zero n xs (omega arith) (λ i. z (suc i)) in cc
 
--- the tree may begin with the pages of blocks that are one
-pub begins-held : (size : ℕ) → IsSize size → (next : ℕ) (blocks : List (MemBlock size)) → IsTree (fixed size) (pages_of_blocks blocks) → IsNextPage size (pages_of_blocks blocks) next → MayBegin (KeepsPlain as_said (fixed size)) next [] (block_words (map stored_of blocks))
-begins-held size sized next blocks tree free =
-    subst (λ (l : List (List ℕ)). MayBegin (KeepsPlain as_said (fixed size)) next [] l) (sym (words-held blocks))
+-- a number that is in a list stands in it
+there : (p : ℕ) (free : List ℕ) → has p free ≡ true → Contains free p
+there p [] is = absurd (true≢false (sym is))
+there p (q ∷ free) is = elim (or_cases (p == q) (has p free) is) [
+  | inl same ↦ (0, omega arith, sym (eqb-true p q same))
+  | inr later ↦ let (k, inside, at) = there p free later in (suc k, omega (arith, inside), at)
+]
+
+-- the numbers of free pages are of pages below the next one
+pub claimed-free : (size : ℕ) (pages : List (List ℕ)) (next : ℕ) (free : List ℕ) → AreFreePages size pages next free → AreClaimed next free
+claimed-free size pages next free spare p is = (spare.each p (there p free is)).1
+
+-- and these pages are free
+pub free-words : (size : ℕ) (pages : List (List ℕ)) (next : ℕ) (free : List ℕ) → AreFreePages size pages next free → (p : ℕ) → has p free ≡ true → IsFree (fixed size) (page_at pages p)
+free-words size pages next free spare p is = (spare.each p (there p free is)).2
+
+-- the tree may begin with the pages of blocks that are one, and with numbers of free pages
+pub begins-held : (size : ℕ) → IsSize size → (next : ℕ) (free : List ℕ) (blocks : List (MemBlock size)) → IsTree (fixed size) (pages_of_blocks blocks) → IsNextPage size (pages_of_blocks blocks) next
+    → ((p : ℕ) → has p free ≡ true → IsFree (fixed size) (page_at (pages_of_blocks blocks) p)) → MayBegin (KeepsPlain as_said (fixed size)) next free (block_words (map stored_of blocks))
+begins-held size sized next free blocks tree after spare =
+    subst (λ (l : List (List ℕ)). MayBegin (KeepsPlain as_said (fixed size)) next free l) (sym (words-held blocks))
     (record {
-      zero = λ p l m. let f = free.free p l m in all-zero (length (page_at (pages_of_blocks blocks) p)) (page_at (pages_of_blocks blocks) p) refl f.zero;
-      spare = λ p e. absurd (true≢false (sym e));
-      kept = start_keeps (fixed size) (sized_layout size sized) (record { pages = pages_of_blocks blocks; next = next; free = [] }) tree free.within;
+      zero = λ p l m. let f = after.free p l m in all-zero (length (page_at (pages_of_blocks blocks) p)) (page_at (pages_of_blocks blocks) p) refl f.zero;
+      spare = λ p e. let f = spare p e in all_zero-from (page_at (pages_of_blocks blocks) p) f.zero;
+      kept = start_keeps (fixed size) (sized_layout size sized) (record { pages = pages_of_blocks blocks; next = next; free = free }) tree after.within;
     })
 
--- so it may with the pages of an image that is one
+-- so it may with the pages of an image that is one, and with no number
 pub begins : (size : ℕ) → IsSize size → (pages : List (List ℕ)) (plan : List PlannedFault) (next : ℕ) (blocks : List (MemBlock size)) → IsTree (fixed size) pages → IsNextPage size pages next → AreBlocksOf pages plan blocks → MayBegin (KeepsPlain as_said (fixed size)) next [] (block_words (map stored_of blocks))
-begins size sized pages plan next blocks tree free held =
-    begins-held size sized next blocks (subst (λ (l : List (List ℕ)). IsTree (fixed size) l) (sym held.held) tree) (subst (λ (l : List (List ℕ)). IsNextPage size l next) (sym held.held) free)
+begins size sized pages plan next blocks tree after held =
+    begins-held size sized next [] blocks (subst (λ (l : List (List ℕ)). IsTree (fixed size) l) (sym held.held) tree) (subst (λ (l : List (List ℕ)). IsNextPage size l next) (sym held.held) after)
+    (λ p e. absurd (true≢false (sym e)))
 
 numbers-long : (a n : ℕ) → length (numbers a n) ≡ n
 unfolding numbers
@@ -70,8 +89,8 @@ numbers-long a zero = refl
 numbers-long a (suc n) = ap suc (numbers-long (suc a) n)
 
 -- the first pass has fresh parts enough
-pub fresh-enough : (size : ℕ) (tells : Bool) (version next frames count : ℕ) (blocks : List Stored) (v : View Said) → v ≡ begun (unborn (started_shape size tells version next [] frames blocks)) → count ≤ 64 → count ≤ length v.fresh
-fresh-enough size tells version next frames count blocks v is few =
+pub fresh-enough : (size : ℕ) (tells : Bool) (version next : ℕ) (free : List ℕ) (frames count : ℕ) (blocks : List Stored) (v : View Said) → v ≡ begun (unborn (started_shape size tells version next free frames blocks)) → count ≤ 64 → count ≤ length v.fresh
+fresh-enough size tells version next free frames count blocks v is few =
     let long : length v.fresh ≡ 4294967295 = ap (λ (x : View Said). length x.fresh) is ∙ numbers-long 1 4294967295 in
     omega arith
 
@@ -135,13 +154,13 @@ blocks-hold blocks n words long each =
     sym (listed-long [] n (pages_of_blocks blocks) (length-mapped words_of blocks ∙ long))
     ∙ listed-same n (at [] (pages_of_blocks blocks)) words (λ p l. same-words blocks p (subst (λ k. p < k) (sym long) l) ∙ each p l)
 
-module _ (size : ℕ) (sized : IsSize size) {U : Type 0} (pages : List (List ℕ)) (plan : List PlannedFault) (version next frames : ℕ) (before after : List (MemBlock size)) (lists : List (List Call)) (replies : List (List (Result Reply TreeFault))) (report : Flushed) (end : Ended U Said) (v w : View Said)
-    (held : AreBlocksOf pages plan before) (count : length before ≡ length pages) (is : v ≡ begun (unborn (started_shape size true version next [] frames (map stored_of before)))) (next_page : IsNextPage size pages next) (tree : IsTree (fixed size) pages)
+module _ (size : ℕ) (sized : IsSize size) {U : Type 0} (pages : List (List ℕ)) (plan : List PlannedFault) (version next : ℕ) (free : List ℕ) (frames : ℕ) (before after : List (MemBlock size)) (lists : List (List Call)) (replies : List (List (Result Reply TreeFault))) (report : Flushed) (end : Ended U Said) (v w : View Said)
+    (held : AreBlocksOf pages plan before) (count : length before ≡ length pages) (is : v ≡ begun (unborn (started_shape size true version next free frames (map stored_of before)))) (next_page : IsNextPage size pages next) (spare : AreFreePages size pages next free) (tree : IsTree (fixed size) pages)
     (driven : IsDriven size true lists replies v w) (flushed : IsFlushed report w (view_at_end end)) (last : ℕ) (closed : IsClosed true (KeepsPlain as_said (fixed size)) (view_at_end end) (map stored_of after) last) where
   abbrev e : View Said
   e = view_at_end end
 
-  start-is : e.start ≡ started_origin size true version next [] frames (map stored_of before)
+  start-is : e.start ≡ started_origin size true version next free frames (map stored_of before)
   start-is = flushed.aside.start ∙ driven.start ∙ ap (λ (x : View Said). x.start) is
 
   began : e.start.contents ≡ pages
@@ -180,6 +199,10 @@ module _ (size : ℕ) (sized : IsSize size) {U : Type 0} (pages : List (List ℕ
   -- from the next word at the start on the image's pages are free
   begun_next : IsNextPage size pages e.start.next
   begun_next = subst (λ n. IsNextPage size pages n) (sym (ap (λ (o : Origin). o.next) start-is)) next_page
+
+  -- the free ones below it are those that the pool began with
+  begun_free : AreFreePages size pages e.start.next e.start.free
+  begun_free = subst (λ (o : Origin). AreFreePages size pages o.next o.free) (sym start-is) spare
 
   shown : AllShown size e lists replies
   shown = all-shown-more size w e flushed.aside.start flushed.aside.seen flushed.aside.releases lists replies driven.shown
@@ -261,6 +284,7 @@ module _ (size : ℕ) (sized : IsSize size) {U : Type 0} (pages : List (List ℕ
     tells = ap (λ (o : Origin). o.tells) start-is;
     began = began;
     next = begun_next;
+    free = begun_free;
     bounds = bound-is;
     legal = legal;
     calls = subst (λ (l : List (Entry Said)). HoldsCalls l lists replies) (sym grew-all) driven.calls;

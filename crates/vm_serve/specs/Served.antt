@@ -4,7 +4,7 @@ use Rattle.std.specs.Set.{distinct_count}
 use Rattle.vm_map.specs.{declared.call.Call.Call, declared.call.Reply.Reply, declared.call.Said.Said, History.after_all}
 use Rattle.vm_tree_model.specs.{Count.node_count, Fixed.fixed, Tree.IsTree, Tree.map_of}
 use Rattle.vm_node.specs.Halves.{half_of}
-use Rattle.vm_image.specs.{Blocks.numbers_for, Blocks.pages_of_blocks, declared.blocks.PlannedFault.PlannedFault, File.IsNextPage}
+use Rattle.vm_image.specs.{Blocks.numbers_for, Blocks.pages_of_blocks, declared.blocks.PlannedFault.PlannedFault, File.AreFreePages, File.IsNextPage}
 use Rattle.vm_core.specs.Prelude.{at, page_at}
 use Rattle.vm_rule.specs.Prelude.{last_of, MemBlock, most_faults, no_block, stored_of}
 use Rattle.vm_rule_laws.specs.Known.{kept_by}
@@ -27,8 +27,8 @@ abbrev pub TreeEnd : ℕ → Type 0
 TreeEnd n = Ended (TreeOf (WordKeys Sizes n)) Said
 
 -- an image of pages of n words that was used up: the next word that the end keeps leaves no room for a split, and the puts of new keys and the dels
--- that gave a value account for it, from the next word at the start on. With P pages, of which X were used at the start by N nodes, and with G such puts
--- and D such dels, 13 * P is at most 28 * N + 2 * G + 12 * D + 13 * (X + 1) where a page has 64 words, and 125 * P at most
+-- that gave a value account for it, from the next word at the start on. With P pages, of which X stood below the next one at the start, N of them nodes, and
+-- with G such puts and D such dels, 13 * P is at most 28 * N + 2 * G + 12 * D + 13 * (X + 1) where a page has 64 words, and 125 * P at most
 -- 252 * N + 2 * G + 108 * D + 125 * (X + 1) where it has 512
 pub record IsFilled (n : ℕ) {U : Type 0} (pages : List (List ℕ)) (end : Ended U Said) (count : ℕ) : Type 0 where
   pub all : count ≡ length pages
@@ -37,8 +37,8 @@ pub record IsFilled (n : ℕ) {U : Type 0} (pages : List (List ℕ)) (end : Ende
 
 -- an image of pages of n words in which leaves held together did not reach a range's bound, as many as can be held, which are sixteen: it has page 0,
 -- these leaves, one behind them and the root, so nineteen pages, and the puts of new keys account for its nodes, from the next word at the start on. With
--- X pages used at the start by N nodes, and with G such puts, 13 * 19 is at most 28 * N + 2 * G + 13 * X where a page has 64 words, and 125 * 19 at most
--- 252 * N + 2 * G + 125 * X where it has 512: no difference is taken, so X may be above 19
+-- X pages below the next one at the start, N of them nodes, and with G such puts, 13 * 19 is at most 28 * N + 2 * G + 13 * X where a page has 64 words,
+-- and 125 * 19 at most 252 * N + 2 * G + 125 * X where it has 512: no difference is taken, so X may be above 19
 pub record IsWidened (n : ℕ) {U : Type 0} (pages : List (List ℕ)) (end : Ended U Said) : Type 0 where
   pub enough : 19 ≤ length pages
   pub cause : (half_of n - 1) * 19 ≤ 2 * half_of n * node_count (fixed n) pages + 2 * news (view_at_end end).seen + (half_of n - 1) * (view_at_end end).start.next
@@ -57,7 +57,8 @@ is_first None p = 0
 is_first (Some q) p = if q == p then 1 else 0
 
 -- The calls of the lists were made on the tree of an image of pages of n words, over blocks that tell their words and may fail as often as the plan
--- says; which of their calls fail is not said. The history is the one that `end` keeps, which the end of the pool alone makes: it is legal from the
+-- says; which of their calls fail is not said. The pages from the image's next one on were to be claimed, and the free ones below it could be used
+-- anew, each of them. The history is the one that `end` keeps, which the end of the pool alone makes: it is legal from the
 -- image's map on, and holds each worker's calls once, in order, with these replies. Each fault of a device, and the first write of the last flush
 -- that failed, has its own note, and there are no more notes of a page than entries for it in the plan. Each other fault has its cause, and so has each
 -- range that was too wide; each window is a leaf's, the table's page as it stood, and each range that of leaves held together. Each worker made its calls one after another, and what each was answered comes of the steps and
@@ -72,6 +73,7 @@ pub record IsServed (n : ℕ) {U : Type 0} (pages : List (List ℕ)) (plan : Lis
   pub tells : (view_at_end end).start.tells ≡ true
   pub began : (view_at_end end).start.contents ≡ pages
   pub next : IsNextPage n pages (view_at_end end).start.next
+  pub free : AreFreePages n pages (view_at_end end).start.next (view_at_end end).start.free
   pub bounds : (p : ℕ) → p < length pages → (at no_block (map stored_of blocks) p).bound ≡ most_faults (numbers_for plan p)
   pub legal : IsLegal (map_of (fixed n) pages) (view_at_end end).seen
   pub calls : HoldsCalls (view_at_end end).seen lists replies

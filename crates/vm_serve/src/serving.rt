@@ -4,7 +4,7 @@
 ghost use Rattle.std.specs.List.{AllByRecursion};
 ghost use Rattle.std.specs.Prelude.{[], ◌*◌, ◌≡◌, ◌≤◌, IfOk, length, List, ℕ};
 ghost use Rattle.vm_tree_model.specs.{Fixed.fixed, Tree.IsTree};
-ghost use Rattle.vm_image.specs.{Blocks.AreBlocksOf, Blocks.pages_of_blocks, declared.blocks.PlannedFault.PlannedFault, File.IsNextPage};
+ghost use Rattle.vm_image.specs.{Blocks.AreBlocksOf, Blocks.pages_of_blocks, declared.blocks.PlannedFault.PlannedFault, File.AreFreePages, File.IsNextPage};
 ghost use Rattle.vm_core.specs.Prelude.{MAX_VERSION};
 ghost use Rattle.vm_pool.specs.Closing.{view_at_end};
 ghost use Rattle.vm_drive.specs.Drives.{AreAskable, AreFew, items_of};
@@ -86,6 +86,9 @@ pub fn serve<S: OfSize<N> + Sync, R: Threads + Wait + Sync, G: Gate + Sync, cons
         return Err(Memory);
     };
     let shape = shape_of(image, first_version, frames);
+    let Ok(free) = image.free_pages(alloc, shape.next) else {
+        return Err(Memory);
+    };
     let Ok(rooms) = rooms_for(alloc, lists) else {
         return Err(Memory);
     };
@@ -95,7 +98,16 @@ pub fn serve<S: OfSize<N> + Sync, R: Threads + Wait + Sync, G: Gate + Sync, cons
         report,
         blocks,
         ended,
-    } = serve_blocks(rt, alloc, shape, blocks, lists, gate, rooms)?;
+    } = serve_blocks(
+        rt,
+        alloc,
+        shape,
+        blocks,
+        free.as_slice(),
+        lists,
+        gate,
+        rooms,
+    )?;
     Ok(Served {
         replies: kept,
         evicted,
@@ -138,8 +150,20 @@ pub fn serve_into<
         return Err(Memory);
     };
     let shape = shape_of(&image, first_version, frames);
+    let Ok(free) = image.free_pages(alloc, shape.next) else {
+        return Err(Memory);
+    };
     drop(image);
-    serve_blocks(rt, alloc, shape, blocks, lists, gate, rooms)
+    serve_blocks(
+        rt,
+        alloc,
+        shape,
+        blocks,
+        free.as_slice(),
+        lists,
+        gate,
+        rooms,
+    )
 }
 
 // What a pool of the image's pages is started with.
@@ -156,7 +180,7 @@ fn shape_of<const N: usize>(image: &Image<N>, first_version: u64, frames: u32) -
     }
 }
 
-// Makes the calls on a pool of these blocks, flushes it, and closes it.
+// Makes the calls on a pool of these blocks, whose free pages below the next one may be used anew; flushes it, and closes it.
 fn serve_blocks<
     S: OfSize<N> + Sync,
     R: Threads + Wait + Sync,
@@ -168,6 +192,7 @@ fn serve_blocks<
     alloc: Global,
     shape: Shape,
     blocks: Vec<MemBlock<N>>,
+    free: &[u32],
     lists: &[Vec<Call>],
     gate: &G,
     rooms: Vec<A>,
@@ -175,6 +200,7 @@ fn serve_blocks<
     requires tree { IsTree (fixed N) (pages_of_blocks blocks.items) }
     requires pages { (shape.pages ≡ length blocks.items) × (shape.pages ≤ 65536) }
     requires next { IsNextPage N (pages_of_blocks blocks.items) shape.next }
+    requires free { AreFreePages N (pages_of_blocks blocks.items) shape.next free.now }
     requires version { shape.first_version ≤ MAX_VERSION }
     requires frames { (64 ≤ shape.frames) × (shape.frames ≤ 65536) × (8 * length lists.now ≤ shape.frames) }
     requires lists { (1 ≤ length lists.now) × (length lists.now ≤ 64) }
@@ -186,7 +212,7 @@ fn serve_blocks<
     ensures version { IfOk result (λ s. (view_at_end s.ended).start.version ≡ shape.first_version) }
     ensures frames { IfOk result (λ s. (view_at_end s.ended).start.frames ≡ shape.frames) }
 {
-    let (pool, mut pass) = Pool::start(alloc, shape, blocks, &[])?;
+    let (pool, mut pass) = Pool::start(alloc, shape, blocks, free)?;
     let driven = drive_into(rt, alloc, &pool, &mut pass, lists, gate, rooms)?;
     let DrivenInto { kept, evicted } = driven;
     match flush_and_close(pool, alloc, pass) {

@@ -57,6 +57,24 @@ fn two_leaves(alloc: Global) -> Result<Image<WORDS>, Fail>
     Ok(image)
 }
 
+/// Four pages whose one leaf, on page 3, has 28 pairs; pages 1 and 2 are free.
+fn full_leaf(alloc: Global) -> Result<Image<WORDS>, Fail>
+    ensures { IfOk result (λ image. IsTree (fixed 64) image) }
+{
+    let mut pages = Vec::new(alloc);
+    pages.push(page(&[MAGIC, 3, 0]))?;
+    pages.push(page(&[]))?;
+    pages.push(page(&[]))?;
+    pages.push(page(&[
+        2, 28, 0, 0, 1, 0, 0, 0, 1, 7, 2, 7, 3, 7, 4, 7, 5, 7, 6, 7, 7, 7, 8, 7, 9, 7, 10, 7, 11,
+        7, 12, 7, 13, 7, 14, 7, 15, 7, 16, 7, 17, 7, 18, 7, 19, 7, 20, 7, 21, 7, 22, 7, 23, 7, 24,
+        7, 25, 7, 26, 7, 27, 7, 28, 7,
+    ]))?;
+    let image = Image::of_pages(pages);
+    check(alloc, &image)?;
+    Ok(image)
+}
+
 /// The blocks that come back hold a tree with what the workers did.
 #[test]
 fn a_tree_is_served(rt: HostRuntime) -> Result<(), Fail> {
@@ -156,6 +174,32 @@ fn windows_stand_apart_in_order(rt: HostRuntime) -> Result<(), Fail> {
     assert_eq!(rt; then.bound, Bound::Key(15));
     assert!(rt; second.short.as_slice() == [Short::Win].as_slice());
     assert_eq!(rt; second.windows.len(), 1);
+    Ok(())
+}
+
+/// A split of the root takes two pages, and none is left behind the last one that is in use.
+#[test]
+fn free_pages_between_others_are_used(rt: HostRuntime) -> Result<(), Fail> {
+    let alloc = rt.alloc();
+    let image = full_leaf(alloc)?;
+    let put = Call::Put { key: 30, value: 1 };
+    let lists = two_lists(alloc, &[put], &[Call::Get { key: 28 }])?;
+    let served = serve::<Sizes, _, _, WORDS>(
+        &rt,
+        alloc,
+        &image,
+        &[],
+        0,
+        64,
+        lists.as_slice(),
+        &Open,
+    )?;
+    let [put, _] = served.replies.as_slice() else {
+        return Err(Fail::from("two lists of replies"));
+    };
+    assert!(rt; put.short.as_slice() == [Short::Was(None)].as_slice());
+    let after = image_of(alloc, served.blocks.as_slice())?;
+    assert_eq!(rt; check(alloc, &after)?.pairs.len(), 29);
     Ok(())
 }
 

@@ -44,6 +44,26 @@ fn the_empty_file_has_its_words(rt: HostRuntime) -> Result<(), Fail> {
     Ok(())
 }
 
+// Pages 3 and 6 have a byte that is not 0, the last one and the first one.
+#[test]
+fn free_pages_are_those_below_the_next_one(rt: HostRuntime) -> Result<(), Fail> {
+    let mut bytes = empty_file();
+    let whole = read_image::<WORDS>(rt.alloc(), &bytes)?;
+    assert_eq!(rt; whole.next(), 2);
+    assert!(rt; whole.free_pages(rt.alloc(), 2)?.is_empty());
+    bytes[2047] = 1;
+    bytes[3072] = 1;
+    let image = read_image::<WORDS>(rt.alloc(), &bytes)?;
+    assert_eq!(rt; image.next(), 7);
+    assert_eq!(rt;
+        image.free_pages(rt.alloc(), 7)?.as_slice(),
+        [2, 4, 5].as_slice()
+    );
+    assert_eq!(rt; image.free_pages(rt.alloc(), 4)?.as_slice(), [2].as_slice());
+    assert!(rt; image.free_pages(rt.alloc(), 0)?.is_empty());
+    Ok(())
+}
+
 // Two pages of 512 words: page 0 names the root on page 1, height 0; page 1 is a leaf without a pair, with no high fence.
 fn large_file() -> [u8; 8192] {
     let mut bytes = [0; 8192];

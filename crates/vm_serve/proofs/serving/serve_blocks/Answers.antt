@@ -1,26 +1,43 @@
 use Rattle.std.proofs.Common.{◌*◌, ◌<◌, ◌∙◌, ◌≡◌, ◌≤◌, ap, arith, length, List, refl, rules, subst, sym, ℕ}
-use Rattle.std.proofs.lemmas.Bool.{eq-eqb, false≢true}
+use Rattle.std.proofs.lemmas.Bool.{eq-eqb}
 use Rattle.vm_map.specs.declared.call.Said.{Said}
 use Rattle.vm_tree_model.specs.{Fixed.fixed, Tree.IsTree}
-use Rattle.vm_image.specs.File.{IsNextPage}
+use Rattle.vm_image.specs.File.{AreFreePages, IsNextPage}
 use Rattle.vm_rule.specs.Prelude.{stored_of, words_of}
 use Rattle.vm_rule.proofs.ListFacts.{length-mapped}
 use Rattle.vm_step.specs.Prelude.{Origin, Shape, View, view}
 use Rattle.vm_pool.proofs.FirstPass.{first-alone}
 use Rattle.vm_drive.specs.Drives.{items_of}
-use Rattle.vm_serve.proofs.Headline.{begins-held, fresh-enough, served}
+use Rattle.vm_serve.proofs.Headline.{begins-held, claimed-free, free-words, fresh-enough, served}
 use Rattle.vm_serve.proofs.serving.serve_blocks.Goals as goal
 
 pub start-requires : goal.start-requires
-start-requires g c =
-    (search rules, (g.S.OfSize.is_size, (eq-eqb g.row.N g.row.N refl, (c.requires.pages.0, (search (rules, c.requires, length-mapped words_of c.args.blocks.items), ((λ p e. absurd (false≢true e)), λ told. begins-held g.row.N g.S.OfSize.is_size _ _ c.requires.tree c.requires.next))))))
+start-requires g c = (
+  search rules,
+  (
+    g.S.OfSize.is_size,
+    (
+      eq-eqb g.row.N g.row.N refl,
+      (
+        c.requires.pages.0,
+        (
+          search (rules, c.requires, length-mapped words_of c.args.blocks.items),
+          (
+            claimed-free _ _ _ _ c.requires.free,
+            λ told. begins-held g.row.N g.S.OfSize.is_size _ _ _ c.requires.tree c.requires.next (free-words _ _ _ _ c.requires.free),
+          ),
+        ),
+      ),
+    ),
+  ),
+)
 
 pub drive_into-requires-after_bounds : goal.drive_into-requires-after_bounds
 drive_into-requires-after_bounds g c κs within =
     let made = c.in_ok-pool.ensures in
     let few = c.requires.lists.1 in
     let whole = (first-alone _ _ _ _ _ _ _ _ made.view).0 in
-    let fresh : length c.args.lists.now ≤ length (view c.in_ok-pool.pass).fresh = fresh-enough _ _ _ _ _ _ _ _ made.view (omega (arith, few)) in
+    let fresh : length c.args.lists.now ≤ length (view c.in_ok-pool.pass).fresh = fresh-enough _ _ _ _ _ _ _ _ _ made.view (omega (arith, few)) in
     let frames : 8 * length c.args.lists.now ≤ c.in_ok-pool.pool.words.frames = omega (arith, c.in_ok-pool.pool.words.shape.1, ap (λ (s : Shape). s.frames) made.key, c.requires.frames.2) in
     let before = c.args.blocks.items in
     let key : c.in_ok-pool.pool.words.table.shared.key.pages ≡ length before = ap (λ (s : Shape). s.pages) made.key ∙ length-mapped stored_of before in
@@ -37,12 +54,13 @@ returns-in-Ok-clause-served g c = λ pages plan few held.
     let count : length before ≡ length pages = sym (length-mapped words_of before) ∙ ap (λ (l : List (List ℕ)). length l) held.held in
     let into = c.in_ok-driven.ensures.driven in
     let next : IsNextPage g.row.N pages c.args.shape.next = subst (λ (l : List (List ℕ)). IsNextPage g.row.N l c.args.shape.next) held.held c.requires.next in
+    let spare : AreFreePages g.row.N pages c.args.shape.next c.args.free.now = subst (λ (l : List (List ℕ)). AreFreePages g.row.N l c.args.shape.next c.args.free.now) held.held c.requires.free in
     let tree : IsTree (fixed g.row.N) pages = subst (λ (l : List (List ℕ)). IsTree (fixed g.row.N) l) held.held c.requires.tree in
     record {
       told = into.told;
       stand = into.stand;
-      served = served g.row.N g.S.OfSize.is_size pages plan _ c.args.shape.next _ before c.in-Ok.saved.closed.blocks.items (items_of c.args.lists.now) into.told c.in-Ok.saved.report c.in-Ok.saved.closed.ended (view c.in_ok-pool.pass) (view c.drive_into.new.pass)
-          held count c.in_ok-pool.ensures.view next tree into.driven c.in-Ok.ensures.flushed c.in-Ok.saved.closed.next c.in-Ok.ensures.closed
+      served = served g.row.N g.S.OfSize.is_size pages plan _ c.args.shape.next c.args.free.now _ before c.in-Ok.saved.closed.blocks.items (items_of c.args.lists.now) into.told c.in-Ok.saved.report c.in-Ok.saved.closed.ended (view c.in_ok-pool.pass) (view c.drive_into.new.pass)
+          held count c.in_ok-pool.ensures.view next spare tree into.driven c.in-Ok.ensures.flushed c.in-Ok.saved.closed.next c.in-Ok.ensures.closed
           few c.in-Ok.ensures.sums (λ none p l. c.in-Ok.ensures.words refl none p (subst (λ n. p < n) (sym (key ∙ count)) l));
     }
 

@@ -10,4 +10,4 @@ pub returns-clause-whole : goal.returns-clause-whole
 returns-clause-whole c = (first-alone _ _ _ _ _ _ _ _ c.in_ok-start.ensures.view).0
 
 pub returns-clause-fresh : goal.returns-clause-fresh
-returns-clause-fresh c = fresh-enough _ _ _ _ _ 64 _ _ c.in_ok-start.ensures.view (omega arith)
+returns-clause-fresh c = fresh-enough _ _ _ _ _ _ 64 _ _ c.in_ok-start.ensures.view (omega arith)
