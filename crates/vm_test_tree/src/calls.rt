@@ -24,10 +24,11 @@ use vm_tree_callers::{Started, get_from_start};
 use vm_tree_read::{TryRead, get, try_get, try_window, window};
 use vm_tree_rule::{Tree, TreeFault};
 
-const MAGIC: u64 = 0x564D_4341_4348_4531;
+/// The first word of a page file with pages of 64 words.
+pub(crate) const MAGIC: u64 = 0x564D_4341_4348_4531;
 
 /// A page of so many words, with these from word 0 on, behind the bytes of others.
-fn put_page(bytes: &mut Vec<u8>, size: usize, words: &[u64]) -> Result<(), Fail> {
+pub(crate) fn put_page(bytes: &mut Vec<u8>, size: usize, words: &[u64]) -> Result<(), Fail> {
     for i in 0..size {
         let word: u64 = if i < words.len() { words[i] } else { 0 };
         bytes.extend_from_slice(&word.to_be_bytes())?;

@@ -6,6 +6,10 @@ mod calls;
 #[cfg(test)]
 mod faults;
 #[cfg(test)]
+mod merges;
+#[cfg(test)]
+mod pages;
+#[cfg(test)]
 mod reads;
 #[cfg(test)]
 mod write_calls;

@@ -22,7 +22,8 @@ use vm_tree_callers::{put_meet_get, put_then_get};
 use vm_tree_rule::{Tree, TreeFault};
 use vm_tree_write::{TrySplit, TryWrite};
 
-const LARGE_MAGIC: u64 = 0x564D_4341_4348_4532;
+/// The first word of a page file with pages of 512 words.
+pub(crate) const LARGE_MAGIC: u64 = 0x564D_4341_4348_4532;
 
 /// 800 keys in a mixed order get the number behind them. None of them was there.
 fn put_many<R: Wait + Abort>(
@@ -93,13 +94,14 @@ fn del_half<R: Wait + Abort>(
     }
 }
 
-/// A leaf is filled: the keys below `count`, none of which was there, get the value 1.
-pub(crate) fn fill<S: OfSize<N>, R: Wait + Abort, const N: usize>(
+/// The keys from `from` on and below `to`, none of which was there, get the value 1.
+pub(crate) fn put_range<S: OfSize<N>, R: Wait + Abort, const N: usize>(
     rt: &R,
     pool: &Pool<TreeOf<WordKeys<S, N>>, MemBlock<N>, N>,
     pass: &mut Pass<TreeOf<WordKeys<S, N>>>,
     iface: &mut Interface,
-    count: u64,
+    from: u64,
+    to: u64,
 )
     requires pages { 1 ≤ pool.now.words.table.shared.key.pages }
     requires ready { IsReady pool.now.words.table.shared.key ⟦<MemBlock<N> as Block>⟧.tells pool.now.words.table.shared.table_id pass.old }
@@ -109,9 +111,9 @@ pub(crate) fn fill<S: OfSize<N>, R: Wait + Abort, const N: usize>(
     ensures home { (view pass.new).out ≡ None }
     ensures held { AreHeld iface.new.frames (view pass.new) }
 {
-    for key in 0..count {
+    for key in from..to {
         let reply = put_at(rt, pool, pass, iface, key, 1);
-        assert_eq!(rt; reply, Ok(Reply::Was(None)));
+        assert_eq!(rt; reply, Ok(Reply::Was(None)), "put of {key}");
     }
 }
 
@@ -159,7 +161,7 @@ fn a_full_leaf_is_tight_and_then_split(rt: HostRuntime) -> Result<(), Fail> {
     let bytes = empty(rt.alloc(), 8)?;
     let (pool, mut pass) = open(rt.alloc(), bytes.as_slice())?;
     let mut iface = Interface::new(0, 16);
-    fill(&rt, &pool, &mut pass, &mut iface, 28);
+    put_range(&rt, &pool, &mut pass, &mut iface, 0, 28);
     // The 28 keys that there are can be put, others not.
     let same = put_once(&pool, &mut pass, &iface, 27, 2);
     assert!(rt; matches!(&same, TryWrite::Done(Reply::Was(Some(1)))));
@@ -182,7 +184,7 @@ fn a_leaf_of_512_words_takes_252_pairs(rt: HostRuntime) -> Result<(), Fail> {
     let bytes = empty_sized(rt.alloc(), LARGE, LARGE_MAGIC, 4)?;
     let (pool, mut pass) = open_sized::<Sizes, LARGE>(rt.alloc(), bytes.as_slice(), &[], 0)?;
     let mut iface = Interface::new(0, 16);
-    fill(&rt, &pool, &mut pass, &mut iface, 252);
+    put_range(&rt, &pool, &mut pass, &mut iface, 0, 252);
     let tight = put_once(&pool, &mut pass, &iface, 252, 1);
     assert!(rt; matches!(&tight, TryWrite::Tight(1)));
     let reply = put_at(&rt, &pool, &mut pass, &mut iface, 252, 7);
@@ -205,7 +207,7 @@ fn a_full_image_has_no_page_for_a_split(rt: HostRuntime) -> Result<(), Fail> {
     let bytes = empty(rt.alloc(), 3)?;
     let (pool, mut pass) = open(rt.alloc(), bytes.as_slice())?;
     let mut iface = Interface::new(0, 16);
-    fill(&rt, &pool, &mut pass, &mut iface, 28);
+    put_range(&rt, &pool, &mut pass, &mut iface, 0, 28);
     let full = split_once(&pool, &mut pass, &mut iface, 28);
     assert!(rt;
         matches!(
@@ -230,7 +232,7 @@ fn puts_that_a_full_image_refuses_wear_no_page(rt: HostRuntime) -> Result<(), Fa
     let bytes = empty(rt.alloc(), 3)?;
     let (pool, mut pass) = open_with(rt.alloc(), bytes.as_slice(), &[], MAX_VERSION - 30)?;
     let mut iface = Interface::new(0, 16);
-    fill(&rt, &pool, &mut pass, &mut iface, 28);
+    put_range(&rt, &pool, &mut pass, &mut iface, 0, 28);
     refuse_many(&rt, &pool, &mut pass, &mut iface, 28, 3);
     let page_0 = state_word(&pool, &mut pass, &iface, 0);
     assert_eq!(rt; page_0, Some(MAX_VERSION - 29));
@@ -298,18 +300,14 @@ fn a_try_of_a_swap_is_done_with_equal_values_too(rt: HostRuntime) -> Result<(), 
     Ok(())
 }
 
-/// The leaf below key 100 loses its two keys and gets 28, and its parent, the root, has room for more: what is missing is a page.
+/// The leaf below key 100 gets 26 keys more, so that it is full, and its parent, the root, has room for more: what is missing is a page.
 #[test]
 fn a_full_leaf_and_its_parent_are_left_as_they_were(rt: HostRuntime) -> Result<(), Fail> {
     let bytes = two_leaves(rt.alloc())?;
     let (pool, mut pass) = open(rt.alloc(), bytes.as_slice())?;
     let mut iface = Interface::new(0, 16);
-    let reply = del_at(&rt, &pool, &mut pass, &mut iface, 5);
-    assert_eq!(rt; reply, Ok(Reply::Gone(Some(50))));
-    let reply = del_at(&rt, &pool, &mut pass, &mut iface, 7);
-    assert_eq!(rt; reply, Ok(Reply::Gone(Some(70))));
-    fill(&rt, &pool, &mut pass, &mut iface, 28);
-    let full = split_once(&pool, &mut pass, &mut iface, 28);
+    put_range(&rt, &pool, &mut pass, &mut iface, 10, 36);
+    let full = split_once(&pool, &mut pass, &mut iface, 36);
     assert!(rt;
         matches!(
             &full,
@@ -320,14 +318,14 @@ fn a_full_leaf_and_its_parent_are_left_as_they_were(rt: HostRuntime) -> Result<(
             }
         )
     );
-    refuse_many(&rt, &pool, &mut pass, &mut iface, 28, 4);
-    // Page 0 and the root were brought in; the leaf was, and written 30 times; its sibling never was.
+    refuse_many(&rt, &pool, &mut pass, &mut iface, 36, 4);
+    // Page 0 and the root were brought in; the leaf was, and written 26 times; its sibling never was.
     let page_0 = state_word(&pool, &mut pass, &iface, 0);
     assert_eq!(rt; page_0, Some(1));
     let root = state_word(&pool, &mut pass, &iface, 1);
     assert_eq!(rt; root, Some(1));
     let leaf = state_word(&pool, &mut pass, &iface, 2);
-    assert_eq!(rt; leaf, Some(31));
+    assert_eq!(rt; leaf, Some(27));
     let sibling = state_word(&pool, &mut pass, &iface, 3);
     assert_eq!(rt; sibling, Some(StateWord::of(StateWord::EVICTED, 0)));
     Ok(())

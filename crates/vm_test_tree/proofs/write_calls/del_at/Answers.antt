@@ -1,11 +1,9 @@
 use Rattle.std.proofs.Common.{◌∙◌}
-use Rattle.vm_map.specs.declared.call.Call.TheVariants.{Del}
 use Rattle.vm_map.specs.declared.call.Said.{Said}
 use Rattle.vm_tree_model.specs.Fixed.{fixed}
 use Rattle.vm_step.specs.Prelude.{view}
-use Rattle.vm_tree_write.specs.Writes.{HasKeyIn}
 use Rattle.vm_test_tree.proofs.write_calls.del_at.Goals as goal
 use Rattle.vm_test_tree.proofs.WriteHomes.{del-home}
 
 pub returns-clause-home : goal.returns-clause-home
-returns-clause-home g c = del-home (λ (s : Said). s) (fixed g.row.N) (HasKeyIn (fixed g.row.N)) (Del c.args.key) c.args.key c.del.result (view c.args.pass.now) (view c.del.new.pass) c.del.ensures.ok c.del.ensures.err ∙ c.requires.home
+returns-clause-home g c = del-home (λ (s : Said). s) (fixed g.row.N) c.args.key c.del.result (view c.args.pass.now) (view c.del.new.pass) c.del.ensures.ok c.del.ensures.err ∙ c.requires.home

@@ -1,6 +1,6 @@
 use Rattle.std.proofs.Common.{◌≡◌, None, true}
 use Rattle.vm_step.specs.Prelude.{AreHeld, IsReady, view}
-use Rattle.vm_test_tree.proofs.writes.fill.Given as goal
+use Rattle.vm_test_tree.proofs.writes.put_range.Given as goal
 
 -- the pass is ready and at home
 abbrev pub invariant-loop-key : goal.invariant-loop-key
