@@ -3,7 +3,9 @@
 A page is a list of 64 numbers, or of 512, a page file a list of pages of one size. Written from docs/ and the READMEs of the crates, and from no answer of the program.
 """
 
-from dataclasses import dataclass
+import bisect
+import itertools
+from dataclasses import dataclass, replace
 
 SMALL, LARGE = 64, 512
 MAGIC = {SMALL: 0x564D434143484531, LARGE: 0x564D434143484532}
@@ -11,8 +13,12 @@ MAGIC = {SMALL: 0x564D434143484531, LARGE: 0x564D434143484532}
 PAGES, MOST, BUILT = {SMALL: 65536, LARGE: 8192}, {SMALL: 28, LARGE: 252}, {SMALL: 20, LARGE: 180}
 LEAF, INNER = 2, 3
 TOP, LAST = 2**64, 2**56 - 1
+# how many pairs a leaf keeps at most that becomes one with its neighbour, and how many both have then
+SPARSE, JOINED = {SMALL: 7, LARGE: 63}, {SMALL: 20, LARGE: 180}
 # how many leaves a range may have
 LEAVES = 16
+# how many page numbers a free-number word has
+BITS = 64
 
 
 def blank(size):
@@ -49,7 +55,7 @@ class Node:
 
     def place(self, key):
         """The place of the child that covers the key."""
-        return max(i for i, (low, _) in enumerate(self.pairs) if low <= key)
+        return bisect.bisect_right(self.pairs, key, key=lambda pair: pair[0]) - 1
 
 
 def node_of(page):
@@ -156,7 +162,8 @@ class Fault(Exception):
 
 
 class Store:
-    """The pages under one worker, where every page finds a frame: versions, the calls on each page's device, and what was changed."""
+    """The pages under one worker, where every page finds a frame: versions, the calls on each page's device, and what was changed; the page numbers that are
+    free, and those of worn pages, which stay out of use."""
 
     def __init__(self, pages, plan=(), version=0):
         self.pages = [list(page) for page in pages]
@@ -165,8 +172,12 @@ class Store:
         self.plan, self.calls = set(plan), [0] * len(pages)
         self.resident, self.dirty, self.locked = set(), set(), set()
         self.reads = self.faults = 0
+        self.known = {}  # what the pages are as nodes, since each was written last
         used = [p for p, page in enumerate(pages) if any(page)]
         self.next = used[-1] + 1 if used else 0
+        self.free = {p for p in range(1, self.next) if not any(pages[p])}
+        self.unused = set()
+        self.splits = self.merges = self.reused = 0
 
     def device(self, pid):
         self.calls[pid] += 1
@@ -190,10 +201,14 @@ class Store:
         self.resident.add(pid)
 
     def node(self, pid):
+        """The node of a page, which is brought; it is not to be changed."""
         self.bring(pid)
-        return node_of(self.pages[pid])
+        if pid not in self.known:
+            self.known[pid] = node_of(self.pages[pid])
+        return self.known[pid]
 
     def write(self, pid, page):
+        self.known.pop(pid, None)
         if self.pages[pid] != page:
             self.dirty.add(pid)
         self.locked.add(pid)
@@ -210,31 +225,90 @@ class Store:
                 return pids
             pid = node.pairs[node.place(key)][1]
 
-    def split(self, way):
-        """Splits the first full node of the way. Where no page is left for it the call is `full`, and no version was raised."""
-        at = next(i for i, pid in enumerate(way) if len(node_of(self.pages[pid]).pairs) == MOST[self.size])
-        pid, root = way[at], at == 0
-        node, right = node_of(self.pages[pid]), self.next
-        half = MOST[self.size] // 2
-        key = node.pairs[half][0]
-        halves = Node(node.level, node.low, key, node.pairs[:half]), Node(node.level, key, node.high, node.pairs[half:])
-        fresh = [right, right + 1] if root else [right]
-        if fresh[-1] >= len(self.pages):
+    def free_numbers(self, n):
+        """The n lowest free page numbers of the first free-number word that has as many; None where none has."""
+        for _, word in itertools.groupby(sorted(self.free), lambda p: p // BITS):
+            numbers = list(word)
+            if len(numbers) >= n:
+                return numbers[:n]
+        return None
+
+    def fresh(self, above, n):
+        """n pages for a split, once both pages above them are locked: those whose numbers are free, or else the next ones. Where there are neither the call is
+        `full`, and no version was raised."""
+        found = self.free_numbers(n)
+        if found is None and self.next + n > len(self.pages):
             raise Fault("full")
         # the pages are locked in this order, and those before a worn one are released again
-        for page in [0 if root else way[at - 1], pid] + fresh:
+        for page in above:
             self.raise_version(page)
-        self.next += len(fresh)
-        self.resident |= set(fresh)
+        numbers = found or range(self.next, self.next + n)
+        for page in numbers:
+            try:
+                self.raise_version(page)
+            except Fault:
+                if found:
+                    # the number of a worn page is not given back
+                    self.free.remove(page)
+                    self.unused.add(page)
+                raise
+        if found:
+            self.free -= set(found)
+            self.reused += n
+        else:
+            self.next += n
+        self.resident |= set(numbers)
+        return list(numbers)
+
+    def split(self, way):
+        """Splits the first full node of the way."""
+        at = next(i for i, pid in enumerate(way) if len(self.node(pid).pairs) == MOST[self.size])
+        pid, root = way[at], at == 0
+        node, half = self.node(pid), MOST[self.size] // 2
+        key = node.pairs[half][0]
+        halves = Node(node.level, node.low, key, node.pairs[:half]), Node(node.level, key, node.high, node.pairs[half:])
+        right, *top = self.fresh([0 if root else way[at - 1], pid], 2 if root else 1)
+        self.splits += 1
         self.write(pid, halves[0].page(self.size))
         self.write(right, halves[1].page(self.size))
         if root:
-            self.write(right + 1, Node(node.level + 1, 0, None, [(0, pid), (key, right)]).page(self.size))
-            self.write(0, meta(self.size, right + 1, node.level + 1))
+            self.write(top[0], Node(node.level + 1, 0, None, [(0, pid), (key, right)]).page(self.size))
+            self.write(0, meta(self.size, top[0], node.level + 1))
         else:
-            parent = node_of(self.pages[way[at - 1]])
-            parent.pairs.insert(parent.place(key) + 1, (key, right))
-            self.write(way[at - 1], parent.page(self.size))
+            parent = self.node(way[at - 1])
+            self.write(way[at - 1], replace(parent, pairs=sorted(parent.pairs + [(key, right)])).page(self.size))
+
+    def merge(self, way, rest):
+        """Makes one leaf of the last one of the way, which keeps this of its pairs, and its neighbour, where the conditions for that hold. Says whether it did."""
+        if len(way) == 1 or len(rest.pairs) > SPARSE[self.size]:
+            return False
+        up, pid = way[-2:]
+        parent = self.node(up)
+        # a page at the last version is not locked; the leaf's own is told by the del
+        if len(parent.pairs) == 1 or LAST in (self.versions[pid], self.versions[up]):
+            return False
+        at = next(i for i, (_, child) in enumerate(parent.pairs) if child == pid)
+        behind = at + 1 < len(parent.pairs)
+        beside = parent.pairs[at + 1 if behind else at - 1][1]
+        other = self.node(beside)
+        # the root goes with its last two leaves
+        last = len(way) == 2 and len(parent.pairs) == 2
+        (one, left), (two, right) = [(pid, rest), (beside, other)] if behind else [(beside, other), (pid, rest)]
+        locks = ([0] if last else []) + [up, one, two]
+        if len(left.pairs) + len(right.pairs) > JOINED[self.size] or any(self.versions[page] == LAST for page in locks):
+            return False
+        for page in locks:
+            self.raise_version(page)
+        self.merges += 1
+        self.write(one, Node(0, left.low, right.high, left.pairs + right.pairs).page(self.size))
+        if last:
+            self.write(0, meta(self.size, one, 0))
+        else:
+            self.write(up, replace(parent, pairs=[pair for pair in parent.pairs if pair[1] != two]).page(self.size))
+        for page in [up, two] if last else [two]:
+            self.write(page, blank(self.size))
+            self.free.add(page)
+        return True
 
     def get(self, key):
         return dict(self.node(self.way(key)[-1]).pairs).get(key)
@@ -242,36 +316,35 @@ class Store:
     def put(self, key, value):
         while True:
             way = self.way(key)
-            leaf = node_of(self.pages[way[-1]])
+            leaf = self.node(way[-1])
             pairs = dict(leaf.pairs)
             if key in pairs or len(pairs) < MOST[self.size]:
                 break
             self.split(way)
         self.raise_version(way[-1])
         old = pairs.get(key)
-        leaf.pairs = sorted({**pairs, key: value}.items())
-        self.write(way[-1], leaf.page(self.size))
+        self.write(way[-1], replace(leaf, pairs=sorted({**pairs, key: value}.items())).page(self.size))
         return old
 
     def delete(self, key):
-        pid = self.way(key)[-1]
-        leaf = node_of(self.pages[pid])
+        way = self.way(key)
+        leaf = self.node(way[-1])
         old = dict(leaf.pairs).get(key)
         if old is not None:
-            self.raise_version(pid)
-            leaf.pairs = [pair for pair in leaf.pairs if pair[0] != key]
-            self.write(pid, leaf.page(self.size))
+            rest = replace(leaf, pairs=[pair for pair in leaf.pairs if pair[0] != key])
+            if not self.merge(way, rest):
+                self.raise_version(way[-1])
+                self.write(way[-1], rest.page(self.size))
         return old
 
     def swap(self, key, want, value):
         """The value that the key had. The leaf is locked where it is the one that is wanted, also where the new value is the same."""
         pid = self.way(key)[-1]
-        leaf = node_of(self.pages[pid])
+        leaf = self.node(pid)
         old = dict(leaf.pairs).get(key)
         if old is not None and old == want:
             self.raise_version(pid)
-            leaf.pairs = [(k, value if k == key else v) for k, v in leaf.pairs]
-            self.write(pid, leaf.page(self.size))
+            self.write(pid, replace(leaf, pairs=[(k, value if k == key else v) for k, v in leaf.pairs]).page(self.size))
         return old
 
     def window(self, start, most):
