@@ -1,5 +1,5 @@
 """The test of the harness: small runs of all engines, whose summaries must be right, and the two clocks beside each other."""
-from harness import ranges, rounds, watch, workload
+from harness import program, ranges, rounds, space, turnover, watch, workload
 from harness.console import Failure, say
 
 PAIRS = 1_000
@@ -10,11 +10,12 @@ APART = 0.1
 
 def check(engines, limit):
     """0 where all is right, else 1; says each step that is wrong."""
-    faults = [*faults_of_sizes(), *faults_of_lines()]
+    faults = [*faults_of_sizes(), *faults_of_lines(), *faults_of_turnover(), *faults_of_kinds()]
     for part in rounds.PARTS:
         taking_part = part.engines_of(engines)
         faults += faults_of_part(part, taking_part, limit)
         say(f"{part.name} with {', '.join(map(str, part.workers))} workers: {', '.join(engine.name for engine in taking_part)}")
+    faults += faults_of_space(space.engines_of(engines), limit)
     faults += faults_of_watch(engines, limit)
     for fault in faults:
         say(f"wrong: {fault}")
@@ -30,6 +31,20 @@ def faults_of_part(part, engines, limit):
                 part.run(engine, part.job(PAIRS, workers, engine.words), limit)
             except Failure as failure:
                 yield f"{part.name} with {workers} workers: {failure}"
+
+
+def faults_of_space(engines, limit):
+    """Runs that did not end well, or with another map; and a program that does not give pages back where most pairs are taken out."""
+    for engine in engines:
+        for kind in space.KINDS:
+            try:
+                before, behind = engine.run_space(kind, space.job(PAIRS, engine.words), limit)
+            except Failure as failure:
+                yield f"{rounds.SPACE}, {kind.name}: {failure}"
+                continue
+            if isinstance(engine, program.Program) and kind.name == "most" and behind >= before:
+                yield f"{rounds.SPACE}, {kind.name}: {engine.name} has {before} bytes before, and {behind} behind"
+    say(f"{rounds.SPACE}: {', '.join(engine.name for engine in engines)}")
 
 
 def faults_of_sizes():
@@ -68,6 +83,46 @@ def is_taken(lines, job):
     except Failure:
         return False
     return True
+
+
+def faults_of_turnover():
+    """The turnover of three pairs by two workers, worked out by hand: a run and a chain of each pair, the new key behind that of the next chain."""
+    _, (middle, _), (last, _) = ranges.rows_of(3)
+    first = [(1, None), (middle + 1, 4), (last, None), (2, 6), (middle + 1, None), (last + 2, 7), (2, None), (middle + 2, 9)]
+    second = [(middle, None), (last + 1, 5), (last + 1, None), (3, 8)]
+    script = turnover.script_of(3, 2)
+    if script.lists != [first, second]:
+        yield f"the turnover of three pairs is {script.lists}"
+    if script.lines[:2] != ["0 del 1\n", f"0 put {middle + 1} 4\n"]:
+        yield f"the lines of a turnover begin with {script.lines[:2]}"
+    if script.summary_of_peer != f"calls 12 new 6 gone 6 rows 3 keys {(3 + middle + 2 + last + 2) % ranges.NUMBERS} sum 24":
+        yield f"the summary of a turnover is '{script.summary_of_peer}'"
+    replies = [*(f"0 {place} {reply}" for place, reply in enumerate(("gone 1", "new", "gone 3", "new", "gone 4", "new", "gone 6", "new"), 1))]
+    replies += [*(f"1 {place} {reply}" for place, reply in enumerate(("gone 2", "new", "gone 5", "new"), 1))]
+    right = [*replies, "row 3 8", f"row {middle + 2} 9", f"row {last + 2} 7", "counters reads 5 writes 5 faults 0 evicted 0"]
+    for wrong in ([*right[:7], "0 8 full", *right[8:]], [*right[:12], *right[13:]], right[:-1], [*right, right[-1]]):
+        if are_taken(script, wrong):
+            yield f"replies to a turnover are taken where {right} are right: {wrong}"
+    if not are_taken(script, right):
+        yield "the right replies to a turnover are not taken"
+
+
+def are_taken(script, lines):
+    try:
+        script.require_replies("", lines)
+    except Failure:
+        return False
+    return True
+
+
+def faults_of_kinds():
+    """What is taken out of ten pairs, by the number of the rows that are left, and whether a file's pages are told."""
+    for kind, left in zip(space.KINDS, (5, 5, 1, 10)):
+        if len(space.script_of(kind, 10).rows) != left:
+            yield f"{kind.name} leaves {len(space.script_of(kind, 10).rows)} of ten rows, and not {left}"
+    right = ["row 1 1", f"row {ranges.rows_of(3)[1][0]} 2", f"row {ranges.rows_of(3)[2][0]} 3", "tree height 0 used 2 rows 3"]
+    if space.filling(3).pages_in_use("", right) != 2:
+        yield f"the pages in use are not read in '{right[-1]}'"
 
 
 def faults_of_watch(engines, limit):

@@ -2,17 +2,17 @@
 import dataclasses
 import pathlib
 
-from harness import compiler, packages, process, ranges, workload
+from harness import compiler, packages, process, ranges, space, turnover, workload
 from harness.console import Failure
 
 SOURCES = compiler.BENCH / "peers"
-SHARED_SOURCES = ("main.cc", "churn.cc", "ranges.cc", "workers.cc")
+SHARED_SOURCES = ("main.cc", "calls.cc", "churn.cc", "ranges.cc", "workers.cc")
 
 
 @dataclasses.dataclass(frozen=True)
 class Peer:
     """An engine: its name on the command line, its name in tables, its own source files, what it needs of Debian, whether its memory can be bounded, whether it
-    has ranges of one moment, and what a reader of its numbers has to know."""
+    has ranges of one moment, whether its writes look and so are answered, whether it counts its pages, and what a reader of its numbers has to know."""
 
     name: str
     title: str
@@ -22,6 +22,8 @@ class Peer:
     library: str = ""
     can_be_bounded: bool = False
     has_ranges: bool = True
+    answers_writes: bool = True
+    tells_bytes: bool = False
     remark: str = ""
     # Its memory is bounded to the bytes of the program's frames of this size.
     words: int = workload.SMALL_PAGE
@@ -36,13 +38,37 @@ class Peer:
     def run_ranges(self, job, limit):
         """Seconds of the workers by the peer's own clock for the ranges once, nothing that is to be taken off, and what the run cost. Its summary is right, else it
         has failed."""
-        with process.scratch_folder() as folder:
-            script, own_folder = pathlib.Path(folder) / "script", pathlib.Path(folder) / "store"
-            script.write_text("".join(ranges.range_lines(job)), encoding="ascii")
-            own_folder.mkdir()
-            summary, seconds, ran = self.ended([*self.words_for(job, own_folder), script, ranges.TIMES_OF_PEERS], limit, {})
+        summary, seconds, ran = self.run_script(ranges.range_lines(job), job, limit, ranges.TIMES_OF_PEERS)
         ranges.require_summary_of_peer(self.name, summary, job.pairs)
         return seconds / ranges.TIMES_OF_PEERS, 0.0, ran
+
+    def run_turnover(self, job, limit):
+        """Seconds of the workers by the peer's own clock, nothing that is to be taken off, and what the run cost. Its summary is right, else it has failed."""
+        _, seconds, ran = self.run_calls(turnover.script_of(job.pairs, job.workers), job, limit)
+        return seconds, 0.0, ran
+
+    def run_space(self, kind, job, limit):
+        """The bytes of the pages that hold the map once it is filled, and once the calls are made. Its summary is right, else it has failed."""
+        told, _, _ = self.run_calls(space.script_of(kind, job.pairs), job, limit)
+        name, *counts = told.split()
+        if name != "bytes":
+            raise Failure(f"{self.name} tells of its pages '{told}'")
+        return tuple(map(int, counts))
+
+    def run_calls(self, script, job, limit):
+        """What it tells of its pages, its seconds, and what the run cost."""
+        summary, seconds, ran = self.run_script(script.lines, job, limit)
+        calls, _, told = summary.partition("\n")
+        script.require_summary_of_peer(self.name, calls)
+        return told, seconds, ran
+
+    def run_script(self, lines, job, limit, *more):
+        """What it printed as its summary and its seconds, and what the run cost."""
+        with process.scratch_folder() as folder:
+            script, own_folder = pathlib.Path(folder) / "script", pathlib.Path(folder) / "store"
+            script.write_text("".join(lines), encoding="ascii")
+            own_folder.mkdir()
+            return self.ended([*self.words_for(job, own_folder), script, *more], limit, {})
 
     def words_for(self, job, folder):
         return [program_of(self), job.pairs, workload.SEED, job.workers, folder, job.cache_bytes]
@@ -57,13 +83,15 @@ class Peer:
 # Seen in a profile of Debian 12's library: sync points, assertions and counters at each comparison of keys.
 DEBUG_BUILD = "RocksDB as Debian 12 builds it has its aids for debugging in it, which cost it much: these numbers say little of a build without them."
 PEERS = (
-    Peer("olc", "B+-tree, plain C++", ("olc.cc", "olc_tree.cc"), has_ranges=False),
+    Peer("olc", "B+-tree, plain C++", ("olc.cc", "olc_tree.cc"), has_ranges=False, tells_bytes=True),
     Peer("map", "std::map, one mutex", ("map.cc",)),
-    Peer("lmdb", "LMDB", ("lmdb.cc",), "liblmdb-dev", "lmdb.h", "lmdb"),
+    Peer("lmdb", "LMDB", ("lmdb.cc",), "liblmdb-dev", "lmdb.h", "lmdb", tells_bytes=True),
     Peer("wiredtiger", "WiredTiger", ("wiredtiger.cc",), "libwiredtiger-dev", "wiredtiger.h", "wiredtiger", can_be_bounded=True),
-    Peer("rocksdb", "RocksDB", ("rocksdb.cc",), "librocksdb-dev", "rocksdb/db.h", "rocksdb", can_be_bounded=True, remark=DEBUG_BUILD),
-    Peer("leveldb", "LevelDB", ("leveldb.cc",), "libleveldb-dev", "leveldb/db.h", "leveldb", can_be_bounded=True),
-    Peer("berkeleydb", "Berkeley DB", ("berkeleydb.cc",), "libdb-dev", "db.h", "db", can_be_bounded=True),
+    Peer(
+        "rocksdb", "RocksDB", ("rocksdb.cc",), "librocksdb-dev", "rocksdb/db.h", "rocksdb", can_be_bounded=True, answers_writes=False, remark=DEBUG_BUILD
+    ),
+    Peer("leveldb", "LevelDB", ("leveldb.cc",), "libleveldb-dev", "leveldb/db.h", "leveldb", can_be_bounded=True, answers_writes=False),
+    Peer("berkeleydb", "Berkeley DB", ("berkeleydb.cc",), "libdb-dev", "db.h", "db", can_be_bounded=True, tells_bytes=True),
 )
 
 

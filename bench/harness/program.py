@@ -2,7 +2,7 @@
 import pathlib
 import subprocess
 
-from harness import compiler, process, ranges, watch, workload
+from harness import compiler, process, ranges, space, turnover, watch, workload
 from harness.console import Failure
 
 TOP = compiler.BENCH.parent
@@ -19,6 +19,8 @@ class Program:
     title = "vmcache (this repository)"
     can_be_bounded = True
     has_ranges = True
+    answers_writes = True
+    tells_bytes = True
     words = workload.SMALL_PAGE
 
     def __init__(self, path=None):
@@ -41,7 +43,7 @@ class Program:
     def run(self, job, limit):
         """Seconds of the workers, or None with one worker, which makes no thread; and what the run cost. Its summary is right, else it has failed."""
         with watch.Watch() as seen:
-            ran = process.run([str(self.path), *words_of(job)], limit, seen.environment)
+            ran = self.ran(*words_of(job), limit=limit, environment=seen.environment)
             seconds = seen.seconds()
         workload.require_summary(self.name, ran.output.strip(), job.pairs)
         if job.workers > 1 and seconds is None:
@@ -53,20 +55,49 @@ class Program:
         both cost. Each reply is right, else it has failed."""
         with process.scratch_folder() as folder:
             image, gets = pathlib.Path(folder) / "image", ranges.get_lines(job)
-            pages = workload.pages_needed(job.pairs, job.words)
-            process.run([str(self.path), "make", str(image), str(pages), str(job.pairs), str(workload.SEED), *size_of(job)], limit, {})
+            self.make(image, workload.pages_needed(job.pairs, job.words), job.pairs, job, limit)
             before, _ = self.run_script(image, gets, job, limit)
             seconds, ran = self.run_script(image, gets + ranges.range_lines(job), job, limit)
         ranges.require_replies(self.name, ran.output.splitlines(), job)
         return seconds, before, ran
 
-    def run_script(self, image, lines, job, limit):
+    def run_turnover(self, job, limit):
+        """Seconds of the workers, nothing that is to be taken off, and what the run cost. Each reply is right and so is each row, else it has failed."""
+        script = turnover.script_of(job.pairs, job.workers)
+        with process.scratch_folder() as folder:
+            image = pathlib.Path(folder) / "image"
+            self.make(image, turnover.pages_of(job.pairs, job.words), job.pairs, job, limit)
+            seconds, ran = self.run_script(image, script.lines, job, limit)
+        script.require_replies(self.name, ran.output.splitlines())
+        return seconds, 0.0, ran
+
+    def run_space(self, kind, job, limit):
+        """The bytes of the pages in use once the map is filled, and once the calls are made. Each reply is right and so is each row, else it has failed."""
+        with process.scratch_folder() as folder:
+            image = pathlib.Path(folder) / "image"
+            self.make(image, workload.image_pages(job.pairs, job.words), 0, job, limit)
+            scripts = space.filling(job.pairs), space.script_of(kind, job.pairs)
+            return tuple(self.pages_behind(image, script, job, limit) * job.words * workload.BYTES_A_WORD for script in scripts)
+
+    def pages_behind(self, image, script, job, limit):
+        """How many pages of the file are in use once the calls of the script are made and kept there."""
+        _, ran = self.run_script(image, script.lines, job, limit, "--keep", image)
+        script.require_replies(self.name, ran.output.splitlines())
+        return script.pages_in_use(self.name, self.ran("check", image, limit=limit).output.splitlines())
+
+    def make(self, image, pages, pairs, job, limit):
+        self.ran("make", image, pages, pairs, workload.SEED, *size_of(job), limit=limit)
+
+    def ran(self, *words, limit, environment=None):
+        return process.run([str(self.path), *map(str, words)], limit, environment or {})
+
+    def run_script(self, image, lines, job, limit, *more):
         """Seconds of the workers, and what the run cost."""
         script = image.with_name("script")
         script.write_text("".join(lines), encoding="ascii")
-        words = ["run", image, script, "--workers", max(job.workers, LEAST_WORKERS_SEEN), "--frames", job.frames]
+        workers = max(job.workers, LEAST_WORKERS_SEEN)
         with watch.Watch() as seen:
-            ran = process.run([str(self.path), *map(str, words)], limit, seen.environment)
+            ran = self.ran("run", image, script, "--workers", workers, "--frames", job.frames, *more, limit=limit, environment=seen.environment)
             seconds = seen.seconds()
         if seconds is None:
             raise Failure(f"{self.name} made no thread that could be seen, so its workers' phase is not known")

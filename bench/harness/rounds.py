@@ -2,7 +2,7 @@
 import dataclasses
 import typing
 
-from harness import program, ranges, workload
+from harness import program, ranges, space, turnover, workload
 from harness.console import Failure, say
 
 
@@ -29,6 +29,10 @@ class Part:
     def calls_of(self, pairs):
         return workload.calls_of(pairs)
 
+    def note_of(self, pairs):
+        """What a reader of the table has to know that churn does not tell."""
+        return ""
+
     def run(self, engine, job, limit):
         """Seconds of the workers' phase, or None where it was not seen; of these, the seconds that are not the calls'; and what the run cost."""
         seconds, ran = engine.run(job, limit)
@@ -50,15 +54,40 @@ class RangesPart(Part):
     def calls_of(self, pairs):
         return ranges.RANGES
 
+    def note_of(self, pairs):
+        return f"Ranges: {ranges.RANGES:,} a run on a map of {pairs:,} pairs, {self.runs_a_round} runs a round. "
+
     def run(self, engine, job, limit):
         return engine.run_ranges(job, limit)
+
+
+class TurnoverPart(Part):
+    """The table of the turnover: of engines that answer their writes, or it would not be known that the calls were made."""
+
+    @property
+    def heading(self):
+        return self.title
+
+    def engines_of(self, engines):
+        return [engine for engine in engines if engine.answers_writes]
+
+    def calls_of(self, pairs):
+        return turnover.calls_of(pairs)
+
+    def note_of(self, pairs):
+        return f"Turnover: {turnover.calls_of(pairs):,} puts and dels on a map of {pairs:,} pairs. "
+
+    def run(self, engine, job, limit):
+        return engine.run_turnover(job, limit)
 
 
 PARTS = (
     Part("resident", "All pages in memory", (1, 2, 4), workload.resident_job, is_bounded=False),
     Part("tenth", "Frames for a tenth of the pages", (1, 4), workload.tenth_job, is_bounded=True),
     RangesPart("ranges", f"Ranges of {ranges.PAIRS_A_RANGE} pairs, all pages in memory", (1, 4), workload.resident_job, is_bounded=False),
+    TurnoverPart("turnover", "A file near full whose pairs are turned over, all pages in memory", (1, 4), turnover.job, is_bounded=False),
 )
+SPACE = "space"
 COST = "cost"
 COST_WORKERS = 4
 COST_FRAMES = (workload.FEWEST_FRAMES, workload.MOST_FRAMES)
@@ -82,25 +111,31 @@ class Sample:
 
 
 class Rounds:
-    """The samples so far, and the settings that an engine failed at, each with the cause: these are not tried again."""
+    """The samples and bytes so far, and the settings that an engine failed at, each with the cause: these are not tried again."""
 
     def __init__(self, pairs, limit):
         self.pairs, self.limit = pairs, limit
-        self.samples, self.failures, self.was_ended_by_hand = [], {}, False
+        self.samples, self.spaces, self.failures, self.was_ended_by_hand = [], {}, {}, False
 
     def measure(self, part, engine, job, number, run=PARTS[0].run):
         """One run, unless it failed before."""
+        ended = self.tried(part, engine, job, f"round {number}, {part}", lambda: run(engine, job, self.limit))
+        if ended:
+            phase, before, ran = ended
+            self.samples.append(Sample(part, number, engine.name, job.workers, job.frames, phase, before, ran.wall, ran.processor, ran.peak))
+
+    def tried(self, part, engine, job, title, run):
+        """What the run gives; None where it failed, now or before."""
         setting = (part, engine.name, job.workers, job.frames)
         if setting in self.failures:
-            return
-        say(f"round {number}, {part}: {engine.name}, workers {job.workers}, frames {job.frames}")
+            return None
+        say(f"{title}: {engine.name}, workers {job.workers}, frames {job.frames}")
         try:
-            phase, before, ran = run(engine, job, self.limit)
+            return run()
         except Failure as failure:
             say(f"left out from here on: {failure}")
             self.failures[setting] = str(failure)
-            return
-        self.samples.append(Sample(part, number, engine.name, job.workers, job.frames, phase, before, ran.wall, ran.processor, ran.peak))
+            return None
 
     def run_part(self, part, engines, number):
         """One round of a part."""
@@ -112,6 +147,15 @@ class Rounds:
         """One round of the program alone, with the fewest frames and with the most."""
         for frames in COST_FRAMES:
             self.measure(COST, engine, workload.Job(self.pairs, COST_WORKERS, frames, bounded=False, words=engine.words), number)
+
+    def run_space(self, engines):
+        """The bytes of each engine that tells them, before and behind the calls of each kind: once, since neither time nor another worker has a part in them."""
+        for engine in space.engines_of(engines):
+            job = space.job(self.pairs, engine.words)
+            for kind in space.KINDS:
+                told = self.tried(SPACE, engine, job, f"{SPACE}, {kind.name}", lambda kind=kind: engine.run_space(kind, job, self.limit))
+                if told:
+                    self.spaces[engine.name, kind.name] = told
 
     def completed(self):
         """The samples, with the phase worked out where it was not seen, and without those of which it cannot be."""

@@ -3,7 +3,7 @@ import collections
 import csv
 import statistics
 
-from harness import program, rounds
+from harness import program, rounds, space
 
 OURS = program.Program.name
 NONE = "-"
@@ -84,6 +84,22 @@ def cost_table(costs, titles):
     return markdown(["engine, 4 workers", "whole run", "user and system", "peak resident"], rows)
 
 
+def space_table(spaces, titles):
+    """A row an engine: the bytes of the filled map's pages, and those behind each kind of calls, with the ratio of the two."""
+    head = ["engine", "filled", *(kind.title for kind in space.KINDS)]
+    rows = []
+    for engine in dict.fromkeys(engine for engine, _ in spaces):
+        told = [spaces.get((engine, kind.name)) for kind in space.KINDS]
+        filled = next(before for before, _ in filter(None, told))
+        cells = [f"{kilobytes(cell[1])} ({cell[1] / cell[0]:.2f})" if cell else NONE for cell in told]
+        rows.append([f"**{titles[engine]}**" if engine == OURS else titles[engine], kilobytes(filled), *cells])
+    return markdown(head, rows)
+
+
+def kilobytes(count):
+    return f"{count / 1000:,.0f} kB"
+
+
 def markdown(head, rows):
     lines = [head, ["---"] * len(head), *rows]
     return "\n".join(f"| {' | '.join(line)} |" for line in lines) + "\n"
@@ -108,3 +124,11 @@ def write_speeds(path, speeds_by_part):
             for engine, workers in sorted(speeds):
                 speed, by_ours = speeds[engine, workers], ratio(speeds, engine, workers)
                 writer.writerow([part, engine, workers, f"{speed.best:.0f}", f"{speed.median:.0f}", f"{by_ours:.3f}" if by_ours else ""])
+
+
+def write_spaces(path, spaces):
+    """Each cell of the table of space."""
+    with open(path, "w", newline="", encoding="utf-8") as file:
+        writer = csv.writer(file)
+        writer.writerow(["engine", "calls", "bytes_before", "bytes_behind"])
+        writer.writerows([engine, kind, *told] for (engine, kind), told in spaces.items())

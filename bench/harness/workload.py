@@ -5,6 +5,7 @@ from harness.console import Failure
 
 SEED = 1
 SMALL_PAGE, LARGE_PAGE = 64, 512  # words
+BYTES_A_WORD = 8
 PAIRS_A_LEAF = {SMALL_PAGE: 20, LARGE_PAGE: 180}  # as a page file is built; also the children of an inner node
 FEWEST_FRAMES, MOST_FRAMES, FRAMES_A_WORKER = 64, 65_536, 8
 MOST_PAIRS = 100_000
@@ -22,7 +23,7 @@ class Job:
 
     @property
     def cache_bytes(self):
-        return self.frames * self.words * 8 if self.bounded else 0
+        return self.frames * self.words * BYTES_A_WORD if self.bounded else 0
 
 
 def calls_of(pairs):
@@ -60,7 +61,7 @@ def image_pages(pairs, words):
 
 
 def resident_job(pairs, workers, words):
-    """A run whose pages all have a frame, of churn or of ranges, which write nothing."""
+    """A run whose pages all have a frame: of churn, of ranges, which write nothing, or of what space is measured by."""
     return Job(pairs, workers, frames_near(image_pages(pairs, words), workers), bounded=False, words=words)
 
 

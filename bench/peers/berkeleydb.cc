@@ -1,6 +1,8 @@
 // Berkeley DB: a B-tree with its lock for many readers or one writer ("concurrent data store"), without log and transactions.
 #include <db.h>
 
+#include <cstdlib>
+
 #include "byte_key.h"
 #include "store.h"
 
@@ -89,6 +91,15 @@ class BerkeleyStore : public Store {
     env_->close(env_, 0);
   }
   std::unique_ptr<Session> session() override { return std::make_unique<BerkeleySession>(table_); }
+
+  // Without the free pages and the one that describes the table.
+  std::optional<uint64_t> bytes_of_pages() override {
+    DB_BTREE_STAT* pages;
+    must(table_->stat(table_, nullptr, &pages, 0));
+    const uint64_t bytes = uint64_t(pages->bt_int_pg + pages->bt_leaf_pg + pages->bt_over_pg) * pages->bt_pagesize;
+    std::free(pages);
+    return bytes;
+  }
 
  private:
   DB_ENV* env_ = nullptr;

@@ -107,6 +107,16 @@ class LmdbStore : public Store {
   ~LmdbStore() override { mdb_env_close(env_); }
   std::unique_ptr<Session> session() override { return std::make_unique<LmdbSession>(env_, table_); }
 
+  // As the tool mdb_stat counts them: without the free pages and the two that name the roots.
+  std::optional<uint64_t> bytes_of_pages() override {
+    MDB_txn* reader;
+    must(mdb_txn_begin(env_, nullptr, MDB_RDONLY, &reader));
+    MDB_stat pages;
+    must(mdb_stat(reader, table_, &pages));
+    mdb_txn_abort(reader);
+    return (pages.ms_branch_pages + pages.ms_leaf_pages + pages.ms_overflow_pages) * pages.ms_psize;
+  }
+
  private:
   MDB_env* env_ = nullptr;
   MDB_dbi table_ = 0;

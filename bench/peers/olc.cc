@@ -20,6 +20,7 @@ class OlcStore : public Store {
   // A node gets 14 pairs by a split and is split at 28, so there is at most one node for each 14 puts and, above them, one for each 14 nodes.
   explicit OlcStore(uint64_t puts) : tree_(puts / 12 + 64) {}
   std::unique_ptr<Session> session() override { return std::make_unique<OlcSession>(tree_); }
+  std::optional<uint64_t> bytes_of_pages() override { return tree_.bytes_of_nodes(); }
 
  private:
   OlcTree tree_;

@@ -19,6 +19,8 @@ class OlcTree {
   bool put(uint64_t key, uint64_t value);
   // Whether the key was there.
   bool del(uint64_t key);
+  // How many bytes the words of all nodes have, also of those that are empty.
+  uint64_t bytes_of_nodes() const { return next_.load() * sizeof(Node::words); }
 
  private:
   struct alignas(64) Node {

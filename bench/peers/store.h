@@ -42,6 +42,8 @@ class Store {
   virtual std::unique_ptr<Session> session() = 0;
   // Brings what was put into the form in which the engine keeps it for long. There is no session meanwhile.
   virtual void settle() {}
+  // How many bytes the pages have that hold the pairs, where the engine counts them. There is no call meanwhile.
+  virtual std::optional<uint64_t> bytes_of_pages() { return std::nullopt; }
   // False for an engine that writes without looking: what its `put` and `del` return then says nothing.
   virtual bool answers_writes() const { return true; }
 };
