@@ -15,7 +15,7 @@ use std::sync::Wait;
 use std::thread::Threads;
 use vm_cli::ends::Ends;
 use vm_cli::run::run;
-use vm_drive::gate::Open;
+use vm_drive::gate::NoGate;
 use vm_io::host::Host;
 use vm_io::loops::{read_whole, say_all};
 use vm_io::memory::MemHost;
@@ -143,7 +143,7 @@ fn perform<R: Threads + Wait + Sync>(
         }
     }
     let mut ends = Ends::Nothing;
-    Ok(run(rt, alloc, words.as_slice(), host, &Open, &mut ends))
+    Ok(run(rt, alloc, words.as_slice(), host, &NoGate, &mut ends))
 }
 
 /// Adds a file to those of a host.

@@ -1,6 +1,5 @@
-//! Blocks in memory whose plan fails the first call, or a later one.
+//! A block in memory whose plan fails its first call and, by a number that stands twice, its third.
 
-use std::alloc::{AllocError, Global};
 use std::test::Fail;
 use vm_block::{Block, Failed, MemBlock, PageBlock};
 use vm_page::{PageBuf, WORDS};
@@ -12,49 +11,25 @@ fn page(word: u64) -> PageBuf<WORDS> {
     page
 }
 
-fn block(alloc: Global, plan: &[u64]) -> Result<MemBlock<WORDS>, AllocError> {
-    MemBlock::new(alloc, page(7), plan)
-}
-
 // What any kind of block counts, through its trait.
 fn counts<B: Block>(block: &B) -> (u64, u64, u64) {
     (block.reads(), block.writes(), block.faults())
 }
 
 #[test]
-fn the_first_read_fails_and_the_second_answers(rt: HostRuntime) -> Result<(), Fail> {
-    let mut block = block(rt.alloc(), &[1])?;
+fn calls_fail_by_their_numbers(rt: HostRuntime) -> Result<(), Fail> {
+    let mut block = MemBlock::new(rt.alloc(), page(7), &[0, 1, 3, 3])?;
     let mut into = PageBuf::zero();
     assert_eq!(rt; block.read(&mut into), Err(Failed));
     assert_eq!(rt; counts(&block), (0, 0, 1));
     assert_eq!(rt; block.read(&mut into), Ok(()));
     assert_eq!(rt; into.get(5), 7);
     assert_eq!(rt; into.get(6), 0);
-    assert_eq!(rt; counts(&block), (1, 0, 1));
-    Ok(())
-}
-
-#[test]
-fn the_write_after_a_read_fails_and_the_words_stay(rt: HostRuntime) -> Result<(), Fail> {
-    let mut block = block(rt.alloc(), &[2])?;
-    let mut into = PageBuf::zero();
-    assert_eq!(rt; block.read(&mut into), Ok(()));
     assert_eq!(rt; block.write(&page(8)), Err(Failed));
     assert_eq!(rt; block.words().get(5), 7);
-    assert_eq!(rt; counts(&block), (1, 0, 1));
-    assert_eq!(rt; block.write(&page(8)), Ok(()));
-    assert_eq!(rt; block.words().get(5), 8);
-    assert_eq!(rt; counts(&block), (1, 1, 1));
-    Ok(())
-}
-
-#[test]
-fn a_number_that_stands_twice_fails_one_call(rt: HostRuntime) -> Result<(), Fail> {
-    let mut block = block(rt.alloc(), &[0, 2, 2])?;
-    assert_eq!(rt; block.write(&page(1)), Ok(()));
-    assert_eq!(rt; block.write(&page(2)), Err(Failed));
-    assert_eq!(rt; block.write(&page(3)), Ok(()));
-    assert_eq!(rt; block.words().get(5), 3);
-    assert_eq!(rt; counts(&block), (0, 2, 1));
+    assert_eq!(rt; counts(&block), (1, 0, 2));
+    assert_eq!(rt; block.write(&page(9)), Ok(()));
+    assert_eq!(rt; block.words().get(5), 9);
+    assert_eq!(rt; counts(&block), (1, 1, 2));
     Ok(())
 }

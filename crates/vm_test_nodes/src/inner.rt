@@ -74,11 +74,6 @@ fn a_further_child_is_found_and_not_put(rt: HostRuntime) {
     let mut wanted = inner_words([3, 3, 1000, 2000, 0, 1, 0, 0], 0, 0);
     wanted[8..14].copy_from_slice(&[1000, 1100, 1005, 7, 1010, 1110]);
     assert_eq!(rt; edited_words(&page, &edit), wanted);
-
-    let edit = add_edit(&page, 1010, 7).expect(&rt, "the key is there");
-    let mut wanted = words;
-    wanted[11] = 7;
-    assert_eq!(rt; edited_words(&page, &edit), wanted);
     assert_eq!(rt; words_of(&page), words);
 }
 

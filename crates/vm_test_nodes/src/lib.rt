@@ -7,8 +7,6 @@ mod block;
 #[cfg(test)]
 mod built;
 #[cfg(test)]
-mod checked;
-#[cfg(test)]
 mod counted;
 #[cfg(test)]
 mod image;

@@ -23,10 +23,6 @@ fn two_leaves_become_one(rt: HostRuntime) {
     assert!(rt; count_of(&left) + count_of(&right) <= most_pairs(WORDS));
     join(&mut left, &right);
     assert_eq!(rt; words_of(&left), wanted);
-}
-
-#[test]
-fn two_large_leaves_become_one(rt: HostRuntime) {
     let (mut left, right, wanted) = leaves::<LARGE>();
     assert!(rt; count_of(&left) + count_of(&right) <= most_pairs(LARGE));
     join(&mut left, &right);

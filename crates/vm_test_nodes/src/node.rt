@@ -23,19 +23,21 @@ fn empty_leaf<const N: usize>() -> PageBuf<N>
     page_of(leaf_words([2, 0, 0, 0, 1, 0, 0, 0], 0, 0))
 }
 
-// A look-up in place gives this, from eight words of 64 at most, or eleven of 512.
+// A look-up in a buffer gives this, and one in place, from eight words of 64 at most, or eleven of 512.
 fn finds<const N: usize>(rt: &impl Abort, page: &PageBuf<N>, key: u64, found: Option<u64>)
     requires { IsSize N }
 {
+    assert_eq!(rt; find(page, key), found, "at {key}");
     let mut place = none_loaded(page);
     assert_eq!(rt; find_at(&mut place, N, key), found, "at {key}");
     assert!(rt; place.loaded <= keys_searched(N) + 3);
 }
 
-// Whether the key is covered, in place, from three words at most.
+// Whether the key is covered, in a buffer and in place, from three words at most.
 fn is_covered<const N: usize>(rt: &impl Abort, page: &PageBuf<N>, key: u64, covered: bool)
     requires { IsSize N }
 {
+    assert_eq!(rt; covers(page, key), covered, "at {key}");
     let mut place = none_loaded(page);
     assert_eq!(rt; covers_at(&mut place, N, key), covered, "at {key}");
     assert!(rt; place.loaded <= 3);
@@ -91,6 +93,9 @@ fn full_leaf_is_split<const N: usize>(rt: &impl Abort, half: u32)
     assert_eq!(rt; put(&mut right, most + 1, most + 1), Ok(None));
     let wanted = leaf_words::<N>([2, half + 1, half + 1, 0, 1, 0, 0, 0], half + 1, half + 1);
     assert_eq!(rt; words_of(&right), wanted);
+    is_covered(rt, &right, half, false);
+    is_covered(rt, &right, u64::MAX, true);
+    shows(rt, &right, most + 2, 28, Bound::End, &[]);
 }
 
 #[test]
@@ -133,40 +138,12 @@ fn halves_are_found_and_the_left_one_not_made(rt: HostRuntime) {
     halves_are_found::<LARGE>(&rt, 126);
 }
 
+// Each edit is found, and nothing is changed by that; a put and a del make the same ones.
 #[test]
-fn pairs_stand_by_rising_key(rt: HostRuntime) {
-    let mut page = empty_leaf::<WORDS>();
-    let last = u64::MAX;
-    for (key, value, was) in [
-        (3, 30, None),
-        (1, 10, None),
-        (last, 1, None),
-        (2, 20, None),
-        (3, 31, Some(30)),
-    ] {
-        assert_eq!(rt; put(&mut page, key, value), Ok(was), "at {key}");
-    }
-    let mut wanted = leaf_words::<WORDS>([2, 4, 0, 0, 1, 0, 0, 0], 0, 0);
-    wanted[8..16].copy_from_slice(&[1, 10, 2, 20, 3, 31, last, 1]);
-    assert_eq!(rt; words_of(&page), wanted);
-    for (key, found) in [(0, None), (1, Some(10)), (3, Some(31)), (last, Some(1))] {
-        assert_eq!(rt; find(&page, key), found, "at {key}");
-        finds(&rt, &page, key, found);
-    }
-
-    assert_eq!(rt; del(&mut page, 2), Some(20));
-    assert_eq!(rt; del(&mut page, 2), None);
-    assert_eq!(rt; del(&mut page, last), Some(1));
-    let mut wanted = leaf_words::<WORDS>([2, 2, 0, 0, 1, 0, 0, 0], 0, 0);
-    wanted[8..12].copy_from_slice(&[1, 10, 3, 31]);
-    assert_eq!(rt; words_of(&page), wanted);
-}
-
-#[test]
-fn an_edit_is_found_and_not_made(rt: HostRuntime) {
+fn an_edit_is_found_and_made(rt: HostRuntime) {
     let mut words = leaf_words::<WORDS>([2, 3, 0, 0, 1, 0, 0, 0], 0, 0);
     words[8..14].copy_from_slice(&[2, 20, 4, 40, 6, 60]);
-    let page = page_of(words);
+    let mut page = page_of(words);
 
     let (was, edit) = put_edit(&page, 4, 41).expect(&rt, "the key is there");
     assert_eq!(rt; was, Some(40));
@@ -174,19 +151,25 @@ fn an_edit_is_found_and_not_made(rt: HostRuntime) {
     wanted[11] = 41;
     assert_eq!(rt; edited_words(&page, &edit), wanted);
 
-    let (was, edit) = put_edit(&page, 3, 30).expect(&rt, "there is room");
-    assert_eq!(rt; was, None);
-    let mut wanted = leaf_words::<WORDS>([2, 4, 0, 0, 1, 0, 0, 0], 0, 0);
-    wanted[8..16].copy_from_slice(&[2, 20, 3, 30, 4, 40, 6, 60]);
-    assert_eq!(rt; edited_words(&page, &edit), wanted);
-
     let (was, edit) = del_edit(&page, 2).expect(&rt, "the key is there");
     assert_eq!(rt; was, 20);
     let mut wanted = leaf_words::<WORDS>([2, 2, 0, 0, 1, 0, 0, 0], 0, 0);
     wanted[8..12].copy_from_slice(&[4, 40, 6, 60]);
     assert_eq!(rt; edited_words(&page, &edit), wanted);
-
     assert!(rt; del_edit(&page, 3).is_none());
+
+    let (was, edit) = put_edit(&page, 3, 30).expect(&rt, "there is room");
+    assert_eq!(rt; was, None);
+    let mut wanted = leaf_words::<WORDS>([2, 4, 0, 0, 1, 0, 0, 0], 0, 0);
+    wanted[8..16].copy_from_slice(&[2, 20, 3, 30, 4, 40, 6, 60]);
+    assert_eq!(rt; edited_words(&page, &edit), wanted);
+    assert_eq!(rt; words_of(&page), words);
+
+    assert_eq!(rt; put(&mut page, 3, 29), Ok(None));
+    assert_eq!(rt; put(&mut page, 3, 30), Ok(Some(29)));
+    assert_eq!(rt; words_of(&page), wanted);
+    assert_eq!(rt; del(&mut page, 3), Some(30));
+    assert_eq!(rt; del(&mut page, 3), None);
     assert_eq!(rt; words_of(&page), words);
 }
 
@@ -208,43 +191,6 @@ fn no_edit_reaches_past_the_page(rt: HostRuntime) {
         edited_words(&full, &out),
         leaf_words([2, 27, 0, 0, 1, 0, 0, 0], 2, 27)
     );
-}
-
-#[test]
-fn fences_part_the_keys(rt: HostRuntime) {
-    let bounded = page_of(leaf_words::<WORDS>([2, 14, 1, 15, 0, 0, 0, 0], 1, 14));
-    let endless = page_of(leaf_words::<WORDS>([2, 15, 15, 0, 1, 0, 0, 0], 15, 15));
-    assert!(rt; is_leaf(&bounded));
-    assert!(rt; !is_leaf(&page_of([3; 64])));
-    for (key, in_bounded, in_endless) in [
-        (0, false, false),
-        (1, true, false),
-        (14, true, false),
-        (15, false, true),
-        (u64::MAX, false, true),
-    ] {
-        assert_eq!(rt; covers(&bounded, key), in_bounded, "at {key}");
-        assert_eq!(rt; covers(&endless, key), in_endless, "at {key}");
-        is_covered(&rt, &bounded, key, in_bounded);
-        is_covered(&rt, &endless, key, in_endless);
-    }
-}
-
-#[test]
-fn windows_end_before_a_pair_or_at_the_fence(rt: HostRuntime) {
-    let pair = |key| Pair { key, value: key };
-    let bounded = page_of(leaf_words::<WORDS>([2, 14, 0, 15, 0, 0, 0, 0], 1, 14));
-    shows(&rt, &bounded, 3, 2, Bound::Key(5), &[pair(3), pair(4)]);
-    shows(&rt, &bounded, 13, 2, Bound::Key(15), &[pair(13), pair(14)]);
-    shows(&rt, &bounded, 14, 5, Bound::Key(15), &[pair(14)]);
-
-    let mut endless = page_of(leaf_words::<WORDS>([2, 2, 15, 0, 1, 0, 0, 0], 15, 2));
-    shows(&rt, &endless, 16, 1, Bound::End, &[pair(16)]);
-    shows(&rt, &endless, 17, 28, Bound::End, &[]);
-    let last = u64::MAX;
-    assert_eq!(rt; put(&mut endless, last, last), Ok(None));
-    shows(&rt, &endless, 17, 0, Bound::Key(last), &[]);
-    shows(&rt, &endless, last, 1, Bound::End, &[pair(last)]);
 }
 
 // Where the keys stop being lower than this one, and where they begin to be above it.
@@ -271,18 +217,21 @@ fn has_bounds<const N: usize>(
     );
 }
 
-// Each pair of a full leaf is found in place; a window shows 28 of them at most.
+// Each pair of a full leaf is found, and its fences part the keys; a window shows 28 of the pairs at most, and ends before a pair or at the fence.
 fn full_leaf_is_read<const N: usize>(rt: &impl Abort, most: u32)
     requires { IsSize N }
 {
     let last = u64::from(most);
-    let page = page_of(leaf_words::<N>([2, last, 0, last + 1, 0, 0, 0, 0], 1, last));
+    let page = page_of(leaf_words::<N>([2, last, 1, last + 1, 0, 0, 0, 0], 1, last));
+    assert!(rt; is_leaf(&page));
     finds(rt, &page, 0, None);
     for key in 1..last + 1 {
         finds(rt, &page, key, Some(key));
     }
     finds(rt, &page, last + 1, None);
     finds(rt, &page, u64::MAX, None);
+    is_covered(rt, &page, 0, false);
+    is_covered(rt, &page, 1, true);
     is_covered(rt, &page, last, true);
     is_covered(rt, &page, last + 1, false);
 
@@ -298,6 +247,8 @@ fn full_leaf_is_read<const N: usize>(rt: &impl Abort, most: u32)
     };
     shows(rt, &page, last, 28, Bound::Key(last + 1), &[end]);
     shows(rt, &page, 14, 0, Bound::Key(14), &[]);
+    let third = Pair { key: 3, value: 3 };
+    shows(rt, &page, 3, 1, Bound::Key(4), &[third]);
 
     let mut place = in_buffer(&page);
     assert!(rt; is_leaf_at(&mut place, N));
@@ -320,11 +271,9 @@ fn reads_any_words<const N: usize>(rt: &impl Abort, most: u32)
 {
     let last = u64::MAX;
     let mut page = page_of([last; N]);
-    assert_eq!(rt; find(&page, last), Some(last));
-    assert_eq!(rt; find(&page, 5), None);
     finds(rt, &page, last, Some(last));
     finds(rt, &page, 5, None);
-    assert!(rt; !covers(&page, 5));
+    assert!(rt; !is_leaf(&page));
     is_covered(rt, &page, 5, false);
     assert_eq!(rt; window(&page, 5, 100).pairs.len(), 28);
     let mut place = none_loaded(&page);

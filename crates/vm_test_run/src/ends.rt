@@ -1,10 +1,9 @@
 //! What is kept of a run: the end of its pool.
 
 use crate::expect::{RUN, host, host_with, is_kept, perform};
-use crate::pages::large_tree;
 use std::test::Fail;
 use vm_cli::ends::Ends;
-use vm_drive::gate::Open;
+use vm_drive::gate::NoGate;
 
 /// The end of the pool has the counts that are said; a later command that has no workers leaves it.
 #[test]
@@ -12,9 +11,9 @@ fn the_end_of_the_pool_is_kept(rt: HostRuntime) -> Result<(), Fail> {
     let alloc = rt.alloc();
     let mut host = host_with(alloc, "0 put 5 7\n0 get 5\n")?;
     let mut ends = Ends::Nothing;
-    let status = perform(&rt, alloc, &mut host, RUN, &Open, &mut ends)?;
+    let status = perform(&rt, alloc, &mut host, RUN, &NoGate, &mut ends)?;
     assert_eq!(rt; status, 0);
-    let status = perform(&rt, alloc, &mut host, "check S", &Open, &mut ends)?;
+    let status = perform(&rt, alloc, &mut host, "check S", &NoGate, &mut ends)?;
     assert_eq!(rt; status, 4);
     assert!(rt; is_kept(&ends));
     let sums = match &ends {
@@ -30,16 +29,19 @@ fn the_end_of_the_pool_is_kept(rt: HostRuntime) -> Result<(), Fail> {
 #[test]
 fn the_end_of_a_pool_of_large_pages_is_kept(rt: HostRuntime) -> Result<(), Fail> {
     let alloc = rt.alloc();
-    let mut files = host(alloc, large_tree(alloc, 6)?, b"0 put 5 7\n0 get 5\n", &[])?;
+    let mut files = host(alloc, Vec::new(alloc), b"0 put 5 7\n0 get 5\n", &[])?;
     let mut ends = Ends::Nothing;
+    let line = "make I0 8 0 1 --words 512";
+    let status = perform(&rt, alloc, &mut files, line, &NoGate, &mut ends)?;
+    assert_eq!(rt; status, 0);
     let line = "run I0 S --workers 1 --frames 64 --keep K";
-    let status = perform(&rt, alloc, &mut files, line, &Open, &mut ends)?;
+    let status = perform(&rt, alloc, &mut files, line, &NoGate, &mut ends)?;
     assert_eq!(rt; status, 0);
     let line = "migrate K K 2";
-    let status = perform(&rt, alloc, &mut files, line, &Open, &mut ends)?;
+    let status = perform(&rt, alloc, &mut files, line, &NoGate, &mut ends)?;
     assert_eq!(rt; status, 0);
     let said =
-        "0 1 new\n0 2 some 7\nrow 5 7\ncounters reads 2 writes 1 faults 0 evicted 0\nmigrated 2 used 2 height 0 rows 1\n";
+        "made 8 used 2 height 0\n0 1 new\n0 2 some 7\nrow 5 7\ncounters reads 2 writes 1 faults 0 evicted 0\nmigrated 2 used 2 height 0 rows 1\n";
     assert!(rt; files.said() == said.as_bytes());
     let sums = match &ends {
         Ends::Nothing => [9, 9, 9],

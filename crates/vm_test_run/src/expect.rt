@@ -8,7 +8,7 @@ use std::test::Fail;
 use std::thread::Threads;
 use vm_cli::ends::Ends;
 use vm_cli::run::run;
-use vm_drive::gate::{Gate, Open};
+use vm_drive::gate::{Gate, NoGate};
 use vm_io::host::Host;
 use vm_io::memory::MemHost;
 
@@ -87,7 +87,7 @@ pub(crate) fn expect_run<R: Abort + Threads + Wait + Sync>(
     said: &str,
 ) -> Result<(), Fail> {
     let mut ends = Ends::Nothing;
-    let came = perform(rt, alloc, host, line, &Open, &mut ends)?;
+    let came = perform(rt, alloc, host, line, &NoGate, &mut ends)?;
     assert_eq!(rt; came, status, "{line}");
     assert!(rt; host.said() == said.as_bytes(), "{line}");
     assert!(rt; is_kept(&ends), "{line}");
@@ -104,7 +104,7 @@ pub(crate) fn expect_no_run<R: Abort + Threads + Wait + Sync>(
     said: &str,
 ) -> Result<(), Fail> {
     let mut ends = Ends::Nothing;
-    let came = perform(rt, alloc, host, line, &Open, &mut ends)?;
+    let came = perform(rt, alloc, host, line, &NoGate, &mut ends)?;
     assert_eq!(rt; came, status, "{line}");
     assert!(rt; host.said() == said.as_bytes(), "{line}");
     assert!(rt; host.file("K") == Some(OLD), "{line}");

@@ -1,14 +1,12 @@
 //! The file that a run keeps: it is replaced as a whole before anything is said, or it is as it was.
 
-use crate::expect::{OLD, RUN, expect_no_run, expect_run, host, is_kept, perform};
+use crate::expect::{OLD, RUN, expect_no_run, expect_run, host};
 use crate::pages::{add_news, add_rows, empty_tree, puts, two_leaves};
 use std::alloc::{AllocError, Global};
 use std::process::Abort;
 use std::sync::Wait;
 use std::test::Fail;
 use std::thread::Threads;
-use vm_cli::ends::Ends;
-use vm_drive::gate::Open;
 use vm_io::memory::MemHost;
 
 /// Keeps what the run leaves in the file `K`.
@@ -24,36 +22,24 @@ fn host_of_29(alloc: Global, plan: &[u64]) -> Result<MemHost, AllocError> {
 fn said_of_29(alloc: Global) -> Result<String, AllocError> {
     let mut said = String::new(alloc);
     add_news(alloc, &mut said, 29)?;
-    add_rows(alloc, &mut said, 1, 29)?;
+    add_rows(alloc, &mut said, 29)?;
     said.push_str("counters reads 2 writes 4 faults 0 evicted 0\n")?;
     Ok(said)
 }
 
-/// The 29th put splits the leaf: the file has one leaf of 14 pairs and one of 15 below a root, and `check` reads it back.
-#[test]
-fn the_tree_is_kept_and_read_back(rt: HostRuntime) -> Result<(), Fail> {
-    let alloc = rt.alloc();
-    let mut host = host_of_29(alloc, &[])?;
-    let mut said = said_of_29(alloc)?;
-    expect_run(&rt, alloc, &mut host, RUN_KEEP, 0, said.as_str())?;
+/// No call of the plan is made, where a call moves at most `piece` bytes: the file has one leaf of 14 pairs and one of 15 below a root, as the 29th
+/// put splits the leaf, and all is said.
+fn moves_all<R: Abort + Threads + Wait + Sync>(
+    rt: &R,
+    alloc: Global,
+    plan: &[u64],
+    piece: usize,
+) -> Result<(), Fail> {
+    let mut host = host_of_29(alloc, plan)?.with_piece(piece);
+    let said = said_of_29(alloc)?;
+    expect_run(rt, alloc, &mut host, RUN_KEEP, 0, said.as_str())?;
     assert!(rt; host.file("K") == Some(two_leaves(alloc)?.as_slice()));
-    let mut ends = Ends::Nothing;
-    let status = perform(&rt, alloc, &mut host, "check K", &Open, &mut ends)?;
-    add_rows(alloc, &mut said, 1, 29)?;
-    said.push_str("tree height 1 used 4 rows 29\n")?;
-    assert_eq!(rt; status, 0);
-    assert!(rt; host.said() == said.as_bytes());
-    assert!(rt; !is_kept(&ends));
     Ok(())
-}
-
-/// A missing file is one that this host can't replace.
-#[test]
-fn a_missing_file_is_not_kept(rt: HostRuntime) -> Result<(), Fail> {
-    let alloc = rt.alloc();
-    let mut host = host_of_29(alloc, &[])?;
-    let line = "run I0 S --workers 1 --frames 64 --keep NOFILE";
-    expect_run(&rt, alloc, &mut host, line, 3, "")
 }
 
 /// Each call of the host fails in turn, where a call moves at most `piece` bytes: so many takes read the image, so many the script, one call
@@ -82,52 +68,16 @@ fn fails_in_turn<R: Abort + Threads + Wait + Sync>(
             assert!(rt; host.file("K") == Some(kept), "{call}");
         }
     }
-    let plan = [(last as u64).wrapping_add(1)];
-    let mut host = host_of_29(alloc, &plan)?.with_piece(piece);
-    expect_run(
-        rt,
-        alloc,
-        &mut host,
-        RUN_KEEP,
-        0,
-        said_of_29(alloc)?.as_str(),
-    )
+    moves_all(rt, alloc, &[(last as u64).wrapping_add(1)], piece)
 }
 
-/// The image has 4,096 bytes, as many as the kept file, the script 330, and the text 569.
+/// The image has 4,096 bytes, as many as the kept file, the script 330, and the text 569. A host that moves one byte in a call moves them all.
 #[test]
 fn each_call_of_the_host_fails_in_turn(rt: HostRuntime) -> Result<(), Fail> {
     let alloc = rt.alloc();
     fails_in_turn(&rt, alloc, 4096, [2, 2])?;
-    fails_in_turn(&rt, alloc, 1000, [6, 2])
-}
-
-/// The image may be the file that is kept.
-#[test]
-fn the_image_is_replaced(rt: HostRuntime) -> Result<(), Fail> {
-    let alloc = rt.alloc();
-    let mut host = host_of_29(alloc, &[])?;
-    let line = "run I0 S --workers 1 --frames 64 --keep I0";
-    expect_run(&rt, alloc, &mut host, line, 0, said_of_29(alloc)?.as_str())?;
-    assert!(rt; host.file("I0") == Some(two_leaves(alloc)?.as_slice()));
-    Ok(())
-}
-
-/// A host that moves one byte in a call moves them all.
-#[test]
-fn a_byte_at_a_time_comes_to_the_same(rt: HostRuntime) -> Result<(), Fail> {
-    let alloc = rt.alloc();
-    let mut host = host_of_29(alloc, &[])?.with_piece(1);
-    expect_run(
-        &rt,
-        alloc,
-        &mut host,
-        RUN_KEEP,
-        0,
-        said_of_29(alloc)?.as_str(),
-    )?;
-    assert!(rt; host.file("K") == Some(two_leaves(alloc)?.as_slice()));
-    Ok(())
+    fails_in_turn(&rt, alloc, 1000, [6, 2])?;
+    moves_all(&rt, alloc, &[], 1)
 }
 
 /// Nothing is taken of the text, behind a file that has all its bytes, or where none is kept.

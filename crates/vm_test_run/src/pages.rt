@@ -4,12 +4,10 @@ ghost use Rattle.std.specs.Prelude.{◌≤◌, length};
 use std::alloc::{AllocError, Global};
 use vm_page::{PageBuf, WORDS};
 
-pub(crate) const MAGIC: u64 = 0x564D_4341_4348_4531;
-
-pub(crate) const LARGE_MAGIC: u64 = 0x564D_4341_4348_4532;
+const MAGIC: u64 = 0x564D_4341_4348_4531;
 
 /// Appends a page that begins with these words.
-pub(crate) fn put_page(bytes: &mut Vec<u8>, words: &[u64]) -> Result<(), AllocError>
+fn put_page(bytes: &mut Vec<u8>, words: &[u64]) -> Result<(), AllocError>
     requires { length words.now ≤ 64 }
 {
     let mut page = PageBuf::<WORDS>::zero();
@@ -22,7 +20,7 @@ pub(crate) fn put_page(bytes: &mut Vec<u8>, words: &[u64]) -> Result<(), AllocEr
 }
 
 /// Appends so many pages of zeros.
-pub(crate) fn put_free(bytes: &mut Vec<u8>, pages: usize) -> Result<(), AllocError> {
+fn put_free(bytes: &mut Vec<u8>, pages: usize) -> Result<(), AllocError> {
     for _ in 0..pages {
         put_page(bytes, &[])?;
     }
@@ -35,31 +33,6 @@ pub(crate) fn empty_tree(alloc: Global, free: usize) -> Result<Vec<u8>, AllocErr
     put_page(&mut bytes, &[MAGIC, 1, 0])?;
     put_page(&mut bytes, &[2, 0, 0, 0, 1])?;
     put_free(&mut bytes, free)?;
-    Ok(bytes)
-}
-
-/// The same with pages of 512 words.
-pub(crate) fn large_tree(alloc: Global, free: usize) -> Result<Vec<u8>, AllocError> {
-    let mut bytes = Vec::new(alloc);
-    put_page(&mut bytes, &[LARGE_MAGIC, 1, 0])?;
-    put_free(&mut bytes, 7)?;
-    put_page(&mut bytes, &[2, 0, 0, 0, 1])?;
-    put_free(&mut bytes, 7)?;
-    for _ in 0..free {
-        put_free(&mut bytes, 8)?;
-    }
-    Ok(bytes)
-}
-
-/// Eight pages whose one leaf has the pairs 1 1 and 7806831264735756412 2.
-pub(crate) fn two_rows(alloc: Global) -> Result<Vec<u8>, AllocError> {
-    let mut bytes = Vec::new(alloc);
-    put_page(&mut bytes, &[MAGIC, 1, 0])?;
-    put_page(
-        &mut bytes,
-        &[2, 2, 0, 0, 1, 0, 0, 0, 1, 1, 7_806_831_264_735_756_412, 2],
-    )?;
-    put_free(&mut bytes, 6)?;
     Ok(bytes)
 }
 
@@ -101,15 +74,10 @@ pub(crate) fn add_news(alloc: Global, text: &mut String, count: u64) -> Result<(
     Ok(())
 }
 
-/// Appends the rows of so many keys from a first one on, each with itself as its value.
-pub(crate) fn add_rows(
-    alloc: Global,
-    text: &mut String,
-    first: u64,
-    count: u64,
-) -> Result<(), AllocError> {
+/// Appends the rows of so many keys from 1 on, each with itself as its value.
+pub(crate) fn add_rows(alloc: Global, text: &mut String, count: u64) -> Result<(), AllocError> {
     for i in 0..count {
-        let key = i.wrapping_add(first);
+        let key = i.wrapping_add(1);
         text.push_str(format!(in alloc; "row {key} {key}\n")?.as_str())?;
     }
     Ok(())

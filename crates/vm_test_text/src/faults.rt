@@ -1,4 +1,4 @@
-//! Words of plans of failures that were worked out by hand: what is read, and what is refused.
+//! A plan of failures that was worked out by hand, and words that no command line has: the others are cases of `vm_cases`.
 
 use std::alloc::{AllocError, Global};
 use std::test::Fail;
@@ -23,8 +23,6 @@ fn spells(alloc: Global, word: &[u8], wanted: &[(u64, u64)]) -> Result<bool, All
 fn reads_plans(rt: HostRuntime) -> Result<(), Fail> {
     let alloc = rt.alloc();
     let last = u64::MAX;
-    assert!(rt; spells(alloc, b"1:1", &[(1, 1)])?);
-    assert!(rt; spells(alloc, b"1:1,1:2", &[(1, 1), (1, 2)])?);
     assert!(rt;
         spells(
             alloc,
@@ -32,33 +30,10 @@ fn reads_plans(rt: HostRuntime) -> Result<(), Fail> {
             &[(0, 0), (last, last), (3, 10)]
         )?
     );
-    one_plan();
-    Ok(())
-}
-
-#[test]
-fn refuses_plans(rt: HostRuntime) -> Result<(), Fail> {
-    let alloc = rt.alloc();
-    let words: [&[u8]; 16] = [
-        b"",
-        b",",
-        b":",
-        b"1",
-        b"1:",
-        b":1",
-        b"1:1,",
-        b",1:1",
-        b"1:1,,1:2",
-        b"1:1, 1:2",
-        b"1:1;1:2",
-        b"1:1:1",
-        b"01:1",
-        b"1:+1",
-        b"1:18446744073709551616",
-        b"1:1\n",
-    ];
+    let words: [&[u8]; 3] = [b"", b"1:1, 1:2", b"1:1\n"];
     for word in words {
         assert!(rt; faults_of(alloc, word)?.is_none());
     }
+    one_plan();
     Ok(())
 }
