@@ -29,8 +29,10 @@ pub up_to_gains : (numbers : List ℕ) (n : ℕ) → is_member nat_eq numbers (n
 up_to_gains numbers n is = gains (unique_keys nat_eq numbers) n (same_members numbers (n + 1) ∙ is)
 
 -- so no more calls fail than the plan has different numbers
-pub within_most : (numbers : List ℕ) (calls first faults : ℕ) → faults ≤ first + up_to numbers calls → faults ≤ 2 ^ 64 - 1 → faults ≤ most_counted first numbers
-within_most numbers calls first faults once most = let few = count_by-le-length (below calls) (unique_keys nat_eq numbers) in omega (arith, once, most, few)
+pub within_most : (numbers : List ℕ) (calls first faults : ℕ) → faults ≤ first + up_to numbers calls
+    → faults ≤ 2 ^ 64 - 1 → faults ≤ most_counted first numbers
+within_most numbers calls first faults once most =
+    let few = count_by-le-length (below calls) (unique_keys nat_eq numbers) in omega (arith, once, most, few)
 
 -- a count that starts at none
 pub counted_from_none : (numbers : List ℕ) → most_counted 0 numbers ≡ most_faults numbers

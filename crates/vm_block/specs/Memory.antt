@@ -20,7 +20,13 @@ calls_made block = block.plan.calls
 
 -- what contracts see of a block in memory: its bound is the count that it started at and how many different numbers its plan has
 abbrev pub stored_of : {n : ℕ} → MemBlock n → Stored
-stored_of block = record { words = block.words.value; count = block.plan.faults; bound = most_counted block.plan.first block.plan.numbers.items; reads = block.reads; writes = block.writes }
+stored_of block = record {
+  words = block.words.value;
+  count = block.plan.faults;
+  bound = most_counted block.plan.first block.plan.numbers.items;
+  reads = block.reads;
+  writes = block.writes;
+}
 
 -- whether the next call is to fail
 abbrev pub fails_next : {n : ℕ} → MemBlock n → Bool

@@ -1,15 +1,9 @@
 //! The traits of blocks: each is the storage of one page, which is read and written whole.
 
-ghost use Rattle.std.specs.Prelude.{◌≡◌, ℕ, ◌-◌, ◌^◌, ◌≤◌, length, true};
+ghost use Rattle.std.specs.Prelude.{◌≡◌, ◌-◌, ◌^◌, ◌≤◌, length, true};
 ghost use Rattle.vm_block.specs.Blocks.{Reads, Writes};
 
-use thiserror::Error;
-use vm_page::PageBuf;
-
-/// A call of a block failed.
-#[derive(Clone, Copy, Debug, PartialEq, Eq, Error)]
-#[error("the block failed")]
-pub struct Failed;
+use vm_page::{Failed, PageBuf};
 
 /// The storage of one page: what it holds and has counted, whatever the number of words of its page.
 pub trait Block {

@@ -6,6 +6,7 @@ mod memory;
 mod plan;
 mod stored;
 
-pub use block::{Block, Failed, PageBlock};
+pub use block::{Block, PageBlock};
 pub use memory::MemBlock;
 pub use stored::Stored;
+pub use vm_page::Failed;

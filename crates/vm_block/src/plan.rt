@@ -1,6 +1,6 @@
 //! Which calls of a block in memory fail.
 
-ghost use Rattle.std.specs.Prelude.{◌≡◌, ℕ, ◌+◌, ◌-◌, ◌^◌, ◌≤◌, ◌<◌, min, IfOk, if◌then◌else◌};
+ghost use Rattle.std.specs.Prelude.{◌≡◌, ◌+◌, ◌-◌, ◌≤◌, ◌<◌, IfOk, if◌then◌else◌};
 ghost use Rattle.vm_page.specs.Counts.{count_more};
 ghost use Rattle.vm_block.specs.Plans.{plans_failure, most_counted, up_to};
 

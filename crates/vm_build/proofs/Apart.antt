@@ -34,8 +34,11 @@ keys_more pairs e = map-append (λ (e : ℕ × ℕ). e.0) pairs (e ∷ [])
 lack_later : (seed n m : ℕ) → m ≤ n → n < 2 ^ 64 → Lack (number_at seed n) (keys (numbered seed m))
 lack_later seed n zero le below = tt
 lack_later seed n (suc m) le below =
-    let other : eqb (number_at seed m) (number_at seed n) ≡ false = ne_eqb (number_at seed m) (number_at seed n) (λ same. differ m (numbers_differ seed m n same (omega arith) (omega arith)) le) in
-    rw (keys_more (numbered seed m) (number_at seed m, m + 1)) (lack_more (keys (numbered seed m)) (number_at seed m) (number_at seed n) (lack_later seed n m (omega arith) below) other)
+    let other : eqb (number_at seed m) (number_at seed n) ≡ false = ne_eqb (number_at seed m) (number_at seed n)
+    (λ same. differ m (numbers_differ seed m n same (omega arith) (omega arith)) le) in
+    rw (keys_more (numbered seed m) (number_at seed m, m + 1))
+    (lack_more (keys (numbered seed m)) (number_at seed m) (number_at seed n)
+    (lack_later seed n m (omega arith) below) other)
   where
     differ : (m : ℕ) → m ≡ n → suc m ≤ n → ⊥
     differ m is lt = omega arith
@@ -44,4 +47,6 @@ pub numbered_apart : (seed n : ℕ) → n ≤ 2 ^ 64 → HasNoTwins (numbered se
 unfolding IsDistinct
 numbered_apart seed zero le = tt
 numbered_apart seed (suc n) le =
-    rw (keys_more (numbered seed n) (number_at seed n, n + 1)) (distinct_more (keys (numbered seed n)) (number_at seed n) (numbered_apart seed n (omega arith)) (lack_later seed n n (omega arith) (omega arith)))
+    rw (keys_more (numbered seed n) (number_at seed n, n + 1))
+    (distinct_more (keys (numbered seed n)) (number_at seed n) (numbered_apart seed n (omega arith))
+    (lack_later seed n n (omega arith) (omega arith)))

@@ -1,5 +1,6 @@
 -- What is built of rising pairs is a tree, and its map is the pairs.
-use Rattle.std.proofs.Common.{◌≡◌, ℕ, zero, suc, ◌+◌, ◌-◌, ◌<◌, ◌≤◌, ◌⊎◌, inl, inr, List, [], ◌++◌, length, replicate, slice_index, refl, sym, ap, ◌∙◌, subst₂, append-nil, zero-add, arith}
+use Rattle.std.proofs.Common.{◌≡◌, ℕ, zero, suc, ◌+◌, ◌-◌, ◌<◌, ◌≤◌, ◌⊎◌, inl, inr, List, [], ◌++◌, length, replicate}
+use Rattle.std.proofs.Common.{slice_index, refl, sym, ap, ◌∙◌, subst₂, append-nil, zero-add, arith}
 use Rattle.std.proofs.lemmas.Bool.{cases_lt, cases_eq}
 use Rattle.std.proofs.lemmas.List.{get_or_append_left, get_or-append_right, get_or-replicate, get_or_past, get_or-drop, length-replicate}
 use Rattle.vm_map.specs.Keys.{KEY_END}
@@ -13,7 +14,8 @@ use Rattle.vm_build.specs.Build.{needed, tree_nodes, meta_page, built}
 use Rattle.vm_build.proofs.Sizes.{length-meta_page, length-node_page, length-tree_nodes, length-built}
 use Rattle.vm_build.proofs.Nodes.{node_is, node_clean, zero_at}
 use Rattle.vm_build.proofs.LevelTree.{IsAt, AreLevels, rises_at, is_node, levels_tree}
-use Rattle.vm_build.proofs.Climb.{first_of, entries_of, count_of, height_of, first_next, entries_next, first_from, page_is, page_of, one_root, ends_last}
+use Rattle.vm_build.proofs.Climb.{first_of, entries_of, count_of, height_of, first_next, entries_next, first_from}
+use Rattle.vm_build.proofs.Climb.{page_is, page_of, one_root, ends_last}
 use Rattle.vm_build.proofs.Leaves.{leaf_pairs-append, pairs_built, pairs_free}
 use Rattle.vm_page.specs.Sizes.{IsSize}
 use Rattle.vm_tree_model.specs.Fixed.{fixed}
@@ -52,16 +54,19 @@ module _ (z : ℕ) (size : IsSize z) where
     past_tree x past = get_or-append_right tree free (length tree) x [] refl past
 
     no_node : (x : ℕ) → length tree ≤ x → (node_at (fixed z) image (suc x)).tag ≡ 0
-    no_node x past = ap (λ (w : List ℕ). slice_index w 0) (past_tree x past) ∙ tag (zeros_at (pages - needed z (length pairs)) (x - length tree))
+    no_node x past = ap (λ (w : List ℕ). slice_index w 0) (past_tree x past)
+        ∙ tag (zeros_at (pages - needed z (length pairs)) (x - length tree))
       where
         tag : {w : List ℕ} → (w ≡ replicate z 0) ⊎ (w ≡ []) → slice_index w 0 ≡ 0
         tag (inl zeros) = ap (λ (w : List ℕ). slice_index w 0) zeros ∙ zero_at z 0
         tag (inr none) = ap (λ (w : List ℕ). slice_index w 0) none
 
     -- node n of level l
-    node_page_is : (l n x : ℕ) → l ≤ height → n < count_of z 1 pairs l → 1 + x ≡ first l + n → (x < length tree) × (page_at tree x ≡ node_page z l (entries l) n)
+    node_page_is : (l n x : ℕ) → l ≤ height → n < count_of z 1 pairs l → 1 + x ≡ first l + n → (x < length tree)
+        × (page_at tree x ≡ node_page z l (entries l) n)
     node_page_is l n x le lt at =
-        let is : page_at tree x ≡ node_page z l (entries l) n = page_is z size (length pairs) 0 1 pairs l n x le lt at ∙ ap (λ m. node_page z m (entries l) n) (zero-add l) in
+        let is : page_at tree x ≡ node_page z l (entries l) n = page_is z size (length pairs) 0 1 pairs l n x le lt at
+        ∙ ap (λ m. node_page z m (entries l) n) (zero-add l) in
         let long = length-node_page z size l (entries l) n in
         elim (cases_lt x (length tree)) [
           | inl within ↦ (within, is)
@@ -76,7 +81,8 @@ module _ (z : ℕ) (size : IsSize z) where
       place_of : (p : ℕ) → IsNode (node_at (fixed z) image p) → (l : ℕ) × (n : ℕ) × (l ≤ height) × IsAt z (first l) (entries l) p n
       place_of zero is = absurd ((sized_layout z size).meta_tag (page_at image 0) refl is)
       place_of (suc x) is = elim (cases_lt x (length tree)) [
-        | inl within ↦ let (l, n, le, lt, at) = page_of z size (length pairs) 0 1 pairs x within in (l, n, le, record { within = lt; page = omega (arith, at) })
+        | inl within ↦ let (l, n, le, lt, at) = page_of z size (length pairs) 0 1 pairs x within in
+            (l, n, le, record { within = lt; page = omega (arith, at) })
         | inr past ↦ absurd (omega (arith, is, no_node x past))
       ]
 
@@ -99,14 +105,17 @@ module _ (z : ℕ) (size : IsSize z) where
 
       height_is : slice_index (meta_page z tree) 2 ≡ height
       height_is =
-          let last = node_page_is height 0 (length tree - 1) (omega arith) (omega (arith, levels.top)) (omega (arith, root_is, first_from z size 1 pairs height)) in
+          let last = node_page_is height 0 (length tree - 1) (omega arith) (omega (arith, levels.top))
+          (omega (arith, root_is, first_from z size 1 pairs height)) in
           ap (λ (w : List ℕ). slice_index w 5) last.1
 
       meta_rest : (i : ℕ) → 3 ≤ i → slice_index (meta_page z tree) i ≡ 0
-      meta_rest i past = let spot : i ≡ 3 + (i - 3) = omega (arith, past) in ap (slice_index (meta_page z tree)) spot ∙ sym (get_or-drop 3 (meta_page z tree) (i - 3) 0) ∙ zero_at (z - 3) (i - 3)
+      meta_rest i past = let spot : i ≡ 3 + (i - 3) = omega (arith, past) in ap (slice_index (meta_page z tree)) spot
+          ∙ sym (get_or-drop 3 (meta_page z tree) (i - 3) 0) ∙ zero_at (z - 3) (i - 3)
 
       -- a clean page with a node's tag is a leaf or an inner node
-      kind_of : (p : ℕ) → IsClean (fixed z) (page_at image p) → IsNode (node_at (fixed z) image p) → IsLeaf (fixed z) (page_at image p) ⊎ IsInner (fixed z) (page_at image p)
+      kind_of : (p : ℕ) → IsClean (fixed z) (page_at image p) → IsNode (node_at (fixed z) image p)
+          → IsLeaf (fixed z) (page_at image p) ⊎ IsInner (fixed z) (page_at image p)
       kind_of p clean is = elim (cases_eq (node_at (fixed z) image p).tag 2) [
         | inl leaf ↦ inl (record { clean = clean; node = built_tree.leaf p leaf })
         | inr other ↦ inr (record { clean = clean; node = built_tree.inner p (omega (arith, is, other)) })
@@ -125,10 +134,16 @@ module _ (z : ℕ) (size : IsSize z) where
         free_is : (x : ℕ) → length tree ≤ x → suc x < length image → IsFree (fixed z) (page_at image (suc x))
         free_is x past lt =
             let zeros : List ℕ = replicate z 0 in
-            let within : x - length tree < pages - needed z (length pairs) = omega (arith, lt, past, length-tree_nodes z size pairs, length-built z size pages pairs fits) in
-            rw (past_tree x past, get_or-replicate (pages - needed z (length pairs)) (x - length tree) zeros [] within) (record { length = length-replicate z 0; zero = zero_at z })
+            let within : x - length tree < pages - needed z (length pairs) =
+            omega (arith, lt, past, length-tree_nodes z size pairs, length-built z size pages pairs fits) in
+            rw (
+              past_tree x past,
+              get_or-replicate (pages - needed z (length pairs)) (x - length tree) zeros []
+                  within,
+            ) (record { length = length-replicate z 0; zero = zero_at z })
 
-        kind_is : (p : ℕ) → 1 ≤ p → p < length image → IsFree (fixed z) (page_at image p) ⊎ IsLeaf (fixed z) (page_at image p) ⊎ IsInner (fixed z) (page_at image p)
+        kind_is : (p : ℕ) → 1 ≤ p → p < length image → IsFree (fixed z) (page_at image p)
+            ⊎ IsLeaf (fixed z) (page_at image p) ⊎ IsInner (fixed z) (page_at image p)
         kind_is zero ge lt = absurd (omega (arith, ge))
         kind_is (suc x) ge lt = elim (cases_lt x (length tree)) [
           | inl within ↦
@@ -141,9 +156,15 @@ module _ (z : ℕ) (size : IsSize z) where
         ]
 
         pub built_is_tree : IsTree (fixed z) (built z pages pairs)
-        built_is_tree = record { meta = meta_is; kind = kind_is; tree = subst₂ (IsTreeOf KEY_END (node_at (fixed z) image)) (sym root_is) (sym height_is) built_tree }
+        built_is_tree = record {
+          meta = meta_is;
+          kind = kind_is;
+          tree = subst₂ (IsTreeOf KEY_END (node_at (fixed z) image)) (sym root_is) (sym height_is) built_tree;
+        }
 
       pub built_map : map_of (fixed z) (built z pages pairs) ≡ pairs
       built_map =
-          let leaves : leaf_pairs (fixed z) (tree ++ free) ≡ pairs = leaf_pairs-append z size tree free ∙ rw (pairs_built z size pairs, pairs_free z size (pages - needed z (length pairs))) (append-nil pairs) in
+          let leaves : leaf_pairs (fixed z) (tree ++ free) ≡ pairs = leaf_pairs-append z size tree free
+          ∙ rw (pairs_built z size pairs, pairs_free z size (pages - needed z (length pairs)))
+          (append-nil pairs) in
           ap gather leaves ∙ gather_rises pairs 0 KEY_END rises

@@ -24,7 +24,8 @@ module _ (z : ℕ) (size : IsSize z) where
   nodes_of_level zero nodes enough = let one : nat_le nodes 1 ≡ true = grind (arith, nat_tests) in rw one (omega arith)
   nodes_of_level (suc levels) nodes enough = let same : suc levels - 1 ≡ levels = omega arith in rw same refl
 
-  pub counted_first : (pairs nodes pages : ℕ) → pairs < 2 ^ 32 → nodes ≡ nodes_for z pairs → pages ≡ 1 + nodes → IsCounted z pairs nodes pages
+  pub counted_first : (pairs nodes pages : ℕ) → pairs < 2 ^ 32 → nodes ≡ nodes_for z pairs → pages ≡ 1 + nodes
+      → IsCounted z pairs nodes pages
   counted_first pairs nodes pages few is first = record {
     levels = pairs - 1;
     enough = omega (arith, is, fill_few z size pairs);
@@ -33,7 +34,8 @@ module _ (z : ℕ) (size : IsSize z) where
     small = omega (arith, is, first, few, fill_few z size pairs);
   }
 
-  pub counted_next : (pairs nodes pages above : ℕ) → IsCounted z pairs nodes pages → 1 < nodes → above ≡ nodes_for z nodes → IsCounted z pairs above (pages + above)
+  pub counted_next : (pairs nodes pages above : ℕ) → IsCounted z pairs nodes pages → 1 < nodes
+      → above ≡ nodes_for z nodes → IsCounted z pairs above (pages + above)
   counted_next pairs nodes pages above so_far more is =
       let levels = so_far.levels in
       let enough : nodes_for z nodes ≤ levels + 1 = omega (arith, so_far.enough, fill_few z size nodes) in

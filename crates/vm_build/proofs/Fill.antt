@@ -1,5 +1,5 @@
 -- How many nodes a level's entries fill, on pages of either size: what follows of 20 and of 180.
-use Rattle.std.proofs.Common.{◌≡◌, ℕ, suc, ◌+◌, ◌-◌, ◌*◌, ◌/◌, ◌<◌, ◌≤◌, max, arith}
+use Rattle.std.proofs.Common.{◌≡◌, ℕ, suc, ◌+◌, ◌*◌, ◌/◌, ◌<◌, ◌≤◌, max, arith}
 use Rattle.vm_page.specs.Sizes.{IsSize}
 use Rattle.vm_tree_model.specs.Fixed.{capacity}
 use Rattle.vm_tree_model.proofs.FixedLaws.{size_is}
@@ -41,7 +41,8 @@ module _ (z : ℕ) (size : IsSize z) where
 
   -- no more nodes than of 20 entries
   pub fill_few : (e : ℕ) → nodes_for z e ≤ max 1 ((e + 19) / 20)
-  fill_few e = size_is (λ k. nodes_for k e ≤ max 1 ((e + 19) / 20)) z size (omega arith) (large_few e (max 1 ((e + 19) / 20)) (twenty e) (omega arith))
+  fill_few e = size_is (λ k. nodes_for k e ≤ max 1 ((e + 19) / 20)) z size (omega arith)
+      (large_few e (max 1 ((e + 19) / 20)) (twenty e) (omega arith))
 
   pub fill_nodes : (e : ℕ) → 1 ≤ nodes_for z e
   fill_nodes e = size_is (λ k. 1 ≤ nodes_for k e) z size (omega arith) (omega arith)
@@ -51,17 +52,17 @@ module _ (z : ℕ) (size : IsSize z) where
   fill_has e n = size_is (λ k. suc n < nodes_for k e → fill_of k * suc n < e) z size (λ lt. omega (arith, lt)) (λ lt. omega (arith, lt))
 
   pub fill_own : (e n : ℕ) → 1 ≤ e → n < nodes_for z e → fill_of z * n < e
-  fill_own e n some = size_is (λ k. n < nodes_for k e → fill_of k * n < e) z size (λ lt. omega (arith, lt, some)) (λ lt. omega (arith, lt, some))
-
-  pub fill_start : (e n : ℕ) → n < nodes_for z e → fill_of z * n ≤ e
-  fill_start e n = size_is (λ k. n < nodes_for k e → fill_of k * n ≤ e) z size (λ lt. omega (arith, lt)) (λ lt. omega (arith, lt))
+  fill_own e n some = size_is (λ k. n < nodes_for k e → fill_of k * n < e) z size (λ lt. omega (arith, lt, some))
+      (λ lt. omega (arith, lt, some))
 
   -- behind a node's entries there are more, or none
   pub fill_more : (e n : ℕ) → fill_of z * n + fill_of z < e → suc n < nodes_for z e
-  fill_more e n = size_is (λ k. fill_of k * n + fill_of k < e → suc n < nodes_for k e) z size (λ lt. omega (arith, lt)) (λ lt. omega (arith, lt))
+  fill_more e n = size_is (λ k. fill_of k * n + fill_of k < e → suc n < nodes_for k e) z size
+      (λ lt. omega (arith, lt)) (λ lt. omega (arith, lt))
 
   pub fill_last : (e n : ℕ) → e ≤ fill_of z * n + fill_of z → nodes_for z e ≤ suc n
-  fill_last e n = size_is (λ k. e ≤ fill_of k * n + fill_of k → nodes_for k e ≤ suc n) z size (λ le. omega (arith, le)) (λ le. omega (arith, le))
+  fill_last e n = size_is (λ k. e ≤ fill_of k * n + fill_of k → nodes_for k e ≤ suc n) z size
+      (λ le. omega (arith, le)) (λ le. omega (arith, le))
 
   -- the node that an entry is in
   pub fill_from : (j : ℕ) → fill_of z * (j / fill_of z) ≤ j
@@ -73,6 +74,8 @@ module _ (z : ℕ) (size : IsSize z) where
   pub fill_within : (e j : ℕ) → j < e → j / fill_of z < nodes_for z e
   fill_within e j lt = size_is (λ k. j / fill_of k < nodes_for k e) z size (omega (arith, lt)) (omega (arith, lt))
 
-  pub fill_same : (m n j : ℕ) → fill_of z * m ≤ j → j < fill_of z * m + fill_of z → fill_of z * n ≤ j → j < fill_of z * n + fill_of z → m ≡ n
-  fill_same m n j = size_is (λ k. fill_of k * m ≤ j → j < fill_of k * m + fill_of k → fill_of k * n ≤ j → j < fill_of k * n + fill_of k → m ≡ n) z size
+  pub fill_same : (m n j : ℕ) → fill_of z * m ≤ j → j < fill_of z * m + fill_of z → fill_of z * n ≤ j
+      → j < fill_of z * n + fill_of z → m ≡ n
+  fill_same m n j = size_is (λ k. fill_of k * m ≤ j → j < fill_of k * m + fill_of k → fill_of k * n ≤ j
+      → j < fill_of k * n + fill_of k → m ≡ n) z size
       (λ a b c d. omega (arith, a, b, c, d)) (λ a b c d. omega (arith, a, b, c, d))

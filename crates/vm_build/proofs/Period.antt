@@ -23,7 +23,8 @@ stepped b h m x y q s d z before next =
     let times : (4 * b + 1) * (y + m * q) ≡ (4 * b + 1) * (x + s * stride b h x) = ap (λ n. (4 * b + 1) * n) before in
     go (stride b h x) refl times
   where
-    go : (w : ℕ) → stride b h x ≡ w → (4 * b + 1) * (y + m * q) ≡ (4 * b + 1) * (x + s * w) → z + m * (d + (4 * b + 1) * q) ≡ x + ((4 * b + 1) * s + 1) * w
+    go : (w : ℕ) → stride b h x ≡ w → (4 * b + 1) * (y + m * q) ≡ (4 * b + 1) * (x + s * w)
+        → z + m * (d + (4 * b + 1) * q) ≡ x + ((4 * b + 1) * s + 1) * w
     go w is times = let first : 4 * (b * x) + 2 * h + 1 ≡ w = omega (arith, is) in omega (arith, times, next, first)
 
 next_is : (y : ℕ) → next_number y + 2 ^ 64 * (((4 * QUARTER + 1) * y + (2 * HALF + 1)) / 2 ^ 64) ≡ (4 * QUARTER + 1) * y + (2 * HALF + 1)
@@ -35,8 +36,11 @@ reached x zero = (0, rw (powers-zero QUARTER) (omega arith))
 reached x (suc k) =
     let (q, before) = reached x k in
     let y = number_at x k in
-    let d = ((4 * QUARTER + 1) * y + (2 * HALF + 1)) / 2 ^ 64 in
-    (d + (4 * QUARTER + 1) * q, rw (powers-suc QUARTER k) (stepped QUARTER HALF (2 ^ 64) x y q (powers QUARTER k) d (next_number y) before (next_is y)))
+    let d = ((4 * QUARTER + 1) * y + (2 * HALF + 1)) / 2 ^ 64 in (
+      d + (4 * QUARTER + 1) * q,
+      rw (powers-suc QUARTER k)
+          (stepped QUARTER HALF (2 ^ 64) x y q (powers QUARTER k) d (next_number y) before (next_is y)),
+    )
 
 -- places are counted from any number on
 number-add : (seed i k : ℕ) → number_at seed (i + k) ≡ number_at (number_at seed i) k
@@ -50,7 +54,8 @@ less_than_all k r is below = omega arith
 returns_at : (x k : ℕ) → number_at x k ≡ x → k < 2 ^ 64 → k ≡ 0
 returns_at x k again below =
     let (q, whole) = reached x k in
-    let product : powers QUARTER k * stride QUARTER HALF x ≡ 2 ^ 64 * q = cancel x (2 ^ 64 * q) (powers QUARTER k * stride QUARTER HALF x) (rw again at whole) in
+    let product : powers QUARTER k * stride QUARTER HALF x ≡ 2 ^ 64 * q =
+    cancel x (2 ^ 64 * q) (powers QUARTER k * stride QUARTER HALF x) (rw again at whole) in
     let (r, sum) = odd_factor 64 (powers QUARTER k) (2 * (QUARTER * x) + HALF) q product in
     let (t, count) = divides_count 64 QUARTER k r sum in
     less_than_all k t count below
@@ -61,6 +66,7 @@ returns_at x k again below =
 pub numbers_differ : (seed i j : ℕ) → number_at seed i ≡ number_at seed j → i ≤ j → j < i + 2 ^ 64 → i ≡ j
 numbers_differ seed i j same from below =
     let split : i + (j - i) ≡ j = omega arith in
-    let again : number_at (number_at seed i) (j - i) ≡ number_at seed i = sym (number-add seed i (j - i)) ∙ ap (number_at seed) split ∙ sym same in
+    let again : number_at (number_at seed i) (j - i) ≡ number_at seed i = sym (number-add seed i (j - i))
+    ∙ ap (number_at seed) split ∙ sym same in
     let none : j - i ≡ 0 = returns_at (number_at seed i) (j - i) again (omega arith) in
     omega arith

@@ -16,7 +16,8 @@ unfolding powers
 powers-suc b k = refl
 
 -- a sum and a further one
-grown : (b s t u : ℕ) → u ≡ s + t + 4 * (b * (s * t)) → (4 * b + 1) * u + 1 ≡ s + ((4 * b + 1) * t + 1) + 4 * (b * (s * ((4 * b + 1) * t + 1)))
+grown : (b s t u : ℕ) → u ≡ s + t + 4 * (b * (s * t))
+    → (4 * b + 1) * u + 1 ≡ s + ((4 * b + 1) * t + 1) + 4 * (b * (s * ((4 * b + 1) * t + 1)))
 grown b s t u is = rw is (omega arith)
 
 powers-add : (b m k : ℕ) → powers b (m + k) ≡ powers b m + powers b k + 4 * (b * (powers b m * powers b k))
@@ -62,7 +63,8 @@ even_count b k w is = go (k % 2) (omega arith) (omega arith)
   where
     go : (o : ℕ) → k ≡ 2 * (k / 2) + o → o < 2 → k ≡ 2 * (k / 2)
     go zero parts small = omega (arith, parts)
-    go (suc zero) parts small = let odd : k ≡ suc (2 * (k / 2)) = omega (arith, parts) in absurd (powers-odd b (k / 2) w (subst (λ x. powers b x ≡ 2 * w) odd is))
+    go (suc zero) parts small = let odd : k ≡ suc (2 * (k / 2)) = omega (arith, parts) in
+        absurd (powers-odd b (k / 2) w (subst (λ x. powers b x ≡ 2 * w) odd is))
     go (suc (suc o)) parts small = absurd (omega (arith, small))
 
 -- a power of two that divides the sum divides the number of powers
@@ -72,7 +74,8 @@ divides_count (suc n) b k q is =
     let m = k / 2 in
     let whole : powers b k ≡ 2 * (2 ^ n * q) = is ∙ times_two n q in
     let even : k ≡ 2 * m = even_count b k (2 ^ n * q) whole in
-    let doubled : 2 * (powers b m * (2 * (b * powers b m) + 1)) ≡ 2 * (2 ^ n * q) = sym (powers-double b m) ∙ subst (λ x. powers b x ≡ 2 * (2 ^ n * q)) even whole in
+    let doubled : 2 * (powers b m * (2 * (b * powers b m) + 1)) ≡ 2 * (2 ^ n * q) = sym (powers-double b m)
+    ∙ subst (λ x. powers b x ≡ 2 * (2 ^ n * q)) even whole in
     let (s, sum) = odd_factor n (powers b m) (b * powers b m) q (omega (arith, doubled)) in
     let (r, half) = divides_count n b m s sum in
     (r, twice n k m r even half)

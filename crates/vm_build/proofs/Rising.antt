@@ -39,11 +39,13 @@ finds (e ∷ es) low high zero r lt = grind (arith, nat_tests)
 finds (e ∷ es) low high (suc i) r lt = grind (arith, nat_tests, finds es (e.0 + 1) high i r.2, key_from es (e.0 + 1) high i r.2)
 
 -- the next key stands in the next place
-pub next_stands : (m : Pairs) (low high i : ℕ) → Rises low high m → suc i < length m → next_key m high (entry_at m i).0 ≡ (entry_at m (suc i)).0
+pub next_stands : (m : Pairs) (low high i : ℕ) → Rises low high m → suc i < length m
+    → next_key m high (entry_at m i).0 ≡ (entry_at m (suc i)).0
 next_stands [] low high i r lt = absurd (omega (arith, lt))
 next_stands (e ∷ []) low high i r lt = absurd (omega (arith, lt))
 next_stands (e ∷ f ∷ es) low high zero r lt = grind (arith, nat_tests, r.2.0)
-next_stands (e ∷ f ∷ es) low high (suc i) r lt = grind (arith, nat_tests, next_stands (f ∷ es) (e.0 + 1) high i r.2, key_from (f ∷ es) (e.0 + 1) high i r.2)
+next_stands (e ∷ f ∷ es) low high (suc i) r lt =
+    grind (arith, nat_tests, next_stands (f ∷ es) (e.0 + 1) high i r.2, key_from (f ∷ es) (e.0 + 1) high i r.2)
 
 pub none_next : (m : Pairs) (low high i : ℕ) → Rises low high m → suc i ≡ length m → next_key m high (entry_at m i).0 ≡ high
 none_next [] low high i r last = absurd (omega (arith, last))
@@ -52,13 +54,15 @@ none_next (e ∷ f ∷ es) low high zero r last = absurd (omega (arith, last))
 none_next (e ∷ es) low high (suc i) r last = grind (arith, nat_tests, none_next es (e.0 + 1) high i r.2, key_from es (e.0 + 1) high i r.2)
 
 -- parts of a rising list rise
-pub Rises-drop : (m : Pairs) (n low from high : ℕ) → Rises low high m → (n < length m → from ≤ (entry_at m n).0) → Rises from high (drop n m)
+pub Rises-drop : (m : Pairs) (n low from high : ℕ) → Rises low high m → (n < length m → from ≤ (entry_at m n).0)
+    → Rises from high (drop n m)
 Rises-drop [] zero low from high r first = tt
 Rises-drop [] (suc n) low from high r first = tt
 Rises-drop (e ∷ es) zero low from high r first = (first (omega arith), r.1, r.2)
 Rises-drop (e ∷ es) (suc n) low from high r first = Rises-drop es n (e.0 + 1) from high r.2 (λ lt. first (omega (arith, lt)))
 
-pub Rises-take : (m : Pairs) (n low high to : ℕ) → Rises low high m → ((i : ℕ) → i < n → i < length m → (entry_at m i).0 < to) → Rises low to (take n m)
+pub Rises-take : (m : Pairs) (n low high to : ℕ) → Rises low high m
+    → ((i : ℕ) → i < n → i < length m → (entry_at m i).0 < to) → Rises low to (take n m)
 Rises-take [] zero low high to r below = tt
 Rises-take [] (suc n) low high to r below = tt
 Rises-take (e ∷ es) zero low high to r below = tt

@@ -1,5 +1,6 @@
 -- The runs of a level's entries, by place, and the fences of its nodes.
-use Rattle.std.proofs.Common.{◌≡◌, ℕ, zero, suc, ◌+◌, ◌-◌, ◌*◌, ◌<◌, ◌≤◌, length, drop, min, true, false, ltb, Some, unwrap_or, refl, ap, ◌∙◌, add-one, arith, inl, inr, length-take, length-drop}
+use Rattle.std.proofs.Common.{◌≡◌, ℕ, zero, suc, ◌+◌, ◌-◌, ◌*◌, ◌<◌, ◌≤◌, length, drop, min, true, false, ltb, Some}
+use Rattle.std.proofs.Common.{unwrap_or, refl, ap, ◌∙◌, add-one, arith, inl, inr, length-take, length-drop}
 use Rattle.std.proofs.lemmas.Bool.{cases_lt}
 use Rattle.std.proofs.lemmas.Bool.Decides.{nat_tests}
 use Rattle.std.proofs.lemmas.List.{get_or-take, get_or-drop}
@@ -27,7 +28,8 @@ module _ (z : ℕ) (size : IsSize z) where
 
   module _ (entries : Pairs) (n : ℕ) where
     pub fence_next : suc n < nodes_for z (length entries) → fence_of z entries n ≡ low_of z entries (suc n)
-    fence_next more = let test : ltb (n + 1) (nodes_for z (length entries)) ≡ true = grind (arith, nat_tests, more) in rw (test, add-one n) refl
+    fence_next more = let test : ltb (n + 1) (nodes_for z (length entries)) ≡ true = grind (arith, nat_tests, more) in
+        rw (test, add-one n) refl
 
     pub fence_last : nodes_for z (length entries) ≤ suc n → fence_of z entries n ≡ KEY_END
     fence_last last = let test : ltb (n + 1) (nodes_for z (length entries)) ≡ false = grind (arith, nat_tests, last) in rw test refl
@@ -38,13 +40,22 @@ module _ (z : ℕ) (size : IsSize z) where
     run_at : (i : ℕ) → i < fill_of z → entry_at (run_of z entries n) i ≡ entry_at entries (fill_of z * n + i)
     run_at i lt = get_or-take (fill_of z) (drop (fill_of z * n) entries) i (0, 0) lt ∙ get_or-drop (fill_of z * n) entries i (0, 0)
 
-    pub run_starts : fill_of z * n < length entries → low_of z entries n ≡ (entry_at entries (fill_of z * n)).0 → StartsAt (low_of z entries n) (run_of z entries n)
-    run_starts some low = starts (run_of z entries n) (low_of z entries n) (omega (arith, length-run, some, fill_some z size)) (rw (run_at 0 (omega (arith, fill_some z size)), low) (ap (λ i. (entry_at entries i).0) (omega arith)))
+    pub run_starts : fill_of z * n < length entries → low_of z entries n ≡ (entry_at entries (fill_of z * n)).0
+        → StartsAt (low_of z entries n) (run_of z entries n)
+    run_starts some low = starts (run_of z entries n) (low_of z entries n)
+        (omega (arith, length-run, some, fill_some z size))
+        (rw (run_at 0 (omega (arith, fill_some z size)), low) (ap (λ i. (entry_at entries i).0) (omega arith)))
 
-    pub run_found : (k v : ℕ) → lookup_at (run_of z entries n) k ≡ Some v → (j : ℕ) × (fill_of z * n ≤ j) × (j < fill_of z * n + fill_of z) × (j < length entries) × (entry_at entries j ≡ (k, v))
+    pub run_found : (k v : ℕ) → lookup_at (run_of z entries n) k ≡ Some v → (j : ℕ) × (fill_of z * n ≤ j)
+        × (j < fill_of z * n + fill_of z) × (j < length entries) × (entry_at entries j ≡ (k, v))
     run_found k v found =
-        let (i, within, is) = stands (run_of z entries n) k v found in
-        (fill_of z * n + i, omega arith, omega (arith, within, length-run), omega (arith, within, length-run), rw (run_at i (omega (arith, within, length-run))) at is)
+        let (i, within, is) = stands (run_of z entries n) k v found in (
+          fill_of z * n + i,
+          omega arith,
+          omega (arith, within, length-run),
+          omega (arith, within, length-run),
+          rw (run_at i (omega (arith, within, length-run))) at is,
+        )
 
     module _ (rises : Rises 0 KEY_END entries) where
       pub run_rises : Rises (low_of z entries n) (fence_of z entries n) (run_of z entries n)
@@ -52,10 +63,15 @@ module _ (z : ℕ) (size : IsSize z) where
           let dropped = Rises-drop entries (fill_of z * n) 0 (low_of z entries n) KEY_END rises (λ _. low_le entries n) in
           Rises-take (drop (fill_of z * n) entries) (fill_of z) (low_of z entries n) KEY_END (fence_of z entries n) dropped below
         where
-          below : (i : ℕ) → i < fill_of z → i < length (drop (fill_of z * n) entries) → (entry_at (drop (fill_of z * n) entries) i).0 < fence_of z entries n
+          below : (i : ℕ) → i < fill_of z → i < length (drop (fill_of z * n) entries)
+              → (entry_at (drop (fill_of z * n) entries) i).0 < fence_of z entries n
           below i lt within = rw (get_or-drop (fill_of z * n) entries i (0, 0)) (elim (cases_lt (suc n) (nodes_for z (length entries))) [
-            | inl more ↦ rw (fence_next more) (keys_rise entries 0 KEY_END (fill_of z * n + i) (fill_of z * suc n) rises (omega (arith, lt, fill_next z size n)) (has_entry (length entries) n more))
-            | inr last ↦ rw (fence_last last) (key_below entries 0 KEY_END (fill_of z * n + i) rises (omega (arith, within, length-drop (fill_of z * n) entries)))
+            | inl more ↦ rw (fence_next more)
+                (keys_rise entries 0 KEY_END (fill_of z * n + i) (fill_of z * suc n) rises
+                (omega (arith, lt, fill_next z size n)) (has_entry (length entries) n more))
+            | inr last ↦ rw (fence_last last)
+                (key_below entries 0 KEY_END (fill_of z * n + i) rises
+                (omega (arith, within, length-drop (fill_of z * n) entries)))
           ])
 
       -- the entry in place j is one of node n's
@@ -67,20 +83,29 @@ module _ (z : ℕ) (size : IsSize z) where
         at_place = run_at (j - fill_of z * n) (omega (arith, from, to)) ∙ ap (entry_at entries) place
 
         pub run_finds : j < length entries → lookup_at (run_of z entries n) (entry_at entries j).0 ≡ Some (entry_at entries j).1
-        run_finds lt = rw at_place at (finds (run_of z entries n) (low_of z entries n) (fence_of z entries n) (j - fill_of z * n) run_rises (omega (arith, length-run, from, to, lt)))
+        run_finds lt = rw at_place
+            at (finds (run_of z entries n) (low_of z entries n) (fence_of z entries n) (j - fill_of z * n) run_rises
+            (omega (arith, length-run, from, to, lt)))
 
         -- the next key in the node is the next entry's, be it in the node or the first of the node to the right
-        pub run_next : suc j < length entries → next_key (run_of z entries n) (fence_of z entries n) (entry_at entries j).0 ≡ (entry_at entries (suc j)).0
+        pub run_next : suc j < length entries → next_key (run_of z entries n) (fence_of z entries n)
+            (entry_at entries j).0 ≡ (entry_at entries (suc j)).0
         run_next more = elim (cases_lt (suc j) (fill_of z * n + fill_of z)) [
           | inl inside ↦
-              let next = next_stands (run_of z entries n) (low_of z entries n) (fence_of z entries n) (j - fill_of z * n) run_rises (omega (arith, length-run, from, inside, more)) in
-              rw at_place at next ∙ ap (λ (e : ℕ × ℕ). e.0) (run_at (suc (j - fill_of z * n)) (omega (arith, from, inside)) ∙ ap (entry_at entries) (omega (arith, from)))
+              let next = next_stands (run_of z entries n) (low_of z entries n) (fence_of z entries n)
+              (j - fill_of z * n) run_rises (omega (arith, length-run, from, inside, more)) in
+              rw at_place at next ∙ ap (λ (e : ℕ × ℕ). e.0)
+              (run_at (suc (j - fill_of z * n)) (omega (arith, from, inside)) ∙ ap (entry_at entries)
+              (omega (arith, from)))
           | inr end ↦
-              let next = none_next (run_of z entries n) (low_of z entries n) (fence_of z entries n) (j - fill_of z * n) run_rises (omega (arith, length-run, from, to, more, end)) in
-              rw at_place at next ∙ fence_next (fill_more z size (length entries) n (omega (arith, to, more, end))) ∙ ap (λ i. (entry_at entries i).0) (omega (arith, to, end, fill_next z size n))
+              let next = none_next (run_of z entries n) (low_of z entries n) (fence_of z entries n)
+              (j - fill_of z * n) run_rises (omega (arith, length-run, from, to, more, end)) in
+              rw at_place at next ∙ fence_next (fill_more z size (length entries) n (omega (arith, to, more, end)))
+              ∙ ap (λ i. (entry_at entries i).0) (omega (arith, to, end, fill_next z size n))
         ]
 
         pub run_last : suc j ≡ length entries → next_key (run_of z entries n) (fence_of z entries n) (entry_at entries j).0 ≡ KEY_END
         run_last last =
-            let next = none_next (run_of z entries n) (low_of z entries n) (fence_of z entries n) (j - fill_of z * n) run_rises (omega (arith, length-run, from, to, last)) in
+            let next = none_next (run_of z entries n) (low_of z entries n) (fence_of z entries n) (j - fill_of z * n)
+            run_rises (omega (arith, length-run, from, to, last)) in
             rw at_place at next ∙ fence_last (fill_last z size (length entries) n (omega (arith, to, last)))

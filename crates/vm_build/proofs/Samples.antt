@@ -1,4 +1,5 @@
--- The definitions compute the values that the formats give, and each reason of the checker holds of an image that is built and then spoiled in
+-- The definitions compute the values that the formats give, and each reason of the checker holds of an image that is
+-- built and then spoiled in
 -- one word.
 use Rattle.std.proofs.Common.{◌≡◌, ℕ, zero, suc, ◌+◌, List, [], ◌∷◌, map, take, replicate, set, Some, None, Ok, refl}
 use Rattle.vm_map.specs.Map.{Pairs, gather}
@@ -14,7 +15,8 @@ second = refl
 two_numbered : numbered 1 2 ≡ (1, 1) ∷ (7806831264735756412, 2) ∷ []
 two_numbered = refl
 
--- no pairs, one full leaf, and two leaves under one root; 20 full leaves under one root, and one pair more: 21 leaves under 2 nodes under one root; more
+-- no pairs, one full leaf, and two leaves under one root; 20 full leaves under one root, and one pair more: 21 leaves
+-- under 2 nodes under one root; more
 pages_needed : map (needed 64) (0 ∷ 20 ∷ 29 ∷ 400 ∷ 401 ∷ 1500 ∷ 100000 ∷ []) ≡ 2 ∷ 2 ∷ 4 ∷ 22 ∷ 25 ∷ 81 ∷ 5265 ∷ []
 pages_needed = refl
 
@@ -36,7 +38,8 @@ unfolding walk
 empty_is_tree = refl
 
 -- two pairs: their rows, and the pages used
-two_pairs : (walked (fixed 64) (built 64 8 (gather (numbered 1 2))) ≡ Ok ((1, 1) ∷ (7806831264735756412, 2) ∷ [])) × (used_pages (built 64 8 (gather (numbered 1 2))) ≡ 2)
+two_pairs : (walked (fixed 64) (built 64 8 (gather (numbered 1 2))) ≡ Ok ((1, 1) ∷ (7806831264735756412, 2) ∷ []))
+    × (used_pages (built 64 8 (gather (numbered 1 2))) ≡ 2)
 unfolding walk
 two_pairs = (refl, refl)
 
@@ -48,10 +51,12 @@ leaves_told : (walked (fixed 64) two_leaves ≡ Ok (same_pairs 29 1)) × (used_p
 unfolding walk
 leaves_told = (refl, refl)
 
-leaves_begin : map (λ p. take 10 (page_at two_leaves p)) (1 ∷ 2 ∷ []) ≡ (2 ∷ 20 ∷ 0 ∷ 21 ∷ 0 ∷ 0 ∷ 0 ∷ 0 ∷ 1 ∷ 1 ∷ []) ∷ (2 ∷ 9 ∷ 21 ∷ 0 ∷ 1 ∷ 0 ∷ 0 ∷ 0 ∷ 21 ∷ 21 ∷ []) ∷ []
+leaves_begin : map (λ p. take 10 (page_at two_leaves p)) (1 ∷ 2 ∷ []) ≡ (2 ∷ 20 ∷ 0 ∷ 21 ∷ 0 ∷ 0 ∷ 0 ∷ 0 ∷ 1 ∷ 1 ∷ [])
+    ∷ (2 ∷ 9 ∷ 21 ∷ 0 ∷ 1 ∷ 0 ∷ 0 ∷ 0 ∷ 21 ∷ 21 ∷ []) ∷ []
 leaves_begin = refl
 
-root_and_meta : (page_at two_leaves 3 ≡ 3 ∷ 2 ∷ 0 ∷ 0 ∷ 1 ∷ 1 ∷ 0 ∷ 0 ∷ 0 ∷ 1 ∷ 21 ∷ 2 ∷ replicate 52 0) × (page_at two_leaves 0 ≡ 0x564D434143484531 ∷ 3 ∷ 1 ∷ replicate 61 0)
+root_and_meta : (page_at two_leaves 3 ≡ 3 ∷ 2 ∷ 0 ∷ 0 ∷ 1 ∷ 1 ∷ 0 ∷ 0 ∷ 0 ∷ 1 ∷ 21 ∷ 2 ∷ replicate 52 0)
+    × (page_at two_leaves 0 ≡ 0x564D434143484531 ∷ 3 ∷ 1 ∷ replicate 61 0)
 root_and_meta = (refl, refl)
 
 -- word i of page p is w
@@ -68,11 +73,14 @@ spoiled =
     -- a word behind the pairs; a key twice; a child is past the end; a word in a free page
     ((1, 63, 1), 1, 6) ∷ ((1, 10, 1), 1, 7) ∷ ((3, 11, 5), 3, 8) ∷ ((4, 5, 1), 4, 9) ∷ []
 
-reasons_found : map (λ (s : (ℕ × ℕ × ℕ) × ℕ × ℕ). reason (fixed 64) (with_word two_leaves s.0.0 s.0.1 s.0.2)) spoiled ≡ map (λ (s : (ℕ × ℕ × ℕ) × ℕ × ℕ). Some (s.1, s.2)) spoiled
+reasons_found : map (λ (s : (ℕ × ℕ × ℕ) × ℕ × ℕ). reason (fixed 64) (with_word two_leaves s.0.0 s.0.1 s.0.2))
+    spoiled ≡ map (λ (s : (ℕ × ℕ × ℕ) × ℕ × ℕ). Some (s.1, s.2)) spoiled
 unfolding walk
 reasons_found = refl
 
 -- an inner node that names itself
-names_itself : reason (fixed 64) ((0x564D434143484531 ∷ 1 ∷ 1 ∷ replicate 61 0) ∷ (3 ∷ 1 ∷ 0 ∷ 0 ∷ 1 ∷ 1 ∷ 0 ∷ 0 ∷ 0 ∷ 1 ∷ replicate 54 0) ∷ replicate 64 0 ∷ []) ≡ Some (1, 3)
+names_itself : reason (fixed 64)
+    ((0x564D434143484531 ∷ 1 ∷ 1 ∷ replicate 61 0) ∷ (3 ∷ 1 ∷ 0 ∷ 0 ∷ 1 ∷ 1 ∷ 0 ∷ 0 ∷ 0 ∷ 1 ∷ replicate 54 0)
+    ∷ replicate 64 0 ∷ []) ≡ Some (1, 3)
 unfolding walk
 names_itself = refl

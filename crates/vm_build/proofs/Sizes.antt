@@ -1,5 +1,6 @@
 -- How many pages are built, and how long each of them is.
-use Rattle.std.proofs.Common.{◌≡◌, ℕ, zero, suc, ◌+◌, ◌-◌, ◌*◌, ◌≤◌, List, [], ◌∷◌, ◌++◌, length, drop, replicate, true, false, leb, if◌then◌else◌, refl, ap, ◌∙◌, arith, length-append, length-take}
+use Rattle.std.proofs.Common.{◌≡◌, ℕ, zero, suc, ◌+◌, ◌-◌, ◌*◌, ◌≤◌, List, [], ◌∷◌, ◌++◌, length, drop, replicate}
+use Rattle.std.proofs.Common.{true, false, leb, if◌then◌else◌, refl, ap, ◌∙◌, arith, length-append, length-take}
 use Rattle.std.proofs.lemmas.List.{length-replicate, get_or-replicate}
 use Rattle.vm_map.specs.Map.{Pairs}
 use Rattle.vm_image.specs.File.{HaveWords}
@@ -22,24 +23,46 @@ module _ (z : ℕ) (size : IsSize z) where
   pub length-node_page : (level : ℕ) (entries : Pairs) (n : ℕ) → length (node_page z level entries n) ≡ z
   length-node_page level entries n =
       let run = run_of z entries n in
-      omega (arith, length-run_of entries n, fill_fits z size, whole z size, length-pair_words run, length-append (pair_words run) (replicate (z - 8 - 2 * length run) 0), length-replicate {A = ℕ} (z - 8 - 2 * length run) 0)
+      omega (
+        arith,
+        length-run_of entries n,
+        fill_fits z size,
+        whole z size,
+        length-pair_words run,
+        length-append (pair_words run) (replicate (z - 8 - 2 * length run) 0),
+        length-replicate {A = ℕ}
+            (z - 8 - 2 * length run) 0,
+      )
 
   pub length-level_pages : (level : ℕ) (entries : Pairs) (n : ℕ) → length (level_pages z level entries n) ≡ n
   length-level_pages level entries zero = refl
-  length-level_pages level entries (suc n) = omega (arith, length-append (level_pages z level entries n) (node_page z level entries n ∷ []), length-level_pages level entries n)
+  length-level_pages level entries (suc n) =
+      omega (
+        arith,
+        length-append (level_pages z level entries n) (node_page z level entries n ∷ []),
+        length-level_pages level entries n,
+      )
 
   pub length-entries_above : (page : ℕ) (entries : Pairs) (n : ℕ) → length (entries_above z page entries n) ≡ n
   length-entries_above page entries zero = refl
-  length-entries_above page entries (suc n) = omega (arith, length-append (entries_above z page entries n) ((low_of z entries n, page + n) ∷ []), length-entries_above page entries n)
+  length-entries_above page entries (suc n) =
+      omega (
+        arith,
+        length-append (entries_above z page entries n) ((low_of z entries n, page + n) ∷ []),
+        length-entries_above page entries n,
+      )
 
-  pub length-levels_from : (levels level page : ℕ) (entries : Pairs) → length (levels_from z levels level page entries) ≡ nodes_from z levels (nodes_for z (length entries))
+  pub length-levels_from : (levels level page : ℕ) (entries : Pairs)
+      → length (levels_from z levels level page entries) ≡ nodes_from z levels (nodes_for z (length entries))
   length-levels_from zero level page entries = length-level_pages level entries (nodes_for z (length entries))
   length-levels_from (suc levels) level page entries =
       let nodes = nodes_for z (length entries) in
       let own = length-level_pages level entries nodes in
       let up : length (pages_up z levels level page entries) ≡ nodes_from z levels (nodes_for z nodes) =
-      length-levels_from levels (level + 1) (page_up z page entries) (entries_up z page entries) ∙ ap (λ n. nodes_from z levels (nodes_for z n)) (length-entries_above page entries nodes) in
-      elim (leb nodes 1) as (λ b. length (pages_if z b levels level page entries) ≡ nodes + (if b then 0 else nodes_from z levels (nodes_for z nodes))) [
+      length-levels_from levels (level + 1) (page_up z page entries) (entries_up z page entries)
+      ∙ ap (λ n. nodes_from z levels (nodes_for z n)) (length-entries_above page entries nodes) in
+      elim (leb nodes 1) as (λ b. length (pages_if z b levels level page entries) ≡ nodes
+      + (if b then 0 else nodes_from z levels (nodes_for z nodes))) [
         | true ↦ omega (arith, own, length-append (own_pages z level entries) [])
         | false ↦ omega (arith, own, up, length-append (own_pages z level entries) (pages_up z levels level page entries))
       ]
@@ -67,7 +90,8 @@ module _ (z : ℕ) (size : IsSize z) where
   words-level_pages : (level : ℕ) (entries : Pairs) (n : ℕ) → HaveWords z (level_pages z level entries n)
   words-level_pages level entries zero = λ p lt. absurd (omega (arith, lt))
   words-level_pages level entries (suc n) =
-      words-append (level_pages z level entries n) (node_page z level entries n ∷ []) (words-level_pages level entries n) (words-one _ (length-node_page level entries n))
+      words-append (level_pages z level entries n) (node_page z level entries n ∷ [])
+      (words-level_pages level entries n) (words-one _ (length-node_page level entries n))
 
   words-levels_from : (levels level page : ℕ) (entries : Pairs) → HaveWords z (levels_from z levels level page entries)
   words-levels_from zero level page entries = words-level_pages level entries (nodes_for z (length entries))

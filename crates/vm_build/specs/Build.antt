@@ -1,5 +1,7 @@
--- The image that is built of pairs, of pages of z words: page 0, leaves and further levels one after another, the root last, and free pages.
-use Rattle.std.specs.Prelude.{ℕ, zero, suc, ◌≡◌, ◌+◌, ◌-◌, ◌<◌, ◌≤◌, List, [], ◌∷◌, ◌++◌, length, replicate, slice_index, slice_index_or, nat_le, if◌then◌else◌}
+-- The image that is built of pairs, of pages of z words: page 0, leaves and further levels one after another, the
+-- root last, and free pages.
+use Rattle.std.specs.Prelude.{ℕ, zero, suc, ◌≡◌, ◌+◌, ◌-◌, ◌<◌, ◌≤◌, List, [], ◌∷◌, ◌++◌, length, replicate}
+use Rattle.std.specs.Prelude.{slice_index, slice_index_or, nat_le, if◌then◌else◌}
 use Rattle.vm_map.specs.Map.{Pairs, gather}
 use Rattle.vm_tree_model.specs.Fixed.{fixed, fixed_magic}
 use Rattle.vm_tree_model.specs.Tree.{IsTree, map_of}
@@ -21,7 +23,8 @@ abbrev pub levels_from : ℕ → ℕ → ℕ → ℕ → Pairs → List (List �
 levels_from z zero level page entries = level_pages z level entries (nodes_for z (length entries))
 levels_from z (suc levels) level page entries =
     level_pages z level entries (nodes_for z (length entries))
-    ++ (if nat_le (nodes_for z (length entries)) 1 then [] else levels_from z levels (level + 1) (page + nodes_for z (length entries)) (entries_above z page entries (nodes_for z (length entries))))
+    ++ (if nat_le (nodes_for z (length entries)) 1 then [] else levels_from z levels (level + 1)
+    (page + nodes_for z (length entries)) (entries_above z page entries (nodes_for z (length entries))))
 
 -- the nodes of all levels, from page 1 on
 abbrev pub tree_nodes : ℕ → Pairs → List (List ℕ)

@@ -1,6 +1,9 @@
--- A level of the tree that is built, on pages of z words: its entries in nodes of 20, or of 180 where z is 512, the last one the rest. The entries of the lowest level are the pairs; those of
+-- A level of the tree that is built, on pages of z words: its entries in nodes of 20, or of 180 where z is 512, the
+-- last one the rest. The entries of the lowest level are the pairs; those of
 -- each further one are the low fences of the nodes below, with their pages.
-use Rattle.std.specs.Prelude.{ℕ, zero, suc, ◌+◌, ◌-◌, ◌*◌, ◌/◌, max, List, [], ◌∷◌, ◌++◌, length, take, drop, replicate, slice_index_or, Option, Some, None, unwrap_or, is_none, ◌==◌, nat_lt, if◌then◌else◌}
+use Rattle.std.specs.Prelude.{ℕ, zero, suc, ◌+◌, ◌-◌, ◌*◌, ◌/◌, max, List, [], ◌∷◌, ◌++◌, length, take, drop}
+use Rattle.std.specs.Prelude.{replicate, slice_index_or, Option, Some, None, unwrap_or, is_none, ◌==◌, nat_lt}
+use Rattle.std.specs.Prelude.{if◌then◌else◌}
 use Rattle.vm_map.specs.Map.{Pairs}
 
 -- how many entries a node takes when it is built
@@ -32,7 +35,8 @@ pair_words (e ∷ es) = e.0 ∷ e.1 ∷ pair_words es
 -- the words of a node
 abbrev pub node_words : ℕ → ℕ → ℕ → Option ℕ → Pairs → List ℕ
 node_words z level low high pairs =
-    (if level == 0 then 2 else 3) ∷ length pairs ∷ low ∷ unwrap_or high 0 ∷ (if is_none high then 1 else 0) ∷ level ∷ 0 ∷ 0 ∷ pair_words pairs ++ replicate (z - 8 - 2 * length pairs) 0
+    (if level == 0 then 2 else 3) ∷ length pairs ∷ low ∷ unwrap_or high 0 ∷ (if is_none high then 1 else 0) ∷ level
+    ∷ 0 ∷ 0 ∷ pair_words pairs ++ replicate (z - 8 - 2 * length pairs) 0
 
 -- the words of node n of a level with these entries
 abbrev pub node_page : ℕ → ℕ → Pairs → ℕ → List ℕ

@@ -3,7 +3,7 @@
 ghost use Rattle.std.specs.Prelude.{◌≡◌, ◌<◌, ◌≤◌, ◌++◌, IfOk, OnOk, length};
 ghost use Rattle.vm_page.specs.Sizes.{IsSize};
 ghost use Rattle.vm_build.specs.Build.{tree_nodes};
-ghost use Rattle.vm_build.specs.Levels.{entries_above as entries_over, level_pages, low_of as low_fence, nodes_for as nodes_of};
+ghost use Rattle.vm_build.specs.Levels.{entries_above as entries_over, level_pages, nodes_for as nodes_of};
 
 use crate::node::{fill, low_of, node_of};
 use std::alloc::{AllocError, Global};

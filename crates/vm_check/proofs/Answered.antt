@@ -12,26 +12,32 @@ use Rattle.vm_check.specs.declared.fault.CheckFault.TheVariants.{BadPage, Memory
 use Rattle.vm_tree_model.proofs.Theorem.{walk_from_tree}
 
 -- a fault of the walk refuses the image
-pub refused : (L : Layout) (laws : IsLayout L) (pages : List (List ℕ)) (fault : CheckFault) → IsFaultOf (walked L pages) fault → IsRefusedImage L pages fault
+pub refused : (L : Layout) (laws : IsLayout L) (pages : List (List ℕ)) (fault : CheckFault)
+    → IsFaultOf (walked L pages) fault → IsRefusedImage L pages fault
 refused L laws pages (BadPage page why) is = (ap fault_of is, λ tree. (let rows = walk_from_tree L laws pages tree in cc))
 refused L laws pages Memory is = tt
 
-pub refused_at : (L : Layout) (laws : IsLayout L) (pages : List (List ℕ)) (fault : CheckFault) (w : Walked) → w ≡ walked L pages → IsFaultOf w fault → IsRefusedImage L pages fault
+pub refused_at : (L : Layout) (laws : IsLayout L) (pages : List (List ℕ)) (fault : CheckFault) (w : Walked)
+    → w ≡ walked L pages → IsFaultOf w fault → IsRefusedImage L pages fault
 refused_at L laws pages fault w same is = refused L laws pages fault (rw same at is)
 
-pub meta_refused : (L : Layout) (pages : List (List ℕ)) (why : ℕ) → meta_fault L (length pages) (page_at pages 0) ≡ Some why → walked L pages ≡ Err (0, why)
+pub meta_refused : (L : Layout) (pages : List (List ℕ)) (why : ℕ)
+    → meta_fault L (length pages) (page_at pages 0) ≡ Some why → walked L pages ≡ Err (0, why)
 meta_refused L pages why is = rw is refl
 
 -- the next slot was taken from the stack
-pub taken : (L : Layout) (pages : List (List ℕ)) (s : Slot) (old new : Walk) → reverse old.slots.items ≡ s ∷ reverse new.slots.items → new.visited ≡ old.visited → new.rows ≡ old.rows → outcome L pages old ≡ outcome_at L pages s new
+pub taken : (L : Layout) (pages : List (List ℕ)) (s : Slot) (old new : Walk) → reverse old.slots.items ≡ s ∷ reverse
+    new.slots.items → new.visited ≡ old.visited → new.rows ≡ old.rows → outcome L pages old ≡ outcome_at L pages s new
 taken L pages s old new slots visited rows = rw (slots, visited, rows) refl
 
 -- no slot is left
-pub ended : (L : Layout) (pages : List (List ℕ)) (w : Walk) → reverse w.slots.items ≡ [] → outcome L pages w ≡ lost_or (first_lost L (drop 1 pages) w.visited.items 1) (Ok w.rows.items)
+pub ended : (L : Layout) (pages : List (List ℕ)) (w : Walk) → reverse w.slots.items ≡ []
+    → outcome L pages w ≡ lost_or (first_lost L (drop 1 pages) w.visited.items 1) (Ok w.rows.items)
 unfolding walk
 ended L pages w none = rw none refl
 
-pub lost_refused : (L : Layout) (laws : IsLayout L) (pages : List (List ℕ)) (fault : CheckFault) (lost : Option ℕ) (rest : Walked) → lost_or lost rest ≡ walked L pages → IsOrphan lost fault → IsRefusedImage L pages fault
+pub lost_refused : (L : Layout) (laws : IsLayout L) (pages : List (List ℕ)) (fault : CheckFault) (lost : Option ℕ)
+    (rest : Walked) → lost_or lost rest ≡ walked L pages → IsOrphan lost fault → IsRefusedImage L pages fault
 lost_refused L laws pages (BadPage page why) lost rest same is =
     refused L laws pages (BadPage page why) (sym same ∙ (rw (is.0, is.1) refl))
 lost_refused L laws pages Memory lost rest same is = absurd is

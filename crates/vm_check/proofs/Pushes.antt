@@ -1,5 +1,6 @@
 -- A node's children go on the stack from right to left.
-use Rattle.std.proofs.Common.{◌≡◌, ℕ, zero, suc, ◌<◌, ◌≤◌, List, [], ◌∷◌, ◌++◌, length, get_or, take, reverse, true, ◌&&◌, leb, ltb, refl, sym, arith, append_assoc}
+use Rattle.std.proofs.Common.{◌≡◌, ℕ, zero, suc, ◌<◌, ◌≤◌, List, [], ◌∷◌, ◌++◌, length, get_or, take, reverse, true}
+use Rattle.std.proofs.Common.{◌&&◌, leb, ltb, refl, sym, arith, append_assoc}
 use Rattle.std.proofs.lemmas.Bool.{and_parts, leb-true, ltb-true}
 use Rattle.std.proofs.lemmas.List.{reverse-append}
 use Rattle.vm_map.specs.Map.{Pairs}
@@ -11,7 +12,12 @@ first-take (e ∷ es) zero high lt = refl
 first-take (e ∷ es) (suc i) high lt = refl
 
 children-take : (m : Pairs) (level i high : ℕ) → i < length m
-    → children level (take (suc i) m) high ≡ children level (take i m) (get_or m i (0, 0)).0 ++ record { page = (get_or m i (0, 0)).1; level = level; low = (get_or m i (0, 0)).0; high = high } ∷ []
+    → children level (take (suc i) m) high ≡ children level (take i m) (get_or m i (0, 0)).0 ++ record {
+      page = (get_or m i (0, 0)).1;
+      level = level;
+      low = (get_or m i (0, 0)).0;
+      high = high;
+    } ∷ []
 children-take [] level i high lt = absurd (omega arith)
 children-take (e ∷ es) level zero high lt = refl
 children-take (e ∷ es) level (suc i) high lt =
@@ -21,17 +27,24 @@ children-take (e ∷ es) level (suc i) high lt =
 
 -- one more child on the stack is one less to come
 pub push_step : (m : Pairs) (level i j high : ℕ) (slots : List Slot) → j < length m → i ≡ suc j
-    → children level (take j m) (get_or m j (0, 0)).0 ++ reverse (slots ++ record { page = (get_or m j (0, 0)).1; level = level; low = (get_or m j (0, 0)).0; high = high } ∷ []) ≡ children level (take i m) high ++ reverse slots
+    → children level (take j m) (get_or m j (0, 0)).0 ++ reverse (slots ++ record {
+      page = (get_or m j (0, 0)).1;
+      level = level;
+      low = (get_or m j (0, 0)).0;
+      high = high;
+    } ∷ []) ≡ children level (take i m) high ++ reverse slots
 push_step m level i j high slots lt is =
     let s : Slot = record { page = (get_or m j (0, 0)).1; level = level; low = (get_or m j (0, 0)).0; high = high } in
     let top : reverse (slots ++ s ∷ []) ≡ s ∷ reverse slots = reverse-append slots (s ∷ []) in
     let back = append_assoc (children level (take j m) (get_or m j (0, 0)).0) (s ∷ []) (reverse slots) in
     rw (is, children-take m level j high lt, top) (sym back)
 
-pub names_at : (m : Pairs) (pages i : ℕ) → names_pages pages m ≡ true → i < length m → (1 ≤ (get_or m i (0, 0)).1) × ((get_or m i (0, 0)).1 < pages)
+pub names_at : (m : Pairs) (pages i : ℕ) → names_pages pages m ≡ true → i < length m → (1 ≤ (get_or m i (0, 0)).1)
+    × ((get_or m i (0, 0)).1 < pages)
 names_at [] pages i is lt = absurd (omega arith)
 names_at (e ∷ es) pages zero is lt =
     let (here, rest) = and_parts (leb 1 e.1 && ltb e.1 pages) (names_pages pages es) is in
     let (some, upto) = and_parts (leb 1 e.1) (ltb e.1 pages) here in
     (leb-true 1 e.1 some, ltb-true e.1 pages upto)
-names_at (e ∷ es) pages (suc i) is lt = names_at es pages i (and_parts (leb 1 e.1 && ltb e.1 pages) (names_pages pages es) is).1 (omega arith)
+names_at (e ∷ es) pages (suc i) is lt =
+    names_at es pages i (and_parts (leb 1 e.1 && ltb e.1 pages) (names_pages pages es) is).1 (omega arith)

@@ -9,7 +9,8 @@ use Rattle.vm_check.specs.declared.rows.Rows.{Rows}
 use Rattle.vm_check.specs.declared.fault.CheckFault.{CheckFault}
 use Rattle.vm_check.specs.declared.fault.CheckFault.TheVariants.{BadPage, Memory}
 
--- the pages are a tree, and these are its rows: the map's pairs by rising key, the root's level, and the number of pages that are not all zero
+-- the pages are a tree, and these are its rows: the map's pairs by rising key, the root's level, and the number of
+-- pages that are not all zero
 pub record AreRows (L : Layout) (pages : List (List ℕ)) (rows : Rows) : Type 0 where
   pub tree : IsTree L pages
   pub pairs : rows.pairs.items ≡ map_of L pages

@@ -1,12 +1,10 @@
 //! What the checker answers: the rows of a tree, or the first reason why the pages are none.
 
-ghost use Rattle.std.specs.Prelude.{◌≡◌, length, slice_index, MatchOption, MatchResult};
+ghost use Rattle.std.specs.Prelude.{◌≡◌, length, MatchResult};
 ghost use Rattle.vm_page.specs.{Pages.page_at, Sizes.IsSize};
 ghost use Rattle.vm_tree_model.specs.Fixed.{fixed};
 ghost use Rattle.vm_tree_model.specs.Walk.{meta_fault};
-ghost use Rattle.vm_tree_model.specs.Reason.{walked};
 ghost use Rattle.vm_check.specs.Rows.{AreRows, IsRefusedImage};
-ghost use Rattle.vm_check.specs.Progress.{outcome, IsGoing};
 
 use crate::fault::CheckFault;
 use crate::rows::Rows;

@@ -1,11 +1,11 @@
 //! A place in the tree, and the tests of the page that is named for it.
 
 ghost use Rattle.vm_map.specs.Keys.{KEY_END};
-ghost use Rattle.std.specs.Prelude.{◌≡◌, ℕ, ◌+◌, ◌-◌, ◌*◌, ◌<◌, ◌≤◌, ◌++◌, length, drop, reverse, nat_lt, unwrap_or, true, OnOk, slice_index, option_map};
+ghost use Rattle.std.specs.Prelude.{◌≡◌, ◌+◌, ◌-◌, ◌*◌, ◌<◌, nat_lt, unwrap_or, true};
 ghost use Rattle.vm_page.specs.Sizes.{IsSize};
 ghost use Rattle.vm_tree_model.specs.Fixed.{fixed};
 ghost use Rattle.vm_tree_model.specs.Page.{pairs_of};
-ghost use Rattle.vm_tree_model.specs.Walk.{all_zero, rises, has_tag, has_fences, has_form, has_keys, names_pages, has_children, slot_fault, children};
+ghost use Rattle.vm_tree_model.specs.Walk.{rises, has_tag, has_fences, has_form, has_keys, names_pages, has_children, slot_fault};
 
 use std::marker::Model;
 use vm_image::is_zero_from;
@@ -14,19 +14,19 @@ use vm_page::PageBuf;
 
 /// A place in the tree and the page that is named for it. `high` is exclusive, and `None` where there is no high fence.
 #[derive(Drop)]
-pub(crate) struct Slot {
+pub(crate) struct NodeSlot {
     pub(crate) page: u32,
     pub(crate) level: u64,
     pub(crate) low: u64,
     pub(crate) high: Option<u64>,
 }
 
-impl Model for Slot {
+impl Model for NodeSlot {
     ghost use Rattle.std.specs.Prelude.{unwrap_or};
     ghost use Rattle.vm_map.specs.Keys.{KEY_END};
-    ghost use Rattle.vm_tree_model.specs.Walk.{Slot as Place};
+    ghost use Rattle.vm_tree_model.specs.Walk.{Slot};
 
-    ghost Value = { Place };
+    ghost Value = { Slot };
 
     ghost view = { λ s. record { page = s.page; level = s.level; low = s.low; high = unwrap_or s.high KEY_END } };
 }
@@ -84,7 +84,7 @@ fn values_name_pages<const N: usize>(page: &PageBuf<N>, pages: u32) -> bool
     true
 }
 
-impl Slot {
+impl NodeSlot {
     fn has_tag<const N: usize>(&self, page: &PageBuf<N>) -> bool
         requires { IsSize N }
         ensures { result ≡ has_tag (fixed N) self.now page.now }

@@ -1,7 +1,7 @@
 //! The walk over the pages of an image: the places still to be filled, the pages visited, the rows met.
 
 ghost use Rattle.vm_map.specs.Keys.{KEY_END};
-ghost use Rattle.std.specs.Prelude.{◌≡◌, ℕ, ◌+◌, ◌-◌, ◌<◌, ◌≤◌, unwrap_or, [], ◌∷◌, ◌++◌, length, take, drop, slice_index, reverse, replicate, None, true, false, OnOk, IfOk, MatchOption, MatchResult};
+ghost use Rattle.std.specs.Prelude.{◌≡◌, ◌+◌, ◌-◌, ◌<◌, unwrap_or, [], ◌∷◌, ◌++◌, length, drop, slice_index, reverse, None, true, false, OnOk, IfOk, MatchOption, MatchResult};
 ghost use Rattle.vm_page.specs.Sizes.{IsSize};
 ghost use Rattle.vm_tree_model.specs.Fixed.{fixed};
 ghost use Rattle.vm_tree_model.specs.Page.{pairs_of};
@@ -11,7 +11,7 @@ ghost use Rattle.vm_tree_model.specs.Reason.{first_lost, first_outcome, used_pag
 ghost use Rattle.vm_check.specs.Progress.{IsGoing, IsNextVisit, IsFaultOf, IsOrphan, outcome, outcome_at};
 
 use crate::fault::CheckFault;
-use crate::slot::Slot;
+use crate::slot::NodeSlot;
 use std::alloc::{AllocError, Global};
 use vm_image::{Image, is_free};
 use vm_map::call::Pair;
@@ -21,7 +21,7 @@ use vm_page::PageBuf;
 /// A walk: the places on the stack are to be filled next, the last one first.
 #[derive(Drop)]
 pub(crate) struct Walk {
-    pub(crate) slots: Vec<Slot>,
+    pub(crate) slots: Vec<NodeSlot>,
     pub(crate) visited: Vec<bool>,
     pub(crate) rows: Vec<Pair>,
 }
@@ -36,7 +36,7 @@ impl Walk {
         let page = image.page(0);
         let visited = vec![in alloc; false; image.pages() as usize]?;
         let mut slots = Vec::new(alloc);
-        slots.push(Slot {
+        slots.push(NodeSlot {
             page: page.get(1) as u32,
             level: page.get(2),
             low: 0,
@@ -71,7 +71,7 @@ impl Walk {
     }
 
     /// The next place to be filled.
-    pub(crate) fn next(&mut self) -> Option<Slot>
+    pub(crate) fn next(&mut self) -> Option<NodeSlot>
         ensures slots { MatchOption result (reverse self.old.slots.items ≡ []) (λ slot. reverse self.old.slots.items ≡ slot ∷ reverse self.new.slots.items) }
         ensures visited { self.new.visited ≡ self.old.visited }
         ensures rows { self.new.rows ≡ self.old.rows }
@@ -83,7 +83,7 @@ impl Walk {
     pub(crate) fn visit<const N: usize>(
         &mut self,
         image: &Image<N>,
-        slot: Slot,
+        slot: NodeSlot,
     ) -> Result<(), CheckFault>
         requires sized { IsSize N }
         requires going { IsGoing image.now self.old }
@@ -138,7 +138,7 @@ fn push_pairs<const N: usize>(rows: &mut Vec<Pair>, page: &PageBuf<N>) -> Result
 
 // Puts the places of a node's children on the stack, the leftmost on top.
 fn push_children<const N: usize>(
-    slots: &mut Vec<Slot>,
+    slots: &mut Vec<NodeSlot>,
     level: u64,
     high: Option<u64>,
     page: &PageBuf<N>,
@@ -151,7 +151,7 @@ fn push_children<const N: usize>(
     let mut high = high;
     for i in (0..count_of(page)).rev() {
         let low = key_at(page, i);
-        slots.push(Slot {
+        slots.push(NodeSlot {
             page: value_at(page, i) as u32,
             level,
             low,

@@ -1,7 +1,7 @@
 -- A history that holds workers' calls with their answers: what its entries come to is what the answers do.
 use Rattle.std.specs.List.{count_by, sum_by}
-use Rattle.std.proofs.Common.{[], ⊎_elim, ◌+◌, ◌<◌, ◌==◌, ◌||◌, ◌∙◌, ◌∷◌, ◌≡◌, ◌≢◌, ap, arith, Bool, cond, Err, false, length, List, None, Ok, refl}
-use Rattle.std.proofs.Common.{Result, Some, subst, suc, sym, true, zero, ℕ}
+use Rattle.std.proofs.Common.{[], ⊎_elim, ◌+◌, ◌<◌, ◌==◌, ◌||◌, ◌∙◌, ◌∷◌, ◌≡◌, ◌≢◌, ap, arith, Bool, cond, Err, false}
+use Rattle.std.proofs.Common.{length, List, None, Ok, refl, Result, Some, subst, suc, sym, true, zero, ℕ}
 use Rattle.std.proofs.lemmas.Bool.{cases_eq, eq-eqb, ne_eqb}
 use Rattle.std.proofs.lemmas.List.Sums.{sum_by-cons}
 use Rattle.vm_map.specs.{declared.call.Call.Call, declared.call.Reply.Reply, declared.call.Said.Said, Map.Pairs}
@@ -39,8 +39,11 @@ pub sum_to-one : (f : ℕ → ℕ) (n w : ℕ) → w < n → ((k : ℕ) → k < 
 sum_to-one f zero w l none = absurd (omega arith)
 sum_to-one f (suc n) w l none =
     ⊎_elim
-    (λ (is : n ≡ w). let rest : sum_to f n ≡ 0 = sum_to-none f n (λ k m. none k (omega arith) (λ e. absurd (omega (arith, e, is, m)))) in ap (λ k. sum_to f n + f k) is ∙ omega (arith, rest))
-    (λ (not : n ≢ w). let rest : sum_to f n ≡ f w = sum_to-one f n w (omega (arith, not, l)) (λ k m. none k (omega arith)) in let last : f n ≡ 0 = none n (omega arith) not in omega (arith, rest, last))
+    (λ (is : n ≡ w). let rest : sum_to f n ≡ 0 =
+    sum_to-none f n (λ k m. none k (omega arith) (λ e. absurd (omega (arith, e, is, m)))) in
+    ap (λ k. sum_to f n + f k) is ∙ omega (arith, rest))
+    (λ (not : n ≢ w). let rest : sum_to f n ≡ f w = sum_to-one f n w (omega (arith, not, l))
+    (λ k m. none k (omega arith)) in let last : f n ≡ 0 = none n (omega arith) not in omega (arith, rest, last))
     (cases_eq n w)
 
 sum_to-first : (f : ℕ → ℕ) (n : ℕ) → sum_to f (suc n) ≡ f 0 + sum_to (λ k. f (suc k)) n
@@ -67,22 +70,30 @@ module _ (weigh : Said → ℕ) where
 
     one : (e : Entry Said) (w : ℕ) → w < n → e.number ≡ numbers w → sum_to (hit e) n ≡ weigh e.said
     one e w l is =
-        sum_to-one (hit e) n w l (λ k m not. let t : (e.number == numbers k) ≡ false = ne_eqb e.number (numbers k) (λ same. not (apart k w m l (sym same ∙ is))) in rw t refl)
+        sum_to-one (hit e) n w l (λ k m not. let t : (e.number == numbers k) ≡ false =
+        ne_eqb e.number (numbers k) (λ same. not (apart k w m l (sym same ∙ is))) in rw t refl)
         ∙ rw (eq-eqb e.number (numbers w) is) refl
 
     -- the weight of a history is that of its numbers' entries
-    parted : (h : List (Entry Said)) → Each (λ e. (w : ℕ) × (w < n) × (e.number ≡ numbers w)) h → sum_to (λ w. weight (said_by (numbers w) h)) n ≡ weight (saids h)
+    parted : (h : List (Entry Said)) → Each (λ e. (w : ℕ) × (w < n) × (e.number ≡ numbers w)) h
+        → sum_to (λ w. weight (said_by (numbers w) h)) n ≡ weight (saids h)
     parted [] only = sum_to-none (λ w. 0) n (λ k l. refl)
     parted (e ∷ h) only =
-        let both = sum_to-both (hit e) (λ w. weight (said_by (numbers w) h)) (λ w. weight (said_by (numbers w) (e ∷ h))) n (λ w l. own e h w) in
+        let both = sum_to-both (hit e) (λ w. weight (said_by (numbers w) h))
+        (λ w. weight (said_by (numbers w) (e ∷ h))) n (λ w l. own e h w) in
         let first : sum_to (hit e) n ≡ weigh e.said = one e only.0.0 only.0.1 only.0.2 in
         let rest : sum_to (λ w. weight (said_by (numbers w) h)) n ≡ weight (saids h) = parted h only.1 in
         omega (arith, both, first, rest)
 
   -- so it is that of the calls with their answers, list by list
-  pub weight_held : (h : List (Entry Said)) (lists : List (List Call)) (answers : List (List Answer)) → HoldsCalls h lists answers → weight (saids h) ≡ sum_to (λ w. weight (answered (list_at lists w) (list_at answers w))) (length lists)
+  pub weight_held : (h : List (Entry Said)) (lists : List (List Call)) (answers : List (List Answer))
+      → HoldsCalls h lists answers
+      → weight (saids h) ≡ sum_to (λ w. weight (answered (list_at lists w) (list_at answers w))) (length lists)
   weight_held h lists answers holds =
-      sym (parted holds.numbers (length lists) holds.apart h holds.only) ∙ sum_to-same (λ w. weight (said_by (holds.numbers w) h)) (λ w. weight (answered (list_at lists w) (list_at answers w))) (length lists) (λ w l. ap weight (holds.each w l))
+      sym (parted holds.numbers (length lists) holds.apart h holds.only)
+      ∙ sum_to-same (λ w. weight (said_by (holds.numbers w) h))
+      (λ w. weight (answered (list_at lists w) (list_at answers w))) (length lists)
+      (λ w l. ap weight (holds.each w l))
 
 -- ---- what answers weigh
 
@@ -95,26 +106,39 @@ all-answered m [] are = tt
 all-answered m (s ∷ ss) are = ((m, are.0), all-answered (after m s.call) ss are.1)
 
 -- the sum over the lists, by their numbers
-listed : (g : List Call → List Answer → ℕ) (count : List Answer → ℕ) (lists : List (List Call)) (answers : List (List Answer)) → length answers ≡ length lists → ((w : ℕ) → w < length lists → g (list_at lists w) (list_at answers w) ≡ count (list_at answers w)) → sum_to (λ w. g (list_at lists w) (list_at answers w)) (length lists) ≡ sum_by count answers
+listed : (g : List Call → List Answer → ℕ) (count : List Answer → ℕ) (lists : List (List Call))
+    (answers : List (List Answer)) → length answers ≡ length lists
+    → ((w : ℕ) → w < length lists → g (list_at lists w) (list_at answers w) ≡ count (list_at answers w))
+    → sum_to (λ w. g (list_at lists w) (list_at answers w)) (length lists) ≡ sum_by count answers
 listed g count [] [] long same = refl
 listed g count [] (rs ∷ answers) long same = absurd (omega arith)
 listed g count (cs ∷ lists) [] long same = absurd (omega arith)
 listed g count (cs ∷ lists) (rs ∷ answers) long same =
-    let rest : sum_to (λ w. g (list_at lists w) (list_at answers w)) (length lists) ≡ sum_by count answers = listed g count lists answers (omega arith) (λ w l. same (suc w) (omega arith)) in
+    let rest : sum_to (λ w. g (list_at lists w) (list_at answers w)) (length lists) ≡ sum_by count answers =
+    listed g count lists answers (omega arith) (λ w l. same (suc w) (omega arith)) in
     let first : g cs rs ≡ count rs = same 0 (omega arith) in
-    sum_to-first (λ w. g (list_at (cs ∷ lists) w) (list_at (rs ∷ answers) w)) (length lists) ∙ omega (arith, rest, first, sum_by-cons count rs answers)
+    sum_to-first (λ w. g (list_at (cs ∷ lists) w) (list_at (rs ∷ answers) w)) (length lists)
+    ∙ omega (arith, rest, first, sum_by-cons count rs answers)
 
 each-by : (k : ℕ) (h : List (Entry Said)) → Each IsAnswered (saids h) → Each IsAnswered (said_by k h)
 each-by k [] all = tt
 each-by k (e ∷ h) all =
     let rest : Each IsAnswered (said_by k h) = each-by k h all.1 in
-    elim (e.number == k || false) as (λ b. Each IsAnswered (saids (cond b (e ∷ entries_by (k ∷ []) h) (entries_by (k ∷ []) h)))) [ true ↦ (all.0, rest) | false ↦ rest ]
+    elim (e.number == k || false) as (λ b.
+    Each IsAnswered (saids (cond b (e ∷ entries_by (k ∷ []) h) (entries_by (k ∷ []) h)))) [
+      | true ↦
+          (all.0, rest)
+      | false ↦ rest
+    ]
 
-module _ (weigh : Said → ℕ) (tells : Answer → Bool) (right : (s : Said) → IsAnswered s → weigh s ≡ cond (tells (Ok s.reply)) 1 0) (wrong : (f : TreeFault) → tells (Err f) ≡ false) where
+module _ (weigh : Said → ℕ) (tells : Answer → Bool)
+    (right : (s : Said) → IsAnswered s → weigh s ≡ cond (tells (Ok s.reply)) 1 0)
+    (wrong : (f : TreeFault) → tells (Err f) ≡ false) where
   count_first : (r : Answer) (rs : List Answer) → count_by tells (r ∷ rs) ≡ cond (tells r) 1 0 + count_by tells rs
   count_first r rs = sum_by-cons (λ (x : Answer). cond (tells x) 1 0) r rs
 
-  weight_told : (cs : List Call) (rs : List Answer) → length rs ≡ length cs → Each IsAnswered (answered cs rs) → weight weigh (answered cs rs) ≡ count_by tells rs
+  weight_told : (cs : List Call) (rs : List Answer) → length rs ≡ length cs → Each IsAnswered (answered cs rs)
+      → weight weigh (answered cs rs) ≡ count_by tells rs
   weight_told [] [] long all = refl
   weight_told [] (r ∷ rs) long all = absurd (omega arith)
   weight_told (c ∷ cs) [] long all = absurd (omega arith)
@@ -127,11 +151,14 @@ module _ (weigh : Said → ℕ) (tells : Answer → Bool) (right : (s : Said) �
       omega (arith, none, count_first (Err f) rs, weight_told cs rs (omega arith) all)
 
   -- what a legal history weighs is how many of the answers are told so
-  pub counted : (m : Pairs) (h : List (Entry Said)) (lists : List (List Call)) (answers : List (List Answer)) → AreReplies m (saids h) → HoldsCalls h lists answers → count_in tells answers ≡ weight weigh (saids h)
+  pub counted : (m : Pairs) (h : List (Entry Said)) (lists : List (List Call)) (answers : List (List Answer))
+      → AreReplies m (saids h) → HoldsCalls h lists answers → count_in tells answers ≡ weight weigh (saids h)
   counted m h lists answers are holds =
       let all : Each IsAnswered (saids h) = all-answered m (saids h) are in
-      let each : (w : ℕ) → w < length lists → Each IsAnswered (answered (list_at lists w) (list_at answers w)) = λ w l. subst (λ (ss : List Said). Each IsAnswered ss) (holds.each w l) (each-by (holds.numbers w) h all) in
-      let lists_told = listed (λ cs rs. weight weigh (answered cs rs)) (count_by tells) lists answers holds.lists_long (λ w l. weight_told (list_at lists w) (list_at answers w) (holds.each_long w l) (each w l)) in
+      let each : (w : ℕ) → w < length lists → Each IsAnswered (answered (list_at lists w) (list_at answers w)) =
+      λ w l. subst (λ (ss : List Said). Each IsAnswered ss) (holds.each w l) (each-by (holds.numbers w) h all) in
+      let lists_told = listed (λ cs rs. weight weigh (answered cs rs)) (count_by tells) lists answers holds.lists_long
+      (λ w l. weight_told (list_at lists w) (list_at answers w) (holds.each_long w l) (each w l)) in
       sym (weight_held weigh h lists answers holds ∙ lists_told)
 
 -- ---- the three counts
@@ -182,9 +209,13 @@ gones-weigh [] = refl
 gones-weigh (e ∷ h) = ap (λ n. is_gone e.said.call e.said.reply + n) (gones-weigh h)
 
 -- the answers' tally is the history's
-pub tallied : (m : Pairs) (h : List (Entry Said)) (lists : List (List Call)) (answers : List (List Answer)) → AreReplies m (saids h) → HoldsCalls h lists answers → told_tally answers ≡ tally_of h
+pub tallied : (m : Pairs) (h : List (Entry Said)) (lists : List (List Call)) (answers : List (List Answer))
+    → AreReplies m (saids h) → HoldsCalls h lists answers → told_tally answers ≡ tally_of h
 tallied m h lists answers are holds =
-    let some : count_in tells_found answers ≡ founds h = counted (λ s. is_found s.call s.reply) tells_found (λ s a. right-found s.call s.reply a.0 a.1) (λ f. refl) m h lists answers are holds ∙ founds-weigh h in
-    let new : count_in tells_new answers ≡ news h = counted (λ s. is_new s.call s.reply) tells_new (λ s a. right-new s.call s.reply a.0 a.1) (λ f. refl) m h lists answers are holds ∙ news-weigh h in
-    let gone : count_in tells_gone answers ≡ gones h = counted (λ s. is_gone s.call s.reply) tells_gone (λ s a. right-gone s.call s.reply a.0 a.1) (λ f. refl) m h lists answers are holds ∙ gones-weigh h in
+    let some : count_in tells_found answers ≡ founds h = counted (λ s. is_found s.call s.reply) tells_found
+    (λ s a. right-found s.call s.reply a.0 a.1) (λ f. refl) m h lists answers are holds ∙ founds-weigh h in
+    let new : count_in tells_new answers ≡ news h = counted (λ s. is_new s.call s.reply) tells_new
+    (λ s a. right-new s.call s.reply a.0 a.1) (λ f. refl) m h lists answers are holds ∙ news-weigh h in
+    let gone : count_in tells_gone answers ≡ gones h = counted (λ s. is_gone s.call s.reply) tells_gone
+    (λ s a. right-gone s.call s.reply a.0 a.1) (λ f. refl) m h lists answers are holds ∙ gones-weigh h in
     cc

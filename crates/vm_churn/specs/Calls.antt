@@ -1,4 +1,5 @@
--- The calls of a churn over n pairs: what each place asks for, and how the places are shared out among the workers. Places are counted from 1.
+-- The calls of a churn over n pairs: what each place asks for, and how the places are shared out among the workers.
+-- Places are counted from 1.
 use Rattle.std.specs.List.{flat_map, range_with_len}
 use Rattle.std.specs.Prelude.{[], ◌%◌, ◌*◌, ◌+◌, ◌-◌, ◌/◌, ◌==◌, ◌∷◌, filter, if◌then◌else◌, List, map, ℕ}
 use Rattle.vm_map.specs.declared.call.Call.{Call}
@@ -9,7 +10,8 @@ use Rattle.vm_build.specs.Numbers.{number_at}
 abbrev pub key_at : (seed place : ℕ) → ℕ
 key_at seed place = number_at seed (place - 1)
 
--- what a place asks for, whose key this is: the value at the key; a new key with the place as its value; and an even place, that its own key is
+-- what a place asks for, whose key this is: the value at the key; a new key with the place as its value; and an even
+-- place, that its own key is
 -- taken out
 abbrev pub calls_for : (place key new : ℕ) → List Call
 calls_for place key new = Get key ∷ Put new place ∷ (if place % 2 == 0 then Del key ∷ [] else [])

@@ -1,4 +1,5 @@
--- What the calls of a churn came to: how many gets found a value, how many puts no pair of their key, and how many dels one; in a history, and
+-- What the calls of a churn came to: how many gets found a value, how many puts no pair of their key, and how many
+-- dels one; in a history, and
 -- among the answers.
 use Rattle.std.specs.List.{count_by, sum_by}
 use Rattle.std.specs.Prelude.{[], ◌+◌, ◌∷◌, ◌≡◌, ◌≤◌, Bool, false, if◌then◌else◌, length, List, None, Ok, Result, Some, true, ℕ}

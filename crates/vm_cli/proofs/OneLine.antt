@@ -1,5 +1,6 @@
 -- Two commands of one line: they ask the same tests, and what they do ends in one way. A further command is one more line of each.
-use Rattle.std.proofs.Common.{◌≡◌, ◌≢◌, ◌∙◌, ℕ, ◌≤◌, ◌<◌, ◌^◌, leb, true, false, true≢false, List, [], ◌∷◌, get_or, Option, Some, None, refl, sym, ap, subst, arith}
+use Rattle.std.proofs.Common.{◌≡◌, ◌≢◌, ◌∙◌, ℕ, ◌≤◌, ◌<◌, ◌^◌, leb, true, false, true≢false, List, [], ◌∷◌, get_or}
+use Rattle.std.proofs.Common.{Option, Some, None, refl, sym, ap, subst, arith}
 use Rattle.std.proofs.lemmas.Bool.{and_parts, leb-true}
 use Rattle.vm_io.specs.Shown.{Shown}
 use Rattle.vm_image.specs.declared.blocks.PlannedFault.{PlannedFault}
@@ -13,7 +14,7 @@ use Rattle.vm_words.specs.declared.Command.{Command}
 use Rattle.vm_words.specs.declared.Command.TheVariants.{Run, Make, Check, Churn, Replay, Migrate}
 use Rattle.vm_words.specs.declared.Replay.{Replay as ReplayLine}
 use Rattle.vm_words.specs.declared.Run.{Run as RunLine}
-use Rattle.vm_words.specs.declared.form.Verb.{Verb}
+use Rattle.vm_words.specs.declared.form.FormVerb.{FormVerb}
 use Rattle.vm_words.specs.Commands.{line_of, number_or, plan_or}
 use Rattle.vm_words.specs.Values.{Meaning, named, counted, planned, absent}
 use Rattle.vm_endings.specs.declared.ends.Ends.{Ends}
@@ -63,10 +64,14 @@ words_back (Some n) = refl
 
 -- runs of one line have one plan, and begin at one version
 same_plan : (run other : RunLine) → line_of (Run run) ≡ line_of (Run other) → run.options.fail.items ≡ other.options.fail.items
-same_plan run other e = sym (plan_back run.options.fail.items) ∙ ap (λ (l : Verb × List Meaning). plan_in (get_or l.1 5 absent)) e ∙ plan_back other.options.fail.items
+same_plan run other e = sym (plan_back run.options.fail.items)
+    ∙ ap (λ (l : FormVerb × List Meaning). plan_in (get_or l.1 5 absent)) e ∙ plan_back other.options.fail.items
 
-same_version : (run other : RunLine) → line_of (Run run) ≡ line_of (Run other) → version_or run.options.first_version ≡ version_or other.options.first_version
-same_version run other e = sym (number_back run.options.first_version) ∙ ap (λ (l : Verb × List Meaning). number_in (get_or l.1 6 absent)) e ∙ number_back other.options.first_version
+same_version : (run other : RunLine) → line_of (Run run) ≡ line_of (Run other)
+    → version_or run.options.first_version ≡ version_or other.options.first_version
+same_version run other e = sym (number_back run.options.first_version)
+    ∙ ap (λ (l : FormVerb × List Meaning). number_in (get_or l.1 6 absent)) e
+    ∙ number_back other.options.first_version
 
 -- makes and churns of one line have pages of one size
 same_words : (words other : Option ℕ) → number_or words ≡ number_or other → words_or words ≡ words_or other
@@ -74,39 +79,41 @@ same_words words other e = sym (words_back words) ∙ ap words_in e ∙ words_ba
 
 -- replays of one line are of one file
 same_file : (replay other : ReplayLine) → line_of (Replay replay) ≡ line_of (Replay other) → replay.file.now ≡ other.file.now
-same_file replay other e = let says = ap (λ (l : Verb × List Meaning). l.1) e in cc
+same_file replay other e = let says = ap (λ (l : FormVerb × List Meaning). l.1) e in cc
 
 -- commands of two names are of two lines
 two_lines : (c d : Command) → (line_of c).0 ≢ (line_of d).0 → line_of c ≢ line_of d
-two_lines c d differ = λ e. differ (ap (λ (l : Verb × List Meaning). l.0) e)
+two_lines c d differ = λ e. differ (ap (λ (l : FormVerb × List Meaning). l.0) e)
 
 -- ---- the tests
 
 pub same_order : (c d : Command) → line_of c ≡ line_of d → order_of c ≡ order_of d
 same_order (Run run) (Run other) e =
-    let says = ap (λ (l : Verb × List Meaning). l.1) e in
+    let says = ap (λ (l : FormVerb × List Meaning). l.1) e in
     let image : run.image.now ≡ other.image.now = cc in
     let script : run.script.now ≡ other.script.now = cc in
     let workers : run.workers ≡ other.workers = cc in
     let frames : run.frames ≡ other.frames = cc in
     cc (image, script, workers, frames, same_plan run other e, same_version run other e)
 same_order (Make make) (Make other) e =
-    let says = ap (λ (l : Verb × List Meaning). l.1) e in
+    let says = ap (λ (l : FormVerb × List Meaning). l.1) e in
     let pages : make.pages ≡ other.pages = cc in
     let pairs : make.pairs ≡ other.pairs = cc in
-    let words : words_or make.words ≡ words_or other.words = same_words make.words other.words (ap (λ (l : List Meaning). get_or l 4 absent) says) in
+    let words : words_or make.words ≡ words_or other.words =
+    same_words make.words other.words (ap (λ (l : List Meaning). get_or l 4 absent) says) in
     cc (pages, pairs, words)
 same_order (Churn churn) (Churn other) e =
-    let says = ap (λ (l : Verb × List Meaning). l.1) e in
+    let says = ap (λ (l : FormVerb × List Meaning). l.1) e in
     let pairs : churn.pairs ≡ other.pairs = cc in
     let workers : churn.workers ≡ other.workers = cc in
     let frames : churn.frames ≡ other.frames = cc in
-    let words : words_or churn.words ≡ words_or other.words = same_words churn.words other.words (ap (λ (l : List Meaning). get_or l 4 absent) says) in
+    let words : words_or churn.words ≡ words_or other.words =
+    same_words churn.words other.words (ap (λ (l : List Meaning). get_or l 4 absent) says) in
     cc (pairs, workers, frames, words)
-same_order (Check check) (Check other) e = let says = ap (λ (l : Verb × List Meaning). l.1) e in cc
+same_order (Check check) (Check other) e = let says = ap (λ (l : FormVerb × List Meaning). l.1) e in cc
 same_order (Replay replay) (Replay other) e = ap (λ (name : List ℕ). events name ∷ []) (same_file replay other e)
 same_order (Migrate migrate) (Migrate other) e =
-    let says = ap (λ (l : Verb × List Meaning). l.1) e in
+    let says = ap (λ (l : FormVerb × List Meaning). l.1) e in
     let input : migrate.input.now ≡ other.input.now = cc in
     let pages : migrate.pages ≡ other.pages = cc in
     cc (input, pages)
@@ -127,42 +134,53 @@ bounded shown (Migrate migrate) = (tt, λ _. (tt, λ _. (tt, λ _. tt)))
 -- ---- what is done
 
 -- a file is played to its end or up to an illegal event, and not both
-played_apart : (shown : Shown) (name last text other : List ℕ) → name ≡ last → HasFile (Some shown) name (λ bytes. PlayedFile bytes text true) → HasFile (Some shown) last (λ bytes. PlayedFile bytes other false) → ⊥
+played_apart : (shown : Shown) (name last text other : List ℕ) → name ≡ last
+    → HasFile (Some shown) name (λ bytes. PlayedFile bytes text true)
+    → HasFile (Some shown) last (λ bytes. PlayedFile bytes other false) → ⊥
 played_apart shown name last text other e p q =
-    let p' : HasFile (Some shown) last (λ bytes. PlayedFile bytes text true) = subst (λ (n : List ℕ). HasFile (Some shown) n (λ bytes. PlayedFile bytes text true)) e p in
+    let p' : HasFile (Some shown) last (λ bytes. PlayedFile bytes text true) =
+    subst (λ (n : List ℕ). HasFile (Some shown) n (λ bytes. PlayedFile bytes text true)) e p in
     let b = both_of shown last _ _ p' q in
     true≢false (one_played b.0 text other true false b.1 b.2).1
 
 -- where no failure is planned the write of no page failed
-all_written : (n : ℕ) {U : Type 0} (run : RunLine) (end : Ended U Said) (content : Content) (pages : List (List ℕ)) (lists : List (List Call)) → run.options.fail.items ≡ [] → IsUnflushedRun n run end content pages lists → ⊥
+all_written : (n : ℕ) {U : Type 0} (run : RunLine) (end : Ended U Said) (content : Content) (pages : List (List ℕ))
+    (lists : List (List Call)) → run.options.fail.items ≡ [] → IsUnflushedRun n run end content pages lists → ⊥
 all_written n run end content pages lists none is =
     let made = is.made in
-    let served = subst (λ (plan : List PlannedFault). IsServed n pages plan lists made.replies made.report made.blocks end) none made.served in
+    let served = subst (λ (plan : List PlannedFault). IsServed n pages plan lists made.replies made.report made.blocks
+    end) none made.served in
     let first = all_flushed n pages lists made.replies made.report made.blocks end served in
     let least = is.least in
     absurd cc
 
-no_cut_files : (n : ℕ) {U : Type 0} (shown : Shown) (run : RunLine) (end : Ended U Said) (content : Content) → run.options.fail.items ≡ [] → OfFiles n (Some shown) run (IsUnflushedRun n run end content) → ⊥
+no_cut_files : (n : ℕ) {U : Type 0} (shown : Shown) (run : RunLine) (end : Ended U Said) (content : Content)
+    → run.options.fail.items ≡ [] → OfFiles n (Some shown) run (IsUnflushedRun n run end content) → ⊥
 no_cut_files n shown run end content none is = all_written n run end content _ is.2.2.2.0 none is.2.2.2.2
 
-no_cut_run : (shown : Shown) (run : RunLine) (content : Content) (after : Ends) → run.options.fail.items ≡ [] → CutRun run (Some shown) content after → ⊥
+no_cut_run : (shown : Shown) (run : RunLine) (content : Content) (after : Ends) → run.options.fail.items ≡ []
+    → CutRun run (Some shown) content after → ⊥
 no_cut_run shown run content Nothing none is = is
 no_cut_run shown run content (Tree end) none is = no_cut_files 64 shown run end content none is
 no_cut_run shown run content (LargeTree end) none is = no_cut_files 512 shown run end content none is
 
 -- what makes a command end otherwise is not there
-pub no_cut : (shown : Shown) (c d : Command) (content : Content) (before after : Ends) → line_of c ≡ line_of d → IsSmooth d (Some shown) → Cut c (Some shown) content before after → ⊥
-no_cut shown (Run run) (Run other) content before after e smooth is = no_cut_run shown run content after (same_plan run other e ∙ smooth) is.0
+pub no_cut : (shown : Shown) (c d : Command) (content : Content) (before after : Ends) → line_of c ≡ line_of d
+    → IsSmooth d (Some shown) → Cut c (Some shown) content before after → ⊥
+no_cut shown (Run run) (Run other) content before after e smooth is =
+    no_cut_run shown run content after (same_plan run other e ∙ smooth) is.0
 no_cut shown (Make make) (Make other) content before after e smooth is = is
 no_cut shown (Check check) (Check other) content before after e smooth is = is
 no_cut shown (Churn churn) (Churn other) content before after e smooth is = is
 no_cut shown (Migrate migrate) (Migrate other) content before after e smooth is = is
 no_cut shown (Replay replay) (Replay other) content before after e smooth is =
-    played_apart shown other.file.now replay.file.now smooth.2.0 content.text (sym (same_file replay other e)) (smooth.0, smooth.1, smooth.2.1) is.0.0.0
+    played_apart shown other.file.now replay.file.now smooth.2.0 content.text (sym (same_file replay other e))
+    (smooth.0, smooth.1, smooth.2.1) is.0.0.0
 no_cut shown c d content before after e smooth is = absurd (two_lines c d (λ v. absurd cc) e)
 
 -- what it ends with then is not 0
-pub cut_not_done : (shown : Option Shown) (c : Command) (content : Content) (before after : Ends) → Cut c shown content before after → content.status ≢ 0
+pub cut_not_done : (shown : Option Shown) (c : Command) (content : Content) (before after : Ends)
+    → Cut c shown content before after → content.status ≢ 0
 cut_not_done shown (Run run) content before after is = λ e. omega (arith, e, is.1)
 cut_not_done shown (Make make) content before after is = absurd is
 cut_not_done shown (Check check) content before after is = absurd is
@@ -170,31 +188,50 @@ cut_not_done shown (Churn churn) content before after is = absurd is
 cut_not_done shown (Migrate migrate) content before after is = absurd is
 cut_not_done shown (Replay replay) content before after is = λ e. omega (arith, e, is.1)
 
-run_ends : (shown : Option Shown) (run : RunLine) (content : Content) (before after : Ends) → Performs (Run run) shown content before after → as_done content.status ≡ 0
+run_ends : (shown : Option Shown) (run : RunLine) (content : Content) (before after : Ends)
+    → Performs (Run run) shown content before after → as_done content.status ≡ 0
 run_ends shown run content before after (told t e) = ap as_done e
 run_ends shown run content before after (cut t) = ap as_done t.1
 
 -- a command that ends in no other way ends with status 0
-only_told : (shown : Option Shown) (c : Command) (content : Content) (before after : Ends) → (Cut c shown content before after → ⊥) → Performs c shown content before after → content.status ≡ 0
+only_told : (shown : Option Shown) (c : Command) (content : Content) (before after : Ends)
+    → (Cut c shown content before after → ⊥) → Performs c shown content before after → content.status ≡ 0
 only_told shown c content before after never (told t e) = e
 only_told shown c content before after never (cut t) = absurd (never t)
 
 -- so two of them end with one
-both_told : (shown : Shown) (c d : Command) (content more : Content) (before after start end : Ends) → (Cut c (Some shown) content before after → ⊥) → (Cut d (Some shown) more start end → ⊥) → Performs c (Some shown) content before after → Performs d (Some shown) more start end → as_done content.status ≡ as_done more.status
-both_told shown c d content more before after start end never nor p q = ap as_done (only_told (Some shown) c content before after never p ∙ sym (only_told (Some shown) d more start end nor q))
+both_told : (shown : Shown) (c d : Command) (content more : Content) (before after start end : Ends)
+    → (Cut c (Some shown) content before after → ⊥) → (Cut d (Some shown) more start end → ⊥)
+    → Performs c (Some shown) content before after → Performs d (Some shown) more start end
+    → as_done content.status ≡ as_done more.status
+both_told shown c d content more before after start end never nor p q =
+    ap as_done (only_told (Some shown) c content before after never p
+    ∙ sym (only_told (Some shown) d more start end nor q))
 
-replays_end : (shown : Shown) (replay other : ReplayLine) (content more : Content) (before after start end : Ends) → replay.file.now ≡ other.file.now → Performs (Replay replay) (Some shown) content before after → Performs (Replay other) (Some shown) more start end → content.status ≡ more.status
+replays_end : (shown : Shown) (replay other : ReplayLine) (content more : Content) (before after start end : Ends)
+    → replay.file.now ≡ other.file.now → Performs (Replay replay) (Some shown) content before after
+    → Performs (Replay other) (Some shown) more start end → content.status ≡ more.status
 replays_end shown replay other content more before after start end file (told t e) (told u f) = e ∙ sym f
-replays_end shown replay other content more before after start end file (told t e) (cut u) = absurd (played_apart shown replay.file.now other.file.now content.text more.text file t.0.0 u.0.0.0)
-replays_end shown replay other content more before after start end file (cut t) (told u f) = absurd (played_apart shown other.file.now replay.file.now more.text content.text (sym file) u.0.0 t.0.0.0)
+replays_end shown replay other content more before after start end file (told t e) (cut u) =
+    absurd (played_apart shown replay.file.now other.file.now content.text more.text file t.0.0 u.0.0.0)
+replays_end shown replay other content more before after start end file (cut t) (told u f) =
+    absurd (played_apart shown other.file.now replay.file.now more.text content.text (sym file) u.0.0 t.0.0.0)
 replays_end shown replay other content more before after start end file (cut t) (cut u) = t.1 ∙ sym u.1
 
 -- what commands of one line do ends with one status, where the two of a run count as one
-pub one_ending : (shown : Shown) (c d : Command) (content more : Content) (before after start end : Ends) → line_of c ≡ line_of d → Performs c (Some shown) content before after → Performs d (Some shown) more start end → as_done content.status ≡ as_done more.status
-one_ending shown (Run run) (Run other) content more before after start end e p q = run_ends (Some shown) run content before after p ∙ sym (run_ends (Some shown) other more start end q)
-one_ending shown (Make make) (Make other) content more before after start end e p q = both_told shown (Make make) (Make other) content more before after start end (λ t. t) (λ t. t) p q
-one_ending shown (Check check) (Check other) content more before after start end e p q = both_told shown (Check check) (Check other) content more before after start end (λ t. t) (λ t. t) p q
-one_ending shown (Churn churn) (Churn other) content more before after start end e p q = both_told shown (Churn churn) (Churn other) content more before after start end (λ t. t) (λ t. t) p q
-one_ending shown (Migrate migrate) (Migrate other) content more before after start end e p q = both_told shown (Migrate migrate) (Migrate other) content more before after start end (λ t. t) (λ t. t) p q
-one_ending shown (Replay replay) (Replay other) content more before after start end e p q = ap as_done (replays_end shown replay other content more before after start end (same_file replay other e) p q)
+pub one_ending : (shown : Shown) (c d : Command) (content more : Content) (before after start end : Ends)
+    → line_of c ≡ line_of d → Performs c (Some shown) content before after → Performs d (Some shown) more start end
+    → as_done content.status ≡ as_done more.status
+one_ending shown (Run run) (Run other) content more before after start end e p q =
+    run_ends (Some shown) run content before after p ∙ sym (run_ends (Some shown) other more start end q)
+one_ending shown (Make make) (Make other) content more before after start end e p q =
+    both_told shown (Make make) (Make other) content more before after start end (λ t. t) (λ t. t) p q
+one_ending shown (Check check) (Check other) content more before after start end e p q =
+    both_told shown (Check check) (Check other) content more before after start end (λ t. t) (λ t. t) p q
+one_ending shown (Churn churn) (Churn other) content more before after start end e p q =
+    both_told shown (Churn churn) (Churn other) content more before after start end (λ t. t) (λ t. t) p q
+one_ending shown (Migrate migrate) (Migrate other) content more before after start end e p q =
+    both_told shown (Migrate migrate) (Migrate other) content more before after start end (λ t. t) (λ t. t) p q
+one_ending shown (Replay replay) (Replay other) content more before after start end e p q =
+    ap as_done (replays_end shown replay other content more before after start end (same_file replay other e) p q)
 one_ending shown c d content more before after start end e p q = absurd (two_lines c d (λ v. absurd cc) e)

@@ -23,9 +23,14 @@ as_done status = if status == 7 then 0 else status
 -- Every other ending of these words over a host that shows the same has this status too, where neither is 2, 3 or 6
 abbrev pub AgreesWithOthers : List (List ℕ) → Option Shown → ℕ → Type 0
 AgreesWithOthers words old status =
-    (shown : Shown) (failed : List ℕ) (new : Option Shown) (before after : Ends) (other : ℕ) → old ≡ Some shown → ProgramEnds words failed old new before after other → IsSettledStatus status → IsSettledStatus other → as_done status ≡ as_done other
+    (shown : Shown) (failed : List ℕ) (new : Option Shown) (before after : Ends) (other : ℕ) → old ≡ Some shown
+    → ProgramEnds words failed old new before after other → IsSettledStatus status → IsSettledStatus other
+    → as_done status ≡ as_done other
 
--- Valid words over valid files, of a run with frames enough for the height of its tree, and a host that failed in nothing: done, or memory was wanting
+-- Valid words over valid files, of a run with frames enough for the height of its tree, and a host that failed in
+-- nothing: done, or memory was wanting
 abbrev pub IsComplete : List (List ℕ) → Option Shown → (takes takes' : ℕ) → (gives gives' : GiveFaults) → ℕ → Type 0
 IsComplete words old takes takes' gives gives' status =
-    (shown : Shown) (command : Command) → old ≡ Some shown → IsCommand words command → IsSmooth command old → AllPass old (order_of command) → ¬ (Rose takes takes') → ¬ (FailedGive gives gives') → (status ≡ 0) ⊎ (status ≡ 6)
+    (shown : Shown) (command : Command) → old ≡ Some shown → IsCommand words command → IsSmooth command old
+    → AllPass old (order_of command) → ¬ (Rose takes takes') → ¬ (FailedGive gives gives')
+    → (status ≡ 0) ⊎ (status ≡ 6)

@@ -1,17 +1,22 @@
 -- What the proofs of this crate cite from the crates below and from its own specs, passed on from one place. Declares nothing.
-pub use Rattle.std.proofs.Common.{[], add_assoc, ap, arith, Bool, eqb, false, inl, inr, length, List, None, refl, rules, slice_index, slice_index_or, slice_set}
-pub use Rattle.std.proofs.Common.{Some, subst, suc, sym, take, true, zero, ℕ, ⊎_elim, ◌%◌, ◌&&◌, ◌*◌, ◌++◌, ◌+◌, ◌<◌, ◌||◌, ◌∙◌, ◌∷◌, ◌≡◌, ◌≢◌, ◌≤◌, ◌⊎◌}
+pub use Rattle.std.proofs.Common.{[], add_assoc, ap, arith, Bool, eqb, false, inl, inr, length, List, None, refl}
+pub use Rattle.std.proofs.Common.{rules, slice_index, slice_index_or, slice_set, Some, subst, suc, sym, take, true}
+pub use Rattle.std.proofs.Common.{zero, ℕ, ⊎_elim, ◌%◌, ◌&&◌, ◌*◌, ◌++◌, ◌+◌, ◌<◌, ◌||◌, ◌∙◌, ◌∷◌, ◌≡◌, ◌≢◌, ◌≤◌, ◌⊎◌}
 pub use Rattle.std.proofs.{lemmas.Bool.Decides.nat_tests, Math.Nat.mod-add-mod, Math.Nat.mod-lt}
-pub use Rattle.std.proofs.lemmas.Bool.{and_left, and_right, cases_eq, cases_lt, cond-false, cond-true, eq-eqb, le-ltb, lt-ltb, ne_eqb, true≢false}
+pub use Rattle.std.proofs.lemmas.Bool.{and_left, and_right, cases_eq, cases_lt, cond-false, cond-true, eq-eqb, le-ltb}
+pub use Rattle.std.proofs.lemmas.Bool.{lt-ltb, ne_eqb, true≢false}
 pub use Rattle.std.proofs.lemmas.List.{get_or-set_other, get_or-set_same, length-append, length-set}
 pub use Rattle.vm_core.specs.Prelude.{MARKED, MAX_VERSION, UNLOCKED}
-pub use Rattle.vm_rule.specs.Prelude.{AreApart, did_change, did_exchange, did_load, Each, has, index_of, LookTold, MarkTold, set_if, Start, Within}
+pub use Rattle.vm_rule.specs.Prelude.{AreApart, did_change, did_exchange, did_load, Each, has, index_of, LookTold}
+pub use Rattle.vm_rule.specs.Prelude.{MarkTold, set_if, Start, Within}
 pub use Rattle.vm_rule.proofs.{Entries.each-map, Facts.has-both, Heard.each-both, WordFacts.version-within, WordFacts.word-state}
-pub use Rattle.vm_step.specs.Prelude.{AreCandidates, candidate_pages, Did, Follows, IsAlone, IsCandidate, IsReady, IsSamePass, Origin, RunsAlone, View, view}
+pub use Rattle.vm_step.specs.Prelude.{AreCandidates, candidate_pages, Did, Follows, IsAlone, IsCandidate, Origin, RunsAlone, View, view}
 pub use Rattle.vm_step.specs.declared.choice.Looks.{Looks}
-pub use Rattle.vm_step.proofs.{Alone.runs-one, Alone.runs-then, Asides.aside-within, Asides.only-then, Asides.OnlyReads, Groups.apart-end, steps.Look.look-only}
-pub use Rattle.vm_step.proofs.{steps.Unchanged.mark-only, Tables.else-knows, Tables.follows-between, Tables.follows-kept, Tables.follows-length}
+pub use Rattle.vm_step.proofs.{Alone.runs-one, Alone.runs-then, Asides.aside-within, Asides.only-then}
+pub use Rattle.vm_step.proofs.{Asides.OnlyReads, Groups.apart-end, steps.Look.look-only, steps.Unchanged.mark-only}
+pub use Rattle.vm_step.proofs.{Tables.else-knows, Tables.follows-between, Tables.follows-kept, Tables.follows-length}
 pub use Rattle.vm_step.proofs.Evidenced.{first-or, given-behind, given-front, held-state}
 pub use Rattle.vm_clock.specs.{Clock.passed_word, Clock.Visits, Clock.VisitsFrame, Clock.WalksFrames, Met.HoldsChosen}
-pub use Rattle.vm_clock.specs.Clock.{FindsOwner, IsBelowLast, IsChosen, IsFrameVisited, IsPageVisited, IsPassed, IsWalked, KnowsWalked, looks_counted, LooksAt}
+pub use Rattle.vm_clock.specs.Clock.{FindsOwner, IsBelowLast, IsChosen, IsFrameVisited, IsPageVisited, IsPassed}
+pub use Rattle.vm_clock.specs.Clock.{IsWalked, KnowsWalked, looks_counted, LooksAt}
 unfoldable pub use Rattle.vm_core.specs.Prelude.{hand_more, state_of, version_of, word_of}

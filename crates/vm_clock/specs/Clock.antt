@@ -1,14 +1,17 @@
--- How the clock chooses candidates for eviction: from a place drawn from the hand it walks over the frames, round and round, loads each frame's
--- owner word, looks at the page that the word names, and counts what it sees by the first of these that fits: a frame with no page; a page chosen
--- before; an evicted one; one that somebody has locked; one at the last version; an unlocked one, which it marks; a marked one, which it chooses.
-use Rattle.std.specs.Prelude.{[], false, if◌then◌else◌, length, List, nat_lt, None, suc, true, zero, ℕ, ◌%◌, ◌&&◌, ◌*◌, ◌++◌, ◌+◌, ◌<◌, ◌==◌, ◌∷◌}
-use Rattle.std.specs.Prelude.{◌≡◌, ◌≢◌, ◌≤◌, ◌⊎◌}
+-- How the clock chooses candidates for eviction: from a place drawn from the hand it walks over the frames, round and
+-- round, loads each frame's
+-- owner word, looks at the page that the word names, and counts what it sees by the first of these that fits: a frame
+-- with no page; a page chosen
+-- before; an evicted one; one that somebody has locked; one at the last version; an unlocked one, which it marks; a
+-- marked one, which it chooses.
+use Rattle.std.specs.Prelude.{[], false, if◌then◌else◌, length, List, nat_lt, None, suc, true, zero, ℕ, ◌%◌, ◌&&◌}
+use Rattle.std.specs.Prelude.{◌*◌, ◌++◌, ◌+◌, ◌<◌, ◌==◌, ◌∷◌, ◌≡◌, ◌≢◌, ◌≤◌, ◌⊎◌}
 use Rattle.vm_core.specs.Prelude.{EVICTED, hand_more, MARKED, MAX_VERSION, state_of, UNLOCKED, version_of, word_of}
 use Rattle.vm_rule.specs.Prelude.{did_change, did_exchange, did_load, has}
-use Rattle.vm_rule.specs.declared.view.Place.{Place}
-use Rattle.vm_rule.specs.declared.view.Place.TheVariants as places
-use Rattle.vm_step.specs.Prelude.{candidate_pages, Did, first_or, HasGiven, IsAlone, IsAside, IsAsideOf, IsHeld, KeepsFrames, known_word_at, KnowsAt, KnowsElse}
-use Rattle.vm_step.specs.Prelude.{RunsAlone, View}
+use Rattle.vm_rule.specs.declared.view.WordPlace.{WordPlace}
+use Rattle.vm_rule.specs.declared.view.WordPlace.TheVariants as places
+use Rattle.vm_step.specs.Prelude.{candidate_pages, Did, first_or, HasGiven, IsAlone, IsAside, IsAsideOf, IsHeld}
+use Rattle.vm_step.specs.Prelude.{KeepsFrames, known_word_at, KnowsAt, KnowsElse, RunsAlone, View}
 use Rattle.vm_step.specs.declared.choice.Looks.{Looks}
 
 -- a count of no look
@@ -57,9 +60,11 @@ pub data Visits (chosen : List (ℕ × ℕ)) (p : ℕ) (steps : List Did) (old :
       → list ≡ chosen ++ (p, word) ∷ [] → Visits chosen p steps old new list
 
 -- what the visit of frame f comes to: no page stands there, or its owner word names a page of the table, which is looked at
-pub data VisitsFrame (pages : ℕ) (chosen : List (ℕ × ℕ)) (f : ℕ) (steps : List Did) (old : Looks) (new : Looks) (list : List (ℕ × ℕ)) : Type 0 where
+pub data VisitsFrame (pages : ℕ) (chosen : List (ℕ × ℕ)) (f : ℕ) (steps : List Did) (old : Looks) (new : Looks)
+    (list : List (ℕ × ℕ)) : Type 0 where
   empty :
-      steps ≡ did_load (places.Owner f) 0 ∷ [] → new ≡ record old { gone = old.gone + 1 } → list ≡ chosen → VisitsFrame pages chosen f steps old new list
+      steps ≡ did_load (places.Owner f) 0 ∷ [] → new ≡ record old { gone = old.gone + 1 } → list ≡ chosen
+      → VisitsFrame pages chosen f steps old new list
   named :
       (p : ℕ) (more : List Did) → p < pages → steps ≡ did_load (places.Owner f) (p + 1) ∷ more → Visits chosen p more old new list
       → VisitsFrame pages chosen f steps old new list
@@ -86,10 +91,11 @@ module _ {X : Type 0} where
   IsPassed v drawn count p = (k : ℕ) × (k < count) × (known_word_at v (places.Owner ((drawn + k) % v.start.frames)) ≡ p + 1)
 
   -- the places that a walk writes: the hand, and the state words of the pages that it passed
-  abbrev pub IsWalked : View X → ℕ → ℕ → Place → Type 0
+  abbrev pub IsWalked : View X → ℕ → ℕ → WordPlace → Type 0
   IsWalked v drawn count at = (at ≡ places.Hand) ⊎ ((p : ℕ) × (at ≡ places.State p) × IsPassed v drawn count p)
 
-  -- what a pass that was alone knows after a walk: the hand went on once from the place drawn, the pages passed have their words (`passed_word`),
+  -- what a pass that was alone knows after a walk: the hand went on once from the place drawn, the pages passed have
+  -- their words (`passed_word`),
   -- and all other words are as before
   pub record KnowsWalked (drawn count : ℕ) (v w : View X) : Type 0 where
     pub drawn_is : drawn ≡ known_word_at v places.Hand

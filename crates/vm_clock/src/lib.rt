@@ -3,7 +3,7 @@
 #![tactic(auto)]
 
 ghost use Rattle.std.specs.Prelude.{◌%◌, ◌*◌, ◌+◌, ◌<◌, ◌≡◌, ◌≤◌, length};
-ghost use Rattle.vm_step.specs.Prelude.{AreCandidates, IsReady, IsSamePass, view};
+ghost use Rattle.vm_step.specs.Prelude.{AreCandidates, GoesOn, IsReadyOn, view};
 ghost use Rattle.vm_clock.specs.Clock.{IsChosen, IsFrameVisited, IsPageVisited, looks_counted};
 ghost use Rattle.vm_clock.specs.Met.{HoldsChosen};
 
@@ -35,10 +35,9 @@ pub fn candidates<U: Owner, B: Block>(
     pass: &mut Pass<U>,
     want: u32,
 ) -> Candidates
-    requires ready { IsReady words.now.table.shared.key B.tells words.now.table.shared.table_id pass.old }
+    requires ready { IsReadyOn words.now B.tells pass.old }
     requires want { (1 ≤ want) × (want ≤ FRAMES) }
-    ensures pass { IsSamePass pass.old pass.new }
-    ensures ready { IsReady words.now.table.shared.key B.tells words.now.table.shared.table_id pass.new }
+    ensures goes { GoesOn words.now B.tells pass.old pass.new }
     ensures chosen { IsChosen want result.looks result.list.items (view pass.old) (view pass.new) }
     ensures list { AreCandidates words.now.table.shared.key.pages result.list.items }
     ensures looks { looks_counted result.looks ≤ 2 * words.now.table.shared.key.frames }
@@ -87,13 +86,12 @@ fn visit_frame<U: Owner, B: Block>(
     met: &mut [u64; MASKS],
     chosen: &mut Candidates,
 )
-    requires ready { IsReady words.now.table.shared.key B.tells words.now.table.shared.table_id pass.old }
+    requires ready { IsReadyOn words.now B.tells pass.old }
     requires frame { f < words.now.table.shared.key.frames }
     requires covers { HoldsChosen met.old chosen.old.list.items }
     requires room { length chosen.old.list.items < FRAMES }
     requires counts { looks_counted chosen.old.looks < 4294967295 }
-    ensures pass { IsSamePass pass.old pass.new }
-    ensures ready { IsReady words.now.table.shared.key B.tells words.now.table.shared.table_id pass.new }
+    ensures goes { GoesOn words.now B.tells pass.old pass.new }
     ensures covers { HoldsChosen met.new chosen.new.list.items }
     ensures visited { IsFrameVisited f chosen.old.looks chosen.old.list.items chosen.new.looks chosen.new.list.items (view pass.old) (view pass.new) }
 {
@@ -113,13 +111,12 @@ fn visit<U: Owner, B: Block>(
     met: &mut [u64; MASKS],
     chosen: &mut Candidates,
 )
-    requires ready { IsReady words.now.table.shared.key B.tells words.now.table.shared.table_id pass.old }
+    requires ready { IsReadyOn words.now B.tells pass.old }
     requires page { p < words.now.table.shared.key.pages }
     requires covers { HoldsChosen met.old chosen.old.list.items }
     requires room { length chosen.old.list.items < FRAMES }
     requires counts { looks_counted chosen.old.looks < 4294967295 }
-    ensures pass { IsSamePass pass.old pass.new }
-    ensures ready { IsReady words.now.table.shared.key B.tells words.now.table.shared.table_id pass.new }
+    ensures goes { GoesOn words.now B.tells pass.old pass.new }
     ensures covers { HoldsChosen met.new chosen.new.list.items }
     ensures visited { IsPageVisited p chosen.old.looks chosen.old.list.items chosen.new.looks chosen.new.list.items (view pass.old) (view pass.new) }
 {

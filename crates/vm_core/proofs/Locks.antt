@@ -2,18 +2,21 @@
 use Rattle.std.proofs.Common.{⊎_elim, ◌+◌, ◌-◌, ◌<◌, ◌∙◌, ◌≡◌, ◌≢◌, ◌≤◌, ◌⊎◌, ap, arith, false, None, refl, suc, sym, true, zero, ℕ}
 use Rattle.std.proofs.lemmas.Bool.{cases_eq, false≢true}
 use Rattle.std.proofs.lemmas.Bool.Decides.{nat_tests}
-use Rattle.vm_core.specs.Prelude.{EVICTED, LOCKED, LocksInv, MARKED, MAX_VERSION, one_share_more, OneHolder, share_count, sum_below, UNLOCKED}
-use Rattle.vm_core.specs.Prelude.{unshared, upd}
+use Rattle.vm_core.specs.Prelude.{EVICTED, LOCKED, LocksInv, MARKED, MAX_VERSION, one_share_more, OneHolder}
+use Rattle.vm_core.specs.Prelude.{share_count, sum_below, UNLOCKED, unshared, upd}
 use Rattle.vm_core.specs.declared.event.Seat.{Seat}
 use Rattle.vm_core.proofs.Upd.{sum_below-change, upd-tells}
 
 -- a page with an exclusive holder is locked
-pub locked-from_owner : {actors state version : ℕ} → {seats : ℕ → Seat} → LocksInv actors state version seats → (a : ℕ) → (seats a).exclusive ≡ true → state ≡ LOCKED
+pub locked-from_owner : {actors state version : ℕ} → {seats : ℕ → Seat} → LocksInv actors state version seats
+    → (a : ℕ) → (seats a).exclusive ≡ true → state ≡ LOCKED
 locked-from_owner {actors} {state} {version} {seats} i a e =
     ⊎_elim (λ y. y) (λ ne. absurd (false≢true (sym (i.unheld ne a) ∙ e))) (cases_eq state LOCKED)
 
 -- a change of a seat that leaves its locks
-pub locks-seat : (actors state version : ℕ) (seats : ℕ → Seat) (a : ℕ) (s : Seat) → LocksInv actors state version seats → s.shares ≡ (seats a).shares → s.exclusive ≡ (seats a).exclusive → s.writing ≡ (seats a).writing → LocksInv actors state version (upd seats a s)
+pub locks-seat : (actors state version : ℕ) (seats : ℕ → Seat) (a : ℕ) (s : Seat)
+    → LocksInv actors state version seats → s.shares ≡ (seats a).shares → s.exclusive ≡ (seats a).exclusive
+    → s.writing ≡ (seats a).writing → LocksInv actors state version (upd seats a s)
 locks-seat actors state version seats a s i e x w =
     record {
       known = i.known;
@@ -21,14 +24,21 @@ locks-seat actors state version seats a s i e x w =
       shares = grind (arith, upd-tells, i.shares);
       unheld = λ ne. grind (arith, upd-tells, i.unheld ne);
       held = λ q. let one : OneHolder actors seats = i.held q in
-          record { holder = one.holder; named = one.named; owns = grind (arith, upd-tells, one.owns); only = grind (arith, upd-tells, one.only) };
+          record {
+            holder = one.holder;
+            named = one.named;
+            owns = grind (arith, upd-tells, one.owns);
+            only = grind (arith, upd-tells, one.only);
+          };
       below = i.below;
       writer = grind (arith, upd-tells, i.writer);
       one_writer = grind (arith, upd-tells, i.one_writer);
     }
 
 -- an exclusive lock of a page without shares
-pub locks-lock : (actors state version : ℕ) (seats : ℕ → Seat) (a : ℕ) → a < actors → (state ≡ UNLOCKED) ⊎ ((state ≡ MARKED) ⊎ (state ≡ EVICTED)) → version < MAX_VERSION → LocksInv actors state version seats → LocksInv actors LOCKED version (upd seats a (record (seats a) { exclusive = true; reading = None }))
+pub locks-lock : (actors state version : ℕ) (seats : ℕ → Seat) (a : ℕ) → a < actors → (state ≡ UNLOCKED)
+    ⊎ ((state ≡ MARKED) ⊎ (state ≡ EVICTED)) → version < MAX_VERSION → LocksInv actors state version seats
+    → LocksInv actors LOCKED version (upd seats a (record (seats a) { exclusive = true; reading = None }))
 locks-lock actors state version seats a lt s below i =
     let free : state ≢ LOCKED = grind (arith, s) in
     record {
@@ -43,12 +53,16 @@ locks-lock actors state version seats a lt s below i =
     }
 
 -- a shared lock
-pub locks-share : (actors state version : ℕ) (seats : ℕ → Seat) (a : ℕ) → a < actors → (state ≤ 251) ⊎ (state ≡ MARKED) → LocksInv actors state version seats → LocksInv actors (one_share_more state) version (upd seats a (record (seats a) { shares = (seats a).shares + 1; reading = None }))
+pub locks-share : (actors state version : ℕ) (seats : ℕ → Seat) (a : ℕ) → a < actors
+    → (state ≤ 251) ⊎ (state ≡ MARKED) → LocksInv actors state version seats → LocksInv actors (one_share_more state)
+    version (upd seats a (record (seats a) { shares = (seats a).shares + 1; reading = None }))
 locks-share actors state version seats a lt s i =
     let free : state ≢ LOCKED = grind (arith, s) in
     let after : one_share_more state < LOCKED = grind (arith, s, nat_tests) in
     let seats' : ℕ → Seat = upd seats a (record (seats a) { shares = (seats a).shares + 1; reading = None }) in
-    let change : sum_below actors (λ b. (seats' b).shares) + (seats a).shares ≡ sum_below actors (λ b. (seats b).shares) + (seats' a).shares = sum_below-change actors (λ b. (seats' b).shares) (λ b. (seats b).shares) a lt (grind (arith, upd-tells)) in
+    let change : sum_below actors (λ b. (seats' b).shares) + (seats a).shares ≡ sum_below actors
+    (λ b. (seats b).shares) + (seats' a).shares = sum_below-change actors (λ b. (seats' b).shares)
+    (λ b. (seats b).shares) a lt (grind (arith, upd-tells)) in
     record {
       known = omega arith;
       in_range = i.in_range;
@@ -61,7 +75,9 @@ locks-share actors state version seats a lt s i =
     }
 
 -- the holder gives the page up, at the next version
-pub locks-release : (actors state version : ℕ) (seats : ℕ → Seat) (a : ℕ) → (seats a).exclusive ≡ true → LocksInv actors state version seats → LocksInv actors UNLOCKED (version + 1) (upd seats a (record (seats a) { exclusive = false }))
+pub locks-release : (actors state version : ℕ) (seats : ℕ → Seat) (a : ℕ) → (seats a).exclusive ≡ true
+    → LocksInv actors state version seats → LocksInv actors UNLOCKED (version + 1)
+    (upd seats a (record (seats a) { exclusive = false }))
 locks-release actors state version seats a e i =
     let locked : state ≡ LOCKED = locked-from_owner i a e in
     let one : OneHolder actors seats = i.held locked in
@@ -87,7 +103,8 @@ sum_below-at (suc n) f k lt =
     (cases_eq k n)
 
 -- an actor has at most 252 shares
-pub shares-bound : (actors state version : ℕ) (seats : ℕ → Seat) (a : ℕ) → a < actors → LocksInv actors state version seats → (seats a).shares ≤ 252
+pub shares-bound : (actors state version : ℕ) (seats : ℕ → Seat) (a : ℕ) → a < actors
+    → LocksInv actors state version seats → (seats a).shares ≤ 252
 shares-bound actors state version seats a lt i =
     let s : (seats a).shares ≤ sum_below actors (λ b. (seats b).shares) = sum_below-at actors (λ b. (seats b).shares) a lt in
     let t : sum_below actors (λ b. (seats b).shares) ≡ share_count state = i.shares in
@@ -98,13 +115,16 @@ pub shared-state : (state n : ℕ) → 1 ≤ n → n ≡ share_count state → (
 shared-state state n has e = (grind (arith, e, nat_tests), grind (arith, e, nat_tests))
 
 -- a share that is given up
-pub locks-unlock : (actors state version : ℕ) (seats : ℕ → Seat) (a : ℕ) → a < actors → 1 ≤ (seats a).shares → LocksInv actors state version seats → LocksInv actors (state - 1) version (upd seats a (unshared (seats a)))
+pub locks-unlock : (actors state version : ℕ) (seats : ℕ → Seat) (a : ℕ) → a < actors → 1 ≤ (seats a).shares
+    → LocksInv actors state version seats → LocksInv actors (state - 1) version (upd seats a (unshared (seats a)))
 locks-unlock actors state version seats a lt has i =
     let at' : (seats a).shares ≤ sum_below actors (λ b. (seats b).shares) = sum_below-at actors (λ b. (seats b).shares) a lt in
     let in' : (1 ≤ state) × (state < LOCKED) = shared-state state (sum_below actors (λ b. (seats b).shares)) (omega arith) i.shares in
     let free : state ≢ LOCKED = omega arith in
     let seats' : ℕ → Seat = upd seats a (unshared (seats a)) in
-    let change : sum_below actors (λ b. (seats' b).shares) + (seats a).shares ≡ sum_below actors (λ b. (seats b).shares) + (seats' a).shares = sum_below-change actors (λ b. (seats' b).shares) (λ b. (seats b).shares) a lt (grind (arith, upd-tells)) in
+    let change : sum_below actors (λ b. (seats' b).shares) + (seats a).shares ≡ sum_below actors
+    (λ b. (seats b).shares) + (seats' a).shares = sum_below-change actors (λ b. (seats' b).shares)
+    (λ b. (seats b).shares) a lt (grind (arith, upd-tells)) in
     record {
       known = omega arith;
       in_range = i.in_range;
@@ -117,15 +137,23 @@ locks-unlock actors state version seats a lt has i =
     }
 
 -- a marked page is locked for write-back
-pub locks-write_lock : (actors state version : ℕ) (seats : ℕ → Seat) (a : ℕ) → a < actors → state ≡ MARKED → LocksInv actors state version seats → LocksInv actors 1 version (upd seats a (record (seats a) { shares = 1; writing = true; reading = None }))
+pub locks-write_lock : (actors state version : ℕ) (seats : ℕ → Seat) (a : ℕ) → a < actors → state ≡ MARKED
+    → LocksInv actors state version seats → LocksInv actors 1 version (upd seats a (record (seats a) {
+      shares = 1;
+      writing = true;
+      reading = None;
+    }))
 locks-write_lock actors state version seats a lt m i =
     let free : state ≢ LOCKED = omega arith in
     let none : sum_below actors (λ b. (seats b).shares) ≡ 0 = grind (arith, i.shares, m, nat_tests) in
     let mine : (seats a).shares ≤ sum_below actors (λ b. (seats b).shares) = sum_below-at actors (λ b. (seats b).shares) a lt in
     let seats' : ℕ → Seat = upd seats a (record (seats a) { shares = 1; writing = true; reading = None }) in
-    let change : sum_below actors (λ b. (seats' b).shares) + (seats a).shares ≡ sum_below actors (λ b. (seats b).shares) + (seats' a).shares = sum_below-change actors (λ b. (seats' b).shares) (λ b. (seats b).shares) a lt (grind (arith, upd-tells)) in
+    let change : sum_below actors (λ b. (seats' b).shares) + (seats a).shares ≡ sum_below actors
+    (λ b. (seats b).shares) + (seats' a).shares = sum_below-change actors (λ b. (seats' b).shares)
+    (λ b. (seats b).shares) a lt (grind (arith, upd-tells)) in
     let idle : (b : ℕ) → (seats b).writing ≡ true → ⊥ = λ b w. let p : (1 ≤ (seats b).shares) × (b < actors) = i.writer b w in
-    let s : (seats b).shares ≤ sum_below actors (λ c. (seats c).shares) = sum_below-at actors (λ c. (seats c).shares) b p.1 in omega (arith, p.0) in
+    let s : (seats b).shares ≤ sum_below actors (λ c. (seats c).shares) = sum_below-at actors (λ c. (seats c).shares)
+    b p.1 in omega (arith, p.0) in
     record {
       known = omega arith;
       in_range = i.in_range;
@@ -138,7 +166,8 @@ locks-write_lock actors state version seats a lt m i =
     }
 
 -- a page without shares is marked, or its mark is taken away
-pub locks-mark : (actors state next version : ℕ) (seats : ℕ → Seat) → (state ≡ UNLOCKED) ⊎ (state ≡ MARKED) → (next ≡ UNLOCKED) ⊎ (next ≡ MARKED) → LocksInv actors state version seats → LocksInv actors next version seats
+pub locks-mark : (actors state next version : ℕ) (seats : ℕ → Seat) → (state ≡ UNLOCKED) ⊎ (state ≡ MARKED)
+    → (next ≡ UNLOCKED) ⊎ (next ≡ MARKED) → LocksInv actors state version seats → LocksInv actors next version seats
 locks-mark actors state next version seats u n i =
     let free : state ≢ LOCKED = grind (arith, u) in
     let free' : next ≢ LOCKED = grind (arith, n) in
@@ -154,9 +183,12 @@ locks-mark actors state next version seats u n i =
     }
 
 -- the holder gives an empty page up
-pub locks-empty : (actors state version : ℕ) (seats : ℕ → Seat) (a : ℕ) → (seats a).exclusive ≡ true → LocksInv actors state version seats → LocksInv actors EVICTED (version + 1) (upd seats a (record (seats a) { exclusive = false }))
+pub locks-empty : (actors state version : ℕ) (seats : ℕ → Seat) (a : ℕ) → (seats a).exclusive ≡ true
+    → LocksInv actors state version seats → LocksInv actors EVICTED (version + 1)
+    (upd seats a (record (seats a) { exclusive = false }))
 locks-empty actors state version seats a e i =
-    let r : LocksInv actors UNLOCKED (version + 1) (upd seats a (record (seats a) { exclusive = false })) = locks-release actors state version seats a e i in
+    let r : LocksInv actors UNLOCKED (version + 1) (upd seats a (record (seats a) { exclusive = false })) =
+    locks-release actors state version seats a e i in
     record {
       known = omega arith;
       in_range = r.in_range;
@@ -169,11 +201,20 @@ locks-empty actors state version seats a e i =
     }
 
 -- the one that writes back, with the only share, takes the exclusive lock
-pub locks-upgrade : (actors state version : ℕ) (seats : ℕ → Seat) (a : ℕ) → a < actors → state ≡ 1 → (seats a).writing ≡ true → (seats a).shares ≡ 1 → version < MAX_VERSION → LocksInv actors state version seats → LocksInv actors LOCKED version (upd seats a (record { shares = 0; exclusive = true; writing = false; reading = None }))
+pub locks-upgrade : (actors state version : ℕ) (seats : ℕ → Seat) (a : ℕ) → a < actors → state ≡ 1
+    → (seats a).writing ≡ true → (seats a).shares ≡ 1 → version < MAX_VERSION → LocksInv actors state version seats
+    → LocksInv actors LOCKED version (upd seats a (record {
+      shares = 0;
+      exclusive = true;
+      writing = false;
+      reading = None;
+    }))
 locks-upgrade actors state version seats a lt s w one below i =
     let free : state ≢ LOCKED = omega arith in
     let seats' : ℕ → Seat = upd seats a (record { shares = 0; exclusive = true; writing = false; reading = None }) in
-    let change : sum_below actors (λ b. (seats' b).shares) + (seats a).shares ≡ sum_below actors (λ b. (seats b).shares) + (seats' a).shares = sum_below-change actors (λ b. (seats' b).shares) (λ b. (seats b).shares) a lt (grind (arith, upd-tells)) in
+    let change : sum_below actors (λ b. (seats' b).shares) + (seats a).shares ≡ sum_below actors
+    (λ b. (seats b).shares) + (seats' a).shares = sum_below-change actors (λ b. (seats' b).shares)
+    (λ b. (seats b).shares) a lt (grind (arith, upd-tells)) in
     record {
       known = omega arith;
       in_range = i.in_range;
@@ -186,7 +227,11 @@ locks-upgrade actors state version seats a lt s w one below i =
     }
 
 -- the holder gives the exclusive lock up for a share, at the next version
-pub locks-downgrade : (actors state version : ℕ) (seats : ℕ → Seat) (a : ℕ) → a < actors → (seats a).exclusive ≡ true → LocksInv actors state version seats → LocksInv actors 1 (version + 1) (upd seats a (record (seats a) { shares = 1; exclusive = false }))
+pub locks-downgrade : (actors state version : ℕ) (seats : ℕ → Seat) (a : ℕ) → a < actors → (seats a).exclusive ≡ true
+    → LocksInv actors state version seats → LocksInv actors 1 (version + 1) (upd seats a (record (seats a) {
+      shares = 1;
+      exclusive = false;
+    }))
 locks-downgrade actors state version seats a lt e i =
     let locked : state ≡ LOCKED = locked-from_owner i a e in
     let one : OneHolder actors seats = i.held locked in
@@ -194,7 +239,9 @@ locks-downgrade actors state version seats a lt e i =
     let none : sum_below actors (λ b. (seats b).shares) ≡ 0 = grind (arith, i.shares, locked, nat_tests) in
     let mine : (seats a).shares ≤ sum_below actors (λ b. (seats b).shares) = sum_below-at actors (λ b. (seats b).shares) a lt in
     let seats' : ℕ → Seat = upd seats a (record (seats a) { shares = 1; exclusive = false }) in
-    let change : sum_below actors (λ b. (seats' b).shares) + (seats a).shares ≡ sum_below actors (λ b. (seats b).shares) + (seats' a).shares = sum_below-change actors (λ b. (seats' b).shares) (λ b. (seats b).shares) a lt (grind (arith, upd-tells)) in
+    let change : sum_below actors (λ b. (seats' b).shares) + (seats a).shares ≡ sum_below actors
+    (λ b. (seats b).shares) + (seats' a).shares = sum_below-change actors (λ b. (seats' b).shares)
+    (λ b. (seats b).shares) a lt (grind (arith, upd-tells)) in
     record {
       known = omega arith;
       in_range = omega arith;

@@ -16,7 +16,8 @@ use Rattle.vm_core.proofs.Starting.{none-free}
 -- the bit of a number that a mask has
 bit-of : (g m p : ℕ) → in_mask g m p ≡ true → (p / 64 ≡ g) × (bit_at m (p % 64) ≡ 1)
 unfolding in_mask
-bit-of g m p q = let parts : (eqb (p / 64) g ≡ true) × (eqb (bit_at m (p % 64)) 1 ≡ true) = and_parts _ _ q in (eqb-true _ _ parts.0, eqb-true _ _ parts.1)
+bit-of g m p q = let parts : (eqb (p / 64) g ≡ true) × (eqb (bit_at m (p % 64)) 1 ≡ true) = and_parts _ _ q in
+    (eqb-true _ _ parts.0, eqb-true _ _ parts.1)
 
 of-bit : (g m i : ℕ) → i < 64 → bit_at m i ≡ 1 → in_mask g m (64 * g + i) ≡ true
 unfolding in_mask
@@ -33,7 +34,9 @@ mask-below g m p q = let e = (bit-of g m p q).0 in omega (arith, e)
 bit-shifted : (m k i : ℕ) → bit_at (m / 2 ^ k) i ≡ bit_at m (i + k)
 bit-shifted m k i =
     let back : i + k - k ≡ i = omega arith in
-    ap (bit_at (m / 2 ^ k)) (sym back) ∙ sym (bit_at_cat_high (m / 2 ^ k) k (m % 2 ^ k) (i + k) (mod-lt m (pow_pos k)) (omega arith)) ∙ ap (λ v. bit_at v (i + k)) (div-add-mod' m (2 ^ k))
+    ap (bit_at (m / 2 ^ k)) (sym back)
+    ∙ sym (bit_at_cat_high (m / 2 ^ k) k (m % 2 ^ k) (i + k) (mod-lt m (pow_pos k)) (omega arith))
+    ∙ ap (λ v. bit_at v (i + k)) (div-add-mod' m (2 ^ k))
 
 -- a number that has no bit from k on is below 2 ^ k
 small-mask : (m k : ℕ) → m / 2 ^ k ≡ 0 → m < 2 ^ k
@@ -42,7 +45,9 @@ small-mask m k e =
     omega (arith, more)
 
 -- where the word has k pages, the numbers of a mask are of pages exactly where it has no bit from k on
-pub mask-pages : (g m n k : ℕ) → n ≡ 64 * g + k → m < 2 ^ 64 → (m / 2 ^ k ≡ 0 → (p : ℕ) → in_mask g m p ≡ true → p < n) × (((p : ℕ) → in_mask g m p ≡ true → p < n) → m / 2 ^ k ≡ 0)
+pub mask-pages : (g m n k : ℕ) → n ≡ 64 * g + k → m < 2 ^ 64
+    → (m / 2 ^ k ≡ 0 → (p : ℕ) → in_mask g m p ≡ true → p < n)
+    × (((p : ℕ) → in_mask g m p ≡ true → p < n) → m / 2 ^ k ≡ 0)
 mask-pages g m n k e fits = (
   (λ none p q. let bit = bit-of g m p q in
       ⊎_elim (λ lt. omega (arith, e, bit.0, lt))

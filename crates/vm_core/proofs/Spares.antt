@@ -2,7 +2,9 @@
 use Rattle.std.specs.Prelude.{Bool, ℕ}
 use Rattle.vm_core.specs.Prelude.{Inv, World}
 
-pub inv-beside : (w : World) (spares : ℕ → ℕ) (numbers : ℕ → ℕ → Bool) → Inv w → Inv (record w { core = record w.core { spares = spares; numbers = numbers } })
+pub inv-beside : (w : World) (spares : ℕ → ℕ) (numbers : ℕ → ℕ → Bool) → Inv w → Inv (record w {
+  core = record w.core { spares = spares; numbers = numbers };
+})
 inv-beside w spares numbers i =
     record {
       place = i.place;

@@ -1,6 +1,7 @@
 -- The bits of bundle words, and the two parts of a translation word.
 use Rattle.std.specs.Int.{bit_at}
-use Rattle.std.proofs.Common.{⊎_elim, ◌%◌, ◌+◌, ◌-◌, ◌/◌, ◌<◌, ◌^◌, ◌∙◌, ◌≡◌, ◌≤◌, ap, arith, bit_and, false, min, Some, suc, sym, true, zero, ℕ}
+use Rattle.std.proofs.Common.{⊎_elim, ◌%◌, ◌+◌, ◌-◌, ◌/◌, ◌<◌, ◌^◌, ◌∙◌, ◌≡◌, ◌≤◌, ap, arith, bit_and, false, min}
+use Rattle.std.proofs.Common.{Some, suc, sym, true, zero, ℕ}
 use Rattle.std.proofs.lemmas.Bool.{cases_eq, cases_lt, eq-eqb, ne_eqb}
 use Rattle.std.proofs.lemmas.Bool.Decides.{nat_tests}
 use Rattle.std.proofs.lemmas.Nat.Bits.{bit_at-lt, bit_at_and, bit_at_ones, bit_at_ones_above, same_from_bits}
@@ -51,7 +52,9 @@ lowest-below word n k le e =
       count = cut ∙ (let m : sum_below k (bit_at word) ≡ min n (sum_below 64 (bit_at word)) = omega arith in m);
       lowest = λ i j t w l. ⊎_elim
           (λ lt. absurd (let one : bit_at (bit_and word (2 ^ k - 1)) j ≡ bit_at word j = low-bit word k j lt in omega arith))
-          (λ high. ⊎_elim (λ lt. omega arith) (λ past. absurd (let none : bit_at (bit_and word (2 ^ k - 1)) i ≡ 0 = high-bit word k i past in omega arith)) (cases_lt i k))
+          (λ high. ⊎_elim (λ lt. omega arith)
+          (λ past. absurd (let none : bit_at (bit_and word (2 ^ k - 1)) i ≡ 0 = high-bit word k i past in
+          omega arith)) (cases_lt i k))
           (cases_lt j k);
     }
   where

@@ -1,5 +1,6 @@
 -- The events on a page's translation and on frames: when each may happen, and the page afterwards.
-use Rattle.std.specs.Prelude.{◌&&◌, ◌+◌, ◌==◌, ◌^◌, ◌||◌, ◌≡◌, Bool, false, if◌then◌else◌, is_some, IsSome, List, nat_lt, None, Option, Some, true, ℕ}
+use Rattle.std.specs.Prelude.{◌&&◌, ◌+◌, ◌==◌, ◌^◌, ◌||◌, ◌≡◌, Bool, false, if◌then◌else◌, is_some, IsSome, List}
+use Rattle.std.specs.Prelude.{nat_lt, None, Option, Some, true, ℕ}
 use Rattle.vm_core.specs.{declared.event.Mapping.Mapping, declared.event.Open.Open, Fn.upd, State.Page, StateActs.seated, Words.frame_in}
 use Rattle.vm_core.specs.{Words.is_dirty}
 

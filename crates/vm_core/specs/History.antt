@@ -2,9 +2,11 @@
 use Rattle.std.specs.Prelude.{[], ◌&&◌, ◌++◌, ◌+◌, ◌∷◌, Bool, if◌then◌else◌, List, None, Option, slice_set, Some, ℕ}
 use Rattle.vm_core.specs.{declared.event.Event.Event, declared.event.ReadIs.ReadIs, Fn.upd, State.Page, State.State, StateActs.finds}
 use Rattle.vm_core.specs.{StateActs.left_of, Step.after_event, Step.word_at}
-use Rattle.vm_core.specs.declared.event.Event.TheVariants.{BLoad, Claim, Clean, Clear, Dirty, Disown, Downgrade, Give, Hand, Install, Load, LockS}
-use Rattle.vm_core.specs.declared.event.Event.TheVariants.{LockW, LockX, Look, Mark, NLoad, OLoad, Own, Raise, Read, Release, ReleaseE, RFail, Store}
-use Rattle.vm_core.specs.declared.event.Event.TheVariants.{PBLoad, PGive, PTake, Take, TLoad, UnlockS, Unmark, Upgrade, WFail, Write}
+use Rattle.vm_core.specs.declared.event.Event.TheVariants.{BLoad, Claim, Clean, Clear, Dirty, Disown, Downgrade, Give}
+use Rattle.vm_core.specs.declared.event.Event.TheVariants.{Hand, Install, Load, LockS, LockW, LockX, Look, Mark}
+use Rattle.vm_core.specs.declared.event.Event.TheVariants.{NLoad, OLoad, Own, Raise, Read, Release, ReleaseE, RFail}
+use Rattle.vm_core.specs.declared.event.Event.TheVariants.{Store, PBLoad, PGive, PTake, Take, TLoad, UnlockS, Unmark}
+use Rattle.vm_core.specs.declared.event.Event.TheVariants.{Upgrade, WFail, Write}
 use Rattle.vm_core.specs.declared.event.ReadIs.TheVariants.{Closed, Moved, Opened, Same}
 use Rattle.vm_core.specs.FrameActs.{load_frame, open_frame, stands_in}
 
@@ -114,7 +116,9 @@ loads_more (Some f) l i x = l ++ (i, x) ∷ []
 -- a load is added to the loads of the actor's open read of the page, also where the actor reads under a lock of its own
 abbrev pub load_loads : World → ℕ → ℕ → ℕ → ℕ → ℕ → List (ℕ × ℕ)
 load_loads w a p i =
-    upd w.loads p (upd (w.loads p) a (loads_more (open_frame ((w.core.pages p).seats a).reading) (w.loads p a) i (word_at w.core.words (load_frame (w.core.pages p) a) i)))
+    upd w.loads p (upd (w.loads p) a
+    (loads_more (open_frame ((w.core.pages p).seats a).reading) (w.loads p a) i
+    (word_at w.core.words (load_frame (w.core.pages p) a) i)))
 
 -- the loads of each open read after the event
 abbrev pub loads_after : World → Event → ℕ → ℕ → List (ℕ × ℕ)

@@ -4,8 +4,8 @@
 -- place, and its owner word names no page but the one in it, and names that one where it is not locked. Over the words: each frame, block,
 -- version and draft has as many as a page.
 use Rattle.std.specs.List.{AllByRecursion}
-use Rattle.std.specs.Prelude.{[], ◌+◌, ◌<◌, ◌==◌, ◌∷◌, ◌≡◌, ◌≢◌, ◌≤◌, Bool, false, if◌then◌else◌, IsSome, length, List, nat_lt, None, Option, slice_index}
-use Rattle.std.specs.Prelude.{Some, true, ℕ}
+use Rattle.std.specs.Prelude.{[], ◌+◌, ◌<◌, ◌==◌, ◌∷◌, ◌≡◌, ◌≢◌, ◌≤◌, Bool, false, if◌then◌else◌, IsSome, length}
+use Rattle.std.specs.Prelude.{List, nat_lt, None, Option, slice_index, Some, true, ℕ}
 use Rattle.vm_core.specs.{declared.event.Event.Event, declared.event.Mapping.Mapping, declared.event.Open.Open, declared.event.Seat.Seat}
 use Rattle.vm_core.specs.{Fn.sum_below, FrameActs.stands_in, State.Page, State.State, Step.IsOwned, Step.Legal}
 use Rattle.vm_core.specs.History.{History, World, world_after}
@@ -75,7 +75,8 @@ pub record ReadsPage (words : ℕ → List ℕ) (trans : Option Mapping) (o : Op
 
 -- an open read is at the page's version or an earlier one, and at an earlier one of an evicted page; at the version of a page that is
 -- neither locked nor evicted, it has read the page's frame
-pub record ReadInv (words : ℕ → List ℕ) (state version : ℕ) (trans : Option Mapping) (reading : Option Open) (loads : List (ℕ × ℕ)) : Type 0 where
+pub record ReadInv (words : ℕ → List ℕ) (state version : ℕ) (trans : Option Mapping) (reading : Option Open)
+    (loads : List (ℕ × ℕ)) : Type 0 where
   pub old : (o : Open) → reading ≡ Some o → o.version ≤ version
   pub evicted : state ≡ EVICTED → (o : Open) → reading ≡ Some o → o.version < version
   pub current : state ≢ LOCKED → state ≢ EVICTED → (o : Open) → reading ≡ Some o → o.version ≡ version → ReadsPage words trans o loads
@@ -92,39 +93,39 @@ pub record PageInv (actors size : ℕ) (tells : Bool) (words : ℕ → List ℕ)
 -- ---- frames
 
 -- where a frame is
-pub data Place : Type 0 where
-  Nowhere : Place
-  Free : Place
-  Held : (a : ℕ) → Place
-  Mapped : (p : ℕ) → Place
+pub data FramePlace : Type 0 where
+  Nowhere : FramePlace
+  Free : FramePlace
+  Held : (a : ℕ) → FramePlace
+  Mapped : (p : ℕ) → FramePlace
 
-abbrev pub at_free : Place → Bool
+abbrev pub at_free : FramePlace → Bool
 at_free Free = true
 at_free Nowhere = false
 at_free (Held a) = false
 at_free (Mapped p) = false
 
-abbrev pub at_actor : Place → ℕ → Bool
+abbrev pub at_actor : FramePlace → ℕ → Bool
 at_actor (Held b) a = a == b
 at_actor Nowhere a = false
 at_actor Free a = false
 at_actor (Mapped p) a = false
 
-abbrev pub at_page : Place → ℕ → Bool
+abbrev pub at_page : FramePlace → ℕ → Bool
 at_page (Mapped q) p = p == q
 at_page Nowhere p = false
 at_page Free p = false
 at_page (Held a) p = false
 
 -- the place names an actor or a page of the core, and is not nowhere
-abbrev pub IsFramePlace : ℕ → ℕ → Place → Type 0
+abbrev pub IsFramePlace : ℕ → ℕ → FramePlace → Type 0
 IsFramePlace actors pages Nowhere = ⊥
 IsFramePlace actors pages Free = Unit {0}
 IsFramePlace actors pages (Held a) = a < actors
 IsFramePlace actors pages (Mapped p) = p < pages
 
 -- frame f stands in one place: its set bit, an actor's held frames, or a page's translation
-pub record FrameInv (actors pages frames f : ℕ) (bit : Bool) (holders standers : ℕ → Bool) (x : Place) : Type 0 where
+pub record FrameInv (actors pages frames f : ℕ) (bit : Bool) (holders standers : ℕ → Bool) (x : FramePlace) : Type 0 where
   pub inside : f < frames → IsFramePlace actors pages x
   pub outside : frames ≤ f → x ≡ Nowhere
   pub free : bit ≡ at_free x
@@ -132,19 +133,22 @@ pub record FrameInv (actors pages frames f : ℕ) (bit : Bool) (holders standers
   pub mapped : (p : ℕ) → standers p ≡ at_page x p
 
 -- what holds of frame f of the core, at this place
-abbrev pub FrameIsAt : State → ℕ → Place → Type 0
+abbrev pub FrameIsAt : State → ℕ → FramePlace → Type 0
 FrameIsAt c f x =
-    FrameInv c.shape.actors c.shape.pages c.shape.frames f (has_free_bit c.bundles f) (λ a. c.held a f) (λ p. stands_in (c.pages p).trans f) x
+    FrameInv c.shape.actors c.shape.pages c.shape.frames f (has_free_bit c.bundles f) (λ a. c.held a f)
+    (λ p. stands_in (c.pages p).trans f) x
 
--- an owner word that names a page is that of the page's frame; and each page that stands in a frame and is not locked is named by its frame's word
+-- an owner word that names a page is that of the page's frame; and each page that stands in a frame and is not locked
+-- is named by its frame's word
 pub record OwnersInv (c : State) : Type 0 where
   pub named : (f p : ℕ) → c.owners f ≡ p + 1 → stands_in (c.pages p).trans f ≡ true
   pub owned : (p : ℕ) → (c.pages p).state ≢ LOCKED → IsOwned c p (p + 1)
 
--- the invariant: each frame stands in one place and has a page's words, the next word is no more than the pages, each page is in order, and so are
+-- the invariant: each frame stands in one place and has a page's words, the next word is no more than the pages, each
+-- page is in order, and so are
 -- the owner words
 pub record Inv (w : World) : Type 0 where
-  pub place : ℕ → Place
+  pub place : ℕ → FramePlace
   pub frames : (f : ℕ) → FrameIsAt w.core f (place f)
   pub words : (f : ℕ) → length (w.core.words f) ≡ w.core.size
   pub next : w.core.next ≤ w.core.shape.pages

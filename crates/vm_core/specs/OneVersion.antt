@@ -2,9 +2,11 @@
 use Rattle.std.specs.Prelude.{[], ◌∷◌, ◌≡◌, List, Option, Some, true, ℕ}
 use Rattle.vm_core.specs.{declared.event.Event.Event, declared.event.Open.Open, declared.event.ReadIs.TheVariants.Same, History.World}
 use Rattle.vm_core.specs.{History.world_after, Inv.Inv, Inv.LoadsAre, StateActs.finds, StateActs.left_of, Step.Legal, Words.version_of}
-use Rattle.vm_core.specs.declared.event.Event.TheVariants.{BLoad, Claim, Clean, Clear, Dirty, Disown, Downgrade, Give, Hand, Install, Load, LockS}
-use Rattle.vm_core.specs.declared.event.Event.TheVariants.{LockW, LockX, Look, Mark, NLoad, OLoad, Own, Raise, Read, Release, ReleaseE, RFail, Store}
-use Rattle.vm_core.specs.declared.event.Event.TheVariants.{PBLoad, PGive, PTake, Take, TLoad, UnlockS, Unmark, Upgrade, WFail, Write}
+use Rattle.vm_core.specs.declared.event.Event.TheVariants.{BLoad, Claim, Clean, Clear, Dirty, Disown, Downgrade, Give}
+use Rattle.vm_core.specs.declared.event.Event.TheVariants.{Hand, Install, Load, LockS, LockW, LockX, Look, Mark}
+use Rattle.vm_core.specs.declared.event.Event.TheVariants.{NLoad, OLoad, Own, Raise, Read, Release, ReleaseE, RFail}
+use Rattle.vm_core.specs.declared.event.Event.TheVariants.{Store, PBLoad, PGive, PTake, Take, TLoad, UnlockS, Unmark}
+use Rattle.vm_core.specs.declared.event.Event.TheVariants.{Upgrade, WFail, Write}
 
 -- the last version has the version of the actor's open read, and each word loaded through it is the word at its place there
 pub record IsOneVersion (w : World) (a p : ℕ) (o : Open) : Type 0 where

@@ -1,11 +1,14 @@
 -- The core at the start: every page evicted at the first version, every frame free and no page's.
 use Rattle.std.specs.List.{range_with_len}
-use Rattle.std.specs.Prelude.{[], ◌*◌, ◌+◌, ◌-◌, ◌^◌, ◌≡◌, ◌≤◌, Bool, false, if◌then◌else◌, length, List, map, min, nat_lt, None, replicate, true, ℕ}
+use Rattle.std.specs.Prelude.{[], ◌*◌, ◌+◌, ◌-◌, ◌^◌, ◌≡◌, ◌≤◌, Bool, false, if◌then◌else◌, length, List, map, min}
+use Rattle.std.specs.Prelude.{nat_lt, None, replicate, true, ℕ}
 use Rattle.vm_page.specs.declared.buf.TheConstants.{WORDS}
-use Rattle.vm_core.specs.{declared.event.CoreShape.CoreShape, declared.event.Seat.Seat, declared.words.TheConstants.FRAMES, History.World, State.Page}
-use Rattle.vm_core.specs.{State.State, Words.EVICTED, Words.MAX_VERSION}
+use Rattle.vm_core.specs.{declared.event.CoreShape.CoreShape, declared.event.Seat.Seat}
+use Rattle.vm_core.specs.{declared.words.TheConstants.FRAMES, History.World, State.Page, State.State, Words.EVICTED}
+use Rattle.vm_core.specs.{Words.MAX_VERSION}
 
--- what a core starts from: its shape with the next word, how many words a page has, the first version of its pages, and the blocks handed in by their words and
+-- what a core starts from: its shape with the next word, how many words a page has, the first version of its pages,
+-- and the blocks handed in by their words and
 -- counts of faults, and whether they tell their words
 pub record CoreStart : Type 0 where
   pub shape : CoreShape

@@ -1,8 +1,7 @@
 -- The words of the machine.
 use Rattle.std.specs.Int.{bit_at}
-use Rattle.std.specs.Prelude.{◌%◌, ◌&&◌, ◌*◌, ◌+◌, ◌-◌, ◌/◌, ◌<◌, ◌==◌, ◌^◌, ◌||◌, ◌≡◌, bit_and, Bool, if◌then◌else◌, min, nat_lt, None, Option, Some}
-use Rattle.std.specs.Prelude.{ℕ}
-pub use Rattle.vm_page.specs.Counts.{MAX_COUNT}
+use Rattle.std.specs.Prelude.{◌%◌, ◌&&◌, ◌*◌, ◌+◌, ◌-◌, ◌/◌, ◌<◌, ◌==◌, ◌^◌, ◌||◌, ◌≡◌, bit_and, Bool, if◌then◌else◌}
+use Rattle.std.specs.Prelude.{min, nat_lt, None, Option, Some, ℕ}
 unfoldable pub use Rattle.vm_page.specs.Counts.{count_more}
 use Rattle.vm_core.specs.{declared.words.TheConstants.FRAMES, declared.words.TheConstants.STRIDE, Fn.sum_below}
 

@@ -14,6 +14,7 @@ mod playing;
 mod words;
 
 pub use event::{CoreShape, Event, Illegal, Mapping, Open, PageAct, ReadIs, Seat, Seen};
-pub use machine::{Core, Memory};
+pub use machine::Core;
 pub use playing::{ReplayFault, replay};
+pub use vm_page::Memory;
 pub use words::{Bundle, DIRTY, FRAMES, MAX_VERSION, STRIDE, StateWord, TransWord};

@@ -19,21 +19,9 @@ use crate::initial::{
     bundle_count, start_bundles, start_frames, start_held, start_pages, start_words,
 };
 use crate::page::PageCell;
-use std::alloc::{AllocError, Global};
+use std::alloc::Global;
 use std::marker::Model;
-use thiserror::Error;
-use vm_page::WORDS;
-
-/// There was not enough memory.
-#[derive(Clone, Copy, Debug, Error, PartialEq)]
-#[error("out of memory")]
-pub struct Memory;
-
-impl From<AllocError> for Memory {
-    fn from(_: AllocError) -> Self {
-        Memory
-    }
-}
+use vm_page::{Memory, WORDS};
 
 /// The machine. For contracts it is the state `core_of core` of `specs/State.antt`: its shape, its pages, the words of its frames, its bundle
 /// words, the frames that each actor holds, the next word, the hand, the owner words, the free-number words and the page numbers

@@ -3,7 +3,7 @@ use Rattle.std.proofs.Common.{[], ◌++◌, ◌+◌, ◌<◌, ◌∷◌, ◌≡�
 use Rattle.vm_map.specs.{declared.call.Call.Call, declared.call.Reply.Reply, declared.call.Said.Said}
 use Rattle.vm_core.specs.Prelude.{MAX_VERSION, version_of}
 use Rattle.vm_rule.specs.Prelude.{entry_of}
-use Rattle.vm_rule.specs.declared.view.Place.TheVariants as places
+use Rattle.vm_rule.specs.declared.view.WordPlace.TheVariants as places
 use Rattle.vm_step.specs.Prelude.{HasGiven, Note, View}
 use Rattle.vm_tree_laws.specs.History.{saids}
 use Rattle.vm_tree_rule.specs.declared.fault.TreeFault.{TreeFault}
@@ -39,7 +39,8 @@ module _ {X : Type 0} where
     pub after : List Note
     pub grew : w.notes ≡ v.notes ++ (before ++ record { page = p; count = count } ∷ after)
 
--- on pages of n words, what the answer says: a reply became an entry of the pass, its next one, a window is a leaf's, and a range is that of
+-- on pages of n words, what the answer says: a reply became an entry of the pass, its next one, a window is a leaf's,
+-- and a range is that of
 -- leaves that stood together; a fault has none, and its cause
 abbrev pub IsCalled : ℕ → Call → Result Reply TreeFault → View Said → View Said → Type 0
 IsCalled n call (Ok reply) v w = (w.mine ≡ v.mine ++ entry_of v (record { call = call; reply = reply }) ∷ []) × IsReplyShown n w call reply
@@ -47,7 +48,8 @@ IsCalled n call (Err (Device p count)) v w = (w.mine ≡ v.mine) × HasNoted p c
 IsCalled n call (Err (Full pages)) v w = (w.mine ≡ v.mine) × IsPutCall call × (pages ≡ v.start.pages) × HasFoundNext pages w
 IsCalled n call (Err (Worn p)) v w = (w.mine ≡ v.mine) × HasFoundWorn p w
 
--- the calls were made, in order, with these answers: the pass's own entries are those before and the calls that had a reply; each fault of a
+-- the calls were made, in order, with these answers: the pass's own entries are those before and the calls that had a
+-- reply; each fault of a
 -- device has a note of its own, and each other one its cause; each window is a leaf's, and each range is that of leaves that stood together
 pub record HasDone (n : ℕ) (calls : List Call) (answers : List (Result Reply TreeFault)) (v w : View Said) : Type 0 where
   pub keeps : KeepsPass v w

@@ -1,11 +1,11 @@
 -- Lists of workers, place by place.
 use Rattle.std.specs.declared.alloc.Global.{Global}
 use Rattle.std.specs.List.{AllByRecursion}
-use Rattle.std.proofs.Common.{[], ◌++◌, ◌<◌, ◌∷◌, ◌≡◌, ap, arith, Bool, drop, get_or, length, List, refl, Result, subst, suc, sym, take, Vec}
-use Rattle.std.proofs.Common.{zero, ℕ}
+use Rattle.std.proofs.Common.{[], ◌++◌, ◌<◌, ◌∷◌, ◌≡◌, ap, arith, Bool, drop, get_or, length, List, refl, Result}
+use Rattle.std.proofs.Common.{subst, suc, sym, take, Vec, zero, ℕ}
 use Rattle.vm_map.specs.{declared.call.Call.Call, declared.call.Reply.Reply, declared.call.Said.Said}
 use Rattle.vm_rule.specs.Prelude.{TableId}
-use Rattle.vm_step.specs.Prelude.{Shape}
+use Rattle.vm_step.specs.Prelude.{TableShape}
 use Rattle.vm_tree_rule.specs.declared.fault.TreeFault.{TreeFault}
 use Rattle.vm_drive.specs.{declared.worker.Worker.Worker, Drives.items_of, Holds.list_at}
 use Rattle.vm_drive.specs.Crews.{AllWorked, AreIdle, HasWorked, IsIdle}
@@ -13,7 +13,9 @@ use Rattle.vm_drive.specs.{Compact.all_replies, Compact.HasContents, Compact.Kee
 use Rattle.vm_drive.specs.Kept.{AreKept, HaveRoom, IsRoomFor, Room}
 
 module _ {A : Type 0} (keeps : A → List (Result Reply TreeFault) → Type 0) (space : A → Room) where
-  pub room-snoc : (rooms : List A) (lists : List (List Call)) (room : A) (calls : List Call) → HaveRoom keeps space rooms lists → keeps room [] → IsRoomFor calls (space room) → HaveRoom keeps space (rooms ++ room ∷ []) (lists ++ calls ∷ [])
+  pub room-snoc : (rooms : List A) (lists : List (List Call)) (room : A) (calls : List Call)
+      → HaveRoom keeps space rooms lists → keeps room [] → IsRoomFor calls (space room)
+      → HaveRoom keeps space (rooms ++ room ∷ []) (lists ++ calls ∷ [])
   room-snoc [] [] room calls h e l = (e, l, tt)
   room-snoc [] (c ∷ cs) room calls h e l = absurd h
   room-snoc (r ∷ rs) [] room calls h e l = absurd h
@@ -26,24 +28,28 @@ module _ {A : Type 0} (keeps : A → List (Result Reply TreeFault) → Type 0) (
   room-long (r ∷ rs) (c ∷ cs) h = ap suc (room-long rs cs h.2)
 
 -- lists that stand for answers hold them, and have their windows and spans
-pub kept-replies : (kept : List Replies) (told : List (List (Result Reply TreeFault))) → AreKept KeepsAnswers kept told → all_replies kept ≡ told
+pub kept-replies : (kept : List Replies) (told : List (List (Result Reply TreeFault)))
+    → AreKept KeepsAnswers kept told → all_replies kept ≡ told
 kept-replies [] [] k = refl
 kept-replies [] (t ∷ ts) k = absurd k
 kept-replies (r ∷ rs) [] k = absurd k
 kept-replies (r ∷ rs) (t ∷ ts) k = let first = k.0.stands in let rest : all_replies rs ≡ ts = kept-replies rs ts k.1 in cc
 
-pub kept-contents : (kept : List Replies) (told : List (List (Result Reply TreeFault))) → AreKept KeepsAnswers kept told → AllByRecursion HasContents kept
+pub kept-contents : (kept : List Replies) (told : List (List (Result Reply TreeFault)))
+    → AreKept KeepsAnswers kept told → AllByRecursion HasContents kept
 kept-contents [] [] k = tt
 kept-contents [] (t ∷ ts) k = absurd k
 kept-contents (r ∷ rs) [] k = absurd k
-kept-contents (r ∷ rs) (t ∷ ts) k = (record { windows = omega (arith, k.0.shown); spans = omega (arith, k.0.paired) }, kept-contents rs ts k.1)
+kept-contents (r ∷ rs) (t ∷ ts) k =
+    (record { windows = omega (arith, k.0.shown); spans = omega (arith, k.0.paired) }, kept-contents rs ts k.1)
 
 pub items-long : {X : Type 0} (vectors : List (Vec X Global)) → length (items_of vectors) ≡ length vectors
 items-long [] = refl
 items-long (v ∷ vs) = ap suc (items-long vs)
 
 -- a vector whose whole slice was changed
-pub whole-back : {A : Type 0} (news olds : List A) (n : ℕ) → length news ≡ length olds → n ≡ length olds → take n (news ++ drop (length news) olds) ≡ news
+pub whole-back : {A : Type 0} (news olds : List A) (n : ℕ) → length news ≡ length olds → n ≡ length olds
+    → take n (news ++ drop (length news) olds) ≡ news
 whole-back [] [] zero e f = refl
 whole-back [] [] (suc n) e f = refl
 whole-back [] (y ∷ ys) n e f = absurd (omega arith)
@@ -51,30 +57,43 @@ whole-back (x ∷ xs) [] n e f = absurd (omega arith)
 whole-back (x ∷ xs) (y ∷ ys) zero e f = absurd (omega arith)
 whole-back (x ∷ xs) (y ∷ ys) (suc n) e f = ap (λ (l : List _). x ∷ l) (whole-back xs ys n (omega arith) (omega arith))
 
-module _ (size : ℕ) {U X A : Type 0} {owner : _} (keeps : A → List (Result Reply TreeFault) → Type 0) (space : A → Room) (shape : Shape) (tells : Bool) (t : TableId) where
-  pub idle-long : (lists : List (List Call)) (workers : List (Worker U A X owner)) → AreIdle size keeps space shape tells t lists workers → length lists ≡ length workers
+module _ (size : ℕ) {U X A : Type 0} {owner : _} (keeps : A → List (Result Reply TreeFault) → Type 0)
+    (space : A → Room) (shape : TableShape) (tells : Bool) (t : TableId) where
+  pub idle-long : (lists : List (List Call)) (workers : List (Worker U A X owner))
+      → AreIdle size keeps space shape tells t lists workers → length lists ≡ length workers
   idle-long [] [] a = refl
   idle-long [] (w ∷ ws) a = absurd a
   idle-long (c ∷ cs) [] a = absurd a
   idle-long (c ∷ cs) (w ∷ ws) a = ap suc (idle-long cs ws a.1)
 
-  pub idle-at : (lists : List (List Call)) (workers : List (Worker U A X owner)) (i : ℕ) (w : Worker U A X owner) → AreIdle size keeps space shape tells t lists workers → i < length workers → w ≡ get_or workers i w → IsIdle size keeps space shape tells t (list_at lists i) w
+  pub idle-at : (lists : List (List Call)) (workers : List (Worker U A X owner)) (i : ℕ) (w : Worker U A X owner)
+      → AreIdle size keeps space shape tells t lists workers → i < length workers → w ≡ get_or workers i w
+      → IsIdle size keeps space shape tells t (list_at lists i) w
   idle-at [] [] i w a l e = absurd (omega arith)
   idle-at [] (x ∷ xs) i w a l e = absurd a
   idle-at (c ∷ cs) [] i w a l e = absurd a
   idle-at (c ∷ cs) (x ∷ xs) zero w a l e = subst (λ (y : Worker U A X owner). IsIdle size keeps space shape tells t c y) (sym e) a.0
   idle-at (c ∷ cs) (x ∷ xs) (suc i) w a l e = idle-at cs xs i w a.1 (omega arith) e
 
-module _ (size : ℕ) {U A : Type 0} {owner : _} (keeps : A → List (Result Reply TreeFault) → Type 0) (shape : Shape) (tells : Bool) (t : TableId) where
-  pub worked-all : (lists : List (List Call)) (olds news : List (Worker U A Said owner)) → length lists ≡ length olds → length news ≡ length olds → ((i : ℕ) (d : Worker U A Said owner) → i < length olds → HasWorked size keeps shape tells t (list_at lists i) (get_or olds i d) (get_or news i d)) → AllWorked size keeps shape tells t lists olds news
+module _ (size : ℕ) {U A : Type 0} {owner : _} (keeps : A → List (Result Reply TreeFault) → Type 0)
+    (shape : TableShape) (tells : Bool) (t : TableId) where
+  pub worked-all : (lists : List (List Call)) (olds news : List (Worker U A Said owner)) → length lists ≡ length olds
+      → length news ≡ length olds
+      → ((i : ℕ) (d : Worker U A Said owner) → i < length olds → HasWorked size keeps shape tells t (list_at lists i)
+      (get_or olds i d) (get_or news i d)) → AllWorked size keeps shape tells t lists olds news
   worked-all [] [] [] e f each = tt
   worked-all [] [] (n ∷ ns) e f each = absurd (omega arith)
   worked-all [] (o ∷ os) ns e f each = absurd (omega arith)
   worked-all (c ∷ cs) [] ns e f each = absurd (omega arith)
   worked-all (c ∷ cs) (o ∷ os) [] e f each = absurd (omega arith)
-  worked-all (c ∷ cs) (o ∷ os) (n ∷ ns) e f each = (each 0 o (omega arith), worked-all cs os ns (omega arith) (omega arith) (λ i d l. each (suc i) d (omega arith)))
+  worked-all (c ∷ cs) (o ∷ os) (n ∷ ns) e f each = (
+    each 0 o (omega arith),
+    worked-all cs os ns (omega arith) (omega arith)
+        (λ i d l. each (suc i) d (omega arith)),
+  )
 
-  pub worked-long : (lists : List (List Call)) (olds news : List (Worker U A Said owner)) → AllWorked size keeps shape tells t lists olds news → length news ≡ length olds
+  pub worked-long : (lists : List (List Call)) (olds news : List (Worker U A Said owner))
+      → AllWorked size keeps shape tells t lists olds news → length news ≡ length olds
   worked-long [] [] [] a = refl
   worked-long [] [] (n ∷ ns) a = absurd a
   worked-long [] (o ∷ os) ns a = absurd a

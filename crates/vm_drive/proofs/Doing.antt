@@ -1,6 +1,6 @@
 -- What a worker has done grows by a call.
-use Rattle.std.proofs.Common.{[], ◌++◌, ◌+◌, ◌==◌, ◌∙◌, ◌∷◌, ◌≡◌, ◌≤◌, ap, append_assoc, arith, Err, if◌then◌else◌, length, List, Ok, refl, Result}
-use Rattle.std.proofs.Common.{subst, sym, ℕ}
+use Rattle.std.proofs.Common.{[], ◌++◌, ◌+◌, ◌==◌, ◌∙◌, ◌∷◌, ◌≡◌, ◌≤◌, ap, append_assoc, arith, Err, if◌then◌else◌}
+use Rattle.std.proofs.Common.{length, List, Ok, refl, Result, subst, sym, ℕ}
 use Rattle.std.proofs.lemmas.List.{length-append, map-append}
 use Rattle.vm_map.specs.{declared.call.Call.Call, declared.call.Reply.Reply, declared.call.Said.Said}
 use Rattle.vm_core.specs.Prelude.{no_seat}
@@ -24,7 +24,8 @@ notes-both p [] b = omega arith
 notes-both p (n ∷ ns) b = let h : notes_about p (ns ++ b) ≡ notes_about p ns + notes_about p b = notes-both p ns b in omega arith
 
 pub notes-rise : (p : ℕ) (l m : List Note) → StartsWith l m → notes_about p m ≤ notes_about p l
-notes-rise p l m s = let h : notes_about p l ≡ notes_about p m + notes_about p s.0 = ap (notes_about p) s.1 ∙ notes-both p m s.0 in omega arith
+notes-rise p l m s = let h : notes_about p l ≡ notes_about p m + notes_about p s.0 = ap (notes_about p) s.1
+    ∙ notes-both p m s.0 in omega arith
 
 pub faults-both : (p : ℕ) (a b : List (Result Reply TreeFault)) → faults_of p (a ++ b) ≡ faults_of p a + faults_of p b
 faults-both p [] b = omega arith
@@ -32,11 +33,14 @@ faults-both p (r ∷ rs) b = let h : faults_of p (rs ++ b) ≡ faults_of p rs + 
 
 module _ {X : Type 0} where
   -- a new note of a page is one more
-  pub noted-more : (p q count : ℕ) (v w : View X) → HasNoted q count v w → notes_about p v.notes + (if q == p then 1 else 0) ≤ notes_about p w.notes
+  pub noted-more : (p q count : ℕ) (v w : View X) → HasNoted q count v w
+      → notes_about p v.notes + (if q == p then 1 else 0) ≤ notes_about p w.notes
   noted-more p q count v w n =
       let one : Note = record { page = q; count = count } in
-      let all : notes_about p w.notes ≡ notes_about p v.notes + notes_about p (n.before ++ one ∷ n.after) = ap (notes_about p) n.grew ∙ notes-both p v.notes (n.before ++ one ∷ n.after) in
-      let new : notes_about p (n.before ++ one ∷ n.after) ≡ notes_about p n.before + ((if q == p then 1 else 0) + notes_about p n.after) = notes-both p n.before (one ∷ n.after) in
+      let all : notes_about p w.notes ≡ notes_about p v.notes + notes_about p (n.before ++ one ∷ n.after) =
+      ap (notes_about p) n.grew ∙ notes-both p v.notes (n.before ++ one ∷ n.after) in
+      let new : notes_about p (n.before ++ one ∷ n.after) ≡ notes_about p
+      n.before + ((if q == p then 1 else 0) + notes_about p n.after) = notes-both p n.before (one ∷ n.after) in
       omega arith
 
   -- ---- passes
@@ -55,7 +59,11 @@ module _ {X : Type 0} where
 
   pub keeps-then : (v w x : View X) → KeepsPass v w → KeepsPass w x → KeepsPass v x
   keeps-then v w x a b = record {
-    holds = λ q. record { shares = (b.holds q).shares ∙ (a.holds q).shares; exclusive = (b.holds q).exclusive ∙ (a.holds q).exclusive; writing = (b.holds q).writing ∙ (a.holds q).writing };
+    holds = λ q. record {
+      shares = (b.holds q).shares ∙ (a.holds q).shares;
+      exclusive = (b.holds q).exclusive ∙ (a.holds q).exclusive;
+      writing = (b.holds q).writing ∙ (a.holds q).writing;
+    };
     out = b.out ∙ a.out;
     start = b.start ∙ a.start;
     parts = (b.parts.0 ∙ a.parts.0, b.parts.1 ∙ a.parts.1);
@@ -68,7 +76,12 @@ module _ {X : Type 0} where
   -- frames that move leave the rest
   pub moves-keep : (done : List Did) (v w : View X) → MovesFrames done v w → KeepsPass v w
   moves-keep done v w m = record {
-    holds = λ q. let s : seat_of w q ≡ seat_of v q = ap (λ (l : List (Put Seat)). put_at no_seat l q) m.pages.0 in record { shares = ap (λ t. t.shares) s; exclusive = ap (λ t. t.exclusive) s; writing = ap (λ t. t.writing) s };
+    holds = λ q. let s : seat_of w q ≡ seat_of v q = ap (λ (l : List (Put Seat)). put_at no_seat l q) m.pages.0 in
+        record {
+          shares = ap (λ t. t.shares) s;
+          exclusive = ap (λ t. t.exclusive) s;
+          writing = ap (λ t. t.writing) s;
+        };
     out = m.out;
     start = m.start;
     parts = m.parts;
@@ -80,17 +93,21 @@ module _ {X : Type 0} where
 
 -- ---- lists of calls with their answers
 
-caused-snoc : (full worn : ℕ → Type 0) (cs : List Call) (rs : List (Result Reply TreeFault)) (c : Call) (r : Result Reply TreeFault) → length rs ≡ length cs → AreCausedBy full worn cs rs → CausedBy full worn c r → AreCausedBy full worn (cs ++ c ∷ []) (rs ++ r ∷ [])
+caused-snoc : (full worn : ℕ → Type 0) (cs : List Call) (rs : List (Result Reply TreeFault)) (c : Call)
+    (r : Result Reply TreeFault) → length rs ≡ length cs → AreCausedBy full worn cs rs → CausedBy full worn c r
+    → AreCausedBy full worn (cs ++ c ∷ []) (rs ++ r ∷ [])
 caused-snoc full worn [] [] c r e h k = (k, tt)
 caused-snoc full worn [] (r' ∷ rs) c r e h k = absurd (omega arith)
 caused-snoc full worn (c' ∷ cs) [] c r e h k = absurd (omega arith)
 caused-snoc full worn (c' ∷ cs) (r' ∷ rs) c r e h k = (h.0, caused-snoc full worn cs rs c r (omega arith) h.1 k)
 
-answered-snoc : (cs : List Call) (rs : List (Result Reply TreeFault)) (c : Call) (r : Result Reply TreeFault) → length rs ≡ length cs → answered (cs ++ c ∷ []) (rs ++ r ∷ []) ≡ answered cs rs ++ answered (c ∷ []) (r ∷ [])
+answered-snoc : (cs : List Call) (rs : List (Result Reply TreeFault)) (c : Call) (r : Result Reply TreeFault)
+    → length rs ≡ length cs → answered (cs ++ c ∷ []) (rs ++ r ∷ []) ≡ answered cs rs ++ answered (c ∷ []) (r ∷ [])
 answered-snoc [] [] c r e = refl
 answered-snoc [] (r' ∷ rs) c r e = absurd (omega arith)
 answered-snoc (c' ∷ cs) [] c r e = absurd (omega arith)
-answered-snoc (c' ∷ cs) (Ok reply ∷ rs) c r e = ap (λ (l : List Said). record { call = c'; reply = reply } ∷ l) (answered-snoc cs rs c r (omega arith))
+answered-snoc (c' ∷ cs) (Ok reply ∷ rs) c r e =
+    ap (λ (l : List Said). record { call = c'; reply = reply } ∷ l) (answered-snoc cs rs c r (omega arith))
 answered-snoc (c' ∷ cs) (Err fault ∷ rs) c r e = answered-snoc cs rs c r (omega arith)
 
 -- ---- what was done
@@ -100,7 +117,14 @@ same-mine v w e = ap (λ (l : List (Entry Said)). saids l) e ∙ sym (append-non
 
 module _ (size : ℕ) where
   pub done-none : (v : View Said) → HasDone size [] [] v v
-  done-none v = record { keeps = keeps-self v; long = refl; mine = sym (append-none (saids v.mine)); faults = λ p. omega arith; caused = tt; shown = tt }
+  done-none v = record {
+    keeps = keeps-self v;
+    long = refl;
+    mine = sym (append-none (saids v.mine));
+    faults = λ p. omega arith;
+    caused = tt;
+    shown = tt;
+  }
 
   -- what one call adds: its entry, its note, its cause
   pub record AddsCall (c : Call) (r : Result Reply TreeFault) (v w : View Said) : Type 0 where
@@ -137,31 +161,40 @@ module _ (size : ℕ) where
     shown = tt;
   }
 
-  pub done-more : (cs : List Call) (rs : List (Result Reply TreeFault)) (c : Call) (r : Result Reply TreeFault) (v w x : View Said) → HasDone size cs rs v w → KeepsPass w x → IsCalled size c r w x → HasDone size (cs ++ c ∷ []) (rs ++ r ∷ []) v x
+  pub done-more : (cs : List Call) (rs : List (Result Reply TreeFault)) (c : Call) (r : Result Reply TreeFault)
+      (v w x : View Said) → HasDone size cs rs v w → KeepsPass w x → IsCalled size c r w x
+      → HasDone size (cs ++ c ∷ []) (rs ++ r ∷ []) v x
   done-more cs rs c r v w x d k a =
       let one : AddsCall c r w x = adds-call c r w x k a in
       record {
         keeps = keeps-then v w x d.keeps k;
         long = length-append rs (r ∷ []) ∙ ap (λ n. n + 1) d.long ∙ sym (length-append cs (c ∷ []));
-        mine = one.mine ∙ ap (λ (l : List Said). l ++ answered (c ∷ []) (r ∷ [])) d.mine ∙ append_assoc (saids v.mine) (answered cs rs) (answered (c ∷ []) (r ∷ [])) ∙ ap (λ (l : List Said). saids v.mine ++ l) (sym (answered-snoc cs rs c r d.long));
+        mine = one.mine ∙ ap (λ (l : List Said). l ++ answered (c ∷ []) (r ∷ [])) d.mine ∙ append_assoc (saids v.mine)
+            (answered cs rs) (answered (c ∷ []) (r ∷ [])) ∙ ap (λ (l : List Said). saids v.mine ++ l)
+            (sym (answered-snoc cs rs c r d.long));
         faults = λ p.
             let before : notes_about p v.notes + faults_of p rs ≤ notes_about p w.notes = d.faults p in
             let new : notes_about p w.notes + is_fault p r ≤ notes_about p x.notes = one.faults p in
             let all : faults_of p (rs ++ r ∷ []) ≡ faults_of p rs + (is_fault p r + 0) = faults-both p rs (r ∷ []) in
             omega arith;
-        caused = caused-snoc (FoundFull x) (FoundWorn x) cs rs c r d.long (all-caused (FoundFull w) (FoundWorn w) (FoundFull x) (FoundWorn x) (λ n. found-later w x n k.start k.log) (λ p. max-later w x p k.start k.log) cs rs d.caused) one.caused;
+        caused = caused-snoc (FoundFull x) (FoundWorn x) cs rs c r d.long
+            (all-caused (FoundFull w) (FoundWorn w) (FoundFull x) (FoundWorn x) (λ n. found-later w x n k.start k.log)
+            (λ p. max-later w x p k.start k.log) cs rs d.caused) one.caused;
         shown = shown-snoc size x cs rs c r d.long (are-shown-more size w x k.start k.seen k.releases cs rs d.shown) one.shown;
       }
 
   -- frames that move afterwards leave it
-  pub done-moved : (cs : List Call) (rs : List (Result Reply TreeFault)) (v w x : View Said) (steps : List Did) → HasDone size cs rs v w → MovesFrames steps w x → HasDone size cs rs v x
+  pub done-moved : (cs : List Call) (rs : List (Result Reply TreeFault)) (v w x : View Said) (steps : List Did)
+      → HasDone size cs rs v w → MovesFrames steps w x → HasDone size cs rs v x
   done-moved cs rs v w x steps d m =
       let k : KeepsPass w x = moves-keep steps w x m in
       record {
         keeps = keeps-then v w x d.keeps k;
         long = d.long;
         mine = ap (λ (l : List (Entry Said)). saids l) m.mine ∙ d.mine;
-        faults = λ p. let h : notes_about p v.notes + faults_of p rs ≤ notes_about p w.notes = d.faults p in let s : notes_about p x.notes ≡ notes_about p w.notes = ap (notes_about p) m.notes in omega arith;
-        caused = all-caused (FoundFull w) (FoundWorn w) (FoundFull x) (FoundWorn x) (λ n. found-later w x n k.start k.log) (λ p. max-later w x p k.start k.log) cs rs d.caused;
+        faults = λ p. let h : notes_about p v.notes + faults_of p rs ≤ notes_about p w.notes = d.faults p in
+            let s : notes_about p x.notes ≡ notes_about p w.notes = ap (notes_about p) m.notes in omega arith;
+        caused = all-caused (FoundFull w) (FoundWorn w) (FoundFull x) (FoundWorn x)
+            (λ n. found-later w x n k.start k.log) (λ p. max-later w x p k.start k.log) cs rs d.caused;
         shown = are-shown-more size w x k.start k.seen k.releases cs rs d.shown;
       }

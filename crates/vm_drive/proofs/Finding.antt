@@ -3,8 +3,8 @@ use Rattle.std.proofs.Common.{◌++◌, ◌<◌, ◌∙◌, ◌∷◌, ◌≡◌
 use Rattle.vm_map.specs.declared.call.Said.{Said}
 use Rattle.vm_core.specs.Prelude.{MAX_VERSION, version_of}
 use Rattle.vm_rule.specs.Prelude.{StartsWith}
-use Rattle.vm_rule.specs.declared.view.Place.{Place}
-use Rattle.vm_rule.specs.declared.view.Place.TheVariants as places
+use Rattle.vm_rule.specs.declared.view.WordPlace.{WordPlace}
+use Rattle.vm_rule.specs.declared.view.WordPlace.TheVariants as places
 use Rattle.vm_step.specs.Prelude.{Did, HasGiven, Note, Origin, View}
 use Rattle.vm_guard.specs.declared.deny.Deny.TheVariants as denies
 use Rattle.vm_guard.specs.Denied.{AgainOrWorn, IsDenied}
@@ -12,7 +12,8 @@ use Rattle.vm_drive.proofs.Called.{HasFoundWorn, HasNoted}
 
 module _ {X : Type 0} where
   -- the steps of a call are among those of its pass
-  pub given-in : (done : List Did) (at : Place) (word : ℕ) (v w : View X) → w.log ≡ v.log ++ done → HasGiven done at word → HasGiven w.log at word
+  pub given-in : (done : List Did) (at : WordPlace) (word : ℕ) (v w : View X) → w.log ≡ v.log ++ done
+      → HasGiven done at word → HasGiven w.log at word
   given-in done at word v w log h = record {
     earlier = v.log ++ h.earlier;
     step = h.step;
@@ -22,7 +23,9 @@ module _ {X : Type 0} where
   }
 
   -- a page of the table that a call found at the last version
-  pub found-worn : (p : ℕ) (done : List Did) (u v w : View X) → w.log ≡ v.log ++ done → v.start ≡ u.start → w.start ≡ v.start → p < u.start.pages → (word : ℕ) → HasGiven done (places.State p) word → version_of word ≡ MAX_VERSION → HasFoundWorn p w
+  pub found-worn : (p : ℕ) (done : List Did) (u v w : View X) → w.log ≡ v.log ++ done → v.start ≡ u.start
+      → w.start ≡ v.start → p < u.start.pages → (word : ℕ) → HasGiven done (places.State p) word
+      → version_of word ≡ MAX_VERSION → HasFoundWorn p w
   found-worn p done u v w log from start inside word given last = record {
     inside = subst (λ (o : Origin). p < o.pages) (sym (start ∙ from)) inside;
     word = word;
@@ -52,7 +55,9 @@ module _ {X : Type 0} where
       }
 
 -- a lock that was denied since the page is worn
-pub denied-worn : (expects : ℕ → ℕ → Type 0) (kept : ℕ → Type 0) (p q : ℕ) (v w : View Said) → p < v.start.pages → IsDenied AgainOrWorn kept expects p (denies.Worn q) v w → HasFoundWorn q w
+pub denied-worn : (expects : ℕ → ℕ → Type 0) (kept : ℕ → Type 0) (p q : ℕ) (v w : View Said) → p < v.start.pages
+    → IsDenied AgainOrWorn kept expects p (denies.Worn q) v w → HasFoundWorn q w
 denied-worn expects kept p q v w inside d =
     let worn = d.evidence.1 in
-    subst (λ n. HasFoundWorn n w) (sym d.evidence.0) (found-worn p d.done v v w d.quiet.steady.log refl d.quiet.steady.start inside worn.word worn.given worn.last)
+    subst (λ n. HasFoundWorn n w) (sym d.evidence.0)
+    (found-worn p d.done v v w d.quiet.steady.log refl d.quiet.steady.start inside worn.word worn.given worn.last)

@@ -1,6 +1,6 @@
 -- What a drive leaves, from what was hired, what was worked and what was joined.
-use Rattle.std.proofs.Common.{[], ⊎_elim, ◌++◌, ◌+◌, ◌<◌, ◌∙◌, ◌∷◌, ◌≡◌, ◌≤◌, ap, append_assoc, arith, Bool, false, length, List, refl, Result}
-use Rattle.std.proofs.Common.{slice_index, subst, suc, sym, true, Vec, zero, ℕ}
+use Rattle.std.proofs.Common.{[], ⊎_elim, ◌++◌, ◌+◌, ◌<◌, ◌∙◌, ◌∷◌, ◌≡◌, ◌≤◌, ap, append_assoc, arith, Bool, false}
+use Rattle.std.proofs.Common.{length, List, refl, Result, slice_index, subst, suc, sym, true, Vec, zero, ℕ}
 use Rattle.std.specs.declared.alloc.Global.{Global}
 use Rattle.std.proofs.lemmas.List.{length-map}
 use Rattle.vm_map.specs.{declared.call.Call.Call, declared.call.Reply.Reply, declared.call.Said.Said, Map.Pairs}
@@ -8,14 +8,14 @@ use Rattle.vm_tree_model.specs.{Fixed.fixed, Tree.map_of}
 use Rattle.vm_rule.specs.Prelude.{AreApart, Each, entries_by, Entry, has, HoldsNoPage, IsWhole, owns, TableId, times}
 use Rattle.vm_rule.proofs.Entries.{each-map}
 use Rattle.vm_rule_laws.specs.Known.{kept_by}
-use Rattle.vm_step.specs.Prelude.{Did, Note, Shape, View, view}
+use Rattle.vm_step.specs.Prelude.{Did, Note, TableShape, View, view}
 use Rattle.vm_pool.specs.Parting.{KeepsAll}
 use Rattle.vm_tree_laws.specs.History.{saids}
 use Rattle.vm_tree_rule.specs.declared.fault.TreeFault.{TreeFault}
 use Rattle.vm_drive.specs.{declared.worker.Worker.Worker, Kept.AreKept, Kept.HaveRoom, Kept.Room, Shows.AllShown, Shows.AreShown}
 use Rattle.vm_drive.specs.Causes.{all_faults_of, faults_of, notes_about}
-use Rattle.vm_drive.specs.Crews.{all_notes_of, AllWorked, answers_of, AreHired, AreIdle, AreJoined, HasWorked, IsBack, IsIn, IsNewWorker, number_of}
-use Rattle.vm_drive.specs.Crews.{numbers_of, spans_given, worker_logs, worker_notes}
+use Rattle.vm_drive.specs.Crews.{all_notes_of, AllWorked, answers_of, AreHired, AreIdle, AreJoined, HasWorked, IsBack}
+use Rattle.vm_drive.specs.Crews.{IsIn, IsNewWorker, number_of, numbers_of, spans_given, worker_logs, worker_notes}
 use Rattle.vm_drive.specs.Spans.{HaveSpans}
 use Rattle.vm_drive.specs.Parts.{HasPart, HaveParts, logs_of, noted_by, StandBehind, StandIn}
 use Rattle.vm_drive.specs.Drives.{IsAtLastVersion, IsDriven, IsUsedUp}
@@ -24,7 +24,8 @@ use Rattle.vm_drive.proofs.{Called.FoundFull, Called.FoundWorn, Called.HasDone, 
 use Rattle.vm_drive.proofs.{Framing.none-left, Hiring.all-then, Hiring.holds-none, Parted.traced, Parts.behind-less, Parts.stands-after}
 use Rattle.vm_drive.proofs.Plainly.{plain-legal}
 use Rattle.vm_drive.proofs.Showing.{are-shown-more}
-use Rattle.vm_drive.proofs.Lists.{all-in, behind, each-both-of, each-right, has-both, none-in, one-place, others-only, place-of, starts-then}
+use Rattle.vm_drive.proofs.Lists.{all-in, behind, each-both-of, each-right, has-both, none-in, one-place, others-only}
+use Rattle.vm_drive.proofs.Lists.{place-of, starts-then}
 use Rattle.vm_drive.proofs.Tracing.{lists-caused, used-up, worn-out}
 
 numbers-long : {U A : Type 0} {owner : _} (ds : List (Worker U A Said owner)) → length (numbers_of ds) ≡ length ds
@@ -33,20 +34,24 @@ numbers-long (d ∷ ds) = ap suc (numbers-long ds)
 
 module _ (size : ℕ) {U A : Type 0} {owner : _} where
   -- the number and the causes of one worker, with these answers, in the terms of the joined pass
-  pub record IsFinished (w : View Said) (rest : List (Entry Said)) (calls : List Call) (d : Worker U A Said owner) (told : List (Result Reply TreeFault)) : Type 0 where
+  pub record IsFinished (w : View Said) (rest : List (Entry Said)) (calls : List Call) (d : Worker U A Said owner)
+      (told : List (Result Reply TreeFault)) : Type 0 where
     pub said : said_by (number_of d) rest ≡ answered calls told
     pub long : length told ≡ length calls
     pub faults : (p : ℕ) → faults_of p told ≤ notes_about p (view d.pass).notes
     pub shown : AreShown size w calls told
 
-  abbrev pub AreFinished : View Said → List (Entry Said) → List (List Call) → List (Worker U A Said owner) → List (List (Result Reply TreeFault)) → Type 0
+  abbrev pub AreFinished : View Said → List (Entry Said) → List (List Call) → List (Worker U A Said owner)
+      → List (List (Result Reply TreeFault)) → Type 0
   AreFinished w rest [] [] [] = Unit {0}
   AreFinished w rest (c ∷ cs) (d ∷ ds) (t ∷ ts) = IsFinished w rest c d t × AreFinished w rest cs ds ts
   AreFinished w rest _ _ _ = ⊥
 
   -- ---- place by place
 
-  finished-long : (w : View Said) (rest : List (Entry Said)) (lists : List (List Call)) (ds : List (Worker U A Said owner)) (ts : List (List (Result Reply TreeFault))) → AreFinished w rest lists ds ts → (length ds ≡ length lists) × (length ts ≡ length lists)
+  finished-long : (w : View Said) (rest : List (Entry Said)) (lists : List (List Call))
+      (ds : List (Worker U A Said owner)) (ts : List (List (Result Reply TreeFault))) → AreFinished w rest lists ds ts
+      → (length ds ≡ length lists) × (length ts ≡ length lists)
   finished-long w rest [] [] [] f = (refl, refl)
   finished-long w rest [] [] (t ∷ ts) f = absurd f
   finished-long w rest [] (d ∷ ds) ts f = absurd f
@@ -54,21 +59,28 @@ module _ (size : ℕ) {U A : Type 0} {owner : _} where
   finished-long w rest (c ∷ cs) (d ∷ ds) [] f = absurd f
   finished-long w rest (c ∷ cs) (d ∷ ds) (t ∷ ts) f = let more = finished-long w rest cs ds ts f.1 in (ap suc more.0, ap suc more.1)
 
-  finished-lens : (w : View Said) (rest : List (Entry Said)) (lists : List (List Call)) (ds : List (Worker U A Said owner)) (ts : List (List (Result Reply TreeFault))) (i : ℕ) → AreFinished w rest lists ds ts → i < length lists → length (list_at ts i) ≡ length (list_at lists i)
+  finished-lens : (w : View Said) (rest : List (Entry Said)) (lists : List (List Call))
+      (ds : List (Worker U A Said owner)) (ts : List (List (Result Reply TreeFault))) (i : ℕ)
+      → AreFinished w rest lists ds ts → i < length lists → length (list_at ts i) ≡ length (list_at lists i)
   finished-lens w rest [] ds ts i f l = absurd (omega arith)
   finished-lens w rest (c ∷ cs) [] ts i f l = absurd f
   finished-lens w rest (c ∷ cs) (d ∷ ds) [] i f l = absurd f
   finished-lens w rest (c ∷ cs) (d ∷ ds) (t ∷ ts) zero f l = f.0.long
   finished-lens w rest (c ∷ cs) (d ∷ ds) (t ∷ ts) (suc i) f l = finished-lens w rest cs ds ts i f.1 (omega arith)
 
-  finished-said : (w : View Said) (rest : List (Entry Said)) (lists : List (List Call)) (ds : List (Worker U A Said owner)) (ts : List (List (Result Reply TreeFault))) (i : ℕ) → AreFinished w rest lists ds ts → i < length lists → said_by (slice_index (numbers_of ds) i) rest ≡ answered (list_at lists i) (list_at ts i)
+  finished-said : (w : View Said) (rest : List (Entry Said)) (lists : List (List Call))
+      (ds : List (Worker U A Said owner)) (ts : List (List (Result Reply TreeFault))) (i : ℕ)
+      → AreFinished w rest lists ds ts → i < length lists → said_by (slice_index (numbers_of ds) i) rest ≡ answered
+      (list_at lists i) (list_at ts i)
   finished-said w rest [] ds ts i f l = absurd (omega arith)
   finished-said w rest (c ∷ cs) [] ts i f l = absurd f
   finished-said w rest (c ∷ cs) (d ∷ ds) [] i f l = absurd f
   finished-said w rest (c ∷ cs) (d ∷ ds) (t ∷ ts) zero f l = f.0.said
   finished-said w rest (c ∷ cs) (d ∷ ds) (t ∷ ts) (suc i) f l = finished-said w rest cs ds ts i f.1 (omega arith)
 
-  finished-faults : (w : View Said) (rest : List (Entry Said)) (lists : List (List Call)) (ds : List (Worker U A Said owner)) (ts : List (List (Result Reply TreeFault))) (p : ℕ) → AreFinished w rest lists ds ts → all_faults_of p ts ≤ all_notes_of p ds
+  finished-faults : (w : View Said) (rest : List (Entry Said)) (lists : List (List Call))
+      (ds : List (Worker U A Said owner)) (ts : List (List (Result Reply TreeFault))) (p : ℕ)
+      → AreFinished w rest lists ds ts → all_faults_of p ts ≤ all_notes_of p ds
   finished-faults w rest [] [] [] p f = omega arith
   finished-faults w rest [] [] (t ∷ ts) p f = absurd f
   finished-faults w rest [] (d ∷ ds) ts p f = absurd f
@@ -79,7 +91,9 @@ module _ (size : ℕ) {U A : Type 0} {owner : _} where
       let others : all_faults_of p ts ≤ all_notes_of p ds = finished-faults w rest cs ds ts p f.1 in
       omega arith
 
-  finished-shown : (w : View Said) (rest : List (Entry Said)) (lists : List (List Call)) (ds : List (Worker U A Said owner)) (ts : List (List (Result Reply TreeFault))) → AreFinished w rest lists ds ts → AllShown size w lists ts
+  finished-shown : (w : View Said) (rest : List (Entry Said)) (lists : List (List Call))
+      (ds : List (Worker U A Said owner)) (ts : List (List (Result Reply TreeFault))) → AreFinished w rest lists ds ts
+      → AllShown size w lists ts
   finished-shown w rest [] ds ts f = tt
   finished-shown w rest (c ∷ cs) [] ts f = absurd f
   finished-shown w rest (c ∷ cs) (d ∷ ds) [] f = absurd f
@@ -91,19 +105,29 @@ cons-both : {a b : ℕ} {l m : List ℕ} → a ≡ b → l ≡ m → a ∷ l ≡
 cons-both {a} {b} {l} {m} e f = ap (λ (x : ℕ). x ∷ l) e ∙ ap (λ (y : List ℕ). b ∷ y) f
 
 -- each entry behind what the first pass had seen has the number of a worker
-only-theirs : (v x w : View Said) (ns : List ℕ) (rest : List (Entry Said)) → w.seen ≡ v.seen ++ rest → v.mine ≡ v.seen → x.used ≡ v.used → x.mine ≡ v.mine → w.used ≡ x.used ++ ns → w.mine ≡ entries_by w.used w.seen → w.mine ≡ w.seen → entries_by x.used w.seen ≡ x.mine → Each (λ e. has e.number ns ≡ true) rest
+only-theirs : (v x w : View Said) (ns : List ℕ) (rest : List (Entry Said)) → w.seen ≡ v.seen ++ rest → v.mine ≡ v.seen
+    → x.used ≡ v.used → x.mine ≡ v.mine → w.used ≡ x.used ++ ns → w.mine ≡ entries_by w.used w.seen → w.mine ≡ w.seen
+    → entries_by x.used w.seen ≡ x.mine → Each (λ e. has e.number ns ≡ true) rest
 only-theirs v x w ns rest seen whole used mine more own all ours =
-    let every : Each (λ (e : Entry Said). has e.number w.used ≡ true) rest = each-right (λ e. has e.number w.used ≡ true) v.seen rest (subst (λ l. Each (λ e. has e.number w.used ≡ true) l) seen (all-in w.used w.seen (sym own ∙ all))) in
-    let none : entries_by v.used rest ≡ [] = others-only v.used v.seen rest (ap (λ l. entries_by v.used l) (sym seen) ∙ ap (λ l. entries_by l w.seen) (sym used) ∙ ours ∙ mine ∙ whole) in
+    let every : Each (λ (e : Entry Said). has e.number w.used ≡ true) rest =
+    each-right (λ e. has e.number w.used ≡ true) v.seen rest
+    (subst (λ l. Each (λ e. has e.number w.used ≡ true) l) seen (all-in w.used w.seen (sym own ∙ all))) in
+    let none : entries_by v.used rest ≡ [] =
+    others-only v.used v.seen rest
+    (ap (λ l. entries_by v.used l) (sym seen) ∙ ap (λ l. entries_by l w.seen) (sym used) ∙ ours ∙ mine ∙ whole) in
     each-both-of (λ e. has e.number w.used ≡ true) (λ e. has e.number v.used ≡ false) (λ e. has e.number ns ≡ true)
     (λ e y n. sym (has-both e.number v.used ns n) ∙ ap (λ l. has e.number l) (ap (λ l. l ++ ns) (sym used) ∙ sym more) ∙ y)
     rest every (none-in v.used rest none)
 
-module _ (size : ℕ) {U A : Type 0} {owner : _} (keeps : A → List (Result Reply TreeFault) → Type 0) (shape : Shape) (tells : Bool) (t : TableId) where
+module _ (size : ℕ) {U A : Type 0} {owner : _} (keeps : A → List (Result Reply TreeFault) → Type 0)
+    (shape : TableShape) (tells : Bool) (t : TableId) where
   same-number : (calls : List Call) (o n : Worker U A Said owner) → HasWorked size keeps shape tells t calls o n → number_of n ≡ number_of o
-  same-number calls o n h = ap (λ l. slice_index l 0) (kept-done size keeps calls n.answers (view o.pass) (view n.pass) h.done).keeps.parts.0
+  same-number calls o n h =
+      ap (λ l. slice_index l 0)
+      (kept-done size keeps calls n.answers (view o.pass) (view n.pass) h.done).keeps.parts.0
 
-  pub same-numbers : (lists : List (List Call)) (olds news : List (Worker U A Said owner)) → AllWorked size keeps shape tells t lists olds news → numbers_of news ≡ numbers_of olds
+  pub same-numbers : (lists : List (List Call)) (olds news : List (Worker U A Said owner))
+      → AllWorked size keeps shape tells t lists olds news → numbers_of news ≡ numbers_of olds
   same-numbers [] [] [] a = refl
   same-numbers [] [] (n ∷ ns) a = absurd a
   same-numbers [] (o ∷ os) ns a = absurd a
@@ -112,7 +136,8 @@ module _ (size : ℕ) {U A : Type 0} {owner : _} (keeps : A → List (Result Rep
   same-numbers (c ∷ cs) (o ∷ os) (n ∷ ns) a = cons-both (same-number c o n a.0) (same-numbers cs os ns a.1)
 
   -- the answers that what was kept stands for
-  pub told_of : (lists : List (List Call)) (olds news : List (Worker U A Said owner)) → AllWorked size keeps shape tells t lists olds news → List (List (Result Reply TreeFault))
+  pub told_of : (lists : List (List Call)) (olds news : List (Worker U A Said owner))
+      → AllWorked size keeps shape tells t lists olds news → List (List (Result Reply TreeFault))
   told_of [] [] [] a = []
   told_of [] [] (n ∷ ns) a = absurd a
   told_of [] (o ∷ os) ns a = absurd a
@@ -120,7 +145,9 @@ module _ (size : ℕ) {U A : Type 0} {owner : _} (keeps : A → List (Result Rep
   told_of (c ∷ cs) (o ∷ os) [] a = absurd a
   told_of (c ∷ cs) (o ∷ os) (n ∷ ns) a = a.0.done.told ∷ told_of cs os ns a.1
 
-  pub all_kept : (lists : List (List Call)) (olds news : List (Worker U A Said owner)) (a : AllWorked size keeps shape tells t lists olds news) → AreKept keeps (answers_of news) (told_of lists olds news a)
+  pub all_kept : (lists : List (List Call)) (olds news : List (Worker U A Said owner))
+      (a : AllWorked size keeps shape tells t lists olds news)
+      → AreKept keeps (answers_of news) (told_of lists olds news a)
   unfolding told_of
   all_kept [] [] [] a = tt
   all_kept [] [] (n ∷ ns) a = absurd a
@@ -130,32 +157,41 @@ module _ (size : ℕ) {U A : Type 0} {owner : _} (keeps : A → List (Result Rep
   all_kept (c ∷ cs) (o ∷ os) (n ∷ ns) a = (a.0.done.stands, all_kept cs os ns a.1)
 
   finish : (v w : View Said) (rest : List (Entry Said)) (calls : List Call) (o n : Worker U A Said owner) → w.seen ≡ v.seen ++ rest
-      → (h : HasWorked size keeps shape tells t calls o n) → IsNewWorker shape tells t v o → entries_by (number_of o ∷ []) v.seen ≡ [] → IsIn w n → IsFinished size w rest calls n h.done.told
+      → (h : HasWorked size keeps shape tells t calls o n) → IsNewWorker shape tells t v o
+      → entries_by (number_of o ∷ []) v.seen ≡ [] → IsIn w n → IsFinished size w rest calls n h.done.told
   finish v w rest calls o n seen h new none i =
       let told = h.done.told in
       let did = kept-done size keeps calls n.answers (view o.pass) (view n.pass) h.done in
       let same : number_of n ≡ number_of o = same-number calls o n h in
       let unused : entries_by (number_of n ∷ []) v.seen ≡ [] = ap (λ k. entries_by (k ∷ []) v.seen) same ∙ none in
-      let mine : entries_by (number_of n ∷ []) rest ≡ (view n.pass).mine = behind (number_of n ∷ []) v.seen rest (view n.pass).mine unused (ap (λ l. entries_by (number_of n ∷ []) l) (sym seen) ∙ i.entries) in
+      let mine : entries_by (number_of n ∷ []) rest ≡ (view n.pass).mine =
+      behind (number_of n ∷ []) v.seen rest (view n.pass).mine unused
+      (ap (λ l. entries_by (number_of n ∷ []) l) (sym seen) ∙ i.entries) in
       record {
         said = ap (λ l. saids l) mine ∙ did.mine ∙ ap (λ l. saids l ++ answered calls told) new.said;
         long = did.long;
-        faults = λ p. let all : notes_about p (view o.pass).notes + faults_of p told ≤ notes_about p (view n.pass).notes = did.faults p in omega arith;
+        faults = λ p. let all : notes_about p (view o.pass).notes + faults_of p told ≤ notes_about p
+            (view n.pass).notes = did.faults p in omega arith;
         shown = are-shown-more size (view n.pass) w (sym i.start) i.heard i.saw calls told did.shown;
       }
 
-  finish-all : (v w : View Said) (rest : List (Entry Said)) (lists : List (List Call)) (olds news : List (Worker U A Said owner)) → w.seen ≡ v.seen ++ rest
-      → (a : AllWorked size keeps shape tells t lists olds news) → Each (IsNewWorker shape tells t v) olds → Each (λ n. entries_by (n ∷ []) v.seen ≡ []) (numbers_of olds) → Each (IsIn w) news → AreFinished size w rest lists news (told_of lists olds news a)
+  finish-all : (v w : View Said) (rest : List (Entry Said)) (lists : List (List Call))
+      (olds news : List (Worker U A Said owner)) → w.seen ≡ v.seen ++ rest
+      → (a : AllWorked size keeps shape tells t lists olds news) → Each (IsNewWorker shape tells t v) olds
+      → Each (λ n. entries_by (n ∷ []) v.seen ≡ []) (numbers_of olds) → Each (IsIn w) news
+      → AreFinished size w rest lists news (told_of lists olds news a)
   unfolding told_of
   finish-all v w rest [] [] [] seen a new none i = tt
   finish-all v w rest [] [] (n ∷ ns) seen a new none i = absurd a
   finish-all v w rest [] (o ∷ os) ns seen a new none i = absurd a
   finish-all v w rest (c ∷ cs) [] ns seen a new none i = absurd a
   finish-all v w rest (c ∷ cs) (o ∷ os) [] seen a new none i = absurd a
-  finish-all v w rest (c ∷ cs) (o ∷ os) (n ∷ ns) seen a new none i = (finish v w rest c o n seen a.0 new.0 none.0 i.0, finish-all v w rest cs os ns seen a.1 new.1 none.1 i.1)
+  finish-all v w rest (c ∷ cs) (o ∷ os) (n ∷ ns) seen a new none i =
+      (finish v w rest c o n seen a.0 new.0 none.0 i.0, finish-all v w rest cs os ns seen a.1 new.1 none.1 i.1)
 
   -- what the workers' passes knew behind their last calls
-  pub passes_of : (lists : List (List Call)) (olds news : List (Worker U A Said owner)) → AllWorked size keeps shape tells t lists olds news → List (View Said)
+  pub passes_of : (lists : List (List Call)) (olds news : List (Worker U A Said owner))
+      → AllWorked size keeps shape tells t lists olds news → List (View Said)
   passes_of [] [] [] a = []
   passes_of [] [] (n ∷ ns) a = absurd a
   passes_of [] (o ∷ os) ns a = absurd a
@@ -163,7 +199,9 @@ module _ (size : ℕ) {U A : Type 0} {owner : _} (keeps : A → List (Result Rep
   passes_of (c ∷ cs) (o ∷ os) [] a = absurd a
   passes_of (c ∷ cs) (o ∷ os) (n ∷ ns) a = a.0.done.made ∷ passes_of cs os ns a.1
 
-  part-in : (v w : View Said) (calls : List Call) (o n : Worker U A Said owner) (h : HasWorked size keeps shape tells t calls o n) → IsNewWorker shape tells t v o → IsIn w n → HasPart size w calls h.done.told h.done.made
+  part-in : (v w : View Said) (calls : List Call) (o n : Worker U A Said owner)
+      (h : HasWorked size keeps shape tells t calls o n) → IsNewWorker shape tells t v o → IsIn w n
+      → HasPart size w calls h.done.told h.done.made
   part-in v w calls o n h new i =
       let k = h.done in
       let m = k.back.1 in
@@ -179,7 +217,9 @@ module _ (size : ℕ) {U A : Type 0} {owner : _} (keeps : A → List (Result Rep
         saw = starts-then w.releases (view n.pass).releases k.made.releases i.saw m.releases;
       }
 
-  parts-in : (v w : View Said) (lists : List (List Call)) (olds news : List (Worker U A Said owner)) (a : AllWorked size keeps shape tells t lists olds news) → Each (IsNewWorker shape tells t v) olds → Each (IsIn w) news → HaveParts size w lists (told_of lists olds news a) (passes_of lists olds news a)
+  parts-in : (v w : View Said) (lists : List (List Call)) (olds news : List (Worker U A Said owner))
+      (a : AllWorked size keeps shape tells t lists olds news) → Each (IsNewWorker shape tells t v) olds
+      → Each (IsIn w) news → HaveParts size w lists (told_of lists olds news a) (passes_of lists olds news a)
   unfolding told_of passes_of
   parts-in v w [] [] [] a new i = tt
   parts-in v w [] [] (n ∷ ns) a new i = absurd a
@@ -189,7 +229,9 @@ module _ (size : ℕ) {U A : Type 0} {owner : _} (keeps : A → List (Result Rep
   parts-in v w (c ∷ cs) (o ∷ os) (n ∷ ns) a new i = (part-in v w c o n a.0 new.0 i.0, parts-in v w cs os ns a.1 new.1 i.1)
 
   -- where the workers' steps stand, those until their last calls stand too
-  logs-in : (lists : List (List Call)) (olds news : List (Worker U A Said owner)) (a : AllWorked size keeps shape tells t lists olds news) (all : List Did) → StandIn (worker_logs news) all → StandIn (logs_of (passes_of lists olds news a)) all
+  logs-in : (lists : List (List Call)) (olds news : List (Worker U A Said owner))
+      (a : AllWorked size keeps shape tells t lists olds news) (all : List Did) → StandIn (worker_logs news) all
+      → StandIn (logs_of (passes_of lists olds news a)) all
   unfolding passes_of
   logs-in [] [] [] a all s = tt
   logs-in [] [] (n ∷ ns) a all s = absurd a
@@ -205,18 +247,23 @@ module _ (size : ℕ) {U A : Type 0} {owner : _} (keeps : A → List (Result Rep
         stands-after (logs_of (passes_of cs os ns a.1)) steps s.1 (logs-in cs os ns a.1 s.1 s.3),
       )
 
-  notes-in : (lists : List (List Call)) (olds news : List (Worker U A Said owner)) (a : AllWorked size keeps shape tells t lists olds news) (all : List Note) → StandIn (worker_notes news) all → StandIn (noted_by (passes_of lists olds news a)) all
+  notes-in : (lists : List (List Call)) (olds news : List (Worker U A Said owner))
+      (a : AllWorked size keeps shape tells t lists olds news) (all : List Note) → StandIn (worker_notes news) all
+      → StandIn (noted_by (passes_of lists olds news a)) all
   unfolding passes_of
   notes-in [] [] [] a all s = tt
   notes-in [] [] (n ∷ ns) a all s = absurd a
   notes-in [] (o ∷ os) ns a all s = absurd a
   notes-in (c ∷ cs) [] ns a all s = absurd a
   notes-in (c ∷ cs) (o ∷ os) [] a all s = absurd a
-  notes-in (c ∷ cs) (o ∷ os) (n ∷ ns) a all s = (s.0, s.1, s.2 ∙ ap (λ (l : List Note). s.0 ++ (l ++ s.1)) a.0.done.back.1.notes, notes-in cs os ns a.1 s.1 s.3)
+  notes-in (c ∷ cs) (o ∷ os) (n ∷ ns) a all s =
+      (s.0, s.1, s.2 ∙ ap (λ (l : List Note). s.0 ++ (l ++ s.1)) a.0.done.back.1.notes, notes-in cs os ns a.1 s.1 s.3)
 
-  pub driven : (lists : List (List Call)) (rooms : List A) (spans : List (Vec (Pairs × ℕ) Global)) (v x w : View Said) (olds news : List (Worker U A Said owner))
+  pub driven : (lists : List (List Call)) (rooms : List A) (spans : List (Vec (Pairs × ℕ) Global)) (v x w : View Said)
+      (olds news : List (Worker U A Said owner))
       → IsWhole v → HoldsNoPage v → 1 ≤ length olds
-      → AreHired shape tells t rooms spans v olds x → (a : AllWorked size keeps shape tells t lists olds news) → AreJoined size tells x news w
+      → AreHired shape tells t rooms spans v olds x → (a : AllWorked size keeps shape tells t lists olds news)
+      → AreJoined size tells x news w
       → IsDriven size tells lists (told_of lists olds news a) v w
   driven lists rooms spans v x w olds news whole holds some' h a j =
       let same : numbers_of news ≡ numbers_of olds = same-numbers lists olds news a in
@@ -227,7 +274,8 @@ module _ (size : ℕ) {U A : Type 0} {owner : _} (keeps : A → List (Result Rep
       let back : owns k w ≡ owns k x + times k (numbers_of olds) = j.parts k ∙ ap (λ ns. owns k x + times k ns) same in
       omega arith in
       let none : HoldsNoPage w = holds-none v w holds kept in
-      let mine : v.mine ≡ v.seen = ⊎_elim (λ e. let zero' : length olds ≡ 0 = ap length e.0 in absurd (omega arith)) (λ known. known whole) h.all in
+      let mine : v.mine ≡ v.seen = ⊎_elim (λ e. let zero' : length olds ≡ 0 = ap length e.0 in absurd (omega arith))
+      (λ known. known whole) h.all in
       let all : w.mine ≡ w.seen = j.knows.all alone in
       let rest = kept.seen.0 in
       let seen : w.seen ≡ v.seen ++ rest = kept.seen.1 in
@@ -237,9 +285,11 @@ module _ (size : ℕ) {U A : Type 0} {owner : _} (keeps : A → List (Result Rep
       let apart : AreApart (numbers_of news) = subst (λ ns. AreApart ns) (sym same) h.apart in
       let passes = passes_of lists olds news a in
       let parts : HaveParts size w lists told passes = parts-in v w lists olds news a h.each j.each in
-      let logs : StandBehind v.log (logs_of passes) w.log = behind-less v.log x.log h.log.0 (logs_of passes) w.log h.log.1 (j.logs.0, j.logs.1, logs-in lists olds news a j.logs.0 j.logs.2) in
+      let logs : StandBehind v.log (logs_of passes) w.log = behind-less v.log x.log h.log.0 (logs_of passes) w.log
+      h.log.1 (j.logs.0, j.logs.1, logs-in lists olds news a j.logs.0 j.logs.2) in
       let noted : StandBehind x.notes (noted_by passes) w.notes = (j.noted.0, j.noted.1, notes-in lists olds news a j.noted.0 j.noted.2) in
-      let theirs : Each (λ (e : Entry Said). has e.number (numbers_of news) ≡ true) rest = only-theirs v x w (numbers_of news) rest seen mine h.used h.mine j.used j.mine all j.ours in
+      let theirs : Each (λ (e : Entry Said). has e.number (numbers_of news) ≡ true) rest =
+      only-theirs v x w (numbers_of news) rest seen mine h.used h.mine j.used j.mine all j.ours in
       record {
         alone = (alone, j.current);
         holds = none;
@@ -252,19 +302,25 @@ module _ (size : ℕ) {U A : Type 0} {owner : _} (keeps : A → List (Result Rep
         mine = all ∙ seen ∙ ap (λ l. l ++ rest) (sym mine);
         calls = record {
           numbers = λ i. slice_index (numbers_of news) i;
-          apart = λ i k l m e. one-place (numbers_of news) i k apart (let n = numbers-long news in let many = long.0 in omega arith) (let n = numbers-long news in let many = long.0 in omega arith) e;
+          apart = λ i k l m e. one-place (numbers_of news) i k apart (let n = numbers-long news in let many =
+              long.0 in omega arith) (let n = numbers-long news in let many = long.0 in omega arith) e;
           lists_long = long.1;
           each_long = λ i l. finished-lens size w rest lists news told i finished l;
           each = λ i l. finished-said size w rest lists news told i finished l;
-          only = each-map (λ e. has e.number (numbers_of news) ≡ true) (λ e. (i : ℕ) × (i < length lists) × (e.number ≡ slice_index (numbers_of news) i))
-              (λ e y. let at = place-of e.number (numbers_of news) y in (at.0, (let n = numbers-long news in let many = long.0 in let b = at.1 in omega arith), at.2)) rest theirs;
+          only = each-map (λ e. has e.number (numbers_of news) ≡ true)
+              (λ e. (i : ℕ) × (i < length lists) × (e.number ≡ slice_index (numbers_of news) i))
+              (λ e y. let at = place-of e.number (numbers_of news) y in
+              (at.0, (let n = numbers-long news in let many = long.0 in let b = at.1 in omega arith), at.2)) rest
+              theirs;
         };
         faults = λ p.
             let notes : notes_about p w.notes ≡ notes_about p x.notes + all_notes_of p news = j.notes p in
             let old : notes_about p x.notes ≡ notes_about p v.notes = ap (notes_about p) h.notes in
             let theirs' : all_faults_of p told ≤ all_notes_of p news = finished-faults size w rest lists news told p finished in
             omega arith;
-        caused = lists-caused (FoundFull w) (FoundWorn w) (IsUsedUp w) (IsAtLastVersion w) (λ n. used-up w n (kept_by w).next (j.knows.next alone)) (λ p. worn-out w p (j.knows.last alone)) lists told (traced size v.log w lists told passes parts logs);
+        caused = lists-caused (FoundFull w) (FoundWorn w) (IsUsedUp w) (IsAtLastVersion w)
+            (λ n. used-up w n (kept_by w).next (j.knows.next alone)) (λ p. worn-out w p (j.knows.last alone)) lists
+            told (traced size v.log w lists told passes parts logs);
         shown = finished-shown size w rest lists news told finished;
         passes = passes;
         parts = parts;
@@ -273,7 +329,9 @@ module _ (size : ℕ) {U A : Type 0} {owner : _} (keeps : A → List (Result Rep
       }
 
   -- those that have worked are back
-  pub worked-back : (lists : List (List Call)) (v x : View Said) (olds news : List (Worker U A Said owner)) → x.start ≡ v.start → AllWorked size keeps shape tells t lists olds news → Each (IsNewWorker shape tells t v) olds → Each (IsBack shape tells t x) news
+  pub worked-back : (lists : List (List Call)) (v x : View Said) (olds news : List (Worker U A Said owner))
+      → x.start ≡ v.start → AllWorked size keeps shape tells t lists olds news
+      → Each (IsNewWorker shape tells t v) olds → Each (IsBack shape tells t x) news
   worked-back [] v x [] [] start a new = tt
   worked-back [] v x [] (n ∷ ns) start a new = absurd a
   worked-back [] v x (o ∷ os) ns start a new = absurd a
@@ -293,17 +351,36 @@ module _ (size : ℕ) {U A : Type 0} {owner : _} (keeps : A → List (Result Rep
 
 -- ---- between the parts of a drive
 
-module _ (size : ℕ) {U A : Type 0} {owner : _} (keeps : A → List (Result Reply TreeFault) → Type 0) (shape : Shape) (tells : Bool) (t : TableId) where
-  idle-with : (space : A → Room) (lists : List (List Call)) (ds : List (Worker U A Said owner)) (v : View Said) → Each (IsNewWorker shape tells t v) ds → HaveRoom keeps space (answers_of ds) lists → HaveSpans size lists (spans_given ds) → AreIdle size keeps space shape tells t lists ds
+module _ (size : ℕ) {U A : Type 0} {owner : _} (keeps : A → List (Result Reply TreeFault) → Type 0)
+    (shape : TableShape) (tells : Bool) (t : TableId) where
+  idle-with : (space : A → Room) (lists : List (List Call)) (ds : List (Worker U A Said owner)) (v : View Said)
+      → Each (IsNewWorker shape tells t v) ds → HaveRoom keeps space (answers_of ds) lists
+      → HaveSpans size lists (spans_given ds) → AreIdle size keeps space shape tells t lists ds
   idle-with space [] [] v new r s = tt
   idle-with space [] (d ∷ ds) v new r s = absurd r
   idle-with space (c ∷ cs) [] v new r s = absurd r
-  idle-with space (c ∷ cs) (d ∷ ds) v new r s = (record { work = new.0.work; holds = new.0.holds; empty = r.0; room = r.1; spans = s.0 }, idle-with space cs ds v new.1 r.2 s.1)
+  idle-with space (c ∷ cs) (d ∷ ds) v new r s = (
+    record {
+      work = new.0.work;
+      holds = new.0.holds;
+      empty = r.0;
+      room = r.1;
+      spans = s.0;
+    },
+    idle-with space cs ds v new.1 r.2 s.1,
+  )
 
   -- those that were hired are idle, with room and spans for their lists
-  pub hired-idle : (space : A → Room) (lists : List (List Call)) (rooms : List A) (spans : List (Vec (Pairs × ℕ) Global)) (v x : View Said) (ds : List (Worker U A Said owner)) → AreHired shape tells t rooms spans v ds x → HaveRoom keeps space rooms lists → HaveSpans size lists spans → AreIdle size keeps space shape tells t lists ds
+  pub hired-idle : (space : A → Room) (lists : List (List Call)) (rooms : List A)
+      (spans : List (Vec (Pairs × ℕ) Global)) (v x : View Said) (ds : List (Worker U A Said owner))
+      → AreHired shape tells t rooms spans v ds x → HaveRoom keeps space rooms lists → HaveSpans size lists spans
+      → AreIdle size keeps space shape tells t lists ds
   hired-idle space lists rooms spans v x ds h r s =
-      idle-with space lists ds v h.each (subst (λ l. HaveRoom keeps space l lists) (sym h.answers) r) (subst (λ l. HaveSpans size lists l) (sym h.spans) s)
+      idle-with space lists ds v h.each (subst (λ l. HaveRoom keeps space l lists) (sym h.answers) r)
+      (subst (λ l. HaveSpans size lists l) (sym h.spans) s)
 
-  pub hired-long : (space : A → Room) (lists : List (List Call)) (rooms : List A) (spans : List (Vec (Pairs × ℕ) Global)) (v : View Said) (ds : List (Worker U A Said owner)) (x : View Said) → AreHired shape tells t rooms spans v ds x → HaveRoom keeps space rooms lists → length ds ≡ length lists
-  hired-long space lists rooms spans v ds x h r = sym (length-map ds (λ (d : Worker U A Said owner). d.answers)) ∙ ap (λ (l : List A). length l) h.answers ∙ room-long keeps space rooms lists r
+  pub hired-long : (space : A → Room) (lists : List (List Call)) (rooms : List A)
+      (spans : List (Vec (Pairs × ℕ) Global)) (v : View Said) (ds : List (Worker U A Said owner)) (x : View Said)
+      → AreHired shape tells t rooms spans v ds x → HaveRoom keeps space rooms lists → length ds ≡ length lists
+  hired-long space lists rooms spans v ds x h r = sym (length-map ds (λ (d : Worker U A Said owner). d.answers))
+      ∙ ap (λ (l : List A). length l) h.answers ∙ room-long keeps space rooms lists r

@@ -13,17 +13,20 @@ module _ {X : Type 0} where
   given-loses frames v w g f e =
       ⊎_elim
       (λ (own : has f frames ≡ true). absurd (true≢false (sym e ∙ g.left f ∙ ap (λ (b : Bool). if b then false else has f v.frames) own)))
-      (λ (other : has f frames ≡ false). inr (sym (ap (λ (b : Bool). if b then false else has f v.frames) other) ∙ sym (g.left f) ∙ e, other))
+      (λ (other : has f frames ≡ false).
+      inr (sym (ap (λ (b : Bool). if b then false else has f v.frames) other) ∙ sym (g.left f) ∙ e, other))
       (cases_Bool (has f frames))
 
   -- a pass that began with no frame has none where none is left to it
   pub none-left : (old : List ℕ) (v w : View X) → v.frames ≡ [] → LosesNone old v [] w → (f : ℕ) → has f w.frames ≡ false
   none-left old v w none lost f =
       ⊎_elim
-      (λ (t : has f w.frames ≡ true). ⊎_elim (λ (no : false ≡ true). absurd (true≢false (sym no))) (λ k. absurd (true≢false (sym k.0 ∙ ap (has f) none))) (lost f t))
+      (λ (t : has f w.frames ≡ true). ⊎_elim (λ (no : false ≡ true). absurd (true≢false (sym no)))
+      (λ k. absurd (true≢false (sym k.0 ∙ ap (has f) none))) (lost f t))
       (λ n. n)
       (cases_Bool (has f w.frames))
 
   -- frames behind those of a pass that has none are all there are
-  pub none-added : (v u w : View X) → w.frames ≡ u.frames ++ v.frames → ((f : ℕ) → has f u.frames ≡ false) → (f : ℕ) → has f w.frames ≡ has f v.frames
+  pub none-added : (v u w : View X) → w.frames ≡ u.frames ++ v.frames → ((f : ℕ) → has f u.frames ≡ false) → (f : ℕ)
+      → has f w.frames ≡ has f v.frames
   none-added v u w all none f = ap (has f) all ∙ has-both f u.frames v.frames ∙ ap (λ (b : Bool). b || has f v.frames) (none f)

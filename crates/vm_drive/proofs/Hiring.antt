@@ -1,13 +1,13 @@
 -- One worker more is hired.
-use Rattle.std.proofs.Common.{[], ⊎_elim, ◌++◌, ◌+◌, ◌==◌, ◌∙◌, ◌∷◌, ◌≡◌, ◌≤◌, ap, arith, Bool, false, if◌then◌else◌, inr, length, List, refl}
-use Rattle.std.proofs.Common.{slice_index, subst, sym, true, true≢false, Vec, ℕ}
+use Rattle.std.proofs.Common.{[], ⊎_elim, ◌++◌, ◌+◌, ◌==◌, ◌∙◌, ◌∷◌, ◌≡◌, ◌≤◌, ap, arith, Bool, false, if◌then◌else◌}
+use Rattle.std.proofs.Common.{inr, length, List, refl, slice_index, subst, sym, true, true≢false, Vec, ℕ}
 use Rattle.std.specs.declared.alloc.Global.{Global}
 use Rattle.std.proofs.lemmas.Bool.{cases_eq, eq-eqb, ne_eqb}
 use Rattle.std.proofs.lemmas.List.{length-append, map-append}
 use Rattle.vm_map.specs.{declared.call.Said.Said, Map.Pairs}
 use Rattle.vm_rule.specs.Prelude.{Each, entries_by, has, HoldsNoPage, HoldsNothing, IsWhole, other_parts, owns, TableId, times}
 use Rattle.vm_rule.proofs.Entries.{each-map}
-use Rattle.vm_step.specs.Prelude.{AreHeld, HasStill, IsReady, Shape, View, view}
+use Rattle.vm_step.specs.Prelude.{AreHeld, HasStill, IsReady, TableShape, View, view}
 use Rattle.vm_step.proofs.{Still.caught-still, Still.still-fresh, Together.holds-none as nothing-holds, Together.new-nothing}
 use Rattle.vm_pool.specs.Parting.{KeepsAll, Splits}
 use Rattle.vm_drive.specs.Crews.{AreAtHome, AreHired, IsNewWorker, number_of, numbers_of, spans_given}
@@ -17,7 +17,11 @@ use Rattle.vm_drive.proofs.Lists.{apart-snoc, each-snoc, front-none, starts-then
 module _ {X : Type 0} where
   pub all-then : (v w x : View X) → KeepsAll v w → KeepsAll w x → KeepsAll v x
   all-then v w x a b = record {
-    holds = λ q. record { shares = (b.holds q).shares ∙ (a.holds q).shares; exclusive = (b.holds q).exclusive ∙ (a.holds q).exclusive; writing = (b.holds q).writing ∙ (a.holds q).writing };
+    holds = λ q. record {
+      shares = (b.holds q).shares ∙ (a.holds q).shares;
+      exclusive = (b.holds q).exclusive ∙ (a.holds q).exclusive;
+      writing = (b.holds q).writing ∙ (a.holds q).writing;
+    };
     out = b.out ∙ a.out;
     start = b.start ∙ a.start;
     seen = starts-then x.seen w.seen v.seen b.seen a.seen;
@@ -33,7 +37,8 @@ module _ {X : Type 0} where
 
   -- a pass that gave a part away has what it had
   pub split-keeps : (v u w : View X) → Splits v u w → HasStill v w
-  split-keeps v u w s = subst (λ (y : View X). HasStill v y) (sym s.left) (still-fresh v s.middle (other_parts s.middle.fresh) (caught-still v s.middle s.caught))
+  split-keeps v u w s = subst (λ (y : View X). HasStill v y) (sym s.left)
+      (still-fresh v s.middle (other_parts s.middle.fresh) (caught-still v s.middle s.caught))
 
 -- a number that the fresh ones begin with is another than one that is not among them
 tail-false : (n m : ℕ) (ms : List ℕ) → has n (m ∷ ms) ≡ false → has n ms ≡ false
@@ -52,20 +57,28 @@ not-among m rest (n ∷ ns) e =
     (cases_eq m n)
 
 -- one more behind those that are at home
-pub home-snoc : {U X A : Type 0} {owner : _} (first cap : ℕ) (ds : List (Worker U A X owner)) (d : Worker U A X owner) → AreAtHome first cap ds → d.iface.home ≡ first + length ds → d.iface.cap ≡ cap → AreAtHome first cap (ds ++ d ∷ [])
+pub home-snoc : {U X A : Type 0} {owner : _} (first cap : ℕ) (ds : List (Worker U A X owner)) (d : Worker U A X owner)
+    → AreAtHome first cap ds → d.iface.home ≡ first + length ds → d.iface.cap ≡ cap
+    → AreAtHome first cap (ds ++ d ∷ [])
 home-snoc first cap [] d h home size = (omega arith, size, tt)
 home-snoc first cap (e ∷ es) d h home size = (h.0, h.1, home-snoc (first + 1) cap es d h.2 (omega arith) size)
 
-module _ {U A : Type 0} {owner : _} (shape : Shape) (tells : Bool) (t : TableId) where
+module _ {U A : Type 0} {owner : _} (shape : TableShape) (tells : Bool) (t : TableId) where
   -- the worker with a pass that was just split off
-  pub is-new : 1 ≤ shape.pages → (v w x : View Said) (d : Worker U A Said owner) → KeepsAll v w → Splits w (view d.pass) x → IsReady shape tells t d.pass → d.iface.frames ≡ [] → IsNewWorker shape tells t v d
+  pub is-new : 1 ≤ shape.pages → (v w x : View Said) (d : Worker U A Said owner) → KeepsAll v w
+      → Splits w (view d.pass) x → IsReady shape tells t d.pass → d.iface.frames ≡ [] → IsNewWorker shape tells t v d
   is-new pages v w x d kept s ready none =
       let is = s.new in
       let used : (view d.pass).used ≡ s.number ∷ [] = ap (λ (y : View Said). y.used) is in
       let one : number_of d ≡ s.number = ap (λ l. slice_index l 0) used in
       let nothing : HoldsNothing (view d.pass) = new-nothing w.start (s.number ∷ []) x.releases x.seen (view d.pass) is in
       record {
-        work = record { ready = ready; pages = pages; home = nothing.out; frames = subst (λ (l : List ℕ). AreHeld l (view d.pass)) (sym none) (record { apart = tt; inside = tt; held = tt }) };
+        work = record {
+          ready = ready;
+          pages = pages;
+          home = nothing.out;
+          frames = subst (λ (l : List ℕ). AreHeld l (view d.pass)) (sym none) (record { apart = tt; inside = tt; held = tt });
+        };
         holds = nothing-holds (view d.pass) nothing;
         parts = (used ∙ ap (λ n. n ∷ []) (sym one), ap (λ (y : View Said). y.fresh) is);
         start = ap (λ (y : View Said). y.start) is ∙ kept.start;
@@ -75,7 +88,8 @@ module _ {U A : Type 0} {owner : _} (shape : Shape) (tells : Bool) (t : TableId)
         frames = ap (λ (y : View Said). y.frames) is;
       }
 
-  pub hired-more : 1 ≤ shape.pages → (rooms : List A) (spans : List (Vec (Pairs × ℕ) Global)) (v : View Said) (ds : List (Worker U A Said owner)) (w x : View Said) (d : Worker U A Said owner)
+  pub hired-more : 1 ≤ shape.pages → (rooms : List A) (spans : List (Vec (Pairs × ℕ) Global)) (v : View Said)
+      (ds : List (Worker U A Said owner)) (w x : View Said) (d : Worker U A Said owner)
       → AreHired shape tells t rooms spans v ds w → Splits w (view d.pass) x → IsReady shape tells t d.pass → d.iface.frames ≡ []
       → AreHired shape tells t (rooms ++ d.answers ∷ []) (spans_given (ds ++ d ∷ [])) v (ds ++ d ∷ []) x
   hired-more pages rooms spans v ds w x d h s ready none =
@@ -83,7 +97,10 @@ module _ {U A : Type 0} {owner : _} (shape : Shape) (tells : Bool) (t : TableId)
       let one : number_of d ≡ s.number = ap (λ (y : View Said). slice_index y.used 0) s.new in
       let numbers : numbers_of (ds ++ d ∷ []) ≡ numbers_of ds ++ number_of d ∷ [] = map-append number_of ds (d ∷ []) in
       let fresh : w.fresh ≡ number_of d ∷ x.fresh = s.given ∙ ap (λ n. n ∷ x.fresh) (sym one) in
-      let others : Each (λ n. has n (number_of d ∷ x.fresh) ≡ false) (numbers_of ds) = each-map (λ n. (has n v.used ≡ false) × (has n w.fresh ≡ false)) (λ n. has n (number_of d ∷ x.fresh) ≡ false) (λ n e. subst (λ l. has n l ≡ false) fresh e.1) (numbers_of ds) h.foreign in
+      let others : Each (λ n. has n (number_of d ∷ x.fresh) ≡ false) (numbers_of ds) =
+      each-map (λ n. (has n v.used ≡ false) × (has n w.fresh ≡ false))
+      (λ n. has n (number_of d ∷ x.fresh) ≡ false) (λ n e. subst (λ l. has n l ≡ false) fresh e.1) (numbers_of ds)
+      h.foreign in
       let kept : KeepsAll v x = all-then v w x h.kept s.kept in
       record {
         kept = kept;
@@ -92,19 +109,28 @@ module _ {U A : Type 0} {owner : _} (shape : Shape) (tells : Bool) (t : TableId)
         log = starts-then x.log w.log v.log still.log h.log;
         used = still.used ∙ h.used;
         frames = still.frames.0 ∙ h.frames;
-        count = (let before = h.count in let fewer : length w.fresh ≡ length (number_of d ∷ x.fresh) = ap length fresh in let more : length (ds ++ d ∷ []) ≡ length ds + 1 = length-append ds (d ∷ []) in omega arith);
+        count = (let before = h.count in let fewer : length w.fresh ≡ length (number_of d ∷ x.fresh) =
+            ap length fresh in let more : length (ds ++ d ∷ []) ≡ length ds + 1 = length-append ds (d ∷ []) in
+            omega arith);
         parts = λ k.
             let before : owns k v ≡ owns k w + times k (numbers_of ds) = h.parts k in
-            let more : times k (numbers_of (ds ++ d ∷ [])) ≡ times k (numbers_of ds) + (((if number_of d == k then 1 else 0) + 0)) = ap (times k) numbers ∙ times-both k (numbers_of ds) (number_of d ∷ []) in
+            let more : times k (numbers_of (ds ++ d ∷ [])) ≡ times k
+            (numbers_of ds) + (((if number_of d == k then 1 else 0) + 0)) = ap (times k) numbers
+            ∙ times-both k (numbers_of ds) (number_of d ∷ []) in
             let old : times k w.fresh ≡ (if number_of d == k then 1 else 0) + times k x.fresh = ap (times k) fresh in
             let same : times k x.used ≡ times k w.used = ap (times k) still.used in
             omega arith;
         apart = rw numbers (apart-snoc (numbers_of ds) (number_of d) h.apart (not-among (number_of d) x.fresh (numbers_of ds) others));
         foreign = rw numbers (each-snoc (λ n. (has n v.used ≡ false) × (has n x.fresh ≡ false)) (numbers_of ds) (number_of d)
-            (each-map (λ n. (has n v.used ≡ false) × (has n w.fresh ≡ false)) (λ n. (has n v.used ≡ false) × (has n x.fresh ≡ false)) (λ n e. (e.0, tail-false n (number_of d) x.fresh (subst (λ l. has n l ≡ false) fresh e.1))) (numbers_of ds) h.foreign)
+            (each-map (λ n. (has n v.used ≡ false) × (has n w.fresh ≡ false))
+            (λ n. (has n v.used ≡ false) × (has n x.fresh ≡ false))
+            (λ n e. (e.0, tail-false n (number_of d) x.fresh (subst (λ l. has n l ≡ false) fresh e.1)))
+            (numbers_of ds) h.foreign)
             (ap (λ n. has n v.used) one ∙ ap (λ l. has s.number l) (sym h.used) ∙ s.foreign.0, ap (λ n. has n x.fresh) one ∙ s.foreign.1));
         unused = rw numbers (each-snoc (λ n. entries_by (n ∷ []) v.seen ≡ []) (numbers_of ds) (number_of d) h.unused
-            (front-none (number_of d ∷ []) v.seen kept.seen.0 (ap (λ l. entries_by (number_of d ∷ []) l) (sym kept.seen.1) ∙ ap (λ n. entries_by (n ∷ []) x.seen) one ∙ s.unused)));
+            (front-none (number_of d ∷ []) v.seen kept.seen.0
+            (ap (λ l. entries_by (number_of d ∷ []) l) (sym kept.seen.1) ∙ ap (λ n. entries_by (n ∷ []) x.seen)
+            one ∙ s.unused)));
         each = each-snoc (IsNewWorker shape tells t v) ds d h.each (is-new pages v w x d h.kept s ready none);
         answers = map-append (λ (worker : Worker U A Said owner). worker.answers) ds (d ∷ []) ∙ ap (λ l. l ++ d.answers ∷ []) h.answers;
         spans = refl;

@@ -14,24 +14,30 @@ use Rattle.vm_drive.proofs.{Doing.notes-both, Framing.none-added, Hiring.all-the
 use Rattle.vm_drive.proofs.Lists.{each-snoc, has-last, has-left, nested, nested-one, starts-then, times-both}
 
 module _ {U A : Type 0} {owner : _} where
-  all-notes-snoc : (p : ℕ) (ds : List (Worker U A Said owner)) (d : Worker U A Said owner) → all_notes_of p (ds ++ d ∷ []) ≡ all_notes_of p ds + notes_about p (view d.pass).notes
+  all-notes-snoc : (p : ℕ) (ds : List (Worker U A Said owner)) (d : Worker U A Said owner)
+      → all_notes_of p (ds ++ d ∷ []) ≡ all_notes_of p ds + notes_about p (view d.pass).notes
   all-notes-snoc p [] d = omega arith
-  all-notes-snoc p (e ∷ es) d = let h : all_notes_of p (es ++ d ∷ []) ≡ all_notes_of p es + notes_about p (view d.pass).notes = all-notes-snoc p es d in omega arith
+  all-notes-snoc p (e ∷ es) d = let h : all_notes_of p (es ++ d ∷ []) ≡ all_notes_of p es + notes_about p
+      (view d.pass).notes = all-notes-snoc p es d in omega arith
 
   -- a worker that is in stays in
-  stays-in : (keeps : Start → Kept Said → Type 0) (tells : Bool) (w x : View Said) (u : View Said) (d : Worker U A Said owner) → Joins tells keeps w u x → w.mine ≡ entries_by w.used w.seen → IsIn w d → IsIn x d
+  stays-in : (keeps : Start → Kept Said → Type 0) (tells : Bool) (w x : View Said) (u : View Said)
+      (d : Worker U A Said owner) → Joins tells keeps w u x → w.mine ≡ entries_by w.used w.seen → IsIn w d → IsIn x d
   stays-in keeps tells w x u d j mine i =
       let n = number_of d in
       record {
         number = ap (λ (l : List ℕ). has n l) j.used ∙ has-left n w.used u.used i.number;
-        entries = sym (nested-one n w.used x.seen i.number) ∙ ap (λ (l : List (Entry Said)). entries_by (n ∷ []) l) (j.ours ∙ mine) ∙ nested-one n w.used w.seen i.number ∙ i.entries;
+        entries = sym (nested-one n w.used x.seen i.number) ∙ ap (λ (l : List (Entry Said)). entries_by (n ∷ []) l)
+            (j.ours ∙ mine) ∙ nested-one n w.used w.seen i.number ∙ i.entries;
         start = i.start ∙ sym j.kept.start;
         heard = starts-then x.seen w.seen (view d.pass).seen j.kept.seen i.heard;
         saw = starts-then x.releases w.releases (view d.pass).releases j.saw.0 i.saw;
       }
 
   -- the worker whose pass was joined now is in
-  comes-in : (keeps : Start → Kept Said → Type 0) (tells : Bool) (w x : View Said) (d : Worker U A Said owner) → Joins tells keeps w (view d.pass) x → (view d.pass).used ≡ number_of d ∷ [] → (view d.pass).start ≡ w.start → IsIn x d
+  comes-in : (keeps : Start → Kept Said → Type 0) (tells : Bool) (w x : View Said) (d : Worker U A Said owner)
+      → Joins tells keeps w (view d.pass) x → (view d.pass).used ≡ number_of d ∷ [] → (view d.pass).start ≡ w.start
+      → IsIn x d
   comes-in keeps tells w x d j one start =
       let n = number_of d in
       record {
@@ -47,7 +53,10 @@ module _ {U A : Type 0} {owner : _} where
     abbrev pub JoinedSoFar : List (Worker U A Said owner) → View Said → Type 0
     JoinedSoFar ds w = ((ds ≡ []) × (w ≡ x)) ⊎ AreJoined size tells x ds w
 
-    first-joined : (w : View Said) (d : Worker U A Said owner) → Joins tells (KeepsPlain as_said (fixed size)) x (view d.pass) w → (view d.pass).used ≡ number_of d ∷ [] → (view d.pass).fresh ≡ [] → (view d.pass).start ≡ x.start → ((f : ℕ) → has f (view d.pass).frames ≡ false) → AreJoined size tells x (d ∷ []) w
+    first-joined : (w : View Said) (d : Worker U A Said owner) → Joins tells (KeepsPlain as_said (fixed size)) x
+        (view d.pass) w → (view d.pass).used ≡ number_of d ∷ [] → (view d.pass).fresh ≡ []
+        → (view d.pass).start ≡ x.start → ((f : ℕ) → has f (view d.pass).frames ≡ false)
+        → AreJoined size tells x (d ∷ []) w
     first-joined w d j one none start bare = record {
       kept = j.kept;
       current = j.current;
@@ -57,7 +66,8 @@ module _ {U A : Type 0} {owner : _} where
           let own : times k (view d.pass).used ≡ times k (numbers_of (d ∷ [])) = ap (times k) one in
           let no : times k (view d.pass).fresh ≡ 0 = ap (times k) none in
           omega arith;
-      notes = λ p. let h : notes_about p w.notes ≡ notes_about p x.notes + notes_about p (view d.pass).notes = ap (notes_about p) j.notes ∙ notes-both p x.notes (view d.pass).notes in omega arith;
+      notes = λ p. let h : notes_about p w.notes ≡ notes_about p x.notes + notes_about p (view d.pass).notes =
+          ap (notes_about p) j.notes ∙ notes-both p x.notes (view d.pass).notes in omega arith;
       logs = behind-first x.log (view d.pass).log j.steps w.log j.log;
       noted = behind-first x.notes (view d.pass).notes [] w.notes (j.notes ∙ sym (append-none (x.notes ++ (view d.pass).notes)));
       frames = none-added x (view d.pass) w j.frames bare;
@@ -67,28 +77,39 @@ module _ {U A : Type 0} {owner : _} where
       knows = j.knows;
     }
 
-    next-joined : (ds : List (Worker U A Said owner)) (v w : View Said) (d : Worker U A Said owner) → AreJoined size tells x ds v → Joins tells (KeepsPlain as_said (fixed size)) v (view d.pass) w → (view d.pass).used ≡ number_of d ∷ [] → (view d.pass).fresh ≡ [] → (view d.pass).start ≡ x.start → ((f : ℕ) → has f (view d.pass).frames ≡ false) → AreJoined size tells x (ds ++ d ∷ []) w
+    next-joined : (ds : List (Worker U A Said owner)) (v w : View Said) (d : Worker U A Said owner)
+        → AreJoined size tells x ds v → Joins tells (KeepsPlain as_said (fixed size)) v (view d.pass) w
+        → (view d.pass).used ≡ number_of d ∷ [] → (view d.pass).fresh ≡ [] → (view d.pass).start ≡ x.start
+        → ((f : ℕ) → has f (view d.pass).frames ≡ false) → AreJoined size tells x (ds ++ d ∷ []) w
     next-joined ds v w d a j one none start bare =
         let numbers : numbers_of (ds ++ d ∷ []) ≡ numbers_of ds ++ number_of d ∷ [] = map-append number_of ds (d ∷ []) in
         record {
           kept = all-then x v w a.kept j.kept;
           current = j.current;
-          used = j.used ∙ ap (λ (l : List ℕ). l ++ (view d.pass).used) a.used ∙ ap (λ (l : List ℕ). (x.used ++ numbers_of ds) ++ l) one ∙ append_assoc x.used (numbers_of ds) (number_of d ∷ []) ∙ ap (λ (l : List ℕ). x.used ++ l) (sym numbers);
+          used = j.used ∙ ap (λ (l : List ℕ). l ++ (view d.pass).used) a.used
+              ∙ ap (λ (l : List ℕ). (x.used ++ numbers_of ds) ++ l) one ∙ append_assoc x.used (numbers_of ds)
+              (number_of d ∷ []) ∙ ap (λ (l : List ℕ). x.used ++ l) (sym numbers);
           parts = λ k.
               let all : owns k w ≡ owns k v + owns k (view d.pass) = j.parts k in
               let before : owns k v ≡ owns k x + times k (numbers_of ds) = a.parts k in
               let own : times k (view d.pass).used ≡ times k (number_of d ∷ []) = ap (times k) one in
               let no : times k (view d.pass).fresh ≡ 0 = ap (times k) none in
-              let more : times k (numbers_of (ds ++ d ∷ [])) ≡ times k (numbers_of ds) + times k (number_of d ∷ []) = ap (times k) numbers ∙ times-both k (numbers_of ds) (number_of d ∷ []) in
+              let more : times k (numbers_of (ds ++ d ∷ [])) ≡ times k (numbers_of ds) + times k (number_of d ∷ []) =
+              ap (times k) numbers ∙ times-both k (numbers_of ds) (number_of d ∷ []) in
               omega arith;
           notes = λ p.
-              let h : notes_about p w.notes ≡ notes_about p v.notes + notes_about p (view d.pass).notes = ap (notes_about p) j.notes ∙ notes-both p v.notes (view d.pass).notes in
+              let h : notes_about p w.notes ≡ notes_about p v.notes + notes_about p (view d.pass).notes =
+              ap (notes_about p) j.notes ∙ notes-both p v.notes (view d.pass).notes in
               let before : notes_about p v.notes ≡ notes_about p x.notes + all_notes_of p ds = a.notes p in
               let more : all_notes_of p (ds ++ d ∷ []) ≡ all_notes_of p ds + notes_about p (view d.pass).notes = all-notes-snoc p ds d in
               omega arith;
-          logs = subst (λ (l : List (List Did)). StandBehind x.log l w.log) (sym (map-append (λ (e : Worker U A Said owner). (view e.pass).log) ds (d ∷ []))) (behind-snoc x.log (worker_logs ds) v.log (view d.pass).log j.steps w.log a.logs j.log);
-          noted = subst (λ (l : List (List Note)). StandBehind x.notes l w.notes) (sym (map-append (λ (e : Worker U A Said owner). (view e.pass).notes) ds (d ∷ [])))
-              (behind-snoc x.notes (worker_notes ds) v.notes (view d.pass).notes [] w.notes a.noted (j.notes ∙ sym (append-none (v.notes ++ (view d.pass).notes))));
+          logs = subst (λ (l : List (List Did)). StandBehind x.log l w.log)
+              (sym (map-append (λ (e : Worker U A Said owner). (view e.pass).log) ds (d ∷ [])))
+              (behind-snoc x.log (worker_logs ds) v.log (view d.pass).log j.steps w.log a.logs j.log);
+          noted = subst (λ (l : List (List Note)). StandBehind x.notes l w.notes)
+              (sym (map-append (λ (e : Worker U A Said owner). (view e.pass).notes) ds (d ∷ [])))
+              (behind-snoc x.notes (worker_notes ds) v.notes (view d.pass).notes [] w.notes a.noted
+              (j.notes ∙ sym (append-none (v.notes ++ (view d.pass).notes))));
           frames = λ f. none-added v (view d.pass) w j.frames bare f ∙ a.frames f;
           mine = j.mine;
           ours =
@@ -96,13 +117,21 @@ module _ {U A : Type 0} {owner : _} where
               ∙ ap (λ (l : List (Entry Said)). entries_by x.used l) (j.ours ∙ a.mine)
               ∙ nested x.used v.used v.seen (λ k t. ap (λ (l : List ℕ). has k l) a.used ∙ has-left k x.used (numbers_of ds) t)
               ∙ a.ours;
-          each = each-snoc (IsIn w) ds d (each-map (IsIn v) (IsIn w) (λ e i. stays-in (KeepsPlain as_said (fixed size)) tells v w (view d.pass) e j a.mine i) ds a.each) (comes-in (KeepsPlain as_said (fixed size)) tells v w d j one (start ∙ sym a.kept.start));
+          each = each-snoc (IsIn w) ds d
+              (each-map (IsIn v) (IsIn w)
+              (λ e i. stays-in (KeepsPlain as_said (fixed size)) tells v w (view d.pass) e j a.mine i) ds a.each)
+              (comes-in (KeepsPlain as_said (fixed size)) tells v w d j one (start ∙ sym a.kept.start));
           knows = j.knows;
         }
 
-    pub joined-more : (ds : List (Worker U A Said owner)) (v w : View Said) (d : Worker U A Said owner) → JoinedSoFar ds v → Joins tells (KeepsPlain as_said (fixed size)) v (view d.pass) w → (view d.pass).used ≡ number_of d ∷ [] → (view d.pass).fresh ≡ [] → (view d.pass).start ≡ x.start → ((f : ℕ) → has f (view d.pass).frames ≡ false) → AreJoined size tells x (ds ++ d ∷ []) w
+    pub joined-more : (ds : List (Worker U A Said owner)) (v w : View Said) (d : Worker U A Said owner)
+        → JoinedSoFar ds v → Joins tells (KeepsPlain as_said (fixed size)) v (view d.pass) w
+        → (view d.pass).used ≡ number_of d ∷ [] → (view d.pass).fresh ≡ [] → (view d.pass).start ≡ x.start
+        → ((f : ℕ) → has f (view d.pass).frames ≡ false) → AreJoined size tells x (ds ++ d ∷ []) w
     joined-more ds v w d so j one none start bare =
         ⊎_elim
-        (λ n. subst (λ (l : List (Worker U A Said owner)). AreJoined size tells x (l ++ d ∷ []) w) (sym n.0) (first-joined w d (subst (λ (y : View Said). Joins tells (KeepsPlain as_said (fixed size)) y (view d.pass) w) n.1 j) one none start bare))
+        (λ n. subst (λ (l : List (Worker U A Said owner)). AreJoined size tells x (l ++ d ∷ []) w) (sym n.0)
+        (first-joined w d (subst (λ (y : View Said). Joins tells (KeepsPlain as_said (fixed size)) y (view d.pass)
+        w) n.1 j) one none start bare))
         (λ a. next-joined ds v w d a j one none start bare)
         so

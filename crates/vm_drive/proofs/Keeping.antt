@@ -16,19 +16,73 @@ same-front l m e = ([], e ∙ sym (append-none m))
 
 module _ {X : Type 0} where
   pub waits-pass : (v w : View X) → Waits v w → KeepsPass v w
-  waits-pass v w k = record { holds = k.holds; out = k.out; start = k.start; parts = k.parts; seen = k.seen; releases = k.releases; notes = k.notes; log = k.log }
+  waits-pass v w k = record {
+    holds = k.holds;
+    out = k.out;
+    start = k.start;
+    parts = k.parts;
+    seen = k.seen;
+    releases = k.releases;
+    notes = k.notes;
+    log = k.log;
+  }
 
   pub reads-pass : (v w : View X) → OnlyReads v w → KeepsPass v w
-  reads-pass v w r = record { holds = r.holds; out = r.out; start = r.start; parts = r.parts; seen = r.seen; releases = r.releases; notes = same-front w.notes v.notes r.notes; log = (r.done, r.log) }
+  reads-pass v w r = record {
+    holds = r.holds;
+    out = r.out;
+    start = r.start;
+    parts = r.parts;
+    seen = r.seen;
+    releases = r.releases;
+    notes = same-front w.notes v.notes r.notes;
+    log = (r.done, r.log);
+  }
 
   pub writes-pass : (p : ℕ) (v w : View X) → OnlyWrites p v w → KeepsPass v w
-  writes-pass p v w r = record { holds = r.holds; out = r.out; start = r.start; parts = r.parts; seen = r.seen; releases = r.releases; notes = same-front w.notes v.notes r.notes; log = (r.done, r.log) }
+  writes-pass p v w r = record {
+    holds = r.holds;
+    out = r.out;
+    start = r.start;
+    parts = r.parts;
+    seen = r.seen;
+    releases = r.releases;
+    notes = same-front w.notes v.notes r.notes;
+    log = (r.done, r.log);
+  }
 
   pub merge-pass : (v w : View X) → HoldsAll v w → KeepsPass v w
-  merge-pass v w r = record { holds = r.holds; out = r.out; start = r.start; parts = r.parts; seen = r.seen; releases = r.releases; notes = same-front w.notes v.notes r.notes; log = r.log }
+  merge-pass v w r = record {
+    holds = r.holds;
+    out = r.out;
+    start = r.start;
+    parts = r.parts;
+    seen = r.seen;
+    releases = r.releases;
+    notes = same-front w.notes v.notes r.notes;
+    log = r.log;
+  }
 
   pub on-pass : (v w : View X) → HoldsOn v w → KeepsPass v w
-  on-pass v w k = record { holds = k.holds; out = k.out; start = k.start; parts = k.parts; seen = k.seen; releases = k.releases; notes = same-front w.notes v.notes k.notes; log = k.log }
+  on-pass v w k = record {
+    holds = k.holds;
+    out = k.out;
+    start = k.start;
+    parts = k.parts;
+    seen = k.seen;
+    releases = k.releases;
+    notes = same-front w.notes v.notes k.notes;
+    log = k.log;
+  }
 
 pub all-pass : (v w : View Said) → KeepsLocksOnly v w → KeepsPass v w
-all-pass v w k = record { holds = k.holds; out = k.out; start = k.start; parts = k.parts; seen = k.seen; releases = k.releases; notes = k.notes; log = k.log }
+all-pass v w k = record {
+  holds = k.holds;
+  out = k.out;
+  start = k.start;
+  parts = k.parts;
+  seen = k.seen;
+  releases = k.releases;
+  notes = k.notes;
+  log = k.log;
+}

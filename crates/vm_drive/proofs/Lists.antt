@@ -1,8 +1,7 @@
 -- Lists that begin with others, numbers apart, and the entries of some numbers.
 use Rattle.std.specs.List.{AllByRecursion}
-use Rattle.std.proofs.Common.{get_or}
-use Rattle.std.proofs.Common.{[], ⊎_elim, ◌++◌, ◌+◌, ◌<◌, ◌∙◌, ◌∷◌, ◌≡◌, ◌≤◌, ap, append_assoc, arith, false, if◌then◌else◌, length, List, refl}
-use Rattle.std.proofs.Common.{slice_index, suc, sym, true, true≢false, zero, ℕ}
+use Rattle.std.proofs.Common.{get_or, [], ⊎_elim, ◌++◌, ◌+◌, ◌<◌, ◌∙◌, ◌∷◌, ◌≡◌, ◌≤◌, ap, append_assoc, arith, false}
+use Rattle.std.proofs.Common.{if◌then◌else◌, length, List, refl, slice_index, suc, sym, true, true≢false, zero, ℕ}
 use Rattle.std.proofs.lemmas.Bool.{cases_Bool, cases_eq, eq-eqb, ne_eqb}
 use Rattle.vm_rule.specs.Prelude.{AreApart, Each, entries_by, Entry, has, StartsWith, times}
 use Rattle.vm_rule.proofs.Entries.{entries-both}
@@ -13,10 +12,6 @@ starts-then l m n a b = (b.0 ++ a.0, a.1 ∙ ap (λ (y : List _). y ++ a.0) b.1 
 pub each-right : {A : Type 0} (P : A → Type 0) (l m : List A) → Each P (l ++ m) → Each P m
 each-right P [] m e = e
 each-right P (x ∷ xs) m e = each-right P xs m e.1
-
-pub each-left : {A : Type 0} (P : A → Type 0) (l m : List A) → Each P (l ++ m) → Each P l
-each-left P [] m e = tt
-each-left P (x ∷ xs) m e = (e.0, each-left P xs m e.1)
 
 -- one of a list of which each is so
 pub all-at : {A : Type 0} (P : A → Type 0) (xs : List A) (i : ℕ) (d : A) → AllByRecursion P xs → i < length xs → P (get_or xs i d)
@@ -48,7 +43,8 @@ has-both n [] b f = refl
 has-both n (m ∷ ms) b f =
     ⊎_elim
     (λ here. absurd (true≢false (let t : has n (m ∷ ms) ≡ true = rw (eq-eqb n m here) refl in sym t ∙ f)))
-    (λ ne. let rest : has n ms ≡ false = (let d : has n (m ∷ ms) ≡ has n ms = rw (ne_eqb n m ne) refl in sym d ∙ f) in rw (ne_eqb n m ne) (has-both n ms b rest))
+    (λ ne. let rest : has n ms ≡ false = (let d : has n (m ∷ ms) ≡ has n ms = rw (ne_eqb n m ne) refl in sym d ∙ f) in
+    rw (ne_eqb n m ne) (has-both n ms b rest))
     (cases_eq n m)
 
 pub has-left : (n : ℕ) (a b : List ℕ) → has n a ≡ true → has n (a ++ b) ≡ true
@@ -56,7 +52,8 @@ has-left n [] b t = absurd (true≢false (sym t))
 has-left n (m ∷ ms) b t =
     ⊎_elim
     (λ here. rw (eq-eqb n m here) refl)
-    (λ ne. let rest : has n ms ≡ true = (let d : has n (m ∷ ms) ≡ has n ms = rw (ne_eqb n m ne) refl in sym d ∙ t) in rw (ne_eqb n m ne) (has-left n ms b rest))
+    (λ ne. let rest : has n ms ≡ true = (let d : has n (m ∷ ms) ≡ has n ms = rw (ne_eqb n m ne) refl in sym d ∙ t) in
+    rw (ne_eqb n m ne) (has-left n ms b rest))
     (cases_eq n m)
 
 pub has-last : (n : ℕ) (a : List ℕ) → has n (a ++ n ∷ []) ≡ true
@@ -73,7 +70,8 @@ place-of n [] t = absurd (true≢false (sym t))
 place-of n (m ∷ ms) t =
     ⊎_elim
     (λ here. (0, omega arith, here))
-    (λ ne. let d : has n (m ∷ ms) ≡ has n ms = rw (ne_eqb n m ne) refl in let h : (w : ℕ) × (w < length ms) × (n ≡ slice_index ms w) = place-of n ms (sym d ∙ t) in (suc h.0, (let l = h.1 in omega arith), h.2))
+    (λ ne. let d : has n (m ∷ ms) ≡ has n ms = rw (ne_eqb n m ne) refl in let h : (w : ℕ) × (w < length ms)
+    × (n ≡ slice_index ms w) = place-of n ms (sym d ∙ t) in (suc h.0, (let l = h.1 in omega arith), h.2))
     (cases_eq n m)
 
 -- what stands at a place stands in the list
@@ -113,21 +111,26 @@ times-both k (m ∷ ms) b = let h : times k (ms ++ b) ≡ times k ms + times k b
 
 module _ {X : Type 0} where
   -- the entries of some numbers, among those of more
-  pub nested : (ms ns : List ℕ) (h : List (Entry X)) → ((k : ℕ) → has k ms ≡ true → has k ns ≡ true) → entries_by ms (entries_by ns h) ≡ entries_by ms h
+  pub nested : (ms ns : List ℕ) (h : List (Entry X)) → ((k : ℕ) → has k ms ≡ true → has k ns ≡ true)
+      → entries_by ms (entries_by ns h) ≡ entries_by ms h
   nested ms ns [] more = refl
   nested ms ns (e ∷ es) more =
       let rest : entries_by ms (entries_by ns es) ≡ entries_by ms es = nested ms ns es more in
       ⊎_elim
       (λ t. rw t (ap (λ (l : List (Entry X)). if has e.number ms then e ∷ l else l) rest))
       (λ f.
-      let none : has e.number ms ≡ false = ⊎_elim (λ t. absurd (true≢false (sym (more e.number t) ∙ f))) (λ g. g) (cases_Bool (has e.number ms)) in
+      let none : has e.number ms ≡ false = ⊎_elim (λ t. absurd (true≢false (sym (more e.number t) ∙ f))) (λ g. g)
+      (cases_Bool (has e.number ms)) in
       rw (f, none) rest)
       (cases_Bool (has e.number ns))
 
-  pub nested-one : (n : ℕ) (ns : List ℕ) (h : List (Entry X)) → has n ns ≡ true → entries_by (n ∷ []) (entries_by ns h) ≡ entries_by (n ∷ []) h
+  pub nested-one : (n : ℕ) (ns : List ℕ) (h : List (Entry X)) → has n ns ≡ true
+      → entries_by (n ∷ []) (entries_by ns h) ≡ entries_by (n ∷ []) h
   nested-one n ns h t =
       nested (n ∷ []) ns h
-      (λ k one. ⊎_elim (λ here. ap (λ m. has m ns) here ∙ t) (λ ne. absurd (true≢false (sym one ∙ (let f : has k (n ∷ []) ≡ false = rw (ne_eqb k n ne) refl in f)))) (cases_eq k n))
+      (λ k one. ⊎_elim (λ here. ap (λ m. has m ns) here ∙ t)
+      (λ ne. absurd (true≢false (sym one ∙ (let f : has k (n ∷ []) ≡ false = rw (ne_eqb k n ne) refl in f))))
+      (cases_eq k n))
 
   pub fewer : (ns : List ℕ) (h : List (Entry X)) → length (entries_by ns h) ≤ length h
   fewer ns [] = omega arith
@@ -141,7 +144,9 @@ module _ {X : Type 0} where
   all-in ns (e ∷ es) q =
       ⊎_elim
       (λ t. let both : e ∷ entries_by ns es ≡ e ∷ es = rw t at q in (t, all-in ns es cc))
-      (λ f. let short : entries_by ns es ≡ e ∷ es = rw f at q in let less : length (entries_by ns es) ≤ length es = fewer ns es in let long : length (entries_by ns es) ≡ length (e ∷ es) = ap length short in absurd (omega arith))
+      (λ f. let short : entries_by ns es ≡ e ∷ es = rw f at q in let less : length (entries_by ns es) ≤ length es =
+      fewer ns es in let long : length (entries_by ns es) ≡ length (e ∷ es) = ap length short in
+      absurd (omega arith))
       (cases_Bool (has e.number ns))
 
   -- where none is, each is not
@@ -157,10 +162,12 @@ module _ {X : Type 0} where
   pub others-only : (us : List ℕ) (front rest : List (Entry X)) → entries_by us (front ++ rest) ≡ front → entries_by us rest ≡ []
   others-only us front rest q =
       let own : entries_by us front ≡ front = ap (entries_by us) (sym q) ∙ nested us us (front ++ rest) (λ k t. t) ∙ q in
-      nothing-behind front (entries_by us rest) (ap (λ (l : List (Entry X)). l ++ entries_by us rest) (sym own) ∙ sym (entries-both us front rest) ∙ q)
+      nothing-behind front (entries_by us rest) (ap (λ (l : List (Entry X)). l ++ entries_by us rest) (sym own)
+      ∙ sym (entries-both us front rest) ∙ q)
 
   -- the number's entries all stand behind a front that has none
-  pub behind : (ns : List ℕ) (front rest mine : List (Entry X)) → entries_by ns front ≡ [] → entries_by ns (front ++ rest) ≡ mine → entries_by ns rest ≡ mine
+  pub behind : (ns : List ℕ) (front rest mine : List (Entry X)) → entries_by ns front ≡ []
+      → entries_by ns (front ++ rest) ≡ mine → entries_by ns rest ≡ mine
   behind ns front rest mine none q = ap (λ (l : List (Entry X)). l ++ entries_by ns rest) (sym none) ∙ sym (entries-both ns front rest) ∙ q
 
   -- a front of a list without entries of a number has none

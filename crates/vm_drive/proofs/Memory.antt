@@ -1,12 +1,10 @@
 -- The spans of lists of calls: one for each range, taken before, and gone as the ranges are made.
 use Rattle.std.specs.declared.alloc.Global.{Global}
-use Rattle.std.specs.Option.{option_to_list}
-use Rattle.std.proofs.Common.{[], ◌++◌, ◌+◌, ◌∙◌, ◌∷◌, ◌≡◌, ◌≤◌, ap, arith, length, List, Option, refl, Some, subst, suc, Vec, ℕ}
+use Rattle.std.proofs.Common.{[], ◌++◌, ◌+◌, ◌∷◌, ◌≡◌, ◌≤◌, ap, arith, length, List, refl, suc, Vec, ℕ}
 use Rattle.vm_map.specs.{declared.call.Call.Call, Map.Pairs}
 use Rattle.vm_map.specs.declared.call.Call.TheVariants as calls
 use Rattle.vm_rule.specs.Prelude.{Each}
 use Rattle.vm_drive.specs.Spans.{HasSpans, HaveSpans, IsEmptySpan, ranges_asked}
-use Rattle.vm_drive.proofs.Lists.{each-left, each-right}
 
 pub ranges-first : (call : Call) (rest : List Call) → ranges_asked (call ∷ rest) ≡ ranges_asked (call ∷ []) + ranges_asked rest
 ranges-first (calls.Get key) rest = omega arith
@@ -18,26 +16,25 @@ ranges-first (calls.Range low bound) rest = omega arith
 
 module _ (n : ℕ) where
   -- there is one for the first call where it asks for one
-  pub span-now : (call : Call) (rest : List Call) (spans : List (Pairs × ℕ)) → HasSpans n (call ∷ rest) spans → ranges_asked (call ∷ []) ≤ length spans
+  pub span-now : (call : Call) (rest : List Call) (spans : List (Pairs × ℕ)) → HasSpans n (call ∷ rest) spans
+      → ranges_asked (call ∷ []) ≤ length spans
   span-now call rest spans h = omega (arith, h.count, ranges-first call rest)
 
   -- and then those for the others are left
-  pub spans-after : (call : Call) (rest : List Call) (old new : List (Pairs × ℕ)) → HasSpans n (call ∷ rest) old → length new + ranges_asked (call ∷ []) ≡ length old → Each (IsEmptySpan n) new → HasSpans n rest new
+  pub spans-after : (call : Call) (rest : List Call) (old new : List (Pairs × ℕ)) → HasSpans n (call ∷ rest) old
+      → length new + ranges_asked (call ∷ []) ≡ length old → Each (IsEmptySpan n) new → HasSpans n rest new
   spans-after call rest old new h fewer empty = record { count = omega (arith, h.count, ranges-first call rest, fewer); empty = empty }
 
-  -- the one that is taken, and those that are left
-  pub taken-empty : (old new : List (Pairs × ℕ)) (taken : Option (Pairs × ℕ)) (out : Pairs × ℕ) → old ≡ new ++ option_to_list taken → taken ≡ Some out → Each (IsEmptySpan n) old → IsEmptySpan n out × Each (IsEmptySpan n) new
-  taken-empty old new taken out cut is e =
-      let all : Each (IsEmptySpan n) (new ++ out ∷ []) = subst (λ (l : List (Pairs × ℕ)). Each (IsEmptySpan n) l) (cut ∙ ap (λ (o : Option (Pairs × ℕ)). new ++ option_to_list o) is) e in
-      ((each-right (IsEmptySpan n) new (out ∷ []) all).0, each-left (IsEmptySpan n) new (out ∷ []) all)
-
-  pub spans-snoc : (lists : List (List Call)) (spans : List (Vec (Pairs × ℕ) Global)) (calls : List Call) (own : Vec (Pairs × ℕ) Global) → HaveSpans n lists spans → HasSpans n calls own.items → HaveSpans n (lists ++ calls ∷ []) (spans ++ own ∷ [])
+  pub spans-snoc : (lists : List (List Call)) (spans : List (Vec (Pairs × ℕ) Global)) (calls : List Call)
+      (own : Vec (Pairs × ℕ) Global) → HaveSpans n lists spans → HasSpans n calls own.items
+      → HaveSpans n (lists ++ calls ∷ []) (spans ++ own ∷ [])
   spans-snoc [] [] calls own h o = (o, tt)
   spans-snoc [] (s ∷ ss) calls own h o = absurd h
   spans-snoc (c ∷ cs) [] calls own h o = absurd h
   spans-snoc (c ∷ cs) (s ∷ ss) calls own h o = (h.0, spans-snoc cs ss calls own h.1 o)
 
-  pub spans-long : (lists : List (List Call)) (spans : List (Vec (Pairs × ℕ) Global)) → HaveSpans n lists spans → length spans ≡ length lists
+  pub spans-long : (lists : List (List Call)) (spans : List (Vec (Pairs × ℕ) Global)) → HaveSpans n lists spans
+      → length spans ≡ length lists
   spans-long [] [] h = refl
   spans-long [] (s ∷ ss) h = absurd h
   spans-long (c ∷ cs) [] h = absurd h

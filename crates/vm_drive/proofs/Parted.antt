@@ -46,23 +46,34 @@ module _ (w u : View Said) (front behind : List Did) (start : u.start ≡ w.star
       }
 
 module _ (size : ℕ) where
-  traced-in : (w : View Said) (lists : List (List Call)) (answers : List (List (Result Reply TreeFault))) (passes : List (View Said)) (front all : List Did) → w.log ≡ front ++ all → HaveParts size w lists answers passes → StandIn (logs_of passes) all → AllCausedBy (FoundFull w) (FoundWorn w) lists answers
+  traced-in : (w : View Said) (lists : List (List Call)) (answers : List (List (Result Reply TreeFault)))
+      (passes : List (View Said)) (front all : List Did) → w.log ≡ front ++ all
+      → HaveParts size w lists answers passes → StandIn (logs_of passes) all → AllCausedBy (FoundFull w) (FoundWorn w)
+      lists answers
   traced-in w [] answers passes front all log p s = tt
   traced-in w (c ∷ cs) [] passes front all log p s = tt
   traced-in w (c ∷ cs) (t ∷ ts) [] front all log p s = absurd p
   traced-in w (c ∷ cs) (t ∷ ts) (u ∷ us) front all log p s =
-      let here : w.log ≡ (front ++ s.0) ++ (u.log ++ s.1) = log ∙ ap (λ (l : List Did). front ++ l) s.2 ∙ sym (append_assoc front s.0 (u.log ++ s.1)) in
+      let here : w.log ≡ (front ++ s.0) ++ (u.log ++ s.1) = log ∙ ap (λ (l : List Did). front ++ l) s.2
+      ∙ sym (append_assoc front s.0 (u.log ++ s.1)) in
       let done = calls-done size c t p.0.began u p.0.each in (
-        all-caused (FoundFull u) (FoundWorn u) (FoundFull w) (FoundWorn w) (found-in w u (front ++ s.0) s.1 p.0.start here) (worn-in w u (front ++ s.0) s.1 p.0.start here) c t done.caused,
+        all-caused (FoundFull u) (FoundWorn u) (FoundFull w) (FoundWorn w)
+            (found-in w u (front ++ s.0) s.1 p.0.start here) (worn-in w u (front ++ s.0) s.1 p.0.start here) c t
+            done.caused,
         traced-in w cs ts us ((front ++ s.0) ++ u.log) s.1 (here ∙ sym (append_assoc (front ++ s.0) u.log s.1)) p.1 s.3,
       )
 
   -- each fault but a device's has its cause in what the joined pass found
-  pub traced : (front : List Did) (w : View Said) (lists : List (List Call)) (answers : List (List (Result Reply TreeFault))) (passes : List (View Said)) → HaveParts size w lists answers passes → StandBehind front (logs_of passes) w.log → AllCausedBy (FoundFull w) (FoundWorn w) lists answers
+  pub traced : (front : List Did) (w : View Said) (lists : List (List Call))
+      (answers : List (List (Result Reply TreeFault))) (passes : List (View Said))
+      → HaveParts size w lists answers passes → StandBehind front (logs_of passes) w.log
+      → AllCausedBy (FoundFull w) (FoundWorn w) lists answers
   traced front w lists answers passes p s = traced-in w lists answers passes front s.0 s.1 p s.2
 
   -- what is a part of a pass is one of it later on, where it has seen no entry more
-  pub parts-later : (w x : View Said) → x.start ≡ w.start → x.seen ≡ w.seen → StartsWith x.releases w.releases → (lists : List (List Call)) (answers : List (List (Result Reply TreeFault))) (passes : List (View Said)) → HaveParts size w lists answers passes → HaveParts size x lists answers passes
+  pub parts-later : (w x : View Said) → x.start ≡ w.start → x.seen ≡ w.seen → StartsWith x.releases w.releases
+      → (lists : List (List Call)) (answers : List (List (Result Reply TreeFault))) (passes : List (View Said))
+      → HaveParts size w lists answers passes → HaveParts size x lists answers passes
   parts-later w x start seen releases [] [] [] p = tt
   parts-later w x start seen releases [] [] (u ∷ us) p = absurd p
   parts-later w x start seen releases [] (t ∷ ts) us p = absurd p

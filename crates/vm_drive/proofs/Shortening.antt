@@ -2,33 +2,51 @@
 use Rattle.std.specs.declared.alloc.Global.{Global}
 use Rattle.std.proofs.Common.{[], ◌++◌, ◌+◌, ◌∙◌, ◌∷◌, ◌≡◌, ◌≤◌, ap, append-nil, arith, Err, length, List, Ok, refl, Result, sym, Vec, ℕ}
 use Rattle.std.proofs.lemmas.List.{length-append}
-use Rattle.vm_map.specs.{declared.call.Call.Call, declared.call.Reply.Reply, declared.call.Said.Said, declared.window.Window.Window, Map.Pairs}
+use Rattle.vm_map.specs.{declared.call.Call.Call, declared.call.Reply.Reply, declared.call.Said.Said}
+use Rattle.vm_map.specs.{declared.window.Window.Window, Map.Pairs}
 use Rattle.vm_map.specs.declared.call.Call.TheVariants as calls
 use Rattle.vm_map.specs.declared.call.Reply.TheVariants as replies
 use Rattle.vm_step.specs.Prelude.{View}
 use Rattle.vm_tree_rule.specs.declared.fault.TreeFault.{TreeFault}
-use Rattle.vm_drive.specs.{Compact.KeepsAnswers, Compact.ranges_in, Compact.told_in, Compact.wins_in, declared.compact.Replies.Replies, declared.compact.Short.Short}
+use Rattle.vm_drive.specs.{Compact.KeepsAnswers, Compact.ranges_in, Compact.told_in, Compact.wins_in}
+use Rattle.vm_drive.specs.{declared.compact.Replies.Replies, declared.compact.Short.Short}
 use Rattle.vm_drive.specs.declared.compact.Short.TheVariants as shorts
-use Rattle.vm_drive.specs.{Kept.IsRoomFor, Kept.Room, Kept.spans_of, Kept.windows_asked, Kept.windows_of, Spans.ranges_asked, TreeCalls.IsTreeCall}
+use Rattle.vm_drive.specs.{Kept.IsRoomFor, Kept.Room, Kept.spans_of, Kept.windows_asked, Kept.windows_of}
+use Rattle.vm_drive.specs.{Spans.ranges_asked, TreeCalls.IsTreeCall}
 use Rattle.vm_drive.proofs.Memory.{ranges-first}
 
 -- ---- what short forms stand for
 
 -- those behind others, with the windows and the spans behind theirs
-told-both : (short more : List Short) (windows others : List Window) (spans rest : List (Pairs × ℕ)) → wins_in short ≡ length windows → ranges_in short ≡ length spans → told_in (short ++ more) (windows ++ others) (spans ++ rest) ≡ told_in short windows spans ++ told_in more others rest
+told-both : (short more : List Short) (windows others : List Window) (spans rest : List (Pairs × ℕ))
+    → wins_in short ≡ length windows → ranges_in short ≡ length spans → told_in (short ++ more) (windows ++ others)
+    (spans ++ rest) ≡ told_in short windows spans ++ told_in more others rest
 told-both [] more [] others [] rest e f = refl
 told-both [] more [] others (p ∷ ps) rest e f = absurd (omega arith)
 told-both [] more (w ∷ ws) others ps rest e f = absurd (omega arith)
-told-both (shorts.Got found ∷ short) more ws others ps rest e f = ap (λ (l : List (Result Reply TreeFault)). Ok (replies.Got found) ∷ l) (told-both short more ws others ps rest e f)
-told-both (shorts.Was old ∷ short) more ws others ps rest e f = ap (λ (l : List (Result Reply TreeFault)). Ok (replies.Was old) ∷ l) (told-both short more ws others ps rest e f)
-told-both (shorts.Gone old ∷ short) more ws others ps rest e f = ap (λ (l : List (Result Reply TreeFault)). Ok (replies.Gone old) ∷ l) (told-both short more ws others ps rest e f)
+told-both (shorts.Got found ∷ short) more ws others ps rest e f =
+    ap (λ (l : List (Result Reply TreeFault)). Ok (replies.Got found) ∷ l)
+    (told-both short more ws others ps rest e f)
+told-both (shorts.Was old ∷ short) more ws others ps rest e f =
+    ap (λ (l : List (Result Reply TreeFault)). Ok (replies.Was old) ∷ l) (told-both short more ws others ps rest e f)
+told-both (shorts.Gone old ∷ short) more ws others ps rest e f =
+    ap (λ (l : List (Result Reply TreeFault)). Ok (replies.Gone old) ∷ l) (told-both short more ws others ps rest e f)
 told-both (shorts.Win ∷ short) more [] others ps rest e f = absurd (omega arith)
-told-both (shorts.Win ∷ short) more (w ∷ ws) others ps rest e f = ap (λ (l : List (Result Reply TreeFault)). Ok (replies.Win w) ∷ l) (told-both short more ws others ps rest (omega arith) f)
-told-both (shorts.Swapped outcome ∷ short) more ws others ps rest e f = ap (λ (l : List (Result Reply TreeFault)). Ok (replies.Swapped outcome) ∷ l) (told-both short more ws others ps rest e f)
+told-both (shorts.Win ∷ short) more (w ∷ ws) others ps rest e f =
+    ap (λ (l : List (Result Reply TreeFault)). Ok (replies.Win w) ∷ l)
+    (told-both short more ws others ps rest (omega arith) f)
+told-both (shorts.Swapped outcome ∷ short) more ws others ps rest e f =
+    ap (λ (l : List (Result Reply TreeFault)). Ok (replies.Swapped outcome) ∷ l)
+    (told-both short more ws others ps rest e f)
 told-both (shorts.Many ∷ short) more ws others [] rest e f = absurd (omega arith)
-told-both (shorts.Many ∷ short) more ws others (p ∷ ps) rest e f = ap (λ (l : List (Result Reply TreeFault)). Ok (replies.Many p) ∷ l) (told-both short more ws others ps rest e (omega arith))
-told-both (shorts.Wide reach ∷ short) more ws others ps rest e f = ap (λ (l : List (Result Reply TreeFault)). Ok (replies.Wide reach) ∷ l) (told-both short more ws others ps rest e f)
-told-both (shorts.Fault fault ∷ short) more ws others ps rest e f = ap (λ (l : List (Result Reply TreeFault)). Err fault ∷ l) (told-both short more ws others ps rest e f)
+told-both (shorts.Many ∷ short) more ws others (p ∷ ps) rest e f =
+    ap (λ (l : List (Result Reply TreeFault)). Ok (replies.Many p) ∷ l)
+    (told-both short more ws others ps rest e (omega arith))
+told-both (shorts.Wide reach ∷ short) more ws others ps rest e f =
+    ap (λ (l : List (Result Reply TreeFault)). Ok (replies.Wide reach) ∷ l)
+    (told-both short more ws others ps rest e f)
+told-both (shorts.Fault fault ∷ short) more ws others ps rest e f =
+    ap (λ (l : List (Result Reply TreeFault)). Err fault ∷ l) (told-both short more ws others ps rest e f)
 
 wins-both : (short more : List Short) → wins_in (short ++ more) ≡ wins_in short + wins_in more
 wins-both [] more = omega arith
@@ -60,31 +78,42 @@ keeps-none kept short windows spans = record {
 }
 
 -- one more, with its window where it shows one, and its span where it has the pairs of a range
-pub keeps-more : (kept new : Replies) (told : List (Result Reply TreeFault)) (s : Short) (others : List Window) (rest : List (Pairs × ℕ)) (answer given : Result Reply TreeFault)
-    → new.short.items ≡ kept.short.items ++ s ∷ [] → new.windows.items ≡ kept.windows.items ++ others → new.spans.items ≡ kept.spans.items ++ rest
-    → wins_in (s ∷ []) ≡ length others → ranges_in (s ∷ []) ≡ length rest → told_in (s ∷ []) others rest ≡ given ∷ [] → answer ≡ given → KeepsAnswers kept told → KeepsAnswers new (told ++ answer ∷ [])
+pub keeps-more : (kept new : Replies) (told : List (Result Reply TreeFault)) (s : Short) (others : List Window)
+    (rest : List (Pairs × ℕ)) (answer given : Result Reply TreeFault)
+    → new.short.items ≡ kept.short.items ++ s ∷ [] → new.windows.items ≡ kept.windows.items ++ others
+    → new.spans.items ≡ kept.spans.items ++ rest
+    → wins_in (s ∷ []) ≡ length others → ranges_in (s ∷ []) ≡ length rest → told_in (s ∷ []) others rest ≡ given ∷ []
+    → answer ≡ given → KeepsAnswers kept told → KeepsAnswers new (told ++ answer ∷ [])
 keeps-more kept new told s others rest answer given short windows spans one single is e k = record {
   stands =
-      ap (λ (l : List Short). told_in l new.windows.items new.spans.items) short ∙ ap (λ (l : List Window). told_in (kept.short.items ++ s ∷ []) l new.spans.items) windows
+      ap (λ (l : List Short). told_in l new.windows.items new.spans.items) short
+      ∙ ap (λ (l : List Window). told_in (kept.short.items ++ s ∷ []) l new.spans.items) windows
       ∙ ap (λ (l : List (Pairs × ℕ)). told_in (kept.short.items ++ s ∷ []) (kept.windows.items ++ others) l) spans
-      ∙ told-both kept.short.items (s ∷ []) kept.windows.items others kept.spans.items rest k.shown k.paired ∙ ap (λ (l : List (Result Reply TreeFault)). l ++ told_in (s ∷ []) others rest) k.stands
+      ∙ told-both kept.short.items (s ∷ []) kept.windows.items others kept.spans.items rest k.shown k.paired
+      ∙ ap (λ (l : List (Result Reply TreeFault)). l ++ told_in (s ∷ []) others rest) k.stands
       ∙ ap (λ (l : List (Result Reply TreeFault)). told ++ l) is ∙ ap (λ (r : Result Reply TreeFault). told ++ r ∷ []) (sym e);
   shown =
-      let many : wins_in new.short.items ≡ wins_in kept.short.items + wins_in (s ∷ []) = ap wins_in short ∙ wins-both kept.short.items (s ∷ []) in
-      let long : length new.windows.items ≡ length kept.windows.items + length others = ap (λ (l : List Window). length l) windows ∙ length-append kept.windows.items others in
+      let many : wins_in new.short.items ≡ wins_in kept.short.items + wins_in (s ∷ []) =
+      ap wins_in short ∙ wins-both kept.short.items (s ∷ []) in
+      let long : length new.windows.items ≡ length kept.windows.items + length others =
+      ap (λ (l : List Window). length l) windows ∙ length-append kept.windows.items others in
       omega (arith, many, long, one, k.shown);
   paired =
-      let many : ranges_in new.short.items ≡ ranges_in kept.short.items + ranges_in (s ∷ []) = ap ranges_in short ∙ ranges-both kept.short.items (s ∷ []) in
-      let long : length new.spans.items ≡ length kept.spans.items + length rest = ap (λ (l : List (Pairs × ℕ)). length l) spans ∙ length-append kept.spans.items rest in
+      let many : ranges_in new.short.items ≡ ranges_in kept.short.items + ranges_in (s ∷ []) =
+      ap ranges_in short ∙ ranges-both kept.short.items (s ∷ []) in
+      let long : length new.spans.items ≡ length kept.spans.items + length rest =
+      ap (λ (l : List (Pairs × ℕ)). length l) spans ∙ length-append kept.spans.items rest in
       omega (arith, many, long, single, k.paired);
 }
 
 -- one more that shows no window and has no pairs
 pub keeps-other : (kept new : Replies) (told : List (Result Reply TreeFault)) (s : Short) (answer given : Result Reply TreeFault)
     → new.short.items ≡ kept.short.items ++ s ∷ [] → new.windows ≡ kept.windows → new.spans ≡ kept.spans
-    → wins_in (s ∷ []) ≡ 0 → ranges_in (s ∷ []) ≡ 0 → told_in (s ∷ []) [] [] ≡ given ∷ [] → answer ≡ given → KeepsAnswers kept told → KeepsAnswers new (told ++ answer ∷ [])
+    → wins_in (s ∷ []) ≡ 0 → ranges_in (s ∷ []) ≡ 0 → told_in (s ∷ []) [] [] ≡ given ∷ [] → answer ≡ given
+    → KeepsAnswers kept told → KeepsAnswers new (told ++ answer ∷ [])
 keeps-other kept new told s answer given short windows spans none single is e k =
-    keeps-more kept new told s [] [] answer given short (ap (λ (v : Vec Window Global). v.items) windows ∙ sym (append-nil kept.windows.items))
+    keeps-more kept new told s [] [] answer given short
+    (ap (λ (v : Vec Window Global). v.items) windows ∙ sym (append-nil kept.windows.items))
     (ap (λ (v : Vec (Pairs × ℕ) Global). v.items) spans ∙ sym (append-nil kept.spans.items)) none single is e k
 
 -- ---- room
@@ -99,7 +128,8 @@ asked-first (calls.Range low bound) rest = omega arith
 
 module _ (size : ℕ) where
   -- an answer is a window only where its call asks for one
-  windows-fit : (call : Call) (r : Result Reply TreeFault) (v w : View Said) → IsTreeCall size call r v w → windows_of r ≤ windows_asked (call ∷ [])
+  windows-fit : (call : Call) (r : Result Reply TreeFault) (v w : View Said) → IsTreeCall size call r v w
+      → windows_of r ≤ windows_asked (call ∷ [])
   windows-fit call (Ok (replies.Got found)) v w t = omega arith
   windows-fit call (Ok (replies.Was old)) v w t = omega arith
   windows-fit call (Ok (replies.Gone old)) v w t = omega arith
@@ -115,7 +145,8 @@ module _ (size : ℕ) where
   windows-fit call (Err fault) v w t = omega arith
 
   -- nor does it have pairs but where its call asks for a range
-  spans-fit : (call : Call) (r : Result Reply TreeFault) (v w : View Said) → IsTreeCall size call r v w → spans_of r ≤ ranges_asked (call ∷ [])
+  spans-fit : (call : Call) (r : Result Reply TreeFault) (v w : View Said) → IsTreeCall size call r v w
+      → spans_of r ≤ ranges_asked (call ∷ [])
   spans-fit call (Ok (replies.Got found)) v w t = omega arith
   spans-fit call (Ok (replies.Was old)) v w t = omega arith
   spans-fit call (Ok (replies.Gone old)) v w t = omega arith
@@ -131,7 +162,9 @@ module _ (size : ℕ) where
   spans-fit call (Err fault) v w t = omega arith
 
   -- room for the answers to these calls takes the answer to the first
-  pub room-now : (call : Call) (rest : List Call) (r : Result Reply TreeFault) (v w : View Said) (room : Room) → IsRoomFor (call ∷ rest) room → IsTreeCall size call r v w → (1 ≤ room.answers) × (windows_of r ≤ room.windows) × (spans_of r ≤ room.spans)
+  pub room-now : (call : Call) (rest : List Call) (r : Result Reply TreeFault) (v w : View Said) (room : Room)
+      → IsRoomFor (call ∷ rest) room → IsTreeCall size call r v w → (1 ≤ room.answers) × (windows_of r ≤ room.windows)
+      × (spans_of r ≤ room.spans)
   room-now call rest r v w room i t = (
     omega (arith, i.answers),
     omega (arith, windows-fit call r v w t, asked-first call rest, i.windows),
@@ -139,7 +172,8 @@ module _ (size : ℕ) where
   )
 
   -- and then there is room for those to the others
-  pub room-after : (call : Call) (rest : List Call) (r : Result Reply TreeFault) (v w : View Said) (old new : Room) → IsRoomFor (call ∷ rest) old → IsTreeCall size call r v w
+  pub room-after : (call : Call) (rest : List Call) (r : Result Reply TreeFault) (v w : View Said) (old new : Room)
+      → IsRoomFor (call ∷ rest) old → IsTreeCall size call r v w
       → old.answers ≤ new.answers + 1 → old.windows ≤ new.windows + windows_of r → old.spans ≤ new.spans + spans_of r → IsRoomFor rest new
   room-after call rest r v w old new i t answers windows spans = record {
     answers = omega (arith, i.answers, answers);

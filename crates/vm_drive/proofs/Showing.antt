@@ -12,7 +12,8 @@ use Rattle.vm_drive.specs.Shows.{AllShown, AreShown, IsOfLeaf, IsOfLeaves, IsRep
 use Rattle.vm_drive.proofs.Lists.{starts-then}
 
 module _ (size : ℕ) where
-  of-leaf-more : (said : Said) (v w : View Said) → w.start ≡ v.start → StartsWith w.seen v.seen → StartsWith w.releases v.releases → IsOfLeaf size said v → IsOfLeaf size said w
+  of-leaf-more : (said : Said) (v w : View Said) → w.start ≡ v.start → StartsWith w.seen v.seen
+      → StartsWith w.releases v.releases → IsOfLeaf size said v → IsOfLeaf size said w
   of-leaf-more said v w start seen releases l = record {
     kept = l.kept;
     keeps = subst (λ (o : Origin). KeepsTree (fixed size) (began_of o) l.kept) (sym start) l.keeps;
@@ -29,7 +30,8 @@ module _ (size : ℕ) where
     proved = l.proved;
   }
 
-  of-leaves-more : (said : Said) (v w : View Said) → w.start ≡ v.start → StartsWith w.seen v.seen → IsOfLeaves size said v → IsOfLeaves size said w
+  of-leaves-more : (said : Said) (v w : View Said) → w.start ≡ v.start → StartsWith w.seen v.seen
+      → IsOfLeaves size said v → IsOfLeaves size said w
   of-leaves-more said v w start seen l = record {
     kept = l.kept;
     keeps = subst (λ (o : Origin). KeepsTree (fixed size) (began_of o) l.kept) (sym start) l.keeps;
@@ -43,14 +45,21 @@ module _ (size : ℕ) where
     proved = l.proved;
   }
 
-  module _ (v w : View Said) (start : w.start ≡ v.start) (seen : StartsWith w.seen v.seen) (releases : StartsWith w.releases v.releases) where
+  module _ (v w : View Said) (start : w.start ≡ v.start) (seen : StartsWith w.seen v.seen)
+      (releases : StartsWith w.releases v.releases) where
     shown-more : (c : Call) (r : Reply) → IsReplyShown size v c r → IsReplyShown size w c r
     shown-more (Get key) r h = tt
     shown-more (Put key value) r h = tt
     shown-more (Del key) r h = tt
     shown-more (Swap key want value) r h = tt
-    shown-more (Window from most) r h = λ told. of-leaf-more (record { call = Window from most; reply = r }) v w start seen releases (h (ap (λ (o : Origin). o.tells) (sym start) ∙ told))
-    shown-more (Range low bound) r h = λ told. of-leaves-more (record { call = Range low bound; reply = r }) v w start seen (h (ap (λ (o : Origin). o.tells) (sym start) ∙ told))
+    shown-more (Window from most) r h = λ told. of-leaf-more (record {
+      call = Window from most;
+      reply = r;
+    }) v w start seen releases (h (ap (λ (o : Origin). o.tells) (sym start) ∙ told))
+    shown-more (Range low bound) r h = λ told. of-leaves-more (record {
+      call = Range low bound;
+      reply = r;
+    }) v w start seen (h (ap (λ (o : Origin). o.tells) (sym start) ∙ told))
 
     pub are-shown-more : (cs : List Call) (rs : List (Result Reply TreeFault)) → AreShown size v cs rs → AreShown size w cs rs
     are-shown-more [] rs h = tt
@@ -58,12 +67,15 @@ module _ (size : ℕ) where
     are-shown-more (c ∷ cs) (Ok r ∷ rs) h = (shown-more c r h.0, are-shown-more cs rs h.1)
     are-shown-more (c ∷ cs) (Err f ∷ rs) h = are-shown-more cs rs h
 
-    pub all-shown-more : (lists : List (List Call)) (answers : List (List (Result Reply TreeFault))) → AllShown size v lists answers → AllShown size w lists answers
+    pub all-shown-more : (lists : List (List Call)) (answers : List (List (Result Reply TreeFault)))
+        → AllShown size v lists answers → AllShown size w lists answers
     all-shown-more [] answers h = tt
     all-shown-more (cs ∷ lists) [] h = tt
     all-shown-more (cs ∷ lists) (rs ∷ answers) h = (are-shown-more cs rs h.0, all-shown-more lists answers h.1)
 
-  pub shown-snoc : (v : View Said) (cs : List Call) (rs : List (Result Reply TreeFault)) (c : Call) (r : Result Reply TreeFault) → length rs ≡ length cs → AreShown size v cs rs → AreShown size v (c ∷ []) (r ∷ []) → AreShown size v (cs ++ c ∷ []) (rs ++ r ∷ [])
+  pub shown-snoc : (v : View Said) (cs : List Call) (rs : List (Result Reply TreeFault)) (c : Call)
+      (r : Result Reply TreeFault) → length rs ≡ length cs → AreShown size v cs rs → AreShown size v (c ∷ []) (r ∷ [])
+      → AreShown size v (cs ++ c ∷ []) (rs ++ r ∷ [])
   shown-snoc v [] [] c r e h k = k
   shown-snoc v [] (r' ∷ rs) c r e h k = absurd (omega arith)
   shown-snoc v (c' ∷ cs) [] c r e h k = absurd (omega arith)

@@ -6,7 +6,8 @@ use Rattle.vm_rule.specs.Prelude.{StartsWith}
 use Rattle.vm_step.specs.Prelude.{HoldsPage, View}
 
 module _ {X : Type 0} where
-  -- the pass holds just the pages, shares and blocks that it held, has the parts that it had, and knows what it knew of the history, the releases,
+  -- the pass holds just the pages, shares and blocks that it held, has the parts that it had, and knows what it knew
+  -- of the history, the releases,
   -- its notes and its steps
   pub record KeepsPass (v w : View X) : Type 0 where
     pub holds : (q : ℕ) → HoldsPage v w q

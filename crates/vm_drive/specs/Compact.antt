@@ -7,7 +7,8 @@ use Rattle.vm_tree_rule.specs.declared.fault.TreeFault.{TreeFault}
 use Rattle.vm_drive.specs.{declared.compact.Replies.Replies, declared.compact.Short.Short, Kept.Room}
 use Rattle.vm_drive.specs.declared.compact.Short.TheVariants as shorts
 
--- the answers that these short forms are, each `Win` with the next of the windows and each `Many` with the next of the spans; where none is left for
+-- the answers that these short forms are, each `Win` with the next of the windows and each `Many` with the next of
+-- the spans; where none is left for
 -- one they end
 abbrev pub told_in : List Short → List Window → List (Pairs × ℕ) → List (Result Reply TreeFault)
 told_in [] windows spans = []

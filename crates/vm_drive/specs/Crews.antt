@@ -1,15 +1,17 @@
 -- The workers of a drive: those that were hired, and those that have done their work.
 use Rattle.std.specs.declared.alloc.Global.{Global}
-use Rattle.std.specs.Prelude.{[], ◌*◌, ◌++◌, ◌+◌, ◌/◌, ◌∷◌, ◌≡◌, ◌⊎◌, Bool, false, length, List, map, min, Result, slice_index, true, Vec, ℕ}
+use Rattle.std.specs.Prelude.{[], ◌*◌, ◌++◌, ◌+◌, ◌/◌, ◌∷◌, ◌≡◌, ◌⊎◌, Bool, false, length, List, map, min, Result}
+use Rattle.std.specs.Prelude.{slice_index, true, Vec, ℕ}
 use Rattle.vm_map.specs.{declared.call.Call.Call, declared.call.Reply.Reply, declared.call.Said.Said, Map.Pairs}
 use Rattle.vm_rule.specs.Prelude.{AreApart, Each, entries_by, has, HoldsNoPage, IsWhole, owns, StartsWith, TableId, times}
-use Rattle.vm_step.specs.Prelude.{Did, IsReady, KnowsAll, Note, Shape, View, view}
+use Rattle.vm_step.specs.Prelude.{Did, IsReady, KnowsAll, Note, TableShape, View, view}
 use Rattle.vm_pool.specs.Parting.{KeepsAll}
 use Rattle.vm_tree_model.specs.Fixed.{fixed}
 use Rattle.vm_tree_laws.specs.Plain.{KeepsPlain}
 use Rattle.vm_tree_rule.specs.declared.fault.TreeFault.{TreeFault}
 use Rattle.vm_tree_read.specs.Waiting.{LosesNone}
-use Rattle.vm_drive.specs.{Causes.notes_about, declared.worker.Worker.Worker, Kept.IsRoomFor, Kept.Room, Parts.StandBehind, Spans.HasSpans, TreeCalls.as_said, Workers.HasKept, Workers.IsAtWork}
+use Rattle.vm_drive.specs.{Causes.notes_about, declared.worker.Worker.Worker, Kept.IsRoomFor, Kept.Room}
+use Rattle.vm_drive.specs.{Parts.StandBehind, Spans.HasSpans, TreeCalls.as_said, Workers.HasKept, Workers.IsAtWork}
 
 -- the worker's number
 abbrev pub number_of : {U X A : Type 0} {owner : _} → Worker U A X owner → ℕ
@@ -31,7 +33,7 @@ abbrev pub AreAtHome : {U X A : Type 0} {owner : _} → (first cap : ℕ) → Li
 AreAtHome first cap [] = Unit {0}
 AreAtHome first cap (worker ∷ workers) = (worker.iface.home ≡ first) × (worker.iface.cap ≡ cap) × AreAtHome (first + 1) cap workers
 
-module _ {U A : Type 0} {owner : _} (shape : Shape) (tells : Bool) (t : TableId) where
+module _ {U A : Type 0} {owner : _} (shape : TableShape) (tells : Bool) (t : TableId) where
   -- the worker has a part of its own, no frame, and has done nothing
   pub record IsNewWorker (v : View Said) (worker : Worker U A Said owner) : Type 0 where
     pub work : IsAtWork shape tells t worker
@@ -43,8 +45,10 @@ module _ {U A : Type 0} {owner : _} (shape : Shape) (tells : Bool) (t : TableId)
     pub log : (view worker.pass).log ≡ []
     pub frames : (view worker.pass).frames ≡ []
 
-  -- The pass with the view v, which then has the view w, gave a part to each of these workers, who have these rooms for answers and these spans
-  pub record AreHired (rooms : List A) (given : List (Vec (Pairs × ℕ) Global)) (v : View Said) (workers : List (Worker U A Said owner)) (w : View Said) : Type 0 where
+  -- The pass with the view v, which then has the view w, gave a part to each of these workers, who have these rooms
+  -- for answers and these spans
+  pub record AreHired (rooms : List A) (given : List (Vec (Pairs × ℕ) Global)) (v : View Said)
+      (workers : List (Worker U A Said owner)) (w : View Said) : Type 0 where
     pub kept : KeepsAll v w
     pub mine : w.mine ≡ v.mine
     pub notes : w.notes ≡ v.notes
@@ -61,7 +65,8 @@ module _ {U A : Type 0} {owner : _} (shape : Shape) (tells : Bool) (t : TableId)
     pub spans : spans_given workers ≡ given
     pub all : ((workers ≡ []) × (w ≡ v)) ⊎ (IsWhole v → v.mine ≡ v.seen)
 
-module _ (n : ℕ) {U X A : Type 0} {owner : _} (keeps : A → List (Result Reply TreeFault) → Type 0) (space : A → Room) (shape : Shape) (tells : Bool) (t : TableId) where
+module _ (n : ℕ) {U X A : Type 0} {owner : _} (keeps : A → List (Result Reply TreeFault) → Type 0) (space : A → Room)
+    (shape : TableShape) (tells : Bool) (t : TableId) where
   -- the worker is at work with no page, and has room for answers to the calls, and a span for each of them that asks for a range
   pub record IsIdle (calls : List Call) (worker : Worker U A X owner) : Type 0 where
     pub work : IsAtWork shape tells t worker
@@ -77,7 +82,8 @@ module _ (n : ℕ) {U X A : Type 0} {owner : _} (keeps : A → List (Result Repl
   AreIdle (calls ∷ lists) [] = ⊥
   AreIdle (calls ∷ lists) (worker ∷ workers) = IsIdle calls worker × AreIdle lists workers
 
-module _ (n : ℕ) {U A : Type 0} {owner : _} (keeps : A → List (Result Reply TreeFault) → Type 0) (shape : Shape) (tells : Bool) (t : TableId) where
+module _ (n : ℕ) {U A : Type 0} {owner : _} (keeps : A → List (Result Reply TreeFault) → Type 0) (shape : TableShape)
+    (tells : Bool) (t : TableId) where
   -- the worker has made the calls, holds no page, and has no frame but those that it had and its interface did not
   pub record HasWorked (calls : List Call) (old new : Worker U A Said owner) : Type 0 where
     pub ready : IsReady shape tells t new.pass
@@ -115,9 +121,11 @@ pub record IsIn {U A : Type 0} {owner : _} (w : View Said) (worker : Worker U A 
   pub heard : StartsWith w.seen (view worker.pass).seen
   pub saw : StartsWith w.releases (view worker.pass).releases
 
--- The passes of the workers, which had no frame, went into the pass that had the view x and has the view w: their steps and notes stand in its own,
+-- The passes of the workers, which had no frame, went into the pass that had the view x and has the view w: their
+-- steps and notes stand in its own,
 -- behind what it had, one worker's behind another's
-pub record AreJoined (n : ℕ) {U A : Type 0} {owner : _} (tells : Bool) (x : View Said) (workers : List (Worker U A Said owner)) (w : View Said) : Type 0 where
+pub record AreJoined (n : ℕ) {U A : Type 0} {owner : _} (tells : Bool) (x : View Said)
+    (workers : List (Worker U A Said owner)) (w : View Said) : Type 0 where
   pub kept : KeepsAll x w
   pub current : w.current ≡ true
   pub used : w.used ≡ x.used ++ numbers_of workers
@@ -131,7 +139,7 @@ pub record AreJoined (n : ℕ) {U A : Type 0} {owner : _} (tells : Bool) (x : Vi
   pub each : Each (IsIn w) workers
   pub knows : KnowsAll tells (KeepsPlain as_said (fixed n)) w
 
-module _ {U A : Type 0} {owner : _} (shape : Shape) (tells : Bool) (t : TableId) where
+module _ {U A : Type 0} {owner : _} (shape : TableShape) (tells : Bool) (t : TableId) where
   -- the worker is back: its pass holds no page and no frame, and has one part, its number
   pub record IsBack (x : View Said) (worker : Worker U A Said owner) : Type 0 where
     pub ready : IsReady shape tells t worker.pass

@@ -34,12 +34,18 @@ IsUsedUp w pages = (pages ≡ w.start.pages) × (pages ≤ (kept_by w).next + 1)
 abbrev pub IsAtLastVersion : View Said → ℕ → Type 0
 IsAtLastVersion w p = MAX_VERSION ≤ (last_of w p).version
 
--- The workers have made the calls of their lists on a tree of pages of n words, with these answers, and their passes went into the one that had the
--- view v and has the view w: it is whole again, holds no page, and has just the frames that it had. What it has seen begins with what it had seen, is
--- legal, and is all its own. Its own entries grew by just the lists' calls that had a reply, each list in order under a number of its own. Each fault
--- of a device has its own new note of the page; each other fault has its cause, each window is a leaf's, the table's page as it stood, and each range
--- is that of leaves that stood together. Each worker made its calls one after another, and what each was answered comes of the steps and notes of that very call
-pub record IsDriven (n : ℕ) (tells : Bool) (lists : List (List Call)) (answers : List (List (Result Reply TreeFault))) (v w : View Said) : Type 0 where
+-- The workers have made the calls of their lists on a tree of pages of n words, with these answers, and their passes
+-- went into the one that had the
+-- view v and has the view w: it is whole again, holds no page, and has just the frames that it had. What it has seen
+-- begins with what it had seen, is
+-- legal, and is all its own. Its own entries grew by just the lists' calls that had a reply, each list in order under
+-- a number of its own. Each fault
+-- of a device has its own new note of the page; each other fault has its cause, each window is a leaf's, the table's
+-- page as it stood, and each range
+-- is that of leaves that stood together. Each worker made its calls one after another, and what each was answered
+-- comes of the steps and notes of that very call
+pub record IsDriven (n : ℕ) (tells : Bool) (lists : List (List Call)) (answers : List (List (Result Reply TreeFault)))
+    (v w : View Said) : Type 0 where
   pub alone : IsAlone w
   pub holds : HoldsNoPage w
   -- so no frame is lost: each worker's went back to the bundles
@@ -61,7 +67,8 @@ pub record IsDriven (n : ℕ) (tells : Bool) (lists : List (List Call)) (answers
   pub noted : StandBehind v.notes (noted_by passes) w.notes
 
 -- the same, where each worker's answers were kept so
-pub record IsDrivenInto (n : ℕ) {A : Type 0} (keeps : A → List (Result Reply TreeFault) → Type 0) (tells : Bool) (lists : List (List Call)) (kept : List A) (v w : View Said) : Type 0 where
+pub record IsDrivenInto (n : ℕ) {A : Type 0} (keeps : A → List (Result Reply TreeFault) → Type 0) (tells : Bool)
+    (lists : List (List Call)) (kept : List A) (v w : View Said) : Type 0 where
   pub told : List (List (Result Reply TreeFault))
   pub stand : AreKept keeps kept told
   pub driven : IsDriven n tells lists told v w

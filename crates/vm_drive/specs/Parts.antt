@@ -16,7 +16,8 @@ module _ {A : Type 0} where
   abbrev pub StandBehind : List A → List (List A) → List A → Type 0
   StandBehind front parts all = (rest : List A) × (all ≡ front ++ rest) × StandIn parts rest
 
--- the worker's pass began with nothing done, made the calls, and knew u behind the last one; its entries are those that this pass's history has
+-- the worker's pass began with nothing done, made the calls, and knew u behind the last one; its entries are those
+-- that this pass's history has
 -- under its number
 pub record HasPart (n : ℕ) (w : View Said) (calls : List Call) (answers : List (Result Reply TreeFault)) (u : View Said) : Type 0 where
   pub began : View Said

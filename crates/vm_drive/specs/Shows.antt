@@ -1,4 +1,5 @@
--- The windows and the ranges among workers' answers, on pages of n words: each window shows what the leaf that covers its start does, with the words
+-- The windows and the ranges among workers' answers, on pages of n words: each window shows what the leaf that covers
+-- its start does, with the words
 -- that the table's page had at the step of the history; each range what leaves do that stood together at its step.
 use Rattle.std.specs.Prelude.{[], ◌++◌, ◌∷◌, ◌≡◌, Err, List, Ok, Result, true, ℕ}
 use Rattle.vm_map.specs.{declared.call.Call.Call, declared.call.Reply.Reply, declared.call.Said.Said}
@@ -11,8 +12,10 @@ use Rattle.vm_step.specs.Prelude.{Release, View}
 use Rattle.vm_tree_laws.specs.{Keeps.KeepsTree, May.IsProved, May.IsProvedByAll}
 use Rattle.vm_tree_rule.specs.declared.fault.TreeFault.{TreeFault}
 
--- The reply is what a leaf shows: one of the tree's pages at the step that made the call with this reply an entry of the history, which the pass
--- knows. This page of the tree is the table's page as it stood then: its words are the last ones after a beginning of the releases, which the pass
+-- The reply is what a leaf shows: one of the tree's pages at the step that made the call with this reply an entry of
+-- the history, which the pass
+-- knows. This page of the tree is the table's page as it stood then: its words are the last ones after a beginning of
+-- the releases, which the pass
 -- knows too
 pub record IsOfLeaf (n : ℕ) (said : Said) (v : View Said) : Type 0 where
   pub kept : Kept Said
@@ -29,7 +32,8 @@ pub record IsOfLeaf (n : ℕ) (said : Said) (v : View Said) : Type 0 where
   pub leaf : (node_of (fixed n) (page_at kept.pages page)).tag ≡ 2
   pub proved : IsProved (fixed n) (page_at kept.pages page) said.call said.reply
 
--- The reply is what leaves prove that were held together: at the step that made the call with this reply an entry of the history, which the pass
+-- The reply is what leaves prove that were held together: at the step that made the call with this reply an entry of
+-- the history, which the pass
 -- knows, these pages of the tree had these words. So where it is too wide there are as many such leaves as can be held
 pub record IsOfLeaves (n : ℕ) (said : Said) (v : View Said) : Type 0 where
   pub kept : Kept Said
@@ -43,7 +47,8 @@ pub record IsOfLeaves (n : ℕ) (said : Said) (v : View Said) : Type 0 where
   pub there : PagesHave kept.pages leaves
   pub proved : IsProvedByAll (fixed n) leaves said.call said.reply
 
--- where blocks tell their words, a window shows what the leaf that covers its start does, and a range what leaves that cover it do, as far as they reach
+-- where blocks tell their words, a window shows what the leaf that covers its start does, and a range what leaves
+-- that cover it do, as far as they reach
 abbrev pub IsReplyShown : ℕ → View Said → Call → Reply → Type 0
 IsReplyShown n v (Get key) reply = Unit {0}
 IsReplyShown n v (Put key value) reply = Unit {0}

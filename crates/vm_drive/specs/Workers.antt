@@ -2,13 +2,14 @@
 use Rattle.std.specs.Prelude.{◌≡◌, ◌≤◌, Bool, List, None, Result, ℕ}
 use Rattle.vm_map.specs.{declared.call.Call.Call, declared.call.Reply.Reply, declared.call.Said.Said}
 use Rattle.vm_rule.specs.Prelude.{TableId}
-use Rattle.vm_step.specs.Prelude.{AreHeld, Did, IsReady, Shape, View, view}
+use Rattle.vm_step.specs.Prelude.{AreHeld, Did, IsReady, TableShape, View, view}
 use Rattle.vm_exmap.specs.Frames.{MovesFrames}
 use Rattle.vm_tree_rule.specs.declared.fault.TreeFault.{TreeFault}
 use Rattle.vm_drive.specs.{declared.worker.Worker.Worker, TreeCalls.AreTreeCalls}
 
 -- the worker's pass may step on this table, which has a page, has its block at home, and holds the interface's frames
-pub record IsAtWork {U X A : Type 0} {owner : _} (shape : Shape) (tells : Bool) (t : TableId) (worker : Worker U A X owner) : Type 0 where
+pub record IsAtWork {U X A : Type 0} {owner : _} (shape : TableShape) (tells : Bool) (t : TableId)
+    (worker : Worker U A X owner) : Type 0 where
   pub ready : IsReady shape tells t worker.pass
   pub pages : 1 ≤ shape.pages
   pub home : (view worker.pass).out ≡ None

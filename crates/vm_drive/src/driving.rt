@@ -4,7 +4,7 @@ ghost use Rattle.std.specs.List.{AllByRecursion};
 ghost use Rattle.std.specs.Prelude.{[], ◌*◌, ◌<◌, ◌≡◌, ◌≤◌, IfErr, IfOk, length, None};
 ghost use Rattle.std.specs.Vec.{vec_capacity};
 ghost use Rattle.vm_rule.specs.Prelude.{Each, HoldsNoPage, IsWhole};
-ghost use Rattle.vm_step.specs.Prelude.{IsReady, IsSamePass, view};
+ghost use Rattle.vm_step.specs.Prelude.{GoesOn, IsReadyOn, view};
 ghost use Rattle.vm_drive.specs.Crews.{AllWorked, answers_of, AreAtHome, AreHired, AreIdle, AreJoined, HasWorked, IsBack, IsIdle, share_of};
 ghost use Rattle.vm_drive.specs.Drives.{AreAskable, AreFew, IsDriven, IsDrivenInto, items_of};
 ghost use Rattle.vm_drive.specs.Holds.{list_at};
@@ -64,7 +64,7 @@ pub fn drive<
     lists: &[Vec<Call>],
     gate: &G,
 ) -> Result<Driven, Memory>
-    requires ready { IsReady pool.now.words.table.shared.key B.tells pool.now.words.table.shared.table_id pass.old }
+    requires ready { IsReadyOn pool.now.words B.tells pass.old }
     requires whole { IsWhole (view pass.old) }
     requires holds { HoldsNoPage (view pass.old) }
     requires fresh { length lists.now ≤ length (view pass.old).fresh }
@@ -73,8 +73,7 @@ pub fn drive<
     requires askable { AreAskable (items_of lists.now) }
     requires frames { 8 * length lists.now ≤ pool.now.words.frames }
     requires pages { 1 ≤ pool.now.words.table.shared.key.pages }
-    ensures pass { IsSamePass pass.old pass.new }
-    ensures ready { IsReady pool.now.words.table.shared.key B.tells pool.now.words.table.shared.table_id pass.new }
+    ensures goes { GoesOn pool.now.words B.tells pass.old pass.new }
     ensures driven { IfOk result (λ driven. IsDriven N B.tells (items_of lists.now) (all_replies driven.replies.items) (view pass.old) (view pass.new)) }
     ensures contents { IfOk result (λ driven. AllByRecursion HasContents driven.replies.items) }
     ensures memory { IfErr result (λ _. pass.new ≡ pass.old) }
@@ -108,7 +107,7 @@ pub fn drive_into<
     gate: &G,
     rooms: Vec<A>,
 ) -> Result<DrivenInto<A>, Memory>
-    requires ready { IsReady pool.now.words.table.shared.key B.tells pool.now.words.table.shared.table_id pass.old }
+    requires ready { IsReadyOn pool.now.words B.tells pass.old }
     requires whole { IsWhole (view pass.old) }
     requires holds { HoldsNoPage (view pass.old) }
     requires fresh { length lists.now ≤ length (view pass.old).fresh }
@@ -118,8 +117,7 @@ pub fn drive_into<
     requires frames { 8 * length lists.now ≤ pool.now.words.frames }
     requires pages { 1 ≤ pool.now.words.table.shared.key.pages }
     requires rooms { HaveRoom A.keeps A.room rooms.items (items_of lists.now) }
-    ensures pass { IsSamePass pass.old pass.new }
-    ensures ready { IsReady pool.now.words.table.shared.key B.tells pool.now.words.table.shared.table_id pass.new }
+    ensures goes { GoesOn pool.now.words B.tells pass.old pass.new }
     ensures driven { IfOk result (λ driven. IsDrivenInto N A.keeps B.tells (items_of lists.now) driven.kept.items (view pass.old) (view pass.new)) }
     ensures memory { IfErr result (λ _. pass.new ≡ pass.old) }
 {
@@ -170,7 +168,7 @@ fn hire<S: OfSize<N>, B: Block, A: Drop, const N: usize>(
     spans: Vec<Vec<Span>>,
     mut workers: Vec<Worker<TreeOf<WordKeys<S, N>>, A>>,
 ) -> Vec<Worker<TreeOf<WordKeys<S, N>>, A>>
-    requires ready { IsReady pool.now.words.table.shared.key B.tells pool.now.words.table.shared.table_id pass.old }
+    requires ready { IsReadyOn pool.now.words B.tells pass.old }
     requires holds { HoldsNoPage (view pass.old) }
     requires fresh { length rooms.items ≤ length (view pass.old).fresh }
     requires pages { 1 ≤ pool.now.words.table.shared.key.pages }
@@ -178,8 +176,7 @@ fn hire<S: OfSize<N>, B: Block, A: Drop, const N: usize>(
     requires few { length rooms.items ≤ 64 }
     requires spans { length spans.items ≡ length rooms.items }
     requires room { (workers.items ≡ []) × (length rooms.items ≤ vec_capacity workers) }
-    ensures pass { IsSamePass pass.old pass.new }
-    ensures ready { IsReady pool.now.words.table.shared.key B.tells pool.now.words.table.shared.table_id pass.new }
+    ensures goes { GoesOn pool.now.words B.tells pass.old pass.new }
     ensures hired { AreHired pool.now.words.table.shared.key B.tells pool.now.words.table.shared.table_id rooms.items spans.items (view pass.old) result.items (view pass.new) }
     ensures homes { AreAtHome 0 cap result.items }
 {
@@ -246,13 +243,12 @@ fn gather<S: OfSize<N>, B: Block, A: Drop, const N: usize>(
     workers: Vec<Worker<TreeOf<WordKeys<S, N>>, A>>,
     mut kept: Vec<A>,
 ) -> DrivenInto<A>
-    requires ready { IsReady pool.now.words.table.shared.key B.tells pool.now.words.table.shared.table_id pass.old }
+    requires ready { IsReadyOn pool.now.words B.tells pass.old }
     requires home { (view pass.old).out ≡ None }
     requires room { (kept.items ≡ []) × (length workers.items ≤ vec_capacity kept) }
     requires some { 1 ≤ length workers.items }
     requires back { Each (IsBack pool.now.words.table.shared.key B.tells pool.now.words.table.shared.table_id (view pass.old)) workers.items }
-    ensures pass { IsSamePass pass.old pass.new }
-    ensures ready { IsReady pool.now.words.table.shared.key B.tells pool.now.words.table.shared.table_id pass.new }
+    ensures goes { GoesOn pool.now.words B.tells pass.old pass.new }
     ensures joined { AreJoined N B.tells (view pass.old) workers.items (view pass.new) }
     ensures kept { result.kept.items ≡ answers_of workers.items }
 {

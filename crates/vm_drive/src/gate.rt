@@ -8,9 +8,9 @@ pub trait Gate {
 }
 
 /// A gate that does nothing.
-pub struct Open;
+pub struct NoGate;
 
-impl Gate for Open {
+impl Gate for NoGate {
     fn before(&self, _worker: u32, _call: u32) {}
 
     fn after(&self, _worker: u32, _call: u32) {}

@@ -4,7 +4,7 @@ ghost use Rattle.std.specs.List.{AllByRecursion};
 ghost use Rattle.std.specs.Prelude.{[], ◌+◌, ◌∷◌, ◌≡◌, ◌≤◌, length, None};
 ghost use Rattle.vm_map.specs.History.{IsAskable};
 ghost use Rattle.vm_rule.specs.Prelude.{Each, HoldsNoPage};
-ghost use Rattle.vm_step.specs.Prelude.{AreHeld, IsReady, view};
+ghost use Rattle.vm_step.specs.Prelude.{AreHeld, IsReadyOn, view};
 ghost use Rattle.vm_tree_read.specs.Waiting.{LosesNone};
 ghost use Rattle.vm_drive.specs.{Calls.KeepsPass, Kept.IsRoomFor, TreeCalls.IsTreeCall, Workers.HasCalled, Workers.HasKept, Workers.IsAtWork};
 ghost use Rattle.vm_drive.specs.Spans.{HasSpans, IsEmptySpan, ranges_asked};
@@ -21,7 +21,7 @@ use vm_owner::Owner;
 use vm_pool::Pool;
 use vm_rule::words::Pass;
 use vm_tree_read::{get, range, window};
-use vm_tree_write::{del, put, swap};
+use vm_tree_retry::{del, put, swap};
 
 /// A worker's own things.
 #[derive(Drop)]
@@ -42,14 +42,14 @@ fn answer<S: OfSize<N>, R: Wait, B: PageBlock<N>, const N: usize>(
     spans: &mut Vec<Span>,
     call: &Call,
 ) -> Answer
-    requires ready { IsReady pool.now.words.table.shared.key B.tells pool.now.words.table.shared.table_id pass.old }
+    requires ready { IsReadyOn pool.now.words B.tells pass.old }
     requires home { (view pass.old).out ≡ None }
     requires frames { AreHeld iface.old.frames (view pass.old) }
     requires pages { 1 ≤ pool.now.words.table.shared.key.pages }
     requires askable { IsAskable call.now }
     requires some { ranges_asked (call.now ∷ []) ≤ length spans.old.items }
     requires empty { Each (IsEmptySpan N) spans.old.items }
-    ensures ready { IsReady pool.now.words.table.shared.key B.tells pool.now.words.table.shared.table_id pass.new }
+    ensures ready { IsReadyOn pool.now.words B.tells pass.new }
     ensures keeps { KeepsPass (view pass.old) (view pass.new) }
     ensures call { IsTreeCall N call.now result (view pass.old) (view pass.new) }
     ensures spans { length spans.new.items + ranges_asked (call.now ∷ []) ≡ length spans.old.items }
@@ -122,7 +122,7 @@ pub fn work<S: OfSize<N>, R: Wait, B: PageBlock<N>, G: Gate, A: Answers, const N
     requires fresh { A.keeps worker.old.answers [] }
     requires spans { HasSpans N calls.now worker.old.spans.items }
     requires askable { AllByRecursion IsAskable calls.now }
-    ensures ready { IsReady pool.now.words.table.shared.key B.tells pool.now.words.table.shared.table_id worker.new.pass }
+    ensures ready { IsReadyOn pool.now.words B.tells worker.new.pass }
     ensures holds { HoldsNoPage (view worker.new.pass) }
     ensures done { HasKept N A.keeps calls.now worker.new.answers (view worker.old.pass) (view worker.new.pass) }
     ensures lost { LosesNone worker.old.iface.frames (view worker.old.pass) [] (view worker.new.pass) }

@@ -20,7 +20,8 @@ churn_pages z n = 4 * needed z n + 64
 abbrev pub churn_text : ℕ → List (Entry Said) → Pairs → List ℕ
 churn_text n h m = churn_line n (churn_count n) (founds h) (news h) (gones h) (length m) (sum_values m)
 
--- The calls of the places were made on a tree that was built, on pages of z words, of the pairs that the seed gives, over blocks that fail in nothing: so no call is answered
+-- The calls of the places were made on a tree that was built, on pages of z words, of the pairs that the seed gives,
+-- over blocks that fail in nothing: so no call is answered
 -- by a fault of a device, and every page was flushed. What is told are the counts of the history that `end` keeps, and how many pairs
 -- its last map has, and the sum of their values
 pub record IsChurned (z : ℕ) {U : Type 0} (churn : Churn) (told : List ℕ) (end : Ended U Said) : Type 0 where

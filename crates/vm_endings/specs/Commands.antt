@@ -5,10 +5,11 @@ use Rattle.vm_io.specs.Shown.{Shown}
 use Rattle.vm_words.specs.{declared.Command.Command, declared.Run.Run}
 use Rattle.vm_words.specs.declared.Command.TheVariants as commands
 use Rattle.vm_replay.specs.Told.{PlayedFile}
-use Rattle.vm_endings.specs.{Checks.ToldCheck, Churns.ToldChurn, declared.ends.Ends.Ends, Deliveries.Content, Files.HasFile, Makes.ToldMake, Migrates.ToldMigrate}
-use Rattle.vm_endings.specs.{Replays.PlayedReplay}
+use Rattle.vm_endings.specs.{Checks.ToldCheck, Churns.ToldChurn, declared.ends.Ends.Ends, Deliveries.Content}
+use Rattle.vm_endings.specs.{Files.HasFile, Makes.ToldMake, Migrates.ToldMigrate, Replays.PlayedReplay}
 use Rattle.vm_endings.specs.declared.stop.Quantity.TheVariants.{Fail, FirstVersion, Frames, Pages, Pairs, Words, Workers}
-use Rattle.vm_endings.specs.Limits.{are_entries, are_frames, are_pages, are_pairs_to_churn, are_pairs_to_make, are_words, are_workers, is_version, words_or}
+use Rattle.vm_endings.specs.Limits.{are_entries, are_frames, are_pages, are_pairs_to_churn, are_pairs_to_make}
+use Rattle.vm_endings.specs.Limits.{are_words, are_workers, is_version, words_or}
 use Rattle.vm_endings.specs.Runs.{CutRun, ToldRun, version_or}
 use Rattle.vm_endings.specs.Tests.{depth, events, image, room, script, space, Test, within}
 
@@ -38,7 +39,8 @@ order_of (commands.Churn churn) =
     ∷ within Words (are_words (words_or churn.words))
     ∷ []
 order_of (commands.Replay replay) = events replay.file.now ∷ []
-order_of (commands.Migrate migrate) = within Pages (are_pages 512 migrate.pages) ∷ image migrate.input.now ∷ space migrate.pages migrate.input.now ∷ []
+order_of (commands.Migrate migrate) =
+    within Pages (are_pages 512 migrate.pages) ∷ image migrate.input.now ∷ space migrate.pages migrate.input.now ∷ []
 
 -- what status 0 says of a command: what it gave, and what is kept in `after`
 abbrev pub ToldCommand : Command → Option Shown → Content → Ends → Ends → Type 0
@@ -55,7 +57,8 @@ Cut (commands.Run run) shown content before after = CutRun run shown content aft
 Cut (commands.Make make) shown content before after = ⊥
 Cut (commands.Check check) shown content before after = ⊥
 Cut (commands.Churn churn) shown content before after = ⊥
-Cut (commands.Replay replay) shown content before after = (PlayedReplay false replay shown content × (after ≡ before)) × (content.status ≡ 5)
+Cut (commands.Replay replay) shown content before after =
+    (PlayedReplay false replay shown content × (after ≡ before)) × (content.status ≡ 5)
 Cut (commands.Migrate migrate) shown content before after = ⊥
 
 -- nothing in what is asked for makes it end so: no failures of blocks are planned; every event is legal

@@ -36,12 +36,15 @@ abbrev pub SaidAll : Option Shown → Option Shown → List ℕ → Type 0
 SaidAll None new text = new ≡ None
 SaidAll (Some old) new text = new ≡ Some (say_more old text)
 
--- How it went: all of it; or the file was not written, and nothing changed; or the file was written and the text said only in part. In both the
+-- How it went: all of it; or the file was not written, and nothing changed; or the file was written and the text said
+-- only in part. In both the
 -- status is 3. So a file is as it was, or has all its bytes, and nothing is said before it has them
 pub data IsDelivered (content : Content) (old new : Option Shown) (status : ℕ) : Type 0 where
-  whole : (written : Option Shown) → WroteAll old written content.file → SaidAll written new content.text → status ≡ content.status → IsDelivered content old new status
+  whole : (written : Option Shown) → WroteAll old written content.file → SaidAll written new content.text
+      → status ≡ content.status → IsDelivered content old new status
   unwritten : IsSome content.file → new ≡ old → status ≡ 3 → IsDelivered content old new status
-  text_cut : (written : Option Shown) → WroteAll old written content.file → 0 < length content.text → SaidSome written new content.text → status ≡ 3 → IsDelivered content old new status
+  text_cut : (written : Option Shown) → WroteAll old written content.file → 0 < length content.text
+      → SaidSome written new content.text → status ≡ 3 → IsDelivered content old new status
 
 -- all of it went out
 pub record WentOut (content : Content) (old new : Option Shown) : Type 0 where

@@ -17,17 +17,23 @@ pub data Performs (command : Command) (shown : Option Shown) (content : Content)
   told : ToldCommand command shown content before after → content.status ≡ 0 → Performs command shown content before after
   cut : Cut command shown content before after → Performs command shown content before after
 
--- How a command may end: all its tests passed, and what it gives went out, whole or in part; the first of its tests that failed stopped it; or
+-- How a command may end: all its tests passed, and what it gives went out, whole or in part; the first of its tests
+-- that failed stopped it; or
 -- memory was wanting, and nothing changed. `failed` is the name of the file that the host could not read last
 pub data CommandEnds (command : Command) (failed : List ℕ) (old new : Option Shown) (before after : Ends) (status : ℕ) : Type 0 where
-  done : (content : Content) → AllPass old (order_of command) → Performs command old content before after → IsDelivered content old new status → CommandEnds command failed old new before after status
-  stopped : (stop : Stop) → StopsAt old failed (order_of command) stop → after ≡ before → IsDelivered (line (stop_line stop) (status_of stop)) old new status → CommandEnds command failed old new before after status
+  done : (content : Content) → AllPass old (order_of command) → Performs command old content before after
+      → IsDelivered content old new status → CommandEnds command failed old new before after status
+  stopped : (stop : Stop) → StopsAt old failed (order_of command) stop → after ≡ before
+      → IsDelivered (line (stop_line stop) (status_of stop)) old new status
+      → CommandEnds command failed old new before after status
   unable : new ≡ old → after ≡ before → status ≡ 6 → CommandEnds command failed old new before after status
 
 -- How the program may end on these words
 pub data ProgramEnds (words : List (List ℕ)) (failed : List ℕ) (old new : Option Shown) (before after : Ends) (status : ℕ) : Type 0 where
-  usage : IsNoCommand words → WhyRefused words → after ≡ before → IsDelivered (line usage_text 1) old new status → ProgramEnds words failed old new before after status
-  command : (command : Command) → IsCommand words command → CommandEnds command failed old new before after status → ProgramEnds words failed old new before after status
+  usage : IsNoCommand words → WhyRefused words → after ≡ before → IsDelivered (line usage_text 1) old new status
+      → ProgramEnds words failed old new before after status
+  command : (command : Command) → IsCommand words command → CommandEnds command failed old new before after status
+      → ProgramEnds words failed old new before after status
   exhausted : new ≡ old → after ≡ before → status ≡ 6 → ProgramEnds words failed old new before after status
 
 -- What status 0 says of the words: what they ask for was done, and all that it gives went out
@@ -40,7 +46,8 @@ pub record IsHeadline (words : List (List ℕ)) (old new : Option Shown) (before
 
 -- what a command answers before anything goes out: what it gives, or why it stopped
 abbrev pub AnswersCommand : {V : Type 0} → (V → Content) → Command → List ℕ → Option Shown → Ends → Ends → Result V (Undone Stop) → Type 0
-AnswersCommand view asked failed shown before after (Ok given) = AllPass shown (order_of asked) × Performs asked shown (view given) before after
+AnswersCommand view asked failed shown before after (Ok given) =
+    AllPass shown (order_of asked) × Performs asked shown (view given) before after
 AnswersCommand view asked failed shown before after (Err Memory) = after ≡ before
 AnswersCommand view asked failed shown before after (Err (Stopped stop)) = StopsAt shown failed (order_of asked) stop × (after ≡ before)
 

@@ -1,4 +1,5 @@
--- Page files of either version: which bytes are one whose pages are a tree, and why others are refused. How many words their pages have is told by their first bytes.
+-- Page files of either version: which bytes are one whose pages are a tree, and why others are refused. How many
+-- words their pages have is told by their first bytes.
 use Rattle.std.specs.Prelude.{◌≡◌, length, List, min, slice_index, Some, ℕ}
 use Rattle.vm_map.specs.Map.{Pairs}
 use Rattle.vm_tree_model.specs.{Fixed.fixed, Layout.Layout, Reason.reason, Reason.used_pages, Tree.IsTree, Tree.map_of}

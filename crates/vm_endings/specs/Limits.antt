@@ -11,7 +11,8 @@ are_workers workers = leb 1 workers && leb workers 64
 abbrev pub are_frames : ℕ → ℕ → Bool
 are_frames workers frames = leb 64 frames && (leb frames 65536 && leb (8 * workers) frames)
 
--- So many frames hold the pages that one call on a tree of this height needs at once: page 0, the nodes of a way from the root to a leaf, two fresh pages
+-- So many frames hold the pages that one call on a tree of this height needs at once: page 0, the nodes of a way from
+-- the root to a leaf, two fresh pages
 -- of a split, and four more levels, which a run may add
 abbrev pub holds_call : (height frames : ℕ) → Bool
 holds_call height frames = leb (height + 8) frames

@@ -16,7 +16,8 @@ last_map n pages end = after_all (map_of (fixed n) pages) (saids (view_at_end en
 
 -- The workers' calls were made on the tree of the pages of n words, over blocks that may fail as often as is planned for each, in a pool of
 -- so many frames, each page at the first version at the start; `end` keeps the one history of that, and each worker has these answers
-pub record IsMade (n : ℕ) {U : Type 0} (plan : List PlannedFault) (first count : ℕ) (end : Ended U Said) (pages : List (List ℕ)) (lists : List (List Call)) : Type 0 where
+pub record IsMade (n : ℕ) {U : Type 0} (plan : List PlannedFault) (first count : ℕ) (end : Ended U Said)
+    (pages : List (List ℕ)) (lists : List (List Call)) : Type 0 where
   pub replies : List (List (Result Reply TreeFault))
   pub report : Flushed
   pub blocks : List (MemBlock n)

@@ -6,7 +6,8 @@ use Rattle.vm_script.specs.Texts.{made_line}
 use Rattle.vm_words.specs.declared.Make.{Make}
 use Rattle.vm_endings.specs.{Deliveries.Content, Images.file_height, Images.file_used, Images.pages_of_file, Limits.words_or}
 
--- The file with the name asked for is a page file of the pages asked for, with so many words each, built of the pairs that the seed gives: their tree, laid out in the one way,
+-- The file with the name asked for is a page file of the pages asked for, with so many words each, built of the pairs
+-- that the seed gives: their tree, laid out in the one way,
 -- and pages that are free. What is told is the pages asked for, how many of the file's are not all zero, and the level of its root
 pub record ToldMake (make : Make) (content : Content) : Type 0 where
   pub bytes : List ℕ

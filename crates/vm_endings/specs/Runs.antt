@@ -9,9 +9,9 @@ use Rattle.vm_image.specs.File.{words_of_file}
 use Rattle.vm_pool.specs.declared.ended.Ended.{Ended}
 use Rattle.vm_script.specs.Texts.{rows_text, unflushed_line, worker_replies}
 use Rattle.vm_words.specs.declared.Run.{Run}
-use Rattle.vm_endings.specs.{declared.ends.Ends.Ends, Deliveries.Content, Deliveries.Written, Ends.OfEnd, Files.HasFile}
-use Rattle.vm_endings.specs.{Images.IsFileOf, Images.IsTreeFile, Images.pages_of_file, Made.IsMade, Made.last_map, Replies.all_lines, Replies.counters_of}
-use Rattle.vm_endings.specs.{Scripts.IsScriptOf}
+use Rattle.vm_endings.specs.{declared.ends.Ends.Ends, Deliveries.Content, Deliveries.Written, Ends.OfEnd}
+use Rattle.vm_endings.specs.{Files.HasFile, Images.IsFileOf, Images.IsTreeFile, Images.pages_of_file, Made.IsMade}
+use Rattle.vm_endings.specs.{Made.last_map, Replies.all_lines, Replies.counters_of, Scripts.IsScriptOf}
 
 -- the version at which each page begins
 abbrev pub version_or : Option ℕ → ℕ
@@ -27,9 +27,11 @@ abbrev pub IsKept : ℕ → Option (Bor (List ℕ)) → List (List ℕ) → Opti
 IsKept n None pages file = file ≡ None
 IsKept n (Some name) pages file = (bytes : List ℕ) × (file ≡ Some (record { name = name.now; bytes = bytes })) × IsFileOf n pages bytes
 
--- Every page was flushed: the replies are told, the rows of the history's last map, and the counters. The kept file has the pages of the blocks,
+-- Every page was flushed: the replies are told, the rows of the history's last map, and the counters. The kept file
+-- has the pages of the blocks,
 -- which are each page's last words, and whose map is that map
-pub record IsFlushedRun (n : ℕ) {U : Type 0} (run : Run) (end : Ended U Said) (content : Content) (pages : List (List ℕ)) (lists : List (List Call)) : Type 0 where
+pub record IsFlushedRun (n : ℕ) {U : Type 0} (run : Run) (end : Ended U Said) (content : Content)
+    (pages : List (List ℕ)) (lists : List (List Call)) : Type 0 where
   pub made : IsMadeRun n run end pages lists
   pub evicted : ℕ
   pub flushed : made.report.first ≡ None
@@ -38,7 +40,8 @@ pub record IsFlushedRun (n : ℕ) {U : Type 0} (run : Run) (end : Ended U Said) 
   pub file : IsKept n run.options.keep (pages_of_blocks made.blocks) content.file
 
 -- The write of a page failed in the last flush, and no lesser one's: the replies are told, the page, and the counters
-pub record IsUnflushedRun (n : ℕ) {U : Type 0} (run : Run) (end : Ended U Said) (content : Content) (pages : List (List ℕ)) (lists : List (List Call)) : Type 0 where
+pub record IsUnflushedRun (n : ℕ) {U : Type 0} (run : Run) (end : Ended U Said) (content : Content)
+    (pages : List (List ℕ)) (lists : List (List Call)) : Type 0 where
   pub made : IsMadeRun n run end pages lists
   pub evicted : ℕ
   pub page : ℕ
@@ -49,7 +52,8 @@ pub record IsUnflushedRun (n : ℕ) {U : Type 0} (run : Run) (end : Ended U Said
 -- this holds of the pages of the image, which have n words and are a tree, and of the workers' calls in the script
 abbrev pub OfFiles : ℕ → Option Shown → Run → (List (List ℕ) → List (List Call) → Type 0) → Type 0
 OfFiles n shown run P =
-    HasFile shown run.image.now (λ image. (words_of_file image ≡ n) × IsTreeFile image × HasFile shown run.script.now (λ script. (lists : List (List Call)) × IsScriptOf run.workers lists script × P (pages_of_file image) lists))
+    HasFile shown run.image.now (λ image. (words_of_file image ≡ n) × IsTreeFile image × HasFile shown run.script.now
+    (λ script. (lists : List (List Call)) × IsScriptOf run.workers lists script × P (pages_of_file image) lists))
 
 -- the headline: what status 0 says of a run, whose one history is kept in `after`
 abbrev pub ToldRun : Run → Option Shown → Content → Ends → Type 0
@@ -61,4 +65,5 @@ CutRun run shown content after = OfEnd after (λ n end. OfFiles n shown run (IsU
 
 -- what workers' calls come to: every page was flushed, or one was not
 abbrev pub IsOutcome : {U : Type 0} → ℕ → Run → List (List ℕ) → List (List Call) → Content → Ended U Said → Type 0
-IsOutcome n run pages lists content end = ((content.status ≡ 0) × IsFlushedRun n run end content pages lists) ⊎ ((content.status ≡ 7) × IsUnflushedRun n run end content pages lists)
+IsOutcome n run pages lists content end = ((content.status ≡ 0) × IsFlushedRun n run end content pages lists)
+    ⊎ ((content.status ≡ 7) × IsUnflushedRun n run end content pages lists)

@@ -3,7 +3,8 @@ use Rattle.std.specs.List.{AllByRecursion}
 use Rattle.std.specs.Prelude.{◌<◌, ◌∷◌, ◌≡◌, ◌≤◌, Bool, false, length, List, Option, true, ℕ}
 use Rattle.vm_io.specs.Shown.{Shown}
 use Rattle.vm_build.specs.Build.{needed}
-use Rattle.vm_endings.specs.{declared.stop.Lines.TheVariants.Events, declared.stop.Lines.TheVariants.Script, declared.stop.Quantity.Quantity}
+use Rattle.vm_endings.specs.{declared.stop.Lines.TheVariants.Events, declared.stop.Lines.TheVariants.Script}
+use Rattle.vm_endings.specs.{declared.stop.Quantity.Quantity}
 use Rattle.vm_endings.specs.declared.stop.Quantity.TheVariants.{Frames}
 use Rattle.vm_endings.specs.{declared.stop.Stop.Stop, Files.HasFile, Limits.holds_call}
 use Rattle.vm_endings.specs.declared.stop.Stop.TheVariants.{Length, Line, Long, Page, Shape, TooFew, Unread}
@@ -43,15 +44,19 @@ IsUnread failed name unread = (unread ≡ name) × (failed ≡ name)
 abbrev pub Fails : Option Shown → List ℕ → Test → Stop → Type 0
 Fails shown failed (within quantity holds) (Shape other) = (holds ≡ false) × (other ≡ quantity)
 Fails shown failed (within quantity holds) _ = ⊥
-Fails shown failed (room words pages pairs) (TooFew told wanted) = (pages < needed words pairs) × (told ≡ pages) × (wanted ≡ needed words pairs)
+Fails shown failed (room words pages pairs) (TooFew told wanted) =
+    (pages < needed words pairs) × (told ≡ pages) × (wanted ≡ needed words pairs)
 Fails shown failed (room words pages pairs) _ = ⊥
 Fails shown failed (image name) (Unread unread) = IsUnread failed name unread.now
 Fails shown failed (image name) (Length told) = HasFile shown name (λ bytes. IsWrongLength bytes told)
 Fails shown failed (image name) (Page page why) = HasFile shown name (λ bytes. HoldsNoTree bytes page why)
 Fails shown failed (image name) _ = ⊥
-Fails shown failed (space pages name) (TooFew told wanted) = (told ≡ pages) × HasFile shown name (λ bytes. (pages < needed 512 (length (file_map bytes))) × (wanted ≡ needed 512 (length (file_map bytes))))
+Fails shown failed (space pages name) (TooFew told wanted) =
+    (told ≡ pages) × HasFile shown name
+    (λ bytes. (pages < needed 512 (length (file_map bytes))) × (wanted ≡ needed 512 (length (file_map bytes))))
 Fails shown failed (space pages name) _ = ⊥
-Fails shown failed (depth frames name) (Shape other) = (other ≡ Frames) × HasFile shown name (λ bytes. holds_call (file_height bytes) frames ≡ false)
+Fails shown failed (depth frames name) (Shape other) =
+    (other ≡ Frames) × HasFile shown name (λ bytes. holds_call (file_height bytes) frames ≡ false)
 Fails shown failed (depth frames name) _ = ⊥
 Fails shown failed (script name workers) (Unread unread) = IsUnread failed name unread.now
 Fails shown failed (script name workers) (Long lines) = (lines ≡ Script) × HasFile shown name IsLong
@@ -68,4 +73,5 @@ AllPass shown tests = AllByRecursion (Passes shown) tests
 -- the first of the tests that fails, and why
 pub data StopsAt (shown : Option Shown) (failed : List ℕ) : List Test → Stop → Type 0 where
   here : {test : Test} {tests : List Test} {stop : Stop} → Fails shown failed test stop → StopsAt shown failed (test ∷ tests) stop
-  past : {test : Test} {tests : List Test} {stop : Stop} → Passes shown test → StopsAt shown failed tests stop → StopsAt shown failed (test ∷ tests) stop
+  past : {test : Test} {tests : List Test} {stop : Stop} → Passes shown test → StopsAt shown failed tests stop
+      → StopsAt shown failed (test ∷ tests) stop

@@ -1,6 +1,6 @@
 //! What a command gives, and how it goes out: a file may be replaced, then a text is said, and the status tells how that went.
 
-ghost use Rattle.std.specs.Prelude.{◌≡◌, ◌≤◌, ◌⊎◌};
+ghost use Rattle.std.specs.Prelude.{◌≡◌, ◌⊎◌};
 ghost use Rattle.vm_io.specs.Causes.{AreLater, FailedGive, SameTakes};
 ghost use Rattle.vm_endings.specs.Deliveries.{content_of, IsDelivered, line};
 ghost use Rattle.vm_endings.specs.Stops.{status_of as status_for, stop_line};

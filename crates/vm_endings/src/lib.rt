@@ -1,5 +1,5 @@
 //! How commands end: what each asks before it does anything, what stops it, what it gives, and how that goes out; the texts of answers and rows.
-//! The definitions of what the commands promise stand here, and the few functions that say a stop and let out what is given.
+//! The definitions of what the commands promise stand here, and the few functions that say a stop, let out what is given, and make a file of an image.
 #![tactic(auto)]
 
 pub mod delivery;
@@ -8,3 +8,4 @@ pub mod limits;
 pub mod replies;
 pub mod stop;
 pub mod undone;
+pub mod writing;

@@ -1,4 +1,3 @@
-pub mod Answering
 pub mod Prelude
 pub mod Writing
 pub mod Evidenced

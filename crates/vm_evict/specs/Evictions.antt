@@ -1,16 +1,18 @@
--- What becomes of the candidates for eviction. A candidate is freed: locked from the very word at which it was marked, written before if it was
+-- What becomes of the candidates for eviction. A candidate is freed: locked from the very word at which it was
+-- marked, written before if it was
 -- dirty, taken out of its frame, and released as evicted at its next version with the words that it had. Or its write failed, and it stays
 -- resident and dirty, at its version. Or it changed before it could be locked.
-use Rattle.std.specs.Prelude.{[], Bool, false, if◌then◌else◌, length, List, None, Option, slice_index_or, Some, suc, true, zero, ℕ, ◌++◌, ◌+◌, ◌<◌}
-use Rattle.std.specs.Prelude.{◌||◌, ◌∷◌, ◌≡◌, ◌≢◌, ◌⊎◌}
+use Rattle.std.specs.Prelude.{[], Bool, false, if◌then◌else◌, length, List, None, Option, slice_index_or, Some, suc}
+use Rattle.std.specs.Prelude.{true, zero, ℕ, ◌++◌, ◌+◌, ◌<◌, ◌||◌, ◌∷◌, ◌≡◌, ◌≢◌, ◌⊎◌}
 use Rattle.vm_core.specs.Prelude.{EVICTED, LOCKED, mapping_of, trans_word, version_of, word_of}
 use Rattle.vm_rule.specs.Prelude.{AreApart, clean_in, contents_at, Each, has, last_in, last_of}
-use Rattle.vm_rule.specs.declared.view.Place.{Place}
-use Rattle.vm_rule.specs.declared.view.Place.TheVariants as places
+use Rattle.vm_rule.specs.declared.view.WordPlace.{WordPlace}
+use Rattle.vm_rule.specs.declared.view.WordPlace.TheVariants as places
 use Rattle.vm_step.specs.{declared.choice.Looks.Looks, Evidence.IsLoad}
-use Rattle.vm_step.specs.Prelude.{candidate_pages, Did, GoesOnce, HasGiven, HasWritten, IsAlone, IsAsideOf, IsLost, KnowsElse, Note, Release}
-use Rattle.vm_step.specs.Prelude.{RunsAlone, StaysHome, Unstored, View, WritesNone}
-use Rattle.vm_evict.specs.{declared.candidate.Stage.Stage, declared.report.Report.Report, Phases.InPhases, Tables.IsOfAny, Tables.KnowsStage}
+use Rattle.vm_step.specs.Prelude.{candidate_pages, Did, GoesOnce, HasGiven, HasWritten, IsAlone, IsAsideOf, IsLost}
+use Rattle.vm_step.specs.Prelude.{KnowsElse, Note, Release, RunsAlone, StaysHome, Unstored, View, WritesNone}
+use Rattle.vm_evict.specs.{declared.candidate.Stage.Stage, declared.report.Report.Report, Phases.InPhases}
+use Rattle.vm_evict.specs.{Tables.IsOfAny, Tables.KnowsStage}
 use Rattle.vm_evict.specs.Writes.{HasNotSaved, HasSaved, IsAllowed, IsFoundDirty}
 use Rattle.vm_evict.specs.declared.candidate.Stage.TheVariants as stages
 
@@ -23,12 +25,16 @@ pub record HasStep (kind : List Did → Did → Type 0) (done : List Did) : Type
   pub is : kind earlier step
 
 -- an exchange of these steps expected this word, and found another, which none of the steps before had left there
-abbrev pub HasLost : List Did → Place → ℕ → Type 0
-HasLost done at expects = HasStep (λ earlier d. (found : ℕ) × IsLost d at expects found × Each (λ e. e.at ≡ at → e.wrote ≢ Some found) earlier) done
+abbrev pub HasLost : List Did → WordPlace → ℕ → Type 0
+HasLost done at expects =
+    HasStep (λ earlier d. (found : ℕ) × IsLost d at expects found × Each (λ e. e.at ≡ at → e.wrote ≢ Some found)
+    earlier) done
 
 -- an exchange of these steps found the word that it expected, and put another in its place
-abbrev pub HasTaken : List Did → Place → ℕ → ℕ → Type 0
-HasTaken done at expects new = HasStep (λ earlier d. (d.at ≡ at) × (d.expects ≡ Some expects) × (d.found ≡ Some expects) × (d.wrote ≡ Some new)) done
+abbrev pub HasTaken : List Did → WordPlace → ℕ → ℕ → Type 0
+HasTaken done at expects new =
+    HasStep (λ earlier d. (d.at ≡ at) × (d.expects ≡ Some expects) × (d.found ≡ Some expects) × (d.wrote ≡ Some new))
+    done
 
 -- why a page is shared from its word: a step found it dirty, or a look found another word than that
 abbrev pub IsToShare : ℕ → ℕ → List Did → Type 0
@@ -112,17 +118,21 @@ pub record Tallies (evicted saved : List ℕ) (notes : List Note) (missed : List
 -- the report has the counts of the first n
 abbrev pub Counts : ℕ → List (ℕ × ℕ) → Looks → List Stage → Report → Type 0
 Counts n list looks ends report =
-    Tallies (gathered frame_at n list ends) (gathered written_at n list ends) (gathered note_at n list ends) (gathered lost_at n list ends) looks report
+    Tallies (gathered frame_at n list ends) (gathered written_at n list ends) (gathered note_at n list ends)
+    (gathered lost_at n list ends) looks report
 
--- an exchange on it was lost: one that expected the word, or one that expected the pass's share alone at its version, which a step before had
+-- an exchange on it was lost: one that expected the word, or one that expected the pass's share alone at its version,
+-- which a step before had
 -- taken from the word; where it was written it had been dirty under the share, and where it was not, its device was not called
 pub record IsMissed (p word : ℕ) (written : Bool) (done : List Did) : Type 0 where
-  pub why : HasLost done (places.State p) word ⊎ ((l : HasLost done (places.State p) (word_of 1 (version_of word))) × IsSharedToSave p word l.earlier)
+  pub why : HasLost done (places.State p) word
+      ⊎ ((l : HasLost done (places.State p) (word_of 1 (version_of word))) × IsSharedToSave p word l.earlier)
   pub cleaned : written ≡ true → (frame : ℕ) × IsSavedFrom p word frame done
   pub unwritten : written ≡ false → HasNotSaved p done
   pub unreleased : Unstored p done
 
--- page p was locked from this word, which no step put there, stood clean in this frame, and was taken out of it; where it was written it had been
+-- page p was locked from this word, which no step put there, stood clean in this frame, and was taken out of it;
+-- where it was written it had been
 -- dirty under the pass's share, and where it was not, its device was not called
 pub record IsTakenOut (p word frame : ℕ) (written : Bool) (done : List Did) : Type 0 where
   pub locked : LocksFrom p word done
@@ -130,7 +140,9 @@ pub record IsTakenOut (p word frame : ℕ) (written : Bool) (done : List Did) : 
   -- a step found that it stands in this frame, clean
   pub stood : (found : ℕ) × HasGiven done (places.Translation p) found × (mapping_of found ≡ Some (clean_in frame))
   pub cleaned : written ≡ true → IsSavedFrom p word frame done
-  pub unwritten : written ≡ false → Each (λ d. d.at ≡ places.Translation p → d.wrote ≢ Some (trans_word (Some (clean_in frame)))) done × StaysHome p done
+  pub unwritten : written ≡ false
+      → Each (λ d. d.at ≡ places.Translation p → d.wrote ≢ Some (trans_word (Some (clean_in frame)))) done
+      × StaysHome p done
   -- the frame's owner word names no page, and then the translation names no frame
   pub disowned : HasWritten done (places.Owner frame) 0
   pub emptied : HasWritten done (places.Translation p) (trans_word None)
@@ -165,7 +177,8 @@ module _ {X : Type 0} where
     pub left : HasWritten done (places.State p) (word_of EVICTED (version_of word + 1))
     pub released : HasReleased p word v w
 
-  -- its write failed: it was shared from its word and found dirty under the share; its block went out once; its translation word stays, and it was
+  -- its write failed: it was shared from its word and found dirty under the share; its block went out once; its
+  -- translation word stays, and it was
   -- not released; the fault word was raised
   pub record IsWriteFailed (p word count : ℕ) (done : List Did) (v : View X) : Type 0 where
     pub shared : IsSharedToSave p word done
@@ -185,12 +198,14 @@ module _ {X : Type 0} where
 
   -- ---- a list of candidates
 
-  -- what a pass that was alone knows then: of each candidate's words what its end says, and all other words as they were, the bundles' among them
+  -- what a pass that was alone knows then: of each candidate's words what its end says, and all other words as they
+  -- were, the bundles' among them
   pub record KnowsEvicted (list : List (ℕ × ℕ)) (ends : List Stage) (v w : View X) : Type 0 where
     pub each : (n : ℕ) → n < length list → KnowsStage (candidate_at list n) (stage_at ends n) v w
     pub others : KnowsElse (IsOfAny (candidate_pages list)) v w
 
-  -- what `evict` of these candidates does, in its phases: each is evicted, or could not be written, or was lost; their frames are in the batch
+  -- what `evict` of these candidates does, in its phases: each is evicted, or could not be written, or was lost;
+  -- their frames are in the batch
   pub record IsBatch (list : List (ℕ × ℕ)) (looks : Looks) (v w : View X) (report : Report) (batch : List ℕ) : Type 0 where
     pub done : List Did
     pub phases : InPhases list done

@@ -1,15 +1,16 @@
--- What a flush does with each page, by rising number. A page that is evicted or clean it leaves; one that somebody has locked, or that changed
+-- What a flush does with each page, by rising number. A page that is evicted or clean it leaves; one that somebody
+-- has locked, or that changed
 -- before it could be locked, is busy; any other is written under a share, and is clean then, or its write failed and it stays dirty.
-use Rattle.std.specs.Prelude.{[], Bool, Err, false, if◌then◌else◌, length, List, None, Ok, Option, Result, Some, suc, true, zero, ℕ, ◌++◌, ◌+◌, ◌-◌, ◌<◌}
-use Rattle.std.specs.Prelude.{◌==◌, ◌^◌, ◌∷◌, ◌≡◌, ◌≢◌, ◌≤◌, ◌⊎◌}
+use Rattle.std.specs.Prelude.{[], Bool, Err, false, if◌then◌else◌, length, List, None, Ok, Option, Result, Some, suc}
+use Rattle.std.specs.Prelude.{true, zero, ℕ, ◌++◌, ◌+◌, ◌-◌, ◌<◌, ◌==◌, ◌^◌, ◌∷◌, ◌≡◌, ◌≢◌, ◌≤◌, ◌⊎◌}
 use Rattle.vm_core.specs.Prelude.{EVICTED, mapping_of, MARKED, state_of, UNLOCKED, version_of, word_of}
 use Rattle.vm_rule.specs.Prelude.{did_change, did_exchange, Each, has, seat_of, stands_dirty}
-use Rattle.vm_rule.specs.declared.view.Place.{Place}
-use Rattle.vm_rule.specs.declared.view.Place.TheVariants as places
+use Rattle.vm_rule.specs.declared.view.WordPlace.{WordPlace}
+use Rattle.vm_rule.specs.declared.view.WordPlace.TheVariants as places
 use Rattle.vm_rule_laws.specs.Standing.{mapping_in, state_in}
 use Rattle.vm_step.specs.{declared.took.Took.TheVariants.Lost, declared.took.Took.TheVariants.Taken, declared.took.Took.Took}
-use Rattle.vm_step.specs.Prelude.{Did, first_or, GoesOnce, HasGiven, HasWritten, IsAlone, IsAside, IsAsideOf, IsCalledOnce, IsHeld, LeavesOnly, Note, RunsAlone}
-use Rattle.vm_step.specs.Prelude.{Unstored, View, WritesNone}
+use Rattle.vm_step.specs.Prelude.{Did, first_or, GoesOnce, HasGiven, HasWritten, IsAlone, IsAside, IsAsideOf}
+use Rattle.vm_step.specs.Prelude.{IsCalledOnce, IsHeld, LeavesOnly, Note, RunsAlone, Unstored, View, WritesNone}
 use Rattle.vm_evict.specs.{declared.flushing.Flushed.Flushed, Evictions.HasLost, Evictions.HasTaken}
 use Rattle.vm_evict.specs.Writes.{HasNotSaved, HasSaved, IsAllowed, IsFoundDirty, IsOwnPlace, StaysOn}
 
@@ -21,12 +22,12 @@ abbrev pub done_of : Flushed → ℕ
 done_of f = f.written + (f.failed + f.busy)
 
 -- one of these steps found this word, which none of the steps before had left there
-pub record HasFound (done : List Did) (at : Place) (word : ℕ) : Type 0 where
+pub record HasFound (done : List Did) (at : WordPlace) (word : ℕ) : Type 0 where
   pub given : HasGiven done at word
   pub foreign : Each (λ d. d.at ≡ at → d.wrote ≢ Some word) given.earlier
 
 -- an exchange was lost that expected the word which a step before had found there, or the mark that a step had put in its place
-pub record LosesSeen (done : List Did) (at : Place) (expects : ℕ) : Type 0 where
+pub record LosesSeen (done : List Did) (at : WordPlace) (expects : ℕ) : Type 0 where
   pub lost : HasLost done at expects
   pub seen : ℕ
   pub given : HasGiven lost.earlier at seen
@@ -42,13 +43,15 @@ share_steps p word found =
     did_exchange (places.State p) (word_of MARKED (version_of word)) (word_of MARKED (version_of word)) (word_of 1 (version_of word))
     ∷ did_change (places.State p) found (found - 2 ^ 56) ∷ []
 
--- page p, which a look found with this word, locked by nobody, and a load found dirty, was shared at its version, from its mark: it was marked
+-- page p, which a look found with this word, locked by nobody, and a load found dirty, was shared at its version,
+-- from its mark: it was marked
 -- already, or marked then; and the share was given up. No other step left a word in its state word: none takes a mark away, or a version
 pub record SharesSeen (p word : ℕ) (done : List Did) : Type 0 where
   pub taken : HasTaken done (places.State p) (word_of MARKED (version_of word)) (word_of 1 (version_of word))
   pub looked : HasFound taken.earlier (places.State p) word
   pub why : (frame : ℕ) × IsFoundDirty p frame taken.earlier
-  pub from : (state_of word ≡ MARKED) ⊎ ((state_of word ≡ UNLOCKED) × HasTaken taken.earlier (places.State p) word (word_of MARKED (version_of word)))
+  pub from : (state_of word ≡ MARKED)
+      ⊎ ((state_of word ≡ UNLOCKED) × HasTaken taken.earlier (places.State p) word (word_of MARKED (version_of word)))
   pub only : (found : ℕ) × LeavesOnly (places.State p) (mark_steps p word ++ share_steps p word found) done
 
 -- the page of the first of these notes
@@ -67,7 +70,8 @@ noted_pages [] = []
 noted_pages (n ∷ ns) = n.page ∷ noted_pages ns
 
 module _ {X : Type 0} where
-  -- all steps are on words of page p, and none released it; nothing of the page changed but its open read, the pass's frames are as they were, and
+  -- all steps are on words of page p, and none released it; nothing of the page changed but its open read, the pass's
+  -- frames are as they were, and
   -- nothing was released
   pub record KeepsPage (p : ℕ) (done : List Did) (v w : View X) : Type 0 where
     pub own : StaysOn p done
@@ -76,7 +80,8 @@ module _ {X : Type 0} where
     pub frames : (w.frames ≡ v.frames) × (w.contents ≡ v.contents)
     pub alone : RunsAlone done [] v w
 
-  -- its write failed: it was shared at the version of the look, and found dirty under the share, which was given up; its block went out once;
+  -- its write failed: it was shared at the version of the look, and found dirty under the share, which was given up;
+  -- its block went out once;
   -- its translation word stays; the fault was noted, with the count that the fault word was raised to
   pub record IsUnwritten (p word count : ℕ) (done : List Did) (v w : View X) : Type 0 where
     pub shared : SharesSeen p word done
@@ -93,21 +98,25 @@ module _ {X : Type 0} where
     pub notes : w.notes ≡ v.notes
     pub unsaved : HasNotSaved p done
 
-  -- what the visit of page p comes to; one that is left as clean was seen locked by nobody, and its state word was not written, or it was shared for
-  -- the dirty word found first; an exchange is lost only on a page that was found dirty, and then no step but a mark left its state word another
+  -- what the visit of page p comes to; one that is left as clean was seen locked by nobody, and its state word was
+  -- not written, or it was shared for
+  -- the dirty word found first; an exchange is lost only on a page that was found dirty, and then no step but a mark
+  -- left its state word another
   pub data FlushVisits (p : ℕ) (v w : View X) (old new : Flushed) : Type 0 where
     gone :
         (done : List Did) (word : ℕ) → IsLeft p done v w → WritesNone (places.State p) done
         → HasGiven done (places.State p) word → state_of word ≡ EVICTED → new ≡ old → FlushVisits p v w old new
     clean :
-        (done : List Did) (word : ℕ) → IsLeft p done v w → HasGiven done (places.Translation p) word → stands_dirty (mapping_of word) ≡ false
+        (done : List Did) (word : ℕ) → IsLeft p done v w → HasGiven done (places.Translation p) word
+        → stands_dirty (mapping_of word) ≡ false
         → (seen : ℕ) → HasGiven done (places.State p) seen → (state_of seen ≡ UNLOCKED) ⊎ (state_of seen ≡ MARKED)
         → WritesNone (places.State p) done ⊎ SharesSeen p seen done → new ≡ old → FlushVisits p v w old new
     held :
         (done : List Did) (word : ℕ) → IsLeft p done v w → WritesNone (places.State p) done
         → HasFound done (places.State p) word → IsHeld word → new ≡ record old { busy = old.busy + 1 } → FlushVisits p v w old new
     lost :
-        (done : List Did) (word : ℕ) → IsLeft p done v w → (l : LosesSeen done (places.State p) word) → (frame : ℕ) × IsFoundDirty p frame l.lost.earlier
+        (done : List Did) (word : ℕ) → IsLeft p done v w → (l : LosesSeen done (places.State p) word)
+        → (frame : ℕ) × IsFoundDirty p frame l.lost.earlier
         → WritesNone (places.State p) done ⊎ LeavesOnly (places.State p) (mark_steps p l.seen) done
         → new ≡ record old { busy = old.busy + 1 } → FlushVisits p v w old new
     written :
@@ -140,9 +149,11 @@ module _ {X : Type 0} where
   abbrev pub IsSaved : View X → ℕ → Type 0
   IsSaved v p =
       (state_in v.start v.snapshot p ≡ EVICTED)
-      ⊎ (((state_in v.start v.snapshot p ≡ UNLOCKED) ⊎ (state_in v.start v.snapshot p ≡ MARKED)) × (stands_dirty (mapping_in v.start v.snapshot p) ≡ false))
+      ⊎ (((state_in v.start v.snapshot p ≡ UNLOCKED) ⊎ (state_in v.start v.snapshot p ≡ MARKED))
+      × (stands_dirty (mapping_in v.start v.snapshot p) ≡ false))
 
-  -- what the flush of the first n pages by a pass that is alone comes to: no page is busy, none is released, and each is saved, or its write failed
+  -- what the flush of the first n pages by a pass that is alone comes to: no page is busy, none is released, and each
+  -- is saved, or its write failed
   pub record IsFlushedAlone (n : ℕ) (report : Flushed) (notes : List Note) (v w : View X) : Type 0 where
     pub busy : report.busy ≡ 0
     pub releases : w.releases ≡ v.releases

@@ -1,10 +1,12 @@
--- The phases of an eviction, by the steps of the call: all dirty candidates are shared from their word and written; then the clean ones are locked
--- exclusively; then the written ones become exclusive from one share; then all are taken out of their frames; then all are released as evicted.
+-- The phases of an eviction, by the steps of the call: all dirty candidates are shared from their word and written;
+-- then the clean ones are locked
+-- exclusively; then the written ones become exclusive from one share; then all are taken out of their frames; then
+-- all are released as evicted.
 -- No step is on another word than those of the candidates and the owner words of their frames.
 use Rattle.std.specs.Prelude.{length, List, None, slice_index_or, ℕ, ◌++◌, ◌+◌, ◌-◌, ◌<◌, ◌^◌, ◌≡◌, ◌⊎◌}
 use Rattle.vm_core.specs.Prelude.{EVICTED, LOCKED, trans_word, version_of, word_of}
 use Rattle.vm_rule.specs.Prelude.{did_change, did_exchange, did_load, did_store, Each}
-use Rattle.vm_rule.specs.declared.view.Place.TheVariants as places
+use Rattle.vm_rule.specs.declared.view.WordPlace.TheVariants as places
 use Rattle.vm_step.specs.Prelude.{Did}
 use Rattle.vm_evict.specs.{declared.candidate.Phase.Phase, Writes.WritesPage}
 use Rattle.vm_evict.specs.declared.candidate.Phase.TheVariants as phases
@@ -25,7 +27,9 @@ Locks c d = (found : ℕ) × (d ≡ did_exchange (places.State c.0) c.1 found (w
 
 -- one share at the word's version becomes exclusive; or the exchange is lost, and the share is given up
 abbrev pub Raises : ℕ × ℕ → Did → Type 0
-Raises c d = ((found : ℕ) × (d ≡ did_exchange (places.State c.0) (word_of 1 (version_of c.1)) found (word_of LOCKED (version_of c.1)))) ⊎ GivesUp c.0 d
+Raises c d = ((found : ℕ)
+    × (d ≡ did_exchange (places.State c.0) (word_of 1 (version_of c.1)) found (word_of LOCKED (version_of c.1))))
+    ⊎ GivesUp c.0 d
 
 -- a page is taken out of its frame, whose owner word is zeroed before
 pub data Empties (c : ℕ × ℕ) (d : Did) : Type 0 where

@@ -1,16 +1,20 @@
--- How far an eviction is with a candidate: what is known of it at each stage, by the steps of the call so far and the pass's view now; and what the
+-- How far an eviction is with a candidate: what is known of it at each stage, by the steps of the call so far and the
+-- pass's view now; and what the
 -- steps of a phase on one candidate come to.
 use Rattle.std.specs.Prelude.{[], Bool, false, IsSome, length, List, None, Some, true, ℕ, ◌++◌, ◌+◌, ◌<◌, ◌∷◌, ◌≡◌, ◌≢◌, ◌⊎◌}
 use Rattle.vm_core.specs.Prelude.{mapping_of, version_of, word_of}
 use Rattle.vm_rule.specs.Prelude.{clean_in, draft_of, Each, has, held_at, IsLocking, last_of, Seat, seat_of, stands_dirty, StartsWith}
-use Rattle.vm_rule.specs.declared.view.Place.TheVariants as places
-use Rattle.vm_step.specs.Prelude.{candidate_pages, Did, HoldsPage, IsAlone, IsToldOf, KeepsNumbers, KnowsAsBefore, LeavesRest, Note, ReadsAsBefore}
-use Rattle.vm_step.specs.Prelude.{Release, RunsAlone, StaysAlone, Tie, Translation, Unstored, View}
+use Rattle.vm_rule.specs.declared.view.WordPlace.TheVariants as places
+use Rattle.vm_step.specs.Prelude.{candidate_pages, Did, HoldsPage, IsAlone, IsToldOf, KeepsNumbers, KnowsAsBefore}
+use Rattle.vm_step.specs.Prelude.{LeavesRest, Note, ReadsAsBefore, Release, RunsAlone, StaysAlone, Tie, Translation}
+use Rattle.vm_step.specs.Prelude.{Unstored, View}
 use Rattle.vm_step.specs.declared.choice.Looks.{Looks}
-use Rattle.vm_evict.specs.{declared.candidate.Phase.Phase, declared.candidate.Stage.Stage, declared.report.Evicted.Evicted}
-use Rattle.vm_evict.specs.{declared.report.Report.Report, Phases.Does, Phases.DoesOne, Tables.KnowsStage, Writes.HasNotSaved, Writes.writing_seat}
-use Rattle.vm_evict.specs.Evictions.{candidate_at, first_pair, frame_at, FramesCome, gathered, IsMissed, IsPageFreed, IsSavedFrom, IsSharedToSave}
-use Rattle.vm_evict.specs.Evictions.{IsTakenOut, IsWriteFailed, LocksFrom, note_at, one_if, release_at, stage_at}
+use Rattle.vm_evict.specs.{declared.candidate.Phase.Phase, declared.candidate.Stage.Stage}
+use Rattle.vm_evict.specs.{declared.report.Evicted.Evicted, declared.report.Report.Report, Phases.Does}
+use Rattle.vm_evict.specs.{Phases.DoesOne, Tables.KnowsStage, Writes.HasNotSaved, Writes.writing_seat}
+use Rattle.vm_evict.specs.Evictions.{candidate_at, first_pair, frame_at, FramesCome, gathered, IsMissed, IsPageFreed}
+use Rattle.vm_evict.specs.Evictions.{IsSavedFrom, IsSharedToSave, IsTakenOut, IsWriteFailed, LocksFrom, note_at}
+use Rattle.vm_evict.specs.Evictions.{one_if, release_at, stage_at}
 use Rattle.vm_evict.specs.declared.candidate.Phase.TheVariants as phases
 use Rattle.vm_evict.specs.declared.candidate.Stage.TheVariants as stages
 
@@ -216,7 +220,8 @@ module _ {X : Type 0} where
     pub alone : StaysAlone v x
     pub noted : x.notes ≡ v.notes ++ gathered note_at (length list) list ends
     pub frames : FramesCome (gathered frame_at (length list) list ends) v x
-    pub table : IsAlone v → (n : ℕ) → n < length list → (candidate_at list n).0 < v.start.pages → KnowsStage (candidate_at list n) (stage_at ends n) v x
+    pub table : IsAlone v → (n : ℕ) → n < length list → (candidate_at list n).0 < v.start.pages
+        → KnowsStage (candidate_at list n) (stage_at ends n) v x
 
   -- a phase was made: from these stages to those
   pub record IsPhaseMade (phase : Phase) (list : List (ℕ × ℕ)) (new : List Stage) (done : List Did) (v w : View X) : Type 0 where

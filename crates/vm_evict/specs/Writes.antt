@@ -1,12 +1,14 @@
--- Writing a page back, which the pass has locked for that: where it is dirty, its last words go to its block, and it becomes clean; or the write
+-- Writing a page back, which the pass has locked for that: where it is dirty, its last words go to its block, and it
+-- becomes clean; or the write
 -- fails, and its fault is noted. The page stays locked, and in its frame.
 use Rattle.std.specs.Prelude.{[], Bool, Err, false, length, List, None, Ok, Option, Result, Some, true, ℕ, ◌++◌, ◌<◌, ◌∷◌, ◌≡◌, ◌≤◌, ◌⊎◌}
 use Rattle.vm_core.specs.Prelude.{at, mapping_of, trans_word}
-use Rattle.vm_rule.specs.Prelude.{clean_in, did_load, did_store, dirty_in, Each, held_at, last_of, Seat, seat_of, stands_dirty, TranslationTold}
-use Rattle.vm_rule.specs.declared.view.Place.{Place}
-use Rattle.vm_rule.specs.declared.view.Place.TheVariants as places
-use Rattle.vm_step.specs.Prelude.{Did, GoesOnce, HasGiven, HasWritten, IsAlone, IsOfPage, IsToldOf, KeepsFrames, known_word_at, Origin, StaysHome}
-use Rattle.vm_step.specs.Prelude.{View, Works, WritesNone}
+use Rattle.vm_rule.specs.Prelude.{clean_in, did_load, did_store, dirty_in, Each, held_at, last_of, Seat, seat_of}
+use Rattle.vm_rule.specs.Prelude.{stands_dirty, TranslationTold}
+use Rattle.vm_rule.specs.declared.view.WordPlace.{WordPlace}
+use Rattle.vm_rule.specs.declared.view.WordPlace.TheVariants as places
+use Rattle.vm_step.specs.Prelude.{Did, GoesOnce, HasGiven, HasWritten, IsAlone, IsOfPage, IsToldOf, KeepsFrames}
+use Rattle.vm_step.specs.Prelude.{known_word_at, Origin, StaysHome, View, Works, WritesNone}
 
 -- a count of faults of page p that the bound of its block allows
 abbrev pub IsAllowed : Origin → ℕ → ℕ → Type 0
@@ -27,10 +29,11 @@ abbrev pub IsFoundDirty : ℕ → ℕ → List Did → Type 0
 IsFoundDirty p frame done = (found : ℕ) × HasGiven done (places.Translation p) found × (mapping_of found ≡ Some (dirty_in frame))
 
 -- a page's own words, and the words of frames
-abbrev pub IsOwnPlace : ℕ → Place → Type 0
+abbrev pub IsOwnPlace : ℕ → WordPlace → Type 0
 IsOwnPlace p at = IsOfPage p at ⊎ ((f : ℕ) × (i : ℕ) × (at ≡ places.Content f i))
 
--- among the steps under its share page p was found dirty in this frame, and made clean there afterwards; over all steps of the call its block went
+-- among the steps under its share page p was found dirty in this frame, and made clean there afterwards; over all
+-- steps of the call its block went
 -- out once
 pub record HasSaved (p frame : ℕ) (under done : List Did) : Type 0 where
   pub cleaned : HasWritten under (places.Translation p) (trans_word (Some (clean_in frame)))

@@ -1,7 +1,7 @@
 // All candidates of an eviction: a phase goes over the whole list before the next one begins.
 ghost use Rattle.std.specs.Prelude.{◌<◌, ◌≡◌, ◌≤◌, length, ℕ};
 ghost use Rattle.vm_page.specs.Sizes.{IsSize};
-ghost use Rattle.vm_step.specs.Prelude.{AreCandidates, IsReady, IsSamePass, view};
+ghost use Rattle.vm_step.specs.Prelude.{AreCandidates, GoesOn, IsReadyOn, view};
 ghost use Rattle.vm_evict.specs.declared.candidate.Stage.TheVariants as stages;
 ghost use Rattle.vm_evict.specs.Evictions.{Counts, frame_at, gathered, stage_at};
 ghost use Rattle.vm_evict.specs.Stages.{IsOver, IsPhaseMade, IsUnderWay, MayBeginPhase, MayEnd};
@@ -32,15 +32,14 @@ pub(crate) fn pass_over<U: Owner, B: PageBlock<N>, const N: usize>(
     list: &[(u32, u64)],
     stages: &mut Stages,
 )
-    requires ready { IsReady words.now.table.shared.key B.tells words.now.table.shared.table_id pass.old }
+    requires ready { IsReadyOn words.now B.tells pass.old }
     requires sized { IsSize N }
     requires size { N ≡ words.now.table.shared.key.size }
     requires list { AreCandidates words.now.table.shared.key.pages list.now }
     requires few { length list.now ≤ FRAMES }
     requires way { (v : _) × (done : _) × IsUnderWay list.now stages.old done v (view pass.old) }
     requires begins { (n : ℕ) → n < length list.now → MayBeginPhase phase (stage_at stages.old n) }
-    ensures pass { IsSamePass pass.old pass.new }
-    ensures ready { IsReady words.now.table.shared.key B.tells words.now.table.shared.table_id pass.new }
+    ensures goes { GoesOn words.now B.tells pass.old pass.new }
     ensures passed { (v : _) (done : _) → IsUnderWay list.now stages.old done v (view pass.old) → IsPhaseMade phase list.now stages.new done v (view pass.new) }
     ensures way { (v : _) × (done : _) × IsUnderWay list.now stages.new done v (view pass.new) }
     ensures ends { (n : ℕ) → n < length list.now → MayEnd phase (stage_at stages.new n) }

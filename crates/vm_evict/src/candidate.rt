@@ -1,7 +1,7 @@
 // One candidate for eviction: what each phase does with it.
 ghost use Rattle.std.specs.Prelude.{◌<◌, ◌≡◌, false, None};
 ghost use Rattle.vm_page.specs.Sizes.{IsSize};
-ghost use Rattle.vm_step.specs.Prelude.{IsCandidate, IsReady, IsSamePass, view};
+ghost use Rattle.vm_step.specs.Prelude.{GoesOn, IsCandidate, IsReadyOn, view};
 ghost use Rattle.vm_evict.specs.declared.candidate.Phase.TheVariants as phases;
 ghost use Rattle.vm_evict.specs.declared.candidate.Stage.TheVariants as stages;
 ghost use Rattle.vm_evict.specs.Evictions.{IsToShare};
@@ -60,14 +60,13 @@ fn save_marked<U: Owner, B: PageBlock<N>, const N: usize>(
     p: u32,
     word: u64,
 ) -> Stage
-    requires ready { IsReady words.now.table.shared.key B.tells words.now.table.shared.table_id pass.old }
+    requires ready { IsReadyOn words.now B.tells pass.old }
     requires sized { IsSize N }
     requires size { N ≡ words.now.table.shared.key.size }
     requires candidate { IsCandidate words.now.table.shared.key.pages (p, word) }
     requires home { (view pass.old).out ≡ None }
     requires at { (v : _) × (done : _) × IsAt (p, word) stages.Waiting done v (view pass.old) × IsToShare p word done }
-    ensures pass { IsSamePass pass.old pass.new }
-    ensures ready { IsReady words.now.table.shared.key B.tells words.now.table.shared.table_id pass.new }
+    ensures goes { GoesOn words.now B.tells pass.old pass.new }
     ensures moved { (v : _) (done : _) → IsAt (p, word) stages.Waiting done v (view pass.old) → IsToShare p word done
         → Advances phases.Save (p, word) stages.Waiting result done v (view pass.old) (view pass.new) }
 {
@@ -90,14 +89,13 @@ fn save_page<U: Owner, B: PageBlock<N>, const N: usize>(
     p: u32,
     word: u64,
 ) -> Stage
-    requires ready { IsReady words.now.table.shared.key B.tells words.now.table.shared.table_id pass.old }
+    requires ready { IsReadyOn words.now B.tells pass.old }
     requires sized { IsSize N }
     requires size { N ≡ words.now.table.shared.key.size }
     requires candidate { IsCandidate words.now.table.shared.key.pages (p, word) }
     requires home { (view pass.old).out ≡ None }
     requires at { (v : _) × (done : _) × IsAt (p, word) stages.Waiting done v (view pass.old) }
-    ensures pass { IsSamePass pass.old pass.new }
-    ensures ready { IsReady words.now.table.shared.key B.tells words.now.table.shared.table_id pass.new }
+    ensures goes { GoesOn words.now B.tells pass.old pass.new }
     ensures moved { Carries phases.Save (p, word) stages.Waiting result (view pass.old) (view pass.new) }
 {
     let seen = look_silently(words, pass, p);
@@ -116,11 +114,10 @@ fn lock_clean<U: Owner, B: Block>(
     p: u32,
     word: u64,
 ) -> Stage
-    requires ready { IsReady words.now.table.shared.key B.tells words.now.table.shared.table_id pass.old }
+    requires ready { IsReadyOn words.now B.tells pass.old }
     requires candidate { IsCandidate words.now.table.shared.key.pages (p, word) }
     requires at { (v : _) × (done : _) × IsAt (p, word) stages.Clean done v (view pass.old) }
-    ensures pass { IsSamePass pass.old pass.new }
-    ensures ready { IsReady words.now.table.shared.key B.tells words.now.table.shared.table_id pass.new }
+    ensures goes { GoesOn words.now B.tells pass.old pass.new }
     ensures moved { Carries phases.Lock (p, word) stages.Clean result (view pass.old) (view pass.new) }
 {
     match lock_exclusive(words, pass, p, word) {
@@ -137,12 +134,11 @@ fn raise_shared<U: Owner, B: Block>(
     word: u64,
     written: bool,
 ) -> Stage
-    requires ready { IsReady words.now.table.shared.key B.tells words.now.table.shared.table_id pass.old }
+    requires ready { IsReadyOn words.now B.tells pass.old }
     requires candidate { IsCandidate words.now.table.shared.key.pages (p, word) }
     requires home { (view pass.old).out ≡ None }
     requires at { (v : _) × (done : _) × IsAt (p, word) (stages.Shared written) done v (view pass.old) }
-    ensures pass { IsSamePass pass.old pass.new }
-    ensures ready { IsReady words.now.table.shared.key B.tells words.now.table.shared.table_id pass.new }
+    ensures goes { GoesOn words.now B.tells pass.old pass.new }
     ensures moved { Carries phases.Raise (p, word) (stages.Shared written) result (view pass.old) (view pass.new) }
 {
     let shared = StateWord::of(1, StateWord::version(word));
@@ -163,11 +159,10 @@ fn empty_page<U: Owner, B: Block>(
     word: u64,
     written: bool,
 ) -> Stage
-    requires ready { IsReady words.now.table.shared.key B.tells words.now.table.shared.table_id pass.old }
+    requires ready { IsReadyOn words.now B.tells pass.old }
     requires candidate { IsCandidate words.now.table.shared.key.pages (p, word) }
     requires at { (v : _) × (done : _) × IsAt (p, word) (stages.Owned written) done v (view pass.old) }
-    ensures pass { IsSamePass pass.old pass.new }
-    ensures ready { IsReady words.now.table.shared.key B.tells words.now.table.shared.table_id pass.new }
+    ensures goes { GoesOn words.now B.tells pass.old pass.new }
     ensures moved { Carries phases.Empty (p, word) (stages.Owned written) result (view pass.old) (view pass.new) }
 {
     let translation = tload(words, pass, p);
@@ -188,12 +183,11 @@ fn leave_page<U: Owner, B: Block>(
     frame: u32,
     written: bool,
 ) -> Stage
-    requires ready { IsReady words.now.table.shared.key B.tells words.now.table.shared.table_id pass.old }
+    requires ready { IsReadyOn words.now B.tells pass.old }
     requires candidate { IsCandidate words.now.table.shared.key.pages (p, word) }
     requires home { (view pass.old).out ≡ None }
     requires at { (v : _) × (done : _) × IsAt (p, word) (stages.Emptied frame written) done v (view pass.old) }
-    ensures pass { IsSamePass pass.old pass.new }
-    ensures ready { IsReady words.now.table.shared.key B.tells words.now.table.shared.table_id pass.new }
+    ensures goes { GoesOn words.now B.tells pass.old pass.new }
     ensures moved { Carries phases.Leave (p, word) (stages.Emptied frame written) result (view pass.old) (view pass.new) }
 {
     release_evicted(words, pass, p, StateWord::version(word));
@@ -208,15 +202,14 @@ pub(crate) fn advance<U: Owner, B: PageBlock<N>, const N: usize>(
     c: (u32, u64),
     stage: Stage,
 ) -> Stage
-    requires ready { IsReady words.now.table.shared.key B.tells words.now.table.shared.table_id pass.old }
+    requires ready { IsReadyOn words.now B.tells pass.old }
     requires sized { IsSize N }
     requires size { N ≡ words.now.table.shared.key.size }
     requires candidate { IsCandidate words.now.table.shared.key.pages c }
     requires home { (view pass.old).out ≡ None }
     requires begins { MayBeginPhase phase stage }
     requires at { (v : _) × (done : _) × IsAt c stage done v (view pass.old) }
-    ensures pass { IsSamePass pass.old pass.new }
-    ensures ready { IsReady words.now.table.shared.key B.tells words.now.table.shared.table_id pass.new }
+    ensures goes { GoesOn words.now B.tells pass.old pass.new }
     ensures moved { Carries phase c stage result (view pass.old) (view pass.new) }
 {
     let (p, word) = c;

@@ -3,7 +3,7 @@ ghost use Rattle.std.specs.Prelude.{◌+◌, ◌<◌, ◌≡◌, ◌⊎◌, None
 ghost use Rattle.vm_core.specs.Prelude.{MARKED, state_of, UNLOCKED};
 ghost use Rattle.vm_rule.specs.Prelude.{LookTold};
 ghost use Rattle.vm_page.specs.Sizes.{IsSize};
-ghost use Rattle.vm_step.specs.Prelude.{IsReady, IsSamePass, view};
+ghost use Rattle.vm_step.specs.Prelude.{GoesOn, IsReadyOn, view};
 ghost use Rattle.vm_evict.specs.Flushes.{done_of, IsCounted, IsFlushed, IsVisit, Marks};
 
 use crate::write::{dirty_frame, write_where_dirty};
@@ -39,12 +39,11 @@ pub fn flush<U: Owner, B: PageBlock<N>, const N: usize>(
     words: &Words<U, B>,
     pass: &mut Pass<U>,
 ) -> Flushed
-    requires ready { IsReady words.now.table.shared.key B.tells words.now.table.shared.table_id pass.old }
+    requires ready { IsReadyOn words.now B.tells pass.old }
     requires sized { IsSize N }
     requires size { N ≡ words.now.table.shared.key.size }
     requires home { (view pass.old).out ≡ None }
-    ensures pass { IsSamePass pass.old pass.new }
-    ensures ready { IsReady words.now.table.shared.key B.tells words.now.table.shared.table_id pass.new }
+    ensures goes { GoesOn words.now B.tells pass.old pass.new }
     ensures flushed { IsFlushed result (view pass.old) (view pass.new) }
 {
     let mut flushed = NOTHING;
@@ -61,14 +60,13 @@ fn visit<U: Owner, B: PageBlock<N>, const N: usize>(
     p: u32,
     flushed: &mut Flushed,
 )
-    requires ready { IsReady words.now.table.shared.key B.tells words.now.table.shared.table_id pass.old }
+    requires ready { IsReadyOn words.now B.tells pass.old }
     requires sized { IsSize N }
     requires size { N ≡ words.now.table.shared.key.size }
     requires home { (view pass.old).out ≡ None }
     requires page { p < words.now.table.shared.key.pages }
     requires counts { done_of flushed.old < 4294967295 }
-    ensures pass { IsSamePass pass.old pass.new }
-    ensures ready { IsReady words.now.table.shared.key B.tells words.now.table.shared.table_id pass.new }
+    ensures goes { GoesOn words.now B.tells pass.old pass.new }
     ensures visited { IsVisit p (view pass.old) (view pass.new) flushed.old flushed.new }
 {
     let word = look_silently(words, pass, p);
@@ -88,7 +86,7 @@ fn visit_unheld<U: Owner, B: PageBlock<N>, const N: usize>(
     word: u64,
     flushed: &mut Flushed,
 )
-    requires ready { IsReady words.now.table.shared.key B.tells words.now.table.shared.table_id pass.old }
+    requires ready { IsReadyOn words.now B.tells pass.old }
     requires sized { IsSize N }
     requires size { N ≡ words.now.table.shared.key.size }
     requires home { (view pass.old).out ≡ None }
@@ -96,8 +94,7 @@ fn visit_unheld<U: Owner, B: PageBlock<N>, const N: usize>(
     requires counts { done_of flushed.old < 4294967295 }
     requires unheld { (state_of word ≡ UNLOCKED) ⊎ (state_of word ≡ MARKED) }
     requires looked { (v : _) × LookTold U.tied p None word v (view pass.old) }
-    ensures pass { IsSamePass pass.old pass.new }
-    ensures ready { IsReady words.now.table.shared.key B.tells words.now.table.shared.table_id pass.new }
+    ensures goes { GoesOn words.now B.tells pass.old pass.new }
     ensures visited { (v : _) → LookTold U.tied p None word v (view pass.old) → IsVisit p v (view pass.new) flushed.old flushed.new }
 {
     if dirty_frame(tload(words, pass, p)).is_none() {
@@ -120,11 +117,10 @@ fn visit_unheld<U: Owner, B: PageBlock<N>, const N: usize>(
 
 /// Marks a page whose word was this one, where it is not marked already.
 fn mark_page<U: Owner, B: Block>(words: &Words<U, B>, pass: &mut Pass<U>, p: u32, word: u64) -> Took
-    requires ready { IsReady words.now.table.shared.key B.tells words.now.table.shared.table_id pass.old }
+    requires ready { IsReadyOn words.now B.tells pass.old }
     requires page { p < words.now.table.shared.key.pages }
     requires legal { (state_of word ≡ UNLOCKED) ⊎ (state_of word ≡ MARKED) }
-    ensures pass { IsSamePass pass.old pass.new }
-    ensures ready { IsReady words.now.table.shared.key B.tells words.now.table.shared.table_id pass.new }
+    ensures goes { GoesOn words.now B.tells pass.old pass.new }
     ensures marks { Marks p word (view pass.old) (view pass.new) result }
 {
     if StateWord::state(word) == StateWord::MARKED {

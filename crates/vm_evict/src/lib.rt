@@ -4,7 +4,7 @@
 
 ghost use Rattle.std.specs.Prelude.{◌≡◌, None};
 ghost use Rattle.vm_page.specs.Sizes.{IsSize};
-ghost use Rattle.vm_step.specs.Prelude.{AreCandidates, IsReady, IsSamePass, view};
+ghost use Rattle.vm_step.specs.Prelude.{AreCandidates, GoesOn, IsReadyOn, view};
 ghost use Rattle.vm_evict.specs.Evictions.{IsBatch};
 
 mod batch;
@@ -30,13 +30,12 @@ pub fn evict<U: Owner, B: PageBlock<N>, const N: usize>(
     pass: &mut Pass<U>,
     candidates: &Candidates,
 ) -> Evicted
-    requires ready { IsReady words.now.table.shared.key B.tells words.now.table.shared.table_id pass.old }
+    requires ready { IsReadyOn words.now B.tells pass.old }
     requires sized { IsSize N }
     requires size { N ≡ words.now.table.shared.key.size }
     requires home { (view pass.old).out ≡ None }
     requires list { AreCandidates words.now.table.shared.key.pages candidates.now.list.items }
-    ensures pass { IsSamePass pass.old pass.new }
-    ensures ready { IsReady words.now.table.shared.key B.tells words.now.table.shared.table_id pass.new }
+    ensures goes { GoesOn words.now B.tells pass.old pass.new }
     ensures evicted { IsBatch candidates.now.list.items candidates.now.looks (view pass.old) (view pass.new) result.report result.frames }
 {
     let list = candidates.list.as_slice();

@@ -2,7 +2,7 @@
 ghost use Rattle.std.specs.Prelude.{◌<◌, ◌≡◌, ◌≤◌, length, None, Some};
 ghost use Rattle.vm_page.specs.Sizes.{IsSize};
 ghost use Rattle.vm_rule.specs.Prelude.{frame_read_by, last_of, seat_of};
-ghost use Rattle.vm_step.specs.Prelude.{IsReady, IsSamePass, view};
+ghost use Rattle.vm_step.specs.Prelude.{GoesOn, IsReadyOn, view};
 ghost use Rattle.vm_evict.specs.Writes.{EndsWrite, IsCopied, IsDirtyFrame, IsFoundToWrite, IsUnderWriteBack, WritesBack};
 
 use vm_block::{Block, PageBlock};
@@ -30,14 +30,13 @@ fn copy_page<U: Owner, B: Block, const N: usize>(
     p: u32,
     frame: u32,
 ) -> PageBuf<N>
-    requires ready { IsReady words.now.table.shared.key B.tells words.now.table.shared.table_id pass.old }
+    requires ready { IsReadyOn words.now B.tells pass.old }
     requires page { (p < words.now.table.shared.key.pages) × (frame < words.now.table.shared.key.frames) }
     requires frame { frame_read_by (view pass.old) p ≡ Some frame }
     requires shared { (1 ≤ (seat_of (view pass.old) p).shares) × ((seat_of (view pass.old) p).reading ≡ None) }
     requires sized { IsSize N }
     requires size { (N ≡ words.now.table.shared.key.size) × (length (last_of (view pass.old) p).words ≡ (view pass.old).start.size) }
-    ensures pass { IsSamePass pass.old pass.new }
-    ensures ready { IsReady words.now.table.shared.key B.tells words.now.table.shared.table_id pass.new }
+    ensures goes { GoesOn words.now B.tells pass.old pass.new }
     ensures copied { IsCopied p result (view pass.old) (view pass.new) }
 {
     let mut page = PageBuf::<N>::zero();
@@ -56,13 +55,12 @@ fn write_back<U: Owner, B: PageBlock<N>, const N: usize>(
     p: u32,
     frame: u32,
 ) -> Result<(), u64>
-    requires ready { IsReady words.now.table.shared.key B.tells words.now.table.shared.table_id pass.old }
+    requires ready { IsReadyOn words.now B.tells pass.old }
     requires page { (p < words.now.table.shared.key.pages) × (frame < words.now.table.shared.key.frames) }
     requires sized { IsSize N }
     requires size { N ≡ words.now.table.shared.key.size }
     requires legal { (v : _) × IsFoundToWrite p frame v (view pass.old) }
-    ensures pass { IsSamePass pass.old pass.new }
-    ensures ready { IsReady words.now.table.shared.key B.tells words.now.table.shared.table_id pass.new }
+    ensures goes { GoesOn words.now B.tells pass.old pass.new }
     ensures written { (v : _) → IsFoundToWrite p frame v (view pass.old) → WritesBack p v (view pass.new) result }
 {
     let mut block = block_out(words, pass, p);
@@ -88,13 +86,12 @@ pub(crate) fn write_where_dirty<U: Owner, B: PageBlock<N>, const N: usize>(
     pass: &mut Pass<U>,
     p: u32,
 ) -> Result<bool, u64>
-    requires ready { IsReady words.now.table.shared.key B.tells words.now.table.shared.table_id pass.old }
+    requires ready { IsReadyOn words.now B.tells pass.old }
     requires page { p < words.now.table.shared.key.pages }
     requires sized { IsSize N }
     requires size { N ≡ words.now.table.shared.key.size }
     requires legal { IsUnderWriteBack p (view pass.old) }
-    ensures pass { IsSamePass pass.old pass.new }
-    ensures ready { IsReady words.now.table.shared.key B.tells words.now.table.shared.table_id pass.new }
+    ensures goes { GoesOn words.now B.tells pass.old pass.new }
     ensures written { EndsWrite p (view pass.old) (view pass.new) result }
 {
     let Some(frame) = dirty_frame(tload(words, pass, p)) else {

@@ -10,7 +10,8 @@ pub is-empty : (l : List ℕ) (b : Bool) → b ≡ (length l == 0) → b ≡ tru
 is-empty l b is e = nil_from_length l (eqb-true (length l) 0 (sym is ∙ e))
 
 module _ {X : Type 0} (home cap n most : ℕ) (old : List ℕ) (v w : View X) (none : old ≡ []) (asked : most ≡ max n cap) where
-  pub found-answer : (frames batch new : List ℕ) → IsFound most home frames v w → HandsOut n frames batch new → IsAlloc home cap n old new v w (Alloc.Batch batch)
+  pub found-answer : (frames batch new : List ℕ) → IsFound most home frames v w → HandsOut n frames batch new
+      → IsAlloc home cap n old new v w (Alloc.Batch batch)
   found-answer frames batch new f hands =
       let found : IsFound (max n cap) home frames v w = subst (λ m. IsFound m home frames v w) asked f in
       inr record {

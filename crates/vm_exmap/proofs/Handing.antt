@@ -1,7 +1,8 @@
 -- Frames that a pass holds, as a list that is split: each part is held too, and what is in the one is not in the other.
-use Rattle.vm_exmap.proofs.Prelude.{[], ap, AreApart, AreGiven, AreHeld, cases_Bool, cases_eq, Each, eq-eqb, eqb, false, has, has-both, if◌then◌else◌, List}
-use Rattle.vm_exmap.proofs.Prelude.{ne_eqb, or_left, or_parts, or_right, refl, rules, subst, sym, true, true≢false, View, ℕ, ⊎_elim, ◌++◌, ◌<◌, ◌||◌, ◌∙◌, ◌∷◌}
-use Rattle.vm_exmap.proofs.Prelude.{◌≡◌}
+use Rattle.vm_exmap.proofs.Prelude.{[], ap, AreApart, AreGiven, AreHeld, cases_Bool, cases_eq, Each, eq-eqb, eqb}
+use Rattle.vm_exmap.proofs.Prelude.{false, has, has-both, if◌then◌else◌, List, ne_eqb, or_left, or_parts, or_right}
+use Rattle.vm_exmap.proofs.Prelude.{refl, rules, subst, sym, true, true≢false, View, ℕ, ⊎_elim, ◌++◌, ◌<◌, ◌||◌, ◌∙◌}
+use Rattle.vm_exmap.proofs.Prelude.{◌∷◌, ◌≡◌}
 pub use Rattle.vm_step.proofs.HeldFrames.{held-on}
 pub use Rattle.vm_step.proofs.Releasing.{each-has as each-of}
 pub use Rattle.vm_rule.proofs.Heard.{each-both as each-join}
@@ -42,13 +43,25 @@ apart-not (x ∷ xs) m f a e =
 module _ {X : Type 0} (l m : List ℕ) (v : View X) (h : AreHeld (l ++ m) v) where
   -- the second part is held
   pub held-rest : AreHeld m v
-  held-rest = record { apart = apart-right l m h.apart; inside = each-right (λ f. f < v.start.frames) l m h.inside; held = each-right (λ f. has f v.frames ≡ true) l m h.held }
+  held-rest = record {
+    apart = apart-right l m h.apart;
+    inside = each-right (λ f. f < v.start.frames) l m h.inside;
+    held = each-right (λ f. has f v.frames ≡ true) l m h.held;
+  }
 
   -- the first part is held once the second went back
   pub held-still : (w : View X) → AreGiven m v w → AreHeld l w
   held-still w g =
-      let held = λ (f : ℕ) (e : has f l ≡ true). g.left f ∙ ap (λ b. if b then false else has f v.frames) (apart-not l m f h.apart e) ∙ each-of (λ n. has n v.frames ≡ true) l f (each-left (λ n. has n v.frames ≡ true) l m h.held) e in
-      search (rules, apart-left l m h.apart, subst (λ start. Each (λ f. f < start.frames) l) (sym g.moves.start) (each-left (λ f. f < v.start.frames) l m h.inside), each-has (λ f. has f w.frames ≡ true) l held)
+      let held = λ (f : ℕ) (e : has f l ≡ true). g.left f ∙ ap (λ b. if b then false else has f v.frames)
+      (apart-not l m f h.apart e) ∙ each-of (λ n. has n v.frames ≡ true) l f
+      (each-left (λ n. has n v.frames ≡ true) l m h.held) e in
+      search (
+        rules,
+        apart-left l m h.apart,
+        subst (λ start. Each (λ f. f < start.frames) l) (sym g.moves.start)
+            (each-left (λ f. f < v.start.frames) l m h.inside),
+        each-has (λ f. has f w.frames ≡ true) l held,
+      )
 
 pub apart-join : (l m : List ℕ) → AreApart l → AreApart m → ((f : ℕ) → has f l ≡ true → has f m ≡ false) → AreApart (l ++ m)
 apart-join [] m a b none = b
@@ -62,7 +75,10 @@ module _ {X : Type 0} where
   pub held-swap : (l m : List ℕ) (v : View X) → AreHeld (l ++ m) v → AreHeld (m ++ l) v
   held-swap l m v h = record {
     apart = apart-join m l (apart-right l m h.apart) (apart-left l m h.apart)
-        (λ f e. ⊎_elim (λ (both : has f l ≡ true). absurd (true≢false (sym e ∙ apart-not l m f h.apart both))) (λ no. no) (cases_Bool (has f l)));
-    inside = each-join (λ f. f < v.start.frames) m l (each-right (λ f. f < v.start.frames) l m h.inside) (each-left (λ f. f < v.start.frames) l m h.inside);
-    held = each-join (λ f. has f v.frames ≡ true) m l (each-right (λ f. has f v.frames ≡ true) l m h.held) (each-left (λ f. has f v.frames ≡ true) l m h.held);
+        (λ f e. ⊎_elim (λ (both : has f l ≡ true). absurd (true≢false (sym e ∙ apart-not l m f h.apart both)))
+        (λ no. no) (cases_Bool (has f l)));
+    inside = each-join (λ f. f < v.start.frames) m l (each-right (λ f. f < v.start.frames) l m h.inside)
+        (each-left (λ f. f < v.start.frames) l m h.inside);
+    held = each-join (λ f. has f v.frames ≡ true) m l (each-right (λ f. has f v.frames ≡ true) l m h.held)
+        (each-left (λ f. has f v.frames ≡ true) l m h.held);
   }

@@ -1,19 +1,18 @@
 -- Frames that a pass holds or knows to be free, and what a call leaves that moves free frames alone.
 use Rattle.std.specs.Prelude.{[], List, true, ℕ, ◌++◌, ◌<◌, ◌≡◌, ◌≢◌, ◌⊎◌}
 use Rattle.vm_rule.specs.Prelude.{bundles_of, contents_at, Each, has, IsLocking, last_of, seat_of, StartsWith}
-use Rattle.vm_rule.specs.declared.view.Place.{Place}
+use Rattle.vm_rule.specs.declared.view.WordPlace.{WordPlace}
 use Rattle.vm_step.specs.Prelude.{Did, IsAlone, KeepsNumbers, known_word_at, KnowsElse, Origin, RunsAlone, StaysAlone, View}
-pub use Rattle.vm_step.specs.HeldFrames.{AreHeld}
 
 -- the place is a bundle's word
-abbrev pub IsBundleOf : Origin → Place → Type 0
-IsBundleOf start (Place.Bundle g) = g < bundles_of start.frames
+abbrev pub IsBundleOf : Origin → WordPlace → Type 0
+IsBundleOf start (WordPlace.Bundle g) = g < bundles_of start.frames
 IsBundleOf start at = ⊥
 
 module _ {X : Type 0} where
   -- the interface has a frame, or some bundle has one, as the pass knows the table
   abbrev pub HasFree : List ℕ → View X → Type 0
-  HasFree frames v = (frames ≢ []) ⊎ ((g : ℕ) × (g < bundles_of v.start.frames) × (known_word_at v (Place.Bundle g) ≢ 0))
+  HasFree frames v = (frames ≢ []) ⊎ ((g : ℕ) × (g < bundles_of v.start.frames) × (known_word_at v (WordPlace.Bundle g) ≢ 0))
 
   -- the call made these steps, and left all of the view but its free frames
   pub record MovesFrames (done : List Did) (v w : View X) : Type 0 where

@@ -1,8 +1,9 @@
 -- How frames go back to the bundles: for each bundle that has some of them, by rising number, one step that sets their bits.
-use Rattle.std.specs.Prelude.{[], bit_or, Bool, false, if◌then◌else◌, length, List, min, suc, zero, ℕ, ◌&&◌, ◌++◌, ◌-◌, ◌/◌, ◌<◌, ◌==◌, ◌∷◌, ◌≡◌, ◌⊎◌}
+use Rattle.std.specs.Prelude.{[], bit_or, Bool, false, if◌then◌else◌, length, List, min, suc, zero, ℕ, ◌&&◌, ◌++◌}
+use Rattle.std.specs.Prelude.{◌-◌, ◌/◌, ◌<◌, ◌==◌, ◌∷◌, ◌≡◌, ◌⊎◌}
 use Rattle.vm_core.specs.Prelude.{in_mask}
 use Rattle.vm_rule.specs.Prelude.{bundles_of, did_change, FRAMES, has}
-use Rattle.vm_rule.specs.declared.view.Place.{Place}
+use Rattle.vm_rule.specs.declared.view.WordPlace.{WordPlace}
 use Rattle.vm_step.specs.Prelude.{Did, IsAlone, known_word_at, KnowsAt, View}
 use Rattle.vm_exmap.specs.Frames.{MovesFrames}
 
@@ -13,7 +14,8 @@ is_of g frames f = (f / FRAMES == g) && has f frames
 -- the bits of the frames that are of bundle g were set, by one step; or there are none, and no step was made
 pub data GivesTo (frames : List ℕ) (g : ℕ) (steps : List Did) : Type 0 where
   none : ((f : ℕ) → is_of g frames f ≡ false) → steps ≡ [] → GivesTo frames g steps
-  some : (mask found : ℕ) → ((f : ℕ) → in_mask g mask f ≡ is_of g frames f) → steps ≡ did_change (Place.Bundle g) found (bit_or found mask) ∷ []
+  some : (mask found : ℕ) → ((f : ℕ) → in_mask g mask f ≡ is_of g frames f) → steps ≡ did_change (WordPlace.Bundle g)
+      found (bit_or found mask) ∷ []
       → GivesTo frames g steps
 
 -- so it was done with the first `count` bundles, in order
@@ -23,12 +25,14 @@ GivesFromFirst frames (suc g) done = (before : List Did) × (steps : List Did) �
     × GivesTo frames g steps
 
 module _ {X : Type 0} where
-  -- what the pass knows of the word of bundle g: it is as before, where none of these frames is of the bundle; else it has their bits too, where
+  -- what the pass knows of the word of bundle g: it is as before, where none of these frames is of the bundle; else
+  -- it has their bits too, where
   -- the table has the bundle
   abbrev pub KnowsGiven : List ℕ → ℕ → View X → View X → Type 0
   KnowsGiven frames g v w =
-      (((f : ℕ) → is_of g frames f ≡ false) × (known_word_at w (Place.Bundle g) ≡ known_word_at v (Place.Bundle g)))
-      ⊎ ((mask : ℕ) × ((f : ℕ) → in_mask g mask f ≡ is_of g frames f) × KnowsAt (Place.Bundle g) (bit_or (known_word_at v (Place.Bundle g)) mask) w)
+      (((f : ℕ) → is_of g frames f ≡ false) × (known_word_at w (WordPlace.Bundle g) ≡ known_word_at v (WordPlace.Bundle g)))
+      ⊎ ((mask : ℕ) × ((f : ℕ) → in_mask g mask f ≡ is_of g frames f) × KnowsAt (WordPlace.Bundle g)
+      (bit_or (known_word_at v (WordPlace.Bundle g)) mask) w)
 
   -- these frames went back to the bundles, and no others
   pub record AreGiven (frames : List ℕ) (v w : View X) : Type 0 where

@@ -1,7 +1,7 @@
 -- What comes of a visit to one bundle on a walk, and of the walk: the parts of an allocation from an interface without a frame.
 use Rattle.std.specs.Prelude.{[], bit_xor, false, length, List, ℕ, ◌++◌, ◌∷◌, ◌≡◌, ◌≢◌, ◌≤◌}
 use Rattle.vm_rule.specs.Prelude.{did_exchange, did_load, Each, frames_in, has}
-use Rattle.vm_rule.specs.declared.view.Place.{Place}
+use Rattle.vm_rule.specs.declared.view.WordPlace.{WordPlace}
 use Rattle.vm_step.specs.Prelude.{AreHeld, Did, IsAlone, known_word_at, View}
 use Rattle.vm_step.specs.declared.saw.At.{At}
 use Rattle.vm_step.specs.declared.saw.Saw.{Saw}
@@ -13,10 +13,10 @@ module _ {X : Type 0} where
 
   -- the bundle's word was 0
   pub record IsEmptyVisit (g : ℕ) (v w : View X) : Type 0 where
-    pub moves : MovesFrames (did_load (Place.Bundle g) 0 ∷ []) v w
+    pub moves : MovesFrames (did_load (WordPlace.Bundle g) 0 ∷ []) v w
     pub frames : w.frames ≡ v.frames
     -- so a pass that is alone knew
-    pub known : IsAlone v → (known_word_at v (Place.Bundle g) ≡ 0) × (w.snapshot.words ≡ v.snapshot.words)
+    pub known : IsAlone v → (known_word_at v (WordPlace.Bundle g) ≡ 0) × (w.snapshot.words ≡ v.snapshot.words)
 
   -- the bits asked for were lost: another word stood there by then
   pub record IsLostVisit (most g : ℕ) (saw : Saw) (v w : View X) : Type 0 where
@@ -25,7 +25,7 @@ module _ {X : Type 0} where
     pub asks : Asks most g saw.first mask load
     pub at : saw.at ≡ At.Bundle g
     pub other : saw.seen ≢ saw.first
-    pub moves : MovesFrames (load ∷ did_exchange (Place.Bundle g) saw.first saw.seen (bit_xor saw.first mask) ∷ []) v w
+    pub moves : MovesFrames (load ∷ did_exchange (WordPlace.Bundle g) saw.first saw.seen (bit_xor saw.first mask) ∷ []) v w
     pub frames : w.frames ≡ v.frames
     -- a pass that is alone loses none
     pub others : IsAlone v → ⊥
@@ -35,7 +35,7 @@ module _ {X : Type 0} where
     pub word : ℕ
     pub load : Did
     pub asks : Asks most g word mask load
-    pub moves : MovesFrames (load ∷ did_exchange (Place.Bundle g) word word (bit_xor word mask) ∷ []) v w
+    pub moves : MovesFrames (load ∷ did_exchange (WordPlace.Bundle g) word word (bit_xor word mask) ∷ []) v w
     pub frames : w.frames ≡ frames_in g mask ++ v.frames
     pub new : Each (λ f. has f v.frames ≡ false) (frames_in g mask)
     pub held : AreHeld (frames_in g mask) w

@@ -2,7 +2,7 @@
 use Rattle.std.specs.Prelude.{[], bit_xor, false, length, List, max, min, suc, zero, ℕ, ◌%◌, ◌++◌, ◌+◌, ◌<◌, ◌∷◌, ◌≡◌, ◌≢◌, ◌⊎◌}
 use Rattle.vm_core.specs.Prelude.{AreLowest}
 use Rattle.vm_rule.specs.Prelude.{bundles_of, did_exchange, did_load, Each, frames_in, has}
-use Rattle.vm_rule.specs.declared.view.Place.{Place}
+use Rattle.vm_rule.specs.declared.view.WordPlace.{WordPlace}
 use Rattle.vm_step.specs.Prelude.{Did, IsAlone, IsSaw, known_word_at, KnowsElse, KnowsSame, NoneExpected, NoWord, View}
 use Rattle.vm_step.specs.declared.saw.At.{At}
 use Rattle.vm_step.specs.declared.saw.Saw.{Saw}
@@ -16,24 +16,26 @@ bundle_at home bundles k = (home + k) % bundles
 pub record Asks (most g word mask : ℕ) (load : Did) : Type 0 where
   pub some : word ≢ 0
   pub lowest : AreLowest word most mask
-  pub is : load ≡ did_load (Place.Bundle g) word
+  pub is : load ≡ did_load (WordPlace.Bundle g) word
 
 -- a bundle is passed by: its word was 0, or the bits asked for were lost, since another word stood there by then
 pub data PassesBy (most g : ℕ) (steps : List Did) : Type 0 where
-  empty : steps ≡ did_load (Place.Bundle g) 0 ∷ [] → PassesBy most g steps
+  empty : steps ≡ did_load (WordPlace.Bundle g) 0 ∷ [] → PassesBy most g steps
   lost : (word mask other : ℕ) (load : Did) → Asks most g word mask load → other ≢ word
-      → steps ≡ load ∷ did_exchange (Place.Bundle g) word other (bit_xor word mask) ∷ [] → PassesBy most g steps
+      → steps ≡ load ∷ did_exchange (WordPlace.Bundle g) word other (bit_xor word mask) ∷ [] → PassesBy most g steps
 
 -- the first `count` bundles of the walk were passed by, in order; each word was loaded once
 abbrev pub Walks : ℕ → ℕ → ℕ → ℕ → List Did → Type 0
 Walks most home bundles zero done = done ≡ []
-Walks most home bundles (suc k) done = (before : List Did) × (steps : List Did) × (done ≡ before ++ steps) × Walks most home bundles k before
+Walks most home bundles (suc k) done =
+    (before : List Did) × (steps : List Did) × (done ≡ before ++ steps) × Walks most home bundles k before
     × PassesBy most (bundle_at home bundles k) steps
 
 -- so were they, and each word was 0
 abbrev pub Dry : ℕ → ℕ → ℕ → List Did → Type 0
 Dry home bundles zero done = done ≡ []
-Dry home bundles (suc k) done = (before : List Did) × (done ≡ before ++ did_load (Place.Bundle (bundle_at home bundles k)) 0 ∷ []) × Dry home bundles k before
+Dry home bundles (suc k) done = (before : List Did)
+    × (done ≡ before ++ did_load (WordPlace.Bundle (bundle_at home bundles k)) 0 ∷ []) × Dry home bundles k before
 
 -- the frames handed out, and those that stay with the interface, in order
 pub record HandsOut (n : ℕ) (frames batch new : List ℕ) : Type 0 where
@@ -63,17 +65,18 @@ module _ {X : Type 0} where
     pub word : ℕ
     pub load : Did
     pub asks : Asks most g word mask load
-    pub cut : done ≡ before ++ load ∷ did_exchange (Place.Bundle g) word word (bit_xor word mask) ∷ []
+    pub cut : done ≡ before ++ load ∷ did_exchange (WordPlace.Bundle g) word word (bit_xor word mask) ∷ []
     -- the frames come to the pass, which had none of them
     pub frames : w.frames ≡ frames_in g mask ++ v.frames
     pub new : Each (λ f. has f v.frames ≡ false) (frames_in g mask)
 
-  -- what a pass that was alone knows of the words: in that of bundle g the lowest bits asked for were set, and are not any more; all others are
+  -- what a pass that was alone knows of the words: in that of bundle g the lowest bits asked for were set, and are
+  -- not any more; all others are
   -- as before
   pub record TakesBits (most g mask : ℕ) (v w : View X) : Type 0 where
-    pub lowest : AreLowest (known_word_at v (Place.Bundle g)) most mask
-    pub left : known_word_at w (Place.Bundle g) ≡ bit_xor (known_word_at v (Place.Bundle g)) mask
-    pub others : KnowsElse (λ at. at ≡ Place.Bundle g) v w
+    pub lowest : AreLowest (known_word_at v (WordPlace.Bundle g)) most mask
+    pub left : known_word_at w (WordPlace.Bundle g) ≡ bit_xor (known_word_at v (WordPlace.Bundle g)) mask
+    pub others : KnowsElse (λ at. at ≡ WordPlace.Bundle g) v w
 
   -- the interface had frames: the first of them are handed out, with no step
   pub record IsOwn (n : ℕ) (old batch new : List ℕ) (v w : View X) : Type 0 where
@@ -106,7 +109,7 @@ module _ {X : Type 0} where
     pub refused : TakesNone done old new v w
     pub walk : Dry home (bundles_of v.start.frames) (bundles_of v.start.frames) done
     -- so a pass that is alone knew
-    pub known : IsAlone v → (g : ℕ) → g < bundles_of v.start.frames → known_word_at v (Place.Bundle g) ≡ 0
+    pub known : IsAlone v → (g : ℕ) → g < bundles_of v.start.frames → known_word_at v (WordPlace.Bundle g) ≡ 0
 
   -- each bundle was passed by, and the bits of one were lost: the evidence is that exchange
   pub record IsLostOut (home most : ℕ) (old new : List ℕ) (saw : Saw) (v w : View X) : Type 0 where

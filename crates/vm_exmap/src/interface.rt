@@ -2,7 +2,7 @@
 // by one step on the bundle's word.
 ghost use Rattle.std.specs.Prelude.{[], ◌++◌, ◌+◌, ◌-◌, ◌^◌, ◌∷◌, ◌≡◌, ◌≤◌, length, min};
 ghost use Rattle.vm_rule.specs.Prelude.{FRAMES};
-ghost use Rattle.vm_step.specs.Prelude.{AreHeld, IsAlone, IsReady, IsSamePass, view};
+ghost use Rattle.vm_step.specs.Prelude.{AreHeld, GoesOn, IsAlone, IsReadyOn, view};
 ghost use Rattle.vm_exmap.specs.Returns.{AreGiven, IsFreed};
 ghost use Rattle.vm_exmap.specs.Walks.{HandsOut, IsAlloc, NotLost, as_batch};
 
@@ -65,11 +65,10 @@ impl Interface {
         pass: &mut Pass<U>,
         n: u32,
     ) -> Alloc
-        requires ready { IsReady words.now.table.shared.key B.tells words.now.table.shared.table_id pass.old }
+        requires ready { IsReadyOn words.now B.tells pass.old }
         requires frames { AreHeld self.old.frames (view pass.old) }
         requires count { (1 ≤ n) × (n ≤ FRAMES) }
-        ensures pass { IsSamePass pass.old pass.new }
-        ensures ready { IsReady words.now.table.shared.key B.tells words.now.table.shared.table_id pass.new }
+        ensures goes { GoesOn words.now B.tells pass.old pass.new }
         ensures same { (self.new.home ≡ self.old.home) × (self.new.cap ≡ self.old.cap) × (self.new.swept ≡ self.old.swept) }
         ensures answer { IsAlloc self.old.home self.old.cap n self.old.frames self.new.frames (view pass.old) (view pass.new) result }
         ensures some { (batch : _) → result ≡ Alloc.Batch batch → (1 ≤ length batch) × (length batch ≤ n) }
@@ -96,10 +95,9 @@ impl Interface {
         words: &Words<U, B>,
         pass: &mut Pass<U>,
     ) -> AllocOne
-        requires ready { IsReady words.now.table.shared.key B.tells words.now.table.shared.table_id pass.old }
+        requires ready { IsReadyOn words.now B.tells pass.old }
         requires frames { AreHeld self.old.frames (view pass.old) }
-        ensures pass { IsSamePass pass.old pass.new }
-        ensures ready { IsReady words.now.table.shared.key B.tells words.now.table.shared.table_id pass.new }
+        ensures goes { GoesOn words.now B.tells pass.old pass.new }
         ensures same { (self.new.home ≡ self.old.home) × (self.new.cap ≡ self.old.cap) × (self.new.swept ≡ self.old.swept) }
         ensures answer { IsAlloc self.old.home self.old.cap 1 self.old.frames self.new.frames (view pass.old) (view pass.new) (as_batch result) }
         ensures frame { (frame : _) → result ≡ AllocOne.Frame frame → AreHeld (frame ∷ self.new.frames) (view pass.new) }
@@ -153,10 +151,9 @@ impl Interface {
         pass: &mut Pass<U>,
         frames: Batch,
     )
-        requires ready { IsReady words.now.table.shared.key B.tells words.now.table.shared.table_id pass.old }
+        requires ready { IsReadyOn words.now B.tells pass.old }
         requires frames { AreHeld (self.old.frames ++ frames) (view pass.old) }
-        ensures pass { IsSamePass pass.old pass.new }
-        ensures ready { IsReady words.now.table.shared.key B.tells words.now.table.shared.table_id pass.new }
+        ensures goes { GoesOn words.now B.tells pass.old pass.new }
         ensures same { (self.new.home ≡ self.old.home) × (self.new.cap ≡ self.old.cap) × (self.new.swept ≡ self.old.swept) }
         ensures freed { IsFreed self.old.cap self.old.frames frames self.new.frames (view pass.old) (view pass.new) }
         ensures held { AreHeld self.new.frames (view pass.new) }
@@ -170,10 +167,9 @@ impl Interface {
 
     /// Gives all its frames back to their bundles.
     pub fn give_all<U: Owner, B: Block>(&mut self, words: &Words<U, B>, pass: &mut Pass<U>)
-        requires ready { IsReady words.now.table.shared.key B.tells words.now.table.shared.table_id pass.old }
+        requires ready { IsReadyOn words.now B.tells pass.old }
         requires frames { AreHeld self.old.frames (view pass.old) }
-        ensures pass { IsSamePass pass.old pass.new }
-        ensures ready { IsReady words.now.table.shared.key B.tells words.now.table.shared.table_id pass.new }
+        ensures goes { GoesOn words.now B.tells pass.old pass.new }
         ensures same { (self.new.home ≡ self.old.home) × (self.new.cap ≡ self.old.cap) × (self.new.swept ≡ self.old.swept) }
         ensures given { AreGiven self.old.frames (view pass.old) (view pass.new) }
         ensures empty { self.new.frames ≡ [] }
@@ -200,10 +196,9 @@ impl Interface {
 
 /// Gives these frames, which the pass holds, back to their bundles: by one step for each bundle concerned, by rising number.
 fn give_back<U: Owner, B: Block>(words: &Words<U, B>, pass: &mut Pass<U>, frames: &[u32])
-    requires ready { IsReady words.now.table.shared.key B.tells words.now.table.shared.table_id pass.old }
+    requires ready { IsReadyOn words.now B.tells pass.old }
     requires frames { AreHeld frames.now (view pass.old) }
-    ensures pass { IsSamePass pass.old pass.new }
-    ensures ready { IsReady words.now.table.shared.key B.tells words.now.table.shared.table_id pass.new }
+    ensures goes { GoesOn words.now B.tells pass.old pass.new }
     ensures given { AreGiven frames.now (view pass.old) (view pass.new) }
 {
     let bundles = words.frames.div_ceil(FRAMES) as u32;

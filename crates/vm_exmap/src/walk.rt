@@ -1,6 +1,6 @@
 // A walk over the bundles for free frames: each is visited once, from a home on and round, until the bits asked of one of them are taken.
 ghost use Rattle.std.specs.Prelude.{◌*◌, ◌<◌, ◌≤◌};
-ghost use Rattle.vm_step.specs.Prelude.{IsReady, IsSamePass, view};
+ghost use Rattle.vm_step.specs.Prelude.{GoesOn, IsReadyOn, view};
 ghost use Rattle.vm_exmap.specs.Visits.{IsVisited, IsWalk};
 
 use crate::bits::frames_of;
@@ -28,11 +28,10 @@ pub(crate) fn visit<U: Owner, B: Block>(
     g: u32,
     most: u32,
 ) -> Visited
-    requires ready { IsReady words.now.table.shared.key B.tells words.now.table.shared.table_id pass.old }
+    requires ready { IsReadyOn words.now B.tells pass.old }
     requires bundle { g * FRAMES < words.now.table.shared.key.frames }
     requires some { 1 ≤ most }
-    ensures pass { IsSamePass pass.old pass.new }
-    ensures ready { IsReady words.now.table.shared.key B.tells words.now.table.shared.table_id pass.new }
+    ensures goes { GoesOn words.now B.tells pass.old pass.new }
     ensures visited { IsVisited most g (view pass.old) (view pass.new) result }
 {
     let word = bload(words, pass, g);
@@ -58,10 +57,9 @@ pub(crate) fn walk<U: Owner, B: Block>(
     home: u32,
     most: u32,
 ) -> Alloc
-    requires ready { IsReady words.now.table.shared.key B.tells words.now.table.shared.table_id pass.old }
+    requires ready { IsReadyOn words.now B.tells pass.old }
     requires some { 1 ≤ most }
-    ensures pass { IsSamePass pass.old pass.new }
-    ensures ready { IsReady words.now.table.shared.key B.tells words.now.table.shared.table_id pass.new }
+    ensures goes { GoesOn words.now B.tells pass.old pass.new }
     ensures walk { IsWalk most home (view pass.old) (view pass.new) result }
 {
     let bundles = words.frames.div_ceil(FRAMES) as u64;

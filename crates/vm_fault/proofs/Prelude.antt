@@ -1,21 +1,24 @@
 -- What the proofs of this crate cite from the crates below and from its own specs, passed on from one place. Declares nothing.
-pub use Rattle.std.proofs.Common.{[], ap, append_assoc, arith, Bool, eqb, Err, false, if◌then◌else◌, inl, inr, is_ok, IsSome, length, List, None, Ok, OnOk}
-pub use Rattle.std.proofs.Common.{refl, Result, rules, slice_index, Some, subst, sym, true, ℕ, ⊎_elim, ◌++◌, ◌+◌, ◌<◌, ◌∙◌, ◌∷◌, ◌≡◌, ◌≢◌, ◌≤◌, ◌⊎◌}
+pub use Rattle.std.proofs.Common.{[], ap, append_assoc, arith, Bool, eqb, Err, false, if◌then◌else◌, inl, inr, is_ok}
+pub use Rattle.std.proofs.Common.{IsSome, length, List, None, Ok, OnOk, refl, Result, rules, slice_index, Some, subst}
+pub use Rattle.std.proofs.Common.{sym, true, ℕ, ⊎_elim, ◌++◌, ◌+◌, ◌<◌, ◌∙◌, ◌∷◌, ◌≡◌, ◌≢◌, ◌≤◌, ◌⊎◌}
 pub use Rattle.std.proofs.lemmas.Bool.{cases_eq, cond-false, false≢true, ne_eqb, or_left}
 pub use Rattle.std.proofs.lemmas.Option.{none-some}
 pub use Rattle.vm_block.specs.Blocks.{Reads}
 pub use Rattle.vm_core.specs.Prelude.{EVICTED, LOCKED, MAX_VERSION, trans_word, UNLOCKED, Version}
-pub use Rattle.vm_rule.specs.{declared.view.Held.Held, declared.view.Place.Place}
-pub use Rattle.vm_rule.specs.Prelude.{Brings, Change, clean_in, did_exchange, did_load, did_store, draft_of, Each, Entry, EvictTold, has, held_at, HomeTold}
-pub use Rattle.vm_rule.specs.Prelude.{InstallTold, IsHeldAt, IsLocking, IsUnheld, last_in, last_of, locked_view, LockTold, LookTold, Mapping, MayBring}
-pub use Rattle.vm_rule.specs.Prelude.{MayPutInto, no_held, notes_of, out_at, OutTold, put_at, RaiseTold, ReleaseTold, Seat, seat_of, Start, Stored, Within}
-pub use Rattle.vm_rule.specs.Prelude.{without}
+pub use Rattle.vm_rule.specs.{declared.view.Held.Held, declared.view.WordPlace.WordPlace}
+pub use Rattle.vm_rule.specs.Prelude.{Brings, Change, clean_in, did_exchange, did_load, did_store, draft_of, Each}
+pub use Rattle.vm_rule.specs.Prelude.{Entry, EvictTold, has, held_at, HomeTold, InstallTold, IsHeldAt, IsLocking}
+pub use Rattle.vm_rule.specs.Prelude.{IsUnheld, last_in, last_of, locked_view, LockTold, LookTold, Mapping, MayBring}
+pub use Rattle.vm_rule.specs.Prelude.{MayPutInto, no_held, notes_of, out_at, OutTold, put_at, RaiseTold, ReleaseTold}
+pub use Rattle.vm_rule.specs.Prelude.{Seat, seat_of, Start, Stored, Within, without}
 pub use Rattle.vm_rule.proofs.{Entries.each-map, Heard.each-both}
 pub use Rattle.vm_rule.proofs.WordFacts.{version-within, word-made, word-state, word-version}
 pub use Rattle.vm_step.specs.{declared.saw.At.At, Evidence.EvictedExpected}
-pub use Rattle.vm_step.specs.Prelude.{Did, HasGiven, HasWritten, IsAlone, IsAside, IsFirst, IsMember, IsNotOut, IsOfPage, KeepsFrames, known_word_at, KnowsElse}
-pub use Rattle.vm_step.specs.Prelude.{LeavesRest, MayEvict, MayGiveUp, MayRaise, MayTakeOut, Origin, Release, RunsAlone, StaysAlone, StaysHome, Stores, view}
-pub use Rattle.vm_step.specs.Prelude.{LeavesOnly, View, Works, WritesNone}
+pub use Rattle.vm_step.specs.Prelude.{Did, HasGiven, HasWritten, IsAlone, IsAside, IsFirst, IsMember, IsNotOut}
+pub use Rattle.vm_step.specs.Prelude.{IsOfPage, KeepsFrames, known_word_at, KnowsElse, LeavesRest, MayEvict}
+pub use Rattle.vm_step.specs.Prelude.{MayGiveUp, MayRaise, MayTakeOut, Origin, Release, RunsAlone, StaysAlone}
+pub use Rattle.vm_step.specs.Prelude.{StaysHome, Stores, view, LeavesOnly, View, Works, WritesNone}
 pub use Rattle.vm_step.proofs.{DeviceCalls.home-both, DeviceCalls.home-else, Saws.lost-saw, steps.Look.look-leaves, steps.Look.look-only}
 pub use Rattle.vm_step.proofs.{steps.Raise.raise-held, steps.Raise.raise-works, steps.Unchanged.lost-only}
 pub use Rattle.vm_step.proofs.Alone.{found-known, runs-one, runs-then, same-word, stays-alone, still-alone, words-known}
@@ -27,8 +30,10 @@ pub use Rattle.vm_step.proofs.Leaves.{aside-of, leaves-then, works-then}
 pub use Rattle.vm_step.proofs.Tables.{else-knows, follows-inside, last-known}
 pub use Rattle.vm_step.proofs.steps.Leaving.{LeavesOthers, LeavesOwn, rest-of}
 pub use Rattle.vm_step.proofs.steps.Lock.{lock-brings, lock-draft, lock-held, lock-leaves, lock-others, lock-seat}
-pub use Rattle.vm_step.proofs.steps.Release.{evict-alone, evict-last, evict-others, evict-seat, evict-silent, release-alone, release-last, release-others}
-pub use Rattle.vm_step.proofs.steps.Release.{release-seat, release-silent}
-pub use Rattle.vm_fault.specs.Fetches.{IsBrought, IsFailed, IsFetched, IsFetchToTry, IsFetchWorn, IsFoundEvicted, IsLostTo, IsOfBoth, IsReleasedAs, IsWornIn}
-pub use Rattle.vm_fault.specs.Fetches.{KnowsReleased, locks_out, ReadsOnce, releases_as}
+pub use Rattle.vm_step.proofs.steps.Release.{evict-alone, evict-last, evict-others, evict-seat, evict-silent}
+pub use Rattle.vm_step.proofs.steps.Release.{release-alone, release-last, release-others, release-seat}
+pub use Rattle.vm_step.proofs.steps.Release.{release-silent}
+pub use Rattle.vm_fault.specs.Fetches.{IsBrought, IsFailed, IsFetched, IsFetchToTry, IsFetchWorn, IsFoundEvicted}
+pub use Rattle.vm_fault.specs.Fetches.{IsLostTo, IsOfBoth, IsReleasedAs, IsWornIn, KnowsReleased, locks_out}
+pub use Rattle.vm_fault.specs.Fetches.{ReadsOnce, releases_as}
 unfoldable pub use Rattle.vm_core.specs.Prelude.{count_more, state_of, version_of, word_of}

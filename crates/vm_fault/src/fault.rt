@@ -3,7 +3,7 @@ ghost use Rattle.std.specs.Prelude.{◌<◌, ◌≡◌, None, true};
 ghost use Rattle.vm_core.specs.Prelude.{EVICTED, MAX_VERSION};
 ghost use Rattle.vm_page.specs.Sizes.{IsSize};
 ghost use Rattle.vm_rule.specs.Prelude.{has};
-ghost use Rattle.vm_step.specs.Prelude.{IsReady, IsSamePass, view};
+ghost use Rattle.vm_step.specs.Prelude.{GoesOn, IsReadyOn, view};
 ghost use Rattle.vm_fault.specs.Fetches.{IsFetched, IsFoundEvicted};
 
 use vm_block::PageBlock;
@@ -51,7 +51,7 @@ fn bring_locked<U: Owner, B: PageBlock<N>, const N: usize>(
     frame: u32,
     version: u64,
 ) -> Fetch
-    requires ready { IsReady words.now.table.shared.key B.tells words.now.table.shared.table_id pass.old }
+    requires ready { IsReadyOn words.now B.tells pass.old }
     requires sized { IsSize N }
     requires size { N ≡ words.now.table.shared.key.size }
     requires page { pid < words.now.table.shared.key.pages }
@@ -59,8 +59,7 @@ fn bring_locked<U: Owner, B: PageBlock<N>, const N: usize>(
     requires home { (view pass.old).out ≡ None }
     requires below { version < MAX_VERSION }
     requires locked { (first : _) × IsFoundEvicted U.tied pid version first (view pass.old) }
-    ensures pass { IsSamePass pass.old pass.new }
-    ensures ready { IsReady words.now.table.shared.key B.tells words.now.table.shared.table_id pass.new }
+    ensures goes { GoesOn words.now B.tells pass.old pass.new }
     ensures fetched { (first : _) → IsFoundEvicted U.tied pid version first (view pass.old) → IsFetched pid frame first (view pass.new) result }
 {
     let mut block = block_out(words, pass, pid);
@@ -92,14 +91,13 @@ pub fn fault_in<U: Owner, B: PageBlock<N>, const N: usize>(
     pid: u32,
     frame: u32,
 ) -> Fetch
-    requires ready { IsReady words.now.table.shared.key B.tells words.now.table.shared.table_id pass.old }
+    requires ready { IsReadyOn words.now B.tells pass.old }
     requires sized { IsSize N }
     requires size { N ≡ words.now.table.shared.key.size }
     requires page { pid < words.now.table.shared.key.pages }
     requires frame { (frame < words.now.table.shared.key.frames) × (has frame (view pass.old).frames ≡ true) }
     requires home { (view pass.old).out ≡ None }
-    ensures pass { IsSamePass pass.old pass.new }
-    ensures ready { IsReady words.now.table.shared.key B.tells words.now.table.shared.table_id pass.new }
+    ensures goes { GoesOn words.now B.tells pass.old pass.new }
     ensures fetched { IsFetched pid frame (view pass.old) (view pass.new) result }
 {
     let word = look_silently(words, pass, pid);

@@ -1,7 +1,4 @@
-pub mod FileWords
 mod FilePairs
-pub mod Files
-pub mod Found
-pub mod Giving
-pub mod Making
+mod Giving
+mod Making
 mod Migrating

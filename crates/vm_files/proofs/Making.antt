@@ -12,11 +12,13 @@ use Rattle.vm_endings.specs.Stops.{status_of}
 use Rattle.vm_endings.specs.Tests.{Fails, StopsAt, here, past, room, within}
 
 -- no test of a make is of a file, so none fails because a file was not read
-number_status : (shown : Option Shown) (failed : List ℕ) (quantity : Quantity) (holds : Bool) (stop : Stop) → Fails shown failed (within quantity holds) stop → status_of stop ≢ 2
+number_status : (shown : Option Shown) (failed : List ℕ) (quantity : Quantity) (holds : Bool) (stop : Stop)
+    → Fails shown failed (within quantity holds) stop → status_of stop ≢ 2
 number_status shown failed quantity holds (Shape other) f = λ two. absurd (omega (arith, two))
 number_status shown failed quantity holds _ f = absurd f
 
-room_status : (shown : Option Shown) (failed : List ℕ) (words pages pairs : ℕ) (stop : Stop) → Fails shown failed (room words pages pairs) stop → status_of stop ≢ 2
+room_status : (shown : Option Shown) (failed : List ℕ) (words pages pairs : ℕ) (stop : Stop)
+    → Fails shown failed (room words pages pairs) stop → status_of stop ≢ 2
 room_status shown failed words pages pairs (TooFew there wanted) f = λ two. absurd (omega (arith, two))
 room_status shown failed words pages pairs _ f = absurd f
 

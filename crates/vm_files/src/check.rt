@@ -7,7 +7,6 @@ ghost use Rattle.vm_endings.specs.Deliveries.{content_of};
 ghost use Rattle.vm_endings.specs.Endings.{AnswersCommand, HasReadCause};
 ghost use Rattle.vm_endings.specs.declared.ends.Ends.{Ends};
 
-use crate::reading::read_tree;
 use std::alloc::{AllocError, Global};
 use vm_check::Rows;
 use vm_endings::delivery::Delivery;
@@ -15,6 +14,7 @@ use vm_endings::replies::add_rows;
 use vm_endings::stop::Stop;
 use vm_endings::undone::Undone;
 use vm_io::host::Host;
+use vm_reading::reading::read_tree;
 use vm_script::text::tree_text;
 use vm_words::Check;
 

@@ -1,6 +1,6 @@
 //! The command `make`: a page file built of numbered pairs.
 
-ghost use Rattle.std.specs.Prelude.{◌≡◌, ◌≤◌, ℕ, List, Option, IfOk, slice_index};
+ghost use Rattle.std.specs.Prelude.{◌≡◌, ℕ, List, Option, IfOk, slice_index};
 ghost use Rattle.vm_io.specs.Shown.{Shown};
 ghost use Rattle.vm_page.specs.{Pages.page_at, Sizes.IsSize};
 ghost use Rattle.vm_script.specs.Texts.{made_line};
@@ -9,16 +9,16 @@ ghost use Rattle.vm_words.specs.declared.Command.TheVariants as commands;
 ghost use Rattle.vm_endings.specs.Deliveries.{content_of};
 ghost use Rattle.vm_endings.specs.Endings.{AnswersCommand, HasReadCause};
 ghost use Rattle.vm_endings.specs.Makes.{ToldMake};
-ghost use Rattle.vm_files.specs.Readings.{TellsSizes};
+ghost use Rattle.vm_files.specs.Building.{TellsSizes};
 ghost use Rattle.vm_endings.specs.declared.ends.Ends.{Ends};
 
-use crate::writing::{file_of, used_in};
 use std::alloc::{AllocError, Global};
 use vm_build::{needed, numbered_image};
 use vm_endings::delivery::Delivery;
 use vm_endings::limits::{are_pages, are_pairs_to_make, are_words, words_of};
 use vm_endings::stop::{Quantity, Stop};
 use vm_endings::undone::Undone;
+use vm_endings::writing::{file_of, used_in};
 use vm_image::Image;
 use vm_page::{LARGE, WORDS};
 use vm_script::text::made_text;
@@ -26,14 +26,14 @@ use vm_words::Make;
 
 /// How many pages a page file has, 2 to 65,536 of 64 words or 2 to 8,192 of 512, and how many pairs its tree holds, at most 1,000,000.
 #[derive(Clone, Copy)]
-pub struct Sizes {
+pub struct MakeSizes {
     pub words: usize,
     pub pages: u32,
     pub pairs: u32,
 }
 
 // The numbers, where they are within their limits and the pages are enough for the pairs.
-fn sizes_of<'a>(make: &Make<'a>) -> Result<Sizes, Stop<'a>>
+fn sizes_of<'a>(make: &Make<'a>) -> Result<MakeSizes, Stop<'a>>
     ensures { TellsSizes make.now result }
 {
     let words = words_of(make.words);
@@ -53,7 +53,7 @@ fn sizes_of<'a>(make: &Make<'a>) -> Result<Sizes, Stop<'a>>
     if pages < needed {
         return Err(Stop::TooFew { pages, needed });
     }
-    Ok(Sizes {
+    Ok(MakeSizes {
         words,
         pages,
         pairs,
@@ -80,7 +80,7 @@ fn text_of<const N: usize>(
 fn made<'a, const N: usize>(
     alloc: Global,
     make: &Make<'a>,
-    sizes: Sizes,
+    sizes: MakeSizes,
 ) -> Result<Delivery<'a>, AllocError>
     requires sized { IsSize N }
     requires sizes { TellsSizes make.now (Ok sizes) }

@@ -10,21 +10,21 @@ ghost use Rattle.vm_words.specs.declared.Command.TheVariants as commands;
 ghost use Rattle.vm_endings.specs.Deliveries.{content_of};
 ghost use Rattle.vm_endings.specs.Endings.{AnswersCommand, HasReadCause};
 ghost use Rattle.vm_endings.specs.{Limits.are_pages as are_pages_of, Migrates.IsMigrated};
-ghost use Rattle.vm_files.specs.Readings.{TellsMigrated};
+ghost use Rattle.vm_files.specs.Building.{TellsMigrated};
 ghost use Rattle.vm_endings.specs.declared.ends.Ends.{Ends};
 
-use crate::reading::read_tree;
-use crate::writing::{file_of, used_in};
 use std::alloc::{AllocError, Global};
 use vm_build::{BuildFault, build};
 use vm_endings::delivery::Delivery;
 use vm_endings::limits::are_pages;
 use vm_endings::stop::{Quantity, Stop};
 use vm_endings::undone::Undone;
+use vm_endings::writing::{file_of, used_in};
 use vm_image::Image;
 use vm_io::host::Host;
 use vm_map::call::Pair;
 use vm_page::LARGE;
+use vm_reading::reading::read_tree;
 use vm_script::text::migrated_text;
 use vm_words::Migrate;
 

@@ -1,6 +1,8 @@
 -- The bits of a mask over a free-number word, and the pages whose numbers they are.
 use Rattle.std.specs.Int.{bit_at}
-use Rattle.std.proofs.Common.{[], ⊎_elim, ◌%◌, ◌*◌, ◌+◌, ◌/◌, ◌<◌, ◌||◌, ◌∙◌, ◌∷◌, ◌≡◌, ◌≢◌, ◌≤◌, ◌⊎◌, ap, arith, bit_xor, Bool, eq-eqb, false, inl, inr, length, List, min, refl, sym, true, true≢false, ℕ}
+use Rattle.std.proofs.Common.{[], ⊎_elim, ◌%◌, ◌*◌, ◌+◌, ◌/◌, ◌<◌, ◌||◌, ◌∙◌, ◌∷◌, ◌≡◌, ◌≢◌, ◌≤◌, ◌⊎◌, ap, arith}
+use Rattle.std.proofs.Common.{bit_xor, Bool, eq-eqb, false, inl, inr, length, List, min, refl, sym, true, true≢false}
+use Rattle.std.proofs.Common.{ℕ}
 use Rattle.std.proofs.lemmas.Bool.{and_from, cases_Bool, cases_eq, false≢true, ne_eqb}
 use Rattle.std.proofs.lemmas.Bool.Decides.{nat_tests}
 use Rattle.std.proofs.lemmas.Nat.Bits.{bit_at-lt, bit_at-zero, bit_at_and, bit_at_xor, same_from_bits}
@@ -29,7 +31,8 @@ mask-from g mask p of one = and_from _ _ (eq-eqb _ _ of) (eq-eqb _ _ one)
 
 -- a mask with a page's bit is not empty, and the empty one has no page
 pub mask-some : (g mask p : ℕ) → in_mask g mask p ≡ true → mask ≢ 0
-mask-some g mask p e none = let one = (mask-parts g mask p e).1 in let zero' : bit_at mask (p % 64) ≡ 0 = ap (λ m. bit_at m (p % 64)) none ∙ bit_at-zero (p % 64) in absurd (omega (arith, one, zero'))
+mask-some g mask p e none = let one = (mask-parts g mask p e).1 in let zero' : bit_at mask (p % 64) ≡ 0 =
+    ap (λ m. bit_at m (p % 64)) none ∙ bit_at-zero (p % 64) in absurd (omega (arith, one, zero'))
 
 pub mask-not-none : (mask : ℕ) → 1 ≤ bit_count mask → mask ≢ 0
 mask-not-none mask one none = let count : bit_count mask ≡ 0 = ap bit_count none ∙ no-bit in absurd (omega (arith, count, one))
@@ -53,7 +56,8 @@ xor-else g mask bit q none =
     (λ (here : q / 64 ≡ g).
     ⊎_elim
     (λ (one : bit_at bit (q % 64) ≡ 1). absurd (true≢false (sym (mask-from g bit q here one) ∙ none)))
-    (λ (clear : bit_at bit (q % 64) ≢ 1). let same : bit_at (bit_xor mask bit) (q % 64) ≡ bit_at mask (q % 64) = omega (arith, both, a, b, clear) in grind (arith, nat_tests, here, same))
+    (λ (clear : bit_at bit (q % 64) ≢ 1). let same : bit_at (bit_xor mask bit) (q % 64) ≡ bit_at mask (q % 64) =
+    omega (arith, both, a, b, clear) in grind (arith, nat_tests, here, same))
     (cases_eq (bit_at bit (q % 64)) 1))
     (λ (other : q / 64 ≢ g). grind (arith, nat_tests, other))
     (cases_eq (q / 64) g)
@@ -63,7 +67,8 @@ xor-here g mask bit q one set =
     let both : bit_at (bit_xor mask bit) (q % 64) ≡ (bit_at mask (q % 64) + bit_at bit (q % 64)) % 2 = bit_at_xor mask bit (q % 64) in
     let a = mask-parts g bit q one in
     let b = mask-parts g mask q set in
-    ⊎_elim (λ t. absurd (let c = mask-parts g (bit_xor mask bit) q t in omega (arith, both, a.1, b.1, c.1))) (λ f. f) (cases_Bool (in_mask g (bit_xor mask bit) q))
+    ⊎_elim (λ t. absurd (let c = mask-parts g (bit_xor mask bit) q t in omega (arith, both, a.1, b.1, c.1))) (λ f. f)
+    (cases_Bool (in_mask g (bit_xor mask bit) q))
 
 -- this bit of the mask is page p's alone
 pub record IsBitOf (g mask bit p : ℕ) : Type 0 where
@@ -74,7 +79,8 @@ pub record IsBitOf (g mask bit p : ℕ) : Type 0 where
 -- ---- one page, and two
 
 in-one : (f x : ℕ) → has f (x ∷ []) ≡ true → f ≡ x
-in-one f x e = ⊎_elim (λ (same : f ≡ x). same) (λ (ne : f ≢ x). absurd (false≢true (sym (ap (λ (b : Bool). b || false) (ne_eqb f x ne)) ∙ e))) (cases_eq f x)
+in-one f x e = ⊎_elim (λ (same : f ≡ x). same)
+    (λ (ne : f ≢ x). absurd (false≢true (sym (ap (λ (b : Bool). b || false) (ne_eqb f x ne)) ∙ e))) (cases_eq f x)
 
 in-two : (f x y : ℕ) → has f (x ∷ y ∷ []) ≡ true → (f ≡ x) ⊎ (f ≡ y)
 in-two f x y e =
@@ -88,7 +94,8 @@ one-of [] x long here = absurd (false≢true here)
 one-of (y ∷ []) x long here = ap (λ (n : ℕ). n ∷ []) (sym (in-one x y here))
 one-of (y ∷ z ∷ l) x long here = absurd (omega (arith, long))
 
-two-of : (l : List ℕ) (a b : ℕ) → length l ≡ 2 → has a l ≡ true → has b l ≡ true → a < b → ((y z : ℕ) → l ≡ y ∷ z ∷ [] → y < z) → l ≡ a ∷ b ∷ []
+two-of : (l : List ℕ) (a b : ℕ) → length l ≡ 2 → has a l ≡ true → has b l ≡ true → a < b
+    → ((y z : ℕ) → l ≡ y ∷ z ∷ [] → y < z) → l ≡ a ∷ b ∷ []
 two-of [] a b long first second less rises = absurd (false≢true first)
 two-of (y ∷ []) a b long first second less rises = absurd (omega (arith, long))
 two-of (y ∷ z ∷ w ∷ l) a b long first second less rises = absurd (omega (arith, long))
@@ -100,7 +107,9 @@ two-of (y ∷ z ∷ []) a b long first second less rises =
     (λ (sy : b ≡ y). absurd (omega (arith, less, fy, sy)))
     (λ (sz : b ≡ z). λ i. sym fy i ∷ sym sz i ∷ [])
     (in-two b y z second))
-    (λ (fz : a ≡ z). absurd (⊎_elim (λ (sy : b ≡ y). omega (arith, less, fz, sy, up)) (λ (sz : b ≡ z). omega (arith, less, fz, sz)) (in-two b y z second)))
+    (λ (fz : a ≡ z). absurd
+    (⊎_elim (λ (sy : b ≡ y). omega (arith, less, fz, sy, up)) (λ (sz : b ≡ z). omega (arith, less, fz, sz))
+    (in-two b y z second)))
     (in-two a y z first)
 
 -- the page of a mask with one bit
@@ -108,7 +117,11 @@ pub only-page : (g mask x : ℕ) → bit_count mask ≡ 1 → in_mask g mask x �
 only-page g mask x one here = one-of (frames_in g mask) x (mask-count g mask ∙ one) (has-frames_in g mask x ∙ here)
 
 pub only-bit : (g mask x : ℕ) → bit_count mask ≡ 1 → in_mask g mask x ≡ true → IsBitOf g mask mask x
-only-bit g mask x one here = record { here = here; only = λ q e. in-one q x (ap (has q) (sym (only-page g mask x one here)) ∙ has-frames_in g mask q ∙ e); among = here }
+only-bit g mask x one here = record {
+  here = here;
+  only = λ q e. in-one q x (ap (has q) (sym (only-page g mask x one here)) ∙ has-frames_in g mask q ∙ e);
+  among = here;
+}
 
 pub count-one : (word mask : ℕ) → AreLowest word 1 mask → 1 ≤ bit_count word → bit_count mask ≡ 1
 count-one word mask low some = omega (arith, low.count, some)
@@ -135,7 +148,8 @@ module _ (g mask lower : ℕ) (two : bit_count mask ≡ 2) (low : AreLowest mask
   lower-among : (q : ℕ) → in_mask g lower q ≡ true → in_mask g mask q ≡ true
   lower-among q e =
       let k = mask-parts g lower q e in
-      let both : min (bit_at lower (q % 64)) (bit_at mask (q % 64)) ≡ bit_at lower (q % 64) = sym (bit_at_and lower mask (q % 64)) ∙ ap (λ m. bit_at m (q % 64)) low.among in
+      let both : min (bit_at lower (q % 64)) (bit_at mask (q % 64)) ≡ bit_at lower (q % 64) =
+      sym (bit_at_and lower mask (q % 64)) ∙ ap (λ m. bit_at m (q % 64)) low.among in
       mask-from g mask q k.0 (omega (arith, both, k.1, bit_at-lt mask (q % 64)))
 
   pub lower-bit : (a : ℕ) → in_mask g lower a ≡ true → IsBitOf g mask lower a
@@ -168,7 +182,8 @@ module _ (g mask lower : ℕ) (two : bit_count mask ≡ 2) (low : AreLowest mask
 
     pub both-pages : frames_in g mask ≡ a ∷ b ∷ []
     both-pages =
-        two-of (frames_in g mask) a b (mask-count g mask ∙ two) (has-frames_in g mask a ∙ lower-among a first) (has-frames_in g mask b ∙ (upper-parts b second).0) lower-less
+        two-of (frames_in g mask) a b (mask-count g mask ∙ two) (has-frames_in g mask a ∙ lower-among a first)
+        (has-frames_in g mask b ∙ (upper-parts b second).0) lower-less
         (λ y z e. mask-rises 64 g mask y z (all-below g mask ∙ e))
 
     pub upper-bit : IsBitOf g mask (bit_xor mask lower) b
@@ -190,10 +205,12 @@ pub record AreTwoBits (g mask lower a b : ℕ) : Type 0 where
   pub pages : frames_in g mask ≡ a ∷ b ∷ []
   pub apart : a ≢ b
 
-pub first-bit : (g word mask lower a : ℕ) → AreLowest word 2 mask × (2 ≤ bit_count word) → AreLowest mask 1 lower → in_mask g lower a ≡ true → IsBitOf g mask lower a
+pub first-bit : (g word mask lower a : ℕ) → AreLowest word 2 mask × (2 ≤ bit_count word) → AreLowest mask 1 lower
+    → in_mask g lower a ≡ true → IsBitOf g mask lower a
 first-bit g word mask lower a two low first = lower-bit g mask lower (count-two word mask two.0 two.1) low a first
 
-pub two-bits : (g word mask lower a b : ℕ) → AreLowest word 2 mask × (2 ≤ bit_count word) → AreLowest mask 1 lower → in_mask g lower a ≡ true → in_mask g (bit_xor mask lower) b ≡ true → AreTwoBits g mask lower a b
+pub two-bits : (g word mask lower a b : ℕ) → AreLowest word 2 mask × (2 ≤ bit_count word) → AreLowest mask 1 lower
+    → in_mask g lower a ≡ true → in_mask g (bit_xor mask lower) b ≡ true → AreTwoBits g mask lower a b
 two-bits g word mask lower a b two low first second =
     let count : bit_count mask ≡ 2 = count-two word mask two.0 two.1 in record {
       first = lower-bit g mask lower count low a first;

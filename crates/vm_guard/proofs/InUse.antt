@@ -1,5 +1,6 @@
 -- A page that the pass has locked is in use where a word of it is not 0, so the pass may write it.
-use Rattle.std.proofs.Common.{[], ◌&&◌, ◌==◌, ◌≡◌, ◌≢◌, ◌∙◌, ◌∷◌, ap, Bool, false, inl, inr, List, refl, slice_index, subst, suc, sym, true, zero, ℕ}
+use Rattle.std.proofs.Common.{[], ◌&&◌, ◌==◌, ◌≡◌, ◌≢◌, ◌∙◌, ◌∷◌, ap, Bool, false, inl, inr, List, refl, slice_index}
+use Rattle.std.proofs.Common.{subst, suc, sym, true, zero, ℕ}
 use Rattle.std.proofs.lemmas.Bool.{ne_eqb}
 use Rattle.vm_core.specs.Prelude.{Version}
 use Rattle.vm_page.specs.Pages.{all_zero}
@@ -23,7 +24,8 @@ module _ {X : Type 0} where
 
   -- page p was locked, whose number q is, and then a word of it read, which is not 0
   module _ {tied : Start → ℕ → List ℕ → ℕ → List ℕ → Type 0} {p q frame version : ℕ} {dirty : Bool} {done : List Did} {u v w : View X}
-      (same : q ≡ p) (taken : IsLocked tied p frame version dirty u v) (reads : IsQuiet q done v w) (i : ℕ) (some : slice_index (draft_of v q) i ≢ 0) where
+      (same : q ≡ p) (taken : IsLocked tied p frame version dirty u v) (reads : IsQuiet q done v w) (i : ℕ)
+      (some : slice_index (draft_of v q) i ≢ 0) where
     locked : IsLocked tied q frame version dirty u v
     locked = subst (λ (n : ℕ). IsLocked tied n frame version dirty u v) (sym same) taken
 
@@ -33,10 +35,7 @@ module _ {X : Type 0} where
     pub read-used : all_zero (last_of w q).words ≡ false
     read-used = ap (λ (y : Version). all_zero y.words) last-stays ∙ ap all_zero (sym locked.draft) ∙ word-used (draft_of v q) i some
 
-    -- it may be released as it is, and after words of it were set
-    pub read-claims : IsClaimed w q
-    read-claims = claims-used w q read-used
-
+    -- so it is after a word of it was set, and may be released then
     pub set-used : (z : View X) (f : ℕ) (d : Bool) (j x : ℕ) → IsSet q f d j x w z → all_zero (last_of z q).words ≡ false
     set-used z f d j x set = ap (λ (y : Version). all_zero y.words) set.last ∙ read-used
 

@@ -1,18 +1,21 @@
--- The loads of free-number words with which a call for fresh pages begins leave all that the pass has; and so pages that are given are given by the whole call.
-use Rattle.std.proofs.Common.{◌*◌}
+-- The loads of free-number words with which a call for fresh pages begins leave all that the pass has; and so pages
+-- that are given are given by the whole call.
 use Rattle.vm_core.specs.Words.{bit_count}
 use Rattle.vm_rule.specs.FreeNumbers.{SpareTold}
 use Rattle.vm_rule.specs.Bundles.{frames_in}
 use Rattle.vm_step.proofs.{Numbers.has-numbers, steps.Leaving.own-self, Together.numbers-length}
-use Rattle.vm_guard.specs.{declared.given.Fresh.Fresh, Given.AreFreshPages, Reused.AreReused, Reused.IsFreshAnswer, Spares.FindsFew, Spares.FindsAllFew, Spares.FindsSome, Spares.spare_loads}
+use Rattle.vm_guard.specs.{declared.given.Fresh.Fresh, Given.AreFreshPages, Reused.AreReused, Reused.IsFreshAnswer}
+use Rattle.vm_guard.specs.{Spares.FindsFew, Spares.FindsAllFew, Spares.FindsSome, Spares.spare_loads}
 use Rattle.vm_guard.proofs.Amid.{amid-alone, IsSilent, others-known, silent-of, silent-then}
 use Rattle.vm_guard.proofs.FreshNumbers.{apart-first, numbers-one, numbers-two}
 use Rattle.vm_guard.proofs.FreshTouches.{amid-none, takes-behind}
 use Rattle.vm_guard.proofs.Lockings.{unheld-same}
-use Rattle.vm_guard.proofs.Prelude.{[], ap, AreApart, AreFresh, arith, Did, did_load, Each, each-both, each-map, ExclusiveGuard, guards_of, has, has-both}
-use Rattle.vm_guard.proofs.Prelude.{holds-still, inl, inr, IsPlaceOf, LeavesOthers, LeavesOwn, length, length-append, List, None, numbers, others-none, others-still, others-then, others-within, Origin, own-then}
-use Rattle.vm_guard.proofs.Prelude.{Place, put_at, refl, replicate, Seat, seat_of, still-own, subst, suc, sym, true, View, without_all, ℕ, ⊎_elim, ◌++◌, ◌+◌, ◌<◌, ◌||◌, ◌∙◌, ◌∷◌}
-use Rattle.vm_guard.proofs.Prelude.{◌≡◌, ◌≤◌, ◌⊎◌}
+use Rattle.vm_guard.proofs.Prelude.{[], ap, AreApart, AreFresh, arith, Did, did_load, Each, each-both, each-map}
+use Rattle.vm_guard.proofs.Prelude.{ExclusiveGuard, guards_of, has, has-both, holds-still, inl, inr, IsPlaceOf}
+use Rattle.vm_guard.proofs.Prelude.{LeavesOthers, LeavesOwn, length, length-append, List, None, numbers, others-none}
+use Rattle.vm_guard.proofs.Prelude.{others-still, others-then, others-within, Origin, own-then, put_at, refl}
+use Rattle.vm_guard.proofs.Prelude.{replicate, Seat, seat_of, still-own, subst, suc, sym, true, View, without_all}
+use Rattle.vm_guard.proofs.Prelude.{WordPlace, ℕ, ⊎_elim, ◌++◌, ◌+◌, ◌<◌, ◌||◌, ◌∙◌, ◌∷◌, ◌≡◌, ◌⊎◌}
 
 -- one page, or two that follow each other, stand once each
 numbers-apart : (x n : ℕ) → (n ≡ 1) ⊎ (n ≡ 2) → AreApart (numbers x n)
@@ -25,7 +28,8 @@ numbers-apart x n few =
 module _ {X : Type 0} where
   -- ---- the loads
 
-  few-others : {touched : ℕ → Type 0} (n g : ℕ) (found : List ℕ) (v w : View X) → FindsFew n g found v w → LeavesOthers touched (spare_loads g found) [] v w
+  few-others : {touched : ℕ → Type 0} (n g : ℕ) (found : List ℕ) (v w : View X) → FindsFew n g found v w
+      → LeavesOthers touched (spare_loads g found) [] v w
   few-others {touched = touched} n g [] v w same = subst (LeavesOthers touched [] [] v) (sym same) (others-none v)
   few-others n g (x ∷ xs) v w f = others-then (others-still f.2.brings) (few-others n (g + 1) xs f.0 w f.3)
 
@@ -34,12 +38,16 @@ module _ {X : Type 0} where
   few-own n g (x ∷ xs) v w f = own-then (still-own f.2.brings) (few-own n (g + 1) xs f.0 w f.3)
 
   -- each is at a free-number word of the table
-  few-places : (pages : List ℕ) (n g : ℕ) (found : List ℕ) (v w : View X) → FindsFew n g found v w → Each (λ (d : Did). IsPlaceOf v.start pages d.at) (spare_loads g found)
+  few-places : (pages : List ℕ) (n g : ℕ) (found : List ℕ) (v w : View X) → FindsFew n g found v w
+      → Each (λ (d : Did). IsPlaceOf v.start pages d.at) (spare_loads g found)
   few-places pages n g [] v w same = tt
   few-places pages n g (x ∷ xs) v w f =
       let start : f.0.start ≡ v.start = ap (λ (y : View X). y.start) f.2.brings.view in
-      let within = f.2.brings.inside in
-      (omega (arith, within), subst (λ (o : Origin). Each (λ (d : Did). IsPlaceOf o pages d.at) (spare_loads (g + 1) xs)) start (few-places pages n (g + 1) xs f.0 w f.3))
+      let within = f.2.brings.inside in (
+        omega (arith, within),
+        subst (λ (o : Origin). Each (λ (d : Did). IsPlaceOf o pages d.at) (spare_loads (g + 1) xs)) start
+            (few-places pages n (g + 1) xs f.0 w f.3),
+      )
 
   -- loads that only look
   pub record Looks (done : List Did) (v w : View X) : Type 0 where
@@ -48,25 +56,40 @@ module _ {X : Type 0} where
     pub places : (pages : List ℕ) → Each (λ (d : Did). IsPlaceOf v.start pages d.at) done
 
   pub looks-none : (n : ℕ) (v w : View X) (f : FindsAllFew n v w) → Looks (spare_loads 0 f.found) v w
-  looks-none n v w f = record { others = few-others n 0 f.found v w f.few; own = few-own n 0 f.found v w f.few; places = λ pages. few-places pages n 0 f.found v w f.few }
+  looks-none n v w f = record {
+    others = few-others n 0 f.found v w f.few;
+    own = few-own n 0 f.found v w f.few;
+    places = λ pages. few-places pages n 0 f.found v w f.few;
+  }
 
   looks-then : (a b : List Did) (u v w : View X) → Looks a u v → Looks b v w → Looks (a ++ b) u w
   looks-then a b u v w f g = record {
     others = others-then f.others g.others;
     own = own-then f.own g.own;
-    places = λ pages. each-both _ a b (f.places pages) (subst (λ (o : Origin). Each (λ (d : Did). IsPlaceOf o pages d.at) b) f.own.start (g.places pages));
+    places = λ pages. each-both _ a b (f.places pages)
+        (subst (λ (o : Origin). Each (λ (d : Did). IsPlaceOf o pages d.at) b) f.own.start (g.places pages));
   }
 
-  pub looks-some : (n g word : ℕ) (v w : View X) (f : FindsSome n g word v w) → Looks (spare_loads 0 f.earlier ++ did_load (Place.Spare g) word ∷ []) v w
+  pub looks-some : (n g word : ℕ) (v w : View X) (f : FindsSome n g word v w)
+      → Looks (spare_loads 0 f.earlier ++ did_load (WordPlace.Spare g) word ∷ []) v w
   looks-some n g word v w f =
-      looks-then (spare_loads 0 f.earlier) (did_load (Place.Spare g) word ∷ []) v f.between w
-      (record { others = few-others n 0 f.earlier v f.between f.few; own = few-own n 0 f.earlier v f.between f.few; places = λ pages. few-places pages n 0 f.earlier v f.between f.few })
-      (record { others = others-still f.loaded.brings; own = still-own f.loaded.brings; places = λ pages. (let within = f.loaded.brings.inside in omega (arith, within), tt) })
+      looks-then (spare_loads 0 f.earlier) (did_load (WordPlace.Spare g) word ∷ []) v f.between w
+      (record {
+        others = few-others n 0 f.earlier v f.between f.few;
+        own = few-own n 0 f.earlier v f.between f.few;
+        places = λ pages. few-places pages n 0 f.earlier v f.between f.few;
+      })
+      (record {
+        others = others-still f.loaded.brings;
+        own = still-own f.loaded.brings;
+        places = λ pages. (let within = f.loaded.brings.inside in omega (arith, within), tt);
+      })
 
   -- ---- the search
 
   -- one more word was loaded
-  few-more : (n g : ℕ) (found : List ℕ) (x : ℕ) (v u w : View X) → FindsFew n g found v u → bit_count x < n → SpareTold (g + length found) x u w → FindsFew n g (found ++ x ∷ []) v w
+  few-more : (n g : ℕ) (found : List ℕ) (x : ℕ) (v u w : View X) → FindsFew n g found v u → bit_count x < n
+      → SpareTold (g + length found) x u w → FindsFew n g (found ++ x ∷ []) v w
   few-more n g [] x v u w same low t =
       let at : g + 0 ≡ g = omega arith in
       (w, low, subst (λ y. SpareTold g x y w) same (subst (λ k. SpareTold k x u w) at t), refl)
@@ -80,29 +103,20 @@ module _ {X : Type 0} where
     pub count : length found ≡ g
     pub few : FindsFew n 0 found v w
 
-  pub search-none : (n : ℕ) (v : View X) → IsSearching n 0 v v
-  search-none n v = record { found = []; count = refl; few = refl }
-
   pub search-more : (n g x : ℕ) (v u w : View X) → IsSearching n g v u → bit_count x < n → SpareTold g x u w → IsSearching n (g + 1) v w
   search-more n g x v u w f low t = record {
     found = f.found ++ x ∷ [];
     count = length-append f.found (x ∷ []) ∙ ap (λ k. k + 1) f.count;
-    few = few-more n 0 f.found x v u w f.few low (let at : 0 + length f.found ≡ g = (let count = f.count in omega (arith, count)) in subst (λ k. SpareTold k x u w) (sym at) t);
+    few = few-more n 0 f.found x v u w f.few low
+        (let at : 0 + length f.found ≡ g = (let count = f.count in omega (arith, count)) in
+        subst (λ k. SpareTold k x u w) (sym at) t);
   }
-
-  pub search-some : (n g x : ℕ) (v u w : View X) → g * 64 < v.start.pages → n ≤ bit_count x → IsSearching n g v u → SpareTold g x u w → FindsSome n g x v w
-  search-some n g x v u w inside enough f t = record { inside = inside; enough = enough; earlier = f.found; count = f.count; between = u; few = f.few; loaded = t }
-
-  pub search-all : (n g : ℕ) (v w : View X) → v.start.pages ≤ g * 64 → g * 64 < v.start.pages + 64 → IsSearching n g v w → FindsAllFew n v w
-  search-all n g v w up low f = record { found = f.found; all = (subst (λ k. v.start.pages ≤ k * 64) (sym f.count) up, subst (λ k. k * 64 < v.start.pages + 64) (sym f.count) low); few = f.few }
-
-  -- the table is the same one meanwhile
-  pub search-start : (n g : ℕ) (v w : View X) → IsSearching n g v w → w.start ≡ v.start
-  search-start n g v w f = (few-own n 0 f.found v w f.few).start
 
   -- ---- pages that are given behind them
 
-  pub given-behind : (n : ℕ) (pages : List ℕ) (gs : List ExclusiveGuard) (before after : List ℕ) (pre : List Did) (v u w : View X) → Looks pre v u → AreFreshPages n pages gs before after u w → AreFreshPages n pages gs before after v w
+  pub given-behind : (n : ℕ) (pages : List ℕ) (gs : List ExclusiveGuard) (before after : List ℕ) (pre : List Did)
+      (v u w : View X) → Looks pre v u → AreFreshPages n pages gs before after u w
+      → AreFreshPages n pages gs before after v w
   given-behind n pages gs before after pre v u w looks f =
       let o : LeavesOthers (λ _. ⊥) pre [] v u = looks.others in
       let beside : (qs : List ℕ) → LeavesOthers (λ q. has q qs ≡ true) pre [] v u = λ qs. others-within (λ q t. absurd t) o in
@@ -141,7 +155,8 @@ module _ {X : Type 0} where
 
   -- ---- both kinds
 
-  pub given-claimed : (x n : ℕ) (gs : List ExclusiveGuard) (before after : List ℕ) (v w : View X) → (n ≡ 1) ⊎ (n ≡ 2) → AreFresh (numbers x n) x n gs before after v w → AreFreshPages n (numbers x n) gs before after v w
+  pub given-claimed : (x n : ℕ) (gs : List ExclusiveGuard) (before after : List ℕ) (v w : View X) → (n ≡ 1) ⊎ (n ≡ 2)
+      → AreFresh (numbers x n) x n gs before after v w → AreFreshPages n (numbers x n) gs before after v w
   given-claimed x n gs before after v w few f = record {
     done = f.done;
     amid = f.amid;
@@ -168,7 +183,8 @@ module _ {X : Type 0} where
     current = f.current;
   }
 
-  pub given-reused : (n g word mask : ℕ) (gs : List ExclusiveGuard) (before after : List ℕ) (v w : View X) → AreReused n g word mask gs before after v w → AreFreshPages n (frames_in g mask) gs before after v w
+  pub given-reused : (n g word mask : ℕ) (gs : List ExclusiveGuard) (before after : List ℕ) (v w : View X)
+      → AreReused n g word mask gs before after v w → AreFreshPages n (frames_in g mask) gs before after v w
   given-reused n g word mask gs before after v w f = record {
     done = f.done;
     amid = f.amid;
@@ -182,7 +198,11 @@ module _ {X : Type 0} where
     zero = f.zero;
     usable = λ t q e. inr (ap (has q) (f.numbers t).0 ∙ has-both q (frames_in g mask) v.numbers ∙ ap (λ b. b || has q v.numbers) e);
     owed = λ q e. ap (has q) f.group.0;
-    numbers = λ t. ((λ q e. ap (has q) (f.numbers t).0 ∙ has-both q (frames_in g mask) v.numbers ∙ ap (λ b. b || has q v.numbers) e), (f.numbers t).1);
+    numbers = λ t. (
+      (λ q e. ap (has q) (f.numbers t).0 ∙ has-both q (frames_in g mask) v.numbers
+          ∙ ap (λ b. b || has q v.numbers) e),
+      (f.numbers t).1,
+    );
     taken = f.taken;
     cut = f.cut;
     frames = f.frames;
@@ -196,15 +216,24 @@ module _ {X : Type 0} where
   }
 
   -- the pages of a call
-  pub given-of : (n : ℕ) (group : _) (before after : List ℕ) (v w : View X) → (n ≡ 1) ⊎ (n ≡ 2) → IsFreshAnswer n before after v w (Fresh.Pages group) → (pages : List ℕ) × AreFreshPages n pages (guards_of group) before after v w
+  pub given-of : (n : ℕ) (group : _) (before after : List ℕ) (v w : View X) → (n ≡ 1) ⊎ (n ≡ 2)
+      → IsFreshAnswer n before after v w (Fresh.Pages group) → (pages : List ℕ) × AreFreshPages n pages
+      (guards_of group) before after v w
   given-of n group before after v w few answer =
       ⊎_elim
-      (λ a. (numbers a.2.0 n, given-behind n (numbers a.2.0 n) (guards_of group) before after (spare_loads 0 a.1.found) v a.0 w (looks-none n v a.0 a.1) (given-claimed a.2.0 n (guards_of group) before after a.0 w few a.2.1)))
+      (λ a. (
+        numbers a.2.0 n,
+        given-behind n (numbers a.2.0 n) (guards_of group) before after
+            (spare_loads 0 a.1.found) v a.0 w (looks-none n v a.0 a.1)
+            (given-claimed a.2.0 n (guards_of group) before after a.0 w few a.2.1),
+      ))
       (λ a. ⊎_elim
       (λ lost. absurd (let no : Fresh.Pages group ≡ Fresh.Again lost.0 = lost.1 in cc))
       (λ f. (
         frames_in a.1 a.4.0,
-        given-behind n (frames_in a.1 a.4.0) (guards_of group) before after (spare_loads 0 a.3.earlier ++ did_load (Place.Spare a.1) a.2 ∷ []) v a.0 w (looks-some n a.1 a.2 v a.0 a.3)
+        given-behind n (frames_in a.1 a.4.0) (guards_of group) before after
+            (spare_loads 0 a.3.earlier ++ did_load (WordPlace.Spare a.1) a.2 ∷ []) v a.0 w
+            (looks-some n a.1 a.2 v a.0 a.3)
             (given-reused n a.1 a.2 a.4.0 (guards_of group) before after a.0 w f),
       ))
       a.4.2)

@@ -1,11 +1,13 @@
--- What a call answers that gives no guard, or ends without what it was asked for: the evidence of its steps, and that the pass holds what it held.
+-- What a call answers that gives no guard, or ends without what it was asked for: the evidence of its steps, and that
+-- the pass holds what it held.
 use Rattle.std.specs.Prelude.{◌≡◌, ◌⊎◌, List, true, ℕ}
 use Rattle.vm_step.specs.Prelude.{Did, IsSaw, IsWorn, KnowsSame, NeedsPage, UnlockedExpected, View}
 use Rattle.vm_step.specs.declared.saw.At.{At}
 use Rattle.vm_step.specs.Evidence.{IsCrowded}
 use Rattle.vm_guard.specs.{declared.deny.Deny.Deny, Quiet.IsQuiet, Quiet.OnlyUnmarks}
 
--- the steps of the call show why; `kept` tells the words that the call had before its first step, and `expects` which word an exchange of it
+-- the steps of the call show why; `kept` tells the words that the call had before its first step, and `expects` which
+-- word an exchange of it
 -- may expect in the place of one that was read
 abbrev pub IsEvidence : (ℕ → Type 0) → (ℕ → ℕ → Type 0) → List Did → ℕ → Deny → Type 0
 IsEvidence kept expects done p (Deny.Again saw) = (saw.at ≡ At.Page p) × IsSaw kept expects done saw
@@ -50,7 +52,8 @@ OnlyWorn d = ⊥
 
 module _ {X : Type 0} where
   -- the call of page p was denied, with evidence, by an answer of an allowed kind
-  pub record IsDenied (allowed : Deny → Type 0) (kept : ℕ → Type 0) (expects : ℕ → ℕ → Type 0) (p : ℕ) (deny : Deny) (v w : View X) : Type 0 where
+  pub record IsDenied (allowed : Deny → Type 0) (kept : ℕ → Type 0) (expects : ℕ → ℕ → Type 0) (p : ℕ) (deny : Deny)
+      (v w : View X) : Type 0 where
     pub done : List Did
     pub quiet : IsQuiet p done v w
     pub evidence : IsEvidence kept expects done p deny

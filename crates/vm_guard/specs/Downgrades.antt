@@ -3,7 +3,7 @@ use Rattle.std.specs.Prelude.{[], ◌++◌, ◌+◌, ◌∷◌, ◌≡◌, false
 use Rattle.vm_core.specs.Prelude.{word_of}
 use Rattle.vm_rule.specs.Prelude.{did_store, draft_of, held_at, last_of, loads_at, next_after, seat_of, without}
 use Rattle.vm_rule.specs.Releases.{freed_by, numbers_left}
-use Rattle.vm_rule.specs.declared.view.Place.{Place}
+use Rattle.vm_rule.specs.declared.view.WordPlace.{WordPlace}
 use Rattle.vm_step.specs.Prelude.{Did, View}
 use Rattle.vm_guard.specs.{Guards.IsElsewhere, Guards.IsSharing, Sure.KnowsBut}
 
@@ -20,7 +20,7 @@ module _ {X : Type 0} where
     pub sharing : IsSharing p frame w
     pub last : last_of w p ≡ record { version = version + 1; words = draft_of v p }
     -- the release was the only step of the call
-    pub steps : done ≡ did_store (Place.State p) (word_of 1 (version + 1)) ∷ []
+    pub steps : done ≡ did_store (WordPlace.State p) (word_of 1 (version + 1)) ∷ []
     -- the mapping of the page and its fault word are as they were
     pub held : held_at w p ≡ held_at v p
     pub table : KnowsBut p (word_of 1 (version + 1)) v w

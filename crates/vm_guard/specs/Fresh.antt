@@ -1,18 +1,24 @@
--- Pages that were never claimed: what a call for some of them answers. Each page given has words of zeros, is held by the pass and owed to it; on
+-- Pages that were never claimed: what a call for some of them answers. Each page given has words of zeros, is held by
+-- the pass and owed to it; on
 -- every other answer nothing is claimed, no lock is kept and the frames are as they were.
-use Rattle.std.specs.Prelude.{[], ◌++◌, ◌+◌, ◌<◌, ◌∷◌, ◌≡◌, ◌≤◌, ◌⊎◌, Bool, false, length, List, None, Option, replicate, reverse, Some, true, ℕ}
+use Rattle.std.specs.Prelude.{[], ◌++◌, ◌+◌, ◌<◌, ◌∷◌, ◌≡◌, ◌≤◌, ◌⊎◌, Bool, false, length, List, None, Option}
+use Rattle.std.specs.Prelude.{replicate, reverse, Some, true, ℕ}
 use Rattle.vm_core.specs.Prelude.{LOCKED, MAX_VERSION, MayLock, version_of, word_of}
-use Rattle.vm_rule.specs.Prelude.{contents_at, did_load, did_store, draft_of, Each, has, held_at, IsLocking, IsUnheld, last_of, loads_at, Mapping, next_after}
-use Rattle.vm_rule.specs.Prelude.{NextTold, numbers, seat_of, StartsWith, without_all}
+use Rattle.vm_rule.specs.Prelude.{contents_at, did_load, did_store, draft_of, Each, has, held_at, IsLocking, IsUnheld}
+use Rattle.vm_rule.specs.Prelude.{last_of, loads_at, Mapping, next_after, NextTold, numbers, seat_of, StartsWith}
+use Rattle.vm_rule.specs.Prelude.{without_all}
 use Rattle.vm_page.specs.Pages.{all_zero}
-use Rattle.vm_rule.specs.declared.view.Place.{Place}
-use Rattle.vm_step.specs.Prelude.{AreHeld, Did, HasWritten, HoldsPage, IsAlone, IsSaw, IsToldOf, IsWorn, KeepsFrames, KeepsNumbers, KnowsAsBefore}
-use Rattle.vm_step.specs.Prelude.{NoWord, Release, RunsAlone, StaysAlone, Tie, UnlockedExpected, View, WritesNone}
+use Rattle.vm_rule.specs.declared.view.WordPlace.{WordPlace}
+use Rattle.vm_step.specs.Prelude.{AreHeld, Did, HasWritten, HoldsPage, IsAlone, IsSaw, IsToldOf, IsWorn, KeepsFrames}
+use Rattle.vm_step.specs.Prelude.{KeepsNumbers, KnowsAsBefore, NoWord, Release, RunsAlone, StaysAlone, Tie}
+use Rattle.vm_step.specs.Prelude.{UnlockedExpected, View, WritesNone}
 use Rattle.vm_step.specs.declared.saw.At.{At}
 use Rattle.vm_step.specs.declared.saw.Saw.{Saw}
-use Rattle.vm_guard.specs.{declared.deny.Deny.Deny, declared.exclusive.ExclusiveGuard.ExclusiveGuard, declared.given.Fresh.Fresh, Denied.AgainOrWorn}
-use Rattle.vm_guard.specs.{Denied.IsDenied, FreshPlaces.IsPlaceOf, FreshPlaces.KnowsOthers, FreshWords.GivesUpOnce, FreshWords.IsNextWord, FreshWords.PutsOnce}
-use Rattle.vm_guard.specs.{FreshWords.TakesOnce, Guards.IsHolding, LockSteps.LocksBy, Quiet.LeavesNone}
+use Rattle.vm_guard.specs.{declared.deny.Deny.Deny, declared.exclusive.ExclusiveGuard.ExclusiveGuard}
+use Rattle.vm_guard.specs.{declared.given.Fresh.Fresh, Denied.AgainOrWorn, Denied.IsDenied, FreshPlaces.IsPlaceOf}
+use Rattle.vm_guard.specs.{FreshPlaces.KnowsOthers, FreshWords.GivesUpOnce, FreshWords.IsNextWord}
+use Rattle.vm_guard.specs.{FreshWords.PutsOnce, FreshWords.TakesOnce, Guards.IsHolding, LockSteps.LocksBy}
+use Rattle.vm_guard.specs.{Quiet.LeavesNone}
 use Rattle.vm_guard.specs.Groups.{guards_of, GuardsHeld, pids_of}
 use Rattle.vm_guard.specs.Sure.{known_next, known_word, KnowsBut, KnowsStates}
 
@@ -22,7 +28,8 @@ pub record IsToSeize (word expects : ℕ) : Type 0 where
   pub version : version_of word ≡ version_of expects
 
 module _ {X : Type 0} where
-  -- The call made these steps, says nothing, and worked on these pages alone: what the pass has and knows of all others is as it was. What it knows
+  -- The call made these steps, says nothing, and worked on these pages alone: what the pass has and knows of all
+  -- others is as it was. What it knows
   -- of frames, of pages owed and of the next page, the call's own clauses tell.
   pub record IsAmid (pages : List ℕ) (done : List Did) (v w : View X) : Type 0 where
     pub log : w.log ≡ v.log ++ done
@@ -82,7 +89,7 @@ module _ {X : Type 0} where
   pub record IsNotSeized (p : ℕ) (deny : Deny) (v w : View X) : Type 0 where
     pub page : p < v.start.pages
     pub denied : IsDenied AgainOrWorn NoWord UnlockedExpected p deny v w
-    pub places_are : Each (λ d. d.at ≡ Place.State p) denied.done
+    pub places_are : Each (λ d. d.at ≡ WordPlace.State p) denied.done
     pub bare : LeavesNone denied.done
 
   -- the next page x was loaded, and then it was locked
@@ -98,7 +105,7 @@ module _ {X : Type 0} where
     pub amid : IsAmid (p ∷ []) done v w
     pub left : ℕ
     pub next_word : IsNextWord version left
-    pub steps : done ≡ did_store (Place.State p) left ∷ []
+    pub steps : done ≡ did_store (WordPlace.State p) left ∷ []
     pub keeps : KeepsFrames v w
     pub group : (w.owed ≡ v.owed) × (w.next ≡ next_after p v.next)
     pub numbers : KeepsNumbers v w
@@ -122,11 +129,11 @@ module _ {X : Type 0} where
     -- the words of each other frame are as they were
     pub contents : (f : ℕ) → has f taken ≡ false → contents_at w f ≡ contents_at v f
     -- the state word was left alone; so was the translation word, or it names the frame, clean
-    pub locks : WritesNone (Place.State p) done
+    pub locks : WritesNone (WordPlace.State p) done
     pub puts : PutsOnce p frame dirty done
     -- so were the next word and the free-number words
-    pub unmoved : WritesNone Place.Next done
-    pub spares : (g : ℕ) → WritesNone (Place.Spare g) done
+    pub unmoved : WritesNone WordPlace.Next done
+    pub spares : (g : ℕ) → WritesNone (WordPlace.Spare g) done
     -- no page was released; a pass that was alone knows the state words as they were
     pub silent : amid.own ≡ []
     pub states : KnowsStates v w
@@ -140,7 +147,8 @@ module _ {X : Type 0} where
     pub unheld : (q : ℕ) → has q pages ≡ true → IsUnheld v q
     pub seats : (q : ℕ) → has q pages ≡ true → seat_of w q ≡ record (seat_of v q) { exclusive = true; reading = None }
     pub held : GuardsHeld w gs
-    pub zero : v.start.tells ≡ true → (q : ℕ) → has q pages ≡ true → (draft_of w q ≡ replicate v.start.size 0) × ((last_of w q).words ≡ replicate v.start.size 0)
+    pub zero : v.start.tells ≡ true → (q : ℕ) → has q pages ≡ true → (draft_of w q ≡ replicate v.start.size 0)
+        × ((last_of w q).words ≡ replicate v.start.size 0)
     pub owed : w.owed ≡ pages ++ v.owed
     pub numbers : KeepsNumbers v w
     pub next : w.next ≡ None
@@ -151,8 +159,8 @@ module _ {X : Type 0} where
     -- the words of each other frame are as they were
     pub contents : (f : ℕ) → has f taken ≡ false → contents_at w f ≡ contents_at v f
     -- the first step loaded the next page x, and a later one claimed
-    pub loaded : (more : List Did) × (done ≡ did_load Place.Next x ∷ more)
-    pub claimed : HasWritten done Place.Next (x + n)
+    pub loaded : (more : List Did) × (done ≡ did_load WordPlace.Next x ∷ more)
+    pub claimed : HasWritten done WordPlace.Next (x + n)
     -- each page was locked once, and put into a frame once at most, where it is clean
     pub once : Each (λ g. TakesOnce g.pid g.version g.frame g.dirty done) gs
     -- no page was released; a pass that was alone knows each page locked at its guard's version, the next word, and all others as they were
@@ -171,14 +179,15 @@ module _ {X : Type 0} where
     pub holds : (q : ℕ) → HoldsPage v w q
     pub knows : (q : ℕ) → IsLocking (seat_of v q) → KnowsAsBefore v w q
     -- no step left another next word, nor a word that is no state word
-    pub unmoved : Each (λ d. d.at ≡ Place.Next → d.wrote ≡ None) done
-    pub states : Each (λ d. (d.wrote ≡ None) ⊎ ((q : ℕ) × (d.at ≡ Place.State q))) done
+    pub unmoved : Each (λ d. d.at ≡ WordPlace.Next → d.wrote ≡ None) done
+    pub states : Each (λ d. (d.wrote ≡ None) ⊎ ((q : ℕ) × (d.at ≡ WordPlace.State q))) done
 
-  -- its first step loaded the next page x; it locked each of these pages once at most, and gave it up once then; and it knows the next page at most
+  -- its first step loaded the next page x; it locked each of these pages once at most, and gave it up once then; and
+  -- it knows the next page at most
   -- where the pass held it before
   pub record IsSpared (pages : List ℕ) (x : ℕ) (done : List Did) (v w : View X) : Type 0 where
     pub nil : IsNil pages done v w
-    pub loaded : (more : List Did) × (done ≡ did_load Place.Next x ∷ more)
+    pub loaded : (more : List Did) × (done ≡ did_load WordPlace.Next x ∷ more)
     pub once : (q : ℕ) → has q pages ≡ true → GivesUpOnce q done
     pub next : (q : ℕ) → w.next ≡ Some q → (seat_of v q).exclusive ≡ true
     -- a pass that was alone knows the next word, and all words but those of these pages, as they were

@@ -3,7 +3,8 @@ use Rattle.std.specs.Prelude.{[], ◌++◌, ◌<◌, ◌≡◌, ◌⊎◌, false
 use Rattle.vm_core.specs.Prelude.{LOCKED, word_of}
 use Rattle.vm_rule.specs.Prelude.{AreApart, contents_at, draft_of, Each, has, IsUnheld, last_of, seat_of, without_all}
 use Rattle.vm_step.specs.Prelude.{AreHeld, Did, IsAlone, View}
-use Rattle.vm_guard.specs.{declared.exclusive.ExclusiveGuard.ExclusiveGuard, Fresh.IsAmid, FreshPlaces.KnowsOthers, FreshWords.TakesOnce, Sure.known_word}
+use Rattle.vm_guard.specs.{declared.exclusive.ExclusiveGuard.ExclusiveGuard, Fresh.IsAmid, FreshPlaces.KnowsOthers}
+use Rattle.vm_guard.specs.{FreshWords.TakesOnce, Sure.known_word}
 use Rattle.vm_guard.specs.Groups.{GuardsHeld, pids_of}
 
 module _ {X : Type 0} where
@@ -18,7 +19,8 @@ module _ {X : Type 0} where
     pub unheld : (q : ℕ) → has q pages ≡ true → IsUnheld v q
     pub seats : (q : ℕ) → has q pages ≡ true → seat_of w q ≡ record (seat_of v q) { exclusive = true; reading = None }
     pub held : GuardsHeld w gs
-    pub zero : v.start.tells ≡ true → (q : ℕ) → has q pages ≡ true → (draft_of w q ≡ replicate v.start.size 0) × ((last_of w q).words ≡ replicate v.start.size 0)
+    pub zero : v.start.tells ≡ true → (q : ℕ) → has q pages ≡ true → (draft_of w q ≡ replicate v.start.size 0)
+        × ((last_of w q).words ≡ replicate v.start.size 0)
     -- each is owed to the pass, or the pass holds its number; what it has of the numbers of all others is as it was
     pub usable : v.start.tells ≡ true → (q : ℕ) → has q pages ≡ true → (has q w.owed ≡ true) ⊎ (has q w.numbers ≡ true)
     pub owed : (q : ℕ) → has q pages ≡ false → has q w.owed ≡ has q v.owed
@@ -31,7 +33,8 @@ module _ {X : Type 0} where
     pub contents : (f : ℕ) → has f taken ≡ false → contents_at w f ≡ contents_at v f
     -- each page was locked once, and put into a frame once at most, where it is clean
     pub once : Each (λ g. TakesOnce g.pid g.version g.frame g.dirty done) gs
-    -- no page was released; a pass that was alone knows each page locked at its guard's version, and all words but those of the call as they were
+    -- no page was released; a pass that was alone knows each page locked at its guard's version, and all words but
+    -- those of the call as they were
     pub silent : amid.own ≡ []
     pub locked : IsAlone v → Each (λ g. known_word g.pid w ≡ word_of LOCKED g.version) gs
     pub others : KnowsOthers pages v w

@@ -1,12 +1,14 @@
 -- Groups of guards: pages whose drafts become their last words at one point, the first release of the group.
 use Rattle.std.specs.Prelude.{[], ◌&&◌, ◌++◌, ◌+◌, ◌<◌, ◌∷◌, ◌≡◌, ◌≤◌, ◌⊎◌, false, if◌then◌else◌, IsSome, List, None, Option, true, ℕ}
 use Rattle.vm_core.specs.Prelude.{MAX_VERSION, version_of}
-use Rattle.vm_rule.specs.Prelude.{AreApart, AreUnchanged, began_of, Change, changes_of, did_store, draft_of, Each, entries_of, Entry, has, held_at}
-use Rattle.vm_rule.specs.Prelude.{IsLocking, Kept, last_of, loads_at, next_after, ReleaseTold, seat_of, Start, without_all}
+use Rattle.vm_rule.specs.Prelude.{AreApart, AreUnchanged, began_of, Change, changes_of, did_store, draft_of, Each}
+use Rattle.vm_rule.specs.Prelude.{entries_of, Entry, has, held_at, IsLocking, Kept, last_of, loads_at, next_after}
+use Rattle.vm_rule.specs.Prelude.{ReleaseTold, seat_of, Start, without_all}
 use Rattle.vm_page.specs.Pages.{all_zero}
 use Rattle.vm_rule.specs.Releases.{freed_by}
-use Rattle.vm_rule.specs.declared.view.Place.{Place}
-use Rattle.vm_step.specs.Prelude.{Did, HoldsPage, IsAlone, IsClaimed, IsKeptNow, IsNotOut, IsToldOf, KnowsAsBefore, ReadsAsBefore, Release, View}
+use Rattle.vm_rule.specs.declared.view.WordPlace.{WordPlace}
+use Rattle.vm_step.specs.Prelude.{Did, HoldsPage, IsAlone, IsClaimed, IsKeptNow, IsNotOut, IsToldOf, KnowsAsBefore}
+use Rattle.vm_step.specs.Prelude.{ReadsAsBefore, Release, View}
 use Rattle.vm_guard.specs.{declared.exclusive.ExclusiveGuard.ExclusiveGuard, declared.group.Group.Group, Guards.IsHolding, Quiet.IsSteady}
 use Rattle.vm_guard.specs.Sure.{IsKnownFree, known_word, words_with}
 
@@ -31,12 +33,12 @@ last_pid g (h ∷ hs) = last_pid h hs
 -- the steps that release them
 abbrev pub release_steps : List ExclusiveGuard → List Did
 release_steps [] = []
-release_steps (g ∷ gs) = did_store (Place.State g.pid) (g.version + 1) ∷ release_steps gs
+release_steps (g ∷ gs) = did_store (WordPlace.State g.pid) (g.version + 1) ∷ release_steps gs
 
 -- the state words that they leave
-abbrev pub released_words : List ExclusiveGuard → List (Place × ℕ)
+abbrev pub released_words : List ExclusiveGuard → List (WordPlace × ℕ)
 released_words [] = []
-released_words (g ∷ gs) = (Place.State g.pid, g.version + 1) ∷ released_words gs
+released_words (g ∷ gs) = (WordPlace.State g.pid, g.version + 1) ∷ released_words gs
 
 -- the loaded next word is no more known once one of these pages is given up
 abbrev pub next_after_all : List ℕ → Option ℕ → Option ℕ
@@ -53,7 +55,8 @@ module _ {X : Type 0} where
   abbrev pub GuardsHeld : View X → List ExclusiveGuard → Type 0
   GuardsHeld v gs = Each (λ g. IsHolding g.pid g.frame g.version g.dirty v) gs
 
-  -- the pass may release these pages together: it holds each, another page each, with its block at home and claimed as far as it can know; and
+  -- the pass may release these pages together: it holds each, another page each, with its block at home and claimed
+  -- as far as it can know; and
   -- nothing is said, no word changes and no page is owed, or the layer above lets the changes be made
   pub record MayReleaseAll (may_release : Start → List ℕ → List Change → List (Entry X) → Type 0)
       (gs : List ExclusiveGuard) (said : Option X) (v : View X) : Type 0 where
@@ -88,7 +91,8 @@ module _ {X : Type 0} where
     pub knows : (q : ℕ) → has q pages ≡ false → IsLocking (seat_of v q) → KnowsAsBefore v w q
     pub others : (q : ℕ) → has q pages ≡ false → ReadsAsBefore v w q
 
-  -- A group was released. At its first release, which left the view `point`, all drafts became logical, and what is said became an entry, under
+  -- A group was released. At its first release, which left the view `point`, all drafts became logical, and what is
+  -- said became an entry, under
   -- the condition of the layer above; the others were released one by one. Each page's draft is its next version.
   pub record AreReleased (first : ExclusiveGuard) (rest : List ExclusiveGuard) (said : Option X) (v w : View X) : Type 0 where
     pub point : View X
@@ -97,15 +101,20 @@ module _ {X : Type 0} where
     pub beside : IsBeside (pids_of (first ∷ rest)) (release_steps (first ∷ rest)) (releases_of v (first ∷ rest)) v w
     pub mine : w.mine ≡ v.mine ++ entries_of v said
     pub entry : (others more : List (Entry X)) × (w.seen ≡ ((v.seen ++ others) ++ entries_of v said) ++ more)
-    pub group : (w.pending ≡ v.pending) × (w.owed ≡ without_all (pids_of (first ∷ rest)) v.owed) × (w.next ≡ next_after_all (pids_of (first ∷ rest)) v.next)
-    -- The pass holds the numbers that it held, but those of these pages whose words are not all 0; where the blocks do not tell their words, of none of these
+    pub group : (w.pending ≡ v.pending) × (w.owed ≡ without_all (pids_of (first ∷ rest)) v.owed)
+        × (w.next ≡ next_after_all (pids_of (first ∷ rest)) v.next)
+    -- The pass holds the numbers that it held, but those of these pages whose words are not all 0; where the blocks
+    -- do not tell their words, of none of these
     -- pages. It has still to give those of the pages that the group frees: their words were not all 0, and are now.
-    pub numbers : (q : ℕ) → has q w.numbers ≡ (if has q (pids_of (first ∷ rest)) then (v.start.tells && all_zero (draft_of v q)) && has q v.numbers else has q v.numbers)
+    pub numbers : (q : ℕ) → has q
+        w.numbers ≡ (if has q (pids_of (first ∷ rest)) then (v.start.tells && all_zero (draft_of v q)) && has q
+        v.numbers else has q v.numbers)
     pub freed : w.freed ≡ freed_by v (pids_of (first ∷ rest)) ++ v.freed
     pub seats : (q : ℕ) → has q (pids_of (first ∷ rest)) ≡ true → seat_of w q ≡ record (seat_of v q) { exclusive = false }
     pub loads : (q : ℕ) → loads_at w q ≡ loads_at v q
     pub current : w.current ≡ true
-    -- a pass that was alone knows the words of the table as they were, but for those of these pages, each of which is free, at no later version
+    -- a pass that was alone knows the words of the table as they were, but for those of these pages, each of which is
+    -- free, at no later version
     pub table : IsAlone v → w.snapshot.words ≡ words_with v.start (released_words (first ∷ rest)) v.snapshot.words
     pub free : IsAlone v → Each (λ g. IsKnownFree g.pid w × (version_of (known_word g.pid w) ≤ g.version + 1)) (first ∷ rest)
     -- it finds each page's draft as the last words of the page, and the last words of each other page as they were

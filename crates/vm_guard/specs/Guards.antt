@@ -1,14 +1,16 @@
 -- What guards are to the view of their pass, and what their calls answer.
-use Rattle.std.specs.Prelude.{[], ◌++◌, ◌+◌, ◌-◌, ◌<◌, ◌^◌, ◌∷◌, ◌≡◌, ◌≢◌, ◌≤◌, ◌⊎◌, Bool, false, length, List, None, Option, slice_set, Some, suc}
-use Rattle.std.specs.Prelude.{true, ℕ}
-use Rattle.vm_core.specs.Prelude.{frame_of, is_readable, LOCKED, mapping_of, MARKED, MAX_VERSION, one_share_more, state_of, trans_word, UNLOCKED}
-use Rattle.vm_core.specs.Prelude.{unshared, version_of, word_of}
-use Rattle.vm_rule.specs.Prelude.{did_change, did_exchange, did_load, did_store, dirty_in, draft_of, Each, entries_of, frame_read_by, has, IsLocking, IsUnheld}
-use Rattle.vm_rule.specs.Prelude.{IsWhole, last_of, loads_at, LockValidates, LookTold, Mapping, next_after, no_held, Open, put_at, seat_of, Start}
-use Rattle.vm_rule.specs.Prelude.{ties_below, without}
+use Rattle.std.specs.Prelude.{[], ◌++◌, ◌+◌, ◌-◌, ◌<◌, ◌^◌, ◌∷◌, ◌≡◌, ◌≢◌, ◌≤◌, ◌⊎◌, Bool, false, length, List, None}
+use Rattle.std.specs.Prelude.{Option, slice_set, Some, suc, true, ℕ}
+use Rattle.vm_core.specs.Prelude.{frame_of, is_readable, LOCKED, mapping_of, MARKED, MAX_VERSION, one_share_more}
+use Rattle.vm_core.specs.Prelude.{state_of, trans_word, UNLOCKED, unshared, version_of, word_of}
+use Rattle.vm_rule.specs.Prelude.{did_change, did_exchange, did_load, did_store, dirty_in, draft_of, Each, entries_of}
+use Rattle.vm_rule.specs.Prelude.{frame_read_by, has, IsLocking, IsUnheld, IsWhole, last_of, loads_at, LockValidates}
+use Rattle.vm_rule.specs.Prelude.{LookTold, Mapping, next_after, no_held, Open, put_at, seat_of, Start, ties_below}
+use Rattle.vm_rule.specs.Prelude.{without}
 use Rattle.vm_rule.specs.Releases.{freed_by, numbers_left}
-use Rattle.vm_rule.specs.declared.view.Place.{Place}
-use Rattle.vm_step.specs.Prelude.{Did, HasWritten, HoldsPage, IsAlone, KeepsNumbers, KnowsAsBefore, KnowsSame, ReadsAsBefore, Release, StaysAlone, View}
+use Rattle.vm_rule.specs.declared.view.WordPlace.{WordPlace}
+use Rattle.vm_step.specs.Prelude.{Did, HasWritten, HoldsPage, IsAlone, KeepsNumbers, KnowsAsBefore, KnowsSame}
+use Rattle.vm_step.specs.Prelude.{ReadsAsBefore, Release, StaysAlone, View}
 use Rattle.vm_guard.specs.LockSteps.{LocksBy, SharesAt, SharesBy}
 use Rattle.vm_guard.specs.Quiet.{IsQuiet, IsSteady, LeavesNone}
 use Rattle.vm_guard.specs.{Sure.IsKnownFree, Sure.known_word, Sure.KnowsBut, Sure.KnowsStates, Sure.unmarked_word, Takes.HasRoom}
@@ -22,12 +24,14 @@ placed i (x ∷ xs) = (i, x) ∷ placed (suc i) xs
 abbrev pub AreUnmarking : ℕ → ℕ → List Did → Type 0
 AreUnmarking p word done =
     ((state_of word ≢ MARKED) × (done ≡ []))
-    ⊎ ((state_of word ≡ MARKED) × ((found : ℕ) × (done ≡ did_exchange (Place.State p) word found (word_of UNLOCKED (version_of word)) ∷ [])))
+    ⊎ ((state_of word ≡ MARKED)
+    × ((found : ℕ) × (done ≡ did_exchange (WordPlace.State p) word found (word_of UNLOCKED (version_of word))
+    ∷ [])))
 
 -- the steps that make page p dirty in this frame: none where it is dirty, else its translation word is written so
 abbrev pub dirty_steps : ℕ → ℕ → Bool → List Did
 dirty_steps p frame true = []
-dirty_steps p frame false = did_store (Place.Translation p) (trans_word (Some (dirty_in frame))) ∷ []
+dirty_steps p frame false = did_store (WordPlace.Translation p) (trans_word (Some (dirty_in frame))) ∷ []
 
 module _ {X : Type 0} where
   -- ---- optimistic guards
@@ -47,7 +51,7 @@ module _ {X : Type 0} where
     pub step : Did
     pub later : List Did
     pub cut : v.log ≡ earlier ++ step ∷ later
-    pub at : step.at ≡ Place.State p
+    pub at : step.at ≡ WordPlace.State p
     pub other : ℕ
     -- the guard's word could be read
     pub open_word : is_readable (state_of word) ≡ true
@@ -61,12 +65,14 @@ module _ {X : Type 0} where
     pub reads : IsReading p word frame w
     pub version : (last_of w p).version ≡ version_of word
     -- a guard of the page that the pass had before reads on, with the words that were loaded through it, or its read was left
-    pub stays : (kept frame' : ℕ) → IsReading p kept frame' v → (IsReading p kept frame' w × (loads_at w p ≡ loads_at v p)) ⊎ HasLeft p kept w
+    pub stays : (kept frame' : ℕ) → IsReading p kept frame' v
+        → (IsReading p kept frame' w × (loads_at w p ≡ loads_at v p)) ⊎ HasLeft p kept w
     -- what the first look found, and the load of the translation word; the guard's word is what the second look found
     pub first : ℕ
     pub translation : ℕ
     pub clearing : List Did
-    pub cut : done ≡ did_load (Place.State p) first ∷ (clearing ++ did_load (Place.Translation p) translation ∷ did_load (Place.State p) word ∷ [])
+    pub cut : done ≡ did_load (WordPlace.State p)
+        first ∷ (clearing ++ did_load (WordPlace.Translation p) translation ∷ did_load (WordPlace.State p) word ∷ [])
     -- a mark that the first look found was to be taken away next
     pub clears : AreUnmarking p first clearing
     -- both looks found the same version, and the guard's frame is the one that the translation word names
@@ -117,7 +123,8 @@ module _ {X : Type 0} where
 
   -- ---- exclusive guards
 
-  -- the pass holds page p exclusively, in this frame, dirty or not, at this version; it has not begun to release it, and its block is at home
+  -- the pass holds page p exclusively, in this frame, dirty or not, at this version; it has not begun to release it,
+  -- and its block is at home
   pub record IsHolding (p frame version : ℕ) (dirty : Bool) (v : View X) : Type 0 where
     pub page : p < v.start.pages
     pub frame_is : frame < v.start.frames
@@ -151,13 +158,13 @@ module _ {X : Type 0} where
     pub holding : IsHolding p frame version dirty w
     pub draft : draft_of w p ≡ (last_of w p).words
     pub validates : v.start.tells ≡ true → LockValidates tied p version (last_of w p).words v
-    pub wrote : HasWritten done (Place.State p) (word_of LOCKED version)
+    pub wrote : HasWritten done (WordPlace.State p) (word_of LOCKED version)
     pub table : KnowsBut p (word_of LOCKED version) v w
     pub current : w.current ≡ true
     -- the pass was reading the page at no later version
     pub older : (o : Open) → (seat_of v p).reading ≡ Some o → o.version ≤ version
     -- the steps are at the page's state word, and at its translation word; one exchange alone left a word
-    pub places_are : Each (λ d. (d.at ≡ Place.State p) ⊎ (d.at ≡ Place.Translation p)) done
+    pub places_are : Each (λ d. (d.at ≡ WordPlace.State p) ⊎ (d.at ≡ WordPlace.Translation p)) done
     pub takes : LocksBy p version (Some (record { frame = frame; dirty = dirty })) done
 
   -- page p, which the pass holds and which stood in this frame, is dirty there; nothing else has changed
@@ -179,7 +186,7 @@ module _ {X : Type 0} where
   -- word i of the draft of page p, which stood in this frame, is x now; the page was made dirty before, and nothing else has changed
   pub record IsSet (p frame : ℕ) (dirty : Bool) (i x : ℕ) (v w : View X) : Type 0 where
     pub done : List Did
-    pub steps : done ≡ dirty_steps p frame dirty ++ did_store (Place.Content frame i) x ∷ []
+    pub steps : done ≡ dirty_steps p frame dirty ++ did_store (WordPlace.Content frame i) x ∷ []
     pub elsewhere : IsElsewhere p done [] v w
     pub mine : w.mine ≡ v.mine
     pub group : (w.pending ≡ v.pending) × (w.owed ≡ v.owed) × (w.next ≡ v.next)
@@ -206,10 +213,10 @@ module _ {X : Type 0} where
     pub last : last_of w p ≡ record { version = version + 1; words = draft_of v p }
     -- a pass that is alone finds the last words of each other page as they were
     pub alone : IsWhole v → v.current ≡ true → (q : ℕ) → q ≢ p → (last_of w q).words ≡ (last_of v q).words
-    pub wrote : HasWritten done (Place.State p) (version + 1)
+    pub wrote : HasWritten done (WordPlace.State p) (version + 1)
     -- the release was the only step of the call
-    pub steps : done ≡ did_store (Place.State p) (version + 1) ∷ []
-    pub places_are : Each (λ d. d.at ≡ Place.State p) done
+    pub steps : done ≡ did_store (WordPlace.State p) (version + 1) ∷ []
+    pub places_are : Each (λ d. d.at ≡ WordPlace.State p) done
     pub table : KnowsBut p (version + 1) v w
     -- a pass that was alone knows the page to be free then, at no later version
     pub free : IsAlone v → IsKnownFree p w × (version_of (known_word p w) ≤ version + 1)
@@ -251,8 +258,10 @@ module _ {X : Type 0} where
     pub small : state_of word < 256
     pub room : HasRoom word
 
-  -- page p, which was read at this version, got one share more at it: what is said is an entry there; the open read is closed, and saw the last words
-  pub record IsSharedAt (tied : Start → ℕ → List ℕ → ℕ → List ℕ → Type 0) (p frame version : ℕ) (said : Option X) (v w : View X) : Type 0 where
+  -- page p, which was read at this version, got one share more at it: what is said is an entry there; the open read
+  -- is closed, and saw the last words
+  pub record IsSharedAt (tied : Start → ℕ → List ℕ → ℕ → List ℕ → Type 0) (p frame version : ℕ) (said : Option X)
+      (v w : View X) : Type 0 where
     pub done : List Did
     pub elsewhere : IsElsewhere p done [] v w
     pub mine : w.mine ≡ v.mine ++ entries_of v said
@@ -286,7 +295,7 @@ module _ {X : Type 0} where
     pub loads : loads_at w p ≡ loads_at v p
     pub knows : KnowsAsBefore v w p
     -- by one step, which took a share from the word that it found
-    pub steps : (found : ℕ) × (done ≡ did_change (Place.State p) found (found - 2 ^ 56) ∷ [])
+    pub steps : (found : ℕ) × (done ≡ did_change (WordPlace.State p) found (found - 2 ^ 56) ∷ [])
     -- the page's word has one share less
     pub table : KnowsBut p (known_word p v - 2 ^ 56) v w
     pub known : IsAlone v → known_word p w ≡ known_word p v - 2 ^ 56

@@ -1,12 +1,12 @@
 -- Which words of pages a call loads, by its own steps.
 use Rattle.std.specs.Prelude.{[], ◌++◌, ◌∷◌, ◌≡◌, List, Option, ℕ}
 use Rattle.std.specs.Option.{option_to_list}
-use Rattle.vm_rule.specs.declared.view.Place.{Place}
+use Rattle.vm_rule.specs.declared.view.WordPlace.{WordPlace}
 use Rattle.vm_step.specs.Prelude.{Did, View}
 
 -- the word that a step found, where it is a word of a page
-abbrev pub found_in_page : Place → Option ℕ → List ℕ
-found_in_page (Place.Content frame i) found = option_to_list found
+abbrev pub found_in_page : WordPlace → Option ℕ → List ℕ
+found_in_page (WordPlace.Content frame i) found = option_to_list found
 found_in_page at found = []
 
 -- the words of pages that the steps found, in their order

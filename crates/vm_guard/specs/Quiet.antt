@@ -3,7 +3,7 @@
 use Rattle.std.specs.Prelude.{[], ◌++◌, ◌≡◌, ◌≢◌, ◌⊎◌, List, None, Some, ℕ}
 use Rattle.vm_core.specs.Prelude.{MARKED, state_of, UNLOCKED, version_of, word_of}
 use Rattle.vm_rule.specs.Prelude.{Each, IsLocking, seat_of, StartsWith}
-use Rattle.vm_rule.specs.declared.view.Place.{Place}
+use Rattle.vm_rule.specs.declared.view.WordPlace.{WordPlace}
 use Rattle.vm_step.specs.Prelude.{Did, HoldsPage, KeepsNumbers, KnowsAsBefore, ReadsAsBefore, Release, RunsAlone, StaysAlone, Tie, View}
 
 -- the steps leave no word
@@ -14,14 +14,14 @@ LeavesNone done = Each (λ d. d.wrote ≡ None) done
 pub record IsUnmark (d : Did) : Type 0 where
   pub page : ℕ
   pub word : ℕ
-  pub at : d.at ≡ Place.State page
+  pub at : d.at ≡ WordPlace.State page
   pub found : d.found ≡ Some word
   pub marked : state_of word ≡ MARKED
   pub wrote : d.wrote ≡ Some (word_of UNLOCKED (version_of word))
 
 -- the steps leave no word but that of page p, where they take its mark away
 abbrev pub OnlyUnmarks : ℕ → List Did → Type 0
-OnlyUnmarks p done = Each (λ d. (d.wrote ≡ None) ⊎ ((d.at ≡ Place.State p) × IsUnmark d)) done
+OnlyUnmarks p done = Each (λ d. (d.wrote ≡ None) ⊎ ((d.at ≡ WordPlace.State p) × IsUnmark d)) done
 
 module _ {X : Type 0} where
   -- the call made these steps and these releases, and leaves the parts of the view that only calls of other kinds change

@@ -1,15 +1,16 @@
--- Pages whose numbers are free: how a call for fresh pages looks for them in the free-number words, from the first one on, and what it leaves of them.
+-- Pages whose numbers are free: how a call for fresh pages looks for them in the free-number words, from the first
+-- one on, and what it leaves of them.
 use Rattle.std.specs.Prelude.{[], ◌*◌, ◌+◌, ◌<◌, ◌∷◌, ◌≡◌, ◌≤◌, length, List, ℕ}
 use Rattle.vm_core.specs.Words.{bit_count}
 use Rattle.vm_rule.specs.FreeNumbers.{SpareTold}
 use Rattle.vm_rule.specs.Prelude.{did_load}
-use Rattle.vm_rule.specs.declared.view.Place.{Place}
+use Rattle.vm_rule.specs.declared.view.WordPlace.{WordPlace}
 use Rattle.vm_step.specs.Prelude.{Did, known_word_at, View}
 
 -- the loads that find these words, from word g on
 abbrev pub spare_loads : ℕ → List ℕ → List Did
 spare_loads g [] = []
-spare_loads g (x ∷ xs) = did_load (Place.Spare g) x ∷ spare_loads (g + 1) xs
+spare_loads g (x ∷ xs) = did_load (WordPlace.Spare g) x ∷ spare_loads (g + 1) xs
 
 module _ {X : Type 0} where
   -- loads found these words, from word g on, each with fewer than n bits; nothing else was done
@@ -35,7 +36,7 @@ module _ {X : Type 0} where
 
   -- free-number word g, as the pass knows the table
   abbrev pub known_spare : ℕ → View X → ℕ
-  known_spare g v = known_word_at v (Place.Spare g)
+  known_spare g v = known_word_at v (WordPlace.Spare g)
 
   -- the pass knows each free-number word below this one to have fewer than n bits
   abbrev pub KnowsFew : ℕ → ℕ → View X → Type 0

@@ -2,7 +2,7 @@
 ghost use Rattle.std.specs.Prelude.{[], ◌<◌, ◌≡◌, IfErr, IfOk, IsOk, None, option_map, slice_index, true};
 ghost use Rattle.vm_core.specs.Prelude.{MAX_VERSION, version_of};
 ghost use Rattle.vm_rule.specs.Prelude.{draft_of, ReleaseTold};
-ghost use Rattle.vm_step.specs.Prelude.{IsAlone, IsClaimed, IsFirst, IsKeptNow, IsNotOut, IsReady, IsSamePass, KnowsSame, MayStep, NoWord};
+ghost use Rattle.vm_step.specs.Prelude.{GoesOn, IsAlone, IsClaimed, IsFirst, IsKeptNow, IsNotOut, IsReadyOn, KnowsSame, NoWord};
 ghost use Rattle.vm_step.specs.Prelude.{UnlockedExpected, view};
 ghost use Rattle.vm_guard.specs.{Downgrades.IsDowngraded, Groups.IsDue, Quiet.IsQuiet, Quiet.LeavesTable, Sure.IsKnownFree, Sure.known_word};
 ghost use Rattle.vm_guard.specs.Denied.{IsDenied, NotCrowded, SameOrUnlocked};
@@ -52,10 +52,9 @@ impl ExclusiveGuard {
         pass: &mut Pass<U>,
         pid: u32,
     ) -> Result<ExclusiveGuard, Deny>
-        requires pass { MayStep words.now.table.shared.table_id pass.old }
+        requires ready { IsReadyOn words.now B.tells pass.old }
         requires page { pid < words.now.table.shared.key.pages }
-        ensures pass { IsSamePass pass.old pass.new }
-        ensures ready { IsReady words.now.table.shared.key B.tells words.now.table.shared.table_id pass.new }
+        ensures goes { GoesOn words.now B.tells pass.old pass.new }
         ensures taken { IfOk result (λ g. (g.pid ≡ pid) × IsLocked U.tied pid g.frame g.version g.dirty (view pass.old) (view pass.new)) }
         ensures denied { IfErr result (λ d. IsDenied NotCrowded NoWord UnlockedExpected pid d (view pass.old) (view pass.new)) }
         ensures bare { IfErr result (λ _. LeavesTable (view pass.old) (view pass.new)) }
@@ -84,11 +83,10 @@ impl ExclusiveGuard {
 
     /// Word `i` of the draft.
     pub fn read<U: Owner, B: Block>(&self, words: &Words<U, B>, pass: &mut Pass<U>, i: usize) -> u64
-        requires ready { IsReady words.now.table.shared.key B.tells words.now.table.shared.table_id pass.old }
+        requires ready { IsReadyOn words.now B.tells pass.old }
         requires holds { IsHolding self.now.pid self.now.frame self.now.version self.now.dirty (view pass.old) }
         requires word { i < words.now.table.shared.key.size }
-        ensures pass { IsSamePass pass.old pass.new }
-        ensures ready { IsReady words.now.table.shared.key B.tells words.now.table.shared.table_id pass.new }
+        ensures goes { GoesOn words.now B.tells pass.old pass.new }
         ensures quiet { (done : _) × IsQuiet self.now.pid done (view pass.old) (view pass.new) }
         ensures table { KnowsSame (view pass.old) (view pass.new) }
         ensures value { (view pass.old).start.tells ≡ true → result ≡ slice_index (draft_of (view pass.old) self.now.pid) i }
@@ -98,10 +96,9 @@ impl ExclusiveGuard {
 
     /// Makes the page dirty, where it is clean.
     fn make_dirty<U: Owner, B: Block>(&mut self, words: &Words<U, B>, pass: &mut Pass<U>)
-        requires ready { IsReady words.now.table.shared.key B.tells words.now.table.shared.table_id pass.old }
+        requires ready { IsReadyOn words.now B.tells pass.old }
         requires holds { IsHolding self.old.pid self.old.frame self.old.version self.old.dirty (view pass.old) }
-        ensures pass { IsSamePass pass.old pass.new }
-        ensures ready { IsReady words.now.table.shared.key B.tells words.now.table.shared.table_id pass.new }
+        ensures goes { GoesOn words.now B.tells pass.old pass.new }
         ensures dirtied { IsDirtied self.old.pid self.old.frame self.old.dirty (view pass.old) (view pass.new) }
         ensures guard { self.new ≡ record self.old { dirty = true } }
     {
@@ -119,11 +116,10 @@ impl ExclusiveGuard {
         i: usize,
         w: u64,
     )
-        requires ready { IsReady words.now.table.shared.key B.tells words.now.table.shared.table_id pass.old }
+        requires ready { IsReadyOn words.now B.tells pass.old }
         requires holds { IsHolding self.old.pid self.old.frame self.old.version self.old.dirty (view pass.old) }
         requires word { i < words.now.table.shared.key.size }
-        ensures pass { IsSamePass pass.old pass.new }
-        ensures ready { IsReady words.now.table.shared.key B.tells words.now.table.shared.table_id pass.new }
+        ensures goes { GoesOn words.now B.tells pass.old pass.new }
         ensures set { IsSet self.old.pid self.old.frame self.old.dirty i w (view pass.old) (view pass.new) }
         ensures holds { IsHolding self.old.pid self.old.frame self.old.version true (view pass.new) }
         ensures guard { self.new ≡ record self.old { dirty = true } }
@@ -139,13 +135,12 @@ impl ExclusiveGuard {
         pass: &mut Pass<U>,
         said: Option<&U::Said>,
     )
-        requires ready { IsReady words.now.table.shared.key B.tells words.now.table.shared.table_id pass.old }
+        requires ready { IsReadyOn words.now B.tells pass.old }
         requires holds { IsHolding self.pid self.frame self.version self.dirty (view pass.old) }
         requires home { IsNotOut (view pass.old) self.pid }
         requires claimed { (view pass.old).start.tells ≡ true → IsClaimed (view pass.old) self.pid }
         requires owner { PassMayRelease U.may_release self.pid (option_map (λ b. b.now) said) (view pass.old) }
-        ensures pass { IsSamePass pass.old pass.new }
-        ensures ready { IsReady words.now.table.shared.key B.tells words.now.table.shared.table_id pass.new }
+        ensures goes { GoesOn words.now B.tells pass.old pass.new }
         ensures released { IsReleased self.pid self.version (option_map (λ b. b.now) said.entry) (view pass.old) (view pass.new) }
         ensures kept { B.tells ≡ true → IsKeptNow U.keeps self.pid (Unit {0}) (view pass.new) }
     {
@@ -165,13 +160,12 @@ impl ExclusiveGuard {
         words: &Words<U, B>,
         pass: &mut Pass<U>,
     ) -> SharedGuard
-        requires ready { IsReady words.now.table.shared.key B.tells words.now.table.shared.table_id pass.old }
+        requires ready { IsReadyOn words.now B.tells pass.old }
         requires holds { IsHolding self.pid self.frame self.version self.dirty (view pass.old) }
         requires home { IsNotOut (view pass.old) self.pid }
         requires claimed { (view pass.old).start.tells ≡ true → IsClaimed (view pass.old) self.pid }
         requires owner { PassMayRelease U.may_release self.pid None (view pass.old) }
-        ensures pass { IsSamePass pass.old pass.new }
-        ensures ready { IsReady words.now.table.shared.key B.tells words.now.table.shared.table_id pass.new }
+        ensures goes { GoesOn words.now B.tells pass.old pass.new }
         ensures guard { (result.pid ≡ self.pid) × (result.frame ≡ self.frame) }
         ensures downgraded { IsDowngraded self.pid self.frame self.version (view pass.old) (view pass.new) }
         ensures kept { B.tells ≡ true → IsKeptNow U.keeps self.pid (Unit {0}) (view pass.new) }
@@ -195,12 +189,11 @@ impl ExclusiveGuard {
         rest: &[u32],
         said: Option<&U::Said>,
     )
-        requires ready { IsReady words.now.table.shared.key B.tells words.now.table.shared.table_id pass.old }
+        requires ready { IsReadyOn words.now B.tells pass.old }
         requires holds { IsHolding self.pid self.frame self.version self.dirty (view pass.old) }
         requires home { IsNotOut (view pass.old) self.pid }
         requires first { IsFirst U.may_release self.pid rest.now (option_map (λ b. b.now) said) (view pass.old) }
-        ensures pass { IsSamePass pass.old pass.new }
-        ensures ready { IsReady words.now.table.shared.key B.tells words.now.table.shared.table_id pass.new }
+        ensures goes { GoesOn words.now B.tells pass.old pass.new }
         ensures told { ReleaseTold self.pid self.version rest.now (option_map (λ b. b.now) said.entry) (view pass.old) (view pass.new) }
         ensures kept { B.tells ≡ true → IsKeptNow U.keeps self.pid (Unit {0}) (view pass.new) }
     {
@@ -216,10 +209,9 @@ impl ExclusiveGuard {
 
     /// Releases a later member of a group that is released in part.
     pub(crate) fn release_later<U: Owner, B: Block>(self, words: &Words<U, B>, pass: &mut Pass<U>)
-        requires ready { IsReady words.now.table.shared.key B.tells words.now.table.shared.table_id pass.old }
+        requires ready { IsReadyOn words.now B.tells pass.old }
         requires due { IsDue self.pid self.version (view pass.old) }
-        ensures pass { IsSamePass pass.old pass.new }
-        ensures ready { IsReady words.now.table.shared.key B.tells words.now.table.shared.table_id pass.new }
+        ensures goes { GoesOn words.now B.tells pass.old pass.new }
         ensures told { ReleaseTold self.pid self.version [] None (view pass.old) (view pass.new) }
         ensures kept { B.tells ≡ true → IsKeptNow U.keeps self.pid (Unit {0}) (view pass.new) }
     {

@@ -3,9 +3,9 @@
 ghost use Rattle.std.specs.Prelude.{◌*◌, ◌+◌, ◌<◌, ◌≡◌, ◌≢◌, ◌≤◌, ◌⊎◌, IfErr, IfOk, IfSome, length, None, true, ℕ};
 ghost use Rattle.vm_core.specs.{Prelude.AreLowest, Prelude.in_mask, Words.bit_count};
 ghost use Rattle.vm_rule.specs.FreeNumbers.{GiveNumbersTold, TakeNumbersTold};
-ghost use Rattle.vm_step.specs.Prelude.{AreHeld, IsAlone, IsReady, IsSamePass, LocksNone, view};
+ghost use Rattle.vm_step.specs.Prelude.{AreHeld, GoesOn, IsAlone, IsReadyOn, LocksNone, view};
 ghost use Rattle.vm_step.specs.steps.Number.{PassMayGiveNumbers};
-ghost use Rattle.vm_guard.specs.Fresh.{HasPagesFor, IsFull, IsFullAnswer, IsPages, IsPagesOrWorn};
+ghost use Rattle.vm_guard.specs.Fresh.{IsFull, IsFullAnswer, IsPages, IsPagesOrWorn};
 ghost use Rattle.vm_guard.specs.Reused.{HasFreshRoom, IsFreshAnswer, IsReuseAnswer, IsTakenAnswer, numbers_due_of};
 ghost use Rattle.vm_guard.specs.Spares.{FindsAllFew, FindsSome, known_spare, KnowsFew};
 ghost use Rattle.vm_guard.specs.Sure.{FreePagesHave, FreePagesTried, known_next, MayBeGiven, MayBeSeized, MayBeTried};
@@ -39,9 +39,8 @@ fn find_free<U: Owner, B: Block>(
     pass: &mut Pass<U>,
     n: u32,
 ) -> Option<(u32, u64)>
-    requires ready { IsReady words.now.table.shared.key B.tells words.now.table.shared.table_id pass.old }
-    ensures pass { IsSamePass pass.old pass.new }
-    ensures ready { IsReady words.now.table.shared.key B.tells words.now.table.shared.table_id pass.new }
+    requires ready { IsReadyOn words.now B.tells pass.old }
+    ensures goes { GoesOn words.now B.tells pass.old pass.new }
     ensures some { IfSome result (λ r. FindsSome n r.0 r.1 (view pass.old) (view pass.new)) }
     ensures none { result ≡ None → FindsAllFew n (view pass.old) (view pass.new) }
 {
@@ -77,11 +76,10 @@ fn numbers_due(deny: &Deny, bit: u64, mask: u64) -> u64
 
 /// Gives the numbers of this mask back, if there are any.
 fn give_numbers<U: Owner, B: Block>(words: &Words<U, B>, pass: &mut Pass<U>, g: u32, mask: u64)
-    requires ready { IsReady words.now.table.shared.key B.tells words.now.table.shared.table_id pass.old }
+    requires ready { IsReadyOn words.now B.tells pass.old }
     requires word { g * FRAMES < words.now.table.shared.key.pages }
     requires legal { mask ≢ 0 → PassMayGiveNumbers (view pass.old) g mask }
-    ensures pass { IsSamePass pass.old pass.new }
-    ensures ready { IsReady words.now.table.shared.key B.tells words.now.table.shared.table_id pass.new }
+    ensures goes { GoesOn words.now B.tells pass.old pass.new }
     ensures none { mask ≡ 0 → view pass.new ≡ view pass.old }
     ensures given { mask ≢ 0 → (found : ℕ) × GiveNumbersTold g mask found (view pass.old) (view pass.new) }
 {
@@ -99,14 +97,13 @@ fn reuse_one<U: Owner, B: Block>(
     word: u64,
     mask: u64,
 ) -> Fresh
-    requires ready { IsReady words.now.table.shared.key B.tells words.now.table.shared.table_id pass.old }
+    requires ready { IsReadyOn words.now B.tells pass.old }
     requires word { g * FRAMES < words.now.table.shared.key.pages }
     requires mask { AreLowest word 1 mask × (1 ≤ bit_count word) }
     requires taken { (v : _) × TakeNumbersTold g word mask word v (view pass.old) }
     requires home { (view pass.old).out ≡ None }
     requires frames { AreHeld frames.old (view pass.old) × (1 ≤ length frames.old) }
-    ensures pass { IsSamePass pass.old pass.new }
-    ensures ready { IsReady words.now.table.shared.key B.tells words.now.table.shared.table_id pass.new }
+    ensures goes { GoesOn words.now B.tells pass.old pass.new }
     ensures answer { (v : _) → TakeNumbersTold g word mask word v (view pass.old) → IsTakenAnswer 1 g word mask frames.old frames.new v (view pass.new) result }
     ensures sure { IsAlone (view pass.old) → FreePagesHave MayBeSeized g mask (view pass.old) → IsPages result }
     ensures settled { IsAlone (view pass.old) → FreePagesHave LocksNone g mask (view pass.old) → IsPagesOrWorn result }
@@ -129,14 +126,13 @@ fn reuse_two<U: Owner, B: Block>(
     word: u64,
     mask: u64,
 ) -> Fresh
-    requires ready { IsReady words.now.table.shared.key B.tells words.now.table.shared.table_id pass.old }
+    requires ready { IsReadyOn words.now B.tells pass.old }
     requires word { g * FRAMES < words.now.table.shared.key.pages }
     requires mask { AreLowest word 2 mask × (2 ≤ bit_count word) }
     requires taken { (v : _) × TakeNumbersTold g word mask word v (view pass.old) }
     requires home { (view pass.old).out ≡ None }
     requires frames { AreHeld frames.old (view pass.old) × (2 ≤ length frames.old) }
-    ensures pass { IsSamePass pass.old pass.new }
-    ensures ready { IsReady words.now.table.shared.key B.tells words.now.table.shared.table_id pass.new }
+    ensures goes { GoesOn words.now B.tells pass.old pass.new }
     ensures answer { (v : _) → TakeNumbersTold g word mask word v (view pass.old) → IsTakenAnswer 2 g word mask frames.old frames.new v (view pass.new) result }
     ensures sure { IsAlone (view pass.old) → FreePagesHave MayBeSeized g mask (view pass.old) → IsPages result }
     ensures settled { IsAlone (view pass.old) → FreePagesHave LocksNone g mask (view pass.old) → IsPagesOrWorn result }
@@ -172,14 +168,13 @@ fn reuse<U: Owner, B: Block>(
     g: u32,
     word: u64,
 ) -> Fresh
-    requires ready { IsReady words.now.table.shared.key B.tells words.now.table.shared.table_id pass.old }
+    requires ready { IsReadyOn words.now B.tells pass.old }
     requires few { (n ≡ 1) ⊎ (n ≡ 2) }
     requires word { g * FRAMES < words.now.table.shared.key.pages }
     requires enough { n ≤ bit_count word }
     requires home { (view pass.old).out ≡ None }
     requires frames { AreHeld frames.old (view pass.old) × (n ≤ length frames.old) }
-    ensures pass { IsSamePass pass.old pass.new }
-    ensures ready { IsReady words.now.table.shared.key B.tells words.now.table.shared.table_id pass.new }
+    ensures goes { GoesOn words.now B.tells pass.old pass.new }
     ensures answer { IsReuseAnswer n g word frames.old frames.new (view pass.old) (view pass.new) result }
     ensures sure { IsAlone (view pass.old) → known_spare g (view pass.old) ≡ word
         → ((mask : ℕ) → AreLowest word n mask → FreePagesHave MayBeSeized g mask (view pass.old)) → IsPages result }
@@ -210,9 +205,8 @@ pub fn room_for<U: Owner, B: Block>(
     pass: &mut Pass<U>,
     n: u32,
 ) -> Result<(), NoRoom>
-    requires ready { IsReady words.now.table.shared.key B.tells words.now.table.shared.table_id pass.old }
-    ensures pass { IsSamePass pass.old pass.new }
-    ensures ready { IsReady words.now.table.shared.key B.tells words.now.table.shared.table_id pass.new }
+    requires ready { IsReadyOn words.now B.tells pass.old }
+    ensures goes { GoesOn words.now B.tells pass.old pass.new }
     ensures room { IfOk result (λ _. HasFreshRoom n (view pass.old) (view pass.new)) }
     ensures full { IfErr result (λ none. (u : _) × FindsAllFew n (view pass.old) u × IsFull n none.pages none.next none.need u (view pass.new)) }
 {
@@ -236,12 +230,11 @@ pub fn fresh<U: Owner, B: Block>(
     frames: &mut Batch,
     n: u32,
 ) -> Fresh
-    requires ready { IsReady words.now.table.shared.key B.tells words.now.table.shared.table_id pass.old }
+    requires ready { IsReadyOn words.now B.tells pass.old }
     requires few { (n ≡ 1) ⊎ (n ≡ 2) }
     requires home { (view pass.old).out ≡ None }
     requires frames { AreHeld frames.old (view pass.old) × (n ≤ length frames.old) }
-    ensures pass { IsSamePass pass.old pass.new }
-    ensures ready { IsReady words.now.table.shared.key B.tells words.now.table.shared.table_id pass.new }
+    ensures goes { GoesOn words.now B.tells pass.old pass.new }
     ensures answer { IsFreshAnswer n frames.old frames.new (view pass.old) (view pass.new) result }
     ensures sure { IsAlone (view pass.old) → MayBeGiven n (view pass.old) → IsPages result }
     ensures settled { IsAlone (view pass.old) → MayBeTried n (view pass.old) → IsPagesOrWorn result }

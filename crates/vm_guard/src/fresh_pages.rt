@@ -3,7 +3,7 @@
 ghost use Rattle.std.specs.Prelude.{◌+◌, ◌<◌, ◌≡◌, ◌≤◌, ◌⊎◌, IfErr, IfOk, IsOk, length, None, replicate, Some, true};
 ghost use Rattle.vm_core.specs.Prelude.{mapping_of};
 ghost use Rattle.vm_rule.specs.Prelude.{last_of};
-ghost use Rattle.vm_step.specs.Prelude.{AreHeld, IsAlone, IsReady, IsSamePass, LocksNone, MayStep, view};
+ghost use Rattle.vm_step.specs.Prelude.{AreHeld, GoesOn, IsAlone, IsReadyOn, LocksNone, view};
 ghost use Rattle.vm_guard.specs.Denied.{AgainOrWorn, OnlyWorn, SameOrUnlocked};
 ghost use Rattle.vm_guard.specs.Fresh.{Furnishes, GivesBack, HasPagesFor, IsBegun, IsFull, IsFullAnswer, IsNextAnswer, IsNotSeized, IsPages};
 ghost use Rattle.vm_guard.specs.Fresh.{IsPagesOrWorn, IsSeized, IsToSeize, Seizes};
@@ -69,10 +69,9 @@ pub(crate) fn seize<U: Owner, B: Block>(
     pass: &mut Pass<U>,
     pid: u32,
 ) -> Result<Seized, Deny>
-    requires pass { MayStep words.now.table.shared.table_id pass.old }
+    requires ready { IsReadyOn words.now B.tells pass.old }
     requires page { pid < words.now.table.shared.key.pages }
-    ensures pass { IsSamePass pass.old pass.new }
-    ensures ready { IsReady words.now.table.shared.key B.tells words.now.table.shared.table_id pass.new }
+    ensures goes { GoesOn words.now B.tells pass.old pass.new }
     ensures taken { IfOk result (λ s. (s.pid ≡ pid) × Seizes pid s.version s.stands (view pass.old) (view pass.new)) }
     ensures denied { IfErr result (λ d. IsNotSeized pid d (view pass.old) (view pass.new)) }
     ensures sure { IsAlone (view pass.old) → MayBeSeized (known_word pid (view pass.old)) → IsOk result }
@@ -100,11 +99,10 @@ pub(crate) fn seize<U: Owner, B: Block>(
 
 /// Gives the lock up, with the words that the page had: the page is resident or evicted as it was, at its next version.
 pub(crate) fn give_back<U: Owner, B: Block>(words: &Words<U, B>, pass: &mut Pass<U>, page: Seized)
-    requires ready { IsReady words.now.table.shared.key B.tells words.now.table.shared.table_id pass.old }
+    requires ready { IsReadyOn words.now B.tells pass.old }
     requires seized { IsSeized page.pid page.version page.stands (view pass.old) }
     requires home { (view pass.old).out ≡ None }
-    ensures pass { IsSamePass pass.old pass.new }
-    ensures ready { IsReady words.now.table.shared.key B.tells words.now.table.shared.table_id pass.new }
+    ensures goes { GoesOn words.now B.tells pass.old pass.new }
     ensures given { GivesBack page.pid page.version (view pass.old) (view pass.new) }
 {
     let Seized {
@@ -126,12 +124,11 @@ pub(crate) fn furnish<U: Owner, B: Block>(
     page: Seized,
     frames: &mut Batch,
 ) -> ExclusiveGuard
-    requires ready { IsReady words.now.table.shared.key B.tells words.now.table.shared.table_id pass.old }
+    requires ready { IsReadyOn words.now B.tells pass.old }
     requires seized { IsSeized page.pid page.version page.stands (view pass.old) }
     requires zero { (view pass.old).start.tells ≡ true → (last_of (view pass.old) page.pid).words ≡ replicate (view pass.old).start.size 0 }
     requires frames { AreHeld frames.old (view pass.old) × (0 < length frames.old) }
-    ensures pass { IsSamePass pass.old pass.new }
-    ensures ready { IsReady words.now.table.shared.key B.tells words.now.table.shared.table_id pass.new }
+    ensures goes { GoesOn words.now B.tells pass.old pass.new }
     ensures guard { (result.pid ≡ page.pid) × (result.version ≡ page.version) }
     ensures furnished { Furnishes page.pid result.frame result.version result.dirty frames.old frames.new (view pass.old) (view pass.new) }
 {
@@ -189,12 +186,11 @@ fn give_one<U: Owner, B: Block>(
     frames: &mut Batch,
     one: Seized,
 ) -> Fresh
-    requires ready { IsReady words.now.table.shared.key B.tells words.now.table.shared.table_id pass.old }
+    requires ready { IsReadyOn words.now B.tells pass.old }
     requires begun { (v : _) × IsBegun one.pid one.version one.stands v (view pass.old) }
     requires home { (view pass.old).out ≡ None }
     requires frames { AreHeld frames.old (view pass.old) × (1 ≤ length frames.old) }
-    ensures pass { IsSamePass pass.old pass.new }
-    ensures ready { IsReady words.now.table.shared.key B.tells words.now.table.shared.table_id pass.new }
+    ensures goes { GoesOn words.now B.tells pass.old pass.new }
     ensures answer { (v : _) → IsBegun one.pid one.version one.stands v (view pass.old) → IsNextAnswer 1 frames.old frames.new v (view pass.new) result }
     ensures sure { IsAlone (view pass.old) → known_next (view pass.old) ≡ one.pid → IsPages result }
 {
@@ -220,13 +216,12 @@ fn give_two<U: Owner, B: Block>(
     frames: &mut Batch,
     one: Seized,
 ) -> Fresh
-    requires ready { IsReady words.now.table.shared.key B.tells words.now.table.shared.table_id pass.old }
+    requires ready { IsReadyOn words.now B.tells pass.old }
     requires begun { (v : _) × IsBegun one.pid one.version one.stands v (view pass.old) }
     requires room { one.pid + 2 ≤ words.now.table.shared.key.pages }
     requires home { (view pass.old).out ≡ None }
     requires frames { AreHeld frames.old (view pass.old) × (2 ≤ length frames.old) }
-    ensures pass { IsSamePass pass.old pass.new }
-    ensures ready { IsReady words.now.table.shared.key B.tells words.now.table.shared.table_id pass.new }
+    ensures goes { GoesOn words.now B.tells pass.old pass.new }
     ensures answer { (v : _) → IsBegun one.pid one.version one.stands v (view pass.old) → IsNextAnswer 2 frames.old frames.new v (view pass.new) result }
     ensures sure { IsAlone (view pass.old) → known_next (view pass.old) ≡ one.pid → MayBeSeized (known_word (one.pid + 1) (view pass.old)) → IsPages result }
     ensures settled { IsAlone (view pass.old) → known_next (view pass.old) ≡ one.pid → LocksNone (known_word (one.pid + 1) (view pass.old))
@@ -263,9 +258,8 @@ pub(crate) fn next_room<U: Owner, B: Block>(
     pass: &mut Pass<U>,
     n: u32,
 ) -> Result<u32, NoRoom>
-    requires ready { IsReady words.now.table.shared.key B.tells words.now.table.shared.table_id pass.old }
-    ensures pass { IsSamePass pass.old pass.new }
-    ensures ready { IsReady words.now.table.shared.key B.tells words.now.table.shared.table_id pass.new }
+    requires ready { IsReadyOn words.now B.tells pass.old }
+    ensures goes { GoesOn words.now B.tells pass.old pass.new }
     ensures room { IfOk result (λ next. HasPagesFor n next (view pass.old) (view pass.new)) }
     ensures full { IfErr result (λ none. IsFull n none.pages none.next none.need (view pass.old) (view pass.new)) }
 {
@@ -291,12 +285,11 @@ pub(crate) fn next_pages<U: Owner, B: Block>(
     frames: &mut Batch,
     n: u32,
 ) -> Fresh
-    requires ready { IsReady words.now.table.shared.key B.tells words.now.table.shared.table_id pass.old }
+    requires ready { IsReadyOn words.now B.tells pass.old }
     requires few { (n ≡ 1) ⊎ (n ≡ 2) }
     requires home { (view pass.old).out ≡ None }
     requires frames { AreHeld frames.old (view pass.old) × (n ≤ length frames.old) }
-    ensures pass { IsSamePass pass.old pass.new }
-    ensures ready { IsReady words.now.table.shared.key B.tells words.now.table.shared.table_id pass.new }
+    ensures goes { GoesOn words.now B.tells pass.old pass.new }
     ensures answer { IsNextAnswer n frames.old frames.new (view pass.old) (view pass.new) result }
     ensures sure { IsAlone (view pass.old) → MayBeClaimed n (view pass.old) → IsPages result }
     ensures settled { IsAlone (view pass.old) → MayTryClaim n (view pass.old) → IsPagesOrWorn result }

@@ -1,7 +1,6 @@
 // Groups of guards: pages whose drafts become their last words at one point, the first release of the group.
 ghost use Rattle.std.specs.Prelude.{[], ◌++◌, ◌<◌, ◌∷◌, ◌≡◌, ◌≢◌, IfSome, length, None, option_map, Some};
-ghost use Rattle.vm_step.specs.Prelude.{IsReady, IsSamePass, view};
-ghost use Rattle.vm_guard.specs.declared.group.Group.TheVariants as groups;
+ghost use Rattle.vm_step.specs.Prelude.{GoesOn, IsReadyOn, view};
 ghost use Rattle.vm_guard.specs.Groups.{guards_of, IsGroupReleased, MayReleaseAll};
 
 use crate::exclusive::ExclusiveGuard;
@@ -82,11 +81,10 @@ pub fn release_group<U: Owner, B: Block>(
     guards: Group,
     said: Option<&U::Said>,
 )
-    requires ready { IsReady words.now.table.shared.key B.tells words.now.table.shared.table_id pass.old }
+    requires ready { IsReadyOn words.now B.tells pass.old }
     requires some { guards_of guards ≢ [] }
     requires may { MayReleaseAll U.may_release (guards_of guards) (option_map (λ b. b.now) said) (view pass.old) }
-    ensures pass { IsSamePass pass.old pass.new }
-    ensures ready { IsReady words.now.table.shared.key B.tells words.now.table.shared.table_id pass.new }
+    ensures goes { GoesOn words.now B.tells pass.old pass.new }
     ensures released { IsGroupReleased U.keeps (guards_of guards) (option_map (λ b. b.now) said.entry) (view pass.old) (view pass.new) }
 {
     match guards {

@@ -2,7 +2,7 @@
 ghost use Rattle.std.specs.Prelude.{◌+◌, ◌++◌, ◌<◌, ◌≡◌, ◌≢◌, false, IfErr, IfOk, None, Some};
 ghost use Rattle.vm_core.specs.Prelude.{version_of};
 ghost use Rattle.vm_rule.specs.Prelude.{entries_of, seat_of};
-ghost use Rattle.vm_step.specs.Prelude.{IsReady, IsSamePass, view};
+ghost use Rattle.vm_step.specs.Prelude.{GoesOn, IsReadyOn, view};
 ghost use Rattle.vm_guard.specs.{Guards.IsReading, Guards.IsSharing, Pairs.SaysOfTwo};
 
 use crate::deny::Deny;
@@ -21,7 +21,7 @@ pub fn say_of_two<U: Owner, B: Block>(
     guard: OptGuard,
     said: &U::Said,
 ) -> Result<SharedGuard, Deny>
-    requires ready { IsReady words.now.table.shared.key B.tells words.now.table.shared.table_id pass.old }
+    requires ready { IsReadyOn words.now B.tells pass.old }
     requires page { guard.pid < words.now.table.shared.key.pages }
     requires apart { held.pid ≢ guard.pid }
     requires shares { IsSharing held.pid held.frame (view pass.old) }
@@ -29,8 +29,7 @@ pub fn say_of_two<U: Owner, B: Block>(
     requires home { (view pass.old).out ≡ None }
     requires reading { IsReading guard.pid guard.word guard.frame (view pass.old) }
     requires owner { SaysOfTwo U.tied U.may_hold held.pid guard.pid (version_of guard.word) said.now (view pass.old) }
-    ensures pass { IsSamePass pass.old pass.new }
-    ensures ready { IsReady words.now.table.shared.key B.tells words.now.table.shared.table_id pass.new }
+    ensures goes { GoesOn words.now B.tells pass.old pass.new }
     ensures said { IfOk result
         (λ shared. (shared.pid ≡ guard.pid) × ((view pass.new).mine ≡ (view pass.old).mine ++ entries_of (view pass.old) (Some said.now))) }
     ensures unsaid { IfErr result (λ _. (view pass.new).mine ≡ (view pass.old).mine) }

@@ -2,7 +2,7 @@
 ghost use Rattle.std.specs.Prelude.{[], ◌<◌, ◌∷◌, ◌≡◌, ◌≢◌, ◌⊎◌, IfErr, IfOk, IsOk, length, None, option_map, true};
 ghost use Rattle.vm_page.specs.Sizes.{IsSize};
 ghost use Rattle.vm_core.specs.Prelude.{is_readable, LOCKED, MAX_VERSION, MayShare, state_of, version_of};
-ghost use Rattle.vm_step.specs.Prelude.{IsAlone, IsFrameAt, IsKeptNow, IsReady, IsSamePass, KnowsUnheld, MayStep, MayTell, MayTellHeld, NoneExpected};
+ghost use Rattle.vm_step.specs.Prelude.{GoesOn, IsAlone, IsFrameAt, IsKeptNow, IsReadyOn, KnowsUnheld, MayTell, MayTellHeld, NoneExpected};
 ghost use Rattle.vm_step.specs.Prelude.{NoWord, UnlockedExpected, view};
 ghost use Rattle.vm_guard.specs.Denied.{AgainOrNeed, AgainOrWorn, IsDenied, KeptWord, NotWorn, SameOrUnlocked};
 ghost use Rattle.vm_guard.specs.Guards.{BeginsReading, FindsRoom, HasLeft, IsLocked, IsReading, IsSharedAt, IsUnmarked, IsValid, Loads, placed};
@@ -51,10 +51,9 @@ fn unlocked(word: u64) -> u64
 
 /// Takes the mark of the page away, whose word was found to be this one, where it has one. The page may have another word by now.
 fn clear_mark<U: Owner, B: Block>(words: &Words<U, B>, pass: &mut Pass<U>, pid: u32, word: u64)
-    requires ready { IsReady words.now.table.shared.key B.tells words.now.table.shared.table_id pass.old }
+    requires ready { IsReadyOn words.now B.tells pass.old }
     requires page { pid < words.now.table.shared.key.pages }
-    ensures pass { IsSamePass pass.old pass.new }
-    ensures ready { IsReady words.now.table.shared.key B.tells words.now.table.shared.table_id pass.new }
+    ensures goes { GoesOn words.now B.tells pass.old pass.new }
     ensures clears { IsUnmarked pid word (view pass.old) (view pass.new) }
 {
     if StateWord::state(word) == StateWord::MARKED {
@@ -70,10 +69,9 @@ impl OptGuard {
         pass: &mut Pass<U>,
         pid: u32,
     ) -> Result<OptGuard, Deny>
-        requires pass { MayStep words.now.table.shared.table_id pass.old }
+        requires ready { IsReadyOn words.now B.tells pass.old }
         requires page { pid < words.now.table.shared.key.pages }
-        ensures pass { IsSamePass pass.old pass.new }
-        ensures ready { IsReady words.now.table.shared.key B.tells words.now.table.shared.table_id pass.new }
+        ensures goes { GoesOn words.now B.tells pass.old pass.new }
         ensures ok { IfOk result (λ guard. (guard.pid ≡ pid) × BeginsReading pid guard.word guard.frame (view pass.old) (view pass.new)) }
         ensures err { IfErr result (λ deny. IsDenied AgainOrNeed NoWord NoneExpected pid deny (view pass.old) (view pass.new)) }
         ensures sure { IsAlone (view pass.old) → is_readable (state_of (known_word pid (view pass.old))) ≡ true → IsOk result }
@@ -114,11 +112,10 @@ impl OptGuard {
 
     /// Word `i` of the page, through the guard's open read. Whether it is a word of one version a validation tells.
     pub fn word<U: Owner, B: Block>(&self, words: &Words<U, B>, pass: &mut Pass<U>, i: usize) -> u64
-        requires ready { IsReady words.now.table.shared.key B.tells words.now.table.shared.table_id pass.old }
+        requires ready { IsReadyOn words.now B.tells pass.old }
         requires reading { IsReading self.now.pid self.now.word self.now.frame (view pass.old) }
         requires place { i < words.now.table.shared.key.size }
-        ensures pass { IsSamePass pass.old pass.new }
-        ensures ready { IsReady words.now.table.shared.key B.tells words.now.table.shared.table_id pass.new }
+        ensures goes { GoesOn words.now B.tells pass.old pass.new }
         ensures loads { Loads self.now.pid self.now.word self.now.frame ((i, result) ∷ []) (view pass.old) (view pass.new) }
         ensures words { LoadsWords (result ∷ []) (view pass.old) (view pass.new) }
     {
@@ -133,12 +130,11 @@ impl OptGuard {
         first: usize,
         i: usize,
     ) -> u64
-        requires ready { IsReady words.now.table.shared.key B.tells words.now.table.shared.table_id pass.old }
+        requires ready { IsReadyOn words.now B.tells pass.old }
         requires reading { IsReading self.now.pid self.now.word self.now.frame (view pass.old) }
         requires first { IsFrameAt words.now.table.shared.key words.now.table.shared.table_id.words self.now.frame first }
         requires place { i < words.now.table.shared.key.size }
-        ensures pass { IsSamePass pass.old pass.new }
-        ensures ready { IsReady words.now.table.shared.key B.tells words.now.table.shared.table_id pass.new }
+        ensures goes { GoesOn words.now B.tells pass.old pass.new }
         ensures loads { Loads self.now.pid self.now.word self.now.frame ((i, result) ∷ []) (view pass.old) (view pass.new) }
         ensures words { LoadsWords (result ∷ []) (view pass.old) (view pass.new) }
     {
@@ -152,12 +148,11 @@ impl OptGuard {
         pass: &mut Pass<U>,
         into: &mut PageBuf<N>,
     )
-        requires ready { IsReady words.now.table.shared.key B.tells words.now.table.shared.table_id pass.old }
+        requires ready { IsReadyOn words.now B.tells pass.old }
         requires reading { IsReading self.now.pid self.now.word self.now.frame (view pass.old) }
         requires sized { IsSize N }
         requires size { (N ≡ words.now.table.shared.key.size) × (length into.old ≡ N) }
-        ensures pass { IsSamePass pass.old pass.new }
-        ensures ready { IsReady words.now.table.shared.key B.tells words.now.table.shared.table_id pass.new }
+        ensures goes { GoesOn words.now B.tells pass.old pass.new }
         ensures size { length into.new ≡ N }
         ensures loads { Loads self.now.pid self.now.word self.now.frame (placed 0 into.new) (view pass.old) (view pass.new) }
         ensures words { LoadsWords into.new (view pass.old) (view pass.new) }
@@ -180,13 +175,12 @@ impl OptGuard {
         pass: &mut Pass<U>,
         said: Option<&U::Said>,
     ) -> Result<(), Saw>
-        requires ready { IsReady words.now.table.shared.key B.tells words.now.table.shared.table_id pass.old }
+        requires ready { IsReadyOn words.now B.tells pass.old }
         requires page { self.now.pid < words.now.table.shared.key.pages }
         requires reading { IsReading self.now.pid self.now.word self.now.frame (view pass.old)
             ⊎ (HasLeft self.now.pid self.now.word (view pass.old) × (option_map (λ b. b.now) said ≡ None)) }
         requires owner { MayTell U.tied U.may_read self.now.pid (option_map (λ b. b.now) said) (view pass.old) }
-        ensures pass { IsSamePass pass.old pass.new }
-        ensures ready { IsReady words.now.table.shared.key B.tells words.now.table.shared.table_id pass.new }
+        ensures goes { GoesOn words.now B.tells pass.old pass.new }
         ensures ok { IfOk result
             (λ _. IsValid U.tied self.now.pid self.now.word self.now.frame (option_map (λ b. b.now) said.entry) (view pass.old) (view pass.new)) }
         ensures kept { B.tells ≡ true → IfOk result (λ _. IsKeptNow U.keeps self.now.pid (Unit {0}) (view pass.new)) }
@@ -206,11 +200,10 @@ impl OptGuard {
         words: &Words<U, B>,
         pass: &mut Pass<U>,
     ) -> Result<(), Saw>
-        requires ready { IsReady words.now.table.shared.key B.tells words.now.table.shared.table_id pass.old }
+        requires ready { IsReadyOn words.now B.tells pass.old }
         requires page { self.now.pid < words.now.table.shared.key.pages }
         requires reading { IsReading self.now.pid self.now.word self.now.frame (view pass.old) ⊎ HasLeft self.now.pid self.now.word (view pass.old) }
-        ensures pass { IsSamePass pass.old pass.new }
-        ensures ready { IsReady words.now.table.shared.key B.tells words.now.table.shared.table_id pass.new }
+        ensures goes { GoesOn words.now B.tells pass.old pass.new }
         ensures ok { IfOk result (λ _. IsValid U.tied self.now.pid self.now.word self.now.frame None (view pass.old) (view pass.new)) }
         ensures kept { B.tells ≡ true → IfOk result (λ _. IsKeptNow U.keeps self.now.pid (Unit {0}) (view pass.new)) }
         ensures err { IfErr result
@@ -230,11 +223,10 @@ impl OptGuard {
         words: &Words<U, B>,
         pass: &mut Pass<U>,
     ) -> Result<ExclusiveGuard, Deny>
-        requires ready { IsReady words.now.table.shared.key B.tells words.now.table.shared.table_id pass.old }
+        requires ready { IsReadyOn words.now B.tells pass.old }
         requires page { self.pid < words.now.table.shared.key.pages }
         requires reading { IsReading self.pid self.word self.frame (view pass.old) ⊎ HasLeft self.pid self.word (view pass.old) }
-        ensures pass { IsSamePass pass.old pass.new }
-        ensures ready { IsReady words.now.table.shared.key B.tells words.now.table.shared.table_id pass.new }
+        ensures goes { GoesOn words.now B.tells pass.old pass.new }
         ensures taken { IfOk result (λ guard. (guard.pid ≡ self.pid) × (guard.version ≡ version_of self.word)
             × IsLocked U.tied self.pid guard.frame guard.version guard.dirty (view pass.old) (view pass.new)) }
         ensures denied { IfErr result (λ deny. IsDenied AgainOrWorn (KeptWord self.word) UnlockedExpected self.pid deny (view pass.old) (view pass.new)) }
@@ -278,12 +270,11 @@ impl OptGuard {
         pass: &mut Pass<U>,
         said: Option<&U::Said>,
     ) -> Result<SharedGuard, Deny>
-        requires ready { IsReady words.now.table.shared.key B.tells words.now.table.shared.table_id pass.old }
+        requires ready { IsReadyOn words.now B.tells pass.old }
         requires page { self.pid < words.now.table.shared.key.pages }
         requires reading { IsReading self.pid self.word self.frame (view pass.old) }
         requires owner { MayTellHeld U.tied U.may_hold self.pid (version_of self.word) (option_map (λ b. b.now) said) (view pass.old) }
-        ensures pass { IsSamePass pass.old pass.new }
-        ensures ready { IsReady words.now.table.shared.key B.tells words.now.table.shared.table_id pass.new }
+        ensures goes { GoesOn words.now B.tells pass.old pass.new }
         ensures taken { IfOk result (λ guard. (guard.pid ≡ self.pid)
             × IsSharedAt U.tied self.pid guard.frame (version_of self.word) (option_map (λ b. b.now) said.entry) (view pass.old) (view pass.new)) }
         ensures kept { B.tells ≡ true → IfOk result (λ _. IsKeptNow U.keeps self.pid (Unit {0}) (view pass.new)) }
@@ -314,11 +305,10 @@ impl OptGuard {
         words: &Words<U, B>,
         pass: &mut Pass<U>,
     ) -> Result<SharedGuard, Deny>
-        requires ready { IsReady words.now.table.shared.key B.tells words.now.table.shared.table_id pass.old }
+        requires ready { IsReadyOn words.now B.tells pass.old }
         requires page { self.pid < words.now.table.shared.key.pages }
         requires reading { IsReading self.pid self.word self.frame (view pass.old) }
-        ensures pass { IsSamePass pass.old pass.new }
-        ensures ready { IsReady words.now.table.shared.key B.tells words.now.table.shared.table_id pass.new }
+        ensures goes { GoesOn words.now B.tells pass.old pass.new }
         ensures taken { IfOk result (λ guard. (guard.pid ≡ self.pid)
             × IsSharedAt U.tied self.pid guard.frame (version_of self.word) None (view pass.old) (view pass.new)) }
         ensures kept { B.tells ≡ true → IfOk result (λ _. IsKeptNow U.keeps self.pid (Unit {0}) (view pass.new)) }
@@ -350,11 +340,10 @@ impl OptGuard {
         words: &Words<U, B>,
         pass: &mut Pass<U>,
     ) -> Result<u64, Deny>
-        requires pass { MayStep words.now.table.shared.table_id pass.old }
+        requires ready { IsReadyOn words.now B.tells pass.old }
         requires page { self.now.pid < words.now.table.shared.key.pages }
         requires reading { IsReading self.now.pid self.now.word self.now.frame (view pass.old) }
-        ensures pass { IsSamePass pass.old pass.new }
-        ensures ready { IsReady words.now.table.shared.key B.tells words.now.table.shared.table_id pass.new }
+        ensures goes { GoesOn words.now B.tells pass.old pass.new }
         ensures found { IfOk result (λ word. FindsRoom U.tied self.now.pid (version_of self.now.word) word (view pass.old) (view pass.new)) }
         ensures denied { IfErr result
             (λ deny. IsDenied NotWorn (KeptWord self.now.word) NoneExpected self.now.pid deny (view pass.old) (view pass.new)) }

@@ -1,7 +1,7 @@
 // Two fresh pages that are written and released together: the least that a caller of fresh pages and groups does. It stands on their
 // contracts alone.
 ghost use Rattle.std.specs.Prelude.{◌≡◌, ◌≤◌, IfSome, length, None, true};
-ghost use Rattle.vm_step.specs.Prelude.{AreHeld, IsAlone, IsReady, IsSamePass, view};
+ghost use Rattle.vm_step.specs.Prelude.{AreHeld, GoesOn, IsAlone, IsReadyOn, view};
 ghost use Rattle.vm_guard.specs.Pairs.{HasFirst};
 
 use crate::free_pages::fresh;
@@ -20,11 +20,10 @@ pub fn write_two<B: Block>(
     a: u64,
     b: u64,
 ) -> Option<(u32, u32)>
-    requires ready { IsReady words.now.table.shared.key B.tells words.now.table.shared.table_id pass.old }
+    requires ready { IsReadyOn words.now B.tells pass.old }
     requires home { (view pass.old).out ≡ None }
     requires frames { AreHeld frames.old (view pass.old) × (2 ≤ length frames.old) }
-    ensures pass { IsSamePass pass.old pass.new }
-    ensures ready { IsReady words.now.table.shared.key B.tells words.now.table.shared.table_id pass.new }
+    ensures goes { GoesOn words.now B.tells pass.old pass.new }
     ensures written { IfSome result (λ p. B.tells ≡ true → IsAlone (view pass.old) → HasFirst p.0 a (view pass.new) × HasFirst p.1 b (view pass.new)) }
 {
     match fresh(words, pass, frames, 2) {

@@ -2,7 +2,7 @@
 ghost use Rattle.std.specs.Prelude.{◌<◌, ◌≡◌, IfErr, IfOk, IsOk, slice_index, true};
 ghost use Rattle.vm_core.specs.Prelude.{MayShare};
 ghost use Rattle.vm_rule.specs.Prelude.{last_of};
-ghost use Rattle.vm_step.specs.Prelude.{IsAlone, IsReady, IsSamePass, KnowsSame, MayStep, MayUnshare, NoneExpected, NoWord, view};
+ghost use Rattle.vm_step.specs.Prelude.{GoesOn, IsAlone, IsReadyOn, KnowsSame, MayUnshare, NoneExpected, NoWord, view};
 ghost use Rattle.vm_guard.specs.{Denied.IsDenied, Denied.NotWorn, Quiet.IsQuiet, Quiet.LeavesTable, Sure.known_word, Takes.HasRoom, Takes.SaysWhy};
 ghost use Rattle.vm_guard.specs.Guards.{IsShared, IsSharing, IsUnshared};
 
@@ -47,10 +47,9 @@ impl SharedGuard {
         pass: &mut Pass<U>,
         pid: u32,
     ) -> Result<SharedGuard, Deny>
-        requires pass { MayStep words.now.table.shared.table_id pass.old }
+        requires ready { IsReadyOn words.now B.tells pass.old }
         requires page { pid < words.now.table.shared.key.pages }
-        ensures pass { IsSamePass pass.old pass.new }
-        ensures ready { IsReady words.now.table.shared.key B.tells words.now.table.shared.table_id pass.new }
+        ensures goes { GoesOn words.now B.tells pass.old pass.new }
         ensures taken { IfOk result (λ g. (g.pid ≡ pid) × IsShared U.tied pid g.frame (view pass.old) (view pass.new)) }
         ensures denied { IfErr result (λ d. IsDenied NotWorn NoWord NoneExpected pid d (view pass.old) (view pass.new)) }
         ensures bare { IfErr result (λ _. LeavesTable (view pass.old) (view pass.new)) }
@@ -74,11 +73,10 @@ impl SharedGuard {
 
     /// Word `i` of the page's last version.
     pub fn read<U: Owner, B: Block>(&self, words: &Words<U, B>, pass: &mut Pass<U>, i: usize) -> u64
-        requires ready { IsReady words.now.table.shared.key B.tells words.now.table.shared.table_id pass.old }
+        requires ready { IsReadyOn words.now B.tells pass.old }
         requires shares { IsSharing self.now.pid self.now.frame (view pass.old) }
         requires word { i < words.now.table.shared.key.size }
-        ensures pass { IsSamePass pass.old pass.new }
-        ensures ready { IsReady words.now.table.shared.key B.tells words.now.table.shared.table_id pass.new }
+        ensures goes { GoesOn words.now B.tells pass.old pass.new }
         ensures quiet { (done : _) × IsQuiet self.now.pid done (view pass.old) (view pass.new) }
         ensures table { KnowsSame (view pass.old) (view pass.new) }
         ensures value { (view pass.old).start.tells ≡ true → result ≡ slice_index (last_of (view pass.old) self.now.pid).words i }
@@ -88,11 +86,10 @@ impl SharedGuard {
 
     /// Gives the share up.
     pub fn drop_with<U: Owner, B: Block>(self, words: &Words<U, B>, pass: &mut Pass<U>)
-        requires ready { IsReady words.now.table.shared.key B.tells words.now.table.shared.table_id pass.old }
+        requires ready { IsReadyOn words.now B.tells pass.old }
         requires shares { IsSharing self.pid self.frame (view pass.old) }
         requires legal { MayUnshare (view pass.old) self.pid }
-        ensures pass { IsSamePass pass.old pass.new }
-        ensures ready { IsReady words.now.table.shared.key B.tells words.now.table.shared.table_id pass.new }
+        ensures goes { GoesOn words.now B.tells pass.old pass.new }
         ensures given_up { IsUnshared self.pid (view pass.old) (view pass.new) }
     {
         let SharedGuard {

@@ -2,7 +2,7 @@
 ghost use Rattle.std.specs.Prelude.{◌<◌, ◌≡◌, IfSome, IsSome, slice_index, true};
 ghost use Rattle.vm_core.specs.Prelude.{is_readable, state_of};
 ghost use Rattle.vm_rule.specs.Prelude.{last_of};
-ghost use Rattle.vm_step.specs.Prelude.{IsAlone, IsReady, IsSamePass, MayStep, StaysAlone, view};
+ghost use Rattle.vm_step.specs.Prelude.{GoesOn, IsAlone, IsReadyOn, StaysAlone, view};
 ghost use Rattle.vm_guard.specs.Sure.{known_word};
 
 use crate::opt::OptGuard;
@@ -18,10 +18,9 @@ pub fn read_word<U: Owner, B: Block>(
     pid: u32,
     i: usize,
 ) -> Option<u64>
-    requires pass { MayStep words.now.table.shared.table_id pass.old }
+    requires ready { IsReadyOn words.now B.tells pass.old }
     requires page { (pid < words.now.table.shared.key.pages) × (i < words.now.table.shared.key.size) }
-    ensures pass { IsSamePass pass.old pass.new }
-    ensures ready { IsReady words.now.table.shared.key B.tells words.now.table.shared.table_id pass.new }
+    ensures goes { GoesOn words.now B.tells pass.old pass.new }
     ensures frames { ((view pass.new).start ≡ (view pass.old).start) × ((view pass.new).frames ≡ (view pass.old).frames) }
     ensures out { (view pass.new).out ≡ (view pass.old).out }
     ensures alone { StaysAlone (view pass.old) (view pass.new) }

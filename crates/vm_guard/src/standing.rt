@@ -2,7 +2,7 @@
 ghost use Rattle.std.specs.Prelude.{◌<◌, ◌≡◌, IsSome, Some, ℕ};
 ghost use Rattle.vm_core.specs.Prelude.{mapping_of};
 ghost use Rattle.vm_rule.specs.Prelude.{IsLocking, no_held, put_at, seat_of, TranslationTold};
-ghost use Rattle.vm_step.specs.Prelude.{IsReady, IsSamePass, MayStep, view};
+ghost use Rattle.vm_step.specs.Prelude.{GoesOn, IsReadyOn, view};
 
 use vm_block::Block;
 use vm_core::{Mapping, TransWord};
@@ -31,12 +31,11 @@ pub(crate) fn standing<U: Owner, B: Block>(
     pass: &mut Pass<U>,
     p: u32,
 ) -> Mapping
-    requires pass { MayStep words.now.table.shared.table_id pass.old }
+    requires ready { IsReadyOn words.now B.tells pass.old }
     requires page { p < words.now.table.shared.key.pages }
     requires locked { IsLocking (seat_of (view pass.old) p) }
     requires resident { IsSome (put_at no_held (view pass.old).held p).mapping }
-    ensures pass { IsSamePass pass.old pass.new }
-    ensures ready { IsReady words.now.table.shared.key B.tells words.now.table.shared.table_id pass.new }
+    ensures goes { GoesOn words.now B.tells pass.old pass.new }
     ensures told { (word : ℕ) × TranslationTold p word (view pass.old) (view pass.new) × (mapping_of word ≡ Some result) }
 {
     mapping_in(tload(words, pass, p))

@@ -14,7 +14,8 @@ contains-none : (p : ℕ) → ¬ (Contains [] p)
 contains-none p (k, below, is) = absurd (omega (arith, below))
 
 -- a number above all others behind them
-rising-more : (free : List ℕ) (p : ℕ) → IsStrictlyIncreasing free → ((q : ℕ) → Contains free q → q < p) → IsStrictlyIncreasing (free ++ p ∷ [])
+rising-more : (free : List ℕ) (p : ℕ) → IsStrictlyIncreasing free → ((q : ℕ) → Contains free q → q < p)
+    → IsStrictlyIncreasing (free ++ p ∷ [])
 rising-more free p rising below k inside =
     let long = length_push free p in
     let first : get_or (free ++ p ∷ []) k 0 ≡ get_or free k 0 = get_or_append_left free (p ∷ []) 0 k (omega (arith, inside, long)) in
@@ -38,7 +39,8 @@ module _ (n : ℕ) (pages : List (List ℕ)) where
   }
 
   -- the look has come to the next page, or there was none from 1 on
-  pub free_below : (next p : ℕ) (free : List ℕ) → next ≤ p → (1 ≤ next → p ≤ next) → (next < 1 → p ≤ 1) → AreFreePages n pages p free → AreFreePages n pages next free
+  pub free_below : (next p : ℕ) (free : List ℕ) → next ≤ p → (1 ≤ next → p ≤ next) → (next < 1 → p ≤ 1)
+      → AreFreePages n pages p free → AreFreePages n pages next free
   free_below next p free past last none are = record {
     rising = are.rising;
     each = λ q there.
@@ -72,7 +74,9 @@ module _ (n : ℕ) (pages : List (List ℕ)) where
       rising = before.rising;
       each = λ q there. let one = before.each q there in (one.0, omega (arith, one.1), one.2);
       all = λ q from below is. elim (cases_eq q p) [
-        | inl same ↦ absurd (let passed : is_free (fixed n) (page_at pages p) ≡ true = is_free-from (fixed n) (page_at pages p) (subst (λ k. IsFree (fixed n) (page_at pages k)) same is) in let no : false ≡ true = sym failed ∙ passed in cc)
+        | inl same ↦ absurd (let passed : is_free (fixed n) (page_at pages p) ≡ true =
+            is_free-from (fixed n) (page_at pages p) (subst (λ k. IsFree (fixed n) (page_at pages k)) same is) in
+            let no : false ≡ true = sym failed ∙ passed in cc)
         | inr other ↦ before.all q from (omega (arith, below, other)) is
       ];
     }

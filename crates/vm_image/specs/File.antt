@@ -1,5 +1,6 @@
 -- The bytes of a page file, and the next page and the free pages of an image.
-use Rattle.std.specs.Prelude.{◌≡◌, ℕ, zero, suc, ◌+◌, ◌*◌, ◌/◌, ◌<◌, ◌≤◌, ◌==◌, ◌&&◌, nat_le, List, [], ◌∷◌, ◌++◌, length, take, drop, if◌then◌else◌}
+use Rattle.std.specs.Prelude.{◌≡◌, ℕ, zero, suc, ◌+◌, ◌*◌, ◌/◌, ◌<◌, ◌≤◌, ◌==◌, ◌&&◌, nat_le, List, [], ◌∷◌, ◌++◌}
+use Rattle.std.specs.Prelude.{length, take, drop, if◌then◌else◌}
 use Rattle.std.specs.Int.{w64, from_be_bytes}
 use Rattle.std.specs.{List.Contains, List.Sorted.IsStrictlyIncreasing}
 use Rattle.vm_page.specs.Bytes.{bytes_of_words, words_of_bytes}
@@ -47,7 +48,8 @@ pub record IsNextPage (n : ℕ) (pages : List (List ℕ)) (next : ℕ) : Type 0 
   pub free : (p : ℕ) → next ≤ p → p < length pages → IsFree (fixed n) (page_at pages p)
   pub used : (p : ℕ) → p + 1 ≡ next → ¬ (IsFree (fixed n) (page_at pages p))
 
--- of pages of n words: the numbers of the free pages from 1 to below the next one, rising. Each number is that of such a page, and that of each such page is there
+-- of pages of n words: the numbers of the free pages from 1 to below the next one, rising. Each number is that of
+-- such a page, and that of each such page is there
 pub record AreFreePages (n : ℕ) (pages : List (List ℕ)) (next : ℕ) (free : List ℕ) : Type 0 where
   pub rising : IsStrictlyIncreasing free
   pub each : (p : ℕ) → Contains free p → (1 ≤ p) × (p < next) × IsFree (fixed n) (page_at pages p)

@@ -1,15 +1,14 @@
 //! The pages of an image as blocks in memory, and back.
 
-ghost use Rattle.std.specs.Prelude.{◌≡◌, ℕ, ◌<◌, ◌≤◌, length, IfOk};
+ghost use Rattle.std.specs.Prelude.{◌≡◌, ◌<◌, ◌≤◌, length, IfOk};
 ghost use Rattle.vm_page.specs.Sizes.{IsSize};
 ghost use Rattle.vm_image.specs.File.{most_pages};
 ghost use Rattle.vm_image.specs.Blocks.{AreBlocksOf, numbers_for, pages_of_blocks};
 
 use crate::image::Image;
-use crate::memory::Memory;
 use std::alloc::{AllocError, Global};
 use vm_block::MemBlock;
-use vm_page::PageBuf;
+use vm_page::{Memory, PageBuf};
 
 /// An entry of a plan of failures: the call with this number on this page's block fails. An entry for a page that the
 /// image lacks never acts.

@@ -6,12 +6,11 @@ ghost use Rattle.vm_image.specs.File.{AreFreePages, IsPageFile, pages_of_bytes, 
 ghost use Rattle.vm_image.specs.Faults.{IsRefusedFile};
 
 use crate::fault::ImageFault;
-use crate::memory::Memory;
 use crate::version::most_pages;
 use crate::zeros::is_free;
 use std::alloc::{AllocError, Global};
 use std::marker::Model;
-use vm_page::PageBuf;
+use vm_page::{Memory, PageBuf};
 
 /// 2 to 65,536 pages of 64 words, or 2 to 8,192 pages of 512: contracts see the list of their words.
 #[derive(Drop)]

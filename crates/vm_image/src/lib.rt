@@ -4,13 +4,12 @@
 mod blocks;
 mod fault;
 mod image;
-mod memory;
 mod version;
 mod zeros;
 
 pub use blocks::{PlannedFault, blocks_of, image_of};
 pub use fault::ImageFault;
 pub use image::{Image, read_image};
-pub use memory::Memory;
 pub use version::{LARGE_MAGIC, MAGIC, file_words, magic_for, most_pages};
+pub use vm_page::Memory;
 pub use zeros::{is_free, is_zero_from};

@@ -1,5 +1,6 @@
 -- The pair of the greatest key up to a key stands before the place where the keys begin to be above it.
-use Rattle.std.proofs.Common.{◌≡◌, ℕ, zero, suc, ◌+◌, ◌<◌, ◌≤◌, [], ◌∷◌, get_or, length, ltb, true, false, Some, None, refl, arith, inl, inr}
+use Rattle.std.proofs.Common.{◌≡◌, ℕ, zero, suc, ◌+◌, ◌<◌, ◌≤◌, [], ◌∷◌, get_or, length, ltb, true, false, Some, None}
+use Rattle.std.proofs.Common.{refl, arith, inl, inr}
 use Rattle.std.proofs.lemmas.Bool.Decides.{nat_tests}
 use Rattle.std.proofs.lemmas.Bool.{cases_lt}
 use Rattle.vm_map.specs.Map.{Pairs, floor_pair, lookup_at, next_key, Rises}
@@ -8,7 +9,8 @@ use Rattle.vm_node.specs.Places.{place_of}
 use Rattle.vm_node.proofs.Bounds.{at_least}
 
 -- among keys that rise the next key above that of a pair is that of the pair behind, or the bound where there is none
-pub next_behind : (m : Pairs) (low top high i : ℕ) → Rises low top m → i + 1 < length m → next_key m high (get_or m i (0, 0)).0 ≡ (get_or m (i + 1) (0, 0)).0
+pub next_behind : (m : Pairs) (low top high i : ℕ) → Rises low top m → i + 1 < length m
+    → next_key m high (get_or m i (0, 0)).0 ≡ (get_or m (i + 1) (0, 0)).0
 next_behind [] low top high i r lt = absurd (omega (arith, lt))
 next_behind (e ∷ []) low top high i r lt = absurd (omega (arith, lt))
 next_behind (e ∷ (f ∷ es)) low top high zero r lt =
@@ -46,7 +48,8 @@ floor_none (e ∷ es) k first = elim (cases_lt k e.0) [
 
 -- so it is found under its key
 pub found_floor : (m : Pairs) (low high k : ℕ) (x : ℕ × ℕ) → Rises low high m → floor_pair m k ≡ Some x → lookup_at m x.0 ≡ Some x.1
-found_floor m low high k x r is = (floor_is m low (k + high + 1) k x (Rises-to m low high (k + high + 1) r (omega arith)) (omega arith) is).found
+found_floor m low high k x r is =
+    (floor_is m low (k + high + 1) k x (Rises-to m low high (k + high + 1) r (omega arith)) (omega arith) is).found
 
 pub floor_before : (m : Pairs) (k j : ℕ) → place_of m (k + 1) ≡ suc j → floor_pair m k ≡ Some (get_or m j (0, 0))
 floor_before [] k j is = absurd (omega (arith, is))
@@ -62,6 +65,8 @@ floor_before (e ∷ es) k j is = elim (cases_lt k e.0) [
       go j (omega (arith, is')) not_above (λ i place. floor_before es k i place)
 ]
   where
-    go : (j : ℕ) → place_of es (k + 1) ≡ j → ltb k e.0 ≡ false → ((i : ℕ) → place_of es (k + 1) ≡ suc i → floor_pair es k ≡ Some (get_or es i (0, 0))) → floor_pair (e ∷ es) k ≡ Some (get_or (e ∷ es) j (0, 0))
+    go : (j : ℕ) → place_of es (k + 1) ≡ j → ltb k e.0 ≡ false
+        → ((i : ℕ) → place_of es (k + 1) ≡ suc i → floor_pair es k ≡ Some (get_or es i (0, 0)))
+        → floor_pair (e ∷ es) k ≡ Some (get_or (e ∷ es) j (0, 0))
     go zero place not_above more = let none = floor_none es k place in rw (not_above, none) refl
     go (suc j) place not_above more = let rest = more j place in rw (not_above, rest) refl

@@ -24,7 +24,8 @@ module _ (L : Layout) where
   inner_with : (words : List ℕ) (node : Node) → IsClean L words → node_of L words ≡ node → IsInnerNode node → IsInner L words
   inner_with words node clean is inner = record { clean = clean; node = subst IsInnerNode (sym is) inner }
 
-  pub adds_inner : (old new : List ℕ) (key page : ℕ) → AddsPair L old new key page → IsInner L old → Covers (node_of L old) key → IsInner L new
+  pub adds_inner : (old new : List ℕ) (key page : ℕ) → AddsPair L old new key page → IsInner L old
+      → Covers (node_of L old) key → IsInner L new
   adds_inner old new key page adds inner covers = inner_with new _ (adds.clean inner.clean) adds.node (record {
     tag = inner.node.tag;
     level = inner.node.level;
@@ -41,7 +42,9 @@ module _ (L : Layout) where
     starts = StartsAt-del _ _ key inner.node.starts above;
   })
 
-  module _ (old new right : List ℕ) (separator : ℕ) (split : IsSplit L old new right separator) (first : 1 ≤ cut L (pairs_of L old)) (some : cut L (pairs_of L old) < length (pairs_of L old)) (inner : IsInner L old) where
+  module _ (old new right : List ℕ) (separator : ℕ) (split : IsSplit L old new right separator)
+      (first : 1 ≤ cut L (pairs_of L old)) (some : cut L (pairs_of L old) < length (pairs_of L old))
+      (inner : IsInner L old) where
     pub left_inner : IsInner L new
     left_inner = inner_with new _ (split.left_clean inner.clean) split.left_is (record {
       tag = inner.node.tag;
@@ -58,7 +61,8 @@ module _ (L : Layout) where
       starts = StartsAt-drop (pairs_of L old) (cut L (pairs_of L old)) separator some split.separates;
     })
 
-  pub root_inner : (words : List ℕ) (level left separator right : ℕ) → IsNewRoot L words level left separator right → 1 ≤ level → 0 < separator → separator < L.key_end → IsInner L words
+  pub root_inner : (words : List ℕ) (level left separator right : ℕ) → IsNewRoot L words level left separator right
+      → 1 ≤ level → 0 < separator → separator < L.key_end → IsInner L words
   root_inner words level left separator right root some above fits = inner_with words _ root.clean root.node (record {
     tag = refl;
     level = some;

@@ -13,7 +13,8 @@ pub record FindsChild (L : Layout) (words : List ℕ) (key found : ℕ) : Type 0
   pub page : (slice_index_or (pairs_of L words) at (0, 0)).1 ≡ found
   pub child : (low high : ℕ) → Rises low high (pairs_of L words) → child_of L words key ≡ Some found
 
--- The search finds this page, and the keys on both sides: that of its pair, and that of the pair behind, where there is one. Where the keys rise these
+-- The search finds this page, and the keys on both sides: that of its pair, and that of the pair behind, where there
+-- is one. Where the keys rise these
 -- are the child's fences: the page is found under the first, and the next key above that is the second, or the node's high fence
 pub record FindsChildIn (L : Layout) (words : List ℕ) (key found low : ℕ) (next : Option ℕ) : Type 0 where
   pub finds : FindsChild L words key found

@@ -5,12 +5,14 @@ use Rattle.vm_tree_model.specs.Layout.{Layout}
 use Rattle.vm_tree_model.specs.Page.{pairs_of}
 use Rattle.vm_tree_model.specs.Edits.{child_of}
 
--- the left page stands at the key `low`, and the right one at the next key: the child of the key is the left one, or it is the right one, behind which there is none
+-- the left page stands at the key `low`, and the right one at the next key: the child of the key is the left one, or
+-- it is the right one, behind which there is none
 pub record AreBeside (L : Layout) (words : List ℕ) (key low left separator right : ℕ) : Type 0 where
   pub names : lookup_at (pairs_of L words) low ≡ Some left
   pub names_right : lookup_at (pairs_of L words) separator ≡ Some right
   pub next : (high : ℕ) → next_key (pairs_of L words) high low ≡ separator
-  pub among : (child_of L words key ≡ Some left) ⊎ ((child_of L words key ≡ Some right) × ((high : ℕ) → next_key (pairs_of L words) high separator ≡ high))
+  pub among : (child_of L words key ≡ Some left)
+      ⊎ ((child_of L words key ≡ Some right) × ((high : ℕ) → next_key (pairs_of L words) high separator ≡ high))
   -- where there are no more, they are all
   pub all : length (pairs_of L words) ≡ 2 → pairs_of L words ≡ (low, left) ∷ (separator, right) ∷ []
 

@@ -1,6 +1,6 @@
 //! The growth of a tree by a new root.
 
-ghost use Rattle.std.specs.Prelude.{ℕ, ◌<◌, ◌≤◌};
+ghost use Rattle.std.specs.Prelude.{◌<◌, ◌≤◌};
 ghost use Rattle.vm_page.specs.Sizes.{IsSize};
 ghost use Rattle.vm_tree_model.specs.Fixed.{fixed};
 ghost use Rattle.vm_tree_model.specs.Page.{IsInner};

@@ -1,5 +1,5 @@
 -- What a host shows of its files and of standard output, where it tells them.
-use Rattle.std.specs.Prelude.{ℕ, ◌-◌, ◌≤◌, ◌≡◌, ◌≢◌, ◌⊎◌, List, [], ◌++◌, length, take, drop, Bool, true, false, Result, Ok, Err, Option, Some, None}
+use Rattle.std.specs.Prelude.{ℕ, ◌-◌, ◌≤◌, ◌≡◌, ◌≢◌, ◌⊎◌, List, ◌++◌, length, take, drop, Result, Ok, Err, Option, Some, None}
 
 pub record Shown : Type 0 where
   -- the bytes of the file with a name, and None where there is no such file

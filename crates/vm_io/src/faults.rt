@@ -1,5 +1,5 @@
 // What each host keeps of its failures: takes and gives are counted apart, each up to the greatest `u64`.
-ghost use Rattle.std.specs.Prelude.{◌≡◌, ℕ, ◌+◌, ◌-◌, ◌^◌, ◌≤◌, ◌<◌, ◌&&◌, min, [], nat_eq, nat_lt, if◌then◌else◌};
+ghost use Rattle.std.specs.Prelude.{◌≡◌, ◌+◌, ◌-◌, ◌^◌, ◌≤◌, ◌<◌, ◌&&◌, min, [], nat_eq, nat_lt, if◌then◌else◌};
 ghost use Rattle.vm_page.specs.Counts.{count_more};
 ghost use Rattle.vm_io.specs.Causes.{Rose, SameTakes, more_failed, more_stuck};
 

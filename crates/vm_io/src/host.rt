@@ -6,12 +6,7 @@ ghost use Rattle.vm_io.specs.Causes.{HasCause, HasStuckCause, HasTakeCause, Same
 ghost use Rattle.vm_io.specs.Shown.{Shown, Takes, Replaces, Says};
 ghost use Rattle.vm_io.specs.declared.host.GiveFaults.{GiveFaults};
 
-use thiserror::Error;
-
-/// A call of the host failed.
-#[derive(Clone, Copy, Debug, PartialEq, Eq, Error)]
-#[error("the host failed")]
-pub struct Failed;
+pub use vm_page::Failed;
 
 /// How many calls that give bytes to a host failed, and how many took nothing of a piece that is not empty.
 #[derive(Drop)]

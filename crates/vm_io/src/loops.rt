@@ -1,5 +1,5 @@
 // Loops over a host: a whole file read, bytes said.
-ghost use Rattle.std.specs.Prelude.{◌≡◌, ◌≢◌, ◌⊎◌, ℕ, ◌+◌, ◌-◌, ◌≤◌, ◌<◌, ◌^◌, length, vec_len, IfOk, IfErr, OnOk, OnErr};
+ghost use Rattle.std.specs.Prelude.{◌≡◌, ◌≢◌, ◌+◌, ◌-◌, ◌≤◌, ◌<◌, ◌^◌, length, vec_len, IfOk, IfErr, OnOk, OnErr};
 ghost use Rattle.vm_io.specs.Causes.{AreLater, FailedTake, Rose, SameTakes};
 ghost use Rattle.vm_io.specs.Loops.{ReadsMore, ReadsWhole, SaidSome};
 ghost use Rattle.vm_io.specs.Shown.{SaidFront};

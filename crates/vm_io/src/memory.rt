@@ -1,5 +1,5 @@
 // A host in memory for tests: it fails exactly where its plan, a missing file or its room says so.
-ghost use Rattle.std.specs.Prelude.{◌≡◌, ℕ, ◌+◌, ◌-◌, ◌^◌, ◌≤◌, ◌<◌, ◌++◌, ◌⊎◌, ◌&&◌, min, max, take, drop, map, length, Some, IfOk, is_ok, if◌then◌else◌, option_map, string_bytes};
+ghost use Rattle.std.specs.Prelude.{◌≡◌, ◌+◌, ◌-◌, ◌≤◌, ◌<◌, ◌++◌, ◌⊎◌, min, max, take, drop, map, length, Some, IfOk, is_ok, if◌then◌else◌, option_map, string_bytes};
 ghost use Rattle.vm_page.specs.Counts.{count_more};
 ghost use Rattle.vm_io.specs.Causes.{HasCause, HasStuckCause, HasTakeCause, SameTakes, more_failed, more_stuck};
 ghost use Rattle.vm_io.specs.Shown.{Takes, Replaces, Says};

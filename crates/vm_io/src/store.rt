@@ -1,7 +1,7 @@
 // Files and what was said, in memory that is taken when they are made: no later call takes more.
-ghost use Rattle.std.specs.Prelude.{◌≡◌, ◌≢◌, ◌⊎◌, ℕ, ◌+◌, ◌-◌, ◌≤◌, ◌<◌, ◌^◌, ◌++◌, [], true, false, take, drop, map, length, All, vec_len, vec_capacity, Some, None, IfOk, IsTrue, MatchOption, option_map, string_bytes};
+ghost use Rattle.std.specs.Prelude.{◌≡◌, ◌+◌, ◌-◌, ◌≤◌, ◌<◌, ◌++◌, [], true, false, map, length, All, vec_len, vec_capacity, Some, None, IfOk, IsTrue, MatchOption, option_map, string_bytes};
 ghost use Rattle.vm_io.specs.InMemory.{bytes_at, named, shown_in, is_within, can_hold, IsPlace};
-ghost use Rattle.vm_io.specs.Shown.{HoldsJust, say_more};
+ghost use Rattle.vm_io.specs.Shown.{HoldsJust};
 
 use std::alloc::{AllocError, Global};
 

@@ -1,7 +1,6 @@
 // The real files and standard output: the edge whose bytes no contract tells, kept to a few lines.
-ghost use Rattle.std.specs.Prelude.{◌≡◌, ℕ, ◌+◌, ◌-◌, ◌^◌, ◌≤◌, ◌<◌, min, length, IfOk, None};
+ghost use Rattle.std.specs.Prelude.{◌+◌, ◌-◌, ◌≤◌, ◌<◌, length, IfOk, None};
 ghost use Rattle.vm_io.specs.Edge.{CountsNone};
-ghost use Rattle.vm_io.specs.Causes.{Rose, HasCause, HasStuckCause, SameTakes};
 
 use crate::faults::Faults;
 use crate::host::{Failed, Host};

@@ -8,9 +8,17 @@ use Rattle.vm_kind.specs.Joins.{both_as_one}
 pub size_is_count : (n : ℕ) (words : List ℕ) → size (fixed n) (fixed_node n words) ≡ length (fixed_pairs n words)
 size_is_count n words = omega (arith, ones_are (fixed_pairs n words))
 
-pub both_count : (n : ℕ) (left right : List ℕ) → size (fixed n) (both_as_one (fixed n) left right) ≡ length (fixed_pairs n left) + length (fixed_pairs n right)
-both_count n left right = omega (arith, ones_are (fixed_pairs n left ++ fixed_pairs n right), length-append (fixed_pairs n left) (fixed_pairs n right))
+pub both_count : (n : ℕ) (left right : List ℕ) → size (fixed n) (both_as_one (fixed n) left right) ≡ length
+    (fixed_pairs n left) + length (fixed_pairs n right)
+both_count n left right =
+    omega (
+      arith,
+      ones_are (fixed_pairs n left ++ fixed_pairs n right),
+      length-append (fixed_pairs n left)
+          (fixed_pairs n right),
+    )
 
 -- a page has place for leaves that may become one
-pub both_fit : (n : ℕ) (left right : List ℕ) → size (fixed n) (both_as_one (fixed n) left right) ≤ capacity n * 5 / 7 → length (fixed_pairs n left) + length (fixed_pairs n right) ≤ capacity n
+pub both_fit : (n : ℕ) (left right : List ℕ) → size (fixed n) (both_as_one (fixed n) left right) ≤ capacity n * 5 / 7
+    → length (fixed_pairs n left) + length (fixed_pairs n right) ≤ capacity n
 both_fit n left right few = omega (arith, few, both_count n left right)

@@ -12,7 +12,7 @@ pub trait Pages: Kind {
 
     ghost use Rattle.std.specs.Prelude.{◌≡◌, ◌<◌, length, List, replicate, slice_index, ℕ};
     ghost use Rattle.vm_tree_model.specs.{Node.Covers, Page.node_of};
-    ghost use Rattle.vm_step.specs.Prelude.{IsReady, IsSamePass, view};
+    ghost use Rattle.vm_step.specs.Prelude.{GoesOn, IsReadyOn, view};
     ghost use Rattle.vm_guard.specs.{Guards.IsReading, Guards.Loads, Guards.placed, PageWords.LoadsWords};
     ghost use Rattle.vm_node.specs.Loads.{IsAnswer};
 
@@ -36,12 +36,11 @@ pub trait Pages: Kind {
         pass: &mut Pass<U>,
         into: &mut Self::Page,
     )
-        requires ready { IsReady words.now.table.shared.key B.tells words.now.table.shared.table_id pass.old }
+        requires ready { IsReadyOn words.now B.tells pass.old }
         requires reading { IsReading guard.now.pid guard.now.word guard.now.frame (view pass.old) }
         requires size { Self.layout.words ≡ words.now.table.shared.key.size }
         requires page { length (words_of into.old) ≡ Self.layout.words }
-        ensures pass { IsSamePass pass.old pass.new }
-        ensures ready { IsReady words.now.table.shared.key B.tells words.now.table.shared.table_id pass.new }
+        ensures goes { GoesOn words.now B.tells pass.old pass.new }
         ensures size { length (words_of into.new) ≡ Self.layout.words }
         ensures loads { Loads guard.now.pid guard.now.word guard.now.frame (placed 0 (words_of into.new)) (view pass.old) (view pass.new) }
         ensures words { LoadsWords (words_of into.new) (view pass.old) (view pass.new) };

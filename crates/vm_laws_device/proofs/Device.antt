@@ -7,7 +7,9 @@ use Rattle.vm_core.proofs.Locks.{locked-from_owner}
 use Rattle.vm_core.proofs.PageFacts.{none-some, some-is, some-same}
 
 -- a failed call, of the holder or of the one that writes back
-pub failed-keeps : {actors : ℕ} → {size : ℕ} → {tells : Bool} → {words : ℕ → List ℕ} → {r : Page} → {h : History} → {l : ℕ → List (ℕ × ℕ)} → (a : ℕ) → PageInv actors size tells words r h l → MayCall r a → PageInv actors size tells words (failed r) h l
+pub failed-keeps : {actors : ℕ} → {size : ℕ} → {tells : Bool} → {words : ℕ → List ℕ} → {r : Page} → {h : History}
+    → {l : ℕ → List (ℕ × ℕ)} → (a : ℕ) → PageInv actors size tells words r h l → MayCall r a
+    → PageInv actors size tells words (failed r) h l
 failed-keeps {actors} {size} {tells} {words} {r} {h} {l} a i m =
     record {
       locks = i.locks;
@@ -18,12 +20,16 @@ failed-keeps {actors} {size} {tells} {words} {r} {h} {l} a i m =
       reads = i.reads;
     }
 
-pub raised-keeps : {actors : ℕ} → {size : ℕ} → {tells : Bool} → {words : ℕ → List ℕ} → {r : Page} → {h : History} → {l : ℕ → List (ℕ × ℕ)} → PageInv actors size tells words r h l → PageInv actors size tells words (raised r) h l
+pub raised-keeps : {actors : ℕ} → {size : ℕ} → {tells : Bool} → {words : ℕ → List ℕ} → {r : Page} → {h : History}
+    → {l : ℕ → List (ℕ × ℕ)} → PageInv actors size tells words r h l → PageInv actors size tells words (raised r) h l
 raised-keeps {actors} {size} {tells} {words} {r} {h} {l} i =
     record { locks = i.locks; stands = i.stands; sizes = i.sizes; contents = i.contents; faults = λ _ _. refl; reads = i.reads }
 
 -- a block that was written has the words of the frame that the page stands in
-written-contents : {size : ℕ} → {words : ℕ → List ℕ} → {state version : ℕ} → {trans : Option Mapping} → {block : List ℕ} → {h : History} → (m : Mapping) → trans ≡ Some m → StandsInv state version trans h → length (words m.frame) ≡ size → WordsInv size words state trans block h → WordsInv size words state trans (block_after words trans block) h
+written-contents : {size : ℕ} → {words : ℕ → List ℕ} → {state version : ℕ} → {trans : Option Mapping}
+    → {block : List ℕ} → {h : History} → (m : Mapping) → trans ≡ Some m → StandsInv state version trans h
+    → length (words m.frame) ≡ size → WordsInv size words state trans block h
+    → WordsInv size words state trans (block_after words trans block) h
 written-contents {size} {words} {state} {version} {trans} {block} {h} m e s len i =
     let now : block_after words trans block ≡ words m.frame = ap (λ t. block_after words t block) e in
     record {
@@ -36,7 +42,9 @@ written-contents {size} {words} {state} {version} {trans} {block} {h} m e s len 
       size = ap length now ∙ len;
     }
 
-pub written-keeps : {actors : ℕ} → {size : ℕ} → {tells : Bool} → {words : ℕ → List ℕ} → {r : Page} → {h : History} → {l : ℕ → List (ℕ × ℕ)} → (a : ℕ) → ((f : ℕ) → length (words f) ≡ size) → PageInv actors size tells words r h l → MayWrite r a → PageInv actors size tells words (written words r) h l
+pub written-keeps : {actors : ℕ} → {size : ℕ} → {tells : Bool} → {words : ℕ → List ℕ} → {r : Page} → {h : History}
+    → {l : ℕ → List (ℕ × ℕ)} → (a : ℕ) → ((f : ℕ) → length (words f) ≡ size) → PageInv actors size tells words r h l
+    → MayWrite r a → PageInv actors size tells words (written words r) h l
 written-keeps {actors} {size} {tells} {words} {r} {h} {l} a len i m =
     let some : (n : Mapping) × (r.trans ≡ Some n) = some-is r.trans m.resident in
     record {

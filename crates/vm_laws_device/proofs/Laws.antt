@@ -36,4 +36,11 @@ claim_law w a x n i m =
     }
 
 pub hand_law : (w : World) (a : ℕ) → Keeps w (Hand a)
-hand_law w a i m = record { place = i.place; frames = i.frames; words = i.words; next = i.next; pages = i.pages; owners = record { named = i.owners.named; owned = i.owners.owned } }
+hand_law w a i m = record {
+  place = i.place;
+  frames = i.frames;
+  words = i.words;
+  next = i.next;
+  pages = i.pages;
+  owners = record { named = i.owners.named; owned = i.owners.owned };
+}

@@ -1,9 +1,10 @@
 -- A translation that is made dirty or clean keeps what holds of the page.
 use Rattle.std.proofs.Common.{◌<◌, ◌∙◌, ◌≡◌, ◌≢◌, ◌≤◌, ap, arith, Bool, false, IsSome, List, None, Option, refl, Some, subst, sym, true, ℕ}
 use Rattle.std.proofs.lemmas.Bool.{true≢false}
-use Rattle.vm_core.specs.Prelude.{EVICTED, History, LoadsAre, LOCKED, LocksInv, MayClean, MayDirty, Page, PageInv, ReadInv, ReadsPage, stands_in}
-use Rattle.vm_core.specs.Prelude.{sum_below, with_dirty}
-use Rattle.vm_core.specs.{declared.event.Mapping.Mapping, declared.event.Open.Open, declared.event.Seat.Seat, FrameActs.cleaned, FrameActs.dirtied}
+use Rattle.vm_core.specs.Prelude.{EVICTED, History, LoadsAre, LOCKED, LocksInv, MayClean, MayDirty, Page, PageInv}
+use Rattle.vm_core.specs.Prelude.{ReadInv, ReadsPage, stands_in, sum_below, with_dirty}
+use Rattle.vm_core.specs.{declared.event.Mapping.Mapping, declared.event.Open.Open, declared.event.Seat.Seat}
+use Rattle.vm_core.specs.{FrameActs.cleaned, FrameActs.dirtied}
 use Rattle.vm_core.proofs.Locks.{locked-from_owner, shared-state, sum_below-at}
 use Rattle.vm_core.proofs.PageFacts.{none-some, some-is, some-same}
 
@@ -13,7 +14,8 @@ dirty-stands dirty None f = refl
 dirty-stands dirty (Some m) f = refl
 
 -- a translation that was made dirty or clean came from one with its frame
-from-dirty : (dirty : Bool) (trans : Option Mapping) (m : Mapping) → with_dirty dirty trans ≡ Some m → (m.dirty ≡ dirty) × ((n : Mapping) × (trans ≡ Some n) × (n.frame ≡ m.frame))
+from-dirty : (dirty : Bool) (trans : Option Mapping) (m : Mapping) → with_dirty dirty trans ≡ Some m
+    → (m.dirty ≡ dirty) × ((n : Mapping) × (trans ≡ Some n) × (n.frame ≡ m.frame))
 from-dirty dirty None m e = absurd (none-some m e)
 from-dirty dirty (Some n) m e =
     let s : record n { dirty = dirty } ≡ m = some-same _ m e in
@@ -23,7 +25,9 @@ some-dirty : (dirty : Bool) (trans : Option Mapping) → IsSome trans → IsSome
 some-dirty dirty None e = e
 some-dirty dirty (Some m) e = refl
 
-pub dirtied-keeps : {actors : ℕ} → {size : ℕ} → {tells : Bool} → {words : ℕ → List ℕ} → {r : Page} → {h : History} → {l : ℕ → List (ℕ × ℕ)} → (a : ℕ) → PageInv actors size tells words r h l → MayDirty r a → PageInv actors size tells words (dirtied r) h l
+pub dirtied-keeps : {actors : ℕ} → {size : ℕ} → {tells : Bool} → {words : ℕ → List ℕ} → {r : Page} → {h : History}
+    → {l : ℕ → List (ℕ × ℕ)} → (a : ℕ) → PageInv actors size tells words r h l → MayDirty r a
+    → PageInv actors size tells words (dirtied r) h l
 dirtied-keeps {actors} {size} {tells} {words} {r} {h} {l} a i m =
     let locked : r.state ≡ LOCKED = locked-from_owner i.locks a m.owns in
     let some : (n : Mapping) × (r.trans ≡ Some n) = some-is r.trans m.resident in
@@ -45,14 +49,17 @@ dirtied-keeps {actors} {size} {tells} {words} {r} {h} {l} a i m =
     }
 
 -- a page under write-back is shared
-writer-shared : {actors state version : ℕ} → {seats : ℕ → Seat} → LocksInv actors state version seats → (a : ℕ) → (seats a).writing ≡ true → (1 ≤ state) × (state < LOCKED)
+writer-shared : {actors state version : ℕ} → {seats : ℕ → Seat} → LocksInv actors state version seats → (a : ℕ)
+    → (seats a).writing ≡ true → (1 ≤ state) × (state < LOCKED)
 writer-shared {actors} {state} {version} {seats} i a w =
     let mine : (1 ≤ (seats a).shares) × (a < actors) = i.writer a w in
     let sum : (seats a).shares ≤ sum_below actors (λ b. (seats b).shares) = sum_below-at actors (λ b. (seats b).shares) a mine.1 in
     shared-state state (sum_below actors (λ b. (seats b).shares)) (omega (arith, mine.0)) i.shares
 
 -- an open read of a page whose frame stays
-reads-dirty : (words : ℕ → List ℕ) (state version : ℕ) (dirty : Bool) (trans : Option Mapping) (o : Option Open) (l : List (ℕ × ℕ)) → ReadInv words state version trans o l → ReadInv words state version (with_dirty dirty trans) o l
+reads-dirty : (words : ℕ → List ℕ) (state version : ℕ) (dirty : Bool) (trans : Option Mapping) (o : Option Open)
+    (l : List (ℕ × ℕ)) → ReadInv words state version trans o l → ReadInv words state version (with_dirty dirty trans)
+    o l
 reads-dirty words state version dirty None o l i = i
 reads-dirty words state version dirty (Some m) o l i =
     record {
@@ -65,7 +72,9 @@ reads-dirty words state version dirty (Some m) o l i =
           };
     }
 
-pub cleaned-keeps : {actors : ℕ} → {size : ℕ} → {tells : Bool} → {words : ℕ → List ℕ} → {r : Page} → {h : History} → {l : ℕ → List (ℕ × ℕ)} → (a : ℕ) → PageInv actors size tells words r h l → MayClean tells words r a → PageInv actors size tells words (cleaned r) h l
+pub cleaned-keeps : {actors : ℕ} → {size : ℕ} → {tells : Bool} → {words : ℕ → List ℕ} → {r : Page} → {h : History}
+    → {l : ℕ → List (ℕ × ℕ)} → (a : ℕ) → PageInv actors size tells words r h l → MayClean tells words r a
+    → PageInv actors size tells words (cleaned r) h l
 cleaned-keeps {actors} {size} {tells} {words} {r} {h} {l} a i m =
     let shared : (1 ≤ r.state) × (r.state < LOCKED) = writer-shared i.locks a m.writes in
     let sl : r.state ≢ LOCKED = omega arith in

@@ -2,17 +2,19 @@
 use Rattle.std.proofs.Common.{⊎_elim, ◌+◌, ◌∙◌, ◌≡◌, ap, arith, Bool, cond, eqb, false, length, refl, subst, sym, true, ℕ}
 use Rattle.std.proofs.lemmas.Bool.{and_from, and_right, cases_Bool, eq-eqb, eqb-true, false≢true, ne_eqb, true≢false}
 use Rattle.std.proofs.lemmas.List.{length-set}
-use Rattle.vm_core.specs.Prelude.{at_actor, at_page, cleared, FrameInv, Free, gains, has_free_bit, HoldsAt, in_mask, installed, Inv, Keeps, Legal}
-use Rattle.vm_core.specs.Prelude.{Mapped, MayDirty, Page, PageInv, stands_in, State, upd, World}
-use Rattle.vm_core.specs.declared.event.Event.TheVariants.{BLoad, Clean, Clear, Dirty, Disown, Give, Install, Load, OLoad, Own, PBLoad, PGive, PTake, Store, Take, TLoad}
-use Rattle.vm_core.specs.{Inv.Place.Held, Step.owned}
+use Rattle.vm_core.specs.Prelude.{at_actor, at_page, cleared, FrameInv, Free, gains, has_free_bit, HoldsAt, in_mask}
+use Rattle.vm_core.specs.Prelude.{installed, Inv, Keeps, Legal, Mapped, MayDirty, Page, PageInv, stands_in, State}
+use Rattle.vm_core.specs.Prelude.{upd, World}
+use Rattle.vm_core.specs.declared.event.Event.TheVariants.{BLoad, Clean, Clear, Dirty, Disown, Give, Install, Load}
+use Rattle.vm_core.specs.declared.event.Event.TheVariants.{OLoad, Own, PBLoad, PGive, PTake, Store, Take, TLoad}
+use Rattle.vm_core.specs.{Inv.FramePlace.Held, Step.owned}
 use Rattle.vm_core.proofs.Spares.{inv-beside}
 use Rattle.std.specs.Prelude.{bit_or, bit_xor}
 use Rattle.vm_core.specs.Step.{given_by, taken_by}
 use Rattle.vm_core.proofs.Upd.{each-upd, upd-keeps, upd-map, upd-other, upd-same}
 use Rattle.vm_core.proofs.Whole.{frame-same, page-alone, pages-page}
-use Rattle.vm_laws_frame.proofs.{Bits.given-free, Bits.taken-free, Put.cleared-keeps, Put.installed-keeps, Read.frame_read-keeps, Read.loaded-keeps}
-use Rattle.vm_laws_frame.proofs.{Store.store-elsewhere, Store.store-here}
+use Rattle.vm_laws_frame.proofs.{Bits.given-free, Bits.taken-free, Put.cleared-keeps, Put.installed-keeps}
+use Rattle.vm_laws_frame.proofs.{Read.frame_read-keeps, Read.loaded-keeps, Store.store-elsewhere, Store.store-here}
 use Rattle.vm_laws_frame.proofs.Dirty.{cleaned-keeps, dirtied-keeps, dirty-stands}
 use Rattle.vm_laws_frame.proofs.Owners.{held-owners, word-owners}
 use Rattle.vm_laws_frame.proofs.Places.{frame-clear, frame-give, frame-install, frame-take, mapped-place}
@@ -33,7 +35,8 @@ load_law w a p n i m =
       frames = i.frames;
       words = i.words;
       next = i.next;
-      pages = each-upd (λ q y. PageInv w.core.shape.actors w.core.size w.core.tells w.core.words (w.core.pages q) (w.histories q) y) w.loads p _ (loaded-keeps a n (i.pages p)) (λ q _. i.pages q);
+      pages = each-upd (λ q y. PageInv w.core.shape.actors w.core.size w.core.tells w.core.words (w.core.pages q)
+          (w.histories q) y) w.loads p _ (loaded-keeps a n (i.pages p)) (λ q _. i.pages q);
       owners = i.owners;
     }
 
@@ -45,7 +48,8 @@ row-at : (held : ℕ → ℕ → Bool) (a f : ℕ) (row : ℕ → Bool) (v : Boo
 row-at held a f row v e b = upd-map (λ y. y f) held a row b ∙ ap (λ x. upd (λ c. held c f) a x b) e
 
 -- the pages that stand in one frame, after a change of one page
-stands-at : (pages : ℕ → Page) (p f : ℕ) (r : Page) (v : Bool) → stands_in r.trans f ≡ v → (q : ℕ) → stands_in (upd pages p r q).trans f ≡ upd (λ s. stands_in (pages s).trans f) p v q
+stands-at : (pages : ℕ → Page) (p f : ℕ) (r : Page) (v : Bool) → stands_in r.trans f ≡ v → (q : ℕ)
+    → stands_in (upd pages p r q).trans f ≡ upd (λ s. stands_in (pages s).trans f) p v q
 stands-at pages p f r v e q = upd-map (λ y. stands_in y.trans f) pages p r q ∙ ap (λ x. upd (λ s. stands_in (pages s).trans f) p x q) e
 
 pub install_law : (w : World) (a p f : ℕ) → Keeps w (Install a p f)
@@ -53,15 +57,18 @@ install_law w a p f i m =
     let c : State = w.core in
     let row : ℕ → Bool = upd (c.held a) f false in
     let r : Page = installed (c.pages p) f in
-    let o = held-owners w i a p r m.page.owns refl (λ g e. absurd (false≢true (ap (λ t. stands_in t g) (sym m.page.empty) ∙ i.owners.named g p e))) in
+    let o = held-owners w i a p r m.page.owns refl
+    (λ g e. absurd (false≢true (ap (λ t. stands_in t g) (sym m.page.empty) ∙ i.owners.named g p e))) in
     record {
       place = upd i.place f (Mapped p);
-      frames = each-upd (λ g x. FrameInv c.shape.actors c.shape.pages c.shape.frames g (has_free_bit c.bundles g) (λ b. upd c.held a row b g) (λ q. stands_in (upd c.pages p r q).trans g) x) i.place f (Mapped p)
+      frames = each-upd (λ g x. FrameInv c.shape.actors c.shape.pages c.shape.frames g (has_free_bit c.bundles g)
+          (λ b. upd c.held a row b g) (λ q. stands_in (upd c.pages p r q).trans g) x) i.place f (Mapped p)
           (frame-same refl (row-at c.held a f row false (upd-same (c.held a) f false)) (stands-at c.pages p f r true (eq-eqb f f refl))
           (frame-install a p m.names.page m.frame m.holds (i.frames f)))
           (λ g ne. frame-same refl
           (λ b. upd-keeps (λ y. y g) c.held a row (upd-other (c.held a) f false g ne) b)
-          (λ q. upd-keeps (λ y. stands_in y.trans g) c.pages p r (ne_eqb f g (λ s. ne (sym s)) ∙ sym (ap (λ t. stands_in t g) m.page.empty)) q)
+          (λ q. upd-keeps (λ y. stands_in y.trans g) c.pages p r
+          (ne_eqb f g (λ s. ne (sym s)) ∙ sym (ap (λ t. stands_in t g) m.page.empty)) q)
           (i.frames g));
       words = i.words;
       next = i.next;
@@ -77,12 +84,16 @@ clear_law w a p i m =
     let row : ℕ → Bool = gains (c.held a) (c.pages p).trans in
     let row-is : row ≡ upd (c.held a) f true = ap (gains (c.held a)) at.stands in
     let r : Page = cleared (c.pages p) in
-    let unnamed : (g : ℕ) → c.owners g ≡ p + 1 → f ≡ g = λ g e. eqb-true f g (ap (λ t. stands_in t g) (sym at.stands) ∙ i.owners.named g p e) in
-    let o = held-owners w i a p r at.owns refl (λ g e. let none : c.owners g ≡ 0 = ap c.owners (sym (unnamed g e)) ∙ m.2 _ at.stands in absurd (omega (arith, none, e))) in
+    let unnamed : (g : ℕ) → c.owners g ≡ p + 1 → f ≡ g =
+    λ g e. eqb-true f g (ap (λ t. stands_in t g) (sym at.stands) ∙ i.owners.named g p e) in
+    let o = held-owners w i a p r at.owns refl (λ g e. let none : c.owners g ≡ 0 = ap c.owners (sym (unnamed g e))
+    ∙ m.2 _ at.stands in absurd (omega (arith, none, e))) in
     record {
       place = upd i.place f (Held a);
-      frames = each-upd (λ g x. FrameInv c.shape.actors c.shape.pages c.shape.frames g (has_free_bit c.bundles g) (λ b. upd c.held a row b g) (λ q. stands_in (upd c.pages p r q).trans g) x) i.place f (Held a)
-          (frame-same refl (row-at c.held a f row true (ap (λ y. y f) row-is ∙ upd-same (c.held a) f true)) (stands-at c.pages p f r false refl)
+      frames = each-upd (λ g x. FrameInv c.shape.actors c.shape.pages c.shape.frames g (has_free_bit c.bundles g)
+          (λ b. upd c.held a row b g) (λ q. stands_in (upd c.pages p r q).trans g) x) i.place f (Held a)
+          (frame-same refl (row-at c.held a f row true (ap (λ y. y f) row-is ∙ upd-same (c.held a) f true))
+          (stands-at c.pages p f r false refl)
           (frame-clear a p m.0.actor (ap (λ t. stands_in t f) at.stands ∙ eq-eqb f f refl) (i.frames f)))
           (λ g ne. frame-same refl
           (λ b. upd-keeps (λ y. y g) c.held a row (ap (λ y. y g) row-is ∙ upd-other (c.held a) f true g ne) b)
@@ -95,7 +106,8 @@ clear_law w a p i m =
     }
 
 -- a page whose holder may store into the frame
-stored-page : (w : World) (a f n x q : ℕ) → Inv w → Legal w.core (Store a f n x) → stands_in (w.core.pages q).trans f ≡ true → HoldsAt (w.core.pages q) a f true
+stored-page : (w : World) (a f n x q : ℕ) → Inv w → Legal w.core (Store a f n x)
+    → stands_in (w.core.pages q).trans f ≡ true → HoldsAt (w.core.pages q) a f true
 stored-page w a f n x q i m s =
     let mapped : i.place f ≡ Mapped q = mapped-place (i.place f) q (sym ((i.frames f).mapped q) ∙ s) in
     ⊎_elim
@@ -131,7 +143,9 @@ take_law w a g expects mask i m =
       place = λ f. cond (in_mask g mask f) (Held a) (i.place f);
       frames = λ f. ⊎_elim
           (λ t. rw (t.0) (frame-same t.2 (λ b. refl) (λ q. refl)
-          (frame-take {hs = λ b. c.held b f} a m.names.actor (subst (λ y. FrameInv c.shape.actors c.shape.pages c.shape.frames f y (λ b. c.held b f) (λ q. stands_in (c.pages q).trans f) (i.place f)) t.1 (i.frames f)))))
+          (frame-take {hs = λ b. c.held b f} a m.names.actor
+          (subst (λ y. FrameInv c.shape.actors c.shape.pages c.shape.frames f y (λ b. c.held b f)
+          (λ q. stands_in (c.pages q).trans f) (i.place f)) t.1 (i.frames f)))))
           (λ t. rw (t.0) (frame-same t.1 (λ b. rw (and_right (eqb b a) false refl) refl) (λ q. refl) (i.frames f)))
           (taken-free c.bundles g expects mask f (eqb-true _ _ e) m.among);
       words = i.words;
@@ -160,8 +174,16 @@ give_law w a g mask i m =
 -- ---- owner words
 
 -- the owner word of a page that an actor holds is written: it names the page, or none
-word-law : (w : World) (a p word : ℕ) → Inv w → MayDirty (w.core.pages p) a → ((q : ℕ) → word ≡ q + 1 → q ≡ p) → Inv (record w { core = owned w.core p word })
-word-law w a p word i may names = record { place = i.place; frames = i.frames; words = i.words; next = i.next; pages = i.pages; owners = word-owners w i a p word may names }
+word-law : (w : World) (a p word : ℕ) → Inv w → MayDirty (w.core.pages p) a → ((q : ℕ) → word ≡ q + 1 → q ≡ p)
+    → Inv (record w { core = owned w.core p word })
+word-law w a p word i may names = record {
+  place = i.place;
+  frames = i.frames;
+  words = i.words;
+  next = i.next;
+  pages = i.pages;
+  owners = word-owners w i a p word may names;
+}
 
 pub own_law : (w : World) (a p : ℕ) → Keeps w (Own a p)
 own_law w a p i m = word-law w a p (p + 1) i m.page (λ q e. omega (arith, e))

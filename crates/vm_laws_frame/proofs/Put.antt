@@ -5,26 +5,35 @@ use Rattle.vm_core.specs.{declared.event.Mapping.Mapping, declared.event.Open.Op
 use Rattle.vm_core.proofs.{Locks.locked-from_owner, PageFacts.none-some, PageFacts.some-same}
 
 -- a locked page, wherever it stands
-locked-stands : {state version : ℕ} → {trans : Option Mapping} → {h : History} → (next : Option Mapping) → state ≡ LOCKED → StandsInv state version trans h → StandsInv state version next h
+locked-stands : {state version : ℕ} → {trans : Option Mapping} → {h : History} → (next : Option Mapping)
+    → state ≡ LOCKED → StandsInv state version trans h → StandsInv state version next h
 locked-stands {state} {version} {trans} {h} next locked i =
     record { last = i.last; resident = λ ne. absurd (ne locked); evicted = λ q. absurd (omega arith) }
 
-locked-read : {words : ℕ → List ℕ} → {state version : ℕ} → {trans : Option Mapping} → {o : Option Open} → {l : List (ℕ × ℕ)} → (next : Option Mapping) → state ≡ LOCKED → ReadInv words state version trans o l → ReadInv words state version next o l
+locked-read : {words : ℕ → List ℕ} → {state version : ℕ} → {trans : Option Mapping} → {o : Option Open}
+    → {l : List (ℕ × ℕ)} → (next : Option Mapping) → state ≡ LOCKED → ReadInv words state version trans o l
+    → ReadInv words state version next o l
 locked-read {words} {state} {version} {trans} {o} {l} next locked i =
     record { old = i.old; evicted = λ q. absurd (omega arith); current = λ ne. absurd (ne locked) }
 
 -- in the only frame that the page can stand in
-in-frame : (f : ℕ) (m : Mapping) (P : Mapping → Type 0) → P (record { frame = f; dirty = false }) → Some (record { frame = f; dirty = false }) ≡ Some m → P m
+in-frame : (f : ℕ) (m : Mapping) (P : Mapping → Type 0) → P (record {
+  frame = f;
+  dirty = false;
+}) → Some (record { frame = f; dirty = false }) ≡ Some m → P m
 in-frame f m P x e = subst P (some-same _ m e) x
 
-pub installed-keeps : {actors : ℕ} → {size : ℕ} → {tells : Bool} → {words : ℕ → List ℕ} → {r : Page} → {h : History} → {l : ℕ → List (ℕ × ℕ)} → (a f : ℕ) → PageInv actors size tells words r h l → MayInstall tells r a (words f) → PageInv actors size tells words (installed r f) h l
+pub installed-keeps : {actors : ℕ} → {size : ℕ} → {tells : Bool} → {words : ℕ → List ℕ} → {r : Page} → {h : History}
+    → {l : ℕ → List (ℕ × ℕ)} → (a f : ℕ) → PageInv actors size tells words r h l → MayInstall tells r a (words f)
+    → PageInv actors size tells words (installed r f) h l
 installed-keeps {actors} {size} {tells} {words} {r} {h} {l} a f i m =
     let locked : r.state ≡ LOCKED = locked-from_owner i.locks a m.owns in
     record {
       locks = i.locks;
       stands = locked-stands _ locked i.stands;
       sizes = i.sizes;
-      contents = λ t. let same : (h.draft ≡ h.last.words) × (r.block ≡ h.last.words) = (i.contents t).unwritten locked (λ m' e. absurd (none-some m' (sym m.empty ∙ e))) in
+      contents = λ t. let same : (h.draft ≡ h.last.words) × (r.block ≡ h.last.words) =
+          (i.contents t).unwritten locked (λ m' e. absurd (none-some m' (sym m.empty ∙ e))) in
           record {
             clean = λ m' e _. in-frame f m' (λ y. words y.frame ≡ r.block) (m.loaded t) e;
             logical = λ ne. absurd (ne locked);
@@ -37,7 +46,9 @@ installed-keeps {actors} {size} {tells} {words} {r} {h} {l} a f i m =
       reads = λ b. locked-read _ locked (i.reads b);
     }
 
-pub cleared-keeps : {actors : ℕ} → {size : ℕ} → {tells : Bool} → {words : ℕ → List ℕ} → {r : Page} → {h : History} → {l : ℕ → List (ℕ × ℕ)} → (a : ℕ) → PageInv actors size tells words r h l → MayClear r a → PageInv actors size tells words (cleared r) h l
+pub cleared-keeps : {actors : ℕ} → {size : ℕ} → {tells : Bool} → {words : ℕ → List ℕ} → {r : Page} → {h : History}
+    → {l : ℕ → List (ℕ × ℕ)} → (a : ℕ) → PageInv actors size tells words r h l → MayClear r a
+    → PageInv actors size tells words (cleared r) h l
 cleared-keeps {actors} {size} {tells} {words} {r} {h} {l} a i m =
     let locked : r.state ≡ LOCKED = locked-from_owner i.locks a m.1.owns in
     record {

@@ -7,11 +7,14 @@ use Rattle.vm_core.specs.declared.event.Mapping.{Mapping}
 use Rattle.vm_core.proofs.{Locks.locked-from_owner, PageFacts.some-same, Upd.upd-other, Upd.upd-same}
 
 -- the words of a page that stands elsewhere
-elsewhere : (words : ℕ → List ℕ) (f : ℕ) (ws : List ℕ) (trans : Option Mapping) → stands_in trans f ≡ false → (m : Mapping) → trans ≡ Some m → upd words f ws m.frame ≡ words m.frame
+elsewhere : (words : ℕ → List ℕ) (f : ℕ) (ws : List ℕ) (trans : Option Mapping) → stands_in trans f ≡ false
+    → (m : Mapping) → trans ≡ Some m → upd words f ws m.frame ≡ words m.frame
 elsewhere words f ws trans e m q =
     upd-other words f ws m.frame (λ same. false≢true (sym e ∙ ap (λ t. stands_in t f) q ∙ eq-eqb m.frame f same))
 
-pub store-elsewhere : {actors : ℕ} → {size : ℕ} → {tells : Bool} → {words : ℕ → List ℕ} → {r : Page} → {h : History} → {l : ℕ → List (ℕ × ℕ)} → (f : ℕ) (ws : List ℕ) → stands_in r.trans f ≡ false → PageInv actors size tells words r h l → PageInv actors size tells (upd words f ws) r h l
+pub store-elsewhere : {actors : ℕ} → {size : ℕ} → {tells : Bool} → {words : ℕ → List ℕ} → {r : Page} → {h : History}
+    → {l : ℕ → List (ℕ × ℕ)} → (f : ℕ) (ws : List ℕ) → stands_in r.trans f ≡ false
+    → PageInv actors size tells words r h l → PageInv actors size tells (upd words f ws) r h l
 store-elsewhere {actors} {size} {tells} {words} {r} {h} {l} f ws e i =
     let far : (m : Mapping) → r.trans ≡ Some m → upd words f ws m.frame ≡ words m.frame = elsewhere words f ws r.trans e in
     record {
@@ -37,7 +40,10 @@ store-elsewhere {actors} {size} {tells} {words} {r} {h} {l} f ws e i =
     }
 
 -- the holder stores into the page's frame
-pub store-here : {actors : ℕ} → {size : ℕ} → {tells : Bool} → {words : ℕ → List ℕ} → {r : Page} → {h : History} → {l : ℕ → List (ℕ × ℕ)} → (a f i x : ℕ) → HoldsAt r a f true → PageInv actors size tells words r h l → PageInv actors size tells (upd words f (slice_set (words f) i x)) r (record h { draft = slice_set h.draft i x }) l
+pub store-here : {actors : ℕ} → {size : ℕ} → {tells : Bool} → {words : ℕ → List ℕ} → {r : Page} → {h : History}
+    → {l : ℕ → List (ℕ × ℕ)} → (a f i x : ℕ) → HoldsAt r a f true → PageInv actors size tells words r h l
+    → PageInv actors size tells (upd words f (slice_set (words f) i x)) r (record h { draft = slice_set h.draft i x })
+    l
 store-here {actors} {size} {tells} {words} {r} {h} {l} a f i x at inv =
     let locked : r.state ≡ LOCKED = locked-from_owner inv.locks a at.owns in
     record {
@@ -48,7 +54,8 @@ store-here {actors} {size} {tells} {words} {r} {h} {l} a f i x at inv =
           record {
             clean = λ m q d. absurd (true≢false (ap (λ y. y.dirty) (some-same _ _ (sym at.stands ∙ q)) ∙ d));
             logical = λ ne. absurd (ne locked);
-            draft = λ _ m q. subst (λ y. upd words f (slice_set (words f) i x) y.frame ≡ slice_set h.draft i x) (some-same _ _ (sym at.stands ∙ q)) (upd-same words f _ ∙ ap (λ y. slice_set y i x) there);
+            draft = λ _ m q. subst (λ y. upd words f (slice_set (words f) i x) y.frame ≡ slice_set h.draft i x)
+                (some-same _ _ (sym at.stands ∙ q)) (upd-same words f _ ∙ ap (λ y. slice_set y i x) there);
             unwritten = λ _ clean. absurd (true≢false (clean _ at.stands));
             device = λ q. absurd (omega arith);
             size = (inv.contents t).size;

@@ -19,7 +19,8 @@ low-of f false lt = frame-of _ f lt (omega arith)
 
 read-back : (t : Option Mapping) → FitsWord t → mapping_of (trans_word t) ≡ t
 read-back None fits = ap (λ q. mapping_at q (is_dirty 0)) (no-frame 0 refl)
-read-back (Some m) fits = ap (λ q. mapping_at q (is_dirty (trans_word (Some m)))) (low-of m.frame m.dirty fits) ∙ ap (mapping_at (Some m.frame)) (top-of m.frame m.dirty fits)
+read-back (Some m) fits = ap (λ q. mapping_at q (is_dirty (trans_word (Some m)))) (low-of m.frame m.dirty fits)
+    ∙ ap (mapping_at (Some m.frame)) (top-of m.frame m.dirty fits)
 
 pub translations_read : TranslationsRead
 translations_read = record { back = read-back; empty = λ word e. ap (λ q. mapping_at q (is_dirty word)) (no-frame word e) }

@@ -6,7 +6,8 @@ use Rattle.vm_core.specs.declared.event.Seat.{Seat}
 use Rattle.vm_core.proofs.Locks.{locked-from_owner, sum_below-at}
 
 -- two exclusive holders are one
-pub one-holder : {actors state version : ℕ} → {seats : ℕ → Seat} → LocksInv actors state version seats → (a b : ℕ) → (seats a).exclusive ≡ true → (seats b).exclusive ≡ true → b ≡ a
+pub one-holder : {actors state version : ℕ} → {seats : ℕ → Seat} → LocksInv actors state version seats → (a b : ℕ)
+    → (seats a).exclusive ≡ true → (seats b).exclusive ≡ true → b ≡ a
 one-holder {actors} {state} {version} {seats} i a b ea eb =
     let one : OneHolder actors seats = i.held (locked-from_owner i a ea) in
     one.only b eb ∙ sym (one.only a ea)
@@ -15,14 +16,17 @@ no-shares : (state n : ℕ) → state ≡ LOCKED → n ≡ share_count state →
 no-shares state n e s = grind (arith, e, s, nat_tests)
 
 -- no actor has a share beside an exclusive holder
-pub unshared-beside : {actors state version : ℕ} → {seats : ℕ → Seat} → LocksInv actors state version seats → (a b : ℕ) → (seats a).exclusive ≡ true → b < actors → 1 ≤ (seats b).shares → ⊥
+pub unshared-beside : {actors state version : ℕ} → {seats : ℕ → Seat} → LocksInv actors state version seats
+    → (a b : ℕ) → (seats a).exclusive ≡ true → b < actors → 1 ≤ (seats b).shares → ⊥
 unshared-beside {actors} {state} {version} {seats} i a b ea lt has =
-    let none : sum_below actors (λ c. (seats c).shares) ≡ 0 = no-shares state (sum_below actors (λ c. (seats c).shares)) (locked-from_owner i a ea) i.shares in
+    let none : sum_below actors (λ c. (seats c).shares) ≡ 0 =
+    no-shares state (sum_below actors (λ c. (seats c).shares)) (locked-from_owner i a ea) i.shares in
     let mine : (seats b).shares ≤ sum_below actors (λ c. (seats c).shares) = sum_below-at actors (λ c. (seats c).shares) b lt in
     omega arith
 
 -- nobody writes the page back beside an exclusive holder
-pub unwritten-beside : {actors state version : ℕ} → {seats : ℕ → Seat} → LocksInv actors state version seats → (a b : ℕ) → (seats a).exclusive ≡ true → (seats b).writing ≡ true → ⊥
+pub unwritten-beside : {actors state version : ℕ} → {seats : ℕ → Seat} → LocksInv actors state version seats
+    → (a b : ℕ) → (seats a).exclusive ≡ true → (seats b).writing ≡ true → ⊥
 unwritten-beside {actors} {state} {version} {seats} i a b ea wb =
     let share : (1 ≤ (seats b).shares) × (b < actors) = i.writer b wb in
     unshared-beside i a b ea share.1 share.0
@@ -32,7 +36,8 @@ either true y e = inl refl
 either false y e = inr e
 
 -- two actors that may call the page's device are one
-pub one-caller : {actors : ℕ} → (r : Page) → LocksInv actors r.state r.version r.seats → (a b : ℕ) → MayCall r a → ((r.seats b).exclusive || (r.seats b).writing) ≡ true → b ≡ a
+pub one-caller : {actors : ℕ} → (r : Page) → LocksInv actors r.state r.version r.seats → (a b : ℕ) → MayCall r a
+    → ((r.seats b).exclusive || (r.seats b).writing) ≡ true → b ≡ a
 one-caller {actors} r i a b may call =
     ⊎_elim
     (λ ea. ⊎_elim (λ eb. one-holder i a b ea eb) (λ wb. absurd (unwritten-beside i a b ea wb)) (either _ _ call))

@@ -1,9 +1,10 @@
 -- What the events beside the pages leave: loads and stores of words, bundles, the next word, the hand and the owner words.
-use Rattle.std.proofs.Common.{⊎_elim, ◌&&◌, ◌+◌, ◌||◌, ◌∙◌, ◌≡◌, ◌≢◌, ◌≤◌, ap, arith, Bool, cond, eqb, false, inl, List, refl, slice_set, Some}
-use Rattle.std.proofs.Common.{subst, sym, true, ℕ}
+use Rattle.std.proofs.Common.{⊎_elim, ◌&&◌, ◌+◌, ◌||◌, ◌∙◌, ◌≡◌, ◌≢◌, ◌≤◌, ap, arith, Bool, cond, eqb, false, inl}
+use Rattle.std.proofs.Common.{List, refl, slice_set, Some, subst, sym, true, ℕ}
 use Rattle.std.proofs.lemmas.Bool.{and_left, cases_Bool, cond-false, eq-eqb, eqb-true, false≢true, ne_eqb}
 use Rattle.vm_core.specs.Prelude.{at_actor, at_page, Free, History, HoldsAt, in_mask, Inv, Mapped, Nowhere, Page, stands_in, upd, World}
-use Rattle.vm_core.specs.{declared.event.Mapping.Mapping, FrameActs.MayDirty, History.stored, History.writes_to, Inv.Place, Inv.Place.Held}
+use Rattle.vm_core.specs.{declared.event.Mapping.Mapping, FrameActs.MayDirty, History.stored, History.writes_to}
+use Rattle.vm_core.specs.{Inv.FramePlace, Inv.FramePlace.Held}
 use Rattle.vm_core.specs.declared.event.Event.TheVariants.{BLoad, Claim, Disown, Give, Hand, Load, NLoad, OLoad, Own, Store, Take}
 use Rattle.vm_core.specs.Step.{given_by, MayStore, owned, taken_by}
 use Rattle.vm_core.proofs.{OwnerWords.word-elsewhere, PageFacts.some-is, Upd.upd-other}
@@ -17,14 +18,25 @@ pub record BesideLeaves (a : ℕ) (w w' : World) : Type 0 where
   pub loads : (b p : ℕ) → b ≢ a → w'.loads p b ≡ w.loads p b
   pub held : (b f : ℕ) → b ≢ a → w'.core.held b f ≡ w.core.held b f
   pub words : (b f : ℕ) → b ≢ a → w.core.held b f ≡ true → w'.core.words f ≡ w.core.words f
-  pub owners : (b p : ℕ) (m : Mapping) → b ≢ a → (((w.core.pages p).seats b).exclusive || ((w.core.pages p).seats b).writing) ≡ true → (w.core.pages p).trans ≡ Some m → w'.core.owners m.frame ≡ w.core.owners m.frame
+  pub owners : (b p : ℕ) (m : Mapping) → b ≢ a
+      → (((w.core.pages p).seats b).exclusive || ((w.core.pages p).seats b).writing) ≡ true
+      → (w.core.pages p).trans ≡ Some m → w'.core.owners m.frame ≡ w.core.owners m.frame
   pub owned : (b p : ℕ) → b ≢ a → ((w.core.pages p).seats b).exclusive ≡ true → w'.histories p ≡ w.histories p
   pub last : (p : ℕ) → (w'.histories p).last ≡ (w.histories p).last
   pub claims : (b : ℕ) → b ≢ a → ((w.core.pages w.core.next).seats b).exclusive ≡ true → w'.core.next ≡ w.core.next
 
-pub beside-leaves : (w : World) (a : ℕ) (words : ℕ → List ℕ) (bundles : ℕ → ℕ) (held : ℕ → ℕ → Bool) (next hand : ℕ) (owners : ℕ → ℕ) (hs : ℕ → History) (ls : ℕ → ℕ → List (ℕ × ℕ)) →
-    BesideLeaves a w (record { core = record w.core { words = words; bundles = bundles; held = held; next = next; hand = hand; owners = owners }; histories = hs; loads = ls }) →
-    Leaves a w (record { core = record w.core { words = words; bundles = bundles; held = held; next = next; hand = hand; owners = owners }; histories = hs; loads = ls })
+pub beside-leaves : (w : World) (a : ℕ) (words : ℕ → List ℕ) (bundles : ℕ → ℕ) (held : ℕ → ℕ → Bool) (next hand : ℕ)
+    (owners : ℕ → ℕ) (hs : ℕ → History) (ls : ℕ → ℕ → List (ℕ × ℕ)) →
+    BesideLeaves a w (record {
+      core = record w.core { words = words; bundles = bundles; held = held; next = next; hand = hand; owners = owners };
+      histories = hs;
+      loads = ls;
+    }) →
+    Leaves a w (record {
+      core = record w.core { words = words; bundles = bundles; held = held; next = next; hand = hand; owners = owners };
+      histories = hs;
+      loads = ls;
+    })
 beside-leaves w a words bundles held next hand owners hs ls i =
     let same : (q : ℕ) → PageLeaves w.core.shape.actors a (w.core.pages q) (w.core.pages q) (w.histories q) (w.histories q) =
     λ q. page-same w.core.shape.actors a (w.core.pages q) (w.histories q) in
@@ -49,7 +61,8 @@ beside-leaves w a words bundles held next hand owners hs ls i =
     }
 
 -- the world stays but for this actor's own loads and frames, the bundle words and the hand
-own-leaves : (w : World) (a : ℕ) (bundles : ℕ → ℕ) (held : ℕ → ℕ → Bool) (hand : ℕ) (ls : ℕ → ℕ → List (ℕ × ℕ)) → ((b p : ℕ) → b ≢ a → ls p b ≡ w.loads p b) → ((b f : ℕ) → b ≢ a → held b f ≡ w.core.held b f) →
+own-leaves : (w : World) (a : ℕ) (bundles : ℕ → ℕ) (held : ℕ → ℕ → Bool) (hand : ℕ) (ls : ℕ → ℕ → List (ℕ × ℕ))
+    → ((b p : ℕ) → b ≢ a → ls p b ≡ w.loads p b) → ((b f : ℕ) → b ≢ a → held b f ≡ w.core.held b f) →
     Leaves a w (record { core = record w.core { bundles = bundles; held = held; hand = hand }; histories = w.histories; loads = ls })
 own-leaves w a bundles held hand ls loads frames =
     beside-leaves w a w.core.words bundles held w.core.next hand w.core.owners w.histories ls
@@ -82,7 +95,11 @@ hand-leaves w a inv m = own-leaves w a w.core.bundles w.core.held _ w.loads (λ 
 
 -- ---- owner words
 
-word-leaves : (w : World) (a p word : ℕ) → Inv w → MayDirty (w.core.pages p) a → Leaves a w (record { core = owned w.core p word; histories = w.histories; loads = w.loads })
+word-leaves : (w : World) (a p word : ℕ) → Inv w → MayDirty (w.core.pages p) a → Leaves a w (record {
+  core = owned w.core p word;
+  histories = w.histories;
+  loads = w.loads;
+})
 word-leaves w a p word inv may =
     let m = some-is (w.core.pages p).trans may.resident in
     beside-leaves w a w.core.words w.core.bundles w.core.held w.core.next w.core.hand (owned w.core p word).owners w.histories w.loads
@@ -93,7 +110,9 @@ word-leaves w a p word inv may =
       words = λ b f ne e. refl;
       owners = λ b q n ne call at.
           word-elsewhere w p q word m.0 n inv m.1 at
-          (λ same. ne (one-caller (w.core.pages p) (inv.pages p).locks a b (inl may.owns) (subst (λ k. (((w.core.pages k).seats b).exclusive || ((w.core.pages k).seats b).writing) ≡ true) same call)));
+          (λ same. ne (one-caller (w.core.pages p) (inv.pages p).locks a b (inl may.owns)
+          (subst (λ k. (((w.core.pages k).seats b).exclusive || ((w.core.pages k).seats b).writing) ≡ true) same
+          call)));
       owned = λ b q ne e. refl;
       last = λ q. refl;
       claims = λ b ne e. refl;
@@ -117,24 +136,26 @@ other-row held v inside a b ne = cond-false (eqb b a && inside) v held (and_left
 pub take-leaves : (w : World) (a g expects mask : ℕ) → LeavesOthers w (Take a g expects mask)
 take-leaves w a g expects mask inv m =
     ⊎_elim
-    (λ e. rw e (own-leaves w a _ (taken_by w.core.held a g mask) w.core.hand w.loads (λ b p ne. refl) (λ b f ne. other-row (w.core.held b f) true (in_mask g mask f) a b ne)))
+    (λ e. rw e (own-leaves w a _ (taken_by w.core.held a g mask) w.core.hand w.loads (λ b p ne. refl)
+    (λ b f ne. other-row (w.core.held b f) true (in_mask g mask f) a b ne)))
     (λ e. rw e (nothing-leaves w a))
     (cases_Bool (eqb (w.core.bundles g) expects))
 
 pub give-leaves : (w : World) (a g mask : ℕ) → LeavesOthers w (Give a g mask)
 give-leaves w a g mask inv m =
-    own-leaves w a _ (given_by w.core.held a g mask) w.core.hand w.loads (λ b p ne. refl) (λ b f ne. other-row (w.core.held b f) false (in_mask g mask f) a b ne)
+    own-leaves w a _ (given_by w.core.held a g mask) w.core.hand w.loads (λ b p ne. refl)
+    (λ b f ne. other-row (w.core.held b f) false (in_mask g mask f) a b ne)
 
 -- ---- stores
 
 -- a frame at an actor is that actor's alone, and no page stands in it
-at-one : (x : Place) (a b : ℕ) → at_actor x a ≡ true → at_actor x b ≡ true → b ≡ a
+at-one : (x : FramePlace) (a b : ℕ) → at_actor x a ≡ true → at_actor x b ≡ true → b ≡ a
 at-one Nowhere a b e e' = absurd (false≢true e)
 at-one Free a b e e' = absurd (false≢true e)
 at-one (Held c) a b e e' = eqb-true b c e' ∙ sym (eqb-true a c e)
 at-one (Mapped p) a b e e' = absurd (false≢true e)
 
-not-mapped : (x : Place) (p b : ℕ) → at_page x p ≡ true → at_actor x b ≡ true → ⊥
+not-mapped : (x : FramePlace) (p b : ℕ) → at_page x p ≡ true → at_actor x b ≡ true → ⊥
 not-mapped Nowhere p b e e' = false≢true e
 not-mapped Free p b e e' = false≢true e
 not-mapped (Held c) p b e e' = false≢true e
@@ -162,7 +183,8 @@ stored-other r h a f i x e = cond-false (writes_to r a f) (record h { draft = sl
 pub store-leaves : (w : World) (a f i x : ℕ) → LeavesOthers w (Store a f i x)
 store-leaves w a f i x inv m =
     let row : ℕ → List ℕ = upd w.core.words f (slice_set (w.core.words f) i x) in
-    beside-leaves w a row w.core.bundles w.core.held w.core.next w.core.hand w.core.owners (λ p. stored (w.core.pages p) (w.histories p) a f i x) w.loads
+    beside-leaves w a row w.core.bundles w.core.held w.core.next w.core.hand w.core.owners
+    (λ p. stored (w.core.pages p) (w.histories p) a f i x) w.loads
     (record {
       next = omega arith;
       loads = λ b p ne. refl;
@@ -192,7 +214,8 @@ claim-leaves w a x n inv m =
       owned = λ b p ne e. refl;
       last = λ p. refl;
       claims = λ b ne e. ⊎_elim
-          (λ q. let there : ((w.core.pages x).seats b).exclusive ≡ true = subst (λ y. ((w.core.pages y).seats b).exclusive ≡ true) (eqb-true _ _ q) e in
+          (λ q. let there : ((w.core.pages x).seats b).exclusive ≡ true =
+          subst (λ y. ((w.core.pages y).seats b).exclusive ≡ true) (eqb-true _ _ q) e in
           absurd (ne (one-holder (inv.pages x).locks a b (m.holds x (omega arith) (omega arith)).owns there)))
           (λ q. cond-false (eqb w.core.next x) (x + n) w.core.next q)
           (cases_Bool (eqb w.core.next x));

@@ -3,33 +3,61 @@ use Rattle.std.proofs.Common.{⊎_elim, ◌≡◌, ◌≢◌, Bool, inl, List, r
 use Rattle.std.proofs.lemmas.Bool.{cases_Bool}
 use Rattle.vm_core.specs.Prelude.{finds, History, on_page, Page, upd, World}
 use Rattle.vm_core.specs.declared.event.Event.{Event}
-use Rattle.vm_core.specs.declared.event.Event.TheVariants.{BLoad, Claim, Clean, Clear, Dirty, Disown, Downgrade, Give, Hand, Install, Load, LockS}
-use Rattle.vm_core.specs.declared.event.Event.TheVariants.{LockW, LockX, Look, Mark, NLoad, OLoad, Own, Raise, Read, Release, ReleaseE, RFail, Store}
-use Rattle.vm_core.specs.declared.event.Event.TheVariants.{PBLoad, PGive, PTake, Take, TLoad, UnlockS, Unmark, Upgrade, WFail, Write}
+use Rattle.vm_core.specs.declared.event.Event.TheVariants.{BLoad, Claim, Clean, Clear, Dirty, Disown, Downgrade, Give}
+use Rattle.vm_core.specs.declared.event.Event.TheVariants.{Hand, Install, Load, LockS, LockW, LockX, Look, Mark}
+use Rattle.vm_core.specs.declared.event.Event.TheVariants.{NLoad, OLoad, Own, Raise, Read, Release, ReleaseE, RFail}
+use Rattle.vm_core.specs.declared.event.Event.TheVariants.{Store, PBLoad, PGive, PTake, Take, TLoad, UnlockS, Unmark}
+use Rattle.vm_core.specs.declared.event.Event.TheVariants.{Upgrade, WFail, Write}
 use Rattle.vm_core.proofs.Upd.{upd-other, upd-self}
 use Rattle.vm_laws_others.specs.Leaves.{Leaves, LeavesOthers}
 use Rattle.vm_laws_others.proofs.Device.{cleaned-leaves, failed-leaves, mapped-leaves, raised-leaves, written-leaves}
-use Rattle.vm_laws_others.proofs.Frames.{bundle_load-leaves, claim-leaves, disown-leaves, give-leaves, hand-leaves, load-leaves, next_load-leaves}
-use Rattle.vm_laws_others.proofs.Frames.{own_page-leaves, owner_load-leaves, store-leaves, take-leaves}
+use Rattle.vm_laws_others.proofs.Frames.{bundle_load-leaves, claim-leaves, disown-leaves, give-leaves, hand-leaves}
+use Rattle.vm_laws_others.proofs.Frames.{load-leaves, next_load-leaves, own_page-leaves, owner_load-leaves}
+use Rattle.vm_laws_others.proofs.Frames.{store-leaves, take-leaves}
 use Rattle.vm_core.specs.Step.{number_left}
 use Rattle.vm_laws_others.proofs.Spares.{give_numbers-leaves, leaves-beside, spare_load-leaves, take_numbers-leaves}
 use Rattle.vm_laws_others.proofs.Page.{loads-other, page-leaves, page-same, PageLeaves}
-use Rattle.vm_laws_others.proofs.State.{locked-leaves, marked-leaves, release-leaves, seat-leaves, shared-leaves, unlocked-leaves, unmarked-leaves}
-use Rattle.vm_laws_others.proofs.State.{upgraded-leaves, write_locked-leaves}
+use Rattle.vm_laws_others.proofs.State.{locked-leaves, marked-leaves, release-leaves, seat-leaves, shared-leaves}
+use Rattle.vm_laws_others.proofs.State.{unlocked-leaves, unmarked-leaves, upgraded-leaves, write_locked-leaves}
 
 -- an event on one page alone, by what it leaves of the page and its history
-page-acts : (w : World) (a p : ℕ) (r : Page) (h : History) (ls : ℕ → ℕ → List (ℕ × ℕ)) → PageLeaves w.core.shape.actors a (w.core.pages p) r (w.histories p) h → ((b q : ℕ) → b ≢ a → ls q b ≡ w.loads q b) → Leaves a w (record { core = on_page w.core p r; histories = upd w.histories p h; loads = ls })
+page-acts : (w : World) (a p : ℕ) (r : Page) (h : History) (ls : ℕ → ℕ → List (ℕ × ℕ))
+    → PageLeaves w.core.shape.actors a (w.core.pages p) r (w.histories p) h
+    → ((b q : ℕ) → b ≢ a → ls q b ≡ w.loads q b) → Leaves a w (record {
+      core = on_page w.core p r;
+      histories = upd w.histories p h;
+      loads = ls;
+    })
 page-acts w a p r h ls here loads = page-leaves w a p r h ls w.core.held here loads (λ b ne. refl)
 
 -- the same, where the history stays
-page-alone : (w : World) (a p : ℕ) (r : Page) (ls : ℕ → ℕ → List (ℕ × ℕ)) → PageLeaves w.core.shape.actors a (w.core.pages p) r (w.histories p) (w.histories p) → ((b q : ℕ) → b ≢ a → ls q b ≡ w.loads q b) → Leaves a w (record { core = on_page w.core p r; histories = w.histories; loads = ls })
+page-alone : (w : World) (a p : ℕ) (r : Page) (ls : ℕ → ℕ → List (ℕ × ℕ))
+    → PageLeaves w.core.shape.actors a (w.core.pages p) r (w.histories p) (w.histories p)
+    → ((b q : ℕ) → b ≢ a → ls q b ≡ w.loads q b) → Leaves a w (record {
+      core = on_page w.core p r;
+      histories = w.histories;
+      loads = ls;
+    })
 page-alone w a p r ls here loads =
-    subst (λ hs. Leaves a w (record { core = on_page w.core p r; histories = hs; loads = ls })) (upd-self w.histories p) (page-acts w a p r (w.histories p) ls here loads)
+    subst (λ hs. Leaves a w (record {
+      core = on_page w.core p r;
+      histories = hs;
+      loads = ls;
+    })) (upd-self w.histories p) (page-acts w a p r (w.histories p) ls here loads)
 
 -- the same, where the actor's frames change in place of its loads
-page-frames : (w : World) (a p : ℕ) (r : Page) (row : ℕ → Bool) → PageLeaves w.core.shape.actors a (w.core.pages p) r (w.histories p) (w.histories p) → Leaves a w (record { core = record w.core { pages = upd w.core.pages p r; held = upd w.core.held a row }; histories = w.histories; loads = w.loads })
+page-frames : (w : World) (a p : ℕ) (r : Page) (row : ℕ → Bool) → PageLeaves w.core.shape.actors a (w.core.pages p) r
+    (w.histories p) (w.histories p) → Leaves a w (record {
+      core = record w.core { pages = upd w.core.pages p r; held = upd w.core.held a row };
+      histories = w.histories;
+      loads = w.loads;
+    })
 page-frames w a p r row here =
-    subst (λ hs. Leaves a w (record { core = record w.core { pages = upd w.core.pages p r; held = upd w.core.held a row }; histories = hs; loads = w.loads })) (upd-self w.histories p)
+    subst (λ hs. Leaves a w (record {
+      core = record w.core { pages = upd w.core.pages p r; held = upd w.core.held a row };
+      histories = hs;
+      loads = w.loads;
+    })) (upd-self w.histories p)
     (page-leaves w a p r (w.histories p) w.loads (upd w.core.held a row) here (λ b q ne. refl) (upd-other w.core.held a row))
 
 -- ---- the events on a state word
@@ -40,7 +68,9 @@ look-leaves w a p i m = page-alone w a p _ _ (seat-leaves _ a (w.core.pages p) (
 lock_exclusive-leaves : (w : World) (a p expects : ℕ) → LeavesOthers w (LockX a p expects)
 lock_exclusive-leaves w a p expects i m =
     ⊎_elim
-    (λ e. rw e (page-acts w a p _ _ _ (locked-leaves _ a expects (w.core.pages p) (w.histories p) (i.pages p).locks m.1 e) (loads-other w.loads p a _)))
+    (λ e. rw e (page-acts w a p _ _ _
+    (locked-leaves _ a expects (w.core.pages p) (w.histories p) (i.pages p).locks m.1 e)
+    (loads-other w.loads p a _)))
     (λ e. rw e (page-acts w a p _ _ _ (page-same _ a (w.core.pages p) (w.histories p)) (loads-other w.loads p a _)))
     (cases_Bool (finds (w.core.pages p) expects))
 
@@ -52,7 +82,9 @@ lock_shared-leaves w a p expects i m =
     (cases_Bool (finds (w.core.pages p) expects))
 
 unlock_shared-leaves : (w : World) (a p : ℕ) → LeavesOthers w (UnlockS a p)
-unlock_shared-leaves w a p i m = page-alone w a p _ _ (unlocked-leaves _ a (w.core.pages p) (w.histories p) m.0.actor (i.pages p).locks m.1) (λ b q ne. refl)
+unlock_shared-leaves w a p i m =
+    page-alone w a p _ _ (unlocked-leaves _ a (w.core.pages p) (w.histories p) m.0.actor (i.pages p).locks m.1)
+    (λ b q ne. refl)
 
 mark-leaves : (w : World) (a p expects : ℕ) → LeavesOthers w (Mark a p expects)
 mark-leaves w a p expects i m =
@@ -78,18 +110,25 @@ lock_write_back-leaves w a p expects i m =
 upgrade-leaves : (w : World) (a p expects : ℕ) → LeavesOthers w (Upgrade a p expects)
 upgrade-leaves w a p expects i m =
     ⊎_elim
-    (λ e. rw e (page-acts w a p _ _ _ (upgraded-leaves _ a expects (w.core.pages p) (w.histories p) (i.pages p).locks m.1 e) (loads-other w.loads p a _)))
+    (λ e. rw e (page-acts w a p _ _ _ (upgraded-leaves _ a expects (w.core.pages p) (w.histories p) (i.pages p).locks
+    m.1 e) (loads-other w.loads p a _)))
     (λ e. rw e (page-acts w a p _ _ _ (page-same _ a (w.core.pages p) (w.histories p)) (loads-other w.loads p a _)))
     (cases_Bool (finds (w.core.pages p) expects))
 
 release_full-leaves : (w : World) (a p : ℕ) → LeavesOthers w (Release a p)
-release_full-leaves w a p i m = leaves-beside a w _ w.core.spares (number_left w.core a p) (page-acts w a p _ _ _ (release-leaves _ a (w.core.pages p) (w.histories p) _ _ (i.pages p).locks m.1.owns) (λ b q ne. refl))
+release_full-leaves w a p i m = leaves-beside a w _ w.core.spares (number_left w.core a p)
+    (page-acts w a p _ _ _ (release-leaves _ a (w.core.pages p) (w.histories p) _ _ (i.pages p).locks m.1.owns)
+    (λ b q ne. refl))
 
 release_evicted-leaves : (w : World) (a p : ℕ) → LeavesOthers w (ReleaseE a p)
-release_evicted-leaves w a p i m = page-acts w a p _ _ _ (release-leaves _ a (w.core.pages p) (w.histories p) _ _ (i.pages p).locks m.1.owns) (λ b q ne. refl)
+release_evicted-leaves w a p i m =
+    page-acts w a p _ _ _ (release-leaves _ a (w.core.pages p) (w.histories p) _ _ (i.pages p).locks m.1.owns)
+    (λ b q ne. refl)
 
 downgrade-leaves : (w : World) (a p : ℕ) → LeavesOthers w (Downgrade a p)
-downgrade-leaves w a p i m = leaves-beside a w _ w.core.spares (number_left w.core a p) (page-acts w a p _ _ _ (release-leaves _ a (w.core.pages p) (w.histories p) _ _ (i.pages p).locks m.1.owns) (λ b q ne. refl))
+downgrade-leaves w a p i m = leaves-beside a w _ w.core.spares (number_left w.core a p)
+    (page-acts w a p _ _ _ (release-leaves _ a (w.core.pages p) (w.histories p) _ _ (i.pages p).locks m.1.owns)
+    (λ b q ne. refl))
 
 -- ---- the events on a translation
 
@@ -103,10 +142,14 @@ clear-leaves : (w : World) (a p : ℕ) → LeavesOthers w (Clear a p)
 clear-leaves w a p i m = page-frames w a p _ _ (mapped-leaves _ a (w.core.pages p) (w.histories p) _ (i.pages p).locks m.1.1.owns)
 
 dirty-leaves : (w : World) (a p : ℕ) → LeavesOthers w (Dirty a p)
-dirty-leaves w a p i m = page-alone w a p _ _ (mapped-leaves _ a (w.core.pages p) (w.histories p) _ (i.pages p).locks m.1.owns) (λ b q ne. refl)
+dirty-leaves w a p i m =
+    page-alone w a p _ _ (mapped-leaves _ a (w.core.pages p) (w.histories p) _ (i.pages p).locks m.1.owns)
+    (λ b q ne. refl)
 
 clean-leaves : (w : World) (a p : ℕ) → LeavesOthers w (Clean a p)
-clean-leaves w a p i m = page-alone w a p _ _ (cleaned-leaves _ a (w.core.pages p) (w.histories p) (i.pages p).locks m.1.writes) (λ b q ne. refl)
+clean-leaves w a p i m =
+    page-alone w a p _ _ (cleaned-leaves _ a (w.core.pages p) (w.histories p) (i.pages p).locks m.1.writes)
+    (λ b q ne. refl)
 
 -- ---- the events of a device
 
@@ -114,13 +157,19 @@ read-leaves : (w : World) (a p : ℕ) → LeavesOthers w (Read a p)
 read-leaves w a p i m = page-alone w a p _ _ (page-same _ a (w.core.pages p) (w.histories p)) (λ b q ne. refl)
 
 read_failure-leaves : (w : World) (a p : ℕ) → LeavesOthers w (RFail a p)
-read_failure-leaves w a p i m = page-alone w a p _ _ (failed-leaves _ a (w.core.pages p) (w.histories p) (i.pages p).locks (inl m.1)) (λ b q ne. refl)
+read_failure-leaves w a p i m =
+    page-alone w a p _ _ (failed-leaves _ a (w.core.pages p) (w.histories p) (i.pages p).locks (inl m.1))
+    (λ b q ne. refl)
 
 write-leaves : (w : World) (a p : ℕ) → LeavesOthers w (Write a p)
-write-leaves w a p i m = page-alone w a p _ _ (written-leaves w.core.words _ a (w.core.pages p) (w.histories p) (i.pages p).locks m.1.call) (λ b q ne. refl)
+write-leaves w a p i m =
+    page-alone w a p _ _ (written-leaves w.core.words _ a (w.core.pages p) (w.histories p) (i.pages p).locks m.1.call)
+    (λ b q ne. refl)
 
 write_failure-leaves : (w : World) (a p : ℕ) → LeavesOthers w (WFail a p)
-write_failure-leaves w a p i m = page-alone w a p _ _ (failed-leaves _ a (w.core.pages p) (w.histories p) (i.pages p).locks m.1.call) (λ b q ne. refl)
+write_failure-leaves w a p i m =
+    page-alone w a p _ _ (failed-leaves _ a (w.core.pages p) (w.histories p) (i.pages p).locks m.1.call)
+    (λ b q ne. refl)
 
 raise-leaves : (w : World) (a p : ℕ) → LeavesOthers w (Raise a p)
 raise-leaves w a p i m = page-alone w a p _ _ (raised-leaves _ a (w.core.pages p) (w.histories p) (i.pages p).locks m.1) (λ b q ne. refl)

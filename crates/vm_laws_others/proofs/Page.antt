@@ -33,7 +33,14 @@ page-same actors a r h =
     }
 
 -- an event on one page, with its history, and on the loads and frames of its own actor
-pub page-leaves : (w : World) (a p : ℕ) (r : Page) (h : History) (ls : ℕ → ℕ → List (ℕ × ℕ)) (held : ℕ → ℕ → Bool) → PageLeaves w.core.shape.actors a (w.core.pages p) r (w.histories p) h → ((b q : ℕ) → b ≢ a → ls q b ≡ w.loads q b) → ((b : ℕ) → b ≢ a → held b ≡ w.core.held b) → Leaves a w (record { core = record w.core { pages = upd w.core.pages p r; held = held }; histories = upd w.histories p h; loads = ls })
+pub page-leaves : (w : World) (a p : ℕ) (r : Page) (h : History) (ls : ℕ → ℕ → List (ℕ × ℕ)) (held : ℕ → ℕ → Bool)
+    → PageLeaves w.core.shape.actors a (w.core.pages p) r (w.histories p) h
+    → ((b q : ℕ) → b ≢ a → ls q b ≡ w.loads q b) → ((b : ℕ) → b ≢ a → held b ≡ w.core.held b)
+    → Leaves a w (record {
+      core = record w.core { pages = upd w.core.pages p r; held = held };
+      histories = upd w.histories p h;
+      loads = ls;
+    })
 page-leaves w a p r h ls held here loads frames =
     let all : (q : ℕ) → PageLeaves w.core.shape.actors a (w.core.pages q) (upd w.core.pages p r q) (w.histories q) (upd w.histories p h q) =
     each-upd2 (λ q r' h'. PageLeaves w.core.shape.actors a (w.core.pages q) r' (w.histories q) h') w.core.pages w.histories p r h here

@@ -1,5 +1,5 @@
 -- What the other actors know and hold does not speak of the free numbers.
-use Rattle.std.specs.Prelude.{◌≡◌, ◌⊎◌, bit_or, bit_xor, Bool, ℕ}
+use Rattle.std.specs.Prelude.{bit_or, bit_xor, Bool, ℕ}
 use Rattle.std.proofs.Common.{⊎_elim, eqb}
 use Rattle.std.proofs.lemmas.Bool.{cases_Bool}
 use Rattle.vm_core.specs.Prelude.{upd, World}
@@ -8,7 +8,8 @@ use Rattle.vm_core.specs.declared.event.Event.TheVariants.{PBLoad, PGive, PTake}
 use Rattle.vm_laws_others.specs.Leaves.{Leaves, LeavesActor, LeavesOthers}
 use Rattle.vm_laws_others.proofs.Frames.{nothing-leaves}
 
-actor-beside : (b : ℕ) (w w' : World) (spares : ℕ → ℕ) (numbers : ℕ → ℕ → Bool) → LeavesActor b w w' → LeavesActor b w (record w' { core = record w'.core { spares = spares; numbers = numbers } })
+actor-beside : (b : ℕ) (w w' : World) (spares : ℕ → ℕ) (numbers : ℕ → ℕ → Bool) → LeavesActor b w w'
+    → LeavesActor b w (record w' { core = record w'.core { spares = spares; numbers = numbers } })
 actor-beside b w w' spares numbers l =
     record {
       seats = l.seats;
@@ -22,7 +23,8 @@ actor-beside b w w' spares numbers l =
       next = l.next;
     }
 
-pub leaves-beside : (a : ℕ) (w w' : World) (spares : ℕ → ℕ) (numbers : ℕ → ℕ → Bool) → Leaves a w w' → Leaves a w (record w' { core = record w'.core { spares = spares; numbers = numbers } })
+pub leaves-beside : (a : ℕ) (w w' : World) (spares : ℕ → ℕ) (numbers : ℕ → ℕ → Bool) → Leaves a w w'
+    → Leaves a w (record w' { core = record w'.core { spares = spares; numbers = numbers } })
 leaves-beside a w w' spares numbers l =
     record {
       shape = l.shape;
@@ -45,4 +47,5 @@ take_numbers-leaves w a g expects mask i m =
     (cases_Bool (eqb (w.core.spares g) expects))
 
 pub give_numbers-leaves : (w : World) (a g mask : ℕ) → LeavesOthers w (PGive a g mask)
-give_numbers-leaves w a g mask i m = leaves-beside a w w (upd w.core.spares g (bit_or (w.core.spares g) mask)) (given_by w.core.numbers a g mask) (nothing-leaves w a)
+give_numbers-leaves w a g mask i m = leaves-beside a w w (upd w.core.spares g (bit_or (w.core.spares g) mask))
+    (given_by w.core.numbers a g mask) (nothing-leaves w a)

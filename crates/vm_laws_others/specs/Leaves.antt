@@ -2,9 +2,11 @@
 use Rattle.std.specs.Prelude.{◌<◌, ◌||◌, ◌≡◌, ◌≢◌, ◌≤◌, Bool, false, None, Option, Some, true, ℕ}
 use Rattle.vm_core.specs.Prelude.{EVICTED, frame_of, Inv, Legal, LOCKED, MAX_COUNT, Page, World, world_after}
 use Rattle.vm_core.specs.{declared.event.Event.Event, declared.event.Mapping.Mapping, declared.event.Seat.Seat}
-use Rattle.vm_core.specs.declared.event.Event.TheVariants.{BLoad, Claim, Clean, Clear, Dirty, Disown, Downgrade, Give, Hand, Install, Load, LockS}
-use Rattle.vm_core.specs.declared.event.Event.TheVariants.{LockW, LockX, Look, Mark, NLoad, OLoad, Own, Raise, Read, Release, ReleaseE, RFail, Store}
-use Rattle.vm_core.specs.declared.event.Event.TheVariants.{PBLoad, PGive, PTake, Take, TLoad, UnlockS, Unmark, Upgrade, WFail, Write}
+use Rattle.vm_core.specs.declared.event.Event.TheVariants.{BLoad, Claim, Clean, Clear, Dirty, Disown, Downgrade, Give}
+use Rattle.vm_core.specs.declared.event.Event.TheVariants.{Hand, Install, Load, LockS, LockW, LockX, Look, Mark}
+use Rattle.vm_core.specs.declared.event.Event.TheVariants.{NLoad, OLoad, Own, Raise, Read, Release, ReleaseE, RFail}
+use Rattle.vm_core.specs.declared.event.Event.TheVariants.{Store, PBLoad, PGive, PTake, Take, TLoad, UnlockS, Unmark}
+use Rattle.vm_core.specs.declared.event.Event.TheVariants.{Upgrade, WFail, Write}
 
 -- the actor of the event
 abbrev pub actor_of : Event → ℕ
@@ -49,7 +51,8 @@ abbrev pub stands_dirty : Option Mapping → Bool
 stands_dirty None = false
 stands_dirty (Some m) = m.dirty
 
--- a page moves on: its version never falls; a page that can be read at the same version could be read before, in the same frame, and is dirty
+-- a page moves on: its version never falls; a page that can be read at the same version could be read before, in the
+-- same frame, and is dirty
 -- only if it was; and a page that is evicted at the same version was evicted before
 pub record PageMoves (r r' : Page) : Type 0 where
   pub version : r.version ≤ r'.version
@@ -68,7 +71,8 @@ pub record CountsMove (r r' : Page) : Type 0 where
 
 -- a page is left as a seat that has it locked knows it: all of it where the seat may call the device, its frame where it has a share
 pub record Untouched (seat : Seat) (r r' : Page) : Type 0 where
-  pub calls : (seat.exclusive || seat.writing) ≡ true → (r'.trans ≡ r.trans) × (r'.fault ≡ r.fault) × (r'.block ≡ r.block) × (r'.count ≡ r.count)
+  pub calls : (seat.exclusive || seat.writing) ≡ true → (r'.trans ≡ r.trans) × (r'.fault ≡ r.fault)
+      × (r'.block ≡ r.block) × (r'.count ≡ r.count)
   pub shares : 1 ≤ seat.shares → frame_of r'.trans ≡ frame_of r.trans
 
 -- what the actor b has, and what it knows of what it has
@@ -81,7 +85,8 @@ pub record LeavesActor (b : ℕ) (w w' : World) : Type 0 where
   pub words : (f : ℕ) → w.core.held b f ≡ true → w'.core.words f ≡ w.core.words f
   -- the owner word of the frame of a page whose device it may call
   pub owners :
-      (p : ℕ) (m : Mapping) → (((w.core.pages p).seats b).exclusive || ((w.core.pages p).seats b).writing) ≡ true → (w.core.pages p).trans ≡ Some m
+      (p : ℕ) (m : Mapping) → (((w.core.pages p).seats b).exclusive || ((w.core.pages p).seats b).writing) ≡ true
+      → (w.core.pages p).trans ≡ Some m
       → w'.core.owners m.frame ≡ w.core.owners m.frame
   -- the draft and the versions of a page that it holds exclusively, and the last version of one that it has a share of
   pub owned : (p : ℕ) → ((w.core.pages p).seats b).exclusive ≡ true → w'.histories p ≡ w.histories p

@@ -6,7 +6,9 @@ use Rattle.vm_core.proofs.Locks.{locked-from_owner, locks-downgrade, locks-empty
 use Rattle.vm_core.proofs.PageFacts.{none-some, reads-keep}
 use Rattle.vm_core.proofs.PageMoves.{contents-release, read-release, sizes-release, stands-release}
 
-pub released-keeps : {actors : ℕ} → {size : ℕ} → {tells : Bool} → {words : ℕ → List ℕ} → {r : Page} → {h : History} → {l : ℕ → List (ℕ × ℕ)} → (a : ℕ) → PageInv actors size tells words r h l → MayReleaseLock r a → PageInv actors size tells words (released r a) (appended h) l
+pub released-keeps : {actors : ℕ} → {size : ℕ} → {tells : Bool} → {words : ℕ → List ℕ} → {r : Page} → {h : History}
+    → {l : ℕ → List (ℕ × ℕ)} → (a : ℕ) → PageInv actors size tells words r h l → MayReleaseLock r a
+    → PageInv actors size tells words (released r a) (appended h) l
 released-keeps {actors} {size} {tells} {words} {r} {h} {l} a i m =
     let locked : r.state ≡ LOCKED = locked-from_owner i.locks a m.owns in
     record {
@@ -18,7 +20,9 @@ released-keeps {actors} {size} {tells} {words} {r} {h} {l} a i m =
       reads = reads-keep words UNLOCKED (r.version + 1) r.trans r.seats l a _ refl (λ b. read-release UNLOCKED (i.reads b));
     }
 
-pub downgraded-keeps : {actors : ℕ} → {size : ℕ} → {tells : Bool} → {words : ℕ → List ℕ} → {r : Page} → {h : History} → {l : ℕ → List (ℕ × ℕ)} → (a : ℕ) → a < actors → PageInv actors size tells words r h l → MayReleaseLock r a → PageInv actors size tells words (downgraded r a) (appended h) l
+pub downgraded-keeps : {actors : ℕ} → {size : ℕ} → {tells : Bool} → {words : ℕ → List ℕ} → {r : Page} → {h : History}
+    → {l : ℕ → List (ℕ × ℕ)} → (a : ℕ) → a < actors → PageInv actors size tells words r h l → MayReleaseLock r a
+    → PageInv actors size tells words (downgraded r a) (appended h) l
 downgraded-keeps {actors} {size} {tells} {words} {r} {h} {l} a lt i m =
     let locked : r.state ≡ LOCKED = locked-from_owner i.locks a m.owns in
     record {
@@ -30,7 +34,9 @@ downgraded-keeps {actors} {size} {tells} {words} {r} {h} {l} a lt i m =
       reads = reads-keep words 1 (r.version + 1) r.trans r.seats l a _ refl (λ b. read-release 1 (i.reads b));
     }
 
-pub emptied-keeps : {actors : ℕ} → {size : ℕ} → {tells : Bool} → {words : ℕ → List ℕ} → {r : Page} → {h : History} → {l : ℕ → List (ℕ × ℕ)} → (a : ℕ) → PageInv actors size tells words r h l → MayEmpty r a → PageInv actors size tells words (emptied r a) (appended h) l
+pub emptied-keeps : {actors : ℕ} → {size : ℕ} → {tells : Bool} → {words : ℕ → List ℕ} → {r : Page} → {h : History}
+    → {l : ℕ → List (ℕ × ℕ)} → (a : ℕ) → PageInv actors size tells words r h l → MayEmpty r a
+    → PageInv actors size tells words (emptied r a) (appended h) l
 emptied-keeps {actors} {size} {tells} {words} {r} {h} {l} a i m =
     let locked : r.state ≡ LOCKED = locked-from_owner i.locks a m.owns in
     record {
@@ -38,7 +44,8 @@ emptied-keeps {actors} {size} {tells} {words} {r} {h} {l} a i m =
       stands = record { last = ap (λ v. v + 1) i.stands.last; resident = λ _ ne. absurd (ne refl); evicted = λ _. m.empty };
       sizes = sizes-release locked (omega arith) i.sizes;
       contents = λ t. let c : WordsInv size words r.state r.trans r.block h = i.contents t in
-          let same : (h.draft ≡ h.last.words) × (r.block ≡ h.last.words) = c.unwritten locked (λ m' e. absurd (none-some m' (sym m.empty ∙ e))) in
+          let same : (h.draft ≡ h.last.words) × (r.block ≡ h.last.words) =
+          c.unwritten locked (λ m' e. absurd (none-some m' (sym m.empty ∙ e))) in
           record {
             clean = c.clean;
             logical = λ _. c.draft locked;

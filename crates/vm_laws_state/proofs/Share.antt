@@ -2,12 +2,15 @@
 use Rattle.std.proofs.Common.{[], ◌<◌, ◌∙◌, ◌≡◌, ◌≢◌, ap, arith, Bool, List, refl, sym, true, ℕ}
 use Rattle.std.proofs.lemmas.Bool.{true≢false}
 use Rattle.std.proofs.lemmas.Bool.Decides.{nat_tests}
-use Rattle.vm_core.specs.Prelude.{EVICTED, finds, History, LOCKED, MARKED, MayShare, Page, PageInv, shared, state_of, upd, version_of, write_locked}
+use Rattle.vm_core.specs.Prelude.{EVICTED, finds, History, LOCKED, MARKED, MayShare, Page, PageInv, shared, state_of}
+use Rattle.vm_core.specs.Prelude.{upd, version_of, write_locked}
 use Rattle.vm_core.proofs.{Locks.locks-share, Locks.locks-write_lock, Upd.upd-same}
 use Rattle.vm_core.proofs.PageFacts.{faults-seat, found, no-read, reads-seat}
 use Rattle.vm_core.proofs.PageMoves.{contents-open, read-open, sizes-open, stands-open}
 
-pub shared-keeps : {actors : ℕ} → {size : ℕ} → {tells : Bool} → {words : ℕ → List ℕ} → {r : Page} → {h : History} → {l : ℕ → List (ℕ × ℕ)} → (a expects : ℕ) → a < actors → PageInv actors size tells words r h l → MayShare expects → finds r expects ≡ true → PageInv actors size tells words (shared r a) h (upd l a [])
+pub shared-keeps : {actors : ℕ} → {size : ℕ} → {tells : Bool} → {words : ℕ → List ℕ} → {r : Page} → {h : History}
+    → {l : ℕ → List (ℕ × ℕ)} → (a expects : ℕ) → a < actors → PageInv actors size tells words r h l → MayShare expects
+    → finds r expects ≡ true → PageInv actors size tells words (shared r a) h (upd l a [])
 shared-keeps {actors} {size} {tells} {words} {r} {h} {l} a expects lt i m e =
     let f : (r.state ≡ state_of expects) × (r.version ≡ version_of expects) = found r expects e in
     let sl : r.state ≢ LOCKED = grind (arith, m, f) in
@@ -25,7 +28,10 @@ shared-keeps {actors} {size} {tells} {words} {r} {h} {l} a expects lt i m e =
           (λ b. read-open sl se te (i.reads b));
     }
 
-pub write_locked-keeps : {actors : ℕ} → {size : ℕ} → {tells : Bool} → {words : ℕ → List ℕ} → {r : Page} → {h : History} → {l : ℕ → List (ℕ × ℕ)} → (a expects : ℕ) → a < actors → PageInv actors size tells words r h l → state_of expects ≡ MARKED → finds r expects ≡ true → PageInv actors size tells words (write_locked r a) h (upd l a [])
+pub write_locked-keeps : {actors : ℕ} → {size : ℕ} → {tells : Bool} → {words : ℕ → List ℕ} → {r : Page}
+    → {h : History} → {l : ℕ → List (ℕ × ℕ)} → (a expects : ℕ) → a < actors → PageInv actors size tells words r h l
+    → state_of expects ≡ MARKED → finds r expects ≡ true → PageInv actors size tells words (write_locked r a) h
+    (upd l a [])
 write_locked-keeps {actors} {size} {tells} {words} {r} {h} {l} a expects lt i m e =
     let u : r.state ≡ MARKED = (found r expects e).0 ∙ m in
     let sl : r.state ≢ LOCKED = omega arith in

@@ -2,19 +2,26 @@
 use Rattle.std.proofs.Common.{⊎_elim, ◌<◌, ◌∙◌, ◌≡◌, ◌≢◌, ap, arith, eqb, None, Option, Some, subst, sym, true, ℕ}
 use Rattle.std.proofs.lemmas.Bool.{cases_Bool, cond-false, cond-true, eqb-true}
 use Rattle.std.proofs.lemmas.Bool.Decides.{nat_tests}
-use Rattle.vm_core.specs.Prelude.{EVICTED, Inv, is_readable, left_open, LoadsAre, LOCKED, ReadsPage, state_of, Validates, version_of, WordsInv, World}
+use Rattle.vm_core.specs.Prelude.{EVICTED, Inv, is_readable, left_open, LoadsAre, LOCKED, ReadsPage, state_of}
+use Rattle.vm_core.specs.Prelude.{Validates, version_of, WordsInv, World}
 use Rattle.vm_core.specs.{declared.event.Mapping.Mapping, declared.event.Open.Open, OneVersion.IsOneVersion, OneVersion.LockReadsOne}
 use Rattle.vm_core.specs.declared.event.Event.TheVariants.{LockS, LockW, LockX, Look, Upgrade}
 use Rattle.vm_core.specs.declared.event.ReadIs.TheVariants.{Closed, Moved, Same}
 use Rattle.vm_core.proofs.PageFacts.{found, some-is, some-same}
 
 -- an open read at the version of a page that is neither locked nor evicted
-one-version : (w : World) (a p : ℕ) (o : Open) → w.core.tells ≡ true → Inv w → (w.core.pages p).state ≢ LOCKED → (w.core.pages p).state ≢ EVICTED → ((w.core.pages p).seats a).reading ≡ Some o → o.version ≡ (w.core.pages p).version → IsOneVersion w a p o
+one-version : (w : World) (a p : ℕ) (o : Open) → w.core.tells ≡ true → Inv w → (w.core.pages p).state ≢ LOCKED
+    → (w.core.pages p).state ≢ EVICTED → ((w.core.pages p).seats a).reading ≡ Some o
+    → o.version ≡ (w.core.pages p).version → IsOneVersion w a p o
 one-version w a p o t i ne ne' e v =
-    let c : WordsInv w.core.size w.core.words (w.core.pages p).state (w.core.pages p).trans (w.core.pages p).block (w.histories p) = (i.pages p).contents t in
+    let c : WordsInv w.core.size w.core.words (w.core.pages p).state (w.core.pages p).trans (w.core.pages p).block
+    (w.histories p) = (i.pages p).contents t in
     let s : (m : Mapping) × ((w.core.pages p).trans ≡ Some m) = some-is _ ((i.pages p).stands.resident ne ne') in
     let rp : ReadsPage w.core.words (w.core.pages p).trans o (w.loads p a) = ((i.pages p).reads a).current ne ne' o e v in
-    record { version = (i.pages p).stands.last ∙ sym v; words = subst (λ x. LoadsAre x (w.loads p a)) (c.logical ne s.0 s.1) (rp.loaded s.0 s.1) }
+    record {
+      version = (i.pages p).stands.last ∙ sym v;
+      words = subst (λ x. LoadsAre x (w.loads p a)) (c.logical ne s.0 s.1) (rp.loaded s.0 s.1);
+    }
 
 -- a look that leaves an open read found its version
 same-version : (v : ℕ) (q : Option Open) (o : Open) → q ≡ Some o → left_open q v ≡ Same → o.version ≡ v
@@ -35,8 +42,10 @@ look_validates w a p tells i m o e s =
 -- a taken lock of a page that was not locked: an evicted page has no open read at its version
 lock-validates : (w : World) (a p expects : ℕ) → w.core.tells ≡ true → Inv w → state_of expects ≢ LOCKED → LockReadsOne w a p expects
 lock-validates w a p expects tells i ne o e s v =
-    let f : ((w.core.pages p).state ≡ state_of expects) × ((w.core.pages p).version ≡ version_of expects) = found (w.core.pages p) expects s in
-    let ne' : (w.core.pages p).state ≢ EVICTED = λ q. let lt : o.version < (w.core.pages p).version = ((i.pages p).reads a).evicted q o e in omega arith in
+    let f : ((w.core.pages p).state ≡ state_of expects) × ((w.core.pages p).version ≡ version_of expects) =
+    found (w.core.pages p) expects s in
+    let ne' : (w.core.pages p).state ≢ EVICTED = λ q. let lt : o.version < (w.core.pages p).version =
+    ((i.pages p).reads a).evicted q o e in omega arith in
     one-version w a p o tells i (λ q. ne (sym f.0 ∙ q)) ne' e (v ∙ sym f.1)
 
 pub lock_exclusive_validates : (w : World) (a p expects : ℕ) → Validates w (LockX a p expects)

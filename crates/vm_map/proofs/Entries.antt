@@ -20,9 +20,11 @@ remove_is [] k = refl
 remove_is (e ∷ es) k = grind (arith, nat_tests, remove_is es k)
 
 -- a value that is written over is put
-pub set_is : (m : Pairs) (low high k v w : ℕ) → Rises low high m → lookup_at m k ≡ Some w → set_value (is_at (nat_cmp k)) m v ≡ put_pair m k v
+pub set_is : (m : Pairs) (low high k v w : ℕ) → Rises low high m → lookup_at m k ≡ Some w
+    → set_value (is_at (nat_cmp k)) m v ≡ put_pair m k v
 set_is [] low high k v w r found = absurd (cc)
-set_is (e ∷ es) low high k v w r found = grind (arith, nat_tests, found, lookup-below es (e.0 + 1) high k r.2, set_is es (e.0 + 1) high k v w r.2)
+set_is (e ∷ es) low high k v w r found =
+    grind (arith, nat_tests, found, lookup-below es (e.0 + 1) high k r.2, set_is es (e.0 + 1) high k v w r.2)
 
 -- no key of a rising list is below its low end
 at_from : (m : Pairs) (d : ℕ × ℕ) (low high i : ℕ) → Rises low high m → i < length m → low ≤ (get_or m i d).0
@@ -31,10 +33,21 @@ at_from (e ∷ es) d low high zero r lt = r.0
 at_from (e ∷ es) d low high (suc i) r lt = omega (arith, at_from es d (e.0 + 1) high i r.2 (omega (arith, lt)))
 
 -- the next pair of a rising list goes behind those before it
-put_next : (m : Pairs) (d : ℕ × ℕ) (low high i : ℕ) → Rises low high m → i < length m → put_pair (take i m) (get_or m i d).0 (get_or m i d).1 ≡ take (suc i) m
+put_next : (m : Pairs) (d : ℕ × ℕ) (low high i : ℕ) → Rises low high m → i < length m
+    → put_pair (take i m) (get_or m i d).0 (get_or m i d).1 ≡ take (suc i) m
 put_next [] d low high i r lt = absurd (omega (arith, lt))
 put_next (e ∷ es) d low high zero r lt = refl
-put_next (e ∷ es) d low high (suc i) r lt = grind (arith, nat_tests, at_from es d (e.0 + 1) high i r.2 (omega (arith, lt)), put_next es d (e.0 + 1) high i r.2 (omega (arith, lt)))
+put_next (e ∷ es) d low high (suc i) r lt =
+    grind (
+      arith,
+      nat_tests,
+      at_from es d (e.0 + 1) high i r.2 (omega (arith, lt)),
+      put_next es d (e.0 + 1) high i r.2
+          (omega (arith, lt)),
+    )
 
-pub insert_next : (m es : Pairs) (high i k v : ℕ) (x : ℕ × ℕ) → Rises 0 high m → i < length m → es ≡ take i m → (k, v) ≡ x → x ≡ get_or m i x → insert_entry nat_cmp es k v ≡ take (i + 1) m
-insert_next m es high i k v x r lt front pair at = rw (front, add-one i) (insert_is (take i m) k v ∙ ap (λ p. put_pair (take i m) p.0 p.1) (pair ∙ at) ∙ put_next m x 0 high i r lt)
+pub insert_next : (m es : Pairs) (high i k v : ℕ) (x : ℕ × ℕ) → Rises 0 high m → i < length m → es ≡ take i m
+    → (k, v) ≡ x → x ≡ get_or m i x → insert_entry nat_cmp es k v ≡ take (i + 1) m
+insert_next m es high i k v x r lt front pair at =
+    rw (front, add-one i) (insert_is (take i m) k v ∙ ap (λ p. put_pair (take i m) p.0 p.1) (pair ∙ at)
+    ∙ put_next m x 0 high i r lt)

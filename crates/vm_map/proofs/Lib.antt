@@ -1,5 +1,4 @@
 pub mod MapLemmas
-pub mod EditedSizes
 pub mod Entries
 pub mod FirstPairs
 pub mod WindowLaws

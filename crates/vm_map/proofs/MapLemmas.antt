@@ -1,5 +1,6 @@
 -- What a look-up finds after an edit of a map.
-use Rattle.std.proofs.Common.{◌≡◌, ℕ, true, false, is_some, unwrap_or, min, ◌+◌, ◌<◌, ◌≤◌, ◌≢◌, eqb, ltb, [], ◌∷◌, ◌++◌, length, Option, Some, None, if◌then◌else◌, refl, ◌∙◌, arith, inl, inr}
+use Rattle.std.proofs.Common.{◌≡◌, ℕ, true, false, is_some, unwrap_or, min, ◌+◌, ◌<◌, ◌≤◌, ◌≢◌, eqb, ltb, [], ◌∷◌}
+use Rattle.std.proofs.Common.{◌++◌, length, Option, Some, None, if◌then◌else◌, refl, ◌∙◌, arith, inl, inr}
 use Rattle.std.proofs.lemmas.Bool.{cases_lt}
 use Rattle.std.proofs.lemmas.Bool.Decides.{nat_tests}
 use Rattle.vm_map.specs.Map.{Pairs, lookup_at, put_pair, del_pair, Rises, StartsAt, next_key, floor_pair, gather}
@@ -43,11 +44,17 @@ Rises-del (e ∷ es) low high k r = elim (eqb k e.0) as (λ b. Rises low high (i
 
 pub lookup-del_same : (m : Pairs) (low high k : ℕ) → Rises low high m → lookup_at (del_pair m k) k ≡ None
 lookup-del_same [] low high k r = refl
-lookup-del_same (e ∷ es) low high k r = grind (arith, nat_tests, lookup-del_same es (e.0 + 1) high k r.2, lookup-below es (e.0 + 1) high k r.2)
+lookup-del_same (e ∷ es) low high k r =
+    grind (arith, nat_tests, lookup-del_same es (e.0 + 1) high k r.2, lookup-below es (e.0 + 1) high k r.2)
 
 pub lookup-del_other : (m : Pairs) (k q : ℕ) → q ≢ k → lookup_at (del_pair m k) q ≡ lookup_at m q
 lookup-del_other [] k q ne = refl
 lookup-del_other (e ∷ es) k q ne = grind (arith, nat_tests, lookup-del_other es k q ne)
+
+-- there is nothing to remove
+pub del-none : (m : Pairs) (k : ℕ) → lookup_at m k ≡ None → del_pair m k ≡ m
+del-none [] k none = refl
+del-none (e ∷ es) k none = grind (arith, nat_tests, none, del-none es k)
 
 -- two maps with the same look-ups are the same list
 pub map_ext : (a b : Pairs) (low high : ℕ) → Rises low high a → Rises low high b → ((q : ℕ) → lookup_at a q ≡ lookup_at b q) → a ≡ b
@@ -59,13 +66,22 @@ map_ext (e ∷ es) (f ∷ fs) low high ra rb same =
     let below_f = lookup-below fs (f.0 + 1) high in
     let keys : e.0 ≡ f.0 = grind (arith, nat_tests, same e.0, same f.0, below_e f.0 ra.2, below_f e.0 rb.2) in
     let values : e.1 ≡ f.1 = grind (arith, nat_tests, same e.0, keys) in
-    let rest : es ≡ fs = map_ext es fs (e.0 + 1) high ra.2 (rw (← keys) at rb.2) (λ q. grind (arith, nat_tests, same q, keys, below_e q ra.2, below_f q rb.2)) in
+    let rest : es ≡ fs = map_ext es fs (e.0 + 1) high ra.2 (rw (← keys) at rb.2)
+    (λ q. grind (arith, nat_tests, same q, keys, below_e q ra.2, below_f q rb.2)) in
     grind (arith, keys, values, rest)
 
 -- a gathered map finds the first pair that has the key
 pub lookup-gather : (l : Pairs) (q : ℕ) → lookup_at (gather l) q ≡ lookup_at l q
 lookup-gather [] q = refl
-lookup-gather (e ∷ es) q = grind (arith, nat_tests, lookup-gather es q, lookup-put_same (gather es) e.0 e.1, lookup-put_other (gather es) e.0 e.1 q)
+lookup-gather (e ∷ es) q =
+    grind (
+      arith,
+      nat_tests,
+      lookup-gather es q,
+      lookup-put_same (gather es) e.0 e.1,
+      lookup-put_other (gather es) e.0
+          e.1 q,
+    )
 
 -- every key of a list lies in a range
 abbrev pub KeysIn : ℕ → ℕ → Pairs → Type 0
@@ -78,7 +94,8 @@ Rises-gather (e ∷ es) low high k = Rises-put (gather es) low high e.0 e.1 (Ris
 
 pub KeysIn-from_Rises : (l : Pairs) (low high : ℕ) → Rises low high l → KeysIn low high l
 KeysIn-from_Rises [] low high r = tt
-KeysIn-from_Rises (e ∷ es) low high r = (r.0, r.1, KeysIn-from es (e.0 + 1) low high (omega (arith, r.0)) (KeysIn-from_Rises es (e.0 + 1) high r.2))
+KeysIn-from_Rises (e ∷ es) low high r =
+    (r.0, r.1, KeysIn-from es (e.0 + 1) low high (omega (arith, r.0)) (KeysIn-from_Rises es (e.0 + 1) high r.2))
   where
     KeysIn-from : (l : Pairs) (low' low high : ℕ) → low ≤ low' → KeysIn low' high l → KeysIn low high l
     KeysIn-from [] low' low high le k = tt
@@ -108,7 +125,8 @@ next-le_high (e ∷ es) low high k r = grind (arith, nat_tests, r.1, next-le_hig
 -- the next key is at most each key above
 pub next-le_found : (m : Pairs) (low high a b v : ℕ) → Rises low high m → lookup_at m b ≡ Some v → a < b → next_key m high a ≤ b
 next-le_found [] low high a b v r found lt = absurd (cc)
-next-le_found (e ∷ es) low high a b v r found lt = grind (arith, nat_tests, r.0, found_low es (e.0 + 1) high b v r.2, next-le_found es (e.0 + 1) high a b v r.2)
+next-le_found (e ∷ es) low high a b v r found lt =
+    grind (arith, nat_tests, r.0, found_low es (e.0 + 1) high b v r.2, next-le_found es (e.0 + 1) high a b v r.2)
 
 -- where no key is up to k, the next key after a lower one is above k
 pub next-above_none : (m : Pairs) (low high a k : ℕ) → Rises low high m → a < low → k < high → floor_pair m k ≡ None → k < next_key m high a
@@ -124,23 +142,33 @@ pub floor_is : (m : Pairs) (low high k : ℕ) (x : ℕ × ℕ) → Rises low hig
 floor_is [] low high k x r lt is = absurd (cc)
 floor_is (e ∷ es) low high k x r lt is = go (floor_pair es k) refl (λ y. floor_is es (e.0 + 1) high k y r.2 lt)
   where
-    go : (o : Option (ℕ × ℕ)) → floor_pair es k ≡ o → ((y : ℕ × ℕ) → floor_pair es k ≡ Some y → IsFloor es high k y) → IsFloor (e ∷ es) high k x
+    go : (o : Option (ℕ × ℕ)) → floor_pair es k ≡ o → ((y : ℕ × ℕ) → floor_pair es k ≡ Some y → IsFloor es high k y)
+        → IsFloor (e ∷ es) high k x
     go None none ih =
         let here : x ≡ e = grind (arith, nat_tests, none, is) in
         let above = next-above_none es (e.0 + 1) high e.0 k r.2 (omega arith) lt none in
-        record { found = grind (arith, nat_tests, here); up_to = grind (arith, nat_tests, here, is); next = grind (arith, nat_tests, here, above) }
+        record {
+          found = grind (arith, nat_tests, here);
+          up_to = grind (arith, nat_tests, here, is);
+          next = grind (arith, nat_tests, here, above);
+        }
     go (Some y) some ih =
         let there : x ≡ y = grind (arith, nat_tests, some, is) in
         let f = ih y some in
         let low_y = found_low es (e.0 + 1) high y.0 y.1 r.2 f.found in
-        record { found = grind (arith, nat_tests, there, low_y, f.found); up_to = grind (arith, there, f.up_to); next = grind (arith, nat_tests, there, low_y, f.next) }
+        record {
+          found = grind (arith, nat_tests, there, low_y, f.found);
+          up_to = grind (arith, there, f.up_to);
+          next = grind (arith, nat_tests, there, low_y, f.next);
+        }
 
 pub floor_some : (m : Pairs) (low k : ℕ) → StartsAt low m → low ≤ k → (x : ℕ × ℕ) × (floor_pair m k ≡ Some x)
 floor_some [] low k s le = absurd s
 floor_some (e ∷ es) low k s le = (unwrap_or (floor_pair es k) e, grind (arith, nat_tests))
 
 -- two keys that both are the greatest up to k are one
-pub floor_one : (m : Pairs) (low high k a b v w : ℕ) → Rises low high m → lookup_at m a ≡ Some v → a ≤ k → k < next_key m high a → lookup_at m b ≡ Some w → b ≤ k → k < next_key m high b → a ≡ b
+pub floor_one : (m : Pairs) (low high k a b v w : ℕ) → Rises low high m → lookup_at m a ≡ Some v → a ≤ k
+    → k < next_key m high a → lookup_at m b ≡ Some w → b ≤ k → k < next_key m high b → a ≡ b
 floor_one m low high k a b v w r fa la na fb lb nb = grind (arith, next-le_found m low high a b w r fb, next-le_found m low high b a v r fa)
 
 pub Rises-append : (a b : Pairs) (low sep high : ℕ) → Rises low high (a ++ b) → StartsAt sep b → Rises low sep a × Rises sep high b
@@ -156,22 +184,39 @@ Rises-append (e ∷ es) b low sep high r s =
     below (e ∷ es) b low r s = omega (arith, r.0, below es b (e.0 + 1) r.2 s)
 
 -- a list cut before the key sep
-pub lookup-cut_below : (a b : Pairs) (low sep high k : ℕ) → Rises low high (a ++ b) → StartsAt sep b → k < sep → lookup_at (a ++ b) k ≡ lookup_at a k
+pub lookup-cut_below : (a b : Pairs) (low sep high k : ℕ) → Rises low high (a ++ b) → StartsAt sep b → k < sep
+    → lookup_at (a ++ b) k ≡ lookup_at a k
 lookup-cut_below [] b low sep high k r s lt = lookup-below b sep high k (Rises-append [] b low sep high r s).1 lt
 lookup-cut_below (e ∷ es) b low sep high k r s lt = grind (arith, nat_tests, lookup-cut_below es b (e.0 + 1) sep high k r.2 s lt)
 
-pub lookup-cut_above : (a b : Pairs) (low sep high k : ℕ) → Rises low high (a ++ b) → StartsAt sep b → sep ≤ k → lookup_at (a ++ b) k ≡ lookup_at b k
+pub lookup-cut_above : (a b : Pairs) (low sep high k : ℕ) → Rises low high (a ++ b) → StartsAt sep b → sep ≤ k
+    → lookup_at (a ++ b) k ≡ lookup_at b k
 lookup-cut_above [] b low sep high k r s le = refl
-lookup-cut_above (e ∷ es) b low sep high k r s le = grind (arith, nat_tests, (Rises-append (e ∷ es) b low sep high r s).0.1, lookup-cut_above es b (e.0 + 1) sep high k r.2 s le)
+lookup-cut_above (e ∷ es) b low sep high k r s le =
+    grind (
+      arith,
+      nat_tests,
+      (Rises-append (e ∷ es) b low sep high r s).0.1,
+      lookup-cut_above es b (e.0 + 1) sep high
+          k r.2 s le,
+    )
 
 pub next-cut_below : (a b : Pairs) (sep high k : ℕ) → StartsAt sep b → k < sep → next_key (a ++ b) high k ≡ next_key a sep k
 next-cut_below [] [] sep high k s lt = absurd s
 next-cut_below [] (f ∷ fs) sep high k s lt = grind (arith, nat_tests, s)
 next-cut_below (e ∷ es) b sep high k s lt = grind (arith, nat_tests, next-cut_below es b sep high k s lt)
 
-pub next-cut_above : (a b : Pairs) (low sep high k : ℕ) → Rises low high (a ++ b) → StartsAt sep b → sep ≤ k → next_key (a ++ b) high k ≡ next_key b high k
+pub next-cut_above : (a b : Pairs) (low sep high k : ℕ) → Rises low high (a ++ b) → StartsAt sep b → sep ≤ k
+    → next_key (a ++ b) high k ≡ next_key b high k
 next-cut_above [] b low sep high k r s le = refl
-next-cut_above (e ∷ es) b low sep high k r s le = grind (arith, nat_tests, (Rises-append (e ∷ es) b low sep high r s).0.1, next-cut_above es b (e.0 + 1) sep high k r.2 s le)
+next-cut_above (e ∷ es) b low sep high k r s le =
+    grind (
+      arith,
+      nat_tests,
+      (Rises-append (e ∷ es) b low sep high r s).0.1,
+      next-cut_above es b (e.0 + 1) sep high k
+          r.2 s le,
+    )
 
 -- the next key after a pair was put at s
 pub next-put_from : (m : Pairs) (high s v k : ℕ) → s ≤ k → next_key (put_pair m s v) high k ≡ next_key m high k
@@ -195,7 +240,8 @@ pub StartsAt-put : (m : Pairs) (low k v : ℕ) → StartsAt low m → low < k �
 StartsAt-put [] low k v s lt = absurd s
 StartsAt-put (e ∷ es) low k v s lt = elim (cases_lt k e.0) [
   | inl below ↦ absurd (omega (arith, s))
-  | inr from ↦ let not_less : ltb k e.0 ≡ false = grind (arith, nat_tests) in let not_same : eqb k e.0 ≡ false = grind (arith, nat_tests, s) in rw not_less (rw not_same s)
+  | inr from ↦ let not_less : ltb k e.0 ≡ false = grind (arith, nat_tests) in let not_same : eqb k e.0 ≡ false =
+      grind (arith, nat_tests, s) in rw not_less (rw not_same s)
 ]
 
 pub StartsAt-append : (a b : Pairs) (low : ℕ) → StartsAt low (a ++ b) → 1 ≤ length a → StartsAt low a
@@ -205,7 +251,8 @@ StartsAt-append (e ∷ es) b low s some = s
 -- two rising lists, one above the other, are one
 pub Rises-join : (a b : Pairs) (low mid high : ℕ) → Rises low mid a → low ≤ mid → Rises mid high b → mid ≤ high → Rises low high (a ++ b)
 Rises-join [] b low mid high ra le rb upto = Rises-from b mid low high rb le
-Rises-join (e ∷ es) b low mid high ra le rb upto = (ra.0, omega (arith, ra.1), Rises-join es b (e.0 + 1) mid high ra.2 (omega (arith, ra.1)) rb upto)
+Rises-join (e ∷ es) b low mid high ra le rb upto =
+    (ra.0, omega (arith, ra.1), Rises-join es b (e.0 + 1) mid high ra.2 (omega (arith, ra.1)) rb upto)
 
 pub found_left : (a b : Pairs) (key : ℕ) → lookup_at b key ≡ None → lookup_at (a ++ b) key ≡ lookup_at a key
 found_left a b key none = lookup-append a b key ∙ grind (arith, none)

@@ -1,5 +1,5 @@
 -- What a swap does, by the value that the key has.
-use Rattle.std.proofs.Common.{◌≡◌, ◌≢◌, ◌<◌, ◌≤◌, ℕ, ◌∙◌, ap, cond, eqb, false, if◌then◌else◌, None, Option, refl, Some, true}
+use Rattle.std.proofs.Common.{◌≡◌, ◌≢◌, ◌<◌, ◌≤◌, ℕ, ◌∙◌, ap, cond, eqb, false, None, Option, refl, Some, true}
 use Rattle.std.proofs.lemmas.Bool.{cond-false, cond-true, eq-eqb, ne_eqb}
 use Rattle.vm_map.specs.Map.{Pairs, is_value, lookup_at, put_pair, Rises, swap_pair}
 use Rattle.vm_map.proofs.MapLemmas.{Rises-put}
@@ -26,4 +26,9 @@ module _ (m : Pairs) (k want v : ℕ) where
   swap-missing e = cond-false (is_value (lookup_at m k) want) (put_pair m k v) m (ap (λ o. is_value o want) e)
 
 pub Rises-swap : (m : Pairs) (low high k want v : ℕ) → Rises low high m → low ≤ k → k < high → Rises low high (swap_pair m k want v)
-Rises-swap m low high k want v rises from below = elim (is_value (lookup_at m k) want) as (λ b. Rises low high (cond b (put_pair m k v) m)) [ true ↦ Rises-put m low high k v rises from below | false ↦ rises ]
+Rises-swap m low high k want v rises from below =
+    elim (is_value (lookup_at m k) want) as (λ b. Rises low high (cond b (put_pair m k v) m)) [
+      | true ↦
+          Rises-put m low high k v rises from below
+      | false ↦ rises
+    ]

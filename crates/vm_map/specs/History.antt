@@ -1,6 +1,7 @@
 -- What a call on a map is answered, which map it leaves, and when a history of calls is right.
 use Rattle.vm_map.specs.Keys.{KEY_END}
-use Rattle.std.specs.Prelude.{◌≡◌, ℕ, ◌<◌, ◌≤◌, List, [], ◌∷◌, length, filter, nat_lt, nat_le, ◌&&◌, ◌==◌, if◌then◌else◌, Option, None, Some}
+use Rattle.std.specs.Prelude.{◌≡◌, ℕ, ◌<◌, ◌≤◌, List, [], ◌∷◌, length, filter, nat_lt, nat_le, ◌&&◌, ◌==◌}
+use Rattle.std.specs.Prelude.{if◌then◌else◌, Option, None, Some}
 use Rattle.vm_map.specs.Map.{Pairs, lookup_at, put_pair, del_pair, swap_pair}
 use Rattle.vm_map.specs.declared.call.Call.{Call}
 use Rattle.vm_map.specs.declared.call.Call.TheVariants.{Get, Put, Del, Window, Swap, Range}
@@ -42,7 +43,8 @@ abbrev pub IsReply : Pairs → Call → Reply → Type 0
 IsReply m (Get key) (Got found) = found ≡ lookup_at m key
 IsReply m (Put key value) (Was old) = old ≡ lookup_at m key
 IsReply m (Del key) (Gone old) = old ≡ lookup_at m key
-IsReply m (Window start most) (Win window) = (start < bound_of window.bound) × (window.pairs ≡ between m start (bound_of window.bound)) × (length window.pairs ≤ most)
+IsReply m (Window start most) (Win window) = (start < bound_of window.bound)
+    × (window.pairs ≡ between m start (bound_of window.bound)) × (length window.pairs ≤ most)
 IsReply m (Swap key want value) (Swapped outcome) = outcome ≡ outcome_of (lookup_at m key) want
 IsReply m (Range low bound) (Many span) = span.0 ≡ between m low (bound_of bound)
 IsReply m (Range low bound) (Wide reach) = (low < reach) × (reach < bound_of bound)

@@ -1,6 +1,6 @@
 // A map in memory that answers calls at once, one after another.
 ghost use Rattle.vm_map.specs.Keys.{KEY_END};
-ghost use Rattle.std.specs.Prelude.{◌≡◌, ◌≤◌, [], filter, min, nat_lt, OnOk, OnErr, IfOk};
+ghost use Rattle.std.specs.Prelude.{◌≡◌, [], filter, min, nat_lt, OnOk, OnErr, IfOk};
 ghost use Rattle.vm_map.specs.Map.{lookup_at, Rises, swap_pair};
 ghost use Rattle.vm_map.specs.History.{IsAskable, IsReply, after, TakesMemory, between, bound_of, outcome_of};
 ghost use Rattle.vm_map.specs.Windows.{IsWindow, IsFirstWindow, from_key};

@@ -1,5 +1,6 @@
 -- A search by halves among keys that rise ends behind the lower ones.
-use Rattle.std.proofs.Common.{◌≡◌, ◌≢◌, ℕ, zero, suc, ◌+◌, ◌<◌, ◌≤◌, [], ◌∷◌, length, get_or, None, refl, sym, ap, ◌∙◌, arith, inl, inr, ltb, eqb, true, false}
+use Rattle.std.proofs.Common.{◌≡◌, ◌≢◌, ℕ, zero, suc, ◌+◌, ◌<◌, ◌≤◌, [], ◌∷◌, length, get_or, None, refl, sym, ap}
+use Rattle.std.proofs.Common.{◌∙◌, arith, inl, inr, ltb, eqb, true, false}
 use Rattle.std.proofs.lemmas.Bool.Decides.{nat_tests}
 use Rattle.std.proofs.lemmas.Bool.{cases_lt}
 use Rattle.vm_map.specs.Map.{Pairs, lookup_at, Rises}
@@ -12,7 +13,8 @@ at_least (e ∷ es) low high zero r lt = r.0
 at_least (e ∷ es) low high (suc i) r lt = omega (arith, r.0, at_least es (e.0 + 1) high i r.2 (omega arith))
 
 -- the first key is lower than one that is not the first
-first_lower : (e : ℕ × ℕ) (es : Pairs) (high key a : ℕ) → Rises (e.0 + 1) high es → a < suc (length es) → (get_or (e ∷ es) a (0, 0)).0 < key → e.0 < key
+first_lower : (e : ℕ × ℕ) (es : Pairs) (high key a : ℕ) → Rises (e.0 + 1) high es → a < suc (length es)
+    → (get_or (e ∷ es) a (0, 0)).0 < key → e.0 < key
 first_lower e es high key zero r lt below = below
 first_lower e es high key (suc a) r lt below = omega (arith, at_least es (e.0 + 1) high a r (omega arith), below)
 
@@ -33,7 +35,8 @@ bound_place (e ∷ es) low high key (suc a) r b =
     grind (arith, nat_tests, lower, more)
 
 -- among keys that rise the place is that of the pair with the key
-index_place : (m : Pairs) (low high key : ℕ) → Rises low high m → place_of m key < length m → (get_or m (place_of m key) (0, 0)).0 ≡ key → index_at m key ≡ place_of m key
+index_place : (m : Pairs) (low high key : ℕ) → Rises low high m → place_of m key < length m
+    → (get_or m (place_of m key) (0, 0)).0 ≡ key → index_at m key ≡ place_of m key
 index_place [] low high key r lt same = refl
 index_place (e ∷ es) low high key r lt same = elim (cases_lt e.0 key) [
   | inl below ↦
@@ -55,5 +58,8 @@ index_is m low high key at r is has =
     let same : (get_or m (place_of m key) (0, 0)).0 ≡ key = ap (λ (i : ℕ). (get_or m i (0, 0)).0) (sym is) ∙ has.has in
     record { place = is ∙ sym (index_place m low high key r lt same); there = has.there }
 
-pub no_index : (m : Pairs) (low high key at : ℕ) → Rises low high m → at ≡ place_of m key → (at < length m → (get_or m at (0, 0)).0 ≢ key) → lookup_at m key ≡ None
-no_index m low high key at r is other = lookup-no_place m low high key r (λ lt same. other (omega (arith, is, lt)) (ap (λ (i : ℕ). (get_or m i (0, 0)).0) is ∙ same))
+pub no_index : (m : Pairs) (low high key at : ℕ) → Rises low high m → at ≡ place_of m key
+    → (at < length m → (get_or m at (0, 0)).0 ≢ key) → lookup_at m key ≡ None
+no_index m low high key at r is other =
+    lookup-no_place m low high key r
+    (λ lt same. other (omega (arith, is, lt)) (ap (λ (i : ℕ). (get_or m i (0, 0)).0) is ∙ same))

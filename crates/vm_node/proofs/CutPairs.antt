@@ -7,9 +7,12 @@ use Rattle.vm_map.proofs.MapLemmas.{Rises-append}
 pub StartsAt-drop : (m : Pairs) (i key : ℕ) → i < length m → (get_or m i (0, 0)).0 ≡ key → StartsAt key (drop i m)
 StartsAt-drop m i key lt is = rw (drop_more m i (0, 0) lt) is
 
-module _ (m : Pairs) (low high separator half : ℕ) (rises : Rises low high m) (some : half < length m) (separates : (get_or m half (0, 0)).0 ≡ separator) where
+module _ (m : Pairs) (low high separator half : ℕ) (rises : Rises low high m) (some : half < length m)
+    (separates : (get_or m half (0, 0)).0 ≡ separator) where
   both : Rises low separator (take half m) × Rises separator high (drop half m)
-  both = Rises-append (take half m) (drop half m) low separator high (subst (λ l. Rises low high l) (sym (take-append-drop half m)) rises) (StartsAt-drop m half separator some separates)
+  both = Rises-append (take half m) (drop half m) low separator high
+      (subst (λ l. Rises low high l) (sym (take-append-drop half m)) rises)
+      (StartsAt-drop m half separator some separates)
 
   pub left_rises : Rises low separator (take half m)
   left_rises = both.0

@@ -1,5 +1,6 @@
 -- The words of an edited page.
-use Rattle.std.proofs.Common.{◌≡◌, ℕ, ◌+◌, ◌*◌, ◌<◌, ◌≤◌, List, length, get_or, set, min, refl, sym, ◌∙◌, arith, inl, inr, length-set, get_or-set_other}
+use Rattle.std.proofs.Common.{◌≡◌, ℕ, ◌+◌, ◌*◌, ◌<◌, ◌≤◌, List, length, get_or, set, min, refl, sym, ◌∙◌, arith, inl}
+use Rattle.std.proofs.Common.{inr, length-set, get_or-set_other}
 use Rattle.std.proofs.lemmas.Bool.{cases_lt, cases_eq}
 use Rattle.std.proofs.lemmas.Bool.Decides.{nat_tests}
 use Rattle.std.proofs.lemmas.Grind.{get_or-set_at}
@@ -22,12 +23,14 @@ module _ (z : ℕ) (words : List ℕ) (edit : Edit) where
   edited-at i lt = get_or-map-range_with_len (λ i. edited_word z words edit i) 0 z i i 0 lt (omega arith)
 
   -- a page with these words is the edited one
-  pub edited_is : (page : List ℕ) → length page ≡ z → ((i : ℕ) → i < z → get_or page i 0 ≡ edited_word z words edit i) → page ≡ edited z words edit
+  pub edited_is : (page : List ℕ) → length page ≡ z → ((i : ℕ) → i < z → get_or page i 0 ≡ edited_word z words edit i)
+      → page ≡ edited z words edit
   edited_is page len each = fill_by_all (λ i. edited_word z words edit i) page z 0 len each
 
   -- behind the page there is nothing, before the edit and after
   past : length words ≡ z → (i : ℕ) → z ≤ i → get_or (edited z words edit) i 0 ≡ get_or words i 0
-  past len i ge = get_or_past (edited z words edit) i 0 (omega (arith, length-edited, ge)) ∙ sym (get_or_past words i 0 (omega (arith, len, ge)))
+  past len i ge = get_or_past (edited z words edit) i 0 (omega (arith, length-edited, ge))
+      ∙ sym (get_or_past words i 0 (omega (arith, len, ge)))
 
 module _ (z : ℕ) (size : IsSize z) (words : List ℕ) (len : length words ≡ z) where
   long : z ≡ 2 * capacity z + 8
@@ -35,7 +38,9 @@ module _ (z : ℕ) (size : IsSize z) (words : List ℕ) (len : length words ≡ 
 
   -- a value that is written over is one word
   pub over_is : (at value : ℕ) → at < capacity z → edited z words (Over at value) ≡ set words (9 + 2 * at) value
-  over_is at value lt = sym (edited_is z words (Over at value) (set words (9 + 2 * at) value) (length-set words (9 + 2 * at) value ∙ len) each)
+  over_is at value lt = sym
+      (edited_is z words (Over at value) (set words (9 + 2 * at) value) (length-set words (9 + 2 * at) value ∙ len)
+      each)
     where
       each : (i : ℕ) → i < z → get_or (set words (9 + 2 * at) value) i 0 ≡ word_over words at value i
       each i in_page = elim (cases_eq i (9 + 2 * at)) [

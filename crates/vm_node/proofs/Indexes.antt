@@ -1,5 +1,6 @@
 -- Where the first pair with a key stands, and what is left without it.
-use Rattle.std.proofs.Common.{◌≡◌, ◌≢◌, ℕ, zero, suc, ◌<◌, [], ◌∷◌, ◌++◌, length, get_or, take, drop, eqb, true, false, Some, None, refl, sym, ap, subst, arith, inl, inr}
+use Rattle.std.proofs.Common.{◌≡◌, ◌≢◌, ℕ, zero, suc, ◌<◌, [], ◌∷◌, ◌++◌, length, get_or, take, drop, eqb, true}
+use Rattle.std.proofs.Common.{false, Some, None, refl, sym, ap, subst, arith, inl, inr}
 use Rattle.std.proofs.lemmas.Bool.{cases_eq}
 use Rattle.std.proofs.lemmas.Bool.Decides.{nat_tests}
 use Rattle.vm_map.specs.Map.{Pairs, lookup_at, del_pair}
@@ -28,7 +29,8 @@ no_key-del [] k none = refl
 no_key-del (e ∷ es) k none = grind (arith, nat_tests, none, no_key-del es k)
 
 pub found_at : (m : Pairs) (k at : ℕ) → IsIndexOf m k at → lookup_at m k ≡ Some (get_or m at (0, 0)).1
-found_at m k at is = subst (λ i. lookup_at m k ≡ Some (get_or m i (0, 0)).1) (sym is.place) (lookup-index m k (omega (arith, is.place, is.there)))
+found_at m k at is = subst (λ i. lookup_at m k ≡ Some (get_or m i (0, 0)).1) (sym is.place)
+    (lookup-index m k (omega (arith, is.place, is.there)))
 
 -- where a pair has the key, one is found
 pub not-absent : (m : Pairs) (k at : ℕ) → at < length m → (get_or m at (0, 0)).0 ≡ k → lookup_at m k ≢ None

@@ -1,5 +1,6 @@
 -- What the words of a page say that took over the pairs of the next one.
-use Rattle.std.proofs.Common.{◌≡◌, ℕ, ◌+◌, ◌-◌, ◌*◌, ◌<◌, ◌≤◌, List, length, get_or, take, drop, min, ◌++◌, refl, sym, ap, ◌∙◌, subst, arith, inl, inr}
+use Rattle.std.proofs.Common.{◌≡◌, ℕ, ◌+◌, ◌-◌, ◌*◌, ◌<◌, ◌≤◌, List, length, get_or, take, drop, min, ◌++◌, refl, sym}
+use Rattle.std.proofs.Common.{ap, ◌∙◌, subst, arith, inl, inr}
 use Rattle.std.proofs.lemmas.Bool.{cases_lt}
 use Rattle.std.proofs.lemmas.Bool.Decides.{nat_tests}
 use Rattle.std.proofs.lemmas.List.{get_or_past}
@@ -34,7 +35,8 @@ module _ (left right : List ℕ) (first second k : ℕ) where
   zero_is ge = grind (arith, nat_tests, ge)
 
 -- a word that is made is read before it is written
-pub join_reads : (now old right : List ℕ) (first second i : ℕ) → get_or now i 0 ≡ get_or old i 0 → word_joined now right first second i ≡ word_joined old right first second i
+pub join_reads : (now old right : List ℕ) (first second i : ℕ) → get_or now i 0 ≡ get_or old i 0
+    → word_joined now right first second i ≡ word_joined old right first second i
 join_reads now old right first second i same = rw same refl
 
 module _ (z : ℕ) (size : IsSize z) (left right : List ℕ) (left_length : length left ≡ z) (right_length : length right ≡ z) where
@@ -70,19 +72,24 @@ module _ (z : ℕ) (size : IsSize z) (left right : List ℕ) (left_length : leng
     least = omega (arith, count, fits)
 
     from_left : take first (places new) ≡ fixed_pairs z left
-    from_left = places_same z (capacity z) (whole z size) new left 0 0 first length-new left_length (omega (arith, fits)) (omega (arith, fits))
-        (λ k lt. new-at (8 + k) (omega (arith, lt, fits, whole z size)) ∙ left_is left right first second (8 + k) (omega arith) (omega (arith, lt)))
+    from_left = places_same z (capacity z) (whole z size) new left 0 0 first length-new left_length
+        (omega (arith, fits)) (omega (arith, fits))
+        (λ k lt. new-at (8 + k) (omega (arith, lt, fits, whole z size)) ∙ left_is left right first second (8 + k)
+        (omega arith) (omega (arith, lt)))
 
     from_right : take second (drop first (places new)) ≡ fixed_pairs z right
-    from_right = places_same z (capacity z) (whole z size) new right first 0 second length-new right_length (omega (arith, fits)) (omega (arith, fits))
-        (λ k lt. new-at (8 + 2 * first + k) (omega (arith, lt, fits, whole z size)) ∙ right_is left right first second (8 + 2 * first + k) (omega arith) (omega (arith, lt))
+    from_right = places_same z (capacity z) (whole z size) new right first 0 second length-new right_length
+        (omega (arith, fits)) (omega (arith, fits))
+        (λ k lt. new-at (8 + 2 * first + k) (omega (arith, lt, fits, whole z size)) ∙ right_is left right first second
+        (8 + 2 * first + k) (omega arith) (omega (arith, lt))
         ∙ ap (λ (i : ℕ). get_or right i 0) (back first k))
       where
         back : (n k : ℕ) → 8 + 2 * n + k - 2 * n ≡ 8 + k
         back n k = omega arith
 
     both_pairs : fixed_pairs z new ≡ fixed_pairs z left ++ fixed_pairs z right
-    both_pairs = rw least (take-add first second (places new) ∙ ap (λ l. l ++ take second (drop first (places new))) from_left ∙ ap (λ l. fixed_pairs z left ++ l) from_right)
+    both_pairs = rw least (take-add first second (places new) ∙ ap (λ l. l ++ take second (drop first (places new)))
+        from_left ∙ ap (λ l. fixed_pairs z left ++ l) from_right)
 
     pub joined_is : IsJoined (fixed z) left right new
     joined_is = record {
@@ -90,25 +97,28 @@ module _ (z : ℕ) (size : IsSize z) (left right : List ℕ) (left_length : leng
           (head 5 (omega arith) (λ e. omega (arith, e)) (λ e. omega (arith, e)) (λ e. omega (arith, e)))
           (head 2 (omega arith) (λ e. omega (arith, e)) (λ e. omega (arith, e)) (λ e. omega (arith, e)))
           (rw (new-at 3 (omega (arith, whole z size)), new-at 4 (omega (arith, whole z size))) refl) both_pairs;
-      clean = λ left_clean right_clean. let f = form_tells z left left_clean in let g = form_tells z right right_clean in form_from z new (record {
-        length = length-new;
-        count = omega (arith, count, fits);
-        fence = rw (new-at 3 (omega (arith, whole z size)), new-at 4 (omega (arith, whole z size))) g.fence;
-        sixth = head 6 (omega arith) (λ e. omega (arith, e)) (λ e. omega (arith, e)) (λ e. omega (arith, e)) ∙ f.sixth;
-        seventh = head 7 (omega arith) (λ e. omega (arith, e)) (λ e. omega (arith, e)) (λ e. omega (arith, e)) ∙ f.seventh;
-        rest = zeros_past-from new (8 + 2 * get_or new 1 0) (λ i le. new_zero i (rw count at le));
-      });
+      clean = λ left_clean right_clean. let f = form_tells z left left_clean in let g =
+          form_tells z right right_clean in form_from z new (record {
+            length = length-new;
+            count = omega (arith, count, fits);
+            fence = rw (new-at 3 (omega (arith, whole z size)), new-at 4 (omega (arith, whole z size))) g.fence;
+            sixth = head 6 (omega arith) (λ e. omega (arith, e)) (λ e. omega (arith, e)) (λ e. omega (arith, e)) ∙ f.sixth;
+            seventh = head 7 (omega arith) (λ e. omega (arith, e)) (λ e. omega (arith, e)) (λ e. omega (arith, e)) ∙ f.seventh;
+            rest = zeros_past-from new (8 + 2 * get_or new 1 0) (λ i le. new_zero i (rw count at le));
+          });
     }
 
 -- two leaves beside each other make a leaf
-pub joined_leaf : (L : Layout) (left right new : List ℕ) → IsJoined L left right new → IsLeaf L left → IsLeaf L right → (node_of L left).high ≡ (node_of L right).low
+pub joined_leaf : (L : Layout) (left right new : List ℕ) → IsJoined L left right new → IsLeaf L left → IsLeaf L right
+    → (node_of L left).high ≡ (node_of L right).low
     → (node_of L left).low ≤ (node_of L left).high → (node_of L right).low ≤ (node_of L right).high → IsLeaf L new
 joined_leaf L left right new joined leaf next meets from upto = record {
   clean = joined.clean leaf.clean next.clean;
   node = subst IsLeafNode (sym joined.node) (record {
     tag = leaf.node.tag;
     level = leaf.node.level;
-    rises = Rises-join (pairs_of L left) (pairs_of L right) (node_of L left).low (node_of L left).high (node_of L right).high leaf.node.rises from
+    rises = Rises-join (pairs_of L left) (pairs_of L right) (node_of L left).low (node_of L left).high
+        (node_of L right).high leaf.node.rises from
         (rw meets next.node.rises) (rw meets upto);
   });
 }

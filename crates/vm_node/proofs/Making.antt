@@ -1,5 +1,6 @@
 -- A page's words are made one by one, in an order in which each word is read before it is written.
-use Rattle.std.proofs.Common.{◌≡◌, ℕ, ◌+◌, ◌-◌, ◌<◌, ◌≤◌, List, length, get_or, map, set, refl, sym, ap, ◌∙◌, arith, inl, inr, length-set, get_or-set_other}
+use Rattle.std.proofs.Common.{◌≡◌, ℕ, ◌+◌, ◌-◌, ◌<◌, ◌≤◌, List, length, get_or, map, set, refl, sym, ap, ◌∙◌, arith}
+use Rattle.std.proofs.Common.{inl, inr, length-set, get_or-set_other}
 use Rattle.std.proofs.lemmas.Bool.{cases_eq}
 use Rattle.std.proofs.lemmas.Grind.{get_or-set_at}
 use Rattle.std.specs.List.{range_with_len}
@@ -19,15 +20,18 @@ pub record IsMadeAbove (z : ℕ) (old now : List ℕ) (made_word : ℕ → ℕ) 
   pub left : (k : ℕ) → k + done < z → get_or now k 0 ≡ get_or old k 0
 
 -- a pair that goes out moves words from above alone
-pub out_reads : (now old : List ℕ) (at count i : ℕ) → ((k : ℕ) → i ≤ k → get_or now k 0 ≡ get_or old k 0) → word_out now at count i ≡ word_out old at count i
+pub out_reads : (now old : List ℕ) (at count i : ℕ) → ((k : ℕ) → i ≤ k → get_or now k 0 ≡ get_or old k 0)
+    → word_out now at count i ≡ word_out old at count i
 out_reads now old at count i same = rw (same i (omega arith), same (i + 2) (omega arith)) refl
 
 -- a pair that goes in moves words from below alone
-pub into_reads : (now old : List ℕ) (at count key value i : ℕ) → ((k : ℕ) → k ≤ i → get_or now k 0 ≡ get_or old k 0) → word_into now at count key value i ≡ word_into old at count key value i
+pub into_reads : (now old : List ℕ) (at count key value i : ℕ) → ((k : ℕ) → k ≤ i → get_or now k 0 ≡ get_or old k 0)
+    → word_into now at count key value i ≡ word_into old at count key value i
 into_reads now old at count key value i same = rw (same i (omega arith), same (i - 2) (omega arith)) refl
 
 module _ {z : ℕ} {old now : List ℕ} {made_word : ℕ → ℕ} where
-  pub below_more : {after : List ℕ} {i word : ℕ} → IsMadeBelow z old now made_word i → i < z → word ≡ made_word i → after ≡ set now i word → length after ≡ z → IsMadeBelow z old after made_word (i + 1)
+  pub below_more : {after : List ℕ} {i word : ℕ} → IsMadeBelow z old now made_word i → i < z → word ≡ made_word i
+      → after ≡ set now i word → length after ≡ z → IsMadeBelow z old after made_word (i + 1)
   below_more {after = after} {i = i} {word = word} s lt is set_is size =
       let long : length now ≡ z = sym (length-set now i word) ∙ sym (ap (λ (l : List ℕ). length l) set_is) ∙ size in
       record {
@@ -36,13 +40,15 @@ module _ {z : ℕ} {old now : List ℕ} {made_word : ℕ → ℕ} where
           | inl here ↦ get_or-set_at now i k word 0 here (omega (arith, long)) ∙ rw here is
           | inr other ↦ get_or-set_other now i k word 0 other ∙ s.made k (omega (arith, below, other))
         ];
-        left = λ k above. ap (λ (l : List ℕ). get_or l k 0) set_is ∙ get_or-set_other now i k word 0 (omega (arith, above)) ∙ s.left k (omega (arith, above));
+        left = λ k above. ap (λ (l : List ℕ). get_or l k 0) set_is ∙ get_or-set_other now i k word 0
+            (omega (arith, above)) ∙ s.left k (omega (arith, above));
       }
 
   pub below_all : {i : ℕ} → 0 < z → IsMadeBelow z old now made_word i → z ≤ i → now ≡ map made_word (range_with_len 0 z)
   below_all some s all = fill_by_all made_word now z 0 (s.length (omega (arith, some, all))) (λ k lt. s.made k (omega arith))
 
-  pub above_more : {after : List ℕ} (done i : ℕ) {word : ℕ} → IsMadeAbove z old now made_word done → i + done + 1 ≡ z → word ≡ made_word i → after ≡ set now i word → length after ≡ z → IsMadeAbove z old after made_word (done + 1)
+  pub above_more : {after : List ℕ} (done i : ℕ) {word : ℕ} → IsMadeAbove z old now made_word done → i + done + 1 ≡ z
+      → word ≡ made_word i → after ≡ set now i word → length after ≡ z → IsMadeAbove z old after made_word (done + 1)
   above_more {after = after} done i {word = word} s place is set_is size =
       let long : length now ≡ z = sym (length-set now i word) ∙ sym (ap (λ (l : List ℕ). length l) set_is) ∙ size in
       record {
@@ -51,7 +57,8 @@ module _ {z : ℕ} {old now : List ℕ} {made_word : ℕ → ℕ} where
           | inl here ↦ get_or-set_at now i k word 0 here (omega (arith, long, place)) ∙ rw here is
           | inr other ↦ get_or-set_other now i k word 0 other ∙ s.made k (omega (arith, above, other, place)) lt
         ];
-        left = λ k below. ap (λ (l : List ℕ). get_or l k 0) set_is ∙ get_or-set_other now i k word 0 (omega (arith, below, place)) ∙ s.left k (omega (arith, below));
+        left = λ k below. ap (λ (l : List ℕ). get_or l k 0) set_is ∙ get_or-set_other now i k word 0
+            (omega (arith, below, place)) ∙ s.left k (omega (arith, below));
       }
 
   pub above_all : {done : ℕ} → 0 < z → IsMadeAbove z old now made_word done → z ≤ done → now ≡ map made_word (range_with_len 0 z)

@@ -1,5 +1,7 @@
 -- A put leaves the node with the pair: over the one that the key had, or with one more.
-use Rattle.std.proofs.Common.{◌≡◌, ℕ, zero, suc, ◌+◌, ◌-◌, ◌*◌, ◌<◌, ◌≤◌, ◌≢◌, List, [], ◌∷◌, ◌++◌, length, get_or, set, take, drop, min, Some, None, refl, sym, ap, ◌∙◌, subst, arith, length-set, get_or-set_other}
+use Rattle.std.proofs.Common.{◌≡◌, ℕ, zero, suc, ◌+◌, ◌-◌, ◌*◌, ◌<◌, ◌≤◌, ◌≢◌, List, [], ◌∷◌, ◌++◌, length, get_or}
+use Rattle.std.proofs.Common.{set, take, drop, min, Some, None, refl, sym, ap, ◌∙◌, subst, arith, length-set}
+use Rattle.std.proofs.Common.{get_or-set_other}
 use Rattle.std.proofs.lemmas.List.{set-get_or, take-take, drop-take}
 use Rattle.std.proofs.Math.Seq.{take-add, drop-cons}
 use Rattle.std.specs.List.{insert}
@@ -9,7 +11,7 @@ use Rattle.vm_tree_model.specs.Fixed.{fixed, fixed_node, fixed_pairs, capacity, 
 use Rattle.vm_tree_model.proofs.FixedLaws.{form_tells, form_from, ones_are}
 use Rattle.vm_tree_model.proofs.WordTests.{zeros_past, zeros_past-from}
 use Rattle.vm_page.specs.Sizes.{IsSize}
-use Rattle.vm_node.proofs.Sizes.{whole, eight}
+use Rattle.vm_node.proofs.Sizes.{whole}
 use Rattle.vm_tree_model.proofs.PairWords.{length-places, length-pairs_of, pairs_of-at, places-at, places-set, places_same}
 use Rattle.vm_tree_model.specs.Edits.{AddsPair}
 use Rattle.vm_node.specs.Places.{place_of}
@@ -38,7 +40,9 @@ pub clean_rest : (z : ℕ) (words : List ℕ) → IsClean (fixed z) words → (i
 clean_rest z words clean = zeros_past words (8 + 2 * get_or words 1 0) (form_tells z words clean).rest
 
 -- the pairs alone change
-pub node_with : (z : ℕ) (old new : List ℕ) (holds : Pairs) → get_or new 0 0 ≡ get_or old 0 0 → ((i : ℕ) → 2 ≤ i → i < 8 → get_or new i 0 ≡ get_or old i 0) → fixed_pairs z new ≡ holds → fixed_node z new ≡ record (fixed_node z old) { pairs = holds }
+pub node_with : (z : ℕ) (old new : List ℕ) (holds : Pairs) → get_or new 0 0 ≡ get_or old 0 0
+    → ((i : ℕ) → 2 ≤ i → i < 8 → get_or new i 0 ≡ get_or old i 0) → fixed_pairs z new ≡ holds
+    → fixed_node z new ≡ record (fixed_node z old) { pairs = holds }
 node_with z old new holds tag header pairs =
     let low = header 2 (omega arith) (omega arith) in
     let level = header 5 (omega arith) (omega arith) in
@@ -55,7 +59,8 @@ take-set_any (e ∷ es) (suc n) (suc i) x = ap (λ (l : Pairs). e ∷ l) (take-s
 
 module _ (z : ℕ) (size_of : IsSize z) (words : List ℕ) (len : length words ≡ z) where
   -- a value is written over
-  pub places-set_value : (i value : ℕ) → i < capacity z → places (set words (9 + 2 * i) value) ≡ set (places words) i (get_or words (8 + 2 * i) 0, value)
+  pub places-set_value : (i value : ℕ) → i < capacity z → places (set words (9 + 2 * i) value) ≡ set (places words) i
+      (get_or words (8 + 2 * i) 0, value)
   places-set_value i value lt =
       let both = places-set z (capacity z) (whole z size_of) words len i (get_or words (8 + 2 * i) 0) value lt in
       let same : set words (8 + 2 * i) (get_or words (8 + 2 * i) 0) ≡ words = set-get_or words (8 + 2 * i) 0 in
@@ -68,11 +73,16 @@ module _ (z : ℕ) (size_of : IsSize z) (words : List ℕ) (len : length words �
 
       pub over_pairs : fixed_pairs z (set words (9 + 2 * at) value) ≡ put_pair (fixed_pairs z words) key value
       over_pairs =
-          let count : get_or (set words (9 + 2 * at) value) 1 0 ≡ get_or words 1 0 = get_or-set_other words (9 + 2 * at) 1 value 0 (omega arith) in
+          let count : get_or (set words (9 + 2 * at) value) 1 0 ≡ get_or words 1 0 =
+          get_or-set_other words (9 + 2 * at) 1 value 0 (omega arith) in
           let written = places-set_value at value (omega arith) in
-          let cut : take (min (get_or words 1 0) (capacity z)) (set (places words) at (get_or words (8 + 2 * at) 0, value)) ≡ set (fixed_pairs z words) at (key, value) =
-          take-set_any (places words) (min (get_or words 1 0) (capacity z)) at _ ∙ ap (λ (k : ℕ). set (fixed_pairs z words) at (k, value)) same in
-          let put : set (fixed_pairs z words) (place_of (fixed_pairs z words) key) (key, value) ≡ put_pair (fixed_pairs z words) key value = put-set (fixed_pairs z words) key value at_lt at_key in
+          let cut : take (min (get_or words 1 0) (capacity z))
+          (set (places words) at (get_or words (8 + 2 * at) 0, value)) ≡ set (fixed_pairs z words)
+          at (key, value) =
+          take-set_any (places words) (min (get_or words 1 0) (capacity z)) at _
+          ∙ ap (λ (k : ℕ). set (fixed_pairs z words) at (k, value)) same in
+          let put : set (fixed_pairs z words) (place_of (fixed_pairs z words) key) (key, value) ≡ put_pair
+          (fixed_pairs z words) key value = put-set (fixed_pairs z words) key value at_lt at_key in
           rw (count, written) (cut ∙ rw (← is) at put)
         where
           at_lt : place_of (fixed_pairs z words) key < length (fixed_pairs z words)
@@ -83,7 +93,9 @@ module _ (z : ℕ) (size_of : IsSize z) (words : List ℕ) (len : length words �
 
       pub over_was : lookup_at (fixed_pairs z words) key ≡ Some (get_or words (9 + 2 * at) 0)
       over_was =
-          let found = lookup-place (fixed_pairs z words) key (omega (arith, is, length-pairs_of z (capacity z) (whole z size_of) words len)) (rw (← is) (ap (λ (x : ℕ × ℕ). x.0) read ∙ same)) in
+          let found = lookup-place (fixed_pairs z words) key
+          (omega (arith, is, length-pairs_of z (capacity z) (whole z size_of) words len))
+          (rw (← is) (ap (λ (x : ℕ × ℕ). x.0) read ∙ same)) in
           found ∙ ap Some (rw (← is) (ap (λ (x : ℕ × ℕ). x.1) read))
 
       over_tag : get_or (set words (9 + 2 * at) value) 0 0 ≡ get_or words 0 0
@@ -98,17 +110,25 @@ module _ (z : ℕ) (size_of : IsSize z) (words : List ℕ) (len : length words �
         tag = over_tag;
         count = rw (get_or-set_other words (9 + 2 * at) 1 value 0 (omega arith)) (form_tells z words clean).count;
         header = over_header;
-        rest = λ i le. let le' = rw (get_or-set_other words (9 + 2 * at) 1 value 0 (omega arith)) at le in get_or-set_other words (9 + 2 * at) i value 0 (omega arith) ∙ clean_rest z words clean i le';
+        rest = λ i le. let le' = rw (get_or-set_other words (9 + 2 * at) 1 value 0 (omega arith)) at le in
+            get_or-set_other words (9 + 2 * at) i value 0 (omega arith) ∙ clean_rest z words clean i le';
       }
 
       pub over_node : AddsPair (fixed z) words (set words (9 + 2 * at) value) key value
-      over_node = record { not_full = λ full. cc (over_was, full.absent); node = node_with z _ _ _ over_tag over_header over_pairs; clean = λ clean. clean_with z _ _ clean (over_edit clean) }
+      over_node = record {
+        not_full = λ full. cc (over_was, full.absent);
+        node = node_with z _ _ _ over_tag over_header over_pairs;
+        clean = λ clean. clean_with z _ _ clean (over_edit clean);
+      }
 
     module _ (other : at < min (get_or words 1 0) (capacity z) → get_or words (8 + 2 * at) 0 ≢ key) where
-      not_there : place_of (fixed_pairs z words) key < length (fixed_pairs z words) → (get_or (fixed_pairs z words) (place_of (fixed_pairs z words) key) (0, 0)).0 ≢ key
+      not_there : place_of (fixed_pairs z words) key < length (fixed_pairs z words)
+          → (get_or (fixed_pairs z words) (place_of (fixed_pairs z words) key) (0, 0)).0 ≢ key
       not_there in_range =
-          let lt : at < min (get_or words 1 0) (capacity z) = omega (arith, is, length-pairs_of z (capacity z) (whole z size_of) words len) in
-          let read : (get_or (fixed_pairs z words) at (0, 0)).0 ≡ get_or words (8 + 2 * at) 0 = ap (λ (x : ℕ × ℕ). x.0) (pairs_of-at z (capacity z) (whole z size_of) words len at lt) in
+          let lt : at < min (get_or words 1 0) (capacity z) =
+          omega (arith, is, length-pairs_of z (capacity z) (whole z size_of) words len) in
+          let read : (get_or (fixed_pairs z words) at (0, 0)).0 ≡ get_or words (8 + 2 * at) 0 =
+          ap (λ (x : ℕ × ℕ). x.0) (pairs_of-at z (capacity z) (whole z size_of) words len at lt) in
           rw (← is) (λ e. other lt (sym read ∙ e))
 
       pub absent : (low high : ℕ) → Rises low high (fixed_pairs z words) → lookup_at (fixed_pairs z words) key ≡ None
@@ -130,10 +150,13 @@ pub record IsShiftedIn (z : ℕ) (old new : List ℕ) (at n key value : ℕ) : T
 
 module _ (z : ℕ) (size_of : IsSize z) (old new : List ℕ) (at n key value : ℕ) (s : IsShiftedIn z old new at n key value) where
   front : take at (places new) ≡ take at (places old)
-  front = places_same z (capacity z) (whole z size_of) new old 0 0 at s.new_length s.old_length (omega (arith, s.place, s.room)) (omega (arith, s.place, s.room)) (λ k lt. s.below (8 + k) (omega arith) (omega arith))
+  front = places_same z (capacity z) (whole z size_of) new old 0 0 at s.new_length s.old_length
+      (omega (arith, s.place, s.room)) (omega (arith, s.place, s.room))
+      (λ k lt. s.below (8 + k) (omega arith) (omega arith))
 
   back : take (n - at) (drop (suc at) (places new)) ≡ take (n - at) (drop at (places old))
-  back = places_same z (capacity z) (whole z size_of) new old (suc at) at (n - at) s.new_length s.old_length (omega (arith, s.place, s.room)) (omega (arith, s.place, s.room))
+  back = places_same z (capacity z) (whole z size_of) new old (suc at) at (n - at) s.new_length s.old_length
+      (omega (arith, s.place, s.room)) (omega (arith, s.place, s.room))
       (λ k lt. ap (λ i. get_or new i 0) (omega arith) ∙ s.moved (8 + 2 * at + k) (omega arith) (omega (arith, s.place)))
 
   here : get_or (places new) at (0, 0) ≡ (key, value)
@@ -144,29 +167,50 @@ module _ (z : ℕ) (size_of : IsSize z) (old new : List ℕ) (at n key value : �
   inside =
       let count : at + suc (n - at) ≡ n + 1 = omega (arith, s.place) in
       let parted : at + (n - at) ≡ min (get_or old 1 0) (capacity z) = omega (arith, s.place, s.count) in
-      let behind : drop at (places new) ≡ get_or (places new) at (0, 0) ∷ drop (suc at) (places new) = drop-cons (places new) at (0, 0) (omega (arith, length-places z (capacity z) (whole z size_of) new s.new_length, s.place, s.room)) in
-      let first : take at (fixed_pairs z old) ≡ take at (places old) = take-take at (min (get_or old 1 0) (capacity z)) (places old) (omega (arith, s.place, s.count)) in
-      let second : drop at (fixed_pairs z old) ≡ take (n - at) (drop at (places old)) = subst (λ m. drop at (take m (places old)) ≡ take (n - at) (drop at (places old))) parted (drop-take at (n - at) (places old)) in
-      let parts : take (n + 1) (places new) ≡ take at (places new) ++ take (suc (n - at)) (drop at (places new)) = subst (λ m. take m (places new) ≡ take at (places new) ++ take (suc (n - at)) (drop at (places new))) count (take-add at (suc (n - at)) (places new)) in
+      let behind : drop at (places new) ≡ get_or (places new) at (0, 0) ∷ drop (suc at) (places new) =
+      drop-cons (places new) at (0, 0)
+      (omega (arith, length-places z (capacity z) (whole z size_of) new s.new_length, s.place, s.room)) in
+      let first : take at (fixed_pairs z old) ≡ take at (places old) =
+      take-take at (min (get_or old 1 0) (capacity z)) (places old) (omega (arith, s.place, s.count)) in
+      let second : drop at (fixed_pairs z old) ≡ take (n - at) (drop at (places old)) =
+      subst (λ m. drop at (take m (places old)) ≡ take (n - at) (drop at (places old))) parted
+      (drop-take at (n - at) (places old)) in
+      let parts : take (n + 1) (places new) ≡ take at (places new) ++ take (suc (n - at)) (drop at (places new)) =
+      subst (λ m. take m (places new) ≡ take at (places new) ++ take (suc (n - at)) (drop at (places new))) count
+      (take-add at (suc (n - at)) (places new)) in
       parts ∙ rw (front, behind, here, back) (rw (first, second) refl)
 
-  module _ (is : at ≡ place_of (fixed_pairs z old) key) (other : at < min (get_or old 1 0) (capacity z) → get_or old (8 + 2 * at) 0 ≢ key) where
+  module _ (is : at ≡ place_of (fixed_pairs z old) key) (other : at < min (get_or old 1 0) (capacity z)
+      → get_or old (8 + 2 * at) 0 ≢ key) where
     into_pairs : fixed_pairs z new ≡ put_pair (fixed_pairs z old) key value
     into_pairs =
         let least : min (n + 1) (capacity z) ≡ n + 1 = omega (arith, s.room) in
-        let put : insert (fixed_pairs z old) (place_of (fixed_pairs z old) key) (key, value) ≡ put_pair (fixed_pairs z old) key value = put-insert (fixed_pairs z old) key value (not_there z size_of old s.old_length key value at is other) in
-        rw (s.more, least) (inside ∙ subst (λ m. insert (fixed_pairs z old) m (key, value) ≡ put_pair (fixed_pairs z old) key value) (sym is) put)
+        let put : insert (fixed_pairs z old) (place_of (fixed_pairs z old) key) (key, value) ≡ put_pair
+        (fixed_pairs z old) key value = put-insert (fixed_pairs z old) key value
+        (not_there z size_of old s.old_length key value at is other) in
+        rw (s.more, least) (inside
+        ∙ subst (λ m. insert (fixed_pairs z old) m (key, value) ≡ put_pair (fixed_pairs z old) key value) (sym is)
+        put)
 
     pub into_node : AddsPair (fixed z) old new key value
     into_node = record {
-      not_full = λ full. omega (arith, full.count, ones_are (fixed_pairs z old), length-pairs_of z (capacity z) (whole z size_of) old s.old_length, s.count, s.room);
+      not_full = λ full. omega (
+        arith,
+        full.count,
+        ones_are (fixed_pairs z old),
+        length-pairs_of z (capacity z)
+            (whole z size_of) old s.old_length,
+        s.count,
+        s.room,
+      );
       node = node_with z _ _ _ tag header into_pairs;
       clean = λ clean. clean_with z _ _ clean (record {
         length = s.new_length;
         tag = tag;
         count = rw s.more (omega (arith, s.room));
         header = header;
-        rest = λ i le. let le' = rw s.more at le in s.rest i (omega arith) ∙ clean_rest z old clean i (omega (arith, s.count, (form_tells z old clean).count));
+        rest = λ i le. let le' = rw s.more at le in s.rest i (omega arith) ∙ clean_rest z old clean i
+            (omega (arith, s.count, (form_tells z old clean).count));
       });
     }
       where

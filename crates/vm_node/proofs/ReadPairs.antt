@@ -7,7 +7,8 @@ use Rattle.vm_node.proofs.Sizes.{whole}
 
 module _ (n : ℕ) (is : IsSize n) (words : List ℕ) (size : length words ≡ n) (i : ℕ) (inside : i < length (fixed_pairs n words)) where
   pub pair_is : get_or (fixed_pairs n words) i (0, 0) ≡ (get_or words (8 + 2 * i) 0, get_or words (9 + 2 * i) 0)
-  pair_is = pairs_of-at n (capacity n) (whole n is) words size i (omega (arith, inside, length-pairs_of n (capacity n) (whole n is) words size))
+  pair_is = pairs_of-at n (capacity n) (whole n is) words size i
+      (omega (arith, inside, length-pairs_of n (capacity n) (whole n is) words size))
 
   pub key_is : (get_or (fixed_pairs n words) i (0, 0)).0 ≡ get_or words (8 + 2 * i) 0
   key_is = ap (λ (e : ℕ × ℕ). e.0) pair_is

@@ -1,5 +1,6 @@
 -- A search by halves looks at as many keys as the capacity has bits.
-use Rattle.std.proofs.Common.{◌≡◌, ℕ, zero, suc, ◌+◌, ◌-◌, ◌*◌, ◌/◌, ◌^◌, ◌<◌, ◌≤◌, List, [], ◌∷◌, length, get_or, subst, ◌∙◌, arith, MatchOption, None, Option, Some}
+use Rattle.std.proofs.Common.{◌≡◌, ℕ, ◌+◌, ◌-◌, ◌*◌, ◌/◌, ◌^◌, ◌<◌, ◌≤◌, List, [], ◌∷◌, length, get_or, subst, ◌∙◌}
+use Rattle.std.proofs.Common.{arith, MatchOption, None, Option, Some}
 use Rattle.vm_map.specs.Map.{Pairs}
 use Rattle.vm_tree_model.specs.Fixed.{fixed_pairs, capacity}
 use Rattle.vm_page.specs.Sizes.{IsSize}
@@ -18,23 +19,32 @@ pub record IsNarrowed (pairs : Pairs) (key from upto low : ℕ) (next : Option �
   pub next_is : MatchOption next (upto ≡ length pairs) (λ k. (upto < length pairs) × ((get_or pairs upto (0, 0)).0 ≡ k))
 
 -- some number of looks led here, and what they tell
-pub record IsSearched (n : ℕ) {P : Type 0} (loads : P → List (ℕ × ℕ) → P → Type 0) (p q : P) (count key from upto low : ℕ) (next : Option ℕ) : Type 0 where
+pub record IsSearched (n : ℕ) {P : Type 0} (loads : P → List (ℕ × ℕ) → P → Type 0) (p q : P)
+    (count key from upto low : ℕ) (next : Option ℕ) : Type 0 where
   pub looks : ℕ
   pub few : looks ≤ looks_for n
   pub left : upto - from < 2 ^ (looks_for n - looks)
-  pub told : Tells n loads p looks q (λ words. count ≡ length (fixed_pairs n words) → IsNarrowed (fixed_pairs n words) key from upto low next)
+  pub told : Tells n loads p looks q (λ words. count ≡ length (fixed_pairs n words)
+      → IsNarrowed (fixed_pairs n words) key from upto low next)
 
-pub search_begins : {n : ℕ} {P : Type 0} {loads : P → List (ℕ × ℕ) → P → Type 0} {p : P} {count key : ℕ} → loads p [] p → IsSize n → count ≤ capacity n → IsSearched n loads p p count key 0 count 0 None
+pub search_begins : {n : ℕ} {P : Type 0} {loads : P → List (ℕ × ℕ) → P → Type 0} {p : P} {count key : ℕ}
+    → loads p [] p → IsSize n → count ≤ capacity n → IsSearched n loads p p count key 0 count 0 None
 search_begins {n = n} through is fits = record {
   looks = 0;
   few = omega arith;
   left = (let zero_looks : looks_for n - 0 ≡ looks_for n = omega arith in rw zero_looks (omega (arith, few n is, fits)));
-  told = told_none through (λ words size is. record { before = λ i e. absurd (omega arith); here = λ lt. absurd (omega arith); low_is = λ i e. absurd (omega arith); next_is = is });
+  told = told_none through (λ words size is. record {
+    before = λ i e. absurd (omega arith);
+    here = λ lt. absurd (omega arith);
+    low_is = λ i e. absurd (omega arith);
+    next_is = is;
+  });
 }
 
 module _ {n : ℕ} {P : Type 0} {loads : P → List (ℕ × ℕ) → P → Type 0} {p q : P} {count key from upto low : ℕ} {next : Option ℕ} where
   pub search_ends : IsSearched n loads p q count key from upto low next → from ≤ upto → upto ≤ from → upto ≤ count
-      → Tells n loads p (looks_for n) q (λ words. count ≡ length (fixed_pairs n words) → IsBound (fixed_pairs n words) key from × HasSides (fixed_pairs n words) from low next)
+      → Tells n loads p (looks_for n) q (λ words. count ≡ length (fixed_pairs n words)
+      → IsBound (fixed_pairs n words) key from × HasSides (fixed_pairs n words) from low next)
   search_ends is le ge inside = told_so is.few is.told (λ words size narrowed all. let m = narrowed all in (
     record {
       inside = omega (arith, all);
@@ -43,14 +53,19 @@ module _ {n : ℕ} {P : Type 0} {loads : P → List (ℕ × ℕ) → P → Type 
     },
     record {
       before = m.low_is;
-      here = subst (λ (i : ℕ). MatchOption next (i ≡ length (fixed_pairs n words)) (λ k. (i < length (fixed_pairs n words)) × ((get_or (fixed_pairs n words) i (0, 0)).0 ≡ k))) (antisym le ge) m.next_is;
+      here = subst (λ (i : ℕ). MatchOption next (i ≡ length (fixed_pairs n words))
+          (λ k. (i < length (fixed_pairs n words)) × ((get_or (fixed_pairs n words) i (0, 0)).0 ≡ k))) (antisym le ge)
+          m.next_is;
     },
   ))
     where
       antisym : from ≤ upto → upto ≤ from → upto ≡ from
       antisym a b = omega arith
 
-module _ {n : ℕ} (size_of : IsSize n) {P : Type 0} {loads : P → List (ℕ × ℕ) → P → Type 0} {p q r : P} {count key from upto low middle x : ℕ} {next : Option ℕ} (join : Joins loads) (is : IsSearched n loads p q count key from upto low next) (some : from < upto) (inside : upto ≤ count) (place : middle ≡ from + (upto - from) / 2)
+module _ {n : ℕ} (size_of : IsSize n) {P : Type 0} {loads : P → List (ℕ × ℕ) → P → Type 0} {p q r : P}
+    {count key from upto low middle x : ℕ} {next : Option ℕ} (join : Joins loads)
+    (is : IsSearched n loads p q count key from upto low next) (some : from < upto) (inside : upto ≤ count)
+    (place : middle ≡ from + (upto - from) / 2)
     (look : loads q ((8 + 2 * middle, x) ∷ []) r) where
   more : (j : ℕ) × (looks_for n - is.looks ≡ j + 1) × ((upto - from) / 2 < 2 ^ j)
   more = halved (upto - from) (looks_for n - is.looks) (omega (arith, some)) is.left
@@ -61,7 +76,8 @@ module _ {n : ℕ} (size_of : IsSize n) {P : Type 0} {loads : P → List (ℕ ×
     few = omega (arith, more.1);
     left = (let fewer : looks_for n - (is.looks + 1) ≡ more.0 = omega (arith, more.1) in rw fewer (omega (arith, more.2)));
     told = told_so (omega arith) (told_then join is.told (told_word look)) (λ words size told all. record {
-      before = λ i e. let at : i ≡ middle = omega arith in rw at (rw (key_is n size_of words size middle (omega (arith, all)) ∙ told.1) below);
+      before = λ i e. let at : i ≡ middle = omega arith in
+          rw at (rw (key_is n size_of words size middle (omega (arith, all)) ∙ told.1) below);
       here = (told.0 all).here;
       low_is = λ i e. let at : i ≡ middle = omega arith in rw at (key_is n size_of words size middle (omega (arith, all)) ∙ told.1);
       next_is = (told.0 all).next_is;
@@ -77,6 +93,7 @@ module _ {n : ℕ} (size_of : IsSize n) {P : Type 0} {loads : P → List (ℕ ×
       before = (told.0 all).before;
       here = λ lt. rw (key_is n size_of words size middle lt ∙ told.1) from_here;
       low_is = (told.0 all).low_is;
-      next_is = let inside : middle < length (fixed_pairs n words) = omega (arith, all) in (inside, key_is n size_of words size middle inside ∙ told.1);
+      next_is = let inside : middle < length (fixed_pairs n words) = omega (arith, all) in
+          (inside, key_is n size_of words size middle inside ∙ told.1);
     });
   }

@@ -1,5 +1,5 @@
 -- What follows of a page's size.
-use Rattle.std.proofs.Common.{◌≡◌, ℕ, zero, suc, ◌+◌, ◌-◌, ◌*◌, ◌/◌, ◌^◌, ◌<◌, ◌≤◌, arith}
+use Rattle.std.proofs.Common.{◌≡◌, ℕ, zero, suc, ◌+◌, ◌*◌, ◌/◌, ◌^◌, ◌<◌, ◌≤◌, arith}
 use Rattle.std.proofs.Math.Nat.{pow-succ'}
 use Rattle.vm_tree_model.specs.Fixed.{capacity}
 use Rattle.vm_tree_model.proofs.FixedLaws.{size_is}
@@ -30,6 +30,3 @@ big n is = size_is (λ k. 28 ≤ capacity k) n is (omega arith) (omega arith)
 -- two halves are all pairs of a full node
 pub halves : (n : ℕ) → IsSize n → capacity n ≡ 2 * half_of n
 halves n is = size_is (λ k. capacity k ≡ 2 * half_of k) n is (omega arith) (omega arith)
-
-pub small : (n : ℕ) → IsSize n → n ≤ 512
-small n is = size_is (λ k. k ≤ 512) n is (omega arith) (omega arith)

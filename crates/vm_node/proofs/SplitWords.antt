@@ -1,9 +1,10 @@
 -- What the words of a split node say.
-use Rattle.std.proofs.Common.{◌≡◌, ℕ, zero, suc, ◌+◌, ◌-◌, ◌*◌, ◌/◌, ◌^◌, ◌<◌, ◌≤◌, inl, List, [], ◌∷◌, length, get_or, take, drop, min, refl, sym, ap, ◌∙◌, arith, length-drop, replicate}
+use Rattle.std.proofs.Common.{◌≡◌, ℕ, zero, suc, ◌+◌, ◌-◌, ◌*◌, ◌^◌, ◌<◌, ◌≤◌, inl, List, length, get_or, take, drop}
+use Rattle.std.proofs.Common.{min, refl, sym, ap, ◌∙◌, arith, length-drop, replicate}
 use Rattle.std.proofs.lemmas.List.{take_all}
 use Rattle.vm_map.specs.Map.{Pairs}
 use Rattle.vm_tree_model.specs.Node.{Node}
-use Rattle.vm_tree_model.specs.Layout.{IsClean, pairs_size, cut_from, cut}
+use Rattle.vm_tree_model.specs.Layout.{pairs_size, cut_from, cut}
 use Rattle.vm_tree_model.specs.Edits.{IsSplit}
 use Rattle.vm_tree_model.specs.Fixed.{fixed, fixed_pairs, capacity, places}
 use Rattle.vm_tree_model.proofs.FixedLaws.{form_tells, form_from, ones_are, cut_is}
@@ -43,11 +44,20 @@ less_none k = omega arith
 
 -- the cut of an even number of pairs is the half
 pub cut-half : (l : Pairs) (half : ℕ) → length l ≡ 2 * half → cut_from (λ _. 1) 0 (pairs_size (λ _. 1) l) l ≡ half
-cut-half l half long = let sum : pairs_size (λ _. 1) l ≡ 2 * half = ones_are l ∙ long in rw sum (cut_is l 0 half (omega arith) (omega (arith, long)) ∙ less_none half)
+cut-half l half long = let sum : pairs_size (λ _. 1) l ≡ 2 * half = ones_are l ∙ long in
+    rw sum (cut_is l 0 half (omega arith) (omega (arith, long)) ∙ less_none half)
 
-module _ (z half : ℕ) (size_of : IsSize z) (even : capacity z ≡ 2 * half) (old new right : List ℕ) (h : IsHalved z half old new right) (full : length (fixed_pairs z old) ≡ capacity z) (fits : get_or old (8 + 2 * half) 0 < 2 ^ 64) where
+module _ (z half : ℕ) (size_of : IsSize z) (even : capacity z ≡ 2 * half) (old new right : List ℕ)
+    (h : IsHalved z half old new right) (full : length (fixed_pairs z old) ≡ capacity z)
+    (fits : get_or old (8 + 2 * half) 0 < 2 ^ 64) where
   all_places : fixed_pairs z old ≡ places old
-  all_places = take_all _ (places old) (omega (arith, length-places z (capacity z) (whole z size_of) old h.old_length, full, length-pairs_of z (capacity z) (whole z size_of) old h.old_length))
+  all_places = take_all _ (places old)
+      (omega (
+        arith,
+        length-places z (capacity z) (whole z size_of) old h.old_length,
+        full,
+        length-pairs_of z (capacity z) (whole z size_of) old h.old_length,
+      ))
 
   at : cut_from (λ _. 1) 0 (pairs_size (λ _. 1) (fixed_pairs z old)) (fixed_pairs z old) ≡ half
   at = cut-half (fixed_pairs z old) half (full ∙ even)
@@ -59,17 +69,31 @@ module _ (z half : ℕ) (size_of : IsSize z) (even : capacity z ≡ 2 * half) (o
   least = omega (arith, even)
 
   left_pairs : fixed_pairs z new ≡ take half (fixed_pairs z old)
-  left_pairs = rw (h.count, least, all_places) (places_same z (capacity z) (whole z size_of) new old 0 0 half h.new_length h.old_length (omega (arith, even)) (omega (arith, even)) (λ k lt. h.kept (8 + k) (omega arith) (omega (arith, lt))))
+  left_pairs = rw (h.count, least, all_places)
+      (places_same z (capacity z) (whole z size_of) new old 0 0 half h.new_length h.old_length (omega (arith, even))
+      (omega (arith, even)) (λ k lt. h.kept (8 + k) (omega arith) (omega (arith, lt))))
 
   right_pairs : fixed_pairs z right ≡ drop half (fixed_pairs z old)
-  right_pairs = rw (h.right_count, least, all_places) (places_same z (capacity z) (whole z size_of) right old 0 half half h.right_length h.old_length (omega (arith, even)) (omega (arith, even)) (λ k lt. h.moved k lt)
-      ∙ take_all half (drop half (places old)) (omega (arith, even, length-drop half (places old), length-places z (capacity z) (whole z size_of) old h.old_length)))
+  right_pairs = rw (h.right_count, least, all_places)
+      (places_same z (capacity z) (whole z size_of) right old 0 half half h.right_length h.old_length
+      (omega (arith, even)) (omega (arith, even)) (λ k lt. h.moved k lt)
+      ∙ take_all half (drop half (places old))
+      (omega (
+        arith,
+        even,
+        length-drop half (places old),
+        length-places z (capacity z) (whole z size_of) old
+            h.old_length,
+      )))
 
   pub split_is : IsSplit (fixed z) old new right (get_or old (8 + 2 * half) 0)
   split_is = record {
-    separates = ap (λ (i : ℕ). (get_or (fixed_pairs z old) i (0, 0)).0) at ∙ ap (λ (x : ℕ × ℕ). x.0) (pairs_of-at z (capacity z) (whole z size_of) old h.old_length half (some_left half_some));
-    left_is = node_path _ _ h.tag h.level h.low (rw (h.endless, h.high) refl) (left_pairs ∙ ap (λ (i : ℕ). take i (fixed_pairs z old)) (sym at));
-    right_is = node_path _ _ h.right_tag h.right_level h.right_low (rw (h.right_endless, h.right_high) refl) (right_pairs ∙ ap (λ (i : ℕ). drop i (fixed_pairs z old)) (sym at));
+    separates = ap (λ (i : ℕ). (get_or (fixed_pairs z old) i (0, 0)).0) at ∙ ap (λ (x : ℕ × ℕ). x.0)
+        (pairs_of-at z (capacity z) (whole z size_of) old h.old_length half (some_left half_some));
+    left_is = node_path _ _ h.tag h.level h.low (rw (h.endless, h.high) refl)
+        (left_pairs ∙ ap (λ (i : ℕ). take i (fixed_pairs z old)) (sym at));
+    right_is = node_path _ _ h.right_tag h.right_level h.right_low (rw (h.right_endless, h.right_high) refl)
+        (right_pairs ∙ ap (λ (i : ℕ). drop i (fixed_pairs z old)) (sym at));
     left_clean = λ clean. let f = form_tells z old clean in form_from z new (record {
       length = h.new_length;
       count = rw h.count (omega (arith, even));
@@ -93,10 +117,12 @@ module _ (z half : ℕ) (size_of : IsSize z) (even : capacity z ≡ 2 * half) (o
 
 -- a full node has pairs on both sides of the cut
 pub cut_inside : (z : ℕ) → IsSize z → (l : Pairs) → length l ≡ capacity z → cut (fixed z) l < length l
-cut_inside z size l full = let at = cut-half l (half_of z) (full ∙ halves z size) in let some = big z size in omega (arith, at, full, halves z size, some)
+cut_inside z size l full = let at = cut-half l (half_of z) (full ∙ halves z size) in let some = big z size in
+    omega (arith, at, full, halves z size, some)
 
 pub cut_some : (z : ℕ) → IsSize z → (l : Pairs) → length l ≡ capacity z → 1 ≤ cut (fixed z) l
-cut_some z size l full = let at = cut-half l (half_of z) (full ∙ halves z size) in let some = big z size in omega (arith, at, halves z size, some)
+cut_some z size l full = let at = cut-half l (half_of z) (full ∙ halves z size) in let some = big z size in
+    omega (arith, at, halves z size, some)
 
 pub zeros : (n k : ℕ) → get_or {A = ℕ} (replicate n 0) k 0 ≡ 0
 zeros zero k = refl

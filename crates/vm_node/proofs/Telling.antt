@@ -14,7 +14,8 @@ abbrev pub Joins : {P : Type 0} → (P → List (ℕ × ℕ) → P → Type 0) �
 Joins {P} loads = (p q r : P) (first then : List (ℕ × ℕ)) → loads p first q → loads q then r → loads p (first ++ then) r
 
 all_first : (words : List ℕ) (first then : List (ℕ × ℕ)) → All (Has words) (first ++ then) → All (Has words) first
-all_first words first then all = subst (All (Has words)) (take-append_seam first then) (All-take (Has words) (length first) (first ++ then) all)
+all_first words first then all =
+    subst (All (Has words)) (take-append_seam first then) (All-take (Has words) (length first) (first ++ then) all)
 
 all_then : (words : List ℕ) (first then : List (ℕ × ℕ)) → All (Has words) (first ++ then) → All (Has words) then
 all_then words [] then all = all
@@ -29,7 +30,8 @@ page_then n first then words is = record { size = is.size; has = all_then words 
 
 module _ {n : ℕ} {P : Type 0} {loads : P → List (ℕ × ℕ) → P → Type 0} where
   -- nothing was loaded
-  pub told_none : {p : P} {most : ℕ} {claim : List ℕ → Type 0} → loads p [] p → ((words : List ℕ) → length words ≡ n → claim words) → Tells n loads p most p claim
+  pub told_none : {p : P} {most : ℕ} {claim : List ℕ → Type 0} → loads p [] p
+      → ((words : List ℕ) → length words ≡ n → claim words) → Tells n loads p most p claim
   told_none through all = record { loaded = []; through = through; few = omega arith; claims = λ words is. all words is.size }
 
   -- one word was
@@ -42,7 +44,8 @@ module _ {n : ℕ} {P : Type 0} {loads : P → List (ℕ × ℕ) → P → Type 
   }
 
   -- some words were, and then others
-  pub told_then : {p q r : P} {m k : ℕ} {A B : List ℕ → Type 0} → Joins loads → Tells n loads p m q A → Tells n loads q k r B → Tells n loads p (m + k) r (λ words. A words × B words)
+  pub told_then : {p q r : P} {m k : ℕ} {A B : List ℕ → Type 0} → Joins loads → Tells n loads p m q A
+      → Tells n loads q k r B → Tells n loads p (m + k) r (λ words. A words × B words)
   told_then {p = p} {q = q} {r = r} join a b = record {
     loaded = a.loaded ++ b.loaded;
     through = join p q r a.loaded b.loaded a.through b.through;
@@ -54,7 +57,8 @@ module _ {n : ℕ} {P : Type 0} {loads : P → List (ℕ × ℕ) → P → Type 
   }
 
   -- what follows from what was told
-  pub told_so : {p q : P} {m k : ℕ} {A B : List ℕ → Type 0} → m ≤ k → Tells n loads p m q A → ((words : List ℕ) → length words ≡ n → A words → B words) → Tells n loads p k q B
+  pub told_so : {p q : P} {m k : ℕ} {A B : List ℕ → Type 0} → m ≤ k → Tells n loads p m q A
+      → ((words : List ℕ) → length words ≡ n → A words → B words) → Tells n loads p k q B
   told_so le told so = record {
     loaded = told.loaded;
     through = told.through;
@@ -64,5 +68,6 @@ module _ {n : ℕ} {P : Type 0} {loads : P → List (ℕ × ℕ) → P → Type 
 
   -- of a page that stands in a buffer, which loads leave as it is
   module _ {p q : P} {most : ℕ} {claim : List ℕ → Type 0} {page buffer after : List ℕ} where
-    pub told_buffer : (told : Tells n loads p most q claim) → IsBuffer buffer told.loaded after → buffer ≡ page → length buffer ≡ n → claim page
+    pub told_buffer : (told : Tells n loads p most q claim) → IsBuffer buffer told.loaded after → buffer ≡ page
+        → length buffer ≡ n → claim page
     told_buffer told is same size = subst claim same (told.claims buffer (record { size = size; has = is.has }))

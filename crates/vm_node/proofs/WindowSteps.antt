@@ -1,5 +1,6 @@
 -- The pairs from a key on, among keys that rise, are those from the place where the keys stop being lower.
-use Rattle.std.proofs.Common.{◌≡◌, ℕ, ◌+◌, ◌<◌, ◌≤◌, true, false, [], ◌∷◌, ◌++◌, length, get_or, take, drop, leb, ltb, List, ◌*◌, refl, sym, ap, ◌∙◌, arith, append-nil, append_assoc, inl, inr}
+use Rattle.std.proofs.Common.{◌≡◌, ℕ, ◌+◌, ◌<◌, ◌≤◌, true, false, [], ◌∷◌, ◌++◌, length, get_or, take, drop, leb, ltb}
+use Rattle.std.proofs.Common.{List, ◌*◌, refl, sym, ap, ◌∙◌, arith, append-nil, append_assoc, inl, inr}
 use Rattle.std.proofs.lemmas.Bool.Decides.{nat_tests}
 use Rattle.std.proofs.lemmas.Bool.{cases_lt}
 use Rattle.std.proofs.lemmas.List.{drop_more, drop_all}
@@ -49,14 +50,18 @@ pub record IsTaking (n start count i : ℕ) (taken : Pairs) (words : List ℕ) :
   pub bound : IsBound (fixed_pairs n words) start first
   pub whole : taken ++ drop i (fixed_pairs n words) ≡ drop first (fixed_pairs n words)
 
-pub taking_begins : (n start count first : ℕ) (words : List ℕ) → count ≡ length (fixed_pairs n words) → IsBound (fixed_pairs n words) start first → IsTaking n start count first [] words
+pub taking_begins : (n start count first : ℕ) (words : List ℕ) → count ≡ length (fixed_pairs n words)
+    → IsBound (fixed_pairs n words) start first → IsTaking n start count first [] words
 taking_begins n start count first words all bound = record { all = all; first = first; bound = bound; whole = refl }
 
 module _ (n : ℕ) (size_of : IsSize n) (start count i : ℕ) (taken : Pairs) (words : List ℕ) (is : IsTaking n start count i taken words) where
   -- among keys that rise, those are the pairs from the start on
-  from_start : (low high : ℕ) → Rises low high (fixed_pairs n words) → taken ++ drop i (fixed_pairs n words) ≡ from_key start (fixed_pairs n words)
+  from_start : (low high : ℕ) → Rises low high (fixed_pairs n words)
+      → taken ++ drop i (fixed_pairs n words) ≡ from_key start (fixed_pairs n words)
   from_start low high rises =
-      is.whole ∙ ap (λ (m : ℕ). drop m (fixed_pairs n words)) (bound_place (fixed_pairs n words) low high start is.first rises is.bound) ∙ from_place (fixed_pairs n words) low high start rises
+      is.whole ∙ ap (λ (m : ℕ). drop m (fixed_pairs n words))
+      (bound_place (fixed_pairs n words) low high start is.first rises is.bound)
+      ∙ from_place (fixed_pairs n words) low high start rises
 
   module _ (size : length words ≡ n) (key : ℕ) (left : i < count) (read_key : get_or words (8 + 2 * i) 0 ≡ key) where
     inside : i < length (fixed_pairs n words)
@@ -64,27 +69,34 @@ module _ (n : ℕ) (size_of : IsSize n) (start count i : ℕ) (taken : Pairs) (w
 
     pub taking_more : (value : ℕ) → get_or words (9 + 2 * i) 0 ≡ value → IsTaking n start count (i + 1) (taken ++ (key, value) ∷ []) words
     taking_more value read_value =
-        let here : get_or (fixed_pairs n words) i (0, 0) ≡ (key, value) = pair_is n size_of words size i inside ∙ (λ j. (read_key j, read_value j)) in
+        let here : get_or (fixed_pairs n words) i (0, 0) ≡ (key, value) = pair_is n size_of words size i inside
+        ∙ (λ j. (read_key j, read_value j)) in
         record {
           all = is.all;
           first = is.first;
           bound = is.bound;
-          whole = append_assoc taken ((key, value) ∷ []) (drop (i + 1) (fixed_pairs n words)) ∙ ap (λ (l : Pairs). taken ++ l) (sym (next (fixed_pairs n words) i key value inside here)) ∙ is.whole;
+          whole = append_assoc taken ((key, value) ∷ []) (drop (i + 1) (fixed_pairs n words))
+              ∙ ap (λ (l : Pairs). taken ++ l) (sym (next (fixed_pairs n words) i key value inside here)) ∙ is.whole;
         }
 
     -- for the next pair there is no room
     pub taking_stops : (most low high : ℕ) → length taken ≡ most → Rises low high (fixed_pairs n words)
-        → (taken ≡ take most (from_key start (fixed_pairs n words))) × (key ≡ bound_after (from_key start (fixed_pairs n words)) most (high_of words))
+        → (taken ≡ take most (from_key start (fixed_pairs n words)))
+        × (key ≡ bound_after (from_key start (fixed_pairs n words)) most (high_of words))
     taking_stops most low high long rises =
         let value : ℕ = (get_or (fixed_pairs n words) i (0, 0)).1 in
-        let here : get_or (fixed_pairs n words) i (0, 0) ≡ (key, value) = ap (λ (k : ℕ). (k, value)) (key_is n size_of words size i inside ∙ read_key) in
+        let here : get_or (fixed_pairs n words) i (0, 0) ≡ (key, value) =
+        ap (λ (k : ℕ). (k, value)) (key_is n size_of words size i inside ∙ read_key) in
         let whole : taken ++ (key, value) ∷ drop (i + 1) (fixed_pairs n words) ≡ from_key start (fixed_pairs n words) =
         ap (λ (l : Pairs). taken ++ l) (sym (next (fixed_pairs n words) i key value inside here)) ∙ from_start low high rises in
         (first_shown _ _ _ _ _ whole long, first_bound _ _ _ _ _ (high_of words) whole long)
 
   -- no pair is left
-  pub taking_ends : (bound most low high : ℕ) → count ≤ i → bound ≡ high_of words → length taken ≤ most → Rises low high (fixed_pairs n words)
-      → (taken ≡ take most (from_key start (fixed_pairs n words))) × (bound ≡ bound_after (from_key start (fixed_pairs n words)) most (high_of words))
+  pub taking_ends : (bound most low high : ℕ) → count ≤ i → bound ≡ high_of words → length taken ≤ most
+      → Rises low high (fixed_pairs n words)
+      → (taken ≡ take most (from_key start (fixed_pairs n words)))
+      × (bound ≡ bound_after (from_key start (fixed_pairs n words)) most (high_of words))
   taking_ends bound most low high past fence few rises =
-      let whole : taken ≡ from_key start (fixed_pairs n words) = none_left _ _ (fixed_pairs n words) i (omega (arith, past, is.all)) (from_start low high rises) in
+      let whole : taken ≡ from_key start (fixed_pairs n words) =
+      none_left _ _ (fixed_pairs n words) i (omega (arith, past, is.all)) (from_start low high rises) in
       (all_shown _ _ _ whole few, fence ∙ all_bound _ _ _ (high_of words) whole few)

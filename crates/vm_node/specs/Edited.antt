@@ -40,4 +40,5 @@ edited n words edit = map (λ i. edited_word n words edit i) (range_with_len 0 n
 
 -- of each page the edit leaves the words but the count before the first of these places, and from the second on
 abbrev pub LeavesElse : ℕ → Edit → ℕ → ℕ → Type 0
-LeavesElse n edit first end = (words : List ℕ) (i : ℕ) → i < n → i ≢ 1 → (i < first) ⊎ (end ≤ i) → edited_word n words edit i ≡ slice_index words i
+LeavesElse n edit first end = (words : List ℕ) (i : ℕ) → i < n → i ≢ 1 → (i < first) ⊎ (end ≤ i)
+    → edited_word n words edit i ≡ slice_index words i

@@ -10,7 +10,8 @@ pub record IsPageWith (n : ℕ) (loaded : List (ℕ × ℕ)) (words : List ℕ) 
   pub has : All (λ l. slice_index words l.0 ≡ l.1) loaded
 
 -- Between one value of a place and another words were loaded, this many at most; and what is claimed holds of each page that has them
-pub record Tells {P : Type 0} (n : ℕ) (loads : P → List (ℕ × ℕ) → P → Type 0) (p : P) (most : ℕ) (q : P) (claim : List ℕ → Type 0) : Type 0 where
+pub record Tells {P : Type 0} (n : ℕ) (loads : P → List (ℕ × ℕ) → P → Type 0) (p : P) (most : ℕ) (q : P)
+    (claim : List ℕ → Type 0) : Type 0 where
   pub loaded : List (ℕ × ℕ)
   pub through : loads p loaded q
   pub few : length loaded ≤ most

@@ -1,6 +1,6 @@
 //! Two neighbouring leaves become one: the left one takes over the pairs of the right one, and its high fence.
 
-ghost use Rattle.std.specs.Prelude.{◌≡◌, ℕ, ◌+◌, ◌<◌, ◌≤◌, length};
+ghost use Rattle.std.specs.Prelude.{◌≡◌, ◌+◌, ◌<◌, ◌≤◌, length};
 ghost use Rattle.vm_page.specs.Sizes.{IsSize};
 ghost use Rattle.vm_tree_model.specs.Fixed.{fixed, capacity};
 ghost use Rattle.vm_tree_model.specs.Page.{pairs_of, node_of, IsLeaf};

@@ -66,7 +66,7 @@ pub fn value_at<const N: usize>(page: &PageBuf<N>, i: usize) -> u64
 /// Where the keys of a page begin to be above one, and the keys on both sides of that place: of the pair before, 0 where there is none, and of the one
 /// there, if there is one.
 #[derive(Clone, Copy, Drop)]
-pub struct Above {
+pub struct UpperBound {
     pub at: usize,
     pub low: u64,
     pub next: Option<u64>,
@@ -74,7 +74,7 @@ pub struct Above {
 
 /// Where the keys of these first pairs begin to be above this one, found by halves: the pair before the place has no key above, and the
 /// one at the place has one. The search has loaded the keys of both. At most 5 words are loaded of a page of 64, and 8 of one of 512.
-pub fn upper_bound_at<P: Place>(place: &mut P, words: usize, count: usize, key: u64) -> Above
+pub fn upper_bound_at<P: Place>(place: &mut P, words: usize, count: usize, key: u64) -> UpperBound
     requires ready { P.ready place.old }
     requires sized { IsSize words }
     requires size { P.size place.old ≡ words }
@@ -102,7 +102,7 @@ pub fn upper_bound_at<P: Place>(place: &mut P, words: usize, count: usize, key: 
             next = Some(found);
         }
     }
-    Above {
+    UpperBound {
         at: from,
         low,
         next,

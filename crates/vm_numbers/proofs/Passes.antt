@@ -2,7 +2,8 @@
 use mathlib.Core.Option as maybe
 use mathlib.Core.Option.{some, some-injective}
 use lib.ListN.{get_elem?}
-use Rattle.std.proofs.Common.{⊎_elim, [], ◌++◌, ◌+◌, ◌<◌, ◌||◌, ◌∙◌, ◌∷◌, ◌≡◌, ◌≢◌, ◌≤◌, ◌⊎◌, ap, arith, Bool, false, inl, inr, List, refl, slice_set, subst, suc, sym, true, zero, ℕ}
+use Rattle.std.proofs.Common.{⊎_elim, [], ◌++◌, ◌+◌, ◌||◌, ◌∙◌, ◌∷◌, ◌≡◌, ◌≢◌, ◌≤◌, ◌⊎◌, ap, arith, Bool, false, inl}
+use Rattle.std.proofs.Common.{inr, List, refl, slice_set, subst, suc, sym, true, zero, ℕ}
 use Rattle.std.proofs.lemmas.Bool.{cases_Bool}
 use Rattle.vm_owner.specs.Numbers.{has}
 use Rattle.vm_owner.proofs.NumberLemmas.{has-both}
@@ -47,7 +48,13 @@ module _ (set : ℕ → Bool) (next : ℕ) (last logical : ℕ → List ℕ) (ha
     -- the other's numbers are nowhere for a moment
     gone : NumbersFit set next last logical without
     gone = moves-keep set set next next last last logical logical hands other u no_hands at (omega arith)
-        (λ p. record { count = inl (omega arith); words = inl (λ z. z, λ z. z); free = fit.free p; held = λ e. absurd cc; freed = λ e. absurd cc })
+        (λ p. record {
+          count = inl (omega arith);
+          words = inl (λ z. z, λ z. z);
+          free = fit.free p;
+          held = λ e. absurd cc;
+          freed = λ e. absurd cc;
+        })
         fit
 
     still : get_elem? without id ≡ some h
@@ -70,13 +77,20 @@ module _ (set : ℕ → Bool) (next : ℕ) (last logical : ℕ → List ℕ) (ha
         record {
           count = ⊎_elim
               (λ some'. let k = nowhere p some' in let low = fit.below p (let a = hands-at p hands other u at in omega (arith, a, some')) in
-              inr (k.0, (let n = fit.once p in let two = hands-two p hands id other h u (λ e. ne (sym e)) there at in omega (arith, numbers, freed, two, n)), low))
+              inr (
+                k.0,
+                (let n = fit.once p in let two = hands-two p hands id other h u (λ e. ne (sym e)) there at in
+                    omega (arith, numbers, freed, two, n)),
+                low,
+              ))
               (λ none. inl (omega (arith, numbers, freed, none)))
               (cases p);
           words = inl (λ z. z, λ z. z);
           free = fit.free p;
-          held = λ e. ⊎_elim (λ a. fit.held id h there p a) (λ b. let o = fit.held other u at p b in (o.0, λ _. o.1 (free p))) (or-parts _ _ (sym (has-both p h.numbers u.numbers) ∙ e));
-          freed = λ e. ⊎_elim (λ a. fit.freed id h there p a) (λ b. let o = fit.freed other u at p b in (o.0, λ _. o.1 (free p))) (or-parts _ _ (sym (has-both p h.freed u.freed) ∙ e));
+          held = λ e. ⊎_elim (λ a. fit.held id h there p a) (λ b. let o = fit.held other u at p b in
+              (o.0, λ _. o.1 (free p))) (or-parts _ _ (sym (has-both p h.numbers u.numbers) ∙ e));
+          freed = λ e. ⊎_elim (λ a. fit.freed id h there p a) (λ b. let o = fit.freed other u at p b in
+              (o.0, λ _. o.1 (free p))) (or-parts _ _ (sym (has-both p h.freed u.freed) ∙ e));
         })
         gone)
       where
@@ -106,6 +120,11 @@ module _ (set : ℕ → Bool) (next : ℕ) (last logical : ℕ → List ℕ) (ha
     once = λ p. let sum = more-sum p hands in let once = fit.once p in omega (arith, sum, once);
     below = λ p e. fit.below p (let sum = more-sum p hands in omega (arith, sum, e));
     free = fit.free;
-    held = λ j u at p e. ⊎_elim (λ a. fit.held j u a p e) (λ (same : u ≡ no_hands). absurd (let none : has p u.numbers ≡ false = ap (λ (y : Hands). has p y.numbers) same in cc)) (more-at hands j u at);
-    freed = λ j u at p e. ⊎_elim (λ a. fit.freed j u a p e) (λ (same : u ≡ no_hands). absurd (let none : has p u.freed ≡ false = ap (λ (y : Hands). has p y.freed) same in cc)) (more-at hands j u at);
+    held = λ j u at p e. ⊎_elim (λ a. fit.held j u a p e)
+        (λ (same : u ≡ no_hands).
+        absurd (let none : has p u.numbers ≡ false = ap (λ (y : Hands). has p y.numbers) same in cc))
+        (more-at hands j u at);
+    freed = λ j u at p e. ⊎_elim (λ a. fit.freed j u a p e)
+        (λ (same : u ≡ no_hands). absurd (let none : has p u.freed ≡ false = ap (λ (y : Hands). has p y.freed) same in
+        cc)) (more-at hands j u at);
   }

@@ -1,12 +1,14 @@
--- Free page numbers: where the number of each page stands, and what that says of the page's words. A number stands in one place at most: its bit is set, or a
+-- Free page numbers: where the number of each page stands, and what that says of the page's words. A number stands in
+-- one place at most: its bit is set, or a
 -- pass holds it, or a pass freed the page and has still to give it, or the page is owed to a pass.
-use Rattle.std.specs.Prelude.{[], ◌++◌, ◌+◌, ◌<◌, ◌∷◌, ◌≡◌, ◌≤◌, ◌⊎◌, Bool, false, if◌then◌else◌, List, slice_set, true, ℕ}
+use Rattle.std.specs.Prelude.{[], ◌++◌, ◌+◌, ◌<◌, ◌∷◌, ◌≡◌, ◌≤◌, ◌⊎◌, Bool, false, if◌then◌else◌, List, true, ℕ}
 use lib.ListN.{get_elem?}
 use mathlib.Core.Option.{some}
 use Rattle.vm_owner.specs.Numbers.{has, without}
 pub use Rattle.vm_page.specs.Pages.{all_zero}
 
--- What a pass has of page numbers: those that it holds; those of pages that the first release of a group of it freed, and that it has still to give; the pages
+-- What a pass has of page numbers: those that it holds; those of pages that the first release of a group of it freed,
+-- and that it has still to give; the pages
 -- that it claimed for a group still to be released; and the members still to be released of a group that is released in part
 pub record Hands : Type 0 where
   pub numbers : List ℕ
@@ -26,7 +28,8 @@ abbrev pub in_hands : ℕ → List Hands → ℕ
 in_hands p [] = 0
 in_hands p (h ∷ hs) = in_hand p h + in_hands p hs
 
--- Whether the bit of each page is set, the next word, the words of each page's last version, its logical words, and what the passes have fit together
+-- Whether the bit of each page is set, the next word, the words of each page's last version, its logical words, and
+-- what the passes have fit together
 pub record NumbersFit (set : ℕ → Bool) (next : ℕ) (last logical : ℕ → List ℕ) (hands : List Hands) : Type 0 where
   pub once : (p : ℕ) → unit_if (set p) + in_hands p hands ≤ 1
   -- a number that stands somewhere was claimed
@@ -71,13 +74,18 @@ after_first p rest last drafts h =
     }
 
 abbrev pub after_later : ℕ → (ℕ → List ℕ) → Hands → Hands
-after_later p drafts h = record h { numbers = if all_zero (drafts p) then h.numbers else without p h.numbers; pending = without p h.pending }
+after_later p drafts h = record h {
+  numbers = if all_zero (drafts p) then h.numbers else without p h.numbers;
+  pending = without p h.pending;
+}
 
--- a pass may release page q with this draft: it changes nothing, or the page is in use, or is owed to the pass, or the pass holds its number
+-- a pass may release page q with this draft: it changes nothing, or the page is in use, or is owed to the pass, or
+-- the pass holds its number
 abbrev pub IsUsable : Hands → List ℕ → List ℕ → ℕ → Type 0
 IsUsable h last draft q = (draft ≡ last) ⊎ (all_zero last ≡ false) ⊎ (has q h.owed ≡ true) ⊎ (has q h.numbers ≡ true)
 
--- page q, with these logical words, may get its number back from the pass: it is no member still to be released, or its number is held and the words are 0
+-- page q, with these logical words, may get its number back from the pass: it is no member still to be released, or
+-- its number is held and the words are 0
 abbrev pub IsGivable : Hands → List ℕ → ℕ → Type 0
 IsGivable h logical q = (has q h.pending ≡ false) ⊎ ((has q h.numbers ≡ true) × (all_zero logical ≡ true))
 

@@ -1,5 +1,6 @@
 -- Pages after changes that come together.
-use Rattle.std.proofs.Common.{◌≡◌, ◌≢◌, ℕ, ◌+◌, ◌<◌, Bool, true, false, List, [], ◌∷◌, length, set, sum_by, refl, ap, ◌∙◌, arith, length-set, get_or-set_same, get_or-set_other}
+use Rattle.std.proofs.Common.{◌≡◌, ◌≢◌, ℕ, ◌+◌, ◌<◌, Bool, true, false, List, [], ◌∷◌, length, set, sum_by, refl, ap}
+use Rattle.std.proofs.Common.{◌∙◌, arith, length-set, get_or-set_same, get_or-set_other}
 use Rattle.std.proofs.lemmas.Bool.Decides.{nat_tests}
 use Rattle.std.proofs.lemmas.List.Sums.{sum_by-set}
 use Rattle.vm_page.specs.Pages.{page_at}
@@ -11,18 +12,21 @@ pub length-changed : (cs : List Change) (pages : List (List ℕ)) → length (ch
 length-changed [] pages = refl
 length-changed (c ∷ cs) pages = length-changed cs (set pages c.page c.new) ∙ length-set pages c.page c.new
 
-pub changed-other : (cs : List Change) (pages : List (List ℕ)) (x : ℕ) → has x (changed_pages cs) ≡ false → page_at (changed cs pages) x ≡ page_at pages x
+pub changed-other : (cs : List Change) (pages : List (List ℕ)) (x : ℕ) → has x (changed_pages cs) ≡ false
+    → page_at (changed cs pages) x ≡ page_at pages x
 changed-other [] pages x none = refl
 changed-other (c ∷ cs) pages x none =
     let ne : x ≢ c.page = grind (arith, nat_tests, none) in
     let rest : has x (changed_pages cs) ≡ false = grind (arith, nat_tests, none) in
     changed-other cs (set pages c.page c.new) x rest ∙ get_or-set_other pages c.page x c.new [] ne
 
-pub changed-here : (c : Change) (cs : List Change) (pages : List (List ℕ)) → has c.page (changed_pages cs) ≡ false → c.page < length pages → page_at (changed (c ∷ cs) pages) c.page ≡ c.new
+pub changed-here : (c : Change) (cs : List Change) (pages : List (List ℕ)) → has c.page (changed_pages cs) ≡ false
+    → c.page < length pages → page_at (changed (c ∷ cs) pages) c.page ≡ c.new
 changed-here c cs pages none lt = changed-other cs (set pages c.page c.new) c.page none ∙ get_or-set_same pages c.page c.new [] lt
 
 -- what holds of the later changes still does after the first
-pub Agrees-set : (cs : List Change) (pages : List (List ℕ)) (p : ℕ) (w : List ℕ) → has p (changed_pages cs) ≡ false → Agrees pages cs → Agrees (set pages p w) cs
+pub Agrees-set : (cs : List Change) (pages : List (List ℕ)) (p : ℕ) (w : List ℕ) → has p (changed_pages cs) ≡ false
+    → Agrees pages cs → Agrees (set pages p w) cs
 Agrees-set [] pages p w none agrees = tt
 Agrees-set (c ∷ cs) pages p w none agrees =
     let ne : c.page ≢ p = grind (arith, nat_tests, none) in
@@ -49,7 +53,8 @@ AreApart-owed_after [] owed apart = apart
 AreApart-owed_after (c ∷ cs) owed apart = AreApart-owed_after cs (without c.page owed) (AreApart-without c.page owed apart)
 
 -- a page that does not change is owed after as before
-pub has-owed_after_other : (cs : List Change) (owed : List ℕ) (x : ℕ) → has x (changed_pages cs) ≡ false → has x (owed_after cs owed) ≡ has x owed
+pub has-owed_after_other : (cs : List Change) (owed : List ℕ) (x : ℕ) → has x (changed_pages cs) ≡ false
+    → has x (owed_after cs owed) ≡ has x owed
 has-owed_after_other [] owed x none = refl
 has-owed_after_other (c ∷ cs) owed x none =
     let ne : x ≢ c.page = grind (arith, nat_tests, none) in
@@ -66,7 +71,9 @@ pub not_owed_after : (cs : List Change) (owed : List ℕ) (x : ℕ) → has x (c
 not_owed_after [] owed x some = absurd (cc)
 not_owed_after (c ∷ cs) owed x some = go (has x (changed_pages cs)) refl (not_owed_after cs (without c.page owed) x)
   where
-    go : (b : Bool) → has x (changed_pages cs) ≡ b → (has x (changed_pages cs) ≡ true → has x (owed_after cs (without c.page owed)) ≡ false) → has x (owed_after cs (without c.page owed)) ≡ false
+    go : (b : Bool) → has x (changed_pages cs) ≡ b
+        → (has x (changed_pages cs) ≡ true → has x (owed_after cs (without c.page owed)) ≡ false)
+        → has x (owed_after cs (without c.page owed)) ≡ false
     go true later rest = rest later
     go false first rest =
         let same : x ≡ c.page = grind (arith, nat_tests, some, first) in

@@ -1,5 +1,6 @@
 -- Lists of page numbers, read as sets.
-use Rattle.std.proofs.Common.{◌≡◌, ◌≢◌, ℕ, ◌+◌, ◌≤◌, ◌||◌, eqb, eq-eqb, Bool, true, false, List, [], ◌∷◌, ◌++◌, length, if◌then◌else◌, refl, ap, ◌∙◌, ⊎_elim, arith}
+use Rattle.std.proofs.Common.{◌≡◌, ◌≢◌, ℕ, ◌+◌, ◌≤◌, ◌||◌, eqb, eq-eqb, Bool, true, false, List, [], ◌∷◌, ◌++◌}
+use Rattle.std.proofs.Common.{length, if◌then◌else◌, refl, ap, ◌∙◌, ⊎_elim, arith}
 use Rattle.std.proofs.lemmas.Bool.{cases_Bool, ne_eqb}
 use Rattle.std.proofs.lemmas.Bool.Decides.{nat_tests}
 use Rattle.vm_owner.specs.Numbers.{has, without, AreApart}
@@ -70,4 +71,5 @@ apart-end (q ∷ qs) k apart none =
 -- two lists, one behind the other, without a number
 pub without-both : (p : ℕ) (l m : List ℕ) → without p (l ++ m) ≡ without p l ++ without p m
 without-both p [] m = refl
-without-both p (q ∷ qs) m = ⊎_elim (λ t. rw t (without-both p qs m)) (λ f. rw f (ap (λ (l : List ℕ). q ∷ l) (without-both p qs m))) (cases_Bool (eqb p q))
+without-both p (q ∷ qs) m = ⊎_elim (λ t. rw t (without-both p qs m))
+    (λ f. rw f (ap (λ (l : List ℕ). q ∷ l) (without-both p qs m))) (cases_Bool (eqb p q))

@@ -1,5 +1,6 @@
 -- What a layer above a page store keeps a relation of, as plain data, and the steps that change it.
-use Rattle.std.specs.Prelude.{◌≡◌, ◌&&◌, ◌||◌, ◌⊎◌, ℕ, zero, suc, ◌+◌, ◌<◌, ◌≤◌, ◌==◌, Bool, true, false, List, [], ◌∷◌, ◌++◌, length, slice_index, slice_set, if◌then◌else◌}
+use Rattle.std.specs.Prelude.{◌≡◌, ◌&&◌, ◌||◌, ◌⊎◌, ℕ, zero, suc, ◌+◌, ◌<◌, ◌≤◌, ◌==◌, Bool, true, false, List, []}
+use Rattle.std.specs.Prelude.{◌∷◌, ◌++◌, length, slice_index, slice_set, if◌then◌else◌}
 use Rattle.vm_page.specs.Pages.{all_zero, page_at}
 use Rattle.vm_owner.specs.Numbers.{has, without, AreApart}
 use Rattle.vm_owner.specs.declared.Entry.{Entry}
@@ -10,7 +11,8 @@ pub record Start : Type 0 where
   pub next : ℕ
   pub free : List ℕ
 
--- The logical pages, the next page, the pages that were claimed for a group still to be released, the page numbers whose bits are set, those
+-- The logical pages, the next page, the pages that were claimed for a group still to be released, the page numbers
+-- whose bits are set, those
 -- that are held, those of freed pages still to be given, and the history
 pub record Kept (S : Type 0) : Type 0 where
   pub pages : List (List ℕ)
@@ -98,7 +100,12 @@ module _ {S : Type 0} where
 
   -- after pages were released together, at the group's first release
   abbrev pub after_release : List Change → List (Entry S) → Kept S → Kept S
-  after_release changes entries kept = record kept { pages = changed changes kept.pages; owed = owed_after changes kept.owed; freed = λ p. frees changes p || kept.freed p; history = kept.history ++ entries }
+  after_release changes entries kept = record kept {
+    pages = changed changes kept.pages;
+    owed = owed_after changes kept.owed;
+    freed = λ p. frees changes p || kept.freed p;
+    history = kept.history ++ entries;
+  }
 
   -- after a validated read
   abbrev pub told : List (Entry S) → Kept S → Kept S
@@ -116,22 +123,39 @@ module _ {S : Type 0} where
 
   -- what stands at the start
   abbrev pub first_kept : Start → Kept S
-  first_kept start = record { pages = start.pages; next = start.next; owed = []; free = λ p. has p start.free; held = λ p. false; freed = λ p. false; history = [] }
+  first_kept start = record {
+    pages = start.pages;
+    next = start.next;
+    owed = [];
+    free = λ p. has p start.free;
+    held = λ p. false;
+    freed = λ p. false;
+    history = [];
+  }
 
   -- the number of page p is free, held or still to be given
   abbrev pub is_spare : Kept S → ℕ → Bool
   is_spare kept p = kept.free p || kept.held p || kept.freed p
 
-  -- When numbers may move: those that are taken have their bits set, those that are given are held or of freed pages, and all have zero pages; a hold that ends
+  -- When numbers may move: those that are taken have their bits set, those that are given are held or of freed pages,
+  -- and all have zero pages; a hold that ends
   -- is of a page that is not zero
   abbrev pub MayMove : Kept S → NumberMove → Type 0
   MayMove kept (Taken mask) = (p : ℕ) → mask p ≡ true → (kept.free p ≡ true) × (all_zero (page_at kept.pages p) ≡ true)
-  MayMove kept (Given mask) = (p : ℕ) → mask p ≡ true → ((kept.held p ≡ true) ⊎ (kept.freed p ≡ true)) × (all_zero (page_at kept.pages p) ≡ true)
+  MayMove kept (Given mask) = (p : ℕ) → mask p ≡ true → ((kept.held p ≡ true) ⊎ (kept.freed p ≡ true))
+      × (all_zero (page_at kept.pages p) ≡ true)
   MayMove kept (Ended p) = all_zero (page_at kept.pages p) ≡ false
 
   -- after it
   abbrev pub moved : NumberMove → Kept S → Kept S
-  moved (Taken mask) kept = record kept { free = λ p. if mask p then false else kept.free p; held = λ p. if mask p then true else kept.held p }
+  moved (Taken mask) kept = record kept {
+    free = λ p. if mask p then false else kept.free p;
+    held = λ p. if mask p then true else kept.held p;
+  }
   moved (Given mask) kept =
-      record kept { free = λ p. if mask p then true else kept.free p; held = λ p. if mask p then false else kept.held p; freed = λ p. if mask p then false else kept.freed p }
+      record kept {
+        free = λ p. if mask p then true else kept.free p;
+        held = λ p. if mask p then false else kept.held p;
+        freed = λ p. if mask p then false else kept.freed p;
+      }
   moved (Ended q) kept = record kept { held = λ p. if p == q then false else kept.held p }

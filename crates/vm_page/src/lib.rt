@@ -2,5 +2,9 @@
 #![tactic(auto)]
 
 mod buf;
+mod failed;
+mod memory;
 
 pub use buf::{LARGE, PageBuf, WORDS};
+pub use failed::Failed;
+pub use memory::Memory;

@@ -1,20 +1,27 @@
 -- The last state of a table that was closed with a pass that has all parts and holds no page: every block is at home, and the words and
 -- blocks are those of the pass's snapshot. The blocks are taken out of their slots one after another.
 use mathlib.Core.Option as maybe
-use Rattle.vm_rule.specs.declared.view.Place.TheVariants as places
-use Rattle.vm_pool.proofs.Prelude.{[], all-seen, ap, arith, at, at-any, at-bound, at-listed, at-map, at-there, at_home, at_index, began_of, begun-ruled}
-use Rattle.vm_pool.proofs.Prelude.{block_in, block_of, Bool, bounds_of, bundles_of, cases_eq, clean-of, common_steps, core_shown, EVICTED, false, Filled}
-use Rattle.vm_pool.proofs.Prelude.{Final, found-below, get_elem?, get_or, get_or-set_other, HasShape, HasStepped, HoldsNoPage, if◌then◌else◌, index_of}
-use Rattle.vm_pool.proofs.Prelude.{IsClosed, IsSome, IsStored, IsWhole, Kept, kept_by, known, last_of, length, length-listed, length-mapped, List, listed}
-use Rattle.vm_pool.proofs.Prelude.{listed-long, listed-same, LOCKED, lt-ltb, map, map-append, mapping_in, no_block, None, notes-stand, NotesStand, Option}
-use Rattle.vm_pool.proofs.Prelude.{Origin, others-have-nothing, Out, out_of, out_or, pages_from, PageStands, refl, Ruled, seat_of, Seen, Shape, slice_set}
-use Rattle.vm_pool.proofs.Prelude.{Snapshot, snapshot_of, Some, some, some-injective, Stands, stands-known, Start, state_in, Stored, subst, suc, sym, Table}
-use Rattle.vm_pool.proofs.Prelude.{table-known, table_words, take, take-suc, true, true≢false, version-below, version_in, version_of, View, what-is-kept}
-use Rattle.vm_pool.proofs.Prelude.{without-locks, world_of, zero, ℕ, ⊎_elim, ◌*◌, ◌++◌, ◌+◌, ◌<◌, ◌∙◌, ◌∷◌, ◌≡◌, ◌≢◌, ◌≤◌}
+use Rattle.vm_rule.specs.declared.view.WordPlace.TheVariants as places
+use Rattle.vm_pool.proofs.Prelude.{[], all-seen, ap, arith, at, at-any, at-bound, at-listed, at-map, at-there}
+use Rattle.vm_pool.proofs.Prelude.{at_home, at_index, began_of, begun-ruled, block_in, block_of, Bool, bounds_of}
+use Rattle.vm_pool.proofs.Prelude.{bundles_of, cases_eq, clean-of, common_steps, core_shown, EVICTED, false, Filled}
+use Rattle.vm_pool.proofs.Prelude.{Final, found-below, get_elem?, get_or, get_or-set_other, HasShape, HasStepped}
+use Rattle.vm_pool.proofs.Prelude.{HoldsNoPage, if◌then◌else◌, index_of, IsClosed, IsSome, IsStored, IsWhole, Kept}
+use Rattle.vm_pool.proofs.Prelude.{kept_by, known, last_of, length, length-listed, length-mapped, List, listed}
+use Rattle.vm_pool.proofs.Prelude.{listed-long, listed-same, LOCKED, lt-ltb, map, map-append, mapping_in, no_block}
+use Rattle.vm_pool.proofs.Prelude.{None, notes-stand, NotesStand, Option, Origin, others-have-nothing, Out, out_of}
+use Rattle.vm_pool.proofs.Prelude.{out_or, pages_from, PageStands, refl, Ruled, seat_of, Seen, slice_set, TableShape}
+use Rattle.vm_pool.proofs.Prelude.{Snapshot, snapshot_of, Some, some, some-injective, Stands, stands-known, Start}
+use Rattle.vm_pool.proofs.Prelude.{state_in, Stored, subst, suc, sym, Table, table-known, table_words, take, take-suc}
+use Rattle.vm_pool.proofs.Prelude.{true, true≢false, version-below, version_in, version_of, View, what-is-kept}
+use Rattle.vm_pool.proofs.Prelude.{without-locks, world_of, zero, ℕ, ⊎_elim, ◌*◌, ◌++◌, ◌+◌, ◌<◌, ◌∙◌, ◌∷◌, ◌≡◌, ◌≢◌}
+use Rattle.vm_pool.proofs.Prelude.{◌≤◌}
 
 module _ {B : Type 0} where
   -- one block more
-  pub taken-more : (before after : List B) (block : B) (pushed : Bool) (xs : List (Option B)) (p q : ℕ) → q ≡ suc p → map Some before ≡ take p xs → get_elem? xs p ≡ some (Some block) → after ≡ (if pushed then before ++ block ∷ [] else before) → pushed ≡ true → map Some after ≡ take q xs
+  pub taken-more : (before after : List B) (block : B) (pushed : Bool) (xs : List (Option B)) (p q : ℕ) → q ≡ suc p
+      → map Some before ≡ take p xs → get_elem? xs p ≡ some (Some block)
+      → after ≡ (if pushed then before ++ block ∷ [] else before) → pushed ≡ true → map Some after ≡ take q xs
   unfolding at
   taken-more before after block pushed xs p q next was here grown done =
       ap (map Some) (grown ∙ ap (λ y. if y then before ++ block ∷ [] else before) done)
@@ -29,11 +36,13 @@ module _ {B : Type 0} where
   none-at (x ∷ xs) (suc k) e = none-at xs k e
 
   -- no slot is empty
-  pub never-none : (xs : List (Option B)) → (items : List B) × (map Some items ≡ xs) → (k : ℕ) (slot : Option B) → get_elem? xs k ≡ some slot → slot ≡ None → ⊥
+  pub never-none : (xs : List (Option B)) → (items : List B) × (map Some items ≡ xs) → (k : ℕ) (slot : Option B)
+      → get_elem? xs k ≡ some slot → slot ≡ None → ⊥
   never-none xs home k slot e none = none-at home.0 k (ap (λ l. get_elem? l k) home.1 ∙ e ∙ ap some none)
 
   -- where each slot has a block, these are the blocks
-  pub all-home : (xs : List (Option B)) → ((k : ℕ) → k < length xs → (b : B) × (get_elem? xs k ≡ some (Some b))) → (items : List B) × (map Some items ≡ xs)
+  pub all-home : (xs : List (Option B)) → ((k : ℕ) → k < length xs → (b : B) × (get_elem? xs k ≡ some (Some b)))
+      → (items : List B) × (map Some items ≡ xs)
   all-home [] each = ([], refl)
   all-home (x ∷ xs) each =
       let b = each 0 (omega arith) in
@@ -44,7 +53,8 @@ module _ {B : Type 0} where
 pub filled-next : (fs : List Bool) (p n : ℕ) → Filled fs p n → Filled (slice_set fs p false) (p + 1) n
 filled-next fs p n full k le l = get_or-set_other fs p k false false (λ e. omega arith) ∙ full k (omega arith) l
 
-pub emptied-next : (fs : List Bool) (p : ℕ) → ((k : ℕ) → k < p → get_or fs k false ≡ false) → (k : ℕ) → k < p + 1 → get_or (slice_set fs p false) k false ≡ false
+pub emptied-next : (fs : List Bool) (p : ℕ) → ((k : ℕ) → k < p → get_or fs k false ≡ false) → (k : ℕ) → k < p + 1
+    → get_or (slice_set fs p false) k false ≡ false
 emptied-next fs p before k l = grind (arith, common_steps, before k)
 
 -- ---- lists
@@ -54,11 +64,13 @@ unfolding at
 there-at d l i inside = at_index l i (at d l i) inside (at-any d (at d l i) l i inside)
 
 -- two lists of one length that agree at each place
-same-lists : {A : Type 0} (d : A) (xs ys : List A) (n : ℕ) → length xs ≡ n → length ys ≡ n → ((p : ℕ) → p < n → at d xs p ≡ at d ys p) → xs ≡ ys
+same-lists : {A : Type 0} (d : A) (xs ys : List A) (n : ℕ) → length xs ≡ n → length ys ≡ n
+    → ((p : ℕ) → p < n → at d xs p ≡ at d ys p) → xs ≡ ys
 same-lists d xs ys n a b each = sym (listed-long d n xs a) ∙ listed-same n (at d xs) (at d ys) each ∙ listed-long d n ys b
 
 -- the block in a slot
-at-slot : {B : Type 0} (stored : B → Stored) (items : List B) (k : ℕ) (b : B) → get_elem? (map Some items) k ≡ some (Some b) → at no_block (map stored items) k ≡ stored b
+at-slot : {B : Type 0} (stored : B → Stored) (items : List B) (k : ℕ) (b : B)
+    → get_elem? (map Some items) k ≡ some (Some b) → at no_block (map stored items) k ≡ stored b
 unfolding at
 at-slot stored [] k b e = absurd (maybe.some-ne-none (Some b) (sym e))
 at-slot stored (x ∷ xs) zero b e = let same : Some x ≡ Some b = some-injective (Some x) (Some b) e in ap stored cc
@@ -71,7 +83,9 @@ home-some (maybe.some None) is = absurd (true≢false (sym is))
 home-some (maybe.some (Some b)) is = (b, refl, refl)
 
 -- the version of a page of the table is its state word's
-version-there : {X B : Type 0} (stored : B → Stored) (start : Origin) (s : Table (Option B) (View X)) (p : ℕ) → p < start.pages → ((core_shown stored start s).pages p).version ≡ version_of ((table_words start s.words).states p)
+version-there : {X B : Type 0} (stored : B → Stored) (start : Origin) (s : Table (Option B) (View X)) (p : ℕ)
+    → p < start.pages → ((core_shown stored start s).pages p).version ≡ version_of
+    ((table_words start s.words).states p)
 unfolding pages_from
 version-there stored start s p l = rw (lt-ltb p start.pages l) refl
 
@@ -82,18 +96,22 @@ module _ {X : Type 0} where
   none-out [] none p = refl
   none-out (v ∷ vs) none p = ap (λ (o : Option Out). out_or o p (out_of vs p)) (none 0 v refl) ∙ none-out vs (λ j u e. none (suc j) u e) p
 
-module _ {X B : Type 0} (stored : B → Stored) (keeps : Start → Kept X → Type 0) (tied : Start → ℕ → List ℕ → ℕ → List ℕ → Type 0) (start : Origin) (tells : Bool) (s : Table (Option B) (View X)) (r : Ruled stored keeps tied start tells s)
+module _ {X B : Type 0} (stored : B → Stored) (keeps : Start → Kept X → Type 0)
+    (tied : Start → ℕ → List ℕ → ℕ → List ℕ → Type 0) (start : Origin) (tells : Bool) (s : Table (Option B) (View X))
+    (r : Ruled stored keeps tied start tells s)
     (id : ℕ) (v : View X) (stepped : HasStepped s.views id v) (holds : HoldsNoPage v) where
   nothing-out : (p : ℕ) → out_of s.views p ≡ None
   nothing-out =
       none-out s.views
       (λ j u there. ⊎_elim
-      (λ (e : j ≡ id). ap (λ (y : View X). y.out) (some-injective u v (sym there ∙ ap (get_elem? s.views) e ∙ stepped.pass.there)) ∙ holds.out)
+      (λ (e : j ≡ id). ap (λ (y : View X). y.out)
+      (some-injective u v (sym there ∙ ap (get_elem? s.views) e ∙ stepped.pass.there)) ∙ holds.out)
       (λ ne. (others-have-nothing stored keeps tied start tells s r id v stepped.pass j u ne there).holds.out)
       (cases_eq j id))
 
   -- each block is at home
-  home-at : (p : ℕ) → p < start.pages → (b : B) × (get_elem? s.homes p ≡ some (some (Some b))) × (block_of stored s.homes s.views p ≡ stored b)
+  home-at : (p : ℕ) → p < start.pages → (b : B) × (get_elem? s.homes p ≡ some (some (Some b)))
+      × (block_of stored s.homes s.views p ≡ stored b)
   unfolding block_of
   home-at p l =
       let long : length s.homes ≡ start.pages = r.wide.1 in
@@ -102,7 +120,9 @@ module _ {X B : Type 0} (stored : B → Stored) (keeps : Start → Kept X → Ty
 
 -- ---- the last state
 
-module _ {X B : Type 0} (stored : B → Stored) (keeps : Start → Kept X → Type 0) (tied : Start → ℕ → List ℕ → ℕ → List ℕ → Type 0) (shape : Shape) (tells : Bool) (id : ℕ) (v : View X) (live : v.live ≡ true) (whole : IsWhole v) (current : v.current ≡ true) (holds : HoldsNoPage v)
+module _ {X B : Type 0} (stored : B → Stored) (keeps : Start → Kept X → Type 0)
+    (tied : Start → ℕ → List ℕ → ℕ → List ℕ → Type 0) (shape : TableShape) (tells : Bool) (id : ℕ) (v : View X)
+    (live : v.live ≡ true) (whole : IsWhole v) (current : v.current ≡ true) (holds : HoldsNoPage v)
     (ws : List ℕ) (xs : List (Option B)) (last : Final (Seen (Stands stored keeps tied shape tells) id v) ws xs) where
   abbrev s : Table (Option B) (View X)
   s = last.0
@@ -137,14 +157,19 @@ module _ {X B : Type 0} (stored : B → Stored) (keeps : Start → Kept X → Ty
       (h.0, last.4 k (Some h.0) h.1))
 
   -- the next word
-  next-there : (size pages frames : ℕ) → size ≡ shape.size → pages ≡ shape.pages → frames ≡ shape.frames → at 0 ws (3 * pages + size * frames + bundles_of frames) ≡ (table_words start s.words).next
+  next-there : (size pages frames : ℕ) → size ≡ shape.size → pages ≡ shape.pages → frames ≡ shape.frames
+      → at 0 ws (3 * pages + size * frames + bundles_of frames) ≡ (table_words start s.words).next
   next-there size pages frames z p f =
-      (λ i. at 0 ws (3 * (p ∙ sym is-ruled.0.pages) i + (z ∙ sym is-ruled.0.size) i * (f ∙ sym is-ruled.0.frames) i + bundles_of ((f ∙ sym is-ruled.0.frames) i))) ∙ sym (ap (λ l. at 0 l (index_of start places.Next)) last.2)
+      (λ i. at 0 ws (3 * (p ∙ sym is-ruled.0.pages) i + (z ∙ sym is-ruled.0.size) i * (f ∙ sym is-ruled.0.frames)
+      i + bundles_of ((f ∙ sym is-ruled.0.frames) i)))
+      ∙ sym (ap (λ l. at 0 l (index_of start places.Next)) last.2)
 
   -- it is at most the number of pages
-  pub next-small : (size pages frames : ℕ) → size ≡ shape.size → pages ≡ shape.pages → frames ≡ shape.frames → pages ≤ 65536 → at 0 ws (3 * pages + size * frames + bundles_of frames) ≤ 65536
+  pub next-small : (size pages frames : ℕ) → size ≡ shape.size → pages ≡ shape.pages → frames ≡ shape.frames
+      → pages ≤ 65536 → at 0 ws (3 * pages + size * frames + bundles_of frames) ≤ 65536
   next-small size pages frames z p f few =
-      let here : at 0 ws (3 * pages + size * frames + bundles_of frames) ≡ (table_words start s.words).next = next-there size pages frames z p f in
+      let here : at 0 ws (3 * pages + size * frames + bundles_of frames) ≡ (table_words start s.words).next =
+      next-there size pages frames z p f in
       let low : (table_words start s.words).next ≤ start.pages = rule.inv.next in
       let same : start.pages ≡ shape.pages = is-ruled.0.pages in
       omega arith
@@ -164,7 +189,8 @@ module _ {X B : Type 0} (stored : B → Stored) (keeps : Start → Kept X → Ty
 
     all-shown : blocks ≡ v.snapshot.blocks
     all-shown =
-        same-lists no_block blocks (listed start.pages (block_of stored s.homes s.views)) start.pages blocks-long (length-listed start.pages (block_of stored s.homes s.views))
+        same-lists no_block blocks (listed start.pages (block_of stored s.homes s.views)) start.pages blocks-long
+        (length-listed start.pages (block_of stored s.homes s.views))
         (λ p l. item-at p l ∙ sym (at-listed no_block start.pages (block_of stored s.homes s.views) p l))
         ∙ sym (ap (λ (n : Snapshot). n.blocks) same-snapshot)
 
@@ -172,12 +198,14 @@ module _ {X B : Type 0} (stored : B → Stored) (keeps : Start → Kept X → Ty
     all-bounds =
         same-lists 0 (bounds_of blocks) start.bounds start.pages (length-mapped (λ (b : Stored). b.bound) blocks ∙ blocks-long) rule.sized.1
         (λ p l. let long : length blocks ≡ start.pages = blocks-long in
-        at-map (λ (b : Stored). b.bound) 0 no_block blocks p (omega arith) ∙ ap (λ (b : Stored). b.bound) (item-at p l) ∙ rule.blocks.bounds p l)
+        at-map (λ (b : Stored). b.bound) 0 no_block blocks p (omega arith) ∙ ap (λ (b : Stored). b.bound)
+        (item-at p l) ∙ rule.blocks.bounds p l)
 
     page-stands : (p : ℕ) → p < v.start.pages → PageStands v.start v.releases v.snapshot (seat_of v p) p
     page-stands p l =
         let many : v.start.pages ≡ start.pages = ap (λ (o : Origin). o.pages) same-start in
-        subst (λ (o : Origin). PageStands o v.releases v.snapshot (seat_of v p) p) (sym same-start) (stands-known stored keeps tied start tells s rule id v stepped p (omega arith))
+        subst (λ (o : Origin). PageStands o v.releases v.snapshot (seat_of v p) p) (sym same-start)
+        (stands-known stored keeps tied start tells s rule id v stepped p (omega arith))
 
     -- the block of a page that is evicted, or not dirty, has its last words: nobody has locked the page
     words-stored : v.start.tells ≡ true → (p : ℕ) → p < v.start.pages → IsStored v p → (block_in v.snapshot p).words ≡ (last_of v p).words
@@ -187,7 +215,8 @@ module _ {X B : Type 0} (stored : B → Stored) (keeps : Start → Kept X → Ty
         ⊎_elim
         (λ (gone : state_in v.start v.snapshot p ≡ EVICTED). page.device t gone)
         (λ here.
-        let in_frame = clean-of (mapping_in v.start v.snapshot p) (page.resident free here) (⊎_elim (λ gone. absurd (here gone)) (λ clean. clean) is) in
+        let in_frame = clean-of (mapping_in v.start v.snapshot p) (page.resident free here)
+        (⊎_elim (λ gone. absurd (here gone)) (λ clean. clean) is) in
         page.clean t free _ in_frame.1 refl)
         (cases_eq (state_in v.start v.snapshot p) EVICTED)
 
@@ -197,27 +226,40 @@ module _ {X B : Type 0} (stored : B → Stored) (keeps : Start → Kept X → Ty
     none-left : (v.pending ≡ []) × (v.owed ≡ [])
     none-left = without-locks stored keeps tied start tells s rule id v last.1.1 live holds.exclusive
 
-    pub closes : (size pages frames next : ℕ) → size ≡ shape.size → pages ≡ shape.pages → frames ≡ shape.frames → next ≡ at 0 ws (3 * pages + size * frames + bundles_of frames) → IsClosed tells keeps v blocks next
+    pub closes : (size pages frames next : ℕ) → size ≡ shape.size → pages ≡ shape.pages → frames ≡ shape.frames
+        → next ≡ at 0 ws (3 * pages + size * frames + bundles_of frames) → IsClosed tells keeps v blocks next
     closes size pages frames next z p f n =
         record {
           count = blocks-long ∙ sym (ap (λ (o : Origin). o.pages) same-start);
           shown = all-shown;
           bounds = all-bounds ∙ sym (ap (λ (o : Origin). o.bounds) same-start);
           faults = λ q l. ap (λ k. (at no_block k q).count) all-shown ∙ sym ((page-stands q l).fault (holds.exclusive q) (holds.writing q));
-          noted = λ q count some. subst (λ (k : List Stored). (1 ≤ count) × (count ≤ (at no_block k q).count)) (sym all-shown) (notes.noted q count some);
+          noted = λ q count some. subst (λ (k : List Stored). (1 ≤ count) × (count ≤ (at no_block k q).count))
+              (sym all-shown) (notes.noted q count some);
           once = notes.once;
-          words = λ t q l is. ap (λ k. (at no_block k q).words) all-shown ∙ words-stored (ap (λ (o : Origin). o.tells) same-start ∙ rule.telling ∙ t) q l is;
-          next_is = n ∙ next-there size pages frames z p f ∙ (λ i. (table_words (sym same-start i) (sym (ap (λ (y : Snapshot). y.words) same-snapshot) i)).next);
+          words = λ t q l is. ap (λ k. (at no_block k q).words) all-shown
+              ∙ words-stored (ap (λ (o : Origin). o.tells) same-start ∙ rule.telling ∙ t) q l is;
+          next_is = n ∙ next-there size pages frames z p f
+              ∙ (λ i. (table_words (sym same-start i) (sym (ap (λ (y : Snapshot). y.words) same-snapshot) i)).next);
           released = none-left.0;
           paid = none-left.1;
-          kept = λ t. subst (λ (o : Origin). keeps (began_of o) (kept_by v)) (sym same-start) (what-is-kept stored keeps tied start tells s rule id v stepped none-left.0 (rule.telling ∙ t));
+          kept = λ t. subst (λ (o : Origin). keeps (began_of o) (kept_by v)) (sym same-start)
+              (what-is-kept stored keeps tied start tells s rule id v stepped none-left.0 (rule.telling ∙ t));
           own = (let h = all-seen stored keeps tied start tells s rule id v stepped.pass in h.1 ∙ sym h.0);
-          found = λ x h. let most : x ≤ (table_words start s.words).next = found-below (world_of stored start rule.releases rule.drafts s) v.log x (rule.known id v last.1.1 live).words h in subst (λ k. x ≤ k) (sym (n ∙ next-there size pages frames z p f)) most;
+          found = λ x h. let most : x ≤ (table_words start s.words).next =
+              found-below (world_of stored start rule.releases rule.drafts s) v.log x
+              (rule.known id v last.1.1 live).words h in
+              subst (λ k. x ≤ k) (sym (n ∙ next-there size pages frames z p f)) most;
           versions = λ q word l h.
               let inside : q < start.pages = subst (λ (o : Origin). q < o.pages) same-start l in
-              let most : version_of word ≤ ((world_of stored start rule.releases rule.drafts s).core.pages q).version = version-below (world_of stored start rule.releases rule.drafts s) v.log q word (rule.known id v last.1.1 live).words h in
-              let there : ((world_of stored start rule.releases rule.drafts s).core.pages q).version ≡ version_of ((table_words start s.words).states q) = version-there stored start s q inside in
-              let stands : version_of ((table_words start s.words).states q) ≡ version_in v.start v.snapshot q = (λ i. version_of ((table_words (sym same-start i) (sym (ap (λ (y : Snapshot). y.words) same-snapshot) i)).states q)) in
+              let most : version_of word ≤ ((world_of stored start rule.releases rule.drafts s).core.pages
+              q).version = version-below (world_of stored start rule.releases rule.drafts s) v.log q word
+              (rule.known id v last.1.1 live).words h in
+              let there : ((world_of stored start rule.releases rule.drafts s).core.pages q).version ≡ version_of
+              ((table_words start s.words).states q) = version-there stored start s q inside in
+              let stands : version_of ((table_words start s.words).states q) ≡ version_in v.start v.snapshot q =
+              (λ i. version_of ((table_words (sym same-start i)
+              (sym (ap (λ (y : Snapshot). y.words) same-snapshot) i)).states q)) in
               let is : version_in v.start v.snapshot q ≡ (last_of v q).version = (page-stands q l).version in
               omega arith;
         }

@@ -1,4 +1,5 @@
--- What bringing a page does: a frame is allocated, after one sweep where none was free, and the page is brought into it; or no frame was to be
+-- What bringing a page does: a frame is allocated, after one sweep where none was free, and the page is brought into
+-- it; or no frame was to be
 -- had, for a cause that the sweep tells.
 use Rattle.std.specs.Prelude.{[], ◌++◌, ◌+◌, ◌-◌, ◌^◌, ◌∷◌, ◌≡◌, ◌≤◌, ◌⊎◌, Err, List, min, None, Ok, Option, Result, Some, ℕ}
 use Rattle.vm_core.specs.Prelude.{at}
@@ -39,7 +40,8 @@ SaysDry report (brings.Dry looks) =
 
 -- page p was brought, or its device failed, where the bound of its block allows a fault
 abbrev pub IsBroughtOrFailed : ℕ → List ℕ → Bring → Type 0
-IsBroughtOrFailed p bounds answer = (answer ≡ brings.Brought) ⊎ ((count : ℕ) × (answer ≡ brings.Device p count) × (1 ≤ count) × (count ≤ at 0 bounds p))
+IsBroughtOrFailed p bounds answer = (answer ≡ brings.Brought)
+    ⊎ ((count : ℕ) × (answer ≡ brings.Device p count) × (1 ≤ count) × (count ≤ at 0 bounds p))
 
 -- the pages evicted by an interface's sweeps, as they are counted, after one more sweep
 abbrev pub counted : ℕ → Report → ℕ
@@ -79,7 +81,8 @@ module _ {X : Type 0} where
     again :
         (saw : Saw) (x : View X) → IsFetched p f v x (fetches.Again f saw) → IsFreed cap old (f ∷ []) new x w → answer ≡ brings.Again saw
         → Fetches cap p f old new v w answer
-    worn : (x : View X) → IsFetched p f v x (fetches.Worn f p) → IsFreed cap old (f ∷ []) new x w → answer ≡ brings.Worn p → Fetches cap p f old new v w answer
+    worn : (x : View X) → IsFetched p f v x (fetches.Worn f p) → IsFreed cap old (f ∷ []) new x w
+        → answer ≡ brings.Worn p → Fetches cap p f old new v w answer
     device :
         (count : ℕ) (x : View X) → IsFetched p f v x (fetches.Device f p count) → IsFreed cap old (f ∷ []) new x w
         → answer ≡ brings.Device p count → Fetches cap p f old new v w answer
@@ -92,7 +95,8 @@ module _ {X : Type 0} where
         → IsBring home cap p old new before after v w answer
     frameless : GetsNone home cap old new before after v w answer → IsBring home cap p old new before after v w answer
 
-  -- what a pass that is alone is answered, where it knows that page p is evicted below the last version and that a frame is free: the page is
+  -- what a pass that is alone is answered, where it knows that page p is evicted below the last version and that a
+  -- frame is free: the page is
   -- brought, unless its device failed, as the bound of the page's block allows
   abbrev pub IsSure : ℕ → View X → View X → Bring → Type 0
   IsSure p v w answer =
@@ -100,8 +104,10 @@ module _ {X : Type 0} where
       ⊎ ((count : ℕ) × (answer ≡ brings.Device p count) × (w.notes ≡ v.notes ++ record { page = p; count = count } ∷ [])
       × (1 ≤ count) × (count ≤ at 0 v.start.bounds p))
 
-  -- the pass holds just the locks that it held, and knows of the pages that it has locked what it knew; it made no entry, and has its block at
-  -- home; its group, the pages that it owes and the next page that it knows are as they were; what it has seen of entries and releases, its notes and its
+  -- the pass holds just the locks that it held, and knows of the pages that it has locked what it knew; it made no
+  -- entry, and has its block at
+  -- home; its group, the pages that it owes and the next page that it knows are as they were; what it has seen of
+  -- entries and releases, its notes and its
   -- steps go on
   pub record KeepsLocks (v w : View X) : Type 0 where
     pub holds : (q : ℕ) → HoldsPage v w q

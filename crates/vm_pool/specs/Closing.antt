@@ -2,8 +2,9 @@
 use Rattle.std.specs.List.{sum_by}
 use Rattle.std.specs.Prelude.{[], ◌-◌, ◌<◌, ◌^◌, ◌≡◌, ◌≢◌, ◌≤◌, ◌⊎◌, Bool, false, length, List, min, true, ℕ}
 use Rattle.vm_core.specs.Prelude.{at, EVICTED, MAX_COUNT, version_of}
-use Rattle.vm_rule.specs.Prelude.{began_of, bounds_of, Each, Kept, last_of, no_block, stands_dirty, Start, Stored, table_words, times_noted, view_of}
-use Rattle.vm_rule.specs.declared.view.Place.TheVariants as places
+use Rattle.vm_rule.specs.Prelude.{began_of, bounds_of, Each, Kept, last_of, no_block, stands_dirty, Start, Stored}
+use Rattle.vm_rule.specs.Prelude.{table_words, times_noted, view_of}
+use Rattle.vm_rule.specs.declared.view.WordPlace.TheVariants as places
 use Rattle.vm_rule_laws.specs.Known.{kept_by}
 use Rattle.vm_rule_laws.specs.Standing.{fault_in, mapping_in, state_in}
 use Rattle.vm_step.specs.Prelude.{HasGiven, View}
@@ -14,7 +15,8 @@ module _ {X : Type 0} where
   abbrev pub IsStored : View X → ℕ → Type 0
   IsStored v p = (state_in v.start v.snapshot p ≡ EVICTED) ⊎ (stands_dirty (mapping_in v.start v.snapshot p) ≡ false)
 
-  -- A pool was closed by a pass with this view: a block for each page, which is, whole, the one that the pass's snapshot shows; each has the
+  -- A pool was closed by a pass with this view: a block for each page, which is, whole, the one that the pass's
+  -- snapshot shows; each has the
   -- bound of the one handed in, and its count of faults is the page's fault word; the next word is the snapshot's. Each fault that the pass
   -- noted is one that the page's block counted, and below the last count, where counting stops, it noted each once. It has no member of a
   -- group still to be released, and owes no page. Where the blocks tell their words, those of a page that is evicted, or not dirty, are its

@@ -28,7 +28,8 @@ module _ {X : Type 0} where
     -- a pass with all parts has made every entry
     pub all : IsWhole v → v.mine ≡ v.seen
 
-  -- the pass with the view v has the view w after the one with the view u went into it: its parts, page numbers, notes and steps stand behind the pass's
+  -- the pass with the view v has the view w after the one with the view u went into it: its parts, page numbers,
+  -- notes and steps stand behind the pass's
   -- own, its frames before them, and both lists go on from what either had seen
   pub record Joins (tells : Bool) (keeps : Start → Kept X → Type 0) (v u w : View X) : Type 0 where
     pub kept : KeepsAll v w
@@ -50,7 +51,8 @@ module _ {X : Type 0} where
     -- and it knows what a pass knows that was brought up to date
     pub knows : KnowsAll tells keeps w
 
-  -- the passes with the views v and w have the views x and y after they met: they have seen one and the same of both lists, which go on from what each
+  -- the passes with the views v and w have the views x and y after they met: they have seen one and the same of both
+  -- lists, which go on from what each
   -- had seen, with no further entry of either; and each has what it had
   pub record HaveMet (v w x y : View X) : Type 0 where
     pub same : (y.seen ≡ x.seen) × (y.releases ≡ x.releases)

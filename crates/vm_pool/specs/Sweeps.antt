@@ -1,4 +1,5 @@
--- What a sweep does: candidates are chosen and evicted, and their frames go to the interface, or back to the bundles past its cap; and what a pass
+-- What a sweep does: candidates are chosen and evicted, and their frames go to the interface, or back to the bundles
+-- past its cap; and what a pass
 -- that is alone knows of the table then.
 use Rattle.std.specs.Prelude.{◌<◌, ◌⊎◌, length, List, ℕ}
 use Rattle.vm_rule.specs.Prelude.{bundles_of}
@@ -9,7 +10,8 @@ use Rattle.vm_evict.specs.{declared.candidate.Stage.Stage, declared.report.Repor
 use Rattle.vm_evict.specs.Evictions.{candidate_at, IsBatch, stage_at}
 
 module _ {X : Type 0} where
-  -- what a pass that was alone knows after a sweep, whose walk left it the view x: there, the words of the pages that the clock passed; then, of
+  -- what a pass that was alone knows after a sweep, whose walk left it the view x: there, the words of the pages that
+  -- the clock passed; then, of
   -- each candidate's words what its end says, of each bundle's word which of these frames came back to it, and all other words as they were
   pub record KnowsSwept (drawn count : ℕ) (list : List (ℕ × ℕ)) (ends : List Stage) (given : List ℕ) (v x w : View X) : Type 0 where
     pub walked : KnowsWalked drawn count v x

@@ -1,6 +1,6 @@
 // A page is brought into memory, and frames are made free for it by a sweep.
-ghost use Rattle.std.specs.Prelude.{[], ◌+◌, ◌-◌, ◌<◌, ◌^◌, ◌∷◌, ◌≡◌, ◌≤◌, IfOk, length, min, None};
-ghost use Rattle.vm_step.specs.Prelude.{AreHeld, IsAlone, IsReady, IsSamePass, view};
+ghost use Rattle.std.specs.Prelude.{◌+◌, ◌-◌, ◌<◌, ◌^◌, ◌∷◌, ◌≡◌, ◌≤◌, IfOk, min, None};
+ghost use Rattle.vm_step.specs.Prelude.{AreHeld, GoesOn, IsAlone, IsReadyOn, view};
 ghost use Rattle.vm_exmap.specs.Frames.{HasFree};
 ghost use Rattle.vm_fault.specs.Fetches.{IsKnownOut};
 ghost use Rattle.vm_pool.specs.{Known.KnowsAsked, Sweeps.IsSwept};
@@ -72,12 +72,11 @@ pub fn dry_cause(report: &Report) -> Bring
 impl<U: Owner, B: PageBlock<N>, const N: usize> Pool<U, B, N> {
     /// Evicts up to `want` (1 to 64) pages that the clock chooses, and gives their frames to the interface.
     pub fn sweep(&self, pass: &mut Pass<U>, iface: &mut Interface, want: u32) -> Report
-        requires ready { IsReady self.now.words.table.shared.key B.tells self.now.words.table.shared.table_id pass.old }
+        requires ready { IsReadyOn self.now.words B.tells pass.old }
         requires home { (view pass.old).out ≡ None }
         requires frames { AreHeld iface.old.frames (view pass.old) }
         requires want { (1 ≤ want) × (want ≤ FRAMES) }
-        ensures pass { IsSamePass pass.old pass.new }
-        ensures ready { IsReady self.now.words.table.shared.key B.tells self.now.words.table.shared.table_id pass.new }
+        ensures goes { GoesOn self.now.words B.tells pass.old pass.new }
         ensures swept { IsSwept want iface.old.cap iface.old.frames iface.new.frames result (view pass.old) (view pass.new) }
         ensures iface { (iface.new.home ≡ iface.old.home) × (iface.new.cap ≡ iface.old.cap)
             × (iface.new.swept ≡ min (iface.old.swept + result.freed) (2 ^ 64 - 1)) }
@@ -94,11 +93,10 @@ impl<U: Owner, B: PageBlock<N>, const N: usize> Pool<U, B, N> {
 
     /// A frame for a page, or the answer where there is none. Where no frame is free it sweeps once, with the interface's cap.
     fn frame_for(&self, pass: &mut Pass<U>, iface: &mut Interface) -> Result<u32, Bring>
-        requires ready { IsReady self.now.words.table.shared.key B.tells self.now.words.table.shared.table_id pass.old }
+        requires ready { IsReadyOn self.now.words B.tells pass.old }
         requires home { (view pass.old).out ≡ None }
         requires frames { AreHeld iface.old.frames (view pass.old) }
-        ensures pass { IsSamePass pass.old pass.new }
-        ensures ready { IsReady self.now.words.table.shared.key B.tells self.now.words.table.shared.table_id pass.new }
+        ensures goes { GoesOn self.now.words B.tells pass.old pass.new }
         ensures framed { IsFramed iface.old.home iface.old.cap iface.old.frames iface.new.frames iface.old.swept iface.new.swept
             (view pass.old) (view pass.new) result }
         ensures iface { (iface.new.home ≡ iface.old.home) × (iface.new.cap ≡ iface.old.cap) }
@@ -121,12 +119,11 @@ impl<U: Owner, B: PageBlock<N>, const N: usize> Pool<U, B, N> {
 
     /// Brings a page that is Evicted into this frame of the pass. Where it can't be brought, the interface gets the frame.
     fn bring_into(&self, pass: &mut Pass<U>, iface: &mut Interface, pid: u32, frame: u32) -> Bring
-        requires ready { IsReady self.now.words.table.shared.key B.tells self.now.words.table.shared.table_id pass.old }
+        requires ready { IsReadyOn self.now.words B.tells pass.old }
         requires home { (view pass.old).out ≡ None }
         requires frames { AreHeld (frame ∷ iface.old.frames) (view pass.old) }
         requires page { pid < self.now.words.table.shared.key.pages }
-        ensures pass { IsSamePass pass.old pass.new }
-        ensures ready { IsReady self.now.words.table.shared.key B.tells self.now.words.table.shared.table_id pass.new }
+        ensures goes { GoesOn self.now.words B.tells pass.old pass.new }
         ensures fetches { Fetches iface.old.cap pid frame iface.old.frames iface.new.frames (view pass.old) (view pass.new) result }
         ensures iface { (iface.new.home ≡ iface.old.home) × (iface.new.cap ≡ iface.old.cap) × (iface.new.swept ≡ iface.old.swept) }
         ensures held { AreHeld iface.new.frames (view pass.new) }
@@ -150,12 +147,11 @@ impl<U: Owner, B: PageBlock<N>, const N: usize> Pool<U, B, N> {
     /// words but these: after `Brought` those of the page's translation and fault and of its frame, and the bundle that the frame was
     /// taken from; after `Device` those of the page's translation and fault, and the bundles; after `Again` and `Worn` the bundles.
     pub fn bring(&self, pass: &mut Pass<U>, iface: &mut Interface, pid: u32) -> Bring
-        requires ready { IsReady self.now.words.table.shared.key B.tells self.now.words.table.shared.table_id pass.old }
+        requires ready { IsReadyOn self.now.words B.tells pass.old }
         requires home { (view pass.old).out ≡ None }
         requires frames { AreHeld iface.old.frames (view pass.old) }
         requires page { pid < self.now.words.table.shared.key.pages }
-        ensures pass { IsSamePass pass.old pass.new }
-        ensures ready { IsReady self.now.words.table.shared.key B.tells self.now.words.table.shared.table_id pass.new }
+        ensures goes { GoesOn self.now.words B.tells pass.old pass.new }
         ensures answer { IsBring iface.old.home iface.old.cap pid iface.old.frames iface.new.frames iface.old.swept iface.new.swept
             (view pass.old) (view pass.new) result }
         ensures sure { IsAlone (view pass.old) → IsKnownOut pid (view pass.old) → HasFree iface.old.frames (view pass.old)

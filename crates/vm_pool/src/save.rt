@@ -3,7 +3,7 @@
 ghost use Rattle.std.specs.Prelude.{◌<◌, ◌≡◌, IfErr, IfOk, length, map, None, true, ℕ};
 ghost use Rattle.vm_core.specs.Prelude.{at};
 ghost use Rattle.vm_rule.specs.Prelude.{HoldsNoPage, last_of, no_block};
-ghost use Rattle.vm_step.specs.Prelude.{IsAlone, IsReady, view};
+ghost use Rattle.vm_step.specs.Prelude.{IsAlone, IsReadyOn, view};
 ghost use Rattle.vm_evict.specs.Flushes.{IsFlushed};
 ghost use Rattle.vm_pool.specs.Closing.{AreSums, IsClosed, view_at_end};
 
@@ -29,7 +29,7 @@ pub fn flush_and_close<U: Owner, B: PageBlock<N> + Drop, const N: usize>(
     alloc: Global,
     mut pass: Pass<U>,
 ) -> Result<Saved<U, B>, (Pool<U, B, N>, Pass<U>)>
-    requires ready { IsReady pool.words.table.shared.key B.tells pool.words.table.shared.table_id pass }
+    requires ready { IsReadyOn pool.words B.tells pass }
     requires alone { IsAlone (view pass) }
     requires holds { HoldsNoPage (view pass) }
     ensures words { IfOk result (λ saved. B.tells ≡ true → saved.report.failed ≡ 0 → (p : ℕ) → p < pool.words.table.shared.key.pages
@@ -42,7 +42,7 @@ pub fn flush_and_close<U: Owner, B: PageBlock<N> + Drop, const N: usize>(
     ensures closed { IfOk result (λ saved. IsClosed B.tells U.keeps (view_at_end saved.closed.ended)
         (map B.stored saved.closed.blocks.items) saved.closed.next) }
     ensures pool { IfErr result (λ back. back.0 ≡ pool) }
-    ensures ready { IfErr result (λ back. IsReady pool.words.table.shared.key B.tells pool.words.table.shared.table_id back.1) }
+    ensures ready { IfErr result (λ back. IsReadyOn pool.words B.tells back.1) }
     ensures alone { IfErr result (λ back. IsAlone (view back.1)) }
     ensures holds { IfErr result (λ back. HoldsNoPage (view back.1)) }
     ensures kept { IfErr result (λ back. (p : ℕ) → (last_of (view back.1) p).words ≡ (last_of (view pass) p).words) }

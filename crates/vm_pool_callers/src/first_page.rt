@@ -5,7 +5,7 @@ ghost use Rattle.vm_core.specs.Prelude.{MAX_VERSION};
 ghost use Rattle.vm_page.specs.Sizes.{IsSize};
 ghost use Rattle.vm_rule.specs.Prelude.{block_words, bounds_of, IsStarted, MayBegin, started_shape, unborn};
 ghost use Rattle.vm_rule.specs.Begun.{begun};
-ghost use Rattle.vm_step.specs.Prelude.{AreHeld, IsReady, view};
+ghost use Rattle.vm_step.specs.Prelude.{AreHeld, IsReadyOn, view};
 ghost use Rattle.vm_pool.specs.Brings.{IsBroughtOrFailed};
 ghost use Rattle.vm_pool_callers.specs.Known.{HasAskedFirst};
 
@@ -43,7 +43,7 @@ pub fn open_page<U: Owner, B: PageBlock<N> + Drop, const N: usize>(
     ensures answer { IfOk result (λ opened. IsBroughtOrFailed pid (bounds_of (map B.stored blocks.items)) opened.answer) }
     ensures key { IfOk result (λ opened. opened.pool.words.table.shared.key
         ≡ started_shape N B.tells shape.first_version shape.next [] shape.frames (map B.stored blocks.items)) }
-    ensures ready { IfOk result (λ opened. IsReady opened.pool.words.table.shared.key B.tells opened.pool.words.table.shared.table_id opened.pass) }
+    ensures ready { IfOk result (λ opened. IsReadyOn opened.pool.words B.tells opened.pass) }
     ensures held { IfOk result (λ opened. AreHeld opened.iface.frames (view opened.pass)) }
     ensures asked { IfOk result (λ opened. HasAskedFirst pid
         (begun (unborn (started_shape N B.tells shape.first_version shape.next [] shape.frames (map B.stored blocks.items))))

@@ -15,7 +15,7 @@ use vm_pool::{Pool, Shape};
 use vm_rule::words::Pass;
 
 /// A pool that was just started, with its first pass, and the word that was read again.
-pub struct KeptWord<B: Block, const N: usize> {
+pub struct ReadBack<B: Block, const N: usize> {
     pub pool: Pool<Bare, B, N>,
     pub pass: Pass<Bare>,
     pub iface: Interface,
@@ -31,7 +31,7 @@ pub fn keep_word<B: PageBlock<N> + Drop, const N: usize>(
     pid: u32,
     i: usize,
     w: u64,
-) -> Result<KeptWord<B, N>, Memory>
+) -> Result<ReadBack<B, N>, Memory>
     requires sized { IsSize N }
     requires pages { shape.pages ≡ length blocks.items }
     requires fits { IsStarted shape.first_version shape.next shape.frames (length blocks.items) }
@@ -46,7 +46,7 @@ pub fn keep_word<B: PageBlock<N> + Drop, const N: usize>(
     let (pool, mut pass) = Pool::start(alloc, shape, blocks, &[])?;
     let mut iface = Interface::new(0, 1);
     let word = round_trip(&pool, &mut pass, &mut iface, pid, i, w);
-    Ok(KeptWord {
+    Ok(ReadBack {
         pool,
         pass,
         iface,

@@ -3,7 +3,7 @@
 ghost use Rattle.std.specs.Prelude.{◌<◌, ◌≡◌, false, IfSome, None, Some, true};
 ghost use Rattle.vm_page.specs.Pages.{all_zero};
 ghost use Rattle.vm_rule.specs.Prelude.{last_of};
-ghost use Rattle.vm_step.specs.Prelude.{AreHeld, IsAlone, IsReady, view};
+ghost use Rattle.vm_step.specs.Prelude.{AreHeld, IsAlone, IsReadyOn, view};
 ghost use Rattle.vm_pool_callers.specs.Known.{MayGoRound};
 
 use vm_block::PageBlock;
@@ -29,7 +29,7 @@ pub fn round_trip<B: PageBlock<N>, const N: usize>(
     i: usize,
     w: u64,
 ) -> Option<u64>
-    requires ready { IsReady pool.now.words.table.shared.key B.tells pool.now.words.table.shared.table_id pass.old }
+    requires ready { IsReadyOn pool.now.words B.tells pass.old }
     requires home { (view pass.old).out ≡ None }
     requires frames { AreHeld iface.old.frames (view pass.old) }
     requires page { (pid < pool.now.words.table.shared.key.pages) × (i < N) }
@@ -38,7 +38,7 @@ pub fn round_trip<B: PageBlock<N>, const N: usize>(
     requires alone { IsAlone (view pass.old) }
     ensures word { IfSome result (λ x. x ≡ w) }
     ensures sure { MayGoRound pid iface.old.frames (view pass.old) → result ≡ Some w }
-    ensures ready { IsReady pool.now.words.table.shared.key B.tells pool.now.words.table.shared.table_id pass.new }
+    ensures ready { IsReadyOn pool.now.words B.tells pass.new }
     ensures held { AreHeld iface.new.frames (view pass.new) }
     ensures home { (view pass.new).out ≡ None }
 {

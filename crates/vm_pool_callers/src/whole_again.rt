@@ -3,7 +3,7 @@
 ghost use Rattle.std.specs.Prelude.{[], ◌≡◌, ◌≤◌, All, IfOk, length, map, true};
 ghost use Rattle.vm_page.specs.Sizes.{IsSize};
 ghost use Rattle.vm_rule.specs.Prelude.{block_words, HoldsNoPage, IsStarted, MayBegin};
-ghost use Rattle.vm_step.specs.Prelude.{HasJoined, IsReady, IsSamePass, MayStep, view};
+ghost use Rattle.vm_step.specs.Prelude.{GoesOn, HasJoined, IsReadyOn, MayStep, view};
 
 use std::alloc::Global;
 use vm_block::{Block, PageBlock};
@@ -18,11 +18,10 @@ pub fn join_each<U: Owner, B: Block + Drop, const N: usize>(
     pass: &mut Pass<U>,
     others: Vec<Pass<U>>,
 )
-    requires pass { MayStep pool.now.words.table.shared.table_id pass.old }
+    requires ready { IsReadyOn pool.now.words B.tells pass.old }
     requires each { All (λ p. MayStep pool.now.words.table.shared.table_id p) others.items }
     requires nothing { All (λ p. HoldsNoPage (view p)) others.items }
-    ensures pass { IsSamePass pass.old pass.new }
-    ensures may { MayStep pool.now.words.table.shared.table_id pass.new }
+    ensures goes { GoesOn pool.now.words B.tells pass.old pass.new }
     ensures joined { HasJoined (view pass.old) (map (λ p. view p) others.items) (view pass.new) }
 {
     for other in others {
@@ -56,10 +55,9 @@ pub fn split_and_join<U: Owner, B: PageBlock<N> + Drop, const N: usize>(
 
 /// Splits two passes off, lets them meet, and takes both in again.
 pub fn meet_and_join<U: Owner, B: Block, const N: usize>(pool: &Pool<U, B, N>, pass: &mut Pass<U>)
-    requires ready { IsReady pool.now.words.table.shared.key B.tells pool.now.words.table.shared.table_id pass.old }
+    requires ready { IsReadyOn pool.now.words B.tells pass.old }
     requires parts { 2 ≤ length (view pass.old).fresh }
-    ensures pass { IsSamePass pass.old pass.new }
-    ensures ready { IsReady pool.now.words.table.shared.key B.tells pool.now.words.table.shared.table_id pass.new }
+    ensures goes { GoesOn pool.now.words B.tells pass.old pass.new }
 {
     let mut first = pool.split_one(pass);
     let mut second = pool.split_one(pass);

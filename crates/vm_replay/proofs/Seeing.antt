@@ -4,9 +4,11 @@ use Rattle.std.proofs.Common.{[], ◌∙◌, ◌∷◌, ◌≡◌, ap, Bool, fal
 use Rattle.std.proofs.Common.{sym, true, ℕ}
 use Rattle.std.proofs.lemmas.List.FromFn.{length-map-range_with_len}
 use Rattle.vm_core.specs.Prelude.{after_event, Replayed, seen, sees, State}
-use Rattle.vm_core.specs.declared.event.Event.TheVariants.{BLoad, Claim, Clean, Clear, Dirty, Disown, Downgrade, Give, Hand, Install, Load, LockS}
-use Rattle.vm_core.specs.declared.event.Event.TheVariants.{LockW, LockX, Look, Mark, NLoad, OLoad, Own, Raise, Read, Release, ReleaseE, RFail}
-use Rattle.vm_core.specs.declared.event.Event.TheVariants.{PBLoad, PGive, PTake, Store, Take, TLoad, UnlockS, Unmark, Upgrade, WFail, Write}
+use Rattle.vm_core.specs.declared.event.Event.TheVariants.{BLoad, Claim, Clean, Clear, Dirty, Disown, Downgrade, Give}
+use Rattle.vm_core.specs.declared.event.Event.TheVariants.{Hand, Install, Load, LockS, LockW, LockX, Look, Mark}
+use Rattle.vm_core.specs.declared.event.Event.TheVariants.{NLoad, OLoad, Own, Raise, Read, Release, ReleaseE, RFail}
+use Rattle.vm_core.specs.declared.event.Event.TheVariants.{PBLoad, PGive, PTake, Store, Take, TLoad, UnlockS, Unmark}
+use Rattle.vm_core.specs.declared.event.Event.TheVariants.{Upgrade, WFail, Write}
 use Rattle.vm_core.specs.declared.event.Seen.{Seen}
 use Rattle.vm_core.specs.declared.event.Seen.TheVariants as seens
 use Rattle.vm_rule.specs.Prelude.{Event}
@@ -62,9 +64,14 @@ event_fits c (PTake a g expects mask) = number_fits _ _
 event_fits c (PGive a g mask) = tt
 
 -- events whose sights are told as that of `one` are
-many_fit : (one : Event) (event : ℕ → Event) → ((i : ℕ) → sight_of (event i) ≡ sight_of one) → (c : State) (is : List ℕ) → AllByRecursion (FitsSight (sight_of one)) (sees c (map event is))
+many_fit : (one : Event) (event : ℕ → Event) → ((i : ℕ) → sight_of (event i) ≡ sight_of one)
+    → (c : State) (is : List ℕ) → AllByRecursion (FitsSight (sight_of one)) (sees c (map event is))
 many_fit one event same c [] = tt
-many_fit one event same c (i ∷ is) = (subst (λ s. FitsSight s (seen c (event i))) (same i) (event_fits c (event i)), many_fit one event same (after_event c (event i)) is)
+many_fit one event same c (i ∷ is) = (
+  subst (λ s. FitsSight s (seen c (event i))) (same i) (event_fits c (event i)),
+  many_fit one event same
+      (after_event c (event i)) is,
+)
 
 pub sees_count : (c : State) (es : List Event) → length (sees c es) ≡ length es
 sees_count c [] = refl
@@ -84,5 +91,6 @@ pub line_fits : (c : State) (line : EventLine) → FitsLine line (sees c (events
 line_fits c line = record { count = sees_count c (events_of c line) ∙ events_count c line; each = each_fits c line }
 
 -- what a replay of the line's events saw
-pub replay_fits : (old new : State) (line : EventLine) (es : List Event) (seen : List Seen) → es ≡ events_of old line → Replayed old es (Ok seen) new → FitsLine line seen
+pub replay_fits : (old new : State) (line : EventLine) (es : List Event) (seen : List Seen) → es ≡ events_of old line
+    → Replayed old es (Ok seen) new → FitsLine line seen
 replay_fits old new line es seen same r = subst (λ ss. FitsLine line ss) (sym (r.1 ∙ ap (sees old) same)) (line_fits old line)

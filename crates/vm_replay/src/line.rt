@@ -15,7 +15,7 @@ use vm_script::seen::seen_text;
 
 // How a line's turn ended.
 #[derive(Clone, Copy)]
-pub(crate) enum Turn {
+pub(crate) enum LineTurn {
     // All its events were done, so many.
     Done(u32),
     // One of them may not happen.
@@ -73,7 +73,7 @@ pub(crate) fn play_line(
     number: u32,
     line: &EventLine,
     out: &mut Vec<u8>,
-) -> Result<Turn, Memory>
+) -> Result<LineTurn, Memory>
     requires { IsEventLine (core_of core.now).shape line.now }
     ensures { IfOk result (λ turn. Turned (core_of core.old) number line.now out.old.items turn (core_of core.new) out.new.items) }
 {
@@ -81,11 +81,11 @@ pub(crate) fn play_line(
     match replay_kept(alloc, core, &events) {
         Ok(seen) => {
             seen_text(alloc, number, line, &seen, out)?;
-            Ok(Turn::Done(events.len() as u32))
+            Ok(LineTurn::Done(events.len() as u32))
         }
         Err(ReplayFault::Illegal { .. }) => {
             illegal_text(alloc, number, out)?;
-            Ok(Turn::Illegal)
+            Ok(LineTurn::Illegal)
         }
         Err(ReplayFault::Memory) => Err(Memory),
     }

@@ -5,7 +5,7 @@ ghost use Rattle.std.specs.Prelude.{◌++◌, ◌+◌, ◌≡◌, ◌≤◌, IfO
 ghost use Rattle.vm_script.specs.{EventLines.IsEventLine, Events.most_event_lines};
 ghost use Rattle.vm_replay.specs.Played.{end_line, PlayedFromStart};
 
-use crate::line::{Turn, play_line};
+use crate::line::{LineTurn, play_line};
 use std::alloc::{AllocError, Global};
 use vm_core::{Core, CoreShape, Memory};
 use vm_script::event_line::EventLine;
@@ -48,8 +48,8 @@ pub fn play(alloc: Global, shape: CoreShape, lines: &[EventLine]) -> Result<Play
     let mut count = 0;
     for line in lines {
         match play_line(alloc, &mut core, number, line, &mut text)? {
-            Turn::Done(events) => count += events,
-            Turn::Illegal => {
+            LineTurn::Done(events) => count += events,
+            LineTurn::Illegal => {
                 return Ok(Played {
                     text,
                     is_legal: false,

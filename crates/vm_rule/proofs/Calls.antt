@@ -1,8 +1,10 @@
--- What a call of a page's device, seen when its block comes home, leaves of the core: its invariant, and what the others have. Where blocks do
+-- What a call of a page's device, seen when its block comes home, leaves of the core: its invariant, and what the
+-- others have. Where blocks do
 -- not tell their words, nothing is said of the words of the block, whatever the call was.
-use Rattle.vm_rule.proofs.Prelude.{arith, block_after, Bool, called-leaves, count_more, counts-same, CountsMove, inr, Inv, IsSome, Leaves, List}
-use Rattle.vm_rule.proofs.Prelude.{locked-from_owner, MayCall, on_page, Page, page-alone, page-leaves, refl, subst, sym, true, true≢false, upd-self, WordsInv}
-use Rattle.vm_rule.proofs.Prelude.{World, written-keeps, ℕ, ⊎_elim, ◌∙◌, ◌≡◌, ◌⊎◌}
+use Rattle.vm_rule.proofs.Prelude.{arith, block_after, Bool, called-leaves, count_more, counts-same, CountsMove, inr}
+use Rattle.vm_rule.proofs.Prelude.{Inv, IsSome, Leaves, List, locked-from_owner, MayCall, on_page, Page, page-alone}
+use Rattle.vm_rule.proofs.Prelude.{page-leaves, refl, subst, sym, true, true≢false, upd-self, WordsInv, World}
+use Rattle.vm_rule.proofs.Prelude.{written-keeps, ℕ, ⊎_elim, ◌∙◌, ◌≡◌, ◌⊎◌}
 
 -- the page with this count and these words in its block
 abbrev pub called : Page → ℕ → List ℕ → Page
@@ -14,7 +16,8 @@ pub record IsCalled (tells : Bool) (words : ℕ → List ℕ) (r : Page) (count 
   pub counts : (count ≡ r.count) ⊎ (count ≡ count_more r.count)
 
 -- the page is in order, and so is the world
-pub called-inv : (w : World) (a p count : ℕ) (block : List ℕ) → Inv w → MayCall (w.core.pages p) a → IsCalled w.core.tells w.core.words (w.core.pages p) count block
+pub called-inv : (w : World) (a p count : ℕ) (block : List ℕ) → Inv w → MayCall (w.core.pages p) a
+    → IsCalled w.core.tells w.core.words (w.core.pages p) count block
     → Inv (record w { core = on_page w.core p (called (w.core.pages p) count block) })
 called-inv w a p count block i m k =
     let r : Page = w.core.pages p in
@@ -25,14 +28,16 @@ called-inv w a p count block i m k =
       sizes = q.sizes;
       contents = λ t. ⊎_elim
           (λ same. subst (λ b. WordsInv w.core.size w.core.words r.state r.trans b (w.histories p)) (sym same) (q.contents t))
-          (λ x. subst (λ b. WordsInv w.core.size w.core.words r.state r.trans b (w.histories p)) (sym x.1) ((written-keeps a i.words q (record { call = m; resident = x.0 })).contents t))
+          (λ x. subst (λ b. WordsInv w.core.size w.core.words r.state r.trans b (w.histories p)) (sym x.1)
+          ((written-keeps a i.words q (record { call = m; resident = x.0 })).contents t))
           (k.contents t);
       faults = λ ne none. ⊎_elim (λ e. absurd (ne (locked-from_owner q.locks a e))) (λ e. absurd (true≢false (sym e ∙ none a))) m;
       reads = q.reads;
     })
 
 -- and the others have what they had
-pub called-left : (w : World) (a p count : ℕ) (block : List ℕ) → Inv w → MayCall (w.core.pages p) a → IsCalled w.core.tells w.core.words (w.core.pages p) count block
+pub called-left : (w : World) (a p count : ℕ) (block : List ℕ) → Inv w → MayCall (w.core.pages p) a
+    → IsCalled w.core.tells w.core.words (w.core.pages p) count block
     → Leaves a w (record w { core = on_page w.core p (called (w.core.pages p) count block) })
 unfolding count_more
 called-left w a p count block i m k =
@@ -41,7 +46,11 @@ called-left w a p count block i m k =
     (λ same. counts-same r (called r count block) refl same)
     (λ more. record { fault = λ le. omega arith; count = λ le. omega arith; within = λ le le'. omega arith; inside = λ le. omega arith })
     k.counts in
-    subst (λ hs. Leaves a w (record { core = on_page w.core p (called r count block); histories = hs; loads = w.loads })) (upd-self w.histories p)
+    subst (λ hs. Leaves a w (record {
+      core = on_page w.core p (called r count block);
+      histories = hs;
+      loads = w.loads;
+    })) (upd-self w.histories p)
     (page-leaves w a p (called r count block) (w.histories p) w.loads w.core.held
     (called-leaves w.core.shape.actors a r (w.histories p) r.trans r.fault count block (i.pages p).locks m (inr (refl, λ d. d)) moves)
     (λ b q ne. refl) (λ b ne. refl))

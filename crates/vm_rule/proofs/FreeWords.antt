@@ -5,31 +5,36 @@ use Rattle.std.proofs.Math.Pow.{pow-lt}
 use Rattle.vm_core.proofs.Masks.{inserted-free}
 use Rattle.vm_rule.proofs.ListFacts.{at-listed, at-right}
 use Rattle.vm_rule.proofs.Parts.{listed-upd}
-use Rattle.vm_rule.proofs.Prelude.{[], ap, arith, at, bit_at, bit_at-zero, bit_or, Bool, eq-eqb, eqb, false, free_words, get_or, has, has_free_bit}
-use Rattle.vm_rule.proofs.Prelude.{if◌then◌else◌, length, List, listed, ne_eqb, or-true, refl, slice_set, suc, sym, true, upd, upd-other, with_free}
-use Rattle.vm_rule.proofs.Prelude.{zero, ℕ, ◌%◌, ◌*◌, ◌++◌, ◌+◌, ◌-◌, ◌/◌, ◌<◌, ◌^◌, ◌||◌, ◌∙◌, ◌∷◌, ◌≡◌, ◌≢◌}
+use Rattle.vm_rule.proofs.Prelude.{[], ap, arith, at, bit_at, bit_at-zero, bit_or, Bool, eq-eqb, eqb, false}
+use Rattle.vm_rule.proofs.Prelude.{free_words, get_or, has, has_free_bit, if◌then◌else◌, length, List, listed, ne_eqb}
+use Rattle.vm_rule.proofs.Prelude.{or-true, refl, slice_set, suc, sym, true, upd, upd-other, with_free, zero, ℕ, ◌%◌}
+use Rattle.vm_rule.proofs.Prelude.{◌*◌, ◌++◌, ◌+◌, ◌-◌, ◌/◌, ◌<◌, ◌^◌, ◌||◌, ◌∙◌, ◌∷◌, ◌≡◌, ◌≢◌}
 
 -- ---- which bits are set
 
 -- a page more
-with_free-more : (words : ℕ → ℕ) (free : List ℕ) (p : ℕ) → with_free words (free ++ p ∷ []) ≡ upd (with_free words free) (p / 64) (bit_or (with_free words free (p / 64)) (2 ^ (p % 64)))
+with_free-more : (words : ℕ → ℕ) (free : List ℕ) (p : ℕ) → with_free words (free ++ p ∷ []) ≡ upd
+    (with_free words free) (p / 64) (bit_or (with_free words free (p / 64)) (2 ^ (p % 64)))
 unfolding with_free
 with_free-more words [] p = refl
 with_free-more words (q ∷ qs) p = with_free-more (upd words (q / 64) (bit_or (words (q / 64)) (2 ^ (q % 64)))) qs p
 
 -- a word of none of the pages is as it was
-pub with_free-other : (words : ℕ → ℕ) (free : List ℕ) (g : ℕ) → ((p : ℕ) → has p free ≡ true → p / 64 ≢ g) → with_free words free g ≡ words g
+pub with_free-other : (words : ℕ → ℕ) (free : List ℕ) (g : ℕ) → ((p : ℕ) → has p free ≡ true → p / 64 ≢ g)
+    → with_free words free g ≡ words g
 unfolding with_free
 with_free-other words [] g none = refl
 with_free-other words (q ∷ qs) g none =
-    with_free-other (upd words (q / 64) (bit_or (words (q / 64)) (2 ^ (q % 64)))) qs g (λ p e. none p (ap (λ b. eqb p q || b) e ∙ or-true (eqb p q)))
+    with_free-other (upd words (q / 64) (bit_or (words (q / 64)) (2 ^ (q % 64)))) qs g
+    (λ p e. none p (ap (λ b. eqb p q || b) e ∙ or-true (eqb p q)))
     ∙ upd-other words (q / 64) (bit_or (words (q / 64)) (2 ^ (q % 64))) g (λ e. none q (ap (λ b. b || has q qs) (eq-eqb q q refl)) (sym e))
 
 single-bit : (k : ℕ) → k < 64 → 1 * 2 ^ k % 2 ^ 64 ≡ 2 ^ k
 single-bit k l = let one : 1 * 2 ^ k ≡ 2 ^ k = omega arith in ap (λ n. n % 2 ^ 64) one ∙ mod-eq_of_lt (pow-lt {j = 64} l)
 
 -- the bit of one page is set
-one-set : (words : ℕ → ℕ) (q p : ℕ) → has_free_bit (upd words (q / 64) (bit_or (words (q / 64)) (2 ^ (q % 64)))) p ≡ (if eqb p q then true else has_free_bit words p)
+one-set : (words : ℕ → ℕ) (q p : ℕ) → has_free_bit (upd words (q / 64) (bit_or (words (q / 64)) (2 ^ (q % 64))))
+    p ≡ (if eqb p q then true else has_free_bit words p)
 unfolding upd
 one-set words q p =
     ap (λ y. has_free_bit (upd words (q / 64) (bit_or (words (q / 64)) y)) p) (sym (single-bit (q % 64) (omega arith)))
@@ -68,10 +73,12 @@ free_words-bits free p = free-bits (λ g. 0) free p ∙ ap (λ b. has p free || 
 pub has-item : (l : List ℕ) (i d : ℕ) → i < length l → has (get_or l i d) l ≡ true
 has-item [] i d lt = absurd (omega (arith, lt))
 has-item (x ∷ xs) zero d lt = ap (λ b. b || has x xs) (eq-eqb x x refl)
-has-item (x ∷ xs) (suc i) d lt = ap (λ b. eqb (get_or xs i d) x || b) (has-item xs i d (omega (arith, lt))) ∙ or-true (eqb (get_or xs i d) x)
+has-item (x ∷ xs) (suc i) d lt =
+    ap (λ b. eqb (get_or xs i d) x || b) (has-item xs i d (omega (arith, lt))) ∙ or-true (eqb (get_or xs i d) x)
 
 -- a value behind a list is set
-set-listed : (before : List ℕ) (n : ℕ) (f : ℕ → ℕ) (i k x : ℕ) → i ≡ length before + k → k < n → slice_set (before ++ listed n f) i x ≡ before ++ listed n (upd f k x)
+set-listed : (before : List ℕ) (n : ℕ) (f : ℕ → ℕ) (i k x : ℕ) → i ≡ length before + k → k < n
+    → slice_set (before ++ listed n f) i x ≡ before ++ listed n (upd f k x)
 set-listed before n f i k x e l =
     let rest : i - length before ≡ k = omega arith in
     set-append_right before (listed n f) (length before) i x refl (omega arith)
@@ -79,7 +86,8 @@ set-listed before n f i k x e l =
     ∙ ap (λ (t : List ℕ). before ++ t) (sym (listed-upd n f k x l))
 
 -- the bit of a page more is set, in words that stand behind a list
-pub free-pushed : (before items after free : List ℕ) (n i p x : ℕ) → items ≡ before ++ listed n (free_words free) → i ≡ length before + p / 64 → p / 64 < n → at 0 items i ≡ x
+pub free-pushed : (before items after free : List ℕ) (n i p x : ℕ) → items ≡ before ++ listed n (free_words free)
+    → i ≡ length before + p / 64 → p / 64 < n → at 0 items i ≡ x
     → after ≡ slice_set items i (bit_or x (1 * 2 ^ (p % 64) % 2 ^ 64)) → after ≡ before ++ listed n (free_words (free ++ p ∷ []))
 free-pushed before items after free n i p x was place l found is =
     let there : at 0 (before ++ listed n (free_words free)) i ≡ free_words free (p / 64) =

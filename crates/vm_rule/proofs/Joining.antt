@@ -1,4 +1,5 @@
--- A pass takes over all that another one has, which holds no page and is spent then: the table meets the rule. So it does where a pass takes in
+-- A pass takes over all that another one has, which holds no page and is spent then: the table meets the rule. So it
+-- does where a pass takes in
 -- another.
 use Rattle.std.specs.Prelude.{map}
 use Rattle.vm_numbers.specs.Hands.{joined_hands, no_hands}
@@ -9,11 +10,14 @@ use Rattle.vm_rule.proofs.Facts.{any-here, any-true}
 use Rattle.std.proofs.lemmas.Bool.{false_from_ne_true, or_cases}
 use Rattle.vm_rule.proofs.{Bundled.with_contents-at, Facts.either-way, Gathering.ReadsLess, Heard.each-both, Known.known-with}
 use Rattle.vm_rule.proofs.Entries.{entries-union, has-joined, none-each, none-left}
-use Rattle.vm_rule.proofs.Prelude.{[], any, ap, arith, at, at_set, Bool, cases_Bool, cases_eq, cases_lt, entries_by, Entry, false, false≢true, get_elem?, has}
-use Rattle.vm_rule.proofs.Prelude.{Hears, HoldsNoPage, if◌then◌else◌, inl, inr, is_pending, joined, Kept, knows_more, KnowsLists, KnowsPages, length}
-use Rattle.vm_rule.proofs.Prelude.{length-set, List, loads_at, lt-ltb, ltb-true, no_seat, Note, Option, or-true, Origin, owns, put_at, refl, Ruled, Seat}
-use Rattle.vm_rule.proofs.Prelude.{seat_of, set_else, set_here, slice_set, some, some-injective, spent, Start, Stored, subst, sym, Table, times_noted, total}
-use Rattle.vm_rule.proofs.Prelude.{true, true≢false, upd-other, View, world_of, ℕ, ⊎_elim, ◌++◌, ◌+◌, ◌<◌, ◌||◌, ◌∙◌, ◌∷◌, ◌≡◌, ◌≢◌, ◌≤◌, ◌⊎◌}
+use Rattle.vm_rule.proofs.Prelude.{[], any, ap, arith, at, at_set, Bool, cases_Bool, cases_eq, cases_lt, entries_by}
+use Rattle.vm_rule.proofs.Prelude.{Entry, false, false≢true, get_elem?, has, Hears, HoldsNoPage, if◌then◌else◌, inl}
+use Rattle.vm_rule.proofs.Prelude.{inr, is_pending, joined, Kept, knows_more, KnowsLists, KnowsPages, length}
+use Rattle.vm_rule.proofs.Prelude.{length-set, List, loads_at, lt-ltb, ltb-true, no_seat, Note, Option, or-true}
+use Rattle.vm_rule.proofs.Prelude.{Origin, owns, put_at, refl, Ruled, Seat, seat_of, set_else, set_here, slice_set}
+use Rattle.vm_rule.proofs.Prelude.{some, some-injective, spent, Start, Stored, subst, sym, Table, times_noted, total}
+use Rattle.vm_rule.proofs.Prelude.{true, true≢false, upd-other, View, world_of, ℕ, ⊎_elim, ◌++◌, ◌+◌, ◌<◌, ◌||◌, ◌∙◌}
+use Rattle.vm_rule.proofs.Prelude.{◌∷◌, ◌≡◌, ◌≢◌, ◌≤◌, ◌⊎◌}
 use Rattle.vm_rule.proofs.Resettling.{fit-now, fit-spent, HasSome, IsFit, KnowsHistory, KnowsReleases, replaced-less, Resettles, seen-all}
 use Rattle.vm_rule.proofs.Resettling.{settled-ruled, Settles}
 use Rattle.vm_rule.proofs.Views.{any-same, at-bound, at-there, field-still, out-same, total-set, views-set}
@@ -22,7 +26,8 @@ pub use Rattle.vm_rule.proofs.Heard.{times-joined}
 module _ {X : Type 0} where
   -- ---- two views of a list are set
 
-  module _ (views : List (View X)) (i j : ℕ) (u v x y : View X) (at-i : get_elem? views i ≡ some u) (apart : j ≢ i) (at-j : get_elem? views j ≡ some v) where
+  module _ (views : List (View X)) (i j : ℕ) (u v x y : View X) (at-i : get_elem? views i ≡ some u) (apart : j ≢ i)
+      (at-j : get_elem? views j ≡ some v) where
     abbrev once : List (View X)
     once = slice_set views i x
 
@@ -48,7 +53,8 @@ module _ {X : Type 0} where
 
     -- a view is one of the two, or as it was
     twice-at : (a : ℕ) (z : View X) → get_elem? twice a ≡ some z → (y ≡ z) ⊎ ((x ≡ z) ⊎ (get_elem? views a ≡ some z))
-    twice-at a z e = ⊎_elim (λ t. inl t.1) (λ t. inr (⊎_elim (λ q. inl q.1) (λ q. inr q.1) (at_set views i a x z t.1))) (at_set once j a y z e)
+    twice-at a z e = ⊎_elim (λ t. inl t.1)
+        (λ t. inr (⊎_elim (λ q. inl q.1) (λ q. inr q.1) (at_set views i a x z t.1))) (at_set once j a y z e)
 
     -- what is summed, and what any view says, where the two together say as much as both
     twice-total : (f : View X → ℕ) → f x + f y ≡ f u + f v → total f twice ≡ total f views
@@ -142,10 +148,13 @@ module _ {X : Type 0} where
             let l : length v.seen < length w.seen = ltb-true (length v.seen) (length w.seen) t in
             (g.0, g.1, entries-union v.used w.used g.0 (hears-longer h w.seen v.seen w.used v.used g f (omega arith)) g.2)
         longer false t =
-            let le : length w.seen ≤ length v.seen = ⊎_elim (λ l. absurd (true≢false (sym (lt-ltb (length v.seen) (length w.seen) l) ∙ t))) (λ le. le) (cases_lt (length v.seen) (length w.seen)) in
+            let le : length w.seen ≤ length v.seen =
+            ⊎_elim (λ l. absurd (true≢false (sym (lt-ltb (length v.seen) (length w.seen) l) ∙ t))) (λ le. le)
+            (cases_lt (length v.seen) (length w.seen)) in
             (f.0, f.1, entries-union v.used w.used f.0 f.2 (hears-longer h v.seen w.seen v.used w.used f g le))
 
-    told-joined : (b : Bool) → Hears h v.used v.seen → Hears h w.used w.seen → Hears h (if b then v.used else w.used) (if b then v.seen else w.seen)
+    told-joined : (b : Bool) → Hears h v.used v.seen → Hears h w.used w.seen → Hears h (if b then v.used else w.used)
+        (if b then v.seen else w.seen)
     told-joined true f g = f
     told-joined false f g = g
 
@@ -159,7 +168,9 @@ module _ {X : Type 0} where
     longest-joined false e = e
 
   -- the frames of both, with their words
-  gathered-contents : (v w : View X) (words : ℕ → List ℕ) → ((f : ℕ) → has f v.frames ≡ true → put_at [] v.contents f ≡ words f) → ((f : ℕ) → has f w.frames ≡ true → put_at [] w.contents f ≡ words f)
+  gathered-contents : (v w : View X) (words : ℕ → List ℕ)
+      → ((f : ℕ) → has f v.frames ≡ true → put_at [] v.contents f ≡ words f)
+      → ((f : ℕ) → has f w.frames ≡ true → put_at [] w.contents f ≡ words f)
       → (f : ℕ) → has f (joined v w).frames ≡ true → put_at [] (joined v w).contents f ≡ words f
   gathered-contents v w words mine theirs f e = with_contents-at (put_at [] w.contents) w.frames v.contents f ∙ either (has f w.frames) refl
     where
@@ -185,9 +196,13 @@ module _ {X : Type 0} where
 
 -- ---- the rule
 
-module _ {X B : Type 0} (stored : B → Stored) (keeps : Start → Kept X → Type 0) (tied : Start → ℕ → List ℕ → ℕ → List ℕ → Type 0) (start : Origin) (tells : Bool) (s : Table (Option B) (View X)) (r : Ruled stored keeps tied start tells s)
-    (id other : ℕ) (v w : View X) (there : get_elem? s.views id ≡ some v) (apart : other ≢ id) (at-other : get_elem? s.views other ≡ some w) (live : v.live ≡ true) (live' : w.live ≡ true)
-    (settled-here : (v.told_releases ≡ []) × (v.told ≡ [])) (settled-other : (w.told_releases ≡ []) × (w.told ≡ [])) (nothing : HoldsNoPage w) where
+module _ {X B : Type 0} (stored : B → Stored) (keeps : Start → Kept X → Type 0)
+    (tied : Start → ℕ → List ℕ → ℕ → List ℕ → Type 0) (start : Origin) (tells : Bool) (s : Table (Option B) (View X))
+    (r : Ruled stored keeps tied start tells s)
+    (id other : ℕ) (v w : View X) (there : get_elem? s.views id ≡ some v) (apart : other ≢ id)
+    (at-other : get_elem? s.views other ≡ some w) (live : v.live ≡ true) (live' : w.live ≡ true)
+    (settled-here : (v.told_releases ≡ []) × (v.told ≡ [])) (settled-other : (w.told_releases ≡ []) × (w.told ≡ []))
+    (nothing : HoldsNoPage w) where
   -- the pass takes all over in its view x, and the other is spent
   module _ (x : View X) (ab : Absorbs v w x) (fit : IsFit stored keeps tied start tells s r x) where
     abbrev after : List (View X)
@@ -204,19 +219,30 @@ module _ {X B : Type 0} (stored : B → Stored) (keeps : Start → Kept X → Ty
 
     pub resettles : Resettles s.views after 0 other id
     resettles = record {
-      count = (let same : length after ≡ length s.views = length-set (slice_set s.views id x) other spent ∙ length-set s.views id x in omega (arith, same));
+      count = (let same : length after ≡ length s.views = length-set (slice_set s.views id x) other spent
+          ∙ length-set s.views id x in omega (arith, same));
       apart = λ e. apart (sym e);
       named = at-bound s.views id v there;
       less = λ p a. subst (λ (q : Seat × List (ℕ × ℕ)). ReadsLess q.0 (seat_of (at spent after a) p) q.1 (loads_at (at spent after a) p))
-          (field-still {A = Seat × List (ℕ × ℕ)} (λ y. (seat_of y p, loads_at y p)) s.views id v x there (λ i. (put_at no_seat (ab.seats i) p, put_at [] (ab.loads i) p)) a)
-          (replaced-less (slice_set s.views id x) other w spent gone (λ q. record { shares = sym (nothing.shares q); exclusive = sym (nothing.exclusive q); writing = sym (nothing.writing q); reading = inl refl }) p a);
-      gets = λ f. ap (λ (y : View X). has f y.frames) (at-first s.views id other v w x spent there apart at-other) ∙ ab.frames f ∙ either-way (has f w.frames) (has f v.frames)
-          ∙ (λ i. if has f (sym (at-there spent s.views other w at-other) i).frames then true else has f (sym (at-there spent s.views id v there) i).frames);
+          (field-still {A = Seat × List (ℕ × ℕ)} (λ y. (seat_of y p, loads_at y p)) s.views id v x there
+          (λ i. (put_at no_seat (ab.seats i) p, put_at [] (ab.loads i) p)) a)
+          (replaced-less (slice_set s.views id x) other w spent gone (λ q. record {
+            shares = sym (nothing.shares q);
+            exclusive = sym (nothing.exclusive q);
+            writing = sym (nothing.writing q);
+            reading = inl refl;
+          }) p a);
+      gets = λ f. ap (λ (y : View X). has f y.frames) (at-first s.views id other v w x spent there apart at-other)
+          ∙ ab.frames f ∙ either-way (has f w.frames) (has f v.frames)
+          ∙ (λ i. if has f (sym (at-there spent s.views other w at-other) i).frames then true else has f
+          (sym (at-there spent s.views id v there) i).frames);
       gives = λ f. ap (λ (y : View X). has f y.frames) (at-second s.views id other v w x spent there apart at-other);
       keeps = λ a f n m. ap (λ (y : View X). has f y.frames) (at-neither s.views id other v w x spent there apart at-other a m n);
       out = λ p. out-same (slice_set s.views id x) other w spent p gone (sym nothing.out) ∙ out-same s.views id v x p there ab.out;
-      pending = λ p. twice-any s.views id other v w x spent there apart at-other (λ y. has p y.pending) (ap (has p) ab.pending) (not-held p (has p w.pending) (λ t. (pages.pending p t).0));
-      owed = λ p. twice-any s.views id other v w x spent there apart at-other (λ y. has p y.owed) (ap (has p) ab.owed) (not-held p (has p w.owed) (λ t. (pages.owed p t).0));
+      pending = λ p. twice-any s.views id other v w x spent there apart at-other (λ y. has p y.pending)
+          (ap (has p) ab.pending) (not-held p (has p w.pending) (λ t. (pages.pending p t).0));
+      owed = λ p. twice-any s.views id other v w x spent there apart at-other (λ y. has p y.owed) (ap (has p) ab.owed)
+          (not-held p (has p w.owed) (λ t. (pages.owed p t).0));
     }
 
     pub settles : Settles stored keeps tied start tells s r after 0 other id resettles
@@ -226,20 +252,37 @@ module _ {X B : Type 0} (stored : B → Stored) (keeps : Start → Kept X → Ty
         record {
           fit = λ j u e. ⊎_elim
               (λ t. subst (IsFit stored keeps tied start tells s r) t (fit-spent stored keeps tied start tells s r))
-              (λ t. ⊎_elim (λ q. subst (IsFit stored keeps tied start tells s r) q fit) (λ q. fit-now stored keeps tied start tells s r j u q) t)
+              (λ t. ⊎_elim (λ q. subst (IsFit stored keeps tied start tells s r) q fit)
+              (λ q. fit-now stored keeps tied start tells s r j u q) t)
               (twice-at s.views id other v w x spent there apart at-other j u e);
-          notes = λ p n. twice-total s.views id other v w x spent there apart at-other (λ y. times_noted p n y.notes) (omega (arith, ab.notes p n));
+          notes = λ p n. twice-total s.views id other v w x spent there apart at-other (λ y. times_noted p n y.notes)
+              (omega (arith, ab.notes p n));
           parts = λ k. twice-total s.views id other v w x spent there apart at-other (owns k) (omega (arith, ab.parts k));
           numbers = λ t.
-              let same : hands_of x ≡ joined_hands (hands_of v) (hands_of w) = (λ i. record { numbers = ab.numbers i; freed = ab.freed i; owed = ab.owed i; pending = ab.pending i }) in
+              let same : hands_of x ≡ joined_hands (hands_of v) (hands_of w) = (λ i. record {
+                numbers = ab.numbers i;
+                freed = ab.freed i;
+                owed = ab.owed i;
+                pending = ab.pending i;
+              }) in
               numbers-as refl refl refl refl
-              (ap (λ h. slice_set (slice_set (map hands_of s.views) id h) other no_hands) (sym same) ∙ ap (λ l. slice_set l other no_hands) (sym (hands-set s.views id x)) ∙ sym (hands-set (slice_set s.views id x) other spent))
-              (join_keeps _ _ _ _ (map hands_of s.views) (r.numbers t) id other (hands_of v) (hands_of w) apart (hands-there s.views id v there) (hands-there s.views other w at-other)
-              (λ p. sym (not-held p (has p w.owed) (λ o. (pages.owed p o).0))) (λ p. sym (not-held p (has p w.pending) (λ o. (pages.pending p o).0))));
-          holding = λ t p. twice-or s.views id other v w x spent there apart at-other (λ y. has p y.numbers) (ap (has p) ab.numbers ∙ has-joined p v.numbers w.numbers) refl;
-          giving = λ t p. twice-or s.views id other v w x spent there apart at-other (λ y. has p y.freed) (ap (has p) ab.freed ∙ has-joined p v.freed w.freed) refl;
-          releases = twice-some s.views id other v w x spent there apart at-other (KnowsReleases stored keeps tied start tells s r) (λ a. inl (ab.releases.0 ∙ mine.0 a)) (λ a. inr (ab.releases.1 ∙ theirs.0 a)) r.lists.longest_releases;
-          history = twice-some s.views id other v w x spent there apart at-other (KnowsHistory stored keeps tied start tells s r) (λ a. ab.history r.history (inl (mine.1 a))) (λ a. ab.history r.history (inr (theirs.1 a))) r.lists.longest;
+              (ap (λ h. slice_set (slice_set (map hands_of s.views) id h) other no_hands) (sym same)
+              ∙ ap (λ l. slice_set l other no_hands) (sym (hands-set s.views id x))
+              ∙ sym (hands-set (slice_set s.views id x) other spent))
+              (join_keeps _ _ _ _ (map hands_of s.views) (r.numbers t) id other (hands_of v) (hands_of w) apart
+              (hands-there s.views id v there) (hands-there s.views other w at-other)
+              (λ p. sym (not-held p (has p w.owed) (λ o. (pages.owed p o).0)))
+              (λ p. sym (not-held p (has p w.pending) (λ o. (pages.pending p o).0))));
+          holding = λ t p. twice-or s.views id other v w x spent there apart at-other (λ y. has p y.numbers)
+              (ap (has p) ab.numbers ∙ has-joined p v.numbers w.numbers) refl;
+          giving = λ t p. twice-or s.views id other v w x spent there apart at-other (λ y. has p y.freed)
+              (ap (has p) ab.freed ∙ has-joined p v.freed w.freed) refl;
+          releases = twice-some s.views id other v w x spent there apart at-other
+              (KnowsReleases stored keeps tied start tells s r) (λ a. inl (ab.releases.0 ∙ mine.0 a))
+              (λ a. inr (ab.releases.1 ∙ theirs.0 a)) r.lists.longest_releases;
+          history = twice-some s.views id other v w x spent there apart at-other
+              (KnowsHistory stored keeps tied start tells s r) (λ a. ab.history r.history (inl (mine.1 a)))
+              (λ a. ab.history r.history (inr (theirs.1 a))) r.lists.longest;
         }
 
     unfoldable pub absorbs-ruled : Ruled stored keeps tied start tells (record { words = s.words; homes = s.homes; views = after })
@@ -260,7 +303,14 @@ module _ {X B : Type 0} (stored : B → Stored) (keeps : Start → Kept X → Ty
             let n = none-left v.used w.used a in
             let m = none-left v.fresh w.fresh b in
             let h = mine.idle n.0 m.0 in
-            record { shares = h.shares; exclusive = h.exclusive; writing = h.writing; frames = λ i. (theirs.idle n.1 m.1).frames i ++ h.frames i; numbers = (λ i. h.numbers.0 i ++ (theirs.idle n.1 m.1).numbers.0 i, λ i. h.numbers.1 i ++ (theirs.idle n.1 m.1).numbers.1 i); out = h.out };
+            record {
+              shares = h.shares;
+              exclusive = h.exclusive;
+              writing = h.writing;
+              frames = λ i. (theirs.idle n.1 m.1).frames i ++ h.frames i;
+              numbers = (λ i. h.numbers.0 i ++ (theirs.idle n.1 m.1).numbers.0 i, λ i. h.numbers.1 i ++ (theirs.idle n.1 m.1).numbers.1 i);
+              out = h.out;
+            };
       }
 
   joined-fit : IsFit stored keeps tied start tells s r (joined v w)
@@ -271,15 +321,23 @@ module _ {X B : Type 0} (stored : B → Stored) (keeps : Start → Kept X → Ty
       record {
         away = c.away;
         noted = λ p n m.
-            let both : times_noted p n (v.notes ++ w.notes) ≡ times_noted p n v.notes + times_noted p n w.notes = noted-joined p n v.notes w.notes in
-            ⊎_elim (λ l. c.noted p n l) (λ none. r.faults.noted other w at-other p n (omega (arith, m, both, none))) (cases_lt 0 (times_noted p n v.notes));
+            let both : times_noted p n (v.notes ++ w.notes) ≡ times_noted p n v.notes + times_noted p n w.notes =
+            noted-joined p n v.notes w.notes in
+            ⊎_elim (λ l. c.noted p n l) (λ none. r.faults.noted other w at-other p n (omega (arith, m, both, none)))
+            (cases_lt 0 (times_noted p n v.notes));
         gone = λ off. absurd (true≢false (sym live ∙ off));
         heard = λ _. joined-lists;
-        known = λ _. known-with tied start _ _ v held-mine (gathered-contents v w _ held-mine.contents held-theirs.contents) held-mine.latest (each-both _ v.log w.log held-mine.words held-theirs.words);
+        known = λ _. known-with tied start _ _ v held-mine
+            (gathered-contents v w _ held-mine.contents held-theirs.contents) held-mine.latest
+            (each-both _ v.log w.log held-mine.words held-theirs.words);
         whole = λ _ _ current. absurd (false≢true current);
       }
 
-  pub joins-ruled : Ruled stored keeps tied start tells (record { words = s.words; homes = s.homes; views = twice s.views id other v w (joined v w) spent there apart at-other })
+  pub joins-ruled : Ruled stored keeps tied start tells (record {
+    words = s.words;
+    homes = s.homes;
+    views = twice s.views id other v w (joined v w) spent there apart at-other;
+  })
   joins-ruled = absorbs-ruled (joined v w) (joined-absorbs v w) joined-fit
 
   -- the lists and the drafts are as they were

@@ -1,9 +1,10 @@
 -- Runs one after another, and what a replay keeps.
 use Rattle.vm_core.specs.declared.playing.ReplayFault.TheVariants as faults
 use Rattle.vm_rule.proofs.{Runs.run-core, Runs.run-one, Runs.run-tells, Runs.run_law, Starts.core-start, Starts.start_law, Tells.told_law}
-use Rattle.vm_rule.proofs.Prelude.{[], after_event, AllLegal, ap, begin, core_start, CoreStart, Err, Event, FaultsTold, FrameOnce, Inv, IsRunKept, IsStart}
-use Rattle.vm_rule.proofs.Prelude.{KeptFault, KeptFrom, List, refl, Replayed, ReplayFault, run, RunsTo, start, State, subst, sym, take, Told, true, world_run}
-use Rattle.vm_rule.proofs.Prelude.{◌++◌, ◌∙◌, ◌∷◌, ◌≡◌}
+use Rattle.vm_rule.proofs.Prelude.{[], after_event, AllLegal, ap, begin, core_start, CoreStart, Err, Event}
+use Rattle.vm_rule.proofs.Prelude.{FaultsTold, FrameOnce, Inv, IsRunKept, IsStart, KeptFault, KeptFrom, List, refl}
+use Rattle.vm_rule.proofs.Prelude.{Replayed, ReplayFault, run, RunsTo, start, State, subst, sym, take, Told, true}
+use Rattle.vm_rule.proofs.Prelude.{world_run, ◌++◌, ◌∙◌, ◌∷◌, ◌≡◌}
 
 run-both : (c : State) (xs ys : List Event) → run c (xs ++ ys) ≡ run (run c xs) ys
 run-both c [] ys = refl
@@ -14,7 +15,8 @@ legal-both c [] ys m n = n
 legal-both c (x ∷ xs) ys m n = (m.0, legal-both (after_event c x) xs ys m.1 n)
 
 -- legal events from a start whose blocks tell their words are kept
-pub kept-run : (s : CoreStart) (events : List Event) (new : State) → IsStart s → s.tells ≡ true → RunsTo (start s) events new → KeptFrom s events new
+pub kept-run : (s : CoreStart) (events : List Event) (new : State) → IsStart s → s.tells ≡ true
+    → RunsTo (start s) events new → KeptFrom s events new
 kept-run s events new ok t r =
     let i : Inv (world_run (begin s) events) = run_law (begin s) events (start_law s ok) r.legal in
     let told : Told (world_run (begin s) events) = told_law (world_run (begin s) events) i in
@@ -37,6 +39,7 @@ kept-more old new done r shape before le b =
       state = r.state ∙ ap (λ x. run x done) b.state ∙ sym (run-both c before done);
     })
 
-pub kept-fault : (old new : State) (events : List Event) (fault : ReplayFault) → Replayed old events (Err fault) new → KeptFault old events fault new
+pub kept-fault : (old new : State) (events : List Event) (fault : ReplayFault) → Replayed old events (Err fault) new
+    → KeptFault old events fault new
 kept-fault old new events (faults.Illegal index) r = kept-more old new (take index events) r.0
 kept-fault old new events faults.Memory r = r

@@ -2,23 +2,33 @@
 use Rattle.vm_core.specs.declared.event.Event.TheVariants.{Release}
 use Rattle.vm_rule.specs.declared.view.Release.{Release as Released}
 use Rattle.vm_rule.proofs.{Entries.each-map, Facts.any-here, Facts.any-true, Prelude.◌≤◌, Views.at-bound, Were.were-moves}
-use Rattle.vm_rule.proofs.Prelude.{[], any, ap, arith, began_of, Bool, cases_eq, cases_lt, Did, Downgrade, Each, Entry, Event, EVICTED, false}
-use Rattle.vm_rule.proofs.Prelude.{false_from_ne_true, get_elem?, has, histories_after, History, IsLocking, KnowsPage, KnowsPages, last_in, Leaves, LeavesActor}
-use Rattle.vm_rule.proofs.Prelude.{Legal, List, LockX, may_call, no_held, None, none-some, Note, Origin, Page, PageMoves, Put, put_at, refl, ReleaseE, Seat}
-use Rattle.vm_rule.proofs.Prelude.{seat_of, set_else, set_here, slice_set, Some, some, some-injective, Start, Store, subst, sym, Tie, TieHolds, Translation}
-use Rattle.vm_rule.proofs.Prelude.{TranslationHolds, true, true≢false, upd-other, Upgrade, Version, View, view_from, WereWords, World, ℕ, ⊎_elim, ◌<◌, ◌∙◌, ◌≡◌}
+use Rattle.vm_rule.proofs.Prelude.{[], any, ap, arith, began_of, Bool, cases_eq, cases_lt, Did, Downgrade, Each}
+use Rattle.vm_rule.proofs.Prelude.{Entry, Event, EVICTED, false, false_from_ne_true, get_elem?, has, histories_after}
+use Rattle.vm_rule.proofs.Prelude.{History, IsLocking, KnowsPage, KnowsPages, last_in, Leaves, LeavesActor, Legal}
+use Rattle.vm_rule.proofs.Prelude.{List, LockX, may_call, no_held, None, none-some, Note, Origin, Page, PageMoves}
+use Rattle.vm_rule.proofs.Prelude.{Put, put_at, refl, ReleaseE, Seat, seat_of, set_else, set_here, slice_set, Some}
+use Rattle.vm_rule.proofs.Prelude.{some, some-injective, Start, Store, subst, sym, Tie, TieHolds, Translation}
+use Rattle.vm_rule.proofs.Prelude.{TranslationHolds, true, true≢false, upd-other, Upgrade, Version, View, view_from}
+use Rattle.vm_rule.proofs.Prelude.{WereWords, World, ℕ, ⊎_elim, ◌<◌, ◌∙◌, ◌≡◌}
 
 -- the versions and drafts of a page past the last one, which nobody holds, stay
-pub histories-outside : (w : World) (e : Event) → Legal w.core e → (p : ℕ) → w.core.shape.pages ≤ p → ((a : ℕ) → ((w.core.pages p).seats a).exclusive ≡ false) → histories_after w e p ≡ w.histories p
-histories-outside w (LockX a q expects) m p le none = let inside : q < w.core.shape.pages = m.0.page in upd-other w.histories q _ p (λ e. absurd (omega arith))
-histories-outside w (Upgrade a q expects) m p le none = let inside : q < w.core.shape.pages = m.0.page in upd-other w.histories q _ p (λ e. absurd (omega arith))
-histories-outside w (Release a q) m p le none = let inside : q < w.core.shape.pages = m.0.page in upd-other w.histories q _ p (λ e. absurd (omega arith))
-histories-outside w (ReleaseE a q) m p le none = let inside : q < w.core.shape.pages = m.0.page in upd-other w.histories q _ p (λ e. absurd (omega arith))
-histories-outside w (Downgrade a q) m p le none = let inside : q < w.core.shape.pages = m.0.page in upd-other w.histories q _ p (λ e. absurd (omega arith))
+pub histories-outside : (w : World) (e : Event) → Legal w.core e → (p : ℕ) → w.core.shape.pages ≤ p
+    → ((a : ℕ) → ((w.core.pages p).seats a).exclusive ≡ false) → histories_after w e p ≡ w.histories p
+histories-outside w (LockX a q expects) m p le none =
+    let inside : q < w.core.shape.pages = m.0.page in upd-other w.histories q _ p (λ e. absurd (omega arith))
+histories-outside w (Upgrade a q expects) m p le none =
+    let inside : q < w.core.shape.pages = m.0.page in upd-other w.histories q _ p (λ e. absurd (omega arith))
+histories-outside w (Release a q) m p le none =
+    let inside : q < w.core.shape.pages = m.0.page in upd-other w.histories q _ p (λ e. absurd (omega arith))
+histories-outside w (ReleaseE a q) m p le none =
+    let inside : q < w.core.shape.pages = m.0.page in upd-other w.histories q _ p (λ e. absurd (omega arith))
+histories-outside w (Downgrade a q) m p le none =
+    let inside : q < w.core.shape.pages = m.0.page in upd-other w.histories q _ p (λ e. absurd (omega arith))
 histories-outside w (Store a f i x) m p le none = rw (none a) refl
 histories-outside w e m p le none = refl
 
-pub translation-moves : (pages pages' : ℕ → Page) → ((p : ℕ) → PageMoves (pages p) (pages' p)) → (t : Translation) → TranslationHolds pages t → TranslationHolds pages' t
+pub translation-moves : (pages pages' : ℕ → Page) → ((p : ℕ) → PageMoves (pages p) (pages' p)) → (t : Translation)
+    → TranslationHolds pages t → TranslationHolds pages' t
 translation-moves pages pages' moves t h =
     let up : (pages t.page).version ≤ (pages' t.page).version = (moves t.page).version in
     let old : t.version ≤ (pages t.page).version = h.0 in (
@@ -33,7 +43,9 @@ translation-moves pages pages' moves t h =
           h.2 (e ∙ same) k.0 k.1 ((moves t.page).cleaner same locked evicted dirty),
     )
 
-pub tie-moves : (tied : Start → ℕ → List ℕ → ℕ → List ℕ → Type 0) (began : Start) (w w' : World) (pending pending' : ℕ → Bool) → w'.core.shape.pages ≡ w.core.shape.pages → ((p : ℕ) → PageMoves (w.core.pages p) (w'.core.pages p))
+pub tie-moves : (tied : Start → ℕ → List ℕ → ℕ → List ℕ → Type 0) (began : Start) (w w' : World)
+    (pending pending' : ℕ → Bool) → w'.core.shape.pages ≡ w.core.shape.pages
+    → ((p : ℕ) → PageMoves (w.core.pages p) (w'.core.pages p))
     → ((p : ℕ) → (w'.core.pages p).version ≡ (w.core.pages p).version → (w'.histories p).last ≡ (w.histories p).last)
     → ((p : ℕ) → (w'.core.pages p).version ≡ (w.core.pages p).version → pending' p ≡ false → pending p ≡ false)
     → (t : Tie) → TieHolds tied began w pending t → TieHolds tied began w' pending' t
@@ -44,12 +56,16 @@ tie-moves tied began w w' pending pending' shape moves last members t h =
       omega arith,
       λ e free.
           let still : (w'.core.pages t.page).version ≡ (w.core.pages t.page).version = omega arith in
-          subst (λ (y : Version). tied began t.of t.words t.page y.words) (sym (last t.page still)) (h.2 (e ∙ still) (members t.page still free)),
+          subst (λ (y : Version). tied began t.of t.words t.page y.words) (sym (last t.page still))
+          (h.2 (e ∙ still) (members t.page still free)),
     )
 
 module _ {X : Type 0} (tied : Start → ℕ → List ℕ → ℕ → List ℕ → Type 0) (start : Origin) (w : World) (unreleased : ℕ → Bool) where
-  -- what a view knows of pages stays true of it with other lists, parts and notes, and with other frames and steps where that is shown of these
-  pub known-with : (v : View X) {frames numbers freed : List ℕ} {contents : List (Put (List ℕ))} {notes : List Note} {releases told_releases : List Released} {seen mine told : List (Entry X)} {used fresh told_used : List ℕ} {current : Bool} {log : List Did}
+  -- what a view knows of pages stays true of it with other lists, parts and notes, and with other frames and steps
+  -- where that is shown of these
+  pub known-with : (v : View X) {frames numbers freed : List ℕ} {contents : List (Put (List ℕ))} {notes : List Note}
+      {releases told_releases : List Released} {seen mine told : List (Entry X)} {used fresh told_used : List ℕ}
+      {current : Bool} {log : List Did}
       → KnowsPages tied start w unreleased v
       → ((f : ℕ) → has f frames ≡ true → put_at [] contents f ≡ w.core.words f)
       → ((p : ℕ) → IsLocking (seat_of v p) → last_in v.start releases p ≡ (w.histories p).last)
@@ -86,7 +102,11 @@ module _ {X : Type 0} (tied : Start → ℕ → List ℕ → ℕ → List ℕ �
   }
 
   -- a view that holds nothing and has read nothing knows nothing of pages
-  pub known-nothing : (live : Bool) (began : Origin) (used fresh : List ℕ) (releases : List Released) (seen : List (Entry X)) → KnowsPages tied start w unreleased (record (view_from live began used fresh) { releases = releases; seen = seen })
+  pub known-nothing : (live : Bool) (began : Origin) (used fresh : List ℕ) (releases : List Released)
+      (seen : List (Entry X)) → KnowsPages tied start w unreleased (record (view_from live began used fresh) {
+        releases = releases;
+        seen = seen;
+      })
   known-nothing live began used fresh releases seen = record {
     knows = λ p. record { calls = λ e. absurd (true≢false (sym e)); shares = λ l. absurd (omega (arith, l)) };
     contents = λ f e. absurd (true≢false (sym e));
@@ -103,10 +123,12 @@ module _ {X : Type 0} (tied : Start → ℕ → List ℕ → ℕ → List ℕ �
 
 module _ {X : Type 0} where
   -- where some view said so, and none does after one of them changed, it was that one
-  pub any-gone : (f : View X → Bool) (views : List (View X)) (id : ℕ) (v w : View X) → get_elem? views id ≡ some v → any f views ≡ true → any f (slice_set views id w) ≡ false → (f v ≡ true) × (f w ≡ false)
+  pub any-gone : (f : View X → Bool) (views : List (View X)) (id : ℕ) (v w : View X) → get_elem? views id ≡ some v
+      → any f views ≡ true → any f (slice_set views id w) ≡ false → (f v ≡ true) × (f w ≡ false)
   any-gone f views id v w there was gone =
       let k = any-true f views was in
-      let none : (j : ℕ) (u : View X) → get_elem? (slice_set views id w) j ≡ some u → f u ≡ true → ⊥ = λ j u e t. true≢false (sym (any-here f (slice_set views id w) j u e t) ∙ gone) in (
+      let none : (j : ℕ) (u : View X) → get_elem? (slice_set views id w) j ≡ some u → f u ≡ true → ⊥ = λ j u e t.
+      true≢false (sym (any-here f (slice_set views id w) j u e t) ∙ gone) in (
         ⊎_elim
             (λ e. ap f (some-injective v k.1 (sym there ∙ ap (get_elem? views) (sym e) ∙ k.2)) ∙ k.3)
             (λ ne. absurd (none k.0 k.1 (set_else views id k.0 w ne ∙ k.2) k.3))
@@ -126,9 +148,13 @@ module _ {X : Type 0} where
         → ((t : Tie) → TieHolds tied (began_of start) w unreleased t → TieHolds tied (began_of start) w' unreleased' t)
         → KnowsPages tied start w unreleased u → KnowsPages tied start w' unreleased' u
     known-else w w' unreleased unreleased' a j u left mine seats outside empty held known inside ties g =
-        let owns : (p : ℕ) → p < w.core.shape.pages → (seat_of u p).exclusive ≡ true → ((w.core.pages p).seats j).exclusive ≡ true = λ p l x. ap (λ (y : Seat). y.exclusive) (seats p l) ∙ x in
-        let shares : (p : ℕ) → p < w.core.shape.pages → 1 ≤ (seat_of u p).shares → 1 ≤ ((w.core.pages p).seats j).shares = λ p l x. subst (λ (y : Seat). 1 ≤ y.shares) (sym (seats p l)) x in
-        let histories : (p : ℕ) → (seat_of u p).exclusive ≡ true → w'.histories p ≡ w.histories p = λ p x. ⊎_elim (λ l. mine.owned p (owns p l x)) (λ le. (outside p le).1) (cases_lt p w.core.shape.pages) in
+        let owns : (p : ℕ) → p < w.core.shape.pages → (seat_of u p).exclusive ≡ true
+        → ((w.core.pages p).seats j).exclusive ≡ true = λ p l x. ap (λ (y : Seat). y.exclusive) (seats p l) ∙ x in
+        let shares : (p : ℕ) → p < w.core.shape.pages → 1 ≤ (seat_of u p).shares
+        → 1 ≤ ((w.core.pages p).seats j).shares = λ p l x. subst (λ (y : Seat). 1 ≤ y.shares) (sym (seats p l))
+        x in
+        let histories : (p : ℕ) → (seat_of u p).exclusive ≡ true → w'.histories p ≡ w.histories p =
+        λ p x. ⊎_elim (λ l. mine.owned p (owns p l x)) (λ le. (outside p le).1) (cases_lt p w.core.shape.pages) in
         let more : w.core.next ≤ w'.core.next = left.next in
         record {
           knows = λ p. ⊎_elim

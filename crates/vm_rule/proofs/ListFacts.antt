@@ -1,12 +1,14 @@
 -- Lists read as functions: one behind another, and the values of a function.
-use Rattle.vm_rule.proofs.Prelude.{[], ap, append-nil, append_assoc, arith, at, cases_lt, get_or, get_or-append_right, get_or-map, get_or_append_left}
-use Rattle.vm_rule.proofs.Prelude.{get_or_default, get_or_past, length, length-map, List, listed, map, refl, suc, sym, zero, ℕ, ⊎_elim, ◌++◌, ◌+◌, ◌-◌, ◌<◌}
-use Rattle.vm_rule.proofs.Prelude.{◌∙◌, ◌∷◌, ◌≡◌, ◌≤◌}
+use Rattle.vm_rule.proofs.Prelude.{[], ap, append-nil, append_assoc, arith, at, cases_lt, get_or, get_or-append_right}
+use Rattle.vm_rule.proofs.Prelude.{get_or-map, get_or_append_left, get_or_default, get_or_past, length, length-map}
+use Rattle.vm_rule.proofs.Prelude.{List, listed, map, refl, suc, sym, zero, ℕ, ⊎_elim, ◌++◌, ◌+◌, ◌-◌, ◌<◌, ◌∙◌, ◌∷◌}
+use Rattle.vm_rule.proofs.Prelude.{◌≡◌, ◌≤◌}
 
 -- behind the first list, and in it
 pub at-right : {A : Type 0} (d : A) (xs ys : List A) (i k : ℕ) → i ≡ length xs + k → at d (xs ++ ys) i ≡ at d ys k
 unfolding at
-at-right d xs ys i k e = let rest : i - length xs ≡ k = omega arith in get_or-append_right xs ys (length xs) i d refl (omega arith) ∙ ap (λ n. get_or ys n d) rest
+at-right d xs ys i k e = let rest : i - length xs ≡ k = omega arith in get_or-append_right xs ys (length xs) i d refl
+    (omega arith) ∙ ap (λ n. get_or ys n d) rest
 
 pub at-left : {A : Type 0} (d : A) (xs ys : List A) (k : ℕ) → k < length xs → at d (xs ++ ys) k ≡ at d xs k
 unfolding at
@@ -51,7 +53,8 @@ unfolding listed
 listed-more zero f = refl
 listed-more (suc n) f = ap (λ (l : List _). f 0 ∷ l) (listed-more n (λ k. f (suc k)))
 
-pub pushed-listed : (before items after : List ℕ) (n : ℕ) (f : ℕ → ℕ) (x : ℕ) → items ≡ before ++ listed n f → after ≡ items ++ x ∷ [] → x ≡ f n → after ≡ before ++ listed (n + 1) f
+pub pushed-listed : (before items after : List ℕ) (n : ℕ) (f : ℕ → ℕ) (x : ℕ) → items ≡ before ++ listed n f
+    → after ≡ items ++ x ∷ [] → x ≡ f n → after ≡ before ++ listed (n + 1) f
 pushed-listed before items after n f x was grown is =
     let next : n + 1 ≡ suc n = omega arith in
     grown

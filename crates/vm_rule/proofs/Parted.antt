@@ -1,6 +1,6 @@
 -- The parts at the start: the first pass has each, once.
-use Rattle.vm_rule.proofs.Prelude.{[], arith, first_view, if◌then◌else◌, IsWhole, lt-ltb, ltb, nat_tests, numbers, one_part, Origin, owns, PARTS, refl, suc}
-use Rattle.vm_rule.proofs.Prelude.{times, total, zero, ℕ, ◌+◌, ◌∷◌, ◌≡◌}
+use Rattle.vm_rule.proofs.Prelude.{[], arith, first_view, if◌then◌else◌, IsWhole, lt-ltb, ltb, nat_tests, numbers}
+use Rattle.vm_rule.proofs.Prelude.{one_part, Origin, owns, PARTS, refl, suc, times, total, zero, ℕ, ◌+◌, ◌∷◌, ◌≡◌}
 
 -- each of the numbers from a on stands once
 times-numbers : (k a n : ℕ) → times k (numbers a n) ≡ (if ltb k a then 0 else if ltb k (a + n) then 1 else 0)
@@ -20,4 +20,5 @@ module _ (X : Type 0) (start : Origin) where
   opened k = let one : owns {X = X} k (first_view start) ≡ one_part k = first-owns k in omega arith
 
   pub first-whole : IsWhole {X = X} (first_view start)
-  first-whole k l = let one : owns {X = X} k (first_view start) ≡ one_part k = first-owns k in let is : one_part k ≡ 1 = rw (lt-ltb k PARTS l) refl in omega arith
+  first-whole k l = let one : owns {X = X} k (first_view start) ≡ one_part k = first-owns k in
+      let is : one_part k ≡ 1 = rw (lt-ltb k PARTS l) refl in omega arith

@@ -4,15 +4,20 @@ use Rattle.vm_laws_frame.proofs.Laws.{give_numbers_law, spare_load_law, take_num
 use Rattle.std.proofs.lemmas.Bool.{eqb-true}
 use Rattle.vm_core.specs.Prelude.{has_free_bit}
 use Rattle.vm_laws_frame.proofs.Bits.{given-free}
-use Rattle.vm_rule.proofs.Prelude.{Bool, false, if◌then◌else◌, Legal, sym, taken-free, true≢false, ℕ, ◌<◌}
-use Rattle.vm_rule.proofs.Prelude.{[], after_event, AllLegal, AllReadOne, BLoad, bundle_load_law, cases_Bool, Claim, claim_law, Clean, clean_law, Clear}
-use Rattle.vm_rule.proofs.Prelude.{clear_law, Dirty, dirty_law, Disown, disown_law, Downgrade, downgrade_law, eqb, Event, Give, give_law, Hand, hand_law}
-use Rattle.vm_rule.proofs.Prelude.{Install, install_law, Inv, Keeps, List, Load, load_law, lock_exclusive_law, lock_exclusive_validates, lock_shared_law}
-use Rattle.vm_rule.proofs.Prelude.{lock_shared_validates, lock_write_back_law, lock_write_back_validates, LockS, LockW, LockX, Look, look_law, look_validates}
-use Rattle.vm_rule.proofs.Prelude.{Mark, mark_law, next_load_law, NLoad, OLoad, Own, own_law, owner_load_law, Raise, raise_law, Read, read_fault_law}
-use Rattle.vm_rule.proofs.Prelude.{read_law, refl, release_evicted_law, release_law, ReleaseE, RFail, run, State, Store, store_law, Take, take_law, TLoad}
-use Rattle.vm_rule.proofs.Prelude.{translation_load_law, true, unlock_shared_law, UnlockS, Unmark, unmark_law, Upgrade, upgrade_law, upgrade_validates}
-use Rattle.vm_rule.proofs.Prelude.{Validates, WFail, World, world_after, world_run, Write, write_fault_law, write_law, ⊎_elim, ◌∙◌, ◌∷◌, ◌≡◌}
+use Rattle.vm_rule.proofs.Prelude.{Bool, false, if◌then◌else◌, Legal, sym, taken-free, true≢false, ℕ, ◌<◌, []}
+use Rattle.vm_rule.proofs.Prelude.{after_event, AllLegal, AllReadOne, BLoad, bundle_load_law, cases_Bool, Claim}
+use Rattle.vm_rule.proofs.Prelude.{claim_law, Clean, clean_law, Clear, clear_law, Dirty, dirty_law, Disown}
+use Rattle.vm_rule.proofs.Prelude.{disown_law, Downgrade, downgrade_law, eqb, Event, Give, give_law, Hand, hand_law}
+use Rattle.vm_rule.proofs.Prelude.{Install, install_law, Inv, Keeps, List, Load, load_law, lock_exclusive_law}
+use Rattle.vm_rule.proofs.Prelude.{lock_exclusive_validates, lock_shared_law, lock_shared_validates}
+use Rattle.vm_rule.proofs.Prelude.{lock_write_back_law, lock_write_back_validates, LockS, LockW, LockX, Look}
+use Rattle.vm_rule.proofs.Prelude.{look_law, look_validates, Mark, mark_law, next_load_law, NLoad, OLoad, Own}
+use Rattle.vm_rule.proofs.Prelude.{own_law, owner_load_law, Raise, raise_law, Read, read_fault_law, read_law, refl}
+use Rattle.vm_rule.proofs.Prelude.{release_evicted_law, release_law, ReleaseE, RFail, run, State, Store, store_law}
+use Rattle.vm_rule.proofs.Prelude.{Take, take_law, TLoad, translation_load_law, true, unlock_shared_law, UnlockS}
+use Rattle.vm_rule.proofs.Prelude.{Unmark, unmark_law, Upgrade, upgrade_law, upgrade_validates, Validates, WFail}
+use Rattle.vm_rule.proofs.Prelude.{World, world_after, world_run, Write, write_fault_law, write_law, ⊎_elim, ◌∙◌, ◌∷◌}
+use Rattle.vm_rule.proofs.Prelude.{◌≡◌}
 
 pub event_law : (w : World) (e : Event) → Keeps w e
 event_law w (Look a p) i m = look_law w a p i m
@@ -75,7 +80,8 @@ either-state P false x y f g = g
 
 -- they stay so: numbers that are taken clear bits, and those that are given are of pages
 pub spares-inside : (c : State) (e : Event) → Legal c e → ArePages c.shape.pages c → ArePages c.shape.pages (after_event c e)
-spares-inside c (Take a g expects mask) m inside = either-state (ArePages c.shape.pages) (eqb (c.bundles g) expects) _ c (λ _. inside) inside
+spares-inside c (Take a g expects mask) m inside =
+    either-state (ArePages c.shape.pages) (eqb (c.bundles g) expects) _ c (λ _. inside) inside
 spares-inside c (PTake a g expects mask) m inside =
     either-state (ArePages c.shape.pages) (eqb (c.spares g) expects) _ c
     (λ hit p set. ⊎_elim

@@ -1,14 +1,21 @@
 -- What the rule keeps of a pass's own view, where the pass is split: of its view then, and of the new pass's.
-use Rattle.vm_rule.proofs.{Joining.has-either, Joining.has-left, Joining.has-right, Splitting.cut-has, Splitting.fresh-cut, Splitting.none-given}
-use Rattle.vm_rule.proofs.Prelude.{[], AreApart, Bool, cases_Bool, false, first_part, given_part, giver, has, List, newcomer, other_parts, refl, Sound, sym}
-use Rattle.vm_rule.proofs.Prelude.{true, true≢false, View, ℕ, ⊎_elim, ◌++◌, ◌∙◌, ◌∷◌}
+use Rattle.vm_rule.proofs.{Joining.has-either, Joining.has-left, Joining.has-right, Splitting.cut-has}
+use Rattle.vm_rule.proofs.{Splitting.fresh-cut, Splitting.none-given}
+use Rattle.vm_rule.proofs.Prelude.{[], AreApart, Bool, cases_Bool, false, first_part, given_part, giver, has, List}
+use Rattle.vm_rule.proofs.Prelude.{newcomer, other_parts, refl, Sound, sym, true, true≢false, View, ℕ, ⊎_elim, ◌++◌}
+use Rattle.vm_rule.proofs.Prelude.{◌∙◌, ◌∷◌}
 
 -- ---- parts without the first of them
 
 fewer-apart : (l m : List ℕ) → AreApart (l ++ m) → AreApart (l ++ other_parts m)
 fewer-apart [] [] apart = tt
 fewer-apart [] (n ∷ m) apart = apart.1
-fewer-apart (n ∷ l) m apart = (⊎_elim (λ t. absurd (true≢false (sym (⊎_elim (has-left n l m) (λ b. has-right n l m (cut-has n m b)) (has-either n l (other_parts m) t)) ∙ apart.0))) (λ f. f) (cases_Bool (has n (l ++ other_parts m))), fewer-apart l m apart.1)
+fewer-apart (n ∷ l) m apart = (
+  ⊎_elim (λ t. absurd (true≢false
+      (sym (⊎_elim (has-left n l m) (λ b. has-right n l m (cut-has n m b)) (has-either n l (other_parts m) t))
+      ∙ apart.0))) (λ f. f) (cases_Bool (has n (l ++ other_parts m))),
+  fewer-apart l m apart.1,
+)
 
 first-apart : (l : List ℕ) → AreApart (first_part l ++ [])
 first-apart [] = tt

@@ -1,8 +1,10 @@
 -- The start meets the invariant.
-use Rattle.vm_rule.proofs.Prelude.{[], ap, arith, begin, bit_at, bit_at_ones, bit_at_ones_above, Bool, cases_Bool, cases_lt, cond, core_block, core_start}
-use Rattle.vm_rule.proofs.Prelude.{CoreShape, CoreStart, eq-eqb, evicted_page, FrameIsAt, Free, full_bundle, has_free_bit, Inv, IsStart, le-ltb, length}
-use Rattle.vm_rule.proofs.Prelude.{length-map-range_with_len, length-replicate, List, locks-none, lt-ltb, ltb, MAX_VERSION, min, ne_eqb, none-some, Nowhere}
-use Rattle.vm_rule.proofs.Prelude.{PageInv, refl, replicate, start, true, ℕ, ⊎_elim, ◌%◌, ◌*◌, ◌+◌, ◌-◌, ◌/◌, ◌^◌, ◌∙◌, ◌≡◌, ◌≤◌}
+use Rattle.vm_rule.proofs.Prelude.{[], ap, arith, begin, bit_at, bit_at_ones, bit_at_ones_above, Bool, cases_Bool}
+use Rattle.vm_rule.proofs.Prelude.{cases_lt, cond, core_block, core_start, CoreShape, CoreStart, eq-eqb, evicted_page}
+use Rattle.vm_rule.proofs.Prelude.{FrameIsAt, Free, full_bundle, has_free_bit, Inv, IsStart, le-ltb, length}
+use Rattle.vm_rule.proofs.Prelude.{length-map-range_with_len, length-replicate, List, locks-none, lt-ltb, ltb}
+use Rattle.vm_rule.proofs.Prelude.{MAX_VERSION, min, ne_eqb, none-some, Nowhere, PageInv, refl, replicate, start}
+use Rattle.vm_rule.proofs.Prelude.{true, ℕ, ⊎_elim, ◌%◌, ◌*◌, ◌+◌, ◌-◌, ◌/◌, ◌^◌, ◌∙◌, ◌≡◌, ◌≤◌}
 
 pub start-frames : (s : CoreStart) (f : ℕ) → FrameIsAt (start s) f (cond (ltb f s.shape.frames) Free Nowhere)
 unfolding has_free_bit full_bundle
@@ -11,16 +13,25 @@ start-frames s f =
       inside = λ lt. rw (lt-ltb f s.shape.frames lt) tt;
       outside = λ le. rw (le-ltb f s.shape.frames le) refl;
       free = ⊎_elim
-          (λ lt. rw (lt-ltb f s.shape.frames lt) (eq-eqb _ _ (bit_at_ones (min 64 (s.shape.frames - 64 * (f / 64))) (f % 64) (omega arith))))
-          (λ le. rw (le-ltb f s.shape.frames le) (ne_eqb (bit_at (2 ^ min 64 (s.shape.frames - 64 * (f / 64)) - 1) (f % 64)) 1 (λ q. let z : bit_at (2 ^ min 64 (s.shape.frames - 64 * (f / 64)) - 1) (f % 64) ≡ 0 = bit_at_ones_above (min 64 (s.shape.frames - 64 * (f / 64))) (f % 64) (omega arith) in omega arith)))
+          (λ lt. rw (lt-ltb f s.shape.frames lt)
+          (eq-eqb _ _ (bit_at_ones (min 64 (s.shape.frames - 64 * (f / 64))) (f % 64) (omega arith))))
+          (λ le. rw (le-ltb f s.shape.frames le)
+          (ne_eqb (bit_at (2 ^ min 64 (s.shape.frames - 64 * (f / 64)) - 1) (f % 64)) 1
+          (λ q. let z : bit_at (2 ^ min 64 (s.shape.frames - 64 * (f / 64)) - 1) (f % 64) ≡ 0 =
+          bit_at_ones_above (min 64 (s.shape.frames - 64 * (f / 64))) (f % 64) (omega arith) in omega arith)))
           (cases_lt f s.shape.frames);
       holds = λ a. ⊎_elim (λ e. rw e refl) (λ e. rw e refl) (cases_Bool (ltb f s.shape.frames));
       mapped = λ p. ⊎_elim (λ e. rw e refl) (λ e. rw e refl) (cases_Bool (ltb f s.shape.frames));
     }
 
 -- an evicted page with one version, which its block has, and no lock
-pub evicted-inv : (actors size : ℕ) (tells : Bool) (words : ℕ → List ℕ) (version : ℕ) (block w : List ℕ) (count : ℕ) → version ≤ MAX_VERSION → length w ≡ size → (tells ≡ true → block ≡ w)
-    → PageInv actors size tells words (evicted_page version block count) (record { older = []; last = record { version = version; words = w }; draft = [] }) (λ a. [])
+pub evicted-inv : (actors size : ℕ) (tells : Bool) (words : ℕ → List ℕ) (version : ℕ) (block w : List ℕ) (count : ℕ)
+    → version ≤ MAX_VERSION → length w ≡ size → (tells ≡ true → block ≡ w)
+    → PageInv actors size tells words (evicted_page version block count) (record {
+      older = [];
+      last = record { version = version; words = w };
+      draft = [];
+    }) (λ a. [])
 evicted-inv actors size tells words version block w count le long same =
     record {
       locks = locks-none actors version le;
@@ -45,7 +56,8 @@ start_law s ok =
       frames = start-frames s;
       words = λ f. length-replicate {A = ℕ} s.size 0;
       next = ok.next;
-      pages = λ p. evicted-inv s.shape.actors s.size s.tells (λ f. replicate s.size 0) s.first (s.blocks p) (s.blocks p) (s.counts p) ok.first (ok.blocks p) (λ _. refl);
+      pages = λ p. evicted-inv s.shape.actors s.size s.tells (λ f. replicate s.size 0) s.first (s.blocks p)
+          (s.blocks p) (s.counts p) ok.first (ok.blocks p) (λ _. refl);
       owners = record { named = λ f p e. absurd (omega (arith, e)); owned = λ p free m at. absurd (none-some m at) };
     }
 

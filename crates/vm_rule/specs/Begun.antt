@@ -4,12 +4,13 @@ use Rattle.std.specs.Prelude.{[], ◌∷◌, ◌≡◌, ◌⊎◌, Bool, false, 
 use Rattle.atomic_table.specs.Table.{Me, State as Table, Step}
 use Rattle.vm_block.specs.declared.stored.Stored.{Stored}
 use Rattle.vm_owner.specs.Kept.{Kept, Start}
-use Rattle.vm_rule.specs.{Brought.brought, declared.view.Origin.Origin, declared.view.Shape.Shape, declared.view.View.View, Log.did_load, Rule.Ruled}
-use Rattle.vm_rule.specs.{Rule.snapshot_of, Sound.Sound, Views.first_view, Views.numbers, Views.view_from}
-use Rattle.vm_rule.specs.declared.view.Place.TheVariants as places
+use Rattle.vm_rule.specs.{Brought.brought, declared.view.Origin.Origin, declared.view.TableShape.TableShape}
+use Rattle.vm_rule.specs.{declared.view.View.View, Log.did_load, Rule.Ruled, Rule.snapshot_of, Sound.Sound}
+use Rattle.vm_rule.specs.{Views.first_view, Views.numbers, Views.view_from}
+use Rattle.vm_rule.specs.declared.view.WordPlace.TheVariants as places
 
 -- the shape of a table without pages
-abbrev pub no_shape : Shape
+abbrev pub no_shape : TableShape
 no_shape =
     record {
       size = 0;
@@ -24,7 +25,7 @@ no_shape =
     }
 
 -- the table began with this shape, and just so
-pub record HasShape (shape : Shape) (start : Origin) : Type 0 where
+pub record HasShape (shape : TableShape) (start : Origin) : Type 0 where
   pub same : start ≡ shape.began.origin
   pub size : start.size ≡ shape.size
   pub pages : start.pages ≡ shape.pages
@@ -34,7 +35,7 @@ pub record HasShape (shape : Shape) (start : Origin) : Type 0 where
 
 module _ {X : Type 0} where
   -- the first pass before its first step: it has all parts, and does not live yet. How the table began it has for that step to tell
-  abbrev pub unborn : Shape → View X
+  abbrev pub unborn : TableShape → View X
   unborn shape = record (view_from false shape.began.origin (0 ∷ []) (numbers 1 4294967295)) { snapshot = shape.began.snapshot }
 
   -- and after it: it has loaded the first state word, and knows how the table began
@@ -47,7 +48,7 @@ module _ {X : Type 0} where
 
   module _ {B : Type 0} (stored : B → Stored) (keeps : Start → Kept X → Type 0) (tied : Start → ℕ → List ℕ → ℕ → List ℕ → Type 0) where
     -- the table meets the rule; or it has its first words and blocks, and would meet the rule with the first pass's view
-    pub record Stands (shape : Shape) (tells : Bool) (s : Table (Option B) (View X)) : Type 0 where
+    pub record Stands (shape : TableShape) (tells : Bool) (s : Table (Option B) (View X)) : Type 0 where
       pub start : Origin
       pub is_shape : HasShape shape start
       pub rule :

@@ -1,9 +1,11 @@
--- What any step of a pass leaves of its view: the lists are brought up to date, the step stands in the log, and the step's own changes are made.
+-- What any step of a pass leaves of its view: the lists are brought up to date, the step stands in the log, and the
+-- step's own changes are made.
 use Rattle.std.specs.Prelude.{[], ◌++◌, ◌+◌, ◌∷◌, ◌≡◌, length, List, None, Option, slice_index, slice_set, Some, true, ℕ}
 use Rattle.vm_block.specs.declared.stored.Stored.{Stored}
 use Rattle.vm_owner.specs.{declared.Entry.Entry, Kept.entries_under}
-use Rattle.vm_rule.specs.{declared.view.Did.Did, declared.view.Origin.Origin, declared.view.Release.Release, declared.view.Snapshot.Snapshot}
-use Rattle.vm_rule.specs.{declared.view.View.View, Layout.index_of, Layout.width, Layout.Within, Reading.last_in, Reading.last_of, Sound.Sound}
+use Rattle.vm_rule.specs.{declared.view.Did.Did, declared.view.Origin.Origin, declared.view.Release.Release}
+use Rattle.vm_rule.specs.{declared.view.Snapshot.Snapshot, declared.view.View.View, Layout.index_of, Layout.width}
+use Rattle.vm_rule.specs.{Layout.Within, Reading.last_in, Reading.last_of, Sound.Sound}
 use Rattle.vm_rule.specs.Views.{entries_by, Hears, IsLocking, IsWhole, seat_of, StartsWith}
 
 -- the number, if there is one, at this place of the list
@@ -21,7 +23,8 @@ abbrev pub set_block : Option (ℕ × Stored) → List Stored → List Stored
 set_block None blocks = blocks
 set_block (Some b) blocks = slice_set blocks b.0 b.1
 
--- the table as it was known, every word of it, after this step: it found the word that was known there, and left the one that it wrote, and this
+-- the table as it was known, every word of it, after this step: it found the word that was known there, and left the
+-- one that it wrote, and this
 -- block
 pub record IsStepOf (start : Origin) (did : Did) (block : Option (ℕ × Stored)) (old new : Snapshot) : Type 0 where
   pub wide : length old.words ≡ width start
@@ -42,11 +45,21 @@ module _ {X : Type 0} where
   -- the view with both lists, the table and the step in it
   abbrev pub brought : View X → List Release → List (Entry X) → Snapshot → Did → View X
   brought v releases seen snapshot did =
-      record v { releases = releases; seen = seen; told_releases = []; told = []; told_used = []; current = true; snapshot = snapshot; log = v.log ++ did ∷ [] }
+      record v {
+        releases = releases;
+        seen = seen;
+        told_releases = [];
+        told = [];
+        told_used = [];
+        current = true;
+        snapshot = snapshot;
+        log = v.log ++ did ∷ [];
+      }
 
   -- A step of the pass with the view v, which made the changes of `inner` and added these releases and entries, leaves the view w.
   -- Behind what the pass had seen of the two lists stands what others added, and then its own.
-  pub record BringsWith (did : Did) (block : Option (ℕ × Stored)) (own : List Release) (entries : List (Entry X)) (v inner w : View X) : Type 0 where
+  pub record BringsWith (did : Did) (block : Option (ℕ × Stored)) (own : List Release) (entries : List (Entry X))
+      (v inner w : View X) : Type 0 where
     pub between : List Release
     pub others : List (Entry X)
     pub snapshot : Snapshot

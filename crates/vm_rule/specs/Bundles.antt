@@ -1,11 +1,12 @@
 -- What the steps on a bundle word and on the hand tell. Frames that are taken come to the pass with their words; frames that are given back
 -- leave it.
 use Rattle.std.specs.Int.{bit_at}
-use Rattle.std.specs.Prelude.{[], bit_and, bit_or, bit_xor, false, if◌then◌else◌, length, List, suc, true, zero, ℕ, ◌*◌, ◌++◌, ◌+◌, ◌<◌, ◌==◌, ◌∷◌, ◌≡◌}
+use Rattle.std.specs.Prelude.{[], bit_and, bit_or, bit_xor, false, if◌then◌else◌, length, List, suc, true, zero, ℕ}
+use Rattle.std.specs.Prelude.{◌*◌, ◌++◌, ◌+◌, ◌<◌, ◌==◌, ◌∷◌, ◌≡◌}
 use Rattle.vm_core.specs.{declared.words.TheConstants.FRAMES, Prelude.hand_more, Prelude.in_mask}
 use Rattle.vm_owner.specs.Numbers.{has}
 use Rattle.vm_rule.specs.{Brought.Brings, declared.view.Put.Put, declared.view.View.View, Puts.put, Releases.without_all}
-use Rattle.vm_rule.specs.declared.view.Place.TheVariants as places
+use Rattle.vm_rule.specs.declared.view.WordPlace.TheVariants as places
 use Rattle.vm_rule.specs.Log.{did_change, did_exchange, did_load}
 
 -- the frames of bundle g whose bits are set among the first n, by rising number
@@ -28,7 +29,8 @@ module _ {X : Type 0} where
     pub brings : Brings (did_load (places.Bundle g) found) [] [] v v w
 
   abbrev pub taken_view : ℕ → ℕ → (ℕ → List ℕ) → View X → View X
-  taken_view g mask words v = record v { frames = frames_in g mask ++ v.frames; contents = with_contents words (frames_in g mask) v.contents }
+  taken_view g mask words v =
+      record v { frames = frames_in g mask ++ v.frames; contents = with_contents words (frames_in g mask) v.contents }
 
   -- the frames taken are frames of the table, and were not the pass's
   pub record TakeTold (g expects mask found : ℕ) (v w : View X) : Type 0 where

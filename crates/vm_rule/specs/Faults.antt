@@ -2,7 +2,7 @@
 use Rattle.std.specs.Prelude.{[], ◌++◌, ◌==◌, ◌||◌, ◌∷◌, if◌then◌else◌, List, nat_lt, ℕ}
 use Rattle.vm_core.specs.Prelude.{MAX_COUNT}
 use Rattle.vm_rule.specs.{Brought.Brings, declared.view.Note.Note, declared.view.View.View, Log.did_store, Mappings.held_at, Puts.put}
-use Rattle.vm_rule.specs.declared.view.Place.TheVariants as places
+use Rattle.vm_rule.specs.declared.view.WordPlace.TheVariants as places
 
 -- a count that the fault word rises to is noted; so is the last count, each time
 abbrev pub notes_of : ℕ → ℕ → ℕ → List Note

@@ -1,7 +1,8 @@
--- A pass that is told by another what that one had seen of the two lists: the view until its next step, and after a step that takes over just that.
+-- A pass that is told by another what that one had seen of the two lists: the view until its next step, and after a
+-- step that takes over just that.
 use Rattle.std.specs.Prelude.{[], ◌++◌, ◌∷◌, ◌≡◌, ℕ}
 use Rattle.vm_rule.specs.{declared.view.Did.Did, declared.view.View.View, Log.did_load, Reading.last_of, Sound.Sound}
-use Rattle.vm_rule.specs.declared.view.Place.TheVariants as places
+use Rattle.vm_rule.specs.declared.view.WordPlace.TheVariants as places
 use Rattle.vm_rule.specs.Views.{Hears, IsLocking, seat_of}
 
 module _ {X : Type 0} where
@@ -17,9 +18,17 @@ module _ {X : Type 0} where
 
   -- a pass that takes over just what it was told, by a step
   abbrev pub follower : View X → Did → View X
-  follower v did = record v { releases = v.told_releases; seen = v.told; told_releases = []; told = []; told_used = []; log = v.log ++ did ∷ [] }
+  follower v did = record v {
+    releases = v.told_releases;
+    seen = v.told;
+    told_releases = [];
+    told = [];
+    told_used = [];
+    log = v.log ++ did ∷ [];
+  }
 
-  -- The pass v was told of lists that go on from those that it had seen, loaded the next word, took them over, and has the view x. Between what
+  -- The pass v was told of lists that go on from those that it had seen, loaded the next word, took them over, and
+  -- has the view x. Between what
   -- it had seen and what it was told stands no entry with one of its numbers, and no release of a page that it has locked.
   pub record TakesOver (v x : View X) : Type 0 where
     pub found : ℕ

@@ -1,7 +1,7 @@
 -- A pass that is split, and one that takes in another: the views afterwards, and what the call tells of a join.
 use Rattle.std.specs.Prelude.{[], ◌++◌, ◌∷◌, ◌≡◌, Bool, false, if◌then◌else◌, length, List, nat_lt, None, true, ℕ}
 use Rattle.vm_rule.specs.{Brought.Brings, Bundles.with_contents, declared.view.View.View, Log.did_load, Puts.put_at}
-use Rattle.vm_rule.specs.declared.view.Place.TheVariants as places
+use Rattle.vm_rule.specs.declared.view.WordPlace.TheVariants as places
 use Rattle.vm_rule.specs.Views.{entries_by, Hears, seat_of, StartsWith, view_from}
 
 -- the first of the parts, and the others
@@ -42,7 +42,8 @@ module _ {X : Type 0} where
   knows_more v w = nat_lt (length v.seen) (length w.seen)
 
   -- the pass v after it took in w, which holds no page: it has what both had of parts, frames, notes and steps; the open reads, ties and
-  -- translations of w are gone. Of the lists it knows for itself the longer history and its own releases; the others are told at its next step
+  -- translations of w are gone. Of the lists it knows for itself the longer history and its own releases; the others
+  -- are told at its next step
   abbrev pub joined : View X → View X → View X
   joined v w =
       record v {
@@ -67,7 +68,8 @@ module _ {X : Type 0} where
     pub found : ℕ
     pub brings : Brings (did_load places.Next found) [] [] v v x
 
-  -- The pass v took in w, caught up, and has the view x. What either had seen of the two lists they begin with, and neither had made an entry
+  -- The pass v took in w, caught up, and has the view x. What either had seen of the two lists they begin with, and
+  -- neither had made an entry
   -- behind it.
   pub record JoinTold (v w x : View X) : Type 0 where
     pub caught : CaughtUp (joined v w) x

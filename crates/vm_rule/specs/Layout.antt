@@ -2,8 +2,8 @@
 -- bundle of 64 frames, the next word, the hand word, an owner word for each frame, a free-number word for each 64 pages.
 use Rattle.std.specs.Prelude.{◌*◌, ◌+◌, ◌-◌, ◌/◌, ◌<◌, if◌then◌else◌, List, nat_lt, ℕ}
 use Rattle.vm_core.specs.{declared.words.TheConstants.FRAMES, Prelude.at, Prelude.upd}
-use Rattle.vm_rule.specs.{declared.view.Origin.Origin, declared.view.Place.Place}
-use Rattle.vm_rule.specs.declared.view.Place.TheVariants.{Bundle, Content, Fault, Hand, Next, Owner, Spare, State, Translation}
+use Rattle.vm_rule.specs.{declared.view.Origin.Origin, declared.view.WordPlace.WordPlace}
+use Rattle.vm_rule.specs.declared.view.WordPlace.TheVariants.{Bundle, Content, Fault, Hand, Next, Owner, Spare, State, Translation}
 
 -- the bundles of 64 frames
 abbrev pub bundles_of : ℕ → ℕ
@@ -13,7 +13,7 @@ abbrev pub bundle_count : Origin → ℕ
 bundle_count start = bundles_of start.frames
 
 -- the place's number among the table's words
-abbrev pub index_of : Origin → Place → ℕ
+abbrev pub index_of : Origin → WordPlace → ℕ
 index_of start (State p) = p
 index_of start (Translation p) = start.pages + p
 index_of start (Fault p) = 2 * start.pages + p
@@ -25,12 +25,12 @@ index_of start (Owner f) = 3 * start.pages + start.size * start.frames + bundle_
 index_of start (Spare g) = 3 * start.pages + start.size * start.frames + bundle_count start + 2 + start.frames + g
 
 -- what is said of page p, if the place is its state word
-abbrev pub at_state : Place → (ℕ → Type 0) → Type 0
+abbrev pub at_state : WordPlace → (ℕ → Type 0) → Type 0
 at_state (State p) P = P p
 at_state w P = Unit {0}
 
 -- what is said of the next word, if the place is its
-abbrev pub at_next : Place → Type 0 → Type 0
+abbrev pub at_next : WordPlace → Type 0 → Type 0
 at_next Next P = P
 at_next w P = Unit {0}
 
@@ -43,7 +43,7 @@ abbrev pub width : Origin → ℕ
 width start = width_of start.size start.pages start.frames
 
 -- the place is one of the table's
-abbrev pub Within : Origin → Place → Type 0
+abbrev pub Within : Origin → WordPlace → Type 0
 Within start (State p) = p < start.pages
 Within start (Translation p) = p < start.pages
 Within start (Fault p) = p < start.pages
@@ -88,7 +88,7 @@ table_words start words =
     }
 
 -- one word is set
-abbrev pub with_word : Words → Place → ℕ → Words
+abbrev pub with_word : Words → WordPlace → ℕ → Words
 with_word r (State p) x = record r { states = upd r.states p x }
 with_word r (Translation p) x = record r { translations = upd r.translations p x }
 with_word r (Fault p) x = record r { faults = upd r.faults p x }

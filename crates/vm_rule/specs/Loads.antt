@@ -1,10 +1,12 @@
 -- What a load tells: of a translation word, or of a word of a page's frame.
-use Rattle.std.specs.Prelude.{[], if◌then◌else◌, is_some, IsSome, List, nat_lt, None, Option, slice_index, Some, true, ℕ, ◌&&◌, ◌++◌, ◌<◌, ◌||◌, ◌∷◌, ◌≡◌, ◌≤◌}
+use Rattle.std.specs.Prelude.{[], if◌then◌else◌, is_some, IsSome, List, nat_lt, None, Option, slice_index, Some, true}
+use Rattle.std.specs.Prelude.{ℕ, ◌&&◌, ◌++◌, ◌<◌, ◌||◌, ◌∷◌, ◌≡◌, ◌≤◌}
 use Rattle.vm_core.specs.Prelude.{frame_of, framed, loads_more, mapping_of, open_frame}
 use Rattle.vm_core.specs.{declared.event.Mapping.Mapping, declared.event.Open.Open}
-use Rattle.vm_rule.specs.{Brought.Brings, declared.view.Translation.Translation, declared.view.View.View, Log.did_load, Puts.put, Puts.put_at, Reading.last_of}
-use Rattle.vm_rule.specs.{Rule.no_held, Views.draft_of, Views.IsLocking, Views.loads_at, Views.may_call, Views.seat_of}
-use Rattle.vm_rule.specs.declared.view.Place.TheVariants as places
+use Rattle.vm_rule.specs.{Brought.Brings, declared.view.Translation.Translation, declared.view.View.View}
+use Rattle.vm_rule.specs.{Log.did_load, Puts.put, Puts.put_at, Reading.last_of, Rule.no_held, Views.draft_of}
+use Rattle.vm_rule.specs.{Views.IsLocking, Views.loads_at, Views.may_call, Views.seat_of}
+use Rattle.vm_rule.specs.declared.view.WordPlace.TheVariants as places
 
 -- the translation word of p was loaded: an open read without a frame gets the frame that it names
 abbrev pub translation_of : ℕ → ℕ → Option Open → List Translation
@@ -40,5 +42,6 @@ module _ {X : Type 0} where
   -- under a lock the word is the draft's, where the page is resident, or the last version's
   pub record LoadTold (p f i found : ℕ) (v w : View X) : Type 0 where
     pub brings : Brings (did_load (places.Content f i) found) [] [] v (loaded_view p i found v) w
-    pub drafted : v.start.tells ≡ true → (seat_of v p).exclusive ≡ true → IsSome (put_at no_held v.held p).mapping → found ≡ slice_index (draft_of v p) i
+    pub drafted : v.start.tells ≡ true → (seat_of v p).exclusive ≡ true → IsSome (put_at no_held v.held p).mapping
+        → found ≡ slice_index (draft_of v p) i
     pub shared : v.start.tells ≡ true → 1 ≤ (seat_of v p).shares → found ≡ slice_index (last_of v p).words i

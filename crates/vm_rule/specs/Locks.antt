@@ -1,17 +1,20 @@
 -- What the steps on locks tell: an exclusive lock, a share or a lock for write-back that is tried, a share that is given up, and a lock for
 -- write-back that becomes exclusive. So do the steps on marks. A step that expects a word changes the view only where it found that word.
-use Rattle.std.specs.Prelude.{[], Bool, false, if◌then◌else◌, IsSome, length, List, nat_lt, None, Option, Some, true, ℕ, ◌++◌, ◌+◌, ◌-◌, ◌<◌, ◌==◌, ◌^◌, ◌||◌}
-use Rattle.std.specs.Prelude.{◌∷◌, ◌≡◌, ◌≢◌, ◌≤◌}
-use Rattle.vm_core.specs.Prelude.{EVICTED, LoadsAre, LOCKED, mapping_of, MAX_VERSION, one_share_more, state_of, unshared, version_of, word_of}
+use Rattle.std.specs.Prelude.{[], Bool, false, if◌then◌else◌, IsSome, length, List, nat_lt, None, Option, Some, true}
+use Rattle.std.specs.Prelude.{ℕ, ◌++◌, ◌+◌, ◌-◌, ◌<◌, ◌==◌, ◌^◌, ◌||◌, ◌∷◌, ◌≡◌, ◌≢◌, ◌≤◌}
+use Rattle.vm_core.specs.Prelude.{EVICTED, LoadsAre, LOCKED, mapping_of, MAX_VERSION, one_share_more, state_of}
+use Rattle.vm_core.specs.Prelude.{unshared, version_of, word_of}
 use Rattle.vm_core.specs.{declared.event.Mapping.Mapping, declared.event.Open.Open, declared.event.Seat.Seat}
 use Rattle.vm_laws_others.specs.Leaves.{stands_dirty}
 use Rattle.vm_numbers.specs.Hands.{all_zero}
 use Rattle.vm_owner.specs.{declared.Entry.Entry, Kept.Start, Numbers.has}
-use Rattle.vm_rule.specs.{Brought.Brings, Brought.entry_of, declared.view.Held.Held, declared.view.View.View, Log.did_change, Log.did_exchange, Looks.IsOlder, Looks.IsSinceAll}
-use Rattle.vm_rule.specs.{Puts.put, Puts.put_at, Reading.last_of, Rule.began_of, Rule.no_held, Views.Each, Views.loads_at, Views.seat_of}
-use Rattle.vm_rule.specs.declared.view.Place.TheVariants as places
+use Rattle.vm_rule.specs.{Brought.Brings, Brought.entry_of, declared.view.Held.Held, declared.view.View.View}
+use Rattle.vm_rule.specs.{Log.did_change, Log.did_exchange, Looks.IsOlder, Looks.IsSinceAll, Puts.put, Puts.put_at}
+use Rattle.vm_rule.specs.{Reading.last_of, Rule.began_of, Rule.no_held, Views.Each, Views.loads_at, Views.seat_of}
+use Rattle.vm_rule.specs.declared.view.WordPlace.TheVariants as places
 
--- what a lock of page p tells that was taken at this word, while the page had these last words: whether the page is resident, and where; that
+-- what a lock of page p tells that was taken at this word, while the page had these last words: whether the page is
+-- resident, and where; that
 -- its frame's owner word names it; its fault word; and that the block of a page that is clean or not resident has its last words
 pub record IsHeldAt (p expects frames : ℕ) (tells : Bool) (words : List ℕ) (h : Held) : Type 0 where
   pub empty : state_of expects ≡ EVICTED → h.mapping ≡ None
@@ -92,7 +95,8 @@ module _ {X : Type 0} where
       }
 
   -- the same of a share; what is said becomes an entry where the share is taken
-  pub record ShareTold (tied : Start → ℕ → List ℕ → ℕ → List ℕ → Type 0) (p expects : ℕ) (said : Option X) (found : ℕ) (v w : View X) : Type 0 where
+  pub record ShareTold (tied : Start → ℕ → List ℕ → ℕ → List ℕ → Type 0) (p expects : ℕ) (said : Option X) (found : ℕ)
+      (v w : View X) : Type 0 where
     pub held : Held
     pub brings : Brings (did_exchange (places.State p) expects found (word_of (one_share_more (state_of expects)) (version_of expects))) []
         (entries_where v said (found == expects)) v (if found == expects then shared_view p held said v else v) w
@@ -105,7 +109,8 @@ module _ {X : Type 0} where
     -- a pass that writes the page back had a share of it before
     pub writes : (seat_of v p).writing ≡ true → 1 ≤ (seat_of v p).shares
     -- the frame of the pass's open read at this version is the page's
-    pub reads_from : found ≡ expects → (o : Open) → (seat_of v p).reading ≡ Some o → o.version ≡ version_of expects → (f : ℕ) → o.frame ≡ Some f →
+    pub reads_from : found ≡ expects → (o : Open) → (seat_of v p).reading ≡ Some o → o.version ≡ version_of expects
+        → (f : ℕ) → o.frame ≡ Some f →
         (m : Mapping) → (put_at no_held w.held p).mapping ≡ Some m → m.frame ≡ f
     pub validates : v.start.tells ≡ true → found ≡ expects → LockValidates tied p (version_of expects) (last_of w p).words v
 

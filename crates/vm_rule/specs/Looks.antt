@@ -1,13 +1,15 @@
 -- What a look tells: the view after it, and what a validated read saw.
-use Rattle.std.specs.Prelude.{[], ◌++◌, ◌<◌, ◌==◌, ◌∷◌, ◌≡◌, ◌≤◌, ◌⊎◌, false, if◌then◌else◌, length, List, None, Option, Some, suc, true, zero, ℕ}
-use Rattle.vm_core.specs.Prelude.{EVICTED, frame_of, is_readable, kept_loads, left_open, LoadsAre, mapping_of, MARKED, open_after, open_frame}
-use Rattle.vm_core.specs.Prelude.{state_of, UNLOCKED, version_of}
+use Rattle.std.specs.Prelude.{[], ◌++◌, ◌<◌, ◌==◌, ◌∷◌, ◌≡◌, ◌≤◌, ◌⊎◌, false, if◌then◌else◌, length, List, None}
+use Rattle.std.specs.Prelude.{Option, Some, suc, true, zero, ℕ}
+use Rattle.vm_core.specs.Prelude.{EVICTED, frame_of, is_readable, kept_loads, left_open, LoadsAre, mapping_of, MARKED}
+use Rattle.vm_core.specs.Prelude.{open_after, open_frame, state_of, UNLOCKED, version_of}
 use Rattle.vm_core.specs.{declared.event.Open.Open, declared.event.ReadIs.ReadIs}
 use Rattle.vm_core.specs.declared.event.ReadIs.TheVariants.{Closed, Same}
 use Rattle.vm_owner.specs.Kept.{Start}
-use Rattle.vm_rule.specs.{Brought.Brings, Brought.entries_of, declared.view.Did.Did, declared.view.Tie.Tie, declared.view.View.View, Layout.at_state}
-use Rattle.vm_rule.specs.{Log.did_load, Puts.put, Reading.last_of, Rule.began_of, Views.Each, Views.IsWhole, Views.loads_at, Views.seat_of}
-use Rattle.vm_rule.specs.declared.view.Place.TheVariants as places
+use Rattle.vm_rule.specs.{Brought.Brings, Brought.entries_of, declared.view.Did.Did, declared.view.Tie.Tie}
+use Rattle.vm_rule.specs.{declared.view.View.View, Layout.at_state, Log.did_load, Puts.put, Reading.last_of}
+use Rattle.vm_rule.specs.{Rule.began_of, Views.Each, Views.IsWhole, Views.loads_at, Views.seat_of}
+use Rattle.vm_rule.specs.declared.view.WordPlace.TheVariants as places
 
 -- what a look that found this word leaves of an open read
 abbrev pub left_at : ℕ → Option Open → ReadIs
@@ -65,7 +67,8 @@ module _ {X : Type 0} where
         mine = v.mine ++ where_same left (entries_of v said) [];
       }
 
-  -- What a look at p tells that found this word: p's last version has the word's version. Where the pass's open read stays, its words are that
+  -- What a look at p tells that found this word: p's last version has the word's version. Where the pass's open read
+  -- stays, its words are that
   -- version's; what earlier looks tied to the page at this version holds of its words, and the page is tied to itself; and each translation
   -- word of p that was loaded at this version names a frame, which is the open read's. The word agrees with those that the pass saw before.
   pub record LookTold (tied : Start → ℕ → List ℕ → ℕ → List ℕ → Type 0) (p : ℕ) (said : Option X) (found : ℕ) (v w : View X) : Type 0 where
@@ -76,7 +79,8 @@ module _ {X : Type 0} where
     pub valid : v.start.tells ≡ true → left_at found (seat_of v p).reading ≡ Same → LoadsAre (last_of w p).words (loads_at v p)
     pub holds : v.start.tells ≡ true → left_at found (seat_of v p).reading ≡ Same →
         Each (λ t. t.page ≡ p → t.version ≡ version_of found → tied (began_of v.start) t.of t.words p (last_of w p).words) v.ties
-    pub itself : v.start.tells ≡ true → left_at found (seat_of v p).reading ≡ Same → tied (began_of v.start) p (last_of w p).words p (last_of w p).words
+    pub itself : v.start.tells ≡ true → left_at found (seat_of v p).reading ≡ Same
+        → tied (began_of v.start) p (last_of w p).words p (last_of w p).words
     pub frames : left_at found (seat_of v p).reading ≡ Same →
         Each (λ t. t.page ≡ p → t.version ≡ version_of found → NamesFrame v.start.frames t.word (seat_of v p).reading) v.translations
     pub since : IsSinceAll p found v.log

@@ -1,10 +1,11 @@
--- What the steps on a page's translation word tell: a page is put into a frame of the pass, or taken out of its frame; it is made dirty, or clean.
+-- What the steps on a page's translation word tell: a page is put into a frame of the pass, or taken out of its
+-- frame; it is made dirty, or clean.
 use Rattle.std.specs.Prelude.{[], ◌<◌, ◌∷◌, ◌≡◌, Bool, false, length, List, None, Option, Some, true, ℕ}
 use Rattle.vm_core.specs.{declared.event.Mapping.Mapping, Prelude.trans_word}
 use Rattle.vm_owner.specs.Numbers.{has, without}
 use Rattle.vm_rule.specs.{Brought.Brings, declared.view.Held.Held, declared.view.Put.Put, declared.view.View.View, Log.did_store, Puts.put}
 use Rattle.vm_rule.specs.{Puts.put_at, Reading.last_of, Rule.no_held, Views.seat_of}
-use Rattle.vm_rule.specs.declared.view.Place.TheVariants as places
+use Rattle.vm_rule.specs.declared.view.WordPlace.TheVariants as places
 
 abbrev pub clean_in : ℕ → Mapping
 clean_in f = record { frame = f; dirty = false }
@@ -35,7 +36,10 @@ module _ {X : Type 0} where
     pub loaded : v.start.tells ≡ true → contents_at v f ≡ (held_at v p).block.words
 
   abbrev pub installed_view : ℕ → ℕ → View X → View X
-  installed_view p f v = record v { held = put p (record (held_at v p) { mapping = Some (clean_in f); owner = 0 }) v.held; frames = without f v.frames }
+  installed_view p f v = record v {
+    held = put p (record (held_at v p) { mapping = Some (clean_in f); owner = 0 }) v.held;
+    frames = without f v.frames;
+  }
 
   -- the page was put into the frame, clean; the frame is the pass's no more, and its owner word names no page
   pub record InstallTold (p f : ℕ) (v w : View X) : Type 0 where

@@ -1,16 +1,19 @@
--- What the steps on the next word tell: it is loaded, or the pages from it on are claimed for a group. A claim of pages that begin with the next
+-- What the steps on the next word tell: it is loaded, or the pages from it on are claimed for a group. A claim of
+-- pages that begin with the next
 -- word which the pass knows can't be lost.
 use Rattle.std.specs.Prelude.{[], ◌++◌, ◌+◌, ◌<◌, ◌==◌, ◌≡◌, ◌≤◌, if◌then◌else◌, List, None, replicate, Some, true, ℕ}
-use Rattle.vm_rule.specs.{Brought.Brings, declared.view.Did.Did, declared.view.View.View, Layout.at_next, Log.did_exchange, Log.did_load, Reading.last_of}
-use Rattle.vm_rule.specs.{Rule.WasNext, Views.Each, Views.numbers, Views.seat_of}
-use Rattle.vm_rule.specs.declared.view.Place.TheVariants as places
+use Rattle.vm_rule.specs.{Brought.Brings, declared.view.Did.Did, declared.view.View.View, Layout.at_next}
+use Rattle.vm_rule.specs.{Log.did_exchange, Log.did_load, Reading.last_of, Rule.WasNext, Views.Each, Views.numbers}
+use Rattle.vm_rule.specs.{Views.seat_of}
+use Rattle.vm_rule.specs.declared.view.WordPlace.TheVariants as places
 
 -- the next word found now is no lower than each that the steps of the log found and left
 abbrev pub IsLatest : ℕ → List Did → Type 0
 IsLatest found log = Each (λ d. at_next d.at (WasNext found d.found × WasNext found d.wrote)) log
 
 module _ {X : Type 0} where
-  -- A step on the next word, which found the word so. The word is within the table, no lower than at the start or than the pass's log has it, and
+  -- A step on the next word, which found the word so. The word is within the table, no lower than at the start or
+  -- than the pass's log has it, and
   -- pages from it on have zero words. A pass that knew the next word beforehand holds that page, and found that word.
   pub record NextStepTold (did : Did) (inner : View X) (found : ℕ) (v w : View X) : Type 0 where
     pub brings : Brings did [] [] v inner w

@@ -6,8 +6,9 @@ use Rattle.vm_block.specs.declared.stored.Stored.{Stored}
 use Rattle.vm_core.specs.Prelude.{at, History, mapping_of, outside_page, Page, State, state_of, Version, version_of, World}
 use Rattle.vm_core.specs.declared.event.Seat.{Seat}
 use Rattle.vm_owner.specs.Numbers.{has}
-use Rattle.vm_rule.specs.{declared.view.Origin.Origin, declared.view.Out.Out, declared.view.Release.Release, declared.view.View.View, Layout.table_words}
-use Rattle.vm_rule.specs.{Layout.Words, Puts.listed, Views.loads_at, Views.seat_of, Views.spent}
+use Rattle.vm_rule.specs.{declared.view.Origin.Origin, declared.view.Out.Out, declared.view.Release.Release}
+use Rattle.vm_rule.specs.{declared.view.View.View, Layout.table_words, Layout.Words, Puts.listed, Views.loads_at}
+use Rattle.vm_rule.specs.{Views.seat_of, Views.spent}
 
 -- ---- pages and frames
 
@@ -140,7 +141,8 @@ module _ {X : Type 0} where
 
     -- the core state that the table shows
     abbrev pub core_shown : Origin → Table (Option B) (View X) → State
-    core_shown start s = core_from start (length s.views) (table_words start s.words) (block_of s.homes s.views) (seats_of s.views) (frames_held s.views) (numbers_held s.views)
+    core_shown start s = core_from start (length s.views) (table_words start s.words) (block_of s.homes s.views)
+        (seats_of s.views) (frames_held s.views) (numbers_held s.views)
 
     -- with the versions of its pages and the loads of the open reads
     abbrev pub world_of : Origin → List Release → (ℕ → List ℕ) → Table (Option B) (View X) → World

@@ -1,11 +1,13 @@
--- What a release tells: the draft is the next version. The first release of a group makes the drafts of all its members logical. A page that
+-- What a release tells: the draft is the next version. The first release of a group makes the drafts of all its
+-- members logical. A page that
 -- is not resident is released as evicted.
 use Rattle.std.specs.Prelude.{[], ◌&&◌, ◌++◌, ◌+◌, ◌==◌, ◌∷◌, ◌≡◌, false, if◌then◌else◌, List, None, Option, Some, true, ℕ}
 use Rattle.vm_core.specs.Prelude.{EVICTED, word_of}
 use Rattle.vm_numbers.specs.Hands.{all_zero, freed_of}
 use Rattle.vm_owner.specs.{Kept.Change, Numbers.has, Numbers.without}
-use Rattle.vm_rule.specs.{Brought.Brings, Brought.entries_of, declared.view.View.View, Log.did_store, Puts.put, Reading.last_of, Views.draft_of, Views.seat_of}
-use Rattle.vm_rule.specs.declared.view.Place.TheVariants as places
+use Rattle.vm_rule.specs.{Brought.Brings, Brought.entries_of, declared.view.View.View, Log.did_store, Puts.put}
+use Rattle.vm_rule.specs.{Reading.last_of, Views.draft_of, Views.seat_of}
+use Rattle.vm_rule.specs.declared.view.WordPlace.TheVariants as places
 
 -- without all of these
 abbrev pub without_all : List ℕ → List ℕ → List ℕ
@@ -26,7 +28,8 @@ module _ {X : Type 0} where
   changes_of v [] = []
   changes_of v (q ∷ qs) = change_of v q ∷ changes_of v qs
 
-  -- the numbers that the pass holds after it gave up page p: of a page whose words are not all 0 it holds the number no more; where the blocks do not tell
+  -- the numbers that the pass holds after it gave up page p: of a page whose words are not all 0 it holds the number
+  -- no more; where the blocks do not tell
   -- their words, of none
   abbrev pub numbers_left : ℕ → View X → List ℕ
   numbers_left p v = if v.start.tells && all_zero (draft_of v p) then v.numbers else without p v.numbers
@@ -68,7 +71,13 @@ module _ {X : Type 0} where
   -- p is released to a share of the pass
   abbrev pub downgraded_view : ℕ → View X → View X
   downgraded_view p v =
-      record v { seats = put p (record (seat_of v p) { shares = 1; exclusive = false }) v.seats; owed = without p v.owed; numbers = numbers_left p v; freed = freed_by v (p ∷ []) ++ v.freed; next = next_after p v.next }
+      record v {
+        seats = put p (record (seat_of v p) { shares = 1; exclusive = false }) v.seats;
+        owed = without p v.owed;
+        numbers = numbers_left p v;
+        freed = freed_by v (p ∷ []) ++ v.freed;
+        next = next_after p v.next;
+      }
 
   -- its draft is its next version
   pub record DowngradeTold (p version : ℕ) (v w : View X) : Type 0 where

@@ -1,22 +1,24 @@
 -- The rule of the running table: what holds of its words, its blocks and the views of its passes between any two steps of any threads.
-use Rattle.std.specs.Prelude.{[], ◌++◌, ◌+◌, ◌<◌, ◌∷◌, ◌≡◌, ◌≢◌, ◌≤◌, ◌⊎◌, Bool, false, if◌then◌else◌, IsSome, length, List, None, Option, replicate}
-use Rattle.std.specs.Prelude.{Some, true, ℕ}
+use Rattle.std.specs.Prelude.{[], ◌++◌, ◌+◌, ◌<◌, ◌∷◌, ◌≡◌, ◌≢◌, ◌≤◌, ◌⊎◌, Bool, false, if◌then◌else◌, IsSome, length}
+use Rattle.std.specs.Prelude.{List, None, Option, replicate, Some, true, ℕ}
 use mathlib.Core.Option as maybe
 use Rattle.atomic_table.specs.Table.{State as Table}
 use Rattle.vm_block.specs.declared.stored.Stored.{Stored}
-use Rattle.vm_core.specs.Prelude.{at, EVICTED, frame_of, get_elem?, has_free_bit, History, Inv, is_readable, LOCKED, mapping_of, MAX_COUNT, Page, state_of}
-use Rattle.vm_core.specs.Prelude.{trans_word, version_of, World}
+use Rattle.vm_core.specs.Prelude.{at, EVICTED, frame_of, get_elem?, has_free_bit, History, Inv, is_readable, LOCKED}
+use Rattle.vm_core.specs.Prelude.{mapping_of, MAX_COUNT, Page, state_of, trans_word, version_of, World}
 use Rattle.vm_core.specs.declared.event.{Mapping.Mapping, Seat.Seat}
 use Rattle.vm_laws_others.specs.Leaves.{stands_dirty}
 use Rattle.vm_numbers.specs.Hands.{Hands, NumbersFit}
 use Rattle.std.specs.Prelude.{map}
 use Rattle.vm_owner.specs.{declared.Entry.Entry, Kept.AreCounted, Kept.Kept, Kept.Start, Numbers.has}
-use Rattle.vm_rule.specs.{declared.view.Did.Did, declared.view.Held.Held, declared.view.Origin.Origin, declared.view.Out.Out, declared.view.Release.Release}
-use Rattle.vm_rule.specs.{declared.view.Snapshot.Snapshot, declared.view.Tie.Tie, declared.view.Translation.Translation, declared.view.View.View}
-use Rattle.vm_rule.specs.{Layout.at_next, Layout.at_state, Layout.table_words, Layout.width, Puts.chosen, Puts.listed, Puts.put_at}
+use Rattle.vm_rule.specs.{declared.view.Did.Did, declared.view.Held.Held, declared.view.Origin.Origin}
+use Rattle.vm_rule.specs.{declared.view.Out.Out, declared.view.Release.Release, declared.view.Snapshot.Snapshot}
+use Rattle.vm_rule.specs.{declared.view.Tie.Tie, declared.view.Translation.Translation, declared.view.View.View}
+use Rattle.vm_rule.specs.{Layout.at_next, Layout.at_state, Layout.table_words, Layout.width, Puts.chosen, Puts.listed}
+use Rattle.vm_rule.specs.{Puts.put_at}
 use Rattle.vm_rule.specs.Reading.{block_of, core_shown, histories_of, home, last_in, last_of, no_block, out_of, world_of}
-use Rattle.vm_rule.specs.Views.{any, draft_of, Each, entries_by, Hears, IsLocking, IsWhole, may_call, one_part, owns, PARTS, seat_of, spent, StartsWith}
-use Rattle.vm_rule.specs.Views.{times_noted, total}
+use Rattle.vm_rule.specs.Views.{any, draft_of, Each, entries_by, Hears, IsLocking, IsWhole, may_call, one_part, owns}
+use Rattle.vm_rule.specs.Views.{PARTS, seat_of, spent, StartsWith, times_noted, total}
 
 -- the slot of a block that is out: empty at home, or with the pass that moves it
 abbrev pub slot_of : {B : Type 0} → Out → maybe.Option (Option B)
@@ -33,7 +35,8 @@ AreNext start before (r ∷ rs) = (r.version ≡ (last_in start before r.page).v
 abbrev pub no_held : Held
 no_held = record { mapping = None; fault = 0; block = no_block; owner = 0 }
 
--- what a pass that has the page locked knows of it is what it is: all of it where the pass may call the device, its frame where it has a share
+-- what a pass that has the page locked knows of it is what it is: all of it where the pass may call the device, its
+-- frame where it has a share
 pub record KnowsPage (seat : Seat) (h : Held) (r : Page) : Type 0 where
   pub calls : may_call seat ≡ true → (h.mapping ≡ r.trans) × (h.fault ≡ r.fault) × (h.block.words ≡ r.block) × (h.block.count ≡ r.count)
   pub shares : 1 ≤ seat.shares → frame_of h.mapping ≡ frame_of r.trans
@@ -45,14 +48,16 @@ KnowsOwner owners seat h = (m : Mapping) → may_call seat ≡ true → h.mappin
 abbrev pub KnowsOwners : (ℕ → ℕ) → (ℕ → Seat) → (ℕ → Held) → Type 0
 KnowsOwners owners seats held = (p : ℕ) → KnowsOwner owners (seats p) (held p)
 
--- the word that was loaded names the page's frame, as long as the page has the version of the read and is neither locked nor evicted; a page
+-- the word that was loaded names the page's frame, as long as the page has the version of the read and is neither
+-- locked nor evicted; a page
 -- that it says to be clean stays clean so long
 abbrev pub TranslationHolds : (ℕ → Page) → Translation → Type 0
 TranslationHolds pages t =
     (t.version ≤ (pages t.page).version)
     × (t.version ≡ (pages t.page).version → (pages t.page).state ≢ LOCKED → (pages t.page).state ≢ EVICTED
     → frame_of (mapping_of t.word) ≡ frame_of (pages t.page).trans)
-    × (t.version ≡ (pages t.page).version → (pages t.page).state ≢ LOCKED → (pages t.page).state ≢ EVICTED → stands_dirty (pages t.page).trans ≡ true
+    × (t.version ≡ (pages t.page).version → (pages t.page).state ≢ LOCKED → (pages t.page).state ≢ EVICTED
+    → stands_dirty (pages t.page).trans ≡ true
     → stands_dirty (mapping_of t.word) ≡ true)
 
 -- the word was the page's once: the page's version is no lower; where the word said that it can't be read, it can't be at that version; and
@@ -84,7 +89,8 @@ TieHolds tied began w pending t =
 
 -- a translation word is 0, or names a frame
 abbrev pub ArePlain : Origin → List ℕ → Type 0
-ArePlain start words = (p : ℕ) → p < start.pages → (table_words start words).translations p ≡ trans_word (mapping_of ((table_words start words).translations p))
+ArePlain start words = (p : ℕ) → p < start.pages → (table_words start words).translations p ≡ trans_word
+    (mapping_of ((table_words start words).translations p))
 
 -- ---- what the layer above keeps
 
@@ -109,7 +115,8 @@ module _ {X : Type 0} where
   abbrev pub hands_of : View X → Hands
   hands_of v = record { numbers = v.numbers; freed = v.freed; owed = v.owed; pending = v.pending }
 
-  -- the logical pages, the next page, the pages owed, by rising number, the numbers that are free, held and still to be given, and the history
+  -- the logical pages, the next page, the pages owed, by rising number, the numbers that are free, held and still to
+  -- be given, and the history
   abbrev pub kept_of : World → List (Entry X) → List (View X) → Kept X
   kept_of w history views =
       record {
@@ -140,7 +147,8 @@ module _ {X : Type 0} where
     pub saw : StartsWith releases v.releases
     pub heard : Hears history v.used v.seen
     -- so do they with what it learned by a join; the numbers from which it learned it are its own
-    pub told : StartsWith releases v.told_releases × Hears history v.told_used v.told × ((k : ℕ) → has k v.told_used ≡ true → has k v.used ≡ true)
+    pub told : StartsWith releases v.told_releases × Hears history v.told_used v.told
+        × ((k : ℕ) → has k v.told_used ≡ true → has k v.used ≡ true)
     -- its own entries are those with one of its numbers, all, in order; a fresh part has none
     pub mine : v.mine ≡ entries_by v.used v.seen
     pub fresh : (k : ℕ) → has k v.fresh ≡ true → entries_by (k ∷ []) history ≡ []
@@ -148,7 +156,8 @@ module _ {X : Type 0} where
     pub idle : v.used ≡ [] → v.fresh ≡ [] → HoldsNothing v
 
   -- what the pass knows of what it holds and of what it read
-  pub record KnowsPages (tied : Start → ℕ → List ℕ → ℕ → List ℕ → Type 0) (start : Origin) (w : World) (unreleased : ℕ → Bool) (v : View X) : Type 0 where
+  pub record KnowsPages (tied : Start → ℕ → List ℕ → ℕ → List ℕ → Type 0) (start : Origin) (w : World)
+      (unreleased : ℕ → Bool) (v : View X) : Type 0 where
     pub knows : (p : ℕ) → KnowsPage (seat_of v p) (put_at no_held v.held p) (w.core.pages p)
     -- the owner word of the frame of a page whose device the pass may call
     pub owners : KnowsOwners w.core.owners (seat_of v) (put_at no_held v.held)
@@ -160,7 +169,8 @@ module _ {X : Type 0} where
     pub pending : (p : ℕ) → has p v.pending ≡ true →
         ((seat_of v p).exclusive ≡ true) × (start.tells ≡ true → w.core.next ≤ p → (w.histories p).draft ≡ (w.histories p).last.words)
     -- a page that is owed is held, was claimed since the start, and is no member of a group
-    pub owed : (p : ℕ) → has p v.owed ≡ true → ((seat_of v p).exclusive ≡ true) × (start.next ≤ p) × (p < w.core.next) × (has p v.pending ≡ false)
+    pub owed : (p : ℕ) → has p v.owed ≡ true → ((seat_of v p).exclusive ≡ true) × (start.next ≤ p) × (p < w.core.next)
+        × (has p v.pending ≡ false)
     pub next : (x : ℕ) → v.next ≡ Some x → ((seat_of v x).exclusive ≡ true) × (w.core.next ≡ x)
     pub translations : Each (TranslationHolds w.core.pages) v.translations
     -- the words of its steps were those of the table
@@ -169,7 +179,8 @@ module _ {X : Type 0} where
 
   -- ---- all passes
 
-  -- the fault words, the counts of the blocks, and the notes: a fault word is at most the count; each count noted of a page is a fault's, and at
+  -- the fault words, the counts of the blocks, and the notes: a fault word is at most the count; each count noted of
+  -- a page is a fault's, and at
   -- most its fault word; each pair is noted once, but at the last count
   pub record FaultsFit (pages : ℕ → Page) (views : List (View X)) : Type 0 where
     pub below : (p : ℕ) → (pages p).fault ≤ (pages p).count
@@ -178,9 +189,11 @@ module _ {X : Type 0} where
         (1 ≤ count) × (count ≤ (pages p).fault)
     pub once : (p count : ℕ) → count ≢ MAX_COUNT → total (λ v. times_noted p count v.notes) views ≤ 1
 
-  -- the lists: they are the longest that a live pass has seen; entries have numbers of parts, counted for each; releases have the next versions
+  -- the lists: they are the longest that a live pass has seen; entries have numbers of parts, counted for each;
+  -- releases have the next versions
   pub record ListsFit (start : Origin) (releases : List Release) (history : List (Entry X)) (views : List (View X)) : Type 0 where
-    pub longest_releases : (j : ℕ) × (v : View X) × (get_elem? views j ≡ maybe.some v) × ((v.releases ≡ releases) ⊎ (v.told_releases ≡ releases))
+    pub longest_releases : (j : ℕ) × (v : View X) × (get_elem? views j ≡ maybe.some v)
+        × ((v.releases ≡ releases) ⊎ (v.told_releases ≡ releases))
     pub longest : (j : ℕ) × (v : View X) × (get_elem? views j ≡ maybe.some v) × ((v.seen ≡ history) ⊎ (v.told ≡ history))
     pub numbered : Each (λ e. e.number < PARTS) history
     pub counted : AreCounted (λ _. 0) history
@@ -230,7 +243,8 @@ module _ {X : Type 0} where
             (histories_of start releases drafts p).last.words ≡ replicate start.size 0
         -- page numbers: each stands in one place at most, and what that says of its page's words
         pub numbers : start.tells ≡ true → NumbersFit (has_free_bit (core_shown stored start s).spares) (core_shown stored start s).next
-            (λ p. (histories_of start releases drafts p).last.words) (logical (histories_of start releases drafts) (is_pending s.views)) (map hands_of s.views)
+            (λ p. (histories_of start releases drafts p).last.words)
+            (logical (histories_of start releases drafts) (is_pending s.views)) (map hands_of s.views)
         -- a bit of a free-number word that is set is a page's, whether or not the blocks tell
         pub spares : (p : ℕ) → has_free_bit (core_shown stored start s).spares p ≡ true → p < start.pages
         pub blocks : BlocksFit start s.homes s.views

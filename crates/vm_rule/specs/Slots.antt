@@ -3,9 +3,9 @@
 use Rattle.std.specs.Prelude.{[], ◌≡◌, Bool, false, if◌then◌else◌, IsSome, List, None, Some, true, ℕ}
 use Rattle.vm_block.specs.declared.stored.Stored.{Stored}
 use Rattle.vm_core.specs.Prelude.{at, count_more}
-use Rattle.vm_rule.specs.{Brought.Brings, Brought.BringsWith, declared.view.Out.Out, declared.view.View.View, Log.did_load, Mappings.held_at}
-use Rattle.vm_rule.specs.{Puts.put, Reading.last_of, Views.draft_of, Views.seat_of}
-use Rattle.vm_rule.specs.declared.view.Place.TheVariants as places
+use Rattle.vm_rule.specs.{Brought.Brings, Brought.BringsWith, declared.view.Out.Out, declared.view.View.View}
+use Rattle.vm_rule.specs.{Log.did_load, Mappings.held_at, Puts.put, Reading.last_of, Views.draft_of, Views.seat_of}
+use Rattle.vm_rule.specs.declared.view.WordPlace.TheVariants as places
 
 abbrev pub out_at : ℕ → Bool → Stored → Out
 out_at p moving block = record { page = p; moving = moving; block = block }
@@ -45,15 +45,18 @@ module _ {X : Type 0} where
   abbrev pub words_held : View X → ℕ → List ℕ
   words_held v p = if (seat_of v p).exclusive then draft_of v p else (last_of v p).words
 
-  -- what was done to the block while it was out: no call of its device, or one: a read by who holds the page exclusively, a write of the page's
+  -- what was done to the block while it was out: no call of its device, or one: a read by who holds the page
+  -- exclusively, a write of the page's
   -- words, or a call that failed
   pub data DeviceDid (v : View X) (p : ℕ) (old new : Stored) : Type 0 where
     idle : new ≡ old → DeviceDid v p old new
     read : (seat_of v p).exclusive ≡ true → (v.start.tells ≡ true → new.words ≡ old.words) → new.count ≡ old.count →
         new.reads ≡ count_more old.reads → new.writes ≡ old.writes → DeviceDid v p old new
-    wrote : IsSome (held_at v p).mapping → (v.start.tells ≡ true → new.words ≡ words_held v p) → new.count ≡ old.count → new.reads ≡ old.reads →
+    wrote : IsSome (held_at v p).mapping → (v.start.tells ≡ true → new.words ≡ words_held v p) → new.count ≡ old.count
+        → new.reads ≡ old.reads →
         new.writes ≡ count_more old.writes → DeviceDid v p old new
-    failed : (v.start.tells ≡ true → new.words ≡ old.words) → new.count ≡ count_more old.count → new.reads ≡ old.reads → new.writes ≡ old.writes →
+    failed : (v.start.tells ≡ true → new.words ≡ old.words) → new.count ≡ count_more old.count → new.reads ≡ old.reads
+        → new.writes ≡ old.writes →
         DeviceDid v p old new
 
   -- the pass has the page locked so that it may call its device, and has its block out

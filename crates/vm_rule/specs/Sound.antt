@@ -4,7 +4,8 @@ use Rattle.vm_core.specs.Prelude.{MAX_VERSION}
 use Rattle.vm_owner.specs.{Kept.AreCounted, Numbers.AreApart, Numbers.has}
 use Rattle.vm_rule.specs.{declared.view.View.View, Reading.last_of, Rule.AreNext, Views.Each, Views.entries_by, Views.PARTS}
 
--- its own entries are those of its numbers; a fresh part has none; its parts are apart; entries have numbers of parts, counted for each; its
+-- its own entries are those of its numbers; a fresh part has none; its parts are apart; entries have numbers of
+-- parts, counted for each; its
 -- releases have the next versions, and no page is past the last
 pub record Sound {X : Type 0} (v : View X) : Type 0 where
   pub mine : v.mine ≡ entries_by v.used v.seen

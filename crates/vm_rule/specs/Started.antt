@@ -1,11 +1,14 @@
 -- The opening of a pool's table: every page is evicted, with its words in its block; every frame is free; every block is at home.
-use Rattle.std.specs.Prelude.{[], ◌%◌, ◌*◌, ◌++◌, ◌/◌, ◌<◌, ◌^◌, ◌∷◌, ◌≡◌, ◌≤◌, bit_or, Bool, if◌then◌else◌, length, List, map, replicate, true, ℕ}
+use Rattle.std.specs.Prelude.{[], ◌%◌, ◌*◌, ◌++◌, ◌/◌, ◌<◌, ◌^◌, ◌∷◌, ◌≡◌, ◌≤◌, bit_or, Bool, if◌then◌else◌, length}
+use Rattle.std.specs.Prelude.{List, map, replicate, true, ℕ}
 use Rattle.vm_block.specs.declared.stored.Stored.{Stored}
-use Rattle.vm_core.specs.{declared.words.TheConstants.FRAMES, Prelude.at, Prelude.EVICTED, Prelude.full_bundle, Prelude.MAX_VERSION, Prelude.page_at}
+use Rattle.vm_core.specs.{declared.words.TheConstants.FRAMES, Prelude.at, Prelude.EVICTED, Prelude.full_bundle}
+use Rattle.vm_core.specs.{Prelude.MAX_VERSION, Prelude.page_at}
 use Rattle.vm_core.specs.Prelude.{upd, word_of}
 use Rattle.vm_owner.specs.{Kept.first_kept, Kept.Kept, Kept.Start, Numbers.has}
 use Rattle.vm_page.specs.Pages.{all_zero}
-use Rattle.vm_rule.specs.{declared.view.Origin.Origin, declared.view.Shape.Shape, declared.view.Snapshot.Snapshot, Layout.bundles_of, Puts.listed, Reading.no_block}
+use Rattle.vm_rule.specs.{declared.view.Origin.Origin, declared.view.Snapshot.Snapshot}
+use Rattle.vm_rule.specs.{declared.view.TableShape.TableShape, Layout.bundles_of, Puts.listed, Reading.no_block}
 
 -- what the blocks count of faults, and the bounds of these counts
 abbrev pub counts_of : List Stored → List ℕ
@@ -36,12 +39,14 @@ with_free words (p ∷ ps) = with_free (upd words (p / FRAMES) (bit_or (words (p
 abbrev pub free_words : List ℕ → ℕ → ℕ
 free_words free = with_free (λ g. 0) free
 
--- the table's words: those of the states, of the translations, of the faults, of the frames, of the bundles, the next word, the hand, the owner words, the free-number words
+-- the table's words: those of the states, of the translations, of the faults, of the frames, of the bundles, the next
+-- word, the hand, the owner words, the free-number words
 abbrev pub started_words : ℕ → ℕ → ℕ → ℕ → ℕ → List ℕ → List ℕ → List ℕ
 started_words size pages frames version next free counts =
     listed pages (λ p. word_of EVICTED version) ++
     (listed pages (λ p. 0) ++ (counts ++ (listed (size * frames) (λ i. 0) ++
-    (listed (bundles_of frames) (full_bundle frames) ++ (next ∷ (0 ∷ (listed frames (λ f. 0) ++ listed (bundles_of pages) (free_words free))))))))
+    (listed (bundles_of frames) (full_bundle frames)
+    ++ (next ∷ (0 ∷ (listed frames (λ f. 0) ++ listed (bundles_of pages) (free_words free))))))))
 
 -- how the table began, with what its blocks hold
 abbrev pub started_origin : ℕ → Bool → ℕ → ℕ → List ℕ → ℕ → List Stored → Origin
@@ -60,9 +65,10 @@ started_origin size tells version next free frames blocks =
 
 -- its first words and blocks; its shape with both
 abbrev pub started_snapshot : ℕ → ℕ → ℕ → List ℕ → ℕ → List Stored → Snapshot
-started_snapshot size version next free frames blocks = record { words = started_words size (length blocks) frames version next free (counts_of blocks); blocks = blocks }
+started_snapshot size version next free frames blocks =
+    record { words = started_words size (length blocks) frames version next free (counts_of blocks); blocks = blocks }
 
-abbrev pub started_shape : ℕ → Bool → ℕ → ℕ → List ℕ → ℕ → List Stored → Shape
+abbrev pub started_shape : ℕ → Bool → ℕ → ℕ → List ℕ → ℕ → List Stored → TableShape
 started_shape size tells version next free frames blocks =
     record {
       size = size;
@@ -70,10 +76,14 @@ started_shape size tells version next free frames blocks =
       frames = frames;
       version = version;
       next = next;
-      began = record { origin = started_origin size tells version next free frames blocks; snapshot = started_snapshot size version next free frames blocks };
+      began = record {
+        origin = started_origin size tells version next free frames blocks;
+        snapshot = started_snapshot size version next free frames blocks;
+      };
     }
 
--- the numbers fit: there are pages and frames, at most 65536 of each; the next page is at most the number of pages; the version is a version
+-- the numbers fit: there are pages and frames, at most 65536 of each; the next page is at most the number of pages;
+-- the version is a version
 pub record IsStarted (version next frames pages : ℕ) : Type 0 where
   pub some_pages : 1 ≤ pages
   pub few_pages : pages ≤ 65536

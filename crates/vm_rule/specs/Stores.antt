@@ -1,8 +1,9 @@
 -- What a store tells: into the frame of a page that the pass holds exclusively, or into a frame of its own.
 use Rattle.std.specs.Prelude.{[], ◌≡◌, ◌⊎◌, false, length, slice_set, Some, true, ℕ}
 use Rattle.vm_owner.specs.Numbers.{has}
-use Rattle.vm_rule.specs.{Brought.Brings, declared.view.View.View, Log.did_store, Puts.put, Puts.put_at, Rule.no_held, Views.draft_of, Views.seat_of}
-use Rattle.vm_rule.specs.declared.view.Place.TheVariants as places
+use Rattle.vm_rule.specs.{Brought.Brings, declared.view.View.View, Log.did_store, Puts.put, Puts.put_at, Rule.no_held}
+use Rattle.vm_rule.specs.{Views.draft_of, Views.seat_of}
+use Rattle.vm_rule.specs.declared.view.WordPlace.TheVariants as places
 
 module _ {X : Type 0} where
   -- the pass holds page p exclusively, which stands dirty in this frame and is no member still to be released

@@ -1,5 +1,6 @@
 -- Views: what is read off one, what is summed over all, and the views that passes begin and end with.
-use Rattle.std.specs.Prelude.{[], Bool, false, if◌then◌else◌, List, nat_lt, None, suc, true, zero, ℕ, ◌&&◌, ◌++◌, ◌+◌, ◌<◌, ◌==◌, ◌||◌, ◌∷◌, ◌≡◌, ◌≤◌, ◌⊎◌}
+use Rattle.std.specs.Prelude.{[], Bool, false, if◌then◌else◌, List, nat_lt, None, suc, true, zero, ℕ, ◌&&◌, ◌++◌, ◌+◌}
+use Rattle.std.specs.Prelude.{◌<◌, ◌==◌, ◌||◌, ◌∷◌, ◌≡◌, ◌≤◌, ◌⊎◌}
 use Rattle.vm_core.specs.{declared.event.Seat.Seat, Prelude.no_seat}
 use Rattle.vm_owner.specs.{declared.Entry.Entry, Numbers.has}
 use Rattle.vm_rule.specs.{declared.view.Note.Note, declared.view.Origin.Origin, declared.view.View.View, Puts.put_at}
@@ -123,7 +124,17 @@ module _ {X : Type 0} where
 
   -- the view of a pass that was joined away
   abbrev pub spent : View X
-  spent = view_from false (record { tells = false; size = 0; pages = 0; frames = 0; version = 0; next = 0; free = []; contents = []; bounds = [] }) [] []
+  spent = view_from false (record {
+    tells = false;
+    size = 0;
+    pages = 0;
+    frames = 0;
+    version = 0;
+    next = 0;
+    free = [];
+    contents = [];
+    bounds = [];
+  }) [] []
 
   abbrev pub view_of : List (View X) → View X
   view_of [] = spent

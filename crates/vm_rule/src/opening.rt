@@ -4,7 +4,7 @@ ghost use Rattle.std.specs.Prelude.{[], ◌++◌, ◌<◌, ◌≡◌, ◌≤◌,
 ghost use Rattle.vm_rule.specs.Prelude.{counts_of, listed, opening, Sound, Stands, unborn, view_of, width_of};
 ghost use Rattle.vm_rule.specs.Begun.{begun};
 
-use crate::view::{Shape, View};
+use crate::view::{TableShape, View};
 use crate::words::{Law, PageSize, Pass, Words};
 use atomic_table::{Play, Seat, Table};
 use std::alloc::{AllocError, Global};
@@ -50,7 +50,7 @@ pub(crate) fn opened<U: Owner, B: Block + Drop>(
     alloc: Global,
     words: &[u64],
     slots: Vec<Option<B>>,
-    shape: &Shape,
+    shape: &TableShape,
 ) -> Result<(Words<U, B>, Pass<U>), Memory>
     requires stands { Stands B.stored U.keeps U.tied shape.now B.tells (opening words.now slots.items (unborn shape.now)) }
     requires pages { (1 ≤ shape.now.pages) × (shape.now.pages ≤ 65536) }
@@ -94,7 +94,7 @@ impl<S, U: Owner> Play<S, View<U::Said>> for Begin<U> {
 
 /// The first step of the first pass.
 pub(crate) fn first_step<U: Owner, B: Block>(
-    table: &Table<Option<B>, View<U::Said>, Shape, Law<U, B>, Global>,
+    table: &Table<Option<B>, View<U::Said>, TableShape, Law<U, B>, Global>,
     seat: &mut Seat<Option<B>, View<U::Said>>,
 )
     requires table { (seat.old.table_id ≡ table.now.shared.table_id) × (0 < table.now.shared.table_id.words) × (1 ≤ table.now.shared.key.pages) }

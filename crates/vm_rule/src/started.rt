@@ -9,7 +9,7 @@ ghost use Rattle.vm_rule.specs.{Begun.begun, declared.began.Began.Began};
 
 use crate::began::Began;
 use crate::opening::{opened, push_faults, push_same, slots_of};
-use crate::view::Shape;
+use crate::view::TableShape;
 use crate::words::{Pass, Words};
 use std::alloc::{AllocError, Global};
 use vm_block::Block;
@@ -59,11 +59,11 @@ pub(crate) fn shape_of<B: Block>(
     next: u32,
     version: u64,
     _free: &[u32],
-) -> Shape
+) -> TableShape
     ghost told: { Began }
     ensures { result ≡ record { size = size; pages = length blocks.now; frames = frames; version = version; next = next; began = told } }
 {
-    Shape {
+    TableShape {
         size: size as u64,
         pages: blocks.len() as u64,
         frames: frames as u64,

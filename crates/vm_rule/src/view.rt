@@ -22,7 +22,7 @@ pub struct Held {
 /// What a table is told when it is made: how many words a page has, its numbers of pages and frames, the first version of every page, and the least page number
 /// that was not claimed. For proofs alone it has also how the table began, with its first words and blocks.
 #[derive(Drop)]
-pub struct Shape {
+pub struct TableShape {
     pub size: u64,
     pub pages: u64,
     pub frames: u64,
@@ -87,8 +87,8 @@ pub struct Out {
     pub block: Stored,
 }
 
-/// A word of the table.
-pub enum Place {
+/// The place of a word of the table.
+pub enum WordPlace {
     State(u64),
     Translation(u64),
     Fault(u64),
@@ -105,7 +105,7 @@ pub enum Place {
 
 /// One step of the pass on a word: what it expected, the word found, the word left there. A load leaves none, a store finds none.
 pub struct Did {
-    pub at: Place,
+    pub at: WordPlace,
     pub expects: Option<u64>,
     pub found: Option<u64>,
     pub wrote: Option<u64>,

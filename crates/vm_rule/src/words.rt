@@ -4,7 +4,7 @@ ghost use denote.Struct.Props.{props};
 ghost use Rattle.vm_rule.specs.Prelude.{Sound, view_of, width_of};
 ghost use Rattle.vm_rule.specs.Props.{AreApart-prop, AreCounted-prop, AreNext-prop, numbered-prop};
 
-use crate::view::{Shape, View};
+use crate::view::{TableShape, View};
 use atomic_table::{Badge, Closed, Table, TableRule};
 use std::alloc::Global;
 use std::marker::PhantomData;
@@ -17,7 +17,7 @@ pub struct Law<U, B> {
     marker: PhantomData<(U, B)>,
 }
 
-impl<U: Owner, B: Block> TableRule<Option<B>, View<U::Said>, Shape> for Law<U, B> {
+impl<U: Owner, B: Block> TableRule<Option<B>, View<U::Said>, TableShape> for Law<U, B> {
     ghost use Rattle.vm_rule.specs.Prelude.{Stands, unborn};
 
     ghost holds = { λ shape s. Stands B.stored U.keeps U.tied shape B.tells s };
@@ -35,7 +35,7 @@ pub struct PageSize<U: Owner> {
 
 /// The shared words of a table, and its slots with the blocks: all passes step on them through a `&`.
 pub struct Words<U: Owner, B: Block> {
-    pub table: Table<Option<B>, View<U::Said>, Shape, Law<U, B>, Global>,
+    pub table: Table<Option<B>, View<U::Said>, TableShape, Law<U, B>, Global>,
     pub size: PageSize<U>,
     pub pages: usize,
     pub frames: usize,

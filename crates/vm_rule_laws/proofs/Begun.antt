@@ -3,13 +3,15 @@ use Rattle.std.proofs.Common.{[], ⊎_elim, ◌∙◌, ◌∷◌, ◌≡◌, ap,
 use mathlib.Core.Option as maybe
 use Rattle.vm_core.specs.Prelude.{get_elem?, some, some-injective}
 use Rattle.vm_rule.specs.Prelude.{HasShape, Kept, Ruled, Stands, Start, Stored, Table, unborn}
-use Rattle.vm_rule.specs.{declared.view.Origin.Origin, declared.view.Shape.Shape, declared.view.View.View}
+use Rattle.vm_rule.specs.{declared.view.Origin.Origin, declared.view.TableShape.TableShape, declared.view.View.View}
 
 only-one : {A : Type 0} (a v : A) (id : ℕ) → get_elem? (a ∷ []) id ≡ some v → a ≡ v
 only-one a v zero e = some-injective a v e
 only-one a v (suc id) e = absurd (maybe.some-ne-none v (sym e))
 
-pub begun-ruled : {X B : Type 0} (stored : B → Stored) (keeps : Start → Kept X → Type 0) (tied : Start → ℕ → List ℕ → ℕ → List ℕ → Type 0) (shape : Shape) (tells : Bool) (s : Table (Option B) (View X))
+pub begun-ruled : {X B : Type 0} (stored : B → Stored) (keeps : Start → Kept X → Type 0)
+    (tied : Start → ℕ → List ℕ → ℕ → List ℕ → Type 0) (shape : TableShape) (tells : Bool)
+    (s : Table (Option B) (View X))
     → Stands stored keeps tied shape tells s → (id : ℕ) (v : View X) → get_elem? s.views id ≡ some v → v.live ≡ true
     → HasShape shape shape.began.origin × Ruled stored keeps tied shape.began.origin tells s
 begun-ruled {X} stored keeps tied shape tells s h id v there live =

@@ -1,6 +1,6 @@
 -- Every entry has the number of a part, and a pass that has all parts has used each number that an entry has: all entries are its own.
-use Rattle.std.proofs.Common.{[], ⊎_elim, ◌++◌, ◌+◌, ◌<◌, ◌∙◌, ◌∷◌, ◌≡◌, ◌≤◌, ap, arith, Bool, false, length, List, Option, refl, subst, suc, sym}
-use Rattle.std.proofs.Common.{true, true≢false, ℕ}
+use Rattle.std.proofs.Common.{[], ⊎_elim, ◌++◌, ◌+◌, ◌<◌, ◌∙◌, ◌∷◌, ◌≡◌, ◌≤◌, ap, arith, Bool, false, length, List}
+use Rattle.std.proofs.Common.{Option, refl, subst, suc, sym, true, true≢false, ℕ}
 use Rattle.std.proofs.lemmas.Bool.{cases_Bool, cases_eq, cases_lt, eq-eqb, ne_eqb}
 use Rattle.std.proofs.lemmas.List.{append-nil}
 use Rattle.vm_rule.specs.Prelude.{Each, entries_by, Entry, has, IsWhole, Kept, KnowsLists, PARTS, Ruled, Start, Stored, Table, times}
@@ -14,7 +14,8 @@ times-in k [] l = absurd (omega arith)
 times-in k (n ∷ ns) l =
     ⊎_elim
     (λ (e : k ≡ n). rw (eq-eqb k n e) refl)
-    (λ ne. let drop : times k (n ∷ ns) ≡ times k ns = rw (ne_eqb n k (λ e. ne (sym e))) (omega arith) in rw (ne_eqb k n ne) (times-in k ns (subst (λ m. 1 ≤ m) drop l)))
+    (λ ne. let drop : times k (n ∷ ns) ≡ times k ns = rw (ne_eqb n k (λ e. ne (sym e))) (omega arith) in
+    rw (ne_eqb k n ne) (times-in k ns (subst (λ m. 1 ≤ m) drop l)))
     (cases_eq k n)
 
 -- the number stands in one of the two lists
@@ -31,7 +32,8 @@ module _ {X : Type 0} where
   cons-some e es q = let n : suc (length es) ≡ 0 = ap length q in absurd (omega arith)
 
   -- an entry less
-  none-behind : (ns : List ℕ) (e : Entry X) (es : List (Entry X)) → entries_by ns (e ∷ es) ≡ [] → (has e.number ns ≡ false) × (entries_by ns es ≡ [])
+  none-behind : (ns : List ℕ) (e : Entry X) (es : List (Entry X)) → entries_by ns (e ∷ es) ≡ []
+      → (has e.number ns ≡ false) × (entries_by ns es ≡ [])
   none-behind ns e es none =
       ⊎_elim
       (λ t. absurd (cons-some e (entries_by ns es) (sym (rw t refl) ∙ none)))
@@ -39,7 +41,8 @@ module _ {X : Type 0} where
       (cases_Bool (has e.number ns))
 
   -- the numbers of entries are used where they are parts of the pass and not fresh
-  numbers-used : (v : View X) → IsWhole v → (es : List (Entry X)) → Each (λ e. e.number < PARTS) es → ((k : ℕ) → has k v.fresh ≡ true → entries_by (k ∷ []) es ≡ []) → Each (λ e. has e.number v.used ≡ true) es
+  numbers-used : (v : View X) → IsWhole v → (es : List (Entry X)) → Each (λ e. e.number < PARTS) es
+      → ((k : ℕ) → has k v.fresh ≡ true → entries_by (k ∷ []) es ≡ []) → Each (λ e. has e.number v.used ≡ true) es
   numbers-used v whole [] numbered fresh = tt
   numbers-used v whole (e ∷ es) numbered fresh =
       let n : ℕ = e.number in
@@ -53,13 +56,16 @@ module _ {X : Type 0} where
   each-behind P [] m all = all
   each-behind P (e ∷ es) m all = each-behind P es m all.1
 
-module _ {X B : Type 0} (stored : B → Stored) (keeps : Start → Kept X → Type 0) (tied : Start → ℕ → List ℕ → ℕ → List ℕ → Type 0) (start : Origin) (tells : Bool) (s : Table (Option B) (View X)) (r : Ruled stored keeps tied start tells s) where
+module _ {X B : Type 0} (stored : B → Stored) (keeps : Start → Kept X → Type 0)
+    (tied : Start → ℕ → List ℕ → ℕ → List ℕ → Type 0) (start : Origin) (tells : Bool) (s : Table (Option B) (View X))
+    (r : Ruled stored keeps tied start tells s) where
   pub all-seen : (id : ℕ) (v : View X) → IsWholePass s.views id v → (v.seen ≡ r.history) × (v.mine ≡ r.history)
   all-seen id v pass =
       let g : KnowsLists start r.releases r.history v = r.heard id v pass.there (whole-lives stored keeps tied start tells s r id v pass) in
       let used : Each (λ e. has e.number v.used ≡ true) r.history = numbers-used v pass.whole r.history r.lists.numbered g.fresh in
       let rest : List (Entry X) = g.heard.0 in
-      let behind : Each (λ e. has e.number v.used ≡ true) rest = each-behind (λ e. has e.number v.used ≡ true) v.seen rest (subst (Each (λ e. has e.number v.used ≡ true)) g.heard.1 used) in
+      let behind : Each (λ e. has e.number v.used ≡ true) rest = each-behind (λ e. has e.number v.used ≡ true) v.seen
+      rest (subst (Each (λ e. has e.number v.used ≡ true)) g.heard.1 used) in
       let none : rest ≡ [] = sym (all-own v.used rest behind) ∙ g.heard.2 in (
         sym (g.heard.1 ∙ ap (λ (l : List (Entry X)). v.seen ++ l) none ∙ append-nil v.seen),
         mine-in v.used r.history v.seen v.mine g.mine g.heard ∙ all-own v.used r.history used,

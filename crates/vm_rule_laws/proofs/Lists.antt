@@ -1,5 +1,6 @@
 -- The lists of releases and of entries are those of the table: some pass has seen all of each, and no pass has seen more than is there.
-use Rattle.std.proofs.Common.{[], ⊎_elim, ◌++◌, ◌+◌, ◌∙◌, ◌∷◌, ◌≡◌, ◌⊎◌, ap, arith, Bool, false, length, List, Option, refl, subst, sym, true, ℕ}
+use Rattle.std.proofs.Common.{[], ⊎_elim, ◌++◌, ◌+◌, ◌∙◌, ◌∷◌, ◌≡◌, ◌⊎◌, ap, arith, Bool, false, length, List, Option}
+use Rattle.std.proofs.Common.{refl, subst, sym, true, ℕ}
 use Rattle.std.proofs.lemmas.Bool.{cases_Bool}
 use Rattle.std.proofs.lemmas.List.{append-nil, length-append}
 use Rattle.vm_core.specs.Prelude.{get_elem?, some}
@@ -17,7 +18,9 @@ begin-both l m a b =
     let second : length m ≡ length l + length b.0 = ap length b.1 ∙ length-append l b.0 in
     a.1 ∙ ap (λ (t : List _). m ++ t) (none-long a.0 (omega arith)) ∙ append-nil m
 
-module _ {X B : Type 0} (stored : B → Stored) (keeps : Start → Kept X → Type 0) (tied : Start → ℕ → List ℕ → ℕ → List ℕ → Type 0) (start : Origin) (tells : Bool) (s : Table (Option B) (View X)) where
+module _ {X B : Type 0} (stored : B → Stored) (keeps : Start → Kept X → Type 0)
+    (tied : Start → ℕ → List ℕ → ℕ → List ℕ → Type 0) (start : Origin) (tells : Bool)
+    (s : Table (Option B) (View X)) where
   -- all that a pass has of one of the lists, where some view has seen or was told all of it
   begins-with : {A : Type 0} (list : List A) (field told : View X → List A) → (other : List A)
       → ((j : ℕ) (v : View X) → get_elem? s.views j ≡ some v → v.live ≡ true → StartsWith other (field v) × StartsWith other (told v))
@@ -42,7 +45,8 @@ module _ {X B : Type 0} (stored : B → Stored) (keeps : Start → Kept X → Ty
   history-begins : (r other : Ruled stored keeps tied start tells s) → StartsWith other.history r.history
   history-begins r other =
       begins-with r.history (λ v. v.seen) (λ v. v.told) other.history
-      (λ j v there on. let k = other.heard j v there on in ((k.heard.0, k.heard.1), (k.told.1.0, k.told.1.1))) r.parts.spent refl refl r.lists.longest
+      (λ j v there on. let k = other.heard j v there on in ((k.heard.0, k.heard.1), (k.told.1.0, k.told.1.1)))
+      r.parts.spent refl refl r.lists.longest
 
   pub lists-one : (r other : Ruled stored keeps tied start tells s) → (r.releases ≡ other.releases) × (r.history ≡ other.history)
   lists-one r other = (

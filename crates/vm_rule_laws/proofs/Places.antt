@@ -1,22 +1,26 @@
--- Each word of a table has a place of its own: from a number among the words the place is found again, whatever the number of words of a page.
+-- Each word of a table has a place of its own: from a number among the words the place is found again, whatever the
+-- number of words of a page.
 use Rattle.std.proofs.Common.{ap, arith, refl, sym, ℕ, ◌%◌, ◌*◌, ◌+◌, ◌-◌, ◌/◌, ◌<◌, ◌∙◌, ◌≡◌, ◌≤◌, if◌then◌else◌}
 use Rattle.std.specs.Prelude.{nat_lt}
 use Rattle.vm_page.proofs.Sizes.{page-of, place-of, room}
 use Rattle.vm_rule.proofs.Prelude.{bundle_count, index_of, le-ltb, lt-ltb, width, Within}
-use Rattle.vm_rule.specs.{declared.view.Origin.Origin, declared.view.Place.Place}
-use Rattle.vm_rule.specs.declared.view.Place.TheVariants as places
+use Rattle.vm_rule.specs.{declared.view.Origin.Origin, declared.view.WordPlace.WordPlace}
+use Rattle.vm_rule.specs.declared.view.WordPlace.TheVariants as places
 
 -- the place that a number stands for: the kinds stand one behind another
-place_at : Origin → ℕ → Place
+place_at : Origin → ℕ → WordPlace
 place_at start k =
     if nat_lt k start.pages then places.State k
     else if nat_lt k (2 * start.pages) then places.Translation (k - start.pages)
     else if nat_lt k (3 * start.pages) then places.Fault (k - 2 * start.pages)
-    else if nat_lt k (3 * start.pages + start.size * start.frames) then places.Content ((k - 3 * start.pages) / start.size) ((k - 3 * start.pages) % start.size)
-    else if nat_lt k (3 * start.pages + start.size * start.frames + bundle_count start) then places.Bundle (k - (3 * start.pages + start.size * start.frames))
+    else if nat_lt k (3 * start.pages + start.size * start.frames) then places.Content
+    ((k - 3 * start.pages) / start.size) ((k - 3 * start.pages) % start.size)
+    else if nat_lt k (3 * start.pages + start.size * start.frames + bundle_count start) then places.Bundle
+    (k - (3 * start.pages + start.size * start.frames))
     else if nat_lt k (3 * start.pages + start.size * start.frames + bundle_count start + 1) then places.Next
     else if nat_lt k (3 * start.pages + start.size * start.frames + bundle_count start + 2) then places.Hand
-    else if nat_lt k (3 * start.pages + start.size * start.frames + bundle_count start + 2 + start.frames) then places.Owner (k - (3 * start.pages + start.size * start.frames + bundle_count start + 2))
+    else if nat_lt k (3 * start.pages + start.size * start.frames + bundle_count start + 2 + start.frames) then
+    places.Owner (k - (3 * start.pages + start.size * start.frames + bundle_count start + 2))
     else places.Spare (k - (3 * start.pages + start.size * start.frames + bundle_count start + 2 + start.frames))
 
 below : {A : Type 0} {a : A} (b : A) (k n : ℕ) → k < n → (if nat_lt k n then a else b) ≡ a
@@ -25,7 +29,7 @@ below b k n l = rw (lt-ltb k n l) refl
 above : {A : Type 0} {b : A} (a : A) (k n : ℕ) → n ≤ k → (if nat_lt k n then a else b) ≡ b
 above a k n l = rw (le-ltb k n l) refl
 
-read-back : (start : Origin) (w : Place) → Within start w → place_at start (index_of start w) ≡ w
+read-back : (start : Origin) (w : WordPlace) → Within start w → place_at start (index_of start w) ≡ w
 unfolding place_at
 read-back start (places.State p) l =
     let k : ℕ = p in
@@ -99,10 +103,10 @@ read-back start (places.Spare g) l =
     ∙ above _ k (3 * start.pages + start.size * start.frames + bundle_count start + 2 + start.frames) (omega arith)
     ∙ ap places.Spare (omega arith)
 
-pub places-apart : (start : Origin) (w x : Place) → Within start w → Within start x → index_of start w ≡ index_of start x → w ≡ x
+pub places-apart : (start : Origin) (w x : WordPlace) → Within start w → Within start x → index_of start w ≡ index_of start x → w ≡ x
 places-apart start w x lw lx same = sym (read-back start w lw) ∙ ap (place_at start) same ∙ read-back start x lx
 
-pub places-inside : (start : Origin) (w : Place) → Within start w → index_of start w < width start
+pub places-inside : (start : Origin) (w : WordPlace) → Within start w → index_of start w < width start
 places-inside start (places.State p) l = omega arith
 places-inside start (places.Translation p) l = omega arith
 places-inside start (places.Fault p) l = omega arith

@@ -5,7 +5,7 @@
 ghost use Rattle.std.specs.Prelude.{[], ◌<◌, ◌≡◌, ◌≢◌, false, Option, true, ℕ};
 ghost use Rattle.vm_core.specs.Prelude.{get_elem?, some};
 ghost use Rattle.vm_rule.specs.Prelude.{began_of, HasShape, index_of, Ruled, seat_of, Stands, Table, width, Within};
-ghost use Rattle.vm_rule.specs.{declared.view.Origin.Origin, declared.view.Place.Place, declared.view.Shape.Shape, declared.view.View.View};
+ghost use Rattle.vm_rule.specs.{declared.view.Origin.Origin, declared.view.TableShape.TableShape, declared.view.View.View, declared.view.WordPlace.WordPlace};
 ghost use Rattle.vm_rule_laws.specs.{Alone.HasNothing, Noted.NotesStand, Standing.PageStands};
 ghost use Rattle.vm_rule_laws.specs.Known.{HasStepped, IsWholePass, kept_by, KnowsTable};
 
@@ -15,7 +15,7 @@ use vm_owner::Owner;
 /// Where a pass of a table lives, the table meets the rule, from the start that its shape has for proofs: what a table keeps between steps
 /// has one other case, that its first pass has not begun.
 pub fn a_live_pass_meets_the_rule<U: Owner, B: Block>()
-    ensures { (shape : Shape) (s : Table (Option B) (View U.Said)) → Stands B.stored U.keeps U.tied shape B.tells s → (id : ℕ) (v : View U.Said) → get_elem? s.views id ≡ some v → v.live ≡ true → HasShape shape shape.began.origin × Ruled B.stored U.keeps U.tied shape.began.origin B.tells s }
+    ensures { (shape : TableShape) (s : Table (Option B) (View U.Said)) → Stands B.stored U.keeps U.tied shape B.tells s → (id : ℕ) (v : View U.Said) → get_elem? s.views id ≡ some v → v.live ≡ true → HasShape shape shape.began.origin × Ruled B.stored U.keeps U.tied shape.began.origin B.tells s }
 {}
 
 /// The releases and the history of a table are its own: two proofs that it meets the rule speak of the same two lists.
@@ -73,6 +73,6 @@ pub fn nothing_is_owed<U: Owner>()
 
 /// Each word of a table stands at a place of its own, inside the table, whatever the number of words of a page.
 pub fn no_two_words_share_a_place()
-    ensures apart { (start : Origin) (w x : Place) → Within start w → Within start x → index_of start w ≡ index_of start x → w ≡ x }
-    ensures inside { (start : Origin) (w : Place) → Within start w → index_of start w < width start }
+    ensures apart { (start : Origin) (w x : WordPlace) → Within start w → Within start x → index_of start w ≡ index_of start x → w ≡ x }
+    ensures inside { (start : Origin) (w : WordPlace) → Within start w → index_of start w < width start }
 {}

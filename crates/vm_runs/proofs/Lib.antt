@@ -1,3 +1,4 @@
 pub mod Outcomes
-pub mod Kept
+pub mod EarlierCauses
 pub mod Churning
+pub mod Running

@@ -32,7 +32,8 @@ spelt churn = record churn { words = Some (words_or churn.words) }
 -- what the tests answer: the numbers, or the first that is outside its limits. None of them is of a file
 abbrev pub TellsLoad : Churn → Result Load Quantity → Type 0
 TellsLoad churn (Ok load) = (asked load ≡ spelt churn) × IsWithinLimits load × AllPass None (order_of (commands.Churn churn))
-TellsLoad churn (Err quantity) = (shown : Option Shown) (failed : List ℕ) → StopsAt shown failed (order_of (commands.Churn churn)) (Shape quantity)
+TellsLoad churn (Err quantity) =
+    (shown : Option Shown) (failed : List ℕ) → StopsAt shown failed (order_of (commands.Churn churn)) (Shape quantity)
 
 -- what serving the calls leaves: the tree was built, and they were made on it
 pub record IsLoaded (n : ℕ) {U : Type 0} (load : Load) (s : ServedInto U Tally n Said) : Type 0 where

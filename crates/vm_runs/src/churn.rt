@@ -21,10 +21,10 @@ use vm_endings::ends::Ends;
 use vm_endings::limits::{are_frames, are_pairs_to_churn, are_words, are_workers, words_of};
 use vm_endings::stop::{Quantity, Stop};
 use vm_endings::undone::Undone;
-use vm_files::reading::Stored;
 use vm_kind::{OfSize, Sizes, TreeOf, WordKeys};
 use vm_map::call::Pair;
 use vm_page::{LARGE, WORDS};
+use vm_reading::reading::ReadTree;
 use vm_script::text::{Churned, churn_text};
 use vm_serve::{ServedInto, serve_into};
 use vm_words::Churn;
@@ -132,7 +132,7 @@ fn churned<'a, S: OfSize<N> + Sync, R: Threads + Wait + Sync, G: Gate + Sync, co
         ended,
     } = served::<S, R, G, N>(rt, alloc, load, gate)?;
     let tally = tally_all(kept.as_slice());
-    let Stored { image: _, rows } = stored_in(alloc, blocks.as_slice())?;
+    let ReadTree { image: _, rows } = stored_in(alloc, blocks.as_slice())?;
     let text = text_of(alloc, load.pairs, tally, rows.pairs.as_slice())?;
     Ok(told(None, text, 0, ended))
 }

@@ -23,13 +23,13 @@ use vm_drive::compact::Replies;
 use vm_drive::gate::Gate;
 use vm_endings::delivery::{Delivery, File};
 use vm_endings::replies::{add_replies, add_rows};
-use vm_files::reading::Stored;
-use vm_files::writing::file_of;
+use vm_endings::writing::file_of;
 use vm_image::{Image, image_of};
 use vm_kind::{OfSize, TreeOf, WordKeys};
 use vm_map::call::{Call, Pair};
 use vm_owner::Owner;
 use vm_pool::Ended;
+use vm_reading::reading::ReadTree;
 use vm_script::text::{counters_text, unflushed_text};
 use vm_serve::{Served, serve};
 use vm_words::Run;
@@ -103,7 +103,7 @@ fn cut_text<U: Owner>(
 pub fn stored_in<const N: usize>(
     alloc: Global,
     blocks: &[MemBlock<N>],
-) -> Result<Stored<N>, AllocError>
+) -> Result<ReadTree<N>, AllocError>
     requires sized { IsSize N }
     requires tree { IsTree (fixed N) (pages_of_blocks blocks.now) }
     requires some { 2 ≤ length blocks.now }
@@ -115,7 +115,7 @@ pub fn stored_in<const N: usize>(
         return Err(AllocError);
     };
     match check(alloc, &image) {
-        Ok(rows) => Ok(Stored { image, rows }),
+        Ok(rows) => Ok(ReadTree { image, rows }),
         Err(CheckFault::BadPage { .. }) => unreachable!(),
         Err(CheckFault::Memory) => Err(AllocError),
     }
@@ -206,7 +206,7 @@ pub fn outcome_of<
             Ok(told(None, text, 7, ended))
         }
         None => {
-            let Stored { image, rows } = stored_in(alloc, blocks.as_slice())?;
+            let ReadTree { image, rows } = stored_in(alloc, blocks.as_slice())?;
             // The text grows by doubling: what it does not speak of is let go before.
             drop(blocks);
             let file = kept(alloc, &image, run.options.keep)?;

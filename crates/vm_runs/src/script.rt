@@ -3,8 +3,8 @@
 ghost use Rattle.std.specs.Prelude.{◌≡◌, ◌≤◌};
 ghost use Rattle.vm_words.specs.declared.Command.TheVariants as commands;
 ghost use Rattle.vm_endings.specs.{Deliveries.content_of, Endings.AnswersCommand, Endings.HasReadCause, Files.HasFile};
-ghost use Rattle.vm_files.specs.Readings.{IsStoredIn, TellsLimits};
-ghost use Rattle.vm_runs.specs.Answers.{AnswersRun};
+ghost use Rattle.vm_reading.specs.Readings.{IsStoredIn};
+ghost use Rattle.vm_runs.specs.Answers.{AnswersRun, TellsLimits};
 
 use crate::outcome::{Outcome, outcome_of};
 use std::alloc::{AllocError, Global};
@@ -16,10 +16,10 @@ use vm_endings::ends::Ends;
 use vm_endings::limits::{are_entries, are_frames, are_workers, holds_call, is_version};
 use vm_endings::stop::{Quantity, Stop};
 use vm_endings::undone::Undone;
-use vm_files::reading::{Stored, StoredTree, read_calls, read_tree};
 use vm_io::host::Host;
 use vm_kind::{OfSize, Sizes, TreeOf, WordKeys};
 use vm_page::{LARGE, WORDS};
+use vm_reading::reading::{ReadTree, StoredTree, read_calls, read_tree};
 use vm_words::Run;
 
 // The number of workers, where the numbers are within their limits; else the first that is not.
@@ -57,7 +57,7 @@ fn run_on<
     host: &mut H,
     run: &Run<'a>,
     workers: u32,
-    stored: Stored<N>,
+    stored: ReadTree<N>,
     gate: &G,
 ) -> Result<Outcome<'a, TreeOf<WordKeys<S, N>>>, Undone<Stop<'a>>>
     requires limits { TellsLimits run.now (Ok workers) }
@@ -68,7 +68,7 @@ fn run_on<
     ensures later { H.takes host.old ≤ H.takes host.new }
     ensures cause { HasReadCause (H.takes host.old) (H.takes host.new) result }
 {
-    let Stored { image, rows } = stored;
+    let ReadTree { image, rows } = stored;
     if !holds_call(rows.height, run.frames) {
         return Err(Undone::Stopped(Stop::Shape(Quantity::Frames)));
     }

@@ -16,7 +16,9 @@ no_letter at high (d ∷ ds) h = (let r = digit_from_value d h.0 in λ e. omega 
 
 -- a number is not written `end`
 pub end_is_no_key : (key : ℕ) → key < 2 ^ 64 → decimal key ≡ codes "end" → ⊥
-end_is_no_key key k e = let lacks : Lacks 101 (codes "end") = subst (λ bs. Lacks 101 bs) e (no_letter 101 (lit< tt) (decimal key) (decimal_is_IsNumeral key k).0.1) in lacks.0 refl
+end_is_no_key key k e = let lacks : Lacks 101 (codes "end") =
+    subst (λ bs. Lacks 101 bs) e (no_letter 101 (lit< tt) (decimal key) (decimal_is_IsNumeral key k).0.1) in
+    lacks.0 refl
 
 pub lacks_bound : (at : ℕ) (bound : Bound) → at < 48 → IsScriptBound bound → Lacks at (bound_text bound)
 lacks_bound at (Key key) low is = lacks_decimal at key low is
@@ -34,11 +36,16 @@ low_key low (Key key) is = omega (arith, is.0, is.1)
 low_key low End is = is.0
 
 pub lacks_range : (at low : ℕ) (bound : Bound) → at < 32 → IsScriptCall (Range low bound) → Lacks at (decimal low ++ 32 ∷ bound_text bound)
-lacks_range at low bound below is = each_append (λ b. b ≢ at) (decimal low) (32 ∷ bound_text bound) (lacks_decimal at low (omega arith) (low_key low bound is)) (λ e. omega arith, lacks_bound at bound (omega arith) is.1)
+lacks_range at low bound below is = each_append (λ b. b ≢ at) (decimal low) (32 ∷ bound_text bound)
+    (lacks_decimal at low (omega arith) (low_key low bound is))
+    (λ e. omega arith, lacks_bound at bound (omega arith) is.1)
 
-pub one_range : (low low' : ℕ) (bound bound' : Bound) → IsScriptCall (Range low bound) → IsScriptCall (Range low' bound') → decimal low ++ 32 ∷ bound_text bound ≡ decimal low' ++ 32 ∷ bound_text bound' → (low ≡ low') × (bound ≡ bound')
+pub one_range : (low low' : ℕ) (bound bound' : Bound) → IsScriptCall (Range low bound)
+    → IsScriptCall (Range low' bound') → decimal low ++ 32 ∷ bound_text bound ≡ decimal low' ++ 32 ∷ bound_text bound'
+    → (low ≡ low') × (bound ≡ bound')
 one_range low low' bound bound' is is' e =
     let small = low_key low bound is in
     let small' = low_key low' bound' is' in
-    let parts = one_cut 32 (decimal low) (bound_text bound) (decimal low') (bound_text bound') (lacks_decimal 32 low (lit< tt) small) (lacks_decimal 32 low' (lit< tt) small') e in
+    let parts = one_cut 32 (decimal low) (bound_text bound) (decimal low') (bound_text bound')
+    (lacks_decimal 32 low (lit< tt) small) (lacks_decimal 32 low' (lit< tt) small') e in
     (decimal_injective low low' small small' parts.0, one_bound bound bound' is.1 is'.1 parts.1)

@@ -1,9 +1,11 @@
 -- A line is told by its verb and its numbers.
 use Rattle.std.proofs.Common.{◌∙◌, ◌≡◌, ap, ap₂, get_or, List, lit<, refl, subst, sym, ℕ}
 use Rattle.vm_core.specs.{declared.event.CoreShape.CoreShape, declared.event.Event.Event}
-use Rattle.vm_core.specs.declared.event.Event.TheVariants.{BLoad, Claim, Clean, Clear, Dirty, Disown, Downgrade, Give, Hand, Install, Load, LockS}
-use Rattle.vm_core.specs.declared.event.Event.TheVariants.{LockW, LockX, Look, Mark, NLoad, OLoad, Own, Raise, Read, Release, ReleaseE, RFail}
-use Rattle.vm_core.specs.declared.event.Event.TheVariants.{PBLoad, PGive, PTake, Store, Take, TLoad, UnlockS, Unmark, Upgrade, WFail, Write}
+use Rattle.vm_core.specs.declared.event.Event.TheVariants.{BLoad, Claim, Clean, Clear, Dirty, Disown, Downgrade, Give}
+use Rattle.vm_core.specs.declared.event.Event.TheVariants.{Hand, Install, Load, LockS, LockW, LockX, Look, Mark}
+use Rattle.vm_core.specs.declared.event.Event.TheVariants.{NLoad, OLoad, Own, Raise, Read, Release, ReleaseE, RFail}
+use Rattle.vm_core.specs.declared.event.Event.TheVariants.{PBLoad, PGive, PTake, Store, Take, TLoad, UnlockS, Unmark}
+use Rattle.vm_core.specs.declared.event.Event.TheVariants.{Upgrade, WFail, Write}
 use Rattle.vm_script.specs.{declared.event_line.EventLine.EventLine, declared.event_line.Verb.Verb, Verbs.kinds_of, Verbs.verb_name}
 use Rattle.vm_script.specs.declared.event_line.EventLine.TheVariants.{Fill, Loads, One}
 use Rattle.vm_script.specs.declared.event_line.Verb.TheVariants as verbs
@@ -63,9 +65,12 @@ made (Fill a p f) = refl
 made (Loads a p) = refl
 
 -- a text is that of one line
-pub one_event : (shape : CoreShape) → IsShape shape → (a b : EventLine) → IsEventLine shape a → IsEventLine shape b → event_line_text a ≡ event_line_text b → a ≡ b
+pub one_event : (shape : CoreShape) → IsShape shape → (a b : EventLine) → IsEventLine shape a → IsEventLine shape b
+    → event_line_text a ≡ event_line_text b → a ≡ b
 one_event shape limits a b is is' e =
-    let parts = one_cut 32 (verb_name (form a).0) (fields_text (kinds_of (form a).0) (form a).1) (verb_name (form b).0) (fields_text (kinds_of (form b).0) (form b).1) (lacks_verb 32 (form a).0 (lit< tt)) (lacks_verb 32 (form b).0 (lit< tt)) e in
+    let parts = one_cut 32 (verb_name (form a).0) (fields_text (kinds_of (form a).0) (form a).1)
+    (verb_name (form b).0) (fields_text (kinds_of (form b).0) (form b).1) (lacks_verb 32 (form a).0 (lit< tt))
+    (lacks_verb 32 (form b).0 (lit< tt)) e in
     let verb : (form a).0 ≡ (form b).0 = one_verb (form a).0 (form b).0 parts.0 in
     let kinds = ap kinds_of (sym verb) in
     let fields : (form a).1 ≡ (form b).1 = one_list shape (kinds_of (form a).0) (form a).1 (form b).1 limits is

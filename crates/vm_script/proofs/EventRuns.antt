@@ -1,12 +1,10 @@
--- An event list that is read in part, and one step on.
-use Rattle.std.specs.List.{AllByRecursion, flat_map}
-use Rattle.std.proofs.Common.{[], ◌++◌, ◌+◌, ◌<◌, ◌∙◌, ◌∷◌, ◌≡◌, ◌≤◌, ◌⊎◌, ap, append_assoc, arith, inl, inr, length, List, None, sym, ℕ}
-use Rattle.std.proofs.lemmas.Grind.{flat_map-append}
-use Rattle.std.proofs.lemmas.List.{append-nil}
+-- An event list that is read in part, and the first bad line of one.
+use Rattle.std.specs.List.{AllByRecursion}
+use Rattle.std.proofs.Common.{[], ◌++◌, ◌+◌, ◌<◌, ◌∷◌, ◌≡◌, ◌≤◌, ◌⊎◌, ap, arith, inl, inr, length, List, None, ℕ}
 use Rattle.vm_core.specs.declared.event.CoreShape.{CoreShape}
 use Rattle.vm_script.specs.{Cuts.IsLine, declared.event_line.EventLine.EventLine, EventWords.ReadsAs}
 use Rattle.vm_script.specs.EventLines.{event_line_text, IsEventLine, IsShape, shape_text}
-use Rattle.vm_script.specs.Events.{events_text, IsFirstBadEvent, LacksShape, most_event_lines, SpellsEvents}
+use Rattle.vm_script.specs.Events.{events_text, IsFirstBadEvent, LacksShape, most_event_lines}
 use Rattle.vm_script.proofs.{EventTexts.lacks_line, EventTexts.lacks_shape, Lines.first_line}
 
 -- this shape and these lines are read, and the rest is still to be read
@@ -16,13 +14,17 @@ pub record IsEventsRead (bytes : List ℕ) (shape : CoreShape) (lines : List Eve
   pub front : (bytes ≡ events_text shape lines ++ rest) ⊎ ((rest ≡ []) × (bytes ++ 10 ∷ [] ≡ events_text shape lines))
 
 pub no_shape : (bytes line behind : List ℕ) → IsLine bytes line behind → ReadsAs IsShape shape_text line None → LacksShape bytes
-no_shape bytes line behind l none = λ shape s begins. none shape s (first_line bytes line behind (shape_text shape) l (lacks_shape shape s) begins)
+no_shape bytes line behind l none =
+    λ shape s begins. none shape s (first_line bytes line behind (shape_text shape) l (lacks_shape shape s) begins)
 
-whole : (bytes rest : List ℕ) (shape : CoreShape) (lines : List EventLine) → IsEventsRead bytes shape lines rest → 0 < length rest → bytes ≡ events_text shape lines ++ rest
+whole : (bytes rest : List ℕ) (shape : CoreShape) (lines : List EventLine) → IsEventsRead bytes shape lines rest
+    → 0 < length rest → bytes ≡ events_text shape lines ++ rest
 whole bytes rest shape lines r more = elim r.front [ inl e ↦ e | inr e ↦ absurd (omega (arith, ap length e.0)) ]
 
 -- a bad line behind good ones is the first bad one
-pub bad_event : (bytes rest line behind : List ℕ) (shape : CoreShape) (lines : List EventLine) (n : ℕ) → IsEventsRead bytes shape lines rest → 0 < length rest → length lines + 2 ≡ n → length lines + 1 ≤ most_event_lines → IsLine rest line behind
+pub bad_event : (bytes rest line behind : List ℕ) (shape : CoreShape) (lines : List EventLine) (n : ℕ)
+    → IsEventsRead bytes shape lines rest → 0 < length rest → length lines + 2 ≡ n
+    → length lines + 1 ≤ most_event_lines → IsLine rest line behind
     → ReadsAs (IsEventLine shape) event_line_text line None → IsFirstBadEvent bytes n
 bad_event bytes rest line behind shape lines n r more count few l none = inr record {
   shape = shape;
@@ -34,22 +36,7 @@ bad_event bytes rest line behind shape lines n r more count few l none = inr rec
   more = more;
   count = count;
   few = few;
-  bad = inr (λ event is begins. none event is (first_line rest line behind (event_line_text event) l (lacks_line shape event r.limits is) begins));
+  bad = inr (λ event is begins.
+      none event is (first_line rest line behind (event_line_text event) l (lacks_line shape event r.limits is)
+      begins));
 }
-
-abbrev ended : EventLine → List ℕ
-ended line = event_line_text line ++ 10 ∷ []
-
-one_more_text : (shape : CoreShape) (lines : List EventLine) (line : EventLine) → events_text shape (lines ++ line ∷ []) ≡ events_text shape lines ++ (event_line_text line ++ 10 ∷ [])
-one_more_text shape lines line =
-    ap (λ (l : List ℕ). shape_text shape ++ 10 ∷ l) (flat_map-append ended lines (line ∷ []) ∙ ap (λ (l : List ℕ). flat_map ended lines ++ l) (append-nil (ended line)))
-    ∙ sym (append_assoc (shape_text shape) (10 ∷ flat_map ended lines) (ended line))
-
-pub all_events_read : (bytes rest : List ℕ) (shape : CoreShape) (lines : List EventLine) → IsEventsRead bytes shape lines rest → length rest ≡ 0 → length lines + 1 ≤ most_event_lines → SpellsEvents bytes shape lines
-all_events_read bytes [] shape lines r none few = record {
-  limits = r.limits;
-  each = r.each;
-  few = few;
-  spelling = elim r.front [ inl e ↦ inl (e ∙ append-nil (events_text shape lines)) | inr e ↦ inr e.1 ];
-}
-all_events_read bytes (x ∷ rest) shape lines r none few = absurd (omega arith)

@@ -38,19 +38,43 @@ module _ {L : Type 0} (Is : L → Type 0) (text : L → List ℕ) where
     second_stopped : GoesOn b a rest' → Compared a b rest rest'
 
   ended_more : (line : L) (lines : List L) (rest : List ℕ) → ended (line ∷ lines) ++ rest ≡ text line ++ 10 ∷ (ended lines ++ rest)
-  ended_more line lines rest = append_assoc (text line ++ 10 ∷ []) (ended lines) rest ∙ append_assoc (text line) (10 ∷ []) (ended lines ++ rest)
+  ended_more line lines rest = append_assoc (text line ++ 10 ∷ []) (ended lines) rest ∙ append_assoc (text line)
+      (10 ∷ []) (ended lines ++ rest)
 
   goes_on : (x y : L) (xs ys : List L) (bytes : List ℕ) → x ≡ y → GoesOn xs ys bytes → GoesOn (x ∷ xs) (y ∷ ys) bytes
-  goes_on x y xs ys bytes first g = record { line = g.line; is = g.is; behind = g.behind; whole = g.whole; more = g.more; longer = cc (first, g.longer) }
+  goes_on x y xs ys bytes first g = record {
+    line = g.line;
+    is = g.is;
+    behind = g.behind;
+    whole = g.whole;
+    more = g.more;
+    longer = cc (first, g.longer);
+  }
 
   -- the line of a list that stands in bytes, or stops before them
   module _ (lacks : (line : L) → Is line → Lacks 10 (text line)) (one : (a b : L) → Is a → Is b → text a ≡ text b → a ≡ b) where
-    pub compared : (a b : List L) (rest rest' : List ℕ) → AllByRecursion Is a → AllByRecursion Is b → ended a ++ rest ≡ ended b ++ rest' → Compared a b rest rest'
+    pub compared : (a b : List L) (rest rest' : List ℕ) → AllByRecursion Is a → AllByRecursion Is b
+        → ended a ++ rest ≡ ended b ++ rest' → Compared a b rest rest'
     compared [] [] rest rest' is is' e = same refl e
-    compared [] (y ∷ ys) rest rest' is is' e = first_stopped (record { line = y; is = is'.0; behind = ended ys ++ rest'; whole = e ∙ ended_more y ys rest'; more = ys; longer = refl })
-    compared (x ∷ xs) [] rest rest' is is' e = second_stopped (record { line = x; is = is.0; behind = ended xs ++ rest; whole = sym e ∙ ended_more x xs rest; more = xs; longer = refl })
+    compared [] (y ∷ ys) rest rest' is is' e = first_stopped (record {
+      line = y;
+      is = is'.0;
+      behind = ended ys ++ rest';
+      whole = e ∙ ended_more y ys rest';
+      more = ys;
+      longer = refl;
+    })
+    compared (x ∷ xs) [] rest rest' is is' e = second_stopped (record {
+      line = x;
+      is = is.0;
+      behind = ended xs ++ rest;
+      whole = sym e ∙ ended_more x xs rest;
+      more = xs;
+      longer = refl;
+    })
     compared (x ∷ xs) (y ∷ ys) rest rest' is is' e =
-        let parts = one_cut 10 (text x) (ended xs ++ rest) (text y) (ended ys ++ rest') (lacks x is.0) (lacks y is'.0) (sym (ended_more x xs rest) ∙ e ∙ ended_more y ys rest') in
+        let parts = one_cut 10 (text x) (ended xs ++ rest) (text y) (ended ys ++ rest') (lacks x is.0) (lacks y is'.0)
+        (sym (ended_more x xs rest) ∙ e ∙ ended_more y ys rest') in
         let first = one x y is.0 is'.0 parts.0 in
         elim (compared xs ys rest rest' is.1 is'.1 parts.1) [
           | same all rests ↦ same (cc (first, all)) rests

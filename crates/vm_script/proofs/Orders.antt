@@ -65,7 +65,8 @@ pub one_order : (workers : ℕ) (a b : Order) → workers < 2 ^ 32 → IsOrder w
 one_order workers a b w is_a is_b e =
     let small : a.worker < 2 ^ 64 = omega (arith, is_a.worker) in
     let small' : b.worker < 2 ^ 64 = omega (arith, is_b.worker) in
-    let parts = one_cut 32 (decimal a.worker) (call_text a.call) (decimal b.worker) (call_text b.call) (lacks_decimal 32 a.worker (lit< tt) small) (lacks_decimal 32 b.worker (lit< tt) small') e in
+    let parts = one_cut 32 (decimal a.worker) (call_text a.call) (decimal b.worker) (call_text b.call)
+    (lacks_decimal 32 a.worker (lit< tt) small) (lacks_decimal 32 b.worker (lit< tt) small') e in
     let worker = decimal_injective a.worker b.worker small small' parts.0 in
     let call = one_call a.call b.call is_a.call is_b.call parts.1 in
     ap (λ w. record a { worker = w }) worker ∙ ap (λ c. record b { call = c }) call

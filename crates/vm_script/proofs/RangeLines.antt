@@ -13,8 +13,10 @@ pub ranges_more : (orders : List Order) (order : Order) → range_lines (orders 
 ranges_more orders order = omega (arith, ranges_append orders (order ∷ []))
 
 -- a range behind as many as a script may have is the first bad line
-pub many_ranges : (workers : ℕ) (bytes rest line behind : List ℕ) (orders : List Order) (order : Order) (n : ℕ) → workers < 2 ^ 32 → IsRead workers bytes orders rest → 0 < length rest → length orders + 1 ≡ n → n ≤ most_lines
-    → range_lines orders ≤ most_ranges → IsLine rest line behind → IsOrder workers order → line ≡ order_text order → most_ranges < range_lines orders + range_count order.call → IsFirstBad workers bytes n
+pub many_ranges : (workers : ℕ) (bytes rest line behind : List ℕ) (orders : List Order) (order : Order) (n : ℕ)
+    → workers < 2 ^ 32 → IsRead workers bytes orders rest → 0 < length rest → length orders + 1 ≡ n → n ≤ most_lines
+    → range_lines orders ≤ most_ranges → IsLine rest line behind → IsOrder workers order → line ≡ order_text order
+    → most_ranges < range_lines orders + range_count order.call → IsFirstBad workers bytes n
 many_ranges workers bytes rest line behind orders order n w r more count most ranges l is same over = record {
   good = orders;
   rest = rest;
@@ -25,6 +27,8 @@ many_ranges workers bytes rest line behind orders order n w r more count most ra
   more = more;
   count = count;
   bad = inr (λ other is_other begins.
-      let one : order ≡ other = one_order workers order other w is is_other (sym same ∙ first_line rest line behind (order_text other) l (lacks_order workers other w is_other) begins) in
+      let one : order ≡ other = one_order workers order other w is is_other
+      (sym same ∙ first_line rest line behind (order_text other) l (lacks_order workers other w is_other)
+      begins) in
       subst (λ (o : Order). most_ranges < range_lines (orders ++ o ∷ [])) one (omega (arith, over, ranges_more orders order)));
 }

@@ -2,8 +2,8 @@
 use Rattle.std.specs.Fmt.{decimal}
 use Rattle.std.specs.Prelude.{◌==◌}
 use Rattle.std.specs.Str.Parse.{AllDigits}
-use Rattle.std.proofs.Common.{[], ◌++◌, ◌<◌, ◌^◌, ◌∙◌, ◌∷◌, ◌≡◌, ◌≢◌, ◌≤◌, ◌⊎◌, ap, ap₂, arith, Bool, codes, eqb-true, false, if◌then◌else◌, inl, inr}
-use Rattle.std.proofs.Common.{List, lit<, refl, subst, sym, true, ℕ}
+use Rattle.std.proofs.Common.{[], ◌++◌, ◌<◌, ◌^◌, ◌∙◌, ◌∷◌, ◌≡◌, ◌≢◌, ◌≤◌, ◌⊎◌, ap, ap₂, arith, Bool, codes, eqb-true}
+use Rattle.std.proofs.Common.{false, if◌then◌else◌, inl, inr, List, lit<, refl, subst, sym, true, ℕ}
 use Rattle.std.proofs.lemmas.Bool.{eqb-false}
 use Rattle.std.proofs.lemmas.Fmt.{decimal_injective, decimal_is_IsNumeral}
 use Rattle.std.proofs.lemmas.Str.Parse.{digit_from_value}
@@ -60,7 +60,10 @@ IsNoDigit at = (at < 48) ⊎ (57 < at)
 
 lacks_digits : (at : ℕ) → IsNoDigit at → (ds : List ℕ) → AllDigits 10 ds → Lacks at ds
 lacks_digits at not_in [] h = tt
-lacks_digits at not_in (d ∷ ds) h = (let r = digit_from_value d h.0 in λ e. elim not_in [ inl low ↦ omega (arith, r) | inr high ↦ omega (arith, r) ], lacks_digits at not_in ds h.1)
+lacks_digits at not_in (d ∷ ds) h = (
+  let r = digit_from_value d h.0 in λ e. elim not_in [ inl low ↦ omega (arith, r) | inr high ↦ omega (arith, r) ],
+  lacks_digits at not_in ds h.1,
+)
 
 pub lacks_number : (at n : ℕ) → IsNoDigit at → n < 2 ^ 64 → Lacks at (decimal n)
 lacks_number at n not_in h = lacks_digits at not_in (decimal n) (decimal_is_IsNumeral n h).0.1
@@ -90,11 +93,15 @@ lacks_state at word low h =
     (λ e. omega arith, lacks_number at (version_of word) (inl low) (omega arith))
 
 -- where a state word's text is cut
-pub cut_state : (text name version : List ℕ) (word : ℕ) → IsCut text 58 name version → word < 2 ^ 64 → text ≡ state_text word → (name ≡ state_name (state_of word)) × (version ≡ decimal (version_of word))
+pub cut_state : (text name version : List ℕ) (word : ℕ) → IsCut text 58 name version → word < 2 ^ 64
+    → text ≡ state_text word → (name ≡ state_name (state_of word)) × (version ≡ decimal (version_of word))
 cut_state text name version word cut h e =
-    cut_here text 58 name version (state_name (state_of word)) (decimal (version_of word)) cut (lacks_name 58 (state_of word) colon (state_in word h)) e
+    cut_here text 58 name version (state_name (state_of word)) (decimal (version_of word)) cut
+    (lacks_name 58 (state_of word) colon (state_in word h)) e
 
-pub spelled_state : (text name digits : List ℕ) (state version word : ℕ) → word ≡ word_of state version → state < 256 → version < 2 ^ 56 → text ≡ name ++ 58 ∷ digits → name ≡ state_name state → digits ≡ decimal version → (word < 2 ^ 64) × (text ≡ state_text word)
+pub spelled_state : (text name digits : List ℕ) (state version word : ℕ) → word ≡ word_of state version → state < 256
+    → version < 2 ^ 56 → text ≡ name ++ 58 ∷ digits → name ≡ state_name state → digits ≡ decimal version
+    → (word < 2 ^ 64) × (text ≡ state_text word)
 spelled_state text name digits state version word is h k whole name_is digits_is =
     subst (λ (w : ℕ). (w < 2 ^ 64) × (text ≡ state_text w)) (sym is) (
       word_in state version h k,
@@ -109,7 +116,8 @@ apart a b differ = λ e. differ (cc)
 one_name : (one other : ℕ) → one < 256 → other < 256 → state_name one ≡ state_name other → one ≡ other
 one_name one other h k e = by_names (state_name one) (state_name other) (names one) (names other) e where
   letter : (at n : ℕ) → 57 < at → n < 256 → decimal n ≢ at ∷ []
-  letter at n high small same = let l = subst (λ (bytes : List ℕ). Lacks at bytes) same (lacks_number at n (inr high) (omega arith)) in l.0 refl
+  letter at n high small same = let l = subst (λ (bytes : List ℕ). Lacks at bytes) same
+      (lacks_number at n (inr high) (omega arith)) in l.0 refl
 
   by_names : (a b : List ℕ) → IsName one a → IsName other b → a ≡ b → one ≡ other
   by_names a b (unlocked s x) (unlocked t y) same = s ∙ sym t
@@ -143,7 +151,10 @@ pub one_state : (one other : ℕ) → one < 2 ^ 64 → other < 2 ^ 64 → state_
 one_state one other h k e =
     let v = version_in one in
     let w = version_in other in
-    let both = one_cut 58 (state_name (state_of one)) (decimal (version_of one)) (state_name (state_of other)) (decimal (version_of other)) (lacks_name 58 (state_of one) colon (state_in one h)) (lacks_name 58 (state_of other) colon (state_in other k)) e in
+    let both = one_cut 58 (state_name (state_of one)) (decimal (version_of one)) (state_name (state_of other))
+    (decimal (version_of other)) (lacks_name 58 (state_of one) colon (state_in one h))
+    (lacks_name 58 (state_of other) colon (state_in other k)) e in
     let state : state_of one ≡ state_of other = one_name (state_of one) (state_of other) (state_in one h) (state_in other k) both.0 in
-    let version : version_of one ≡ version_of other = decimal_injective (version_of one) (version_of other) (omega arith) (omega arith) both.1 in
+    let version : version_of one ≡ version_of other = decimal_injective (version_of one) (version_of other)
+    (omega arith) (omega arith) both.1 in
     sym (word_is one) ∙ ap₂ word_of state version ∙ word_is other

@@ -1,15 +1,18 @@
 -- The verbs' words: letters alone, and no two the same.
 use Rattle.std.specs.Cmp.Lexicographic.{pointwise}
 use Rattle.std.specs.List.{AllByRecursion, list_all}
-use Rattle.std.proofs.Common.{[], ◌&&◌, ◌+◌, ◌<◌, ◌∙◌, ◌∷◌, ◌≡◌, ◌≢◌, ap, arith, Bool, bytes_eq, eqb, false, find, get_or, length, List, nat_lt}
-use Rattle.std.proofs.Common.{Option, refl, Some, suc, sym, take, true, zero, ℕ}
+use Rattle.std.proofs.Common.{[], ◌&&◌, ◌+◌, ◌<◌, ◌∙◌, ◌∷◌, ◌≡◌, ◌≢◌, ap, arith, Bool, bytes_eq, eqb, false, find}
+use Rattle.std.proofs.Common.{get_or, length, List, nat_lt, Option, refl, Some, suc, sym, take, true, zero, ℕ}
 use Rattle.std.proofs.lemmas.Bool.Decides.{Decides-eqb}
 use Rattle.std.proofs.lemmas.Grind.{common_steps}
 use Rattle.std.proofs.lemmas.Slice.Eq.{slice_eq-Decides}
 use Rattle.vm_script.specs.{Cuts.Lacks, declared.event_line.Verb.Verb, Verbs.verb_name}
-use Rattle.vm_script.specs.declared.event_line.Verb.TheVariants.{BLoad, Claim, Clean, Clear, Dirty, Disown, Downgrade, Fill, Give, Hand, Install, Load}
-use Rattle.vm_script.specs.declared.event_line.Verb.TheVariants.{Loads, LockS, LockW, LockX, Look, Mark, NLoad, OLoad, Own, Raise, Read, Release}
-use Rattle.vm_script.specs.declared.event_line.Verb.TheVariants.{PBLoad, PGive, PTake, ReleaseE, RFail, Store, Take, TLoad, UnlockS, Unmark, Upgrade, WFail, Write}
+use Rattle.vm_script.specs.declared.event_line.Verb.TheVariants.{BLoad, Claim, Clean, Clear, Dirty, Disown, Downgrade}
+use Rattle.vm_script.specs.declared.event_line.Verb.TheVariants.{Fill, Give, Hand, Install, Load, Loads, LockS, LockW}
+use Rattle.vm_script.specs.declared.event_line.Verb.TheVariants.{LockX, Look, Mark, NLoad, OLoad, Own, Raise, Read}
+use Rattle.vm_script.specs.declared.event_line.Verb.TheVariants.{Release, PBLoad, PGive, PTake, ReleaseE, RFail}
+use Rattle.vm_script.specs.declared.event_line.Verb.TheVariants.{Store, Take, TLoad, UnlockS, Unmark, Upgrade, WFail}
+use Rattle.vm_script.specs.declared.event_line.Verb.TheVariants.{Write}
 
 and_left : (a b : Bool) → (a && b) ≡ true → a ≡ true
 and_left true b h = refl
@@ -28,13 +31,16 @@ lacks_first at b low h = λ e. grind (arith, common_steps)
 
 lacks_letters : (at : ℕ) → at < 48 → (bytes : List ℕ) → list_all (λ b. nat_lt 96 b) bytes ≡ true → Lacks at bytes
 lacks_letters at low [] h = tt
-lacks_letters at low (b ∷ bytes) h = (lacks_first at b low (and_left (nat_lt 96 b) _ h), lacks_letters at low bytes (and_right (nat_lt 96 b) _ h))
+lacks_letters at low (b ∷ bytes) h =
+    (lacks_first at b low (and_left (nat_lt 96 b) _ h), lacks_letters at low bytes (and_right (nat_lt 96 b) _ h))
 
 pub lacks_verb : (at : ℕ) (verb : Verb) → at < 48 → Lacks at (verb_name verb)
 lacks_verb at verb low = lacks_letters at low (verb_name verb) (letters verb)
 
 abbrev verbs : List Verb
-verbs = Look ∷ LockX ∷ LockS ∷ UnlockS ∷ Mark ∷ Unmark ∷ LockW ∷ Upgrade ∷ Release ∷ ReleaseE ∷ Downgrade ∷ TLoad ∷ Install ∷ Clear ∷ Dirty ∷ Clean ∷ Load ∷ Store ∷ BLoad ∷ Take ∷ Give ∷ Read ∷ RFail ∷ Write ∷ WFail ∷ Raise ∷ NLoad ∷ Claim ∷ Hand ∷ Own ∷ Disown ∷ OLoad ∷ PBLoad ∷ PTake ∷ PGive ∷ Fill ∷ Loads ∷ []
+verbs = Look ∷ LockX ∷ LockS ∷ UnlockS ∷ Mark ∷ Unmark ∷ LockW ∷ Upgrade ∷ Release ∷ ReleaseE ∷ Downgrade ∷ TLoad
+    ∷ Install ∷ Clear ∷ Dirty ∷ Clean ∷ Load ∷ Store ∷ BLoad ∷ Take ∷ Give ∷ Read ∷ RFail ∷ Write ∷ WFail ∷ Raise
+    ∷ NLoad ∷ Claim ∷ Hand ∷ Own ∷ Disown ∷ OLoad ∷ PBLoad ∷ PTake ∷ PGive ∷ Fill ∷ Loads ∷ []
 
 -- the verb with this word
 abbrev verb_at : List ℕ → Option Verb
@@ -52,7 +58,9 @@ pub differs : (one other : List ℕ) (same : Bool) → same ≡ pointwise eqb on
 differs one other same is not_same = λ e. let h : same ≡ true = (slice_eq-Decides Decides-eqb one other same is).1 e in cc
 
 -- what each of the first elements has, and the next one too
-pub each_more : {X : Type 0} (P : X → Type 0) (xs : List X) (i : ℕ) (d : X) → i < length xs → AllByRecursion P (take i xs) → P (get_or xs i d) → AllByRecursion P (take (i + 1) xs)
+pub each_more : {X : Type 0} (P : X → Type 0) (xs : List X) (i : ℕ) (d : X) → i < length xs
+    → AllByRecursion P (take i xs) → P (get_or xs i d) → AllByRecursion P (take (i + 1) xs)
 each_more P [] i d inside front here = absurd (omega arith)
 each_more P (x ∷ xs) zero d inside front here = (here, tt)
-each_more P (x ∷ xs) (suc i) d inside front here = let e : suc i + 1 ≡ suc (i + 1) = omega arith in rw e (front.0, each_more P xs i d (omega arith) front.1 here)
+each_more P (x ∷ xs) (suc i) d inside front here =
+    let e : suc i + 1 ≡ suc (i + 1) = omega arith in rw e (front.0, each_more P xs i d (omega arith) front.1 here)

@@ -3,13 +3,15 @@ use Rattle.std.specs.Fmt.{decimal}
 use Rattle.std.specs.Prelude.{[], ◌*◌, ◌++◌, ◌<◌, ◌==◌, ◌^◌, ◌∷◌, ◌≤◌, codes, if◌then◌else◌, List, ℕ}
 use Rattle.vm_core.specs.Prelude.{EVICTED, LOCKED, MARKED, state_of, UNLOCKED, version_of, WORDS}
 use Rattle.vm_core.specs.{declared.event.CoreShape.CoreShape, declared.words.TheConstants.FRAMES}
-use Rattle.vm_core.specs.declared.event.Event.TheVariants.{BLoad, Claim, Clean, Clear, Dirty, Disown, Downgrade, Give, Hand, Install, Load, LockS}
-use Rattle.vm_core.specs.declared.event.Event.TheVariants.{LockW, LockX, Look, Mark, NLoad, OLoad, Own, Raise, Read, Release, ReleaseE, RFail}
-use Rattle.vm_core.specs.declared.event.Event.TheVariants.{PBLoad, PGive, PTake, Store, Take, TLoad, UnlockS, Unmark, Upgrade, WFail, Write}
-use Rattle.vm_script.specs.{declared.event_line.EventLine.EventLine, declared.event_line.Kind.Kind, declared.event_line.Verb.Verb, Verbs.kinds_of}
-use Rattle.vm_script.specs.{Verbs.verb_name}
+use Rattle.vm_core.specs.declared.event.Event.TheVariants.{BLoad, Claim, Clean, Clear, Dirty, Disown, Downgrade, Give}
+use Rattle.vm_core.specs.declared.event.Event.TheVariants.{Hand, Install, Load, LockS, LockW, LockX, Look, Mark}
+use Rattle.vm_core.specs.declared.event.Event.TheVariants.{NLoad, OLoad, Own, Raise, Read, Release, ReleaseE, RFail}
+use Rattle.vm_core.specs.declared.event.Event.TheVariants.{PBLoad, PGive, PTake, Store, Take, TLoad, UnlockS, Unmark}
+use Rattle.vm_core.specs.declared.event.Event.TheVariants.{Upgrade, WFail, Write}
+use Rattle.vm_script.specs.{declared.event_line.EventLine.EventLine, declared.event_line.FieldKind.FieldKind}
+use Rattle.vm_script.specs.{declared.event_line.Verb.Verb, Verbs.kinds_of, Verbs.verb_name}
 use Rattle.vm_script.specs.declared.event_line.EventLine.TheVariants.{Fill, Loads, One}
-use Rattle.vm_script.specs.declared.event_line.Kind.TheVariants.{Actor, Bundle, Count, Frame, Page, Place, Spare, State, Word}
+use Rattle.vm_script.specs.declared.event_line.FieldKind.TheVariants.{Actor, Bundle, Count, Frame, Page, Place, Spare, State, Word}
 use Rattle.vm_script.specs.declared.event_line.Verb.TheVariants as verbs
 
 -- the limits of a shape
@@ -22,14 +24,15 @@ pub record IsShape (shape : CoreShape) : Type 0 where
 -- `u`, `x`, `m`, `e`, or the number of shares
 abbrev pub state_name : ℕ → List ℕ
 state_name state =
-    if state == UNLOCKED then codes "u" else if state == LOCKED then codes "x" else if state == MARKED then codes "m" else if state == EVICTED then codes "e" else decimal state
+    if state == UNLOCKED then codes "u" else if state == LOCKED then codes "x" else if state == MARKED then codes "m"
+    else if state == EVICTED then codes "e" else decimal state
 
 -- `S:V`
 abbrev pub state_text : ℕ → List ℕ
 state_text word = state_name (state_of word) ++ 58 ∷ decimal (version_of word)
 
 -- what a number of this kind may be
-abbrev pub IsField : CoreShape → Kind → ℕ → Type 0
+abbrev pub IsField : CoreShape → FieldKind → ℕ → Type 0
 IsField shape Actor a = a < shape.actors
 IsField shape Page p = p < shape.pages
 IsField shape Frame f = f < shape.frames
@@ -41,7 +44,7 @@ IsField shape State w = w < 2 ^ 64
 IsField shape Count n = n < 2 ^ 32
 
 -- a state word as `S:V`, all else in decimal
-abbrev pub field_text : Kind → ℕ → List ℕ
+abbrev pub field_text : FieldKind → ℕ → List ℕ
 field_text State w = state_text w
 field_text Actor a = decimal a
 field_text Page p = decimal p
@@ -53,14 +56,14 @@ field_text Word w = decimal w
 field_text Count n = decimal n
 
 -- as many numbers as kinds, each what its kind may be
-abbrev pub AreFields : CoreShape → List Kind → List ℕ → Type 0
+abbrev pub AreFields : CoreShape → List FieldKind → List ℕ → Type 0
 AreFields shape [] [] = Unit {0}
 AreFields shape [] (value ∷ values) = ⊥
 AreFields shape (kind ∷ kinds) [] = ⊥
 AreFields shape (kind ∷ kinds) (value ∷ values) = IsField shape kind value × AreFields shape kinds values
 
 -- the numbers, with single spaces between them
-abbrev pub fields_text : List Kind → List ℕ → List ℕ
+abbrev pub fields_text : List FieldKind → List ℕ → List ℕ
 fields_text (kind ∷ []) (value ∷ []) = field_text kind value
 fields_text (kind ∷ more ∷ kinds) (value ∷ values) = field_text kind value ++ 32 ∷ fields_text (more ∷ kinds) values
 fields_text _ _ = []
@@ -118,4 +121,6 @@ IsEventLine shape line = AreFields shape (kinds_of (form line).0) (form line).1
 
 -- `shape P F A X`
 abbrev pub shape_text : CoreShape → List ℕ
-shape_text shape = codes "shape" ++ 32 ∷ (decimal shape.pages ++ 32 ∷ (decimal shape.frames ++ 32 ∷ (decimal shape.actors ++ 32 ∷ decimal shape.next)))
+shape_text shape = codes
+    "shape" ++ 32 ∷ (decimal
+    shape.pages ++ 32 ∷ (decimal shape.frames ++ 32 ∷ (decimal shape.actors ++ 32 ∷ decimal shape.next)))

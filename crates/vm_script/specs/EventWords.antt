@@ -1,7 +1,7 @@
 -- What the readers of parts of an event line answer.
 use Rattle.std.specs.Prelude.{[], ◌<◌, ◌^◌, ◌∷◌, ◌≡◌, ◌≢◌, ◌≤◌, length, List, None, Option, Some, take, ℕ}
-use Rattle.vm_script.specs.declared.event_line.Kind.{Kind}
-use Rattle.vm_script.specs.declared.event_line.Kind.TheVariants.{Actor, Bundle, Count, Frame, Page, Place, Spare, State, Word}
+use Rattle.vm_script.specs.declared.event_line.FieldKind.{FieldKind}
+use Rattle.vm_script.specs.declared.event_line.FieldKind.TheVariants.{Actor, Bundle, Count, Frame, Page, Place, Spare, State, Word}
 
 -- the bytes spell the value that is answered, or none that they could
 abbrev pub ReadsAs : {X : Type 0} → (X → Type 0) → (X → List ℕ) → List ℕ → Option X → Type 0
@@ -13,15 +13,15 @@ abbrev pub Four : Type 0
 Four = ℕ × ℕ × ℕ × ℕ
 
 -- as many of four numbers as there are kinds
-abbrev pub used : List Kind → Four → List ℕ
+abbrev pub used : List FieldKind → Four → List ℕ
 used kinds four = take (length kinds) (four.0 ∷ four.1 ∷ four.2 ∷ four.3 ∷ [])
 
-abbrev pub used_of : List Kind → Option Four → Option (List ℕ)
+abbrev pub used_of : List FieldKind → Option Four → Option (List ℕ)
 used_of kinds (Some four) = Some (used kinds four)
 used_of kinds None = None
 
 -- a number of this kind fits 32 bits
-abbrev pub IsNarrow : Kind → ℕ → Type 0
+abbrev pub IsNarrow : FieldKind → ℕ → Type 0
 IsNarrow Word n = Unit {0}
 IsNarrow State n = Unit {0}
 IsNarrow Actor n = n < 2 ^ 32
@@ -32,7 +32,7 @@ IsNarrow Bundle n = n < 2 ^ 32
 IsNarrow Spare n = n < 2 ^ 32
 IsNarrow Count n = n < 2 ^ 32
 
-abbrev pub AreNarrow : List Kind → List ℕ → Type 0
+abbrev pub AreNarrow : List FieldKind → List ℕ → Type 0
 AreNarrow (kind ∷ kinds) (value ∷ values) = IsNarrow kind value × AreNarrow kinds values
 AreNarrow _ _ = Unit {0}
 

@@ -26,7 +26,8 @@ pub record SpellsEvents (bytes : List ℕ) (shape : CoreShape) (lines : List Eve
 abbrev pub LacksShape : List ℕ → Type 0
 LacksShape bytes = (shape : CoreShape) → IsShape shape → BeginsWith bytes (shape_text shape) → ⊥
 
--- line number n is the first bad one: behind the shape line and n - 2 good lines something stands that begins with no event line of the shape, or it is one line too many
+-- line number n is the first bad one: behind the shape line and n - 2 good lines something stands that begins with no
+-- event line of the shape, or it is one line too many
 pub record IsFirstBadLine (bytes : List ℕ) (n : ℕ) : Type 0 where
   pub shape : CoreShape
   pub good : List EventLine
@@ -37,7 +38,8 @@ pub record IsFirstBadLine (bytes : List ℕ) (n : ℕ) : Type 0 where
   pub more : 0 < length rest
   pub count : length good + 2 ≡ n
   pub few : length good + 1 ≤ most_event_lines
-  pub bad : (length good + 1 ≡ most_event_lines) ⊎ ((line : EventLine) → IsEventLine shape line → BeginsWith rest (event_line_text line) → ⊥)
+  pub bad : (length good + 1 ≡ most_event_lines)
+      ⊎ ((line : EventLine) → IsEventLine shape line → BeginsWith rest (event_line_text line) → ⊥)
 
 -- line number n is the first bad one of the list
 abbrev pub IsFirstBadEvent : List ℕ → ℕ → Type 0

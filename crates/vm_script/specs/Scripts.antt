@@ -1,9 +1,11 @@
 -- Scripts: lines `WORKER CALL`, each ended by a line feed, which the last may lack.
 use Rattle.std.specs.Fmt.{decimal}
 use Rattle.std.specs.List.{AllByRecursion, flat_map}
-use Rattle.std.specs.Prelude.{[], ◌++◌, ◌+◌, ◌<◌, ◌==◌, ◌^◌, ◌∷◌, ◌≡◌, ◌≤◌, ◌⊎◌, codes, Err, filter, length, List, map, Ok, Result, suc, zero, ℕ}
-use Rattle.vm_map.specs.{declared.window.Bound.Bound, declared.window.Bound.TheVariants.End, declared.window.Bound.TheVariants.Key, History.bound_of}
-use Rattle.vm_map.specs.{declared.call.Call.Call, declared.window.TheConstants.MOST_PAIRS}
+use Rattle.std.specs.Prelude.{[], ◌++◌, ◌+◌, ◌<◌, ◌==◌, ◌^◌, ◌∷◌, ◌≡◌, ◌≤◌, ◌⊎◌, codes, Err, filter, length, List}
+use Rattle.std.specs.Prelude.{map, Ok, Result, suc, zero, ℕ}
+use Rattle.vm_map.specs.{declared.window.Bound.Bound, declared.window.Bound.TheVariants.End}
+use Rattle.vm_map.specs.{declared.window.Bound.TheVariants.Key, History.bound_of, declared.call.Call.Call}
+use Rattle.vm_map.specs.{declared.window.TheConstants.MOST_PAIRS}
 use Rattle.vm_map.specs.declared.call.Call.TheVariants.{Del, Get, Put, Range, Swap, Window}
 use Rattle.vm_script.specs.{declared.script.Order.Order, declared.script.ScriptFault.ScriptFault}
 use Rattle.vm_script.specs.declared.script.ScriptFault.TheVariants.{Line, Long, Memory}
@@ -83,7 +85,8 @@ pub record Spells (workers : ℕ) (bytes : List ℕ) (orders : List Order) : Typ
 abbrev pub BeginsWith : List ℕ → List ℕ → Type 0
 BeginsWith bytes line = (bytes ≡ line) ⊎ ((rest : List ℕ) × (bytes ≡ line ++ 10 ∷ rest))
 
--- line number n is the first bad one: behind n - 1 good lines something stands that begins with no order or with one range too many, or it is one line too many
+-- line number n is the first bad one: behind n - 1 good lines something stands that begins with no order or with one
+-- range too many, or it is one line too many
 pub record IsFirstBad (workers : ℕ) (bytes : List ℕ) (n : ℕ) : Type 0 where
   pub good : List Order
   pub rest : List ℕ
@@ -93,7 +96,8 @@ pub record IsFirstBad (workers : ℕ) (bytes : List ℕ) (n : ℕ) : Type 0 wher
   pub front : bytes ≡ lines_text good ++ rest
   pub more : 0 < length rest
   pub count : length good + 1 ≡ n
-  pub bad : (length good ≡ most_lines) ⊎ ((order : Order) → IsOrder workers order → BeginsWith rest (order_text order) → most_ranges < range_lines (good ++ order ∷ []))
+  pub bad : (length good ≡ most_lines) ⊎ ((order : Order) → IsOrder workers order → BeginsWith rest (order_text order)
+      → most_ranges < range_lines (good ++ order ∷ []))
 
 -- the calls of one worker, in the script's order
 abbrev pub calls_by : ℕ → List Order → List Call

@@ -4,9 +4,11 @@ use Rattle.std.specs.List.{AllByRecursion}
 use Rattle.std.specs.Prelude.{[], ◌++◌, ◌-◌, ◌∷◌, ◌≡◌, codes, get_or, length, List, ℕ}
 use Rattle.vm_core.specs.Prelude.{WORDS}
 use Rattle.vm_core.specs.{declared.event.Event.Event, declared.event.Seen.Seen}
-use Rattle.vm_core.specs.declared.event.Event.TheVariants.{BLoad, Claim, Clean, Clear, Dirty, Disown, Downgrade, Give, Hand, Install, Load, LockS}
-use Rattle.vm_core.specs.declared.event.Event.TheVariants.{LockW, LockX, Look, Mark, NLoad, OLoad, Own, Raise, Read, Release, ReleaseE, RFail}
-use Rattle.vm_core.specs.declared.event.Event.TheVariants.{PBLoad, PGive, PTake, Store, Take, TLoad, UnlockS, Unmark, Upgrade, WFail, Write}
+use Rattle.vm_core.specs.declared.event.Event.TheVariants.{BLoad, Claim, Clean, Clear, Dirty, Disown, Downgrade, Give}
+use Rattle.vm_core.specs.declared.event.Event.TheVariants.{Hand, Install, Load, LockS, LockW, LockX, Look, Mark}
+use Rattle.vm_core.specs.declared.event.Event.TheVariants.{NLoad, OLoad, Own, Raise, Read, Release, ReleaseE, RFail}
+use Rattle.vm_core.specs.declared.event.Event.TheVariants.{PBLoad, PGive, PTake, Store, Take, TLoad, UnlockS, Unmark}
+use Rattle.vm_core.specs.declared.event.Event.TheVariants.{Upgrade, WFail, Write}
 use Rattle.vm_script.specs.{declared.event_line.EventLine.EventLine, declared.seen.Sight.Sight}
 use Rattle.vm_script.specs.declared.event_line.EventLine.TheVariants.{Fill, Loads, One}
 use Rattle.vm_script.specs.declared.seen.Sight.TheVariants as sights
@@ -71,7 +73,8 @@ pub record FitsLine (line : EventLine) (seen : List Seen) : Type 0 where
 abbrev pub told_text : EventLine → List Seen → List ℕ
 told_text (One event) seen = sight_text (sight_of event) (get_or seen 0 no_sight)
 told_text (Fill a p f) seen = codes "done"
-told_text (Loads a p) seen = codes "words " ++ decimal (seen_word (get_or seen 0 no_sight)) ++ 32 ∷ decimal (seen_word (get_or seen (WORDS - 1) no_sight))
+told_text (Loads a p) seen = codes "words " ++ decimal (seen_word (get_or seen 0 no_sight)) ++ 32 ∷ decimal
+    (seen_word (get_or seen (WORDS - 1) no_sight))
 
 -- `NUMBER WHAT WAS SEEN`
 abbrev pub seen_line : ℕ → EventLine → List Seen → List ℕ

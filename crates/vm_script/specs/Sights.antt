@@ -5,8 +5,8 @@ use Rattle.vm_core.specs.{declared.event.ReadIs.ReadIs, declared.event.Seen.Seen
 use Rattle.vm_core.specs.declared.event.ReadIs.TheVariants.{Closed, Moved, Opened, Same}
 use Rattle.vm_core.specs.declared.event.Seen.TheVariants as seens
 use Rattle.vm_script.specs.{declared.seen.Sight.Sight, EventLines.state_text}
-use Rattle.vm_script.specs.declared.seen.Sight.TheVariants.{Bits, Done, Exchange, Failed, Loaded, Look, Next, NumberExchange, Owner, Place, State}
-use Rattle.vm_script.specs.declared.seen.Sight.TheVariants.{Translation}
+use Rattle.vm_script.specs.declared.seen.Sight.TheVariants.{Bits, Done, Exchange, Failed, Loaded, Look, Next}
+use Rattle.vm_script.specs.declared.seen.Sight.TheVariants.{NumberExchange, Owner, Place, State, Translation}
 
 -- what became of the open read
 abbrev pub left_name : ReadIs → List ℕ
@@ -18,7 +18,8 @@ left_name Closed = codes "closed"
 -- `empty`, `frame F clean` or `frame F dirty`; no core has the word 2 ^ 63, which names no frame
 abbrev pub translation_text : ℕ → List ℕ
 translation_text word =
-    if word == 0 then codes "empty" else if nat_lt word (2 ^ 63) then codes "frame " ++ decimal (word - 1) ++ codes " clean" else codes "frame " ++ decimal (word - 2 ^ 63 - 1) ++ codes " dirty"
+    if word == 0 then codes "empty" else if nat_lt word (2 ^ 63) then codes "frame " ++ decimal (word - 1) ++ codes
+    " clean" else codes "frame " ++ decimal (word - 2 ^ 63 - 1) ++ codes " dirty"
 
 -- `owner P` where a frame's owner word is P + 1, `owner none` where it is 0
 abbrev pub owner_text : ℕ → List ℕ

@@ -1,9 +1,10 @@
 -- The lines of what calls were answered, of rows, of counters, of a tree's size, and of what was made, migrated and churned.
 use Rattle.std.specs.Fmt.{decimal}
 use Rattle.std.specs.List.{flat_map}
-use Rattle.std.specs.Prelude.{[], ◌++◌, ◌+◌, ◌∷◌, codes, length, List, map, None, Option, Some, ℕ}
-use Rattle.vm_map.specs.{declared.call.Call.Call, declared.call.Reply.Reply, declared.call.Said.Said, declared.window.Bound.Bound}
-use Rattle.vm_map.specs.{declared.window.Bound.TheVariants.End, declared.window.Bound.TheVariants.Key, declared.window.Window.Window, Map.Pairs}
+use Rattle.std.specs.Prelude.{[], ◌++◌, ◌+◌, ◌∷◌, codes, length, List, None, Option, Some, ℕ}
+use Rattle.vm_map.specs.{declared.call.Call.Call, declared.call.Reply.Reply, declared.window.Bound.Bound}
+use Rattle.vm_map.specs.{declared.window.Bound.TheVariants.End, declared.window.Bound.TheVariants.Key}
+use Rattle.vm_map.specs.{declared.window.Window.Window, Map.Pairs}
 use Rattle.vm_map.specs.declared.call.Call.TheVariants.{Del, Get, Put, Range, Swap, Window as Asked}
 use Rattle.vm_map.specs.declared.call.Reply.TheVariants.{Gone, Got, Many, Swapped, Was, Wide, Win}
 use Rattle.vm_map.specs.declared.call.Swap.{Swap as Outcome}
@@ -43,7 +44,8 @@ range_text pairs = codes "range " ++ decimal (length pairs) ++ shown_text pairs
 abbrev pub wide_text : ℕ → List ℕ
 wide_text reach = codes "wide " ++ decimal reach
 
--- to a get `some V` or `none`, to a put `was V` or `new`, to a del `gone V` or `none`, to a window `window K B` and the pairs, to a swap `swapped`, `kept V` or `none`,
+-- to a get `some V` or `none`, to a put `was V` or `new`, to a del `gone V` or `none`, to a window `window K B` and
+-- the pairs, to a swap `swapped`, `kept V` or `none`,
 -- to a range `range COUNT` and the pairs, or `wide R`; a reply that is not of the call's kind has no text
 abbrev pub answer_text : Call → Reply → List ℕ
 answer_text (Get key) (Got found) = value_text (codes "some") (codes "none") found
@@ -85,10 +87,6 @@ abbrev pub worker_replies : ℕ → List (List Line) → List ℕ
 worker_replies worker [] = []
 worker_replies worker (told ∷ more) = replies_text worker 1 told ++ worker_replies (worker + 1) more
 
--- what calls are told that are all answered
-abbrev pub all_said : List Said → List Line
-all_said history = map (λ said. lines.Said said) history
-
 -- the lines of a map's pairs
 abbrev pub rows_text : Pairs → List ℕ
 rows_text = flat_map row_line
@@ -96,7 +94,8 @@ rows_text = flat_map row_line
 -- `counters reads R writes X faults N evicted E`
 abbrev pub counters_line : ℕ → ℕ → ℕ → ℕ → List ℕ
 counters_line reads writes faults evicted =
-    codes "counters reads " ++ decimal reads ++ codes " writes " ++ decimal writes ++ codes " faults " ++ decimal faults ++ codes " evicted " ++ decimal evicted ++ 10 ∷ []
+    codes "counters reads " ++ decimal reads ++ codes " writes " ++ decimal writes ++ codes " faults " ++ decimal
+    faults ++ codes " evicted " ++ decimal evicted ++ 10 ∷ []
 
 -- `unflushed P`
 abbrev pub unflushed_line : ℕ → List ℕ
@@ -104,7 +103,8 @@ unflushed_line page = codes "unflushed " ++ decimal page ++ 10 ∷ []
 
 -- `tree height H used U rows N`
 abbrev pub tree_line : ℕ → ℕ → ℕ → List ℕ
-tree_line height used rows = codes "tree height " ++ decimal height ++ codes " used " ++ decimal used ++ codes " rows " ++ decimal rows ++ 10 ∷ []
+tree_line height used rows = codes "tree height " ++ decimal height ++ codes " used " ++ decimal used ++ codes
+    " rows " ++ decimal rows ++ 10 ∷ []
 
 -- the rows of a tree, and the line of its size
 abbrev pub check_text : Pairs → ℕ → ℕ → List ℕ
@@ -112,12 +112,14 @@ check_text rows height used = rows_text rows ++ tree_line height used (length ro
 
 -- `made P used U height H`
 abbrev pub made_line : ℕ → ℕ → ℕ → List ℕ
-made_line pages used height = codes "made " ++ decimal pages ++ codes " used " ++ decimal used ++ codes " height " ++ decimal height ++ 10 ∷ []
+made_line pages used height =
+    codes "made " ++ decimal pages ++ codes " used " ++ decimal used ++ codes " height " ++ decimal height ++ 10 ∷ []
 
 -- `migrated P used U height H rows N`
 abbrev pub migrated_line : (pages used height rows : ℕ) → List ℕ
 migrated_line pages used height rows =
-    codes "migrated " ++ decimal pages ++ codes " used " ++ decimal used ++ codes " height " ++ decimal height ++ codes " rows " ++ decimal rows ++ 10 ∷ []
+    codes "migrated " ++ decimal pages ++ codes " used " ++ decimal used ++ codes " height " ++ decimal
+    height ++ codes " rows " ++ decimal rows ++ 10 ∷ []
 
 -- `churn N calls C some A new B gone G rows R sum S`
 abbrev pub churn_line : (pairs calls some new gone rows sum : ℕ) → List ℕ

@@ -1,10 +1,13 @@
 -- The verbs of event lines, and the kinds of the numbers behind each.
 use Rattle.std.specs.Prelude.{[], ◌∷◌, codes, List, ℕ}
-use Rattle.vm_script.specs.{declared.event_line.Kind.Kind, declared.event_line.Verb.Verb}
-use Rattle.vm_script.specs.declared.event_line.Kind.TheVariants.{Actor, Bundle, Count, Frame, Page, Place, Spare, State, Word}
-use Rattle.vm_script.specs.declared.event_line.Verb.TheVariants.{BLoad, Claim, Clean, Clear, Dirty, Disown, Downgrade, Fill, Give, Hand, Install, Load}
-use Rattle.vm_script.specs.declared.event_line.Verb.TheVariants.{Loads, LockS, LockW, LockX, Look, Mark, NLoad, OLoad, Own, Raise, Read, Release}
-use Rattle.vm_script.specs.declared.event_line.Verb.TheVariants.{PBLoad, PGive, PTake, ReleaseE, RFail, Store, Take, TLoad, UnlockS, Unmark, Upgrade, WFail, Write}
+use Rattle.vm_script.specs.{declared.event_line.FieldKind.FieldKind, declared.event_line.Verb.Verb}
+use Rattle.vm_script.specs.declared.event_line.FieldKind.TheVariants.{Actor, Bundle, Count, Frame, Page, Place, Spare, State, Word}
+use Rattle.vm_script.specs.declared.event_line.Verb.TheVariants.{BLoad, Claim, Clean, Clear, Dirty, Disown, Downgrade}
+use Rattle.vm_script.specs.declared.event_line.Verb.TheVariants.{Fill, Give, Hand, Install, Load, Loads, LockS, LockW}
+use Rattle.vm_script.specs.declared.event_line.Verb.TheVariants.{LockX, Look, Mark, NLoad, OLoad, Own, Raise, Read}
+use Rattle.vm_script.specs.declared.event_line.Verb.TheVariants.{Release, PBLoad, PGive, PTake, ReleaseE, RFail}
+use Rattle.vm_script.specs.declared.event_line.Verb.TheVariants.{Store, Take, TLoad, UnlockS, Unmark, Upgrade, WFail}
+use Rattle.vm_script.specs.declared.event_line.Verb.TheVariants.{Write}
 
 -- the word of a verb
 abbrev pub verb_name : Verb → List ℕ
@@ -47,7 +50,7 @@ verb_name Fill = codes "fill"
 verb_name Loads = codes "loads"
 
 -- what the numbers of a line with this verb are, in order
-abbrev pub kinds_of : Verb → List Kind
+abbrev pub kinds_of : Verb → List FieldKind
 kinds_of Look = Actor ∷ Page ∷ []
 kinds_of LockX = Actor ∷ Page ∷ State ∷ []
 kinds_of LockS = Actor ∷ Page ∷ State ∷ []

@@ -60,7 +60,7 @@ pub(crate) enum Verb {
 
 /// What a number of a line is.
 #[derive(Clone, Copy)]
-pub(crate) enum Kind {
+pub(crate) enum FieldKind {
     Actor,
     Page,
     Frame,
@@ -159,7 +159,7 @@ pub(crate) fn name_of(verb: Verb) -> &'static [u8]
 }
 
 // The kinds of the numbers behind a verb.
-pub(crate) fn kinds_of(verb: Verb) -> &'static [Kind]
+pub(crate) fn kinds_of(verb: Verb) -> &'static [FieldKind]
     ensures { result.now ≡ kinds_in verb }
 {
     match verb {
@@ -179,24 +179,39 @@ pub(crate) fn kinds_of(verb: Verb) -> &'static [Kind]
         | Verb::Raise
         | Verb::Own
         | Verb::Disown
-        | Verb::Loads => &[Kind::Actor, Kind::Page],
+        | Verb::Loads => &[FieldKind::Actor, FieldKind::Page],
         Verb::LockX | Verb::LockS | Verb::Mark | Verb::Unmark | Verb::LockW | Verb::Upgrade => &[
-            Kind::Actor,
-            Kind::Page,
-            Kind::State,
+            FieldKind::Actor,
+            FieldKind::Page,
+            FieldKind::State,
         ],
-        Verb::Install | Verb::Fill => &[Kind::Actor, Kind::Page, Kind::Frame],
-        Verb::Load => &[Kind::Actor, Kind::Page, Kind::Place],
-        Verb::OLoad => &[Kind::Actor, Kind::Frame],
-        Verb::Store => &[Kind::Actor, Kind::Frame, Kind::Place, Kind::Word],
-        Verb::BLoad => &[Kind::Actor, Kind::Bundle],
-        Verb::Take => &[Kind::Actor, Kind::Bundle, Kind::Word, Kind::Word],
-        Verb::Give => &[Kind::Actor, Kind::Bundle, Kind::Word],
-        Verb::PBLoad => &[Kind::Actor, Kind::Spare],
-        Verb::PTake => &[Kind::Actor, Kind::Spare, Kind::Word, Kind::Word],
-        Verb::PGive => &[Kind::Actor, Kind::Spare, Kind::Word],
-        Verb::NLoad | Verb::Hand => &[Kind::Actor],
-        Verb::Claim => &[Kind::Actor, Kind::Word, Kind::Count],
+        Verb::Install | Verb::Fill => &[FieldKind::Actor, FieldKind::Page, FieldKind::Frame],
+        Verb::Load => &[FieldKind::Actor, FieldKind::Page, FieldKind::Place],
+        Verb::OLoad => &[FieldKind::Actor, FieldKind::Frame],
+        Verb::Store => &[
+            FieldKind::Actor,
+            FieldKind::Frame,
+            FieldKind::Place,
+            FieldKind::Word,
+        ],
+        Verb::BLoad => &[FieldKind::Actor, FieldKind::Bundle],
+        Verb::Take => &[
+            FieldKind::Actor,
+            FieldKind::Bundle,
+            FieldKind::Word,
+            FieldKind::Word,
+        ],
+        Verb::Give => &[FieldKind::Actor, FieldKind::Bundle, FieldKind::Word],
+        Verb::PBLoad => &[FieldKind::Actor, FieldKind::Spare],
+        Verb::PTake => &[
+            FieldKind::Actor,
+            FieldKind::Spare,
+            FieldKind::Word,
+            FieldKind::Word,
+        ],
+        Verb::PGive => &[FieldKind::Actor, FieldKind::Spare, FieldKind::Word],
+        Verb::NLoad | Verb::Hand => &[FieldKind::Actor],
+        Verb::Claim => &[FieldKind::Actor, FieldKind::Word, FieldKind::Count],
     }
 }
 

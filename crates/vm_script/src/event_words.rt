@@ -7,7 +7,7 @@ ghost use Rattle.vm_script.specs.EventLines.{state_name, state_text};
 ghost use Rattle.vm_script.specs.EventWords.{IsShareCount, ReadsAs, used_of};
 ghost use Rattle.vm_script.specs.Verbs.{verb_name};
 
-use crate::event_line::{EventLine, Kind, VERBS, Verb, kinds_of, line_with, name_of};
+use crate::event_line::{EventLine, FieldKind, VERBS, Verb, kinds_of, line_with, name_of};
 use crate::number::number_of;
 use crate::script::cut;
 use vm_core::{CoreShape, FRAMES, MAX_VERSION, StateWord};
@@ -78,28 +78,28 @@ fn state_word_of(text: &[u8]) -> Option<u64>
 }
 
 // Whether a number may stand where this kind is wanted.
-fn is_field(kind: Kind, shape: &CoreShape, value: u64) -> bool
+fn is_field(kind: FieldKind, shape: &CoreShape, value: u64) -> bool
     requires { IsShape shape.now }
     ensures { value < 2 ^ 64 → (IsTrue result ↔ IsField shape.now kind value) }
 {
     match kind {
-        Kind::Actor => value < u64::from(shape.actors),
-        Kind::Page => value < u64::from(shape.pages),
-        Kind::Frame => value < u64::from(shape.frames),
-        Kind::Place => value < WORDS as u64,
-        Kind::Bundle => value <= u64::from((shape.frames - 1) / FRAMES as u32),
-        Kind::Spare => value <= u64::from((shape.pages - 1) / FRAMES as u32),
-        Kind::Word | Kind::State => true,
-        Kind::Count => value < 0x1_0000_0000,
+        FieldKind::Actor => value < u64::from(shape.actors),
+        FieldKind::Page => value < u64::from(shape.pages),
+        FieldKind::Frame => value < u64::from(shape.frames),
+        FieldKind::Place => value < WORDS as u64,
+        FieldKind::Bundle => value <= u64::from((shape.frames - 1) / FRAMES as u32),
+        FieldKind::Spare => value <= u64::from((shape.pages - 1) / FRAMES as u32),
+        FieldKind::Word | FieldKind::State => true,
+        FieldKind::Count => value < 0x1_0000_0000,
     }
 }
 
 // The number of this kind that a word spells.
-fn field_of(kind: Kind, shape: &CoreShape, word: &[u8]) -> Option<u64>
+fn field_of(kind: FieldKind, shape: &CoreShape, word: &[u8]) -> Option<u64>
     requires { IsShape shape.now }
     ensures { ReadsAs (IsField shape.now kind) (field_text kind) word.now result }
 {
-    if let Kind::State = kind {
+    if let FieldKind::State = kind {
         return state_word_of(word);
     }
     let Some(value) = number_of(word) else {
@@ -113,7 +113,7 @@ fn field_of(kind: Kind, shape: &CoreShape, word: &[u8]) -> Option<u64>
 }
 
 // The numbers of these kinds that words with single spaces between them spell; those past the last kind are 0.
-fn fields_of(kinds: &[Kind], shape: &CoreShape, text: &[u8]) -> Option<(u64, u64, u64, u64)>
+fn fields_of(kinds: &[FieldKind], shape: &CoreShape, text: &[u8]) -> Option<(u64, u64, u64, u64)>
     requires shape { IsShape shape.now }
     requires some { 1 ≤ length kinds.now }
     requires few { length kinds.now ≤ 4 }
@@ -186,7 +186,12 @@ pub(crate) fn shape_of(line: &[u8]) -> Option<CoreShape>
     if word != b"shape".as_slice() {
         return None;
     }
-    let counts = [Kind::Count, Kind::Count, Kind::Count, Kind::Count];
+    let counts = [
+        FieldKind::Count,
+        FieldKind::Count,
+        FieldKind::Count,
+        FieldKind::Count,
+    ];
     let Some((pages, frames, actors, next)) = fields_of(&counts, &LARGEST, rest) else {
         return None;
     };

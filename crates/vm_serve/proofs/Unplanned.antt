@@ -13,7 +13,9 @@ no-page : (first : Option ℕ) → ((p : ℕ) → is_first first p ≡ 0) → fi
 no-page None f = refl
 no-page (Some q) f = let here : is_first (Some q) q ≡ 1 = rw (eq-eqb q q refl) refl in absurd (omega (arith, f q, here))
 
-module _ (n : ℕ) {U : Type 0} (pages : List (List ℕ)) (lists : List (List Call)) (replies : List (List (Result Reply TreeFault))) (report : Flushed) (blocks : List (MemBlock n)) (end : Ended U Said) (is : IsServed n pages [] lists replies report blocks end) where
+module _ (n : ℕ) {U : Type 0} (pages : List (List ℕ)) (lists : List (List Call))
+    (replies : List (List (Result Reply TreeFault))) (report : Flushed) (blocks : List (MemBlock n))
+    (end : Ended U Said) (is : IsServed n pages [] lists replies report blocks end) where
   pub no_faults : (p : ℕ) → all_faults_of p replies ≡ 0
   no_faults p = omega (arith, is.noted p, is.planned p)
 

@@ -37,11 +37,16 @@ account-more : (least nodes used m n : ℕ) → least ≤ nodes + 2 * m + used �
 account-more least nodes used m n h le = omega (arith, h, le)
 
 module _ (size : ℕ) (sized : IsSize size) {U : Type 0} (pages : List (List ℕ)) (end : Ended U Said)
-    (tree : IsTree (fixed size) pages) (began : (view_at_end end).start.contents ≡ pages) (next : IsNextPage size pages (view_at_end end).start.next) (tells : (view_at_end end).start.tells ≡ true) where
+    (tree : IsTree (fixed size) pages) (began : (view_at_end end).start.contents ≡ pages)
+    (next : IsNextPage size pages (view_at_end end).start.next)
+    (tells : (view_at_end end).start.tells ≡ true) where
   abbrev e : View Said
   e = view_at_end end
 
-  widened : (low reach : ℕ) (bound : Bound) → IsOfLeaves size (record { call = Range low bound; reply = Wide reach }) e → IsWidened size pages end
+  widened : (low reach : ℕ) (bound : Bound) → IsOfLeaves size (record {
+    call = Range low bound;
+    reply = Wide reach;
+  }) e → IsWidened size pages end
   widened low reach bound l =
       let laws = sized_layout size sized in
       let start = began_of e.start in
@@ -49,20 +54,28 @@ module _ (size : ℕ) (sized : IsSize size) {U : Type 0} (pages : List (List ℕ
       let tree' : IsTree (fixed size) e.start.contents = subst (λ (l : List (List ℕ)). IsTree (fixed size) l) (sym began) tree in
       let free : (p : ℕ) → e.start.next ≤ p → p < length e.start.contents → IsFree (fixed size) (page_at e.start.contents p) =
       subst (λ (l : List (List ℕ)). (p : ℕ) → e.start.next ≤ p → p < length l → IsFree (fixed size) (page_at l p)) (sym began) next.free in
-      let enough : 19 ≤ length e.start.contents = wide_pages (fixed size) laws start l.kept l.keeps l.leaves low reach l.there p.0 p.1 p.3 in
-      let room : (half_of size - 1) * 19 ≤ 2 * (capacity size - half_of size) * node_count (fixed size) e.start.contents + 2 * news l.kept.history + (half_of size - 1) * e.start.next =
+      let enough : 19 ≤ length e.start.contents = wide_pages (fixed size) laws start l.kept l.keeps l.leaves low reach
+      l.there p.0 p.1 p.3 in
+      let room : (half_of size - 1) * 19 ≤ 2 * (capacity size - half_of size) * node_count (fixed size)
+      e.start.contents + 2 * news l.kept.history + (half_of size - 1) * e.start.next =
       wide_room (fixed size) laws start l.kept l.keeps tree' free l.leaves low reach l.there p.0 p.1 p.3 in
       let later : news l.kept.history ≤ news e.seen = news-more e.seen l.kept.history l.history in
-      let cause : (half_of size - 1) * 19 ≤ 2 * half_of size * node_count (fixed size) e.start.contents + 2 * news e.seen + (half_of size - 1) * e.start.next =
-      subst (λ (k : ℕ). (half_of size - 1) * 19 ≤ k * node_count (fixed size) e.start.contents + 2 * news e.seen + (half_of size - 1) * e.start.next) (other-half size sized)
-      (account-more ((half_of size - 1) * 19) (2 * (capacity size - half_of size) * node_count (fixed size) e.start.contents) ((half_of size - 1) * e.start.next) (news l.kept.history) (news e.seen) room later) in
+      let cause : (half_of size - 1) * 19 ≤ 2 * half_of size * node_count (fixed size) e.start.contents + 2 * news
+      e.seen + (half_of size - 1) * e.start.next =
+      subst (λ (k : ℕ). (half_of size - 1) * 19 ≤ k * node_count (fixed size) e.start.contents + 2 * news
+      e.seen + (half_of size - 1) * e.start.next) (other-half size sized)
+      (account-more ((half_of size - 1) * 19)
+      (2 * (capacity size - half_of size) * node_count (fixed size) e.start.contents)
+      ((half_of size - 1) * e.start.next) (news l.kept.history) (news e.seen) room later) in
       record {
         enough = subst (λ (l : List (List ℕ)). 19 ≤ length l) began enough;
-        cause = subst (λ (l : List (List ℕ)). (half_of size - 1) * 19 ≤ 2 * half_of size * node_count (fixed size) l + 2 * news e.seen + (half_of size - 1) * e.start.next) began cause;
+        cause = subst (λ (l : List (List ℕ)). (half_of size - 1) * 19 ≤ 2 * half_of size * node_count (fixed size)
+            l + 2 * news e.seen + (half_of size - 1) * e.start.next) began cause;
       }
 
   -- a reply is one to its call, so none but a range is answered so
-  wide-one : (c : Call) (r : Reply) (v x : View Said) → IsReplyShown size e c r → IsTreeCall size c (Ok r) v x → WidenedBy (IsWidened size pages end) c (Ok r)
+  wide-one : (c : Call) (r : Reply) (v x : View Said) → IsReplyShown size e c r → IsTreeCall size c (Ok r) v x
+      → WidenedBy (IsWidened size pages end) c (Ok r)
   wide-one c (Got found) v x s h = tt
   wide-one c (Was old) v x s h = tt
   wide-one c (Gone old) v x s h = tt
@@ -76,14 +89,18 @@ module _ (size : ℕ) (sized : IsSize size) {U : Type 0} (pages : List (List ℕ
   wide-one (Swap key want value) (Wide reach) v x s h = absurd h.1
   wide-one (Range low bound) (Wide reach) v x s h = (tt, widened low reach bound (s tells))
 
-  are-widened : (cs : List Call) (rs : List (Result Reply TreeFault)) (v x : View Said) → AreShown size e cs rs → AreTreeCalls size cs rs v x → AreWidenedBy (IsWidened size pages end) cs rs
+  are-widened : (cs : List Call) (rs : List (Result Reply TreeFault)) (v x : View Said) → AreShown size e cs rs
+      → AreTreeCalls size cs rs v x → AreWidenedBy (IsWidened size pages end) cs rs
   are-widened [] rs v x s t = tt
   are-widened (c ∷ cs) [] v x s t = tt
   are-widened (c ∷ cs) (Ok r ∷ rs) v x s t = (wide-one c r v t.0 s.0 t.1, are-widened cs rs t.0 x s.1 t.2)
   are-widened (c ∷ cs) (Err f ∷ rs) v x s t = (tt, are-widened cs rs t.0 x s t.2)
 
-  pub all-widened : (lists : List (List Call)) (answers : List (List (Result Reply TreeFault))) (w : View Said) (passes : List (View Said)) → AllShown size e lists answers → HaveParts size w lists answers passes → AllWidenedBy (IsWidened size pages end) lists answers
+  pub all-widened : (lists : List (List Call)) (answers : List (List (Result Reply TreeFault))) (w : View Said)
+      (passes : List (View Said)) → AllShown size e lists answers → HaveParts size w lists answers passes
+      → AllWidenedBy (IsWidened size pages end) lists answers
   all-widened [] answers w passes s p = tt
   all-widened (cs ∷ lists) [] w passes s p = tt
   all-widened (cs ∷ lists) (rs ∷ answers) w [] s p = absurd p
-  all-widened (cs ∷ lists) (rs ∷ answers) w (u ∷ passes) s p = (are-widened cs rs p.0.began u s.0 p.0.each, all-widened lists answers w passes s.1 p.1)
+  all-widened (cs ∷ lists) (rs ∷ answers) w (u ∷ passes) s p =
+      (are-widened cs rs p.0.began u s.0 p.0.each, all-widened lists answers w passes s.1 p.1)

@@ -1,10 +1,12 @@
 -- What serving workers' calls on an image comes to: the headline, read from what the pool's end keeps.
-use Rattle.std.specs.Prelude.{◌&&◌, ◌*◌, ◌+◌, ◌-◌, ◌<◌, ◌==◌, ◌≡◌, ◌≤◌, Bool, if◌then◌else◌, length, List, map, None, Option, Result, Some, true, ℕ}
+use Rattle.std.specs.Prelude.{◌&&◌, ◌*◌, ◌+◌, ◌-◌, ◌<◌, ◌==◌, ◌≡◌, ◌≤◌, Bool, if◌then◌else◌, length, List, map, None}
+use Rattle.std.specs.Prelude.{Option, Result, Some, true, ℕ}
 use Rattle.std.specs.Set.{distinct_count}
 use Rattle.vm_map.specs.{declared.call.Call.Call, declared.call.Reply.Reply, declared.call.Said.Said, History.after_all}
 use Rattle.vm_tree_model.specs.{Count.node_count, Fixed.fixed, Tree.IsTree, Tree.map_of}
 use Rattle.vm_node.specs.Halves.{half_of}
-use Rattle.vm_image.specs.{Blocks.numbers_for, Blocks.pages_of_blocks, declared.blocks.PlannedFault.PlannedFault, File.AreFreePages, File.IsNextPage}
+use Rattle.vm_image.specs.{Blocks.numbers_for, Blocks.pages_of_blocks, declared.blocks.PlannedFault.PlannedFault}
+use Rattle.vm_image.specs.{File.AreFreePages, File.IsNextPage}
 use Rattle.vm_core.specs.Prelude.{at, page_at}
 use Rattle.vm_rule.specs.Prelude.{last_of, MemBlock, most_faults, no_block, stored_of}
 use Rattle.vm_rule_laws.specs.Known.{kept_by}
@@ -26,22 +28,30 @@ use Rattle.vm_serve.specs.Wide.{AllWidenedBy}
 abbrev pub TreeEnd : ℕ → Type 0
 TreeEnd n = Ended (TreeOf (WordKeys Sizes n)) Said
 
--- an image of pages of n words that was used up: the next word that the end keeps leaves no room for a split, and the puts of new keys and the dels
--- that gave a value account for it, from the next word at the start on. With P pages, of which X stood below the next one at the start, N of them nodes, and
+-- an image of pages of n words that was used up: the next word that the end keeps leaves no room for a split, and the
+-- puts of new keys and the dels
+-- that gave a value account for it, from the next word at the start on. With P pages, of which X stood below the next
+-- one at the start, N of them nodes, and
 -- with G such puts and D such dels, 13 * P is at most 28 * N + 2 * G + 12 * D + 13 * (X + 1) where a page has 64 words, and 125 * P at most
 -- 252 * N + 2 * G + 108 * D + 125 * (X + 1) where it has 512
 pub record IsFilled (n : ℕ) {U : Type 0} (pages : List (List ℕ)) (end : Ended U Said) (count : ℕ) : Type 0 where
   pub all : count ≡ length pages
   pub high : count ≤ (kept_by (view_at_end end)).next + 1
-  pub cause : (half_of n - 1) * length pages ≤ 2 * half_of n * node_count (fixed n) pages + 2 * news (view_at_end end).seen + merge_weight (fixed n) * gones (view_at_end end).seen + (half_of n - 1) * ((view_at_end end).start.next + 1)
+  pub cause : (half_of n - 1) * length pages ≤ 2 * half_of n * node_count (fixed n) pages + 2 * news
+      (view_at_end end).seen + merge_weight (fixed n) * gones (view_at_end end).seen + (half_of n - 1)
+      * ((view_at_end end).start.next + 1)
 
--- an image of pages of n words in which leaves held together did not reach a range's bound, as many as can be held, which are sixteen: it has page 0,
--- these leaves, one behind them and the root, so nineteen pages, and the puts of new keys account for its nodes, from the next word at the start on. With
--- X pages below the next one at the start, N of them nodes, and with G such puts, 13 * 19 is at most 28 * N + 2 * G + 13 * X where a page has 64 words,
+-- an image of pages of n words in which leaves held together did not reach a range's bound, as many as can be held,
+-- which are sixteen: it has page 0,
+-- these leaves, one behind them and the root, so nineteen pages, and the puts of new keys account for its nodes, from
+-- the next word at the start on. With
+-- X pages below the next one at the start, N of them nodes, and with G such puts, 13 * 19 is at most 28 * N + 2 * G +
+-- 13 * X where a page has 64 words,
 -- and 125 * 19 at most 252 * N + 2 * G + 125 * X where it has 512: no difference is taken, so X may be above 19
 pub record IsWidened (n : ℕ) {U : Type 0} (pages : List (List ℕ)) (end : Ended U Said) : Type 0 where
   pub enough : 19 ≤ length pages
-  pub cause : (half_of n - 1) * 19 ≤ 2 * half_of n * node_count (fixed n) pages + 2 * news (view_at_end end).seen + (half_of n - 1) * (view_at_end end).start.next
+  pub cause : (half_of n - 1) * 19 ≤ 2 * half_of n * node_count (fixed n) pages + 2 * news (view_at_end end).seen
+      + (half_of n - 1) * (view_at_end end).start.next
 
 -- whether two entries of a plan name the same call of the same page's block
 abbrev pub same_entry : PlannedFault → PlannedFault → Bool
@@ -56,17 +66,27 @@ abbrev pub is_first : Option ℕ → ℕ → ℕ
 is_first None p = 0
 is_first (Some q) p = if q == p then 1 else 0
 
--- The calls of the lists were made on the tree of an image of pages of n words, over blocks that tell their words and may fail as often as the plan
--- says; which of their calls fail is not said. The pages from the image's next one on were to be claimed, and the free ones below it could be used
+-- The calls of the lists were made on the tree of an image of pages of n words, over blocks that tell their words and
+-- may fail as often as the plan
+-- says; which of their calls fail is not said. The pages from the image's next one on were to be claimed, and the
+-- free ones below it could be used
 -- anew, each of them. The history is the one that `end` keeps, which the end of the pool alone makes: it is legal from the
--- image's map on, and holds each worker's calls once, in order, with these replies. Each fault of a device, and the first write of the last flush
--- that failed, has its own note, and there are no more notes of a page than entries for it in the plan. Each other fault has its cause, and so has each
--- range that was too wide; each window is a leaf's, the table's page as it stood, and each range that of leaves held together. Each worker made its calls one after another, and what each was answered comes of the steps and
--- notes of that very call. The report is that of the flush which came behind all calls, and was the last thing that was done; the blocks are those
--- that the end shows. Where no write of the flush failed, each block has its page's last words, and the blocks hold a tree whose map is the history's
--- last one; each page below the first whose write failed is stored, so its block has its last words. No more faults are counted than the plan has
+-- image's map on, and holds each worker's calls once, in order, with these replies. Each fault of a device, and the
+-- first write of the last flush
+-- that failed, has its own note, and there are no more notes of a page than entries for it in the plan. Each other
+-- fault has its cause, and so has each
+-- range that was too wide; each window is a leaf's, the table's page as it stood, and each range that of leaves held
+-- together. Each worker made its calls one after another, and what each was answered comes of the steps and
+-- notes of that very call. The report is that of the flush which came behind all calls, and was the last thing that
+-- was done; the blocks are those
+-- that the end shows. Where no write of the flush failed, each block has its page's last words, and the blocks hold a
+-- tree whose map is the history's
+-- last one; each page below the first whose write failed is stored, so its block has its last words. No more faults
+-- are counted than the plan has
 -- different entries.
-pub record IsServed (n : ℕ) {U : Type 0} (pages : List (List ℕ)) (plan : List PlannedFault) (lists : List (List Call)) (replies : List (List (Result Reply TreeFault))) (report : Flushed) (blocks : List (MemBlock n)) (end : Ended U Said) : Type 0 where
+pub record IsServed (n : ℕ) {U : Type 0} (pages : List (List ℕ)) (plan : List PlannedFault) (lists : List (List Call))
+    (replies : List (List (Result Reply TreeFault))) (report : Flushed) (blocks : List (MemBlock n))
+    (end : Ended U Said) : Type 0 where
   pub count : length blocks ≡ length pages
   pub many : (view_at_end end).start.pages ≡ length pages
   pub closed : map stored_of blocks ≡ (view_at_end end).snapshot.blocks
@@ -94,14 +114,19 @@ pub record IsServed (n : ℕ) {U : Type 0} (pages : List (List ℕ)) (plan : Lis
   pub noted_in : StandIn (noted_by passes) (view_at_end end).notes
   pub unflushed : report.failed ≡ 0 → report.first ≡ None
   pub flushed : report.first ≡ None → report.failed ≡ 0
-  pub least : (p q : ℕ) → report.first ≡ Some p → q < p → IsStored (view_at_end end) q × (page_at (pages_of_blocks blocks) q ≡ (last_of (view_at_end end) q).words)
+  pub least : (p q : ℕ) → report.first ≡ Some p → q < p → IsStored (view_at_end end) q
+      × (page_at (pages_of_blocks blocks) q ≡ (last_of (view_at_end end) q).words)
   pub whole : report.failed ≡ 0 → (p : ℕ) → p < length pages → page_at (pages_of_blocks blocks) p ≡ (last_of (view_at_end end) p).words
-  pub saved : report.failed ≡ 0 → IsTree (fixed n) (pages_of_blocks blocks) × (map_of (fixed n) (pages_of_blocks blocks) ≡ after_all (map_of (fixed n) pages) (saids (view_at_end end).seen))
+  pub saved : report.failed ≡ 0 → IsTree (fixed n) (pages_of_blocks blocks)
+      × (map_of (fixed n) (pages_of_blocks blocks) ≡ after_all (map_of (fixed n) pages)
+      (saids (view_at_end end).seen))
   pub sums : AreSums (map stored_of blocks) end
   pub few : end.faults ≤ distinct_entries plan
 
 -- the same, where what was kept of the replies stands for them
-pub record IsServedInto (n : ℕ) {U A : Type 0} (keeps : A → List (Result Reply TreeFault) → Type 0) (pages : List (List ℕ)) (plan : List PlannedFault) (lists : List (List Call)) (kept : List A) (report : Flushed) (blocks : List (MemBlock n)) (end : Ended U Said) : Type 0 where
+pub record IsServedInto (n : ℕ) {U A : Type 0} (keeps : A → List (Result Reply TreeFault) → Type 0)
+    (pages : List (List ℕ)) (plan : List PlannedFault) (lists : List (List Call)) (kept : List A) (report : Flushed)
+    (blocks : List (MemBlock n)) (end : Ended U Said) : Type 0 where
   pub told : List (List (Result Reply TreeFault))
   pub stand : AreKept keeps kept told
   pub served : IsServed n pages plan lists told report blocks end

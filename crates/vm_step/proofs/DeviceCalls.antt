@@ -1,10 +1,11 @@
 -- The moves of a page's block among more steps: steps that are not on its fault word move it not, in front of others and behind them.
-use Rattle.vm_rule.specs.declared.view.Place.TheVariants as places
+use Rattle.vm_rule.specs.declared.view.WordPlace.TheVariants as places
 use Rattle.vm_step.proofs.Device.{two-loads}
-use Rattle.vm_step.proofs.Prelude.{[], ap, append_assoc, Bool, Did, Each, each-both, false, false≢true, GoesOnce, inl, inr, IsCalledOnce, List, None, Place}
-use Rattle.vm_step.proofs.Prelude.{StaysHome, sym, true, ℕ, ⊎_elim, ◌++◌, ◌∙◌, ◌∷◌, ◌≡◌, ◌≢◌}
+use Rattle.vm_step.proofs.Prelude.{[], ap, append_assoc, Bool, Did, Each, each-both, false, false≢true, GoesOnce, inl}
+use Rattle.vm_step.proofs.Prelude.{inr, IsCalledOnce, List, None, WordPlace, StaysHome, sym, true, ℕ, ⊎_elim, ◌++◌}
+use Rattle.vm_step.proofs.Prelude.{◌∙◌, ◌∷◌, ◌≡◌, ◌≢◌}
 
-abbrev pub is-fault : Place → Bool
+abbrev pub is-fault : WordPlace → Bool
 is-fault (places.Fault p) = true
 is-fault _ = false
 
@@ -49,7 +50,8 @@ module _ (p : ℕ) where
       }
 
   -- out and home, with these steps between and those afterwards
-  pub goes-once : (a b c d : ℕ) (between later : List Did) → StaysHome p between → StaysHome p later → GoesOnce p (((two-loads p a b ++ between) ++ two-loads p c d) ++ later)
+  pub goes-once : (a b c d : ℕ) (between later : List Did) → StaysHome p between → StaysHome p later
+      → GoesOnce p (((two-loads p a b ++ between) ++ two-loads p c d) ++ later)
   goes-once a b c d between later h g = record {
     earlier = [];
     out = (a, b);

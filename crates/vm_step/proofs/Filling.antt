@@ -1,10 +1,12 @@
--- Stores of a page's words into a frame of the pass, one after the other: they change the words of that frame alone, and after as many as a page has
+-- Stores of a page's words into a frame of the pass, one after the other: they change the words of that frame alone,
+-- and after as many as a page has
 -- these are the page's.
 use Rattle.std.proofs.lemmas.List.{length-append, take_all}
-use Rattle.vm_rule.specs.declared.view.Place.TheVariants as places
+use Rattle.vm_rule.specs.declared.view.WordPlace.TheVariants as places
 use Rattle.vm_step.proofs.{Evidenced.written-behind, Leaves.works-none, Leaves.works-one, Leaves.works-then}
-use Rattle.vm_step.proofs.Prelude.{[], ap, append_assoc, arith, contents_at, Did, did_store, FillTold, HasWritten, length, List, put, put_at, refl, rules}
-use Rattle.vm_step.proofs.Prelude.{slice_index, slice_set, Stores, subst, suc, sym, take, upd-same, View, Works, zero, ℕ, ◌++◌, ◌+◌, ◌<◌, ◌∙◌, ◌∷◌, ◌≡◌, ◌≤◌}
+use Rattle.vm_step.proofs.Prelude.{[], ap, append_assoc, arith, contents_at, Did, did_store, FillTold, HasWritten}
+use Rattle.vm_step.proofs.Prelude.{length, List, put, put_at, refl, rules, slice_index, slice_set, Stores, subst, suc}
+use Rattle.vm_step.proofs.Prelude.{sym, take, upd-same, View, Works, zero, ℕ, ◌++◌, ◌+◌, ◌<◌, ◌∙◌, ◌∷◌, ◌≡◌, ◌≤◌}
 
 -- ---- words written over others, from the i-th on
 
@@ -22,7 +24,9 @@ written-over i [] a [] la lb = refl
 written-over i [] a (y ∷ b) la lb = absurd (omega (arith, lb))
 written-over i (x ∷ xs) a [] la lb = absurd (omega (arith, lb))
 written-over i (x ∷ xs) a (y ∷ b) la lb =
-    let here : slice_set (a ++ y ∷ b) i x ≡ (a ++ x ∷ []) ++ b = subst (λ (n : ℕ). slice_set (a ++ y ∷ b) n x ≡ (a ++ x ∷ []) ++ b) la (set-behind a y b x ∙ sym (append_assoc a (x ∷ []) b)) in
+    let here : slice_set (a ++ y ∷ b) i x ≡ (a ++ x ∷ []) ++ b =
+    subst (λ (n : ℕ). slice_set (a ++ y ∷ b) n x ≡ (a ++ x ∷ []) ++ b) la
+    (set-behind a y b x ∙ sym (append_assoc a (x ∷ []) b)) in
     let long : length (a ++ x ∷ []) ≡ i + 1 = length-append a (x ∷ []) ∙ ap (λ (n : ℕ). n + 1) la in
     ap (written (i + 1) xs) here ∙ written-over (i + 1) xs (a ++ x ∷ []) b long (omega (arith, lb)) ∙ append_assoc a (x ∷ []) xs
 
@@ -34,7 +38,8 @@ stores-did f i (x ∷ xs) = did_store (places.Content f i) x ∷ stores-did f (i
 
 module _ {X : Type 0} (f : ℕ) where
   -- one store more
-  pub stores-more : (i : ℕ) (xs : List ℕ) (x : ℕ) (u v w : View X) → Stores f i xs u v → FillTold f (i + length xs) x v w → Stores f i (xs ++ x ∷ []) u w
+  pub stores-more : (i : ℕ) (xs : List ℕ) (x : ℕ) (u v w : View X) → Stores f i xs u v
+      → FillTold f (i + length xs) x v w → Stores f i (xs ++ x ∷ []) u w
   stores-more i [] x u v w s t =
       let here : i + 0 ≡ i = omega arith in
       (w, subst (λ (n : ℕ). FillTold f n x u w) here (subst (λ (y : View X). FillTold f (i + 0) x y w) s t), refl)
@@ -51,11 +56,19 @@ module _ {X : Type 0} (f : ℕ) where
     pub notes : w.notes ≡ v.notes
 
   pub fills : (p i : ℕ) (xs : List ℕ) (v w : View X) → Stores f i xs v w → Fills p (stores-did f i xs) v w
-  fills p i [] v w s = subst (λ (y : View X). Fills p [] v y) (sym s) record { works = works-none p v; held = refl; frames = refl; out = refl; notes = refl }
+  fills p i [] v w s = subst (λ (y : View X). Fills p [] v y) (sym s) record {
+    works = works-none p v;
+    held = refl;
+    frames = refl;
+    out = refl;
+    notes = refl;
+  }
   fills p i (x ∷ xs) v w s =
       let b = s.1.brings in
       let rest : Fills p (stores-did f (i + 1) xs) s.0 w = fills p (i + 1) xs s.0 w s.2 in
-      let one : Works p (did_store (places.Content f i) x ∷ []) v s.0 = works-one p (did_store (places.Content f i) x) _ v v.held v.frames (put f (slice_set (contents_at v f) i x) v.contents) v.out v.notes s.0 (λ q ne. refl) b in
+      let one : Works p (did_store (places.Content f i) x ∷ []) v s.0 = works-one p (did_store (places.Content f i) x)
+      _ v v.held v.frames (put f (slice_set (contents_at v f) i x) v.contents) v.out v.notes s.0 (λ q ne. refl)
+      b in
       search (
         rules,
         works-then p (did_store (places.Content f i) x ∷ []) (stores-did f (i + 1) xs) v s.0 w one rest.works,
@@ -80,18 +93,27 @@ module _ {X : Type 0} (f : ℕ) where
   fills-size (x ∷ xs) v w some s = let t : FillTold f 0 x v s.0 = s.1 in t.size
 
   pub filled : (xs : List ℕ) (v w : View X) → length xs ≡ v.start.size → 0 < length xs → Stores f 0 xs v w → contents_at w f ≡ xs
-  filled xs v w long some s = fills-contents 0 xs v w s ∙ (written-over 0 xs [] (contents_at v f) refl (fills-size xs v w some s ∙ sym long))
+  filled xs v w long some s =
+      fills-contents 0 xs v w s ∙ (written-over 0 xs [] (contents_at v f) refl (fills-size xs v w some s ∙ sym long))
 
 -- each word was stored
 stored-at : (f i : ℕ) (xs : List ℕ) (k : ℕ) → k < length xs → HasWritten (stores-did f i xs) (places.Content f (i + k)) (slice_index xs k)
 stored-at f i [] k l = absurd (omega (arith, l))
 stored-at f i (x ∷ xs) zero l =
     let here : i ≡ i + 0 = omega arith in
-    record { earlier = []; step = did_store (places.Content f i) x; later = stores-did f (i + 1) xs; cut = refl; place = ap (λ (n : ℕ). places.Content f n) here; wrote = refl }
+    record {
+      earlier = [];
+      step = did_store (places.Content f i) x;
+      later = stores-did f (i + 1) xs;
+      cut = refl;
+      place = ap (λ (n : ℕ). places.Content f n) here;
+      wrote = refl;
+    }
 stored-at f i (x ∷ xs) (suc k) l =
     let moved : i + 1 + k ≡ i + suc k = omega arith in
     subst (λ (n : ℕ). HasWritten (stores-did f i (x ∷ xs)) (places.Content f n) (slice_index xs k)) moved
-    (written-behind (did_store (places.Content f i) x ∷ []) (stores-did f (i + 1) xs) (places.Content f (i + 1 + k)) (slice_index xs k) (stored-at f (i + 1) xs k (omega (arith, l))))
+    (written-behind (did_store (places.Content f i) x ∷ []) (stores-did f (i + 1) xs) (places.Content f (i + 1 + k))
+    (slice_index xs k) (stored-at f (i + 1) xs k (omega (arith, l))))
 
 pub all-stored : (f : ℕ) (xs : List ℕ) (k : ℕ) → k < length xs → HasWritten (stores-did f 0 xs) (places.Content f k) (slice_index xs k)
 all-stored f xs k l =

@@ -1,8 +1,11 @@
 -- A pass is fit to step again after a step: what the step brings says so.
-use Rattle.vm_step.proofs.Prelude.{ap, arith, Bool, BringsWith, Did, Entry, false, if◌then◌else◌, IsFit, length, List, Option, Release, Stored, subst, sym, true, View, ℕ, ◌<◌, ◌∙◌, ◌≡◌}
+use Rattle.vm_step.proofs.Prelude.{ap, arith, Bool, BringsWith, Did, Entry, false, if◌then◌else◌, IsFit, length, List}
+use Rattle.vm_step.proofs.Prelude.{Option, Release, Stored, subst, sym, true, View, ℕ, ◌<◌, ◌∙◌, ◌≡◌}
 
 module _ {X : Type 0} where
-  pub fit : {did : Did} → {block : Option (ℕ × Stored)} → {own : List Release} → {entries : List (Entry X)} → {v inner w : View X} → BringsWith did block own entries v inner w → inner.live ≡ true → 0 < length inner.used → IsFit w
+  pub fit : {did : Did} → {block : Option (ℕ × Stored)} → {own : List Release} → {entries : List (Entry X)}
+      → {v inner w : View X} → BringsWith did block own entries v inner w → inner.live ≡ true → 0 < length inner.used
+      → IsFit w
   fit b live number = record {
     live = ap (λ (y : View X). y.live) b.view ∙ live;
     learned = (ap (λ (y : View X). y.told_releases) b.view, ap (λ (y : View X). y.told) b.view);

@@ -1,10 +1,11 @@
 -- Lists of pages: those that are chosen, those without some, and the pages after a group's changes.
 use Rattle.vm_rule.proofs.Bundled.{has-without_all as without_all-has}
 use Rattle.vm_step.proofs.Logical.{page-listed}
-use Rattle.vm_step.proofs.Prelude.{[], Agrees, ap, arith, Bool, Change, changed, changed_pages, chosen, Each, each-upd, false, has, has-both, if◌then◌else◌}
-use Rattle.vm_step.proofs.Prelude.{length-listed, List, listed, listed-same, listed-upd, nat_tests, ne_eqb, refl, suc, sym, true, upd, without_all, zero, ℕ}
-use Rattle.vm_step.proofs.Prelude.{◌++◌, ◌<◌, ◌∙◌, ◌∷◌, ◌≡◌, ◌≤◌}
-pub use Rattle.vm_owner.proofs.NumberLemmas.{has-end, apart-end}
+use Rattle.vm_step.proofs.Prelude.{[], Agrees, ap, arith, Bool, Change, changed, changed_pages, chosen, Each}
+use Rattle.vm_step.proofs.Prelude.{each-upd, false, has, has-both, if◌then◌else◌, length-listed, List, listed}
+use Rattle.vm_step.proofs.Prelude.{listed-same, listed-upd, nat_tests, ne_eqb, refl, suc, sym, true, upd, without_all}
+use Rattle.vm_step.proofs.Prelude.{zero, ℕ, ◌++◌, ◌<◌, ◌∙◌, ◌∷◌, ◌≡◌, ◌≤◌}
+pub use Rattle.vm_owner.proofs.NumberLemmas.{apart-end}
 
 -- ---- lists of numbers
 
@@ -23,7 +24,8 @@ chosen-below (suc n) f q l = has-both q (chosen n f) (if f n then n ∷ [] else 
 pub chosen-has : (n : ℕ) (f : ℕ → Bool) (q : ℕ) → q < n → has q (chosen n f) ≡ f q
 unfolding chosen
 chosen-has zero f q l = absurd (omega arith)
-chosen-has (suc n) f q l = has-both q (chosen n f) (if f n then n ∷ [] else []) ∙ grind (arith, nat_tests, chosen-below n f q, chosen-has n f q)
+chosen-has (suc n) f q l = has-both q (chosen n f) (if f n then n ∷ [] else [])
+    ∙ grind (arith, nat_tests, chosen-below n f q, chosen-has n f q)
 
 pub chosen-same : (n : ℕ) (f g : ℕ → Bool) → ((q : ℕ) → q < n → f q ≡ g q) → chosen n f ≡ chosen n g
 unfolding chosen
@@ -49,9 +51,11 @@ listed-agrees n f [] e = tt
 listed-agrees n f (c ∷ cs) e = (rw (length-listed n f) e.0.0, page-listed n f c.page e.0.0 ∙ e.0.1, listed-agrees n f cs e.1)
 
 -- the pages after the changes have the new words of each that changes, and the others as before
-pub changed-listed : (n : ℕ) (f g : ℕ → List ℕ) (cs : List Change) → Each (λ c. (c.page < n) × (g c.page ≡ c.new)) cs → ((q : ℕ) → q < n → has q (changed_pages cs) ≡ false → g q ≡ f q) → changed cs (listed n f) ≡ listed n g
+pub changed-listed : (n : ℕ) (f g : ℕ → List ℕ) (cs : List Change) → Each (λ c. (c.page < n) × (g c.page ≡ c.new)) cs
+    → ((q : ℕ) → q < n → has q (changed_pages cs) ≡ false → g q ≡ f q) → changed cs (listed n f) ≡ listed n g
 changed-listed n f g [] new old = listed-same n f g (λ q l. sym (old q l refl))
 changed-listed n f g (c ∷ cs) new old =
     ap (changed cs) (sym (listed-upd n f c.page c.new new.0.0))
     ∙ changed-listed n (upd f c.page c.new) g cs new.1
-    (each-upd (λ q words. q < n → has q (changed_pages cs) ≡ false → g q ≡ words) f c.page c.new (λ _ _. new.0.1) (λ q ne l none. old q l (rw (ne_eqb q c.page ne) none)))
+    (each-upd (λ q words. q < n → has q (changed_pages cs) ≡ false → g q ≡ words) f c.page c.new (λ _ _. new.0.1)
+    (λ q ne l none. old q l (rw (ne_eqb q c.page ne) none)))

@@ -1,3 +1,4 @@
+pub mod Going
 pub mod Prelude
 pub mod Logical
 pub mod Here

@@ -1,6 +1,7 @@
 -- The pages from a number on, and a claim of them.
-use Rattle.vm_step.proofs.Prelude.{[], arith, cases_lt, claimed, false≢true, get_or-eq_default, get_or-replicate, has, Kept, length-replicate, nat_tests}
-use Rattle.vm_step.proofs.Prelude.{numbers, replicate, slice_index, suc, true, zero, ℕ, ⊎_elim, ◌++◌, ◌+◌, ◌<◌, ◌∙◌, ◌∷◌, ◌≡◌, ◌≤◌}
+use Rattle.vm_step.proofs.Prelude.{[], arith, cases_lt, claimed, false≢true, get_or-eq_default, get_or-replicate, has}
+use Rattle.vm_step.proofs.Prelude.{Kept, length-replicate, nat_tests, numbers, replicate, slice_index, suc, true}
+use Rattle.vm_step.proofs.Prelude.{zero, ℕ, ⊎_elim, ◌++◌, ◌+◌, ◌<◌, ◌∙◌, ◌∷◌, ◌≡◌, ◌≤◌}
 
 -- the list has the numbers from x on, n of them
 pub has-numbers : (n x p : ℕ) → has p (numbers x n) ≡ true → (x ≤ p) × (p < x + n)
@@ -15,7 +16,9 @@ numbers-has (suc n) x p low high = grind (arith, nat_tests, numbers-has n (suc x
 
 -- a page of zeros has only zeros
 pub all-zeros : (n i : ℕ) → slice_index (replicate n 0) i ≡ 0
-all-zeros n i = ⊎_elim (λ lt. get_or-replicate n i 0 0 lt) (λ le. get_or-eq_default (replicate n 0) 0 (let long = length-replicate {A = ℕ} n 0 in omega (arith, long, le))) (cases_lt i n)
+all-zeros n i = ⊎_elim (λ lt. get_or-replicate n i 0 0 lt)
+    (λ le. get_or-eq_default (replicate n 0) 0 (let long = length-replicate {A = ℕ} n 0 in omega (arith, long, le)))
+    (cases_lt i n)
 
 module _ {S : Type 0} where
   -- a claim changes the next page and the pages owed
@@ -23,4 +26,7 @@ module _ {S : Type 0} where
   claimed-is zero kept = (let same : kept.next ≡ kept.next + 0 = omega arith in λ i. record kept { next = same i })
   claimed-is (suc n) kept =
       claimed-is n (record kept { next = kept.next + 1; owed = kept.owed ++ kept.next ∷ [] })
-      ∙ (let same : kept.next + 1 + n ≡ kept.next + suc n = omega arith in λ i. record kept { next = same i; owed = (claimed (suc n) kept).owed })
+      ∙ (let same : kept.next + 1 + n ≡ kept.next + suc n = omega arith in λ i. record kept {
+        next = same i;
+        owed = (claimed (suc n) kept).owed;
+      })

@@ -1,15 +1,26 @@
 -- Steps after which a pass has what it had.
-use Rattle.vm_rule.specs.declared.view.Place.TheVariants as places
-use Rattle.vm_step.proofs.Prelude.{[], ap, append-none, Bool, CaughtUp, Did, did_load, Entry, HasStill, hearer, HoldsNoPage, IsLocking, last_in, last_of, List}
-use Rattle.vm_step.proofs.Prelude.{refl, Release, rules, seat_of, Snapshot, StartsWith, subst, sym, TakesOver, true, View, ℕ, ◌++◌, ◌∙◌, ◌∷◌, ◌≡◌}
+use Rattle.vm_rule.specs.declared.view.WordPlace.TheVariants as places
+use Rattle.vm_step.proofs.Prelude.{[], ap, append-none, Bool, CaughtUp, Did, did_load, Entry, HasStill, hearer}
+use Rattle.vm_step.proofs.Prelude.{HoldsNoPage, IsLocking, last_in, last_of, List, refl, Release, rules, seat_of}
+use Rattle.vm_step.proofs.Prelude.{Snapshot, StartsWith, subst, sym, TakesOver, true, View, ℕ, ◌++◌, ◌∙◌, ◌∷◌, ◌≡◌}
 
 module _ {X : Type 0} where
   -- the pass with other lists, another snapshot and more steps
   abbrev relisted : View X → List Release → List (Entry X) → Bool → Snapshot → Did → View X
   relisted v releases seen current snapshot did =
-      record v { releases = releases; seen = seen; told_releases = []; told = []; told_used = []; current = current; snapshot = snapshot; log = v.log ++ did ∷ [] }
+      record v {
+        releases = releases;
+        seen = seen;
+        told_releases = [];
+        told = [];
+        told_used = [];
+        current = current;
+        snapshot = snapshot;
+        log = v.log ++ did ∷ [];
+      }
 
-  still-with : (v x : View X) (releases : List Release) (seen : List (Entry X)) (current : Bool) (snapshot : Snapshot) (did : Did) → x ≡ relisted v releases seen current snapshot did
+  still-with : (v x : View X) (releases : List Release) (seen : List (Entry X)) (current : Bool) (snapshot : Snapshot)
+      (did : Did) → x ≡ relisted v releases seen current snapshot did
       → ((p : ℕ) → IsLocking (seat_of v p) → last_in v.start releases p ≡ last_of v p) → HasStill v x
   still-with v x releases seen current snapshot did is kept =
       let log : StartsWith (v.log ++ did ∷ []) v.log = (did ∷ [], refl) in

@@ -1,4 +1,5 @@
--- What a call leaves of a view that says nothing and gives up every lock that it took: the locks of all pages are those that the pass had, and
+-- What a call leaves of a view that says nothing and gives up every lock that it took: the locks of all pages are
+-- those that the pass had, and
 -- at most the open read of one page is another. Frames and notes the call's own clauses tell.
 use Rattle.std.specs.Prelude.{◌++◌, ◌≡◌, List, true, ℕ}
 use Rattle.vm_rule.specs.Prelude.{draft_of, held_at, IsLocking, IsWhole, last_of, loads_at, seat_of, StartsWith}
@@ -27,7 +28,8 @@ module _ {X : Type 0} where
     pub current : v.current ≡ true → w.current ≡ true
     pub words : IsWhole v → v.current ≡ true → (q : ℕ) → (last_of w q).words ≡ (last_of v q).words
 
-  -- The pass has the page numbers that it had, those held and those still to be given. It is said where the blocks tell their words: else a page that is given
+  -- The pass has the page numbers that it had, those held and those still to be given. It is said where the blocks
+  -- tell their words: else a page that is given
   -- up takes its number along, whatever its words.
   abbrev pub KeepsNumbers : View X → View X → Type 0
   KeepsNumbers v w = v.start.tells ≡ true → (w.numbers ≡ v.numbers) × (w.freed ≡ v.freed)

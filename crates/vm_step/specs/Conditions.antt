@@ -1,4 +1,5 @@
--- What a pass must know before a step of several kinds: conditions over its own view alone. Those of one kind stand with the kind, in specs/steps.
+-- What a pass must know before a step of several kinds: conditions over its own view alone. Those of one kind stand
+-- with the kind, in specs/steps.
 use Rattle.std.specs.Prelude.{◌≡◌, ◌≢◌, Some, ℕ}
 use Rattle.vm_rule.specs.{declared.view.Out.Out, declared.view.View.View, Prelude.no_held, Prelude.put_at}
 

@@ -1,19 +1,21 @@
--- How often the device of a page was called, by the steps of a call: it is called only while the page's block is out of its slot, and once at most
--- each time (`DeviceDid`); each move of the block is two loads of the page's fault word, which nothing else loads. And how often a page was released: by
+-- How often the device of a page was called, by the steps of a call: it is called only while the page's block is out
+-- of its slot, and once at most
+-- each time (`DeviceDid`); each move of the block is two loads of the page's fault word, which nothing else loads.
+-- And how often a page was released: by
 -- the stores of its state word.
 use Rattle.std.specs.Prelude.{[], List, None, ℕ, ◌++◌, ◌∷◌, ◌≡◌, ◌⊎◌}
-use Rattle.vm_rule.specs.{declared.view.Did.Did, declared.view.Place.Place, Prelude.did_load, Prelude.Each}
-use Rattle.vm_rule.specs.declared.view.Place.TheVariants as places
+use Rattle.vm_rule.specs.{declared.view.Did.Did, declared.view.WordPlace.WordPlace, Prelude.did_load, Prelude.Each}
+use Rattle.vm_rule.specs.declared.view.WordPlace.TheVariants as places
 
 -- a place of page p: its state word, its translation word or its fault word
-abbrev pub IsOfPage : ℕ → Place → Type 0
+abbrev pub IsOfPage : ℕ → WordPlace → Type 0
 IsOfPage p (places.State q) = q ≡ p
 IsOfPage p (places.Translation q) = q ≡ p
 IsOfPage p (places.Fault q) = q ≡ p
 IsOfPage p _ = ⊥
 
 -- no step found a word there
-abbrev pub FindsNone : Place → List Did → Type 0
+abbrev pub FindsNone : WordPlace → List Did → Type 0
 FindsNone at done = Each (λ d. d.at ≡ at → d.found ≡ None) done
 
 -- no step stored the state word of page p: none released it, so its version stands

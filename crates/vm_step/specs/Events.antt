@@ -2,7 +2,7 @@
 use Rattle.std.specs.Prelude.{◌==◌, ◌≡◌, Bool, if◌then◌else◌, List, Option, slice_index, slice_set, true, ℕ}
 use Rattle.vm_core.specs.{declared.event.Seen.Seen, Prelude.after_event, Prelude.get_elem?, Prelude.Legal, Prelude.seen, Prelude.some}
 use Rattle.vm_core.specs.declared.event.Seen.TheVariants as sights
-use Rattle.vm_rule.specs.{declared.view.Origin.Origin, declared.view.Place.Place, declared.view.View.View}
+use Rattle.vm_rule.specs.{declared.view.Origin.Origin, declared.view.View.View, declared.view.WordPlace.WordPlace}
 use Rattle.vm_rule.specs.Prelude.{core_shown, Event, index_of, Kept, Ruled, Start, Stored, Table, Within}
 
 -- an exchange at a word: it leaves the new number where it found the one expected, and sees whether it did
@@ -14,7 +14,7 @@ exchange_sees expects found = if found == expects then sights.Taken else sights.
 
 module _ {X B : Type 0} where
   -- the step is on this word of the table, and finds this number there
-  abbrev pub FindsAt : Origin → Table (Option B) (View X) → Place → ℕ → Type 0
+  abbrev pub FindsAt : Origin → Table (Option B) (View X) → WordPlace → ℕ → Type 0
   FindsAt start s place found = Within start place × (found ≡ slice_index s.words (index_of start place))
 
   -- the table after a step of pass id, which left these words and this view

@@ -1,13 +1,14 @@
 -- What a step tells of the layer above: at the step it keeps its relation, and its history is the one that the pass has seen then.
 use Rattle.std.specs.Prelude.{◌<◌, ◌≡◌, ◌≤◌, false, length, replicate, true, ℕ}
 use Rattle.vm_core.specs.Prelude.{page_at}
-use Rattle.vm_rule.specs.{declared.view.View.View, Prelude.began_of, Prelude.draft_of, Prelude.has, Prelude.IsLocking, Prelude.Kept, Prelude.last_of}
-use Rattle.vm_rule.specs.{Prelude.seat_of, Prelude.Start}
-use Rattle.vm_rule.specs.declared.view.Place.TheVariants as places
+use Rattle.vm_rule.specs.{declared.view.View.View, Prelude.began_of, Prelude.draft_of, Prelude.has, Prelude.IsLocking}
+use Rattle.vm_rule.specs.{Prelude.Kept, Prelude.last_of, Prelude.seat_of, Prelude.Start}
+use Rattle.vm_rule.specs.declared.view.WordPlace.TheVariants as places
 use Rattle.vm_step.specs.Alone.{IsAlone, known_word_at}
 
 module _ {X : Type 0} where
-  -- What the layer above keeps after a step of the pass: its history is all that the pass has seen now; it has page p with the last words, where
+  -- What the layer above keeps after a step of the pass: its history is all that the pass has seen now; it has page p
+  -- with the last words, where
   -- the page is free, and each member still to be released of a group of the pass with its draft.
   pub record IsKeptNow (keeps : Start → Kept X → Type 0) (p : ℕ) (free : Type 0) (w : View X) : Type 0 where
     pub kept : Kept X

@@ -1,4 +1,5 @@
--- A pass that is split, one that takes in another, and one that is told by another: no event of the core. What the table shows changes in its
+-- A pass that is split, one that takes in another, and one that is told by another: no event of the core. What the
+-- table shows changes in its
 -- actors alone.
 use Rattle.std.specs.Prelude.{[], ◌++◌, ◌+◌, ◌||◌, ◌∷◌, ◌≡◌, Bool, false, length, List, Option, slice_set, ℕ}
 use Rattle.vm_core.specs.Prelude.{no_seat, upd, World}
@@ -37,14 +38,18 @@ module _ {X B : Type 0} where
   table_split s id part v = record { words = s.words; homes = s.homes; views = slice_set s.views id (giver part v) ++ newcomer part v ∷ [] }
 
   abbrev pub table_joined : Table (Option B) (View X) → ℕ → ℕ → View X → View X → Table (Option B) (View X)
-  table_joined s id other v w = record { words = s.words; homes = s.homes; views = slice_set (slice_set s.views id (joined v w)) other spent }
+  table_joined s id other v w =
+      record { words = s.words; homes = s.homes; views = slice_set (slice_set s.views id (joined v w)) other spent }
 
   abbrev pub table_heard : Table (Option B) (View X) → ℕ → ℕ → View X → View X → Table (Option B) (View X)
-  table_heard s id other v w = record { words = s.words; homes = s.homes; views = slice_set (slice_set s.views id (hearer v w)) other spent }
+  table_heard s id other v w =
+      record { words = s.words; homes = s.homes; views = slice_set (slice_set s.views id (hearer v w)) other spent }
 
-  module _ (stored : B → Stored) (keeps : Start → Kept X → Type 0) (tied : Start → ℕ → List ℕ → ℕ → List ℕ → Type 0) (start : Origin) (tells : Bool) where
+  module _ (stored : B → Stored) (keeps : Start → Kept X → Type 0) (tied : Start → ℕ → List ℕ → ℕ → List ℕ → Type 0)
+      (start : Origin) (tells : Bool) where
     -- the later table meets the rule with the releases, the history and the drafts of the earlier one
-    pub record GoesOn (before : Table (Option B) (View X)) (r : Ruled stored keeps tied start tells before) (later : Table (Option B) (View X)) : Type 0 where
+    pub record KeepsRule (before : Table (Option B) (View X)) (r : Ruled stored keeps tied start tells before)
+        (later : Table (Option B) (View X)) : Type 0 where
       pub rule : Ruled stored keeps tied start tells later
       pub releases : rule.releases ≡ r.releases
       pub history : rule.history ≡ r.history
@@ -57,12 +62,12 @@ module _ {X B : Type 0} where
     -- there is one actor more, the last one, which has nothing; all else is as before
     pub record IsSplitOff (before : Table (Option B) (View X)) (r : Ruled stored keeps tied start tells before)
         (later : Table (Option B) (View X)) : Type 0 where
-      pub goes : GoesOn before r later
+      pub goes : KeepsRule before r later
       pub core : shown before r later ≡ with_actor (shown before r before)
       pub new : HasNone (shown before r later) (length before.views)
 
     -- the frames and the page numbers of the actor `other` are the actor id's, and its reads are closed; all else is as before
     pub record IsTakenIn (before : Table (Option B) (View X)) (r : Ruled stored keeps tied start tells before) (id other : ℕ)
         (later : Table (Option B) (View X)) : Type 0 where
-      pub goes : GoesOn before r later
+      pub goes : KeepsRule before r later
       pub core : shown before r later ≡ taken_in id other (shown before r before)

@@ -3,7 +3,8 @@ use Rattle.std.specs.Prelude.{◌≡◌, ℕ}
 use Rattle.vm_rule.specs.{declared.view.View.View, Prelude.IsLocking, Prelude.last_of, Prelude.seat_of, Prelude.StartsWith}
 
 module _ {X : Type 0} where
-  -- It has its numbers, entries, notes, frames, page numbers, locks, open reads and its group; its steps go on. Each page that it has locked has the last
+  -- It has its numbers, entries, notes, frames, page numbers, locks, open reads and its group; its steps go on. Each
+  -- page that it has locked has the last
   -- version that it had.
   pub record HasStill (v x : View X) : Type 0 where
     pub live : x.live ≡ v.live

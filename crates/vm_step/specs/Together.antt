@@ -1,6 +1,7 @@
 -- What a pass has after others were split off it, or after it took in others.
 use Rattle.std.specs.Prelude.{[], ◌++◌, ◌+◌, ◌||◌, ◌∷◌, ◌≡◌, length, List, true, ℕ}
-use Rattle.vm_rule.specs.Prelude.{any, AreApart, CaughtUp, Each, entries_by, has, Hears, HoldsNoPage, JoinTold, owns, StartsWith, total, view_from}
+use Rattle.vm_rule.specs.Prelude.{any, AreApart, CaughtUp, Each, entries_by, has, Hears, HoldsNoPage, JoinTold, owns}
+use Rattle.vm_rule.specs.Prelude.{StartsWith, total, view_from}
 use Rattle.vm_rule.specs.{declared.view.Note.Note, declared.view.View.View}
 
 -- the list has the other in it, in one piece
@@ -34,7 +35,8 @@ module _ {X : Type 0} where
     pub joins : JoinTold v middle x
 
   -- The pass with the view v took in those with the views `others`, and has the view x then: its numbers and notes are its own and then
-  -- theirs, and so are its page numbers and its frames; the history that it knows goes on from what each of them had seen, and has no further entry of any of them.
+  -- theirs, and so are its page numbers and its frames; the history that it knows goes on from what each of them had
+  -- seen, and has no further entry of any of them.
   pub record HasJoined (v : View X) (others : List (View X)) (x : View X) : Type 0 where
     pub start : x.start ≡ v.start
     pub used : x.used ≡ v.used ++ all_used others
@@ -60,7 +62,8 @@ module _ {X : Type 0} where
     pub number : length w.used ≡ 1
     pub new : w ≡ record (view_from true x.start w.used []) { releases = x.releases; seen = x.seen }
 
-  -- The pass with the view v was brought up to date, and these passes were split off it, each with the next of its fresh parts as its number;
+  -- The pass with the view v was brought up to date, and these passes were split off it, each with the next of its
+  -- fresh parts as its number;
   -- it has the view x then. All else of it is as the load left it.
   pub record PassesSplit (v : View X) (others : List (View X)) (x : View X) : Type 0 where
     pub middle : View X

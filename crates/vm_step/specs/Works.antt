@@ -1,4 +1,5 @@
--- What the steps of a call that speaks of one page leave of a view, whatever they do to that page; and what steps leave of a page that they work
+-- What the steps of a call that speaks of one page leave of a view, whatever they do to that page; and what steps
+-- leave of a page that they work
 -- on while the pass has it locked.
 use Rattle.std.specs.Prelude.{[], ◌++◌, ◌≡◌, ◌≢◌, List, ℕ}
 use Rattle.vm_rule.specs.Prelude.{draft_of, held_at, IsLocking, last_of, loads_at, seat_of, StartsWith}

@@ -1,7 +1,7 @@
 // Where a word stands among the words of a table: those of the pages, the frames and the bundles, the next word, the hand's word, the owner words,
 // and the free-number words.
 ghost use Rattle.std.specs.Prelude.{◌*◌, ◌+◌, ◌<◌, ◌≡◌, ◌≤◌};
-ghost use Rattle.vm_rule.specs.declared.view.Place.TheVariants as places;
+ghost use Rattle.vm_rule.specs.declared.view.WordPlace.TheVariants as places;
 ghost use Rattle.vm_step.specs.Prelude.{IsFrameAt, IsPlacedAt};
 
 use vm_block::Block;

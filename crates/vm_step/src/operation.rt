@@ -14,7 +14,7 @@ use vm_rule::view::View;
 use vm_rule::words::{Pass, Words};
 
 /// What a step tells the call that makes it. A call of an operation picks it, for its proof alone.
-pub(crate) trait Told<X> {
+pub(crate) trait StepTold<X> {
     ghost use Rattle.std.specs.Prelude.{ℕ};
     ghost use Rattle.vm_step.specs.Prelude.{View};
 
@@ -22,23 +22,23 @@ pub(crate) trait Told<X> {
     ghost told: { ℕ → View X → View X → Type 0 };
 }
 
-impl<X> Told<X> for Brand {
+impl<X> StepTold<X> for Brand {
     ghost told = { λ n v w. Unit {0} };
 }
 
 /// The same, as the table has it: the pass has no slot out, and is fit to step again.
-pub(crate) struct Tells<M> {
+pub(crate) struct StepPlay<M> {
     marker: PhantomData<M>,
 }
 
-impl<S, X, M: Told<X>> Play<S, View<X>> for Tells<M> {
+impl<S, X, M: StepTold<X>> Play<S, View<X>> for StepPlay<M> {
     ghost use Rattle.vm_step.specs.Operations.{step_play};
 
     ghost then = { step_play M.told };
 }
 
 /// Loads the word at this place. What the step is about is for the proof alone.
-pub(crate) fn load<U: Owner, B: Block, A: Copy, M: Told<U::Said>>(
+pub(crate) fn load<U: Owner, B: Block, A: Copy, M: StepTold<U::Said>>(
     words: &Words<U, B>,
     pass: &mut Pass<U>,
     at: usize,
@@ -53,13 +53,13 @@ pub(crate) fn load<U: Owner, B: Block, A: Copy, M: Told<U::Said>>(
     ensures told { M.told result (view pass.old) (view pass.new) }
 {
     let mut seat = lift::<View<U::Said>, Option<B>>(&mut pass.badge);
-    let found = words.table.shared.load::<Tells<M>>(&mut seat, at);
+    let found = words.table.shared.load::<StepPlay<M>>(&mut seat, at);
     pass.badge = seat.into_badge();
     found
 }
 
 /// Stores a number there. What the step is about is for the proof alone.
-pub(crate) fn store<U: Owner, B: Block, A: Copy, M: Told<U::Said>>(
+pub(crate) fn store<U: Owner, B: Block, A: Copy, M: StepTold<U::Said>>(
     words: &Words<U, B>,
     pass: &mut Pass<U>,
     at: usize,
@@ -75,12 +75,12 @@ pub(crate) fn store<U: Owner, B: Block, A: Copy, M: Told<U::Said>>(
     ensures told { M.told new (view pass.old) (view pass.new) }
 {
     let mut seat = lift::<View<U::Said>, Option<B>>(&mut pass.badge);
-    words.table.shared.store::<Tells<M>>(&mut seat, at, new);
+    words.table.shared.store::<StepPlay<M>>(&mut seat, at, new);
     pass.badge = seat.into_badge();
 }
 
 /// Puts the new number there, where the word is the one expected, and answers the word before. What the step is about is for the proof alone.
-pub(crate) fn compare_exchange<U: Owner, B: Block, A: Copy, M: Told<U::Said>>(
+pub(crate) fn compare_exchange<U: Owner, B: Block, A: Copy, M: StepTold<U::Said>>(
     words: &Words<U, B>,
     pass: &mut Pass<U>,
     at: usize,
@@ -100,13 +100,13 @@ pub(crate) fn compare_exchange<U: Owner, B: Block, A: Copy, M: Told<U::Said>>(
     let found = words
         .table
         .shared
-        .compare_exchange::<Tells<M>>(&mut seat, at, expects, new);
+        .compare_exchange::<StepPlay<M>>(&mut seat, at, expects, new);
     pass.badge = seat.into_badge();
     found
 }
 
 /// Adds to the word, and answers it as it was. What the step is about is for the proof alone.
-pub(crate) fn fetch_add<U: Owner, B: Block, A: Copy, M: Told<U::Said>>(
+pub(crate) fn fetch_add<U: Owner, B: Block, A: Copy, M: StepTold<U::Said>>(
     words: &Words<U, B>,
     pass: &mut Pass<U>,
     at: usize,
@@ -122,13 +122,16 @@ pub(crate) fn fetch_add<U: Owner, B: Block, A: Copy, M: Told<U::Said>>(
     ensures told { M.told result (view pass.old) (view pass.new) }
 {
     let mut seat = lift::<View<U::Said>, Option<B>>(&mut pass.badge);
-    let found = words.table.shared.fetch_add::<Tells<M>>(&mut seat, at, k);
+    let found = words
+        .table
+        .shared
+        .fetch_add::<StepPlay<M>>(&mut seat, at, k);
     pass.badge = seat.into_badge();
     found
 }
 
 /// Subtracts from the word, and answers it as it was. What the step is about is for the proof alone.
-pub(crate) fn fetch_sub<U: Owner, B: Block, A: Copy, M: Told<U::Said>>(
+pub(crate) fn fetch_sub<U: Owner, B: Block, A: Copy, M: StepTold<U::Said>>(
     words: &Words<U, B>,
     pass: &mut Pass<U>,
     at: usize,
@@ -144,13 +147,16 @@ pub(crate) fn fetch_sub<U: Owner, B: Block, A: Copy, M: Told<U::Said>>(
     ensures told { M.told result (view pass.old) (view pass.new) }
 {
     let mut seat = lift::<View<U::Said>, Option<B>>(&mut pass.badge);
-    let found = words.table.shared.fetch_sub::<Tells<M>>(&mut seat, at, k);
+    let found = words
+        .table
+        .shared
+        .fetch_sub::<StepPlay<M>>(&mut seat, at, k);
     pass.badge = seat.into_badge();
     found
 }
 
 /// Sets bits of the word, and answers it as it was. What the step is about is for the proof alone.
-pub(crate) fn fetch_or<U: Owner, B: Block, A: Copy, M: Told<U::Said>>(
+pub(crate) fn fetch_or<U: Owner, B: Block, A: Copy, M: StepTold<U::Said>>(
     words: &Words<U, B>,
     pass: &mut Pass<U>,
     at: usize,
@@ -166,13 +172,13 @@ pub(crate) fn fetch_or<U: Owner, B: Block, A: Copy, M: Told<U::Said>>(
     ensures told { M.told result (view pass.old) (view pass.new) }
 {
     let mut seat = lift::<View<U::Said>, Option<B>>(&mut pass.badge);
-    let found = words.table.shared.fetch_or::<Tells<M>>(&mut seat, at, k);
+    let found = words.table.shared.fetch_or::<StepPlay<M>>(&mut seat, at, k);
     pass.badge = seat.into_badge();
     found
 }
 
 /// Another pass is taken in, which goes; then the word at this place is loaded.
-pub(crate) fn take_in<U: Owner, B: Block, J: Join<View<U::Said>>, M: Told<U::Said>>(
+pub(crate) fn take_in<U: Owner, B: Block, J: Join<View<U::Said>>, M: StepTold<U::Said>>(
     words: &Words<U, B>,
     pass: &mut Pass<U>,
     other: Pass<U>,
@@ -192,7 +198,7 @@ pub(crate) fn take_in<U: Owner, B: Block, J: Join<View<U::Said>>, M: Told<U::Sai
     let mut seat = lift::<View<U::Said>, Option<B>>(&mut pass.badge);
     let gone = other.into_badge().into_seat::<Option<B>>();
     words.table.shared.join_seat::<J>(&mut seat, gone);
-    let found = words.table.shared.load::<Tells<M>>(&mut seat, at);
+    let found = words.table.shared.load::<StepPlay<M>>(&mut seat, at);
     pass.badge = seat.into_badge();
     found
 }

@@ -2,7 +2,7 @@
 ghost use Rattle.std.specs.List.{AllByRecursion};
 ghost use Rattle.std.specs.Prelude.{◌≡◌, ◌≤◌, IfOk, length, None};
 ghost use Rattle.vm_map.specs.History.{IsAskable};
-ghost use Rattle.vm_step.specs.Prelude.{AreHeld, IsReady, view};
+ghost use Rattle.vm_step.specs.Prelude.{AreHeld, IsReadyOn, view};
 ghost use Rattle.vm_drive.specs.Drives.{AreAskable, AreFew, items_of};
 
 use std::alloc::{AllocError, Global};
@@ -75,10 +75,10 @@ fn got<R: Wait, B: PageBlock<WORDS>>(
     key: u64,
 ) -> Result<Reply, TreeFault>
     requires pages { 1 ≤ pool.now.words.table.shared.key.pages }
-    requires ready { IsReady pool.now.words.table.shared.key B.tells pool.now.words.table.shared.table_id pass.old }
+    requires ready { IsReadyOn pool.now.words B.tells pass.old }
     requires home { (view pass.old).out ≡ None }
     requires held { AreHeld iface.old.frames (view pass.old) }
-    ensures ready { IsReady pool.now.words.table.shared.key B.tells pool.now.words.table.shared.table_id pass.new }
+    ensures ready { IsReadyOn pool.now.words B.tells pass.new }
     ensures home { (view pass.new).out ≡ None }
     ensures held { AreHeld iface.new.frames (view pass.new) }
 {
@@ -94,10 +94,10 @@ fn got_again<R: Wait, B: PageBlock<WORDS>>(
     key: u64,
 ) -> Result<Reply, TreeFault>
     requires pages { 1 ≤ pool.now.words.table.shared.key.pages }
-    requires ready { IsReady pool.now.words.table.shared.key B.tells pool.now.words.table.shared.table_id pass.old }
+    requires ready { IsReadyOn pool.now.words B.tells pass.old }
     requires home { (view pass.old).out ≡ None }
     requires held { AreHeld iface.old.frames (view pass.old) }
-    ensures ready { IsReady pool.now.words.table.shared.key B.tells pool.now.words.table.shared.table_id pass.new }
+    ensures ready { IsReadyOn pool.now.words B.tells pass.new }
     ensures home { (view pass.new).out ≡ None }
     ensures held { AreHeld iface.new.frames (view pass.new) }
 {
@@ -117,10 +117,10 @@ fn expect_list<R: Abort + Wait, B: PageBlock<WORDS>>(
     answers: &[Short],
 )
     requires pages { 1 ≤ pool.now.words.table.shared.key.pages }
-    requires ready { IsReady pool.now.words.table.shared.key B.tells pool.now.words.table.shared.table_id pass.old }
+    requires ready { IsReadyOn pool.now.words B.tells pass.old }
     requires home { (view pass.old).out ≡ None }
     requires held { AreHeld iface.old.frames (view pass.old) }
-    ensures ready { IsReady pool.now.words.table.shared.key B.tells pool.now.words.table.shared.table_id pass.new }
+    ensures ready { IsReadyOn pool.now.words B.tells pass.new }
     ensures home { (view pass.new).out ≡ None }
     ensures held { AreHeld iface.new.frames (view pass.new) }
 {
@@ -149,7 +149,7 @@ pub(crate) fn expect_lists<R: Abort + Wait, B: PageBlock<WORDS>>(
     replies: &[Replies],
 )
     requires pages { 1 ≤ pool.now.words.table.shared.key.pages }
-    requires ready { IsReady pool.now.words.table.shared.key B.tells pool.now.words.table.shared.table_id pass.old }
+    requires ready { IsReadyOn pool.now.words B.tells pass.old }
     requires home { (view pass.old).out ≡ None }
 {
     assert_eq!(rt; replies.len(), lists.len());

@@ -9,7 +9,7 @@ use std::thread::Threads;
 use vm_core::MAX_VERSION;
 use vm_drive::compact::Short;
 use vm_drive::drive;
-use vm_drive::gate::Open;
+use vm_drive::gate::NoGate;
 use vm_image::PlannedFault;
 use vm_map::call::Call;
 use vm_tree_rule::TreeFault;
@@ -29,7 +29,7 @@ fn one_failure<R: Abort + Threads + Wait + Sync>(
     }];
     let (pool, mut pass) = open(alloc, &image, &plan, 0, 16)?;
     let lists = shares(alloc, 2, 150)?;
-    let driven = drive(rt, alloc, &pool, &mut pass, lists.as_slice(), &Open)?;
+    let driven = drive(rt, alloc, &pool, &mut pass, lists.as_slice(), &NoGate)?;
     let replies = driven.replies.as_slice();
     let few = faults_in(replies) <= 1;
     assert!(rt; few);
@@ -63,7 +63,7 @@ fn a_failed_first_read_is_one_fault(rt: HostRuntime) -> Result<(), Fail> {
     let plan = [PlannedFault { page: 0, number: 1 }];
     let (pool, mut pass) = open(alloc, &image, &plan, 0, 64)?;
     let lists = shares(alloc, 2, 10)?;
-    let driven = drive(&rt, alloc, &pool, &mut pass, lists.as_slice(), &Open)?;
+    let driven = drive(&rt, alloc, &pool, &mut pass, lists.as_slice(), &NoGate)?;
     let replies = driven.replies.as_slice();
     assert_eq!(rt; faults_in(replies), 1);
     expect_fault(&rt, replies, TreeFault::Device { pid: 0, count: 1 });
@@ -79,7 +79,7 @@ fn a_worn_leaf_is_read_by_all(rt: HostRuntime) -> Result<(), Fail> {
     let (pool, mut pass) = open(alloc, &image, &[], MAX_VERSION - 1, 64)?;
     let calls = [Call::Get { key: 5 }, Call::Put { key: 5, value: 7 }];
     let lists = two_lists(alloc, &calls, &calls)?;
-    let driven = drive(&rt, alloc, &pool, &mut pass, lists.as_slice(), &Open)?;
+    let driven = drive(&rt, alloc, &pool, &mut pass, lists.as_slice(), &NoGate)?;
     assert_eq!(rt; driven.replies.len(), 2);
     for answers in driven.replies.as_slice() {
         let [read, written] = answers.short.as_slice() else {
@@ -98,7 +98,7 @@ fn a_full_image_takes_28_pairs(rt: HostRuntime) -> Result<(), Fail> {
     let image = empty(alloc, 0)?;
     let (pool, mut pass) = open(alloc, &image, &[], 0, 64)?;
     let lists = shares(alloc, 2, 20)?;
-    let driven = drive(&rt, alloc, &pool, &mut pass, lists.as_slice(), &Open)?;
+    let driven = drive(&rt, alloc, &pool, &mut pass, lists.as_slice(), &NoGate)?;
     let replies = driven.replies.as_slice();
     assert_eq!(rt; faults_in(replies), 12);
     expect_fault(&rt, replies, TreeFault::Full { pages: 2 });

@@ -1,7 +1,7 @@
 //! A call is made and answered while another worker's device is being read: no lock is round the calls, or round the tree.
 ghost use Rattle.std.specs.Prelude.{◌≡◌, ◌≤◌, false, IfOk, length};
 ghost use Rattle.vm_rule.specs.Prelude.{HoldsNoPage, IsWhole};
-ghost use Rattle.vm_step.specs.Prelude.{IsReady, view};
+ghost use Rattle.vm_step.specs.Prelude.{IsReadyOn, view};
 
 use crate::calls::two_lists;
 use crate::trees::two_leaves;
@@ -149,7 +149,7 @@ fn open_held<'a>(
 ) -> Result<(Pool<Tree, Held<'a>, WORDS>, Pass<Tree>), Fail>
     ensures pages { IfOk result (λ made. 1 ≤ made.0.words.table.shared.key.pages) }
     ensures frames { IfOk result (λ made. made.0.words.frames ≡ 64) }
-    ensures ready { IfOk result (λ made. IsReady made.0.words.table.shared.key false made.0.words.table.shared.table_id made.1) }
+    ensures ready { IfOk result (λ made. IsReadyOn made.0.words false made.1) }
     ensures whole { IfOk result (λ made. IsWhole (view made.1)) }
     ensures holds { IfOk result (λ made. HoldsNoPage (view made.1)) }
     ensures fresh { IfOk result (λ made. 2 ≤ length (view made.1).fresh) }

@@ -5,7 +5,7 @@ use crate::trees::{empty, open, two_leaves};
 use std::test::Fail;
 use vm_drive::compact::Short;
 use vm_drive::drive;
-use vm_drive::gate::Open;
+use vm_drive::gate::NoGate;
 use vm_map::call::{Call, Pair};
 use vm_map::window::Bound;
 
@@ -25,7 +25,7 @@ fn ranges_stand_apart_in_order(rt: HostRuntime) -> Result<(), Fail> {
         bound: Bound::End,
     };
     let lists = two_lists(alloc, &[last, Call::Get { key: 9 }, both], &[both])?;
-    let driven = drive(&rt, alloc, &pool, &mut pass, lists.as_slice(), &Open)?;
+    let driven = drive(&rt, alloc, &pool, &mut pass, lists.as_slice(), &NoGate)?;
     let [first, second] = driven.replies.as_slice() else {
         return Err(Fail::from("two lists of replies"));
     };
@@ -58,7 +58,7 @@ fn a_range_of_an_empty_map_has_no_pair(rt: HostRuntime) -> Result<(), Fail> {
         bound: Bound::End,
     };
     let lists = two_lists(alloc, &[all], &[])?;
-    let driven = drive(&rt, alloc, &pool, &mut pass, lists.as_slice(), &Open)?;
+    let driven = drive(&rt, alloc, &pool, &mut pass, lists.as_slice(), &NoGate)?;
     let [first, _] = driven.replies.as_slice() else {
         return Err(Fail::from("two lists of replies"));
     };

@@ -9,7 +9,7 @@ use std::sync::Wait;
 use std::test::Fail;
 use std::thread::Threads;
 use vm_core::Memory;
-use vm_drive::gate::Open;
+use vm_drive::gate::NoGate;
 use vm_drive::{Driven, drive};
 use vm_exmap::{Alloc, Interface};
 
@@ -27,7 +27,7 @@ fn round<R: Abort + Threads + Wait + Sync>(
     let image = empty(alloc, 126)?;
     let (pool, mut pass) = open(alloc, &image, &[], 0, frames)?;
     let lists = shares(alloc, workers, 300)?;
-    let driven = drive(rt, alloc, &pool, &mut pass, lists.as_slice(), &Open)?;
+    let driven = drive(rt, alloc, &pool, &mut pass, lists.as_slice(), &NoGate)?;
     let Driven { replies, evicted } = driven;
     assert_eq!(rt; faults_in(replies.as_slice()), 0);
     expect_lists(rt, &pool, &mut pass, lists.as_slice(), replies.as_slice());
@@ -65,9 +65,9 @@ fn workers_are_driven_again_after_want_of_memory(rt: HostRuntime) -> Result<(), 
     let image = empty(alloc, 6)?;
     let (pool, mut pass) = open(alloc, &image, &[], 0, 64)?;
     let lists = shares(alloc, 2, 10)?;
-    let driven = match drive(&rt, alloc, &pool, &mut pass, lists.as_slice(), &Open) {
+    let driven = match drive(&rt, alloc, &pool, &mut pass, lists.as_slice(), &NoGate) {
         Ok(driven) => driven,
-        Err(Memory) => drive(&rt, alloc, &pool, &mut pass, lists.as_slice(), &Open)?,
+        Err(Memory) => drive(&rt, alloc, &pool, &mut pass, lists.as_slice(), &NoGate)?,
     };
     let Driven { replies, evicted } = driven;
     assert_eq!(rt; evicted, 0);
@@ -84,7 +84,7 @@ fn a_worker_keeps_no_frame(rt: HostRuntime) -> Result<(), Fail> {
     let image = empty(alloc, 0)?;
     let (pool, mut pass) = open(alloc, &image, &[], 0, 64)?;
     let lists = shares(alloc, 1, 1)?;
-    let driven = drive(&rt, alloc, &pool, &mut pass, lists.as_slice(), &Open)?;
+    let driven = drive(&rt, alloc, &pool, &mut pass, lists.as_slice(), &NoGate)?;
     assert_eq!(rt; faults_in(driven.replies.as_slice()), 0);
     let mut iface = Interface::new(0, 64);
     let Alloc::Batch(free) = iface.alloc(&pool.words, &mut pass, 64) else {

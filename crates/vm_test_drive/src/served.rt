@@ -8,7 +8,7 @@ use std::alloc::Global;
 use std::test::Fail;
 use vm_check::check;
 use vm_drive::compact::Short;
-use vm_drive::gate::Open;
+use vm_drive::gate::NoGate;
 use vm_image::{Image, PlannedFault, image_of};
 use vm_kind::Sizes;
 use vm_map::call::{Call, Pair};
@@ -90,7 +90,7 @@ fn a_tree_is_served(rt: HostRuntime) -> Result<(), Fail> {
         0,
         64,
         lists.as_slice(),
-        &Open,
+        &NoGate,
     )?;
     let after = image_of(alloc, served.blocks.as_slice())?;
     let rows = check(alloc, &after)?;
@@ -128,7 +128,7 @@ fn a_tree_of_large_pages_is_served(rt: HostRuntime) -> Result<(), Fail> {
         0,
         64,
         lists.as_slice(),
-        &Open,
+        &NoGate,
     )?;
     let after = image_of(alloc, served.blocks.as_slice())?;
     let rows = check(alloc, &after)?;
@@ -158,7 +158,7 @@ fn windows_stand_apart_in_order(rt: HostRuntime) -> Result<(), Fail> {
         0,
         64,
         lists.as_slice(),
-        &Open,
+        &NoGate,
     )?;
     let [first, second] = served.replies.as_slice() else {
         return Err(Fail::from("two lists of replies"));
@@ -192,7 +192,7 @@ fn free_pages_between_others_are_used(rt: HostRuntime) -> Result<(), Fail> {
         0,
         64,
         lists.as_slice(),
-        &Open,
+        &NoGate,
     )?;
     let [put, _] = served.replies.as_slice() else {
         return Err(Fail::from("two lists of replies"));
@@ -219,7 +219,7 @@ fn a_failed_write_of_the_last_flush_is_told(rt: HostRuntime) -> Result<(), Fail>
         0,
         64,
         lists.as_slice(),
-        &Open,
+        &NoGate,
     )?;
     assert_eq!(rt; served.report.first, Some(1));
     assert_eq!(rt; served.report.failed, 1);
@@ -252,7 +252,7 @@ fn the_least_page_that_is_not_written_is_told(rt: HostRuntime) -> Result<(), Fai
         0,
         64,
         lists.as_slice(),
-        &Open,
+        &NoGate,
     )?;
     assert_eq!(rt; served.report.first, Some(1));
     assert_eq!(rt; served.report.failed, 2);

@@ -4,7 +4,7 @@ ghost use Rattle.vm_page.specs.Sizes.{IsSize};
 ghost use Rattle.vm_tree_model.specs.{Fixed.fixed, Tree.IsTree};
 ghost use Rattle.vm_core.specs.Prelude.{MAX_VERSION};
 ghost use Rattle.vm_rule.specs.Prelude.{HoldsNoPage, IsWhole};
-ghost use Rattle.vm_step.specs.Prelude.{IsReady, view};
+ghost use Rattle.vm_step.specs.Prelude.{IsReadyOn, view};
 
 use std::alloc::{AllocError, Global};
 use std::test::Fail;
@@ -103,7 +103,7 @@ pub(crate) fn open(
     requires frames { (1 ≤ frames) × (frames ≤ 65536) }
     ensures pages { IfOk result (λ made. 1 ≤ made.0.words.table.shared.key.pages) }
     ensures frames { IfOk result (λ made. made.0.words.frames ≡ frames) }
-    ensures ready { IfOk result (λ made. IsReady made.0.words.table.shared.key ⟦<MemBlock<WORDS> as Block>⟧.tells made.0.words.table.shared.table_id made.1) }
+    ensures ready { IfOk result (λ made. IsReadyOn made.0.words ⟦<MemBlock<WORDS> as Block>⟧.tells made.1) }
     ensures whole { IfOk result (λ made. IsWhole (view made.1)) }
     ensures holds { IfOk result (λ made. HoldsNoPage (view made.1)) }
     ensures fresh { IfOk result (λ made. 64 ≤ length (view made.1).fresh) }

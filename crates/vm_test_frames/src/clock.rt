@@ -1,6 +1,6 @@
 //! Walks over small tables, with ample memory. The values are worked out by hand from the rules, and not taken from a run.
 ghost use Rattle.std.specs.Prelude.{IfOk};
-ghost use Rattle.vm_step.specs.Prelude.{IsReady};
+ghost use Rattle.vm_step.specs.Prelude.{IsReadyOn};
 
 use crate::resident::zero_pages;
 use arrayvec::ArrayVec;
@@ -31,7 +31,7 @@ const NONE: Looks = Looks {
 
 /// A table of one page that is evicted, and its first pass.
 fn evicted_page(alloc: Global) -> Result<(Words<Bare, MemBlock<WORDS>>, Pass<Bare>), Fail>
-    ensures ready { IfOk result (λ made. IsReady made.0.table.shared.key ⟦<MemBlock<WORDS> as Block>⟧.tells made.0.table.shared.table_id made.1) }
+    ensures ready { IfOk result (λ made. IsReadyOn made.0 ⟦<MemBlock<WORDS> as Block>⟧.tells made.1) }
 {
     let mut blocks = Vec::new(alloc);
     blocks.push(MemBlock::new(alloc, PageBuf::zero(), &[])?)?;

@@ -1,7 +1,7 @@
 //! Interfaces over a table whose frames are all free, with ample memory. The values are worked out by hand from the rules, and not taken
 //! from a run.
 ghost use Rattle.std.specs.Prelude.{◌≤◌, IfOk, true};
-ghost use Rattle.vm_step.specs.Prelude.{IsReady};
+ghost use Rattle.vm_step.specs.Prelude.{IsReadyOn};
 
 use std::alloc::Global;
 use std::test::Fail;
@@ -17,7 +17,7 @@ fn free_frames(
     frames: u32,
 ) -> Result<(Words<Bare, MemBlock<WORDS>>, Pass<Bare>), Fail>
     requires { (1 ≤ frames) × (frames ≤ 65536) }
-    ensures { IfOk result (λ made. IsReady made.0.table.shared.key true made.0.table.shared.table_id made.1) }
+    ensures { IfOk result (λ made. IsReadyOn made.0 true made.1) }
 {
     let mut blocks = Vec::new(alloc);
     blocks.push(MemBlock::new(alloc, PageBuf::zero(), &[])?)?;

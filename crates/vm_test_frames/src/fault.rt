@@ -4,7 +4,7 @@ ghost use Rattle.std.specs.Prelude.{◌<◌, ◌≡◌, ◌≤◌, IfOk, None, t
 ghost use Rattle.vm_core.specs.Prelude.{MAX_VERSION};
 ghost use Rattle.vm_page.specs.Sizes.{IsSize};
 ghost use Rattle.vm_rule.specs.Prelude.{has};
-ghost use Rattle.vm_step.specs.Prelude.{IsReady, IsSamePass, MayStep, view};
+ghost use Rattle.vm_step.specs.Prelude.{GoesOn, IsReadyOn, view};
 
 use crate::resident::resident;
 use std::alloc::Global;
@@ -33,7 +33,7 @@ fn one_page<const N: usize>(
     ensures size { IfOk result (λ made. made.0.table.shared.key.size ≡ N) }
     ensures pages { IfOk result (λ made. made.0.table.shared.key.pages ≡ 1) }
     ensures frames { IfOk result (λ made. made.0.table.shared.key.frames ≡ 2) }
-    ensures may { IfOk result (λ made. MayStep made.0.table.shared.table_id made.1) }
+    ensures ready { IfOk result (λ made. IsReadyOn made.0 ⟦<MemBlock<N> as Block>⟧.tells made.1) }
     ensures out { IfOk result (λ made. (view made.1).out ≡ None) }
 {
     let mut page = PageBuf::<N>::zero();
@@ -45,11 +45,10 @@ fn one_page<const N: usize>(
 
 /// Takes both frames.
 fn take_both<B: Block>(rt: &impl Abort, words: &Words<Bare, B>, pass: &mut Pass<Bare>)
-    requires pass { MayStep words.now.table.shared.table_id pass.old }
+    requires ready { IsReadyOn words.now B.tells pass.old }
     requires frames { words.now.table.shared.key.frames ≡ 2 }
     requires out { (view pass.old).out ≡ None }
-    ensures pass { IsSamePass pass.old pass.new }
-    ensures ready { IsReady words.now.table.shared.key B.tells words.now.table.shared.table_id pass.new }
+    ensures goes { GoesOn words.now B.tells pass.old pass.new }
     ensures holds { (has 0 (view pass.new).frames ≡ true) × (has 1 (view pass.new).frames ≡ true) }
     ensures out { (view pass.new).out ≡ None }
 {

@@ -2,7 +2,7 @@
 ghost use Rattle.std.specs.Prelude.{◌<◌, ◌≡◌, false, None};
 ghost use Rattle.vm_page.specs.Sizes.{IsSize};
 ghost use Rattle.vm_rule.specs.Prelude.{seat_of};
-ghost use Rattle.vm_step.specs.Prelude.{IsReady, MayStep, view};
+ghost use Rattle.vm_step.specs.Prelude.{IsReadyOn, view};
 ghost use Rattle.vm_guard.specs.Shares.{KeepsShares};
 
 use crate::resident::{resident, zero_pages};
@@ -43,9 +43,9 @@ fn a_release_ends_an_older_read(rt: HostRuntime) -> Result<(), Fail> {
 
 /// The page has all the shares that it can have.
 fn is_full<B: Block>(rt: &impl Abort, words: &Words<Bare, B>, pass: &mut Pass<Bare>)
-    requires pass { MayStep words.now.table.shared.table_id pass.old }
+    requires ready { IsReadyOn words.now B.tells pass.old }
     requires pages { words.now.table.shared.key.pages ≡ 1 }
-    ensures ready { IsReady words.now.table.shared.key B.tells words.now.table.shared.table_id pass.new }
+    ensures ready { IsReadyOn words.now B.tells pass.new }
     ensures kept { KeepsShares 0 (view pass.old) (view pass.new) }
 {
     match SharedGuard::take(words, pass, 0) {
@@ -56,11 +56,11 @@ fn is_full<B: Block>(rt: &impl Abort, words: &Words<Bare, B>, pass: &mut Pass<Ba
 
 /// A share can be taken, and is given up again.
 fn has_room<B: Block>(rt: &impl Abort, words: &Words<Bare, B>, pass: &mut Pass<Bare>)
-    requires pass { MayStep words.now.table.shared.table_id pass.old }
+    requires ready { IsReadyOn words.now B.tells pass.old }
     requires pages { words.now.table.shared.key.pages ≡ 1 }
     requires idle { (seat_of (view pass.old) 0).writing ≡ false }
     requires out { (view pass.old).out ≡ None }
-    ensures ready { IsReady words.now.table.shared.key B.tells words.now.table.shared.table_id pass.new }
+    ensures ready { IsReadyOn words.now B.tells pass.new }
     ensures kept { KeepsShares 0 (view pass.old) (view pass.new) }
 {
     let Ok(guard) = SharedGuard::take(words, pass, 0) else {
@@ -71,11 +71,11 @@ fn has_room<B: Block>(rt: &impl Abort, words: &Words<Bare, B>, pass: &mut Pass<B
 
 /// Takes `more` shares; the page is full then, and has room again after each that is given up.
 fn crowd<B: Block>(rt: &impl Abort, words: &Words<Bare, B>, pass: &mut Pass<Bare>, more: u32)
-    requires pass { MayStep words.now.table.shared.table_id pass.old }
+    requires ready { IsReadyOn words.now B.tells pass.old }
     requires pages { words.now.table.shared.key.pages ≡ 1 }
     requires idle { (seat_of (view pass.old) 0).writing ≡ false }
     requires out { (view pass.old).out ≡ None }
-    ensures ready { IsReady words.now.table.shared.key B.tells words.now.table.shared.table_id pass.new }
+    ensures ready { IsReadyOn words.now B.tells pass.new }
     ensures kept { KeepsShares 0 (view pass.old) (view pass.new) }
 {
     if more == 0 {
@@ -99,7 +99,7 @@ fn a_page_has_at_most_252_shares(rt: HostRuntime) -> Result<(), Fail> {
 
 /// Word `i` of the one page of a table, which is in use, is set, and read again.
 fn read_again<R: Abort, B: Block>(rt: &R, words: &Words<Bare, B>, pass: &mut Pass<Bare>, i: usize)
-    requires pass { MayStep words.now.table.shared.table_id pass.old }
+    requires ready { IsReadyOn words.now B.tells pass.old }
     requires pages { words.now.table.shared.key.pages ≡ 1 }
     requires out { (view pass.old).out ≡ None }
     requires place { i < words.now.table.shared.key.size }

@@ -3,7 +3,7 @@ ghost use Rattle.std.specs.Prelude.{[], ◌<◌, ◌≡◌, ◌≤◌, false, If
 ghost use Rattle.vm_core.specs.Prelude.{MAX_VERSION};
 ghost use Rattle.vm_page.specs.Sizes.{IsSize};
 ghost use Rattle.vm_rule.specs.Prelude.{seat_of};
-ghost use Rattle.vm_step.specs.Prelude.{IsReady, view};
+ghost use Rattle.vm_step.specs.Prelude.{IsReadyOn, view};
 
 use std::alloc::Global;
 use std::process::Abort;
@@ -37,10 +37,10 @@ fn bring<R: Abort, B: PageBlock<N>, const N: usize>(
 )
     requires sized { IsSize N }
     requires size { N ≡ words.now.table.shared.key.size }
-    requires ready { IsReady words.now.table.shared.key B.tells words.now.table.shared.table_id pass.old }
+    requires ready { IsReadyOn words.now B.tells pass.old }
     requires page { p < words.now.table.shared.key.pages }
     requires out { (view pass.old).out ≡ None }
-    ensures ready { IsReady words.now.table.shared.key B.tells words.now.table.shared.table_id pass.new }
+    ensures ready { IsReadyOn words.now B.tells pass.new }
     ensures start { (view pass.new).start ≡ (view pass.old).start }
     ensures out { (view pass.new).out ≡ None }
     ensures owed { (view pass.new).owed ≡ (view pass.old).owed }
@@ -69,7 +69,7 @@ pub(crate) fn resident<R: Abort, B: PageBlock<N> + Drop, const N: usize>(
     ensures size { IfOk result (λ made. made.0.table.shared.key.size ≡ N) }
     ensures pages { IfOk result (λ made. made.0.table.shared.key.pages ≡ length blocks.items) }
     ensures frames { IfOk result (λ made. made.0.table.shared.key.frames ≡ length blocks.items) }
-    ensures ready { IfOk result (λ made. IsReady made.0.table.shared.key B.tells made.0.table.shared.table_id made.1) }
+    ensures ready { IfOk result (λ made. IsReadyOn made.0 B.tells made.1) }
     ensures next { IfOk result (λ made. (view made.1).start.next ≡ length blocks.items) }
     ensures out { IfOk result (λ made. (view made.1).out ≡ None) }
     ensures owed { IfOk result (λ made. (view made.1).owed ≡ []) }
@@ -94,7 +94,7 @@ pub(crate) fn zero_pages<R: Abort>(
     requires version { (1 ≤ version) × (version ≤ MAX_VERSION) }
     ensures size { IfOk result (λ made. made.0.table.shared.key.size ≡ WORDS) }
     ensures pages { IfOk result (λ made. made.0.table.shared.key.pages ≡ n) }
-    ensures ready { IfOk result (λ made. IsReady made.0.table.shared.key ⟦<MemBlock<WORDS> as Block>⟧.tells made.0.table.shared.table_id made.1) }
+    ensures ready { IfOk result (λ made. IsReadyOn made.0 ⟦<MemBlock<WORDS> as Block>⟧.tells made.1) }
     ensures next { IfOk result (λ made. (view made.1).start.next ≡ n) }
     ensures out { IfOk result (λ made. (view made.1).out ≡ None) }
     ensures owed { IfOk result (λ made. (view made.1).owed ≡ []) }

@@ -2,7 +2,6 @@
 use Rattle.std.specs.Prelude.{All}
 use Rattle.std.proofs.Common.{[], ◌++◌, ◌<◌, ◌==◌, ◌∙◌, ◌≡◌, ◌≢◌, ap, Bool, false, if◌then◌else◌, inl, List, map, refl, subst, sym, true, ℕ}
 use Rattle.std.proofs.lemmas.Bool.{eq-eqb, or_left}
-use Rattle.vm_core.specs.Prelude.{in_mask}
 use Rattle.vm_rule.specs.Bundles.{frames_in}
 use Rattle.vm_rule.specs.FreeNumbers.{GiveNumbersTold, numbered_view, SpareTold, TakeNumbersTold}
 use Rattle.vm_rule.specs.Prelude.{has, HoldsNoPage, Seat, seat_of}
@@ -40,14 +39,22 @@ module _ {X : Type 0} where
       }
 
   -- a step that leaves them so
-  idle-by : (v inner w : View X) → StaysIdle v inner → (w.start ≡ inner.start) × (w.used ≡ inner.used) × (w.fresh ≡ inner.fresh) × (w.seats ≡ inner.seats) × (w.out ≡ inner.out) × (w.pending ≡ inner.pending) → StaysIdle v w
-  idle-by v inner w s e = idle-then v inner w s (record { parts = record { start = e.0; used = e.1; fresh = e.2 }; seats = e.3; out = e.4; pending = e.5 })
+  idle-by : (v inner w : View X) → StaysIdle v inner → (w.start ≡ inner.start) × (w.used ≡ inner.used)
+      × (w.fresh ≡ inner.fresh) × (w.seats ≡ inner.seats) × (w.out ≡ inner.out) × (w.pending ≡ inner.pending)
+      → StaysIdle v w
+  idle-by v inner w s e = idle-then v inner w s (record {
+    parts = record { start = e.0; used = e.1; fresh = e.2 };
+    seats = e.3;
+    out = e.4;
+    pending = e.5;
+  })
 
   still : (v : View X) → StaysIdle v v
   still v = record { parts = record { start = refl; used = refl; fresh = refl }; seats = refl; out = refl; pending = refl }
 
   numbered-idle : (g mask : ℕ) (v : View X) (b : Bool) → StaysIdle v (if b then numbered_view g mask v else v)
-  numbered-idle g mask v true = record { parts = record { start = refl; used = refl; fresh = refl }; seats = refl; out = refl; pending = refl }
+  numbered-idle g mask v true =
+      record { parts = record { start = refl; used = refl; fresh = refl }; seats = refl; out = refl; pending = refl }
   numbered-idle g mask v false = still v
 
   pub looked-idle : (g found : ℕ) (v w : View X) → SpareTold g found v w → StaysIdle v w
@@ -74,30 +81,40 @@ module _ {X : Type 0} where
 
   pub gave-idle : (g mask found : ℕ) (v w : View X) → GiveNumbersTold g mask found v w → StaysIdle v w
   gave-idle g mask found v w t = record {
-    parts = record { start = ap (λ (x : View X). x.start) t.brings.view; used = ap (λ (x : View X). x.used) t.brings.view; fresh = ap (λ (x : View X). x.fresh) t.brings.view };
+    parts = record {
+      start = ap (λ (x : View X). x.start) t.brings.view;
+      used = ap (λ (x : View X). x.used) t.brings.view;
+      fresh = ap (λ (x : View X). x.fresh) t.brings.view;
+    };
     seats = ap (λ (x : View X). x.seats) t.brings.view;
     out = ap (λ (x : View X). x.out) t.brings.view;
     pending = ap (λ (x : View X). x.pending) t.brings.view;
   }
 
   -- numbers that were taken may be given again
-  pub may-give : (g word mask : ℕ) (v w : View X) → mask ≢ 0 → TakeNumbersTold g word mask word v w → w.pending ≡ [] → PassMayGiveNumbers w g mask
+  pub may-give : (g word mask : ℕ) (v w : View X) → mask ≢ 0 → TakeNumbersTold g word mask word v w → w.pending ≡ []
+      → PassMayGiveNumbers w g mask
   may-give g word mask v w some t none =
       let is-hit : (word == word) ≡ true = eq-eqb word word refl in
-      let numbers : w.numbers ≡ frames_in g mask ++ v.numbers = ap (λ (x : View X). x.numbers) t.brings.view ∙ ap (λ (b : Bool). (if b then numbered_view g mask v else v).numbers) is-hit in
+      let numbers : w.numbers ≡ frames_in g mask ++ v.numbers = ap (λ (x : View X). x.numbers) t.brings.view
+      ∙ ap (λ (b : Bool). (if b then numbered_view g mask v else v).numbers) is-hit in
       let start : w.start ≡ v.start = (tried-idle g word mask word v w t).parts.start in
       record {
         some = some;
         inside = λ p among. subst (λ (o : Origin). p < o.pages) (sym start) (t.inside refl p among);
         mine = λ tells p among. (
-          inl (ap (has p) numbers ∙ has-both p (frames_in g mask) v.numbers ∙ or_left (has p (frames_in g mask)) (has p v.numbers) (has-frames_in g mask p ∙ among)),
+          inl (ap (has p) numbers ∙ has-both p (frames_in g mask) v.numbers ∙ or_left (has p (frames_in g mask))
+              (has p v.numbers) (has-frames_in g mask p ∙ among)),
           inl (ap (has p) none),
         );
       }
 
 module _ {U X : Type 0} {o : _} where
   -- a new pass has no group in part
-  pub whole-begin : (v x : View X) (lent ps : List (Pass U X o)) → lent ≡ ps → PassesSplit v (map (λ p. view p) ps) x → All (λ p. (view p).pending ≡ []) lent
+  pub whole-begin : (v x : View X) (lent ps : List (Pass U X o)) → lent ≡ ps → PassesSplit v (map (λ p. view p) ps) x
+      → All (λ p. (view p).pending ≡ []) lent
   whole-begin v x lent ps value s =
       subst (λ (l : List (Pass U X o)). All (λ p. (view p).pending ≡ []) l) (sym value) (λ k d l.
-      each-at (λ (w : View X). w.pending ≡ []) (λ p. view p) ps (each-map (IsNew x) (λ (w : View X). w.pending ≡ []) (λ w n. ap (λ (y : View X). y.pending) n.new) (map (λ p. view p) ps) s.each) k d l)
+      each-at (λ (w : View X). w.pending ≡ []) (λ p. view p) ps
+      (each-map (IsNew x) (λ (w : View X). w.pending ≡ []) (λ w n. ap (λ (y : View X). y.pending) n.new)
+      (map (λ p. view p) ps) s.each) k d l)

@@ -1,6 +1,6 @@
 //! Fresh pages, and groups of them, over a pool of a few evicted pages of zeros. The values are worked out by hand from the rules.
 ghost use Rattle.std.specs.Prelude.{[], ◌≡◌, ◌≢◌, ◌⊎◌, None};
-ghost use Rattle.vm_step.specs.Prelude.{AreHeld, IsReady, view};
+ghost use Rattle.vm_step.specs.Prelude.{AreHeld, IsReadyOn, view};
 ghost use Rattle.vm_guard.specs.Groups.{guards_of, MayReleaseAll};
 
 use crate::table::{free_frames, two_passes, zeros};
@@ -21,11 +21,11 @@ fn given<B: Block>(
     frames: &mut Batch,
     n: u32,
 ) -> Group
-    requires ready { IsReady words.now.table.shared.key B.tells words.now.table.shared.table_id pass.old }
+    requires ready { IsReadyOn words.now B.tells pass.old }
     requires few { (n ≡ 1) ⊎ (n ≡ 2) }
     requires home { (view pass.old).out ≡ None }
     requires own { AreHeld frames.old (view pass.old) }
-    ensures ready { IsReady words.now.table.shared.key B.tells words.now.table.shared.table_id pass.new }
+    ensures ready { IsReadyOn words.now B.tells pass.new }
     ensures home { (view pass.new).out ≡ None }
     ensures own { AreHeld frames.new (view pass.new) }
     ensures some { guards_of result ≢ [] }
@@ -53,12 +53,12 @@ fn first_page(group: &Group) -> Option<u32> {
 
 /// Releases the group, while the pass has these frames.
 fn released<B: Block>(words: &Words<Bare, B>, pass: &mut Pass<Bare>, frames: &Batch, group: Group)
-    requires ready { IsReady words.now.table.shared.key B.tells words.now.table.shared.table_id pass.old }
+    requires ready { IsReadyOn words.now B.tells pass.old }
     requires home { (view pass.old).out ≡ None }
     requires own { AreHeld frames.now (view pass.old) }
     requires some { guards_of group ≢ [] }
     requires may { MayReleaseAll ⟦<Bare as Owner>⟧.may_release (guards_of group) None (view pass.old) }
-    ensures ready { IsReady words.now.table.shared.key B.tells words.now.table.shared.table_id pass.new }
+    ensures ready { IsReadyOn words.now B.tells pass.new }
     ensures home { (view pass.new).out ≡ None }
     ensures own { AreHeld frames.now (view pass.new) }
 {
@@ -73,11 +73,11 @@ fn claimed<B: Block>(
     frames: &mut Batch,
     n: u32,
 ) -> Option<u32>
-    requires ready { IsReady words.now.table.shared.key B.tells words.now.table.shared.table_id pass.old }
+    requires ready { IsReadyOn words.now B.tells pass.old }
     requires few { (n ≡ 1) ⊎ (n ≡ 2) }
     requires home { (view pass.old).out ≡ None }
     requires own { AreHeld frames.old (view pass.old) }
-    ensures ready { IsReady words.now.table.shared.key B.tells words.now.table.shared.table_id pass.new }
+    ensures ready { IsReadyOn words.now B.tells pass.new }
     ensures home { (view pass.new).out ≡ None }
     ensures own { AreHeld frames.new (view pass.new) }
 {
@@ -96,11 +96,11 @@ fn is_full<B: Block>(
     n: u32,
     says: (u32, u32),
 )
-    requires ready { IsReady words.now.table.shared.key B.tells words.now.table.shared.table_id pass.old }
+    requires ready { IsReadyOn words.now B.tells pass.old }
     requires few { (n ≡ 1) ⊎ (n ≡ 2) }
     requires home { (view pass.old).out ≡ None }
     requires own { AreHeld frames.old (view pass.old) }
-    ensures ready { IsReady words.now.table.shared.key B.tells words.now.table.shared.table_id pass.new }
+    ensures ready { IsReadyOn words.now B.tells pass.new }
     ensures home { (view pass.new).out ≡ None }
     ensures own { AreHeld frames.new (view pass.new) }
 {

@@ -2,7 +2,7 @@
 ghost use Rattle.std.specs.Prelude.{◌<◌, ◌≡◌, ◌≢◌, Bool, false, None, true, ℕ};
 ghost use Rattle.vm_page.specs.{Pages.all_zero, Sizes.IsSize};
 ghost use Rattle.vm_rule.specs.Prelude.{last_of};
-ghost use Rattle.vm_step.specs.Prelude.{IsReady, view};
+ghost use Rattle.vm_step.specs.Prelude.{IsReadyOn, view};
 ghost use Rattle.vm_guard.specs.Guards.{IsHolding};
 
 use crate::table::{two_passes, used_pages};
@@ -23,10 +23,10 @@ fn three_brought<B: PageBlock<N>, const N: usize>(
     pool: &Pool<Bare, B, N>,
     pass: &mut Pass<Bare>,
 )
-    requires ready { IsReady pool.now.words.table.shared.key B.tells pool.now.words.table.shared.table_id pass.old }
+    requires ready { IsReadyOn pool.now.words B.tells pass.old }
     requires home { (view pass.old).out ≡ None }
     requires pages { pool.now.words.table.shared.key.pages ≡ 3 }
-    ensures ready { IsReady pool.now.words.table.shared.key B.tells pool.now.words.table.shared.table_id pass.new }
+    ensures ready { IsReadyOn pool.now.words B.tells pass.new }
     ensures home { (view pass.new).out ≡ None }
 {
     let mut iface = Interface::new(0, 1);
@@ -41,10 +41,10 @@ fn words_at<B: Block>(
     pass: &mut Pass<Bare>,
     i: usize,
 ) -> (Option<u64>, Option<u64>, Option<u64>)
-    requires ready { IsReady words.now.table.shared.key B.tells words.now.table.shared.table_id pass.old }
+    requires ready { IsReadyOn words.now B.tells pass.old }
     requires pages { words.now.table.shared.key.pages ≡ 3 }
     requires place { i < words.now.table.shared.key.size }
-    ensures ready { IsReady words.now.table.shared.key B.tells words.now.table.shared.table_id pass.new }
+    ensures ready { IsReadyOn words.now B.tells pass.new }
 {
     (
         read_word(words, pass, 0, i),
@@ -62,11 +62,11 @@ fn written<B: Block>(
     i: usize,
     word: u64,
 ) -> ExclusiveGuard
-    requires ready { IsReady words.now.table.shared.key B.tells words.now.table.shared.table_id pass.old }
+    requires ready { IsReadyOn words.now B.tells pass.old }
     requires home { (view pass.old).out ≡ None }
     requires page { pid < words.now.table.shared.key.pages }
     requires place { (i < words.now.table.shared.key.size) × (1 < words.now.table.shared.key.size) }
-    ensures ready { IsReady words.now.table.shared.key B.tells words.now.table.shared.table_id pass.new }
+    ensures ready { IsReadyOn words.now B.tells pass.new }
     ensures home { (view pass.new).out ≡ None }
     ensures page { result.pid ≡ pid }
     ensures holds { IsHolding result.pid result.frame result.version result.dirty (view pass.new) }
@@ -92,7 +92,7 @@ fn released<B: Block>(
     b: ExclusiveGuard,
     c: ExclusiveGuard,
 )
-    requires ready { IsReady words.now.table.shared.key B.tells words.now.table.shared.table_id pass.old }
+    requires ready { IsReadyOn words.now B.tells pass.old }
     requires home { (view pass.old).out ≡ None }
     requires used { B.tells ≡ true → (all_zero (last_of (view pass.old) 2).words ≡ false) × (all_zero (last_of (view pass.old) 0).words ≡ false)
         × (all_zero (last_of (view pass.old) 1).words ≡ false) }
@@ -100,7 +100,7 @@ fn released<B: Block>(
     requires first { IsHolding a.pid a.frame a.version a.dirty (view pass.old) }
     requires second { IsHolding b.pid b.frame b.version b.dirty (view pass.old) }
     requires third { IsHolding c.pid c.frame c.version c.dirty (view pass.old) }
-    ensures ready { IsReady words.now.table.shared.key B.tells words.now.table.shared.table_id pass.new }
+    ensures ready { IsReadyOn words.now B.tells pass.new }
 {
     release_group(words, pass, Group::Three(a, b, c), None);
 }

@@ -1,7 +1,7 @@
 //! Four workers in threads that take page numbers from the two free-number words of a pool and give them again, with ample memory. Which
 //! numbers are free in the end is the same whatever the schedule. The values are worked out by hand from the rules.
 ghost use Rattle.std.specs.Prelude.{[], ◌*◌, ◌<◌, ◌≡◌, ◌≤◌, All, IfOk, length, slice_index_or, ℕ};
-ghost use Rattle.vm_step.specs.Prelude.{IsReady, IsSamePass, view};
+ghost use Rattle.vm_step.specs.Prelude.{GoesOn, IsReadyOn, IsSamePass, view};
 ghost use Rattle.vm_workers.specs.Puts.{HasPut, KeepsParts, MayStartWork};
 
 use crate::table::zeros;
@@ -94,11 +94,10 @@ fn rounds_and_join<R: Threads + Sync, B: PageBlock<N> + Drop + Send + Sync, cons
     pass: &mut Pass<Bare>,
     n: usize,
 ) -> Result<(), Memory>
-    requires ready { IsReady pool.now.words.table.shared.key B.tells pool.now.words.table.shared.table_id pass.old }
+    requires ready { IsReadyOn pool.now.words B.tells pass.old }
     requires pages { 64 < pool.now.words.table.shared.key.pages }
     requires parts { n ≤ length (view pass.old).fresh }
-    ensures pass { IsSamePass pass.old pass.new }
-    ensures ready { IsReady pool.now.words.table.shared.key B.tells pool.now.words.table.shared.table_id pass.new }
+    ensures goes { GoesOn pool.now.words B.tells pass.old pass.new }
 {
     let mut given = pool.split(alloc, pass, n)?;
     work_all(rt, pool, given.as_mut_slice());
@@ -109,7 +108,7 @@ fn rounds_and_join<R: Threads + Sync, B: PageBlock<N> + Drop + Send + Sync, cons
 /// A pool of 72 pages of zeros, all claimed, and its first pass. Eight numbers are free: 2, 3, 5, 61 and 63 of the first free-number word, and 64,
 /// 66 and 71 of the second.
 fn numbered_pool(alloc: Global) -> Result<(Pool<Bare, MemBlock<WORDS>, WORDS>, Pass<Bare>), Fail>
-    ensures ready { IfOk result (λ made. IsReady made.0.words.table.shared.key ⟦<MemBlock<WORDS> as Block>⟧.tells made.0.words.table.shared.table_id made.1) }
+    ensures ready { IfOk result (λ made. IsReadyOn made.0.words ⟦<MemBlock<WORDS> as Block>⟧.tells made.1) }
     ensures pages { IfOk result (λ made. made.0.words.table.shared.key.pages ≡ 72) }
     ensures parts { IfOk result (λ made. 4 ≤ length (view made.1).fresh) }
 {
@@ -125,9 +124,9 @@ fn numbered_pool(alloc: Global) -> Result<(Pool<Bare, MemBlock<WORDS>, WORDS>, P
 
 /// The same eight numbers are free.
 fn eight_are_free<B: Block>(rt: &impl Abort, words: &Words<Bare, B>, pass: &mut Pass<Bare>)
-    requires ready { IsReady words.now.table.shared.key B.tells words.now.table.shared.table_id pass.old }
+    requires ready { IsReadyOn words.now B.tells pass.old }
     requires pages { 64 < words.now.table.shared.key.pages }
-    ensures ready { IsReady words.now.table.shared.key B.tells words.now.table.shared.table_id pass.new }
+    ensures ready { IsReadyOn words.now B.tells pass.new }
     ensures parts { KeepsParts (view pass.old) (view pass.new) }
 {
     let first = pbload(words, pass, 0);

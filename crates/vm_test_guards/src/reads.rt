@@ -2,7 +2,7 @@
 //! them anew. The values are worked out by hand from the rules.
 ghost use Rattle.std.specs.Prelude.{[], ◌<◌, ◌≡◌, IfOk, length, map, None};
 ghost use Rattle.vm_rule.specs.Prelude.{block_words, MayBegin, stored_of};
-ghost use Rattle.vm_step.specs.Prelude.{IsReady, view};
+ghost use Rattle.vm_step.specs.Prelude.{IsReadyOn, view};
 
 use crate::table::{free_frames, two_passes, zeros};
 use std::alloc::Global;
@@ -42,10 +42,10 @@ fn brought<B: PageBlock<WORDS>>(
     pass: &mut Pass<Bare>,
     pid: u32,
 )
-    requires ready { IsReady pool.now.words.table.shared.key B.tells pool.now.words.table.shared.table_id pass.old }
+    requires ready { IsReadyOn pool.now.words B.tells pass.old }
     requires home { (view pass.old).out ≡ None }
     requires page { pid < pool.now.words.table.shared.key.pages }
-    ensures ready { IsReady pool.now.words.table.shared.key B.tells pool.now.words.table.shared.table_id pass.new }
+    ensures ready { IsReadyOn pool.now.words B.tells pass.new }
     ensures home { (view pass.new).out ≡ None }
 {
     let mut iface = Interface::new(0, 1);

@@ -2,7 +2,7 @@
 ghost use Rattle.std.specs.Prelude.{◌≡◌, ◌≤◌, IfOk, length, List, map, None, ℕ};
 ghost use Rattle.vm_page.specs.Sizes.{IsSize};
 ghost use Rattle.vm_rule.specs.Prelude.{AreClaimed, block_words, MayBegin, stored_of};
-ghost use Rattle.vm_step.specs.Prelude.{AreHeld, IsReady, view};
+ghost use Rattle.vm_step.specs.Prelude.{AreHeld, IsReadyOn, view};
 
 use std::alloc::Global;
 use std::process::Abort;
@@ -66,8 +66,8 @@ pub(crate) fn two_passes<const N: usize>(
     requires claimed { AreClaimed next free.now }
     requires begins { MayBegin ⟦<Bare as Owner>⟧.keeps next free.now (block_words (map stored_of blocks.items)) }
     ensures pages { IfOk result (λ made. (made.0.words.table.shared.key.pages ≡ length blocks.entry.items) × (made.0.words.table.shared.key.next ≡ next)) }
-    ensures first { IfOk result (λ made. IsReady made.0.words.table.shared.key ⟦<MemBlock<N> as Block>⟧.tells made.0.words.table.shared.table_id made.1) }
-    ensures second { IfOk result (λ made. IsReady made.0.words.table.shared.key ⟦<MemBlock<N> as Block>⟧.tells made.0.words.table.shared.table_id made.2) }
+    ensures first { IfOk result (λ made. IsReadyOn made.0.words ⟦<MemBlock<N> as Block>⟧.tells made.1) }
+    ensures second { IfOk result (λ made. IsReadyOn made.0.words ⟦<MemBlock<N> as Block>⟧.tells made.2) }
     ensures home { IfOk result (λ made. ((view made.1).out ≡ None) × ((view made.2).out ≡ None)) }
 {
     let pages = blocks.len() as u32;
@@ -89,10 +89,10 @@ pub(crate) fn free_frames<B: Block>(
     pass: &mut Pass<Bare>,
     n: u32,
 ) -> Batch
-    requires ready { IsReady words.now.table.shared.key B.tells words.now.table.shared.table_id pass.old }
+    requires ready { IsReadyOn words.now B.tells pass.old }
     requires home { (view pass.old).out ≡ None }
     requires count { (1 ≤ n) × (n ≤ FRAMES) }
-    ensures ready { IsReady words.now.table.shared.key B.tells words.now.table.shared.table_id pass.new }
+    ensures ready { IsReadyOn words.now B.tells pass.new }
     ensures home { (view pass.new).out ≡ None }
     ensures own { AreHeld result (view pass.new) }
 {

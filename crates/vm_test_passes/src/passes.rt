@@ -1,7 +1,7 @@
 //! Passes of one thread over a pool of two pages, with ample memory. The values are worked out by hand from the rules, and not taken from a run.
 ghost use Rattle.std.specs.Prelude.{◌<◌, ◌≡◌, ◌≤◌, IfOk, length};
 ghost use Rattle.vm_page.specs.Sizes.{IsSize};
-ghost use Rattle.vm_step.specs.Prelude.{IsReady, view};
+ghost use Rattle.vm_step.specs.Prelude.{IsReadyOn, view};
 
 use std::alloc::Global;
 use std::process::Abort;
@@ -14,7 +14,7 @@ use vm_pool_callers::first_page::{Opened, open_page};
 use vm_pool_callers::two_pages::{TwoPages, open_two};
 use vm_pool_callers::whole_again::{meet_and_join, split_and_join};
 use vm_rule::words::Pass;
-use vm_workers::entries::{Told, three_entries};
+use vm_workers::entries::{ThreeEntries, three_entries};
 
 /// Blocks of two pages of zeros, which answer every call.
 fn two_blocks(alloc: Global) -> Result<Vec<MemBlock<WORDS>>, Fail>
@@ -56,7 +56,7 @@ fn a_pool_whose_pass_was_split_and_joined_is_closed(rt: HostRuntime) -> Result<(
 
 /// A pool of these blocks, and its first pass.
 fn pool_of_two(alloc: Global) -> Result<(Pool<Bare, MemBlock<WORDS>, WORDS>, Pass<Bare>), Fail>
-    ensures ready { IfOk result (λ made. IsReady made.0.words.table.shared.key ⟦<MemBlock<WORDS> as Block>⟧.tells made.0.words.table.shared.table_id made.1) }
+    ensures ready { IfOk result (λ made. IsReadyOn made.0.words ⟦<MemBlock<WORDS> as Block>⟧.tells made.1) }
     ensures parts { IfOk result (λ made. 2 ≤ length (view made.1).fresh) }
 {
     let blocks = two_blocks(alloc)?;
@@ -132,6 +132,6 @@ fn a_pass_makes_three_entries(rt: HostRuntime) -> Result<(), Fail> {
     let Ok(told) = three_entries(rt.alloc(), two_pages(), blocks, 1) else {
         panic!(rt; "the page is brought and read");
     };
-    let Told { pool: _, pass: _ } = told;
+    let ThreeEntries { pool: _, pass: _ } = told;
     Ok(())
 }

@@ -2,7 +2,7 @@
 ghost use Rattle.std.specs.Prelude.{◌<◌, ◌≤◌, IfOk, length};
 ghost use Rattle.vm_page.specs.Sizes.{IsSize};
 ghost use Rattle.vm_rule.specs.Prelude.{HoldsNoPage};
-ghost use Rattle.vm_step.specs.Prelude.{IsAlone, IsReady, view};
+ghost use Rattle.vm_step.specs.Prelude.{IsAlone, IsReadyOn, view};
 ghost use Rattle.vm_workers.specs.Puts.{HasPages};
 
 use std::alloc::Global;
@@ -31,7 +31,7 @@ fn eight_pages<const N: usize>(
     alloc: Global,
 ) -> Result<(Pool<Bare, MemBlock<N>, N>, Pass<Bare>), Fail>
     requires sized { IsSize N }
-    ensures ready { IfOk result (λ made. IsReady made.0.words.table.shared.key ⟦<MemBlock<N> as Block>⟧.tells made.0.words.table.shared.table_id made.1) }
+    ensures ready { IfOk result (λ made. IsReadyOn made.0.words ⟦<MemBlock<N> as Block>⟧.tells made.1) }
     ensures alone { IfOk result (λ made. IsAlone (view made.1)) }
     ensures holds { IfOk result (λ made. HoldsNoPage (view made.1)) }
     ensures pages { IfOk result (λ made. HasPages made.0.words.table.shared.key) }

@@ -2,7 +2,7 @@
 //! taken from a run.
 ghost use Rattle.std.specs.Prelude.{◌≡◌, ◌≤◌, IfOk, None};
 ghost use Rattle.vm_core.specs.Prelude.{MAX_VERSION};
-ghost use Rattle.vm_step.specs.Prelude.{IsReady, view};
+ghost use Rattle.vm_step.specs.Prelude.{IsReadyOn, view};
 
 use std::alloc::Global;
 use std::test::Fail;
@@ -25,7 +25,7 @@ fn two_pages(
 ) -> Result<(Pool<Bare, MemBlock<WORDS>, WORDS>, Pass<Bare>), Fail>
     requires { version ≤ MAX_VERSION }
     ensures pages { IfOk result (λ made. made.0.words.table.shared.key.pages ≡ 2) }
-    ensures ready { IfOk result (λ made. IsReady made.0.words.table.shared.key ⟦<MemBlock<WORDS> as Block>⟧.tells made.0.words.table.shared.table_id made.1) }
+    ensures ready { IfOk result (λ made. IsReadyOn made.0.words ⟦<MemBlock<WORDS> as Block>⟧.tells made.1) }
     ensures out { IfOk result (λ made. (view made.1).out ≡ None) }
 {
     let mut first = PageBuf::zero();

@@ -10,7 +10,7 @@ use vm_block::MemBlock;
 use vm_owner::Bare;
 use vm_page::{PageBuf, WORDS};
 use vm_pool::{Bring, Shape};
-use vm_pool_callers::kept_word::{KeptWord, keep_word};
+use vm_pool_callers::kept_word::{ReadBack, keep_word};
 use vm_pool_callers::shared_page::{SharedPage, open_shared};
 
 /// Two pages at version 0, both claimed, and one frame.
@@ -38,7 +38,7 @@ fn two_blocks(alloc: Global, plan: &[u64]) -> Result<Vec<MemBlock<WORDS>>, Fail>
 /// read, a write, a read.
 fn kept(alloc: Global, plan: &[u64]) -> Result<(Option<u64>, u64), Fail> {
     let blocks = two_blocks(alloc, plan)?;
-    let KeptWord {
+    let ReadBack {
         pool: _,
         pass: _,
         iface,

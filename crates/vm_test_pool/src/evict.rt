@@ -1,7 +1,7 @@
 //! Evictions over a table of one dirty page, whose last word is 5, with ample memory. The values are worked out by hand from the rules, and not
 //! taken from a run.
 ghost use Rattle.std.specs.Prelude.{◌≡◌, IfOk, None};
-ghost use Rattle.vm_step.specs.Prelude.{AreCandidates, IsReady, view};
+ghost use Rattle.vm_step.specs.Prelude.{AreCandidates, IsReadyOn, view};
 
 use crate::flush::flush_all;
 use crate::pool::used_page;
@@ -54,10 +54,10 @@ const NOTHING: Report = Report {
 /// Brings page 0, which is evicted, into frame 0, the only one.
 fn bring_first<B: PageBlock<WORDS>>(rt: &impl Abort, words: &Words<Bare, B>, pass: &mut Pass<Bare>)
     requires size { words.now.table.shared.key.size ≡ WORDS }
-    requires ready { IsReady words.now.table.shared.key B.tells words.now.table.shared.table_id pass.old }
+    requires ready { IsReadyOn words.now B.tells pass.old }
     requires pages { words.now.table.shared.key.pages ≡ 1 }
     requires out { (view pass.old).out ≡ None }
-    ensures ready { IsReady words.now.table.shared.key B.tells words.now.table.shared.table_id pass.new }
+    ensures ready { IsReadyOn words.now B.tells pass.new }
     ensures start { (view pass.new).start ≡ (view pass.old).start }
     ensures out { (view pass.new).out ≡ None }
     ensures owed { (view pass.new).owed ≡ (view pass.old).owed }
@@ -81,7 +81,7 @@ pub(crate) fn one_page(
     ensures size { IfOk result (λ made. made.0.table.shared.key.size ≡ WORDS) }
     ensures pages { IfOk result (λ made. made.0.table.shared.key.pages ≡ 1) }
     ensures frames { IfOk result (λ made. made.0.table.shared.key.frames ≡ 1) }
-    ensures ready { IfOk result (λ made. IsReady made.0.table.shared.key ⟦<MemBlock<WORDS> as Block>⟧.tells made.0.table.shared.table_id made.1) }
+    ensures ready { IfOk result (λ made. IsReadyOn made.0 ⟦<MemBlock<WORDS> as Block>⟧.tells made.1) }
     ensures out { IfOk result (λ made. (view made.1).out ≡ None) }
 {
     let mut blocks = Vec::new(alloc);
@@ -114,10 +114,10 @@ fn candidate() -> Candidates
 /// Evicts page 0 as a candidate that was marked at version 7.
 fn evict_first<B: PageBlock<WORDS>>(words: &Words<Bare, B>, pass: &mut Pass<Bare>) -> Evicted
     requires size { words.now.table.shared.key.size ≡ WORDS }
-    requires ready { IsReady words.now.table.shared.key B.tells words.now.table.shared.table_id pass.old }
+    requires ready { IsReadyOn words.now B.tells pass.old }
     requires pages { words.now.table.shared.key.pages ≡ 1 }
     requires out { (view pass.old).out ≡ None }
-    ensures ready { IsReady words.now.table.shared.key B.tells words.now.table.shared.table_id pass.new }
+    ensures ready { IsReadyOn words.now B.tells pass.new }
     ensures out { (view pass.new).out ≡ None }
 {
     evict::<Bare, B, WORDS>(words, pass, &candidate())
@@ -125,10 +125,10 @@ fn evict_first<B: PageBlock<WORDS>>(words: &Words<Bare, B>, pass: &mut Pass<Bare
 
 /// Marks page 0, which is unlocked at version 7.
 fn mark_first<B: Block>(rt: &impl Abort, words: &Words<Bare, B>, pass: &mut Pass<Bare>)
-    requires ready { IsReady words.now.table.shared.key B.tells words.now.table.shared.table_id pass.old }
+    requires ready { IsReadyOn words.now B.tells pass.old }
     requires pages { words.now.table.shared.key.pages ≡ 1 }
     requires out { (view pass.old).out ≡ None }
-    ensures ready { IsReady words.now.table.shared.key B.tells words.now.table.shared.table_id pass.new }
+    ensures ready { IsReadyOn words.now B.tells pass.new }
     ensures out { (view pass.new).out ≡ None }
 {
     match mark(words, pass, 0, 7) {
@@ -143,7 +143,7 @@ fn last_in_block(
     words: &Words<Bare, MemBlock<WORDS>>,
     pass: &mut Pass<Bare>,
 ) -> u64
-    requires ready { IsReady words.now.table.shared.key ⟦<MemBlock<WORDS> as Block>⟧.tells words.now.table.shared.table_id pass.old }
+    requires ready { IsReadyOn words.now ⟦<MemBlock<WORDS> as Block>⟧.tells pass.old }
     requires pages { words.now.table.shared.key.pages ≡ 1 }
     requires out { (view pass.old).out ≡ None }
 {

@@ -1,6 +1,6 @@
 //! Flushes of a table of one dirty page. The values are worked out by hand from the rules, and not taken from a run.
 ghost use Rattle.std.specs.Prelude.{◌≡◌, None};
-ghost use Rattle.vm_step.specs.Prelude.{IsReady, view};
+ghost use Rattle.vm_step.specs.Prelude.{IsReadyOn, view};
 
 use crate::evict::{DIRTY_IN_0, one_page};
 use std::process::Abort;
@@ -29,9 +29,9 @@ pub(crate) fn flush_all<B: PageBlock<WORDS>>(
     pass: &mut Pass<Bare>,
 ) -> Flushed
     requires size { words.now.table.shared.key.size ≡ WORDS }
-    requires ready { IsReady words.now.table.shared.key B.tells words.now.table.shared.table_id pass.old }
+    requires ready { IsReadyOn words.now B.tells pass.old }
     requires out { (view pass.old).out ≡ None }
-    ensures ready { IsReady words.now.table.shared.key B.tells words.now.table.shared.table_id pass.new }
+    ensures ready { IsReadyOn words.now B.tells pass.new }
     ensures out { (view pass.new).out ≡ None }
 {
     flush::<Bare, B, WORDS>(words, pass)
@@ -39,10 +39,10 @@ pub(crate) fn flush_all<B: PageBlock<WORDS>>(
 
 /// Locks page 0 exclusively, which is unlocked at version 7.
 fn lock_first<B: Block>(rt: &impl Abort, words: &Words<Bare, B>, pass: &mut Pass<Bare>)
-    requires ready { IsReady words.now.table.shared.key B.tells words.now.table.shared.table_id pass.old }
+    requires ready { IsReadyOn words.now B.tells pass.old }
     requires pages { words.now.table.shared.key.pages ≡ 1 }
     requires out { (view pass.old).out ≡ None }
-    ensures ready { IsReady words.now.table.shared.key B.tells words.now.table.shared.table_id pass.new }
+    ensures ready { IsReadyOn words.now B.tells pass.new }
     ensures out { (view pass.new).out ≡ None }
 {
     match lock_exclusive(words, pass, 0, 7) {

@@ -2,7 +2,7 @@
 //! not taken from a run.
 ghost use Rattle.std.specs.Prelude.{◌≡◌, ◌≤◌, IfOk, None};
 ghost use Rattle.vm_core.specs.Prelude.{MAX_VERSION};
-ghost use Rattle.vm_step.specs.Prelude.{AreHeld, IsReady, view};
+ghost use Rattle.vm_step.specs.Prelude.{AreHeld, IsReadyOn, view};
 
 use crate::pool::{brought, put, used_pages};
 use std::alloc::Global;
@@ -39,7 +39,7 @@ fn pool_at(
 ) -> Result<(Pool<Bare, MemBlock<WORDS>, WORDS>, Pass<Bare>), Fail>
     requires { version ≤ MAX_VERSION }
     ensures pages { IfOk result (λ made. (made.0.words.table.shared.key.pages ≡ 66) × (made.0.words.table.shared.key.next ≡ 66)) }
-    ensures ready { IfOk result (λ made. IsReady made.0.words.table.shared.key ⟦<MemBlock<WORDS> as Block>⟧.tells made.0.words.table.shared.table_id made.1) }
+    ensures ready { IfOk result (λ made. IsReadyOn made.0.words ⟦<MemBlock<WORDS> as Block>⟧.tells made.1) }
     ensures home { IfOk result (λ made. (view made.1).out ≡ None) }
 {
     let shape = Shape {
@@ -59,11 +59,11 @@ fn bring_first<B: PageBlock<WORDS>>(
     iface: &mut Interface,
     n: u32,
 )
-    requires ready { IsReady pool.now.words.table.shared.key B.tells pool.now.words.table.shared.table_id pass.old }
+    requires ready { IsReadyOn pool.now.words B.tells pass.old }
     requires home { (view pass.old).out ≡ None }
     requires held { AreHeld iface.old.frames (view pass.old) }
     requires pages { n ≤ pool.now.words.table.shared.key.pages }
-    ensures ready { IsReady pool.now.words.table.shared.key B.tells pool.now.words.table.shared.table_id pass.new }
+    ensures ready { IsReadyOn pool.now.words B.tells pass.new }
     ensures home { (view pass.new).out ≡ None }
     ensures held { AreHeld iface.new.frames (view pass.new) }
 {
@@ -81,10 +81,10 @@ fn put_first<B: PageBlock<WORDS>>(
     pass: &mut Pass<Bare>,
     n: u32,
 )
-    requires ready { IsReady pool.now.words.table.shared.key B.tells pool.now.words.table.shared.table_id pass.old }
+    requires ready { IsReadyOn pool.now.words B.tells pass.old }
     requires home { (view pass.old).out ≡ None }
     requires pages { (n ≤ pool.now.words.table.shared.key.pages) × (n ≤ pool.now.words.table.shared.key.next) }
-    ensures ready { IsReady pool.now.words.table.shared.key B.tells pool.now.words.table.shared.table_id pass.new }
+    ensures ready { IsReadyOn pool.now.words B.tells pass.new }
     ensures home { (view pass.new).out ≡ None }
 {
     if n == 0 {
@@ -101,10 +101,10 @@ fn share_first<B: PageBlock<WORDS>>(
     pass: &mut Pass<Bare>,
     n: u32,
 )
-    requires ready { IsReady pool.now.words.table.shared.key B.tells pool.now.words.table.shared.table_id pass.old }
+    requires ready { IsReadyOn pool.now.words B.tells pass.old }
     requires home { (view pass.old).out ≡ None }
     requires pages { n ≤ pool.now.words.table.shared.key.pages }
-    ensures ready { IsReady pool.now.words.table.shared.key B.tells pool.now.words.table.shared.table_id pass.new }
+    ensures ready { IsReadyOn pool.now.words B.tells pass.new }
     ensures home { (view pass.new).out ≡ None }
     ensures frames { (view pass.new).frames ≡ (view pass.old).frames }
 {

@@ -2,7 +2,7 @@
 ghost use Rattle.std.specs.Prelude.{[], ◌<◌, ◌≡◌, ◌≤◌, false, IfOk, length, map, None, ℕ};
 ghost use Rattle.vm_page.specs.{Pages.all_zero, Pages.page_at, Sizes.IsSize};
 ghost use Rattle.vm_rule.specs.Prelude.{block_words, HoldsNoPage, last_of, seat_of, stored_of};
-ghost use Rattle.vm_step.specs.Prelude.{AreHeld, IsAlone, IsReady, view};
+ghost use Rattle.vm_step.specs.Prelude.{AreHeld, IsAlone, IsReadyOn, view};
 
 use std::alloc::Global;
 use std::process::Abort;
@@ -34,7 +34,7 @@ pub(crate) fn pool_of<const N: usize>(
     requires frames { (1 ≤ frames) × (frames ≤ 65536) }
     ensures pages { IfOk result (λ made. (made.0.words.table.shared.key.pages ≡ length blocks.entry.items)
         × (made.0.words.table.shared.key.next ≡ length blocks.entry.items)) }
-    ensures ready { IfOk result (λ made. IsReady made.0.words.table.shared.key ⟦<MemBlock<N> as Block>⟧.tells made.0.words.table.shared.table_id made.1) }
+    ensures ready { IfOk result (λ made. IsReadyOn made.0.words ⟦<MemBlock<N> as Block>⟧.tells made.1) }
     ensures home { IfOk result (λ made. (view made.1).out ≡ None) }
     ensures idle { IfOk result (λ made. (p : ℕ) → (seat_of (view made.1) p).writing ≡ false) }
     ensures alone { IfOk result (λ made. IsAlone (view made.1)) }
@@ -89,11 +89,11 @@ pub(crate) fn brought<B: PageBlock<N>, const N: usize>(
     iface: &mut Interface,
     p: u32,
 )
-    requires ready { IsReady pool.now.words.table.shared.key B.tells pool.now.words.table.shared.table_id pass.old }
+    requires ready { IsReadyOn pool.now.words B.tells pass.old }
     requires home { (view pass.old).out ≡ None }
     requires held { AreHeld iface.old.frames (view pass.old) }
     requires page { p < pool.now.words.table.shared.key.pages }
-    ensures ready { IsReady pool.now.words.table.shared.key B.tells pool.now.words.table.shared.table_id pass.new }
+    ensures ready { IsReadyOn pool.now.words B.tells pass.new }
     ensures home { (view pass.new).out ≡ None }
     ensures held { AreHeld iface.new.frames (view pass.new) }
     ensures idle { (q : ℕ) → (seat_of (view pass.new) q).writing ≡ (seat_of (view pass.old) q).writing }
@@ -111,11 +111,11 @@ pub(crate) fn put<B: PageBlock<N>, const N: usize>(
     i: usize,
     w: u64,
 )
-    requires ready { IsReady pool.now.words.table.shared.key B.tells pool.now.words.table.shared.table_id pass.old }
+    requires ready { IsReadyOn pool.now.words B.tells pass.old }
     requires home { (view pass.old).out ≡ None }
     requires place { i < N }
     requires page { (p < pool.now.words.table.shared.key.pages) × (p < pool.now.words.table.shared.key.next) }
-    ensures ready { IsReady pool.now.words.table.shared.key B.tells pool.now.words.table.shared.table_id pass.new }
+    ensures ready { IsReadyOn pool.now.words B.tells pass.new }
     ensures home { (view pass.new).out ≡ None }
     ensures frames { ((view pass.new).start ≡ (view pass.old).start) × ((view pass.new).frames ≡ (view pass.old).frames) }
 {
@@ -138,12 +138,12 @@ fn put_alone<B: PageBlock<N>, const N: usize>(
     i: usize,
     w: u64,
 )
-    requires ready { IsReady pool.now.words.table.shared.key B.tells pool.now.words.table.shared.table_id pass.old }
+    requires ready { IsReadyOn pool.now.words B.tells pass.old }
     requires page { (p < pool.now.words.table.shared.key.pages) × (p < pool.now.words.table.shared.key.next) }
     requires place { i < N }
     requires alone { IsAlone (view pass.old) }
     requires holds { HoldsNoPage (view pass.old) }
-    ensures ready { IsReady pool.now.words.table.shared.key B.tells pool.now.words.table.shared.table_id pass.new }
+    ensures ready { IsReadyOn pool.now.words B.tells pass.new }
     ensures alone { IsAlone (view pass.new) }
     ensures holds { HoldsNoPage (view pass.new) }
 {
@@ -167,13 +167,13 @@ fn bring_and_put<B: PageBlock<N>, const N: usize>(
     i: usize,
     w: u64,
 )
-    requires ready { IsReady pool.now.words.table.shared.key B.tells pool.now.words.table.shared.table_id pass.old }
+    requires ready { IsReadyOn pool.now.words B.tells pass.old }
     requires held { AreHeld iface.old.frames (view pass.old) }
     requires page { (p < pool.now.words.table.shared.key.pages) × (p < pool.now.words.table.shared.key.next) }
     requires place { i < N }
     requires alone { IsAlone (view pass.old) }
     requires holds { HoldsNoPage (view pass.old) }
-    ensures ready { IsReady pool.now.words.table.shared.key B.tells pool.now.words.table.shared.table_id pass.new }
+    ensures ready { IsReadyOn pool.now.words B.tells pass.new }
     ensures alone { IsAlone (view pass.new) }
     ensures holds { HoldsNoPage (view pass.new) }
 {
@@ -189,10 +189,10 @@ fn is_dirty<B: Block, const N: usize>(
     pass: &mut Pass<Bare>,
     p: u32,
 ) -> bool
-    requires ready { IsReady pool.now.words.table.shared.key B.tells pool.now.words.table.shared.table_id pass.old }
+    requires ready { IsReadyOn pool.now.words B.tells pass.old }
     requires home { (view pass.old).out ≡ None }
     requires page { (p < pool.now.words.table.shared.key.pages) × (p < pool.now.words.table.shared.key.next) }
-    ensures ready { IsReady pool.now.words.table.shared.key B.tells pool.now.words.table.shared.table_id pass.new }
+    ensures ready { IsReadyOn pool.now.words B.tells pass.new }
     ensures home { (view pass.new).out ≡ None }
     ensures frames { ((view pass.new).start ≡ (view pass.old).start) × ((view pass.new).frames ≡ (view pass.old).frames) }
 {
@@ -212,11 +212,11 @@ fn make_resident<B: PageBlock<WORDS>>(
     iface: &mut Interface,
     p: u32,
 )
-    requires ready { IsReady pool.now.words.table.shared.key B.tells pool.now.words.table.shared.table_id pass.old }
+    requires ready { IsReadyOn pool.now.words B.tells pass.old }
     requires home { (view pass.old).out ≡ None }
     requires held { AreHeld iface.old.frames (view pass.old) }
     requires page { p < pool.now.words.table.shared.key.pages }
-    ensures ready { IsReady pool.now.words.table.shared.key B.tells pool.now.words.table.shared.table_id pass.new }
+    ensures ready { IsReadyOn pool.now.words B.tells pass.new }
     ensures home { (view pass.new).out ≡ None }
     ensures held { AreHeld iface.new.frames (view pass.new) }
 {
@@ -234,12 +234,12 @@ fn put_round<B: PageBlock<WORDS>>(
     n: u32,
     round: u64,
 )
-    requires ready { IsReady pool.now.words.table.shared.key B.tells pool.now.words.table.shared.table_id pass.old }
+    requires ready { IsReadyOn pool.now.words B.tells pass.old }
     requires home { (view pass.old).out ≡ None }
     requires held { AreHeld iface.old.frames (view pass.old) }
     requires pages { (n ≤ pool.now.words.table.shared.key.pages) × (n ≤ pool.now.words.table.shared.key.next) }
     requires small { (n ≤ 6) × (round ≤ 2) }
-    ensures ready { IsReady pool.now.words.table.shared.key B.tells pool.now.words.table.shared.table_id pass.new }
+    ensures ready { IsReadyOn pool.now.words B.tells pass.new }
     ensures home { (view pass.new).out ≡ None }
     ensures held { AreHeld iface.new.frames (view pass.new) }
 {
@@ -261,12 +261,12 @@ fn has_round<B: PageBlock<WORDS>>(
     n: u32,
     round: u64,
 )
-    requires ready { IsReady pool.now.words.table.shared.key B.tells pool.now.words.table.shared.table_id pass.old }
+    requires ready { IsReadyOn pool.now.words B.tells pass.old }
     requires home { (view pass.old).out ≡ None }
     requires held { AreHeld iface.old.frames (view pass.old) }
     requires pages { n ≤ pool.now.words.table.shared.key.pages }
     requires small { (n ≤ 6) × (round ≤ 2) }
-    ensures ready { IsReady pool.now.words.table.shared.key B.tells pool.now.words.table.shared.table_id pass.new }
+    ensures ready { IsReadyOn pool.now.words B.tells pass.new }
     ensures home { (view pass.new).out ≡ None }
     ensures held { AreHeld iface.new.frames (view pass.new) }
 {

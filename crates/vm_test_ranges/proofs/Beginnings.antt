@@ -1,5 +1,6 @@
 -- A pool may begin with the blocks of an image that is a tree.
-use Rattle.std.proofs.Common.{[], ◌∙◌, ◌∷◌, ◌≡◌, ap, arith, length, List, map, refl, replicate, slice_index, subst, suc, sym, zero, ℕ, true≢false}
+use Rattle.std.proofs.Common.{[], ◌∙◌, ◌∷◌, ◌≡◌, ap, arith, length, List, map, refl, replicate, slice_index, subst}
+use Rattle.std.proofs.Common.{suc, sym, zero, ℕ, true≢false}
 use Rattle.vm_page.specs.Sizes.{IsSize}
 use Rattle.vm_map.specs.declared.call.Said.{Said}
 use Rattle.vm_tree_model.specs.{Fixed.fixed, Tree.IsTree}
@@ -18,9 +19,13 @@ all-zero : (n : ℕ) (ws : List ℕ) → length ws ≡ n → ((i : ℕ) → slic
 all-zero zero [] e z = refl
 all-zero zero (x ∷ xs) e z = absurd (omega arith)
 all-zero (suc n) [] e z = absurd (omega arith)
-all-zero (suc n) (x ∷ xs) e z = let first : x ≡ 0 = z 0 in let rest : xs ≡ replicate n 0 = all-zero n xs (omega arith) (λ i. z (suc i)) in cc
+all-zero (suc n) (x ∷ xs) e z =
+    let first : x ≡ 0 = z 0 in let rest : xs ≡ replicate n 0 = all-zero n xs (omega arith) (λ i. z (suc i)) in cc
 
-pub begins : (size : ℕ) → IsSize size → (pages : List (List ℕ)) (plan : List PlannedFault) (next : ℕ) (blocks : List (MemBlock size)) → IsTree (fixed size) pages → IsNextPage size pages next → AreBlocksOf pages plan blocks → MayBegin (KeepsPlain (λ (s : Said). s) (fixed size)) next [] (block_words (map stored_of blocks))
+pub begins : (size : ℕ) → IsSize size → (pages : List (List ℕ)) (plan : List PlannedFault) (next : ℕ)
+    (blocks : List (MemBlock size)) → IsTree (fixed size) pages → IsNextPage size pages next
+    → AreBlocksOf pages plan blocks → MayBegin (KeepsPlain (λ (s : Said). s) (fixed size)) next []
+    (block_words (map stored_of blocks))
 begins size sized pages plan next blocks tree free held =
     subst (λ (l : List (List ℕ)). MayBegin (KeepsPlain (λ (s : Said). s) (fixed size)) next [] l) (sym (words-held blocks ∙ held.held))
     (record {

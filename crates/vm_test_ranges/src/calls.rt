@@ -1,6 +1,6 @@
 //! The tree's ranges by a pass whose block is at home: it is at home again after each of them.
 ghost use Rattle.std.specs.Prelude.{[], ◌+◌, ◌<◌, ◌≡◌, ◌≤◌, IfOk, length, None};
-ghost use Rattle.vm_step.specs.Prelude.{AreHeld, IsReady, view};
+ghost use Rattle.vm_step.specs.Prelude.{AreHeld, IsReadyOn, view};
 
 use std::alloc::Global;
 use std::sync::Wait;
@@ -44,12 +44,12 @@ pub(crate) fn ranged<S: OfSize<N>, R: Wait, const N: usize>(
     out: Span,
 ) -> Result<Reply, TreeFault>
     requires pages { 1 ≤ pool.now.words.table.shared.key.pages }
-    requires ready { IsReady pool.now.words.table.shared.key ⟦<MemBlock<N> as Block>⟧.tells pool.now.words.table.shared.table_id pass.old }
+    requires ready { IsReadyOn pool.now.words ⟦<MemBlock<N> as Block>⟧.tells pass.old }
     requires home { (view pass.old).out ≡ None }
     requires held { AreHeld iface.old.frames (view pass.old) }
     requires empty { out.0 ≡ [] }
     requires room { 4032 ≤ out.1 }
-    ensures ready { IsReady pool.now.words.table.shared.key ⟦<MemBlock<N> as Block>⟧.tells pool.now.words.table.shared.table_id pass.new }
+    ensures ready { IsReadyOn pool.now.words ⟦<MemBlock<N> as Block>⟧.tells pass.new }
     ensures home { (view pass.new).out ≡ None }
     ensures held { AreHeld iface.new.frames (view pass.new) }
 {
@@ -66,12 +66,12 @@ pub(crate) fn range_once(
     out: &mut Span,
 ) -> TryRange
     requires pages { 1 ≤ pool.now.words.table.shared.key.pages }
-    requires ready { IsReady pool.now.words.table.shared.key ⟦<MemBlock<WORDS> as Block>⟧.tells pool.now.words.table.shared.table_id pass.old }
+    requires ready { IsReadyOn pool.now.words ⟦<MemBlock<WORDS> as Block>⟧.tells pass.old }
     requires home { (view pass.old).out ≡ None }
     requires held { AreHeld iface.now.frames (view pass.old) }
     requires empty { out.old.0 ≡ [] }
     requires room { 4032 ≤ out.old.1 }
-    ensures ready { IsReady pool.now.words.table.shared.key ⟦<MemBlock<WORDS> as Block>⟧.tells pool.now.words.table.shared.table_id pass.new }
+    ensures ready { IsReadyOn pool.now.words ⟦<MemBlock<WORDS> as Block>⟧.tells pass.new }
     ensures home { (view pass.new).out ≡ None }
     ensures held { AreHeld iface.now.frames (view pass.new) }
     ensures room { 4032 ≤ out.new.1 + length out.new.0 }
@@ -91,11 +91,11 @@ pub(crate) fn range_under(
 ) -> Option<(TryRange, u64)>
     requires page { pid < pool.now.words.table.shared.key.pages }
     requires word { i < 64 }
-    requires ready { IsReady pool.now.words.table.shared.key ⟦<MemBlock<WORDS> as Block>⟧.tells pool.now.words.table.shared.table_id pass.old }
+    requires ready { IsReadyOn pool.now.words ⟦<MemBlock<WORDS> as Block>⟧.tells pass.old }
     requires home { (view pass.old).out ≡ None }
     requires empty { out.old.0 ≡ [] }
     requires room { 4032 ≤ out.old.1 }
-    ensures ready { IsReady pool.now.words.table.shared.key ⟦<MemBlock<WORDS> as Block>⟧.tells pool.now.words.table.shared.table_id pass.new }
+    ensures ready { IsReadyOn pool.now.words ⟦<MemBlock<WORDS> as Block>⟧.tells pass.new }
 {
     let words = pool.words();
     let guard = match OptGuard::start(words, pass, pid) {
@@ -119,10 +119,10 @@ pub(crate) fn lock_of(
     iface: &Interface,
     pid: u32,
 ) -> Option<u8>
-    requires ready { IsReady pool.now.words.table.shared.key ⟦<MemBlock<WORDS> as Block>⟧.tells pool.now.words.table.shared.table_id pass.old }
+    requires ready { IsReadyOn pool.now.words ⟦<MemBlock<WORDS> as Block>⟧.tells pass.old }
     requires home { (view pass.old).out ≡ None }
     requires held { AreHeld iface.now.frames (view pass.old) }
-    ensures ready { IsReady pool.now.words.table.shared.key ⟦<MemBlock<WORDS> as Block>⟧.tells pool.now.words.table.shared.table_id pass.new }
+    ensures ready { IsReadyOn pool.now.words ⟦<MemBlock<WORDS> as Block>⟧.tells pass.new }
     ensures home { (view pass.new).out ≡ None }
     ensures held { AreHeld iface.now.frames (view pass.new) }
 {

@@ -1,7 +1,7 @@
 //! Trees of a root over leaves, and pools over them. The pages are worked out by hand from the formats.
 ghost use Rattle.std.specs.Prelude.{◌<◌, ◌≡◌, ◌≤◌, IfOk, None};
 ghost use Rattle.vm_core.specs.Prelude.{MAX_VERSION};
-ghost use Rattle.vm_step.specs.Prelude.{IsReady, view};
+ghost use Rattle.vm_step.specs.Prelude.{IsReadyOn, view};
 
 use std::alloc::Global;
 use std::test::Fail;
@@ -72,7 +72,7 @@ pub(crate) fn open<S: OfSize<N>, const N: usize>(
 >
     requires version { first_version ≤ MAX_VERSION }
     ensures pages { IfOk result (λ made. 2 ≤ made.0.words.table.shared.key.pages) }
-    ensures ready { IfOk result (λ made. IsReady made.0.words.table.shared.key ⟦<MemBlock<N> as Block>⟧.tells made.0.words.table.shared.table_id made.1) }
+    ensures ready { IfOk result (λ made. IsReadyOn made.0.words ⟦<MemBlock<N> as Block>⟧.tells made.1) }
     ensures home { IfOk result (λ made. (view made.1).out ≡ None) }
 {
     let image = read_image(alloc, bytes)?;

@@ -1,6 +1,4 @@
 //! Devices that fail and pages at the last version, with ample memory: each fault names its page, leaves the map as it was, and holds nothing up that can go on.
-use crate::calls::{empty, get_once, got, open_with, two_leaves, window_from};
-use crate::write_calls::{del_at, del_once, put_at, put_once, split_once, swap_at, swap_once};
 use crate::writes::put_range;
 use std::test::Fail;
 use vm_core::MAX_VERSION;
@@ -8,6 +6,10 @@ use vm_exmap::Interface;
 use vm_image::PlannedFault;
 use vm_map::call::{Reply, Swap};
 use vm_map::window::Bound;
+use vm_tree_callers::calls::{empty, get_once, got, open_with, two_leaves, window_from};
+use vm_tree_callers::write_calls::{
+    del_at, del_once, put_at, put_once, split_once, swap_at, swap_once,
+};
 use vm_tree_read::TryRead;
 use vm_tree_rule::TreeFault;
 use vm_tree_write::{TrySplit, TryWrite};

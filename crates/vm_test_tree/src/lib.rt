@@ -2,16 +2,8 @@
 #![tactic(auto)]
 
 #[cfg(test)]
-mod calls;
-#[cfg(test)]
 mod faults;
 #[cfg(test)]
-mod merges;
-#[cfg(test)]
-mod pages;
-#[cfg(test)]
 mod reads;
-#[cfg(test)]
-mod write_calls;
 #[cfg(test)]
 mod writes;

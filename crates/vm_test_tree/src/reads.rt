@@ -1,8 +1,4 @@
 //! Reads of small trees, with ample memory. The pages are worked out by hand from the formats.
-use crate::calls::{
-    empty, get_beside, get_first, get_once, got, one_leaf, open, two_leaves, window_from,
-    window_once,
-};
 use std::test::Fail;
 use vm_core::StateWord;
 use vm_exmap::Interface;
@@ -12,6 +8,10 @@ use vm_map::call::Reply;
 use vm_map::window::Bound;
 use vm_pool::Bring;
 use vm_step::At;
+use vm_tree_callers::calls::{
+    empty, get_beside, get_first, get_once, got, one_leaf, open, two_leaves, window_from,
+    window_once,
+};
 use vm_tree_read::TryRead;
 
 #[test]

@@ -1,7 +1,7 @@
 -- Both answers, one after the other.
 use Rattle.std.proofs.Common.{[], ◌++◌, ◌∙◌, ◌∷◌, ◌≡◌, ap, append-nil, append_assoc, List, refl, subst, sym, true, ℕ}
-use Rattle.vm_map.specs.{declared.call.Call.TheVariants.Get, declared.call.Call.TheVariants.Put, declared.call.Reply.Reply, declared.call.Said.Said}
-use Rattle.vm_map.specs.{History.AreReplies}
+use Rattle.vm_map.specs.{declared.call.Call.TheVariants.Get, declared.call.Call.TheVariants.Put}
+use Rattle.vm_map.specs.{declared.call.Reply.Reply, declared.call.Said.Said, History.AreReplies}
 use Rattle.vm_tree_model.specs.{Layout.Layout, Tree.map_of}
 use Rattle.vm_rule.specs.Prelude.{Entry, entry_of}
 use Rattle.vm_step.specs.Prelude.{Origin, View}
@@ -25,7 +25,11 @@ joined {E} (e ∷ l) p g = ap (λ (t : List E). e ∷ t) (joined l p g)
 
 module _ {S : Type 0} (plain : S → Said) (L : Layout) where
   -- the get by a pass that had seen the put, and these entries since
-  pub answers-behind : (key value : ℕ) (was reply : Reply) (u v x y w : View S) (rest : List (Entry S)) → IsWriteDone plain L (record { call = Put key value; reply = was }) v x → y.seen ≡ x.seen ++ rest → (u.start.tells ≡ true → y.start.tells ≡ true)
+  pub answers-behind : (key value : ℕ) (was reply : Reply) (u v x y w : View S) (rest : List (Entry S))
+      → IsWriteDone plain L (record {
+        call = Put key value;
+        reply = was;
+      }) v x → y.seen ≡ x.seen ++ rest → (u.start.tells ≡ true → y.start.tells ≡ true)
       → IsAnswered plain L (record { call = Get key; reply = reply }) y w → AnswersPut plain key value reply u w
   answers-behind key value was reply u v x y w rest a more same b =
       let p : Entry S = entry_of v a.says in
@@ -47,9 +51,14 @@ module _ {S : Type 0} (plain : S → Said) (L : Layout) where
         get_is = b.says_is;
         answer = λ tells none.
             put-got plain (map_of L y.start.contents) before p g key value reply put_is b.says_is
-            (subst (λ (l : List (Entry S)). AreReplies (map_of L y.start.contents) (saids (plain_history plain l))) (seen ∙ ap (λ (l : List (Entry S)). ((before ++ p ∷ []) ++ l) ++ g ∷ []) none ∙ joined before p g)
+            (subst (λ (l : List (Entry S)). AreReplies (map_of L y.start.contents) (saids (plain_history plain l)))
+            (seen ∙ ap (λ (l : List (Entry S)). ((before ++ p ∷ []) ++ l) ++ g ∷ []) none ∙ joined before p g)
             (b.told (same tells)).legal.replies);
       }
 
-  pub answers-put : (key value : ℕ) (was reply : Reply) (v x w : View S) → IsWriteDone plain L (record { call = Put key value; reply = was }) v x → IsAnswered plain L (record { call = Get key; reply = reply }) x w → AnswersPut plain key value reply v w
-  answers-put key value was reply v x w a b = answers-behind key value was reply v v x x w [] a (sym (append-nil x.seen)) (λ tells. ap (λ (o : Origin). o.tells) a.writes.start ∙ tells) b
+  pub answers-put : (key value : ℕ) (was reply : Reply) (v x w : View S) → IsWriteDone plain L (record {
+    call = Put key value;
+    reply = was;
+  }) v x → IsAnswered plain L (record { call = Get key; reply = reply }) x w → AnswersPut plain key value reply v w
+  answers-put key value was reply v x w a b = answers-behind key value was reply v v x x w [] a
+      (sym (append-nil x.seen)) (λ tells. ap (λ (o : Origin). o.tells) a.writes.start ∙ tells) b

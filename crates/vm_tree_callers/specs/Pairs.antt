@@ -7,7 +7,8 @@ use Rattle.vm_step.specs.Prelude.{View}
 
 -- What is said may speak of keys in its own way; `plain` reads it with a number for each key, as the call with its reply
 module _ {S : Type 0} (plain : S → Said) where
-  -- Both calls are entries of the history, in this order; and where no entry stands between them, and blocks tell their words, the get is answered
+  -- Both calls are entries of the history, in this order; and where no entry stands between them, and blocks tell
+  -- their words, the get is answered
   -- the value that was put
   pub record AnswersPut (key value : ℕ) (reply : Reply) (v w : View S) : Type 0 where
     pub before : List (Entry S)

@@ -1,11 +1,13 @@
-//! Callers of the tree, proved over the contracts of its calls alone.
+//! Callers of the tree, proved over the contracts of its calls alone; small trees, and calls on them that keep of their contracts what the next call asks for.
 #![tactic(auto)]
 
+pub mod calls;
 mod met;
 mod put_get;
 mod started;
 mod twice;
 mod why;
+pub mod write_calls;
 
 pub use met::put_meet_get;
 pub use put_get::put_then_get;

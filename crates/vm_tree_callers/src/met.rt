@@ -1,7 +1,7 @@
 // A put of one pass, and a get of the same key by another that it has met since, over the contracts of the calls alone: both entries stand in one
 // history, the put first.
 ghost use Rattle.std.specs.Prelude.{◌≡◌, ◌≤◌, IfSome, None};
-ghost use Rattle.vm_step.specs.Prelude.{MayStep, view};
+ghost use Rattle.vm_step.specs.Prelude.{IsReadyOn, MayStep, view};
 ghost use Rattle.vm_tree_callers.specs.Pairs.{AnswersPut};
 
 use vm_block::Block;
@@ -20,7 +20,7 @@ pub fn put_meet_get<K: Edits, B: Block, const N: usize>(
     key: &K::Key,
     value: u64,
 ) -> Option<Reply>
-    requires first { MayStep pool.now.words.table.shared.table_id first.old }
+    requires first { IsReadyOn pool.now.words B.tells first.old }
     requires second { MayStep pool.now.words.table.shared.table_id second.old }
     requires pages { 1 ≤ pool.now.words.table.shared.key.pages }
     requires home { (view first.old).out ≡ None }

@@ -1,7 +1,7 @@
 // A put and then a get of the same key by one pass, over their contracts alone: both entries stand in the history in order, and where no other call
 // came between them the get is answered the value, where blocks tell their words.
 ghost use Rattle.std.specs.Prelude.{◌≡◌, ◌≤◌, IfSome, None};
-ghost use Rattle.vm_step.specs.Prelude.{IsReady, IsSamePass, MayStep, view};
+ghost use Rattle.vm_step.specs.Prelude.{GoesOn, IsReadyOn, view};
 ghost use Rattle.vm_tree_callers.specs.Pairs.{AnswersPut};
 
 use vm_block::Block;
@@ -18,11 +18,10 @@ pub fn put_then_get<K: Edits, B: Block>(
     key: &K::Key,
     value: u64,
 ) -> Option<Reply>
-    requires pass { MayStep words.now.table.shared.table_id pass.old }
+    requires ready { IsReadyOn words.now B.tells pass.old }
     requires pages { 1 ≤ words.now.table.shared.key.pages }
     requires home { (view pass.old).out ≡ None }
-    ensures pass { IsSamePass pass.old pass.new }
-    ensures ready { IsReady words.now.table.shared.key B.tells words.now.table.shared.table_id pass.new }
+    ensures goes { GoesOn words.now B.tells pass.old pass.new }
     ensures answers { IfSome result (λ reply. AnswersPut K.plain (K.rank key.now) value reply (view pass.old) (view pass.new)) }
 {
     let TryWrite::Done(_was) = try_put(words, pass, key, value) else {

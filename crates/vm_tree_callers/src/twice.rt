@@ -2,7 +2,7 @@
 // the history is legal. A pass that is alone and knows the pages to be resident is answered at once.
 ghost use Rattle.std.specs.Prelude.{◌≡◌, ◌≤◌, IfSome, IsSome, true};
 ghost use Rattle.vm_tree_model.specs.Tree.{map_of};
-ghost use Rattle.vm_step.specs.Prelude.{IsReady, IsSamePass, MayStep, view};
+ghost use Rattle.vm_step.specs.Prelude.{GoesOn, IsReadyOn, view};
 ghost use Rattle.vm_tree_laws.specs.{History.IsLegal, Plain.plain_history};
 ghost use Rattle.vm_tree_rule.specs.Resident.{KnowsResident};
 ghost use Rattle.vm_tree_callers.specs.Pairs.{HasGotTwice};
@@ -19,10 +19,9 @@ pub fn get_twice<K: Kind, B: Block>(
     pass: &mut Pass<TreeOf<K>>,
     key: &K::Key,
 ) -> Option<(Reply, Reply)>
-    requires pass { MayStep words.now.table.shared.table_id pass.old }
+    requires ready { IsReadyOn words.now B.tells pass.old }
     requires pages { 1 ≤ words.now.table.shared.key.pages }
-    ensures pass { IsSamePass pass.old pass.new }
-    ensures ready { IsReady words.now.table.shared.key B.tells words.now.table.shared.table_id pass.new }
+    ensures goes { GoesOn words.now B.tells pass.old pass.new }
     ensures mine { IfSome result (λ both. HasGotTwice K.plain (K.rank key.now) both.0 both.1 (view pass.old) (view pass.new)) }
     ensures legal { B.tells ≡ true → IfSome result (λ _. IsLegal (map_of K.layout (view pass.old).start.contents) (plain_history K.plain (view pass.new).seen)) }
     ensures sure { B.tells ≡ true → KnowsResident (view pass.old) → IsSome result }

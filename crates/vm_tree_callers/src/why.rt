@@ -2,7 +2,7 @@
 // one, or a Locked page's, where blocks tell their words. So no get answers so with words that it never loaded, or with equal words of a page that is not locked.
 ghost use Rattle.std.specs.Prelude.{◌++◌, ◌≡◌, ◌≢◌, ◌≤◌, ◌⊎◌, IfSome, true};
 ghost use Rattle.vm_core.specs.Prelude.{LOCKED, state_of};
-ghost use Rattle.vm_step.specs.Prelude.{HasGiven, IsSamePass, MayStep, place_at, view};
+ghost use Rattle.vm_step.specs.Prelude.{GoesOn, HasGiven, IsReadyOn, place_at, view};
 
 use vm_block::Block;
 use vm_kind::{Kind, TreeOf};
@@ -16,9 +16,9 @@ pub fn why_again<K: Kind, B: Block>(
     pass: &mut Pass<TreeOf<K>>,
     key: &K::Key,
 ) -> Option<Saw>
-    requires pass { MayStep words.now.table.shared.table_id pass.old }
+    requires ready { IsReadyOn words.now B.tells pass.old }
     requires pages { 1 ≤ words.now.table.shared.key.pages }
-    ensures pass { IsSamePass pass.old pass.new }
+    ensures goes { GoesOn words.now B.tells pass.old pass.new }
     ensures mine { IfSome result (λ _. (view pass.new).mine ≡ (view pass.old).mine) }
     ensures seen { IfSome result (λ saw. (done : _) × ((view pass.new).log ≡ (view pass.old).log ++ done) × HasGiven done (place_at saw.at) saw.seen) }
     ensures other { B.tells ≡ true → IfSome result (λ saw. (saw.first ≢ saw.seen) ⊎ (state_of saw.seen ≡ LOCKED)) }

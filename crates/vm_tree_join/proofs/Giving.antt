@@ -1,12 +1,13 @@
 -- Numbers of pages are given: what that leaves of the pass.
-use Rattle.std.proofs.Common.{[], ⊎_elim, ◌<◌, ◌∙◌, ◌∷◌, ◌≡◌, ◌||◌, ap, arith, bit_or, eqb, false, List, refl, slice_index, slice_set, subst, sym, true, true≢false, ℕ}
+use Rattle.std.proofs.Common.{[], ⊎_elim, ◌<◌, ◌∙◌, ◌∷◌, ◌≡◌, ◌||◌, ap, arith, bit_or, eqb, false, List, refl}
+use Rattle.std.proofs.Common.{slice_index, slice_set, subst, sym, true, true≢false, ℕ}
 use Rattle.std.proofs.lemmas.Bool.{cases_Bool, cond-false, cond-true, eq-eqb, ne_eqb, or_left}
 use Rattle.std.proofs.lemmas.List.{get_or-set_other}
 use Rattle.vm_core.specs.Prelude.{in_mask}
 use Rattle.vm_rule.specs.Bundles.{frames_in}
 use Rattle.vm_rule.specs.FreeNumbers.{GiveNumbersTold}
 use Rattle.vm_rule.specs.Prelude.{bundle_count, has, index_of, IsLocking, Seat, seat_of, StartsWith, without_all}
-use Rattle.vm_rule.specs.declared.view.Place.TheVariants as places
+use Rattle.vm_rule.specs.declared.view.WordPlace.TheVariants as places
 use Rattle.vm_rule.proofs.{Bundled.has-frames_in, Bundled.has-without_all, Entries.append-none}
 use Rattle.vm_step.specs.Prelude.{HoldsPage, IsAlone, KnowsAsBefore, Origin, View}
 use Rattle.vm_step.proofs.{Alone.still-alone, Asides.holds-then, Asides.knows-then, Asides.starts-then, Asides.still-locking}
@@ -20,12 +21,18 @@ left-of : (l : List ℕ) (g mask q : ℕ) → has q (without_all (frames_in g ma
 left-of l g mask q e =
     ⊎_elim
     (λ (in-it : in_mask g mask q ≡ true).
-    absurd (true≢false (sym e ∙ has-without_all q (frames_in g mask) l ∙ cond-true (has q (frames_in g mask)) _ _ (has-frames_in g mask q ∙ in-it))))
-    (λ (off : in_mask g mask q ≡ false). (off, sym (has-without_all q (frames_in g mask) l ∙ cond-false (has q (frames_in g mask)) _ _ (has-frames_in g mask q ∙ off)) ∙ e))
+    absurd (true≢false (sym e ∙ has-without_all q (frames_in g mask) l ∙ cond-true (has q (frames_in g mask)) _ _
+    (has-frames_in g mask q ∙ in-it))))
+    (λ (off : in_mask g mask q ≡ false). (
+      off,
+      sym (has-without_all q (frames_in g mask) l ∙ cond-false (has q (frames_in g mask)) _ _
+          (has-frames_in g mask q ∙ off)) ∙ e,
+    ))
     (cases_Bool (in_mask g mask q))
 
 stays-of : (l : List ℕ) (g mask q : ℕ) → in_mask g mask q ≡ false → has q l ≡ true → has q (without_all (frames_in g mask) l) ≡ true
-stays-of l g mask q off e = has-without_all q (frames_in g mask) l ∙ cond-false (has q (frames_in g mask)) _ _ (has-frames_in g mask q ∙ off) ∙ e
+stays-of l g mask q off e = has-without_all q (frames_in g mask) l ∙ cond-false (has q (frames_in g mask)) _ _
+    (has-frames_in g mask q ∙ off) ∙ e
 
 module _ {X : Type 0} where
   -- the pass holds what it held, but for numbers that it gave, and those of these pages it has no more
@@ -55,12 +62,18 @@ module _ {X : Type 0} where
       let mask = k.1 in
       let t : GiveNumbersTold g mask k.2 v w = k.5 in
       let b = t.brings in
-      let o : LeavesOthers (λ (q : ℕ). ⊥) _ [] v w = others-tied b ([], refl) tt (λ q ne. refl) (λ q ne. refl) (λ q ne. refl) (λ q ne. refl) in
+      let o : LeavesOthers (λ (q : ℕ). ⊥) _ [] v w = others-tied b ([], refl) tt (λ q ne. refl) (λ q ne. refl)
+      (λ q ne. refl) (λ q ne. refl) in
       let numbers : w.numbers ≡ without_all (frames_in g mask) v.numbers = ap (λ (x : View X). x.numbers) b.view in
       let freed : w.freed ≡ without_all (frames_in g mask) v.freed = ap (λ (x : View X). x.freed) b.view in
-      let else : (q : ℕ) → in_mask g mask q ≡ false → has q (p ∷ []) ≡ false = λ q off i. ne_eqb q p (λ e. true≢false (sym k.3 ∙ ap (in_mask g mask) (sym e) ∙ off)) i || false in
-      let not : (q : ℕ) → has q (p ∷ []) ≡ false → in_mask g mask q ≡ false = λ q off. ⊎_elim (λ (t : in_mask g mask q ≡ true). absurd (true≢false (sym (or_left (eqb q p) false (eq-eqb q p (k.4 q t))) ∙ off))) (λ (f : in_mask g mask q ≡ false). f) (cases_Bool (in_mask g mask q)) in
-      let moved : (a : IsAlone v) → w.snapshot.words ≡ slice_set v.snapshot.words (index_of v.start (places.Spare g)) (bit_or k.2 mask) = λ a. ap (λ (x : View X). x.snapshot.words) b.view ∙ (b.alone a.0 a.1).2.words in
+      let else : (q : ℕ) → in_mask g mask q ≡ false → has q (p ∷ []) ≡ false = λ q off i.
+      ne_eqb q p (λ e. true≢false (sym k.3 ∙ ap (in_mask g mask) (sym e) ∙ off)) i || false in
+      let not : (q : ℕ) → has q (p ∷ []) ≡ false → in_mask g mask q ≡ false =
+      λ q off. ⊎_elim (λ (t : in_mask g mask q ≡ true).
+      absurd (true≢false (sym (or_left (eqb q p) false (eq-eqb q p (k.4 q t))) ∙ off)))
+      (λ (f : in_mask g mask q ≡ false). f) (cases_Bool (in_mask g mask q)) in
+      let moved : (a : IsAlone v) → w.snapshot.words ≡ slice_set v.snapshot.words (index_of v.start (places.Spare g))
+      (bit_or k.2 mask) = λ a. ap (λ (x : View X). x.snapshot.words) b.view ∙ (b.alone a.0 a.1).2.words in
       record {
         start = o.start;
         parts = o.parts;
@@ -72,7 +85,11 @@ module _ {X : Type 0} where
         out = o.out;
         frames = o.keeps.frames;
         group = (ap (λ (x : View X). x.pending) b.view, ap (λ (x : View X). x.owed) b.view);
-        holds = λ q. let s = o.seats q (λ x. x) in record { shares = ap (λ (z : Seat). z.shares) s; exclusive = ap (λ (z : Seat). z.exclusive) s; writing = ap (λ (z : Seat). z.writing) s };
+        holds = λ q. let s = o.seats q (λ x. x) in record {
+          shares = ap (λ (z : Seat). z.shares) s;
+          exclusive = ap (λ (z : Seat). z.exclusive) s;
+          writing = ap (λ (z : Seat). z.writing) s;
+        };
         knows = λ q l. record { held = o.held q (λ x. x); draft = o.drafts q (λ x. x); last = o.last q (λ x. x) l };
         numbers = λ q e. (left-of v.numbers g mask q (ap (has q) (sym numbers) ∙ e)).1;
         freed = λ q e. let l = left-of v.freed g mask q (ap (has q) (sym freed) ∙ e) in (l.1, else q l.0);
@@ -80,11 +97,13 @@ module _ {X : Type 0} where
         current = λ e. ap (λ (x : View X). x.current) b.view;
         words = λ a q inside.
             ap (λ (l : List ℕ). slice_index l q) (moved a)
-            ∙ get_or-set_other v.snapshot.words (index_of v.start (places.Spare g)) q (bit_or k.2 mask) 0 (λ e. let more = bundle_count v.start in omega (arith, inside, e));
+            ∙ get_or-set_other v.snapshot.words (index_of v.start (places.Spare g)) q (bit_or k.2 mask) 0
+            (λ e. let more = bundle_count v.start in omega (arith, inside, e));
         next = λ a.
             ap (λ (s : Origin). slice_index w.snapshot.words (index_of s places.Next)) o.start
             ∙ ap (λ (l : List ℕ). slice_index l (index_of v.start places.Next)) (moved a)
-            ∙ get_or-set_other v.snapshot.words (index_of v.start (places.Spare g)) (index_of v.start places.Next) (bit_or k.2 mask) 0 (λ e. omega (arith, e));
+            ∙ get_or-set_other v.snapshot.words (index_of v.start (places.Spare g)) (index_of v.start places.Next)
+            (bit_or k.2 mask) 0 (λ e. omega (arith, e));
       }
 
   pub gives-all : (ps : List ℕ) (v w : View X) → AreNumbersGiven ps v w → Gives ps v w
@@ -129,7 +148,8 @@ module _ {X : Type 0} where
         freed = λ q e. let a = r.freed q e in let b = f.freed q a.0 in (b.0, both q p ps b.1 a.1);
         kept = λ q e off. let l = lacks q p ps off in r.kept q (f.kept q e (λ i. ne_eqb q p l.0 i || false)) l.1;
         current = λ e. r.current (f.current e);
-        words = λ a q inside. r.words (still-alone v x f.parts f.current a) q (subst (λ (o : Origin). q < o.pages) (sym f.start) inside) ∙ f.words a q inside;
+        words = λ a q inside. r.words (still-alone v x f.parts f.current a) q
+            (subst (λ (o : Origin). q < o.pages) (sym f.start) inside) ∙ f.words a q inside;
         next = λ a. r.next (still-alone v x f.parts f.current a) ∙ f.next a;
       }
     where

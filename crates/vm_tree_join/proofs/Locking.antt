@@ -1,5 +1,6 @@
 -- Pages that are locked one after the other: what was read of them stays read until its turn, each lock proves it, and all stay locked.
-use Rattle.std.proofs.Common.{[], ⊎_elim, ◌++◌, ◌<◌, ◌||◌, ◌∙◌, ◌∷◌, ◌≡◌, ◌≢◌, ap, append_assoc, false, inl, length, List, refl, subst, sym, true, true≢false, ℕ}
+use Rattle.std.proofs.Common.{[], ⊎_elim, ◌++◌, ◌<◌, ◌||◌, ◌∙◌, ◌∷◌, ◌≡◌, ◌≢◌, ap, append_assoc, false, inl, length}
+use Rattle.std.proofs.Common.{List, refl, subst, sym, true, true≢false, ℕ}
 use Rattle.std.proofs.lemmas.Bool.{cases_eq, ne_eqb}
 use Rattle.vm_tree_model.specs.Layout.{Layout}
 use Rattle.vm_core.specs.Prelude.{Version}
@@ -8,13 +9,15 @@ use Rattle.vm_rule.specs.declared.view.Held.{Held}
 use Rattle.vm_rule.proofs.Entries.{append-none}
 use Rattle.vm_step.specs.Prelude.{HoldsPage, IsAlone, KeepsNumbers, KnowsAsBefore, Origin, ReadsAsBefore, Tie, View}
 use Rattle.vm_step.proofs.Asides.{holds-then, knows-then, numbers-then, still-locking}
-use Rattle.vm_guard.specs.{declared.exclusive.ExclusiveGuard.ExclusiveGuard, declared.opt.OptGuard.OptGuard, Groups.GuardsHeld, Groups.pids_of, Guards.IsHolding, Guards.IsReading}
+use Rattle.vm_guard.specs.{declared.exclusive.ExclusiveGuard.ExclusiveGuard, declared.opt.OptGuard.OptGuard}
+use Rattle.vm_guard.specs.{Groups.GuardsHeld, Groups.pids_of, Guards.IsHolding, Guards.IsReading}
 use Rattle.vm_guard.specs.Sure.{IsUnlockedWord, known_next, known_word}
 use Rattle.vm_guard.proofs.{Groups.lacks, Reading.reading-kept}
 use Rattle.vm_tree_laws.specs.Tied.{Tied}
 use Rattle.vm_tree_rule.specs.{Standing.MeetsTies}
 use Rattle.vm_tree_split.specs.{Prepares.KnowsBoth, Prepares.guard_pages, Splits.HasDraft}
-use Rattle.vm_tree_split.proofs.{Framing.unheld-not, Settling.locked-alone, Settling.locked-next, Settling.locked-word, Splitting.among-first, Splitting.among-later}
+use Rattle.vm_tree_split.proofs.{Framing.unheld-not, Settling.locked-alone, Settling.locked-next}
+use Rattle.vm_tree_split.proofs.{Settling.locked-word, Splitting.among-first, Splitting.among-later}
 use Rattle.vm_tree_split.proofs.Under.{but-then, KeepsBut, locked-but, locked-draft, meets-fewer, Was, was-before, was-locked, was-on}
 use Rattle.vm_tree_join.specs.Locks.{AreAllLocked, IsKindOf, IsLockedAt, IsReadAs, KnowsFree}
 
@@ -48,7 +51,9 @@ module _ {X : Type 0} where
     ties = (g.ties.0 ++ f.ties.0, g.ties.1 ∙ ap (λ (t : List Tie). g.ties.0 ++ t) f.ties.1 ∙ sym (append_assoc g.ties.0 f.ties.0 u.ties));
   }
 
-  pub holding-kept : (p f version : ℕ) (dirty : _) (v w : View X) → w.start ≡ v.start → HoldsPage v w p → (IsLocking (seat_of v p) → KnowsAsBefore v w p) → w.pending ≡ v.pending → IsHolding p f version dirty v → IsHolding p f version dirty w
+  pub holding-kept : (p f version : ℕ) (dirty : _) (v w : View X) → w.start ≡ v.start → HoldsPage v w p
+      → (IsLocking (seat_of v p) → KnowsAsBefore v w p) → w.pending ≡ v.pending → IsHolding p f version dirty v
+      → IsHolding p f version dirty w
   holding-kept p f version dirty v w start holds knows pending h =
       let k : KnowsAsBefore v w p = knows (inl h.owns) in
       record {
@@ -67,8 +72,12 @@ module _ {X : Type 0} where
   holding-past : (p f version : ℕ) (dirty : _) (v w : View X) → IsPast p v w → IsHolding p f version dirty v → IsHolding p f version dirty w
   holding-past p f version dirty v w e h = holding-kept p f version dirty v w e.start e.holds e.knows e.pending h
 
-  pub draft-past : (p : ℕ) (old new : List ℕ) (v w : View X) → IsPast p v w → (seat_of v p).exclusive ≡ true → HasDraft p old new v → HasDraft p old new w
-  draft-past p old new v w e owns h = let k : KnowsAsBefore v w p = e.knows (inl owns) in record { last = ap (λ (y : Version). y.words) k.last ∙ h.last; draft = k.draft ∙ h.draft }
+  pub draft-past : (p : ℕ) (old new : List ℕ) (v w : View X) → IsPast p v w → (seat_of v p).exclusive ≡ true
+      → HasDraft p old new v → HasDraft p old new w
+  draft-past p old new v w e owns h = let k : KnowsAsBefore v w p = e.knows (inl owns) in record {
+    last = ap (λ (y : Version). y.words) k.last ∙ h.last;
+    draft = k.draft ∙ h.draft;
+  }
 
   pub reading-past : (p word frame : ℕ) (v w : View X) → IsPast p v w → IsReading p word frame v → IsReading p word frame w
   reading-past p word frame v w e r = reading-kept p word frame v w r e.start e.holds (λ l. (e.knows l).held) e.reads.reading
@@ -85,12 +94,14 @@ module _ {X : Type 0} (L : Layout) where
     ties = k.locked.elsewhere.steady.ties;
   }
 
-  pub locks-past : (p : ℕ) (gs : List OptGuard) (ls : List ExclusiveGuard) (v w : View X) → has p (guard_pages gs) ≡ false → AreAllLocked L gs ls v w → IsPast p v w
+  pub locks-past : (p : ℕ) (gs : List OptGuard) (ls : List ExclusiveGuard) (v w : View X)
+      → has p (guard_pages gs) ≡ false → AreAllLocked L gs ls v w → IsPast p v w
   locks-past p [] [] v w none k = subst (IsPast p v) (sym k) (past-self p v)
   locks-past p [] (l ∷ ls) v w none k = absurd k
   locks-past p (g ∷ gs) [] v w none k = absurd k
   locks-past p (g ∷ gs) (l ∷ ls) v w none k =
-      let ne = lacks p g.pid (guard_pages gs) none in past-then p v k.0 w (locked-past p g l v k.0 ne.0 k.1) (locks-past p gs ls k.0 w ne.1 k.2)
+      let ne = lacks p g.pid (guard_pages gs) none in past-then p v k.0 w (locked-past p g l v k.0 ne.0 k.1)
+      (locks-past p gs ls k.0 w ne.1 k.2)
 
   pub locks-pids : (gs : List OptGuard) (ls : List ExclusiveGuard) (v w : View X) → AreAllLocked L gs ls v w → pids_of ls ≡ guard_pages gs
   locks-pids [] [] v w k = refl
@@ -99,32 +110,41 @@ module _ {X : Type 0} (L : Layout) where
   locks-pids (g ∷ gs) (l ∷ ls) v w k = let rest = locks-pids gs ls k.0 w k.2 in λ i. k.1.page i ∷ rest i
 
   -- each page is held
-  pub locks-held : (gs : List OptGuard) (ls : List ExclusiveGuard) (v w : View X) → AreApart (guard_pages gs) → AreAllLocked L gs ls v w → GuardsHeld w ls
+  pub locks-held : (gs : List OptGuard) (ls : List ExclusiveGuard) (v w : View X) → AreApart (guard_pages gs)
+      → AreAllLocked L gs ls v w → GuardsHeld w ls
   locks-held [] [] v w apart k = tt
   locks-held [] (l ∷ ls) v w apart k = absurd k
   locks-held (g ∷ gs) [] v w apart k = absurd k
   locks-held (g ∷ gs) (l ∷ ls) v w apart k = (
-    subst (λ p. IsHolding p l.frame l.version l.dirty w) (sym k.1.page) (holding-past g.pid l.frame l.version l.dirty k.0 w (locks-past g.pid gs ls k.0 w apart.0 k.2) k.1.locked.holding),
+    subst (λ p. IsHolding p l.frame l.version l.dirty w) (sym k.1.page)
+        (holding-past g.pid l.frame l.version l.dirty k.0 w (locks-past g.pid gs ls k.0 w apart.0 k.2)
+        k.1.locked.holding),
     locks-held gs ls k.0 w apart.1 k.2,
   )
 
   -- ---- what was read of the pages
 
-  pub read-past : (g : OptGuard) (page : List ℕ) (tag : ℕ) (v w : View X) → IsPast g.pid v w → IsReadAs L g page tag v → IsReadAs L g page tag w
+  pub read-past : (g : OptGuard) (page : List ℕ) (tag : ℕ) (v w : View X) → IsPast g.pid v w → IsReadAs L g page tag v
+      → IsReadAs L g page tag w
   read-past g page tag v w e r = record {
     reading = reading-past g.pid g.word g.frame v w e r.reading;
     read = (r.read.0, e.reads.loads ∙ r.read.1);
-    kind = λ tells words meets. r.kind (ap (λ (o : Origin). o.tells) (sym e.start) ∙ tells) words (meets-fewer L g.pid g.word words v w e.start e.ties meets);
+    kind = λ tells words meets. r.kind (ap (λ (o : Origin). o.tells) (sym e.start) ∙ tells) words
+        (meets-fewer L g.pid g.word words v w e.start e.ties meets);
   }
 
-  read-locked : (g : OptGuard) (l : ExclusiveGuard) (page : List ℕ) (tag : ℕ) (v x : View X) → length page ≡ L.words → v.start.tells ≡ true → v.start.size ≡ L.words → IsReadAs L g page tag v → IsLockedAt L g l v x
+  read-locked : (g : OptGuard) (l : ExclusiveGuard) (page : List ℕ) (tag : ℕ) (v x : View X) → length page ≡ L.words
+      → v.start.tells ≡ true → v.start.size ≡ L.words → IsReadAs L g page tag v → IsLockedAt L g l v x
       → HasDraft g.pid page page x × IsKindOf L tag page
   read-locked g l page tag v x long tells whole r k =
-      let draft = locked-draft g.pid l.frame l.version g.word g.frame l.dirty page v x r.reading long (ap (λ (o : Origin). o.size) k.locked.elsewhere.steady.start ∙ whole) r.read tells k.version k.locked in (
+      let draft = locked-draft g.pid l.frame l.version g.word g.frame l.dirty page v x r.reading long
+      (ap (λ (o : Origin). o.size) k.locked.elsewhere.steady.start ∙ whole) r.read tells k.version k.locked in (
         draft,
         r.kind tells page
             (subst (λ (z : List ℕ). MeetsTies L v g.pid g.word z) draft.last
-            (subst (λ (n : ℕ). Each (λ (t : Tie). t.page ≡ g.pid → t.version ≡ n → Tied L (began_of v.start) t.of t.words g.pid (last_of x g.pid).words) v.ties) k.version (k.locked.validates tells).holds)),
+            (subst (λ (n : ℕ). Each (λ (t : Tie). t.page ≡ g.pid → t.version ≡ n
+            → Tied L (began_of v.start) t.of t.words g.pid (last_of x g.pid).words) v.ties) k.version
+            (k.locked.validates tells).holds)),
       )
 
   -- these words, with these tags, were read of the pages
@@ -141,7 +161,8 @@ module _ {X : Type 0} (L : Layout) where
   HaveWords (l ∷ ls) [] v = ⊥
   HaveWords (l ∷ ls) (p ∷ ps) v = HasDraft l.pid p.0 p.0 v × IsKindOf L p.1 p.0 × HaveWords ls ps v
 
-  pub reads-past : (h : OptGuard) (l : ExclusiveGuard) (gs : List OptGuard) (ps : List (List ℕ × ℕ)) (v w : View X) → has h.pid (guard_pages gs) ≡ false → IsLockedAt L h l v w → AreRead gs ps v → AreRead gs ps w
+  pub reads-past : (h : OptGuard) (l : ExclusiveGuard) (gs : List OptGuard) (ps : List (List ℕ × ℕ)) (v w : View X)
+      → has h.pid (guard_pages gs) ≡ false → IsLockedAt L h l v w → AreRead gs ps v → AreRead gs ps w
   reads-past h l [] [] v w none k r = tt
   reads-past h l [] (p ∷ ps) v w none k r = absurd r
   reads-past h l (g ∷ gs) [] v w none k r = absurd r
@@ -149,7 +170,9 @@ module _ {X : Type 0} (L : Layout) where
       let ne = lacks h.pid g.pid (guard_pages gs) none in
       (read-past g p.0 p.1 v w (locked-past g.pid h l v w (λ e. ne.0 (sym e)) k) r.0, r.1, reads-past h l gs ps v w ne.1 k r.2)
 
-  pub locks-words : (gs : List OptGuard) (ls : List ExclusiveGuard) (ps : List (List ℕ × ℕ)) (v w : View X) → AreApart (guard_pages gs) → v.start.tells ≡ true → v.start.size ≡ L.words → AreRead gs ps v → AreAllLocked L gs ls v w → HaveWords ls ps w
+  pub locks-words : (gs : List OptGuard) (ls : List ExclusiveGuard) (ps : List (List ℕ × ℕ)) (v w : View X)
+      → AreApart (guard_pages gs) → v.start.tells ≡ true → v.start.size ≡ L.words → AreRead gs ps v
+      → AreAllLocked L gs ls v w → HaveWords ls ps w
   locks-words [] [] [] v w apart tells whole r k = tt
   locks-words [] [] (p ∷ ps) v w apart tells whole r k = absurd r
   locks-words [] (l ∷ ls) ps v w apart tells whole r k = absurd k
@@ -158,14 +181,18 @@ module _ {X : Type 0} (L : Layout) where
   locks-words (g ∷ gs) (l ∷ ls) (p ∷ ps) v w apart tells whole r k =
       let start = k.1.locked.elsewhere.steady.start in
       let here = read-locked g l p.0 p.1 v k.0 r.1 tells whole r.0 k.1 in (
-        subst (λ n. HasDraft n p.0 p.0 w) (sym k.1.page) (draft-past g.pid p.0 p.0 k.0 w (locks-past g.pid gs ls k.0 w apart.0 k.2) k.1.locked.holding.owns here.0),
+        subst (λ n. HasDraft n p.0 p.0 w) (sym k.1.page)
+            (draft-past g.pid p.0 p.0 k.0 w (locks-past g.pid gs ls k.0 w apart.0 k.2) k.1.locked.holding.owns
+            here.0),
         here.1,
-        locks-words gs ls ps k.0 w apart.1 (ap (λ (o : Origin). o.tells) start ∙ tells) (ap (λ (o : Origin). o.size) start ∙ whole) (reads-past g l gs ps v k.0 apart.0 k.1 r.2) k.2,
+        locks-words gs ls ps k.0 w apart.1 (ap (λ (o : Origin). o.tells) start ∙ tells)
+            (ap (λ (o : Origin). o.size) start ∙ whole) (reads-past g l gs ps v k.0 apart.0 k.1 r.2) k.2,
       )
 
   -- ---- what the pass has beside the locks
 
-  pub locks-but : (pages : List ℕ) (gs : List OptGuard) (ls : List ExclusiveGuard) (v w : View X) → ((p : ℕ) → has p (guard_pages gs) ≡ true → has p pages ≡ true) → AreAllLocked L gs ls v w → KeepsBut pages v w
+  pub locks-but : (pages : List ℕ) (gs : List OptGuard) (ls : List ExclusiveGuard) (v w : View X)
+      → ((p : ℕ) → has p (guard_pages gs) ≡ true → has p pages ≡ true) → AreAllLocked L gs ls v w → KeepsBut pages v w
   locks-but pages [] [] v w among k = subst (KeepsBut pages v) (sym k) (record {
     start = refl;
     parts = (refl, refl);
@@ -183,7 +210,8 @@ module _ {X : Type 0} (L : Layout) where
   locks-but pages [] (l ∷ ls) v w among k = absurd k
   locks-but pages (g ∷ gs) [] v w among k = absurd k
   locks-but pages (g ∷ gs) (l ∷ ls) v w among k =
-      but-then pages v k.0 w (locked-but pages g.pid l.frame l.version l.dirty v k.0 (among g.pid (among-first g.pid (guard_pages gs))) k.1.locked)
+      but-then pages v k.0 w (locked-but pages g.pid l.frame l.version l.dirty v k.0
+      (among g.pid (among-first g.pid (guard_pages gs))) k.1.locked)
       (locks-but pages gs ls k.0 w (λ p e. among p (among-later p g.pid (guard_pages gs) e)) k.2)
 
   -- the locks of these pages are new, and none is owed; the frames, the notes and the numbers stay
@@ -200,7 +228,8 @@ module _ {X : Type 0} (L : Layout) where
     pub next : IsAlone v → known_next w ≡ known_next v
     pub inside : (p : ℕ) → has p (guard_pages gs) ≡ true → p < v.start.pages
 
-  pub locks-all : (gs : List OptGuard) (ls : List ExclusiveGuard) (v w : View X) → AreApart (guard_pages gs) → AreAllLocked L gs ls v w → LocksAll gs v w
+  pub locks-all : (gs : List OptGuard) (ls : List ExclusiveGuard) (v w : View X) → AreApart (guard_pages gs)
+      → AreAllLocked L gs ls v w → LocksAll gs v w
   locks-all [] [] v w apart k = subst (LocksAll [] v) (sym k) (record {
     frames = refl;
     notes = refl;
@@ -220,7 +249,8 @@ module _ {X : Type 0} (L : Layout) where
       let x = k.0 in
       let one = k.1.locked in
       let r = locks-all gs ls x w apart.1 k.2 in
-      let behind : (p : ℕ) → p ≢ g.pid → has p (guard_pages (g ∷ gs)) ≡ true → has p (guard_pages gs) ≡ true = λ p ne e. sym (ap (λ b. b || has p (guard_pages gs)) (ne_eqb p g.pid ne)) ∙ e in
+      let behind : (p : ℕ) → p ≢ g.pid → has p (guard_pages (g ∷ gs)) ≡ true → has p (guard_pages gs) ≡ true =
+      λ p ne e. sym (ap (λ b. b || has p (guard_pages gs)) (ne_eqb p g.pid ne)) ∙ e in
       let beyond = locks-past g.pid gs ls x w apart.0 k.2 in
       record {
         frames = r.frames ∙ one.elsewhere.steady.frames.0;
@@ -228,40 +258,53 @@ module _ {X : Type 0} (L : Layout) where
         group = (r.group.0 ∙ one.group.0, r.group.1 ∙ one.group.1);
         numbers = numbers-then v x w one.elsewhere.steady.start one.numbers r.numbers;
         unpaid = λ p e.
-            ⊎_elim (λ (same : p ≡ g.pid). ap (λ n. has n v.owed) same ∙ one.before.paid) (λ ne. ap (has p) (sym one.group.1) ∙ r.unpaid p (behind p ne e)) (cases_eq p g.pid);
+            ⊎_elim (λ (same : p ≡ g.pid). ap (λ n. has n v.owed) same ∙ one.before.paid)
+            (λ ne. ap (has p) (sym one.group.1) ∙ r.unpaid p (behind p ne e)) (cases_eq p g.pid);
         unlocked = λ q lock.
             ⊎_elim (λ (same : q ≡ g.pid). absurd (unheld-not g.pid v one.before (subst (λ n. IsLocking (seat_of v n)) same lock)))
             (λ ne. let rest = r.unlocked q (still-locking v x q (one.elsewhere.holds q ne) lock) in λ i. ne_eqb q g.pid ne i || rest i)
             (cases_eq q g.pid);
         was = λ p e.
             ⊎_elim
-            (λ (same : p ≡ g.pid). subst (λ n. Was n v w) (sym same) (was-on g.pid v x w (was-locked g.pid l.frame l.version l.dirty v x one) beyond.holds))
+            (λ (same : p ≡ g.pid). subst (λ n. Was n v w) (sym same)
+            (was-on g.pid v x w (was-locked g.pid l.frame l.version l.dirty v x one) beyond.holds))
             (λ ne. was-before p v x w (one.elsewhere.holds p ne) (r.was p (behind p ne e)))
             (cases_eq p g.pid);
         words = λ a q e.
             let ne = lacks q g.pid (guard_pages gs) e in
-            r.words (locked-alone g.pid l.frame l.version l.dirty v x one a) q ne.1 ∙ locked-word g.pid l.frame l.version l.dirty v x one a q ne.0;
+            r.words (locked-alone g.pid l.frame l.version l.dirty v x one a) q ne.1 ∙ locked-word g.pid l.frame
+            l.version l.dirty v x one a q ne.0;
         alone = λ a. r.alone (locked-alone g.pid l.frame l.version l.dirty v x one a);
         next = λ a. r.next (locked-alone g.pid l.frame l.version l.dirty v x one a) ∙ locked-next g.pid l.frame l.version l.dirty v x one a;
         inside = λ p e.
-            ⊎_elim (λ (same : p ≡ g.pid). subst (λ n. n < v.start.pages) (sym same) (subst (λ (o : Origin). g.pid < o.pages) one.elsewhere.steady.start one.holding.page))
+            ⊎_elim (λ (same : p ≡ g.pid). subst (λ n. n < v.start.pages) (sym same)
+            (subst (λ (o : Origin). g.pid < o.pages) one.elsewhere.steady.start one.holding.page))
             (λ ne. subst (λ (o : Origin). p < o.pages) one.elsewhere.steady.start (r.inside p (behind p ne e)))
             (cases_eq p g.pid);
       }
 
   -- ---- a pass that is alone, and knows the pages to be free
 
-  pub free-past : (h : OptGuard) (l : ExclusiveGuard) (gs : List OptGuard) (v x : View X) → has h.pid (guard_pages gs) ≡ false → IsLockedAt L h l v x → KnowsFree (h ∷ gs) v → KnowsFree gs x
+  pub free-past : (h : OptGuard) (l : ExclusiveGuard) (gs : List OptGuard) (v x : View X)
+      → has h.pid (guard_pages gs) ≡ false → IsLockedAt L h l v x → KnowsFree (h ∷ gs) v → KnowsFree gs x
   free-past h l gs v x none k free = record {
     alone = locked-alone h.pid l.frame l.version l.dirty v x k.locked free.alone;
     each = all gs none free.each.1;
   }
     where
-      all : (ms : List OptGuard) → has h.pid (guard_pages ms) ≡ false → Each (λ g. IsUnlockedWord g.word × (known_word g.pid v ≡ g.word)) ms → Each (λ g. IsUnlockedWord g.word × (known_word g.pid x ≡ g.word)) ms
+      all : (ms : List OptGuard) → has h.pid (guard_pages ms) ≡ false
+          → Each (λ g. IsUnlockedWord g.word × (known_word g.pid v ≡ g.word)) ms
+          → Each (λ g. IsUnlockedWord g.word × (known_word g.pid x ≡ g.word)) ms
       all [] none each = tt
       all (m ∷ ms) none each =
-          let ne = lacks h.pid m.pid (guard_pages ms) none in
-          ((each.0.0, locked-word h.pid l.frame l.version l.dirty v x k.locked free.alone m.pid (λ e. ne.0 (sym e)) ∙ each.0.1), all ms ne.1 each.1)
+          let ne = lacks h.pid m.pid (guard_pages ms) none in (
+            (
+              each.0.0,
+              locked-word h.pid l.frame l.version l.dirty v x k.locked free.alone m.pid (λ e. ne.0 (sym e))
+                  ∙ each.0.1,
+            ),
+            all ms ne.1 each.1,
+          )
 
 module _ {X : Type 0} where
   pub free-both : (a b : OptGuard) (v : View X) → KnowsFree (a ∷ b ∷ []) v → KnowsBoth a b v

@@ -1,5 +1,7 @@
--- Three pages that are held get the drafts of a merge, and are released together: the right leaf's page is free then, and its number still to be given.
-use Rattle.std.proofs.Common.{[], ⊎_elim, ◌++◌, ◌∙◌, ◌∷◌, ◌≡◌, ◌≤◌, ap, arith, false, if◌then◌else◌, List, None, refl, replicate, Some, subst, suc, sym, true, zero, ℕ}
+-- Three pages that are held get the drafts of a merge, and are released together: the right leaf's page is free then,
+-- and its number still to be given.
+use Rattle.std.proofs.Common.{[], ⊎_elim, ◌++◌, ◌∙◌, ◌∷◌, ◌≡◌, ◌≤◌, ap, arith, false, if◌then◌else◌, List, None, refl}
+use Rattle.std.proofs.Common.{replicate, Some, subst, suc, sym, true, zero, ℕ}
 use Rattle.std.proofs.lemmas.Bool.{cond-false, cond-true}
 use Rattle.vm_map.specs.declared.call.Said.{Said}
 use Rattle.vm_page.specs.Pages.{all_zero}
@@ -22,7 +24,9 @@ pub all-zeros : (n : ℕ) → all_zero (replicate n 0) ≡ true
 all-zeros zero = refl
 all-zeros (suc n) = all-zeros n
 
-module _ (L : Layout) (laws : IsLayout L) (up left right : ℕ) (over above first joined second : List ℕ) (said : Said) (m : MayMerge L (page_change up over above) (page_change left first joined) (page_change right second (replicate L.words 0)) said) where
+module _ (L : Layout) (laws : IsLayout L) (up left right : ℕ) (over above first joined second : List ℕ) (said : Said)
+    (m : MayMerge L (page_change up over above) (page_change left first joined)
+    (page_change right second (replicate L.words 0)) said) where
   -- words with the tag of a node are not all 0
   tagged : (words : List ℕ) (t : ℕ) → (node_of L words).tag ≡ t → 2 ≤ t → t ≤ 3 → all_zero words ≡ false
   tagged words t tag low high = node_words L laws words (omega (arith, tag, low), omega (arith, tag, high))
@@ -46,31 +50,42 @@ module _ (L : Layout) (laws : IsLayout L) (up left right : ℕ) (over above firs
   pub joined-used : all_zero joined ≡ false
   joined-used = tagged joined 2 (ap (λ (n : Node). n.tag) m.joined.node ∙ mid-leaf) (omega arith) (omega arith)
 
-module _ {S : Type 0} (plain : S → Said) (L : Layout) (laws : IsLayout L) (said : S) (a b c : ℕ) (over above first joined second : List ℕ) (v y : View S) (g1 g2 g3 : ExclusiveGuard)
+module _ {S : Type 0} (plain : S → Said) (L : Layout) (laws : IsLayout L) (said : S) (a b c : ℕ)
+    (over above first joined second : List ℕ) (v y : View S) (g1 g2 g3 : ExclusiveGuard)
     (stays : Stays (g1 ∷ g2 ∷ g3 ∷ []) v y) (e1 : g1.pid ≡ a) (e2 : g2.pid ≡ b) (e3 : g3.pid ≡ c)
     (three : y.start.tells ≡ true → HasDraft a over above y × HasDraft b first joined y × HasDraft c second (replicate L.words 0) y)
-    (merge : v.start.tells ≡ true → MayMerge L (page_change a over above) (page_change b first joined) (page_change c second (replicate L.words 0)) (plain said)) where
-  merge-then : y.start.tells ≡ true → MayMerge L (page_change a over above) (page_change b first joined) (page_change c second (replicate L.words 0)) (plain said)
+    (merge : v.start.tells ≡ true → MayMerge L (page_change a over above) (page_change b first joined)
+    (page_change c second (replicate L.words 0)) (plain said)) where
+  merge-then : y.start.tells ≡ true → MayMerge L (page_change a over above) (page_change b first joined)
+      (page_change c second (replicate L.words 0)) (plain said)
   merge-then tells = merge (ap (λ (o : Origin). o.tells) (sym stays.start) ∙ tells)
 
   -- the drafts are the merge
-  pub merge-may : y.start.tells ≡ true → ReleasesPlain plain L (began_of y.start) y.owed (changes_of y (a ∷ b ∷ c ∷ [])) (entries_of y (Some said))
+  pub merge-may : y.start.tells ≡ true → ReleasesPlain plain L (began_of y.start) y.owed
+      (changes_of y (a ∷ b ∷ c ∷ [])) (entries_of y (Some said))
   merge-may tells =
       let t = three tells in
       subst (λ (l : List ℕ). MayMerge L (page_change a l (draft_of y a)) (change_of y b) (change_of y c) (plain said)) (sym t.0.last)
       (subst (λ (l : List ℕ). MayMerge L (page_change a over l) (change_of y b) (change_of y c) (plain said)) (sym t.0.draft)
-      (subst (λ (l : List ℕ). MayMerge L (page_change a over above) (page_change b l (draft_of y b)) (change_of y c) (plain said)) (sym t.1.last)
+      (subst (λ (l : List ℕ). MayMerge L (page_change a over above) (page_change b l (draft_of y b)) (change_of y c)
+      (plain said)) (sym t.1.last)
       (subst (λ (l : List ℕ). MayMerge L (page_change a over above) (page_change b first l) (change_of y c) (plain said)) (sym t.1.draft)
-      (subst (λ (l : List ℕ). MayMerge L (page_change a over above) (page_change b first joined) (page_change c l (draft_of y c)) (plain said)) (sym t.2.last)
-      (subst (λ (l : List ℕ). MayMerge L (page_change a over above) (page_change b first joined) (page_change c second l) (plain said)) (sym t.2.draft) (merge-then tells))))))
+      (subst (λ (l : List ℕ). MayMerge L (page_change a over above) (page_change b first joined)
+      (page_change c l (draft_of y c)) (plain said)) (sym t.2.last)
+      (subst (λ (l : List ℕ). MayMerge L (page_change a over above) (page_change b first joined)
+      (page_change c second l) (plain said)) (sym t.2.draft) (merge-then tells))))))
 
-  pub merge-all : AreApart (a ∷ b ∷ c ∷ []) → v.out ≡ None → IsHolding g1.pid g1.frame g1.version g1.dirty y → IsHolding g2.pid g2.frame g2.version g2.dirty y → IsHolding g3.pid g3.frame g3.version g3.dirty y
+  pub merge-all : AreApart (a ∷ b ∷ c ∷ []) → v.out ≡ None → IsHolding g1.pid g1.frame g1.version g1.dirty y
+      → IsHolding g2.pid g2.frame g2.version g2.dirty y → IsHolding g3.pid g3.frame g3.version g3.dirty y
       → MayReleaseAll (ReleasesPlain plain L) (g1 ∷ g2 ∷ g3 ∷ []) (Some said) y
   merge-all apart out h1 h2 h3 =
       may-three plain L (Some said) g1 g2 g3 a b c y e1 e2 e3 h1 h2 h3 apart (stays.out ∙ out)
-      (λ tells. words-claimed a over above y (three tells).0 (over-used L laws a b c over above first joined second (plain said) (merge-then tells)))
-      (λ tells. words-claimed b first joined y (three tells).1 (first-used L laws a b c over above first joined second (plain said) (merge-then tells)))
-      (λ tells. words-claimed c second (replicate L.words 0) y (three tells).2 (second-used L laws a b c over above first joined second (plain said) (merge-then tells)))
+      (λ tells. words-claimed a over above y (three tells).0
+      (over-used L laws a b c over above first joined second (plain said) (merge-then tells)))
+      (λ tells. words-claimed b first joined y (three tells).1
+      (first-used L laws a b c over above first joined second (plain said) (merge-then tells)))
+      (λ tells. words-claimed c second (replicate L.words 0) y (three tells).2
+      (second-used L laws a b c over above first joined second (plain said) (merge-then tells)))
       merge-may
 
   -- the right leaf's page is the one that is freed
@@ -79,14 +94,18 @@ module _ {S : Type 0} (plain : S → Said) (L : Layout) (laws : IsLayout L) (sai
       let t = three tells in
       let m = merge-then tells in
       let one : (if all_zero (last_of y a).words then false else all_zero (draft_of y a)) ≡ false =
-      cond-false _ _ _ (ap all_zero t.0.last ∙ over-used L laws a b c over above first joined second (plain said) m) ∙ ap all_zero t.0.draft ∙ above-used L laws a b c over above first joined second (plain said) m in
+      cond-false _ _ _ (ap all_zero t.0.last ∙ over-used L laws a b c over above first joined second (plain said) m)
+      ∙ ap all_zero t.0.draft ∙ above-used L laws a b c over above first joined second (plain said) m in
       let two : (if all_zero (last_of y b).words then false else all_zero (draft_of y b)) ≡ false =
-      cond-false _ _ _ (ap all_zero t.1.last ∙ first-used L laws a b c over above first joined second (plain said) m) ∙ ap all_zero t.1.draft ∙ joined-used L laws a b c over above first joined second (plain said) m in
+      cond-false _ _ _ (ap all_zero t.1.last ∙ first-used L laws a b c over above first joined second (plain said) m)
+      ∙ ap all_zero t.1.draft ∙ joined-used L laws a b c over above first joined second (plain said) m in
       let three : (if all_zero (last_of y c).words then false else all_zero (draft_of y c)) ≡ true =
-      cond-false _ _ _ (ap all_zero t.2.last ∙ second-used L laws a b c over above first joined second (plain said) m) ∙ ap all_zero t.2.draft ∙ all-zeros L.words in
+      cond-false _ _ _ (ap all_zero t.2.last ∙ second-used L laws a b c over above first joined second (plain said) m)
+      ∙ ap all_zero t.2.draft ∙ all-zeros L.words in
       cond-false _ _ _ one ∙ cond-false _ _ _ two ∙ cond-true _ _ _ three
 
-  pub merge-done : (w : View S) → IsGroupReleased (KeepsPlain plain L) (g1 ∷ g2 ∷ g3 ∷ []) (Some said) y w → IsMerged plain L (a ∷ b ∷ c ∷ []) (c ∷ []) said v w
+  pub merge-done : (w : View S) → IsGroupReleased (KeepsPlain plain L) (g1 ∷ g2 ∷ g3 ∷ []) (Some said) y w
+      → IsMerged plain L (a ∷ b ∷ c ∷ []) (c ∷ []) said v w
   merge-done w r =
       let pids : pids_of (g1 ∷ g2 ∷ g3 ∷ []) ≡ a ∷ b ∷ c ∷ [] = (λ i. e1 i ∷ e2 i ∷ e3 i ∷ []) in
       record {

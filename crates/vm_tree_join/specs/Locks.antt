@@ -5,7 +5,8 @@ use Rattle.vm_core.specs.Prelude.{in_mask, version_of}
 use Rattle.vm_rule.specs.FreeNumbers.{GiveNumbersTold}
 use Rattle.vm_rule.specs.Prelude.{Each}
 use Rattle.vm_step.specs.Prelude.{IsAlone, View}
-use Rattle.vm_guard.specs.{declared.exclusive.ExclusiveGuard.ExclusiveGuard, declared.opt.OptGuard.OptGuard, Guards.IsLocked, Guards.IsReading, Sure.IsUnlockedWord, Sure.known_word}
+use Rattle.vm_guard.specs.{declared.exclusive.ExclusiveGuard.ExclusiveGuard, declared.opt.OptGuard.OptGuard}
+use Rattle.vm_guard.specs.{Guards.IsLocked, Guards.IsReading, Sure.IsUnlockedWord, Sure.known_word}
 use Rattle.vm_tree_laws.specs.Tied.{Tied}
 use Rattle.vm_tree_rule.specs.{Seeks.HasRead, Standing.MeetsTies}
 
@@ -27,7 +28,8 @@ module _ {X : Type 0} (L : Layout) where
   AreAllLocked (g ∷ gs) [] v w = ⊥
   AreAllLocked (g ∷ gs) (l ∷ ls) v w = (x : View X) × IsLockedAt g l v x × AreAllLocked gs ls x w
 
-  -- A page is read through this guard, whole and last, with these words; and where blocks tell their words, what its ties ask for is a node with this tag
+  -- A page is read through this guard, whole and last, with these words; and where blocks tell their words, what its
+  -- ties ask for is a node with this tag
   pub record IsReadAs (g : OptGuard) (page : List ℕ) (tag : ℕ) (v : View X) : Type 0 where
     pub reading : IsReading g.pid g.word g.frame v
     pub read : HasRead v g.pid page
@@ -41,7 +43,8 @@ module _ {X : Type 0} where
 
   -- the number of page p was given, and no other one
   abbrev pub GivesNumber : ℕ → View X → View X → Type 0
-  GivesNumber p v w = (g mask found : ℕ) × (in_mask g mask p ≡ true) × ((q : ℕ) → in_mask g mask q ≡ true → q ≡ p) × GiveNumbersTold g mask found v w
+  GivesNumber p v w = (g mask found : ℕ) × (in_mask g mask p ≡ true) × ((q : ℕ) → in_mask g mask q ≡ true → q ≡ p)
+      × GiveNumbersTold g mask found v w
 
   -- so were the numbers of these pages
   abbrev pub AreNumbersGiven : List ℕ → View X → View X → Type 0

@@ -1,4 +1,5 @@
--- What a merge leaves once its pages are locked: they were written and released together, and the numbers of those that it freed were given.
+-- What a merge leaves once its pages are locked: they were written and released together, and the numbers of those
+-- that it freed were given.
 use Rattle.std.specs.Prelude.{[], ◌++◌, ◌∷◌, ◌≡◌, List, true, ℕ}
 use Rattle.vm_map.specs.declared.call.Said.{Said}
 use Rattle.vm_tree_model.specs.{Layout.Layout, Tree.map_of}
@@ -12,7 +13,8 @@ use Rattle.vm_tree_join.specs.{Locks.AreAllLocked, Locks.AreNumbersGiven, Mergin
 
 -- the pass holds no page number that it did not hold, and has none to give that it had not: it is said where the blocks tell their words
 abbrev pub GainsNoNumber : {X : Type 0} → View X → View X → Type 0
-GainsNoNumber v w = v.start.tells ≡ true → (q : ℕ) → (has q w.numbers ≡ true → has q v.numbers ≡ true) × (has q w.freed ≡ true → has q v.freed ≡ true)
+GainsNoNumber v w = v.start.tells ≡ true → (q : ℕ) → (has q w.numbers ≡ true → has q v.numbers ≡ true)
+    × (has q w.freed ≡ true → has q v.freed ≡ true)
 
 -- the pass holds the locks and frames that it held, and knows under them what it knew; its steps and what it has seen go on
 pub record HoldsAll {X : Type 0} (v w : View X) : Type 0 where
@@ -31,8 +33,10 @@ pub record HoldsAll {X : Type 0} (v w : View X) : Type 0 where
   pub current : w.current ≡ true
 
 module _ {S : Type 0} (plain : S → Said) (L : Layout) where
-  -- The pages of these guards were locked, written and released together, with what is said, which frees these pages; then their numbers were given. What is said is
-  -- the pass's next entry; behind it the pass has seen `more`, which others said since. Where blocks tell their words the history up to some point behind the entry is legal
+  -- The pages of these guards were locked, written and released together, with what is said, which frees these pages;
+  -- then their numbers were given. What is said is
+  -- the pass's next entry; behind it the pass has seen `more`, which others said since. Where blocks tell their words
+  -- the history up to some point behind the entry is legal
   pub record IsMergeMade (gs : List OptGuard) (freed : List ℕ) (says : S) (v w : View S) : Type 0 where
     pub guards : List ExclusiveGuard
     pub locked : View S
@@ -44,4 +48,5 @@ module _ {S : Type 0} (plain : S → Said) (L : Layout) where
     pub mine : w.mine ≡ v.mine ++ entry_of v says ∷ []
     pub more : List (Entry S)
     pub entry : GainsEntry says v more w
-    pub legal : v.start.tells ≡ true → (later rest : List (Entry S)) × (more ≡ later ++ rest) × IsLegal (map_of L v.start.contents) (plain_history plain ((v.seen ++ entry.0) ++ entry_of v says ∷ later))
+    pub legal : v.start.tells ≡ true → (later rest : List (Entry S)) × (more ≡ later ++ rest)
+        × IsLegal (map_of L v.start.contents) (plain_history plain ((v.seen ++ entry.0) ++ entry_of v says ∷ later))

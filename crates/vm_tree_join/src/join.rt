@@ -1,8 +1,8 @@
 // Two leaves that were read are locked with the pages above them, made one, and the numbers of the freed pages given; or nothing is done.
-ghost use Rattle.std.specs.Prelude.{[], ◌++◌, ◌∷◌, ◌≡◌, ◌≢◌, IfErr, IfOk, length, List, None, replicate, slice_index, slice_set, true, ℕ};
+ghost use Rattle.std.specs.Prelude.{[], ◌++◌, ◌∷◌, ◌≡◌, IfErr, IfOk, length, List, None, replicate, slice_index, slice_set, true, ℕ};
 ghost use Rattle.vm_tree_model.specs.Page.{IsInner, IsLeaf};
 ghost use Rattle.vm_rule.specs.Prelude.{AreApart, loads_at};
-ghost use Rattle.vm_step.specs.Prelude.{IsReady, IsSamePass, view};
+ghost use Rattle.vm_step.specs.Prelude.{GoesOn, IsReadyOn, view};
 ghost use Rattle.vm_guard.specs.{Denied.AgainOrWorn, Guards.IsReading};
 ghost use Rattle.vm_tree_laws.specs.May.{MayCollapse, MayMerge};
 ghost use Rattle.vm_tree_rule.specs.Resident.{KnowsResident};
@@ -15,7 +15,7 @@ use vm_block::Block;
 use vm_guard::{Deny, OptGuard};
 use vm_kind::{Edits, TreeOf};
 use vm_rule::words::{Pass, Words};
-use vm_tree_split::prepare::Locks;
+use vm_tree_split::prepare::LockedPair;
 
 /// Locks the parent and both leaves, at the versions read, and makes the merge: the left leaf gets the words of `joined`, and the right leaf's page is freed.
 pub fn join_below<K: Edits, B: Block>(
@@ -31,7 +31,7 @@ pub fn join_below<K: Edits, B: Block>(
     second: &K::Page,
     said: &K::Said,
 ) -> Result<(), Deny>
-    requires ready { IsReady words.now.table.shared.key B.tells words.now.table.shared.table_id pass.old }
+    requires ready { IsReadyOn words.now B.tells pass.old }
     requires home { (view pass.old).out ≡ None }
     requires apart { AreApart (up.pid ∷ left.pid ∷ right.pid ∷ []) }
     requires sizes { (length (K.words_of over.now) ≡ K.layout.words) × (length (K.words_of first.now) ≡ K.layout.words) × (length (K.words_of second.now) ≡ K.layout.words) }
@@ -41,8 +41,7 @@ pub fn join_below<K: Edits, B: Block>(
     requires merge { (view pass.old).start.tells ≡ true → IsInner K.layout (K.words_of over.now) → IsLeaf K.layout (K.words_of first.now) → IsLeaf K.layout (K.words_of second.now)
         → MayMerge K.layout (page_change up.pid (K.words_of over.now) (K.edited (K.words_of over.now) edit))
         (page_change left.pid (K.words_of first.now) (K.words_of joined.now)) (page_change right.pid (K.words_of second.now) (replicate K.layout.words 0)) (K.plain said.now) }
-    ensures pass { IsSamePass pass.old pass.new }
-    ensures ready { IsReady words.now.table.shared.key B.tells words.now.table.shared.table_id pass.new }
+    ensures goes { GoesOn words.now B.tells pass.old pass.new }
     ensures ok { IfOk result (λ _. IsMergeMade K.plain K.layout (up ∷ left ∷ right ∷ []) (right.pid ∷ []) said.now (view pass.old) (view pass.new)) }
     ensures err { IfErr result (λ deny. AgainOrWorn deny × IsLockDenied K.layout (up ∷ left ∷ right ∷ []) deny (view pass.old) (view pass.new)) }
     ensures sure { KnowsFree (up ∷ left ∷ right ∷ []) (view pass.old) → IfErr result SaysWorn }
@@ -56,7 +55,7 @@ pub fn join_below<K: Edits, B: Block>(
         first: above,
         others,
     } = locks;
-    let Locks { up: one, low: two } = others;
+    let LockedPair { up: one, low: two } = others;
     let freed = two.pid;
     write_merge(
         words, pass, above, one, two, over, edit, first, joined, second, said,
@@ -79,7 +78,7 @@ pub fn join_last<K: Edits, B: Block>(
     second: &K::Page,
     said: &K::Said,
 ) -> Result<(), Deny>
-    requires ready { IsReady words.now.table.shared.key B.tells words.now.table.shared.table_id pass.old }
+    requires ready { IsReadyOn words.now B.tells pass.old }
     requires home { (view pass.old).out ≡ None }
     requires apart { AreApart (meta.pid ∷ root.pid ∷ left.pid ∷ right.pid ∷ []) }
     requires sizes { (length (K.words_of over.now) ≡ K.layout.words) × (length (K.words_of first.now) ≡ K.layout.words) × (length (K.words_of second.now) ≡ K.layout.words) }
@@ -91,8 +90,7 @@ pub fn join_last<K: Edits, B: Block>(
     requires merge { (view pass.old).start.tells ≡ true → (page : List ℕ) → slice_index page 1 ≡ root.pid → IsInner K.layout (K.words_of over.now) → IsLeaf K.layout (K.words_of first.now) → IsLeaf K.layout (K.words_of second.now)
         → MayCollapse K.layout (page_change meta.pid page (slice_set (slice_set page 1 left.pid) 2 0)) (page_change root.pid (K.words_of over.now) (replicate K.layout.words 0))
         (page_change left.pid (K.words_of first.now) (K.words_of joined.now)) (page_change right.pid (K.words_of second.now) (replicate K.layout.words 0)) (K.plain said.now) }
-    ensures pass { IsSamePass pass.old pass.new }
-    ensures ready { IsReady words.now.table.shared.key B.tells words.now.table.shared.table_id pass.new }
+    ensures goes { GoesOn words.now B.tells pass.old pass.new }
     ensures ok { IfOk result (λ _. IsMergeMade K.plain K.layout (meta ∷ root ∷ left ∷ right ∷ []) (root.pid ∷ right.pid ∷ []) said.now (view pass.old) (view pass.new)) }
     ensures err { IfErr result (λ deny. AgainOrWorn deny × IsLockDenied K.layout (meta ∷ root ∷ left ∷ right ∷ []) deny (view pass.old) (view pass.new)) }
     ensures sure { KnowsFree (meta ∷ root ∷ left ∷ right ∷ []) (view pass.old) → IfErr result SaysWorn }
@@ -110,7 +108,7 @@ pub fn join_last<K: Edits, B: Block>(
         first: above,
         others,
     } = rest;
-    let Locks { up: one, low: two } = others;
+    let LockedPair { up: one, low: two } = others;
     let (old_root, freed) = (above.pid, two.pid);
     write_collapse(
         words, pass, zero, above, one, two, over, first, joined, second, said,

@@ -1,7 +1,7 @@
 // Three or four pages that are locked together, at the versions read, or none of them.
 ghost use Rattle.std.specs.Prelude.{[], ◌∷◌, ◌≡◌, IfErr, IfOk, None};
 ghost use Rattle.vm_rule.specs.Prelude.{AreApart};
-ghost use Rattle.vm_step.specs.Prelude.{IsReady, IsSamePass, view};
+ghost use Rattle.vm_step.specs.Prelude.{GoesOn, IsReadyOn, view};
 ghost use Rattle.vm_guard.specs.{Denied.AgainOrWorn, Guards.IsReading};
 ghost use Rattle.vm_tree_split.specs.Prepares.{IsLockDenied, SaysWorn};
 ghost use Rattle.vm_tree_join.specs.Locks.{AreAllLocked, KnowsFree};
@@ -10,12 +10,12 @@ use vm_block::Block;
 use vm_guard::{Deny, ExclusiveGuard, OptGuard};
 use vm_kind::{Kind, TreeOf};
 use vm_rule::words::{Pass, Words};
-use vm_tree_split::prepare::{Locks, lock_two};
+use vm_tree_split::prepare::{LockedPair, lock_two};
 
 /// Three pages that are locked: one, and two more.
 pub struct LocksOfThree {
     pub first: ExclusiveGuard,
-    pub others: Locks,
+    pub others: LockedPair,
 }
 
 /// Four.
@@ -32,14 +32,13 @@ pub fn lock_three<K: Kind, B: Block>(
     second: OptGuard,
     third: OptGuard,
 ) -> Result<LocksOfThree, Deny>
-    requires ready { IsReady words.now.table.shared.key B.tells words.now.table.shared.table_id pass.old }
+    requires ready { IsReadyOn words.now B.tells pass.old }
     requires home { (view pass.old).out ≡ None }
     requires apart { AreApart (first.pid ∷ second.pid ∷ third.pid ∷ []) }
     requires first { IsReading first.pid first.word first.frame (view pass.old) }
     requires second { IsReading second.pid second.word second.frame (view pass.old) }
     requires third { IsReading third.pid third.word third.frame (view pass.old) }
-    ensures pass { IsSamePass pass.old pass.new }
-    ensures ready { IsReady words.now.table.shared.key B.tells words.now.table.shared.table_id pass.new }
+    ensures goes { GoesOn words.now B.tells pass.old pass.new }
     ensures ok { IfOk result (λ l. AreAllLocked K.layout (first ∷ second ∷ third ∷ []) (l.first ∷ l.others.up ∷ l.others.low ∷ []) (view pass.old) (view pass.new)) }
     ensures err { IfErr result (λ deny. AgainOrWorn deny × IsLockDenied K.layout (first ∷ second ∷ third ∷ []) deny (view pass.old) (view pass.new)) }
     ensures sure { KnowsFree (first ∷ second ∷ third ∷ []) (view pass.old) → IfErr result SaysWorn }
@@ -69,15 +68,14 @@ pub fn lock_four<K: Kind, B: Block>(
     third: OptGuard,
     fourth: OptGuard,
 ) -> Result<LocksOfFour, Deny>
-    requires ready { IsReady words.now.table.shared.key B.tells words.now.table.shared.table_id pass.old }
+    requires ready { IsReadyOn words.now B.tells pass.old }
     requires home { (view pass.old).out ≡ None }
     requires apart { AreApart (first.pid ∷ second.pid ∷ third.pid ∷ fourth.pid ∷ []) }
     requires first { IsReading first.pid first.word first.frame (view pass.old) }
     requires second { IsReading second.pid second.word second.frame (view pass.old) }
     requires third { IsReading third.pid third.word third.frame (view pass.old) }
     requires fourth { IsReading fourth.pid fourth.word fourth.frame (view pass.old) }
-    ensures pass { IsSamePass pass.old pass.new }
-    ensures ready { IsReady words.now.table.shared.key B.tells words.now.table.shared.table_id pass.new }
+    ensures goes { GoesOn words.now B.tells pass.old pass.new }
     ensures ok { IfOk result (λ l. AreAllLocked K.layout (first ∷ second ∷ third ∷ fourth ∷ [])
         (l.first ∷ l.others.first ∷ l.others.others.up ∷ l.others.others.low ∷ []) (view pass.old) (view pass.new)) }
     ensures err { IfErr result (λ deny. AgainOrWorn deny

@@ -2,7 +2,7 @@
 ghost use Rattle.std.specs.Prelude.{[], ◌≡◌, ◌<◌, ◌∷◌, true, ℕ};
 ghost use Rattle.vm_core.specs.Prelude.{in_mask};
 ghost use Rattle.vm_rule.specs.FreeNumbers.{GiveNumbersTold, IsGivenBy};
-ghost use Rattle.vm_step.specs.Prelude.{IsReady, IsSamePass, view};
+ghost use Rattle.vm_step.specs.Prelude.{GoesOn, IsReadyOn, view};
 ghost use Rattle.vm_tree_join.specs.Merging.{CanCollapse, CanMerge, IsMerged};
 
 use vm_block::Block;
@@ -28,11 +28,10 @@ pub fn write_merge<K: Edits, B: Block>(
     second: &K::Page,
     said: &K::Said,
 )
-    requires ready { IsReady words.now.table.shared.key B.tells words.now.table.shared.table_id pass.old }
+    requires ready { IsReadyOn words.now B.tells pass.old }
     requires can { CanMerge K.layout up left right (K.words_of over.now) (K.edited (K.words_of over.now) edit) (K.words_of first.now) (K.words_of joined.now)
         (K.words_of second.now) (K.plain said.now) (view pass.old) }
-    ensures pass { IsSamePass pass.old pass.new }
-    ensures ready { IsReady words.now.table.shared.key B.tells words.now.table.shared.table_id pass.new }
+    ensures goes { GoesOn words.now B.tells pass.old pass.new }
     ensures merged { IsMerged K.plain K.layout (up.pid ∷ left.pid ∷ right.pid ∷ []) (right.pid ∷ []) said.now (view pass.old) (view pass.new) }
 {
     let changes = K::changes(over, &edit);
@@ -67,11 +66,10 @@ pub fn write_collapse<K: Edits, B: Block>(
     second: &K::Page,
     said: &K::Said,
 )
-    requires ready { IsReady words.now.table.shared.key B.tells words.now.table.shared.table_id pass.old }
+    requires ready { IsReadyOn words.now B.tells pass.old }
     requires can { CanCollapse K.layout meta root left right (K.words_of over.now) (K.words_of first.now) (K.words_of joined.now) (K.words_of second.now) (K.plain said.now)
         (view pass.old) }
-    ensures pass { IsSamePass pass.old pass.new }
-    ensures ready { IsReady words.now.table.shared.key B.tells words.now.table.shared.table_id pass.new }
+    ensures goes { GoesOn words.now B.tells pass.old pass.new }
     ensures merged { IsMerged K.plain K.layout (meta.pid ∷ root.pid ∷ left.pid ∷ right.pid ∷ []) (root.pid ∷ right.pid ∷ []) said.now (view pass.old) (view pass.new) }
 {
     let both: Whole<'_, K> = Whole { page: joined };
@@ -95,11 +93,10 @@ pub fn give_number<K: Kind, B: Block>(
     pass: &mut Pass<TreeOf<K>>,
     page: u32,
 )
-    requires ready { IsReady words.now.table.shared.key B.tells words.now.table.shared.table_id pass.old }
+    requires ready { IsReadyOn words.now B.tells pass.old }
     requires page { page < words.now.table.shared.key.pages }
     requires mine { (view pass.old).start.tells ≡ true → IsGivenBy (view pass.old) page }
-    ensures pass { IsSamePass pass.old pass.new }
-    ensures ready { IsReady words.now.table.shared.key B.tells words.now.table.shared.table_id pass.new }
+    ensures goes { GoesOn words.now B.tells pass.old pass.new }
     ensures given { (g mask found : ℕ) × (in_mask g mask page ≡ true) × ((q : ℕ) → in_mask g mask q ≡ true → q ≡ page) × GiveNumbersTold g mask found (view pass.old) (view pass.new) }
 {
     let bits = FRAMES as u32;

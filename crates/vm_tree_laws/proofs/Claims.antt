@@ -1,5 +1,6 @@
 -- A claim of zero pages keeps what the tree keeps.
-use Rattle.std.proofs.Common.{◌≡◌, ◌⊎◌, inl, inr, ℕ, zero, suc, ◌+◌, ◌<◌, ◌≤◌, Bool, true, false, [], ◌∷◌, ◌++◌, length, slice_index, refl, sym, ap, ◌∙◌, arith, length-append}
+use Rattle.std.proofs.Common.{◌≡◌, ◌⊎◌, inl, inr, ℕ, zero, suc, ◌+◌, ◌<◌, ◌≤◌, Bool, true, false, [], ◌∷◌, ◌++◌}
+use Rattle.std.proofs.Common.{length, slice_index, refl, sym, ap, ◌∙◌, arith, length-append}
 use Rattle.std.proofs.lemmas.Bool.{cases_eq}
 use Rattle.vm_page.specs.Pages.{all_zero}
 use Rattle.vm_tree_model.specs.Layout.{Layout, IsLayout}
@@ -38,7 +39,8 @@ module _ (L : Layout) (laws : IsLayout L) (start : Start) (kept : Kept Said) (ke
     ]
   ]
 
-  claim_keeps : kept.next < length kept.pages → IsFree L (page_at kept.pages kept.next) → KeepsTree L start (record kept { next = kept.next + 1; owed = kept.owed ++ kept.next ∷ [] })
+  claim_keeps : kept.next < length kept.pages → IsFree L (page_at kept.pages kept.next)
+      → KeepsTree L start (record kept { next = kept.next + 1; owed = kept.owed ++ kept.next ∷ [] })
   claim_keeps there free = record {
     same_count = keeps.same_count;
     tree = keeps.tree;
@@ -60,10 +62,12 @@ module _ (L : Layout) (laws : IsLayout L) (start : Start) (kept : Kept Said) (ke
       ];
     };
     room = keeps.room;
-    paid = paid_more L.node_weight kept.next _ _ start.next (length kept.owed) (length (kept.owed ++ kept.next ∷ [])) (length-append kept.owed (kept.next ∷ [])) keeps.paid;
+    paid = paid_more L.node_weight kept.next _ _ start.next (length kept.owed) (length (kept.owed ++ kept.next ∷ []))
+        (length-append kept.owed (kept.next ∷ [])) keeps.paid;
   }
     where
-      claimed_or_owed : (x : ℕ) → start.next ≤ x → x < kept.next + 1 → (all_zero (page_at kept.pages x) ≡ false) ⊎ (has x (kept.owed ++ kept.next ∷ []) ≡ true) ⊎ (is_spare kept x ≡ true)
+      claimed_or_owed : (x : ℕ) → start.next ≤ x → x < kept.next + 1 → (all_zero (page_at kept.pages x) ≡ false)
+          ⊎ (has x (kept.owed ++ kept.next ∷ []) ≡ true) ⊎ (is_spare kept x ≡ true)
       claimed_or_owed x ge lt = elim (cases_eq x kept.next) [
         | inl same ↦ inr (inl (ap (λ y. has y (kept.owed ++ kept.next ∷ [])) same ∙ has-last kept.owed kept.next))
         | inr other ↦ elim (keeps.claimed x ge (omega arith)) [
@@ -75,8 +79,12 @@ module _ (L : Layout) (laws : IsLayout L) (start : Start) (kept : Kept Said) (ke
         ]
       ]
 
-pub claims_keep : (L : Layout) (laws : IsLayout L) (start : Start) (kept : Kept Said) (n : ℕ) → KeepsTree L start kept → AreZero kept n → KeepsTree L start (claimed n kept)
+pub claims_keep : (L : Layout) (laws : IsLayout L) (start : Start) (kept : Kept Said) (n : ℕ) → KeepsTree L start kept
+    → AreZero kept n → KeepsTree L start (claimed n kept)
 claims_keep L laws start kept zero keeps zeros = keeps
-claims_keep L laws start kept (suc n) keeps zeros = claims_keep L laws start (record kept { next = kept.next + 1; owed = kept.owed ++ kept.next ∷ [] }) n
-    (claim_keeps L laws start kept keeps (omega (arith, zeros.there)) (free_at L laws start kept keeps kept.next (omega (arith, zeros.there)) (λ i. zeros.zero kept.next i (omega arith) (omega arith))))
+claims_keep L laws start kept (suc n) keeps zeros =
+    claims_keep L laws start (record kept { next = kept.next + 1; owed = kept.owed ++ kept.next ∷ [] }) n
+    (claim_keeps L laws start kept keeps (omega (arith, zeros.there))
+    (free_at L laws start kept keeps kept.next (omega (arith, zeros.there))
+    (λ i. zeros.zero kept.next i (omega arith) (omega arith))))
     (record { there = omega (arith, zeros.there); zero = λ p i ge lt. zeros.zero p i (omega (arith, ge)) (omega (arith, lt)) })

@@ -1,5 +1,7 @@
--- Pages that change together, with no entry, keep what the tree keeps where the new pages are a tree with the same map. Numbers that are moved keep it too.
-use Rattle.std.proofs.Common.{◌≡◌, ◌⊎◌, ◌||◌, inl, inr, ℕ, ◌+◌, ◌-◌, ◌*◌, ◌<◌, ◌≤◌, Bool, true, false, true≢false, List, [], length, refl, sym, ◌∙◌, arith, append-nil}
+-- Pages that change together, with no entry, keep what the tree keeps where the new pages are a tree with the same
+-- map. Numbers that are moved keep it too.
+use Rattle.std.proofs.Common.{◌≡◌, ◌⊎◌, ◌||◌, inl, inr, ℕ, ◌+◌, ◌-◌, ◌*◌, ◌<◌, ◌≤◌, Bool, true, false, true≢false}
+use Rattle.std.proofs.Common.{List, [], length, refl, sym, ◌∙◌, arith, append-nil}
 use Rattle.vm_page.specs.Pages.{all_zero}
 use Rattle.vm_tree_model.specs.Layout.{Layout, IsLayout}
 use Rattle.vm_tree_model.specs.Node.{IsNode}
@@ -9,7 +11,8 @@ use Rattle.vm_tree_model.proofs.Load.{load, load_is}
 use Rattle.vm_tree_model.proofs.Laws.{parted_leaves}
 use Rattle.vm_owner.specs.Numbers.{has, AreApart}
 use Rattle.vm_owner.specs.Kept.{Start, Kept, Change, changed_pages, changed, frees, is_spare, owed_after, after_release}
-use Rattle.vm_owner.proofs.ChangeLemmas.{length-changed, changed-other, AreApart-owed_after, has-owed_after, has-owed_after_other, not_owed_after}
+use Rattle.vm_owner.proofs.ChangeLemmas.{length-changed, changed-other, AreApart-owed_after, has-owed_after}
+use Rattle.vm_owner.proofs.ChangeLemmas.{has-owed_after_other, not_owed_after}
 use Rattle.vm_map.specs.declared.call.Said.{Said}
 use Rattle.vm_tree_laws.specs.History.{gones, news}
 use Rattle.vm_tree_laws.specs.Keeps.{KeepsTree, merge_weight}
@@ -28,9 +31,11 @@ spare_more false true c d e = refl
 spare_more false false true d e = refl
 spare_more false false false d e = e
 
--- The pages `new` after changes of the pages `ps`, with the pages owed and the freed ones then: a tree with the same map, where no page that changed has zero
+-- The pages `new` after changes of the pages `ps`, with the pages owed and the freed ones then: a tree with the same
+-- map, where no page that changed has zero
 -- words but those that are freed; `slack` is what was left of what is paid
-pub record IsRegrouped (L : Layout) (kept : Kept Said) (ps : List ℕ) (new : List (List ℕ)) (owed : List ℕ) (frees : ℕ → Bool) (slack : ℕ) : Type 0 where
+pub record IsRegrouped (L : Layout) (kept : Kept Said) (ps : List ℕ) (new : List (List ℕ)) (owed : List ℕ)
+    (frees : ℕ → Bool) (slack : ℕ) : Type 0 where
   pub same_count : length new ≡ length kept.pages
   pub tree : IsTree L new
   pub contents : map_of L new ≡ map_of L kept.pages
@@ -40,11 +45,14 @@ pub record IsRegrouped (L : Layout) (kept : Kept Said) (ps : List ℕ) (new : Li
   pub owed_stays : (x : ℕ) → has x ps ≡ false → has x kept.owed ≡ true → has x owed ≡ true
   pub used : (x : ℕ) → has x ps ≡ true → (all_zero (page_at new x) ≡ false) ⊎ (frees x ≡ true)
   pub room : load L new ≤ load L kept.pages
-  pub paid : L.excess_weight * excess L new + L.node_weight * length kept.owed ≤ L.excess_weight * excess L kept.pages + L.node_weight * length owed + slack
+  pub paid : L.excess_weight * excess L new + L.node_weight * length kept.owed ≤ L.excess_weight * excess L
+      kept.pages + L.node_weight * length owed + slack
 
-module _ (L : Layout) (laws : IsLayout L) (start : Start) (kept : Kept Said) (keeps : KeepsTree L start kept) (ps : List ℕ) (new : List (List ℕ)) (owed : List ℕ) (more : ℕ → Bool) (slack : ℕ)
+module _ (L : Layout) (laws : IsLayout L) (start : Start) (kept : Kept Said) (keeps : KeepsTree L start kept)
+    (ps : List ℕ) (new : List (List ℕ)) (owed : List ℕ) (more : ℕ → Bool) (slack : ℕ)
     (left : L.node_weight * kept.next + L.excess_weight * excess L kept.pages + slack
-    ≤ L.excess_weight * (L.room - L.base) * node_count L start.pages + L.excess_weight * L.growth * news kept.history + merge_weight L * gones kept.history + L.node_weight * (start.next + length kept.owed))
+    ≤ L.excess_weight * (L.room - L.base) * node_count L start.pages + L.excess_weight * L.growth * news
+    kept.history + merge_weight L * gones kept.history + L.node_weight * (start.next + length kept.owed))
     (group : IsRegrouped L kept ps new owed more slack) where
   abbrev after : Kept Said
   after = record kept { pages = new; owed = owed; freed = λ x. more x || kept.freed x }
@@ -95,11 +103,15 @@ pub record IsGroup (L : Layout) (kept : Kept Said) (changes : List Change) : Typ
   pub contents : map_of L (changed changes kept.pages) ≡ map_of L kept.pages
   pub nodes : (x : ℕ) → has x (changed_pages changes) ≡ true → (x ≡ 0) ⊎ IsNode (node_at L (changed changes kept.pages) x)
   pub room : load L (changed changes kept.pages) ≤ load L kept.pages
-  pub paid : L.excess_weight * excess L (changed changes kept.pages) + L.node_weight * length kept.owed ≤ L.excess_weight * excess L kept.pages + L.node_weight * length (owed_after changes kept.owed)
+  pub paid : L.excess_weight * excess L (changed changes kept.pages) + L.node_weight * length
+      kept.owed ≤ L.excess_weight * excess L kept.pages + L.node_weight * length (owed_after changes kept.owed)
 
-pub group_keeps : (L : Layout) (laws : IsLayout L) (start : Start) (kept : Kept Said) → KeepsTree L start kept → (changes : List Change) → IsGroup L kept changes → KeepsTree L start (after_release changes [] kept)
+pub group_keeps : (L : Layout) (laws : IsLayout L) (start : Start) (kept : Kept Said) → KeepsTree L start kept
+    → (changes : List Change) → IsGroup L kept changes → KeepsTree L start (after_release changes [] kept)
 group_keeps L laws start kept keeps changes group =
-    rw (append-nil kept.history) (regroup_keeps L laws start kept keeps (changed_pages changes) (changed changes kept.pages) (owed_after changes kept.owed) (frees changes) 0 (omega (arith, keeps.paid)) (record {
+    rw (append-nil kept.history)
+    (regroup_keeps L laws start kept keeps (changed_pages changes) (changed changes kept.pages)
+    (owed_after changes kept.owed) (frees changes) 0 (omega (arith, keeps.paid)) (record {
       same_count = length-changed changes kept.pages;
       tree = group.tree;
       contents = group.contents;
@@ -108,7 +120,9 @@ group_keeps L laws start kept keeps changes group =
       owed_was = λ x some. (has-owed_after changes kept.owed x some, not_changed x some);
       owed_stays = λ x none some. has-owed_after_other changes kept.owed x none ∙ some;
       used = λ x some. inl (elim (group.nodes x some) [
-        | inl zero_page ↦ rw zero_page (other_words (page_at (changed changes kept.pages) 0) (λ zeros. omega (arith, zeros 0, group.tree.meta.magic, laws.some_magic)))
+        | inl zero_page ↦ rw zero_page
+            (other_words (page_at (changed changes kept.pages) 0)
+            (λ zeros. omega (arith, zeros 0, group.tree.meta.magic, laws.some_magic)))
         | inr is ↦ node_words L laws (page_at (changed changes kept.pages) x) is
       ]);
       room = group.room;

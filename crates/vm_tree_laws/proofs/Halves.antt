@@ -1,5 +1,6 @@
 -- The halves of a full node.
-use Rattle.std.proofs.Common.{◌≡◌, ◌≢◌, ℕ, ◌+◌, ◌*◌, ◌-◌, ◌<◌, ◌≤◌, List, [], ◌∷◌, ◌++◌, length, take, drop, Bool, true, false, if◌then◌else◌, refl, sym, ap, ◌∙◌, subst, arith, length-take}
+use Rattle.std.proofs.Common.{◌≡◌, ◌≢◌, ℕ, ◌+◌, ◌*◌, ◌<◌, ◌≤◌, List, [], ◌∷◌, ◌++◌, length, take, drop, Bool, true}
+use Rattle.std.proofs.Common.{false, if◌then◌else◌, refl, sym, ap, ◌∙◌, subst, arith, length-take}
 use Rattle.std.proofs.lemmas.List.{take-append-drop, drop_more}
 use Rattle.std.proofs.lemmas.Bool.Decides.{nat_tests}
 use Rattle.vm_map.specs.Map.{Pairs, Rises, StartsAt}
@@ -46,7 +47,8 @@ load_other L w other = left_out (is_node L w) (weight L (node_of L w)) (other_te
 pub load_at : (L : Layout) (w : List ℕ) → IsNode (node_of L w) → load_of L w ≡ weight L (node_of L w)
 load_at L w is = chosen (is_node L w) (weight L (node_of L w)) (node_test L w is)
 
-module _ (L : Layout) (laws : IsLayout L) (old new right : List ℕ) (separator : ℕ) (clean : IsClean L old) (full : IsFullNode L (node_of L old)) (split : IsSplit L old new right separator) where
+module _ (L : Layout) (laws : IsLayout L) (old new right : List ℕ) (separator : ℕ) (clean : IsClean L old)
+    (full : IsFullNode L (node_of L old)) (split : IsSplit L old new right separator) where
   pays : PaysForSplit L (node_of L old) separator
   pays = laws.splits (node_of L old) separator (laws.clean_fits old clean) full
 
@@ -57,11 +59,14 @@ module _ (L : Layout) (laws : IsLayout L) (old new right : List ℕ) (separator 
   left_some = omega (arith, length-take (cut L (pairs_of L old)) (pairs_of L old), pays.left_some, pays.right_some)
 
   pub starts : StartsAt separator (drop (cut L (pairs_of L old)) (pairs_of L old))
-  starts = subst (λ (l : Pairs). StartsAt separator l) (sym (drop_more (pairs_of L old) (cut L (pairs_of L old)) (0, 0) pays.right_some)) split.separates
+  starts = subst (λ (l : Pairs). StartsAt separator l)
+      (sym (drop_more (pairs_of L old) (cut L (pairs_of L old)) (0, 0) pays.right_some)) split.separates
 
   -- some key lies below the separator
   pub separator_above : (low high : ℕ) → Rises low high (pairs_of L old) → 0 < separator
-  separator_above low high rises = first (take (cut L (pairs_of L old)) (pairs_of L old)) (Rises-append _ (drop (cut L (pairs_of L old)) (pairs_of L old)) low separator high (rw halves at rises) starts).0 left_some
+  separator_above low high rises = first (take (cut L (pairs_of L old)) (pairs_of L old))
+      (Rises-append _ (drop (cut L (pairs_of L old)) (pairs_of L old)) low separator high (rw halves at rises)
+      starts).0 left_some
     where
       first : (a : Pairs) → Rises low separator a → 1 ≤ length a → 0 < separator
       first [] r some = absurd (omega arith)
@@ -80,7 +85,9 @@ module _ (L : Layout) (laws : IsLayout L) (old new right : List ℕ) (separator 
   right_node is = (omega (arith, is.0, right_tag), omega (arith, is.1, right_tag))
 
   -- the node's weight pays for both halves and for the parent's pair, or for both halves and a new root
-  pub half_loads : IsNode (node_of L old) → (load_of L new + load_of L right + L.excess_weight * L.growth ≤ load_of L old) × (load_of L new + load_of L right + L.node_weight ≤ load_of L old)
+  pub half_loads : IsNode (node_of L old)
+      → (load_of L new + load_of L right + L.excess_weight * L.growth ≤ load_of L old)
+      × (load_of L new + load_of L right + L.node_weight ≤ load_of L old)
   half_loads is =
       let left = load_at L new (left_node is) ∙ ap (weight L) split.left_is in
       let other = load_at L right (right_node is) ∙ ap (weight L) split.right_is in

@@ -1,7 +1,6 @@
 -- The least image of pages of 512 words: the relation can be met there too.
 use Rattle.std.proofs.Common.{◌≡◌, ℕ, ◌-◌, List, [], ◌∷◌, ◌++◌, length, replicate, None, refl, arith}
 use Rattle.vm_tree_model.specs.Fixed.{fixed}
-use Rattle.vm_tree_model.specs.Tree.{IsTree, map_of}
 use Rattle.vm_tree_model.specs.Reason.{walk, reason}
 use Rattle.vm_tree_model.proofs.Theorem.{no_reason}
 use Rattle.vm_tree_model.proofs.FixedLaws.{layout_512}

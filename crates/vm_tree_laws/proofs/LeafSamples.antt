@@ -42,13 +42,26 @@ abbrev pub put_change : Change
 put_change = record { page = 1; old = last_leaf 0 0 0; new = page_from (2 ∷ 1 ∷ 0 ∷ 0 ∷ 1 ∷ 0 ∷ 0 ∷ 0 ∷ 5 ∷ 7 ∷ []) }
 
 put_may : MayRelease (fixed 64) least_start [] (put_change ∷ []) (entry 0 1 (Put 5 7) (Was None))
-put_may = (refl, ((omega arith, omega arith), refl, record { leaf = leaf_from 0 (2 ^ 64) put_change.new (omega arith) refl; low = refl; high = refl; pairs = refl }))
+put_may = (
+  refl,
+  (
+    (omega arith, omega arith),
+    refl,
+    record {
+      leaf = leaf_from 0 (2 ^ 64) put_change.new (omega arith) refl;
+      low = refl;
+      high = refl;
+      pairs = refl;
+    },
+  ),
+)
 
 abbrev pub after_put : Kept Said
 after_put = after_release (put_change ∷ []) (entry 0 1 (Put 5 7) (Was None)) (first_kept least_start)
 
 pub put_keeps : KeepsTree (fixed 64) least_start after_put
-put_keeps = releases_keep (fixed 64) layout_64 least_start (first_kept least_start) [] (put_change ∷ []) (entry 0 1 (Put 5 7) (Was None)) least_keeps
+put_keeps = releases_keep (fixed 64) layout_64 least_start (first_kept least_start) [] (put_change ∷ [])
+    (entry 0 1 (Put 5 7) (Was None)) least_keeps
     (record { agrees = (omega arith, refl, tt); apart = (refl, tt); sized = (refl, tt); few = omega arith; owed = λ p some. absurd (cc) })
     (refl, refl) put_may
 

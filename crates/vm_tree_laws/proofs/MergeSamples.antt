@@ -20,7 +20,8 @@ use Rattle.vm_tree_laws.proofs.SamplePages.{page_from, meta_page, bounded_leaf, 
 
 -- an image of height 1: the root on page 3 has leaves of the keys 1 to 14 and 15 to 28, and an empty one from 100 on
 abbrev pub spread : List (List ℕ)
-spread = meta_page 3 1 ∷ bounded_leaf 0 15 14 1 ∷ last_leaf 100 0 0 ∷ page_from (3 ∷ 3 ∷ 0 ∷ 0 ∷ 1 ∷ 1 ∷ 0 ∷ 0 ∷ 0 ∷ 1 ∷ 15 ∷ 4 ∷ 100 ∷ 2 ∷ []) ∷ bounded_leaf 15 100 14 15 ∷ unused 3
+spread = meta_page 3 1 ∷ bounded_leaf 0 15 14 1 ∷ last_leaf 100 0 0 ∷ page_from
+    (3 ∷ 3 ∷ 0 ∷ 0 ∷ 1 ∷ 1 ∷ 0 ∷ 0 ∷ 0 ∷ 1 ∷ 15 ∷ 4 ∷ 100 ∷ 2 ∷ []) ∷ bounded_leaf 15 100 14 15 ∷ unused 3
 
 spread_fault : reason (fixed 64) spread ≡ None
 unfolding walk
@@ -54,9 +55,24 @@ merge_may = record {
   right_leaf = refl;
   left_mid = bounded_leaf 15 100 13 15;
   right_mid = last_leaf 100 0 0;
-  deletes = inl (((omega arith, omega arith), refl, record { leaf = leaf_from 15 100 (bounded_leaf 15 100 13 15) (omega arith) refl; low = refl; high = refl; pairs = refl }), refl);
+  deletes = inl (
+    (
+      (omega arith, omega arith),
+      refl,
+      record {
+        leaf = leaf_from 15 100 (bounded_leaf 15 100 13 15) (omega arith) refl;
+        low = refl;
+        high = refl;
+        pairs = refl;
+      },
+    ),
+    refl,
+  );
   few = omega arith;
-  takes = record { node = refl; clean = λ _. (inner_from 0 (2 ^ 64) (page_from (3 ∷ 2 ∷ 0 ∷ 0 ∷ 1 ∷ 1 ∷ 0 ∷ 0 ∷ 0 ∷ 1 ∷ 15 ∷ 4 ∷ [])) (omega arith) refl).clean };
+  takes = record {
+    node = refl;
+    clean = λ _. (inner_from 0 (2 ^ 64) (page_from (3 ∷ 2 ∷ 0 ∷ 0 ∷ 1 ∷ 1 ∷ 0 ∷ 0 ∷ 0 ∷ 1 ∷ 15 ∷ 4 ∷ [])) (omega arith) refl).clean;
+  };
   joined = record { node = refl; clean = λ _ _. (leaf_from 15 (2 ^ 64) (last_leaf 15 13 15) (omega arith) refl).clean };
   zeroed = free_zeros (fixed 64);
 }
@@ -85,7 +101,8 @@ merge_frees = refl
 
 -- an image of height 1: the root on page 3 has leaves of the keys 1 to 14, and of key 100
 abbrev pub pair : List (List ℕ)
-pair = meta_page 3 1 ∷ bounded_leaf 0 100 14 1 ∷ last_leaf 100 1 100 ∷ page_from (3 ∷ 2 ∷ 0 ∷ 0 ∷ 1 ∷ 1 ∷ 0 ∷ 0 ∷ 0 ∷ 1 ∷ 100 ∷ 2 ∷ []) ∷ unused 4
+pair = meta_page 3 1 ∷ bounded_leaf 0 100 14 1 ∷ last_leaf 100 1 100 ∷ page_from
+    (3 ∷ 2 ∷ 0 ∷ 0 ∷ 1 ∷ 1 ∷ 0 ∷ 0 ∷ 0 ∷ 1 ∷ 100 ∷ 2 ∷ []) ∷ unused 4
 
 pair_fault : reason (fixed 64) pair ≡ None
 unfolding walk
@@ -120,7 +137,19 @@ collapse_may = record {
   right_leaf = refl;
   left_mid = bounded_leaf 0 100 14 1;
   right_mid = last_leaf 100 0 0;
-  deletes = inr (refl, ((omega arith, omega arith), refl, record { leaf = leaf_from 100 (2 ^ 64) (last_leaf 100 0 0) (omega arith) refl; low = refl; high = refl; pairs = refl }));
+  deletes = inr (
+    refl,
+    (
+      (omega arith, omega arith),
+      refl,
+      record {
+        leaf = leaf_from 100 (2 ^ 64) (last_leaf 100 0 0) (omega arith) refl;
+        low = refl;
+        high = refl;
+        pairs = refl;
+      },
+    ),
+  );
   few = omega arith;
   meta_new = refl;
   joined = record { node = refl; clean = λ _ _. (leaf_from 0 (2 ^ 64) (last_leaf 0 14 1) (omega arith) refl).clean };

@@ -1,5 +1,7 @@
 -- The release of two leaves that became one, after a key was removed from one of them, keeps what the tree keeps.
-use Rattle.std.proofs.Common.{◌≡◌, ◌≢◌, ◌⊎◌, ◌||◌, inl, inr, ℕ, ◌+◌, ◌*◌, ◌-◌, ◌≤◌, ◌==◌, Bool, true, false, true≢false, List, [], ◌∷◌, ◌++◌, length, set, Some, eq-eqb, refl, sym, ap, ◌∙◌, subst, arith, length-set, get_or-set_same, get_or-set_other}
+use Rattle.std.proofs.Common.{◌≡◌, ◌≢◌, ◌⊎◌, ◌||◌, inl, inr, ℕ, ◌+◌, ◌*◌, ◌-◌, ◌≤◌, ◌==◌, Bool, true, false}
+use Rattle.std.proofs.Common.{true≢false, List, [], ◌∷◌, ◌++◌, length, set, Some, eq-eqb, refl, sym, ap, ◌∙◌, subst}
+use Rattle.std.proofs.Common.{arith, length-set, get_or-set_same, get_or-set_other}
 use Rattle.std.proofs.lemmas.Bool.{cases_eq}
 use Rattle.std.proofs.lemmas.Bool.Decides.{nat_tests}
 use Rattle.std.proofs.Math.Nat.{mul-le-mul_left}
@@ -36,8 +38,13 @@ use Rattle.vm_tree_laws.proofs.Zeros.{free_words, node_words}
 
 -- ---- the pages without the key, between the edit of one leaf and the merge
 
-module _ (L : Layout) (laws : IsLayout L) (start : Start) (kept : Kept Said) (keeps : KeepsTree L start kept) (l : ℕ) (mid : List ℕ) (tag : (node_at L kept.pages l).tag ≡ 2) (e : Entry Said) (turn : e.count ≡ entries_under e.number kept.history + 1)
-    (key value : ℕ) (said : e.said ≡ record { call = Del key; reply = Gone (Some value) }) (edit : IsEdit L (page_at kept.pages l) mid (Del key) (Gone (Some value))) where
+module _ (L : Layout) (laws : IsLayout L) (start : Start) (kept : Kept Said) (keeps : KeepsTree L start kept) (l : ℕ)
+    (mid : List ℕ) (tag : (node_at L kept.pages l).tag ≡ 2) (e : Entry Said)
+    (turn : e.count ≡ entries_under e.number kept.history + 1)
+    (key value : ℕ) (said : e.said ≡ record {
+      call = Del key;
+      reply = Gone (Some value);
+    }) (edit : IsEdit L (page_at kept.pages l) mid (Del key) (Gone (Some value))) where
   abbrev pub between : Kept Said
   between = record kept { pages = set kept.pages l mid; history = kept.history ++ e ∷ [] }
 
@@ -52,9 +59,12 @@ module _ (L : Layout) (laws : IsLayout L) (start : Start) (kept : Kept Said) (ke
   mid_replaced = replaced L laws start kept keeps l mid leaf_at e turn _ edit.2
 
   pub between_left : L.node_weight * kept.next + L.excess_weight * excess L (set kept.pages l mid) + merge_weight L
-      ≤ L.excess_weight * (L.room - L.base) * node_count L start.pages + L.excess_weight * L.growth * news (kept.history ++ e ∷ []) + merge_weight L * gones (kept.history ++ e ∷ []) + L.node_weight * (start.next + length kept.owed)
+      ≤ L.excess_weight * (L.room - L.base) * node_count L start.pages + L.excess_weight * L.growth * news
+      (kept.history ++ e ∷ []) + merge_weight L * gones (kept.history ++ e ∷ []) + L.node_weight
+      * (start.next + length kept.owed)
   between_left =
-      let less = paid_left L laws start kept keeps l mid leaf_at e turn mid_replaced (Del key) (Gone (Some value)) said (del_grows L laws start kept keeps l mid leaf_at e turn _ edit.2 key refl) in
+      let less = paid_left L laws start kept keeps l mid leaf_at e turn mid_replaced (Del key) (Gone (Some value))
+      said (del_grows L laws start kept keeps l mid leaf_at e turn _ edit.2 key refl) in
       let one : merge_weight L * 1 ≡ merge_weight L = omega arith in
       omega (arith, less, one)
 
@@ -82,7 +92,8 @@ pub node_load : (L : Layout) (w : List ℕ) → IsNode (node_of L w) → L.node_
 node_load L w is = let at = load_at L w is in omega (arith, at)
 
 -- and one that two leaves became, at most
-pub joined_load : (L : Layout) (w : List ℕ) → IsNode (node_of L w) → size L (node_of L w) ≤ L.merge_room → load_of L w ≤ L.node_weight + merge_weight L
+pub joined_load : (L : Layout) (w : List ℕ) → IsNode (node_of L w) → size L (node_of L w) ≤ L.merge_room
+    → load_of L w ≤ L.node_weight + merge_weight L
 joined_load L w is few =
     let at = load_at L w is in
     let more : L.excess_weight * (size L (node_of L w) - L.base) ≤ merge_weight L = mul-le-mul_left L.excess_weight (omega (arith, few)) in
@@ -104,7 +115,9 @@ frees_behind c cs p some = go _ (frees cs p) some
 
 -- ---- below the root
 
-module _ (L : Layout) (laws : IsLayout L) (start : Start) (kept : Kept Said) (keeps : KeepsTree L start kept) (q p r : ℕ) (parent left right : List ℕ) (e : Entry Said) (turn : e.count ≡ entries_under e.number kept.history + 1) where
+module _ (L : Layout) (laws : IsLayout L) (start : Start) (kept : Kept Said) (keeps : KeepsTree L start kept)
+    (q p r : ℕ) (parent left right : List ℕ) (e : Entry Said)
+    (turn : e.count ≡ entries_under e.number kept.history + 1) where
   abbrev old : List (List ℕ)
   old = kept.pages
 
@@ -123,7 +136,8 @@ module _ (L : Layout) (laws : IsLayout L) (start : Start) (kept : Kept Said) (ke
   abbrev new : List (List ℕ)
   new = changed changes old
 
-  module _ (may : MayMerge L parent_change left_change right_change e.said) (agrees : Agrees old changes) (apart : AreApart (changed_pages changes)) where
+  module _ (may : MayMerge L parent_change left_change right_change e.said) (agrees : Agrees old changes)
+      (apart : AreApart (changed_pages changes)) where
     q_is : IsNode (node_at L old q)
     q_is = let tag = may.inner in (omega (arith, tag), omega (arith, tag))
 
@@ -152,7 +166,9 @@ module _ (L : Layout) (laws : IsLayout L) (start : Start) (kept : Kept Said) (ke
     at_r = changed-here right_change [] (set (set old q parent) p left) refl (rw (length-set, length-set) agrees.2.2.0)
 
     owed_same : owed_after changes kept.owed ≡ kept.owed
-    owed_same = rw (without-none q kept.owed (not_owed L laws start kept keeps q q_is)) (rw (without-none p kept.owed (not_owed L laws start kept keeps p p_is)) (without-none r kept.owed (not_owed L laws start kept keeps r r_is)))
+    owed_same = rw (without-none q kept.owed (not_owed L laws start kept keeps q q_is))
+        (rw (without-none p kept.owed (not_owed L laws start kept keeps p p_is))
+        (without-none r kept.owed (not_owed L laws start kept keeps r r_is)))
 
     parent_tag : (node_of L parent).tag ≡ 3
     parent_tag = ap (λ (n : Node). n.tag) may.takes.node ∙ may.inner
@@ -168,20 +184,40 @@ module _ (L : Layout) (laws : IsLayout L) (start : Start) (kept : Kept Said) (ke
 
     parent_load : load_of L parent ≤ load_of L (page_at old q) + 0
     parent_load =
-        let node : node_of L parent ≡ record (node_at L old q) { pairs = del_pair (pairs_of L (page_at old q)) may.separator } = may.takes.node in
+        let node : node_of L parent ≡ record (node_at L old q) {
+          pairs =
+              del_pair (pairs_of L (page_at old q)) may.separator;
+        } = may.takes.node in
         let less = size-del L.pair_size (pairs_of L (page_at old q)) may.separator in
-        let sizes : size L (node_of L parent) ≡ size L (record (node_at L old q) { pairs = del_pair (pairs_of L (page_at old q)) may.separator }) = ap (size L) node in
+        let sizes : size L (node_of L parent) ≡ size L
+        (record (node_at L old q) { pairs = del_pair (pairs_of L (page_at old q)) may.separator }) =
+        ap (size L) node in
         let tags : is_node L parent ≡ is_node L (page_at old q) = ap (λ (n : Node). n.tag == 2 || n.tag == 3) node in
         weighs_less L parent (page_at old q) 0 tags (omega (arith, sizes, less))
 
     -- one node less
     fewer_nodes : IsNode (node_of L left) → node_count L old ≡ node_count L new + 1
-    fewer_nodes left_is = omega (arith, sum-changed (counted L) changes old agrees apart, counted_node L parent parent_node, counted_node L left left_is, counted_other L right right_other, counted_node L (page_at old q) q_is, counted_node L (page_at old p) p_is, counted_node L (page_at old r) r_is)
+    fewer_nodes left_is = omega (
+      arith,
+      sum-changed (counted L) changes old agrees apart,
+      counted_node L parent
+          parent_node,
+      counted_node L left left_is,
+      counted_other L right right_other,
+      counted_node L (page_at old q)
+          q_is,
+      counted_node L (page_at old p) p_is,
+      counted_node L (page_at old r) r_is,
+    )
 
     -- the key was removed from leaf l
-    module _ (l : ℕ) (mid : List ℕ) (tag : (node_at L old l).tag ≡ 2) (edit : IsEdit L (page_at old l) mid (Del may.key) (Gone (Some may.value))) (among : has l (changed_pages changes) ≡ true) (nq : q ≢ l)
-        (at_left : page_at (set old l mid) p ≡ may.left_mid) (at_right : page_at (set old l mid) r ≡ may.right_mid) (tag_left : (node_of L may.left_mid).tag ≡ 2) (tag_right : (node_of L may.right_mid).tag ≡ 2)
-        (less : load L new + L.node_weight * 1 ≤ load L (set old l mid) + merge_weight L) (fewer : node_count L (set old l mid) ≡ node_count L new + 1) where
+    module _ (l : ℕ) (mid : List ℕ) (tag : (node_at L old l).tag ≡ 2)
+        (edit : IsEdit L (page_at old l) mid (Del may.key) (Gone (Some may.value)))
+        (among : has l (changed_pages changes) ≡ true) (nq : q ≢ l)
+        (at_left : page_at (set old l mid) p ≡ may.left_mid) (at_right : page_at (set old l mid) r ≡ may.right_mid)
+        (tag_left : (node_of L may.left_mid).tag ≡ 2) (tag_right : (node_of L may.right_mid).tag ≡ 2)
+        (less : load L new + L.node_weight * 1 ≤ load L (set old l mid) + merge_weight L)
+        (fewer : node_count L (set old l mid) ≡ node_count L new + 1) where
       abbrev mids : List (List ℕ)
       mids = set old l mid
 
@@ -209,7 +245,8 @@ module _ (L : Layout) (laws : IsLayout L) (start : Start) (kept : Kept Said) (ke
             | inl s ↦ laws.meta_tag _ keeps.tree.meta.magic (subst (λ x. IsNode (node_at L old x)) (sym s) q_is)
             | inr zq ↦ elim (cases_eq 0 p) [
               | inl s ↦ laws.meta_tag _ keeps.tree.meta.magic (subst (λ x. IsNode (node_at L old x)) (sym s) p_is)
-              | inr zp ↦ let s : 0 ≡ r = third 0 q p r some zq zp in laws.meta_tag _ keeps.tree.meta.magic (subst (λ x. IsNode (node_at L old x)) (sym s) r_is)
+              | inr zp ↦ let s : 0 ≡ r = third 0 q p r some zq zp in
+                  laws.meta_tag _ keeps.tree.meta.magic (subst (λ x. IsNode (node_at L old x)) (sym s) r_is)
             ]
           ])
 
@@ -231,20 +268,32 @@ module _ (L : Layout) (laws : IsLayout L) (start : Start) (kept : Kept Said) (ke
 
       used : (x : ℕ) → has x (changed_pages changes) ≡ true → (all_zero (page_at new x) ≡ false) ⊎ (frees changes x ≡ true)
       used x some = elim (cases_eq x q) [
-        | inl s ↦ inl (rw s (rw at_q (let tag' : (node_of L parent).tag ≡ 3 = ap (λ (n : Node). n.tag) may.takes.node ∙ may.inner in node_words L laws parent (omega (arith, tag'), omega (arith, tag')))))
+        | inl s ↦ inl (rw s (rw at_q (let tag' : (node_of L parent).tag ≡ 3 = ap (λ (n : Node). n.tag) may.takes.node
+            ∙ may.inner in node_words L laws parent (omega (arith, tag'), omega (arith, tag')))))
         | inr xq ↦ elim (cases_eq x p) [
-          | inl s ↦ inl (rw s (rw at_p (let tag' : (node_of L left).tag ≡ 2 = ap (λ (n : Node). n.tag) may.joined.node ∙ tag_left in node_words L laws left (omega (arith, tag'), omega (arith, tag')))))
+          | inl s ↦ inl (rw s (rw at_p (let tag' : (node_of L left).tag ≡ 2 = ap (λ (n : Node). n.tag) may.joined.node
+              ∙ tag_left in node_words L laws left (omega (arith, tag'), omega (arith, tag')))))
           | inr xp ↦ let s : x ≡ r = third x q p r some xq xp in
-              inr (rw s (frees_behind parent_change (left_change ∷ right_change ∷ []) r (frees_behind left_change (right_change ∷ []) r (frees_page right_change [] (node_words L laws (page_at old r) r_is) (free_words L right may.zeroed)))))
+              inr (rw s (frees_behind parent_change (left_change ∷ right_change ∷ []) r
+              (frees_behind left_change (right_change ∷ []) r
+              (frees_page right_change [] (node_words L laws (page_at old r) r_is)
+              (free_words L right may.zeroed)))))
         ]
       ]
 
       edit_merge_keeps : KeepsTree L start (after_release changes (e ∷ []) kept)
-      edit_merge_keeps = regroup_keeps L laws start (between L laws start kept keeps l mid tag e turn may.key may.value may.said_is edit) (between_keeps L laws start kept keeps l mid tag e turn may.key may.value may.said_is edit)
-          (changed_pages changes) new (owed_after changes kept.owed) (frees changes) (merge_weight L) (between_left L laws start kept keeps l mid tag e turn may.key may.value may.said_is edit) (record {
+      edit_merge_keeps = regroup_keeps L laws start
+          (between L laws start kept keeps l mid tag e turn may.key may.value may.said_is edit)
+          (between_keeps L laws start kept keeps l mid tag e turn may.key may.value may.said_is edit)
+          (changed_pages changes) new (owed_after changes kept.owed) (frees changes) (merge_weight L)
+          (between_left L laws start kept keeps l mid tag e turn may.key may.value may.said_is edit) (record {
             same_count = count;
-            tree = merged_tree L laws mids new q may.low p may.separator r (between_keeps L laws start kept keeps l mid tag e turn may.key may.value may.said_is edit).tree merge;
-            contents = merged_map L laws mids new q may.low p may.separator r (between_keeps L laws start kept keeps l mid tag e turn may.key may.value may.said_is edit).tree merge;
+            tree = merged_tree L laws mids new q may.low p may.separator r
+                (between_keeps L laws start kept keeps l mid tag e turn may.key may.value may.said_is edit).tree
+                merge;
+            contents = merged_map L laws mids new q may.low p may.separator r
+                (between_keeps L laws start kept keeps l mid tag e turn may.key may.value may.said_is edit).tree
+                merge;
             others = others;
             apart = rw owed_same keeps.owed.apart;
             owed_was = λ x some. let some' : has x kept.owed ≡ true = ap (has x) (sym owed_same) ∙ some in (some', not_in x some');
@@ -263,35 +312,71 @@ module _ (L : Layout) (laws : IsLayout L) (start : Start) (kept : Kept Said) (ke
                 | inl s ↦ true≢false (sym some ∙ ap (λ y. has y kept.owed) s ∙ not_owed L laws start kept keeps q q_is)
                 | inr xq ↦ elim (cases_eq x p) [
                   | inl s ↦ true≢false (sym some ∙ ap (λ y. has y kept.owed) s ∙ not_owed L laws start kept keeps p p_is)
-                  | inr xp ↦ let s : x ≡ r = third x q p r in_it xq xp in true≢false (sym some ∙ ap (λ y. has y kept.owed) s ∙ not_owed L laws start kept keeps r r_is)
+                  | inr xp ↦ let s : x ≡ r = third x q p r in_it xq xp in
+                      true≢false (sym some ∙ ap (λ y. has y kept.owed) s ∙ not_owed L laws start kept keeps r r_is)
                 ]
               ])
 
     left_node : (node_of L may.left_mid).tag ≡ 2 → IsNode (node_of L left)
-    left_node mid = let tag : (node_of L left).tag ≡ 2 = ap (λ (n : Node). n.tag) may.joined.node ∙ mid in (omega (arith, tag), omega (arith, tag))
+    left_node mid = let tag : (node_of L left).tag ≡ 2 = ap (λ (n : Node). n.tag) may.joined.node ∙ mid in
+        (omega (arith, tag), omega (arith, tag))
 
     pub merge_keeps : KeepsTree L start (after_release changes (e ∷ []) kept)
     merge_keeps = elim may.deletes [
       | inl d ↦
           let edit = d.0 in
-          let other : page_at (set old p may.left_mid) r ≡ may.right_mid = between_other L laws start kept keeps p may.left_mid may.left_leaf e turn may.key may.value may.said_is edit r (λ s. p_ne_r (sym s)) ∙ sym d.1 in
+          let other : page_at (set old p may.left_mid) r ≡ may.right_mid = between_other L laws start kept keeps p
+          may.left_mid may.left_leaf e turn may.key may.value may.said_is edit r (λ s. p_ne_r (sym s))
+          ∙ sym d.1 in
           let mid_leaf = between_leaf L laws start kept keeps p may.left_mid may.left_leaf e turn may.key may.value may.said_is edit in
           let left_is = left_node mid_leaf in
           let mid_load = between_load L laws start kept keeps p may.left_mid may.left_leaf e turn may.key may.value may.said_is edit in
           let mid_weight = node_load L may.left_mid (omega (arith, mid_leaf), omega (arith, mid_leaf)) in
           edit_merge_keeps p may.left_mid may.left_leaf edit (has_behind p q (p ∷ r ∷ []) (has_first p (r ∷ []))) q_ne_p
-          (between_here L laws start kept keeps p may.left_mid may.left_leaf e turn may.key may.value may.said_is edit) other mid_leaf (rw (d.1) may.right_leaf)
-          (omega (arith, sum, parent_load, load_other L right right_other, joined_load L left left_is may.few, mid_load, mid_weight, node_load L (page_at old r) r_is))
-          (omega (arith, fewer_nodes left_is, between_nodes L laws start kept keeps p may.left_mid may.left_leaf e turn may.key may.value may.said_is edit))
+          (between_here L laws start kept keeps p may.left_mid may.left_leaf e turn may.key may.value may.said_is
+          edit) other mid_leaf (rw (d.1) may.right_leaf)
+          (omega (
+            arith,
+            sum,
+            parent_load,
+            load_other L right right_other,
+            joined_load L left left_is may.few,
+            mid_load,
+            mid_weight,
+            node_load L (page_at old r) r_is,
+          ))
+          (omega (
+            arith,
+            fewer_nodes left_is,
+            between_nodes L laws start kept keeps p may.left_mid may.left_leaf e
+                turn may.key may.value may.said_is edit,
+          ))
       | inr d ↦
           let edit = d.1 in
-          let other : page_at (set old r may.right_mid) p ≡ may.left_mid = between_other L laws start kept keeps r may.right_mid may.right_leaf e turn may.key may.value may.said_is edit p p_ne_r ∙ sym d.0 in
+          let other : page_at (set old r may.right_mid) p ≡ may.left_mid = between_other L laws start kept keeps r
+          may.right_mid may.right_leaf e turn may.key may.value may.said_is edit p p_ne_r ∙ sym d.0 in
           let mid_leaf = between_leaf L laws start kept keeps r may.right_mid may.right_leaf e turn may.key may.value may.said_is edit in
           let left_is = left_node (rw (d.0) may.left_leaf) in
           let mid_load = between_load L laws start kept keeps r may.right_mid may.right_leaf e turn may.key may.value may.said_is edit in
           let mid_weight = node_load L may.right_mid (omega (arith, mid_leaf), omega (arith, mid_leaf)) in
-          edit_merge_keeps r may.right_mid may.right_leaf edit (has_behind r q (p ∷ r ∷ []) (has_behind r p (r ∷ []) (has_first r []))) q_ne_r
-          other (between_here L laws start kept keeps r may.right_mid may.right_leaf e turn may.key may.value may.said_is edit) (rw (d.0) may.left_leaf) mid_leaf
-          (omega (arith, sum, parent_load, load_other L right right_other, joined_load L left left_is may.few, mid_load, mid_weight, node_load L (page_at old p) p_is))
-          (omega (arith, fewer_nodes left_is, between_nodes L laws start kept keeps r may.right_mid may.right_leaf e turn may.key may.value may.said_is edit))
+          edit_merge_keeps r may.right_mid may.right_leaf edit
+          (has_behind r q (p ∷ r ∷ []) (has_behind r p (r ∷ []) (has_first r []))) q_ne_r
+          other (between_here L laws start kept keeps r may.right_mid may.right_leaf e turn may.key may.value
+          may.said_is edit) (rw (d.0) may.left_leaf) mid_leaf
+          (omega (
+            arith,
+            sum,
+            parent_load,
+            load_other L right right_other,
+            joined_load L left left_is may.few,
+            mid_load,
+            mid_weight,
+            node_load L (page_at old p) p_is,
+          ))
+          (omega (
+            arith,
+            fewer_nodes left_is,
+            between_nodes L laws start kept keeps r may.right_mid may.right_leaf e
+                turn may.key may.value may.said_is edit,
+          ))
     ]

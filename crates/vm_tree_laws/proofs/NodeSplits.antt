@@ -1,5 +1,6 @@
 -- The release of parent, node and sibling after a split below the root keeps what the tree keeps.
-use Rattle.std.proofs.Common.{◌≡◌, ◌≢◌, ◌⊎◌, inl, inr, ℕ, ◌+◌, ◌*◌, ◌≤◌, ◌==◌, ◌||◌, true, List, [], ◌∷◌, length, get_or, set, take, drop, refl, sym, ap, ◌∙◌, subst, arith, length-set}
+use Rattle.std.proofs.Common.{◌≡◌, ◌≢◌, ◌⊎◌, inl, inr, ℕ, ◌+◌, ◌*◌, ◌≤◌, ◌==◌, ◌||◌, true, List, [], ◌∷◌, length}
+use Rattle.std.proofs.Common.{get_or, set, take, drop, refl, sym, ap, ◌∙◌, subst, arith, length-set}
 use Rattle.std.proofs.lemmas.Bool.{cases_eq}
 use Rattle.std.proofs.lemmas.Bool.Decides.{nat_tests}
 use Rattle.vm_tree_model.specs.Layout.{Layout, IsLayout}
@@ -23,10 +24,12 @@ use Rattle.vm_map.specs.declared.call.Said.{Said}
 use Rattle.vm_tree_laws.specs.Keeps.{KeepsTree}
 use Rattle.vm_tree_laws.specs.May.{MaySplit}
 use Rattle.vm_tree_laws.proofs.GroupReleases.{group_keeps}
-use Rattle.vm_tree_laws.proofs.Halves.{IsOther, counted, counted_node, counted_other, load_other, halves, left_some, starts, left_node, right_node, half_loads}
+use Rattle.vm_tree_laws.proofs.Halves.{IsOther, counted, counted_node, counted_other, load_other, halves, left_some}
+use Rattle.vm_tree_laws.proofs.Halves.{starts, left_node, right_node, half_loads}
 use Rattle.vm_tree_laws.proofs.Nodes.{not_owed, clean_at}
 
-module _ (L : Layout) (laws : IsLayout L) (start : Start) (kept : Kept Said) (keeps : KeepsTree L start kept) (q p r : ℕ) (parent node sibling : List ℕ) where
+module _ (L : Layout) (laws : IsLayout L) (start : Start) (kept : Kept Said) (keeps : KeepsTree L start kept)
+    (q p r : ℕ) (parent node sibling : List ℕ) where
   abbrev old : List (List ℕ)
   old = kept.pages
 
@@ -81,7 +84,9 @@ module _ (L : Layout) (laws : IsLayout L) (start : Start) (kept : Kept Said) (ke
     r_other : IsOther (node_at L old r)
     r_other = let tag = r_zero in ((λ e. omega (arith, tag, e)), (λ e. omega (arith, tag, e)))
 
-    step : IsSplitStep (node_at L old) (node_at L new) q may.key p r may.separator (take (cut L (pairs_of L (page_at old p))) (pairs_of L (page_at old p))) (drop (cut L (pairs_of L (page_at old p))) (pairs_of L (page_at old p)))
+    step : IsSplitStep (node_at L old) (node_at L new) q may.key p r may.separator
+        (take (cut L (pairs_of L (page_at old p))) (pairs_of L (page_at old p)))
+        (drop (cut L (pairs_of L (page_at old p))) (pairs_of L (page_at old p)))
     step = record {
       named = (may.inner, may.names);
       free = r_zero;
@@ -94,7 +99,9 @@ module _ (L : Layout) (laws : IsLayout L) (start : Start) (kept : Kept Said) (ke
       others = λ x nq np nr. ap (node_of L) (others x nq np nr);
     }
 
-    pages : IsSplitPages L old new (node_at L old) (get_or (page_at old 0) 1 0) (get_or (page_at old 0) 2 0) q may.key p r may.separator (take (cut L (pairs_of L (page_at old p))) (pairs_of L (page_at old p))) (drop (cut L (pairs_of L (page_at old p))) (pairs_of L (page_at old p)))
+    pages : IsSplitPages L old new (node_at L old) (get_or (page_at old 0) 1 0) (get_or (page_at old 0) 2 0) q may.key
+        p r may.separator (take (cut L (pairs_of L (page_at old p))) (pairs_of L (page_at old p)))
+        (drop (cut L (pairs_of L (page_at old p))) (pairs_of L (page_at old p)))
     pages = record {
       same_count = length-changed changes old;
       meta = rw (page_zero, length-changed changes old) keeps.tree.meta;
@@ -112,13 +119,19 @@ module _ (L : Layout) (laws : IsLayout L) (start : Start) (kept : Kept Said) (ke
     }
 
     parent_node : IsNode (node_of L parent)
-    parent_node = let tag : (node_of L parent).tag ≡ (node_at L old q).tag = ap (λ (n : Node). n.tag) may.adds.node in (omega (arith, tag, q_is), omega (arith, tag, q_is))
+    parent_node = let tag : (node_of L parent).tag ≡ (node_at L old q).tag = ap (λ (n : Node). n.tag) may.adds.node in
+        (omega (arith, tag, q_is), omega (arith, tag, q_is))
 
     parent_load : load_of L parent ≤ load_of L (page_at old q) + L.excess_weight * L.growth * 1
     parent_load =
-        let node : node_of L parent ≡ record (node_at L old q) { pairs = put_pair (pairs_of L (page_at old q)) may.separator r } = may.adds.node in
+        let node : node_of L parent ≡ record (node_at L old q) {
+          pairs =
+              put_pair (pairs_of L (page_at old q)) may.separator r;
+        } = may.adds.node in
         let more = size-put L.pair_size (pairs_of L (page_at old q)) may.separator r in
-        let sizes : size L (node_of L parent) ≡ size L (record (node_at L old q) { pairs = put_pair (pairs_of L (page_at old q)) may.separator r }) = ap (size L) node in
+        let sizes : size L (node_of L parent) ≡ size L
+        (record (node_at L old q) { pairs = put_pair (pairs_of L (page_at old q)) may.separator r }) =
+        ap (size L) node in
         let tags : is_node L parent ≡ is_node L (page_at old q) = ap (λ (n : Node). n.tag == 2 || n.tag == 3) node in
         weighs_more L parent (page_at old q) tags (omega (arith, sizes, more, laws.grows may.separator))
 
@@ -134,13 +147,25 @@ module _ (L : Layout) (laws : IsLayout L) (start : Start) (kept : Kept Said) (ke
     left_is_node = left_node L laws (page_at old p) node sibling may.separator p_clean may.full may.split p_is
 
     more_nodes : node_count L new ≡ node_count L old + 1
-    more_nodes = omega (arith, sum-changed (counted L) changes old agrees apart, counted_node L parent parent_node, counted_node L node left_is_node, counted_node L sibling sibling_node, counted_node L (page_at old q) q_is, counted_node L (page_at old p) p_is, counted_other L (page_at old r) r_other)
+    more_nodes = omega (
+      arith,
+      sum-changed (counted L) changes old agrees apart,
+      counted_node L parent parent_node,
+      counted_node L node left_is_node,
+      counted_node L sibling sibling_node,
+      counted_node L (page_at old q) q_is,
+      counted_node L (page_at old p) p_is,
+      counted_other L (page_at old r) r_other,
+    )
 
     -- the sibling's page may be owed, and is not any more
     fewer_owed : length kept.owed ≤ length (owed_after changes kept.owed) + 1
-    fewer_owed = rw (without-none q kept.owed (not_owed L laws start kept keeps q q_is)) (rw (without-none p kept.owed (not_owed L laws start kept keeps p p_is)) (without-few r kept.owed keeps.owed.apart))
+    fewer_owed = rw (without-none q kept.owed (not_owed L laws start kept keeps q q_is))
+        (rw (without-none p kept.owed (not_owed L laws start kept keeps p p_is))
+        (without-few r kept.owed keeps.owed.apart))
 
-    paid : L.excess_weight * excess L new + L.node_weight * length kept.owed ≤ L.excess_weight * excess L old + L.node_weight * length (owed_after changes kept.owed)
+    paid : L.excess_weight * excess L new + L.node_weight * length kept.owed ≤ L.excess_weight * excess L
+        old + L.node_weight * length (owed_after changes kept.owed)
     paid = split_pays L old new 1 (length kept.owed) (length (owed_after changes kept.owed)) room more_nodes fewer_owed
 
     nodes : (x : ℕ) → has x (changed_pages changes) ≡ true → (x ≡ 0) ⊎ IsNode (node_at L new x)
@@ -148,7 +173,8 @@ module _ (L : Layout) (laws : IsLayout L) (start : Start) (kept : Kept Said) (ke
       | inl e ↦ inr (rw e (subst (λ w. IsNode (node_of L w)) (sym at_q) parent_node))
       | inr nq ↦ elim (cases_eq x p) [
         | inl e ↦ inr (rw e (subst (λ w. IsNode (node_of L w)) (sym at_p) left_is_node))
-        | inr np ↦ let e : x ≡ r = grind (arith, nat_tests, some, nq, np) in inr (rw e (subst (λ w. IsNode (node_of L w)) (sym at_r) sibling_node))
+        | inr np ↦ let e : x ≡ r = grind (arith, nat_tests, some, nq, np) in
+            inr (rw e (subst (λ w. IsNode (node_of L w)) (sym at_r) sibling_node))
       ]
     ]
 

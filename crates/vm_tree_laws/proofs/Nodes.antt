@@ -30,7 +30,8 @@ module _ (L : Layout) (laws : IsLayout L) (start : Start) (kept : Kept Said) (ke
 
   -- a page with a leaf's tag is a leaf
   pub leaf_by_tag : (p : ℕ) → (node_at L kept.pages p).tag ≡ 2 → IsLeafAt L kept.pages p
-  leaf_by_tag p tag = let range = in_range L laws kept.pages keeps.tree p (omega (arith, tag), omega (arith, tag)) in (range.0, range.1, tag)
+  leaf_by_tag p tag = let range = in_range L laws kept.pages keeps.tree p (omega (arith, tag), omega (arith, tag)) in
+      (range.0, range.1, tag)
 
   -- a node's other words are as the format has them
   pub clean_at : (p : ℕ) → IsNode (node_at L kept.pages p) → IsClean L (page_at kept.pages p)
@@ -39,7 +40,8 @@ module _ (L : Layout) (laws : IsLayout L) (start : Start) (kept : Kept Said) (ke
     | inr inner ↦ inner.clean
   ]
 
-  pub rises_at : (p : ℕ) → IsNode (node_at L kept.pages p) → Rises (node_at L kept.pages p).low (node_at L kept.pages p).high (node_at L kept.pages p).pairs
+  pub rises_at : (p : ℕ) → IsNode (node_at L kept.pages p)
+      → Rises (node_at L kept.pages p).low (node_at L kept.pages p).high (node_at L kept.pages p).pairs
   rises_at p is = elim (kind_of L laws kept.pages keeps.tree p is) [
     | inl leaf ↦ leaf.node.rises
     | inr inner ↦ inner.node.rises

@@ -1,5 +1,7 @@
 -- The release of page 0, the old root, its sibling and the new root after a split of the root keeps what the tree keeps.
-use Rattle.std.proofs.Common.{◌≡◌, ◌≢◌, ◌⊎◌, inl, inr, ℕ, ◌+◌, ◌-◌, ◌*◌, ◌<◌, ◌≤◌, true, false, List, [], ◌∷◌, length, get_or, set, take, drop, Some, refl, sym, ap, ◌∙◌, subst, arith, length-set, get_or-set_same, get_or-set_other}
+use Rattle.std.proofs.Common.{◌≡◌, ◌≢◌, ◌⊎◌, inl, inr, ℕ, ◌+◌, ◌-◌, ◌*◌, ◌<◌, ◌≤◌, true, false, List, [], ◌∷◌, length}
+use Rattle.std.proofs.Common.{get_or, set, take, drop, Some, refl, sym, ap, ◌∙◌, subst, arith, length-set}
+use Rattle.std.proofs.Common.{get_or-set_same, get_or-set_other}
 use Rattle.std.proofs.lemmas.Bool.{cases_eq}
 use Rattle.std.proofs.lemmas.Bool.Decides.{nat_tests}
 use Rattle.vm_tree_model.specs.Layout.{Layout, IsLayout}
@@ -13,7 +15,8 @@ use Rattle.vm_tree_model.specs.Layout.{IsClean, cut, size}
 use Rattle.vm_tree_model.proofs.Laws.{in_range}
 use Rattle.vm_tree_laws.proofs.Payments.{split_pays}
 use Rattle.vm_tree_model.proofs.SplitLaw.{IsSplitStep}
-use Rattle.vm_tree_model.proofs.RootSplit.{root_page, height_word, with_top, with_top-same, with_top-other, with_top-zero, IsRootSplit, root_split_tree, root_split_map}
+use Rattle.vm_tree_model.proofs.RootSplit.{root_page, height_word, with_top, with_top-same, with_top-other}
+use Rattle.vm_tree_model.proofs.RootSplit.{with_top-zero, IsRootSplit, root_split_tree, root_split_map}
 use Rattle.vm_owner.specs.Numbers.{has, without, AreApart}
 use Rattle.vm_owner.specs.Kept.{Start, Kept, Change, changed_pages, Agrees, changed, owed_after, after_release}
 use Rattle.vm_owner.proofs.NumberLemmas.{without-none, without-few, AreApart-without}
@@ -22,11 +25,13 @@ use Rattle.vm_map.specs.declared.call.Said.{Said}
 use Rattle.vm_tree_laws.specs.Keeps.{KeepsTree}
 use Rattle.vm_tree_laws.specs.May.{MaySplitRoot}
 use Rattle.vm_tree_laws.proofs.GroupReleases.{group_keeps}
-use Rattle.vm_tree_laws.proofs.Halves.{IsOther, counted, counted_node, counted_other, load_at, load_other, halves, left_some, starts, separator_above, left_node, right_node, half_loads}
+use Rattle.vm_tree_laws.proofs.Halves.{IsOther, counted, counted_node, counted_other, load_at, load_other, halves}
+use Rattle.vm_tree_laws.proofs.Halves.{left_some, starts, separator_above, left_node, right_node, half_loads}
 use Rattle.vm_tree_laws.proofs.Nodes.{other_not_owed, not_owed, clean_at, rises_at}
 
 -- page 0 with another root and height
-pub grown_meta : (L : Layout) (laws : IsLayout L) (pages s height : ℕ) (w : List ℕ) → IsMeta L pages w → 1 ≤ s → s < pages → IsMeta L pages (set (set w 1 s) 2 height)
+pub grown_meta : (L : Layout) (laws : IsLayout L) (pages s height : ℕ) (w : List ℕ) → IsMeta L pages w → 1 ≤ s
+    → s < pages → IsMeta L pages (set (set w 1 s) 2 height)
 grown_meta L laws pages s height w meta ge lt = record {
   length = length-set (set w 1 s) 2 height ∙ length-set w 1 s ∙ meta.length;
   magic = same 0 (λ e. omega (arith, e)) (λ e. omega (arith, e)) ∙ meta.magic;
@@ -39,13 +44,15 @@ grown_meta L laws pages s height w meta ge lt = record {
     same i one two = get_or-set_other (set w 1 s) 2 i height 0 two ∙ get_or-set_other w 1 i s 0 one
 
     root : get_or (set (set w 1 s) 2 height) 1 0 ≡ s
-    root = get_or-set_other (set w 1 s) 2 1 height 0 (λ e. omega (arith, e)) ∙ get_or-set_same w 1 s 0 (omega (arith, meta.length, laws.some_words))
+    root = get_or-set_other (set w 1 s) 2 1 height 0 (λ e. omega (arith, e)) ∙ get_or-set_same w 1 s 0
+        (omega (arith, meta.length, laws.some_words))
 
 -- the new root's pairs
 two_pairs : (left separator right : ℕ) → 0 < separator → put_pair ((0, left) ∷ []) separator right ≡ (0, left) ∷ (separator, right) ∷ []
 two_pairs left separator right above = grind (arith, nat_tests, above)
 
-module _ (L : Layout) (laws : IsLayout L) (start : Start) (kept : Kept Said) (keeps : KeepsTree L start kept) (r s : ℕ) (meta root sibling top : List ℕ) where
+module _ (L : Layout) (laws : IsLayout L) (start : Start) (kept : Kept Said) (keeps : KeepsTree L start kept)
+    (r s : ℕ) (meta root sibling top : List ℕ) where
   abbrev old : List (List ℕ)
   old = kept.pages
 
@@ -97,16 +104,20 @@ module _ (L : Layout) (laws : IsLayout L) (start : Start) (kept : Kept Said) (ke
     at_p = changed-here root_change (sibling_change ∷ top_change ∷ []) (set old 0 meta) apart.1.0 (rw length-set agrees.2.0)
 
     at_r : page_at new r ≡ sibling
-    at_r = changed-here sibling_change (top_change ∷ []) (set (set old 0 meta) p root) apart.1.1.0 (rw (length-set, length-set) agrees.2.2.0)
+    at_r = changed-here sibling_change (top_change ∷ []) (set (set old 0 meta) p root) apart.1.1.0
+        (rw (length-set, length-set) agrees.2.2.0)
 
     at_s : page_at new s ≡ top
-    at_s = changed-here top_change [] (set (set (set old 0 meta) p root) r sibling) refl (rw (length-set, length-set, length-set) agrees.2.2.2.0)
+    at_s = changed-here top_change [] (set (set (set old 0 meta) p root) r sibling) refl
+        (rw (length-set, length-set, length-set) agrees.2.2.2.0)
 
     others : (x : ℕ) → 1 ≤ x → x ≢ s → x ≢ p → x ≢ r → page_at new x ≡ page_at old x
-    others x ge ns np nr = let nz : x ≢ 0 = λ e. omega (arith, ge, e) in changed-other changes old x (grind (arith, nat_tests, nz, ns, np, nr))
+    others x ge ns np nr = let nz : x ≢ 0 = λ e. omega (arith, ge, e) in
+        changed-other changes old x (grind (arith, nat_tests, nz, ns, np, nr))
 
     above : 0 < may.separator
-    above = separator_above L laws (page_at old p) root sibling may.separator p_clean may.full may.split (node_at L old p).low (node_at L old p).high (rises_at L laws start kept keeps p p_is)
+    above = separator_above L laws (page_at old p) root sibling may.separator p_clean may.full may.split
+        (node_at L old p).low (node_at L old p).high (rises_at L laws start kept keeps p p_is)
 
     over_p : with_top L old new s p ≡ node_at L old p
     over_p = with_top-other L old new s p (in_range L laws old keeps.tree p p_is).0 p_ne_s
@@ -123,7 +134,9 @@ module _ (L : Layout) (laws : IsLayout L) (start : Start) (kept : Kept Said) (ke
       | inr nz ↦ let ge : 1 ≤ x = omega (arith, nz) in ap (node_of L) (others x ge ns np nr) ∙ sym (with_top-other L old new s x ge ns)
     ]
 
-    step : IsSplitStep (with_top L old new s) (node_at L new) s 0 p r may.separator (take (cut L (pairs_of L (page_at old p))) (pairs_of L (page_at old p))) (drop (cut L (pairs_of L (page_at old p))) (pairs_of L (page_at old p)))
+    step : IsSplitStep (with_top L old new s) (node_at L new) s 0 p r may.separator
+        (take (cut L (pairs_of L (page_at old p))) (pairs_of L (page_at old p)))
+        (drop (cut L (pairs_of L (page_at old p))) (pairs_of L (page_at old p)))
     step = record {
       named = subst (λ (n : Node). (n.tag ≡ 3) × (lookup_at n.pairs 0 ≡ Some p)) (sym over_s) (refl, refl);
       free = ap (λ (n : Node). n.tag) over_r ∙ laws.free_tag _ may.free.zero;
@@ -131,10 +144,22 @@ module _ (L : Layout) (laws : IsLayout L) (start : Start) (kept : Kept Said) (ke
       left_some = left_some L laws (page_at old p) root sibling may.separator p_clean may.full may.split;
       starts = starts L laws (page_at old p) root sibling may.separator p_clean may.full may.split;
       parent = ap (node_of L) at_s ∙ may.grows.node
-          ∙ ap (λ (l : Pairs). record { tag = 3; level = height_word old + 1; low = 0; high = L.key_end; pairs = l }) (sym (two_pairs p may.separator r above))
+          ∙ ap (λ (l : Pairs). record {
+            tag = 3;
+            level = height_word old + 1;
+            low = 0;
+            high = L.key_end;
+            pairs = l;
+          }) (sym (two_pairs p may.separator r above))
           ∙ ap (λ (n : Node). record n { pairs = put_pair n.pairs may.separator r }) (sym over_s);
-      left = ap (node_of L) at_p ∙ may.split.left_is ∙ ap (λ (n : Node). record n { high = may.separator; pairs = take (cut L (pairs_of L (page_at old p))) (pairs_of L (page_at old p)) }) (sym over_p);
-      right = ap (node_of L) at_r ∙ may.split.right_is ∙ ap (λ (n : Node). record n { low = may.separator; pairs = drop (cut L (pairs_of L (page_at old p))) (pairs_of L (page_at old p)) }) (sym over_p);
+      left = ap (node_of L) at_p ∙ may.split.left_is ∙ ap (λ (n : Node). record n {
+        high = may.separator;
+        pairs = take (cut L (pairs_of L (page_at old p))) (pairs_of L (page_at old p));
+      }) (sym over_p);
+      right = ap (node_of L) at_r ∙ may.split.right_is ∙ ap (λ (n : Node). record n {
+        low = may.separator;
+        pairs = drop (cut L (pairs_of L (page_at old p))) (pairs_of L (page_at old p));
+      }) (sym over_p);
       others = same;
     }
 
@@ -144,12 +169,19 @@ module _ (L : Layout) (laws : IsLayout L) (start : Start) (kept : Kept Said) (ke
     meta_length : length (page_at old 0) ≡ L.words
     meta_length = keeps.tree.meta.length
 
-    pages : IsRootSplit L old new s r may.separator (take (cut L (pairs_of L (page_at old p))) (pairs_of L (page_at old p))) (drop (cut L (pairs_of L (page_at old p))) (pairs_of L (page_at old p)))
+    pages : IsRootSplit L old new s r may.separator
+        (take (cut L (pairs_of L (page_at old p))) (pairs_of L (page_at old p)))
+        (drop (cut L (pairs_of L (page_at old p))) (pairs_of L (page_at old p)))
     pages = record {
       same_count = length-changed changes old;
-      meta = rw (meta_is, length-changed changes old) (grown_meta L laws (length old) s (height_word old + 1) (page_at old 0) keeps.tree.meta s_above agrees.2.2.2.0);
-      new_root = ap (λ (w : List ℕ). get_or w 1 0) meta_is ∙ get_or-set_other (set (page_at old 0) 1 s) 2 1 (height_word old + 1) 0 (λ e. omega (arith, e)) ∙ get_or-set_same (page_at old 0) 1 s 0 (omega (arith, meta_length, laws.some_words));
-      new_height = ap (λ (w : List ℕ). get_or w 2 0) meta_is ∙ get_or-set_same (set (page_at old 0) 1 s) 2 (height_word old + 1) 0 (omega (arith, length-set (page_at old 0) 1 s, meta_length, laws.some_words));
+      meta = rw (meta_is, length-changed changes old)
+          (grown_meta L laws (length old) s (height_word old + 1) (page_at old 0) keeps.tree.meta s_above
+          agrees.2.2.2.0);
+      new_root = ap (λ (w : List ℕ). get_or w 1 0) meta_is ∙ get_or-set_other (set (page_at old 0) 1 s) 2 1
+          (height_word old + 1) 0 (λ e. omega (arith, e)) ∙ get_or-set_same (page_at old 0) 1 s 0
+          (omega (arith, meta_length, laws.some_words));
+      new_height = ap (λ (w : List ℕ). get_or w 2 0) meta_is ∙ get_or-set_same (set (page_at old 0) 1 s) 2
+          (height_word old + 1) 0 (omega (arith, length-set (page_at old 0) 1 s, meta_length, laws.some_words));
       top_page = s_above;
       free = laws.free_tag _ may.free_top.zero;
       clean_top = rw at_s may.grows.clean;
@@ -172,7 +204,10 @@ module _ (L : Layout) (laws : IsLayout L) (start : Start) (kept : Kept Said) (ke
     free_other w free = let tag = laws.free_tag _ free.zero in ((λ e. omega (arith, tag, e)), (λ e. omega (arith, tag, e)))
 
     none_at : (w : List ℕ) → get_or w 0 0 ≡ L.magic → IsOther (node_of L w)
-    none_at w magic = ((λ e. laws.meta_tag w magic (omega (arith, e), omega (arith, e))), (λ e. laws.meta_tag w magic (omega (arith, e), omega (arith, e))))
+    none_at w magic = (
+      (λ e. laws.meta_tag w magic (omega (arith, e), omega (arith, e))),
+      (λ e. laws.meta_tag w magic (omega (arith, e), omega (arith, e))),
+    )
 
     old_meta : IsOther (node_at L old 0)
     old_meta = none_at (page_at old 0) keeps.tree.meta.magic
@@ -182,7 +217,8 @@ module _ (L : Layout) (laws : IsLayout L) (start : Start) (kept : Kept Said) (ke
 
     top_load : load_of L top ≡ L.node_weight
     top_load =
-        let sizes : size L (node_of L top) ≡ L.fence_size 0 + L.fence_size L.key_end + (L.pair_size 0 + (L.pair_size may.separator + 0)) = ap (size L) may.grows.node in
+        let sizes : size L (node_of L top) ≡ L.fence_size 0 + L.fence_size
+        L.key_end + (L.pair_size 0 + (L.pair_size may.separator + 0)) = ap (size L) may.grows.node in
         let small : size L (node_of L top) - L.base ≡ 0 = omega (arith, sizes, laws.new_root may.separator) in
         load_at L top top_node ∙ rw small (omega arith)
 
@@ -210,9 +246,15 @@ module _ (L : Layout) (laws : IsLayout L) (start : Start) (kept : Kept Said) (ke
     -- the pages of the sibling and of the new root may be owed, and are not any more
     fewer_owed : length kept.owed ≤ length (owed_after changes kept.owed) + 2
     fewer_owed = rw (without-none 0 kept.owed zero_not_owed) (rw (without-none p kept.owed (not_owed L laws start kept keeps p p_is))
-        (omega (arith, without-few r kept.owed keeps.owed.apart, without-few s (without r kept.owed) (AreApart-without r kept.owed keeps.owed.apart))))
+        (omega (
+          arith,
+          without-few r kept.owed keeps.owed.apart,
+          without-few s (without r kept.owed)
+              (AreApart-without r kept.owed keeps.owed.apart),
+        )))
 
-    paid : L.excess_weight * excess L new + L.node_weight * length kept.owed ≤ L.excess_weight * excess L old + L.node_weight * length (owed_after changes kept.owed)
+    paid : L.excess_weight * excess L new + L.node_weight * length kept.owed ≤ L.excess_weight * excess L
+        old + L.node_weight * length (owed_after changes kept.owed)
     paid = split_pays L old new 2 (length kept.owed) (length (owed_after changes kept.owed)) room more_nodes fewer_owed
 
     nodes : (x : ℕ) → has x (changed_pages changes) ≡ true → (x ≡ 0) ⊎ IsNode (node_at L new x)
@@ -222,7 +264,8 @@ module _ (L : Layout) (laws : IsLayout L) (start : Start) (kept : Kept Said) (ke
         | inl e ↦ inr (rw e (subst (λ w. IsNode (node_of L w)) (sym at_p) root_node))
         | inr np ↦ elim (cases_eq x r) [
           | inl e ↦ inr (rw e (subst (λ w. IsNode (node_of L w)) (sym at_r) sibling_node))
-          | inr nr ↦ let e : x ≡ s = grind (arith, nat_tests, some, nz, np, nr) in inr (rw e (subst (λ w. IsNode (node_of L w)) (sym at_s) top_node))
+          | inr nr ↦ let e : x ≡ s = grind (arith, nat_tests, some, nz, np, nr) in
+              inr (rw e (subst (λ w. IsNode (node_of L w)) (sym at_s) top_node))
         ]
       ]
     ]

@@ -1,5 +1,6 @@
 -- Pages for the samples, worked out by hand, and what they are.
-use Rattle.std.proofs.Common.{◌≡◌, ℕ, zero, suc, ◌+◌, ◌-◌, ◌^◌, ◌≤◌, List, [], ◌∷◌, ◌++◌, length, get_or, replicate, false, None, inl, inr, refl, arith}
+use Rattle.std.proofs.Common.{◌≡◌, ℕ, zero, suc, ◌+◌, ◌-◌, ◌^◌, ◌≤◌, List, [], ◌∷◌, ◌++◌, length, get_or, replicate}
+use Rattle.std.proofs.Common.{false, None, inl, inr, refl, arith}
 use Rattle.vm_tree_model.specs.Fixed.{fixed}
 use Rattle.vm_tree_model.proofs.FixedLaws.{layout_64}
 use Rattle.vm_tree_model.specs.Page.{IsLeaf, IsInner}
@@ -42,15 +43,35 @@ unused_zero (suc n) zero i = zeros 64 i
 unused_zero (suc n) (suc p) i = unused_zero n p i
 
 -- a leaf whose words pass the walk's tests at level 0 is a leaf
-pub leaf_from : (low high : ℕ) (words : List ℕ) → high ≤ 2 ^ 64 → slot_fault (fixed 64) 8 false (record { page = 1; level = 0; low = low; high = high }) words ≡ None → IsLeaf (fixed 64) words
-leaf_from low high words upto none = elim (fills (fixed 64) layout_64 8 false (record { page = 1; level = 0; low = low; high = high }) words upto none).1.kind [
+pub leaf_from : (low high : ℕ) (words : List ℕ) → high ≤ 2 ^ 64 → slot_fault (fixed 64) 8 false (record {
+  page = 1;
+  level = 0;
+  low = low;
+  high = high;
+}) words ≡ None → IsLeaf (fixed 64) words
+leaf_from low high words upto none = elim (fills (fixed 64) layout_64 8 false (record {
+  page = 1;
+  level = 0;
+  low = low;
+  high = high;
+}) words upto none).1.kind [
   | inl leaf ↦ leaf.1
   | inr inner ↦ absurd (omega (arith, inner.0))
 ]
 
 -- the same of an inner node of level 1
-pub inner_from : (low high : ℕ) (words : List ℕ) → high ≤ 2 ^ 64 → slot_fault (fixed 64) 8 false (record { page = 1; level = 1; low = low; high = high }) words ≡ None → IsInner (fixed 64) words
-inner_from low high words upto none = elim (fills (fixed 64) layout_64 8 false (record { page = 1; level = 1; low = low; high = high }) words upto none).1.kind [
+pub inner_from : (low high : ℕ) (words : List ℕ) → high ≤ 2 ^ 64 → slot_fault (fixed 64) 8 false (record {
+  page = 1;
+  level = 1;
+  low = low;
+  high = high;
+}) words ≡ None → IsInner (fixed 64) words
+inner_from low high words upto none = elim (fills (fixed 64) layout_64 8 false (record {
+  page = 1;
+  level = 1;
+  low = low;
+  high = high;
+}) words upto none).1.kind [
   | inl leaf ↦ absurd (omega (arith, leaf.0))
   | inr inner ↦ inner.1
 ]

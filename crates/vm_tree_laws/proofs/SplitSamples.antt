@@ -33,7 +33,9 @@ full_start = record { pages = full; next = 2; free = [] }
 
 -- two pages were claimed
 pub full_keeps : KeepsTree (fixed 64) full_start (claimed 2 (first_kept full_start))
-full_keeps = claims_keep (fixed 64) layout_64 full_start (first_kept full_start) 2 (start_keeps (fixed 64) layout_64 full_start ((no_reason (fixed 64) layout_64 full).0 full_fault) (omega arith)) (record { there = omega arith; zero = zero_at })
+full_keeps = claims_keep (fixed 64) layout_64 full_start (first_kept full_start) 2
+    (start_keeps (fixed 64) layout_64 full_start ((no_reason (fixed 64) layout_64 full).0 full_fault) (omega arith))
+    (record { there = omega arith; zero = zero_at })
   where
     zero_at : (p i : ℕ) → 2 ≤ p → p < 4 → get_or (page_at full p) i 0 ≡ 0
     zero_at zero i ge lt = absurd (omega (arith, ge))
@@ -64,7 +66,10 @@ root_may = record {
     left_clean = λ _. (leaf_from 0 15 (bounded_leaf 0 15 14 1) (omega arith) refl).clean;
     right_clean = λ _. (leaf_from 15 (2 ^ 64) (last_leaf 15 14 15) (omega arith) refl).clean;
   };
-  grows = record { node = refl; clean = (inner_from 0 (2 ^ 64) (page_from (3 ∷ 2 ∷ 0 ∷ 0 ∷ 1 ∷ 1 ∷ 0 ∷ 0 ∷ 0 ∷ 1 ∷ 15 ∷ 2 ∷ [])) (omega arith) refl).clean };
+  grows = record {
+    node = refl;
+    clean = (inner_from 0 (2 ^ 64) (page_from (3 ∷ 2 ∷ 0 ∷ 0 ∷ 1 ∷ 1 ∷ 0 ∷ 0 ∷ 0 ∷ 1 ∷ 15 ∷ 2 ∷ [])) (omega arith) refl).clean;
+  };
   meta_new = refl;
   free = free_page;
   free_top = free_page;
@@ -93,7 +98,8 @@ root_split_owed = refl
 
 -- an image of height 1: the root on page 3 has a full leaf of the keys 1 to 28 below 100, and an empty leaf from 100 on
 abbrev pub high : List (List ℕ)
-high = meta_page 3 1 ∷ bounded_leaf 0 100 28 1 ∷ last_leaf 100 0 0 ∷ page_from (3 ∷ 2 ∷ 0 ∷ 0 ∷ 1 ∷ 1 ∷ 0 ∷ 0 ∷ 0 ∷ 1 ∷ 100 ∷ 2 ∷ []) ∷ unused 4
+high = meta_page 3 1 ∷ bounded_leaf 0 100 28 1 ∷ last_leaf 100 0 0 ∷ page_from
+    (3 ∷ 2 ∷ 0 ∷ 0 ∷ 1 ∷ 1 ∷ 0 ∷ 0 ∷ 0 ∷ 1 ∷ 100 ∷ 2 ∷ []) ∷ unused 4
 
 high_fault : reason (fixed 64) high ≡ None
 unfolding walk
@@ -104,7 +110,9 @@ high_start = record { pages = high; next = 4; free = [] }
 
 -- one page was claimed
 pub high_keeps : KeepsTree (fixed 64) high_start (claimed 1 (first_kept high_start))
-high_keeps = claims_keep (fixed 64) layout_64 high_start (first_kept high_start) 1 (start_keeps (fixed 64) layout_64 high_start ((no_reason (fixed 64) layout_64 high).0 high_fault) (omega arith)) (record { there = omega arith; zero = zero_at })
+high_keeps = claims_keep (fixed 64) layout_64 high_start (first_kept high_start) 1
+    (start_keeps (fixed 64) layout_64 high_start ((no_reason (fixed 64) layout_64 high).0 high_fault) (omega arith))
+    (record { there = omega arith; zero = zero_at })
   where
     zero_at : (p i : ℕ) → 4 ≤ p → p < 5 → get_or (page_at high p) i 0 ≡ 0
     zero_at zero i ge lt = absurd (omega (arith, ge))
@@ -138,7 +146,8 @@ leaf_may = record {
   adds = record {
     not_full = λ is_full. omega (arith, is_full.count);
     node = refl;
-    clean = λ _. (inner_from 0 (2 ^ 64) (page_from (3 ∷ 3 ∷ 0 ∷ 0 ∷ 1 ∷ 1 ∷ 0 ∷ 0 ∷ 0 ∷ 1 ∷ 15 ∷ 4 ∷ 100 ∷ 2 ∷ [])) (omega arith) refl).clean;
+    clean = λ _. (inner_from 0 (2 ^ 64) (page_from (3 ∷ 3 ∷ 0 ∷ 0 ∷ 1 ∷ 1 ∷ 0 ∷ 0 ∷ 0 ∷ 1 ∷ 15 ∷ 4 ∷ 100 ∷ 2 ∷ []))
+        (omega arith) refl).clean;
   };
   free = free_page;
 }
@@ -168,5 +177,6 @@ abbrev pub way_steps : List (ℕ × List ℕ)
 way_steps = (1, page_at high 1) ∷ []
 
 pub way_sample : (length way_steps ≡ 1) × IsLeaf (fixed 64) (page_at high 1) × Covers (node_of (fixed 64) (page_at high 1)) 7
-way_sample = way_ends (fixed 64) 8 7 way_steps 3 (page_at high 3) 1 (reached_root (fixed 64) 8 3 7 (page_at high 0) (page_at high 3) (high_tied 0 3 (omega arith)) refl (omega arith))
+way_sample = way_ends (fixed 64) 8 7 way_steps 3 (page_at high 3) 1
+    (reached_root (fixed 64) 8 3 7 (page_at high 0) (page_at high 3) (high_tied 0 3 (omega arith)) refl (omega arith))
     (refl, refl, high_tied 3 1 (omega arith), refl)

@@ -26,9 +26,15 @@ module _ (L : Layout) (laws : IsLayout L) (pages : List (List ℕ)) (tree : IsTr
     children = λ ge k c tag found. in_range L laws pages tree c (tree.tree.child_is r k c (tag, found));
   }
 
-  root_at : (r p : ℕ) → r ≡ 0 → slice_index (page_at pages r) 1 ≡ p → IsNodeAs L (page_at pages p) (slice_index (page_at pages r) 2) 0 L.key_end
+  root_at : (r p : ℕ) → r ≡ 0 → slice_index (page_at pages r) 1 ≡ p
+      → IsNodeAs L (page_at pages p) (slice_index (page_at pages r) 2) 0 L.key_end
   root_at zero p is_zero root_is = subst (λ x. IsNodeAs L (page_at pages x) (slice_index (page_at pages 0) 2) 0 L.key_end) root_is
-      (record { kind = kind_of _ tree.tree.root_is; level_is = tree.tree.root_level; low_is = tree.tree.root_low; high_is = tree.tree.root_high })
+      (record {
+        kind = kind_of _ tree.tree.root_is;
+        level_is = tree.tree.root_level;
+        low_is = tree.tree.root_low;
+        high_is = tree.tree.root_high;
+      })
   root_at (suc r) p is_zero root_is = absurd (omega arith)
 
   tied_at : (r p : ℕ) → r < length pages → IsTied L (length pages) r (page_at pages r) p (page_at pages p)
@@ -43,5 +49,7 @@ module _ (L : Layout) (laws : IsLayout L) (pages : List (List ℕ)) (tree : IsTr
     };
   }
 
-pub ties_hold : (L : Layout) (laws : IsLayout L) (start : Start) (kept : Kept Said) (r p : ℕ) → KeepsTree L start kept → r < length kept.pages → Tied L start r (page_at kept.pages r) p (page_at kept.pages p)
-ties_hold L laws start kept r p keeps lt = subst (λ n. IsTied L n r (page_at kept.pages r) p (page_at kept.pages p)) keeps.same_count (tied_at L laws kept.pages keeps.tree r p lt)
+pub ties_hold : (L : Layout) (laws : IsLayout L) (start : Start) (kept : Kept Said) (r p : ℕ) → KeepsTree L start kept
+    → r < length kept.pages → Tied L start r (page_at kept.pages r) p (page_at kept.pages p)
+ties_hold L laws start kept r p keeps lt = subst (λ n. IsTied L n r (page_at kept.pages r) p (page_at kept.pages p))
+    keeps.same_count (tied_at L laws kept.pages keeps.tree r p lt)

@@ -23,7 +23,8 @@ pub record IsReachedAs (L : Layout) (pages p : ℕ) (words : List ℕ) (level lo
 -- the pages below page r on the way of a key to its leaf, each validated at the version that was seen before its parent was validated
 abbrev pub IsWay : Layout → ℕ → ℕ → List (ℕ × List ℕ) → ℕ → List ℕ → Type 0
 IsWay L pages key [] r words = (node_of L words).tag ≡ 2
-IsWay L pages key (step ∷ steps) r words = ((node_of L words).tag ≡ 3) × (child_of L words key ≡ Some step.0) × IsTied L pages r words step.0 step.1 × IsWay L pages key steps step.0 step.1
+IsWay L pages key (step ∷ steps) r words = ((node_of L words).tag ≡ 3) × (child_of L words key ≡ Some step.0)
+    × IsTied L pages r words step.0 step.1 × IsWay L pages key steps step.0 step.1
 
 -- the words of the last page
 abbrev pub last_words : List (ℕ × List ℕ) → List ℕ → List ℕ

@@ -25,9 +25,12 @@ entry n c call reply = record { number = n; count = c; said = record { call = ca
 
 -- the reply is right for the leaf's old words, and its new words are those after the call
 abbrev pub IsEdit : Layout → List ℕ → List ℕ → Call → Reply → Type 0
-IsEdit L old new (Put k v) (Was was) = Covers (node_of L old) k × (was ≡ lookup_at (pairs_of L old) k) × IsLeafWith L old new (put_pair (pairs_of L old) k v)
-IsEdit L old new (Del k) (Gone was) = Covers (node_of L old) k × (was ≡ lookup_at (pairs_of L old) k) × IsLeafWith L old new (del_pair (pairs_of L old) k)
-IsEdit L old new (Swap k want v) (Swapped swaps.Done) = Covers (node_of L old) k × (lookup_at (pairs_of L old) k ≡ Some want) × IsLeafWith L old new (put_pair (pairs_of L old) k v)
+IsEdit L old new (Put k v) (Was was) = Covers (node_of L old) k × (was ≡ lookup_at (pairs_of L old) k)
+    × IsLeafWith L old new (put_pair (pairs_of L old) k v)
+IsEdit L old new (Del k) (Gone was) = Covers (node_of L old) k × (was ≡ lookup_at (pairs_of L old) k)
+    × IsLeafWith L old new (del_pair (pairs_of L old) k)
+IsEdit L old new (Swap k want v) (Swapped swaps.Done) = Covers (node_of L old) k
+    × (lookup_at (pairs_of L old) k ≡ Some want) × IsLeafWith L old new (put_pair (pairs_of L old) k v)
 IsEdit L _ _ _ _ = ⊥
 
 -- a full node below the root is split: its parent has room and names it, and its right sibling's page is free
@@ -57,7 +60,8 @@ pub record MaySplitRoot (L : Layout) (meta root sibling top : Change) : Type 0 w
   pub free : IsFree L sibling.old
   pub free_top : IsFree L top.old
 
--- A key is removed from leaf left or right, and both become one: left takes over what right has, the parent names right no more, and right's page is free.
+-- A key is removed from leaf left or right, and both become one: left takes over what right has, the parent names
+-- right no more, and right's page is free.
 -- `left_mid` and `right_mid` are the two leaves without the key
 pub record MayMerge (L : Layout) (parent left right : Change) (said : Said) : Type 0 where
   pub key : ℕ
@@ -104,7 +108,8 @@ pub record MayCollapse (L : Layout) (meta root left right : Change) (said : Said
   pub zeroed : IsFree L right.new
   pub gone : IsFree L root.new
 
--- which pages may be released together, in this order, and with which entries; nothing is asked of `due`, the pages that are owed to the pass
+-- which pages may be released together, in this order, and with which entries; nothing is asked of `due`, the pages
+-- that are owed to the pass
 abbrev pub MayRelease : Layout → Start → List ℕ → List Change → List (Entry Said) → Type 0
 MayRelease L start due (leaf ∷ []) (e ∷ []) = ((node_of L leaf.old).tag ≡ 2) × IsEdit L leaf.old leaf.new e.said.call e.said.reply
 MayRelease L start due (parent ∷ node ∷ sibling ∷ []) [] = MaySplit L parent node sibling
@@ -117,15 +122,18 @@ MayRelease L _ _ _ _ = ⊥
 abbrev pub IsProved : Layout → List ℕ → Call → Reply → Type 0
 IsProved L leaf (Get k) (Got found) = Covers (node_of L leaf) k × (found ≡ lookup_at (pairs_of L leaf) k)
 IsProved L leaf (Del k) (Gone was) = Covers (node_of L leaf) k × (was ≡ None) × (lookup_at (pairs_of L leaf) k ≡ None)
-IsProved L leaf (Window start most) (Win window) = Covers (node_of L leaf) start × (1 ≤ most) × IsWindow (pairs_of L leaf) (node_of L leaf).high start (min most MOST_PAIRS) window
-IsProved L leaf (Swap k want v) (Swapped (swaps.Kept there)) = Covers (node_of L leaf) k × (lookup_at (pairs_of L leaf) k ≡ Some there) × (there ≢ want)
+IsProved L leaf (Window start most) (Win window) = Covers (node_of L leaf) start × (1 ≤ most)
+    × IsWindow (pairs_of L leaf) (node_of L leaf).high start (min most MOST_PAIRS) window
+IsProved L leaf (Swap k want v) (Swapped (swaps.Kept there)) =
+    Covers (node_of L leaf) k × (lookup_at (pairs_of L leaf) k ≡ Some there) × (there ≢ want)
 IsProved L leaf (Swap k want v) (Swapped swaps.Missing) = Covers (node_of L leaf) k × (lookup_at (pairs_of L leaf) k ≡ None)
 IsProved L _ _ _ = ⊥
 
 -- the words of a page, read whole at one moment, prove the entry, as a leaf's do whose keys rise
 abbrev pub MayRead : Layout → Start → ℕ → List ℕ → List (Entry Said) → Type 0
 MayRead L start page words [] = Unit {0}
-MayRead L start page words (e ∷ es) = ((node_of L words).tag ≡ 2) × ((low high : ℕ) → Rises low high (pairs_of L words) → IsProved L words e.said.call e.said.reply)
+MayRead L start page words (e ∷ es) = ((node_of L words).tag ≡ 2)
+    × ((low high : ℕ) → Rises low high (pairs_of L words) → IsProved L words e.said.call e.said.reply)
 
 -- ---- several leaves
 
@@ -133,7 +141,8 @@ MayRead L start page words (e ∷ es) = ((node_of L words).tag ≡ 2) × ((low h
 abbrev pub MOST_LEAVES : ℕ
 MOST_LEAVES = 16
 
--- pages that are leaves, one after another: the first covers the key `from`, each further one the high fence of the one before, and the last one's
+-- pages that are leaves, one after another: the first covers the key `from`, each further one the high fence of the
+-- one before, and the last one's
 -- high fence is `upto`
 abbrev pub AreLeavesFrom : Layout → List (ℕ × List ℕ) → ℕ → ℕ → Type 0
 AreLeavesFrom L [] from upto = upto ≡ from
@@ -144,11 +153,14 @@ abbrev pub pairs_held : Layout → List (ℕ × List ℕ) → ℕ → ℕ → Pa
 pairs_held L [] from upto = []
 pairs_held L (q ∷ qs) from upto = between (pairs_of L q.1) from (min (node_of L q.1).high upto) ++ pairs_held L qs (node_of L q.1).high upto
 
--- leaves that are held together prove the reply to a range: they cover it, and the reply has their pairs of it; or they are as many as can be held,
+-- leaves that are held together prove the reply to a range: they cover it, and the reply has their pairs of it; or
+-- they are as many as can be held,
 -- and what they cover ends at a key below its bound
 abbrev pub IsProvedByAll : Layout → List (ℕ × List ℕ) → Call → Reply → Type 0
-IsProvedByAll L leaves (Range low bound) (Many span) = (reach : ℕ) × AreLeavesFrom L leaves low reach × (bound_of bound ≤ reach) × (span.0 ≡ pairs_held L leaves low (bound_of bound))
-IsProvedByAll L leaves (Range low bound) (Wide reach) = AreLeavesFrom L leaves low reach × (length leaves ≡ MOST_LEAVES) × (reach < bound_of bound) × (reach < KEY_END)
+IsProvedByAll L leaves (Range low bound) (Many span) = (reach : ℕ) × AreLeavesFrom L leaves low reach
+    × (bound_of bound ≤ reach) × (span.0 ≡ pairs_held L leaves low (bound_of bound))
+IsProvedByAll L leaves (Range low bound) (Wide reach) =
+    AreLeavesFrom L leaves low reach × (length leaves ≡ MOST_LEAVES) × (reach < bound_of bound) × (reach < KEY_END)
 IsProvedByAll L _ _ _ = ⊥
 
 -- pages held together, with their words, prove the entry

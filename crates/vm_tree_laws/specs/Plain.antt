@@ -16,7 +16,15 @@ module _ {S : Type 0} (plain : S → Said) where
   plain_history h = map plain_entry h
 
   abbrev pub plain_kept : Kept S → Kept Said
-  plain_kept kept = record { pages = kept.pages; next = kept.next; owed = kept.owed; free = kept.free; held = kept.held; freed = kept.freed; history = plain_history kept.history }
+  plain_kept kept = record {
+    pages = kept.pages;
+    next = kept.next;
+    owed = kept.owed;
+    free = kept.free;
+    held = kept.held;
+    freed = kept.freed;
+    history = plain_history kept.history;
+  }
 
   -- what the tree keeps, what may be released, what may be read and what pages held together prove, as the history reads so
   abbrev pub KeepsPlain : Layout → Start → Kept S → Type 0

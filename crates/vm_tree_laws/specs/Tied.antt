@@ -24,7 +24,8 @@ pub record IsSound (L : Layout) (pages r : ℕ) (words : List ℕ) : Type 0 wher
 pub record IsTied (L : Layout) (pages r : ℕ) (words : List ℕ) (p : ℕ) (named : List ℕ) : Type 0 where
   pub sound : IsSound L pages r words
   pub root : r ≡ 0 → slice_index words 1 ≡ p → IsNodeAs L named (slice_index words 2) 0 L.key_end
-  pub child : 1 ≤ r → (node_of L words).tag ≡ 3 → (k level : ℕ) → lookup_at (node_of L words).pairs k ≡ Some p → level + 1 ≡ (node_of L words).level
+  pub child : 1 ≤ r → (node_of L words).tag ≡ 3 → (k level : ℕ) → lookup_at (node_of L words).pairs k ≡ Some p
+      → level + 1 ≡ (node_of L words).level
       → IsNodeAs L named level k (next_key (node_of L words).pairs (node_of L words).high k)
 
 -- what an owner's tie says of the tree, of as many pages as at the start

@@ -1,6 +1,6 @@
 //! What the calls on nodes say of their pages is what a release and a read ask. The premises are those calls' clauses, and what was
 //! seen in the words themselves: a leaf's tag, and that its fences cover the key. So a read can show them before it is validated.
-ghost use Rattle.std.specs.Prelude.{◌≡◌, ◌≢◌, ℕ, ◌+◌, ◌<◌, ◌≤◌, List, [], ◌∷◌, length, min, slice_index, slice_set, Option, Some, None};
+ghost use Rattle.std.specs.Prelude.{◌≡◌, ◌≢◌, ℕ, ◌+◌, ◌≤◌, List, [], ◌∷◌, min, slice_index, slice_set, Option, Some, None};
 ghost use Rattle.vm_map.specs.Map.{Rises, lookup_at, del_pair};
 ghost use Rattle.vm_map.specs.declared.call.Call.TheVariants.{Get, Put, Del, Swap, Window as ForWindow};
 ghost use Rattle.vm_map.specs.declared.call.Reply.TheVariants.{Got, Was, Gone, Swapped, Win};

@@ -13,7 +13,8 @@ use Rattle.vm_tree_laws.specs.May.{IsEdit}
 use Rattle.vm_tree_rule.specs.{Above.IsAbove, declared.above.Above.Above, Leaves.ReadsOn, Seeks.IsMetaRead, Standing.IsOpened}
 use Rattle.vm_tree_rule.specs.Resident.{IsKnownNow}
 use Rattle.vm_tree_rule.proofs.Seeking.{meta-beside}
-use Rattle.vm_tree_rule.proofs.{Downward.awaits-later, Entering.opened-reads, Readings.leaves-self, Seeking.opened-beside, Seeking.StaysBeside}
+use Rattle.vm_tree_rule.proofs.{Downward.awaits-later, Entering.opened-reads, Readings.leaves-self}
+use Rattle.vm_tree_rule.proofs.{Seeking.opened-beside, Seeking.StaysBeside}
 use Rattle.vm_tree_split.specs.Prepares.{IsLockDenied, guard_pages}
 use Rattle.vm_tree_split.proofs.{Backing.AreOpened, Backing.denied-shown, Framing.keeps-then, Refusing.denied-keeps, Trying.reads-keep}
 use Rattle.vm_tree_join.specs.Made.{IsMergeMade}
@@ -27,7 +28,9 @@ pub stays-beside : {X : Type 0} (q : ℕ) (v w : View X) → LeavesBeside q v w 
 stays-beside q v w k = record { reads = k.0; same = k.1; leaves = k.2 }
 
 -- what was read of the leaf stays read
-pub leaf-later : {X : Type 0} (L : Layout) (v : View X) (key : ℕ) (leaf : OptGuard) (page rest : List ℕ) (said : Said) (x y : View X) → LeavesBeside leaf.pid x y → IsLeafRead L v key leaf page rest said x → IsLeafRead L v key leaf page rest said y
+pub leaf-later : {X : Type 0} (L : Layout) (v : View X) (key : ℕ) (leaf : OptGuard) (page rest : List ℕ) (said : Said)
+    (x y : View X) → LeavesBeside leaf.pid x y → IsLeafRead L v key leaf page rest said x
+    → IsLeafRead L v key leaf page rest said y
 leaf-later L v key leaf page rest said x y k r = record {
   opened = opened-beside leaf.pid leaf.word leaf.frame v x y (stays-beside leaf.pid x y k) r.opened;
   awaits = awaits-later leaf.pid leaf.word 0 key x y k.0.0 r.awaits;
@@ -37,7 +40,9 @@ leaf-later L v key leaf page rest said x y k r = record {
 }
 
 -- the leaf without the key
-pub leaf-without : {X : Type 0} (L : Layout) (v : View X) (key : ℕ) (leaf : OptGuard) (page rest : List ℕ) (said : Said) (x : View X) → (IsLeaf L page → IsLeafWith L page rest (del_pair (pairs_of L page) key)) → IsDelRead L v key leaf page said x → IsLeafRead L v key leaf page rest said x
+pub leaf-without : {X : Type 0} (L : Layout) (v : View X) (key : ℕ) (leaf : OptGuard) (page rest : List ℕ)
+    (said : Said) (x : View X) → (IsLeaf L page → IsLeafWith L page rest (del_pair (pairs_of L page) key))
+    → IsDelRead L v key leaf page said x → IsLeafRead L v key leaf page rest said x
 leaf-without L v key leaf page rest said x dels r = record {
   opened = r.opened;
   awaits = r.awaits;
@@ -46,12 +51,17 @@ leaf-without L v key leaf page rest said x dels r = record {
   edit = λ is. subst (λ (s : Said). IsEdit L page rest s.call s.reply) (sym r.said_is) (r.covers, r.there _ _ is.node.rises, dels is);
 }
 
-module _ {S : Type 0} (plain : S → Said) (L : Layout) (v : View S) (key : ℕ) (above : Above) (up leaf other : OptGuard) (over page rest opage : List ℕ) (behind : Bool) (low left separator right : ℕ) (says : S) (x w : View S)
-    (r : IsLeafRead L v key leaf page rest (plain says) x) (m : IsToMerge L v key up leaf.pid over rest other opage behind low left separator right x) (one two : OptGuard) (order : AreInOrder behind leaf other one two) where
+module _ {S : Type 0} (plain : S → Said) (L : Layout) (v : View S) (key : ℕ) (above : Above)
+    (up leaf other : OptGuard) (over page rest opage : List ℕ) (behind : Bool) (low left separator right : ℕ)
+    (says : S) (x w : View S)
+    (r : IsLeafRead L v key leaf page rest (plain says) x)
+    (m : IsToMerge L v key up leaf.pid over rest other opage behind low left separator right x)
+    (one two : OptGuard) (order : AreInOrder behind leaf other one two) where
   earlier : ReadsOn v x
   earlier = opened-reads leaf.pid leaf.word leaf.frame v x r.opened
 
-  pub merge-done : IsAbove L v key above leaf.pid x → (guards : List OptGuard) (freed : List ℕ) → MergesPages L above up over one two guards freed → IsMergeMade plain L guards freed says x w
+  pub merge-done : IsAbove L v key above leaf.pid x → (guards : List OptGuard) (freed : List ℕ)
+      → MergesPages L above up over one two guards freed → IsMergeMade plain L guards freed says x w
       → (d : IsMergeDone plain L key (plain says) v w) × (d.above ≡ above) × (d.leaf ≡ leaf) × (d.page ≡ page)
   merge-done stands guards freed shape made = (
     record {
@@ -93,8 +103,14 @@ module _ {S : Type 0} (plain : S → Said) (L : Layout) (v : View S) (key : ℕ)
   both-opened : IsOpened v one.pid one.word one.frame x × IsOpened v two.pid two.word two.frame x
   both-opened =
       ⊎_elim
-      (λ (o : (behind ≡ true) × (one ≡ leaf) × (two ≡ other)). (subst (λ (g : OptGuard). IsOpened v g.pid g.word g.frame x) (sym o.1) r.opened, subst (λ (g : OptGuard). IsOpened v g.pid g.word g.frame x) (sym o.2) m.neighbour.opened))
-      (λ (o : (behind ≡ false) × (one ≡ other) × (two ≡ leaf)). (subst (λ (g : OptGuard). IsOpened v g.pid g.word g.frame x) (sym o.1) m.neighbour.opened, subst (λ (g : OptGuard). IsOpened v g.pid g.word g.frame x) (sym o.2) r.opened))
+      (λ (o : (behind ≡ true) × (one ≡ leaf) × (two ≡ other)). (
+        subst (λ (g : OptGuard). IsOpened v g.pid g.word g.frame x) (sym o.1) r.opened,
+        subst (λ (g : OptGuard). IsOpened v g.pid g.word g.frame x) (sym o.2) m.neighbour.opened,
+      ))
+      (λ (o : (behind ≡ false) × (one ≡ other) × (two ≡ leaf)). (
+        subst (λ (g : OptGuard). IsOpened v g.pid g.word g.frame x) (sym o.1) m.neighbour.opened,
+        subst (λ (g : OptGuard). IsOpened v g.pid g.word g.frame x) (sym o.2) r.opened,
+      ))
       order
 
   all-apart : AreApart (up.pid ∷ one.pid ∷ two.pid ∷ [])
@@ -103,20 +119,31 @@ module _ {S : Type 0} (plain : S → Said) (L : Layout) (v : View S) (key : ℕ)
       let uo : up.pid ≢ other.pid = λ e. m.neighbour.apart.0 (sym e) in
       ⊎_elim
       (λ (o : (behind ≡ true) × (one ≡ leaf) × (two ≡ other)).
-      subst (λ (g : OptGuard). AreApart (up.pid ∷ g.pid ∷ two.pid ∷ [])) (sym o.1) (subst (λ (g : OptGuard). AreApart (up.pid ∷ leaf.pid ∷ g.pid ∷ [])) (sym o.2) (three-apart up.pid leaf.pid other.pid ul uo (λ e. m.neighbour.choice.apart (sym e)))))
+      subst (λ (g : OptGuard). AreApart (up.pid ∷ g.pid ∷ two.pid ∷ [])) (sym o.1)
+      (subst (λ (g : OptGuard). AreApart (up.pid ∷ leaf.pid ∷ g.pid ∷ [])) (sym o.2)
+      (three-apart up.pid leaf.pid other.pid ul uo (λ e. m.neighbour.choice.apart (sym e)))))
       (λ (o : (behind ≡ false) × (one ≡ other) × (two ≡ leaf)).
-      subst (λ (g : OptGuard). AreApart (up.pid ∷ g.pid ∷ two.pid ∷ [])) (sym o.1) (subst (λ (g : OptGuard). AreApart (up.pid ∷ other.pid ∷ g.pid ∷ [])) (sym o.2) (three-apart up.pid other.pid leaf.pid uo ul m.neighbour.choice.apart)))
+      subst (λ (g : OptGuard). AreApart (up.pid ∷ g.pid ∷ two.pid ∷ [])) (sym o.1)
+      (subst (λ (g : OptGuard). AreApart (up.pid ∷ other.pid ∷ g.pid ∷ [])) (sym o.2)
+      (three-apart up.pid other.pid leaf.pid uo ul m.neighbour.choice.apart)))
       order
 
   -- neither of the two is page 0
   both-not-zero : (one.pid ≢ 0) × (two.pid ≢ 0)
   both-not-zero =
       ⊎_elim
-      (λ (o : (behind ≡ true) × (one ≡ leaf) × (two ≡ other)). ((λ e. m.neighbour.stands.not_zero.0 (ap (λ (g : OptGuard). g.pid) (sym o.1) ∙ e)), (λ e. m.neighbour.apart.1 (ap (λ (g : OptGuard). g.pid) (sym o.2) ∙ e))))
-      (λ (o : (behind ≡ false) × (one ≡ other) × (two ≡ leaf)). ((λ e. m.neighbour.apart.1 (ap (λ (g : OptGuard). g.pid) (sym o.1) ∙ e)), (λ e. m.neighbour.stands.not_zero.0 (ap (λ (g : OptGuard). g.pid) (sym o.2) ∙ e))))
+      (λ (o : (behind ≡ true) × (one ≡ leaf) × (two ≡ other)). (
+        (λ e. m.neighbour.stands.not_zero.0 (ap (λ (g : OptGuard). g.pid) (sym o.1) ∙ e)),
+        (λ e. m.neighbour.apart.1 (ap (λ (g : OptGuard). g.pid) (sym o.2) ∙ e)),
+      ))
+      (λ (o : (behind ≡ false) × (one ≡ other) × (two ≡ leaf)). (
+        (λ e. m.neighbour.apart.1 (ap (λ (g : OptGuard). g.pid) (sym o.1) ∙ e)),
+        (λ e. m.neighbour.stands.not_zero.0 (ap (λ (g : OptGuard). g.pid) (sym o.2) ∙ e)),
+      ))
       order
 
-  lost-of : (saw : Saw) (guards : List OptGuard) → AreOpened L guards v x → AreApart (guard_pages guards) → IsLockDenied L guards (denies.Again saw) x w → IsLockLost L v saw w
+  lost-of : (saw : Saw) (guards : List OptGuard) → AreOpened L guards v x → AreApart (guard_pages guards)
+      → IsLockDenied L guards (denies.Again saw) x w → IsLockLost L v saw w
   lost-of saw guards opened apart k = record {
     guards = guards;
     found = x;
@@ -129,19 +156,29 @@ module _ {S : Type 0} (plain : S → Said) (L : Layout) (v : View S) (key : ℕ)
   pub lost-three : (saw : Saw) → IsLockDenied L (up ∷ one ∷ two ∷ []) (denies.Again saw) x w → IsLockLost L v saw w
   lost-three saw k = lost-of saw (up ∷ one ∷ two ∷ []) (m.neighbour.stands.opened, (both-opened.0, (both-opened.1, tt))) all-apart k
 
-  pub lost-four : (meta : OptGuard) → IsMetaRead meta.pid meta.word meta.frame up.pid 1 v x → (saw : Saw) → IsLockDenied L (meta ∷ up ∷ one ∷ two ∷ []) (denies.Again saw) x w → IsLockLost L v saw w
+  pub lost-four : (meta : OptGuard) → IsMetaRead meta.pid meta.word meta.frame up.pid 1 v x → (saw : Saw)
+      → IsLockDenied L (meta ∷ up ∷ one ∷ two ∷ []) (denies.Again saw) x w → IsLockLost L v saw w
   lost-four meta k saw denied =
       lost-of saw (meta ∷ up ∷ one ∷ two ∷ []) (k.opened, (m.neighbour.stands.opened, (both-opened.0, (both-opened.1, tt))))
-      (four-are-apart meta.pid up.pid one.pid two.pid (λ e. m.neighbour.stands.not_zero.1 (sym e ∙ k.zero)) (λ e. both-not-zero.0 (sym e ∙ k.zero)) (λ e. both-not-zero.1 (sym e ∙ k.zero)) all-apart) denied
+      (four-are-apart meta.pid up.pid one.pid two.pid (λ e. m.neighbour.stands.not_zero.1 (sym e ∙ k.zero))
+      (λ e. both-not-zero.0 (sym e ∙ k.zero)) (λ e. both-not-zero.1 (sym e ∙ k.zero)) all-apart) denied
 
 module _ {X : Type 0} where
   -- page 0 stays as it was read
-  pub meta-there : (v : View X) (meta root : OptGuard) (x y : View X) → LeavesBeside 0 x y → IsMetaRead meta.pid meta.word meta.frame root.pid 1 v x → IsMetaRead meta.pid meta.word meta.frame root.pid 1 v y
-  meta-there v meta root x y k m = meta-beside meta.pid meta.word meta.frame root.pid 1 v x y (stays-beside meta.pid x y (subst (λ q. LeavesBeside q x y) (sym m.zero) k)) m
+  pub meta-there : (v : View X) (meta root : OptGuard) (x y : View X) → LeavesBeside 0 x y
+      → IsMetaRead meta.pid meta.word meta.frame root.pid 1 v x → IsMetaRead meta.pid meta.word meta.frame root.pid 1
+      v y
+  meta-there v meta root x y k m = meta-beside meta.pid meta.word meta.frame root.pid 1 v x y
+      (stays-beside meta.pid x y (subst (λ q. LeavesBeside q x y) (sym m.zero) k)) m
 
-  pub meta-known : (meta : OptGuard) (x y : View X) → meta.pid ≡ 0 → ((n : ℕ) → IsKnownNow 0 n x → IsKnownNow 0 n y) → IsKnownNow meta.pid meta.word x → IsKnownNow meta.pid meta.word y
-  meta-known meta x y first on k = subst (λ q. IsKnownNow q meta.word y) (sym first) (on meta.word (subst (λ q. IsKnownNow q meta.word x) first k))
+  pub meta-known : (meta : OptGuard) (x y : View X) → meta.pid ≡ 0 → ((n : ℕ) → IsKnownNow 0 n x → IsKnownNow 0 n y)
+      → IsKnownNow meta.pid meta.word x → IsKnownNow meta.pid meta.word y
+  meta-known meta x y first on k =
+      subst (λ q. IsKnownNow q meta.word y) (sym first) (on meta.word (subst (λ q. IsKnownNow q meta.word x) first k))
 
 -- the key was taken out of a copy of the leaf
-pub dels-of : (L : Layout) (page copy rest : List ℕ) (key : ℕ) → copy ≡ page → (IsLeaf L copy → IsLeafWith L copy rest (del_pair (pairs_of L copy) key)) → IsLeaf L page → IsLeafWith L page rest (del_pair (pairs_of L page) key)
-dels-of L page copy rest key same dels is = subst (λ (l : List ℕ). IsLeafWith L l rest (del_pair (pairs_of L l) key)) same (dels (subst (IsLeaf L) (sym same) is))
+pub dels-of : (L : Layout) (page copy rest : List ℕ) (key : ℕ) → copy ≡ page
+    → (IsLeaf L copy → IsLeafWith L copy rest (del_pair (pairs_of L copy) key)) → IsLeaf L page
+    → IsLeafWith L page rest (del_pair (pairs_of L page) key)
+dels-of L page copy rest key same dels is = subst (λ (l : List ℕ). IsLeafWith L l rest (del_pair (pairs_of L l) key))
+    same (dels (subst (IsLeaf L) (sym same) is))

@@ -11,21 +11,26 @@ use Rattle.vm_step.specs.declared.saw.At.TheVariants as ats
 use Rattle.vm_step.specs.declared.saw.Saw.{Saw}
 use Rattle.vm_guard.specs.{declared.opt.OptGuard.OptGuard, Guards.IsValid}
 use Rattle.vm_tree_laws.specs.Tied.{Tied}
-use Rattle.vm_tree_rule.specs.{Above.IsParentOf, declared.turn.Turn.Turn, Leaves.LeavesWord, Leaves.ReadsOn, Seeks.HasRead, Seeks.IsMetaRead, Seeks.IsNamedRoot}
+use Rattle.vm_tree_rule.specs.{Above.IsParentOf, declared.turn.Turn.Turn, Leaves.LeavesWord, Leaves.ReadsOn}
+use Rattle.vm_tree_rule.specs.{Seeks.HasRead, Seeks.IsMetaRead, Seeks.IsNamedRoot}
 use Rattle.vm_tree_rule.specs.declared.turn.Turn.TheVariants as turns
 use Rattle.vm_tree_rule.specs.{Shown.IsAgain, Standing.AwaitsNode, Standing.IsOpened, Turns.IsNoChild}
 
--- these words, where their keys rise, name the left page at `low` and the right one at the next key, and one of them for the key: the right one only where it is the last
+-- these words, where their keys rise, name the left page at `low` and the right one at the next key, and one of them
+-- for the key: the right one only where it is the last
 abbrev pub TellBeside : Layout → List ℕ → ℕ → ℕ → ℕ → ℕ → ℕ → Type 0
-TellBeside L over key low left separator right = (from to : ℕ) → Rises from to (pairs_of L over) → AreBeside L over key low left separator right
+TellBeside L over key low left separator right =
+    (from to : ℕ) → Rises from to (pairs_of L over) → AreBeside L over key low left separator right
 
 -- they name no page for the key beside the leaf's own: they have one pair, or none for the key, or name the leaf twice
 abbrev pub HasNoOther : Layout → List ℕ → ℕ → ℕ → Type 0
-HasNoOther L over key leaf = (from to : ℕ) → Rises from to (pairs_of L over) → HasNoPair L over key ⊎ ((low separator : ℕ) × AreBeside L over key low leaf separator leaf)
+HasNoOther L over key leaf = (from to : ℕ) → Rises from to (pairs_of L over) → HasNoPair L over key
+    ⊎ ((low separator : ℕ) × AreBeside L over key low leaf separator leaf)
 
 -- the neighbour is behind the leaf, or before it
 abbrev pub AreInOrder : {A : Type 0} → Bool → A → A → A → A → Type 0
-AreInOrder behind leaf other left right = ((behind ≡ true) × (left ≡ leaf) × (right ≡ other)) ⊎ ((behind ≡ false) × (left ≡ other) × (right ≡ leaf))
+AreInOrder behind leaf other left right =
+    ((behind ≡ true) × (left ≡ leaf) × (right ≡ other)) ⊎ ((behind ≡ false) × (left ≡ other) × (right ≡ leaf))
 
 -- of the two pages one is the leaf, as far as it is known, and the other one is the neighbour
 pub record IsChoice (L : Layout) (over : List ℕ) (key leaf named : ℕ) (behind : Bool) (low left separator right : ℕ) : Type 0 where
@@ -54,7 +59,8 @@ module _ {X : Type 0} (L : Layout) where
     pub valid : IsValid (Tied L) p word frame None checked after
     pub since : ReadsOn after w
 
-  -- the call found page p evicted, and had not left that word; the leaf's parent, which was validated afterwards, was read whole, and names it beside the leaf
+  -- the call found page p evicted, and had not left that word; the leaf's parent, which was validated afterwards, was
+  -- read whole, and names it beside the leaf
   pub record IsNeededBeside (v : View X) (key p : ℕ) (w : View X) : Type 0 where
     pub done : List Did
     pub log : w.log ≡ v.log ++ done
@@ -74,7 +80,8 @@ module _ {X : Type 0} (L : Layout) where
     pub read : HasRead before up.pid over
     pub valid : IsValid (Tied L) up.pid up.word up.frame None before w
 
-  -- Blocks do not tell their words, and the leaf's parent, which was read whole and validated, names a page beside the leaf that it can't name. Its word stands for both
+  -- Blocks do not tell their words, and the leaf's parent, which was read whole and validated, names a page beside
+  -- the leaf that it can't name. Its word stands for both
   pub record IsAstrayBeside (v : View X) (key : ℕ) (saw : Saw) (w : View X) : Type 0 where
     pub untold : v.start.tells ≡ false
     pub up : OptGuard
@@ -100,9 +107,11 @@ module _ {X : Type 0} (L : Layout) where
   IsTurnedBeside v key (turns.Need p) w = ReadsOn v w × IsNeededBeside v key p w
   IsTurnedBeside v key (turns.Astray saw) w = ReadsOn v w × IsAstrayBeside v key saw w
 
-  -- This page, whose read began in this call and is open, stands beside the leaf under the same parent, as words say that were read of the parent whole and validated
+  -- This page, whose read began in this call and is open, stands beside the leaf under the same parent, as words say
+  -- that were read of the parent whole and validated
   -- then; it is a node of level 0, where blocks tell their words
-  pub record IsNeighbour (v : View X) (key : ℕ) (up : OptGuard) (leaf : ℕ) (over : List ℕ) (other : OptGuard) (behind : Bool) (low left separator right : ℕ) (w : View X) : Type 0 where
+  pub record IsNeighbour (v : View X) (key : ℕ) (up : OptGuard) (leaf : ℕ) (over : List ℕ) (other : OptGuard)
+      (behind : Bool) (low left separator right : ℕ) (w : View X) : Type 0 where
     pub opened : IsOpened v other.pid other.word other.frame w
     pub apart : (other.pid ≢ up.pid) × (other.pid ≢ 0)
     pub choice : IsChoice L over key leaf other.pid behind low left separator right
@@ -112,16 +121,22 @@ module _ {X : Type 0} (L : Layout) where
     pub awaits : (from to : ℕ) × AwaitsNode L w other.pid other.word 0 from to
     pub names : v.start.tells ≡ true → child_of L over key ≡ Some leaf
 
-  -- Why the pair alone goes: by words validated in this call a condition for a merge is not met. `rest` is the leaf without the key. The leaf is the root; it keeps too many
+  -- Why the pair alone goes: by words validated in this call a condition for a merge is not met. `rest` is the leaf
+  -- without the key. The leaf is the root; it keeps too many
   -- pairs; its parent has no other child; both have too many; or a page beside the leaf that would be locked is at the last version
   pub data IsUnmerged (v : View X) (key leaf : ℕ) (rest : List ℕ) (w : View X) : Type 0 where
     root : IsNamedRoot L v leaf w → IsUnmerged v key leaf rest w
     full : ¬ (4 * size L (node_of L rest) ≤ L.room) → IsUnmerged v key leaf rest w
-    single : (up : OptGuard) (over : List ℕ) → IsParentOf L v key up leaf w → IsReadWhole v up.pid over w → HasNoOther L over key leaf → IsUnmerged v key leaf rest w
-    many : (up other : OptGuard) (over page : List ℕ) (behind : Bool) (low left separator right : ℕ) → IsNeighbour v key up leaf over other behind low left separator right w
+    single : (up : OptGuard) (over : List ℕ) → IsParentOf L v key up leaf w → IsReadWhole v up.pid over w
+        → HasNoOther L over key leaf → IsUnmerged v key leaf rest w
+    many : (up other : OptGuard) (over page : List ℕ) (behind : Bool) (low left separator right : ℕ)
+        → IsNeighbour v key up leaf over other behind low left separator right w
         → IsReadWhole v other.pid page w → ¬ (size L (as_one L behind rest page) ≤ L.merge_room) → IsUnmerged v key leaf rest w
     worn_parent : (up : OptGuard) → IsParentOf L v key up leaf w → version_of up.word ≡ MAX_VERSION → IsUnmerged v key leaf rest w
-    worn_beside : (up other : OptGuard) (over : List ℕ) (behind : Bool) (low left separator right : ℕ) → IsNeighbour v key up leaf over other behind low left separator right w
+    worn_beside : (up other : OptGuard) (over : List ℕ) (behind : Bool) (low left separator right : ℕ)
+        → IsNeighbour v key up leaf over other behind low left separator right w
         → version_of other.word ≡ MAX_VERSION → IsUnmerged v key leaf rest w
-    worn_meta : (meta root other : OptGuard) (over : List ℕ) (behind : Bool) (low left separator right : ℕ) → IsMetaRead meta.pid meta.word meta.frame root.pid 1 v w
-        → IsNeighbour v key root leaf over other behind low left separator right w → length (pairs_of L over) ≡ 2 → version_of meta.word ≡ MAX_VERSION → IsUnmerged v key leaf rest w
+    worn_meta : (meta root other : OptGuard) (over : List ℕ) (behind : Bool) (low left separator right : ℕ)
+        → IsMetaRead meta.pid meta.word meta.frame root.pid 1 v w
+        → IsNeighbour v key root leaf over other behind low left separator right w → length (pairs_of L over) ≡ 2
+        → version_of meta.word ≡ MAX_VERSION → IsUnmerged v key leaf rest w

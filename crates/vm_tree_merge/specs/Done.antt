@@ -14,17 +14,20 @@ use Rattle.vm_tree_split.specs.{Prepares.IsLockDenied, Splits.KeepsLocksOnly}
 use Rattle.vm_tree_join.specs.Made.{IsMergeMade}
 use Rattle.vm_tree_merge.specs.Beside.{AreInOrder, IsNeighbour}
 
--- The pages that a merge releases, in order, and those that it frees: the parent and both leaves, of which it frees the right one; but page 0 as well, and the parent is freed,
+-- The pages that a merge releases, in order, and those that it frees: the parent and both leaves, of which it frees
+-- the right one; but page 0 as well, and the parent is freed,
 -- where the parent is the root and has just these two children
 abbrev pub MergesPages : Layout → Above → OptGuard → List ℕ → OptGuard → OptGuard → List OptGuard → List ℕ → Type 0
 MergesPages L aboves.Nothing up over left right guards freed = ⊥
-MergesPages L (aboves.Node node) up over left right guards freed = (up ≡ node) × (guards ≡ up ∷ left ∷ right ∷ []) × (freed ≡ right.pid ∷ [])
+MergesPages L (aboves.Node node) up over left right guards freed =
+    (up ≡ node) × (guards ≡ up ∷ left ∷ right ∷ []) × (freed ≡ right.pid ∷ [])
 MergesPages L (aboves.Root meta root) up over left right guards freed =
     (up ≡ root) × (((length (pairs_of L over) ≢ 2) × (guards ≡ up ∷ left ∷ right ∷ []) × (freed ≡ right.pid ∷ []))
     ⊎ ((length (pairs_of L over) ≡ 2) × (guards ≡ meta ∷ up ∷ left ∷ right ∷ []) × (freed ≡ up.pid ∷ right.pid ∷ [])))
 
 module _ {S : Type 0} (plain : S → Said) (L : Layout) where
-  -- A del took the pair of its key out of a leaf, which keeps few, and made it one with its neighbour. What the call read stands in `found`; `rest` is the leaf
+  -- A del took the pair of its key out of a leaf, which keeps few, and made it one with its neighbour. What the call
+  -- read stands in `found`; `rest` is the leaf
   -- without the key
   pub record IsMergeDone (key : ℕ) (said : Said) (v w : View S) : Type 0 where
     pub above : Above
@@ -57,7 +60,8 @@ module _ {S : Type 0} (plain : S → Said) (L : Layout) where
     pub made : IsMergeMade plain L guards freed says found w
 
 module _ {X : Type 0} (L : Layout) where
-  -- pages that the call had read were to be locked for a merge, and one of them was lost: those locked before were released again, so nothing is written, and nothing
+  -- pages that the call had read were to be locked for a merge, and one of them was lost: those locked before were
+  -- released again, so nothing is written, and nothing
   -- said
   pub record IsLockLost (v : View X) (saw : Saw) (w : View X) : Type 0 where
     pub guards : List OptGuard

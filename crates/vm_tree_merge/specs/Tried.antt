@@ -39,8 +39,10 @@ module _ {X : Type 0} (L : Layout) where
     pub said_is : said ≡ record { call = Del key; reply = Gone (Some value) }
     pub there : (from to : ℕ) → Rises from to (pairs_of L page) → Some value ≡ lookup_at (pairs_of L page) key
 
-  -- The leaf and its neighbour were read whole: the leaf keeps few pairs, both together fit into one, and neither they nor the parent are at the last version
-  pub record IsToMerge (v : View X) (key : ℕ) (up : OptGuard) (leaf : ℕ) (over rest : List ℕ) (other : OptGuard) (page : List ℕ) (behind : Bool) (low left separator right : ℕ) (w : View X) : Type 0 where
+  -- The leaf and its neighbour were read whole: the leaf keeps few pairs, both together fit into one, and neither
+  -- they nor the parent are at the last version
+  pub record IsToMerge (v : View X) (key : ℕ) (up : OptGuard) (leaf : ℕ) (over rest : List ℕ) (other : OptGuard)
+      (page : List ℕ) (behind : Bool) (low left separator right : ℕ) (w : View X) : Type 0 where
     pub neighbour : IsNeighbour L v key up leaf over other behind low left separator right w
     pub read : HasRead w other.pid page
     pub sparse : 4 * size L (node_of L rest) ≤ L.room
@@ -50,8 +52,10 @@ module _ {X : Type 0} (L : Layout) where
 module _ {S : Type 0} (plain : S → Said) (L : Layout) where
   -- What a try of a merge comes to, by the pages above the leaf: from x on, in a call that began with v
   abbrev pub IsMergeTried : View S → ℕ → Above → OptGuard → List ℕ → List ℕ → Said → Merge → View S → View S → Type 0
-  IsMergeTried v key above leaf page rest said merges.Made x w = (d : IsMergeDone plain L key said v w) × (d.above ≡ above) × (d.leaf ≡ leaf) × (d.page ≡ page)
-  IsMergeTried v key above leaf page rest said (merges.Alone g) x w = (g ≡ leaf) × LeavesBeside leaf.pid x w × (IsUnmerged L v key leaf.pid rest w ⊎ (version_of leaf.word ≡ MAX_VERSION))
+  IsMergeTried v key above leaf page rest said merges.Made x w =
+      (d : IsMergeDone plain L key said v w) × (d.above ≡ above) × (d.leaf ≡ leaf) × (d.page ≡ page)
+  IsMergeTried v key above leaf page rest said (merges.Alone g) x w = (g ≡ leaf) × LeavesBeside leaf.pid x w
+      × (IsUnmerged L v key leaf.pid rest w ⊎ (version_of leaf.word ≡ MAX_VERSION))
   IsMergeTried v key above leaf page rest said (merges.Turned turn) x w = IsTurnedBeside L v key turn w
   IsMergeTried v key above leaf page rest said (merges.Lost saw) x w = IsLockLost L v saw w
 

@@ -1,12 +1,12 @@
 // A leaf's neighbour under the same parent, and whether the two may become one.
-ghost use Rattle.std.specs.Prelude.{◌*◌, ◌≤◌, ◌≡◌, ◌≢◌, false, ◌⊎◌, IfErr, IfOk, IsOk, length, List, MatchOption, None, Some, true, ℕ};
+ghost use Rattle.std.specs.Prelude.{◌*◌, ◌≤◌, ◌≡◌, ◌≢◌, false, ◌⊎◌, IfErr, IfOk, IsOk, length, MatchOption, None, Some, true, ℕ};
 ghost use Rattle.vm_map.specs.Map.{Rises};
 ghost use Rattle.vm_tree_model.specs.{Edits.TakesPair, Layout.size};
 ghost use Rattle.vm_tree_model.specs.Page.{node_of, pairs_of};
 ghost use Rattle.vm_core.specs.Prelude.{MAX_VERSION, version_of};
 ghost use Rattle.vm_node.specs.Loads.{IsAnswer};
-ghost use Rattle.vm_step.specs.Prelude.{IsReady, IsSamePass, ReadsAsBefore, view};
-ghost use Rattle.vm_tree_rule.specs.{Above.IsParentOf, Leaves.LeavesWord, Leaves.ReadsOn, Resident.IsKnownNow, Seeks.HasRead};
+ghost use Rattle.vm_step.specs.Prelude.{GoesOn, IsReadyOn, ReadsAsBefore, view};
+ghost use Rattle.vm_tree_rule.specs.{Above.IsParentOf, Leaves.LeavesWord, Leaves.ReadsOn, Resident.IsKnownNow};
 ghost use Rattle.vm_tree_merge.specs.Beside.{as_one, HasNoOther, IsChoice, IsNeighbour, IsReadWhole, IsTurnedBeside, IsUnmerged, LeavesBeside, TellBeside};
 ghost use Rattle.vm_tree_merge.specs.Tried.{IsToMerge};
 
@@ -111,12 +111,11 @@ pub fn find_neighbour<K: Merges, B: Block>(
     key: &K::Key,
     over: &mut K::Page,
 ) -> Result<Option<Neighbour<K::Key, K::Edit>>, Turn>
-    requires ready { IsReady words.now.table.shared.key B.tells words.now.table.shared.table_id pass.old }
+    requires ready { IsReadyOn words.now B.tells pass.old }
     requires size { length (K.words_of over.old) ≡ K.layout.words }
     requires parent { (v : _) × IsParentOf K.layout v (K.rank key.now) up.now leaf.now.pid (view pass.old) }
     ensures size { length (K.words_of over.new) ≡ K.layout.words }
-    ensures pass { IsSamePass pass.old pass.new }
-    ensures ready { IsReady words.now.table.shared.key B.tells words.now.table.shared.table_id pass.new }
+    ensures goes { GoesOn words.now B.tells pass.old pass.new }
     ensures reads { IfOk result (λ _. ReadsOn (view pass.old) (view pass.new)) }
     ensures others { IfOk result (λ found. (q : ℕ) → q ≢ up.now.pid → MatchOption found (Unit {0}) (λ b. q ≢ b.guard.pid)
         → ReadsAsBefore (view pass.old) (view pass.new) q × LeavesWord q (view pass.old) (view pass.new)) }
@@ -170,15 +169,14 @@ fn judge<K: Merges, B: Block>(
     other: &mut K::Page,
     found: Neighbour<K::Key, K::Edit>,
 ) -> Result<Option<Neighbour<K::Key, K::Edit>>, Turn>
-    requires ready { IsReady words.now.table.shared.key B.tells words.now.table.shared.table_id pass.old }
+    requires ready { IsReadyOn words.now B.tells pass.old }
     requires size { length (K.words_of other.old) ≡ K.layout.words }
     requires sparse { 4 * size K.layout (node_of K.layout (K.words_of rest.now)) ≤ K.layout.room }
     requires below { version_of up.now.word ≢ MAX_VERSION }
     requires beside { (v : _) × IsNeighbour K.layout v (K.rank key.now) up.now leaf.now.pid (K.words_of over.now) found.guard found.choice.behind
         (K.rank found.choice.pair.low) found.choice.pair.left (K.rank found.choice.pair.separator) found.choice.pair.right (view pass.old) }
     ensures size { length (K.words_of other.new) ≡ K.layout.words }
-    ensures pass { IsSamePass pass.old pass.new }
-    ensures ready { IsReady words.now.table.shared.key B.tells words.now.table.shared.table_id pass.new }
+    ensures goes { GoesOn words.now B.tells pass.old pass.new }
     ensures others { IfOk result (λ _. (q : ℕ) → q ≢ found.guard.pid → LeavesBeside q (view pass.old) (view pass.new)) }
     ensures none { IfOk result (λ r. (v : _) → IsNeighbour K.layout v (K.rank key.now) up.now leaf.now.pid (K.words_of over.now) found.guard found.choice.behind
         (K.rank found.choice.pair.low) found.choice.pair.left (K.rank found.choice.pair.separator) found.choice.pair.right (view pass.old) → r ≡ None
@@ -219,12 +217,11 @@ pub fn neighbour_to_join<K: Merges, B: Block>(
     over: &mut K::Page,
     other: &mut K::Page,
 ) -> Result<Option<Neighbour<K::Key, K::Edit>>, Turn>
-    requires ready { IsReady words.now.table.shared.key B.tells words.now.table.shared.table_id pass.old }
+    requires ready { IsReadyOn words.now B.tells pass.old }
     requires size { (length (K.words_of over.old) ≡ K.layout.words) × (length (K.words_of other.old) ≡ K.layout.words) }
     requires parent { (v : _) × IsParentOf K.layout v (K.rank key.now) up.now leaf.now.pid (view pass.old) }
     ensures size { (length (K.words_of over.new) ≡ K.layout.words) × (length (K.words_of other.new) ≡ K.layout.words) }
-    ensures pass { IsSamePass pass.old pass.new }
-    ensures ready { IsReady words.now.table.shared.key B.tells words.now.table.shared.table_id pass.new }
+    ensures goes { GoesOn words.now B.tells pass.old pass.new }
     ensures beside { IfOk result (λ _. (q : ℕ) → (q ≡ leaf.now.pid) ⊎ (q ≡ 0) → LeavesBeside q (view pass.old) (view pass.new)) }
     ensures stays { IfOk result (λ _. (v : _) → IsParentOf K.layout v (K.rank key.now) up.now leaf.now.pid (view pass.old)
         → IsParentOf K.layout v (K.rank key.now) up.now leaf.now.pid (view pass.new)) }

@@ -1,9 +1,9 @@
 // A leaf and its neighbour, which were read, become one in their order.
-ghost use Rattle.std.specs.Prelude.{[], ◌∷◌, ◌≡◌, ◌≢◌, ◌≤◌, ◌⊎◌, false, IfErr, IfOk, IsOk, length, List, None, true, ℕ};
+ghost use Rattle.std.specs.Prelude.{[], ◌∷◌, ◌≡◌, ◌≢◌, ◌≤◌, ◌⊎◌, false, IfErr, IfOk, IsOk, length, None, true, ℕ};
 ghost use Rattle.vm_map.specs.Map.{Rises};
 ghost use Rattle.vm_tree_model.specs.{Edits.TakesPair, Layout.size, Merges.IsJoined, Page.pairs_of};
 ghost use Rattle.vm_core.specs.Prelude.{MAX_VERSION, version_of};
-ghost use Rattle.vm_step.specs.Prelude.{IsReady, IsSamePass, view};
+ghost use Rattle.vm_step.specs.Prelude.{GoesOn, IsReadyOn, view};
 ghost use Rattle.vm_guard.specs.declared.opt.OptGuard.{OptGuard as Guard};
 ghost use Rattle.vm_tree_rule.specs.{Resident.IsKnownNow, Resident.KnowsResident, Seeks.IsMetaRead};
 ghost use Rattle.vm_tree_split.specs.Prepares.{IsLockDenied};
@@ -62,7 +62,7 @@ pub fn merge_below<K: Merges, B: Block>(
     other: &K::Page,
     said: &K::Said,
 ) -> Result<(), Saw>
-    requires ready { IsReady words.now.table.shared.key B.tells words.now.table.shared.table_id pass.old }
+    requires ready { IsReadyOn words.now B.tells pass.old }
     requires home { (view pass.old).out ≡ None }
     requires sizes { (length (K.words_of over.now) ≡ K.layout.words) × (length (K.words_of page.now) ≡ K.layout.words) × (length (K.words_of other.now) ≡ K.layout.words) }
     requires leaf { (v : _) × (key : ℕ) × IsLeafRead K.layout v key leaf (K.words_of page.now) (K.words_of rest.now) (K.plain said.now) (view pass.old)
@@ -71,8 +71,7 @@ pub fn merge_below<K: Merges, B: Block>(
         × (version_of leaf.word ≢ MAX_VERSION) }
     requires edit { (from to : ℕ) → Rises from to (pairs_of K.layout (K.words_of over.now))
         → TakesPair K.layout (K.words_of over.now) (K.edited (K.words_of over.now) found.choice.edit) (K.rank found.choice.pair.separator) }
-    ensures pass { IsSamePass pass.old pass.new }
-    ensures ready { IsReady words.now.table.shared.key B.tells words.now.table.shared.table_id pass.new }
+    ensures goes { GoesOn words.now B.tells pass.old pass.new }
     ensures ok { IfOk result (λ _. (one two : Guard) × AreInOrder found.choice.behind leaf found.guard one two
         × IsMergeMade K.plain K.layout (up ∷ one ∷ two ∷ []) (two.pid ∷ []) said.now (view pass.old) (view pass.new)) }
     ensures err { IfErr result (λ saw. (one two : Guard) × AreInOrder found.choice.behind leaf found.guard one two
@@ -132,7 +131,7 @@ pub fn merge_last<K: Merges, B: Block>(
     other: &K::Page,
     said: &K::Said,
 ) -> Result<(), Saw>
-    requires ready { IsReady words.now.table.shared.key B.tells words.now.table.shared.table_id pass.old }
+    requires ready { IsReadyOn words.now B.tells pass.old }
     requires home { (view pass.old).out ≡ None }
     requires sizes { (length (K.words_of over.now) ≡ K.layout.words) × (length (K.words_of page.now) ≡ K.layout.words) × (length (K.words_of other.now) ≡ K.layout.words) }
     requires leaf { (v : _) × (key : ℕ) × IsLeafRead K.layout v key leaf (K.words_of page.now) (K.words_of rest.now) (K.plain said.now) (view pass.old)
@@ -141,8 +140,7 @@ pub fn merge_last<K: Merges, B: Block>(
         × (version_of leaf.word ≢ MAX_VERSION) × IsMetaRead meta.pid meta.word meta.frame root.pid 1 v (view pass.old) }
     requires two { length (pairs_of K.layout (K.words_of over.now)) ≡ 2 }
     requires below { version_of meta.word ≢ MAX_VERSION }
-    ensures pass { IsSamePass pass.old pass.new }
-    ensures ready { IsReady words.now.table.shared.key B.tells words.now.table.shared.table_id pass.new }
+    ensures goes { GoesOn words.now B.tells pass.old pass.new }
     ensures ok { IfOk result (λ _. (one two : Guard) × AreInOrder found.choice.behind leaf found.guard one two
         × IsMergeMade K.plain K.layout (meta ∷ root ∷ one ∷ two ∷ []) (root.pid ∷ two.pid ∷ []) said.now (view pass.old) (view pass.new)) }
     ensures err { IfErr result (λ saw. (one two : Guard) × AreInOrder found.choice.behind leaf found.guard one two

@@ -1,8 +1,8 @@
 // The try of a merge: a del that leaves few pairs in its leaf makes it one with its neighbour, where the conditions for that hold.
-ghost use Rattle.std.specs.Prelude.{◌≡◌, ◌≢◌, length, List, None, Some, true, ℕ};
+ghost use Rattle.std.specs.Prelude.{◌≡◌, length, List, None, Some, true, ℕ};
 ghost use Rattle.vm_tree_model.specs.Page.{IsLeaf};
 ghost use Rattle.vm_tree_laws.specs.May.{IsEdit};
-ghost use Rattle.vm_step.specs.Prelude.{IsReady, IsSamePass, view};
+ghost use Rattle.vm_step.specs.Prelude.{GoesOn, IsReadyOn, view};
 ghost use Rattle.vm_tree_rule.specs.{Above.IsAbove, Above.IsParentOf, Above.KnowsAbove, Resident.IsKnownNow, Seeks.IsMetaRead};
 ghost use Rattle.vm_tree_merge.specs.Tried.{IsDelRead, IsFinalMerge, IsKnownAfter, IsLeafRead, IsMergeTried};
 
@@ -39,13 +39,12 @@ fn try_below<K: Merges, B: Block>(
     rest: &K::Page,
     said: &K::Said,
 ) -> Merge
-    requires ready { IsReady words.now.table.shared.key B.tells words.now.table.shared.table_id pass.old }
+    requires ready { IsReadyOn words.now B.tells pass.old }
     requires home { (view pass.old).out ≡ None }
     requires size { length (K.words_of page.now) ≡ K.layout.words }
     requires read { (v : _) × IsParentOf K.layout v (K.rank key.now) up leaf.pid (view pass.old)
         × IsLeafRead K.layout v (K.rank key.now) leaf (K.words_of page.now) (K.words_of rest.now) (K.plain said.now) (view pass.old) }
-    ensures pass { IsSamePass pass.old pass.new }
-    ensures ready { IsReady words.now.table.shared.key B.tells words.now.table.shared.table_id pass.new }
+    ensures goes { GoesOn words.now B.tells pass.old pass.new }
     ensures tried { (v : _) → IsParentOf K.layout v (K.rank key.now) up leaf.pid (view pass.old)
         → IsLeafRead K.layout v (K.rank key.now) leaf (K.words_of page.now) (K.words_of rest.now) (K.plain said.now) (view pass.old)
         → IsMergeTried K.plain K.layout v (K.rank key.now) (Above.Node up) leaf (K.words_of page.now) (K.words_of rest.now) (K.plain said.now) result (view pass.old) (view pass.new) }
@@ -81,14 +80,13 @@ fn try_last<K: Merges, B: Block>(
     rest: &K::Page,
     said: &K::Said,
 ) -> Merge
-    requires ready { IsReady words.now.table.shared.key B.tells words.now.table.shared.table_id pass.old }
+    requires ready { IsReadyOn words.now B.tells pass.old }
     requires home { (view pass.old).out ≡ None }
     requires size { length (K.words_of page.now) ≡ K.layout.words }
     requires read { (v : _) × IsParentOf K.layout v (K.rank key.now) root leaf.pid (view pass.old)
         × IsLeafRead K.layout v (K.rank key.now) leaf (K.words_of page.now) (K.words_of rest.now) (K.plain said.now) (view pass.old)
         × IsMetaRead meta.pid meta.word meta.frame root.pid 1 v (view pass.old) }
-    ensures pass { IsSamePass pass.old pass.new }
-    ensures ready { IsReady words.now.table.shared.key B.tells words.now.table.shared.table_id pass.new }
+    ensures goes { GoesOn words.now B.tells pass.old pass.new }
     ensures tried { (v : _) → IsParentOf K.layout v (K.rank key.now) root leaf.pid (view pass.old)
         → IsLeafRead K.layout v (K.rank key.now) leaf (K.words_of page.now) (K.words_of rest.now) (K.plain said.now) (view pass.old)
         → IsMetaRead meta.pid meta.word meta.frame root.pid 1 v (view pass.old)
@@ -139,13 +137,12 @@ pub fn try_merge<K: Merges, B: Block>(
     page: &K::Page,
     said: &K::Said,
 ) -> Merge
-    requires ready { IsReady words.now.table.shared.key B.tells words.now.table.shared.table_id pass.old }
+    requires ready { IsReadyOn words.now B.tells pass.old }
     requires home { (view pass.old).out ≡ None }
     requires size { length (K.words_of page.now) ≡ K.layout.words }
     requires read { (v : _) × IsAbove K.layout v (K.rank key.now) reached.above reached.leaf.pid (view pass.old)
         × IsDelRead K.layout v (K.rank key.now) reached.leaf (K.words_of page.now) (K.plain said.now) (view pass.old) }
-    ensures pass { IsSamePass pass.old pass.new }
-    ensures ready { IsReady words.now.table.shared.key B.tells words.now.table.shared.table_id pass.new }
+    ensures goes { GoesOn words.now B.tells pass.old pass.new }
     ensures tried { (v : _) → IsAbove K.layout v (K.rank key.now) reached.above reached.leaf.pid (view pass.old)
         → IsDelRead K.layout v (K.rank key.now) reached.leaf (K.words_of page.now) (K.plain said.now) (view pass.old)
         → (rest : List ℕ) × (IsLeaf K.layout (K.words_of page.now) → IsEdit K.layout (K.words_of page.now) rest (K.plain said.now).call (K.plain said.now).reply)

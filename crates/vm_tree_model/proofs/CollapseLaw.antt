@@ -1,4 +1,5 @@
--- The root has two leaves and nothing else: they become one leaf, which is the root, and the old root and the right leaf are no nodes afterwards.
+-- The root has two leaves and nothing else: they become one leaf, which is the root, and the old root and the right
+-- leaf are no nodes afterwards.
 use Rattle.std.proofs.Common.{◌≡◌, ◌≢◌, ◌⊎◌, ℕ, ◌+◌, ◌≤◌, inl, inr, [], ◌∷◌, ◌++◌, Some, ap, ◌∙◌, arith}
 use Rattle.std.proofs.lemmas.Bool.{cases_eq}
 use Rattle.std.proofs.lemmas.Bool.Decides.{nat_tests}
@@ -17,7 +18,8 @@ pub record IsCollapseStep (old new : ℕ → Node) (q k p s r : ℕ) : Type 0 wh
   pub gone : (new q).tag ≡ 0
   pub others : (x : ℕ) → IsNode (old x) ⊎ IsNode (new x) → x ≢ q → x ≢ p → x ≢ r → new x ≡ old x
 
-module _ {end : ℕ} (old new : ℕ → Node) (height q k p s r : ℕ) (tree : IsTreeOf end old q height) (step : IsCollapseStep old new q k p s r) where
+module _ {end : ℕ} (old new : ℕ → Node) (height q k p s r : ℕ) (tree : IsTreeOf end old q height)
+    (step : IsCollapseStep old new q k p s r) where
   two_rise : Rises (old q).low (old q).high ((k, p) ∷ (s, r) ∷ [])
   two_rise = rw step.pairs at (tree.inner q step.inner).rises
 
@@ -39,15 +41,10 @@ module _ {end : ℕ} (old new : ℕ → Node) (height q k p s r : ℕ) (tree : I
   first : k ≡ (old q).low
   first = rw step.pairs at (tree.inner q step.inner).starts
 
-  q_p : q ≢ p
-  q_p e = omega (arith, step.inner, step.left_leaf, ap (λ y. (old y).tag) e)
-
-  q_r : q ≢ r
-  q_r e = omega (arith, step.inner, step.right_leaf, ap (λ y. (old y).tag) e)
-
   -- the root names these two alone
   by_root : (x c : ℕ) → Names old q x c → c ≢ p → c ≢ r → ⊥
-  by_root x c n np nr = let found : lookup_at ((k, p) ∷ (s, r) ∷ []) x ≡ Some c = rw step.pairs at n.1 in grind (arith, nat_tests, found, np, nr)
+  by_root x c n np nr = let found : lookup_at ((k, p) ∷ (s, r) ∷ []) x ≡ Some c = rw step.pairs at n.1 in
+      grind (arith, nat_tests, found, np, nr)
 
   -- a node that names another is as it was, and not the old root
   from : (u x c : ℕ) → Names new u x c → (u ≢ q) × (new u ≡ old u)
@@ -84,8 +81,12 @@ module _ {end : ℕ} (old new : ℕ → Node) (height q k p s r : ℕ) (tree : I
     inner = inner;
     root_is = rw step.left (omega (arith, step.left_leaf), omega (arith, step.left_leaf));
     root_level = rw step.left (tree.leaf p step.left_leaf).level;
-    root_low = rw step.left (p_low old new q height q k p s r tree named named_right next step.left_leaf step.right_leaf ∙ first ∙ tree.root_low);
-    root_high = rw step.left (r_high old new q height q k p s r tree named named_right next step.left_leaf step.right_leaf ∙ last ∙ tree.root_high);
+    root_low = rw step.left
+        (p_low old new q height q k p s r tree named named_right next step.left_leaf step.right_leaf ∙ first
+        ∙ tree.root_low);
+    root_high = rw step.left
+        (r_high old new q height q k p s r tree named named_right next step.left_leaf step.right_leaf ∙ last
+        ∙ tree.root_high);
     child_is = λ u x c n. rw (to u x c n) (tree.child_is u x c (back u x c n));
     child_level = λ u x c n. rw (to u x c n) (rw (from u x c n).1 (tree.child_level u x c (back u x c n)));
     child_low = λ u x c n. rw (to u x c n) (tree.child_low u x c (back u x c n));

@@ -1,5 +1,7 @@
 -- A walk over a tree meets no fault.
-use Rattle.std.proofs.Common.{◌≡◌, ℕ, zero, suc, ◌+◌, ◌-◌, ◌<◌, ◌≤◌, ◌≢◌, inl, inr, List, [], ◌∷◌, ◌++◌, length, get_or, set, drop, Option, Some, None, Ok, Bool, true, false, not, ◌&&◌, eqb, if◌then◌else◌, refl, arith, sym, ap, ◌∙◌, length-drop}
+use Rattle.std.proofs.Common.{◌≡◌, ℕ, zero, suc, ◌+◌, ◌-◌, ◌<◌, ◌≤◌, ◌≢◌, inl, inr, List, [], ◌∷◌, ◌++◌, length}
+use Rattle.std.proofs.Common.{get_or, set, drop, Option, Some, None, Ok, Bool, true, false, not, ◌&&◌, eqb}
+use Rattle.std.proofs.Common.{if◌then◌else◌, refl, arith, sym, ap, ◌∙◌, length-drop}
 use Rattle.std.proofs.lemmas.Bool.{cases_eq, false_from_ne_true, and_from, eq-eqb, ne_eqb, le-leb, lt-ltb}
 use Rattle.std.proofs.lemmas.List.{get_or-drop}
 use Rattle.vm_tree_model.specs.Layout.{Layout, IsLayout}
@@ -18,7 +20,8 @@ use Rattle.vm_tree_model.proofs.Slots.{On, children_tell, on_either, Entry, stac
 use Rattle.vm_tree_model.proofs.Linked.{Seen, slot_at, NamedBy, Linked, with_parent, linked_step, seen_either, below_child}
 use Rattle.vm_tree_model.proofs.Ordered.{Ordered, ordered_step}
 
-pub unseen-less : (visited : List Bool) (p : ℕ) → p < length visited → get_or visited p false ≡ false → unseen_pages visited ≡ unseen_pages (set visited p true) + 1
+pub unseen-less : (visited : List Bool) (p : ℕ) → p < length visited → get_or visited p false ≡ false
+    → unseen_pages visited ≡ unseen_pages (set visited p true) + 1
 unseen-less [] p lt unseen = absurd (omega arith)
 unseen-less (true ∷ bs) zero lt unseen = absurd (cc)
 unseen-less (false ∷ bs) zero lt unseen = omega arith
@@ -39,19 +42,26 @@ lost_or-None None rest none = refl
 lost_or-None (Some page) rest none = absurd (cc)
 
 -- where the unvisited pages are free, none is lost
-none_lost : (L : Layout) (ws : List (List ℕ)) (visited : List Bool) (p : ℕ) → ((i : ℕ) → i < length ws → get_or visited (p + i) false ≡ false → IsFree L (page_at ws i)) → first_lost L ws visited p ≡ None
+none_lost : (L : Layout) (ws : List (List ℕ)) (visited : List Bool) (p : ℕ)
+    → ((i : ℕ) → i < length ws → get_or visited (p + i) false ≡ false → IsFree L (page_at ws i))
+    → first_lost L ws visited p ≡ None
 none_lost L [] visited p each = refl
-none_lost L (w ∷ ws) visited p each = go (get_or visited p false) (is_free L w) (λ unseen. is_free-from L w (each 0 (omega arith) (let at : p + 0 ≡ p = omega arith in rw at unseen)))
-    (none_lost L ws visited (p + 1) (λ i lt unseen. each (suc i) (omega arith) (let at : p + suc i ≡ p + 1 + i = omega arith in rw at unseen)))
+none_lost L (w ∷ ws) visited p each = go (get_or visited p false) (is_free L w)
+    (λ unseen. is_free-from L w (each 0 (omega arith) (let at : p + 0 ≡ p = omega arith in rw at unseen)))
+    (none_lost L ws visited (p + 1)
+    (λ i lt unseen. each (suc i) (omega arith) (let at : p + suc i ≡ p + 1 + i = omega arith in rw at unseen)))
   where
-    go : (seen free : Bool) → (seen ≡ false → free ≡ true) → first_lost L ws visited (p + 1) ≡ None → (if not seen && not free then Some p else (first_lost L) ws visited (p + 1)) ≡ None
+    go : (seen free : Bool) → (seen ≡ false → free ≡ true) → first_lost L ws visited (p + 1) ≡ None
+        → (if not seen && not free then Some p else (first_lost L) ws visited (p + 1)) ≡ None
     go true free is rest = rest
     go false true is rest = rest
     go false false is rest = absurd (let no = is refl in cc)
 
 module _ (L : Layout) (laws : IsLayout L) (pages : List (List ℕ)) (tree : IsTree L pages) where
   -- a node fills a slot of its level and fences
-  fills_node : (s : Slot) → IsNode (node_at L pages s.page) → (node_at L pages s.page).level ≡ s.level → (node_at L pages s.page).low ≡ s.low → (node_at L pages s.page).high ≡ s.high → Fills L (length pages) s (page_at pages s.page)
+  fills_node : (s : Slot) → IsNode (node_at L pages s.page) → (node_at L pages s.page).level ≡ s.level
+      → (node_at L pages s.page).low ≡ s.low → (node_at L pages s.page).high ≡ s.high
+      → Fills L (length pages) s (page_at pages s.page)
   fills_node s is level low high = record {
     level = level;
     low = low;
@@ -59,7 +69,12 @@ module _ (L : Layout) (laws : IsLayout L) (pages : List (List ℕ)) (tree : IsTr
     kind = (let range = in_range L laws pages tree s.page is in elim (tree.kind s.page range.0 range.1) [
       | inl free ↦ absurd (omega (arith, is, laws.free_tag _ free.zero))
       | inr (inl leaf) ↦ inl (sym level ∙ leaf.node.level, leaf)
-      | inr (inr inner) ↦ inr (omega (arith, inner.node.level, level), inner, λ k c found. in_range L laws pages tree c (tree.tree.child_is s.page k c (inner.node.tag, found)))
+      | inr (inr inner) ↦ inr (
+        omega (arith, inner.node.level, level),
+        inner,
+        λ k c found.
+            in_range L laws pages tree c (tree.tree.child_is s.page k c (inner.node.tag, found)),
+      )
     ]);
   }
 
@@ -69,14 +84,20 @@ module _ (L : Layout) (laws : IsLayout L) (pages : List (List ℕ)) (tree : IsTr
       rw root.1 (fills_node (root_slot L (page_at pages 0)) tree.tree.root_is tree.tree.root_level tree.tree.root_low tree.tree.root_high)
   named_fills visited q s (inr child) =
       let names = child.1.names in
-      fills_node s (tree.tree.child_is q s.low s.page names) (omega (arith, tree.tree.child_level q s.low s.page names, child.1.level)) (tree.tree.child_low q s.low s.page names) (tree.tree.child_high q s.low s.page names ∙ sym child.1.high)
+      fills_node s (tree.tree.child_is q s.low s.page names)
+      (omega (arith, tree.tree.child_level q s.low s.page names, child.1.level))
+      (tree.tree.child_low q s.low s.page names) (tree.tree.child_high q s.low s.page names ∙ sym child.1.high)
 
   -- who names a slot's page was visited
-  parent_seen : (visited : List Bool) (q p k : ℕ) (s : Slot) → NamedBy L pages visited q s → Names (node_at L pages) p k s.page → Seen visited p
-  parent_seen visited q p k s (inl root) names = absurd (tree.tree.unnamed p k (let page : s.page ≡ get_or (page_at pages 0) 1 0 = ap (λ (x : Slot). x.page) root.1 in rw page at names))
+  parent_seen : (visited : List Bool) (q p k : ℕ) (s : Slot) → NamedBy L pages visited q s
+      → Names (node_at L pages) p k s.page → Seen visited p
+  parent_seen visited q p k s (inl root) names =
+      absurd (tree.tree.unnamed p k (let page : s.page ≡ get_or (page_at pages 0) 1 0 =
+      ap (λ (x : Slot). x.page) root.1 in rw page at names))
   parent_seen visited q p k s (inr child) names = rw (tree.tree.once p q k s.low s.page names child.1.names) child.0
 
-  module _ (visited : List Bool) (s : Slot) (q : ℕ) (es : List Entry) (parent : ℕ → ℕ) (linked : Linked L pages visited ((s, q) ∷ es) parent)
+  module _ (visited : List Bool) (s : Slot) (q : ℕ) (es : List Entry) (parent : ℕ → ℕ)
+      (linked : Linked L pages visited ((s, q) ∷ es) parent)
       (unseen : get_or visited s.page false ≡ false) (filled : Fills L (length pages) s (page_at pages s.page)) where
     inside : s.page < length visited
     inside = let range = linked.on_page (s, q) (inl refl) in omega (arith, range, linked.flags)
@@ -88,12 +109,16 @@ module _ (L : Layout) (laws : IsLayout L) (pages : List (List ℕ)) (tree : IsTr
     child_unseen : (x : Slot) → IsChild (node_at L pages) s.page x → get_or (set visited s.page true) x.page false ≡ false
     child_unseen x child = false_from_ne_true _ (λ seen. elim (seen_either visited s.page inside x.page seen) [
       | inl same ↦ omega (arith, ap (λ n. (node_at L pages n).level) same, tree.tree.child_level s.page x.low x.page child.names)
-      | inr old ↦ not_self s.page (parent_seen visited (parent x.page) s.page x.low (slot_at L pages x.page) (linked.seen_named x.page old.1) child.names) refl
+      | inr old ↦ not_self s.page
+          (parent_seen visited (parent x.page) s.page x.low (slot_at L pages x.page) (linked.seen_named x.page old.1)
+          child.names) refl
     ])
 
     -- nor does it stand on the stack
     child_off : (x : Slot) (e : Entry) → IsChild (node_at L pages) s.page x → On e es → e.0.page ≢ x.page
-    child_off x e child on same = not_self s.page (parent_seen visited e.1 s.page x.low e.0 (linked.on_named e (inr on)) (rw same child.names)) refl
+    child_off x e child on same =
+        not_self s.page (parent_seen visited e.1 s.page x.low e.0 (linked.on_named e (inr on)) (rw same child.names))
+        refl
 
     fresh_old : (l : List Entry) → ((x : Entry) → On x l → x.0.page ≢ s.page) → Fresh visited l → Fresh (set visited s.page true) l
     fresh_old [] apart fresh = tt
@@ -106,32 +131,53 @@ module _ (L : Layout) (laws : IsLayout L) (pages : List (List ℕ)) (tree : IsTr
       fresh_old l (λ x on. apart x (inr on)) fresh.2,
     )
 
-    fresh_children : (m : Pairs) (level low high : ℕ) → Rises low high m → ((x : Slot) → On x (children level m high) → IsChild (node_at L pages) s.page x)
+    fresh_children : (m : Pairs) (level low high : ℕ) → Rises low high m
+        → ((x : Slot) → On x (children level m high) → IsChild (node_at L pages) s.page x)
         → Fresh (set visited s.page true) es → Fresh (set visited s.page true) (from_page s.page (children level m high) ++ es)
     fresh_children [] level low high r each fresh = fresh
     fresh_children (e ∷ m) level low high r each fresh =
-        let first : IsChild (node_at L pages) s.page (record { page = e.1; level = level; low = e.0; high = first_key m high }) = each _ (inl refl) in
+        let first : IsChild (node_at L pages) s.page (record {
+          page = e.1;
+          level = level;
+          low = e.0;
+          high = first_key m high;
+        }) = each _ (inl refl) in
         (child_unseen _ first, apart first, fresh_children m level (e.0 + 1) high r.2 (λ x on. each x (inr on)) fresh)
       where
-        apart : IsChild (node_at L pages) s.page (record { page = e.1; level = level; low = e.0; high = first_key m high }) → (x : Entry) → On x (from_page s.page (children level m high) ++ es) → x.0.page ≢ e.1
+        apart : IsChild (node_at L pages) s.page (record {
+          page = e.1;
+          level = level;
+          low = e.0;
+          high = first_key m high;
+        }) → (x : Entry) → On x (from_page s.page (children level m high) ++ es) → x.0.page ≢ e.1
         apart first x on = elim (on_either x (from_page s.page (children level m high)) es on) [
           | inl new ↦ (λ same.
               let on_new = (on_from_page x s.page _ new).0 in
               let child = each x.0 (inr on_new) in
               let above = found_low m (e.0 + 1) high x.0.low x.0.page r.2 (children_tell m level (e.0 + 1) high x.0 r.2 on_new).found in
-              omega (arith, above, ap (λ n. (node_at L pages n).low) same, tree.tree.child_low s.page e.0 e.1 first.names, tree.tree.child_low s.page x.0.low x.0.page child.names))
+              omega (
+                arith,
+                above,
+                ap (λ n. (node_at L pages n).low) same,
+                tree.tree.child_low s.page e.0 e.1
+                    first.names,
+                tree.tree.child_low s.page x.0.low x.0.page child.names,
+              ))
           | inr old ↦ child_off _ x first old
         ]
 
-    fresh_step : Fresh visited ((s, q) ∷ es) → Fresh (set visited s.page true) (from_page s.page (slots_below L s (page_at pages s.page)) ++ es)
+    fresh_step : Fresh visited ((s, q) ∷ es)
+        → Fresh (set visited s.page true) (from_page s.page (slots_below L s (page_at pages s.page)) ++ es)
     fresh_step fresh =
         let old = fresh_old es fresh.1 fresh.2 in
-        let each : (x : Slot) → On x (slots_below L s (page_at pages s.page)) → IsChild (node_at L pages) s.page x = (λ x on. (below_child L pages visited s q es parent linked unseen filled x on).0) in
+        let each : (x : Slot) → On x (slots_below L s (page_at pages s.page)) → IsChild (node_at L pages) s.page x =
+        (λ x on. (below_child L pages visited s q es parent linked unseen filled x on).0) in
         elim filled.kind [
           | inl leaf ↦ rw (eq-eqb s.level 0 leaf.0) old
           | inr inner ↦
               let no_zero : eqb s.level 0 ≡ false = ne_eqb s.level 0 (λ e. omega (arith, e, inner.0)) in
-              rw no_zero (fresh_children (pairs_of L (page_at pages s.page)) (s.level - 1) s.low s.high (rw (← filled.low, ← filled.high) inner.1.node.rises) (rw no_zero at each) old)
+              rw no_zero (fresh_children (pairs_of L (page_at pages s.page)) (s.level - 1) s.low s.high
+              (rw (← filled.low, ← filled.high) inner.1.node.rises) (rw no_zero at each) old)
         ]
 
   -- every node was visited once no slot is left
@@ -170,13 +216,19 @@ module _ (L : Layout) (laws : IsLayout L) (pages : List (List ℕ)) (tree : IsTr
     ]
 
     none_is_lost : first_lost L (drop 1 pages) visited 1 ≡ None
-    none_is_lost = none_lost L (drop 1 pages) visited 1 (λ i lt unseen. rw (get_or-drop 1 pages i []) (free (1 + i) (omega arith) (omega (arith, length-drop 1 pages)) unseen))
+    none_is_lost = none_lost L (drop 1 pages) visited 1
+        (λ i lt unseen. rw (get_or-drop 1 pages i [])
+        (free (1 + i) (omega arith) (omega (arith, length-drop 1 pages)) unseen))
       where
         free : (p : ℕ) → 1 ≤ p → p < length pages → get_or visited p false ≡ false → IsFree L (page_at pages p)
         free p some lt unseen = elim (tree.kind p some lt) [
           | inl zeros ↦ zeros
-          | inr (inl leaf) ↦ absurd (let seen = seen_down _ p (omega (arith, leaf.node.tag), omega (arith, leaf.node.tag)) (le_add _ _) in cc)
-          | inr (inr inner) ↦ absurd (let seen = seen_down _ p (omega (arith, inner.node.tag), omega (arith, inner.node.tag)) (le_add _ _) in cc)
+          | inr (inl leaf) ↦ absurd
+              (let seen = seen_down _ p (omega (arith, leaf.node.tag), omega (arith, leaf.node.tag)) (le_add _ _) in
+              cc)
+          | inr (inr inner) ↦ absurd
+              (let seen = seen_down _ p (omega (arith, inner.node.tag), omega (arith, inner.node.tag)) (le_add _ _) in
+              cc)
         ]
           where
             le_add : (a b : ℕ) → b ≤ a + b
@@ -184,10 +236,12 @@ module _ (L : Layout) (laws : IsLayout L) (pages : List (List ℕ)) (tree : IsTr
 
   -- with visits left for all unvisited pages, the walk ends without a fault
   pub completes : (left : ℕ) (entries : List Entry) (visited : List Bool) (rows : Pairs) (parent : ℕ → ℕ) (from : ℕ)
-      → Linked L pages visited entries parent → Ordered L pages visited rows (stack_of entries) from → Fresh visited entries → left ≡ unseen_pages visited
+      → Linked L pages visited entries parent → Ordered L pages visited rows (stack_of entries) from
+      → Fresh visited entries → left ≡ unseen_pages visited
       → (out : Pairs) × (walk L pages left (stack_of entries) visited rows ≡ Ok out)
   unfolding walk
-  completes left [] visited rows parent from linked ordered fresh enough = (rows, lost_or-None (first_lost L (drop 1 pages) visited 1) (Ok rows) (none_is_lost visited parent linked))
+  completes left [] visited rows parent from linked ordered fresh enough =
+      (rows, lost_or-None (first_lost L (drop 1 pages) visited 1) (Ok rows) (none_is_lost visited parent linked))
   completes zero (e ∷ es) visited rows parent from linked ordered fresh enough =
       let range = linked.on_page e (inl refl) in
       absurd (omega (arith, unseen-less visited e.0.page (omega (arith, range, linked.flags)) fresh.0))
@@ -198,10 +252,22 @@ module _ (L : Layout) (laws : IsLayout L) (pages : List (List ℕ)) (tree : IsTr
       let none = no_fault L laws (length pages) (get_or visited e.0.page false) e.0 (page_at pages e.0.page) fresh.0 filled in
       let (next, step) = ordered_step L pages visited rows e.0 (stack_of es) from inside filled ordered in
       let stack = stack-from_page e.0.page (slots_below L e.0 (page_at pages e.0.page)) es in
-      let (out, rest) = completes left (from_page e.0.page (slots_below L e.0 (page_at pages e.0.page)) ++ es) (set visited e.0.page true) (rows ++ leaf_part L (page_at pages e.0.page)) (with_parent parent e.0.page e.1) next
-      (linked_step L pages visited e.0 e.1 es parent linked fresh.0 filled) (rw stack step) (fresh_step visited e.0 e.1 es parent linked fresh.0 filled fresh) (omega (arith, enough, unseen-less visited e.0.page inside fresh.0)) in
-      (out, fault_or-None e.0.page (slot_fault L (length pages) (get_or visited e.0.page false) e.0 (page_at pages e.0.page)) _ none ∙ rw stack at rest)
+      let (out, rest) = completes left (from_page e.0.page (slots_below L e.0 (page_at pages e.0.page)) ++ es)
+      (set visited e.0.page true) (rows ++ leaf_part L (page_at pages e.0.page)) (with_parent parent e.0.page e.1)
+      next
+      (linked_step L pages visited e.0 e.1 es parent linked fresh.0 filled) (rw stack step)
+      (fresh_step visited e.0 e.1 es parent linked fresh.0 filled fresh)
+      (omega (arith, enough, unseen-less visited e.0.page inside fresh.0)) in (
+        out,
+        fault_or-None e.0.page
+            (slot_fault L (length pages) (get_or visited e.0.page false) e.0 (page_at pages e.0.page)) _ none
+            ∙ rw stack at rest,
+      )
 
 -- page 0 of a tree passes its tests
-pub meta_passes : (L : Layout) (pages : ℕ) (words : List ℕ) → IsMeta L pages words → get_or words 2 0 + 2 ≤ pages → meta_fault L pages words ≡ None
-meta_passes L pages words meta fits = chain_from _ 1 _ (eq-eqb _ _ meta.magic) (chain_from _ 2 None (and_from _ _ (and_from _ _ (and_from _ _ (and_from _ _ (eq-eqb _ _ meta.length) (le-leb _ _ meta.root_low)) (lt-ltb _ _ meta.root_high)) (le-leb _ _ fits)) (zeros_past-from words 3 meta.rest)) refl)
+pub meta_passes : (L : Layout) (pages : ℕ) (words : List ℕ) → IsMeta L pages words → get_or words 2 0 + 2 ≤ pages
+    → meta_fault L pages words ≡ None
+meta_passes L pages words meta fits = chain_from _ 1 _ (eq-eqb _ _ meta.magic)
+    (chain_from _ 2 None (and_from _ _
+    (and_from _ _ (and_from _ _ (and_from _ _ (eq-eqb _ _ meta.length) (le-leb _ _ meta.root_low))
+    (lt-ltb _ _ meta.root_high)) (le-leb _ _ fits)) (zeros_past-from words 3 meta.rest)) refl)

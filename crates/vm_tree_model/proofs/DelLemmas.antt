@@ -14,9 +14,11 @@ next-del_other [] high s k ne = refl
 next-del_other (e ∷ es) high s k ne = grind (arith, nat_tests, ne, next-del_other es high s k)
 
 -- a key whose next one went has that one's next
-pub next-del_same : (m : Pairs) (low high s k : ℕ) → Rises low high m → k < s → next_key m high k ≡ s → next_key (del_pair m s) high k ≡ next_key m high s
+pub next-del_same : (m : Pairs) (low high s k : ℕ) → Rises low high m → k < s → next_key m high k ≡ s
+    → next_key (del_pair m s) high k ≡ next_key m high s
 next-del_same [] low high s k r lt is = refl
-next-del_same (e ∷ es) low high s k r lt is = grind (arith, nat_tests, lt, is, next-del_same es (e.0 + 1) high s k r.2 lt, next-first es (e.0 + 1) high k s r.2)
+next-del_same (e ∷ es) low high s k r lt is =
+    grind (arith, nat_tests, lt, is, next-del_same es (e.0 + 1) high s k r.2 lt, next-first es (e.0 + 1) high k s r.2)
 
 pub StartsAt-del : (m : Pairs) (low s : ℕ) → StartsAt low m → low < s → StartsAt low (del_pair m s)
 StartsAt-del [] low s st lt = absurd st

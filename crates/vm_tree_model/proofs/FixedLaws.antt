@@ -1,18 +1,18 @@
 -- Pages of 4 * h + 8 words, with place for 2 * h pairs, are a layout.
-use Rattle.std.proofs.Common.{◌≡◌, ◌≢◌, ◌⊎◌, inl, inr, ℕ, zero, suc, ◌+◌, ◌-◌, ◌*◌, ◌/◌, ◌<◌, ◌≤◌, List, [], ◌∷◌, length, get_or, take, drop, min, Bool, true, false, eqb, ltb, leb, ◌==◌, ◌||◌, ◌&&◌, if◌then◌else◌, refl, sym, ap, ◌∙◌, arith, length-take, length-drop}
-use Rattle.std.proofs.lemmas.Bool.{cases_eq, and_parts, and_from, eqb-true, eq-eqb, leb-true, le-leb, ltb-true, lt-ltb, or_cases, or_left, or_right}
+use Rattle.std.proofs.Common.{◌≡◌, ◌⊎◌, inl, inr, ℕ, zero, suc, ◌+◌, ◌-◌, ◌*◌, ◌<◌, ◌≤◌, List, [], ◌∷◌, length}
+use Rattle.std.proofs.Common.{get_or, take, drop, min, true, false, eqb, ltb, leb, ◌==◌, ◌||◌, ◌&&◌, if◌then◌else◌}
+use Rattle.std.proofs.Common.{refl, ap, ◌∙◌, arith, length-take, length-drop}
+use Rattle.std.proofs.lemmas.Bool.{cases_eq, and_parts, and_from, eqb-true, eq-eqb, leb-true, le-leb, lt-ltb, or_cases, or_left, or_right}
 use Rattle.std.proofs.lemmas.Bool.Decides.{nat_tests}
 use Rattle.vm_map.specs.Keys.{KEY_END}
 use Rattle.vm_page.specs.Sizes.{IsSize}
 use Rattle.vm_map.specs.Map.{Pairs}
-use Rattle.vm_tree_model.specs.Node.{Node, IsNode}
-use Rattle.vm_tree_model.specs.Layout.{Layout, IsLayout, IsClean, IsFullNode, PaysForSplit, pairs_size, size, cut_from, cut, weight, left_part, right_part}
-use Rattle.vm_tree_model.specs.Fixed.{fixed, fixed_node, fixed_pairs, fixed_is_clean, fixed_has_fences, fixed_has_form, fixed_magic, capacity, places, pairs_in, high_of, all_zero}
+use Rattle.vm_tree_model.specs.Node.{Node}
+use Rattle.vm_tree_model.specs.Layout.{IsLayout, PaysForSplit, pairs_size, size, cut_from, cut, left_part, right_part}
+use Rattle.vm_tree_model.specs.Fixed.{fixed, fixed_node, fixed_pairs, fixed_is_clean, fixed_has_fences}
+use Rattle.vm_tree_model.specs.Fixed.{fixed_has_form, fixed_magic, capacity, places, pairs_in, high_of, all_zero}
 
 -- each pair counts 1
-pub ones : Pairs → ℕ
-ones l = pairs_size (λ _. 1) l
-
 pub ones_are : (l : Pairs) → pairs_size (λ _. 1) l ≡ length l
 ones_are [] = refl
 ones_are (e ∷ es) = omega (arith, ones_are es)
@@ -55,7 +55,8 @@ module _ (n : ℕ) (words : List ℕ) where
       let (a, rest) = and_parts _ (all_zero (drop (8 + 2 * get_or words 1 0) words)) is in
       let (b, seventh) = and_parts _ (eqb (get_or words 7 0) 0) a in
       let (c, sixth) = and_parts _ (eqb (get_or words 6 0) 0) b in
-      let (d, fence) = and_parts _ (get_or words 4 0 == 0 && ltb (get_or words 3 0) KEY_END || get_or words 4 0 == 1 && get_or words 3 0 == 0) c in
+      let (d, fence) = and_parts _ (get_or words 4 0 == 0 && ltb (get_or words 3 0) KEY_END || get_or words 4 0 ==
+      1 && get_or words 3 0 == 0) c in
       let (long, most) = and_parts (eqb (length words) n) (leb (get_or words 1 0) (capacity n)) d in
       record {
         length = eqb-true _ _ long;
@@ -67,18 +68,25 @@ module _ (n : ℕ) (words : List ℕ) where
       }
 
   pub form_from : IsFixedForm n words → fixed_is_clean n words ≡ true
-  form_from f = and_from _ _ (and_from _ _ (and_from _ _ (and_from _ _ (and_from _ _ (eq-eqb _ _ f.length) (le-leb _ _ f.count)) (fence_test _ _ f.fence)) (eq-eqb _ _ f.sixth)) (eq-eqb _ _ f.seventh)) f.rest
+  form_from f = and_from _ _
+      (and_from _ _ (and_from _ _
+      (and_from _ _ (and_from _ _ (eq-eqb _ _ f.length) (le-leb _ _ f.count)) (fence_test _ _ f.fence))
+      (eq-eqb _ _ f.sixth)) (eq-eqb _ _ f.seventh)) f.rest
 
-fence_is_high : (w3 w4 high : ℕ) → (if high == KEY_END then w3 == 0 && w4 == 1 else w3 == high && w4 == 0) ≡ true → (if w4 == 0 then w3 else KEY_END) ≡ high
+fence_is_high : (w3 w4 high : ℕ) → (if high == KEY_END then w3 == 0 && w4 == 1 else w3 == high && w4 == 0) ≡ true
+    → (if w4 == 0 then w3 else KEY_END) ≡ high
 fence_is_high w3 w4 high is = grind (arith, nat_tests)
 
-fence_is_clean : (w3 w4 high : ℕ) → (if high == KEY_END then w3 == 0 && w4 == 1 else w3 == high && w4 == 0) ≡ true → high ≤ KEY_END → ((w4 ≡ 0) × (w3 < KEY_END)) ⊎ ((w4 ≡ 1) × (w3 ≡ 0))
+fence_is_clean : (w3 w4 high : ℕ) → (if high == KEY_END then w3 == 0 && w4 == 1 else w3 == high && w4 == 0) ≡ true
+    → high ≤ KEY_END → ((w4 ≡ 0) × (w3 < KEY_END)) ⊎ ((w4 ≡ 1) × (w3 ≡ 0))
 fence_is_clean w3 w4 high is le = elim (cases_eq high KEY_END) [
   | inl same ↦ inr (grind (arith, nat_tests), grind (arith, nat_tests))
   | inr other ↦ inl (grind (arith, nat_tests), grind (arith, nat_tests))
 ]
 
-fence_from : (w3 w4 high : ℕ) → ((w4 ≡ 0) × (w3 < KEY_END)) ⊎ ((w4 ≡ 1) × (w3 ≡ 0)) → (if w4 == 0 then w3 else KEY_END) ≡ high → (if high == KEY_END then w3 == 0 && w4 == 1 else w3 == high && w4 == 0) ≡ true
+fence_from : (w3 w4 high : ℕ) → ((w4 ≡ 0) × (w3 < KEY_END)) ⊎ ((w4 ≡ 1) × (w3 ≡ 0))
+    → (if w4 == 0 then w3 else KEY_END) ≡ high
+    → (if high == KEY_END then w3 == 0 && w4 == 1 else w3 == high && w4 == 0) ≡ true
 fence_from w3 w4 high (inl closed) is = grind (arith, nat_tests, closed.0, closed.1)
 fence_from w3 w4 high (inr endless) is = grind (arith, nat_tests, endless.0, endless.1)
 
@@ -97,7 +105,14 @@ module _ (n h : ℕ) (some : 3 ≤ h) (is : n ≡ 4 * h + 8) where
   capacity_is = omega (arith, is)
 
   pub length-fixed_pairs : (w : List ℕ) → length w ≡ n → length (fixed_pairs n w) ≡ min (get_or w 1 0) (capacity n)
-  length-fixed_pairs w len = omega (arith, length-take (min (get_or w 1 0) (capacity n)) (places w), length-pairs_in (drop 8 w) (2 * h) (omega (arith, length-drop 8 w, len, is)), capacity_is)
+  length-fixed_pairs w len =
+      omega (
+        arith,
+        length-take (min (get_or w 1 0) (capacity n)) (places w),
+        length-pairs_in (drop 8 w) (2 * h)
+            (omega (arith, length-drop 8 w, len, is)),
+        capacity_is,
+      )
 
   clean_fits : (w : List ℕ) → fixed_is_clean n w ≡ true → size (fixed n) (fixed_node n w) ≤ capacity n
   clean_fits w clean = omega (arith, ones_are (fixed_pairs n w), length-take (min (get_or w 1 0) (capacity n)) (places w))
@@ -111,7 +126,9 @@ module _ (n h : ℕ) (some : 3 ≤ h) (is : n ≡ 4 * h + 8) where
         | inr one ↦ or_right (eqb level 0) _ (le-leb _ _ (omega (arith, one, length-fixed_pairs w f.length)))
       ] in (
         and_from _ _ (eq-eqb _ _ from) (fence_from (get_or w 3 0) (get_or w 4 0) high f.fence upto),
-        and_from _ _ (and_from _ _ (and_from _ _ (and_from _ _ (and_from _ _ (and_from _ _ (eq-eqb _ _ f.length) pair) (le-leb _ _ f.count)) (eq-eqb _ _ at)) (eq-eqb _ _ f.sixth)) (eq-eqb _ _ f.seventh)) f.rest,
+        and_from _ _ (and_from _ _
+            (and_from _ _ (and_from _ _ (and_from _ _ (and_from _ _ (eq-eqb _ _ f.length) pair) (le-leb _ _ f.count))
+            (eq-eqb _ _ at)) (eq-eqb _ _ f.sixth)) (eq-eqb _ _ f.seventh)) f.rest,
       )
 
   passed : (w : List ℕ) (level low high : ℕ) → high ≤ KEY_END → fixed_has_fences low high w ≡ true → fixed_has_form n level w ≡ true
@@ -123,7 +140,10 @@ module _ (n h : ℕ) (some : 3 ≤ h) (is : n ≡ 4 * h + 8) where
       let (d, at) = and_parts _ (eqb (get_or w 5 0) level) c in
       let (e, most) = and_parts _ (leb (get_or w 1 0) (capacity n)) d in
       let (long, one) = and_parts (eqb (length w) n) (eqb level 0 || leb 1 (get_or w 1 0)) e in
-      let (from, high_test) = and_parts (eqb (get_or w 2 0) low) (if high == KEY_END then get_or w 3 0 == 0 && get_or w 4 0 == 1 else get_or w 3 0 == high && get_or w 4 0 == 0) fences in (
+      let (from, high_test) =
+      and_parts (eqb (get_or w 2 0) low)
+      (if high == KEY_END then get_or w 3 0 == 0 && get_or w 4 0 == 1 else get_or w 3 0 == high && get_or w 4 0 ==
+      0) fences in (
         form_from n w (record {
           length = eqb-true _ _ long;
           count = leb-true (get_or w 1 0) (capacity n) most;
@@ -137,15 +157,18 @@ module _ (n h : ℕ) (some : 3 ≤ h) (is : n ≡ 4 * h + 8) where
         fence_is_high (get_or w 3 0) (get_or w 4 0) high high_test,
       )
 
-  splits : (node : Node) (separator : ℕ) → size (fixed n) node ≤ capacity n → capacity n < size (fixed n) node + 1 → PaysForSplit (fixed n) node separator
+  splits : (node : Node) (separator : ℕ) → size (fixed n) node ≤ capacity n → capacity n < size (fixed n) node + 1
+      → PaysForSplit (fixed n) node separator
   splits node separator fits full =
       let long : length node.pairs ≡ 2 * h = omega (arith, ones_are node.pairs, capacity_is, fits, full) in
       let whole : pairs_size (λ _. 1) node.pairs ≡ 2 * h = ones_are node.pairs ∙ long in
       let at : cut (fixed n) node.pairs ≡ h = rw whole (cut_is node.pairs 0 h (omega arith) (omega (arith, long)) ∙ zero_less h) in
       let left : length (take (cut (fixed n) node.pairs) node.pairs) ≡ h = rw at (omega (arith, length-take h node.pairs, long)) in
       let right : length (drop (cut (fixed n) node.pairs) node.pairs) ≡ h = rw at (omega (arith, length-drop h node.pairs, long)) in
-      let left_size : size (fixed n) (left_part (fixed n) node separator) ≡ h = omega (arith, ones_are (take (cut (fixed n) node.pairs) node.pairs), left) in
-      let right_size : size (fixed n) (right_part (fixed n) node separator) ≡ h = omega (arith, ones_are (drop (cut (fixed n) node.pairs) node.pairs), right) in
+      let left_size : size (fixed n) (left_part (fixed n) node separator) ≡ h =
+      omega (arith, ones_are (take (cut (fixed n) node.pairs) node.pairs), left) in
+      let right_size : size (fixed n) (right_part (fixed n) node separator) ≡ h =
+      omega (arith, ones_are (drop (cut (fixed n) node.pairs) node.pairs), right) in
       record {
         left_some = omega (arith, at, some);
         right_some = omega (arith, at, some, long);

@@ -11,7 +11,8 @@ pub record IsGrowStep (end : ℕ) (old new : ℕ → Node) (root height s : ℕ)
   pub top : new s ≡ record { tag = 3; level = height + 1; low = 0; high = end; pairs = (0, root) ∷ [] }
   pub others : (x : ℕ) → x ≢ s → new x ≡ old x
 
-module _ {end : ℕ} (old new : ℕ → Node) (root height s : ℕ) (tree : IsTreeOf end old root height) (step : IsGrowStep end old new root height s) (some : 1 ≤ end) where
+module _ {end : ℕ} (old new : ℕ → Node) (root height s : ℕ) (tree : IsTreeOf end old root height)
+    (step : IsGrowStep end old new root height s) (some : 1 ≤ end) where
   s_not : (c : ℕ) → IsNode (old c) → c ≢ s
   s_not c is same = omega (arith, step.free, is, ap (λ x. (old x).tag) same)
 
@@ -46,7 +47,12 @@ module _ {end : ℕ} (old new : ℕ → Node) (root height s : ℕ) (tree : IsTr
       | inr ne ↦ rw (step.others p ne) (tree.leaf p (rw (step.others p ne) at tag))
     ];
     inner = λ p tag. elim (cases_eq p s) [
-      | inl e ↦ rw e (rw step.top (record { tag = refl; level = omega arith; rises = (omega arith, omega (arith, some), tt); starts = refl }))
+      | inl e ↦ rw e (rw step.top (record {
+        tag = refl;
+        level = omega arith;
+        rises = (omega arith, omega (arith, some), tt);
+        starts = refl;
+      }))
       | inr ne ↦ rw (step.others p ne) (tree.inner p (rw (step.others p ne) at tag))
     ];
     root_is = rw step.top (lit≤ tt, lit≤ tt);

@@ -67,7 +67,8 @@ module _ (L : Layout) (laws : IsLayout L) (pages : List (List ℕ)) (tree : IsTr
       }
 
   -- the map has at a key what the covering leaf has
-  pub lookup-map_of : (p key : ℕ) → IsLeafAt L pages p → Covers (node_at L pages p) key → lookup_at (map_of L pages) key ≡ lookup_at (node_at L pages p).pairs key
+  pub lookup-map_of : (p key : ℕ) → IsLeafAt L pages p → Covers (node_at L pages p) key
+      → lookup_at (map_of L pages) key ≡ lookup_at (node_at L pages p).pairs key
   lookup-map_of p key at covers = found pages p at.0 at.1 at.2 others
     where
       others : (q : ℕ) → 1 ≤ q → q < length pages → q ≢ p → tag_at L pages q ≡ 2 → lookup_at (pairs_of L (page_at pages q)) key ≡ None
@@ -82,10 +83,13 @@ module _ (L : Layout) (laws : IsLayout L) (pages : List (List ℕ)) (tree : IsTr
             ]
           ]
 
-      found : (ps : List (List ℕ)) (p : ℕ) → 1 ≤ p → p < length ps → tag_at L ps p ≡ 2 → ((q : ℕ) → 1 ≤ q → q < length ps → q ≢ p → tag_at L ps q ≡ 2 → lookup_at (pairs_of L (page_at ps q)) key ≡ None) → lookup_at (map_of L ps) key ≡ lookup_at (pairs_of L (page_at ps p)) key
+      found : (ps : List (List ℕ)) (p : ℕ) → 1 ≤ p → p < length ps → tag_at L ps p ≡ 2
+          → ((q : ℕ) → 1 ≤ q → q < length ps → q ≢ p → tag_at L ps q ≡ 2 → lookup_at (pairs_of L (page_at ps q))
+          key ≡ None) → lookup_at (map_of L ps) key ≡ lookup_at (pairs_of L (page_at ps p)) key
       found [] p ge lt tag none = absurd (omega arith)
       found (w ∷ ws) zero ge lt tag none = absurd (omega arith)
-      found (w ∷ ws) (suc p) ge lt tag none = lookup-gather (leaf_pairs L ws) key ∙ one_found L ws key p (omega arith) tag (λ q qlt ne. none (suc q) (omega arith) (omega arith) (omega arith))
+      found (w ∷ ws) (suc p) ge lt tag none = lookup-gather (leaf_pairs L ws) key ∙ one_found L ws key p (omega arith)
+          tag (λ q qlt ne. none (suc q) (omega arith) (omega arith) (omega arith))
 
   -- a fence is at most the end of all keys
   pub high_le : (p : ℕ) → IsLeafAt L pages p → (node_at L pages p).high ≤ L.key_end
@@ -93,12 +97,17 @@ module _ (L : Layout) (laws : IsLayout L) (pages : List (List ℕ)) (tree : IsTr
 
   -- the map's keys rise
   pub Rises-map_of : Rises 0 L.key_end (map_of L pages)
-  Rises-map_of = rises pages (λ q ge lt tag. let at : IsLeafAt L pages q = (ge, lt, tag) in KeysIn-wider _ _ _ _ _ (omega arith) (high_le q at) (KeysIn-from_Rises _ _ _ (is_leaf q at).node.rises))
+  Rises-map_of = rises pages (λ q ge lt tag. let at : IsLeafAt L pages q = (ge, lt, tag) in
+      KeysIn-wider _ _ _ _ _ (omega arith) (high_le q at) (KeysIn-from_Rises _ _ _ (is_leaf q at).node.rises))
     where
       KeysIn-wider : (l : Pairs) (low high low' high' : ℕ) → low' ≤ low → high ≤ high' → KeysIn low high l → KeysIn low' high' l
       KeysIn-wider [] low high low' high' le le' k = tt
-      KeysIn-wider (e ∷ es) low high low' high' le le' k = (omega (arith, k.0), omega (arith, k.1), KeysIn-wider es low high low' high' le le' k.2)
+      KeysIn-wider (e ∷ es) low high low' high' le le' k =
+          (omega (arith, k.0), omega (arith, k.1), KeysIn-wider es low high low' high' le le' k.2)
 
-      rises : (ps : List (List ℕ)) → ((q : ℕ) → 1 ≤ q → q < length ps → tag_at L ps q ≡ 2 → KeysIn 0 L.key_end (pairs_of L (page_at ps q))) → Rises 0 L.key_end (map_of L ps)
+      rises : (ps : List (List ℕ))
+          → ((q : ℕ) → 1 ≤ q → q < length ps → tag_at L ps q ≡ 2 → KeysIn 0 L.key_end (pairs_of L (page_at ps q)))
+          → Rises 0 L.key_end (map_of L ps)
       rises [] each = tt
-      rises (w ∷ ws) each = Rises-gather (leaf_pairs L ws) 0 L.key_end (keys_in L ws 0 L.key_end (λ i lt. each (suc i) (omega arith) (omega arith)))
+      rises (w ∷ ws) each = Rises-gather (leaf_pairs L ws) 0 L.key_end
+          (keys_in L ws 0 L.key_end (λ i lt. each (suc i) (omega arith) (omega arith)))

@@ -22,8 +22,18 @@ pub record IsSameSpan (a b : Node) : Type 0 where
 module _ {end : ℕ} (old new : ℕ → Node) (root height p : ℕ) (tree : IsTreeOf end old root height) (step : IsLeafStep old new p) where
   span : (q : ℕ) → IsSameSpan (old q) (new q)
   span q = elim (cases_eq q p) [
-    | inl same ↦ subst (λ x. IsSameSpan (old x) (new x)) (sym same) (record { tag = step.leaf.tag ∙ sym step.was; level = step.leaf.level ∙ sym (tree.leaf p step.was).level; low = step.low; high = step.high })
-    | inr other ↦ subst (λ x. IsSameSpan (old q) x) (sym (step.others q other)) (record { tag = refl; level = refl; low = refl; high = refl })
+    | inl same ↦ subst (λ x. IsSameSpan (old x) (new x)) (sym same) (record {
+      tag = step.leaf.tag ∙ sym step.was;
+      level = step.leaf.level ∙ sym (tree.leaf p step.was).level;
+      low = step.low;
+      high = step.high;
+    })
+    | inr other ↦ subst (λ x. IsSameSpan (old q) x) (sym (step.others q other)) (record {
+      tag = refl;
+      level = refl;
+      low = refl;
+      high = refl;
+    })
   ]
 
   -- an inner node is not the leaf
@@ -53,7 +63,8 @@ module _ {end : ℕ} (old new : ℕ → Node) (root height p : ℕ) (tree : IsTr
     child_is = λ q k c n. node_same c (tree.child_is q k c (names_back q k c n));
     child_level = λ q k c n. omega (arith, (span c).level, (span q).level, tree.child_level q k c (names_back q k c n));
     child_low = λ q k c n. (span c).low ∙ tree.child_low q k c (names_back q k c n);
-    child_high = λ q k c n. (span c).high ∙ tree.child_high q k c (names_back q k c n) ∙ ap (λ (x : Node). next_key x.pairs x.high k) (sym (inner_same q n.0));
+    child_high = λ q k c n. (span c).high ∙ tree.child_high q k c (names_back q k c n)
+        ∙ ap (λ (x : Node). next_key x.pairs x.high k) (sym (inner_same q n.0));
     once = λ q q' k k' c n n'. tree.once q q' k k' c (names_back q k c n) (names_back q' k' c n');
     unnamed = λ q k n. tree.unnamed q k (names_back q k root n);
     named = λ c is other. let (q, k, n) = tree.named c (rw (← (span c).tag) is) other in (q, k, names_to q k c n);

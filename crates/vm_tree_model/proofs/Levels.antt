@@ -1,5 +1,5 @@
 -- From names and levels: each level parts the keys, and a descent by level reaches the leaf.
-use Rattle.std.proofs.Common.{◌≡◌, ℕ, zero, suc, ◌+◌, ◌-◌, ◌<◌, ◌≤◌, ◌≢◌, ◌^◌, inl, inr, Some, sym, ◌∙◌, arith}
+use Rattle.std.proofs.Common.{◌≡◌, ℕ, zero, suc, ◌+◌, ◌-◌, ◌<◌, ◌≤◌, ◌≢◌, inl, inr, Some, sym, ◌∙◌, arith}
 use Rattle.std.proofs.lemmas.Bool.{cases_eq}
 use Rattle.vm_map.specs.Map.{floor_pair}
 use Rattle.vm_tree_model.specs.Node.{Node, Covers, IsNode, Names, IsTreeOf, IsPartedAt}
@@ -24,13 +24,22 @@ module _ {end : ℕ} (node : ℕ → Node) (root height : ℕ) (tree : IsTreeOf 
       grind (arith, same, n.1, n'.1)
 
   -- the child that a descent takes: one step of the descent
-  pub descent_step : (q key : ℕ) → (node q).tag ≡ 3 → Covers (node q) key → (k : ℕ) × (c : ℕ) × (floor_pair (node q).pairs key ≡ Some (k, c)) × Names node q k c × Covers (node c) key
+  pub descent_step : (q key : ℕ) → (node q).tag ≡ 3 → Covers (node q) key → (k : ℕ) × (c : ℕ)
+      × (floor_pair (node q).pairs key ≡ Some (k, c)) × Names node q k c × Covers (node c) key
   descent_step q key tag covers =
       let inner = tree.inner q tag in
       let (x, is) = floor_some (node q).pairs (node q).low key inner.starts covers.0 in
       let f = floor_is (node q).pairs (node q).low (node q).high key x inner.rises covers.1 is in
-      let named : Names node q x.0 x.1 = (tag, f.found) in
-      (x.0, x.1, is, named, (grind (arith, tree.child_low q x.0 x.1 named, f.up_to), grind (arith, tree.child_high q x.0 x.1 named, f.next)))
+      let named : Names node q x.0 x.1 = (tag, f.found) in (
+        x.0,
+        x.1,
+        is,
+        named,
+        (
+          grind (arith, tree.child_low q x.0 x.1 named, f.up_to),
+          grind (arith, tree.child_high q x.0 x.1 named, f.next),
+        ),
+      )
 
   module _ (bound : ℕ) (bounded : (p : ℕ) → (node p).level ≤ bound) where
     -- no node stands above the root
@@ -60,7 +69,8 @@ module _ {end : ℕ} (node : ℕ → Node) (root height : ℕ) (tree : IsTreeOf 
     ]
 
     -- two nodes of a level that cover a key are one
-    pub one_at : (d level key p q : ℕ) → level + d ≡ height → IsNode (node p) → (node p).level ≡ level → Covers (node p) key → IsNode (node q) → (node q).level ≡ level → Covers (node q) key → p ≡ q
+    pub one_at : (d level key p q : ℕ) → level + d ≡ height → IsNode (node p) → (node p).level ≡ level
+        → Covers (node p) key → IsNode (node q) → (node q).level ≡ level → Covers (node q) key → p ≡ q
     one_at zero level key p q sum np lp cp nq lq cq = root_alone p np (omega arith) ∙ sym (root_alone q nq (omega arith))
     one_at (suc d) level key p q sum np lp cp nq lq cq =
         let not_root : (x : ℕ) → (node x).level ≡ level → x ≡ root → ⊥ = λ x lx same. grind (arith, same, tree.root_level) in
@@ -75,8 +85,10 @@ module _ {end : ℕ} (node : ℕ → Node) (root height : ℕ) (tree : IsTreeOf 
         child_one pp pk qk p q key pn qn' cp cq
 
     -- some node of each level covers a key
-    pub some_at : (d level key : ℕ) → level + d ≡ height → key < end → (p : ℕ) × IsNode (node p) × ((node p).level ≡ level) × Covers (node p) key
-    some_at zero level key sum lt = (root, tree.root_is, omega (arith, tree.root_level), (omega (arith, tree.root_low), rw tree.root_high lt))
+    pub some_at : (d level key : ℕ) → level + d ≡ height → key < end → (p : ℕ) × IsNode (node p)
+        × ((node p).level ≡ level) × Covers (node p) key
+    some_at zero level key sum lt =
+        (root, tree.root_is, omega (arith, tree.root_level), (omega (arith, tree.root_low), rw tree.root_high lt))
     some_at (suc d) level key sum lt =
         let (p, is, at, covers) = some_at d (level + 1) key (omega arith) lt in
         let not_leaf : (node p).tag ≢ 2 = λ tag. omega (arith, (tree.leaf p tag).level, at) in

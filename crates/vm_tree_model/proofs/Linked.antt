@@ -1,5 +1,6 @@
 -- What a walk that met no fault knows of the pages that it visited, and a step of it.
-use Rattle.std.proofs.Common.{◌≡◌, ℕ, ◌-◌, ◌<◌, ◌≤◌, ◌≢◌, ◌⊎◌, inl, inr, List, ◌∷◌, ◌++◌, length, get_or, set, Bool, true, false, eqb, ◌==◌, if◌then◌else◌, refl, arith, sym, ap, ◌∙◌, length-set}
+use Rattle.std.proofs.Common.{◌≡◌, ℕ, ◌-◌, ◌<◌, ◌≤◌, ◌≢◌, ◌⊎◌, inl, inr, List, ◌∷◌, ◌++◌, length, get_or, set, Bool}
+use Rattle.std.proofs.Common.{true, false, eqb, ◌==◌, if◌then◌else◌, refl, arith, sym, ap, ◌∙◌, length-set}
 use Rattle.std.proofs.lemmas.Bool.{cases_eq, eq-eqb, ne_eqb}
 use Rattle.std.proofs.lemmas.Bool.Decides.{nat_tests}
 use Rattle.std.proofs.lemmas.List.{get_or-set_same, get_or-set_other}
@@ -10,7 +11,8 @@ use Rattle.vm_tree_model.specs.Tree.{page_at, node_at}
 use Rattle.vm_tree_model.specs.Walk.{Slot, slots_below}
 use Rattle.vm_tree_model.specs.Reason.{root_slot}
 use Rattle.vm_tree_model.proofs.Tests.{Fills}
-use Rattle.vm_tree_model.proofs.Slots.{On, on_left, on_right, on_either, Entry, from_page, on_from_page, on_page, IsChild, children_tell, children_from}
+use Rattle.vm_tree_model.proofs.Slots.{On, on_left, on_right, on_either, Entry, from_page, on_from_page, on_page}
+use Rattle.vm_tree_model.proofs.Slots.{IsChild, children_tell, children_from}
 
 abbrev pub Seen : List Bool → ℕ → Type 0
 Seen visited p = get_or visited p false ≡ true
@@ -38,7 +40,8 @@ pub record Linked (L : Layout) (pages : List (List ℕ)) (visited : List Bool) (
   pub seen_page : (p : ℕ) → Seen visited p → IsPage pages p
   pub seen_fills : (p : ℕ) → Seen visited p → Fills L (length pages) (slot_at L pages p) (page_at pages p)
   pub seen_named : (p : ℕ) → Seen visited p → NamedBy L pages visited (parent p) (slot_at L pages p)
-  pub named : (q : ℕ) (s : Slot) → NamedBy L pages visited q s → On (s, q) entries ⊎ (Seen visited s.page × (parent s.page ≡ q) × (slot_at L pages s.page ≡ s))
+  pub named : (q : ℕ) (s : Slot) → NamedBy L pages visited q s → On (s, q) entries
+      ⊎ (Seen visited s.page × (parent s.page ≡ q) × (slot_at L pages s.page ≡ s))
 
 -- the page has the slot's level and fences
 pub slot_is : (L : Layout) (pages : List (List ℕ)) (s : Slot) → Fills L (length pages) s (page_at pages s.page) → slot_at L pages s.page ≡ s
@@ -60,7 +63,8 @@ module _ (visited : List Bool) (p : ℕ) (inside : p < length visited) where
     | inr other ↦ get_or-set_other visited p x true false other ∙ seen
   ]
 
-module _ (L : Layout) (pages : List (List ℕ)) (visited : List Bool) (s : Slot) (q : ℕ) (es : List Entry) (parent : ℕ → ℕ) (linked : Linked L pages visited ((s, q) ∷ es) parent)
+module _ (L : Layout) (pages : List (List ℕ)) (visited : List Bool) (s : Slot) (q : ℕ) (es : List Entry)
+    (parent : ℕ → ℕ) (linked : Linked L pages visited ((s, q) ∷ es) parent)
     (unseen : get_or visited s.page false ≡ false) (filled : Fills L (length pages) s (page_at pages s.page)) where
   inside : s.page < length visited
   inside = let range = linked.on_page (s, q) (inl refl) in omega (arith, range, linked.flags)
@@ -73,8 +77,15 @@ module _ (L : Layout) (pages : List (List ℕ)) (visited : List Bool) (s : Slot)
         let no_zero : eqb s.level 0 ≡ false = ne_eqb s.level 0 (λ e. omega (arith, e, inner.0)) in
         let on' = rw no_zero at on in
         let node = inner.1.node in
-        let f = children_tell (pairs_of L (page_at pages s.page)) (s.level - 1) s.low s.high x (rw (← filled.low, ← filled.high) node.rises) on' in
-        (record { names = (node.tag, f.found); level = omega (arith, f.level_is, inner.0, filled.level); high = rw filled.high f.high_is }, inner.2 x.low x.page f.found)
+        let f = children_tell (pairs_of L (page_at pages s.page)) (s.level - 1) s.low s.high x
+        (rw (← filled.low, ← filled.high) node.rises) on' in (
+          record {
+            names = (node.tag, f.found);
+            level = omega (arith, f.level_is, inner.0, filled.level);
+            high = rw filled.high f.high_is;
+          },
+          inner.2 x.low x.page f.found,
+        )
   ]
 
   -- a child's slot is one below the page
@@ -86,8 +97,14 @@ module _ (L : Layout) (pages : List (List ℕ)) (visited : List Bool) (s : Slot)
         let node = inner.1.node in
         let level : x.level ≡ s.level - 1 = omega (arith, child.level, filled.level) in
         let high = rw filled.high at child.high in
-        let same : x ≡ record { page = x.page; level = s.level - 1; low = x.low; high = next_key (pairs_of L (page_at pages s.page)) s.high x.low } = λ i. record { page = x.page; level = level i; low = x.low; high = high i } in
-        rw no_zero (rw same (children_from (pairs_of L (page_at pages s.page)) (s.level - 1) s.low s.high x.low x.page (rw (← filled.low, ← filled.high) node.rises) child.names.1))
+        let same : x ≡ record {
+          page = x.page;
+          level = s.level - 1;
+          low = x.low;
+          high = next_key (pairs_of L (page_at pages s.page)) s.high x.low;
+        } = λ i. record { page = x.page; level = level i; low = x.low; high = high i } in
+        rw no_zero (rw same (children_from (pairs_of L (page_at pages s.page)) (s.level - 1) s.low s.high x.low x.page
+        (rw (← filled.low, ← filled.high) node.rises) child.names.1))
   ]
 
   named_still : (q' : ℕ) (x : Slot) → NamedBy L pages visited q' x → NamedBy L pages (set visited s.page true) q' x
@@ -101,7 +118,8 @@ module _ (L : Layout) (pages : List (List ℕ)) (visited : List Bool) (s : Slot)
   parent_other x other = grind (arith, nat_tests, other)
 
   -- a visit of the page keeps the links
-  pub linked_step : Linked L pages (set visited s.page true) (from_page s.page (slots_below L s (page_at pages s.page)) ++ es) (with_parent parent s.page q)
+  pub linked_step : Linked L pages (set visited s.page true)
+      (from_page s.page (slots_below L s (page_at pages s.page)) ++ es) (with_parent parent s.page q)
   linked_step = record {
     flags = length-set visited s.page true ∙ linked.flags;
     on_page = λ e on. elim (on_either e (from_page s.page (slots_below L s (page_at pages s.page))) es on) [
@@ -127,7 +145,10 @@ module _ (L : Layout) (pages : List (List ℕ)) (visited : List Bool) (s : Slot)
     named = stands;
   }
     where
-      stays : (q' : ℕ) (x : Slot) → NamedBy L pages visited q' x → On (x, q') (from_page s.page (slots_below L s (page_at pages s.page)) ++ es) ⊎ (Seen (set visited s.page true) x.page × (with_parent parent s.page q x.page ≡ q') × (slot_at L pages x.page ≡ x))
+      stays : (q' : ℕ) (x : Slot) → NamedBy L pages visited q' x
+          → On (x, q') (from_page s.page (slots_below L s (page_at pages s.page)) ++ es)
+          ⊎ (Seen (set visited s.page true) x.page × (with_parent parent s.page q x.page ≡ q')
+          × (slot_at L pages x.page ≡ x))
       stays q' x by = elim (linked.named q' x by) [
         | inl (inl here) ↦
             let slot : x ≡ s = ap (λ (e : Entry). e.0) here in
@@ -139,7 +160,10 @@ module _ (L : Layout) (pages : List (List ℕ)) (visited : List Bool) (s : Slot)
             inr (seen_still visited s.page inside x.page old.0, parent_other x.page other ∙ old.1, old.2)
       ]
 
-      stands : (q' : ℕ) (x : Slot) → NamedBy L pages (set visited s.page true) q' x → On (x, q') (from_page s.page (slots_below L s (page_at pages s.page)) ++ es) ⊎ (Seen (set visited s.page true) x.page × (with_parent parent s.page q x.page ≡ q') × (slot_at L pages x.page ≡ x))
+      stands : (q' : ℕ) (x : Slot) → NamedBy L pages (set visited s.page true) q' x
+          → On (x, q') (from_page s.page (slots_below L s (page_at pages s.page)) ++ es)
+          ⊎ (Seen (set visited s.page true) x.page × (with_parent parent s.page q x.page ≡ q')
+          × (slot_at L pages x.page ≡ x))
       stands q' x (inl root) = stays q' x (inl root)
       stands q' x (inr child) = elim (seen_either visited s.page inside q' child.0) [
         | inl same ↦ rw same (inl (on_left _ _ es (on_page x s.page _ (child_below x (rw same at child.1)))))

@@ -1,6 +1,7 @@
--- Two leaves beside each other under one parent become one: the left one takes over the pairs and the high fence of the right one, whose page is no node
+-- Two leaves beside each other under one parent become one: the left one takes over the pairs and the high fence of
+-- the right one, whose page is no node
 -- afterwards, and the parent names that page no more.
-use Rattle.std.proofs.Common.{[], ◌∷◌, ◌≡◌, ℕ, ◌<◌, ◌≤◌, ◌≢◌, inl, inr, ◌++◌, Some, refl, sym, ap, ◌∙◌, arith}
+use Rattle.std.proofs.Common.{[], ◌∷◌, ◌≡◌, ℕ, ◌<◌, ◌≢◌, inl, inr, ◌++◌, Some, refl, sym, ap, ◌∙◌, arith}
 use Rattle.std.proofs.lemmas.Bool.{cases_eq, cases_lt}
 use Rattle.std.proofs.lemmas.Bool.Decides.{nat_tests}
 use Rattle.vm_map.specs.Map.{Pairs, lookup_at, del_pair, Rises, next_key}
@@ -26,7 +27,8 @@ pub record IsMergeStep (old new : ℕ → Node) (q k p s r : ℕ) : Type 0 where
   pub others : (x : ℕ) → x ≢ q → x ≢ p → x ≢ r → new x ≡ old x
 
 -- what stands about two neighbours, whatever becomes of their parent
-module _ {end : ℕ} (old new : ℕ → Node) (root height q k p s r : ℕ) (tree : IsTreeOf end old root height) (named : Names old q k p) (named_right : Names old q s r)
+module _ {end : ℕ} (old new : ℕ → Node) (root height q k p s r : ℕ) (tree : IsTreeOf end old root height)
+    (named : Names old q k p) (named_right : Names old q s r)
     (next : next_key (old q).pairs (old q).high k ≡ s) (left_leaf : (old p).tag ≡ 2) (right_leaf : (old r).tag ≡ 2) where
   pub q_rises : Rises (old q).low (old q).high (old q).pairs
   q_rises = (tree.inner q named.0).rises
@@ -36,9 +38,6 @@ module _ {end : ℕ} (old new : ℕ → Node) (root height q k p s r : ℕ) (tre
 
   pub s_lt_high : s < (old q).high
   s_lt_high = found_high _ _ _ s r q_rises named_right.1
-
-  pub k_low : (old q).low ≤ k
-  k_low = found_low _ _ _ k p q_rises named.1
 
   pub p_low : (old p).low ≡ k
   p_low = tree.child_low q k p named
@@ -55,9 +54,6 @@ module _ {end : ℕ} (old new : ℕ → Node) (root height q k p s r : ℕ) (tre
   pub s_lt_r_high : s < (old r).high
   s_lt_r_high = omega (arith, r_high, next-above (old q).pairs (old q).high s s_lt_high)
 
-  pub q_ne_p : q ≢ p
-  q_ne_p same = omega (arith, named.0, left_leaf, ap (λ x. (old x).tag) same)
-
   pub q_ne_r : q ≢ r
   q_ne_r same = omega (arith, named.0, right_leaf, ap (λ x. (old x).tag) same)
 
@@ -71,17 +67,16 @@ module _ {end : ℕ} (old new : ℕ → Node) (root height q k p s r : ℕ) (tre
   r_rises = rw r_low at (tree.leaf r right_leaf).rises
 
   pub joined_rises : Rises (old p).low (old r).high ((old p).pairs ++ (old r).pairs)
-  joined_rises = Rises-join (old p).pairs (old r).pairs (old p).low s (old r).high p_rises (omega (arith, p_low, k_lt_s)) r_rises (omega (arith, s_lt_r_high))
+  joined_rises = Rises-join (old p).pairs (old r).pairs (old p).low s (old r).high p_rises
+      (omega (arith, p_low, k_lt_s)) r_rises (omega (arith, s_lt_r_high))
 
   pub joined : IsLeafNode (record (old p) { high = (old r).high; pairs = (old p).pairs ++ (old r).pairs })
   joined = record { tag = left_leaf; level = (tree.leaf p left_leaf).level; rises = joined_rises }
 
-module _ {end : ℕ} (old new : ℕ → Node) (root height q k p s r : ℕ) (tree : IsTreeOf end old root height) (step : IsMergeStep old new q k p s r) where
+module _ {end : ℕ} (old new : ℕ → Node) (root height q k p s r : ℕ) (tree : IsTreeOf end old root height)
+    (step : IsMergeStep old new q k p s r) where
   lt : k < s
   lt = k_lt_s old new root height q k p s r tree step.named step.named_right step.next step.left_leaf step.right_leaf
-
-  q_p : q ≢ p
-  q_p = q_ne_p old new root height q k p s r tree step.named step.named_right step.next step.left_leaf step.right_leaf
 
   q_r : q ≢ r
   q_r = q_ne_r old new root height q k p s r tree step.named step.named_right step.next step.left_leaf step.right_leaf
@@ -158,10 +153,18 @@ module _ {end : ℕ} (old new : ℕ → Node) (root height q k p s r : ℕ) (tre
   ]
 
   -- the next key after a pair of the parent that is not the left leaf's
-  next_else : (x c : ℕ) → Names old q x c → x ≢ k → next_key (del_pair (old q).pairs s) (old q).high x ≡ next_key (old q).pairs (old q).high x
+  next_else : (x c : ℕ) → Names old q x c → x ≢ k → next_key (del_pair (old q).pairs s) (old q).high x ≡ next_key
+      (old q).pairs (old q).high x
   next_else x c n ne = next-del_other (old q).pairs (old q).high s x (λ is. elim (cases_lt x k) [
     | inl below ↦ omega (arith, is, lt, next-le_found (old q).pairs _ _ x k p rises step.named.1 below)
-    | inr from ↦ omega (arith, is, step.next, next-above (old q).pairs (old q).high x (found_high _ _ _ x c rises n.1), next-le_found (old q).pairs _ _ k x c rises n.1 (omega arith))
+    | inr from ↦ omega (
+      arith,
+      is,
+      step.next,
+      next-above (old q).pairs (old q).high x
+          (found_high _ _ _ x c rises n.1),
+      next-le_found (old q).pairs _ _ k x c rises n.1 (omega arith),
+    )
   ])
 
   child_high : (u x c : ℕ) → Names new u x c → (new c).high ≡ next_key (new u).pairs (new u).high x
@@ -173,12 +176,15 @@ module _ {end : ℕ} (old new : ℕ → Node) (root height q k p s r : ℕ) (tre
             elim (cases_eq c p) [
               | inl same ↦
                   let x_is : x ≡ k = sym (tree.child_low q x p (rw same at n_q)) ∙ tree.child_low q k p step.named in
-                  rw (e, same, x_is) (rw (step.left, step.parent) (tree.child_high q s r step.named_right ∙ sym (next-del_same (old q).pairs _ _ s k rises lt step.next)))
+                  rw (e, same, x_is) (rw (step.left, step.parent)
+                  (tree.child_high q s r step.named_right
+                  ∙ sym (next-del_same (old q).pairs _ _ s k rises lt step.next)))
               | inr np ↦
                   let off : x ≢ k = λ same. np (grind (arith, n_q.1, step.named.1, same)) in
                   rw e (rw step.parent (same_high c ne np ∙ tree.child_high q x c n_q ∙ sym (next_else x c n_q off)))
             ]
-        | inr nq ↦ same_high c ne (by_q u x c n_old nq).0 ∙ tree.child_high u x c n_old ∙ ap (λ (y : Node). next_key y.pairs y.high x) (sym (other u x c n_old nq))
+        | inr nq ↦ same_high c ne (by_q u x c n_old nq).0 ∙ tree.child_high u x c n_old
+            ∙ ap (λ (y : Node). next_key y.pairs y.high x) (sym (other u x c n_old nq))
       ]
 
   root_ne : root ≢ r
@@ -193,7 +199,8 @@ module _ {end : ℕ} (old new : ℕ → Node) (root height q k p s r : ℕ) (tre
     root_low = same_low root root_ne ∙ tree.root_low;
     root_high = same_high root root_ne (λ e. tree.unnamed q k (rw (← e) at step.named)) ∙ tree.root_high;
     child_is = λ u x c n. let (n_old, ne) = names_back u x c n in node_same c ne (tree.child_is u x c n_old);
-    child_level = λ u x c n. let (n_old, ne) = names_back u x c n in omega (arith, same_level c ne, tree.child_level u x c n_old, same_level u (u_ne u n_old.0));
+    child_level = λ u x c n. let (n_old, ne) = names_back u x c n in
+        omega (arith, same_level c ne, tree.child_level u x c n_old, same_level u (u_ne u n_old.0));
     child_low = λ u x c n. let (n_old, ne) = names_back u x c n in same_low c ne ∙ tree.child_low u x c n_old;
     child_high = child_high;
     once = λ u u' x x' c n n'. tree.once u u' x x' c (names_back u x c n).0 (names_back u' x' c n').0;
@@ -211,7 +218,9 @@ module _ {end : ℕ} (old new : ℕ → Node) (root height q k p s r : ℕ) (tre
       leaf x tag = elim (cases_eq x q) [
         | inl e ↦ absurd (omega (arith, step.named.0, same_tag q q_r, ap (λ y. (new y).tag) e, tag))
         | inr nq ↦ elim (cases_eq x p) [
-          | inl e ↦ rw e (rw step.left (joined old new root height q k p s r tree step.named step.named_right step.next step.left_leaf step.right_leaf))
+          | inl e ↦ rw e (rw step.left
+              (joined old new root height q k p s r tree step.named step.named_right step.next step.left_leaf
+              step.right_leaf))
           | inr np ↦ elim (cases_eq x r) [
             | inl e ↦ absurd (omega (arith, step.right, tag, ap (λ y. (new y).tag) e))
             | inr nr ↦ rw (step.others x nq np nr) (tree.leaf x (rw (step.others x nq np nr) at tag))
@@ -225,7 +234,8 @@ module _ {end : ℕ} (old new : ℕ → Node) (root height q k p s r : ℕ) (tre
           tag = step.named.0;
           level = (tree.inner q step.named.0).level;
           rises = Rises-del (old q).pairs _ _ s rises;
-          starts = StartsAt-del (old q).pairs _ s (tree.inner q step.named.0).starts (omega (arith, lt, found_low _ _ _ k p rises step.named.1));
+          starts = StartsAt-del (old q).pairs _ s (tree.inner q step.named.0).starts
+              (omega (arith, lt, found_low _ _ _ k p rises step.named.1));
         }))
         | inr nq ↦ elim (cases_eq x p) [
           | inl e ↦ absurd (omega (arith, step.left_leaf, same_tag p p_r, tag, ap (λ y. (new y).tag) e))

@@ -1,5 +1,6 @@
 -- How many nodes pages can have: each has a page of its own, behind page 0 and before the pages that are free to the end.
-use Rattle.std.proofs.Common.{◌≡◌, ℕ, zero, suc, ◌+◌, ◌<◌, ◌≤◌, ◌==◌, ◌||◌, inl, inr, List, [], ◌∷◌, length, Bool, true, false, if◌then◌else◌, arith}
+use Rattle.std.proofs.Common.{◌≡◌, ℕ, zero, suc, ◌+◌, ◌<◌, ◌≤◌, ◌==◌, inl, inr, List, [], ◌∷◌, length, Bool, true}
+use Rattle.std.proofs.Common.{false, if◌then◌else◌, arith}
 use Rattle.std.proofs.lemmas.Bool.{cases_Bool, cases_lt, eqb-true, or_cases}
 use Rattle.std.proofs.lemmas.List.Sums.{sum_by-cons}
 use Rattle.vm_tree_model.specs.Layout.{Layout, IsLayout}
@@ -27,7 +28,8 @@ module _ (L : Layout) where
   one false = omega arith
 
   -- no page from the next one on is a node
-  up_to : (pages : List (List ℕ)) (next : ℕ) → ((p : ℕ) → next ≤ p → p < length pages → is_node L (page_at pages p) ≡ false) → node_count L pages ≤ next
+  up_to : (pages : List (List ℕ)) (next : ℕ)
+      → ((p : ℕ) → next ≤ p → p < length pages → is_node L (page_at pages p) ≡ false) → node_count L pages ≤ next
   up_to [] next none = omega arith
   up_to (w ∷ ws) zero none =
       let rest : node_count L ws ≤ 0 = up_to ws zero (λ p ge lt. none (suc p) (omega arith) (omega (arith, lt))) in
@@ -37,7 +39,8 @@ module _ (L : Layout) where
       rw (sum_by-cons (λ (w : List ℕ). if is_node L w then 1 else 0) w ws) (omega (arith, rest, one (is_node L w)))
 
   -- nor is page 0
-  behind_first : (pages : List (List ℕ)) (next : ℕ) → 1 ≤ next → is_node L (page_at pages 0) ≡ false → ((p : ℕ) → next ≤ p → p < length pages → is_node L (page_at pages p) ≡ false) → node_count L pages + 1 ≤ next
+  behind_first : (pages : List (List ℕ)) (next : ℕ) → 1 ≤ next → is_node L (page_at pages 0) ≡ false
+      → ((p : ℕ) → next ≤ p → p < length pages → is_node L (page_at pages p) ≡ false) → node_count L pages + 1 ≤ next
   behind_first [] next some meta none = omega (arith, some)
   behind_first (w ∷ ws) zero some meta none = absurd (omega (arith, some))
   behind_first (w ∷ ws) (suc next) some meta none =
@@ -45,7 +48,8 @@ module _ (L : Layout) where
       rw (sum_by-cons (λ (w : List ℕ). if is_node L w then 1 else 0) w ws, meta) (omega (arith, rest))
 
 module _ (L : Layout) (laws : IsLayout L) (pages : List (List ℕ)) (tree : IsTree L pages) where
-  -- where the pages from the next one on are free, the nodes are fewer than the next page's number: the root is one, so some page is in use behind page 0
+  -- where the pages from the next one on are free, the nodes are fewer than the next page's number: the root is one,
+  -- so some page is in use behind page 0
   pub nodes_below : (next : ℕ) → ((p : ℕ) → next ≤ p → p < length pages → IsFree L (page_at pages p)) → node_count L pages + 1 ≤ next
   nodes_below next free = behind_first L pages next some (no_node L (page_at pages 0) (laws.meta_tag _ tree.meta.magic)) none
     where

@@ -1,5 +1,6 @@
 -- A split of the root: page 0, the old root, its right sibling and the new root change together.
-use Rattle.std.proofs.Common.{◌≡◌, ℕ, ◌+◌, ◌≤◌, ◌≢◌, List, [], ◌∷◌, length, get_or, eqb, if◌then◌else◌, Bool, true, false, refl, subst, arith}
+use Rattle.std.proofs.Common.{◌≡◌, ℕ, ◌+◌, ◌≤◌, ◌≢◌, List, [], ◌∷◌, length, get_or, eqb, if◌then◌else◌, Bool, true}
+use Rattle.std.proofs.Common.{false, refl, subst, arith}
 use Rattle.std.proofs.lemmas.Bool.Decides.{nat_tests}
 use Rattle.vm_tree_model.specs.Layout.{Layout, IsLayout}
 use Rattle.vm_map.specs.Map.{Pairs}
@@ -57,7 +58,8 @@ pub record IsRootSplit (L : Layout) (old new : List (List ℕ)) (s r sep : ℕ) 
   pub step : IsSplitStep (with_top L old new s) (node_at L new) s 0 (root_page old) r sep a b
   pub others : (x : ℕ) → 1 ≤ x → x ≢ s → x ≢ root_page old → x ≢ r → page_at new x ≡ page_at old x
 
-module _ (L : Layout) (laws : IsLayout L) (old new : List (List ℕ)) (s r sep : ℕ) (a b : Pairs) (tree : IsTree L old) (split : IsRootSplit L old new s r sep a b) where
+module _ (L : Layout) (laws : IsLayout L) (old new : List (List ℕ)) (s r sep : ℕ) (a b : Pairs) (tree : IsTree L old)
+    (split : IsRootSplit L old new s r sep a b) where
   -- the old nodes with the new root, page 0 as it was
   abbrev over : ℕ → Node
   over x = if eqb x s then (top_over L) old else (node_at L) old x
@@ -81,9 +83,13 @@ module _ (L : Layout) (laws : IsLayout L) (old new : List (List ℕ)) (s r sep :
   with_top_tree : IsTreeOf L.key_end (with_top L old new s) s (height_word old + 1)
   with_top_tree = same_tree over (with_top L old new s) s (height_word old + 1) grown
       (λ x is. go x (eqb x s) (eqb x 0) refl (λ z. old_zero (subst IsNode over_zero (subst (λ y. IsNode (over y)) z is))))
-      (λ x is. go x (eqb x s) (eqb x 0) refl (λ z. new_zero (subst IsNode (with_top-zero L old new s split.top_page) (subst (λ y. IsNode (with_top L old new s y)) z is))))
+      (λ x is. go x (eqb x s) (eqb x 0) refl
+      (λ z. new_zero (subst IsNode (with_top-zero L old new s split.top_page)
+      (subst (λ y. IsNode (with_top L old new s y)) z is))))
     where
-      go : (x : ℕ) (top zero_page : Bool) → eqb x 0 ≡ zero_page → (x ≡ 0 → ⊥) → (if top then (top_over L) old else (if zero_page then (node_at L) new 0 else (node_at L) old x)) ≡ (if top then (top_over L) old else (node_at L) old x)
+      go : (x : ℕ) (top zero_page : Bool) → eqb x 0 ≡ zero_page → (x ≡ 0 → ⊥)
+          → (if top then (top_over L) old else (if zero_page then (node_at L) new 0 else (node_at L) old x))
+          ≡ (if top then (top_over L) old else (node_at L) old x)
       go x true z test none = refl
       go x false true test none = absurd (none (test_same x 0 test))
       go x false false test none = refl

@@ -2,7 +2,8 @@
 use Rattle.std.proofs.Common.{◌≡◌, ℕ, arith}
 use Rattle.vm_tree_model.specs.Node.{Node, IsNode, Names, IsTreeOf}
 
-module _ {end : ℕ} (old new : ℕ → Node) (root height : ℕ) (tree : IsTreeOf end old root height) (to : (x : ℕ) → IsNode (old x) → new x ≡ old x) (from : (x : ℕ) → IsNode (new x) → new x ≡ old x) where
+module _ {end : ℕ} (old new : ℕ → Node) (root height : ℕ) (tree : IsTreeOf end old root height)
+    (to : (x : ℕ) → IsNode (old x) → new x ≡ old x) (from : (x : ℕ) → IsNode (new x) → new x ≡ old x) where
   of_leaf : (x : ℕ) → (new x).tag ≡ 2 → new x ≡ old x
   of_leaf x tag = from x (omega (arith, tag), omega (arith, tag))
 

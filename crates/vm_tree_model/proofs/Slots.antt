@@ -92,18 +92,25 @@ children_tell (e ∷ es) level low high s r (inr there) =
       high_is = grind (arith, nat_tests, above, f.high_is);
     }
 
-pub children_from : (m : Pairs) (level low high k c : ℕ) → Rises low high m → lookup_at m k ≡ Some c → On (record { page = c; level = level; low = k; high = next_key m high k }) (children level m high)
+pub children_from : (m : Pairs) (level low high k c : ℕ) → Rises low high m → lookup_at m k ≡ Some c
+    → On (record { page = c; level = level; low = k; high = next_key m high k }) (children level m high)
 children_from [] level low high k c r found = absurd (cc)
 children_from (e ∷ es) level low high k c r found = elim (cases_eq k e.0) [
   | inl same ↦
       let page : c ≡ e.1 = grind (arith, nat_tests, same, found) in
-      let next : next_key (e ∷ es) high k ≡ first_key es high = (let rest = next-first es e.0 high r.2 in grind (arith, nat_tests, same, rest)) in
+      let next : next_key (e ∷ es) high k ≡ first_key es high =
+      (let rest = next-first es e.0 high r.2 in grind (arith, nat_tests, same, rest)) in
       inl (λ i. record { page = page i; level = level; low = same i; high = next i })
   | inr other ↦
       let rest : lookup_at es k ≡ Some c = grind (arith, nat_tests, other, found) in
       let above = found_low es (e.0 + 1) high k c r.2 rest in
       let next : next_key es high k ≡ next_key (e ∷ es) high k = grind (arith, nat_tests, above) in
-      inr (subst (λ h. On (record { page = c; level = level; low = k; high = h }) (children level es high)) next (children_from es level (e.0 + 1) high k c r.2 rest))
+      inr (subst (λ h. On (record {
+        page = c;
+        level = level;
+        low = k;
+        high = h;
+      }) (children level es high)) next (children_from es level (e.0 + 1) high k c r.2 rest))
 ]
 
 -- the slots stand side by side, from one key up to the end of the whole range
@@ -115,7 +122,8 @@ pub tiles_le : (end from : ℕ) (ss : List Slot) → Tiles end from ss → from 
 tiles_le end from [] t = omega arith
 tiles_le end from (s ∷ ss) t = let rest = tiles_le end s.high ss t.2 in let low = t.0 in let lt = t.1 in omega (arith, rest, low, lt)
 
-pub tiles_children : (end : ℕ) (m : Pairs) (level low high : ℕ) (ss : List Slot) → Rises low high m → StartsAt low m → Tiles end high ss → Tiles end low (children level m high ++ ss)
+pub tiles_children : (end : ℕ) (m : Pairs) (level low high : ℕ) (ss : List Slot) → Rises low high m → StartsAt low m
+    → Tiles end high ss → Tiles end low (children level m high ++ ss)
 tiles_children end [] level low high ss r starts t = absurd starts
 tiles_children end (e ∷ []) level low high ss r starts t = (starts, r.1, t)
 tiles_children end (e ∷ f ∷ fs) level low high ss r starts t =

@@ -1,9 +1,12 @@
 -- A split below the root: the node keeps its lower half, the right sibling stands on a free page, and the parent names it.
-use Rattle.std.proofs.Common.{◌≡◌, ℕ, ◌+◌, ◌<◌, ◌≤◌, ◌≢◌, ◌⊎◌, inl, inr, [], ◌∷◌, ◌++◌, length, Some, refl, sym, ap, ◌∙◌, subst, arith}
+use Rattle.std.proofs.Common.{◌≡◌, ℕ, ◌<◌, ◌≤◌, ◌≢◌, ◌⊎◌, inl, inr, [], ◌∷◌, ◌++◌, length, Some, refl, sym, ap, ◌∙◌, subst, arith}
 use Rattle.std.proofs.lemmas.Bool.{cases_eq, cases_lt}
 use Rattle.vm_map.specs.Map.{Pairs, lookup_at, put_pair, Rises, StartsAt, next_key}
 use Rattle.vm_tree_model.specs.Node.{Node, IsLeafNode, IsInnerNode, IsNode, Names, IsTreeOf}
-use Rattle.vm_map.proofs.MapLemmas.{found_low, found_high, lookup-put_same, lookup-put_other, Rises-put, Rises-append, lookup-cut_below, lookup-cut_above, next-cut_below, next-cut_above, next-put_from, next-put_below, next-between, next-le_found, next-le_high, StartsAt-put, StartsAt-append}
+use Rattle.vm_map.proofs.MapLemmas.{found_low, found_high, lookup-put_same, lookup-put_other, Rises-put, Rises-append}
+use Rattle.vm_map.proofs.MapLemmas.{lookup-cut_below, lookup-cut_above, next-cut_below, next-cut_above, next-put_from}
+use Rattle.vm_map.proofs.MapLemmas.{next-put_below, next-between, next-le_found, next-le_high, StartsAt-put}
+use Rattle.vm_map.proofs.MapLemmas.{StartsAt-append}
 
 -- Node p, which q names at k, is split: b goes to page r, whose first key is sep
 pub record IsSplitStep (old new : ℕ → Node) (q k p r sep : ℕ) (a b : Pairs) : Type 0 where
@@ -17,7 +20,8 @@ pub record IsSplitStep (old new : ℕ → Node) (q k p r sep : ℕ) (a b : Pairs
   pub right : new r ≡ record (old p) { low = sep; pairs = b }
   pub others : (x : ℕ) → x ≢ q → x ≢ p → x ≢ r → new x ≡ old x
 
-module _ {end : ℕ} (old new : ℕ → Node) (root height q k p r sep : ℕ) (a b : Pairs) (tree : IsTreeOf end old root height) (step : IsSplitStep old new q k p r sep a b) where
+module _ {end : ℕ} (old new : ℕ → Node) (root height q k p r sep : ℕ) (a b : Pairs)
+    (tree : IsTreeOf end old root height) (step : IsSplitStep old new q k p r sep a b) where
   pub q_tag : (old q).tag ≡ 3
   q_tag = step.named.0
 
@@ -73,7 +77,15 @@ module _ {end : ℕ} (old new : ℕ → Node) (root height q k p r sep : ℕ) (a
 
   -- the parent had no pair of the separator
   sep_new : (c : ℕ) → Names old q sep c → ⊥
-  sep_new c n = omega (arith, k_is, low_lt_sep, sep_lt_high, p_high, next-le_found (old q).pairs (old q).low (old q).high k sep c q_rises n.1 (omega (arith, k_is, low_lt_sep)))
+  sep_new c n = omega (
+    arith,
+    k_is,
+    low_lt_sep,
+    sep_lt_high,
+    p_high,
+    next-le_found (old q).pairs (old q).low
+        (old q).high k sep c q_rises n.1 (omega (arith, k_is, low_lt_sep)),
+  )
 
   -- what stays of each node but r
   pub same_tag : (x : ℕ) → x ≢ r → (new x).tag ≡ (old x).tag
@@ -186,13 +198,27 @@ module _ {end : ℕ} (old new : ℕ → Node) (root height q k p r sep : ℕ) (a
   origin_level o u x tag (inr moved) = rw moved.0 (rw moved.1 (rw step.right refl))
 
   -- the next key after a pair of the parent that is not the split child's
-  next_parent : (x c : ℕ) → Names old q x c → x ≢ k → next_key (put_pair (old q).pairs sep r) (old q).high x ≡ next_key (old q).pairs (old q).high x
+  next_parent : (x c : ℕ) → Names old q x c → x ≢ k → next_key (put_pair (old q).pairs sep r) (old q).high
+      x ≡ next_key (old q).pairs (old q).high x
   next_parent x c n ne = elim (cases_lt x sep) [
     | inl below ↦
         let put = next-put_below (old q).pairs (old q).high sep r x below (omega (arith, sep_lt_high, q_high_le)) in
         elim (cases_lt x k) [
-          | inl lt ↦ omega (arith, put, k_is, low_lt_sep, next-le_found (old q).pairs (old q).low (old q).high x k p q_rises step.named.1 lt)
-          | inr ge ↦ absurd (omega (arith, p_high, sep_lt_high, next-le_found (old q).pairs (old q).low (old q).high k x c q_rises n.1 (omega arith)))
+          | inl lt ↦ omega (
+            arith,
+            put,
+            k_is,
+            low_lt_sep,
+            next-le_found (old q).pairs (old q).low (old q).high x k p
+                q_rises step.named.1 lt,
+          )
+          | inr ge ↦ absurd (omega (
+            arith,
+            p_high,
+            sep_lt_high,
+            next-le_found (old q).pairs (old q).low (old q).high k
+                x c q_rises n.1 (omega arith),
+          ))
         ]
     | inr from ↦ next-put_from (old q).pairs (old q).high sep r x from
   ]
@@ -201,8 +227,11 @@ module _ {end : ℕ} (old new : ℕ → Node) (root height q k p r sep : ℕ) (a
   at_q o u x oq (inl same) = same.0 ∙ oq
   at_q o u x oq (inr moved) = absurd (q_ne_p (sym oq ∙ moved.1))
 
-  next_same : (o u x c : ℕ) → Names old o x c → c ≢ p → Origin o u x → next_key (old o).pairs (old o).high x ≡ next_key (new u).pairs (new u).high x
-  next_same o u x c n np (inr moved) = rw moved.0 (rw moved.1 (rw step.right (rw step.halves (next-cut_above a b _ sep _ x p_rises step.starts moved.2))))
+  next_same : (o u x c : ℕ) → Names old o x c → c ≢ p → Origin o u x
+      → next_key (old o).pairs (old o).high x ≡ next_key (new u).pairs (new u).high x
+  next_same o u x c n np (inr moved) =
+      rw moved.0 (rw moved.1 (rw step.right
+      (rw step.halves (next-cut_above a b _ sep _ x p_rises step.starts moved.2))))
   next_same o u x c n np (inl same) = rw same.0 (elim (cases_eq o p) [
     | inl e ↦ rw e (rw step.left (rw step.halves (next-cut_below a b sep (old p).high x step.starts (same.1 e))))
     | inr nop ↦ elim (cases_eq o q) [
@@ -222,7 +251,8 @@ module _ {end : ℕ} (old new : ℕ → Node) (root height q k p r sep : ℕ) (a
         let oq : o ≡ q = tree.once o q x k p n_p step.named in
         let xk : x ≡ k = sym (tree.child_low o x p n_p) ∙ k_is in
         let uq : u ≡ q = at_q o u x oq origin in
-        let put = next-put_below (old q).pairs (old q).high sep r k (omega (arith, k_is, low_lt_sep)) (omega (arith, sep_lt_high, q_high_le)) in
+        let put = next-put_below (old q).pairs (old q).high sep r k (omega (arith, k_is, low_lt_sep))
+        (omega (arith, sep_lt_high, q_high_le)) in
         rw e (rw uq (rw xk (rw step.left (rw step.parent (omega (arith, put, p_high, sep_lt_high))))))
     | inr np ↦ same_high c ne np ∙ tree.child_high o x c n_old ∙ next_same o u x c n_old np origin
   ]
@@ -232,7 +262,8 @@ module _ {end : ℕ} (old new : ℕ → Node) (root height q k p r sep : ℕ) (a
     | inl e ↦
         let (uq, xs) = names_r u x (rw e at n) in
         let next = next-put_from (old q).pairs (old q).high sep r sep (omega arith) in
-        let between = next-between (old q).pairs (old q).high k sep (omega (arith, k_is, low_lt_sep)) (omega (arith, p_high, sep_lt_high)) in
+        let between = next-between (old q).pairs (old q).high k sep (omega (arith, k_is, low_lt_sep))
+        (omega (arith, p_high, sep_lt_high)) in
         rw e (rw uq (rw xs (rw step.right (rw step.parent (p_high ∙ sym between ∙ sym next)))))
     | inr ne ↦ let (o, n_old, origin) = names_back u x c n ne in high_old o u x c n_old origin ne
   ]
@@ -257,7 +288,8 @@ module _ {end : ℕ} (old new : ℕ → Node) (root height q k p r sep : ℕ) (a
     ];
     child_level = λ u x c n. elim (cases_eq c r) [
       | inl e ↦ let (uq, xs) = names_r u x (rw e at n) in rw e (rw uq (rw step.right (rw step.parent (tree.child_level q k p step.named))))
-      | inr ne ↦ let (o, n_old, origin) = names_back u x c n ne in omega (arith, same_level c ne, tree.child_level o x c n_old, origin_level o u x n_old.0 origin)
+      | inr ne ↦ let (o, n_old, origin) = names_back u x c n ne in
+          omega (arith, same_level c ne, tree.child_level o x c n_old, origin_level o u x n_old.0 origin)
     ];
     child_low = λ u x c n. elim (cases_eq c r) [
       | inl e ↦ let (uq, xs) = names_r u x (rw e at n) in rw e (rw step.right (sym xs))
@@ -305,7 +337,8 @@ module _ {end : ℕ} (old new : ℕ → Node) (root height q k p r sep : ℕ) (a
         | inl e ↦ rw e (rw step.parent (record {
           tag = q_tag;
           level = (tree.inner q q_tag).level;
-          rises = Rises-put (old q).pairs _ _ sep r q_rises (omega (arith, k_low, k_is, low_lt_sep)) (omega (arith, sep_lt_high, q_high_le));
+          rises = Rises-put (old q).pairs _ _ sep r q_rises (omega (arith, k_low, k_is, low_lt_sep))
+              (omega (arith, sep_lt_high, q_high_le));
           starts = StartsAt-put (old q).pairs _ sep r (tree.inner q q_tag).starts (omega (arith, k_low, k_is, low_lt_sep));
         }))
         | inr nq ↦ elim (cases_eq x p) [
@@ -318,7 +351,12 @@ module _ {end : ℕ} (old new : ℕ → Node) (root height q k p r sep : ℕ) (a
       ]
         where
           half_left : (old p).tag ≡ 3 → IsInnerNode (record (old p) { high = sep; pairs = a })
-          half_left t = record { tag = t; level = (tree.inner p t).level; rises = parts.0; starts = StartsAt-append a b _ (rw step.halves at (tree.inner p t).starts) step.left_some }
+          half_left t = record {
+            tag = t;
+            level = (tree.inner p t).level;
+            rises = parts.0;
+            starts = StartsAt-append a b _ (rw step.halves at (tree.inner p t).starts) step.left_some;
+          }
 
           half_right : (old p).tag ≡ 3 → IsInnerNode (record (old p) { low = sep; pairs = b })
           half_right t = record { tag = t; level = (tree.inner p t).level; rises = parts.1; starts = step.starts }

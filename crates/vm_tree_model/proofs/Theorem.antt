@@ -1,5 +1,6 @@
 -- The walk finds no reason exactly where the pages are a tree, and its rows are then the map.
-use Rattle.std.proofs.Common.{◌≡◌, ℕ, zero, suc, ◌↔◌, inl, inr, List, [], ◌∷◌, length, get_or, replicate, None, Ok, Err, false, refl, arith, ap, ◌∙◌}
+use Rattle.std.proofs.Common.{◌≡◌, ℕ, zero, suc, ◌↔◌, inl, inr, List, [], ◌∷◌, length, get_or, replicate, None, Ok}
+use Rattle.std.proofs.Common.{Err, false, refl, arith, ap, ◌∙◌}
 use Rattle.std.proofs.lemmas.List.{length-replicate}
 use Rattle.vm_tree_model.specs.Layout.{Layout, IsLayout}
 use Rattle.vm_map.specs.Map.{Pairs}
@@ -22,7 +23,8 @@ module _ (L : Layout) (laws : IsLayout L) (pages : List (List ℕ)) where
   none_seen : (p : ℕ) → Seen (replicate (length pages) false) p → ⊥
   none_seen p seen = let unseen = unseen_at_first (length pages) p in cc
 
-  linked_at_first : IsMeta L (length pages) (page_at pages 0) → Linked L pages (replicate (length pages) false) ((root_slot L (page_at pages 0), 0) ∷ []) (λ p. 0)
+  linked_at_first : IsMeta L (length pages) (page_at pages 0) → Linked L pages (replicate (length pages) false)
+      ((root_slot L (page_at pages 0), 0) ∷ []) (λ p. 0)
   linked_at_first meta = record {
     flags = length-replicate (length pages) false;
     on_page = λ e on. elim on [
@@ -54,14 +56,18 @@ module _ (L : Layout) (laws : IsLayout L) (pages : List (List ℕ)) where
   tree_from_walk out is =
       let (none, rest) = fault_or-Ok 0 (meta_fault L (length pages) (page_at pages 0)) _ out is in
       let meta = meta_tells L (length pages) (page_at pages 0) none in
-      let end = finished L laws pages (unseen_pages (replicate (length pages) false)) ((root_slot L (page_at pages 0), 0) ∷ []) (replicate (length pages) false) [] out (λ p. 0) 0 (linked_at_first meta) ordered_at_first rest in
+      let end = finished L laws pages (unseen_pages (replicate (length pages) false))
+      ((root_slot L (page_at pages 0), 0) ∷ []) (replicate (length pages) false) [] out (λ p. 0) 0
+      (linked_at_first meta) ordered_at_first rest in
       (is_tree L laws pages meta out end, rows_are L laws pages meta out end)
 
   pub walk_from_tree : IsTree L pages → walked L pages ≡ Ok (map_of L pages)
   walk_from_tree tree =
-      let (out, is) = completes L laws pages tree (unseen_pages (replicate (length pages) false)) ((root_slot L (page_at pages 0), 0) ∷ []) (replicate (length pages) false) [] (λ p. 0) 0
+      let (out, is) = completes L laws pages tree (unseen_pages (replicate (length pages) false))
+      ((root_slot L (page_at pages 0), 0) ∷ []) (replicate (length pages) false) [] (λ p. 0) 0
       (linked_at_first tree.meta) ordered_at_first (unseen_at_first (length pages) _, (λ x on. absurd on), tt) refl in
-      let whole : walked L pages ≡ Ok out = fault_or-None 0 (meta_fault L (length pages) (page_at pages 0)) _ (meta_passes L (length pages) (page_at pages 0) tree.meta (height_fits L laws pages tree)) ∙ is in
+      let whole : walked L pages ≡ Ok out = fault_or-None 0 (meta_fault L (length pages) (page_at pages 0)) _
+      (meta_passes L (length pages) (page_at pages 0) tree.meta (height_fits L laws pages tree)) ∙ is in
       whole ∙ ap (λ (m : Pairs). Ok m) (tree_from_walk out whole).1
 
   -- no reason is met exactly where the pages are a tree

@@ -1,5 +1,6 @@
 -- What the single tests of words and pairs say, each both ways.
-use Rattle.std.proofs.Common.{◌≡◌, ℕ, zero, suc, ◌+◌, ◌<◌, ◌≤◌, inl, inr, List, [], ◌∷◌, length, get_or, drop, replicate, Some, true, ◌&&◌, eqb, ltb, leb, ◌-◌, refl, arith, sym, ◌∙◌}
+use Rattle.std.proofs.Common.{◌≡◌, ℕ, zero, suc, ◌+◌, ◌<◌, ◌≤◌, inl, inr, List, [], ◌∷◌, length, get_or, drop}
+use Rattle.std.proofs.Common.{replicate, Some, true, ◌&&◌, eqb, ltb, leb, ◌-◌, refl, arith, sym, ◌∙◌}
 use Rattle.std.proofs.lemmas.Bool.{cases_eq, and_parts, and_from, eqb-true, eq-eqb, leb-true, ltb-true, lt-ltb, le-leb}
 use Rattle.std.proofs.lemmas.Bool.Decides.{nat_tests}
 use Rattle.std.proofs.lemmas.List.{get_or-drop, length-replicate}
@@ -19,17 +20,22 @@ all_zero-from [] each = refl
 all_zero-from (w ∷ ws) each = and_from (eqb w 0) (all_zero ws) (eq-eqb w 0 (each 0)) (all_zero-from ws (λ i. each (suc i)))
 
 pub zeros_past : (words : List ℕ) (n : ℕ) → all_zero (drop n words) ≡ true → (i : ℕ) → n ≤ i → get_or words i 0 ≡ 0
-zeros_past words n is i le = let at : n + (i - n) ≡ i = omega arith in rw (← at) (sym (get_or-drop n words (i - n) 0) ∙ all_zero-tells (drop n words) is (i - n))
+zeros_past words n is i le = let at : n + (i - n) ≡ i = omega arith in
+    rw (← at) (sym (get_or-drop n words (i - n) 0) ∙ all_zero-tells (drop n words) is (i - n))
 
 pub zeros_past-from : (words : List ℕ) (n : ℕ) → ((i : ℕ) → n ≤ i → get_or words i 0 ≡ 0) → all_zero (drop n words) ≡ true
 zeros_past-from words n each = all_zero-from (drop n words) (λ i. get_or-drop n words i 0 ∙ each (n + i) (omega arith))
 
 -- a page that passes the test is free
 pub is_free-tells : (L : Layout) (ws : List ℕ) → is_free L ws ≡ true → IsFree L ws
-is_free-tells L ws is = let (long, zeros) = and_parts (eqb (length ws) L.words) (all_zero ws) is in record { length = eqb-true (length ws) L.words long; zero = all_zero-tells ws zeros }
+is_free-tells L ws is = let (long, zeros) = and_parts (eqb (length ws) L.words) (all_zero ws) is in record {
+  length = eqb-true (length ws) L.words long;
+  zero = all_zero-tells ws zeros;
+}
 
 pub is_free-from : (L : Layout) (ws : List ℕ) → IsFree L ws → is_free L ws ≡ true
-is_free-from L ws free = and_from (eqb (length ws) L.words) (all_zero ws) (eq-eqb (length ws) L.words free.length) (all_zero-from ws free.zero)
+is_free-from L ws free = and_from (eqb (length ws) L.words) (all_zero ws) (eq-eqb (length ws) L.words free.length)
+    (all_zero-from ws free.zero)
 
 -- a page of zeros is free
 pub free_zeros : (L : Layout) → IsFree L (replicate L.words 0)
@@ -57,16 +63,20 @@ names_pages-tells (e ∷ es) pages is k c found =
     let (here, rest) = and_parts (leb 1 e.1 && ltb e.1 pages) (names_pages pages es) is in
     let (some, upto) = and_parts (leb 1 e.1) (ltb e.1 pages) here in
     elim (cases_eq k e.0) [
-      | inl same ↦ let at : Some e.1 ≡ Some c = grind (arith, nat_tests, found, same) in let value : e.1 ≡ c = cc in (omega (arith, leb-true 1 e.1 some), omega (arith, ltb-true e.1 pages upto))
+      | inl same ↦ let at : Some e.1 ≡ Some c = grind (arith, nat_tests, found, same) in let value : e.1 ≡ c = cc in
+          (omega (arith, leb-true 1 e.1 some), omega (arith, ltb-true e.1 pages upto))
       | inr other ↦ names_pages-tells es pages rest k c (grind (arith, nat_tests, found, other))
     ]
 
-pub names_pages-from : (m : Pairs) (low high pages : ℕ) → Rises low high m → ((k c : ℕ) → lookup_at m k ≡ Some c → (1 ≤ c) × (c < pages)) → names_pages pages m ≡ true
+pub names_pages-from : (m : Pairs) (low high pages : ℕ) → Rises low high m
+    → ((k c : ℕ) → lookup_at m k ≡ Some c → (1 ≤ c) × (c < pages)) → names_pages pages m ≡ true
 names_pages-from [] low high pages r each = refl
 names_pages-from (e ∷ es) low high pages r each =
     let here = each e.0 e.1 (grind (arith, nat_tests)) in
     and_from _ _ (and_from _ _ (le-leb 1 e.1 here.0) (lt-ltb e.1 pages here.1))
-    (names_pages-from es (e.0 + 1) high pages r.2 (λ k c found. each k c (let above = found_low es (e.0 + 1) high k c r.2 found in grind (arith, nat_tests, found, above))))
+    (names_pages-from es (e.0 + 1) high pages r.2
+    (λ k c found. each k c (let above = found_low es (e.0 + 1) high k c r.2 found in
+    grind (arith, nat_tests, found, above))))
 
 pub starts_tells : (m : Pairs) (low : ℕ) → starts_at low m ≡ true → StartsAt low m
 starts_tells [] low is = absurd (cc)

@@ -1,5 +1,6 @@
--- What an edit of one node does to its pairs and fences: a pair is added or taken out, a leaf gets other pairs, a node is split, a root grows.
-use Rattle.std.specs.Prelude.{◌≡◌, ℕ, ◌+◌, ◌<◌, List, [], ◌∷◌, take, drop, slice_index_or, Option, None}
+-- What an edit of one node does to its pairs and fences: a pair is added or taken out, a leaf gets other pairs, a
+-- node is split, a root grows.
+use Rattle.std.specs.Prelude.{◌≡◌, ℕ, ◌+◌, ◌<◌, List, [], ◌∷◌, slice_index_or, Option, None}
 use Rattle.std.specs.Option.{option_map}
 use Rattle.vm_map.specs.Map.{Pairs, lookup_at, put_pair, del_pair, Rises, floor_pair}
 use Rattle.vm_tree_model.specs.Layout.{Layout, IsClean, size, cut, left_part, right_part}

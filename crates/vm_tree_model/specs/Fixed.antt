@@ -1,5 +1,6 @@
 -- Nodes on pages of n words whose keys are words: a header of eight words, then a key and a value for each pair.
-use Rattle.std.specs.Prelude.{◌≡◌, ◌⊎◌, ℕ, ◌+◌, ◌-◌, ◌*◌, ◌/◌, ◌^◌, ◌<◌, ◌≤◌, ◌==◌, ◌||◌, ◌&&◌, nat_le, nat_lt, List, [], ◌∷◌, length, take, drop, min, slice_index, Bool, if◌then◌else◌}
+use Rattle.std.specs.Prelude.{ℕ, ◌+◌, ◌-◌, ◌*◌, ◌/◌, ◌==◌, ◌||◌, ◌&&◌, nat_le, nat_lt, List, [], ◌∷◌, length, take}
+use Rattle.std.specs.Prelude.{drop, min, slice_index, Bool, if◌then◌else◌}
 use Rattle.vm_map.specs.Keys.{KEY_END}
 use Rattle.vm_map.specs.Map.{Pairs}
 pub use Rattle.vm_page.specs.Pages.{all_zero}
@@ -29,19 +30,31 @@ abbrev pub high_of : List ℕ → ℕ
 high_of words = if slice_index words 4 == 0 then slice_index words 3 else KEY_END
 
 abbrev pub fixed_node : ℕ → List ℕ → Node
-fixed_node n words = record { tag = slice_index words 0; level = slice_index words 5; low = slice_index words 2; high = high_of words; pairs = fixed_pairs n words }
+fixed_node n words = record {
+  tag = slice_index words 0;
+  level = slice_index words 5;
+  low = slice_index words 2;
+  high = high_of words;
+  pairs = fixed_pairs n words;
+}
 
 -- n words, a count that fits, a high fence or none, and zeros where no word has a meaning
 abbrev pub fixed_is_clean : ℕ → List ℕ → Bool
-fixed_is_clean n words = length words == n && nat_le (slice_index words 1) (capacity n) && (slice_index words 4 == 0 && nat_lt (slice_index words 3) KEY_END || slice_index words 4 == 1 && slice_index words 3 == 0)
+fixed_is_clean n words = length words == n && nat_le (slice_index words 1)
+    (capacity n) && (slice_index words 4 == 0 && nat_lt (slice_index words 3) KEY_END || slice_index words 4 ==
+    1 && slice_index words 3 == 0)
     && slice_index words 6 == 0 && slice_index words 7 == 0 && all_zero (drop (8 + 2 * slice_index words 1) words)
 
 abbrev pub fixed_has_fences : ℕ → ℕ → List ℕ → Bool
-fixed_has_fences low high words = slice_index words 2 == low && (if high == KEY_END then slice_index words 3 == 0 && slice_index words 4 == 1 else slice_index words 3 == high && slice_index words 4 == 0)
+fixed_has_fences low high words =
+    slice_index words 2 == low && (if high == KEY_END then slice_index words 3 == 0 && slice_index words 4 == 1 else
+    slice_index words 3 == high && slice_index words 4 == 0)
 
 -- the page has n words, the number of pairs is in its range, the level is the slot's, and the words without a meaning are 0
 abbrev pub fixed_has_form : ℕ → ℕ → List ℕ → Bool
-fixed_has_form n level words = length words == n && (level == 0 || nat_le 1 (slice_index words 1)) && nat_le (slice_index words 1) (capacity n) && slice_index words 5 == level && slice_index words 6 == 0 && slice_index words 7 == 0 && all_zero (drop (8 + 2 * slice_index words 1) words)
+fixed_has_form n level words = length words == n && (level == 0 || nat_le 1 (slice_index words 1)) && nat_le
+    (slice_index words 1) (capacity n) && slice_index words 5 == level && slice_index words 6 == 0 && slice_index
+    words 7 == 0 && all_zero (drop (8 + 2 * slice_index words 1) words)
 
 -- the first word of page 0: "VMCACHE1" for 64 words, "VMCACHE2" for 512
 abbrev pub fixed_magic : ℕ → ℕ

@@ -1,6 +1,7 @@
 -- A layout: how the words of a page read as a node, and what a node weighs. Plain data, and what is asked of it.
-use Rattle.std.specs.Prelude.{◌≡◌, ◌⊎◌, ℕ, suc, ◌+◌, ◌-◌, ◌*◌, ◌<◌, ◌≤◌, ◌==◌, nat_le, List, [], ◌∷◌, length, take, drop, slice_index, slice_index_or, Bool, true, if◌then◌else◌}
-use Rattle.vm_map.specs.Map.{Pairs, Rises}
+use Rattle.std.specs.Prelude.{◌≡◌, ◌⊎◌, ℕ, suc, ◌+◌, ◌-◌, ◌*◌, ◌<◌, ◌≤◌, ◌==◌, nat_le, List, [], ◌∷◌, length, take}
+use Rattle.std.specs.Prelude.{drop, slice_index, Bool, true, if◌then◌else◌}
+use Rattle.vm_map.specs.Map.{Pairs}
 use Rattle.vm_tree_model.specs.Node.{Node, IsNode}
 
 -- Of pages of so many words, with this word 0 on page 0; every key is below `key_end`
@@ -84,10 +85,13 @@ pub record IsLayout (L : Layout) : Type 0 where
   pub clean_length : (w : List ℕ) → IsClean L w → length w ≡ L.words
   pub clean_high : (w : List ℕ) → IsClean L w → (L.node_of w).high ≤ L.key_end
   pub clean_fits : (w : List ℕ) → IsClean L w → size L (L.node_of w) ≤ L.room
-  -- words with the level's tag pass both tests where they are in their form, with this level and these fences, and have a pair above level 0
-  pub passes : (w : List ℕ) (level low high : ℕ) → (L.node_of w).tag ≡ (if level == 0 then 2 else 3) → IsClean L w → (L.node_of w).level ≡ level → (L.node_of w).low ≡ low → (L.node_of w).high ≡ high
+  -- words with the level's tag pass both tests where they are in their form, with this level and these fences, and
+  -- have a pair above level 0
+  pub passes : (w : List ℕ) (level low high : ℕ) → (L.node_of w).tag ≡ (if level == 0 then 2 else 3) → IsClean L w
+      → (L.node_of w).level ≡ level → (L.node_of w).low ≡ low → (L.node_of w).high ≡ high
       → (level ≡ 0) ⊎ (1 ≤ length (L.node_of w).pairs) → (L.has_fences low high w ≡ true) × (L.has_form level w ≡ true)
-  pub passed : (w : List ℕ) (level low high : ℕ) → high ≤ L.key_end → (L.node_of w).tag ≡ (if level == 0 then 2 else 3) → L.has_fences low high w ≡ true → L.has_form level w ≡ true
+  pub passed : (w : List ℕ) (level low high : ℕ) → high ≤ L.key_end
+      → (L.node_of w).tag ≡ (if level == 0 then 2 else 3) → L.has_fences low high w ≡ true → L.has_form level w ≡ true
       → IsClean L w × ((L.node_of w).level ≡ level) × ((L.node_of w).low ≡ low) × ((L.node_of w).high ≡ high)
   -- sizes and weights
   pub grows : (key : ℕ) → L.pair_size key ≤ L.growth

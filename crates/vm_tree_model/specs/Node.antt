@@ -2,7 +2,8 @@
 use Rattle.std.specs.Prelude.{◌≡◌, ℕ, ◌+◌, ◌<◌, ◌≤◌, Some}
 use Rattle.vm_map.specs.Map.{Pairs, lookup_at, Rises, StartsAt, next_key}
 
--- A page's tag (2 for a leaf, 3 for an inner node), level, fences and pairs. `high` is exclusive, and the end of all keys where there is no high fence
+-- A page's tag (2 for a leaf, 3 for an inner node), level, fences and pairs. `high` is exclusive, and the end of all
+-- keys where there is no high fence
 pub record Node : Type 0 where
   pub tag : ℕ
   pub level : ℕ
@@ -54,4 +55,5 @@ pub record IsTreeOf (end : ℕ) (node : ℕ → Node) (root height : ℕ) : Type
 -- each key lies in the fences of exactly one node of the level
 pub record IsPartedAt (end : ℕ) (node : ℕ → Node) (level : ℕ) : Type 0 where
   pub some : (key : ℕ) → key < end → (p : ℕ) × IsNode (node p) × ((node p).level ≡ level) × Covers (node p) key
-  pub one : (key p q : ℕ) → IsNode (node p) → (node p).level ≡ level → Covers (node p) key → IsNode (node q) → (node q).level ≡ level → Covers (node q) key → p ≡ q
+  pub one : (key p q : ℕ) → IsNode (node p) → (node p).level ≡ level → Covers (node p) key → IsNode (node q)
+      → (node q).level ≡ level → Covers (node q) key → p ≡ q

@@ -1,5 +1,7 @@
 -- The walk over the pages of an image, and the first reason why they are no tree.
-use Rattle.std.specs.Prelude.{ℕ, zero, suc, ◌+◌, List, [], ◌∷◌, ◌++◌, length, drop, set, replicate, slice_index, slice_index_or, Option, Some, None, Result, Ok, Err, Bool, true, false, not, ◌&&◌, if◌then◌else◌}
+use Rattle.std.specs.Prelude.{ℕ, zero, suc, ◌+◌, List, [], ◌∷◌, ◌++◌, length, drop, set, replicate, slice_index}
+use Rattle.std.specs.Prelude.{slice_index_or, Option, Some, None, Result, Ok, Err, Bool, true, false, not, ◌&&◌}
+use Rattle.std.specs.Prelude.{if◌then◌else◌}
 use Rattle.vm_map.specs.Map.{Pairs}
 use Rattle.vm_tree_model.specs.Layout.{Layout}
 use Rattle.vm_tree_model.specs.Tree.{page_at, leaf_part}
@@ -17,7 +19,8 @@ fault_or page (Some why) rest = Err (page, why)
 -- the first of the pages, numbered from p on, that the walk did not visit and that is not free
 abbrev pub first_lost : Layout → List (List ℕ) → List Bool → ℕ → Option ℕ
 first_lost L [] visited p = None
-first_lost L (w ∷ ws) visited p = if not (slice_index_or visited p false) && not (is_free L w) then Some p else first_lost L ws visited (p + 1)
+first_lost L (w ∷ ws) visited p =
+    if not (slice_index_or visited p false) && not (is_free L w) then Some p else first_lost L ws visited (p + 1)
 
 abbrev pub lost_or : Option ℕ → Walked → Walked
 lost_or None rest = rest
@@ -29,7 +32,8 @@ walk L pages left [] visited rows = lost_or (first_lost L (drop 1 pages) visited
 walk L pages zero (slot ∷ slots) visited rows = Err (slot.page, 3)
 walk L pages (suc left) (slot ∷ slots) visited rows =
     fault_or slot.page (slot_fault L (length pages) (slice_index_or visited slot.page false) slot (page_at pages slot.page))
-    (walk L pages left (slots_below L slot (page_at pages slot.page) ++ slots) (set visited slot.page true) (rows ++ leaf_part L (page_at pages slot.page)))
+    (walk L pages left (slots_below L slot (page_at pages slot.page) ++ slots) (set visited slot.page true)
+    (rows ++ leaf_part L (page_at pages slot.page)))
 
 -- the root's slot, by page 0
 abbrev pub root_slot : Layout → List ℕ → Slot

@@ -22,7 +22,8 @@ IsLeafAt L pages p = (1 ≤ p) × (p < length pages) × ((node_at L pages p).tag
 -- each key lies in the fences of exactly one leaf
 pub record IsParted (L : Layout) (pages : List (List ℕ)) : Type 0 where
   pub some : (key : ℕ) → key < L.key_end → (p : ℕ) × IsLeafAt L pages p × Covers (node_at L pages p) key
-  pub one : (key p q : ℕ) → IsLeafAt L pages p → Covers (node_at L pages p) key → IsLeafAt L pages q → Covers (node_at L pages q) key → p ≡ q
+  pub one : (key p q : ℕ) → IsLeafAt L pages p → Covers (node_at L pages p) key → IsLeafAt L pages q
+      → Covers (node_at L pages q) key → p ≡ q
 
 -- the page's pairs, if it is a leaf
 abbrev pub leaf_part : Layout → List ℕ → Pairs

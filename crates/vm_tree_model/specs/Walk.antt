@@ -1,5 +1,6 @@
 -- What the walk asks of one page.
-use Rattle.std.specs.Prelude.{ℕ, ◌+◌, ◌-◌, List, [], ◌∷◌, length, drop, slice_index, Option, Some, None, Bool, true, false, not, ◌&&◌, ◌||◌, ◌==◌, nat_le, nat_lt, if◌then◌else◌}
+use Rattle.std.specs.Prelude.{ℕ, ◌+◌, ◌-◌, List, [], ◌∷◌, length, drop, slice_index, Option, Some, None, Bool, true}
+use Rattle.std.specs.Prelude.{false, not, ◌&&◌, ◌||◌, ◌==◌, nat_le, nat_lt, if◌then◌else◌}
 use Rattle.vm_map.specs.Map.{Pairs}
 use Rattle.vm_tree_model.specs.Layout.{Layout}
 pub use Rattle.vm_tree_model.specs.Fixed.{all_zero}
@@ -76,4 +77,5 @@ slot_fault L pages visited slot words =
 abbrev pub meta_fault : Layout → ℕ → List ℕ → Option ℕ
 meta_fault L pages words =
     if not (slice_index words 0 == L.magic) then Some 1 else
-    (if not (length words == L.words && nat_le 1 (slice_index words 1) && nat_lt (slice_index words 1) pages && nat_le (slice_index words 2 + 2) pages && all_zero (drop 3 words)) then Some 2 else None)
+    (if not (length words == L.words && nat_le 1 (slice_index words 1) && nat_lt (slice_index words 1) pages && nat_le
+    (slice_index words 2 + 2) pages && all_zero (drop 3 words)) then Some 2 else None)

@@ -1,6 +1,6 @@
 -- The leaf's validation answers the call.
-use Rattle.std.proofs.Common.{[], ⊎_elim, ◌++◌, ◌+◌, ◌∙◌, ◌∷◌, ◌≡◌, ◌≢◌, ◌⊎◌, ap, append_assoc, arith, inl, inr, length, List, refl, slice_index, Some}
-use Rattle.std.proofs.Common.{subst, sym, true, ℕ}
+use Rattle.std.proofs.Common.{[], ⊎_elim, ◌++◌, ◌+◌, ◌∙◌, ◌∷◌, ◌≡◌, ◌≢◌, ◌⊎◌, ap, append_assoc, arith, inl, inr}
+use Rattle.std.proofs.Common.{length, List, refl, slice_index, Some, subst, sym, true, ℕ}
 use Rattle.vm_map.specs.{declared.call.Said.Said, Map.Rises}
 use Rattle.vm_tree_model.specs.{Layout.Layout, Node.Covers, Page.node_of, Page.pairs_of, Tree.map_of}
 use Rattle.vm_core.specs.Prelude.{LoadsAre, page_at, version_of}
@@ -10,7 +10,8 @@ use Rattle.vm_step.specs.declared.saw.Saw.{Saw}
 use Rattle.vm_guard.specs.declared.deny.Deny.TheVariants as denies
 use Rattle.vm_guard.specs.Denied.{AgainOrNeed, IsDenied, KeptWord}
 use Rattle.vm_guard.specs.Guards.{IsReading, IsValid, placed}
-use Rattle.vm_tree_laws.specs.{Descent.IsReached, History.IsLegal, May.IsProved, Plain.KeepsPlain, Plain.plain_history, Plain.ReadsPlain, Tied.Tied}
+use Rattle.vm_tree_laws.specs.{Descent.IsReached, History.IsLegal, May.IsProved, Plain.KeepsPlain}
+use Rattle.vm_tree_laws.specs.{Plain.plain_history, Plain.ReadsPlain, Tied.Tied}
 use Rattle.vm_tree_laws.proofs.Descents.{kind_by_level}
 use Rattle.vm_tree_rule.specs.{Leaves.ReadsOn, Seeks.HasLoaded, Shown.IsAgain, Turns.IsAstray, Turns.TellLeaf, Turns.TellNoLeaf}
 use Rattle.vm_node.specs.Loads.{IsPageWith}
@@ -21,21 +22,33 @@ use Rattle.vm_tree_rule.proofs.Readings.{each-loaded, leaves-self, loads-behind,
 use Rattle.vm_tree_read.specs.Reads.{IsAnswered, key_of, ProvesReply, TellReply}
 
 -- the words that a validation proves are a page that has what was loaded
-pub page-with : {S : Type 0} (L : Layout) (p : ℕ) (loaded : List (ℕ × ℕ)) (v : View S) (words : List ℕ) → HasLoaded v p loaded → length words ≡ L.words → LoadsAre words (loads_at v p) → IsPageWith L.words loaded words
-page-with L p loaded v words has size are = record { size = size; has = each-loaded words loaded (loads-behind words has.0 loaded (subst (LoadsAre words) has.1 are)) }
+pub page-with : {S : Type 0} (L : Layout) (p : ℕ) (loaded : List (ℕ × ℕ)) (v : View S) (words : List ℕ)
+    → HasLoaded v p loaded → length words ≡ L.words → LoadsAre words (loads_at v p) → IsPageWith L.words loaded words
+page-with L p loaded v words has size are = record {
+  size = size;
+  has = each-loaded words loaded (loads-behind words has.0 loaded (subst (LoadsAre words) has.1 are));
+}
 
 -- those of the page buffer, where that was read whole
-pub words-are : {S : Type 0} (L : Layout) (p : ℕ) (v : View S) (before : List (ℕ × ℕ)) (page words : List ℕ) → length page ≡ L.words → loads_at v p ≡ before ++ placed 0 page → length words ≡ L.words → LoadsAre words (loads_at v p) → words ≡ page
-words-are L p v before page words long loads size are = same-page words page long (page-with L p (placed 0 page) v words (before, loads) size are)
+pub words-are : {S : Type 0} (L : Layout) (p : ℕ) (v : View S) (before : List (ℕ × ℕ)) (page words : List ℕ)
+    → length page ≡ L.words → loads_at v p ≡ before ++ placed 0 page → length words ≡ L.words
+    → LoadsAre words (loads_at v p) → words ≡ page
+words-are L p v before page words long loads size are =
+    same-page words page long (page-with L p (placed 0 page) v words (before, loads) size are)
 
 module _ {S : Type 0} (plain : S → Said) (L : Layout) where
   -- so they prove what is said, where their keys rise
-  pub may-tell : (p : ℕ) (v : View S) (said : S) (loaded : List (ℕ × ℕ)) → v.start.size ≡ L.words → HasLoaded v p loaded → TellReply L loaded (plain said) → MayTell (Tied L) (ReadsPlain plain L) p (Some said) v
+  pub may-tell : (p : ℕ) (v : View S) (said : S) (loaded : List (ℕ × ℕ)) → v.start.size ≡ L.words
+      → HasLoaded v p loaded → TellReply L loaded (plain said) → MayTell (Tied L) (ReadsPlain plain L) p (Some said) v
   may-tell p v said loaded whole has proves =
-      inr (λ tells o reads words size are itself named. let r = proves words (page-with L p loaded v words has (size ∙ whole) are) in (r.leaf, r.reply))
+      inr (λ tells o reads words size are itself named. let r =
+      proves words (page-with L p loaded v words has (size ∙ whole) are) in (r.leaf, r.reply))
 
-  pub answered : (p word frame : ℕ) (said : S) (loaded : List (ℕ × ℕ)) (v w : View S) → w.start.size ≡ L.words → IsReading p word frame v → HasLoaded v p loaded → TellReply L loaded (plain said)
-      → IsValid (Tied L) p word frame (Some said) v w → (v.start.tells ≡ true → IsKeptNow (KeepsPlain plain L) p (Unit {0}) w) → IsAnswered plain L (plain said) v w
+  pub answered : (p word frame : ℕ) (said : S) (loaded : List (ℕ × ℕ)) (v w : View S) → w.start.size ≡ L.words
+      → IsReading p word frame v → HasLoaded v p loaded → TellReply L loaded (plain said)
+      → IsValid (Tied L) p word frame (Some said) v w
+      → (v.start.tells ≡ true → IsKeptNow (KeepsPlain plain L) p (Unit {0}) w)
+      → IsAnswered plain L (plain said) v w
   answered p word frame said loaded v w whole r has proves k told = record {
     reads = valid-only (Tied L) p word frame (Some said) v w k;
     says = said;
@@ -49,11 +62,15 @@ module _ {S : Type 0} (plain : S → Said) (L : Layout) where
     told = λ tells.
         let kept : IsKeptNow (KeepsPlain plain L) p (Unit {0}) w = told tells in
         let last : page_at kept.kept.pages p ≡ (last_of w p).words = kept.page tt in
-        let with : IsPageWith L.words loaded (page_at kept.kept.pages p) = subst (IsPageWith L.words loaded) (sym last) (page-with L p loaded v (last_of w p).words has (k.size ∙ whole) ((k.validates tells).valid _ r.reading refl)) in
+        let with : IsPageWith L.words loaded (page_at kept.kept.pages p) =
+        subst (IsPageWith L.words loaded) (sym last)
+        (page-with L p loaded v (last_of w p).words has (k.size ∙ whole)
+        ((k.validates tells).valid _ r.reading refl)) in
         let reply = proves (page_at kept.kept.pages p) with in
         let leaf = kept.holds.tree.tree.leaf p reply.leaf in
         let start : w.start ≡ v.start = k.steady.start in
-        let keeps : KeepsPlain plain L (began_of v.start) kept.kept = subst (λ (o : Origin). KeepsPlain plain L (began_of o) kept.kept) start kept.holds in
+        let keeps : KeepsPlain plain L (began_of v.start) kept.kept =
+        subst (λ (o : Origin). KeepsPlain plain L (began_of o) kept.kept) start kept.holds in
         record {
           legal = subst (λ (h : List (Entry S)). IsLegal (map_of L v.start.contents) (plain_history plain h)) kept.history keeps.legal;
           kept = kept.kept;
@@ -67,7 +84,11 @@ module _ {S : Type 0} (plain : S → Said) (L : Layout) where
 
   -- the entry is the next one of the pass as it was before it read
   same-entry : (v x : View S) (said : S) → ReadsOn v x → entry_of x said ≡ entry_of v said
-  same-entry v x said reads i = record { number = slice_index (reads.0.parts.0 i) 0; count = entries_under (slice_index (reads.0.parts.0 i) 0) (reads.1 i) + 1; said = said }
+  same-entry v x said reads i = record {
+    number = slice_index (reads.0.parts.0 i) 0;
+    count = entries_under (slice_index (reads.0.parts.0 i) 0) (reads.1 i) + 1;
+    said = said;
+  }
 
   pub answered-later : (said : Said) (v x w : View S) → ReadsOn v x → IsAnswered plain L said x w → IsAnswered plain L said v w
   answered-later said v x w reads a = record {
@@ -77,7 +98,8 @@ module _ {S : Type 0} (plain : S → Said) (L : Layout) where
     mine = a.mine ∙ (λ i. reads.1 i ++ same-entry v x a.says reads i ∷ []);
     entry = (
       reads.0.seen.0 ++ a.entry.0,
-      a.entry.1 ∙ (λ i. (reads.0.seen.1 i ++ a.entry.0) ++ same-entry v x a.says reads i ∷ []) ∙ ap (λ (l : List (Entry S)). l ++ entry_of v a.says ∷ []) (append_assoc v.seen reads.0.seen.0 a.entry.0),
+      a.entry.1 ∙ (λ i. (reads.0.seen.1 i ++ a.entry.0) ++ same-entry v x a.says reads i ∷ [])
+          ∙ ap (λ (l : List (Entry S)). l ++ entry_of v a.says ∷ []) (append_assoc v.seen reads.0.seen.0 a.entry.0),
     );
     page = a.page;
     loaded = a.loaded;
@@ -101,30 +123,44 @@ module _ {S : Type 0} (plain : S → Said) (L : Layout) where
   answered-as said other v w same a = subst (λ (s : Said). IsAnswered plain L s v w) same a
 
 -- the leaf was not validated
-pub unproved : {S : Type 0} (L : Layout) (p word frame key : ℕ) (saw : Saw) (v x w : View S) → IsOpened v p word frame x → IsDenied AgainOrNeed (KeptWord word) NoneExpected p (denies.Again saw) x w → ReadsOn v w × IsAgain v saw w
+pub unproved : {S : Type 0} (L : Layout) (p word frame key : ℕ) (saw : Saw) (v x w : View S)
+    → IsOpened v p word frame x → IsDenied AgainOrNeed (KeptWord word) NoneExpected p (denies.Again saw) x w
+    → ReadsOn v w × IsAgain v saw w
 unproved L p word frame key saw v x w o d = refused-turn p word frame L key saw v x x w o (reads-self x) (leaves-self p x) d
 
-pub refused : {S : Type 0} (L : Layout) (p word frame key : ℕ) (saw : Saw) (v x w : View S) → IsOpened v p word frame x → IsDenied AgainOrNeed (KeptWord word) NoneExpected p (denies.Again saw) x w → ReadsOn v w × (IsAgain v saw w ⊎ IsAstray L v key saw w)
+pub refused : {S : Type 0} (L : Layout) (p word frame key : ℕ) (saw : Saw) (v x w : View S)
+    → IsOpened v p word frame x → IsDenied AgainOrNeed (KeptWord word) NoneExpected p (denies.Again saw) x w
+    → ReadsOn v w × (IsAgain v saw w ⊎ IsAstray L v key saw w)
 refused L p word frame key saw v x w o d = let turn = unproved L p word frame key saw v x w o d in (turn.0, inl turn.1)
 
 -- the words of a page that was reached at level 0 are a leaf's that covers the key
-pub leaf-must : {S : Type 0} (L : Layout) (p word frame key : ℕ) (loaded : List (ℕ × ℕ)) (v : View S) (words : List ℕ) → IsReading p word frame v → HasLoaded v p loaded → Awaits L v p word 0 key → v.start.tells ≡ true → length words ≡ L.words
+pub leaf-must : {S : Type 0} (L : Layout) (p word frame key : ℕ) (loaded : List (ℕ × ℕ)) (v : View S) (words : List ℕ)
+    → IsReading p word frame v → HasLoaded v p loaded → Awaits L v p word 0 key → v.start.tells ≡ true
+    → length words ≡ L.words
     → LockValidates (Tied L) p (version_of word) words v → TellNoLeaf L loaded key → ⊥
 leaf-must L p word frame key loaded v words r has awaits tells size sees none =
     let reached : IsReached L (tree_pages v) p words 0 key = awaits tells words sees.holds in
     let not = none words (page-with L p loaded v words has size (sees.valid _ r.reading refl)) in
-    ⊎_elim (λ leaf. ⊎_elim (λ n. n leaf.1.node.tag) (λ n. n reached.covers) not) (λ inner. absurd (omega (arith, inner.0))) (kind_by_level L (tree_pages v) p words 0 key reached)
+    ⊎_elim (λ leaf. ⊎_elim (λ n. n leaf.1.node.tag) (λ n. n reached.covers) not)
+    (λ inner. absurd (omega (arith, inner.0))) (kind_by_level L (tree_pages v) p words 0 key reached)
 
 -- a page that was read whole is no leaf of the key
-pub none-whole : (L : Layout) (page : List ℕ) (key : ℕ) → length page ≡ L.words → ((node_of L page).tag ≢ 2) ⊎ (¬ (Covers (node_of L page) key)) → TellNoLeaf L (placed 0 page) key
-none-whole L page key long none words with = subst (λ (l : List ℕ). ((node_of L l).tag ≢ 2) ⊎ (¬ (Covers (node_of L l) key))) (sym (same-page words page long with)) none
+pub none-whole : (L : Layout) (page : List ℕ) (key : ℕ) → length page ≡ L.words → ((node_of L page).tag ≢ 2)
+    ⊎ (¬ (Covers (node_of L page) key)) → TellNoLeaf L (placed 0 page) key
+none-whole L page key long none words with =
+    subst (λ (l : List ℕ). ((node_of L l).tag ≢ 2) ⊎ (¬ (Covers (node_of L l) key)))
+    (sym (same-page words page long with)) none
 
 -- one that was, and what it says
-pub reply-whole : (L : Layout) (page : List ℕ) (said : Said) → length page ≡ L.words → ProvesReply L page said → TellReply L (placed 0 page) said
+pub reply-whole : (L : Layout) (page : List ℕ) (said : Said) → length page ≡ L.words → ProvesReply L page said
+    → TellReply L (placed 0 page) said
 reply-whole L page said long proves words with = subst (λ (l : List ℕ). ProvesReply L l said) (sym (same-page words page long with)) proves
 
 -- a leaf of the key was found, and then what a call of it answers
-pub reply-told : (L : Layout) (before loaded : List (ℕ × ℕ)) (said : Said) → TellLeaf L before (key_of said.call) → ((words : List ℕ) → IsPageWith L.words loaded words → Covers (node_of L words) (key_of said.call) → (low high : ℕ) → Rises low high (pairs_of L words) → IsProved L words said.call said.reply) → TellReply L (before ++ loaded) said
+pub reply-told : (L : Layout) (before loaded : List (ℕ × ℕ)) (said : Said) → TellLeaf L before (key_of said.call)
+    → ((words : List ℕ) → IsPageWith L.words loaded words → Covers (node_of L words) (key_of said.call)
+    → (low high : ℕ) → Rises low high (pairs_of L words) → IsProved L words said.call said.reply)
+    → TellReply L (before ++ loaded) said
 reply-told L before loaded said leaf reply words with =
     let is = leaf words (page_first L.words before loaded words with) in
     record { leaf = is.0; covers = is.1; reply = reply words (page_then L.words before loaded words with) is.1 }

@@ -1,6 +1,6 @@
 -- A pass that holds shares of pages while it goes on, and gives them up again.
-use Rattle.std.proofs.Common.{[], ⊎_elim, ◌++◌, ◌+◌, ◌<◌, ◌∙◌, ◌∷◌, ◌==◌, ◌≡◌, ◌≤◌, ap, arith, Bool, eqb, false, if◌then◌else◌, inr, length, List, None, Option}
-use Rattle.std.proofs.Common.{refl, subst, suc, sym, true, ℕ}
+use Rattle.std.proofs.Common.{[], ⊎_elim, ◌++◌, ◌+◌, ◌<◌, ◌∙◌, ◌∷◌, ◌==◌, ◌≡◌, ◌≤◌, ap, arith, Bool, eqb, false}
+use Rattle.std.proofs.Common.{if◌then◌else◌, inr, length, List, None, Option, refl, subst, suc, sym, true, ℕ}
 use Rattle.std.proofs.lemmas.Bool.{cases_Bool, cases_eq, cond-false, ne_eqb}
 use Rattle.std.proofs.lemmas.Option.{none-some}
 use Rattle.vm_rule.specs.Prelude.{IsLocking, last_of, Seat, seat_of, Start}
@@ -14,9 +14,11 @@ use Rattle.vm_tree_rule.specs.Leaves.{ReadsOn}
 use Rattle.vm_tree_read.specs.Ranges.{HoldsOn, HoldsSilently, StepsOn}
 
 -- a share less than one more leaves a write-back, which had a share of its own
-still-writes : (y u : Seat) → y.shares ≡ u.shares + 1 → y.writing ≡ u.writing → (u.writing ≡ true → 1 ≤ u.shares) → (if y.shares == 1 then false else y.writing) ≡ u.writing
+still-writes : (y u : Seat) → y.shares ≡ u.shares + 1 → y.writing ≡ u.writing → (u.writing ≡ true → 1 ≤ u.shares)
+    → (if y.shares == 1 then false else y.writing) ≡ u.writing
 still-writes y u shares writing had = ⊎_elim
-    (λ (t : u.writing ≡ true). let one : 1 ≤ u.shares = had t in cond-false (eqb y.shares 1) false y.writing (ne_eqb y.shares 1 (omega (arith, one, shares))) ∙ writing)
+    (λ (t : u.writing ≡ true). let one : 1 ≤ u.shares = had t in cond-false (eqb y.shares 1) false y.writing
+    (ne_eqb y.shares 1 (omega (arith, one, shares))) ∙ writing)
     (λ (f : u.writing ≡ false). cond-same (eqb y.shares 1) y.writing (writing ∙ f) ∙ sym f)
     (cases_Bool u.writing)
   where
@@ -27,7 +29,8 @@ still-writes y u shares writing had = ⊎_elim
 module _ {X : Type 0} where
   -- ---- pages known
 
-  pub known-more : (w : View X) (held : List ℕ) (p : ℕ) → pages_known w (held ++ p ∷ []) ≡ pages_known w held ++ (p, (last_of w p).words) ∷ []
+  pub known-more : (w : View X) (held : List ℕ) (p : ℕ) → pages_known w (held ++ p ∷ []) ≡ pages_known w
+      held ++ (p, (last_of w p).words) ∷ []
   known-more w [] p = refl
   known-more w (q ∷ qs) p = ap (λ (l : List (ℕ × List ℕ)). (q, (last_of w q).words) ∷ l) (known-more w qs p)
 
@@ -72,7 +75,21 @@ module _ {X : Type 0} where
   }
 
   pub reads-on : (v w : View X) → ReadsOn v w → HoldsOn v w
-  reads-on v w r = record { holds = r.0.holds; knows = r.0.knows; seen = r.0.seen; releases = r.0.releases; log = (r.0.done, r.0.log); notes = r.0.notes; frames = r.0.frames; out = r.0.out; group = r.0.group; numbers = r.0.numbers; start = r.0.start; parts = r.0.parts; alone = r.0.alone }
+  reads-on v w r = record {
+    holds = r.0.holds;
+    knows = r.0.knows;
+    seen = r.0.seen;
+    releases = r.0.releases;
+    log = (r.0.done, r.0.log);
+    notes = r.0.notes;
+    frames = r.0.frames;
+    out = r.0.out;
+    group = r.0.group;
+    numbers = r.0.numbers;
+    start = r.0.start;
+    parts = r.0.parts;
+    alone = r.0.alone;
+  }
 
   pub silent-reads : (v w : View X) → ReadsOn v w → HoldsSilently v w
   silent-reads v w r = (reads-on v w r, r.1)
@@ -88,7 +105,8 @@ module _ {X : Type 0} where
 
   -- ---- a share that is taken, and given up again
 
-  module _ (tied : Start → ℕ → List ℕ → ℕ → List ℕ → Type 0) (p frame version : ℕ) (said : Option X) (u x : View X) (s : IsSharedAt tied p frame version said u x) where
+  module _ (tied : Start → ℕ → List ℕ → ℕ → List ℕ → Type 0) (p frame version : ℕ) (said : Option X) (u x : View X)
+      (s : IsSharedAt tied p frame version said u x) where
     -- a page of which the pass has a share keeps what the pass knows of it
     pub shared-knows : (q : ℕ) → IsLocking (seat_of u q) → KnowsAsBefore u x q
     shared-knows q l =
@@ -119,7 +137,8 @@ module _ {X : Type 0} where
     pub may-unshare : (y : View X) → u.out ≡ None → HoldsOn x y → MayUnshare y p
     may-unshare y none h = record {
       has = let more = one-more y h in omega (arith, more);
-      told = λ w one. let had : 1 ≤ (seat_of u p).shares = s.writes (sym (writing-on y h) ∙ w) in let more = one-more y h in absurd (omega (arith, more, one, had));
+      told = λ w one. let had : 1 ≤ (seat_of u p).shares = s.writes (sym (writing-on y h) ∙ w) in let more =
+          one-more y h in absurd (omega (arith, more, one, had));
       home = λ o e. absurd (none-some o (sym (h.out ∙ s.elsewhere.steady.out ∙ none) ∙ e));
     }
 
@@ -143,25 +162,41 @@ module _ {X : Type 0} where
       }
 
       still : (q : ℕ) → IsLocking (seat_of u q) → IsLocking (seat_of x q)
-      still q l = ⊎_elim (λ e. subst (λ n. IsLocking (seat_of x n)) (sym e) (inr s.sharing.has_share)) (λ ne. still-locking u x q (s.elsewhere.holds q ne) l) (cases_eq q p)
+      still q l = ⊎_elim (λ e. subst (λ n. IsLocking (seat_of x n)) (sym e) (inr s.sharing.has_share))
+          (λ ne. still-locking u x q (s.elsewhere.holds q ne) l) (cases_eq q p)
 
       pub around : HoldsOn u w
       around = record {
-        holds = λ q. ⊎_elim (λ e. subst (λ n. HoldsPage u w n) (sym e) here) (λ ne. holds-then u y w q (holds-then u x y q (s.elsewhere.holds q ne) (h.holds q)) (g.elsewhere.holds q ne)) (cases_eq q p);
+        holds = λ q. ⊎_elim (λ e. subst (λ n. HoldsPage u w n) (sym e) here)
+            (λ ne. holds-then u y w q (holds-then u x y q (s.elsewhere.holds q ne) (h.holds q))
+            (g.elsewhere.holds q ne)) (cases_eq q p);
         knows = λ q l.
             let locked = still q l in
             let later = still-locking x y q (h.holds q) locked in
             knows-then u y w q (knows-then u x y q (shared-knows q l) (h.knows q locked))
             (⊎_elim (λ e. subst (λ n. KnowsAsBefore y w n) (sym e) g.knows) (λ ne. g.elsewhere.knows q ne later) (cases_eq q p));
         seen = starts-then u.seen y.seen w.seen (starts-then u.seen x.seen y.seen s.elsewhere.steady.seen h.seen) g.elsewhere.steady.seen;
-        releases = starts-then u.releases y.releases w.releases (starts-then u.releases x.releases y.releases s.elsewhere.steady.releases h.releases) g.elsewhere.steady.releases;
-        log = starts-then u.log y.log w.log (starts-then u.log x.log y.log (s.done, s.elsewhere.steady.log) h.log) (g.done, g.elsewhere.steady.log);
+        releases = starts-then u.releases y.releases w.releases
+            (starts-then u.releases x.releases y.releases s.elsewhere.steady.releases h.releases)
+            g.elsewhere.steady.releases;
+        log = starts-then u.log y.log w.log (starts-then u.log x.log y.log (s.done, s.elsewhere.steady.log) h.log)
+            (g.done, g.elsewhere.steady.log);
         notes = g.elsewhere.steady.notes ∙ h.notes ∙ s.elsewhere.steady.notes;
-        frames = (g.elsewhere.steady.frames.0 ∙ h.frames.0 ∙ s.elsewhere.steady.frames.0, g.elsewhere.steady.frames.1 ∙ h.frames.1 ∙ s.elsewhere.steady.frames.1);
+        frames = (
+          g.elsewhere.steady.frames.0 ∙ h.frames.0 ∙ s.elsewhere.steady.frames.0,
+          g.elsewhere.steady.frames.1
+              ∙ h.frames.1 ∙ s.elsewhere.steady.frames.1,
+        );
         out = g.elsewhere.steady.out ∙ h.out ∙ s.elsewhere.steady.out;
         group = (g.group.0 ∙ h.group.0 ∙ s.group.0, g.group.1 ∙ h.group.1 ∙ s.group.1, g.group.2 ∙ h.group.2 ∙ s.group.2);
-        numbers = numbers-then u y w (h.start ∙ s.elsewhere.steady.start) (numbers-then u x y s.elsewhere.steady.start s.numbers h.numbers) g.numbers;
+        numbers = numbers-then u y w (h.start ∙ s.elsewhere.steady.start)
+            (numbers-then u x y s.elsewhere.steady.start s.numbers h.numbers) g.numbers;
         start = g.elsewhere.steady.start ∙ h.start ∙ s.elsewhere.steady.start;
-        parts = (g.elsewhere.steady.parts.0 ∙ h.parts.0 ∙ s.elsewhere.steady.parts.0, g.elsewhere.steady.parts.1 ∙ h.parts.1 ∙ s.elsewhere.steady.parts.1);
-        alone = alone-then u y w (h.parts.0 ∙ s.elsewhere.steady.parts.0, h.parts.1 ∙ s.elsewhere.steady.parts.1) (alone-then u x y s.elsewhere.steady.parts s.alone h.alone) g.alone;
+        parts = (
+          g.elsewhere.steady.parts.0 ∙ h.parts.0 ∙ s.elsewhere.steady.parts.0,
+          g.elsewhere.steady.parts.1
+              ∙ h.parts.1 ∙ s.elsewhere.steady.parts.1,
+        );
+        alone = alone-then u y w (h.parts.0 ∙ s.elsewhere.steady.parts.0, h.parts.1 ∙ s.elsewhere.steady.parts.1)
+            (alone-then u x y s.elsewhere.steady.parts s.alone h.alone) g.alone;
       }

@@ -50,7 +50,21 @@ module _ {X : Type 0} where
   }
 
   pub reads-wait : (v w : View X) → ReadsOn v w → Waits v w
-  reads-wait v w r = record { holds = r.0.holds; knows = r.0.knows; mine = r.1; seen = r.0.seen; releases = r.0.releases; notes = ([], r.0.notes ∙ sym (append-none v.notes)); log = (r.0.done, r.0.log); group = r.0.group; numbers = r.0.numbers; out = r.0.out; start = r.0.start; parts = r.0.parts; alone = r.0.alone }
+  reads-wait v w r = record {
+    holds = r.0.holds;
+    knows = r.0.knows;
+    mine = r.1;
+    seen = r.0.seen;
+    releases = r.0.releases;
+    notes = ([], r.0.notes ∙ sym (append-none v.notes));
+    log = (r.0.done, r.0.log);
+    group = r.0.group;
+    numbers = r.0.numbers;
+    out = r.0.out;
+    start = r.0.start;
+    parts = r.0.parts;
+    alone = r.0.alone;
+  }
 
   -- a call that was turned back only read
   pub turned-reads : (L : Layout) (v : View X) (key : ℕ) (turn : Turn) (w : View X) → IsTurnedBack L v key turn w → ReadsOn v w
@@ -59,20 +73,43 @@ module _ {X : Type 0} where
   turned-reads L v key (turns.Astray saw) w t = t.0
 
   pub bring-waits : (v w : View X) → KeepsLocks v w → Waits v w
-  bring-waits v w k = record { holds = k.holds; knows = k.knows; mine = k.mine; seen = k.seen; releases = k.releases; notes = k.notes; log = k.log; group = k.group; numbers = k.numbers; out = k.out; start = k.start; parts = k.parts; alone = k.alone }
+  bring-waits v w k = record {
+    holds = k.holds;
+    knows = k.knows;
+    mine = k.mine;
+    seen = k.seen;
+    releases = k.releases;
+    notes = k.notes;
+    log = k.log;
+    group = k.group;
+    numbers = k.numbers;
+    out = k.out;
+    start = k.start;
+    parts = k.parts;
+    alone = k.alone;
+  }
 
   -- the fault that the answer of a page's bringing names
-  pub names-fault : (home cap p : ℕ) (old new : List ℕ) (before after : ℕ) (v w : View X) (answer : Bring) (fault : TreeFault) → IsBring home cap p old new before after v w answer → NamesFault answer fault → IsBringFault p fault v w
-  names-fault home cap p old new before after v w (brings.Device q count) fault is named = IsBringFault.device home cap before after q count old new is named
-  names-fault home cap p old new before after v w (brings.Worn q) fault is named = IsBringFault.worn home cap before after q old new is named
+  pub names-fault : (home cap p : ℕ) (old new : List ℕ) (before after : ℕ) (v w : View X) (answer : Bring)
+      (fault : TreeFault) → IsBring home cap p old new before after v w answer → NamesFault answer fault
+      → IsBringFault p fault v w
+  names-fault home cap p old new before after v w (brings.Device q count) fault is named =
+      IsBringFault.device home cap before after q count old new is named
+  names-fault home cap p old new before after v w (brings.Worn q) fault is named =
+      IsBringFault.worn home cap before after q old new is named
   names-fault home cap p old new before after v w answer fault is named = absurd named
 
 module _ {S : Type 0} (plain : S → Said) (L : Layout) where
   -- the entry is the next one of the pass as it was before it waited
   same-entry : (v x : View S) (said : S) → Waits v x → entry_of x said ≡ entry_of v said
-  same-entry v x said k i = record { number = slice_index (k.parts.0 i) 0; count = entries_under (slice_index (k.parts.0 i) 0) (k.mine i) + 1; said = said }
+  same-entry v x said k i = record {
+    number = slice_index (k.parts.0 i) 0;
+    count = entries_under (slice_index (k.parts.0 i) 0) (k.mine i) + 1;
+    said = said;
+  }
 
-  pub replied : (said : Said) (v x w : View S) → Waits v x × AreRounds (IsRound L NoneExpected (key_of said.call)) v x → IsAnswered plain L said x w → IsReplied plain L said v w
+  pub replied : (said : Said) (v x w : View S) → Waits v x × AreRounds (IsRound L NoneExpected (key_of said.call)) v x
+      → IsAnswered plain L said x w → IsReplied plain L said v w
   replied said v x w both a = let k = both.0 in record {
     tried = x;
     rounds = both.1;
@@ -81,9 +118,11 @@ module _ {S : Type 0} (plain : S → Said) (L : Layout) where
     mine = a.mine ∙ (λ i. k.mine i ++ same-entry v x a.says k i ∷ []);
     entry = (
       k.seen.0 ++ a.entry.0,
-      a.entry.1 ∙ (λ i. (k.seen.1 i ++ a.entry.0) ++ same-entry v x a.says k i ∷ []) ∙ ap (λ (l : List (Entry S)). l ++ entry_of v a.says ∷ []) (append_assoc v.seen k.seen.0 a.entry.0),
+      a.entry.1 ∙ (λ i. (k.seen.1 i ++ a.entry.0) ++ same-entry v x a.says k i ∷ [])
+          ∙ ap (λ (l : List (Entry S)). l ++ entry_of v a.says ∷ []) (append_assoc v.seen k.seen.0 a.entry.0),
     );
-    legal = λ tells. subst (λ (o : Origin). IsLegal (map_of L o.contents) (plain_history plain w.seen)) k.start (a.told (ap (λ (o : Origin). o.tells) k.start ∙ tells)).legal;
+    legal = λ tells. subst (λ (o : Origin). IsLegal (map_of L o.contents) (plain_history plain w.seen)) k.start
+        (a.told (ap (λ (o : Origin). o.tells) k.start ∙ tells)).legal;
     holds = λ q. holds-then v x w q (k.holds q) (a.reads.holds q);
     knows = λ q l. knows-then v x w q (k.knows q l) (a.reads.knows q (still-locking v x q (k.holds q) l));
     out = a.reads.out ∙ k.out;

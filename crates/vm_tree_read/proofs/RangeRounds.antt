@@ -1,5 +1,6 @@
 -- Tries of a range and pages brought, one after the other.
-use Rattle.std.proofs.Common.{[], ⊎_elim, ◌++◌, ◌<◌, ◌∙◌, ◌∷◌, ◌≡◌, ◌⊎◌, ap, append_assoc, Bool, false, List, subst, sym, true, true≢false, ℕ}
+use Rattle.std.proofs.Common.{[], ⊎_elim, ◌++◌, ◌<◌, ◌∙◌, ◌∷◌, ◌≡◌, ◌⊎◌, ap, append_assoc, Bool, false, List, subst}
+use Rattle.std.proofs.Common.{sym, true, true≢false, ℕ}
 use Rattle.vm_map.specs.{declared.call.Said.Said, declared.window.Bound.Bound, Map.Pairs}
 use Rattle.vm_map.specs.declared.call.Reply.{Reply}
 use Rattle.vm_map.specs.declared.call.Reply.TheVariants.{Many}
@@ -13,7 +14,8 @@ use Rattle.vm_tree_rule.specs.declared.turn.Turn.TheVariants as turns
 use Rattle.vm_tree_rule.proofs.Entering.{opened-reads}
 use Rattle.vm_tree_read.specs.declared.hold.TryRange.{TryRange}
 use Rattle.vm_tree_read.specs.declared.hold.TryRange.TheVariants as tries
-use Rattle.vm_tree_read.specs.Ranges.{HoldsSilently, IsRangeDone, IsRangeReplied, IsRangeRound, IsRangeStopped, IsRangeStopped as stops, range_bound}
+use Rattle.vm_tree_read.specs.Ranges.{HoldsSilently, IsRangeDone, IsRangeReplied, IsRangeRound, IsRangeStopped}
+use Rattle.vm_tree_read.specs.Ranges.{IsRangeStopped as stops, range_bound}
 use Rattle.vm_tree_read.specs.Reads.{key_of}
 use Rattle.vm_tree_read.specs.Waiting.{AreRounds, Waits}
 use Rattle.vm_tree_read.proofs.Ranging.{same-entry}
@@ -57,7 +59,8 @@ module _ {X : Type 0} where
   }
 
   -- a page that is needed is one of the table's
-  pub needed-inside : (L : Layout) (low : ℕ) (bound : Bound) (p : ℕ) (v w : View X) → IsRangeStopped L low bound (tries.Need p) v w → p < v.start.pages
+  pub needed-inside : (L : Layout) (low : ℕ) (bound : Bound) (p : ℕ) (v w : View X)
+      → IsRangeStopped L low bound (tries.Need p) v w → p < v.start.pages
   needed-inside L low bound p v w (stops.turned key (turns.Need q) u x way before is after says) =
       subst (λ (o : Origin). p < o.pages) before.start (subst (λ (n : ℕ). n < u.start.pages) (sym (ap page_of says)) is.1.inside)
   needed-inside L low bound p v w (stops.turned key (turns.Again saw) u x way before is after says) = absurd (true≢false (ap needs says))
@@ -65,12 +68,19 @@ module _ {X : Type 0} where
   needed-inside L low bound p v w (stops.denied key page word frame loaded (denies.Need q) u x y way before opened has leaf d after says) =
       subst (λ (o : Origin). p < o.pages) ((opened-reads page word frame u x opened).0.start ∙ before.start)
       (subst (λ (n : ℕ). n < x.start.pages) (sym (ap page_of says ∙ d.evidence.0)) opened.reading.page)
-  needed-inside L low bound p v w (stops.denied key page word frame loaded (denies.Again saw) u x y way before opened has leaf d after says) = absurd (true≢false (ap needs says))
-  needed-inside L low bound p v w (stops.denied key page word frame loaded (denies.Crowded q) u x y way before opened has leaf d after says) = absurd (true≢false (ap needs says))
-  needed-inside L low bound p v w (stops.denied key page word frame loaded (denies.Worn q) u x y way before opened has leaf d after says) = absurd says
+  needed-inside L low bound p v w (stops.denied key page word frame loaded (denies.Again saw) u x y way before opened
+      has leaf d after says) =
+      absurd (true≢false (ap needs says))
+  needed-inside L low bound p v w (stops.denied key page word frame loaded (denies.Crowded q) u x y way before opened
+      has leaf d after says) =
+      absurd (true≢false (ap needs says))
+  needed-inside L low bound p v w (stops.denied key page word frame loaded (denies.Worn q) u x y way before opened has leaf d after says) =
+      absurd says
 
 module _ {S : Type 0} (plain : S → Said) (L : Layout) where
-  pub range-replied : (said : Said) (v x w : View S) → Waits v x × AreRounds (IsRangeRound L (key_of said.call) (range_bound said.call)) v x → IsRangeDone plain L said x w → IsRangeReplied plain L said v w
+  pub range-replied : (said : Said) (v x w : View S)
+      → Waits v x × AreRounds (IsRangeRound L (key_of said.call) (range_bound said.call)) v x
+      → IsRangeDone plain L said x w → IsRangeReplied plain L said v w
   range-replied said v x w both a =
       let k = both.0 in
       let same : entry_of x a.says ≡ entry_of v a.says = same-entry plain L v x a.says k.parts.0 k.mine in

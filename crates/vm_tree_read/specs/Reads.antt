@@ -22,7 +22,8 @@ key_of (Window start most) = start
 key_of (Swap key want value) = key
 key_of (Range low bound) = low
 
--- the reply is one to such a call: a value to a get, a put or a del, a window to a window, what it did to a swap, and pairs or a reach to a range
+-- the reply is one to such a call: a value to a get, a put or a del, a window to a window, what it did to a swap, and
+-- pairs or a reach to a range
 abbrev pub IsOfKind : Call → Reply → Type 0
 IsOfKind (Get key) (Got found) = Unit {0}
 IsOfKind (Put key value) (Was old) = Unit {0}
@@ -48,15 +49,18 @@ pub record IsLeafAnswer (L : Layout) (words : List ℕ) (key : ℕ) (answer : Bo
 abbrev pub TellReply : Layout → List (ℕ × ℕ) → Said → Type 0
 TellReply L loaded said = (words : List ℕ) → IsPageWith L.words loaded words → ProvesReply L words said
 
--- the entry of what is said, the pass's next one, stands behind all entries that it had seen and others that came meanwhile; and behind the entry it has seen
+-- the entry of what is said, the pass's next one, stands behind all entries that it had seen and others that came
+-- meanwhile; and behind the entry it has seen
 -- these
 abbrev pub GainsEntry : {S : Type 0} → S → View S → List (Entry S) → View S → Type 0
 GainsEntry {S} said v more w = (others : List (Entry S)) × (w.seen ≡ (v.seen ++ others) ++ entry_of v said ∷ more)
 
 -- What is said, `says`, may speak of keys in its own way; `plain` reads it with a number for each key, as the call with its reply
 module _ {S : Type 0} (plain : S → Said) (L : Layout) where
-  -- At the step that made the entry the pages of the tree were such that their map is the start's map after the whole history; the history is legal
-  -- for the start's map; and the tree's page, whose words are the last ones of the table's page, has the words that were loaded, and proves the reply
+  -- At the step that made the entry the pages of the tree were such that their map is the start's map after the whole
+  -- history; the history is legal
+  -- for the start's map; and the tree's page, whose words are the last ones of the table's page, has the words that
+  -- were loaded, and proves the reply
   pub record IsBorneOut (page : ℕ) (loaded : List (ℕ × ℕ)) (said : Said) (v w : View S) : Type 0 where
     pub legal : IsLegal (map_of L v.start.contents) (plain_history plain w.seen)
     pub kept : Kept S
@@ -66,7 +70,8 @@ module _ {S : Type 0} (plain : S → Said) (L : Layout) where
     pub has : IsPageWith L.words loaded (page_at kept.pages page)
     pub proved : IsProved L (page_at kept.pages page) said.call said.reply
 
-  -- The call with its reply became the last entry, under the pass's first number and its next count. Words of a page were loaded, and each page that
+  -- The call with its reply became the last entry, under the pass's first number and its next count. Words of a page
+  -- were loaded, and each page that
   -- has them is a leaf that covers the call's key, and proves the reply if its keys rise; where blocks tell their words one is borne out
   pub record IsAnswered (said : Said) (v w : View S) : Type 0 where
     pub reads : OnlyReads v w

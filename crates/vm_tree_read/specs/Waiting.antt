@@ -25,7 +25,8 @@ abbrev pub NamesNone : Bring → Type 0
 NamesNone answer = (fault : TreeFault) → ¬ (NamesFault answer fault)
 
 module _ {X : Type 0} where
-  -- the pass holds just the locks and page numbers that it held, made no entry, and has its block at home; what it has seen of entries and releases, its notes and its steps
+  -- the pass holds just the locks and page numbers that it held, made no entry, and has its block at home; what it
+  -- has seen of entries and releases, its notes and its steps
   -- go on
   pub record Waits (v w : View X) : Type 0 where
     pub holds : (q : ℕ) → HoldsPage v w q
@@ -49,8 +50,10 @@ module _ {X : Type 0} where
 
   -- page p was to be brought, and a device failed, or a page was at the last version
   pub data IsBringFault (p : ℕ) (fault : TreeFault) (v w : View X) : Type 0 where
-    device : (home cap before after q count : ℕ) (old new : List ℕ) → IsBring home cap p old new before after v w (brings.Device q count) → fault ≡ faults.Device q count → IsBringFault p fault v w
-    worn : (home cap before after q : ℕ) (old new : List ℕ) → IsBring home cap p old new before after v w (brings.Worn q) → fault ≡ faults.Worn q → IsBringFault p fault v w
+    device : (home cap before after q count : ℕ) (old new : List ℕ) → IsBring home cap p old new before after v w
+        (brings.Device q count) → fault ≡ faults.Device q count → IsBringFault p fault v w
+    worn : (home cap before after q : ℕ) (old new : List ℕ) → IsBring home cap p old new before after v w
+        (brings.Worn q) → fault ≡ faults.Worn q → IsBringFault p fault v w
 
   -- page p was to be brought, once, and the answer names no fault
   pub record IsNoBringFault (p : ℕ) (v w : View X) : Type 0 where
@@ -65,8 +68,10 @@ module _ {X : Type 0} where
     pub none : NamesNone answer
 
 module _ {X : Type 0} where
-  -- A round of a call that waits: a try, from v on, was not answered, since others came before, as the steps of this try show, or since the words of
-  -- a page are no tree's; or it needed a page, which was then to be brought, once, and the answer named no fault. An exchange of the try may expect
+  -- A round of a call that waits: a try, from v on, was not answered, since others came before, as the steps of this
+  -- try show, or since the words of
+  -- a page are no tree's; or it needed a page, which was then to be brought, once, and the answer named no fault. An
+  -- exchange of the try may expect
   -- a word in the place of one that it read as `expects` tells
   pub data IsRound (L : Layout) (expects : ℕ → ℕ → Type 0) (key : ℕ) (v w : View X) : Type 0 where
     again : (saw : Saw) → ReadsOn v w → (IsShown expects v saw w ⊎ IsAstray L v key saw w) → IsRound L expects key v w
@@ -90,7 +95,8 @@ module _ {X : Type 0} where
     pub leaves : Waits v w
 
 module _ {S : Type 0} (plain : S → Said) (L : Layout) where
-  -- The last try was answered; those before it, and the pages brought, each for a try that needed it, made no entry. So the entry is the pass's next one,
+  -- The last try was answered; those before it, and the pages brought, each for a try that needed it, made no entry.
+  -- So the entry is the pass's next one,
   -- and stands behind all that the pass had seen; the pass holds what it held
   pub record IsReplied (said : Said) (v w : View S) : Type 0 where
     pub tried : View S

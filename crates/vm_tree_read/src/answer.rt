@@ -1,8 +1,8 @@
 // The leaf of a key, in place or in a buffer, and the answer that its validation makes an entry of the history.
-ghost use Rattle.std.specs.Prelude.{[], ◌*◌, ◌+◌, ◌≡◌, ◌≢◌, ◌≤◌, ◌⊎◌, false, IfErr, IfOk, IsOk, length, List, Some, true, ℕ};
+ghost use Rattle.std.specs.Prelude.{[], ◌*◌, ◌+◌, ◌≡◌, ◌≤◌, IfErr, IfOk, IsOk, length, List, Some, true, ℕ};
 ghost use Rattle.vm_tree_model.specs.{Node.Covers, Page.node_of};
 ghost use Rattle.vm_node.specs.Loads.{IsPageWith, Tells};
-ghost use Rattle.vm_step.specs.Prelude.{IsReady, IsSamePass, MayStep, NoneExpected, view};
+ghost use Rattle.vm_step.specs.Prelude.{GoesOn, IsReadyOn, NoneExpected, view};
 ghost use Rattle.vm_guard.specs.{Guards.IsReading, Guards.Loads, Guards.placed, PageWords.LoadsWords};
 ghost use Rattle.vm_guard.specs.Denied.{AgainOrNeed, IsDenied, KeptWord};
 ghost use Rattle.vm_tree_rule.specs.{Above.IsAbove, Above.KnowsAbove, Leaves.ReadsOn, Standing.Awaits, Standing.IsOpened};
@@ -37,10 +37,9 @@ fn is_leaf_in_place<K: Kind, B: Block>(
     guard: &OptGuard,
     key: &K::Key,
 ) -> bool
-    requires ready { IsReady words.now.table.shared.key B.tells words.now.table.shared.table_id pass.old }
+    requires ready { IsReadyOn words.now B.tells pass.old }
     requires reading { IsReading guard.now.pid guard.now.word guard.now.frame (view pass.old) }
-    ensures pass { IsSamePass pass.old pass.new }
-    ensures ready { IsReady words.now.table.shared.key B.tells words.now.table.shared.table_id pass.new }
+    ensures goes { GoesOn words.now B.tells pass.old pass.new }
     ensures found { ReadsInPlace guard.now.pid guard.now.word guard.now.frame (1 + K.bounds.covers) (view pass.old) (view pass.new)
         (λ loaded. (page : List ℕ) → IsPageWith K.layout.words loaded page → IsLeafAnswer K.layout page (K.rank key.now) result) }
 {
@@ -59,10 +58,9 @@ fn no_leaf<K: Kind, B: Block>(
     pass: &mut Pass<TreeOf<K>>,
     guard: &OptGuard,
 ) -> Turn
-    requires ready { IsReady words.now.table.shared.key B.tells words.now.table.shared.table_id pass.old }
+    requires ready { IsReadyOn words.now B.tells pass.old }
     requires reading { IsReading guard.now.pid guard.now.word guard.now.frame (view pass.old) }
-    ensures pass { IsSamePass pass.old pass.new }
-    ensures ready { IsReady words.now.table.shared.key B.tells words.now.table.shared.table_id pass.new }
+    ensures goes { GoesOn words.now B.tells pass.old pass.new }
     ensures turn { (v : _) (key : ℕ) (loaded : _) → IsOpened v guard.now.pid guard.now.word guard.now.frame (view pass.old) → Awaits K.layout (view pass.old) guard.now.pid guard.now.word 0 key
         → HasLoaded (view pass.old) guard.now.pid loaded → TellNoLeaf K.layout loaded key → IsTurnedBack K.layout v key result (view pass.new) }
     ensures sure { (shares : ℕ → ℕ) (key : ℕ) (loaded : _) → B.tells ≡ true → IsReadNow shares guard.now.pid guard.now.word (view pass.old)
@@ -83,10 +81,9 @@ pub fn leaf_at<K: Kind, B: Block>(
     pass: &mut Pass<TreeOf<K>>,
     key: &K::Key,
 ) -> Result<OptGuard, Turn>
-    requires pass { MayStep words.now.table.shared.table_id pass.old }
+    requires ready { IsReadyOn words.now B.tells pass.old }
     requires pages { 1 ≤ words.now.table.shared.key.pages }
-    ensures pass { IsSamePass pass.old pass.new }
-    ensures ready { IsReady words.now.table.shared.key B.tells words.now.table.shared.table_id pass.new }
+    ensures goes { GoesOn words.now B.tells pass.old pass.new }
     ensures reads { IfOk result (λ guard. ReadsOn (view pass.old) (view pass.new) × IsOpened (view pass.old) guard.pid guard.word guard.frame (view pass.new)) }
     ensures leaf { IfOk result (λ guard. (loaded : List (ℕ × ℕ)) × HasLoaded (view pass.new) guard.pid loaded × TellLeaf K.layout loaded (K.rank key.now)) }
     ensures awaits { IfOk result (λ guard. Awaits K.layout (view pass.new) guard.pid guard.word 0 (K.rank key.now)) }
@@ -115,10 +112,9 @@ pub fn leaf_below<K: Kind, B: Block>(
     pass: &mut Pass<TreeOf<K>>,
     key: &K::Key,
 ) -> Result<Reached, Turn>
-    requires pass { MayStep words.now.table.shared.table_id pass.old }
+    requires ready { IsReadyOn words.now B.tells pass.old }
     requires pages { 1 ≤ words.now.table.shared.key.pages }
-    ensures pass { IsSamePass pass.old pass.new }
-    ensures ready { IsReady words.now.table.shared.key B.tells words.now.table.shared.table_id pass.new }
+    ensures goes { GoesOn words.now B.tells pass.old pass.new }
     ensures reads { IfOk result (λ r. ReadsOn (view pass.old) (view pass.new) × IsOpened (view pass.old) r.leaf.pid r.leaf.word r.leaf.frame (view pass.new)) }
     ensures leaf { IfOk result (λ r. (loaded : List (ℕ × ℕ)) × HasLoaded (view pass.new) r.leaf.pid loaded × TellLeaf K.layout loaded (K.rank key.now)) }
     ensures awaits { IfOk result (λ r. Awaits K.layout (view pass.new) r.leaf.pid r.leaf.word 0 (K.rank key.now)) }
@@ -147,12 +143,11 @@ pub fn read_leaf<K: Pages, B: Block>(
     key: &K::Key,
     page: &mut K::Page,
 ) -> Result<(), Turn>
-    requires ready { IsReady words.now.table.shared.key B.tells words.now.table.shared.table_id pass.old }
+    requires ready { IsReadyOn words.now B.tells pass.old }
     requires reading { IsReading guard.now.pid guard.now.word guard.now.frame (view pass.old) }
     requires size { length (K.words_of page.old) ≡ K.layout.words }
     ensures size { length (K.words_of page.new) ≡ K.layout.words }
-    ensures pass { IsSamePass pass.old pass.new }
-    ensures ready { IsReady words.now.table.shared.key B.tells words.now.table.shared.table_id pass.new }
+    ensures goes { GoesOn words.now B.tells pass.old pass.new }
     ensures loads { IfOk result (λ _. Loads guard.now.pid guard.now.word guard.now.frame (placed 0 (K.words_of page.new)) (view pass.old) (view pass.new)) }
     ensures leaf { IfOk result (λ _. ((node_of K.layout (K.words_of page.new)).tag ≡ 2) × Covers (node_of K.layout (K.words_of page.new)) (K.rank key.now)) }
     ensures err { IfErr result (λ turn. (v : _) → IsOpened v guard.now.pid guard.now.word guard.now.frame (view pass.old) → Awaits K.layout (view pass.old) guard.now.pid guard.now.word 0 (K.rank key.now)
@@ -173,11 +168,10 @@ pub fn answer<K: Kind, B: Block>(
     guard: &OptGuard,
     said: &K::Said,
 ) -> Result<(), Saw>
-    requires ready { IsReady words.now.table.shared.key B.tells words.now.table.shared.table_id pass.old }
+    requires ready { IsReadyOn words.now B.tells pass.old }
     requires reading { IsReading guard.now.pid guard.now.word guard.now.frame (view pass.old) }
     requires proves { (loaded : List (ℕ × ℕ)) × HasLoaded (view pass.old) guard.now.pid loaded × TellReply K.layout loaded (K.plain said.now) }
-    ensures pass { IsSamePass pass.old pass.new }
-    ensures ready { IsReady words.now.table.shared.key B.tells words.now.table.shared.table_id pass.new }
+    ensures goes { GoesOn words.now B.tells pass.old pass.new }
     ensures ok { IfOk result (λ _. IsAnswered K.plain K.layout (K.plain said.now) (view pass.old) (view pass.new)) }
     ensures err { IfErr result (λ saw. IsDenied AgainOrNeed (KeptWord guard.now.word) NoneExpected guard.now.pid (Deny.Again saw) (view pass.old) (view pass.new)) }
     ensures sure { IsKnownNow guard.now.pid guard.now.word (view pass.old) → IsOk result }

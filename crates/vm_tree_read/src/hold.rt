@@ -7,7 +7,7 @@ ghost use Rattle.vm_map.specs.{History.bound_of, Keys.KEY_END};
 ghost use Rattle.vm_map.specs.declared.call.Call.TheVariants.{Range};
 ghost use Rattle.vm_map.specs.declared.call.Reply.TheVariants.{Many};
 ghost use Rattle.vm_node.specs.{Loads.IsPageWith, Shows.AppendsRange};
-ghost use Rattle.vm_step.specs.Prelude.{AreHeld, IsReady, IsSamePass, MayStep, NoneExpected, view};
+ghost use Rattle.vm_step.specs.Prelude.{AreHeld, GoesOn, IsReadyOn, NoneExpected, view};
 ghost use Rattle.vm_guard.specs.{Guards.IsReading, Denied.IsDenied, Denied.KeptWord, Denied.NotWorn};
 ghost use Rattle.vm_tree_rule.specs.{Few.ReadsInPlace, Resident.IsReadNow, Resident.KnowsReadable, Resident.KnowsResident, Seeks.HasLoaded};
 ghost use Rattle.vm_tree_laws.specs.May.{MOST_LEAVES};
@@ -93,11 +93,10 @@ fn gather_in_place<K: Ranges, B: Block>(
     bound: Bound,
     out: &mut Span,
 ) -> Bound
-    requires ready { IsReady words.now.table.shared.key B.tells words.now.table.shared.table_id pass.old }
+    requires ready { IsReadyOn words.now B.tells pass.old }
     requires reading { IsReading guard.now.pid guard.now.word guard.now.frame (view pass.old) }
     requires room { K.pairs_most ≤ out.old.1 }
-    ensures pass { IsSamePass pass.old pass.new }
-    ensures ready { IsReady words.now.table.shared.key B.tells words.now.table.shared.table_id pass.new }
+    ensures goes { GoesOn words.now B.tells pass.old pass.new }
     ensures found { ReadsInPlace guard.now.pid guard.now.word guard.now.frame (2 * K.pairs_most + 3) (view pass.old) (view pass.new) (λ loaded.
         (page : List ℕ) → IsPageWith K.layout.words loaded page → AppendsRange K.layout page (K.rank from.now) bound out.old.0 out.new.0 result) }
     ensures room { out.old.1 ≤ out.new.1 + K.pairs_most }
@@ -119,14 +118,13 @@ fn share_last<K: Kind, B: Block>(
     guard: OptGuard,
     said: &K::Said,
 ) -> Result<(), Deny>
-    requires ready { IsReady words.now.table.shared.key B.tells words.now.table.shared.table_id pass.old }
+    requires ready { IsReadyOn words.now B.tells pass.old }
     requires reading { IsReading guard.pid guard.word guard.frame (view pass.old) }
     requires home { (view pass.old).out ≡ None }
     requires proves { (held : List ℕ) × (length held < MOST_LEAVES) × (low : ℕ) × (from : ℕ) × (loaded : List (ℕ × ℕ))
         × HoldsLeaves K.layout held low from (view pass.old) × HasLoaded (view pass.old) guard.pid loaded
         × TellRange K.layout held loaded (K.plain said.now) (view pass.old) }
-    ensures pass { IsSamePass pass.old pass.new }
-    ensures ready { IsReady words.now.table.shared.key B.tells words.now.table.shared.table_id pass.new }
+    ensures goes { GoesOn words.now B.tells pass.old pass.new }
     ensures steps { LeavesShares (view pass.old) (view pass.new) }
     ensures ok { IfOk result (λ _. IsRangeDone K.plain K.layout (K.plain said.now) (view pass.old) (view pass.new)) }
     ensures err { IfErr result (λ deny. IsDenied NotWorn (KeptWord guard.word) NoneExpected guard.pid deny (view pass.old) (view pass.new)) }
@@ -162,14 +160,13 @@ fn share_with_all<K: Ranges, B: Block>(
     bound: Bound,
     out: &mut Span,
 ) -> Result<(), Deny>
-    requires ready { IsReady words.now.table.shared.key B.tells words.now.table.shared.table_id pass.old }
+    requires ready { IsReadyOn words.now B.tells pass.old }
     requires reading { IsReading guard.pid guard.word guard.frame (view pass.old) }
     requires home { (view pass.old).out ≡ None }
     requires proves { (held : List ℕ) × (length held < MOST_LEAVES) × (from : ℕ) × (loaded : List (ℕ × ℕ))
         × HoldsLeaves K.layout held (K.rank low.now) from (view pass.old) × HasLoaded (view pass.old) guard.pid loaded
         × TellRange K.layout held loaded (record { call = Range (K.rank low.now) bound; reply = Many out.old }) (view pass.old) }
-    ensures pass { IsSamePass pass.old pass.new }
-    ensures ready { IsReady words.now.table.shared.key B.tells words.now.table.shared.table_id pass.new }
+    ensures goes { GoesOn words.now B.tells pass.old pass.new }
     ensures steps { LeavesShares (view pass.old) (view pass.new) }
     ensures ok { IfOk result
         (λ _. IsRangeDone K.plain K.layout (record { call = Range (K.rank low.now) bound; reply = Many out.new }) (view pass.old) (view pass.new)) }
@@ -195,7 +192,7 @@ fn hold_from<K: Ranges, B: Block>(
     left: u32,
     out: &mut Span,
 ) -> TryRange
-    requires pass { MayStep words.now.table.shared.table_id pass.old }
+    requires ready { IsReadyOn words.now B.tells pass.old }
     requires pages { 1 ≤ words.now.table.shared.key.pages }
     requires home { (view pass.old).out ≡ None }
     requires some { 1 ≤ left }
@@ -204,8 +201,7 @@ fn hold_from<K: Ranges, B: Block>(
     requires held { (held : List ℕ) × (length held + left ≡ MOST_LEAVES)
         × HoldsLeaves K.layout held (K.rank low.now) (K.rank from.now) (view pass.old)
         × HasGathered K.layout held (K.rank low.now) bound out.old.0 (view pass.old) }
-    ensures pass { IsSamePass pass.old pass.new }
-    ensures ready { IsReady words.now.table.shared.key B.tells words.now.table.shared.table_id pass.new }
+    ensures goes { GoesOn words.now B.tells pass.old pass.new }
     ensures steps { LeavesShares (view pass.old) (view pass.new) }
     ensures tried { IsTriedRange K.plain K.layout (K.rank low.now) bound result out.new (view pass.old) (view pass.new) }
     ensures kept { out.new.1 + length out.new.0 ≡ out.old.1 + length out.old.0 }
@@ -252,13 +248,12 @@ pub fn try_range<K: Ranges, B: Block>(
     bound: Bound,
     out: &mut Span,
 ) -> TryRange
-    requires pass { MayStep words.now.table.shared.table_id pass.old }
+    requires ready { IsReadyOn words.now B.tells pass.old }
     requires pages { 1 ≤ words.now.table.shared.key.pages }
     requires home { (view pass.old).out ≡ None }
     requires empty { out.old.0 ≡ [] }
     requires room { K.pairs_most * LEAVES ≤ out.old.1 }
-    ensures pass { IsSamePass pass.old pass.new }
-    ensures ready { IsReady words.now.table.shared.key B.tells words.now.table.shared.table_id pass.new }
+    ensures goes { GoesOn words.now B.tells pass.old pass.new }
     ensures steps { LeavesShares (view pass.old) (view pass.new) }
     ensures tried { IsTriedRange K.plain K.layout (K.rank low.now) bound result out.new (view pass.old) (view pass.new) }
     ensures none { HasPairs result ⊎ (out.new ≡ out.old) }
@@ -297,14 +292,13 @@ pub fn range<K: Ranges, R: Wait, B: PageBlock<N>, const N: usize>(
     bound: Bound,
     out: Span,
 ) -> Result<Reply, TreeFault>
-    requires ready { IsReady pool.now.words.table.shared.key B.tells pool.now.words.table.shared.table_id pass.old }
+    requires ready { IsReadyOn pool.now.words B.tells pass.old }
     requires pages { 1 ≤ pool.now.words.table.shared.key.pages }
     requires home { (view pass.old).out ≡ None }
     requires frames { AreHeld iface.old.frames (view pass.old) }
     requires empty { out.0 ≡ [] }
     requires room { K.pairs_most * LEAVES ≤ out.1 }
-    ensures pass { IsSamePass pass.old pass.new }
-    ensures ready { IsReady pool.now.words.table.shared.key B.tells pool.now.words.table.shared.table_id pass.new }
+    ensures goes { GoesOn pool.now.words B.tells pass.old pass.new }
     ensures held { AreHeld iface.new.frames (view pass.new) }
     ensures iface { (iface.new.home ≡ iface.old.home) × (iface.new.cap ≡ iface.old.cap) }
     ensures lost { LosesNone iface.old.frames (view pass.old) iface.new.frames (view pass.new) }

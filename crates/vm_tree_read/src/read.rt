@@ -5,7 +5,7 @@ ghost use Rattle.vm_map.specs.declared.call.Call.TheVariants.{Get, Window as For
 ghost use Rattle.vm_map.specs.declared.call.Reply.TheVariants.{Got};
 ghost use Rattle.vm_tree_model.specs.Page.{pairs_of};
 ghost use Rattle.vm_node.specs.{Loads.IsPageWith, Shows.ShowsFirst};
-ghost use Rattle.vm_step.specs.Prelude.{IsReady, IsSamePass, MayStep, view};
+ghost use Rattle.vm_step.specs.Prelude.{GoesOn, IsReadyOn, view};
 ghost use Rattle.vm_guard.specs.Guards.{IsReading};
 ghost use Rattle.vm_tree_rule.specs.{Resident.KnowsResident, Turns.IsTurnedBack};
 ghost use Rattle.vm_tree_rule.specs.Few.{LoadsHeight, LoadsWithin, ReadsInPlace};
@@ -53,10 +53,9 @@ pub fn find_in_place<K: Kind, B: Block>(
     guard: &OptGuard,
     key: &K::Key,
 ) -> Option<u64>
-    requires ready { IsReady words.now.table.shared.key B.tells words.now.table.shared.table_id pass.old }
+    requires ready { IsReadyOn words.now B.tells pass.old }
     requires reading { IsReading guard.now.pid guard.now.word guard.now.frame (view pass.old) }
-    ensures pass { IsSamePass pass.old pass.new }
-    ensures ready { IsReady words.now.table.shared.key B.tells words.now.table.shared.table_id pass.new }
+    ensures goes { GoesOn words.now B.tells pass.old pass.new }
     ensures found { ReadsInPlace guard.now.pid guard.now.word guard.now.frame K.bounds.find (view pass.old) (view pass.new) (λ loaded.
         (page : List ℕ) → IsPageWith K.layout.words loaded page → (low high : ℕ) → Rises low high (pairs_of K.layout page)
         → result ≡ lookup_at (pairs_of K.layout page) (K.rank key.now)) }
@@ -78,10 +77,9 @@ fn window_in_place<K: Windows, B: Block>(
     start: &K::Key,
     most: u32,
 ) -> Window
-    requires ready { IsReady words.now.table.shared.key B.tells words.now.table.shared.table_id pass.old }
+    requires ready { IsReadyOn words.now B.tells pass.old }
     requires reading { IsReading guard.now.pid guard.now.word guard.now.frame (view pass.old) }
-    ensures pass { IsSamePass pass.old pass.new }
-    ensures ready { IsReady words.now.table.shared.key B.tells words.now.table.shared.table_id pass.new }
+    ensures goes { GoesOn words.now B.tells pass.old pass.new }
     ensures found { ReadsInPlace guard.now.pid guard.now.word guard.now.frame (2 * min most MOST_PAIRS + K.window_most) (view pass.old) (view pass.new)
         (λ loaded. (page : List ℕ) → IsPageWith K.layout.words loaded page → ShowsFirst K.layout page (K.rank start.now) most result) }
 {
@@ -100,10 +98,9 @@ pub(crate) fn look_up<K: Kind, B: Block>(
     pass: &mut Pass<TreeOf<K>>,
     key: &K::Key,
 ) -> Result<Option<u64>, Turn>
-    requires pass { MayStep words.now.table.shared.table_id pass.old }
+    requires ready { IsReadyOn words.now B.tells pass.old }
     requires pages { 1 ≤ words.now.table.shared.key.pages }
-    ensures pass { IsSamePass pass.old pass.new }
-    ensures ready { IsReady words.now.table.shared.key B.tells words.now.table.shared.table_id pass.new }
+    ensures goes { GoesOn words.now B.tells pass.old pass.new }
     ensures ok { IfOk result (λ value. IsAnswered K.plain K.layout (record { call = Get (K.rank key.now); reply = Got value }) (view pass.old) (view pass.new)) }
     ensures err { IfErr result (λ turn. IsTurnedBack K.layout (view pass.old) (K.rank key.now) turn (view pass.new)) }
     ensures sure { B.tells ≡ true → KnowsResident (view pass.old) → IsOk result }
@@ -130,10 +127,9 @@ pub fn try_get<K: Kind, B: Block>(
     pass: &mut Pass<TreeOf<K>>,
     key: &K::Key,
 ) -> TryRead
-    requires pass { MayStep words.now.table.shared.table_id pass.old }
+    requires ready { IsReadyOn words.now B.tells pass.old }
     requires pages { 1 ≤ words.now.table.shared.key.pages }
-    ensures pass { IsSamePass pass.old pass.new }
-    ensures ready { IsReady words.now.table.shared.key B.tells words.now.table.shared.table_id pass.new }
+    ensures goes { GoesOn words.now B.tells pass.old pass.new }
     ensures tried { IsTried K.plain K.layout (Get (K.rank key.now)) (K.rank key.now) result (view pass.old) (view pass.new) }
     ensures kind { IsDoneInKind (Get (K.rank key.now)) result }
     ensures sure { B.tells ≡ true → KnowsResident (view pass.old) → IsDone result }
@@ -155,11 +151,10 @@ pub fn try_window<K: Windows, B: Block>(
     start: &K::Key,
     most: u32,
 ) -> TryRead
-    requires pass { MayStep words.now.table.shared.table_id pass.old }
+    requires ready { IsReadyOn words.now B.tells pass.old }
     requires pages { 1 ≤ words.now.table.shared.key.pages }
     requires most { 1 ≤ most }
-    ensures pass { IsSamePass pass.old pass.new }
-    ensures ready { IsReady words.now.table.shared.key B.tells words.now.table.shared.table_id pass.new }
+    ensures goes { GoesOn words.now B.tells pass.old pass.new }
     ensures tried { IsTried K.plain K.layout (ForWindow (K.rank start.now) most) (K.rank start.now) result (view pass.old) (view pass.new) }
     ensures kind { IsDoneInKind (ForWindow (K.rank start.now) most) result }
     ensures sure { B.tells ≡ true → KnowsResident (view pass.old) → IsDone result }

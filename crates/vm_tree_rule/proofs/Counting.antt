@@ -31,18 +31,21 @@ module _ {X : Type 0} where
   }
 
   -- a page was read in place, and then nothing more was loaded
-  pub place-within : (p word frame n : ℕ) (C : List (ℕ × ℕ) → Type 0) (v w z : View X) → ReadsInPlace p word frame n v w C → LoadsWords [] w z → LoadsAtMost n v z
+  pub place-within : (p word frame n : ℕ) (C : List (ℕ × ℕ) → Type 0) (v w z : View X)
+      → ReadsInPlace p word frame n v w C → LoadsWords [] w z → LoadsAtMost n v z
   place-within p word frame n C v w z r none =
       let long : length (map (λ (l : ℕ × ℕ). l.1) r.loaded) ≡ length r.loaded = length-map r.loaded (λ (l : ℕ × ℕ). l.1) in
       let few = r.few in
       record {
         loaded = map (λ (l : ℕ × ℕ). l.1) r.loaded;
-        words = subst (λ l. LoadsWords l v z) (append-none (map (λ (l : ℕ × ℕ). l.1) r.loaded)) (words-then (map (λ (l : ℕ × ℕ). l.1) r.loaded) [] v w z r.words none);
+        words = subst (λ l. LoadsWords l v z) (append-none (map (λ (l : ℕ × ℕ). l.1) r.loaded))
+            (words-then (map (λ (l : ℕ × ℕ). l.1) r.loaded) [] v w z r.words none);
         few = omega (arith, long, few);
       }
 
   -- more was loaded behind the height
-  pub height-more : (most n all h : ℕ) (u v w : View X) → LoadsHeight most h u v → LoadsAtMost n v w → most + n ≤ all → LoadsHeight all h u w
+  pub height-more : (most n all h : ℕ) (u v w : View X) → LoadsHeight most h u v → LoadsAtMost n v w → most + n ≤ all
+      → LoadsHeight all h u w
   height-more most n all h u v w f g le =
       let long : length (f.loaded ++ g.loaded) ≡ length f.loaded + length g.loaded = length-append f.loaded g.loaded in
       let two = f.two in
@@ -59,16 +62,29 @@ module _ {X : Type 0} where
 
   -- nothing more was
   pub height-same : (most h : ℕ) (u v w : View X) → LoadsHeight most h u v → LoadsWords [] v w → LoadsHeight most h u w
-  height-same most h u v w f none = height-more most 0 most h u v w f (record { loaded = []; words = none; few = omega arith }) (omega arith)
+  height-same most h u v w f none =
+      height-more most 0 most h u v w f (record { loaded = []; words = none; few = omega arith }) (omega arith)
 
   pub height-wider : (most all h : ℕ) (v w : View X) → LoadsHeight most h v w → most ≤ all → LoadsHeight all h v w
-  height-wider most all h v w f le = let few = f.few in record { loaded = f.loaded; words = f.words; two = f.two; is = f.is; few = omega (arith, few, le); tells = f.tells }
+  height-wider most all h v w f le = let few = f.few in record {
+    loaded = f.loaded;
+    words = f.words;
+    two = f.two;
+    is = f.is;
+    few = omega (arith, few, le);
+    tells = f.tells;
+  }
 
   pub height-within : (most : ℕ → ℕ) (n h : ℕ) (v w : View X) → LoadsHeight n h v w → n ≤ most h → LoadsWithin most v w
   height-within most n h v w f le =
       let few = f.few in
       let same : most (height_in f.loaded) ≡ most h = ap most f.is in
-      record { loaded = f.loaded; words = f.words; few = omega (arith, few, same, le); tells = inr (subst (λ (n : ℕ). HasHeight n v w) (sym f.is) f.tells) }
+      record {
+        loaded = f.loaded;
+        words = f.words;
+        few = omega (arith, few, same, le);
+        tells = inr (subst (λ (n : ℕ). HasHeight n v w) (sym f.is) f.tells);
+      }
 
   -- the bound may be higher
   pub within-wider : (most wider : ℕ → ℕ) (v w : View X) → ((h : ℕ) → most h ≤ wider h) → LoadsWithin most v w → LoadsWithin wider v w
@@ -86,11 +102,14 @@ module _ {X : Type 0} where
   words-same a u v w f none = subst (λ l. LoadsWords l u w) (append-none a) (words-then a [] u v w f none)
 
   -- page 0 was looked at, its two words loaded, and the page that it names entered
-  pub meta-loaded : (root level : ℕ) (u a b y w : View X) → LoadsWords [] u a → LoadsWords (root ∷ []) a b → LoadsWords (level ∷ []) b y → LoadsWords [] y w → LoadsWords (root ∷ level ∷ []) u w
-  meta-loaded root level u a b y w start first second none = words-then [] (root ∷ level ∷ []) u a w start (words-then (root ∷ []) (level ∷ []) a b w first (words-same (level ∷ []) b y w second none))
+  pub meta-loaded : (root level : ℕ) (u a b y w : View X) → LoadsWords [] u a → LoadsWords (root ∷ []) a b
+      → LoadsWords (level ∷ []) b y → LoadsWords [] y w → LoadsWords (root ∷ level ∷ []) u w
+  meta-loaded root level u a b y w start first second none = words-then [] (root ∷ level ∷ []) u a w start
+      (words-then (root ∷ []) (level ∷ []) a b w first (words-same (level ∷ []) b y w second none))
 
   -- so page 0 tells the height
-  pub meta-height : (p word frame root level : ℕ) (u a b y w : View X) → p ≡ 0 → IsOpened u p word frame y → (before : List (ℕ × ℕ)) × (loads_at y p ≡ before ++ (1, root) ∷ (2, level) ∷ [])
+  pub meta-height : (p word frame root level : ℕ) (u a b y w : View X) → p ≡ 0 → IsOpened u p word frame y
+      → (before : List (ℕ × ℕ)) × (loads_at y p ≡ before ++ (1, root) ∷ (2, level) ∷ [])
       → LoadsWords [] u a → LoadsWords (root ∷ []) a b → LoadsWords (level ∷ []) b y → LoadsWords [] y w → HasHeight level u w
   meta-height p word frame root level u a b y w zero opened loads start first second none = record {
     word = word;

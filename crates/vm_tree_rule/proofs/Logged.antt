@@ -1,7 +1,7 @@
 -- The evidence of an end without a page, in the log of the whole call.
 use Rattle.std.proofs.Common.{[], ◌++◌, ◌∙◌, ◌∷◌, ◌≡◌, ap, append_assoc, List, None, refl, sym, ℕ}
 use Rattle.vm_rule.specs.Prelude.{did_load, Each}
-use Rattle.vm_rule.specs.declared.view.Place.TheVariants as places
+use Rattle.vm_rule.specs.declared.view.WordPlace.TheVariants as places
 use Rattle.vm_step.specs.Prelude.{Did, HasGiven, NoWord, View}
 use Rattle.vm_step.specs.declared.saw.Saw.{Saw}
 use Rattle.vm_guard.specs.{declared.deny.Deny.Deny, Denied.IsDenied, Denied.KeptWord}
@@ -11,11 +11,16 @@ use Rattle.vm_tree_rule.proofs.Readings.{leaves-then, log-then}
 use Rattle.vm_tree_rule.proofs.Showing.{saw-behind, saw-kept, seen-front}
 
 -- steps, of which the last one of the second run stands out
-gathered : (l e : List Did) (first : Did) (clearing : List Did) (translation last : Did) (rest : List Did) → ((l ++ e) ++ (first ∷ (clearing ++ translation ∷ last ∷ []))) ++ rest ≡ l ++ ((e ++ (first ∷ (clearing ++ translation ∷ []))) ++ last ∷ rest)
+gathered : (l e : List Did) (first : Did) (clearing : List Did) (translation last : Did) (rest : List Did)
+    → ((l ++ e) ++ (first ∷ (clearing ++ translation ∷ last ∷ []))) ++ rest ≡ l
+    ++ ((e ++ (first ∷ (clearing ++ translation ∷ []))) ++ last ∷ rest)
 gathered l e first clearing translation last rest =
     let begun : List Did = first ∷ (clearing ++ translation ∷ last ∷ []) in
     let start : List Did = first ∷ (clearing ++ translation ∷ []) in
-    let inner : begun ++ rest ≡ start ++ last ∷ rest = ap (λ (t : List Did). first ∷ t) (append_assoc clearing (translation ∷ last ∷ []) rest ∙ sym (append_assoc clearing (translation ∷ []) (last ∷ rest))) in
+    let inner : begun ++ rest ≡ start ++ last ∷ rest =
+    ap (λ (t : List Did). first ∷ t)
+    (append_assoc clearing (translation ∷ last ∷ []) rest
+    ∙ sym (append_assoc clearing (translation ∷ []) (last ∷ rest))) in
     append_assoc (l ++ e) begun rest
     ∙ append_assoc l e (begun ++ rest)
     ∙ ap (λ (t : List Did). l ++ (e ++ t)) inner
@@ -39,13 +44,21 @@ module _ {X : Type 0} where
         since = same.done;
         log =
             same.log
-            ∙ ap (λ (t : List Did). t ++ same.done) (b.quiet.steady.log ∙ ap (λ (t : List Did). o.before.log ++ t) b.cut ∙ ap (λ (t : List Did). t ++ (did_load (places.State p) b.first ∷ (b.clearing ++ did_load (places.Translation p) b.translation ∷ did_load (places.State p) word ∷ []))) o.earlier.0.log)
-            ∙ gathered u.log earlier (did_load (places.State p) b.first) b.clearing (did_load (places.Translation p) b.translation) (did_load (places.State p) word) same.done;
+            ∙ ap (λ (t : List Did). t ++ same.done)
+            (b.quiet.steady.log ∙ ap (λ (t : List Did). o.before.log ++ t) b.cut
+            ∙ ap (λ (t : List Did).
+            t ++ (did_load (places.State p)
+            b.first ∷ (b.clearing ++ did_load (places.Translation p) b.translation ∷ did_load (places.State p)
+            word ∷ []))) o.earlier.0.log)
+            ∙ gathered u.log earlier (did_load (places.State p) b.first) b.clearing
+            (did_load (places.Translation p) b.translation) (did_load (places.State p) word) same.done;
         none = same.none;
       }
 
   -- a call on a page was denied, as the first one that reads its word
-  pub shown-start : (allowed : Deny → Type 0) (expects : ℕ → ℕ → Type 0) (p : ℕ) (saw : Saw) (front : List Did) (u v w : View X) → v.log ≡ u.log ++ front → IsDenied allowed NoWord expects p (denies.Again saw) v w → IsShown expects u saw w
+  pub shown-start : (allowed : Deny → Type 0) (expects : ℕ → ℕ → Type 0) (p : ℕ) (saw : Saw) (front : List Did)
+      (u v w : View X) → v.log ≡ u.log ++ front → IsDenied allowed NoWord expects p (denies.Again saw) v w
+      → IsShown expects u saw w
   shown-start allowed expects p saw front u v w log d = record {
     done = front ++ d.done;
     log = log-then front d.done u v w log d.quiet.steady.log;
@@ -55,7 +68,9 @@ module _ {X : Type 0} where
   }
 
   -- or by a guard, whose word the call had read
-  pub shown-kept : (allowed : Deny → Type 0) (expects : ℕ → ℕ → Type 0) (p word frame : ℕ) (saw : Saw) (u v x w : View X) → IsOpened u p word frame v → LeavesWord p v x → IsDenied allowed (KeptWord word) expects p (denies.Again saw) x w → IsShown expects u saw w
+  pub shown-kept : (allowed : Deny → Type 0) (expects : ℕ → ℕ → Type 0) (p word frame : ℕ) (saw : Saw)
+      (u v x w : View X) → IsOpened u p word frame v → LeavesWord p v x → IsDenied allowed (KeptWord word) expects p
+      (denies.Again saw) x w → IsShown expects u saw w
   shown-kept allowed expects p word frame saw u v x w o leaves d =
       let r = read-since p word frame u v x o leaves in
       let front : List Did = r.before ++ did_load (places.State p) word ∷ r.since in
@@ -68,7 +83,8 @@ module _ {X : Type 0} where
       }
 
   -- the call went on
-  pub shown-later : (expects : ℕ → ℕ → Type 0) (saw : Saw) (more : List Did) (u v w : View X) → w.log ≡ v.log ++ more → IsShown expects u saw v → IsShown expects u saw w
+  pub shown-later : (expects : ℕ → ℕ → Type 0) (saw : Saw) (more : List Did) (u v w : View X) → w.log ≡ v.log ++ more
+      → IsShown expects u saw v → IsShown expects u saw w
   shown-later expects saw more u v w log s = record {
     done = s.done ++ more;
     log = log-then s.done more u v w s.log log;
@@ -78,10 +94,17 @@ module _ {X : Type 0} where
   }
 
   -- the word that the read of a page began with is one that the call read
-  pub given-since : (p word : ℕ) (more : List Did) (u v w : View X) → IsReadSince p word u v → w.log ≡ v.log ++ more → (done : List Did) × (w.log ≡ u.log ++ done) × HasGiven done (places.State p) word
+  pub given-since : (p word : ℕ) (more : List Did) (u v w : View X) → IsReadSince p word u v → w.log ≡ v.log ++ more
+      → (done : List Did) × (w.log ≡ u.log ++ done) × HasGiven done (places.State p) word
   given-since p word more u v w r log =
       let front : List Did = r.before ++ did_load (places.State p) word ∷ r.since in (
         front ++ more,
         log-then front more u v w r.log log,
-        record { earlier = r.before; step = did_load (places.State p) word; later = r.since ++ more; cut = append_assoc r.before (did_load (places.State p) word ∷ r.since) more; gives = (refl, refl) },
+        record {
+          earlier = r.before;
+          step = did_load (places.State p) word;
+          later = r.since ++ more;
+          cut = append_assoc r.before (did_load (places.State p) word ∷ r.since) more;
+          gives = (refl, refl);
+        },
       )

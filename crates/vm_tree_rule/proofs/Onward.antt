@@ -1,6 +1,6 @@
 -- A step down from a node of which words were loaded before: they name the next page.
-use Rattle.std.proofs.Common.{[], ◌++◌, ◌<◌, ◌∙◌, ◌∷◌, ◌≡◌, ◌≢◌, ◌≤◌, ap, append_assoc, arith, inr, length, List, None, Option, refl, slice_index, Some}
-use Rattle.std.proofs.Common.{subst, suc, sym, true, unwrap_or, ℕ}
+use Rattle.std.proofs.Common.{[], ◌++◌, ◌<◌, ◌∙◌, ◌∷◌, ◌≡◌, ◌≢◌, ◌≤◌, ap, append_assoc, arith, inr, length, List}
+use Rattle.std.proofs.Common.{None, Option, refl, slice_index, Some, subst, suc, sym, true, unwrap_or, ℕ}
 use Rattle.vm_map.specs.Map.{next_key}
 use Rattle.vm_tree_model.specs.{Layout.Layout, Page.node_of, Page.pairs_of}
 use Rattle.vm_node.specs.Loads.{IsPageWith}
@@ -21,12 +21,16 @@ use Rattle.vm_tree_rule.proofs.Readings.{reads-self, reads-then, valid-leave}
 
 module _ {X : Type 0} where
   -- more words of the page were loaded
-  pub loaded-more : (p word frame : ℕ) (before loaded : List (ℕ × ℕ)) (v w : View X) → HasLoaded v p before → Loads p word frame loaded v w → HasLoaded w p (before ++ loaded)
-  loaded-more p word frame before loaded v w has l = (has.0, l.loads ∙ ap (λ (m : List (ℕ × ℕ)). m ++ loaded) has.1 ∙ append_assoc has.0 before loaded)
+  pub loaded-more : (p word frame : ℕ) (before loaded : List (ℕ × ℕ)) (v w : View X) → HasLoaded v p before
+      → Loads p word frame loaded v w → HasLoaded w p (before ++ loaded)
+  loaded-more p word frame before loaded v w has l =
+      (has.0, l.loads ∙ ap (λ (m : List (ℕ × ℕ)). m ++ loaded) has.1 ∙ append_assoc has.0 before loaded)
 
   -- page 0 was read, and then the root entered
-  pub meta-read : (p word frame root entered level : ℕ) (v a b y w : View X) → p ≡ 0 → IsOpened v p word frame y → ReadsOn y w → StaysOpen p word frame entered y w → entered ≡ root
-      → loads_at b p ≡ loads_at a p ++ (1, root) ∷ [] → loads_at y p ≡ loads_at b p ++ (2, level) ∷ [] → level < w.start.pages → IsMetaRead p word frame entered level v w
+  pub meta-read : (p word frame root entered level : ℕ) (v a b y w : View X) → p ≡ 0 → IsOpened v p word frame y
+      → ReadsOn y w → StaysOpen p word frame entered y w → entered ≡ root
+      → loads_at b p ≡ loads_at a p ++ (1, root) ∷ [] → loads_at y p ≡ loads_at b p ++ (2, level) ∷ []
+      → level < w.start.pages → IsMetaRead p word frame entered level v w
   meta-read p word frame root entered level v a b y w zero o reads s same first second height = record {
     height = height;
     zero = zero;
@@ -34,41 +38,54 @@ module _ {X : Type 0} where
     opened = opened-later p word frame v y w o reads s.same s.reading;
     loads = (
       loads_at a p,
-      s.loads ∙ second ∙ ap (λ (l : List (ℕ × ℕ)). l ++ (2, level) ∷ []) (first ∙ ap (λ (n : ℕ). loads_at a p ++ (1, n) ∷ []) (sym same)) ∙ append_assoc (loads_at a p) ((1, entered) ∷ []) ((2, level) ∷ []),
+      s.loads ∙ second ∙ ap (λ (l : List (ℕ × ℕ)). l ++ (2, level) ∷ [])
+          (first ∙ ap (λ (n : ℕ). loads_at a p ++ (1, n) ∷ []) (sym same)) ∙ append_assoc (loads_at a p)
+          ((1, entered) ∷ []) ((2, level) ∷ []),
     );
   }
 
 module _ {X : Type 0} {L : Layout} where
-  module _ (p word frame level key : ℕ) (loaded : List (ℕ × ℕ)) (y : View X) (r : IsReading p word frame y) (read : HasLoaded y p loaded) where
+  module _ (p word frame level key : ℕ) (loaded : List (ℕ × ℕ)) (y : View X) (r : IsReading p word frame y)
+      (read : HasLoaded y p loaded) where
     -- the words that a validation would prove are a page that has what was loaded
     pub has-loaded : (words : List ℕ) → length words ≡ L.words → Sees L y p word words → IsPageWith L.words loaded words
-    has-loaded words size sees = record { size = size; has = each-loaded words loaded (loads-behind words read.0 loaded (subst (LoadsAre words) read.1 (sees.valid _ r.reading refl))) }
+    has-loaded words size sees = record {
+      size = size;
+      has = each-loaded words loaded (loads-behind words read.0 loaded (subst (LoadsAre words) read.1 (sees.valid _ r.reading refl)));
+    }
 
     module _ (low high : ℕ) (awaits : AwaitsNode L y p word (suc level) low high) (from : low ≤ key) (below : key < high) where
-      pub goes-on : (named first : ℕ) (next : Option ℕ) → TellChildIn L loaded key named first next → NamesNode L y p word named level first (unwrap_or next high)
+      pub goes-on : (named first : ℕ) (next : Option ℕ) → TellChildIn L loaded key named first next
+          → NamesNode L y p word named level first (unwrap_or next high)
       goes-on named first next is tells words size sees =
           let here : IsReachedAs L (tree_pages y) p words (suc level) low high = awaits tells words sees.holds in
           let reached = reached_as L (tree_pages y) p words (suc level) low high key here from below in
           let inner = inner-here (tree_pages y) p words level key reached in
           let found = is words (has-loaded words size sees) in
           let fences = found.fences _ _ inner.node.rises in
-          let bound : next_key (pairs_of L words) (node_of L words).high first ≡ unwrap_or next high = fences.1 (node_of L words).high ∙ ap (λ (n : ℕ). unwrap_or next n) here.node.high_is in
+          let bound : next_key (pairs_of L words) (node_of L words).high first ≡ unwrap_or next high =
+          fences.1 (node_of L words).high ∙ ap (λ (n : ℕ). unwrap_or next n) here.node.high_is in
           let range = sees.itself.sound.children reached.from_one first named inner.node.tag fences.0 in
           record {
             from_one = range.0;
             in_range = range.1;
-            apart = λ e. itself-not (tree_pages y) p words level key reached inner sees.itself (found.finds.child _ _ inner.node.rises ∙ ap (λ (n : ℕ). Some n) e);
-            node = λ child tied. subst (λ n. IsNodeAs L child level first n) bound (child_as L (tree_pages y) p words (suc level) key reached named first child inner fences.0 tied level (omega arith)).node;
+            apart = λ e. itself-not (tree_pages y) p words level key reached inner sees.itself
+                (found.finds.child _ _ inner.node.rises ∙ ap (λ (n : ℕ). Some n) e);
+            node = λ child tied. subst (λ n. IsNodeAs L child level first n) bound
+                (child_as L (tree_pages y) p words (suc level) key reached named first child inner fences.0 tied level
+                (omega arith)).node;
           }
 
     module _ (awaits : Awaits L y p word (suc level) key) where
-      pub goes-to : (named : ℕ) → TellChild L loaded key named → y.start.tells ≡ true → (words : List ℕ) → length words ≡ L.words → Sees L y p word words → NamesForKey L p words key named
+      pub goes-to : (named : ℕ) → TellChild L loaded key named → y.start.tells ≡ true → (words : List ℕ)
+          → length words ≡ L.words → Sees L y p word words → NamesForKey L p words key named
       goes-to named is tells words size sees =
           let reached = awaits tells words sees.holds in
           let inner = inner-here (tree_pages y) p words level key reached in
           inr (reached.from_one, inner.node.tag, reached.covers, (is words (has-loaded words size sees)).child _ _ inner.node.rises)
 
-      pub goes-nowhere : TellNoChild L loaded key → y.start.tells ≡ true → (words : List ℕ) → length words ≡ L.words → Sees L y p word words → ⊥
+      pub goes-nowhere : TellNoChild L loaded key → y.start.tells ≡ true → (words : List ℕ) → length words ≡ L.words
+          → Sees L y p word words → ⊥
       goes-nowhere none tells words size sees =
           let reached = awaits tells words sees.holds in
           let inner = inner-here (tree_pages y) p words level key reached in
@@ -76,8 +93,11 @@ module _ {X : Type 0} {L : Layout} where
           let no : Some there.0 ≡ None = sym there.1 ∙ (none words (has-loaded words size sees)).child _ _ inner.node.rises in cc
 
   -- the root was named by page 0, which was validated then
-  pub root-passes : (meta : OptGuard) (root level q word' frame' : ℕ) (u y w : View X) → meta.pid ≡ 0 → IsOpened u meta.pid meta.word meta.frame y → (before : List (ℕ × ℕ)) × (loads_at y meta.pid ≡ before ++ (1, root) ∷ (2, level) ∷ []) → q ≡ root
-      → HasSteppedDown L meta.pid meta.word meta.frame q word' frame' y w → (y.start.tells ≡ true → slice_index (last_of w meta.pid).words 1 ≡ root) → IsNamedRoot L u q w
+  pub root-passes : (meta : OptGuard) (root level q word' frame' : ℕ) (u y w : View X) → meta.pid ≡ 0
+      → IsOpened u meta.pid meta.word meta.frame y → (before : List (ℕ × ℕ))
+      × (loads_at y meta.pid ≡ before ++ (1, root) ∷ (2, level) ∷ []) → q ≡ root
+      → HasSteppedDown L meta.pid meta.word meta.frame q word' frame' y w
+      → (y.start.tells ≡ true → slice_index (last_of w meta.pid).words 1 ≡ root) → IsNamedRoot L u q w
   root-passes meta root level q word' frame' u y w zero o loads same s told = record {
     meta = meta;
     level = level;
@@ -92,7 +112,8 @@ module _ {X : Type 0} {L : Layout} where
   }
 
   -- the parent stays open
-  pub stays : (p word frame q started frame' : ℕ) (v x w : View X) → q ≢ p → BeginsReading q started frame' v x → IsValid (Tied L) p word frame None x w → StaysOpen p word frame q v w
+  pub stays : (p word frame q started frame' : ℕ) (v x w : View X) → q ≢ p → BeginsReading q started frame' v x
+      → IsValid (Tied L) p word frame None x w → StaysOpen p word frame q v w
   stays p word frame q started frame' v x w ne b k = record {
     apart = ne;
     reading = k.reads;
@@ -101,7 +122,9 @@ module _ {X : Type 0} {L : Layout} where
   }
 
   -- so does each other page's read, and no word is left there
-  pub others-stay : (q p started frame' r word frame : ℕ) (v x w : View X) → q ≢ p → BeginsReading p started frame' v x → IsValid (Tied L) r word frame None x w → ReadsAsBefore v w q × LeavesWord q v w
+  pub others-stay : (q p started frame' r word frame : ℕ) (v x w : View X) → q ≢ p
+      → BeginsReading p started frame' v x → IsValid (Tied L) r word frame None x w → ReadsAsBefore v w q
+      × LeavesWord q v w
   others-stay q p started frame' r word frame v x w ne b k =
       let first = b.quiet.others q ne in
       let then = k.same_reads q in (
@@ -111,9 +134,33 @@ module _ {X : Type 0} {L : Layout} where
 
 module _ {X : Type 0} (L : Layout) (spare : List ℕ → ℕ) where
   -- the call went on
-  pub passed-later : (v : View X) (key : ℕ) (way : List (ℕ × List (ℕ × ℕ))) (p : ℕ) (w y : View X) → ReadsOn w y → ArePassed L spare v key way p w → ArePassed L spare v key way p y
-  passed-later v key [] p w y reads k = record { meta = k.meta; level = k.level; checked = k.checked; after = k.after; zero = k.zero; opened = k.opened; loads = k.loads; valid = k.valid; since = reads-then k.after w y k.since reads; told = k.told }
+  pub passed-later : (v : View X) (key : ℕ) (way : List (ℕ × List (ℕ × ℕ))) (p : ℕ) (w y : View X) → ReadsOn w y
+      → ArePassed L spare v key way p w → ArePassed L spare v key way p y
+  passed-later v key [] p w y reads k = record {
+    meta = k.meta;
+    level = k.level;
+    checked = k.checked;
+    after = k.after;
+    zero = k.zero;
+    opened = k.opened;
+    loads = k.loads;
+    valid = k.valid;
+    since = reads-then k.after w y k.since reads;
+    told = k.told;
+  }
   passed-later v key (s ∷ ss) p w y reads k = (
-    record { word = k.0.word; frame = k.0.frame; checked = k.0.checked; after = k.0.after; opened = k.0.opened; read = k.0.read; room = k.0.room; names = k.0.names; valid = k.0.valid; since = reads-then k.0.after w y k.0.since reads; told = k.0.told },
+    record {
+      word = k.0.word;
+      frame = k.0.frame;
+      checked = k.0.checked;
+      after = k.0.after;
+      opened = k.0.opened;
+      read = k.0.read;
+      room = k.0.room;
+      names = k.0.names;
+      valid = k.0.valid;
+      since = reads-then k.0.after w y k.0.since reads;
+      told = k.0.told;
+    },
     passed-later v key ss s.0 w y reads k.1,
   )

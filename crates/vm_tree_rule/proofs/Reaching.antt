@@ -1,19 +1,23 @@
 -- The pages above a leaf stay open while the leaf is read.
-use Rattle.std.proofs.Common.{[], ◌++◌, ◌∙◌, ◌≡◌, ◌≢◌, ap, List, sym, ℕ}
+use Rattle.std.proofs.Common.{[], ◌++◌, ◌∙◌, ◌≢◌, ap, List, sym, ℕ}
 use Rattle.vm_tree_model.specs.Layout.{Layout}
 use Rattle.vm_rule.proofs.Entries.{append-none}
 use Rattle.vm_step.specs.Prelude.{KnowsSame, View}
 use Rattle.vm_guard.specs.declared.opt.OptGuard.{OptGuard}
 use Rattle.vm_tree_rule.specs.declared.above.Above.{Above}
 use Rattle.vm_tree_rule.specs.declared.above.Above.TheVariants as aboves
-use Rattle.vm_tree_rule.specs.{Above.IsAbove, Above.IsParentOf, Above.KnowsAbove, Leaves.OnlyReads, Leaves.ReadsOn, Seeks.HasLoaded, Seeks.IsNamedRoot, Seeks.TellChild}
+use Rattle.vm_tree_rule.specs.{Above.IsAbove, Above.IsParentOf, Above.KnowsAbove, Leaves.OnlyReads, Leaves.ReadsOn}
+use Rattle.vm_tree_rule.specs.{Seeks.HasLoaded, Seeks.IsNamedRoot, Seeks.TellChild}
 use Rattle.vm_tree_rule.specs.Standing.{Awaits, IsOpened}
-use Rattle.vm_tree_rule.proofs.{Downward.awaits-later, Readings.reads-then, Seeking.meta-beside, Seeking.opened-beside, Seeking.StaysBeside, Surely.known-same}
+use Rattle.vm_tree_rule.proofs.{Downward.awaits-later, Readings.reads-then, Seeking.meta-beside}
+use Rattle.vm_tree_rule.proofs.{Seeking.opened-beside, Seeking.StaysBeside, Surely.known-same}
 
 module _ {X : Type 0} {L : Layout} where
   -- a step went down from this page
-  pub parent-stepped : (v x w : View X) (key : ℕ) (parent : OptGuard) (leaf : ℕ) (loaded : List (ℕ × ℕ)) → IsOpened v parent.pid parent.word parent.frame w → leaf ≢ parent.pid → leaf ≢ 0 → parent.pid ≢ 0
-      → Awaits L x parent.pid parent.word 1 key → ReadsOn x w → HasLoaded w parent.pid loaded → TellChild L loaded key leaf → IsParentOf L v key parent leaf w
+  pub parent-stepped : (v x w : View X) (key : ℕ) (parent : OptGuard) (leaf : ℕ) (loaded : List (ℕ × ℕ))
+      → IsOpened v parent.pid parent.word parent.frame w → leaf ≢ parent.pid → leaf ≢ 0 → parent.pid ≢ 0
+      → Awaits L x parent.pid parent.word 1 key → ReadsOn x w → HasLoaded w parent.pid loaded
+      → TellChild L loaded key leaf → IsParentOf L v key parent leaf w
   parent-stepped v x w key parent leaf loaded opened apart one two awaits reads has names = record {
     opened = opened;
     apart = apart;
@@ -24,7 +28,8 @@ module _ {X : Type 0} {L : Layout} where
     names = names;
   }
 
-  pub parent-beside : (v : View X) (key : ℕ) (parent : OptGuard) (leaf : ℕ) (x y : View X) → StaysBeside parent.pid x y → IsParentOf L v key parent leaf x → IsParentOf L v key parent leaf y
+  pub parent-beside : (v : View X) (key : ℕ) (parent : OptGuard) (leaf : ℕ) (x y : View X)
+      → StaysBeside parent.pid x y → IsParentOf L v key parent leaf x → IsParentOf L v key parent leaf y
   parent-beside v key parent leaf x y b k = record {
     opened = opened-beside parent.pid parent.word parent.frame v x y b k.opened;
     apart = k.apart;
@@ -50,7 +55,8 @@ module _ {X : Type 0} {L : Layout} where
   }
 
 module _ {X : Type 0} (L : Layout) where
-  pub above-beside : (v : View X) (key : ℕ) (above : Above) (leaf : ℕ) (x y : View X) → ReadsOn x y → ((q : ℕ) → q ≢ leaf → StaysBeside q x y) → IsAbove L v key above leaf x → IsAbove L v key above leaf y
+  pub above-beside : (v : View X) (key : ℕ) (above : Above) (leaf : ℕ) (x y : View X) → ReadsOn x y
+      → ((q : ℕ) → q ≢ leaf → StaysBeside q x y) → IsAbove L v key above leaf x → IsAbove L v key above leaf y
   above-beside v key aboves.Nothing leaf x y r b k = root-later v leaf x y r k
   above-beside v key (aboves.Root meta root) leaf x y r b k = (
     meta-beside meta.pid meta.word meta.frame root.pid 1 v x y (b meta.pid (λ e. k.1.not_zero.0 (sym e ∙ k.0.zero))) k.0,

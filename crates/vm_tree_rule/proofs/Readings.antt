@@ -1,13 +1,13 @@
 -- What reads of pages leave of the view, one after the other.
-use Rattle.std.proofs.Common.{⊎_elim, inl, inr}
-use Rattle.std.proofs.Common.{[], ◌++◌, ◌+◌, ◌<◌, ◌∙◌, ◌∷◌, ◌≡◌, ◌≢◌, ◌⊎◌, ap, append_assoc, arith, Err, IfErr, IfOk, length, List, None, Ok, Option, refl}
-use Rattle.std.proofs.Common.{Result, slice_index, subst, suc, sym, zero, ℕ}
+use Rattle.std.proofs.Common.{⊎_elim, inl, inr, [], ◌++◌, ◌+◌, ◌<◌, ◌∙◌, ◌∷◌, ◌≡◌, ◌≢◌, ◌⊎◌, ap, append_assoc, arith}
+use Rattle.std.proofs.Common.{Err, IfErr, IfOk, length, List, None, Ok, Option, refl, Result, slice_index, subst, suc}
+use Rattle.std.proofs.Common.{sym, zero, ℕ}
 use Rattle.std.proofs.lemmas.Grind.{same_number_lists}
 use Rattle.std.specs.List.{All}
 use Rattle.vm_node.specs.Loads.{IsPageWith}
 use Rattle.vm_core.specs.Prelude.{LoadsAre, version_of}
 use Rattle.vm_rule.specs.Prelude.{began_of, Each, LockValidates, Start, Within}
-use Rattle.vm_rule.specs.declared.view.Place.TheVariants as places
+use Rattle.vm_rule.specs.declared.view.WordPlace.TheVariants as places
 use Rattle.vm_rule.proofs.{Entries.append-none, Entries.each-map, Heard.each-both}
 use Rattle.vm_step.specs.Prelude.{Did, IsAlone, KnowsElse, Origin, ReadsAsBefore, Tie, View}
 use Rattle.vm_step.proofs.{Alone.still-alone, Tables.else-knows, Tables.else-self, Tables.else-then}
@@ -20,13 +20,16 @@ use Rattle.vm_tree_rule.specs.Standing.{IsOpened}
 use Rattle.vm_tree_rule.proofs.Showing.{nones-clear, nones-there, start-unmarks, unmarks-clear, unmarks-elsewhere}
 
 -- the words of a page are those that were loaded from each place of it
-loaded-at : (words : List ℕ) (n : ℕ) (xs : List ℕ) → LoadsAre words (placed n xs) → (k : ℕ) → k < length xs → slice_index words (n + k) ≡ slice_index xs k
+loaded-at : (words : List ℕ) (n : ℕ) (xs : List ℕ) → LoadsAre words (placed n xs) → (k : ℕ) → k < length xs
+    → slice_index words (n + k) ≡ slice_index xs k
 loaded-at words n [] h k l = absurd (omega arith)
 loaded-at words n (x ∷ xs) h zero l = ap (slice_index words) (omega arith) ∙ h.0
 loaded-at words n (x ∷ xs) h (suc k) l = ap (slice_index words) (omega arith) ∙ loaded-at words (suc n) xs h.1 k (omega arith)
 
 pub placed-are : (words xs : List ℕ) → length words ≡ length xs → LoadsAre words (placed 0 xs) → words ≡ xs
-placed-are words xs long h = same_number_lists words xs long (λ k l. ap (slice_index words) (omega arith) ∙ loaded-at words 0 xs h k (omega (arith, l, long)))
+placed-are words xs long h =
+    same_number_lists words xs long
+    (λ k l. ap (slice_index words) (omega arith) ∙ loaded-at words 0 xs h k (omega (arith, l, long)))
 
 pub loads-behind : (words : List ℕ) (l m : List (ℕ × ℕ)) → LoadsAre words (l ++ m) → LoadsAre words m
 loads-behind words [] m h = h
@@ -151,9 +154,12 @@ module _ {X : Type 0} where
   )
 
   pub begins-reads : (p word frame : ℕ) (v w : View X) → BeginsReading p word frame v w → ReadsOn v w
-  begins-reads p word frame v w b = quiet-reads p b.done v w b.quiet (unmarks-clear p b.done (start-unmarks p b.first b.translation word b.clearing b.done b.cut b.clears))
+  begins-reads p word frame v w b =
+      quiet-reads p b.done v w b.quiet
+      (unmarks-clear p b.done (start-unmarks p b.first b.translation word b.clearing b.done b.cut b.clears))
 
-  pub denied-reads : (allowed : Deny → Type 0) (kept : ℕ → Type 0) (expects : ℕ → ℕ → Type 0) (p : ℕ) (deny : Deny) (v w : View X) → IsDenied allowed kept expects p deny v w → ReadsOn v w
+  pub denied-reads : (allowed : Deny → Type 0) (kept : ℕ → Type 0) (expects : ℕ → ℕ → Type 0) (p : ℕ) (deny : Deny)
+      (v w : View X) → IsDenied allowed kept expects p deny v w → ReadsOn v w
   denied-reads allowed kept expects p deny v w d = quiet-reads p d.done v w d.quiet (unmarks-clear p d.done d.leaves)
 
   pub loads-reads : (p word frame : ℕ) (loaded : List (ℕ × ℕ)) (v w : View X) → Loads p word frame loaded v w → ReadsOn v w
@@ -186,19 +192,26 @@ module _ {X : Type 0} where
     valid-reads v w k = (valid-only None v w k, k.mine ∙ append-none v.mine)
 
     -- what a validation proves after steps that left the page's read as it was, it proves of the view before them
-    pub validates-back : (words : List ℕ) (v w : View X) → OnlyReads v w → ReadsAsBefore v w p → LockValidates tied p (version_of word) words w → LockValidates tied p (version_of word) words v
+    pub validates-back : (words : List ℕ) (v w : View X) → OnlyReads v w → ReadsAsBefore v w p
+        → LockValidates tied p (version_of word) words w → LockValidates tied p (version_of word) words v
     validates-back words v w reads same k = record {
       valid = λ o e n. subst (LoadsAre words) same.loads (k.valid o (same.reading ∙ e) n);
       holds =
-          subst (λ (s : Origin). Each (λ (t : Tie). t.page ≡ p → t.version ≡ version_of word → tied (began_of s) t.of t.words p words) v.ties) reads.start
-          (each-behind (λ (t : Tie). t.page ≡ p → t.version ≡ version_of word → tied (began_of w.start) t.of t.words p words) reads.ties.0 v.ties
-          (subst (λ (l : List Tie). Each (λ (t : Tie). t.page ≡ p → t.version ≡ version_of word → tied (began_of w.start) t.of t.words p words) l) reads.ties.1 k.holds));
+          subst (λ (s : Origin). Each (λ (t : Tie). t.page ≡ p → t.version ≡ version_of word
+          → tied (began_of s) t.of t.words p words) v.ties) reads.start
+          (each-behind (λ (t : Tie). t.page ≡ p → t.version ≡ version_of word → tied (began_of w.start) t.of t.words p
+          words) reads.ties.0 v.ties
+          (subst (λ (l : List Tie).
+          Each (λ (t : Tie). t.page ≡ p → t.version ≡ version_of word → tied (began_of w.start) t.of t.words p
+          words) l) reads.ties.1 k.holds));
       itself = subst (λ (s : Origin). tied (began_of s) p words p words) reads.start k.itself;
     }
 
   -- the read of page p stays open over calls on another page
-  pub reading-beside : (p word frame q : ℕ) (done : List Did) (v w : View X) → p ≢ q → IsQuiet q done v w → IsReading p word frame v → IsReading p word frame w
-  reading-beside p word frame q done v w ne k r = reading-kept p word frame v w r k.steady.start (k.holds p) (λ l. (k.knows p l).held) (k.others p ne).reading
+  pub reading-beside : (p word frame q : ℕ) (done : List Did) (v w : View X) → p ≢ q → IsQuiet q done v w
+      → IsReading p word frame v → IsReading p word frame w
+  reading-beside p word frame q done v w ne k r =
+      reading-kept p word frame v w r k.steady.start (k.holds p) (λ l. (k.knows p l).held) (k.others p ne).reading
 
   pub leaves-self : (p : ℕ) (v : View X) → LeavesWord p v v
   leaves-self p v = record { done = []; log = sym (append-none v.log); none = tt }
@@ -214,21 +227,48 @@ module _ {X : Type 0} where
   loads-leave q p word frame loaded v w l = record { done = l.done; log = l.quiet.steady.log; none = nones-there q l.done l.leaves }
 
   pub begins-leave : (q p word frame : ℕ) (v w : View X) → q ≢ p → BeginsReading p word frame v w → LeavesWord q v w
-  begins-leave q p word frame v w ne b = record { done = b.done; log = b.quiet.steady.log; none = unmarks-elsewhere p q b.done ne (start-unmarks p b.first b.translation word b.clearing b.done b.cut b.clears) }
+  begins-leave q p word frame v w ne b = record {
+    done = b.done;
+    log = b.quiet.steady.log;
+    none = unmarks-elsewhere p q b.done ne (start-unmarks p b.first b.translation word b.clearing b.done b.cut b.clears);
+  }
 
-  pub denied-leave : (allowed : Deny → Type 0) (kept : ℕ → Type 0) (expects : ℕ → ℕ → Type 0) (q p : ℕ) (deny : Deny) (v w : View X) → q ≢ p → IsDenied allowed kept expects p deny v w → LeavesWord q v w
-  denied-leave allowed kept expects q p deny v w ne d = record { done = d.done; log = d.quiet.steady.log; none = unmarks-elsewhere p q d.done ne d.leaves }
+  pub denied-leave : (allowed : Deny → Type 0) (kept : ℕ → Type 0) (expects : ℕ → ℕ → Type 0) (q p : ℕ) (deny : Deny)
+      (v w : View X) → q ≢ p → IsDenied allowed kept expects p deny v w → LeavesWord q v w
+  denied-leave allowed kept expects q p deny v w ne d =
+      record { done = d.done; log = d.quiet.steady.log; none = unmarks-elsewhere p q d.done ne d.leaves }
 
-  pub valid-leave : (tied : Start → ℕ → List ℕ → ℕ → List ℕ → Type 0) (q p word frame : ℕ) (said : Option X) (v w : View X) → IsValid tied p word frame said v w → LeavesWord q v w
+  pub valid-leave : (tied : Start → ℕ → List ℕ → ℕ → List ℕ → Type 0) (q p word frame : ℕ) (said : Option X)
+      (v w : View X) → IsValid tied p word frame said v w → LeavesWord q v w
   valid-leave tied q p word frame said v w k = record { done = k.done; log = k.steady.log; none = nones-there q k.done k.leaves }
 
-  pub opened-later : (p word frame : ℕ) (v x y : View X) → IsOpened v p word frame x → ReadsOn x y → LeavesWord p x y → IsReading p word frame y → IsOpened v p word frame y
+  pub opened-later : (p word frame : ℕ) (v x y : View X) → IsOpened v p word frame x → ReadsOn x y → LeavesWord p x y
+      → IsReading p word frame y → IsOpened v p word frame y
   opened-later p word frame v x y o reads leaves reading =
-      record { before = o.before; after = o.after; earlier = o.earlier; begins = o.begins; since = reads-then o.after x y o.since reads; same = leaves-then p o.after x y o.same leaves; reading = reading }
+      record {
+        before = o.before;
+        after = o.after;
+        earlier = o.earlier;
+        begins = o.begins;
+        since = reads-then o.after x y o.since reads;
+        same = leaves-then p o.after x y o.same leaves;
+        reading = reading;
+      }
 
   -- words of the page were loaded
-  pub opened-loads : (p word frame : ℕ) (loaded : List (ℕ × ℕ)) (v x y : View X) → IsOpened v p word frame x → Loads p word frame loaded x y → IsOpened v p word frame y
-  opened-loads p word frame loaded v x y o l = opened-later p word frame v x y o (loads-reads p word frame loaded x y l) (loads-leave p p word frame loaded x y l) l.reads
+  pub opened-loads : (p word frame : ℕ) (loaded : List (ℕ × ℕ)) (v x y : View X) → IsOpened v p word frame x
+      → Loads p word frame loaded x y → IsOpened v p word frame y
+  opened-loads p word frame loaded v x y o l =
+      opened-later p word frame v x y o (loads-reads p word frame loaded x y l)
+      (loads-leave p p word frame loaded x y l) l.reads
 
   pub opened-earlier : (p word frame : ℕ) (u v x : View X) → ReadsOn u v → IsOpened v p word frame x → IsOpened u p word frame x
-  opened-earlier p word frame u v x reads o = record { before = o.before; after = o.after; earlier = reads-then u v o.before reads o.earlier; begins = o.begins; since = o.since; same = o.same; reading = o.reading }
+  opened-earlier p word frame u v x reads o = record {
+    before = o.before;
+    after = o.after;
+    earlier = reads-then u v o.before reads o.earlier;
+    begins = o.begins;
+    since = o.since;
+    same = o.same;
+    reading = o.reading;
+  }

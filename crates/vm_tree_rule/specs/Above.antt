@@ -6,10 +6,12 @@ use Rattle.vm_step.specs.Prelude.{View}
 use Rattle.vm_guard.specs.declared.opt.OptGuard.{OptGuard}
 use Rattle.vm_tree_rule.specs.declared.above.Above.{Above}
 use Rattle.vm_tree_rule.specs.declared.above.Above.TheVariants as aboves
-use Rattle.vm_tree_rule.specs.{Resident.IsKnownNow, Seeks.IsMetaRead, Seeks.IsNamedRoot, Seeks.TellChild, Standing.Awaits, Standing.IsOpened}
+use Rattle.vm_tree_rule.specs.{Resident.IsKnownNow, Seeks.IsMetaRead, Seeks.IsNamedRoot, Seeks.TellChild}
+use Rattle.vm_tree_rule.specs.{Standing.Awaits, Standing.IsOpened}
 
 module _ {X : Type 0} (L : Layout) where
-  -- This page, whose read began in this call and is open, stands right above the leaf on the way of the key: words that were loaded of it name the leaf for the key, and
+  -- This page, whose read began in this call and is open, stands right above the leaf on the way of the key: words
+  -- that were loaded of it name the leaf for the key, and
   -- it is an inner node of level 1 that covers the key, where blocks tell their words
   pub record IsParentOf (v : View X) (key : ℕ) (parent : OptGuard) (leaf : ℕ) (w : View X) : Type 0 where
     pub opened : IsOpened v parent.pid parent.word parent.frame w

@@ -18,7 +18,8 @@ module _ {X : Type 0} where
     pub few : length loaded ≤ most
     pub tells : claim loaded
 
-  -- page 0 tells this height: it was looked at in this call, and the first words of pages that the call loaded are its words 1 and 2, through that
+  -- page 0 tells this height: it was looked at in this call, and the first words of pages that the call loaded are
+  -- its words 1 and 2, through that
   -- read, so from the frame that its translation word named; word 2 is the height
   pub record HasHeight (height : ℕ) (v w : View X) : Type 0 where
     pub word : ℕ

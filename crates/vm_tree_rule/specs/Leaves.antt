@@ -1,13 +1,14 @@
--- What calls leave of a view that read pages of the tree optimistically: the pass holds what it held. The entries of the pass stand beside it.
+-- What calls leave of a view that read pages of the tree optimistically: the pass holds what it held. The entries of
+-- the pass stand beside it.
 use Rattle.std.specs.Prelude.{◌++◌, ◌≡◌, ◌⊎◌, List, None, ℕ}
 use Rattle.vm_rule.specs.Prelude.{Each, IsLocking, seat_of, StartsWith}
-use Rattle.vm_rule.specs.declared.view.Place.{Place}
-use Rattle.vm_rule.specs.declared.view.Place.TheVariants as places
+use Rattle.vm_rule.specs.declared.view.WordPlace.{WordPlace}
+use Rattle.vm_rule.specs.declared.view.WordPlace.TheVariants as places
 use Rattle.vm_step.specs.Prelude.{Did, HoldsPage, IsAlone, KeepsNumbers, KnowsAsBefore, KnowsElse, StaysAlone, Tie, View}
 use Rattle.vm_guard.specs.Quiet.{IsUnmark}
 
 -- the place is that of a page's state word
-abbrev pub IsAnyState : Place → Type 0
+abbrev pub IsAnyState : WordPlace → Type 0
 IsAnyState at = (q : ℕ) × (at ≡ places.State q)
 
 -- the steps leave no word but where they take a mark away
@@ -15,7 +16,8 @@ abbrev pub OnlyClears : List Did → Type 0
 OnlyClears done = Each (λ d. (d.wrote ≡ None) ⊎ IsUnmark d) done
 
 module _ {X : Type 0} where
-  -- the calls made these steps and no release; all of the view is as it was but open reads, ties, what the pass has seen of the two lists, and
+  -- the calls made these steps and no release; all of the view is as it was but open reads, ties, what the pass has
+  -- seen of the two lists, and
   -- its entries
   pub record OnlyReads (v w : View X) : Type 0 where
     pub done : List Did

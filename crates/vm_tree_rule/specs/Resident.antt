@@ -1,4 +1,5 @@
--- What a pass that is alone has to know of the table, so that a call on the tree is sure to be answered; and what it knows then of a page that it reads.
+-- What a pass that is alone has to know of the table, so that a call on the tree is sure to be answered; and what it
+-- knows then of a page that it reads.
 use Rattle.std.specs.Prelude.{◌<◌, ◌≡◌, suc, true, zero, ℕ}
 use Rattle.vm_core.specs.Prelude.{LOCKED, state_of}
 use Rattle.vm_step.specs.Prelude.{IsAlone, KnowsUnheld, View}

@@ -1,4 +1,5 @@
--- Where a descent stands that looks for a full node: a page and the page that names it, of which words were loaded where they stand, both still open.
+-- Where a descent stands that looks for a full node: a page and the page that names it, of which words were loaded
+-- where they stand, both still open.
 use Rattle.std.specs.Prelude.{[], ◌*◌, ◌++◌, ◌+◌, ◌<◌, ◌∷◌, ◌≡◌, ◌≢◌, ◌≤◌, List, None, Option, slice_index, Some, suc, true, ℕ}
 use Rattle.vm_tree_model.specs.{Edits.child_of, Layout.Layout}
 use Rattle.vm_kind.specs.Bounds.{Bounds}
@@ -32,7 +33,8 @@ module _ (L : Layout) where
   abbrev pub TellRoom : (List ℕ → ℕ) → List (ℕ × ℕ) → Type 0
   TellRoom spare loaded = (words : List ℕ) → IsPageWith L.words loaded words → L.growth ≤ spare words
 
--- how many words of pages the search loads by the height, of pages of n words: two of page 0, and of each node on the way those that tell its room and
+-- how many words of pages the search loads by the height, of pages of n words: two of page 0, and of each node on the
+-- way those that tell its room and
 -- its child; then those of the full root, or of the full node and of its parent
 abbrev pub most_for : Bounds → ℕ → Met → ℕ → ℕ
 most_for b n (met.Root meta root height) h = 2 + (b.child + b.spare) * (h + 1) + n
@@ -69,7 +71,8 @@ module _ {X : Type 0} (L : Layout) where
     pub loads : Loads p word frame (placed 0 page) v read
     pub valid : IsValid (Tied L) p word frame None read w
 
-  -- Page 0 was read in this call, and names this root; then it was validated, so that this is its root where blocks tell their words. Since then
+  -- Page 0 was read in this call, and names this root; then it was validated, so that this is its root where blocks
+  -- tell their words. Since then
   -- the call only read
   pub record IsNamedRoot (v : View X) (p : ℕ) (w : View X) : Type 0 where
     pub meta : OptGuard
@@ -92,7 +95,8 @@ module _ {X : Type 0} (L : Layout) (spare : List ℕ → ℕ) where
     pub awaits : Awaits L w root.pid root.word height key
     pub full : spare page < L.growth
 
-  -- These words of page p were loaded in this call: a page that has them has room, and names the next page for the key. Then it was validated, so
+  -- These words of page p were loaded in this call: a page that has them has room, and names the next page for the
+  -- key. Then it was validated, so
   -- that they are its words where blocks tell theirs, and the next page is its child for the key. Since then the call only read
   pub record IsPassedBy (v : View X) (key p : ℕ) (loaded : List (ℕ × ℕ)) (next : ℕ) (w : View X) : Type 0 where
     pub word : ℕ
@@ -105,12 +109,15 @@ module _ {X : Type 0} (L : Layout) (spare : List ℕ → ℕ) where
     pub names : TellChild L loaded key next
     pub valid : IsValid (Tied L) p word frame None checked after
     pub since : ReadsOn after w
-    pub told : v.start.tells ≡ true → IsPageWith L.words loaded (last_of after p).words × (child_of L (last_of after p).words key ≡ Some next)
+    pub told : v.start.tells ≡ true → IsPageWith L.words loaded (last_of after p).words
+        × (child_of L (last_of after p).words key ≡ Some next)
 
-  -- a step went from page p to the next one: words that a call had loaded of page p, which tell room, and those that the step loaded, pass it by
+  -- a step went from page p to the next one: words that a call had loaded of page p, which tell room, and those that
+  -- the step loaded, pass it by
   abbrev pub GoesPast : ℕ → ℕ → ℕ → ℕ → ℕ → View X → View X → Type 0
   GoesPast p word frame key next v w =
-      (loaded : List (ℕ × ℕ)) × ((u : View X) (counted : List (ℕ × ℕ)) → IsOpened u p word frame v → HasLoaded v p counted → TellRoom L spare counted
+      (loaded : List (ℕ × ℕ)) × ((u : View X) (counted : List (ℕ × ℕ)) → IsOpened u p word frame v
+      → HasLoaded v p counted → TellRoom L spare counted
       → HasLoaded w p (counted ++ loaded) × IsPassedBy u key p (counted ++ loaded) next w)
 
   -- so were these pages, the last one first, on the way from the root to page p
@@ -118,7 +125,8 @@ module _ {X : Type 0} (L : Layout) (spare : List ℕ → ℕ) where
   ArePassed v key [] p w = IsNamedRoot L v p w
   ArePassed v key (s ∷ ss) p w = IsPassedBy v key s.0 s.1 p w × ArePassed v key ss s.0 w
 
-  -- A node is full whose parent has room and names it for the key; no node on the way to the parent is full. Once the node was found full, both were
+  -- A node is full whose parent has room and names it for the key; no node on the way to the parent is full. Once the
+  -- node was found full, both were
   -- read whole and validated
   pub record IsFullBelow (v : View X) (key : ℕ) (parent node : OptGuard) (over page : List ℕ) (w : View X) : Type 0 where
     pub parent_opened : IsOpened v parent.pid parent.word parent.frame w

@@ -4,7 +4,8 @@ use Rattle.vm_step.specs.Prelude.{AreQuiet, Begins, Did, NoneExpected, NoWord, p
 use Rattle.vm_step.specs.{declared.saw.Saw.Saw, Evidence.Gives}
 use Rattle.vm_step.specs.declared.saw.At.TheVariants as ats
 
--- these are the steps of a call from its first one on. The call read the word seen; it read the first word before, or an exchange of it expects
+-- these are the steps of a call from its first one on. The call read the word seen; it read the first word before, or
+-- an exchange of it expects
 -- that in the place of one that it read; and between the two it neither wrote the word seen nor raised a version there
 pub record IsSeen (expects : ℕ → ℕ → Type 0) (done : List Did) (saw : Saw) : Type 0 where
   pub earlier : List Did

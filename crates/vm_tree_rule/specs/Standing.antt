@@ -26,7 +26,8 @@ module _ {X : Type 0} where
   abbrev pub tree_pages : View X → ℕ
   tree_pages v = length v.start.contents
 
-  -- an optimistic read of page p, which began at this word in a call that the pass began with the view v, is still open; since then the call left
+  -- an optimistic read of page p, which began at this word in a call that the pass began with the view v, is still
+  -- open; since then the call left
   -- no word on the page's state word
   pub record IsOpened (v : View X) (p word frame : ℕ) (w : View X) : Type 0 where
     pub before : View X
@@ -55,18 +56,23 @@ module _ {X : Type 0} (L : Layout) where
 
   -- words that meet the ties of page p at this word are those of a node of this level that covers the key, where blocks tell their words
   abbrev pub Awaits : View X → ℕ → ℕ → ℕ → ℕ → Type 0
-  Awaits v p word level key = v.start.tells ≡ true → (words : List ℕ) → MeetsTies v p word words → IsReached L (tree_pages v) p words level key
+  Awaits v p word level key = v.start.tells ≡ true → (words : List ℕ) → MeetsTies v p word words
+      → IsReached L (tree_pages v) p words level key
 
   -- they are those of a node of exactly this level, with these fences
   abbrev pub AwaitsNode : View X → ℕ → ℕ → ℕ → ℕ → ℕ → Type 0
-  AwaitsNode v p word level low high = v.start.tells ≡ true → (words : List ℕ) → MeetsTies v p word words → IsReachedAs L (tree_pages v) p words level low high
+  AwaitsNode v p word level low high = v.start.tells ≡ true → (words : List ℕ) → MeetsTies v p word words
+      → IsReachedAs L (tree_pages v) p words level low high
 
-  -- whatever words of page p a validation would prove, they name this page as a node of this level with these fences, where blocks tell their words
+  -- whatever words of page p a validation would prove, they name this page as a node of this level with these fences,
+  -- where blocks tell their words
   abbrev pub NamesNode : View X → ℕ → ℕ → ℕ → ℕ → ℕ → ℕ → Type 0
   NamesNode v p word named level low high =
-      v.start.tells ≡ true → (words : List ℕ) → length words ≡ L.words → Sees v p word words → IsNameIn L (tree_pages v) p words named level low high
+      v.start.tells ≡ true → (words : List ℕ) → length words ≡ L.words → Sees v p word words
+      → IsNameIn L (tree_pages v) p words named level low high
 
-  -- a descent for the key stands at this page: where blocks tell their words, what it awaits is a node of this level whose fences hold the key
+  -- a descent for the key stands at this page: where blocks tell their words, what it awaits is a node of this level
+  -- whose fences hold the key
   pub record IsStand {T : Type 0} (rank : T → ℕ) (key : ℕ) (s : Stand T) (v : View X) : Type 0 where
     pub awaits : AwaitsNode v s.guard.pid s.guard.word s.level (rank s.low) (fence_of L rank s.high)
     pub from : rank s.low ≤ key
@@ -81,9 +87,15 @@ module _ {X : Type 0} (L : Layout) where
     pub valid : IsValid (Tied L) r was above None checked w
     pub reads : ReadsOn v w
     pub sees : v.start.tells ≡ true → Sees v r was (last_of w r).words
-    pub tied : (newer : List Tie) × (older : List Tie) × (w.ties ≡ newer ++ record { page = p; version = version_of word; of = r; words = (last_of w r).words } ∷ older)
+    pub tied : (newer : List Tie) × (older : List Tie) × (w.ties ≡ newer ++ record {
+      page = p;
+      version = version_of word;
+      of = r;
+      words = (last_of w r).words;
+    } ∷ older)
 
 -- page r with these words names page p for the key: as the root, or, where it is an inner node that covers the key, as the child
 abbrev pub NamesForKey : Layout → ℕ → List ℕ → ℕ → ℕ → Type 0
 NamesForKey L r words key p =
-    ((r ≡ 0) × (slice_index words 1 ≡ p)) ⊎ ((1 ≤ r) × ((node_of L words).tag ≡ 3) × Covers (node_of L words) key × (child_of L words key ≡ Some p))
+    ((r ≡ 0) × (slice_index words 1 ≡ p))
+    ⊎ ((1 ≤ r) × ((node_of L words).tag ≡ 3) × Covers (node_of L words) key × (child_of L words key ≡ Some p))

@@ -1,6 +1,6 @@
 // The way down to a leaf that may become one with its neighbour: the pages above it that change then stay open.
 ghost use Rattle.std.specs.Prelude.{◌≡◌, ◌≢◌, ◌≤◌, IfErr, IfOk, IsOk, true};
-ghost use Rattle.vm_step.specs.Prelude.{IsReady, IsSamePass, MayStep, view};
+ghost use Rattle.vm_step.specs.Prelude.{GoesOn, IsReadyOn, view};
 ghost use Rattle.vm_guard.specs.Guards.{IsReading};
 ghost use Rattle.vm_tree_rule.specs.{Above.IsAbove, Above.KnowsAbove, Leaves.ReadsOn, Turns.IsTurnedBack};
 ghost use Rattle.vm_tree_rule.specs.Resident.{IsKnownNow, KnowsResident};
@@ -39,12 +39,11 @@ fn under_root<K: Kind, B: Block>(
     top: Top<K::Key>,
     key: &K::Key,
 ) -> Result<Reached, Turn>
-    requires ready { IsReady words.now.table.shared.key B.tells words.now.table.shared.table_id pass.old }
+    requires ready { IsReadyOn words.now B.tells pass.old }
     requires reading { IsReading top.stand.guard.pid top.stand.guard.word top.stand.guard.frame (view pass.old) }
     requires stands { IsStand K.layout K.rank (K.rank key.now) top.stand (view pass.old) }
     requires level { top.stand.level ≡ 1 }
-    ensures pass { IsSamePass pass.old pass.new }
-    ensures ready { IsReady words.now.table.shared.key B.tells words.now.table.shared.table_id pass.new }
+    ensures goes { GoesOn words.now B.tells pass.old pass.new }
     ensures reads { IfOk result (λ r. ReadsOn (view pass.old) (view pass.new) × IsOpened (view pass.old) r.leaf.pid r.leaf.word r.leaf.frame (view pass.new)) }
     ensures awaits { IfOk result (λ r. Awaits K.layout (view pass.new) r.leaf.pid r.leaf.word 0 (K.rank key.now)) }
     ensures above { IfOk result (λ r. (v : _) → IsOpened v top.stand.guard.pid top.stand.guard.word top.stand.guard.frame (view pass.old)
@@ -76,13 +75,12 @@ fn under_node<K: Kind, B: Block>(
     stand: Stand<K::Key>,
     key: &K::Key,
 ) -> Result<Reached, Turn>
-    requires ready { IsReady words.now.table.shared.key B.tells words.now.table.shared.table_id pass.old }
+    requires ready { IsReadyOn words.now B.tells pass.old }
     requires opened { (v : _) × IsOpened v stand.guard.pid stand.guard.word stand.guard.frame (view pass.old) }
     requires stands { IsStand K.layout K.rank (K.rank key.now) stand (view pass.old) }
     requires inner { 1 ≤ stand.level }
     requires not_zero { stand.guard.pid ≢ 0 }
-    ensures pass { IsSamePass pass.old pass.new }
-    ensures ready { IsReady words.now.table.shared.key B.tells words.now.table.shared.table_id pass.new }
+    ensures goes { GoesOn words.now B.tells pass.old pass.new }
     ensures reads { IfOk result (λ r. ReadsOn (view pass.old) (view pass.new) × IsOpened (view pass.old) r.leaf.pid r.leaf.word r.leaf.frame (view pass.new)) }
     ensures awaits { IfOk result (λ r. Awaits K.layout (view pass.new) r.leaf.pid r.leaf.word 0 (K.rank key.now)) }
     ensures above { IfOk result (λ r. (v : _) → IsOpened v stand.guard.pid stand.guard.word stand.guard.frame (view pass.old)
@@ -116,10 +114,9 @@ pub fn reach<K: Kind, B: Block>(
     pass: &mut Pass<TreeOf<K>>,
     key: &K::Key,
 ) -> Result<Reached, Turn>
-    requires pass { MayStep words.now.table.shared.table_id pass.old }
+    requires ready { IsReadyOn words.now B.tells pass.old }
     requires pages { 1 ≤ words.now.table.shared.key.pages }
-    ensures pass { IsSamePass pass.old pass.new }
-    ensures ready { IsReady words.now.table.shared.key B.tells words.now.table.shared.table_id pass.new }
+    ensures goes { GoesOn words.now B.tells pass.old pass.new }
     ensures reads { IfOk result (λ r. ReadsOn (view pass.old) (view pass.new) × IsOpened (view pass.old) r.leaf.pid r.leaf.word r.leaf.frame (view pass.new)) }
     ensures awaits { IfOk result (λ r. Awaits K.layout (view pass.new) r.leaf.pid r.leaf.word 0 (K.rank key.now)) }
     ensures above { IfOk result (λ r. IsAbove K.layout (view pass.old) (K.rank key.now) r.above r.leaf.pid (view pass.new)) }

@@ -1,7 +1,7 @@
 // The coupled descent: each page is looked at before the page that names it is validated, and read before it is left.
-ghost use Rattle.std.specs.Prelude.{[], ◌*◌, ◌+◌, ◌<◌, ◌∷◌, ◌≡◌, ◌≢◌, ◌≤◌, IfErr, IfOk, IsOk, length, List, MatchOption, true, unwrap_or, ℕ};
+ghost use Rattle.std.specs.Prelude.{[], ◌*◌, ◌+◌, ◌<◌, ◌∷◌, ◌≡◌, ◌≢◌, ◌≤◌, IfErr, IfOk, IsOk, List, MatchOption, true, unwrap_or, ℕ};
 ghost use Rattle.std.specs.Option.{option_map};
-ghost use Rattle.vm_step.specs.Prelude.{IsReady, IsSamePass, MayStep, ReadsAsBefore, view};
+ghost use Rattle.vm_step.specs.Prelude.{GoesOn, IsReadyOn, ReadsAsBefore, view};
 ghost use Rattle.vm_guard.specs.{Guards.IsReading, PageWords.LoadsWords};
 ghost use Rattle.vm_tree_rule.specs.Leaves.{LeavesWord, ReadsOn};
 ghost use Rattle.vm_tree_rule.specs.Few.{HasHeight, LoadsAtMost, LoadsHeight, LoadsWithin, ReadsInPlace};
@@ -28,11 +28,10 @@ pub fn enter<K: Kind, B: Block>(
     parent: &OptGuard,
     named: u64,
 ) -> Result<OptGuard, Turn>
-    requires ready { IsReady words.now.table.shared.key B.tells words.now.table.shared.table_id pass.old }
+    requires ready { IsReadyOn words.now B.tells pass.old }
     requires reading { IsReading parent.now.pid parent.now.word parent.now.frame (view pass.old) }
     requires names { (level low high : ℕ) × NamesNode K.layout (view pass.old) parent.now.pid parent.now.word named level low high }
-    ensures pass { IsSamePass pass.old pass.new }
-    ensures ready { IsReady words.now.table.shared.key B.tells words.now.table.shared.table_id pass.new }
+    ensures goes { GoesOn words.now B.tells pass.old pass.new }
     ensures ok { IfOk result (λ guard. (guard.pid ≡ named)
         × HasSteppedDown K.layout parent.now.pid parent.now.word parent.now.frame guard.pid guard.word guard.frame (view pass.old) (view pass.new)) }
     ensures awaits { IfOk result (λ guard. (level low high : ℕ) → NamesNode K.layout (view pass.old) parent.now.pid parent.now.word named level low high
@@ -99,12 +98,11 @@ pub(crate) fn step<K: Kind, B: Block>(
     stand: &Stand<K::Key>,
     key: &K::Key,
 ) -> Result<Stand<K::Key>, Turn>
-    requires ready { IsReady words.now.table.shared.key B.tells words.now.table.shared.table_id pass.old }
+    requires ready { IsReadyOn words.now B.tells pass.old }
     requires reading { IsReading stand.now.guard.pid stand.now.guard.word stand.now.guard.frame (view pass.old) }
     requires stands { IsStand K.layout K.rank (K.rank key.now) stand.now (view pass.old) }
     requires inner { 1 ≤ stand.now.level }
-    ensures pass { IsSamePass pass.old pass.new }
-    ensures ready { IsReady words.now.table.shared.key B.tells words.now.table.shared.table_id pass.new }
+    ensures goes { GoesOn words.now B.tells pass.old pass.new }
     ensures reads { IfOk result (λ below. ReadsOn (view pass.old) (view pass.new)
         × IsOpened (view pass.old) below.guard.pid below.guard.word below.guard.frame (view pass.new)) }
     ensures level { IfOk result (λ below. below.level + 1 ≡ stand.now.level) }
@@ -154,10 +152,9 @@ fn child_in_place<K: Kind, B: Block>(
     guard: &OptGuard,
     key: &K::Key,
 ) -> Option<Fenced<K::Key>>
-    requires ready { IsReady words.now.table.shared.key B.tells words.now.table.shared.table_id pass.old }
+    requires ready { IsReadyOn words.now B.tells pass.old }
     requires reading { IsReading guard.now.pid guard.now.word guard.now.frame (view pass.old) }
-    ensures pass { IsSamePass pass.old pass.new }
-    ensures ready { IsReady words.now.table.shared.key B.tells words.now.table.shared.table_id pass.new }
+    ensures goes { GoesOn words.now B.tells pass.old pass.new }
     ensures found { ReadsInPlace guard.now.pid guard.now.word guard.now.frame K.bounds.child (view pass.old) (view pass.new) (λ loaded.
         MatchOption result (TellNoChild K.layout loaded (K.rank key.now))
         (λ child. TellChildIn K.layout loaded (K.rank key.now) child.page (K.rank child.low) (option_map K.rank child.next))) }
@@ -186,10 +183,9 @@ pub(crate) fn enter_root<K: Kind, B: Block>(
     pass: &mut Pass<TreeOf<K>>,
     key: &K::Key,
 ) -> Result<Top<K::Key>, Turn>
-    requires pass { MayStep words.now.table.shared.table_id pass.old }
+    requires ready { IsReadyOn words.now B.tells pass.old }
     requires pages { 1 ≤ words.now.table.shared.key.pages }
-    ensures pass { IsSamePass pass.old pass.new }
-    ensures ready { IsReady words.now.table.shared.key B.tells words.now.table.shared.table_id pass.new }
+    ensures goes { GoesOn words.now B.tells pass.old pass.new }
     ensures ok { IfOk result (λ top. IsOpened (view pass.old) top.stand.guard.pid top.stand.guard.word top.stand.guard.frame (view pass.new)
         × IsStand K.layout K.rank (K.rank key.now) top.stand (view pass.new)) }
     ensures reads { IfOk result (λ _. ReadsOn (view pass.old) (view pass.new)) }
@@ -237,10 +233,9 @@ pub fn descend<K: Kind, B: Block>(
     pass: &mut Pass<TreeOf<K>>,
     key: &K::Key,
 ) -> Result<OptGuard, Turn>
-    requires pass { MayStep words.now.table.shared.table_id pass.old }
+    requires ready { IsReadyOn words.now B.tells pass.old }
     requires pages { 1 ≤ words.now.table.shared.key.pages }
-    ensures pass { IsSamePass pass.old pass.new }
-    ensures ready { IsReady words.now.table.shared.key B.tells words.now.table.shared.table_id pass.new }
+    ensures goes { GoesOn words.now B.tells pass.old pass.new }
     ensures reads { IfOk result (λ guard. ReadsOn (view pass.old) (view pass.new) × IsOpened (view pass.old) guard.pid guard.word guard.frame (view pass.new)) }
     ensures awaits { IfOk result (λ guard. Awaits K.layout (view pass.new) guard.pid guard.word 0 (K.rank key.now)) }
     ensures fences { IfOk result (λ guard. (low high : ℕ) × (low ≤ K.rank key.now) × (K.rank key.now < high)

@@ -1,9 +1,9 @@
 // A page of the tree that is read where it stands, through an optimistic guard.
-ghost use Rattle.std.specs.Prelude.{[], ◌++◌, ◌∷◌, ◌≡◌, List, map, refl, ℕ};
+ghost use Rattle.std.specs.Prelude.{[], ◌≡◌, map, refl};
 ghost use Rattle.std.proofs.Common.{subst, sym, ◌∙◌};
 ghost use Rattle.std.proofs.lemmas.List.{map-append};
 ghost use Rattle.vm_rule.proofs.Entries.{append-none};
-ghost use Rattle.vm_step.specs.Prelude.{IsFrameAt, IsReady, IsSamePass, view};
+ghost use Rattle.vm_step.specs.Prelude.{IsFrameAt, IsReadyOn, IsSamePass, view};
 ghost use Rattle.vm_guard.specs.Guards.{IsReading, Loads};
 ghost use Rattle.vm_guard.specs.PageWords.{LoadsWords};
 ghost use Rattle.vm_guard.proofs.PageLoads.{words-then};
@@ -29,7 +29,7 @@ impl<U: Owner, B: Block> Place for InPlace<'_, U, B> {
     ghost size = { λ p. p.words.now.table.shared.key.size };
 
     ghost ready = { λ p.
-        IsReady p.words.now.table.shared.key B.tells p.words.now.table.shared.table_id p.pass.now
+        IsReadyOn p.words.now B.tells p.pass.now
         × IsReading p.guard.now.pid p.guard.now.word p.guard.now.frame (view p.pass.now)
         × IsFrameAt p.words.now.table.shared.key p.words.now.table.shared.table_id.words p.guard.now.frame p.first };
 

@@ -1,6 +1,6 @@
 // The search for the first full node on the way of a key, from the root on.
 ghost use Rattle.std.specs.Prelude.{◌*◌, ◌+◌, ◌≡◌, ◌≤◌, IfErr, IfOk, IsOk, length, List, true, ℕ};
-ghost use Rattle.vm_step.specs.Prelude.{IsReady, IsSamePass, MayStep, view};
+ghost use Rattle.vm_step.specs.Prelude.{GoesOn, IsReadyOn, view};
 ghost use Rattle.vm_guard.specs.{Guards.IsReading, PageWords.LoadsWords};
 ghost use Rattle.vm_tree_rule.specs.{Leaves.ReadsOn, Turns.IsTurnedBack};
 ghost use Rattle.vm_tree_rule.specs.Few.{LoadsHeight, LoadsWithin, ReadsInPlace};
@@ -41,10 +41,9 @@ fn spare_in_place<K: Pages, B: Block>(
     pass: &mut Pass<TreeOf<K>>,
     guard: &OptGuard,
 ) -> usize
-    requires ready { IsReady words.now.table.shared.key B.tells words.now.table.shared.table_id pass.old }
+    requires ready { IsReadyOn words.now B.tells pass.old }
     requires reading { IsReading guard.now.pid guard.now.word guard.now.frame (view pass.old) }
-    ensures pass { IsSamePass pass.old pass.new }
-    ensures ready { IsReady words.now.table.shared.key B.tells words.now.table.shared.table_id pass.new }
+    ensures goes { GoesOn words.now B.tells pass.old pass.new }
     ensures found { ReadsInPlace guard.now.pid guard.now.word guard.now.frame K.bounds.spare (view pass.old) (view pass.new)
         (λ loaded. TellSpare K.layout K.spare loaded result) }
 {
@@ -66,13 +65,12 @@ fn reread<K: Pages, B: Block>(
     left: usize,
     into: &mut K::Page,
 ) -> Result<(), Turn>
-    requires ready { IsReady words.now.table.shared.key B.tells words.now.table.shared.table_id pass.old }
+    requires ready { IsReadyOn words.now B.tells pass.old }
     requires reading { IsReading guard.now.pid guard.now.word guard.now.frame (view pass.old) }
     requires size { length (K.words_of into.old) ≡ K.layout.words }
     requires counted { (loaded : List (ℕ × ℕ)) × HasLoaded (view pass.old) guard.now.pid loaded × TellSpare K.layout K.spare loaded left }
     ensures size { length (K.words_of into.new) ≡ K.layout.words }
-    ensures pass { IsSamePass pass.old pass.new }
-    ensures ready { IsReady words.now.table.shared.key B.tells words.now.table.shared.table_id pass.new }
+    ensures goes { GoesOn words.now B.tells pass.old pass.new }
     ensures ok { IfOk result (λ _. IsReread K.layout guard.now.pid guard.now.word guard.now.frame (K.words_of into.new) (view pass.old) (view pass.new)) }
     ensures left { IfOk result (λ _. left ≡ K.spare (K.words_of into.new)) }
     ensures err { IfErr result (λ turn. (v : _) (key : ℕ) → IsOpened v guard.now.pid guard.now.word guard.now.frame (view pass.old)
@@ -102,12 +100,11 @@ pub fn seek_full<K: Pages, B: Block>(
     over: &mut K::Page,
     page: &mut K::Page,
 ) -> Result<Met, Turn>
-    requires pass { MayStep words.now.table.shared.table_id pass.old }
+    requires ready { IsReadyOn words.now B.tells pass.old }
     requires pages { 1 ≤ words.now.table.shared.key.pages }
     requires size { (length (K.words_of over.old) ≡ K.layout.words) × (length (K.words_of page.old) ≡ K.layout.words) }
     ensures size { (length (K.words_of over.new) ≡ K.layout.words) × (length (K.words_of page.new) ≡ K.layout.words) }
-    ensures pass { IsSamePass pass.old pass.new }
-    ensures ready { IsReady words.now.table.shared.key B.tells words.now.table.shared.table_id pass.new }
+    ensures goes { GoesOn words.now B.tells pass.old pass.new }
     ensures reads { IfOk result (λ _. ReadsOn (view pass.old) (view pass.new)) }
     ensures met { IfOk result (λ m. IsMet K.layout K.spare (view pass.old) (K.rank key.now) m (K.words_of over.new) (K.words_of page.new) (view pass.new)) }
     ensures err { IfErr result (λ turn. IsTurnedBack K.layout (view pass.old) (K.rank key.now) turn (view pass.new)) }

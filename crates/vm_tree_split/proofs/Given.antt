@@ -1,11 +1,11 @@
--- What a call that gave fresh pages leaves of the pages owed and of the next page that the pass knows: by whether the pages were claimed, or their numbers were free.
+-- What a call that gave fresh pages leaves of the pages owed and of the next page that the pass knows: by whether the
+-- pages were claimed, or their numbers were free.
 use Rattle.std.proofs.Common.{[], ⊎_elim, ◌++◌, ◌∙◌, ◌∷◌, ◌≡◌, ◌⊎◌, ap, eqb, false, inl, inr, List, None, refl, Some, sym, true, ℕ}
 use Rattle.std.proofs.lemmas.Bool.{eq-eqb, or_left, or_right}
 use Rattle.vm_owner.proofs.NumberLemmas.{without-none}
 use Rattle.vm_rule.specs.Prelude.{has, without_all}
 use Rattle.vm_step.specs.Prelude.{View}
-use Rattle.vm_guard.specs.{declared.group.Group.Group, Groups.guards_of, Groups.pids_of, Reused.IsFreshAnswer, Reused.IsReuseAnswer}
-use Rattle.vm_guard.specs.declared.given.Fresh.{Fresh}
+use Rattle.vm_guard.specs.{declared.group.Group.Group, Groups.guards_of, Groups.pids_of, Reused.IsFreshAnswer}
 use Rattle.vm_guard.specs.declared.given.Fresh.TheVariants as freshes
 use Rattle.vm_guard.proofs.Searching.{looks-none, looks-some}
 
@@ -24,7 +24,8 @@ none-given-some q e = absurd (cc)
 
 module _ {X : Type 0} (n : ℕ) (group : Group) (before after : List ℕ) (v w : View X) where
   -- the pages were claimed, and are owed to the pass; or it took their numbers, and owes what it owed
-  pub owed-either : IsFreshAnswer n before after v w (freshes.Pages group) → (w.owed ≡ pids_of (guards_of group) ++ v.owed) ⊎ (w.owed ≡ v.owed)
+  pub owed-either : IsFreshAnswer n before after v w (freshes.Pages group)
+      → (w.owed ≡ pids_of (guards_of group) ++ v.owed) ⊎ (w.owed ≡ v.owed)
   owed-either answer =
       ⊎_elim
       (λ a. let own = (looks-none n v a.0 a.1).own in inl (a.2.1.owed ∙ (λ i. sym a.2.1.guards i ++ own.group.1 i)))

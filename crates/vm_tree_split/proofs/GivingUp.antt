@@ -5,7 +5,8 @@ use Rattle.vm_core.specs.Prelude.{Version}
 use Rattle.vm_rule.specs.Prelude.{draft_of, has, last_of}
 use Rattle.vm_step.specs.Prelude.{AreHeld, View}
 use Rattle.vm_exmap.proofs.Handing.{held-on, held-swap}
-use Rattle.vm_guard.specs.{declared.exclusive.ExclusiveGuard.ExclusiveGuard, declared.opt.OptGuard.OptGuard, Guards.IsHolding, Guards.IsReleased}
+use Rattle.vm_guard.specs.{declared.exclusive.ExclusiveGuard.ExclusiveGuard, declared.opt.OptGuard.OptGuard}
+use Rattle.vm_guard.specs.{Guards.IsHolding, Guards.IsReleased}
 use Rattle.vm_tree_read.specs.Waiting.{LosesNone}
 use Rattle.vm_tree_read.proofs.Losing.{loses-swap}
 use Rattle.vm_tree_split.specs.{Prepares.AreLocked, Prepares.GivesUpBoth, Splits.HasDraft, Splits.KeepsLocksOnly}
@@ -18,16 +19,19 @@ pub record AreKept {X : Type 0} (up low : ExclusiveGuard) (w : View X) : Type 0 
   pub same : (draft_of w up.pid ≡ (last_of w up.pid).words) × (draft_of w low.pid ≡ (last_of w low.pid).words)
   pub unpaid : (has up.pid w.owed ≡ false) × (has low.pid w.owed ≡ false)
 
-module _ {X : Type 0} {L : Layout} (a b : OptGuard) (up low : ExclusiveGuard) (v w : View X) (l : AreLocked L a b up low v w) (apart : b.pid ≢ a.pid) where
+module _ {X : Type 0} {L : Layout} (a b : OptGuard) (up low : ExclusiveGuard) (v w : View X)
+    (l : AreLocked L a b up low v w) (apart : b.pid ≢ a.pid) where
   up-draft : HasDraft a.pid (last_of l.between a.pid).words (last_of l.between a.pid).words w
   up-draft =
-      draft-else a.pid b.pid l.low_locked.done _ _ l.between w (λ e. apart (sym e)) l.up_locked.holding.owns (record { last = refl; draft = l.up_locked.draft }) l.low_locked.elsewhere
+      draft-else a.pid b.pid l.low_locked.done _ _ l.between w (λ e. apart (sym e)) l.up_locked.holding.owns
+      (record { last = refl; draft = l.up_locked.draft }) l.low_locked.elsewhere
 
   pub locks-kept : AreKept up low w
   locks-kept = record {
     held = (
       subst (λ p. IsHolding p up.frame up.version up.dirty w) (sym l.up_page)
-          (holding-else a.pid up.frame up.version up.dirty b.pid l.low_locked.done l.between w (λ e. apart (sym e)) l.low_locked.group.0 l.up_locked.holding l.low_locked.elsewhere),
+          (holding-else a.pid up.frame up.version up.dirty b.pid l.low_locked.done l.between w (λ e. apart (sym e))
+          l.low_locked.group.0 l.up_locked.holding l.low_locked.elsewhere),
       subst (λ p. IsHolding p low.frame low.version low.dirty w) (sym l.low_page) l.low_locked.holding,
     );
     same = (
@@ -35,7 +39,8 @@ module _ {X : Type 0} {L : Layout} (a b : OptGuard) (up low : ExclusiveGuard) (v
       subst (λ p. draft_of w p ≡ (last_of w p).words) (sym l.low_page) l.low_locked.draft,
     );
     unpaid = (
-      subst (λ p. has p w.owed ≡ false) (sym l.up_page) (ap (has a.pid) (l.low_locked.group.1 ∙ l.up_locked.group.1) ∙ l.up_locked.before.paid),
+      subst (λ p. has p w.owed ≡ false) (sym l.up_page) (ap (has a.pid) (l.low_locked.group.1 ∙ l.up_locked.group.1)
+          ∙ l.up_locked.before.paid),
       subst (λ p. has p w.owed ≡ false) (sym l.low_page) (ap (has b.pid) l.low_locked.group.1 ∙ l.low_locked.before.paid),
     );
   }
@@ -56,8 +61,15 @@ module _ {X : Type 0} {L : Layout} (a b : OptGuard) (up low : ExclusiveGuard) (v
         let ku = none.knows up.pid (inl k.held.0.owns) in
         let kl = none.knows low.pid (inl k.held.1.owns) in
         record {
-          held = (holding-none up.pid up.frame up.version up.dirty before after w y k.held.0 none, holding-none low.pid low.frame low.version low.dirty before after w y k.held.1 none);
-          same = (ku.draft ∙ k.same.0 ∙ sym (ap (λ (t : Version). t.words) ku.last), kl.draft ∙ k.same.1 ∙ sym (ap (λ (t : Version). t.words) kl.last));
+          held = (
+            holding-none up.pid up.frame up.version up.dirty before after w y k.held.0 none,
+            holding-none low.pid low.frame low.version low.dirty before after w y k.held.1 none,
+          );
+          same = (
+            ku.draft ∙ k.same.0 ∙ sym (ap (λ (t : Version). t.words) ku.last),
+            kl.draft ∙ k.same.1
+                ∙ sym (ap (λ (t : Version). t.words) kl.last),
+          );
           unpaid = (ap (has up.pid) none.owed ∙ k.unpaid.0, ap (has low.pid) none.owed ∙ k.unpaid.1);
         }
 
@@ -70,7 +82,8 @@ module _ {X : Type 0} {L : Layout} (a b : OptGuard) (up low : ExclusiveGuard) (v
         (held-on (own ++ before) v y (held-swap before own v h) (none.amid.start ∙ locks-start) (none.keeps.frames ∙ locks-frames))
 
     pub none-lost : (own : List ℕ) → LosesNone (before ++ own) v (own ++ after) y
-    none-lost own = subst (λ (m : List ℕ). LosesNone (before ++ own) v (own ++ m) y) (sym none.same) (loses-swap before own v y (none.keeps.frames ∙ locks-frames))
+    none-lost own = subst (λ (m : List ℕ). LosesNone (before ++ own) v (own ++ m) y) (sym none.same)
+        (loses-swap before own v y (none.keeps.frames ∙ locks-frames))
 
     pub none-ended : (u z : View X) → KeepsLocksOnly u v → GivesUpBoth up low y z → KeepsLocksOnly u z
     none-ended u z k g =

@@ -1,5 +1,6 @@
 -- No frame is lost by a split: frames that are given back beside others, and frames that fresh pages took.
-use Rattle.std.proofs.Common.{[], ⊎_elim, ◌++◌, ◌∙◌, ◌∷◌, ◌≡◌, ap, false, if◌then◌else◌, inl, inr, List, refl, reverse, sym, true, true≢false, ℕ}
+use Rattle.std.proofs.Common.{[], ⊎_elim, ◌++◌, ◌∙◌, ◌∷◌, ◌≡◌, ap, false, if◌then◌else◌, inl, inr, List, refl}
+use Rattle.std.proofs.Common.{reverse, sym, true, true≢false, ℕ}
 use Rattle.std.proofs.lemmas.Bool.{cases_Bool}
 use Rattle.std.proofs.lemmas.List.{reverse-append}
 use Rattle.vm_rule.specs.Prelude.{has, without_all}
@@ -17,17 +18,23 @@ from-reverse f (x ∷ xs) e =
     ap (has f) (reverse-append (x ∷ []) xs) ∙ has-none f (reverse xs) (x ∷ []) (from-reverse f xs out.1) out.0
 
 module _ {X : Type 0} where
-  pub refused-loses : (l old new : List ℕ) (done : List Did) (v w : View X) → TakesNone done old new v w → LosesNone (l ++ old) v (new ++ l) w
+  pub refused-loses : (l old new : List ℕ) (done : List Did) (v w : View X) → TakesNone done old new v w
+      → LosesNone (l ++ old) v (new ++ l) w
   refused-loses l old new done v w r =
       loses-same (l ++ old) (new ++ l) v w r.frames
       (λ f e.
-      ⊎_elim (λ (t : has f l ≡ true). has-behind f new l t) (λ no. absurd (true≢false (sym e ∙ has-none f l old no (ap (has f) r.none)))) (cases_Bool (has f l)))
+      ⊎_elim (λ (t : has f l ≡ true). has-behind f new l t)
+      (λ no. absurd (true≢false (sym e ∙ has-none f l old no (ap (has f) r.none)))) (cases_Bool (has f l)))
 
-  pub fresh-loses : (l before after taken : List ℕ) (v w : View X) → before ≡ after ++ reverse taken → w.frames ≡ without_all taken v.frames → LosesNone (before ++ l) v (l ++ after) w
+  pub fresh-loses : (l before after taken : List ℕ) (v w : View X) → before ≡ after ++ reverse taken
+      → w.frames ≡ without_all taken v.frames → LosesNone (before ++ l) v (l ++ after) w
   fresh-loses l before after taken v w cut frames f e =
-      let left : (if has f taken then false else has f v.frames) ≡ true = sym (has-without_all f taken v.frames) ∙ ap (has f) (sym frames) ∙ e in
+      let left : (if has f taken then false else has f v.frames) ≡ true = sym (has-without_all f taken v.frames)
+      ∙ ap (has f) (sym frames) ∙ e in
       let gone : has f taken ≡ false =
-      ⊎_elim (λ (t : has f taken ≡ true). absurd (true≢false (sym left ∙ ap (λ b. if b then false else has f v.frames) t))) (λ no. no) (cases_Bool (has f taken)) in
+      ⊎_elim (λ (t : has f taken ≡ true).
+      absurd (true≢false (sym left ∙ ap (λ b. if b then false else has f v.frames) t))) (λ no. no)
+      (cases_Bool (has f taken)) in
       let had : has f v.frames ≡ true = sym (ap (λ b. if b then false else has f v.frames) gone) ∙ left in
       ⊎_elim (λ (t : has f (l ++ after) ≡ true). inl t)
       (λ no.

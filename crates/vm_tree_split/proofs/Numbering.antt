@@ -1,6 +1,6 @@
 -- What calls leave of the page numbers of a pass, one after the other: it gains none, but for those of pages at the last version.
-use Rattle.std.proofs.Common.{[], ⊎_elim, ◌&&◌, ◌++◌, ◌||◌, ◌∙◌, ◌∷◌, ◌≡◌, ◌≢◌, ◌⊎◌, ap, append_assoc, Bool, eqb, false, if◌then◌else◌, inl, inr, List, refl, subst, sym, true}
-use Rattle.std.proofs.Common.{true≢false, ℕ}
+use Rattle.std.proofs.Common.{[], ⊎_elim, ◌&&◌, ◌++◌, ◌||◌, ◌∙◌, ◌∷◌, ◌≡◌, ◌≢◌, ap, append_assoc, Bool, eqb, false}
+use Rattle.std.proofs.Common.{if◌then◌else◌, inl, inr, List, refl, subst, sym, true, true≢false, ℕ}
 use Rattle.std.proofs.lemmas.Bool.{cases_eq, cond-false, eq-eqb, ne_eqb, or_left, or_right}
 use Rattle.vm_page.specs.Pages.{all_zero}
 use Rattle.vm_owner.proofs.NumberLemmas.{has-without_other, has-without_same}
@@ -36,12 +36,15 @@ module _ {X : Type 0} (v : View X) where
   pub freed-used : (qs : List ℕ) → ((q : ℕ) → has q qs ≡ true → all_zero (draft_of v q) ≡ false) → freed_by v qs ≡ []
   freed-used [] used = refl
   freed-used (q ∷ qs) used =
-      cond-false _ _ _ (used-not (all_zero (last_of v q).words) (all_zero (draft_of v q)) (used q (or_left (eqb q q) (has q qs) (eq-eqb q q refl))))
+      cond-false _ _ _ (used-not (all_zero (last_of v q).words) (all_zero (draft_of v q))
+      (used q (or_left (eqb q q) (has q qs) (eq-eqb q q refl))))
       ∙ freed-used qs (λ p e. used p (or_right (eqb p q) (has p qs) e))
 
   -- nor is one that has the words that it had
   freed-same : (q : ℕ) → draft_of v q ≡ (last_of v q).words → freed_by v (q ∷ []) ≡ []
-  freed-same q same = cond-false _ _ _ (ap (λ (l : List ℕ). if all_zero (last_of v q).words then false else all_zero l) same ∙ same-not (all_zero (last_of v q).words))
+  freed-same q same = cond-false _ _ _
+      (ap (λ (l : List ℕ). if all_zero (last_of v q).words then false else all_zero l) same
+      ∙ same-not (all_zero (last_of v q).words))
 
 module _ {X : Type 0} where
   -- the number of a page that is given up may go, and none comes
@@ -95,7 +98,8 @@ module _ {X : Type 0} where
     last = f.last;
   }
 
-  pub worn-then : (u v w : View X) → v.start ≡ u.start → StartsWith v.log u.log → StartsWith w.log v.log → GainsWorn u v → GainsWorn v w → GainsWorn u w
+  pub worn-then : (u v w : View X) → v.start ≡ u.start → StartsWith v.log u.log → StartsWith w.log v.log
+      → GainsWorn u v → GainsWorn v w → GainsWorn u w
   worn-then u v w start early late f g tells =
       let a = f tells in
       let b = g (ap (λ (o : Origin). o.tells) start ∙ tells) in (
@@ -123,14 +127,16 @@ module _ {X : Type 0} where
   -- ---- releases
 
   -- of a page that has the words that it had
-  pub released-same : (p version : ℕ) (said : _) (v w : View X) → draft_of v p ≡ (last_of v p).words → IsReleased p version said v w → GainsNone v w
+  pub released-same : (p version : ℕ) (said : _) (v w : View X) → draft_of v p ≡ (last_of v p).words
+      → IsReleased p version said v w → GainsNone v w
   released-same p version said v w same r tells = (
     λ q e. left-has p q v (sym (ap (has q) r.numbers.0) ∙ e),
     r.numbers.1 ∙ ap (λ (l : List ℕ). l ++ v.freed) (freed-same v p same),
   )
 
   -- of a page that is in use
-  pub released-used : (p version : ℕ) (said : _) (v w : View X) → (v.start.tells ≡ true → all_zero (draft_of v p) ≡ false) → IsReleased p version said v w → GainsNone v w
+  pub released-used : (p version : ℕ) (said : _) (v w : View X)
+      → (v.start.tells ≡ true → all_zero (draft_of v p) ≡ false) → IsReleased p version said v w → GainsNone v w
   released-used p version said v w used r tells = (
     λ q e. left-has p q v (sym (ap (has q) r.numbers.0) ∙ e),
     r.numbers.1 ∙ ap (λ (l : List ℕ). l ++ v.freed) (freed-used v (p ∷ []) one),

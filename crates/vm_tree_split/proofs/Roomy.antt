@@ -1,8 +1,9 @@
--- The loads of the free-number words and of the next word, which go before all that a split takes: what was read and what is known before them stay so.
+-- The loads of the free-number words and of the next word, which go before all that a split takes: what was read and
+-- what is known before them stay so.
 use Rattle.std.proofs.Common.{◌<◌, ◌∙◌, ◌≡◌, ap, List, None, refl, subst, sym, ℕ}
 use Rattle.vm_tree_model.specs.Layout.{Layout}
 use Rattle.vm_rule.specs.Prelude.{Seat}
-use Rattle.vm_rule.specs.declared.view.Place.TheVariants as places
+use Rattle.vm_rule.specs.declared.view.WordPlace.TheVariants as places
 use Rattle.vm_rule.proofs.Entries.{each-map}
 use Rattle.vm_step.specs.Prelude.{AreHeld, Did, LocksNone, Origin, View}
 use Rattle.vm_step.proofs.HeldFrames.{held-on}
@@ -33,7 +34,11 @@ module _ {X : Type 0} (v w : View X) (s : OnlySees v w) where
 
   -- no word was left anywhere
   pub roomy-leaves : (p : ℕ) → LeavesWord p v w
-  roomy-leaves p = record { done = s.done; log = s.nil.amid.log; none = each-map (λ (d : Did). d.wrote ≡ None) (λ (d : Did). d.at ≡ places.State p → d.wrote ≡ None) (λ d e at. e) s.done s.leaves }
+  roomy-leaves p = record {
+    done = s.done;
+    log = s.nil.amid.log;
+    none = each-map (λ (d : Did). d.wrote ≡ None) (λ (d : Did). d.at ≡ places.State p → d.wrote ≡ None) (λ d e at. e) s.done s.leaves;
+  }
 
   -- ---- what was read
 
@@ -55,10 +60,21 @@ module _ {X : Type 0} (v w : View X) (s : OnlySees v w) where
       let a = k.both.alone in
       let seats = λ (q : ℕ). s.nil.amid.seats q refl in
       record {
-        both = record { alone = amid-alone s.nil.amid a; free = k.both.free; words = (s.known a (places.State first.pid) ∙ k.both.words.0, s.known a (places.State second.pid) ∙ k.both.words.1) };
-        below = (subst (λ (n : ℕ). first.pid < n) (sym (s.known a places.Next)) k.below.0, subst (λ (n : ℕ). second.pid < n) (sym (s.known a places.Next)) k.below.1);
+        both = record {
+          alone = amid-alone s.nil.amid a;
+          free = k.both.free;
+          words = (s.known a (places.State first.pid) ∙ k.both.words.0, s.known a (places.State second.pid) ∙ k.both.words.1);
+        };
+        below = (
+          subst (λ (n : ℕ). first.pid < n) (sym (s.known a places.Next)) k.below.0,
+          subst (λ (n : ℕ). second.pid < n) (sym (s.known a places.Next)) k.below.1,
+        );
         tells = ap (λ (o : Origin). o.tells) roomy-start ∙ k.tells;
-        used = (use-more L first.pid first.word v w roomy-start s.nil.amid.ties k.used.0, use-more L second.pid second.word v w roomy-start s.nil.amid.ties k.used.1);
+        used = (
+          use-more L first.pid first.word v w roomy-start s.nil.amid.ties k.used.0,
+          use-more L second.pid
+              second.word v w roomy-start s.nil.amid.ties k.used.1,
+        );
         holds = record {
           shares = λ q. ap (λ (k : Seat). k.shares) (seats q) ∙ k.holds.shares q;
           exclusive = λ q. ap (λ (k : Seat). k.exclusive) (seats q) ∙ k.holds.exclusive q;
@@ -67,5 +83,7 @@ module _ {X : Type 0} (v w : View X) (s : OnlySees v w) where
         };
         unheld = λ _ q inside e m.
             subst LocksNone (sym (s.known a (places.State q)))
-            (k.unheld a q (subst (λ (o : Origin). q < o.pages) roomy-start inside) (sym (ap (λ (z : Seat). z.exclusive) (seats q)) ∙ e) (sym (ap (λ (z : Seat). z.shares) (seats q)) ∙ m));
+            (k.unheld a q (subst (λ (o : Origin). q < o.pages) roomy-start inside)
+            (sym (ap (λ (z : Seat). z.exclusive) (seats q)) ∙ e)
+            (sym (ap (λ (z : Seat). z.shares) (seats q)) ∙ m));
       }

@@ -1,5 +1,6 @@
 -- Three pages that are held get their new drafts one after the other, and are released together.
-use Rattle.std.proofs.Common.{[], ⊎_elim, ◌++◌, ◌+◌, ◌<◌, ◌∙◌, ◌∷◌, ◌≡◌, ◌≢◌, ◌≤◌, ◌⊎◌, ap, append_assoc, arith, Bool, eqb, false, inl, inr, is_some, length, List, None, Option, option_map, refl, replicate}
+use Rattle.std.proofs.Common.{[], ⊎_elim, ◌++◌, ◌+◌, ◌<◌, ◌∙◌, ◌∷◌, ◌≡◌, ◌≢◌, ◌≤◌, ◌⊎◌, ap, append_assoc, arith, Bool}
+use Rattle.std.proofs.Common.{eqb, false, inl, inr, is_some, length, List, None, Option, option_map, refl, replicate}
 use Rattle.vm_page.specs.Pages.{all_zero}
 use Rattle.vm_tree_laws.proofs.Zeros.{node_words}
 use Rattle.std.proofs.lemmas.List.{length-replicate}
@@ -12,12 +13,14 @@ use Rattle.vm_tree_model.specs.Layout.{IsClean, IsFullNode, IsLayout, Layout, si
 use Rattle.vm_tree_model.specs.Node.{Covers, IsNode, Node}
 use Rattle.vm_tree_model.specs.Page.{IsFree, IsInner, IsLeaf, node_of}
 use Rattle.vm_core.specs.Prelude.{Version}
-use Rattle.vm_rule.specs.Prelude.{AreApart, began_of, change_of, changes_of, draft_of, entries_of, has, last_of, next_after, Seat, seat_of, without_all}
+use Rattle.vm_rule.specs.Prelude.{AreApart, began_of, change_of, changes_of, draft_of, entries_of, has, last_of}
+use Rattle.vm_rule.specs.Prelude.{next_after, Seat, seat_of, without_all}
 use Rattle.vm_rule.specs.declared.view.Held.{Held}
-use Rattle.vm_rule.specs.declared.view.Place.{Place}
+use Rattle.vm_rule.specs.declared.view.WordPlace.{WordPlace}
 use Rattle.vm_rule.proofs.Entries.{append-none, each-map}
 use Rattle.vm_step.specs.Prelude.{Did, HoldsPage, IsClaimed, KnowsAsBefore, Origin, View}
-use Rattle.vm_step.proofs.{Alone.still-alone, Asides.alone-then, Asides.holds-then, Asides.knows-then, Asides.numbers-then, Asides.starts-then, Asides.still-locking}
+use Rattle.vm_step.proofs.{Alone.still-alone, Asides.alone-then, Asides.holds-then, Asides.knows-then}
+use Rattle.vm_step.proofs.{Asides.numbers-then, Asides.starts-then, Asides.still-locking}
 use Rattle.vm_guard.specs.{declared.exclusive.ExclusiveGuard.ExclusiveGuard, Guards.IsHolding}
 use Rattle.vm_guard.specs.Groups.{AreReleased, MayReleaseAll, next_after_all, pids_of}
 use Rattle.vm_guard.proofs.Groups.{lacks}
@@ -46,7 +49,8 @@ none-left : (among tells zero held : Bool) → among ≡ true → zero ≡ false
 none-left among tells zero held is used = grind (arith, is, used)
 
 -- each of these pages is in use
-pub each-used : (f : ℕ → Bool) (a : ℕ) (l : List ℕ) → f a ≡ false → ((q : ℕ) → has q l ≡ true → f q ≡ false) → (q : ℕ) → has q (a ∷ l) ≡ true → f q ≡ false
+pub each-used : (f : ℕ → Bool) (a : ℕ) (l : List ℕ) → f a ≡ false → ((q : ℕ) → has q l ≡ true → f q ≡ false) → (q : ℕ)
+    → has q (a ∷ l) ≡ true → f q ≡ false
 each-used f a l here rest q e =
     ⊎_elim (λ (same : q ≡ a). ap f same ∙ here) (λ (ne : q ≢ a). rest q (sym (ap (λ b. b || has q l) (ne_eqb q a ne)) ∙ e)) (cases_eq q a)
 
@@ -66,7 +70,8 @@ module _ {X : Type 0} where
     steps = each-append _ f.done g.done f.steps g.steps;
     alone = alone-then u v w f.parts f.alone g.alone;
     known = record {
-      states = λ k q l. g.known.states (still-alone u v f.parts f.alone.current k) q (subst (λ (o : Origin). q < o.pages) (sym f.start) l) ∙ f.known.states k q l;
+      states = λ k q l. g.known.states (still-alone u v f.parts f.alone.current k) q
+          (subst (λ (o : Origin). q < o.pages) (sym f.start) l) ∙ f.known.states k q l;
       next = λ k. g.known.next (still-alone u v f.parts f.alone.current k) ∙ f.known.next k;
     };
     knows = λ q e l. knows-then u v w q (f.knows q e l) (g.knows q e (still-locking u v q (f.holds q) l));
@@ -89,12 +94,15 @@ module _ {X : Type 0} where
   redrafted-holds p v w d q = ⊎_elim (λ (e : q ≡ p). subst (HoldsPage v w) (sym e) d.holds) (λ ne. d.elsewhere.holds q ne) (cases_eq q p)
 
   -- the guard afterwards has the same page and frame
-  pub redrafts-of : (g g' : ExclusiveGuard) (v w : View X) → (g'.pid ≡ g.pid) × (g'.version ≡ g.version) × (g'.frame ≡ g.frame) → IsRedrafted g.pid v w → DraftsIn g.pid g.frame v w → KnowsSameStates v w → Redrafts g'.pid g'.frame v w
+  pub redrafts-of : (g g' : ExclusiveGuard) (v w : View X) → (g'.pid ≡ g.pid) × (g'.version ≡ g.version)
+      × (g'.frame ≡ g.frame) → IsRedrafted g.pid v w → DraftsIn g.pid g.frame v w → KnowsSameStates v w
+      → Redrafts g'.pid g'.frame v w
   redrafts-of g g' v w same d drafts known =
       let here : Redrafts g.pid g.frame v w = record { redrafted = d; drafts = drafts; known = known } in
       subst (λ (p : ℕ). Redrafts p g'.frame v w) (sym same.0) (subst (λ (f : ℕ). Redrafts g.pid f v w) (sym same.2) here)
 
-  pub redrafted-stays : (gs : List ExclusiveGuard) (p f : ℕ) (v w : View X) → has p (pids_of gs) ≡ true → ((at : Place) → IsDraftPlace p f at → IsDrafted gs at) → Redrafts p f v w → Stays gs v w
+  pub redrafted-stays : (gs : List ExclusiveGuard) (p f : ℕ) (v w : View X) → has p (pids_of gs) ≡ true
+      → ((at : WordPlace) → IsDraftPlace p f at → IsDrafted gs at) → Redrafts p f v w → Stays gs v w
   redrafted-stays gs p f v w among there r = let d = r.redrafted in record {
     done = r.drafts.done;
     steps = each-map _ _ (λ (s : Did) here. λ x e. there s.at (here x e)) r.drafts.done r.drafts.steps;
@@ -113,7 +121,8 @@ module _ {X : Type 0} where
     group = d.group;
     numbers = d.numbers;
     holds = redrafted-holds p v w d;
-    last = λ q e. ⊎_elim (λ (s : q ≡ p). subst (λ n. last_of w n ≡ last_of v n) (sym s) d.last) (λ ne. (d.elsewhere.knows q ne (inl e)).last) (cases_eq q p);
+    last = λ q e. ⊎_elim (λ (s : q ≡ p). subst (λ n. last_of w n ≡ last_of v n) (sym s) d.last)
+        (λ ne. (d.elsewhere.knows q ne (inl e)).last) (cases_eq q p);
   }
 
   -- blocks told their words before
@@ -121,7 +130,8 @@ module _ {X : Type 0} where
   told-before p v w d tells = ap (λ (o : Origin). o.tells) (sym d.elsewhere.steady.start) ∙ tells
 
   -- a page that is held stays so while another one gets a new draft
-  pub holding-past : (p frame version : ℕ) (dirty : Bool) (q : ℕ) (v w : View X) → p ≢ q → IsHolding p frame version dirty v → IsRedrafted q v w → IsHolding p frame version dirty w
+  pub holding-past : (p frame version : ℕ) (dirty : Bool) (q : ℕ) (v w : View X) → p ≢ q
+      → IsHolding p frame version dirty v → IsRedrafted q v w → IsHolding p frame version dirty w
   holding-past p frame version dirty q v w ne h d =
       let k : KnowsAsBefore v w p = d.elsewhere.knows p ne (inl h.owns) in
       record {
@@ -138,26 +148,31 @@ module _ {X : Type 0} where
       }
 
   -- and keeps its draft
-  pub draft-past : (p q : ℕ) (old new : List ℕ) (v w : View X) → p ≢ q → (seat_of v p).exclusive ≡ true → HasDraft p old new v → IsRedrafted q v w → HasDraft p old new w
+  pub draft-past : (p q : ℕ) (old new : List ℕ) (v w : View X) → p ≢ q → (seat_of v p).exclusive ≡ true
+      → HasDraft p old new v → IsRedrafted q v w → HasDraft p old new w
   draft-past p q old new v w ne owns h d =
       let k : KnowsAsBefore v w p = d.elsewhere.knows p ne (inl owns) in
       record { last = ap (λ (y : Version). y.words) k.last ∙ h.last; draft = k.draft ∙ h.draft }
 
   -- the page itself has its new one
-  pub draft-new : (p : ℕ) (old new new' : List ℕ) (v w : View X) → HasDraft p old new v → IsRedrafted p v w → draft_of w p ≡ new' → HasDraft p old new' w
+  pub draft-new : (p : ℕ) (old new new' : List ℕ) (v w : View X) → HasDraft p old new v → IsRedrafted p v w
+      → draft_of w p ≡ new' → HasDraft p old new' w
   draft-new p old new new' v w h d is = record { last = ap (λ (y : Version). y.words) d.last ∙ h.last; draft = is }
 
   -- The pages are in use: so the pass has the number of none of them once they are released, and frees none
-  group-numbers : (first : ExclusiveGuard) (rest : List ExclusiveGuard) (pages : List ℕ) (v y w : View X) → pids_of (first ∷ rest) ≡ pages → Stays (first ∷ rest) v y
+  group-numbers : (first : ExclusiveGuard) (rest : List ExclusiveGuard) (pages : List ℕ) (v y w : View X)
+      → pids_of (first ∷ rest) ≡ pages → Stays (first ∷ rest) v y
       → (y.start.tells ≡ true → (q : ℕ) → has q pages ≡ true → all_zero (draft_of y q) ≡ false) → AreReleased first rest None y w
       → v.start.tells ≡ true → ((q : ℕ) → has q w.numbers ≡ true → (has q pages ≡ false) × (has q v.numbers ≡ true)) × (w.freed ≡ v.freed)
   group-numbers first rest pages v y w is s used r tells =
       let there : y.start.tells ≡ true = ap (λ (o : Origin). o.tells) s.start ∙ tells in
-      let in-use : (q : ℕ) → has q (pids_of (first ∷ rest)) ≡ true → all_zero (draft_of y q) ≡ false = λ q e. used there q (ap (has q) (sym is) ∙ e) in (
+      let in-use : (q : ℕ) → has q (pids_of (first ∷ rest)) ≡ true → all_zero (draft_of y q) ≡ false =
+      λ q e. used there q (ap (has q) (sym is) ∙ e) in (
         λ q e.
             ⊎_elim
             (λ (among : has q (pids_of (first ∷ rest)) ≡ true).
-            absurd (true≢false (sym e ∙ r.numbers q ∙ none-left (has q (pids_of (first ∷ rest))) y.start.tells (all_zero (draft_of y q)) (has q y.numbers) among (in-use q among))))
+            absurd (true≢false (sym e ∙ r.numbers q ∙ none-left (has q (pids_of (first ∷ rest))) y.start.tells
+            (all_zero (draft_of y q)) (has q y.numbers) among (in-use q among))))
             (λ (none : has q (pids_of (first ∷ rest)) ≡ false). (
               ap (has q) (sym is) ∙ none,
               ap (has q) (sym (s.numbers tells).0) ∙ sym (cond-false (has q (pids_of (first ∷ rest))) _ _ none) ∙ sym (r.numbers q) ∙ e,
@@ -167,8 +182,10 @@ module _ {X : Type 0} where
       )
 
   -- a claimed page, told of its words
-  pub group-done : (first : ExclusiveGuard) (rest : List ExclusiveGuard) (pages : List ℕ) (v y w : View X) → pids_of (first ∷ rest) ≡ pages → Stays (first ∷ rest) v y
-      → (y.start.tells ≡ true → (q : ℕ) → has q pages ≡ true → all_zero (draft_of y q) ≡ false) → AreReleased first rest None y w → IsGroupDone pages v w
+  pub group-done : (first : ExclusiveGuard) (rest : List ExclusiveGuard) (pages : List ℕ) (v y w : View X)
+      → pids_of (first ∷ rest) ≡ pages → Stays (first ∷ rest) v y
+      → (y.start.tells ≡ true → (q : ℕ) → has q pages ≡ true → all_zero (draft_of y q) ≡ false)
+      → AreReleased first rest None y w → IsGroupDone pages v w
   group-done first rest pages v y w is s used r = record {
     start = r.beside.steady.start ∙ s.start;
     parts = (r.beside.steady.parts.0 ∙ s.parts.0, r.beside.steady.parts.1 ∙ s.parts.1);
@@ -208,7 +225,8 @@ none-said f (Some x) e = absurd (cc)
 -- a fresh page that is the pass's to use is so on
 pub use-then : {X : Type 0} (p : ℕ) (v y : View X) → y.owed ≡ v.owed → y.numbers ≡ v.numbers → MayUse p v → IsClaimed y p
 use-then p v y owed numbers may =
-    ⊎_elim (λ (e : has p v.owed ≡ true). inr (inr (inl (ap (has p) owed ∙ e)))) (λ (e : has p v.numbers ≡ true). inr (inr (inr (ap (has p) numbers ∙ e)))) may
+    ⊎_elim (λ (e : has p v.owed ≡ true). inr (inr (inl (ap (has p) owed ∙ e))))
+    (λ (e : has p v.numbers ≡ true). inr (inr (inr (ap (has p) numbers ∙ e)))) may
 
 -- the words that were before
 pub words-claimed : {X : Type 0} (p : ℕ) (old new : List ℕ) (y : View X) → HasDraft p old new y → all_zero old ≡ false → IsClaimed y p
@@ -237,14 +255,17 @@ pub node-is : (L : Layout) (words : List ℕ) → IsLeaf L words ⊎ IsInner L w
 node-is L words = ⊎_elim (λ leaf. let tag = leaf.node.tag in (omega (arith, tag), omega (arith, tag))) (inner-is L words)
 
 -- those that have the same tag are not all zero
-pub tag-not : (L : Layout) (laws : IsLayout L) (words : List ℕ) (n : Node) → (node_of L words).tag ≡ n.tag → IsNode n → all_zero words ≡ false
-tag-not L laws words n same is = node_words L laws words (subst (λ (t : ℕ). 2 ≤ t) (sym same) is.0, subst (λ (t : ℕ). t ≤ 3) (sym same) is.1)
+pub tag-not : (L : Layout) (laws : IsLayout L) (words : List ℕ) (n : Node) → (node_of L words).tag ≡ n.tag → IsNode n
+    → all_zero words ≡ false
+tag-not L laws words n same is =
+    node_words L laws words (subst (λ (t : ℕ). 2 ≤ t) (sym same) is.0, subst (λ (t : ℕ). t ≤ 3) (sym same) is.1)
 
 -- and they stand in their form
 pub node-clean : {L : Layout} (words : List ℕ) → IsLeaf L words ⊎ IsInner L words → IsClean L words
 node-clean words = ⊎_elim (λ leaf. leaf.clean) (λ inner. inner.clean)
 
-module _ (L : Layout) (spare : List ℕ → ℕ) (spare_is : (words : List ℕ) → IsClean L words → spare words + size L (node_of L words) ≡ L.room) (words : List ℕ) (clean : IsClean L words) where
+module _ (L : Layout) (spare : List ℕ → ℕ) (spare_is : (words : List ℕ) → IsClean L words
+    → spare words + size L (node_of L words) ≡ L.room) (words : List ℕ) (clean : IsClean L words) where
   -- where less is left than a pair may take, the node is full
   pub spare-full : spare words < L.growth → IsFullNode L (node_of L words)
   spare-full full = omega (arith, full, spare_is words clean)
@@ -254,21 +275,37 @@ module _ (L : Layout) (spare : List ℕ → ℕ) (spare_is : (words : List ℕ) 
   spare-room room = omega (arith, room, spare_is words clean)
 
 module _ {S : Type 0} (plain : S → Said) (L : Layout) where
-  pub may-three : (said : Option S) (g1 g2 g3 : ExclusiveGuard) (a b c : ℕ) (y : View S) → g1.pid ≡ a → g2.pid ≡ b → g3.pid ≡ c → IsHolding g1.pid g1.frame g1.version g1.dirty y → IsHolding g2.pid g2.frame g2.version g2.dirty y → IsHolding g3.pid g3.frame g3.version g3.dirty y
-      → AreApart (a ∷ b ∷ c ∷ []) → y.out ≡ None → (y.start.tells ≡ true → IsClaimed y a) → (y.start.tells ≡ true → IsClaimed y b) → (y.start.tells ≡ true → IsClaimed y c) → (y.start.tells ≡ true → ReleasesPlain plain L (began_of y.start) y.owed (changes_of y (a ∷ b ∷ c ∷ [])) (entries_of y said)) → MayReleaseAll (ReleasesPlain plain L) (g1 ∷ g2 ∷ g3 ∷ []) said y
+  pub may-three : (said : Option S) (g1 g2 g3 : ExclusiveGuard) (a b c : ℕ) (y : View S) → g1.pid ≡ a → g2.pid ≡ b
+      → g3.pid ≡ c → IsHolding g1.pid g1.frame g1.version g1.dirty y → IsHolding g2.pid g2.frame g2.version g2.dirty y
+      → IsHolding g3.pid g3.frame g3.version g3.dirty y
+      → AreApart (a ∷ b ∷ c ∷ []) → y.out ≡ None → (y.start.tells ≡ true → IsClaimed y a)
+      → (y.start.tells ≡ true → IsClaimed y b) → (y.start.tells ≡ true → IsClaimed y c)
+      → (y.start.tells ≡ true → ReleasesPlain plain L (began_of y.start) y.owed (changes_of y (a ∷ b ∷ c ∷ []))
+      (entries_of y said)) → MayReleaseAll (ReleasesPlain plain L) (g1 ∷ g2 ∷ g3 ∷ []) said y
   may-three said g1 g2 g3 a b c y e1 e2 e3 h1 h2 h3 apart out c1 c2 c3 may =
       let pids : pids_of (g1 ∷ g2 ∷ g3 ∷ []) ≡ a ∷ b ∷ c ∷ [] = (λ i. e1 i ∷ e2 i ∷ e3 i ∷ []) in
       record {
         held = (h1, (h2, (h3, tt)));
         apart = subst AreApart (sym pids) apart;
-        home = ((λ o e. absurd (none-not o (sym out ∙ e))), ((λ o e. absurd (none-not o (sym out ∙ e))), ((λ o e. absurd (none-not o (sym out ∙ e))), tt)));
-        claimed = λ t. (subst (IsClaimed y) (sym e1) (c1 t), (subst (IsClaimed y) (sym e2) (c2 t), (subst (IsClaimed y) (sym e3) (c3 t), tt)));
-        owner = λ t. inr (subst (λ (l : List ℕ). ReleasesPlain plain L (began_of y.start) y.owed (changes_of y l) (entries_of y said)) (sym pids) (may t));
+        home = (
+          (λ o e. absurd (none-not o (sym out ∙ e))),
+          ((λ o e. absurd (none-not o (sym out ∙ e))), ((λ o e. absurd (none-not o (sym out ∙ e))), tt)),
+        );
+        claimed = λ t. (
+          subst (IsClaimed y) (sym e1) (c1 t),
+          (subst (IsClaimed y) (sym e2) (c2 t), (subst (IsClaimed y) (sym e3) (c3 t), tt)),
+        );
+        owner = λ t. inr (subst (λ (l : List ℕ). ReleasesPlain plain L (began_of y.start) y.owed (changes_of y l)
+            (entries_of y said)) (sym pids) (may t));
       }
 
   -- the three changes are a split
-  pub splits-three : (a b c key separator : ℕ) (over above page left old half : List ℕ) (y : View S) → HasDraft a over above y → HasDraft b page left y → HasDraft c old half y → IsInner L over → Covers (node_of L over) key → child_of L over key ≡ Some b
-      → size L (node_of L over) + L.growth ≤ L.room → IsFullNode L (node_of L page) → IsSplit L page left half separator → AddsPair L over above separator c → IsFree L old → ReleasesPlain plain L (began_of y.start) y.owed (changes_of y (a ∷ b ∷ c ∷ [])) []
+  pub splits-three : (a b c key separator : ℕ) (over above page left old half : List ℕ) (y : View S)
+      → HasDraft a over above y → HasDraft b page left y → HasDraft c old half y → IsInner L over
+      → Covers (node_of L over) key → child_of L over key ≡ Some b
+      → size L (node_of L over) + L.growth ≤ L.room → IsFullNode L (node_of L page)
+      → IsSplit L page left half separator → AddsPair L over above separator c → IsFree L old
+      → ReleasesPlain plain L (began_of y.start) y.owed (changes_of y (a ∷ b ∷ c ∷ [])) []
   splits-three a b c key separator over above page left old half y ha hb hc inner covers names room full split adds free =
       may_split L (began_of y.start) y.owed (change_of y a) (change_of y b) (change_of y c) key separator
       (subst (IsInner L) (sym ha.last) inner)
@@ -285,9 +322,13 @@ module _ {S : Type 0} (plain : S → Said) (L : Layout) where
 
 module _ {X : Type 0} where
   -- three pages that are held get new drafts one after the other
-  pub drafts-three : (a b c : ℕ) (a-old a-new b-old b-new c-old c-new : List ℕ) (v x1 x2 y : View X) → AreApart (a ∷ b ∷ c ∷ []) → (seat_of v a).exclusive ≡ true → (seat_of v b).exclusive ≡ true → (seat_of v c).exclusive ≡ true
-      → (v.start.tells ≡ true → HasDraft a a-old a-old v × HasDraft b b-old b-old v × HasDraft c c-old c-old v) → IsRedrafted a v x1 → IsRedrafted b x1 x2 → IsRedrafted c x2 y
-      → (v.start.tells ≡ true → draft_of x1 a ≡ a-new) → (x1.start.tells ≡ true → draft_of x2 b ≡ b-new) → (x2.start.tells ≡ true → draft_of y c ≡ c-new) → y.start.tells ≡ true
+  pub drafts-three : (a b c : ℕ) (a-old a-new b-old b-new c-old c-new : List ℕ) (v x1 x2 y : View X)
+      → AreApart (a ∷ b ∷ c ∷ []) → (seat_of v a).exclusive ≡ true → (seat_of v b).exclusive ≡ true
+      → (seat_of v c).exclusive ≡ true
+      → (v.start.tells ≡ true → HasDraft a a-old a-old v × HasDraft b b-old b-old v × HasDraft c c-old c-old v)
+      → IsRedrafted a v x1 → IsRedrafted b x1 x2 → IsRedrafted c x2 y
+      → (v.start.tells ≡ true → draft_of x1 a ≡ a-new) → (x1.start.tells ≡ true → draft_of x2 b ≡ b-new)
+      → (x2.start.tells ≡ true → draft_of y c ≡ c-new) → y.start.tells ≡ true
       → HasDraft a a-old a-new y × HasDraft b b-old b-new y × HasDraft c c-old c-new y
   drafts-three a b c a-old a-new b-old b-new c-old c-new v x1 x2 y apart oa ob oc told d1 d2 d3 n1 n2 n3 tells =
       let t2 = told-before c x2 y d3 tells in
@@ -315,11 +356,16 @@ module _ {X : Type 0} (L : Layout) where
     pub second : HasDraft b page left y
     pub third : HasDraft c (replicate L.words 0) half y
 
-  pub three-redrafted : (a b c : ℕ) (over above page left half : List ℕ) (v x1 x2 y : View X) → AreApart (a ∷ b ∷ c ∷ []) → (seat_of v a).exclusive ≡ true → (seat_of v b).exclusive ≡ true → (seat_of v c).exclusive ≡ true
+  pub three-redrafted : (a b c : ℕ) (over above page left half : List ℕ) (v x1 x2 y : View X)
+      → AreApart (a ∷ b ∷ c ∷ []) → (seat_of v a).exclusive ≡ true → (seat_of v b).exclusive ≡ true
+      → (seat_of v c).exclusive ≡ true
       → (v.start.tells ≡ true → AreToSplit L a b c over page v) → IsRedrafted a v x1 → IsRedrafted b x1 x2 → IsRedrafted c x2 y
-      → (v.start.tells ≡ true → draft_of x1 a ≡ above) → (x1.start.tells ≡ true → draft_of x2 b ≡ left) → (x2.start.tells ≡ true → draft_of y c ≡ half) → y.start.tells ≡ true → AreThree a b c over above page left half y
+      → (v.start.tells ≡ true → draft_of x1 a ≡ above) → (x1.start.tells ≡ true → draft_of x2 b ≡ left)
+      → (x2.start.tells ≡ true → draft_of y c ≡ half) → y.start.tells ≡ true
+      → AreThree a b c over above page left half y
   three-redrafted a b c over above page left half v x1 x2 y apart oa ob oc told d1 d2 d3 n1 n2 n3 tells =
-      let k = drafts-three a b c over above page left (replicate L.words 0) half v x1 x2 y apart oa ob oc (λ t. ((told t).above, (told t).node, (told t).fresh)) d1 d2 d3 n1 n2 n3 tells in
+      let k = drafts-three a b c over above page left (replicate L.words 0) half v x1 x2 y apart oa ob oc
+      (λ t. ((told t).above, (told t).node, (told t).fresh)) d1 d2 d3 n1 n2 n3 tells in
       record { first = k.0; second = k.1; third = k.2 }
 
 -- a page is among these
@@ -329,16 +375,27 @@ among-first q l = or_left (eqb q q) (has q l) (eq-eqb q q refl)
 pub among-later : (q x : ℕ) (l : List ℕ) → has q l ≡ true → has q (x ∷ l) ≡ true
 among-later q x l e = or_right (eqb q x) (has q l) e
 
-pub three-stay : {X : Type 0} (a b c : ExclusiveGuard) (v x1 x2 y : View X) → Redrafts a.pid a.frame v x1 → Redrafts b.pid b.frame x1 x2 → Redrafts c.pid c.frame x2 y → Stays (a ∷ b ∷ c ∷ []) v y
+pub three-stay : {X : Type 0} (a b c : ExclusiveGuard) (v x1 x2 y : View X) → Redrafts a.pid a.frame v x1
+    → Redrafts b.pid b.frame x1 x2 → Redrafts c.pid c.frame x2 y → Stays (a ∷ b ∷ c ∷ []) v y
 three-stay a b c v x1 x2 y d1 d2 d3 =
     let gs : List ExclusiveGuard = a ∷ b ∷ c ∷ [] in
     stays-then gs v x1 y (redrafted-stays gs a.pid a.frame v x1 (among-first a.pid (b.pid ∷ c.pid ∷ [])) (λ at here. inl here) d1)
-    (stays-then gs x1 x2 y (redrafted-stays gs b.pid b.frame x1 x2 (among-later b.pid a.pid (b.pid ∷ c.pid ∷ []) (among-first b.pid (c.pid ∷ []))) (λ at here. inr (inl here)) d2)
-    (redrafted-stays gs c.pid c.frame x2 y (among-later c.pid a.pid (b.pid ∷ c.pid ∷ []) (among-later c.pid b.pid (c.pid ∷ []) (among-first c.pid []))) (λ at here. inr (inr (inl here))) d3))
+    (stays-then gs x1 x2 y (redrafted-stays gs b.pid b.frame x1 x2
+    (among-later b.pid a.pid (b.pid ∷ c.pid ∷ []) (among-first b.pid (c.pid ∷ []))) (λ at here. inr (inl here))
+    d2)
+    (redrafted-stays gs c.pid c.frame x2 y
+    (among-later c.pid a.pid (b.pid ∷ c.pid ∷ []) (among-later c.pid b.pid (c.pid ∷ []) (among-first c.pid [])))
+    (λ at here. inr (inr (inl here))) d3))
 
-module _ {S : Type 0} (plain : S → Said) (L : Layout) (laws : IsLayout L) (spare : List ℕ → ℕ) (spare_is : (words : List ℕ) → IsClean L words → spare words + size L (node_of L words) ≡ L.room)
-    (a b c separator : ℕ) (over above page left half : List ℕ) (v y : View S) (g1 g2 g3 : ExclusiveGuard) (stays : Stays (g1 ∷ g2 ∷ g3 ∷ []) v y) (three : y.start.tells ≡ true → AreThree L a b c over above page left half y) (told : v.start.tells ≡ true → AreToSplit L a b c over page v)
-    (room : L.growth ≤ spare over) (full : spare page < L.growth) (split : IsClean L page → IsSplit L page left half separator) (adds : IsInner L over → AddsPair L over above separator c) (usable : v.start.tells ≡ true → MayUse c v) where
+module _ {S : Type 0} (plain : S → Said) (L : Layout) (laws : IsLayout L) (spare : List ℕ → ℕ)
+    (spare_is : (words : List ℕ) → IsClean L words → spare words + size L (node_of L words) ≡ L.room)
+    (a b c separator : ℕ) (over above page left half : List ℕ) (v y : View S) (g1 g2 g3 : ExclusiveGuard)
+    (stays : Stays (g1 ∷ g2 ∷ g3 ∷ []) v y)
+    (three : y.start.tells ≡ true → AreThree L a b c over above page left half y)
+    (told : v.start.tells ≡ true → AreToSplit L a b c over page v)
+    (room : L.growth ≤ spare over) (full : spare page < L.growth)
+    (split : IsClean L page → IsSplit L page left half separator)
+    (adds : IsInner L over → AddsPair L over above separator c) (usable : v.start.tells ≡ true → MayUse c v) where
   tells-then : y.start.tells ≡ true → v.start.tells ≡ true
   tells-then tells = ap (λ (o : Origin). o.tells) (sym stays.start) ∙ tells
 
@@ -350,8 +407,10 @@ module _ {S : Type 0} (plain : S → Said) (L : Layout) (laws : IsLayout L) (spa
       let t = three tells in
       let to = to-split tells in
       let clean = node-clean page to.kind in
-      splits-three plain L a b c to.names.0 separator over above page left (replicate L.words 0) half y t.first t.second t.third to.inner to.names.1 to.names.2
-      (spare-room L spare spare_is over to.inner.clean room) (spare-full L spare spare_is page clean full) (split clean) (adds to.inner) (zeros-free L)
+      splits-three plain L a b c to.names.0 separator over above page left (replicate L.words 0) half y t.first
+      t.second t.third to.inner to.names.1 to.names.2
+      (spare-room L spare spare_is over to.inner.clean room) (spare-full L spare spare_is page clean full)
+      (split clean) (adds to.inner) (zeros-free L)
 
   -- each of the three is in use then
   three-used : y.start.tells ≡ true → (q : ℕ) → has q (a ∷ b ∷ c ∷ []) ≡ true → all_zero (draft_of y q) ≡ false
@@ -360,11 +419,18 @@ module _ {S : Type 0} (plain : S → Said) (L : Layout) (laws : IsLayout L) (spa
       let to = to-split tells in
       let halves = split (node-clean page to.kind) in
       let f : ℕ → Bool = λ q. all_zero (draft_of y q) in
-      each-used f a (b ∷ c ∷ []) (ap all_zero t.first.draft ∙ tag-not L laws above (node_of L over) (ap (λ (n : Node). n.tag) (adds to.inner).node) (inner-is L over to.inner))
-      (each-used f b (c ∷ []) (ap all_zero t.second.draft ∙ tag-not L laws left (node_of L page) (ap (λ (n : Node). n.tag) halves.left_is) (node-is L page to.kind))
-      (each-used f c [] (ap all_zero t.third.draft ∙ tag-not L laws half (node_of L page) (ap (λ (n : Node). n.tag) halves.right_is) (node-is L page to.kind)) (none-used f)))
+      each-used f a (b ∷ c ∷ [])
+      (ap all_zero t.first.draft ∙ tag-not L laws above (node_of L over)
+      (ap (λ (n : Node). n.tag) (adds to.inner).node) (inner-is L over to.inner))
+      (each-used f b (c ∷ [])
+      (ap all_zero t.second.draft ∙ tag-not L laws left (node_of L page) (ap (λ (n : Node). n.tag) halves.left_is)
+      (node-is L page to.kind))
+      (each-used f c [] (ap all_zero t.third.draft ∙ tag-not L laws half (node_of L page)
+      (ap (λ (n : Node). n.tag) halves.right_is) (node-is L page to.kind)) (none-used f)))
 
-  pub three-all : y.start.size ≡ L.words → g1.pid ≡ a → g2.pid ≡ b → g3.pid ≡ c → IsHolding g1.pid g1.frame g1.version g1.dirty y → IsHolding g2.pid g2.frame g2.version g2.dirty y → IsHolding g3.pid g3.frame g3.version g3.dirty y
+  pub three-all : y.start.size ≡ L.words → g1.pid ≡ a → g2.pid ≡ b → g3.pid ≡ c
+      → IsHolding g1.pid g1.frame g1.version g1.dirty y → IsHolding g2.pid g2.frame g2.version g2.dirty y
+      → IsHolding g3.pid g3.frame g3.version g3.dirty y
       → AreApart (a ∷ b ∷ c ∷ []) → v.out ≡ None → MayReleaseAll (ReleasesPlain plain L) (g1 ∷ g2 ∷ g3 ∷ []) None y
   three-all whole e1 e2 e3 h1 h2 h3 apart out =
       may-three plain L None g1 g2 g3 a b c y e1 e2 e3 h1 h2 h3 apart (stays.out ∙ out)
@@ -372,7 +438,8 @@ module _ {S : Type 0} (plain : S → Said) (L : Layout) (laws : IsLayout L) (spa
       (λ tells. words-claimed b page left y (three tells).second (node-not L laws page (to-split tells).kind))
       (λ tells. use-then c v y stays.group.1 ((stays.numbers (tells-then tells)).0) (usable (tells-then tells))) three-may
 
-  pub three-released : (w : View S) → g1.pid ≡ a → g2.pid ≡ b → g3.pid ≡ c → AreReleased g1 (g2 ∷ g3 ∷ []) None y w → IsSplitUp plain L (a ∷ b ∷ c ∷ []) v w
+  pub three-released : (w : View S) → g1.pid ≡ a → g2.pid ≡ b → g3.pid ≡ c → AreReleased g1 (g2 ∷ g3 ∷ []) None y w
+      → IsSplitUp plain L (a ∷ b ∷ c ∷ []) v w
   three-released w e1 e2 e3 r =
       let pids : pids_of (g1 ∷ g2 ∷ g3 ∷ []) ≡ a ∷ b ∷ c ∷ [] = (λ i. e1 i ∷ e2 i ∷ e3 i ∷ []) in
       record {

@@ -26,7 +26,8 @@ use Rattle.vm_tree_split.specs.Prepares.IsUntaken.{short, unclaimed, unlocked}
 use Rattle.vm_tree_split.specs.Tries.{IsBackedBy, IsCause, IsEnded, IsEndOf, IsTrySplit, IsUnsplit}
 use Rattle.vm_tree_split.specs.Tries.IsUnsplit.{full, untaken}
 use Rattle.vm_tree_split.proofs.Backing.{backed-lock, backed-pages, backed-short, backed-shown, shown-refused, shown-wider}
-use Rattle.vm_tree_split.proofs.{Framing.keeps-then, Numbering.worn-kept, Roomy.roomy-keeps, Roomy.roomy-leaves, Seeing.OnlySees, Seeing.sees-room}
+use Rattle.vm_tree_split.proofs.{Framing.keeps-then, Numbering.worn-kept, Roomy.roomy-keeps, Roomy.roomy-leaves}
+use Rattle.vm_tree_split.proofs.{Seeing.OnlySees, Seeing.sees-room}
 
 module _ {X : Type 0} where
   pub reads-keep : (v w : View X) → ReadsOn v w → KeepsLocksOnly v w
@@ -54,29 +55,41 @@ module _ {X : Type 0} where
   turn-reads L key (turns.Astray saw) v w a = a.0
 
 module _ {S : Type 0} (plain : S → Said) (L : Layout) (spare : List ℕ → ℕ) where
-  pub turn-again : (key : ℕ) (saw : Saw) (v w : View S) → IsTurnedBack L v key (turns.Again saw) w → IsTrySplit plain L spare key (tries.Again saw) v w
+  pub turn-again : (key : ℕ) (saw : Saw) (v w : View S) → IsTurnedBack L v key (turns.Again saw) w
+      → IsTrySplit plain L spare key (tries.Again saw) v w
   turn-again key saw v w a = (reads-keep v w a.0, inl (backed-shown saw v w (shown-wider saw v w a.1), inl a))
 
-  pub turn-astray : (key : ℕ) (saw : Saw) (v w : View S) → IsTurnedBack L v key (turns.Astray saw) w → IsTrySplit plain L spare key (tries.Again saw) v w
+  pub turn-astray : (key : ℕ) (saw : Saw) (v w : View S) → IsTurnedBack L v key (turns.Astray saw) w
+      → IsTrySplit plain L spare key (tries.Again saw) v w
   turn-astray key saw v w a = (reads-keep v w a.0, inr a)
 
   pub turn-need : (key p : ℕ) (v w : View S) → IsTurnedBack L v key (turns.Need p) w → IsTrySplit plain L spare key (tries.Need p) v w
   turn-need key p v w a = (reads-keep v w a.0, a)
 
   -- a try by its answer
-  pub tried-as : (key : ℕ) (answer other : TrySplit) (v w : View S) → answer ≡ other → IsTrySplit plain L spare key answer v w → IsTrySplit plain L spare key other v w
+  pub tried-as : (key : ℕ) (answer other : TrySplit) (v w : View S) → answer ≡ other
+      → IsTrySplit plain L spare key answer v w → IsTrySplit plain L spare key other v w
   tried-as key answer other v w same tried = subst (λ (a : TrySplit). IsTrySplit plain L spare key a v w) same tried
 
   -- ---- nothing is full
 
-  pub roomy-valid : (key : ℕ) (leaf : OptGuard) (loaded : List (ℕ × ℕ)) (v x w : View S) → ReadsOn v x → IsRoomy L spare v key leaf loaded x → IsValid (Tied L) leaf.pid leaf.word leaf.frame None x w → IsTrySplit plain L spare key tries.Roomy v w
-  roomy-valid key leaf loaded v x w r room valid =
-      (reads-keep v w (reads-then v x w r (valid-reads (Tied L) leaf.pid leaf.word leaf.frame x w valid)), record { leaf = leaf; loaded = loaded; found = x; roomy = room; valid = valid })
+  pub roomy-valid : (key : ℕ) (leaf : OptGuard) (loaded : List (ℕ × ℕ)) (v x w : View S) → ReadsOn v x
+      → IsRoomy L spare v key leaf loaded x → IsValid (Tied L) leaf.pid leaf.word leaf.frame None x w
+      → IsTrySplit plain L spare key tries.Roomy v w
+  roomy-valid key leaf loaded v x w r room valid = (
+    reads-keep v w (reads-then v x w r (valid-reads (Tied L) leaf.pid leaf.word leaf.frame x w valid)),
+    record { leaf = leaf; loaded = loaded; found = x; roomy = room; valid = valid },
+  )
 
-  pub roomy-lost : (key : ℕ) (leaf : OptGuard) (loaded : List (ℕ × ℕ)) (saw : Saw) (v x w : View S) → IsRoomy L spare v key leaf loaded x → IsDenied AgainOrNeed (KeptWord leaf.word) NoneExpected leaf.pid (denies.Again saw) x w → IsTrySplit plain L spare key (tries.Again saw) v w
+  pub roomy-lost : (key : ℕ) (leaf : OptGuard) (loaded : List (ℕ × ℕ)) (saw : Saw) (v x w : View S)
+      → IsRoomy L spare v key leaf loaded x → IsDenied AgainOrNeed (KeptWord leaf.word) NoneExpected leaf.pid
+      (denies.Again saw) x w → IsTrySplit plain L spare key (tries.Again saw) v w
   roomy-lost key leaf loaded saw v x w room d =
-      turn-again key saw v w
-      (reads-then v x w (opened-reads leaf.pid leaf.word leaf.frame v x room.opened) (denied-reads AgainOrNeed (KeptWord leaf.word) NoneExpected leaf.pid (denies.Again saw) x w d), shown-refused leaf.pid leaf.word leaf.frame saw v x w room.opened d)
+      turn-again key saw v w (
+        reads-then v x w (opened-reads leaf.pid leaf.word leaf.frame v x room.opened)
+            (denied-reads AgainOrNeed (KeptWord leaf.word) NoneExpected leaf.pid (denies.Again saw) x w d),
+        shown-refused leaf.pid leaf.word leaf.frame saw v x w room.opened d,
+      )
 
 -- ---- a node is full
 
@@ -145,39 +158,63 @@ module _ {S : Type 0} (plain : S → Said) (L : Layout) (spare : List ℕ → �
   of-ended v key w answer (below parent node over page x r met e) = of-end 1 parent node x w answer e
 
   -- the free-number words, and the next word, were loaded before
-  backed-untaken : (n : ℕ) (a b : OptGuard) (saw : Saw) (u v x w : View S) → StartsWith v.log u.log → IsOpened u a.pid a.word a.frame v → IsOpened u b.pid b.word b.frame v → b.pid ≢ a.pid → OnlySees v x → IsUntaken L n a b x w (tries.Again saw) → IsBackedBy u saw w
+  backed-untaken : (n : ℕ) (a b : OptGuard) (saw : Saw) (u v x w : View S) → StartsWith v.log u.log
+      → IsOpened u a.pid a.word a.frame v → IsOpened u b.pid b.word b.frame v → b.pid ≢ a.pid → OnlySees v x
+      → IsUntaken L n a b x w (tries.Again saw) → IsBackedBy u saw w
   backed-untaken n a b saw u v x w log oa ob apart t (short refused h is) =
-      backed-short n saw u x w (starts-then u.log v.log x.log log (roomy-keeps v x t).log) (subst (λ (r : Alloc). IsShort n r x w) (short-again refused saw is) h)
+      backed-short n saw u x w (starts-then u.log v.log x.log log (roomy-keeps v x t).log)
+      (subst (λ (r : Alloc). IsShort n r x w) (short-again refused saw is) h)
   backed-untaken n a b saw u v x w log oa ob apart t (unlocked deny h is) =
-      backed-lock a b saw u v x w oa ob apart (roomy-leaves v x t) (subst (λ (d : Deny). IsNotLocked L a b d x w) (denied-again deny saw is) h)
+      backed-lock a b saw u v x w oa ob apart (roomy-leaves v x t)
+      (subst (λ (d : Deny). IsNotLocked L a b d x w) (denied-again deny saw is) h)
   backed-untaken n a b saw u v x w log oa ob apart t (unclaimed refused h is) =
-      backed-pages n a b saw u x w (starts-then u.log v.log x.log log (roomy-keeps v x t).log) (subst (λ (r : Fresh). IsRefusedPages L n a b r x w) (refused-again refused saw is) h)
+      backed-pages n a b saw u x w (starts-then u.log v.log x.log log (roomy-keeps v x t).log)
+      (subst (λ (r : Fresh). IsRefusedPages L n a b r x w) (refused-again refused saw is) h)
 
-  backed-unsplit : (n : ℕ) (a b : OptGuard) (saw : Saw) (u v w : View S) → StartsWith v.log u.log → IsOpened u a.pid a.word a.frame v → IsOpened u b.pid b.word b.frame v → b.pid ≢ a.pid → IsUnsplit plain L spare n a b v w (tries.Again saw) → IsBackedBy u saw w
-  backed-unsplit n a b saw u v w log oa ob apart (full pages next need searched f h is) = let no : tries.Again saw ≡ tries.Full pages next need = is in absurd (cc)
-  backed-unsplit n a b saw u v w log oa ob apart (untaken roomy room h) = backed-untaken n a b saw u v roomy w log oa ob apart (sees-room n v roomy room) h
+  backed-unsplit : (n : ℕ) (a b : OptGuard) (saw : Saw) (u v w : View S) → StartsWith v.log u.log
+      → IsOpened u a.pid a.word a.frame v → IsOpened u b.pid b.word b.frame v → b.pid ≢ a.pid
+      → IsUnsplit plain L spare n a b v w (tries.Again saw) → IsBackedBy u saw w
+  backed-unsplit n a b saw u v w log oa ob apart (full pages next need searched f h is) =
+      let no : tries.Again saw ≡ tries.Full pages next need = is in absurd (cc)
+  backed-unsplit n a b saw u v w log oa ob apart (untaken roomy room h) =
+      backed-untaken n a b saw u v roomy w log oa ob apart (sees-room n v roomy room) h
 
-  backed-end : (n : ℕ) (a b : OptGuard) (saw : Saw) (u v w : View S) → ReadsOn u v → IsOpened u a.pid a.word a.frame v → IsOpened u b.pid b.word b.frame v → b.pid ≢ a.pid → IsEndOf plain L spare n a b v w (tries.Again saw) → IsBackedBy u saw w
+  backed-end : (n : ℕ) (a b : OptGuard) (saw : Saw) (u v w : View S) → ReadsOn u v → IsOpened u a.pid a.word a.frame v
+      → IsOpened u b.pid b.word b.frame v → b.pid ≢ a.pid → IsEndOf plain L spare n a b v w (tries.Again saw)
+      → IsBackedBy u saw w
   backed-end n a b saw u v w r oa ob apart e =
-      ⊎_elim (λ s. let no : tries.Again saw ≡ tries.Split = s.0 in absurd (cc)) (λ x. backed-unsplit n a b saw u v w (r.0.done, r.0.log) oa ob apart x) e
+      ⊎_elim (λ s. let no : tries.Again saw ≡ tries.Split = s.0 in absurd (cc))
+      (λ x. backed-unsplit n a b saw u v w (r.0.done, r.0.log) oa ob apart x) e
 
   backed-ended : (v : View S) (key : ℕ) (saw : Saw) (w : View S) → IsEnded plain L spare v key w (tries.Again saw) → IsBackedBy v saw w
-  backed-ended v key saw w (root meta low height page x r met e) = backed-end 2 meta low saw v x w r met.named.opened met.opened (λ is. met.named.apart (is ∙ met.named.zero)) e
-  backed-ended v key saw w (below parent node over page x r met e) = backed-end 1 parent node saw v x w r met.parent_opened met.opened met.apart e
+  backed-ended v key saw w (root meta low height page x r met e) =
+      backed-end 2 meta low saw v x w r met.named.opened met.opened (λ is. met.named.apart (is ∙ met.named.zero)) e
+  backed-ended v key saw w (below parent node over page x r met e) =
+      backed-end 1 parent node saw v x w r met.parent_opened met.opened met.apart e
 
-  caused : (v : View S) (key : ℕ) (w : View S) (answer : TrySplit) → IsEnded plain L spare v key w answer → OfFull answer → IsCause plain L spare key answer v w
-  caused v key w answer e (OfFull.was_split is) = subst (λ a. IsCause plain L spare key a v w) (sym is) (subst (IsEnded plain L spare v key w) is e)
-  caused v key w answer e (OfFull.was_again saw is) = let ended = subst (IsEnded plain L spare v key w) is e in subst (λ a. IsCause plain L spare key a v w) (sym is) (inl (backed-ended v key saw w ended, inr ended))
-  caused v key w answer e (OfFull.was_worn p is) = subst (λ a. IsCause plain L spare key a v w) (sym is) (subst (IsEnded plain L spare v key w) is e)
-  caused v key w answer e (OfFull.was_dry is) = subst (λ a. IsCause plain L spare key a v w) (sym is) (subst (IsEnded plain L spare v key w) is e)
-  caused v key w answer e (OfFull.was_full pages next need is) = subst (λ a. IsCause plain L spare key a v w) (sym is) (subst (IsEnded plain L spare v key w) is e)
+  caused : (v : View S) (key : ℕ) (w : View S) (answer : TrySplit) → IsEnded plain L spare v key w answer
+      → OfFull answer → IsCause plain L spare key answer v w
+  caused v key w answer e (OfFull.was_split is) =
+      subst (λ a. IsCause plain L spare key a v w) (sym is) (subst (IsEnded plain L spare v key w) is e)
+  caused v key w answer e (OfFull.was_again saw is) = let ended = subst (IsEnded plain L spare v key w) is e in
+      subst (λ a. IsCause plain L spare key a v w) (sym is) (inl (backed-ended v key saw w ended, inr ended))
+  caused v key w answer e (OfFull.was_worn p is) =
+      subst (λ a. IsCause plain L spare key a v w) (sym is) (subst (IsEnded plain L spare v key w) is e)
+  caused v key w answer e (OfFull.was_dry is) =
+      subst (λ a. IsCause plain L spare key a v w) (sym is) (subst (IsEnded plain L spare v key w) is e)
+  caused v key w answer e (OfFull.was_full pages next need is) =
+      subst (λ a. IsCause plain L spare key a v w) (sym is) (subst (IsEnded plain L spare v key w) is e)
 
-  pub tried-below : (key : ℕ) (parent node : OptGuard) (over page : List ℕ) (answer : TrySplit) (v x w : View S) → ReadsOn v x → IsFullBelow L spare v key parent node over page x → KeepsLocksOnly x w → IsEndOf plain L spare 1 parent node x w answer → IsTrySplit plain L spare key answer v w
+  pub tried-below : (key : ℕ) (parent node : OptGuard) (over page : List ℕ) (answer : TrySplit) (v x w : View S)
+      → ReadsOn v x → IsFullBelow L spare v key parent node over page x → KeepsLocksOnly x w
+      → IsEndOf plain L spare 1 parent node x w answer → IsTrySplit plain L spare key answer v w
   tried-below key parent node over page answer v x w r met k e =
       let ended = below parent node over page x r met e in
       (keeps-then v x w (reads-keep v x r) k, caused v key w answer ended (of-ended v key w answer ended))
 
-  pub tried-root : (key : ℕ) (meta low : OptGuard) (height : ℕ) (page : List ℕ) (answer : TrySplit) (v x w : View S) → ReadsOn v x → IsRootFull L spare v key meta low height page x → KeepsLocksOnly x w → IsEndOf plain L spare 2 meta low x w answer → IsTrySplit plain L spare key answer v w
+  pub tried-root : (key : ℕ) (meta low : OptGuard) (height : ℕ) (page : List ℕ) (answer : TrySplit) (v x w : View S)
+      → ReadsOn v x → IsRootFull L spare v key meta low height page x → KeepsLocksOnly x w
+      → IsEndOf plain L spare 2 meta low x w answer → IsTrySplit plain L spare key answer v w
   tried-root key meta low height page answer v x w r met k e =
       let ended = root meta low height page x r met e in
       (keeps-then v x w (reads-keep v x r) k, caused v key w answer ended (of-ended v key w answer ended))

@@ -35,7 +35,8 @@ module _ (pids : List ℕ) (gs : List ExclusiveGuard) (guards : pids_of gs ≡ p
   many : (n : ℕ) → length pids ≡ n → length gs ≡ n
   many n count = sym (pids-length gs) ∙ ap length guards ∙ count
 
-  pub taken-one : (rest : List ExclusiveGuard) (right : ExclusiveGuard) → length pids ≡ 1 → gs ≡ rest ++ right ∷ [] → (rest ≡ []) × (gs ≡ right ∷ [])
+  pub taken-one : (rest : List ExclusiveGuard) (right : ExclusiveGuard) → length pids ≡ 1 → gs ≡ rest ++ right ∷ []
+      → (rest ≡ []) × (gs ≡ right ∷ [])
   taken-one [] right count e = (refl, e)
   taken-one (g ∷ rs) right count e =
       let one : length gs ≡ 1 = many 1 count in
@@ -58,7 +59,8 @@ module _ (pids : List ℕ) (gs : List ExclusiveGuard) (guards : pids_of gs ≡ p
       let zero : length rest ≡ 0 = ap length none in
       absurd (omega (arith, two, all, zero))
 
-  pub taken-two : (more rest : List ExclusiveGuard) (right top : ExclusiveGuard) → length pids ≡ 2 → gs ≡ more ++ top ∷ [] → more ≡ rest ++ right ∷ [] → (rest ≡ []) × (gs ≡ right ∷ top ∷ [])
+  pub taken-two : (more rest : List ExclusiveGuard) (right top : ExclusiveGuard) → length pids ≡ 2
+      → gs ≡ more ++ top ∷ [] → more ≡ rest ++ right ∷ [] → (rest ≡ []) × (gs ≡ right ∷ top ∷ [])
   taken-two more [] right top count e f = (refl, e ∙ ap (λ (l : List ExclusiveGuard). l ++ top ∷ []) f)
   taken-two more (g ∷ rs) right top count e f =
       let two : length gs ≡ 2 = many 2 count in
@@ -69,19 +71,25 @@ module _ (pids : List ℕ) (gs : List ExclusiveGuard) (guards : pids_of gs ≡ p
 
 module _ {X : Type 0} (L : Layout) where
   -- words that meet more ties meet those that were there before
-  pub meets-fewer : (p word : ℕ) (words : List ℕ) (v w : View X) → w.start ≡ v.start → (more : List Tie) × (w.ties ≡ more ++ v.ties) → MeetsTies L w p word words → MeetsTies L v p word words
+  pub meets-fewer : (p word : ℕ) (words : List ℕ) (v w : View X) → w.start ≡ v.start → (more : List Tie)
+      × (w.ties ≡ more ++ v.ties) → MeetsTies L w p word words → MeetsTies L v p word words
   meets-fewer p word words v w start ties all =
-      subst (λ (o : Origin). Each (λ (t : Tie). t.page ≡ p → t.version ≡ version_of word → Tied L (began_of o) t.of t.words p words) v.ties) start
+      subst (λ (o : Origin). Each (λ (t : Tie). t.page ≡ p → t.version ≡ version_of word
+      → Tied L (began_of o) t.of t.words p words) v.ties) start
       (each-behind (λ (t : Tie). t.page ≡ p → t.version ≡ version_of word → Tied L (began_of w.start) t.of t.words p words) ties.0 v.ties
-      (subst (λ (l : List Tie). Each (λ (t : Tie). t.page ≡ p → t.version ≡ version_of word → Tied L (began_of w.start) t.of t.words p words) l) ties.1 all))
+      (subst (λ (l : List Tie).
+      Each (λ (t : Tie). t.page ≡ p → t.version ≡ version_of word → Tied L (began_of w.start) t.of t.words p
+      words) l) ties.1 all))
 
-  pub use-more : (p word : ℕ) (v w : View X) → w.start ≡ v.start → (more : List Tie) × (w.ties ≡ more ++ v.ties) → IsInUseAt L p word v → IsInUseAt L p word w
+  pub use-more : (p word : ℕ) (v w : View X) → w.start ≡ v.start → (more : List Tie) × (w.ties ≡ more ++ v.ties)
+      → IsInUseAt L p word v → IsInUseAt L p word w
   use-more p word v w start ties used words all itself =
       used words (meets-fewer p word words v w start ties all) (subst (λ (o : Origin). Tied L (began_of o) p words p words) start itself)
 
 module _ {X : Type 0} {L : Layout} where
   -- so what a page's ties ask for is asked where there are more ties
-  pub awaits-more : (p word level key : ℕ) (v w : View X) → w.start ≡ v.start → (more : List Tie) × (w.ties ≡ more ++ v.ties) → Awaits L v p word level key → Awaits L w p word level key
+  pub awaits-more : (p word level key : ℕ) (v w : View X) → w.start ≡ v.start → (more : List Tie)
+      × (w.ties ≡ more ++ v.ties) → Awaits L v p word level key → Awaits L w p word level key
   awaits-more p word level key v w start ties awaits tells words all =
       subst (λ (o : Origin). IsReached L (length o.contents) p words level key) (sym start)
       (awaits (ap (λ (o : Origin). o.tells) (sym start) ∙ tells) words (meets-fewer L p word words v w start ties all))
@@ -92,28 +100,43 @@ module _ {X : Type 0} (done : List Did) (v w : View X) (m : MovesFrames done v w
   pub reading-moved : (p word frame : ℕ) → IsReading p word frame v → IsReading p word frame w
   reading-moved p word frame r =
       reading-kept p word frame v w r m.start
-      (record { shares = ap (λ s. (put_at no_seat s p).shares) m.pages.0; exclusive = ap (λ s. (put_at no_seat s p).exclusive) m.pages.0; writing = ap (λ s. (put_at no_seat s p).writing) m.pages.0 })
+      (record {
+        shares = ap (λ s. (put_at no_seat s p).shares) m.pages.0;
+        exclusive = ap (λ s. (put_at no_seat s p).exclusive) m.pages.0;
+        writing = ap (λ s. (put_at no_seat s p).writing) m.pages.0;
+      })
       (λ l. ap (λ h. put_at no_held h p) m.pages.2)
       (ap (λ s. (put_at no_seat s p).reading) m.pages.0)
 
   pub moved-holds : (q : ℕ) → HoldsPage v w q
-  moved-holds q = record { shares = ap (λ s. (put_at no_seat s q).shares) m.pages.0; exclusive = ap (λ s. (put_at no_seat s q).exclusive) m.pages.0; writing = ap (λ s. (put_at no_seat s q).writing) m.pages.0 }
+  moved-holds q = record {
+    shares = ap (λ s. (put_at no_seat s q).shares) m.pages.0;
+    exclusive = ap (λ s. (put_at no_seat s q).exclusive) m.pages.0;
+    writing = ap (λ s. (put_at no_seat s q).writing) m.pages.0;
+  }
 
   pub read-moved : (p : ℕ) (page : List ℕ) → HasRead v p page → HasRead w p page
   read-moved p page k = (k.0, ap (λ l. put_at [] l p) m.pages.1 ∙ k.1)
 
 -- ---- a lock proves what was read
 
-module _ {X : Type 0} {L : Layout} (p f version word frame : ℕ) (dirty : Bool) (page : List ℕ) (v x : View X) (r : IsReading p word frame v) (long : length page ≡ L.words) (whole : x.start.size ≡ L.words) (read : HasRead v p page) (tells : v.start.tells ≡ true) (at : version ≡ version_of word) (l : IsLocked (Tied L) p f version dirty v x) where
+module _ {X : Type 0} {L : Layout} (p f version word frame : ℕ) (dirty : Bool) (page : List ℕ) (v x : View X)
+    (r : IsReading p word frame v) (long : length page ≡ L.words) (whole : x.start.size ≡ L.words)
+    (read : HasRead v p page) (tells : v.start.tells ≡ true) (at : version ≡ version_of word)
+    (l : IsLocked (Tied L) p f version dirty v x) where
   pub locked-draft : HasDraft p page page x
   locked-draft =
-      let draft : draft_of x p ≡ page = l.draft ∙ words-are L p v read.0 page (last_of x p).words long read.1 (ap (λ (z : List ℕ). length z) (sym l.draft) ∙ l.holding.size ∙ whole) ((l.validates tells).valid _ r.reading (sym at)) in
+      let draft : draft_of x p ≡ page = l.draft ∙ words-are L p v read.0 page (last_of x p).words long read.1
+      (ap (λ (z : List ℕ). length z) (sym l.draft) ∙ l.holding.size ∙ whole)
+      ((l.validates tells).valid _ r.reading (sym at)) in
       record { last = sym l.draft ∙ draft; draft = draft }
 
   pub locked-reached : (level key : ℕ) → Awaits L v p word level key → IsReached L (tree_pages v) p page level key
   locked-reached level key awaits =
       subst (λ (z : List ℕ). IsReached L (tree_pages v) p z level key) locked-draft.last
-      (awaits tells (last_of x p).words (subst (λ (n : ℕ). Each (λ (t : Tie). t.page ≡ p → t.version ≡ n → Tied L (began_of v.start) t.of t.words p (last_of x p).words) v.ties) at (l.validates tells).holds))
+      (awaits tells (last_of x p).words
+      (subst (λ (n : ℕ). Each (λ (t : Tie). t.page ≡ p → t.version ≡ n → Tied L (began_of v.start) t.of t.words p
+      (last_of x p).words) v.ties) at (l.validates tells).holds))
 
   pub locked-inner : (level key : ℕ) → Awaits L v p word (suc level) key → IsInner L page × Covers (node_of L page) key
   locked-inner level key awaits = let k = locked-reached (suc level) key awaits in (inner-here (tree_pages v) p page level key k, k.covers)
@@ -123,12 +146,16 @@ module _ {X : Type 0} {L : Layout} (p f version word : ℕ) (dirty : Bool) (v x 
   pub locked-in-use : v.start.tells ≡ true → version ≡ version_of word → IsInUseAt L p word v → all_zero (last_of x p).words ≡ false
   locked-in-use tells at used =
       let k = l.validates tells in
-      used (last_of x p).words (subst (λ (n : ℕ). Each (λ (t : Tie). t.page ≡ p → t.version ≡ n → Tied L (began_of v.start) t.of t.words p (last_of x p).words) v.ties) at k.holds) k.itself
+      used (last_of x p).words
+      (subst (λ (n : ℕ). Each (λ (t : Tie). t.page ≡ p → t.version ≡ n → Tied L (began_of v.start) t.of t.words p
+      (last_of x p).words) v.ties) at k.holds) k.itself
 
 module _ {X : Type 0} where
   -- ---- what is held stays over steps on other pages
 
-  pub holding-else : (p f version : ℕ) (dirty : Bool) (q : ℕ) (done : List Did) {own : List Release} (v w : View X) → p ≢ q → w.pending ≡ v.pending → IsHolding p f version dirty v → IsElsewhere q done own v w → IsHolding p f version dirty w
+  pub holding-else : (p f version : ℕ) (dirty : Bool) (q : ℕ) (done : List Did) {own : List Release} (v w : View X)
+      → p ≢ q → w.pending ≡ v.pending → IsHolding p f version dirty v → IsElsewhere q done own v w
+      → IsHolding p f version dirty w
   holding-else p f version dirty q done {own = own} v w ne pending h e =
       let k : KnowsAsBefore v w p = e.knows p ne (inl h.owns) in
       record {
@@ -144,13 +171,21 @@ module _ {X : Type 0} where
         free = ap (has p) pending ∙ h.free;
       }
 
-  pub draft-else : (p q : ℕ) (done : List Did) {own : List Release} (old new : List ℕ) (v w : View X) → p ≢ q → (seat_of v p).exclusive ≡ true → HasDraft p old new v → IsElsewhere q done own v w → HasDraft p old new w
+  pub draft-else : (p q : ℕ) (done : List Did) {own : List Release} (old new : List ℕ) (v w : View X) → p ≢ q
+      → (seat_of v p).exclusive ≡ true → HasDraft p old new v → IsElsewhere q done own v w → HasDraft p old new w
   draft-else p q done {own = own} old new v w ne owns h e =
-      let k : KnowsAsBefore v w p = e.knows p ne (inl owns) in record { last = ap (λ (y : Version). y.words) k.last ∙ h.last; draft = k.draft ∙ h.draft }
+      let k : KnowsAsBefore v w p = e.knows p ne (inl owns) in record {
+        last = ap (λ (y : Version). y.words) k.last ∙ h.last;
+        draft = k.draft ∙ h.draft;
+      }
 
-  pub draft-amid : (p : ℕ) (pages : List ℕ) (done : List Did) (old new : List ℕ) (v w : View X) → has p pages ≡ false → (seat_of v p).exclusive ≡ true → HasDraft p old new v → IsAmid pages done v w → HasDraft p old new w
+  pub draft-amid : (p : ℕ) (pages : List ℕ) (done : List Did) (old new : List ℕ) (v w : View X) → has p pages ≡ false
+      → (seat_of v p).exclusive ≡ true → HasDraft p old new v → IsAmid pages done v w → HasDraft p old new w
   draft-amid p pages done old new v w none owns h e =
-      let k : KnowsAsBefore v w p = e.knows p none (inl owns) in record { last = ap (λ (y : Version). y.words) k.last ∙ h.last; draft = k.draft ∙ h.draft }
+      let k : KnowsAsBefore v w p = e.knows p none (inl owns) in record {
+        last = ap (λ (y : Version). y.words) k.last ∙ h.last;
+        draft = k.draft ∙ h.draft;
+      }
 
   -- ---- what is held of all other pages
 
@@ -198,10 +233,16 @@ module _ {X : Type 0} where
     pending = m.group.0;
     knows = λ q e. (moved-aside (λ q. Unit {0}) done v w m).knows q;
     current = m.alone.current;
-    holds = λ q e. record { shares = ap (λ s. (put_at no_seat s q).shares) m.pages.0; exclusive = ap (λ s. (put_at no_seat s q).exclusive) m.pages.0; writing = ap (λ s. (put_at no_seat s q).writing) m.pages.0 };
+    holds = λ q e. record {
+      shares = ap (λ s. (put_at no_seat s q).shares) m.pages.0;
+      exclusive = ap (λ s. (put_at no_seat s q).exclusive) m.pages.0;
+      writing = ap (λ s. (put_at no_seat s q).writing) m.pages.0;
+    };
   }
 
-  pub fresh-but : (pages fresh : List ℕ) (n : ℕ) (gs : List ExclusiveGuard) (before after : List ℕ) (v w : View X) → ((q : ℕ) → has q pages ≡ false → has q fresh ≡ false) → AreFreshPages n fresh gs before after v w → KeepsBut pages v w
+  pub fresh-but : (pages fresh : List ℕ) (n : ℕ) (gs : List ExclusiveGuard) (before after : List ℕ) (v w : View X)
+      → ((q : ℕ) → has q pages ≡ false → has q fresh ≡ false) → AreFreshPages n fresh gs before after v w
+      → KeepsBut pages v w
   fresh-but pages fresh n gs before after v w within f = record {
     start = f.amid.start;
     parts = f.amid.parts;
@@ -214,11 +255,28 @@ module _ {X : Type 0} where
     pending = f.amid.pending;
     knows = λ q e. f.amid.knows q (within q e);
     current = λ _. f.current;
-    holds = λ q e. let k = f.amid.seats q (within q e) in record { shares = ap (λ (s : Seat). s.shares) k; exclusive = ap (λ (s : Seat). s.exclusive) k; writing = ap (λ (s : Seat). s.writing) k };
+    holds = λ q e. let k = f.amid.seats q (within q e) in record {
+      shares = ap (λ (s : Seat). s.shares) k;
+      exclusive = ap (λ (s : Seat). s.exclusive) k;
+      writing = ap (λ (s : Seat). s.writing) k;
+    };
   }
 
   pub done-but : (pages : List ℕ) (v w : View X) → IsGroupDone pages v w → KeepsBut pages v w
-  done-but pages v w d = record { start = d.start; parts = d.parts; mine = d.mine; seen = d.seen; releases = d.releases; notes = ([], d.notes ∙ sym (append-none v.notes)); log = d.log; out = d.out; pending = d.pending; holds = d.holds; knows = d.knows; current = λ _. d.current }
+  done-but pages v w d = record {
+    start = d.start;
+    parts = d.parts;
+    mine = d.mine;
+    seen = d.seen;
+    releases = d.releases;
+    notes = ([], d.notes ∙ sym (append-none v.notes));
+    log = d.log;
+    out = d.out;
+    pending = d.pending;
+    holds = d.holds;
+    knows = d.knows;
+    current = λ _. d.current;
+  }
 
   -- what the pass has of a page that it locked, but for that lock
   pub record Was (q : ℕ) (v z : View X) : Type 0 where
@@ -226,8 +284,13 @@ module _ {X : Type 0} where
     pub writing : (seat_of z q).writing ≡ (seat_of v q).writing
     pub free : (seat_of v q).exclusive ≡ false
 
-  pub was-fresh : (fresh : List ℕ) (n q : ℕ) (gs : List ExclusiveGuard) (before after : List ℕ) (v w : View X) → has q fresh ≡ true → AreFreshPages n fresh gs before after v w → Was q v w
-  was-fresh fresh n q gs before after v w among f = record { shares = ap (λ (s : Seat). s.shares) (f.seats q among); writing = ap (λ (s : Seat). s.writing) (f.seats q among); free = (f.unheld q among).exclusive }
+  pub was-fresh : (fresh : List ℕ) (n q : ℕ) (gs : List ExclusiveGuard) (before after : List ℕ) (v w : View X)
+      → has q fresh ≡ true → AreFreshPages n fresh gs before after v w → Was q v w
+  was-fresh fresh n q gs before after v w among f = record {
+    shares = ap (λ (s : Seat). s.shares) (f.seats q among);
+    writing = ap (λ (s : Seat). s.writing) (f.seats q among);
+    free = (f.unheld q among).exclusive;
+  }
 
   pub was-on : (q : ℕ) (v x z : View X) → Was q v x → HoldsPage x z q → Was q v z
   was-on q v x z a h = record { shares = h.shares ∙ a.shares; writing = h.writing ∙ a.writing; free = a.free }
@@ -236,13 +299,22 @@ module _ {X : Type 0} where
   was-before q u v z h a = record { shares = a.shares ∙ h.shares; writing = a.writing ∙ h.writing; free = sym h.exclusive ∙ a.free }
 
   pub was-done : (q : ℕ) (pages : List ℕ) (v z y : View X) → has q pages ≡ true → Was q v z → IsGroupDone pages z y → HoldsPage v y q
-  was-done q pages v z y among a d = let k = d.released q among in record { shares = k.0 ∙ a.shares; exclusive = k.1 ∙ sym a.free; writing = k.2 ∙ a.writing }
+  was-done q pages v z y among a d = let k = d.released q among in record {
+    shares = k.0 ∙ a.shares;
+    exclusive = k.1 ∙ sym a.free;
+    writing = k.2 ∙ a.writing;
+  }
 
   pub amid-holds : (fresh : List ℕ) (done : List Did) (v w : View X) (q : ℕ) → has q fresh ≡ false → IsAmid fresh done v w → HoldsPage v w q
-  amid-holds fresh done v w q none e = let k = e.seats q none in record { shares = ap (λ (s : Seat). s.shares) k; exclusive = ap (λ (s : Seat). s.exclusive) k; writing = ap (λ (s : Seat). s.writing) k }
+  amid-holds fresh done v w q none e = let k = e.seats q none in record {
+    shares = ap (λ (s : Seat). s.shares) k;
+    exclusive = ap (λ (s : Seat). s.exclusive) k;
+    writing = ap (λ (s : Seat). s.writing) k;
+  }
 
 module _ {X : Type 0} {L : Layout} where
-  pub locked-but : (pages : List ℕ) (p f version : ℕ) (dirty : Bool) (v w : View X) → has p pages ≡ true → IsLocked (Tied L) p f version dirty v w → KeepsBut pages v w
+  pub locked-but : (pages : List ℕ) (p f version : ℕ) (dirty : Bool) (v w : View X) → has p pages ≡ true
+      → IsLocked (Tied L) p f version dirty v w → KeepsBut pages v w
   locked-but pages p f version dirty v w among l = record {
     start = l.elsewhere.steady.start;
     parts = l.elsewhere.steady.parts;
@@ -259,4 +331,8 @@ module _ {X : Type 0} {L : Layout} where
   }
 
   pub was-locked : (p f version : ℕ) (dirty : Bool) (v x : View X) → IsLocked (Tied L) p f version dirty v x → Was p v x
-  was-locked p f version dirty v x l = record { shares = ap (λ (s : Seat). s.shares) l.seat; writing = ap (λ (s : Seat). s.writing) l.seat; free = l.before.exclusive }
+  was-locked p f version dirty v x l = record {
+    shares = ap (λ (s : Seat). s.shares) l.seat;
+    writing = ap (λ (s : Seat). s.writing) l.seat;
+    free = l.before.exclusive;
+  }

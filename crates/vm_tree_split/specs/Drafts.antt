@@ -1,8 +1,8 @@
 -- What setting words of a draft leaves of the view.
 use Rattle.std.specs.Prelude.{[], ◌++◌, ◌<◌, ◌≡◌, ◌≢◌, ◌≤◌, ◌⊎◌, List, slice_index, Some, ℕ}
 use Rattle.vm_rule.specs.Prelude.{Each, last_of}
-use Rattle.vm_rule.specs.declared.view.Place.{Place}
-use Rattle.vm_rule.specs.declared.view.Place.TheVariants as places
+use Rattle.vm_rule.specs.declared.view.WordPlace.{WordPlace}
+use Rattle.vm_rule.specs.declared.view.WordPlace.TheVariants as places
 use Rattle.vm_step.specs.Prelude.{Did, HoldsPage, IsAlone, KeepsNumbers, ReadsAsBefore, StaysAlone, View}
 use Rattle.vm_guard.specs.{Guards.IsElsewhere, Sure.known_next, Sure.KnowsStates}
 
@@ -13,7 +13,7 @@ pub record IsDraftedAmong (from end : ℕ) (before after old new : List ℕ) : T
   pub behind : (k : ℕ) → end ≤ k → slice_index new k ≡ slice_index before k
 
 -- a word of frame f, or the translation word of page p, which tells that the page is dirty there
-abbrev pub IsDraftPlace : ℕ → ℕ → Place → Type 0
+abbrev pub IsDraftPlace : ℕ → ℕ → WordPlace → Type 0
 IsDraftPlace p f at = (at ≡ places.Translation p) ⊎ ((i : ℕ) × (at ≡ places.Content f i))
 
 module _ {X : Type 0} where
@@ -44,4 +44,5 @@ module _ {X : Type 0} where
   pub record SetsDiffering (before after : List ℕ) (v w : View X) : Type 0 where
     pub done : List Did
     pub log : w.log ≡ v.log ++ done
-    pub differ : Each (λ d. (f i : ℕ) → d.at ≡ places.Content f i → (x : ℕ) → d.wrote ≡ Some x → (x ≡ slice_index after i) × (slice_index before i ≢ slice_index after i)) done
+    pub differ : Each (λ d. (f i : ℕ) → d.at ≡ places.Content f i → (x : ℕ) → d.wrote ≡ Some x
+        → (x ≡ slice_index after i) × (slice_index before i ≢ slice_index after i)) done

@@ -2,11 +2,12 @@
 use Rattle.std.specs.Prelude.{◌++◌, ◌≡◌, ◌⊎◌, List, true, ℕ}
 use Rattle.vm_core.specs.Prelude.{MAX_VERSION, version_of}
 use Rattle.vm_rule.specs.Prelude.{has}
-use Rattle.vm_rule.specs.declared.view.Place.{Place}
+use Rattle.vm_rule.specs.declared.view.WordPlace.{WordPlace}
 use Rattle.vm_step.specs.Prelude.{Did, HasGiven, View}
 
 module _ {X : Type 0} where
-  -- The pass holds no number that it did not hold, and has just those still to give that it had. A page that is written or split is in use, so its number is in no
+  -- The pass holds no number that it did not hold, and has just those still to give that it had. A page that is
+  -- written or split is in use, so its number is in no
   -- hand; it is said where the blocks tell their words: else a page that is given up takes its number along.
   abbrev pub GainsNone : View X → View X → Type 0
   GainsNone v w = v.start.tells ≡ true → ((q : ℕ) → has q w.numbers ≡ true → has q v.numbers ≡ true) × (w.freed ≡ v.freed)
@@ -16,9 +17,10 @@ module _ {X : Type 0} where
     pub done : List Did
     pub log : w.log ≡ v.log ++ done
     pub word : ℕ
-    pub given : HasGiven done (Place.State p) word
+    pub given : HasGiven done (WordPlace.State p) word
     pub last : version_of word ≡ MAX_VERSION
 
   -- the same, but for numbers of pages that were found at the last version since then: they are given to nobody
   abbrev pub GainsWorn : View X → View X → Type 0
-  GainsWorn v w = v.start.tells ≡ true → ((q : ℕ) → has q w.numbers ≡ true → (has q v.numbers ≡ true) ⊎ HasFoundLast q v w) × (w.freed ≡ v.freed)
+  GainsWorn v w = v.start.tells ≡ true
+      → ((q : ℕ) → has q w.numbers ≡ true → (has q v.numbers ≡ true) ⊎ HasFoundLast q v w) × (w.freed ≡ v.freed)

@@ -1,4 +1,5 @@
--- What a split has taken before it writes: frames, two pages that are locked at the versions read, and fresh pages, for which a free-number word or the next word
+-- What a split has taken before it writes: frames, two pages that are locked at the versions read, and fresh pages,
+-- for which a free-number word or the next word
 -- left room; and what is left where one of these is refused.
 use Rattle.std.specs.Prelude.{[], ◌<◌, ◌∷◌, ◌≡◌, ◌⊎◌, Bool, false, length, List, None, true, ℕ}
 use Rattle.vm_tree_model.specs.Layout.{Layout}
@@ -8,8 +9,10 @@ use Rattle.vm_rule.specs.Prelude.{began_of, HoldsNoPage}
 use Rattle.vm_step.specs.Prelude.{Did, IsAlone, KnowsUnheld, UnlockedExpected, View}
 use Rattle.vm_exmap.specs.{declared.interface.Alloc.Alloc, Frames.MovesFrames, Returns.IsFreed, Walks.IsAlloc}
 use Rattle.vm_exmap.specs.declared.interface.Alloc.TheVariants as allocs
-use Rattle.vm_guard.specs.{declared.deny.Deny.Deny, declared.exclusive.ExclusiveGuard.ExclusiveGuard, declared.given.Fresh.Fresh, declared.group.Group.Group}
-use Rattle.vm_guard.specs.{declared.opt.OptGuard.OptGuard, Given.AreFreshPages, Groups.guards_of, Guards.IsLocked, Guards.IsReleased, Reused.HasFreshRoom, Reused.IsFreshAnswer}
+use Rattle.vm_guard.specs.{declared.deny.Deny.Deny, declared.exclusive.ExclusiveGuard.ExclusiveGuard}
+use Rattle.vm_guard.specs.{declared.given.Fresh.Fresh, declared.group.Group.Group, declared.opt.OptGuard.OptGuard}
+use Rattle.vm_guard.specs.{Given.AreFreshPages, Groups.guards_of, Guards.IsLocked, Guards.IsReleased}
+use Rattle.vm_guard.specs.{Reused.HasFreshRoom, Reused.IsFreshAnswer}
 use Rattle.vm_guard.specs.declared.deny.Deny.TheVariants as denies
 use Rattle.vm_guard.specs.declared.given.Fresh.TheVariants as freshes
 use Rattle.vm_guard.specs.Denied.{AgainOrWorn, IsDenied, KeptWord}
@@ -31,7 +34,8 @@ module _ {X : Type 0} (L : Layout) where
     pub low_locked : IsLocked (Tied L) second.pid low.frame low.version low.dirty between w
 
   -- frames were taken, both pages were locked, and n fresh pages were given, by a call for them that answered this group
-  pub record AreTaken (n : ℕ) (first second : OptGuard) (up low : ExclusiveGuard) (pages : List ExclusiveGuard) (v w : View X) : Type 0 where
+  pub record AreTaken (n : ℕ) (first second : OptGuard) (up low : ExclusiveGuard) (pages : List ExclusiveGuard)
+      (v w : View X) : Type 0 where
     pub asked : View X
     pub done : List Did
     pub moves : MovesFrames done v asked
@@ -46,7 +50,8 @@ module _ {X : Type 0} (L : Layout) where
     pub fresh : AreFreshPages n pids pages before after locked w
 
   -- there was room for n pages, as loads of the free-number words, and of the next word, showed, and then all was taken
-  pub record IsPrepared (n : ℕ) (first second : OptGuard) (up low : ExclusiveGuard) (pages : List ExclusiveGuard) (v w : View X) : Type 0 where
+  pub record IsPrepared (n : ℕ) (first second : OptGuard) (up low : ExclusiveGuard) (pages : List ExclusiveGuard)
+      (v w : View X) : Type 0 where
     pub roomy : View X
     pub room : HasFreshRoom n v roomy
     pub taken : AreTaken n first second up low pages roomy w
@@ -72,7 +77,8 @@ module _ {X : Type 0} (L : Layout) where
   abbrev pub IsInUseAt : ℕ → ℕ → View X → Type 0
   IsInUseAt p word v = (words : List ℕ) → MeetsTies L v p word words → Tied L (began_of v.start) p words p words → all_zero words ≡ false
 
-  -- A pass that is alone knows that both pages are free, at the words of their guards, and below the next page; blocks tell their words, and both pages are in
+  -- A pass that is alone knows that both pages are free, at the words of their guards, and below the next page;
+  -- blocks tell their words, and both pages are in
   -- use. It holds nothing, and knows that nobody else does
   pub record KnowsToSplit (first second : OptGuard) (v : View X) : Type 0 where
     pub both : KnowsBoth first second v
@@ -99,7 +105,9 @@ module _ {X : Type 0} where
   -- n frames were asked for, and this was the answer; or two were, one was given, and this was the answer when one more was asked for
   pub data IsShort (n : ℕ) (answer : Alloc) (v w : View X) : Type 0 where
     at_once : (home cap : ℕ) (old new : List ℕ) → IsAlloc home cap n old new v w answer → IsShort n answer v w
-    after_one : (home cap : ℕ) (old new frames : List ℕ) (x : View X) → n ≡ 2 → length frames ≡ 1 → IsAlloc home cap 2 old new v x (allocs.Batch frames) → IsSecondRefused frames answer x w → IsShort n answer v w
+    after_one : (home cap : ℕ) (old new frames : List ℕ) (x : View X) → n ≡ 2 → length frames ≡ 1
+        → IsAlloc home cap 2 old new v x (allocs.Batch frames) → IsSecondRefused frames answer x w
+        → IsShort n answer v w
 
 module _ {X : Type 0} (L : Layout) where
   -- a page could not be locked at its guard's version: this was answered, Worn only where that is the last one
@@ -119,7 +127,8 @@ module _ {X : Type 0} (L : Layout) where
     pub inner : meanwhile locked done
     pub back : IsReleased g.pid version None done w
 
-  -- these pages were to be locked, one after the other: one of them could not be, and those before it were released again, the last one first
+  -- these pages were to be locked, one after the other: one of them could not be, and those before it were released
+  -- again, the last one first
   abbrev pub IsLockDenied : List OptGuard → Deny → View X → View X → Type 0
   IsLockDenied [] deny v w = ⊥
   IsLockDenied (g ∷ gs) deny v w = IsDeniedAt g deny v w ⊎ IsLockedMeanwhile g (IsLockDenied gs deny) v w
@@ -182,12 +191,14 @@ SaysRefused (freshes.Worn p) answer = answer ≡ tries.Worn p
 SaysRefused (freshes.Full pages next need) answer = answer ≡ tries.Full pages next need
 
 module _ {X : Type 0} (L : Layout) where
-  -- Why frames, locks and n pages were not all taken: there were no frames for the pages; one of the two could not be locked; or there were no fresh
+  -- Why frames, locks and n pages were not all taken: there were no frames for the pages; one of the two could not be
+  -- locked; or there were no fresh
   -- pages by then
   pub data IsUntaken (n : ℕ) (first second : OptGuard) (v w : View X) (answer : TrySplit) : Type 0 where
     short : (refused : Alloc) → IsShort n refused v w → SaysShort refused answer → IsUntaken n first second v w answer
     unlocked : (deny : Deny) → IsNotLocked L first second deny v w → SaysDenied deny answer → IsUntaken n first second v w answer
-    unclaimed : (refused : Fresh) → IsRefusedPages L n first second refused v w → SaysRefused refused answer → IsUntaken n first second v w answer
+    unclaimed : (refused : Fresh) → IsRefusedPages L n first second refused v w → SaysRefused refused answer
+        → IsUntaken n first second v w answer
 
 -- ---- what a part of the preparation answers where it was refused
 

@@ -4,7 +4,7 @@ use Rattle.vm_page.specs.Pages.{all_zero}
 use Rattle.vm_map.specs.declared.call.Said.{Said}
 use Rattle.vm_tree_model.specs.{Edits.child_of, Layout.Layout, Node.Covers}
 use Rattle.vm_tree_model.specs.Page.{IsInner, IsLeaf, node_of}
-use Rattle.vm_rule.specs.declared.view.Place.{Place}
+use Rattle.vm_rule.specs.declared.view.WordPlace.{WordPlace}
 use Rattle.vm_rule.specs.Prelude.{AreApart, began_of, changes_of, draft_of, Each, has, IsLocking, last_of, seat_of, StartsWith, without_all}
 use Rattle.vm_step.specs.Prelude.{Did, HoldsPage, IsAlone, KeepsNumbers, KnowsAsBefore, StaysAlone, View}
 use Rattle.vm_guard.specs.declared.exclusive.ExclusiveGuard.{ExclusiveGuard}
@@ -13,7 +13,7 @@ use Rattle.vm_tree_laws.specs.Plain.{ReleasesPlain}
 use Rattle.vm_tree_split.specs.{Drafts.IsDraftPlace, Drafts.KnowsSameStates, PageNumbers.GainsWorn}
 
 -- the place is one at which the page of one of these guards is drafted
-abbrev pub IsDrafted : List ExclusiveGuard → Place → Type 0
+abbrev pub IsDrafted : List ExclusiveGuard → WordPlace → Type 0
 IsDrafted [] at = ⊥
 IsDrafted (g ∷ gs) at = IsDraftPlace g.pid g.frame at ⊎ IsDrafted gs at
 
@@ -27,8 +27,10 @@ module _ {X : Type 0} where
     pub last : (last_of v p).words ≡ old
     pub draft : draft_of v p ≡ new
 
-  -- The pass holds just the locks that it held, and made no entry. Its steps left words where the pages of these guards are drafted, and nowhere else:
-  -- they locked and released nothing, and wrote no other page. So a pass that is alone finds all pages' words, and knows the table's state words,
+  -- The pass holds just the locks that it held, and made no entry. Its steps left words where the pages of these
+  -- guards are drafted, and nowhere else:
+  -- they locked and released nothing, and wrote no other page. So a pass that is alone finds all pages' words, and
+  -- knows the table's state words,
   -- and the next one, as before
   pub record Stays (gs : List ExclusiveGuard) (v w : View X) : Type 0 where
     pub done : List Did
@@ -65,14 +67,16 @@ module _ {X : Type 0} where
     pub pending : w.pending ≡ v.pending
     pub owed : w.owed ≡ without_all pages v.owed
     -- it holds the number of none of them, and none that it did not hold; and no page was freed
-    pub numbers : v.start.tells ≡ true → ((q : ℕ) → has q w.numbers ≡ true → (has q pages ≡ false) × (has q v.numbers ≡ true)) × (w.freed ≡ v.freed)
+    pub numbers : v.start.tells ≡ true
+        → ((q : ℕ) → has q w.numbers ≡ true → (has q pages ≡ false) × (has q v.numbers ≡ true)) × (w.freed ≡ v.freed)
     pub next : (q : ℕ) → w.next ≡ Some q → v.next ≡ Some q
     pub holds : (q : ℕ) → has q pages ≡ false → HoldsPage v w q
     pub knows : (q : ℕ) → has q pages ≡ false → IsLocking (seat_of v q) → KnowsAsBefore v w q
     -- the pass knows the table; where it was alone it finds the last words of each other page as they were
     pub current : w.current ≡ true
     pub alone : IsAlone v → (q : ℕ) → has q pages ≡ false → (last_of w q).words ≡ (last_of v q).words
-    pub released : (q : ℕ) → has q pages ≡ true → ((seat_of w q).shares ≡ (seat_of v q).shares) × ((seat_of w q).exclusive ≡ false) × ((seat_of w q).writing ≡ (seat_of v q).writing)
+    pub released : (q : ℕ) → has q pages ≡ true → ((seat_of w q).shares ≡ (seat_of v q).shares)
+        × ((seat_of w q).exclusive ≡ false) × ((seat_of w q).writing ≡ (seat_of v q).writing)
 
 module _ {X : Type 0} (L : Layout) where
   -- a node, its parent and a fresh page have these words, and the key leads from the parent to the node
@@ -93,7 +97,8 @@ module _ {X : Type 0} (L : Layout) where
     pub fresh : HasDraft right (replicate L.words 0) (replicate L.words 0) v × HasDraft top (replicate L.words 0) (replicate L.words 0) v
 
 module _ {X : Type 0} (L : Layout) (spare : List ℕ → ℕ) where
-  -- the pass holds a full node, its parent with room, and a fresh page; and where blocks tell their words these are the pages' words, and the key
+  -- the pass holds a full node, its parent with room, and a fresh page; and where blocks tell their words these are
+  -- the pages' words, and the key
   -- leads from the parent to the node
   pub record CanSplit (up low right : ExclusiveGuard) (over page : List ℕ) (v : View X) : Type 0 where
     pub home : v.out ≡ None
@@ -104,7 +109,8 @@ module _ {X : Type 0} (L : Layout) (spare : List ℕ → ℕ) where
     pub full : spare page < L.growth
     pub told : v.start.tells ≡ true → AreToSplit L up.pid low.pid right.pid over page v
 
-  -- the pass holds page 0, the full root that it names at this height, and two fresh pages; what is said of words holds where blocks tell theirs
+  -- the pass holds page 0, the full root that it names at this height, and two fresh pages; what is said of words
+  -- holds where blocks tell theirs
   pub record CanSplitRoot (meta low right top : ExclusiveGuard) (height : ℕ) (page : List ℕ) (v : View X) : Type 0 where
     pub home : v.out ≡ None
     pub held : GuardsHeld v (meta ∷ low ∷ right ∷ top ∷ [])
@@ -116,7 +122,8 @@ module _ {X : Type 0} (L : Layout) (spare : List ℕ → ℕ) where
     pub told : v.start.tells ≡ true → IsRootToSplit L meta.pid low.pid right.pid top.pid height page v
 
 module _ {S : Type 0} (plain : S → Said) (L : Layout) where
-  -- These pages were written and released as a group, with no entry: drafts were set, no page's last words changed, and in the view `held` the drafts
+  -- These pages were written and released as a group, with no entry: drafts were set, no page's last words changed,
+  -- and in the view `held` the drafts
   -- are a split of the tree, where blocks tell their words
   pub record IsSplitUp (pages : List ℕ) (v w : View S) : Type 0 where
     pub held : View S

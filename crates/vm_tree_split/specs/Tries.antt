@@ -21,7 +21,8 @@ pub record IsBackedBy {X : Type 0} (v : View X) (saw : Saw) (w : View X) : Type 
   pub seen : IsSeen UnlockedExpected done saw
 
 module _ {S : Type 0} (plain : S → Said) (L : Layout) (spare : List ℕ → ℕ) where
-  -- the pages were prepared, and then released in a group, which splits the second one; what frames were left went back. The pass holds no page number more than
+  -- the pages were prepared, and then released in a group, which splits the second one; what frames were left went
+  -- back. The pass holds no page number more than
   -- before, whether numbers of the fresh pages were free or they were claimed
   pub record HasSplit (n : ℕ) (first second : OptGuard) (v w : View S) : Type 0 where
     pub up : ExclusiveGuard
@@ -43,10 +44,12 @@ module _ {S : Type 0} (plain : S → Said) (L : Layout) (spare : List ℕ → �
     pub roomy : IsRoomy L spare v key leaf loaded found
     pub valid : IsValid (Tied L) leaf.pid leaf.word leaf.frame None found w
 
-  -- Why nothing was split for which n fresh pages and these two pages were needed: each free-number word had fewer than n bits at its load, and the next word,
+  -- Why nothing was split for which n fresh pages and these two pages were needed: each free-number word had fewer
+  -- than n bits at its load, and the next word,
   -- loaded then, left too few pages, and these loads were all that was done; or there was room, and what is needed was not all taken
   pub data IsUnsplit (n : ℕ) (first second : OptGuard) (v w : View S) (answer : TrySplit) : Type 0 where
-    full : (pages next need : ℕ) (searched : View S) → FindsAllFew n v searched → IsFull n pages next need searched w → answer ≡ tries.Full pages next need → IsUnsplit n first second v w answer
+    full : (pages next need : ℕ) (searched : View S) → FindsAllFew n v searched → IsFull n pages next need searched w
+        → answer ≡ tries.Full pages next need → IsUnsplit n first second v w answer
     untaken : (roomy : View S) → HasFreshRoom n v roomy → IsUntaken L n first second roomy w answer → IsUnsplit n first second v w answer
 
   -- what came of a full node, the second page: it was split, or the answer tells why not
@@ -55,20 +58,26 @@ module _ {S : Type 0} (plain : S → Said) (L : Layout) (spare : List ℕ → �
 
   -- the first full node on the way of the key is the root, which page 0 names, or a node whose parent has room; and this came of it
   pub data IsEnded (v : View S) (key : ℕ) (w : View S) (answer : TrySplit) : Type 0 where
-    root : (meta low : OptGuard) (height : ℕ) (page : List ℕ) (x : View S) → ReadsOn v x → IsRootFull L spare v key meta low height page x → IsEndOf 2 meta low x w answer → IsEnded v key w answer
-    below : (parent node : OptGuard) (over page : List ℕ) (x : View S) → ReadsOn v x → IsFullBelow L spare v key parent node over page x → IsEndOf 1 parent node x w answer → IsEnded v key w answer
+    root : (meta low : OptGuard) (height : ℕ) (page : List ℕ) (x : View S) → ReadsOn v x
+        → IsRootFull L spare v key meta low height page x → IsEndOf 2 meta low x w answer → IsEnded v key w answer
+    below : (parent node : OptGuard) (over page : List ℕ) (x : View S) → ReadsOn v x
+        → IsFullBelow L spare v key parent node over page x → IsEndOf 1 parent node x w answer
+        → IsEnded v key w answer
 
   -- the cause of each answer; where the search for a full node was not ended the call only read
   abbrev pub IsCause : ℕ → TrySplit → View S → View S → Type 0
   IsCause key tries.Split v w = IsEnded v key w tries.Split
   IsCause key tries.Roomy v w = MetNoFullNode v key w
   IsCause key (tries.Need p) v w = ReadsOn v w × IsNeeded L v key p w
-  IsCause key (tries.Again saw) v w = (IsBackedBy v saw w × ((ReadsOn v w × IsAgain v saw w) ⊎ IsEnded v key w (tries.Again saw))) ⊎ (ReadsOn v w × IsAstray L v key saw w)
+  IsCause key (tries.Again saw) v w =
+      (IsBackedBy v saw w × ((ReadsOn v w × IsAgain v saw w) ⊎ IsEnded v key w (tries.Again saw)))
+      ⊎ (ReadsOn v w × IsAstray L v key saw w)
   IsCause key (tries.Worn p) v w = IsEnded v key w (tries.Worn p)
   IsCause key tries.Dry v w = IsEnded v key w tries.Dry
   IsCause key (tries.Full pages next need) v w = IsEnded v key w (tries.Full pages next need)
 
-  -- what a try of a split of the first full node on the way of the key answers. In every case the pass holds what it held, and made no entry
+  -- what a try of a split of the first full node on the way of the key answers. In every case the pass holds what it
+  -- held, and made no entry
   abbrev pub IsTrySplit : ℕ → TrySplit → View S → View S → Type 0
   IsTrySplit key answer v w = KeepsLocksOnly v w × IsCause key answer v w
 

@@ -1,7 +1,7 @@
 // The draft of a locked page becomes a page's words: those of a buffer, or those that an edit or a split leaves of one, which needs no second buffer.
 ghost use Rattle.std.specs.Prelude.{◌<◌, ◌≡◌, ◌≢◌, ◌≤◌, ◌⊎◌, length, List, slice_index, true, ℕ};
 ghost use Rattle.vm_rule.specs.Prelude.{draft_of};
-ghost use Rattle.vm_step.specs.Prelude.{IsReady, IsSamePass, view};
+ghost use Rattle.vm_step.specs.Prelude.{GoesOn, IsReadyOn, view};
 ghost use Rattle.vm_guard.specs.Guards.{IsHolding};
 ghost use Rattle.vm_tree_split.specs.Drafts.{DraftsIn, IsDraftedAmong, IsRedrafted, KnowsSameStates, SetsDiffering};
 
@@ -112,13 +112,12 @@ pub fn redraft<K: Pages, B: Block, W: Wanted>(
     before: &K::Page,
     after: &W,
 )
-    requires ready { IsReady words.now.table.shared.key B.tells words.now.table.shared.table_id pass.old }
+    requires ready { IsReadyOn words.now B.tells pass.old }
     requires holds { IsHolding guard.old.pid guard.old.frame guard.old.version guard.old.dirty (view pass.old) }
     requires draft { (view pass.old).start.tells ≡ true → draft_of (view pass.old) guard.old.pid ≡ K.words_of before.now }
     requires size { W.size after.now ≡ K.layout.words }
     requires made_of { W.made_of after.now (K.words_of before.now) }
-    ensures pass { IsSamePass pass.old pass.new }
-    ensures ready { IsReady words.now.table.shared.key B.tells words.now.table.shared.table_id pass.new }
+    ensures goes { GoesOn words.now B.tells pass.old pass.new }
     ensures holds { IsHolding guard.new.pid guard.new.frame guard.new.version guard.new.dirty (view pass.new) }
     ensures guard { (guard.new.pid ≡ guard.old.pid) × (guard.new.version ≡ guard.old.version) × (guard.new.frame ≡ guard.old.frame) }
     ensures draft { (view pass.old).start.tells ≡ true → draft_of (view pass.new) guard.old.pid ≡ W.words after.now }
@@ -144,13 +143,12 @@ fn redraft_words<K: Pages, B: Block, W: Wanted>(
     from: usize,
     end: usize,
 )
-    requires ready { IsReady words.now.table.shared.key B.tells words.now.table.shared.table_id pass.old }
+    requires ready { IsReadyOn words.now B.tells pass.old }
     requires holds { IsHolding guard.old.pid guard.old.frame guard.old.version guard.old.dirty (view pass.old) }
     requires size { W.size after.now ≡ K.layout.words }
     requires places { (from ≤ end) × (end ≤ K.layout.words) }
     requires draft { (view pass.old).start.tells ≡ true → (k : ℕ) → from ≤ k → slice_index (draft_of (view pass.old) guard.old.pid) k ≡ slice_index (K.words_of before.now) k }
-    ensures pass { IsSamePass pass.old pass.new }
-    ensures ready { IsReady words.now.table.shared.key B.tells words.now.table.shared.table_id pass.new }
+    ensures goes { GoesOn words.now B.tells pass.old pass.new }
     ensures holds { IsHolding guard.new.pid guard.new.frame guard.new.version guard.new.dirty (view pass.new) }
     ensures guard { (guard.new.pid ≡ guard.old.pid) × (guard.new.version ≡ guard.old.version) × (guard.new.frame ≡ guard.old.frame) }
     ensures size { from < end → length (W.words after.now) ≡ K.layout.words }

@@ -2,7 +2,7 @@
 // others are given back. A file that has no room for the fresh pages is found so before anything is taken, so that such a split leaves no trace.
 ghost use Rattle.std.specs.Prelude.{[], ◌++◌, ◌∷◌, ◌≡◌, ◌≢◌, ◌⊎◌, false, IfErr, IfOk, length, None};
 ghost use Rattle.vm_rule.specs.Prelude.{draft_of, has, last_of};
-ghost use Rattle.vm_step.specs.Prelude.{AreHeld, IsAlone, IsReady, IsSamePass, view};
+ghost use Rattle.vm_step.specs.Prelude.{AreHeld, GoesOn, IsAlone, IsReadyOn, view};
 ghost use Rattle.vm_exmap.specs.Frames.{MovesFrames};
 ghost use Rattle.vm_guard.specs.{Denied.AgainOrWorn, Groups.guards_of, Guards.IsHolding, Guards.IsReading};
 ghost use Rattle.vm_tree_read.specs.Waiting.{LosesNone};
@@ -19,7 +19,7 @@ use vm_rule::words::{Pass, Words};
 use vm_step::Batch;
 
 /// Two pages that are locked.
-pub struct Locks {
+pub struct LockedPair {
     pub up: ExclusiveGuard,
     pub low: ExclusiveGuard,
 }
@@ -54,11 +54,10 @@ fn second_frame<K: Kind, B: Block>(
     iface: &mut Interface,
     frames: Batch,
 ) -> Result<Batch, TrySplit>
-    requires ready { IsReady words.now.table.shared.key B.tells words.now.table.shared.table_id pass.old }
+    requires ready { IsReadyOn words.now B.tells pass.old }
     requires frames { AreHeld (frames ++ iface.old.frames) (view pass.old) }
     requires one { length frames ≡ 1 }
-    ensures pass { IsSamePass pass.old pass.new }
-    ensures ready { IsReady words.now.table.shared.key B.tells words.now.table.shared.table_id pass.new }
+    ensures goes { GoesOn words.now B.tells pass.old pass.new }
     ensures iface { (iface.new.home ≡ iface.old.home) × (iface.new.cap ≡ iface.old.cap) }
     ensures keeps { KeepsLocksOnly (view pass.old) (view pass.new) }
     ensures moves { IfOk result (λ _. (done : _) × MovesFrames done (view pass.old) (view pass.new)) }
@@ -92,11 +91,10 @@ fn frames_for<K: Kind, B: Block>(
     iface: &mut Interface,
     n: u32,
 ) -> Result<Batch, TrySplit>
-    requires ready { IsReady words.now.table.shared.key B.tells words.now.table.shared.table_id pass.old }
+    requires ready { IsReadyOn words.now B.tells pass.old }
     requires frames { AreHeld iface.old.frames (view pass.old) }
     requires count { (n ≡ 1) ⊎ (n ≡ 2) }
-    ensures pass { IsSamePass pass.old pass.new }
-    ensures ready { IsReady words.now.table.shared.key B.tells words.now.table.shared.table_id pass.new }
+    ensures goes { GoesOn words.now B.tells pass.old pass.new }
     ensures iface { (iface.new.home ≡ iface.old.home) × (iface.new.cap ≡ iface.old.cap) }
     ensures keeps { KeepsLocksOnly (view pass.old) (view pass.new) }
     ensures moves { IfOk result (λ _. (done : _) × MovesFrames done (view pass.old) (view pass.new)) }
@@ -123,14 +121,13 @@ pub fn lock_two<K: Kind, B: Block>(
     pass: &mut Pass<TreeOf<K>>,
     first: OptGuard,
     second: OptGuard,
-) -> Result<Locks, Deny>
-    requires ready { IsReady words.now.table.shared.key B.tells words.now.table.shared.table_id pass.old }
+) -> Result<LockedPair, Deny>
+    requires ready { IsReadyOn words.now B.tells pass.old }
     requires home { (view pass.old).out ≡ None }
     requires apart { second.pid ≢ first.pid }
     requires first { IsReading first.pid first.word first.frame (view pass.old) }
     requires second { IsReading second.pid second.word second.frame (view pass.old) }
-    ensures pass { IsSamePass pass.old pass.new }
-    ensures ready { IsReady words.now.table.shared.key B.tells words.now.table.shared.table_id pass.new }
+    ensures goes { GoesOn words.now B.tells pass.old pass.new }
     ensures ok { IfOk result (λ locks. AreLocked K.layout first second locks.up locks.low (view pass.old) (view pass.new)) }
     ensures err { IfErr result (λ deny. AgainOrWorn deny × IsLockDenied K.layout (first ∷ second ∷ []) deny (view pass.old) (view pass.new)) }
     ensures sure { KnowsBoth first second (view pass.old) → IfErr result SaysWorn }
@@ -140,7 +137,7 @@ pub fn lock_two<K: Kind, B: Block>(
         Err(deny) => return Err(deny),
     };
     match second.upgrade(words, pass) {
-        Ok(low) => Ok(Locks { up, low }),
+        Ok(low) => Ok(LockedPair { up, low }),
         Err(deny) => {
             up.release(words, pass, None::<K::Said>.as_ref());
             Err(deny)
@@ -157,15 +154,14 @@ fn give_up<K: Kind, B: Block>(
     low: ExclusiveGuard,
     frames: Batch,
 )
-    requires ready { IsReady words.now.table.shared.key B.tells words.now.table.shared.table_id pass.old }
+    requires ready { IsReadyOn words.now B.tells pass.old }
     requires home { (view pass.old).out ≡ None }
     requires held { IsHolding up.pid up.frame up.version up.dirty (view pass.old) × IsHolding low.pid low.frame low.version low.dirty (view pass.old) }
     requires apart { low.pid ≢ up.pid }
     requires same { (draft_of (view pass.old) up.pid ≡ (last_of (view pass.old) up.pid).words) × (draft_of (view pass.old) low.pid ≡ (last_of (view pass.old) low.pid).words) }
     requires unpaid { (has up.pid (view pass.old).owed ≡ false) × (has low.pid (view pass.old).owed ≡ false) }
     requires frames { AreHeld (iface.old.frames ++ frames) (view pass.old) }
-    ensures pass { IsSamePass pass.old pass.new }
-    ensures ready { IsReady words.now.table.shared.key B.tells words.now.table.shared.table_id pass.new }
+    ensures goes { GoesOn words.now B.tells pass.old pass.new }
     ensures iface { (iface.new.home ≡ iface.old.home) × (iface.new.cap ≡ iface.old.cap) }
     ensures held { AreHeld iface.new.frames (view pass.new) }
     ensures lost { LosesNone (iface.old.frames ++ frames) (view pass.old) iface.new.frames (view pass.new) }
@@ -185,15 +181,14 @@ fn take_all<K: Kind, B: Block>(
     second: OptGuard,
     n: u32,
 ) -> Result<Prepared, TrySplit>
-    requires ready { IsReady words.now.table.shared.key B.tells words.now.table.shared.table_id pass.old }
+    requires ready { IsReadyOn words.now B.tells pass.old }
     requires home { (view pass.old).out ≡ None }
     requires frames { AreHeld iface.old.frames (view pass.old) }
     requires count { (n ≡ 1) ⊎ (n ≡ 2) }
     requires apart { second.pid ≢ first.pid }
     requires first { IsReading first.pid first.word first.frame (view pass.old) }
     requires second { IsReading second.pid second.word second.frame (view pass.old) }
-    ensures pass { IsSamePass pass.old pass.new }
-    ensures ready { IsReady words.now.table.shared.key B.tells words.now.table.shared.table_id pass.new }
+    ensures goes { GoesOn words.now B.tells pass.old pass.new }
     ensures iface { (iface.new.home ≡ iface.old.home) × (iface.new.cap ≡ iface.old.cap) }
     ensures held { IfOk result (λ all. AreHeld (iface.new.frames ++ all.frames) (view pass.new)) }
     ensures ok { IfOk result (λ all. AreTaken K.layout n first second all.up all.low (guards_of all.pages) (view pass.old) (view pass.new)) }
@@ -213,7 +208,7 @@ fn take_all<K: Kind, B: Block>(
             return Err(denied(deny));
         }
     };
-    let Locks { up, low } = locks;
+    let LockedPair { up, low } = locks;
     match fresh(words, pass, &mut frames, n) {
         Fresh::Pages(pages) => Ok(Prepared {
             up,
@@ -246,15 +241,14 @@ pub fn prepare<K: Kind, B: Block>(
     second: OptGuard,
     n: u32,
 ) -> Result<Prepared, TrySplit>
-    requires ready { IsReady words.now.table.shared.key B.tells words.now.table.shared.table_id pass.old }
+    requires ready { IsReadyOn words.now B.tells pass.old }
     requires home { (view pass.old).out ≡ None }
     requires frames { AreHeld iface.old.frames (view pass.old) }
     requires count { (n ≡ 1) ⊎ (n ≡ 2) }
     requires apart { second.pid ≢ first.pid }
     requires first { IsReading first.pid first.word first.frame (view pass.old) }
     requires second { IsReading second.pid second.word second.frame (view pass.old) }
-    ensures pass { IsSamePass pass.old pass.new }
-    ensures ready { IsReady words.now.table.shared.key B.tells words.now.table.shared.table_id pass.new }
+    ensures goes { GoesOn words.now B.tells pass.old pass.new }
     ensures iface { (iface.new.home ≡ iface.old.home) × (iface.new.cap ≡ iface.old.cap) }
     ensures held { IfOk result (λ all. AreHeld (iface.new.frames ++ all.frames) (view pass.new)) }
     ensures ok { IfOk result (λ all. IsPrepared K.layout n first second all.up all.low (guards_of all.pages) (view pass.old) (view pass.new)) }

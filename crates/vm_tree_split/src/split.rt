@@ -1,6 +1,6 @@
 // A full node is split: the pages concerned are locked, written and released together.
 ghost use Rattle.std.specs.Prelude.{[], ◌+◌, ◌<◌, ◌^◌, ◌∷◌};
-ghost use Rattle.vm_step.specs.Prelude.{IsReady, IsSamePass, view};
+ghost use Rattle.vm_step.specs.Prelude.{GoesOn, IsReadyOn, view};
 ghost use Rattle.vm_tree_split.specs.Splits.{CanSplit, CanSplitRoot, IsSplitUp};
 
 use crate::draft::{Edited, LeftHalf, Whole, redraft};
@@ -19,10 +19,9 @@ pub fn write_split<K: Edits, B: Block>(
     over: &K::Page,
     page: &K::Page,
 )
-    requires ready { IsReady words.now.table.shared.key B.tells words.now.table.shared.table_id pass.old }
+    requires ready { IsReadyOn words.now B.tells pass.old }
     requires can { CanSplit K.layout K.spare up low right (K.words_of over.now) (K.words_of page.now) (view pass.old) }
-    ensures pass { IsSamePass pass.old pass.new }
-    ensures ready { IsReady words.now.table.shared.key B.tells words.now.table.shared.table_id pass.new }
+    ensures goes { GoesOn words.now B.tells pass.old pass.new }
     ensures split { IsSplitUp K.plain K.layout (up.pid ∷ low.pid ∷ right.pid ∷ []) (view pass.old) (view pass.new) }
 {
     let mut half = K::zero();
@@ -65,11 +64,10 @@ pub fn write_root<K: Edits, B: Block>(
     height: u64,
     page: &K::Page,
 )
-    requires ready { IsReady words.now.table.shared.key B.tells words.now.table.shared.table_id pass.old }
+    requires ready { IsReadyOn words.now B.tells pass.old }
     requires can { CanSplitRoot K.layout K.spare meta low right top height (K.words_of page.now) (view pass.old) }
     requires room { height + 1 < 2 ^ 64 }
-    ensures pass { IsSamePass pass.old pass.new }
-    ensures ready { IsReady words.now.table.shared.key B.tells words.now.table.shared.table_id pass.new }
+    ensures goes { GoesOn words.now B.tells pass.old pass.new }
     ensures split { IsSplitUp K.plain K.layout (meta.pid ∷ low.pid ∷ right.pid ∷ top.pid ∷ []) (view pass.old) (view pass.new) }
 {
     let mut half = K::zero();

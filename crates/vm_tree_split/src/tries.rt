@@ -1,7 +1,7 @@
 // The try of a split: the first full node on the way of a key is split, or the answer tells why not.
 ghost use Rattle.std.specs.Prelude.{◌≡◌, ◌≤◌, length, None, true, ℕ};
 ghost use Rattle.vm_rule.specs.Prelude.{HoldsNoPage};
-ghost use Rattle.vm_step.specs.Prelude.{AreHeld, IsReady, IsSamePass, MayStep, view};
+ghost use Rattle.vm_step.specs.Prelude.{AreHeld, GoesOn, IsReadyOn, view};
 ghost use Rattle.vm_tree_rule.specs.{Resident.KnowsResident, Seeks.IsFullBelow, Seeks.IsRootFull, Turns.IsTurnedBack};
 ghost use Rattle.vm_tree_read.specs.Waiting.{LosesNone};
 ghost use Rattle.vm_tree_split.specs.{Prepares.KnowsToSplit, Splits.KeepsLocksOnly};
@@ -58,13 +58,12 @@ fn split_below<K: Edits, B: Block>(
     over: &K::Page,
     page: &K::Page,
 ) -> TrySplit
-    requires ready { IsReady words.now.table.shared.key B.tells words.now.table.shared.table_id pass.old }
+    requires ready { IsReadyOn words.now B.tells pass.old }
     requires home { (view pass.old).out ≡ None }
     requires frames { AreHeld iface.old.frames (view pass.old) }
     requires size { (length (K.words_of over.now) ≡ K.layout.words) × (length (K.words_of page.now) ≡ K.layout.words) }
     requires met { (v : _) × (key : ℕ) × IsFullBelow K.layout K.spare v key parent node (K.words_of over.now) (K.words_of page.now) (view pass.old) }
-    ensures pass { IsSamePass pass.old pass.new }
-    ensures ready { IsReady words.now.table.shared.key B.tells words.now.table.shared.table_id pass.new }
+    ensures goes { GoesOn words.now B.tells pass.old pass.new }
     ensures iface { (iface.new.home ≡ iface.old.home) × (iface.new.cap ≡ iface.old.cap) }
     ensures held { AreHeld iface.new.frames (view pass.new) }
     ensures keeps { KeepsLocksOnly (view pass.old) (view pass.new) }
@@ -102,13 +101,12 @@ fn split_root<K: Edits, B: Block>(
     height: u64,
     page: &K::Page,
 ) -> TrySplit
-    requires ready { IsReady words.now.table.shared.key B.tells words.now.table.shared.table_id pass.old }
+    requires ready { IsReadyOn words.now B.tells pass.old }
     requires home { (view pass.old).out ≡ None }
     requires frames { AreHeld iface.old.frames (view pass.old) }
     requires size { length (K.words_of page.now) ≡ K.layout.words }
     requires met { (v : _) × (key : ℕ) × IsRootFull K.layout K.spare v key meta root height (K.words_of page.now) (view pass.old) }
-    ensures pass { IsSamePass pass.old pass.new }
-    ensures ready { IsReady words.now.table.shared.key B.tells words.now.table.shared.table_id pass.new }
+    ensures goes { GoesOn words.now B.tells pass.old pass.new }
     ensures iface { (iface.new.home ≡ iface.old.home) × (iface.new.cap ≡ iface.old.cap) }
     ensures held { AreHeld iface.new.frames (view pass.new) }
     ensures keeps { KeepsLocksOnly (view pass.old) (view pass.new) }
@@ -146,12 +144,11 @@ pub fn try_split<K: Edits, B: Block>(
     iface: &mut Interface,
     key: &K::Key,
 ) -> TrySplit
-    requires pass { MayStep words.now.table.shared.table_id pass.old }
+    requires ready { IsReadyOn words.now B.tells pass.old }
     requires pages { 1 ≤ words.now.table.shared.key.pages }
     requires home { (view pass.old).out ≡ None }
     requires frames { AreHeld iface.old.frames (view pass.old) }
-    ensures pass { IsSamePass pass.old pass.new }
-    ensures ready { IsReady words.now.table.shared.key B.tells words.now.table.shared.table_id pass.new }
+    ensures goes { GoesOn words.now B.tells pass.old pass.new }
     ensures iface { (iface.new.home ≡ iface.old.home) × (iface.new.cap ≡ iface.old.cap) }
     ensures held { AreHeld iface.new.frames (view pass.new) }
     ensures lost { LosesNone iface.old.frames (view pass.old) iface.new.frames (view pass.new) }

@@ -9,8 +9,8 @@ use Rattle.vm_tree_model.specs.{Edits.IsFullFor, Layout.Layout, Node.Covers, Tre
 use Rattle.vm_tree_model.specs.Page.{IsLeaf, node_of, pairs_of}
 use Rattle.vm_core.specs.Prelude.{LOCKED, page_at, version_of, word_of}
 use Rattle.vm_rule.specs.Prelude.{began_of, Each, entry_of, IsLocking, IsWhole, Kept, last_of, seat_of, StartsWith}
-use Rattle.vm_rule.specs.declared.view.Place.{Place}
-use Rattle.vm_rule.specs.declared.view.Place.TheVariants as places
+use Rattle.vm_rule.specs.declared.view.WordPlace.{WordPlace}
+use Rattle.vm_rule.specs.declared.view.WordPlace.TheVariants as places
 use Rattle.vm_step.specs.Prelude.{Did, HasWritten, HoldsPage, KnowsAsBefore, Tie, UnlockedExpected, View}
 use Rattle.vm_step.specs.declared.saw.Saw.{Saw}
 use Rattle.vm_guard.specs.{Guards.IsLocked, Guards.IsReading, Guards.IsValid, Quiet.IsUnmark}
@@ -29,12 +29,14 @@ use Rattle.vm_tree_write.specs.declared.write.Tried.TheVariants as onces
 use Rattle.vm_tree_write.specs.declared.write.TryWrite.TheVariants as tries
 
 -- the state word of page p, or a place where the page is drafted in frame f
-abbrev pub IsWritePlace : ℕ → ℕ → Place → Type 0
+abbrev pub IsWritePlace : ℕ → ℕ → WordPlace → Type 0
 IsWritePlace p f at = (at ≡ places.State p) ⊎ IsDraftPlace p f at
 
 module _ {X : Type 0} where
-  -- The calls read pages, and locked page p, wrote it and released it: they left words on its state word, where it is drafted in this frame, and where a
-  -- mark was taken away, and nowhere else. All of the view is as it was but open reads, ties, what the pass has seen of the two lists, and its entries
+  -- The calls read pages, and locked page p, wrote it and released it: they left words on its state word, where it is
+  -- drafted in this frame, and where a
+  -- mark was taken away, and nowhere else. All of the view is as it was but open reads, ties, what the pass has seen
+  -- of the two lists, and its entries
   pub record OnlyWrites (p : ℕ) (v w : View X) : Type 0 where
     pub frame : ℕ
     pub done : List Did
@@ -76,7 +78,8 @@ abbrev pub HasValueIn : Layout → List ℕ → ℕ → ℕ → Type 0
 HasValueIn L words key value = (low high : ℕ) → Rises low high (pairs_of L words) → lookup_at (pairs_of L words) key ≡ Some value
 
 module _ {X : Type 0} (L : Layout) where
-  -- a page could not be read, or the leaf not be locked at the version that was read, as the steps of the call show; or blocks do not tell their
+  -- a page could not be read, or the leaf not be locked at the version that was read, as the steps of the call show;
+  -- or blocks do not tell their
   -- words, and those of a page are not what the way to it says
   abbrev pub IsWriteToTry : View X → ℕ → Saw → View X → Type 0
   IsWriteToTry v key saw w = IsShown UnlockedExpected v saw w ⊎ IsAstray L v key saw w
@@ -95,7 +98,8 @@ module _ {X : Type 0} (L : Layout) where
     pub denied : IsDenied AgainOrWorn (KeptWord word) UnlockedExpected p (denies.Worn p) found w
 
 module _ {X : Type 0} (L : Layout) (spare : List ℕ → ℕ) where
-  -- Words of page p were loaded, and it was validated: each page that has them has a leaf's tag, covers the key, has too little room left, and not the key
+  -- Words of page p were loaded, and it was validated: each page that has them has a leaf's tag, covers the key, has
+  -- too little room left, and not the key
   -- where its keys rise; and where blocks tell their words the page itself has them, and is a leaf, which has not the key
   pub record IsTight (v : View X) (key p : ℕ) (w : View X) : Type 0 where
     pub word : ℕ
@@ -111,7 +115,8 @@ module _ {X : Type 0} (L : Layout) (spare : List ℕ → ℕ) where
 
 -- What is said may speak of keys in its own way; `plain` reads it with a number for each key, as the call with its reply
 module _ {S : Type 0} (plain : S → Said) (L : Layout) where
-  -- The leaf's words before and after are as the call and its reply ask. At the step that made the entry the pages of the tree, of which the leaf is
+  -- The leaf's words before and after are as the call and its reply ask. At the step that made the entry the pages of
+  -- the tree, of which the leaf is
   -- one, were such that their map is the start's map after the whole history, and the history is legal for the start's map
   pub record IsBorneOutBy (page : ℕ) (old new : List ℕ) (said : Said) (v w : View S) : Type 0 where
     pub legal : IsLegal (map_of L v.start.contents) (plain_history plain w.seen)
@@ -123,8 +128,10 @@ module _ {S : Type 0} (plain : S → Said) (L : Layout) where
     pub leaf : IsLeaf L old
     pub edit : IsEdit L old new said.call said.reply
 
-  -- The call with its reply became the last entry, under the pass's first number and its next count, at the release of a leaf that the call had
-  -- locked, right after it had read it and at that version. Of the words that were read only those were stored that the call changes, each as it is
+  -- The call with its reply became the last entry, under the pass's first number and its next count, at the release
+  -- of a leaf that the call had
+  -- locked, right after it had read it and at that version. Of the words that were read only those were stored that
+  -- the call changes, each as it is
   -- afterwards, in the frame in which the leaf was locked; and where blocks tell their words the entry is borne out
   pub record IsWriteDone (said : Said) (v w : View S) : Type 0 where
     pub page : ℕ
@@ -150,7 +157,8 @@ module _ {S : Type 0} (plain : S → Said) (L : Layout) where
     pub says_is : plain says ≡ said
     pub mine : w.mine ≡ v.mine ++ entry_of v says ∷ []
     pub entry : GainsEntry says v [] w
-    pub stores : Each (λ d. (f i : ℕ) → d.at ≡ places.Content f i → (x : ℕ) → d.wrote ≡ Some x → (x ≡ slice_index new i) × (slice_index old i ≢ slice_index new i)) writes.done
+    pub stores : Each (λ d. (f i : ℕ) → d.at ≡ places.Content f i → (x : ℕ) → d.wrote ≡ Some x
+        → (x ≡ slice_index new i) × (slice_index old i ≢ slice_index new i)) writes.done
     pub last : (last_of w page).version ≡ version + 1
     pub told : v.start.tells ≡ true → IsBorneOutBy page old new said v w
 
@@ -165,11 +173,13 @@ abbrev pub IsVain : Said → Type 0
 IsVain said = WritesNothing said.call said.reply
 
 module _ {S : Type 0} (plain : S → Said) (L : Layout) where
-  -- a try of a put: made in a leaf that had the key or room; or the leaf is full; or to be tried again; or for a page that is needed; or such a leaf as
+  -- a try of a put: made in a leaf that had the key or room; or the leaf is full; or to be tried again; or for a page
+  -- that is needed; or such a leaf as
   -- it could have been made in is at the last version.
   -- Without a reply the pass has no further entry, and locked nothing
   abbrev pub IsPut : (List ℕ → ℕ) → ℕ → ℕ → TryWrite → View S → View S → Type 0
-  IsPut spare key value (tries.Done reply) v w = (a : IsWriteDone plain L (record { call = Put key value; reply = reply }) v w) × HasRoomFor L spare a.old key
+  IsPut spare key value (tries.Done reply) v w =
+      (a : IsWriteDone plain L (record { call = Put key value; reply = reply }) v w) × HasRoomFor L spare a.old key
   IsPut spare key value (tries.Again saw) v w = ReadsOn v w × IsWriteToTry L v key saw w
   IsPut spare key value (tries.Need p) v w = ReadsOn v w × IsNeeded L v key p w
   IsPut spare key value (tries.Worn p) v w = ReadsOn v w × (a : IsWornLeaf L v key p w) × HasRoomFor L spare a.words key
@@ -179,29 +189,47 @@ module _ {S : Type 0} (plain : S → Said) (L : Layout) where
   abbrev pub IsWriteOf : Said → ℕ → ℕ → List ℕ → View S → View S → View S → Type 0
   IsWriteOf said p word page x v w = (a : IsWriteDone plain L said v w) × (a.old ≡ page) × (a.page ≡ p) × (a.word ≡ word) × (a.found ≡ x)
 
-  -- A del was made in its leaf alone: as words tell that were validated in this call, a condition for a merge is not met. `rest` is the leaf without the key
+  -- A del was made in its leaf alone: as words tell that were validated in this call, a condition for a merge is not
+  -- met. `rest` is the leaf without the key
   pub record IsDelAlone (key : ℕ) (said : Said) (v w : View S) : Type 0 where
     pub write : IsWriteDone plain L said v w
     pub rest : List ℕ
     pub without : IsLeaf L write.old → IsEdit L write.old rest said.call said.reply
     pub unmerged : IsUnmerged L v key write.page rest write.found
 
-  -- a try of a del: made in a leaf that has the key, which may be at the last version, either alone or with a merge; or answered by a validation of a leaf that has it
-  -- not, which locks nothing, at whatever version. What is told as to be tried again may be a lock that was lost for a merge; and a page that is needed, or that is not
+  -- a try of a del: made in a leaf that has the key, which may be at the last version, either alone or with a merge;
+  -- or answered by a validation of a leaf that has it
+  -- not, which locks nothing, at whatever version. What is told as to be tried again may be a lock that was lost for
+  -- a merge; and a page that is needed, or that is not
   -- what the way to it says, may be the leaf's neighbour
   abbrev pub IsDel : ℕ → TryWrite → View S → View S → Type 0
   IsDel key (tries.Done reply) v w =
-      ((IsDelAlone key (record { call = Del key; reply = reply }) v w ⊎ IsMergeDone plain L key (record { call = Del key; reply = reply }) v w) × ¬ (IsVain (record { call = Del key; reply = reply })))
+      ((IsDelAlone key (record {
+        call = Del key;
+        reply = reply;
+      }) v w ⊎ IsMergeDone plain L key (record {
+        call =
+            Del key;
+        reply = reply;
+      }) v w) × ¬ (IsVain (record { call = Del key; reply = reply })))
       ⊎ (IsAnswered plain L (record { call = Del key; reply = reply }) v w × IsVain (record { call = Del key; reply = reply }))
   IsDel key (tries.Again saw) v w = (ReadsOn v w × (IsWriteToTry L v key saw w ⊎ IsAstrayBeside L v key saw w)) ⊎ IsLockLost L v saw w
   IsDel key (tries.Need p) v w = ReadsOn v w × (IsNeeded L v key p w ⊎ IsNeededBeside L v key p w)
   IsDel key (tries.Worn p) v w = ReadsOn v w × (a : IsWornLeaf L v key p w) × HasKeyIn L a.words key
   IsDel key (tries.Tight p) v w = ⊥
 
-  -- a try of a swap: made in a leaf where the key has the value that is wanted, which may be at the last version; or answered by a validation of a leaf
+  -- a try of a swap: made in a leaf where the key has the value that is wanted, which may be at the last version; or
+  -- answered by a validation of a leaf
   -- where it has not, which locks nothing, at whatever version
   abbrev pub IsSwap : ℕ → ℕ → ℕ → TryWrite → View S → View S → Type 0
-  IsSwap key want value (tries.Done reply) v w = (IsWriteDone plain L (record { call = Swap key want value; reply = reply }) v w × ¬ (IsVain (record { call = Swap key want value; reply = reply }))) ⊎ (IsAnswered plain L (record { call = Swap key want value; reply = reply }) v w × IsVain (record { call = Swap key want value; reply = reply }))
+  IsSwap key want value (tries.Done reply) v w = (IsWriteDone plain L (record {
+    call = Swap key want value;
+    reply = reply;
+  }) v w × ¬ (IsVain (record { call = Swap key want value; reply = reply }))) ⊎ (IsAnswered plain L (record {
+    call =
+        Swap key want value;
+    reply = reply;
+  }) v w × IsVain (record { call = Swap key want value; reply = reply }))
   IsSwap key want value (tries.Again saw) v w = ReadsOn v w × IsWriteToTry L v key saw w
   IsSwap key want value (tries.Need p) v w = ReadsOn v w × IsNeeded L v key p w
   IsSwap key want value (tries.Worn p) v w = ReadsOn v w × (a : IsWornLeaf L v key p w) × HasValueIn L a.words key want

@@ -2,7 +2,7 @@
 ghost use Rattle.std.specs.Prelude.{◌++◌, ◌≡◌, IfErr, IfOk, length, None};
 ghost use Rattle.vm_tree_model.specs.Page.{IsLeaf, node_of};
 ghost use Rattle.vm_rule.specs.Prelude.{loads_at};
-ghost use Rattle.vm_step.specs.Prelude.{IsReady, IsSamePass, UnlockedExpected, view};
+ghost use Rattle.vm_step.specs.Prelude.{GoesOn, IsReadyOn, UnlockedExpected, view};
 ghost use Rattle.vm_guard.specs.Denied.{AgainOrWorn, IsDenied, KeptWord};
 ghost use Rattle.vm_guard.specs.Guards.{IsReading, placed};
 ghost use Rattle.vm_tree_laws.specs.May.{IsEdit};
@@ -25,7 +25,7 @@ pub fn write_leaf<K: Edits, B: Block>(
     edit: K::Edit,
     said: &K::Said,
 ) -> Result<(), Deny>
-    requires ready { IsReady words.now.table.shared.key B.tells words.now.table.shared.table_id pass.old }
+    requires ready { IsReadyOn words.now B.tells pass.old }
     requires reading { IsReading guard.pid guard.word guard.frame (view pass.old) }
     requires home { (view pass.old).out ≡ None }
     requires size { length (K.words_of before.now) ≡ K.layout.words }
@@ -33,8 +33,7 @@ pub fn write_leaf<K: Edits, B: Block>(
     requires leaf { (node_of K.layout (K.words_of before.now)).tag ≡ 2 }
     requires edit { IsLeaf K.layout (K.words_of before.now)
         → IsEdit K.layout (K.words_of before.now) (K.edited (K.words_of before.now) edit) (K.plain said.now).call (K.plain said.now).reply }
-    ensures pass { IsSamePass pass.old pass.new }
-    ensures ready { IsReady words.now.table.shared.key B.tells words.now.table.shared.table_id pass.new }
+    ensures goes { GoesOn words.now B.tells pass.old pass.new }
     ensures ok { IfOk result (λ _. IsWriteOf K.plain K.layout (K.plain said.now) guard.pid guard.word (K.words_of before.now) (view pass.old) (view pass.old) (view pass.new)) }
     ensures err { IfErr result (λ deny. IsDenied AgainOrWorn (KeptWord guard.word) UnlockedExpected guard.pid deny (view pass.old) (view pass.new)) }
     ensures sure { IsKnownNow guard.pid guard.word (view pass.old) → IfErr result SaysWorn }

@@ -5,7 +5,7 @@ ghost use Rattle.vm_map.specs.declared.call.Reply.TheVariants.{Gone, Was};
 ghost use Rattle.vm_map.specs.Map.{del_pair, lookup_at, Rises};
 ghost use Rattle.vm_tree_model.specs.{Edits.IsLeafWith, Node.Covers, Page.IsLeaf, Page.node_of, Page.pairs_of};
 ghost use Rattle.vm_node.specs.Loads.{IsPageWith, Tells};
-ghost use Rattle.vm_step.specs.Prelude.{IsReady, IsSamePass, MayStep, UnlockedExpected, view};
+ghost use Rattle.vm_step.specs.Prelude.{GoesOn, IsReadyOn, UnlockedExpected, view};
 ghost use Rattle.vm_guard.specs.Denied.{AgainOrWorn, IsDenied, KeptWord};
 ghost use Rattle.vm_guard.specs.Guards.{IsReading};
 ghost use Rattle.vm_tree_rule.specs.{Above.IsAbove, Above.KnowsAbove, Few.ReadsInPlace, Resident.IsKnownNow, Resident.KnowsResident, Seeks.HasLoaded, Seeks.HasRead, Standing.Awaits, Standing.IsOpened};
@@ -49,7 +49,7 @@ pub enum TryWrite {
 /// What a try comes to before its reply is made: the same answers, with the value that the key had. A reply has room for a window's pairs, so it is
 /// made where it is handed on.
 #[derive(Drop)]
-pub(crate) enum Tried {
+pub enum Tried {
     Done(Option<u64>),
     Again(Saw),
     Need(u32),
@@ -118,10 +118,9 @@ fn is_tight_in_place<K: Kind, B: Block>(
     guard: &OptGuard,
     key: &K::Key,
 ) -> bool
-    requires ready { IsReady words.now.table.shared.key B.tells words.now.table.shared.table_id pass.old }
+    requires ready { IsReadyOn words.now B.tells pass.old }
     requires reading { IsReading guard.now.pid guard.now.word guard.now.frame (view pass.old) }
-    ensures pass { IsSamePass pass.old pass.new }
-    ensures ready { IsReady words.now.table.shared.key B.tells words.now.table.shared.table_id pass.new }
+    ensures goes { GoesOn words.now B.tells pass.old pass.new }
     ensures found { ReadsInPlace guard.now.pid guard.now.word guard.now.frame (K.bounds.spare + K.bounds.find) (view pass.old) (view pass.new)
         (λ loaded. (page : List ℕ) → IsPageWith K.layout.words loaded page → result ≡ true → IsTightFor K.layout K.spare page (K.rank key.now)) }
 {
@@ -140,10 +139,9 @@ fn tight<K: Kind, B: Block>(
     pass: &mut Pass<TreeOf<K>>,
     guard: &OptGuard,
 ) -> Tried
-    requires ready { IsReady words.now.table.shared.key B.tells words.now.table.shared.table_id pass.old }
+    requires ready { IsReadyOn words.now B.tells pass.old }
     requires reading { IsReading guard.now.pid guard.now.word guard.now.frame (view pass.old) }
-    ensures pass { IsSamePass pass.old pass.new }
-    ensures ready { IsReady words.now.table.shared.key B.tells words.now.table.shared.table_id pass.new }
+    ensures goes { GoesOn words.now B.tells pass.old pass.new }
     ensures put { (key value : _) (loaded : _) (v : _) → IsOpened v guard.now.pid guard.now.word guard.now.frame (view pass.old) → HasLoaded (view pass.old) guard.now.pid loaded
         → TellLeaf K.layout loaded key → TellTight K.layout K.spare loaded key → IsPut K.plain K.layout K.spare key value (with_reply Was result) v (view pass.new) }
     ensures sure { IsKnownNow guard.now.pid guard.now.word (view pass.old) → IsFinal (with_reply Was result) }
@@ -156,17 +154,16 @@ fn tight<K: Kind, B: Block>(
 }
 
 /// Puts a value at the key, or says why not. The leaf is read whole only where it has the key or room.
-pub(crate) fn put_once<K: Edits, B: Block>(
+pub fn put_once<K: Edits, B: Block>(
     words: &Words<TreeOf<K>, B>,
     pass: &mut Pass<TreeOf<K>>,
     key: &K::Key,
     value: u64,
 ) -> Tried
-    requires pass { MayStep words.now.table.shared.table_id pass.old }
+    requires ready { IsReadyOn words.now B.tells pass.old }
     requires pages { 1 ≤ words.now.table.shared.key.pages }
     requires home { (view pass.old).out ≡ None }
-    ensures pass { IsSamePass pass.old pass.new }
-    ensures ready { IsReady words.now.table.shared.key B.tells words.now.table.shared.table_id pass.new }
+    ensures goes { GoesOn words.now B.tells pass.old pass.new }
     ensures tried { IsPut K.plain K.layout K.spare (K.rank key.now) value (with_reply Was result) (view pass.old) (view pass.new) }
     ensures sure { B.tells ≡ true → KnowsResident (view pass.old) → IsFinal (with_reply Was result) }
     ensures known { B.tells ≡ true → KnowsResident (view pass.old) → KnowsResident (view pass.new) }
@@ -201,11 +198,10 @@ pub fn try_put<K: Edits, B: Block>(
     key: &K::Key,
     value: u64,
 ) -> TryWrite
-    requires pass { MayStep words.now.table.shared.table_id pass.old }
+    requires ready { IsReadyOn words.now B.tells pass.old }
     requires pages { 1 ≤ words.now.table.shared.key.pages }
     requires home { (view pass.old).out ≡ None }
-    ensures pass { IsSamePass pass.old pass.new }
-    ensures ready { IsReady words.now.table.shared.key B.tells words.now.table.shared.table_id pass.new }
+    ensures goes { GoesOn words.now B.tells pass.old pass.new }
     ensures tried { IsPut K.plain K.layout K.spare (K.rank key.now) value result (view pass.old) (view pass.new) }
     ensures sure { B.tells ≡ true → KnowsResident (view pass.old) → IsFinal result }
     ensures known { B.tells ≡ true → KnowsResident (view pass.old) → KnowsResident (view pass.new) }
@@ -226,11 +222,10 @@ fn missed<K: Kind, B: Block>(
     guard: &OptGuard,
     key: &K::Key,
 ) -> Tried
-    requires ready { IsReady words.now.table.shared.key B.tells words.now.table.shared.table_id pass.old }
+    requires ready { IsReadyOn words.now B.tells pass.old }
     requires reading { IsReading guard.now.pid guard.now.word guard.now.frame (view pass.old) }
     requires proves { (loaded : List (ℕ × ℕ)) × HasLoaded (view pass.old) guard.now.pid loaded × TellReply K.layout loaded (record { call = Del (K.rank key.now); reply = Gone None }) }
-    ensures pass { IsSamePass pass.old pass.new }
-    ensures ready { IsReady words.now.table.shared.key B.tells words.now.table.shared.table_id pass.new }
+    ensures goes { GoesOn words.now B.tells pass.old pass.new }
     ensures del { (v : _) → IsOpened v guard.now.pid guard.now.word guard.now.frame (view pass.old) → IsDel K.plain K.layout (K.rank key.now) (with_reply Gone result) v (view pass.new) }
     ensures sure { IsKnownNow guard.now.pid guard.now.word (view pass.old) → IsFinal (with_reply Gone result) }
     ensures known { IsKnownNow guard.now.pid guard.now.word (view pass.old) → KnowsResident (view pass.new) }
@@ -252,7 +247,7 @@ fn take_out<K: Merges, B: Block>(
     was: u64,
     edit: K::Edit,
 ) -> Tried
-    requires ready { IsReady words.now.table.shared.key B.tells words.now.table.shared.table_id pass.old }
+    requires ready { IsReadyOn words.now B.tells pass.old }
     requires home { (view pass.old).out ≡ None }
     requires size { length (K.words_of page.now) ≡ K.layout.words }
     requires leaf { ((node_of K.layout (K.words_of page.now)).tag ≡ 2) × Covers (node_of K.layout (K.words_of page.now)) (K.rank key.now) }
@@ -262,8 +257,7 @@ fn take_out<K: Merges, B: Block>(
     requires read { (v : _) × IsAbove K.layout v (K.rank key.now) reached.above reached.leaf.pid (view pass.old)
         × IsOpened v reached.leaf.pid reached.leaf.word reached.leaf.frame (view pass.old) × Awaits K.layout (view pass.old) reached.leaf.pid reached.leaf.word 0 (K.rank key.now)
         × HasRead (view pass.old) reached.leaf.pid (K.words_of page.now) }
-    ensures pass { IsSamePass pass.old pass.new }
-    ensures ready { IsReady words.now.table.shared.key B.tells words.now.table.shared.table_id pass.new }
+    ensures goes { GoesOn words.now B.tells pass.old pass.new }
     ensures tried { (v : _) → IsAbove K.layout v (K.rank key.now) reached.above reached.leaf.pid (view pass.old)
         → IsOpened v reached.leaf.pid reached.leaf.word reached.leaf.frame (view pass.old) → Awaits K.layout (view pass.old) reached.leaf.pid reached.leaf.word 0 (K.rank key.now)
         → HasRead (view pass.old) reached.leaf.pid (K.words_of page.now) → IsDel K.plain K.layout (K.rank key.now) (with_reply Gone result) v (view pass.new) }
@@ -283,16 +277,15 @@ fn take_out<K: Merges, B: Block>(
 }
 
 /// Takes the pair of the key out, or says why not. The leaf is read whole only where it has the key.
-pub(crate) fn del_once<K: Merges, B: Block>(
+pub fn del_once<K: Merges, B: Block>(
     words: &Words<TreeOf<K>, B>,
     pass: &mut Pass<TreeOf<K>>,
     key: &K::Key,
 ) -> Tried
-    requires pass { MayStep words.now.table.shared.table_id pass.old }
+    requires ready { IsReadyOn words.now B.tells pass.old }
     requires pages { 1 ≤ words.now.table.shared.key.pages }
     requires home { (view pass.old).out ≡ None }
-    ensures pass { IsSamePass pass.old pass.new }
-    ensures ready { IsReady words.now.table.shared.key B.tells words.now.table.shared.table_id pass.new }
+    ensures goes { GoesOn words.now B.tells pass.old pass.new }
     ensures tried { IsDel K.plain K.layout (K.rank key.now) (with_reply Gone result) (view pass.old) (view pass.new) }
     ensures sure { B.tells ≡ true → KnowsResident (view pass.old) → IsFinal (with_reply Gone result) }
     ensures known { B.tells ≡ true → KnowsResident (view pass.old) → KnowsResident (view pass.new) }
@@ -321,11 +314,10 @@ pub fn try_del<K: Merges, B: Block>(
     pass: &mut Pass<TreeOf<K>>,
     key: &K::Key,
 ) -> TryWrite
-    requires pass { MayStep words.now.table.shared.table_id pass.old }
+    requires ready { IsReadyOn words.now B.tells pass.old }
     requires pages { 1 ≤ words.now.table.shared.key.pages }
     requires home { (view pass.old).out ≡ None }
-    ensures pass { IsSamePass pass.old pass.new }
-    ensures ready { IsReady words.now.table.shared.key B.tells words.now.table.shared.table_id pass.new }
+    ensures goes { GoesOn words.now B.tells pass.old pass.new }
     ensures tried { IsDel K.plain K.layout (K.rank key.now) result (view pass.old) (view pass.new) }
     ensures sure { B.tells ≡ true → KnowsResident (view pass.old) → IsFinal result }
     ensures known { B.tells ≡ true → KnowsResident (view pass.old) → KnowsResident (view pass.new) }
@@ -349,13 +341,12 @@ fn kept<K: Kind, B: Block>(
     value: u64,
     there: Option<u64>,
 ) -> Tried
-    requires ready { IsReady words.now.table.shared.key B.tells words.now.table.shared.table_id pass.old }
+    requires ready { IsReadyOn words.now B.tells pass.old }
     requires reading { IsReading guard.now.pid guard.now.word guard.now.frame (view pass.old) }
     requires other { there ≢ Some want }
     requires proves { (loaded : List (ℕ × ℕ)) × HasLoaded (view pass.old) guard.now.pid loaded
         × TellReply K.layout loaded (record { call = ForSwap (K.rank key.now) want value; reply = swap_reply want there }) }
-    ensures pass { IsSamePass pass.old pass.new }
-    ensures ready { IsReady words.now.table.shared.key B.tells words.now.table.shared.table_id pass.new }
+    ensures goes { GoesOn words.now B.tells pass.old pass.new }
     ensures swap { (v : _) → IsOpened v guard.now.pid guard.now.word guard.now.frame (view pass.old)
         → IsSwap K.plain K.layout (K.rank key.now) want value (with_reply (swap_reply want) result) v (view pass.new) }
     ensures sure { IsKnownNow guard.now.pid guard.now.word (view pass.old) → IsFinal (with_reply (swap_reply want) result) }
@@ -380,18 +371,17 @@ fn is_other(there: Option<u64>, want: u64) -> bool
 }
 
 /// Puts a value at the key where its value is the one that is wanted, or says why not. The leaf is read whole only where it is.
-pub(crate) fn swap_once<K: Edits, B: Block>(
+pub fn swap_once<K: Edits, B: Block>(
     words: &Words<TreeOf<K>, B>,
     pass: &mut Pass<TreeOf<K>>,
     key: &K::Key,
     want: u64,
     value: u64,
 ) -> Tried
-    requires pass { MayStep words.now.table.shared.table_id pass.old }
+    requires ready { IsReadyOn words.now B.tells pass.old }
     requires pages { 1 ≤ words.now.table.shared.key.pages }
     requires home { (view pass.old).out ≡ None }
-    ensures pass { IsSamePass pass.old pass.new }
-    ensures ready { IsReady words.now.table.shared.key B.tells words.now.table.shared.table_id pass.new }
+    ensures goes { GoesOn words.now B.tells pass.old pass.new }
     ensures tried { IsSwap K.plain K.layout (K.rank key.now) want value (with_reply (swap_reply want) result) (view pass.old) (view pass.new) }
     ensures sure { B.tells ≡ true → KnowsResident (view pass.old) → IsFinal (with_reply (swap_reply want) result) }
     ensures known { B.tells ≡ true → KnowsResident (view pass.old) → KnowsResident (view pass.new) }
@@ -429,11 +419,10 @@ pub fn try_swap<K: Edits, B: Block>(
     want: u64,
     value: u64,
 ) -> TryWrite
-    requires pass { MayStep words.now.table.shared.table_id pass.old }
+    requires ready { IsReadyOn words.now B.tells pass.old }
     requires pages { 1 ≤ words.now.table.shared.key.pages }
     requires home { (view pass.old).out ≡ None }
-    ensures pass { IsSamePass pass.old pass.new }
-    ensures ready { IsReady words.now.table.shared.key B.tells words.now.table.shared.table_id pass.new }
+    ensures goes { GoesOn words.now B.tells pass.old pass.new }
     ensures tried { IsSwap K.plain K.layout (K.rank key.now) want value result (view pass.old) (view pass.new) }
     ensures sure { B.tells ≡ true → KnowsResident (view pass.old) → IsFinal result }
     ensures known { B.tells ≡ true → KnowsResident (view pass.old) → KnowsResident (view pass.new) }

@@ -7,9 +7,9 @@ use Rattle.vm_image.specs.declared.blocks.PlannedFault.{PlannedFault}
 use Rattle.vm_words.specs.Apps.{vmcache_app}
 use Rattle.vm_words.specs.Forms.{is_needed, kind_in, place_in, slot_text, slots_in, title}
 use Rattle.vm_words.specs.Values.{AreFilled, HasUnfilled, IsOdd, Meaning, named, counted, planned, absent}
-use Rattle.vm_words.specs.declared.form.Slot.{Slot}
-use Rattle.vm_words.specs.declared.form.Verb.{Verb}
-use Rattle.vm_words.specs.declared.form.Verb.TheVariants as verbs
+use Rattle.vm_words.specs.declared.form.FormSlot.{FormSlot}
+use Rattle.vm_words.specs.declared.form.FormVerb.{FormVerb}
+use Rattle.vm_words.specs.declared.form.FormVerb.TheVariants as verbs
 use Rattle.vm_words.specs.declared.Command.{Command}
 use Rattle.vm_words.specs.declared.Command.TheVariants.{Run, Make, Check, Churn, Replay, Migrate}
 
@@ -18,13 +18,13 @@ abbrev pub Entered : Type 0
 Entered = Option (Text × List Row)
 
 -- the command that was entered is this one, and its words say this
-pub record Enters (entered : Entered) (verb : Verb) (meanings : List Meaning) : Type 0 where
+pub record Enters (entered : Entered) (verb : FormVerb) (meanings : List Meaning) : Type 0 where
   pub rows : List Row
   pub named_so : entered ≡ Some (title verb, rows)
   pub filled : AreFilled (slots_in verb) rows meanings
 
 -- clap takes the words, and reads them as a line of this command that says this
-pub record IsCommandLine (words : List Text) (verb : Verb) (meanings : List Meaning) : Type 0 where
+pub record IsCommandLine (words : List Text) (verb : FormVerb) (meanings : List Meaning) : Type 0 where
   pub taken : takes vmcache_app words ≡ true
   pub line : Enters (subcommand_of vmcache_app words) verb meanings
 
@@ -43,11 +43,23 @@ plan_or [] = absent
 plan_or (fault ∷ plan) = planned (fault ∷ plan)
 
 -- the line of a command: what its slots say, in order
-abbrev pub line_of : Command → Verb × List Meaning
-line_of (Run run) = (verbs.Run, named run.image.now ∷ named run.script.now ∷ counted run.workers ∷ counted run.frames ∷ name_or run.options.keep ∷ plan_or run.options.fail.items ∷ number_or run.options.first_version ∷ [])
-line_of (Make make) = (verbs.Make, named make.file.now ∷ counted make.pages ∷ counted make.pairs ∷ counted make.seed ∷ number_or make.words ∷ [])
+abbrev pub line_of : Command → FormVerb × List Meaning
+line_of (Run run) = (
+  verbs.Run,
+  named run.image.now ∷ named run.script.now ∷ counted run.workers ∷ counted
+      run.frames ∷ name_or run.options.keep ∷ plan_or run.options.fail.items ∷ number_or run.options.first_version ∷ [],
+)
+line_of (Make make) = (
+  verbs.Make,
+  named make.file.now ∷ counted make.pages ∷ counted make.pairs ∷ counted
+      make.seed ∷ number_or make.words ∷ [],
+)
 line_of (Check check) = (verbs.Check, named check.file.now ∷ [])
-line_of (Churn churn) = (verbs.Churn, counted churn.pairs ∷ counted churn.seed ∷ counted churn.workers ∷ counted churn.frames ∷ number_or churn.words ∷ [])
+line_of (Churn churn) = (
+  verbs.Churn,
+  counted churn.pairs ∷ counted churn.seed ∷ counted churn.workers ∷ counted churn.frames ∷ number_or
+      churn.words ∷ [],
+)
 line_of (Replay replay) = (verbs.Replay, named replay.file.now ∷ [])
 line_of (Migrate migrate) = (verbs.Migrate, named migrate.input.now ∷ named migrate.output.now ∷ counted migrate.pages ∷ [])
 
@@ -59,22 +71,23 @@ abbrev pub IsNoCommand : List Text → Type 0
 IsNoCommand words = (command : Command) → IsCommand words command → ⊥
 
 -- clap found a word for each slot that has to have one
-abbrev pub HasWords : List Slot → List Row → Type 0
-HasWords slots rows = AllByRecursion (λ (slot : Slot). is_needed (place_in slot) ≡ true → (text : Text) × (first_of (slot_text slot) rows ≡ Some text)) slots
+abbrev pub HasWords : List FormSlot → List Row → Type 0
+HasWords slots rows = AllByRecursion (λ (slot : FormSlot). is_needed (place_in slot) ≡ true
+    → (text : Text) × (first_of (slot_text slot) rows ≡ Some text)) slots
 
 -- the words are a line of some command, with a word for each slot that has to have one
 pub record HasLine (words : List Text) : Type 0 where
-  pub verb : Verb
+  pub verb : FormVerb
   pub rows : List Row
   pub named_so : subcommand_of vmcache_app words ≡ Some (title verb, rows)
   pub whole_so : HasWords (slots_in verb) rows
 
 -- clap takes the words, and reads them as a line of this command, of which a word is none of its slot's kind
-pub record HasOddWord (words : List Text) (verb : Verb) : Type 0 where
+pub record HasOddWord (words : List Text) (verb : FormVerb) : Type 0 where
   pub taken : takes vmcache_app words ≡ true
   pub rows : List Row
   pub named_so : subcommand_of vmcache_app words ≡ Some (title verb, rows)
-  pub slot : Slot
+  pub slot : FormSlot
   pub among : Contains (slots_in verb) slot
   pub text : Text
   pub found : first_of (slot_text slot) rows ≡ Some text
@@ -83,9 +96,9 @@ pub record HasOddWord (words : List Text) (verb : Verb) : Type 0 where
 -- why words are no command: clap does not take them, or one of them is none of its slot's kind
 pub data WhyRefused (words : List Text) : Type 0 where
   untaken : takes vmcache_app words ≡ false → WhyRefused words
-  odd_word : (verb : Verb) → HasOddWord words verb → WhyRefused words
+  odd_word : (verb : FormVerb) → HasOddWord words verb → WhyRefused words
 
 -- what the reader of what was entered answers
 abbrev pub ReadsEntered : Entered → Option Command → Type 0
 ReadsEntered entered (Some command) = Enters entered (line_of command).0 (line_of command).1
-ReadsEntered entered None = (verb : Verb) (rows : List Row) → entered ≡ Some (title verb, rows) → HasUnfilled (slots_in verb) rows
+ReadsEntered entered None = (verb : FormVerb) (rows : List Row) → entered ≡ Some (title verb, rows) → HasUnfilled (slots_in verb) rows

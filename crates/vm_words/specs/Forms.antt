@@ -2,20 +2,22 @@
 use Rattle.std.specs.Prelude.{Bool, true, false, List, [], ◌∷◌, Option, codes, find}
 use Rattle.std.specs.Str.{bytes_eq}
 use Rattle.clap.specs.Words.{Text}
-use Rattle.vm_words.specs.declared.form.Verb.{Verb}
-use Rattle.vm_words.specs.declared.form.Verb.TheVariants.{Run, Make, Check, Churn, Replay, Migrate}
-use Rattle.vm_words.specs.declared.form.Slot.{Slot}
-use Rattle.vm_words.specs.declared.form.Slot.TheVariants.{Image, Script, Workers, Frames, Keep, Fail, FirstVersion, File, Pages, Pairs, Seed, Words, Input, Output}
-use Rattle.vm_words.specs.declared.form.Place.{Place}
-use Rattle.vm_words.specs.declared.form.Place.TheVariants.{Placed, Asked, Optional}
-use Rattle.vm_words.specs.declared.form.Kind.{Kind}
-use Rattle.vm_words.specs.declared.form.Kind.TheVariants.{Name, Number, Faults}
+use Rattle.vm_words.specs.declared.form.FormVerb.{FormVerb}
+use Rattle.vm_words.specs.declared.form.FormVerb.TheVariants.{Run, Make, Check, Churn, Replay, Migrate}
+use Rattle.vm_words.specs.declared.form.FormSlot.{FormSlot}
+use Rattle.vm_words.specs.declared.form.FormSlot.TheVariants.{Image, Script, Workers, Frames, Keep, Fail}
+use Rattle.vm_words.specs.declared.form.FormSlot.TheVariants.{FirstVersion, File, Pages, Pairs, Seed, Words, Input}
+use Rattle.vm_words.specs.declared.form.FormSlot.TheVariants.{Output}
+use Rattle.vm_words.specs.declared.form.FormPlace.{FormPlace}
+use Rattle.vm_words.specs.declared.form.FormPlace.TheVariants.{Placed, Asked, Optional}
+use Rattle.vm_words.specs.declared.form.FormKind.{FormKind}
+use Rattle.vm_words.specs.declared.form.FormKind.TheVariants.{Name, Number, Faults}
 
 -- every command
-abbrev pub verbs : List Verb
+abbrev pub verbs : List FormVerb
 verbs = Run ∷ Make ∷ Check ∷ Churn ∷ Replay ∷ Migrate ∷ []
 
-abbrev pub title : Verb → Text
+abbrev pub title : FormVerb → Text
 title Run = codes "run"
 title Make = codes "make"
 title Check = codes "check"
@@ -24,11 +26,11 @@ title Replay = codes "replay"
 title Migrate = codes "migrate"
 
 -- the command with this name
-abbrev pub verb_at : Text → Option Verb
+abbrev pub verb_at : Text → Option FormVerb
 verb_at word = find (λ verb. bytes_eq (title verb) word) verbs
 
 -- the slots of a command, in order
-abbrev pub slots_in : Verb → List Slot
+abbrev pub slots_in : FormVerb → List FormSlot
 slots_in Run = Image ∷ Script ∷ Workers ∷ Frames ∷ Keep ∷ Fail ∷ FirstVersion ∷ []
 slots_in Make = File ∷ Pages ∷ Pairs ∷ Seed ∷ Words ∷ []
 slots_in Check = File ∷ []
@@ -36,7 +38,7 @@ slots_in Churn = Pairs ∷ Seed ∷ Workers ∷ Frames ∷ Words ∷ []
 slots_in Replay = File ∷ []
 slots_in Migrate = Input ∷ Output ∷ Pages ∷ []
 
-abbrev pub slot_text : Slot → Text
+abbrev pub slot_text : FormSlot → Text
 slot_text Image = codes "image"
 slot_text Script = codes "script"
 slot_text Workers = codes "workers"
@@ -52,7 +54,7 @@ slot_text Words = codes "words"
 slot_text Input = codes "input"
 slot_text Output = codes "output"
 
-abbrev pub place_in : Slot → Place
+abbrev pub place_in : FormSlot → FormPlace
 place_in Image = Placed
 place_in Script = Placed
 place_in Workers = Asked
@@ -68,7 +70,7 @@ place_in Words = Optional
 place_in Input = Placed
 place_in Output = Placed
 
-abbrev pub kind_in : Slot → Kind
+abbrev pub kind_in : FormSlot → FormKind
 kind_in Image = Name
 kind_in Script = Name
 kind_in Workers = Number
@@ -85,7 +87,7 @@ kind_in Input = Name
 kind_in Output = Name
 
 -- the word has to be there
-abbrev pub is_needed : Place → Bool
+abbrev pub is_needed : FormPlace → Bool
 is_needed Placed = true
 is_needed Asked = true
 is_needed Optional = false

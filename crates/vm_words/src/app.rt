@@ -3,26 +3,26 @@ ghost use Rattle.std.specs.Prelude.{◌≡◌, IfOk, false};
 ghost use Rattle.clap.specs.Words.{app_of, rule_of};
 ghost use Rattle.vm_words.specs.Apps.{IsApp, IsLocal, app_in, bare_app, rule_in, vmcache_app};
 
-use crate::form::{Place, Slot, VERBS, Verb, name_of, place_of, slots_of, title_of};
+use crate::form::{FormPlace, FormSlot, FormVerb, VERBS, name_of, place_of, slots_of, title_of};
 use clap::{Arg, Command};
 use std::alloc::{AllocError, Global};
 
 // The argument of a slot.
-fn arg_of<'a>(alloc: Global, slot: Slot) -> Arg<'a>
+fn arg_of<'a>(alloc: Global, slot: FormSlot) -> Arg<'a>
     ensures rule { rule_of result ≡ rule_in slot }
     ensures local { result.global ≡ false }
 {
     let name = name_of(slot);
     let arg = Arg::new(alloc, name);
     match place_of(slot) {
-        Place::Placed => arg.required(true),
-        Place::Asked => arg.long(name).required(true),
-        Place::Optional => arg.long(name),
+        FormPlace::Placed => arg.required(true),
+        FormPlace::Asked => arg.long(name).required(true),
+        FormPlace::Optional => arg.long(name),
     }
 }
 
 // A command with its slots.
-fn command_of<'a>(alloc: Global, verb: Verb) -> Result<Command<'a>, AllocError>
+fn command_of<'a>(alloc: Global, verb: FormVerb) -> Result<Command<'a>, AllocError>
     ensures app { IfOk result (IsApp (app_in verb)) }
     ensures local { IfOk result IsLocal }
 {

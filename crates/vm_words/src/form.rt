@@ -6,7 +6,7 @@ ghost use Rattle.vm_words.specs.Forms.{kind_in, place_in, slot_text, slots_in, t
 
 /// A command.
 #[derive(Clone, Copy)]
-pub enum Verb {
+pub enum FormVerb {
     Run,
     Make,
     Check,
@@ -17,7 +17,7 @@ pub enum Verb {
 
 /// A word behind a command's name.
 #[derive(Clone, Copy)]
-pub enum Slot {
+pub enum FormSlot {
     Image,
     Script,
     Workers,
@@ -36,7 +36,7 @@ pub enum Slot {
 
 /// Where a slot's word stands.
 #[derive(Clone, Copy)]
-pub enum Place {
+pub enum FormPlace {
     /// In its turn among the words.
     Placed,
     /// Behind `--NAME`.
@@ -47,7 +47,7 @@ pub enum Place {
 
 /// What a slot's word is read as.
 #[derive(Clone, Copy)]
-pub enum Kind {
+pub enum FormKind {
     /// The name of a file.
     Name,
     /// A canonical decimal.
@@ -57,106 +57,108 @@ pub enum Kind {
 }
 
 // Every command.
-pub(crate) const VERBS: [Verb; 6] = [
-    Verb::Run,
-    Verb::Make,
-    Verb::Check,
-    Verb::Churn,
-    Verb::Replay,
-    Verb::Migrate,
+pub(crate) const VERBS: [FormVerb; 6] = [
+    FormVerb::Run,
+    FormVerb::Make,
+    FormVerb::Check,
+    FormVerb::Churn,
+    FormVerb::Replay,
+    FormVerb::Migrate,
 ];
 
 // The command's name.
-pub(crate) fn title_of<'a>(verb: Verb) -> &'a str
+pub(crate) fn title_of<'a>(verb: FormVerb) -> &'a str
     ensures { result.now ≡ title verb }
 {
     match verb {
-        Verb::Run => "run",
-        Verb::Make => "make",
-        Verb::Check => "check",
-        Verb::Churn => "churn",
-        Verb::Replay => "replay",
-        Verb::Migrate => "migrate",
+        FormVerb::Run => "run",
+        FormVerb::Make => "make",
+        FormVerb::Check => "check",
+        FormVerb::Churn => "churn",
+        FormVerb::Replay => "replay",
+        FormVerb::Migrate => "migrate",
     }
 }
 
 // The slots behind the command's name, in order.
-pub(crate) fn slots_of(verb: Verb) -> &'static [Slot]
+pub(crate) fn slots_of(verb: FormVerb) -> &'static [FormSlot]
     ensures { result.now ≡ slots_in verb }
 {
     match verb {
-        Verb::Run => &[
-            Slot::Image,
-            Slot::Script,
-            Slot::Workers,
-            Slot::Frames,
-            Slot::Keep,
-            Slot::Fail,
-            Slot::FirstVersion,
+        FormVerb::Run => &[
+            FormSlot::Image,
+            FormSlot::Script,
+            FormSlot::Workers,
+            FormSlot::Frames,
+            FormSlot::Keep,
+            FormSlot::Fail,
+            FormSlot::FirstVersion,
         ],
-        Verb::Make => &[
-            Slot::File,
-            Slot::Pages,
-            Slot::Pairs,
-            Slot::Seed,
-            Slot::Words,
+        FormVerb::Make => &[
+            FormSlot::File,
+            FormSlot::Pages,
+            FormSlot::Pairs,
+            FormSlot::Seed,
+            FormSlot::Words,
         ],
-        Verb::Churn => &[
-            Slot::Pairs,
-            Slot::Seed,
-            Slot::Workers,
-            Slot::Frames,
-            Slot::Words,
+        FormVerb::Churn => &[
+            FormSlot::Pairs,
+            FormSlot::Seed,
+            FormSlot::Workers,
+            FormSlot::Frames,
+            FormSlot::Words,
         ],
-        Verb::Check | Verb::Replay => &[Slot::File],
-        Verb::Migrate => &[Slot::Input, Slot::Output, Slot::Pages],
+        FormVerb::Check | FormVerb::Replay => &[FormSlot::File],
+        FormVerb::Migrate => &[FormSlot::Input, FormSlot::Output, FormSlot::Pages],
     }
 }
 
 // The slot's name: that of its option, where it is one.
-pub(crate) fn name_of<'a>(slot: Slot) -> &'a str
+pub(crate) fn name_of<'a>(slot: FormSlot) -> &'a str
     ensures { result.now ≡ slot_text slot }
 {
     match slot {
-        Slot::Image => "image",
-        Slot::Script => "script",
-        Slot::Workers => "workers",
-        Slot::Frames => "frames",
-        Slot::Keep => "keep",
-        Slot::Fail => "fail",
-        Slot::FirstVersion => "first-version",
-        Slot::File => "file",
-        Slot::Pages => "pages",
-        Slot::Pairs => "pairs",
-        Slot::Seed => "seed",
-        Slot::Words => "words",
-        Slot::Input => "input",
-        Slot::Output => "output",
+        FormSlot::Image => "image",
+        FormSlot::Script => "script",
+        FormSlot::Workers => "workers",
+        FormSlot::Frames => "frames",
+        FormSlot::Keep => "keep",
+        FormSlot::Fail => "fail",
+        FormSlot::FirstVersion => "first-version",
+        FormSlot::File => "file",
+        FormSlot::Pages => "pages",
+        FormSlot::Pairs => "pairs",
+        FormSlot::Seed => "seed",
+        FormSlot::Words => "words",
+        FormSlot::Input => "input",
+        FormSlot::Output => "output",
     }
 }
 
 // Where its word stands.
-pub(crate) fn place_of(slot: Slot) -> Place
+pub(crate) fn place_of(slot: FormSlot) -> FormPlace
     ensures { result ≡ place_in slot }
 {
     match slot {
-        Slot::Image | Slot::Script | Slot::File => Place::Placed,
-        Slot::Input | Slot::Output => Place::Placed,
-        Slot::Pages | Slot::Pairs | Slot::Seed => Place::Placed,
-        Slot::Workers | Slot::Frames => Place::Asked,
-        Slot::Keep | Slot::Fail | Slot::FirstVersion | Slot::Words => Place::Optional,
+        FormSlot::Image | FormSlot::Script | FormSlot::File => FormPlace::Placed,
+        FormSlot::Input | FormSlot::Output => FormPlace::Placed,
+        FormSlot::Pages | FormSlot::Pairs | FormSlot::Seed => FormPlace::Placed,
+        FormSlot::Workers | FormSlot::Frames => FormPlace::Asked,
+        FormSlot::Keep | FormSlot::Fail | FormSlot::FirstVersion | FormSlot::Words =>
+            FormPlace::Optional,
     }
 }
 
 // What its word is read as.
-pub(crate) fn kind_of(slot: Slot) -> Kind
+pub(crate) fn kind_of(slot: FormSlot) -> FormKind
     ensures { result ≡ kind_in slot }
 {
     match slot {
-        Slot::Image | Slot::Script | Slot::Keep | Slot::File => Kind::Name,
-        Slot::Input | Slot::Output => Kind::Name,
-        Slot::Workers | Slot::Frames | Slot::FirstVersion | Slot::Words => Kind::Number,
-        Slot::Pages | Slot::Pairs | Slot::Seed => Kind::Number,
-        Slot::Fail => Kind::Faults,
+        FormSlot::Image | FormSlot::Script | FormSlot::Keep | FormSlot::File => FormKind::Name,
+        FormSlot::Input | FormSlot::Output => FormKind::Name,
+        FormSlot::Workers | FormSlot::Frames | FormSlot::FirstVersion | FormSlot::Words =>
+            FormKind::Number,
+        FormSlot::Pages | FormSlot::Pairs | FormSlot::Seed => FormKind::Number,
+        FormSlot::Fail => FormKind::Faults,
     }
 }

@@ -5,7 +5,7 @@ ghost use Rattle.vm_words.specs.Apps.{vmcache_app};
 ghost use Rattle.vm_words.specs.Commands.{HasLine, IsCommand, IsCommandLine, IsNoCommand, WhyRefused, line_of};
 ghost use Rattle.vm_words.specs.Values.{Meaning};
 ghost use Rattle.vm_words.specs.declared.Command.{Command};
-ghost use Rattle.vm_words.specs.declared.form.Verb.{Verb};
+ghost use Rattle.vm_words.specs.declared.form.FormVerb.{FormVerb};
 
 /// Words that clap takes are a line of one of the commands, with all the words that it asks for.
 pub fn taken_words_are_whole()
@@ -15,9 +15,9 @@ pub fn taken_words_are_whole()
 /// Words are a line of one command at most, and say one thing for each of its slots. So they are one command with one value
 /// for each of its fields.
 pub fn one_line()
-    ensures verb { (words : List Text) (verb other : Verb) (meanings others : List Meaning)
+    ensures verb { (words : List Text) (verb other : FormVerb) (meanings others : List Meaning)
         → IsCommandLine words verb meanings → IsCommandLine words other others → verb ≡ other }
-    ensures meanings { (words : List Text) (verb other : Verb) (meanings others : List Meaning)
+    ensures meanings { (words : List Text) (verb other : FormVerb) (meanings others : List Meaning)
         → IsCommandLine words verb meanings → IsCommandLine words other others → meanings ≡ others }
     ensures command { (words : List Text) (command other : Command) → IsCommand words command
         → IsCommand words other → line_of command ≡ line_of other }

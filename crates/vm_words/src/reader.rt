@@ -6,14 +6,16 @@ ghost use Rattle.vm_words.specs.Commands.{ReadsEntered, line_of};
 ghost use Rattle.vm_words.specs.Forms.{slot_text, slots_in, verb_at};
 ghost use Rattle.vm_words.specs.Values.{AreMeant, ReadsSlot, ReadsSlots, meaning_of, meanings_of};
 
-use crate::form::{Place, Slot, VERBS, Verb, kind_of, name_of, place_of, slots_of, title_of};
+use crate::form::{
+    FormPlace, FormSlot, FormVerb, VERBS, kind_of, name_of, place_of, slots_of, title_of,
+};
 use crate::value::{Value, name, name_if_given, number, number_if_given, plan, value_of};
 use crate::{Check, Churn, Command, Make, Migrate, Options, Replay, Run};
 use clap::ArgMatches;
 use std::alloc::{AllocError, Global};
 
 // The command with this name.
-fn verb_of(word: &str) -> Option<Verb>
+fn verb_of(word: &str) -> Option<FormVerb>
     ensures { result ≡ verb_at word.now }
 {
     'verbs: for verb in VERBS.iter() {
@@ -36,7 +38,7 @@ fn text_at<'a>(matches: &ArgMatches<'a>, id: &str) -> Option<&'a str>
 fn value_at<'a>(
     alloc: Global,
     matches: &ArgMatches<'a>,
-    slot: Slot,
+    slot: FormSlot,
 ) -> Result<Option<Value<'a>>, AllocError>
     ensures { IfOk result (λ value. ReadsSlot slot (first_of (slot_text slot) (rows_of (found_of matches.now))) (option_map meaning_of value)) }
 {
@@ -44,8 +46,8 @@ fn value_at<'a>(
         return value_of(alloc, kind_of(slot), text);
     }
     match place_of(slot) {
-        Place::Placed | Place::Asked => Ok(None),
-        Place::Optional => Ok(Some(Value::Absent)),
+        FormPlace::Placed | FormPlace::Asked => Ok(None),
+        FormPlace::Optional => Ok(Some(Value::Absent)),
     }
 }
 
@@ -53,7 +55,7 @@ fn value_at<'a>(
 fn values_of<'a>(
     alloc: Global,
     matches: &ArgMatches<'a>,
-    slots: &[Slot],
+    slots: &[FormSlot],
 ) -> Result<Option<Vec<Value<'a>>>, AllocError>
     ensures { IfOk result (λ values. ReadsSlots slots.now (rows_of (found_of matches.now)) (option_map (λ v. meanings_of v.items) values)) }
 {
@@ -68,13 +70,13 @@ fn values_of<'a>(
 }
 
 // The command whose slots say this.
-fn command_with<'a>(alloc: Global, verb: Verb, values: Vec<Value<'a>>) -> Command<'a>
+fn command_with<'a>(alloc: Global, verb: FormVerb, values: Vec<Value<'a>>) -> Command<'a>
     requires { AreMeant (slots_in verb) (meanings_of values.items) }
     ensures { line_of result ≡ (verb, meanings_of values.entry.items) }
 {
     let mut values = values.into_iter();
     match verb {
-        Verb::Run => Command::Run(Run {
+        FormVerb::Run => Command::Run(Run {
             image: name(&mut values),
             script: name(&mut values),
             workers: number(&mut values),
@@ -85,27 +87,27 @@ fn command_with<'a>(alloc: Global, verb: Verb, values: Vec<Value<'a>>) -> Comman
                 first_version: number_if_given(&mut values),
             },
         }),
-        Verb::Make => Command::Make(Make {
+        FormVerb::Make => Command::Make(Make {
             file: name(&mut values),
             pages: number(&mut values),
             pairs: number(&mut values),
             seed: number(&mut values),
             words: number_if_given(&mut values),
         }),
-        Verb::Check => Command::Check(Check {
+        FormVerb::Check => Command::Check(Check {
             file: name(&mut values),
         }),
-        Verb::Churn => Command::Churn(Churn {
+        FormVerb::Churn => Command::Churn(Churn {
             pairs: number(&mut values),
             seed: number(&mut values),
             workers: number(&mut values),
             frames: number(&mut values),
             words: number_if_given(&mut values),
         }),
-        Verb::Replay => Command::Replay(Replay {
+        FormVerb::Replay => Command::Replay(Replay {
             file: name(&mut values),
         }),
-        Verb::Migrate => Command::Migrate(Migrate {
+        FormVerb::Migrate => Command::Migrate(Migrate {
             input: name(&mut values),
             output: name(&mut values),
             pages: number(&mut values),

@@ -5,7 +5,7 @@ ghost use Rattle.std.specs.Vec.Iter.{into_iter_items};
 ghost use Rattle.vm_words.specs.Commands.{name_or, number_or, plan_or};
 ghost use Rattle.vm_words.specs.Values.{ReadsText, FirstIsMeant, counted, meaning_of, meanings_of, named};
 
-use crate::form::Kind;
+use crate::form::FormKind;
 use std::alloc::{AllocError, Global};
 use std::vec::IntoIter;
 use vm_image::PlannedFault;
@@ -25,18 +25,18 @@ pub(crate) enum Value<'a> {
 // The value of this kind that a text spells.
 pub(crate) fn value_of<'a>(
     alloc: Global,
-    kind: Kind,
+    kind: FormKind,
     text: &'a str,
 ) -> Result<Option<Value<'a>>, AllocError>
     ensures { IfOk result (λ value. ReadsText kind text.now (option_map meaning_of value)) }
 {
     match kind {
-        Kind::Name => Ok(Some(Value::Named(text))),
-        Kind::Number => match number_of(text.as_bytes()) {
+        FormKind::Name => Ok(Some(Value::Named(text))),
+        FormKind::Number => match number_of(text.as_bytes()) {
             Some(number) => Ok(Some(Value::Counted(number))),
             None => Ok(None),
         },
-        Kind::Faults => match faults_of(alloc, text.as_bytes())? {
+        FormKind::Faults => match faults_of(alloc, text.as_bytes())? {
             Some(plan) => Ok(Some(Value::Planned(plan))),
             None => Ok(None),
         },
@@ -45,7 +45,7 @@ pub(crate) fn value_of<'a>(
 
 // Takes the next value, a name.
 pub(crate) fn name<'a>(values: &mut IntoIter<Value<'a>>) -> &'a str
-    requires { FirstIsMeant true Kind.Name (meanings_of (into_iter_items values.old)) }
+    requires { FirstIsMeant true FormKind.Name (meanings_of (into_iter_items values.old)) }
     ensures { meanings_of (into_iter_items values.old) ≡ named result.now ∷ meanings_of (into_iter_items values.new) }
 {
     match values.next() {
@@ -56,7 +56,7 @@ pub(crate) fn name<'a>(values: &mut IntoIter<Value<'a>>) -> &'a str
 
 // Takes the next value, a number.
 pub(crate) fn number(values: &mut IntoIter<Value<'_>>) -> u64
-    requires { FirstIsMeant true Kind.Number (meanings_of (into_iter_items values.old)) }
+    requires { FirstIsMeant true FormKind.Number (meanings_of (into_iter_items values.old)) }
     ensures { meanings_of (into_iter_items values.old) ≡ counted result ∷ meanings_of (into_iter_items values.new) }
 {
     match values.next() {
@@ -67,7 +67,7 @@ pub(crate) fn number(values: &mut IntoIter<Value<'_>>) -> u64
 
 // Takes the next value, a name where there is one.
 pub(crate) fn name_if_given<'a>(values: &mut IntoIter<Value<'a>>) -> Option<&'a str>
-    requires { FirstIsMeant false Kind.Name (meanings_of (into_iter_items values.old)) }
+    requires { FirstIsMeant false FormKind.Name (meanings_of (into_iter_items values.old)) }
     ensures { meanings_of (into_iter_items values.old) ≡ name_or result ∷ meanings_of (into_iter_items values.new) }
 {
     match values.next() {
@@ -79,7 +79,7 @@ pub(crate) fn name_if_given<'a>(values: &mut IntoIter<Value<'a>>) -> Option<&'a 
 
 // Takes the next value, a number where there is one.
 pub(crate) fn number_if_given(values: &mut IntoIter<Value<'_>>) -> Option<u64>
-    requires { FirstIsMeant false Kind.Number (meanings_of (into_iter_items values.old)) }
+    requires { FirstIsMeant false FormKind.Number (meanings_of (into_iter_items values.old)) }
     ensures { meanings_of (into_iter_items values.old) ≡ number_or result ∷ meanings_of (into_iter_items values.new) }
 {
     match values.next() {
@@ -91,7 +91,7 @@ pub(crate) fn number_if_given(values: &mut IntoIter<Value<'_>>) -> Option<u64>
 
 // Takes the next value, a plan, which has no entry where there is no word.
 pub(crate) fn plan(alloc: Global, values: &mut IntoIter<Value<'_>>) -> Vec<PlannedFault>
-    requires { FirstIsMeant false Kind.Faults (meanings_of (into_iter_items values.old)) }
+    requires { FirstIsMeant false FormKind.Faults (meanings_of (into_iter_items values.old)) }
     ensures { meanings_of (into_iter_items values.old) ≡ plan_or result.items ∷ meanings_of (into_iter_items values.new) }
 {
     match values.next() {

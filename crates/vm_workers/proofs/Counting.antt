@@ -6,18 +6,29 @@ use Rattle.vm_step.specs.Prelude.{View}
 use Rattle.vm_workers.specs.Entries.{HasThree, SaysThree, three_of}
 
 -- one entry more of a number counts
-counts-more : (n count said : ℕ) (h : List (Entry ℕ)) → entries_under n (h ++ record { number = n; count = count; said = said } ∷ []) ≡ entries_under n h + 1
+counts-more : (n count said : ℕ) (h : List (Entry ℕ)) → entries_under n (h ++ record {
+  number = n;
+  count = count;
+  said = said;
+} ∷ []) ≡ entries_under n h + 1
 counts-more n count said [] = let one : ◌≡◌ {A = ℕ} (if n == n then 1 else 0) 1 = rw (eq-eqb n n refl) refl in omega (arith, one)
 counts-more n count said (e ∷ h) =
-    let rest : entries_under n (h ++ record { number = n; count = count; said = said } ∷ []) ≡ entries_under n h + 1 = counts-more n count said h in
+    let rest : entries_under n (h ++ record {
+      number = n;
+      count = count;
+      said = said;
+    } ∷ []) ≡ entries_under n h + 1 = counts-more n count said h in
     omega (arith, rest)
 
 -- a pass whose first number is n makes that number's next entry
-said-next : (v w : View ℕ) (said n : ℕ) → slice_index v.used 0 ≡ n → w.mine ≡ v.mine ++ entries_of v (Some said) → w.mine ≡ v.mine ++ record { number = n; count = entries_under n v.mine + 1; said = said } ∷ []
-said-next v w said n used more = more ∙ (λ i. v.mine ++ record { number = used i; count = entries_under (used i) v.mine + 1; said = said } ∷ [])
+said-next : (v w : View ℕ) (said n : ℕ) → slice_index v.used 0 ≡ n → w.mine ≡ v.mine ++ entries_of v (Some said)
+    → w.mine ≡ v.mine ++ record { number = n; count = entries_under n v.mine + 1; said = said } ∷ []
+said-next v w said n used more =
+    more ∙ (λ i. v.mine ++ record { number = used i; count = entries_under (used i) v.mine + 1; said = said } ∷ [])
 
 pub says-three : (v a b c d : View ℕ) (said : ℕ) → (a.used ≡ v.used) → (b.used ≡ a.used) → (c.used ≡ b.used) → (d.used ≡ c.used)
-    → a.mine ≡ v.mine → b.mine ≡ a.mine ++ entries_of a (Some said) → c.mine ≡ b.mine ++ entries_of b (Some said) → d.mine ≡ c.mine ++ entries_of c (Some said) → SaysThree said v d
+    → a.mine ≡ v.mine → b.mine ≡ a.mine ++ entries_of a (Some said) → c.mine ≡ b.mine ++ entries_of b (Some said)
+    → d.mine ≡ c.mine ++ entries_of c (Some said) → SaysThree said v d
 says-three v a b c d said ua ub uc ud ma mb mc md =
     let n : ℕ = slice_index v.used 0 in
     let k : ℕ = entries_under n v.mine in
@@ -35,7 +46,9 @@ says-three v a b c d said ua ub uc ud ma mb mc md =
     record {
       used = ud ∙ uc ∙ ub ∙ ua;
       mine = three
-          ∙ ap (λ l. l ++ entry (k + 3) ∷ []) (two ∙ ap (λ l. l ++ entry (k + 2) ∷ []) one ∙ append_assoc v.mine (entry (k + 1) ∷ []) (entry (k + 2) ∷ []))
+          ∙ ap (λ l. l ++ entry (k + 3) ∷ [])
+          (two ∙ ap (λ l. l ++ entry (k + 2) ∷ []) one ∙ append_assoc v.mine (entry (k + 1) ∷ [])
+          (entry (k + 2) ∷ []))
           ∙ append_assoc v.mine (entry (k + 1) ∷ entry (k + 2) ∷ []) (entry (k + 3) ∷ []);
     }
 

@@ -4,7 +4,7 @@ use Rattle.std.proofs.Common.{[], ⊎_elim, ◌<◌, ◌∙◌, ◌≡◌, ◌�
 use Rattle.std.proofs.lemmas.Bool.{cases_eq}
 use Rattle.vm_rule.specs.Prelude.{HoldsNoPage, Seat, seat_of, Start, TableId}
 use Rattle.vm_rule.proofs.Entries.{each-map}
-use Rattle.vm_step.specs.Prelude.{AreHeld, Did, HasJoined, HoldsPage, IsAlone, IsReady, MayStep, Pass, PassesSplit, Shape, View, view}
+use Rattle.vm_step.specs.Prelude.{AreHeld, Did, HasJoined, HoldsPage, IsAlone, IsReady, MayStep, Pass, PassesSplit, TableShape, View, view}
 use Rattle.vm_step.specs.Together.{IsNew}
 use Rattle.vm_step.proofs.{HeldFrames.held-on, Still.still-nothing}
 use Rattle.vm_step.proofs.Together.{each-at, holds-none, new-nothing, split-current, split-still, whole-again}
@@ -31,11 +31,16 @@ module _ {X : Type 0} where
   nothing-moved done v w m n =
       nothing-on v w
       (λ q. let same = ap (λ l. seat_of (record v { seats = l }) q) m.pages.0 in
-      record { shares = ap (λ (s : Seat). s.shares) same; exclusive = ap (λ (s : Seat). s.exclusive) same; writing = ap (λ (s : Seat). s.writing) same })
+      record {
+        shares = ap (λ (s : Seat). s.shares) same;
+        exclusive = ap (λ (s : Seat). s.exclusive) same;
+        writing = ap (λ (s : Seat). s.writing) same;
+      })
       m.out n
 
   -- a pass that split others off and took in some holds no page where it held none
-  pub nothing-again : (v x y : View X) (olds news : List (View X)) → PassesSplit v olds x → HasJoined x news y → HoldsNoPage v → HoldsNoPage y
+  pub nothing-again : (v x y : View X) (olds news : List (View X)) → PassesSplit v olds x → HasJoined x news y
+      → HoldsNoPage v → HoldsNoPage y
   nothing-again v x y olds news s j n = j.nothing (still-nothing v x (split-still v olds x s) n)
 
   -- the pass holds what it held, and has its frames
@@ -46,7 +51,12 @@ module _ {X : Type 0} where
     pub frames : w.frames ≡ v.frames
 
   pub holds-read : (p : ℕ) (done : List Did) (v w : View X) → IsQuiet p done v w → HoldsAll v w
-  holds-read p done v w reads = record { holds = reads.holds; out = reads.steady.out; start = reads.steady.start; frames = reads.steady.frames.0 }
+  holds-read p done v w reads = record {
+    holds = reads.holds;
+    out = reads.steady.out;
+    start = reads.steady.start;
+    frames = reads.steady.frames.0;
+  }
 
   pub holds-set : (p frame : ℕ) (dirty : Bool) (i x : ℕ) (v w : View X) → IsSet p frame dirty i x v w → HoldsAll v w
   holds-set p frame dirty i x v w set = record {
@@ -58,7 +68,11 @@ module _ {X : Type 0} where
 
   pub holds-both : (u v w : View X) → HoldsAll u v → HoldsAll v w → HoldsAll u w
   holds-both u v w a b = record {
-    holds = λ q. record { shares = (b.holds q).shares ∙ (a.holds q).shares; exclusive = (b.holds q).exclusive ∙ (a.holds q).exclusive; writing = (b.holds q).writing ∙ (a.holds q).writing };
+    holds = λ q. record {
+      shares = (b.holds q).shares ∙ (a.holds q).shares;
+      exclusive = (b.holds q).exclusive ∙ (a.holds q).exclusive;
+      writing = (b.holds q).writing ∙ (a.holds q).writing;
+    };
     out = b.out ∙ a.out;
     start = b.start ∙ a.start;
     frames = b.frames ∙ a.frames;
@@ -80,7 +94,11 @@ module _ {X : Type 0} where
         let one = locked.elsewhere.holds q ne in
         let two = amid.holds q in
         let three = released.elsewhere.holds q ne in
-        record { shares = three.shares ∙ two.shares ∙ one.shares; exclusive = three.exclusive ∙ two.exclusive ∙ one.exclusive; writing = three.writing ∙ two.writing ∙ one.writing })
+        record {
+          shares = three.shares ∙ two.shares ∙ one.shares;
+          exclusive = three.exclusive ∙ two.exclusive ∙ one.exclusive;
+          writing = three.writing ∙ two.writing ∙ one.writing;
+        })
         (cases_eq q p)
 
     pub put-nothing : HoldsNoPage v → HoldsNoPage w
@@ -93,17 +111,23 @@ module _ {X : Type 0} where
 
 -- ---- passes that were split off for the workers
 
-module _ {U X : Type 0} {o : _} (shape : Shape) (tells : Bool) (t : TableId) where
+module _ {U X : Type 0} {o : _} (shape : TableShape) (tells : Bool) (t : TableId) where
   -- a new pass may begin, as it was lent
-  pub may-begin : (v x : View X) (lent ps : List (Pass U X o)) → lent ≡ ps → PassesSplit v (map (λ p. view p) ps) x → All (λ p. IsReady shape tells t p) ps → All (λ p. MayStartWork shape tells t [] p) lent
+  pub may-begin : (v x : View X) (lent ps : List (Pass U X o)) → lent ≡ ps → PassesSplit v (map (λ p. view p) ps) x
+      → All (λ p. IsReady shape tells t p) ps → All (λ p. MayStartWork shape tells t [] p) lent
   may-begin v x lent ps value s ready =
       subst (λ (l : List (Pass U X o)). All (λ p. MayStartWork shape tells t [] p) l) (sym value) (λ k d l. record {
         ready = ready k d l;
-        nothing = each-at HoldsNoPage (λ p. view p) ps (each-map (IsNew x) HoldsNoPage (λ w n. holds-none w (new-nothing x.start w.used x.releases x.seen w n.new)) (map (λ p. view p) ps) s.each) k d l;
+        nothing = each-at HoldsNoPage (λ p. view p) ps
+            (each-map (IsNew x) HoldsNoPage
+            (λ w n. holds-none w (new-nothing x.start w.used x.releases x.seen w n.new)) (map (λ p. view p) ps)
+            s.each) k d l;
         held = record { apart = tt; inside = tt; held = tt };
       })
 
-  module _ (old new : List (Pass U X o)) (count : length new ≡ length old) (done : (i : ℕ) (d : Pass U X o) → i < length old → HasPut shape tells t (slice_index_or old i d) (slice_index_or new i d)) where
+  module _ (old new : List (Pass U X o)) (count : length new ≡ length old)
+      (done : (i : ℕ) (d : Pass U X o) → i < length old → HasPut shape tells t (slice_index_or old i d)
+      (slice_index_or new i d)) where
     pub each-step : All (λ p. MayStep t p) new
     each-step k d l = (done k d (omega (arith, l, count))).may.ready.may
 
@@ -111,11 +135,14 @@ module _ {U X : Type 0} {o : _} (shape : Shape) (tells : Bool) (t : TableId) whe
     each-nothing k d l = (done k d (omega (arith, l, count))).may.nothing
 
     -- the pass that took all in is alone again
-    pub alone-again : (v x y : View X) (given : List (Pass U X o)) → old ≡ given → PassesSplit v (map (λ p. view p) given) x → HasJoined x (map (λ p. view p) new) y → IsAlone v → IsAlone y
+    pub alone-again : (v x y : View X) (given : List (Pass U X o)) → old ≡ given
+        → PassesSplit v (map (λ p. view p) given) x → HasJoined x (map (λ p. view p) new) y → IsAlone v → IsAlone y
     alone-again v x y given value s j alone =
-        let lent : PassesSplit v (map (λ p. view p) old) x = subst (λ (l : List (Pass U X o)). PassesSplit v (map (λ p. view p) l) x) (sym value) s in (
+        let lent : PassesSplit v (map (λ p. view p) old) x =
+        subst (λ (l : List (Pass U X o)). PassesSplit v (map (λ p. view p) l) x) (sym value) s in (
           whole-again v x y (map (λ p. view p) old) (map (λ p. view p) new) lent j
-              (λ k. parts-kept (λ (p : Pass U X o). view p) k old new count (λ i d l. let kept = (done i d l).parts in (kept.used, kept.fresh)))
+              (λ k. parts-kept (λ (p : Pass U X o). view p) k old new count (λ i d l. let kept = (done i d l).parts in
+              (kept.used, kept.fresh)))
               alone.0,
           j.current (split-current v (map (λ p. view p) old) x lent),
         )

@@ -6,7 +6,11 @@ use Rattle.vm_step.specs.Prelude.{View}
 -- what is said three times under this number, where it was used so often before
 abbrev pub three_of : ℕ → ℕ → ℕ → List (Entry ℕ)
 three_of number before said =
-    record { number = number; count = before + 1; said = said } ∷ record { number = number; count = before + 2; said = said } ∷ record { number = number; count = before + 3; said = said } ∷ []
+    record {
+      number = number;
+      count = before + 1;
+      said = said;
+    } ∷ record { number = number; count = before + 2; said = said } ∷ record { number = number; count = before + 3; said = said } ∷ []
 
 -- a pass made these three entries under its first number, with that number's next counts, and no others
 pub record SaysThree (said : ℕ) (v w : View ℕ) : Type 0 where

@@ -2,10 +2,10 @@
 ghost use Rattle.std.specs.Prelude.{[], ◌<◌, ◌≡◌, IfOk, length, map, true};
 ghost use Rattle.vm_page.specs.Sizes.{IsSize};
 ghost use Rattle.vm_rule.specs.Prelude.{block_words, IsStarted, MayBegin};
-ghost use Rattle.vm_step.specs.Prelude.{IsReady, IsSamePass, view};
+ghost use Rattle.vm_step.specs.Prelude.{GoesOn, IsReadyOn, view};
 ghost use Rattle.vm_workers.specs.Entries.{HasThree, SaysThree};
 
-use crate::tally::Tally;
+use crate::tally::AllowAll;
 use std::alloc::Global;
 use vm_block::{Block, PageBlock};
 use vm_core::Memory;
@@ -32,21 +32,20 @@ impl From<Memory> for Untold {
 }
 
 /// A pool, with the pass that made the entries.
-pub struct Told<B: Block, const N: usize> {
-    pub pool: Pool<Tally, B, N>,
-    pub pass: Pass<Tally>,
+pub struct ThreeEntries<B: Block, const N: usize> {
+    pub pool: Pool<AllowAll, B, N>,
+    pub pass: Pass<AllowAll>,
 }
 
 /// Reads the page, and validates the read three times; each time the page's number becomes an entry.
 pub fn say_three<B: Block>(
-    words: &Words<Tally, B>,
-    pass: &mut Pass<Tally>,
+    words: &Words<AllowAll, B>,
+    pass: &mut Pass<AllowAll>,
     p: u32,
 ) -> Result<(), Deny>
-    requires ready { IsReady words.now.table.shared.key B.tells words.now.table.shared.table_id pass.old }
+    requires ready { IsReadyOn words.now B.tells pass.old }
     requires page { p < words.now.table.shared.key.pages }
-    ensures pass { IsSamePass pass.old pass.new }
-    ensures ready { IsReady words.now.table.shared.key B.tells words.now.table.shared.table_id pass.new }
+    ensures goes { GoesOn words.now B.tells pass.old pass.new }
     ensures said { IfOk result (λ _. SaysThree p (view pass.old) (view pass.new)) }
 {
     let guard = OptGuard::start(words, pass, p)?;
@@ -68,11 +67,11 @@ pub fn three_entries<B: PageBlock<N> + Drop, const N: usize>(
     shape: Shape,
     blocks: Vec<B>,
     p: u32,
-) -> Result<Told<B, N>, Untold>
+) -> Result<ThreeEntries<B, N>, Untold>
     requires sized { IsSize N }
     requires pages { shape.pages ≡ length blocks.items }
     requires fits { IsStarted shape.first_version shape.next shape.frames (length blocks.items) }
-    requires begins { B.tells ≡ true → MayBegin ⟦<Tally as Owner>⟧.keeps shape.next [] (block_words (map B.stored blocks.items)) }
+    requires begins { B.tells ≡ true → MayBegin ⟦<AllowAll as Owner>⟧.keeps shape.next [] (block_words (map B.stored blocks.items)) }
     requires page { p < shape.pages }
     ensures told { IfOk result (λ told. HasThree p (view told.pass)) }
 {
@@ -83,7 +82,7 @@ pub fn three_entries<B: PageBlock<N> + Drop, const N: usize>(
         return Err(Untold::Out(answer));
     }
     match say_three(&pool.words, &mut pass, p) {
-        Ok(()) => Ok(Told { pool, pass }),
+        Ok(()) => Ok(ThreeEntries { pool, pass }),
         Err(deny) => Err(Untold::Denied(deny)),
     }
 }

@@ -1,10 +1,10 @@
 // The passes of workers are joined, one after another.
 ghost use Rattle.std.specs.Prelude.{All};
 ghost use Rattle.vm_rule.specs.Prelude.{HoldsNoPage};
-ghost use Rattle.vm_step.specs.Prelude.{HasJoined, IsSamePass, MayStep, view};
+ghost use Rattle.vm_step.specs.Prelude.{GoesOn, HasJoined, IsReadyOn, MayStep, view};
 ghost use Rattle.vm_workers.specs.Works.{views_of};
 
-use crate::worker::Worker;
+use crate::worker::PageWorker;
 use vm_block::Block;
 use vm_owner::Owner;
 use vm_pool::Pool;
@@ -14,17 +14,16 @@ use vm_rule::words::Pass;
 pub fn join_workers<U: Owner, B: Block, const N: usize>(
     pool: &Pool<U, B, N>,
     pass: &mut Pass<U>,
-    workers: Vec<Worker<U>>,
+    workers: Vec<PageWorker<U>>,
 )
-    requires pass { MayStep pool.now.words.table.shared.table_id pass.old }
+    requires ready { IsReadyOn pool.now.words B.tells pass.old }
     requires each { All (λ w. MayStep pool.now.words.table.shared.table_id w.pass) workers.items }
     requires nothing { All (λ w. HoldsNoPage (view w.pass)) workers.items }
-    ensures pass { IsSamePass pass.old pass.new }
-    ensures may { MayStep pool.now.words.table.shared.table_id pass.new }
+    ensures goes { GoesOn pool.now.words B.tells pass.old pass.new }
     ensures joined { HasJoined (view pass.old) (views_of workers.items) (view pass.new) }
 {
     for worker in workers {
-        let Worker {
+        let PageWorker {
             pass: other,
             iface: _,
             job: _,

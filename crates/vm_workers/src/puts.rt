@@ -2,7 +2,7 @@
 // its frames back. Their passes are joined afterwards, so that the first pass has all parts again.
 ghost use Rattle.std.specs.Prelude.{[], ◌<◌, ◌≡◌, ◌≤◌, All, IfErr, length, slice_index_or, ℕ};
 ghost use Rattle.vm_rule.specs.Prelude.{HoldsNoPage};
-ghost use Rattle.vm_step.specs.Prelude.{IsAlone, IsReady, IsSamePass, view};
+ghost use Rattle.vm_step.specs.Prelude.{GoesOn, IsAlone, IsReadyOn, IsSamePass, view};
 ghost use Rattle.vm_workers.specs.Puts.{HasPages, HasPut, KeepsParts, MayStartWork};
 
 use std::alloc::Global;
@@ -141,13 +141,12 @@ pub fn put_and_join<R: Threads + Sync, B: PageBlock<N> + Drop + Send + Sync, con
     pass: &mut Pass<Bare>,
     n: usize,
 ) -> Result<(), Memory>
-    requires ready { IsReady pool.now.words.table.shared.key B.tells pool.now.words.table.shared.table_id pass.old }
+    requires ready { IsReadyOn pool.now.words B.tells pass.old }
     requires alone { IsAlone (view pass.old) }
     requires holds { HoldsNoPage (view pass.old) }
     requires pages { HasPages pool.now.words.table.shared.key }
     requires parts { n ≤ length (view pass.old).fresh }
-    ensures pass { IsSamePass pass.old pass.new }
-    ensures ready { IsReady pool.now.words.table.shared.key B.tells pool.now.words.table.shared.table_id pass.new }
+    ensures goes { GoesOn pool.now.words B.tells pass.old pass.new }
     ensures alone { IsAlone (view pass.new) }
     ensures holds { HoldsNoPage (view pass.new) }
     ensures refused { IfErr result (λ _. pass.new ≡ pass.old) }

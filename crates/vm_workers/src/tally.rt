@@ -1,10 +1,10 @@
 // A layer that allows every entry, and workers that make some: the entries of each are found in the history of the pass that took them all in.
 ghost use Rattle.std.specs.Prelude.{◌<◌, ◌≡◌, All, length, slice_index_or, ℕ};
-ghost use Rattle.vm_step.specs.Prelude.{IsReady, IsSamePass, MayStep, view};
+ghost use Rattle.vm_step.specs.Prelude.{GoesOn, IsReadyOn, view};
 ghost use Rattle.vm_workers.specs.Works.{AreFound, AreTallied, HasFoundWord, HasSaid, MakesEntries, MayWork};
 
 use crate::joins::join_workers;
-use crate::worker::Worker;
+use crate::worker::PageWorker;
 use std::thread;
 use std::thread::Threads;
 use vm_block::Block;
@@ -15,9 +15,9 @@ use vm_step::{look, look_silently};
 
 /// An owner that keeps nothing and allows every entry.
 #[derive(Drop)]
-pub struct Tally;
+pub struct AllowAll;
 
-impl Owner for Tally {
+impl Owner for AllowAll {
     type Said = u32;
 
     ghost keeps = { λ _ _. Unit {0} };
@@ -44,11 +44,10 @@ impl Owner for Tally {
 }
 
 /// One call: the page's state word, by a look that says the page's number where it validates the look before it.
-fn call<B: Block>(words: &Words<Tally, B>, pass: &mut Pass<Tally>, p: u32) -> u64
-    requires ready { IsReady words.now.table.shared.key B.tells words.now.table.shared.table_id pass.old }
+fn call<B: Block>(words: &Words<AllowAll, B>, pass: &mut Pass<AllowAll>, p: u32) -> u64
+    requires ready { IsReadyOn words.now B.tells pass.old }
     requires page { p < words.now.table.shared.key.pages }
-    ensures pass { IsSamePass pass.old pass.new }
-    ensures ready { IsReady words.now.table.shared.key B.tells words.now.table.shared.table_id pass.new }
+    ensures goes { GoesOn words.now B.tells pass.old pass.new }
     ensures says { MakesEntries (view pass.old) (view pass.new) }
     ensures found { HasFoundWord p result (view pass.old) (view pass.new) }
 {
@@ -58,16 +57,15 @@ fn call<B: Block>(words: &Words<Tally, B>, pass: &mut Pass<Tally>, p: u32) -> u6
 
 /// The calls of a list, each with its answer.
 fn serve<B: Block>(
-    words: &Words<Tally, B>,
-    pass: &mut Pass<Tally>,
+    words: &Words<AllowAll, B>,
+    pass: &mut Pass<AllowAll>,
     calls: &[u32],
     replies: &mut [u64],
 )
-    requires ready { IsReady words.now.table.shared.key B.tells words.now.table.shared.table_id pass.old }
+    requires ready { IsReadyOn words.now B.tells pass.old }
     requires pages { All (λ p. p < words.now.table.shared.key.pages) calls.now }
     requires room { length replies.old ≡ length calls.now }
-    ensures pass { IsSamePass pass.old pass.new }
-    ensures ready { IsReady words.now.table.shared.key B.tells words.now.table.shared.table_id pass.new }
+    ensures goes { GoesOn words.now B.tells pass.old pass.new }
     ensures says { MakesEntries (view pass.old) (view pass.new) }
     ensures room { length replies.new ≡ length calls.now }
     ensures found { AreFound (length calls.now) calls.now replies.new (view pass.old) (view pass.new) }
@@ -78,7 +76,7 @@ fn serve<B: Block>(
 }
 
 /// The calls of one worker.
-fn work<B: Block>(words: &Words<Tally, B>, worker: &mut Worker<Tally>)
+fn work<B: Block>(words: &Words<AllowAll, B>, worker: &mut PageWorker<AllowAll>)
     requires may { MayWork words.now.table.shared.key B.tells words.now.table.shared.table_id worker.old }
     ensures done { HasSaid words.now.table.shared.key B.tells words.now.table.shared.table_id worker.old worker.new }
 {
@@ -93,8 +91,8 @@ fn work<B: Block>(words: &Words<Tally, B>, worker: &mut Worker<Tally>)
 /// Each worker makes its calls, in as many threads as there are workers where those can be had.
 pub fn tally_all<R: Threads + Sync, B: Block + Send + Sync>(
     rt: &R,
-    words: &Words<Tally, B>,
-    workers: &mut [Worker<Tally>],
+    words: &Words<AllowAll, B>,
+    workers: &mut [PageWorker<AllowAll>],
 )
     requires may { All (λ w. MayWork words.now.table.shared.key B.tells words.now.table.shared.table_id w) workers.old }
     ensures count { length workers.new ≡ length workers.old }
@@ -109,14 +107,13 @@ pub fn tally_all<R: Threads + Sync, B: Block + Send + Sync>(
 /// The workers make their calls, each with its own pass, and then their passes are taken into this one.
 pub fn tally_and_join<R: Threads + Sync, B: Block + Send + Sync, const N: usize>(
     rt: &R,
-    pool: &Pool<Tally, B, N>,
-    pass: &mut Pass<Tally>,
-    mut workers: Vec<Worker<Tally>>,
+    pool: &Pool<AllowAll, B, N>,
+    pass: &mut Pass<AllowAll>,
+    mut workers: Vec<PageWorker<AllowAll>>,
 )
-    requires ready { IsReady pool.now.words.table.shared.key B.tells pool.now.words.table.shared.table_id pass.old }
+    requires ready { IsReadyOn pool.now.words B.tells pass.old }
     requires may { All (λ w. MayWork pool.now.words.table.shared.key B.tells pool.now.words.table.shared.table_id w) workers.items }
-    ensures pass { IsSamePass pass.old pass.new }
-    ensures may { MayStep pool.now.words.table.shared.table_id pass.new }
+    ensures goes { GoesOn pool.now.words B.tells pass.old pass.new }
     ensures joined { AreTallied pool.now.words.table.shared.key B.tells pool.now.words.table.shared.table_id workers.items (view pass.old) (view pass.new) }
 {
     tally_all(rt, &pool.words, workers.as_mut_slice());

@@ -1,10 +1,10 @@
 // The parallel walk: workers that look at pages, each with its own pass.
 ghost use Rattle.std.specs.Prelude.{◌<◌, ◌≡◌, All, length, slice_index_or, ℕ};
-ghost use Rattle.vm_step.specs.Prelude.{IsReady, IsSamePass, MayStep, view};
+ghost use Rattle.vm_step.specs.Prelude.{GoesOn, IsReadyOn, view};
 ghost use Rattle.vm_workers.specs.Works.{AreDoneAndJoined, AreFound, HasDoneJob, HasFoundWord, MayWork, SaysNothing};
 
 use crate::joins::join_workers;
-use crate::worker::Worker;
+use crate::worker::PageWorker;
 use std::thread;
 use std::thread::Threads;
 use vm_block::Block;
@@ -15,10 +15,9 @@ use vm_step::look_silently;
 
 /// One call: the page's state word.
 fn call<U: Owner, B: Block>(words: &Words<U, B>, pass: &mut Pass<U>, p: u32) -> u64
-    requires ready { IsReady words.now.table.shared.key B.tells words.now.table.shared.table_id pass.old }
+    requires ready { IsReadyOn words.now B.tells pass.old }
     requires page { p < words.now.table.shared.key.pages }
-    ensures pass { IsSamePass pass.old pass.new }
-    ensures ready { IsReady words.now.table.shared.key B.tells words.now.table.shared.table_id pass.new }
+    ensures goes { GoesOn words.now B.tells pass.old pass.new }
     ensures stays { SaysNothing (view pass.old) (view pass.new) }
     ensures found { HasFoundWord p result (view pass.old) (view pass.new) }
 {
@@ -32,11 +31,10 @@ fn serve<U: Owner, B: Block>(
     calls: &[u32],
     replies: &mut [u64],
 )
-    requires ready { IsReady words.now.table.shared.key B.tells words.now.table.shared.table_id pass.old }
+    requires ready { IsReadyOn words.now B.tells pass.old }
     requires pages { All (λ p. p < words.now.table.shared.key.pages) calls.now }
     requires room { length replies.old ≡ length calls.now }
-    ensures pass { IsSamePass pass.old pass.new }
-    ensures ready { IsReady words.now.table.shared.key B.tells words.now.table.shared.table_id pass.new }
+    ensures goes { GoesOn words.now B.tells pass.old pass.new }
     ensures stays { SaysNothing (view pass.old) (view pass.new) }
     ensures room { length replies.new ≡ length calls.now }
     ensures found { AreFound (length calls.now) calls.now replies.new (view pass.old) (view pass.new) }
@@ -47,7 +45,7 @@ fn serve<U: Owner, B: Block>(
 }
 
 /// The calls of one worker.
-fn work<U: Owner, B: Block>(words: &Words<U, B>, worker: &mut Worker<U>)
+fn work<U: Owner, B: Block>(words: &Words<U, B>, worker: &mut PageWorker<U>)
     requires may { MayWork words.now.table.shared.key B.tells words.now.table.shared.table_id worker.old }
     ensures done { HasDoneJob words.now.table.shared.key B.tells words.now.table.shared.table_id worker.old worker.new }
 {
@@ -63,7 +61,7 @@ fn work<U: Owner, B: Block>(words: &Words<U, B>, worker: &mut Worker<U>)
 pub fn run_all<R: Threads + Sync, U: Owner + Send + Sync, B: Block + Send + Sync>(
     rt: &R,
     words: &Words<U, B>,
-    workers: &mut [Worker<U>],
+    workers: &mut [PageWorker<U>],
 )
     requires may { All (λ w. MayWork words.now.table.shared.key B.tells words.now.table.shared.table_id w) workers.old }
     ensures count { length workers.new ≡ length workers.old }
@@ -81,11 +79,10 @@ pub fn run_and_join<
     U: Owner + Send + Sync,
     B: Block + Send + Sync,
     const N: usize,
->(rt: &R, pool: &Pool<U, B, N>, pass: &mut Pass<U>, mut workers: Vec<Worker<U>>)
-    requires ready { IsReady pool.now.words.table.shared.key B.tells pool.now.words.table.shared.table_id pass.old }
+>(rt: &R, pool: &Pool<U, B, N>, pass: &mut Pass<U>, mut workers: Vec<PageWorker<U>>)
+    requires ready { IsReadyOn pool.now.words B.tells pass.old }
     requires may { All (λ w. MayWork pool.now.words.table.shared.key B.tells pool.now.words.table.shared.table_id w) workers.items }
-    ensures pass { IsSamePass pass.old pass.new }
-    ensures may { MayStep pool.now.words.table.shared.table_id pass.new }
+    ensures goes { GoesOn pool.now.words B.tells pass.old pass.new }
     ensures joined { AreDoneAndJoined pool.now.words.table.shared.key B.tells pool.now.words.table.shared.table_id workers.items (view pass.old) (view pass.new) }
 {
     run_all(rt, &pool.words, workers.as_mut_slice());

@@ -13,7 +13,7 @@ pub struct Job {
 
 /// A worker: its pass, its interface and its job.
 #[derive(Drop)]
-pub struct Worker<U: Owner> {
+pub struct PageWorker<U: Owner> {
     pub pass: Pass<U>,
     pub iface: Interface,
     pub job: Job,

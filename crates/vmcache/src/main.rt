@@ -7,7 +7,7 @@ use std::io::ErrorKind;
 use std::process::ExitCode;
 use vm_cli::ends::Ends;
 use vm_cli::run::run;
-use vm_drive::gate::Open;
+use vm_drive::gate::NoGate;
 use vm_io::system::StdHost;
 
 fn main(rt: HostRuntime) -> ExitCode {
@@ -24,7 +24,7 @@ fn main(rt: HostRuntime) -> ExitCode {
     };
     let mut host = StdHost::new(&rt, alloc);
     let mut ends = Ends::Nothing;
-    ExitCode::from(run(&rt, alloc, words.as_slice(), &mut host, &Open, &mut ends))
+    ExitCode::from(run(&rt, alloc, words.as_slice(), &mut host, &NoGate, &mut ends))
 }
 
 // The words after the program's name.

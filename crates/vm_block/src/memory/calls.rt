@@ -1,15 +1,15 @@
 //! The calls of a block in memory.
 
-ghost use Rattle.std.specs.Prelude.{◌≡◌, ℕ, ◌-◌, ◌^◌, ◌≤◌, length, true, IfOk, is_ok, not};
+ghost use Rattle.std.specs.Prelude.{◌≡◌, ◌-◌, length, true, IfOk, is_ok, not};
 ghost use Rattle.vm_page.specs.Sizes.{IsSize};
 ghost use Rattle.vm_block.specs.Blocks.{Reads, Writes};
 ghost use Rattle.vm_block.specs.Memory.{stored_of, words_of, fails_next, IsBlockFrom, IsNewBlock, IsNextCall};
 
-use crate::block::{Block, Failed, PageBlock};
+use crate::block::{Block, PageBlock};
 use crate::memory::MemBlock;
 use crate::plan::Plan;
 use std::alloc::{AllocError, Global};
-use vm_page::PageBuf;
+use vm_page::{Failed, PageBuf};
 
 impl<const N: usize> MemBlock<N> {
     /// A block that holds the words and fails exactly the calls whose numbers are in the plan. Reads and writes are numbered together,

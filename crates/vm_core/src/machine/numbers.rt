@@ -1,7 +1,7 @@
 //! The events on free-number words: page numbers go to an actor and become free; and the hold of a number that ends.
 
 ghost use Rattle.std.specs.Prelude.{◌*◌, ◌<◌, ◌↔◌, ◌≡◌, false, IsTrue, true, ℕ};
-ghost use Rattle.vm_core.specs.Prelude.{core_of, has_free_bit, in_mask, Steps, upd};
+ghost use Rattle.vm_core.specs.Prelude.{core_of, in_mask, Steps, upd};
 ghost use Rattle.vm_core.specs.Step.{keeps_number, MayGiveNumbers, MayTakeNumbers, NamesSpares, numbers_given, numbers_taken};
 
 use crate::event::{Event, Illegal, Seen};

@@ -1,27 +1,38 @@
 -- A mark that is set or taken away: it leaves all that the pass has and knows; that the table allows it, and that it is its event.
-use Rattle.vm_rule.specs.declared.view.Place.TheVariants as places
+use Rattle.vm_rule.specs.declared.view.WordPlace.TheVariants as places
 use Rattle.vm_step.proofs.{Fit.fit, Here.world, Standing.allows}
-use Rattle.vm_step.proofs.Exchange.{draft-stays, exchange-event, exchange-settles, exchanged_at, IsExchange, mark-exchange, tried, unmark-exchange}
-use Rattle.vm_step.proofs.Exchange.{word-shows}
-use Rattle.vm_step.proofs.Prelude.{[], actor_of, AllowsStep, ap, became, Bool, Brings, did_exchange, each-upd, either, eqb, Event, false, get_elem?}
-use Rattle.vm_step.proofs.Prelude.{if◌then◌else◌, IsPlacedAt, Kept, KnowsPage, length, List, Mark, MARKED, MarkIsItsEvent, MarkTold, no_held, Option, Origin}
-use Rattle.vm_step.proofs.Prelude.{Page, put_at, refl, Ruled, seat_of, Shape, slice_index, some, Stands, Start, state_of, Stored, subst, sym, Table, told_of}
-use Rattle.vm_step.proofs.Prelude.{true, UNLOCKED, Unmark, UnmarkIsItsEvent, version_of, View, word_of, ℕ, ◌<◌, ◌≡◌}
+use Rattle.vm_step.proofs.Exchange.{draft-stays, exchange-event, exchange-settles, exchanged_at, IsExchange}
+use Rattle.vm_step.proofs.Exchange.{mark-exchange, tried, unmark-exchange, word-shows}
+use Rattle.vm_step.proofs.Prelude.{[], actor_of, AllowsStep, ap, became, Bool, Brings, did_exchange, each-upd, either}
+use Rattle.vm_step.proofs.Prelude.{eqb, Event, false, get_elem?, if◌then◌else◌, IsPlacedAt, Kept, KnowsPage, length}
+use Rattle.vm_step.proofs.Prelude.{List, Mark, MARKED, MarkIsItsEvent, MarkTold, no_held, Option, Origin, Page}
+use Rattle.vm_step.proofs.Prelude.{put_at, refl, Ruled, seat_of, slice_index, some, Stands, Start, state_of, Stored}
+use Rattle.vm_step.proofs.Prelude.{subst, sym, Table, TableShape, told_of, true, UNLOCKED, Unmark, UnmarkIsItsEvent}
+use Rattle.vm_step.proofs.Prelude.{version_of, View, word_of, ℕ, ◌<◌, ◌≡◌}
 
 -- taken or lost, it leaves the view
 pub same-either : {A : Type 0} (x : A) (b : Bool) → (if b then x else x) ≡ x
 same-either x true = refl
 same-either x false = refl
 
-module _ {X B : Type 0} (stored : B → Stored) (keeps : Start → Kept X → Type 0) (tied : Start → ℕ → List ℕ → ℕ → List ℕ → Type 0) (start : Origin) (tells : Bool) (s : Table (Option B) (View X)) (r : Ruled stored keeps tied start tells s)
-    (id : ℕ) (v : View X) (there : get_elem? s.views id ≡ some v) (live : v.live ≡ true) (number : 0 < length v.used) (p expects : ℕ) (l : p < start.pages) where
+module _ {X B : Type 0} (stored : B → Stored) (keeps : Start → Kept X → Type 0)
+    (tied : Start → ℕ → List ℕ → ℕ → List ℕ → Type 0) (start : Origin) (tells : Bool) (s : Table (Option B) (View X))
+    (r : Ruled stored keeps tied start tells s)
+    (id : ℕ) (v : View X) (there : get_elem? s.views id ≡ some v) (live : v.live ≡ true) (number : 0 < length v.used)
+    (p expects : ℕ) (l : p < start.pages) where
   -- an event that changes the state of the page alone, taken or lost, keeps the rule and tells what it is to tell
-  pub mark-tells : (x state : ℕ) (e : Event) → actor_of e ≡ id → IsExchange stored start s r.releases r.drafts id p expects x r.drafts v e (record ((world stored keeps tied start tells s r).core.pages p) { state = state })
-      → (w : View X) × Ruled stored keeps tied start tells (became stored keeps tied start tells s (exchanged_at stored keeps tied start tells s r id v there live number (places.State p) expects x l) id w) × MarkTold p expects (slice_index s.words p) x v w
+  pub mark-tells : (x state : ℕ) (e : Event) → actor_of e ≡ id → IsExchange stored start s r.releases r.drafts id p
+      expects x r.drafts v e (record ((world stored keeps tied start tells s r).core.pages p) { state = state })
+      → (w : View X) × Ruled stored keeps tied start tells
+      (became stored keeps tied start tells s
+      (exchanged_at stored keeps tied start tells s r id v there live number (places.State p) expects x l) id w)
+      × MarkTold p expects (slice_index s.words p) x v w
   mark-tells x state e actor is =
       let y : Page = record ((world stored keeps tied start tells s r).core.pages p) { state = state } in
       let k = tried stored keeps tied start tells s r id v there live number p expects x l r.drafts v e y actor is
-      (λ hit. word-shows stored keeps tied start tells s r id v there live p l (did_exchange (places.State p) expects (slice_index s.words p) x) x r.drafts e y v.seats v.loads v.held v.drafts
+      (λ hit. word-shows stored keeps tied start tells s r id v there live p l
+      (did_exchange (places.State p) expects (slice_index s.words p) x) x r.drafts e y v.seats v.loads v.held
+      v.drafts
       (exchange-settles stored keeps tied start tells s r id v there live p l expects x hit r.drafts v e y is)
       (λ o out. (r.blocks.away id v o there out).1)
       (λ q m. m)
@@ -33,31 +44,61 @@ module _ {X B : Type 0} (stored : B → Stored) (keeps : Start → Kept X → Ty
       (draft-stays stored keeps tied start tells s r id v there live p l)) in (
         k.0,
         k.1.rule,
-        record { brings = subst (λ (y : View X). Brings (did_exchange (places.State p) expects (slice_index s.words p) x) [] [] v y k.0) (same-either v (eqb (slice_index s.words p) expects)) k.1.brings; version = k.1.version; since = k.1.since; older = k.1.older },
+        record {
+          brings = subst (λ (y : View X). Brings (did_exchange (places.State p) expects (slice_index s.words p) x) []
+              [] v y k.0) (same-either v (eqb (slice_index s.words p) expects)) k.1.brings;
+          version = k.1.version;
+          since = k.1.since;
+          older = k.1.older;
+        },
       )
 
-module _ {X B : Type 0} (stored : B → Stored) (keeps : Start → Kept X → Type 0) (tied : Start → ℕ → List ℕ → ℕ → List ℕ → Type 0) (tells : Bool) where
+module _ {X B : Type 0} (stored : B → Stored) (keeps : Start → Kept X → Type 0)
+    (tied : Start → ℕ → List ℕ → ℕ → List ℕ → Type 0) (tells : Bool) where
   -- so it does of every table that stands: where the mark is set, and where it is taken away
-  pub mark-allows : (shape : Shape) (slots id : ℕ) (v : View X) (i : ℕ) (p expects x : ℕ) → v.live ≡ true → 0 < length v.used → p < shape.pages → state_of expects ≡ UNLOCKED → x ≡ (word_of MARKED (version_of expects)) → IsPlacedAt shape (places.State p) i
-      → AllowsStep (Stands stored keeps tied shape tells) slots id v i (λ n. either (eqb n expects) x n) (told_of shape tells (λ n v w. MarkTold p expects n (word_of MARKED (version_of expects)) v w))
+  pub mark-allows : (shape : TableShape) (slots id : ℕ) (v : View X) (i : ℕ) (p expects x : ℕ) → v.live ≡ true
+      → 0 < length v.used → p < shape.pages → state_of expects ≡ UNLOCKED → x ≡ (word_of MARKED (version_of expects))
+      → IsPlacedAt shape (places.State p) i
+      → AllowsStep (Stands stored keeps tied shape tells) slots id v i (λ n. either (eqb n expects) x n)
+      (told_of shape tells (λ n v w. MarkTold p expects n (word_of MARKED (version_of expects)) v w))
   mark-allows shape slots id v i p expects x live number l may spells is =
-      allows stored keeps tied shape tells slots id v i (places.State p) (λ n. either (eqb n expects) x n) (λ n. either (eqb n expects) (word_of MARKED (version_of expects)) n) (λ n v w. MarkTold p expects n (word_of MARKED (version_of expects)) v w) live is (λ n. ap (λ z. either (eqb n expects) z n) spells) (λ n w t. fit t.brings live number)
+      allows stored keeps tied shape tells slots id v i (places.State p) (λ n. either (eqb n expects) x n)
+      (λ n. either (eqb n expects) (word_of MARKED (version_of expects)) n)
+      (λ n v w. MarkTold p expects n (word_of MARKED (version_of expects)) v w) live is
+      (λ n. ap (λ z. either (eqb n expects) z n) spells) (λ n w t. fit t.brings live number)
       (λ start has s r there _.
-      mark-tells stored keeps tied start tells s r id v there live number p expects (subst (λ n. p < n) (sym has.pages) l) (word_of MARKED (version_of expects)) MARKED (Mark id p expects) refl
+      mark-tells stored keeps tied start tells s r id v there live number p expects
+      (subst (λ n. p < n) (sym has.pages) l) (word_of MARKED (version_of expects)) MARKED (Mark id p expects) refl
       (mark-exchange stored start s r.releases r.drafts id v p expects r.wide.0 (subst (λ n. p < n) (sym has.pages) l) there may))
 
-  pub unmark-allows : (shape : Shape) (slots id : ℕ) (v : View X) (i : ℕ) (p expects x : ℕ) → v.live ≡ true → 0 < length v.used → p < shape.pages → state_of expects ≡ MARKED → x ≡ (word_of UNLOCKED (version_of expects)) → IsPlacedAt shape (places.State p) i
-      → AllowsStep (Stands stored keeps tied shape tells) slots id v i (λ n. either (eqb n expects) x n) (told_of shape tells (λ n v w. MarkTold p expects n (word_of UNLOCKED (version_of expects)) v w))
+  pub unmark-allows : (shape : TableShape) (slots id : ℕ) (v : View X) (i : ℕ) (p expects x : ℕ) → v.live ≡ true
+      → 0 < length v.used → p < shape.pages → state_of expects ≡ MARKED → x ≡ (word_of UNLOCKED (version_of expects))
+      → IsPlacedAt shape (places.State p) i
+      → AllowsStep (Stands stored keeps tied shape tells) slots id v i (λ n. either (eqb n expects) x n)
+      (told_of shape tells (λ n v w. MarkTold p expects n (word_of UNLOCKED (version_of expects)) v w))
   unmark-allows shape slots id v i p expects x live number l may spells is =
-      allows stored keeps tied shape tells slots id v i (places.State p) (λ n. either (eqb n expects) x n) (λ n. either (eqb n expects) (word_of UNLOCKED (version_of expects)) n) (λ n v w. MarkTold p expects n (word_of UNLOCKED (version_of expects)) v w) live is (λ n. ap (λ z. either (eqb n expects) z n) spells) (λ n w t. fit t.brings live number)
+      allows stored keeps tied shape tells slots id v i (places.State p) (λ n. either (eqb n expects) x n)
+      (λ n. either (eqb n expects) (word_of UNLOCKED (version_of expects)) n)
+      (λ n v w. MarkTold p expects n (word_of UNLOCKED (version_of expects)) v w) live is
+      (λ n. ap (λ z. either (eqb n expects) z n) spells) (λ n w t. fit t.brings live number)
       (λ start has s r there _.
-      mark-tells stored keeps tied start tells s r id v there live number p expects (subst (λ n. p < n) (sym has.pages) l) (word_of UNLOCKED (version_of expects)) UNLOCKED (Unmark id p expects) refl
+      mark-tells stored keeps tied start tells s r id v there live number p expects
+      (subst (λ n. p < n) (sym has.pages) l) (word_of UNLOCKED (version_of expects)) UNLOCKED
+      (Unmark id p expects) refl
       (unmark-exchange stored start s r.releases r.drafts id v p expects r.wide.0 (subst (λ n. p < n) (sym has.pages) l) there may))
 
   pub mark-event : MarkIsItsEvent stored keeps tied tells
   mark-event start s id p expects found v w pass at may told =
-      exchange-event stored start keeps tied tells s id p expects found _ _ _ v _ w _ _ pass at (mark-exchange stored start s [] (λ _. []) id v p expects pass.rule.wide.0 at.0 pass.there may) (subst (λ (y : View X). Brings (did_exchange (places.State p) expects found (word_of MARKED (version_of expects))) [] [] v y w) (sym (same-either v (eqb found expects))) told.brings) refl
+      exchange-event stored start keeps tied tells s id p expects found _ _ _ v _ w _ _ pass
+      at (mark-exchange stored start s [] (λ _. []) id v p expects pass.rule.wide.0 at.0 pass.there may)
+      (subst (λ (y : View X).
+      Brings (did_exchange (places.State p) expects found (word_of MARKED (version_of expects))) [] [] v y w)
+      (sym (same-either v (eqb found expects))) told.brings) refl
 
   pub unmark-event : UnmarkIsItsEvent stored keeps tied tells
   unmark-event start s id p expects found v w pass at may told =
-      exchange-event stored start keeps tied tells s id p expects found _ _ _ v _ w _ _ pass at (unmark-exchange stored start s [] (λ _. []) id v p expects pass.rule.wide.0 at.0 pass.there may) (subst (λ (y : View X). Brings (did_exchange (places.State p) expects found (word_of UNLOCKED (version_of expects))) [] [] v y w) (sym (same-either v (eqb found expects))) told.brings) refl
+      exchange-event stored start keeps tied tells s id p expects found _ _ _ v _ w _ _ pass
+      at (unmark-exchange stored start s [] (λ _. []) id v p expects pass.rule.wide.0 at.0 pass.there may)
+      (subst (λ (y : View X).
+      Brings (did_exchange (places.State p) expects found (word_of UNLOCKED (version_of expects))) [] [] v y w)
+      (sym (same-either v (eqb found expects))) told.brings) refl

@@ -1,35 +1,53 @@
--- A lock for write-back that is tried, on a marked page, and one that becomes exclusive: what they tell; that the table allows them, and that they are
+-- A lock for write-back that is tried, on a marked page, and one that becomes exclusive: what they tell; that the
+-- table allows them, and that they are
 -- their events.
 --
 -- What a lock for write-back leaves that was taken, and one that became exclusive: both speak of one page, whose open read is closed.
-use Rattle.vm_rule.specs.declared.view.Place.TheVariants as places
+use Rattle.vm_rule.specs.declared.view.WordPlace.TheVariants as places
 use Rattle.vm_step.proofs.{Evidenced.taken-view, Fit.either-has, Fit.either-lives, Fit.fit, Here.last, Here.world, Standing.allows}
 use Rattle.vm_step.proofs.Exchange.{exchange-event, free-debt, free-member, free-unheld, held-at, known-held, lockw-exchange, opened}
 use Rattle.vm_step.proofs.Exchange.{known-owner, owner-shows, page_held, sharer-shows, tried, tried-validates, upgrade-exchange}
-use Rattle.vm_step.proofs.Prelude.{[], AllowsStep, ap, arith, Bool, Brings, Did, did_exchange, draft_of, either, eqb, false, Held, held_at, if◌then◌else◌}
-use Rattle.vm_step.proofs.Prelude.{IsHeldAt, IsLocking, IsPlacedAt, Kept, last_of, LeavesRest, length, List, LOCKED, LockW, LockWriteBackIsItsEvent, MARKED}
-use Rattle.vm_step.proofs.Prelude.{may_call, MayRaiseLock, no_held, no_seat, None, or_right, Page, page_at, put, put_at, refl, Seat, seat_of, Shape}
-use Rattle.vm_step.proofs.Prelude.{share_count, slice_index, Stands, Start, state-here, state_of, Stored, subst, sym, told_of, true, upd-other, upd-same}
-use Rattle.vm_step.proofs.Prelude.{Upgrade, upgraded, upgraded_view, UpgradeIsItsEvent, UpgradeTold, Version, version_of, View, word_of, write_locked}
-use Rattle.vm_step.proofs.Prelude.{write_locked_view, WriteLockTold, ℕ, ◌<◌, ◌∙◌, ◌∷◌, ◌≡◌, ◌≢◌}
+use Rattle.vm_step.proofs.Prelude.{[], AllowsStep, ap, arith, Bool, Brings, Did, did_exchange, draft_of, either, eqb}
+use Rattle.vm_step.proofs.Prelude.{false, Held, held_at, if◌then◌else◌, IsHeldAt, IsLocking, IsPlacedAt, Kept}
+use Rattle.vm_step.proofs.Prelude.{last_of, LeavesRest, length, List, LOCKED, LockW, LockWriteBackIsItsEvent, MARKED}
+use Rattle.vm_step.proofs.Prelude.{may_call, MayRaiseLock, no_held, no_seat, None, or_right, Page, page_at, put}
+use Rattle.vm_step.proofs.Prelude.{put_at, refl, Seat, seat_of, TableShape, share_count, slice_index, Stands, Start}
+use Rattle.vm_step.proofs.Prelude.{state-here, state_of, Stored, subst, sym, told_of, true, upd-other, upd-same}
+use Rattle.vm_step.proofs.Prelude.{Upgrade, upgraded, upgraded_view, UpgradeIsItsEvent, UpgradeTold, Version}
+use Rattle.vm_step.proofs.Prelude.{version_of, View, word_of, write_locked, write_locked_view, WriteLockTold, ℕ, ◌<◌}
+use Rattle.vm_step.proofs.Prelude.{◌∙◌, ◌∷◌, ◌≡◌, ◌≢◌}
 use Rattle.vm_step.proofs.steps.Leaving.{apart, last-still, LeavesOthers, LeavesOwn, others-tied, own-from, rest-of}
 
-module _ {X B : Type 0} (stored : B → Stored) (keeps : Start → Kept X → Type 0) (tied : Start → ℕ → List ℕ → ℕ → List ℕ → Type 0) (tells : Bool) where
+module _ {X B : Type 0} (stored : B → Stored) (keeps : Start → Kept X → Type 0)
+    (tied : Start → ℕ → List ℕ → ℕ → List ℕ → Type 0) (tells : Bool) where
   -- taken or lost, either keeps the rule of every table and tells what it is to tell
-  pub lock_write_back-allows : (law : (start : Start) (kept : Kept X) (q p : ℕ) → keeps start kept → q < length kept.pages → p < length kept.pages → tied start q (page_at kept.pages q) p (page_at kept.pages p)) (shape : Shape) (slots id : ℕ) (v : View X) (i : ℕ) (p expects x : ℕ) → v.live ≡ true → 0 < length v.used → p < shape.pages → state_of expects ≡ MARKED → x ≡ (word_of 1 (version_of expects)) → IsPlacedAt shape (places.State p) i
-      → AllowsStep (Stands stored keeps tied shape tells) slots id v i (λ n. either (eqb n expects) x n) (told_of shape tells (WriteLockTold tied p expects))
+  pub lock_write_back-allows : (law : (start : Start) (kept : Kept X) (q p : ℕ) → keeps start kept
+      → q < length kept.pages → p < length kept.pages → tied start q (page_at kept.pages q) p (page_at kept.pages p))
+      (shape : TableShape) (slots id : ℕ) (v : View X) (i : ℕ) (p expects x : ℕ) → v.live ≡ true → 0 < length v.used
+      → p < shape.pages → state_of expects ≡ MARKED → x ≡ (word_of 1 (version_of expects))
+      → IsPlacedAt shape (places.State p) i
+      → AllowsStep (Stands stored keeps tied shape tells) slots id v i (λ n. either (eqb n expects) x n)
+      (told_of shape tells (WriteLockTold tied p expects))
   lock_write_back-allows law shape slots id v i p expects x live number l' may spells is =
-      allows stored keeps tied shape tells slots id v i (places.State p) (λ n. either (eqb n expects) x n) (λ n. either (eqb n expects) (word_of 1 (version_of expects)) n) (WriteLockTold tied p expects) live is (λ n. ap (λ z. either (eqb n expects) z n) spells) (λ n w t. fit t.brings (either-lives _ _ v live live) (either-has _ _ v number number))
+      allows stored keeps tied shape tells slots id v i (places.State p) (λ n. either (eqb n expects) x n)
+      (λ n. either (eqb n expects) (word_of 1 (version_of expects)) n) (WriteLockTold tied p expects) live is
+      (λ n. ap (λ z. either (eqb n expects) z n) spells)
+      (λ n w t. fit t.brings (either-lives _ _ v live live) (either-has _ _ v number number))
       (λ start has s r there _.
       let l : p < start.pages = subst (λ n. p < n) (sym has.pages) l' in
-      let found-state : slice_index s.words p ≡ expects → ((world stored keeps tied start tells s r).core.pages p).state ≡ MARKED = (λ hit. state-here stored start s p l ∙ ap state_of hit ∙ may) in
-      let free : slice_index s.words p ≡ expects → ((world stored keeps tied start tells s r).core.pages p).state ≢ LOCKED = (λ hit e. let is = found-state hit in omega (arith, is, e)) in
+      let found-state : slice_index s.words p ≡ expects
+      → ((world stored keeps tied start tells s r).core.pages p).state ≡ MARKED =
+      (λ hit. state-here stored start s p l ∙ ap state_of hit ∙ may) in
+      let free : slice_index s.words p ≡ expects → ((world stored keeps tied start tells s r).core.pages p).state
+      ≢ LOCKED = (λ hit e. let is = found-state hit in omega (arith, is, e)) in
       let held : Held = page_held stored keeps tied start tells s r p in
       let page : Page = write_locked ((world stored keeps tied start tells s r).core.pages p) id in
       let seat : Seat = record (seat_of v p) { shares = 1; writing = true; reading = None } in
       let taken = lockw-exchange stored start s r.releases r.drafts id v p expects r.wide.0 l there may held in
-      let k = tried stored keeps tied start tells s r id v there live number p expects (word_of 1 (version_of expects)) l r.drafts (write_locked_view p held v) (LockW id p expects) _ refl taken
-      (λ hit. sharer-shows stored keeps tied start tells s r id v there live p l expects (word_of 1 (version_of expects)) hit (LockW id p expects) page seat (put p held v.held) taken
+      let k = tried stored keeps tied start tells s r id v there live number p expects
+      (word_of 1 (version_of expects)) l r.drafts (write_locked_view p held v) (LockW id p expects) _ refl taken
+      (λ hit. sharer-shows stored keeps tied start tells s r id v there live p l expects
+      (word_of 1 (version_of expects)) hit (LockW id p expects) page seat (put p held v.held) taken
       (λ m. or_right (seat_of v p).exclusive true refl) refl
       (λ q ne. upd-other (put_at no_held v.held) p held q ne)
       (known-held stored keeps tied start tells s r p l seat v.held page refl refl refl refl)
@@ -43,27 +61,47 @@ module _ {X B : Type 0} (stored : B → Stored) (keeps : Start → Kept X → Ty
           since = k.1.since;
           older = k.1.older;
           size = k.1.size;
-          stands = λ hit. subst (λ (y : Version). IsHeldAt p expects v.start.frames v.start.tells y.words held) (sym k.1.last) (held-at stored keeps tied start tells s r id v there p l (free hit) (ap share_count (found-state hit)) live expects hit);
+          stands = λ hit. subst (λ (y : Version). IsHeldAt p expects v.start.frames v.start.tells y.words held)
+              (sym k.1.last) (held-at stored keeps tied start tells s r id v there p l (free hit)
+              (ap share_count (found-state hit)) live expects hit);
           free = λ hit. free-member stored keeps tied start tells s r id v there p l (free hit);
           unheld = λ hit. free-unheld stored keeps tied start tells s r id v there p l (free hit) (ap share_count (found-state hit)) live;
-          validates = λ t hit. tried-validates stored keeps tied start tells s r id v there live number p expects (word_of 1 (version_of expects)) l law _ k.0 k.1 (free hit) t hit;
+          validates = λ t hit. tried-validates stored keeps tied start tells s r id v there live number p expects
+              (word_of 1 (version_of expects)) l law _ k.0 k.1 (free hit) t hit;
         },
       ))
 
-  pub upgrade-allows : (law : (start : Start) (kept : Kept X) (q p : ℕ) → keeps start kept → q < length kept.pages → p < length kept.pages → tied start q (page_at kept.pages q) p (page_at kept.pages p)) (shape : Shape) (slots id : ℕ) (v : View X) (i : ℕ) (p expects x : ℕ) → v.live ≡ true → 0 < length v.used → p < shape.pages → MayRaiseLock v p expects → x ≡ (word_of LOCKED (version_of expects)) → IsPlacedAt shape (places.State p) i
-      → AllowsStep (Stands stored keeps tied shape tells) slots id v i (λ n. either (eqb n expects) x n) (told_of shape tells (UpgradeTold tied p expects))
+  pub upgrade-allows : (law : (start : Start) (kept : Kept X) (q p : ℕ) → keeps start kept → q < length kept.pages
+      → p < length kept.pages → tied start q (page_at kept.pages q) p (page_at kept.pages p)) (shape : TableShape)
+      (slots id : ℕ) (v : View X) (i : ℕ) (p expects x : ℕ) → v.live ≡ true → 0 < length v.used → p < shape.pages
+      → MayRaiseLock v p expects → x ≡ (word_of LOCKED (version_of expects)) → IsPlacedAt shape (places.State p) i
+      → AllowsStep (Stands stored keeps tied shape tells) slots id v i (λ n. either (eqb n expects) x n)
+      (told_of shape tells (UpgradeTold tied p expects))
   upgrade-allows law shape slots id v i p expects x live number l' may spells is =
-      allows stored keeps tied shape tells slots id v i (places.State p) (λ n. either (eqb n expects) x n) (λ n. either (eqb n expects) (word_of LOCKED (version_of expects)) n) (UpgradeTold tied p expects) live is (λ n. ap (λ z. either (eqb n expects) z n) spells) (λ n w t. fit t.brings (either-lives _ _ v live live) (either-has _ _ v number number))
+      allows stored keeps tied shape tells slots id v i (places.State p) (λ n. either (eqb n expects) x n)
+      (λ n. either (eqb n expects) (word_of LOCKED (version_of expects)) n) (UpgradeTold tied p expects) live is
+      (λ n. ap (λ z. either (eqb n expects) z n) spells)
+      (λ n w t. fit t.brings (either-lives _ _ v live live) (either-has _ _ v number number))
       (λ start has s r there _.
       let l : p < start.pages = subst (λ n. p < n) (sym has.pages) l' in
       let page : Page = (world stored keeps tied start tells s r).core.pages p in
-      let free : slice_index s.words p ≡ expects → page.state ≢ LOCKED = (λ hit e. let is : page.state ≡ 1 = state-here stored start s p l ∙ ap state_of hit ∙ may.state in omega (arith, is, e)) in
+      let free : slice_index s.words p ≡ expects → page.state ≢ LOCKED =
+      (λ hit e. let is : page.state ≡ 1 = state-here stored start s p l ∙ ap state_of hit ∙ may.state in
+      omega (arith, is, e)) in
       let known = r.known id v there live in
       let calls : may_call (seat_of v p) ≡ true = or_right (seat_of v p).exclusive (seat_of v p).writing may.writes in
       let words : List ℕ = (last stored keeps tied start tells s r p).words in
       let taken = upgrade-exchange stored start s r.releases r.drafts id v p expects r.wide.0 l there may words in
-      let k = tried stored keeps tied start tells s r id v there live number p expects (word_of LOCKED (version_of expects)) l (opened stored keeps tied start tells s r p) (upgraded_view p words v) (Upgrade id p expects) _ refl taken
-      (λ hit. owner-shows stored keeps tied start tells s r id v there live p l expects (word_of LOCKED (version_of expects)) hit (Upgrade id p expects) (upgraded page id) (record { shares = 0; exclusive = true; writing = false; reading = None }) v.held taken
+      let k = tried stored keeps tied start tells s r id v there live number p expects
+      (word_of LOCKED (version_of expects)) l (opened stored keeps tied start tells s r p)
+      (upgraded_view p words v) (Upgrade id p expects) _ refl taken
+      (λ hit. owner-shows stored keeps tied start tells s r id v there live p l expects
+      (word_of LOCKED (version_of expects)) hit (Upgrade id p expects) (upgraded page id) (record {
+        shares = 0;
+        exclusive = true;
+        writing = false;
+        reading = None;
+      }) v.held taken
       refl (free hit)
       (λ q ne. refl)
       (record { calls = λ m. (known.knows p).calls calls; shares = λ some'. absurd (omega arith) })
@@ -71,28 +109,38 @@ module _ {X B : Type 0} (stored : B → Stored) (keeps : Start → Kept X → Ty
         k.0,
         k.1.rule,
         record {
-          brings = subst (λ (y : Version). Brings (did_exchange (places.State p) expects (slice_index s.words p) (word_of LOCKED (version_of expects))) [] [] v (if eqb (slice_index s.words p) expects then upgraded_view p y.words v else v) k.0) (sym k.1.last) k.1.brings;
+          brings = subst (λ (y : Version).
+              Brings (did_exchange (places.State p) expects (slice_index s.words p)
+              (word_of LOCKED (version_of expects))) [] [] v
+              (if eqb (slice_index s.words p) expects then upgraded_view p y.words v else v) k.0) (sym k.1.last)
+              k.1.brings;
           version = k.1.version;
           since = k.1.since;
           older = k.1.older;
           size = k.1.size;
           free = λ hit. free-member stored keeps tied start tells s r id v there p l (free hit);
           paid = λ hit. free-debt stored keeps tied start tells s r id v there p l (free hit) live;
-          validates = λ t hit. tried-validates stored keeps tied start tells s r id v there live number p expects (word_of LOCKED (version_of expects)) l law _ k.0 k.1 (free hit) t hit;
+          validates = λ t hit. tried-validates stored keeps tied start tells s r id v there live number p expects
+              (word_of LOCKED (version_of expects)) l law _ k.0 k.1 (free hit) t hit;
         },
       ))
 
   pub lock_write_back-event : LockWriteBackIsItsEvent stored keeps tied tells
   lock_write_back-event start s id p expects found v w pass at may told =
-      exchange-event stored start keeps tied tells s id p expects found _ _ _ v _ w _ _ pass at (lockw-exchange stored start s [] (λ _. []) id v p expects pass.rule.wide.0 at.0 pass.there may told.held) told.brings refl
+      exchange-event stored start keeps tied tells s id p expects found _ _ _ v _ w _ _ pass
+      at (lockw-exchange stored start s [] (λ _. []) id v p expects pass.rule.wide.0 at.0 pass.there may
+      told.held) told.brings refl
 
   pub upgrade-event : UpgradeIsItsEvent stored keeps tied tells
   upgrade-event start s id p expects found v w pass at may told =
-      exchange-event stored start keeps tied tells s id p expects found _ _ _ v _ w _ _ pass at (upgrade-exchange stored start s [] (λ _. []) id v p expects pass.rule.wide.0 at.0 pass.there may (last_of w p).words) told.brings refl
+      exchange-event stored start keeps tied tells s id p expects found _ _ _ v _ w _ _ pass
+      at (upgrade-exchange stored start s [] (λ _. []) id v p expects pass.rule.wide.0 at.0 pass.there may
+      (last_of w p).words) told.brings refl
 
 -- ---- for write-back
 
-module _ {X : Type 0} {tied : Start → ℕ → List ℕ → ℕ → List ℕ → Type 0} {p expects found : ℕ} {v w : View X} (e : found ≡ expects) (t : WriteLockTold tied p expects found v w) where
+module _ {X : Type 0} {tied : Start → ℕ → List ℕ → ℕ → List ℕ → Type 0} {p expects found : ℕ} {v w : View X}
+    (e : found ≡ expects) (t : WriteLockTold tied p expects found v w) where
   abbrev pub write_lock-did : Did
   write_lock-did = did_exchange (places.State p) expects found (word_of 1 (version_of expects))
 
@@ -121,7 +169,8 @@ module _ {X : Type 0} {tied : Start → ℕ → List ℕ → ℕ → List ℕ �
 
 -- ---- exclusive then
 
-module _ {X : Type 0} {tied : Start → ℕ → List ℕ → ℕ → List ℕ → Type 0} {p expects found : ℕ} {v w : View X} (e : found ≡ expects) (t : UpgradeTold tied p expects found v w) where
+module _ {X : Type 0} {tied : Start → ℕ → List ℕ → ℕ → List ℕ → Type 0} {p expects found : ℕ} {v w : View X}
+    (e : found ≡ expects) (t : UpgradeTold tied p expects found v w) where
   abbrev pub upgrade-did : Did
   upgrade-did = did_exchange (places.State p) expects found (word_of LOCKED (version_of expects))
 

@@ -1,10 +1,12 @@
--- Frames taken from a bundle or given back, its load: what may be taken and given, and their events. What they tell stands in vm_rule/specs/Bundles.
+-- Frames taken from a bundle or given back, its load: what may be taken and given, and their events. What they tell
+-- stands in vm_rule/specs/Bundles.
 use Rattle.std.specs.Prelude.{◌≡◌, ◌≢◌, bit_and, bit_or, bit_xor, Bool, List, Option, slice_set, true, ℕ}
-use Rattle.vm_core.specs.{declared.event.Event.TheVariants.BLoad, declared.event.Event.TheVariants.Give, declared.event.Event.TheVariants.Take, Prelude.in_mask}
+use Rattle.vm_core.specs.{declared.event.Event.TheVariants.BLoad, declared.event.Event.TheVariants.Give}
+use Rattle.vm_core.specs.{declared.event.Event.TheVariants.Take, Prelude.in_mask}
 use Rattle.vm_core.specs.declared.event.Seen.TheVariants as sights
 use Rattle.vm_rule.specs.{declared.view.Origin.Origin, declared.view.View.View}
 use Rattle.vm_rule.specs.Prelude.{BundleTold, GiveTold, has, index_of, Kept, Start, Stored, Table, TakeTold}
-use Rattle.vm_rule.specs.declared.view.Place.TheVariants as places
+use Rattle.vm_rule.specs.declared.view.WordPlace.TheVariants as places
 use Rattle.vm_step.specs.Events.{exchange_sees, exchanged, FindsAt, IsEvent, IsPassOf, table_after}
 
 -- some of the bits expected, and not none
@@ -18,7 +20,8 @@ module _ {X : Type 0} where
     pub some : mask ≢ 0
     pub holds : (f : ℕ) → in_mask g mask f ≡ true → has f v.frames ≡ true
 
-module _ {X B : Type 0} (stored : B → Stored) (keeps : Start → Kept X → Type 0) (tied : Start → ℕ → List ℕ → ℕ → List ℕ → Type 0) (tells : Bool) where
+module _ {X B : Type 0} (stored : B → Stored) (keeps : Start → Kept X → Type 0)
+    (tied : Start → ℕ → List ℕ → ℕ → List ℕ → Type 0) (tells : Bool) where
   -- a load of a bundle word sees the word
   abbrev pub BloadIsItsEvent : Type 0
   BloadIsItsEvent =
@@ -29,9 +32,12 @@ module _ {X B : Type 0} (stored : B → Stored) (keeps : Start → Kept X → Ty
   -- a take that is tried sees whether the word was the one expected, and the word where it was not
   abbrev pub TakeIsItsEvent : Type 0
   TakeIsItsEvent =
-      (start : Origin) (s : Table (Option B) (View X)) (id g expects mask found : ℕ) (v w : View X) → IsPassOf stored start keeps tied tells s id v
+      (start : Origin) (s : Table (Option B) (View X)) (id g expects mask found : ℕ) (v w : View X)
+      → IsPassOf stored start keeps tied tells s id v
       → FindsAt start s (places.Bundle g) found → IsMaskOf expects mask → TakeTold g expects mask found v w
-      → IsEvent stored start s (table_after s (exchanged s.words (index_of start (places.Bundle g)) expects found (bit_xor expects mask)) id w)
+      → IsEvent stored start s
+      (table_after s (exchanged s.words (index_of start (places.Bundle g)) expects found (bit_xor expects mask))
+      id w)
       (Take id g expects mask) (exchange_sees expects found)
 
   -- a give sees the word before
@@ -39,5 +45,7 @@ module _ {X B : Type 0} (stored : B → Stored) (keeps : Start → Kept X → Ty
   GiveIsItsEvent =
       (start : Origin) (s : Table (Option B) (View X)) (id g mask found : ℕ) (v w : View X) → IsPassOf stored start keeps tied tells s id v
       → FindsAt start s (places.Bundle g) found → PassMayGive v g mask → GiveTold g mask found v w
-      → IsEvent stored start s (table_after s (slice_set s.words (index_of start (places.Bundle g)) (bit_or found mask)) id w) (Give id g mask)
+      → IsEvent stored start s
+      (table_after s (slice_set s.words (index_of start (places.Bundle g)) (bit_or found mask)) id w)
+      (Give id g mask)
       (sights.Word found)

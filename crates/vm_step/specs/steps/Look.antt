@@ -4,28 +4,34 @@ use Rattle.vm_core.specs.{declared.event.Event.TheVariants.Look, declared.event.
 use Rattle.vm_core.specs.declared.event.Seen.TheVariants as sights
 use Rattle.vm_rule.specs.{declared.view.Origin.Origin, declared.view.View.View}
 use Rattle.vm_rule.specs.Prelude.{began_of, Each, entries_of, Entry, Kept, left_at, loads_at, LookTold, Open, seat_of, Start, Stored, Table}
-use Rattle.vm_rule.specs.declared.view.Place.TheVariants as places
+use Rattle.vm_rule.specs.declared.view.WordPlace.TheVariants as places
 use Rattle.vm_step.specs.{Alone.KnowsUnheld, Events.FindsAt, Events.IsEvent, Events.IsPassOf, Events.table_after, Keeping.IsKeptNow}
 
 module _ {X : Type 0} where
-  -- nothing is said; or every page that has the loaded words, and what the page and the pages that were validated say of it, proves what is said
-  abbrev pub MayTell : (Start → ℕ → List ℕ → ℕ → List ℕ → Type 0) → (Start → ℕ → List ℕ → List (Entry X) → Type 0) → ℕ → Option X → View X → Type 0
+  -- nothing is said; or every page that has the loaded words, and what the page and the pages that were validated say
+  -- of it, proves what is said
+  abbrev pub MayTell : (Start → ℕ → List ℕ → ℕ → List ℕ → Type 0) → (Start → ℕ → List ℕ → List (Entry X) → Type 0) → ℕ
+      → Option X → View X → Type 0
   MayTell tied may_read p said v =
       (said ≡ None)
-      ⊎ (v.start.tells ≡ true → (o : Open) → (seat_of v p).reading ≡ Some o → (words : List ℕ) → length words ≡ v.start.size → LoadsAre words (loads_at v p)
+      ⊎ (v.start.tells ≡ true → (o : Open) → (seat_of v p).reading ≡ Some o → (words : List ℕ)
+      → length words ≡ v.start.size → LoadsAre words (loads_at v p)
       → tied (began_of v.start) p words p words
       → Each (λ t. t.page ≡ p → t.version ≡ o.version → tied (began_of v.start) t.of t.words p words) v.ties
       → may_read (began_of v.start) p words (entries_of v said))
 
   -- and what the layer above keeps then, and what a pass that is alone knows of pages that it does not hold
-  abbrev pub LookTells : (Start → Kept X → Type 0) → (Start → ℕ → List ℕ → ℕ → List ℕ → Type 0) → Bool → ℕ → Option X → ℕ → View X → View X → Type 0
+  abbrev pub LookTells : (Start → Kept X → Type 0) → (Start → ℕ → List ℕ → ℕ → List ℕ → Type 0) → Bool → ℕ → Option X
+      → ℕ → View X → View X → Type 0
   LookTells keeps tied tells p said found v w = LookTold tied p said found v w ×
       (tells ≡ true → IsKeptNow keeps p (left_at found (seat_of v p).reading ≡ Same) w) × KnowsUnheld w
 
-module _ {X B : Type 0} (stored : B → Stored) (keeps : Start → Kept X → Type 0) (tied : Start → ℕ → List ℕ → ℕ → List ℕ → Type 0) (tells : Bool) where
+module _ {X B : Type 0} (stored : B → Stored) (keeps : Start → Kept X → Type 0)
+    (tied : Start → ℕ → List ℕ → ℕ → List ℕ → Type 0) (tells : Bool) where
   -- a look sees the word, and what it leaves of the pass's open read
   abbrev pub LookIsItsEvent : Type 0
   LookIsItsEvent =
-      (start : Origin) (s : Table (Option B) (View X)) (id p found : ℕ) (said : Option X) (v w : View X) → IsPassOf stored start keeps tied tells s id v
+      (start : Origin) (s : Table (Option B) (View X)) (id p found : ℕ) (said : Option X) (v w : View X)
+      → IsPassOf stored start keeps tied tells s id v
       → FindsAt start s (places.State p) found → LookTold tied p said found v w
       → IsEvent stored start s (table_after s s.words id w) (Look id p) (sights.Look found (left_at found (seat_of v p).reading))

@@ -1,10 +1,11 @@
--- The owner word of a frame: it is stored for a page that stands there, which the pass has locked exclusively, or loaded. What the steps tell, and
+-- The owner word of a frame: it is stored for a page that stands there, which the pass has locked exclusively, or
+-- loaded. What the steps tell, and
 -- their events.
 use Rattle.std.specs.Prelude.{[], ◌+◌, ◌≤◌, Bool, List, Option, slice_set, ℕ}
 use Rattle.vm_core.specs.declared.event.Event.TheVariants.{Disown, OLoad, Own}
 use Rattle.vm_core.specs.declared.event.Seen.TheVariants as sights
 use Rattle.vm_rule.specs.Prelude.{Brings, did_load, did_store, Event, held_at, index_of, Kept, put, StandsIn, Start, Stored, Table}
-use Rattle.vm_rule.specs.declared.view.Place.TheVariants as places
+use Rattle.vm_rule.specs.declared.view.WordPlace.TheVariants as places
 use Rattle.vm_step.specs.{Events.FindsAt, Prelude.IsEvent, Prelude.IsPassOf, Prelude.Origin, Prelude.table_after, Prelude.View}
 
 module _ {X : Type 0} where
@@ -21,11 +22,13 @@ module _ {X : Type 0} where
     pub brings : Brings (did_load (places.Owner f) found) [] [] v v w
     pub inside : found ≤ v.start.pages
 
-module _ {X B : Type 0} (stored : B → Stored) (keeps : Start → Kept X → Type 0) (tied : Start → ℕ → List ℕ → ℕ → List ℕ → Type 0) (tells : Bool) where
+module _ {X B : Type 0} (stored : B → Stored) (keeps : Start → Kept X → Type 0)
+    (tied : Start → ℕ → List ℕ → ℕ → List ℕ → Type 0) (tells : Bool) where
   -- this word is stored as the owner word of the page's frame, by this event, and nothing is seen
   abbrev pub IsOwnerEvent : (ℕ → ℕ) → (ℕ → ℕ → Event) → Type 0
   IsOwnerEvent word event =
-      (start : Origin) (s : Table (Option B) (View X)) (id p f : ℕ) (v w : View X) → IsPassOf stored start keeps tied tells s id v → StandsIn v p f
+      (start : Origin) (s : Table (Option B) (View X)) (id p f : ℕ) (v w : View X)
+      → IsPassOf stored start keeps tied tells s id v → StandsIn v p f
       → OwnerTold p f (word p) v w
       → IsEvent stored start s (table_after s (slice_set s.words (index_of start (places.Owner f)) (word p)) id w) (event id p) sights.Done
 

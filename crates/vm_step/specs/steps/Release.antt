@@ -1,4 +1,5 @@
--- A release of a page that is locked exclusively, as Unlocked, as Evicted or to a share: when it may be released, what each tells, and their events.
+-- A release of a page that is locked exclusively, as Unlocked, as Evicted or to a share: when it may be released,
+-- what each tells, and their events.
 -- `ReleaseTold`, `EvictTold` and `DowngradeTold` stand in vm_rule/specs/Releases.
 use Rattle.std.specs.Prelude.{[], ◌+◌, ◌<◌, ◌∷◌, ◌≡◌, ◌≤◌, ◌⊎◌, Bool, false, IsSome, length, List, None, Option, slice_set, true, ℕ}
 use Rattle.vm_core.specs.Prelude.{EVICTED, MAX_VERSION, word_of}
@@ -6,15 +7,17 @@ use Rattle.vm_core.specs.declared.event.Event.TheVariants.{Downgrade, Release, R
 use Rattle.vm_core.specs.declared.event.Seen.TheVariants as sights
 use Rattle.vm_numbers.specs.Hands.{IsUsable}
 use Rattle.vm_rule.specs.Rule.{hands_of}
-use Rattle.vm_rule.specs.Prelude.{AreApart, AreUnchanged, began_of, Change, changes_of, DowngradeTold, draft_of, Each, entries_of, Entry, EvictTold}
-use Rattle.vm_rule.specs.Prelude.{has, held_at, index_of, Kept, last_of, no_held, put_at, ReleaseTold, seat_of, Start, Stored, Table}
+use Rattle.vm_rule.specs.Prelude.{AreApart, AreUnchanged, began_of, Change, changes_of, DowngradeTold, draft_of, Each}
+use Rattle.vm_rule.specs.Prelude.{entries_of, Entry, EvictTold, has, held_at, index_of, Kept, last_of, no_held}
+use Rattle.vm_rule.specs.Prelude.{put_at, ReleaseTold, seat_of, Start, Stored, Table}
 use Rattle.vm_rule.specs.{declared.view.Origin.Origin, declared.view.View.View}
-use Rattle.vm_rule.specs.declared.view.Place.TheVariants as places
+use Rattle.vm_rule.specs.declared.view.WordPlace.TheVariants as places
 use Rattle.vm_step.specs.{Conditions.IsNotOut, Conditions.IsToldOf, Keeping.IsKeptNow}
 use Rattle.vm_step.specs.Events.{IsEvent, IsPassOf, table_after}
 
 module _ {X : Type 0} where
-  -- the page is the pass's to use, as far as it can know, where its words are not those that it had: it is in use, is owed to the pass, or the pass holds its number
+  -- the page is the pass's to use, as far as it can know, where its words are not those that it had: it is in use, is
+  -- owed to the pass, or the pass holds its number
   abbrev pub IsClaimed : View X → ℕ → Type 0
   IsClaimed v q = IsUsable (hands_of v) (last_of v q).words (draft_of v q) q
 
@@ -40,7 +43,8 @@ module _ {X : Type 0} where
     pub alone : rest ≡ []
     pub silent : said ≡ None
 
-  pub record MayGiveUp (may_release : Start → List ℕ → List Change → List (Entry X) → Type 0) (p version : ℕ) (rest : List ℕ) (said : Option X)
+  pub record MayGiveUp (may_release : Start → List ℕ → List Change → List (Entry X) → Type 0) (p version : ℕ)
+      (rest : List ℕ) (said : Option X)
       (v : View X) : Type 0 where
     pub owns : (seat_of v p).exclusive ≡ true
     pub resident : IsSome (put_at no_held v.held p).mapping
@@ -74,19 +78,23 @@ module _ {X : Type 0} where
   abbrev pub ReleaseTells : (Start → Kept X → Type 0) → Bool → ℕ → (View X → View X → Type 0) → View X → View X → Type 0
   ReleaseTells keeps tells p told v w = told v w × (tells ≡ true → IsKeptNow keeps p (Unit {0}) w)
 
-module _ {X B : Type 0} (stored : B → Stored) (keeps : Start → Kept X → Type 0) (tied : Start → ℕ → List ℕ → ℕ → List ℕ → Type 0) (tells : Bool) where
+module _ {X B : Type 0} (stored : B → Stored) (keeps : Start → Kept X → Type 0)
+    (tied : Start → ℕ → List ℕ → ℕ → List ℕ → Type 0) (tells : Bool) where
   -- a release of a page that the pass holds exclusively sees nothing: the page is Unlocked at its next version
   abbrev pub ReleaseIsItsEvent : (Start → List ℕ → List Change → List (Entry X) → Type 0) → Type 0
   ReleaseIsItsEvent may_release =
       (start : Origin) (s : Table (Option B) (View X)) (id p version : ℕ) (rest : List ℕ) (said : Option X) (v w : View X)
-      → IsPassOf stored start keeps tied tells s id v → p < start.pages → version < MAX_VERSION → MayGiveUp may_release p version rest said v
+      → IsPassOf stored start keeps tied tells s id v → p < start.pages → version < MAX_VERSION
+      → MayGiveUp may_release p version rest said v
       → ReleaseTold p version rest said v w
-      → IsEvent stored start s (table_after s (slice_set s.words (index_of start (places.State p)) (version + 1)) id w) (Release id p) sights.Done
+      → IsEvent stored start s (table_after s (slice_set s.words (index_of start (places.State p)) (version + 1)) id
+      w) (Release id p) sights.Done
 
   -- a release of a page that is not resident sees nothing: the page is Evicted at its next version
   abbrev pub ReleaseEvictedIsItsEvent : Type 0
   ReleaseEvictedIsItsEvent =
-      (start : Origin) (s : Table (Option B) (View X)) (id p version : ℕ) (v w : View X) → IsPassOf stored start keeps tied tells s id v → p < start.pages
+      (start : Origin) (s : Table (Option B) (View X)) (id p version : ℕ) (v w : View X)
+      → IsPassOf stored start keeps tied tells s id v → p < start.pages
       → version < MAX_VERSION → MayEvict v p version → EvictTold p version v w
       → IsEvent stored start s (table_after s (slice_set s.words (index_of start (places.State p)) (word_of EVICTED (version + 1))) id w)
       (ReleaseE id p) sights.Done
@@ -94,6 +102,9 @@ module _ {X B : Type 0} (stored : B → Stored) (keeps : Start → Kept X → Ty
   -- a release to a share of the pass sees nothing: the page is at its next version, with one share
   abbrev pub DowngradeIsItsEvent : (Start → List ℕ → List Change → List (Entry X) → Type 0) → Type 0
   DowngradeIsItsEvent may_release =
-      (start : Origin) (s : Table (Option B) (View X)) (id p version : ℕ) (v w : View X) → IsPassOf stored start keeps tied tells s id v → p < start.pages
+      (start : Origin) (s : Table (Option B) (View X)) (id p version : ℕ) (v w : View X)
+      → IsPassOf stored start keeps tied tells s id v → p < start.pages
       → version < MAX_VERSION → MayDowngrade may_release v p version → DowngradeTold p version v w
-      → IsEvent stored start s (table_after s (slice_set s.words (index_of start (places.State p)) (word_of 1 (version + 1))) id w) (Downgrade id p) sights.Done
+      → IsEvent stored start s
+      (table_after s (slice_set s.words (index_of start (places.State p)) (word_of 1 (version + 1))) id w)
+      (Downgrade id p) sights.Done

@@ -3,10 +3,11 @@ use Rattle.std.specs.Prelude.{Bool, List, Option, ℕ}
 use Rattle.vm_core.specs.declared.event.Event.TheVariants.{TLoad}
 use Rattle.vm_core.specs.declared.event.Seen.TheVariants as sights
 use Rattle.vm_rule.specs.Prelude.{Kept, Start, Stored, Table, TranslationTold}
-use Rattle.vm_rule.specs.declared.view.Place.TheVariants as places
+use Rattle.vm_rule.specs.declared.view.WordPlace.TheVariants as places
 use Rattle.vm_step.specs.{Events.FindsAt, Prelude.IsEvent, Prelude.IsPassOf, Prelude.Origin, Prelude.table_after, Prelude.View}
 
-module _ {X B : Type 0} (stored : B → Stored) (keeps : Start → Kept X → Type 0) (tied : Start → ℕ → List ℕ → ℕ → List ℕ → Type 0) (tells : Bool) where
+module _ {X B : Type 0} (stored : B → Stored) (keeps : Start → Kept X → Type 0)
+    (tied : Start → ℕ → List ℕ → ℕ → List ℕ → Type 0) (tells : Bool) where
   -- a load of a translation word sees the word
   abbrev pub TloadIsItsEvent : Type 0
   TloadIsItsEvent =

@@ -6,7 +6,7 @@ ghost use Rattle.vm_core.specs.declared.event.Event.TheVariants.{Read, RFail, WF
 ghost use Rattle.vm_core.specs.declared.event.Seen.TheVariants as sights;
 ghost use Rattle.vm_rule.specs.Prelude.{core_shown, held_at, HomeTold, MayBring, out_at, OutTold, ReturnTold, seat_of, ShiftTold, SlotTold, Stored};
 ghost use Rattle.vm_rule.specs.Prelude.{Table, words_held};
-ghost use Rattle.vm_step.specs.Prelude.{IsPassOf, IsReady, IsSamePass, MayStep, MayTakeOut, Origin, View, view};
+ghost use Rattle.vm_step.specs.Prelude.{GoesOn, IsPassOf, MayStep, MayTakeOut, Origin, view, View};
 ghost use Rattle.vm_step.specs.BlockMoves.{brought_to, IsCall, IsHome, ShowsBut, ShowsSame, taken_from};
 
 use crate::layout::fault_place;
@@ -21,9 +21,9 @@ use vm_rule::words::{Pass, Words};
 /// What a move of a block is given, for its proof alone: the table's shape, whether blocks tell their words, and the page.
 pub(crate) trait Moved {
     ghost use Rattle.std.specs.Prelude.{Bool, ℕ};
-    ghost use Rattle.vm_step.specs.Prelude.{Shape};
+    ghost use Rattle.vm_step.specs.Prelude.{TableShape};
 
-    ghost shape: { Shape };
+    ghost shape: { TableShape };
 
     ghost tells: { Bool };
 
@@ -90,8 +90,7 @@ fn block_out_with<U: Owner, B: Block, M: Moved>(
     requires page { p < words.now.table.shared.key.pages }
     requires legal { MayTakeOut (view pass.old) p }
     requires given { (M.shape ≡ words.now.table.shared.key) × (M.tells ≡ B.tells) × (M.page ≡ p) }
-    ensures pass { IsSamePass pass.old pass.new }
-    ensures ready { IsReady words.now.table.shared.key B.tells words.now.table.shared.table_id pass.new }
+    ensures goes { GoesOn words.now B.tells pass.old pass.new }
     ensures told { OutTold p (B.stored result) (view pass.old) (view pass.new) }
 {
     let place = fault_place(words, p);
@@ -114,8 +113,7 @@ pub fn block_out<U: Owner, B: Block>(words: &Words<U, B>, pass: &mut Pass<U>, p:
     requires pass { MayStep words.now.table.shared.table_id pass.old }
     requires page { p < words.now.table.shared.key.pages }
     requires legal { MayTakeOut (view pass.old) p }
-    ensures pass { IsSamePass pass.old pass.new }
-    ensures ready { IsReady words.now.table.shared.key B.tells words.now.table.shared.table_id pass.new }
+    ensures goes { GoesOn words.now B.tells pass.old pass.new }
     ensures told { OutTold p (B.stored result) (view pass.old) (view pass.new) }
 {
     block_out_with::<U, B, Brand>(words, pass, p)
@@ -131,8 +129,7 @@ fn block_home_with<U: Owner, B: Block, M: Moved>(
     requires page { p < words.now.table.shared.key.pages }
     requires legal { (old : Stored) × MayBring (view pass.old) p old (B.stored block) }
     requires given { (M.shape ≡ words.now.table.shared.key) × (M.tells ≡ B.tells) × (M.page ≡ p) }
-    ensures pass { IsSamePass pass.old pass.new }
-    ensures ready { IsReady words.now.table.shared.key B.tells words.now.table.shared.table_id pass.new }
+    ensures goes { GoesOn words.now B.tells pass.old pass.new }
     ensures told { (old : Stored) → MayBring (view pass.old) p old (B.stored block) → HomeTold p old (B.stored block) (view pass.old) (view pass.new) }
 {
     let place = fault_place(words, p);
@@ -158,8 +155,7 @@ pub fn block_home<U: Owner, B: Block>(words: &Words<U, B>, pass: &mut Pass<U>, p
     requires pass { MayStep words.now.table.shared.table_id pass.old }
     requires page { p < words.now.table.shared.key.pages }
     requires legal { (old : Stored) × MayBring (view pass.old) p old (B.stored block) }
-    ensures pass { IsSamePass pass.old pass.new }
-    ensures ready { IsReady words.now.table.shared.key B.tells words.now.table.shared.table_id pass.new }
+    ensures goes { GoesOn words.now B.tells pass.old pass.new }
     ensures told { (old : Stored) → MayBring (view pass.old) p old (B.stored block) → HomeTold p old (B.stored block) (view pass.old) (view pass.new) }
 {
     block_home_with::<U, B, Brand>(words, pass, p, block);

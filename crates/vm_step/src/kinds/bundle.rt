@@ -1,7 +1,7 @@
 // Free frames: a bundle's word is loaded, frames are taken by it, and given back.
 ghost use Rattle.std.specs.Prelude.{◌*◌, ◌<◌, ◌≡◌, ◌≢◌, ℕ};
 ghost use Rattle.vm_rule.specs.Prelude.{BundleTold, GiveTold, TakeTold};
-ghost use Rattle.vm_step.specs.Prelude.{found_by, IsReady, IsSamePass, MayStep, PassMayGive, view};
+ghost use Rattle.vm_step.specs.Prelude.{found_by, GoesOn, MayStep, PassMayGive, view};
 ghost use Rattle.vm_step.specs.declared.took.Took.TheVariants.{Lost};
 ghost use Rattle.vm_step.specs.steps.Bundle.{BloadIsItsEvent, GiveIsItsEvent, IsMaskOf, TakeIsItsEvent};
 
@@ -18,8 +18,7 @@ use vm_rule::words::{Pass, Words};
 pub fn bload<U: Owner, B: Block>(words: &Words<U, B>, pass: &mut Pass<U>, g: u32) -> u64
     requires pass { MayStep words.now.table.shared.table_id pass.old }
     requires bundle { g * FRAMES < words.now.table.shared.key.frames }
-    ensures pass { IsSamePass pass.old pass.new }
-    ensures ready { IsReady words.now.table.shared.key B.tells words.now.table.shared.table_id pass.new }
+    ensures goes { GoesOn words.now B.tells pass.old pass.new }
     ensures told { BundleTold g result (view pass.old) (view pass.new) }
 {
     let at = bundle_place(words, g);
@@ -37,8 +36,7 @@ pub fn take<U: Owner, B: Block>(
     requires pass { MayStep words.now.table.shared.table_id pass.old }
     requires bundle { g * FRAMES < words.now.table.shared.key.frames }
     requires legal { IsMaskOf expects mask }
-    ensures pass { IsSamePass pass.old pass.new }
-    ensures ready { IsReady words.now.table.shared.key B.tells words.now.table.shared.table_id pass.new }
+    ensures goes { GoesOn words.now B.tells pass.old pass.new }
     ensures told { TakeTold g expects mask (found_by expects result) (view pass.old) (view pass.new) }
     ensures lost { (word : ℕ) → result ≡ Lost word → word ≢ expects }
 {
@@ -55,8 +53,7 @@ pub fn give<U: Owner, B: Block>(words: &Words<U, B>, pass: &mut Pass<U>, g: u32,
     requires pass { MayStep words.now.table.shared.table_id pass.old }
     requires bundle { g * FRAMES < words.now.table.shared.key.frames }
     requires legal { PassMayGive (view pass.old) g mask }
-    ensures pass { IsSamePass pass.old pass.new }
-    ensures ready { IsReady words.now.table.shared.key B.tells words.now.table.shared.table_id pass.new }
+    ensures goes { GoesOn words.now B.tells pass.old pass.new }
     ensures told { GiveTold g mask result (view pass.old) (view pass.new) }
 {
     let at = bundle_place(words, g);

@@ -1,6 +1,6 @@
 // A pass is brought up to date.
 ghost use Rattle.vm_rule.specs.Prelude.{CaughtUp};
-ghost use Rattle.vm_step.specs.Prelude.{IsReady, IsSamePass, KnowsAll, MayStep, view};
+ghost use Rattle.vm_step.specs.Prelude.{GoesOn, KnowsAll, MayStep, view};
 ghost use Rattle.vm_step.specs.steps.CatchUp.{CatchUpIsItsEvent};
 
 use crate::layout::next_place;
@@ -13,8 +13,7 @@ use vm_rule::words::{Pass, Words};
 /// Brings the pass's history and releases up to date, by a load of the next word, of which it tells nothing.
 pub fn catch_up<U: Owner, B: Block>(words: &Words<U, B>, pass: &mut Pass<U>)
     requires pass { MayStep words.now.table.shared.table_id pass.old }
-    ensures pass { IsSamePass pass.old pass.new }
-    ensures ready { IsReady words.now.table.shared.key B.tells words.now.table.shared.table_id pass.new }
+    ensures goes { GoesOn words.now B.tells pass.old pass.new }
     ensures told { CaughtUp (view pass.old) (view pass.new) }
     ensures knows { KnowsAll B.tells U.keeps (view pass.new) }
 {

@@ -2,7 +2,7 @@
 ghost use Rattle.std.specs.Prelude.{◌<◌, ◌≡◌, length, replicate, Some, true};
 ghost use Rattle.vm_rule.specs.Prelude.{frame_read_by, has, LoadTold, StoresTold};
 ghost use Rattle.vm_rule.specs.Stores.{PassMayStore};
-ghost use Rattle.vm_step.specs.Prelude.{IsFrameAt, IsReady, IsSamePass, MayStep, Stores, view};
+ghost use Rattle.vm_step.specs.Prelude.{GoesOn, IsFrameAt, IsReadyOn, MayStep, Stores, view};
 ghost use Rattle.vm_step.specs.steps.Content.{FillIsItsEvent, LoadIsItsEvent, StoreIsItsEvent};
 
 use crate::layout::frame_place;
@@ -24,8 +24,7 @@ pub fn load<U: Owner, B: Block>(
     requires pass { MayStep words.now.table.shared.table_id pass.old }
     requires page { (p < words.now.table.shared.key.pages) × (f < words.now.table.shared.key.frames) × (i < words.now.table.shared.key.size) }
     requires frame { frame_read_by (view pass.old) p ≡ Some f }
-    ensures pass { IsSamePass pass.old pass.new }
-    ensures ready { IsReady words.now.table.shared.key B.tells words.now.table.shared.table_id pass.new }
+    ensures goes { GoesOn words.now B.tells pass.old pass.new }
     ensures told { LoadTold p f i result (view pass.old) (view pass.new) }
 {
     load_at(words, pass, p, f, frame_place(words, f), i)
@@ -44,8 +43,7 @@ pub fn load_at<U: Owner, B: Block>(
     requires page { (p < words.now.table.shared.key.pages) × (f < words.now.table.shared.key.frames) × (i < words.now.table.shared.key.size) }
     requires first { IsFrameAt words.now.table.shared.key words.now.table.shared.table_id.words f first }
     requires frame { frame_read_by (view pass.old) p ≡ Some f }
-    ensures pass { IsSamePass pass.old pass.new }
-    ensures ready { IsReady words.now.table.shared.key B.tells words.now.table.shared.table_id pass.new }
+    ensures goes { GoesOn words.now B.tells pass.old pass.new }
     ensures told { LoadTold p f i result (view pass.old) (view pass.new) }
 {
     operation::load::<U, B, (u32, u32, usize), Brand>(words, pass, first + i, (p, f, i))
@@ -57,8 +55,7 @@ pub fn store<U: Owner, B: Block>(words: &Words<U, B>, pass: &mut Pass<U>, f: u32
     requires pass { MayStep words.now.table.shared.table_id pass.old }
     requires frame { (f < words.now.table.shared.key.frames) × (i < words.now.table.shared.key.size) }
     requires legal { PassMayStore (view pass.old) f }
-    ensures pass { IsSamePass pass.old pass.new }
-    ensures ready { IsReady words.now.table.shared.key B.tells words.now.table.shared.table_id pass.new }
+    ensures goes { GoesOn words.now B.tells pass.old pass.new }
     ensures told { StoresTold f i w (view pass.old) (view pass.new) }
 {
     store_at(words, pass, f, frame_place(words, f), i, w);
@@ -77,8 +74,7 @@ pub fn store_at<U: Owner, B: Block>(
     requires frame { (f < words.now.table.shared.key.frames) × (i < words.now.table.shared.key.size) }
     requires first { IsFrameAt words.now.table.shared.key words.now.table.shared.table_id.words f first }
     requires legal { PassMayStore (view pass.old) f }
-    ensures pass { IsSamePass pass.old pass.new }
-    ensures ready { IsReady words.now.table.shared.key B.tells words.now.table.shared.table_id pass.new }
+    ensures goes { GoesOn words.now B.tells pass.old pass.new }
     ensures told { StoresTold f i w (view pass.old) (view pass.new) }
 {
     operation::store::<U, B, (u32, usize), Brand>(words, pass, first + i, w, (f, i));
@@ -91,11 +87,10 @@ pub fn fill<U: Owner, B: Block, const N: usize>(
     frame: u32,
     page: &PageBuf<N>,
 )
-    requires ready { IsReady words.now.table.shared.key B.tells words.now.table.shared.table_id pass.old }
+    requires ready { IsReadyOn words.now B.tells pass.old }
     requires frame { (frame < words.now.table.shared.key.frames) × (has frame (view pass.old).frames ≡ true) }
     requires size { (N ≡ words.now.table.shared.key.size) × (length page.now ≡ N) }
-    ensures pass { IsSamePass pass.old pass.new }
-    ensures ready { IsReady words.now.table.shared.key B.tells words.now.table.shared.table_id pass.new }
+    ensures goes { GoesOn words.now B.tells pass.old pass.new }
     ensures stores { Stores frame 0 page.now (view pass.old) (view pass.new) }
 {
     let first = frame_place(words, frame);
@@ -106,10 +101,9 @@ pub fn fill<U: Owner, B: Block, const N: usize>(
 
 /// Stores zeros into a frame of the pass, from its first word on: a step for each.
 pub fn blank<U: Owner, B: Block>(words: &Words<U, B>, pass: &mut Pass<U>, frame: u32)
-    requires ready { IsReady words.now.table.shared.key B.tells words.now.table.shared.table_id pass.old }
+    requires ready { IsReadyOn words.now B.tells pass.old }
     requires frame { (frame < words.now.table.shared.key.frames) × (has frame (view pass.old).frames ≡ true) }
-    ensures pass { IsSamePass pass.old pass.new }
-    ensures ready { IsReady words.now.table.shared.key B.tells words.now.table.shared.table_id pass.new }
+    ensures goes { GoesOn words.now B.tells pass.old pass.new }
     ensures stores { Stores frame 0 (replicate words.now.table.shared.key.size 0) (view pass.old) (view pass.new) }
 {
     let first = frame_place(words, frame);

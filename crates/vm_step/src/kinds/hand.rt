@@ -1,6 +1,6 @@
 // The clock's hand is moved on.
 ghost use Rattle.vm_rule.specs.Prelude.{HandTold};
-ghost use Rattle.vm_step.specs.Prelude.{IsReady, IsSamePass, MayStep, view};
+ghost use Rattle.vm_step.specs.Prelude.{GoesOn, MayStep, view};
 ghost use Rattle.vm_step.specs.steps.Hand.{HandIsItsEvent};
 
 use crate::layout::hand_place;
@@ -14,8 +14,7 @@ use vm_rule::words::{Pass, Words};
 /// Moves the clock's hand 64 places on, wrapping, and answers where it was.
 pub fn hand<U: Owner, B: Block>(words: &Words<U, B>, pass: &mut Pass<U>) -> u64
     requires pass { MayStep words.now.table.shared.table_id pass.old }
-    ensures pass { IsSamePass pass.old pass.new }
-    ensures ready { IsReady words.now.table.shared.key B.tells words.now.table.shared.table_id pass.new }
+    ensures goes { GoesOn words.now B.tells pass.old pass.new }
     ensures told { HandTold result (view pass.old) (view pass.new) }
 {
     let at = hand_place(words);

@@ -2,7 +2,7 @@
 ghost use Rattle.std.specs.Prelude.{◌<◌, ◌≡◌, ◌≢◌, ℕ};
 ghost use Rattle.vm_core.specs.Prelude.{MayLock};
 ghost use Rattle.vm_rule.specs.Prelude.{LockTold};
-ghost use Rattle.vm_step.specs.Prelude.{found_by, IsReady, IsSamePass, MayStep, view};
+ghost use Rattle.vm_step.specs.Prelude.{found_by, GoesOn, MayStep, view};
 ghost use Rattle.vm_step.specs.{declared.took.Took.TheVariants.Lost, steps.Lock.LockExclusiveIsItsEvent};
 
 use crate::layout::state_place;
@@ -25,8 +25,7 @@ pub fn lock_exclusive<U: Owner, B: Block>(
     requires pass { MayStep words.now.table.shared.table_id pass.old }
     requires page { p < words.now.table.shared.key.pages }
     requires legal { MayLock expects }
-    ensures pass { IsSamePass pass.old pass.new }
-    ensures ready { IsReady words.now.table.shared.key B.tells words.now.table.shared.table_id pass.new }
+    ensures goes { GoesOn words.now B.tells pass.old pass.new }
     ensures told { LockTold U.tied p expects (found_by expects result) (view pass.old) (view pass.new) }
     ensures lost { (word : ℕ) → result ≡ Lost word → word ≢ expects }
 {

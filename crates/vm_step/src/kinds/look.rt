@@ -2,7 +2,7 @@
 ghost use Rattle.std.specs.Prelude.{◌<◌, ◌≡◌, None, option_map, true};
 ghost use Rattle.vm_core.specs.declared.event.ReadIs.TheVariants.{Same};
 ghost use Rattle.vm_rule.specs.Prelude.{left_at, LookTold, seat_of};
-ghost use Rattle.vm_step.specs.Prelude.{IsKeptNow, IsReady, IsSamePass, KnowsUnheld, MayStep, MayTell, view};
+ghost use Rattle.vm_step.specs.Prelude.{GoesOn, IsKeptNow, KnowsUnheld, MayStep, MayTell, view};
 ghost use Rattle.vm_step.specs.steps.Look.{LookIsItsEvent};
 
 use crate::layout::state_place;
@@ -23,8 +23,7 @@ pub fn look<U: Owner, B: Block>(
     requires pass { MayStep words.now.table.shared.table_id pass.old }
     requires page { p < words.now.table.shared.key.pages }
     requires owner { MayTell U.tied U.may_read p (option_map (λ b. b.now) said) (view pass.old) }
-    ensures pass { IsSamePass pass.old pass.new }
-    ensures ready { IsReady words.now.table.shared.key B.tells words.now.table.shared.table_id pass.new }
+    ensures goes { GoesOn words.now B.tells pass.old pass.new }
     ensures told { LookTold U.tied p (option_map (λ b. b.now) said.entry) result (view pass.old) (view pass.new) }
     ensures kept { B.tells ≡ true → IsKeptNow U.keeps p (left_at result (seat_of (view pass.old) p).reading ≡ Same) (view pass.new) }
     ensures unheld { KnowsUnheld (view pass.new) }
@@ -37,8 +36,7 @@ pub fn look<U: Owner, B: Block>(
 pub fn look_silently<U: Owner, B: Block>(words: &Words<U, B>, pass: &mut Pass<U>, p: u32) -> u64
     requires pass { MayStep words.now.table.shared.table_id pass.old }
     requires page { p < words.now.table.shared.key.pages }
-    ensures pass { IsSamePass pass.old pass.new }
-    ensures ready { IsReady words.now.table.shared.key B.tells words.now.table.shared.table_id pass.new }
+    ensures goes { GoesOn words.now B.tells pass.old pass.new }
     ensures told { LookTold U.tied p None result (view pass.old) (view pass.new) }
     ensures kept { B.tells ≡ true → IsKeptNow U.keeps p (left_at result (seat_of (view pass.old) p).reading ≡ Same) (view pass.new) }
     ensures unheld { KnowsUnheld (view pass.new) }

@@ -1,7 +1,7 @@
 // A page's translation word is written: the page is put into a frame, taken out of it, made dirty or clean.
 ghost use Rattle.std.specs.Prelude.{◌<◌, ℕ};
 ghost use Rattle.vm_rule.specs.Prelude.{CleanTold, ClearTold, DirtyTold, InstallTold, IsWritten, MayPutInto, StandsClean, StandsIn};
-ghost use Rattle.vm_step.specs.Prelude.{IsReady, IsSamePass, MayStep, view};
+ghost use Rattle.vm_step.specs.Prelude.{GoesOn, MayStep, view};
 ghost use Rattle.vm_step.specs.steps.Mapping.{ClearIsItsEvent, InstallIsItsEvent, SetCleanIsItsEvent, SetDirtyIsItsEvent};
 
 use crate::layout::translation_place;
@@ -18,8 +18,7 @@ pub fn install<U: Owner, B: Block>(words: &Words<U, B>, pass: &mut Pass<U>, p: u
     requires page { p < words.now.table.shared.key.pages }
     requires frame { f < words.now.table.shared.key.frames }
     requires legal { MayPutInto (view pass.old) p f }
-    ensures pass { IsSamePass pass.old pass.new }
-    ensures ready { IsReady words.now.table.shared.key B.tells words.now.table.shared.table_id pass.new }
+    ensures goes { GoesOn words.now B.tells pass.old pass.new }
     ensures told { InstallTold p f (view pass.old) (view pass.new) }
 {
     let at = translation_place(words, p);
@@ -32,8 +31,7 @@ pub fn clear<U: Owner, B: Block>(words: &Words<U, B>, pass: &mut Pass<U>, p: u32
     requires pass { MayStep words.now.table.shared.table_id pass.old }
     requires page { p < words.now.table.shared.key.pages }
     requires legal { (f : ℕ) × StandsClean (view pass.old) p f }
-    ensures pass { IsSamePass pass.old pass.new }
-    ensures ready { IsReady words.now.table.shared.key B.tells words.now.table.shared.table_id pass.new }
+    ensures goes { GoesOn words.now B.tells pass.old pass.new }
     ensures told { (f : ℕ) → StandsClean (view pass.old) p f → ClearTold p f (view pass.old) (view pass.new) }
 {
     let at = translation_place(words, p);
@@ -46,8 +44,7 @@ pub fn set_dirty<U: Owner, B: Block>(words: &Words<U, B>, pass: &mut Pass<U>, p:
     requires page { p < words.now.table.shared.key.pages }
     requires frame { f < words.now.table.shared.key.frames }
     requires legal { StandsIn (view pass.old) p f }
-    ensures pass { IsSamePass pass.old pass.new }
-    ensures ready { IsReady words.now.table.shared.key B.tells words.now.table.shared.table_id pass.new }
+    ensures goes { GoesOn words.now B.tells pass.old pass.new }
     ensures told { DirtyTold p f (view pass.old) (view pass.new) }
 {
     let at = translation_place(words, p);
@@ -61,8 +58,7 @@ pub fn set_clean<U: Owner, B: Block>(words: &Words<U, B>, pass: &mut Pass<U>, p:
     requires page { p < words.now.table.shared.key.pages }
     requires frame { f < words.now.table.shared.key.frames }
     requires legal { IsWritten (view pass.old) p f }
-    ensures pass { IsSamePass pass.old pass.new }
-    ensures ready { IsReady words.now.table.shared.key B.tells words.now.table.shared.table_id pass.new }
+    ensures goes { GoesOn words.now B.tells pass.old pass.new }
     ensures told { CleanTold p f (view pass.old) (view pass.new) }
 {
     let at = translation_place(words, p);

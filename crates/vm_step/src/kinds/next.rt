@@ -1,7 +1,7 @@
 // The next word, the least page number that was never claimed: it is loaded, and pages are claimed from it on.
 ghost use Rattle.std.specs.Prelude.{◌+◌, ◌≡◌, ◌≢◌, ℕ};
 ghost use Rattle.vm_rule.specs.Prelude.{ClaimTold, NextTold};
-ghost use Rattle.vm_step.specs.Prelude.{found_by, IsReady, IsSamePass, MayStep, PassMayClaim, view};
+ghost use Rattle.vm_step.specs.Prelude.{found_by, GoesOn, MayStep, PassMayClaim, view};
 ghost use Rattle.vm_step.specs.{declared.took.Took.TheVariants.Lost, steps.Next.ClaimIsItsEvent, steps.Next.NloadIsItsEvent};
 
 use crate::layout::next_place;
@@ -15,8 +15,7 @@ use vm_rule::words::{Pass, Words};
 /// The least page number that was never claimed. A pass that holds that page exclusively knows from then on that it stays the next one.
 pub fn nload<U: Owner, B: Block>(words: &Words<U, B>, pass: &mut Pass<U>) -> u64
     requires pass { MayStep words.now.table.shared.table_id pass.old }
-    ensures pass { IsSamePass pass.old pass.new }
-    ensures ready { IsReady words.now.table.shared.key B.tells words.now.table.shared.table_id pass.new }
+    ensures goes { GoesOn words.now B.tells pass.old pass.new }
     ensures told { NextTold result (view pass.old) (view pass.new) }
 {
     let at = next_place(words);
@@ -27,8 +26,7 @@ pub fn nload<U: Owner, B: Block>(words: &Words<U, B>, pass: &mut Pass<U>) -> u64
 pub fn claim<U: Owner, B: Block>(words: &Words<U, B>, pass: &mut Pass<U>, x: u32, n: u32) -> Took
     requires pass { MayStep words.now.table.shared.table_id pass.old }
     requires legal { PassMayClaim (view pass.old) x n }
-    ensures pass { IsSamePass pass.old pass.new }
-    ensures ready { IsReady words.now.table.shared.key B.tells words.now.table.shared.table_id pass.new }
+    ensures goes { GoesOn words.now B.tells pass.old pass.new }
     ensures told { ClaimTold x n (found_by x result) (view pass.old) (view pass.new) }
     ensures lost { (word : ℕ) → result ≡ Lost word → word ≢ x }
 {

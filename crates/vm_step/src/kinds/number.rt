@@ -1,7 +1,7 @@
 // Free page numbers: a free-number word is loaded, numbers are taken by it, and given.
 ghost use Rattle.std.specs.Prelude.{◌*◌, ◌<◌, ◌≡◌, ◌≢◌, ℕ};
 ghost use Rattle.vm_rule.specs.FreeNumbers.{GiveNumbersTold, SpareTold, TakeNumbersTold};
-ghost use Rattle.vm_step.specs.Prelude.{found_by, IsReady, IsSamePass, MayStep, view};
+ghost use Rattle.vm_step.specs.Prelude.{found_by, GoesOn, MayStep, view};
 ghost use Rattle.vm_step.specs.declared.took.Took.TheVariants.{Lost};
 ghost use Rattle.vm_step.specs.steps.Bundle.{IsMaskOf};
 ghost use Rattle.vm_step.specs.steps.Number.{PassMayGiveNumbers, PbloadIsItsEvent, PgiveIsItsEvent, PtakeIsItsEvent};
@@ -19,8 +19,7 @@ use vm_rule::words::{Pass, Words};
 pub fn pbload<U: Owner, B: Block>(words: &Words<U, B>, pass: &mut Pass<U>, g: u32) -> u64
     requires pass { MayStep words.now.table.shared.table_id pass.old }
     requires word { g * FRAMES < words.now.table.shared.key.pages }
-    ensures pass { IsSamePass pass.old pass.new }
-    ensures ready { IsReady words.now.table.shared.key B.tells words.now.table.shared.table_id pass.new }
+    ensures goes { GoesOn words.now B.tells pass.old pass.new }
     ensures told { SpareTold g result (view pass.old) (view pass.new) }
 {
     let at = spare_place(words, g);
@@ -38,8 +37,7 @@ pub fn ptake<U: Owner, B: Block>(
     requires pass { MayStep words.now.table.shared.table_id pass.old }
     requires word { g * FRAMES < words.now.table.shared.key.pages }
     requires legal { IsMaskOf expects mask }
-    ensures pass { IsSamePass pass.old pass.new }
-    ensures ready { IsReady words.now.table.shared.key B.tells words.now.table.shared.table_id pass.new }
+    ensures goes { GoesOn words.now B.tells pass.old pass.new }
     ensures told { TakeNumbersTold g expects mask (found_by expects result) (view pass.old) (view pass.new) }
     ensures lost { (word : ℕ) → result ≡ Lost word → word ≢ expects }
 {
@@ -56,8 +54,7 @@ pub fn pgive<U: Owner, B: Block>(words: &Words<U, B>, pass: &mut Pass<U>, g: u32
     requires pass { MayStep words.now.table.shared.table_id pass.old }
     requires word { g * FRAMES < words.now.table.shared.key.pages }
     requires legal { PassMayGiveNumbers (view pass.old) g mask }
-    ensures pass { IsSamePass pass.old pass.new }
-    ensures ready { IsReady words.now.table.shared.key B.tells words.now.table.shared.table_id pass.new }
+    ensures goes { GoesOn words.now B.tells pass.old pass.new }
     ensures told { GiveNumbersTold g mask result (view pass.old) (view pass.new) }
 {
     let at = spare_place(words, g);

@@ -1,7 +1,7 @@
 // A frame's owner word: which page stands there, for those who look for pages by frames.
 ghost use Rattle.std.specs.Prelude.{◌+◌, ◌<◌};
 ghost use Rattle.vm_rule.specs.Prelude.{StandsIn};
-ghost use Rattle.vm_step.specs.Prelude.{IsReady, IsSamePass, MayStep, view};
+ghost use Rattle.vm_step.specs.Prelude.{GoesOn, MayStep, view};
 ghost use Rattle.vm_step.specs.steps.Owner.{DisownIsItsEvent, OloadIsItsEvent, OwnerLoadTold, OwnerTold, OwnIsItsEvent};
 
 use crate::layout::owner_place;
@@ -16,8 +16,7 @@ pub fn own<U: Owner, B: Block>(words: &Words<U, B>, pass: &mut Pass<U>, p: u32, 
     requires pass { MayStep words.now.table.shared.table_id pass.old }
     requires frame { f < words.now.table.shared.key.frames }
     requires legal { StandsIn (view pass.old) p f }
-    ensures pass { IsSamePass pass.old pass.new }
-    ensures ready { IsReady words.now.table.shared.key B.tells words.now.table.shared.table_id pass.new }
+    ensures goes { GoesOn words.now B.tells pass.old pass.new }
     ensures told { OwnerTold p f (p + 1) (view pass.old) (view pass.new) }
 {
     let at = owner_place(words, f);
@@ -29,8 +28,7 @@ pub fn disown<U: Owner, B: Block>(words: &Words<U, B>, pass: &mut Pass<U>, p: u3
     requires pass { MayStep words.now.table.shared.table_id pass.old }
     requires frame { f < words.now.table.shared.key.frames }
     requires legal { StandsIn (view pass.old) p f }
-    ensures pass { IsSamePass pass.old pass.new }
-    ensures ready { IsReady words.now.table.shared.key B.tells words.now.table.shared.table_id pass.new }
+    ensures goes { GoesOn words.now B.tells pass.old pass.new }
     ensures told { OwnerTold p f 0 (view pass.old) (view pass.new) }
 {
     let at = owner_place(words, f);
@@ -41,8 +39,7 @@ pub fn disown<U: Owner, B: Block>(words: &Words<U, B>, pass: &mut Pass<U>, p: u3
 pub fn oload<U: Owner, B: Block>(words: &Words<U, B>, pass: &mut Pass<U>, f: u32) -> u64
     requires pass { MayStep words.now.table.shared.table_id pass.old }
     requires frame { f < words.now.table.shared.key.frames }
-    ensures pass { IsSamePass pass.old pass.new }
-    ensures ready { IsReady words.now.table.shared.key B.tells words.now.table.shared.table_id pass.new }
+    ensures goes { GoesOn words.now B.tells pass.old pass.new }
     ensures told { OwnerLoadTold f result (view pass.old) (view pass.new) }
 {
     let at = owner_place(words, f);

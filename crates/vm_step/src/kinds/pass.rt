@@ -1,7 +1,7 @@
 // Passes are split and joined; and passes that meet tell each other what they have seen.
 ghost use Rattle.std.specs.Prelude.{◌≡◌};
 ghost use Rattle.vm_rule.specs.Prelude.{CaughtUp, giver, hearer, HoldsNoPage, JoinTold, newcomer, OnlyKnows, StartsWith, TakesOver};
-ghost use Rattle.vm_step.specs.Prelude.{IsReady, IsSamePass, KnowsAll, MayStep, view};
+ghost use Rattle.vm_step.specs.Prelude.{GoesOn, IsSamePass, KnowsAll, MayStep, view};
 ghost use Rattle.vm_step.specs.steps.Pass.{FollowIsItsEvent, HearingIsNoEvent, JoinIsNoEvent, SplitIsNoEvent};
 
 use crate::layout::next_place;
@@ -89,8 +89,7 @@ pub fn join_pass<U: Owner, B: Block>(words: &Words<U, B>, pass: &mut Pass<U>, ot
     requires pass { MayStep words.now.table.shared.table_id pass.old }
     requires other { other.badge.table_id ≡ words.now.table.shared.table_id }
     requires nothing { HoldsNoPage (view other) }
-    ensures pass { IsSamePass pass.old pass.new }
-    ensures ready { IsReady words.now.table.shared.key B.tells words.now.table.shared.table_id pass.new }
+    ensures goes { GoesOn words.now B.tells pass.old pass.new }
     ensures told { JoinTold (view pass.old) (view other) (view pass.new) }
     ensures knows { KnowsAll B.tells U.keeps (view pass.new) }
 {
@@ -103,8 +102,7 @@ pub fn hear_pass<U: Owner, B: Block>(words: &Words<U, B>, pass: &mut Pass<U>, ot
     requires pass { MayStep words.now.table.shared.table_id pass.old }
     requires other { other.badge.table_id ≡ words.now.table.shared.table_id }
     requires only { OnlyKnows (view other) }
-    ensures pass { IsSamePass pass.old pass.new }
-    ensures ready { IsReady words.now.table.shared.key B.tells words.now.table.shared.table_id pass.new }
+    ensures goes { GoesOn words.now B.tells pass.old pass.new }
     ensures told { CaughtUp (hearer (view pass.old) (view other)) (view pass.new) }
 {
     let at = next_place(words);
@@ -119,8 +117,7 @@ pub fn follow_pass<U: Owner, B: Block>(words: &Words<U, B>, pass: &mut Pass<U>, 
     requires only { OnlyKnows (view other) }
     requires releases { StartsWith (view other).releases (view pass.old).releases }
     requires seen { StartsWith (view other).seen (view pass.old).seen }
-    ensures pass { IsSamePass pass.old pass.new }
-    ensures ready { IsReady words.now.table.shared.key B.tells words.now.table.shared.table_id pass.new }
+    ensures goes { GoesOn words.now B.tells pass.old pass.new }
     ensures told { TakesOver (hearer (view pass.old) (view other)) (view pass.new) }
 {
     let at = next_place(words);

@@ -1,7 +1,7 @@
 // A page's fault word is raised to the count of its block.
 ghost use Rattle.std.specs.Prelude.{◌<◌};
 ghost use Rattle.vm_rule.specs.Prelude.{RaiseTold};
-ghost use Rattle.vm_step.specs.Prelude.{IsReady, IsSamePass, MayRaise, MayStep, view};
+ghost use Rattle.vm_step.specs.Prelude.{GoesOn, MayRaise, MayStep, view};
 ghost use Rattle.vm_step.specs.steps.Raise.{RaiseIsItsEvent};
 
 use crate::layout::fault_place;
@@ -16,8 +16,7 @@ pub fn raise<U: Owner, B: Block>(words: &Words<U, B>, pass: &mut Pass<U>, p: u32
     requires pass { MayStep words.now.table.shared.table_id pass.old }
     requires page { p < words.now.table.shared.key.pages }
     requires legal { MayRaise (view pass.old) p count }
-    ensures pass { IsSamePass pass.old pass.new }
-    ensures ready { IsReady words.now.table.shared.key B.tells words.now.table.shared.table_id pass.new }
+    ensures goes { GoesOn words.now B.tells pass.old pass.new }
     ensures told { RaiseTold p count (view pass.old) (view pass.new) }
 {
     let at = fault_place(words, p);

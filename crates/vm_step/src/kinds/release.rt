@@ -2,7 +2,7 @@
 ghost use Rattle.std.specs.Prelude.{[], ◌+◌, ◌<◌, ◌≡◌, None, option_map, true};
 ghost use Rattle.vm_core.specs.Prelude.{MAX_VERSION};
 ghost use Rattle.vm_rule.specs.Prelude.{DowngradeTold, EvictTold, ReleaseTold};
-ghost use Rattle.vm_step.specs.Prelude.{IsKeptNow, IsReady, IsSamePass, MayDowngrade, MayEvict, MayGiveUp, MayStep, view};
+ghost use Rattle.vm_step.specs.Prelude.{GoesOn, IsKeptNow, MayDowngrade, MayEvict, MayGiveUp, MayStep, view};
 ghost use Rattle.vm_step.specs.steps.Release.{DowngradeIsItsEvent, ReleaseEvictedIsItsEvent, ReleaseIsItsEvent};
 
 use crate::layout::state_place;
@@ -27,8 +27,7 @@ pub fn release<U: Owner, B: Block>(
     requires page { p < words.now.table.shared.key.pages }
     requires below { version < MAX_VERSION }
     requires legal { MayGiveUp U.may_release p version rest.now (option_map (λ b. b.now) said) (view pass.old) }
-    ensures pass { IsSamePass pass.old pass.new }
-    ensures ready { IsReady words.now.table.shared.key B.tells words.now.table.shared.table_id pass.new }
+    ensures goes { GoesOn words.now B.tells pass.old pass.new }
     ensures told { ReleaseTold p version rest.now (option_map (λ b. b.now) said.entry) (view pass.old) (view pass.new) }
     ensures kept { B.tells ≡ true → IsKeptNow U.keeps p (Unit {0}) (view pass.new) }
 {
@@ -48,8 +47,7 @@ pub fn release_silently<U: Owner, B: Block>(
     requires page { p < words.now.table.shared.key.pages }
     requires below { version < MAX_VERSION }
     requires legal { MayGiveUp U.may_release p version [] None (view pass.old) }
-    ensures pass { IsSamePass pass.old pass.new }
-    ensures ready { IsReady words.now.table.shared.key B.tells words.now.table.shared.table_id pass.new }
+    ensures goes { GoesOn words.now B.tells pass.old pass.new }
     ensures told { ReleaseTold p version [] None (view pass.old) (view pass.new) }
     ensures kept { B.tells ≡ true → IsKeptNow U.keeps p (Unit {0}) (view pass.new) }
 {
@@ -68,8 +66,7 @@ pub fn release_evicted<U: Owner, B: Block>(
     requires page { p < words.now.table.shared.key.pages }
     requires below { version < MAX_VERSION }
     requires legal { MayEvict (view pass.old) p version }
-    ensures pass { IsSamePass pass.old pass.new }
-    ensures ready { IsReady words.now.table.shared.key B.tells words.now.table.shared.table_id pass.new }
+    ensures goes { GoesOn words.now B.tells pass.old pass.new }
     ensures told { EvictTold p version (view pass.old) (view pass.new) }
     ensures kept { B.tells ≡ true → IsKeptNow U.keeps p (Unit {0}) (view pass.new) }
 {
@@ -84,8 +81,7 @@ pub fn downgrade<U: Owner, B: Block>(words: &Words<U, B>, pass: &mut Pass<U>, p:
     requires page { p < words.now.table.shared.key.pages }
     requires below { version < MAX_VERSION }
     requires legal { MayDowngrade U.may_release (view pass.old) p version }
-    ensures pass { IsSamePass pass.old pass.new }
-    ensures ready { IsReady words.now.table.shared.key B.tells words.now.table.shared.table_id pass.new }
+    ensures goes { GoesOn words.now B.tells pass.old pass.new }
     ensures told { DowngradeTold p version (view pass.old) (view pass.new) }
     ensures kept { B.tells ≡ true → IsKeptNow U.keeps p (Unit {0}) (view pass.new) }
 {

@@ -2,7 +2,7 @@
 ghost use Rattle.std.specs.Prelude.{◌<◌, ◌≡◌, ◌≢◌, None, option_map, true, ℕ};
 ghost use Rattle.vm_core.specs.Prelude.{MayShare, version_of};
 ghost use Rattle.vm_rule.specs.Prelude.{ShareTold, UnshareTold};
-ghost use Rattle.vm_step.specs.Prelude.{found_by, IsKeptNow, IsReady, IsSamePass, MayStep, MayTellHeld, MayUnshare, view};
+ghost use Rattle.vm_step.specs.Prelude.{found_by, GoesOn, IsKeptNow, MayStep, MayTellHeld, MayUnshare, view};
 ghost use Rattle.vm_step.specs.{declared.took.Took.TheVariants.Lost, steps.Share.LockSharedIsItsEvent, steps.Share.UnlockSharedIsItsEvent};
 
 use crate::layout::state_place;
@@ -27,8 +27,7 @@ pub fn lock_shared<U: Owner, B: Block>(
     requires page { p < words.now.table.shared.key.pages }
     requires legal { MayShare expects }
     requires owner { MayTellHeld U.tied U.may_hold p (version_of expects) (option_map (λ b. b.now) said) (view pass.old) }
-    ensures pass { IsSamePass pass.old pass.new }
-    ensures ready { IsReady words.now.table.shared.key B.tells words.now.table.shared.table_id pass.new }
+    ensures goes { GoesOn words.now B.tells pass.old pass.new }
     ensures told { ShareTold U.tied p expects (option_map (λ b. b.now) said.entry) (found_by expects result) (view pass.old) (view pass.new) }
     ensures kept { B.tells ≡ true → found_by expects result ≡ expects → IsKeptNow U.keeps p (Unit {0}) (view pass.new) }
     ensures lost { (word : ℕ) → result ≡ Lost word → word ≢ expects }
@@ -58,8 +57,7 @@ pub fn lock_shared_silently<U: Owner, B: Block>(
     requires pass { MayStep words.now.table.shared.table_id pass.old }
     requires page { p < words.now.table.shared.key.pages }
     requires legal { MayShare expects }
-    ensures pass { IsSamePass pass.old pass.new }
-    ensures ready { IsReady words.now.table.shared.key B.tells words.now.table.shared.table_id pass.new }
+    ensures goes { GoesOn words.now B.tells pass.old pass.new }
     ensures told { ShareTold U.tied p expects None (found_by expects result) (view pass.old) (view pass.new) }
     ensures kept { B.tells ≡ true → found_by expects result ≡ expects → IsKeptNow U.keeps p (Unit {0}) (view pass.new) }
     ensures lost { (word : ℕ) → result ≡ Lost word → word ≢ expects }
@@ -77,8 +75,7 @@ pub fn unlock_shared<U: Owner, B: Block>(words: &Words<U, B>, pass: &mut Pass<U>
     requires pass { MayStep words.now.table.shared.table_id pass.old }
     requires page { p < words.now.table.shared.key.pages }
     requires legal { MayUnshare (view pass.old) p }
-    ensures pass { IsSamePass pass.old pass.new }
-    ensures ready { IsReady words.now.table.shared.key B.tells words.now.table.shared.table_id pass.new }
+    ensures goes { GoesOn words.now B.tells pass.old pass.new }
     ensures told { UnshareTold p result (view pass.old) (view pass.new) }
 {
     let at = state_place(words, p);

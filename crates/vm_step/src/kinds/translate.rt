@@ -1,7 +1,7 @@
 // A page's translation word is loaded: an open read of the page gets its frame.
 ghost use Rattle.std.specs.Prelude.{◌<◌};
 ghost use Rattle.vm_rule.specs.Prelude.{TranslationTold};
-ghost use Rattle.vm_step.specs.Prelude.{IsReady, IsSamePass, MayStep, view};
+ghost use Rattle.vm_step.specs.Prelude.{GoesOn, MayStep, view};
 ghost use Rattle.vm_step.specs.steps.Translate.{TloadIsItsEvent};
 
 use crate::layout::translation_place;
@@ -15,8 +15,7 @@ use vm_rule::words::{Pass, Words};
 pub fn tload<U: Owner, B: Block>(words: &Words<U, B>, pass: &mut Pass<U>, p: u32) -> u64
     requires pass { MayStep words.now.table.shared.table_id pass.old }
     requires page { p < words.now.table.shared.key.pages }
-    ensures pass { IsSamePass pass.old pass.new }
-    ensures ready { IsReady words.now.table.shared.key B.tells words.now.table.shared.table_id pass.new }
+    ensures goes { GoesOn words.now B.tells pass.old pass.new }
     ensures told { TranslationTold p result (view pass.old) (view pass.new) }
 {
     let at = translation_place(words, p);

@@ -2,7 +2,7 @@
 ghost use Rattle.std.specs.Prelude.{◌<◌, ◌≡◌, ◌≢◌, ℕ};
 ghost use Rattle.vm_core.specs.Prelude.{MARKED, state_of};
 ghost use Rattle.vm_rule.specs.Prelude.{MayRaiseLock, UpgradeTold, WriteLockTold};
-ghost use Rattle.vm_step.specs.Prelude.{found_by, IsReady, IsSamePass, MayStep, view};
+ghost use Rattle.vm_step.specs.Prelude.{found_by, GoesOn, MayStep, view};
 ghost use Rattle.vm_step.specs.{declared.took.Took.TheVariants.Lost, steps.WriteBack.LockWriteBackIsItsEvent, steps.WriteBack.UpgradeIsItsEvent};
 
 use crate::layout::state_place;
@@ -25,8 +25,7 @@ pub fn lock_write_back<U: Owner, B: Block>(
     requires pass { MayStep words.now.table.shared.table_id pass.old }
     requires page { p < words.now.table.shared.key.pages }
     requires legal { state_of expects ≡ MARKED }
-    ensures pass { IsSamePass pass.old pass.new }
-    ensures ready { IsReady words.now.table.shared.key B.tells words.now.table.shared.table_id pass.new }
+    ensures goes { GoesOn words.now B.tells pass.old pass.new }
     ensures told { WriteLockTold U.tied p expects (found_by expects result) (view pass.old) (view pass.new) }
     ensures lost { (word : ℕ) → result ≡ Lost word → word ≢ expects }
 {
@@ -48,8 +47,7 @@ pub fn upgrade<U: Owner, B: Block>(
     requires pass { MayStep words.now.table.shared.table_id pass.old }
     requires page { p < words.now.table.shared.key.pages }
     requires legal { MayRaiseLock (view pass.old) p expects }
-    ensures pass { IsSamePass pass.old pass.new }
-    ensures ready { IsReady words.now.table.shared.key B.tells words.now.table.shared.table_id pass.new }
+    ensures goes { GoesOn words.now B.tells pass.old pass.new }
     ensures told { UpgradeTold U.tied p expects (found_by expects result) (view pass.old) (view pass.new) }
     ensures lost { (word : ℕ) → result ≡ Lost word → word ≢ expects }
 {

@@ -11,9 +11,33 @@ pub of_pages-requires : goal.of_pages-requires
 of_pages-requires g c =
     let fits : needed g.row.N (length c.in_ok-sorted.sorted.items) ≤ c.args.pages = search rules in
     let long = length-built g.row.N c.requires.sized c.args.pages c.in_ok-sorted.sorted.items fits in
-    let some : 2 ≤ length c.in_ok-made.made.items = omega (arith, ap length c.in_ok-made.ensures, long, fits, needed_two g.row.N c.requires.sized (length c.in_ok-sorted.sorted.items)) in
-    let most : length c.in_ok-made.made.items ≤ most_pages g.row.N = omega (arith, ap length c.in_ok-made.ensures, long, c.requires.pages) in
-    (search rules, (search rules, (c.requires.sized, (some, (most, rw c.in_ok-made.ensures (words-built g.row.N c.requires.sized c.args.pages c.in_ok-sorted.sorted.items))))))
+    let some : 2 ≤ length c.in_ok-made.made.items =
+    omega (
+      arith,
+      ap length c.in_ok-made.ensures,
+      long,
+      fits,
+      needed_two g.row.N c.requires.sized
+          (length c.in_ok-sorted.sorted.items),
+    ) in
+    let most : length c.in_ok-made.made.items ≤ most_pages g.row.N =
+    omega (arith, ap length c.in_ok-made.ensures, long, c.requires.pages) in (
+      search rules,
+      (
+        search rules,
+        (
+          c.requires.sized,
+          (
+            some,
+            (
+              most,
+              rw c.in_ok-made.ensures
+                  (words-built g.row.N c.requires.sized c.args.pages c.in_ok-sorted.sorted.items),
+            ),
+          ),
+        ),
+      ),
+    )
 
 pub returns : goal.returns
 returns g c =

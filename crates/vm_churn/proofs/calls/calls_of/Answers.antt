@@ -21,17 +21,22 @@ places-preserved c =
     let key = c.next-key.ensures.number ∙ c.places.invariant.keys in
     let new = c.next-new.ensures.number ∙ c.places.invariant.new_keys in
     record {
-      lists = vectors_added c.args.pairs c.args.seed c.args.workers c.places.lists.items k c.index_mut.result.now c.add_place.new.calls c.next-key.result c.next-new.result c.requires.workers.0 c.places.invariant.lists c.index_mut.ensures.value c.in_ok-add_place.ensures key new;
+      lists = vectors_added c.args.pairs c.args.seed c.args.workers c.places.lists.items k c.index_mut.result.now
+          c.add_place.new.calls c.next-key.result c.next-new.result c.requires.workers.0 c.places.invariant.lists
+          c.index_mut.ensures.value c.in_ok-add_place.ensures key new;
       keys = next c.args.seed k c.places.keys c.next-key.new.self c.places.invariant.keys c.next-key.ensures.after;
-      new_keys = next c.args.seed (c.args.pairs + k) c.places.new_keys c.next-new.new.self c.places.invariant.new_keys c.next-new.ensures.after ∙ ap (number_at c.args.seed) (omega arith);
+      new_keys = next c.args.seed (c.args.pairs + k) c.places.new_keys c.next-new.new.self c.places.invariant.new_keys
+          c.next-new.ensures.after ∙ ap (number_at c.args.seed) (omega arith);
     }
 
 pub returns-clause-few : goal.returns-clause-few
 returns-clause-few c =
     let all : c.places.before ≡ c.args.pairs = omega (arith, c.places.auto.before-end, c.places-test.false) in
-    subst (λ (lists : List (List Call)). AreFew lists) (sym (rw all at c.places.invariant.lists)) (few_lists c.args.pairs c.args.seed c.args.workers c.requires.pairs)
+    subst (λ (lists : List (List Call)). AreFew lists) (sym (rw all at c.places.invariant.lists))
+    (few_lists c.args.pairs c.args.seed c.args.workers c.requires.pairs)
 
 pub returns-clause-askable : goal.returns-clause-askable
 returns-clause-askable c =
     let all : c.places.before ≡ c.args.pairs = omega (arith, c.places.auto.before-end, c.places-test.false) in
-    subst (λ (lists : List (List Call)). AreAskable lists) (sym (rw all at c.places.invariant.lists)) (askable_lists c.args.pairs c.args.seed c.args.workers)
+    subst (λ (lists : List (List Call)). AreAskable lists) (sym (rw all at c.places.invariant.lists))
+    (askable_lists c.args.pairs c.args.seed c.args.workers)

@@ -8,4 +8,5 @@ returns-then-list-i c = sym (has-at _ _ _ _ c.loop-i-test.true c.if-list-i.true)
 pub loop-i-preserved : goal.loop-i-preserved
 loop-i-preserved c =
     let on : suc c.loop-i.i ≡ c.loop-i.i + 1 = omega arith in
-    subst (λ n. has c.args.p (candidate_pages (take n c.args.list.now)) ≡ false) on (has-next _ _ _ _ c.loop-i-test.true c.if-list-i.false c.loop-i.invariant)
+    subst (λ n. has c.args.p (candidate_pages (take n c.args.list.now)) ≡ false) on
+    (has-next _ _ _ _ c.loop-i-test.true c.if-list-i.false c.loop-i.invariant)

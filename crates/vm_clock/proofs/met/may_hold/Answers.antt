@@ -8,4 +8,5 @@ use Rattle.vm_clock.proofs.met.may_hold.Goals as goal
 pub returns : goal.returns
 unfolding has_free_bit
 returns c =
-    ap (λ y. eqb y 1) (shr_and_one _ _) ∙ ap (λ y. eqb (bit_at y (c.args.p % 1024 % 64)) 1) (sym (at-get 0 c.args.met.now (c.args.p % 1024 / 64)))
+    ap (λ y. eqb y 1) (shr_and_one _ _) ∙ ap (λ y. eqb (bit_at y (c.args.p % 1024 % 64)) 1)
+    (sym (at-get 0 c.args.met.now (c.args.p % 1024 / 64)))

@@ -13,7 +13,8 @@ pub loop-i-preserved : goal.loop-i-preserved
 loop-i-preserved c =
     let ls : c.loop-i.i < length c.loop-i.words = omega (arith, c.loop-i.invariant.len, c.loop-i-test.true) in
     record {
-      counted = take_more_set c.loop-i.words c.loop-i.i _ ls ∙ ap (λ y. y ++ (64 * c.from.result + c.loop-i.i) ∷ []) c.loop-i.invariant.counted
+      counted = take_more_set c.loop-i.words c.loop-i.i _ ls ∙ ap (λ y. y ++ (64 * c.from.result + c.loop-i.i) ∷ [])
+          c.loop-i.invariant.counted
           ∙ ap (λ b. map (λ k. 64 * c.args.p + k) (range_with_len 0 c.loop-i.i) ++ (64 * b + c.loop-i.i) ∷ []) c.from.ensures
           ∙ sym (map-range_with_len_more (λ k. 64 * c.args.p + k) 0 c.loop-i.i c.loop-i.i (omega arith));
       len = length-set c.loop-i.words c.loop-i.i _ ∙ c.loop-i.invariant.len;

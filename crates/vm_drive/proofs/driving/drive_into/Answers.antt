@@ -11,13 +11,29 @@ use Rattle.vm_drive.proofs.Finishing.{all_kept, driven, hired-idle, hired-long, 
 
 pub hire-workers-requires : goal.hire-workers-requires
 hire-workers-requires g c =
-    let long : length c.args.rooms.items ≡ length c.args.lists.now = room-long g.A.Answers.keeps g.A.Answers.room _ _ c.requires.rooms ∙ items-long c.args.lists.now in
-    let fresh : length c.args.rooms.items ≤ length (view c.args.pass.now).fresh = subst (λ n. n ≤ length (view c.args.pass.now).fresh) (sym long) c.requires.fresh in
+    let long : length c.args.rooms.items ≡ length c.args.lists.now = room-long g.A.Answers.keeps g.A.Answers.room _ _
+    c.requires.rooms ∙ items-long c.args.lists.now in
+    let fresh : length c.args.rooms.items ≤ length (view c.args.pass.now).fresh =
+    subst (λ n. n ≤ length (view c.args.pass.now).fresh) (sym long) c.requires.fresh in
     let few : length c.args.rooms.items ≤ 64 = subst (λ n. n ≤ 64) (sym long) c.requires.lists.1 in
     let places = c.in-Ok.ensures.workers in
-    let room : length c.args.rooms.items ≤ vec_capacity c.in-Ok.places.0 = subst (λ n. n ≤ vec_capacity c.in-Ok.places.0) (sym long) places.1 in
-    let spans : length c.in-Ok-spans_for.spans.items ≡ length c.args.rooms.items = spans-long g.row.N _ _ c.in-Ok-spans_for.ensures ∙ sym (room-long g.A.Answers.keeps g.A.Answers.room _ _ c.requires.rooms) in
-    (omega arith, (omega arith, (c.requires.ready, (c.requires.holds, (fresh, (c.requires.pages, (c.cap_for-cap.ensures.some, (few, (spans, (places.0, room))))))))))
+    let room : length c.args.rooms.items ≤ vec_capacity c.in-Ok.places.0 =
+    subst (λ n. n ≤ vec_capacity c.in-Ok.places.0) (sym long) places.1 in
+    let spans : length c.in-Ok-spans_for.spans.items ≡ length c.args.rooms.items =
+    spans-long g.row.N _ _ c.in-Ok-spans_for.ensures
+    ∙ sym (room-long g.A.Answers.keeps g.A.Answers.room _ _ c.requires.rooms) in (
+      omega arith,
+      (
+        omega arith,
+        (
+          c.requires.ready,
+          (
+            c.requires.holds,
+            (fresh, (c.requires.pages, (c.cap_for-cap.ensures.some, (few, (spans, (places.0, room)))))),
+          ),
+        ),
+      ),
+    )
 
 pub work_all-requires-after_bounds : goal.work_all-requires-after_bounds
 work_all-requires-after_bounds g c κs within =
@@ -26,8 +42,11 @@ work_all-requires-after_bounds g c κs within =
     let t = c.args.pool.now.words.table.shared.table_id in
     let lists = items_of c.args.lists.now in
     let whole = sym c.as_mut_slice.ensures.value in
-    let idle = subst (λ (l : List (Worker _ _ _ _)). AreIdle g.row.N g.A.Answers.keeps g.A.Answers.room shape g.B.Block.tells t lists l) whole
-    (hired-idle g.row.N g.A.Answers.keeps shape g.B.Block.tells t g.A.Answers.room lists c.args.rooms.items c.in-Ok-spans_for.spans.items (view c.args.pass.now) (view c.hire-workers.new.pass) c.hire-workers.result.items hired c.requires.rooms c.in-Ok-spans_for.ensures) in
+    let idle = subst (λ (l : List (Worker _ _ _ _)). AreIdle g.row.N g.A.Answers.keeps g.A.Answers.room shape
+    g.B.Block.tells t lists l) whole
+    (hired-idle g.row.N g.A.Answers.keeps shape g.B.Block.tells t g.A.Answers.room lists c.args.rooms.items
+    c.in-Ok-spans_for.spans.items (view c.args.pass.now) (view c.hire-workers.new.pass)
+    c.hire-workers.result.items hired c.requires.rooms c.in-Ok-spans_for.ensures) in
     let homes = subst (λ (l : List (Worker _ _ _ _)). AreAtHome 0 (share_of c.args.pool.now.words.frames (length c.args.lists.now)) l) whole
     (subst (λ n. AreAtHome 0 n c.hire-workers.result.items) c.cap_for-cap.ensures.share c.hire-workers.ensures.homes) in
     (omega arith, (omega arith, (c.requires.lists, (c.requires.askable, (idle, homes)))))
@@ -41,14 +60,29 @@ gather-requires g c =
     let x = view c.hire-workers.new.pass in
     let olds = c.hire-workers.result.items in
     let news = c.work_all.new.workers in
-    let worked : length news ≡ length olds = worked-long _ _ _ _ _ _ _ _ c.work_all.ensures ∙ ap (λ (l : List (Worker _ _ _ _)). length l) c.as_mut_slice.ensures.value in
+    let worked : length news ≡ length olds = worked-long _ _ _ _ _ _ _ _ c.work_all.ensures
+    ∙ ap (λ (l : List (Worker _ _ _ _)). length l) c.as_mut_slice.ensures.value in
     let back = sym (whole-back news olds c.hire-workers.result.len worked (search rules)) in
-    let many : length olds ≡ length c.args.lists.now = hired-long g.row.N g.A.Answers.keeps _ _ _ g.A.Answers.room _ _ _ _ _ _ hired c.requires.rooms ∙ items-long c.args.lists.now in
-    let room = subst (λ (l : List (Worker _ _ _ _)). length l ≤ vec_capacity c.in-Ok.places.1) back (subst (λ n. n ≤ vec_capacity c.in-Ok.places.1) (sym (worked ∙ many)) c.in-Ok.ensures.kept.1) in
+    let many : length olds ≡ length c.args.lists.now = hired-long g.row.N g.A.Answers.keeps _ _ _ g.A.Answers.room _ _
+    _ _ _ _ hired c.requires.rooms ∙ items-long c.args.lists.now in
+    let room = subst (λ (l : List (Worker _ _ _ _)). length l ≤ vec_capacity c.in-Ok.places.1) back
+    (subst (λ n. n ≤ vec_capacity c.in-Ok.places.1) (sym (worked ∙ many)) c.in-Ok.ensures.kept.1) in
     let some = subst (λ (l : List (Worker _ _ _ _)). 1 ≤ length l) back (subst (λ n. 1 ≤ n) (sym (worked ∙ many)) c.requires.lists.0) in
-    let all : AllWorked g.row.N g.A.Answers.keeps shape g.B.Block.tells t lists olds news = subst (λ (l : List (Worker _ _ _ _)). AllWorked g.row.N g.A.Answers.keeps shape g.B.Block.tells t lists l news) c.as_mut_slice.ensures.value c.work_all.ensures in
-    let are-back = subst (λ (l : List (Worker _ _ _ _)). Each (IsBack shape g.B.Block.tells t x) l) back (worked-back g.row.N g.A.Answers.keeps shape g.B.Block.tells t lists (view c.args.pass.now) x olds news hired.kept.start all hired.each) in
-    (omega arith, (omega arith, (c.hire-workers.ensures.ready, (hired.kept.out ∙ c.requires.holds.out, ((c.in-Ok.ensures.kept.0, room), (some, are-back))))))
+    let all : AllWorked g.row.N g.A.Answers.keeps shape g.B.Block.tells t lists olds news =
+    subst (λ (l : List (Worker _ _ _ _)). AllWorked g.row.N g.A.Answers.keeps shape g.B.Block.tells t lists l
+    news) c.as_mut_slice.ensures.value c.work_all.ensures in
+    let are-back = subst (λ (l : List (Worker _ _ _ _)). Each (IsBack shape g.B.Block.tells t x) l) back
+    (worked-back g.row.N g.A.Answers.keeps shape g.B.Block.tells t lists (view c.args.pass.now) x olds news
+    hired.kept.start all hired.each) in (
+      omega arith,
+      (
+        omega arith,
+        (
+          c.hire-workers.ensures.goes.ready,
+          (hired.kept.out ∙ c.requires.holds.out, ((c.in-Ok.ensures.kept.0, room), (some, are-back))),
+        ),
+      ),
+    )
 
 pub returns-clause-driven : goal.returns-clause-driven
 returns-clause-driven g c =
@@ -61,15 +95,23 @@ returns-clause-driven g c =
     let w = view c.gather.new.pass in
     let olds = c.hire-workers.result.items in
     let news = c.work_all.new.workers in
-    let worked : length news ≡ length olds = worked-long _ _ _ _ _ _ _ _ c.work_all.ensures ∙ ap (λ (l : List (Worker _ _ _ _)). length l) c.as_mut_slice.ensures.value in
+    let worked : length news ≡ length olds = worked-long _ _ _ _ _ _ _ _ c.work_all.ensures
+    ∙ ap (λ (l : List (Worker _ _ _ _)). length l) c.as_mut_slice.ensures.value in
     let back = whole-back news olds c.hire-workers.result.len worked (search rules) in
-    let all : AllWorked g.row.N g.A.Answers.keeps shape g.B.Block.tells t lists olds news = subst (λ (l : List (Worker _ _ _ _)). AllWorked g.row.N g.A.Answers.keeps shape g.B.Block.tells t lists l news) c.as_mut_slice.ensures.value c.work_all.ensures in
-    let kept : c.gather.result.kept.items ≡ answers_of news = c.gather.ensures.kept ∙ ap (λ (l : List (Worker _ _ _ _)). answers_of l) back in
-    let many : length olds ≡ length c.args.lists.now = hired-long g.row.N g.A.Answers.keeps _ _ _ g.A.Answers.room _ _ _ _ _ _ hired c.requires.rooms ∙ items-long c.args.lists.now in
+    let all : AllWorked g.row.N g.A.Answers.keeps shape g.B.Block.tells t lists olds news =
+    subst (λ (l : List (Worker _ _ _ _)). AllWorked g.row.N g.A.Answers.keeps shape g.B.Block.tells t lists l
+    news) c.as_mut_slice.ensures.value c.work_all.ensures in
+    let kept : c.gather.result.kept.items ≡ answers_of news = c.gather.ensures.kept
+    ∙ ap (λ (l : List (Worker _ _ _ _)). answers_of l) back in
+    let many : length olds ≡ length c.args.lists.now = hired-long g.row.N g.A.Answers.keeps _ _ _ g.A.Answers.room _ _
+    _ _ _ _ hired c.requires.rooms ∙ items-long c.args.lists.now in
     let some : 1 ≤ length olds = subst (λ n. 1 ≤ n) (sym many) c.requires.lists.0 in
     record {
       told = told_of g.row.N g.A.Answers.keeps shape g.B.Block.tells t lists olds news all;
-      stand = subst (λ l. AreKept g.A.Answers.keeps l (told_of g.row.N g.A.Answers.keeps shape g.B.Block.tells t lists olds news all)) (sym kept) (all_kept g.row.N g.A.Answers.keeps shape g.B.Block.tells t lists olds news all);
-      driven = driven g.row.N g.A.Answers.keeps shape g.B.Block.tells t lists c.args.rooms.items c.in-Ok-spans_for.spans.items v x w olds news c.requires.whole c.requires.holds some hired all
+      stand = subst (λ l. AreKept g.A.Answers.keeps l
+          (told_of g.row.N g.A.Answers.keeps shape g.B.Block.tells t lists olds news all)) (sym kept)
+          (all_kept g.row.N g.A.Answers.keeps shape g.B.Block.tells t lists olds news all);
+      driven = driven g.row.N g.A.Answers.keeps shape g.B.Block.tells t lists c.args.rooms.items
+          c.in-Ok-spans_for.spans.items v x w olds news c.requires.whole c.requires.holds some hired all
           (subst (λ (l : List (Worker _ _ _ _)). AreJoined g.row.N g.B.Block.tells x l w) back c.gather.ensures.joined);
     }

@@ -5,7 +5,8 @@ use Rattle.vm_drive.proofs.driving.work_all.Goals as goal
 
 pub for_each_mut-requires-clause-accepts : goal.for_each_mut-requires-clause-accepts
 for_each_mut-requires-clause-accepts g c κs within = λ i p l e.
-    let long : length c.args.lists.now ≡ length c.args.workers.now = sym (items-long c.args.lists.now) ∙ idle-long _ _ _ _ _ _ _ _ c.requires.idle in
+    let long : length c.args.lists.now ≡ length c.args.workers.now = sym (items-long c.args.lists.now)
+    ∙ idle-long _ _ _ _ _ _ _ _ c.requires.idle in
     let inside : i < length c.args.lists.now = subst (λ n. i < n) (sym long) l in
     (omega arith, (omega arith, ((inside, c.requires.lists.1), (c.requires.askable, idle-at _ _ _ _ _ _ _ _ i p.now c.requires.idle l e))))
 
@@ -14,8 +15,13 @@ returns g c =
     let shape = c.args.pool.now.words.table.shared.key in
     let t = c.args.pool.now.words.table.shared.table_id in
     let lists = items_of c.args.lists.now in
-    worked-all g.row.N g.A.Answers.keeps shape g.B.Block.tells t lists c.args.workers.now c.for_each_mut.new.s (idle-long _ _ _ _ _ _ _ _ c.requires.idle) (search rules)
+    worked-all g.row.N g.A.Answers.keeps shape g.B.Block.tells t lists c.args.workers.now c.for_each_mut.new.s
+    (idle-long _ _ _ _ _ _ _ _ c.requires.idle) (search rules)
     (λ (i : ℕ) (d : Worker _ _ _ _) (l : i < length c.args.workers.now).
     let at = (c.for_each_mut.ensures i d l).1 in
-    let left : HasWorked g.row.N g.A.Answers.keeps shape g.B.Block.tells t (list_at lists i) at.argument.now (get_or c.for_each_mut.new.s i d) = subst (λ (n : Worker _ _ _ _). HasWorked g.row.N g.A.Answers.keeps shape g.B.Block.tells t (list_at lists i) at.argument.now n) at.left at.call in
-    subst (λ (o : Worker _ _ _ _). HasWorked g.row.N g.A.Answers.keeps shape g.B.Block.tells t (list_at lists i) o (get_or c.for_each_mut.new.s i d)) at.argument_is left)
+    let left : HasWorked g.row.N g.A.Answers.keeps shape g.B.Block.tells t (list_at lists i) at.argument.now
+    (get_or c.for_each_mut.new.s i d) =
+    subst (λ (n : Worker _ _ _ _). HasWorked g.row.N g.A.Answers.keeps shape g.B.Block.tells t (list_at lists i)
+    at.argument.now n) at.left at.call in
+    subst (λ (o : Worker _ _ _ _). HasWorked g.row.N g.A.Answers.keeps shape g.B.Block.tells t (list_at lists i) o
+    (get_or c.for_each_mut.new.s i d)) at.argument_is left)

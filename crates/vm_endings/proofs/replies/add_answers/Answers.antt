@@ -9,12 +9,27 @@ use Rattle.vm_endings.proofs.replies.add_answers.Goals as goal
 pub bounds-calls-number : goal.bounds-calls-number
 bounds-calls-number c =
     let test = rw c.as_slice-short-items.ensures.value at c.answers-test.true in
-    omega (arith, told_long c.args.answers.now.short.items c.args.answers.now.windows.items c.args.answers.now.spans.items c.requires.contents.windows c.requires.contents.spans, c.requires.same, c.answers.invariant.number, test)
+    omega (
+      arith,
+      told_long c.args.answers.now.short.items c.args.answers.now.windows.items
+          c.args.answers.now.spans.items c.requires.contents.windows c.requires.contents.spans,
+      c.requires.same,
+      c.answers.invariant.number,
+      test,
+    )
 
 pub overflow_add-number : goal.overflow_add-number
 overflow_add-number c =
     let test = rw c.as_slice-short-items.ensures.value at c.answers-test.true in
-    omega (arith, told_long c.args.answers.now.short.items c.args.answers.now.windows.items c.args.answers.now.spans.items c.requires.contents.windows c.requires.contents.spans, c.requires.same, c.requires.few, c.answers.invariant.number, test)
+    omega (
+      arith,
+      told_long c.args.answers.now.short.items c.args.answers.now.windows.items
+          c.args.answers.now.spans.items c.requires.contents.windows c.requires.contents.spans,
+      c.requires.same,
+      c.requires.few,
+      c.answers.invariant.number,
+      test,
+    )
 
 pub answers-preserved : goal.answers-preserved
 answers-preserved c =
@@ -29,17 +44,31 @@ answers-preserved c =
     let kept = spans_left short spans i c.answers.gathered (Got None) test enough.spans inv.gathered in
     let shown = rw c.as_slice-short-items.ensures.value at c.shown_with-shown.ensures in
     let gathered = rw c.as_slice-short-items.ensures.value at c.gathered_with-gathered.ensures in
-    let more = rw (c.as_slice-short-items.ensures.value, c.as_slice-windows.ensures.value, c.as_slice-spans.ensures.value, inv.number, take_rest windows c.answers.shown, take_rest spans c.answers.gathered) at c.in_ok-add_answer.ensures in
-    let asked : i < length c.args.calls.now = omega (arith, told_long short windows spans enough.windows enough.spans, c.requires.same, test) in
+    let more = rw (
+      c.as_slice-short-items.ensures.value,
+      c.as_slice-windows.ensures.value,
+      c.as_slice-spans.ensures.value,
+      inv.number,
+      take_rest windows c.answers.shown,
+      take_rest spans c.answers.gathered,
+    ) at c.in_ok-add_answer.ensures in
+    let asked : i < length c.args.calls.now =
+    omega (arith, told_long short windows spans enough.windows enough.spans, c.requires.same, test) in
     record {
       number = ap (λ n. n + 1) inv.number;
       shown = ap (λ n. n + wins_in (drop (i + 1) short)) shown ∙ left.1;
       gathered = ap (λ n. n + ranges_in (drop (i + 1) short)) gathered ∙ kept.1;
-      few = (omega (arith, shown, inv.few.0, wins_one (get_or short i (Got None))), omega (arith, gathered, inv.few.1, ranges_one (get_or short i (Got None))));
-      told = rw (shown, gathered) (answer_told c.args.calls.now short windows spans c.args.worker i c.answers.shown c.answers.gathered (Get 0) (Got None) c.answers.out.items c.add_answer.new.out.items _ asked test left.0 kept.0 inv.told more);
+      few = (
+        omega (arith, shown, inv.few.0, wins_one (get_or short i (Got None))),
+        omega (arith, gathered, inv.few.1, ranges_one (get_or short i (Got None))),
+      );
+      told = rw (shown, gathered) (answer_told c.args.calls.now short windows spans c.args.worker i c.answers.shown
+          c.answers.gathered (Get 0) (Got None) c.answers.out.items c.add_answer.new.out.items _ asked test left.0
+          kept.0 inv.told more);
     }
 
 pub returns : goal.returns
 returns c =
     let test = rw c.as_slice-short-items.ensures.value at c.answers-test.false in
-    answers_told c.args.calls.now c.args.answers.now.short.items _ _ c.args.worker _ c.answers.short-index c.answers.out.items _ test c.answers.invariant.told
+    answers_told c.args.calls.now c.args.answers.now.short.items _ _ c.args.worker _ c.answers.short-index
+    c.answers.out.items _ test c.answers.invariant.told

@@ -10,5 +10,9 @@ invariant-answers l = record {
   shown : l.shown + wins_in (drop l.short-index l.answers.short.items) ≡ wins_in l.answers.short.items;
   gathered : l.gathered + ranges_in (drop l.short-index l.answers.short.items) ≡ ranges_in l.answers.short.items;
   few : (l.shown ≤ l.short-index) × (l.gathered ≤ l.short-index);
-  told : l.out.items ++ replies_text l.worker (l.short-index + 1) (lines_in (drop l.short-index l.calls) (told_in (drop l.short-index l.answers.short.items) (drop l.shown l.answers.windows.items) (drop l.gathered l.answers.spans.items))) ≡ l.fn.out.items ++ replies_text l.worker 1 (lines_in l.calls (replies_in l.answers));
+  told : l.out.items ++ replies_text l.worker (l.short-index + 1)
+      (lines_in (drop l.short-index l.calls)
+      (told_in (drop l.short-index l.answers.short.items) (drop l.shown l.answers.windows.items)
+      (drop l.gathered l.answers.spans.items))) ≡ l.fn.out.items ++ replies_text l.worker 1
+      (lines_in l.calls (replies_in l.answers));
 }

@@ -7,5 +7,7 @@ use Rattle.vm_endings.proofs.replies.add_replies.Given as goal
 abbrev pub invariant-workers : goal.invariant-workers
 invariant-workers l = record {
   worker : l.worker ≡ l.answers-index;
-  told : l.out.items ++ worker_replies l.answers-index (all_lines (items_of (drop l.answers-index l.lists)) (all_replies (drop l.answers-index l.replies))) ≡ l.fn.out.items ++ worker_replies 0 (all_lines (items_of l.lists) (all_replies l.replies));
+  told : l.out.items ++ worker_replies l.answers-index
+      (all_lines (items_of (drop l.answers-index l.lists)) (all_replies (drop l.answers-index l.replies)))
+      ≡ l.fn.out.items ++ worker_replies 0 (all_lines (items_of l.lists) (all_replies l.replies));
 }

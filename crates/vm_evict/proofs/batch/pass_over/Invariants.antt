@@ -1,12 +1,12 @@
 use Rattle.vm_evict.proofs.Passing.{Passes}
-use Rattle.vm_evict.proofs.Prelude.{IsReady, IsSamePass, length, MayBeginPhase, MayEnd, stage_at, view, ℕ, ◌<◌, ◌≡◌, ◌≤◌}
+use Rattle.vm_evict.proofs.Prelude.{length, MayBeginPhase, MayEnd, stage_at, view, ℕ, ◌<◌, ◌≡◌, ◌≤◌}
+use Rattle.vm_step.specs.Prelude.{GoesOn}
 use Rattle.vm_evict.proofs.batch.pass_over.Given as goal
 
 -- the candidates below i have passed the phase
 abbrev pub invariant-loop-i : goal.invariant-loop-i
 invariant-loop-i g l = record {
-  same : IsSamePass l.fn.pass l.pass;
-  ready : IsReady l.words.table.shared.key g.B.Block.tells l.words.table.shared.table_id l.pass;
+  goes : GoesOn l.words g.B.Block.tells l.fn.pass l.pass;
   passed : Passes l.phase l.list l.fn.stages l.stages (view l.fn.pass) (view l.pass);
   long : length l.stages ≡ 64;
   front : (j : ℕ) → j < l.i → MayEnd l.phase (stage_at l.stages j);

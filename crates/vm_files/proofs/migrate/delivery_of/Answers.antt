@@ -9,7 +9,11 @@ returns c = (
       c.args.pages
       c.args.image.now
       c.args.pairs.now
-      (record { file = Some (record { name = c.in_ok-file.file.name.now; bytes = c.in_ok-file.file.bytes.items }); text = c.in_ok-text.text.items; status = 0 })
+      (record {
+        file = Some (record { name = c.in_ok-file.file.name.now; bytes = c.in_ok-file.file.bytes.items });
+        text = c.in_ok-text.text.items;
+        status = 0;
+      })
       c.in_ok-file.file.bytes.items
       c.requires.pages
       (ap (λ (name : Bor (List ℕ)). Some (record { name = name.now; bytes = c.in_ok-file.file.bytes.items })) c.in_ok-file.ensures.name)

@@ -5,4 +5,13 @@ use Rattle.vm_files.proofs.Migrating.{large_pages}
 use Rattle.vm_files.proofs.migrate.migrated.Goals as goal
 
 pub build-requires : goal.build-requires
-build-requires c = (omega arith, (refl, (large_pages c.args.migrate.now.pages c.requires.pages, (c.requires.few, no_twins 0 KEY_END c.args.pairs.now c.requires.rise))))
+build-requires c = (
+  omega arith,
+  (
+    refl,
+    (
+      large_pages c.args.migrate.now.pages c.requires.pages,
+      (c.requires.few, no_twins 0 KEY_END c.args.pairs.now c.requires.rise),
+    ),
+  ),
+)

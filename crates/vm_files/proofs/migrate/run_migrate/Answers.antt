@@ -1,5 +1,4 @@
-use Rattle.std.proofs.Common.{◌≡◌, ◌∙◌, false, sym, true}
-use Rattle.vm_endings.specs.Limits.{are_pages}
+use Rattle.std.proofs.Common.{◌∙◌, sym}
 use Rattle.vm_files.proofs.Giving.{migrate-answers, migrate-cause, pages-stop, unread-stops}
 use Rattle.vm_files.proofs.Migrating.{read_few, read_rise}
 use Rattle.vm_files.proofs.migrate.run_migrate.Goals as goal
@@ -8,17 +7,24 @@ pub returns-then-not-are_pages-clause-gives : goal.returns-then-not-are_pages-cl
 returns-then-not-are_pages-clause-gives g c = pages-stop c.args.migrate.now (sym c.are_pages.ensures ∙ c.if-not-are_pages.true) _ _
 
 pub returns-in-Err-clause-gives : goal.returns-in-Err-clause-gives
-returns-in-Err-clause-gives g c = unread-stops c.args.migrate.now (sym c.are_pages.ensures ∙ c.if-not-are_pages.false) _ _ _ c.in-Err.ensures.reads
+returns-in-Err-clause-gives g c =
+    unread-stops c.args.migrate.now (sym c.are_pages.ensures ∙ c.if-not-are_pages.false) _ _ _ c.in-Err.ensures.reads
 
 pub migrated-requires-clause-few : goal.migrated-requires-clause-few
-migrated-requires-clause-few g c = rw c.as_slice.ensures.value (read_few _ _ c.in-Ok.tree c.into_rows-rows.result c.in-Ok.ensures.reads c.into_rows-rows.ensures)
+migrated-requires-clause-few g c =
+    rw c.as_slice.ensures.value
+    (read_few _ _ c.in-Ok.tree c.into_rows-rows.result c.in-Ok.ensures.reads c.into_rows-rows.ensures)
 
 pub migrated-requires-clause-rise : goal.migrated-requires-clause-rise
-migrated-requires-clause-rise g c = rw c.as_slice.ensures.value (read_rise _ _ c.in-Ok.tree c.into_rows-rows.result c.in-Ok.ensures.reads c.into_rows-rows.ensures)
+migrated-requires-clause-rise g c =
+    rw c.as_slice.ensures.value
+    (read_rise _ _ c.in-Ok.tree c.into_rows-rows.result c.in-Ok.ensures.reads c.into_rows-rows.ensures)
 
 pub returns-clause-gives : goal.returns-clause-gives
 returns-clause-gives g c =
-    migrate-answers c.args.migrate.now c.in-Ok.tree c.into_rows-rows.result c.migrated.result (sym c.are_pages.ensures ∙ c.if-not-are_pages.false) _ _ c.in-Ok.ensures.reads c.into_rows-rows.ensures (rw c.as_slice.ensures.value at c.migrated.ensures)
+    migrate-answers c.args.migrate.now c.in-Ok.tree c.into_rows-rows.result c.migrated.result
+    (sym c.are_pages.ensures ∙ c.if-not-are_pages.false) _ _ c.in-Ok.ensures.reads c.into_rows-rows.ensures
+    (rw c.as_slice.ensures.value at c.migrated.ensures)
 
 pub returns-clause-cause : goal.returns-clause-cause
 returns-clause-cause g c = migrate-cause c.args.migrate.now _ _ _ c.migrated.result c.migrated.ensures

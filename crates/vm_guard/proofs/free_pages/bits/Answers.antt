@@ -12,12 +12,19 @@ loop-i-init c = record { counted = refl; few = omega arith }
 
 pub loop-i-preserved : goal.loop-i-preserved
 loop-i-preserved c =
-    let next : sum_below (c.loop-i.i + 1) (bit_at c.args.word) ≡ sum_below c.loop-i.i (bit_at c.args.word) + bit_at c.args.word c.loop-i.i = sum-next c.args.word c.loop-i.i in
+    let next : sum_below (c.loop-i.i + 1) (bit_at c.args.word) ≡ sum_below c.loop-i.i (bit_at c.args.word) + bit_at
+    c.args.word c.loop-i.i = sum-next c.args.word c.loop-i.i in
     let bit : bit_and _ 1 ≡ bit_at c.args.word c.loop-i.i = shr_and_one c.args.word c.loop-i.i in
     let small : bit_at c.args.word c.loop-i.i < 2 = bit_at-lt c.args.word c.loop-i.i in
     elim c.if-word-i-eq1.branch [
-      | then-word-i-eq1 w ↦ record { counted = omega (arith, next, bit, w.count-is, w.if-word-i-eq1, c.loop-i.invariant.counted); few = omega (arith, w.count-is, c.loop-i.invariant.few) }
-      | else-word-i-eq1 w ↦ record { counted = omega (arith, next, bit, small, w.count-is, w.if-word-i-eq1, c.loop-i.invariant.counted); few = omega (arith, w.count-is, c.loop-i.invariant.few) }
+      | then-word-i-eq1 w ↦ record {
+        counted = omega (arith, next, bit, w.count-is, w.if-word-i-eq1, c.loop-i.invariant.counted);
+        few = omega (arith, w.count-is, c.loop-i.invariant.few);
+      }
+      | else-word-i-eq1 w ↦ record {
+        counted = omega (arith, next, bit, small, w.count-is, w.if-word-i-eq1, c.loop-i.invariant.counted);
+        few = omega (arith, w.count-is, c.loop-i.invariant.few);
+      }
     ]
 
 pub returns : goal.returns

@@ -1,4 +1,5 @@
-use Rattle.vm_guard.proofs.{Amid.amid-alone, FreeBits.mask-not-none, FreeSure.take-knows, FreeSure.take-sure, FreeSure.take-tried, Reusing.took-silent, Reusing.took-spends}
+use Rattle.vm_guard.proofs.{Amid.amid-alone, FreeBits.mask-not-none, FreeSure.take-knows, FreeSure.take-sure}
+use Rattle.vm_guard.proofs.{FreeSure.take-tried, Reusing.took-silent, Reusing.took-spends}
 use Rattle.vm_guard.proofs.Prelude.{[], arith, held-on, inl, MayBeSeized, refl, view}
 use Rattle.vm_guard.proofs.free_pages.reuse.Goals as goal
 
@@ -9,22 +10,44 @@ ptake-requires-clause-legal g c =
 
 pub reuse_one-requires-clause-frames : goal.reuse_one-requires-clause-frames
 reuse_one-requires-clause-frames g c =
-    let f = took-spends c.in-Taken.ensures.told [] in
-    (held-on c.args.frames.now (view c.args.pass.now) (view c.ptake.new.pass) c.requires.frames.0 f.amid.start f.keeps.frames, omega (arith, c.requires.frames.1, c.if-n-eq1.true))
+    let f = took-spends c.in-Taken.ensures.told [] in (
+      held-on c.args.frames.now (view c.args.pass.now) (view c.ptake.new.pass) c.requires.frames.0 f.amid.start
+          f.keeps.frames,
+      omega (arith, c.requires.frames.1, c.if-n-eq1.true),
+    )
 
 pub reuse_two-requires-clause-frames : goal.reuse_two-requires-clause-frames
 reuse_two-requires-clause-frames g c =
-    let f = took-spends c.in-Taken.ensures.told [] in
-    (held-on c.args.frames.now (view c.args.pass.now) (view c.ptake.new.pass) c.requires.frames.0 f.amid.start f.keeps.frames, omega (arith, c.requires.frames.1, c.requires.few, c.if-n-eq1.false))
+    let f = took-spends c.in-Taken.ensures.told [] in (
+      held-on c.args.frames.now (view c.args.pass.now) (view c.ptake.new.pass) c.requires.frames.0 f.amid.start
+          f.keeps.frames,
+      omega (arith, c.requires.frames.1, c.requires.few, c.if-n-eq1.false),
+    )
 
 pub returns-in-Lost-clause-answer : goal.returns-in-Lost-clause-answer
-returns-in-Lost-clause-answer g c = (c.lowest-mask.result, c.lowest-mask.ensures, inl (_, refl, refl, record { at = refl; first = refl; other = c.in-Lost.ensures.lost c.in-Lost.seen refl; takes = c.in-Lost.ensures.told }))
+returns-in-Lost-clause-answer g c = (
+  c.lowest-mask.result,
+  c.lowest-mask.ensures,
+  inl (
+    _,
+    refl,
+    refl,
+    record {
+      at = refl;
+      first = refl;
+      other = c.in-Lost.ensures.lost c.in-Lost.seen refl;
+      takes = c.in-Lost.ensures.told;
+    },
+  ),
+)
 
 pub returns-in-Lost-clause-sure : goal.returns-in-Lost-clause-sure
-returns-in-Lost-clause-sure g c a known may = absurd (c.in-Lost.ensures.lost c.in-Lost.seen refl (take-sure _ _ _ _ _ _ c.in-Lost.ensures.told a known))
+returns-in-Lost-clause-sure g c a known may =
+    absurd (c.in-Lost.ensures.lost c.in-Lost.seen refl (take-sure _ _ _ _ _ _ c.in-Lost.ensures.told a known))
 
 pub returns-in-Lost-clause-settled : goal.returns-in-Lost-clause-settled
-returns-in-Lost-clause-settled g c a known none = absurd (c.in-Lost.ensures.lost c.in-Lost.seen refl (take-sure _ _ _ _ _ _ c.in-Lost.ensures.told a known))
+returns-in-Lost-clause-settled g c a known none =
+    absurd (c.in-Lost.ensures.lost c.in-Lost.seen refl (take-sure _ _ _ _ _ _ c.in-Lost.ensures.told a known))
 
 pub returns-then-n-eq1-clause-sure : goal.returns-then-n-eq1-clause-sure
 returns-then-n-eq1-clause-sure g c a known may =

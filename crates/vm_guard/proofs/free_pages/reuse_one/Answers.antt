@@ -7,13 +7,15 @@ use Rattle.vm_core.specs.Prelude.{in_mask}
 use Rattle.vm_guard.proofs.free_pages.reuse_one.Goals as goal
 
 pub lowest_page-requires-clause-some : goal.lowest_page-requires-clause-some
-lowest_page-requires-clause-some g c none = let one = count-one c.args.word c.args.mask c.requires.mask.0 c.requires.mask.1 in mask-not-none c.args.mask (omega (arith, one)) none
+lowest_page-requires-clause-some g c none = let one = count-one c.args.word c.args.mask c.requires.mask.0
+    c.requires.mask.1 in mask-not-none c.args.mask (omega (arith, one)) none
 
 pub furnish-requires-clause-zero : goal.furnish-requires-clause-zero
 furnish-requires-clause-zero g c tells =
     let taken = c.in-Ok.ensures.taken in
     subst (λ (p : ℕ). (last_of (view c.seize.new.pass) p).words ≡ replicate (view c.seize.new.pass).start.size 0) (sym taken.0)
-    (zero-words taken.1 (ap (λ (o : Origin). o.tells) (sym taken.1.amid.start) ∙ tells) (took-has c.requires.taken.1 c.lowest_page.result c.lowest_page.ensures.among))
+    (zero-words taken.1 (ap (λ (o : Origin). o.tells) (sym taken.1.amid.start) ∙ tells)
+    (took-has c.requires.taken.1 c.lowest_page.result c.lowest_page.ensures.among))
 
 pub furnish-requires-clause-frames : goal.furnish-requires-clause-frames
 furnish-requires-clause-frames g c =
@@ -27,7 +29,8 @@ returns-in-Ok-clause-answer g c v t =
     let one = count-one c.args.word c.args.mask c.requires.mask.0 c.requires.mask.1 in
     let f = rw taken.0 at c.furnish.ensures.furnished in
     reused-one x c.in-Ok.page.version c.in-Ok.page.stands c.furnish.result c.args.frames.now c.furnish.new.frames v _ _ _ t
-    (only-page c.args.g c.args.mask x one c.lowest_page.ensures.among) c.lowest_page.ensures.among taken.1 f (c.furnish.ensures.guard.0 ∙ taken.0)
+    (only-page c.args.g c.args.mask x one c.lowest_page.ensures.among) c.lowest_page.ensures.among taken.1 f
+    (c.furnish.ensures.guard.0 ∙ taken.0)
 
 pub give_numbers-requires-clause-legal : goal.give_numbers-requires-clause-legal
 give_numbers-requires-clause-legal g c some =
@@ -35,8 +38,11 @@ give_numbers-requires-clause-legal g c some =
     let here = c.lowest_page.ensures.among in
     let is = only-bit c.args.g c.args.mask x (count-one c.args.word c.args.mask c.requires.mask.0 c.requires.mask.1) here in
     let f = c.in-Err.ensures.denied in
-    may-give-back c.requires.taken.1 c.numbers_due.result _ _ _ (denied-spends c.args.g c.args.mask x f (has-frames_in c.args.g c.args.mask x ∙ here)) f.denied.quiet.numbers some
-    (λ q e. due-among c.in-Err.deny c.args.g c.args.mask c.args.mask x is q (subst (λ (m : ℕ). in_mask c.args.g m q ≡ true) c.numbers_due.ensures e))
+    may-give-back c.requires.taken.1 c.numbers_due.result _ _ _
+    (denied-spends c.args.g c.args.mask x f (has-frames_in c.args.g c.args.mask x ∙ here)) f.denied.quiet.numbers
+    some
+    (λ q e. due-among c.in-Err.deny c.args.g c.args.mask c.args.mask x is q
+    (subst (λ (m : ℕ). in_mask c.args.g m q ≡ true) c.numbers_due.ensures e))
 
 pub returns-in-Err-clause-answer : goal.returns-in-Err-clause-answer
 returns-in-Err-clause-answer g c v t =
@@ -46,6 +52,8 @@ returns-in-Err-clause-answer g c v t =
     let f = c.in-Err.ensures.denied in
     let among = has-frames_in c.args.g c.args.mask x ∙ here in
     let gives = rw c.numbers_due.ensures at c.give_numbers.ensures in
-    denied-taken 1 c.args.g c.args.word c.args.mask c.args.mask x c.args.frames.now [] f.denied.done [] v _ _ _ c.in-Err.deny c.denied.result t is
-    (denied-spends c.args.g c.args.mask x f among) f.denied.quiet.numbers (denied-once c.args.g c.args.mask x f among) (denied-spares c.args.g c.args.mask x f among) tt
+    denied-taken 1 c.args.g c.args.word c.args.mask c.args.mask x c.args.frames.now [] f.denied.done [] v _ _ _
+    c.in-Err.deny c.denied.result t is
+    (denied-spends c.args.g c.args.mask x f among) f.denied.quiet.numbers (denied-once c.args.g c.args.mask x f among)
+    (denied-spares c.args.g c.args.mask x f among) tt
     f.denied.kind f.denied.evidence (c.denied.ensures.again, c.denied.ensures.worn) gives.none gives.given

@@ -12,5 +12,12 @@ returns-then-pages-next-clause-full g c =
 pub returns-clause-room : goal.returns-clause-room
 returns-clause-room g c =
     let told = c.nload-found.ensures.told in
-    let room : c.nload-found.result + c.args.n ≤ (view c.args.pass.now).start.pages = omega (arith, c.if-pages-next.false, told.inside, c.args.words.now.shape.0, c.requires.ready.table.is_shape.pages) in
+    let room : c.nload-found.result + c.args.n ≤ (view c.args.pass.now).start.pages =
+    omega (
+      arith,
+      c.if-pages-next.false,
+      told.inside,
+      c.args.words.now.shape.0,
+      c.requires.ready.table.is_shape.pages,
+    ) in
     record { loaded = told; room = room }

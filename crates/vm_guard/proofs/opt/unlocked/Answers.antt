@@ -1,5 +1,6 @@
 use Rattle.vm_guard.proofs.{Expecting.has-shares, Upgrading.unlocked-word}
-use Rattle.vm_guard.proofs.Prelude.{ap, arith, inr, IsToExpect, state_of, subst, sym, UNLOCKED, version-within, version_of, word-version, word_of, ℕ, ◌∙◌, ◌≡◌}
+use Rattle.vm_guard.proofs.Prelude.{ap, arith, inr, IsToExpect, state_of, subst, sym, UNLOCKED, version-within}
+use Rattle.vm_guard.proofs.Prelude.{version_of, word-version, word_of, ℕ, ◌∙◌, ◌≡◌}
 use Rattle.vm_guard.proofs.opt.unlocked.Goals as goal
 
 pub returns-in_default-clause-expects : goal.returns-in_default-clause-expects
@@ -9,9 +10,11 @@ returns-in_default-clause-expects c =
 
 pub returns-in_default-clause-version : goal.returns-in_default-clause-version
 returns-in_default-clause-version c =
-    ap version_of (c.of.ensures ∙ ap (λ (n : ℕ). word_of UNLOCKED n) c.version.ensures) ∙ word-version UNLOCKED (version_of c.args.word) (version-within c.args.word)
+    ap version_of (c.of.ensures ∙ ap (λ (n : ℕ). word_of UNLOCKED n) c.version.ensures) ∙ word-version UNLOCKED
+    (version_of c.args.word) (version-within c.args.word)
 
 pub returns-in_default-clause-kept : goal.returns-in_default-clause-kept
 returns-in_default-clause-kept c =
-    let shares = has-shares (state_of c.args.word) c.requires.readable (λ e. omega (arith, c.state.ensures, e)) (λ e. omega (arith, c.state.ensures, e)) in
+    let shares = has-shares (state_of c.args.word) c.requires.readable (λ e. omega (arith, c.state.ensures, e))
+    (λ e. omega (arith, c.state.ensures, e)) in
     inr (shares.0, shares.1, c.of.ensures ∙ ap (λ (n : ℕ). word_of UNLOCKED n) c.version.ensures)

@@ -5,7 +5,8 @@ use Rattle.vm_guard.proofs.single.read_word.Goals as goal
 pub returns-in-Ok-validate_silently-clause-word : goal.returns-in-Ok-validate_silently-clause-word
 returns-in-Ok-validate_silently-clause-word g c = λ tells.
     subst (λ n. c.word-word.result ≡ slice_index (last_of (view c.validate_silently.new.pass) n).words c.args.i) c.in-Ok.ensures.ok.0
-    (word-valid g.U.Owner.tied _ _ _ _ _ _ _ _ c.word-word.ensures.loads c.in-Ok-validate_silently.ensures.ok (c.word-word.ensures.ready.table.tells_is ∙ tells))
+    (word-valid g.U.Owner.tied _ _ _ _ _ _ _ _ c.word-word.ensures.loads c.in-Ok-validate_silently.ensures.ok
+    (c.word-word.ensures.goes.ready.table.tells_is ∙ tells))
 
 pub returns-in-Ok-validate_silently-clause-alone : goal.returns-in-Ok-validate_silently-clause-alone
 returns-in-Ok-validate_silently-clause-alone g c =
@@ -17,6 +18,7 @@ returns-in-Err-clause-alone g c =
 
 pub returns-in-Err-clause-sure : goal.returns-in-Err-clause-sure
 returns-in-Err-clause-sure g c a open_word =
-    let begins = subst (λ n. BeginsReading n c.in-Ok.guard.word c.in-Ok.guard.frame (view c.args.pass.now) (view c.start.new.pass)) (sym c.in-Ok.ensures.ok.0) c.in-Ok.ensures.ok.1 in
+    let begins = subst (λ n. BeginsReading n c.in-Ok.guard.word c.in-Ok.guard.frame (view c.args.pass.now)
+    (view c.start.new.pass)) (sym c.in-Ok.ensures.ok.0) c.in-Ok.ensures.ok.1 in
     let k = known-at _ _ _ _ _ _ _ begins c.word-word.ensures.loads a in
     absurd (true≢false (sym (c.in-Err.ensures.sure k.0 k.1)))

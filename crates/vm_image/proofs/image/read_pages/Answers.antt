@@ -10,9 +10,11 @@ loop-p-preserved g c =
     let n : ℕ = g.row.N in
     let p : ℕ = c.loop-p.p in
     let long : 8 * n * p + 8 * n - 8 * n * p ≡ 8 * n = omega arith in
-    let page : take (8 * n * p + 8 * n - 8 * n * p) (drop (8 * n * p) c.args.bytes.now) ≡ take (8 * n) (drop (8 * n * p) c.args.bytes.now) = ap (λ (size : ℕ). take size (drop (8 * n * p) c.args.bytes.now)) long in
+    let page : take (8 * n * p + 8 * n - 8 * n * p) (drop (8 * n * p) c.args.bytes.now) ≡ take (8 * n)
+    (drop (8 * n * p) c.args.bytes.now) = ap (λ (size : ℕ). take size (drop (8 * n * p) c.args.bytes.now)) long in
     rw c.in_ok-push.ensures.items (
-      read_more n c.loop-p.pages.items c.args.bytes.now p c.of_slice.result c.loop-p.invariant.0 (c.of_slice.ensures.words ∙ ap words_of_bytes page),
+      read_more n c.loop-p.pages.items c.args.bytes.now p c.of_slice.result c.loop-p.invariant.0
+          (c.of_slice.ensures.words ∙ ap words_of_bytes page),
       read_back n c.loop-p.pages.items c.args.bytes.now p c.of_slice.result c.loop-p.invariant.1 (c.of_slice.ensures.back ∙ page),
       search (rules, c.loop-p.invariant.2),
       have_more n c.loop-p.pages.items c.of_slice.result c.loop-p.invariant.3 c.of_slice.ensures.length,

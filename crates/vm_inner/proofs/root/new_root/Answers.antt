@@ -9,8 +9,10 @@ use Rattle.vm_inner.proofs.root.new_root.Goals as goal
 pub returns-clause-root : goal.returns-clause-root
 returns-clause-root g c =
     let h = c.write_header.ensures in
-    let zero_at : (k : ℕ) → 6 ≤ k → slice_index c.write_header.new.page k ≡ 0 = λ k ge. h.rest k ge ∙ ap (λ w. slice_index w k) c.zero.ensures ∙ zeros g.row.N k in
-    let is = new_root_is g.row.N c.requires c.write_header.new.page c.args.level c.args.left c.args.separator c.args.right h.words h.tag h.count h.low h.high h.endless h.level zero_at in
+    let zero_at : (k : ℕ) → 6 ≤ k → slice_index c.write_header.new.page k ≡ 0 = λ k ge. h.rest k ge
+    ∙ ap (λ w. slice_index w k) c.zero.ensures ∙ zeros g.row.N k in
+    let is = new_root_is g.row.N c.requires c.write_header.new.page c.args.level c.args.left c.args.separator
+    c.args.right h.words h.tag h.count h.low h.high h.endless h.level zero_at in
     rw (c.set-3.ensures.words, c.set-2.ensures.words, c.set.ensures.words) is
 
 pub returns-clause-inner : goal.returns-clause-inner

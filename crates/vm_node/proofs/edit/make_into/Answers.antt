@@ -8,7 +8,9 @@ use Rattle.vm_node.proofs.edit.make_into.Goals as goal
 pub loop-done-preserved : goal.loop-done-preserved
 loop-done-preserved g c =
     above_more c.loop-done.done (g.row.N - 1 - c.loop-done.done) c.loop-done.invariant (omega arith)
-    (c.word_into-word.ensures ∙ into_reads c.loop-done.page c.args.page.now c.args.at (min c.args.count (capacity g.row.N)) c.args.key c.args.value (g.row.N - 1 - c.loop-done.done) (λ k le. c.loop-done.invariant.left k (omega arith)))
+    (c.word_into-word.ensures ∙ into_reads c.loop-done.page c.args.page.now c.args.at
+    (min c.args.count (capacity g.row.N)) c.args.key c.args.value (g.row.N - 1 - c.loop-done.done)
+    (λ k le. c.loop-done.invariant.left k (omega arith)))
     c.set.ensures.words c.set.ensures.length
 
 pub returns : goal.returns

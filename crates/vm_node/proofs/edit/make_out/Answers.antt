@@ -8,7 +8,8 @@ use Rattle.vm_node.proofs.edit.make_out.Goals as goal
 pub loop-i-preserved : goal.loop-i-preserved
 loop-i-preserved g c =
     below_more c.loop-i.invariant (omega arith)
-    (c.word_out-word.ensures ∙ out_reads c.loop-i.page c.args.page.now c.args.at (min c.args.count (capacity g.row.N)) c.loop-i.i c.loop-i.invariant.left)
+    (c.word_out-word.ensures ∙ out_reads c.loop-i.page c.args.page.now c.args.at (min c.args.count (capacity g.row.N))
+    c.loop-i.i c.loop-i.invariant.left)
     c.set.ensures.words c.set.ensures.length
 
 pub returns : goal.returns

@@ -25,12 +25,15 @@ returns-clause-halves g c =
       old_length = c.get-separator.ensures.length;
       new_length = length-left_half z old separator;
       right_length = r.words;
-      tag = left-head z old separator c.requires.sized 0 (omega arith) (λ e. omega (arith, e)) (λ e. omega (arith, e)) (λ e. omega (arith, e));
+      tag = left-head z old separator c.requires.sized 0 (omega arith) (λ e. omega (arith, e)) (λ e. omega (arith, e))
+          (λ e. omega (arith, e));
       count = left_half-at z old separator 1 (omega (arith, long));
-      low = left-head z old separator c.requires.sized 2 (omega arith) (λ e. omega (arith, e)) (λ e. omega (arith, e)) (λ e. omega (arith, e));
+      low = left-head z old separator c.requires.sized 2 (omega arith) (λ e. omega (arith, e)) (λ e. omega (arith, e))
+          (λ e. omega (arith, e));
       high = left_half-at z old separator 3 (omega (arith, long));
       endless = left_half-at z old separator 4 (omega (arith, long));
-      level = left-head z old separator c.requires.sized 5 (omega arith) (λ e. omega (arith, e)) (λ e. omega (arith, e)) (λ e. omega (arith, e));
+      level = left-head z old separator c.requires.sized 5 (omega arith) (λ e. omega (arith, e))
+          (λ e. omega (arith, e)) (λ e. omega (arith, e));
       kept = left-kept z old separator c.requires.sized;
       zero_above = left-zero z old separator;
       right_tag = r.tag ∙ c.get.ensures.word;
@@ -43,10 +46,13 @@ returns-clause-halves g c =
       moved = λ k lt. r.rest (8 + k) (omega arith) ∙ copied.moved k lt;
       right_above = λ k ge. r.rest k (omega arith) ∙ copied.right_high k ge ∙ zero_at k;
     } in
-    rw first (split_is z half c.requires.sized twice old (left_half z old separator) c.write_header.new.page halved c.requires.full (c.get-separator.ensures.below (8 + 2 * half)))
+    rw first (split_is z half c.requires.sized twice old (left_half z old separator) c.write_header.new.page halved
+    c.requires.full (c.get-separator.ensures.below (8 + 2 * half)))
 
 pub returns-clause-left_leaf : goal.returns-clause-left_leaf
-returns-clause-left_leaf g c leaf = left_leaf (fixed g.row.N) _ _ _ _ (returns-clause-halves g c) (cut_inside g.row.N c.requires.sized _ c.requires.full) leaf
+returns-clause-left_leaf g c leaf = left_leaf (fixed g.row.N) _ _ _ _ (returns-clause-halves g c)
+    (cut_inside g.row.N c.requires.sized _ c.requires.full) leaf
 
 pub returns-clause-right_leaf : goal.returns-clause-right_leaf
-returns-clause-right_leaf g c leaf = right_leaf (fixed g.row.N) _ _ _ _ (returns-clause-halves g c) (cut_inside g.row.N c.requires.sized _ c.requires.full) leaf
+returns-clause-right_leaf g c leaf = right_leaf (fixed g.row.N) _ _ _ _ (returns-clause-halves g c)
+    (cut_inside g.row.N c.requires.sized _ c.requires.full) leaf

@@ -9,7 +9,8 @@ pub returns-in_err-was-clause-was : goal.returns-in_err-was-clause-was
 returns-in_err-was-clause-was g c low high rises = c.from_residual.ensures ∙ c.in_err-was.ensures.was low high rises
 
 pub returns-in_err-was-clause-node : goal.returns-in_err-was-clause-node
-returns-in_err-was-clause-node g c low high rises = takes_none g.row.N c.args.page.now c.args.key (sym (c.in_err-was.ensures.was low high rises))
+returns-in_err-was-clause-node g c low high rises =
+    takes_none g.row.N c.args.page.now c.args.key (sym (c.in_err-was.ensures.was low high rises))
 
 pub returns-in_err-was-clause-leaf : goal.returns-in_err-was-clause-leaf
 returns-in_err-was-clause-leaf g c leaf = takes_leaf (fixed g.row.N) _ _ _ (returns-in_err-was-clause-node g c _ _ leaf.node.rises) leaf

@@ -7,4 +7,11 @@ use Rattle.vm_node.proofs.Telling.{told_word, told_so}
 use Rattle.vm_node.proofs.pairs.count_at.Goals as goal
 
 pub returns-clause-told : goal.returns-clause-told
-returns-clause-told g c = told_so (omega arith) (told_word c.word.ensures.loads) (λ words size read. omega (arith, length-pairs_of c.args.words (capacity c.args.words) (whole c.args.words c.requires.sized) words size, read, c.min.ensures, c.most_pairs.ensures))
+returns-clause-told g c = told_so (omega arith) (told_word c.word.ensures.loads)
+    (λ words size read. omega (
+      arith,
+      length-pairs_of c.args.words (capacity c.args.words) (whole c.args.words c.requires.sized) words size,
+      read,
+      c.min.ensures,
+      c.most_pairs.ensures,
+    ))

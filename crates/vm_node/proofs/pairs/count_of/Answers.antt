@@ -7,4 +7,11 @@ use Rattle.vm_node.proofs.pairs.count_of.Goals as goal
 
 pub returns-clause-pairs : goal.returns-clause-pairs
 returns-clause-pairs g c =
-    omega (arith, length-pairs_of g.row.N (capacity g.row.N) (whole g.row.N c.requires) c.args.page.now c.get.ensures.length, c.min.ensures, c.get.ensures.word, c.most_pairs.ensures)
+    omega (
+      arith,
+      length-pairs_of g.row.N (capacity g.row.N) (whole g.row.N c.requires) c.args.page.now
+          c.get.ensures.length,
+      c.min.ensures,
+      c.get.ensures.word,
+      c.most_pairs.ensures,
+    )

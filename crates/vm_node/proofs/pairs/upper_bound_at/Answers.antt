@@ -20,7 +20,8 @@ halves-preserved-then-found-key g c = record {
   size = c.word-found.ensures.size ∙ c.halves.invariant.size;
   order = omega arith;
   inside = c.halves.invariant.inside;
-  searched = search_right c.requires.sized g.met.P.Place.join c.halves.invariant.searched c.halves-test.true c.halves.invariant.inside refl c.word-found.ensures.loads (omega (arith, c.if-found-key.true));
+  searched = search_right c.requires.sized g.met.P.Place.join c.halves.invariant.searched c.halves-test.true
+      c.halves.invariant.inside refl c.word-found.ensures.loads (omega (arith, c.if-found-key.true));
   low = c.if-found-key.true;
   next = c.halves.invariant.next;
 }
@@ -31,7 +32,8 @@ halves-preserved g c = record {
   size = c.word-found.ensures.size ∙ c.halves.invariant.size;
   order = omega arith;
   inside = omega arith;
-  searched = search_left c.requires.sized g.met.P.Place.join c.halves.invariant.searched c.halves-test.true c.halves.invariant.inside refl c.word-found.ensures.loads (omega (arith, c.if-found-key.false));
+  searched = search_left c.requires.sized g.met.P.Place.join c.halves.invariant.searched c.halves-test.true
+      c.halves.invariant.inside refl c.word-found.ensures.loads (omega (arith, c.if-found-key.false));
   low = c.halves.invariant.low;
   next = c.if-found-key.false;
 }

@@ -1,11 +1,9 @@
 -- A value is the second of the two words of its pair.
-use Rattle.std.proofs.Common.{◌<◌, ◌≤◌, ◌+◌, ◌*◌, ℕ, min, get_or, length, sym, ap, ◌∙◌, arith, rules}
-use Rattle.vm_page.specs.Sizes.{IsSize}
-use Rattle.vm_tree_model.specs.Fixed.{capacity, fixed_pairs}
-use Rattle.vm_tree_model.proofs.PairWords.{length-pairs_of, pairs_of-at}
-use Rattle.vm_node.proofs.Sizes.{whole}
+use Rattle.std.proofs.Common.{sym, ◌∙◌}
 use Rattle.vm_node.proofs.ReadPairs.{value_is}
 use Rattle.vm_node.proofs.pairs.value_at.Goals as goal
 
 pub returns-clause-pair : goal.returns-clause-pair
-returns-clause-pair g c = c.get.ensures.word ∙ sym (value_is g.row.N c.requires.sized c.args.page.now c.get.ensures.length c.args.i c.requires.there)
+returns-clause-pair g c =
+    c.get.ensures.word ∙ sym (value_is g.row.N c.requires.sized c.args.page.now c.get.ensures.length c.args.i
+    c.requires.there)

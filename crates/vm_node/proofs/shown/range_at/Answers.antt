@@ -10,7 +10,9 @@ loop-i-init g c = record {
   size = c.count_at-count.ensures.size;
   room = omega arith;
   kept = refl;
-  told = told_so (omega arith) (told_then g.met.P.Place.join c.high_bound_at-high.ensures.told c.count_at-count.ensures.told) (λ words size read. ranging_begins _ _ _ _ _ _ words read.0 read.1);
+  told = told_so (omega arith)
+      (told_then g.met.P.Place.join c.high_bound_at-high.ensures.told c.count_at-count.ensures.told)
+      (λ words size read. ranging_begins _ _ _ _ _ _ words read.0 read.1);
 }
 
 pub loop-i-preserved : goal.loop-i-preserved
@@ -19,8 +21,11 @@ loop-i-preserved g c = record {
   size = c.word-value.ensures.size ∙ c.word-key.ensures.size ∙ c.loop-i.invariant.size;
   room = omega (arith, c.loop-i.invariant.room, c.push_within.ensures.room);
   kept = c.push_within.ensures.kept ∙ c.loop-i.invariant.kept;
-  told = told_so (omega arith) (told_then g.met.P.Place.join c.loop-i.invariant.told (told_then g.met.P.Place.join (told_word c.word-key.ensures.loads) (told_word c.word-value.ensures.loads)))
-      (λ words size read. ranging_more _ c.requires.sized _ _ _ _ _ _ _ words read.0 size c.loop-i-test.true _ _ read.1.0 read.1.1 _ c.push_within.ensures.pairs);
+  told = told_so (omega arith)
+      (told_then g.met.P.Place.join c.loop-i.invariant.told
+      (told_then g.met.P.Place.join (told_word c.word-key.ensures.loads) (told_word c.word-value.ensures.loads)))
+      (λ words size read. ranging_more _ c.requires.sized _ _ _ _ _ _ _ words read.0 size c.loop-i-test.true _ _
+      read.1.0 read.1.1 _ c.push_within.ensures.pairs);
 }
 
 pub returns-clause-told : goal.returns-clause-told

@@ -11,5 +11,6 @@ invariant-loop-i g l = record {
   size : g.P.Place.size l.place ≡ l.words;
   room : l.fn.out.1 ≤ l.out.1 + l.i;
   kept : l.out.1 + length l.out.0 ≡ l.fn.out.1 + length l.fn.out.0;
-  told : Tells l.words g.P.Place.loads l.fn.place (3 + 2 * l.i) l.place (IsRanging l.words l.from (bound_of l.high) (bound_of l.bound) l.count l.i l.fn.out.0 l.out.0);
+  told : Tells l.words g.P.Place.loads l.fn.place (3 + 2 * l.i) l.place
+      (IsRanging l.words l.from (bound_of l.high) (bound_of l.bound) l.count l.i l.fn.out.0 l.out.0);
 }

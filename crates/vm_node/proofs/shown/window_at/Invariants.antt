@@ -10,5 +10,6 @@ invariant-loop-i g l = record {
   ready : g.P.Place.ready l.place;
   size : g.P.Place.size l.place ≡ l.words;
   few : length l.pairs ≤ min l.most 28;
-  told : Tells l.words g.P.Place.loads l.fn.place (looks_for l.words + 1 + 2 * length l.pairs) l.place (IsTaking l.words l.start l.count l.i l.pairs);
+  told : Tells l.words g.P.Place.loads l.fn.place (looks_for l.words + 1 + 2 * length l.pairs) l.place
+      (IsTaking l.words l.start l.count l.i l.pairs);
 }

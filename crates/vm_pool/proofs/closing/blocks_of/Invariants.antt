@@ -1,5 +1,5 @@
-use Rattle.vm_pool.proofs.Prelude.{false, Filled, get_or, map, slots_filled, slots_items, slots_len, Some, take, vec_capacity, vec_len, ℕ, ◌<◌, ◌≡◌}
-use Rattle.vm_pool.proofs.Prelude.{◌≤◌}
+use Rattle.vm_pool.proofs.Prelude.{false, Filled, get_or, map, slots_filled, slots_items, slots_len, Some, take}
+use Rattle.vm_pool.proofs.Prelude.{vec_capacity, vec_len, ℕ, ◌<◌, ◌≡◌, ◌≤◌}
 use Rattle.vm_pool.proofs.closing.blocks_of.Given as goal
 
 -- the blocks taken so far, and the places that are empty now

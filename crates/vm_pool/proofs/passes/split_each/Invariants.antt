@@ -6,7 +6,8 @@ abbrev pub invariant-loop-i : goal.invariant-loop-i
 invariant-loop-i g l =
     IsSamePass l.initial.pass l.pass
     × IsReady l.words.table.shared.key g.B.Block.tells l.words.table.shared.table_id l.pass
-    × ((v : View g.row.U-Said.Denot) → PassesSplit v (map (λ p. view p) l.initial.given.items) (view l.initial.pass) → PassesSplit v (map (λ p. view p) l.given.items) (view l.pass))
+    × ((v : View g.row.U-Said.Denot) → PassesSplit v (map (λ p. view p) l.initial.given.items) (view l.initial.pass)
+    → PassesSplit v (map (λ p. view p) l.given.items) (view l.pass))
     × All (λ p. IsReady l.words.table.shared.key g.B.Block.tells l.words.table.shared.table_id p) l.given.items
     × (length l.given.items ≡ l.i)
     × (l.i + length (view l.pass).fresh ≡ length (view l.initial.pass).fresh)

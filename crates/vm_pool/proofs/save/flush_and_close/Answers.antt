@@ -3,7 +3,12 @@ use Rattle.vm_pool.proofs.Prelude.{view, whole-then, ◌∙◌}
 use Rattle.vm_pool.proofs.save.flush_and_close.Goals as goal
 
 pub flush-report-requires : goal.flush-report-requires
-flush-report-requires g c = record { ready = c.requires.ready; sized = c.args.pool.sized; size = c.args.pool.size; home = c.requires.holds.out }
+flush-report-requires g c = record {
+  ready = c.requires.ready;
+  sized = c.args.pool.sized;
+  size = c.args.pool.size;
+  home = c.requires.holds.out;
+}
 
 pub close-requires : goal.close-requires
 close-requires g c =
@@ -12,7 +17,7 @@ close-requires g c =
     let current = aside.alone.current c.requires.alone.1 in (
       search rules,
       (
-        c.flush-report.ensures.ready.may.0,
+        c.flush-report.ensures.goes.ready.may.0,
         (
           whole,
           (

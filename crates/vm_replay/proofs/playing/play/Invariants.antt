@@ -5,7 +5,8 @@ use Rattle.vm_replay.proofs.playing.play.Given as goal
 
 abbrev pub invariant-loop-line : goal.invariant-loop-line
 invariant-loop-line l = record {
-  told : (rest : List ℕ) (is_legal : Bool) → Played (core_of l.core) l.number l.count (drop l.line-index l.lines) rest is_legal → PlayedFromStart l.fn.shape l.lines (l.text.items ++ rest) is_legal;
+  told : (rest : List ℕ) (is_legal : Bool) → Played (core_of l.core) l.number l.count (drop l.line-index l.lines) rest
+      is_legal → PlayedFromStart l.fn.shape l.lines (l.text.items ++ rest) is_legal;
   shape : (core_of l.core).shape ≡ l.fn.shape;
   number : l.number ≡ l.line-index + 2;
   count : l.count ≤ 64 * l.line-index;

@@ -1,4 +1,5 @@
-use Rattle.vm_rule.proofs.{Prelude.ap, Prelude.arith, Prelude.length, Prelude.listed, Prelude.ℕ, Prelude.◌++◌, Prelude.◌+◌, Prelude.◌/◌, Prelude.◌<◌, Prelude.◌∙◌, Prelude.◌≡◌, StartedWords.pushed-many}
+use Rattle.vm_rule.proofs.{Prelude.ap, Prelude.arith, Prelude.length, Prelude.listed, Prelude.ℕ, Prelude.◌++◌}
+use Rattle.vm_rule.proofs.{Prelude.◌+◌, Prelude.◌/◌, Prelude.◌<◌, Prelude.◌∙◌, Prelude.◌≡◌, StartedWords.pushed-many}
 use Rattle.vm_rule.proofs.started.evicted_words.Goals as goal
 
 pub push_free-requires : goal.push_free-requires

@@ -10,10 +10,12 @@ pub returns-in-Ok-churned-clause-gives : goal.returns-in-Ok-churned-clause-gives
 returns-in-Ok-churned-clause-gives g c =
     let o = c.in-Ok-churned.field-0 in
     let does = churn-does 512 c.args.churn.now c.in-Ok.load o.delivery o.ended c.in-Ok.ensures c.in-Ok-churned.ensures.0 in
-    λ shown failed. churn-gives c.args.churn.now c.in-Ok.load o.delivery (LargeTree o.ended) c.in-Ok.ensures does c.in-Ok-churned.ensures.1 shown failed c.args.ends.now
+    λ shown failed. churn-gives c.args.churn.now c.in-Ok.load o.delivery (LargeTree o.ended) c.in-Ok.ensures does
+    c.in-Ok-churned.ensures.1 shown failed c.args.ends.now
 
 pub returns-in-Ok-churned-2-clause-gives : goal.returns-in-Ok-churned-2-clause-gives
 returns-in-Ok-churned-2-clause-gives g c =
     let o = c.in-Ok-churned-2.field-0 in
     let does = churn-does 64 c.args.churn.now c.in-Ok.load o.delivery o.ended c.in-Ok.ensures c.in-Ok-churned-2.ensures.0 in
-    λ shown failed. churn-gives c.args.churn.now c.in-Ok.load o.delivery (Tree o.ended) c.in-Ok.ensures does c.in-Ok-churned-2.ensures.1 shown failed c.args.ends.now
+    λ shown failed. churn-gives c.args.churn.now c.in-Ok.load o.delivery (Tree o.ended) c.in-Ok.ensures does
+    c.in-Ok-churned-2.ensures.1 shown failed c.args.ends.now

@@ -19,9 +19,12 @@ returns-in-Some g c =
     let image = c.args.image.now in
     let lists = items_of c.args.lists.now in
     let s = c.in-Ok.served in
-    let of = made g.row.N run image lists c.as_slice-plan.result.now c.unwrap_or-version.result _ s c.in-Ok.ensures.served c.in-Ok.ensures.version c.in-Ok.ensures.frames c.as_slice-plan.ensures.value c.unwrap_or-version.ensures (omega arith) in
+    let of = made g.row.N run image lists c.as_slice-plan.result.now c.unwrap_or-version.result _ s
+    c.in-Ok.ensures.served c.in-Ok.ensures.version c.in-Ok.ensures.frames c.as_slice-plan.ensures.value
+    c.unwrap_or-version.ensures (omega arith) in
     let text = rw c.as_slice.ensures.value at c.in_ok-text-in-Some.ensures in
-    cut_outcome g.row.N run image lists s.ended c.in-Some.page c.in_ok-text-in-Some.text c.told.result s.evicted of c.in-Some.is text c.told.ensures
+    cut_outcome g.row.N run image lists s.ended c.in-Some.page c.in_ok-text-in-Some.text c.told.result s.evicted of
+    c.in-Some.is text c.told.ensures
 
 pub whole_text-requires-clause-matched : goal.whole_text-requires-clause-matched
 whole_text-requires-clause-matched g c = rw c.as_slice-in-None-2.ensures.value (matched _ _ _ c.in-Ok.ensures.served.calls)
@@ -33,12 +36,22 @@ returns g c =
     let lists = items_of c.args.lists.now in
     let s = c.in-Ok.served in
     let is = c.in-Ok.ensures.served in
-    let of = made g.row.N run image lists c.as_slice-plan.result.now c.unwrap_or-version.result _ s is c.in-Ok.ensures.version c.in-Ok.ensures.frames c.as_slice-plan.ensures.value c.unwrap_or-version.ensures (omega arith) in
+    let of = made g.row.N run image lists c.as_slice-plan.result.now c.unwrap_or-version.result _ s is
+    c.in-Ok.ensures.version c.in-Ok.ensures.frames c.as_slice-plan.ensures.value c.unwrap_or-version.ensures
+    (omega arith) in
     let m : Pairs = map_of (fixed g.row.N) (pages_of_blocks s.blocks.items) in
     let last : m ≡ last_map g.row.N image s.ended = (is.saved (is.flushed c.in-None.is)).1 in
     let blocks : c.as_slice-in-None.result.now ≡ s.blocks.items = c.as_slice-in-None.ensures.value in
-    let pages : c.in_ok-image-in-None.field-0.image ≡ pages_of_blocks s.blocks.items = c.in_ok-image-in-None.ensures.image ∙ ap (λ (b : List (MemBlock g.row.N)). pages_of_blocks b) blocks in
-    let pairs : c.in_ok-image-in-None.field-0.rows.pairs.items ≡ m = c.in_ok-image-in-None.ensures.rows ∙ ap (λ (b : List (MemBlock g.row.N)). map_of (fixed g.row.N) (pages_of_blocks b)) blocks in
-    let kept : IsKept g.row.N run.options.keep c.in_ok-image-in-None.field-0.image (written_of c.in_ok-file-in-None.file) = c.in_ok-file-in-None.ensures in
-    let text = (rw c.as_slice-in-None-2.ensures.value at c.in_ok-text-in-None.ensures) ∙ ap (λ (k : Pairs). worker_replies 0 (all_lines lists (all_replies s.replies.items)) ++ rows_text k ++ counters_of s.ended s.evicted) (c.as_slice-rows.ensures.value ∙ pairs) in
-    flushed_outcome g.row.N run image lists s.ended m c.in_ok-text-in-None.text c.in_ok-file-in-None.file c.told-in-None.result s.evicted of c.in-None.is refl last text (subst (λ (p : List (List ℕ)). IsKept g.row.N run.options.keep p (written_of c.in_ok-file-in-None.file)) pages kept) c.told-in-None.ensures
+    let pages : c.in_ok-image-in-None.field-0.image ≡ pages_of_blocks s.blocks.items =
+    c.in_ok-image-in-None.ensures.image ∙ ap (λ (b : List (MemBlock g.row.N)). pages_of_blocks b) blocks in
+    let pairs : c.in_ok-image-in-None.field-0.rows.pairs.items ≡ m = c.in_ok-image-in-None.ensures.rows
+    ∙ ap (λ (b : List (MemBlock g.row.N)). map_of (fixed g.row.N) (pages_of_blocks b)) blocks in
+    let kept : IsKept g.row.N run.options.keep c.in_ok-image-in-None.field-0.image
+    (written_of c.in_ok-file-in-None.file) = c.in_ok-file-in-None.ensures in
+    let text = (rw c.as_slice-in-None-2.ensures.value at c.in_ok-text-in-None.ensures)
+    ∙ ap (λ (k : Pairs). worker_replies 0 (all_lines lists (all_replies s.replies.items)) ++ rows_text
+    k ++ counters_of s.ended s.evicted) (c.as_slice-rows.ensures.value ∙ pairs) in
+    flushed_outcome g.row.N run image lists s.ended m c.in_ok-text-in-None.text c.in_ok-file-in-None.file
+    c.told-in-None.result s.evicted of c.in-None.is refl last text
+    (subst (λ (p : List (List ℕ)). IsKept g.row.N run.options.keep p (written_of c.in_ok-file-in-None.file)) pages
+    kept) c.told-in-None.ensures

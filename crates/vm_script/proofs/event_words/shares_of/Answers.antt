@@ -1,6 +1,7 @@
 use Rattle.std.proofs.Common.{◌<◌, ◌^◌, ◌∙◌, ◌≡◌, arith, sym}
 use Rattle.std.proofs.lemmas.Fmt.{decimal_injective}
-use Rattle.vm_script.proofs.event_words.shares_of.Goals.{else-shares-ge1-via-else-shares-ge1, else-shares-ge1-via-then-shares-ge1+else-shares-from}
+use Rattle.vm_script.proofs.event_words.shares_of.Goals.{else-shares-ge1-via-else-shares-ge1}
+use Rattle.vm_script.proofs.event_words.shares_of.Goals.{else-shares-ge1-via-then-shares-ge1+else-shares-from}
 use Rattle.vm_script.proofs.event_words.shares_of.Goals as goal
 
 pub returns-else-shares-ge1 : goal.returns-else-shares-ge1

@@ -4,4 +4,5 @@ use Rattle.vm_script.proofs.event_words.verb_of.Goals as goal
 use Rattle.vm_script.proofs.VerbNames.{differs, each_more}
 
 pub verbs-preserved : goal.verbs-preserved
-verbs-preserved c = each_more (λ verb. c.args.word.now ≢ verb_name verb) _ c.verbs.verb-index Look c.verbs-test.true c.verbs.invariant (λ e. differs _ _ _ c.eq.ensures c.if-eq.false (e ∙ sym c.name_of.ensures))
+verbs-preserved c = each_more (λ verb. c.args.word.now ≢ verb_name verb) _ c.verbs.verb-index Look c.verbs-test.true
+    c.verbs.invariant (λ e. differs _ _ _ c.eq.ensures c.if-eq.false (e ∙ sym c.name_of.ensures))

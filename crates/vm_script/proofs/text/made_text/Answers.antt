@@ -4,5 +4,6 @@ use Rattle.vm_script.proofs.text.made_text.Goals as goal
 
 pub returns : goal.returns
 returns c =
-    let line : string_bytes c.in_ok-line.line ≡ made_line c.args.pages c.args.used c.args.height = rw c.in_ok-line.ensures.ok (simp append_assoc) in
+    let line : string_bytes c.in_ok-line.line ≡ made_line c.args.pages c.args.used c.args.height =
+    rw c.in_ok-line.ensures.ok (simp append_assoc) in
     rw (← line, ← c.as_bytes.ensures.value) c.extend_from_slice.ensures.items

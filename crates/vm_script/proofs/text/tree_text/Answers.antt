@@ -4,5 +4,6 @@ use Rattle.vm_script.proofs.text.tree_text.Goals as goal
 
 pub returns : goal.returns
 returns c =
-    let line : string_bytes c.in_ok-line.line ≡ tree_line c.args.height c.args.used c.args.rows = rw c.in_ok-line.ensures.ok (simp append_assoc) in
+    let line : string_bytes c.in_ok-line.line ≡ tree_line c.args.height c.args.used c.args.rows =
+    rw c.in_ok-line.ensures.ok (simp append_assoc) in
     rw (← line, ← c.as_bytes.ensures.value) c.extend_from_slice.ensures.items

@@ -10,7 +10,9 @@ pub returns-clause-served : goal.returns-clause-served
 returns-clause-served g c =
     let r = c.in_ok-kept.field-0 in
     let into = c.in_ok-kept.ensures.served c.args.image.now c.args.plan.now c.requires.plan c.in-Ok.ensures.blocks in
-    subst (λ (told : List (List (Result Reply TreeFault))). IsServed g.row.N c.args.image.now c.args.plan.now (items_of c.args.lists.now) told r.report r.blocks.items r.ended) (sym (kept-replies _ _ into.stand)) into.served
+    subst (λ (told : List (List (Result Reply TreeFault))). IsServed g.row.N c.args.image.now c.args.plan.now
+    (items_of c.args.lists.now) told r.report r.blocks.items r.ended) (sym (kept-replies _ _ into.stand))
+    into.served
 
 pub returns-clause-contents : goal.returns-clause-contents
 returns-clause-contents g c =

@@ -8,4 +8,11 @@ returns-clause-place g c start has =
     omega (arith, all, has.pages, has.frames, c.behind_frames.ensures.place, c.div_ceil.ensures, c.args.words.now.shape.1)
 
 pub returns-clause-inside : goal.returns-clause-inside
-returns-clause-inside g c = omega (arith, c.behind_frames.ensures.place, c.args.words.now.wide.0, c.div_ceil.ensures, c.args.words.now.shape.1)
+returns-clause-inside g c =
+    omega (
+      arith,
+      c.behind_frames.ensures.place,
+      c.args.words.now.wide.0,
+      c.div_ceil.ensures,
+      c.args.words.now.shape.1,
+    )

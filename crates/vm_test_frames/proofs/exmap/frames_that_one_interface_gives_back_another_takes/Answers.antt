@@ -7,4 +7,6 @@ use Rattle.vm_test_frames.proofs.exmap.frames_that_one_interface_gives_back_anot
 pub free-requires-clause-frames : goal.free-requires-clause-frames
 free-requires-clause-frames g c =
     let dry = c.in-Dry.ensures.answer in
-    held-swap c.in-Batch.all c.alloc-2.new.self.frames (view c.alloc-3.new.pass) (held-on _ (view c.alloc-2.new.pass) (view c.alloc-3.new.pass) (c.in-Batch.ensures.batch c.in-Batch.all refl) dry.refused.moves.start dry.refused.frames)
+    held-swap c.in-Batch.all c.alloc-2.new.self.frames (view c.alloc-3.new.pass)
+    (held-on _ (view c.alloc-2.new.pass) (view c.alloc-3.new.pass) (c.in-Batch.ensures.batch c.in-Batch.all refl)
+    dry.refused.moves.start dry.refused.frames)

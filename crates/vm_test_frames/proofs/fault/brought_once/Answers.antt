@@ -12,5 +12,8 @@ some-frame : (n : ℕ) → n ≡ 2 → 1 < n
 some-frame n e = omega (arith, e)
 
 pub fault_in-again-requires-clause-frame : goal.fault_in-again-requires-clause-frame
-fault_in-again-requires-clause-frame g c =
-    (some-frame _ c.in_ok-words.ensures.frames, second-left (view c.take_both.new.pass).frames (view c.fault_in.new.pass).frames c.in-Brought.ensures.fetched.frames c.take_both.ensures.holds.1)
+fault_in-again-requires-clause-frame g c = (
+  some-frame _ c.in_ok-words.ensures.frames,
+  second-left (view c.take_both.new.pass).frames
+      (view c.fault_in.new.pass).frames c.in-Brought.ensures.fetched.frames c.take_both.ensures.holds.1,
+)

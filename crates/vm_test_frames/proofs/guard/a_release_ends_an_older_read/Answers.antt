@@ -10,4 +10,5 @@ validate_silently-answer-requires-clause-reading g c =
     let begun = c.in-Ok.ensures.ok in
     let locked = c.in-Ok-take.ensures.taken.1 in
     let left = lock-leaves _ _ _ _ _ _ _ _ _ begun.1.reads locked in
-    inr (subst (λ p. HasLeft p c.in-Ok.guard.word (view c.release.new.pass)) (sym begun.0) (has-left-on _ _ _ _ _ left c.release.ensures.released.elsewhere.steady))
+    inr (subst (λ p. HasLeft p c.in-Ok.guard.word (view c.release.new.pass)) (sym begun.0)
+    (has-left-on _ _ _ _ _ left c.release.ensures.released.elsewhere.steady))

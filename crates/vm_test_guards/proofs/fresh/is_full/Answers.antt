@@ -4,7 +4,9 @@ use Rattle.vm_test_guards.proofs.Released.{full-leaves}
 use Rattle.vm_test_guards.proofs.fresh.is_full.Goals as goal
 
 pub returns-clause-home : goal.returns-clause-home
-returns-clause-home g c = (full-leaves _ _ _ _ _ _ (view c.args.pass.now) (view c.fresh.new.pass) c.in-Full.ensures.answer).0 ∙ c.requires.home
+returns-clause-home g c =
+    (full-leaves _ _ _ _ _ _ (view c.args.pass.now) (view c.fresh.new.pass) c.in-Full.ensures.answer).0
+    ∙ c.requires.home
 
 pub returns-clause-own : goal.returns-clause-own
 returns-clause-own g c = (full-leaves _ _ _ _ _ _ (view c.args.pass.now) (view c.fresh.new.pass) c.in-Full.ensures.answer).1 c.requires.own

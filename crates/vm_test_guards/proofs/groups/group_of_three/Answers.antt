@@ -7,12 +7,14 @@ use Rattle.vm_test_guards.proofs.Beginnings.{claimed-begin}
 use Rattle.vm_test_guards.proofs.groups.group_of_three.Goals as goal
 
 pub two_passes-requires : goal.two_passes-requires
-two_passes-requires g c = let begins = claimed-begin {X = Unit {0}} (λ _ _. Unit {0}) (λ _ _. tt) _ 3 c.in_ok-blocks.blocks.items c.in_ok-blocks.ensures.count in search (rules, begins)
+two_passes-requires g c = let begins = claimed-begin {X = Unit {0}} (λ _ _. Unit {0}) (λ _ _. tt) _ 3
+    c.in_ok-blocks.blocks.items c.in_ok-blocks.ensures.count in search (rules, begins)
 
 pub released-requires-clause-first : goal.released-requires-clause-first
 released-requires-clause-first g c =
     let page = c.written-a.ensures.page in
-    (c.written-c.ensures.others _ _ _ _ (λ e. absurd (omega (arith, e, page))) (c.written-b.ensures.others _ _ _ _ (λ e. absurd (omega (arith, e, page))) c.written-a.ensures.holds).0).0
+    (c.written-c.ensures.others _ _ _ _ (λ e. absurd (omega (arith, e, page)))
+    (c.written-b.ensures.others _ _ _ _ (λ e. absurd (omega (arith, e, page))) c.written-a.ensures.holds).0).0
 
 pub released-requires-clause-second : goal.released-requires-clause-second
 released-requires-clause-second g c =

@@ -4,5 +4,6 @@ use Rattle.vm_test_guards.proofs.numbers.four_workers_lose_no_number.Goals as go
 
 pub rounds_and_join-requires-after_bounds : goal.rounds_and_join-requires-after_bounds
 rounds_and_join-requires-after_bounds g c κs =
-    let four : 4 ≤ length (view c.eight_are_free.new.pass).fresh = subst (λ (l : List ℕ). 4 ≤ length l) (sym c.eight_are_free.ensures.parts.fresh) c.in_ok-pool.ensures.parts in
+    let four : 4 ≤ length (view c.eight_are_free.new.pass).fresh =
+    subst (λ (l : List ℕ). 4 ≤ length l) (sym c.eight_are_free.ensures.parts.fresh) c.in_ok-pool.ensures.parts in
     search (rules, four)

@@ -9,5 +9,6 @@ returns-clause-alone g c = first-alone _ _ _ _ _ _ _ _ c.in_ok-start.ensures.vie
 
 pub returns-clause-parts : goal.returns-clause-parts
 returns-clause-parts g c =
-    let many : length (view c.in_ok-start.field-0.1).fresh ≡ 4294967295 = ap (λ u. length u.fresh) c.in_ok-start.ensures.view ∙ numbers-length 1 4294967295 in
+    let many : length (view c.in_ok-start.field-0.1).fresh ≡ 4294967295 =
+    ap (λ u. length u.fresh) c.in_ok-start.ensures.view ∙ numbers-length 1 4294967295 in
     omega (arith, many)

@@ -15,4 +15,6 @@ one : AreCandidates 1 ((0, 18302628885633695751) ∷ [])
 one = record { apart = (refl, tt); each = (record { page = omega arith; marked = marked; below = below }, tt) }
 
 pub returns : goal.returns
-returns c = subst (λ (l : List (ℕ × ℕ)). AreCandidates 1 l) (sym (c.push.ensures.items ∙ ap (λ (l : List (ℕ × ℕ)). l ++ (0, 18302628885633695751) ∷ []) c.new-list.ensures)) one
+returns c = subst (λ (l : List (ℕ × ℕ)). AreCandidates 1 l)
+    (sym (c.push.ensures.items ∙ ap (λ (l : List (ℕ × ℕ)). l ++ (0, 18302628885633695751) ∷ []) c.new-list.ensures))
+    one

@@ -16,12 +16,14 @@ unfolding version_of
 below = omega arith
 
 -- the block of a page that was locked may be taken out
-may-take-out : {X : Type 0} (tied : Start → ℕ → List ℕ → ℕ → List ℕ → Type 0) (p word : ℕ) (v w : View X) → LockTold tied p word word v w → v.out ≡ None → MayTakeOut w p
+may-take-out : {X : Type 0} (tied : Start → ℕ → List ℕ → ℕ → List ℕ → Type 0) (p word : ℕ) (v w : View X)
+    → LockTold tied p word word v w → v.out ≡ None → MayTakeOut w p
 may-take-out tied p word v w t none =
     let b = taken-view _ word word v (locked_view p t.held (last_of w p).words v) w refl t.brings in
     record {
       calls = or_left (seat_of w p).exclusive (seat_of w p).writing
-          (ap (λ (x : View _). (seat_of x p).exclusive) b.view ∙ ap (λ (s : Seat). s.exclusive) (upd-same (put_at no_seat v.seats) p (record (seat_of v p) { exclusive = true; reading = None })));
+          (ap (λ (x : View _). (seat_of x p).exclusive) b.view ∙ ap (λ (s : Seat). s.exclusive)
+          (upd-same (put_at no_seat v.seats) p (record (seat_of v p) { exclusive = true; reading = None })));
       none = ap (λ (x : View _). x.out) b.view ∙ none;
     }
 

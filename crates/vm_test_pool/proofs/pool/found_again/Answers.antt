@@ -11,5 +11,6 @@ round_trip-word-requires g c =
     let count = c.in_ok-blocks.ensures.count in
     let long = length-mapped (λ (b : Stored). b.words) (map stored_of items) in
     let mapped = length-mapped stored_of items in
-    let used = ap all_zero (c.in_ok-pool.ensures.words 1 (omega (arith, count))) ∙ c.in_ok-blocks.ensures.used 1 (omega (arith, count, long, mapped)) in
+    let used = ap all_zero (c.in_ok-pool.ensures.words 1 (omega (arith, count))) ∙ c.in_ok-blocks.ensures.used 1
+    (omega (arith, count, long, mapped)) in
     search (rules, used)

@@ -5,4 +5,6 @@ use Rattle.vm_test_pool.proofs.Used.{set-used}
 use Rattle.vm_test_pool.proofs.pool.used_page.Goals as goal
 
 pub returns : goal.returns
-returns g c = ap all_zero (c.set.ensures.words ∙ ap (λ l. slice_set l 1 1) c.zero-page.ensures) ∙ set-used g.row.N 1 1 (let some = size_some g.row.N c.requires.sized in let eights = size_eights g.row.N c.requires.sized in omega (arith, some, eights)) (λ e. omega (arith, e))
+returns g c = ap all_zero (c.set.ensures.words ∙ ap (λ l. slice_set l 1 1) c.zero-page.ensures) ∙ set-used g.row.N 1 1
+    (let some = size_some g.row.N c.requires.sized in let eights = size_eights g.row.N c.requires.sized in
+    omega (arith, some, eights)) (λ e. omega (arith, e))

@@ -6,7 +6,11 @@ use Rattle.vm_test_ranges.proofs.Homes.{look-rests, rests-held}
 use Rattle.vm_test_ranges.proofs.calls.lock_of.Goals as goal
 
 pub returns-clause-home : goal.returns-clause-home
-returns-clause-home c = (look-rests (fixed WORDS) c.args.pid c.look_silently.result (view c.args.pass.now) (view c.look_silently.new.pass) c.look_silently.ensures.told).out ∙ c.requires.home
+returns-clause-home c =
+    (look-rests (fixed WORDS) c.args.pid c.look_silently.result (view c.args.pass.now) (view c.look_silently.new.pass)
+    c.look_silently.ensures.told).out ∙ c.requires.home
 
 pub returns-clause-held : goal.returns-clause-held
-returns-clause-held c = rests-held _ (view c.args.pass.now) (view c.look_silently.new.pass) c.requires.held (look-rests (fixed WORDS) c.args.pid c.look_silently.result (view c.args.pass.now) (view c.look_silently.new.pass) c.look_silently.ensures.told)
+returns-clause-held c = rests-held _ (view c.args.pass.now) (view c.look_silently.new.pass) c.requires.held
+    (look-rests (fixed WORDS) c.args.pid c.look_silently.result (view c.args.pass.now) (view c.look_silently.new.pass)
+    c.look_silently.ensures.told)

@@ -16,22 +16,27 @@ pub share_silently-requires-clause-reading : goal.share_silently-requires-clause
 share_silently-requires-clause-reading c = let k = c.in-Ok.ensures.ok in rw k.0 k.1.reads
 
 pub try_range-tried-requires-clause-home : goal.try_range-tried-requires-clause-home
-try_range-tried-requires-clause-home c = let k = c.in-Ok.ensures.ok in let s = c.in-Ok-share_silently.ensures.taken in s.1.elsewhere.steady.out ∙ k.1.quiet.steady.out ∙ c.requires.home
+try_range-tried-requires-clause-home c = let k = c.in-Ok.ensures.ok in let s = c.in-Ok-share_silently.ensures.taken in
+    s.1.elsewhere.steady.out ∙ k.1.quiet.steady.out ∙ c.requires.home
 
 pub read-word-requires-clause-shares : goal.read-word-requires-clause-shares
 read-word-requires-clause-shares c =
     let s = c.in-Ok-share_silently.ensures.taken in
-    rw s.0 (sharing-on (Tied (fixed WORDS)) _ c.in-Ok-share_silently.shared.frame _ _ _ _ s.1 _ (tried-on (λ (s : Said). s) (fixed WORDS) 0 c.args.bound _ _ _ _ c.try_range-tried.ensures.tried))
+    rw s.0 (sharing-on (Tied (fixed WORDS)) _ c.in-Ok-share_silently.shared.frame _ _ _ _ s.1 _
+    (tried-on (λ (s : Said). s) (fixed WORDS) 0 c.args.bound _ _ _ _ c.try_range-tried.ensures.tried))
 
 pub drop_with-requires-clause-shares : goal.drop_with-requires-clause-shares
 drop_with-requires-clause-shares c =
     let s = c.in-Ok-share_silently.ensures.taken in
-    let on = on-then _ _ _ (tried-on (λ (s : Said). s) (fixed WORDS) 0 c.args.bound _ _ _ _ c.try_range-tried.ensures.tried) (quiet-on _ _ _ _ c.read-word.ensures.quiet.1) in
+    let on = on-then _ _ _ (tried-on (λ (s : Said). s) (fixed WORDS) 0 c.args.bound _ _ _ _
+    c.try_range-tried.ensures.tried) (quiet-on _ _ _ _ c.read-word.ensures.quiet.1) in
     rw s.0 (sharing-on (Tied (fixed WORDS)) _ c.in-Ok-share_silently.shared.frame _ _ _ _ s.1 _ on)
 
 pub drop_with-requires-clause-legal : goal.drop_with-requires-clause-legal
 drop_with-requires-clause-legal c =
     let k = c.in-Ok.ensures.ok in
     let s = c.in-Ok-share_silently.ensures.taken in
-    let on = on-then _ _ _ (tried-on (λ (s : Said). s) (fixed WORDS) 0 c.args.bound _ _ _ _ c.try_range-tried.ensures.tried) (quiet-on _ _ _ _ c.read-word.ensures.quiet.1) in
-    rw s.0 (may-unshare (Tied (fixed WORDS)) _ c.in-Ok-share_silently.shared.frame _ _ _ _ s.1 _ (k.1.quiet.steady.out ∙ c.requires.home) on)
+    let on = on-then _ _ _ (tried-on (λ (s : Said). s) (fixed WORDS) 0 c.args.bound _ _ _ _
+    c.try_range-tried.ensures.tried) (quiet-on _ _ _ _ c.read-word.ensures.quiet.1) in
+    rw s.0 (may-unshare (Tied (fixed WORDS)) _ c.in-Ok-share_silently.shared.frame _ _ _ _ s.1 _
+    (k.1.quiet.steady.out ∙ c.requires.home) on)

@@ -12,4 +12,6 @@ range-requires g c =
     search (rules, fits)
 
 pub returns-clause-home : goal.returns-clause-home
-returns-clause-home g c = ranged-home (λ (s : Said). s) (fixed g.row.N) (Range c.args.low c.args.bound) c.args.low c.args.bound c.range.result (view c.args.pass.now) (view c.range.new.pass) c.range.ensures.ok c.range.ensures.err ∙ c.requires.home
+returns-clause-home g c = ranged-home (λ (s : Said). s) (fixed g.row.N) (Range c.args.low c.args.bound) c.args.low
+    c.args.bound c.range.result (view c.args.pass.now) (view c.range.new.pass) c.range.ensures.ok c.range.ensures.err
+    ∙ c.requires.home

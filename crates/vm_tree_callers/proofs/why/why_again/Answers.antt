@@ -9,5 +9,5 @@ returns-clause-seen g c = again-seen g.K.Kind.layout (g.K.Kind.rank c.args.key.n
 pub returns-clause-other : goal.returns-clause-other
 returns-clause-other g c tells =
     let tried = c.in-Again.ensures.tried in
-    let told = sym (ap (λ (o : Origin). o.tells) tried.0.0.start) ∙ c.in-Again.ensures.ready.table.tells_is ∙ tells in
+    let told = sym (ap (λ (o : Origin). o.tells) tried.0.0.start) ∙ c.in-Again.ensures.goes.ready.table.tells_is ∙ tells in
     again-other g.K.Kind.layout (g.K.Kind.rank c.args.key.now) _ _ _ (λ no. true≢false (sym told ∙ no)) tried.1

@@ -46,22 +46,33 @@ write_merge-requires-clause-can g c =
       home = but.out ∙ c.requires.home;
       held = locks-held L gs ls v x c.requires.apart k;
       apart = subst AreApart (sym (locks-pids L gs ls v x k)) c.requires.apart;
-      drafts = λ tells. let h = locks-words L gs ls ps v x c.requires.apart (ap (λ (o : Origin). o.tells) (sym but.start) ∙ tells) whole
-          (c.requires.above, c.requires.sizes.0, (c.requires.left, c.requires.sizes.1, (c.requires.right, c.requires.sizes.2, tt))) k in (h.0, h.2.0, h.2.2.0);
+      drafts = λ tells. let h = locks-words L gs ls ps v x c.requires.apart (ap (λ (o : Origin). o.tells) (sym but.start) ∙ tells) whole (
+        c.requires.above,
+        c.requires.sizes.0,
+        (c.requires.left, c.requires.sizes.1, (c.requires.right, c.requires.sizes.2, tt)),
+      ) k in
+          (h.0, h.2.0, h.2.2.0);
       merge = λ tells.
           let h = locks-words L gs ls ps v x c.requires.apart (ap (λ (o : Origin). o.tells) (sym but.start) ∙ tells) whole
           (c.requires.above, c.requires.sizes.0, (c.requires.left, c.requires.sizes.1, (c.requires.right, c.requires.sizes.2, tt))) k in
-          subst (λ (p : ℕ). MayMerge L (page_change p over above) (page_change l.others.up.pid first joined) (page_change l.others.low.pid second (replicate L.words 0)) said) (sym k.1.page)
-          (subst (λ (p : ℕ). MayMerge L (page_change c.args.up.pid over above) (page_change p first joined) (page_change l.others.low.pid second (replicate L.words 0)) said) (sym k.2.1.page)
-          (subst (λ (p : ℕ). MayMerge L (page_change c.args.up.pid over above) (page_change c.args.left.pid first joined) (page_change p second (replicate L.words 0)) said) (sym k.2.2.1.page)
-          (c.requires.merge (ap (λ (o : Origin). o.tells) (sym but.start) ∙ tells) (inner-of L over h.1) (leaf-of L first h.2.1) (leaf-of L second h.2.2.1))));
+          subst (λ (p : ℕ). MayMerge L (page_change p over above) (page_change l.others.up.pid first joined)
+          (page_change l.others.low.pid second (replicate L.words 0)) said) (sym k.1.page)
+          (subst (λ (p : ℕ). MayMerge L (page_change c.args.up.pid over above) (page_change p first joined)
+          (page_change l.others.low.pid second (replicate L.words 0)) said) (sym k.2.1.page)
+          (subst (λ (p : ℕ). MayMerge L (page_change c.args.up.pid over above)
+          (page_change c.args.left.pid first joined) (page_change p second (replicate L.words 0)) said)
+          (sym k.2.2.1.page)
+          (c.requires.merge (ap (λ (o : Origin). o.tells) (sym but.start) ∙ tells) (inner-of L over h.1)
+          (leaf-of L first h.2.1) (leaf-of L second h.2.2.1))));
     }
 
 pub give_number-requires-clause-page : goal.give_number-requires-clause-page
 give_number-requires-clause-page g c =
     let l = c.in-Ok.locks in
-    let held = locks-held g.K.Kind.layout (c.args.up ∷ c.args.left ∷ c.args.right ∷ []) (l.first ∷ l.others.up ∷ l.others.low ∷ []) (view c.args.pass.now) (view c.lock_three.new.pass) c.requires.apart c.in-Ok.ensures.ok in
-    subst (λ (n : ℕ). l.others.low.pid < n) c.in-Ok.ensures.ready.table.is_shape.pages held.1.1.0.page
+    let held = locks-held g.K.Kind.layout (c.args.up ∷ c.args.left ∷ c.args.right ∷ [])
+    (l.first ∷ l.others.up ∷ l.others.low ∷ []) (view c.args.pass.now) (view c.lock_three.new.pass)
+    c.requires.apart c.in-Ok.ensures.ok in
+    subst (λ (n : ℕ). l.others.low.pid < n) c.in-Ok.ensures.goes.ready.table.is_shape.pages held.1.1.0.page
 
 pub give_number-requires-clause-mine : goal.give_number-requires-clause-mine
 give_number-requires-clause-mine g c tells =
@@ -69,7 +80,8 @@ give_number-requires-clause-mine g c tells =
     let x = view c.lock_three.new.pass in
     let m = c.write_merge.ensures.merged in
     let p = l.others.low.pid in
-    let held = locks-held g.K.Kind.layout (c.args.up ∷ c.args.left ∷ c.args.right ∷ []) (l.first ∷ l.others.up ∷ l.others.low ∷ []) (view c.args.pass.now) x c.requires.apart c.in-Ok.ensures.ok in
+    let held = locks-held g.K.Kind.layout (c.args.up ∷ c.args.left ∷ c.args.right ∷ [])
+    (l.first ∷ l.others.up ∷ l.others.low ∷ []) (view c.args.pass.now) x c.requires.apart c.in-Ok.ensures.ok in
     let start = m.released.beside.steady.start ∙ m.stays.start in (
       inr (ap (has p) (m.to_give (ap (λ (o : Origin). o.tells) (sym start) ∙ tells)) ∙ among-first p x.freed),
       inl (ap (has p) (m.released.group.0 ∙ m.stays.group.0) ∙ held.1.1.0.free),
@@ -87,8 +99,11 @@ returns-clause-ok g c =
     let y = view c.write_merge.new.pass in
     let w = view c.give_number.new.pass in
     let k = c.in-Ok.ensures.ok in
-    let m = subst (λ ps. IsMerged plain L ps (c.args.right.pid ∷ []) c.args.said.now x y) (locks-pids L gs ls v x k) (subst (λ (p : ℕ). IsMerged plain L (l.first.pid ∷ l.others.up.pid ∷ l.others.low.pid ∷ []) (p ∷ []) c.args.said.now x y) k.2.2.1.page c.write_merge.ensures.merged) in
-    merge-made plain L gs ls (c.args.right.pid ∷ []) c.args.said.now v x y w c.requires.apart k m (w, subst (λ (p : ℕ). GivesNumber p y w) k.2.2.1.page c.give_number.ensures.given, refl)
+    let m = subst (λ ps. IsMerged plain L ps (c.args.right.pid ∷ []) c.args.said.now x y) (locks-pids L gs ls v x k)
+    (subst (λ (p : ℕ). IsMerged plain L (l.first.pid ∷ l.others.up.pid ∷ l.others.low.pid ∷ []) (p ∷ [])
+    c.args.said.now x y) k.2.2.1.page c.write_merge.ensures.merged) in
+    merge-made plain L gs ls (c.args.right.pid ∷ []) c.args.said.now v x y w c.requires.apart k m
+    (w, subst (λ (p : ℕ). GivesNumber p y w) k.2.2.1.page c.give_number.ensures.given, refl)
 
 pub returns-clause-known : goal.returns-clause-known
 returns-clause-known g c resident =
@@ -102,5 +117,8 @@ returns-clause-known g c resident =
     let y = view c.write_merge.new.pass in
     let w = view c.give_number.new.pass in
     let k = c.in-Ok.ensures.ok in
-    let m = subst (λ ps. IsMerged plain L ps (c.args.right.pid ∷ []) c.args.said.now x y) (locks-pids L gs ls v x k) (subst (λ (p : ℕ). IsMerged plain L (l.first.pid ∷ l.others.up.pid ∷ l.others.low.pid ∷ []) (p ∷ []) c.args.said.now x y) k.2.2.1.page c.write_merge.ensures.merged) in
-    merge-resident plain L gs ls (c.args.right.pid ∷ []) c.args.said.now v x y w c.requires.apart k m (w, subst (λ (p : ℕ). GivesNumber p y w) k.2.2.1.page c.give_number.ensures.given, refl) resident
+    let m = subst (λ ps. IsMerged plain L ps (c.args.right.pid ∷ []) c.args.said.now x y) (locks-pids L gs ls v x k)
+    (subst (λ (p : ℕ). IsMerged plain L (l.first.pid ∷ l.others.up.pid ∷ l.others.low.pid ∷ []) (p ∷ [])
+    c.args.said.now x y) k.2.2.1.page c.write_merge.ensures.merged) in
+    merge-resident plain L gs ls (c.args.right.pid ∷ []) c.args.said.now v x y w c.requires.apart k m
+    (w, subst (λ (p : ℕ). GivesNumber p y w) k.2.2.1.page c.give_number.ensures.given, refl) resident

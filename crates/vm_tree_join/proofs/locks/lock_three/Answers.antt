@@ -17,14 +17,18 @@ lock_two-requires-clause-apart g c = λ e. (lacks c.args.second.pid c.args.third
 pub lock_two-requires-clause-first : goal.lock_two-requires-clause-first
 lock_two-requires-clause-first g c =
     let l = c.in-Ok.ensures.taken.2 in
-    reading-elsewhere c.args.second.pid c.args.second.word c.args.second.frame c.args.first.pid l.done (view c.args.pass.now) (view c.upgrade.new.pass)
+    reading-elsewhere c.args.second.pid c.args.second.word c.args.second.frame c.args.first.pid l.done
+    (view c.args.pass.now) (view c.upgrade.new.pass)
     (λ e. (lacks c.args.first.pid c.args.second.pid (c.args.third.pid ∷ []) c.requires.apart.0).0 (sym e)) l.elsewhere c.requires.second
 
 pub lock_two-requires-clause-second : goal.lock_two-requires-clause-second
 lock_two-requires-clause-second g c =
     let l = c.in-Ok.ensures.taken.2 in
-    reading-elsewhere c.args.third.pid c.args.third.word c.args.third.frame c.args.first.pid l.done (view c.args.pass.now) (view c.upgrade.new.pass)
-    (λ e. (lacks c.args.first.pid c.args.third.pid [] (lacks c.args.first.pid c.args.second.pid (c.args.third.pid ∷ []) c.requires.apart.0).1).0 (sym e)) l.elsewhere c.requires.third
+    reading-elsewhere c.args.third.pid c.args.third.word c.args.third.frame c.args.first.pid l.done
+    (view c.args.pass.now) (view c.upgrade.new.pass)
+    (λ e. (lacks c.args.first.pid c.args.third.pid []
+    (lacks c.args.first.pid c.args.second.pid (c.args.third.pid ∷ []) c.requires.apart.0).1).0 (sym e))
+    l.elsewhere c.requires.third
 
 pub returns-in-Ok-lock_two-clause-ok : goal.returns-in-Ok-lock_two-clause-ok
 returns-in-Ok-lock_two-clause-ok g c =
@@ -32,7 +36,15 @@ returns-in-Ok-lock_two-clause-ok g c =
     let l = c.in-Ok-lock_two.ensures.ok in (
       view c.upgrade.new.pass,
       record { page = k.0; version = k.1; locked = k.2 },
-      (l.between, record { page = l.up_page; version = l.up_version; locked = l.up_locked }, (view c.lock_two.new.pass, record { page = l.low_page; version = l.low_version; locked = l.low_locked }, refl)),
+      (
+        l.between,
+        record {
+          page = l.up_page;
+          version = l.up_version;
+          locked = l.up_locked;
+        },
+        (view c.lock_two.new.pass, record { page = l.low_page; version = l.low_version; locked = l.low_locked }, refl),
+      ),
     )
 
 pub release-requires-clause-holds : goal.release-requires-clause-holds
@@ -40,15 +52,18 @@ release-requires-clause-holds g c =
     let l = c.in-Ok.ensures.taken.2 in
     let held = c.in-Ok.held in
     let y = view c.lock_two.new.pass in
-    let keeps = (denied-keeps g.K.Kind.layout (c.args.second ∷ c.args.third ∷ []) c.in-Err-lock_two.deny (view c.upgrade.new.pass) y c.in-Err-lock_two.ensures.err.1).0 in
+    let keeps = (denied-keeps g.K.Kind.layout (c.args.second ∷ c.args.third ∷ []) c.in-Err-lock_two.deny
+    (view c.upgrade.new.pass) y c.in-Err-lock_two.ensures.err.1).0 in
     subst (λ p. IsHolding p held.frame held.version held.dirty y) (sym c.in-Ok.ensures.taken.0)
-    (holding-kept c.args.first.pid held.frame held.version held.dirty (view c.upgrade.new.pass) y keeps.start (keeps.holds c.args.first.pid) (keeps.knows c.args.first.pid) keeps.pending l.holding)
+    (holding-kept c.args.first.pid held.frame held.version held.dirty (view c.upgrade.new.pass) y keeps.start
+    (keeps.holds c.args.first.pid) (keeps.knows c.args.first.pid) keeps.pending l.holding)
 
 pub release-requires-clause-claimed : goal.release-requires-clause-claimed
 release-requires-clause-claimed g c tells =
     let l = c.in-Ok.ensures.taken.2 in
     let y = view c.lock_two.new.pass in
-    let keeps = (denied-keeps g.K.Kind.layout (c.args.second ∷ c.args.third ∷ []) c.in-Err-lock_two.deny (view c.upgrade.new.pass) y c.in-Err-lock_two.ensures.err.1).0 in
+    let keeps = (denied-keeps g.K.Kind.layout (c.args.second ∷ c.args.third ∷ []) c.in-Err-lock_two.deny
+    (view c.upgrade.new.pass) y c.in-Err-lock_two.ensures.err.1).0 in
     let n = keeps.knows c.args.first.pid (inl l.holding.owns) in
     subst (IsClaimed y) (sym c.in-Ok.ensures.taken.0) (inl (n.draft ∙ l.draft ∙ sym (ap (λ (t : Version). t.words) n.last)))
 
@@ -57,12 +72,18 @@ release-requires-clause-owner g c =
     let k = c.in-Ok.ensures.taken in
     let l = k.2 in
     let y = view c.lock_two.new.pass in
-    let keeps = (denied-keeps g.K.Kind.layout (c.args.second ∷ c.args.third ∷ []) c.in-Err-lock_two.deny (view c.upgrade.new.pass) y c.in-Err-lock_two.ensures.err.1).0 in
+    let keeps = (denied-keeps g.K.Kind.layout (c.args.second ∷ c.args.third ∷ []) c.in-Err-lock_two.deny
+    (view c.upgrade.new.pass) y c.in-Err-lock_two.ensures.err.1).0 in
     let n = keeps.knows c.args.first.pid (inl l.holding.owns) in
     λ tells.
     inl (
       none-said _ c.as_ref.result c.as_ref.ensures.variant,
-      subst (λ p. AreUnchanged y.owed (change_of y p ∷ [])) (sym k.0) (n.draft ∙ l.draft ∙ sym (ap (λ (t : Version). t.words) n.last), ap (has c.args.first.pid) (keeps.owed ∙ l.group.1) ∙ l.before.paid, tt),
+      subst (λ p. AreUnchanged y.owed (change_of y p ∷ [])) (sym k.0) (
+        n.draft ∙ l.draft ∙ sym (ap (λ (t : Version). t.words) n.last),
+        ap (has c.args.first.pid)
+            (keeps.owed ∙ l.group.1) ∙ l.before.paid,
+        tt,
+      ),
     )
 
 pub returns-in-Err-lock_two-clause-err : goal.returns-in-Err-lock_two-clause-err
@@ -72,16 +93,36 @@ returns-in-Err-lock_two-clause-err g c =
     let e = c.in-Err-lock_two.ensures.err in
     let y = view c.lock_two.new.pass in
     let w = view c.release.new.pass in
-    let r = subst (λ said. IsReleased held.pid held.version said y w) (none-said _ c.as_ref.result c.as_ref.ensures.variant) c.release.ensures.released in
-    let back = subst (λ p. IsReleased p held.version None y w) k.0 r in
-    (e.0, inr (record { frame = held.frame; version = held.version; dirty = held.dirty; locked = view c.upgrade.new.pass; done = y; version_is = k.1; taken = k.2; inner = e.1; back = back }))
+    let r = subst (λ said. IsReleased held.pid held.version said y w)
+    (none-said _ c.as_ref.result c.as_ref.ensures.variant) c.release.ensures.released in
+    let back = subst (λ p. IsReleased p held.version None y w) k.0 r in (
+      e.0,
+      inr (record {
+        frame = held.frame;
+        version = held.version;
+        dirty = held.dirty;
+        locked = view c.upgrade.new.pass;
+        done = y;
+        version_is = k.1;
+        taken = k.2;
+        inner = e.1;
+        back = back;
+      }),
+    )
 
 pub returns-in-Err-clause-sure : goal.returns-in-Err-clause-sure
 returns-in-Err-clause-sure g c k =
-    let d = c.in-Err.ensures in only-worn c.args.first.pid c.args.first.word c.in-Err.deny (view c.args.pass.now) d.denied.kind k.alone k.each.0.0 k.each.0.1 d.worn d.sure
+    let d = c.in-Err.ensures in only-worn c.args.first.pid c.args.first.word c.in-Err.deny (view c.args.pass.now)
+    d.denied.kind k.alone k.each.0.0 k.each.0.1 d.worn d.sure
 
 pub returns-in-Err-lock_two-clause-sure : goal.returns-in-Err-lock_two-clause-sure
 returns-in-Err-lock_two-clause-sure g c k =
     let t = c.in-Ok.ensures.taken in
     c.in-Err-lock_two.ensures.sure
-    (free-both c.args.second c.args.third _ (free-past g.K.Kind.layout c.args.first c.in-Ok.held (c.args.second ∷ c.args.third ∷ []) (view c.args.pass.now) (view c.upgrade.new.pass) c.requires.apart.0 (record { page = t.0; version = t.1; locked = t.2 }) k))
+    (free-both c.args.second c.args.third _
+    (free-past g.K.Kind.layout c.args.first c.in-Ok.held (c.args.second ∷ c.args.third ∷ [])
+    (view c.args.pass.now) (view c.upgrade.new.pass) c.requires.apart.0 (record {
+      page = t.0;
+      version = t.1;
+      locked = t.2;
+    }) k))

@@ -15,7 +15,8 @@ pgive-requires-clause-legal g c =
     let only = subst (λ (m : ℕ). (q : ℕ) → in_mask (p / 64) m q ≡ true → q ≡ p) bit (bit-only p) in
     record {
       some = mask-some (p / 64) _ p here;
-      inside = λ q e. let same = only q e in let pages = c.requires.ready.table.is_shape.pages in let page = c.requires.page in omega (arith, same, page, pages);
+      inside = λ q e. let same = only q e in let pages = c.requires.ready.table.is_shape.pages in let page =
+          c.requires.page in omega (arith, same, page, pages);
       mine = λ tells q e. subst (IsGivenBy (view c.args.pass.now)) (sym (only q e)) (c.requires.mine tells);
     }
 

@@ -36,7 +36,8 @@ pub judge-requires-clause-below : goal.judge-requires-clause-below
 judge-requires-clause-below g c = c.is_last-2.ensures.1 c.if-is_last-2.false
 
 pub judge-requires-clause-beside : goal.judge-requires-clause-beside
-judge-requires-clause-beside g c = let p = c.requires.parent in (p.0, some-of _ c.in-Ok.found c.in-Some.beside c.in-Some.is (c.in-Ok.ensures.beside p.0 p.1))
+judge-requires-clause-beside g c = let p = c.requires.parent in
+    (p.0, some-of _ c.in-Ok.found c.in-Some.beside c.in-Some.is (c.in-Ok.ensures.beside p.0 p.1))
 
 pub returns-in-Some-clause-beside : goal.returns-in-Some-clause-beside
 returns-in-Some-clause-beside g c =
@@ -46,7 +47,8 @@ returns-in-Some-clause-beside g c =
     ok-then c.judge.result c.judge.ensures.others
     (λ r k q here.
     let ne = apart-from c.args.leaf.now.pid c.in-Some.beside.guard.pid q n.choice.apart n.apart.1 here in
-    let o = e.others q (apart-from c.args.leaf.now.pid c.args.up.now.pid q (λ s. p.1.apart (sym s)) p.1.not_zero.1 here) (of-some _ c.in-Ok.found c.in-Some.beside c.in-Some.is ne) in
+    let o = e.others q (apart-from c.args.leaf.now.pid c.args.up.now.pid q (λ s. p.1.apart (sym s)) p.1.not_zero.1
+    here) (of-some _ c.in-Ok.found c.in-Some.beside c.in-Some.is ne) in
     leaves-both q _ _ _ (e.reads, o.0, o.1) (k q ne))
 
 pub returns-in-Some-clause-stays : goal.returns-in-Some-clause-stays
@@ -59,22 +61,30 @@ returns-in-Some-clause-stays g c =
 
 pub returns-in-Some-clause-none : goal.returns-in-Some-clause-none
 returns-in-Some-clause-none g c =
-    ok-then c.judge.result c.judge.ensures.none (λ r k v p n. inl (k v (some-of _ c.in-Ok.found c.in-Some.beside c.in-Some.is (c.in-Ok.ensures.beside v p)) n))
+    ok-then c.judge.result c.judge.ensures.none
+    (λ r k v p n. inl (k v (some-of _ c.in-Ok.found c.in-Some.beside c.in-Some.is (c.in-Ok.ensures.beside v p))
+    n))
 
 pub returns-in-Some-clause-some : goal.returns-in-Some-clause-some
 returns-in-Some-clause-some g c =
     ok-then c.judge.result c.judge.ensures.some
-    (λ r k v p. match-both _ _ r (k v (some-of _ c.in-Ok.found c.in-Some.beside c.in-Some.is (c.in-Ok.ensures.beside v p))) (c.is_last.ensures.1 c.if-is_last.false))
+    (λ r k v p. match-both _ _ r
+    (k v (some-of _ c.in-Ok.found c.in-Some.beside c.in-Some.is (c.in-Ok.ensures.beside v p)))
+    (c.is_last.ensures.1 c.if-is_last.false))
 
 pub returns-in-Some-clause-edit : goal.returns-in-Some-clause-edit
-returns-in-Some-clause-edit g c = ok-then c.judge.result c.judge.ensures.same (λ r k. match-same _ c.in-Some.beside r k (some-of _ c.in-Ok.found c.in-Some.beside c.in-Some.is c.in-Ok.ensures.edit))
+returns-in-Some-clause-edit g c = ok-then c.judge.result c.judge.ensures.same
+    (λ r k. match-same _ c.in-Some.beside r k
+    (some-of _ c.in-Ok.found c.in-Some.beside c.in-Some.is c.in-Ok.ensures.edit))
 
 pub returns-in-Some-clause-err : goal.returns-in-Some-clause-err
 returns-in-Some-clause-err g c =
-    err-then c.judge.result c.judge.ensures.err (λ t k v p. k v (some-of _ c.in-Ok.found c.in-Some.beside c.in-Some.is (c.in-Ok.ensures.beside v p)))
+    err-then c.judge.result c.judge.ensures.err
+    (λ t k v p. k v (some-of _ c.in-Ok.found c.in-Some.beside c.in-Some.is (c.in-Ok.ensures.beside v p)))
 
 pub returns-in-Some-clause-sure : goal.returns-in-Some-clause-sure
-returns-in-Some-clause-sure g c tells k = c.judge.ensures.sure (some-of _ c.in-Ok.found c.in-Some.beside c.in-Some.is (c.in-Ok.ensures.known tells k).0)
+returns-in-Some-clause-sure g c tells k =
+    c.judge.ensures.sure (some-of _ c.in-Ok.found c.in-Some.beside c.in-Some.is (c.in-Ok.ensures.known tells k).0)
 
 pub returns-in-Some-clause-known : goal.returns-in-Some-clause-known
 returns-in-Some-clause-known g c tells k =
@@ -90,7 +100,8 @@ returns-in-Some-clause-known g c tells k =
           (known.1 q x
           (of-some _ c.in-Ok.found b c.in-Some.is
           (λ t.
-          ⊎_elim (λ (u : q ≡ c.args.up.now.pid). n.apart.0 (sym t ∙ u)) (λ rest. apart-from c.args.leaf.now.pid b.guard.pid q n.choice.apart n.apart.1 rest t) here))
+          ⊎_elim (λ (u : q ≡ c.args.up.now.pid). n.apart.0 (sym t ∙ u))
+          (λ rest. apart-from c.args.leaf.now.pid b.guard.pid q n.choice.apart n.apart.1 rest t) here))
           kn),
     ))
 
@@ -100,7 +111,8 @@ pub returns-in-None-clause-beside : goal.returns-in-None-clause-beside
 returns-in-None-clause-beside g c q here =
     let e = c.in-Ok.ensures in
     let p = c.requires.parent in
-    let o = e.others q (apart-from c.args.leaf.now.pid c.args.up.now.pid q (λ s. p.1.apart (sym s)) p.1.not_zero.1 here) (of-none _ c.in-Ok.found c.in-None.is) in
+    let o = e.others q (apart-from c.args.leaf.now.pid c.args.up.now.pid q (λ s. p.1.apart (sym s)) p.1.not_zero.1
+    here) (of-none _ c.in-Ok.found c.in-None.is) in
     (e.reads, o.0, o.1)
 
 pub returns-in-None-clause-stays : goal.returns-in-None-clause-stays
@@ -110,4 +122,5 @@ pub returns-in-None-clause-none : goal.returns-in-None-clause-none
 returns-in-None-clause-none g c v p none = let s = c.in-Ok.ensures.single v p c.in-None.is in inl (single _ _ s.0 s.1 s.2)
 
 pub returns-in-None-clause-known : goal.returns-in-None-clause-known
-returns-in-None-clause-known g c tells k = let known = c.in-Ok.ensures.known tells k in (tt, λ q x here kn. known.1 q x (of-none _ c.in-Ok.found c.in-None.is) kn)
+returns-in-None-clause-known g c tells k = let known = c.in-Ok.ensures.known tells k in
+    (tt, λ q x here kn. known.1 q x (of-none _ c.in-Ok.found c.in-None.is) kn)

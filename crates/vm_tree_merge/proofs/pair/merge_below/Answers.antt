@@ -26,11 +26,17 @@ join_below-requires-clause-right g c =
 
 pub join_below-requires-clause-merge : goal.join_below-requires-clause-merge
 join_below-requires-clause-merge g c tells inner one two =
-    (pair-behind c.requires.leaf.2 c.requires.leaf.3 c.requires.leaf.4 c.joined-both.ensures c.if-choice.true).merge tells _ (c.requires.edit _ _ inner.node.rises) inner one two
+    (pair-behind c.requires.leaf.2 c.requires.leaf.3 c.requires.leaf.4 c.joined-both.ensures c.if-choice.true).merge
+    tells _ (c.requires.edit _ _ inner.node.rises) inner one two
 
 pub returns-in-Ok-clause-ok : goal.returns-in-Ok-clause-ok
-returns-in-Ok-clause-ok g c =
-    (c.args.leaf, c.args.found.guard, (pair-behind c.requires.leaf.2 c.requires.leaf.3 c.requires.leaf.4 c.joined-both.ensures c.if-choice.true).order, c.in-Ok.ensures.ok)
+returns-in-Ok-clause-ok g c = (
+  c.args.leaf,
+  c.args.found.guard,
+  (pair-behind c.requires.leaf.2 c.requires.leaf.3 c.requires.leaf.4 c.joined-both.ensures
+      c.if-choice.true).order,
+  c.in-Ok.ensures.ok,
+)
 
 pub returns-in-Ok-clause-known : goal.returns-in-Ok-clause-known
 returns-in-Ok-clause-known g c k =
@@ -38,15 +44,29 @@ returns-in-Ok-clause-known g c k =
 
 pub lost-requires : goal.lost-requires
 lost-requires g c =
-    search (rules, denied-again g.K.Kind.layout (c.args.up ∷ c.args.leaf ∷ c.args.found.guard ∷ []) c.in-Err.deny (view c.args.pass.now) (view c.join_below.new.pass) (pair-behind c.requires.leaf.2 c.requires.leaf.3 c.requires.leaf.4 c.joined-both.ensures c.if-choice.true).below c.in-Err.ensures.err)
+    search (
+      rules,
+      denied-again g.K.Kind.layout (c.args.up ∷ c.args.leaf ∷ c.args.found.guard ∷ []) c.in-Err.deny
+          (view c.args.pass.now) (view c.join_below.new.pass)
+          (pair-behind c.requires.leaf.2 c.requires.leaf.3 c.requires.leaf.4 c.joined-both.ensures
+          c.if-choice.true).below c.in-Err.ensures.err,
+    )
 
 pub returns-in-Err-clause-err : goal.returns-in-Err-clause-err
-returns-in-Err-clause-err g c =
-    (c.args.leaf, c.args.found.guard, (pair-behind c.requires.leaf.2 c.requires.leaf.3 c.requires.leaf.4 c.joined-both.ensures c.if-choice.true).order, subst (λ d. IsLockDenied g.K.Kind.layout (c.args.up ∷ c.args.leaf ∷ c.args.found.guard ∷ []) d (view c.args.pass.now) (view c.join_below.new.pass)) c.lost.ensures c.in-Err.ensures.err.1)
+returns-in-Err-clause-err g c = (
+  c.args.leaf,
+  c.args.found.guard,
+  (pair-behind c.requires.leaf.2 c.requires.leaf.3 c.requires.leaf.4 c.joined-both.ensures
+      c.if-choice.true).order,
+  subst (λ d. IsLockDenied g.K.Kind.layout (c.args.up ∷ c.args.leaf ∷ c.args.found.guard ∷ []) d
+      (view c.args.pass.now) (view c.join_below.new.pass)) c.lost.ensures c.in-Err.ensures.err.1,
+)
 
 pub returns-in-Err-clause-sure : goal.returns-in-Err-clause-sure
 returns-in-Err-clause-sure g c ku kl ko =
-    absurd (subst SaysWorn c.lost.ensures (c.in-Err.ensures.sure (knows-three c.args.up c.args.leaf c.args.found.guard (view c.args.pass.now) ku kl ko)))
+    absurd (subst SaysWorn c.lost.ensures
+    (c.in-Err.ensures.sure (knows-three c.args.up c.args.leaf c.args.found.guard (view c.args.pass.now) ku kl
+    ko)))
 
 pub join_below-requires-2-clause-apart : goal.join_below-requires-2-clause-apart
 join_below-requires-2-clause-apart g c =
@@ -70,11 +90,17 @@ join_below-requires-2-clause-right g c =
 
 pub join_below-requires-2-clause-merge : goal.join_below-requires-2-clause-merge
 join_below-requires-2-clause-merge g c tells inner one two =
-    (pair-before c.requires.leaf.2 c.requires.leaf.3 c.requires.leaf.4 c.joined-both.ensures c.if-choice.false).merge tells _ (c.requires.edit _ _ inner.node.rises) inner one two
+    (pair-before c.requires.leaf.2 c.requires.leaf.3 c.requires.leaf.4 c.joined-both.ensures c.if-choice.false).merge
+    tells _ (c.requires.edit _ _ inner.node.rises) inner one two
 
 pub returns-in-Ok-join_below-clause-ok : goal.returns-in-Ok-join_below-clause-ok
-returns-in-Ok-join_below-clause-ok g c =
-    (c.args.found.guard, c.args.leaf, (pair-before c.requires.leaf.2 c.requires.leaf.3 c.requires.leaf.4 c.joined-both.ensures c.if-choice.false).order, c.in-Ok-join_below.ensures.ok)
+returns-in-Ok-join_below-clause-ok g c = (
+  c.args.found.guard,
+  c.args.leaf,
+  (pair-before c.requires.leaf.2 c.requires.leaf.3 c.requires.leaf.4 c.joined-both.ensures
+      c.if-choice.false).order,
+  c.in-Ok-join_below.ensures.ok,
+)
 
 pub returns-in-Ok-join_below-clause-known : goal.returns-in-Ok-join_below-clause-known
 returns-in-Ok-join_below-clause-known g c k =
@@ -82,12 +108,27 @@ returns-in-Ok-join_below-clause-known g c k =
 
 pub lost-requires-in-Err-join_below : goal.lost-requires-in-Err-join_below
 lost-requires-in-Err-join_below g c =
-    search (rules, denied-again g.K.Kind.layout (c.args.up ∷ c.args.found.guard ∷ c.args.leaf ∷ []) c.in-Err-join_below.deny (view c.args.pass.now) (view c.join_below-2.new.pass) (pair-before c.requires.leaf.2 c.requires.leaf.3 c.requires.leaf.4 c.joined-both.ensures c.if-choice.false).below c.in-Err-join_below.ensures.err)
+    search (
+      rules,
+      denied-again g.K.Kind.layout (c.args.up ∷ c.args.found.guard ∷ c.args.leaf ∷ [])
+          c.in-Err-join_below.deny (view c.args.pass.now) (view c.join_below-2.new.pass)
+          (pair-before c.requires.leaf.2 c.requires.leaf.3 c.requires.leaf.4 c.joined-both.ensures
+          c.if-choice.false).below c.in-Err-join_below.ensures.err,
+    )
 
 pub returns-clause-err : goal.returns-clause-err
-returns-clause-err g c =
-    (c.args.found.guard, c.args.leaf, (pair-before c.requires.leaf.2 c.requires.leaf.3 c.requires.leaf.4 c.joined-both.ensures c.if-choice.false).order, subst (λ d. IsLockDenied g.K.Kind.layout (c.args.up ∷ c.args.found.guard ∷ c.args.leaf ∷ []) d (view c.args.pass.now) (view c.join_below-2.new.pass)) c.lost-in-Err-join_below.ensures c.in-Err-join_below.ensures.err.1)
+returns-clause-err g c = (
+  c.args.found.guard,
+  c.args.leaf,
+  (pair-before c.requires.leaf.2 c.requires.leaf.3 c.requires.leaf.4 c.joined-both.ensures
+      c.if-choice.false).order,
+  subst (λ d. IsLockDenied g.K.Kind.layout (c.args.up ∷ c.args.found.guard ∷ c.args.leaf ∷ []) d
+      (view c.args.pass.now) (view c.join_below-2.new.pass)) c.lost-in-Err-join_below.ensures
+      c.in-Err-join_below.ensures.err.1,
+)
 
 pub returns-clause-sure : goal.returns-clause-sure
 returns-clause-sure g c ku kl ko =
-    absurd (subst SaysWorn c.lost-in-Err-join_below.ensures (c.in-Err-join_below.ensures.sure (knows-three c.args.up c.args.found.guard c.args.leaf (view c.args.pass.now) ku ko kl)))
+    absurd (subst SaysWorn c.lost-in-Err-join_below.ensures
+    (c.in-Err-join_below.ensures.sure
+    (knows-three c.args.up c.args.found.guard c.args.leaf (view c.args.pass.now) ku ko kl)))

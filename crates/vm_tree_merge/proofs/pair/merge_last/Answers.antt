@@ -6,7 +6,8 @@ use Rattle.vm_tree_merge.proofs.pair.merge_last.Goals as goal
 
 pub join_last-requires-clause-apart : goal.join_last-requires-clause-apart
 join_last-requires-clause-apart g c =
-    (pair-behind c.requires.leaf.2 c.requires.leaf.3 c.requires.leaf.4 c.joined-both.ensures c.if-choice.true).apart_from_zero c.args.meta.pid c.requires.leaf.5.zero
+    (pair-behind c.requires.leaf.2 c.requires.leaf.3 c.requires.leaf.4 c.joined-both.ensures
+    c.if-choice.true).apart_from_zero c.args.meta.pid c.requires.leaf.5.zero
 
 pub join_last-requires-clause-sizes : goal.join_last-requires-clause-sizes
 join_last-requires-clause-sizes g c =
@@ -34,11 +35,18 @@ join_last-requires-clause-meta g c =
 
 pub join_last-requires-clause-merge : goal.join_last-requires-clause-merge
 join_last-requires-clause-merge g c tells meta names inner one two =
-    (pair-behind c.requires.leaf.2 c.requires.leaf.3 c.requires.leaf.4 c.joined-both.ensures c.if-choice.true).collapse tells c.args.meta.pid meta c.requires.leaf.5.zero names c.requires.two inner one two
+    (pair-behind c.requires.leaf.2 c.requires.leaf.3 c.requires.leaf.4 c.joined-both.ensures
+    c.if-choice.true).collapse tells c.args.meta.pid meta c.requires.leaf.5.zero names c.requires.two inner one
+    two
 
 pub returns-in-Ok-clause-ok : goal.returns-in-Ok-clause-ok
-returns-in-Ok-clause-ok g c =
-    (c.args.leaf, c.args.found.guard, (pair-behind c.requires.leaf.2 c.requires.leaf.3 c.requires.leaf.4 c.joined-both.ensures c.if-choice.true).order, c.in-Ok.ensures.ok)
+returns-in-Ok-clause-ok g c = (
+  c.args.leaf,
+  c.args.found.guard,
+  (pair-behind c.requires.leaf.2 c.requires.leaf.3 c.requires.leaf.4 c.joined-both.ensures
+      c.if-choice.true).order,
+  c.in-Ok.ensures.ok,
+)
 
 pub returns-in-Ok-clause-known : goal.returns-in-Ok-clause-known
 returns-in-Ok-clause-known g c k =
@@ -46,19 +54,36 @@ returns-in-Ok-clause-known g c k =
 
 pub lost-requires : goal.lost-requires
 lost-requires g c =
-    search (rules, denied-again g.K.Kind.layout (c.args.meta ∷ c.args.root ∷ c.args.leaf ∷ c.args.found.guard ∷ []) c.in-Err.deny (view c.args.pass.now) (view c.join_last.new.pass) (c.requires.below, (pair-behind c.requires.leaf.2 c.requires.leaf.3 c.requires.leaf.4 c.joined-both.ensures c.if-choice.true).below) c.in-Err.ensures.err)
+    search (
+      rules,
+      denied-again g.K.Kind.layout (c.args.meta ∷ c.args.root ∷ c.args.leaf ∷ c.args.found.guard ∷ [])
+          c.in-Err.deny (view c.args.pass.now) (view c.join_last.new.pass) (
+            c.requires.below,
+            (pair-behind c.requires.leaf.2 c.requires.leaf.3 c.requires.leaf.4 c.joined-both.ensures
+                c.if-choice.true).below,
+          ) c.in-Err.ensures.err,
+    )
 
 pub returns-in-Err-clause-err : goal.returns-in-Err-clause-err
-returns-in-Err-clause-err g c =
-    (c.args.leaf, c.args.found.guard, (pair-behind c.requires.leaf.2 c.requires.leaf.3 c.requires.leaf.4 c.joined-both.ensures c.if-choice.true).order, subst (λ d. IsLockDenied g.K.Kind.layout (c.args.meta ∷ c.args.root ∷ c.args.leaf ∷ c.args.found.guard ∷ []) d (view c.args.pass.now) (view c.join_last.new.pass)) c.lost.ensures c.in-Err.ensures.err.1)
+returns-in-Err-clause-err g c = (
+  c.args.leaf,
+  c.args.found.guard,
+  (pair-behind c.requires.leaf.2 c.requires.leaf.3 c.requires.leaf.4 c.joined-both.ensures
+      c.if-choice.true).order,
+  subst (λ d. IsLockDenied g.K.Kind.layout (c.args.meta ∷ c.args.root ∷ c.args.leaf ∷ c.args.found.guard ∷ []) d
+      (view c.args.pass.now) (view c.join_last.new.pass)) c.lost.ensures c.in-Err.ensures.err.1,
+)
 
 pub returns-in-Err-clause-sure : goal.returns-in-Err-clause-sure
 returns-in-Err-clause-sure g c km ku kl ko =
-    absurd (subst SaysWorn c.lost.ensures (c.in-Err.ensures.sure (knows-four c.args.meta c.args.root c.args.leaf c.args.found.guard (view c.args.pass.now) km ku kl ko)))
+    absurd (subst SaysWorn c.lost.ensures
+    (c.in-Err.ensures.sure (knows-four c.args.meta c.args.root c.args.leaf c.args.found.guard
+    (view c.args.pass.now) km ku kl ko)))
 
 pub join_last-requires-2-clause-apart : goal.join_last-requires-2-clause-apart
 join_last-requires-2-clause-apart g c =
-    (pair-before c.requires.leaf.2 c.requires.leaf.3 c.requires.leaf.4 c.joined-both.ensures c.if-choice.false).apart_from_zero c.args.meta.pid c.requires.leaf.5.zero
+    (pair-before c.requires.leaf.2 c.requires.leaf.3 c.requires.leaf.4 c.joined-both.ensures
+    c.if-choice.false).apart_from_zero c.args.meta.pid c.requires.leaf.5.zero
 
 pub join_last-requires-2-clause-sizes : goal.join_last-requires-2-clause-sizes
 join_last-requires-2-clause-sizes g c =
@@ -86,11 +111,18 @@ join_last-requires-2-clause-meta g c =
 
 pub join_last-requires-2-clause-merge : goal.join_last-requires-2-clause-merge
 join_last-requires-2-clause-merge g c tells meta names inner one two =
-    (pair-before c.requires.leaf.2 c.requires.leaf.3 c.requires.leaf.4 c.joined-both.ensures c.if-choice.false).collapse tells c.args.meta.pid meta c.requires.leaf.5.zero names c.requires.two inner one two
+    (pair-before c.requires.leaf.2 c.requires.leaf.3 c.requires.leaf.4 c.joined-both.ensures
+    c.if-choice.false).collapse tells c.args.meta.pid meta c.requires.leaf.5.zero names c.requires.two inner one
+    two
 
 pub returns-in-Ok-join_last-clause-ok : goal.returns-in-Ok-join_last-clause-ok
-returns-in-Ok-join_last-clause-ok g c =
-    (c.args.found.guard, c.args.leaf, (pair-before c.requires.leaf.2 c.requires.leaf.3 c.requires.leaf.4 c.joined-both.ensures c.if-choice.false).order, c.in-Ok-join_last.ensures.ok)
+returns-in-Ok-join_last-clause-ok g c = (
+  c.args.found.guard,
+  c.args.leaf,
+  (pair-before c.requires.leaf.2 c.requires.leaf.3 c.requires.leaf.4 c.joined-both.ensures
+      c.if-choice.false).order,
+  c.in-Ok-join_last.ensures.ok,
+)
 
 pub returns-in-Ok-join_last-clause-known : goal.returns-in-Ok-join_last-clause-known
 returns-in-Ok-join_last-clause-known g c k =
@@ -98,12 +130,29 @@ returns-in-Ok-join_last-clause-known g c k =
 
 pub lost-requires-in-Err-join_last : goal.lost-requires-in-Err-join_last
 lost-requires-in-Err-join_last g c =
-    search (rules, denied-again g.K.Kind.layout (c.args.meta ∷ c.args.root ∷ c.args.found.guard ∷ c.args.leaf ∷ []) c.in-Err-join_last.deny (view c.args.pass.now) (view c.join_last-2.new.pass) (c.requires.below, (pair-before c.requires.leaf.2 c.requires.leaf.3 c.requires.leaf.4 c.joined-both.ensures c.if-choice.false).below) c.in-Err-join_last.ensures.err)
+    search (
+      rules,
+      denied-again g.K.Kind.layout (c.args.meta ∷ c.args.root ∷ c.args.found.guard ∷ c.args.leaf ∷ [])
+          c.in-Err-join_last.deny (view c.args.pass.now) (view c.join_last-2.new.pass) (
+            c.requires.below,
+            (pair-before c.requires.leaf.2 c.requires.leaf.3 c.requires.leaf.4 c.joined-both.ensures
+                c.if-choice.false).below,
+          ) c.in-Err-join_last.ensures.err,
+    )
 
 pub returns-clause-err : goal.returns-clause-err
-returns-clause-err g c =
-    (c.args.found.guard, c.args.leaf, (pair-before c.requires.leaf.2 c.requires.leaf.3 c.requires.leaf.4 c.joined-both.ensures c.if-choice.false).order, subst (λ d. IsLockDenied g.K.Kind.layout (c.args.meta ∷ c.args.root ∷ c.args.found.guard ∷ c.args.leaf ∷ []) d (view c.args.pass.now) (view c.join_last-2.new.pass)) c.lost-in-Err-join_last.ensures c.in-Err-join_last.ensures.err.1)
+returns-clause-err g c = (
+  c.args.found.guard,
+  c.args.leaf,
+  (pair-before c.requires.leaf.2 c.requires.leaf.3 c.requires.leaf.4 c.joined-both.ensures
+      c.if-choice.false).order,
+  subst (λ d. IsLockDenied g.K.Kind.layout (c.args.meta ∷ c.args.root ∷ c.args.found.guard ∷ c.args.leaf ∷ []) d
+      (view c.args.pass.now) (view c.join_last-2.new.pass)) c.lost-in-Err-join_last.ensures
+      c.in-Err-join_last.ensures.err.1,
+)
 
 pub returns-clause-sure : goal.returns-clause-sure
 returns-clause-sure g c km ku kl ko =
-    absurd (subst SaysWorn c.lost-in-Err-join_last.ensures (c.in-Err-join_last.ensures.sure (knows-four c.args.meta c.args.root c.args.found.guard c.args.leaf (view c.args.pass.now) km ku ko kl)))
+    absurd (subst SaysWorn c.lost-in-Err-join_last.ensures
+    (c.in-Err-join_last.ensures.sure
+    (knows-four c.args.meta c.args.root c.args.found.guard c.args.leaf (view c.args.pass.now) km ku ko kl)))

@@ -6,15 +6,21 @@ use Rattle.vm_tree_read.proofs.answer.answer.Goals as goal
 use Rattle.vm_tree_read.proofs.Answering.{answered, may-tell}
 
 pub validate-requires-clause-owner : goal.validate-requires-clause-owner
-validate-requires-clause-owner g c = may-tell g.K.Kind.plain g.K.Kind.layout c.args.guard.now.pid (view c.args.pass.now) c.args.said.now c.requires.proves.0 (tree-size _ _ _ c.requires.ready.table.is_shape.size c.args.words.now.sized.0 c.args.words.now.size.takes) c.requires.proves.1 c.requires.proves.2
+validate-requires-clause-owner g c = may-tell g.K.Kind.plain g.K.Kind.layout c.args.guard.now.pid
+    (view c.args.pass.now) c.args.said.now c.requires.proves.0
+    (tree-size _ _ _ c.requires.ready.table.is_shape.size c.args.words.now.sized.0 c.args.words.now.size.takes)
+    c.requires.proves.1 c.requires.proves.2
 
 pub returns-in-Ok-clause-ok : goal.returns-in-Ok-clause-ok
 returns-in-Ok-clause-ok g c =
-    answered g.K.Kind.plain g.K.Kind.layout _ _ _ c.args.said.now c.requires.proves.0 _ _ (tree-size _ _ _ c.validate.ensures.ready.table.is_shape.size c.args.words.now.sized.0 c.args.words.now.size.takes) c.requires.reading c.requires.proves.1 c.requires.proves.2 c.in-Ok.ensures.ok
+    answered g.K.Kind.plain g.K.Kind.layout _ _ _ c.args.said.now c.requires.proves.0 _ _
+    (tree-size _ _ _ c.validate.ensures.goes.ready.table.is_shape.size c.args.words.now.sized.0
+    c.args.words.now.size.takes) c.requires.reading c.requires.proves.1 c.requires.proves.2 c.in-Ok.ensures.ok
     (λ tells. c.in-Ok.ensures.kept (sym c.requires.ready.table.tells_is ∙ tells))
 
 pub returns-in-Ok-clause-known : goal.returns-in-Ok-clause-known
-returns-in-Ok-clause-known g c known = resident-same _ _ (valid-only _ _ _ _ _ _ _ c.in-Ok.ensures.ok) c.in-Ok.ensures.ok.table known.resident
+returns-in-Ok-clause-known g c known =
+    resident-same _ _ (valid-only _ _ _ _ _ _ _ c.in-Ok.ensures.ok) c.in-Ok.ensures.ok.table known.resident
 
 pub returns-in-Err-clause-sure : goal.returns-in-Err-clause-sure
 returns-in-Err-clause-sure g c known = c.in-Err.ensures.sure known.resident.alone (known-at _ _ _ known)

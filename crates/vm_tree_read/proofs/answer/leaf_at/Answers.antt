@@ -25,7 +25,8 @@ returns-then-is_leaf_in_place-clause-leaf g c =
     (f.loaded, (_, f.loads.loads), λ page with. (f.tells page with).yes c.if-is_leaf_in_place.true)
 
 pub returns-then-is_leaf_in_place-clause-awaits : goal.returns-then-is_leaf_in_place-clause-awaits
-returns-then-is_leaf_in_place-clause-awaits g c = awaits-later _ _ _ _ _ _ (loads-reads _ _ _ _ _ _ c.is_leaf_in_place.ensures.found.loads).0 c.in-Ok.ensures.awaits
+returns-then-is_leaf_in_place-clause-awaits g c =
+    awaits-later _ _ _ _ _ _ (loads-reads _ _ _ _ _ _ c.is_leaf_in_place.ensures.found.loads).0 c.in-Ok.ensures.awaits
 
 pub returns-then-is_leaf_in_place-clause-known_shared : goal.returns-then-is_leaf_in_place-clause-known_shared
 returns-then-is_leaf_in_place-clause-known_shared g c shares tells k =
@@ -39,8 +40,12 @@ returns-then-is_leaf_in_place-clause-known g c tells k =
 
 pub returns-then-is_leaf_in_place-clause-height : goal.returns-then-is_leaf_in_place-clause-height
 returns-then-is_leaf_in_place-clause-height g c =
-    let h = c.in-Ok.ensures.height in
-    (h.0, height-more (2 + g.K.Kind.bounds.child * h.0) (1 + g.K.Kind.bounds.covers) (2 + g.K.Kind.bounds.child * h.0 + (1 + g.K.Kind.bounds.covers)) h.0 _ _ _ h.1 (place-few _ _ _ _ _ _ _ c.is_leaf_in_place.ensures.found) (omega arith))
+    let h = c.in-Ok.ensures.height in (
+      h.0,
+      height-more (2 + g.K.Kind.bounds.child * h.0) (1 + g.K.Kind.bounds.covers)
+          (2 + g.K.Kind.bounds.child * h.0 + (1 + g.K.Kind.bounds.covers)) h.0 _ _ _ h.1
+          (place-few _ _ _ _ _ _ _ c.is_leaf_in_place.ensures.found) (omega arith),
+    )
 
 pub returns-then-is_leaf_in_place-clause-few : goal.returns-then-is_leaf_in_place-clause-few
 returns-then-is_leaf_in_place-clause-few g c =
@@ -50,14 +55,18 @@ returns-then-is_leaf_in_place-clause-few g c =
 pub returns-clause-err : goal.returns-clause-err
 returns-clause-err g c =
     let f = c.is_leaf_in_place.ensures.found in
-    c.no_leaf.ensures.turn _ (g.K.Kind.rank c.args.key.now) f.loaded (opened-loads _ _ _ _ _ _ _ c.in-Ok.ensures.reads.1 f.loads) (awaits-later _ _ _ _ _ _ (loads-reads _ _ _ _ _ _ f.loads).0 c.in-Ok.ensures.awaits)
+    c.no_leaf.ensures.turn _ (g.K.Kind.rank c.args.key.now) f.loaded
+    (opened-loads _ _ _ _ _ _ _ c.in-Ok.ensures.reads.1 f.loads)
+    (awaits-later _ _ _ _ _ _ (loads-reads _ _ _ _ _ _ f.loads).0 c.in-Ok.ensures.awaits)
     (_, f.loads.loads) (λ page with. (f.tells page with).no c.if-is_leaf_in_place.false)
 
 pub returns-clause-sure_shared : goal.returns-clause-sure_shared
 returns-clause-sure_shared g c shares tells k =
     let f = c.is_leaf_in_place.ensures.found in
     let reads = (loads-reads _ _ _ _ _ _ f.loads).0 in
-    absurd (c.no_leaf.ensures.sure shares (g.K.Kind.rank c.args.key.now) f.loaded tells (known-same _ _ _ _ reads f.loads.table (c.in-Ok.ensures.known shares tells k)) (awaits-later _ _ _ _ _ _ reads c.in-Ok.ensures.awaits)
+    absurd (c.no_leaf.ensures.sure shares (g.K.Kind.rank c.args.key.now) f.loaded tells
+    (known-same _ _ _ _ reads f.loads.table (c.in-Ok.ensures.known shares tells k))
+    (awaits-later _ _ _ _ _ _ reads c.in-Ok.ensures.awaits)
     (_, f.loads.loads) (λ page with. (f.tells page with).no c.if-is_leaf_in_place.false))
 
 pub returns-clause-sure : goal.returns-clause-sure
@@ -67,5 +76,7 @@ pub returns-clause-few : goal.returns-clause-few
 returns-clause-few g c =
     let h = c.in-Ok.ensures.height in
     height-within (λ n. 2 + g.K.Kind.bounds.child * n + (1 + g.K.Kind.bounds.covers)) _ h.0 _ _
-    (height-same _ _ _ _ _ (height-more (2 + g.K.Kind.bounds.child * h.0) (1 + g.K.Kind.bounds.covers) (2 + g.K.Kind.bounds.child * h.0 + (1 + g.K.Kind.bounds.covers)) h.0 _ _ _ h.1 (place-few _ _ _ _ _ _ _ c.is_leaf_in_place.ensures.found) (omega arith)) c.no_leaf.ensures.words)
+    (height-same _ _ _ _ _ (height-more (2 + g.K.Kind.bounds.child * h.0) (1 + g.K.Kind.bounds.covers)
+    (2 + g.K.Kind.bounds.child * h.0 + (1 + g.K.Kind.bounds.covers)) h.0 _ _ _ h.1
+    (place-few _ _ _ _ _ _ _ c.is_leaf_in_place.ensures.found) (omega arith)) c.no_leaf.ensures.words)
     (omega arith)

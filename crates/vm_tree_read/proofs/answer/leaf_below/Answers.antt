@@ -19,13 +19,15 @@ returns-then-is_leaf_in_place-clause-leaf g c =
     (f.loaded, (_, f.loads.loads), λ page with. (f.tells page with).yes c.if-is_leaf_in_place.true)
 
 pub returns-then-is_leaf_in_place-clause-awaits : goal.returns-then-is_leaf_in_place-clause-awaits
-returns-then-is_leaf_in_place-clause-awaits g c = awaits-later _ _ _ _ _ _ (loads-reads _ _ _ _ _ _ c.is_leaf_in_place.ensures.found.loads).0 c.in-Ok.ensures.awaits
+returns-then-is_leaf_in_place-clause-awaits g c =
+    awaits-later _ _ _ _ _ _ (loads-reads _ _ _ _ _ _ c.is_leaf_in_place.ensures.found.loads).0 c.in-Ok.ensures.awaits
 
 pub returns-then-is_leaf_in_place-clause-above : goal.returns-then-is_leaf_in_place-clause-above
 returns-then-is_leaf_in_place-clause-above g c =
     let loads = c.is_leaf_in_place.ensures.found.loads in
     let r = c.in-Ok.reached in
-    above-beside g.K.Kind.layout (view c.args.pass.now) (g.K.Kind.rank c.args.key.now) r.above r.leaf.pid _ _ (loads-reads _ _ _ _ _ _ loads) (λ q ne. beside-loads q _ _ _ _ _ _ ne loads) c.in-Ok.ensures.above
+    above-beside g.K.Kind.layout (view c.args.pass.now) (g.K.Kind.rank c.args.key.now) r.above r.leaf.pid _ _
+    (loads-reads _ _ _ _ _ _ loads) (λ q ne. beside-loads q _ _ _ _ _ _ ne loads) c.in-Ok.ensures.above
 
 pub returns-then-is_leaf_in_place-clause-known : goal.returns-then-is_leaf_in_place-clause-known
 returns-then-is_leaf_in_place-clause-known g c tells k =
@@ -37,12 +39,16 @@ returns-then-is_leaf_in_place-clause-known g c tells k =
 pub returns-clause-err : goal.returns-clause-err
 returns-clause-err g c =
     let f = c.is_leaf_in_place.ensures.found in
-    c.no_leaf.ensures.turn _ (g.K.Kind.rank c.args.key.now) f.loaded (opened-loads _ _ _ _ _ _ _ c.in-Ok.ensures.reads.1 f.loads) (awaits-later _ _ _ _ _ _ (loads-reads _ _ _ _ _ _ f.loads).0 c.in-Ok.ensures.awaits)
+    c.no_leaf.ensures.turn _ (g.K.Kind.rank c.args.key.now) f.loaded
+    (opened-loads _ _ _ _ _ _ _ c.in-Ok.ensures.reads.1 f.loads)
+    (awaits-later _ _ _ _ _ _ (loads-reads _ _ _ _ _ _ f.loads).0 c.in-Ok.ensures.awaits)
     (_, f.loads.loads) (λ page with. (f.tells page with).no c.if-is_leaf_in_place.false)
 
 pub returns-clause-sure : goal.returns-clause-sure
 returns-clause-sure g c tells k =
     let f = c.is_leaf_in_place.ensures.found in
     let reads = (loads-reads _ _ _ _ _ _ f.loads).0 in
-    absurd (c.no_leaf.ensures.sure (λ _. 0) (g.K.Kind.rank c.args.key.now) f.loaded tells (known-same _ _ _ _ reads f.loads.table (c.in-Ok.ensures.known tells k).0) (awaits-later _ _ _ _ _ _ reads c.in-Ok.ensures.awaits)
+    absurd (c.no_leaf.ensures.sure (λ _. 0) (g.K.Kind.rank c.args.key.now) f.loaded tells
+    (known-same _ _ _ _ reads f.loads.table (c.in-Ok.ensures.known tells k).0)
+    (awaits-later _ _ _ _ _ _ reads c.in-Ok.ensures.awaits)
     (_, f.loads.loads) (λ page with. (f.tells page with).no c.if-is_leaf_in_place.false))

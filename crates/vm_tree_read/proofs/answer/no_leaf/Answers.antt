@@ -15,7 +15,11 @@ returns-in-Ok-clause-turn g c =
     let start = (opened-reads _ _ _ u _ o).0.start in
     subst (λ t. IsTurnedBack g.K.Kind.layout u key t (view c.validate_silently.new.pass)) (sym c.astray_at.ensures)
     (astray-turn _ _ _ key u _ _ o
-    (untold _ (λ tells. let told = ap (λ (y : Origin). y.tells) start ∙ tells in leaf-must g.K.Kind.layout _ _ _ key loaded _ (last_of (view c.validate_silently.new.pass) c.args.guard.now.pid).words c.requires.reading has awaits told (valid.size ∙ tree-size _ _ _ c.validate_silently.ensures.ready.table.is_shape.size c.args.words.now.sized.0 c.args.words.now.size.takes) (valid.validates told) none))
+    (untold _ (λ tells. let told = ap (λ (y : Origin). y.tells) start ∙ tells in
+    leaf-must g.K.Kind.layout _ _ _ key loaded _
+    (last_of (view c.validate_silently.new.pass) c.args.guard.now.pid).words c.requires.reading has awaits told
+    (valid.size ∙ tree-size _ _ _ c.validate_silently.ensures.goes.ready.table.is_shape.size
+    c.args.words.now.sized.0 c.args.words.now.size.takes) (valid.validates told) none))
     valid
     (no_tree.leafless loaded (has.0, (valid.same_reads _).loads ∙ has.1) none))
 
@@ -23,10 +27,15 @@ pub returns-in-Ok-clause-sure : goal.returns-in-Ok-clause-sure
 returns-in-Ok-clause-sure g c shares key loaded tells known awaits has none =
     let valid = c.in-Ok.ensures.ok in
     let told = c.requires.ready.table.tells_is ∙ tells in
-    leaf-must g.K.Kind.layout _ _ _ key loaded _ (last_of (view c.validate_silently.new.pass) c.args.guard.now.pid).words c.requires.reading has awaits told (valid.size ∙ tree-size _ _ _ c.validate_silently.ensures.ready.table.is_shape.size c.args.words.now.sized.0 c.args.words.now.size.takes) (valid.validates told) none
+    leaf-must g.K.Kind.layout _ _ _ key loaded _
+    (last_of (view c.validate_silently.new.pass) c.args.guard.now.pid).words c.requires.reading has awaits told
+    (valid.size ∙ tree-size _ _ _ c.validate_silently.ensures.goes.ready.table.is_shape.size
+    c.args.words.now.sized.0 c.args.words.now.size.takes) (valid.validates told) none
 
 pub returns-in-Err-clause-turn : goal.returns-in-Err-clause-turn
-returns-in-Err-clause-turn g c u key loaded o awaits has none = refused-turn _ _ _ g.K.Kind.layout key _ u _ _ _ o (reads-self _) (leaves-self _ _) c.in-Err.ensures.err
+returns-in-Err-clause-turn g c u key loaded o awaits has none =
+    refused-turn _ _ _ g.K.Kind.layout key _ u _ _ _ o (reads-self _) (leaves-self _ _) c.in-Err.ensures.err
 
 pub returns-in-Err-clause-sure : goal.returns-in-Err-clause-sure
-returns-in-Err-clause-sure g c shares key loaded tells known awaits has none = true≢false (sym (c.in-Err.ensures.sure known.resident.alone (known-at _ _ _ known)))
+returns-in-Err-clause-sure g c shares key loaded tells known awaits has none =
+    true≢false (sym (c.in-Err.ensures.sure known.resident.alone (known-at _ _ _ known)))

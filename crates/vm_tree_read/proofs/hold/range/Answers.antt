@@ -25,7 +25,8 @@ loop-preserved-in-Again g c =
     let i = c.loop.invariant.tried in
     let t = c.in-Again.ensures.tried in
     record {
-      tried = tried-more i c.try_range.new.pass c.try_range.ensures.pass t.0.0.start t.0.0.frames.0 c.try_range.ensures.ready (waits-then _ _ _ i.left.0 (silent-waits _ _ t.0), rounds.further _ _ i.left.1 (round.again _ t.0 t.1));
+      tried = tried-more i c.try_range.new.pass c.try_range.ensures.goes t.0.0.start t.0.0.frames.0
+          (waits-then _ _ _ i.left.0 (silent-waits _ _ t.0), rounds.further _ _ i.left.1 (round.again _ t.0 t.1));
       same = no-pairs c.in-Again.ensures.none ∙ c.loop.invariant.same;
     }
 
@@ -34,15 +35,28 @@ loop-preserved-in-Crowded g c =
     let i = c.loop.invariant.tried in
     let t = c.in-Crowded.ensures.tried in
     record {
-      tried = tried-more i c.try_range.new.pass c.try_range.ensures.pass t.0.0.start t.0.0.frames.0 c.try_range.ensures.ready (waits-then _ _ _ i.left.0 (silent-waits _ _ t.0), rounds.further _ _ i.left.1 (round.crowded _ t.0 t.1));
+      tried = tried-more i c.try_range.new.pass c.try_range.ensures.goes t.0.0.start t.0.0.frames.0
+          (waits-then _ _ _ i.left.0 (silent-waits _ _ t.0), rounds.further _ _ i.left.1 (round.crowded _ t.0 t.1));
       same = no-pairs c.in-Crowded.ensures.none ∙ c.loop.invariant.same;
     }
 
 pub fetch-requires : goal.fetch-requires
 fetch-requires g c =
     let i = c.loop.invariant.tried in
-    let t = c.in-Need.ensures.tried in
-    (search rules, (c.try_range.ensures.ready, (t.0.0.out ∙ i.left.0.out ∙ c.requires.home, (held-on _ (view c.loop.pass) (view c.try_range.new.pass) i.held t.0.0.start t.0.0.frames.0, (let inside = needed-inside _ _ _ _ _ _ t.1 in let pages = i.ready.table.is_shape.pages in omega (arith, inside, pages))))))
+    let t = c.in-Need.ensures.tried in (
+      search rules,
+      (
+        c.try_range.ensures.goes.ready,
+        (
+          t.0.0.out ∙ i.left.0.out ∙ c.requires.home,
+          (
+            held-on _ (view c.loop.pass) (view c.try_range.new.pass) i.held t.0.0.start t.0.0.frames.0,
+            (let inside = needed-inside _ _ _ _ _ _ t.1 in let pages = i.goes.ready.table.is_shape.pages in
+                omega (arith, inside, pages)),
+          ),
+        ),
+      ),
+    )
 
 pub loop-preserved : goal.loop-preserved
 loop-preserved g c =
@@ -50,7 +64,12 @@ loop-preserved g c =
     let k = c.fetch.ensures in
     let t = c.in-Need.ensures.tried in
     record {
-      tried = tried-fetch i c.try_range.new.pass c.try_range.ensures.pass t.0.0.start t.0.0.frames.0 c.fetch.new.pass c.fetch.new.iface k.pass k.ready k.held k.lost k.iface (waits-then _ _ _ i.left.0 (waits-then _ _ _ (silent-waits _ _ t.0) k.waits), rounds.further _ _ i.left.1 (round.needed _ _ t.0 t.1 c.in-Ok.ensures.ok));
+      tried = tried-fetch i c.try_range.new.pass c.try_range.ensures.goes t.0.0.start t.0.0.frames.0 c.fetch.new.pass
+          c.fetch.new.iface k.goes k.held k.lost k.iface (
+            waits-then _ _ _ i.left.0 (waits-then _ _ _ (silent-waits _ _ t.0) k.waits),
+            rounds.further _ _ i.left.1
+                (round.needed _ _ t.0 t.1 c.in-Ok.ensures.ok),
+          );
       same = no-pairs c.in-Need.ensures.none ∙ c.loop.invariant.same;
     }
 
@@ -74,20 +93,27 @@ pub returns-in-Done-clause-ok : goal.returns-in-Done-clause-ok
 returns-in-Done-clause-ok g c = range-replied g.K.Kind.plain g.K.Kind.layout _ _ _ _ c.loop.invariant.tried.left c.in-Done.ensures.tried.0
 
 pub returns-in-TooWide-clause-ok : goal.returns-in-TooWide-clause-ok
-returns-in-TooWide-clause-ok g c = range-replied g.K.Kind.plain g.K.Kind.layout _ _ _ _ c.loop.invariant.tried.left c.in-TooWide.ensures.tried
+returns-in-TooWide-clause-ok g c =
+    range-replied g.K.Kind.plain g.K.Kind.layout _ _ _ _ c.loop.invariant.tried.left c.in-TooWide.ensures.tried
 
 -- ---- no frame is lost
 
 pub returns-in-Err-clause-lost : goal.returns-in-Err-clause-lost
 returns-in-Err-clause-lost g c =
-    lost-over c.args.iface.now.frames c.loop.iface.frames c.fetch.new.iface.frames (view c.args.pass.now) (view c.loop.pass) (view c.try_range.new.pass) (view c.fetch.new.pass) c.loop.invariant.tried.lost c.in-Need.ensures.tried.0.0.frames.0 c.fetch.ensures.lost
+    lost-over c.args.iface.now.frames c.loop.iface.frames c.fetch.new.iface.frames (view c.args.pass.now)
+    (view c.loop.pass) (view c.try_range.new.pass) (view c.fetch.new.pass) c.loop.invariant.tried.lost
+    c.in-Need.ensures.tried.0.0.frames.0 c.fetch.ensures.lost
 
 pub returns-in-Done-clause-lost : goal.returns-in-Done-clause-lost
 returns-in-Done-clause-lost g c =
-    loses-then c.args.iface.now.frames c.loop.iface.frames c.loop.iface.frames (view c.args.pass.now) (view c.loop.pass) (view c.try_range.new.pass) c.loop.invariant.tried.lost
-    (loses-same c.loop.iface.frames c.loop.iface.frames (view c.loop.pass) (view c.try_range.new.pass) c.in-Done.ensures.tried.0.on.frames.0 (λ f e. e))
+    loses-then c.args.iface.now.frames c.loop.iface.frames c.loop.iface.frames (view c.args.pass.now)
+    (view c.loop.pass) (view c.try_range.new.pass) c.loop.invariant.tried.lost
+    (loses-same c.loop.iface.frames c.loop.iface.frames (view c.loop.pass) (view c.try_range.new.pass)
+    c.in-Done.ensures.tried.0.on.frames.0 (λ f e. e))
 
 pub returns-in-TooWide-clause-lost : goal.returns-in-TooWide-clause-lost
 returns-in-TooWide-clause-lost g c =
-    loses-then c.args.iface.now.frames c.loop.iface.frames c.loop.iface.frames (view c.args.pass.now) (view c.loop.pass) (view c.try_range.new.pass) c.loop.invariant.tried.lost
-    (loses-same c.loop.iface.frames c.loop.iface.frames (view c.loop.pass) (view c.try_range.new.pass) c.in-TooWide.ensures.tried.on.frames.0 (λ f e. e))
+    loses-then c.args.iface.now.frames c.loop.iface.frames c.loop.iface.frames (view c.args.pass.now)
+    (view c.loop.pass) (view c.try_range.new.pass) c.loop.invariant.tried.lost
+    (loses-same c.loop.iface.frames c.loop.iface.frames (view c.loop.pass) (view c.try_range.new.pass)
+    c.in-TooWide.ensures.tried.on.frames.0 (λ f e. e))

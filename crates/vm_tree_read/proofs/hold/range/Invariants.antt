@@ -7,6 +7,8 @@ use Rattle.vm_tree_read.proofs.hold.range.Given as goal
 -- no try was answered yet, and no pair is left of those tried
 abbrev pub invariant-loop : goal.invariant-loop
 invariant-loop g l = record {
-  tried : HasTried (λ (x y : View _). Waits x y × AreRounds (IsRangeRound g.K.Kind.layout (g.K.Kind.rank l.fn.low) l.fn.bound) x y) l.pool.words.table.shared.key g.B.Block.tells l.pool.words.table.shared.table_id l.fn.pass l.pass l.fn.iface l.iface;
+  tried : HasTried (λ (x y : View _). Waits x y
+      × AreRounds (IsRangeRound g.K.Kind.layout (g.K.Kind.rank l.fn.low) l.fn.bound) x y) l.pool.words g.B.Block.tells
+      l.fn.pass l.pass l.fn.iface l.iface;
   same : l.pairs ≡ l.fn.out;
 }

@@ -16,7 +16,8 @@ share-requires-clause-page g c = subst (λ n. c.args.guard.pid < n) c.requires.r
 pub share-requires-clause-owner : goal.share-requires-clause-owner
 share-requires-clause-owner g c =
     let p = c.requires.proves in
-    may-hold g.K.Kind.plain g.K.Kind.layout p.0 p.2 p.3 p.4 c.args.said.now c.args.guard.pid c.args.guard.word c.args.guard.frame (view c.args.pass.now) p.5 p.6 p.7 c.requires.reading
+    may-hold g.K.Kind.plain g.K.Kind.layout p.0 p.2 p.3 p.4 c.args.said.now c.args.guard.pid c.args.guard.word
+    c.args.guard.frame (view c.args.pass.now) p.5 p.6 p.7 c.requires.reading
     (tree-size _ _ _ c.requires.ready.table.is_shape.size c.args.words.now.sized.0 c.args.words.now.size.takes)
 
 pub drop_with-requires-clause-shares : goal.drop_with-requires-clause-shares
@@ -31,8 +32,9 @@ pub returns-in-Ok-clause-ok : goal.returns-in-Ok-clause-ok
 returns-in-Ok-clause-ok g c =
     let p = c.requires.proves in
     let s = c.in-Ok.ensures.taken in
-    held-done g.K.Kind.plain g.K.Kind.layout p.0 p.2 p.3 p.4 c.args.said.now c.args.guard.pid c.args.guard.word c.args.guard.frame (view c.args.pass.now) p.5 p.6 p.7 c.requires.reading p.1 c.in-Ok.last.frame _ _
-    (tree-size _ _ _ c.share.ensures.ready.table.is_shape.size c.args.words.now.sized.0 c.args.words.now.size.takes) s.1
+    held-done g.K.Kind.plain g.K.Kind.layout p.0 p.2 p.3 p.4 c.args.said.now c.args.guard.pid c.args.guard.word
+    c.args.guard.frame (view c.args.pass.now) p.5 p.6 p.7 c.requires.reading p.1 c.in-Ok.last.frame _ _
+    (tree-size _ _ _ c.share.ensures.goes.ready.table.is_shape.size c.args.words.now.sized.0 c.args.words.now.size.takes) s.1
     (λ tells. c.in-Ok.ensures.kept (sym c.requires.ready.table.tells_is ∙ tells))
     (subst (λ n. IsUnshared n (view c.share.new.pass) (view c.drop_with.new.pass)) s.0 c.drop_with.ensures.given_up)
 
@@ -41,18 +43,25 @@ returns-in-Ok-clause-ok g c =
 pub returns-in-Ok-clause-known : goal.returns-in-Ok-clause-known
 returns-in-Ok-clause-known g c shares few k =
     let s = c.in-Ok.ensures.taken in
-    readable-unshared c.args.guard.pid (view c.share.new.pass) (view c.drop_with.new.pass) (subst (λ n. IsUnshared n (view c.share.new.pass) (view c.drop_with.new.pass)) s.0 c.drop_with.ensures.given_up) s.1.sharing.page
+    readable-unshared c.args.guard.pid (view c.share.new.pass) (view c.drop_with.new.pass)
+    (subst (λ n. IsUnshared n (view c.share.new.pass) (view c.drop_with.new.pass)) s.0
+    c.drop_with.ensures.given_up) s.1.sharing.page
     (readable-shared (Tied g.K.Kind.layout) c.args.guard.pid c.args.guard.word c.in-Ok.last.frame _ _ _ _ s.1 k few)
 
 pub returns-in-Err-clause-sure : goal.returns-in-Err-clause-sure
-returns-in-Err-clause-sure g c shares few k = c.in-Err.ensures.sure k.resident.alone (known-at _ _ _ k) (subst MayShare (sym k.known) (may-share (shares c.args.guard.pid) c.args.guard.word few k.free))
+returns-in-Err-clause-sure g c shares few k = c.in-Err.ensures.sure k.resident.alone (known-at _ _ _ k)
+    (subst MayShare (sym k.known) (may-share (shares c.args.guard.pid) c.args.guard.word few k.free))
 
 pub returns-in-Err-clause-known : goal.returns-in-Err-clause-known
 returns-in-Err-clause-known g c shares few k =
-    absurd (true≢false (sym (c.in-Err.ensures.sure k.resident.alone (known-at _ _ _ k) (subst MayShare (sym k.known) (may-share (shares c.args.guard.pid) c.args.guard.word few k.free)))))
+    absurd (true≢false (sym
+    (c.in-Err.ensures.sure k.resident.alone (known-at _ _ _ k)
+    (subst MayShare (sym k.known) (may-share (shares c.args.guard.pid) c.args.guard.word few k.free)))))
 
 pub returns-in-Ok-clause-steps : goal.returns-in-Ok-clause-steps
-returns-in-Ok-clause-steps g c = shares-then _ _ _ (taken-shares (Tied g.K.Kind.layout) _ c.in-Ok.last.frame _ _ _ _ c.in-Ok.ensures.taken.1) (given-shares _ _ _ c.drop_with.ensures.given_up)
+returns-in-Ok-clause-steps g c =
+    shares-then _ _ _ (taken-shares (Tied g.K.Kind.layout) _ c.in-Ok.last.frame _ _ _ _ c.in-Ok.ensures.taken.1)
+    (given-shares _ _ _ c.drop_with.ensures.given_up)
 
 pub returns-in-Err-clause-steps : goal.returns-in-Err-clause-steps
 returns-in-Err-clause-steps g c = denied-shares _ _ _ _ _ _ _ c.in-Err.ensures.denied

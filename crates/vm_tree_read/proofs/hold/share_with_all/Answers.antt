@@ -19,8 +19,16 @@ same-reply said call shown reply is taken = is ∙ ap (saying call) (sym (ap (λ
 pub share_last-answer-requires-clause-proves : goal.share_last-answer-requires-clause-proves
 share_last-answer-requires-clause-proves g c =
     let p = c.requires.proves in
-    let is = c.many-said.ensures ∙ ap (λ s. saying (Range (g.K.Kind.rank c.args.low.now) c.args.bound) (Many s)) c.take.ensures.all in
-    (p.0, p.1, g.K.Kind.rank c.args.low.now, p.2, p.3, p.4, p.5, subst (λ s. TellRange g.K.Kind.layout p.0 p.3 s (view c.args.pass.now)) (sym is) p.6)
+    let is = c.many-said.ensures ∙ ap (λ s. saying (Range (g.K.Kind.rank c.args.low.now) c.args.bound) (Many s)) c.take.ensures.all in (
+      p.0,
+      p.1,
+      g.K.Kind.rank c.args.low.now,
+      p.2,
+      p.3,
+      p.4,
+      p.5,
+      subst (λ s. TellRange g.K.Kind.layout p.0 p.3 s (view c.args.pass.now)) (sym is) p.6,
+    )
 
 pub pairs_said-requires : goal.pairs_said-requires
 pairs_said-requires g c = subst IsMany (sym (ap (λ (s : Said). s.reply) c.many-said.ensures)) tt
@@ -28,8 +36,12 @@ pairs_said-requires g c = subst IsMany (sym (ap (λ (s : Said). s.reply) c.many-
 pub returns-clause-ok : goal.returns-clause-ok
 returns-clause-ok g c =
     let is = same-reply _ _ _ _ c.many-said.ensures c.pairs_said.ensures in
-    IfOk-weaker c.share_last-answer.result (λ _. IsRangeDone g.K.Kind.plain g.K.Kind.layout (g.K.Kind.plain c.many-said.result) (view c.args.pass.now) (view c.share_last-answer.new.pass))
-    (λ _. IsRangeDone g.K.Kind.plain g.K.Kind.layout (saying (Range (g.K.Kind.rank c.args.low.now) c.args.bound) (Many c.pairs_said.result)) (view c.args.pass.now) (view c.share_last-answer.new.pass))
+    IfOk-weaker c.share_last-answer.result
+    (λ _. IsRangeDone g.K.Kind.plain g.K.Kind.layout (g.K.Kind.plain c.many-said.result) (view c.args.pass.now)
+    (view c.share_last-answer.new.pass))
+    (λ _. IsRangeDone g.K.Kind.plain g.K.Kind.layout
+    (saying (Range (g.K.Kind.rank c.args.low.now) c.args.bound) (Many c.pairs_said.result)) (view c.args.pass.now)
+    (view c.share_last-answer.new.pass))
     (λ _ d. done-as g.K.Kind.plain g.K.Kind.layout _ _ _ _ is d) c.share_last-answer.ensures.ok
 
 pub returns-clause-same : goal.returns-clause-same

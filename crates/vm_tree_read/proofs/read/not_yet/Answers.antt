@@ -3,10 +3,22 @@ use Rattle.vm_tree_rule.specs.Turns.{IsTurnedBack}
 use Rattle.vm_tree_read.proofs.read.not_yet.Goals as goal
 
 pub returns-in-Again : goal.returns-in-Again
-returns-in-Again g c = record { tried = λ call key v w a. let t = subst (λ t. IsTurnedBack g.K.Kind.layout v key t w) c.in-Again.is a in (t.0, inl t.1); kind = λ call. tt; unanswered = λ done. done }
+returns-in-Again g c = record {
+  tried = λ call key v w a. let t = subst (λ t. IsTurnedBack g.K.Kind.layout v key t w) c.in-Again.is a in (t.0, inl t.1);
+  kind = λ call. tt;
+  unanswered = λ done. done;
+}
 
 pub returns-in-Need : goal.returns-in-Need
-returns-in-Need g c = record { tried = λ call key v w a. subst (λ t. IsTurnedBack g.K.Kind.layout v key t w) c.in-Need.is a; kind = λ call. tt; unanswered = λ done. done }
+returns-in-Need g c = record {
+  tried = λ call key v w a. subst (λ t. IsTurnedBack g.K.Kind.layout v key t w) c.in-Need.is a;
+  kind = λ call. tt;
+  unanswered = λ done. done;
+}
 
 pub returns-in-Astray : goal.returns-in-Astray
-returns-in-Astray g c = record { tried = λ call key v w a. let t = subst (λ t. IsTurnedBack g.K.Kind.layout v key t w) c.in-Astray.is a in (t.0, inr t.1); kind = λ call. tt; unanswered = λ done. done }
+returns-in-Astray g c = record {
+  tried = λ call key v w a. let t = subst (λ t. IsTurnedBack g.K.Kind.layout v key t w) c.in-Astray.is a in (t.0, inr t.1);
+  kind = λ call. tt;
+  unanswered = λ done. done;
+}

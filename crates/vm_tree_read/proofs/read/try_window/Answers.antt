@@ -32,37 +32,71 @@ answer-requires-clause-proves g c =
     let f = c.window_in_place-shown.ensures.found in (
       leaf.0 ++ f.loaded,
       loaded-more _ _ _ leaf.0 f.loaded _ _ leaf.1 f.loads,
-      subst (TellReply g.K.Kind.layout (leaf.0 ++ f.loaded)) (sym c.shown-said.ensures) (reply-told g.K.Kind.layout leaf.0 f.loaded _ leaf.2 (λ page with covers low high rises. (covers, c.requires.most, f.tells page with low high rises))),
+      subst (TellReply g.K.Kind.layout (leaf.0 ++ f.loaded)) (sym c.shown-said.ensures)
+          (reply-told g.K.Kind.layout leaf.0 f.loaded _ leaf.2
+          (λ page with covers low high rises. (covers, c.requires.most, f.tells page with low high rises))),
     )
 
 pub returns-in-Err-clause-few : goal.returns-in-Err-clause-few
 returns-in-Err-clause-few g c = within-wider _ _ _ _ (λ h. omega arith) c.in-Err.ensures.few
 
 pub returns-in-Ok-answer-clause-few : goal.returns-in-Ok-answer-clause-few
-returns-in-Ok-answer-clause-few g c = let k = c.in-Ok.ensures.height in leaf-few g.K.Kind.bounds.child (1 + g.K.Kind.bounds.covers) (λ h. 2 + g.K.Kind.bounds.child * h + (1 + g.K.Kind.bounds.covers + (2 * min c.args.most 28 + g.K.Windows.window_most))) (2 * min c.args.most 28 + g.K.Windows.window_most) k.0 _ _ _ _ k.1 (place-few _ _ _ _ _ _ _ c.window_in_place-shown.ensures.found) c.in-Ok-answer.ensures.words (omega arith)
+returns-in-Ok-answer-clause-few g c = let k = c.in-Ok.ensures.height in
+    leaf-few g.K.Kind.bounds.child (1 + g.K.Kind.bounds.covers)
+    (λ h. 2 + g.K.Kind.bounds.child * h
+    + (1 + g.K.Kind.bounds.covers + (2 * min c.args.most 28 + g.K.Windows.window_most)))
+    (2 * min c.args.most 28 + g.K.Windows.window_most) k.0 _ _ _ _ k.1
+    (place-few _ _ _ _ _ _ _ c.window_in_place-shown.ensures.found) c.in-Ok-answer.ensures.words (omega arith)
 
 pub returns-in-Ok-answer-clause-height : goal.returns-in-Ok-answer-clause-height
 returns-in-Ok-answer-clause-height g c done =
-    let k = c.in-Ok.ensures.height in
-    (k.0, leaf-height g.K.Kind.bounds.child (1 + g.K.Kind.bounds.covers) (2 + g.K.Kind.bounds.child * k.0 + (1 + g.K.Kind.bounds.covers + (2 * min c.args.most 28 + g.K.Windows.window_most))) (2 * min c.args.most 28 + g.K.Windows.window_most) k.0 _ _ _ _ k.1 (place-few _ _ _ _ _ _ _ c.window_in_place-shown.ensures.found) c.in-Ok-answer.ensures.words (omega arith))
+    let k = c.in-Ok.ensures.height in (
+      k.0,
+      leaf-height g.K.Kind.bounds.child (1 + g.K.Kind.bounds.covers)
+          (2 + g.K.Kind.bounds.child * k.0
+          + (1 + g.K.Kind.bounds.covers + (2 * min c.args.most 28 + g.K.Windows.window_most)))
+          (2 * min c.args.most 28 + g.K.Windows.window_most) k.0 _ _ _ _ k.1
+          (place-few _ _ _ _ _ _ _ c.window_in_place-shown.ensures.found) c.in-Ok-answer.ensures.words (omega arith),
+    )
 
 pub returns-in-Err-clause-height : goal.returns-in-Err-clause-height
 returns-in-Err-clause-height g c done = absurd (c.not_yet.ensures.unanswered done)
 
 pub returns-in-Err-answer-clause-few : goal.returns-in-Err-answer-clause-few
-returns-in-Err-answer-clause-few g c = let k = c.in-Ok.ensures.height in leaf-few g.K.Kind.bounds.child (1 + g.K.Kind.bounds.covers) (λ h. 2 + g.K.Kind.bounds.child * h + (1 + g.K.Kind.bounds.covers + (2 * min c.args.most 28 + g.K.Windows.window_most))) (2 * min c.args.most 28 + g.K.Windows.window_most) k.0 _ _ _ _ k.1 (place-few _ _ _ _ _ _ _ c.window_in_place-shown.ensures.found) c.in-Err-answer.ensures.words (omega arith)
+returns-in-Err-answer-clause-few g c = let k = c.in-Ok.ensures.height in
+    leaf-few g.K.Kind.bounds.child (1 + g.K.Kind.bounds.covers)
+    (λ h. 2 + g.K.Kind.bounds.child * h
+    + (1 + g.K.Kind.bounds.covers + (2 * min c.args.most 28 + g.K.Windows.window_most)))
+    (2 * min c.args.most 28 + g.K.Windows.window_most) k.0 _ _ _ _ k.1
+    (place-few _ _ _ _ _ _ _ c.window_in_place-shown.ensures.found) c.in-Err-answer.ensures.words (omega arith)
 
 pub returns-in-Ok-answer-clause-tried : goal.returns-in-Ok-answer-clause-tried
-returns-in-Ok-answer-clause-tried g c = answered-as g.K.Kind.plain g.K.Kind.layout _ _ _ _ (same-reply _ _ _ _ c.shown-said.ensures c.reply_of.ensures) (answered-later g.K.Kind.plain g.K.Kind.layout _ _ _ _ (reads-then _ _ _ c.in-Ok.ensures.reads.0 (loads-reads _ _ _ _ _ _ c.window_in_place-shown.ensures.found.loads)) c.in-Ok-answer.ensures.ok)
+returns-in-Ok-answer-clause-tried g c = answered-as g.K.Kind.plain g.K.Kind.layout _ _ _ _
+    (same-reply _ _ _ _ c.shown-said.ensures c.reply_of.ensures)
+    (answered-later g.K.Kind.plain g.K.Kind.layout _ _ _ _
+    (reads-then _ _ _ c.in-Ok.ensures.reads.0 (loads-reads _ _ _ _ _ _ c.window_in_place-shown.ensures.found.loads))
+    c.in-Ok-answer.ensures.ok)
 
 pub returns-in-Ok-answer-clause-known : goal.returns-in-Ok-answer-clause-known
-returns-in-Ok-answer-clause-known g c tells k = c.in-Ok-answer.ensures.known (known-same _ _ _ _ (loads-reads _ _ _ _ _ _ c.window_in_place-shown.ensures.found.loads).0 c.window_in_place-shown.ensures.found.loads.table (c.in-Ok.ensures.known tells k))
+returns-in-Ok-answer-clause-known g c tells k =
+    c.in-Ok-answer.ensures.known
+    (known-same _ _ _ _ (loads-reads _ _ _ _ _ _ c.window_in_place-shown.ensures.found.loads).0
+    c.window_in_place-shown.ensures.found.loads.table (c.in-Ok.ensures.known tells k))
 
 pub returns-in-Err-answer-clause-tried : goal.returns-in-Err-answer-clause-tried
-returns-in-Err-answer-clause-tried g c = refused g.K.Kind.layout _ _ _ (g.K.Kind.rank c.args.start.now) _ _ _ _ (opened-loads _ _ _ _ _ _ _ c.in-Ok.ensures.reads.1 c.window_in_place-shown.ensures.found.loads) c.in-Err-answer.ensures.err
+returns-in-Err-answer-clause-tried g c = refused g.K.Kind.layout _ _ _ (g.K.Kind.rank c.args.start.now) _ _ _ _
+    (opened-loads _ _ _ _ _ _ _ c.in-Ok.ensures.reads.1 c.window_in_place-shown.ensures.found.loads)
+    c.in-Err-answer.ensures.err
 
 pub returns-in-Err-answer-clause-sure : goal.returns-in-Err-answer-clause-sure
-returns-in-Err-answer-clause-sure g c tells k = true≢false (sym (c.in-Err-answer.ensures.sure (known-same _ _ _ _ (loads-reads _ _ _ _ _ _ c.window_in_place-shown.ensures.found.loads).0 c.window_in_place-shown.ensures.found.loads.table (c.in-Ok.ensures.known tells k))))
+returns-in-Err-answer-clause-sure g c tells k =
+    true≢false (sym (c.in-Err-answer.ensures.sure
+    (known-same _ _ _ _ (loads-reads _ _ _ _ _ _ c.window_in_place-shown.ensures.found.loads).0
+    c.window_in_place-shown.ensures.found.loads.table (c.in-Ok.ensures.known tells k))))
 
 pub returns-in-Err-answer-clause-known : goal.returns-in-Err-answer-clause-known
-returns-in-Err-answer-clause-known g c tells k = absurd (true≢false (sym (c.in-Err-answer.ensures.sure (known-same _ _ _ _ (loads-reads _ _ _ _ _ _ c.window_in_place-shown.ensures.found.loads).0 c.window_in_place-shown.ensures.found.loads.table (c.in-Ok.ensures.known tells k)))))
+returns-in-Err-answer-clause-known g c tells k =
+    absurd (true≢false (sym
+    (c.in-Err-answer.ensures.sure
+    (known-same _ _ _ _ (loads-reads _ _ _ _ _ _ c.window_in_place-shown.ensures.found.loads).0
+    c.window_in_place-shown.ensures.found.loads.table (c.in-Ok.ensures.known tells k)))))

@@ -12,10 +12,22 @@ returns-clause-waits g c = bring-waits _ _ c.bring-answer.ensures.keeps
 
 pub returns-clause-ok : goal.returns-clause-ok
 returns-clause-ok g c =
-    IfOk-weaker c.settle.result (λ _. NamesNone c.bring-answer.result) (λ _. IsNoBringFault c.args.pid (view c.args.pass.now) (view c.bring-answer.new.pass))
-    (λ _ none. record { home = _; cap = _; old = _; new = _; before = _; after = _; answer = _; brings = c.bring-answer.ensures.answer; none = none }) c.settle.ensures.none
+    IfOk-weaker c.settle.result (λ _. NamesNone c.bring-answer.result)
+    (λ _. IsNoBringFault c.args.pid (view c.args.pass.now) (view c.bring-answer.new.pass))
+    (λ _ none. record {
+      home = _;
+      cap = _;
+      old = _;
+      new = _;
+      before = _;
+      after = _;
+      answer = _;
+      brings = c.bring-answer.ensures.answer;
+      none = none;
+    }) c.settle.ensures.none
 
 pub returns-clause-err : goal.returns-clause-err
 returns-clause-err g c =
-    IfErr-weaker c.settle.result (NamesFault c.bring-answer.result) (λ fault. IsBringFault c.args.pid fault (view c.args.pass.now) (view c.bring-answer.new.pass))
+    IfErr-weaker c.settle.result (NamesFault c.bring-answer.result)
+    (λ fault. IsBringFault c.args.pid fault (view c.args.pass.now) (view c.bring-answer.new.pass))
     (λ fault named. names-fault _ _ _ _ _ _ _ _ _ _ fault c.bring-answer.ensures.answer named) c.settle.ensures.fault

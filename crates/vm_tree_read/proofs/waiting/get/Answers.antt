@@ -14,34 +14,63 @@ loop-init g c = tried-none _ _ (waits-self _, rounds.none) c.requires.ready c.re
 pub loop-preserved-in-Err-Again : goal.loop-preserved-in-Err-Again
 loop-preserved-in-Err-Again g c =
     let i = c.loop.invariant in
-    let back = subst (λ t. IsTurnedBack g.K.Kind.layout (view c.loop.pass) (g.K.Kind.rank c.args.key.now) t (view c.look_up.new.pass)) c.in-Err-Again.field-0-is c.in-Err-Again.ensures.err in
-    tried-read i c.look_up.new.pass c.look_up.ensures.pass back.0 c.look_up.ensures.ready (waits-then _ _ _ i.left.0 (reads-wait _ _ back.0), rounds.further _ _ i.left.1 (round.again _ back.0 (inl back.1)))
+    let back = subst (λ t. IsTurnedBack g.K.Kind.layout (view c.loop.pass) (g.K.Kind.rank c.args.key.now) t
+    (view c.look_up.new.pass)) c.in-Err-Again.field-0-is c.in-Err-Again.ensures.err in
+    tried-read i c.look_up.new.pass c.look_up.ensures.goes back.0 (
+      waits-then _ _ _ i.left.0 (reads-wait _ _ back.0),
+      rounds.further _ _ i.left.1
+          (round.again _ back.0 (inl back.1)),
+    )
 
 pub loop-preserved-in-Err-Astray : goal.loop-preserved-in-Err-Astray
 loop-preserved-in-Err-Astray g c =
     let i = c.loop.invariant in
-    let back = subst (λ t. IsTurnedBack g.K.Kind.layout (view c.loop.pass) (g.K.Kind.rank c.args.key.now) t (view c.look_up.new.pass)) c.in-Err-Astray.field-0-is c.in-Err-Astray.ensures.err in
-    tried-read i c.look_up.new.pass c.look_up.ensures.pass back.0 c.look_up.ensures.ready (waits-then _ _ _ i.left.0 (reads-wait _ _ back.0), rounds.further _ _ i.left.1 (round.again _ back.0 (inr back.1)))
+    let back = subst (λ t. IsTurnedBack g.K.Kind.layout (view c.loop.pass) (g.K.Kind.rank c.args.key.now) t
+    (view c.look_up.new.pass)) c.in-Err-Astray.field-0-is c.in-Err-Astray.ensures.err in
+    tried-read i c.look_up.new.pass c.look_up.ensures.goes back.0 (
+      waits-then _ _ _ i.left.0 (reads-wait _ _ back.0),
+      rounds.further _ _ i.left.1
+          (round.again _ back.0 (inr back.1)),
+    )
 
 pub fetch-requires : goal.fetch-requires
 fetch-requires g c =
     let i = c.loop.invariant in
-    let needed = subst (λ t. IsTurnedBack g.K.Kind.layout (view c.loop.pass) (g.K.Kind.rank c.args.key.now) t (view c.look_up.new.pass)) c.in-Err-Need.field-0-is c.in-Err-Need.ensures.err in
-    let reads = needed.0 in
-    (search rules, (c.look_up.ensures.ready, (reads.0.out ∙ i.left.0.out ∙ c.requires.home, (held-on _ (view c.loop.pass) (view c.look_up.new.pass) i.held reads.0.start reads.0.frames.0, (let inside = needed.1.inside in let pages = i.ready.table.is_shape.pages in omega (arith, inside, pages))))))
+    let needed = subst (λ t. IsTurnedBack g.K.Kind.layout (view c.loop.pass) (g.K.Kind.rank c.args.key.now) t
+    (view c.look_up.new.pass)) c.in-Err-Need.field-0-is c.in-Err-Need.ensures.err in
+    let reads = needed.0 in (
+      search rules,
+      (
+        c.look_up.ensures.goes.ready,
+        (
+          reads.0.out ∙ i.left.0.out ∙ c.requires.home,
+          (
+            held-on _ (view c.loop.pass) (view c.look_up.new.pass) i.held reads.0.start reads.0.frames.0,
+            (let inside = needed.1.inside in let pages = i.goes.ready.table.is_shape.pages in
+                omega (arith, inside, pages)),
+          ),
+        ),
+      ),
+    )
 
 pub loop-preserved : goal.loop-preserved
 loop-preserved g c =
     let i = c.loop.invariant in
     let k = c.fetch.ensures in
-    let needed = subst (λ t. IsTurnedBack g.K.Kind.layout (view c.loop.pass) (g.K.Kind.rank c.args.key.now) t (view c.look_up.new.pass)) c.in-Err-Need.field-0-is c.in-Err-Need.ensures.err in
+    let needed = subst (λ t. IsTurnedBack g.K.Kind.layout (view c.loop.pass) (g.K.Kind.rank c.args.key.now) t
+    (view c.look_up.new.pass)) c.in-Err-Need.field-0-is c.in-Err-Need.ensures.err in
     let reads = needed.0 in
-    tried-call i c.look_up.new.pass c.look_up.ensures.pass reads c.fetch.new.pass c.fetch.new.iface k.pass k.ready k.held k.lost k.iface (waits-then _ _ _ i.left.0 (waits-then _ _ _ (reads-wait _ _ reads) k.waits), rounds.further _ _ i.left.1 (round.needed _ _ reads needed.1 c.in-Ok-fetch.ensures.ok))
+    tried-call i c.look_up.new.pass c.look_up.ensures.goes reads c.fetch.new.pass c.fetch.new.iface k.goes k.held
+    k.lost k.iface (
+      waits-then _ _ _ i.left.0 (waits-then _ _ _ (reads-wait _ _ reads) k.waits),
+      rounds.further _ _ i.left.1 (round.needed _ _ reads needed.1 c.in-Ok-fetch.ensures.ok),
+    )
 
 pub returns-in-Err-clause-err : goal.returns-in-Err-clause-err
 returns-in-Err-clause-err g c =
     let i = c.loop.invariant in
-    let needed = subst (λ t. IsTurnedBack g.K.Kind.layout (view c.loop.pass) (g.K.Kind.rank c.args.key.now) t (view c.look_up.new.pass)) c.in-Err-Need.field-0-is c.in-Err-Need.ensures.err in
+    let needed = subst (λ t. IsTurnedBack g.K.Kind.layout (view c.loop.pass) (g.K.Kind.rank c.args.key.now) t
+    (view c.look_up.new.pass)) c.in-Err-Need.field-0-is c.in-Err-Need.ensures.err in
     record {
       tried = view c.loop.pass;
       found = view c.look_up.new.pass;
@@ -61,9 +90,14 @@ returns-in-Ok-clause-ok g c = replied g.K.Kind.plain g.K.Kind.layout _ _ _ _ c.l
 
 pub returns-in-Err-clause-lost : goal.returns-in-Err-clause-lost
 returns-in-Err-clause-lost g c =
-    lost-on c.args.iface.now.frames c.loop.iface.frames c.fetch.new.iface.frames (view c.args.pass.now) (view c.loop.pass) (view c.look_up.new.pass) (view c.fetch.new.pass) c.loop.invariant.lost (turned-reads g.K.Kind.layout _ _ _ _ c.in-Err-Need.ensures.err) c.fetch.ensures.lost
+    lost-on c.args.iface.now.frames c.loop.iface.frames c.fetch.new.iface.frames (view c.args.pass.now)
+    (view c.loop.pass) (view c.look_up.new.pass) (view c.fetch.new.pass) c.loop.invariant.lost
+    (turned-reads g.K.Kind.layout _ _ _ _ c.in-Err-Need.ensures.err) c.fetch.ensures.lost
 
 pub returns-in-Ok-clause-lost : goal.returns-in-Ok-clause-lost
 returns-in-Ok-clause-lost g c =
     let k = c.in-Ok.ensures.ok.reads in
-    loses-then c.args.iface.now.frames c.loop.iface.frames c.loop.iface.frames (view c.args.pass.now) (view c.loop.pass) (view c.look_up.new.pass) c.loop.invariant.lost (loses-same c.loop.iface.frames c.loop.iface.frames (view c.loop.pass) (view c.look_up.new.pass) k.frames.0 (λ f e. e))
+    loses-then c.args.iface.now.frames c.loop.iface.frames c.loop.iface.frames (view c.args.pass.now)
+    (view c.loop.pass) (view c.look_up.new.pass) c.loop.invariant.lost
+    (loses-same c.loop.iface.frames c.loop.iface.frames (view c.loop.pass) (view c.look_up.new.pass) k.frames.0
+    (λ f e. e))

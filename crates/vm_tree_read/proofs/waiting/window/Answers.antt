@@ -14,20 +14,40 @@ pub loop-preserved-in-Again : goal.loop-preserved-in-Again
 loop-preserved-in-Again g c =
     let i = c.loop.invariant in
     let reads = c.in-Again.ensures.tried.0 in
-    tried-read i c.try_window.new.pass c.try_window.ensures.pass reads c.try_window.ensures.ready (waits-then _ _ _ i.left.0 (reads-wait _ _ reads), rounds.further _ _ i.left.1 (round.again _ reads c.in-Again.ensures.tried.1))
+    tried-read i c.try_window.new.pass c.try_window.ensures.goes reads (
+      waits-then _ _ _ i.left.0 (reads-wait _ _ reads),
+      rounds.further _ _ i.left.1
+          (round.again _ reads c.in-Again.ensures.tried.1),
+    )
 
 pub fetch-requires : goal.fetch-requires
 fetch-requires g c =
     let i = c.loop.invariant in
-    let reads = c.in-Need.ensures.tried.0 in
-    (search rules, (c.try_window.ensures.ready, (reads.0.out ∙ i.left.0.out ∙ c.requires.home, (held-on _ (view c.loop.pass) (view c.try_window.new.pass) i.held reads.0.start reads.0.frames.0, (let inside = c.in-Need.ensures.tried.1.inside in let pages = i.ready.table.is_shape.pages in omega (arith, inside, pages))))))
+    let reads = c.in-Need.ensures.tried.0 in (
+      search rules,
+      (
+        c.try_window.ensures.goes.ready,
+        (
+          reads.0.out ∙ i.left.0.out ∙ c.requires.home,
+          (
+            held-on _ (view c.loop.pass) (view c.try_window.new.pass) i.held reads.0.start reads.0.frames.0,
+            (let inside = c.in-Need.ensures.tried.1.inside in let pages = i.goes.ready.table.is_shape.pages in
+                omega (arith, inside, pages)),
+          ),
+        ),
+      ),
+    )
 
 pub loop-preserved : goal.loop-preserved
 loop-preserved g c =
     let i = c.loop.invariant in
     let k = c.fetch.ensures in
     let reads = c.in-Need.ensures.tried.0 in
-    tried-call i c.try_window.new.pass c.try_window.ensures.pass reads c.fetch.new.pass c.fetch.new.iface k.pass k.ready k.held k.lost k.iface (waits-then _ _ _ i.left.0 (waits-then _ _ _ (reads-wait _ _ reads) k.waits), rounds.further _ _ i.left.1 (round.needed _ _ reads c.in-Need.ensures.tried.1 c.in-Ok.ensures.ok))
+    tried-call i c.try_window.new.pass c.try_window.ensures.goes reads c.fetch.new.pass c.fetch.new.iface k.goes
+    k.held k.lost k.iface (
+      waits-then _ _ _ i.left.0 (waits-then _ _ _ (reads-wait _ _ reads) k.waits),
+      rounds.further _ _ i.left.1 (round.needed _ _ reads c.in-Need.ensures.tried.1 c.in-Ok.ensures.ok),
+    )
 
 pub returns-in-Err-clause-err : goal.returns-in-Err-clause-err
 returns-in-Err-clause-err g c =
@@ -52,9 +72,14 @@ returns-in-Done-clause-ok g c = replied g.K.Kind.plain g.K.Kind.layout _ _ _ _ c
 
 pub returns-in-Err-clause-lost : goal.returns-in-Err-clause-lost
 returns-in-Err-clause-lost g c =
-    lost-on c.args.iface.now.frames c.loop.iface.frames c.fetch.new.iface.frames (view c.args.pass.now) (view c.loop.pass) (view c.try_window.new.pass) (view c.fetch.new.pass) c.loop.invariant.lost c.in-Need.ensures.tried.0 c.fetch.ensures.lost
+    lost-on c.args.iface.now.frames c.loop.iface.frames c.fetch.new.iface.frames (view c.args.pass.now)
+    (view c.loop.pass) (view c.try_window.new.pass) (view c.fetch.new.pass) c.loop.invariant.lost
+    c.in-Need.ensures.tried.0 c.fetch.ensures.lost
 
 pub returns-in-Done-clause-lost : goal.returns-in-Done-clause-lost
 returns-in-Done-clause-lost g c =
     let k = c.in-Done.ensures.tried.reads in
-    loses-then c.args.iface.now.frames c.loop.iface.frames c.loop.iface.frames (view c.args.pass.now) (view c.loop.pass) (view c.try_window.new.pass) c.loop.invariant.lost (loses-same c.loop.iface.frames c.loop.iface.frames (view c.loop.pass) (view c.try_window.new.pass) k.frames.0 (λ f e. e))
+    loses-then c.args.iface.now.frames c.loop.iface.frames c.loop.iface.frames (view c.args.pass.now)
+    (view c.loop.pass) (view c.try_window.new.pass) c.loop.invariant.lost
+    (loses-same c.loop.iface.frames c.loop.iface.frames (view c.loop.pass) (view c.try_window.new.pass) k.frames.0
+    (λ f e. e))

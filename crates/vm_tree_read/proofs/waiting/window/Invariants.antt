@@ -5,4 +5,6 @@ use Rattle.vm_tree_read.proofs.waiting.window.Given as goal
 
 -- no try was answered yet
 abbrev pub invariant-loop : goal.invariant-loop
-invariant-loop g l = HasTried (λ (x y : View _). Waits x y × AreRounds (IsRound g.K.Kind.layout NoneExpected (g.K.Kind.rank l.fn.start)) x y) l.pool.words.table.shared.key g.B.Block.tells l.pool.words.table.shared.table_id l.fn.pass l.pass l.fn.iface l.iface
+invariant-loop g l = HasTried
+    (λ (x y : View _). Waits x y × AreRounds (IsRound g.K.Kind.layout NoneExpected (g.K.Kind.rank l.fn.start)) x y)
+    l.pool.words g.B.Block.tells l.fn.pass l.pass l.fn.iface l.iface

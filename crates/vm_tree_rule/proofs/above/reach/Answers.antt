@@ -1,4 +1,4 @@
-use Rattle.std.proofs.Common.{◌≡◌, ◌≢◌, ◌≤◌, arith, subst, ℕ}
+use Rattle.std.proofs.Common.{◌≢◌, ◌≤◌, arith, subst, ℕ}
 use Rattle.vm_step.specs.Prelude.{view}
 use Rattle.vm_tree_rule.specs.Standing.{Awaits}
 use Rattle.vm_tree_rule.proofs.Downward.{stand-awaits}
@@ -19,7 +19,8 @@ returns-then-height-eq0-clause-reads g c = (c.in-Ok.ensures.reads, c.in-Ok.ensur
 pub returns-then-height-eq0-clause-awaits : goal.returns-then-height-eq0-clause-awaits
 returns-then-height-eq0-clause-awaits g c =
     let s = c.in-Ok.top.stand in
-    subst (λ n. Awaits g.K.Kind.layout (view c.enter_root.new.pass) s.guard.pid s.guard.word n (g.K.Kind.rank c.args.key.now)) c.if-height-eq0.true
+    subst (λ n. Awaits g.K.Kind.layout (view c.enter_root.new.pass) s.guard.pid s.guard.word n
+    (g.K.Kind.rank c.args.key.now)) c.if-height-eq0.true
     (stand-awaits g.K.Kind.rank (g.K.Kind.rank c.args.key.now) s _ c.in-Ok.ensures.ok.1)
 
 pub returns-then-height-eq0-clause-above : goal.returns-then-height-eq0-clause-above
@@ -41,22 +42,26 @@ under_root-requires-clause-level g c = c.if-height-eq1.true
 
 pub returns-then-height-eq1-clause-reads : goal.returns-then-height-eq1-clause-reads
 returns-then-height-eq1-clause-reads g c =
-    let e = c.in-Ok.ensures in ok-then c.under_root.result c.under_root.ensures.reads (λ r k. (reads-then _ _ _ e.reads k.0, opened-earlier _ _ _ _ _ _ e.reads k.1))
+    let e = c.in-Ok.ensures in ok-then c.under_root.result c.under_root.ensures.reads
+    (λ r k. (reads-then _ _ _ e.reads k.0, opened-earlier _ _ _ _ _ _ e.reads k.1))
 
 pub returns-then-height-eq1-clause-awaits : goal.returns-then-height-eq1-clause-awaits
 returns-then-height-eq1-clause-awaits g c = c.under_root.ensures.awaits
 
 pub returns-then-height-eq1-clause-above : goal.returns-then-height-eq1-clause-above
-returns-then-height-eq1-clause-above g c = let e = c.in-Ok.ensures in ok-then c.under_root.result c.under_root.ensures.above (λ r k. k (view c.args.pass.now) e.ok.0 e.meta)
+returns-then-height-eq1-clause-above g c = let e = c.in-Ok.ensures in
+    ok-then c.under_root.result c.under_root.ensures.above (λ r k. k (view c.args.pass.now) e.ok.0 e.meta)
 
 pub returns-then-height-eq1-clause-err : goal.returns-then-height-eq1-clause-err
-returns-then-height-eq1-clause-err g c = err-then c.under_root.result c.under_root.ensures.err (λ t k. k (view c.args.pass.now) c.in-Ok.ensures.ok.0)
+returns-then-height-eq1-clause-err g c =
+    err-then c.under_root.result c.under_root.ensures.err (λ t k. k (view c.args.pass.now) c.in-Ok.ensures.ok.0)
 
 pub returns-then-height-eq1-clause-sure : goal.returns-then-height-eq1-clause-sure
 returns-then-height-eq1-clause-sure g c tells k = c.under_root.ensures.sure tells (c.in-Ok.ensures.known (λ _. 0) tells k).0
 
 pub returns-then-height-eq1-clause-known : goal.returns-then-height-eq1-clause-known
-returns-then-height-eq1-clause-known g c tells k = let e = c.in-Ok.ensures.known (λ _. 0) tells k in c.under_root.ensures.known tells e.0 e.1 c.in-Ok.ensures.meta.zero
+returns-then-height-eq1-clause-known g c tells k = let e = c.in-Ok.ensures.known (λ _. 0) tells k in
+    c.under_root.ensures.known tells e.0 e.1 c.in-Ok.ensures.meta.zero
 
 -- ---- its parent is another node
 
@@ -74,7 +79,8 @@ under_node-requires-clause-not_zero g c = c.in-Ok.ensures.meta.apart
 
 pub returns-clause-reads : goal.returns-clause-reads
 returns-clause-reads g c =
-    let e = c.in-Ok.ensures in ok-then c.under_node.result c.under_node.ensures.reads (λ r k. (reads-then _ _ _ e.reads k.0, opened-earlier _ _ _ _ _ _ e.reads k.1))
+    let e = c.in-Ok.ensures in ok-then c.under_node.result c.under_node.ensures.reads
+    (λ r k. (reads-then _ _ _ e.reads k.0, opened-earlier _ _ _ _ _ _ e.reads k.1))
 
 pub returns-clause-awaits : goal.returns-clause-awaits
 returns-clause-awaits g c = c.under_node.ensures.awaits

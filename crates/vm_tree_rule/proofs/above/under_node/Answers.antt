@@ -1,15 +1,15 @@
-use Rattle.std.proofs.Common.{◌+◌, ◌<◌, ◌∙◌, ◌≡◌, ◌≤◌, arith, refl, subst, ℕ}
+use Rattle.std.proofs.Common.{◌+◌, ◌≡◌, ◌≤◌, arith, refl, subst, ℕ}
 use Rattle.vm_step.specs.Prelude.{view}
 use Rattle.vm_tree_rule.specs.Standing.{Awaits}
 use Rattle.vm_tree_rule.proofs.{Downward.stand-awaits, Reaching.parent-stepped}
 use Rattle.vm_tree_rule.proofs.Entering.{opened-reads}
 use Rattle.vm_tree_rule.proofs.Readings.{opened-earlier, reads-self, reads-then}
+use Rattle.vm_step.proofs.Going.{goes-then}
 use Rattle.vm_tree_rule.proofs.above.under_node.Goals as goal
 
 pub loop-init : goal.loop-init
 loop-init g c = record {
-  same = (refl, refl);
-  ready = c.requires.ready;
+  goes = record { same = (refl, refl); ready = c.requires.ready };
   reads = reads-self _;
   opened = λ v o. o;
   reading = c.requires.opened.1.reading;
@@ -47,8 +47,7 @@ loop-preserved g c =
     let i = c.loop.invariant in
     let less = c.loop-test.true in
     record {
-      same = (k.pass.0 ∙ i.same.0, k.pass.1 ∙ i.same.1);
-      ready = k.ready;
+      goes = goes-then i.goes k.goes;
       reads = reads-then _ _ _ i.reads k.reads.0;
       opened = λ v o. opened-earlier _ _ _ _ _ _ (opened-reads _ _ _ _ _ (i.opened v o)) k.reads.1;
       reading = k.reads.1.reading;
@@ -74,10 +73,12 @@ pub step-requires-2-clause-stands : goal.step-requires-2-clause-stands
 step-requires-2-clause-stands g c = c.loop.invariant.stands
 
 pub step-requires-2-clause-inner : goal.step-requires-2-clause-inner
-step-requires-2-clause-inner g c = level-left c.args.stand.level c.loop.counter c.loop.node.level c.loop.invariant.level c.loop.invariant.left
+step-requires-2-clause-inner g c =
+    level-left c.args.stand.level c.loop.counter c.loop.node.level c.loop.invariant.level c.loop.invariant.left
 
 pub returns-in-Ok-step-clause-reads : goal.returns-in-Ok-step-clause-reads
-returns-in-Ok-step-clause-reads g c = let k = c.in-Ok-step.ensures.reads in let i = c.loop.invariant in (reads-then _ _ _ i.reads k.0, opened-earlier _ _ _ _ _ _ i.reads k.1)
+returns-in-Ok-step-clause-reads g c = let k = c.in-Ok-step.ensures.reads in let i = c.loop.invariant in
+    (reads-then _ _ _ i.reads k.0, opened-earlier _ _ _ _ _ _ i.reads k.1)
 
 pub returns-in-Ok-step-clause-awaits : goal.returns-in-Ok-step-clause-awaits
 returns-in-Ok-step-clause-awaits g c =
@@ -85,7 +86,8 @@ returns-in-Ok-step-clause-awaits g c =
     let b = c.in-Ok-step.below in
     let i = c.loop.invariant in
     let one = last-level c.args.stand.level c.loop.counter c.loop.node.level i.level i.left c.loop-test.false in
-    subst (λ n. Awaits g.K.Kind.layout (view c.step-2.new.pass) b.guard.pid b.guard.word n (g.K.Kind.rank c.args.key.now)) (under-last c.loop.node.level b.level one k.level)
+    subst (λ n. Awaits g.K.Kind.layout (view c.step-2.new.pass) b.guard.pid b.guard.word n
+    (g.K.Kind.rank c.args.key.now)) (under-last c.loop.node.level b.level one k.level)
     (stand-awaits g.K.Kind.rank (g.K.Kind.rank c.args.key.now) b _ k.stands)
 
 pub returns-in-Ok-step-clause-above : goal.returns-in-Ok-step-clause-above
@@ -97,8 +99,10 @@ returns-in-Ok-step-clause-above g c v o =
     let x = view c.loop.pass in
     let key = g.K.Kind.rank c.args.key.now in
     let one = last-level c.args.stand.level c.loop.counter s.level i.level i.left c.loop-test.false in
-    parent-stepped v x (view c.step-2.new.pass) key s.guard b.guard.pid k.named.0 (k.parent.1 v (i.opened v o)) k.parent.0 k.not_zero i.not_zero
-    (subst (λ n. Awaits g.K.Kind.layout x s.guard.pid s.guard.word n key) one (stand-awaits g.K.Kind.rank key s x i.stands)) k.reads.0 k.named.1 k.named.2
+    parent-stepped v x (view c.step-2.new.pass) key s.guard b.guard.pid k.named.0 (k.parent.1 v (i.opened v o))
+    k.parent.0 k.not_zero i.not_zero
+    (subst (λ n. Awaits g.K.Kind.layout x s.guard.pid s.guard.word n key) one
+    (stand-awaits g.K.Kind.rank key s x i.stands)) k.reads.0 k.named.1 k.named.2
 
 pub returns-in-Ok-step-clause-known : goal.returns-in-Ok-step-clause-known
 returns-in-Ok-step-clause-known g c tells k = c.in-Ok-step.ensures.known (λ _. 0) tells (c.loop.invariant.known tells k)

@@ -11,7 +11,8 @@ pub returns-in-Ok-clause-awaits : goal.returns-in-Ok-clause-awaits
 returns-in-Ok-clause-awaits g c =
     let k = c.in-Ok.ensures in
     let b = c.in-Ok.below in
-    subst (λ n. Awaits g.K.Kind.layout (view c.step.new.pass) b.guard.pid b.guard.word n (g.K.Kind.rank c.args.key.now)) (last-level c.args.top.stand.level b.level c.requires.level k.level)
+    subst (λ n. Awaits g.K.Kind.layout (view c.step.new.pass) b.guard.pid b.guard.word n
+    (g.K.Kind.rank c.args.key.now)) (last-level c.args.top.stand.level b.level c.requires.level k.level)
     (stand-awaits g.K.Kind.rank (g.K.Kind.rank c.args.key.now) b _ k.stands)
 
 pub returns-in-Ok-clause-above : goal.returns-in-Ok-clause-above
@@ -25,9 +26,14 @@ returns-in-Ok-clause-above g c v opened meta =
     let key = g.K.Kind.rank c.args.key.now in
     let other = k.others m.pid (λ e. k.not_zero (sym e ∙ meta.zero)) (λ e. meta.apart (sym e ∙ meta.zero)) in (
       subst (λ n. IsMetaRead m.pid m.word m.frame s.guard.pid n v w) c.requires.level
-          (meta-beside m.pid m.word m.frame s.guard.pid s.level v x w (record { reads = k.reads.0; same = other.0; leaves = other.1 }) meta),
+          (meta-beside m.pid m.word m.frame s.guard.pid s.level v x w (record {
+            reads = k.reads.0;
+            same = other.0;
+            leaves = other.1;
+          }) meta),
       parent-stepped v x w key s.guard b.guard.pid k.named.0 (k.parent.1 v opened) k.parent.0 k.not_zero meta.apart
-          (subst (λ n. Awaits g.K.Kind.layout x s.guard.pid s.guard.word n key) c.requires.level (stand-awaits g.K.Kind.rank key s x c.requires.stands)) k.reads.0 k.named.1 k.named.2,
+          (subst (λ n. Awaits g.K.Kind.layout x s.guard.pid s.guard.word n key) c.requires.level
+          (stand-awaits g.K.Kind.rank key s x c.requires.stands)) k.reads.0 k.named.1 k.named.2,
     )
 
 pub returns-in-Ok-clause-known : goal.returns-in-Ok-clause-known

@@ -12,13 +12,19 @@ use Rattle.vm_tree_rule.proofs.Whole.{tree_key}
 -- what is found in each page that has the words loaded is what they tell
 tells-in : {X T : Type 0} (L : Layout) (rank : T → ℕ) (p word frame most key : ℕ) (v w : View X) (found : Option (Fenced T))
     → ReadsInPlace p word frame most v w (λ loaded. (words : List ℕ) → IsPageWith L.words loaded words
-    → MatchOption found (FindsNoChild L words key) (λ child. FindsChildIn L words key child.page (rank child.low) (option_map rank child.next)))
-    → ReadsInPlace p word frame most v w (λ loaded. MatchOption found (TellNoChild L loaded key) (λ child. TellChildIn L loaded key child.page (rank child.low) (option_map rank child.next)))
-tells-in L rank p word frame most key v w None k = record { loaded = k.loaded; loads = k.loads; words = k.words; few = k.few; tells = k.tells }
-tells-in L rank p word frame most key v w (Some child) k = record { loaded = k.loaded; loads = k.loads; words = k.words; few = k.few; tells = k.tells }
+    → MatchOption found (FindsNoChild L words key)
+    (λ child. FindsChildIn L words key child.page (rank child.low) (option_map rank child.next)))
+    → ReadsInPlace p word frame most v w
+    (λ loaded. MatchOption found (TellNoChild L loaded key)
+    (λ child. TellChildIn L loaded key child.page (rank child.low) (option_map rank child.next)))
+tells-in L rank p word frame most key v w None k =
+    record { loaded = k.loaded; loads = k.loads; words = k.words; few = k.few; tells = k.tells }
+tells-in L rank p word frame most key v w (Some child) k =
+    record { loaded = k.loaded; loads = k.loads; words = k.words; few = k.few; tells = k.tells }
 
 pub returns-clause-found : goal.returns-clause-found
-returns-clause-found g c = tells-in g.K.Kind.layout g.K.Kind.rank _ _ _ _ (g.K.Kind.rank c.args.key.now) _ _ c.child_at.result (first_of (search rules, grind (arith, common_steps)))
+returns-clause-found g c = tells-in g.K.Kind.layout g.K.Kind.rank _ _ _ _ (g.K.Kind.rank c.args.key.now) _ _
+    c.child_at.result (first_of (search rules, grind (arith, common_steps)))
 
 -- the page has as many words as the layout's
 pub child_at-requires-clause-size : goal.child_at-requires-clause-size

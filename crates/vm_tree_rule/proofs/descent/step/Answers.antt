@@ -1,4 +1,5 @@
-use Rattle.std.proofs.Common.{◌-◌, ◌<◌, ◌∙◌, ◌≡◌, ◌≤◌, ap, arith, inr, List, MatchOption, None, Option, option_map, Some, subst, suc, sym, unwrap_or, ℕ}
+use Rattle.std.proofs.Common.{◌-◌, ◌<◌, ◌∙◌, ◌≡◌, ◌≤◌, ap, arith, inr, List, MatchOption, None, Option, option_map}
+use Rattle.std.proofs.Common.{Some, subst, suc, sym, unwrap_or, ℕ}
 use Rattle.vm_tree_model.specs.Layout.{Layout}
 use Rattle.vm_rule.specs.Prelude.{last_of}
 use Rattle.vm_step.specs.Prelude.{Origin, View, view}
@@ -9,27 +10,33 @@ use Rattle.vm_tree_rule.proofs.descent.step.Goals as goal
 use Rattle.vm_tree_rule.proofs.{Counting.place-within, Downward.awaits-later, Downward.node-later, Downward.stand-awaits}
 use Rattle.vm_tree_rule.proofs.Entering.{astray-turn, opened-reads, refused-turn, turned, untold}
 use Rattle.vm_tree_rule.proofs.Onward.{goes-nowhere, goes-on, goes-to}
-use Rattle.vm_tree_rule.proofs.Readings.{leaves-self, leaves-then, loads-reads, opened-earlier, opened-later, opened-loads, reads-self, reads-then}
+use Rattle.vm_tree_rule.proofs.Readings.{leaves-self, leaves-then, loads-reads, opened-earlier, opened-later}
+use Rattle.vm_tree_rule.proofs.Readings.{opened-loads, reads-self, reads-then}
 use Rattle.vm_tree_rule.proofs.Seeking.{beside-loads, passes-by}
 use Rattle.vm_tree_rule.proofs.Surely.{known-at, known-same}
 use Rattle.vm_tree_rule.proofs.Whole.{tree-size}
 
 -- the search that tells the fences tells the page
-tells-page : (L : Layout) (loaded : List (ℕ × ℕ)) (key named low : ℕ) (next : Option ℕ) → TellChildIn L loaded key named low next → TellChild L loaded key named
+tells-page : (L : Layout) (loaded : List (ℕ × ℕ)) (key named low : ℕ) (next : Option ℕ)
+    → TellChildIn L loaded key named low next → TellChild L loaded key named
 tells-page L loaded key named low next tells words with = (tells words with).finds
 
 inner-level : (n : ℕ) → 1 ≤ n → n ≡ suc (n - 1)
 inner-level n some = omega (arith, some)
 
 module _ {X T : Type 0} (L : Layout) (rank : T → ℕ) where
-  above : (key : ℕ) (s : Stand T) (v : View X) → 1 ≤ s.level → IsStand L rank key s v → Awaits L v s.guard.pid s.guard.word (suc (s.level - 1)) key
+  above : (key : ℕ) (s : Stand T) (v : View X) → 1 ≤ s.level → IsStand L rank key s v
+      → Awaits L v s.guard.pid s.guard.word (suc (s.level - 1)) key
   above key s v some k = subst (λ n. Awaits L v s.guard.pid s.guard.word n key) (inner-level s.level some) (stand-awaits rank key s v k)
 
-  node : (key : ℕ) (s : Stand T) (v : View X) → 1 ≤ s.level → IsStand L rank key s v → AwaitsNode L v s.guard.pid s.guard.word (suc (s.level - 1)) (rank s.low) (fence_of L rank s.high)
-  node key s v some k = subst (λ n. AwaitsNode L v s.guard.pid s.guard.word n (rank s.low) (fence_of L rank s.high)) (inner-level s.level some) k.awaits
+  node : (key : ℕ) (s : Stand T) (v : View X) → 1 ≤ s.level → IsStand L rank key s v
+      → AwaitsNode L v s.guard.pid s.guard.word (suc (s.level - 1)) (rank s.low) (fence_of L rank s.high)
+  node key s v some k = subst (λ n. AwaitsNode L v s.guard.pid s.guard.word n (rank s.low) (fence_of L rank s.high))
+      (inner-level s.level some) k.awaits
 
 -- what is told of the keys on both sides is told of their numbers
-sides-next : {T : Type 0} (rank : T → ℕ) (key : ℕ) (next : Option T) → MatchOption next (Unit {0}) (λ k. key < rank k) → MatchOption (option_map rank next) (Unit {0}) (λ k. key < k)
+sides-next : {T : Type 0} (rank : T → ℕ) (key : ℕ) (next : Option T) → MatchOption next (Unit {0}) (λ k. key < rank k)
+    → MatchOption (option_map rank next) (Unit {0}) (λ k. key < k)
 sides-next rank key None tt = tt
 sides-next rank key (Some k) less = less
 
@@ -49,8 +56,12 @@ enter-requires-clause-names g c =
       s.level - 1,
       (g.K.Kind.rank c.in-Some.child.low),
       unwrap_or (option_map g.K.Kind.rank c.in-Some.child.next) (fence_of g.K.Kind.layout g.K.Kind.rank s.high),
-      goes-on _ _ _ (s.level - 1) (g.K.Kind.rank c.args.key.now) f.loaded _ f.loads.reads (_, f.loads.loads) (g.K.Kind.rank s.low) (fence_of g.K.Kind.layout g.K.Kind.rank s.high)
-          (node-later _ _ _ _ _ _ _ (loads-reads _ _ _ _ _ _ f.loads).0 (node g.K.Kind.layout g.K.Kind.rank (g.K.Kind.rank c.args.key.now) s _ c.requires.inner k)) k.from k.below c.in-Some.child.page (g.K.Kind.rank c.in-Some.child.low) (option_map g.K.Kind.rank c.in-Some.child.next) f.tells,
+      goes-on _ _ _ (s.level - 1) (g.K.Kind.rank c.args.key.now) f.loaded _ f.loads.reads (_, f.loads.loads)
+          (g.K.Kind.rank s.low) (fence_of g.K.Kind.layout g.K.Kind.rank s.high)
+          (node-later _ _ _ _ _ _ _ (loads-reads _ _ _ _ _ _ f.loads).0
+          (node g.K.Kind.layout g.K.Kind.rank (g.K.Kind.rank c.args.key.now) s _ c.requires.inner k)) k.from
+          k.below c.in-Some.child.page (g.K.Kind.rank c.in-Some.child.low)
+          (option_map g.K.Kind.rank c.in-Some.child.next) f.tells,
     )
 
 pub returns-in-Ok-clause-reads : goal.returns-in-Ok-clause-reads
@@ -70,11 +81,19 @@ returns-in-Ok-clause-stands g c =
     let f = c.in-Some.ensures.found in
     let k = c.requires.stands in
     record {
-      awaits = subst (λ b. AwaitsNode g.K.Kind.layout (view c.enter.new.pass) c.in-Ok.guard.pid c.in-Ok.guard.word (s.level - 1) (g.K.Kind.rank child.low) b) (sym c.high_fence.ensures)
-          (c.in-Ok.ensures.awaits (s.level - 1) (g.K.Kind.rank child.low) (unwrap_or (option_map g.K.Kind.rank child.next) (fence_of g.K.Kind.layout g.K.Kind.rank s.high)) (goes-on _ _ _ (s.level - 1) (g.K.Kind.rank c.args.key.now) f.loaded _ f.loads.reads (_, f.loads.loads) (g.K.Kind.rank s.low) (fence_of g.K.Kind.layout g.K.Kind.rank s.high)
-          (node-later _ _ _ _ _ _ _ (loads-reads _ _ _ _ _ _ f.loads).0 (node g.K.Kind.layout g.K.Kind.rank (g.K.Kind.rank c.args.key.now) s _ c.requires.inner k)) k.from k.below child.page (g.K.Kind.rank child.low) (option_map g.K.Kind.rank child.next) f.tells));
+      awaits = subst (λ b. AwaitsNode g.K.Kind.layout (view c.enter.new.pass) c.in-Ok.guard.pid c.in-Ok.guard.word
+          (s.level - 1) (g.K.Kind.rank child.low) b) (sym c.high_fence.ensures)
+          (c.in-Ok.ensures.awaits (s.level - 1) (g.K.Kind.rank child.low)
+          (unwrap_or (option_map g.K.Kind.rank child.next) (fence_of g.K.Kind.layout g.K.Kind.rank s.high))
+          (goes-on _ _ _ (s.level - 1) (g.K.Kind.rank c.args.key.now) f.loaded _ f.loads.reads (_, f.loads.loads)
+          (g.K.Kind.rank s.low) (fence_of g.K.Kind.layout g.K.Kind.rank s.high)
+          (node-later _ _ _ _ _ _ _ (loads-reads _ _ _ _ _ _ f.loads).0
+          (node g.K.Kind.layout g.K.Kind.rank (g.K.Kind.rank c.args.key.now) s _ c.requires.inner k)) k.from
+          k.below child.page (g.K.Kind.rank child.low) (option_map g.K.Kind.rank child.next) f.tells));
       from = sides.0;
-      below = subst (λ b. (g.K.Kind.rank c.args.key.now) < b) (sym c.high_fence.ensures) (below-next (g.K.Kind.rank c.args.key.now) (fence_of g.K.Kind.layout g.K.Kind.rank s.high) (option_map g.K.Kind.rank child.next)
+      below = subst (λ b. (g.K.Kind.rank c.args.key.now) < b) (sym c.high_fence.ensures)
+          (below-next (g.K.Kind.rank c.args.key.now) (fence_of g.K.Kind.layout g.K.Kind.rank s.high)
+          (option_map g.K.Kind.rank child.next)
           (sides-next g.K.Kind.rank (g.K.Kind.rank c.args.key.now) child.next sides.1) c.requires.stands.below);
     }
 
@@ -87,8 +106,13 @@ returns-in-Ok-clause-parent g c =
 pub returns-in-Ok-clause-passed : goal.returns-in-Ok-clause-passed
 returns-in-Ok-clause-passed g c =
     let f = c.in-Some.ensures.found in
-    passes-by g.K.Kind.spare _ _ _ (c.args.stand.now.level - 1) _ f.loaded _ _ _ f.loads (above g.K.Kind.layout g.K.Kind.rank (g.K.Kind.rank c.args.key.now) c.args.stand.now _ c.requires.inner c.requires.stands) c.in-Some.child.page
-    (tells-page g.K.Kind.layout f.loaded (g.K.Kind.rank c.args.key.now) c.in-Some.child.page (g.K.Kind.rank c.in-Some.child.low) (option_map g.K.Kind.rank c.in-Some.child.next) f.tells) _ _ _ c.in-Ok.ensures.ok.0 (tree-size _ _ _ c.enter.ensures.ready.table.is_shape.size c.args.words.now.sized.0 c.args.words.now.size.takes) c.in-Ok.ensures.ok.1
+    passes-by g.K.Kind.spare _ _ _ (c.args.stand.now.level - 1) _ f.loaded _ _ _ f.loads
+    (above g.K.Kind.layout g.K.Kind.rank (g.K.Kind.rank c.args.key.now) c.args.stand.now _ c.requires.inner
+    c.requires.stands) c.in-Some.child.page
+    (tells-page g.K.Kind.layout f.loaded (g.K.Kind.rank c.args.key.now) c.in-Some.child.page
+    (g.K.Kind.rank c.in-Some.child.low) (option_map g.K.Kind.rank c.in-Some.child.next) f.tells) _ _ _
+    c.in-Ok.ensures.ok.0 (tree-size _ _ _ c.enter.ensures.goes.ready.table.is_shape.size c.args.words.now.sized.0
+    c.args.words.now.size.takes) c.in-Ok.ensures.ok.1
 
 pub returns-in-Ok-clause-known : goal.returns-in-Ok-clause-known
 returns-in-Ok-clause-known g c shares tells known =
@@ -104,11 +128,16 @@ returns-in-Ok-clause-few g c = place-within _ _ _ _ _ _ _ _ c.in-Some.ensures.fo
 pub returns-in-Err-clause-err : goal.returns-in-Err-clause-err
 returns-in-Err-clause-err g c u o =
     let f = c.in-Some.ensures.found in
-    let page = tells-page g.K.Kind.layout f.loaded (g.K.Kind.rank c.args.key.now) c.in-Some.child.page (g.K.Kind.rank c.in-Some.child.low) (option_map g.K.Kind.rank c.in-Some.child.next) f.tells in
+    let page = tells-page g.K.Kind.layout f.loaded (g.K.Kind.rank c.args.key.now) c.in-Some.child.page
+    (g.K.Kind.rank c.in-Some.child.low) (option_map g.K.Kind.rank c.in-Some.child.next) f.tells in
     turned _ _ _ _ _ c.in-Err.turn u _ _ (opened-loads _ _ _ _ _ _ _ o f.loads)
     (goes-to _ _ _ (c.args.stand.now.level - 1) _ f.loaded _ f.loads.reads (_, f.loads.loads)
-    (awaits-later _ _ _ _ _ _ (loads-reads _ _ _ _ _ _ f.loads).0 (above g.K.Kind.layout g.K.Kind.rank (g.K.Kind.rank c.args.key.now) c.args.stand.now _ c.requires.inner c.requires.stands)) c.in-Some.child.page page)
-    (inr (f.loaded, (_, f.loads.loads), page)) (tree-size _ _ _ c.enter.ensures.ready.table.is_shape.size c.args.words.now.sized.0 c.args.words.now.size.takes) c.in-Err.ensures.err
+    (awaits-later _ _ _ _ _ _ (loads-reads _ _ _ _ _ _ f.loads).0
+    (above g.K.Kind.layout g.K.Kind.rank (g.K.Kind.rank c.args.key.now) c.args.stand.now _ c.requires.inner
+    c.requires.stands)) c.in-Some.child.page page)
+    (inr (f.loaded, (_, f.loads.loads), page))
+    (tree-size _ _ _ c.enter.ensures.goes.ready.table.is_shape.size c.args.words.now.sized.0
+    c.args.words.now.size.takes) c.in-Err.ensures.err
 
 pub returns-in-Err-clause-sure : goal.returns-in-Err-clause-sure
 returns-in-Err-clause-sure g c shares tells known =
@@ -124,12 +153,18 @@ returns-in-Ok-validate_silently-clause-err g c u o =
     let valid = c.in-Ok-validate_silently.ensures.ok in
     let opened = opened-loads _ _ _ _ u _ _ o f.loads in
     let start = (opened-reads _ _ _ u _ opened).0.start in
-    subst (λ t. IsTurnedBack g.K.Kind.layout u (g.K.Kind.rank c.args.key.now) t (view c.validate_silently.new.pass)) (sym c.astray_at.ensures)
+    subst (λ t. IsTurnedBack g.K.Kind.layout u (g.K.Kind.rank c.args.key.now) t (view c.validate_silently.new.pass))
+    (sym c.astray_at.ensures)
     (astray-turn _ _ _ (g.K.Kind.rank c.args.key.now) u _ _ opened
     (untold _ (λ tells.
     let told = ap (λ (y : Origin). y.tells) start ∙ tells in
-    goes-nowhere _ _ _ (c.args.stand.now.level - 1) _ f.loaded _ f.loads.reads (_, f.loads.loads) (awaits-later _ _ _ _ _ _ (loads-reads _ _ _ _ _ _ f.loads).0 (above g.K.Kind.layout g.K.Kind.rank (g.K.Kind.rank c.args.key.now) c.args.stand.now _ c.requires.inner c.requires.stands)) f.tells told
-    (last_of (view c.validate_silently.new.pass) c.args.stand.now.guard.pid).words (valid.size ∙ tree-size _ _ _ c.validate_silently.ensures.ready.table.is_shape.size c.args.words.now.sized.0 c.args.words.now.size.takes) (valid.validates told)))
+    goes-nowhere _ _ _ (c.args.stand.now.level - 1) _ f.loaded _ f.loads.reads (_, f.loads.loads)
+    (awaits-later _ _ _ _ _ _ (loads-reads _ _ _ _ _ _ f.loads).0
+    (above g.K.Kind.layout g.K.Kind.rank (g.K.Kind.rank c.args.key.now) c.args.stand.now _ c.requires.inner
+    c.requires.stands)) f.tells told
+    (last_of (view c.validate_silently.new.pass) c.args.stand.now.guard.pid).words
+    (valid.size ∙ tree-size _ _ _ c.validate_silently.ensures.goes.ready.table.is_shape.size
+    c.args.words.now.sized.0 c.args.words.now.size.takes) (valid.validates told)))
     valid
     (no_tree.childless f.loaded (_, (valid.same_reads _).loads ∙ f.loads.loads) f.tells))
 
@@ -137,17 +172,25 @@ pub returns-in-Ok-validate_silently-clause-sure : goal.returns-in-Ok-validate_si
 returns-in-Ok-validate_silently-clause-sure g c shares tells known =
     let f = c.in-None.ensures.found in
     let valid = c.in-Ok-validate_silently.ensures.ok in
-    let told = c.in-None.ensures.ready.table.tells_is ∙ tells in
+    let told = c.in-None.ensures.goes.ready.table.tells_is ∙ tells in
     absurd
-    (goes-nowhere _ _ _ (c.args.stand.now.level - 1) _ f.loaded _ f.loads.reads (_, f.loads.loads) (awaits-later _ _ _ _ _ _ (loads-reads _ _ _ _ _ _ f.loads).0 (above g.K.Kind.layout g.K.Kind.rank (g.K.Kind.rank c.args.key.now) c.args.stand.now _ c.requires.inner c.requires.stands)) f.tells told
-    (last_of (view c.validate_silently.new.pass) c.args.stand.now.guard.pid).words (valid.size ∙ tree-size _ _ _ c.validate_silently.ensures.ready.table.is_shape.size c.args.words.now.sized.0 c.args.words.now.size.takes) (valid.validates told))
+    (goes-nowhere _ _ _ (c.args.stand.now.level - 1) _ f.loaded _ f.loads.reads (_, f.loads.loads)
+    (awaits-later _ _ _ _ _ _ (loads-reads _ _ _ _ _ _ f.loads).0
+    (above g.K.Kind.layout g.K.Kind.rank (g.K.Kind.rank c.args.key.now) c.args.stand.now _ c.requires.inner
+    c.requires.stands)) f.tells told
+    (last_of (view c.validate_silently.new.pass) c.args.stand.now.guard.pid).words
+    (valid.size ∙ tree-size _ _ _ c.validate_silently.ensures.goes.ready.table.is_shape.size
+    c.args.words.now.sized.0 c.args.words.now.size.takes) (valid.validates told))
 
 pub returns-in-Ok-validate_silently-clause-few : goal.returns-in-Ok-validate_silently-clause-few
-returns-in-Ok-validate_silently-clause-few g c = place-within _ _ _ _ _ _ _ _ c.in-None.ensures.found c.in-Ok-validate_silently.ensures.words
+returns-in-Ok-validate_silently-clause-few g c =
+    place-within _ _ _ _ _ _ _ _ c.in-None.ensures.found c.in-Ok-validate_silently.ensures.words
 
 pub returns-in-Err-validate_silently-clause-err : goal.returns-in-Err-validate_silently-clause-err
 returns-in-Err-validate_silently-clause-err g c u o =
-    let loads = c.in-None.ensures.found.loads in refused-turn _ _ _ g.K.Kind.layout (g.K.Kind.rank c.args.key.now) _ u _ _ _ (opened-loads _ _ _ _ _ _ _ o loads) (reads-self _) (leaves-self _ _) c.in-Err-validate_silently.ensures.err
+    let loads = c.in-None.ensures.found.loads in refused-turn _ _ _ g.K.Kind.layout (g.K.Kind.rank c.args.key.now) _ u
+    _ _ _ (opened-loads _ _ _ _ _ _ _ o loads) (reads-self _) (leaves-self _ _)
+    c.in-Err-validate_silently.ensures.err
 
 pub returns-in-Err-validate_silently-clause-sure : goal.returns-in-Err-validate_silently-clause-sure
 returns-in-Err-validate_silently-clause-sure g c shares tells known =
@@ -156,20 +199,30 @@ returns-in-Err-validate_silently-clause-sure g c shares tells known =
     c.in-Err-validate_silently.ensures.sure k.resident.alone (known-at _ _ _ k)
 
 pub returns-in-Err-validate_silently-clause-few : goal.returns-in-Err-validate_silently-clause-few
-returns-in-Err-validate_silently-clause-few g c = place-within _ _ _ _ _ _ _ _ c.in-None.ensures.found c.in-Err-validate_silently.ensures.words
+returns-in-Err-validate_silently-clause-few g c =
+    place-within _ _ _ _ _ _ _ _ c.in-None.ensures.found c.in-Err-validate_silently.ensures.words
 
 pub returns-in-Ok-clause-named : goal.returns-in-Ok-clause-named
 returns-in-Ok-clause-named g c =
     let f = c.in-Some.ensures.found in
-    let page = tells-page g.K.Kind.layout f.loaded (g.K.Kind.rank c.args.key.now) c.in-Some.child.page (g.K.Kind.rank c.in-Some.child.low) (option_map g.K.Kind.rank c.in-Some.child.next) f.tells in
-    (f.loaded, (_, c.in-Ok.ensures.parent.loads ∙ f.loads.loads), subst (TellChild g.K.Kind.layout f.loaded (g.K.Kind.rank c.args.key.now)) (sym c.in-Ok.ensures.ok.0) page)
+    let page = tells-page g.K.Kind.layout f.loaded (g.K.Kind.rank c.args.key.now) c.in-Some.child.page
+    (g.K.Kind.rank c.in-Some.child.low) (option_map g.K.Kind.rank c.in-Some.child.next) f.tells in (
+      f.loaded,
+      (_, c.in-Ok.ensures.parent.loads ∙ f.loads.loads),
+      subst (TellChild g.K.Kind.layout f.loaded (g.K.Kind.rank c.args.key.now)) (sym c.in-Ok.ensures.ok.0) page,
+    )
 
 pub returns-in-Ok-clause-others : goal.returns-in-Ok-clause-others
 returns-in-Ok-clause-others g c q below here =
     let loads = c.in-Some.ensures.found.loads in
     let first = beside-loads q _ _ _ _ _ _ here loads in
-    let then = c.in-Ok.ensures.others q below in
-    (record { reading = then.0.reading ∙ first.same.reading; loads = then.0.loads ∙ first.same.loads }, leaves-then q _ _ _ first.leaves then.1)
+    let then = c.in-Ok.ensures.others q below in (
+      record {
+        reading = then.0.reading ∙ first.same.reading;
+        loads = then.0.loads ∙ first.same.loads;
+      },
+      leaves-then q _ _ _ first.leaves then.1,
+    )
 
 pub returns-in-Ok-clause-beside : goal.returns-in-Ok-clause-beside
 returns-in-Ok-clause-beside g c shares tells known q x ne read =

@@ -23,18 +23,33 @@ pub returns-else-spare_of-left-clause-err : goal.returns-else-spare_of-left-clau
 returns-else-spare_of-left-clause-err g c v key o =
     let k = c.requires.counted in
     subst (λ t. IsTurnedBack g.K.Kind.layout v key t (view c.validate_silently.new.pass)) (sym c.astray_at.ensures)
-    (torn-turn _ _ _ (g.K.Pages.words_of c.read_all.new.into) (view c.args.pass.now) (view c.validate_silently.new.pass) (record { read = view c.read_all.new.pass; loads = c.read_all.ensures.loads; valid = c.in-Ok.ensures.ok }) k.0 c.read_all.ensures.size (tree-size _ _ _ c.validate_silently.ensures.ready.table.is_shape.size c.args.words.now.sized.0 c.args.words.now.size.takes) k.1
+    (torn-turn _ _ _ (g.K.Pages.words_of c.read_all.new.into) (view c.args.pass.now)
+    (view c.validate_silently.new.pass) (record {
+      read = view c.read_all.new.pass;
+      loads = c.read_all.ensures.loads;
+      valid = c.in-Ok.ensures.ok;
+    }) k.0 c.read_all.ensures.size
+    (tree-size _ _ _ c.validate_silently.ensures.goes.ready.table.is_shape.size c.args.words.now.sized.0
+    c.args.words.now.size.takes) k.1
     (λ with. other-spare _ _ _ c.spare_of.ensures c.if-spare_of-left.false (k.2 (g.K.Pages.words_of c.read_all.new.into) with)) key v o)
 
 pub returns-else-spare_of-left-clause-sure : goal.returns-else-spare_of-left-clause-sure
 returns-else-spare_of-left-clause-sure g c tells known =
     let k = c.requires.counted in
-    let here = reread-has _ _ _ (g.K.Pages.words_of c.read_all.new.into) (view c.args.pass.now) (view c.validate_silently.new.pass) (record { read = view c.read_all.new.pass; loads = c.read_all.ensures.loads; valid = c.in-Ok.ensures.ok }) k.0 c.read_all.ensures.size (tree-size _ _ _ c.validate_silently.ensures.ready.table.is_shape.size c.args.words.now.sized.0 c.args.words.now.size.takes) k.1
+    let here = reread-has _ _ _ (g.K.Pages.words_of c.read_all.new.into) (view c.args.pass.now)
+    (view c.validate_silently.new.pass) (record {
+      read = view c.read_all.new.pass;
+      loads = c.read_all.ensures.loads;
+      valid = c.in-Ok.ensures.ok;
+    }) k.0 c.read_all.ensures.size
+    (tree-size _ _ _ c.validate_silently.ensures.goes.ready.table.is_shape.size c.args.words.now.sized.0
+    c.args.words.now.size.takes) k.1
     (c.requires.ready.table.tells_is ∙ tells) in
     absurd (other-spare _ _ _ c.spare_of.ensures c.if-spare_of-left.false (k.2 (g.K.Pages.words_of c.read_all.new.into) here.1))
 
 pub returns-in-Err-clause-err : goal.returns-in-Err-clause-err
-returns-in-Err-clause-err g c v key o = refused-turn _ _ _ g.K.Kind.layout key _ v _ _ _ (opened-loads _ _ _ _ _ _ _ o c.read_all.ensures.loads) (reads-self _) (leaves-self _ _) c.in-Err.ensures.err
+returns-in-Err-clause-err g c v key o = refused-turn _ _ _ g.K.Kind.layout key _ v _ _ _
+    (opened-loads _ _ _ _ _ _ _ o c.read_all.ensures.loads) (reads-self _) (leaves-self _ _) c.in-Err.ensures.err
 
 pub returns-in-Err-clause-sure : goal.returns-in-Err-clause-sure
 returns-in-Err-clause-sure g c tells known =

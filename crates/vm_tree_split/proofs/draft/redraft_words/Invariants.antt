@@ -1,6 +1,6 @@
 use Rattle.std.proofs.Common.{◌<◌, ◌≡◌, length, true}
 use Rattle.vm_rule.specs.Prelude.{draft_of}
-use Rattle.vm_step.specs.Prelude.{IsReady, IsSamePass, view}
+use Rattle.vm_step.specs.Prelude.{GoesOn, view}
 use Rattle.vm_guard.specs.Guards.{IsHolding}
 use Rattle.vm_tree_split.specs.Drafts.{DraftsIn, IsDraftedAmong, IsRedrafted, KnowsSameStates, SetsDiffering}
 use Rattle.vm_tree_split.proofs.draft.redraft_words.Given as goal
@@ -8,8 +8,7 @@ use Rattle.vm_tree_split.proofs.draft.redraft_words.Given as goal
 -- the draft is drafted from the first place on and before i, where blocks tell their words
 abbrev pub invariant-loop-i : goal.invariant-loop-i
 invariant-loop-i g l = record {
-  same : IsSamePass l.fn.pass l.pass;
-  ready : IsReady l.words.table.shared.key g.B.Block.tells l.words.table.shared.table_id l.pass;
+  goes : GoesOn l.words g.B.Block.tells l.fn.pass l.pass;
   holds : IsHolding l.guard.pid l.guard.frame l.guard.version l.guard.dirty (view l.pass);
   guard : (l.guard.pid ≡ l.fn.guard.pid) × (l.guard.version ≡ l.fn.guard.version) × (l.guard.frame ≡ l.fn.guard.frame);
   drafts : DraftsIn l.fn.guard.pid l.fn.guard.frame (view l.fn.pass) (view l.pass);
@@ -18,5 +17,6 @@ invariant-loop-i g l = record {
   differ : SetsDiffering (g.K.Pages.words_of l.before) (g.W.Wanted.words l.after) (view l.fn.pass) (view l.pass);
   size : l.from < l.i → length (g.W.Wanted.words l.after) ≡ g.K.Kind.layout.words;
   drafted : (view l.fn.pass).start.tells ≡ true
-      → IsDraftedAmong l.from l.i (g.K.Pages.words_of l.before) (g.W.Wanted.words l.after) (draft_of (view l.fn.pass) l.fn.guard.pid) (draft_of (view l.pass) l.fn.guard.pid);
+      → IsDraftedAmong l.from l.i (g.K.Pages.words_of l.before) (g.W.Wanted.words l.after)
+      (draft_of (view l.fn.pass) l.fn.guard.pid) (draft_of (view l.pass) l.fn.guard.pid);
 }

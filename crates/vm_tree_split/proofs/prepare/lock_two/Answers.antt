@@ -16,7 +16,8 @@ returns-in-Err-clause-err g c =
 pub upgrade-requires-2-clause-reading : goal.upgrade-requires-2-clause-reading
 upgrade-requires-2-clause-reading g c =
     let l = c.in-Ok.ensures.taken.2 in
-    inl (reading-elsewhere c.args.second.pid c.args.second.word c.args.second.frame c.args.first.pid l.done (view c.args.pass.now) (view c.upgrade.new.pass) c.requires.apart l.elsewhere c.requires.second)
+    inl (reading-elsewhere c.args.second.pid c.args.second.word c.args.second.frame c.args.first.pid l.done
+    (view c.args.pass.now) (view c.upgrade.new.pass) c.requires.apart l.elsewhere c.requires.second)
 
 pub release-requires-clause-owner : goal.release-requires-clause-owner
 release-requires-clause-owner g c =
@@ -28,7 +29,12 @@ release-requires-clause-owner g c =
     λ tells.
     inl (
       none-said _ c.as_ref.result c.as_ref.ensures.variant,
-      subst (λ p. AreUnchanged y.owed (change_of y p ∷ [])) (sym k.0) (n.draft ∙ l.draft ∙ sym (ap (λ (t : Version). t.words) n.last), ap (has c.args.first.pid) (q.group.1 ∙ l.group.1) ∙ l.before.paid, tt),
+      subst (λ p. AreUnchanged y.owed (change_of y p ∷ [])) (sym k.0) (
+        n.draft ∙ l.draft ∙ sym (ap (λ (t : Version). t.words) n.last),
+        ap (has c.args.first.pid)
+            (q.group.1 ∙ l.group.1) ∙ l.before.paid,
+        tt,
+      ),
     )
 
 pub returns-in-Err-upgrade-clause-err : goal.returns-in-Err-upgrade-clause-err
@@ -41,10 +47,21 @@ returns-in-Err-upgrade-clause-err g c =
     let x = view c.upgrade.new.pass in
     let y = view c.upgrade-2.new.pass in
     let w = view c.release.new.pass in
-    let r = subst (λ said. IsReleased up.pid up.version said y w) (none-said _ c.as_ref.result c.as_ref.ensures.variant) c.release.ensures.released in
+    let r = subst (λ said. IsReleased up.pid up.version said y w)
+    (none-said _ c.as_ref.result c.as_ref.ensures.variant) c.release.ensures.released in
     let back = subst (λ p. IsReleased p up.version None y w) k.0 r in (
       d.kind,
-      inr (record { frame = up.frame; version = up.version; dirty = up.dirty; locked = x; done = y; version_is = k.1; taken = l; inner = inl (record { denied = d; last = c.in-Err-upgrade.ensures.unworn }); back = back }),
+      inr (record {
+        frame = up.frame;
+        version = up.version;
+        dirty = up.dirty;
+        locked = x;
+        done = y;
+        version_is = k.1;
+        taken = l;
+        inner = inl (record { denied = d; last = c.in-Err-upgrade.ensures.unworn });
+        back = back;
+      }),
     )
 
 -- ---- a pass that knows both pages to be free
@@ -61,5 +78,6 @@ returns-in-Err-upgrade-clause-sure g c k =
     let up = c.in-Ok.up in
     let v = view c.args.pass.now in
     let x = view c.upgrade.new.pass in
-    only-worn c.args.second.pid c.args.second.word c.in-Err-upgrade.deny x d.denied.kind (locked-alone c.args.first.pid up.frame up.version up.dirty v x l k.alone) k.free.1
+    only-worn c.args.second.pid c.args.second.word c.in-Err-upgrade.deny x d.denied.kind
+    (locked-alone c.args.first.pid up.frame up.version up.dirty v x l k.alone) k.free.1
     (locked-word c.args.first.pid up.frame up.version up.dirty v x l k.alone c.args.second.pid c.requires.apart ∙ k.words.1) d.worn d.sure

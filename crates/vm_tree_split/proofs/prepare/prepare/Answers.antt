@@ -12,10 +12,12 @@ use Rattle.vm_tree_split.proofs.Seeing.{sees-few, sees-next, sees-room, sees-the
 use Rattle.vm_tree_split.proofs.prepare.prepare.Goals as goal
 
 pub take_all-requires-clause-home : goal.take_all-requires-clause-home
-take_all-requires-clause-home g c = let v = view c.args.pass.now in let x = view c.room_for.new.pass in roomy-out v x (sees-room _ v x c.in-Ok.ensures.room) c.requires.home
+take_all-requires-clause-home g c = let v = view c.args.pass.now in let x = view c.room_for.new.pass in
+    roomy-out v x (sees-room _ v x c.in-Ok.ensures.room) c.requires.home
 
 pub take_all-requires-clause-frames : goal.take_all-requires-clause-frames
-take_all-requires-clause-frames g c = let v = view c.args.pass.now in let x = view c.room_for.new.pass in roomy-held v x (sees-room _ v x c.in-Ok.ensures.room) _ c.requires.frames
+take_all-requires-clause-frames g c = let v = view c.args.pass.now in let x = view c.room_for.new.pass in
+    roomy-held v x (sees-room _ v x c.in-Ok.ensures.room) _ c.requires.frames
 
 pub take_all-requires-clause-first : goal.take_all-requires-clause-first
 take_all-requires-clause-first g c =
@@ -35,7 +37,10 @@ pub returns-in-Ok-clause-ok : goal.returns-in-Ok-clause-ok
 returns-in-Ok-clause-ok g c =
     let x = view c.room_for.new.pass in
     let w = view c.take_all.new.pass in
-    IfOk-weaker c.take_all.result (λ all. AreTaken g.K.Kind.layout c.args.n c.args.first c.args.second all.up all.low (guards_of all.pages) x w) (λ all. IsPrepared g.K.Kind.layout c.args.n c.args.first c.args.second all.up all.low (guards_of all.pages) (view c.args.pass.now) w)
+    IfOk-weaker c.take_all.result (λ all. AreTaken g.K.Kind.layout c.args.n c.args.first c.args.second all.up all.low
+    (guards_of all.pages) x w)
+    (λ all. IsPrepared g.K.Kind.layout c.args.n c.args.first c.args.second all.up all.low (guards_of all.pages)
+    (view c.args.pass.now) w)
     (λ all k. record { roomy = x; room = c.in-Ok.ensures.room; taken = k }) c.take_all.ensures.ok
 
 pub returns-in-Ok-clause-lost : goal.returns-in-Ok-clause-lost
@@ -44,8 +49,10 @@ returns-in-Ok-clause-lost g c =
     let x = view c.room_for.new.pass in
     let w = view c.take_all.new.pass in
     let old = c.args.iface.now.frames in
-    IfOk-weaker c.take_all.result (λ all. LosesNone old x (c.take_all.new.iface.frames ++ all.frames) w) (λ all. LosesNone old v (c.take_all.new.iface.frames ++ all.frames) w)
-    (λ all k. loses-then old old (c.take_all.new.iface.frames ++ all.frames) v x w (roomy-loses v x (sees-room _ v x c.in-Ok.ensures.room) old) k) c.take_all.ensures.lost
+    IfOk-weaker c.take_all.result (λ all. LosesNone old x (c.take_all.new.iface.frames ++ all.frames) w)
+    (λ all. LosesNone old v (c.take_all.new.iface.frames ++ all.frames) w)
+    (λ all k. loses-then old old (c.take_all.new.iface.frames ++ all.frames) v x w
+    (roomy-loses v x (sees-room _ v x c.in-Ok.ensures.room) old) k) c.take_all.ensures.lost
 
 pub returns-in-Ok-clause-lost_none : goal.returns-in-Ok-clause-lost_none
 returns-in-Ok-clause-lost_none g c =
@@ -64,8 +71,10 @@ returns-in-Ok-clause-err g c =
     let w = view c.take_all.new.pass in
     let h = c.in-Ok.ensures.room in
     IfErr-weaker c.take_all.result
-    (λ answer. AreHeld c.take_all.new.iface.frames w × KeepsLocksOnly x w × IsUntaken g.K.Kind.layout c.args.n c.args.first c.args.second x w answer)
-    (λ answer. AreHeld c.take_all.new.iface.frames w × KeepsLocksOnly v w × IsUnsplit g.K.Kind.plain g.K.Kind.layout g.K.Kind.spare c.args.n c.args.first c.args.second v w answer)
+    (λ answer. AreHeld c.take_all.new.iface.frames w × KeepsLocksOnly x w × IsUntaken g.K.Kind.layout c.args.n
+    c.args.first c.args.second x w answer)
+    (λ answer. AreHeld c.take_all.new.iface.frames w × KeepsLocksOnly v w × IsUnsplit g.K.Kind.plain g.K.Kind.layout
+    g.K.Kind.spare c.args.n c.args.first c.args.second v w answer)
     (λ answer k. (k.0, keeps-then v x w (roomy-keeps v x (sees-room _ v x h)) k.1, untaken x h k.2)) c.take_all.ensures.err
 
 pub returns-in-Ok-clause-sure : goal.returns-in-Ok-clause-sure

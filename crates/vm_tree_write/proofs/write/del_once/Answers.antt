@@ -20,11 +20,17 @@ missed-requires-clause-reading g c = c.find_in_place.ensures.found.loads.reads
 pub missed-requires-clause-proves : goal.missed-requires-clause-proves
 missed-requires-clause-proves g c =
     let leaf = c.in-Ok.ensures.leaf in
-    let f = c.find_in_place.ensures.found in
-    (leaf.0 ++ f.loaded, loaded-more _ _ _ leaf.0 f.loaded _ _ leaf.1 f.loads, reply-told g.K.Kind.layout leaf.0 f.loaded _ leaf.2 (λ page with covers low high rises. (covers, refl, sym (f.tells page with low high rises) ∙ c.in-None.is)))
+    let f = c.find_in_place.ensures.found in (
+      leaf.0 ++ f.loaded,
+      loaded-more _ _ _ leaf.0 f.loaded _ _ leaf.1 f.loads,
+      reply-told g.K.Kind.layout leaf.0
+          f.loaded _ leaf.2 (λ page with covers low high rises.
+          (covers, refl, sym (f.tells page with low high rises) ∙ c.in-None.is)),
+    )
 
 pub returns-in-None-clause-tried : goal.returns-in-None-clause-tried
-returns-in-None-clause-tried g c = c.missed.ensures.del (view c.args.pass.now) (opened-loads _ _ _ _ _ _ _ c.in-Ok.ensures.reads.1 c.find_in_place.ensures.found.loads)
+returns-in-None-clause-tried g c = c.missed.ensures.del (view c.args.pass.now)
+    (opened-loads _ _ _ _ _ _ _ c.in-Ok.ensures.reads.1 c.find_in_place.ensures.found.loads)
 
 -- ---- it is read whole
 
@@ -39,7 +45,8 @@ pub returns-in-Err-read_leaf-clause-tried : goal.returns-in-Err-read_leaf-clause
 returns-in-Err-read_leaf-clause-tried g c =
     let loads = c.find_in_place.ensures.found.loads in
     c.not_yet-in-Err-read_leaf.ensures.del _ _ _
-    (c.in-Err-read_leaf.ensures.err (view c.args.pass.now) (opened-loads _ _ _ _ _ _ _ c.in-Ok.ensures.reads.1 loads) (awaits-later _ _ _ _ _ _ (loads-reads _ _ _ _ _ _ loads).0 c.in-Ok.ensures.awaits))
+    (c.in-Err-read_leaf.ensures.err (view c.args.pass.now) (opened-loads _ _ _ _ _ _ _ c.in-Ok.ensures.reads.1 loads)
+    (awaits-later _ _ _ _ _ _ (loads-reads _ _ _ _ _ _ loads).0 c.in-Ok.ensures.awaits))
 
 pub missed-requires-in-None-del_edit-clause-reading : goal.missed-requires-in-None-del_edit-clause-reading
 missed-requires-in-None-del_edit-clause-reading g c = c.in_default.ensures.loads.reads
@@ -49,25 +56,40 @@ missed-requires-in-None-del_edit-clause-proves g c =
     let r = c.in_default.ensures in (
       placed 0 (g.K.Pages.words_of c.read_leaf.new.page),
       (_, r.loads.loads),
-      reply-whole g.K.Kind.layout (g.K.Pages.words_of c.read_leaf.new.page) _ r.size (record { leaf = r.leaf.0; covers = r.leaf.1; reply = λ low high rises. (r.leaf.1, refl, sym (c.del_edit.ensures.was low high rises) ∙ ap (option_map (λ r. r.0)) c.in-None-del_edit.is) }),
+      reply-whole g.K.Kind.layout (g.K.Pages.words_of c.read_leaf.new.page) _ r.size (record {
+        leaf = r.leaf.0;
+        covers = r.leaf.1;
+        reply = λ low high rises. (
+          r.leaf.1,
+          refl,
+          sym (c.del_edit.ensures.was low high rises) ∙ ap (option_map (λ r. r.0))
+              c.in-None-del_edit.is,
+        );
+      }),
     )
 
 pub returns-in-None-del_edit-clause-tried : goal.returns-in-None-del_edit-clause-tried
 returns-in-None-del_edit-clause-tried g c =
-    c.missed-in-None-del_edit.ensures.del (view c.args.pass.now) (opened-twice _ _ _ _ _ _ _ _ _ c.in-Ok.ensures.reads.1 c.find_in_place.ensures.found.loads c.in_default.ensures.loads)
+    c.missed-in-None-del_edit.ensures.del (view c.args.pass.now)
+    (opened-twice _ _ _ _ _ _ _ _ _ c.in-Ok.ensures.reads.1 c.find_in_place.ensures.found.loads
+    c.in_default.ensures.loads)
 
 pub take_out-requires-clause-home : goal.take_out-requires-clause-home
-take_out-requires-clause-home g c = (reads-twice _ _ _ _ _ _ _ _ _ c.in-Ok.ensures.reads.0 c.find_in_place.ensures.found.loads c.in_default.ensures.loads).0.out ∙ c.requires.home
+take_out-requires-clause-home g c =
+    (reads-twice _ _ _ _ _ _ _ _ _ c.in-Ok.ensures.reads.0 c.find_in_place.ensures.found.loads
+    c.in_default.ensures.loads).0.out ∙ c.requires.home
 
 pub take_out-requires-clause-there : goal.take_out-requires-clause-there
-take_out-requires-clause-there g c low high rises = sym (ap (option_map (λ r. r.0)) c.in-Some-del_edit.is) ∙ c.del_edit.ensures.was low high rises
+take_out-requires-clause-there g c low high rises =
+    sym (ap (option_map (λ r. r.0)) c.in-Some-del_edit.is) ∙ c.del_edit.ensures.was low high rises
 
 pub take_out-requires-clause-read : goal.take_out-requires-clause-read
 take_out-requires-clause-read g c =
     let loads = c.find_in_place.ensures.found.loads in
     let r = c.in_default.ensures in (
       view c.args.pass.now,
-      above-twice g.K.Kind.layout (view c.args.pass.now) (g.K.Kind.rank c.args.key.now) c.in-Ok.reached _ _ _ _ _ loads r.loads c.in-Ok.ensures.above,
+      above-twice g.K.Kind.layout (view c.args.pass.now) (g.K.Kind.rank c.args.key.now) c.in-Ok.reached _ _ _ _ _
+          loads r.loads c.in-Ok.ensures.above,
       opened-twice _ _ _ _ _ _ _ _ _ c.in-Ok.ensures.reads.1 loads r.loads,
       awaits-twice _ _ _ _ _ _ _ _ loads r.loads _ c.in-Ok.ensures.awaits,
       (_, r.loads.loads),
@@ -77,8 +99,11 @@ pub returns-clause-tried : goal.returns-clause-tried
 returns-clause-tried g c =
     let loads = c.find_in_place.ensures.found.loads in
     let r = c.in_default.ensures in
-    c.take_out.ensures.tried (view c.args.pass.now) (above-twice g.K.Kind.layout (view c.args.pass.now) (g.K.Kind.rank c.args.key.now) c.in-Ok.reached _ _ _ _ _ loads r.loads c.in-Ok.ensures.above)
-    (opened-twice _ _ _ _ _ _ _ _ _ c.in-Ok.ensures.reads.1 loads r.loads) (awaits-twice _ _ _ _ _ _ _ _ loads r.loads _ c.in-Ok.ensures.awaits) (_, r.loads.loads)
+    c.take_out.ensures.tried (view c.args.pass.now)
+    (above-twice g.K.Kind.layout (view c.args.pass.now) (g.K.Kind.rank c.args.key.now) c.in-Ok.reached _ _ _ _ _
+    loads r.loads c.in-Ok.ensures.above)
+    (opened-twice _ _ _ _ _ _ _ _ _ c.in-Ok.ensures.reads.1 loads r.loads)
+    (awaits-twice _ _ _ _ _ _ _ _ loads r.loads _ c.in-Ok.ensures.awaits) (_, r.loads.loads)
 
 -- ---- a pass that knows its pages to be resident
 
@@ -87,22 +112,30 @@ returns-in-Err-clause-sure g c tells resident = absurd (false≢true (c.in-Err.e
 
 pub returns-in-None-clause-sure : goal.returns-in-None-clause-sure
 returns-in-None-clause-sure g c tells resident =
-    let loads = c.find_in_place.ensures.found.loads in c.missed.ensures.sure (known-same _ _ _ _ (loads-reads _ _ _ _ _ _ loads).0 loads.table (c.in-Ok.ensures.known tells resident).0)
+    let loads = c.find_in_place.ensures.found.loads in
+    c.missed.ensures.sure (known-same _ _ _ _ (loads-reads _ _ _ _ _ _ loads).0 loads.table
+    (c.in-Ok.ensures.known tells resident).0)
 
 pub returns-in-Err-read_leaf-clause-sure : goal.returns-in-Err-read_leaf-clause-sure
 returns-in-Err-read_leaf-clause-sure g c tells resident =
     let loads = c.find_in_place.ensures.found.loads in
     let reads = (loads-reads _ _ _ _ _ _ loads).0 in
-    absurd (false≢true (c.in-Err-read_leaf.ensures.sure tells (known-same _ _ _ _ reads loads.table (c.in-Ok.ensures.known tells resident).0) (awaits-later _ _ _ _ _ _ reads c.in-Ok.ensures.awaits)))
+    absurd (false≢true (c.in-Err-read_leaf.ensures.sure tells
+    (known-same _ _ _ _ reads loads.table (c.in-Ok.ensures.known tells resident).0)
+    (awaits-later _ _ _ _ _ _ reads c.in-Ok.ensures.awaits)))
 
 pub returns-in-None-del_edit-clause-sure : goal.returns-in-None-del_edit-clause-sure
-returns-in-None-del_edit-clause-sure g c tells resident = c.missed-in-None-del_edit.ensures.sure (known-twice _ _ _ _ _ _ _ _ c.find_in_place.ensures.found.loads c.in_default.ensures.loads (c.in-Ok.ensures.known tells resident).0)
+returns-in-None-del_edit-clause-sure g c tells resident =
+    c.missed-in-None-del_edit.ensures.sure
+    (known-twice _ _ _ _ _ _ _ _ c.find_in_place.ensures.found.loads c.in_default.ensures.loads
+    (c.in-Ok.ensures.known tells resident).0)
 
 pub returns-clause-sure : goal.returns-clause-sure
 returns-clause-sure g c tells resident =
     let loads = c.find_in_place.ensures.found.loads in
     let known = c.in-Ok.ensures.known tells resident in
-    c.take_out.ensures.sure tells (known-twice _ _ _ _ _ _ _ _ loads c.in_default.ensures.loads known.0) (above-known-twice c.in-Ok.reached _ _ _ _ _ loads c.in_default.ensures.loads known.1)
+    c.take_out.ensures.sure tells (known-twice _ _ _ _ _ _ _ _ loads c.in_default.ensures.loads known.0)
+    (above-known-twice c.in-Ok.reached _ _ _ _ _ loads c.in_default.ensures.loads known.1)
 
 -- ---- what it knows afterwards
 
@@ -111,19 +144,26 @@ returns-in-Err-clause-known g c tells resident = absurd (false≢true (c.in-Err.
 
 pub returns-in-None-clause-known : goal.returns-in-None-clause-known
 returns-in-None-clause-known g c tells resident =
-    let loads = c.find_in_place.ensures.found.loads in c.missed.ensures.known (known-same _ _ _ _ (loads-reads _ _ _ _ _ _ loads).0 loads.table (c.in-Ok.ensures.known tells resident).0)
+    let loads = c.find_in_place.ensures.found.loads in
+    c.missed.ensures.known (known-same _ _ _ _ (loads-reads _ _ _ _ _ _ loads).0 loads.table
+    (c.in-Ok.ensures.known tells resident).0)
 
 pub returns-in-Err-read_leaf-clause-known : goal.returns-in-Err-read_leaf-clause-known
 returns-in-Err-read_leaf-clause-known g c tells resident =
     let loads = c.find_in_place.ensures.found.loads in
     let reads = (loads-reads _ _ _ _ _ _ loads).0 in
-    absurd (false≢true (c.in-Err-read_leaf.ensures.sure tells (known-same _ _ _ _ reads loads.table (c.in-Ok.ensures.known tells resident).0) (awaits-later _ _ _ _ _ _ reads c.in-Ok.ensures.awaits)))
+    absurd (false≢true (c.in-Err-read_leaf.ensures.sure tells
+    (known-same _ _ _ _ reads loads.table (c.in-Ok.ensures.known tells resident).0)
+    (awaits-later _ _ _ _ _ _ reads c.in-Ok.ensures.awaits)))
 
 pub returns-in-None-del_edit-clause-known : goal.returns-in-None-del_edit-clause-known
-returns-in-None-del_edit-clause-known g c tells resident = c.missed-in-None-del_edit.ensures.known (known-twice _ _ _ _ _ _ _ _ c.find_in_place.ensures.found.loads c.in_default.ensures.loads (c.in-Ok.ensures.known tells resident).0)
+returns-in-None-del_edit-clause-known g c tells resident = c.missed-in-None-del_edit.ensures.known
+    (known-twice _ _ _ _ _ _ _ _ c.find_in_place.ensures.found.loads c.in_default.ensures.loads
+    (c.in-Ok.ensures.known tells resident).0)
 
 pub returns-clause-known : goal.returns-clause-known
 returns-clause-known g c tells resident =
     let loads = c.find_in_place.ensures.found.loads in
     let known = c.in-Ok.ensures.known tells resident in
-    c.take_out.ensures.known tells (known-twice _ _ _ _ _ _ _ _ loads c.in_default.ensures.loads known.0) (above-known-twice c.in-Ok.reached _ _ _ _ _ loads c.in_default.ensures.loads known.1)
+    c.take_out.ensures.known tells (known-twice _ _ _ _ _ _ _ _ loads c.in_default.ensures.loads known.0)
+    (above-known-twice c.in-Ok.reached _ _ _ _ _ loads c.in_default.ensures.loads known.1)

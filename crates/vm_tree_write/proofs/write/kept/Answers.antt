@@ -8,13 +8,20 @@ use Rattle.vm_tree_write.proofs.write.kept.Goals as goal
 -- what is said is read as the call that the words prove
 pub answer-requires-clause-proves : goal.answer-requires-clause-proves
 answer-requires-clause-proves g c =
-    let k = c.requires.proves in
-    (k.0, k.1, subst (TellReply g.K.Kind.layout k.0) (sym (swap-said _ (g.K.Kind.rank c.args.key.now) c.args.want c.args.value c.args.there c.outcome.result c.swapped-said.ensures c.outcome.ensures)) k.2)
+    let k = c.requires.proves in (
+      k.0,
+      k.1,
+      subst (TellReply g.K.Kind.layout k.0)
+          (sym (swap-said _ (g.K.Kind.rank c.args.key.now) c.args.want c.args.value c.args.there c.outcome.result
+          c.swapped-said.ensures c.outcome.ensures)) k.2,
+    )
 
 pub returns-in-Ok-clause-swap : goal.returns-in-Ok-clause-swap
 returns-in-Ok-clause-swap g c v o =
-    swap-kept g.K.Kind.plain g.K.Kind.layout (g.K.Kind.plain c.swapped-said.result) (g.K.Kind.rank c.args.key.now) c.args.want c.args.value c.args.there v _ _
-    (swap-said _ (g.K.Kind.rank c.args.key.now) c.args.want c.args.value c.args.there c.outcome.result c.swapped-said.ensures c.outcome.ensures) c.requires.other (opened-reads _ _ _ _ _ o) c.in-Ok.ensures.ok
+    swap-kept g.K.Kind.plain g.K.Kind.layout (g.K.Kind.plain c.swapped-said.result) (g.K.Kind.rank c.args.key.now)
+    c.args.want c.args.value c.args.there v _ _
+    (swap-said _ (g.K.Kind.rank c.args.key.now) c.args.want c.args.value c.args.there c.outcome.result
+    c.swapped-said.ensures c.outcome.ensures) c.requires.other (opened-reads _ _ _ _ _ o) c.in-Ok.ensures.ok
 
 pub returns-clause-swap : goal.returns-clause-swap
 returns-clause-swap g c v o = not-valid g.K.Kind.layout _ _ _ (g.K.Kind.rank c.args.key.now) _ _ _ _ o c.in-Err.ensures.err

@@ -11,10 +11,12 @@ answer-requires-clause-proves g c =
     let k = c.requires.proves in (k.0, k.1, subst (TellReply g.K.Kind.layout k.0) (sym c.gone-said.ensures) k.2)
 
 pub returns-in-Ok-clause-del : goal.returns-in-Ok-clause-del
-returns-in-Ok-clause-del g c v o = del-missed g.K.Kind.plain g.K.Kind.layout (g.K.Kind.plain c.gone-said.result) (g.K.Kind.rank c.args.key.now) v _ _ c.gone-said.ensures (opened-reads _ _ _ _ _ o) c.in-Ok.ensures.ok
+returns-in-Ok-clause-del g c v o = del-missed g.K.Kind.plain g.K.Kind.layout (g.K.Kind.plain c.gone-said.result)
+    (g.K.Kind.rank c.args.key.now) v _ _ c.gone-said.ensures (opened-reads _ _ _ _ _ o) c.in-Ok.ensures.ok
 
 pub returns-clause-del : goal.returns-clause-del
-returns-clause-del g c v o = to-try g.K.Kind.layout (g.K.Kind.rank c.args.key.now) _ _ _ (not-valid g.K.Kind.layout _ _ _ (g.K.Kind.rank c.args.key.now) _ _ _ _ o c.in-Err.ensures.err)
+returns-clause-del g c v o = to-try g.K.Kind.layout (g.K.Kind.rank c.args.key.now) _ _ _
+    (not-valid g.K.Kind.layout _ _ _ (g.K.Kind.rank c.args.key.now) _ _ _ _ o c.in-Err.ensures.err)
 
 pub returns-clause-sure : goal.returns-clause-sure
 returns-clause-sure g c known = absurd (false≢true (c.in-Err.ensures.sure known))

@@ -8,8 +8,10 @@ use Rattle.vm_tree_write.proofs.write.not_yet.Goals as goal
 pub returns-in-Again : goal.returns-in-Again
 returns-in-Again g c = record {
   put = λ key value v w a. not-read g.K.Kind.layout key _ v w (subst (λ t. IsTurnedBack g.K.Kind.layout v key t w) c.in-Again.is a);
-  del = λ key v w a. to-try g.K.Kind.layout key _ v w (not-read g.K.Kind.layout key _ v w (subst (λ t. IsTurnedBack g.K.Kind.layout v key t w) c.in-Again.is a));
-  beside = λ key v w a. let k = subst (λ t. IsTurnedBeside g.K.Kind.layout v key t w) c.in-Again.is a in inl (k.0, inl (inl (shown-wider _ v w k.1)));
+  del = λ key v w a. to-try g.K.Kind.layout key _ v w
+      (not-read g.K.Kind.layout key _ v w (subst (λ t. IsTurnedBack g.K.Kind.layout v key t w) c.in-Again.is a));
+  beside = λ key v w a. let k = subst (λ t. IsTurnedBeside g.K.Kind.layout v key t w) c.in-Again.is a in
+      inl (k.0, inl (inl (shown-wider _ v w k.1)));
   swap = λ key want value v w a. not-read g.K.Kind.layout key _ v w (subst (λ t. IsTurnedBack g.K.Kind.layout v key t w) c.in-Again.is a);
 }
 
@@ -24,7 +26,8 @@ returns-in-Need g c = record {
 pub returns-in-Astray : goal.returns-in-Astray
 returns-in-Astray g c = record {
   put = λ key value v w a. not-there g.K.Kind.layout key _ v w (subst (λ t. IsTurnedBack g.K.Kind.layout v key t w) c.in-Astray.is a);
-  del = λ key v w a. to-try g.K.Kind.layout key _ v w (not-there g.K.Kind.layout key _ v w (subst (λ t. IsTurnedBack g.K.Kind.layout v key t w) c.in-Astray.is a));
+  del = λ key v w a. to-try g.K.Kind.layout key _ v w
+      (not-there g.K.Kind.layout key _ v w (subst (λ t. IsTurnedBack g.K.Kind.layout v key t w) c.in-Astray.is a));
   beside = λ key v w a. let k = subst (λ t. IsTurnedBeside g.K.Kind.layout v key t w) c.in-Astray.is a in inl (k.0, inr k.1);
   swap = λ key want value v w a. not-there g.K.Kind.layout key _ v w (subst (λ t. IsTurnedBack g.K.Kind.layout v key t w) c.in-Astray.is a);
 }

@@ -8,4 +8,6 @@ use Rattle.vm_tree_write.proofs.write.try_swap.Goals as goal
 
 pub returns-in-Done-clause-tried : goal.returns-in-Done-clause-tried
 returns-in-Done-clause-tried g c =
-    subst (λ (o : Outcome). IsSwap g.K.Kind.plain g.K.Kind.layout (g.K.Kind.rank c.args.key.now) c.args.want c.args.value (tries.Done (Swapped o)) (view c.args.pass.now) (view c.swap_once.new.pass)) (sym c.outcome.ensures) c.in-Done.ensures.tried
+    subst (λ (o : Outcome). IsSwap g.K.Kind.plain g.K.Kind.layout (g.K.Kind.rank c.args.key.now) c.args.want
+    c.args.value (tries.Done (Swapped o)) (view c.args.pass.now) (view c.swap_once.new.pass))
+    (sym c.outcome.ensures) c.in-Done.ensures.tried

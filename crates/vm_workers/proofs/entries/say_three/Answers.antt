@@ -18,4 +18,6 @@ returns-clause-said g c =
     let one = c.in_default.ensures.ok in
     let two = c.in_default-validate.ensures.ok in
     let three = c.in_default-validate-2.ensures.ok in
-    says-three (view c.args.pass.now) (view c.start.new.pass) (view c.validate.new.pass) (view c.validate-2.new.pass) (view c.validate-3.new.pass) c.args.p began.quiet.steady.parts.0 one.steady.parts.0 two.steady.parts.0 three.steady.parts.0 began.quiet.mine one.mine two.mine three.mine
+    says-three (view c.args.pass.now) (view c.start.new.pass) (view c.validate.new.pass) (view c.validate-2.new.pass)
+    (view c.validate-3.new.pass) c.args.p began.quiet.steady.parts.0 one.steady.parts.0 two.steady.parts.0
+    three.steady.parts.0 began.quiet.mine one.mine two.mine three.mine

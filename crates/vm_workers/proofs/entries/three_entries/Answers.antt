@@ -7,4 +7,7 @@ pub returns-in-Ok : goal.returns-in-Ok
 returns-in-Ok g c =
     let start = c.in_ok-pool.ensures.view in
     let keeps = c.bring-answer.ensures.keeps in
-    record { told = has-three _ (view c.bring-answer.new.pass) (view c.say_three.new.pass) (keeps.parts.0 ∙ ap (λ u. u.used) start) (keeps.mine ∙ ap (λ u. u.mine) start) c.in-Ok.ensures.said }
+    record {
+      told = has-three _ (view c.bring-answer.new.pass) (view c.say_three.new.pass)
+          (keeps.parts.0 ∙ ap (λ u. u.used) start) (keeps.mine ∙ ap (λ u. u.mine) start) c.in-Ok.ensures.said;
+    }

@@ -7,7 +7,11 @@ returns g c =
     let moves = c.give_all.ensures.given.moves in
     record {
       done = record {
-        may = record { ready = c.give_all.ensures.ready; nothing = nothing-moved _ _ _ moves before.1.nothing; held = record { apart = tt; inside = tt; held = tt } };
+        may = record {
+          ready = c.give_all.ensures.goes.ready;
+          nothing = nothing-moved _ _ _ moves before.1.nothing;
+          held = record { apart = tt; inside = tt; held = tt };
+        };
         parts = parts-then _ _ _ before.2 (record { start = moves.start; used = moves.parts.0; fresh = moves.parts.1 });
       };
     }

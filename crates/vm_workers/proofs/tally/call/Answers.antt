@@ -6,7 +6,9 @@ pub look-requires-clause-owner : goal.look-requires-clause-owner
 look-requires-clause-owner g c = inr (λ _ _ _ _ _ _ _ _. tt)
 
 pub returns-clause-says : goal.returns-clause-says
-returns-clause-says g c = says-on _ _ _ (stays-says _ _ (look-stays _ _ _ _ _ c.look_silently.ensures.told)) (look-says _ _ _ _ _ _ c.look.ensures.told)
+returns-clause-says g c = says-on _ _ _ (stays-says _ _ (look-stays _ _ _ _ _ c.look_silently.ensures.told))
+    (look-says _ _ _ _ _ _ c.look.ensures.told)
 
 pub returns-clause-found : goal.returns-clause-found
-returns-clause-found g c = found-after _ _ _ _ _ _ _ (look-found _ _ _ _ _ _ c.look_silently.ensures.told) (look-found _ _ _ _ _ _ c.look.ensures.told)
+returns-clause-found g c = found-after _ _ _ _ _ _ _ (look-found _ _ _ _ _ _ c.look_silently.ensures.told)
+    (look-found _ _ _ _ _ _ c.look.ensures.told)

@@ -5,11 +5,11 @@ use Rattle.vm_workers.proofs.walk.serve.Goals as goal
 pub loop-i-preserved : goal.loop-i-preserved
 loop-i-preserved g c =
     let inv = c.loop-i.invariant in
-    let same = c.call.ensures.pass in
+    let same = c.call.ensures.goes.same in
     let inside : c.loop-i.i < length c.args.calls.now = c.loop-i-test.true in
     let room : length c.loop-i.replies ≡ length c.args.calls.now = inv.3 in (
       (same.0 ∙ inv.0.0, same.1 ∙ inv.0.1),
-      c.call.ensures.ready,
+      c.call.ensures.goes.ready,
       stays-on _ _ _ inv.2 c.call.ensures.stays,
       length-set c.loop-i.replies c.loop-i.i c.call.result ∙ inv.3,
       found-more c.loop-i.i c.args.calls.now c.loop-i.replies c.call.result _ _ _ inv.4 c.call.ensures.found (omega (arith, inside, room)),

@@ -8,8 +8,13 @@ pub invariant_of-self : goal.invariant_of-self
 invariant_of-self c =
     let is : is_member nat_eq c.args.self.now.numbers.items (c.args.self.now.calls + 1) ≡ true = search rules in
     let more = up_to_gains c.args.self.now.numbers.items c.args.self.now.calls is in
-    let once : c.saturating_add-self.result ≤ c.args.self.now.first + up_to c.args.self.now.numbers.items (c.args.self.now.calls + 1) = omega (arith, more, c.args.self.now.once, c.saturating_add-self.ensures) in
-    record { once = once; within = within_most c.args.self.now.numbers.items (c.args.self.now.calls + 1) c.args.self.now.first c.saturating_add-self.result once (omega (arith, c.saturating_add-self.ensures)) }
+    let once : c.saturating_add-self.result ≤ c.args.self.now.first + up_to c.args.self.now.numbers.items
+    (c.args.self.now.calls + 1) = omega (arith, more, c.args.self.now.once, c.saturating_add-self.ensures) in
+    record {
+      once = once;
+      within = within_most c.args.self.now.numbers.items (c.args.self.now.calls + 1) c.args.self.now.first
+          c.saturating_add-self.result once (omega (arith, c.saturating_add-self.ensures));
+    }
 
 pub invariant_of-self-else-fails : goal.invariant_of-self-else-fails
 invariant_of-self-else-fails c =

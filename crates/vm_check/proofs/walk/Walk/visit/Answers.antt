@@ -11,9 +11,11 @@ returns-in-Some g c =
     let page : c.slot.inside.page ≡ c.args.slot.page = ap (λ (s : Slot). s.page) c.slot.view_is in
     let inside : c.args.slot.page < length c.args.self.now.visited.items = rw c.requires.going.flags c.requires.inside in
     let words = rw page at c.page-page.ensures.page in
-    let found = fault_read (fixed g.row.N) c.args.image.now c.args.self.now.visited.items c.args.slot c.fault.result c.pages.result c.slot.inside.page c.index-was_visited.result.now c.page-page.result.now
+    let found = fault_read (fixed g.row.N) c.args.image.now c.args.self.now.visited.items c.args.slot c.fault.result
+    c.pages.result c.slot.inside.page c.index-was_visited.result.now c.page-page.result.now
     inside c.pages.ensures.pages page c.index-was_visited.ensures words c.fault.ensures in
-    rw page (fault_stops (fixed g.row.N) c.args.image.now c.args.slot (reverse c.args.self.now.slots.items) c.args.self.now.visited.items c.args.self.now.rows.items c.in-Some.why inside (found ∙ c.in-Some.is))
+    rw page (fault_stops (fixed g.row.N) c.args.image.now c.args.slot (reverse c.args.self.now.slots.items)
+    c.args.self.now.visited.items c.args.self.now.rows.items c.in-Some.why inside (found ∙ c.in-Some.is))
 
 -- a leaf
 pub returns-in-Ok : goal.returns-in-Ok
@@ -22,10 +24,12 @@ returns-in-Ok g c =
     let level : c.slot.inside.level ≡ c.args.slot.level = ap (λ (s : Slot). s.level) c.slot.view_is in
     let inside : c.args.slot.page < length c.args.self.now.visited.items = rw c.requires.going.flags c.requires.inside in
     let words = rw page at c.page-page.ensures.page in
-    let found = fault_read (fixed g.row.N) c.args.image.now c.args.self.now.visited.items c.args.slot c.fault.result c.pages.result c.slot.inside.page c.index-was_visited.result.now c.page-page.result.now
+    let found = fault_read (fixed g.row.N) c.args.image.now c.args.self.now.visited.items c.args.slot c.fault.result
+    c.pages.result c.slot.inside.page c.index-was_visited.result.now c.page-page.result.now
     inside c.pages.ensures.pages page c.index-was_visited.ensures words c.fault.ensures in
     let none = found ∙ c.in-None.is in
-    let (below, part) = leaf_passes (fixed g.row.N) _ _ c.args.slot (page_at c.args.image.now c.args.slot.page) none (sym level ∙ c.if-slot-eq0.true) in
+    let (below, part) = leaf_passes (fixed g.row.N) _ _ c.args.slot (page_at c.args.image.now c.args.slot.page) none
+    (sym level ∙ c.if-slot-eq0.true) in
     next_visit (fixed g.row.N) c.args.image.now c.args.slot c.args.self.now _ c.requires.going c.requires.inside none
     (ap (λ (p : ℕ). set c.args.self.now.visited.items p true) page)
     (rw below refl)
@@ -40,12 +44,17 @@ returns-in-Ok-push_children g c =
     let high : unwrap_or c.slot.inside.high (2 ^ 64) ≡ c.args.slot.high = ap (λ (s : Slot). s.high) c.slot.view_is in
     let inside : c.args.slot.page < length c.args.self.now.visited.items = rw c.requires.going.flags c.requires.inside in
     let words = rw page at c.page-page.ensures.page in
-    let found = fault_read (fixed g.row.N) c.args.image.now c.args.self.now.visited.items c.args.slot c.fault.result c.pages.result c.slot.inside.page c.index-was_visited.result.now c.page-page.result.now
+    let found = fault_read (fixed g.row.N) c.args.image.now c.args.self.now.visited.items c.args.slot c.fault.result
+    c.pages.result c.slot.inside.page c.index-was_visited.result.now c.page-page.result.now
     inside c.pages.ensures.pages page c.index-was_visited.ensures words c.fault.ensures in
     let none = found ∙ c.in-None.is in
-    let (below, part, names) = inner_passes (fixed g.row.N) _ _ c.args.slot (page_at c.args.image.now c.args.slot.page) none (λ bottom. c.if-slot-eq0.false (level ∙ bottom)) in
+    let (below, part, names) = inner_passes (fixed g.row.N) _ _ c.args.slot
+    (page_at c.args.image.now c.args.slot.page) none (λ bottom. c.if-slot-eq0.false (level ∙ bottom)) in
     next_visit (fixed g.row.N) c.args.image.now c.args.slot c.args.self.now _ c.requires.going c.requires.inside none
     (ap (λ (p : ℕ). set c.args.self.now.visited.items p true) page)
-    (rw below (c.in-Ok-push_children.ensures ∙ (λ i. children (level i - 1) (fixed_pairs g.row.N (words i)) (high i) ++ reverse c.args.self.now.slots.items)))
+    (rw below (c.in-Ok-push_children.ensures
+    ∙ (λ i. children (level i - 1) (fixed_pairs g.row.N (words i)) (high i) ++ reverse
+    c.args.self.now.slots.items)))
     (rw part (sym (append-nil c.args.self.now.rows.items)))
-    (rw below (inside_children (fixed_pairs g.row.N (page_at c.args.image.now c.args.slot.page)) (length c.args.image.now) _ _ (reverse c.args.self.now.slots.items) names c.requires.going.inside))
+    (rw below (inside_children (fixed_pairs g.row.N (page_at c.args.image.now c.args.slot.page))
+    (length c.args.image.now) _ _ (reverse c.args.self.now.slots.items) names c.requires.going.inside))

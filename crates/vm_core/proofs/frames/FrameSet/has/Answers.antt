@@ -9,4 +9,5 @@ pub returns : goal.returns
 unfolding has_free_bit
 returns c =
     let lt = subst (λ (x : List ℕ). c.args.f / 64 < length x) (sym c.self.view_is) c.requires in
-    rw (← c.self.view_is) (ap (λ y. eqb y 1) (shr_and_one _ _) ∙ ap (λ y. eqb (bit_at y (c.args.f % 64)) 1) (sym (at-value 0 c.self.inside.masks.items (c.args.f / 64) _ lt c.index.ensures)))
+    rw (← c.self.view_is) (ap (λ y. eqb y 1) (shr_and_one _ _) ∙ ap (λ y. eqb (bit_at y (c.args.f % 64)) 1)
+    (sym (at-value 0 c.self.inside.masks.items (c.args.f / 64) _ lt c.index.ensures)))

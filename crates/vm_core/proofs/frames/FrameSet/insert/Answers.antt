@@ -6,4 +6,6 @@ use Rattle.vm_core.proofs.frames.FrameSet.insert.Goals as goal
 pub returns-clause-words : goal.returns-clause-words
 returns-clause-words c =
     let lt = subst (λ (x : List ℕ). c.args.f / 64 < length x) (sym c.self.view_is) c.requires in
-    rw (← c.self.view_is) (ap has_free_bit (at_set 0 c.self.inside.masks.items (c.args.f / 64) _ lt) ∙ inserted-free (at 0 c.self.inside.masks.items) c.args.f _ (at-value 0 c.self.inside.masks.items (c.args.f / 64) _ lt c.index_mut.ensures.value))
+    rw (← c.self.view_is) (ap has_free_bit (at_set 0 c.self.inside.masks.items (c.args.f / 64) _ lt)
+    ∙ inserted-free (at 0 c.self.inside.masks.items) c.args.f _
+    (at-value 0 c.self.inside.masks.items (c.args.f / 64) _ lt c.index_mut.ensures.value))

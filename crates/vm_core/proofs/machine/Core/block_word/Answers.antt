@@ -7,4 +7,5 @@ pub returns : goal.returns
 returns c =
     let r = subst (λ (x : CoreData). c.args.p < x.shape.pages) (sym c.self.view_is) c.requires.page in
     let lp : c.args.p < length c.self.inside.pages.items = omega (arith, c.self.invariant.pages, r) in
-    rw (← c.self.view_is) (c.block_word.ensures ∙ ap (λ (r : Page). slice_index r.block c.args.i) (sym (page-here _ c.args.p _ lp c.index.ensures)))
+    rw (← c.self.view_is) (c.block_word.ensures ∙ ap (λ (r : Page). slice_index r.block c.args.i)
+    (sym (page-here _ c.args.p _ lp c.index.ensures)))

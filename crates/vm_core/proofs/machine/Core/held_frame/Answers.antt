@@ -7,5 +7,6 @@ pub returns : goal.returns
 returns c =
     let n = subst (λ (x : CoreData). NamesActorAndPage (core_of x) c.args.a c.args.p) (sym c.self.view_is) c.requires in
     let lp : c.args.p < length c.self.inside.pages.items = omega (arith, c.self.invariant.pages, n.page) in
-    let frame = subst (λ (r : Page). HeldFrame r c.args.a c.held_frame.result) (sym (page-here _ c.args.p _ lp c.index.ensures)) c.held_frame.ensures in
+    let frame = subst (λ (r : Page). HeldFrame r c.args.a c.held_frame.result)
+    (sym (page-here _ c.args.p _ lp c.index.ensures)) c.held_frame.ensures in
     rw (← c.self.view_is) (owned-frame _ c.args.a c.args.p c.held_frame.result c.self.invariant n frame)

@@ -9,4 +9,5 @@ returns c =
     let m = subst (λ (x : CoreData). MayPut (core_of x) c.args.a c.args.p c.args.f) (sym c.self.view_is) c.requires in
     let la : c.args.a < length c.self.inside.held.items = omega (arith, c.self.invariant.held, m.names.actor) in
     let lp : c.args.p < length c.self.inside.pages.items = omega (arith, c.self.invariant.pages, m.names.page) in
-    rw (← c.self.view_is) (core-installed _ c.args.a c.args.p c.args.f _ _ _ _ lp la c.index_mut-page.ensures.value c.install.ensures.page c.index_mut-row.ensures.value c.remove.ensures.words)
+    rw (← c.self.view_is) (core-installed _ c.args.a c.args.p c.args.f _ _ _ _ lp la c.index_mut-page.ensures.value
+    c.install.ensures.page c.index_mut-row.ensures.value c.remove.ensures.words)

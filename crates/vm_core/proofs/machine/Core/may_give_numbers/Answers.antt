@@ -7,7 +7,8 @@ use Rattle.vm_core.proofs.machine.Core.may_give_numbers.Goals as goal
 
 pub returns-then-spare-mask-eq0 : goal.returns-then-spare-mask-eq0
 returns-then-spare-mask-eq0 c =
-    let both = none-held (at 0 c.args.self.now.spares) c.args.g c.spare.result c.args.mask (sym c.spare.ensures) (omega (arith, c.ranges.mask.fits)) in (
+    let both = none-held (at 0 c.args.self.now.spares) c.args.g c.spare.result c.args.mask (sym c.spare.ensures)
+    (omega (arith, c.ranges.mask.fits)) in (
       (λ t. record {
         names = c.if-not-names_spares.ensures.0 refl;
         some = c.if-mask-eq0.false;
@@ -20,7 +21,8 @@ returns-then-spare-mask-eq0 c =
 
 pub returns-else-spare-mask-eq0 : goal.returns-else-spare-mask-eq0
 returns-else-spare-mask-eq0 c =
-    let both = none-held (at 0 c.args.self.now.spares) c.args.g c.spare.result c.args.mask (sym c.spare.ensures) (omega (arith, c.ranges.mask.fits)) in (
+    let both = none-held (at 0 c.args.self.now.spares) c.args.g c.spare.result c.args.mask (sym c.spare.ensures)
+    (omega (arith, c.ranges.mask.fits)) in (
       (λ t. absurd (c.if-spare-mask-eq0.false (eqb-true _ _ t))),
       (λ m. eq-eqb _ _ (and_comm c.spare.result c.args.mask ∙ both.1 (m.unset refl))),
     )

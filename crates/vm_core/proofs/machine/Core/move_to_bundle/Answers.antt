@@ -9,4 +9,5 @@ returns c =
     let m = subst (λ (x : CoreData). MayGive (core_of x) c.args.a c.args.g c.args.mask) (sym c.self.view_is) c.requires in
     let la : c.args.a < length c.self.inside.held.items = omega (arith, c.self.invariant.held, m.names.actor) in
     let lg : c.args.g < length c.self.inside.bundles.items = omega (arith, c.self.invariant.bundles, m.names.bundle) in
-    rw (← c.self.view_is) (core-given _ c.args.a c.args.g _ c.args.mask c.index_mut-row.result.now _ la lg c.index_mut.ensures.value c.index_mut-row.ensures.value c.remove_all.ensures.words)
+    rw (← c.self.view_is) (core-given _ c.args.a c.args.g _ c.args.mask c.index_mut-row.result.now _ la lg
+    c.index_mut.ensures.value c.index_mut-row.ensures.value c.remove_all.ensures.words)

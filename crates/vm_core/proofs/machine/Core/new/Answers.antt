@@ -7,7 +7,9 @@ pub returns : goal.returns
 returns c =
     let n : c.bundle_count-count.result ≡ (c.args.shape.frames + 63) / 64 = c.bundle_count-count.ensures in
     let m : c.bundle_count-words.result ≡ (c.args.shape.pages + 63) / 64 = c.bundle_count-words.ensures in
-    let lists : StartLists c.args.shape c.in_ok-pages.pages.items c.in_ok-frames.frames.items c.in_ok-bundles.bundles.items c.in_ok-held.held.items c.in_ok-owners.owners.items c.in_ok-spares.spares.items c.in_ok-numbers.numbers.items =
+    let lists : StartLists c.args.shape c.in_ok-pages.pages.items c.in_ok-frames.frames.items
+    c.in_ok-bundles.bundles.items c.in_ok-held.held.items c.in_ok-owners.owners.items c.in_ok-spares.spares.items
+    c.in_ok-numbers.numbers.items =
     record {
       pages_are = c.in_ok-pages.ensures;
       frames_are = c.in_ok-frames.ensures;

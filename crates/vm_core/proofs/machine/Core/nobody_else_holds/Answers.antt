@@ -9,7 +9,8 @@ use Rattle.vm_core.proofs.machine.Core.nobody_else_holds.Goals as goal
 pub returns-then-has_any : goal.returns-then-has_any
 returns-then-has_any c =
     let la : c.loop-b.b < length c.self.inside.numbers.items = omega (arith, c.self.invariant.numbers, c.loop-b-test.true) in
-    let row : (p : ℕ) → has_free_bit (at 0 c.index.result.now) p ≡ held_of c.self.inside.numbers.items c.loop-b.b p = λ p. held-row _ c.loop-b.b p c.index.result.now la c.index.ensures in
+    let row : (p : ℕ) → has_free_bit (at 0 c.index.result.now) p ≡ held_of c.self.inside.numbers.items c.loop-b.b p =
+    λ p. held-row _ c.loop-b.b p c.index.result.now la c.index.ensures in
     rw (← c.self.view_is) (
       (λ t. absurd (false≢true t)),
       (λ h. sym (c.has_any.ensures.1 (λ p q. row p ∙ h c.loop-b.b p c.if-b-a.true q)) ∙ c.if-has_any.true),
@@ -20,7 +21,8 @@ loop-b-preserved c =
     let la : c.loop-b.b < length c.self.inside.numbers.items = omega (arith, c.self.invariant.numbers, c.loop-b-test.true) in
     below_more _ _ c.loop-b.invariant
     (rw (← c.self.view_is) (λ p ne q. elim c.else-b-a.branch [
-      | else-b-a-via-then-b-a+else-has_any w ↦ sym (held-row _ c.loop-b.b p w.index.result.now la w.index.ensures) ∙ w.has_any.ensures.0 w.if-has_any.false p q
+      | else-b-a-via-then-b-a+else-has_any w ↦ sym (held-row _ c.loop-b.b p w.index.result.now la w.index.ensures)
+          ∙ w.has_any.ensures.0 w.if-has_any.false p q
       | else-b-a-via-else-b-a w ↦ absurd (ne w.if-b-a.false)
     ]))
 

@@ -5,6 +5,7 @@ use Rattle.vm_core.proofs.page.PageCell.set_read_frame.Goals as goal
 
 pub invariant_of-self : goal.invariant_of-self
 invariant_of-self c =
-    let lt : c.args.a < length c.self.inside.seats.items = subst (λ (r : PageData). c.args.a < length r.seats) (sym c.self.view_is) c.requires in
+    let lt : c.args.a < length c.self.inside.seats.items = subst (λ (r : PageData). c.args.a < length r.seats)
+    (sym c.self.view_is) c.requires in
     locks-write _ _ _ _ _ (λ s. record s { reading = c.framed-reading.result }) lt c.index_mut.ensures.value
     (locks-seat _ _ _ _ _ _ c.self.invariant refl refl refl)

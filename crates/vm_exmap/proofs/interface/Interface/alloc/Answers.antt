@@ -5,21 +5,28 @@ use Rattle.vm_exmap.proofs.interface.Interface.alloc.Goals as goal
 
 pub returns-then-not-is_empty-clause-held : goal.returns-then-not-is_empty-clause-held
 returns-then-not-is_empty-clause-held g c =
-    held-rest c.hand_out.result c.hand_out.new.self.frames (view c.args.pass.now) (subst (λ (l : List ℕ). AreHeld l (view c.args.pass.now)) c.hand_out.ensures.hands.all c.requires.frames)
+    held-rest c.hand_out.result c.hand_out.new.self.frames (view c.args.pass.now)
+    (subst (λ (l : List ℕ). AreHeld l (view c.args.pass.now)) c.hand_out.ensures.hands.all c.requires.frames)
 
 pub returns-in-Batch-clause-answer : goal.returns-in-Batch-clause-answer
 returns-in-Batch-clause-answer g c =
-    found-answer _ _ _ _ _ _ _ (is-empty _ _ c.is_empty.ensures c.if-not-is_empty.false) c.max.ensures _ _ _ c.in-Batch.ensures.walk c.hand_out-in-Batch.ensures.hands
+    found-answer _ _ _ _ _ _ _ (is-empty _ _ c.is_empty.ensures c.if-not-is_empty.false) c.max.ensures _ _ _
+    c.in-Batch.ensures.walk c.hand_out-in-Batch.ensures.hands
 
 pub returns-in-Batch-clause-held : goal.returns-in-Batch-clause-held
 returns-in-Batch-clause-held g c =
-    held-rest c.hand_out-in-Batch.result c.hand_out-in-Batch.new.self.frames (view c.walk.new.pass) (subst (λ (l : List ℕ). AreHeld l (view c.walk.new.pass)) c.hand_out-in-Batch.ensures.hands.all c.in-Batch.ensures.walk.held)
+    held-rest c.hand_out-in-Batch.result c.hand_out-in-Batch.new.self.frames (view c.walk.new.pass)
+    (subst (λ (l : List ℕ). AreHeld l (view c.walk.new.pass)) c.hand_out-in-Batch.ensures.hands.all
+    c.in-Batch.ensures.walk.held)
 
 pub returns-in-Dry-clause-answer : goal.returns-in-Dry-clause-answer
-returns-in-Dry-clause-answer g c = dry-answer _ _ _ _ _ _ _ (is-empty _ _ c.is_empty.ensures c.if-not-is_empty.false) c.max.ensures c.in-Dry.ensures.walk
+returns-in-Dry-clause-answer g c = dry-answer _ _ _ _ _ _ _ (is-empty _ _ c.is_empty.ensures c.if-not-is_empty.false)
+    c.max.ensures c.in-Dry.ensures.walk
 
 pub returns-in-Again-clause-answer : goal.returns-in-Again-clause-answer
-returns-in-Again-clause-answer g c = lost-answer _ _ _ _ _ _ _ (is-empty _ _ c.is_empty.ensures c.if-not-is_empty.false) c.max.ensures _ c.in-Again.ensures.walk
+returns-in-Again-clause-answer g c =
+    lost-answer _ _ _ _ _ _ _ (is-empty _ _ c.is_empty.ensures c.if-not-is_empty.false) c.max.ensures _
+    c.in-Again.ensures.walk
 
 pub returns-in-Again-clause-sure : goal.returns-in-Again-clause-sure
 returns-in-Again-clause-sure g c a = c.in-Again.ensures.walk.others a

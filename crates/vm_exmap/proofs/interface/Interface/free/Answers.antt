@@ -10,7 +10,8 @@ give_back-requires-clause-frames g c =
     let old : List ℕ = c.args.self.now.frames in
     let parts : c.args.frames ≡ kept ++ given = sym c.as_slice.ensures.value ∙ c.split_at.ensures.by_index.0 in
     held-rest (old ++ kept) given (view c.args.pass.now)
-    (subst (λ (l : List ℕ). AreHeld l (view c.args.pass.now)) (ap (λ (l : List ℕ). old ++ l) parts ∙ sym (append_assoc old kept given)) c.requires.frames)
+    (subst (λ (l : List ℕ). AreHeld l (view c.args.pass.now))
+    (ap (λ (l : List ℕ). old ++ l) parts ∙ sym (append_assoc old kept given)) c.requires.frames)
 
 pub returns-clause-held : goal.returns-clause-held
 returns-clause-held g c =
@@ -20,4 +21,6 @@ returns-clause-held g c =
     let parts : c.args.frames ≡ kept ++ given = sym c.as_slice.ensures.value ∙ c.split_at.ensures.by_index.0 in
     subst (λ (l : List ℕ). AreHeld l (view c.give_back.new.pass)) (sym c.append.ensures)
     (held-still (old ++ kept) given (view c.args.pass.now)
-    (subst (λ (l : List ℕ). AreHeld l (view c.args.pass.now)) (ap (λ (l : List ℕ). old ++ l) parts ∙ sym (append_assoc old kept given)) c.requires.frames) (view c.give_back.new.pass) c.give_back.ensures.given)
+    (subst (λ (l : List ℕ). AreHeld l (view c.args.pass.now))
+    (ap (λ (l : List ℕ). old ++ l) parts ∙ sym (append_assoc old kept given)) c.requires.frames)
+    (view c.give_back.new.pass) c.give_back.ensures.given)

@@ -5,7 +5,8 @@ use Rattle.vm_guard.proofs.opt.OptGuard.upgrade.Goals as goal
 
 pub returns-then-version-eq-MAX_VERSION-clause-denied : goal.returns-then-version-eq-MAX_VERSION-clause-denied
 returns-then-version-eq-MAX_VERSION-clause-denied g c =
-    worn g.U.Owner.tied _ _ c.args.self.frame _ _ _ c.look_silently.ensures.told c.requires.reading (sym c.version.ensures ∙ c.if-version-eq-MAX_VERSION.true)
+    worn g.U.Owner.tied _ _ c.args.self.frame _ _ _ c.look_silently.ensures.told c.requires.reading
+    (sym c.version.ensures ∙ c.if-version-eq-MAX_VERSION.true)
 
 pub unlocked-expects-requires-clause-readable : goal.unlocked-expects-requires-clause-readable
 unlocked-expects-requires-clause-readable g c = ⊎_elim (λ r. r.open_word) (λ h. h.open_word) c.requires.reading
@@ -23,7 +24,8 @@ pub standing-stands-requires-clause-resident : goal.standing-stands-requires-cla
 standing-stands-requires-clause-resident g c = lock-resident c.in-Taken.ensures.told c.unlocked-expects.ensures.expects.resident
 
 pub returns-in-Lost-clause-denied : goal.returns-in-Lost-clause-denied
-returns-in-Lost-clause-denied g c = lost g.U.Owner.tied _ _ c.args.self.frame _ _ _ _ c.in-Lost.ensures.told (c.in-Lost.ensures.lost _ refl) c.unlocked-expects.ensures.kept
+returns-in-Lost-clause-denied g c = lost g.U.Owner.tied _ _ c.args.self.frame _ _ _ _ c.in-Lost.ensures.told
+    (c.in-Lost.ensures.lost _ refl) c.unlocked-expects.ensures.kept
 
 pub returns-in-Taken-clause-taken : goal.returns-in-Taken-clause-taken
 returns-in-Taken-clause-taken g c =
@@ -43,7 +45,8 @@ returns-then-version-eq-MAX_VERSION-clause-sure g c a free known below =
 pub returns-in-Lost-clause-sure : goal.returns-in-Lost-clause-sure
 returns-in-Lost-clause-sure g c a free known below =
     let lost = c.in-Lost.ensures in
-    absurd (upgrade-sure g.U.Owner.tied c.args.self.pid c.args.self.word _ _ _ _ lost.told c.unlocked-expects.ensures.kept c.unlocked-expects.ensures.expects.may_lock (lost.lost _ refl) a free known)
+    absurd (upgrade-sure g.U.Owner.tied c.args.self.pid c.args.self.word _ _ _ _ lost.told
+    c.unlocked-expects.ensures.kept c.unlocked-expects.ensures.expects.may_lock (lost.lost _ refl) a free known)
 
 pub returns-then-version-eq-MAX_VERSION-clause-bare : goal.returns-then-version-eq-MAX_VERSION-clause-bare
 returns-then-version-eq-MAX_VERSION-clause-bare g c = looked-bare c.look_silently.ensures.told

@@ -1,14 +1,16 @@
 -- `new` makes the empty struct, with what the clause names.
 use base.Logic.{emp, ent, fst∗, SProp, via}
 use contract.{Monad.Fun, Running.tables, Running.tables_of}
-use denote.{RattleType.owns, Shadow.pure_i, Triple.Entry.alive, Triple.Entry.on_entry, Triple.Spec.Meets, Triple.Spec.triple_of, Triple.Table.entered}
+use denote.{RattleType.owns, Shadow.pure_i, Triple.Entry.alive, Triple.Entry.on_entry, Triple.Spec.Meets}
+use denote.{Triple.Spec.triple_of, Triple.Table.entered}
 use denote.Triple.Walked.{ends_at, says, Stays, walk_Meets, walk_of, walked, Walks}
 use mathlib.Core.{List.[], List.◌∷◌, Path.refl}
 use mir.Val.{vnil, vstruct}
 use prog.{Memory.Memory, Routine.Routine, Wp.Calls, Wp.Loops, Wp.Tables, Wp.WpFn}
 use seplogic.Ra.Ura.{Ura}
 use sound.WpLaws.{WpFn-mono}
-use types.{ByLocal.alloc_all, ByLocal.free_all, ByLocal.look_at, ByLocal.pass_all, ByLocal.sets, Logic.Logic, Part.agg, Run.enter, Run.no_more, Run.returns}
+use types.{ByLocal.alloc_all, ByLocal.free_all, ByLocal.look_at, ByLocal.pass_all, ByLocal.sets, Logic.Logic}
+use types.{Part.agg, Run.enter, Run.no_more, Run.returns}
 use types.Kit.{ !, ‵, ◌$◌, ◌∵◌, done, move, qed, raw, suffices}
 use Rattle.vm_rule.specs.{contracts.began.Began.new.Key.name as key, declared.began.Began.Began}
 use Rattle.vm_rule.specs.contracts.began.Began as made
@@ -25,7 +27,8 @@ module _ {M : Type 1} {𝓤 : Ura M} (𝓛 : Logic 𝓤) (mem : Memory → SProp
   abbrev bound : Began → (walk_of 𝓛 f.ended stayed (f.clauses 𝓛 mem run)).Ghost
   bound told = ((tt, tt, tt, tt, tt), told)
 
-  walk : (told : Began) → ent 𝓤 (on_entry 𝓛 f.signature tt tt tt tt) (WpFn 𝓤 H C Λ code.function [] ((walk_of 𝓛 f.ended stayed (f.clauses 𝓛 mem run)).post (bound told)))
+  walk : (told : Began) → ent 𝓤 (on_entry 𝓛 f.signature tt tt tt tt)
+      (WpFn 𝓤 H C Λ code.function [] ((walk_of 𝓛 f.ended stayed (f.clauses 𝓛 mem run)).post (bound told)))
   walk told =
       qed 𝓛 (raw (alive 𝓛 f.signature tt tt) ∷ ‵ (owns [] tt tt) ∷ []) ∵ enter ! C Λ code.function [] _ $
       alloc_all ! (λ l. pass_all ! refl tt $ sets ! (agg ! (no_more !)) refl (tt, tt) $

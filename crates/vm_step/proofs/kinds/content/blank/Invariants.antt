@@ -1,10 +1,10 @@
-use Rattle.vm_step.proofs.Prelude.{IsReady, IsSamePass, replicate, Stores, view}
+use Rattle.vm_step.proofs.Prelude.{replicate, Stores, view}
+use Rattle.vm_step.specs.Prelude.{GoesOn}
 use Rattle.vm_step.proofs.kinds.content.blank.Given as goal
 
 -- so many zeros were stored
 abbrev pub invariant-loop-i : goal.invariant-loop-i
 invariant-loop-i g l = record {
-  ready : IsReady l.words.table.shared.key g.B.Block.tells l.words.table.shared.table_id l.pass;
-  same : IsSamePass l.fn.pass l.pass;
+  goes : GoesOn l.words g.B.Block.tells l.fn.pass l.pass;
   stores : Stores l.frame 0 (replicate l.i 0) (view l.fn.pass) (view l.pass);
 }

@@ -2,4 +2,8 @@ use Rattle.vm_step.proofs.Prelude.{MARKED, MarkTold, told_of, version_of, word_o
 use Rattle.vm_step.proofs.kinds.mark.mark.Given as goal
 
 abbrev pub ghosts-compare_exchange : goal.ghosts-compare_exchange
-ghosts-compare_exchange g a = record { told = told_of a.words.now.table.shared.key g.B.Block.tells (λ n v w. MarkTold a._about a.expects n (word_of MARKED (version_of a.expects)) v w) }
+ghosts-compare_exchange g a =
+    record {
+      told = told_of a.words.now.table.shared.key g.B.Block.tells
+          (λ n v w. MarkTold a._about a.expects n (word_of MARKED (version_of a.expects)) v w);
+    }

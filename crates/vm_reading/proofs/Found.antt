@@ -1,0 +1,69 @@
+-- What was read of files, as what the files hold.
+use Rattle.std.proofs.Common.{ℕ, List, Option, Result, Ok, Err, sym, subst, arith}
+use Rattle.vm_io.specs.Shown.{Shown}
+use Rattle.vm_io.specs.Loops.{ReadsWhole}
+use Rattle.vm_tree_model.specs.Fixed.{fixed}
+use Rattle.vm_image.specs.File.{IsPageFile, pages_of_bytes, words_of_file}
+use Rattle.vm_check.specs.Rows.{AreRows}
+use Rattle.vm_check.specs.declared.rows.Rows.{Rows}
+use Rattle.vm_reading.specs.declared.reading.ReadTree.{ReadTree}
+use Rattle.vm_reading.specs.declared.reading.StoredTree.{StoredTree}
+use Rattle.vm_reading.specs.declared.reading.StoredTree.TheVariants.{Words64, Words512}
+use Rattle.vm_endings.specs.declared.stop.Stop.{Stop}
+use Rattle.vm_endings.specs.declared.stop.Stop.TheVariants.{Length, Page}
+use Rattle.vm_endings.specs.declared.undone.Undone.{Undone}
+use Rattle.vm_endings.specs.declared.undone.Undone.TheVariants.{Stopped, Memory}
+use Rattle.vm_endings.specs.Endings.{HasReadCause}
+use Rattle.vm_endings.specs.Files.{HasFile}
+use Rattle.vm_endings.specs.Images.{HoldsNoTree, IsTreeFile, layout_of_file, most_image, pages_of_file}
+use Rattle.vm_endings.specs.Tests.{image, Passes}
+use Rattle.vm_reading.specs.Readings.{IsStoredIn, IsStoredTree, ReadsTree, TellsNoTree, TellsTree, rows_in}
+use Rattle.vm_reading.proofs.Files.{has_file, page_file, wrong_length}
+
+-- the bytes are a page file whose pages are a tree with these rows
+pub record HasRows (rows : Rows) (bytes : List ℕ) : Type 0 where
+  pub file : IsPageFile (words_of_file bytes) bytes
+  pub are : AreRows (layout_of_file bytes) (pages_of_file bytes) rows
+
+pub stored-rows : (n : ℕ) (stored : ReadTree n) (bytes : List ℕ) → IsStoredIn n stored bytes → HasRows stored.rows bytes
+stored-rows n stored bytes is = record {
+  file = subst (λ k. IsPageFile k bytes) (sym is.words) is.file;
+  are = subst (λ k. AreRows (fixed k) (pages_of_bytes k bytes) stored.rows) (sym is.words) is.rows;
+}
+
+pub tree-rows : (tree : StoredTree) (bytes : List ℕ) → IsStoredTree tree bytes → HasRows (rows_in tree) bytes
+tree-rows (Words64 stored) bytes is = stored-rows 64 stored bytes is
+tree-rows (Words512 stored) bytes is = stored-rows 512 stored bytes is
+
+pub rows-file : (rows : Rows) (bytes : List ℕ) → HasRows rows bytes → IsTreeFile bytes
+rows-file rows bytes is = record { file = is.file; tree = is.are.tree }
+
+-- a page file that was read passes its test
+pub rows-pass : (shown : Option Shown) (name : List ℕ) (rows : Rows) → HasFile shown name (HasRows rows) → Passes shown (image name)
+rows-pass shown name rows has = has_file shown name (HasRows rows) IsTreeFile (rows-file rows) has
+
+-- what the bytes read tell is told of the file
+none-told : (shown : Option Shown) (failed name found : List ℕ) (undone : Undone Stop)
+    → ReadsWhole shown name most_image found → TellsNoTree found undone → ReadsTree shown failed name (Err undone)
+none-told shown failed name found Memory w t = tt
+none-told shown failed name found (Stopped (Length len)) w t = wrong_length shown name found len w t.0 t.1
+none-told shown failed name found (Stopped (Page page why)) w t =
+    page_file shown name found (λ bytes. HoldsNoTree bytes page why) w t.file t
+none-told shown failed name found (Stopped _) w t = absurd t
+
+pub tree-told : (shown : Option Shown) (failed name found : List ℕ) (r : Result StoredTree (Undone Stop))
+    → ReadsWhole shown name most_image found → TellsTree found r → ReadsTree shown failed name r
+tree-told shown failed name found (Ok tree) w t = page_file shown name found (IsStoredTree tree) w (tree-rows tree found t).file t
+tree-told shown failed name found (Err undone) w t = none-told shown failed name found undone w t
+
+-- bytes that were read cause no fault of reading
+none-cause : (found : List ℕ) (before now : ℕ) (undone : Undone Stop) → TellsNoTree found undone
+    → HasReadCause {V = StoredTree} before now (Err undone)
+none-cause found before now Memory t = tt
+none-cause found before now (Stopped (Length len)) t = λ two. absurd (omega arith)
+none-cause found before now (Stopped (Page page why)) t = λ two. absurd (omega arith)
+none-cause found before now (Stopped _) t = absurd t
+
+pub tree-cause : (found : List ℕ) (before now : ℕ) (r : Result StoredTree (Undone Stop)) → TellsTree found r → HasReadCause before now r
+tree-cause found before now (Ok tree) t = tt
+tree-cause found before now (Err undone) t = none-cause found before now undone t

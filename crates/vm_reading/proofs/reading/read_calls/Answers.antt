@@ -1,0 +1,32 @@
+use Rattle.std.proofs.Common.{refl}
+use Rattle.vm_script.specs.Scripts.{most_bytes}
+use Rattle.vm_drive.specs.Drives.{items_of}
+use Rattle.vm_endings.specs.Scripts.{IsBadScript, IsScriptOf}
+use Rattle.vm_reading.proofs.Files.{short_file, long_file, few_script, askable_script}
+use Rattle.vm_reading.proofs.reading.read_calls.Goals as goal
+
+pub returns-in-Ok-read_script-clause-reads : goal.returns-in-Ok-read_script-clause-reads
+returns-in-Ok-read_script-clause-reads g c =
+    let k = rw c.as_slice.ensures.value at c.in-Ok-read_script.ensures.reading in
+    short_file _ _ _ most_bytes (IsScriptOf c.args.workers (items_of c.in-Ok-read_script.lists.items))
+    c.in-Ok.ensures.whole k.0 (record { short = k.0; reads = k.1 })
+
+pub returns-in-Ok-read_script-clause-few : goal.returns-in-Ok-read_script-clause-few
+returns-in-Ok-read_script-clause-few g c = few_script _ _ _ c.in-Ok-read_script.ensures.reading.1
+
+pub returns-in-Ok-read_script-clause-askable : goal.returns-in-Ok-read_script-clause-askable
+returns-in-Ok-read_script-clause-askable g c = askable_script _ _ _ c.in-Ok-read_script.ensures.reading.1
+
+pub returns-in-Err-Long-clause-reads : goal.returns-in-Err-Long-clause-reads
+returns-in-Err-Long-clause-reads g c =
+    let k = rw c.in-Err-Long.field-0-is at c.in-Err-Long.ensures.reading in
+    (refl, long_file _ _ _ _ c.in-Ok.ensures.whole (rw c.as_slice.ensures.value at k))
+
+pub returns-in-Err-Line-clause-reads : goal.returns-in-Err-Line-clause-reads
+returns-in-Err-Line-clause-reads g c =
+    let k = rw c.in-Err-Line.field-0-is at c.in-Err-Line.ensures.reading in
+    let h = rw c.as_slice.ensures.value at k in (
+      refl,
+      short_file _ _ _ most_bytes (IsBadScript c.args.workers c.in-Err-Line.line) c.in-Ok.ensures.whole h.0
+          (record { short = h.0; first = h.1 }),
+    )

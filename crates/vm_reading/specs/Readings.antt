@@ -1,0 +1,65 @@
+-- What the readers of files answer.
+use Rattle.std.specs.Prelude.{ℕ, ◌≡◌, List, length, Option, Result, Ok, Err}
+use Rattle.vm_io.specs.Shown.{Shown}
+use Rattle.vm_map.specs.declared.call.Call.{Call}
+use Rattle.vm_tree_model.specs.Fixed.{fixed}
+use Rattle.vm_image.specs.File.{IsPageFile, pages_of_bytes, words_of_file}
+use Rattle.vm_check.specs.Rows.{AreRows}
+use Rattle.vm_check.specs.declared.rows.Rows.{Rows}
+use Rattle.vm_reading.specs.declared.reading.ReadTree.{ReadTree}
+use Rattle.vm_reading.specs.declared.reading.StoredTree.{StoredTree}
+use Rattle.vm_reading.specs.declared.reading.StoredTree.TheVariants.{Words64, Words512}
+use Rattle.vm_endings.specs.declared.stop.Stop.{Stop}
+use Rattle.vm_endings.specs.declared.stop.Stop.TheVariants.{Length, Page}
+use Rattle.vm_endings.specs.declared.undone.Undone.{Undone}
+use Rattle.vm_endings.specs.declared.undone.Undone.TheVariants.{Stopped, Memory}
+use Rattle.vm_endings.specs.Files.{HasFile}
+use Rattle.vm_endings.specs.Images.{HoldsNoTree}
+use Rattle.vm_endings.specs.Scripts.{IsScriptOf}
+use Rattle.vm_endings.specs.Tests.{Fails, image, script}
+
+-- the bytes are a page file with pages of n words, which are a tree; these are its pages and its rows
+pub record IsStoredIn (n : ℕ) (stored : ReadTree n) (bytes : List ℕ) : Type 0 where
+  pub words : words_of_file bytes ≡ n
+  pub file : IsPageFile n bytes
+  pub pages : stored.image ≡ pages_of_bytes n bytes
+  pub rows : AreRows (fixed n) (pages_of_bytes n bytes) stored.rows
+
+-- the same, of either size
+abbrev pub IsStoredTree : StoredTree → List ℕ → Type 0
+IsStoredTree (Words64 stored) bytes = IsStoredIn 64 stored bytes
+IsStoredTree (Words512 stored) bytes = IsStoredIn 512 stored bytes
+
+-- what the tree holds
+abbrev pub rows_in : StoredTree → Rows
+rows_in (Words64 stored) = stored.rows
+rows_in (Words512 stored) = stored.rows
+
+-- why the bytes give no tree: they are no page file, or its pages are none
+abbrev pub TellsNoTree : List ℕ → Undone Stop → Type 0
+TellsNoTree bytes Memory = Unit {0}
+TellsNoTree bytes (Stopped (Length told)) = (told ≡ length bytes) × ¬ (IsPageFile (words_of_file bytes) bytes)
+TellsNoTree bytes (Stopped (Page page why)) = HoldsNoTree bytes page why
+TellsNoTree bytes (Stopped _) = ⊥
+
+-- what the bytes of a page file with pages of n words give
+abbrev pub TellsStored : (n : ℕ) → List ℕ → Result (ReadTree n) (Undone Stop) → Type 0
+TellsStored n bytes (Ok stored) = IsStoredIn n stored bytes
+TellsStored n bytes (Err undone) = TellsNoTree bytes undone
+
+-- what the bytes of a page file give
+abbrev pub TellsTree : List ℕ → Result StoredTree (Undone Stop) → Type 0
+TellsTree bytes (Ok tree) = IsStoredTree tree bytes
+TellsTree bytes (Err undone) = TellsNoTree bytes undone
+
+-- what the reader of a page file answers
+abbrev pub ReadsTree : Option Shown → List ℕ → List ℕ → Result StoredTree (Undone Stop) → Type 0
+ReadsTree shown failed name (Ok tree) = HasFile shown name (IsStoredTree tree)
+ReadsTree shown failed name (Err Memory) = Unit {0}
+ReadsTree shown failed name (Err (Stopped stop)) = Fails shown failed (image name) stop
+
+-- what the reader of a script answers
+abbrev pub ReadsCalls : {V : Type 0} → (V → List (List Call)) → Option Shown → List ℕ → List ℕ → ℕ → Result V (Undone Stop) → Type 0
+ReadsCalls view shown failed name workers (Ok v) = HasFile shown name (IsScriptOf workers (view v))
+ReadsCalls view shown failed name workers (Err Memory) = Unit {0}
+ReadsCalls view shown failed name workers (Err (Stopped stop)) = Fails shown failed (script name workers) stop

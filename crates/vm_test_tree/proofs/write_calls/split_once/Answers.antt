@@ -1,5 +1,0 @@
-use Rattle.std.proofs.Common.{◌∙◌}
-use Rattle.vm_test_tree.proofs.write_calls.split_once.Goals as goal
-
-pub returns-clause-home : goal.returns-clause-home
-returns-clause-home c = c.try_split.ensures.tried.0.out ∙ c.requires.home

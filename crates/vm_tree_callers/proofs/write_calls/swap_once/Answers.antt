@@ -1,0 +1,17 @@
+use Rattle.std.proofs.Common.{◌∙◌}
+use Rattle.vm_map.specs.declared.call.Said.{Said}
+use Rattle.vm_page.specs.declared.buf.TheConstants.{WORDS}
+use Rattle.vm_tree_model.specs.Fixed.{fixed}
+use Rattle.vm_step.specs.Prelude.{view}
+use Rattle.vm_tree_callers.proofs.{Homes.rests-held, WriteHomes.swap-rests}
+use Rattle.vm_tree_callers.proofs.write_calls.swap_once.Goals as goal
+
+pub returns-clause-home : goal.returns-clause-home
+returns-clause-home c =
+    (swap-rests (λ (s : Said). s) (fixed WORDS) c.args.key c.args.want c.args.value c.try_swap.result
+    (view c.args.pass.now) (view c.try_swap.new.pass) c.try_swap.ensures.tried).out ∙ c.requires.home
+
+pub returns-clause-held : goal.returns-clause-held
+returns-clause-held c = rests-held _ (view c.args.pass.now) (view c.try_swap.new.pass) c.requires.held
+    (swap-rests (λ (s : Said). s) (fixed WORDS) c.args.key c.args.want c.args.value c.try_swap.result
+    (view c.args.pass.now) (view c.try_swap.new.pass) c.try_swap.ensures.tried)

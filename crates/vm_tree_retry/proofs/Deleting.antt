@@ -1,0 +1,213 @@
+-- A del that waits: what a try leaves that is not answered, and what its answer tells.
+use Rattle.std.proofs.Common.{[], ⊎_elim, ◌++◌, ◌<◌, ◌∙◌, ◌∷◌, ◌≡◌, ◌⊎◌, ap, append_assoc, List, refl, subst, sym, true, ℕ}
+use Rattle.vm_map.specs.declared.call.Call.TheVariants.{Del}
+use Rattle.vm_map.specs.{declared.call.Reply.Reply, declared.call.Said.Said}
+use Rattle.vm_tree_model.specs.{Layout.Layout, Tree.map_of}
+use Rattle.vm_rule.specs.Prelude.{Entry, entry_of, IsLocking, seat_of, StartsWith}
+use Rattle.vm_rule.proofs.Entries.{append-none}
+use Rattle.vm_step.specs.Prelude.{HoldsPage, KnowsAsBefore, Origin, View}
+use Rattle.vm_step.specs.declared.saw.Saw.{Saw}
+use Rattle.vm_step.proofs.Asides.{holds-then, knows-then, still-locking}
+use Rattle.vm_guard.specs.declared.deny.Deny.TheVariants as denies
+use Rattle.vm_tree_laws.specs.{History.IsLegal, Plain.plain_history}
+use Rattle.vm_tree_rule.specs.{Leaves.ReadsOn, Turns.IsNeeded}
+use Rattle.vm_tree_read.specs.{Reads.GainsEntry, Reads.IsAnswered, Waiting.AreRounds, Waiting.IsNoBringFault}
+use Rattle.vm_tree_read.specs.Waiting.{IsRound as round}
+use Rattle.vm_tree_split.specs.Splits.{KeepsLocksOnly}
+use Rattle.vm_tree_split.proofs.{Refusing.denied-keeps, Trying.reads-keep}
+use Rattle.vm_tree_merge.specs.{Beside.IsAstrayBeside, Beside.IsNeededBeside, Done.IsLockLost, Done.IsMergeDone}
+use Rattle.vm_tree_write.specs.declared.write.TryWrite.TheVariants as tries
+use Rattle.vm_tree_retry.specs.Waiting.{IsDelReplied, IsDelRound, IsDelRound as del_round, IsNeededByDel}
+use Rattle.vm_tree_write.specs.Writes.{IsDel, IsDelAlone, IsVain, IsWriteDone, IsWriteToTry}
+use Rattle.vm_tree_retry.proofs.Lasting.{keeps-last, Lasts, mine-from, reads-last, seen-from}
+
+module _ {X : Type 0} (L : Layout) (key : ℕ) (saw : Saw) (v w : View X) where
+  -- a try of a del that is to be made again
+  abbrev ToTry : Type 0
+  ToTry = (ReadsOn v w × (IsWriteToTry L v key saw w ⊎ IsAstrayBeside L v key saw w)) ⊎ IsLockLost L v saw w
+
+  pub again-keeps : ToTry → KeepsLocksOnly v w
+  again-keeps a = ⊎_elim (λ (r : ReadsOn v w × (IsWriteToTry L v key saw w ⊎ IsAstrayBeside L v key saw w)).
+      reads-keep v w r.0) (λ (l : IsLockLost L v saw w). l.keeps) a
+
+  -- it has just the frames that it had
+  pub again-frames : ToTry → (w.start ≡ v.start) × (w.frames ≡ v.frames)
+  again-frames a =
+      ⊎_elim (λ (r : ReadsOn v w × (IsWriteToTry L v key saw w ⊎ IsAstrayBeside L v key saw w)). (r.0.0.start, r.0.0.frames.0))
+      (λ (l : IsLockLost L v saw w).
+      (l.keeps.start, (denied-keeps L l.guards (denies.Again saw) l.found w l.denied).1 ∙ l.earlier.0.frames.0)) a
+
+  pub again-round : ToTry → IsDelRound L key v w
+  again-round a =
+      ⊎_elim
+      (λ (r : ReadsOn v w × (IsWriteToTry L v key saw w ⊎ IsAstrayBeside L v key saw w)).
+      ⊎_elim (λ (t : IsWriteToTry L v key saw w). del_round.round (round.again saw r.0 t))
+      (λ (b : IsAstrayBeside L v key saw w). del_round.astray saw r.0 b) r.1)
+      (λ (l : IsLockLost L v saw w). del_round.lost saw l) a
+
+module _ {X : Type 0} (L : Layout) (key p : ℕ) (v x : View X) where
+  pub needed-inside : IsNeededByDel L v key p x → p < v.start.pages
+  needed-inside n = ⊎_elim (λ (k : IsNeeded L v key p x). k.inside) (λ (k : IsNeededBeside L v key p x). k.inside) n
+
+  -- the page that was needed was brought
+  pub needed-round : (w : View X) → ReadsOn v x → IsNeededByDel L v key p x → IsNoBringFault p x w → IsDelRound L key v w
+  needed-round w reads n brought =
+      ⊎_elim (λ (k : IsNeeded L v key p x). del_round.round (round.needed p x reads k brought))
+      (λ (k : IsNeededBeside L v key p x). del_round.needed p x reads k brought) n
+
+module _ {S : Type 0} (plain : S → Said) (L : Layout) where
+  -- what each kind of answer has
+  record HasAnswer (said : Said) (x w : View S) : Type 0 where
+    says : S
+    says_is : plain says ≡ said
+    mine : w.mine ≡ x.mine ++ entry_of x says ∷ []
+    more : List (Entry S)
+    entry : GainsEntry says x more w
+    legal : x.start.tells ≡ true → (later rest : List (Entry S)) × (more ≡ later ++ rest)
+        × IsLegal (map_of L x.start.contents) (plain_history plain ((x.seen ++ entry.0) ++ entry_of x says ∷ later))
+    holds : (q : ℕ) → HoldsPage x w q
+    knows : (q : ℕ) → IsLocking (seat_of x q) → KnowsAsBefore x w q
+    out : w.out ≡ x.out
+    notes : StartsWith w.notes x.notes
+    start : w.start ≡ x.start
+    parts : (w.used ≡ x.used) × (w.fresh ≡ x.fresh)
+
+  -- it has it from what was before
+  answer-from : (said : Said) (v x w : View S) → Lasts v x → HasAnswer said x w → HasAnswer said v w
+  answer-from said v x w k a = record {
+    says = a.says;
+    says_is = a.says_is;
+    mine = mine-from a.says v x k w a.mine;
+    more = a.more;
+    entry = (k.seen.0 ++ a.entry.0, a.entry.1 ∙ seen-from a.says v x k a.entry.0 a.more);
+    legal = λ tells.
+        let l = a.legal (ap (λ (o : Origin). o.tells) k.start ∙ tells) in (
+          l.0,
+          l.1,
+          l.2,
+          subst (λ (o : Origin). IsLegal (map_of L o.contents)
+              (plain_history plain ((v.seen ++ (k.seen.0 ++ a.entry.0)) ++ entry_of v a.says ∷ l.0))) k.start
+              (subst (λ (h : List (Entry S)). IsLegal (map_of L x.start.contents) (plain_history plain h))
+              (seen-from a.says v x k a.entry.0 l.0) l.3),
+        );
+    holds = λ q. holds-then v x w q (k.holds q) (a.holds q);
+    knows = λ q l. knows-then v x w q (k.knows q l) (a.knows q (still-locking v x q (k.holds q) l));
+    out = a.out ∙ k.out;
+    notes = (k.notes.0 ++ a.notes.0, a.notes.1 ∙ ap (λ l. l ++ a.notes.0) k.notes.1 ∙ append_assoc v.notes k.notes.0 a.notes.0);
+    start = a.start ∙ k.start;
+    parts = (a.parts.0 ∙ k.parts.0, a.parts.1 ∙ k.parts.1);
+  }
+
+  written : (said : Said) (x w : View S) → IsWriteDone plain L said x w → HasAnswer said x w
+  written said x w k = record {
+    says = k.says;
+    says_is = k.says_is;
+    mine = k.mine;
+    more = [];
+    entry = k.entry;
+    legal = λ tells. (
+      [],
+      [],
+      refl,
+      subst (λ (h : List (Entry S)). IsLegal (map_of L x.start.contents) (plain_history plain h)) k.entry.1
+          (k.told tells).legal,
+    );
+    holds = k.writes.holds;
+    knows = k.writes.knows;
+    out = k.writes.out;
+    notes = ([], k.writes.notes ∙ sym (append-none x.notes));
+    start = k.writes.start;
+    parts = k.writes.parts;
+  }
+
+  read : (said : Said) (x w : View S) → IsAnswered plain L said x w → HasAnswer said x w
+  read said x w k = record {
+    says = k.says;
+    says_is = k.says_is;
+    mine = k.mine;
+    more = [];
+    entry = k.entry;
+    legal = λ tells. (
+      [],
+      [],
+      refl,
+      subst (λ (h : List (Entry S)). IsLegal (map_of L x.start.contents) (plain_history plain h)) k.entry.1
+          (k.told tells).legal,
+    );
+    holds = k.reads.holds;
+    knows = k.reads.knows;
+    out = k.reads.out;
+    notes = ([], k.reads.notes ∙ sym (append-none x.notes));
+    start = k.reads.start;
+    parts = k.reads.parts;
+  }
+
+  merged : (key : ℕ) (said : Said) (x w : View S) → IsMergeDone plain L key said x w → HasAnswer said x w
+  merged key said x w d =
+      answer-from said x d.found w (reads-last x d.found d.earlier)
+      (record {
+        says = d.says;
+        says_is = d.says_is;
+        mine = d.made.mine;
+        more = d.made.more;
+        entry = d.made.entry;
+        legal = d.made.legal;
+        holds = d.made.holds.holds;
+        knows = d.made.holds.knows;
+        out = d.made.holds.out;
+        notes = ([], d.made.holds.notes ∙ sym (append-none d.found.notes));
+        start = d.made.holds.start;
+        parts = d.made.holds.parts;
+      })
+
+  module _ (key : ℕ) (reply : Reply) where
+    abbrev said_is : Said
+    said_is = record { call = Del key; reply = reply }
+
+    abbrev Takes : View S → View S → Type 0
+    Takes x w = (IsDelAlone plain L key said_is x w ⊎ IsMergeDone plain L key said_is x w) × ¬ (IsVain said_is)
+
+    answered : (x w : View S) → IsDel plain L key (tries.Done reply) x w → HasAnswer said_is x w
+    answered x w a =
+        ⊎_elim
+        (λ (t : Takes x w).
+        ⊎_elim (λ (k : IsDelAlone plain L key said_is x w). written said_is x w k.write)
+        (λ (d : IsMergeDone plain L key said_is x w). merged key said_is x w d) t.0)
+        (λ (k : IsAnswered plain L said_is x w × IsVain said_is). read said_is x w k.0) a
+
+    -- the pass has just the frames that it had
+    pub answer-frames : (x w : View S) → IsDel plain L key (tries.Done reply) x w → (w.start ≡ x.start) × (w.frames ≡ x.frames)
+    answer-frames x w a =
+        ⊎_elim
+        (λ (t : Takes x w).
+        ⊎_elim (λ (k : IsDelAlone plain L key said_is x w). (k.write.writes.start, k.write.writes.frames.0))
+        (λ (d : IsMergeDone plain L key said_is x w).
+        (d.made.holds.start ∙ d.earlier.0.start, d.made.holds.frames ∙ d.earlier.0.frames.0)) t.0)
+        (λ (k : IsAnswered plain L said_is x w × IsVain said_is). (k.0.reads.start, k.0.reads.frames.0)) a
+
+    -- and its block where it was
+    pub answer-out : (x w : View S) → IsDel plain L key (tries.Done reply) x w → w.out ≡ x.out
+    answer-out x w a = (answered x w a).out
+
+    pub del-replied : (v x w : View S) → KeepsLocksOnly v x → AreRounds (IsDelRound L key) v x
+        → IsDel plain L key (tries.Done reply) x w → IsDelReplied plain L key reply v w
+    del-replied v x w keeps rounds done =
+        let a = answer-from said_is v x w (keeps-last v x keeps) (answered x w done) in
+        record {
+          tried = x;
+          rounds = rounds;
+          waits = keeps;
+          answered = done;
+          says = a.says;
+          says_is = a.says_is;
+          mine = a.mine;
+          more = a.more;
+          entry = a.entry;
+          legal = a.legal;
+          holds = a.holds;
+          knows = a.knows;
+          out = a.out;
+          notes = a.notes;
+          start = a.start;
+          parts = a.parts;
+        }

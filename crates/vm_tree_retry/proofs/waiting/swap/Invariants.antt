@@ -1,0 +1,11 @@
+use Rattle.vm_step.specs.Prelude.{View}
+use Rattle.vm_tree_read.specs.Waiting.{AreRounds, Waits}
+use Rattle.vm_tree_read.proofs.Rounds.{HasTried}
+use Rattle.vm_tree_retry.specs.Waiting.{IsWriteRound}
+use Rattle.vm_tree_retry.proofs.waiting.swap.Given as goal
+
+-- no try was answered yet
+abbrev pub invariant-loop : goal.invariant-loop
+invariant-loop g l = HasTried
+    (λ (x y : View _). Waits x y × AreRounds (IsWriteRound g.K.Kind.layout (g.K.Kind.rank l.fn.key)) x y) l.pool.words
+    g.B.Block.tells l.fn.pass l.pass l.fn.iface l.iface

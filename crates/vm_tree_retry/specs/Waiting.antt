@@ -1,0 +1,141 @@
+-- What a write answers that waits: tries, pages brought and nodes split in between, until a try is answered or can't be.
+use Rattle.std.specs.Prelude.{[], ◌++◌, ◌∷◌, ◌≡◌, ◌⊎◌, List, true, ℕ}
+use Rattle.vm_map.specs.{declared.call.Call.TheVariants.Del, declared.call.Reply.Reply, declared.call.Said.Said}
+use Rattle.vm_tree_model.specs.{Layout.Layout, Tree.map_of}
+use Rattle.vm_rule.specs.Prelude.{Entry, entry_of, IsLocking, seat_of, StartsWith}
+use Rattle.vm_step.specs.Prelude.{HoldsPage, KnowsAsBefore, UnlockedExpected, View}
+use Rattle.vm_step.specs.declared.saw.Saw.{Saw}
+use Rattle.vm_evict.specs.declared.report.Report.{Report}
+use Rattle.vm_pool.specs.{Brings.SaysDry, declared.bring.Bring.Bring, Sweeps.IsSwept}
+use Rattle.vm_tree_laws.specs.{History.IsLegal, Plain.plain_history}
+use Rattle.vm_kind.specs.Room.{HasRoomFor}
+use Rattle.vm_tree_rule.specs.{declared.fault.TreeFault.TreeFault, Leaves.ReadsOn, Turns.IsNeeded}
+use Rattle.vm_tree_rule.specs.declared.fault.TreeFault.TheVariants as faults
+use Rattle.vm_tree_read.specs.Reads.{GainsEntry, IsAnswered, key_of}
+use Rattle.vm_tree_read.specs.Waiting.{AreRounds, IsBringFault, IsNoBringFault, IsRound, NamesFault, NamesNone}
+use Rattle.vm_tree_split.specs.{Splits.KeepsLocksOnly, Tries.IsCause, Tries.IsEnded, Tries.MetNoFullNode}
+use Rattle.vm_tree_split.specs.declared.tries.TrySplit.TheVariants as splits
+use Rattle.vm_tree_merge.specs.{Beside.IsAstrayBeside, Beside.IsNeededBeside, Done.IsLockLost}
+use Rattle.vm_tree_write.specs.declared.write.TryWrite.TheVariants as tries
+use Rattle.vm_tree_write.specs.Writes.{IsDel, IsTight, IsVain, IsWornLeaf, IsWriteDone}
+
+module _ {S : Type 0} (plain : S → Said) (L : Layout) where
+  -- The last try was answered, by a write or by a read that shows that there is nothing to write; what was done
+  -- before were rounds as `round` tells of
+  -- the key, which made no entry, and left what `keeps` tells. So the entry is the pass's next one, and stands behind
+  -- all that the pass had seen; the
+  -- pass holds what it held
+  pub record IsWriteReplied (keeps : View S → View S → Type 0) (round : ℕ → View S → View S → Type 0) (said : Said)
+      (v w : View S) : Type 0 where
+    pub tried : View S
+    pub rounds : AreRounds (round (key_of said.call)) v tried
+    pub waits : keeps v tried
+    pub answered : (IsWriteDone plain L said tried w × ¬ (IsVain said)) ⊎ (IsAnswered plain L said tried w × IsVain said)
+    pub says : S
+    pub says_is : plain says ≡ said
+    pub mine : w.mine ≡ v.mine ++ entry_of v says ∷ []
+    pub entry : GainsEntry says v [] w
+    pub legal : v.start.tells ≡ true → IsLegal (map_of L v.start.contents) (plain_history plain w.seen)
+    pub holds : (q : ℕ) → HoldsPage v w q
+    pub knows : (q : ℕ) → IsLocking (seat_of v q) → KnowsAsBefore v w q
+    pub out : w.out ≡ v.out
+    pub notes : StartsWith w.notes v.notes
+    pub start : w.start ≡ v.start
+    pub parts : (w.used ≡ v.used) × (w.fresh ≡ v.fresh)
+
+module _ {X : Type 0} (L : Layout) where
+  -- a round of a swap is that of a read, but for the lock that it may have tried
+  abbrev pub IsWriteRound : ℕ → View X → View X → Type 0
+  IsWriteRound key v w = IsRound L UnlockedExpected key v w
+
+  -- A round of a del is that of a swap; or it looked at the page beside the leaf, and the words of their parent are
+  -- no tree's, or the page was needed, and was then to be
+  -- brought, once, and the answer named no fault; or a lock was lost for a merge
+  pub data IsDelRound (key : ℕ) (v w : View X) : Type 0 where
+    round : IsWriteRound key v w → IsDelRound key v w
+    astray : (saw : Saw) → ReadsOn v w → IsAstrayBeside L v key saw w → IsDelRound key v w
+    needed : (page : ℕ) (x : View X) → ReadsOn v x → IsNeededBeside L v key page x → IsNoBringFault page x w → IsDelRound key v w
+    lost : (saw : Saw) → IsLockLost L v saw w → IsDelRound key v w
+
+  -- a page that a del needs is one on the way to the leaf, or stands beside the leaf
+  abbrev pub IsNeededByDel : View X → ℕ → ℕ → View X → Type 0
+  IsNeededByDel v key p w = IsNeeded L v key p w ⊎ IsNeededBeside L v key p w
+
+  -- the last try, after such rounds, needed a page, as `needs` tells, that could not be brought, or reached a leaf at
+  -- the last version which it would have written, as
+  -- `may` tells of its words
+  pub data IsWriteFaulted (keeps : View X → View X → Type 0) (round : ℕ → View X → View X → Type 0)
+      (needs : View X → ℕ → ℕ → View X → Type 0) (may : List ℕ → ℕ → Type 0)
+      (key : ℕ) (fault : TreeFault) (v w : View X) : Type 0 where
+    missing :
+        (tried found : View X) (page : ℕ) → AreRounds (round key) v tried → keeps v tried → ReadsOn tried found → needs tried key page found
+        → IsBringFault page fault found w → keeps v w → IsWriteFaulted keeps round needs may key fault v w
+    worn :
+        (tried : View X) (page : ℕ) → AreRounds (round key) v tried → keeps v tried → ReadsOn tried w → (a : IsWornLeaf L tried key page w)
+        → may a.words key → fault ≡ faults.Worn page → keeps v w → IsWriteFaulted keeps round needs may key fault v w
+
+module _ {S : Type 0} (plain : S → Said) (L : Layout) where
+  -- The last try of a del was answered: the pair was taken out of its leaf, alone or with a merge, or a read shows
+  -- that the leaf has it not; what was done before were rounds
+  -- of a del. So the entry is the pass's next one, and stands behind all that the pass had seen; the pass holds what
+  -- it held. Behind the entry of a merge the pass has seen
+  -- `more`, which others said since; where blocks tell their words the history up to some point behind the entry is legal
+  pub record IsDelReplied (key : ℕ) (reply : Reply) (v w : View S) : Type 0 where
+    pub tried : View S
+    pub rounds : AreRounds (IsDelRound L key) v tried
+    pub waits : KeepsLocksOnly v tried
+    pub answered : IsDel plain L key (tries.Done reply) tried w
+    pub says : S
+    pub says_is : plain says ≡ record { call = Del key; reply = reply }
+    pub mine : w.mine ≡ v.mine ++ entry_of v says ∷ []
+    pub more : List (Entry S)
+    pub entry : GainsEntry says v more w
+    pub legal : v.start.tells ≡ true → (later rest : List (Entry S)) × (more ≡ later ++ rest)
+        × IsLegal (map_of L v.start.contents) (plain_history plain ((v.seen ++ entry.0) ++ entry_of v says ∷ later))
+    pub holds : (q : ℕ) → HoldsPage v w q
+    pub knows : (q : ℕ) → IsLocking (seat_of v q) → KnowsAsBefore v w q
+    pub out : w.out ≡ v.out
+    pub notes : StartsWith w.notes v.notes
+    pub start : w.start ≡ v.start
+    pub parts : (w.used ≡ v.used) × (w.fresh ≡ v.fresh)
+
+module _ {S : Type 0} (plain : S → Said) (L : Layout) (spare : List ℕ → ℕ) where
+  -- why no room could be made for a key: a device failed; a page was at the last version; or the image has no page left
+  pub data IsRoomFault (key : ℕ) (fault : TreeFault) (v w : View S) : Type 0 where
+    missing : (found : View S) (page : ℕ) → ReadsOn v found → IsNeeded L v key page found
+        → IsBringFault page fault found w → IsRoomFault key fault v w
+    worn : (p : ℕ) → IsEnded plain L spare v key w (splits.Worn p) → fault ≡ faults.Worn p → IsRoomFault key fault v w
+    full : (pages next need : ℕ) → IsEnded plain L spare v key w (splits.Full pages next need)
+        → fault ≡ faults.Full pages → IsRoomFault key fault v w
+    swept :
+        (dry : View S) (want cap : ℕ) (old new : List ℕ) (report : Report) (answer : Bring)
+        → IsEnded plain L spare v key dry splits.Dry → KeepsLocksOnly v dry
+        → IsSwept want cap old new report dry w → SaysDry report answer → NamesFault answer fault → IsRoomFault key fault v w
+
+  -- a split was tried once to make room for a key, and no fault came of it: a node was split; no node is full; others
+  -- came before; the page needed
+  -- was to be brought; or frames were to be freed
+  pub data IsNoRoomFault (key : ℕ) (v w : View S) : Type 0 where
+    split : IsEnded plain L spare v key w splits.Split → IsNoRoomFault key v w
+    roomy : MetNoFullNode plain L spare v key w → IsNoRoomFault key v w
+    again : (saw : Saw) → IsCause plain L spare key (splits.Again saw) v w → IsNoRoomFault key v w
+    missing : (found : View S) (page : ℕ) → ReadsOn v found → IsNeeded L v key page found
+        → IsNoBringFault page found w → IsNoRoomFault key v w
+    swept :
+        (dry : View S) (want cap : ℕ) (old new : List ℕ) (report : Report) (answer : Bring)
+        → IsEnded plain L spare v key dry splits.Dry → KeepsLocksOnly v dry
+        → IsSwept want cap old new report dry w → SaysDry report answer → NamesNone answer → IsNoRoomFault key v w
+
+  -- a round of a put is that of a swap; or the try met a full leaf, and then room was to be made for the key, once, of which no fault came
+  pub data IsPutRound (key : ℕ) (v w : View S) : Type 0 where
+    round : IsWriteRound L key v w → IsPutRound key v w
+    tight : (page : ℕ) (x : View S) → ReadsOn v x → IsTight L spare v key page x → IsNoRoomFault key x w → IsPutRound key v w
+
+  -- the last try of a put, after such rounds, needed a page that could not be brought, or reached a leaf at the last
+  -- version, or met a full leaf for
+  -- which no room could be made
+  pub data IsPutFaulted (key : ℕ) (fault : TreeFault) (v w : View S) : Type 0 where
+    faulted : IsWriteFaulted L KeepsLocksOnly IsPutRound (IsNeeded L) (HasRoomFor L spare) key fault v w → IsPutFaulted key fault v w
+    tight :
+        (tried found : View S) (page : ℕ) → AreRounds (IsPutRound key) v tried → KeepsLocksOnly v tried → ReadsOn tried found
+        → IsTight L spare tried key page found → IsRoomFault key fault found w → KeepsLocksOnly v w → IsPutFaulted key fault v w
