@@ -4,3 +4,4 @@ pub mod NextPage
 pub mod FreePages
 pub mod FileSizes
 mod NewBlocks
+mod BlocksRead

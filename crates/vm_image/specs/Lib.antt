@@ -1,3 +1,4 @@
 pub mod File
 pub mod Faults
 pub mod Blocks
+pub mod Reading

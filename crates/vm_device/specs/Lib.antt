@@ -1,0 +1,5 @@
+pub mod Devices
+pub mod Held
+pub mod Memory
+pub mod Edge
+pub mod Whole
