@@ -7,7 +7,8 @@ use Rattle.std.proofs.lemmas.List.Sums.{count_by-le-length, sum_by-cons, sum_by_
 use Rattle.vm_map.specs.{declared.call.Call.Call, declared.call.Reply.Reply}
 use Rattle.vm_map.specs.declared.call.Call.TheVariants as calls
 use Rattle.vm_tree_rule.specs.declared.fault.TreeFault.{TreeFault}
-use Rattle.vm_drive.specs.{Drives.AreFew, Drives.items_of, Kept.AreKept, Kept.IsRoomFor, Kept.windows_asked, Spans.ranges_asked}
+use Rattle.vm_drive.specs.Prelude.{IsRoomFor, windows_asked, ranges_asked}
+use Rattle.vm_drive.specs.{Drives.AreFew, Drives.items_of, Lists.AreKept}
 use Rattle.vm_churn.specs.declared.tally.Tally.{Tally}
 use Rattle.vm_churn.specs.Tallies.{count_in, IsSmall, StandsFor, tally_room, tells_found, tells_gone, tells_new}
 use Rattle.vm_churn.specs.Tallies.{told_by, told_tally, total_of}

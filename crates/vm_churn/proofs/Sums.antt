@@ -11,7 +11,8 @@ use Rattle.vm_build.specs.Numbers.{number_at, numbered}
 use Rattle.vm_rule.specs.Prelude.{Entry}
 use Rattle.vm_tree_laws.specs.History.{saids}
 use Rattle.vm_tree_rule.specs.declared.fault.TreeFault.{TreeFault}
-use Rattle.vm_drive.specs.Holds.{answered, HoldsCalls, list_at}
+use Rattle.vm_drive.specs.Prelude.{answered}
+use Rattle.vm_drive.specs.Holds.{HoldsCalls, list_at}
 use Rattle.vm_churn.specs.Calls.{calls_for, churn_lists, key_at, place_calls, places_of, worker_calls}
 use Rattle.vm_churn.specs.Tallies.{sum_values}
 use Rattle.vm_churn.proofs.Lists.{count_lists, each-both, few_worker, list_is}

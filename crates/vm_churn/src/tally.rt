@@ -2,7 +2,7 @@
 
 ghost use Rattle.std.specs.List.{AllByRecursion};
 ghost use Rattle.std.specs.Prelude.{◌<◌, ◌^◌, ◌≡◌, ◌≤◌, IfOk, length};
-ghost use Rattle.vm_drive.specs.{Drives.AreFew, Drives.items_of, Kept.HaveRoom};
+ghost use Rattle.vm_drive.specs.{Drives.AreFew, Drives.items_of, Lists.HaveRoom};
 ghost use Rattle.vm_churn.specs.Tallies.{IsSmall, StandsFor, sum_values, tally_room, told_after, total_of};
 
 use std::alloc::{AllocError, Global};

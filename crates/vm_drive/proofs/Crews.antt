@@ -1,16 +1,17 @@
--- Lists of workers, place by place.
+-- Lists of workers, and of what is taken for them, place by place.
 use Rattle.std.specs.declared.alloc.Global.{Global}
 use Rattle.std.specs.List.{AllByRecursion}
 use Rattle.std.proofs.Common.{[], ◌++◌, ◌<◌, ◌∷◌, ◌≡◌, ap, arith, Bool, drop, get_or, length, List, refl, Result}
 use Rattle.std.proofs.Common.{subst, suc, sym, take, Vec, zero, ℕ}
-use Rattle.vm_map.specs.{declared.call.Call.Call, declared.call.Reply.Reply, declared.call.Said.Said}
+use Rattle.vm_map.specs.{declared.call.Call.Call, declared.call.Reply.Reply, declared.call.Said.Said, Map.Pairs}
 use Rattle.vm_rule.specs.Prelude.{TableId}
 use Rattle.vm_step.specs.Prelude.{TableShape}
 use Rattle.vm_tree_rule.specs.declared.fault.TreeFault.{TreeFault}
-use Rattle.vm_drive.specs.{declared.worker.Worker.Worker, Drives.items_of, Holds.list_at}
+use Rattle.vm_calls.specs.Compact.{all_replies, HasContents, KeepsAnswers}
+use Rattle.vm_calls.specs.{declared.compact.Replies.Replies, declared.worker.Worker.Worker, Kept.IsRoomFor, Kept.Room, Spans.HasSpans}
 use Rattle.vm_drive.specs.Crews.{AllWorked, AreIdle, HasWorked, IsIdle}
-use Rattle.vm_drive.specs.{Compact.all_replies, Compact.HasContents, Compact.KeepsAnswers, declared.compact.Replies.Replies}
-use Rattle.vm_drive.specs.Kept.{AreKept, HaveRoom, IsRoomFor, Room}
+use Rattle.vm_drive.specs.Lists.{AreKept, HaveRoom, HaveSpans}
+use Rattle.vm_drive.specs.{Drives.items_of, Holds.list_at}
 
 module _ {A : Type 0} (keeps : A → List (Result Reply TreeFault) → Type 0) (space : A → Room) where
   pub room-snoc : (rooms : List A) (lists : List (List Call)) (room : A) (calls : List Call)
@@ -26,6 +27,22 @@ module _ {A : Type 0} (keeps : A → List (Result Reply TreeFault) → Type 0) (
   room-long [] (c ∷ cs) h = absurd h
   room-long (r ∷ rs) [] h = absurd h
   room-long (r ∷ rs) (c ∷ cs) h = ap suc (room-long rs cs h.2)
+
+module _ (n : ℕ) where
+  pub spans-snoc : (lists : List (List Call)) (spans : List (Vec (Pairs × ℕ) Global)) (calls : List Call)
+      (own : Vec (Pairs × ℕ) Global) → HaveSpans n lists spans → HasSpans n calls own.items
+      → HaveSpans n (lists ++ calls ∷ []) (spans ++ own ∷ [])
+  spans-snoc [] [] calls own h o = (o, tt)
+  spans-snoc [] (s ∷ ss) calls own h o = absurd h
+  spans-snoc (c ∷ cs) [] calls own h o = absurd h
+  spans-snoc (c ∷ cs) (s ∷ ss) calls own h o = (h.0, spans-snoc cs ss calls own h.1 o)
+
+  pub spans-long : (lists : List (List Call)) (spans : List (Vec (Pairs × ℕ) Global)) → HaveSpans n lists spans
+      → length spans ≡ length lists
+  spans-long [] [] h = refl
+  spans-long [] (s ∷ ss) h = absurd h
+  spans-long (c ∷ cs) [] h = absurd h
+  spans-long (c ∷ cs) (s ∷ ss) h = ap suc (spans-long cs ss h.1)
 
 -- lists that stand for answers hold them, and have their windows and spans
 pub kept-replies : (kept : List Replies) (told : List (List (Result Reply TreeFault)))

@@ -12,21 +12,20 @@ use Rattle.vm_step.specs.Prelude.{Did, Note, TableShape, View, view}
 use Rattle.vm_pool.specs.Parting.{KeepsAll}
 use Rattle.vm_tree_laws.specs.History.{saids}
 use Rattle.vm_tree_rule.specs.declared.fault.TreeFault.{TreeFault}
-use Rattle.vm_drive.specs.{declared.worker.Worker.Worker, Kept.AreKept, Kept.HaveRoom, Kept.Room, Shows.AllShown, Shows.AreShown}
-use Rattle.vm_drive.specs.Causes.{all_faults_of, faults_of, notes_about}
-use Rattle.vm_drive.specs.Crews.{all_notes_of, AllWorked, answers_of, AreHired, AreIdle, AreJoined, HasWorked, IsBack}
-use Rattle.vm_drive.specs.Crews.{IsIn, IsNewWorker, number_of, numbers_of, spans_given, worker_logs, worker_notes}
-use Rattle.vm_drive.specs.Spans.{HaveSpans}
-use Rattle.vm_drive.specs.Parts.{HasPart, HaveParts, logs_of, noted_by, StandBehind, StandIn}
+use Rattle.vm_calls.specs.Causes.{answered, faults_of, IsUntold, notes_about}
+use Rattle.vm_calls.specs.{declared.worker.Worker.Worker, Kept.Room, Shows.AreShown}
+use Rattle.vm_drive.specs.Crews.{all_notes_of, AllWorked, answers_of, AreHired, AreIdle, AreJoined, HasWorked, IsBack, IsIn, IsNewWorker}
+use Rattle.vm_drive.specs.Crews.{number_of, numbers_of, spans_given, worker_logs, worker_notes}
 use Rattle.vm_drive.specs.Drives.{IsAtLastVersion, IsDriven, IsUsedUp}
-use Rattle.vm_drive.specs.Holds.{answered, list_at, said_by}
-use Rattle.vm_drive.proofs.{Called.FoundFull, Called.FoundWorn, Called.HasDone, Chain.calls-done, Chain.kept-done, Crews.room-long}
-use Rattle.vm_drive.proofs.{Framing.none-left, Hiring.all-then, Hiring.holds-none, Parted.traced, Parts.behind-less, Parts.stands-after}
-use Rattle.vm_drive.proofs.Plainly.{plain-legal}
-use Rattle.vm_drive.proofs.Showing.{are-shown-more}
-use Rattle.vm_drive.proofs.Lists.{all-in, behind, each-both-of, each-right, has-both, none-in, one-place, others-only}
-use Rattle.vm_drive.proofs.Lists.{place-of, starts-then}
+use Rattle.vm_drive.specs.Lists.{all_faults_of, AllShown, AreKept, HaveRoom, HaveSpans}
+use Rattle.vm_drive.specs.Parts.{HasPart, HaveParts, logs_of, noted_by, StandBehind, StandIn}
+use Rattle.vm_drive.specs.Holds.{list_at, said_by}
+use Rattle.vm_calls.proofs.Called.{FoundFull, FoundWorn, HasDone}
+use Rattle.vm_calls.proofs.{Chain.calls-done, Chain.kept-done, Lists.starts-then, Plainly.plain-legal, Showing.are-shown-more}
+use Rattle.vm_drive.proofs.Lists.{all-in, behind, each-both-of, each-right, has-both, none-in, one-place, others-only, place-of}
 use Rattle.vm_drive.proofs.Tracing.{lists-caused, used-up, worn-out}
+use Rattle.vm_drive.proofs.{Crews.room-long, Framing.none-left, Hiring.all-then, Hiring.holds-none, Parted.traced}
+use Rattle.vm_drive.proofs.Parts.{behind-less, stands-after}
 
 numbers-long : {U A : Type 0} {owner : _} (ds : List (Worker U A Said owner)) → length (numbers_of ds) ≡ length ds
 numbers-long [] = refl
@@ -318,8 +317,8 @@ module _ (size : ℕ) {U A : Type 0} {owner : _} (keeps : A → List (Result Rep
             let old : notes_about p x.notes ≡ notes_about p v.notes = ap (notes_about p) h.notes in
             let theirs' : all_faults_of p told ≤ all_notes_of p news = finished-faults size w rest lists news told p finished in
             omega arith;
-        caused = lists-caused (FoundFull w) (FoundWorn w) (IsUsedUp w) (IsAtLastVersion w)
-            (λ n. used-up w n (kept_by w).next (j.knows.next alone)) (λ p. worn-out w p (j.knows.last alone)) lists
+        caused = lists-caused (FoundFull w) (FoundWorn w) (IsUntold w) (IsUsedUp w) (IsAtLastVersion w) (IsUntold w)
+            (λ n. used-up w n (kept_by w).next (j.knows.next alone)) (λ p. worn-out w p (j.knows.last alone)) (λ p u. u) lists
             told (traced size v.log w lists told passes parts logs);
         shown = finished-shown size w rest lists news told finished;
         passes = passes;

@@ -1,22 +1,12 @@
--- The frames of workers: a pass that gave them back has none, and one that took it in has what it had.
-use Rattle.std.proofs.Common.{[], ⊎_elim, ◌++◌, ◌||◌, ◌∙◌, ◌≡◌, ap, Bool, false, if◌then◌else◌, inr, List, sym, true, true≢false, ℕ}
+-- The frames of workers: a pass to which none is left has none, and one that took it in has what it had.
+use Rattle.std.proofs.Common.{[], ⊎_elim, ◌++◌, ◌||◌, ◌∙◌, ◌≡◌, ap, Bool, false, List, sym, true, true≢false, ℕ}
 use Rattle.std.proofs.lemmas.Bool.{cases_Bool}
 use Rattle.vm_owner.proofs.NumberLemmas.{has-both}
 use Rattle.vm_rule.specs.Prelude.{has}
 use Rattle.vm_step.specs.Prelude.{View}
-use Rattle.vm_exmap.specs.Returns.{AreGiven}
-use Rattle.vm_tree_read.specs.Waiting.{LosesNone}
+use Rattle.vm_calls.specs.Prelude.{LosesNone}
 
 module _ {X : Type 0} where
-  -- an interface that gave all its frames back lost none
-  pub given-loses : (frames : List ℕ) (v w : View X) → AreGiven frames v w → LosesNone frames v [] w
-  given-loses frames v w g f e =
-      ⊎_elim
-      (λ (own : has f frames ≡ true). absurd (true≢false (sym e ∙ g.left f ∙ ap (λ (b : Bool). if b then false else has f v.frames) own)))
-      (λ (other : has f frames ≡ false).
-      inr (sym (ap (λ (b : Bool). if b then false else has f v.frames) other) ∙ sym (g.left f) ∙ e, other))
-      (cases_Bool (has f frames))
-
   -- a pass that began with no frame has none where none is left to it
   pub none-left : (old : List ℕ) (v w : View X) → v.frames ≡ [] → LosesNone old v [] w → (f : ℕ) → has f w.frames ≡ false
   none-left old v w none lost f =

@@ -8,10 +8,12 @@ use Rattle.vm_step.specs.Prelude.{Did, Note, View, view}
 use Rattle.vm_pool.specs.Parting.{Joins}
 use Rattle.vm_tree_model.specs.Fixed.{fixed}
 use Rattle.vm_tree_laws.specs.Plain.{KeepsPlain}
-use Rattle.vm_drive.specs.{Causes.notes_about, declared.worker.Worker.Worker, Parts.StandBehind, TreeCalls.as_said}
+use Rattle.vm_calls.specs.{Causes.notes_about, declared.worker.Worker.Worker, TreeCalls.as_said}
 use Rattle.vm_drive.specs.Crews.{all_notes_of, AreJoined, IsIn, number_of, numbers_of, worker_logs, worker_notes}
-use Rattle.vm_drive.proofs.{Doing.notes-both, Framing.none-added, Hiring.all-then, Parts.behind-first, Parts.behind-snoc}
-use Rattle.vm_drive.proofs.Lists.{each-snoc, has-last, has-left, nested, nested-one, starts-then, times-both}
+use Rattle.vm_drive.specs.Parts.{StandBehind}
+use Rattle.vm_calls.proofs.{Doing.notes-both, Lists.starts-then}
+use Rattle.vm_drive.proofs.Lists.{each-snoc, has-last, has-left, nested, nested-one, times-both}
+use Rattle.vm_drive.proofs.{Framing.none-added, Hiring.all-then, Parts.behind-first, Parts.behind-snoc}
 
 module _ {U A : Type 0} {owner : _} where
   all-notes-snoc : (p : ℕ) (ds : List (Worker U A Said owner)) (d : Worker U A Said owner)

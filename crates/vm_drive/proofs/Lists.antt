@@ -1,23 +1,13 @@
--- Lists that begin with others, numbers apart, and the entries of some numbers.
-use Rattle.std.specs.List.{AllByRecursion}
-use Rattle.std.proofs.Common.{get_or, [], ⊎_elim, ◌++◌, ◌+◌, ◌<◌, ◌∙◌, ◌∷◌, ◌≡◌, ◌≤◌, ap, append_assoc, arith, false}
+-- Lists one behind another, numbers apart, and the entries of some numbers.
+use Rattle.std.proofs.Common.{[], ⊎_elim, ◌++◌, ◌+◌, ◌<◌, ◌∙◌, ◌∷◌, ◌≡◌, ◌≤◌, ap, arith, false}
 use Rattle.std.proofs.Common.{if◌then◌else◌, length, List, refl, slice_index, suc, sym, true, true≢false, zero, ℕ}
 use Rattle.std.proofs.lemmas.Bool.{cases_Bool, cases_eq, eq-eqb, ne_eqb}
-use Rattle.vm_rule.specs.Prelude.{AreApart, Each, entries_by, Entry, has, StartsWith, times}
+use Rattle.vm_rule.specs.Prelude.{AreApart, Each, entries_by, Entry, has, times}
 use Rattle.vm_rule.proofs.Entries.{entries-both}
-
-pub starts-then : {A : Type 0} (l m n : List A) → StartsWith l m → StartsWith m n → StartsWith l n
-starts-then l m n a b = (b.0 ++ a.0, a.1 ∙ ap (λ (y : List _). y ++ a.0) b.1 ∙ append_assoc n b.0 a.0)
 
 pub each-right : {A : Type 0} (P : A → Type 0) (l m : List A) → Each P (l ++ m) → Each P m
 each-right P [] m e = e
 each-right P (x ∷ xs) m e = each-right P xs m e.1
-
--- one of a list of which each is so
-pub all-at : {A : Type 0} (P : A → Type 0) (xs : List A) (i : ℕ) (d : A) → AllByRecursion P xs → i < length xs → P (get_or xs i d)
-all-at P [] i d a l = absurd (omega arith)
-all-at P (x ∷ xs) zero d a l = a.0
-all-at P (x ∷ xs) (suc i) d a l = all-at P xs i d a.1 (omega arith)
 
 pub each-snoc : {A : Type 0} (P : A → Type 0) (l : List A) (x : A) → Each P l → P x → Each P (l ++ x ∷ [])
 each-snoc P [] x e p = (p, tt)

@@ -4,9 +4,10 @@ use Rattle.vm_map.specs.{declared.call.Call.Call, declared.call.Reply.Reply, dec
 use Rattle.vm_rule.specs.Prelude.{entries_by, Entry, StartsWith}
 use Rattle.vm_step.specs.Prelude.{Did, View}
 use Rattle.vm_tree_rule.specs.declared.fault.TreeFault.{TreeFault}
-use Rattle.vm_drive.specs.Causes.{AllCausedBy}
 use Rattle.vm_drive.specs.Parts.{HaveParts, logs_of, StandBehind, StandIn}
-use Rattle.vm_drive.proofs.{Called.FoundFull, Called.FoundWorn, Chain.calls-done, Lists.starts-then, Tracing.all-caused}
+use Rattle.vm_drive.specs.Lists.{AllCausedBy}
+use Rattle.vm_calls.proofs.{Called.FoundFull, Called.FoundWorn, Chain.calls-done, Lists.starts-then, Tracing.all-caused, Tracing.untold-later}
+use Rattle.vm_calls.specs.Causes.{IsUntold}
 
 regroup : {A : Type 0} (f e l b : List A) (s : A) → f ++ ((e ++ s ∷ l) ++ b) ≡ (f ++ e) ++ s ∷ (l ++ b)
 regroup f e l b s = ap (λ (y : List _). f ++ y) (append_assoc e (s ∷ l) b) ∙ sym (append_assoc f e (s ∷ (l ++ b)))
@@ -49,7 +50,7 @@ module _ (size : ℕ) where
   traced-in : (w : View Said) (lists : List (List Call)) (answers : List (List (Result Reply TreeFault)))
       (passes : List (View Said)) (front all : List Did) → w.log ≡ front ++ all
       → HaveParts size w lists answers passes → StandIn (logs_of passes) all → AllCausedBy (FoundFull w) (FoundWorn w)
-      lists answers
+      (IsUntold w) lists answers
   traced-in w [] answers passes front all log p s = tt
   traced-in w (c ∷ cs) [] passes front all log p s = tt
   traced-in w (c ∷ cs) (t ∷ ts) [] front all log p s = absurd p
@@ -57,8 +58,9 @@ module _ (size : ℕ) where
       let here : w.log ≡ (front ++ s.0) ++ (u.log ++ s.1) = log ∙ ap (λ (l : List Did). front ++ l) s.2
       ∙ sym (append_assoc front s.0 (u.log ++ s.1)) in
       let done = calls-done size c t p.0.began u p.0.each in (
-        all-caused (FoundFull u) (FoundWorn u) (FoundFull w) (FoundWorn w)
-            (found-in w u (front ++ s.0) s.1 p.0.start here) (worn-in w u (front ++ s.0) s.1 p.0.start here) c t
+        all-caused (FoundFull u) (FoundWorn u) (IsUntold u) (FoundFull w) (FoundWorn w) (IsUntold w)
+            (found-in w u (front ++ s.0) s.1 p.0.start here) (worn-in w u (front ++ s.0) s.1 p.0.start here)
+            (λ n. untold-later u w n (sym p.0.start)) c t
             done.caused,
         traced-in w cs ts us ((front ++ s.0) ++ u.log) s.1 (here ∙ sym (append_assoc (front ++ s.0) u.log s.1)) p.1 s.3,
       )
@@ -67,7 +69,7 @@ module _ (size : ℕ) where
   pub traced : (front : List Did) (w : View Said) (lists : List (List Call))
       (answers : List (List (Result Reply TreeFault))) (passes : List (View Said))
       → HaveParts size w lists answers passes → StandBehind front (logs_of passes) w.log
-      → AllCausedBy (FoundFull w) (FoundWorn w) lists answers
+      → AllCausedBy (FoundFull w) (FoundWorn w) (IsUntold w) lists answers
   traced front w lists answers passes p s = traced-in w lists answers passes front s.0 s.1 p s.2
 
   -- what is a part of a pass is one of it later on, where it has seen no entry more

@@ -9,9 +9,10 @@ use Rattle.vm_pool.specs.Parting.{KeepsAll}
 use Rattle.vm_tree_model.specs.Fixed.{fixed}
 use Rattle.vm_tree_laws.specs.Plain.{KeepsPlain}
 use Rattle.vm_tree_rule.specs.declared.fault.TreeFault.{TreeFault}
-use Rattle.vm_tree_read.specs.Waiting.{LosesNone}
-use Rattle.vm_drive.specs.{Causes.notes_about, declared.worker.Worker.Worker, Kept.IsRoomFor, Kept.Room}
-use Rattle.vm_drive.specs.{Parts.StandBehind, Spans.HasSpans, TreeCalls.as_said, Workers.HasKept, Workers.IsAtWork}
+use Rattle.vm_calls.specs.Prelude.{LosesNone}
+use Rattle.vm_calls.specs.{Causes.notes_about, declared.worker.Worker.Worker, Kept.IsRoomFor, Kept.Room, Spans.HasSpans, TreeCalls.as_said}
+use Rattle.vm_calls.specs.{Workers.HasKept, Workers.IsAtWork}
+use Rattle.vm_drive.specs.Parts.{StandBehind}
 
 -- the worker's number
 abbrev pub number_of : {U X A : Type 0} {owner : _} → Worker U A X owner → ℕ

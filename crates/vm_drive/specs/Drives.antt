@@ -10,9 +10,10 @@ use Rattle.vm_rule_laws.specs.Known.{kept_by}
 use Rattle.vm_step.specs.Prelude.{IsAlone, View}
 use Rattle.vm_tree_laws.specs.History.{IsLegal}
 use Rattle.vm_tree_rule.specs.declared.fault.TreeFault.{TreeFault}
-use Rattle.vm_drive.specs.{Holds.HoldsCalls, Kept.AreKept, Shows.AllShown}
-use Rattle.vm_drive.specs.Causes.{all_faults_of, AllCausedBy, notes_about}
+use Rattle.vm_calls.specs.Causes.{IsUntold, notes_about}
+use Rattle.vm_drive.specs.Lists.{all_faults_of, AllCausedBy, AllShown, AreKept}
 use Rattle.vm_drive.specs.Parts.{HaveParts, logs_of, noted_by, StandBehind}
+use Rattle.vm_drive.specs.Holds.{HoldsCalls}
 
 -- the lists in the vectors
 abbrev pub items_of : {X : Type 0} → List (Vec X Global) → List (List X)
@@ -58,7 +59,7 @@ pub record IsDriven (n : ℕ) (tells : Bool) (lists : List (List Call)) (answers
   pub mine : w.mine ≡ v.mine ++ grew
   pub calls : HoldsCalls grew lists answers
   pub faults : (p : ℕ) → notes_about p v.notes + all_faults_of p answers ≤ notes_about p w.notes
-  pub caused : AllCausedBy (IsUsedUp w) (IsAtLastVersion w) lists answers
+  pub caused : AllCausedBy (IsUsedUp w) (IsAtLastVersion w) (IsUntold w) lists answers
   pub shown : AllShown n w lists answers
   -- what each worker's pass knew behind its last call; its steps and notes stand in those of the joined pass, one worker's behind another's
   pub passes : List (View Said)

@@ -1,9 +1,10 @@
 -- The history holds each worker's calls once, in order, with their replies.
-use Rattle.std.specs.Prelude.{[], ◌<◌, ◌∷◌, ◌≡◌, Err, length, List, Ok, Result, slice_index_or, ℕ}
+use Rattle.std.specs.Prelude.{[], ◌<◌, ◌∷◌, ◌≡◌, length, List, Result, slice_index_or, ℕ}
 use Rattle.vm_map.specs.{declared.call.Call.Call, declared.call.Reply.Reply, declared.call.Said.Said}
 use Rattle.vm_rule.specs.Prelude.{Each, entries_by, Entry}
 use Rattle.vm_tree_laws.specs.History.{saids}
 use Rattle.vm_tree_rule.specs.declared.fault.TreeFault.{TreeFault}
+use Rattle.vm_calls.specs.Causes.{answered}
 
 -- what the entries of a number say, in order
 abbrev pub said_by : ℕ → List (Entry Said) → List Said
@@ -12,13 +13,6 @@ said_by number h = saids (entries_by (number ∷ []) h)
 -- one worker's list
 abbrev pub list_at : {A : Type 0} → List (List A) → ℕ → List A
 list_at lists w = slice_index_or lists w []
-
--- the calls with their replies, but those that a fault answered
-abbrev pub answered : List Call → List (Result Reply TreeFault) → List Said
-answered [] rs = []
-answered (c ∷ cs) [] = []
-answered (c ∷ cs) (Ok r ∷ rs) = record { call = c; reply = r } ∷ answered cs rs
-answered (c ∷ cs) (Err f ∷ rs) = answered cs rs
 
 -- the entries are those of the workers, each under a number of its own
 pub record HoldsCalls (h : List (Entry Said)) (lists : List (List Call)) (answers : List (List (Result Reply TreeFault))) : Type 0 where

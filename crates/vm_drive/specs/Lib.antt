@@ -1,12 +1,6 @@
-pub mod Shows
-pub mod Calls
-pub mod TreeCalls
+pub mod Lists
 pub mod Holds
-pub mod Causes
-pub mod Spans
-pub mod Kept
-pub mod Compact
-pub mod Workers
 pub mod Parts
 pub mod Crews
 pub mod Drives
+pub mod Prelude

@@ -4,7 +4,7 @@ use Rattle.vm_map.specs.{declared.call.Call.Call, declared.call.Reply.Reply, dec
 use Rattle.vm_rule.specs.Prelude.{entries_by, StartsWith}
 use Rattle.vm_step.specs.Prelude.{Did, Note, View}
 use Rattle.vm_tree_rule.specs.declared.fault.TreeFault.{TreeFault}
-use Rattle.vm_drive.specs.TreeCalls.{AreTreeCalls}
+use Rattle.vm_calls.specs.TreeCalls.{AreTreeCalls}
 
 module _ {A : Type 0} where
   -- these lists stand in this one, one behind another

@@ -5,21 +5,21 @@ ghost use Rattle.std.specs.Prelude.{[], ◌*◌, ◌<◌, ◌≡◌, ◌≤◌, 
 ghost use Rattle.std.specs.Vec.{vec_capacity};
 ghost use Rattle.vm_rule.specs.Prelude.{Each, HoldsNoPage, IsWhole};
 ghost use Rattle.vm_step.specs.Prelude.{GoesOn, IsReadyOn, view};
+ghost use Rattle.vm_calls.specs.Compact.{all_replies, HasContents};
 ghost use Rattle.vm_drive.specs.Crews.{AllWorked, answers_of, AreAtHome, AreHired, AreIdle, AreJoined, HasWorked, IsBack, IsIdle, share_of};
 ghost use Rattle.vm_drive.specs.Drives.{AreAskable, AreFew, IsDriven, IsDrivenInto, items_of};
-ghost use Rattle.vm_drive.specs.Holds.{list_at};
-ghost use Rattle.vm_drive.specs.{Compact.all_replies, Compact.HasContents, Kept.HaveRoom};
+ghost use Rattle.vm_drive.specs.{Holds.list_at, Lists.HaveRoom};
 
-use crate::answers::Answers;
-use crate::compact::{Replies, rooms_for};
-use crate::gate::Gate;
-use crate::spans::spans_for;
-use crate::worker::{Worker, work};
+use crate::memory::{rooms_for, spans_for};
 use std::alloc::{AllocError, Global};
 use std::sync::Wait;
 use std::thread;
 use std::thread::Threads;
 use vm_block::{Block, PageBlock};
+use vm_calls::answers::Answers;
+use vm_calls::compact::Replies;
+use vm_calls::gate::Gate;
+use vm_calls::worker::{Worker, work};
 use vm_core::Memory;
 use vm_exmap::Interface;
 use vm_kind::{OfSize, TreeOf, WordKeys};

@@ -1,12 +1,9 @@
 //! The workers: each makes a list of calls with a pass of its own, side by side.
 #![tactic(auto)]
 
-pub mod answers;
-pub mod compact;
 mod driving;
-pub mod gate;
-pub mod spans;
-pub mod worker;
+pub mod memory;
 
-pub use compact::rooms_for;
 pub use driving::{Driven, DrivenInto, drive, drive_into};
+pub use memory::rooms_for;
+pub use vm_calls::{answers, compact, gate};

@@ -5,7 +5,7 @@ use Rattle.vm_build.specs.{Build.IsBuilt, Build.needed, Numbers.numbered}
 use Rattle.vm_owner.specs.declared.Entry.{Entry}
 use Rattle.vm_pool.specs.{Closing.view_at_end, declared.ended.Ended.Ended}
 use Rattle.vm_tree_laws.specs.History.{gones, news}
-use Rattle.vm_drive.specs.Causes.{all_faults_of}
+use Rattle.vm_drive.specs.Lists.{all_faults_of}
 use Rattle.vm_churn.specs.Calls.{churn_count, churn_lists}
 use Rattle.vm_churn.specs.Tallies.{founds, sum_values}
 use Rattle.vm_script.specs.Texts.{churn_line}

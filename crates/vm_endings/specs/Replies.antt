@@ -2,7 +2,7 @@
 use Rattle.std.specs.Prelude.{[], ◌∷◌, ◌≡◌, Err, length, List, Ok, Result, ℕ}
 use Rattle.vm_map.specs.{declared.call.Call.Call, declared.call.Reply.Reply}
 use Rattle.vm_tree_rule.specs.declared.fault.TreeFault.{TreeFault}
-use Rattle.vm_tree_rule.specs.declared.fault.TreeFault.TheVariants.{Device, Full, Worn}
+use Rattle.vm_tree_rule.specs.declared.fault.TreeFault.TheVariants.{Damaged, Device, Full, Worn}
 use Rattle.vm_pool.specs.declared.ended.Ended.{Ended}
 use Rattle.vm_script.specs.{declared.text.Line.Line, Texts.counters_line}
 use Rattle.vm_script.specs.declared.text.Line.TheVariants as lines
@@ -11,6 +11,7 @@ abbrev pub fault_line : TreeFault → Line
 fault_line (Device page count) = lines.Fault page
 fault_line (Full pages) = lines.Full
 fault_line (Worn page) = lines.Worn page
+fault_line (Damaged page) = lines.Damaged page
 
 -- the line of a call: its reply, or why it has none
 abbrev pub line_in : Call → Result Reply TreeFault → Line

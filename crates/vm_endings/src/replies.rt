@@ -2,7 +2,7 @@
 
 ghost use Rattle.std.specs.List.{AllByRecursion};
 ghost use Rattle.std.specs.Prelude.{[], ◌+◌, ◌++◌, ◌<◌, ◌^◌, ◌∷◌, ◌≡◌, ◌≤◌, length, OnOk};
-ghost use Rattle.vm_drive.specs.Compact.{all_replies, HasContents, ranges_in, replies_in, told_in, wins_in};
+ghost use Rattle.vm_calls.specs.Compact.{all_replies, HasContents, ranges_in, replies_in, told_in, wins_in};
 ghost use Rattle.vm_drive.specs.Drives.{AreFew, items_of};
 ghost use Rattle.vm_script.specs.Texts.{replies_text, rows_text, worker_replies};
 ghost use Rattle.vm_endings.specs.Replies.{all_lines, AreMatched, fault_line, lines_in};
@@ -23,6 +23,7 @@ fn line_of(fault: TreeFault) -> Line
         TreeFault::Device { pid, .. } => Line::Fault(pid),
         TreeFault::Full { .. } => Line::Full,
         TreeFault::Worn { pid } => Line::Worn(pid),
+        TreeFault::Damaged { pid } => Line::Damaged(pid),
     }
 }
 

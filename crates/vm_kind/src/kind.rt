@@ -11,14 +11,14 @@ pub trait Kind {
 
     type Said: Drop;
 
-    ghost use Rattle.std.specs.Prelude.{◌≡◌, ◌+◌, ◌<◌, ◌≤◌, List, MatchOption, ℕ};
+    ghost use Rattle.std.specs.Prelude.{◌≡◌, ◌≢◌, ◌⊎◌, ◌+◌, ◌<◌, ◌≤◌, List, MatchOption, unwrap_or, ℕ};
     ghost use Rattle.std.specs.Option.{option_map};
     ghost use Rattle.vm_map.specs.declared.call.Said.{Said as PlainSaid};
     ghost use Rattle.vm_map.specs.declared.call.Call.TheVariants.{Get, Put, Del, Swap as ForSwap};
     ghost use Rattle.vm_map.specs.declared.call.Reply.TheVariants.{Got, Was, Gone, Swapped};
     ghost use Rattle.vm_map.specs.Map.{Rises, lookup_at};
     ghost use Rattle.vm_tree_model.specs.Layout.{Layout, IsLayout, IsClean, size};
-    ghost use Rattle.vm_tree_model.specs.{Node.Covers, Page.pairs_of, Page.node_of};
+    ghost use Rattle.vm_tree_model.specs.{Page.pairs_of, Page.node_of};
     ghost use Rattle.vm_node.specs.Loads.{IsAnswer, Tells};
     ghost use Rattle.vm_inner.specs.Found.{FindsChildIn, FindsNoChild};
     ghost use Rattle.vm_kind.specs.Bounds.{Bounds};
@@ -82,23 +82,26 @@ pub trait Kind {
         ensures size { P.size place.new ≡ layout.words }
         ensures told { Tells layout.words P.loads place.old 1 place.new (λ page. IsAnswer result ((node_of layout page).tag ≡ 2)) };
 
-    /// Whether the key lies in the page's fences, from the low one on and below the high one.
-    fn covers_at<P: Place>(place: &mut P, key: &Self::Key) -> bool
+    /// Whether the page has just these fences. No high fence stands for the end of all keys.
+    fn has_fences_at<P: Place>(place: &mut P, low: &Self::Key, high: &Option<Self::Key>) -> bool
         requires ready { P.ready place.old }
         requires size { P.size place.old ≡ layout.words }
         ensures ready { P.ready place.new }
         ensures size { P.size place.new ≡ layout.words }
-        ensures told { Tells layout.words P.loads place.old bounds.covers place.new (λ page. IsAnswer result (Covers (node_of layout page) (rank key.now))) };
+        ensures told { Tells layout.words P.loads place.old bounds.fences place.new (λ page. IsAnswer result (((node_of layout page).low ≡ rank low.now)
+            × ((node_of layout page).high ≡ unwrap_or (option_map rank high.now) layout.key_end))) };
 
-    /// The child whose range has the key, of any page whose keys rise, with the keys on both sides. Of other pages it is that of a pair whose key is
-    /// not above, or none where the first pair's key is.
-    fn child_at<P: Place>(place: &mut P, key: &Self::Key) -> Option<Fenced<Self::Key>>
+    /// The child whose range has the key, of any page of this level whose keys rise, with the keys on both sides. Of other pages of this level it is
+    /// that of a pair whose key is not above, or none where the first pair's key is; of a page of another level there is none.
+    fn child_at<P: Place>(place: &mut P, level: u64, key: &Self::Key) -> Option<Fenced<Self::Key>>
         requires ready { P.ready place.old }
         requires size { P.size place.old ≡ layout.words }
         ensures ready { P.ready place.new }
         ensures size { P.size place.new ≡ layout.words }
-        ensures told { Tells layout.words P.loads place.old bounds.child place.new (λ page. MatchOption result (FindsNoChild layout page (rank key.now))
-            (λ child. FindsChildIn layout page (rank key.now) child.page (rank child.low) (option_map rank child.next))) }
+        ensures told { Tells layout.words P.loads place.old bounds.child place.new (λ page. MatchOption result
+            (((node_of layout page).level ≢ level) ⊎ FindsNoChild layout page (rank key.now))
+            (λ child. FindsChildIn layout page (rank key.now) child.page (rank child.low) (option_map rank child.next)
+            × ((node_of layout page).level ≡ level))) }
         ensures sides { MatchOption result (Unit {0})
             (λ child. (rank child.low ≤ rank key.now) × MatchOption child.next (Unit {0}) (λ above. rank key.now < rank above)) };
 

@@ -22,8 +22,8 @@ use vm_map::span::Span;
 use vm_map::window::{Bound, Window};
 use vm_node::pairs::{count_at, count_of, most_pairs};
 use vm_node::{
-    Edit, Full, Place, covers, covers_at, del, del_edit, find_at, in_buffer, is_leaf, is_leaf_at,
-    join, left_word, put_edit, range_at, right_half, window_at,
+    Edit, Full, Place, covers, del, del_edit, find_at, has_fences_at, has_level_at, in_buffer,
+    is_leaf, is_leaf_at, join, left_word, put_edit, range_at, right_half, window_at,
 };
 use vm_owner::Owner;
 use vm_page::PageBuf;
@@ -84,7 +84,7 @@ impl<S: OfSize<N>, const N: usize> Kind for WordKeys<S, N> {
 
     ghost spare_is = { spare_is N };
 
-    ghost bounds = { record { spare = 1; covers = 3; child = looks_for N + 2; find = looks_for N + 3 } };
+    ghost bounds = { record { spare = 1; fences = 3; child = looks_for N + 3; find = looks_for N + 3 } };
 
     fn words() -> usize {
         N
@@ -119,11 +119,14 @@ impl<S: OfSize<N>, const N: usize> Kind for WordKeys<S, N> {
         is_leaf_at(place, N)
     }
 
-    fn covers_at<P: Place>(place: &mut P, key: &u64) -> bool {
-        covers_at(place, N, *key)
+    fn has_fences_at<P: Place>(place: &mut P, low: &u64, high: &Option<u64>) -> bool {
+        has_fences_at(place, N, *low, *high)
     }
 
-    fn child_at<P: Place>(place: &mut P, key: &u64) -> Option<Fenced<u64>> {
+    fn child_at<P: Place>(place: &mut P, level: u64, key: &u64) -> Option<Fenced<u64>> {
+        if !has_level_at(place, N, level) {
+            return None;
+        }
         child_at(place, N, *key)
     }
 

@@ -1,6 +1,7 @@
 //! The calls on a leaf: which keys it answers for, look-ups of its pairs, and edits made in a buffer.
 
-ghost use Rattle.std.specs.Prelude.{◌≡◌, ◌≢◌, ℕ, ◌+◌, true, false, OnOk, OnErr, IfOk, MatchResult, IfNone};
+ghost use Rattle.std.specs.Prelude.{◌≡◌, ◌≢◌, ℕ, ◌+◌, true, false, OnOk, OnErr, IfOk, MatchResult, IfNone, unwrap_or, ◌==◌, if◌then◌else◌};
+ghost use Rattle.vm_map.specs.Keys.{KEY_END};
 ghost use Rattle.vm_map.specs.Map.{Rises, lookup_at, del_pair};
 ghost use Rattle.vm_page.specs.Sizes.{IsSize};
 ghost use Rattle.vm_tree_model.specs.Fixed.{fixed};
@@ -35,6 +36,44 @@ pub fn is_leaf<const N: usize>(page: &PageBuf<N>) -> bool
     ensures no { result ≡ false → (node_of (fixed N) page.now).tag ≢ 2 }
 {
     page.get(0) == 2
+}
+
+/// Whether the page has this level, from one word loaded.
+pub fn has_level_at<P: Place>(place: &mut P, words: usize, level: u64) -> bool
+    requires ready { P.ready place.old }
+    requires sized { IsSize words }
+    requires size { P.size place.old ≡ words }
+    ensures ready { P.ready place.new }
+    ensures size { P.size place.new ≡ words }
+    ensures told { Tells words P.loads place.old 1 place.new (λ page. IsAnswer result ((node_of (fixed words) page).level ≡ level)) }
+{
+    place.word(5) == level
+}
+
+/// Whether the page has just these fences, where none stands for the end of all keys; from at most 3 words loaded.
+pub fn has_fences_at<P: Place>(place: &mut P, words: usize, low: u64, high: Option<u64>) -> bool
+    requires ready { P.ready place.old }
+    requires sized { IsSize words }
+    requires size { P.size place.old ≡ words }
+    ensures ready { P.ready place.new }
+    ensures size { P.size place.new ≡ words }
+    ensures told { Tells words P.loads place.old 3 place.new (λ page. IsAnswer result (((node_of (fixed words) page).low ≡ low)
+        × ((node_of (fixed words) page).high ≡ unwrap_or high KEY_END))) }
+{
+    let from = place.word(2);
+    let fence = place.word(3);
+    let flag = place.word(4);
+    from == low && is_fence(flag, fence, high)
+}
+
+// Whether a page whose words 4 and 3 are these has this high fence.
+fn is_fence(flag: u64, fence: u64, high: Option<u64>) -> bool
+    ensures { IsAnswer result ((if flag == 0 then fence else KEY_END) ≡ unwrap_or high KEY_END) }
+{
+    match high {
+        Some(key) => flag == 0 && fence == key,
+        None => flag != 0,
+    }
 }
 
 /// Whether the key lies in the page's fences, from the low one on and below the high one; from at most 3 words loaded.

@@ -30,6 +30,8 @@ pub use edit::{Edit, del_edit, put_edit};
 pub use full::Full;
 pub use halves::{left_word, right_half, split};
 pub use joining::join;
-pub use leaf::{covers, covers_at, del, find, find_at, is_leaf, is_leaf_at, put};
+pub use leaf::{
+    covers, covers_at, del, find, find_at, has_fences_at, has_level_at, is_leaf, is_leaf_at, put,
+};
 pub use place::{Place, in_buffer};
 pub use shown::{range_at, window, window_at};

@@ -8,6 +8,7 @@ use Rattle.vm_io.specs.Shown.{Shown}
 use Rattle.vm_map.specs.{declared.call.Call.Call, declared.call.Reply.Reply, declared.call.Said.Said}
 use Rattle.vm_map.specs.{History.after_all, Map.gather, Map.Pairs}
 use Rattle.vm_page.specs.Sizes.{IsSize}
+use Rattle.vm_block.specs.declared.memory.MemBlock.{MemBlock}
 use Rattle.vm_tree_model.specs.{Fixed.fixed, Tree.IsTree, Tree.map_of}
 use Rattle.vm_tree_model.proofs.FixedLaws.{size_is}
 use Rattle.vm_image.specs.{Blocks.pages_of_blocks, File.most_pages}
@@ -16,9 +17,9 @@ use Rattle.vm_owner.specs.declared.Entry.{Entry}
 use Rattle.vm_pool.specs.{Closing.view_at_end, declared.ended.Ended.Ended}
 use Rattle.vm_tree_laws.specs.History.{saids}
 use Rattle.vm_tree_rule.specs.declared.fault.TreeFault.{TreeFault}
-use Rattle.vm_drive.specs.{Drives.AreFew, Kept.AreKept}
-use Rattle.vm_serve.specs.declared.serving.ServedInto.{ServedInto}
-use Rattle.vm_serve.proofs.Unplanned.{all_flushed, no_faults}
+use Rattle.vm_drive.specs.{Drives.AreFew, Lists.AreKept}
+use Rattle.vm_serve.specs.declared.serving.ServedOn.{ServedOn}
+use Rattle.vm_serve.proofs.{Planned.as-many, Planned.saved, Unplanned.all_flushed, Unplanned.no_faults}
 use Rattle.vm_churn.specs.{Calls.churn_count, Calls.churn_lists, declared.tally.Tally.Tally}
 use Rattle.vm_churn.specs.Tallies.{IsSmall, StandsFor, sum_values, tally_of, total_of}
 use Rattle.vm_churn.proofs.{Counting.kept_small, Counting.kept_total, Lists.count_lists, Lists.few_lists, Sums.sum_fits, Tallying.tallied}
@@ -94,7 +95,7 @@ few_matched (calls ∷ lists) (answers ∷ replies) same few =
     (subst (λ n. n ≤ 1000000) (sym same.0) few.0, few_matched lists replies same.1 few.1)
 
 module _ (n : ℕ) {U : Type 0} (load : Load) (within : IsWithinLimits load) (words : load.words ≡ n)
-    (s : ServedInto U Tally n Said) (is : IsLoaded n load s) where
+    (s : ServedOn U Tally (MemBlock n) Said) (is : IsLoaded n load s) where
   abbrev lists : List (List Call)
   lists = churn_lists load.pairs load.seed load.workers
 
@@ -105,14 +106,14 @@ module _ (n : ℕ) {U : Type 0} (load : Load) (within : IsWithinLimits load) (wo
   history = (view_at_end s.ended).seen
 
   few-replies : AreFew replies
-  few-replies = few_matched lists replies (matched history lists replies is.made.served.calls)
+  few-replies = few_matched lists replies (matched history lists replies is.made.served.on.calls)
       (few_lists load.pairs load.seed load.workers within.pairs)
 
   pub few_workers : length s.kept.items ≤ 64
   few_workers = omega (
     arith,
     kept_long s.kept.items replies is.made.stand,
-    is.made.served.calls.lists_long,
+    is.made.served.on.calls.lists_long,
     count_lists load.pairs load.seed load.workers,
     within.workers.1,
   )
@@ -123,17 +124,24 @@ module _ (n : ℕ) {U : Type 0} (load : Load) (within : IsWithinLimits load) (wo
   pub flushed : s.report.first ≡ None
   flushed = all_flushed n is.pages lists replies s.report s.blocks.items s.ended is.made.served
 
+  abbrev was_saved : IsTree (fixed n) (pages_of_blocks s.blocks.items)
+      × (map_of (fixed n) (pages_of_blocks s.blocks.items) ≡ last_map n is.pages s.ended)
+  was_saved = saved is.pages [] lists replies s.report s.blocks.items s.ended is.made.served (is.made.served.on.flushed flushed)
+
+  many_blocks : length s.blocks.items ≡ length is.pages
+  many_blocks = as-many is.pages [] lists replies s.report s.blocks.items s.ended is.made.served
+
   pub saved_tree : IsTree (fixed n) (pages_of_blocks s.blocks.items)
-  saved_tree = (is.made.served.saved (is.made.served.flushed flushed)).0
+  saved_tree = was_saved.0
 
   saved_map : map_of (fixed n) (pages_of_blocks s.blocks.items) ≡ last_map n is.pages s.ended
-  saved_map = (is.made.served.saved (is.made.served.flushed flushed)).1
+  saved_map = was_saved.1
 
   pub some_blocks : 2 ≤ length s.blocks.items
-  some_blocks = omega (arith, is.made.served.count, is.some)
+  some_blocks = omega (arith, many_blocks, is.some)
 
   pub most_blocks : length s.blocks.items ≤ most_pages n
-  most_blocks = omega (arith, is.made.served.count, is.most)
+  most_blocks = omega (arith, many_blocks, is.most)
 
   pub values_fit : (rows : Pairs) → rows ≡ map_of (fixed n) (pages_of_blocks s.blocks.items) → sum_values rows < 18446744073709551616
   values_fit rows are =
@@ -141,7 +149,7 @@ module _ (n : ℕ) {U : Type 0} (load : Load) (within : IsWithinLimits load) (wo
       are ∙ saved_map ∙ ap (λ (m : Pairs). after_all m (saids history)) is.built.map in
       subst (λ (m : Pairs). sum_values m < 18446744073709551616) (sym same)
       (sum_fits load.pairs load.seed load.workers history replies within.pairs within.workers.1
-      is.made.served.calls)
+      is.made.served.on.calls)
 
   pub churned : (rows : Pairs) (tally : Tally) (text : Vec ℕ Global) (o : Outcome U Said)
       → rows ≡ map_of (fixed n) (pages_of_blocks s.blocks.items) → tally ≡ total_of s.kept.items
@@ -153,8 +161,8 @@ module _ (n : ℕ) {U : Type 0} (load : Load) (within : IsWithinLimits load) (wo
   churned rows tally text o are counted says out =
       let given : Outcome U Said = record { delivery = record { file = None; text = text; status = 0 }; ended = s.ended } in
       let counts : tally ≡ tally_of history = counted ∙ kept_total s.kept.items replies is.made.stand few-replies
-      ∙ tallied (map_of (fixed n) is.pages) history lists replies is.made.served.legal.replies
-      is.made.served.calls in
+      ∙ tallied (map_of (fixed n) is.pages) history lists replies (is.made.served.on.legal refl).replies
+      is.made.served.on.calls in
       let whole : text.items ≡ churn_text load.pairs history (last_map n is.pages s.ended) = says
       ∙ ap (λ (t : Tally). churn_line load.pairs (churn_count load.pairs) t.some t.new t.gone (length rows) (sum_values rows)) counts
       ∙ ap (λ (m : Pairs). churn_text load.pairs history m) (are ∙ saved_map) in

@@ -6,7 +6,7 @@ use Rattle.vm_map.specs.{declared.call.Call.Call, declared.call.Said.Said, Map.P
 use Rattle.vm_tree_model.specs.{Fixed.fixed, Tree.map_of}
 use Rattle.vm_image.specs.{Blocks.pages_of_blocks, declared.blocks.PlannedFault.PlannedFault}
 use Rattle.vm_pool.specs.{Closing.view_at_end, declared.ended.Ended.Ended}
-use Rattle.vm_drive.specs.Compact.{all_replies}
+use Rattle.vm_drive.specs.Prelude.{all_replies}
 use Rattle.vm_serve.specs.{declared.serving.Served.Served, Served.IsServed}
 use Rattle.vm_script.specs.Texts.{rows_text, unflushed_line, worker_replies}
 use Rattle.vm_words.specs.declared.Run.{Run}

@@ -3,10 +3,11 @@ use Rattle.std.specs.Prelude.{[], ◌*◌, ◌≡◌, ◌≤◌, Err, length, Li
 use Rattle.vm_io.specs.Shown.{Shown}
 use Rattle.vm_map.specs.declared.call.Said.{Said}
 use Rattle.vm_page.specs.Sizes.{IsSize}
+use Rattle.vm_block.specs.declared.memory.MemBlock.{MemBlock}
 use Rattle.vm_image.specs.File.{most_pages}
 use Rattle.vm_build.specs.{Build.IsBuilt, Numbers.numbered}
 use Rattle.vm_pool.specs.Closing.{view_at_end}
-use Rattle.vm_serve.specs.{declared.serving.ServedInto.ServedInto, Served.IsServedInto}
+use Rattle.vm_serve.specs.{declared.serving.ServedOn.ServedOn, Served.IsServedInto}
 use Rattle.vm_churn.specs.{Calls.churn_lists, declared.tally.Tally.Tally, Tallies.StandsFor}
 use Rattle.vm_words.specs.declared.Churn.{Churn}
 use Rattle.vm_words.specs.declared.Command.TheVariants as commands
@@ -36,7 +37,7 @@ TellsLoad churn (Err quantity) =
     (shown : Option Shown) (failed : List ℕ) → StopsAt shown failed (order_of (commands.Churn churn)) (Shape quantity)
 
 -- what serving the calls leaves: the tree was built, and they were made on it
-pub record IsLoaded (n : ℕ) {U : Type 0} (load : Load) (s : ServedInto U Tally n Said) : Type 0 where
+pub record IsLoaded (n : ℕ) {U : Type 0} (load : Load) (s : ServedOn U Tally (MemBlock n) Said) : Type 0 where
   pub pages : List (List ℕ)
   pub some : 2 ≤ length pages
   pub most : length pages ≤ most_pages n

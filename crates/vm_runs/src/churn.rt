@@ -12,6 +12,7 @@ use crate::outcome::{Outcome, stored_in, told};
 use std::alloc::{AllocError, Global};
 use std::sync::Wait;
 use std::thread::Threads;
+use vm_block::MemBlock;
 use vm_build::{needed, numbered_image};
 use vm_churn::{Tally, calls_of, sum_of, tallies_for, tally_all};
 use vm_core::Memory;
@@ -26,7 +27,7 @@ use vm_map::call::Pair;
 use vm_page::{LARGE, WORDS};
 use vm_reading::reading::ReadTree;
 use vm_script::text::{Churned, churn_text};
-use vm_serve::{ServedInto, serve_into};
+use vm_serve::{ServedOn, serve_into};
 use vm_words::Churn;
 
 /// The numbers of a churn: at most 100,000 pairs, 1 to 64 workers, 64 to 65,536 frames and eight for each worker, and 64 or 512 words of a page. So many frames hold the pages of a call
@@ -73,7 +74,7 @@ fn served<S: OfSize<N> + Sync, R: Threads + Wait + Sync, G: Gate + Sync, const N
     alloc: Global,
     load: Load,
     gate: &G,
-) -> Result<ServedInto<TreeOf<WordKeys<S, N>>, Tally, N>, AllocError>
+) -> Result<ServedOn<TreeOf<WordKeys<S, N>>, Tally, MemBlock<N>>, AllocError>
     requires within { IsWithinLimits load }
     requires words { load.words ≡ N }
     ensures { IfOk result (λ s. IsLoaded N load s) }
@@ -124,7 +125,7 @@ fn churned<'a, S: OfSize<N> + Sync, R: Threads + Wait + Sync, G: Gate + Sync, co
     requires words { load.words ≡ N }
     ensures { IfOk result (λ outcome. DoesChurn N (asked load) (content_of outcome.delivery) outcome.ended × (outcome.delivery.status ≡ 0)) }
 {
-    let ServedInto {
+    let ServedOn {
         kept,
         evicted: _,
         report: _,

@@ -6,7 +6,7 @@ ghost use Rattle.vm_page.specs.Sizes.{IsSize};
 ghost use Rattle.vm_tree_model.specs.{Fixed.fixed, Tree.IsTree, Tree.map_of};
 ghost use Rattle.vm_image.specs.{Blocks.pages_of_blocks, File.most_pages};
 ghost use Rattle.vm_core.specs.Prelude.{MAX_VERSION};
-ghost use Rattle.vm_drive.specs.{Compact.all_replies, Compact.HasContents};
+ghost use Rattle.vm_drive.specs.Prelude.{all_replies, HasContents};
 ghost use Rattle.vm_drive.specs.Drives.{AreAskable, AreFew, items_of};
 ghost use Rattle.vm_script.specs.Texts.{rows_text, unflushed_line, worker_replies};
 ghost use Rattle.vm_endings.specs.Deliveries.{content_of, written_of};

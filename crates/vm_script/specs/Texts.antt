@@ -68,6 +68,7 @@ outcome_text (lines.Said said) = answer_text said.call said.reply
 outcome_text (lines.Fault page) = codes "fault " ++ decimal page
 outcome_text lines.Full = codes "full"
 outcome_text (lines.Worn page) = codes "worn " ++ decimal page
+outcome_text (lines.Damaged page) = codes "damaged " ++ decimal page
 
 -- `WORKER NUMBER REPLY`
 abbrev pub reply_line : ℕ → ℕ → Line → List ℕ

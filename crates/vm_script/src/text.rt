@@ -22,6 +22,8 @@ pub enum Line {
     Full,
     /// The word of this page stands at the last version.
     Worn(u32),
+    /// The words of this page are not what the way to it says.
+    Damaged(u32),
 }
 
 // The key of a window's bound, or `end`.
@@ -202,12 +204,13 @@ fn outcome(alloc: Global, line: &Line) -> Result<String, AllocError>
         Line::Fault(page) => format!(in alloc; "fault {page}"),
         Line::Full => String::from_str(alloc, "full"),
         Line::Worn(page) => format!(in alloc; "worn {page}"),
+        Line::Damaged(page) => format!(in alloc; "damaged {page}"),
     }
 }
 
 /// Appends the line `WORKER NUMBER REPLY` of a worker's call: `some V` or `none` to a get, `new` or `was V` to a put,
 /// `gone V` or `none` to a del, `swapped`, `kept V` or `none` to a swap, `window K B` with ` k=v` for each pair to a window from K on, B being the key of its bound or
-/// `end`, `range COUNT` with ` k=v` for each pair, or `wide R`, to a range; and `fault P`, `full` or `worn P` where there is no reply. A reply that is not of its call's
+/// `end`, `range COUNT` with ` k=v` for each pair, or `wide R`, to a range; and `fault P`, `full`, `worn P` or `damaged P` where there is no reply. A reply that is not of its call's
 /// kind has no text.
 ///
 /// # Errors

@@ -11,7 +11,7 @@ use Rattle.vm_core.specs.Prelude.{at, MAX_COUNT}
 use Rattle.vm_rule.specs.Prelude.{most_faults, no_block, Stored, times_noted}
 use Rattle.vm_step.specs.Prelude.{Note}
 use Rattle.vm_pool.specs.{Closing.AreSums, declared.ended.Ended.Ended}
-use Rattle.vm_drive.specs.Causes.{notes_about}
+use Rattle.vm_drive.specs.Prelude.{notes_about}
 use Rattle.vm_serve.specs.Served.{distinct_entries, same_entry}
 
 -- how many notes of page p have one of the counts up to b

@@ -1,6 +1,6 @@
 -- What serving comes to, from what was driven, what was flushed and what was closed.
-use Rattle.std.proofs.Common.{[], ⊎_elim, ◌*◌, ◌++◌, ◌+◌, ◌-◌, ◌<◌, ◌==◌, ◌∙◌, ◌∷◌, ◌≡◌, ◌≤◌, ap, arith, Bool, false}
-use Rattle.std.proofs.Common.{inl, inr, length, List, map, None, refl, replicate, Result, slice_index, slice_index_or}
+use Rattle.std.proofs.Common.{[], ⊎_elim, ◌*◌, ◌++◌, ◌+◌, ◌-◌, ◌<◌, ◌==◌, ◌∙◌, ◌∷◌, ◌≡◌, ◌≤◌, ◌⊎◌, ap, arith, Bool, false}
+use Rattle.std.proofs.Common.{inl, inr, length, List, map, None, refl, replicate, Result, slice_index}
 use Rattle.std.proofs.Common.{Some, subst, suc, sym, true, true≢false, zero, ℕ}
 use Rattle.std.specs.List.{Contains}
 use Rattle.std.proofs.lemmas.Bool.{cases_lt, eqb-true, ne_eqb, or_cases}
@@ -10,10 +10,10 @@ use Rattle.vm_tree_model.specs.{Count.node_count, Fixed.fixed, Page.IsFree, Tree
 use Rattle.vm_tree_model.proofs.{FixedLaws.sized_layout, WordTests.all_zero-from}
 use Rattle.vm_node.specs.Halves.{half_of}
 use Rattle.vm_image.specs.{declared.blocks.PlannedFault.PlannedFault, File.AreFreePages, File.IsNextPage}
-use Rattle.vm_image.specs.Blocks.{AreBlocksOf, numbers_for, pages_of_blocks}
-use Rattle.vm_core.specs.Prelude.{at, MAX_COUNT, page_at}
-use Rattle.vm_rule.specs.Prelude.{AreClaimed, began_of, block_words, bounds_of, Each, Entry, has, last_of, listed}
-use Rattle.vm_rule.specs.Prelude.{MayBegin, MemBlock, most_faults, no_block, numbers, started_origin, started_shape}
+use Rattle.vm_image.specs.Blocks.{AreBlocksOf, pages_of_blocks}
+use Rattle.vm_core.specs.Prelude.{at, MAX_COUNT, MAX_VERSION, page_at}
+use Rattle.vm_rule.specs.Prelude.{AreClaimed, began_of, block_words, bounds_of, Entry, has, last_of, listed}
+use Rattle.vm_rule.specs.Prelude.{IsStarted, MayBegin, MemBlock, no_block, numbers, started_origin, started_shape}
 use Rattle.vm_rule.specs.Prelude.{Stored, stored_of, unborn, words_of}
 use Rattle.vm_rule.specs.{Begun.begun, Started.contents_of}
 use Rattle.vm_rule.proofs.ListFacts.{at-map, length-mapped, listed-long}
@@ -29,22 +29,23 @@ use Rattle.vm_tree_laws.specs.{History.gones, History.IsLegal, History.news, His
 use Rattle.vm_tree_laws.specs.{Keeps.merge_weight, Plain.KeepsPlain}
 use Rattle.vm_tree_laws.proofs.{Fullness.room_used, Starts.start_keeps}
 use Rattle.vm_tree_rule.specs.declared.fault.TreeFault.{TreeFault}
-use Rattle.vm_drive.specs.{Drives.IsAtLastVersion, Drives.IsDriven, Holds.HoldsCalls, Shows.AllShown}
-use Rattle.vm_drive.specs.{Causes.all_faults_of, Causes.notes_about, Parts.logs_of, Parts.noted_by, TreeCalls.as_said}
-use Rattle.vm_drive.proofs.{Called.FoundFull, Called.FoundWorn, Doing.notes-both, Parted.parts-later, Parted.traced}
-use Rattle.vm_drive.proofs.{Parts.behind-in, Plainly.plain-keeps}
-use Rattle.vm_drive.proofs.Showing.{all-shown-more}
-use Rattle.vm_drive.proofs.Tracing.{found-later, lists-caused, max-later, used-up, worn-out}
-use Rattle.vm_serve.specs.Served.{is_first, IsFilled, IsServed}
-use Rattle.vm_serve.proofs.Counting.{few-faults, few-notes, small-plan}
+use Rattle.vm_drive.specs.Prelude.{IsUntold, notes_about, as_said}
+use Rattle.vm_drive.specs.{Drives.IsAtLastVersion, Drives.IsDriven, Holds.HoldsCalls, Lists.all_faults_of, Lists.AllShown}
+use Rattle.vm_drive.specs.Parts.{logs_of, noted_by}
+use Rattle.vm_drive.proofs.Prelude.{FoundFull, FoundWorn, notes-both, plain-keeps}
+use Rattle.vm_drive.proofs.Prelude.{found-later, max-later}
+use Rattle.vm_drive.proofs.Tracing.{lists-caused, used-up, worn-out}
+use Rattle.vm_drive.proofs.{Parted.parts-later, Parted.traced, Parts.behind-in, Showing.all-shown-more}
+use Rattle.vm_serve.specs.Served.{is_first, IsFilled, IsServedOn, MayBeServed}
+use Rattle.vm_serve.proofs.Counting.{few-notes}
 use Rattle.vm_serve.proofs.Widening.{all-widened, other-half}
 
--- the words of the blocks are the start's
-contents-held : {size : ℕ} (blocks : List (MemBlock size)) → contents_of size true (map stored_of blocks) ≡ pages_of_blocks blocks
-contents-held [] = refl
-contents-held (b ∷ bs) = ap (λ (l : List (List ℕ)). words_of b ∷ l) (contents-held bs)
+-- where blocks tell, their words are the start's
+contents-held : (size : ℕ) (tells : Bool) (blocks : List Stored) → tells ≡ true → contents_of size tells blocks ≡ block_words blocks
+contents-held size tells blocks t = subst (λ (told : Bool). contents_of size told blocks ≡ block_words blocks) (sym t) refl
 
-words-held : {size : ℕ} (blocks : List (MemBlock size)) → block_words (map stored_of blocks) ≡ pages_of_blocks blocks
+-- the words that blocks in memory hold
+pub words-held : {size : ℕ} (blocks : List (MemBlock size)) → block_words (map stored_of blocks) ≡ pages_of_blocks blocks
 words-held [] = refl
 words-held (b ∷ bs) = ap (λ (l : List (List ℕ)). words_of b ∷ l) (words-held bs)
 
@@ -68,27 +69,31 @@ pub claimed-free : (size : ℕ) (pages : List (List ℕ)) (next : ℕ) (free : L
 claimed-free size pages next free spare p is = (spare.each p (there p free is)).1
 
 -- and these pages are free
-pub free-words : (size : ℕ) (pages : List (List ℕ)) (next : ℕ) (free : List ℕ) → AreFreePages size pages next free
+free-words : (size : ℕ) (pages : List (List ℕ)) (next : ℕ) (free : List ℕ) → AreFreePages size pages next free
     → (p : ℕ) → has p free ≡ true → IsFree (fixed size) (page_at pages p)
 free-words size pages next free spare p is = (spare.each p (there p free is)).2
 
--- the tree may begin with the pages of blocks that are one, and with numbers of free pages
-pub begins-held : (size : ℕ) → IsSize size → (next : ℕ) (free : List ℕ) (blocks : List (MemBlock size))
-    → IsTree (fixed size) (pages_of_blocks blocks) → IsNextPage size (pages_of_blocks blocks) next
-    → ((p : ℕ) → has p free ≡ true → IsFree (fixed size) (page_at (pages_of_blocks blocks) p))
-    → MayBegin (KeepsPlain as_said (fixed size)) next free (block_words (map stored_of blocks))
-begins-held size sized next free blocks tree after spare =
-    subst (λ (l : List (List ℕ)). MayBegin (KeepsPlain as_said (fixed size)) next free l) (sym (words-held blocks))
-    (record {
-      zero = λ p l m. let f = after.free p l m in all-zero (length (page_at (pages_of_blocks blocks) p))
-          (page_at (pages_of_blocks blocks) p) refl f.zero;
-      spare = λ p e. let f = spare p e in all_zero-from (page_at (pages_of_blocks blocks) p) f.zero;
-      kept = start_keeps (fixed size) (sized_layout size sized) (record {
-        pages = pages_of_blocks blocks;
-        next = next;
-        free = free;
-      }) tree after.within;
-    })
+-- the tree may begin with pages that are one, and with numbers of free pages
+begins-with : (size : ℕ) → IsSize size → (next : ℕ) (free : List ℕ) (pages : List (List ℕ)) → IsTree (fixed size) pages
+    → IsNextPage size pages next → ((p : ℕ) → has p free ≡ true → IsFree (fixed size) (page_at pages p))
+    → MayBegin (KeepsPlain as_said (fixed size)) next free pages
+begins-with size sized next free pages tree after spare = record {
+  zero = λ p l m. let f = after.free p l m in all-zero (length (page_at pages p)) (page_at pages p) refl f.zero;
+  spare = λ p e. let f = spare p e in all_zero-from (page_at pages p) f.zero;
+  kept = start_keeps (fixed size) (sized_layout size sized) (record {
+    pages = pages;
+    next = next;
+    free = free;
+  }) tree after.within;
+}
+
+-- so it may with what blocks hold on which calls may be served, where they tell
+pub begins-held : (size : ℕ) → IsSize size → (tells : Bool) (pages : List (List ℕ)) (blocks : List Stored) (next : ℕ)
+    (free : List ℕ) → MayBeServed size tells pages blocks next free → tells ≡ true
+    → MayBegin (KeepsPlain as_said (fixed size)) next free (block_words blocks)
+begins-held size sized tells pages blocks next free may t =
+    subst (λ (l : List (List ℕ)). MayBegin (KeepsPlain as_said (fixed size)) next free l) (sym (may.held t))
+    (begins-with size sized next free pages may.tree may.next_page (free-words size pages next free may.free_pages))
 
 -- so it may with the pages of an image that is one, and with no number
 pub begins : (size : ℕ) → IsSize size → (pages : List (List ℕ)) (plan : List PlannedFault) (next : ℕ)
@@ -96,9 +101,26 @@ pub begins : (size : ℕ) → IsSize size → (pages : List (List ℕ)) (plan : 
     → AreBlocksOf pages plan blocks → MayBegin (KeepsPlain as_said (fixed size)) next []
     (block_words (map stored_of blocks))
 begins size sized pages plan next blocks tree after held =
-    begins-held size sized next [] blocks (subst (λ (l : List (List ℕ)). IsTree (fixed size) l) (sym held.held) tree)
-    (subst (λ (l : List (List ℕ)). IsNextPage size l next) (sym held.held) after)
-    (λ p e. absurd (true≢false (sym e)))
+    subst (λ (l : List (List ℕ)). MayBegin (KeepsPlain as_said (fixed size)) next [] l)
+    (sym (words-held blocks ∙ held.held))
+    (begins-with size sized next [] pages tree after (λ p e. absurd (true≢false (sym e))))
+
+-- the numbers that a pool over such blocks is started with fit
+pub has-started : (size : ℕ) (tells : Bool) (pages : List (List ℕ)) (blocks : List Stored) (next : ℕ) (free : List ℕ)
+    (version frames count : ℕ) → MayBeServed size tells pages blocks next free → length blocks ≡ count
+    → version ≤ MAX_VERSION → 64 ≤ frames → frames ≤ 65536 → count ≤ 65536 → IsStarted version next frames count
+has-started size tells pages blocks next free version frames count may long in-range some few-frames few =
+    let low = may.tree.meta.root_low in
+    let high = may.tree.meta.root_high in
+    let within = may.next_page.within in
+    record {
+      some_pages = omega (arith, may.count, long, low, high);
+      few_pages = few;
+      some_frames = omega (arith, some);
+      few_frames = few-frames;
+      claimed = omega (arith, may.count, long, within);
+      in_range = in-range;
+    }
 
 numbers-long : (a n : ℕ) → length (numbers a n) ≡ n
 unfolding numbers
@@ -114,27 +136,6 @@ fresh-enough size tells version next free frames count blocks v is few =
     let long : length v.fresh ≡ 4294967295 = ap (λ (x : View Said). length x.fresh) is ∙ numbers-long 1 4294967295 in
     omega arith
 
--- a fresh block's bound is that of its plan
-planned-bound : {size : ℕ} (blocks : List (MemBlock size)) (p : ℕ) (numbers : List ℕ) → p < length blocks
-    → ((d : MemBlock size) → (stored_of (slice_index_or blocks p d)).bound ≡ most_faults numbers)
-    → (at no_block (map stored_of blocks) p).bound ≡ most_faults numbers
-unfolding at
-planned-bound [] p numbers l f = absurd (omega arith)
-planned-bound (b ∷ bs) zero numbers l f = f b
-planned-bound (b ∷ bs) (suc p) numbers l f = planned-bound bs p numbers (omega arith) f
-
-each-at : {A : Type 0} (P : A → Type 0) (d : A) (xs : List A) (p : ℕ) → p < length xs → Each P xs → P (at d xs p)
-unfolding at
-each-at P d [] p l e = absurd (omega arith)
-each-at P d (x ∷ xs) zero l e = e.0
-each-at P d (x ∷ xs) (suc p) l e = each-at P d xs p (omega arith) e.1
-
-at-past : {A : Type 0} (d : A) (xs : List A) (p : ℕ) → length xs ≤ p → at d xs p ≡ d
-unfolding at
-at-past d [] p l = refl
-at-past d (x ∷ xs) zero l = absurd (omega arith)
-at-past d (x ∷ xs) (suc p) l = at-past d xs p (omega arith)
-
 -- the page of the first note has one
 first-noted : (p : ℕ) (notes : List Note) → is_first (first_noted notes) p ≤ notes_about p notes
 first-noted p [] = omega arith
@@ -143,13 +144,6 @@ first-noted p (n ∷ ns) = omega arith
 none-noted : (notes : List Note) → length notes ≡ 0 → first_noted notes ≡ None
 none-noted [] e = refl
 none-noted (n ∷ ns) e = absurd (omega arith)
-
-same-words : {size : ℕ} (blocks : List (MemBlock size)) (p : ℕ) → p < length blocks
-    → at [] (pages_of_blocks blocks) p ≡ (at no_block (map stored_of blocks) p).words
-unfolding at
-same-words [] p l = absurd (omega arith)
-same-words (b ∷ bs) zero l = refl
-same-words (b ∷ bs) (suc p) l = same-words bs p (omega arith)
 
 none-first : (notes : List Note) → first_noted notes ≡ None → length notes ≡ 0
 none-first [] e = refl
@@ -173,92 +167,98 @@ first-least p q high (n ∷ ns) rises e l =
     (omega arith, rw (ne_eqb q n.page (λ e. absurd (omega arith))) rest)
 
 -- the blocks hold the pages that these words are
-blocks-hold : {size : ℕ} (blocks : List (MemBlock size)) (n : ℕ) (words : ℕ → List ℕ) → length blocks ≡ n
-    → ((p : ℕ) → p < n → (at no_block (map stored_of blocks) p).words ≡ words p)
-    → pages_of_blocks blocks ≡ listed n words
+blocks-hold : (blocks : List Stored) (n : ℕ) (words : ℕ → List ℕ) → length blocks ≡ n
+    → ((p : ℕ) → p < n → (at no_block blocks p).words ≡ words p) → block_words blocks ≡ listed n words
 blocks-hold blocks n words long each =
-    sym (listed-long [] n (pages_of_blocks blocks) (length-mapped words_of blocks ∙ long))
-    ∙ listed-same n (at [] (pages_of_blocks blocks)) words (λ p l. same-words blocks p (subst (λ k. p < k) (sym long) l) ∙ each p l)
+    sym (listed-long [] n (block_words blocks) (length-mapped (λ (b : Stored). b.words) blocks ∙ long))
+    ∙ listed-same n (at [] (block_words blocks)) words
+    (λ p l. at-map (λ (b : Stored). b.words) [] no_block blocks p (subst (λ k. p < k) (sym long) l) ∙ each p l)
 
-module _ (size : ℕ) (sized : IsSize size) {U : Type 0} (pages : List (List ℕ)) (plan : List PlannedFault)
-    (version next : ℕ) (free : List ℕ) (frames : ℕ) (before after : List (MemBlock size)) (lists : List (List Call))
+module _ (size : ℕ) (sized : IsSize size) {U : Type 0} (tells : Bool) (pages : List (List ℕ)) (version next : ℕ)
+    (free : List ℕ) (frames : ℕ) (before after : List Stored) (lists : List (List Call))
     (replies : List (List (Result Reply TreeFault))) (report : Flushed) (end : Ended U Said) (v w : View Said)
-    (held : AreBlocksOf pages plan before) (count : length before ≡ length pages)
-    (is : v ≡ begun (unborn (started_shape size true version next free frames (map stored_of before))))
-    (next_page : IsNextPage size pages next) (spare : AreFreePages size pages next free)
-    (tree : IsTree (fixed size) pages)
-    (driven : IsDriven size true lists replies v w) (flushed : IsFlushed report w (view_at_end end)) (last : ℕ)
-    (closed : IsClosed true (KeepsPlain as_said (fixed size)) (view_at_end end) (map stored_of after) last) where
+    (may : MayBeServed size tells pages before next free)
+    (is : v ≡ begun (unborn (started_shape size tells version next free frames before)))
+    (driven : IsDriven size tells lists replies v w) (flushed : IsFlushed report w (view_at_end end)) (last : ℕ)
+    (closed : IsClosed tells (KeepsPlain as_said (fixed size)) (view_at_end end) after last) where
   abbrev e : View Said
   e = view_at_end end
 
-  start-is : e.start ≡ started_origin size true version next free frames (map stored_of before)
+  start-is : e.start ≡ started_origin size tells version next free frames before
   start-is = flushed.aside.start ∙ driven.start ∙ ap (λ (x : View Said). x.start) is
 
-  began : e.start.contents ≡ pages
-  began = ap (λ (o : Origin). o.contents) start-is ∙ contents-held before ∙ held.held
+  began : tells ≡ true → e.start.contents ≡ pages
+  began t = ap (λ (o : Origin). o.contents) start-is ∙ contents-held size tells before t ∙ may.held t
 
   many : e.start.pages ≡ length pages
-  many = ap (λ (o : Origin). o.pages) start-is ∙ length-mapped stored_of before ∙ count
+  many = ap (λ (o : Origin). o.pages) start-is ∙ may.count
 
   -- the history of the end is what the workers added
   grew-all : e.seen ≡ driven.grew
   grew-all = sym closed.own ∙ flushed.aside.mine ∙ driven.mine ∙ ap (λ (x : View Said). x.mine ++ driven.grew) is
 
-  keeps : KeepsTree (fixed size) (began_of e.start) (kept_by e)
-  keeps = plain-keeps (fixed size) (began_of e.start) (kept_by e) (closed.kept refl)
+  keeps : tells ≡ true → KeepsTree (fixed size) (began_of e.start) (kept_by e)
+  keeps t = plain-keeps (fixed size) (began_of e.start) (kept_by e) (closed.kept t)
 
-  legal : IsLegal (map_of (fixed size) pages) e.seen
-  legal = subst (λ (l : List (List ℕ)). IsLegal (map_of (fixed size) l) e.seen) began keeps.legal
+  legal : tells ≡ true → IsLegal (map_of (fixed size) pages) e.seen
+  legal t = subst (λ (l : List (List ℕ)). IsLegal (map_of (fixed size) l) e.seen) (began t) (keeps t).legal
 
-  filled : (n : ℕ) → FoundFull w n → IsFilled size pages end n
+  -- the next word leaves no room, and what the tree keeps accounts for it
+  filled-up : tells ≡ true → length e.start.contents ≤ (kept_by e).next + 1 → (half_of size - 1) * length pages ≤ 2
+      * half_of size * node_count (fixed size) pages + 2 * news e.seen + merge_weight (fixed size) * gones e.seen
+      + (half_of size - 1) * (e.start.next + 1)
+  filled-up t high =
+      let cause = room_used (fixed size) (began_of e.start) (kept_by e) (keeps t) (owes-nothing e closed.paid) high in
+      subst (λ (l : List (List ℕ)). (half_of size - 1) * length l ≤ 2 * half_of size * node_count (fixed size) l
+      + 2 * news e.seen + merge_weight (fixed size) * gones e.seen + (half_of size - 1)
+      * (e.start.next + 1)) (began t)
+      (subst (λ (k : ℕ). (half_of size - 1) * length e.start.contents ≤ k * node_count (fixed size)
+      e.start.contents + 2 * news e.seen + merge_weight (fixed size) * gones e.seen + (half_of size - 1)
+      * (e.start.next + 1)) (other-half size sized) cause)
+
+  filled : (n : ℕ) → FoundFull w n → IsFilled size tells pages end n
   filled n f =
       let here : FoundFull e n = found-later w e n flushed.aside.start (flushed.done, flushed.aside.log) f in
       let up = used-up e n last closed.found here in
-      let high : n ≤ last + 1 = up.1 in
-      let is-next : last ≡ (kept_by e).next = closed.next_is in
-      let all : n ≡ length pages = up.0 ∙ many in
-      let starts : length e.start.contents ≡ length pages = ap (λ (l : List (List ℕ)). length l) began in
-      let cause = room_used (fixed size) (began_of e.start) (kept_by e) keeps (owes-nothing e closed.paid) (omega arith) in
+      let high : n ≤ (kept_by e).next + 1 = subst (λ (k : ℕ). n ≤ k + 1) closed.next_is up.1 in
       record {
-        all = all;
-        high = (omega arith);
-        cause =
-            subst (λ (l : List (List ℕ)). (half_of size - 1) * length l ≤ 2 * half_of size * node_count (fixed size)
-            l + 2 * news e.seen + merge_weight (fixed size) * gones e.seen + (half_of size - 1)
-            * (e.start.next + 1)) began
-            (subst (λ (k : ℕ). (half_of size - 1) * length e.start.contents ≤ k * node_count (fixed size)
-            e.start.contents + 2 * news e.seen + merge_weight (fixed size) * gones e.seen + (half_of size - 1)
-            * (e.start.next + 1)) (other-half size sized) cause);
+        up = (up.0, high);
+        cause = λ t.
+            let starts : length e.start.contents ≡ length pages = ap (λ (l : List (List ℕ)). length l) (began t) in
+            let all : n ≡ length pages = up.0 ∙ many in
+            filled-up t (omega (arith, starts, all, high));
       }
 
-  -- from the next word at the start on the image's pages are free
+  -- from the next word at the start on the pages are free
   begun_next : IsNextPage size pages e.start.next
-  begun_next = subst (λ n. IsNextPage size pages n) (sym (ap (λ (o : Origin). o.next) start-is)) next_page
+  begun_next = subst (λ n. IsNextPage size pages n) (sym (ap (λ (o : Origin). o.next) start-is)) may.next_page
 
   -- the free ones below it are those that the pool began with
   begun_free : AreFreePages size pages e.start.next e.start.free
-  begun_free = subst (λ (o : Origin). AreFreePages size pages o.next o.free) (sym start-is) spare
+  begun_free = subst (λ (o : Origin). AreFreePages size pages o.next o.free) (sym start-is) may.free_pages
+
+  telling : e.start.tells ≡ tells
+  telling = ap (λ (o : Origin). o.tells) start-is
 
   shown : AllShown size e lists replies
   shown = all-shown-more size w e flushed.aside.start flushed.aside.seen flushed.aside.releases lists replies driven.shown
 
-  saved : report.failed ≡ 0 → length after ≡ e.start.pages
-      → ((p : ℕ) → p < e.start.pages → (at no_block (map stored_of after) p).words ≡ (last_of w p).words)
-      → IsTree (fixed size) (pages_of_blocks after)
-      × (map_of (fixed size) (pages_of_blocks after) ≡ after_all (map_of (fixed size) pages) (saids e.seen))
-  saved none long words =
+  saved : tells ≡ true → ((p : ℕ) → p < length before → (at no_block after p).words ≡ (last_of w p).words)
+      → IsTree (fixed size) (block_words after)
+      × (map_of (fixed size) (block_words after) ≡ after_all (map_of (fixed size) pages) (saids e.seen))
+  saved t words =
       let same : (p : ℕ) → (last_of e p).words ≡ (last_of w p).words = flushed.aside.alone.words driven.alone.0 driven.alone.1 in
-      let hold : pages_of_blocks after ≡ (kept_by e).pages =
-      blocks-hold after e.start.pages (λ p. (last_of e p).words) long (λ p l. words p l ∙ sym (same p)) in (
-        subst (λ (l : List (List ℕ)). IsTree (fixed size) l) (sym hold) keeps.tree,
-        ap (λ (l : List (List ℕ)). map_of (fixed size) l) hold ∙ keeps.contents
-            ∙ ap (λ (l : List (List ℕ)). after_all (map_of (fixed size) l) (saids e.seen)) began,
+      let hold : block_words after ≡ (kept_by e).pages =
+      blocks-hold after e.start.pages (λ p. (last_of e p).words) closed.count
+      (λ p l. words p (subst (λ (o : Origin). p < o.pages) start-is l) ∙ sym (same p)) in (
+        subst (λ (l : List (List ℕ)). IsTree (fixed size) l) (sym hold) (keeps t).tree,
+        ap (λ (l : List (List ℕ)). map_of (fixed size) l) hold ∙ (keeps t).contents
+            ∙ ap (λ (l : List (List ℕ)). after_all (map_of (fixed size) l) (saids e.seen)) (began t),
       )
 
-  -- each lesser page than the first whose write failed is saved, so its block has its last words
-  least : (p q : ℕ) → report.first ≡ Some p → q < p → IsStored e q × (page_at (pages_of_blocks after) q ≡ (last_of e q).words)
-  unfolding at
+  -- each lesser page than the first whose write failed is saved, so its block has its last words, where blocks tell
+  least : (p q : ℕ) → report.first ≡ Some p → q < p → IsStored e q
+      × (tells ≡ true → (at no_block after q).words ≡ (last_of e q).words)
   least p q first l =
       let inside = first-least p q w.start.pages flushed.noted.notes flushed.noted.rises (sym flushed.noted.first ∙ first) l in
       let free : (k : ℕ) → k < w.start.pages → HasNoLock w k = λ k m. (driven.holds.exclusive k, driven.holds.shares k) in
@@ -266,21 +266,15 @@ module _ (size : ℕ) (sized : IsSize size) {U : Type 0} (pages : List (List ℕ
       let here : q < e.start.pages = subst (λ (o : Origin). q < o.pages) (sym flushed.aside.start) page in
       let stored : IsStored e q =
       ⊎_elim (λ saved. ⊎_elim (λ gone. inl gone) (λ clean. inr clean.1) saved) (λ noted. absurd (true≢false (sym noted ∙ inside.1)))
-      ((flushed.alone driven.alone free).pages q page) in (
-        stored,
-        same-words after q (subst (λ n. q < n) (sym (sym (length-mapped stored_of after) ∙ closed.count)) here)
-            ∙ closed.words refl q here stored,
-      )
+      ((flushed.alone driven.alone free).pages q page) in
+      (stored, λ t. closed.words t q here stored)
 
   -- where no write failed each block has its page's last words
-  whole : (report.failed ≡ 0 → (p : ℕ) → p < length pages
-      → (at no_block (map stored_of after) p).words ≡ (last_of w p).words) → report.failed ≡ 0 → (p : ℕ)
-      → p < length pages → page_at (pages_of_blocks after) p ≡ (last_of e p).words
-  unfolding at
-  whole words none p l =
+  whole : ((p : ℕ) → p < length before → (at no_block after p).words ≡ (last_of w p).words) → (p : ℕ) → p < length pages
+      → (at no_block after p).words ≡ (last_of e p).words
+  whole words p l =
       let same : (last_of e p).words ≡ (last_of w p).words = flushed.aside.alone.words driven.alone.0 driven.alone.1 p in
-      same-words after p (subst (λ n. p < n) (sym (sym (length-mapped stored_of after) ∙ closed.count ∙ many)) l)
-      ∙ words none p l ∙ sym same
+      words p (subst (λ n. p < n) (sym may.count) l) ∙ sym same
 
   earlier : (p : ℕ) → all_faults_of p replies ≤ notes_about p w.notes
   earlier p = let calls : notes_about p v.notes + all_faults_of p replies ≤ notes_about p w.notes = driven.faults p in omega arith
@@ -299,69 +293,43 @@ module _ (size : ℕ) (sized : IsSize size) {U : Type 0} (pages : List (List ℕ
       let calls : notes_about p v.notes + all_faults_of p replies ≤ notes_about p w.notes = driven.faults p in
       omega arith
 
-  bound-is : (p : ℕ) → p < length pages → (at no_block (map stored_of after) p).bound ≡ most_faults (numbers_for plan p)
-  bound-is p l =
-      let many-after : length (map stored_of after) ≡ length pages = closed.count ∙ many in
-      let many-before : length (map stored_of before) ≡ length pages = length-mapped stored_of before ∙ count in
-      let same : bounds_of (map stored_of after) ≡ bounds_of (map stored_of before) =
-      closed.bounds ∙ ap (λ (o : Origin). o.bounds) start-is in
-      sym (at-map (λ (b : Stored). b.bound) 0 no_block (map stored_of after) p (subst (λ n. p < n) (sym many-after) l))
-      ∙ ap (λ (k : List ℕ). at 0 k p) same
-      ∙ at-map (λ (b : Stored). b.bound) 0 no_block (map stored_of before) p (subst (λ n. p < n) (sym many-before) l)
-      ∙ planned-bound before p (numbers_for plan p) (subst (λ n. p < n) (sym count) l) (λ d. (held.fresh p d l).bound)
+  bounds : bounds_of after ≡ bounds_of before
+  bounds = closed.bounds ∙ ap (λ (o : Origin). o.bounds) start-is
 
-  planned : length plan ≤ 64 → Each (λ (b : Stored). b.count ≤ b.bound) (map stored_of after) → (p : ℕ)
-      → notes_about p e.notes ≤ most_faults (numbers_for plan p)
-  planned few bounded p =
+  counted : (p : ℕ) → (notes_about p e.notes ≤ (at no_block after p).count) ⊎ (MAX_COUNT ≤ (at no_block after p).count)
+  counted p =
       ⊎_elim
-      (λ (l : p < length pages).
-      let b = (at no_block (map stored_of after) p).count in
-      let inside : p < length (map stored_of after) = subst (λ n. p < n) (sym (closed.count ∙ many)) l in
-      let most : (at no_block (map stored_of after) p).count ≤ (at no_block (map stored_of after) p).bound =
-      each-at (λ (b : Stored). b.count ≤ b.bound) no_block (map stored_of after) p inside bounded in
-      let is : (at no_block (map stored_of after) p).bound ≡ most_faults (numbers_for plan p) = bound-is p l in
-      let small : most_faults (numbers_for plan p) < MAX_COUNT = small-plan p plan few in
-      let notes : notes_about p e.notes ≤ (at no_block (map stored_of after) p).count =
-      few-notes p (at no_block (map stored_of after) p).count e.notes (omega arith)
-      (λ c some. closed.noted p c some) (λ c ne. closed.once p c ne) in
-      omega arith)
-      (λ (le : length pages ≤ p).
-      let none : (at no_block (map stored_of after) p).count ≡ 0 =
-      ap (λ (b : Stored). b.count)
-      (at-past no_block (map stored_of after) p (subst (λ n. n ≤ p) (sym (closed.count ∙ many)) le)) in
-      let notes : notes_about p e.notes ≤ (at no_block (map stored_of after) p).count =
-      few-notes p (at no_block (map stored_of after) p).count e.notes (omega arith)
-      (λ c some. closed.noted p c some) (λ c ne. closed.once p c ne) in
-      omega arith)
-      (cases_lt p (length pages))
+      (λ (l : (at no_block after p).count < MAX_COUNT).
+      inl (few-notes p (at no_block after p).count e.notes l (λ c some. closed.noted p c some) (λ c ne. closed.once p c ne)))
+      (λ (last : MAX_COUNT ≤ (at no_block after p).count). inr last)
+      (cases_lt (at no_block after p).count MAX_COUNT)
 
-  pub served : length plan ≤ 64 → AreSums (map stored_of after) end
-      → (report.failed ≡ 0 → (p : ℕ) → p < length pages
-      → (at no_block (map stored_of after) p).words ≡ (last_of w p).words) → IsServed size pages plan lists replies
-      report after end
-  served few sums words = record {
-    count = sym (length-mapped stored_of after) ∙ closed.count ∙ many;
+  pub served : AreSums after end → (tells ≡ true → report.failed ≡ 0 → (p : ℕ) → p < length before
+      → (at no_block after p).words ≡ (last_of w p).words) → IsServedOn size tells pages before lists replies report after end
+  served sums words = record {
+    count = closed.count ∙ many;
     many = many;
     closed = closed.shown;
-    tells = ap (λ (o : Origin). o.tells) start-is;
+    telling = telling;
     began = began;
     next = begun_next;
     free = begun_free;
-    bounds = bound-is;
+    bounds = bounds;
     legal = legal;
     calls = subst (λ (l : List (Entry Said)). HoldsCalls l lists replies) (sym grew-all) driven.calls;
     noted = noted;
+    counted = counted;
     worked = w;
     last_flush = flushed;
     earlier = earlier;
     all_made = sym all-seen;
-    planned = planned few sums.each;
-    caused = lists-caused (FoundFull w) (FoundWorn w) (IsFilled size pages end) (IsAtLastVersion e) filled
+    caused = lists-caused (FoundFull w) (FoundWorn w) (IsUntold w) (IsFilled size tells pages end) (IsAtLastVersion e) (IsUntold e) filled
         (λ p m. worn-out e p closed.versions
-        (max-later w e p flushed.aside.start (flushed.done, flushed.aside.log) m)) lists replies
+        (max-later w e p flushed.aside.start (flushed.done, flushed.aside.log) m))
+        (λ p u. subst (λ (o : Origin). (o.tells ≡ false) × (p < o.pages)) (sym flushed.aside.start) u) lists replies
         (traced size v.log w lists replies driven.passes driven.parts driven.logs);
-    widened = all-widened size sized pages end tree began begun_next (ap (λ (o : Origin). o.tells) start-is) lists
-        replies w driven.passes shown driven.parts;
+    widened = all-widened size sized tells pages end may.tree begun_next telling began lists replies w driven.passes
+        shown driven.parts;
     shown = shown;
     passes = driven.passes;
     parts = parts-later size w e flushed.aside.start all-seen flushed.aside.releases lists replies driven.passes driven.parts;
@@ -370,8 +338,7 @@ module _ (size : ℕ) (sized : IsSize size) {U : Type 0} (pages : List (List ℕ
     unflushed = λ none. flushed.noted.first ∙ none-noted flushed.noted.notes (flushed.noted.each ∙ none);
     flushed = λ none. sym flushed.noted.each ∙ none-first flushed.noted.notes (sym flushed.noted.first ∙ none);
     least = least;
-    whole = whole words;
-    saved = λ none. saved none (sym (length-mapped stored_of after) ∙ closed.count) (λ p l. words none p (subst (λ n. p < n) many l));
+    whole = λ t none. whole (words t none);
+    saved = λ t none. saved t (words t none);
     sums = sums;
-    few = few-faults (map stored_of after) plan end sums (λ p l. bound-is p (subst (λ n. p < n) (closed.count ∙ many) l));
   }

@@ -1,4 +1,5 @@
 pub mod Counting
 pub mod Widening
 pub mod Headline
+pub mod Planned
 pub mod Unplanned

@@ -6,7 +6,7 @@ use Rattle.vm_rule.specs.Prelude.{MemBlock}
 use Rattle.vm_evict.specs.declared.flushing.Flushed.{Flushed}
 use Rattle.vm_pool.specs.declared.ended.Ended.{Ended}
 use Rattle.vm_tree_rule.specs.declared.fault.TreeFault.{TreeFault}
-use Rattle.vm_drive.specs.Causes.{all_faults_of}
+use Rattle.vm_drive.specs.Lists.{all_faults_of}
 use Rattle.vm_serve.specs.Served.{is_first, IsServed}
 
 no-page : (first : Option ℕ) → ((p : ℕ) → is_first first p ≡ 0) → first ≡ None
@@ -17,7 +17,7 @@ module _ (n : ℕ) {U : Type 0} (pages : List (List ℕ)) (lists : List (List Ca
     (replies : List (List (Result Reply TreeFault))) (report : Flushed) (blocks : List (MemBlock n))
     (end : Ended U Said) (is : IsServed n pages [] lists replies report blocks end) where
   pub no_faults : (p : ℕ) → all_faults_of p replies ≡ 0
-  no_faults p = omega (arith, is.noted p, is.planned p)
+  no_faults p = omega (arith, is.on.noted p, is.planned p)
 
   pub all_flushed : report.first ≡ None
-  all_flushed = no-page report.first (λ p. omega (arith, is.noted p, is.planned p))
+  all_flushed = no-page report.first (λ p. omega (arith, is.on.noted p, is.planned p))

@@ -1,5 +1,6 @@
 -- A range that is too wide has its cause: at its entry sixteen leaves stood together in the tree, and another one behind them.
-use Rattle.std.proofs.Common.{[], ◌*◌, ◌++◌, ◌+◌, ◌-◌, ◌<◌, ◌∷◌, ◌≡◌, ◌≤◌, arith, Err, length, List, Ok, refl, Result, subst, sym, true, ℕ}
+use Rattle.std.proofs.Common.{[], ◌*◌, ◌++◌, ◌+◌, ◌-◌, ◌<◌, ◌∙◌, ◌∷◌, ◌≡◌, ◌≤◌, arith, Bool, Err, length, List, Ok}
+use Rattle.std.proofs.Common.{refl, Result, subst, sym, true, ℕ}
 use Rattle.vm_map.specs.{declared.call.Call.Call, declared.call.Reply.Reply, declared.call.Said.Said, declared.window.Bound.Bound}
 use Rattle.vm_map.specs.declared.call.Call.TheVariants.{Del, Get, Put, Range, Swap, Window}
 use Rattle.vm_map.specs.declared.call.Reply.TheVariants.{Gone, Got, Many, Swapped, Was, Wide, Win}
@@ -15,9 +16,9 @@ use Rattle.vm_pool.specs.{Closing.view_at_end, declared.ended.Ended.Ended}
 use Rattle.vm_tree_laws.specs.History.{news}
 use Rattle.vm_tree_laws.proofs.Widths.{wide_pages, wide_room}
 use Rattle.vm_tree_rule.specs.declared.fault.TreeFault.{TreeFault}
-use Rattle.vm_drive.specs.Parts.{HaveParts}
-use Rattle.vm_drive.specs.Shows.{AllShown, AreShown, IsOfLeaves, IsReplyShown}
-use Rattle.vm_drive.specs.TreeCalls.{AreTreeCalls, IsTreeCall}
+use Rattle.vm_drive.specs.Prelude.{AreShown, IsOfLeaves, IsReplyShown}
+use Rattle.vm_drive.specs.Prelude.{AreTreeCalls, IsTreeCall}
+use Rattle.vm_drive.specs.{Lists.AllShown, Parts.HaveParts}
 use Rattle.vm_serve.specs.{Served.IsWidened, Wide.AllWidenedBy, Wide.AreWidenedBy, Wide.WidenedBy}
 
 -- a page has place for an even number of pairs
@@ -36,24 +37,28 @@ news-more l m s = subst (λ (k : List (Entry Said)). news m ≤ news k) (sym s.1
 account-more : (least nodes used m n : ℕ) → least ≤ nodes + 2 * m + used → m ≤ n → least ≤ nodes + 2 * n + used
 account-more least nodes used m n h le = omega (arith, h, le)
 
-module _ (size : ℕ) (sized : IsSize size) {U : Type 0} (pages : List (List ℕ)) (end : Ended U Said)
-    (tree : IsTree (fixed size) pages) (began : (view_at_end end).start.contents ≡ pages)
-    (next : IsNextPage size pages (view_at_end end).start.next)
-    (tells : (view_at_end end).start.tells ≡ true) where
+module _ (size : ℕ) (sized : IsSize size) {U : Type 0} (tells : Bool) (pages : List (List ℕ)) (end : Ended U Said)
+    (tree : IsTree (fixed size) pages) (next : IsNextPage size pages (view_at_end end).start.next)
+    (telling : (view_at_end end).start.tells ≡ tells)
+    (began : tells ≡ true → (view_at_end end).start.contents ≡ pages) where
   abbrev e : View Said
   e = view_at_end end
+
+  -- what is asked of a range that is too wide
+  abbrev Cause : Type 0
+  Cause = tells ≡ true → IsWidened size pages end
 
   widened : (low reach : ℕ) (bound : Bound) → IsOfLeaves size (record {
     call = Range low bound;
     reply = Wide reach;
-  }) e → IsWidened size pages end
-  widened low reach bound l =
+  }) e → e.start.contents ≡ pages → IsWidened size pages end
+  widened low reach bound l held =
       let laws = sized_layout size sized in
       let start = began_of e.start in
       let p = l.proved in
-      let tree' : IsTree (fixed size) e.start.contents = subst (λ (l : List (List ℕ)). IsTree (fixed size) l) (sym began) tree in
+      let tree' : IsTree (fixed size) e.start.contents = subst (λ (l : List (List ℕ)). IsTree (fixed size) l) (sym held) tree in
       let free : (p : ℕ) → e.start.next ≤ p → p < length e.start.contents → IsFree (fixed size) (page_at e.start.contents p) =
-      subst (λ (l : List (List ℕ)). (p : ℕ) → e.start.next ≤ p → p < length l → IsFree (fixed size) (page_at l p)) (sym began) next.free in
+      subst (λ (l : List (List ℕ)). (p : ℕ) → e.start.next ≤ p → p < length l → IsFree (fixed size) (page_at l p)) (sym held) next.free in
       let enough : 19 ≤ length e.start.contents = wide_pages (fixed size) laws start l.kept l.keeps l.leaves low reach
       l.there p.0 p.1 p.3 in
       let room : (half_of size - 1) * 19 ≤ 2 * (capacity size - half_of size) * node_count (fixed size)
@@ -68,14 +73,14 @@ module _ (size : ℕ) (sized : IsSize size) {U : Type 0} (pages : List (List ℕ
       (2 * (capacity size - half_of size) * node_count (fixed size) e.start.contents)
       ((half_of size - 1) * e.start.next) (news l.kept.history) (news e.seen) room later) in
       record {
-        enough = subst (λ (l : List (List ℕ)). 19 ≤ length l) began enough;
+        enough = subst (λ (l : List (List ℕ)). 19 ≤ length l) held enough;
         cause = subst (λ (l : List (List ℕ)). (half_of size - 1) * 19 ≤ 2 * half_of size * node_count (fixed size)
-            l + 2 * news e.seen + (half_of size - 1) * e.start.next) began cause;
+            l + 2 * news e.seen + (half_of size - 1) * e.start.next) held cause;
       }
 
   -- a reply is one to its call, so none but a range is answered so
   wide-one : (c : Call) (r : Reply) (v x : View Said) → IsReplyShown size e c r → IsTreeCall size c (Ok r) v x
-      → WidenedBy (IsWidened size pages end) c (Ok r)
+      → WidenedBy Cause c (Ok r)
   wide-one c (Got found) v x s h = tt
   wide-one c (Was old) v x s h = tt
   wide-one c (Gone old) v x s h = tt
@@ -87,10 +92,10 @@ module _ (size : ℕ) (sized : IsSize size) {U : Type 0} (pages : List (List ℕ
   wide-one (Del key) (Wide reach) v x s h = absurd h.1
   wide-one (Window start most) (Wide reach) v x s h = absurd h.1
   wide-one (Swap key want value) (Wide reach) v x s h = absurd h.1
-  wide-one (Range low bound) (Wide reach) v x s h = (tt, widened low reach bound (s tells))
+  wide-one (Range low bound) (Wide reach) v x s h = (tt, λ t. widened low reach bound (s (telling ∙ t)) (began t))
 
   are-widened : (cs : List Call) (rs : List (Result Reply TreeFault)) (v x : View Said) → AreShown size e cs rs
-      → AreTreeCalls size cs rs v x → AreWidenedBy (IsWidened size pages end) cs rs
+      → AreTreeCalls size cs rs v x → AreWidenedBy Cause cs rs
   are-widened [] rs v x s t = tt
   are-widened (c ∷ cs) [] v x s t = tt
   are-widened (c ∷ cs) (Ok r ∷ rs) v x s t = (wide-one c r v t.0 s.0 t.1, are-widened cs rs t.0 x s.1 t.2)
@@ -98,7 +103,7 @@ module _ (size : ℕ) (sized : IsSize size) {U : Type 0} (pages : List (List ℕ
 
   pub all-widened : (lists : List (List Call)) (answers : List (List (Result Reply TreeFault))) (w : View Said)
       (passes : List (View Said)) → AllShown size e lists answers → HaveParts size w lists answers passes
-      → AllWidenedBy (IsWidened size pages end) lists answers
+      → AllWidenedBy Cause lists answers
   all-widened [] answers w passes s p = tt
   all-widened (cs ∷ lists) [] w passes s p = tt
   all-widened (cs ∷ lists) (rs ∷ answers) w [] s p = absurd p

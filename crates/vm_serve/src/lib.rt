@@ -1,7 +1,7 @@
-//! Workers' calls on the tree of a page file: a pool over the image's blocks, the workers, the flush, the end.
+//! Workers' calls on a tree of pages: a pool over the blocks of an image, or over blocks of any kind, the workers, the flush, the end.
 #![tactic(auto)]
 
 pub mod laws;
 mod serving;
 
-pub use serving::{Served, ServedInto, serve, serve_into};
+pub use serving::{Served, ServedOn, serve, serve_into, serve_on};

@@ -1,20 +1,21 @@
-//! The calls are made on a pool of the image's pages, which is then flushed and closed. The image may be let go as soon as there are blocks, and
-//! what keeps the answers may be anything.
+//! The calls are made on a pool over blocks of any kind, which is then flushed and closed; what keeps the answers may be anything. An image's
+//! pages are served as blocks in memory: the image may be let go as soon as there are blocks.
 
 ghost use Rattle.std.specs.List.{AllByRecursion};
-ghost use Rattle.std.specs.Prelude.{[], ◌*◌, ◌≡◌, ◌≤◌, IfOk, length, List, ℕ};
+ghost use Rattle.std.specs.Prelude.{[], ◌*◌, ◌≡◌, ◌≤◌, IfOk, length, List, map, ℕ};
 ghost use Rattle.vm_tree_model.specs.{Fixed.fixed, Tree.IsTree};
-ghost use Rattle.vm_image.specs.{Blocks.AreBlocksOf, Blocks.pages_of_blocks, declared.blocks.PlannedFault.PlannedFault, File.AreFreePages, File.IsNextPage};
+ghost use Rattle.vm_image.specs.{File.IsNextPage};
 ghost use Rattle.vm_core.specs.Prelude.{MAX_VERSION};
 ghost use Rattle.vm_pool.specs.Closing.{view_at_end};
+ghost use Rattle.vm_drive.specs.Prelude.{all_replies, HasContents};
 ghost use Rattle.vm_drive.specs.Drives.{AreAskable, AreFew, items_of};
-ghost use Rattle.vm_drive.specs.{Compact.all_replies, Compact.HasContents, Kept.HaveRoom};
-ghost use Rattle.vm_serve.specs.Served.{IsServed, IsServedInto};
+ghost use Rattle.vm_drive.specs.Lists.{HaveRoom};
+ghost use Rattle.vm_serve.specs.Served.{IsServed, IsServedInto, IsServedOnInto, MayBeServed};
 
 use std::alloc::Global;
 use std::sync::Wait;
 use std::thread::Threads;
-use vm_block::MemBlock;
+use vm_block::{MemBlock, PageBlock};
 use vm_core::Memory;
 use vm_drive::answers::Answers;
 use vm_drive::compact::Replies;
@@ -43,9 +44,9 @@ pub struct Served<U: Owner, const N: usize> {
     pub ended: Ended<U>,
 }
 
-/// What serving the calls came to, where the caller chose what keeps the answers.
+/// What serving the calls came to on blocks of any kind, where the caller chose what keeps the answers.
 #[derive(Drop)]
-pub struct ServedInto<U: Owner, A, const N: usize> {
+pub struct ServedOn<U: Owner, A, B> {
     /// For each worker what keeps its answers.
     pub kept: Vec<A>,
     /// How many pages the workers' sweeps evicted.
@@ -53,7 +54,7 @@ pub struct ServedInto<U: Owner, A, const N: usize> {
     /// What the last flush did.
     pub report: Flushed,
     /// The blocks, in the order of their pages.
-    pub blocks: Vec<MemBlock<N>>,
+    pub blocks: Vec<B>,
     /// That the pool was closed, with the one history that this run had.
     pub ended: Ended<U>,
 }
@@ -92,13 +93,13 @@ pub fn serve<S: OfSize<N> + Sync, R: Threads + Wait + Sync, G: Gate + Sync, cons
     let Ok(rooms) = rooms_for(alloc, lists) else {
         return Err(Memory);
     };
-    let ServedInto {
+    let ServedOn {
         kept,
         evicted,
         report,
         blocks,
         ended,
-    } = serve_blocks(
+    } = serve_on(
         rt,
         alloc,
         shape,
@@ -134,7 +135,7 @@ pub fn serve_into<
     lists: &[Vec<Call>],
     gate: &G,
     rooms: Vec<A>,
-) -> Result<ServedInto<TreeOf<WordKeys<S, N>>, A, N>, Memory>
+) -> Result<ServedOn<TreeOf<WordKeys<S, N>>, A, MemBlock<N>>, Memory>
     requires tree { IsTree (fixed N) image }
     requires version { first_version ≤ MAX_VERSION }
     requires frames { (64 ≤ frames) × (frames ≤ 65536) × (8 * length lists.now ≤ frames) }
@@ -154,7 +155,7 @@ pub fn serve_into<
         return Err(Memory);
     };
     drop(image);
-    serve_blocks(
+    serve_on(
         rt,
         alloc,
         shape,
@@ -180,10 +181,13 @@ fn shape_of<const N: usize>(image: &Image<N>, first_version: u64, frames: u32) -
     }
 }
 
-// Makes the calls on a pool of these blocks, whose free pages below the next one may be used anew; flushes it, and closes it.
-fn serve_blocks<
+/// The same on blocks of any kind, for a pool of this shape whose free pages below the next one may be used anew. The blocks hold pages that are
+/// a tree; where they do not tell their words, only the caller knows of these. What was evicted or changed is written to the blocks, and they come
+/// back in order. Where there is no memory they are dropped.
+pub fn serve_on<
     S: OfSize<N> + Sync,
     R: Threads + Wait + Sync,
+    B: PageBlock<N> + Send + Sync + Drop,
     G: Gate + Sync,
     A: Answers + Send + Drop,
     const N: usize,
@@ -191,24 +195,23 @@ fn serve_blocks<
     rt: &R,
     alloc: Global,
     shape: Shape,
-    blocks: Vec<MemBlock<N>>,
+    blocks: Vec<B>,
     free: &[u32],
     lists: &[Vec<Call>],
     gate: &G,
     rooms: Vec<A>,
-) -> Result<ServedInto<TreeOf<WordKeys<S, N>>, A, N>, Memory>
-    requires tree { IsTree (fixed N) (pages_of_blocks blocks.items) }
+) -> Result<ServedOn<TreeOf<WordKeys<S, N>>, A, B>, Memory>
+    requires tree { (pages : List (List ℕ)) × MayBeServed N B.tells pages (map B.stored blocks.items) shape.next free.now }
     requires pages { (shape.pages ≡ length blocks.items) × (shape.pages ≤ 65536) }
-    requires next { IsNextPage N (pages_of_blocks blocks.items) shape.next }
-    requires free { AreFreePages N (pages_of_blocks blocks.items) shape.next free.now }
     requires version { shape.first_version ≤ MAX_VERSION }
     requires frames { (64 ≤ shape.frames) × (shape.frames ≤ 65536) × (8 * length lists.now ≤ shape.frames) }
     requires lists { (1 ≤ length lists.now) × (length lists.now ≤ 64) }
     requires few { AreFew (items_of lists.now) }
     requires askable { AreAskable (items_of lists.now) }
     requires rooms { HaveRoom A.keeps A.room rooms.items (items_of lists.now) }
-    ensures served { IfOk result (λ s. (pages : List (List ℕ)) (plan : List PlannedFault) → length plan ≤ 64 → AreBlocksOf pages plan blocks.entry.items
-        → IsServedInto N A.keeps pages plan (items_of lists.now) s.kept.items s.report s.blocks.items s.ended) }
+    ensures served { IfOk result (λ s. (pages : List (List ℕ)) → MayBeServed N B.tells pages (map B.stored blocks.items) shape.next free.now
+        → IsServedOnInto N B.tells A.keeps pages (map B.stored blocks.items) (items_of lists.now) s.kept.items s.report
+        (map B.stored s.blocks.items) s.ended) }
     ensures version { IfOk result (λ s. (view_at_end s.ended).start.version ≡ shape.first_version) }
     ensures frames { IfOk result (λ s. (view_at_end s.ended).start.frames ≡ shape.frames) }
 {
@@ -223,7 +226,7 @@ fn serve_blocks<
                 next: _,
                 ended,
             } = closed;
-            Ok(ServedInto {
+            Ok(ServedOn {
                 kept,
                 evicted,
                 report,

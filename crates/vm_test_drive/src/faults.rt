@@ -1,6 +1,4 @@
 //! Workers over devices that fail, pages at the last version, and an image that is full.
-use crate::calls::{expect_fault, expect_lists, faults_in, shares, two_lists};
-use crate::trees::{empty, open};
 use std::alloc::Global;
 use std::process::Abort;
 use std::sync::Wait;
@@ -10,6 +8,8 @@ use vm_core::MAX_VERSION;
 use vm_drive::compact::Short;
 use vm_drive::drive;
 use vm_drive::gate::NoGate;
+use vm_drive_callers::calls::{expect_fault, expect_lists, faults_in, shares, two_lists};
+use vm_drive_callers::trees::{empty, open};
 use vm_image::PlannedFault;
 use vm_map::call::Call;
 use vm_tree_rule::TreeFault;
@@ -34,14 +34,13 @@ fn one_failure<R: Abort + Threads + Wait + Sync>(
     let few = faults_in(replies) <= 1;
     assert!(rt; few);
     expect_fault(
-        rt,
         replies,
         TreeFault::Device {
             pid: page,
             count: 1,
         },
-    );
-    expect_lists(rt, &pool, &mut pass, lists.as_slice(), replies);
+    )?;
+    expect_lists(rt, &pool, &mut pass, lists.as_slice(), replies)?;
     Ok(())
 }
 
@@ -66,8 +65,8 @@ fn a_failed_first_read_is_one_fault(rt: HostRuntime) -> Result<(), Fail> {
     let driven = drive(&rt, alloc, &pool, &mut pass, lists.as_slice(), &NoGate)?;
     let replies = driven.replies.as_slice();
     assert_eq!(rt; faults_in(replies), 1);
-    expect_fault(&rt, replies, TreeFault::Device { pid: 0, count: 1 });
-    expect_lists(&rt, &pool, &mut pass, lists.as_slice(), replies);
+    expect_fault(replies, TreeFault::Device { pid: 0, count: 1 })?;
+    expect_lists(&rt, &pool, &mut pass, lists.as_slice(), replies)?;
     Ok(())
 }
 
@@ -101,7 +100,7 @@ fn a_full_image_takes_28_pairs(rt: HostRuntime) -> Result<(), Fail> {
     let driven = drive(&rt, alloc, &pool, &mut pass, lists.as_slice(), &NoGate)?;
     let replies = driven.replies.as_slice();
     assert_eq!(rt; faults_in(replies), 12);
-    expect_fault(&rt, replies, TreeFault::Full { pages: 2 });
-    expect_lists(&rt, &pool, &mut pass, lists.as_slice(), replies);
+    expect_fault(replies, TreeFault::Full { pages: 2 })?;
+    expect_lists(&rt, &pool, &mut pass, lists.as_slice(), replies)?;
     Ok(())
 }

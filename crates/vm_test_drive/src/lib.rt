@@ -1,9 +1,7 @@
-//! Tests of workers over the tree (`vm_drive`, `vm_serve`), by their public items. They stand here so that no crate of the layers below is proved
-//! twice. The expected replies are worked out by hand from the rules, and not taken from a run.
+//! Tests of workers over the tree (`vm_drive`), by their public items. They stand here so that no crate of the layers below is proved twice. The expected
+//! replies are worked out by hand from the rules, and not taken from a run.
 #![tactic(auto)]
 
-#[cfg(test)]
-mod calls;
 #[cfg(test)]
 mod faults;
 #[cfg(test)]
@@ -12,7 +10,3 @@ mod overlap;
 mod ranges;
 #[cfg(test)]
 mod rounds;
-#[cfg(test)]
-mod served;
-#[cfg(test)]
-mod trees;

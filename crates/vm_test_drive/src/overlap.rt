@@ -3,8 +3,6 @@ ghost use Rattle.std.specs.Prelude.{◌≡◌, ◌≤◌, false, IfOk, length};
 ghost use Rattle.vm_rule.specs.Prelude.{HoldsNoPage, IsWhole};
 ghost use Rattle.vm_step.specs.Prelude.{IsReadyOn, view};
 
-use crate::calls::two_lists;
-use crate::trees::two_leaves;
 use std::alloc::Global;
 use std::sync::atomic::{AtomicBool, Ordering};
 use std::test::Fail;
@@ -13,6 +11,8 @@ use vm_block::{Block, Failed, MemBlock, PageBlock};
 use vm_drive::compact::Short;
 use vm_drive::drive;
 use vm_drive::gate::Gate;
+use vm_drive_callers::calls::two_lists;
+use vm_drive_callers::trees::two_leaves;
 use vm_image::{Image, blocks_of};
 use vm_map::call::Call;
 use vm_page::{PageBuf, WORDS};

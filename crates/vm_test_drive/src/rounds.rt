@@ -1,8 +1,6 @@
 //! One, two and four workers, with frames for all pages and with few.
 ghost use Rattle.std.specs.Prelude.{◌*◌, ◌≤◌};
 
-use crate::calls::{expect_lists, faults_in, shares};
-use crate::trees::{empty, open};
 use std::alloc::Global;
 use std::process::Abort;
 use std::sync::Wait;
@@ -11,6 +9,8 @@ use std::thread::Threads;
 use vm_core::Memory;
 use vm_drive::gate::NoGate;
 use vm_drive::{Driven, drive};
+use vm_drive_callers::calls::{expect_lists, faults_in, shares};
+use vm_drive_callers::trees::{empty, open};
 use vm_exmap::{Alloc, Interface};
 
 /// So many workers put 300 keys each, of which no two are the same, in a tree of 128 pages: each put is answered, and each key is there. How
@@ -30,7 +30,7 @@ fn round<R: Abort + Threads + Wait + Sync>(
     let driven = drive(rt, alloc, &pool, &mut pass, lists.as_slice(), &NoGate)?;
     let Driven { replies, evicted } = driven;
     assert_eq!(rt; faults_in(replies.as_slice()), 0);
-    expect_lists(rt, &pool, &mut pass, lists.as_slice(), replies.as_slice());
+    expect_lists(rt, &pool, &mut pass, lists.as_slice(), replies.as_slice())?;
     Ok(evicted)
 }
 
@@ -72,7 +72,7 @@ fn workers_are_driven_again_after_want_of_memory(rt: HostRuntime) -> Result<(), 
     let Driven { replies, evicted } = driven;
     assert_eq!(rt; evicted, 0);
     assert_eq!(rt; faults_in(replies.as_slice()), 0);
-    expect_lists(&rt, &pool, &mut pass, lists.as_slice(), replies.as_slice());
+    expect_lists(&rt, &pool, &mut pass, lists.as_slice(), replies.as_slice())?;
     Ok(())
 }
 

@@ -2,7 +2,6 @@
 ghost use Rattle.std.specs.Prelude.{IfOk};
 ghost use Rattle.vm_step.specs.Prelude.{IsReadyOn};
 
-use crate::resident::zero_pages;
 use arrayvec::ArrayVec;
 use std::alloc::Global;
 use std::test::Fail;
@@ -13,6 +12,7 @@ use vm_owner::Bare;
 use vm_page::{PageBuf, WORDS};
 use vm_rule::words::{Pass, Words};
 use vm_step::{Candidates, Looks, Took, lock_shared_silently};
+use vm_test_tables::resident::zero_pages;
 
 /// The state word of a marked page at version 7.
 const MARKED_7: u64 = 0xfe00_0000_0000_0007;
@@ -40,7 +40,7 @@ fn evicted_page(alloc: Global) -> Result<(Words<Bare, MemBlock<WORDS>>, Pass<Bar
 
 #[test]
 fn both_pages_are_marked_and_the_first_is_chosen(rt: HostRuntime) -> Result<(), Fail> {
-    let (words, mut pass) = zero_pages(&rt, rt.alloc(), 2, 7)?;
+    let (words, mut pass) = zero_pages(rt.alloc(), 2, 7)?;
     let chosen = candidates(&words, &mut pass, 1);
     let mut list = ArrayVec::new();
     list.push((0, MARKED_7));
@@ -55,7 +55,7 @@ fn both_pages_are_marked_and_the_first_is_chosen(rt: HostRuntime) -> Result<(), 
 
 #[test]
 fn a_shared_page_counts_as_held(rt: HostRuntime) -> Result<(), Fail> {
-    let (words, mut pass) = zero_pages(&rt, rt.alloc(), 2, 7)?;
+    let (words, mut pass) = zero_pages(rt.alloc(), 2, 7)?;
     let taken = matches!(lock_shared_silently(&words, &mut pass, 0, 7), Took::Taken);
     assert!(rt; taken);
     let chosen = candidates(&words, &mut pass, 1);
@@ -74,7 +74,7 @@ fn a_shared_page_counts_as_held(rt: HostRuntime) -> Result<(), Fail> {
 /// The hand was moved by 64 in between, and 64 is 1 beyond a multiple of 3.
 #[test]
 fn a_walk_makes_two_looks_at_each_frame(rt: HostRuntime) -> Result<(), Fail> {
-    let (words, mut pass) = zero_pages(&rt, rt.alloc(), 3, 7)?;
+    let (words, mut pass) = zero_pages(rt.alloc(), 3, 7)?;
     let first = candidates(&words, &mut pass, 64);
     let mut list = ArrayVec::new();
     list.push((0, MARKED_7));
@@ -102,7 +102,7 @@ fn a_walk_makes_two_looks_at_each_frame(rt: HostRuntime) -> Result<(), Fail> {
 
 #[test]
 fn pages_at_the_last_version_are_not_chosen(rt: HostRuntime) -> Result<(), Fail> {
-    let (words, mut pass) = zero_pages(&rt, rt.alloc(), 2, MAX_VERSION)?;
+    let (words, mut pass) = zero_pages(rt.alloc(), 2, MAX_VERSION)?;
     let chosen = candidates(&words, &mut pass, 1);
     let list = ArrayVec::new();
     let looks = Looks {

@@ -6,7 +6,6 @@ ghost use Rattle.vm_page.specs.Sizes.{IsSize};
 ghost use Rattle.vm_rule.specs.Prelude.{has};
 ghost use Rattle.vm_step.specs.Prelude.{GoesOn, IsReadyOn, view};
 
-use crate::resident::resident;
 use std::alloc::Global;
 use std::process::Abort;
 use std::test::Fail;
@@ -16,6 +15,7 @@ use vm_owner::Bare;
 use vm_page::{LARGE, PageBuf, WORDS};
 use vm_rule::words::{Pass, Words};
 use vm_step::{At, Saw, Took, take};
+use vm_test_tables::resident::resident;
 
 /// The word of an evicted page at version 1.
 const EVICTED_AT_1: u64 = 0xff00_0000_0000_0001;
@@ -125,7 +125,7 @@ fn a_table_of_resident_pages_has_its_words_by_the_layout(rt: HostRuntime) -> Res
     let mut blocks = Vec::new(alloc);
     blocks.push(MemBlock::new(alloc, PageBuf::zero(), &[])?)?;
     blocks.push(MemBlock::new(alloc, last, &[])?)?;
-    let (words, _pass) = resident::<HostRuntime, MemBlock<WORDS>, WORDS>(&rt, alloc, blocks, 7)?;
+    let (words, _pass) = resident::<MemBlock<WORDS>, WORDS>(alloc, blocks, 7)?;
     let table = &words.table.shared;
     // Two state words, two translations, two fault words, 128 words of frames, a bundle, the next word, the hand, two owner words, a free-number word.
     assert_eq!(rt; words.table.word_count(), 140);
@@ -153,7 +153,7 @@ fn a_table_of_a_large_page_has_its_words_by_the_layout(rt: HostRuntime) -> Resul
     page.set(511, 9);
     let mut blocks = Vec::new(alloc);
     blocks.push(MemBlock::new(alloc, page, &[])?)?;
-    let (words, _pass) = resident::<HostRuntime, MemBlock<LARGE>, LARGE>(&rt, alloc, blocks, 7)?;
+    let (words, _pass) = resident::<MemBlock<LARGE>, LARGE>(alloc, blocks, 7)?;
     let table = &words.table.shared;
     // A state word, a translation, a fault word, 512 words of the frame, a bundle, the next word, the hand, an owner word, a
     // free-number word.

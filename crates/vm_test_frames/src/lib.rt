@@ -1,5 +1,4 @@
-//! Tests of the crates of frames and locks: `vm_exmap`, `vm_fault`, `vm_clock` and `vm_guard`, over their public items. They stand here so
-//! that none of those crates is proved twice.
+//! Tests of the crates of frames: `vm_exmap`, `vm_fault` and `vm_clock`, over their public items. They stand here so that none of those crates is proved twice.
 #![tactic(auto)]
 
 #[cfg(test)]
@@ -8,7 +7,3 @@ mod clock;
 mod exmap;
 #[cfg(test)]
 mod fault;
-#[cfg(test)]
-mod guard;
-#[cfg(test)]
-mod resident;

@@ -1,3 +1,1 @@
-mod Beginnings
-mod Released
 mod Rounds

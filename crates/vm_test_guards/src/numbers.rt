@@ -4,7 +4,6 @@ ghost use Rattle.std.specs.Prelude.{[], ◌*◌, ◌<◌, ◌≡◌, ◌≤◌, 
 ghost use Rattle.vm_step.specs.Prelude.{GoesOn, IsReadyOn, IsSamePass, view};
 ghost use Rattle.vm_workers.specs.Puts.{HasPut, KeepsParts, MayStartWork};
 
-use crate::table::zeros;
 use std::alloc::Global;
 use std::process::Abort;
 use std::test::Fail;
@@ -18,6 +17,7 @@ use vm_pool::{Pool, Shape};
 use vm_pool_callers::whole_again::join_each;
 use vm_rule::words::{Pass, Words};
 use vm_step::{Took, pbload, pgive, ptake};
+use vm_test_pages::passes::zeros;
 
 /// How often each worker tries to take a number.
 const ROUNDS: u32 = 1_000;

@@ -4,7 +4,6 @@ ghost use Rattle.std.specs.Prelude.{[], ◌<◌, ◌≡◌, IfOk, length, map, N
 ghost use Rattle.vm_rule.specs.Prelude.{block_words, MayBegin, stored_of};
 ghost use Rattle.vm_step.specs.Prelude.{IsReadyOn, view};
 
-use crate::table::{free_frames, two_passes, zeros};
 use std::alloc::Global;
 use std::process::Abort;
 use std::test::Fail;
@@ -17,6 +16,7 @@ use vm_page::{PageBuf, WORDS};
 use vm_pool::{Bring, Pool};
 use vm_rule::words::Pass;
 use vm_step::{At, Saw};
+use vm_test_pages::passes::{free_frames, two_passes, zeros};
 
 /// The blocks of two pages, which have 64 times the word 5, and 64 times the word 6.
 fn two_blocks(alloc: Global) -> Result<Vec<MemBlock<WORDS>>, Fail>
@@ -97,7 +97,7 @@ fn a_read_of_a_page_that_was_used_again_is_refused(rt: HostRuntime) -> Result<()
     let mut page = PageBuf::zero();
     guard.read_all(&pool.words, &mut other, &mut page);
     is_all(&rt, &page, 0);
-    let mut frames = free_frames(&rt, &pool.words, &mut pass, 8);
+    let mut frames = free_frames(&pool.words, &mut pass, 8)?;
     if frames.len() < 2 {
         panic!(rt; "there are frames");
     }

@@ -5,12 +5,12 @@
 
 ghost use Rattle.vm_page.specs.Sizes.{IsSize};
 
-use crate::counted::{keys_searched, none_loaded};
-use crate::words::{edited_words, node_words, page_of, words_of};
 use std::process::Abort;
 use vm_inner::{Full, add, add_edit, child, child_at, new_root, split_inner};
 use vm_node::pairs::{count_of, most_pairs};
 use vm_page::{LARGE, PageBuf, WORDS};
+use vm_test_words::counted::{keys_searched, none_loaded};
+use vm_test_words::words::{edited_words, node_words, page_of, words_of};
 
 // The words of a node with this header and children with the keys first, first + 10, .. on the pages 100 + key.
 fn inner_words<const N: usize>(header: [u64; 8], first: u64, count: u64) -> [u64; N] {

@@ -2,11 +2,11 @@
 
 ghost use Rattle.vm_page.specs.Sizes.{IsSize};
 
-use crate::words::{edited_words, leaf_words, node_words, page_of, words_of};
 use vm_inner::{ChildPair, beside, remove_edit};
 use vm_node::join;
 use vm_node::pairs::{count_of, most_pairs};
 use vm_page::{LARGE, PageBuf, WORDS};
+use vm_test_words::words::{edited_words, leaf_words, node_words, page_of, words_of};
 
 // A leaf of the keys 10 to 12 below 13, one of 13 to 16 without a high fence, and the words of both as one.
 fn leaves<const N: usize>() -> (PageBuf<N>, PageBuf<N>, [u64; N])

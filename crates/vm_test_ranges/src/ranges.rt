@@ -1,6 +1,4 @@
 //! Ranges of small trees, with ample memory.
-use crate::calls::{lock_of, many, range_once, range_under, ranged, span};
-use crate::trees::{LARGE_MAGIC, MAGIC, leaves, open};
 use std::test::Fail;
 use vm_core::MAX_VERSION;
 use vm_exmap::Interface;
@@ -8,7 +6,9 @@ use vm_kind::Sizes;
 use vm_map::call::{Pair, Reply};
 use vm_map::window::Bound;
 use vm_page::WORDS;
-use vm_tree_read::TryRange;
+use vm_range_callers::calls::{lock_of, many, range_once, range_under, ranged, span};
+use vm_range_callers::trees::{LARGE_MAGIC, MAGIC, leaves, open};
+use vm_tree_range::TryRange;
 
 const FIRST: Pair = Pair { key: 5, value: 0 };
 

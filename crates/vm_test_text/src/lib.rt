@@ -1,13 +1,11 @@
-//! Tests of the crates of files and texts: `vm_io`, `vm_script` (scripts, lists of events, plans of failures) and `vm_words`, over their public items. They
-//! stand here so that none of those crates is proved twice.
+//! Tests of the crates of texts: `vm_script` (scripts, lists of events, plans of failures) and `vm_words`, over their public items. They stand here so that
+//! neither of them is proved twice.
 #![tactic(auto)]
 
 #[cfg(test)]
 mod events;
 #[cfg(test)]
 mod faults;
-#[cfg(test)]
-mod io;
 #[cfg(test)]
 mod script;
 #[cfg(test)]

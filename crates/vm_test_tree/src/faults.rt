@@ -1,5 +1,4 @@
 //! Devices that fail and pages at the last version, with ample memory: each fault names its page, leaves the map as it was, and holds nothing up that can go on.
-use crate::writes::put_range;
 use std::test::Fail;
 use vm_core::MAX_VERSION;
 use vm_exmap::Interface;
@@ -10,6 +9,7 @@ use vm_tree_callers::calls::{empty, get_once, got, open_with, two_leaves, window
 use vm_tree_callers::write_calls::{
     del_at, del_once, put_at, put_once, split_once, swap_at, swap_once,
 };
+use vm_tree_pages::keys::put_range;
 use vm_tree_read::TryRead;
 use vm_tree_rule::TreeFault;
 use vm_tree_write::{TrySplit, TryWrite};
@@ -124,7 +124,7 @@ fn a_worn_root_is_not_split(rt: HostRuntime) -> Result<(), Fail> {
     let bytes = empty(rt.alloc(), 8)?;
     let (pool, mut pass) = open_with(rt.alloc(), bytes.as_slice(), &[], MAX_VERSION - 29)?;
     let mut iface = Interface::new(0, 16);
-    put_range(&rt, &pool, &mut pass, &mut iface, 0, 28);
+    put_range(&rt, &pool, &mut pass, &mut iface, 0, 28)?;
     let tight = put_once(&pool, &mut pass, &iface, 28, 1);
     assert!(rt; matches!(&tight, TryWrite::Tight(1)));
     let worn = split_once(&pool, &mut pass, &mut iface, 28);

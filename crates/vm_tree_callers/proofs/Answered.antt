@@ -18,6 +18,7 @@ pub done-not : (t : TryRead) → IsDone t → ((reply : Reply) → t ≡ tries.D
 done-not (tries.Done reply) done other = other reply refl
 done-not (tries.Again saw) done other = absurd done
 done-not (tries.Need p) done other = absurd done
+done-not (tries.Damaged p) done other = absurd done
 
 joined : {E : Type 0} (l : List E) (p g : E) → ((l ++ p ∷ []) ++ []) ++ g ∷ [] ≡ l ++ p ∷ g ∷ []
 joined [] p g = refl

@@ -1,12 +1,10 @@
 -- What the evidence of a try tells of its call.
-use Rattle.std.proofs.Common.{⊎_elim, ◌++◌, ◌≡◌, ◌≢◌, ◌⊎◌, ap, false, inl, inr, List, subst, sym, ℕ}
-use Rattle.vm_tree_model.specs.Layout.{Layout}
+use Rattle.std.proofs.Common.{⊎_elim, ◌++◌, ◌≡◌, ◌≢◌, ◌⊎◌, ap, inl, inr, List, subst, sym, ℕ}
 use Rattle.vm_core.specs.Prelude.{LOCKED, state_of, version_of}
 use Rattle.vm_step.specs.Prelude.{Did, HasGiven, place_at, View, WhyAgain}
 use Rattle.vm_step.specs.{declared.saw.At.At, declared.saw.Saw.Saw}
 use Rattle.vm_step.specs.declared.saw.At.TheVariants as ats
-use Rattle.vm_tree_rule.specs.{Shown.IsAgain, Turns.IsAstray}
-use Rattle.vm_tree_rule.proofs.Entering.{astray-given}
+use Rattle.vm_tree_rule.specs.Shown.{IsAgain}
 
 other-words : (p : ℕ) (at : At) (first seen : ℕ) (last : Did) → at ≡ ats.Page p → WhyAgain at first seen last
     → (first ≢ seen) ⊎ (state_of seen ≡ LOCKED)
@@ -16,17 +14,11 @@ other-words p at first seen last is why =
     (λ rest. ⊎_elim (λ locked. inr locked) (λ lost. inl (λ e. lost.other (sym e))) rest)
     (subst (λ a. WhyAgain a first seen last) is why)
 
-pub again-seen : {X : Type 0} (L : Layout) (key : ℕ) (saw : Saw) (v w : View X)
-    → IsAgain v saw w ⊎ IsAstray L v key saw w → (done : List Did) × (w.log ≡ v.log ++ done)
+pub again-seen : {X : Type 0} (saw : Saw) (v w : View X) → IsAgain v saw w → (done : List Did) × (w.log ≡ v.log ++ done)
     × HasGiven done (place_at saw.at) saw.seen
-again-seen L key saw v w (inl a) =
+again-seen saw v w a =
     let s = a.seen in
     (a.done, a.log, record { earlier = s.earlier; step = s.last; later = s.later; cut = s.cut; gives = s.gives })
-again-seen L key saw v w (inr a) =
-    let given = astray-given L key saw v w a in
-    (given.0, given.1, subst (λ (at : At). HasGiven given.0 (place_at at) saw.seen) (sym a.at) given.2)
 
-pub again-other : {X : Type 0} (L : Layout) (key : ℕ) (saw : Saw) (v w : View X) → (v.start.tells ≡ false → ⊥)
-    → IsAgain v saw w ⊎ IsAstray L v key saw w → (saw.first ≢ saw.seen) ⊎ (state_of saw.seen ≡ LOCKED)
-again-other L key saw v w told (inl a) = other-words a.page saw.at saw.first saw.seen a.seen.last a.at a.seen.why
-again-other L key saw v w told (inr a) = absurd (told a.untold)
+pub again-other : {X : Type 0} (saw : Saw) (v w : View X) → IsAgain v saw w → (saw.first ≢ saw.seen) ⊎ (state_of saw.seen ≡ LOCKED)
+again-other saw v w a = other-words a.page saw.at saw.first saw.seen a.seen.last a.at a.seen.why

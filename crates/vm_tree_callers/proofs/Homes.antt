@@ -37,6 +37,7 @@ pub read-rests : {S : Type 0} (plain : S → Said) (L : Layout) (call : Call) (k
 read-rests plain L call key (reads.Done reply) v w a = of-reads v w a.reads
 read-rests plain L call key (reads.Again saw) v w a = of-reads v w a.0.0
 read-rests plain L call key (reads.Need p) v w a = of-reads v w a.0.0
+read-rests plain L call key (reads.Damaged p) v w a = of-reads v w a.0.0
 
 pub rests-held : {X : Type 0} (frames : List ℕ) (v w : View X) → AreHeld frames v → Rests v w → AreHeld frames w
 rests-held frames v w h r = held-on frames v w h r.start r.frames
@@ -83,3 +84,4 @@ pub tried-beside : {S : Type 0} (plain : S → Said) (L : Layout) (call : Call) 
 tried-beside plain L call key (reads.Done reply) p f version dirty v w a b = reads-beside p f version dirty v w b a.reads
 tried-beside plain L call key (reads.Again saw) p f version dirty v w a b = reads-beside p f version dirty v w b a.0.0
 tried-beside plain L call key (reads.Need q) p f version dirty v w a b = reads-beside p f version dirty v w b a.0.0
+tried-beside plain L call key (reads.Damaged q) p f version dirty v w a b = reads-beside p f version dirty v w b a.0.0

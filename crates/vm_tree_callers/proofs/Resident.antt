@@ -151,3 +151,4 @@ module _ {S : Type 0} (plain : S → Said) (L : Layout) (laws : IsLayout L) (siz
       answers (tries.Done reply) sure tried = ap tries.Done (answered reply tried)
       answers (tries.Again saw) sure tried = absurd (sure resident)
       answers (tries.Need p) sure tried = absurd (sure resident)
+      answers (tries.Damaged p) sure tried = absurd (sure resident)

@@ -3,12 +3,12 @@ use Rattle.std.proofs.Common.{⊎_elim, ◌≡◌, Err, IfErr, IfOk, List, Ok, R
 use Rattle.vm_map.specs.{declared.call.Call.Call, declared.call.Reply.Reply, declared.call.Said.Said}
 use Rattle.vm_tree_model.specs.Layout.{Layout}
 use Rattle.vm_step.specs.Prelude.{View}
-use Rattle.vm_tree_rule.specs.{declared.fault.TreeFault.TreeFault, Turns.IsNeeded}
+use Rattle.vm_tree_rule.specs.{declared.fault.TreeFault.TreeFault, Turns.IsDamaged, Turns.IsNeeded}
 use Rattle.vm_tree_read.specs.Waiting.{Waits}
 use Rattle.vm_tree_split.specs.{Splits.KeepsLocksOnly}
 use Rattle.vm_tree_write.specs.{declared.write.TryWrite.TryWrite}
 use Rattle.vm_tree_write.specs.declared.write.TryWrite.TheVariants as writes
-use Rattle.vm_tree_retry.specs.Waiting.{faulted, IsDelReplied, IsDelRound, IsNeededByDel, IsPutFaulted, IsPutRound}
+use Rattle.vm_tree_retry.specs.Waiting.{damaged, faulted, IsDamagedForDel, IsDelReplied, IsDelRound, IsNeededByDel, IsPutFaulted, IsPutRound}
 use Rattle.vm_tree_retry.specs.Waiting.{IsWriteFaulted, IsWriteReplied, IsWriteRound, missing, tight, worn}
 use Rattle.vm_tree_write.specs.Writes.{HasKeyIn, IsDel, IsPut, IsSwap, OnlyWrites}
 use Rattle.vm_tree_retry.proofs.Deleting.{again-frames, again-keeps, answer-frames, answer-out}
@@ -32,6 +32,7 @@ module _ {S : Type 0} (plain : S → Said) (L : Layout) where
   }
   del-rests key (writes.Need p) v w a = of-reads v w a.0.0
   del-rests key (writes.Worn p) v w a = of-reads v w a.0.0
+  del-rests key (writes.Damaged p) v w a = of-reads v w a.0.0
   del-rests key (writes.Tight p) v w a = absurd a
 
   pub swap-rests : (key want value : ℕ) (t : TryWrite) (v w : View S) → IsSwap plain L key want value t v w → Rests v w
@@ -39,23 +40,26 @@ module _ {S : Type 0} (plain : S → Said) (L : Layout) where
   swap-rests key want value (writes.Again saw) v w a = of-reads v w a.0.0
   swap-rests key want value (writes.Need p) v w a = of-reads v w a.0.0
   swap-rests key want value (writes.Worn p) v w a = of-reads v w a.0.0
+  swap-rests key want value (writes.Damaged p) v w a = of-reads v w a.0.0
   swap-rests key want value (writes.Tight p) v w a = absurd a
 
   pub del-home : (key : ℕ) (r : Result Reply TreeFault) (v w : View S)
       → IfOk r (λ reply. IsDelReplied plain L key reply v w)
-      → IfErr r (λ fault. IsWriteFaulted L KeepsLocksOnly (IsDelRound L) (IsNeededByDel L) (HasKeyIn L) key fault v w)
+      → IfErr r (λ fault. IsWriteFaulted L KeepsLocksOnly (IsDelRound L) (IsNeededByDel L) (IsDamagedForDel L) (HasKeyIn L) key fault v w)
       → w.out ≡ v.out
   del-home key (Ok reply) v w a b = a.out
   del-home key (Err fault) v w a (missing tried found page rounds k r n f all) = all.out
+  del-home key (Err fault) v w a (damaged tried page rounds k r n is all) = all.out
   del-home key (Err fault) v w a (worn tried page rounds k r n would f all) = all.out
 
   pub swap-home : (may : List ℕ → ℕ → Type 0) (call : Call) (key : ℕ) (r : Result Reply TreeFault) (v w : View S)
       → IfOk r (λ reply. IsWriteReplied plain L Waits (IsWriteRound L) (record {
         call = call;
         reply = reply;
-      }) v w) → IfErr r (λ fault. IsWriteFaulted L Waits (IsWriteRound L) (IsNeeded L) may key fault v w) → w.out ≡ v.out
+      }) v w) → IfErr r (λ fault. IsWriteFaulted L Waits (IsWriteRound L) (IsNeeded L) (IsDamaged L) may key fault v w) → w.out ≡ v.out
   swap-home may call key (Ok reply) v w a b = a.out
   swap-home may call key (Err fault) v w a (missing tried found page rounds k r n f all) = all.out
+  swap-home may call key (Err fault) v w a (damaged tried page rounds k r n is all) = all.out
   swap-home may call key (Err fault) v w a (worn tried page rounds k r n would f all) = all.out
 
   module _ (spare : List ℕ → ℕ) where
@@ -65,9 +69,11 @@ module _ {S : Type 0} (plain : S → Said) (L : Layout) where
     put-rests key value (writes.Need p) v w a = of-reads v w a.0.0
     put-rests key value (writes.Worn p) v w a = of-reads v w a.0.0
     put-rests key value (writes.Tight p) v w a = of-reads v w a.0.0
+    put-rests key value (writes.Damaged p) v w a = of-reads v w a.0.0
 
     fault-home : (key : ℕ) (fault : TreeFault) (v w : View S) → IsPutFaulted plain L spare key fault v w → w.out ≡ v.out
     fault-home key fault v w (faulted (missing tried found page rounds k r n f all)) = all.out
+    fault-home key fault v w (faulted (damaged tried page rounds k r n is all)) = all.out
     fault-home key fault v w (faulted (worn tried page rounds k r n would f all)) = all.out
     fault-home key fault v w (tight tried found page rounds k r t f all) = all.out
 

@@ -7,7 +7,7 @@ use Rattle.vm_rule.specs.Prelude.{Entry, entry_of, has, IsLocking, seat_of, Star
 use Rattle.vm_step.specs.Prelude.{HoldsPage, KnowsAsBefore, View}
 use Rattle.vm_guard.specs.{declared.exclusive.ExclusiveGuard.ExclusiveGuard, declared.opt.OptGuard.OptGuard}
 use Rattle.vm_tree_laws.specs.{History.IsLegal, Plain.plain_history}
-use Rattle.vm_tree_read.specs.Reads.{GainsEntry}
+use Rattle.vm_tree_split.specs.Prelude.{GainsEntry}
 use Rattle.vm_tree_split.specs.Prepares.{guard_pages}
 use Rattle.vm_tree_join.specs.{Locks.AreAllLocked, Locks.AreNumbersGiven, Merging.IsMerged}
 

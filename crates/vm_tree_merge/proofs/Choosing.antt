@@ -178,14 +178,14 @@ module _ {X : Type 0} (L : Layout) where
           valid = k;
         },
       )
-  stopped-beside up over key leaf named behind low left separator right turn v x w choice o read (stops.astray is untold k none) =
+  stopped-beside up over key leaf named behind low left separator right turn v x w choice o read (stops.damaged is untold k none) =
       let reads : ReadsOn v x = opened-reads up.pid up.word up.frame v x o in
       subst (λ t. IsTurnedBeside L v key t w) (sym is) (
         reads-then v x w reads (valid-reads (Tied L) up.pid up.word up.frame x w k),
         record {
           untold = ap (λ (s : Origin). s.tells) (sym reads.0.start) ∙ untold;
           up = up;
-          at = refl;
+          page = refl;
           leaf = leaf;
           over = over;
           named = named;

@@ -7,7 +7,6 @@ use Rattle.vm_core.specs.Prelude.{MAX_VERSION, version_of}
 use Rattle.vm_inner.specs.Neighbours.{AreBeside, HasNoPair}
 use Rattle.vm_kind.specs.Joins.{both_as_one}
 use Rattle.vm_step.specs.Prelude.{Did, NeedsPage, ReadsAsBefore, View}
-use Rattle.vm_step.specs.declared.saw.At.TheVariants as ats
 use Rattle.vm_step.specs.declared.saw.Saw.{Saw}
 use Rattle.vm_guard.specs.{declared.opt.OptGuard.OptGuard, Guards.IsValid}
 use Rattle.vm_tree_laws.specs.Tied.{Tied}
@@ -80,12 +79,12 @@ module _ {X : Type 0} (L : Layout) where
     pub read : HasRead before up.pid over
     pub valid : IsValid (Tied L) up.pid up.word up.frame None before w
 
-  -- Blocks do not tell their words, and the leaf's parent, which was read whole and validated, names a page beside
-  -- the leaf that it can't name. Its word stands for both
-  pub record IsAstrayBeside (v : View X) (key : ℕ) (saw : Saw) (w : View X) : Type 0 where
+  -- Page p, the leaf's parent, was read whole and validated, and names a page beside the leaf that it can't name: so
+  -- blocks do not tell their words
+  pub record IsDamagedBeside (v : View X) (key p : ℕ) (w : View X) : Type 0 where
     pub untold : v.start.tells ≡ false
     pub up : OptGuard
-    pub at : saw ≡ record { at = ats.Page up.pid; first = up.word; seen = up.word }
+    pub page : up.pid ≡ p
     pub leaf : ℕ
     pub over : List ℕ
     pub named : ℕ
@@ -105,7 +104,7 @@ module _ {X : Type 0} (L : Layout) where
   abbrev pub IsTurnedBeside : View X → ℕ → Turn → View X → Type 0
   IsTurnedBeside v key (turns.Again saw) w = ReadsOn v w × IsAgain v saw w
   IsTurnedBeside v key (turns.Need p) w = ReadsOn v w × IsNeededBeside v key p w
-  IsTurnedBeside v key (turns.Astray saw) w = ReadsOn v w × IsAstrayBeside v key saw w
+  IsTurnedBeside v key (turns.Damaged p) w = ReadsOn v w × IsDamagedBeside v key p w
 
   -- This page, whose read began in this call and is open, stands beside the leaf under the same parent, as words say
   -- that were read of the parent whole and validated

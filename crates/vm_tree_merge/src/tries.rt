@@ -132,7 +132,7 @@ fn try_last<K: Merges, B: Block>(
 pub fn try_merge<K: Merges, B: Block>(
     words: &Words<TreeOf<K>, B>,
     pass: &mut Pass<TreeOf<K>>,
-    reached: Reached,
+    reached: Reached<K::Key>,
     key: &K::Key,
     page: &K::Page,
     said: &K::Said,
@@ -150,7 +150,7 @@ pub fn try_merge<K: Merges, B: Block>(
     ensures sure { B.tells ≡ true → IsKnownNow reached.leaf.pid reached.leaf.word (view pass.old) → KnowsAbove reached.above (view pass.old) → IsFinalMerge result }
     ensures known { B.tells ≡ true → IsKnownNow reached.leaf.pid reached.leaf.word (view pass.old) → KnowsAbove reached.above (view pass.old) → IsKnownAfter result (view pass.new) }
 {
-    let Reached { leaf, above } = reached;
+    let Reached { leaf, above, .. } = reached;
     let mut rest = K::zero();
     K::copy(&mut rest, page);
     K::del(&mut rest, key);

@@ -1,5 +1,5 @@
 -- The leaf's validation answers the call.
-use Rattle.std.proofs.Common.{[], ⊎_elim, ◌++◌, ◌+◌, ◌∙◌, ◌∷◌, ◌≡◌, ◌≢◌, ◌⊎◌, ap, append_assoc, arith, inl, inr}
+use Rattle.std.proofs.Common.{[], ⊎_elim, ◌++◌, ◌+◌, ◌<◌, ◌∙◌, ◌∷◌, ◌≡◌, ◌≢◌, ◌≤◌, ◌⊎◌, ap, append_assoc, arith, inl, inr}
 use Rattle.std.proofs.Common.{length, List, refl, slice_index, Some, subst, sym, true, ℕ}
 use Rattle.vm_map.specs.{declared.call.Said.Said, Map.Rises}
 use Rattle.vm_tree_model.specs.{Layout.Layout, Node.Covers, Page.node_of, Page.pairs_of, Tree.map_of}
@@ -10,16 +10,15 @@ use Rattle.vm_step.specs.declared.saw.Saw.{Saw}
 use Rattle.vm_guard.specs.declared.deny.Deny.TheVariants as denies
 use Rattle.vm_guard.specs.Denied.{AgainOrNeed, IsDenied, KeptWord}
 use Rattle.vm_guard.specs.Guards.{IsReading, IsValid, placed}
-use Rattle.vm_tree_laws.specs.{Descent.IsReached, History.IsLegal, May.IsProved, Plain.KeepsPlain}
-use Rattle.vm_tree_laws.specs.{Plain.plain_history, Plain.ReadsPlain, Tied.Tied}
-use Rattle.vm_tree_laws.proofs.Descents.{kind_by_level}
-use Rattle.vm_tree_rule.specs.{Leaves.ReadsOn, Seeks.HasLoaded, Shown.IsAgain, Turns.IsAstray, Turns.TellLeaf, Turns.TellNoLeaf}
+use Rattle.vm_tree_laws.specs.{History.IsLegal, May.IsProved, Plain.KeepsPlain}
+use Rattle.vm_tree_laws.specs.{Plain.plain_history, Plain.ReadsPlain, Tied.IsNodeAs, Tied.Tied}
+use Rattle.vm_tree_rule.specs.{Leaves.ReadsOn, Seeks.HasLoaded, Shown.IsAgain, Turns.TellLeaf, Ways.TellNoNode}
 use Rattle.vm_node.specs.Loads.{IsPageWith}
 use Rattle.vm_node.proofs.Telling.{page_first, page_then}
-use Rattle.vm_tree_rule.specs.Standing.{Awaits, IsOpened, tree_pages}
+use Rattle.vm_tree_rule.specs.Standing.{AwaitsNode, IsOpened}
 use Rattle.vm_tree_rule.proofs.Entering.{refused-turn}
 use Rattle.vm_tree_rule.proofs.Readings.{each-loaded, leaves-self, loads-behind, only-then, reads-self, same-page, valid-only}
-use Rattle.vm_tree_read.specs.Reads.{IsAnswered, key_of, ProvesReply, TellReply}
+use Rattle.vm_tree_read.specs.Reads.{IsAnswered, IsLeafBetween, key_of, ProvesReply, TellReply}
 
 -- the words that a validation proves are a page that has what was loaded
 pub page-with : {S : Type 0} (L : Layout) (p : ℕ) (loaded : List (ℕ × ℕ)) (v : View S) (words : List ℕ)
@@ -128,28 +127,40 @@ pub unproved : {S : Type 0} (L : Layout) (p word frame key : ℕ) (saw : Saw) (v
     → ReadsOn v w × IsAgain v saw w
 unproved L p word frame key saw v x w o d = refused-turn p word frame L key saw v x x w o (reads-self x) (leaves-self p x) d
 
-pub refused : {S : Type 0} (L : Layout) (p word frame key : ℕ) (saw : Saw) (v x w : View S)
-    → IsOpened v p word frame x → IsDenied AgainOrNeed (KeptWord word) NoneExpected p (denies.Again saw) x w
-    → ReadsOn v w × (IsAgain v saw w ⊎ IsAstray L v key saw w)
-refused L p word frame key saw v x w o d = let turn = unproved L p word frame key saw v x w o d in (turn.0, inl turn.1)
-
--- the words of a page that was reached at level 0 are a leaf's that covers the key
-pub leaf-must : {S : Type 0} (L : Layout) (p word frame key : ℕ) (loaded : List (ℕ × ℕ)) (v : View S) (words : List ℕ)
-    → IsReading p word frame v → HasLoaded v p loaded → Awaits L v p word 0 key → v.start.tells ≡ true
+-- the words of a page that was reached at level 0 are a leaf's with the fences at which it was reached
+pub leaf-must : {S : Type 0} (L : Layout) (p word frame low high : ℕ) (loaded : List (ℕ × ℕ)) (v : View S) (words : List ℕ)
+    → IsReading p word frame v → HasLoaded v p loaded → AwaitsNode L v p word 0 low high → v.start.tells ≡ true
     → length words ≡ L.words
-    → LockValidates (Tied L) p (version_of word) words v → TellNoLeaf L loaded key → ⊥
-leaf-must L p word frame key loaded v words r has awaits tells size sees none =
-    let reached : IsReached L (tree_pages v) p words 0 key = awaits tells words sees.holds in
-    let not = none words (page-with L p loaded v words has size (sees.valid _ r.reading refl)) in
-    ⊎_elim (λ leaf. ⊎_elim (λ n. n leaf.1.node.tag) (λ n. n reached.covers) not)
-    (λ inner. absurd (omega (arith, inner.0))) (kind_by_level L (tree_pages v) p words 0 key reached)
+    → LockValidates (Tied L) p (version_of word) words v → TellNoNode L loaded 0 low high → ⊥
+leaf-must L p word frame low high loaded v words r has awaits tells size sees none =
+    none words (page-with L p loaded v words has size (sees.valid _ r.reading refl)) (awaits tells words sees.holds).node
 
--- a page that was read whole is no leaf of the key
-pub none-whole : (L : Layout) (page : List ℕ) (key : ℕ) → length page ≡ L.words → ((node_of L page).tag ≢ 2)
-    ⊎ (¬ (Covers (node_of L page) key)) → TellNoLeaf L (placed 0 page) key
-none-whole L page key long none words with =
-    subst (λ (l : List ℕ). ((node_of L l).tag ≢ 2) ⊎ (¬ (Covers (node_of L l) key)))
-    (sym (same-page words page long with)) none
+-- a node of level 0 is a leaf
+level-leaf : (L : Layout) (words : List ℕ) (low high : ℕ) → IsNodeAs L words 0 low high → (node_of L words).tag ≡ 2
+level-leaf L words low high node = elim node.kind [
+  | inl leaf ↦ leaf.node.tag
+  | inr inner ↦ absurd (omega (arith, inner.node.level, node.level_is))
+]
+
+-- what was found to be no leaf with these fences is no node of level 0 with them
+pub none-between : (L : Layout) (loaded : List (ℕ × ℕ)) (low high : ℕ)
+    → ((words : List ℕ) → IsPageWith L.words loaded words → ¬ (IsLeafBetween L words low high)) → TellNoNode L loaded 0 low high
+none-between L loaded low high not words with node =
+    not words with (level-leaf L words low high node, node.low_is, node.high_is)
+
+-- a page that was read whole is no leaf of the key, which the fences hold
+pub none-whole : (L : Layout) (page : List ℕ) (key low high : ℕ) → low ≤ key → key < high → length page ≡ L.words
+    → ((node_of L page).tag ≢ 2) ⊎ (¬ (Covers (node_of L page) key)) → TellNoNode L (placed 0 page) 0 low high
+none-whole L page key low high from below long none words with node =
+    let same = same-page words page long with in
+    let here : IsNodeAs L page 0 low high = subst (λ (l : List ℕ). IsNodeAs L l 0 low high) same node in
+    ⊎_elim (λ n. n (level-leaf L page low high here))
+    (λ n. n (omega (arith, here.low_is, from), omega (arith, here.high_is, below))) none
+
+-- a leaf with fences that hold the key is one of the key
+pub between-leaf : (L : Layout) (words : List ℕ) (key low high : ℕ) → low ≤ key → key < high → IsLeafBetween L words low high
+    → ((node_of L words).tag ≡ 2) × Covers (node_of L words) key
+between-leaf L words key low high from below is = (is.0, (omega (arith, is.1, from), omega (arith, is.2, below)))
 
 -- one that was, and what it says
 pub reply-whole : (L : Layout) (page : List ℕ) (said : Said) → length page ≡ L.words → ProvesReply L page said

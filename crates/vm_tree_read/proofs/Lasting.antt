@@ -70,7 +70,7 @@ module _ {X : Type 0} where
   pub turned-reads : (L : Layout) (v : View X) (key : ℕ) (turn : Turn) (w : View X) → IsTurnedBack L v key turn w → ReadsOn v w
   turned-reads L v key (turns.Again saw) w t = t.0
   turned-reads L v key (turns.Need p) w t = t.0
-  turned-reads L v key (turns.Astray saw) w t = t.0
+  turned-reads L v key (turns.Damaged p) w t = t.0
 
   pub bring-waits : (v w : View X) → KeepsLocks v w → Waits v w
   bring-waits v w k = record {

@@ -2,9 +2,4 @@ pub mod Answering
 pub mod Lasting
 pub mod Losing
 pub mod Rounds
-pub mod ShareSteps
 pub mod Reckoning
-pub mod Holding
-pub mod Ranging
-pub mod RangeRounds
-pub mod Readable

@@ -1,5 +1,5 @@
 -- What a read of the tree answers: the reply at one step of the history, or why it is to be tried again.
-use Rattle.std.specs.Prelude.{[], ◌++◌, ◌∷◌, ◌≡◌, ◌≢◌, ◌⊎◌, Bool, false, List, true, ℕ}
+use Rattle.std.specs.Prelude.{[], ◌++◌, ◌∷◌, ◌≡◌, List, true, ℕ}
 use Rattle.vm_map.specs.{declared.call.Call.Call, declared.call.Reply.Reply, declared.call.Said.Said, Map.Rises}
 use Rattle.vm_map.specs.declared.call.Call.TheVariants.{Del, Get, Put, Range, Swap, Window}
 use Rattle.vm_map.specs.declared.call.Reply.TheVariants.{Gone, Got, Many, Swapped, Was, Wide, Win}
@@ -9,7 +9,7 @@ use Rattle.vm_core.specs.Prelude.{page_at}
 use Rattle.vm_rule.specs.Prelude.{began_of, Entry, entry_of, Kept, last_of}
 use Rattle.vm_step.specs.Prelude.{View}
 use Rattle.vm_tree_laws.specs.{History.IsLegal, May.IsProved, Plain.KeepsPlain, Plain.plain_history}
-use Rattle.vm_tree_rule.specs.{Leaves.OnlyReads, Leaves.ReadsOn, Seeks.HasLoaded, Shown.IsAgain, Turns.IsAstray, Turns.IsNeeded}
+use Rattle.vm_tree_rule.specs.{Leaves.OnlyReads, Leaves.ReadsOn, Seeks.HasLoaded, Shown.IsAgain, Turns.IsDamaged, Turns.IsNeeded}
 use Rattle.vm_tree_read.specs.declared.read.TryRead.{TryRead}
 use Rattle.vm_tree_read.specs.declared.read.TryRead.TheVariants as tries
 
@@ -40,10 +40,9 @@ pub record ProvesReply (L : Layout) (words : List ℕ) (said : Said) : Type 0 wh
   pub covers : Covers (node_of L words) (key_of said.call)
   pub reply : (low high : ℕ) → Rises low high (pairs_of L words) → IsProved L words said.call said.reply
 
--- the answer to whether these words are a leaf's that covers the key
-pub record IsLeafAnswer (L : Layout) (words : List ℕ) (key : ℕ) (answer : Bool) : Type 0 where
-  pub yes : answer ≡ true → ((node_of L words).tag ≡ 2) × Covers (node_of L words) key
-  pub no : answer ≡ false → ((node_of L words).tag ≢ 2) ⊎ (¬ (Covers (node_of L words) key))
+-- the words are a leaf's with these fences
+abbrev pub IsLeafBetween : Layout → List ℕ → ℕ → ℕ → Type 0
+IsLeafBetween L words low high = ((node_of L words).tag ≡ 2) × ((node_of L words).low ≡ low) × ((node_of L words).high ≡ high)
 
 -- each page that has the words loaded proves the reply
 abbrev pub TellReply : Layout → List (ℕ × ℕ) → Said → Type 0
@@ -85,21 +84,24 @@ module _ {S : Type 0} (plain : S → Said) (L : Layout) where
     pub proves : TellReply L loaded said
     pub told : v.start.tells ≡ true → IsBorneOut page loaded said v w
 
-  -- a try of this call, whose key this is: answered; or to be tried again; or for a page that is needed. Without an answer the pass has no
-  -- further entry
+  -- a try of this call, whose key this is: answered; or to be tried again; or for a page that is needed; or a page is
+  -- damaged. Without an answer the pass has no further entry
   abbrev pub IsTried : Call → ℕ → TryRead → View S → View S → Type 0
   IsTried call key (tries.Done reply) v w = IsAnswered (record { call = call; reply = reply }) v w
-  IsTried call key (tries.Again saw) v w = ReadsOn v w × (IsAgain v saw w ⊎ IsAstray L v key saw w)
+  IsTried call key (tries.Again saw) v w = ReadsOn v w × IsAgain v saw w
   IsTried call key (tries.Need p) v w = ReadsOn v w × IsNeeded L v key p w
+  IsTried call key (tries.Damaged p) v w = ReadsOn v w × IsDamaged L v key p w
 
 -- where it was answered the reply is one to such a call, whatever the blocks tell
 abbrev pub IsDoneInKind : Call → TryRead → Type 0
 IsDoneInKind call (tries.Done reply) = IsOfKind call reply
 IsDoneInKind call (tries.Again saw) = Unit {0}
 IsDoneInKind call (tries.Need p) = Unit {0}
+IsDoneInKind call (tries.Damaged p) = Unit {0}
 
 -- it was answered
 abbrev pub IsDone : TryRead → Type 0
 IsDone (tries.Done reply) = Unit {0}
 IsDone (tries.Again saw) = ⊥
 IsDone (tries.Need p) = ⊥
+IsDone (tries.Damaged p) = ⊥

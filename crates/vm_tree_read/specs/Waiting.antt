@@ -8,7 +8,7 @@ use Rattle.vm_step.specs.declared.saw.Saw.{Saw}
 use Rattle.vm_pool.specs.{Brings.IsBring, declared.bring.Bring.Bring}
 use Rattle.vm_pool.specs.declared.bring.Bring.TheVariants as brings
 use Rattle.vm_tree_laws.specs.{History.IsLegal, Plain.plain_history}
-use Rattle.vm_tree_rule.specs.{declared.fault.TreeFault.TreeFault, Leaves.ReadsOn, Shown.IsShown, Turns.IsAstray, Turns.IsNeeded}
+use Rattle.vm_tree_rule.specs.{declared.fault.TreeFault.TreeFault, Leaves.ReadsOn, Shown.IsShown, Turns.IsDamaged, Turns.IsNeeded}
 use Rattle.vm_tree_rule.specs.declared.fault.TreeFault.TheVariants as faults
 use Rattle.vm_tree_read.specs.Reads.{GainsEntry, IsAnswered, key_of}
 
@@ -69,12 +69,10 @@ module _ {X : Type 0} where
 
 module _ {X : Type 0} where
   -- A round of a call that waits: a try, from v on, was not answered, since others came before, as the steps of this
-  -- try show, or since the words of
-  -- a page are no tree's; or it needed a page, which was then to be brought, once, and the answer named no fault. An
-  -- exchange of the try may expect
-  -- a word in the place of one that it read as `expects` tells
+  -- try show; or it needed a page, which was then to be brought, once, and the answer named no fault. An exchange of the
+  -- try may expect a word in the place of one that it read as `expects` tells
   pub data IsRound (L : Layout) (expects : ℕ → ℕ → Type 0) (key : ℕ) (v w : View X) : Type 0 where
-    again : (saw : Saw) → ReadsOn v w → (IsShown expects v saw w ⊎ IsAstray L v key saw w) → IsRound L expects key v w
+    again : (saw : Saw) → ReadsOn v w → IsShown expects v saw w → IsRound L expects key v w
     needed : (page : ℕ) (x : View X) → ReadsOn v x → IsNeeded L v key page x → IsNoBringFault page x w → IsRound L expects key v w
 
   -- so it went, one such round after another
@@ -82,16 +80,17 @@ module _ {X : Type 0} where
     none : AreRounds round v v
     further : (x w : View X) → AreRounds round v x → round x w → AreRounds round v w
 
-  -- the last try, after such rounds, needed a page, which could not be brought
+  -- a try, from v on, needed a page, which could not be brought; or it met a damaged page
+  pub data IsReadFault (L : Layout) (key : ℕ) (fault : TreeFault) (v w : View X) : Type 0 where
+    unbrought : (page : ℕ) (x : View X) → ReadsOn v x → IsNeeded L v key page x → IsBringFault page fault x w → IsReadFault L key fault v w
+    damaged : (page : ℕ) → ReadsOn v w → IsDamaged L v key page w → fault ≡ faults.Damaged page → IsReadFault L key fault v w
+
+  -- the last try, after such rounds, ended so
   pub record IsFaulted (L : Layout) (key : ℕ) (fault : TreeFault) (v w : View X) : Type 0 where
     pub tried : View X
-    pub found : View X
     pub rounds : AreRounds (IsRound L NoneExpected key) v tried
     pub waits : Waits v tried
-    pub page : ℕ
-    pub reads : ReadsOn tried found
-    pub needed : IsNeeded L tried key page found
-    pub fault_is : IsBringFault page fault found w
+    pub why : IsReadFault L key fault tried w
     pub leaves : Waits v w
 
 module _ {S : Type 0} (plain : S → Said) (L : Layout) where

@@ -1,16 +1,18 @@
 // The leaf of a key, in place or in a buffer, and the answer that its validation makes an entry of the history.
 ghost use Rattle.std.specs.Prelude.{[], ◌*◌, ◌+◌, ◌≡◌, ◌≤◌, IfErr, IfOk, IsOk, length, List, Some, true, ℕ};
 ghost use Rattle.vm_tree_model.specs.{Node.Covers, Page.node_of};
-ghost use Rattle.vm_node.specs.Loads.{IsPageWith, Tells};
+ghost use Rattle.vm_node.specs.Loads.{IsAnswer, IsPageWith, Tells};
 ghost use Rattle.vm_step.specs.Prelude.{GoesOn, IsReadyOn, NoneExpected, view};
 ghost use Rattle.vm_guard.specs.{Guards.IsReading, Guards.Loads, Guards.placed, PageWords.LoadsWords};
 ghost use Rattle.vm_guard.specs.Denied.{AgainOrNeed, IsDenied, KeptWord};
-ghost use Rattle.vm_tree_rule.specs.{Above.IsAbove, Above.KnowsAbove, Leaves.ReadsOn, Standing.Awaits, Standing.IsOpened};
+ghost use Rattle.vm_tree_rule.specs.{Above.IsAbove, Above.IsLeafOn, Above.KnowsAbove, Leaves.ReadsOn};
+ghost use Rattle.vm_tree_rule.specs.Standing.{Awaits, AwaitsNode, fence_of, IsOpened};
+ghost use Rattle.vm_tree_rule.specs.Ways.{IsOnWay, TellNoNode};
 ghost use Rattle.vm_tree_rule.specs.Resident.{IsKnownNow, IsReadNow, KnowsReadable, KnowsResident};
 ghost use Rattle.vm_tree_rule.specs.Few.{LoadsHeight, LoadsWithin, ReadsInPlace};
 ghost use Rattle.vm_tree_rule.specs.Seeks.{HasLoaded};
-ghost use Rattle.vm_tree_rule.specs.Turns.{IsTurnedBack, TellLeaf, TellNoLeaf};
-ghost use Rattle.vm_tree_read.specs.Reads.{IsAnswered, IsLeafAnswer, TellReply};
+ghost use Rattle.vm_tree_rule.specs.Turns.{IsTurnedBack, TellLeaf};
+ghost use Rattle.vm_tree_read.specs.Reads.{IsAnswered, IsLeafBetween, TellReply};
 
 use vm_block::Block;
 use vm_guard::{Deny, OptGuard};
@@ -20,14 +22,15 @@ use vm_rule::words::{Pass, Words};
 use vm_step::{Saw, frame_place};
 use vm_tree_rule::{InPlace, Reached, Turn, descend, reach};
 
-/// Whether the page is a leaf that covers the key, from the words loaded that tell its tag and its fences.
-fn is_leaf_for<K: Kind, P: Place>(place: &mut P, key: &K::Key) -> bool
+/// Whether the page is a leaf with just these fences, from the words loaded that tell its tag and its fences.
+fn is_leaf_between<K: Kind, P: Place>(place: &mut P, low: &K::Key, high: &Option<K::Key>) -> bool
     requires ready { P.ready place.old }
     requires size { P.size place.old ≡ K.layout.words }
     ensures ready { P.ready place.new }
-    ensures told { Tells K.layout.words P.loads place.old (1 + K.bounds.covers) place.new (λ page. IsLeafAnswer K.layout page (K.rank key.now) result) }
+    ensures told { Tells K.layout.words P.loads place.old (1 + K.bounds.fences) place.new
+        (λ page. IsAnswer result (IsLeafBetween K.layout page (K.rank low.now) (fence_of K.layout K.rank high.now))) }
 {
-    K::is_leaf_at(place) && K::covers_at(place, key)
+    K::is_leaf_at(place) && K::has_fences_at(place, low, high)
 }
 
 /// Whether the page under the guard is that, found where it stands.
@@ -35,13 +38,15 @@ fn is_leaf_in_place<K: Kind, B: Block>(
     words: &Words<TreeOf<K>, B>,
     pass: &mut Pass<TreeOf<K>>,
     guard: &OptGuard,
-    key: &K::Key,
+    low: &K::Key,
+    high: &Option<K::Key>,
 ) -> bool
     requires ready { IsReadyOn words.now B.tells pass.old }
     requires reading { IsReading guard.now.pid guard.now.word guard.now.frame (view pass.old) }
     ensures goes { GoesOn words.now B.tells pass.old pass.new }
-    ensures found { ReadsInPlace guard.now.pid guard.now.word guard.now.frame (1 + K.bounds.covers) (view pass.old) (view pass.new)
-        (λ loaded. (page : List ℕ) → IsPageWith K.layout.words loaded page → IsLeafAnswer K.layout page (K.rank key.now) result) }
+    ensures found { ReadsInPlace guard.now.pid guard.now.word guard.now.frame (1 + K.bounds.fences) (view pass.old) (view pass.new)
+        (λ loaded. (page : List ℕ) → IsPageWith K.layout.words loaded page
+        → IsAnswer result (IsLeafBetween K.layout page (K.rank low.now) (fence_of K.layout K.rank high.now))) }
 {
     let mut place = InPlace {
         words,
@@ -49,10 +54,10 @@ fn is_leaf_in_place<K: Kind, B: Block>(
         guard,
         first: frame_place(words, guard.frame),
     };
-    is_leaf_for::<K, _>(&mut place, key)
+    is_leaf_between::<K, _>(&mut place, low, high)
 }
 
-/// Ends a descent at a page that is no leaf of its key: where it is validated so, blocks do not tell their words.
+/// Ends a descent at a page that is no leaf with the fences at which it was reached: where it is validated so, blocks do not tell their words.
 fn no_leaf<K: Kind, B: Block>(
     words: &Words<TreeOf<K>, B>,
     pass: &mut Pass<TreeOf<K>>,
@@ -61,15 +66,16 @@ fn no_leaf<K: Kind, B: Block>(
     requires ready { IsReadyOn words.now B.tells pass.old }
     requires reading { IsReading guard.now.pid guard.now.word guard.now.frame (view pass.old) }
     ensures goes { GoesOn words.now B.tells pass.old pass.new }
-    ensures turn { (v : _) (key : ℕ) (loaded : _) → IsOpened v guard.now.pid guard.now.word guard.now.frame (view pass.old) → Awaits K.layout (view pass.old) guard.now.pid guard.now.word 0 key
-        → HasLoaded (view pass.old) guard.now.pid loaded → TellNoLeaf K.layout loaded key → IsTurnedBack K.layout v key result (view pass.new) }
-    ensures sure { (shares : ℕ → ℕ) (key : ℕ) (loaded : _) → B.tells ≡ true → IsReadNow shares guard.now.pid guard.now.word (view pass.old)
-        → Awaits K.layout (view pass.old) guard.now.pid guard.now.word 0 key
-        → HasLoaded (view pass.old) guard.now.pid loaded → TellNoLeaf K.layout loaded key → ⊥ }
+    ensures turn { (v : _) (key low high : ℕ) (loaded : _) → IsOpened v guard.now.pid guard.now.word guard.now.frame (view pass.old)
+        → AwaitsNode K.layout (view pass.old) guard.now.pid guard.now.word 0 low high → IsOnWay K.layout v key guard.now.pid 0 low high (view pass.old)
+        → HasLoaded (view pass.old) guard.now.pid loaded → TellNoNode K.layout loaded 0 low high → IsTurnedBack K.layout v key result (view pass.new) }
+    ensures sure { (shares : ℕ → ℕ) (low high : ℕ) (loaded : _) → B.tells ≡ true → IsReadNow shares guard.now.pid guard.now.word (view pass.old)
+        → AwaitsNode K.layout (view pass.old) guard.now.pid guard.now.word 0 low high
+        → HasLoaded (view pass.old) guard.now.pid loaded → TellNoNode K.layout loaded 0 low high → ⊥ }
     ensures words { LoadsWords [] (view pass.old) (view pass.new) }
 {
     match guard.validate_silently(words, pass) {
-        Ok(()) => Turn::astray_at(guard),
+        Ok(()) => Turn::Damaged(guard.pid),
         Err(saw) => Turn::Again(saw),
     }
 }
@@ -87,23 +93,24 @@ pub fn leaf_at<K: Kind, B: Block>(
     ensures reads { IfOk result (λ guard. ReadsOn (view pass.old) (view pass.new) × IsOpened (view pass.old) guard.pid guard.word guard.frame (view pass.new)) }
     ensures leaf { IfOk result (λ guard. (loaded : List (ℕ × ℕ)) × HasLoaded (view pass.new) guard.pid loaded × TellLeaf K.layout loaded (K.rank key.now)) }
     ensures awaits { IfOk result (λ guard. Awaits K.layout (view pass.new) guard.pid guard.word 0 (K.rank key.now)) }
+    ensures reached { IfOk result (λ guard. IsLeafOn K.layout (view pass.old) (K.rank key.now) guard.pid guard.word (view pass.new)) }
     ensures err { IfErr result (λ turn. IsTurnedBack K.layout (view pass.old) (K.rank key.now) turn (view pass.new)) }
     ensures sure { B.tells ≡ true → KnowsResident (view pass.old) → IsOk result }
     ensures known { B.tells ≡ true → KnowsResident (view pass.old) → IfOk result (λ guard. IsKnownNow guard.pid guard.word (view pass.new)) }
     ensures sure_shared { (shares : ℕ → ℕ) → B.tells ≡ true → KnowsReadable shares (view pass.old) → IsOk result }
     ensures known_shared { (shares : ℕ → ℕ) → B.tells ≡ true → KnowsReadable shares (view pass.old)
         → IfOk result (λ guard. IsReadNow shares guard.pid guard.word (view pass.new)) }
-    ensures few { LoadsWithin (λ h. 2 + K.bounds.child * h + (1 + K.bounds.covers)) (view pass.old) (view pass.new) }
-    ensures height { IfOk result (λ _. (h : ℕ) × LoadsHeight (2 + K.bounds.child * h + (1 + K.bounds.covers)) h (view pass.old) (view pass.new)) }
+    ensures few { LoadsWithin (λ h. 2 + K.bounds.child * h + (1 + K.bounds.fences)) (view pass.old) (view pass.new) }
+    ensures height { IfOk result (λ _. (h : ℕ) × LoadsHeight (2 + K.bounds.child * h + (1 + K.bounds.fences)) h (view pass.old) (view pass.new)) }
 {
-    let guard = match descend(words, pass, key) {
-        Ok(guard) => guard,
+    let leaf = match descend(words, pass, key) {
+        Ok(leaf) => leaf,
         Err(turn) => return Err(turn),
     };
-    if is_leaf_in_place(words, pass, &guard, key) {
-        return Ok(guard);
+    if is_leaf_in_place(words, pass, &leaf.guard, &leaf.low, &leaf.high) {
+        return Ok(leaf.guard);
     }
-    Err(no_leaf(words, pass, &guard))
+    Err(no_leaf(words, pass, &leaf.guard))
 }
 
 /// The same for a writer that may change the pages above the leaf with it: as far as it may, these stay open.
@@ -111,13 +118,14 @@ pub fn leaf_below<K: Kind, B: Block>(
     words: &Words<TreeOf<K>, B>,
     pass: &mut Pass<TreeOf<K>>,
     key: &K::Key,
-) -> Result<Reached, Turn>
+) -> Result<Reached<K::Key>, Turn>
     requires ready { IsReadyOn words.now B.tells pass.old }
     requires pages { 1 ≤ words.now.table.shared.key.pages }
     ensures goes { GoesOn words.now B.tells pass.old pass.new }
     ensures reads { IfOk result (λ r. ReadsOn (view pass.old) (view pass.new) × IsOpened (view pass.old) r.leaf.pid r.leaf.word r.leaf.frame (view pass.new)) }
     ensures leaf { IfOk result (λ r. (loaded : List (ℕ × ℕ)) × HasLoaded (view pass.new) r.leaf.pid loaded × TellLeaf K.layout loaded (K.rank key.now)) }
     ensures awaits { IfOk result (λ r. Awaits K.layout (view pass.new) r.leaf.pid r.leaf.word 0 (K.rank key.now)) }
+    ensures reached { IfOk result (λ r. IsLeafOn K.layout (view pass.old) (K.rank key.now) r.leaf.pid r.leaf.word (view pass.new)) }
     ensures above { IfOk result (λ r. IsAbove K.layout (view pass.old) (K.rank key.now) r.above r.leaf.pid (view pass.new)) }
     ensures err { IfErr result (λ turn. IsTurnedBack K.layout (view pass.old) (K.rank key.now) turn (view pass.new)) }
     ensures sure { B.tells ≡ true → KnowsResident (view pass.old) → IsOk result }
@@ -128,7 +136,7 @@ pub fn leaf_below<K: Kind, B: Block>(
         Ok(reached) => reached,
         Err(turn) => return Err(turn),
     };
-    if is_leaf_in_place(words, pass, &reached.leaf, key) {
+    if is_leaf_in_place(words, pass, &reached.leaf, &reached.low, &reached.high) {
         return Ok(reached);
     }
     Err(no_leaf(words, pass, &reached.leaf))
@@ -150,9 +158,10 @@ pub fn read_leaf<K: Pages, B: Block>(
     ensures goes { GoesOn words.now B.tells pass.old pass.new }
     ensures loads { IfOk result (λ _. Loads guard.now.pid guard.now.word guard.now.frame (placed 0 (K.words_of page.new)) (view pass.old) (view pass.new)) }
     ensures leaf { IfOk result (λ _. ((node_of K.layout (K.words_of page.new)).tag ≡ 2) × Covers (node_of K.layout (K.words_of page.new)) (K.rank key.now)) }
-    ensures err { IfErr result (λ turn. (v : _) → IsOpened v guard.now.pid guard.now.word guard.now.frame (view pass.old) → Awaits K.layout (view pass.old) guard.now.pid guard.now.word 0 (K.rank key.now)
-        → IsTurnedBack K.layout v (K.rank key.now) turn (view pass.new)) }
-    ensures sure { B.tells ≡ true → IsKnownNow guard.now.pid guard.now.word (view pass.old) → Awaits K.layout (view pass.old) guard.now.pid guard.now.word 0 (K.rank key.now) → IsOk result }
+    ensures err { IfErr result (λ turn. (v : _) → IsOpened v guard.now.pid guard.now.word guard.now.frame (view pass.old)
+        → IsLeafOn K.layout v (K.rank key.now) guard.now.pid guard.now.word (view pass.old) → IsTurnedBack K.layout v (K.rank key.now) turn (view pass.new)) }
+    ensures sure { (v : _) → B.tells ≡ true → IsKnownNow guard.now.pid guard.now.word (view pass.old)
+        → IsLeafOn K.layout v (K.rank key.now) guard.now.pid guard.now.word (view pass.old) → IsOk result }
 {
     K::read_all(guard, words, pass, page);
     if K::is_leaf(page) && K::covers(page, key) {

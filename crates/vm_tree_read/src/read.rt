@@ -26,11 +26,12 @@ use vm_tree_rule::{InPlace, Turn};
 pub enum TryRead {
     /// The reply, at the step that validated the leaf.
     Done(Reply),
-    /// A page's word had changed, or the page was Locked: the call may be tried again. Where blocks do not tell their words, also: the words of a page
-    /// are no tree's; then both words are the one that the page was read at.
+    /// A page's word had changed, or the page was Locked: the call may be tried again.
     Again(Saw),
     /// This page is Evicted: it has to be brought in first. It is page 0, or a page on the way names it.
     Need(u32),
+    /// The words of this page are not what the way to it says. Never where blocks tell their words.
+    Damaged(u32),
 }
 
 /// Why there is no answer yet.
@@ -42,7 +43,7 @@ fn not_yet<K: Kind>(turn: Turn) -> TryRead
     match turn {
         Turn::Again(saw) => TryRead::Again(saw),
         Turn::Need(pid) => TryRead::Need(pid),
-        Turn::Astray(saw) => TryRead::Again(saw),
+        Turn::Damaged(pid) => TryRead::Damaged(pid),
     }
 }
 
@@ -105,8 +106,8 @@ pub(crate) fn look_up<K: Kind, B: Block>(
     ensures err { IfErr result (λ turn. IsTurnedBack K.layout (view pass.old) (K.rank key.now) turn (view pass.new)) }
     ensures sure { B.tells ≡ true → KnowsResident (view pass.old) → IsOk result }
     ensures known { B.tells ≡ true → KnowsResident (view pass.old) → KnowsResident (view pass.new) }
-    ensures few { LoadsWithin (λ h. 2 + K.bounds.child * h + (1 + K.bounds.covers + K.bounds.find)) (view pass.old) (view pass.new) }
-    ensures height { IfOk result (λ _. (h : ℕ) × LoadsHeight (2 + K.bounds.child * h + (1 + K.bounds.covers + K.bounds.find)) h (view pass.old) (view pass.new)) }
+    ensures few { LoadsWithin (λ h. 2 + K.bounds.child * h + (1 + K.bounds.fences + K.bounds.find)) (view pass.old) (view pass.new) }
+    ensures height { IfOk result (λ _. (h : ℕ) × LoadsHeight (2 + K.bounds.child * h + (1 + K.bounds.fences + K.bounds.find)) h (view pass.old) (view pass.new)) }
 {
     let guard = match leaf_at(words, pass, key) {
         Ok(guard) => guard,
@@ -134,8 +135,8 @@ pub fn try_get<K: Kind, B: Block>(
     ensures kind { IsDoneInKind (Get (K.rank key.now)) result }
     ensures sure { B.tells ≡ true → KnowsResident (view pass.old) → IsDone result }
     ensures known { B.tells ≡ true → KnowsResident (view pass.old) → KnowsResident (view pass.new) }
-    ensures few { LoadsWithin (λ h. 2 + K.bounds.child * h + (1 + K.bounds.covers + K.bounds.find)) (view pass.old) (view pass.new) }
-    ensures height { IsDone result → (h : ℕ) × LoadsHeight (2 + K.bounds.child * h + (1 + K.bounds.covers + K.bounds.find)) h (view pass.old) (view pass.new) }
+    ensures few { LoadsWithin (λ h. 2 + K.bounds.child * h + (1 + K.bounds.fences + K.bounds.find)) (view pass.old) (view pass.new) }
+    ensures height { IsDone result → (h : ℕ) × LoadsHeight (2 + K.bounds.child * h + (1 + K.bounds.fences + K.bounds.find)) h (view pass.old) (view pass.new) }
 {
     match look_up(words, pass, key) {
         Ok(value) => TryRead::Done(Reply::Got(value)),
@@ -159,8 +160,8 @@ pub fn try_window<K: Windows, B: Block>(
     ensures kind { IsDoneInKind (ForWindow (K.rank start.now) most) result }
     ensures sure { B.tells ≡ true → KnowsResident (view pass.old) → IsDone result }
     ensures known { B.tells ≡ true → KnowsResident (view pass.old) → KnowsResident (view pass.new) }
-    ensures few { LoadsWithin (λ h. 2 + K.bounds.child * h + (1 + K.bounds.covers + (2 * min most MOST_PAIRS + K.window_most))) (view pass.old) (view pass.new) }
-    ensures height { IsDone result → (h : ℕ) × LoadsHeight (2 + K.bounds.child * h + (1 + K.bounds.covers + (2 * min most MOST_PAIRS + K.window_most))) h (view pass.old) (view pass.new) }
+    ensures few { LoadsWithin (λ h. 2 + K.bounds.child * h + (1 + K.bounds.fences + (2 * min most MOST_PAIRS + K.window_most))) (view pass.old) (view pass.new) }
+    ensures height { IsDone result → (h : ℕ) × LoadsHeight (2 + K.bounds.child * h + (1 + K.bounds.fences + (2 * min most MOST_PAIRS + K.window_most))) h (view pass.old) (view pass.new) }
 {
     let guard = match leaf_at(words, pass, start) {
         Ok(guard) => guard,

@@ -86,7 +86,7 @@ pub fn get<K: Kind, R: Wait, B: PageBlock<N>, const N: usize>(
         match look_up(&pool.words, pass, key) {
             Ok(value) => return Ok(Reply::Got(value)),
             Err(Turn::Again(_)) => backoff.snooze(),
-            Err(Turn::Astray(_)) => backoff.snooze(),
+            Err(Turn::Damaged(pid)) => return Err(TreeFault::Damaged { pid }),
             Err(Turn::Need(pid)) => match fetch(pool, pass, iface, pid, &backoff) {
                 Ok(()) => {}
                 Err(fault) => return Err(fault),
@@ -123,6 +123,7 @@ pub fn window<K: Windows, R: Wait, B: PageBlock<N>, const N: usize>(
         match try_window(&pool.words, pass, start, most) {
             TryRead::Done(reply) => return Ok(reply),
             TryRead::Again(_) => backoff.snooze(),
+            TryRead::Damaged(pid) => return Err(TreeFault::Damaged { pid }),
             TryRead::Need(pid) => match fetch(pool, pass, iface, pid, &backoff) {
                 Ok(()) => {}
                 Err(fault) => return Err(fault),

@@ -5,44 +5,40 @@ use Rattle.vm_map.specs.{declared.call.Reply.Reply, declared.call.Said.Said}
 use Rattle.vm_tree_model.specs.{Layout.Layout, Tree.map_of}
 use Rattle.vm_rule.specs.Prelude.{Entry, entry_of, IsLocking, seat_of, StartsWith}
 use Rattle.vm_rule.proofs.Entries.{append-none}
-use Rattle.vm_step.specs.Prelude.{HoldsPage, KnowsAsBefore, Origin, View}
+use Rattle.vm_step.specs.Prelude.{HoldsPage, KnowsAsBefore, Origin, UnlockedExpected, View}
 use Rattle.vm_step.specs.declared.saw.Saw.{Saw}
 use Rattle.vm_step.proofs.Asides.{holds-then, knows-then, still-locking}
 use Rattle.vm_guard.specs.declared.deny.Deny.TheVariants as denies
 use Rattle.vm_tree_laws.specs.{History.IsLegal, Plain.plain_history}
-use Rattle.vm_tree_rule.specs.{Leaves.ReadsOn, Turns.IsNeeded}
+use Rattle.vm_tree_rule.specs.{Leaves.ReadsOn, Shown.IsShown, Turns.IsNeeded}
 use Rattle.vm_tree_read.specs.{Reads.GainsEntry, Reads.IsAnswered, Waiting.AreRounds, Waiting.IsNoBringFault}
 use Rattle.vm_tree_read.specs.Waiting.{IsRound as round}
 use Rattle.vm_tree_split.specs.Splits.{KeepsLocksOnly}
 use Rattle.vm_tree_split.proofs.{Refusing.denied-keeps, Trying.reads-keep}
-use Rattle.vm_tree_merge.specs.{Beside.IsAstrayBeside, Beside.IsNeededBeside, Done.IsLockLost, Done.IsMergeDone}
+use Rattle.vm_tree_write.specs.Prelude.{IsLockLost, IsMergeDone, IsNeededBeside}
 use Rattle.vm_tree_write.specs.declared.write.TryWrite.TheVariants as tries
 use Rattle.vm_tree_retry.specs.Waiting.{IsDelReplied, IsDelRound, IsDelRound as del_round, IsNeededByDel}
-use Rattle.vm_tree_write.specs.Writes.{IsDel, IsDelAlone, IsVain, IsWriteDone, IsWriteToTry}
+use Rattle.vm_tree_write.specs.Writes.{IsDel, IsDelAlone, IsVain, IsWriteDone}
 use Rattle.vm_tree_retry.proofs.Lasting.{keeps-last, Lasts, mine-from, reads-last, seen-from}
 
 module _ {X : Type 0} (L : Layout) (key : ℕ) (saw : Saw) (v w : View X) where
   -- a try of a del that is to be made again
   abbrev ToTry : Type 0
-  ToTry = (ReadsOn v w × (IsWriteToTry L v key saw w ⊎ IsAstrayBeside L v key saw w)) ⊎ IsLockLost L v saw w
+  ToTry = (ReadsOn v w × IsShown UnlockedExpected v saw w) ⊎ IsLockLost L v saw w
 
   pub again-keeps : ToTry → KeepsLocksOnly v w
-  again-keeps a = ⊎_elim (λ (r : ReadsOn v w × (IsWriteToTry L v key saw w ⊎ IsAstrayBeside L v key saw w)).
-      reads-keep v w r.0) (λ (l : IsLockLost L v saw w). l.keeps) a
+  again-keeps a = ⊎_elim (λ (r : ReadsOn v w × IsShown UnlockedExpected v saw w). reads-keep v w r.0) (λ (l : IsLockLost L v saw w). l.keeps) a
 
   -- it has just the frames that it had
   pub again-frames : ToTry → (w.start ≡ v.start) × (w.frames ≡ v.frames)
   again-frames a =
-      ⊎_elim (λ (r : ReadsOn v w × (IsWriteToTry L v key saw w ⊎ IsAstrayBeside L v key saw w)). (r.0.0.start, r.0.0.frames.0))
+      ⊎_elim (λ (r : ReadsOn v w × IsShown UnlockedExpected v saw w). (r.0.0.start, r.0.0.frames.0))
       (λ (l : IsLockLost L v saw w).
       (l.keeps.start, (denied-keeps L l.guards (denies.Again saw) l.found w l.denied).1 ∙ l.earlier.0.frames.0)) a
 
   pub again-round : ToTry → IsDelRound L key v w
   again-round a =
-      ⊎_elim
-      (λ (r : ReadsOn v w × (IsWriteToTry L v key saw w ⊎ IsAstrayBeside L v key saw w)).
-      ⊎_elim (λ (t : IsWriteToTry L v key saw w). del_round.round (round.again saw r.0 t))
-      (λ (b : IsAstrayBeside L v key saw w). del_round.astray saw r.0 b) r.1)
+      ⊎_elim (λ (r : ReadsOn v w × IsShown UnlockedExpected v saw w). del_round.round (round.again saw r.0 r.1))
       (λ (l : IsLockLost L v saw w). del_round.lost saw l) a
 
 module _ {X : Type 0} (L : Layout) (key p : ℕ) (v x : View X) where

@@ -9,13 +9,13 @@ use Rattle.vm_evict.specs.declared.report.Report.{Report}
 use Rattle.vm_pool.specs.{Brings.SaysDry, declared.bring.Bring.Bring, Sweeps.IsSwept}
 use Rattle.vm_tree_laws.specs.{History.IsLegal, Plain.plain_history}
 use Rattle.vm_kind.specs.Room.{HasRoomFor}
-use Rattle.vm_tree_rule.specs.{declared.fault.TreeFault.TreeFault, Leaves.ReadsOn, Turns.IsNeeded}
+use Rattle.vm_tree_rule.specs.{declared.fault.TreeFault.TreeFault, Leaves.ReadsOn, Turns.IsDamaged, Turns.IsNeeded}
 use Rattle.vm_tree_rule.specs.declared.fault.TreeFault.TheVariants as faults
 use Rattle.vm_tree_read.specs.Reads.{GainsEntry, IsAnswered, key_of}
 use Rattle.vm_tree_read.specs.Waiting.{AreRounds, IsBringFault, IsNoBringFault, IsRound, NamesFault, NamesNone}
 use Rattle.vm_tree_split.specs.{Splits.KeepsLocksOnly, Tries.IsCause, Tries.IsEnded, Tries.MetNoFullNode}
 use Rattle.vm_tree_split.specs.declared.tries.TrySplit.TheVariants as splits
-use Rattle.vm_tree_merge.specs.{Beside.IsAstrayBeside, Beside.IsNeededBeside, Done.IsLockLost}
+use Rattle.vm_tree_write.specs.Prelude.{IsDamagedBeside, IsLockLost, IsNeededBeside}
 use Rattle.vm_tree_write.specs.declared.write.TryWrite.TheVariants as tries
 use Rattle.vm_tree_write.specs.Writes.{IsDel, IsTight, IsVain, IsWornLeaf, IsWriteDone}
 
@@ -48,12 +48,10 @@ module _ {X : Type 0} (L : Layout) where
   abbrev pub IsWriteRound : ℕ → View X → View X → Type 0
   IsWriteRound key v w = IsRound L UnlockedExpected key v w
 
-  -- A round of a del is that of a swap; or it looked at the page beside the leaf, and the words of their parent are
-  -- no tree's, or the page was needed, and was then to be
+  -- A round of a del is that of a swap; or it looked at the page beside the leaf, which was needed, and was then to be
   -- brought, once, and the answer named no fault; or a lock was lost for a merge
   pub data IsDelRound (key : ℕ) (v w : View X) : Type 0 where
     round : IsWriteRound key v w → IsDelRound key v w
-    astray : (saw : Saw) → ReadsOn v w → IsAstrayBeside L v key saw w → IsDelRound key v w
     needed : (page : ℕ) (x : View X) → ReadsOn v x → IsNeededBeside L v key page x → IsNoBringFault page x w → IsDelRound key v w
     lost : (saw : Saw) → IsLockLost L v saw w → IsDelRound key v w
 
@@ -61,18 +59,24 @@ module _ {X : Type 0} (L : Layout) where
   abbrev pub IsNeededByDel : View X → ℕ → ℕ → View X → Type 0
   IsNeededByDel v key p w = IsNeeded L v key p w ⊎ IsNeededBeside L v key p w
 
-  -- the last try, after such rounds, needed a page, as `needs` tells, that could not be brought, or reached a leaf at
-  -- the last version which it would have written, as
-  -- `may` tells of its words
+  -- so does a damaged page that a del meets
+  abbrev pub IsDamagedForDel : View X → ℕ → ℕ → View X → Type 0
+  IsDamagedForDel v key p w = IsDamaged L v key p w ⊎ IsDamagedBeside L v key p w
+
+  -- the last try, after such rounds, needed a page, as `needs` tells, that could not be brought, or met a damaged one, as
+  -- `meets` tells, or reached a leaf at the last version which it would have written, as `may` tells of its words
   pub data IsWriteFaulted (keeps : View X → View X → Type 0) (round : ℕ → View X → View X → Type 0)
-      (needs : View X → ℕ → ℕ → View X → Type 0) (may : List ℕ → ℕ → Type 0)
+      (needs meets : View X → ℕ → ℕ → View X → Type 0) (may : List ℕ → ℕ → Type 0)
       (key : ℕ) (fault : TreeFault) (v w : View X) : Type 0 where
     missing :
         (tried found : View X) (page : ℕ) → AreRounds (round key) v tried → keeps v tried → ReadsOn tried found → needs tried key page found
-        → IsBringFault page fault found w → keeps v w → IsWriteFaulted keeps round needs may key fault v w
+        → IsBringFault page fault found w → keeps v w → IsWriteFaulted keeps round needs meets may key fault v w
+    damaged :
+        (tried : View X) (page : ℕ) → AreRounds (round key) v tried → keeps v tried → ReadsOn tried w → meets tried key page w
+        → fault ≡ faults.Damaged page → keeps v w → IsWriteFaulted keeps round needs meets may key fault v w
     worn :
         (tried : View X) (page : ℕ) → AreRounds (round key) v tried → keeps v tried → ReadsOn tried w → (a : IsWornLeaf L tried key page w)
-        → may a.words key → fault ≡ faults.Worn page → keeps v w → IsWriteFaulted keeps round needs may key fault v w
+        → may a.words key → fault ≡ faults.Worn page → keeps v w → IsWriteFaulted keeps round needs meets may key fault v w
 
 module _ {S : Type 0} (plain : S → Said) (L : Layout) where
   -- The last try of a del was answered: the pair was taken out of its leaf, alone or with a merge, or a read shows
@@ -100,10 +104,11 @@ module _ {S : Type 0} (plain : S → Said) (L : Layout) where
     pub parts : (w.used ≡ v.used) × (w.fresh ≡ v.fresh)
 
 module _ {S : Type 0} (plain : S → Said) (L : Layout) (spare : List ℕ → ℕ) where
-  -- why no room could be made for a key: a device failed; a page was at the last version; or the image has no page left
+  -- why no room could be made for a key: a device failed; a page was damaged, or at the last version; or the image has no page left
   pub data IsRoomFault (key : ℕ) (fault : TreeFault) (v w : View S) : Type 0 where
     missing : (found : View S) (page : ℕ) → ReadsOn v found → IsNeeded L v key page found
         → IsBringFault page fault found w → IsRoomFault key fault v w
+    damaged : (page : ℕ) → ReadsOn v w → IsDamaged L v key page w → fault ≡ faults.Damaged page → IsRoomFault key fault v w
     worn : (p : ℕ) → IsEnded plain L spare v key w (splits.Worn p) → fault ≡ faults.Worn p → IsRoomFault key fault v w
     full : (pages next need : ℕ) → IsEnded plain L spare v key w (splits.Full pages next need)
         → fault ≡ faults.Full pages → IsRoomFault key fault v w
@@ -131,11 +136,10 @@ module _ {S : Type 0} (plain : S → Said) (L : Layout) (spare : List ℕ → �
     round : IsWriteRound L key v w → IsPutRound key v w
     tight : (page : ℕ) (x : View S) → ReadsOn v x → IsTight L spare v key page x → IsNoRoomFault key x w → IsPutRound key v w
 
-  -- the last try of a put, after such rounds, needed a page that could not be brought, or reached a leaf at the last
-  -- version, or met a full leaf for
-  -- which no room could be made
+  -- the last try of a put, after such rounds, needed a page that could not be brought, or met a damaged page, or reached
+  -- a leaf at the last version, or met a full leaf for which no room could be made
   pub data IsPutFaulted (key : ℕ) (fault : TreeFault) (v w : View S) : Type 0 where
-    faulted : IsWriteFaulted L KeepsLocksOnly IsPutRound (IsNeeded L) (HasRoomFor L spare) key fault v w → IsPutFaulted key fault v w
+    faulted : IsWriteFaulted L KeepsLocksOnly IsPutRound (IsNeeded L) (IsDamaged L) (HasRoomFor L spare) key fault v w → IsPutFaulted key fault v w
     tight :
         (tried found : View S) (page : ℕ) → AreRounds (IsPutRound key) v tried → KeepsLocksOnly v tried → ReadsOn tried found
         → IsTight L spare tried key page found → IsRoomFault key fault found w → KeepsLocksOnly v w → IsPutFaulted key fault v w

@@ -4,10 +4,10 @@ ghost use Rattle.vm_map.specs.declared.call.Call.TheVariants.{Del, Put, Swap as 
 ghost use Rattle.vm_step.specs.Prelude.{AreHeld, GoesOn, IsReadyOn, view};
 ghost use Rattle.vm_tree_read.specs.Reads.{IsOfKind};
 ghost use Rattle.vm_tree_read.specs.Waiting.{LosesNone, Waits};
-ghost use Rattle.vm_tree_rule.specs.Turns.{IsNeeded};
+ghost use Rattle.vm_tree_rule.specs.Turns.{IsDamaged, IsNeeded};
 ghost use Rattle.vm_tree_split.specs.{Splits.KeepsLocksOnly, Tries.IsTrySplit};
 ghost use Rattle.vm_tree_write.specs.Writes.{HasKeyIn, HasValueIn};
-ghost use Rattle.vm_tree_retry.specs.Waiting.{IsDelReplied, IsDelRound, IsNeededByDel, IsNoRoomFault, IsPutFaulted, IsPutRound, IsRoomFault, IsWriteFaulted, IsWriteReplied, IsWriteRound};
+ghost use Rattle.vm_tree_retry.specs.Waiting.{IsDamagedForDel, IsDelReplied, IsDelRound, IsNeededByDel, IsNoRoomFault, IsPutFaulted, IsPutRound, IsRoomFault, IsWriteFaulted, IsWriteReplied, IsWriteRound};
 
 use crossbeam_utils::Backoff;
 use std::sync::Wait;
@@ -40,7 +40,8 @@ pub fn del<K: Merges, R: Wait, B: PageBlock<N>, const N: usize>(
     ensures lost { LosesNone iface.old.frames (view pass.old) iface.new.frames (view pass.new) }
     ensures ok { IfOk result (λ reply. IsDelReplied K.plain K.layout (K.rank key.now) reply (view pass.old) (view pass.new)) }
     ensures kind { IfOk result (λ reply. IsOfKind (Del (K.rank key.now)) reply) }
-    ensures err { IfErr result (λ fault. IsWriteFaulted K.layout KeepsLocksOnly (IsDelRound K.layout) (IsNeededByDel K.layout) (HasKeyIn K.layout) (K.rank key.now) fault (view pass.old) (view pass.new)) }
+    ensures err { IfErr result (λ fault. IsWriteFaulted K.layout KeepsLocksOnly (IsDelRound K.layout) (IsNeededByDel K.layout)
+        (IsDamagedForDel K.layout) (HasKeyIn K.layout) (K.rank key.now) fault (view pass.old) (view pass.new)) }
 {
     let backoff = Backoff::new();
     for _ in rt.forever() {
@@ -52,6 +53,7 @@ pub fn del<K: Merges, R: Wait, B: PageBlock<N>, const N: usize>(
                 Err(fault) => return Err(fault),
             },
             Tried::Worn(pid) => return Err(TreeFault::Worn { pid }),
+            Tried::Damaged(pid) => return Err(TreeFault::Damaged { pid }),
             Tried::Tight(_) => unreachable!(),
         }
     }
@@ -79,7 +81,7 @@ pub fn swap<K: Edits, R: Wait, B: PageBlock<N>, const N: usize>(
     ensures ok { IfOk result (λ reply. IsWriteReplied K.plain K.layout Waits (IsWriteRound K.layout)
         (record { call = ForSwap (K.rank key.now) want value; reply = reply }) (view pass.old) (view pass.new)) }
     ensures kind { IfOk result (λ reply. IsOfKind (ForSwap (K.rank key.now) want value) reply) }
-    ensures err { IfErr result (λ fault. IsWriteFaulted K.layout Waits (IsWriteRound K.layout) (IsNeeded K.layout) (λ words key. HasValueIn K.layout words key want)
+    ensures err { IfErr result (λ fault. IsWriteFaulted K.layout Waits (IsWriteRound K.layout) (IsNeeded K.layout) (IsDamaged K.layout) (λ words key. HasValueIn K.layout words key want)
         (K.rank key.now) fault (view pass.old) (view pass.new)) }
 {
     let backoff = Backoff::new();
@@ -92,6 +94,7 @@ pub fn swap<K: Edits, R: Wait, B: PageBlock<N>, const N: usize>(
                 Err(fault) => return Err(fault),
             },
             Tried::Worn(pid) => return Err(TreeFault::Worn { pid }),
+            Tried::Damaged(pid) => return Err(TreeFault::Damaged { pid }),
             Tried::Tight(_) => unreachable!(),
         }
     }
@@ -129,6 +132,7 @@ fn after_split<K: Kind, B: PageBlock<N>, const N: usize>(
         }
         TrySplit::Need(pid) => fetch(pool, pass, iface, pid, backoff),
         TrySplit::Worn(pid) => Err(TreeFault::Worn { pid }),
+        TrySplit::Damaged(pid) => Err(TreeFault::Damaged { pid }),
         TrySplit::Full {
             pages,
             next: _,
@@ -173,6 +177,7 @@ pub fn put<K: Edits, R: Wait, B: PageBlock<N>, const N: usize>(
                 Err(fault) => return Err(fault),
             },
             Tried::Worn(pid) => return Err(TreeFault::Worn { pid }),
+            Tried::Damaged(pid) => return Err(TreeFault::Damaged { pid }),
             Tried::Tight(_) => {
                 let answer = try_split(&pool.words, pass, iface, key);
                 match after_split(pool, pass, iface, answer, &backoff) {

@@ -20,7 +20,7 @@ use Rattle.vm_tree_laws.specs.{Plain.KeepsPlain, Tied.Tied}
 use Rattle.vm_tree_rule.specs.{declared.turn.Turn.Turn, Leaves.LeavesWord, Leaves.ReadsOn}
 use Rattle.vm_tree_rule.specs.declared.turn.Turn.TheVariants as turns
 use Rattle.vm_tree_rule.specs.Standing.{HasSteppedDown, IsOpened, NamesForKey, Sees, tree_pages}
-use Rattle.vm_tree_rule.specs.Turns.{IsAstray, IsNoChild, IsNoTree, IsNoTree as no_tree, IsStopped}
+use Rattle.vm_tree_rule.specs.Turns.{IsNoChild, IsStopped, WhyDamaged}
 use Rattle.vm_tree_rule.specs.Turns.{IsStopped as stops, IsTurnedBack, IsTurnOf, LoadsName}
 use Rattle.vm_tree_rule.proofs.Logged.{given-since, read-since, shown-kept, shown-later, shown-start}
 use Rattle.vm_tree_rule.proofs.Readings.{begins-leave, begins-reads, denied-reads, leaves-self, log-then}
@@ -168,12 +168,11 @@ module _ {X : Type 0} (p word frame : ℕ) {L : Layout} where
       }
 
   -- a page was read and validated that is not what it is to be
-  pub astray-turn : (key : ℕ) (u v w : View X) → IsOpened u p word frame v → u.start.tells ≡ false
-      → IsValid (Tied L) p word frame None v w → IsNoTree L key p w
-      → IsTurnedBack L u key (turns.Astray (record { at = ats.Page p; first = word; seen = word })) w
-  astray-turn key u v w o untold k why = (
+  pub damaged-turn : (key : ℕ) (u v w : View X) → IsOpened u p word frame v → u.start.tells ≡ false
+      → IsValid (Tied L) p word frame None v w → WhyDamaged L u key p w → IsTurnedBack L u key (turns.Damaged p) w
+  damaged-turn key u v w o untold k why = (
     reads-then u v w (opened-reads p word frame u v o) (valid-reads (Tied L) p word frame v w k),
-    record { untold = untold; same = refl; page = p; at = refl; frame = frame; found = v; opened = o; valid = k; why = why },
+    record { untold = untold; word = word; frame = frame; found = v; opened = o; valid = k; why = why },
   )
 
   -- what was loaded of the page names the same one on, as long as nothing more is loaded of it
@@ -185,8 +184,9 @@ module _ {X : Type 0} (p word frame : ℕ) {L : Layout} where
   pub turned : (key named : ℕ) (turn : Turn) (u v w : View X) → IsOpened u p word frame v
       → (v.start.tells ≡ true → (words : List ℕ) → length words ≡ L.words → Sees L v p word words
       → NamesForKey L p words key named) → LoadsName L v p key named → w.start.size ≡ L.words
+      → (IsValid (Tied L) p word frame None v w → IsNoChild w.start.pages p named → WhyDamaged L u key p w)
       → IsStopped L p word frame named turn v w → IsTurnedBack L u key turn w
-  turned key named turn u v w o names loads whole (stops.denied saw x is d k) =
+  turned key named turn u v w o names loads whole why (stops.denied saw x is d k) =
       let reads : ReadsOn u v = opened-reads p word frame u v o in
       let denied : ReadsOn v x = denied-reads AgainOrNeed NoWord NoneExpected named (denies.Again saw) v x d in
       let valid : ReadsOn x w = valid-reads (Tied L) p word frame x w k in
@@ -195,9 +195,9 @@ module _ {X : Type 0} (p word frame : ℕ) {L : Layout} where
         shown-later NoneExpected saw k.done u x w k.steady.log
             (shown-start AgainOrNeed NoneExpected named saw reads.0.done u v x reads.0.log d),
       )
-  turned key named turn u v w o names loads whole (stops.refused saw x is reads leaves d) =
+  turned key named turn u v w o names loads whole why (stops.refused saw x is reads leaves d) =
       subst (λ t. IsTurnedBack L u key t w) (sym is) (refused-turn p word frame L key saw u v x w o reads leaves d)
-  turned key named turn u v w o names loads whole (stops.missing x is d k sees inside ne) =
+  turned key named turn u v w o names loads whole why (stops.missing x is d k sees inside ne) =
       let reads : ReadsOn u v = opened-reads p word frame u v o in
       let denied : ReadsOn v x = denied-reads AgainOrNeed NoWord NoneExpected named (denies.Need named) v x d in
       let valid : ReadsOn x w = valid-reads (Tied L) p word frame x w k in
@@ -223,12 +223,11 @@ module _ {X : Type 0} (p word frame : ℕ) {L : Layout} where
           });
         },
       )
-  turned key named turn u v w o names loads whole (stops.astray is untold k none) =
+  turned key named turn u v w o names loads whole why (stops.damaged is untold k none) =
       let reads : ReadsOn u v = opened-reads p word frame u v o in
       subst (λ t. IsTurnedBack L u key t w) (sym is)
-      (astray-turn key u v w o (ap (λ (y : Origin). y.tells) (sym reads.0.start) ∙ untold) k
-      (no_tree.nowhere named (loads-name key named v w (k.same_reads p).loads loads)
-      (subst (λ (y : Origin). IsNoChild y.pages p named) (sym k.steady.start) none)))
+      (damaged-turn key u v w o (ap (λ (y : Origin). y.tells) (sym reads.0.start) ∙ untold) k
+      (why k (subst (λ (y : Origin). IsNoChild y.pages p named) (sym k.steady.start) none)))
 
 module _ {X : Type 0} where
   -- page 0 was found evicted as the call began
@@ -259,9 +258,3 @@ module _ {X : Type 0} where
       (sym (is ∙ ap turns.Need d.evidence.0)) (first-needed L key q v w inside d)
   first-ended L key (denies.Crowded q) turn v w is inside d = absurd is
   first-ended L key (denies.Worn q) turn v w is inside d = absurd is
-
-  -- the word that stands for both is one that the call read
-  pub astray-given : (L : Layout) (key : ℕ) (saw : Saw) (v w : View X) (a : IsAstray L v key saw w)
-      → (done : List Did) × (w.log ≡ v.log ++ done) × HasGiven done (places.State a.page) saw.seen
-  astray-given L key saw v w a = given-since a.page saw.seen a.valid.done v a.found w
-      (read-since a.page saw.seen a.frame v a.found a.found a.opened (leaves-self a.page a.found)) a.valid.steady.log

@@ -9,3 +9,4 @@ pub mod Seeking
 pub mod Surely
 pub mod Counting
 pub mod Reaching
+pub mod OnWay

@@ -1,5 +1,5 @@
 -- A step down from a node of which words were loaded before: they name the next page.
-use Rattle.std.proofs.Common.{[], ◌++◌, ◌<◌, ◌∙◌, ◌∷◌, ◌≡◌, ◌≢◌, ◌≤◌, ap, append_assoc, arith, inr, length, List}
+use Rattle.std.proofs.Common.{[], ◌++◌, ◌<◌, ◌∙◌, ◌∷◌, ◌≡◌, ◌≢◌, ◌≤◌, ap, append_assoc, arith, inl, inr, length, List}
 use Rattle.std.proofs.Common.{None, Option, refl, slice_index, Some, subst, suc, sym, true, unwrap_or, ℕ}
 use Rattle.vm_map.specs.Map.{next_key}
 use Rattle.vm_tree_model.specs.{Layout.Layout, Page.node_of, Page.pairs_of}
@@ -30,7 +30,7 @@ module _ {X : Type 0} where
   pub meta-read : (p word frame root entered level : ℕ) (v a b y w : View X) → p ≡ 0 → IsOpened v p word frame y
       → ReadsOn y w → StaysOpen p word frame entered y w → entered ≡ root
       → loads_at b p ≡ loads_at a p ++ (1, root) ∷ [] → loads_at y p ≡ loads_at b p ++ (2, level) ∷ []
-      → level < w.start.pages → IsMetaRead p word frame entered level v w
+      → (w.start.tells ≡ true → level < w.start.pages) → IsMetaRead p word frame entered level v w
   meta-read p word frame root entered level v a b y w zero o reads s same first second height = record {
     height = height;
     zero = zero;
@@ -84,16 +84,19 @@ module _ {X : Type 0} {L : Layout} where
           let inner = inner-here (tree_pages y) p words level key reached in
           inr (reached.from_one, inner.node.tag, reached.covers, (is words (has-loaded words size sees)).child _ _ inner.node.rises)
 
-      pub goes-nowhere : TellNoChild L loaded key → y.start.tells ≡ true → (words : List ℕ) → length words ≡ L.words
+      pub goes-nowhere : TellNoChild L loaded (suc level) key → y.start.tells ≡ true → (words : List ℕ) → length words ≡ L.words
           → Sees L y p word words → ⊥
       goes-nowhere none tells words size sees =
           let reached = awaits tells words sees.holds in
           let inner = inner-here (tree_pages y) p words level key reached in
           let there = child_there L (tree_pages y) p words (suc level) key reached sees.itself.sound inner in
-          let no : Some there.0 ≡ None = sym there.1 ∙ (none words (has-loaded words size sees)).child _ _ inner.node.rises in cc
+          elim (none words (has-loaded words size sees)) [
+            | inl other ↦ other reached.level_is
+            | inr gone ↦ let no : Some there.0 ≡ None = sym there.1 ∙ gone.child _ _ inner.node.rises in cc
+          ]
 
   -- the root was named by page 0, which was validated then
-  pub root-passes : (meta : OptGuard) (root level q word' frame' : ℕ) (u y w : View X) → meta.pid ≡ 0
+  abbrev pub root-passes : (meta : OptGuard) (root level q word' frame' : ℕ) (u y w : View X) → meta.pid ≡ 0
       → IsOpened u meta.pid meta.word meta.frame y → (before : List (ℕ × ℕ))
       × (loads_at y meta.pid ≡ before ++ (1, root) ∷ (2, level) ∷ []) → q ≡ root
       → HasSteppedDown L meta.pid meta.word meta.frame q word' frame' y w
@@ -132,11 +135,10 @@ module _ {X : Type 0} {L : Layout} where
         leaves-then q v x w (begins-leave q p started frame' v x ne b) (valid-leave (Tied L) q r word frame None x w k),
       )
 
-module _ {X : Type 0} (L : Layout) (spare : List ℕ → ℕ) where
+module _ {X : Type 0} (L : Layout) where
   -- the call went on
-  pub passed-later : (v : View X) (key : ℕ) (way : List (ℕ × List (ℕ × ℕ))) (p : ℕ) (w y : View X) → ReadsOn w y
-      → ArePassed L spare v key way p w → ArePassed L spare v key way p y
-  passed-later v key [] p w y reads k = record {
+  abbrev pub root-later : (v : View X) (p : ℕ) (w y : View X) → ReadsOn w y → IsNamedRoot L v p w → IsNamedRoot L v p y
+  root-later v p w y reads k = record {
     meta = k.meta;
     level = k.level;
     checked = k.checked;
@@ -148,6 +150,11 @@ module _ {X : Type 0} (L : Layout) (spare : List ℕ → ℕ) where
     since = reads-then k.after w y k.since reads;
     told = k.told;
   }
+
+module _ {X : Type 0} (L : Layout) (spare : List ℕ → ℕ) where
+  pub passed-later : (v : View X) (key : ℕ) (way : List (ℕ × List (ℕ × ℕ))) (p : ℕ) (w y : View X) → ReadsOn w y
+      → ArePassed L spare v key way p w → ArePassed L spare v key way p y
+  passed-later v key [] p w y reads k = root-later L v p w y reads k
   passed-later v key (s ∷ ss) p w y reads k = (
     record {
       word = k.0.word;

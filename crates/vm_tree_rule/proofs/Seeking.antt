@@ -12,15 +12,16 @@ use Rattle.vm_guard.specs.declared.opt.OptGuard.{OptGuard}
 use Rattle.vm_guard.specs.Guards.{IsValid, Loads, placed}
 use Rattle.vm_guard.proofs.Reading.{reading-kept}
 use Rattle.vm_tree_laws.specs.Tied.{Tied}
-use Rattle.vm_tree_rule.specs.{Leaves.LeavesWord, Leaves.ReadsOn, Turns.IsNoTree as no_tree, Turns.IsTurnedBack}
+use Rattle.vm_tree_rule.specs.{Leaves.LeavesWord, Leaves.ReadsOn, Turns.IsTurnedBack, Turns.WhyDamaged as why, Ways.IsOnWay}
 use Rattle.vm_tree_rule.specs.declared.turn.Turn.TheVariants as turns
 use Rattle.vm_tree_rule.specs.Seeks.{ArePassed, HasLoaded, IsFullBelow, IsMetaRead, IsReread, IsRootFull, GoesPast}
 use Rattle.vm_tree_rule.specs.Seeks.{TellChild, TellRoom, TellSpare}
 use Rattle.vm_tree_rule.specs.Standing.{Awaits, HasSteppedDown, IsOpened, Sees, tree_pages}
 use Rattle.vm_tree_rule.specs.Resident.{IsKnownNow, KnowsLocks}
 use Rattle.vm_tree_rule.proofs.Downward.{awaits-later, inner-here}
-use Rattle.vm_tree_rule.proofs.Entering.{astray-turn, opened-reads, untold}
+use Rattle.vm_tree_rule.proofs.Entering.{damaged-turn, opened-reads, untold}
 use Rattle.vm_tree_rule.proofs.Onward.{has-loaded, loaded-more, passed-later}
+use Rattle.vm_tree_rule.proofs.OnWay.{way-later}
 use Rattle.vm_tree_rule.proofs.Readings.{leaves-then, loads-leave, loads-reads, opened-later, opened-loads}
 use Rattle.vm_tree_rule.proofs.Readings.{reads-self, reads-then, same-page, valid-leave, valid-reads}
 use Rattle.vm_tree_rule.proofs.Surely.{known-same, locks-same}
@@ -68,7 +69,8 @@ module _ {X : Type 0} where
     apart = m.apart;
     opened = opened-beside p word frame u v w b m.opened;
     loads = (m.loads.0, b.same.loads ∙ m.loads.1);
-    height = subst (λ (o : Origin). level < o.pages) (sym b.reads.0.start) m.height;
+    height = λ tells. subst (λ (o : Origin). level < o.pages) (sym b.reads.0.start)
+        (m.height (ap (λ (o : Origin). o.tells) (sym b.reads.0.start) ∙ tells));
   }
 
 module _ {X : Type 0} {L : Layout} where
@@ -114,19 +116,20 @@ module _ {X : Type 0} {L : Layout} where
           (same, subst (IsPageWith L.words loaded) same (page_first L.words loaded (placed 0 page) words with))
 
       -- words of different moments do not fit: so blocks do not tell them, and no page has them all
-      pub torn-turn : (IsPageWith L.words loaded page → ⊥) → (key : ℕ) (u : View X) → IsOpened u p word frame v
-          → IsTurnedBack L u key (turns.Astray (record { at = ats.Page p; first = word; seen = word })) w
-      torn-turn clash key u o =
+      pub torn-turn : (IsPageWith L.words loaded page → ⊥) → (key level low high : ℕ) (u : View X) → IsOpened u p word frame v
+          → IsOnWay L u key p level low high v → IsTurnedBack L u key (turns.Damaged p) w
+      torn-turn clash key level low high u o way =
           let opened : IsOpened u p word frame r.read = opened-loads p word frame (placed 0 page) u v r.read o r.loads in
           let start = (opened-reads p word frame u v o).0.start in
           let more = loaded-more p word frame loaded (placed 0 page) v r.read has r.loads in
-          astray-turn p word frame key u r.read w opened
+          damaged-turn p word frame key u r.read w opened
           (untold _ (λ tells. clash (reread-has (ap (λ (s : Origin). s.tells) start ∙ tells)).1)) r.valid
-          (no_tree.childless (loaded ++ placed 0 page) (more.0, (r.valid.same_reads p).loads ∙ more.1)
-          (λ words with. absurd (clash
+          (why.other level low high (loaded ++ placed 0 page)
+          (way-later u key p level low high v w reread-reads way) (more.0, (r.valid.same_reads p).loads ∙ more.1)
+          (λ words with node. clash
           (subst (IsPageWith L.words loaded)
           (same-page words page long (page_then L.words loaded (placed 0 page) words with))
-          (page_first L.words loaded (placed 0 page) words with)))))
+          (page_first L.words loaded (placed 0 page) words with))))
 
   -- what is known of a page, and of all locks, is known on
   pub reread-known : (p word frame : ℕ) (page : List ℕ) (v w : View X) → IsReread L p word frame page v w → (q x : ℕ)

@@ -6,3 +6,4 @@ pub mod Seeks
 pub mod Shown
 pub mod Standing
 pub mod Turns
+pub mod Ways

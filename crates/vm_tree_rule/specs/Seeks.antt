@@ -1,7 +1,7 @@
 -- Where a descent stands that looks for a full node: a page and the page that names it, of which words were loaded
 -- where they stand, both still open.
-use Rattle.std.specs.Prelude.{[], ◌*◌, ◌++◌, ◌+◌, ◌<◌, ◌∷◌, ◌≡◌, ◌≢◌, ◌≤◌, List, None, Option, slice_index, Some, suc, true, ℕ}
-use Rattle.vm_tree_model.specs.{Edits.child_of, Layout.Layout}
+use Rattle.std.specs.Prelude.{[], ◌*◌, ◌++◌, ◌+◌, ◌<◌, ◌∷◌, ◌≡◌, ◌≢◌, ◌≤◌, ◌⊎◌, List, None, Option, slice_index, Some, suc, true, ℕ}
+use Rattle.vm_tree_model.specs.{Edits.child_of, Layout.Layout, Page.node_of}
 use Rattle.vm_kind.specs.Bounds.{Bounds}
 use Rattle.vm_node.specs.Loads.{IsPageWith}
 use Rattle.vm_inner.specs.Found.{FindsChild, FindsChildIn, FindsNoChild}
@@ -21,9 +21,14 @@ module _ (L : Layout) where
   abbrev pub TellChildIn : List (ℕ × ℕ) → ℕ → ℕ → ℕ → Option ℕ → Type 0
   TellChildIn loaded key named low next = (words : List ℕ) → IsPageWith L.words loaded words → FindsChildIn L words key named low next
 
-  -- they name none: a search finds no child in any page that has them
-  abbrev pub TellNoChild : List (ℕ × ℕ) → ℕ → Type 0
-  TellNoChild loaded key = (words : List ℕ) → IsPageWith L.words loaded words → FindsNoChild L words key
+  -- they tell the level of their page
+  abbrev pub TellLevel : List (ℕ × ℕ) → ℕ → Type 0
+  TellLevel loaded level = (words : List ℕ) → IsPageWith L.words loaded words → (node_of L words).level ≡ level
+
+  -- each page that has them has another level, or no child for the key that a search finds
+  abbrev pub TellNoChild : List (ℕ × ℕ) → ℕ → ℕ → Type 0
+  TellNoChild loaded level key = (words : List ℕ) → IsPageWith L.words loaded words
+      → ((node_of L words).level ≢ level) ⊎ FindsNoChild L words key
 
   -- each page that has the words loaded has so much of its room left
   abbrev pub TellSpare : (List ℕ → ℕ) → List (ℕ × ℕ) → ℕ → Type 0
@@ -50,13 +55,13 @@ module _ {X : Type 0} where
   abbrev pub HasRead : View X → ℕ → List ℕ → Type 0
   HasRead v p page = HasLoaded v p (placed 0 page)
 
-  -- page 0 was read, and names this root, at this level, which is below the number of pages
+  -- page 0 was read, and names this root, at this level, which is below the number of pages where blocks tell their words
   pub record IsMetaRead (p word frame root level : ℕ) (v w : View X) : Type 0 where
     pub zero : p ≡ 0
     pub apart : root ≢ 0
     pub opened : IsOpened v p word frame w
     pub loads : (before : List (ℕ × ℕ)) × (loads_at w p ≡ before ++ (1, root) ∷ (2, level) ∷ [])
-    pub height : level < w.start.pages
+    pub height : w.start.tells ≡ true → level < w.start.pages
 
   -- a pass that is alone knows the words of the guards that the search gives, as long as it meets resident pages alone
   abbrev pub KnowsMet : Met → View X → Type 0

@@ -11,7 +11,7 @@ use Rattle.vm_guard.specs.declared.deny.Deny.TheVariants as denies
 use Rattle.vm_guard.specs.Denied.{AgainOrNeed, IsDenied, KeptWord}
 use Rattle.vm_tree_laws.specs.Tied.{Tied}
 use Rattle.vm_tree_rule.specs.{declared.turn.Turn.Turn, Leaves.LeavesWord, Leaves.ReadsOn, Seeks.HasLoaded}
-use Rattle.vm_tree_rule.specs.{Seeks.TellChild, Seeks.TellNoChild, Shown.IsAgain}
+use Rattle.vm_tree_rule.specs.{Seeks.TellChild, Shown.IsAgain, Ways.IsOnWay, Ways.TellNoNode}
 use Rattle.vm_tree_rule.specs.declared.turn.Turn.TheVariants as turns
 use Rattle.vm_tree_rule.specs.Standing.{IsOpened, NamesForKey, Sees}
 
@@ -26,14 +26,13 @@ IsTurnOf (denies.Worn p) turn = ⊥
 abbrev pub IsNoChild : ℕ → ℕ → ℕ → Type 0
 IsNoChild pages r named = (named ≡ 0) ⊎ ((pages ≤ named) ⊎ (named ≡ r))
 
+-- an image of so many pages has no page but 0 of this number
+abbrev pub IsNoPage : ℕ → ℕ → Type 0
+IsNoPage pages named = (named ≡ 0) ⊎ (pages ≤ named)
+
 -- each page that has the words loaded is a leaf that covers the key
 abbrev pub TellLeaf : Layout → List (ℕ × ℕ) → ℕ → Type 0
 TellLeaf L loaded key = (words : List ℕ) → IsPageWith L.words loaded words → ((node_of L words).tag ≡ 2) × Covers (node_of L words) key
-
--- none of them is
-abbrev pub TellNoLeaf : Layout → List (ℕ × ℕ) → ℕ → Type 0
-TellNoLeaf L loaded key = (words : List ℕ) → IsPageWith L.words loaded words → ((node_of L words).tag ≢ 2)
-    ⊎ (¬ (Covers (node_of L words) key))
 
 module _ {X : Type 0} (L : Layout) where
   -- what was loaded of page r names page p for the key: words 1 and 2 of page 0, or words of a node, in which a search finds it
@@ -62,35 +61,33 @@ module _ {X : Type 0} (L : Layout) where
     pub inside : p < v.start.pages
     pub named : (p ≡ 0) ⊎ IsNamed v key p w
 
-  -- Why the words that were loaded of page p are not those of a tree's page on the way of the key: they name no page
-  -- that it may name; page 0 has as
-  -- many levels as pages; a node has no child for the key; the last node is no leaf, or does not cover the key
-  pub data IsNoTree (key p : ℕ) (w : View X) : Type 0 where
-    nowhere : (named : ℕ) → LoadsName w p key named → IsNoChild w.start.pages p named → IsNoTree key p w
-    high : (before : List (ℕ × ℕ)) (root level : ℕ) → p ≡ 0 → loads_at w p ≡ before ++ (1, root) ∷ (2, level) ∷ []
-        → w.start.pages ≤ level → IsNoTree key p w
-    childless : (loaded : List (ℕ × ℕ)) → HasLoaded w p loaded → TellNoChild L loaded key → IsNoTree key p w
-    leafless : (loaded : List (ℕ × ℕ)) → HasLoaded w p loaded → TellNoLeaf L loaded key → IsNoTree key p w
+  -- What is wrong with page p, by words of it that were loaded: as page 0 it names no root inside the image; or it was
+  -- reached on the way of the key, at a level and with fences, but names a child for the key outside the image; or no
+  -- page that has these words is a node of that level with those fences
+  pub data WhyDamaged (v : View X) (key p : ℕ) (w : View X) : Type 0 where
+    rootless : (before : List (ℕ × ℕ)) (root level : ℕ) → p ≡ 0 → loads_at w p ≡ before ++ (1, root) ∷ (2, level) ∷ []
+        → IsNoPage w.start.pages root → WhyDamaged v key p w
+    childless : (level low high named : ℕ) (loaded : List (ℕ × ℕ)) → IsOnWay L v key p level low high w
+        → HasLoaded w p loaded → TellChild L loaded key named → IsNoPage w.start.pages named → WhyDamaged v key p w
+    other : (level low high : ℕ) (loaded : List (ℕ × ℕ)) → IsOnWay L v key p level low high w → HasLoaded w p loaded
+        → TellNoNode L loaded level low high → WhyDamaged v key p w
 
-  -- Blocks do not tell their words, and those of a page are not what the way to it says, for this reason. The page
-  -- was read in this call, at the word
-  -- that stands for both words, and then validated
-  pub record IsAstray (v : View X) (key : ℕ) (saw : Saw) (w : View X) : Type 0 where
+  -- Page p was read in this call and then validated, and its words are not what the way to it says, for this reason:
+  -- so blocks do not tell their words
+  pub record IsDamaged (v : View X) (key p : ℕ) (w : View X) : Type 0 where
     pub untold : v.start.tells ≡ false
-    pub same : saw.first ≡ saw.seen
-    pub page : ℕ
-    pub at : saw.at ≡ ats.Page page
+    pub word : ℕ
     pub frame : ℕ
     pub found : View X
-    pub opened : IsOpened v page saw.seen frame found
-    pub valid : IsValid (Tied L) page saw.seen frame None found w
-    pub why : IsNoTree key page w
+    pub opened : IsOpened v p word frame found
+    pub valid : IsValid (Tied L) p word frame None found w
+    pub why : WhyDamaged v key p w
 
   -- the call only read, and ended for this reason
   abbrev pub IsTurnedBack : View X → ℕ → Turn → View X → Type 0
   IsTurnedBack v key (turns.Again saw) w = ReadsOn v w × IsAgain v saw w
   IsTurnedBack v key (turns.Need p) w = ReadsOn v w × IsNeeded v key p w
-  IsTurnedBack v key (turns.Astray saw) w = ReadsOn v w × IsAstray v key saw w
+  IsTurnedBack v key (turns.Damaged p) w = ReadsOn v w × IsDamaged v key p w
 
   -- a step from page r, whose read began at this word, to the page that it names ended without that page: page r was
   -- validated, but the named page
@@ -105,9 +102,5 @@ module _ {X : Type 0} (L : Layout) where
         (denies.Need named) v x → IsValid (Tied L) r word frame None x w
         → (v.start.tells ≡ true → Sees L v r word (last_of w r).words) → named < v.start.pages → named ≢ r
         → IsStopped r word frame named turn v w
-    astray : turn ≡ turns.Astray (record {
-      at = ats.Page r;
-      first = word;
-      seen = word;
-    }) → v.start.tells ≡ false → IsValid (Tied L) r word frame None v w → IsNoChild v.start.pages r named
-        → IsStopped r word frame named turn v w
+    damaged : turn ≡ turns.Damaged r → v.start.tells ≡ false → IsValid (Tied L) r word frame None v w
+        → IsNoChild v.start.pages r named → IsStopped r word frame named turn v w

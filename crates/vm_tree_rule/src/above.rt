@@ -2,7 +2,7 @@
 ghost use Rattle.std.specs.Prelude.{◌≡◌, ◌≢◌, ◌≤◌, IfErr, IfOk, IsOk, true};
 ghost use Rattle.vm_step.specs.Prelude.{GoesOn, IsReadyOn, view};
 ghost use Rattle.vm_guard.specs.Guards.{IsReading};
-ghost use Rattle.vm_tree_rule.specs.{Above.IsAbove, Above.KnowsAbove, Leaves.ReadsOn, Turns.IsTurnedBack};
+ghost use Rattle.vm_tree_rule.specs.{Above.IsAbove, Above.IsLeafReached, Above.KnowsAbove, Leaves.ReadsOn, Turns.IsTurnedBack, Ways.StandsOnWay};
 ghost use Rattle.vm_tree_rule.specs.Resident.{IsKnownNow, KnowsResident};
 ghost use Rattle.vm_tree_rule.specs.Seeks.{IsMetaRead};
 ghost use Rattle.vm_tree_rule.specs.Standing.{Awaits, IsOpened, IsStand};
@@ -25,10 +25,12 @@ pub enum Above {
     Node(OptGuard),
 }
 
-/// A leaf, and what stands above it.
+/// A leaf, the fences at which it was reached, and what stands above it. No high fence stands for the end of all keys.
 #[derive(Drop)]
-pub struct Reached {
+pub struct Reached<T> {
     pub leaf: OptGuard,
+    pub low: T,
+    pub high: Option<T>,
     pub above: Above,
 }
 
@@ -38,7 +40,7 @@ fn under_root<K: Kind, B: Block>(
     pass: &mut Pass<TreeOf<K>>,
     top: Top<K::Key>,
     key: &K::Key,
-) -> Result<Reached, Turn>
+) -> Result<Reached<K::Key>, Turn>
     requires ready { IsReadyOn words.now B.tells pass.old }
     requires reading { IsReading top.stand.guard.pid top.stand.guard.word top.stand.guard.frame (view pass.old) }
     requires stands { IsStand K.layout K.rank (K.rank key.now) top.stand (view pass.old) }
@@ -49,8 +51,10 @@ fn under_root<K: Kind, B: Block>(
     ensures above { IfOk result (λ r. (v : _) → IsOpened v top.stand.guard.pid top.stand.guard.word top.stand.guard.frame (view pass.old)
         → IsMetaRead top.meta.pid top.meta.word top.meta.frame top.stand.guard.pid top.stand.level v (view pass.old)
         → IsAbove K.layout v (K.rank key.now) r.above r.leaf.pid (view pass.new)) }
+    ensures leaf { IfOk result (λ r. (v : _) → IsOpened v top.stand.guard.pid top.stand.guard.word top.stand.guard.frame (view pass.old)
+        → StandsOnWay K.layout K.rank v (K.rank key.now) top.stand (view pass.old) → IsLeafReached K.layout K.rank v (K.rank key.now) r (view pass.new)) }
     ensures err { IfErr result (λ turn. (v : _) → IsOpened v top.stand.guard.pid top.stand.guard.word top.stand.guard.frame (view pass.old)
-        → IsTurnedBack K.layout v (K.rank key.now) turn (view pass.new)) }
+        → StandsOnWay K.layout K.rank v (K.rank key.now) top.stand (view pass.old) → IsTurnedBack K.layout v (K.rank key.now) turn (view pass.new)) }
     ensures sure { B.tells ≡ true → IsKnownNow top.stand.guard.pid top.stand.guard.word (view pass.old) → IsOk result }
     ensures known { B.tells ≡ true → IsKnownNow top.stand.guard.pid top.stand.guard.word (view pass.old) → IsKnownNow top.meta.pid top.meta.word (view pass.old) → top.meta.pid ≡ 0
         → IfOk result (λ r. IsKnownNow r.leaf.pid r.leaf.word (view pass.new) × KnowsAbove r.above (view pass.new)) }
@@ -59,6 +63,8 @@ fn under_root<K: Kind, B: Block>(
     match step(words, pass, &stand, key) {
         Ok(below) => Ok(Reached {
             leaf: below.guard,
+            low: below.low,
+            high: below.high,
             above: Above::Root {
                 meta,
                 root: stand.guard,
@@ -74,7 +80,7 @@ fn under_node<K: Kind, B: Block>(
     pass: &mut Pass<TreeOf<K>>,
     stand: Stand<K::Key>,
     key: &K::Key,
-) -> Result<Reached, Turn>
+) -> Result<Reached<K::Key>, Turn>
     requires ready { IsReadyOn words.now B.tells pass.old }
     requires opened { (v : _) × IsOpened v stand.guard.pid stand.guard.word stand.guard.frame (view pass.old) }
     requires stands { IsStand K.layout K.rank (K.rank key.now) stand (view pass.old) }
@@ -85,8 +91,10 @@ fn under_node<K: Kind, B: Block>(
     ensures awaits { IfOk result (λ r. Awaits K.layout (view pass.new) r.leaf.pid r.leaf.word 0 (K.rank key.now)) }
     ensures above { IfOk result (λ r. (v : _) → IsOpened v stand.guard.pid stand.guard.word stand.guard.frame (view pass.old)
         → IsAbove K.layout v (K.rank key.now) r.above r.leaf.pid (view pass.new)) }
+    ensures leaf { IfOk result (λ r. (v : _) → IsOpened v stand.guard.pid stand.guard.word stand.guard.frame (view pass.old)
+        → StandsOnWay K.layout K.rank v (K.rank key.now) stand (view pass.old) → IsLeafReached K.layout K.rank v (K.rank key.now) r (view pass.new)) }
     ensures err { IfErr result (λ turn. (v : _) → IsOpened v stand.guard.pid stand.guard.word stand.guard.frame (view pass.old)
-        → IsTurnedBack K.layout v (K.rank key.now) turn (view pass.new)) }
+        → StandsOnWay K.layout K.rank v (K.rank key.now) stand (view pass.old) → IsTurnedBack K.layout v (K.rank key.now) turn (view pass.new)) }
     ensures sure { B.tells ≡ true → IsKnownNow stand.guard.pid stand.guard.word (view pass.old) → IsOk result }
     ensures known { B.tells ≡ true → IsKnownNow stand.guard.pid stand.guard.word (view pass.old)
         → IfOk result (λ r. IsKnownNow r.leaf.pid r.leaf.word (view pass.new) × KnowsAbove r.above (view pass.new)) }
@@ -102,6 +110,8 @@ fn under_node<K: Kind, B: Block>(
     match step(words, pass, &node, key) {
         Ok(below) => Ok(Reached {
             leaf: below.guard,
+            low: below.low,
+            high: below.high,
             above: Above::Node(node.guard),
         }),
         Err(turn) => Err(turn),
@@ -113,13 +123,14 @@ pub fn reach<K: Kind, B: Block>(
     words: &Words<TreeOf<K>, B>,
     pass: &mut Pass<TreeOf<K>>,
     key: &K::Key,
-) -> Result<Reached, Turn>
+) -> Result<Reached<K::Key>, Turn>
     requires ready { IsReadyOn words.now B.tells pass.old }
     requires pages { 1 ≤ words.now.table.shared.key.pages }
     ensures goes { GoesOn words.now B.tells pass.old pass.new }
     ensures reads { IfOk result (λ r. ReadsOn (view pass.old) (view pass.new) × IsOpened (view pass.old) r.leaf.pid r.leaf.word r.leaf.frame (view pass.new)) }
     ensures awaits { IfOk result (λ r. Awaits K.layout (view pass.new) r.leaf.pid r.leaf.word 0 (K.rank key.now)) }
     ensures above { IfOk result (λ r. IsAbove K.layout (view pass.old) (K.rank key.now) r.above r.leaf.pid (view pass.new)) }
+    ensures leaf { IfOk result (λ r. IsLeafReached K.layout K.rank (view pass.old) (K.rank key.now) r (view pass.new)) }
     ensures err { IfErr result (λ turn. IsTurnedBack K.layout (view pass.old) (K.rank key.now) turn (view pass.new)) }
     ensures sure { B.tells ≡ true → KnowsResident (view pass.old) → IsOk result }
     ensures known { B.tells ≡ true → KnowsResident (view pass.old)
@@ -133,6 +144,8 @@ pub fn reach<K: Kind, B: Block>(
     if height == 0 {
         return Ok(Reached {
             leaf: top.stand.guard,
+            low: top.stand.low,
+            high: top.stand.high,
             above: Above::Nothing,
         });
     }

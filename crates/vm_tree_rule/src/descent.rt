@@ -5,10 +5,11 @@ ghost use Rattle.vm_step.specs.Prelude.{GoesOn, IsReadyOn, ReadsAsBefore, view};
 ghost use Rattle.vm_guard.specs.{Guards.IsReading, PageWords.LoadsWords};
 ghost use Rattle.vm_tree_rule.specs.Leaves.{LeavesWord, ReadsOn};
 ghost use Rattle.vm_tree_rule.specs.Few.{HasHeight, LoadsAtMost, LoadsHeight, LoadsWithin, ReadsInPlace};
-ghost use Rattle.vm_tree_rule.specs.Seeks.{HasLoaded, IsMetaRead, IsNamedRoot, GoesPast, TellChild, TellChildIn, TellNoChild};
+ghost use Rattle.vm_tree_rule.specs.Seeks.{HasLoaded, IsMetaRead, IsNamedRoot, GoesPast, TellChild, TellChildIn, TellLevel, TellNoChild};
 ghost use Rattle.vm_tree_rule.specs.Resident.{IsReadNow, KnowsLocks, KnowsReadable};
 ghost use Rattle.vm_tree_rule.specs.Standing.{Awaits, AwaitsNode, fence_of, HasSteppedDown, IsOpened, IsStand, NamesNode, StaysOpen, tree_pages};
 ghost use Rattle.vm_tree_rule.specs.Turns.{IsStopped, IsTurnedBack};
+ghost use Rattle.vm_tree_rule.specs.Ways.{StandsOnWay};
 
 use crate::in_place::InPlace;
 use crate::turn::Turn;
@@ -53,7 +54,7 @@ pub fn enter<K: Kind, B: Block>(
     let pages = words.pages as u64;
     if named == 0 || named >= pages || named == parent.pid as u64 {
         return match parent.validate_silently(words, pass) {
-            Ok(()) => Err(Turn::astray_at(parent)),
+            Ok(()) => Err(Turn::Damaged(parent.pid)),
             Err(saw) => Err(Turn::Again(saw)),
         };
     }
@@ -71,11 +72,11 @@ pub fn enter<K: Kind, B: Block>(
 /// Where a descent stands: at a page whose open read began in this call, and which is a node of this level, with these fences, where blocks tell
 /// their words. The high fence is the end of all keys where there is none.
 #[derive(Drop)]
-pub(crate) struct Stand<T> {
-    pub(crate) guard: OptGuard,
-    pub(crate) level: u64,
-    pub(crate) low: T,
-    pub(crate) high: Option<T>,
+pub struct Stand<T> {
+    pub guard: OptGuard,
+    pub level: u64,
+    pub low: T,
+    pub high: Option<T>,
 }
 
 /// The high fence of a child: the next key of its node, or the node's high fence where there is none.
@@ -119,8 +120,10 @@ pub(crate) fn step<K: Kind, B: Block>(
     ensures not_zero { IfOk result (λ below. below.guard.pid ≢ 0) }
     ensures beside { (shares : ℕ → ℕ) → B.tells ≡ true → IsReadNow shares stand.now.guard.pid stand.now.guard.word (view pass.old)
         → IfOk result (λ below. (q x : ℕ) → q ≢ below.guard.pid → IsReadNow shares q x (view pass.old) → IsReadNow shares q x (view pass.new)) }
+    ensures way { IfOk result (λ below. (v : _) → IsOpened v stand.now.guard.pid stand.now.guard.word stand.now.guard.frame (view pass.old)
+        → StandsOnWay K.layout K.rank v (K.rank key.now) stand.now (view pass.old) → StandsOnWay K.layout K.rank v (K.rank key.now) below (view pass.new)) }
     ensures err { IfErr result (λ turn. (v : _) → IsOpened v stand.now.guard.pid stand.now.guard.word stand.now.guard.frame (view pass.old)
-        → IsTurnedBack K.layout v (K.rank key.now) turn (view pass.new)) }
+        → StandsOnWay K.layout K.rank v (K.rank key.now) stand.now (view pass.old) → IsTurnedBack K.layout v (K.rank key.now) turn (view pass.new)) }
     ensures sure { (shares : ℕ → ℕ) → B.tells ≡ true → IsReadNow shares stand.now.guard.pid stand.now.guard.word (view pass.old) → IsOk result }
     ensures known { (shares : ℕ → ℕ) → B.tells ≡ true → IsReadNow shares stand.now.guard.pid stand.now.guard.word (view pass.old)
         → IfOk result (λ below. IsReadNow shares below.guard.pid below.guard.word (view pass.new)
@@ -128,7 +131,7 @@ pub(crate) fn step<K: Kind, B: Block>(
     ensures locks { IfOk result (λ _. KnowsLocks (view pass.new)) }
     ensures few { LoadsAtMost K.bounds.child (view pass.old) (view pass.new) }
 {
-    match child_in_place(words, pass, &stand.guard, key) {
+    match child_in_place(words, pass, &stand.guard, stand.level, key) {
         Some(child) => match enter(words, pass, &stand.guard, child.page) {
             Ok(guard) => Ok(Stand {
                 guard,
@@ -139,25 +142,27 @@ pub(crate) fn step<K: Kind, B: Block>(
             Err(turn) => Err(turn),
         },
         None => match stand.guard.validate_silently(words, pass) {
-            Ok(()) => Err(Turn::astray_at(&stand.guard)),
+            Ok(()) => Err(Turn::Damaged(stand.guard.pid)),
             Err(saw) => Err(Turn::Again(saw)),
         },
     }
 }
 
-/// The child that the words of the page name for the key, found where they stand.
+/// The child that the words of the page name for the key, if they are of this level, found where they stand.
 fn child_in_place<K: Kind, B: Block>(
     words: &Words<TreeOf<K>, B>,
     pass: &mut Pass<TreeOf<K>>,
     guard: &OptGuard,
+    level: u64,
     key: &K::Key,
 ) -> Option<Fenced<K::Key>>
     requires ready { IsReadyOn words.now B.tells pass.old }
     requires reading { IsReading guard.now.pid guard.now.word guard.now.frame (view pass.old) }
     ensures goes { GoesOn words.now B.tells pass.old pass.new }
     ensures found { ReadsInPlace guard.now.pid guard.now.word guard.now.frame K.bounds.child (view pass.old) (view pass.new) (λ loaded.
-        MatchOption result (TellNoChild K.layout loaded (K.rank key.now))
-        (λ child. TellChildIn K.layout loaded (K.rank key.now) child.page (K.rank child.low) (option_map K.rank child.next))) }
+        MatchOption result (TellNoChild K.layout loaded level (K.rank key.now))
+        (λ child. TellChildIn K.layout loaded (K.rank key.now) child.page (K.rank child.low) (option_map K.rank child.next)
+        × TellLevel K.layout loaded level)) }
     ensures sides { MatchOption result (Unit {0})
         (λ child. (K.rank child.low ≤ K.rank key.now) × MatchOption child.next (Unit {0}) (λ above. K.rank key.now < K.rank above)) }
 {
@@ -167,7 +172,7 @@ fn child_in_place<K: Kind, B: Block>(
         guard,
         first: frame_place(words, guard.frame),
     };
-    K::child_at(&mut place, key)
+    K::child_at(&mut place, level, key)
 }
 
 /// Where a descent begins: page 0, and the root.
@@ -177,7 +182,7 @@ pub(crate) struct Top<T> {
     pub(crate) stand: Stand<T>,
 }
 
-/// Reads page 0, and enters the root. A tree has fewer levels than pages, so a descent ends also where blocks do not tell their words.
+/// Reads page 0, and enters the root. Where blocks do not tell their words, page 0 may tell any height: the root's own level, which is read next, then differs.
 pub(crate) fn enter_root<K: Kind, B: Block>(
     words: &Words<TreeOf<K>, B>,
     pass: &mut Pass<TreeOf<K>>,
@@ -194,6 +199,7 @@ pub(crate) fn enter_root<K: Kind, B: Block>(
         → IfOk result (λ top. IsReadNow shares top.stand.guard.pid top.stand.guard.word (view pass.new) × IsReadNow shares top.meta.pid top.meta.word (view pass.new)) }
     ensures locks { IfOk result (λ _. KnowsLocks (view pass.new)) }
     ensures named { IfOk result (λ top. IsNamedRoot K.layout (view pass.old) top.stand.guard.pid (view pass.new)) }
+    ensures way { IfOk result (λ top. StandsOnWay K.layout K.rank (view pass.old) (K.rank key.now) top.stand (view pass.new)) }
     ensures meta { IfOk result (λ top. IsMetaRead top.meta.pid top.meta.word top.meta.frame top.stand.guard.pid
         top.stand.level (view pass.old) (view pass.new)) }
     ensures err { IfErr result (λ turn. IsTurnedBack K.layout (view pass.old) (K.rank key.now) turn (view pass.new)) }
@@ -211,9 +217,6 @@ pub(crate) fn enter_root<K: Kind, B: Block>(
         Ok(guard) => guard,
         Err(turn) => return Err(turn),
     };
-    if level >= words.pages as u64 {
-        return Err(Turn::astray_at(&meta));
-    }
     K::in_range(key);
     Ok(Top {
         meta,
@@ -227,22 +230,23 @@ pub(crate) fn enter_root<K: Kind, B: Block>(
 }
 
 /// Descends to the leaf that covers the key, of which nothing is loaded yet. Its guard is still open: once it is validated, the words loaded through
-/// it are those of a leaf that covers the key.
+/// it are those of a leaf with the fences told, which hold the key.
 pub fn descend<K: Kind, B: Block>(
     words: &Words<TreeOf<K>, B>,
     pass: &mut Pass<TreeOf<K>>,
     key: &K::Key,
-) -> Result<OptGuard, Turn>
+) -> Result<Stand<K::Key>, Turn>
     requires ready { IsReadyOn words.now B.tells pass.old }
     requires pages { 1 ≤ words.now.table.shared.key.pages }
     ensures goes { GoesOn words.now B.tells pass.old pass.new }
-    ensures reads { IfOk result (λ guard. ReadsOn (view pass.old) (view pass.new) × IsOpened (view pass.old) guard.pid guard.word guard.frame (view pass.new)) }
-    ensures awaits { IfOk result (λ guard. Awaits K.layout (view pass.new) guard.pid guard.word 0 (K.rank key.now)) }
-    ensures fences { IfOk result (λ guard. (low high : ℕ) × (low ≤ K.rank key.now) × (K.rank key.now < high)
-        × AwaitsNode K.layout (view pass.new) guard.pid guard.word 0 low high) }
+    ensures reads { IfOk result (λ leaf. ReadsOn (view pass.old) (view pass.new) × IsOpened (view pass.old) leaf.guard.pid leaf.guard.word leaf.guard.frame (view pass.new)) }
+    ensures awaits { IfOk result (λ leaf. Awaits K.layout (view pass.new) leaf.guard.pid leaf.guard.word 0 (K.rank key.now)) }
+    ensures level { IfOk result (λ leaf. leaf.level ≡ 0) }
+    ensures stands { IfOk result (λ leaf. IsStand K.layout K.rank (K.rank key.now) leaf (view pass.new)) }
+    ensures way { IfOk result (λ leaf. StandsOnWay K.layout K.rank (view pass.old) (K.rank key.now) leaf (view pass.new)) }
     ensures err { IfErr result (λ turn. IsTurnedBack K.layout (view pass.old) (K.rank key.now) turn (view pass.new)) }
     ensures sure { (shares : ℕ → ℕ) → B.tells ≡ true → KnowsReadable shares (view pass.old) → IsOk result }
-    ensures known { (shares : ℕ → ℕ) → B.tells ≡ true → KnowsReadable shares (view pass.old) → IfOk result (λ guard. IsReadNow shares guard.pid guard.word (view pass.new)) }
+    ensures known { (shares : ℕ → ℕ) → B.tells ≡ true → KnowsReadable shares (view pass.old) → IfOk result (λ leaf. IsReadNow shares leaf.guard.pid leaf.guard.word (view pass.new)) }
     ensures few { LoadsWithin (λ h. 2 + K.bounds.child * h) (view pass.old) (view pass.new) }
     ensures height { IfOk result (λ _. (h : ℕ) × LoadsHeight (2 + K.bounds.child * h) h (view pass.old) (view pass.new)) }
 {
@@ -257,5 +261,5 @@ pub fn descend<K: Kind, B: Block>(
             Err(turn) => return Err(turn),
         }
     }
-    Ok(stand.guard)
+    Ok(stand)
 }

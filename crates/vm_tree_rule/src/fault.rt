@@ -9,4 +9,6 @@ pub enum TreeFault {
     Full { pages: u32 },
     /// This page is at the last version.
     Worn { pid: u32 },
+    /// The words of this page are not what the way to it says. Never where blocks tell their words.
+    Damaged { pid: u32 },
 }

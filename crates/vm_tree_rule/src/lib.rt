@@ -9,7 +9,7 @@ pub mod seek;
 mod turn;
 
 pub use above::{Above, Reached, reach};
-pub use descent::{descend, enter};
+pub use descent::{Stand, descend, enter};
 pub use fault::TreeFault;
 pub use in_place::InPlace;
 pub use seek::{Met, seek_full};

@@ -7,6 +7,7 @@ ghost use Rattle.vm_tree_rule.specs.Few.{LoadsHeight, LoadsWithin, ReadsInPlace}
 ghost use Rattle.vm_tree_rule.specs.Resident.{IsKnownNow, KnowsLocks, KnowsResident};
 ghost use Rattle.vm_tree_rule.specs.Seeks.{HasLoaded, IsMet, IsReread, KnowsMet, most_for, TellSpare};
 ghost use Rattle.vm_tree_rule.specs.Standing.{IsOpened};
+ghost use Rattle.vm_tree_rule.specs.Ways.{IsOnWay};
 
 use crate::descent::{enter_root, step};
 use crate::in_place::InPlace;
@@ -73,8 +74,8 @@ fn reread<K: Pages, B: Block>(
     ensures goes { GoesOn words.now B.tells pass.old pass.new }
     ensures ok { IfOk result (λ _. IsReread K.layout guard.now.pid guard.now.word guard.now.frame (K.words_of into.new) (view pass.old) (view pass.new)) }
     ensures left { IfOk result (λ _. left ≡ K.spare (K.words_of into.new)) }
-    ensures err { IfErr result (λ turn. (v : _) (key : ℕ) → IsOpened v guard.now.pid guard.now.word guard.now.frame (view pass.old)
-        → IsTurnedBack K.layout v key turn (view pass.new)) }
+    ensures err { IfErr result (λ turn. (v : _) (key level low high : ℕ) → IsOpened v guard.now.pid guard.now.word guard.now.frame (view pass.old)
+        → IsOnWay K.layout v key guard.now.pid level low high (view pass.old) → IsTurnedBack K.layout v key turn (view pass.new)) }
     ensures sure { B.tells ≡ true → IsKnownNow guard.now.pid guard.now.word (view pass.old) → IsOk result }
     ensures words { LoadsWords (K.words_of into.new) (view pass.old) (view pass.new) }
 {
@@ -84,7 +85,7 @@ fn reread<K: Pages, B: Block>(
             if K::spare_of(into) == left {
                 Ok(())
             } else {
-                Err(Turn::astray_at(guard))
+                Err(Turn::Damaged(guard.pid))
             }
         }
         Err(saw) => Err(Turn::Again(saw)),

@@ -1,10 +1,9 @@
 // Why a descent ended without its leaf.
-ghost use Rattle.std.specs.Prelude.{◌≡◌};
 ghost use Rattle.vm_guard.specs.Denied.{AgainOrNeed};
 ghost use Rattle.vm_tree_rule.specs.Turns.{IsTurnOf};
 
-use vm_guard::{Deny, OptGuard};
-use vm_step::{At, Saw};
+use vm_guard::Deny;
+use vm_step::Saw;
 
 /// Why a call on the tree gave no answer yet.
 #[derive(Clone, Copy, Debug, PartialEq, Eq)]
@@ -13,9 +12,9 @@ pub enum Turn {
     Again(Saw),
     /// This page is Evicted: it has to be brought in first. It is page 0, or a page on the way names it.
     Need(u32),
-    /// Where blocks do not tell their words: the words of a page are not what a tree has there, though the page was validated. Both words of the evidence
-    /// are the one that the page was read at.
-    Astray(Saw),
+    /// The words of this page, which was validated, are not what the way to it says: as page 0 it names no page of the image as the root; or it is no
+    /// node of the level and with the fences at which it was reached, or names a child outside the image. Never where blocks tell their words.
+    Damaged(u32),
 }
 
 impl Turn {
@@ -30,16 +29,5 @@ impl Turn {
             Deny::Crowded(_) => unreachable!(),
             Deny::Worn(_) => unreachable!(),
         }
-    }
-
-    /// Astray at the page of this guard, which was validated.
-    pub fn astray_at(guard: &OptGuard) -> Turn
-        ensures { result ≡ Turn.Astray (record { at = At.Page guard.now.pid; first = guard.now.word; seen = guard.now.word }) }
-    {
-        Turn::Astray(Saw {
-            at: At::Page(guard.pid),
-            first: guard.word,
-            seen: guard.word,
-        })
     }
 }

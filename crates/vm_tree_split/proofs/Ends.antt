@@ -27,6 +27,21 @@ use Rattle.vm_tree_split.proofs.Under.{reading-moved}
 pub meta-not : (words : List ℕ) (magic : ℕ) → slice_index words 0 ≡ magic → 1 ≤ magic → all_zero words ≡ false
 meta-not words magic is some = other_words words (λ zeros. omega (arith, zeros 0, is, some))
 
+-- what stands at one height stands at another, if that is the same where blocks tell their words
+pub can-at : {X : Type 0} (L : Layout) (spare : List ℕ → ℕ) (meta low right top : ExclusiveGuard) (height other : ℕ)
+    (page : List ℕ) (v : View X) → (v.start.tells ≡ true → other ≡ height)
+    → CanSplitRoot L spare meta low right top height page v → CanSplitRoot L spare meta low right top other page v
+can-at L spare meta low right top height other page v same can = record {
+  home = can.home;
+  held = can.held;
+  apart = can.apart;
+  zero = can.zero;
+  same = can.same;
+  usable = can.usable;
+  full = can.full;
+  told = λ tells. subst (λ n. IsRootToSplit L meta.pid low.pid right.pid top.pid n page v) (sym (same tells)) (can.told tells);
+}
+
 module _ {X : Type 0} {L : Layout} (n : ℕ) (first second : OptGuard) (up low : ExclusiveGuard)
     (gs : List ExclusiveGuard) (v w : View X) (all : AreTaken L n first second up low gs v w)
     (apart : second.pid ≢ first.pid) where

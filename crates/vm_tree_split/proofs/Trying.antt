@@ -52,16 +52,16 @@ module _ {X : Type 0} where
   pub turn-reads : (L : Layout) (key : ℕ) (turn : Turn) (v w : View X) → IsTurnedBack L v key turn w → ReadsOn v w
   turn-reads L key (turns.Again saw) v w a = a.0
   turn-reads L key (turns.Need p) v w a = a.0
-  turn-reads L key (turns.Astray saw) v w a = a.0
+  turn-reads L key (turns.Damaged p) v w a = a.0
 
 module _ {S : Type 0} (plain : S → Said) (L : Layout) (spare : List ℕ → ℕ) where
   pub turn-again : (key : ℕ) (saw : Saw) (v w : View S) → IsTurnedBack L v key (turns.Again saw) w
       → IsTrySplit plain L spare key (tries.Again saw) v w
-  turn-again key saw v w a = (reads-keep v w a.0, inl (backed-shown saw v w (shown-wider saw v w a.1), inl a))
+  turn-again key saw v w a = (reads-keep v w a.0, (backed-shown saw v w (shown-wider saw v w a.1), inl a))
 
-  pub turn-astray : (key : ℕ) (saw : Saw) (v w : View S) → IsTurnedBack L v key (turns.Astray saw) w
-      → IsTrySplit plain L spare key (tries.Again saw) v w
-  turn-astray key saw v w a = (reads-keep v w a.0, inr a)
+  pub turn-damaged : (key p : ℕ) (v w : View S) → IsTurnedBack L v key (turns.Damaged p) w
+      → IsTrySplit plain L spare key (tries.Damaged p) v w
+  turn-damaged key p v w a = (reads-keep v w a.0, a)
 
   pub turn-need : (key p : ℕ) (v w : View S) → IsTurnedBack L v key (turns.Need p) w → IsTrySplit plain L spare key (tries.Need p) v w
   turn-need key p v w a = (reads-keep v w a.0, a)
@@ -197,7 +197,7 @@ module _ {S : Type 0} (plain : S → Said) (L : Layout) (spare : List ℕ → �
   caused v key w answer e (OfFull.was_split is) =
       subst (λ a. IsCause plain L spare key a v w) (sym is) (subst (IsEnded plain L spare v key w) is e)
   caused v key w answer e (OfFull.was_again saw is) = let ended = subst (IsEnded plain L spare v key w) is e in
-      subst (λ a. IsCause plain L spare key a v w) (sym is) (inl (backed-ended v key saw w ended, inr ended))
+      subst (λ a. IsCause plain L spare key a v w) (sym is) (backed-ended v key saw w ended, inr ended)
   caused v key w answer e (OfFull.was_worn p is) =
       subst (λ a. IsCause plain L spare key a v w) (sym is) (subst (IsEnded plain L spare v key w) is e)
   caused v key w answer e (OfFull.was_dry is) =

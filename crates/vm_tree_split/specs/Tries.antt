@@ -8,7 +8,7 @@ use Rattle.vm_guard.specs.{declared.exclusive.ExclusiveGuard.ExclusiveGuard, dec
 use Rattle.vm_guard.specs.{Groups.pids_of, Guards.IsValid, Reused.HasFreshRoom, Spares.FindsAllFew}
 use Rattle.vm_tree_model.specs.Layout.{Layout}
 use Rattle.vm_tree_laws.specs.Tied.{Tied}
-use Rattle.vm_tree_rule.specs.{Leaves.ReadsOn, Shown.IsAgain, Shown.IsSeen, Turns.IsAstray, Turns.IsNeeded}
+use Rattle.vm_tree_rule.specs.{Leaves.ReadsOn, Shown.IsAgain, Shown.IsSeen, Turns.IsDamaged, Turns.IsNeeded}
 use Rattle.vm_tree_rule.specs.Seeks.{IsFullBelow, IsRoomy, IsRootFull}
 use Rattle.vm_tree_split.specs.{declared.tries.TrySplit.TrySplit, Splits.IsSplitUp, Splits.KeepsLocksOnly}
 use Rattle.vm_tree_split.specs.declared.tries.TrySplit.TheVariants as tries
@@ -69,9 +69,8 @@ module _ {S : Type 0} (plain : S → Said) (L : Layout) (spare : List ℕ → �
   IsCause key tries.Split v w = IsEnded v key w tries.Split
   IsCause key tries.Roomy v w = MetNoFullNode v key w
   IsCause key (tries.Need p) v w = ReadsOn v w × IsNeeded L v key p w
-  IsCause key (tries.Again saw) v w =
-      (IsBackedBy v saw w × ((ReadsOn v w × IsAgain v saw w) ⊎ IsEnded v key w (tries.Again saw)))
-      ⊎ (ReadsOn v w × IsAstray L v key saw w)
+  IsCause key (tries.Again saw) v w = IsBackedBy v saw w × ((ReadsOn v w × IsAgain v saw w) ⊎ IsEnded v key w (tries.Again saw))
+  IsCause key (tries.Damaged p) v w = ReadsOn v w × IsDamaged L v key p w
   IsCause key (tries.Worn p) v w = IsEnded v key w (tries.Worn p)
   IsCause key tries.Dry v w = IsEnded v key w tries.Dry
   IsCause key (tries.Full pages next need) v w = IsEnded v key w (tries.Full pages next need)
@@ -87,6 +86,7 @@ IsFinalSplit tries.Split = Unit {0}
 IsFinalSplit tries.Roomy = Unit {0}
 IsFinalSplit (tries.Again saw) = ⊥
 IsFinalSplit (tries.Need p) = ⊥
+IsFinalSplit (tries.Damaged p) = ⊥
 IsFinalSplit (tries.Worn p) = Unit {0}
 IsFinalSplit tries.Dry = Unit {0}
 IsFinalSplit (tries.Full pages next need) = Unit {0}

@@ -1,5 +1,5 @@
 // The try of a split: the first full node on the way of a key is split, or the answer tells why not.
-ghost use Rattle.std.specs.Prelude.{◌≡◌, ◌≤◌, length, None, true, ℕ};
+ghost use Rattle.std.specs.Prelude.{◌+◌, ◌<◌, ◌^◌, ◌≡◌, ◌≤◌, length, None, true, ℕ};
 ghost use Rattle.vm_rule.specs.Prelude.{HoldsNoPage};
 ghost use Rattle.vm_step.specs.Prelude.{AreHeld, GoesOn, IsReadyOn, view};
 ghost use Rattle.vm_tree_rule.specs.{Resident.KnowsResident, Seeks.IsFullBelow, Seeks.IsRootFull, Turns.IsTurnedBack};
@@ -24,13 +24,14 @@ pub enum TrySplit {
     Split,
     /// No node on the way of the key is full.
     Roomy,
-    /// A page's word had changed, or the page was Locked or had shares, or frames or page numbers were lost to others: the call may be tried again. So it may where
-    /// blocks do not tell their words and a page has not those that the way to it asks for: both words are the one that the page was read at.
+    /// A page's word had changed, or the page was Locked or had shares, or frames or page numbers were lost to others: the call may be tried again.
     Again(Saw),
     /// This page is Evicted: it has to be brought in first. It is page 0, or a page on the way names it.
     Need(u32),
     /// Page 0, the full node, its parent or a page that was to be given is at the last version.
     Worn(u32),
+    /// The words of this page are not what the way to it says. Never where blocks tell their words.
+    Damaged(u32),
     /// No frame was free.
     Dry,
     /// So many pages there are, this is the next one, and so many were needed; no free-number word had so many bits.
@@ -44,7 +45,7 @@ fn not_found<K: Edits>(turn: Turn) -> TrySplit
     match turn {
         Turn::Again(saw) => TrySplit::Again(saw),
         Turn::Need(pid) => TrySplit::Need(pid),
-        Turn::Astray(saw) => TrySplit::Again(saw),
+        Turn::Damaged(pid) => TrySplit::Damaged(pid),
     }
 }
 
@@ -91,6 +92,17 @@ fn split_below<K: Edits, B: Block>(
     TrySplit::Split
 }
 
+// A height to which one can be added. That of a tree is one; where blocks do not tell their words, page 0 may tell any.
+fn to_grow(height: u64) -> u64
+    ensures fits { result + 1 < 2 ^ 64 }
+    ensures same { height + 1 < 2 ^ 64 → result ≡ height }
+{
+    if height == u64::MAX {
+        return 0;
+    }
+    height
+}
+
 /// Splits the full root: two fresh pages, the right half and the new root, are released with page 0 and the old root.
 fn split_root<K: Edits, B: Block>(
     words: &Words<TreeOf<K>, B>,
@@ -132,7 +144,7 @@ fn split_root<K: Edits, B: Block>(
         unreachable!();
     };
     group.end();
-    write_root(words, pass, up, low, right, top, height, page);
+    write_root(words, pass, up, low, right, top, to_grow(height), page);
     iface.free(words, pass, frames);
     TrySplit::Split
 }

@@ -20,6 +20,7 @@ use Rattle.vm_guard.specs.Guards.{IsReading, IsValid, Loads, placed}
 use Rattle.vm_tree_laws.specs.{May.IsEdit, May.IsProved, Tied.Tied}
 use Rattle.vm_tree_rule.specs.{Leaves.ReadsOn, Seeks.HasLoaded, Seeks.HasRead, Standing.Awaits, Standing.IsOpened}
 use Rattle.vm_tree_rule.specs.{Turns.IsTurnedBack, Turns.TellLeaf}
+use Rattle.vm_tree_rule.specs.Shown.{IsShown}
 use Rattle.vm_tree_rule.specs.declared.turn.Turn.TheVariants as turns
 use Rattle.vm_tree_rule.proofs.Entering.{opened-reads}
 use Rattle.vm_tree_rule.proofs.Readings.{denied-reads, loads-reads, opened-loads, reads-then, same-page, valid-reads}
@@ -29,9 +30,9 @@ use Rattle.vm_tree_rule.specs.Resident.{IsKnownNow}
 use Rattle.vm_kind.specs.Room.{HasRoomFor}
 use Rattle.vm_tree_read.specs.Reads.{IsAnswered}
 use Rattle.vm_tree_read.proofs.Answering.{answered-as, answered-later, page-with}
-use Rattle.vm_tree_merge.specs.{Beside.IsAstrayBeside, Beside.IsUnmerged, Done.IsLockLost, Done.IsMergeDone}
+use Rattle.vm_tree_merge.specs.{Beside.IsUnmerged, Done.IsLockLost, Done.IsMergeDone}
 use Rattle.vm_tree_write.specs.Writes.{IsDel, IsDelAlone, IsFullLeaf, IsSwap, IsTight, IsVain, IsWornLeaf}
-use Rattle.vm_tree_write.specs.Writes.{IsWriteDone, IsWriteOf, IsWriteToTry, swap_reply, TellTight, WritesNothing}
+use Rattle.vm_tree_write.specs.Writes.{IsWriteDone, IsWriteOf, swap_reply, TellTight, WritesNothing}
 use Rattle.vm_tree_write.specs.declared.write.TryWrite.TheVariants as tries
 use Rattle.vm_tree_split.proofs.Backing.{shown-refused, shown-unlocked, shown-wider}
 use Rattle.vm_tree_write.proofs.Writing.{leaf-is, written-later}
@@ -46,16 +47,12 @@ written-below plain L said p word page x v w a last =
 
 module _ {X : Type 0} (L : Layout) where
   -- a del is to be tried again
-  pub to-try : (key : ℕ) (saw : Saw) (v w : View X) → ReadsOn v w × IsWriteToTry L v key saw w
-      → (ReadsOn v w × (IsWriteToTry L v key saw w ⊎ IsAstrayBeside L v key saw w)) ⊎ IsLockLost L v saw w
-  to-try key saw v w k = inl (k.0, inl k.1)
+  pub to-try : (key : ℕ) (saw : Saw) (v w : View X) → ReadsOn v w × IsShown UnlockedExpected v saw w
+      → (ReadsOn v w × IsShown UnlockedExpected v saw w) ⊎ IsLockLost L v saw w
+  to-try key saw v w k = inl k
 
-  pub not-read : (key : ℕ) (saw : Saw) (v w : View X) → IsTurnedBack L v key (turns.Again saw) w → ReadsOn v w × IsWriteToTry L v key saw w
-  not-read key saw v w a = (a.0, inl (shown-wider saw v w a.1))
-
-  pub not-there : (key : ℕ) (saw : Saw) (v w : View X) → IsTurnedBack L v key (turns.Astray saw) w
-      → ReadsOn v w × IsWriteToTry L v key saw w
-  not-there key saw v w a = (a.0, inr a.1)
+  pub not-read : (key : ℕ) (saw : Saw) (v w : View X) → IsTurnedBack L v key (turns.Again saw) w → ReadsOn v w × IsShown UnlockedExpected v saw w
+  not-read key saw v w a = (a.0, shown-wider saw v w a.1)
 
   lock-reads : (p word frame : ℕ) (deny : Deny) (v x w : View X) → IsOpened v p word frame x
       → IsDenied AgainOrWorn (KeptWord word) UnlockedExpected p deny x w → ReadsOn v w
@@ -64,9 +61,9 @@ module _ {X : Type 0} (L : Layout) where
 
   pub not-locked : (p word frame key : ℕ) (saw : Saw) (v x w : View X) → IsOpened v p word frame x
       → IsDenied AgainOrWorn (KeptWord word) UnlockedExpected p (denies.Again saw) x w
-      → ReadsOn v w × IsWriteToTry L v key saw w
+      → ReadsOn v w × IsShown UnlockedExpected v saw w
   not-locked p word frame key saw v x w o d =
-      (lock-reads p word frame (denies.Again saw) v x w o d, inl (shown-unlocked p word frame saw v x w o d))
+      (lock-reads p word frame (denies.Again saw) v x w o d, shown-unlocked p word frame saw v x w o d)
 
   pub worn-leaf : (p q word frame key : ℕ) (words : List ℕ) (v x w : View X) → IsOpened v p word frame x
       → Awaits L x p word 0 key → HasRead x p words → ((node_of L words).tag ≡ 2) × Covers (node_of L words) key
@@ -92,11 +89,11 @@ module _ {X : Type 0} (L : Layout) where
 
   pub not-valid : (p word frame key : ℕ) (saw : Saw) (v x w : View X) → IsOpened v p word frame x
       → IsDenied AgainOrNeed (KeptWord word) NoneExpected p (denies.Again saw) x w
-      → ReadsOn v w × IsWriteToTry L v key saw w
+      → ReadsOn v w × IsShown UnlockedExpected v saw w
   not-valid p word frame key saw v x w o d = (
     reads-then v x w (opened-reads p word frame v x o)
         (denied-reads AgainOrNeed (KeptWord word) NoneExpected p (denies.Again saw) x w d),
-    inl (shown-wider saw v w (shown-refused p word frame saw v x w o d)),
+    shown-wider saw v w (shown-refused p word frame saw v x w o d),
   )
 
 -- what is left of a page's room and what its node takes are all of it
@@ -163,7 +160,7 @@ module _ {X : Type 0} (p word frame : ℕ) (first then : List (ℕ × ℕ)) (x y
   awaits-twice key w = awaits-later p word 0 key x z twice.0 w
 
 -- the pages above the leaf stay open meanwhile
-module _ {X : Type 0} (L : Layout) (v : View X) (key : ℕ) (reached : Reached) where
+module _ {X T : Type 0} (L : Layout) (v : View X) (key : ℕ) (reached : Reached T) where
   above-once : (loaded : List (ℕ × ℕ)) (x y : View X) → Loads reached.leaf.pid reached.leaf.word reached.leaf.frame
       loaded x y → IsAbove L v key reached.above reached.leaf.pid x → IsAbove L v key reached.above reached.leaf.pid y
   above-once loaded x y a k =
@@ -176,7 +173,7 @@ module _ {X : Type 0} (L : Layout) (v : View X) (key : ℕ) (reached : Reached) 
       → IsAbove L v key reached.above reached.leaf.pid x → IsAbove L v key reached.above reached.leaf.pid z
   above-twice first then x y z a b k = above-once then y z b (above-once first x y a k)
 
-pub above-known-twice : {X : Type 0} (reached : Reached) (first then : List (ℕ × ℕ)) (x y z : View X)
+pub above-known-twice : {X T : Type 0} (reached : Reached T) (first then : List (ℕ × ℕ)) (x y z : View X)
     → Loads reached.leaf.pid reached.leaf.word reached.leaf.frame first x y → Loads reached.leaf.pid reached.leaf.word
     reached.leaf.frame then y z
     → KnowsAbove reached.above x → KnowsAbove reached.above z

@@ -19,11 +19,11 @@ use Rattle.vm_guard.specs.Denied.{AgainOrWorn, IsDenied, KeptWord}
 use Rattle.vm_tree_laws.specs.{History.IsLegal, May.IsEdit, Plain.KeepsPlain, Plain.plain_history, Tied.Tied}
 use Rattle.vm_kind.specs.Room.{HasRoomFor, IsTightFor}
 use Rattle.vm_tree_rule.specs.{Leaves.ReadsOn, Seeks.HasLoaded, Seeks.HasRead, Shown.IsShown, Standing.Awaits, Standing.IsOpened}
-use Rattle.vm_tree_rule.specs.Turns.{IsAstray, IsNeeded, TellLeaf}
+use Rattle.vm_tree_rule.specs.Turns.{IsDamaged, IsNeeded, TellLeaf}
 use Rattle.vm_node.specs.Loads.{IsPageWith}
 use Rattle.vm_tree_read.specs.Reads.{GainsEntry, IsAnswered}
 use Rattle.vm_tree_split.specs.{Drafts.IsDraftPlace, PageNumbers.GainsNone}
-use Rattle.vm_tree_merge.specs.{Beside.IsAstrayBeside, Beside.IsNeededBeside, Beside.IsUnmerged, Done.IsLockLost, Done.IsMergeDone}
+use Rattle.vm_tree_merge.specs.{Beside.IsDamagedBeside, Beside.IsNeededBeside, Beside.IsUnmerged, Done.IsLockLost, Done.IsMergeDone}
 use Rattle.vm_tree_write.specs.{declared.write.Tried.Tried, declared.write.TryWrite.TryWrite}
 use Rattle.vm_tree_write.specs.declared.write.Tried.TheVariants as onces
 use Rattle.vm_tree_write.specs.declared.write.TryWrite.TheVariants as tries
@@ -78,12 +78,6 @@ abbrev pub HasValueIn : Layout → List ℕ → ℕ → ℕ → Type 0
 HasValueIn L words key value = (low high : ℕ) → Rises low high (pairs_of L words) → lookup_at (pairs_of L words) key ≡ Some value
 
 module _ {X : Type 0} (L : Layout) where
-  -- a page could not be read, or the leaf not be locked at the version that was read, as the steps of the call show;
-  -- or blocks do not tell their
-  -- words, and those of a page are not what the way to it says
-  abbrev pub IsWriteToTry : View X → ℕ → Saw → View X → Type 0
-  IsWriteToTry v key saw w = IsShown UnlockedExpected v saw w ⊎ IsAstray L v key saw w
-
   -- the leaf that the descent reached, page p, with the words that were read of it, is at the last version
   pub record IsWornLeaf (v : View X) (key p : ℕ) (w : View X) : Type 0 where
     pub word : ℕ
@@ -180,10 +174,11 @@ module _ {S : Type 0} (plain : S → Said) (L : Layout) where
   abbrev pub IsPut : (List ℕ → ℕ) → ℕ → ℕ → TryWrite → View S → View S → Type 0
   IsPut spare key value (tries.Done reply) v w =
       (a : IsWriteDone plain L (record { call = Put key value; reply = reply }) v w) × HasRoomFor L spare a.old key
-  IsPut spare key value (tries.Again saw) v w = ReadsOn v w × IsWriteToTry L v key saw w
+  IsPut spare key value (tries.Again saw) v w = ReadsOn v w × IsShown UnlockedExpected v saw w
   IsPut spare key value (tries.Need p) v w = ReadsOn v w × IsNeeded L v key p w
   IsPut spare key value (tries.Worn p) v w = ReadsOn v w × (a : IsWornLeaf L v key p w) × HasRoomFor L spare a.words key
   IsPut spare key value (tries.Tight p) v w = ReadsOn v w × IsTight L spare v key p w
+  IsPut spare key value (tries.Damaged p) v w = ReadsOn v w × IsDamaged L v key p w
 
   -- So a write was made of page p, whose open read had this word, at the view x, and these words were read of it
   abbrev pub IsWriteOf : Said → ℕ → ℕ → List ℕ → View S → View S → View S → Type 0
@@ -213,10 +208,11 @@ module _ {S : Type 0} (plain : S → Said) (L : Layout) where
         reply = reply;
       }) v w) × ¬ (IsVain (record { call = Del key; reply = reply })))
       ⊎ (IsAnswered plain L (record { call = Del key; reply = reply }) v w × IsVain (record { call = Del key; reply = reply }))
-  IsDel key (tries.Again saw) v w = (ReadsOn v w × (IsWriteToTry L v key saw w ⊎ IsAstrayBeside L v key saw w)) ⊎ IsLockLost L v saw w
+  IsDel key (tries.Again saw) v w = (ReadsOn v w × IsShown UnlockedExpected v saw w) ⊎ IsLockLost L v saw w
   IsDel key (tries.Need p) v w = ReadsOn v w × (IsNeeded L v key p w ⊎ IsNeededBeside L v key p w)
   IsDel key (tries.Worn p) v w = ReadsOn v w × (a : IsWornLeaf L v key p w) × HasKeyIn L a.words key
   IsDel key (tries.Tight p) v w = ⊥
+  IsDel key (tries.Damaged p) v w = ReadsOn v w × (IsDamaged L v key p w ⊎ IsDamagedBeside L v key p w)
 
   -- a try of a swap: made in a leaf where the key has the value that is wanted, which may be at the last version; or
   -- answered by a validation of a leaf
@@ -230,10 +226,11 @@ module _ {S : Type 0} (plain : S → Said) (L : Layout) where
         Swap key want value;
     reply = reply;
   }) v w × IsVain (record { call = Swap key want value; reply = reply }))
-  IsSwap key want value (tries.Again saw) v w = ReadsOn v w × IsWriteToTry L v key saw w
+  IsSwap key want value (tries.Again saw) v w = ReadsOn v w × IsShown UnlockedExpected v saw w
   IsSwap key want value (tries.Need p) v w = ReadsOn v w × IsNeeded L v key p w
   IsSwap key want value (tries.Worn p) v w = ReadsOn v w × (a : IsWornLeaf L v key p w) × HasValueIn L a.words key want
   IsSwap key want value (tries.Tight p) v w = ⊥
+  IsSwap key want value (tries.Damaged p) v w = ReadsOn v w × IsDamaged L v key p w
 
 -- the reply to a swap, by the value that the key had
 abbrev pub swap_reply : ℕ → Option ℕ → Reply
@@ -246,6 +243,7 @@ with_reply reply (onces.Again saw) = tries.Again saw
 with_reply reply (onces.Need p) = tries.Need p
 with_reply reply (onces.Worn p) = tries.Worn p
 with_reply reply (onces.Tight p) = tries.Tight p
+with_reply reply (onces.Damaged p) = tries.Damaged p
 
 -- the call was answered, or no try can answer it before a split, or ever
 abbrev pub IsFinal : TryWrite → Type 0
@@ -254,3 +252,4 @@ IsFinal (tries.Again saw) = ⊥
 IsFinal (tries.Need p) = ⊥
 IsFinal (tries.Worn p) = Unit {0}
 IsFinal (tries.Tight p) = Unit {0}
+IsFinal (tries.Damaged p) = ⊥

@@ -35,8 +35,7 @@ pub enum TryWrite {
     /// The reply, at the step that released the leaf, or that validated a leaf in which there is nothing to write: it has not the key of a del or a swap,
     /// or not the value that a swap wants.
     Done(Reply),
-    /// A page's word had changed, or the page was Locked, or the leaf had shares: the call may be tried again. So it may where blocks do not tell
-    /// their words and a page has not those that the way to it asks for: both words are the one that the page was read at.
+    /// A page's word had changed, or the page was Locked, or the leaf had shares: the call may be tried again.
     Again(Saw),
     /// This page is Evicted: it has to be brought in first. It is page 0, or a page on the way names it.
     Need(u32),
@@ -44,6 +43,8 @@ pub enum TryWrite {
     Worn(u32),
     /// The leaf, this page, has no room for a pair of the key, and not the key: it has to be split first.
     Tight(u32),
+    /// The words of this page are not what the way to it says. Never where blocks tell their words.
+    Damaged(u32),
 }
 
 /// What a try comes to before its reply is made: the same answers, with the value that the key had. A reply has room for a window's pairs, so it is
@@ -55,6 +56,7 @@ pub enum Tried {
     Need(u32),
     Worn(u32),
     Tight(u32),
+    Damaged(u32),
 }
 
 /// Why there is no answer yet.
@@ -67,7 +69,7 @@ fn not_yet<K: Kind>(turn: Turn) -> Tried
     match turn {
         Turn::Again(saw) => Tried::Again(saw),
         Turn::Need(pid) => Tried::Need(pid),
-        Turn::Astray(saw) => Tried::Again(saw),
+        Turn::Damaged(pid) => Tried::Damaged(pid),
     }
 }
 
@@ -212,6 +214,7 @@ pub fn try_put<K: Edits, B: Block>(
         Tried::Need(pid) => TryWrite::Need(pid),
         Tried::Worn(pid) => TryWrite::Worn(pid),
         Tried::Tight(pid) => TryWrite::Tight(pid),
+        Tried::Damaged(pid) => TryWrite::Damaged(pid),
     }
 }
 
@@ -241,7 +244,7 @@ fn missed<K: Kind, B: Block>(
 fn take_out<K: Merges, B: Block>(
     words: &Words<TreeOf<K>, B>,
     pass: &mut Pass<TreeOf<K>>,
-    reached: Reached,
+    reached: Reached<K::Key>,
     key: &K::Key,
     page: &K::Page,
     was: u64,
@@ -328,6 +331,7 @@ pub fn try_del<K: Merges, B: Block>(
         Tried::Need(pid) => TryWrite::Need(pid),
         Tried::Worn(pid) => TryWrite::Worn(pid),
         Tried::Tight(pid) => TryWrite::Tight(pid),
+        Tried::Damaged(pid) => TryWrite::Damaged(pid),
     }
 }
 
@@ -433,5 +437,6 @@ pub fn try_swap<K: Edits, B: Block>(
         Tried::Need(pid) => TryWrite::Need(pid),
         Tried::Worn(pid) => TryWrite::Worn(pid),
         Tried::Tight(pid) => TryWrite::Tight(pid),
+        Tried::Damaged(pid) => TryWrite::Damaged(pid),
     }
 }

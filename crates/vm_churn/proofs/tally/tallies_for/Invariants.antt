@@ -1,5 +1,5 @@
 use Rattle.std.proofs.Common.{take}
-use Rattle.vm_drive.specs.{Drives.items_of, Kept.HaveRoom}
+use Rattle.vm_drive.specs.{Drives.items_of, Lists.HaveRoom}
 use Rattle.vm_churn.specs.Tallies.{StandsFor, tally_room}
 use Rattle.vm_churn.proofs.tally.tallies_for.Given as goal
 

@@ -2,12 +2,12 @@ use Rattle.std.specs.Vec.{vec_capacity}
 use Rattle.std.proofs.Common.{◌∙◌, ◌≡◌, ◌≤◌, ap, arith, length, List, rules, subst, sym}
 use Rattle.vm_rule.specs.Prelude.{Each}
 use Rattle.vm_step.specs.Prelude.{view}
-use Rattle.vm_drive.specs.{declared.worker.Worker.Worker, Drives.items_of, Kept.AreKept}
+use Rattle.vm_calls.specs.declared.worker.Worker.{Worker}
 use Rattle.vm_drive.specs.Crews.{AllWorked, answers_of, AreAtHome, AreIdle, AreJoined, IsBack, share_of}
-use Rattle.vm_drive.proofs.Crews.{items-long, room-long, whole-back, worked-long}
-use Rattle.vm_drive.proofs.driving.drive_into.Goals as goal
-use Rattle.vm_drive.proofs.Memory.{spans-long}
+use Rattle.vm_drive.specs.{Drives.items_of, Lists.AreKept}
+use Rattle.vm_drive.proofs.Crews.{items-long, room-long, spans-long, whole-back, worked-long}
 use Rattle.vm_drive.proofs.Finishing.{all_kept, driven, hired-idle, hired-long, told_of, worked-back}
+use Rattle.vm_drive.proofs.driving.drive_into.Goals as goal
 
 pub hire-workers-requires : goal.hire-workers-requires
 hire-workers-requires g c =

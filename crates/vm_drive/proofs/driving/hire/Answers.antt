@@ -6,7 +6,8 @@ use Rattle.std.proofs.Common.{is_ok, length, List, subst, sym, true, Vec, vec_le
 use Rattle.std.proofs.lemmas.List.{length-append, length-map, map-append, nil_from_length}
 use Rattle.vm_map.specs.Map.{Pairs}
 use Rattle.vm_step.specs.Prelude.{view}
-use Rattle.vm_drive.specs.{Crews.AreAtHome, Crews.AreHired, Crews.spans_given, declared.worker.Worker.Worker}
+use Rattle.vm_calls.specs.declared.worker.Worker.{Worker}
+use Rattle.vm_drive.specs.Crews.{AreAtHome, AreHired, spans_given}
 use Rattle.vm_step.proofs.Going.{goes-then}
 use Rattle.vm_drive.proofs.driving.hire.Goals as goal
 use Rattle.vm_drive.proofs.Hiring.{hired-more, home-snoc}

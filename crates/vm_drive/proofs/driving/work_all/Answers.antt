@@ -1,5 +1,6 @@
 use Rattle.std.proofs.Common.{◌<◌, ◌∙◌, ◌≡◌, arith, get_or, length, rules, subst, sym, ℕ}
-use Rattle.vm_drive.specs.{Crews.HasWorked, declared.worker.Worker.Worker, Drives.items_of, Holds.list_at}
+use Rattle.vm_calls.specs.declared.worker.Worker.{Worker}
+use Rattle.vm_drive.specs.{Crews.HasWorked, Drives.items_of, Holds.list_at}
 use Rattle.vm_drive.proofs.Crews.{idle-at, idle-long, items-long, worked-all}
 use Rattle.vm_drive.proofs.driving.work_all.Goals as goal
 

@@ -5,4 +5,4 @@ pub returns-clause-faults : goal.returns-clause-faults
 returns-clause-faults c n = no_faults n
 
 pub returns-clause-flush : goal.returns-clause-flush
-returns-clause-flush c n pages lists replies report blocks end is = is.flushed (all_flushed n pages lists replies report blocks end is)
+returns-clause-flush c n pages lists replies report blocks end is = is.on.flushed (all_flushed n pages lists replies report blocks end is)

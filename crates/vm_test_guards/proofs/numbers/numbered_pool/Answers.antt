@@ -1,7 +1,7 @@
 use Rattle.std.proofs.Common.{[], ◌∙◌, ◌∷◌, ◌≡◌, ap, arith, length, rules}
 use Rattle.vm_step.specs.Prelude.{view}
 use Rattle.vm_step.proofs.Together.{numbers-length}
-use Rattle.vm_test_guards.proofs.Beginnings.{each-claimed}
+use Rattle.vm_test_pages.proofs.Beginnings.{each-claimed}
 use Rattle.vm_test_guards.proofs.numbers.numbered_pool.Goals as goal
 
 pub start-requires : goal.start-requires

@@ -1,4 +1,4 @@
-use Rattle.vm_test_guards.proofs.Beginnings.{claimed-begin, two-long}
+use Rattle.vm_test_pages.proofs.Beginnings.{claimed-begin, two-long}
 use Rattle.vm_test_guards.proofs.reads.two_blocks.Goals as goal
 
 pub returns-clause-begins : goal.returns-clause-begins

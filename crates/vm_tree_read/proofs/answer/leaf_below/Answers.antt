@@ -1,5 +1,7 @@
 use Rattle.vm_step.specs.Prelude.{view}
-use Rattle.vm_tree_rule.proofs.{Downward.awaits-later, Surely.known-same}
+use Rattle.vm_tree_rule.proofs.{Downward.awaits-later, Downward.node-later, Surely.known-same}
+use Rattle.vm_tree_rule.proofs.OnWay.{leaf-later, way-later}
+use Rattle.vm_tree_read.proofs.Answering.{between-leaf, none-between}
 use Rattle.vm_tree_rule.proofs.Reaching.{above-beside, above-known}
 use Rattle.vm_tree_rule.proofs.Readings.{loads-reads, opened-loads, reads-then}
 use Rattle.vm_tree_rule.proofs.Seeking.{beside-loads}
@@ -16,7 +18,12 @@ returns-then-is_leaf_in_place-clause-reads g c =
 pub returns-then-is_leaf_in_place-clause-leaf : goal.returns-then-is_leaf_in_place-clause-leaf
 returns-then-is_leaf_in_place-clause-leaf g c =
     let f = c.is_leaf_in_place.ensures.found in
-    (f.loaded, (_, f.loads.loads), λ page with. (f.tells page with).yes c.if-is_leaf_in_place.true)
+    let r = c.in-Ok.ensures.leaf in (
+      f.loaded,
+      (_, f.loads.loads),
+      λ page with. between-leaf g.K.Kind.layout page (g.K.Kind.rank c.args.key.now) _ _ r.from r.below
+          ((f.tells page with).0 c.if-is_leaf_in_place.true),
+    )
 
 pub returns-then-is_leaf_in_place-clause-awaits : goal.returns-then-is_leaf_in_place-clause-awaits
 returns-then-is_leaf_in_place-clause-awaits g c =
@@ -36,19 +43,27 @@ returns-then-is_leaf_in_place-clause-known g c tells k =
     let known = c.in-Ok.ensures.known tells k in
     (known-same _ _ _ _ reads loads.table known.0, above-known c.in-Ok.reached.above _ _ reads loads.table known.1)
 
+pub returns-then-is_leaf_in_place-clause-reached : goal.returns-then-is_leaf_in_place-clause-reached
+returns-then-is_leaf_in_place-clause-reached g c =
+    let r = c.in-Ok.ensures.leaf in
+    leaf-later _ _ _ _ _ _ (loads-reads _ _ _ _ _ _ c.is_leaf_in_place.ensures.found.loads)
+    (record { low = _; high = _; awaits = r.awaits; from = r.from; below = r.below; way = r.way })
+
 pub returns-clause-err : goal.returns-clause-err
 returns-clause-err g c =
     let f = c.is_leaf_in_place.ensures.found in
-    c.no_leaf.ensures.turn _ (g.K.Kind.rank c.args.key.now) f.loaded
+    let r = c.in-Ok.ensures.leaf in
+    let reads = loads-reads _ _ _ _ _ _ f.loads in
+    c.no_leaf.ensures.turn _ (g.K.Kind.rank c.args.key.now) _ _ f.loaded
     (opened-loads _ _ _ _ _ _ _ c.in-Ok.ensures.reads.1 f.loads)
-    (awaits-later _ _ _ _ _ _ (loads-reads _ _ _ _ _ _ f.loads).0 c.in-Ok.ensures.awaits)
-    (_, f.loads.loads) (λ page with. (f.tells page with).no c.if-is_leaf_in_place.false)
+    (node-later _ _ _ _ _ _ _ reads.0 r.awaits) (way-later _ _ _ _ _ _ _ _ reads r.way)
+    (_, f.loads.loads) (none-between g.K.Kind.layout f.loaded _ _ (λ page with. (f.tells page with).1 c.if-is_leaf_in_place.false))
 
 pub returns-clause-sure : goal.returns-clause-sure
 returns-clause-sure g c tells k =
     let f = c.is_leaf_in_place.ensures.found in
     let reads = (loads-reads _ _ _ _ _ _ f.loads).0 in
-    absurd (c.no_leaf.ensures.sure (λ _. 0) (g.K.Kind.rank c.args.key.now) f.loaded tells
+    absurd (c.no_leaf.ensures.sure (λ _. 0) _ _ f.loaded tells
     (known-same _ _ _ _ reads f.loads.table (c.in-Ok.ensures.known tells k).0)
-    (awaits-later _ _ _ _ _ _ reads c.in-Ok.ensures.awaits)
-    (_, f.loads.loads) (λ page with. (f.tells page with).no c.if-is_leaf_in_place.false))
+    (node-later _ _ _ _ _ _ _ reads c.in-Ok.ensures.leaf.awaits)
+    (_, f.loads.loads) (none-between g.K.Kind.layout f.loaded _ _ (λ page with. (f.tells page with).1 c.if-is_leaf_in_place.false)))

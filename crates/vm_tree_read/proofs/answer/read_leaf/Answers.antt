@@ -1,6 +1,6 @@
 use Rattle.std.proofs.Common.{inl, inr}
 use Rattle.vm_guard.specs.Guards.{placed}
-use Rattle.vm_tree_rule.proofs.{Downward.awaits-later, Surely.known-same}
+use Rattle.vm_tree_rule.proofs.{Downward.node-later, OnWay.way-later, Surely.known-same}
 use Rattle.vm_tree_rule.proofs.Readings.{loads-reads, opened-loads}
 use Rattle.vm_tree_rule.proofs.Whole.{tree_key}
 use Rattle.vm_tree_read.proofs.Answering.{none-whole}
@@ -8,27 +8,28 @@ use Rattle.vm_tree_read.proofs.answer.read_leaf.Goals.{else-is_leaf-via-else-is_
 use Rattle.vm_tree_read.proofs.answer.read_leaf.Goals as goal
 
 pub returns-clause-err : goal.returns-clause-err
-returns-clause-err g c v o awaits =
+returns-clause-err g c v o leaf =
     let loads = c.read_all.ensures.loads in
-    c.no_leaf.ensures.turn v (g.K.Kind.rank c.args.key.now) (placed 0 (g.K.Pages.words_of c.read_all.new.into))
-    (opened-loads _ _ _ _ _ _ _ o loads) (awaits-later _ _ _ _ _ _ (loads-reads _ _ _ _ _ _ loads).0 awaits)
+    let reads = loads-reads _ _ _ _ _ _ loads in
+    c.no_leaf.ensures.turn v (g.K.Kind.rank c.args.key.now) leaf.low leaf.high (placed 0 (g.K.Pages.words_of c.read_all.new.into))
+    (opened-loads _ _ _ _ _ _ _ o loads) (node-later _ _ _ _ _ _ _ reads.0 leaf.awaits) (way-later _ _ _ _ _ _ _ _ reads leaf.way)
     (_, loads.loads)
-    (none-whole g.K.Kind.layout (g.K.Pages.words_of c.read_all.new.into) (g.K.Kind.rank c.args.key.now)
-    c.read_all.ensures.size (elim c.else-is_leaf.branch [
+    (none-whole g.K.Kind.layout (g.K.Pages.words_of c.read_all.new.into) (g.K.Kind.rank c.args.key.now) leaf.low leaf.high
+    leaf.from leaf.below c.read_all.ensures.size (elim c.else-is_leaf.branch [
       | else-is_leaf-via-then-is_leaf+else-covers w ↦ inr (w.covers.ensures.1 w.if-covers.false)
       | else-is_leaf-via-else-is_leaf w ↦ inl (c.is_leaf.ensures.1 w.if-is_leaf.false)
     ]))
 
 pub returns-clause-sure : goal.returns-clause-sure
-returns-clause-sure g c tells k awaits =
+returns-clause-sure g c v tells k leaf =
     let loads = c.read_all.ensures.loads in
     let reads = (loads-reads _ _ _ _ _ _ loads).0 in
-    absurd (c.no_leaf.ensures.sure _ (g.K.Kind.rank c.args.key.now)
+    absurd (c.no_leaf.ensures.sure _ leaf.low leaf.high
     (placed 0 (g.K.Pages.words_of c.read_all.new.into)) tells (known-same _ _ _ _ reads loads.table k)
-    (awaits-later _ _ _ _ _ _ reads awaits)
+    (node-later _ _ _ _ _ _ _ reads leaf.awaits)
     (_, loads.loads)
-    (none-whole g.K.Kind.layout (g.K.Pages.words_of c.read_all.new.into) (g.K.Kind.rank c.args.key.now)
-    c.read_all.ensures.size (elim c.else-is_leaf.branch [
+    (none-whole g.K.Kind.layout (g.K.Pages.words_of c.read_all.new.into) (g.K.Kind.rank c.args.key.now) leaf.low leaf.high
+    leaf.from leaf.below c.read_all.ensures.size (elim c.else-is_leaf.branch [
       | else-is_leaf-via-then-is_leaf+else-covers w ↦ inr (w.covers.ensures.1 w.if-covers.false)
       | else-is_leaf-via-else-is_leaf w ↦ inl (c.is_leaf.ensures.1 w.if-is_leaf.false)
     ])))

@@ -28,23 +28,23 @@ returns-in-Err-clause-few g c = within-wider _ _ _ _ (λ h. omega arith) c.in-Er
 
 pub returns-in-Ok-answer-clause-few : goal.returns-in-Ok-answer-clause-few
 returns-in-Ok-answer-clause-few g c = let k = c.in-Ok.ensures.height in
-    leaf-few g.K.Kind.bounds.child (1 + g.K.Kind.bounds.covers)
-    (λ h. 2 + g.K.Kind.bounds.child * h + (1 + g.K.Kind.bounds.covers + g.K.Kind.bounds.find)) g.K.Kind.bounds.find
+    leaf-few g.K.Kind.bounds.child (1 + g.K.Kind.bounds.fences)
+    (λ h. 2 + g.K.Kind.bounds.child * h + (1 + g.K.Kind.bounds.fences + g.K.Kind.bounds.find)) g.K.Kind.bounds.find
     k.0 _ _ _ _ k.1 (place-few _ _ _ _ _ _ _ c.find_in_place-value.ensures.found) c.in-Ok-answer.ensures.words
     (omega arith)
 
 pub returns-in-Ok-answer-clause-height : goal.returns-in-Ok-answer-clause-height
 returns-in-Ok-answer-clause-height g c = let k = c.in-Ok.ensures.height in (
   k.0,
-  leaf-height g.K.Kind.bounds.child (1 + g.K.Kind.bounds.covers)
-      (2 + g.K.Kind.bounds.child * k.0 + (1 + g.K.Kind.bounds.covers + g.K.Kind.bounds.find)) g.K.Kind.bounds.find k.0 _
+  leaf-height g.K.Kind.bounds.child (1 + g.K.Kind.bounds.fences)
+      (2 + g.K.Kind.bounds.child * k.0 + (1 + g.K.Kind.bounds.fences + g.K.Kind.bounds.find)) g.K.Kind.bounds.find k.0 _
       _ _ _ k.1 (place-few _ _ _ _ _ _ _ c.find_in_place-value.ensures.found) c.in-Ok-answer.ensures.words
       (omega arith),
 )
 
 pub returns-clause-few : goal.returns-clause-few
-returns-clause-few g c = let k = c.in-Ok.ensures.height in leaf-few g.K.Kind.bounds.child (1 + g.K.Kind.bounds.covers)
-    (λ h. 2 + g.K.Kind.bounds.child * h + (1 + g.K.Kind.bounds.covers + g.K.Kind.bounds.find)) g.K.Kind.bounds.find
+returns-clause-few g c = let k = c.in-Ok.ensures.height in leaf-few g.K.Kind.bounds.child (1 + g.K.Kind.bounds.fences)
+    (λ h. 2 + g.K.Kind.bounds.child * h + (1 + g.K.Kind.bounds.fences + g.K.Kind.bounds.find)) g.K.Kind.bounds.find
     k.0 _ _ _ _ k.1 (place-few _ _ _ _ _ _ _ c.find_in_place-value.ensures.found) c.in-Err-answer.ensures.words
     (omega arith)
 

@@ -1,10 +1,10 @@
-use Rattle.std.proofs.Common.{inl, inr, subst}
+use Rattle.std.proofs.Common.{subst}
 use Rattle.vm_tree_rule.specs.Turns.{IsTurnedBack}
 use Rattle.vm_tree_read.proofs.read.not_yet.Goals as goal
 
 pub returns-in-Again : goal.returns-in-Again
 returns-in-Again g c = record {
-  tried = λ call key v w a. let t = subst (λ t. IsTurnedBack g.K.Kind.layout v key t w) c.in-Again.is a in (t.0, inl t.1);
+  tried = λ call key v w a. subst (λ t. IsTurnedBack g.K.Kind.layout v key t w) c.in-Again.is a;
   kind = λ call. tt;
   unanswered = λ done. done;
 }
@@ -16,9 +16,9 @@ returns-in-Need g c = record {
   unanswered = λ done. done;
 }
 
-pub returns-in-Astray : goal.returns-in-Astray
-returns-in-Astray g c = record {
-  tried = λ call key v w a. let t = subst (λ t. IsTurnedBack g.K.Kind.layout v key t w) c.in-Astray.is a in (t.0, inr t.1);
+pub returns-in-Damaged : goal.returns-in-Damaged
+returns-in-Damaged g c = record {
+  tried = λ call key v w a. subst (λ t. IsTurnedBack g.K.Kind.layout v key t w) c.in-Damaged.is a;
   kind = λ call. tt;
   unanswered = λ done. done;
 }

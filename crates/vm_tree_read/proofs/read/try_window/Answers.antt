@@ -1,7 +1,7 @@
 use Rattle.std.proofs.Common.{◌*◌, ◌+◌, ◌++◌, ◌∙◌, ◌≡◌, ap, arith, min, subst, sym, true≢false}
 use Rattle.vm_tree_rule.proofs.{Counting.within-wider, Onward.loaded-more, Surely.known-same}
 use Rattle.vm_tree_rule.proofs.Readings.{loads-reads, opened-loads, reads-then}
-use Rattle.vm_tree_read.proofs.Answering.{answered-as, answered-later, refused, reply-told}
+use Rattle.vm_tree_read.proofs.Answering.{answered-as, answered-later, unproved, reply-told}
 use Rattle.vm_tree_read.proofs.Reckoning.{leaf-few, leaf-height, place-few}
 use Rattle.vm_map.specs.declared.call.{Call.Call, Reply.Reply, Said.Said}
 use Rattle.vm_tree_read.specs.Reads.{TellReply}
@@ -42,9 +42,9 @@ returns-in-Err-clause-few g c = within-wider _ _ _ _ (λ h. omega arith) c.in-Er
 
 pub returns-in-Ok-answer-clause-few : goal.returns-in-Ok-answer-clause-few
 returns-in-Ok-answer-clause-few g c = let k = c.in-Ok.ensures.height in
-    leaf-few g.K.Kind.bounds.child (1 + g.K.Kind.bounds.covers)
+    leaf-few g.K.Kind.bounds.child (1 + g.K.Kind.bounds.fences)
     (λ h. 2 + g.K.Kind.bounds.child * h
-    + (1 + g.K.Kind.bounds.covers + (2 * min c.args.most 28 + g.K.Windows.window_most)))
+    + (1 + g.K.Kind.bounds.fences + (2 * min c.args.most 28 + g.K.Windows.window_most)))
     (2 * min c.args.most 28 + g.K.Windows.window_most) k.0 _ _ _ _ k.1
     (place-few _ _ _ _ _ _ _ c.window_in_place-shown.ensures.found) c.in-Ok-answer.ensures.words (omega arith)
 
@@ -52,9 +52,9 @@ pub returns-in-Ok-answer-clause-height : goal.returns-in-Ok-answer-clause-height
 returns-in-Ok-answer-clause-height g c done =
     let k = c.in-Ok.ensures.height in (
       k.0,
-      leaf-height g.K.Kind.bounds.child (1 + g.K.Kind.bounds.covers)
+      leaf-height g.K.Kind.bounds.child (1 + g.K.Kind.bounds.fences)
           (2 + g.K.Kind.bounds.child * k.0
-          + (1 + g.K.Kind.bounds.covers + (2 * min c.args.most 28 + g.K.Windows.window_most)))
+          + (1 + g.K.Kind.bounds.fences + (2 * min c.args.most 28 + g.K.Windows.window_most)))
           (2 * min c.args.most 28 + g.K.Windows.window_most) k.0 _ _ _ _ k.1
           (place-few _ _ _ _ _ _ _ c.window_in_place-shown.ensures.found) c.in-Ok-answer.ensures.words (omega arith),
     )
@@ -64,9 +64,9 @@ returns-in-Err-clause-height g c done = absurd (c.not_yet.ensures.unanswered don
 
 pub returns-in-Err-answer-clause-few : goal.returns-in-Err-answer-clause-few
 returns-in-Err-answer-clause-few g c = let k = c.in-Ok.ensures.height in
-    leaf-few g.K.Kind.bounds.child (1 + g.K.Kind.bounds.covers)
+    leaf-few g.K.Kind.bounds.child (1 + g.K.Kind.bounds.fences)
     (λ h. 2 + g.K.Kind.bounds.child * h
-    + (1 + g.K.Kind.bounds.covers + (2 * min c.args.most 28 + g.K.Windows.window_most)))
+    + (1 + g.K.Kind.bounds.fences + (2 * min c.args.most 28 + g.K.Windows.window_most)))
     (2 * min c.args.most 28 + g.K.Windows.window_most) k.0 _ _ _ _ k.1
     (place-few _ _ _ _ _ _ _ c.window_in_place-shown.ensures.found) c.in-Err-answer.ensures.words (omega arith)
 
@@ -84,7 +84,7 @@ returns-in-Ok-answer-clause-known g c tells k =
     c.window_in_place-shown.ensures.found.loads.table (c.in-Ok.ensures.known tells k))
 
 pub returns-in-Err-answer-clause-tried : goal.returns-in-Err-answer-clause-tried
-returns-in-Err-answer-clause-tried g c = refused g.K.Kind.layout _ _ _ (g.K.Kind.rank c.args.start.now) _ _ _ _
+returns-in-Err-answer-clause-tried g c = unproved g.K.Kind.layout _ _ _ (g.K.Kind.rank c.args.start.now) _ _ _ _
     (opened-loads _ _ _ _ _ _ _ c.in-Ok.ensures.reads.1 c.window_in_place-shown.ensures.found.loads)
     c.in-Err-answer.ensures.err
 

@@ -1,11 +1,11 @@
-use Rattle.std.proofs.Common.{◌∙◌, arith, inl, inr, rules, subst}
+use Rattle.std.proofs.Common.{◌∙◌, arith, refl, rules, subst}
 use Rattle.vm_step.specs.Prelude.{view}
 use Rattle.vm_exmap.proofs.Handing.{held-on}
 use Rattle.vm_tree_rule.specs.Turns.{IsTurnedBack}
 use Rattle.vm_tree_read.proofs.Lasting.{reads-wait, replied, turned-reads, waits-self, waits-then}
 use Rattle.vm_tree_read.proofs.Losing.{loses-same, loses-then, lost-on}
 use Rattle.vm_tree_read.proofs.Rounds.{tried-call, tried-none, tried-read}
-use Rattle.vm_tree_read.specs.Waiting.{AreRounds as rounds, IsRound as round}
+use Rattle.vm_tree_read.specs.Waiting.{AreRounds as rounds, IsReadFault as fault, IsRound as round}
 use Rattle.vm_tree_read.proofs.waiting.get.Goals as goal
 
 pub loop-init : goal.loop-init
@@ -19,19 +19,29 @@ loop-preserved-in-Err-Again g c =
     tried-read i c.look_up.new.pass c.look_up.ensures.goes back.0 (
       waits-then _ _ _ i.left.0 (reads-wait _ _ back.0),
       rounds.further _ _ i.left.1
-          (round.again _ back.0 (inl back.1)),
+          (round.again _ back.0 back.1),
     )
 
-pub loop-preserved-in-Err-Astray : goal.loop-preserved-in-Err-Astray
-loop-preserved-in-Err-Astray g c =
+pub returns-in-Err-Damaged-clause-err : goal.returns-in-Err-Damaged-clause-err
+returns-in-Err-Damaged-clause-err g c =
     let i = c.loop.invariant in
     let back = subst (λ t. IsTurnedBack g.K.Kind.layout (view c.loop.pass) (g.K.Kind.rank c.args.key.now) t
-    (view c.look_up.new.pass)) c.in-Err-Astray.field-0-is c.in-Err-Astray.ensures.err in
-    tried-read i c.look_up.new.pass c.look_up.ensures.goes back.0 (
-      waits-then _ _ _ i.left.0 (reads-wait _ _ back.0),
-      rounds.further _ _ i.left.1
-          (round.again _ back.0 (inr back.1)),
-    )
+    (view c.look_up.new.pass)) c.in-Err-Damaged.field-0-is c.in-Err-Damaged.ensures.err in
+    record {
+      tried = view c.loop.pass;
+      rounds = i.left.1;
+      waits = i.left.0;
+      why = fault.damaged _ back.0 back.1 refl;
+      leaves = waits-then _ _ _ i.left.0 (reads-wait _ _ back.0);
+    }
+
+pub returns-in-Err-Damaged-clause-lost : goal.returns-in-Err-Damaged-clause-lost
+returns-in-Err-Damaged-clause-lost g c =
+    let k = turned-reads g.K.Kind.layout _ _ _ _ c.in-Err-Damaged.ensures.err in
+    loses-then c.args.iface.now.frames c.loop.iface.frames c.loop.iface.frames (view c.args.pass.now)
+    (view c.loop.pass) (view c.look_up.new.pass) c.loop.invariant.lost
+    (loses-same c.loop.iface.frames c.loop.iface.frames (view c.loop.pass) (view c.look_up.new.pass) k.0.frames.0
+    (λ f e. e))
 
 pub fetch-requires : goal.fetch-requires
 fetch-requires g c =
@@ -73,13 +83,9 @@ returns-in-Err-clause-err g c =
     (view c.look_up.new.pass)) c.in-Err-Need.field-0-is c.in-Err-Need.ensures.err in
     record {
       tried = view c.loop.pass;
-      found = view c.look_up.new.pass;
       rounds = i.left.1;
       waits = i.left.0;
-      page = c.in-Err-Need.pid;
-      reads = needed.0;
-      needed = needed.1;
-      fault_is = c.in-Err.ensures.err;
+      why = fault.unbrought _ _ needed.0 needed.1 c.in-Err.ensures.err;
       leaves = waits-then _ _ _ i.left.0 (waits-then _ _ _ (reads-wait _ _ needed.0) c.fetch.ensures.waits);
     }
 

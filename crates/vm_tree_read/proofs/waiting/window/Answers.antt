@@ -1,10 +1,10 @@
-use Rattle.std.proofs.Common.{◌∙◌, arith, rules}
+use Rattle.std.proofs.Common.{◌∙◌, arith, refl, rules}
 use Rattle.vm_step.specs.Prelude.{view}
 use Rattle.vm_exmap.proofs.Handing.{held-on}
 use Rattle.vm_tree_read.proofs.Lasting.{reads-wait, replied, waits-self, waits-then}
 use Rattle.vm_tree_read.proofs.Losing.{loses-same, loses-then, lost-on}
 use Rattle.vm_tree_read.proofs.Rounds.{tried-call, tried-none, tried-read}
-use Rattle.vm_tree_read.specs.Waiting.{AreRounds as rounds, IsRound as round}
+use Rattle.vm_tree_read.specs.Waiting.{AreRounds as rounds, IsReadFault as fault, IsRound as round}
 use Rattle.vm_tree_read.proofs.waiting.window.Goals as goal
 
 pub loop-init : goal.loop-init
@@ -55,13 +55,9 @@ returns-in-Err-clause-err g c =
     let needed = c.in-Need.ensures.tried in
     record {
       tried = view c.loop.pass;
-      found = view c.try_window.new.pass;
       rounds = i.left.1;
       waits = i.left.0;
-      page = c.in-Need.pid;
-      reads = needed.0;
-      needed = needed.1;
-      fault_is = c.in-Err.ensures.err;
+      why = fault.unbrought _ _ needed.0 needed.1 c.in-Err.ensures.err;
       leaves = waits-then _ _ _ i.left.0 (waits-then _ _ _ (reads-wait _ _ needed.0) c.fetch.ensures.waits);
     }
 
@@ -82,4 +78,26 @@ returns-in-Done-clause-lost g c =
     loses-then c.args.iface.now.frames c.loop.iface.frames c.loop.iface.frames (view c.args.pass.now)
     (view c.loop.pass) (view c.try_window.new.pass) c.loop.invariant.lost
     (loses-same c.loop.iface.frames c.loop.iface.frames (view c.loop.pass) (view c.try_window.new.pass) k.frames.0
+    (λ f e. e))
+
+-- ---- a page is damaged
+
+pub returns-in-Damaged-clause-err : goal.returns-in-Damaged-clause-err
+returns-in-Damaged-clause-err g c =
+    let i = c.loop.invariant in
+    let back = c.in-Damaged.ensures.tried in
+    record {
+      tried = view c.loop.pass;
+      rounds = i.left.1;
+      waits = i.left.0;
+      why = fault.damaged _ back.0 back.1 refl;
+      leaves = waits-then _ _ _ i.left.0 (reads-wait _ _ back.0);
+    }
+
+pub returns-in-Damaged-clause-lost : goal.returns-in-Damaged-clause-lost
+returns-in-Damaged-clause-lost g c =
+    let k = c.in-Damaged.ensures.tried.0 in
+    loses-then c.args.iface.now.frames c.loop.iface.frames c.loop.iface.frames (view c.args.pass.now)
+    (view c.loop.pass) (view c.try_window.new.pass) c.loop.invariant.lost
+    (loses-same c.loop.iface.frames c.loop.iface.frames (view c.loop.pass) (view c.try_window.new.pass) k.0.frames.0
     (λ f e. e))

@@ -89,6 +89,11 @@ returns-in-Worn-clause-err g c key v tried =
     (tried-as g.K.Kind.plain g.K.Kind.layout g.K.Kind.spare key _ _ v (view c.args.pass.now) c.in-Worn.is tried).1
     refl
 
+pub returns-in-Damaged-clause-err : goal.returns-in-Damaged-clause-err
+returns-in-Damaged-clause-err g c key v tried =
+    let met = tried-as g.K.Kind.plain g.K.Kind.layout g.K.Kind.spare key _ _ v (view c.args.pass.now) c.in-Damaged.is tried in
+    room_faults.damaged c.in-Damaged.pid met.1.0 met.1.1 refl
+
 pub returns-in-Full-clause-err : goal.returns-in-Full-clause-err
 returns-in-Full-clause-err g c key v tried =
     room_faults.full c.in-Full.pages _ _
@@ -122,6 +127,9 @@ returns-in-Again-clause-keeps g c = keeps-self (view c.args.pass.now)
 pub returns-in-Worn-clause-keeps : goal.returns-in-Worn-clause-keeps
 returns-in-Worn-clause-keeps g c = keeps-self (view c.args.pass.now)
 
+pub returns-in-Damaged-clause-keeps : goal.returns-in-Damaged-clause-keeps
+returns-in-Damaged-clause-keeps g c = keeps-self (view c.args.pass.now)
+
 pub returns-in-Full-clause-keeps : goal.returns-in-Full-clause-keeps
 returns-in-Full-clause-keeps g c = keeps-self (view c.args.pass.now)
 
@@ -136,6 +144,9 @@ returns-in-Again-clause-lost g c = loses-same _ _ (view c.args.pass.now) (view c
 
 pub returns-in-Worn-clause-lost : goal.returns-in-Worn-clause-lost
 returns-in-Worn-clause-lost g c = loses-same _ _ (view c.args.pass.now) (view c.args.pass.now) refl (λ f e. e)
+
+pub returns-in-Damaged-clause-lost : goal.returns-in-Damaged-clause-lost
+returns-in-Damaged-clause-lost g c = loses-same _ _ (view c.args.pass.now) (view c.args.pass.now) refl (λ f e. e)
 
 pub returns-in-Full-clause-lost : goal.returns-in-Full-clause-lost
 returns-in-Full-clause-lost g c = loses-same _ _ (view c.args.pass.now) (view c.args.pass.now) refl (λ f e. e)

@@ -65,6 +65,18 @@ returns-in-Err-clause-err g c =
     (faulted.missing (view c.loop.pass) (view c.put_once.new.pass) c.in-Need.pid i.left.1 i.left.0 needed.0 needed.1 c.in-Err.ensures.err
     (keeps-then _ _ _ i.left.0 (keeps-then _ _ _ (reads-keep _ _ needed.0) (waits-keep _ _ c.fetch.ensures.waits))))
 
+pub returns-in-Damaged-clause-held : goal.returns-in-Damaged-clause-held
+returns-in-Damaged-clause-held g c =
+    let reads = c.in-Damaged.ensures.tried.0 in held-on _ (view c.loop.pass) (view c.put_once.new.pass)
+    c.loop.invariant.held reads.0.start reads.0.frames.0
+
+pub returns-in-Damaged-clause-err : goal.returns-in-Damaged-clause-err
+returns-in-Damaged-clause-err g c =
+    let i = c.loop.invariant in
+    let bad = c.in-Damaged.ensures.tried in
+    put_faulted.faulted (faulted.damaged (view c.loop.pass) c.in-Damaged.pid i.left.1 i.left.0 bad.0 bad.1 refl
+    (keeps-then _ _ _ i.left.0 (reads-keep _ _ bad.0)))
+
 pub returns-in-Worn-clause-held : goal.returns-in-Worn-clause-held
 returns-in-Worn-clause-held g c =
     let reads = c.in-Worn.ensures.tried.0 in held-on _ (view c.loop.pass) (view c.put_once.new.pass)
@@ -154,6 +166,12 @@ returns-in-Err-clause-lost g c =
     lost-on c.args.iface.now.frames c.loop.iface.frames c.fetch.new.iface.frames (view c.args.pass.now)
     (view c.loop.pass) (view c.put_once.new.pass) (view c.fetch.new.pass) c.loop.invariant.lost
     c.in-Need.ensures.tried.0 c.fetch.ensures.lost
+
+pub returns-in-Damaged-clause-lost : goal.returns-in-Damaged-clause-lost
+returns-in-Damaged-clause-lost g c =
+    loses-then c.args.iface.now.frames c.loop.iface.frames c.loop.iface.frames (view c.args.pass.now)
+    (view c.loop.pass) (view c.put_once.new.pass) c.loop.invariant.lost
+    (reads-lose c.loop.iface.frames (view c.loop.pass) (view c.put_once.new.pass) c.in-Damaged.ensures.tried.0)
 
 pub returns-in-Worn-clause-lost : goal.returns-in-Worn-clause-lost
 returns-in-Worn-clause-lost g c =

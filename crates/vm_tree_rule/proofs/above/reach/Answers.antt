@@ -2,6 +2,7 @@ use Rattle.std.proofs.Common.{◌≢◌, ◌≤◌, arith, subst, ℕ}
 use Rattle.vm_step.specs.Prelude.{view}
 use Rattle.vm_tree_rule.specs.Standing.{Awaits}
 use Rattle.vm_tree_rule.proofs.Downward.{stand-awaits}
+use Rattle.vm_tree_rule.proofs.Reaching.{leaf-reached}
 use Rattle.vm_tree_rule.proofs.Readings.{err-then, ok-then, opened-earlier, reads-then}
 use Rattle.vm_tree_rule.proofs.above.reach.Goals as goal
 
@@ -54,7 +55,7 @@ returns-then-height-eq1-clause-above g c = let e = c.in-Ok.ensures in
 
 pub returns-then-height-eq1-clause-err : goal.returns-then-height-eq1-clause-err
 returns-then-height-eq1-clause-err g c =
-    err-then c.under_root.result c.under_root.ensures.err (λ t k. k (view c.args.pass.now) c.in-Ok.ensures.ok.0)
+    err-then c.under_root.result c.under_root.ensures.err (λ t k. k (view c.args.pass.now) c.in-Ok.ensures.ok.0 c.in-Ok.ensures.way)
 
 pub returns-then-height-eq1-clause-sure : goal.returns-then-height-eq1-clause-sure
 returns-then-height-eq1-clause-sure g c tells k = c.under_root.ensures.sure tells (c.in-Ok.ensures.known (λ _. 0) tells k).0
@@ -89,10 +90,24 @@ pub returns-clause-above : goal.returns-clause-above
 returns-clause-above g c = ok-then c.under_node.result c.under_node.ensures.above (λ r k. k (view c.args.pass.now) c.in-Ok.ensures.ok.0)
 
 pub returns-clause-err : goal.returns-clause-err
-returns-clause-err g c = err-then c.under_node.result c.under_node.ensures.err (λ t k. k (view c.args.pass.now) c.in-Ok.ensures.ok.0)
+returns-clause-err g c = err-then c.under_node.result c.under_node.ensures.err
+    (λ t k. k (view c.args.pass.now) c.in-Ok.ensures.ok.0 c.in-Ok.ensures.way)
 
 pub returns-clause-sure : goal.returns-clause-sure
 returns-clause-sure g c tells k = c.under_node.ensures.sure tells (c.in-Ok.ensures.known (λ _. 0) tells k).0
 
 pub returns-clause-known : goal.returns-clause-known
 returns-clause-known g c tells k = c.under_node.ensures.known tells (c.in-Ok.ensures.known (λ _. 0) tells k).0
+
+pub returns-then-height-eq0-clause-leaf : goal.returns-then-height-eq0-clause-leaf
+returns-then-height-eq0-clause-leaf g c =
+    leaf-reached g.K.Kind.layout g.K.Kind.rank (view c.args.pass.now) (g.K.Kind.rank c.args.key.now) c.in-Ok.top.stand _ _
+    c.if-height-eq0.true c.in-Ok.ensures.ok.1 c.in-Ok.ensures.way
+
+pub returns-then-height-eq1-clause-leaf : goal.returns-then-height-eq1-clause-leaf
+returns-then-height-eq1-clause-leaf g c = let e = c.in-Ok.ensures in
+    ok-then c.under_root.result c.under_root.ensures.leaf (λ r k. k (view c.args.pass.now) e.ok.0 e.way)
+
+pub returns-clause-leaf : goal.returns-clause-leaf
+returns-clause-leaf g c = let e = c.in-Ok.ensures in
+    ok-then c.under_node.result c.under_node.ensures.leaf (λ r k. k (view c.args.pass.now) e.ok.0 e.way)

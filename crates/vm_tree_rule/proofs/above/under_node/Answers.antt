@@ -1,7 +1,7 @@
 use Rattle.std.proofs.Common.{◌+◌, ◌≡◌, ◌≤◌, arith, refl, subst, ℕ}
 use Rattle.vm_step.specs.Prelude.{view}
 use Rattle.vm_tree_rule.specs.Standing.{Awaits}
-use Rattle.vm_tree_rule.proofs.{Downward.stand-awaits, Reaching.parent-stepped}
+use Rattle.vm_tree_rule.proofs.{Downward.stand-awaits, Reaching.leaf-reached, Reaching.parent-stepped}
 use Rattle.vm_tree_rule.proofs.Entering.{opened-reads}
 use Rattle.vm_tree_rule.proofs.Readings.{opened-earlier, reads-self, reads-then}
 use Rattle.vm_step.proofs.Going.{goes-then}
@@ -18,6 +18,7 @@ loop-init g c = record {
   level = refl;
   stands = c.requires.stands;
   not_zero = c.requires.not_zero;
+  way = λ v o reached. reached;
 }
 
 level-left : (n i level : ℕ) → level + i ≡ n + 1 → i ≤ n → 1 ≤ level
@@ -56,10 +57,11 @@ loop-preserved g c =
       level = level-on c.args.stand.level c.loop.counter c.loop.node.level _ i.level k.level;
       stands = k.stands;
       not_zero = k.not_zero;
+      way = λ v o reached. k.way v (i.opened v o) (i.way v o reached);
     }
 
 pub returns-in-Err-clause-err : goal.returns-in-Err-clause-err
-returns-in-Err-clause-err g c v o = c.in-Err.ensures.err v (c.loop.invariant.opened v o)
+returns-in-Err-clause-err g c v o way = let i = c.loop.invariant in c.in-Err.ensures.err v (i.opened v o) (i.way v o way)
 
 pub returns-in-Err-clause-sure : goal.returns-in-Err-clause-sure
 returns-in-Err-clause-sure g c tells k = c.in-Err.ensures.sure (λ _. 0) tells (c.loop.invariant.known tells k)
@@ -108,7 +110,16 @@ pub returns-in-Ok-step-clause-known : goal.returns-in-Ok-step-clause-known
 returns-in-Ok-step-clause-known g c tells k = c.in-Ok-step.ensures.known (λ _. 0) tells (c.loop.invariant.known tells k)
 
 pub returns-clause-err : goal.returns-clause-err
-returns-clause-err g c v o = c.in-Err-step.ensures.err v (c.loop.invariant.opened v o)
+returns-clause-err g c v o way = let i = c.loop.invariant in c.in-Err-step.ensures.err v (i.opened v o) (i.way v o way)
 
 pub returns-clause-sure : goal.returns-clause-sure
 returns-clause-sure g c tells k = c.in-Err-step.ensures.sure (λ _. 0) tells (c.loop.invariant.known tells k)
+
+pub returns-in-Ok-step-clause-leaf : goal.returns-in-Ok-step-clause-leaf
+returns-in-Ok-step-clause-leaf g c v o way =
+    let k = c.in-Ok-step.ensures in
+    let b = c.in-Ok-step.below in
+    let i = c.loop.invariant in
+    let one = last-level c.args.stand.level c.loop.counter c.loop.node.level i.level i.left c.loop-test.false in
+    leaf-reached g.K.Kind.layout g.K.Kind.rank v (g.K.Kind.rank c.args.key.now) b _ _ (under-last c.loop.node.level b.level one k.level)
+    k.stands (k.way v (i.opened v o) (i.way v o way))

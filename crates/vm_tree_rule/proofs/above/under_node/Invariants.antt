@@ -1,7 +1,7 @@
 use Rattle.std.proofs.Common.{◌+◌, ◌≡◌, ◌≢◌, ◌≤◌, true}
 use Rattle.vm_step.specs.Prelude.{GoesOn, View, view}
 use Rattle.vm_guard.specs.Guards.{IsReading}
-use Rattle.vm_tree_rule.specs.{Leaves.ReadsOn, Resident.IsKnownNow, Standing.IsOpened, Standing.IsStand}
+use Rattle.vm_tree_rule.specs.{Leaves.ReadsOn, Resident.IsKnownNow, Standing.IsOpened, Standing.IsStand, Ways.StandsOnWay}
 use Rattle.vm_tree_rule.proofs.above.under_node.Given as goal
 
 -- the page on the way is read, and its level and the steps that were made are those of the first one
@@ -18,4 +18,7 @@ invariant-loop g l = record {
   level : l.node.level + l.counter ≡ l.height + 1;
   stands : IsStand g.K.Kind.layout g.K.Kind.rank (g.K.Kind.rank l.key) l.node (view l.pass);
   not_zero : l.node.guard.pid ≢ 0;
+  way : (v : View _) → IsOpened v l.fn.stand.guard.pid l.fn.stand.guard.word l.fn.stand.guard.frame (view l.fn.pass)
+      → StandsOnWay g.K.Kind.layout g.K.Kind.rank v (g.K.Kind.rank l.key) l.fn.stand (view l.fn.pass)
+      → StandsOnWay g.K.Kind.layout g.K.Kind.rank v (g.K.Kind.rank l.key) l.node (view l.pass);
 }

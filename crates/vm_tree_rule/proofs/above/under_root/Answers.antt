@@ -1,7 +1,7 @@
 use Rattle.std.proofs.Common.{◌+◌, ◌∙◌, ◌≡◌, arith, subst, sym, ℕ}
 use Rattle.vm_step.specs.Prelude.{view}
 use Rattle.vm_tree_rule.specs.{Seeks.IsMetaRead, Standing.Awaits}
-use Rattle.vm_tree_rule.proofs.{Downward.stand-awaits, Reaching.parent-stepped, Seeking.meta-beside}
+use Rattle.vm_tree_rule.proofs.{Downward.stand-awaits, Reaching.leaf-reached, Reaching.parent-stepped, Seeking.meta-beside}
 use Rattle.vm_tree_rule.proofs.above.under_root.Goals as goal
 
 last-level : (n below : ℕ) → n ≡ 1 → below + 1 ≡ n → below ≡ 0
@@ -45,3 +45,9 @@ returns-in-Ok-clause-known g c tells root meta zero' =
 
 pub returns-clause-sure : goal.returns-clause-sure
 returns-clause-sure g c tells root = c.in-Err.ensures.sure (λ _. 0) tells root
+
+pub returns-in-Ok-clause-leaf : goal.returns-in-Ok-clause-leaf
+returns-in-Ok-clause-leaf g c v opened way =
+    let k = c.in-Ok.ensures in
+    leaf-reached g.K.Kind.layout g.K.Kind.rank v (g.K.Kind.rank c.args.key.now) c.in-Ok.below _ _
+    (last-level c.args.top.stand.level c.in-Ok.below.level c.requires.level k.level) k.stands (k.way v opened way)

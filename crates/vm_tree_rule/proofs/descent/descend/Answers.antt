@@ -1,7 +1,7 @@
 use Rattle.std.proofs.Math.Nat.{mul-add, mul-le-mul_left}
 use Rattle.std.proofs.Common.{[], ◌*◌, ◌+◌, ◌-◌, ◌<◌, ◌∙◌, ◌∷◌, ◌≡◌, ◌≤◌, arith, refl, subst, ℕ}
 use Rattle.vm_step.specs.Prelude.{view}
-use Rattle.vm_tree_rule.specs.Standing.{Awaits, AwaitsNode, fence_of}
+use Rattle.vm_tree_rule.specs.Standing.{Awaits}
 use Rattle.vm_tree_rule.proofs.Counting.{height-more, height-wider, height-within, within-wider}
 use Rattle.vm_tree_rule.proofs.Downward.{stand-awaits}
 use Rattle.vm_step.proofs.Going.{goes-then}
@@ -31,6 +31,7 @@ loop-init g c = record {
   known = λ shares tells k. (c.in-Ok.ensures.known shares tells k).0;
   level = whole c.in-Ok.top.stand.level;
   stands = c.in-Ok.ensures.ok.1;
+  way = c.in-Ok.ensures.way;
 }
 
 level-left : (n i level : ℕ) → level ≡ n - i → i < n → 1 ≤ level
@@ -62,23 +63,20 @@ loop-preserved g c =
       known = λ shares tells r. (k.known shares tells (i.known shares tells r)).0;
       level = level-on c.in-Ok.top.stand.level c.loop.counter c.loop.stand.level _ i.level k.level less;
       stands = k.stands;
+      way = k.way _ i.opened i.way;
     }
 
 pub returns-clause-reads : goal.returns-clause-reads
 returns-clause-reads g c = (c.loop.invariant.reads, c.loop.invariant.opened)
 
-pub returns-clause-fences : goal.returns-clause-fences
-returns-clause-fences g c =
-    let i = c.loop.invariant in
-    let at : c.loop.stand.level ≡ 0 = i.level ∙ none-left c.in-Ok.top.stand.level c.loop.counter c.loop-test.false in (
-      g.K.Kind.rank c.loop.stand.low,
-      fence_of g.K.Kind.layout g.K.Kind.rank c.loop.stand.high,
-      i.stands.from,
-      i.stands.below,
-      subst (λ n. AwaitsNode g.K.Kind.layout (view c.loop.pass) c.loop.stand.guard.pid c.loop.stand.guard.word n
-          (g.K.Kind.rank c.loop.stand.low) (fence_of g.K.Kind.layout g.K.Kind.rank c.loop.stand.high))
-          at i.stands.awaits,
-    )
+pub returns-clause-level : goal.returns-clause-level
+returns-clause-level g c = c.loop.invariant.level ∙ none-left c.in-Ok.top.stand.level c.loop.counter c.loop-test.false
+
+pub returns-clause-stands : goal.returns-clause-stands
+returns-clause-stands g c = c.loop.invariant.stands
+
+pub returns-clause-way : goal.returns-clause-way
+returns-clause-way g c = c.loop.invariant.way
 
 pub returns-clause-awaits : goal.returns-clause-awaits
 returns-clause-awaits g c =
@@ -112,7 +110,7 @@ pub returns-in-Err-clause-sure : goal.returns-in-Err-clause-sure
 returns-in-Err-clause-sure g c shares tells k = c.in-Err.ensures.sure shares tells k
 
 pub returns-in-Err-step-clause-err : goal.returns-in-Err-step-clause-err
-returns-in-Err-step-clause-err g c = c.in-Err-step.ensures.err _ c.loop.invariant.opened
+returns-in-Err-step-clause-err g c = c.in-Err-step.ensures.err _ c.loop.invariant.opened c.loop.invariant.way
 
 pub returns-in-Err-step-clause-sure : goal.returns-in-Err-step-clause-sure
 returns-in-Err-step-clause-sure g c shares tells k = c.in-Err-step.ensures.sure shares tells (c.loop.invariant.known shares tells k)

@@ -1,6 +1,6 @@
 use Rattle.std.proofs.Common.{◌*◌, ◌+◌, ◌-◌, ◌≡◌, ◌≤◌, true, ℕ}
 use Rattle.vm_step.specs.Prelude.{GoesOn, view}
-use Rattle.vm_tree_rule.specs.Few.{LoadsHeight}
+use Rattle.vm_tree_rule.specs.{Few.LoadsHeight, Ways.StandsOnWay}
 use Rattle.vm_tree_rule.specs.{Leaves.ReadsOn, Resident.IsReadNow, Resident.KnowsReadable, Standing.IsOpened, Standing.IsStand}
 use Rattle.vm_tree_rule.proofs.descent.descend.Given as goal
 
@@ -16,4 +16,5 @@ invariant-loop g l = record {
       → IsReadNow shares l.stand.guard.pid l.stand.guard.word (view l.pass);
   level : l.stand.level ≡ l.end - l.counter;
   stands : IsStand g.K.Kind.layout g.K.Kind.rank (g.K.Kind.rank l.key) l.stand (view l.pass);
+  way : StandsOnWay g.K.Kind.layout g.K.Kind.rank (view l.fn.pass) (g.K.Kind.rank l.key) l.stand (view l.pass);
 }

@@ -1,15 +1,16 @@
-use Rattle.std.proofs.Common.{[], ◌+◌, ◌<◌, ◌∙◌, ◌∷◌, ◌≡◌, ◌≤◌, ap, arith, length, subst, sym, ℕ}
+use Rattle.std.proofs.Common.{[], ◌+◌, ◌<◌, ◌∙◌, ◌∷◌, ◌≡◌, ◌≤◌, ap, arith, inl, inr, length, refl, subst, sym, ℕ}
 use Rattle.vm_guard.specs.PageWords.{LoadsWords}
 use Rattle.vm_tree_rule.proofs.Counting.{meta-loaded, meta-within, none-within}
 use Rattle.vm_rule.specs.Prelude.{last_of}
 use Rattle.vm_step.specs.Prelude.{Origin, view}
-use Rattle.vm_tree_rule.specs.{Standing.AwaitsNode, Turns.IsNoTree as no_tree, Turns.IsTurnedBack}
+use Rattle.vm_tree_rule.specs.Standing.{AwaitsNode}
+use Rattle.vm_tree_rule.specs.Turns.{IsNoChild, IsNoPage, WhyDamaged as why}
 use Rattle.vm_tree_rule.proofs.{Onward.meta-read, Onward.root-passes, Surely.first-known, Surely.first-readable}
 use Rattle.vm_tree_rule.proofs.descent.enter_root.Goals as goal
 use Rattle.vm_tree_rule.proofs.Downward.{meta-loads, meta-words, names-root, root-height, root-loaded, root-named}
 use Rattle.vm_tree_rule.proofs.Downward.{root-opened, tells-height}
-use Rattle.vm_tree_rule.proofs.Entering.{astray-turn, first-ended, opened-reads, turned, untold}
-use Rattle.vm_tree_rule.proofs.Readings.{opened-earlier, opened-later, reads-then}
+use Rattle.vm_tree_rule.proofs.Entering.{first-ended, opened-reads, turned}
+use Rattle.vm_tree_rule.proofs.Readings.{opened-earlier, reads-then}
 use Rattle.vm_tree_rule.proofs.Whole.{tree-size}
 
 some-pages : (n pages start : ℕ) → 1 ≤ n → start ≡ n → 0 < start
@@ -18,6 +19,12 @@ some-pages n pages start some is = omega (arith, some, is)
 -- the root's level is below the number of pages
 low-enough : (level tree pages : ℕ) → level + 2 ≤ tree → tree ≡ pages → level < pages
 low-enough level tree pages low is = omega (arith, low, is)
+
+-- page 0 names no page that can be the root
+no-root : (pages p named : ℕ) → p ≡ 0 → IsNoChild pages p named → IsNoPage pages named
+no-root pages p named zero (inl none) = inl none
+no-root pages p named zero (inr (inl far)) = inr far
+no-root pages p named zero (inr (inr same)) = inl (same ∙ zero)
 
 pub returns-in-Err-clause-err : goal.returns-in-Err-clause-err
 returns-in-Err-clause-err g c =
@@ -54,7 +61,11 @@ returns-in-Err-enter-clause-err g c =
     (root-loaded _ _ _ _ _ (g.K.Kind.rank c.args.key.now) _ _ _ _ c.in-Ok.ensures.ok.0 c.in-Ok.ensures.ok.1
     c.word-root.ensures.loads c.word-level.ensures.loads)
     (tree-size _ _ _ c.enter.ensures.goes.ready.table.is_shape.size c.args.words.now.sized.0
-    c.args.words.now.size.takes) c.in-Err-enter.ensures.err
+    c.args.words.now.size.takes)
+    (λ valid none. let loads = meta-loads _ _ _ _ _ (g.K.Kind.rank c.args.key.now) _ _ _ _ c.in-Ok.ensures.ok.0
+    c.in-Ok.ensures.ok.1 c.word-root.ensures.loads c.word-level.ensures.loads in
+    why.rootless loads.0 c.word-root.result c.word-level.result c.in-Ok.ensures.ok.0
+    ((valid.same_reads _).loads ∙ loads.1) (no-root _ _ _ c.in-Ok.ensures.ok.0 none)) c.in-Err-enter.ensures.err
 
 pub returns-in-Err-enter-clause-sure : goal.returns-in-Err-enter-clause-sure
 returns-in-Err-enter-clause-sure g c shares tells k =
@@ -62,53 +73,6 @@ returns-in-Err-enter-clause-sure g c shares tells k =
     (first-known g.K.Kind.plain g.K.Kind.layout g.K.Kind.is_layout _ _ _ _ _ _ (view c.args.pass.now)
     (view c.start.new.pass) (view c.word-root.new.pass) (view c.word-level.new.pass) c.in-Ok.ensures.ok.0
     c.in-Ok.ensures.ok.1 (c.in-Ok.ensures.kept tells) c.word-root.ensures.loads c.word-level.ensures.loads k)
-
-pub returns-then-level-words-clause-err : goal.returns-then-level-words-clause-err
-returns-then-level-words-clause-err g c =
-    let s = c.in-Ok-enter.ensures in
-    let opened = root-opened _ _ _ _ _ (g.K.Kind.rank c.args.key.now) _ _ _ _ c.in-Ok.ensures.ok.0
-    c.in-Ok.ensures.ok.1 c.word-root.ensures.loads c.word-level.ensures.loads in
-    let step = s.ok.1 in
-    let loads = meta-loads _ _ _ _ _ (g.K.Kind.rank c.args.key.now) _ _ _ _ c.in-Ok.ensures.ok.0 c.in-Ok.ensures.ok.1
-    c.word-root.ensures.loads c.word-level.ensures.loads in
-    let reads = step.reads in
-    let start = reads.0.start ∙ (opened-reads _ _ _ _ _ opened).0.start in
-    subst (λ t. IsTurnedBack g.K.Kind.layout (view c.args.pass.now) (g.K.Kind.rank c.args.key.now) t
-    (view c.enter.new.pass)) (sym c.astray_at.ensures)
-    (astray-turn _ _ _ (g.K.Kind.rank c.args.key.now) (view c.args.pass.now) step.checked (view c.enter.new.pass)
-    (opened-later _ _ _ _ _ _ opened step.looked step.stays.same step.stays.reading)
-    (untold _ (λ tells.
-    let below : c.word-level.result < (view c.enter.new.pass).start.pages =
-    low-enough _ _ _ (root-height _ _ _ _ _ (g.K.Kind.rank c.args.key.now) _ _ _ _ c.in-Ok.ensures.ok.0
-    c.in-Ok.ensures.ok.1 c.word-root.ensures.loads c.word-level.ensures.loads
-    (last_of (view c.enter.new.pass) c.in-Ok.guard.pid).words
-    (s.ok.1.sees (ap (λ (o : Origin). o.tells) (opened-reads _ _ _ _ _ opened).0.start ∙ tells)))
-    (ap (λ (o : Origin). length o.contents) (sym reads.0.start)
-    ∙ s.pages (sym s.goes.ready.table.tells_is ∙ ap (λ (o : Origin). o.tells) start ∙ tells)) in
-    let same = c.args.words.now.shape.0 in
-    let pages = s.goes.ready.table.is_shape.pages in
-    let high = c.if-level-words.true in
-    omega (arith, below, same, pages, high)))
-    step.valid
-    (no_tree.high loads.0 c.word-root.result c.word-level.result c.in-Ok.ensures.ok.0
-    ((step.valid.same_reads _).loads ∙ step.stays.loads ∙ loads.1) (let same = c.args.words.now.shape.0 in
-    let pages = s.goes.ready.table.is_shape.pages in let high = c.if-level-words.true in
-    omega (arith, same, pages, high))))
-
-pub returns-then-level-words-clause-sure : goal.returns-then-level-words-clause-sure
-returns-then-level-words-clause-sure g c shares tells k =
-    let s = c.in-Ok-enter.ensures in
-    let reads = s.ok.1.reads in
-    let below : c.word-level.result < (view c.enter.new.pass).start.pages =
-    low-enough _ _ _ (root-height _ _ _ _ _ (g.K.Kind.rank c.args.key.now) _ _ _ _ c.in-Ok.ensures.ok.0
-    c.in-Ok.ensures.ok.1 c.word-root.ensures.loads c.word-level.ensures.loads
-    (last_of (view c.enter.new.pass) c.in-Ok.guard.pid).words
-    (s.ok.1.sees (ap (λ (o : Origin). o.tells) (sym reads.0.start) ∙ s.goes.ready.table.tells_is ∙ tells)))
-    (ap (λ (o : Origin). length o.contents) (sym reads.0.start) ∙ s.pages tells) in
-    let same = c.args.words.now.shape.0 in
-    let pages = s.goes.ready.table.is_shape.pages in
-    let high = c.if-level-words.true in
-    absurd (omega (arith, below, same, pages, high))
 
 pub returns-clause-ok : goal.returns-clause-ok
 returns-clause-ok g c =
@@ -148,12 +112,14 @@ returns-clause-meta g c =
     let s = c.in-Ok-enter.ensures in
     let opened = root-opened _ _ _ _ _ (g.K.Kind.rank c.args.key.now) _ _ _ _ c.in-Ok.ensures.ok.0
     c.in-Ok.ensures.ok.1 c.word-root.ensures.loads c.word-level.ensures.loads in
-    let low = c.if-level-words.false in
-    let same = c.args.words.now.shape.0 in
-    let pages = s.goes.ready.table.is_shape.pages in
     meta-read _ _ _ _ _ _ (view c.args.pass.now) (view c.start.new.pass) (view c.word-root.new.pass)
     (view c.word-level.new.pass) (view c.enter.new.pass) c.in-Ok.ensures.ok.0 opened s.ok.1.reads s.parent s.ok.0
-    c.word-root.ensures.loads.loads c.word-level.ensures.loads.loads (omega (arith, low, same, pages))
+    c.word-root.ensures.loads.loads c.word-level.ensures.loads.loads
+    (λ tells. low-enough _ _ _ (root-height _ _ _ _ _ (g.K.Kind.rank c.args.key.now) _ _ _ _ c.in-Ok.ensures.ok.0
+    c.in-Ok.ensures.ok.1 c.word-root.ensures.loads c.word-level.ensures.loads
+    (last_of (view c.enter.new.pass) c.in-Ok.guard.pid).words
+    (s.ok.1.sees (ap (λ (o : Origin). o.tells) (sym s.ok.1.reads.0.start) ∙ tells)))
+    (ap (λ (o : Origin). length o.contents) (sym s.ok.1.reads.0.start) ∙ s.pages (sym s.goes.ready.table.tells_is ∙ tells)))
 
 pub returns-clause-named : goal.returns-clause-named
 returns-clause-named g c =
@@ -189,14 +155,6 @@ returns-clause-few g c =
     c.word-root.ensures.loads c.word-level.ensures.loads _ c.in-Ok.ensures.words c.word-root.ensures.words
     c.word-level.ensures.words c.in-Ok-enter.ensures.words)
 
-pub returns-then-level-words-clause-few : goal.returns-then-level-words-clause-few
-returns-then-level-words-clause-few g c =
-    meta-within _ _ _ _ (meta-loaded _ _ _ _ _ _ _ c.in-Ok.ensures.words c.word-root.ensures.words
-    c.word-level.ensures.words c.in-Ok-enter.ensures.words)
-    (tells-height _ _ _ _ _ (g.K.Kind.rank c.args.key.now) _ _ _ _ c.in-Ok.ensures.ok.0 c.in-Ok.ensures.ok.1
-    c.word-root.ensures.loads c.word-level.ensures.loads _ c.in-Ok.ensures.words c.word-root.ensures.words
-    c.word-level.ensures.words c.in-Ok-enter.ensures.words)
-
 pub returns-in-Err-enter-clause-few : goal.returns-in-Err-enter-clause-few
 returns-in-Err-enter-clause-few g c =
     meta-within _ _ _ _ (meta-loaded _ _ _ _ _ _ _ c.in-Ok.ensures.words c.word-root.ensures.words
@@ -207,3 +165,25 @@ returns-in-Err-enter-clause-few g c =
 
 pub returns-in-Err-clause-few : goal.returns-in-Err-clause-few
 returns-in-Err-clause-few g c = none-within _ _ _ c.in-Err.ensures.words
+
+pub returns-clause-way : goal.returns-clause-way
+returns-clause-way g c =
+    let s = c.in-Ok-enter.ensures.ok in
+    record {
+      steps = [];
+      are = (
+        root-passes c.in-Ok.guard c.word-root.result c.word-level.result c.in-Ok-enter.guard.pid c.in-Ok-enter.guard.word
+            c.in-Ok-enter.guard.frame (view c.args.pass.now) (view c.word-level.new.pass) (view c.enter.new.pass)
+            c.in-Ok.ensures.ok.0
+            (root-opened _ _ _ _ _ (g.K.Kind.rank c.args.key.now) _ _ _ _ c.in-Ok.ensures.ok.0 c.in-Ok.ensures.ok.1
+            c.word-root.ensures.loads c.word-level.ensures.loads)
+            (meta-loads _ _ _ _ _ (g.K.Kind.rank c.args.key.now) _ _ _ _ c.in-Ok.ensures.ok.0 c.in-Ok.ensures.ok.1
+            c.word-root.ensures.loads c.word-level.ensures.loads) s.0 s.1
+            (λ tells. (meta-words _ _ _ _ _ (g.K.Kind.rank c.args.key.now) _ _ _ _ c.in-Ok.ensures.ok.0 c.in-Ok.ensures.ok.1
+            c.word-root.ensures.loads c.word-level.ensures.loads (last_of (view c.enter.new.pass) c.in-Ok.guard.pid).words
+            (s.1.sees tells)).0),
+        refl,
+        c.lowest.ensures,
+        refl,
+      );
+    }

@@ -1,14 +1,14 @@
-use Rattle.std.proofs.Common.{◌-◌, ◌<◌, ◌∙◌, ◌≡◌, ◌≤◌, ap, arith, inr, List, MatchOption, None, Option, option_map}
+use Rattle.std.proofs.Common.{◌+◌, ◌-◌, ◌<◌, ◌∙◌, ◌≡◌, ◌≤◌, ap, arith, inr, List, MatchOption, None, Option, option_map}
 use Rattle.std.proofs.Common.{Some, subst, suc, sym, unwrap_or, ℕ}
 use Rattle.vm_tree_model.specs.Layout.{Layout}
 use Rattle.vm_rule.specs.Prelude.{last_of}
 use Rattle.vm_step.specs.Prelude.{Origin, View, view}
-use Rattle.vm_tree_rule.specs.{declared.descent.Stand.Stand, Seeks.TellChild, Seeks.TellChildIn}
+use Rattle.vm_tree_rule.specs.{declared.descent.Stand.Stand, Seeks.TellChild, Seeks.TellNoChild, Ways.IsOnWay}
 use Rattle.vm_tree_rule.specs.Standing.{Awaits, AwaitsNode, fence_of, IsStand}
-use Rattle.vm_tree_rule.specs.Turns.{IsNoTree as no_tree, IsTurnedBack}
 use Rattle.vm_tree_rule.proofs.descent.step.Goals as goal
 use Rattle.vm_tree_rule.proofs.{Counting.place-within, Downward.awaits-later, Downward.node-later, Downward.stand-awaits}
-use Rattle.vm_tree_rule.proofs.Entering.{astray-turn, opened-reads, refused-turn, turned, untold}
+use Rattle.vm_tree_rule.proofs.Entering.{damaged-turn, opened-reads, refused-turn, turned, untold}
+use Rattle.vm_tree_rule.proofs.OnWay.{no-child-no-node, no-child-why, no-node-why, tells-page, way-below}
 use Rattle.vm_tree_rule.proofs.Onward.{goes-nowhere, goes-on, goes-to}
 use Rattle.vm_tree_rule.proofs.Readings.{leaves-self, leaves-then, loads-reads, opened-earlier, opened-later}
 use Rattle.vm_tree_rule.proofs.Readings.{opened-loads, reads-self, reads-then}
@@ -16,13 +16,15 @@ use Rattle.vm_tree_rule.proofs.Seeking.{beside-loads, passes-by}
 use Rattle.vm_tree_rule.proofs.Surely.{known-at, known-same}
 use Rattle.vm_tree_rule.proofs.Whole.{tree-size}
 
--- the search that tells the fences tells the page
-tells-page : (L : Layout) (loaded : List (ℕ × ℕ)) (key named low : ℕ) (next : Option ℕ)
-    → TellChildIn L loaded key named low next → TellChild L loaded key named
-tells-page L loaded key named low next tells words with = (tells words with).finds
-
 inner-level : (n : ℕ) → 1 ≤ n → n ≡ suc (n - 1)
 inner-level n some = omega (arith, some)
+
+level-up : (n : ℕ) → 1 ≤ n → n - 1 + 1 ≡ n
+level-up n some = omega (arith, some)
+
+at-level : (L : Layout) (loaded : List (ℕ × ℕ)) (key level : ℕ) → 1 ≤ level → TellNoChild L loaded level key
+    → TellNoChild L loaded (suc (level - 1)) key
+at-level L loaded key level some tells = subst (λ n. TellNoChild L loaded n key) (inner-level level some) tells
 
 module _ {X T : Type 0} (L : Layout) (rank : T → ℕ) where
   above : (key : ℕ) (s : Stand T) (v : View X) → 1 ≤ s.level → IsStand L rank key s v
@@ -61,7 +63,7 @@ enter-requires-clause-names g c =
           (node-later _ _ _ _ _ _ _ (loads-reads _ _ _ _ _ _ f.loads).0
           (node g.K.Kind.layout g.K.Kind.rank (g.K.Kind.rank c.args.key.now) s _ c.requires.inner k)) k.from
           k.below c.in-Some.child.page (g.K.Kind.rank c.in-Some.child.low)
-          (option_map g.K.Kind.rank c.in-Some.child.next) f.tells,
+          (option_map g.K.Kind.rank c.in-Some.child.next) f.tells.0,
     )
 
 pub returns-in-Ok-clause-reads : goal.returns-in-Ok-clause-reads
@@ -89,7 +91,7 @@ returns-in-Ok-clause-stands g c =
           (g.K.Kind.rank s.low) (fence_of g.K.Kind.layout g.K.Kind.rank s.high)
           (node-later _ _ _ _ _ _ _ (loads-reads _ _ _ _ _ _ f.loads).0
           (node g.K.Kind.layout g.K.Kind.rank (g.K.Kind.rank c.args.key.now) s _ c.requires.inner k)) k.from
-          k.below child.page (g.K.Kind.rank child.low) (option_map g.K.Kind.rank child.next) f.tells));
+          k.below child.page (g.K.Kind.rank child.low) (option_map g.K.Kind.rank child.next) f.tells.0));
       from = sides.0;
       below = subst (λ b. (g.K.Kind.rank c.args.key.now) < b) (sym c.high_fence.ensures)
           (below-next (g.K.Kind.rank c.args.key.now) (fence_of g.K.Kind.layout g.K.Kind.rank s.high)
@@ -110,7 +112,7 @@ returns-in-Ok-clause-passed g c =
     (above g.K.Kind.layout g.K.Kind.rank (g.K.Kind.rank c.args.key.now) c.args.stand.now _ c.requires.inner
     c.requires.stands) c.in-Some.child.page
     (tells-page g.K.Kind.layout f.loaded (g.K.Kind.rank c.args.key.now) c.in-Some.child.page
-    (g.K.Kind.rank c.in-Some.child.low) (option_map g.K.Kind.rank c.in-Some.child.next) f.tells) _ _ _
+    (g.K.Kind.rank c.in-Some.child.low) (option_map g.K.Kind.rank c.in-Some.child.next) f.tells.0) _ _ _
     c.in-Ok.ensures.ok.0 (tree-size _ _ _ c.enter.ensures.goes.ready.table.is_shape.size c.args.words.now.sized.0
     c.args.words.now.size.takes) c.in-Ok.ensures.ok.1
 
@@ -126,10 +128,12 @@ pub returns-in-Ok-clause-few : goal.returns-in-Ok-clause-few
 returns-in-Ok-clause-few g c = place-within _ _ _ _ _ _ _ _ c.in-Some.ensures.found c.in-Ok.ensures.words
 
 pub returns-in-Err-clause-err : goal.returns-in-Err-clause-err
-returns-in-Err-clause-err g c u o =
+returns-in-Err-clause-err g c u o way =
     let f = c.in-Some.ensures.found in
+    let s = c.args.stand.now in
+    let child = c.in-Some.child in
     let page = tells-page g.K.Kind.layout f.loaded (g.K.Kind.rank c.args.key.now) c.in-Some.child.page
-    (g.K.Kind.rank c.in-Some.child.low) (option_map g.K.Kind.rank c.in-Some.child.next) f.tells in
+    (g.K.Kind.rank c.in-Some.child.low) (option_map g.K.Kind.rank c.in-Some.child.next) f.tells.0 in
     turned _ _ _ _ _ c.in-Err.turn u _ _ (opened-loads _ _ _ _ _ _ _ o f.loads)
     (goes-to _ _ _ (c.args.stand.now.level - 1) _ f.loaded _ f.loads.reads (_, f.loads.loads)
     (awaits-later _ _ _ _ _ _ (loads-reads _ _ _ _ _ _ f.loads).0
@@ -137,7 +141,11 @@ returns-in-Err-clause-err g c u o =
     c.requires.stands)) c.in-Some.child.page page)
     (inr (f.loaded, (_, f.loads.loads), page))
     (tree-size _ _ _ c.enter.ensures.goes.ready.table.is_shape.size c.args.words.now.sized.0
-    c.args.words.now.size.takes) c.in-Err.ensures.err
+    c.args.words.now.size.takes)
+    (λ valid. no-child-why _ _ _ s.level (g.K.Kind.rank s.low) (fence_of g.K.Kind.layout g.K.Kind.rank s.high)
+    (g.K.Kind.rank c.args.key.now) f.loaded u _ _ _ o way f.loads valid child.page (s.level - 1)
+    (g.K.Kind.rank child.low) (option_map g.K.Kind.rank child.next) (level-up s.level c.requires.inner) f.tells.0 f.tells.1)
+    c.in-Err.ensures.err
 
 pub returns-in-Err-clause-sure : goal.returns-in-Err-clause-sure
 returns-in-Err-clause-sure g c shares tells known =
@@ -148,25 +156,27 @@ pub returns-in-Err-clause-few : goal.returns-in-Err-clause-few
 returns-in-Err-clause-few g c = place-within _ _ _ _ _ _ _ _ c.in-Some.ensures.found c.in-Err.ensures.words
 
 pub returns-in-Ok-validate_silently-clause-err : goal.returns-in-Ok-validate_silently-clause-err
-returns-in-Ok-validate_silently-clause-err g c u o =
+returns-in-Ok-validate_silently-clause-err g c u o way =
     let f = c.in-None.ensures.found in
     let valid = c.in-Ok-validate_silently.ensures.ok in
     let opened = opened-loads _ _ _ _ u _ _ o f.loads in
     let start = (opened-reads _ _ _ u _ opened).0.start in
-    subst (λ t. IsTurnedBack g.K.Kind.layout u (g.K.Kind.rank c.args.key.now) t (view c.validate_silently.new.pass))
-    (sym c.astray_at.ensures)
-    (astray-turn _ _ _ (g.K.Kind.rank c.args.key.now) u _ _ opened
+    let s = c.args.stand.now in
+    damaged-turn _ _ _ (g.K.Kind.rank c.args.key.now) u _ _ opened
     (untold _ (λ tells.
     let told = ap (λ (y : Origin). y.tells) start ∙ tells in
     goes-nowhere _ _ _ (c.args.stand.now.level - 1) _ f.loaded _ f.loads.reads (_, f.loads.loads)
     (awaits-later _ _ _ _ _ _ (loads-reads _ _ _ _ _ _ f.loads).0
     (above g.K.Kind.layout g.K.Kind.rank (g.K.Kind.rank c.args.key.now) c.args.stand.now _ c.requires.inner
-    c.requires.stands)) f.tells told
+    c.requires.stands)) (at-level g.K.Kind.layout f.loaded (g.K.Kind.rank c.args.key.now) c.args.stand.now.level c.requires.inner f.tells) told
     (last_of (view c.validate_silently.new.pass) c.args.stand.now.guard.pid).words
     (valid.size ∙ tree-size _ _ _ c.validate_silently.ensures.goes.ready.table.is_shape.size
     c.args.words.now.sized.0 c.args.words.now.size.takes) (valid.validates told)))
     valid
-    (no_tree.childless f.loaded (_, (valid.same_reads _).loads ∙ f.loads.loads) f.tells))
+    (no-node-why _ _ _ s.level (g.K.Kind.rank s.low) (fence_of g.K.Kind.layout g.K.Kind.rank s.high)
+    (g.K.Kind.rank c.args.key.now) f.loaded u _ _ _ o way f.loads valid
+    (no-child-no-node g.K.Kind.layout f.loaded s.level (g.K.Kind.rank s.low) (fence_of g.K.Kind.layout g.K.Kind.rank s.high)
+    (g.K.Kind.rank c.args.key.now) c.requires.inner c.requires.stands.from f.tells))
 
 pub returns-in-Ok-validate_silently-clause-sure : goal.returns-in-Ok-validate_silently-clause-sure
 returns-in-Ok-validate_silently-clause-sure g c shares tells known =
@@ -177,7 +187,7 @@ returns-in-Ok-validate_silently-clause-sure g c shares tells known =
     (goes-nowhere _ _ _ (c.args.stand.now.level - 1) _ f.loaded _ f.loads.reads (_, f.loads.loads)
     (awaits-later _ _ _ _ _ _ (loads-reads _ _ _ _ _ _ f.loads).0
     (above g.K.Kind.layout g.K.Kind.rank (g.K.Kind.rank c.args.key.now) c.args.stand.now _ c.requires.inner
-    c.requires.stands)) f.tells told
+    c.requires.stands)) (at-level g.K.Kind.layout f.loaded (g.K.Kind.rank c.args.key.now) c.args.stand.now.level c.requires.inner f.tells) told
     (last_of (view c.validate_silently.new.pass) c.args.stand.now.guard.pid).words
     (valid.size ∙ tree-size _ _ _ c.validate_silently.ensures.goes.ready.table.is_shape.size
     c.args.words.now.sized.0 c.args.words.now.size.takes) (valid.validates told))
@@ -187,7 +197,7 @@ returns-in-Ok-validate_silently-clause-few g c =
     place-within _ _ _ _ _ _ _ _ c.in-None.ensures.found c.in-Ok-validate_silently.ensures.words
 
 pub returns-in-Err-validate_silently-clause-err : goal.returns-in-Err-validate_silently-clause-err
-returns-in-Err-validate_silently-clause-err g c u o =
+returns-in-Err-validate_silently-clause-err g c u o way =
     let loads = c.in-None.ensures.found.loads in refused-turn _ _ _ g.K.Kind.layout (g.K.Kind.rank c.args.key.now) _ u
     _ _ _ (opened-loads _ _ _ _ _ _ _ o loads) (reads-self _) (leaves-self _ _)
     c.in-Err-validate_silently.ensures.err
@@ -206,7 +216,7 @@ pub returns-in-Ok-clause-named : goal.returns-in-Ok-clause-named
 returns-in-Ok-clause-named g c =
     let f = c.in-Some.ensures.found in
     let page = tells-page g.K.Kind.layout f.loaded (g.K.Kind.rank c.args.key.now) c.in-Some.child.page
-    (g.K.Kind.rank c.in-Some.child.low) (option_map g.K.Kind.rank c.in-Some.child.next) f.tells in (
+    (g.K.Kind.rank c.in-Some.child.low) (option_map g.K.Kind.rank c.in-Some.child.next) f.tells.0 in (
       f.loaded,
       (_, c.in-Ok.ensures.parent.loads ∙ f.loads.loads),
       subst (TellChild g.K.Kind.layout f.loaded (g.K.Kind.rank c.args.key.now)) (sym c.in-Ok.ensures.ok.0) page,
@@ -229,3 +239,15 @@ returns-in-Ok-clause-beside g c shares tells known q x ne read =
     let loads = c.in-Some.ensures.found.loads in
     let reads = (loads-reads _ _ _ _ _ _ loads).0 in
     c.in-Ok.ensures.beside shares tells (known-same _ _ _ _ reads loads.table known) q x ne (known-same q x _ _ reads loads.table read)
+
+pub returns-in-Ok-clause-way : goal.returns-in-Ok-clause-way
+returns-in-Ok-clause-way g c u o way =
+    let f = c.in-Some.ensures.found in
+    let s = c.args.stand.now in
+    let child = c.in-Some.child in
+    subst (λ high. IsOnWay g.K.Kind.layout u (g.K.Kind.rank c.args.key.now) c.in-Ok.guard.pid (s.level - 1)
+    (g.K.Kind.rank child.low) high (view c.enter.new.pass)) (sym c.high_fence.ensures)
+    (way-below _ _ _ s.level (g.K.Kind.rank s.low) (fence_of g.K.Kind.layout g.K.Kind.rank s.high)
+    (g.K.Kind.rank c.args.key.now) f.loaded u _ _ _ o way f.loads child.page (s.level - 1) (g.K.Kind.rank child.low)
+    (option_map g.K.Kind.rank child.next) (level-up s.level c.requires.inner) f.tells.0 _ _ _ c.in-Ok.ensures.ok.0
+    c.in-Ok.ensures.ok.1)

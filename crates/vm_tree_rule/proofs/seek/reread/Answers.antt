@@ -20,10 +20,9 @@ pub returns-in-Err-clause-words : goal.returns-in-Err-clause-words
 returns-in-Err-clause-words g c = words-same _ _ _ _ c.read_all.ensures.words c.in-Err.ensures.words
 
 pub returns-else-spare_of-left-clause-err : goal.returns-else-spare_of-left-clause-err
-returns-else-spare_of-left-clause-err g c v key o =
+returns-else-spare_of-left-clause-err g c v key level low high o way =
     let k = c.requires.counted in
-    subst (λ t. IsTurnedBack g.K.Kind.layout v key t (view c.validate_silently.new.pass)) (sym c.astray_at.ensures)
-    (torn-turn _ _ _ (g.K.Pages.words_of c.read_all.new.into) (view c.args.pass.now)
+    torn-turn _ _ _ (g.K.Pages.words_of c.read_all.new.into) (view c.args.pass.now)
     (view c.validate_silently.new.pass) (record {
       read = view c.read_all.new.pass;
       loads = c.read_all.ensures.loads;
@@ -31,7 +30,8 @@ returns-else-spare_of-left-clause-err g c v key o =
     }) k.0 c.read_all.ensures.size
     (tree-size _ _ _ c.validate_silently.ensures.goes.ready.table.is_shape.size c.args.words.now.sized.0
     c.args.words.now.size.takes) k.1
-    (λ with. other-spare _ _ _ c.spare_of.ensures c.if-spare_of-left.false (k.2 (g.K.Pages.words_of c.read_all.new.into) with)) key v o)
+    (λ with. other-spare _ _ _ c.spare_of.ensures c.if-spare_of-left.false (k.2 (g.K.Pages.words_of c.read_all.new.into) with))
+    key level low high v o way
 
 pub returns-else-spare_of-left-clause-sure : goal.returns-else-spare_of-left-clause-sure
 returns-else-spare_of-left-clause-sure g c tells known =
@@ -48,7 +48,7 @@ returns-else-spare_of-left-clause-sure g c tells known =
     absurd (other-spare _ _ _ c.spare_of.ensures c.if-spare_of-left.false (k.2 (g.K.Pages.words_of c.read_all.new.into) here.1))
 
 pub returns-in-Err-clause-err : goal.returns-in-Err-clause-err
-returns-in-Err-clause-err g c v key o = refused-turn _ _ _ g.K.Kind.layout key _ v _ _ _
+returns-in-Err-clause-err g c v key level low high o way = refused-turn _ _ _ g.K.Kind.layout key _ v _ _ _
     (opened-loads _ _ _ _ _ _ _ o c.read_all.ensures.loads) (reads-self _) (leaves-self _ _) c.in-Err.ensures.err
 
 pub returns-in-Err-clause-sure : goal.returns-in-Err-clause-sure

@@ -7,6 +7,7 @@ use Rattle.vm_tree_rule.specs.{Few.HasHeight, Few.LoadsAtMost, Few.LoadsHeight, 
 use Rattle.vm_tree_rule.proofs.Counting.{height-more, height-wider, height-within, place-within, within-wider}
 use Rattle.vm_tree_rule.proofs.Downward.{awaits-later, stand-awaits, stand-later}
 use Rattle.vm_tree_rule.proofs.Onward.{passed-later}
+use Rattle.vm_tree_rule.proofs.OnWay.{way-later}
 use Rattle.vm_tree_rule.proofs.Readings.{loads-reads, opened-earlier, opened-loads, reads-then}
 use Rattle.vm_tree_rule.proofs.Seeking.{beside-loads, spare-more, spare-room, full-below, full-root, opened-beside}
 use Rattle.vm_tree_rule.proofs.Seeking.{reread-beside, reread-known, reread-locks, reread-reads}
@@ -125,6 +126,7 @@ loop-init g c =
       );
       level = whole c.in-Ok.top.stand.level;
       stands = stand-later g.K.Kind.rank (g.K.Kind.rank c.args.key.now) c.in-Ok.top.stand _ _ reads.0 k.ok.1;
+      reached = way-later _ _ _ _ _ _ _ _ reads k.way;
     }
 
 pub step-requires-clause-inner : goal.step-requires-clause-inner
@@ -171,6 +173,7 @@ loop-preserved g c =
       );
       level = level-on c.in-Ok.top.stand.level c.loop.counter c.loop.stand.level _ i.level k.level less;
       stands = stand-later g.K.Kind.rank (g.K.Kind.rank c.args.key.now) c.in-Ok-step.below _ _ reads.0 k.stands;
+      reached = way-later _ _ _ _ _ _ _ _ reads (k.way _ i.opened i.reached);
     }
 
 -- ---- ends without a page
@@ -193,8 +196,9 @@ returns-in-Err-clause-few g c =
     c.in-Err.ensures.few
 
 pub returns-in-Err-reread-clause-err : goal.returns-in-Err-reread-clause-err
-returns-in-Err-reread-clause-err g c = c.in-Err-reread.ensures.err _ (g.K.Kind.rank c.args.key.now)
+returns-in-Err-reread-clause-err g c = c.in-Err-reread.ensures.err _ (g.K.Kind.rank c.args.key.now) _ _ _
     (opened-loads _ _ _ _ _ _ _ c.in-Ok.ensures.ok.0 c.spare_in_place-left.ensures.found.loads)
+    (way-later _ _ _ _ _ _ _ _ (loads-reads _ _ _ _ _ _ c.spare_in_place-left.ensures.found.loads) c.in-Ok.ensures.way)
 
 pub returns-in-Err-reread-clause-sure : goal.returns-in-Err-reread-clause-sure
 returns-in-Err-reread-clause-sure g c tells r =
@@ -219,7 +223,7 @@ returns-in-Err-reread-clause-few g c =
     (root-below g.K.Kind.bounds.child g.K.Kind.bounds.spare g.K.Kind.layout.words c.in-Ok.top.stand.level)
 
 pub returns-in-Err-step-clause-err : goal.returns-in-Err-step-clause-err
-returns-in-Err-step-clause-err g c = c.in-Err-step.ensures.err _ c.loop.invariant.opened
+returns-in-Err-step-clause-err g c = c.in-Err-step.ensures.err _ c.loop.invariant.opened c.loop.invariant.reached
 
 pub returns-in-Err-step-clause-sure : goal.returns-in-Err-step-clause-sure
 returns-in-Err-step-clause-sure g c tells r = c.in-Err-step.ensures.sure _ tells (c.loop.invariant.known tells r)
@@ -327,10 +331,13 @@ reread-requires-then-next-growth-2-clause-counted g c =
 pub returns-in-Err-reread-2-clause-err : goal.returns-in-Err-reread-2-clause-err
 returns-in-Err-reread-2-clause-err g c =
     let k = c.in-Ok-step.ensures in
-    c.in-Err-reread-2.ensures.err _ (g.K.Kind.rank c.args.key.now)
+    let i = c.loop.invariant in
+    c.in-Err-reread-2.ensures.err _ (g.K.Kind.rank c.args.key.now) _ _ _
     (opened-beside _ _ _ _ _ _
     (beside-loads c.loop.stand.guard.pid _ _ _ _ _ _ (λ e. k.parent.0 (sym e))
-    c.spare_in_place-next.ensures.found.loads) (k.parent.1 _ c.loop.invariant.opened))
+    c.spare_in_place-next.ensures.found.loads) (k.parent.1 _ i.opened))
+    (way-later _ _ _ _ _ _ _ _
+    (reads-then _ _ _ k.reads.0 (loads-reads _ _ _ _ _ _ c.spare_in_place-next.ensures.found.loads)) i.reached)
 
 pub returns-in-Err-reread-2-clause-sure : goal.returns-in-Err-reread-2-clause-sure
 returns-in-Err-reread-2-clause-sure g c tells r =
@@ -359,9 +366,14 @@ returns-in-Err-reread-2-clause-few g c =
 pub returns-in-Err-reread-3-clause-err : goal.returns-in-Err-reread-3-clause-err
 returns-in-Err-reread-3-clause-err g c =
     let k = c.in-Ok-step.ensures in
-    c.in-Err-reread-3.ensures.err _ (g.K.Kind.rank c.args.key.now)
-    (opened-beside _ _ _ _ _ _ (reread-beside _ _ _ _ _ _ c.in_default-reread.ensures.ok c.in-Ok-step.below.guard.pid k.parent.0)
-    (opened-loads _ _ _ _ _ _ _ (opened-earlier _ _ _ _ _ _ c.loop.invariant.reads k.reads.1) c.spare_in_place-next.ensures.found.loads))
+    let i = c.loop.invariant in
+    let reread = c.in_default-reread.ensures.ok in
+    c.in-Err-reread-3.ensures.err _ (g.K.Kind.rank c.args.key.now) _ _ _
+    (opened-beside _ _ _ _ _ _ (reread-beside _ _ _ _ _ _ reread c.in-Ok-step.below.guard.pid k.parent.0)
+    (opened-loads _ _ _ _ _ _ _ (opened-earlier _ _ _ _ _ _ i.reads k.reads.1) c.spare_in_place-next.ensures.found.loads))
+    (way-later _ _ _ _ _ _ _ _
+    (reads-then _ _ _ (loads-reads _ _ _ _ _ _ c.spare_in_place-next.ensures.found.loads) (reread-reads _ _ _ _ _ _ reread))
+    (k.way _ i.opened i.reached))
 
 pub returns-in-Err-reread-3-clause-sure : goal.returns-in-Err-reread-3-clause-sure
 returns-in-Err-reread-3-clause-sure g c tells r =

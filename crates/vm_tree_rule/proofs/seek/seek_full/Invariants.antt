@@ -1,7 +1,7 @@
 use Rattle.std.proofs.Common.{◌*◌, ◌+◌, ◌-◌, ◌≡◌, ◌≤◌, length, List, true, ℕ}
 use Rattle.vm_step.specs.Prelude.{GoesOn, view}
 use Rattle.vm_tree_rule.specs.{Few.LoadsHeight, Leaves.ReadsOn, Seeks.ArePassed, Seeks.HasLoaded, Seeks.TellSpare}
-use Rattle.vm_tree_rule.specs.{Standing.IsOpened, Standing.IsStand}
+use Rattle.vm_tree_rule.specs.{Standing.IsOpened, Standing.IsStand, Ways.StandsOnWay}
 use Rattle.vm_tree_rule.specs.Resident.{IsKnownNow, KnowsLocks, KnowsResident}
 use Rattle.vm_tree_rule.proofs.seek.seek_full.Given as goal
 
@@ -24,4 +24,5 @@ invariant-loop g l = record {
   locks : KnowsLocks (view l.pass);
   level : l.stand.level ≡ l.end - l.counter;
   stands : IsStand g.K.Kind.layout g.K.Kind.rank (g.K.Kind.rank l.key) l.stand (view l.pass);
+  reached : StandsOnWay g.K.Kind.layout g.K.Kind.rank (view l.fn.pass) (g.K.Kind.rank l.key) l.stand (view l.pass);
 }

@@ -1,10 +1,10 @@
-use Rattle.std.proofs.Common.{◌++◌, arith, inl, inr, refl}
+use Rattle.std.proofs.Common.{◌++◌, ◌∙◌, arith, inl, inr, refl, sym}
 use Rattle.vm_step.specs.Prelude.{view}
 use Rattle.vm_exmap.proofs.Handing.{held-on}
 use Rattle.vm_guard.specs.Groups.{guards_of}
 use Rattle.vm_tree_rule.proofs.Whole.{tree-size}
 use Rattle.vm_tree_read.proofs.Losing.{freed-loses, loses-same, loses-then}
-use Rattle.vm_tree_split.proofs.{Ends.can-split-root, Ends.root-ended, Under.other-taken, Under.some-taken, Under.taken-two}
+use Rattle.vm_tree_split.proofs.{Ends.can-at, Ends.can-split-root, Ends.root-ended, Under.other-taken, Under.some-taken, Under.taken-two}
 use Rattle.vm_tree_split.proofs.tries.split_root.Goals as goal
 
 pub unreachable-requires : goal.unreachable-requires
@@ -34,18 +34,20 @@ write_root-requires-clause-can g c =
     (guards_of c.take_last.new.self) (guards_of c.take_last-2.new.self) c.in-Some-take_last.right c.in-Some.top
     p.taken.fresh.count c.in-Some.ensures.some c.in-Some-take_last.ensures.some).1 in
     let met = c.requires.met in
-    can-split-root g.K.Kind.plain g.K.Kind.layout g.K.Kind.is_layout g.K.Kind.spare c.args.meta c.args.root
+    let pages = c.requires.ready.table.is_shape.pages in
+    let shape = c.args.words.now.shape in
+    can-at g.K.Kind.layout g.K.Kind.spare c.in-Ok.all.up c.in-Ok.all.low c.in-Some-take_last.right c.in-Some.top
+    c.args.height c.to_grow.result (g.K.Pages.words_of c.args.page.now) (view c.prepare.new.pass)
+    (λ tells. let low = met.2.named.height (c.requires.ready.table.tells_is ∙ sym c.in-Ok.ensures.goes.ready.table.tells_is ∙ tells) in
+    c.to_grow.ensures.same (omega (arith, low, pages, shape.0, shape.2)))
+    (can-split-root g.K.Kind.plain g.K.Kind.layout g.K.Kind.is_layout g.K.Kind.spare c.args.meta c.args.root
     c.in-Ok.all.up c.in-Ok.all.low c.in-Some-take_last.right c.in-Some.top (guards_of c.in-Ok.all.pages)
     (view c.args.pass.now) (view c.prepare.new.pass) p two met.0 met.1 c.args.height
     (g.K.Pages.words_of c.args.page.now) met.2 c.requires.size
-    (tree-size _ _ _ c.requires.ready.table.is_shape.size c.args.words.now.sized.0 c.args.words.now.size.takes) c.requires.home
+    (tree-size _ _ _ c.requires.ready.table.is_shape.size c.args.words.now.sized.0 c.args.words.now.size.takes) c.requires.home)
 
 pub write_root-requires-clause-room : goal.write_root-requires-clause-room
-write_root-requires-clause-room g c =
-    let low = c.requires.met.2.named.height in
-    let pages = c.requires.ready.table.is_shape.pages in
-    let shape = c.args.words.now.shape in
-    omega (arith, low, pages, shape.0, shape.2)
+write_root-requires-clause-room g c = c.to_grow.ensures.fits
 
 pub free-requires-clause-frames : goal.free-requires-clause-frames
 free-requires-clause-frames g c =

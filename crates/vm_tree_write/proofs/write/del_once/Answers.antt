@@ -3,7 +3,7 @@ use Rattle.std.proofs.lemmas.Bool.{false≢true}
 use Rattle.std.proofs.lemmas.List.{length-replicate}
 use Rattle.vm_step.specs.Prelude.{view}
 use Rattle.vm_guard.specs.Guards.{placed}
-use Rattle.vm_tree_rule.proofs.{Downward.awaits-later, Onward.loaded-more, Surely.known-same}
+use Rattle.vm_tree_rule.proofs.{OnWay.leaf-later, Onward.loaded-more, Surely.known-same}
 use Rattle.vm_tree_rule.proofs.Readings.{loads-reads, opened-loads}
 use Rattle.vm_tree_read.proofs.Answering.{reply-told, reply-whole}
 use Rattle.vm_tree_write.proofs.Telling.{above-known-twice, above-twice, awaits-twice, known-twice, opened-twice, reads-twice}
@@ -46,7 +46,7 @@ returns-in-Err-read_leaf-clause-tried g c =
     let loads = c.find_in_place.ensures.found.loads in
     c.not_yet-in-Err-read_leaf.ensures.del _ _ _
     (c.in-Err-read_leaf.ensures.err (view c.args.pass.now) (opened-loads _ _ _ _ _ _ _ c.in-Ok.ensures.reads.1 loads)
-    (awaits-later _ _ _ _ _ _ (loads-reads _ _ _ _ _ _ loads).0 c.in-Ok.ensures.awaits))
+    (leaf-later _ _ _ _ _ _ (loads-reads _ _ _ _ _ _ loads) c.in-Ok.ensures.reached))
 
 pub missed-requires-in-None-del_edit-clause-reading : goal.missed-requires-in-None-del_edit-clause-reading
 missed-requires-in-None-del_edit-clause-reading g c = c.in_default.ensures.loads.reads
@@ -95,8 +95,8 @@ take_out-requires-clause-read g c =
       (_, r.loads.loads),
     )
 
-pub returns-clause-tried : goal.returns-clause-tried
-returns-clause-tried g c =
+pub returns-in-Some-del_edit-clause-tried : goal.returns-in-Some-del_edit-clause-tried
+returns-in-Some-del_edit-clause-tried g c =
     let loads = c.find_in_place.ensures.found.loads in
     let r = c.in_default.ensures in
     c.take_out.ensures.tried (view c.args.pass.now)
@@ -120,9 +120,9 @@ pub returns-in-Err-read_leaf-clause-sure : goal.returns-in-Err-read_leaf-clause-
 returns-in-Err-read_leaf-clause-sure g c tells resident =
     let loads = c.find_in_place.ensures.found.loads in
     let reads = (loads-reads _ _ _ _ _ _ loads).0 in
-    absurd (false≢true (c.in-Err-read_leaf.ensures.sure tells
+    absurd (false≢true (c.in-Err-read_leaf.ensures.sure _ tells
     (known-same _ _ _ _ reads loads.table (c.in-Ok.ensures.known tells resident).0)
-    (awaits-later _ _ _ _ _ _ reads c.in-Ok.ensures.awaits)))
+    (leaf-later _ _ _ _ _ _ (loads-reads _ _ _ _ _ _ loads) c.in-Ok.ensures.reached)))
 
 pub returns-in-None-del_edit-clause-sure : goal.returns-in-None-del_edit-clause-sure
 returns-in-None-del_edit-clause-sure g c tells resident =
@@ -130,8 +130,8 @@ returns-in-None-del_edit-clause-sure g c tells resident =
     (known-twice _ _ _ _ _ _ _ _ c.find_in_place.ensures.found.loads c.in_default.ensures.loads
     (c.in-Ok.ensures.known tells resident).0)
 
-pub returns-clause-sure : goal.returns-clause-sure
-returns-clause-sure g c tells resident =
+pub returns-in-Some-del_edit-clause-sure : goal.returns-in-Some-del_edit-clause-sure
+returns-in-Some-del_edit-clause-sure g c tells resident =
     let loads = c.find_in_place.ensures.found.loads in
     let known = c.in-Ok.ensures.known tells resident in
     c.take_out.ensures.sure tells (known-twice _ _ _ _ _ _ _ _ loads c.in_default.ensures.loads known.0)
@@ -152,17 +152,17 @@ pub returns-in-Err-read_leaf-clause-known : goal.returns-in-Err-read_leaf-clause
 returns-in-Err-read_leaf-clause-known g c tells resident =
     let loads = c.find_in_place.ensures.found.loads in
     let reads = (loads-reads _ _ _ _ _ _ loads).0 in
-    absurd (false≢true (c.in-Err-read_leaf.ensures.sure tells
+    absurd (false≢true (c.in-Err-read_leaf.ensures.sure _ tells
     (known-same _ _ _ _ reads loads.table (c.in-Ok.ensures.known tells resident).0)
-    (awaits-later _ _ _ _ _ _ reads c.in-Ok.ensures.awaits)))
+    (leaf-later _ _ _ _ _ _ (loads-reads _ _ _ _ _ _ loads) c.in-Ok.ensures.reached)))
 
 pub returns-in-None-del_edit-clause-known : goal.returns-in-None-del_edit-clause-known
 returns-in-None-del_edit-clause-known g c tells resident = c.missed-in-None-del_edit.ensures.known
     (known-twice _ _ _ _ _ _ _ _ c.find_in_place.ensures.found.loads c.in_default.ensures.loads
     (c.in-Ok.ensures.known tells resident).0)
 
-pub returns-clause-known : goal.returns-clause-known
-returns-clause-known g c tells resident =
+pub returns-in-Some-del_edit-clause-known : goal.returns-in-Some-del_edit-clause-known
+returns-in-Some-del_edit-clause-known g c tells resident =
     let loads = c.find_in_place.ensures.found.loads in
     let known = c.in-Ok.ensures.known tells resident in
     c.take_out.ensures.known tells (known-twice _ _ _ _ _ _ _ _ loads c.in_default.ensures.loads known.0)

@@ -5,7 +5,7 @@ use Rattle.vm_tree_model.specs.{Node.Covers, Page.node_of}
 use Rattle.vm_node.proofs.Telling.{page_first, page_then}
 use Rattle.vm_step.specs.Prelude.{view}
 use Rattle.vm_guard.specs.Guards.{placed}
-use Rattle.vm_tree_rule.proofs.{Downward.awaits-later, Onward.loaded-more, Surely.known-same}
+use Rattle.vm_tree_rule.proofs.{OnWay.leaf-later, Onward.loaded-more, Surely.known-same}
 use Rattle.vm_tree_rule.proofs.Readings.{loads-reads, opened-loads}
 use Rattle.vm_kind.specs.Room.{IsTightFor}
 use Rattle.vm_tree_write.proofs.Telling.{awaits-twice, edit-as, known-twice, opened-twice, put-done, put-edit, reads-twice, told-whole}
@@ -44,7 +44,7 @@ returns-in-Err-read_leaf-clause-tried g c =
     let loads = c.is_tight_in_place.ensures.found.loads in
     c.not_yet-in-Err-read_leaf.ensures.put _ _ _ _
     (c.in-Err-read_leaf.ensures.err (view c.args.pass.now) (opened-loads _ _ _ _ _ _ _ c.in-Ok.ensures.reads.1 loads)
-    (awaits-later _ _ _ _ _ _ (loads-reads _ _ _ _ _ _ loads).0 c.in-Ok.ensures.awaits))
+    (leaf-later _ _ _ _ _ _ (loads-reads _ _ _ _ _ _ loads) c.in-Ok.ensures.reached))
 
 pub tight-requires-in-Err-put_edit-clause-reading : goal.tight-requires-in-Err-put_edit-clause-reading
 tight-requires-in-Err-put_edit-clause-reading g c = c.in_default.ensures.loads.reads
@@ -115,9 +115,9 @@ pub returns-in-Err-read_leaf-clause-sure : goal.returns-in-Err-read_leaf-clause-
 returns-in-Err-read_leaf-clause-sure g c tells resident =
     let loads = c.is_tight_in_place.ensures.found.loads in
     let reads = (loads-reads _ _ _ _ _ _ loads).0 in
-    absurd (false≢true (c.in-Err-read_leaf.ensures.sure tells
+    absurd (false≢true (c.in-Err-read_leaf.ensures.sure _ tells
     (known-same _ _ _ _ reads loads.table (c.in-Ok.ensures.known tells resident))
-    (awaits-later _ _ _ _ _ _ reads c.in-Ok.ensures.awaits)))
+    (leaf-later _ _ _ _ _ _ (loads-reads _ _ _ _ _ _ loads) c.in-Ok.ensures.reached)))
 
 pub returns-in-Err-put_edit-clause-sure : goal.returns-in-Err-put_edit-clause-sure
 returns-in-Err-put_edit-clause-sure g c tells resident =
@@ -147,9 +147,9 @@ pub returns-in-Err-read_leaf-clause-known : goal.returns-in-Err-read_leaf-clause
 returns-in-Err-read_leaf-clause-known g c tells resident =
     let loads = c.is_tight_in_place.ensures.found.loads in
     let reads = (loads-reads _ _ _ _ _ _ loads).0 in
-    absurd (false≢true (c.in-Err-read_leaf.ensures.sure tells
+    absurd (false≢true (c.in-Err-read_leaf.ensures.sure _ tells
     (known-same _ _ _ _ reads loads.table (c.in-Ok.ensures.known tells resident))
-    (awaits-later _ _ _ _ _ _ reads c.in-Ok.ensures.awaits)))
+    (leaf-later _ _ _ _ _ _ (loads-reads _ _ _ _ _ _ loads) c.in-Ok.ensures.reached)))
 
 pub returns-in-Err-put_edit-clause-known : goal.returns-in-Err-put_edit-clause-known
 returns-in-Err-put_edit-clause-known g c tells resident =

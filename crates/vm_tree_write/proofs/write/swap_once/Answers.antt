@@ -3,7 +3,7 @@ use Rattle.std.proofs.lemmas.Bool.{false≢true}
 use Rattle.std.proofs.lemmas.List.{length-replicate}
 use Rattle.vm_step.specs.Prelude.{view}
 use Rattle.vm_guard.specs.Guards.{placed}
-use Rattle.vm_tree_rule.proofs.{Downward.awaits-later, Onward.loaded-more, Surely.known-same}
+use Rattle.vm_tree_rule.proofs.{OnWay.leaf-later, Onward.loaded-more, Surely.known-same}
 use Rattle.vm_tree_rule.proofs.Readings.{loads-reads, opened-loads}
 use Rattle.vm_tree_read.proofs.Answering.{reply-told, reply-whole}
 use Rattle.vm_tree_write.proofs.Telling.{awaits-twice, edit-as, known-twice, opened-twice, reads-twice, swap-done, swap-edit, swap-proved}
@@ -54,7 +54,7 @@ returns-in-Err-read_leaf-clause-tried g c =
     let loads = c.find_in_place-found.ensures.found.loads in
     c.not_yet-in-Err-read_leaf.ensures.swap _ c.args.want c.args.value _ _
     (c.in-Err-read_leaf.ensures.err (view c.args.pass.now) (opened-loads _ _ _ _ _ _ _ c.in-Ok.ensures.reads.1 loads)
-    (awaits-later _ _ _ _ _ _ (loads-reads _ _ _ _ _ _ loads).0 c.in-Ok.ensures.awaits))
+    (leaf-later _ _ _ _ _ _ (loads-reads _ _ _ _ _ _ loads) c.in-Ok.ensures.reached))
 
 pub kept-requires-in_default-put_edit-clause-reading : goal.kept-requires-in_default-put_edit-clause-reading
 kept-requires-in_default-put_edit-clause-reading g c = c.in_default.ensures.loads.reads
@@ -177,9 +177,9 @@ pub returns-in-Err-read_leaf-clause-sure : goal.returns-in-Err-read_leaf-clause-
 returns-in-Err-read_leaf-clause-sure g c tells resident =
     let loads = c.find_in_place-found.ensures.found.loads in
     let reads = (loads-reads _ _ _ _ _ _ loads).0 in
-    absurd (false≢true (c.in-Err-read_leaf.ensures.sure tells
+    absurd (false≢true (c.in-Err-read_leaf.ensures.sure _ tells
     (known-same _ _ _ _ reads loads.table (c.in-Ok.ensures.known tells resident))
-    (awaits-later _ _ _ _ _ _ reads c.in-Ok.ensures.awaits)))
+    (leaf-later _ _ _ _ _ _ (loads-reads _ _ _ _ _ _ loads) c.in-Ok.ensures.reached)))
 
 pub returns-in_default-put_edit-clause-sure : goal.returns-in_default-put_edit-clause-sure
 returns-in_default-put_edit-clause-sure g c tells resident = c.kept-in_default-put_edit.ensures.sure
@@ -208,9 +208,9 @@ pub returns-in-Err-read_leaf-clause-known : goal.returns-in-Err-read_leaf-clause
 returns-in-Err-read_leaf-clause-known g c tells resident =
     let loads = c.find_in_place-found.ensures.found.loads in
     let reads = (loads-reads _ _ _ _ _ _ loads).0 in
-    absurd (false≢true (c.in-Err-read_leaf.ensures.sure tells
+    absurd (false≢true (c.in-Err-read_leaf.ensures.sure _ tells
     (known-same _ _ _ _ reads loads.table (c.in-Ok.ensures.known tells resident))
-    (awaits-later _ _ _ _ _ _ reads c.in-Ok.ensures.awaits)))
+    (leaf-later _ _ _ _ _ _ (loads-reads _ _ _ _ _ _ loads) c.in-Ok.ensures.reached)))
 
 pub returns-in_default-put_edit-clause-known : goal.returns-in_default-put_edit-clause-known
 returns-in_default-put_edit-clause-known g c tells resident = c.kept-in_default-put_edit.ensures.known

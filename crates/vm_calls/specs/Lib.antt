@@ -1,0 +1,9 @@
+pub mod Calls
+pub mod Causes
+pub mod Compact
+pub mod Kept
+pub mod Prelude
+pub mod Shows
+pub mod Spans
+pub mod TreeCalls
+pub mod Workers

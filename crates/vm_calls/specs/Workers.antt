@@ -1,0 +1,31 @@
+-- A worker at work, and what it has done.
+use Rattle.std.specs.Prelude.{◌≡◌, ◌≤◌, Bool, List, None, Result, ℕ}
+use Rattle.vm_map.specs.{declared.call.Call.Call, declared.call.Reply.Reply, declared.call.Said.Said}
+use Rattle.vm_rule.specs.Prelude.{TableId}
+use Rattle.vm_step.specs.Prelude.{AreHeld, Did, IsReady, TableShape, View, view}
+use Rattle.vm_exmap.specs.Frames.{MovesFrames}
+use Rattle.vm_tree_rule.specs.declared.fault.TreeFault.{TreeFault}
+use Rattle.vm_calls.specs.{declared.worker.Worker.Worker, TreeCalls.AreTreeCalls}
+
+-- the worker's pass may step on this table, which has a page, has its block at home, and holds the interface's frames
+pub record IsAtWork {U X A : Type 0} {owner : _} (shape : TableShape) (tells : Bool) (t : TableId)
+    (worker : Worker U A X owner) : Type 0 where
+  pub ready : IsReady shape tells t worker.pass
+  pub pages : 1 ≤ shape.pages
+  pub home : (view worker.pass).out ≡ None
+  pub frames : AreHeld worker.iface.frames (view worker.pass)
+
+module _ (n : ℕ) {A : Type 0} (keeps : A → List (Result Reply TreeFault) → Type 0) where
+  -- the calls were made, one after another, and what was kept stands for their answers
+  pub record HasCalled (calls : List Call) (kept : A) (v w : View Said) : Type 0 where
+    pub told : List (Result Reply TreeFault)
+    pub stands : keeps kept told
+    pub each : AreTreeCalls n calls told v w
+
+  -- so they were, and then the pass gave frames back
+  pub record HasKept (calls : List Call) (kept : A) (v w : View Said) : Type 0 where
+    pub told : List (Result Reply TreeFault)
+    pub stands : keeps kept told
+    pub made : View Said
+    pub each : AreTreeCalls n calls told v made
+    pub back : (done : List Did) × MovesFrames done made w

@@ -1,0 +1,5 @@
+//! What tests of workers do again and again: trees on the pages of an image, pools over them, lists of calls, and what the pass knows afterwards.
+#![tactic(auto)]
+
+pub mod calls;
+pub mod trees;

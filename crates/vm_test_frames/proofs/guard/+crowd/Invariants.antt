@@ -1,5 +1,0 @@
-use Rattle.vm_test_frames.proofs.guard.+crowd.Given as goal
-
--- the shares that are still to be taken
-abbrev pub decreases-crowd : goal.decreases-crowd
-decreases-crowd g l = l.more

@@ -1,5 +1,0 @@
-use Rattle.vm_test_guards.proofs.table.+zeros.Given as goal
-
--- the blocks that are still to be made
-abbrev pub decreases-zeros : goal.decreases-zeros
-decreases-zeros g l = l.pages

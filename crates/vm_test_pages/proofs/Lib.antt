@@ -1,0 +1,4 @@
+pub mod Used
+pub mod Beginnings
+mod FirstParts
+pub mod Locking

@@ -1,0 +1,5 @@
+use Rattle.vm_test_tables.proofs.resident.+zeros.Given as goal
+
+-- the blocks that are still to be made
+abbrev pub decreases-zeros : goal.decreases-zeros
+decreases-zeros g l = l.n

@@ -1,0 +1,5 @@
+//! What tests of the tree do again and again over a pool of blocks in memory: keys put, read and taken out one after another, and looks at the pages.
+#![tactic(auto)]
+
+pub mod keys;
+pub mod pages;

@@ -1,0 +1,5 @@
+pub mod ShareSteps
+pub mod Holding
+pub mod Ranging
+pub mod RangeRounds
+pub mod Readable
