@@ -15,11 +15,13 @@ use std::sync::Wait;
 use std::thread::Threads;
 use vm_cli::ends::Ends;
 use vm_cli::run::run;
+use vm_device::MemDevices;
 use vm_drive::gate::NoGate;
 use vm_io::host::Host;
 use vm_io::loops::{read_whole, say_all};
 use vm_io::memory::MemHost;
 use vm_io::system::StdHost;
+use vm_page::WORDS;
 
 /// The empty page file, over which scripts are run.
 const EMPTY: &str = "empty.pages";
@@ -142,8 +144,19 @@ fn perform<R: Threads + Wait + Sync>(
             return Err(Unplayed);
         }
     }
+    let Ok(mut devices) = MemDevices::<WORDS>::new(alloc, Vec::new(alloc), &[], &[], &[]) else {
+        return Err(Unplayed);
+    };
     let mut ends = Ends::Nothing;
-    Ok(run(rt, alloc, words.as_slice(), host, &NoGate, &mut ends))
+    Ok(run(
+        rt,
+        alloc,
+        words.as_slice(),
+        host,
+        &NoGate,
+        &mut ends,
+        &mut devices,
+    ))
 }
 
 /// Adds a file to those of a host.

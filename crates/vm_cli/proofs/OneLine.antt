@@ -1,5 +1,5 @@
 -- Two commands of one line: they ask the same tests, and what they do ends in one way. A further command is one more line of each.
-use Rattle.std.proofs.Common.{◌≡◌, ◌≢◌, ◌∙◌, ℕ, ◌≤◌, ◌<◌, ◌^◌, leb, true, false, true≢false, List, [], ◌∷◌, get_or}
+use Rattle.std.proofs.Common.{◌≡◌, ◌≢◌, ◌∙◌, ◌⊎◌, inl, inr, ℕ, ◌≤◌, ◌<◌, ◌^◌, leb, true, false, true≢false, List, [], ◌∷◌, get_or}
 use Rattle.std.proofs.Common.{Option, Some, None, refl, sym, ap, subst, arith}
 use Rattle.std.proofs.lemmas.Bool.{and_parts, leb-true}
 use Rattle.vm_io.specs.Shown.{Shown}
@@ -11,23 +11,25 @@ use Rattle.vm_serve.proofs.Unplanned.{all_flushed}
 use Rattle.vm_replay.specs.Told.{PlayedFile}
 use Rattle.vm_replay.proofs.OnePlay.{one_played}
 use Rattle.vm_words.specs.declared.Command.{Command}
-use Rattle.vm_words.specs.declared.Command.TheVariants.{Run, Make, Check, Churn, Replay, Migrate}
+use Rattle.vm_words.specs.declared.Command.TheVariants.{Run, Make, Check, Churn, Replay, Migrate, Serve}
 use Rattle.vm_words.specs.declared.Replay.{Replay as ReplayLine}
 use Rattle.vm_words.specs.declared.Run.{Run as RunLine}
+use Rattle.vm_words.specs.declared.Serve.{Serve as ServeLine}
 use Rattle.vm_words.specs.declared.form.FormVerb.{FormVerb}
 use Rattle.vm_words.specs.Commands.{line_of, number_or, plan_or}
 use Rattle.vm_words.specs.Values.{Meaning, named, counted, planned, absent}
 use Rattle.vm_endings.specs.declared.ends.Ends.{Ends}
 use Rattle.vm_endings.specs.declared.ends.Ends.TheVariants.{LargeTree, Nothing, Tree}
-use Rattle.vm_cli.specs.Agreement.{as_done}
+use Rattle.vm_cli.specs.Agreement.{as_done, IsDoneStatus}
 use Rattle.vm_endings.specs.Commands.{Cut, IsSmooth, order_of}
 use Rattle.vm_endings.specs.Deliveries.{Content}
 use Rattle.vm_endings.specs.Endings.{Performs, cut, told}
 use Rattle.vm_endings.specs.Files.{HasFile}
 use Rattle.vm_endings.specs.Limits.{are_workers, words_or}
+use Rattle.vm_endings.specs.Outside.{Outside, Remains}
 use Rattle.vm_endings.specs.Runs.{CutRun, IsUnflushedRun, OfFiles, version_or}
 use Rattle.vm_endings.specs.Tests.{events}
-use Rattle.vm_cli.proofs.OneStop.{AreBounded, both_of}
+use Rattle.vm_cli.proofs.OneStop.{AreBounded, both_of, HoldSame, over}
 
 -- ---- what a line says
 
@@ -82,7 +84,7 @@ same_file : (replay other : ReplayLine) → line_of (Replay replay) ≡ line_of 
 same_file replay other e = let says = ap (λ (l : FormVerb × List Meaning). l.1) e in cc
 
 -- commands of two names are of two lines
-two_lines : (c d : Command) → (line_of c).0 ≢ (line_of d).0 → line_of c ≢ line_of d
+pub two_lines : (c d : Command) → (line_of c).0 ≢ (line_of d).0 → line_of c ≢ line_of d
 two_lines c d differ = λ e. differ (ap (λ (l : FormVerb × List Meaning). l.0) e)
 
 -- ---- the tests
@@ -117,19 +119,34 @@ same_order (Migrate migrate) (Migrate other) e =
     let input : migrate.input.now ≡ other.input.now = cc in
     let pages : migrate.pages ≡ other.pages = cc in
     cc (input, pages)
+same_order (Serve serve) (Serve other) e =
+    let says = ap (λ (l : FormVerb × List Meaning). l.1) e in
+    let file : serve.file.now ≡ other.file.now = cc in
+    let script : serve.script.now ≡ other.script.now = cc in
+    let workers : serve.workers ≡ other.workers = cc in
+    let frames : serve.frames ≡ other.frames = cc in
+    cc (file, script, workers, frames)
 same_order c d e = absurd (two_lines c d (λ v. absurd cc) e)
 
 few_workers : (workers : ℕ) → are_workers workers ≡ true → workers < 2 ^ 32
 few_workers workers h =
     let most : workers ≤ 64 = leb-true workers 64 (and_parts (leb 1 workers) (leb workers 64) h).1 in omega (arith, most)
 
-pub bounded : (shown : Option Shown) (c : Command) → AreBounded shown (order_of c)
-bounded shown (Run run) = (tt, λ few. (tt, λ _. (tt, λ _. (tt, λ _. (tt, λ _. (tt, λ _. (few_workers run.workers few, λ _. tt)))))))
-bounded shown (Make make) = (tt, λ _. (tt, λ _. (tt, λ _. (tt, λ _. tt))))
-bounded shown (Check check) = (tt, λ _. tt)
-bounded shown (Churn churn) = (tt, λ _. (tt, λ _. (tt, λ _. (tt, λ _. tt))))
-bounded shown (Replay replay) = (tt, λ _. tt)
-bounded shown (Migrate migrate) = (tt, λ _. (tt, λ _. (tt, λ _. tt)))
+-- what a serve has to find the same in two outsides
+abbrev pub HaveSame : Command → Outside → Outside → Type 0
+HaveSame (Serve serve) a b = HoldSame a b
+HaveSame _ a b = Unit {0}
+
+pub bounded : (shown : Shown) (a b : Outside) (c : Command) → HaveSame c a b → AreBounded shown a b (order_of c)
+bounded shown a b (Run run) same =
+    (tt, λ few. (tt, λ _. (tt, λ _. (tt, λ _. (tt, λ _. (tt, λ _. (few_workers run.workers few, λ _. tt)))))))
+bounded shown a b (Make make) same = (tt, λ _. (tt, λ _. (tt, λ _. (tt, λ _. tt))))
+bounded shown a b (Check check) same = (tt, λ _. tt)
+bounded shown a b (Churn churn) same = (tt, λ _. (tt, λ _. (tt, λ _. (tt, λ _. tt))))
+bounded shown a b (Replay replay) same = (tt, λ _. tt)
+bounded shown a b (Migrate migrate) same = (tt, λ _. (tt, λ _. (tt, λ _. tt)))
+bounded shown a b (Serve serve) same =
+    (tt, λ few. (tt, λ _. (same, λ _. (same, λ _. (few_workers serve.workers few, λ _. tt)))))
 
 -- ---- what is done
 
@@ -164,74 +181,115 @@ no_cut_run shown run content Nothing none is = is
 no_cut_run shown run content (Tree end) none is = no_cut_files 64 shown run end content none is
 no_cut_run shown run content (LargeTree end) none is = no_cut_files 512 shown run end content none is
 
--- what makes a command end otherwise is not there
-pub no_cut : (shown : Shown) (c d : Command) (content : Content) (before after : Ends) → line_of c ≡ line_of d
-    → IsSmooth d (Some shown) → Cut c (Some shown) content before after → ⊥
-no_cut shown (Run run) (Run other) content before after e smooth is =
-    no_cut_run shown run content after (same_plan run other e ∙ smooth) is.0
-no_cut shown (Make make) (Make other) content before after e smooth is = is
-no_cut shown (Check check) (Check other) content before after e smooth is = is
-no_cut shown (Churn churn) (Churn other) content before after e smooth is = is
-no_cut shown (Migrate migrate) (Migrate other) content before after e smooth is = is
-no_cut shown (Replay replay) (Replay other) content before after e smooth is =
-    played_apart shown other.file.now replay.file.now smooth.2.0 content.text (sym (same_file replay other e))
-    (smooth.0, smooth.1, smooth.2.1) is.0.0.0
-no_cut shown c d content before after e smooth is = absurd (two_lines c d (λ v. absurd cc) e)
+-- what makes a command end otherwise is not there, but that a serve may end with 7
+pub cut_done : (shown : Shown) (a : Outside) (left : Remains) (c d : Command) (content : Content) (before after : Ends)
+    → line_of c ≡ line_of d → IsSmooth d (over shown a) → Cut c (over shown a) left content before after
+    → IsDoneStatus d content.status
+cut_done shown a left (Run run) (Run other) content before after e smooth is =
+    absurd (no_cut_run shown run content after (same_plan run other e ∙ smooth) is.0)
+cut_done shown a left (Make make) (Make other) content before after e smooth is = absurd is
+cut_done shown a left (Check check) (Check other) content before after e smooth is = absurd is
+cut_done shown a left (Churn churn) (Churn other) content before after e smooth is = absurd is
+cut_done shown a left (Migrate migrate) (Migrate other) content before after e smooth is = absurd is
+cut_done shown a left (Replay replay) (Replay other) content before after e smooth is =
+    absurd (played_apart shown other.file.now replay.file.now smooth.2.0 content.text (sym (same_file replay other e))
+    (smooth.0, smooth.1, smooth.2.1) is.0.0.0)
+cut_done shown a left (Serve serve) (Serve other) content before after e smooth is = inr (inr is.1)
+cut_done shown a left c d content before after e smooth is = absurd (two_lines c d (λ v. absurd cc) e)
+
+-- what nothing stops may end with 0, or for want of memory with 6
+pub done_status : (c : Command) (status : ℕ) → (status ≡ 0) ⊎ (status ≡ 6) → IsDoneStatus c status
+done_status (Run run) status is = is
+done_status (Make make) status is = is
+done_status (Check check) status is = is
+done_status (Churn churn) status is = is
+done_status (Replay replay) status is = is
+done_status (Migrate migrate) status is = is
+done_status (Serve serve) status (inl zero) = inl zero
+done_status (Serve serve) status (inr six) = inr (inl six)
 
 -- what it ends with then is not 0
-pub cut_not_done : (shown : Option Shown) (c : Command) (content : Content) (before after : Ends)
-    → Cut c shown content before after → content.status ≢ 0
-cut_not_done shown (Run run) content before after is = λ e. omega (arith, e, is.1)
-cut_not_done shown (Make make) content before after is = absurd is
-cut_not_done shown (Check check) content before after is = absurd is
-cut_not_done shown (Churn churn) content before after is = absurd is
-cut_not_done shown (Migrate migrate) content before after is = absurd is
-cut_not_done shown (Replay replay) content before after is = λ e. omega (arith, e, is.1)
+pub cut_not_done : (outside : Outside) (left : Remains) (c : Command) (content : Content) (before after : Ends)
+    → Cut c outside left content before after → content.status ≢ 0
+cut_not_done outside left (Run run) content before after is = λ e. omega (arith, e, is.1)
+cut_not_done outside left (Make make) content before after is = absurd is
+cut_not_done outside left (Check check) content before after is = absurd is
+cut_not_done outside left (Churn churn) content before after is = absurd is
+cut_not_done outside left (Migrate migrate) content before after is = absurd is
+cut_not_done outside left (Replay replay) content before after is = λ e. omega (arith, e, is.1)
+cut_not_done outside left (Serve serve) content before after is = λ e. omega (arith, e, is.1)
 
-run_ends : (shown : Option Shown) (run : RunLine) (content : Content) (before after : Ends)
-    → Performs (Run run) shown content before after → as_done content.status ≡ 0
-run_ends shown run content before after (told t e) = ap as_done e
-run_ends shown run content before after (cut t) = ap as_done t.1
+-- nor is it that of a file that was not read
+pub cut_read : (outside : Outside) (left : Remains) (c : Command) (content : Content) (before after : Ends)
+    → Cut c outside left content before after → content.status ≢ 2
+cut_read outside left (Run run) content before after is = λ e. omega (arith, e, is.1)
+cut_read outside left (Make make) content before after is = absurd is
+cut_read outside left (Check check) content before after is = absurd is
+cut_read outside left (Churn churn) content before after is = absurd is
+cut_read outside left (Migrate migrate) content before after is = absurd is
+cut_read outside left (Replay replay) content before after is = λ e. omega (arith, e, is.1)
+cut_read outside left (Serve serve) content before after is = λ e. omega (arith, e, is.1)
+
+-- so what was done has another status
+pub done_read : (outside : Outside) (left : Remains) (c : Command) (content : Content) (before after : Ends)
+    → Performs c outside left content before after → content.status ≢ 2
+done_read outside left c content before after (told t e) = λ two. omega (arith, e, two)
+done_read outside left c content before after (cut t) = cut_read outside left c content before after t
+
+run_ends : (outside : Outside) (left : Remains) (run : RunLine) (content : Content) (before after : Ends)
+    → Performs (Run run) outside left content before after → as_done content.status ≡ 0
+run_ends outside left run content before after (told t e) = ap as_done e
+run_ends outside left run content before after (cut t) = ap as_done t.1
+
+serve_ends : (outside : Outside) (left : Remains) (serve : ServeLine) (content : Content) (before after : Ends)
+    → Performs (Serve serve) outside left content before after → as_done content.status ≡ 0
+serve_ends outside left serve content before after (told t e) = ap as_done e
+serve_ends outside left serve content before after (cut t) = ap as_done t.1
 
 -- a command that ends in no other way ends with status 0
-only_told : (shown : Option Shown) (c : Command) (content : Content) (before after : Ends)
-    → (Cut c shown content before after → ⊥) → Performs c shown content before after → content.status ≡ 0
-only_told shown c content before after never (told t e) = e
-only_told shown c content before after never (cut t) = absurd (never t)
+only_told : (outside : Outside) (left : Remains) (c : Command) (content : Content) (before after : Ends)
+    → (Cut c outside left content before after → ⊥) → Performs c outside left content before after
+    → content.status ≡ 0
+only_told outside left c content before after never (told t e) = e
+only_told outside left c content before after never (cut t) = absurd (never t)
 
 -- so two of them end with one
-both_told : (shown : Shown) (c d : Command) (content more : Content) (before after start end : Ends)
-    → (Cut c (Some shown) content before after → ⊥) → (Cut d (Some shown) more start end → ⊥)
-    → Performs c (Some shown) content before after → Performs d (Some shown) more start end
+both_told : (a b : Outside) (left last : Remains) (c d : Command) (content more : Content) (before after start end : Ends)
+    → (Cut c a left content before after → ⊥) → (Cut d b last more start end → ⊥)
+    → Performs c a left content before after → Performs d b last more start end
     → as_done content.status ≡ as_done more.status
-both_told shown c d content more before after start end never nor p q =
-    ap as_done (only_told (Some shown) c content before after never p
-    ∙ sym (only_told (Some shown) d more start end nor q))
+both_told a b left last c d content more before after start end never nor p q =
+    ap as_done (only_told a left c content before after never p ∙ sym (only_told b last d more start end nor q))
 
-replays_end : (shown : Shown) (replay other : ReplayLine) (content more : Content) (before after start end : Ends)
-    → replay.file.now ≡ other.file.now → Performs (Replay replay) (Some shown) content before after
-    → Performs (Replay other) (Some shown) more start end → content.status ≡ more.status
-replays_end shown replay other content more before after start end file (told t e) (told u f) = e ∙ sym f
-replays_end shown replay other content more before after start end file (told t e) (cut u) =
+replays_end : (shown : Shown) (a b : Outside) (left last : Remains) (replay other : ReplayLine) (content more : Content)
+    (before after start end : Ends) → replay.file.now ≡ other.file.now
+    → Performs (Replay replay) (over shown a) left content before after
+    → Performs (Replay other) (over shown b) last more start end → content.status ≡ more.status
+replays_end shown a b left last replay other content more before after start end file (told t e) (told u f) = e ∙ sym f
+replays_end shown a b left last replay other content more before after start end file (told t e) (cut u) =
     absurd (played_apart shown replay.file.now other.file.now content.text more.text file t.0.0 u.0.0.0)
-replays_end shown replay other content more before after start end file (cut t) (told u f) =
+replays_end shown a b left last replay other content more before after start end file (cut t) (told u f) =
     absurd (played_apart shown other.file.now replay.file.now more.text content.text (sym file) u.0.0 t.0.0.0)
-replays_end shown replay other content more before after start end file (cut t) (cut u) = t.1 ∙ sym u.1
+replays_end shown a b left last replay other content more before after start end file (cut t) (cut u) = t.1 ∙ sym u.1
 
--- what commands of one line do ends with one status, where the two of a run count as one
-pub one_ending : (shown : Shown) (c d : Command) (content more : Content) (before after start end : Ends)
-    → line_of c ≡ line_of d → Performs c (Some shown) content before after → Performs d (Some shown) more start end
-    → as_done content.status ≡ as_done more.status
-one_ending shown (Run run) (Run other) content more before after start end e p q =
-    run_ends (Some shown) run content before after p ∙ sym (run_ends (Some shown) other more start end q)
-one_ending shown (Make make) (Make other) content more before after start end e p q =
-    both_told shown (Make make) (Make other) content more before after start end (λ t. t) (λ t. t) p q
-one_ending shown (Check check) (Check other) content more before after start end e p q =
-    both_told shown (Check check) (Check other) content more before after start end (λ t. t) (λ t. t) p q
-one_ending shown (Churn churn) (Churn other) content more before after start end e p q =
-    both_told shown (Churn churn) (Churn other) content more before after start end (λ t. t) (λ t. t) p q
-one_ending shown (Migrate migrate) (Migrate other) content more before after start end e p q =
-    both_told shown (Migrate migrate) (Migrate other) content more before after start end (λ t. t) (λ t. t) p q
-one_ending shown (Replay replay) (Replay other) content more before after start end e p q =
-    ap as_done (replays_end shown replay other content more before after start end (same_file replay other e) p q)
-one_ending shown c d content more before after start end e p q = absurd (two_lines c d (λ v. absurd cc) e)
+-- what commands of one line do ends with one status, where the two of a run or a serve count as one
+pub one_ending : (shown : Shown) (a b : Outside) (left last : Remains) (c d : Command) (content more : Content)
+    (before after start end : Ends) → line_of c ≡ line_of d → Performs c (over shown a) left content before after
+    → Performs d (over shown b) last more start end → as_done content.status ≡ as_done more.status
+one_ending shown a b left last (Run run) (Run other) content more before after start end e p q =
+    run_ends (over shown a) left run content before after p ∙ sym (run_ends (over shown b) last other more start end q)
+one_ending shown a b left last (Serve serve) (Serve other) content more before after start end e p q =
+    serve_ends (over shown a) left serve content before after p
+    ∙ sym (serve_ends (over shown b) last other more start end q)
+one_ending shown a b left last (Make make) (Make other) content more before after start end e p q =
+    both_told (over shown a) (over shown b) left last (Make make) (Make other) content more before after start end (λ t. t) (λ t. t) p q
+one_ending shown a b left last (Check check) (Check other) content more before after start end e p q =
+    both_told (over shown a) (over shown b) left last (Check check) (Check other) content more before after start end (λ t. t) (λ t. t) p q
+one_ending shown a b left last (Churn churn) (Churn other) content more before after start end e p q =
+    both_told (over shown a) (over shown b) left last (Churn churn) (Churn other) content more before after start end (λ t. t) (λ t. t) p q
+one_ending shown a b left last (Migrate migrate) (Migrate other) content more before after start end e p q =
+    both_told (over shown a) (over shown b) left last (Migrate migrate) (Migrate other) content more before after start end (λ t. t) (λ t. t) p q
+one_ending shown a b left last (Replay replay) (Replay other) content more before after start end e p q =
+    ap as_done (replays_end shown a b left last replay other content more before after start end
+    (same_file replay other e) p q)
+one_ending shown a b left last c d content more before after start end e p q = absurd (two_lines c d (λ v. absurd cc) e)

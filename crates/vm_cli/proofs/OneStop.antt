@@ -1,87 +1,159 @@
--- Of a host that tells, a file has one list of bytes: so a test that passes fails only where the file was not read,
--- and a test that fails has one status.
-use Rattle.std.proofs.Common.{◌≡◌, ◌≢◌, ◌∙◌, ℕ, ◌<◌, ◌^◌, true≢false, List, [], ◌∷◌, Option, Some, refl, sym, ap, subst, arith}
+-- Where a host tells, a file has one list of bytes, and where devices tell, one list of pages: so a test that passes fails only where the file was
+-- not read, and a test that fails has one status.
+use Rattle.std.proofs.Common.{◌≡◌, ◌≢◌, ◌∙◌, ℕ, ◌*◌, ◌<◌, ◌^◌, true, true≢false, length, List, [], ◌∷◌, Option, Some, refl, sym, ap, subst}
+use Rattle.std.proofs.Common.{arith}
 use Rattle.std.specs.Option.{option_map_or}
 use Rattle.vm_io.specs.Shown.{Shown}
+use Rattle.vm_device.specs.Devices.{size_of}
 use Rattle.vm_script.proofs.Readings.{not_both}
 use Rattle.vm_script.proofs.EventReadings.{not_both as not_both_events}
 use Rattle.vm_endings.specs.declared.stop.Stop.{Stop}
 use Rattle.vm_endings.specs.declared.stop.Stop.TheVariants.{Shape, Unread, Length, Page, TooFew, Long, Line}
 use Rattle.vm_endings.specs.Files.{HasFile}
+use Rattle.vm_endings.specs.Held.{HasFilePages, pages_held}
+use Rattle.vm_endings.specs.Outside.{Outside, Remains, with_shown}
 use Rattle.vm_endings.specs.Stops.{status_of}
-use Rattle.vm_endings.specs.Tests.{AllPass, Fails, Passes, StopsAt, Test, depth, events, here, image, past, room, script, space, within}
+use Rattle.vm_endings.specs.Tests.{AllPass, Fails, Passes, StopsAt, Test, depth, events, here, image, past, room, script, space, stored}
+use Rattle.vm_endings.specs.Tests.{stored_depth, within}
+
+-- the same outside, where the host tells and shows this
+abbrev pub over : Shown → Outside → Outside
+over shown outside = with_shown outside (Some shown)
+
+-- devices tell, and hold the same files
+pub record HoldSame (a b : Outside) : Type 0 where
+  pub first : a.tells ≡ true
+  pub second : b.tells ≡ true
+  pub files : b.devices.files ≡ a.devices.files
+
+pub held_back : (a b : Outside) → HoldSame a b → HoldSame b a
+held_back a b same = record { first = same.second; second = same.first; files = sym same.files }
+
+some_same : {X : Type 0} (o : Option X) (x y : X) → o ≡ Some x → o ≡ Some y → x ≡ y
+some_same {X = X} o x y p q = ap (λ (v : Option X). option_map_or (λ (z : X). z) v x) (sym p ∙ q)
 
 -- what holds of a file's bytes, and what else does, hold of the same bytes
 pub both_of : (shown : Shown) (name : List ℕ) (P Q : List ℕ → Type 0) → HasFile (Some shown) name P
     → HasFile (Some shown) name Q → (bytes : List ℕ) × P bytes × Q bytes
 both_of shown name P Q p q =
-    let same : p.0 ≡ q.0 = ap (λ (o : Option (List ℕ)). option_map_or (λ (b : List ℕ). b) o []) (sym p.1 ∙ q.1) in
+    let same : p.0 ≡ q.0 = some_same (shown.files name) p.0 q.0 p.1 q.1 in
     (q.0, subst P same p.2, q.2)
 
--- the workers of a script are numbers of 32 bits
-abbrev pub IsBounded : Test → Type 0
-IsBounded (within quantity holds) = Unit {0}
-IsBounded (room words pages pairs) = Unit {0}
-IsBounded (space pages name) = Unit {0}
-IsBounded (image name) = Unit {0}
-IsBounded (depth frames name) = Unit {0}
-IsBounded (script name workers) = workers < 2 ^ 32
-IsBounded (events name) = Unit {0}
+-- so it is of a file's pages
+pub both_held : (a b : Outside) (name : List ℕ) (P Q : List (List ℕ) → Type 0) → HoldSame a b → HasFilePages a name P
+    → HasFilePages b name Q → (pages : List (List ℕ)) × P pages × Q pages
+both_held a b name P Q same p q =
+    let first : pages_held a.devices.files name ≡ Some p.0 = p.1.held same.first in
+    let second : pages_held a.devices.files name ≡ Some q.0 =
+    subst (λ files. pages_held files name ≡ Some q.0) same.files (q.1.held same.second) in
+    let are : p.0 ≡ q.0 = some_same (pages_held a.devices.files name) p.0 q.0 first second in
+    (q.0, subst P are p.2, q.2)
+
+-- the workers of a script are numbers of 32 bits; a test of pages that devices hold is of the same
+abbrev pub IsBounded : Outside → Outside → Test → Type 0
+IsBounded a b (within quantity holds) = Unit {0}
+IsBounded a b (room words pages pairs) = Unit {0}
+IsBounded a b (space pages name) = Unit {0}
+IsBounded a b (image name) = Unit {0}
+IsBounded a b (depth frames name) = Unit {0}
+IsBounded a b (stored name) = HoldSame a b
+IsBounded a b (stored_depth frames name) = HoldSame a b
+IsBounded a b (script name workers) = workers < 2 ^ 32
+IsBounded a b (events name) = Unit {0}
+
+bounded_back : (a b : Outside) (test : Test) → IsBounded a b test → IsBounded b a test
+bounded_back a b (within quantity holds) is = tt
+bounded_back a b (room words pages pairs) is = tt
+bounded_back a b (space pages name) is = tt
+bounded_back a b (image name) is = tt
+bounded_back a b (depth frames name) is = tt
+bounded_back a b (stored name) is = held_back a b is
+bounded_back a b (stored_depth frames name) is = held_back a b is
+bounded_back a b (script name workers) is = is
+bounded_back a b (events name) is = tt
 
 -- of each test that is asked
-abbrev pub AreBounded : Option Shown → List Test → Type 0
-AreBounded shown [] = Unit {0}
-AreBounded shown (test ∷ tests) = IsBounded test × (Passes shown test → AreBounded shown tests)
+abbrev pub AreBounded : Shown → Outside → Outside → List Test → Type 0
+AreBounded shown a b [] = Unit {0}
+AreBounded shown a b (test ∷ tests) = IsBounded a b test × (Passes (over shown a) test → AreBounded shown a b tests)
 
 -- ---- a test that passes fails only where the file was not read
 
-read_image : (shown : Shown) (failed name : List ℕ) (stop : Stop) → Passes (Some shown) (image name)
-    → Fails (Some shown) failed (image name) stop → status_of stop ≡ 2
-read_image shown failed name (Unread unread) p f = refl
-read_image shown failed name (Length told) p f = let b = both_of shown name _ _ p f in absurd (b.2.none b.1.file)
-read_image shown failed name (Page page why) p f = let b = both_of shown name _ _ p f in absurd (b.2.none b.1.tree)
-read_image shown failed name _ p f = absurd f
+module _ (shown : Shown) (a b : Outside) (left : Remains) where
+  read_image : (name : List ℕ) (stop : Stop) → Passes (over shown a) (image name)
+      → Fails (over shown b) left (image name) stop → status_of stop ≡ 2
+  read_image name (Unread unread) p f = refl
+  read_image name (Length told) p f = let b = both_of shown name _ _ p f in absurd (b.2.none b.1.file)
+  read_image name (Page page why) p f = let b = both_of shown name _ _ p f in absurd (b.2.none b.1.tree)
+  read_image name _ p f = absurd f
 
-read_script : (shown : Shown) (failed name : List ℕ) (workers : ℕ) (stop : Stop) → workers < 2 ^ 32
-    → Passes (Some shown) (script name workers) → Fails (Some shown) failed (script name workers) stop
-    → status_of stop ≡ 2
-read_script shown failed name workers (Unread unread) few p f = refl
-read_script shown failed name workers (Long lines) few p f =
-    let b = both_of shown name _ _ p f.1 in absurd (omega (arith, b.1.1.short, b.2))
-read_script shown failed name workers (Line lines n) few p f =
-    let b = both_of shown name _ _ p f.1 in absurd (not_both workers b.0 b.1.1.reads.orders n few b.1.1.reads.spells b.2.first)
-read_script shown failed name workers _ few p f = absurd f
+  read_script : (name : List ℕ) (workers : ℕ) (stop : Stop) → workers < 2 ^ 32
+      → Passes (over shown a) (script name workers) → Fails (over shown b) left (script name workers) stop
+      → status_of stop ≡ 2
+  read_script name workers (Unread unread) few p f = refl
+  read_script name workers (Long lines) few p f =
+      let b = both_of shown name _ _ p f.1 in absurd (omega (arith, b.1.1.short, b.2))
+  read_script name workers (Line lines n) few p f =
+      let b = both_of shown name _ _ p f.1 in absurd (not_both workers b.0 b.1.1.reads.orders n few b.1.1.reads.spells b.2.first)
+  read_script name workers _ few p f = absurd f
 
-read_events : (shown : Shown) (failed name : List ℕ) (stop : Stop) → Passes (Some shown) (events name)
-    → Fails (Some shown) failed (events name) stop → status_of stop ≡ 2
-read_events shown failed name (Unread unread) p f = refl
-read_events shown failed name (Long lines) p f = let b = both_of shown name _ _ p f.1 in absurd (omega (arith, b.1.2.short, b.2))
-read_events shown failed name (Line lines n) p f =
-    let b = both_of shown name _ _ p f.1 in absurd (not_both_events b.0 b.1.0 b.1.1 n b.1.2.spells b.2.first)
-read_events shown failed name _ p f = absurd f
+  read_events : (name : List ℕ) (stop : Stop) → Passes (over shown a) (events name)
+      → Fails (over shown b) left (events name) stop → status_of stop ≡ 2
+  read_events name (Unread unread) p f = refl
+  read_events name (Long lines) p f = let b = both_of shown name _ _ p f.1 in absurd (omega (arith, b.1.2.short, b.2))
+  read_events name (Line lines n) p f =
+      let b = both_of shown name _ _ p f.1 in absurd (not_both_events b.0 b.1.0 b.1.1 n b.1.2.spells b.2.first)
+  read_events name _ p f = absurd f
 
-unread_only : (shown : Shown) (failed : List ℕ) (test : Test) (stop : Stop) → IsBounded test
-    → Passes (Some shown) test → Fails (Some shown) failed test stop → status_of stop ≡ 2
-unread_only shown failed (within quantity holds) (Shape other) few p f = absurd (true≢false (sym p ∙ f.0))
-unread_only shown failed (within quantity holds) _ few p f = absurd f
-unread_only shown failed (room words pages pairs) (TooFew told wanted) few p f = absurd (omega (arith, p, f.0))
-unread_only shown failed (room words pages pairs) _ few p f = absurd f
-unread_only shown failed (space pages name) (TooFew told wanted) few p f =
-    let b = both_of shown name _ _ p f.1 in absurd (omega (arith, b.1, b.2.0))
-unread_only shown failed (space pages name) _ few p f = absurd f
-unread_only shown failed (image name) stop few p f = read_image shown failed name stop p f
-unread_only shown failed (depth frames name) (Shape other) few p f =
-    let b = both_of shown name _ _ p f.1 in absurd (true≢false (sym b.1 ∙ b.2))
-unread_only shown failed (depth frames name) _ few p f = absurd f
-unread_only shown failed (script name workers) stop few p f = read_script shown failed name workers stop few p f
-unread_only shown failed (events name) stop few p f = read_events shown failed name stop p f
+  read_stored : (name : List ℕ) (stop : Stop) → HoldSame a b → Passes (over shown a) (stored name)
+      → Fails (over shown b) left (stored name) stop → status_of stop ≡ 2
+  read_stored name (Unread unread) same p f = refl
+  read_stored name (Length told) same p f =
+      let first : size_of a.devices.files name ≡ Some (512 * length p.0) = p.1.size same.first in
+      let second : size_of a.devices.files name ≡ Some told =
+      subst (λ files. size_of files name ≡ Some told) same.files (f.size same.second) in
+      let are : told ≡ 512 * length p.0 = some_same (size_of a.devices.files name) told (512 * length p.0) second first in
+      absurd (f.none (length p.0, p.1.some, p.1.most, are))
+  read_stored name (Page page why) same p f =
+      let t = both_held (over shown a) (over shown b) name _ _ (record {
+        first = same.first;
+        second = same.second;
+        files = same.files;
+      }) p f in
+      absurd (t.2.none t.1)
+  read_stored name _ same p f = absurd f
 
--- tests that all pass stop nothing but where a file was not read
-pub stop_unread : (shown : Shown) (failed : List ℕ) (tests : List Test) (stop : Stop) → AreBounded (Some shown) tests
-    → AllPass (Some shown) tests → StopsAt (Some shown) failed tests stop → status_of stop ≡ 2
-stop_unread shown failed [] stop few all at = elim at [ ]
-stop_unread shown failed (test ∷ tests) stop few all (here fails) = unread_only shown failed test stop few.0 all.0 fails
-stop_unread shown failed (test ∷ tests) stop few all (past passes more) = stop_unread shown failed tests stop (few.1 passes) all.1 more
+  unread_only : (test : Test) (stop : Stop) → IsBounded a b test → Passes (over shown a) test
+      → Fails (over shown b) left test stop → status_of stop ≡ 2
+  unread_only (within quantity holds) (Shape other) few p f = absurd (true≢false (sym p ∙ f.0))
+  unread_only (within quantity holds) _ few p f = absurd f
+  unread_only (room words pages pairs) (TooFew told wanted) few p f = absurd (omega (arith, p, f.0))
+  unread_only (room words pages pairs) _ few p f = absurd f
+  unread_only (space pages name) (TooFew told wanted) few p f =
+      let b = both_of shown name _ _ p f.1 in absurd (omega (arith, b.1, b.2.0))
+  unread_only (space pages name) _ few p f = absurd f
+  unread_only (image name) stop few p f = read_image name stop p f
+  unread_only (depth frames name) (Shape other) few p f =
+      let b = both_of shown name _ _ p f.1 in absurd (true≢false (sym b.1 ∙ b.2))
+  unread_only (depth frames name) _ few p f = absurd f
+  unread_only (stored name) stop few p f = read_stored name stop few p f
+  unread_only (stored_depth frames name) (Shape other) few p f =
+      let t = both_held (over shown a) (over shown b) name _ _ (record {
+        first = few.first;
+        second = few.second;
+        files = few.files;
+      }) p f.1 in
+      absurd (true≢false (sym t.1 ∙ t.2))
+  unread_only (stored_depth frames name) _ few p f = absurd f
+  unread_only (script name workers) stop few p f = read_script name workers stop few p f
+  unread_only (events name) stop few p f = read_events name stop p f
+
+  -- tests that all pass stop nothing but where a file was not read
+  pub stop_unread : (tests : List Test) (stop : Stop) → AreBounded shown a b tests → AllPass (over shown a) tests
+      → StopsAt (over shown b) left tests stop → status_of stop ≡ 2
+  stop_unread [] stop few all at = elim at [ ]
+  stop_unread (test ∷ tests) stop few all (here fails) = unread_only test stop few.0 all.0 fails
+  stop_unread (test ∷ tests) stop few all (past passes more) = stop_unread tests stop (few.1 all.0) all.1 more
 
 -- ---- a test that fails has one status
 
@@ -91,45 +163,53 @@ status_in (room words pages pairs) = 4
 status_in (space pages name) = 4
 status_in (image name) = 4
 status_in (depth frames name) = 5
+status_in (stored name) = 4
+status_in (stored_depth frames name) = 5
 status_in (script name workers) = 5
 status_in (events name) = 5
 
-one_status : (shown : Option Shown) (failed : List ℕ) (test : Test) (stop : Stop) → Fails shown failed test stop
+one_status : (outside : Outside) (left : Remains) (test : Test) (stop : Stop) → Fails outside left test stop
     → status_of stop ≢ 2 → status_of stop ≡ status_in test
-one_status shown failed (within quantity holds) (Shape other) f read = refl
-one_status shown failed (within quantity holds) _ f read = absurd f
-one_status shown failed (room words pages pairs) (TooFew told wanted) f read = refl
-one_status shown failed (room words pages pairs) _ f read = absurd f
-one_status shown failed (space pages name) (TooFew told wanted) f read = refl
-one_status shown failed (space pages name) _ f read = absurd f
-one_status shown failed (image name) (Unread unread) f read = absurd (read refl)
-one_status shown failed (image name) (Length told) f read = refl
-one_status shown failed (image name) (Page page why) f read = refl
-one_status shown failed (image name) _ f read = absurd f
-one_status shown failed (depth frames name) (Shape other) f read = refl
-one_status shown failed (depth frames name) _ f read = absurd f
-one_status shown failed (script name workers) (Unread unread) f read = absurd (read refl)
-one_status shown failed (script name workers) (Long lines) f read = refl
-one_status shown failed (script name workers) (Line lines n) f read = refl
-one_status shown failed (script name workers) _ f read = absurd f
-one_status shown failed (events name) (Unread unread) f read = absurd (read refl)
-one_status shown failed (events name) (Long lines) f read = refl
-one_status shown failed (events name) (Line lines n) f read = refl
-one_status shown failed (events name) _ f read = absurd f
+one_status outside left (within quantity holds) (Shape other) f read = refl
+one_status outside left (within quantity holds) _ f read = absurd f
+one_status outside left (room words pages pairs) (TooFew told wanted) f read = refl
+one_status outside left (room words pages pairs) _ f read = absurd f
+one_status outside left (space pages name) (TooFew told wanted) f read = refl
+one_status outside left (space pages name) _ f read = absurd f
+one_status outside left (image name) (Unread unread) f read = absurd (read refl)
+one_status outside left (image name) (Length told) f read = refl
+one_status outside left (image name) (Page page why) f read = refl
+one_status outside left (image name) _ f read = absurd f
+one_status outside left (depth frames name) (Shape other) f read = refl
+one_status outside left (depth frames name) _ f read = absurd f
+one_status outside left (stored name) (Unread unread) f read = absurd (read refl)
+one_status outside left (stored name) (Length told) f read = refl
+one_status outside left (stored name) (Page page why) f read = refl
+one_status outside left (stored name) _ f read = absurd f
+one_status outside left (stored_depth frames name) (Shape other) f read = refl
+one_status outside left (stored_depth frames name) _ f read = absurd f
+one_status outside left (script name workers) (Unread unread) f read = absurd (read refl)
+one_status outside left (script name workers) (Long lines) f read = refl
+one_status outside left (script name workers) (Line lines n) f read = refl
+one_status outside left (script name workers) _ f read = absurd f
+one_status outside left (events name) (Unread unread) f read = absurd (read refl)
+one_status outside left (events name) (Long lines) f read = refl
+one_status outside left (events name) (Line lines n) f read = refl
+one_status outside left (events name) _ f read = absurd f
 
 -- the first test that fails is one test, where each file was read
-pub one_stop : (shown : Shown) (failed last : List ℕ) (tests : List Test) (stop other : Stop)
-    → AreBounded (Some shown) tests → StopsAt (Some shown) failed tests stop → StopsAt (Some shown) last tests other
+pub one_stop : (shown : Shown) (a b : Outside) (left last : Remains) (tests : List Test) (stop other : Stop)
+    → AreBounded shown a b tests → StopsAt (over shown a) left tests stop → StopsAt (over shown b) last tests other
     → status_of stop ≢ 2 → status_of other ≢ 2 → status_of stop ≡ status_of other
-one_stop shown failed last [] stop other few at also read put = elim at [ ]
-one_stop shown failed last (test ∷ tests) stop other few (here f) (here g) read also =
-    one_status (Some shown) failed test stop f read ∙ sym (one_status (Some shown) last test other g also)
-one_stop shown failed last (test ∷ tests) stop other few (here f) (past p more) read also =
-    absurd (read (unread_only shown failed test stop few.0 p f))
-one_stop shown failed last (test ∷ tests) stop other few (past p more) (here g) read also =
-    absurd (also (unread_only shown last test other few.0 p g))
-one_stop shown failed last (test ∷ tests) stop other few (past p more) (past q rest) read also =
-    one_stop shown failed last tests stop other (few.1 p) more rest read also
+one_stop shown a b left last [] stop other few at also read put = elim at [ ]
+one_stop shown a b left last (test ∷ tests) stop other few (here f) (here g) read also =
+    one_status (over shown a) left test stop f read ∙ sym (one_status (over shown b) last test other g also)
+one_stop shown a b left last (test ∷ tests) stop other few (here f) (past p more) read also =
+    absurd (read (unread_only shown b a left test stop (bounded_back a b test few.0) p f))
+one_stop shown a b left last (test ∷ tests) stop other few (past p more) (here g) read also =
+    absurd (also (unread_only shown a b last test other few.0 p g))
+one_stop shown a b left last (test ∷ tests) stop other few (past p more) (past q rest) read also =
+    one_stop shown a b left last tests stop other (few.1 p) more rest read also
 
 -- no stop has status 0
 pub stop_status : (stop : Stop) → status_of stop ≢ 0

@@ -2,39 +2,46 @@
 
 ghost use Rattle.std.specs.Prelude.{◌≡◌, ◌≤◌};
 ghost use Rattle.vm_endings.specs.Deliveries.{content_of};
-ghost use Rattle.vm_endings.specs.Endings.{AnswersCommand, HasReadCause};
+ghost use Rattle.vm_endings.specs.Endings.{AnswersCommand, ChangesDevices, HasUnreadCause, LeavesDevices, UnreadCause};
+ghost use Rattle.vm_endings.specs.Outside.{outside_of, remains_of};
 
 use std::alloc::Global;
 use std::sync::Wait;
 use std::thread::Threads;
+use vm_device::Devices;
 use vm_drive::gate::Gate;
 use vm_endings::delivery::Delivery;
 use vm_endings::ends::Ends;
 use vm_endings::stop::Stop;
 use vm_endings::undone::Undone;
+use vm_file_serve::serve::run_serve;
 use vm_files::check::run_check;
 use vm_files::make::run_make;
 use vm_files::migrate::run_migrate;
 use vm_files::replay::run_replay;
 use vm_io::host::Host;
+use vm_page::WORDS;
 use vm_runs::churn::run_churn;
 use vm_runs::script::run_script;
 use vm_words::Command;
 
 /// Does what the command asks for, and gives what is to go out, or why it stopped.
-pub fn give<'a, R: Threads + Wait + Sync, H: Host, G: Gate + Sync>(
+pub fn give<'a, R: Threads + Wait + Sync, H: Host, G: Gate + Sync, D: Devices<WORDS>>(
     rt: &R,
     alloc: Global,
     host: &mut H,
     command: &Command<'a>,
     gate: &G,
     ends: &mut Ends,
+    devices: &mut D,
 ) -> Result<Delivery<'a>, Undone<Stop<'a>>>
-    ensures gives { AnswersCommand content_of command.now (H.last host.new) (H.shown host.old) ends.old ends.new result }
+    ensures gives { AnswersCommand content_of command.now (outside_of (H.shown host.old) D.tells (D.state devices.old)) (remains_of (H.last host.new) (D.state devices.new)) ends.old ends.new result }
     ensures shown { H.shown host.new ≡ H.shown host.old }
     ensures puts { H.gives host.new ≡ H.gives host.old }
     ensures later { H.takes host.old ≤ H.takes host.new }
-    ensures cause { HasReadCause (H.takes host.old) (H.takes host.new) result }
+    ensures cause { HasUnreadCause (UnreadCause command.now (H.takes host.old) (H.takes host.new) (outside_of (H.shown host.old) D.tells (D.state devices.old)) (remains_of (H.last host.new) (D.state devices.new))) result }
+    ensures home { LeavesDevices (outside_of (H.shown host.old) D.tells (D.state devices.old)) (remains_of (H.last host.new) (D.state devices.new)) result }
+    ensures devices { ChangesDevices command.now (outside_of (H.shown host.old) D.tells (D.state devices.old)) (remains_of (H.last host.new) (D.state devices.new)) }
 {
     match command {
         Command::Run(run) => run_script(rt, alloc, host, run, gate, ends),
@@ -43,5 +50,6 @@ pub fn give<'a, R: Threads + Wait + Sync, H: Host, G: Gate + Sync>(
         Command::Churn(churn) => run_churn(rt, alloc, churn, gate, ends),
         Command::Replay(replay) => run_replay(alloc, host, replay),
         Command::Migrate(migrate) => run_migrate(alloc, host, migrate),
+        Command::Serve(serve) => run_serve(rt, alloc, host, serve, gate, ends, devices),
     }
 }

@@ -37,8 +37,8 @@ pub trait Devices<const N: usize> {
     fn faults(&self) -> u64
         ensures { result ≡ (Self.state self.now).count };
 
-    /// Where devices tell, so do their blocks.
-    ghost told: { Self.tells ≡ true → Self.B.tells ≡ true };
+    /// Devices tell their files exactly where their blocks tell their words.
+    ghost told: { Self.B.tells ≡ Self.tells };
 
     /// A file has as many pages as are whole in its bytes.
     ghost whole: { (d : Self) → Self.tells ≡ true → All (λ file. length file.pages ≡ file.size / (8 * N)) (Self.state d).files };

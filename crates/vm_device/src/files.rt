@@ -58,6 +58,7 @@ impl<R: Files<File = File> + Drop, const N: usize> FileDevices<R, N> {
 }
 
 impl<R: Files<File = File> + Drop, const N: usize> Devices<N> for FileDevices<R, N> {
+    ghost use Rattle.std.proofs.Common.{refl};
     ghost use Rattle.std.specs.Prelude.{false, []};
     ghost use Rattle.vm_device.specs.Held.{state_with};
 
@@ -95,7 +96,7 @@ impl<R: Files<File = File> + Drop, const N: usize> Devices<N> for FileDevices<R,
         self.ledger.faults
     }
 
-    ghost told = { λ e. cc };
+    ghost told = { refl };
 
     ghost whole = { λ devices e. cc };
 }

@@ -6,7 +6,7 @@ use Rattle.vm_io.specs.Loops.{SaidSome}
 use Rattle.vm_io.specs.Shown.{SaidFront, say_more, Shown}
 use Rattle.vm_words.specs.declared.Command.{Command}
 use Rattle.vm_endings.specs.{Commands.order_of, declared.ends.Ends.Ends, declared.stop.Stop.Stop, Stops.status_of}
-use Rattle.vm_endings.specs.{Stops.stop_line, Tests.StopsAt}
+use Rattle.vm_endings.specs.{Outside.KeepsFiles, Outside.Outside, Outside.Remains, Stops.stop_line, Tests.StopsAt}
 use Rattle.vm_endings.specs.Deliveries.{Content, IsDelivered, line, SaidAll, text_cut, unwritten, whole, WroteAll}
 use Rattle.vm_endings.specs.Endings.{CommandEnds, stopped, unable}
 
@@ -33,9 +33,9 @@ behind-file content old written new status wrote (text_cut between same some sai
     text_cut written wrote some (subst (λ (m : Option Shown). SaidSome m new content.text) same said) is
 
 -- a stop that was told, or that there was no memory to tell
-pub refused : (asked : Command) (failed : List ℕ) (old new : Option Shown) (before after : Ends) (stop : Stop)
-    (status : ℕ) → StopsAt old failed (order_of asked) stop → after ≡ before
-    → IsDelivered (line (stop_line stop) (status_of stop)) old new status ⊎ ((new ≡ old) × (status ≡ 6))
-    → CommandEnds asked failed old new before after status
-refused asked failed old new before after stop status at same (inl out) = stopped stop at same out
-refused asked failed old new before after stop status at same (inr none) = unable none.0 same none.1
+pub refused : (asked : Command) (outside : Outside) (left : Remains) (new : Option Shown) (before after : Ends) (stop : Stop)
+    (status : ℕ) → StopsAt outside left (order_of asked) stop → after ≡ before → KeepsFiles outside left
+    → IsDelivered (line (stop_line stop) (status_of stop)) outside.shown new status
+    ⊎ ((new ≡ outside.shown) × (status ≡ 6)) → CommandEnds asked outside left new before after status
+refused asked outside left new before after stop status at same kept (inl out) = stopped stop at same kept out
+refused asked outside left new before after stop status at same kept (inr none) = unable none.0 same none.1

@@ -44,9 +44,13 @@ pub record IsWrongLength (bytes : List ℕ) (told : ℕ) : Type 0 where
 abbrev pub file_map : List ℕ → Pairs
 file_map bytes = map_of (layout_of_file bytes) (pages_of_file bytes)
 
--- the level of its root
+-- the level of the root, of pages that are a tree
+abbrev pub root_level : List (List ℕ) → ℕ
+root_level pages = slice_index (page_at pages 0) 2
+
+-- the level of a page file's root
 abbrev pub file_height : List ℕ → ℕ
-file_height bytes = slice_index (page_at (pages_of_file bytes) 0) 2
+file_height bytes = root_level (pages_of_file bytes)
 
 -- how many of its pages are not all zero
 abbrev pub file_used : List ℕ → ℕ

@@ -1,4 +1,6 @@
 pub mod Files
+pub mod Outside
+pub mod Held
 pub mod Images
 pub mod Scripts
 pub mod Limits
@@ -9,6 +11,7 @@ pub mod Replies
 pub mod Ends
 pub mod Made
 pub mod Runs
+pub mod Serves
 pub mod Makes
 pub mod Migrates
 pub mod Checks

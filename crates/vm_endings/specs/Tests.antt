@@ -1,14 +1,16 @@
 -- What a command asks before it does anything, in the order in which it asks: the first test that fails stops it.
 use Rattle.std.specs.List.{AllByRecursion}
-use Rattle.std.specs.Prelude.{◌<◌, ◌∷◌, ◌≡◌, ◌≤◌, Bool, false, length, List, Option, true, ℕ}
-use Rattle.vm_io.specs.Shown.{Shown}
+use Rattle.std.specs.Prelude.{◌<◌, ◌∷◌, ◌≡◌, ◌≤◌, Bool, false, length, List, true, ℕ}
+use Rattle.vm_device.specs.Whole.{RoseOrLast}
 use Rattle.vm_build.specs.Build.{needed}
 use Rattle.vm_endings.specs.{declared.stop.Lines.TheVariants.Events, declared.stop.Lines.TheVariants.Script}
 use Rattle.vm_endings.specs.{declared.stop.Quantity.Quantity}
 use Rattle.vm_endings.specs.declared.stop.Quantity.TheVariants.{Frames}
 use Rattle.vm_endings.specs.{declared.stop.Stop.Stop, Files.HasFile, Limits.holds_call}
 use Rattle.vm_endings.specs.declared.stop.Stop.TheVariants.{Length, Line, Long, Page, Shape, TooFew, Unread}
-use Rattle.vm_endings.specs.Images.{file_height, file_map, HoldsNoTree, IsTreeFile, IsWrongLength}
+use Rattle.vm_endings.specs.Held.{AreNoTree, HasFilePages, IsNoServedLength, IsServedTree}
+use Rattle.vm_endings.specs.Images.{file_height, file_map, HoldsNoTree, IsTreeFile, IsWrongLength, root_level}
+use Rattle.vm_endings.specs.Outside.{Outside, Remains}
 use Rattle.vm_endings.specs.Scripts.{AreBadEvents, AreGoodEvents, IsBadScript, IsGoodScript, IsLong}
 
 pub data Test : Type 0 where
@@ -22,56 +24,73 @@ pub data Test : Type 0 where
   space : ℕ → List ℕ → Test
   -- so many frames hold the pages of one call on the tree in the file with this name
   depth : ℕ → List ℕ → Test
+  -- the pages that devices hold of the file with this name are 2 to 256, and a tree
+  stored : List ℕ → Test
+  -- so many frames hold the pages of one call on that tree
+  stored_depth : ℕ → List ℕ → Test
   -- the file with this name is a script of so many workers
   script : List ℕ → ℕ → Test
   -- the file with this name is an event list
   events : List ℕ → Test
 
-abbrev pub Passes : Option Shown → Test → Type 0
-Passes shown (within quantity holds) = holds ≡ true
-Passes shown (room words pages pairs) = needed words pairs ≤ pages
-Passes shown (image name) = HasFile shown name IsTreeFile
-Passes shown (space pages name) = HasFile shown name (λ bytes. needed 512 (length (file_map bytes)) ≤ pages)
-Passes shown (depth frames name) = HasFile shown name (λ bytes. holds_call (file_height bytes) frames ≡ true)
-Passes shown (script name workers) = HasFile shown name (IsGoodScript workers)
-Passes shown (events name) = HasFile shown name AreGoodEvents
+abbrev pub Passes : Outside → Test → Type 0
+Passes outside (within quantity holds) = holds ≡ true
+Passes outside (room words pages pairs) = needed words pairs ≤ pages
+Passes outside (image name) = HasFile outside.shown name IsTreeFile
+Passes outside (space pages name) = HasFile outside.shown name (λ bytes. needed 512 (length (file_map bytes)) ≤ pages)
+Passes outside (depth frames name) = HasFile outside.shown name (λ bytes. holds_call (file_height bytes) frames ≡ true)
+Passes outside (stored name) = HasFilePages outside name IsServedTree
+Passes outside (stored_depth frames name) = HasFilePages outside name (λ pages. holds_call (root_level pages) frames ≡ true)
+Passes outside (script name workers) = HasFile outside.shown name (IsGoodScript workers)
+Passes outside (events name) = HasFile outside.shown name AreGoodEvents
 
 -- a file was not read: it is the one that the host could not read last
-abbrev pub IsUnread : (failed name unread : List ℕ) → Type 0
-IsUnread failed name unread = (unread ≡ name) × (failed ≡ name)
+abbrev pub IsUnread : Remains → (name unread : List ℕ) → Type 0
+IsUnread left name unread = (unread ≡ name) × (left.unread ≡ name)
 
--- why a test fails; `failed` is the name of the file that the host could not read last
-abbrev pub Fails : Option Shown → List ℕ → Test → Stop → Type 0
-Fails shown failed (within quantity holds) (Shape other) = (holds ≡ false) × (other ≡ quantity)
-Fails shown failed (within quantity holds) _ = ⊥
-Fails shown failed (room words pages pairs) (TooFew told wanted) =
+-- a page file of devices was not read: their count of faults rose since, or stands at its last value
+abbrev pub IsUnservable : Outside → Remains → (name unread : List ℕ) → Type 0
+IsUnservable outside left name unread = (unread ≡ name) × RoseOrLast outside.devices.count left.devices.count
+
+-- why a test fails; `left` is what remains outside then
+abbrev pub Fails : Outside → Remains → Test → Stop → Type 0
+Fails outside left (within quantity holds) (Shape other) = (holds ≡ false) × (other ≡ quantity)
+Fails outside left (within quantity holds) _ = ⊥
+Fails outside left (room words pages pairs) (TooFew told wanted) =
     (pages < needed words pairs) × (told ≡ pages) × (wanted ≡ needed words pairs)
-Fails shown failed (room words pages pairs) _ = ⊥
-Fails shown failed (image name) (Unread unread) = IsUnread failed name unread.now
-Fails shown failed (image name) (Length told) = HasFile shown name (λ bytes. IsWrongLength bytes told)
-Fails shown failed (image name) (Page page why) = HasFile shown name (λ bytes. HoldsNoTree bytes page why)
-Fails shown failed (image name) _ = ⊥
-Fails shown failed (space pages name) (TooFew told wanted) =
-    (told ≡ pages) × HasFile shown name
+Fails outside left (room words pages pairs) _ = ⊥
+Fails outside left (image name) (Unread unread) = IsUnread left name unread.now
+Fails outside left (image name) (Length told) = HasFile outside.shown name (λ bytes. IsWrongLength bytes told)
+Fails outside left (image name) (Page page why) = HasFile outside.shown name (λ bytes. HoldsNoTree bytes page why)
+Fails outside left (image name) _ = ⊥
+Fails outside left (space pages name) (TooFew told wanted) =
+    (told ≡ pages) × HasFile outside.shown name
     (λ bytes. (pages < needed 512 (length (file_map bytes))) × (wanted ≡ needed 512 (length (file_map bytes))))
-Fails shown failed (space pages name) _ = ⊥
-Fails shown failed (depth frames name) (Shape other) =
-    (other ≡ Frames) × HasFile shown name (λ bytes. holds_call (file_height bytes) frames ≡ false)
-Fails shown failed (depth frames name) _ = ⊥
-Fails shown failed (script name workers) (Unread unread) = IsUnread failed name unread.now
-Fails shown failed (script name workers) (Long lines) = (lines ≡ Script) × HasFile shown name IsLong
-Fails shown failed (script name workers) (Line lines n) = (lines ≡ Script) × HasFile shown name (IsBadScript workers n)
-Fails shown failed (script name workers) _ = ⊥
-Fails shown failed (events name) (Unread unread) = IsUnread failed name unread.now
-Fails shown failed (events name) (Long lines) = (lines ≡ Events) × HasFile shown name IsLong
-Fails shown failed (events name) (Line lines n) = (lines ≡ Events) × HasFile shown name (AreBadEvents n)
-Fails shown failed (events name) _ = ⊥
+Fails outside left (space pages name) _ = ⊥
+Fails outside left (depth frames name) (Shape other) =
+    (other ≡ Frames) × HasFile outside.shown name (λ bytes. holds_call (file_height bytes) frames ≡ false)
+Fails outside left (depth frames name) _ = ⊥
+Fails outside left (stored name) (Unread unread) = IsUnservable outside left name unread.now
+Fails outside left (stored name) (Length told) = IsNoServedLength outside left name told
+Fails outside left (stored name) (Page page why) = HasFilePages outside name (λ pages. AreNoTree pages page why)
+Fails outside left (stored name) _ = ⊥
+Fails outside left (stored_depth frames name) (Shape other) =
+    (other ≡ Frames) × HasFilePages outside name (λ pages. holds_call (root_level pages) frames ≡ false)
+Fails outside left (stored_depth frames name) _ = ⊥
+Fails outside left (script name workers) (Unread unread) = IsUnread left name unread.now
+Fails outside left (script name workers) (Long lines) = (lines ≡ Script) × HasFile outside.shown name IsLong
+Fails outside left (script name workers) (Line lines n) = (lines ≡ Script) × HasFile outside.shown name (IsBadScript workers n)
+Fails outside left (script name workers) _ = ⊥
+Fails outside left (events name) (Unread unread) = IsUnread left name unread.now
+Fails outside left (events name) (Long lines) = (lines ≡ Events) × HasFile outside.shown name IsLong
+Fails outside left (events name) (Line lines n) = (lines ≡ Events) × HasFile outside.shown name (AreBadEvents n)
+Fails outside left (events name) _ = ⊥
 
-abbrev pub AllPass : Option Shown → List Test → Type 0
-AllPass shown tests = AllByRecursion (Passes shown) tests
+abbrev pub AllPass : Outside → List Test → Type 0
+AllPass outside tests = AllByRecursion (Passes outside) tests
 
 -- the first of the tests that fails, and why
-pub data StopsAt (shown : Option Shown) (failed : List ℕ) : List Test → Stop → Type 0 where
-  here : {test : Test} {tests : List Test} {stop : Stop} → Fails shown failed test stop → StopsAt shown failed (test ∷ tests) stop
-  past : {test : Test} {tests : List Test} {stop : Stop} → Passes shown test → StopsAt shown failed tests stop
-      → StopsAt shown failed (test ∷ tests) stop
+pub data StopsAt (outside : Outside) (left : Remains) : List Test → Stop → Type 0 where
+  here : {test : Test} {tests : List Test} {stop : Stop} → Fails outside left test stop → StopsAt outside left (test ∷ tests) stop
+  past : {test : Test} {tests : List Test} {stop : Stop} → Passes outside test → StopsAt outside left tests stop
+      → StopsAt outside left (test ∷ tests) stop

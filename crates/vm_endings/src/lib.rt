@@ -7,5 +7,6 @@ pub mod ends;
 pub mod limits;
 pub mod replies;
 pub mod stop;
+pub mod texts;
 pub mod undone;
 pub mod writing;

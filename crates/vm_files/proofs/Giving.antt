@@ -25,6 +25,7 @@ use Rattle.vm_endings.specs.Files.{HasFile}
 use Rattle.vm_endings.specs.Images.{IsTreeFile, file_height, file_map}
 use Rattle.vm_endings.specs.Limits.{are_pages}
 use Rattle.vm_endings.specs.Migrates.{IsMigrated}
+use Rattle.vm_endings.specs.Outside.{Outside, Remains}
 use Rattle.vm_reading.specs.Readings.{IsStoredTree, ReadsTree, rows_in}
 use Rattle.vm_files.specs.Building.{TellsMigrated}
 use Rattle.vm_reading.proofs.Found.{HasRows, rows-file, rows-pass, tree-rows}
@@ -47,21 +48,21 @@ checked-bytes rows text bytes is has = record {
       ∙ ap (λ n. check_text (file_map bytes) (file_height bytes) n) has.are.used;
 }
 
-pub check-gives : (shown : Option Shown) (failed : List ℕ) (check : Check) (tree : StoredTree) (rows : Rows)
-    (delivery : Delivery) (text : List ℕ) → HasFile shown check.file.now (IsStoredTree tree) → rows ≡ rows_in tree
+pub check-gives : (outside : Outside) (left : Remains) (check : Check) (tree : StoredTree) (rows : Rows)
+    (delivery : Delivery) (text : List ℕ) → HasFile outside.shown check.file.now (IsStoredTree tree) → rows ≡ rows_in tree
     → text ≡ check_text rows.pairs.items rows.height rows.used → content_of delivery ≡ line text 0 → (same : Ends)
-    → AnswersCommand content_of (commands.Check check) failed shown same same (Ok delivery)
-check-gives shown failed check tree rows delivery text read are is content same =
-    let has : HasFile shown check.file.now (HasRows rows) =
-    subst (λ (r : Rows). HasFile shown check.file.now (HasRows r)) (sym are)
-    (of-tree shown check.file.now tree read) in (
-      (rows-pass shown check.file.now rows has, tt),
+    → AnswersCommand content_of (commands.Check check) outside left same same (Ok delivery)
+check-gives outside left check tree rows delivery text read are is content same =
+    let has : HasFile outside.shown check.file.now (HasRows rows) =
+    subst (λ (r : Rows). HasFile outside.shown check.file.now (HasRows r)) (sym are)
+    (of-tree outside.shown check.file.now tree read) in (
+      (rows-pass outside check.file.now rows has, tt),
       subst
-          (λ (c : Content). Performs (commands.Check check) shown c same same)
+          (λ (c : Content). Performs (commands.Check check) outside left c same same)
           (sym content)
           (told (
             (
-              has_file shown check.file.now (HasRows rows) (IsChecked text)
+              has_file outside.shown check.file.now (HasRows rows) (IsChecked text)
                   (λ bytes h. checked-bytes rows text bytes is h) has,
               refl,
             ),
@@ -69,24 +70,24 @@ check-gives shown failed check tree rows delivery text read are is content same 
           ) refl),
     )
 
-pub check-stops : (shown : Option Shown) (failed : List ℕ) (check : Check) (undone : Undone Stop)
-    → ReadsTree shown failed check.file.now (Err undone) → (same : Ends)
-    → AnswersCommand content_of (commands.Check check) failed shown same same (Err undone)
-check-stops shown failed check Memory reads same = refl
-check-stops shown failed check (Stopped stop) reads same = (here reads, refl)
+pub check-stops : (outside : Outside) (left : Remains) (check : Check) (undone : Undone Stop)
+    → ReadsTree outside left check.file.now (Err undone) → (same : Ends)
+    → AnswersCommand content_of (commands.Check check) outside left same same (Err undone)
+check-stops outside left check Memory reads same = refl
+check-stops outside left check (Stopped stop) reads same = (here reads, refl)
 
 -- ---- a migrate
 
-pub pages-stop : (migrate : Migrate) → are_pages 512 migrate.pages ≡ false → (shown : Option Shown) (failed : List ℕ)
-    (same : Ends) → AnswersCommand content_of (commands.Migrate migrate) failed shown same same
+pub pages-stop : (migrate : Migrate) → are_pages 512 migrate.pages ≡ false → (outside : Outside) (left : Remains)
+    (same : Ends) → AnswersCommand content_of (commands.Migrate migrate) outside left same same
     (Err (Stopped (Shape Pages)))
-pages-stop migrate bad shown failed same = (here (bad, refl), refl)
+pages-stop migrate bad outside left same = (here (bad, refl), refl)
 
-pub unread-stops : (migrate : Migrate) → are_pages 512 migrate.pages ≡ true → (shown : Option Shown) (failed : List ℕ)
-    (undone : Undone Stop) → ReadsTree shown failed migrate.input.now (Err undone) → (same : Ends)
-    → AnswersCommand content_of (commands.Migrate migrate) failed shown same same (Err undone)
-unread-stops migrate good shown failed Memory reads same = refl
-unread-stops migrate good shown failed (Stopped stop) reads same = (past good (here reads), refl)
+pub unread-stops : (migrate : Migrate) → are_pages 512 migrate.pages ≡ true → (outside : Outside) (left : Remains)
+    (undone : Undone Stop) → ReadsTree outside left migrate.input.now (Err undone) → (same : Ends)
+    → AnswersCommand content_of (commands.Migrate migrate) outside left same same (Err undone)
+unread-stops migrate good outside left Memory reads same = refl
+unread-stops migrate good outside left (Stopped stop) reads same = (past good (here reads), refl)
 
 -- what holds of the pairs that were read holds of the file's map
 of-pairs : (shown : Option Shown) (name : List ℕ) (rows : Rows) (P : List (ℕ × ℕ) → Type 0)
@@ -102,30 +103,30 @@ map-holds shown name rows P has p = has_file shown name (λ bytes. IsTreeFile by
 
 -- what building the page file of the pairs tells is what the command does, or why it stops
 pub migrate-answers : (migrate : Migrate) (tree : StoredTree) (rows : Rows) (r : Result Delivery (Undone Stop))
-    → are_pages 512 migrate.pages ≡ true → (shown : Option Shown) (failed : List ℕ)
-    → HasFile shown migrate.input.now (IsStoredTree tree) → rows ≡ rows_in tree
+    → are_pages 512 migrate.pages ≡ true → (outside : Outside) (left : Remains)
+    → HasFile outside.shown migrate.input.now (IsStoredTree tree) → rows ≡ rows_in tree
     → TellsMigrated migrate rows.pairs.items r → (same : Ends)
-    → AnswersCommand content_of (commands.Migrate migrate) failed shown same same r
-migrate-answers migrate tree rows r good shown failed read are tells same = go r tells
+    → AnswersCommand content_of (commands.Migrate migrate) outside left same same r
+migrate-answers migrate tree rows r good outside left read are tells same = go r tells
   where
-    has : HasFile shown migrate.input.now (HasRows rows)
-    has = subst (λ (r : Rows). HasFile shown migrate.input.now (HasRows r)) (sym are) (of-tree shown migrate.input.now tree read)
+    has : HasFile outside.shown migrate.input.now (HasRows rows)
+    has = subst (λ (r : Rows). HasFile outside.shown migrate.input.now (HasRows r)) (sym are) (of-tree outside.shown migrate.input.now tree read)
 
-    passes : Passes shown (image migrate.input.now)
-    passes = rows-pass shown migrate.input.now rows has
+    passes : Passes outside (image migrate.input.now)
+    passes = rows-pass outside migrate.input.now rows has
 
     go : (r : Result Delivery (Undone Stop)) → TellsMigrated migrate rows.pairs.items r
-        → AnswersCommand content_of (commands.Migrate migrate) failed shown same same r
+        → AnswersCommand content_of (commands.Migrate migrate) outside left same same r
     go (Ok delivery) t = (
-      (good, (passes, (map-holds shown migrate.input.now rows (λ pairs. needed 512 (length pairs) ≤ migrate.pages) has t.0, tt))),
-      told (of-pairs shown migrate.input.now rows (IsMigrated migrate (content_of delivery)) has t.1, refl) t.2,
+      (good, (passes, (map-holds outside.shown migrate.input.now rows (λ pairs. needed 512 (length pairs) ≤ migrate.pages) has t.0, tt))),
+      told (of-pairs outside.shown migrate.input.now rows (IsMigrated migrate (content_of delivery)) has t.1, refl) t.2,
     )
     go (Err Memory) t = refl
     go (Err (Stopped (TooFew there wanted))) t = (
       past good (past passes
           (here (
             t.0,
-            map-holds shown migrate.input.now rows
+            map-holds outside.shown migrate.input.now rows
                 (λ pairs. (migrate.pages < needed 512 (length pairs)) × (wanted ≡ needed 512 (length pairs))) has
                 (t.1, t.2),
           ))),
@@ -146,35 +147,35 @@ migrate-cause migrate pairs before now (Err (Stopped _)) t = absurd t
 played-file : (text bytes : List ℕ) (is_legal : Bool) → PlayedFile bytes text is_legal → AreGoodEvents bytes
 played-file text bytes is_legal p = (p.shape, p.lines, record { short = p.short; spells = p.spells })
 
-replay-does : (shown : Option Shown) (replay : Replay) (text : List ℕ) (is_legal : Bool) (status : ℕ)
-    → HasFile shown replay.file.now (λ bytes. PlayedFile bytes text is_legal) → ((is_legal ≡ true) × (status ≡ 0))
-    ⊎ ((is_legal ≡ false) × (status ≡ 5)) → (same : Ends) → Performs (commands.Replay replay) shown (line text status)
+replay-does : (outside : Outside) (left : Remains) (replay : Replay) (text : List ℕ) (is_legal : Bool) (status : ℕ)
+    → HasFile outside.shown replay.file.now (λ bytes. PlayedFile bytes text is_legal) → ((is_legal ≡ true) × (status ≡ 0))
+    ⊎ ((is_legal ≡ false) × (status ≡ 5)) → (same : Ends) → Performs (commands.Replay replay) outside left (line text status)
     same same
-replay-does shown replay text is_legal status has (inl is) same =
+replay-does outside left replay text is_legal status has (inl is) same =
     told (
-      (subst (λ (b : Bool). HasFile shown replay.file.now (λ bytes. PlayedFile bytes text b)) is.0 has, refl),
+      (subst (λ (b : Bool). HasFile outside.shown replay.file.now (λ bytes. PlayedFile bytes text b)) is.0 has, refl),
       refl,
     ) is.1
-replay-does shown replay text is_legal status has (inr is) same =
+replay-does outside left replay text is_legal status has (inr is) same =
     cut (
       (
-        (subst (λ (b : Bool). HasFile shown replay.file.now (λ bytes. PlayedFile bytes text b)) is.0 has, refl),
+        (subst (λ (b : Bool). HasFile outside.shown replay.file.now (λ bytes. PlayedFile bytes text b)) is.0 has, refl),
         refl,
       ),
       is.1,
     )
 
-pub replay-gives : (shown : Option Shown) (failed : List ℕ) (replay : Replay) (text : List ℕ) (is_legal : Bool)
-    (status : ℕ) (delivery : Delivery) → HasFile shown replay.file.now (λ bytes. PlayedFile bytes text is_legal)
+pub replay-gives : (outside : Outside) (left : Remains) (replay : Replay) (text : List ℕ) (is_legal : Bool)
+    (status : ℕ) (delivery : Delivery) → HasFile outside.shown replay.file.now (λ bytes. PlayedFile bytes text is_legal)
     → ((is_legal ≡ true) × (status ≡ 0)) ⊎ ((is_legal ≡ false) × (status ≡ 5))
     → content_of delivery ≡ line text status → (same : Ends) → AnswersCommand content_of (commands.Replay replay)
-    failed shown same same (Ok delivery)
-replay-gives shown failed replay text is_legal status delivery has is content same = (
+    outside left same same (Ok delivery)
+replay-gives outside left replay text is_legal status delivery has is content same = (
   (
-    has_file shown replay.file.now (λ bytes. PlayedFile bytes text is_legal) AreGoodEvents
+    has_file outside.shown replay.file.now (λ bytes. PlayedFile bytes text is_legal) AreGoodEvents
         (λ bytes p. played-file text bytes is_legal p) has,
     tt,
   ),
-  subst (λ (c : Content). Performs (commands.Replay replay) shown c same same) (sym content)
-      (replay-does shown replay text is_legal status has is same),
+  subst (λ (c : Content). Performs (commands.Replay replay) outside left c same same) (sym content)
+      (replay-does outside left replay text is_legal status has is same),
 )

@@ -1,6 +1,5 @@
 -- What the tests of a make ask for.
-use Rattle.std.proofs.Common.{◌≢◌, ℕ, Bool, List, [], Option, None, arith}
-use Rattle.vm_io.specs.Shown.{Shown}
+use Rattle.std.proofs.Common.{◌≢◌, ℕ, Bool, arith}
 use Rattle.vm_words.specs.declared.Command.TheVariants as commands
 use Rattle.vm_words.specs.declared.Make.{Make}
 use Rattle.vm_endings.specs.declared.stop.Quantity.{Quantity}
@@ -8,24 +7,26 @@ use Rattle.vm_endings.specs.declared.stop.Stop.{Stop}
 use Rattle.vm_endings.specs.declared.stop.Stop.TheVariants.{Shape, TooFew}
 use Rattle.vm_endings.specs.Commands.{order_of}
 use Rattle.vm_endings.specs.Limits.{words_or}
+use Rattle.vm_endings.specs.Outside.{nothing_left, nowhere, Outside, Remains}
 use Rattle.vm_endings.specs.Stops.{status_of}
 use Rattle.vm_endings.specs.Tests.{Fails, StopsAt, here, past, room, within}
 
 -- no test of a make is of a file, so none fails because a file was not read
-number_status : (shown : Option Shown) (failed : List ℕ) (quantity : Quantity) (holds : Bool) (stop : Stop)
-    → Fails shown failed (within quantity holds) stop → status_of stop ≢ 2
-number_status shown failed quantity holds (Shape other) f = λ two. absurd (omega (arith, two))
-number_status shown failed quantity holds _ f = absurd f
+number_status : (outside : Outside) (left : Remains) (quantity : Quantity) (holds : Bool) (stop : Stop)
+    → Fails outside left (within quantity holds) stop → status_of stop ≢ 2
+number_status outside left quantity holds (Shape other) f = λ two. absurd (omega (arith, two))
+number_status outside left quantity holds _ f = absurd f
 
-room_status : (shown : Option Shown) (failed : List ℕ) (words pages pairs : ℕ) (stop : Stop)
-    → Fails shown failed (room words pages pairs) stop → status_of stop ≢ 2
-room_status shown failed words pages pairs (TooFew there wanted) f = λ two. absurd (omega (arith, two))
-room_status shown failed words pages pairs _ f = absurd f
+room_status : (outside : Outside) (left : Remains) (words pages pairs : ℕ) (stop : Stop)
+    → Fails outside left (room words pages pairs) stop → status_of stop ≢ 2
+room_status outside left words pages pairs (TooFew there wanted) f = λ two. absurd (omega (arith, two))
+room_status outside left words pages pairs _ f = absurd f
 
 -- so a make stops for another cause than that
-pub make_reads_none : (make : Make) (stop : Stop) → StopsAt None [] (order_of (commands.Make make)) stop → status_of stop ≢ 2
-make_reads_none make stop (here f) = number_status None [] _ _ stop f
-make_reads_none make stop (past p (here f)) = number_status None [] _ _ stop f
-make_reads_none make stop (past p (past q (here f))) = number_status None [] _ _ stop f
-make_reads_none make stop (past p (past q (past r (here f)))) = room_status None [] (words_or make.words) make.pages make.pairs stop f
+pub make_reads_none : (make : Make) (stop : Stop) → StopsAt nowhere nothing_left (order_of (commands.Make make)) stop → status_of stop ≢ 2
+make_reads_none make stop (here f) = number_status nowhere nothing_left _ _ stop f
+make_reads_none make stop (past p (here f)) = number_status nowhere nothing_left _ _ stop f
+make_reads_none make stop (past p (past q (here f))) = number_status nowhere nothing_left _ _ stop f
+make_reads_none make stop (past p (past q (past r (here f)))) =
+    room_status nowhere nothing_left (words_or make.words) make.pages make.pairs stop f
 make_reads_none make stop (past p (past q (past r (past s none)))) = elim none [ ]

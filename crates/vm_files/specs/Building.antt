@@ -1,6 +1,5 @@
 -- What the parts of make and migrate answer: the tests of the numbers, and the building of the page file.
-use Rattle.std.specs.Prelude.{ℕ, ◌≡◌, ◌<◌, ◌≤◌, List, length, Option, None, Result, Ok, Err}
-use Rattle.vm_io.specs.Shown.{Shown}
+use Rattle.std.specs.Prelude.{ℕ, ◌≡◌, ◌<◌, ◌≤◌, length, Result, Ok, Err}
 use Rattle.vm_map.specs.Map.{Pairs}
 use Rattle.vm_build.specs.Build.{needed}
 use Rattle.vm_endings.specs.declared.delivery.Delivery.{Delivery}
@@ -11,6 +10,7 @@ use Rattle.vm_endings.specs.declared.undone.Undone.TheVariants.{Stopped, Memory}
 use Rattle.vm_endings.specs.Deliveries.{content_of}
 use Rattle.vm_endings.specs.Limits.{words_or}
 use Rattle.vm_endings.specs.Migrates.{IsMigrated}
+use Rattle.vm_endings.specs.Outside.{nowhere, Outside, Remains}
 use Rattle.vm_words.specs.declared.Make.{Make}
 use Rattle.vm_words.specs.declared.Migrate.{Migrate}
 use Rattle.vm_words.specs.declared.Command.TheVariants as commands
@@ -21,8 +21,8 @@ use Rattle.vm_endings.specs.Tests.{AllPass, StopsAt}
 -- what the tests of a make answer: its numbers, or the first test that fails. None of them is of a file
 abbrev pub TellsSizes : Make → Result MakeSizes Stop → Type 0
 TellsSizes make (Ok sizes) = (sizes.words ≡ words_or make.words) × (sizes.pages ≡ make.pages)
-    × (sizes.pairs ≡ make.pairs) × AllPass None (order_of (commands.Make make))
-TellsSizes make (Err stop) = (shown : Option Shown) (failed : List ℕ) → StopsAt shown failed (order_of (commands.Make make)) stop
+    × (sizes.pairs ≡ make.pairs) × AllPass nowhere (order_of (commands.Make make))
+TellsSizes make (Err stop) = (outside : Outside) (left : Remains) → StopsAt outside left (order_of (commands.Make make)) stop
 
 -- what building a page file of these pairs gives: the file and its text, or that the pages are too few
 abbrev pub TellsMigrated : Migrate → Pairs → Result Delivery (Undone Stop) → Type 0

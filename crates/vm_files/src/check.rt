@@ -5,6 +5,7 @@ ghost use Rattle.vm_script.specs.Texts.{check_text};
 ghost use Rattle.vm_words.specs.declared.Command.TheVariants as commands;
 ghost use Rattle.vm_endings.specs.Deliveries.{content_of};
 ghost use Rattle.vm_endings.specs.Endings.{AnswersCommand, HasReadCause};
+ghost use Rattle.vm_endings.specs.Outside.{Outside, Remains, with_shown, with_unread};
 ghost use Rattle.vm_endings.specs.declared.ends.Ends.{Ends};
 
 use std::alloc::{AllocError, Global};
@@ -40,7 +41,7 @@ pub fn run_check<'a, H: Host>(
     host: &mut H,
     check: &Check<'a>,
 ) -> Result<Delivery<'a>, Undone<Stop<'a>>>
-    ensures gives { (same : Ends) → AnswersCommand content_of (commands.Check check.now) (H.last host.new) (H.shown host.old) same same result }
+    ensures gives { (outside : Outside) (left : Remains) (same : Ends) → AnswersCommand content_of (commands.Check check.now) (with_shown outside (H.shown host.old)) (with_unread left (H.last host.new)) same same result }
     ensures shown { H.shown host.new ≡ H.shown host.old }
     ensures puts { H.gives host.new ≡ H.gives host.old }
     ensures later { H.takes host.old ≤ H.takes host.new }

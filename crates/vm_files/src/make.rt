@@ -1,14 +1,13 @@
 //! The command `make`: a page file built of numbered pairs.
 
-ghost use Rattle.std.specs.Prelude.{◌≡◌, ℕ, List, Option, IfOk, slice_index};
-ghost use Rattle.vm_io.specs.Shown.{Shown};
+ghost use Rattle.std.specs.Prelude.{◌≡◌, ℕ, IfOk, slice_index};
 ghost use Rattle.vm_page.specs.{Pages.page_at, Sizes.IsSize};
 ghost use Rattle.vm_script.specs.Texts.{made_line};
 ghost use Rattle.vm_tree_model.specs.Reason.{used_pages};
 ghost use Rattle.vm_words.specs.declared.Command.TheVariants as commands;
 ghost use Rattle.vm_endings.specs.Deliveries.{content_of};
 ghost use Rattle.vm_endings.specs.Endings.{AnswersCommand, HasReadCause};
-ghost use Rattle.vm_endings.specs.Makes.{ToldMake};
+ghost use Rattle.vm_endings.specs.{Makes.ToldMake, Outside.Outside, Outside.Remains};
 ghost use Rattle.vm_files.specs.Building.{TellsSizes};
 ghost use Rattle.vm_endings.specs.declared.ends.Ends.{Ends};
 
@@ -99,7 +98,7 @@ fn made<'a, const N: usize>(
 
 /// Tests the numbers, builds the page file and the text. It asks the host for nothing.
 pub fn run_make<'a>(alloc: Global, make: &Make<'a>) -> Result<Delivery<'a>, Undone<Stop<'a>>>
-    ensures gives { (shown : Option Shown) (failed : List ℕ) (same : Ends) → AnswersCommand content_of (commands.Make make.now) failed shown same same result }
+    ensures gives { (outside : Outside) (left : Remains) (same : Ends) → AnswersCommand content_of (commands.Make make.now) outside left same same result }
     ensures cause { (takes : ℕ) → HasReadCause takes takes result }
 {
     let sizes = match sizes_of(make) {

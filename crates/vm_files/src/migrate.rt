@@ -9,6 +9,7 @@ ghost use Rattle.vm_tree_model.specs.Reason.{used_pages};
 ghost use Rattle.vm_words.specs.declared.Command.TheVariants as commands;
 ghost use Rattle.vm_endings.specs.Deliveries.{content_of};
 ghost use Rattle.vm_endings.specs.Endings.{AnswersCommand, HasReadCause};
+ghost use Rattle.vm_endings.specs.Outside.{Outside, Remains, with_shown, with_unread};
 ghost use Rattle.vm_endings.specs.{Limits.are_pages as are_pages_of, Migrates.IsMigrated};
 ghost use Rattle.vm_files.specs.Building.{TellsMigrated};
 ghost use Rattle.vm_endings.specs.declared.ends.Ends.{Ends};
@@ -104,7 +105,7 @@ pub fn run_migrate<'a, H: Host>(
     host: &mut H,
     migrate: &Migrate<'a>,
 ) -> Result<Delivery<'a>, Undone<Stop<'a>>>
-    ensures gives { (same : Ends) → AnswersCommand content_of (commands.Migrate migrate.now) (H.last host.new) (H.shown host.old) same same result }
+    ensures gives { (outside : Outside) (left : Remains) (same : Ends) → AnswersCommand content_of (commands.Migrate migrate.now) (with_shown outside (H.shown host.old)) (with_unread left (H.last host.new)) same same result }
     ensures shown { H.shown host.new ≡ H.shown host.old }
     ensures puts { H.gives host.new ≡ H.gives host.old }
     ensures later { H.takes host.old ≤ H.takes host.new }

@@ -4,6 +4,7 @@ ghost use Rattle.std.specs.Prelude.{◌≡◌, ◌≤◌};
 ghost use Rattle.vm_words.specs.declared.Command.TheVariants as commands;
 ghost use Rattle.vm_endings.specs.Deliveries.{content_of};
 ghost use Rattle.vm_endings.specs.Endings.{AnswersCommand, HasReadCause};
+ghost use Rattle.vm_endings.specs.Outside.{Outside, Remains, with_shown, with_unread};
 ghost use Rattle.vm_endings.specs.declared.ends.Ends.{Ends};
 
 use std::alloc::Global;
@@ -22,7 +23,7 @@ pub fn run_replay<'a, H: Host>(
     host: &mut H,
     replay: &Replay<'a>,
 ) -> Result<Delivery<'a>, Undone<Stop<'a>>>
-    ensures gives { (same : Ends) → AnswersCommand content_of (commands.Replay replay.now) (H.last host.new) (H.shown host.old) same same result }
+    ensures gives { (outside : Outside) (left : Remains) (same : Ends) → AnswersCommand content_of (commands.Replay replay.now) (with_shown outside (H.shown host.old)) (with_unread left (H.last host.new)) same same result }
     ensures shown { H.shown host.new ≡ H.shown host.old }
     ensures puts { H.gives host.new ≡ H.gives host.old }
     ensures later { H.takes host.old ≤ H.takes host.new }

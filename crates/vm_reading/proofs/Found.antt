@@ -1,6 +1,5 @@
 -- What was read of files, as what the files hold.
-use Rattle.std.proofs.Common.{ℕ, List, Option, Result, Ok, Err, sym, subst, arith}
-use Rattle.vm_io.specs.Shown.{Shown}
+use Rattle.std.proofs.Common.{ℕ, List, Result, Ok, Err, sym, subst, arith}
 use Rattle.vm_io.specs.Loops.{ReadsWhole}
 use Rattle.vm_tree_model.specs.Fixed.{fixed}
 use Rattle.vm_image.specs.File.{IsPageFile, pages_of_bytes, words_of_file}
@@ -16,6 +15,7 @@ use Rattle.vm_endings.specs.declared.undone.Undone.TheVariants.{Stopped, Memory}
 use Rattle.vm_endings.specs.Endings.{HasReadCause}
 use Rattle.vm_endings.specs.Files.{HasFile}
 use Rattle.vm_endings.specs.Images.{HoldsNoTree, IsTreeFile, layout_of_file, most_image, pages_of_file}
+use Rattle.vm_endings.specs.{Outside.Outside, Outside.Remains}
 use Rattle.vm_endings.specs.Tests.{image, Passes}
 use Rattle.vm_reading.specs.Readings.{IsStoredIn, IsStoredTree, ReadsTree, TellsNoTree, TellsTree, rows_in}
 use Rattle.vm_reading.proofs.Files.{has_file, page_file, wrong_length}
@@ -39,22 +39,25 @@ pub rows-file : (rows : Rows) (bytes : List ℕ) → HasRows rows bytes → IsTr
 rows-file rows bytes is = record { file = is.file; tree = is.are.tree }
 
 -- a page file that was read passes its test
-pub rows-pass : (shown : Option Shown) (name : List ℕ) (rows : Rows) → HasFile shown name (HasRows rows) → Passes shown (image name)
-rows-pass shown name rows has = has_file shown name (HasRows rows) IsTreeFile (rows-file rows) has
+pub rows-pass : (outside : Outside) (name : List ℕ) (rows : Rows) → HasFile outside.shown name (HasRows rows)
+    → Passes outside (image name)
+rows-pass outside name rows has = has_file outside.shown name (HasRows rows) IsTreeFile (rows-file rows) has
 
 -- what the bytes read tell is told of the file
-none-told : (shown : Option Shown) (failed name found : List ℕ) (undone : Undone Stop)
-    → ReadsWhole shown name most_image found → TellsNoTree found undone → ReadsTree shown failed name (Err undone)
-none-told shown failed name found Memory w t = tt
-none-told shown failed name found (Stopped (Length len)) w t = wrong_length shown name found len w t.0 t.1
-none-told shown failed name found (Stopped (Page page why)) w t =
-    page_file shown name found (λ bytes. HoldsNoTree bytes page why) w t.file t
-none-told shown failed name found (Stopped _) w t = absurd t
+none-told : (outside : Outside) (left : Remains) (name found : List ℕ) (undone : Undone Stop)
+    → ReadsWhole outside.shown name most_image found → TellsNoTree found undone
+    → ReadsTree outside left name (Err undone)
+none-told outside left name found Memory w t = tt
+none-told outside left name found (Stopped (Length len)) w t = wrong_length outside.shown name found len w t.0 t.1
+none-told outside left name found (Stopped (Page page why)) w t =
+    page_file outside.shown name found (λ bytes. HoldsNoTree bytes page why) w t.file t
+none-told outside left name found (Stopped _) w t = absurd t
 
-pub tree-told : (shown : Option Shown) (failed name found : List ℕ) (r : Result StoredTree (Undone Stop))
-    → ReadsWhole shown name most_image found → TellsTree found r → ReadsTree shown failed name r
-tree-told shown failed name found (Ok tree) w t = page_file shown name found (IsStoredTree tree) w (tree-rows tree found t).file t
-tree-told shown failed name found (Err undone) w t = none-told shown failed name found undone w t
+pub tree-told : (outside : Outside) (left : Remains) (name found : List ℕ) (r : Result StoredTree (Undone Stop))
+    → ReadsWhole outside.shown name most_image found → TellsTree found r → ReadsTree outside left name r
+tree-told outside left name found (Ok tree) w t =
+    page_file outside.shown name found (IsStoredTree tree) w (tree-rows tree found t).file t
+tree-told outside left name found (Err undone) w t = none-told outside left name found undone w t
 
 -- bytes that were read cause no fault of reading
 none-cause : (found : List ℕ) (before now : ℕ) (undone : Undone Stop) → TellsNoTree found undone

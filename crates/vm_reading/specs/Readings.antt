@@ -1,6 +1,5 @@
 -- What the readers of files answer.
-use Rattle.std.specs.Prelude.{ℕ, ◌≡◌, List, length, Option, Result, Ok, Err}
-use Rattle.vm_io.specs.Shown.{Shown}
+use Rattle.std.specs.Prelude.{ℕ, ◌≡◌, List, length, Result, Ok, Err}
 use Rattle.vm_map.specs.declared.call.Call.{Call}
 use Rattle.vm_tree_model.specs.Fixed.{fixed}
 use Rattle.vm_image.specs.File.{IsPageFile, pages_of_bytes, words_of_file}
@@ -14,6 +13,7 @@ use Rattle.vm_endings.specs.declared.stop.Stop.TheVariants.{Length, Page}
 use Rattle.vm_endings.specs.declared.undone.Undone.{Undone}
 use Rattle.vm_endings.specs.declared.undone.Undone.TheVariants.{Stopped, Memory}
 use Rattle.vm_endings.specs.Files.{HasFile}
+use Rattle.vm_endings.specs.Outside.{Outside, Remains}
 use Rattle.vm_endings.specs.Images.{HoldsNoTree}
 use Rattle.vm_endings.specs.Scripts.{IsScriptOf}
 use Rattle.vm_endings.specs.Tests.{Fails, image, script}
@@ -53,13 +53,13 @@ TellsTree bytes (Ok tree) = IsStoredTree tree bytes
 TellsTree bytes (Err undone) = TellsNoTree bytes undone
 
 -- what the reader of a page file answers
-abbrev pub ReadsTree : Option Shown → List ℕ → List ℕ → Result StoredTree (Undone Stop) → Type 0
-ReadsTree shown failed name (Ok tree) = HasFile shown name (IsStoredTree tree)
-ReadsTree shown failed name (Err Memory) = Unit {0}
-ReadsTree shown failed name (Err (Stopped stop)) = Fails shown failed (image name) stop
+abbrev pub ReadsTree : Outside → Remains → List ℕ → Result StoredTree (Undone Stop) → Type 0
+ReadsTree outside left name (Ok tree) = HasFile outside.shown name (IsStoredTree tree)
+ReadsTree outside left name (Err Memory) = Unit {0}
+ReadsTree outside left name (Err (Stopped stop)) = Fails outside left (image name) stop
 
 -- what the reader of a script answers
-abbrev pub ReadsCalls : {V : Type 0} → (V → List (List Call)) → Option Shown → List ℕ → List ℕ → ℕ → Result V (Undone Stop) → Type 0
-ReadsCalls view shown failed name workers (Ok v) = HasFile shown name (IsScriptOf workers (view v))
-ReadsCalls view shown failed name workers (Err Memory) = Unit {0}
-ReadsCalls view shown failed name workers (Err (Stopped stop)) = Fails shown failed (script name workers) stop
+abbrev pub ReadsCalls : {V : Type 0} → (V → List (List Call)) → Outside → Remains → List ℕ → ℕ → Result V (Undone Stop) → Type 0
+ReadsCalls view outside left name workers (Ok v) = HasFile outside.shown name (IsScriptOf workers (view v))
+ReadsCalls view outside left name workers (Err Memory) = Unit {0}
+ReadsCalls view outside left name workers (Err (Stopped stop)) = Fails outside left (script name workers) stop

@@ -4,7 +4,7 @@ ghost use Rattle.std.specs.Prelude.{◌≡◌, ◌≤◌, length, IfOk};
 ghost use Rattle.vm_page.specs.Sizes.{IsSize};
 ghost use Rattle.vm_image.specs.File.{words_of_file};
 ghost use Rattle.vm_drive.specs.Drives.{AreAskable, AreFew, items_of};
-ghost use Rattle.vm_endings.specs.Endings.{HasReadCause};
+ghost use Rattle.vm_endings.specs.{Endings.HasReadCause, Outside.Outside, Outside.Remains, Outside.with_shown, Outside.with_unread};
 ghost use Rattle.vm_reading.specs.Readings.{ReadsCalls, ReadsTree, TellsStored, TellsTree, rows_in};
 
 use std::alloc::Global;
@@ -93,7 +93,7 @@ pub fn read_tree<'a, H: Host>(
     host: &mut H,
     name: &'a str,
 ) -> Result<StoredTree, Undone<Stop<'a>>>
-    ensures reads { ReadsTree (H.shown host.old) (H.last host.new) name.now result }
+    ensures reads { (outside : Outside) (left : Remains) → ReadsTree (with_shown outside (H.shown host.old)) (with_unread left (H.last host.new)) name.now result }
     ensures shown { H.shown host.new ≡ H.shown host.old }
     ensures gives { H.gives host.new ≡ H.gives host.old }
     ensures later { H.takes host.old ≤ H.takes host.new }
@@ -113,7 +113,7 @@ pub fn read_calls<'a, H: Host>(
     name: &'a str,
     workers: u32,
 ) -> Result<Vec<Vec<Call>>, Undone<Stop<'a>>>
-    ensures reads { ReadsCalls (λ v. items_of v.items) (H.shown host.old) (H.last host.new) name.now workers result }
+    ensures reads { (outside : Outside) (left : Remains) → ReadsCalls (λ v. items_of v.items) (with_shown outside (H.shown host.old)) (with_unread left (H.last host.new)) name.now workers result }
     ensures few { IfOk result (λ v. AreFew (items_of v.items)) }
     ensures askable { IfOk result (λ v. AreAskable (items_of v.items)) }
     ensures workers { IfOk result (λ v. length v.items ≡ workers) }

@@ -2,9 +2,8 @@
 use Rattle.std.specs.declared.alloc.Global.{Global}
 use Rattle.std.specs.List.{AllByRecursion}
 use Rattle.std.proofs.Common.{[], ⊎_elim, ◌&&◌, ◌*◌, ◌+◌, ◌<◌, ◌∙◌, ◌∷◌, ◌≡◌, ◌≤◌, ap, arith, false, le-leb, leb}
-use Rattle.std.proofs.Common.{length, List, None, Ok, Option, refl, Result, subst, suc, sym, true, Vec, zero, ℕ}
+use Rattle.std.proofs.Common.{length, List, None, Ok, refl, Result, subst, suc, sym, true, Vec, zero, ℕ}
 use Rattle.std.proofs.lemmas.Bool.{and_parts, cases_lt, leb-true, lt-leb}
-use Rattle.vm_io.specs.Shown.{Shown}
 use Rattle.vm_map.specs.{declared.call.Call.Call, declared.call.Reply.Reply, declared.call.Said.Said}
 use Rattle.vm_map.specs.{History.after_all, Map.gather, Map.Pairs}
 use Rattle.vm_page.specs.Sizes.{IsSize}
@@ -27,7 +26,7 @@ use Rattle.vm_script.specs.Texts.{churn_line}
 use Rattle.vm_words.specs.declared.Churn.{Churn}
 use Rattle.vm_words.specs.declared.Command.TheVariants as commands
 use Rattle.vm_endings.specs.{declared.delivery.Delivery.Delivery, declared.ends.Ends.Ends, Deliveries.Content, Deliveries.content_of}
-use Rattle.vm_endings.specs.{Endings.AnswersCommand, Endings.told, Made.last_map, Replies.AreMatched}
+use Rattle.vm_endings.specs.{Endings.AnswersCommand, Endings.told, Made.last_map, Outside.Outside, Outside.Remains, Replies.AreMatched}
 use Rattle.vm_endings.specs.Churns.{churn_pages, churn_text, DoesChurn, IsChurned, ToldChurn}
 use Rattle.vm_endings.specs.Limits.{are_frames, are_pairs_to_churn, are_words, are_workers}
 use Rattle.vm_endings.proofs.Telling.{matched}
@@ -199,6 +198,6 @@ churn-does n churn load delivery end t m = spelt_churn n churn (content_of deliv
     (subst (λ (c : Churn). DoesChurn n c (content_of delivery) end) t.0 m)
 
 pub churn-gives : (churn : Churn) (load : Load) (delivery : Delivery) (after : Ends) → TellsLoad churn (Ok load)
-    → ToldChurn churn (content_of delivery) after → delivery.status ≡ 0 → (shown : Option Shown) (failed : List ℕ)
-    (before : Ends) → AnswersCommand content_of (commands.Churn churn) failed shown before after (Ok delivery)
-churn-gives churn load delivery after t m done shown failed before = ((t.2.0, (t.2.1.0, (t.2.1.1.0, (t.2.1.1.1.0, tt)))), told m done)
+    → ToldChurn churn (content_of delivery) after → delivery.status ≡ 0 → (outside : Outside) (left : Remains)
+    (before : Ends) → AnswersCommand content_of (commands.Churn churn) outside left before after (Ok delivery)
+churn-gives churn load delivery after t m done outside left before = ((t.2.0, (t.2.1.0, (t.2.1.1.0, (t.2.1.1.1.0, tt)))), told m done)

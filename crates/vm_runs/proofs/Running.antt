@@ -1,5 +1,5 @@
 -- What a run gives, from what its parts tell.
-use Rattle.std.proofs.Common.{◌≡◌, ◌∙◌, inl, inr, ℕ, Bool, true, false, List, Option, Ok, Err, refl, sym, ap, subst, [], ◌∷◌, ◌++◌, None}
+use Rattle.std.proofs.Common.{◌≡◌, ◌∙◌, inl, inr, ℕ, Bool, true, false, List, Option, Ok, Err, refl, sym, ap, subst, [], ◌∷◌, ◌++◌}
 use Rattle.vm_io.specs.Shown.{Shown}
 use Rattle.vm_map.specs.declared.call.Call.{Call}
 use Rattle.vm_map.specs.declared.call.Said.{Said}
@@ -18,10 +18,12 @@ use Rattle.vm_endings.specs.declared.undone.Undone.{Undone}
 use Rattle.vm_endings.specs.declared.undone.Undone.TheVariants.{Stopped, Memory}
 use Rattle.vm_endings.specs.Commands.{limits_of, order_of}
 use Rattle.vm_endings.specs.Deliveries.{Content, content_of}
-use Rattle.vm_endings.specs.Endings.{AnswersCommand}
+use Rattle.vm_endings.specs.Endings.{AnswersCommand, cut, Performs, told}
+use Rattle.vm_endings.specs.declared.ends.Ends.TheVariants.{LargeTree, Tree}
+use Rattle.vm_serve.specs.Served.{TreeEnd}
 use Rattle.vm_endings.specs.Files.{HasFile}
 use Rattle.vm_endings.specs.Images.{IsTreeFile, file_height, pages_of_file}
-use Rattle.vm_endings.specs.Limits.{holds_call}
+use Rattle.vm_endings.specs.{Limits.holds_call, Outside.nothing_left, Outside.nowhere, Outside.Outside, Outside.Remains}
 use Rattle.vm_reading.specs.Readings.{IsStoredIn, ReadsCalls, ReadsTree}
 use Rattle.vm_runs.specs.Answers.{DoesRun, StopsRun, TellsLimits}
 use Rattle.vm_endings.specs.Runs.{IsFlushedRun, IsOutcome, IsUnflushedRun, OfFiles}
@@ -43,62 +45,62 @@ of-stored : (n : ℕ) (shown : Option Shown) (name : List ℕ) (stored : ReadTre
 of-stored n shown name stored has = has_file shown name (IsStoredIn n stored) (HasRows stored.rows) (stored-rows n stored) has
 
 -- a script that was read passes its test
-calls-pass : (shown : Option Shown) (name : List ℕ) (workers : ℕ) (lists : List (List Call))
-    → HasFile shown name (IsScriptOf workers lists) → Passes shown (script name workers)
-calls-pass shown name workers lists has =
-    has_file shown name (IsScriptOf workers lists) (IsGoodScript workers) (λ bytes is. (lists, is)) has
+pub calls-pass : (outside : Outside) (name : List ℕ) (workers : ℕ) (lists : List (List Call))
+    → HasFile outside.shown name (IsScriptOf workers lists) → Passes outside (script name workers)
+calls-pass outside name workers lists has =
+    has_file outside.shown name (IsScriptOf workers lists) (IsGoodScript workers) (λ bytes is. (lists, is)) has
 
 -- the tests of the numbers are of no file, so they stop over any host, and before any further test
-limits-first : (shown : Option Shown) (failed : List ℕ) (run : Run) (more : List Test) (quantity : Quantity)
-    → StopsAt None [] (limits_of run) (Shape quantity) → StopsAt shown failed (limits_of run ++ more) (Shape quantity)
-limits-first shown failed run more quantity (here f) = here f
-limits-first shown failed run more quantity (past p (here f)) = past p (here f)
-limits-first shown failed run more quantity (past p (past q (here f))) = past p (past q (here f))
-limits-first shown failed run more quantity (past p (past q (past r (here f)))) = past p (past q (past r (here f)))
-limits-first shown failed run more quantity (past p (past q (past r (past s none)))) = elim none [ ]
+limits-first : (outside : Outside) (left : Remains) (run : Run) (more : List Test) (quantity : Quantity)
+    → StopsAt nowhere nothing_left (limits_of run) (Shape quantity) → StopsAt outside left (limits_of run ++ more) (Shape quantity)
+limits-first outside left run more quantity (here f) = here f
+limits-first outside left run more quantity (past p (here f)) = past p (here f)
+limits-first outside left run more quantity (past p (past q (here f))) = past p (past q (here f))
+limits-first outside left run more quantity (past p (past q (past r (here f)))) = past p (past q (past r (here f)))
+limits-first outside left run more quantity (past p (past q (past r (past s none)))) = elim none [ ]
 
 -- a number that is outside its limits
 pub limits-stop : (run : Run) (quantity : Quantity) → TellsLimits run (Err quantity)
-    → (shown : Option Shown) (failed : List ℕ) (same : Ends) → AnswersCommand content_of (commands.Run run) failed
-    shown same same (Err (Stopped (Shape quantity)))
-limits-stop run quantity t shown failed same = (
-  limits-first shown failed run
+    → (outside : Outside) (left : Remains) (same : Ends) → AnswersCommand content_of (commands.Run run) outside
+    left same same (Err (Stopped (Shape quantity)))
+limits-stop run quantity t outside left same = (
+  limits-first outside left run
       (image run.image.now ∷ depth run.frames run.image.now ∷ script run.script.now run.workers ∷ []) quantity t,
   refl,
 )
 
 pub image-stops : (run : Run) (workers : ℕ) (undone : Undone Stop) → TellsLimits run (Ok workers)
-    → (shown : Option Shown) (failed : List ℕ) → ReadsTree shown failed run.image.now (Err undone) → (same : Ends)
-    → AnswersCommand content_of (commands.Run run) failed shown same same (Err undone)
-image-stops run workers Memory t shown failed reads same = refl
-image-stops run workers (Stopped stop) t shown failed reads same =
+    → (outside : Outside) (left : Remains) → ReadsTree outside left run.image.now (Err undone) → (same : Ends)
+    → AnswersCommand content_of (commands.Run run) outside left same same (Err undone)
+image-stops run workers Memory t outside left reads same = refl
+image-stops run workers (Stopped stop) t outside left reads same =
     (past t.1.0 (past t.1.1.0 (past t.1.1.1.0 (past t.1.1.1.1.0 (here reads)))), refl)
 
 -- the tree that was read is too high for the frames
 pub depth-stops : (n : ℕ) (run : Run) (workers : ℕ) (stored : ReadTree n) → TellsLimits run (Ok workers)
-    → (shown : Option Shown) (failed : List ℕ) → HasFile shown run.image.now (IsStoredIn n stored)
-    → holds_call stored.rows.height run.frames ≡ false → StopsAt shown failed (order_of (commands.Run run))
+    → (outside : Outside) (left : Remains) → HasFile outside.shown run.image.now (IsStoredIn n stored)
+    → holds_call stored.rows.height run.frames ≡ false → StopsAt outside left (order_of (commands.Run run))
     (Shape Frames)
-depth-stops n run workers stored t shown failed read deep =
-    let has = of-stored n shown run.image.now stored read in
+depth-stops n run workers stored t outside left read deep =
+    let has = of-stored n outside.shown run.image.now stored read in
     past t.1.0 (past t.1.1.0
     (past t.1.1.1.0 (past t.1.1.1.1.0
-    (past (rows-pass shown run.image.now stored.rows has)
-    (here (refl, rows-depth shown run.image.now stored.rows run.frames false has deep))))))
+    (past (rows-pass outside run.image.now stored.rows has)
+    (here (refl, rows-depth outside.shown run.image.now stored.rows run.frames false has deep))))))
 
 pub calls-stop : (n : ℕ) (run : Run) (workers : ℕ) (stored : ReadTree n) (undone : Undone Stop) {V : Type 0}
-    (view : V → List (List Call)) → TellsLimits run (Ok workers) → (shown : Option Shown) (failed : List ℕ)
-    → HasFile shown run.image.now (IsStoredIn n stored) → holds_call stored.rows.height run.frames ≡ true
-    → ReadsCalls view shown failed run.script.now workers (Err undone)
-    → StopsRun shown failed run undone
-calls-stop n run workers stored Memory view t shown failed read holds reads = tt
-calls-stop n run workers stored (Stopped stop) view t shown failed read holds reads =
-    let has = of-stored n shown run.image.now stored read in
-    let asked = subst (λ (k : ℕ). Fails shown failed (script run.script.now k) stop) t.0 reads in
+    (view : V → List (List Call)) → TellsLimits run (Ok workers) → (outside : Outside) (left : Remains)
+    → HasFile outside.shown run.image.now (IsStoredIn n stored) → holds_call stored.rows.height run.frames ≡ true
+    → ReadsCalls view outside left run.script.now workers (Err undone)
+    → StopsRun outside left run undone
+calls-stop n run workers stored Memory view t outside left read holds reads = tt
+calls-stop n run workers stored (Stopped stop) view t outside left read holds reads =
+    let has = of-stored n outside.shown run.image.now stored read in
+    let asked = subst (λ (k : ℕ). Fails outside left (script run.script.now k) stop) t.0 reads in
     past t.1.0 (past t.1.1.0
     (past t.1.1.1.0 (past t.1.1.1.1.0
-    (past (rows-pass shown run.image.now stored.rows has)
-    (past (rows-depth shown run.image.now stored.rows run.frames true has holds) (here asked))))))
+    (past (rows-pass outside run.image.now stored.rows has)
+    (past (rows-depth outside.shown run.image.now stored.rows run.frames true has holds) (here asked))))))
 
 of-files : (n : ℕ) (shown : Option Shown) (run : Run) (stored : ReadTree n) (lists : List (List Call))
     (P : List (List ℕ) → List (List Call) → Type 0) → HasFile shown run.image.now (IsStoredIn n stored)
@@ -123,12 +125,12 @@ of-files n shown run stored lists P has words p =
 
 -- what was made of the calls is what the command does
 pub run-does : (n : ℕ) {U : Type 0} (run : Run) (workers : ℕ) (stored : ReadTree n) (lists : List (List Call))
-    (content : Content) (end : Ended U Said) → TellsLimits run (Ok workers) → (shown : Option Shown)
-    → HasFile shown run.image.now (IsStoredIn n stored) → holds_call stored.rows.height run.frames ≡ true
-    → HasFile shown run.script.now (IsScriptOf run.workers lists) → IsOutcome n run stored.image lists content end
-    → AllPass shown (order_of (commands.Run run)) × DoesRun n run shown content end
-run-does n run workers stored lists content end t shown read holds words is =
-    let has = of-stored n shown run.image.now stored read in (
+    (content : Content) (end : Ended U Said) → TellsLimits run (Ok workers) → (outside : Outside)
+    → HasFile outside.shown run.image.now (IsStoredIn n stored) → holds_call stored.rows.height run.frames ≡ true
+    → HasFile outside.shown run.script.now (IsScriptOf run.workers lists) → IsOutcome n run stored.image lists content end
+    → AllPass outside (order_of (commands.Run run)) × DoesRun n run outside.shown content end
+run-does n run workers stored lists content end t outside read holds words is =
+    let has = of-stored n outside.shown run.image.now stored read in (
       (
         t.1.0,
         (
@@ -138,10 +140,10 @@ run-does n run workers stored lists content end t shown read holds words is =
             (
               t.1.1.1.1.0,
               (
-                rows-pass shown run.image.now stored.rows has,
+                rows-pass outside run.image.now stored.rows has,
                 (
-                  rows-depth shown run.image.now stored.rows run.frames true has holds,
-                  (calls-pass shown run.script.now run.workers lists words, tt),
+                  rows-depth outside.shown run.image.now stored.rows run.frames true has holds,
+                  (calls-pass outside run.script.now run.workers lists words, tt),
                 ),
               ),
             ),
@@ -149,7 +151,37 @@ run-does n run workers stored lists content end t shown read holds words is =
         ),
       ),
       elim is [
-        | inl whole ↦ inl (whole.0, of-files n shown run stored lists (IsFlushedRun n run end content) read words whole.1)
-        | inr part ↦ inr (part.0, of-files n shown run stored lists (IsUnflushedRun n run end content) read words part.1)
+        | inl whole ↦ inl (whole.0, of-files n outside.shown run stored lists (IsFlushedRun n run end content) read words whole.1)
+        | inr part ↦ inr (part.0, of-files n outside.shown run stored lists (IsUnflushedRun n run end content) read words part.1)
       ],
     )
+
+-- the same as what the command answers, of pages of 64 words and of 512
+pub small-gives : (run : Run) (outside : Outside) (left : Remains) (content : Content) (end : TreeEnd 64) (before : Ends)
+    → AllPass outside (order_of (commands.Run run)) × DoesRun 64 run outside.shown content end
+    → AllPass outside (order_of (commands.Run run)) × Performs (commands.Run run) outside left content before (Tree end)
+small-gives run outside left content end before is = (
+  is.0,
+  elim is.1 [
+    | inl whole ↦ told whole.1 whole.0
+    | inr part ↦ cut (part.1, part.0)
+  ],
+)
+
+pub large-gives : (run : Run) (outside : Outside) (left : Remains) (content : Content) (end : TreeEnd 512) (before : Ends)
+    → AllPass outside (order_of (commands.Run run)) × DoesRun 512 run outside.shown content end
+    → AllPass outside (order_of (commands.Run run)) × Performs (commands.Run run) outside left content before (LargeTree end)
+large-gives run outside left content end before is = (
+  is.0,
+  elim is.1 [
+    | inl whole ↦ told whole.1 whole.0
+    | inr part ↦ cut (part.1, part.0)
+  ],
+)
+
+-- and why it did not
+pub run-stops : (run : Run) (outside : Outside) (left : Remains) (undone : Undone Stop) (same : Ends)
+    → StopsRun outside left run undone
+    → AnswersCommand content_of (commands.Run run) outside left same same (Err undone)
+run-stops run outside left Memory same s = refl
+run-stops run outside left (Stopped stop) same s = (s, refl)

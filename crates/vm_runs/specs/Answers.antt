@@ -1,5 +1,5 @@
 -- What a run answers before its history is kept.
-use Rattle.std.specs.Prelude.{[], ◌≡◌, ◌⊎◌, Err, List, None, Ok, Option, Result, ℕ}
+use Rattle.std.specs.Prelude.{◌≡◌, ◌⊎◌, Err, Ok, Option, Result, ℕ}
 use Rattle.vm_io.specs.Shown.{Shown}
 use Rattle.vm_map.specs.declared.call.Said.{Said}
 use Rattle.vm_pool.specs.declared.ended.Ended.{Ended}
@@ -9,19 +9,19 @@ use Rattle.vm_endings.specs.{Commands.limits_of, Commands.order_of, declared.sto
 use Rattle.vm_endings.specs.{declared.stop.Stop.Stop, declared.stop.Stop.TheVariants.Shape}
 use Rattle.vm_endings.specs.{declared.undone.Undone.TheVariants.Memory, declared.undone.Undone.TheVariants.Stopped}
 use Rattle.vm_endings.specs.{declared.undone.Undone.Undone, Deliveries.Content, Deliveries.content_of, Tests.AllPass}
-use Rattle.vm_endings.specs.{Tests.StopsAt}
+use Rattle.vm_endings.specs.{Outside.nothing_left, Outside.nowhere, Outside.Outside, Outside.Remains, Tests.StopsAt}
 use Rattle.vm_endings.specs.Runs.{IsFlushedRun, IsUnflushedRun, OfFiles}
 use Rattle.vm_runs.specs.declared.outcome.Outcome.{Outcome}
 
 -- what the test of a run's numbers answers: the number of workers, or the first number that is outside its limits
 abbrev pub TellsLimits : Run → Result ℕ Quantity → Type 0
-TellsLimits run (Ok workers) = (workers ≡ run.workers) × AllPass None (limits_of run)
-TellsLimits run (Err quantity) = StopsAt None [] (limits_of run) (Shape quantity)
+TellsLimits run (Ok workers) = (workers ≡ run.workers) × AllPass nowhere (limits_of run)
+TellsLimits run (Err quantity) = StopsAt nowhere nothing_left (limits_of run) (Shape quantity)
 
 -- why a run's calls were not made
-abbrev pub StopsRun : Option Shown → List ℕ → Run → Undone Stop → Type 0
-StopsRun shown failed run Memory = Unit {0}
-StopsRun shown failed run (Stopped stop) = StopsAt shown failed (order_of (commands.Run run)) stop
+abbrev pub StopsRun : Outside → Remains → Run → Undone Stop → Type 0
+StopsRun outside left run Memory = Unit {0}
+StopsRun outside left run (Stopped stop) = StopsAt outside left (order_of (commands.Run run)) stop
 
 -- what a run's calls come to on the tree of its image, of pages of n words
 abbrev pub DoesRun : (n : ℕ) {U : Type 0} → Run → Option Shown → Content → Ended U Said → Type 0
@@ -29,7 +29,7 @@ DoesRun n run shown content end = ((content.status ≡ 0) × OfFiles n shown run
     ⊎ ((content.status ≡ 7) × OfFiles n shown run (IsUnflushedRun n run end content))
 
 -- what the calls come to on the tree of an image of pages of n words, or why they were not made
-abbrev pub AnswersRun : (n : ℕ) {U : Type 0} → Run → List ℕ → Option Shown → Result (Outcome U Said) (Undone Stop) → Type 0
-AnswersRun n run failed shown (Ok outcome) =
-    AllPass shown (order_of (commands.Run run)) × DoesRun n run shown (content_of outcome.delivery) outcome.ended
-AnswersRun n run failed shown (Err undone) = StopsRun shown failed run undone
+abbrev pub AnswersRun : (n : ℕ) {U : Type 0} → Run → Outside → Remains → Result (Outcome U Said) (Undone Stop) → Type 0
+AnswersRun n run outside left (Ok outcome) =
+    AllPass outside (order_of (commands.Run run)) × DoesRun n run outside.shown (content_of outcome.delivery) outcome.ended
+AnswersRun n run outside left (Err undone) = StopsRun outside left run undone

@@ -1,6 +1,5 @@
 -- The parts of a churn: its numbers, once they were tested, and what serving its calls leaves.
-use Rattle.std.specs.Prelude.{[], ◌*◌, ◌≡◌, ◌≤◌, Err, length, List, None, Ok, Option, Result, Some, ℕ}
-use Rattle.vm_io.specs.Shown.{Shown}
+use Rattle.std.specs.Prelude.{[], ◌*◌, ◌≡◌, ◌≤◌, Err, length, List, Ok, Result, Some, ℕ}
 use Rattle.vm_map.specs.declared.call.Said.{Said}
 use Rattle.vm_page.specs.Sizes.{IsSize}
 use Rattle.vm_block.specs.declared.memory.MemBlock.{MemBlock}
@@ -12,7 +11,7 @@ use Rattle.vm_churn.specs.{Calls.churn_lists, declared.tally.Tally.Tally, Tallie
 use Rattle.vm_words.specs.declared.Churn.{Churn}
 use Rattle.vm_words.specs.declared.Command.TheVariants as commands
 use Rattle.vm_endings.specs.{Churns.churn_pages, Commands.order_of, declared.stop.Quantity.Quantity, declared.stop.Stop.TheVariants.Shape}
-use Rattle.vm_endings.specs.{Limits.words_or, Tests.AllPass, Tests.StopsAt}
+use Rattle.vm_endings.specs.{Limits.words_or, Outside.nowhere, Outside.Outside, Outside.Remains, Tests.AllPass, Tests.StopsAt}
 use Rattle.vm_runs.specs.declared.churn.Load.{Load}
 
 -- the numbers are within their limits
@@ -32,9 +31,9 @@ spelt churn = record churn { words = Some (words_or churn.words) }
 
 -- what the tests answer: the numbers, or the first that is outside its limits. None of them is of a file
 abbrev pub TellsLoad : Churn → Result Load Quantity → Type 0
-TellsLoad churn (Ok load) = (asked load ≡ spelt churn) × IsWithinLimits load × AllPass None (order_of (commands.Churn churn))
+TellsLoad churn (Ok load) = (asked load ≡ spelt churn) × IsWithinLimits load × AllPass nowhere (order_of (commands.Churn churn))
 TellsLoad churn (Err quantity) =
-    (shown : Option Shown) (failed : List ℕ) → StopsAt shown failed (order_of (commands.Churn churn)) (Shape quantity)
+    (outside : Outside) (left : Remains) → StopsAt outside left (order_of (commands.Churn churn)) (Shape quantity)
 
 -- what serving the calls leaves: the tree was built, and they were made on it
 pub record IsLoaded (n : ℕ) {U : Type 0} (load : Load) (s : ServedOn U Tally (MemBlock n) Said) : Type 0 where

@@ -1,11 +1,10 @@
 //! The command `churn`: many calls, made by workers on a tree of numbered pairs.
 
-ghost use Rattle.std.specs.Prelude.{◌<◌, ◌^◌, ◌≡◌, ◌≤◌, IfOk, length, List, Option, ℕ};
-ghost use Rattle.vm_io.specs.Shown.{Shown};
+ghost use Rattle.std.specs.Prelude.{◌<◌, ◌^◌, ◌≡◌, ◌≤◌, IfOk, length, ℕ};
 ghost use Rattle.vm_churn.specs.{Calls.churn_count, Tallies.sum_values};
 ghost use Rattle.vm_script.specs.Texts.{churn_line};
 ghost use Rattle.vm_words.specs.declared.Command.TheVariants as commands;
-ghost use Rattle.vm_endings.specs.{Churns.DoesChurn, Deliveries.content_of, Endings.AnswersCommand, Endings.HasReadCause};
+ghost use Rattle.vm_endings.specs.{Churns.DoesChurn, Deliveries.content_of, Endings.AnswersCommand, Endings.HasReadCause, Outside.Outside, Outside.Remains};
 ghost use Rattle.vm_runs.specs.Loads.{asked, IsLoaded, IsWithinLimits, TellsLoad};
 
 use crate::outcome::{Outcome, stored_in, told};
@@ -147,7 +146,7 @@ pub fn run_churn<'a, R: Threads + Wait + Sync, G: Gate + Sync>(
     gate: &G,
     ends: &mut Ends,
 ) -> Result<Delivery<'a>, Undone<Stop<'a>>>
-    ensures gives { (shown : Option Shown) (failed : List ℕ) → AnswersCommand content_of (commands.Churn churn.now) failed shown ends.old ends.new result }
+    ensures gives { (outside : Outside) (left : Remains) → AnswersCommand content_of (commands.Churn churn.now) outside left ends.old ends.new result }
     ensures cause { (takes : ℕ) → HasReadCause takes takes result }
 {
     let load = match load_of(churn) {

@@ -1,16 +1,12 @@
 //! What the workers' calls come to, with the text that tells it and the file that is kept.
 
-ghost use Rattle.std.specs.List.{AllByRecursion};
-ghost use Rattle.std.specs.Prelude.{◌*◌, ◌++◌, ◌≡◌, ◌≤◌, IfOk, length};
+ghost use Rattle.std.specs.Prelude.{◌*◌, ◌≡◌, ◌≤◌, IfOk, length};
 ghost use Rattle.vm_page.specs.Sizes.{IsSize};
 ghost use Rattle.vm_tree_model.specs.{Fixed.fixed, Tree.IsTree, Tree.map_of};
 ghost use Rattle.vm_image.specs.{Blocks.pages_of_blocks, File.most_pages};
 ghost use Rattle.vm_core.specs.Prelude.{MAX_VERSION};
-ghost use Rattle.vm_drive.specs.Prelude.{all_replies, HasContents};
 ghost use Rattle.vm_drive.specs.Drives.{AreAskable, AreFew, items_of};
-ghost use Rattle.vm_script.specs.Texts.{rows_text, unflushed_line, worker_replies};
 ghost use Rattle.vm_endings.specs.Deliveries.{content_of, written_of};
-ghost use Rattle.vm_endings.specs.Replies.{all_lines, AreMatched, counters_of};
 ghost use Rattle.vm_endings.specs.Runs.{IsKept, IsOutcome, version_or};
 
 use std::alloc::{AllocError, Global};
@@ -19,18 +15,16 @@ use std::thread::Threads;
 use vm_block::MemBlock;
 use vm_check::{CheckFault, check};
 use vm_core::Memory;
-use vm_drive::compact::Replies;
 use vm_drive::gate::Gate;
 use vm_endings::delivery::{Delivery, File};
-use vm_endings::replies::{add_replies, add_rows};
+use vm_endings::texts::{cut_text, whole_text};
 use vm_endings::writing::file_of;
 use vm_image::{Image, image_of};
 use vm_kind::{OfSize, TreeOf, WordKeys};
-use vm_map::call::{Call, Pair};
+use vm_map::call::Call;
 use vm_owner::Owner;
 use vm_pool::Ended;
 use vm_reading::reading::ReadTree;
-use vm_script::text::{counters_text, unflushed_text};
 use vm_serve::{Served, serve};
 use vm_words::Run;
 
@@ -39,64 +33,6 @@ use vm_words::Run;
 pub struct Outcome<'a, U: Owner> {
     pub delivery: Delivery<'a>,
     pub ended: Ended<U>,
-}
-
-// The text of the replies, of the rows and of the counters.
-fn whole_text<U: Owner>(
-    alloc: Global,
-    lists: &[Vec<Call>],
-    replies: &[Replies],
-    rows: &[Pair],
-    ended: &Ended<U>,
-    evicted: u64,
-) -> Result<Vec<u8>, AllocError>
-    requires few { AreFew (items_of lists.now) }
-    requires workers { length lists.now ≤ 64 }
-    requires matched { AreMatched (items_of lists.now) (all_replies replies.now) }
-    requires contents { AllByRecursion HasContents replies.now }
-    ensures { IfOk result (λ v. v.items ≡ worker_replies 0 (all_lines (items_of lists.now) (all_replies replies.now)) ++ rows_text rows.now ++ counters_of ended.now evicted) }
-{
-    let mut out = Vec::new(alloc);
-    add_replies(alloc, lists, replies, &mut out)?;
-    add_rows(alloc, rows, &mut out)?;
-    counters_text(
-        alloc,
-        ended.reads(),
-        ended.writes(),
-        ended.faults(),
-        evicted,
-        &mut out,
-    )?;
-    Ok(out)
-}
-
-// The text of the replies, of the page whose write failed and of the counters.
-fn cut_text<U: Owner>(
-    alloc: Global,
-    lists: &[Vec<Call>],
-    replies: &[Replies],
-    page: u32,
-    ended: &Ended<U>,
-    evicted: u64,
-) -> Result<Vec<u8>, AllocError>
-    requires few { AreFew (items_of lists.now) }
-    requires workers { length lists.now ≤ 64 }
-    requires matched { AreMatched (items_of lists.now) (all_replies replies.now) }
-    requires contents { AllByRecursion HasContents replies.now }
-    ensures { IfOk result (λ v. v.items ≡ worker_replies 0 (all_lines (items_of lists.now) (all_replies replies.now)) ++ unflushed_line page ++ counters_of ended.now evicted) }
-{
-    let mut out = Vec::new(alloc);
-    add_replies(alloc, lists, replies, &mut out)?;
-    unflushed_text(alloc, page, &mut out)?;
-    counters_text(
-        alloc,
-        ended.reads(),
-        ended.writes(),
-        ended.faults(),
-        evicted,
-        &mut out,
-    )?;
-    Ok(out)
 }
 
 /// The pages that the blocks hold, and the rows of the tree that they are.

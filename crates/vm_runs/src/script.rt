@@ -3,6 +3,7 @@
 ghost use Rattle.std.specs.Prelude.{◌≡◌, ◌≤◌};
 ghost use Rattle.vm_words.specs.declared.Command.TheVariants as commands;
 ghost use Rattle.vm_endings.specs.{Deliveries.content_of, Endings.AnswersCommand, Endings.HasReadCause, Files.HasFile};
+ghost use Rattle.vm_endings.specs.Outside.{Outside, Remains, with_shown, with_unread};
 ghost use Rattle.vm_reading.specs.Readings.{IsStoredIn};
 ghost use Rattle.vm_runs.specs.Answers.{AnswersRun, TellsLimits};
 
@@ -62,7 +63,7 @@ fn run_on<
 ) -> Result<Outcome<'a, TreeOf<WordKeys<S, N>>>, Undone<Stop<'a>>>
     requires limits { TellsLimits run.now (Ok workers) }
     requires image { HasFile (H.shown host.old) run.now.image.now (IsStoredIn N stored) }
-    ensures gives { AnswersRun N run.now (H.last host.new) (H.shown host.old) result }
+    ensures gives { (outside : Outside) (left : Remains) → AnswersRun N run.now (with_shown outside (H.shown host.old)) (with_unread left (H.last host.new)) result }
     ensures shown { H.shown host.new ≡ H.shown host.old }
     ensures puts { H.gives host.new ≡ H.gives host.old }
     ensures later { H.takes host.old ≤ H.takes host.new }
@@ -95,7 +96,7 @@ pub fn run_script<'a, R: Threads + Wait + Sync, H: Host, G: Gate + Sync>(
     gate: &G,
     ends: &mut Ends,
 ) -> Result<Delivery<'a>, Undone<Stop<'a>>>
-    ensures gives { AnswersCommand content_of (commands.Run run.now) (H.last host.new) (H.shown host.old) ends.old ends.new result }
+    ensures gives { (outside : Outside) (left : Remains) → AnswersCommand content_of (commands.Run run.now) (with_shown outside (H.shown host.old)) (with_unread left (H.last host.new)) ends.old ends.new result }
     ensures shown { H.shown host.new ≡ H.shown host.old }
     ensures puts { H.gives host.new ≡ H.gives host.old }
     ensures later { H.takes host.old ≤ H.takes host.new }

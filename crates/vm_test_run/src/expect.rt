@@ -8,9 +8,11 @@ use std::test::Fail;
 use std::thread::Threads;
 use vm_cli::ends::Ends;
 use vm_cli::run::run;
+use vm_device::MemDevices;
 use vm_drive::gate::{Gate, NoGate};
 use vm_io::host::Host;
 use vm_io::memory::MemHost;
+use vm_page::WORDS;
 
 /// One worker, on the page file `I0` and the script `S`.
 pub(crate) const RUN: &str = "run I0 S --workers 1 --frames 64";
@@ -62,7 +64,8 @@ pub(crate) fn perform<R: Threads + Wait + Sync, H: Host, G: Gate + Sync>(
     ends: &mut Ends,
 ) -> Result<u8, Fail> {
     let words = words(alloc, line)?;
-    let status = run(rt, alloc, words.as_slice(), host, gate, ends);
+    let mut devices = MemDevices::<WORDS>::new(alloc, Vec::new(alloc), &[], &[], &[])?;
+    let status = run(rt, alloc, words.as_slice(), host, gate, ends, &mut devices);
     if status == 6 {
         return Err(Fail::from("out of memory"));
     }

@@ -4,7 +4,9 @@ use crate::expect::{OLD, host_with, is_kept, words};
 use std::test::Fail;
 use vm_cli::ends::Ends;
 use vm_cli::run::run;
+use vm_device::MemDevices;
 use vm_drive::gate::NoGate;
+use vm_page::WORDS;
 
 /// Status 6 leaves the host and what is kept as they were, so that the same words over the same host are done then.
 #[test]
@@ -13,12 +15,15 @@ fn want_of_memory_changes_nothing(rt: HostRuntime) -> Result<(), Fail> {
     let mut host = host_with(alloc, "0 put 5 7\n")?;
     let mut ends = Ends::Nothing;
     let words = words(alloc, "run I0 S --workers 1 --frames 64 --keep K")?;
-    let mut status = run(&rt, alloc, words.as_slice(), &mut host, &NoGate, &mut ends);
+    let mut devices = MemDevices::<WORDS>::new(alloc, Vec::new(alloc), &[], &[], &[])?;
+    let devices = &mut devices;
+    let words = words.as_slice();
+    let mut status = run(&rt, alloc, words, &mut host, &NoGate, &mut ends, devices);
     if status == 6 {
         assert!(rt; host.said().is_empty());
         assert!(rt; host.file("K") == Some(OLD));
         assert!(rt; !is_kept(&ends));
-        status = run(&rt, alloc, words.as_slice(), &mut host, &NoGate, &mut ends);
+        status = run(&rt, alloc, words, &mut host, &NoGate, &mut ends, devices);
     }
     assert_eq!(rt; status, 0);
     assert!(rt; is_kept(&ends));

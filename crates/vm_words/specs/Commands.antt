@@ -11,7 +11,7 @@ use Rattle.vm_words.specs.declared.form.FormSlot.{FormSlot}
 use Rattle.vm_words.specs.declared.form.FormVerb.{FormVerb}
 use Rattle.vm_words.specs.declared.form.FormVerb.TheVariants as verbs
 use Rattle.vm_words.specs.declared.Command.{Command}
-use Rattle.vm_words.specs.declared.Command.TheVariants.{Run, Make, Check, Churn, Replay, Migrate}
+use Rattle.vm_words.specs.declared.Command.TheVariants.{Run, Make, Check, Churn, Replay, Migrate, Serve}
 
 -- the command that was entered, with what clap found for it
 abbrev pub Entered : Type 0
@@ -62,6 +62,10 @@ line_of (Churn churn) = (
 )
 line_of (Replay replay) = (verbs.Replay, named replay.file.now ∷ [])
 line_of (Migrate migrate) = (verbs.Migrate, named migrate.input.now ∷ named migrate.output.now ∷ counted migrate.pages ∷ [])
+line_of (Serve serve) = (
+  verbs.Serve,
+  named serve.file.now ∷ named serve.script.now ∷ counted serve.workers ∷ counted serve.frames ∷ [],
+)
 
 abbrev pub IsCommand : List Text → Command → Type 0
 IsCommand words command = IsCommandLine words (line_of command).0 (line_of command).1

@@ -13,6 +13,7 @@ pub enum FormVerb {
     Churn,
     Replay,
     Migrate,
+    Serve,
 }
 
 /// A word behind a command's name.
@@ -57,13 +58,14 @@ pub enum FormKind {
 }
 
 // Every command.
-pub(crate) const VERBS: [FormVerb; 6] = [
+pub(crate) const VERBS: [FormVerb; 7] = [
     FormVerb::Run,
     FormVerb::Make,
     FormVerb::Check,
     FormVerb::Churn,
     FormVerb::Replay,
     FormVerb::Migrate,
+    FormVerb::Serve,
 ];
 
 // The command's name.
@@ -77,6 +79,7 @@ pub(crate) fn title_of<'a>(verb: FormVerb) -> &'a str
         FormVerb::Churn => "churn",
         FormVerb::Replay => "replay",
         FormVerb::Migrate => "migrate",
+        FormVerb::Serve => "serve",
     }
 }
 
@@ -110,6 +113,12 @@ pub(crate) fn slots_of(verb: FormVerb) -> &'static [FormSlot]
         ],
         FormVerb::Check | FormVerb::Replay => &[FormSlot::File],
         FormVerb::Migrate => &[FormSlot::Input, FormSlot::Output, FormSlot::Pages],
+        FormVerb::Serve => &[
+            FormSlot::File,
+            FormSlot::Script,
+            FormSlot::Workers,
+            FormSlot::Frames,
+        ],
     }
 }
 

@@ -24,6 +24,7 @@ pub enum Command<'a> {
     Churn(Churn),
     Replay(Replay<'a>),
     Migrate(Migrate<'a>),
+    Serve(Serve<'a>),
 }
 
 /// `run IMAGE SCRIPT --workers W --frames F [--keep FILE] [--fail P:N,..] [--first-version V]`
@@ -106,6 +107,19 @@ pub struct Migrate<'a> {
     pub output: &'a str,
     /// How many pages it has.
     pub pages: u64,
+}
+
+/// `serve FILE SCRIPT --workers W --frames F`
+#[derive(Clone, Copy)]
+pub struct Serve<'a> {
+    /// The name of the page file that is worked on.
+    pub file: &'a str,
+    /// The name of the file with the script.
+    pub script: &'a str,
+    /// How many workers.
+    pub workers: u64,
+    /// How many frames.
+    pub frames: u64,
 }
 
 /// Why the words gave no command.

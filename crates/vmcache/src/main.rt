@@ -1,4 +1,4 @@
-//! Runs scripts of calls by several workers on the tree of a page file, and prints what they were answered and the rows; checks page files;
+//! Runs scripts of calls by several workers on the tree of a page file, also where it lies, and prints what they were answered; checks page files;
 //! replays lists of events.
 #![tactic(auto)]
 
@@ -7,8 +7,10 @@ use std::io::ErrorKind;
 use std::process::ExitCode;
 use vm_cli::ends::Ends;
 use vm_cli::run::run;
+use vm_device::FileDevices;
 use vm_drive::gate::NoGate;
 use vm_io::system::StdHost;
+use vm_page::WORDS;
 
 fn main(rt: HostRuntime) -> ExitCode {
     let alloc = rt.alloc();
@@ -23,8 +25,17 @@ fn main(rt: HostRuntime) -> ExitCode {
         }
     };
     let mut host = StdHost::new(&rt, alloc);
+    let mut devices = FileDevices::<&HostRuntime, WORDS>::new(&rt, alloc);
     let mut ends = Ends::Nothing;
-    ExitCode::from(run(&rt, alloc, words.as_slice(), &mut host, &NoGate, &mut ends))
+    ExitCode::from(run(
+        &rt,
+        alloc,
+        words.as_slice(),
+        &mut host,
+        &NoGate,
+        &mut ends,
+        &mut devices,
+    ))
 }
 
 // The words after the program's name.

@@ -187,7 +187,7 @@ impl<const N: usize> Devices<N> for MemDevices<N> {
         self.ledger.faults
     }
 
-    ghost told = { λ _. refl };
+    ghost told = { refl };
 
     ghost whole = { λ devices _. all_whole N devices.files.items };
 }

@@ -5,19 +5,19 @@ use Rattle.vm_endings.specs.Tests.{here, past}
 use Rattle.vm_files.proofs.make.sizes_of.Goals as goal
 
 pub returns-then-not-are_pages : goal.returns-then-not-are_pages
-returns-then-not-are_pages c = λ shown failed.
+returns-then-not-are_pages c = λ outside left.
     let pages : are_pages (words_or c.args.make.now.words) c.args.make.now.pages ≡ false =
     rw (← c.words_of-words.ensures) (sym c.are_pages.ensures ∙ c.if-not-are_pages.true) in
     here (pages, refl)
 
 pub returns-then-not-are_pairs_to_make : goal.returns-then-not-are_pairs_to_make
-returns-then-not-are_pairs_to_make c = λ shown failed.
+returns-then-not-are_pairs_to_make c = λ outside left.
     let pages : are_pages (words_or c.args.make.now.words) c.args.make.now.pages ≡ true =
     rw (← c.words_of-words.ensures) (sym c.are_pages.ensures ∙ c.if-not-are_pages.false) in
     past pages (here (sym c.are_pairs_to_make.ensures ∙ c.if-not-are_pairs_to_make.true, refl))
 
 pub returns-then-not-are_words : goal.returns-then-not-are_words
-returns-then-not-are_words c = λ shown failed.
+returns-then-not-are_words c = λ outside left.
     let pages : are_pages (words_or c.args.make.now.words) c.args.make.now.pages ≡ true =
     rw (← c.words_of-words.ensures) (sym c.are_pages.ensures ∙ c.if-not-are_pages.false) in
     let pairs : are_pairs_to_make c.args.make.now.pairs ≡ true = sym c.are_pairs_to_make.ensures ∙ c.if-not-are_pairs_to_make.false in
@@ -26,7 +26,7 @@ returns-then-not-are_words c = λ shown failed.
     past pages (past pairs (here (words, refl)))
 
 pub returns-then-pages-needed : goal.returns-then-pages-needed
-returns-then-pages-needed c = λ shown failed.
+returns-then-pages-needed c = λ outside left.
     let pages : are_pages (words_or c.args.make.now.words) c.args.make.now.pages ≡ true =
     rw (← c.words_of-words.ensures) (sym c.are_pages.ensures ∙ c.if-not-are_pages.false) in
     let pairs : are_pairs_to_make c.args.make.now.pairs ≡ true = sym c.are_pairs_to_make.ensures ∙ c.if-not-are_pairs_to_make.false in

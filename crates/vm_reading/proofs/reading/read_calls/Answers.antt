@@ -6,7 +6,7 @@ use Rattle.vm_reading.proofs.Files.{short_file, long_file, few_script, askable_s
 use Rattle.vm_reading.proofs.reading.read_calls.Goals as goal
 
 pub returns-in-Ok-read_script-clause-reads : goal.returns-in-Ok-read_script-clause-reads
-returns-in-Ok-read_script-clause-reads g c =
+returns-in-Ok-read_script-clause-reads g c = λ outside left.
     let k = rw c.as_slice.ensures.value at c.in-Ok-read_script.ensures.reading in
     short_file _ _ _ most_bytes (IsScriptOf c.args.workers (items_of c.in-Ok-read_script.lists.items))
     c.in-Ok.ensures.whole k.0 (record { short = k.0; reads = k.1 })
@@ -18,12 +18,12 @@ pub returns-in-Ok-read_script-clause-askable : goal.returns-in-Ok-read_script-cl
 returns-in-Ok-read_script-clause-askable g c = askable_script _ _ _ c.in-Ok-read_script.ensures.reading.1
 
 pub returns-in-Err-Long-clause-reads : goal.returns-in-Err-Long-clause-reads
-returns-in-Err-Long-clause-reads g c =
+returns-in-Err-Long-clause-reads g c = λ outside left.
     let k = rw c.in-Err-Long.field-0-is at c.in-Err-Long.ensures.reading in
     (refl, long_file _ _ _ _ c.in-Ok.ensures.whole (rw c.as_slice.ensures.value at k))
 
 pub returns-in-Err-Line-clause-reads : goal.returns-in-Err-Line-clause-reads
-returns-in-Err-Line-clause-reads g c =
+returns-in-Err-Line-clause-reads g c = λ outside left.
     let k = rw c.in-Err-Line.field-0-is at c.in-Err-Line.ensures.reading in
     let h = rw c.as_slice.ensures.value at k in (
       refl,

@@ -1,8 +1,11 @@
+use Rattle.vm_endings.specs.Outside.{with_shown, with_unread}
 use Rattle.vm_reading.proofs.Found.{tree-cause, tree-told}
 use Rattle.vm_reading.proofs.reading.read_tree.Goals as goal
 
 pub returns-in-Ok-clause-reads : goal.returns-in-Ok-clause-reads
-returns-in-Ok-clause-reads g c = tree-told _ _ _ _ c.tree_in.result c.in-Ok.ensures.whole (rw c.as_slice.ensures.value at c.tree_in.ensures)
+returns-in-Ok-clause-reads g c = λ outside left.
+    tree-told (with_shown outside _) (with_unread left _) _ _ c.tree_in.result c.in-Ok.ensures.whole
+    (rw c.as_slice.ensures.value at c.tree_in.ensures)
 
 pub returns-in-Ok-clause-cause : goal.returns-in-Ok-clause-cause
 returns-in-Ok-clause-cause g c = tree-cause _ _ _ c.tree_in.result c.tree_in.ensures

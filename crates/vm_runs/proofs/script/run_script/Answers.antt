@@ -1,13 +1,18 @@
-use Rattle.vm_runs.proofs.Running.{image-stops, limits-stop}
+use Rattle.std.proofs.Common.{arith}
+use Rattle.vm_endings.specs.Deliveries.{content_of}
+use Rattle.vm_endings.specs.Outside.{nothing_left, nowhere, with_shown, with_unread}
+use Rattle.vm_runs.proofs.Running.{image-stops, large-gives, limits-stop, run-stops, small-gives}
 use Rattle.vm_runs.proofs.EarlierCauses.{earlier-cause}
 use Rattle.vm_runs.proofs.script.run_script.Goals as goal
 
 pub returns-in-Err-clause-gives : goal.returns-in-Err-clause-gives
-returns-in-Err-clause-gives g c = limits-stop c.args.run.now c.in-Err.quantity c.in-Err.ensures _ _ c.args.ends.now
+returns-in-Err-clause-gives g c = λ outside left. limits-stop c.args.run.now c.in-Err.quantity c.in-Err.ensures
+    (with_shown outside _) (with_unread left _) c.args.ends.now
 
 pub returns-in-Err-read_tree-clause-gives : goal.returns-in-Err-read_tree-clause-gives
-returns-in-Err-read_tree-clause-gives g c = image-stops c.args.run.now c.in-Ok.workers c.in-Err-read_tree.undone
-    c.in-Ok.ensures _ _ c.in-Err-read_tree.ensures.reads c.args.ends.now
+returns-in-Err-read_tree-clause-gives g c = λ outside left. image-stops c.args.run.now c.in-Ok.workers
+    c.in-Err-read_tree.undone c.in-Ok.ensures (with_shown outside _) (with_unread left _)
+    (c.in-Err-read_tree.ensures.reads outside left) c.args.ends.now
 
 pub returns-in-Err-run_on-clause-cause : goal.returns-in-Err-run_on-clause-cause
 returns-in-Err-run_on-clause-cause g c =
@@ -16,3 +21,51 @@ returns-in-Err-run_on-clause-cause g c =
 pub returns-in-Err-run_on-2-clause-cause : goal.returns-in-Err-run_on-2-clause-cause
 returns-in-Err-run_on-2-clause-cause g c =
     earlier-cause _ _ _ c.in-Err-run_on-2.undone c.in-Ok-Words512.ensures.later c.in-Err-run_on-2.ensures.cause
+
+pub run_on-requires-after_bounds : goal.run_on-requires-after_bounds
+run_on-requires-after_bounds g c κs within = (
+  omega arith,
+  (
+    omega arith,
+    (
+      c.in-Ok.ensures,
+      rw c.in-Ok-Words64.ensures.shown
+          (rw c.in-Ok-Words64.field-0-is at (c.in-Ok-Words64.ensures.reads nowhere nothing_left)),
+    ),
+  ),
+)
+
+pub returns-in-Ok-run_on-clause-gives : goal.returns-in-Ok-run_on-clause-gives
+returns-in-Ok-run_on-clause-gives g c = λ outside left.
+    small-gives c.args.run.now (with_shown outside _) (with_unread left _)
+    (content_of c.in-Ok-run_on.field-0.delivery) c.in-Ok-run_on.field-0.ended c.args.ends.now
+    (rw c.in-Ok-Words64.ensures.shown at (c.in-Ok-run_on.ensures.gives outside left))
+
+pub returns-in-Err-run_on-clause-gives : goal.returns-in-Err-run_on-clause-gives
+returns-in-Err-run_on-clause-gives g c = λ outside left.
+    run-stops c.args.run.now (with_shown outside _) (with_unread left _) c.in-Err-run_on.undone c.args.ends.now
+    (rw c.in-Ok-Words64.ensures.shown at (c.in-Err-run_on.ensures.gives outside left))
+
+pub run_on-requires-in-Ok-Words512-after_bounds : goal.run_on-requires-in-Ok-Words512-after_bounds
+run_on-requires-in-Ok-Words512-after_bounds g c κs within = (
+  omega arith,
+  (
+    omega arith,
+    (
+      c.in-Ok.ensures,
+      rw c.in-Ok-Words512.ensures.shown
+          (rw c.in-Ok-Words512.field-0-is at (c.in-Ok-Words512.ensures.reads nowhere nothing_left)),
+    ),
+  ),
+)
+
+pub returns-in-Ok-run_on-2-clause-gives : goal.returns-in-Ok-run_on-2-clause-gives
+returns-in-Ok-run_on-2-clause-gives g c = λ outside left.
+    large-gives c.args.run.now (with_shown outside _) (with_unread left _)
+    (content_of c.in-Ok-run_on-2.field-0.delivery) c.in-Ok-run_on-2.field-0.ended c.args.ends.now
+    (rw c.in-Ok-Words512.ensures.shown at (c.in-Ok-run_on-2.ensures.gives outside left))
+
+pub returns-in-Err-run_on-2-clause-gives : goal.returns-in-Err-run_on-2-clause-gives
+returns-in-Err-run_on-2-clause-gives g c = λ outside left.
+    run-stops c.args.run.now (with_shown outside _) (with_unread left _) c.in-Err-run_on-2.undone c.args.ends.now
+    (rw c.in-Ok-Words512.ensures.shown at (c.in-Err-run_on-2.ensures.gives outside left))

@@ -1,0 +1,6 @@
+//! The command `serve`, up to what goes out: a script's calls, made by workers on the tree of a page file where it lies.
+#![tactic(auto)]
+
+mod pages;
+pub mod serve;
+mod work;
