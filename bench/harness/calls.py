@@ -1,4 +1,4 @@
-"""Scripts of puts and dels: their lines, the right replies, and the last map. No two workers share a key, so each reply and the last map are fixed."""
+"""Scripts of gets, puts and dels: their lines, the right replies, and the last map. No two workers share a key, so each reply and the last map are fixed."""
 import dataclasses
 import functools
 import re
@@ -6,10 +6,13 @@ import re
 from harness import ranges
 from harness.console import Failure
 
+# In the place of a value: the call is a get.
+GET = object()
+
 
 @dataclasses.dataclass(frozen=True, eq=False)
 class Script:
-    """The rows of the map before, and of each worker its calls: pairs of a key and the value that is put there, or None for a del."""
+    """The rows of the map before, and of each worker its calls: pairs of a key and the value that is put there, or None for a del, or GET."""
 
     before: list
     lists: list
@@ -36,9 +39,11 @@ class Script:
 
     def require_replies(self, engine, lines):
         """Each reply, then each row, then one line of counters."""
-        require_lines(engine, lines[:-1], [*self.replies, *rows_text(self.rows)])
-        if not lines[-1].startswith("counters "):
-            raise Failure(f"{engine} ends with '{lines[-1]}', and not with its counters")
+        require_with_counters(engine, lines, [*self.replies, *rows_text(self.rows)])
+
+    def require_replies_alone(self, engine, lines):
+        """Each reply, then one line of counters, as a serve prints them."""
+        require_with_counters(engine, lines, self.replies)
 
     def pages_in_use(self, engine, lines):
         """What `check` tells of the file that was kept, whose rows must be the right ones."""
@@ -49,24 +54,34 @@ class Script:
         return int(size[1])
 
     @property
-    def summary_of_peer(self):
-        """The line that a peer must print."""
+    def summary_of_calls(self):
+        """The line that a peer must print of the calls: how many found a value, and the sum of these, how many put a new key, and how many took one out."""
         replies = [reply for by_worker in self.outcome[0] for reply in by_worker]
+        read = [int(reply.removeprefix("some ")) for reply in replies if reply.startswith("some ")]
         gone = sum(reply.startswith("gone ") for reply in replies)
-        keys, values = (sum(numbers) % ranges.NUMBERS for numbers in zip(*self.rows)) if self.rows else (0, 0)
-        return f"calls {len(replies)} new {replies.count('new')} gone {gone} rows {len(self.rows)} keys {keys} sum {values}"
+        return f"calls {len(replies)} some {len(read)} read {sum(read) % ranges.NUMBERS} new {replies.count('new')} gone {gone}"
 
-    def require_summary_of_peer(self, engine, summary):
-        if summary != self.summary_of_peer:
-            raise Failure(f"{engine} answers '{summary}', which is not '{self.summary_of_peer}'")
+    @property
+    def summary_of_rows(self):
+        """The line that it must print of the last map."""
+        keys, values = (sum(numbers) % ranges.NUMBERS for numbers in zip(*self.rows)) if self.rows else (0, 0)
+        return f"rows {len(self.rows)} keys {keys} sum {values}"
+
+    def require_summary_of_peer(self, engine, lines):
+        """Both lines."""
+        require_lines(engine, lines, [self.summary_of_calls, self.summary_of_rows])
 
 
 def call_text(key, value):
+    if value is GET:
+        return f"get {key}"
     return f"del {key}" if value is None else f"put {key} {value}"
 
 
 def reply_to(pairs, key, value):
     """What the call does to the map, and its reply."""
+    if value is GET:
+        return f"some {pairs[key]}" if key in pairs else "none"
     old = pairs.pop(key, None)
     if value is None:
         return "none" if old is None else f"gone {old}"
@@ -76,6 +91,13 @@ def reply_to(pairs, key, value):
 
 def rows_text(rows):
     return [f"row {key} {value}" for key, value in rows]
+
+
+def require_with_counters(engine, lines, right):
+    """The right lines, then one of counters."""
+    require_lines(engine, lines[:-1], right)
+    if not lines or not lines[-1].startswith("counters "):
+        raise Failure(f"{engine} ends with '{lines[-1] if lines else ''}', and not with its counters")
 
 
 def require_lines(engine, lines, right):

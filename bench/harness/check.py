@@ -1,21 +1,23 @@
 """The test of the harness: small runs of all engines, whose summaries must be right, and the two clocks beside each other."""
-from harness import program, ranges, rounds, space, turnover, watch, workload
+from harness import calls, program, ranges, rounds, served, space, turnover, watch, workload
 from harness.console import Failure, say
 
 PAIRS = 1_000
 PAIRS_OF_THE_CLOCKS = 100_000
+CALLS = 1_000  # on the served file
 # Between the watch and a peer's own clock lie the start and the end of threads: on a busy machine some turns of its scheduler.
 APART = 0.1
 
 
 def check(engines, limit):
     """0 where all is right, else 1; says each step that is wrong."""
-    faults = [*faults_of_sizes(), *faults_of_lines(), *faults_of_turnover(), *faults_of_kinds()]
+    faults = [*faults_of_sizes(), *faults_of_lines(), *faults_of_turnover(), *faults_of_kinds(), *faults_of_gets()]
     for part in rounds.PARTS:
         taking_part = part.engines_of(engines)
         faults += faults_of_part(part, taking_part, limit)
         say(f"{part.name} with {', '.join(map(str, part.workers))} workers: {', '.join(engine.name for engine in taking_part)}")
     faults += faults_of_space(space.engines_of(engines), limit)
+    faults += faults_of_served(engines, limit)
     faults += faults_of_watch(engines, limit)
     for fault in faults:
         say(f"wrong: {fault}")
@@ -45,6 +47,17 @@ def faults_of_space(engines, limit):
             if isinstance(engine, program.Program) and kind.name == "most" and behind >= before:
                 yield f"{rounds.SPACE}, {kind.name}: {engine.name} has {before} bytes before, and {behind} behind"
     say(f"{rounds.SPACE}: {', '.join(engine.name for engine in engines)}")
+
+
+def faults_of_served(engines, limit):
+    """Runs that did not end well, or with another summary or other rows in the file."""
+    for workers in served.WORKERS:
+        for engine, mode in served.modes_of(engines, workers):
+            try:
+                engine.run_served(mode, served.Job(CALLS, workers, mode.frames), limit)
+            except Failure as failure:
+                yield f"{served.NAME} with {workers} workers, {mode.title}, sync {mode.sync}: {failure}"
+    say(f"{served.NAME}: {', '.join(engine.name for engine in engines if engine.modes)}")
 
 
 def faults_of_sizes():
@@ -95,24 +108,45 @@ def faults_of_turnover():
         yield f"the turnover of three pairs is {script.lists}"
     if script.lines[:2] != ["0 del 1\n", f"0 put {middle + 1} 4\n"]:
         yield f"the lines of a turnover begin with {script.lines[:2]}"
-    if script.summary_of_peer != f"calls 12 new 6 gone 6 rows 3 keys {(3 + middle + 2 + last + 2) % ranges.NUMBERS} sum 24":
-        yield f"the summary of a turnover is '{script.summary_of_peer}'"
+    summary = ["calls 12 some 0 read 0 new 6 gone 6", f"rows 3 keys {(3 + middle + 2 + last + 2) % ranges.NUMBERS} sum 24"]
+    if [script.summary_of_calls, script.summary_of_rows] != summary:
+        yield f"the summary of a turnover is '{script.summary_of_calls}', '{script.summary_of_rows}'"
     replies = [*(f"0 {place} {reply}" for place, reply in enumerate(("gone 1", "new", "gone 3", "new", "gone 4", "new", "gone 6", "new"), 1))]
     replies += [*(f"1 {place} {reply}" for place, reply in enumerate(("gone 2", "new", "gone 5", "new"), 1))]
     right = [*replies, "row 3 8", f"row {middle + 2} 9", f"row {last + 2} 7", "counters reads 5 writes 5 faults 0 evicted 0"]
     for wrong in ([*right[:7], "0 8 full", *right[8:]], [*right[:12], *right[13:]], right[:-1], [*right, right[-1]]):
-        if are_taken(script, wrong):
+        if are_taken(script.require_replies, wrong):
             yield f"replies to a turnover are taken where {right} are right: {wrong}"
-    if not are_taken(script, right):
+    if not are_taken(script.require_replies, right):
         yield "the right replies to a turnover are not taken"
 
 
-def are_taken(script, lines):
+def are_taken(require, lines):
     try:
-        script.require_replies("", lines)
+        require("", lines)
     except Failure:
         return False
     return True
+
+
+def faults_of_gets():
+    """Gets and puts of one worker on one pair, worked out by hand; and of the served calls how many are puts, and whose keys they have."""
+    script = calls.Script([(1, 5)], [[(1, calls.GET), (2, calls.GET), (2, 7), (2, calls.GET), (1, 9)]])
+    right = ["0 1 some 5", "0 2 none", "0 3 new", "0 4 some 7", "0 5 was 5", "counters reads 2 writes 1 faults 0 evicted 0"]
+    for wrong in ([*right[:3], "0 4 some 5", *right[4:]], [*right[:4], right[5]], right[:5], [*right[:5], "row 1 9", right[5]]):
+        if are_taken(script.require_replies_alone, wrong):
+            yield f"replies to gets and puts are taken where {right} are right: {wrong}"
+    if not are_taken(script.require_replies_alone, right):
+        yield "the right replies to gets and puts are not taken"
+    summary = ["calls 5 some 2 read 12 new 1 gone 0", "rows 2 keys 3 sum 16"]
+    if not are_taken(script.require_summary_of_peer, summary) or are_taken(script.require_summary_of_peer, summary[:1]):
+        yield "the right summary of gets and puts is not taken, or a half of it is"
+    for workers in served.WORKERS:
+        lists = served.script_of(CALLS, workers).lists
+        if sum(value is not calls.GET for by_worker in lists for _, value in by_worker) != CALLS // 2:
+            yield f"not half of {CALLS} served calls are puts"
+        if any(key not in served.keys_of(worker, workers) for worker, by_worker in enumerate(lists) for key, _ in by_worker):
+            yield f"one of {workers} workers has a key of another one"
 
 
 def faults_of_kinds():

@@ -4,10 +4,13 @@ import os
 import pathlib
 import platform
 import subprocess
+import tempfile
+import time
 
 from harness import compiler
 
 LOAD_OF_AN_IDLE_MACHINE = 0.5
+SYNCS = 100
 
 
 def first_line(*words):
@@ -52,6 +55,20 @@ def in_full():
     memory = value_in("/proc/meminfo", "MemTotal").split()[0]
     gibibytes = f"{int(memory) / 2**20:.0f} GiB" if memory.isdigit() else "memory unknown"
     return f"{in_short()}, {gibibytes}, {platform.system()} {platform.release()}, {first_line('g++', '--version')}"
+
+
+def file_system(place):
+    return first_line("findmnt", "--noheadings", "--output", "FSTYPE", "--target", place) or "an unknown file system"
+
+
+def milliseconds_of_sync(place):
+    """How long a write of 512 bytes and its sync take in a file of this folder: the mean of a hundred."""
+    with tempfile.TemporaryFile(dir=place, buffering=0) as file:
+        start = time.perf_counter()
+        for _ in range(SYNCS):
+            file.write(bytes(512))
+            os.fdatasync(file.fileno())
+        return (time.perf_counter() - start) / SYNCS * 1000
 
 
 def commit():

@@ -1,18 +1,20 @@
 """The other engines: their packages, their programs, and how one is run."""
 import dataclasses
+import os
 import pathlib
 
-from harness import compiler, packages, process, ranges, space, turnover, workload
+from harness import compiler, packages, process, ranges, served, space, turnover, workload
 from harness.console import Failure
 
 SOURCES = compiler.BENCH / "peers"
-SHARED_SOURCES = ("main.cc", "calls.cc", "churn.cc", "ranges.cc", "workers.cc")
+SHARED_SOURCES = ("main.cc", "calls.cc", "churn.cc", "ranges.cc", "served.cc", "workers.cc")
 
 
 @dataclasses.dataclass(frozen=True)
 class Peer:
     """An engine: its name on the command line, its name in tables, its own source files, what it needs of Debian, whether its memory can be bounded, whether it
-    has ranges of one moment, whether its writes look and so are answered, whether it counts its pages, and what a reader of its numbers has to know."""
+    has ranges of one moment, whether its writes look and so are answered, whether it counts its pages, whether it makes other calls than those on a file that
+    stays, in which modes it makes these, and what a reader of its numbers has to know."""
 
     name: str
     title: str
@@ -24,6 +26,8 @@ class Peer:
     has_ranges: bool = True
     answers_writes: bool = True
     tells_bytes: bool = False
+    churns: bool = True
+    modes: tuple = ()
     remark: str = ""
     # Its memory is bounded to the bytes of the program's frames of this size.
     words: int = workload.SMALL_PAGE
@@ -50,17 +54,16 @@ class Peer:
     def run_space(self, kind, job, limit):
         """The bytes of the pages that hold the map once it is filled, and once the calls are made. Its summary is right, else it has failed."""
         told, _, _ = self.run_calls(space.script_of(kind, job.pairs), job, limit)
-        name, *counts = told.split()
-        if name != "bytes":
-            raise Failure(f"{self.name} tells of its pages '{told}'")
-        return tuple(map(int, counts))
+        if len(told) != 1 or not told[0].startswith("bytes "):
+            raise Failure(f"{self.name} tells of its pages {told}")
+        return tuple(map(int, told[0].split()[1:]))
 
     def run_calls(self, script, job, limit):
-        """What it tells of its pages, its seconds, and what the run cost."""
+        """The lines that it tells of its pages, its seconds, and what the run cost."""
         summary, seconds, ran = self.run_script(script.lines, job, limit)
-        calls, _, told = summary.partition("\n")
-        script.require_summary_of_peer(self.name, calls)
-        return told, seconds, ran
+        lines = summary.split("\n")
+        script.require_summary_of_peer(self.name, lines[:2])
+        return lines[2:], seconds, ran
 
     def run_script(self, lines, job, limit, *more):
         """What it printed as its summary and its seconds, and what the run cost."""
@@ -69,6 +72,23 @@ class Peer:
             script.write_text("".join(lines), encoding="ascii")
             own_folder.mkdir()
             return self.ended([*self.words_for(job, own_folder), script, *more], limit, {})
+
+    def run_served(self, mode, job, limit):
+        """What the run cost, and the bytes of its files. Its summary is right, and so is that of the rows that it leaves, else it has failed."""
+        script = served.script_of(job.calls, job.workers)
+        with served.folder() as folder:
+            own_folder = pathlib.Path(folder) / "store"
+            own_folder.mkdir()
+            words = [served.PAIRS, workload.SEED, job.workers, own_folder, served.write_script(pathlib.Path(folder) / "script", script), mode.word]
+            self.step("fill", words, limit)
+            os.sync()
+            ran = self.step("serve", words, limit)
+            size = sum(file.stat().st_size for file in own_folder.iterdir())
+            script.require_summary_of_peer(self.name, [ran.output.strip(), self.step("rows", words, limit).output.strip()])
+            return ran, size
+
+    def step(self, step, words, limit):
+        return process.run([str(word) for word in (program_of(self), step, *words)], limit, {})
 
     def words_for(self, job, folder):
         return [program_of(self), job.pairs, workload.SEED, job.workers, folder, job.cache_bytes]
@@ -85,7 +105,10 @@ DEBUG_BUILD = "RocksDB as Debian 12 builds it has its aids for debugging in it, 
 PEERS = (
     Peer("olc", "B+-tree, plain C++", ("olc.cc", "olc_tree.cc"), has_ranges=False, tells_bytes=True),
     Peer("map", "std::map, one mutex", ("map.cc",)),
-    Peer("lmdb", "LMDB", ("lmdb.cc",), "liblmdb-dev", "lmdb.h", "lmdb", tells_bytes=True),
+    Peer("lmdb", "LMDB", ("lmdb.cc",), "liblmdb-dev", "lmdb.h", "lmdb", tells_bytes=True, modes=served.TRANSACTION_A_CALL),
+    Peer(
+        "sqlite", "SQLite", ("sqlite.cc",), "libsqlite3-dev", "sqlite3.h", "sqlite3", churns=False, modes=served.TRANSACTION_A_CALL + served.ONE_TRANSACTION
+    ),
     Peer("wiredtiger", "WiredTiger", ("wiredtiger.cc",), "libwiredtiger-dev", "wiredtiger.h", "wiredtiger", can_be_bounded=True),
     Peer(
         "rocksdb", "RocksDB", ("rocksdb.cc",), "librocksdb-dev", "rocksdb/db.h", "rocksdb", can_be_bounded=True, answers_writes=False, remark=DEBUG_BUILD

@@ -22,10 +22,11 @@ class Ran:
     peak: int
 
 
-def scratch_folder():
-    """A folder in memory where the machine has one, so that no engine waits for a disk that the others do not use."""
+def scratch_folder(place=None):
+    """A folder at this place; else in memory where the machine has one, so that no engine waits for a disk that the others do not use."""
     memory = pathlib.Path("/dev/shm")
-    place = memory if memory.is_dir() and os.access(memory, os.W_OK) else None
+    if place is None and memory.is_dir() and os.access(memory, os.W_OK):
+        place = memory
     return tempfile.TemporaryDirectory(prefix="vmcache-bench-", dir=place)
 
 

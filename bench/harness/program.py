@@ -1,8 +1,9 @@
 """The repository's own program, as one of the engines: how it is built, and how its workers' phase is measured though it has no clock."""
+import os
 import pathlib
 import subprocess
 
-from harness import compiler, process, ranges, space, turnover, watch, workload
+from harness import compiler, process, ranges, served, space, turnover, watch, workload
 from harness.console import Failure
 
 TOP = compiler.BENCH.parent
@@ -21,6 +22,8 @@ class Program:
     has_ranges = True
     answers_writes = True
     tells_bytes = True
+    churns = True
+    modes = served.PROGRAM
     words = workload.SMALL_PAGE
 
     def __init__(self, path=None):
@@ -85,6 +88,19 @@ class Program:
         script.require_replies(self.name, ran.output.splitlines())
         return script.pages_in_use(self.name, self.ran("check", image, limit=limit).output.splitlines())
 
+    def run_served(self, mode, job, limit):
+        """What the run cost, and the bytes of the file. Each reply is right, and so is each row of the file behind it, else it has failed."""
+        script = served.script_of(job.calls, job.workers)
+        with served.folder() as folder:
+            image, calls = (pathlib.Path(folder) / name for name in ("image", "script"))
+            self.make(image, served.PAGES, served.PAIRS, job, limit)
+            words = ["serve", image, served.write_script(calls, script), "--workers", job.workers, "--frames", job.frames]
+            os.sync()
+            ran = self.ran(*words, limit=limit, environment=watch.WITHOUT_SYNC if mode.sync == served.NEVER else {})
+            script.require_replies_alone(self.name, ran.output.splitlines())
+            script.pages_in_use(self.name, self.ran("check", image, limit=limit).output.splitlines())
+            return ran, image.stat().st_size
+
     def make(self, image, pages, pairs, job, limit):
         self.ran("make", image, pages, pairs, workload.SEED, *size_of(job), limit=limit)
 
@@ -109,6 +125,7 @@ class LargePages(Program):
 
     name = "vmcache512"
     title = "vmcache, pages of 4 KiB"
+    modes = ()
     words = workload.LARGE_PAGE
 
 

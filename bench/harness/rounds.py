@@ -1,8 +1,9 @@
 """The runs of a measurement, in turn: round 1 of all engines, then round 2 of all, so that what the machine does meanwhile meets them alike."""
 import dataclasses
+import functools
 import typing
 
-from harness import program, ranges, space, turnover, workload
+from harness import program, ranges, served, space, turnover, workload
 from harness.console import Failure, say
 
 
@@ -24,7 +25,10 @@ class Part:
 
     def engines_of(self, engines):
         """Those of the engines that can take part."""
-        return [engine for engine in engines if engine.can_be_bounded or not self.is_bounded]
+        return [engine for engine in engines if engine.churns and self.takes(engine)]
+
+    def takes(self, engine):
+        return engine.can_be_bounded or not self.is_bounded
 
     def calls_of(self, pairs):
         return workload.calls_of(pairs)
@@ -48,8 +52,8 @@ class RangesPart(Part):
     def heading(self):
         return self.title
 
-    def engines_of(self, engines):
-        return [engine for engine in engines if engine.has_ranges]
+    def takes(self, engine):
+        return engine.has_ranges
 
     def calls_of(self, pairs):
         return ranges.RANGES
@@ -68,8 +72,8 @@ class TurnoverPart(Part):
     def heading(self):
         return self.title
 
-    def engines_of(self, engines):
-        return [engine for engine in engines if engine.answers_writes]
+    def takes(self, engine):
+        return engine.answers_writes
 
     def calls_of(self, pairs):
         return turnover.calls_of(pairs)
@@ -115,7 +119,7 @@ class Rounds:
 
     def __init__(self, pairs, limit):
         self.pairs, self.limit = pairs, limit
-        self.samples, self.spaces, self.failures, self.was_ended_by_hand = [], {}, {}, False
+        self.samples, self.spaces, self.served, self.failures, self.was_ended_by_hand = [], {}, [], {}, False
 
     def measure(self, part, engine, job, number, run=PARTS[0].run):
         """One run, unless it failed before."""
@@ -147,6 +151,18 @@ class Rounds:
         """One round of the program alone, with the fewest frames and with the most."""
         for frames in COST_FRAMES:
             self.measure(COST, engine, workload.Job(self.pairs, COST_WORKERS, frames, bounded=False, words=engine.words), number)
+
+    def run_served(self, engines, calls, number):
+        """One round of the engines that serve files."""
+        for workers in served.WORKERS:
+            for engine, mode in served.modes_of(engines, workers):
+                job = served.Job(calls, workers, mode.frames)
+                title = f"{served.NAME}, {mode.title}, sync {mode.sync}"
+                run = functools.partial(engine.run_served, mode, job, self.limit)
+                told = self.tried(title, engine, job, f"round {number}, {title}", run)
+                if told:
+                    ran, size = told
+                    self.served.append(served.Run(number, engine.name, mode, workers, ran.wall, ran.processor, ran.peak, size))
 
     def run_space(self, engines):
         """The bytes of each engine that tells them, before and behind the calls of each kind: once, since neither time nor another worker has a part in them."""

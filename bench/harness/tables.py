@@ -3,7 +3,7 @@ import collections
 import csv
 import statistics
 
-from harness import program, rounds, space
+from harness import program, rounds, served, space
 
 OURS = program.Program.name
 NONE = "-"
@@ -96,6 +96,31 @@ def space_table(spaces, titles):
     return markdown(head, rows)
 
 
+def served_table(runs, titles):
+    """A row an engine and mode: seconds of a whole run, the median and in brackets the best, for each number of workers, and what else one worker's run cost."""
+    workers_heads = (f"{workers} worker{'s' if workers > 1 else ''}" for workers in served.WORKERS)
+    head = ["engine", "sync", *workers_heads, "user and system", "peak resident", "files"]
+    rows = []
+    for engine, mode in dict.fromkeys((run.engine, run.mode) for run in runs):
+        of_row = [run for run in runs if (run.engine, run.mode) == (engine, mode)]
+        cells = [seconds_cell([run.wall for run in of_row if run.workers == workers]) for workers in served.WORKERS]
+        title = f"**{titles[engine]}**" if engine == OURS else titles[engine]
+        rows.append([f"{title}, {mode.title}", served.SYNCS[mode.sync], *cells, *costs_of_served([run for run in of_row if run.workers == 1])])
+    return markdown(head, rows)
+
+
+def costs_of_served(runs):
+    """The processor's time, the largest peak and the bytes of the files."""
+    if not runs:
+        return [NONE] * 3
+    peak, size = max(run.peak for run in runs), max(run.bytes for run in runs)
+    return [f"{statistics.median(run.processor for run in runs):.2f} s", f"{peak / 1024:.0f} MiB", kilobytes(size)]
+
+
+def seconds_cell(seconds):
+    return f"{statistics.median(seconds):.2f} s ({min(seconds):.2f} s)" if seconds else NONE
+
+
 def kilobytes(count):
     return f"{count / 1000:,.0f} kB"
 
@@ -132,3 +157,12 @@ def write_spaces(path, spaces):
         writer = csv.writer(file)
         writer.writerow(["engine", "calls", "bytes_before", "bytes_behind"])
         writer.writerows([engine, kind, *told] for (engine, kind), told in spaces.items())
+
+
+def write_served(path, runs):
+    """Each run on a file, as it was measured."""
+    with open(path, "w", newline="", encoding="utf-8") as file:
+        writer = csv.writer(file)
+        writer.writerow(["round", "engine", "mode", "sync", "workers", "run_seconds", "processor_seconds", "peak_kibibytes", "bytes_of_files"])
+        for run in runs:
+            writer.writerow([run.round, run.engine, run.mode.title, run.mode.sync, run.workers, f"{run.wall:.6f}", f"{run.processor:.6f}", run.peak, run.bytes])

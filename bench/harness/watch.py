@@ -1,14 +1,17 @@
-"""Measures the workers' phase of a program that has no clock, from outside: from the making of its first thread to the end of its last join."""
+"""What is loaded before the program: a watch that measures the workers' phase of one that has no clock, from the making of its first thread to the end of its
+last join; and a library whose syncs wait for nothing."""
 import pathlib
 import tempfile
 
 from harness import compiler
 
-LIBRARY = compiler.OUT / "watch.so"
+LIBRARY, UNSYNCED = compiler.OUT / "watch.so", compiler.OUT / "unsynced.so"
+WITHOUT_SYNC = {"LD_PRELOAD": str(UNSYNCED)}
 
 
 def prepare():
-    compiler.compile_to(LIBRARY, [compiler.BENCH / "watch" / "watch.cc"], ["-shared", "-fPIC", "-ldl"])
+    for library in (LIBRARY, UNSYNCED):
+        compiler.compile_to(library, [compiler.BENCH / "watch" / f"{library.stem}.cc"], ["-shared", "-fPIC", "-ldl"])
 
 
 class Watch:

@@ -1,4 +1,4 @@
-// LMDB: a transaction for each call, no sync. A reader's transaction and its cursor are kept and renewed, as the engine's guide has it.
+// LMDB: a transaction for each call, with a sync or without. A reader's transaction and its cursor are kept and renewed, as the engine's guide has it.
 #include <lmdb.h>
 
 #include <cstring>
@@ -41,7 +41,7 @@ class LmdbSession : public Session {
   }
 
   bool put(uint64_t key, uint64_t value) override {
-    MDB_txn* const writer = begin();
+    MDB_txn* const writer = begin_writing();
     MDB_val key_bytes = bytes_of(key), value_bytes = bytes_of(value);
     const int status = mdb_put(writer, table_, &key_bytes, &value_bytes, MDB_NOOVERWRITE);
     if (status == MDB_KEYEXIST) {
@@ -55,7 +55,7 @@ class LmdbSession : public Session {
   }
 
   bool del(uint64_t key) override {
-    MDB_txn* const writer = begin();
+    MDB_txn* const writer = begin_writing();
     MDB_val key_bytes = bytes_of(key);
     const int status = mdb_del(writer, table_, &key_bytes, nullptr);
     if (status != MDB_NOTFOUND) must(status);
@@ -81,7 +81,7 @@ class LmdbSession : public Session {
  private:
   void begin_reading() { must(reader_ ? mdb_txn_renew(reader_) : mdb_txn_begin(env_, nullptr, MDB_RDONLY, &reader_)); }
 
-  MDB_txn* begin() {
+  MDB_txn* begin_writing() {
     MDB_txn* writer;
     must(mdb_txn_begin(env_, nullptr, 0, &writer));
     return writer;
@@ -93,12 +93,17 @@ class LmdbSession : public Session {
   MDB_cursor* cursor_ = nullptr;
 };
 
+unsigned flags_for(Files files) {
+  if (files == Files::scratch) return MDB_NOSYNC | MDB_NOMETASYNC | MDB_WRITEMAP;
+  return files == Files::unsynced ? MDB_NOSYNC : 0;
+}
+
 class LmdbStore : public Store {
  public:
-  explicit LmdbStore(const std::string& folder) {
+  LmdbStore(const std::string& folder, Files files) {
     must(mdb_env_create(&env_));
     must(mdb_env_set_mapsize(env_, size_t(4) << 30));
-    must(mdb_env_open(env_, folder.c_str(), MDB_NOSYNC | MDB_NOMETASYNC | MDB_WRITEMAP, 0644));
+    must(mdb_env_open(env_, folder.c_str(), flags_for(files), 0644));
     MDB_txn* writer;
     must(mdb_txn_begin(env_, nullptr, 0, &writer));
     must(mdb_dbi_open(writer, nullptr, MDB_INTEGERKEY, &table_));
@@ -106,6 +111,7 @@ class LmdbStore : public Store {
   }
   ~LmdbStore() override { mdb_env_close(env_); }
   std::unique_ptr<Session> session() override { return std::make_unique<LmdbSession>(env_, table_); }
+  void sync() override { must(mdb_env_sync(env_, 1)); }
 
   // As the tool mdb_stat counts them: without the free pages and the two that name the roots.
   std::optional<uint64_t> bytes_of_pages() override {
@@ -124,4 +130,4 @@ class LmdbStore : public Store {
 
 }  // namespace
 
-std::unique_ptr<Store> open_store(const Settings& settings) { return std::make_unique<LmdbStore>(settings.folder); }
+std::unique_ptr<Store> open_store(const Settings& settings) { return std::make_unique<LmdbStore>(settings.folder, settings.files); }

@@ -1,5 +1,5 @@
-// Runs a workload on the one peer that this program is linked with: churn, or with a script its puts and dels, or with times too its ranges. Prints a summary, of
-// churn in the words of `vmcache churn`, and the seconds of the workers.
+// Runs a workload on the one peer that this program is linked with: churn, or with a script its calls, or with times too its ranges; or a step on files that
+// stay: `fill`, `serve` or `rows`. Prints a summary, of churn in the words of `vmcache churn`, and the seconds of the workers.
 #include <charconv>
 #include <cstdio>
 #include <cstring>
@@ -9,10 +9,11 @@
 #include "calls.h"
 #include "churn.h"
 #include "ranges.h"
+#include "served.h"
 
 namespace {
 
-constexpr int CHURN_WORDS = 6, CALLS_WORDS = 7, RANGES_WORDS = 8;
+constexpr int CHURN_WORDS = 6, CALLS_WORDS = 7, RANGES_WORDS = 8, SERVED_WORDS = 8;
 
 uint64_t number_of(const char* word, uint64_t least, uint64_t most) {
   uint64_t number = 0;
@@ -29,11 +30,18 @@ void run_churn(Store& store, const Work& work) {
   std::printf("seconds %.9f\n", churned.seconds);
 }
 
+void print_answers(const Answers& is) {
+  std::printf("calls %lu some %lu read %lu new %lu gone %lu\n", is.calls, is.some, is.read, is.fresh, is.gone);
+}
+
+void print_rows(const Rows& are) { std::printf("rows %lu keys %lu sum %lu\n", are.count, are.keys, are.sum); }
+
 void run_calls(Store& store, const Work& work, const Lists& lists) {
   const Called is = make_calls(store, work, lists);
-  std::printf("calls %lu new %lu gone %lu rows %lu keys %lu sum %lu\n", is.calls, is.fresh, is.gone, is.rows, is.keys, is.sum);
+  print_answers(is.answers);
+  print_rows(is.rows);
   if (is.bytes_before && is.bytes_after) std::printf("bytes %lu %lu\n", *is.bytes_before, *is.bytes_after);
-  std::printf("seconds %.9f\n", is.seconds);
+  std::printf("seconds %.9f\n", is.answers.seconds);
 }
 
 void run_ranges(Store& store, const Work& work, const char* script, unsigned times) {
@@ -42,8 +50,30 @@ void run_ranges(Store& store, const Work& work, const char* script, unsigned tim
   std::printf("seconds %.9f\n", is.seconds);
 }
 
+// The words of all workloads: PAIRS SEED WORKERS.
+Work work_of(char** words) {
+  return {number_of(words[0], 1, 10'000'000), number_of(words[1], 0, UINT64_MAX), unsigned(number_of(words[2], 1, 64))};
+}
+
+bool is_step(const std::string& word) { return word == "fill" || word == "serve" || word == "rows"; }
+
+void run_step(char** words) {
+  const std::string step = words[1];
+  const Work work = work_of(words + 2);
+  const Mode mode = mode_of(words[7]);
+  const Lists lists = step == "fill" ? Lists() : lists_in(words[6], work.workers);
+  const auto store = open_store({words[5], work.pairs + puts_in(lists), 0, step == "serve" ? mode.files : Files::unsynced});
+  if (step == "fill") {
+    fill(*store, work);
+  } else if (step == "serve") {
+    print_answers(serve(*store, lists, mode));
+  } else {
+    print_rows(rows_in(*store, work, lists));
+  }
+}
+
 void run(int count, char** words) {
-  const Work work{number_of(words[1], 1, 10'000'000), number_of(words[2], 0, UINT64_MAX), unsigned(number_of(words[3], 1, 64))};
+  const Work work = work_of(words + 1);
   const Lists lists = count == CALLS_WORDS ? lists_in(words[6], work.workers) : Lists();
   const uint64_t puts = count == CALLS_WORDS ? work.pairs + puts_in(lists) : 2 * work.pairs;
   const auto store = open_store({words[4], puts, number_of(words[5], 0, uint64_t(1) << 40)});
@@ -61,10 +91,15 @@ void run(int count, char** words) {
 int main(int count, char** words) {
   if (count != CHURN_WORDS && count != CALLS_WORDS && count != RANGES_WORDS) {
     std::fprintf(stderr, "usage: %s PAIRS SEED WORKERS FOLDER CACHE_BYTES [SCRIPT [TIMES]]\n", words[0]);
+    std::fprintf(stderr, "       %s fill|serve|rows PAIRS SEED WORKERS FOLDER SCRIPT MODE\n", words[0]);
     return 2;
   }
   try {
-    run(count, words);
+    if (count == SERVED_WORDS && is_step(words[1])) {
+      run_step(words);
+    } else {
+      run(count, words);
+    }
   } catch (const std::exception& failure) {
     std::fprintf(stderr, "%s\n", failure.what());
     return 1;

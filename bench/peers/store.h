@@ -34,6 +34,9 @@ class Session {
   virtual bool del(uint64_t key) = 0;
   // Appends the pairs of a span as they were at one moment, by rising key. An engine that has no such call refuses it.
   virtual void range(const Span&, Pairs&) { require(false, "range"); }
+  // What is called between the two is one transaction, of an engine that can have several calls in one.
+  virtual void begin() { require(false, "begin"); }
+  virtual void commit() { require(false, "commit"); }
 };
 
 class Store {
@@ -42,19 +45,25 @@ class Store {
   virtual std::unique_ptr<Session> session() = 0;
   // Brings what was put into the form in which the engine keeps it for long. There is no session meanwhile.
   virtual void settle() {}
+  // Makes all that was written last, of an engine whose files stay. There is no session meanwhile.
+  virtual void sync() { require(false, "sync"); }
   // How many bytes the pages have that hold the pairs, where the engine counts them. There is no call meanwhile.
   virtual std::optional<uint64_t> bytes_of_pages() { return std::nullopt; }
   // False for an engine that writes without looking: what its `put` and `del` return then says nothing.
   virtual bool answers_writes() const { return true; }
 };
 
+// What becomes of the files: nobody opens them again; they stay, but no call waits until the disk has them; or each transaction does.
+enum class Files { scratch, unsynced, synced };
+
 struct Settings {
-  // A folder of its own, which is there and empty.
+  // A folder of its own, which is there, and empty but where files stayed.
   std::string folder;
   // How many puts it will be given in all.
   uint64_t puts;
   // How many bytes of pages it may keep in memory; 0 where all shall fit.
   uint64_t cache_bytes;
+  Files files = Files::scratch;
 };
 
 std::unique_ptr<Store> open_store(const Settings& settings);
