@@ -1,0 +1,2 @@
+pub mod SlotSteps
+pub mod Values
