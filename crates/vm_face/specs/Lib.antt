@@ -1,0 +1,5 @@
+pub mod Calls
+pub mod Closed
+pub mod Given
+pub mod Opened
+pub mod Passes

@@ -1,0 +1,96 @@
+//! A hand of a store: it makes calls, one at a time.
+
+ghost use Rattle.std.specs.Prelude.{◌≡◌};
+ghost use Rattle.std.specs.Arc.{arc_value};
+ghost use Rattle.vm_map.specs.declared.call.Call.TheVariants.{Del, Get, Put, Swap as ForSwap};
+ghost use Rattle.vm_step.specs.Prelude.{view};
+ghost use Rattle.vm_serve.specs.from_vm_calls.Calls.{KeepsPass};
+ghost use Rattle.vm_face.specs.{Calls.IsHandCall, Passes.IsHandOn};
+
+use std::alloc::Global;
+use std::sync::Arc;
+use vm_block::PageBlock;
+use vm_map::call::Reply;
+use vm_owner::Owner;
+use vm_rule::words::Pass;
+use vm_serve::vm_exmap::Interface;
+use vm_serve::vm_kind::{OfSize, TreeOf, WordKeys};
+use vm_serve::vm_pool::Pool;
+use vm_serve::vm_tree_rule::TreeFault;
+use vm_tree_retry::vm_tree_read::within::get_within;
+use vm_tree_retry::within::{del_within, put_within, swap_within};
+
+/// One thread's own things: a pass, an interface, and a share of the pool.
+#[derive(Drop)]
+pub struct Hand<U: Owner, B: PageBlock<N> + Drop, const N: usize> {
+    pub pool: Arc<Pool<U, B, N>, Global>,
+    pub pass: Pass<U>,
+    pub iface: Interface,
+}
+
+impl<S: OfSize<N>, B: PageBlock<N> + Drop, const N: usize> Hand<TreeOf<WordKeys<S, N>>, B, N> {
+    /// The value at the key, in at most so many rounds; none where they were used up.
+    pub fn get(&mut self, key: u64, rounds: u32) -> Result<Option<Reply>, TreeFault>
+        requires hand { IsHandOn (arc_value self.old.pool).words B.tells self.old.pass self.old.iface.frames }
+        ensures hand { IsHandOn (arc_value self.new.pool).words B.tells self.new.pass self.new.iface.frames }
+        ensures pool { arc_value self.new.pool ≡ arc_value self.old.pool }
+        ensures keeps { KeepsPass (view self.old.pass) (view self.new.pass) }
+        ensures call { IsHandCall N (Get key) result (view self.old.pass) (view self.new.pass) }
+    {
+        get_within(&self.pool, &mut self.pass, &mut self.iface, &key, rounds)
+    }
+
+    /// Puts a value at the key, in at most so many rounds; none where they were used up.
+    pub fn put(&mut self, key: u64, value: u64, rounds: u32) -> Result<Option<Reply>, TreeFault>
+        requires hand { IsHandOn (arc_value self.old.pool).words B.tells self.old.pass self.old.iface.frames }
+        ensures hand { IsHandOn (arc_value self.new.pool).words B.tells self.new.pass self.new.iface.frames }
+        ensures pool { arc_value self.new.pool ≡ arc_value self.old.pool }
+        ensures keeps { KeepsPass (view self.old.pass) (view self.new.pass) }
+        ensures call { IsHandCall N (Put key value) result (view self.old.pass) (view self.new.pass) }
+    {
+        put_within(
+            &self.pool,
+            &mut self.pass,
+            &mut self.iface,
+            &key,
+            value,
+            rounds,
+        )
+    }
+
+    /// Takes the pair of the key out, in at most so many rounds; none where they were used up.
+    pub fn del(&mut self, key: u64, rounds: u32) -> Result<Option<Reply>, TreeFault>
+        requires hand { IsHandOn (arc_value self.old.pool).words B.tells self.old.pass self.old.iface.frames }
+        ensures hand { IsHandOn (arc_value self.new.pool).words B.tells self.new.pass self.new.iface.frames }
+        ensures pool { arc_value self.new.pool ≡ arc_value self.old.pool }
+        ensures keeps { KeepsPass (view self.old.pass) (view self.new.pass) }
+        ensures call { IsHandCall N (Del key) result (view self.old.pass) (view self.new.pass) }
+    {
+        del_within(&self.pool, &mut self.pass, &mut self.iface, &key, rounds)
+    }
+
+    /// Puts a value at the key where its value is the one that is wanted, in at most so many rounds; none where they were used up.
+    pub fn swap(
+        &mut self,
+        key: u64,
+        want: u64,
+        value: u64,
+        rounds: u32,
+    ) -> Result<Option<Reply>, TreeFault>
+        requires hand { IsHandOn (arc_value self.old.pool).words B.tells self.old.pass self.old.iface.frames }
+        ensures hand { IsHandOn (arc_value self.new.pool).words B.tells self.new.pass self.new.iface.frames }
+        ensures pool { arc_value self.new.pool ≡ arc_value self.old.pool }
+        ensures keeps { KeepsPass (view self.old.pass) (view self.new.pass) }
+        ensures call { IsHandCall N (ForSwap key want value) result (view self.old.pass) (view self.new.pass) }
+    {
+        swap_within(
+            &self.pool,
+            &mut self.pass,
+            &mut self.iface,
+            &key,
+            want,
+            value,
+            rounds,
+        )
+    }
+}
