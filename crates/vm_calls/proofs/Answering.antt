@@ -5,22 +5,23 @@ use Rattle.vm_map.specs.{declared.call.Call.Call, declared.call.Reply.Reply, dec
 use Rattle.vm_map.specs.declared.call.Call.TheVariants.{Del, Get, Put, Range, Swap, Window}
 use Rattle.vm_rule.specs.Prelude.{began_of, entry_of}
 use Rattle.vm_step.specs.Prelude.{Origin, UnlockedExpected, View}
-use Rattle.vm_guard.specs.Denied.{KeptWord}
+use Rattle.vm_tree_range.specs.from_vm_guard.Denied.{KeptWord}
 use Rattle.vm_tree_model.specs.{Fixed.fixed, Layout.Layout}
 use Rattle.vm_tree_laws.specs.Keeps.{KeepsTree}
-use Rattle.vm_kind.specs.Room.{HasRoomFor}
-use Rattle.vm_tree_rule.specs.{declared.fault.TreeFault.TreeFault, Leaves.ReadsOn, Turns.IsDamaged, Turns.IsNeeded}
-use Rattle.vm_tree_read.specs.Reads.{IsAnswered, IsOfKind}
-use Rattle.vm_tree_read.specs.Waiting.{IsFaulted as IsReadFaulted, IsReadFault, IsReadFault as read_fault, IsReplied as IsReadReplied, Waits}
-use Rattle.vm_tree_split.specs.Splits.{KeepsLocksOnly}
+use Rattle.vm_tree_range.specs.from_vm_kind.Room.{HasRoomFor}
+use Rattle.vm_tree_range.specs.from_vm_tree_rule.{declared_fault_TreeFault.TreeFault, Leaves.ReadsOn, Turns.IsDamaged, Turns.IsNeeded}
+use Rattle.vm_tree_range.specs.from_vm_tree_read.Reads.{IsAnswered, IsOfKind}
+use Rattle.vm_tree_range.specs.from_vm_tree_read.Waiting.{IsFaulted as IsReadFaulted, IsReadFault}
+use Rattle.vm_tree_range.specs.from_vm_tree_read.Waiting.{IsReadFault as read_fault, IsReplied as IsReadReplied, Waits}
+use Rattle.vm_tree_retry.specs.from_vm_tree_split.Splits.{KeepsLocksOnly}
 use Rattle.vm_tree_retry.specs.Prelude.{IsDamagedBeside, IsMergeDone}
 use Rattle.vm_tree_retry.proofs.Deleting.{needed-inside}
 use Rattle.vm_tree_retry.specs.Waiting.{IsDamagedForDel, IsDelReplied, IsDelRound, IsNeededByDel, IsPutFaulted}
-use Rattle.vm_tree_retry.specs.Waiting.{IsPutFaulted as put_faulted, IsPutRound, IsWriteFaulted}
-use Rattle.vm_tree_retry.specs.Waiting.{IsWriteFaulted as faulted, IsWriteReplied, IsWriteRound}
+use Rattle.vm_tree_retry.specs.Waiting.{IsPutFault, IsPutFault as put_fault, IsPutRound, IsWriteFault, IsWriteFault as write_fault}
+use Rattle.vm_tree_retry.specs.Waiting.{IsWriteFaulted, IsWriteReplied, IsWriteRound}
 use Rattle.vm_tree_retry.specs.Prelude.{HasKeyIn, IsDelAlone, HasValueIn, IsVain, IsWornLeaf, IsWriteDone}
 use Rattle.vm_calls.specs.{Calls.KeepsPass, Causes.IsUntold, Shows.IsReplyShown, TreeCalls.as_said, TreeCalls.IsTreeCall}
-use Rattle.vm_kind.specs.WordRoom.{spare_in}
+use Rattle.vm_tree_range.specs.from_vm_kind.WordRoom.{spare_in}
 use Rattle.vm_calls.proofs.Keeping.{all-pass, merge-pass, reads-pass, same-front, waits-pass, writes-pass}
 use Rattle.vm_calls.proofs.{Bringing.fault-called, Called.HasFoundWorn, Called.IsCalled, Doing.keeps-then, Finding.denied-worn}
 use Rattle.vm_calls.proofs.Damage.{beside-untold, damaged-untold}
@@ -114,6 +115,20 @@ module _ (size : ℕ) where
   leaf-worn : (key p : ℕ) (v w : View Said) → IsWornLeaf L v key p w → HasFoundWorn p w
   leaf-worn key p v w l = denied-worn UnlockedExpected (KeptWord l.word) p p l.found w l.opened.reading.page l.denied
 
+  -- a write was not answered, behind rounds that left what the pass had
+  write-unanswered : (needs meets : View Said → ℕ → ℕ → View Said → Type 0) (may : List ℕ → ℕ → Type 0)
+      → ((k p : ℕ) (x y : View Said) → needs x k p y → p < x.start.pages)
+      → ((k p : ℕ) (x y : View Said) → ReadsOn x y → meets x k p y → IsUntold y p)
+      → (call : Call) (key : ℕ) (fault : TreeFault) (v tried w : View Said) → KeepsPass v tried → w.mine ≡ v.mine
+      → IsWriteFault L needs meets may key fault tried w → IsCalled size call (Err fault) v w
+  write-unanswered needs meets may inside untold call key fault v tried w k mine (write_fault.missing page x reads needed fault_is) =
+      fault-called size call fault page v x w (keeps-then v tried x k (reads-pass tried x reads.0)) mine
+      (subst (λ (o : Origin). page < o.pages) (sym reads.0.start) (inside key page tried x needed)) fault_is
+  write-unanswered needs meets may inside untold call key fault v tried w k mine (write_fault.damaged page reads bad is) =
+      subst (λ (f : TreeFault). IsCalled size call (Err f) v w) (sym is) (mine, untold key page tried w reads bad)
+  write-unanswered needs meets may inside untold call key fault v tried w k mine (write_fault.worn page reads leaf would is) =
+      subst (λ (f : TreeFault). IsCalled size call (Err f) v w) (sym is) (mine, leaf-worn key page tried w leaf)
+
   pub write-faulted : (keeps : View Said → View Said → Type 0) (round : ℕ → View Said → View Said → Type 0)
       (needs meets : View Said → ℕ → ℕ → View Said → Type 0) (may : List ℕ → ℕ → Type 0)
       → ((x y : View Said) → keeps x y → KeepsPass x y) → ((x y : View Said) → keeps x y → y.mine ≡ x.mine)
@@ -121,31 +136,22 @@ module _ (size : ℕ) where
       → ((k p : ℕ) (x y : View Said) → ReadsOn x y → meets x k p y → IsUntold y p)
       → (call : Call) (key : ℕ) (fault : TreeFault) (v w : View Said) → IsWriteFaulted L keeps round needs meets may key
       fault v w → KeepsPass v w × IsCalled size call (Err fault) v w
-  write-faulted keeps round needs meets may pass mine inside untold call key fault v w (faulted.missing tried found page rounds k reads needed fault_is all) = (
-    pass v w all,
-    fault-called size call fault page v found w
-        (keeps-then v tried found (pass v tried k) (reads-pass tried found reads.0)) (mine v w all)
-        (subst (λ (o : Origin). page < o.pages) (sym reads.0.start) (inside key page tried found needed)) fault_is,
+  write-faulted keeps round needs meets may pass mine inside untold call key fault v w f = (
+    pass v w f.leaves,
+    write-unanswered needs meets may inside untold call key fault v f.tried w (pass v f.tried f.waits) (mine v w f.leaves) f.why,
   )
-  write-faulted keeps round needs meets may pass mine inside untold call key fault v w (faulted.damaged tried page rounds k reads bad is all) = (
-    pass v w all,
-    subst (λ (f : TreeFault). IsCalled size call (Err f) v w) (sym is) (mine v w all, untold key page tried w reads bad),
-  )
-  write-faulted keeps round needs meets may pass mine inside untold call key fault v w (faulted.worn tried page rounds k reads leaf would is all) = (
-    pass v w all,
-    subst (λ (f : TreeFault). IsCalled size call (Err f) v w) (sym is) (mine v w all, leaf-worn key page tried w leaf),
-  )
+
+  put-unanswered : (key value : ℕ) (fault : TreeFault) (v tried w : View Said) → KeepsPass v tried → w.mine ≡ v.mine
+      → IsPutFault as_said L spare key fault tried w → IsCalled size (Put key value) (Err fault) v w
+  put-unanswered key value fault v tried w k mine (put_fault.unwritten f) = write-unanswered (IsNeeded L) (IsDamaged L)
+      (HasRoomFor L spare) (λ k p x y n. n.inside) (λ k p x y r d. damaged-untold L k p x y r d) (Put key value) key fault v tried w k mine f
+  put-unanswered key value fault v tried w k mine (put_fault.tight page x reads t room) =
+      room-called L spare size key value fault v x w (keeps-then v tried x k (reads-pass tried x reads.0)) mine room
 
   pub put-faulted : (key value : ℕ) (fault : TreeFault) (v w : View Said) → IsPutFaulted as_said L spare key fault v w
       → KeepsPass v w × IsCalled size (Put key value) (Err fault) v w
-  put-faulted key value fault v w (put_faulted.faulted f) = write-faulted KeepsLocksOnly (IsPutRound as_said L spare)
-      (IsNeeded L) (IsDamaged L) (HasRoomFor L spare) all-pass (λ x y k. k.mine) (λ k p x y n. n.inside)
-      (λ k p x y r d. damaged-untold L k p x y r d) (Put key value) key fault v w f
-  put-faulted key value fault v w (put_faulted.tight tried found page rounds k reads t room all) = (
-    all-pass v w all,
-    room-called L spare size key value fault v found w
-        (keeps-then v tried found (all-pass v tried k) (reads-pass tried found reads.0)) all.mine room,
-  )
+  put-faulted key value fault v w f =
+      (all-pass v w f.leaves, put-unanswered key value fault v f.tried w (all-pass v f.tried f.waits) f.leaves.mine f.why)
 
   -- ---- answers
 

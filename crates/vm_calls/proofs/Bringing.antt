@@ -5,12 +5,12 @@ use Rattle.vm_core.specs.Prelude.{EVICTED, MAX_VERSION, word_of}
 use Rattle.vm_rule.specs.declared.view.WordPlace.TheVariants as places
 use Rattle.vm_rule.proofs.WordFacts.{word-version}
 use Rattle.vm_step.specs.Prelude.{Origin, View}
-use Rattle.vm_exmap.specs.declared.interface.Alloc.TheVariants as allocs
-use Rattle.vm_pool.specs.Brings.{Fetches, Fetches as fetched, GetsNone, GetsNone as none, IsBring, IsBring as is_bring}
-use Rattle.vm_pool.specs.declared.bring.Bring.TheVariants as brings
-use Rattle.vm_pool.proofs.Keeping.{alloc-keeps, framed-keeps}
-use Rattle.vm_tree_rule.specs.declared.fault.TreeFault.{TreeFault}
-use Rattle.vm_tree_read.specs.Waiting.{IsBringFault, IsBringFault as fault_for}
+use Rattle.vm_tree_range.specs.from_vm_exmap.declared_interface_Alloc_TheVariants as allocs
+use Rattle.vm_tree_range.specs.from_vm_pool.Brings.{Fetches, Fetches as fetched, GetsNone, GetsNone as none, IsBring, IsBring as is_bring}
+use Rattle.vm_tree_range.specs.from_vm_pool.declared_bring_Bring_TheVariants as brings
+use Rattle.vm_tree_range.proofs.from_vm_pool.Keeping.{alloc-keeps, framed-keeps}
+use Rattle.vm_tree_range.specs.from_vm_tree_rule.declared_fault_TreeFault.{TreeFault}
+use Rattle.vm_tree_range.specs.from_vm_tree_read.Waiting.{IsBringFault, IsBringFault as fault_for}
 use Rattle.vm_calls.specs.Calls.{KeepsPass}
 use Rattle.vm_calls.proofs.Called.{HasFoundWorn, HasNoted, IsCalled}
 use Rattle.vm_calls.proofs.Finding.{found-worn, noted-after, noted-before}

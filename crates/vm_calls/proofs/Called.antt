@@ -6,8 +6,8 @@ use Rattle.vm_rule.specs.Prelude.{entry_of}
 use Rattle.vm_rule.specs.declared.view.WordPlace.TheVariants as places
 use Rattle.vm_step.specs.Prelude.{HasGiven, Note, View}
 use Rattle.vm_tree_laws.specs.History.{saids}
-use Rattle.vm_tree_rule.specs.declared.fault.TreeFault.{TreeFault}
-use Rattle.vm_tree_rule.specs.declared.fault.TreeFault.TheVariants.{Damaged, Device, Full, Worn}
+use Rattle.vm_tree_range.specs.from_vm_tree_rule.declared_fault_TreeFault.{TreeFault}
+use Rattle.vm_tree_range.specs.from_vm_tree_rule.declared_fault_TreeFault_TheVariants.{Damaged, Device, Full, Worn}
 use Rattle.vm_calls.specs.Causes.{answered, AreCausedBy, faults_of, IsUntold, notes_about}
 use Rattle.vm_calls.specs.{Calls.IsPutCall, Calls.KeepsPass, Shows.AreShown, Shows.IsReplyShown}
 

@@ -4,7 +4,7 @@ use Rattle.vm_map.specs.{declared.call.Call.Call, declared.call.Reply.Reply, dec
 use Rattle.vm_rule.specs.Prelude.{HoldsNoPage}
 use Rattle.vm_rule.proofs.Entries.{append-none}
 use Rattle.vm_step.specs.Prelude.{View}
-use Rattle.vm_tree_rule.specs.declared.fault.TreeFault.{TreeFault}
+use Rattle.vm_tree_range.specs.from_vm_tree_rule.declared_fault_TreeFault.{TreeFault}
 use Rattle.vm_calls.specs.{Calls.KeepsPass, TreeCalls.AreTreeCalls, TreeCalls.IsTreeCall, Workers.HasKept}
 use Rattle.vm_calls.proofs.Doing.{done-more, done-moved, done-none}
 use Rattle.vm_calls.proofs.{Answering.tree-called, Called.HasDone}

@@ -3,8 +3,8 @@ use Rattle.std.proofs.Common.{◌<◌, ◌≡◌, ap, false, sym, subst, ℕ, �
 use Rattle.vm_map.specs.declared.window.Bound.{Bound}
 use Rattle.vm_step.specs.Prelude.{Origin, View}
 use Rattle.vm_tree_model.specs.Layout.{Layout}
-use Rattle.vm_tree_rule.specs.{Leaves.ReadsOn, Standing.IsOpened, Turns.IsDamaged}
-use Rattle.vm_tree_rule.proofs.Entering.{opened-reads}
+use Rattle.vm_tree_range.specs.from_vm_tree_rule.{Leaves.ReadsOn, Standing.IsOpened, Turns.IsDamaged}
+use Rattle.vm_tree_range.proofs.from_vm_tree_rule.Entering.{opened-reads}
 use Rattle.vm_tree_range.specs.declared.hold.TryRange.TheVariants as ranges
 use Rattle.vm_tree_range.specs.Ranges.{HoldsSilently, IsRangeStopped}
 use Rattle.vm_tree_range.proofs.RangeRounds.{damaged-stopped}

@@ -7,10 +7,10 @@ use Rattle.vm_core.specs.Prelude.{no_seat}
 use Rattle.vm_rule.specs.Prelude.{Entry, entry_of, put_at, Seat, seat_of, StartsWith}
 use Rattle.vm_rule.proofs.Entries.{append-none, starts-self}
 use Rattle.vm_step.specs.Prelude.{Did, Note, Put, View}
-use Rattle.vm_exmap.specs.Frames.{MovesFrames}
+use Rattle.vm_tree_range.specs.from_vm_exmap.Frames.{MovesFrames}
 use Rattle.vm_tree_laws.specs.History.{saids}
-use Rattle.vm_tree_rule.specs.declared.fault.TreeFault.{TreeFault}
-use Rattle.vm_tree_rule.specs.declared.fault.TreeFault.TheVariants.{Damaged, Device, Full, Worn}
+use Rattle.vm_tree_range.specs.from_vm_tree_rule.declared_fault_TreeFault.{TreeFault}
+use Rattle.vm_tree_range.specs.from_vm_tree_rule.declared_fault_TreeFault_TheVariants.{Damaged, Device, Full, Worn}
 use Rattle.vm_calls.specs.Causes.{answered, AreCausedBy, CausedBy, faults_of, is_fault, IsUntold, notes_about}
 use Rattle.vm_calls.specs.{Calls.KeepsPass, Shows.AreShown}
 use Rattle.vm_calls.proofs.Called.{FoundFull, FoundWorn, HasDone, HasNoted, IsCalled}

@@ -6,8 +6,8 @@ use Rattle.vm_rule.specs.Prelude.{StartsWith}
 use Rattle.vm_rule.specs.declared.view.WordPlace.{WordPlace}
 use Rattle.vm_rule.specs.declared.view.WordPlace.TheVariants as places
 use Rattle.vm_step.specs.Prelude.{Did, HasGiven, Note, Origin, View}
-use Rattle.vm_guard.specs.declared.deny.Deny.TheVariants as denies
-use Rattle.vm_guard.specs.Denied.{AgainOrWorn, IsDenied}
+use Rattle.vm_tree_range.specs.from_vm_guard.declared_deny_Deny_TheVariants as denies
+use Rattle.vm_tree_range.specs.from_vm_guard.Denied.{AgainOrWorn, IsDenied}
 use Rattle.vm_calls.proofs.Called.{HasFoundWorn, HasNoted}
 
 module _ {X : Type 0} where

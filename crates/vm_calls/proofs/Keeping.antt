@@ -4,11 +4,11 @@ use Rattle.vm_map.specs.declared.call.Said.{Said}
 use Rattle.vm_rule.specs.Prelude.{StartsWith}
 use Rattle.vm_rule.proofs.Entries.{append-none}
 use Rattle.vm_step.specs.Prelude.{View}
-use Rattle.vm_tree_rule.specs.Leaves.{OnlyReads}
-use Rattle.vm_tree_read.specs.Waiting.{Waits}
+use Rattle.vm_tree_range.specs.from_vm_tree_rule.Leaves.{OnlyReads}
+use Rattle.vm_tree_range.specs.from_vm_tree_read.Waiting.{Waits}
 use Rattle.vm_tree_range.specs.Ranges.{HoldsOn}
-use Rattle.vm_tree_split.specs.{Splits.KeepsLocksOnly}
-use Rattle.vm_tree_join.specs.Made.{HoldsAll}
+use Rattle.vm_tree_retry.specs.from_vm_tree_split.{Splits.KeepsLocksOnly}
+use Rattle.vm_tree_retry.specs.from_vm_tree_join.Made.{HoldsAll}
 use Rattle.vm_tree_retry.specs.Prelude.{OnlyWrites}
 use Rattle.vm_calls.specs.Calls.{KeepsPass}
 

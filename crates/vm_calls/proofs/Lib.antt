@@ -16,3 +16,4 @@ pub mod Spanning
 pub mod Answering
 pub mod Chain
 pub mod Shortening
+pub mod from_vm_pool

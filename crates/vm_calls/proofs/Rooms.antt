@@ -7,24 +7,24 @@ use Rattle.vm_rule.specs.Prelude.{did_load, Each, StartsWith}
 use Rattle.vm_rule.specs.declared.view.WordPlace.TheVariants as places
 use Rattle.vm_step.specs.Prelude.{Did, HasGiven, Origin, UnlockedExpected, View}
 use Rattle.vm_step.proofs.Numbers.{has-numbers}
-use Rattle.vm_exmap.specs.declared.interface.Alloc.TheVariants as allocs
-use Rattle.vm_guard.specs.{declared.given.Fresh.Fresh, declared.opt.OptGuard.OptGuard, Denied.KeptWord, Fresh.IsFull}
-use Rattle.vm_guard.specs.{FreshPlaces.IsPlaceOf, Reused.IsFreshAnswer}
-use Rattle.vm_guard.specs.declared.deny.Deny.TheVariants as denies
-use Rattle.vm_guard.specs.declared.given.Fresh.TheVariants as freshes
-use Rattle.vm_guard.proofs.Amid.{nload-amid}
-use Rattle.vm_evict.specs.declared.report.Report.{Report}
-use Rattle.vm_pool.specs.{Brings.SaysDry, declared.bring.Bring.Bring, Sweeps.IsSwept}
-use Rattle.vm_pool.specs.declared.bring.Bring.TheVariants as brings
-use Rattle.vm_tree_rule.specs.declared.fault.TreeFault.{TreeFault}
-use Rattle.vm_tree_read.specs.Waiting.{NamesFault}
-use Rattle.vm_tree_split.specs.Prepares.{IsDeniedAt, IsLockDenied, IsLockedMeanwhile, IsNotLocked, IsRefusedPages}
-use Rattle.vm_tree_split.specs.Prepares.{IsUntaken, IsUntaken as untaken}
-use Rattle.vm_tree_split.specs.Tries.{IsEnded, IsEnded as ends, IsUnsplit, IsUnsplit as unsplit}
+use Rattle.vm_tree_range.specs.from_vm_exmap.declared_interface_Alloc_TheVariants as allocs
+use Rattle.vm_tree_range.specs.from_vm_guard.{declared_given_Fresh.Fresh, declared_opt_OptGuard.OptGuard, Denied.KeptWord, Fresh.IsFull}
+use Rattle.vm_tree_range.specs.from_vm_guard.{FreshPlaces.IsPlaceOf, Reused.IsFreshAnswer}
+use Rattle.vm_tree_range.specs.from_vm_guard.declared_deny_Deny_TheVariants as denies
+use Rattle.vm_tree_range.specs.from_vm_guard.declared_given_Fresh_TheVariants as freshes
+use Rattle.vm_tree_range.proofs.from_vm_guard.Amid.{nload-amid}
+use Rattle.vm_tree_range.specs.from_vm_evict.declared_report_Report.{Report}
+use Rattle.vm_tree_range.specs.from_vm_pool.{Brings.SaysDry, declared_bring_Bring.Bring, Sweeps.IsSwept}
+use Rattle.vm_tree_range.specs.from_vm_pool.declared_bring_Bring_TheVariants as brings
+use Rattle.vm_tree_range.specs.from_vm_tree_rule.declared_fault_TreeFault.{TreeFault}
+use Rattle.vm_tree_range.specs.from_vm_tree_read.Waiting.{NamesFault}
+use Rattle.vm_tree_retry.specs.from_vm_tree_split.Prepares.{IsDeniedAt, IsLockDenied, IsLockedMeanwhile, IsNotLocked, IsRefusedPages}
+use Rattle.vm_tree_retry.specs.from_vm_tree_split.Prepares.{IsUntaken, IsUntaken as untaken}
+use Rattle.vm_tree_retry.specs.from_vm_tree_split.Tries.{IsEnded, IsEnded as ends, IsUnsplit, IsUnsplit as unsplit}
 use Rattle.vm_tree_retry.specs.Waiting.{IsRoomFault, IsRoomFault as rooms}
-use Rattle.vm_tree_split.specs.declared.tries.TrySplit.TheVariants as splits
-use Rattle.vm_tree_rule.proofs.Readings.{each-behind}
-use Rattle.vm_tree_split.proofs.{Roomy.roomy-start, Seeing.sees-few, Seeing.sees-room}
+use Rattle.vm_tree_retry.specs.from_vm_tree_split.declared_tries_TrySplit_TheVariants as splits
+use Rattle.vm_tree_range.proofs.from_vm_tree_rule.Readings.{each-behind}
+use Rattle.vm_tree_retry.proofs.from_vm_tree_split.{Roomy.roomy-start, Seeing.sees-few, Seeing.sees-room}
 use Rattle.vm_calls.specs.{Calls.KeepsPass, TreeCalls.as_said}
 use Rattle.vm_calls.proofs.Called.{HasFoundNext, HasFoundWorn, IsCalled}
 use Rattle.vm_calls.proofs.Damage.{damaged-untold}

@@ -7,7 +7,7 @@ use Rattle.vm_map.specs.{declared.window.Window.Window, Map.Pairs}
 use Rattle.vm_map.specs.declared.call.Call.TheVariants as calls
 use Rattle.vm_map.specs.declared.call.Reply.TheVariants as replies
 use Rattle.vm_step.specs.Prelude.{View}
-use Rattle.vm_tree_rule.specs.declared.fault.TreeFault.{TreeFault}
+use Rattle.vm_tree_range.specs.from_vm_tree_rule.declared_fault_TreeFault.{TreeFault}
 use Rattle.vm_calls.specs.Compact.{KeepsAnswers, ranges_in, told_in, wins_in}
 use Rattle.vm_calls.specs.Kept.{IsRoomFor, Room, spans_of, windows_asked, windows_of}
 use Rattle.vm_calls.specs.{declared.compact.Replies.Replies, declared.compact.Short.Short, Spans.ranges_asked, TreeCalls.IsTreeCall}

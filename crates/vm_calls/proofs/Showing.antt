@@ -7,7 +7,7 @@ use Rattle.vm_core.specs.Prelude.{page_at}
 use Rattle.vm_rule.specs.Prelude.{began_of, last_in, StartsWith}
 use Rattle.vm_step.specs.Prelude.{Origin, View}
 use Rattle.vm_tree_laws.specs.Keeps.{KeepsTree}
-use Rattle.vm_tree_rule.specs.declared.fault.TreeFault.{TreeFault}
+use Rattle.vm_tree_range.specs.from_vm_tree_rule.declared_fault_TreeFault.{TreeFault}
 use Rattle.vm_calls.specs.Shows.{AreShown, IsOfLeaf, IsOfLeaves, IsReplyShown}
 use Rattle.vm_calls.proofs.Lists.{starts-then}
 

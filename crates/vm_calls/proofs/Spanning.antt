@@ -6,9 +6,9 @@ use Rattle.vm_rule.specs.Prelude.{began_of, entry_of}
 use Rattle.vm_step.specs.Prelude.{Origin, View}
 use Rattle.vm_tree_model.specs.{Fixed.fixed, Layout.Layout}
 use Rattle.vm_tree_laws.specs.{Keeps.KeepsTree, May.IsProvedByAll}
-use Rattle.vm_tree_rule.specs.declared.fault.TreeFault.{TreeFault}
+use Rattle.vm_tree_range.specs.from_vm_tree_rule.declared_fault_TreeFault.{TreeFault}
 use Rattle.vm_tree_range.specs.Ranges.{IsRangeDone, IsRangeFault, IsRangeFault as range_fault, IsRangeFaulted, IsRangeReplied}
-use Rattle.vm_tree_read.specs.Waiting.{Waits}
+use Rattle.vm_tree_range.specs.from_vm_tree_read.Waiting.{Waits}
 use Rattle.vm_tree_range.proofs.RangeRounds.{needed-inside}
 use Rattle.vm_calls.specs.{Calls.KeepsPass, Shows.IsReplyShown, TreeCalls.as_said}
 use Rattle.vm_calls.proofs.{Bringing.fault-called, Called.IsCalled, Damage.range-untold, Doing.keeps-then, Plainly.plain-keeps}

@@ -6,10 +6,10 @@ use Rattle.vm_rule.specs.Prelude.{did_change, did_load, StartsWith}
 use Rattle.vm_rule.specs.declared.view.WordPlace.TheVariants as places
 use Rattle.vm_step.specs.Prelude.{Did, first_or, HasGiven, Note, Origin, View}
 use Rattle.vm_step.specs.declared.choice.Looks.{Looks}
-use Rattle.vm_clock.specs.Clock.{Visits, Visits as visits, VisitsFrame, VisitsFrame as frames, WalksFrames}
-use Rattle.vm_evict.specs.{declared.report.Report.Report, Evictions.first_of}
-use Rattle.vm_pool.specs.Sweeps.{IsSwept}
-use Rattle.vm_pool.proofs.Keeping.{swept-keeps}
+use Rattle.vm_tree_range.specs.from_vm_clock.Clock.{Visits, Visits as visits, VisitsFrame, VisitsFrame as frames, WalksFrames}
+use Rattle.vm_tree_range.specs.from_vm_evict.{declared_report_Report.Report, Evictions.first_of}
+use Rattle.vm_tree_range.specs.from_vm_pool.Sweeps.{IsSwept}
+use Rattle.vm_tree_range.proofs.from_vm_pool.Keeping.{swept-keeps}
 use Rattle.vm_calls.proofs.{Called.HasFoundWorn, Called.HasNoted, Finding.given-in, Tracing.given-more}
 
 -- a walk of the clock met this page of so many, and found it at the last version

@@ -5,8 +5,8 @@ use Rattle.vm_rule.specs.Prelude.{StartsWith}
 use Rattle.vm_rule.specs.declared.view.WordPlace.{WordPlace}
 use Rattle.vm_rule.specs.declared.view.WordPlace.TheVariants as places
 use Rattle.vm_step.specs.Prelude.{Did, HasGiven, Origin, View}
-use Rattle.vm_tree_rule.specs.declared.fault.TreeFault.{TreeFault}
-use Rattle.vm_tree_rule.specs.declared.fault.TreeFault.TheVariants.{Damaged, Device, Full, Worn}
+use Rattle.vm_tree_range.specs.from_vm_tree_rule.declared_fault_TreeFault.{TreeFault}
+use Rattle.vm_tree_range.specs.from_vm_tree_rule.declared_fault_TreeFault_TheVariants.{Damaged, Device, Full, Worn}
 use Rattle.vm_calls.specs.Causes.{AreCausedBy, CausedBy, IsUntold}
 use Rattle.vm_calls.proofs.Called.{FoundFull, FoundWorn}
 

@@ -2,8 +2,8 @@
 use Rattle.std.specs.Prelude.{[], ◌+◌, ◌<◌, ◌==◌, ◌∷◌, ◌≡◌, Err, false, if◌then◌else◌, List, Ok, Result, ℕ}
 use Rattle.vm_map.specs.{declared.call.Call.Call, declared.call.Reply.Reply, declared.call.Said.Said}
 use Rattle.vm_step.specs.Prelude.{Note, View}
-use Rattle.vm_tree_rule.specs.declared.fault.TreeFault.{TreeFault}
-use Rattle.vm_tree_rule.specs.declared.fault.TreeFault.TheVariants.{Damaged, Device, Full, Worn}
+use Rattle.vm_tree_range.specs.from_vm_tree_rule.declared_fault_TreeFault.{TreeFault}
+use Rattle.vm_tree_range.specs.from_vm_tree_rule.declared_fault_TreeFault_TheVariants.{Damaged, Device, Full, Worn}
 use Rattle.vm_calls.specs.Calls.{IsPutCall}
 
 -- the calls with their replies, but those that a fault answered

@@ -3,7 +3,7 @@ use Rattle.std.specs.Prelude.{[], ◌+◌, ◌-◌, ◌∷◌, ◌≡◌, ◌≤
 use Rattle.std.specs.Vec.{vec_capacity}
 use Rattle.vm_map.specs.{declared.call.Reply.Reply, declared.window.Window.Window, Map.Pairs}
 use Rattle.vm_map.specs.declared.call.Reply.TheVariants as replies
-use Rattle.vm_tree_rule.specs.declared.fault.TreeFault.{TreeFault}
+use Rattle.vm_tree_range.specs.from_vm_tree_rule.declared_fault_TreeFault.{TreeFault}
 use Rattle.vm_calls.specs.{declared.compact.Replies.Replies, declared.compact.Short.Short, Kept.Room}
 use Rattle.vm_calls.specs.declared.compact.Short.TheVariants as shorts
 

@@ -7,3 +7,7 @@ pub mod Shows
 pub mod Spans
 pub mod TreeCalls
 pub mod Workers
+pub mod from_vm_evict
+pub mod from_vm_kind
+pub mod from_vm_pool
+pub mod from_vm_tree_rule

@@ -10,7 +10,7 @@ use Rattle.vm_owner.specs.Kept.{PagesHave}
 use Rattle.vm_rule.specs.Prelude.{began_of, Entry, Kept, last_in, StartsWith}
 use Rattle.vm_step.specs.Prelude.{Release, View}
 use Rattle.vm_tree_laws.specs.{Keeps.KeepsTree, May.IsProved, May.IsProvedByAll}
-use Rattle.vm_tree_rule.specs.declared.fault.TreeFault.{TreeFault}
+use Rattle.vm_tree_range.specs.from_vm_tree_rule.declared_fault_TreeFault.{TreeFault}
 
 -- The reply is what a leaf shows: one of the tree's pages at the step that made the call with this reply an entry of
 -- the history, which the pass

@@ -4,13 +4,13 @@ use Rattle.std.specs.Prelude.{[], ◌∷◌, ◌≡◌, Err, List, Ok, Result, �
 use Rattle.vm_map.specs.{declared.call.Call.Call, declared.call.Reply.Reply, declared.call.Said.Said}
 use Rattle.vm_map.specs.declared.call.Call.TheVariants.{Del, Get, Put, Range, Swap, Window}
 use Rattle.vm_tree_model.specs.Fixed.{fixed}
-use Rattle.vm_kind.specs.WordRoom.{spare_in}
+use Rattle.vm_tree_range.specs.from_vm_kind.WordRoom.{spare_in}
 use Rattle.vm_step.specs.Prelude.{View}
-use Rattle.vm_tree_rule.specs.{declared.fault.TreeFault.TreeFault, Turns.IsDamaged, Turns.IsNeeded}
-use Rattle.vm_tree_read.specs.Reads.{IsOfKind}
-use Rattle.vm_tree_read.specs.Waiting.{IsFaulted, IsReplied, Waits}
+use Rattle.vm_tree_range.specs.from_vm_tree_rule.{declared_fault_TreeFault.TreeFault, Turns.IsDamaged, Turns.IsNeeded}
+use Rattle.vm_tree_range.specs.from_vm_tree_read.Reads.{IsOfKind}
+use Rattle.vm_tree_range.specs.from_vm_tree_read.Waiting.{IsFaulted, IsReplied, Waits}
 use Rattle.vm_tree_range.specs.Ranges.{IsRangeFaulted, IsRangeReplied}
-use Rattle.vm_tree_split.specs.Splits.{KeepsLocksOnly}
+use Rattle.vm_tree_retry.specs.from_vm_tree_split.Splits.{KeepsLocksOnly}
 use Rattle.vm_tree_retry.specs.Waiting.{IsDamagedForDel, IsDelReplied, IsDelRound, IsNeededByDel, IsPutFaulted, IsPutRound}
 use Rattle.vm_tree_retry.specs.Waiting.{IsWriteFaulted, IsWriteReplied, IsWriteRound}
 use Rattle.vm_tree_retry.specs.Prelude.{HasKeyIn, HasValueIn}

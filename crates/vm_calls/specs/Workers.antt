@@ -3,8 +3,8 @@ use Rattle.std.specs.Prelude.{◌≡◌, ◌≤◌, Bool, List, None, Result, �
 use Rattle.vm_map.specs.{declared.call.Call.Call, declared.call.Reply.Reply, declared.call.Said.Said}
 use Rattle.vm_rule.specs.Prelude.{TableId}
 use Rattle.vm_step.specs.Prelude.{AreHeld, Did, IsReady, TableShape, View, view}
-use Rattle.vm_exmap.specs.Frames.{MovesFrames}
-use Rattle.vm_tree_rule.specs.declared.fault.TreeFault.{TreeFault}
+use Rattle.vm_tree_range.specs.from_vm_exmap.Frames.{MovesFrames}
+use Rattle.vm_tree_range.specs.from_vm_tree_rule.declared_fault_TreeFault.{TreeFault}
 use Rattle.vm_calls.specs.{declared.worker.Worker.Worker, TreeCalls.AreTreeCalls}
 
 -- the worker's pass may step on this table, which has a page, has its block at home, and holds the interface's frames

@@ -2,11 +2,11 @@
 
 ghost use Rattle.std.specs.Prelude.{[], ◌++◌, ◌+◌, ◌∷◌, ◌≤◌, List, Result};
 ghost use Rattle.vm_map.specs.declared.call.Reply.{Reply};
-ghost use Rattle.vm_tree_rule.specs.declared.fault.TreeFault.{TreeFault};
+ghost use Rattle.vm_tree_range.specs.from_vm_tree_rule.declared_fault_TreeFault.{TreeFault};
 ghost use Rattle.vm_calls.specs.Kept.{Room, spans_of, windows_of};
 
 use vm_map::call::Reply;
-use vm_tree_rule::TreeFault;
+use vm_tree_range::vm_tree_rule::TreeFault;
 
 /// What a call is answered: a reply, or why there is none.
 pub type Answer = Result<Reply, TreeFault>;

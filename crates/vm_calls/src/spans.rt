@@ -4,10 +4,10 @@ ghost use Rattle.std.specs.Prelude.{◌≡◌, IfOk};
 ghost use Rattle.vm_calls.specs.Spans.{HasSpans, ranges_asked};
 
 use std::alloc::{AllocError, Global};
-use vm_kind::{OfSize, Ranges, WordKeys};
 use vm_map::call::Call;
 use vm_map::span::Span;
 use vm_tree_range::LEAVES;
+use vm_tree_range::vm_kind::{OfSize, Ranges, WordKeys};
 
 /// How many of the calls ask for a range.
 pub fn ranges_among(calls: &[Call]) -> usize

@@ -5,7 +5,7 @@ ghost use Rattle.std.specs.Prelude.{[], ◌+◌, ◌∷◌, ◌≡◌, ◌≤◌
 ghost use Rattle.vm_map.specs.History.{IsAskable};
 ghost use Rattle.vm_rule.specs.Prelude.{Each, HoldsNoPage};
 ghost use Rattle.vm_step.specs.Prelude.{AreHeld, IsReadyOn, view};
-ghost use Rattle.vm_tree_read.specs.Waiting.{LosesNone};
+ghost use Rattle.vm_tree_range.specs.from_vm_tree_read.Waiting.{LosesNone};
 ghost use Rattle.vm_calls.specs.Spans.{HasSpans, IsEmptySpan, ranges_asked};
 ghost use Rattle.vm_calls.specs.Workers.{HasCalled, HasKept, IsAtWork};
 ghost use Rattle.vm_calls.specs.{Calls.KeepsPass, Kept.IsRoomFor, TreeCalls.IsTreeCall};
@@ -14,15 +14,15 @@ use crate::answers::{Answer, Answers};
 use crate::gate::Gate;
 use std::sync::Wait;
 use vm_block::PageBlock;
-use vm_exmap::Interface;
-use vm_kind::{OfSize, TreeOf, WordKeys};
 use vm_map::call::Call;
 use vm_map::span::Span;
 use vm_owner::Owner;
-use vm_pool::Pool;
 use vm_rule::words::Pass;
 use vm_tree_range::range;
-use vm_tree_read::{get, window};
+use vm_tree_range::vm_exmap::Interface;
+use vm_tree_range::vm_kind::{OfSize, TreeOf, WordKeys};
+use vm_tree_range::vm_pool::Pool;
+use vm_tree_range::vm_tree_read::{get, window};
 use vm_tree_retry::{del, put, swap};
 
 /// A worker's own things.

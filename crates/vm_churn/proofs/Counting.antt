@@ -6,7 +6,7 @@ use Rattle.std.proofs.Common.{slice_index_or, subst, suc, sym, take, Vec, zero, 
 use Rattle.std.proofs.lemmas.List.Sums.{count_by-le-length, sum_by-cons, sum_by_more_le}
 use Rattle.vm_map.specs.{declared.call.Call.Call, declared.call.Reply.Reply}
 use Rattle.vm_map.specs.declared.call.Call.TheVariants as calls
-use Rattle.vm_tree_rule.specs.declared.fault.TreeFault.{TreeFault}
+use Rattle.vm_drive.specs.from_vm_tree_rule.declared_fault_TreeFault.{TreeFault}
 use Rattle.vm_drive.specs.Prelude.{IsRoomFor, windows_asked, ranges_asked}
 use Rattle.vm_drive.specs.{Drives.AreFew, Drives.items_of, Lists.AreKept}
 use Rattle.vm_churn.specs.declared.tally.Tally.{Tally}

@@ -10,7 +10,7 @@ use Rattle.vm_map.specs.Map.{del_pair, gather, is_value, lookup_at, Pairs, put_p
 use Rattle.vm_build.specs.Numbers.{number_at, numbered}
 use Rattle.vm_rule.specs.Prelude.{Entry}
 use Rattle.vm_tree_laws.specs.History.{saids}
-use Rattle.vm_tree_rule.specs.declared.fault.TreeFault.{TreeFault}
+use Rattle.vm_drive.specs.from_vm_tree_rule.declared_fault_TreeFault.{TreeFault}
 use Rattle.vm_drive.specs.Prelude.{answered}
 use Rattle.vm_drive.specs.Holds.{HoldsCalls, list_at}
 use Rattle.vm_churn.specs.Calls.{calls_for, churn_lists, key_at, place_calls, places_of, worker_calls}

@@ -10,7 +10,7 @@ use Rattle.vm_map.specs.declared.call.Reply.TheVariants.{Gone, Got, Many, Swappe
 use Rattle.vm_map.specs.History.{after, AreReplies, IsReply}
 use Rattle.vm_rule.specs.Prelude.{Each, entries_by, Entry}
 use Rattle.vm_tree_laws.specs.History.{gones, is_gone, is_new, news, saids}
-use Rattle.vm_tree_rule.specs.declared.fault.TreeFault.{TreeFault}
+use Rattle.vm_drive.specs.from_vm_tree_rule.declared_fault_TreeFault.{TreeFault}
 use Rattle.vm_drive.specs.Prelude.{answered}
 use Rattle.vm_drive.specs.Holds.{HoldsCalls, list_at, said_by}
 use Rattle.vm_churn.specs.Tallies.{count_in, founds, is_found, tally_of, tells_found, tells_gone, tells_new, told_tally}

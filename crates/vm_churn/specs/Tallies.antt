@@ -8,7 +8,7 @@ use Rattle.vm_map.specs.{declared.call.Said.Said, Map.Pairs}
 use Rattle.vm_map.specs.declared.call.Reply.TheVariants.{Gone, Got, Was}
 use Rattle.vm_rule.specs.Prelude.{Entry}
 use Rattle.vm_tree_laws.specs.History.{gones, news}
-use Rattle.vm_tree_rule.specs.declared.fault.TreeFault.{TreeFault}
+use Rattle.vm_drive.specs.from_vm_tree_rule.declared_fault_TreeFault.{TreeFault}
 use Rattle.vm_drive.specs.Prelude.{Room}
 use Rattle.vm_churn.specs.declared.tally.Tally.{Tally}
 

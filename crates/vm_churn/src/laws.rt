@@ -6,7 +6,7 @@ ghost use Rattle.vm_map.specs.{declared.call.Call.Call, declared.call.Reply.Repl
 ghost use Rattle.vm_build.specs.Numbers.{numbered};
 ghost use Rattle.vm_rule.specs.Prelude.{Entry};
 ghost use Rattle.vm_tree_laws.specs.History.{IsLegal, saids};
-ghost use Rattle.vm_tree_rule.specs.declared.fault.TreeFault.{TreeFault};
+ghost use Rattle.vm_drive.specs.from_vm_tree_rule.declared_fault_TreeFault.{TreeFault};
 ghost use Rattle.vm_drive.specs.Holds.{HoldsCalls};
 ghost use Rattle.vm_churn.specs.Calls.{churn_count, churn_lists};
 ghost use Rattle.vm_churn.specs.Tallies.{sum_values, tally_of, told_tally};

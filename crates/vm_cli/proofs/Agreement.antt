@@ -11,14 +11,15 @@ use Rattle.vm_words.specs.declared.form.FormVerb.{FormVerb}
 use Rattle.vm_words.specs.Commands.{IsCommand, line_of}
 use Rattle.vm_words.specs.Values.{Meaning}
 use Rattle.vm_words.proofs.Lines.{one_command}
-use Rattle.vm_endings.specs.declared.ends.Ends.{Ends}
+use Rattle.vm_file_serve.specs.from_vm_endings.declared_ends_Ends.{Ends}
 use Rattle.vm_cli.specs.Agreement.{AgreesWithOthers, DevicesServe, IsComplete, IsDoneStatus, IsSameFor, IsSettledStatus, as_done}
-use Rattle.vm_endings.specs.Commands.{IsSmooth, order_of}
-use Rattle.vm_endings.specs.Deliveries.{Content, IsDelivered, WentOut, line, text_cut, unwritten, whole}
-use Rattle.vm_endings.specs.Endings.{ChangesDevices, CommandEnds, IsHeadline, ProgramEnds, UnreadBy, UnreadCause, UsesDevices}
-use Rattle.vm_endings.specs.Endings.{command, cut, done, exhausted, stopped, told, unable, usage}
-use Rattle.vm_endings.specs.Outside.{ChangesJust, Outside, Remains, with_shown}
-use Rattle.vm_endings.specs.Tests.{AllPass, StopsAt, Test}
+use Rattle.vm_file_serve.specs.from_vm_endings.Commands.{IsSmooth, order_of}
+use Rattle.vm_file_serve.specs.from_vm_endings.Deliveries.{Content, IsDelivered, WentOut, line, text_cut, unwritten, whole}
+use Rattle.vm_file_serve.specs.from_vm_endings.Endings.{ChangesDevices, CommandEnds, IsHeadline, ProgramEnds}
+use Rattle.vm_file_serve.specs.from_vm_endings.Endings.{UnreadBy, UnreadCause, UsesDevices}
+use Rattle.vm_file_serve.specs.from_vm_endings.Endings.{command, cut, done, exhausted, stopped, told, unable, usage}
+use Rattle.vm_file_serve.specs.from_vm_endings.Outside.{ChangesJust, Outside, Remains, with_shown}
+use Rattle.vm_file_serve.specs.from_vm_endings.Tests.{AllPass, StopsAt, Test}
 use Rattle.vm_cli.proofs.OneLine.{HaveSame, bounded, cut_done, cut_not_done, done_status, one_ending, same_order, two_lines}
 use Rattle.vm_cli.proofs.OneStop.{held_back, one_stop, over, stop_status, stop_unread}
 

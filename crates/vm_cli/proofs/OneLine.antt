@@ -5,9 +5,9 @@ use Rattle.std.proofs.lemmas.Bool.{and_parts, leb-true}
 use Rattle.vm_io.specs.Shown.{Shown}
 use Rattle.vm_image.specs.declared.blocks.PlannedFault.{PlannedFault}
 use Rattle.vm_map.specs.{declared.call.Call.Call, declared.call.Said.Said}
-use Rattle.vm_pool.specs.declared.ended.Ended.{Ended}
-use Rattle.vm_serve.specs.Served.{IsServed}
-use Rattle.vm_serve.proofs.Unplanned.{all_flushed}
+use Rattle.vm_file_serve.specs.from_vm_pool.declared_ended_Ended.{Ended}
+use Rattle.vm_file_serve.specs.from_vm_serve.Served.{IsServed}
+use Rattle.vm_file_serve.proofs.from_vm_serve.Unplanned.{all_flushed}
 use Rattle.vm_replay.specs.Told.{PlayedFile}
 use Rattle.vm_replay.proofs.OnePlay.{one_played}
 use Rattle.vm_words.specs.declared.Command.{Command}
@@ -18,17 +18,17 @@ use Rattle.vm_words.specs.declared.Serve.{Serve as ServeLine}
 use Rattle.vm_words.specs.declared.form.FormVerb.{FormVerb}
 use Rattle.vm_words.specs.Commands.{line_of, number_or, plan_or}
 use Rattle.vm_words.specs.Values.{Meaning, named, counted, planned, absent}
-use Rattle.vm_endings.specs.declared.ends.Ends.{Ends}
-use Rattle.vm_endings.specs.declared.ends.Ends.TheVariants.{LargeTree, Nothing, Tree}
+use Rattle.vm_file_serve.specs.from_vm_endings.declared_ends_Ends.{Ends}
+use Rattle.vm_file_serve.specs.from_vm_endings.declared_ends_Ends_TheVariants.{LargeTree, Nothing, Tree}
 use Rattle.vm_cli.specs.Agreement.{as_done, IsDoneStatus}
-use Rattle.vm_endings.specs.Commands.{Cut, IsSmooth, order_of}
-use Rattle.vm_endings.specs.Deliveries.{Content}
-use Rattle.vm_endings.specs.Endings.{Performs, cut, told}
-use Rattle.vm_endings.specs.Files.{HasFile}
-use Rattle.vm_endings.specs.Limits.{are_workers, words_or}
-use Rattle.vm_endings.specs.Outside.{Outside, Remains}
-use Rattle.vm_endings.specs.Runs.{CutRun, IsUnflushedRun, OfFiles, version_or}
-use Rattle.vm_endings.specs.Tests.{events}
+use Rattle.vm_file_serve.specs.from_vm_endings.Commands.{Cut, IsSmooth, order_of}
+use Rattle.vm_file_serve.specs.from_vm_endings.Deliveries.{Content}
+use Rattle.vm_file_serve.specs.from_vm_endings.Endings.{Performs, cut, told}
+use Rattle.vm_file_serve.specs.from_vm_endings.Files.{HasFile}
+use Rattle.vm_file_serve.specs.from_vm_endings.Limits.{are_workers, words_or}
+use Rattle.vm_file_serve.specs.from_vm_endings.Outside.{Outside, Remains}
+use Rattle.vm_file_serve.specs.from_vm_endings.Runs.{CutRun, IsUnflushedRun, OfFiles, version_or}
+use Rattle.vm_file_serve.specs.from_vm_endings.Tests.{events}
 use Rattle.vm_cli.proofs.OneStop.{AreBounded, both_of, HoldSame, over}
 
 -- ---- what a line says

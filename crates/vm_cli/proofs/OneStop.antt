@@ -7,14 +7,15 @@ use Rattle.vm_io.specs.Shown.{Shown}
 use Rattle.vm_device.specs.Devices.{size_of}
 use Rattle.vm_script.proofs.Readings.{not_both}
 use Rattle.vm_script.proofs.EventReadings.{not_both as not_both_events}
-use Rattle.vm_endings.specs.declared.stop.Stop.{Stop}
-use Rattle.vm_endings.specs.declared.stop.Stop.TheVariants.{Shape, Unread, Length, Page, TooFew, Long, Line}
-use Rattle.vm_endings.specs.Files.{HasFile}
-use Rattle.vm_endings.specs.Held.{HasFilePages, pages_held}
-use Rattle.vm_endings.specs.Outside.{Outside, Remains, with_shown}
-use Rattle.vm_endings.specs.Stops.{status_of}
-use Rattle.vm_endings.specs.Tests.{AllPass, Fails, Passes, StopsAt, Test, depth, events, here, image, past, room, script, space, stored}
-use Rattle.vm_endings.specs.Tests.{stored_depth, within}
+use Rattle.vm_file_serve.specs.from_vm_endings.declared_stop_Stop.{Stop}
+use Rattle.vm_file_serve.specs.from_vm_endings.declared_stop_Stop_TheVariants.{Shape, Unread, Length, Page, TooFew, Long, Line}
+use Rattle.vm_file_serve.specs.from_vm_endings.Files.{HasFile}
+use Rattle.vm_file_serve.specs.from_vm_endings.Held.{HasFilePages, pages_held}
+use Rattle.vm_file_serve.specs.from_vm_endings.Outside.{Outside, Remains, with_shown}
+use Rattle.vm_file_serve.specs.from_vm_endings.Stops.{status_of}
+use Rattle.vm_file_serve.specs.from_vm_endings.Tests.{AllPass, Fails, Passes, StopsAt, Test, depth, events, here}
+use Rattle.vm_file_serve.specs.from_vm_endings.Tests.{image, past, room, script, space, stored}
+use Rattle.vm_file_serve.specs.from_vm_endings.Tests.{stored_depth, within}
 
 -- the same outside, where the host tells and shows this
 abbrev pub over : Shown → Outside → Outside

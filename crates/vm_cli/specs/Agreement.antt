@@ -7,11 +7,11 @@ use Rattle.vm_device.specs.Whole.{RoseOrLast}
 use Rattle.vm_words.specs.declared.Command.{Command}
 use Rattle.vm_words.specs.declared.Command.TheVariants as commands
 use Rattle.vm_words.specs.Commands.{IsCommand}
-use Rattle.vm_endings.specs.declared.ends.Ends.{Ends}
-use Rattle.vm_endings.specs.Commands.{IsSmooth, order_of}
-use Rattle.vm_endings.specs.Endings.{IsServeLine, ProgramEnds}
-use Rattle.vm_endings.specs.Outside.{Outside, Remains}
-use Rattle.vm_endings.specs.Tests.{AllPass}
+use Rattle.vm_file_serve.specs.from_vm_endings.declared_ends_Ends.{Ends}
+use Rattle.vm_file_serve.specs.from_vm_endings.Commands.{IsSmooth, order_of}
+use Rattle.vm_file_serve.specs.from_vm_endings.Endings.{IsServeLine, ProgramEnds}
+use Rattle.vm_file_serve.specs.from_vm_endings.Outside.{Outside, Remains}
+use Rattle.vm_file_serve.specs.from_vm_endings.Tests.{AllPass}
 
 -- neither a host or devices that failed nor want of memory
 pub record IsSettledStatus (status : ℕ) : Type 0 where

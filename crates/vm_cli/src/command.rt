@@ -1,20 +1,20 @@
 //! The commands: of each the function that does it, up to what goes out.
 
 ghost use Rattle.std.specs.Prelude.{◌≡◌, ◌≤◌};
-ghost use Rattle.vm_endings.specs.Deliveries.{content_of};
-ghost use Rattle.vm_endings.specs.Endings.{AnswersCommand, ChangesDevices, HasUnreadCause, LeavesDevices, UnreadCause};
-ghost use Rattle.vm_endings.specs.Outside.{outside_of, remains_of};
+ghost use Rattle.vm_file_serve.specs.from_vm_endings.Deliveries.{content_of};
+ghost use Rattle.vm_file_serve.specs.from_vm_endings.Endings.{AnswersCommand, ChangesDevices, HasUnreadCause, LeavesDevices, UnreadCause};
+ghost use Rattle.vm_file_serve.specs.from_vm_endings.Outside.{outside_of, remains_of};
 
 use std::alloc::Global;
 use std::sync::Wait;
 use std::thread::Threads;
 use vm_device::Devices;
-use vm_drive::gate::Gate;
-use vm_endings::delivery::Delivery;
-use vm_endings::ends::Ends;
-use vm_endings::stop::Stop;
-use vm_endings::undone::Undone;
 use vm_file_serve::serve::run_serve;
+use vm_file_serve::vm_drive::gate::Gate;
+use vm_file_serve::vm_endings::delivery::Delivery;
+use vm_file_serve::vm_endings::ends::Ends;
+use vm_file_serve::vm_endings::stop::Stop;
+use vm_file_serve::vm_endings::undone::Undone;
 use vm_files::check::run_check;
 use vm_files::make::run_make;
 use vm_files::migrate::run_migrate;

@@ -3,9 +3,9 @@
 ghost use Rattle.std.specs.Prelude.{◌≡◌, List, Option, ℕ};
 ghost use Rattle.vm_io.specs.Shown.{Shown};
 ghost use Rattle.vm_cli.specs.Agreement.{IsSameFor, IsSettledStatus, as_done};
-ghost use Rattle.vm_endings.specs.Endings.{ProgramEnds};
-ghost use Rattle.vm_endings.specs.Outside.{Outside, Remains};
-ghost use Rattle.vm_endings.specs.declared.ends.Ends.{Ends};
+ghost use Rattle.vm_file_serve.specs.from_vm_endings.Endings.{ProgramEnds};
+ghost use Rattle.vm_file_serve.specs.from_vm_endings.Outside.{Outside, Remains};
+ghost use Rattle.vm_file_serve.specs.from_vm_endings.declared_ends_Ends.{Ends};
 
 /// Two endings of one command line, where hosts show the same files, and for a serve devices tell the same, have one status, unless the host or
 /// devices failed or memory was wanting in one of them. 7 counts as 0: whether the last flush writes each page may hang on how workers met.

@@ -6,4 +6,7 @@ mod command;
 pub mod laws;
 pub mod run;
 
-pub use vm_endings::ends;
+pub use vm_file_serve::vm_endings::ends;
+
+// Libraries below that the crates above name through this one.
+pub use vm_file_serve::vm_drive;

@@ -3,18 +3,18 @@
 ghost use Rattle.std.specs.Prelude.{◌≡◌, ◌≢◌, map, string_bytes};
 ghost use Rattle.vm_io.specs.Causes.{FailedGive};
 ghost use Rattle.vm_cli.specs.Agreement.{AgreesWithOthers, IsComplete};
-ghost use Rattle.vm_endings.specs.Endings.{ChangesDevices, CommandEnds, IsHeadline, ProgramEnds, UnreadBy, UnreadCause, UsesDevices};
-ghost use Rattle.vm_endings.specs.Outside.{IsBackHome, outside_of, remains_of};
+ghost use Rattle.vm_file_serve.specs.from_vm_endings.Endings.{ChangesDevices, CommandEnds, IsHeadline, ProgramEnds, UnreadBy, UnreadCause, UsesDevices};
+ghost use Rattle.vm_file_serve.specs.from_vm_endings.Outside.{IsBackHome, outside_of, remains_of};
 
 use crate::command::give;
 use std::alloc::Global;
 use std::sync::Wait;
 use std::thread::Threads;
 use vm_device::Devices;
-use vm_drive::gate::Gate;
-use vm_endings::delivery::{deliver, refuse, say};
-use vm_endings::ends::Ends;
-use vm_endings::undone::Undone;
+use vm_file_serve::vm_drive::gate::Gate;
+use vm_file_serve::vm_endings::delivery::{deliver, refuse, say};
+use vm_file_serve::vm_endings::ends::Ends;
+use vm_file_serve::vm_endings::undone::Undone;
 use vm_io::host::Host;
 use vm_page::WORDS;
 use vm_words::{Command, WordsFault, command_of};

@@ -1,6 +1,6 @@
 -- What a walk leaves of the words of a table that nobody else changes: each page passed has its word as the clock
 -- leaves it, by the first visit.
-use Rattle.vm_rule.specs.declared.view.WordPlace.TheVariants as places
+use Rattle.vm_step.specs.from_vm_rule.declared_view_WordPlace_TheVariants as places
 use Rattle.vm_clock.specs.Clock.{Visits as visits, VisitsFrame as frames}
 use Rattle.std.proofs.lemmas.List.{get_or_past}
 use Rattle.vm_step.specs.Prelude.{known_word_at}

@@ -7,9 +7,10 @@ pub use Rattle.std.proofs.lemmas.Bool.{and_left, and_right, cases_eq, cases_lt, 
 pub use Rattle.std.proofs.lemmas.Bool.{lt-ltb, ne_eqb, true≢false}
 pub use Rattle.std.proofs.lemmas.List.{get_or-set_other, get_or-set_same, length-append, length-set}
 pub use Rattle.vm_core.specs.Prelude.{MARKED, MAX_VERSION, UNLOCKED}
-pub use Rattle.vm_rule.specs.Prelude.{AreApart, did_change, did_exchange, did_load, Each, has, index_of, LookTold}
-pub use Rattle.vm_rule.specs.Prelude.{MarkTold, set_if, Start, Within}
-pub use Rattle.vm_rule.proofs.{Entries.each-map, Facts.has-both, Heard.each-both, WordFacts.version-within, WordFacts.word-state}
+pub use Rattle.vm_step.specs.from_vm_rule.Prelude.{AreApart, did_change, did_exchange, did_load, Each, has, index_of, LookTold}
+pub use Rattle.vm_step.specs.from_vm_rule.Prelude.{MarkTold, set_if, Start, Within}
+pub use Rattle.vm_step.proofs.from_vm_rule.{Entries.each-map, Facts.has-both, Heard.each-both}
+pub use Rattle.vm_step.proofs.from_vm_rule.{WordFacts.version-within, WordFacts.word-state}
 pub use Rattle.vm_step.specs.Prelude.{AreCandidates, candidate_pages, Did, Follows, IsAlone, IsCandidate, Origin, RunsAlone, View, view}
 pub use Rattle.vm_step.specs.declared.choice.Looks.{Looks}
 pub use Rattle.vm_step.proofs.{Alone.runs-one, Alone.runs-then, Asides.aside-within, Asides.only-then}

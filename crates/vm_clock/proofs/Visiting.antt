@@ -1,5 +1,5 @@
 -- The pages among the candidates, and what a visit comes to.
-use Rattle.vm_rule.specs.declared.view.WordPlace.TheVariants as places
+use Rattle.vm_step.specs.from_vm_rule.declared_view_WordPlace_TheVariants as places
 use Rattle.vm_clock.specs.Clock.{Visits as visits, VisitsFrame as frames}
 use Rattle.vm_core.specs.Prelude.{at, has_free_bit, upd}
 use Rattle.vm_core.proofs.Upd.{upd-other, upd-same}

@@ -14,7 +14,7 @@ use arrayvec::ArrayVec;
 use vm_block::Block;
 use vm_core::{FRAMES, MAX_VERSION, StateWord};
 use vm_owner::Owner;
-use vm_rule::words::{Pass, Words};
+use vm_step::vm_rule::words::{Pass, Words};
 use vm_step::{Candidates, Looks, Took, hand, look_silently, mark, oload};
 
 /// No look yet.
@@ -142,3 +142,6 @@ fn visit<U: Owner, B: Block>(
         }
     }
 }
+
+// Libraries below that the crates above name through this one.
+pub use vm_step;

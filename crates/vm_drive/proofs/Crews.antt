@@ -6,7 +6,7 @@ use Rattle.std.proofs.Common.{subst, suc, sym, take, Vec, zero, ℕ}
 use Rattle.vm_map.specs.{declared.call.Call.Call, declared.call.Reply.Reply, declared.call.Said.Said, Map.Pairs}
 use Rattle.vm_rule.specs.Prelude.{TableId}
 use Rattle.vm_step.specs.Prelude.{TableShape}
-use Rattle.vm_tree_rule.specs.declared.fault.TreeFault.{TreeFault}
+use Rattle.vm_calls.specs.from_vm_tree_rule.declared_fault_TreeFault.{TreeFault}
 use Rattle.vm_calls.specs.Compact.{all_replies, HasContents, KeepsAnswers}
 use Rattle.vm_calls.specs.{declared.compact.Replies.Replies, declared.worker.Worker.Worker, Kept.IsRoomFor, Kept.Room, Spans.HasSpans}
 use Rattle.vm_drive.specs.Crews.{AllWorked, AreIdle, HasWorked, IsIdle}

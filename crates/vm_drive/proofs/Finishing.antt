@@ -7,11 +7,11 @@ use Rattle.vm_map.specs.{declared.call.Call.Call, declared.call.Reply.Reply, dec
 use Rattle.vm_tree_model.specs.{Fixed.fixed, Tree.map_of}
 use Rattle.vm_rule.specs.Prelude.{AreApart, Each, entries_by, Entry, has, HoldsNoPage, IsWhole, owns, TableId, times}
 use Rattle.vm_rule.proofs.Entries.{each-map}
-use Rattle.vm_rule_laws.specs.Known.{kept_by}
+use Rattle.vm_step.specs.from_vm_rule_laws.Known.{kept_by}
 use Rattle.vm_step.specs.Prelude.{Did, Note, TableShape, View, view}
-use Rattle.vm_pool.specs.Parting.{KeepsAll}
+use Rattle.vm_calls.specs.from_vm_pool.Parting.{KeepsAll}
 use Rattle.vm_tree_laws.specs.History.{saids}
-use Rattle.vm_tree_rule.specs.declared.fault.TreeFault.{TreeFault}
+use Rattle.vm_calls.specs.from_vm_tree_rule.declared_fault_TreeFault.{TreeFault}
 use Rattle.vm_calls.specs.Causes.{answered, faults_of, IsUntold, notes_about}
 use Rattle.vm_calls.specs.{declared.worker.Worker.Worker, Kept.Room, Shows.AreShown}
 use Rattle.vm_drive.specs.Crews.{all_notes_of, AllWorked, answers_of, AreHired, AreIdle, AreJoined, HasWorked, IsBack, IsIn, IsNewWorker}

@@ -5,7 +5,7 @@ use Rattle.vm_map.specs.declared.call.Said.{Said}
 use Rattle.vm_rule.specs.Prelude.{entries_by, Entry, has, Kept, owns, Start, times}
 use Rattle.vm_rule.proofs.Entries.{append-none, each-map}
 use Rattle.vm_step.specs.Prelude.{Did, Note, View, view}
-use Rattle.vm_pool.specs.Parting.{Joins}
+use Rattle.vm_calls.specs.from_vm_pool.Parting.{Joins}
 use Rattle.vm_tree_model.specs.Fixed.{fixed}
 use Rattle.vm_tree_laws.specs.Plain.{KeepsPlain}
 use Rattle.vm_calls.specs.{Causes.notes_about, declared.worker.Worker.Worker, TreeCalls.as_said}

@@ -3,10 +3,11 @@ use Rattle.std.proofs.Common.{[], ◌++◌, ◌<◌, ◌∙◌, ◌∷◌, ◌�
 use Rattle.vm_map.specs.{declared.call.Call.Call, declared.call.Reply.Reply, declared.call.Said.Said}
 use Rattle.vm_rule.specs.Prelude.{entries_by, Entry, StartsWith}
 use Rattle.vm_step.specs.Prelude.{Did, View}
-use Rattle.vm_tree_rule.specs.declared.fault.TreeFault.{TreeFault}
+use Rattle.vm_calls.specs.from_vm_tree_rule.declared_fault_TreeFault.{TreeFault}
 use Rattle.vm_drive.specs.Parts.{HaveParts, logs_of, StandBehind, StandIn}
 use Rattle.vm_drive.specs.Lists.{AllCausedBy}
-use Rattle.vm_calls.proofs.{Called.FoundFull, Called.FoundWorn, Chain.calls-done, Lists.starts-then, Tracing.all-caused, Tracing.untold-later}
+use Rattle.vm_calls.proofs.{Called.FoundFull, Called.FoundWorn, Chain.calls-done, Lists.starts-then}
+use Rattle.vm_calls.proofs.{Tracing.all-caused, Tracing.untold-later}
 use Rattle.vm_calls.specs.Causes.{IsUntold}
 
 regroup : {A : Type 0} (f e l b : List A) (s : A) → f ++ ((e ++ s ∷ l) ++ b) ≡ (f ++ e) ++ s ∷ (l ++ b)

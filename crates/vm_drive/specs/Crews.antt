@@ -5,10 +5,10 @@ use Rattle.std.specs.Prelude.{slice_index, true, Vec, ℕ}
 use Rattle.vm_map.specs.{declared.call.Call.Call, declared.call.Reply.Reply, declared.call.Said.Said, Map.Pairs}
 use Rattle.vm_rule.specs.Prelude.{AreApart, Each, entries_by, has, HoldsNoPage, IsWhole, owns, StartsWith, TableId, times}
 use Rattle.vm_step.specs.Prelude.{Did, IsReady, KnowsAll, Note, TableShape, View, view}
-use Rattle.vm_pool.specs.Parting.{KeepsAll}
+use Rattle.vm_calls.specs.from_vm_pool.Parting.{KeepsAll}
 use Rattle.vm_tree_model.specs.Fixed.{fixed}
 use Rattle.vm_tree_laws.specs.Plain.{KeepsPlain}
-use Rattle.vm_tree_rule.specs.declared.fault.TreeFault.{TreeFault}
+use Rattle.vm_calls.specs.from_vm_tree_rule.declared_fault_TreeFault.{TreeFault}
 use Rattle.vm_calls.specs.Prelude.{LosesNone}
 use Rattle.vm_calls.specs.{Causes.notes_about, declared.worker.Worker.Worker, Kept.IsRoomFor, Kept.Room, Spans.HasSpans, TreeCalls.as_said}
 use Rattle.vm_calls.specs.{Workers.HasKept, Workers.IsAtWork}

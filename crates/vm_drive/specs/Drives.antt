@@ -6,10 +6,10 @@ use Rattle.vm_map.specs.{declared.call.Call.Call, declared.call.Reply.Reply, dec
 use Rattle.vm_tree_model.specs.{Fixed.fixed, Tree.map_of}
 use Rattle.vm_core.specs.Prelude.{MAX_VERSION}
 use Rattle.vm_rule.specs.Prelude.{Entry, has, HoldsNoPage, last_of, StartsWith}
-use Rattle.vm_rule_laws.specs.Known.{kept_by}
+use Rattle.vm_step.specs.from_vm_rule_laws.Known.{kept_by}
 use Rattle.vm_step.specs.Prelude.{IsAlone, View}
 use Rattle.vm_tree_laws.specs.History.{IsLegal}
-use Rattle.vm_tree_rule.specs.declared.fault.TreeFault.{TreeFault}
+use Rattle.vm_calls.specs.from_vm_tree_rule.declared_fault_TreeFault.{TreeFault}
 use Rattle.vm_calls.specs.Causes.{IsUntold, notes_about}
 use Rattle.vm_drive.specs.Lists.{all_faults_of, AllCausedBy, AllShown, AreKept}
 use Rattle.vm_drive.specs.Parts.{HaveParts, logs_of, noted_by, StandBehind}

@@ -3,7 +3,7 @@ use Rattle.std.specs.Prelude.{[], ◌<◌, ◌∷◌, ◌≡◌, length, List, R
 use Rattle.vm_map.specs.{declared.call.Call.Call, declared.call.Reply.Reply, declared.call.Said.Said}
 use Rattle.vm_rule.specs.Prelude.{Each, entries_by, Entry}
 use Rattle.vm_tree_laws.specs.History.{saids}
-use Rattle.vm_tree_rule.specs.declared.fault.TreeFault.{TreeFault}
+use Rattle.vm_calls.specs.from_vm_tree_rule.declared_fault_TreeFault.{TreeFault}
 use Rattle.vm_calls.specs.Causes.{answered}
 
 -- what the entries of a number say, in order

@@ -4,3 +4,9 @@ pub mod Parts
 pub mod Crews
 pub mod Drives
 pub mod Prelude
+pub mod from_vm_calls
+pub mod from_vm_evict
+pub mod from_vm_kind
+pub mod from_vm_pool
+pub mod from_vm_step
+pub mod from_vm_tree_rule

@@ -3,7 +3,7 @@ use Rattle.std.specs.declared.alloc.Global.{Global}
 use Rattle.std.specs.Prelude.{[], ◌+◌, ◌∷◌, List, Result, Vec, ℕ}
 use Rattle.vm_map.specs.{declared.call.Call.Call, declared.call.Reply.Reply, declared.call.Said.Said, Map.Pairs}
 use Rattle.vm_step.specs.Prelude.{View}
-use Rattle.vm_tree_rule.specs.declared.fault.TreeFault.{TreeFault}
+use Rattle.vm_calls.specs.from_vm_tree_rule.declared_fault_TreeFault.{TreeFault}
 use Rattle.vm_calls.specs.{Causes.AreCausedBy, Causes.faults_of, Kept.IsRoomFor, Kept.Room, Shows.AreShown, Spans.HasSpans}
 
 -- how many answers say that the device of page p failed

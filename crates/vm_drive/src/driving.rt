@@ -19,14 +19,14 @@ use vm_block::{Block, PageBlock};
 use vm_calls::answers::Answers;
 use vm_calls::compact::Replies;
 use vm_calls::gate::Gate;
+use vm_calls::vm_exmap::Interface;
+use vm_calls::vm_kind::{OfSize, TreeOf, WordKeys};
+use vm_calls::vm_pool::Pool;
 use vm_calls::worker::{Worker, work};
 use vm_core::Memory;
-use vm_exmap::Interface;
-use vm_kind::{OfSize, TreeOf, WordKeys};
 use vm_map::call::Call;
 use vm_map::span::Span;
 use vm_owner::Owner;
-use vm_pool::Pool;
 use vm_rule::words::Pass;
 
 /// What the workers were answered, and how many pages their sweeps evicted.

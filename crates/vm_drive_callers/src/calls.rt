@@ -3,20 +3,20 @@ ghost use Rattle.std.specs.List.{AllByRecursion};
 ghost use Rattle.std.specs.Prelude.{◌≡◌, ◌≤◌, IfOk, length, None};
 ghost use Rattle.vm_map.specs.History.{IsAskable};
 ghost use Rattle.vm_step.specs.Prelude.{AreHeld, IsReadyOn, view};
-ghost use Rattle.vm_drive.specs.Drives.{AreAskable, AreFew, items_of};
+ghost use Rattle.vm_serve.specs.from_vm_drive.Drives.{AreAskable, AreFew, items_of};
 
 use std::alloc::{AllocError, Global};
 use std::sync::Wait;
 use std::test::Fail;
 use vm_block::PageBlock;
-use vm_drive::compact::{Replies, Short};
 use vm_exmap::Interface;
 use vm_map::call::{Call, Reply};
 use vm_page::WORDS;
-use vm_pool::Pool;
 use vm_rule::words::Pass;
-use vm_tree_read::get;
-use vm_tree_rule::{Tree, TreeFault};
+use vm_serve::vm_drive::compact::{Replies, Short};
+use vm_serve::vm_pool::Pool;
+use vm_serve::vm_tree_read::get;
+use vm_serve::vm_tree_rule::{Tree, TreeFault};
 
 /// Puts of so many keys, from the first one on by this step; each key gets the number behind it.
 fn puts(alloc: Global, first: u64, step: u64, count: u64) -> Result<Vec<Call>, AllocError>

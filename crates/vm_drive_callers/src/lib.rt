@@ -3,3 +3,7 @@
 
 pub mod calls;
 pub mod trees;
+
+// Libraries below that the crates above name through this one.
+pub use vm_serve;
+pub use vm_serve::vm_drive;

@@ -8,11 +8,11 @@ use Rattle.vm_map.specs.{declared.call.Call.Call, declared.call.Reply.Reply, dec
 use Rattle.vm_map.specs.{declared.window.Window.Window, Map.Pairs}
 use Rattle.vm_map.specs.declared.call.Reply.TheVariants as kinds
 use Rattle.vm_owner.specs.declared.Entry.{Entry}
-use Rattle.vm_tree_rule.specs.declared.fault.TreeFault.{TreeFault}
-use Rattle.vm_calls.specs.Compact.{all_replies, HasContents, ranges_in, replies_in, told_in, wins_in}
-use Rattle.vm_calls.specs.{declared.compact.Replies.Replies, declared.compact.Short.Short}
-use Rattle.vm_drive.specs.{Drives.AreFew, Drives.items_of, Holds.HoldsCalls, Holds.list_at}
-use Rattle.vm_calls.specs.declared.compact.Short.TheVariants as shorts
+use Rattle.vm_serve.specs.from_vm_tree_rule.declared_fault_TreeFault.{TreeFault}
+use Rattle.vm_serve.specs.from_vm_calls.Compact.{all_replies, HasContents, ranges_in, replies_in, told_in, wins_in}
+use Rattle.vm_serve.specs.from_vm_calls.{declared_compact_Replies.Replies, declared_compact_Short.Short}
+use Rattle.vm_serve.specs.from_vm_drive.{Drives.AreFew, Drives.items_of, Holds.HoldsCalls, Holds.list_at}
+use Rattle.vm_serve.specs.from_vm_calls.declared_compact_Short_TheVariants as shorts
 use Rattle.vm_script.specs.{declared.text.Line.Line, Texts.replies_text, Texts.reply_line, Texts.worker_replies}
 use Rattle.vm_endings.specs.Replies.{all_lines, AreMatched, line_in, lines_in}
 

@@ -3,9 +3,9 @@ use Rattle.std.specs.Prelude.{[], ◌*◌, ◌+◌, ◌≡◌, length, List, Non
 use Rattle.vm_map.specs.{declared.call.Said.Said, Map.Pairs}
 use Rattle.vm_build.specs.{Build.IsBuilt, Build.needed, Numbers.numbered}
 use Rattle.vm_owner.specs.declared.Entry.{Entry}
-use Rattle.vm_pool.specs.{Closing.view_at_end, declared.ended.Ended.Ended}
+use Rattle.vm_serve.specs.from_vm_pool.{Closing.view_at_end, declared_ended_Ended.Ended}
 use Rattle.vm_tree_laws.specs.History.{gones, news}
-use Rattle.vm_drive.specs.Lists.{all_faults_of}
+use Rattle.vm_serve.specs.from_vm_drive.Lists.{all_faults_of}
 use Rattle.vm_churn.specs.Calls.{churn_count, churn_lists}
 use Rattle.vm_churn.specs.Tallies.{founds, sum_values}
 use Rattle.vm_script.specs.Texts.{churn_line}

@@ -9,7 +9,8 @@ use Rattle.vm_endings.specs.{Files.HasFile, Makes.ToldMake, Migrates.ToldMigrate
 use Rattle.vm_endings.specs.declared.stop.Quantity.TheVariants.{Fail, FirstVersion, Frames, Pages, Pairs, Words, Workers}
 use Rattle.vm_endings.specs.Limits.{are_entries, are_frames, are_pages, are_pairs_to_churn, are_pairs_to_make}
 use Rattle.vm_endings.specs.Limits.{are_words, are_workers, is_version, words_or}
-use Rattle.vm_endings.specs.{Outside.Outside, Outside.Remains, Runs.CutRun, Runs.ToldRun, Runs.version_or, Serves.CutServe, Serves.ToldServe}
+use Rattle.vm_endings.specs.{Outside.Outside, Outside.Remains, Runs.CutRun, Runs.ToldRun, Runs.version_or}
+use Rattle.vm_endings.specs.{Serves.CutServe, Serves.ToldServe}
 use Rattle.vm_endings.specs.Tests.{depth, events, image, room, script, space, stored, stored_depth, Test, within}
 
 -- the numbers of a run

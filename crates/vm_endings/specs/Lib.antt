@@ -19,3 +19,8 @@ pub mod Churns
 pub mod Replays
 pub mod Commands
 pub mod Endings
+pub mod from_vm_churn
+pub mod from_vm_drive
+pub mod from_vm_pool
+pub mod from_vm_serve
+pub mod from_vm_tree_rule

@@ -4,10 +4,10 @@ use Rattle.vm_block.specs.declared.memory.MemBlock.{MemBlock}
 use Rattle.vm_map.specs.{declared.call.Call.Call, declared.call.Reply.Reply, declared.call.Said.Said, History.after_all, Map.Pairs}
 use Rattle.vm_tree_model.specs.{Fixed.fixed, Tree.map_of}
 use Rattle.vm_image.specs.declared.blocks.PlannedFault.{PlannedFault}
-use Rattle.vm_evict.specs.declared.flushing.Flushed.{Flushed}
-use Rattle.vm_pool.specs.{Closing.view_at_end, declared.ended.Ended.Ended}
+use Rattle.vm_serve.specs.from_vm_evict.declared_flushing_Flushed.{Flushed}
+use Rattle.vm_serve.specs.from_vm_pool.{Closing.view_at_end, declared_ended_Ended.Ended}
 use Rattle.vm_tree_laws.specs.History.{saids}
-use Rattle.vm_tree_rule.specs.declared.fault.TreeFault.{TreeFault}
+use Rattle.vm_serve.specs.from_vm_tree_rule.declared_fault_TreeFault.{TreeFault}
 use Rattle.vm_serve.specs.Served.{IsServed}
 
 -- the map of the pages of n words after the calls of the one history that `end` keeps

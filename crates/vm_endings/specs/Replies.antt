@@ -1,9 +1,9 @@
 -- The lines of workers' answers.
 use Rattle.std.specs.Prelude.{[], ◌∷◌, ◌≡◌, Err, length, List, Ok, Result, ℕ}
 use Rattle.vm_map.specs.{declared.call.Call.Call, declared.call.Reply.Reply}
-use Rattle.vm_tree_rule.specs.declared.fault.TreeFault.{TreeFault}
-use Rattle.vm_tree_rule.specs.declared.fault.TreeFault.TheVariants.{Damaged, Device, Full, Worn}
-use Rattle.vm_pool.specs.declared.ended.Ended.{Ended}
+use Rattle.vm_serve.specs.from_vm_tree_rule.declared_fault_TreeFault.{TreeFault}
+use Rattle.vm_serve.specs.from_vm_tree_rule.declared_fault_TreeFault_TheVariants.{Damaged, Device, Full, Worn}
+use Rattle.vm_serve.specs.from_vm_pool.declared_ended_Ended.{Ended}
 use Rattle.vm_script.specs.{declared.text.Line.Line, Texts.counters_line}
 use Rattle.vm_script.specs.declared.text.Line.TheVariants as lines
 

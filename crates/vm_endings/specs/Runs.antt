@@ -6,7 +6,7 @@ use Rattle.vm_map.specs.{declared.call.Call.Call, declared.call.Said.Said}
 use Rattle.vm_tree_model.specs.{Fixed.fixed, Tree.map_of}
 use Rattle.vm_image.specs.Blocks.{pages_of_blocks}
 use Rattle.vm_image.specs.File.{words_of_file}
-use Rattle.vm_pool.specs.declared.ended.Ended.{Ended}
+use Rattle.vm_serve.specs.from_vm_pool.declared_ended_Ended.{Ended}
 use Rattle.vm_script.specs.Texts.{rows_text, unflushed_line, worker_replies}
 use Rattle.vm_words.specs.declared.Run.{Run}
 use Rattle.vm_endings.specs.{declared.ends.Ends.Ends, Deliveries.Content, Deliveries.Written, Ends.OfEnd}

@@ -6,9 +6,9 @@ use Rattle.vm_block.specs.declared.stored.Stored.{Stored}
 use Rattle.vm_core.specs.Prelude.{at}
 use Rattle.vm_device.specs.Whole.{RoseOrLast, SyncsAll}
 use Rattle.vm_rule.specs.Prelude.{no_block}
-use Rattle.vm_evict.specs.declared.flushing.Flushed.{Flushed}
-use Rattle.vm_pool.specs.{Closing.view_at_end, declared.ended.Ended.Ended}
-use Rattle.vm_tree_rule.specs.declared.fault.TreeFault.{TreeFault}
+use Rattle.vm_serve.specs.from_vm_evict.declared_flushing_Flushed.{Flushed}
+use Rattle.vm_serve.specs.from_vm_pool.{Closing.view_at_end, declared_ended_Ended.Ended}
+use Rattle.vm_serve.specs.from_vm_tree_rule.declared_fault_TreeFault.{TreeFault}
 use Rattle.vm_serve.specs.Served.{IsServedOn}
 use Rattle.vm_script.specs.Texts.{unflushed_line, worker_replies}
 use Rattle.vm_words.specs.declared.Serve.{Serve}

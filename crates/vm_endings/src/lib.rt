@@ -10,3 +10,8 @@ pub mod stop;
 pub mod texts;
 pub mod undone;
 pub mod writing;
+
+// Libraries below that the crates above name through this one.
+pub use vm_churn;
+pub use vm_serve;
+pub use vm_serve::{vm_drive, vm_kind, vm_pool};

@@ -2,18 +2,18 @@
 
 ghost use Rattle.std.specs.List.{AllByRecursion};
 ghost use Rattle.std.specs.Prelude.{[], ◌+◌, ◌++◌, ◌<◌, ◌^◌, ◌∷◌, ◌≡◌, ◌≤◌, length, OnOk};
-ghost use Rattle.vm_calls.specs.Compact.{all_replies, HasContents, ranges_in, replies_in, told_in, wins_in};
-ghost use Rattle.vm_drive.specs.Drives.{AreFew, items_of};
+ghost use Rattle.vm_serve.specs.from_vm_calls.Compact.{all_replies, HasContents, ranges_in, replies_in, told_in, wins_in};
+ghost use Rattle.vm_serve.specs.from_vm_drive.Drives.{AreFew, items_of};
 ghost use Rattle.vm_script.specs.Texts.{replies_text, rows_text, worker_replies};
 ghost use Rattle.vm_endings.specs.Replies.{all_lines, AreMatched, fault_line, lines_in};
 
 use std::alloc::{AllocError, Global};
-use vm_drive::compact::{Replies, Short};
 use vm_map::call::{Call, Pair, Reply};
 use vm_map::span::Span;
 use vm_map::window::Window;
 use vm_script::text::{Line, gathered_text, reply_text, row_text, said_text, shown_text};
-use vm_tree_rule::TreeFault;
+use vm_serve::vm_drive::compact::{Replies, Short};
+use vm_serve::vm_tree_rule::TreeFault;
 
 // Why a call had no reply, as it is told.
 fn line_of(fault: TreeFault) -> Line

@@ -2,18 +2,18 @@
 
 ghost use Rattle.std.specs.List.{AllByRecursion};
 ghost use Rattle.std.specs.Prelude.{◌++◌, ◌≡◌, ◌≤◌, IfOk, length};
-ghost use Rattle.vm_calls.specs.Compact.{all_replies, HasContents};
-ghost use Rattle.vm_drive.specs.Drives.{AreFew, items_of};
+ghost use Rattle.vm_serve.specs.from_vm_calls.Compact.{all_replies, HasContents};
+ghost use Rattle.vm_serve.specs.from_vm_drive.Drives.{AreFew, items_of};
 ghost use Rattle.vm_script.specs.Texts.{rows_text, unflushed_line, worker_replies};
 ghost use Rattle.vm_endings.specs.Replies.{all_lines, AreMatched, counters_of};
 
 use crate::replies::{add_replies, add_rows};
 use std::alloc::{AllocError, Global};
-use vm_drive::compact::Replies;
 use vm_map::call::{Call, Pair};
 use vm_owner::Owner;
-use vm_pool::Ended;
 use vm_script::text::{counters_text, unflushed_text};
+use vm_serve::vm_drive::compact::Replies;
+use vm_serve::vm_pool::Ended;
 
 /// The text of the replies, of the rows and of the counters.
 pub fn whole_text<U: Owner>(

@@ -24,7 +24,7 @@ pub use Rattle.vm_rule.specs.Prelude.{translation_of, TranslationTold, UnshareTo
 pub use Rattle.vm_rule.specs.Prelude.{Within, words_held, WriteLockTold}
 pub use Rattle.vm_rule.proofs.{Entries.append-none, Entries.each-map, Facts.has-both, Found.part-found, Heard.each-both, Joining.has-left}
 pub use Rattle.vm_rule.proofs.WordFacts.{mapping-clean, version-within, word-made, word-state, word-version}
-pub use Rattle.vm_rule_laws.specs.Standing.{mapping_in, state_in}
+pub use Rattle.vm_step.specs.from_vm_rule_laws.Standing.{mapping_in, state_in}
 pub use Rattle.vm_step.specs.{declared.choice.Looks.Looks, declared.took.Took.TheVariants.Lost}
 pub use Rattle.vm_step.specs.{declared.took.Took.TheVariants.Taken, steps.Owner.OwnerTold}
 pub use Rattle.vm_step.specs.Prelude.{candidate_pages, Did, first_or, GoesOnce, HasGiven, HasWritten, HoldsPage}

@@ -5,7 +5,7 @@ use Rattle.vm_exmap.proofs.Prelude.{refl, rules, subst, sym, true, true≢false,
 use Rattle.vm_exmap.proofs.Prelude.{◌∷◌, ◌≡◌}
 pub use Rattle.vm_step.proofs.HeldFrames.{held-on}
 pub use Rattle.vm_step.proofs.Releasing.{each-has as each-of}
-pub use Rattle.vm_rule.proofs.Heard.{each-both as each-join}
+pub use Rattle.vm_step.proofs.from_vm_rule.Heard.{each-both as each-join}
 
 -- ---- what holds of each number of a list
 

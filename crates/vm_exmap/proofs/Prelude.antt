@@ -12,12 +12,12 @@ pub use Rattle.std.proofs.lemmas.Nat.Bits.{bit_at-lt, bit_at-pow_other, bit_at-p
 pub use Rattle.std.proofs.lemmas.Nat.Bits.{same_from_bits_below, shr_and_one}
 pub use Rattle.vm_core.specs.{Prelude.AreLowest, Prelude.no_seat, Words.bit_count}
 pub use Rattle.vm_core.proofs.Locks.{sum_below-at}
-pub use Rattle.vm_rule.specs.{Bundles.taken_view, declared.view.WordPlace.WordPlace}
-pub use Rattle.vm_rule.specs.Prelude.{AreApart, Brings, bundles_of, BundleTold, contents_at, did_change, did_exchange}
-pub use Rattle.vm_rule.specs.Prelude.{did_load, Each, frames_below, GiveTold, has, index_of, IsLocking, last_in}
-pub use Rattle.vm_rule.specs.Prelude.{put_at, Seat, seat_of, StartsWith, TakeTold, with_contents, Within, without_all}
-pub use Rattle.vm_rule.proofs.{Entries.append-none, Entries.each-map, Facts.has-both, Heard.each-both}
-pub use Rattle.vm_rule.proofs.Bundled.{frames_in-apart, has-frames_in, has-without_all, with_contents-at}
+pub use Rattle.vm_step.specs.from_vm_rule.{Bundles.taken_view, declared_view_WordPlace.WordPlace}
+pub use Rattle.vm_step.specs.from_vm_rule.Prelude.{AreApart, Brings, bundles_of, BundleTold, contents_at, did_change, did_exchange}
+pub use Rattle.vm_step.specs.from_vm_rule.Prelude.{did_load, Each, frames_below, GiveTold, has, index_of, IsLocking, last_in}
+pub use Rattle.vm_step.specs.from_vm_rule.Prelude.{put_at, Seat, seat_of, StartsWith, TakeTold, with_contents, Within, without_all}
+pub use Rattle.vm_step.proofs.from_vm_rule.{Entries.append-none, Entries.each-map, Facts.has-both, Heard.each-both}
+pub use Rattle.vm_step.proofs.from_vm_rule.Bundled.{frames_in-apart, has-frames_in, has-without_all, with_contents-at}
 pub use Rattle.vm_step.specs.{declared.saw.At.At, declared.saw.Saw.Saw, Evidence.Begins.read}
 pub use Rattle.vm_step.specs.Prelude.{AreHeld, Did, HoldsPage, IsAlone, IsAsideOf, IsSaw, known_word_at}
 pub use Rattle.vm_step.specs.Prelude.{KnowsAsBefore, KnowsElse, NoneExpected, NoWord, Origin, PassMayGive, place_at}
@@ -32,4 +32,4 @@ pub use Rattle.vm_exmap.specs.Returns.{AreGiven, GivesFromFirst, is_of, KnowsGiv
 pub use Rattle.vm_exmap.specs.Visits.{IsEmptyVisit, IsFound, IsLostVisit, IsTakenVisit}
 pub use Rattle.vm_exmap.specs.Walks.{Asks, bundle_at, Dry, IsDry, PassesBy, TakesBits, TakesFrom, Walks}
 unfoldable pub use Rattle.vm_core.specs.Prelude.{in_mask}
-unfoldable pub use Rattle.vm_rule.specs.Prelude.{frames_in}
+unfoldable pub use Rattle.vm_step.specs.from_vm_rule.Prelude.{frames_in}

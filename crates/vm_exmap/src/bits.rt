@@ -1,7 +1,7 @@
 // The frames of a bundle's bits, and the bits of frames.
 ghost use Rattle.std.specs.Prelude.{◌*◌, ◌<◌, ◌^◌, ◌≡◌, ℕ};
 ghost use Rattle.vm_core.specs.Prelude.{in_mask};
-ghost use Rattle.vm_rule.specs.Prelude.{frames_in};
+ghost use Rattle.vm_step.specs.from_vm_rule.Prelude.{frames_in};
 ghost use Rattle.vm_exmap.specs.Returns.{is_of};
 
 use vm_core::FRAMES;

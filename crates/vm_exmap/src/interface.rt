@@ -1,7 +1,7 @@
 // A pass's own store of free frames over the bundles that all passes share: frames are taken from a bundle and given back in batches, each
 // by one step on the bundle's word.
 ghost use Rattle.std.specs.Prelude.{[], ◌++◌, ◌+◌, ◌-◌, ◌^◌, ◌∷◌, ◌≡◌, ◌≤◌, length, min};
-ghost use Rattle.vm_rule.specs.Prelude.{FRAMES};
+ghost use Rattle.vm_step.specs.from_vm_rule.Prelude.{FRAMES};
 ghost use Rattle.vm_step.specs.Prelude.{AreHeld, GoesOn, IsAlone, IsReadyOn, view};
 ghost use Rattle.vm_exmap.specs.Returns.{AreGiven, IsFreed};
 ghost use Rattle.vm_exmap.specs.Walks.{HandsOut, IsAlloc, NotLost, as_batch};
@@ -11,7 +11,7 @@ use crate::walk::walk;
 use vm_block::Block;
 use vm_core::FRAMES;
 use vm_owner::Owner;
-use vm_rule::words::{Pass, Words};
+use vm_step::vm_rule::words::{Pass, Words};
 use vm_step::{Batch, Saw, give};
 
 /// What an allocation answers.

@@ -6,14 +6,14 @@ pub use Rattle.std.proofs.lemmas.Bool.{cases_eq, cond-false, false≢true, ne_eq
 pub use Rattle.std.proofs.lemmas.Option.{none-some}
 pub use Rattle.vm_block.specs.Blocks.{Reads}
 pub use Rattle.vm_core.specs.Prelude.{EVICTED, LOCKED, MAX_VERSION, trans_word, UNLOCKED, Version}
-pub use Rattle.vm_rule.specs.{declared.view.Held.Held, declared.view.WordPlace.WordPlace}
-pub use Rattle.vm_rule.specs.Prelude.{Brings, Change, clean_in, did_exchange, did_load, did_store, draft_of, Each}
-pub use Rattle.vm_rule.specs.Prelude.{Entry, EvictTold, has, held_at, HomeTold, InstallTold, IsHeldAt, IsLocking}
-pub use Rattle.vm_rule.specs.Prelude.{IsUnheld, last_in, last_of, locked_view, LockTold, LookTold, Mapping, MayBring}
-pub use Rattle.vm_rule.specs.Prelude.{MayPutInto, no_held, notes_of, out_at, OutTold, put_at, RaiseTold, ReleaseTold}
-pub use Rattle.vm_rule.specs.Prelude.{Seat, seat_of, Start, Stored, Within, without}
-pub use Rattle.vm_rule.proofs.{Entries.each-map, Heard.each-both}
-pub use Rattle.vm_rule.proofs.WordFacts.{version-within, word-made, word-state, word-version}
+pub use Rattle.vm_step.specs.from_vm_rule.{declared_view_Held.Held, declared_view_WordPlace.WordPlace}
+pub use Rattle.vm_step.specs.from_vm_rule.Prelude.{Brings, Change, clean_in, did_exchange, did_load, did_store, draft_of, Each}
+pub use Rattle.vm_step.specs.from_vm_rule.Prelude.{Entry, EvictTold, has, held_at, HomeTold, InstallTold, IsHeldAt, IsLocking}
+pub use Rattle.vm_step.specs.from_vm_rule.Prelude.{IsUnheld, last_in, last_of, locked_view, LockTold, LookTold, Mapping, MayBring}
+pub use Rattle.vm_step.specs.from_vm_rule.Prelude.{MayPutInto, no_held, notes_of, out_at, OutTold, put_at, RaiseTold, ReleaseTold}
+pub use Rattle.vm_step.specs.from_vm_rule.Prelude.{Seat, seat_of, Start, Stored, Within, without}
+pub use Rattle.vm_step.proofs.from_vm_rule.{Entries.each-map, Heard.each-both}
+pub use Rattle.vm_step.proofs.from_vm_rule.WordFacts.{version-within, word-made, word-state, word-version}
 pub use Rattle.vm_step.specs.{declared.saw.At.At, Evidence.EvictedExpected}
 pub use Rattle.vm_step.specs.Prelude.{Did, HasGiven, HasWritten, IsAlone, IsAside, IsFirst, IsMember, IsNotOut}
 pub use Rattle.vm_step.specs.Prelude.{IsOfPage, KeepsFrames, known_word_at, KnowsElse, LeavesRest, MayEvict}

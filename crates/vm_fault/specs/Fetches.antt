@@ -4,8 +4,9 @@
 use Rattle.std.specs.Prelude.{[], List, None, slice_index, Some, true, ℕ, ◌++◌, ◌+◌, ◌<◌, ◌∷◌, ◌≡◌, ◌≢◌, ◌≤◌, ◌⊎◌}
 use Rattle.vm_core.specs.Fn as fns
 use Rattle.vm_core.specs.Prelude.{EVICTED, LOCKED, MAX_VERSION, state_of, trans_word, UNLOCKED, version_of, word_of}
-use Rattle.vm_rule.specs.Prelude.{clean_in, did_exchange, did_store, Each, last_in, last_of, LockTold, LookTold, Start, without}
-use Rattle.vm_rule.specs.declared.view.WordPlace.{WordPlace}
+use Rattle.vm_step.specs.from_vm_rule.Prelude.{clean_in, did_exchange, did_store, Each, last_in, last_of, LockTold}
+use Rattle.vm_step.specs.from_vm_rule.Prelude.{LookTold, Start, without}
+use Rattle.vm_step.specs.from_vm_rule.declared_view_WordPlace.{WordPlace}
 use Rattle.vm_step.specs.{declared.saw.Saw.Saw, Evidence.EvictedExpected}
 use Rattle.vm_step.specs.Prelude.{Did, GoesOnce, HasGiven, HasWritten, IsAlone, IsAside, IsLost, IsOfPage, IsSaw}
 use Rattle.vm_step.specs.Prelude.{KeepsFrames, known_word_at, KnowsElse, KnowsSame, LeavesOnly, NoWord, Release}

@@ -2,7 +2,7 @@
 ghost use Rattle.std.specs.Prelude.{◌<◌, ◌≡◌, None, true};
 ghost use Rattle.vm_core.specs.Prelude.{EVICTED, MAX_VERSION};
 ghost use Rattle.vm_page.specs.Sizes.{IsSize};
-ghost use Rattle.vm_rule.specs.Prelude.{has};
+ghost use Rattle.vm_step.specs.from_vm_rule.Prelude.{has};
 ghost use Rattle.vm_step.specs.Prelude.{GoesOn, IsReadyOn, view};
 ghost use Rattle.vm_fault.specs.Fetches.{IsFetched, IsFoundEvicted};
 
@@ -10,7 +10,7 @@ use vm_block::PageBlock;
 use vm_core::{MAX_VERSION, StateWord};
 use vm_owner::Owner;
 use vm_page::PageBuf;
-use vm_rule::words::{Pass, Words};
+use vm_step::vm_rule::words::{Pass, Words};
 use vm_step::{
     At, Saw, Took, block_home, block_out, fill, install, lock_exclusive, look_silently, own, raise,
     release_evicted, release_silently,

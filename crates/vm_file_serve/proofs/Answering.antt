@@ -1,5 +1,6 @@
 -- What a serve answers, from what its parts tell.
-use Rattle.std.proofs.Common.{◌≡◌, ◌*◌, ◌&&◌, ◌∙◌, ◌++◌, ◌∷◌, [], ap, arith, Bool, Err, inl, inr, leb, length, List, Ok, refl, Some, subst, sym, true, ℕ}
+use Rattle.std.proofs.Common.{◌≡◌, ◌*◌, ◌&&◌, ◌∙◌, ◌++◌, ◌∷◌, [], ap, arith, Bool, Err, inl, inr, leb, length, List}
+use Rattle.std.proofs.Common.{Ok, refl, Some, subst, sym, true, ℕ}
 use Rattle.std.proofs.lemmas.Bool.{and_parts, leb-true}
 use Rattle.vm_map.specs.{declared.call.Call.Call}
 use Rattle.vm_block.specs.declared.stored.Stored.{Stored}
@@ -8,28 +9,30 @@ use Rattle.vm_device.specs.Whole.{RoseOrLast}
 use Rattle.vm_image.specs.Reading.{AreRead}
 use Rattle.vm_words.specs.declared.Command.TheVariants as commands
 use Rattle.vm_words.specs.declared.Serve.{Serve}
-use Rattle.vm_endings.specs.declared.ends.Ends.{Ends}
-use Rattle.vm_endings.specs.declared.ends.Ends.TheVariants.{Tree}
-use Rattle.vm_endings.specs.declared.stop.Quantity.{Quantity}
-use Rattle.vm_endings.specs.declared.stop.Stop.{Stop}
-use Rattle.vm_endings.specs.declared.stop.Stop.TheVariants.{Length, Line, Long, Page, Shape, TooFew, Unread}
-use Rattle.vm_endings.specs.declared.undone.Undone.{Undone}
-use Rattle.vm_endings.specs.declared.undone.Undone.TheVariants.{Memory, Stopped}
-use Rattle.vm_endings.specs.Commands.{limits_to_serve, order_of}
-use Rattle.vm_endings.specs.Deliveries.{Content}
-use Rattle.vm_endings.specs.Endings.{AnswersCommand, cut, HasUnreadCause, LeavesDevices, Performs, told}
-use Rattle.vm_endings.specs.Files.{HasFile}
-use Rattle.vm_endings.specs.Held.{AreFilePages}
-use Rattle.vm_endings.specs.{Images.root_level, Limits.holds_call}
-use Rattle.vm_endings.specs.Outside.{IsBackHome, KeepsFiles, nothing_left, nowhere, Outside, Remains}
-use Rattle.vm_endings.specs.{Scripts.IsGoodScript, Scripts.IsScriptOf, Serves.IsFlushedServe, Serves.IsServeOutcome, Serves.IsUnflushedServe, Serves.OfServed}
-use Rattle.vm_endings.specs.Tests.{AllPass, Fails, here, Passes, past, script, StopsAt, stored, stored_depth, Test}
-use Rattle.vm_endings.specs.Stops.{status_of}
-use Rattle.vm_serve.specs.Served.{TreeEnd}
+use Rattle.vm_reading.specs.from_vm_endings.declared_ends_Ends.{Ends}
+use Rattle.vm_reading.specs.from_vm_endings.declared_ends_Ends_TheVariants.{Tree}
+use Rattle.vm_reading.specs.from_vm_endings.declared_stop_Quantity.{Quantity}
+use Rattle.vm_reading.specs.from_vm_endings.declared_stop_Stop.{Stop}
+use Rattle.vm_reading.specs.from_vm_endings.declared_stop_Stop_TheVariants.{Length, Line, Long, Page, Shape, TooFew, Unread}
+use Rattle.vm_reading.specs.from_vm_endings.declared_undone_Undone.{Undone}
+use Rattle.vm_reading.specs.from_vm_endings.declared_undone_Undone_TheVariants.{Memory, Stopped}
+use Rattle.vm_reading.specs.from_vm_endings.Commands.{limits_to_serve, order_of}
+use Rattle.vm_reading.specs.from_vm_endings.Deliveries.{Content}
+use Rattle.vm_reading.specs.from_vm_endings.Endings.{AnswersCommand, cut, HasUnreadCause, LeavesDevices, Performs, told}
+use Rattle.vm_reading.specs.from_vm_endings.Files.{HasFile}
+use Rattle.vm_reading.specs.from_vm_endings.Held.{AreFilePages}
+use Rattle.vm_reading.specs.from_vm_endings.{Images.root_level, Limits.holds_call}
+use Rattle.vm_reading.specs.from_vm_endings.Outside.{IsBackHome, KeepsFiles, nothing_left, nowhere, Outside, Remains}
+use Rattle.vm_reading.specs.from_vm_endings.{Scripts.IsGoodScript, Scripts.IsScriptOf, Serves.IsFlushedServe}
+use Rattle.vm_reading.specs.from_vm_endings.{Serves.IsServeOutcome, Serves.IsUnflushedServe, Serves.OfServed}
+use Rattle.vm_reading.specs.from_vm_endings.Tests.{AllPass, Fails, here, Passes, past, script, StopsAt, stored, stored_depth, Test}
+use Rattle.vm_reading.specs.from_vm_endings.Stops.{status_of}
+use Rattle.vm_reading.specs.from_vm_serve.Served.{TreeEnd}
 use Rattle.vm_reading.specs.Readings.{ReadsCalls}
 use Rattle.vm_reading.proofs.Files.{has_file}
 use Rattle.vm_file_serve.specs.declared.serve.Ready.{Ready}
-use Rattle.vm_file_serve.specs.Serving.{ArePagesOf, AreServable, CountsFault, IsToServe, MayServe, StopsTaking, TakesPages, TellsServeLimits}
+use Rattle.vm_file_serve.specs.Serving.{ArePagesOf, AreServable, CountsFault, IsToServe, MayServe, StopsTaking}
+use Rattle.vm_file_serve.specs.Serving.{TakesPages, TellsServeLimits}
 use Rattle.vm_file_serve.specs.Serving.{WhyNoCalls, WhyNoPages, WhyNotReady}
 use Rattle.vm_file_serve.proofs.Words.{read_same}
 

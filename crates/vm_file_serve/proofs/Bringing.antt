@@ -1,14 +1,15 @@
 -- Blocks that were lent out and came back, all of them, and what bringing them home does.
-use Rattle.std.proofs.Common.{◌≡◌, ◌∙◌, ◌++◌, ap, arith, Bool, drop, length, List, map, None, Option, slice_index_or, Some, subst, sym, take, true, ℕ}
+use Rattle.std.proofs.Common.{◌≡◌, ◌∙◌, ◌++◌, ap, arith, Bool, drop, length, List, map, None, Option, slice_index_or}
+use Rattle.std.proofs.Common.{Some, subst, sym, take, true, ℕ}
 use Rattle.std.proofs.lemmas.List.{length-map}
 use Rattle.vm_block.specs.declared.stored.Stored.{Stored}
 use Rattle.vm_page.specs.Counts.{count_more}
 use Rattle.vm_device.specs.Devices.{DeviceState, is_faulty, OutPage, StoredFile}
 use Rattle.vm_device.specs.Whole.{AllComeHome, AreHome, BringsAll, outs_of, RoseOrLast, SyncsAll}
 use Rattle.vm_rule.specs.Prelude.{no_block}
-use Rattle.vm_drive.proofs.Crews.{whole-back}
-use Rattle.vm_endings.specs.Held.{pages_held}
-use Rattle.vm_endings.specs.Outside.{ChangesJust}
+use Rattle.vm_reading.proofs.from_vm_drive.Crews.{whole-back}
+use Rattle.vm_reading.specs.from_vm_endings.Held.{pages_held}
+use Rattle.vm_reading.specs.from_vm_endings.Outside.{ChangesJust}
 use Rattle.vm_file_serve.specs.Serving.{CountsFault, HoldTheSame, TakesPages}
 use Rattle.vm_file_serve.proofs.Homes.{just_changes, own_home}
 

@@ -5,7 +5,7 @@ use Rattle.vm_tree_model.specs.Fixed.{fixed}
 use Rattle.vm_image.specs.Reading.{held_words}
 use Rattle.vm_check.specs.Rows.{AreRows}
 use Rattle.vm_check.specs.declared.rows.Rows.{Rows}
-use Rattle.vm_endings.specs.{Images.root_level, Limits.holds_call}
+use Rattle.vm_reading.specs.from_vm_endings.{Images.root_level, Limits.holds_call}
 use Rattle.vm_file_serve.specs.Serving.{ArePagesOf, AreServable}
 
 module _ (tells : Bool) (pages : List (List ℕ)) (old : List Stored) (count : length pages ≡ length old)

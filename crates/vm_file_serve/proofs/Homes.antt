@@ -6,8 +6,8 @@ use Rattle.vm_device.specs.Devices.{file_of, page_in_file, size_of, StoredFile, 
 use Rattle.vm_device.specs.Whole.{HaveBlocksWords}
 use Rattle.vm_device.proofs.Written.{all_own}
 use Rattle.vm_image.specs.Reading.{held_words}
-use Rattle.vm_endings.specs.Held.{pages_held}
-use Rattle.vm_endings.specs.Outside.{ChangesJust}
+use Rattle.vm_reading.specs.from_vm_endings.Held.{pages_held}
+use Rattle.vm_reading.specs.from_vm_endings.Outside.{ChangesJust}
 
 -- what is not the blocks' own pages is as it was
 pub just_changes : (old new : List StoredFile) (name : List ℕ) (blocks : List Stored) → HaveBlocksWords old new name blocks

@@ -6,3 +6,5 @@ pub mod Bringing
 pub mod Saved
 pub mod Answering
 pub mod Served
+pub mod from_vm_endings
+pub mod from_vm_serve

@@ -11,18 +11,18 @@ use Rattle.vm_device.specs.Devices.{DeviceState, is_faulty, size_of, StoredFile,
 use Rattle.vm_device.specs.Whole.{AreSynced, HaveBlocksWords, IsAfterSync, RoseOrLast, SyncsAll}
 use Rattle.vm_image.specs.Reading.{AreRead, held_words}
 use Rattle.vm_rule.specs.Prelude.{no_block}
-use Rattle.vm_drive.specs.Drives.{items_of}
+use Rattle.vm_reading.specs.from_vm_drive.Drives.{items_of}
 use Rattle.vm_evict.specs.declared.flushing.Flushed.{Flushed}
-use Rattle.vm_pool.specs.declared.ended.Ended.{Ended}
-use Rattle.vm_tree_rule.specs.declared.fault.TreeFault.{TreeFault}
-use Rattle.vm_serve.specs.Served.{is_first, IsServedOn}
+use Rattle.vm_reading.specs.from_vm_pool.declared_ended_Ended.{Ended}
+use Rattle.vm_reading.specs.from_vm_tree_rule.declared_fault_TreeFault.{TreeFault}
+use Rattle.vm_reading.specs.from_vm_serve.Served.{is_first, IsServedOn}
 use Rattle.vm_words.specs.declared.Serve.{Serve}
-use Rattle.vm_endings.specs.declared.delivery.Delivery.{Delivery}
-use Rattle.vm_endings.specs.declared.ends.Ends.{Ends}
-use Rattle.vm_endings.specs.{Deliveries.Content, Deliveries.content_of, Made.last_map}
-use Rattle.vm_endings.specs.Held.{HoldsMap, IsServedTree}
-use Rattle.vm_endings.specs.Outside.{Outside, Remains}
-use Rattle.vm_endings.specs.Serves.{IsServeOutcome, unsaved_page}
+use Rattle.vm_reading.specs.from_vm_endings.declared_delivery_Delivery.{Delivery}
+use Rattle.vm_reading.specs.from_vm_endings.declared_ends_Ends.{Ends}
+use Rattle.vm_reading.specs.from_vm_endings.{Deliveries.Content, Deliveries.content_of, Made.last_map}
+use Rattle.vm_reading.specs.from_vm_endings.Held.{HoldsMap, IsServedTree}
+use Rattle.vm_reading.specs.from_vm_endings.Outside.{Outside, Remains}
+use Rattle.vm_reading.specs.from_vm_endings.Serves.{IsServeOutcome, unsaved_page}
 use Rattle.vm_file_serve.specs.declared.serve.Ready.{Ready}
 use Rattle.vm_file_serve.specs.Serving.{IsDoneServe, TakesPages, IsToldServe}
 use Rattle.vm_file_serve.proofs.Homes.{held_at, word_at}

@@ -2,13 +2,13 @@
 use Rattle.std.proofs.Common.{◌≡◌, All, arith, List, Ok, subst, sym, true, ℕ}
 use Rattle.vm_block.specs.declared.stored.Stored.{Stored}
 use Rattle.vm_device.specs.Devices.{DeviceState, StoredFile}
-use Rattle.vm_drive.specs.Drives.{items_of}
+use Rattle.vm_reading.specs.from_vm_drive.Drives.{items_of}
 use Rattle.vm_words.specs.declared.Command.TheVariants as commands
 use Rattle.vm_words.specs.declared.Serve.{Serve}
-use Rattle.vm_endings.specs.declared.delivery.Delivery.{Delivery}
-use Rattle.vm_endings.specs.declared.ends.Ends.{Ends}
-use Rattle.vm_endings.specs.{Commands.order_of, Deliveries.content_of, Endings.Performs, Tests.AllPass}
-use Rattle.vm_endings.specs.Outside.{ChangesJust, Outside, Remains}
+use Rattle.vm_reading.specs.from_vm_endings.declared_delivery_Delivery.{Delivery}
+use Rattle.vm_reading.specs.from_vm_endings.declared_ends_Ends.{Ends}
+use Rattle.vm_reading.specs.from_vm_endings.{Commands.order_of, Deliveries.content_of, Endings.Performs, Tests.AllPass}
+use Rattle.vm_reading.specs.from_vm_endings.Outside.{ChangesJust, Outside, Remains}
 use Rattle.vm_file_serve.specs.declared.serve.Ready.{Ready}
 use Rattle.vm_file_serve.specs.Serving.{IsDoneServe, IsToServe, Serves, TakesPages, TellsServeLimits}
 use Rattle.vm_file_serve.proofs.Answering.{serve-does}

@@ -7,10 +7,10 @@ use Rattle.vm_page.specs.Counts.{count_more, MAX_COUNT}
 use Rattle.vm_block.specs.declared.stored.Stored.{Stored}
 use Rattle.vm_device.specs.Devices.{count_out, DeviceState, OutPage, size_of, StoredFile, words_at}
 use Rattle.vm_device.specs.Whole.{AllAreOut, NoneIsOut, outs_of, RoseOrLast}
-use Rattle.vm_endings.specs.Held.{IsServedLength}
-use Rattle.vm_endings.specs.Outside.{outside_of, remains_of}
-use Rattle.vm_endings.specs.declared.stop.Stop.TheVariants.{Length, Unread}
-use Rattle.vm_endings.specs.declared.undone.Undone.TheVariants.{Memory, Stopped}
+use Rattle.vm_reading.specs.from_vm_endings.Held.{IsServedLength}
+use Rattle.vm_reading.specs.from_vm_endings.Outside.{outside_of, remains_of}
+use Rattle.vm_reading.specs.from_vm_endings.declared_stop_Stop_TheVariants.{Length, Unread}
+use Rattle.vm_reading.specs.from_vm_endings.declared_undone_Undone_TheVariants.{Memory, Stopped}
 use Rattle.vm_file_serve.specs.Serving.{TakesPages, StopsTaking}
 use Rattle.vm_file_serve.proofs.Words.{held_pages, IsWhole}
 

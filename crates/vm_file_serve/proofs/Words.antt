@@ -1,5 +1,6 @@
 -- The words that blocks hold, page by page and as one list, and the pages of a file.
-use Rattle.std.proofs.Common.{◌≡◌, ◌<◌, ◌/◌, ◌∙◌, All, ap, ap₂, arith, Bool, cond, length, List, [], ◌∷◌, None, Option, refl, Some, subst, suc}
+use Rattle.std.proofs.Common.{◌≡◌, ◌<◌, ◌/◌, ◌∙◌, All, ap, ap₂, arith, Bool, cond, length, List, [], ◌∷◌, None}
+use Rattle.std.proofs.Common.{Option, refl, Some, subst, suc}
 use Rattle.std.proofs.Common.{inl, inr, sym, true, false, ℕ}
 use Rattle.std.proofs.Common.{option_map, slice_get, slice_index_or}
 use Rattle.std.proofs.lemmas.Bool.{cases_lt}
@@ -8,7 +9,7 @@ use Rattle.std.specs.Str.{bytes_eq}
 use Rattle.vm_block.specs.declared.stored.Stored.{Stored}
 use Rattle.vm_device.specs.Devices.{file_of, page_in_file, size_of, StoredFile, words_at}
 use Rattle.vm_image.specs.Reading.{AreRead, held_words, IsFailedAt}
-use Rattle.vm_endings.specs.Held.{pages_held}
+use Rattle.vm_reading.specs.from_vm_endings.Held.{pages_held}
 use Rattle.vm_file_serve.specs.Serving.{HoldTheSame}
 
 pub some_one : {X : Type 0} (d x y : X) → ◌≡◌ {A = Option X} (Some x) (Some y) → x ≡ y

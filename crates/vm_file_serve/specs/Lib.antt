@@ -1,1 +1,4 @@
 pub mod Serving
+pub mod from_vm_endings
+pub mod from_vm_pool
+pub mod from_vm_serve

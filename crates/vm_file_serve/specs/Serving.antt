@@ -1,6 +1,7 @@
 -- The parts of a serve: its numbers once they were tested, the blocks that were taken out, the pages and calls that were read, the calls made, and what
 -- each leaves.
-use Rattle.std.specs.Prelude.{◌*◌, ◌++◌, ◌<◌, ◌≡◌, ◌≤◌, ◌⊎◌, Bool, Err, false, length, List, None, Ok, Option, Result, slice_index_or, Some, true, ℕ}
+use Rattle.std.specs.Prelude.{◌*◌, ◌++◌, ◌<◌, ◌≡◌, ◌≤◌, ◌⊎◌, Bool, Err, false, length, List, None, Ok, Option, Result}
+use Rattle.std.specs.Prelude.{slice_index_or, Some, true, ℕ}
 use Rattle.vm_map.specs.{declared.call.Call.Call, declared.call.Reply.Reply, declared.call.Said.Said}
 use Rattle.vm_block.specs.declared.stored.Stored.{Stored}
 use Rattle.vm_device.specs.Devices.{DeviceState, OutPage, size_of}
@@ -8,27 +9,29 @@ use Rattle.vm_device.specs.Whole.{AllComeHome, AreHome, outs_of}
 use Rattle.vm_image.specs.Reading.{AreRead, held_words}
 use Rattle.vm_io.specs.Causes.{Rose}
 use Rattle.vm_page.specs.Counts.{count_more}
-use Rattle.vm_pool.specs.declared.ended.Ended.{Ended}
-use Rattle.vm_tree_rule.specs.declared.fault.TreeFault.{TreeFault}
-use Rattle.vm_drive.specs.Drives.{AreAskable, AreFew, items_of}
-use Rattle.vm_serve.specs.Served.{TreeEnd}
+use Rattle.vm_reading.specs.from_vm_pool.declared_ended_Ended.{Ended}
+use Rattle.vm_reading.specs.from_vm_tree_rule.declared_fault_TreeFault.{TreeFault}
+use Rattle.vm_reading.specs.from_vm_drive.Drives.{AreAskable, AreFew, items_of}
+use Rattle.vm_reading.specs.from_vm_serve.Served.{TreeEnd}
 use Rattle.vm_script.specs.Texts.{unflushed_line, worker_replies}
 use Rattle.vm_words.specs.declared.Serve.{Serve}
-use Rattle.vm_endings.specs.declared.delivery.Delivery.{Delivery}
-use Rattle.vm_endings.specs.declared.ends.Ends.{Ends}
-use Rattle.vm_endings.specs.declared.ends.Ends.TheVariants.{Tree}
-use Rattle.vm_endings.specs.declared.stop.Quantity.{Quantity}
-use Rattle.vm_endings.specs.declared.stop.Quantity.TheVariants.{Frames}
-use Rattle.vm_endings.specs.declared.stop.Stop.{Stop}
-use Rattle.vm_endings.specs.declared.stop.Stop.TheVariants.{Page, Shape, Unread}
-use Rattle.vm_endings.specs.declared.undone.Undone.{Undone}
-use Rattle.vm_endings.specs.declared.undone.Undone.TheVariants.{Memory, Stopped}
-use Rattle.vm_endings.specs.{Commands.limits_to_serve, Deliveries.Content, Deliveries.content_of, Deliveries.line, Files.HasFile}
-use Rattle.vm_endings.specs.Held.{AreNoTree, IsServedTree, pages_held}
-use Rattle.vm_endings.specs.{Images.root_level, Limits.holds_call}
-use Rattle.vm_endings.specs.Outside.{ChangesJust, IsBackHome, KeepsFiles, nothing_left, nowhere, Outside, Remains}
-use Rattle.vm_endings.specs.{Replies.all_lines, Replies.counters_of, Scripts.IsScriptOf, Serves.IsMadeServe, Serves.unsaved_page}
-use Rattle.vm_endings.specs.Tests.{AllPass, Fails, script, stored, StopsAt}
+use Rattle.vm_reading.specs.from_vm_endings.declared_delivery_Delivery.{Delivery}
+use Rattle.vm_reading.specs.from_vm_endings.declared_ends_Ends.{Ends}
+use Rattle.vm_reading.specs.from_vm_endings.declared_ends_Ends_TheVariants.{Tree}
+use Rattle.vm_reading.specs.from_vm_endings.declared_stop_Quantity.{Quantity}
+use Rattle.vm_reading.specs.from_vm_endings.declared_stop_Quantity_TheVariants.{Frames}
+use Rattle.vm_reading.specs.from_vm_endings.declared_stop_Stop.{Stop}
+use Rattle.vm_reading.specs.from_vm_endings.declared_stop_Stop_TheVariants.{Page, Shape, Unread}
+use Rattle.vm_reading.specs.from_vm_endings.declared_undone_Undone.{Undone}
+use Rattle.vm_reading.specs.from_vm_endings.declared_undone_Undone_TheVariants.{Memory, Stopped}
+use Rattle.vm_reading.specs.from_vm_endings.{Commands.limits_to_serve, Deliveries.Content, Deliveries.content_of}
+use Rattle.vm_reading.specs.from_vm_endings.{Deliveries.line, Files.HasFile}
+use Rattle.vm_reading.specs.from_vm_endings.Held.{AreNoTree, IsServedTree, pages_held}
+use Rattle.vm_reading.specs.from_vm_endings.{Images.root_level, Limits.holds_call}
+use Rattle.vm_reading.specs.from_vm_endings.Outside.{ChangesJust, IsBackHome, KeepsFiles, nothing_left, nowhere, Outside, Remains}
+use Rattle.vm_reading.specs.from_vm_endings.{Replies.all_lines, Replies.counters_of, Scripts.IsScriptOf}
+use Rattle.vm_reading.specs.from_vm_endings.{Serves.IsMadeServe, Serves.unsaved_page}
+use Rattle.vm_reading.specs.from_vm_endings.Tests.{AllPass, Fails, script, stored, StopsAt}
 use Rattle.vm_file_serve.specs.declared.serve.Ready.{Ready}
 
 -- what the test of a serve's numbers answers: the number of workers, or the first number that is outside its limits

@@ -4,3 +4,6 @@
 mod pages;
 pub mod serve;
 mod work;
+
+// Libraries below that the crates above name through this one.
+pub use vm_reading::{vm_drive, vm_endings};

@@ -2,19 +2,19 @@
 
 ghost use Rattle.std.specs.Prelude.{◌≡◌, ◌≤◌, false, length, map, true, IfErr, IfOk, List, Option, ℕ};
 ghost use Rattle.vm_io.specs.Shown.{Shown};
-ghost use Rattle.vm_endings.specs.Held.{IsServedLength};
-ghost use Rattle.vm_endings.specs.Outside.{outside_of, remains_of};
+ghost use Rattle.vm_reading.specs.from_vm_endings.Held.{IsServedLength};
+ghost use Rattle.vm_reading.specs.from_vm_endings.Outside.{outside_of, remains_of};
 ghost use Rattle.vm_file_serve.specs.Serving.{FindsPages, TakesPages, StopsTaking};
 
 use std::alloc::Global;
 use vm_block::PageBlock;
 use vm_check::{CheckFault, check};
 use vm_device::{Devices, Failed, TakeFault, take_all};
-use vm_endings::limits::holds_call;
-use vm_endings::stop::{Quantity, Stop};
-use vm_endings::undone::Undone;
 use vm_image::{BlocksFault, Image, read_blocks};
 use vm_page::WORDS;
+use vm_reading::vm_endings::limits::holds_call;
+use vm_reading::vm_endings::stop::{Quantity, Stop};
+use vm_reading::vm_endings::undone::Undone;
 
 // Whether as many bytes are 2 to 256 pages of 64 words.
 fn is_served_length(size: u64) -> bool

@@ -3,10 +3,10 @@
 
 ghost use Rattle.std.specs.Prelude.{◌≡◌, ◌≤◌, length, map, Ok};
 ghost use Rattle.vm_words.specs.declared.Command.TheVariants as commands;
-ghost use Rattle.vm_endings.specs.Deliveries.{content_of};
-ghost use Rattle.vm_endings.specs.Endings.{AnswersCommand, ChangesDevices, HasUnreadCause, LeavesDevices, UnreadCause};
-ghost use Rattle.vm_endings.specs.Outside.{Outside, outside_of, Remains, remains_of, with_shown, with_unread};
-ghost use Rattle.vm_endings.specs.declared.ends.Ends.{Ends};
+ghost use Rattle.vm_reading.specs.from_vm_endings.Deliveries.{content_of};
+ghost use Rattle.vm_reading.specs.from_vm_endings.Endings.{AnswersCommand, ChangesDevices, HasUnreadCause, LeavesDevices, UnreadCause};
+ghost use Rattle.vm_reading.specs.from_vm_endings.Outside.{Outside, outside_of, Remains, remains_of, with_shown, with_unread};
+ghost use Rattle.vm_reading.specs.from_vm_endings.declared_ends_Ends.{Ends};
 ghost use Rattle.vm_file_serve.specs.Serving.{IsToServe, TakesPages, MayServe, ReadyCause, Serves, TellsServeLimits};
 
 use crate::pages::{pages_in, taken};
@@ -17,18 +17,18 @@ use std::thread::Threads;
 use vm_block::PageBlock;
 use vm_core::Memory;
 use vm_device::{Devices, bring_all, sync_all};
-use vm_drive::gate::Gate;
-use vm_endings::delivery::Delivery;
-use vm_endings::ends::Ends;
-use vm_endings::limits::{are_frames, are_workers};
-use vm_endings::stop::{Quantity, Stop};
-use vm_endings::undone::Undone;
 use vm_image::Image;
 use vm_io::host::Host;
 use vm_map::call::Call;
 use vm_page::WORDS;
 use vm_reading::reading::read_calls;
-use vm_serve::ServedOn;
+use vm_reading::vm_drive::gate::Gate;
+use vm_reading::vm_endings::delivery::Delivery;
+use vm_reading::vm_endings::ends::Ends;
+use vm_reading::vm_endings::limits::{are_frames, are_workers};
+use vm_reading::vm_endings::stop::{Quantity, Stop};
+use vm_reading::vm_endings::undone::Undone;
+use vm_reading::vm_serve::ServedOn;
 use vm_words::Serve;
 
 /// The pages of the file, and the calls of each worker.

@@ -2,11 +2,11 @@
 
 ghost use Rattle.std.specs.List.{AllByRecursion};
 ghost use Rattle.std.specs.Prelude.{◌*◌, ◌≡◌, ◌≤◌, IfOk, length, List, map, ℕ};
-ghost use Rattle.vm_drive.specs.Prelude.{all_replies, HasContents};
-ghost use Rattle.vm_drive.specs.Drives.{AreAskable, AreFew, items_of};
-ghost use Rattle.vm_pool.specs.Closing.{view_at_end};
-ghost use Rattle.vm_endings.specs.{Deliveries.content_of, Replies.AreMatched};
-ghost use Rattle.vm_serve.specs.Served.{IsServedOn};
+ghost use Rattle.vm_reading.specs.from_vm_drive.Prelude.{all_replies, HasContents};
+ghost use Rattle.vm_reading.specs.from_vm_drive.Drives.{AreAskable, AreFew, items_of};
+ghost use Rattle.vm_reading.specs.from_vm_pool.Closing.{view_at_end};
+ghost use Rattle.vm_reading.specs.from_vm_endings.{Deliveries.content_of, Replies.AreMatched};
+ghost use Rattle.vm_reading.specs.from_vm_serve.Served.{IsServedOn};
 ghost use Rattle.vm_file_serve.specs.Serving.{AreServable, IsToldServe};
 
 use std::alloc::{AllocError, Global};
@@ -14,17 +14,17 @@ use std::sync::Wait;
 use std::thread::Threads;
 use vm_block::PageBlock;
 use vm_core::Memory;
-use vm_drive::compact::Replies;
-use vm_drive::gate::Gate;
-use vm_drive::rooms_for;
-use vm_endings::delivery::Delivery;
-use vm_endings::texts::{cut_text, whole_text};
 use vm_image::Image;
-use vm_kind::{Sizes, Tree};
 use vm_map::call::Call;
 use vm_page::WORDS;
-use vm_pool::{Ended, Shape};
-use vm_serve::{ServedOn, serve_on};
+use vm_reading::vm_drive::compact::Replies;
+use vm_reading::vm_drive::gate::Gate;
+use vm_reading::vm_drive::rooms_for;
+use vm_reading::vm_endings::delivery::Delivery;
+use vm_reading::vm_endings::texts::{cut_text, whole_text};
+use vm_reading::vm_kind::{Sizes, Tree};
+use vm_reading::vm_pool::{Ended, Shape};
+use vm_reading::vm_serve::{ServedOn, serve_on};
 
 /// Makes the calls on the tree of these pages, which the blocks hold, in a pool of so many frames, each page at version 0 at the start. The image is let
 /// go before. Where there is no memory the blocks are dropped.

@@ -10,27 +10,27 @@ use Rattle.vm_words.specs.declared.Check.{Check}
 use Rattle.vm_words.specs.declared.Migrate.{Migrate}
 use Rattle.vm_words.specs.declared.Replay.{Replay}
 use Rattle.vm_replay.specs.Told.{PlayedFile}
-use Rattle.vm_endings.specs.declared.ends.Ends.{Ends}
-use Rattle.vm_endings.specs.declared.delivery.Delivery.{Delivery}
+use Rattle.vm_reading.specs.from_vm_endings.declared_ends_Ends.{Ends}
+use Rattle.vm_reading.specs.from_vm_endings.declared_delivery_Delivery.{Delivery}
 use Rattle.vm_reading.specs.declared.reading.StoredTree.{StoredTree}
-use Rattle.vm_endings.specs.declared.stop.Quantity.TheVariants.{Pages}
-use Rattle.vm_endings.specs.declared.stop.Stop.{Stop}
-use Rattle.vm_endings.specs.declared.stop.Stop.TheVariants.{Shape, TooFew}
-use Rattle.vm_endings.specs.declared.undone.Undone.{Undone}
-use Rattle.vm_endings.specs.declared.undone.Undone.TheVariants.{Stopped, Memory}
-use Rattle.vm_endings.specs.Checks.{IsChecked}
-use Rattle.vm_endings.specs.Deliveries.{Content, content_of, line}
-use Rattle.vm_endings.specs.Endings.{Performs, AnswersCommand, HasReadCause, cut, told}
-use Rattle.vm_endings.specs.Files.{HasFile}
-use Rattle.vm_endings.specs.Images.{IsTreeFile, file_height, file_map}
-use Rattle.vm_endings.specs.Limits.{are_pages}
-use Rattle.vm_endings.specs.Migrates.{IsMigrated}
-use Rattle.vm_endings.specs.Outside.{Outside, Remains}
+use Rattle.vm_reading.specs.from_vm_endings.declared_stop_Quantity_TheVariants.{Pages}
+use Rattle.vm_reading.specs.from_vm_endings.declared_stop_Stop.{Stop}
+use Rattle.vm_reading.specs.from_vm_endings.declared_stop_Stop_TheVariants.{Shape, TooFew}
+use Rattle.vm_reading.specs.from_vm_endings.declared_undone_Undone.{Undone}
+use Rattle.vm_reading.specs.from_vm_endings.declared_undone_Undone_TheVariants.{Stopped, Memory}
+use Rattle.vm_reading.specs.from_vm_endings.Checks.{IsChecked}
+use Rattle.vm_reading.specs.from_vm_endings.Deliveries.{Content, content_of, line}
+use Rattle.vm_reading.specs.from_vm_endings.Endings.{Performs, AnswersCommand, HasReadCause, cut, told}
+use Rattle.vm_reading.specs.from_vm_endings.Files.{HasFile}
+use Rattle.vm_reading.specs.from_vm_endings.Images.{IsTreeFile, file_height, file_map}
+use Rattle.vm_reading.specs.from_vm_endings.Limits.{are_pages}
+use Rattle.vm_reading.specs.from_vm_endings.Migrates.{IsMigrated}
+use Rattle.vm_reading.specs.from_vm_endings.Outside.{Outside, Remains}
 use Rattle.vm_reading.specs.Readings.{IsStoredTree, ReadsTree, rows_in}
 use Rattle.vm_files.specs.Building.{TellsMigrated}
 use Rattle.vm_reading.proofs.Found.{HasRows, rows-file, rows-pass, tree-rows}
-use Rattle.vm_endings.specs.Scripts.{AreGoodEvents}
-use Rattle.vm_endings.specs.Tests.{Passes, here, image, past}
+use Rattle.vm_reading.specs.from_vm_endings.Scripts.{AreGoodEvents}
+use Rattle.vm_reading.specs.from_vm_endings.Tests.{Passes, here, image, past}
 use Rattle.vm_reading.proofs.Files.{has_file}
 
 of-tree : (shown : Option Shown) (name : List ℕ) (tree : StoredTree) → HasFile shown name (IsStoredTree tree)

@@ -2,14 +2,14 @@
 use Rattle.std.proofs.Common.{◌≢◌, ℕ, Bool, arith}
 use Rattle.vm_words.specs.declared.Command.TheVariants as commands
 use Rattle.vm_words.specs.declared.Make.{Make}
-use Rattle.vm_endings.specs.declared.stop.Quantity.{Quantity}
-use Rattle.vm_endings.specs.declared.stop.Stop.{Stop}
-use Rattle.vm_endings.specs.declared.stop.Stop.TheVariants.{Shape, TooFew}
-use Rattle.vm_endings.specs.Commands.{order_of}
-use Rattle.vm_endings.specs.Limits.{words_or}
-use Rattle.vm_endings.specs.Outside.{nothing_left, nowhere, Outside, Remains}
-use Rattle.vm_endings.specs.Stops.{status_of}
-use Rattle.vm_endings.specs.Tests.{Fails, StopsAt, here, past, room, within}
+use Rattle.vm_reading.specs.from_vm_endings.declared_stop_Quantity.{Quantity}
+use Rattle.vm_reading.specs.from_vm_endings.declared_stop_Stop.{Stop}
+use Rattle.vm_reading.specs.from_vm_endings.declared_stop_Stop_TheVariants.{Shape, TooFew}
+use Rattle.vm_reading.specs.from_vm_endings.Commands.{order_of}
+use Rattle.vm_reading.specs.from_vm_endings.Limits.{words_or}
+use Rattle.vm_reading.specs.from_vm_endings.Outside.{nothing_left, nowhere, Outside, Remains}
+use Rattle.vm_reading.specs.from_vm_endings.Stops.{status_of}
+use Rattle.vm_reading.specs.from_vm_endings.Tests.{Fails, StopsAt, here, past, room, within}
 
 -- no test of a make is of a file, so none fails because a file was not read
 number_status : (outside : Outside) (left : Remains) (quantity : Quantity) (holds : Bool) (stop : Stop)

@@ -12,11 +12,11 @@ use Rattle.vm_build.specs.Build.{IsBuilt}
 use Rattle.vm_check.specs.declared.rows.Rows.{Rows}
 use Rattle.vm_script.specs.Texts.{migrated_line}
 use Rattle.vm_words.specs.declared.Migrate.{Migrate}
-use Rattle.vm_endings.specs.{Deliveries.Content, Files.HasFile, Images.IsFileOf, Limits.are_pages, Migrates.IsMigrated}
+use Rattle.vm_reading.specs.from_vm_endings.{Deliveries.Content, Files.HasFile, Images.IsFileOf, Limits.are_pages, Migrates.IsMigrated}
 use Rattle.vm_reading.specs.declared.reading.StoredTree.{StoredTree}
 use Rattle.vm_reading.specs.Readings.{IsStoredTree, rows_in}
 use Rattle.vm_files.proofs.FilePairs.{pairs_few}
-use Rattle.vm_endings.proofs.FileWords.{file_sized, length-pages_in}
+use Rattle.vm_reading.proofs.from_vm_endings.FileWords.{file_sized, length-pages_in}
 use Rattle.vm_reading.proofs.Found.{HasRows, tree-rows}
 
 -- there are bytes of which it holds

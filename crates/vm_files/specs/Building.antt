@@ -2,21 +2,21 @@
 use Rattle.std.specs.Prelude.{ℕ, ◌≡◌, ◌<◌, ◌≤◌, length, Result, Ok, Err}
 use Rattle.vm_map.specs.Map.{Pairs}
 use Rattle.vm_build.specs.Build.{needed}
-use Rattle.vm_endings.specs.declared.delivery.Delivery.{Delivery}
-use Rattle.vm_endings.specs.declared.stop.Stop.{Stop}
-use Rattle.vm_endings.specs.declared.stop.Stop.TheVariants.{TooFew}
-use Rattle.vm_endings.specs.declared.undone.Undone.{Undone}
-use Rattle.vm_endings.specs.declared.undone.Undone.TheVariants.{Stopped, Memory}
-use Rattle.vm_endings.specs.Deliveries.{content_of}
-use Rattle.vm_endings.specs.Limits.{words_or}
-use Rattle.vm_endings.specs.Migrates.{IsMigrated}
-use Rattle.vm_endings.specs.Outside.{nowhere, Outside, Remains}
+use Rattle.vm_reading.specs.from_vm_endings.declared_delivery_Delivery.{Delivery}
+use Rattle.vm_reading.specs.from_vm_endings.declared_stop_Stop.{Stop}
+use Rattle.vm_reading.specs.from_vm_endings.declared_stop_Stop_TheVariants.{TooFew}
+use Rattle.vm_reading.specs.from_vm_endings.declared_undone_Undone.{Undone}
+use Rattle.vm_reading.specs.from_vm_endings.declared_undone_Undone_TheVariants.{Stopped, Memory}
+use Rattle.vm_reading.specs.from_vm_endings.Deliveries.{content_of}
+use Rattle.vm_reading.specs.from_vm_endings.Limits.{words_or}
+use Rattle.vm_reading.specs.from_vm_endings.Migrates.{IsMigrated}
+use Rattle.vm_reading.specs.from_vm_endings.Outside.{nowhere, Outside, Remains}
 use Rattle.vm_words.specs.declared.Make.{Make}
 use Rattle.vm_words.specs.declared.Migrate.{Migrate}
 use Rattle.vm_words.specs.declared.Command.TheVariants as commands
 use Rattle.vm_files.specs.declared.make.MakeSizes.{MakeSizes}
-use Rattle.vm_endings.specs.Commands.{order_of}
-use Rattle.vm_endings.specs.Tests.{AllPass, StopsAt}
+use Rattle.vm_reading.specs.from_vm_endings.Commands.{order_of}
+use Rattle.vm_reading.specs.from_vm_endings.Tests.{AllPass, StopsAt}
 
 -- what the tests of a make answer: its numbers, or the first test that fails. None of them is of a file
 abbrev pub TellsSizes : Make → Result MakeSizes Stop → Type 0

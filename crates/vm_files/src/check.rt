@@ -3,19 +3,19 @@
 ghost use Rattle.std.specs.Prelude.{◌≡◌, ◌≤◌, IfOk};
 ghost use Rattle.vm_script.specs.Texts.{check_text};
 ghost use Rattle.vm_words.specs.declared.Command.TheVariants as commands;
-ghost use Rattle.vm_endings.specs.Deliveries.{content_of};
-ghost use Rattle.vm_endings.specs.Endings.{AnswersCommand, HasReadCause};
-ghost use Rattle.vm_endings.specs.Outside.{Outside, Remains, with_shown, with_unread};
-ghost use Rattle.vm_endings.specs.declared.ends.Ends.{Ends};
+ghost use Rattle.vm_reading.specs.from_vm_endings.Deliveries.{content_of};
+ghost use Rattle.vm_reading.specs.from_vm_endings.Endings.{AnswersCommand, HasReadCause};
+ghost use Rattle.vm_reading.specs.from_vm_endings.Outside.{Outside, Remains, with_shown, with_unread};
+ghost use Rattle.vm_reading.specs.from_vm_endings.declared_ends_Ends.{Ends};
 
 use std::alloc::{AllocError, Global};
 use vm_check::Rows;
-use vm_endings::delivery::Delivery;
-use vm_endings::replies::add_rows;
-use vm_endings::stop::Stop;
-use vm_endings::undone::Undone;
 use vm_io::host::Host;
 use vm_reading::reading::read_tree;
+use vm_reading::vm_endings::delivery::Delivery;
+use vm_reading::vm_endings::replies::add_rows;
+use vm_reading::vm_endings::stop::Stop;
+use vm_reading::vm_endings::undone::Undone;
 use vm_script::text::tree_text;
 use vm_words::Check;
 

@@ -2,17 +2,17 @@
 
 ghost use Rattle.std.specs.Prelude.{◌≡◌, ◌≤◌};
 ghost use Rattle.vm_words.specs.declared.Command.TheVariants as commands;
-ghost use Rattle.vm_endings.specs.Deliveries.{content_of};
-ghost use Rattle.vm_endings.specs.Endings.{AnswersCommand, HasReadCause};
-ghost use Rattle.vm_endings.specs.Outside.{Outside, Remains, with_shown, with_unread};
-ghost use Rattle.vm_endings.specs.declared.ends.Ends.{Ends};
+ghost use Rattle.vm_reading.specs.from_vm_endings.Deliveries.{content_of};
+ghost use Rattle.vm_reading.specs.from_vm_endings.Endings.{AnswersCommand, HasReadCause};
+ghost use Rattle.vm_reading.specs.from_vm_endings.Outside.{Outside, Remains, with_shown, with_unread};
+ghost use Rattle.vm_reading.specs.from_vm_endings.declared_ends_Ends.{Ends};
 
 use std::alloc::Global;
-use vm_endings::delivery::Delivery;
-use vm_endings::stop::{Lines, Stop};
-use vm_endings::undone::Undone;
 use vm_io::host::Host;
 use vm_io::loops::{ReadFault, read_whole};
+use vm_reading::vm_endings::delivery::Delivery;
+use vm_reading::vm_endings::stop::{Lines, Stop};
+use vm_reading::vm_endings::undone::Undone;
 use vm_replay::{ReplayStop, replay_file};
 use vm_script::script::MOST_BYTES;
 use vm_words::Replay;

@@ -15,3 +15,4 @@ pub mod Reused
 pub mod Given
 pub mod Downgrades
 pub mod Pairs
+pub mod from_vm_step

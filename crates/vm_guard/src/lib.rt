@@ -24,3 +24,6 @@ pub use opt::OptGuard;
 pub use pair::write_two;
 pub use shared::SharedGuard;
 pub use single::read_word;
+
+// Libraries below that the crates above name through this one.
+pub use vm_rule;

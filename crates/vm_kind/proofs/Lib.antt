@@ -1,1 +1,2 @@
 mod WordJoins
+pub mod from_vm_guard

@@ -19,3 +19,7 @@ pub use ranges::Ranges;
 pub use tree::{Tree, TreeOf};
 pub use windows::Windows;
 pub use word_keys::{OfSize, Sizes, WordKeys, Words64, Words512};
+
+// Libraries below that the crates above name through this one.
+pub use vm_guard;
+pub use vm_inner;

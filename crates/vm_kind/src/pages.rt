@@ -3,8 +3,8 @@
 use crate::kind::Kind;
 use vm_block::Block;
 use vm_guard::OptGuard;
+use vm_guard::vm_rule::words::{Pass, Words};
 use vm_owner::Owner;
-use vm_rule::words::{Pass, Words};
 
 /// A kind of node with a buffer of a page's words, and the calls on it.
 pub trait Pages: Kind {
@@ -12,7 +12,7 @@ pub trait Pages: Kind {
 
     ghost use Rattle.std.specs.Prelude.{◌≡◌, ◌<◌, length, List, replicate, slice_index, ℕ};
     ghost use Rattle.vm_tree_model.specs.{Node.Covers, Page.node_of};
-    ghost use Rattle.vm_step.specs.Prelude.{GoesOn, IsReadyOn, view};
+    ghost use Rattle.vm_guard.specs.from_vm_step.Prelude.{GoesOn, IsReadyOn, view};
     ghost use Rattle.vm_guard.specs.{Guards.IsReading, Guards.Loads, Guards.placed, PageWords.LoadsWords};
     ghost use Rattle.vm_node.specs.Loads.{IsAnswer};
 

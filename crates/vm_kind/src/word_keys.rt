@@ -16,6 +16,7 @@ use crate::windows::Windows;
 use std::marker::PhantomData;
 use vm_block::Block;
 use vm_guard::OptGuard;
+use vm_guard::vm_rule::words::{Pass, Words};
 use vm_inner::{ChildPair, Fenced, add_edit, beside, child_at, new_root, remove_edit};
 use vm_map::call::{Call, Reply, Said, Swap};
 use vm_map::span::Span;
@@ -27,7 +28,6 @@ use vm_node::{
 };
 use vm_owner::Owner;
 use vm_page::PageBuf;
-use vm_rule::words::{Pass, Words};
 
 /// That a page may have `N` words.
 pub trait OfSize<const N: usize> {

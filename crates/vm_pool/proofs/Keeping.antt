@@ -1,6 +1,6 @@
 -- What a sweep and bringing a page leave of the pass, by what they answer.
 use Rattle.vm_exmap.specs.declared.interface.Alloc.TheVariants as allocs
-use Rattle.vm_step.proofs.Asides.{numbers-then}
+use Rattle.vm_clock.proofs.from_vm_step.Asides.{numbers-then}
 use Rattle.vm_pool.specs.Brings.{Fetches as fetched, Gets as gets, GetsNone as none}
 use Rattle.vm_pool.proofs.Prelude.{[], Alloc, alone-then, append-none, aside-self, Bring, Did, Err, Fetches}
 use Rattle.vm_pool.proofs.Prelude.{holds-then, inl, inr, IsAlloc, IsAlone, IsAsideOf, IsFramed, IsFreed, IsLocking}

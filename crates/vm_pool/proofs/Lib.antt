@@ -7,3 +7,7 @@ pub mod Bringing
 pub mod Keeping
 pub mod Knowing
 pub mod FirstPass
+pub mod from_vm_evict
+pub mod from_vm_exmap
+pub mod from_vm_guard
+pub mod from_vm_rule

@@ -28,22 +28,22 @@ pub use Rattle.vm_rule.proofs.{Parts.listed-same, StartedWords.started-bundle, S
 pub use Rattle.vm_rule.proofs.{Views.at-bound, Views.at-there}
 pub use Rattle.vm_rule.proofs.ListFacts.{at-any, at-listed, at-map, length-listed, length-mapped, listed-long}
 pub use Rattle.vm_rule.proofs.WordFacts.{word-state, word-version}
-pub use Rattle.vm_rule_laws.specs.{Known.HasStepped, Known.kept_by, Noted.NotesStand}
-pub use Rattle.vm_rule_laws.specs.Standing.{block_in, mapping_in, PageStands, state_in, version_in}
-pub use Rattle.vm_rule_laws.proofs.{Begun.begun-ruled, Histories.all-seen, Knowing.table-known, Knowing.what-is-kept}
-pub use Rattle.vm_rule_laws.proofs.{Noted.notes-stand, Standing.stands-known}
-pub use Rattle.vm_rule_laws.proofs.Alone.{others-have-nothing, without-locks}
-pub use Rattle.vm_step.specs.{declared.choice.Looks.Looks, declared.saw.Saw.Saw, Together.TakesIn}
-pub use Rattle.vm_step.specs.Prelude.{AreCandidates, AreHeld, candidate_pages, Did, IsAlone, IsAside, IsAsideOf}
-pub use Rattle.vm_step.specs.Prelude.{IsCandidate, IsOf, IsOfPage, IsReady, IsSamePass, known_word_at, KnowsAll}
-pub use Rattle.vm_step.specs.Prelude.{KnowsAt, KnowsElse, KnowsSame, Meets, Note, Origin, Out, PassesSplit, Snapshot}
-pub use Rattle.vm_step.specs.Prelude.{TableShape, View, view}
-pub use Rattle.vm_step.proofs.{Alone.still-alone, MetPasses.meets-then, MetPasses.met-known, MetPasses.met-still}
-pub use Rattle.vm_step.proofs.{steps.CatchUp.found-below, steps.CatchUp.version-below, steps.Leaving.aside-self}
-pub use Rattle.vm_step.proofs.Tables.{else-same, else-self, else-then, else-within}
-pub use Rattle.vm_step.proofs.Together.{all-snoc, caught-heard, caught-mine, cut-length, entries-heard, hears-on}
-pub use Rattle.vm_step.proofs.Together.{new-number, ready-as, split-none, split-step, starts-on}
-pub use Rattle.vm_step.proofs.Asides.{alone-then, holds-then, knows-then, starts-then, still-locking, whole-then}
+pub use Rattle.vm_clock.specs.from_vm_rule_laws.{Known.HasStepped, Known.kept_by, Noted.NotesStand}
+pub use Rattle.vm_clock.specs.from_vm_rule_laws.Standing.{block_in, mapping_in, PageStands, state_in, version_in}
+pub use Rattle.vm_clock.proofs.from_vm_rule_laws.{Begun.begun-ruled, Histories.all-seen, Knowing.table-known, Knowing.what-is-kept}
+pub use Rattle.vm_clock.proofs.from_vm_rule_laws.{Noted.notes-stand, Standing.stands-known}
+pub use Rattle.vm_clock.proofs.from_vm_rule_laws.Alone.{others-have-nothing, without-locks}
+pub use Rattle.vm_clock.specs.from_vm_step.{declared_choice_Looks.Looks, declared_saw_Saw.Saw, Together.TakesIn}
+pub use Rattle.vm_clock.specs.from_vm_step.Prelude.{AreCandidates, AreHeld, candidate_pages, Did, IsAlone, IsAside, IsAsideOf}
+pub use Rattle.vm_clock.specs.from_vm_step.Prelude.{IsCandidate, IsOf, IsOfPage, IsReady, IsSamePass, known_word_at, KnowsAll}
+pub use Rattle.vm_clock.specs.from_vm_step.Prelude.{KnowsAt, KnowsElse, KnowsSame, Meets, Note, Origin, Out, PassesSplit, Snapshot}
+pub use Rattle.vm_clock.specs.from_vm_step.Prelude.{TableShape, View, view}
+pub use Rattle.vm_clock.proofs.from_vm_step.{Alone.still-alone, MetPasses.meets-then, MetPasses.met-known, MetPasses.met-still}
+pub use Rattle.vm_clock.proofs.from_vm_step.{steps_CatchUp.found-below, steps_CatchUp.version-below, steps_Leaving.aside-self}
+pub use Rattle.vm_clock.proofs.from_vm_step.Tables.{else-same, else-self, else-then, else-within}
+pub use Rattle.vm_clock.proofs.from_vm_step.Together.{all-snoc, caught-heard, caught-mine, cut-length, entries-heard, hears-on}
+pub use Rattle.vm_clock.proofs.from_vm_step.Together.{new-number, ready-as, split-none, split-step, starts-on}
+pub use Rattle.vm_clock.proofs.from_vm_step.Asides.{alone-then, holds-then, knows-then, starts-then, still-locking, whole-then}
 pub use Rattle.vm_exmap.specs.{declared.interface.Alloc.Alloc, Returns.IsFreed, Returns.KnowsGiven, Walks.IsAlloc}
 pub use Rattle.vm_exmap.specs.{Walks.IsDry, Walks.TakesBits}
 pub use Rattle.vm_exmap.specs.Frames.{HasFree, IsBundleOf, MovesFrames}

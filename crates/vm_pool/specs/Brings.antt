@@ -4,8 +4,8 @@
 use Rattle.std.specs.Prelude.{[], ◌++◌, ◌+◌, ◌-◌, ◌^◌, ◌∷◌, ◌≡◌, ◌≤◌, ◌⊎◌, Err, List, min, None, Ok, Option, Result, Some, ℕ}
 use Rattle.vm_core.specs.Prelude.{at}
 use Rattle.vm_rule.specs.Prelude.{IsLocking, seat_of, StartsWith}
-use Rattle.vm_step.specs.Prelude.{HoldsPage, KeepsNumbers, KnowsAsBefore, StaysAlone, View}
-use Rattle.vm_step.specs.{declared.choice.Looks.Looks, declared.saw.Saw.Saw}
+use Rattle.vm_clock.specs.from_vm_step.Prelude.{HoldsPage, KeepsNumbers, KnowsAsBefore, StaysAlone, View}
+use Rattle.vm_clock.specs.from_vm_step.{declared_choice_Looks.Looks, declared_saw_Saw.Saw}
 use Rattle.vm_exmap.specs.{Returns.IsFreed, Walks.IsAlloc}
 use Rattle.vm_exmap.specs.declared.interface.Alloc.TheVariants as allocs
 use Rattle.vm_fault.specs.declared.fault.Fetch.TheVariants as fetches

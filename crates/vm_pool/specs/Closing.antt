@@ -5,9 +5,9 @@ use Rattle.vm_core.specs.Prelude.{at, EVICTED, MAX_COUNT, version_of}
 use Rattle.vm_rule.specs.Prelude.{began_of, bounds_of, Each, Kept, last_of, no_block, stands_dirty, Start, Stored}
 use Rattle.vm_rule.specs.Prelude.{table_words, times_noted, view_of}
 use Rattle.vm_rule.specs.declared.view.WordPlace.TheVariants as places
-use Rattle.vm_rule_laws.specs.Known.{kept_by}
-use Rattle.vm_rule_laws.specs.Standing.{fault_in, mapping_in, state_in}
-use Rattle.vm_step.specs.Prelude.{HasGiven, View}
+use Rattle.vm_clock.specs.from_vm_rule_laws.Known.{kept_by}
+use Rattle.vm_clock.specs.from_vm_rule_laws.Standing.{fault_in, mapping_in, state_in}
+use Rattle.vm_clock.specs.from_vm_step.Prelude.{HasGiven, View}
 use Rattle.vm_pool.specs.declared.ended.Ended.{Ended}
 
 module _ {X : Type 0} where

@@ -5,7 +5,7 @@ use Rattle.std.specs.Prelude.{[], ◌<◌, ◌∷◌, ◌≡◌, ◌≢◌, ◌�
 use Rattle.vm_core.specs.Prelude.{AreLowest, EVICTED, UNLOCKED, version_of}
 use Rattle.vm_rule.specs.Prelude.{bundles_of, frames_in}
 use Rattle.vm_rule.specs.declared.view.WordPlace.TheVariants as places
-use Rattle.vm_step.specs.Prelude.{IsAlone, IsOfPage, known_word_at, KnowsElse, View}
+use Rattle.vm_clock.specs.from_vm_step.Prelude.{IsAlone, IsOfPage, known_word_at, KnowsElse, View}
 use Rattle.vm_exmap.specs.Frames.{HasFree, IsBundleOf}
 use Rattle.vm_fault.specs.Fetches.{IsKnownOut, IsOfBoth, KnowsReleased}
 use Rattle.vm_evict.specs.declared.report.Report.{Report}

@@ -3,3 +3,9 @@ pub mod Closing
 pub mod Sweeps
 pub mod Brings
 pub mod Known
+pub mod from_vm_clock
+pub mod from_vm_evict
+pub mod from_vm_exmap
+pub mod from_vm_fault
+pub mod from_vm_guard
+pub mod from_vm_rule

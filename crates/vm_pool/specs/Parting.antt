@@ -1,7 +1,7 @@
 -- What a split of one pass and a join of one tell of the views.
 use Rattle.std.specs.Prelude.{[], ◌++◌, ◌+◌, ◌∷◌, ◌≡◌, Bool, false, List, true, ℕ}
 use Rattle.vm_rule.specs.Prelude.{CaughtUp, entries_by, giver, has, Hears, IsWhole, Kept, owns, Start, StartsWith, view_from}
-use Rattle.vm_step.specs.Prelude.{Did, HasStill, HoldsPage, KnowsAll, View}
+use Rattle.vm_clock.specs.from_vm_step.Prelude.{Did, HasStill, HoldsPage, KnowsAll, View}
 
 module _ {X : Type 0} where
   -- the pass has what it had, but for parts

@@ -3,7 +3,7 @@
 -- that is alone knows of the table then.
 use Rattle.std.specs.Prelude.{◌<◌, ◌⊎◌, length, List, ℕ}
 use Rattle.vm_rule.specs.Prelude.{bundles_of}
-use Rattle.vm_step.specs.Prelude.{candidate_pages, IsAlone, KnowsElse, View}
+use Rattle.vm_clock.specs.from_vm_step.Prelude.{candidate_pages, IsAlone, KnowsElse, View}
 use Rattle.vm_exmap.specs.{Frames.IsBundleOf, Returns.IsFreed, Returns.KnowsGiven}
 use Rattle.vm_clock.specs.Clock.{IsChosen, KnowsWalked}
 use Rattle.vm_evict.specs.{declared.candidate.Stage.Stage, declared.report.Report.Report, Tables.IsOfAny, Tables.KnowsStage}

@@ -1,6 +1,6 @@
 // A page is brought into memory, and frames are made free for it by a sweep.
 ghost use Rattle.std.specs.Prelude.{◌+◌, ◌-◌, ◌<◌, ◌^◌, ◌∷◌, ◌≡◌, ◌≤◌, IfOk, min, None};
-ghost use Rattle.vm_step.specs.Prelude.{AreHeld, GoesOn, IsAlone, IsReadyOn, view};
+ghost use Rattle.vm_clock.specs.from_vm_step.Prelude.{AreHeld, GoesOn, IsAlone, IsReadyOn, view};
 ghost use Rattle.vm_exmap.specs.Frames.{HasFree};
 ghost use Rattle.vm_fault.specs.Fetches.{IsKnownOut};
 ghost use Rattle.vm_pool.specs.{Known.KnowsAsked, Sweeps.IsSwept};
@@ -9,6 +9,7 @@ ghost use Rattle.vm_pool.specs.Brings.{Fetches, IsBring, IsFramed, IsSure, Keeps
 use crate::pool::Pool;
 use vm_block::PageBlock;
 use vm_clock::candidates;
+use vm_clock::vm_step::{Batch, Looks, Saw};
 use vm_core::FRAMES;
 use vm_evict::evict;
 use vm_evict::report::Report;
@@ -16,7 +17,6 @@ use vm_exmap::{AllocOne, Interface};
 use vm_fault::{Fetch, fault_in};
 use vm_owner::Owner;
 use vm_rule::words::Pass;
-use vm_step::{Batch, Looks, Saw};
 
 /// What bringing a page answers.
 #[derive(Clone, Copy, Debug, PartialEq, Eq)]

@@ -11,3 +11,9 @@ pub mod save;
 pub use bring::{Bring, dry_cause};
 pub use ended::{Closed, Ended};
 pub use pool::{Pool, Shape};
+
+// Libraries below that the crates above name through this one.
+pub use vm_evict;
+pub use vm_exmap;
+pub use vm_guard;
+pub use vm_rule;

@@ -3,17 +3,17 @@
 ghost use Rattle.std.specs.Prelude.{◌<◌, ◌≡◌, ◌≤◌, All, IfErr, IfOk, length, map};
 ghost use Rattle.std.specs.Vec.{vec_capacity, vec_len};
 ghost use Rattle.vm_rule.specs.Prelude.{HoldsNoPage};
-ghost use Rattle.vm_step.specs.Prelude.{GoesOn, IsReadyOn, MayStep, Meets, PassesSplit, view, View};
-ghost use Rattle.vm_step.specs.Together.{TakesIn};
+ghost use Rattle.vm_clock.specs.from_vm_step.Prelude.{GoesOn, IsReadyOn, MayStep, Meets, PassesSplit, view, View};
+ghost use Rattle.vm_clock.specs.from_vm_step.Together.{TakesIn};
 ghost use Rattle.vm_pool.specs.Parting.{HaveMet, Joins, Splits};
 
 use crate::pool::Pool;
 use std::alloc::Global;
 use vm_block::Block;
+use vm_clock::vm_step::{catch_up, follow_pass, hear_pass, join_pass, split_pass};
 use vm_core::Memory;
 use vm_owner::Owner;
 use vm_rule::words::{Pass, Words};
-use vm_step::{catch_up, follow_pass, hear_pass, join_pass, split_pass};
 
 impl<U: Owner, B: Block + Drop, const N: usize> Pool<U, B, N> {
     /// `n` new passes, each with one of this pass's fresh parts as its number. They know what this pass knows of the history, have no entry,

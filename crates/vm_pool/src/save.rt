@@ -3,7 +3,7 @@
 ghost use Rattle.std.specs.Prelude.{◌<◌, ◌≡◌, IfErr, IfOk, length, map, None, true, ℕ};
 ghost use Rattle.vm_core.specs.Prelude.{at};
 ghost use Rattle.vm_rule.specs.Prelude.{HoldsNoPage, last_of, no_block};
-ghost use Rattle.vm_step.specs.Prelude.{IsAlone, IsReadyOn, view};
+ghost use Rattle.vm_clock.specs.from_vm_step.Prelude.{IsAlone, IsReadyOn, view};
 ghost use Rattle.vm_evict.specs.Flushes.{IsFlushed};
 ghost use Rattle.vm_pool.specs.Closing.{AreSums, IsClosed, view_at_end};
 

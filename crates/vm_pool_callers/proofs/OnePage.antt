@@ -3,7 +3,7 @@
 -- but for a mark, or it is evicted at its next version, and the interface has a frame; after `bring` it can be read,
 -- unless its device failed.
 use Rattle.vm_rule.specs.declared.view.WordPlace.TheVariants as places
-use Rattle.vm_evict.specs.declared.candidate.Stage.TheVariants as stages
+use Rattle.vm_pool.specs.from_vm_evict.declared_candidate_Stage_TheVariants as stages
 use Rattle.vm_pool.specs.Known.{KnowsAsked as asked, KnowsBrought as brought}
 use Rattle.vm_pool.specs.declared.bring.Bring.TheVariants as brings
 use Rattle.vm_pool.proofs.{Keeping.swept-keeps, Knowing.can-be-read, Knowing.has-some}

@@ -8,20 +8,20 @@ pub use Rattle.std.proofs.lemmas.List.{get_or-set_same}
 pub use Rattle.std.proofs.lemmas.Nat.Bits.{bit_at-lt, bit_at-zero, bit_at_ones, bit_at_xor}
 pub use Rattle.std.proofs.lemmas.Option.{IfSome_then}
 pub use Rattle.std.specs.Int.{bit_at}
-pub use Rattle.vm_clock.specs.Clock.{IsPassed, IsWalked, KnowsWalked, passed_word}
+pub use Rattle.vm_pool.specs.from_vm_clock.Clock.{IsPassed, IsWalked, KnowsWalked, passed_word}
 pub use Rattle.vm_core.proofs.Upd.{sum_below-past}
 pub use Rattle.vm_core.specs.Prelude.{AreLowest, EVICTED, is_readable, MARKED, MAX_VERSION, MayShare, UNLOCKED, Version}
 pub use Rattle.vm_core.specs.Words.{bit_count}
-pub use Rattle.vm_evict.proofs.Gathering.{page-at}
-pub use Rattle.vm_evict.specs.Evictions.{candidate_at, frame_at, gathered, IsEnd, stage_at}
-pub use Rattle.vm_evict.specs.Tables.{KnowsStage}
-pub use Rattle.vm_evict.specs.declared.candidate.Stage.{Stage}
-pub use Rattle.vm_evict.specs.declared.report.Report.{Report}
+pub use Rattle.vm_pool.proofs.from_vm_evict.Gathering.{page-at}
+pub use Rattle.vm_pool.specs.from_vm_evict.Evictions.{candidate_at, frame_at, gathered, IsEnd, stage_at}
+pub use Rattle.vm_pool.specs.from_vm_evict.Tables.{KnowsStage}
+pub use Rattle.vm_pool.specs.from_vm_evict.declared_candidate_Stage.{Stage}
+pub use Rattle.vm_pool.specs.from_vm_evict.declared_report_Report.{Report}
 pub use Rattle.vm_exmap.specs.Frames.{HasFree, IsBundleOf}
-pub use Rattle.vm_fault.specs.Fetches.{IsKnownOut, IsOfBoth}
-pub use Rattle.vm_guard.specs.Guards.{IsReleased, IsSet, IsShared, IsSharing}
-pub use Rattle.vm_guard.specs.Quiet.{IsQuiet, IsSteady}
-pub use Rattle.vm_guard.specs.Sure.{IsKnownFree, IsUnlockedWord, known_word}
+pub use Rattle.vm_pool.specs.from_vm_fault.Fetches.{IsKnownOut, IsOfBoth}
+pub use Rattle.vm_pool.specs.from_vm_guard.Guards.{IsReleased, IsSet, IsShared, IsSharing}
+pub use Rattle.vm_pool.specs.from_vm_guard.Quiet.{IsQuiet, IsSteady}
+pub use Rattle.vm_pool.specs.from_vm_guard.Sure.{IsKnownFree, IsUnlockedWord, known_word}
 pub use Rattle.vm_pool.specs.Brings.{IsBroughtOrFailed, IsSure, KeepsLocks}
 pub use Rattle.vm_pool.specs.Known.{IsStill, known_version, KnowsAsked, KnowsBring, KnowsBrought}
 pub use Rattle.vm_pool.specs.Sweeps.{IsSwept}

@@ -4,7 +4,7 @@ use Rattle.std.specs.Prelude.{[], ◌+◌, ◌<◌, ◌≡◌, List, ℕ}
 use Rattle.vm_core.specs.Prelude.{at, MAX_VERSION}
 use Rattle.vm_step.specs.Prelude.{View}
 use Rattle.vm_exmap.specs.Frames.{HasFree}
-use Rattle.vm_fault.specs.Fetches.{IsKnownOut}
+use Rattle.vm_pool.specs.from_vm_fault.Fetches.{IsKnownOut}
 use Rattle.vm_pool.specs.{Brings.KeepsLocks, declared.bring.Bring.Bring, Known.known_version, Known.KnowsBring}
 
 module _ {X : Type 0} where

@@ -9,9 +9,9 @@ ghost use Rattle.vm_pool_callers.specs.Known.{MayGoRound};
 use vm_block::PageBlock;
 use vm_core::FRAMES;
 use vm_exmap::Interface;
-use vm_guard::{ExclusiveGuard, read_word};
 use vm_owner::Bare;
 use vm_pool::Pool;
+use vm_pool::vm_guard::{ExclusiveGuard, read_word};
 use vm_rule::words::Pass;
 
 /// Brings the page, sets its word `i` to `w`, sweeps as many pages as a sweep can, brings the page again and reads that word: it is

@@ -14,9 +14,9 @@ use vm_map::call::{Pair, Reply};
 use vm_map::span::Span;
 use vm_map::window::Bound;
 use vm_page::WORDS;
-use vm_pool::Pool;
 use vm_rule::words::Pass;
 use vm_step::look_silently;
+use vm_tree_range::vm_pool::Pool;
 use vm_tree_range::{TryRange, range, try_range};
 use vm_tree_rule::{Tree, TreeFault};
 

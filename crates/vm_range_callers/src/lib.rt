@@ -3,3 +3,6 @@
 
 pub mod calls;
 pub mod trees;
+
+// Libraries below that the crates above name through this one.
+pub use vm_tree_range;

@@ -15,7 +15,7 @@ use Rattle.vm_script.specs.Scripts.{IsScriptCall, IsOrder, IsScript, calls_by, l
 use Rattle.vm_endings.specs.Files.{HasFile}
 use Rattle.vm_image.specs.File.{IsPageFile, words_of_file}
 use Rattle.vm_image.proofs.FileSizes.{bytes_few}
-use Rattle.vm_drive.specs.Drives.{AreAskable, AreFew}
+use Rattle.vm_endings.specs.from_vm_drive.Drives.{AreAskable, AreFew}
 use Rattle.vm_endings.proofs.FileWords.{file_sized}
 use Rattle.vm_endings.specs.Images.{most_image, IsWrongLength}
 

@@ -2,3 +2,7 @@
 #![tactic(auto)]
 
 pub mod reading;
+
+// Libraries below that the crates above name through this one.
+pub use vm_endings;
+pub use vm_endings::{vm_churn, vm_drive, vm_kind, vm_pool, vm_serve};

@@ -3,7 +3,7 @@
 ghost use Rattle.std.specs.Prelude.{◌≡◌, ◌≤◌, length, IfOk};
 ghost use Rattle.vm_page.specs.Sizes.{IsSize};
 ghost use Rattle.vm_image.specs.File.{words_of_file};
-ghost use Rattle.vm_drive.specs.Drives.{AreAskable, AreFew, items_of};
+ghost use Rattle.vm_endings.specs.from_vm_drive.Drives.{AreAskable, AreFew, items_of};
 ghost use Rattle.vm_endings.specs.{Endings.HasReadCause, Outside.Outside, Outside.Remains, Outside.with_shown, Outside.with_unread};
 ghost use Rattle.vm_reading.specs.Readings.{ReadsCalls, ReadsTree, TellsStored, TellsTree, rows_in};
 

@@ -54,3 +54,7 @@ pub fn replay_kept(
 {
     replay(alloc, core, events)
 }
+
+// Libraries below that the crates above name through this one.
+pub use vm_block;
+pub use vm_owner;

@@ -2,7 +2,7 @@
 -- number of words of a page.
 use Rattle.std.proofs.Common.{ap, arith, refl, sym, ℕ, ◌%◌, ◌*◌, ◌+◌, ◌-◌, ◌/◌, ◌<◌, ◌∙◌, ◌≡◌, ◌≤◌, if◌then◌else◌}
 use Rattle.std.specs.Prelude.{nat_lt}
-use Rattle.vm_page.proofs.Sizes.{page-of, place-of, room}
+use Rattle.vm_rule.proofs.from_vm_page.Sizes.{page-of, place-of, room}
 use Rattle.vm_rule.proofs.Prelude.{bundle_count, index_of, le-ltb, lt-ltb, width, Within}
 use Rattle.vm_rule.specs.{declared.view.Origin.Origin, declared.view.WordPlace.WordPlace}
 use Rattle.vm_rule.specs.declared.view.WordPlace.TheVariants as places

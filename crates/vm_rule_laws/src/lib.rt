@@ -3,14 +3,14 @@
 #![tactic(auto)]
 
 ghost use Rattle.std.specs.Prelude.{[], ◌<◌, ◌≡◌, ◌≢◌, false, Option, true, ℕ};
-ghost use Rattle.vm_core.specs.Prelude.{get_elem?, some};
+ghost use Rattle.vm_rule.specs.from_vm_core.Prelude.{get_elem?, some};
 ghost use Rattle.vm_rule.specs.Prelude.{began_of, HasShape, index_of, Ruled, seat_of, Stands, Table, width, Within};
 ghost use Rattle.vm_rule.specs.{declared.view.Origin.Origin, declared.view.TableShape.TableShape, declared.view.View.View, declared.view.WordPlace.WordPlace};
 ghost use Rattle.vm_rule_laws.specs.{Alone.HasNothing, Noted.NotesStand, Standing.PageStands};
 ghost use Rattle.vm_rule_laws.specs.Known.{HasStepped, IsWholePass, kept_by, KnowsTable};
 
-use vm_block::Block;
-use vm_owner::Owner;
+use vm_rule::vm_block::Block;
+use vm_rule::vm_owner::Owner;
 
 /// Where a pass of a table lives, the table meets the rule, from the start that its shape has for proofs: what a table keeps between steps
 /// has one other case, that its first pass has not begun.

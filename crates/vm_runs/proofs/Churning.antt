@@ -13,23 +13,26 @@ use Rattle.vm_tree_model.proofs.FixedLaws.{size_is}
 use Rattle.vm_image.specs.{Blocks.pages_of_blocks, File.most_pages}
 use Rattle.vm_build.specs.{Build.nodes_from, Levels.nodes_for, Numbers.numbered}
 use Rattle.vm_owner.specs.declared.Entry.{Entry}
-use Rattle.vm_pool.specs.{Closing.view_at_end, declared.ended.Ended.Ended}
+use Rattle.vm_reading.specs.from_vm_pool.{Closing.view_at_end, declared_ended_Ended.Ended}
 use Rattle.vm_tree_laws.specs.History.{saids}
-use Rattle.vm_tree_rule.specs.declared.fault.TreeFault.{TreeFault}
-use Rattle.vm_drive.specs.{Drives.AreFew, Lists.AreKept}
-use Rattle.vm_serve.specs.declared.serving.ServedOn.{ServedOn}
-use Rattle.vm_serve.proofs.{Planned.as-many, Planned.saved, Unplanned.all_flushed, Unplanned.no_faults}
-use Rattle.vm_churn.specs.{Calls.churn_count, Calls.churn_lists, declared.tally.Tally.Tally}
-use Rattle.vm_churn.specs.Tallies.{IsSmall, StandsFor, sum_values, tally_of, total_of}
-use Rattle.vm_churn.proofs.{Counting.kept_small, Counting.kept_total, Lists.count_lists, Lists.few_lists, Sums.sum_fits, Tallying.tallied}
+use Rattle.vm_reading.specs.from_vm_tree_rule.declared_fault_TreeFault.{TreeFault}
+use Rattle.vm_reading.specs.from_vm_drive.{Drives.AreFew, Lists.AreKept}
+use Rattle.vm_reading.specs.from_vm_serve.declared_serving_ServedOn.{ServedOn}
+use Rattle.vm_reading.proofs.from_vm_serve.{Planned.as-many, Planned.saved, Unplanned.all_flushed, Unplanned.no_faults}
+use Rattle.vm_reading.specs.from_vm_churn.{Calls.churn_count, Calls.churn_lists, declared_tally_Tally.Tally}
+use Rattle.vm_reading.specs.from_vm_churn.Tallies.{IsSmall, StandsFor, sum_values, tally_of, total_of}
+use Rattle.vm_reading.proofs.from_vm_churn.{Counting.kept_small, Counting.kept_total, Lists.count_lists}
+use Rattle.vm_reading.proofs.from_vm_churn.{Lists.few_lists, Sums.sum_fits, Tallying.tallied}
 use Rattle.vm_script.specs.Texts.{churn_line}
 use Rattle.vm_words.specs.declared.Churn.{Churn}
 use Rattle.vm_words.specs.declared.Command.TheVariants as commands
-use Rattle.vm_endings.specs.{declared.delivery.Delivery.Delivery, declared.ends.Ends.Ends, Deliveries.Content, Deliveries.content_of}
-use Rattle.vm_endings.specs.{Endings.AnswersCommand, Endings.told, Made.last_map, Outside.Outside, Outside.Remains, Replies.AreMatched}
-use Rattle.vm_endings.specs.Churns.{churn_pages, churn_text, DoesChurn, IsChurned, ToldChurn}
-use Rattle.vm_endings.specs.Limits.{are_frames, are_pairs_to_churn, are_words, are_workers}
-use Rattle.vm_endings.proofs.Telling.{matched}
+use Rattle.vm_reading.specs.from_vm_endings.{declared_delivery_Delivery.Delivery, declared_ends_Ends.Ends}
+use Rattle.vm_reading.specs.from_vm_endings.{Deliveries.Content, Deliveries.content_of}
+use Rattle.vm_reading.specs.from_vm_endings.{Endings.AnswersCommand, Endings.told, Made.last_map, Outside.Outside}
+use Rattle.vm_reading.specs.from_vm_endings.{Outside.Remains, Replies.AreMatched}
+use Rattle.vm_reading.specs.from_vm_endings.Churns.{churn_pages, churn_text, DoesChurn, IsChurned, ToldChurn}
+use Rattle.vm_reading.specs.from_vm_endings.Limits.{are_frames, are_pairs_to_churn, are_words, are_workers}
+use Rattle.vm_reading.proofs.from_vm_endings.Telling.{matched}
 use Rattle.vm_runs.specs.{declared.churn.Load.Load, declared.outcome.Outcome.Outcome}
 use Rattle.vm_runs.specs.Loads.{asked, IsLoaded, IsWithinLimits, spelt, TellsLoad}
 

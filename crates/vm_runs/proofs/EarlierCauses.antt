@@ -2,9 +2,9 @@
 use Rattle.std.proofs.Common.{◌≤◌, arith, Err, ℕ}
 use Rattle.vm_page.specs.Counts.{count_more}
 use Rattle.vm_io.specs.Causes.{Rose}
-use Rattle.vm_endings.specs.declared.stop.Stop.{Stop}
-use Rattle.vm_endings.specs.{declared.undone.Undone.TheVariants.Memory, declared.undone.Undone.TheVariants.Stopped}
-use Rattle.vm_endings.specs.{declared.undone.Undone.Undone, Endings.HasReadCause}
+use Rattle.vm_reading.specs.from_vm_endings.declared_stop_Stop.{Stop}
+use Rattle.vm_reading.specs.from_vm_endings.{declared_undone_Undone_TheVariants.Memory, declared_undone_Undone_TheVariants.Stopped}
+use Rattle.vm_reading.specs.from_vm_endings.{declared_undone_Undone.Undone, Endings.HasReadCause}
 
 rose-before : (before between now : ℕ) → before ≤ between → Rose between now → Rose before now
 unfolding count_more

@@ -5,14 +5,15 @@ use Rattle.std.proofs.Common.{◌++◌, ◌∙◌, ◌≡◌, ap, inl, inr, List
 use Rattle.vm_map.specs.{declared.call.Call.Call, declared.call.Said.Said, Map.Pairs}
 use Rattle.vm_tree_model.specs.{Fixed.fixed, Tree.map_of}
 use Rattle.vm_image.specs.{Blocks.pages_of_blocks, declared.blocks.PlannedFault.PlannedFault}
-use Rattle.vm_pool.specs.{Closing.view_at_end, declared.ended.Ended.Ended}
-use Rattle.vm_drive.specs.Prelude.{all_replies}
-use Rattle.vm_serve.specs.{declared.serving.Served.Served, Served.IsServed}
+use Rattle.vm_reading.specs.from_vm_pool.{Closing.view_at_end, declared_ended_Ended.Ended}
+use Rattle.vm_reading.specs.from_vm_drive.Prelude.{all_replies}
+use Rattle.vm_reading.specs.from_vm_serve.{declared_serving_Served.Served, Served.IsServed}
 use Rattle.vm_script.specs.Texts.{rows_text, unflushed_line, worker_replies}
 use Rattle.vm_words.specs.declared.Run.{Run}
-use Rattle.vm_endings.specs.{declared.delivery.File.File, Deliveries.content_of, Deliveries.written_of, Made.last_map, Replies.all_lines}
-use Rattle.vm_endings.specs.{Replies.counters_of}
-use Rattle.vm_endings.specs.Runs.{IsFlushedRun, IsKept, IsMadeRun, IsOutcome, IsUnflushedRun, version_or}
+use Rattle.vm_reading.specs.from_vm_endings.{declared_delivery_File.File, Deliveries.content_of}
+use Rattle.vm_reading.specs.from_vm_endings.{Deliveries.written_of, Made.last_map, Replies.all_lines}
+use Rattle.vm_reading.specs.from_vm_endings.{Replies.counters_of}
+use Rattle.vm_reading.specs.from_vm_endings.Runs.{IsFlushedRun, IsKept, IsMadeRun, IsOutcome, IsUnflushedRun, version_or}
 use Rattle.vm_runs.specs.declared.outcome.Outcome.{Outcome}
 
 pub version_is : (version : Option ℕ) → unwrap_or version 0 ≡ version_or version

@@ -5,31 +5,31 @@ use Rattle.vm_map.specs.declared.call.Call.{Call}
 use Rattle.vm_map.specs.declared.call.Said.{Said}
 use Rattle.vm_image.specs.File.{pages_of_bytes, words_of_file}
 use Rattle.vm_check.specs.declared.rows.Rows.{Rows}
-use Rattle.vm_pool.specs.declared.ended.Ended.{Ended}
+use Rattle.vm_reading.specs.from_vm_pool.declared_ended_Ended.{Ended}
 use Rattle.vm_words.specs.declared.Command.TheVariants as commands
 use Rattle.vm_words.specs.declared.Run.{Run}
-use Rattle.vm_endings.specs.declared.ends.Ends.{Ends}
+use Rattle.vm_reading.specs.from_vm_endings.declared_ends_Ends.{Ends}
 use Rattle.vm_reading.specs.declared.reading.ReadTree.{ReadTree}
-use Rattle.vm_endings.specs.declared.stop.Quantity.{Quantity}
-use Rattle.vm_endings.specs.declared.stop.Quantity.TheVariants.{Frames}
-use Rattle.vm_endings.specs.declared.stop.Stop.{Stop}
-use Rattle.vm_endings.specs.declared.stop.Stop.TheVariants.{Shape}
-use Rattle.vm_endings.specs.declared.undone.Undone.{Undone}
-use Rattle.vm_endings.specs.declared.undone.Undone.TheVariants.{Stopped, Memory}
-use Rattle.vm_endings.specs.Commands.{limits_of, order_of}
-use Rattle.vm_endings.specs.Deliveries.{Content, content_of}
-use Rattle.vm_endings.specs.Endings.{AnswersCommand, cut, Performs, told}
-use Rattle.vm_endings.specs.declared.ends.Ends.TheVariants.{LargeTree, Tree}
-use Rattle.vm_serve.specs.Served.{TreeEnd}
-use Rattle.vm_endings.specs.Files.{HasFile}
-use Rattle.vm_endings.specs.Images.{IsTreeFile, file_height, pages_of_file}
-use Rattle.vm_endings.specs.{Limits.holds_call, Outside.nothing_left, Outside.nowhere, Outside.Outside, Outside.Remains}
+use Rattle.vm_reading.specs.from_vm_endings.declared_stop_Quantity.{Quantity}
+use Rattle.vm_reading.specs.from_vm_endings.declared_stop_Quantity_TheVariants.{Frames}
+use Rattle.vm_reading.specs.from_vm_endings.declared_stop_Stop.{Stop}
+use Rattle.vm_reading.specs.from_vm_endings.declared_stop_Stop_TheVariants.{Shape}
+use Rattle.vm_reading.specs.from_vm_endings.declared_undone_Undone.{Undone}
+use Rattle.vm_reading.specs.from_vm_endings.declared_undone_Undone_TheVariants.{Stopped, Memory}
+use Rattle.vm_reading.specs.from_vm_endings.Commands.{limits_of, order_of}
+use Rattle.vm_reading.specs.from_vm_endings.Deliveries.{Content, content_of}
+use Rattle.vm_reading.specs.from_vm_endings.Endings.{AnswersCommand, cut, Performs, told}
+use Rattle.vm_reading.specs.from_vm_endings.declared_ends_Ends_TheVariants.{LargeTree, Tree}
+use Rattle.vm_reading.specs.from_vm_serve.Served.{TreeEnd}
+use Rattle.vm_reading.specs.from_vm_endings.Files.{HasFile}
+use Rattle.vm_reading.specs.from_vm_endings.Images.{IsTreeFile, file_height, pages_of_file}
+use Rattle.vm_reading.specs.from_vm_endings.{Limits.holds_call, Outside.nothing_left, Outside.nowhere, Outside.Outside, Outside.Remains}
 use Rattle.vm_reading.specs.Readings.{IsStoredIn, ReadsCalls, ReadsTree}
 use Rattle.vm_runs.specs.Answers.{DoesRun, StopsRun, TellsLimits}
-use Rattle.vm_endings.specs.Runs.{IsFlushedRun, IsOutcome, IsUnflushedRun, OfFiles}
+use Rattle.vm_reading.specs.from_vm_endings.Runs.{IsFlushedRun, IsOutcome, IsUnflushedRun, OfFiles}
 use Rattle.vm_reading.proofs.Found.{HasRows, rows-file, rows-pass, stored-rows}
-use Rattle.vm_endings.specs.Scripts.{IsGoodScript, IsScriptOf}
-use Rattle.vm_endings.specs.Tests.{AllPass, Fails, Passes, StopsAt, Test, depth, here, image, past, script}
+use Rattle.vm_reading.specs.from_vm_endings.Scripts.{IsGoodScript, IsScriptOf}
+use Rattle.vm_reading.specs.from_vm_endings.Tests.{AllPass, Fails, Passes, StopsAt, Test, depth, here, image, past, script}
 use Rattle.vm_reading.proofs.Files.{has_file}
 
 -- what is said of the height of the tree that was read holds of the file's

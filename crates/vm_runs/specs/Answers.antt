@@ -2,15 +2,15 @@
 use Rattle.std.specs.Prelude.{◌≡◌, ◌⊎◌, Err, Ok, Option, Result, ℕ}
 use Rattle.vm_io.specs.Shown.{Shown}
 use Rattle.vm_map.specs.declared.call.Said.{Said}
-use Rattle.vm_pool.specs.declared.ended.Ended.{Ended}
+use Rattle.vm_reading.specs.from_vm_pool.declared_ended_Ended.{Ended}
 use Rattle.vm_words.specs.declared.Run.{Run}
 use Rattle.vm_words.specs.declared.Command.TheVariants as commands
-use Rattle.vm_endings.specs.{Commands.limits_of, Commands.order_of, declared.stop.Quantity.Quantity}
-use Rattle.vm_endings.specs.{declared.stop.Stop.Stop, declared.stop.Stop.TheVariants.Shape}
-use Rattle.vm_endings.specs.{declared.undone.Undone.TheVariants.Memory, declared.undone.Undone.TheVariants.Stopped}
-use Rattle.vm_endings.specs.{declared.undone.Undone.Undone, Deliveries.Content, Deliveries.content_of, Tests.AllPass}
-use Rattle.vm_endings.specs.{Outside.nothing_left, Outside.nowhere, Outside.Outside, Outside.Remains, Tests.StopsAt}
-use Rattle.vm_endings.specs.Runs.{IsFlushedRun, IsUnflushedRun, OfFiles}
+use Rattle.vm_reading.specs.from_vm_endings.{Commands.limits_of, Commands.order_of, declared_stop_Quantity.Quantity}
+use Rattle.vm_reading.specs.from_vm_endings.{declared_stop_Stop.Stop, declared_stop_Stop_TheVariants.Shape}
+use Rattle.vm_reading.specs.from_vm_endings.{declared_undone_Undone_TheVariants.Memory, declared_undone_Undone_TheVariants.Stopped}
+use Rattle.vm_reading.specs.from_vm_endings.{declared_undone_Undone.Undone, Deliveries.Content, Deliveries.content_of, Tests.AllPass}
+use Rattle.vm_reading.specs.from_vm_endings.{Outside.nothing_left, Outside.nowhere, Outside.Outside, Outside.Remains, Tests.StopsAt}
+use Rattle.vm_reading.specs.from_vm_endings.Runs.{IsFlushedRun, IsUnflushedRun, OfFiles}
 use Rattle.vm_runs.specs.declared.outcome.Outcome.{Outcome}
 
 -- what the test of a run's numbers answers: the number of workers, or the first number that is outside its limits

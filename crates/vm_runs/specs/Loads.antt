@@ -5,13 +5,15 @@ use Rattle.vm_page.specs.Sizes.{IsSize}
 use Rattle.vm_block.specs.declared.memory.MemBlock.{MemBlock}
 use Rattle.vm_image.specs.File.{most_pages}
 use Rattle.vm_build.specs.{Build.IsBuilt, Numbers.numbered}
-use Rattle.vm_pool.specs.Closing.{view_at_end}
-use Rattle.vm_serve.specs.{declared.serving.ServedOn.ServedOn, Served.IsServedInto}
-use Rattle.vm_churn.specs.{Calls.churn_lists, declared.tally.Tally.Tally, Tallies.StandsFor}
+use Rattle.vm_reading.specs.from_vm_pool.Closing.{view_at_end}
+use Rattle.vm_reading.specs.from_vm_serve.{declared_serving_ServedOn.ServedOn, Served.IsServedInto}
+use Rattle.vm_reading.specs.from_vm_churn.{Calls.churn_lists, declared_tally_Tally.Tally, Tallies.StandsFor}
 use Rattle.vm_words.specs.declared.Churn.{Churn}
 use Rattle.vm_words.specs.declared.Command.TheVariants as commands
-use Rattle.vm_endings.specs.{Churns.churn_pages, Commands.order_of, declared.stop.Quantity.Quantity, declared.stop.Stop.TheVariants.Shape}
-use Rattle.vm_endings.specs.{Limits.words_or, Outside.nowhere, Outside.Outside, Outside.Remains, Tests.AllPass, Tests.StopsAt}
+use Rattle.vm_reading.specs.from_vm_endings.{Churns.churn_pages, Commands.order_of, declared_stop_Quantity.Quantity}
+use Rattle.vm_reading.specs.from_vm_endings.{declared_stop_Stop_TheVariants.Shape}
+use Rattle.vm_reading.specs.from_vm_endings.{Limits.words_or, Outside.nowhere, Outside.Outside, Outside.Remains}
+use Rattle.vm_reading.specs.from_vm_endings.{Tests.AllPass, Tests.StopsAt}
 use Rattle.vm_runs.specs.declared.churn.Load.{Load}
 
 -- the numbers are within their limits

@@ -1,10 +1,10 @@
 //! The command `churn`: many calls, made by workers on a tree of numbered pairs.
 
 ghost use Rattle.std.specs.Prelude.{◌<◌, ◌^◌, ◌≡◌, ◌≤◌, IfOk, length, ℕ};
-ghost use Rattle.vm_churn.specs.{Calls.churn_count, Tallies.sum_values};
+ghost use Rattle.vm_reading.specs.from_vm_churn.{Calls.churn_count, Tallies.sum_values};
 ghost use Rattle.vm_script.specs.Texts.{churn_line};
 ghost use Rattle.vm_words.specs.declared.Command.TheVariants as commands;
-ghost use Rattle.vm_endings.specs.{Churns.DoesChurn, Deliveries.content_of, Endings.AnswersCommand, Endings.HasReadCause, Outside.Outside, Outside.Remains};
+ghost use Rattle.vm_reading.specs.from_vm_endings.{Churns.DoesChurn, Deliveries.content_of, Endings.AnswersCommand, Endings.HasReadCause, Outside.Outside, Outside.Remains};
 ghost use Rattle.vm_runs.specs.Loads.{asked, IsLoaded, IsWithinLimits, TellsLoad};
 
 use crate::outcome::{Outcome, stored_in, told};
@@ -13,20 +13,22 @@ use std::sync::Wait;
 use std::thread::Threads;
 use vm_block::MemBlock;
 use vm_build::{needed, numbered_image};
-use vm_churn::{Tally, calls_of, sum_of, tallies_for, tally_all};
 use vm_core::Memory;
-use vm_drive::gate::Gate;
-use vm_endings::delivery::Delivery;
-use vm_endings::ends::Ends;
-use vm_endings::limits::{are_frames, are_pairs_to_churn, are_words, are_workers, words_of};
-use vm_endings::stop::{Quantity, Stop};
-use vm_endings::undone::Undone;
 use vm_kind::{OfSize, Sizes, TreeOf, WordKeys};
 use vm_map::call::Pair;
 use vm_page::{LARGE, WORDS};
 use vm_reading::reading::ReadTree;
+use vm_reading::vm_churn::{Tally, calls_of, sum_of, tallies_for, tally_all};
+use vm_reading::vm_drive::gate::Gate;
+use vm_reading::vm_endings::delivery::Delivery;
+use vm_reading::vm_endings::ends::Ends;
+use vm_reading::vm_endings::limits::{
+    are_frames, are_pairs_to_churn, are_words, are_workers, words_of,
+};
+use vm_reading::vm_endings::stop::{Quantity, Stop};
+use vm_reading::vm_endings::undone::Undone;
+use vm_reading::vm_serve::{ServedOn, serve_into};
 use vm_script::text::{Churned, churn_text};
-use vm_serve::{ServedOn, serve_into};
 use vm_words::Churn;
 
 /// The numbers of a churn: at most 100,000 pairs, 1 to 64 workers, 64 to 65,536 frames and eight for each worker, and 64 or 512 words of a page. So many frames hold the pages of a call

@@ -5,9 +5,9 @@ ghost use Rattle.vm_page.specs.Sizes.{IsSize};
 ghost use Rattle.vm_tree_model.specs.{Fixed.fixed, Tree.IsTree, Tree.map_of};
 ghost use Rattle.vm_image.specs.{Blocks.pages_of_blocks, File.most_pages};
 ghost use Rattle.vm_core.specs.Prelude.{MAX_VERSION};
-ghost use Rattle.vm_drive.specs.Drives.{AreAskable, AreFew, items_of};
-ghost use Rattle.vm_endings.specs.Deliveries.{content_of, written_of};
-ghost use Rattle.vm_endings.specs.Runs.{IsKept, IsOutcome, version_or};
+ghost use Rattle.vm_reading.specs.from_vm_drive.Drives.{AreAskable, AreFew, items_of};
+ghost use Rattle.vm_reading.specs.from_vm_endings.Deliveries.{content_of, written_of};
+ghost use Rattle.vm_reading.specs.from_vm_endings.Runs.{IsKept, IsOutcome, version_or};
 
 use std::alloc::{AllocError, Global};
 use std::sync::Wait;
@@ -15,17 +15,17 @@ use std::thread::Threads;
 use vm_block::MemBlock;
 use vm_check::{CheckFault, check};
 use vm_core::Memory;
-use vm_drive::gate::Gate;
-use vm_endings::delivery::{Delivery, File};
-use vm_endings::texts::{cut_text, whole_text};
-use vm_endings::writing::file_of;
 use vm_image::{Image, image_of};
 use vm_kind::{OfSize, TreeOf, WordKeys};
 use vm_map::call::Call;
 use vm_owner::Owner;
-use vm_pool::Ended;
 use vm_reading::reading::ReadTree;
-use vm_serve::{Served, serve};
+use vm_reading::vm_drive::gate::Gate;
+use vm_reading::vm_endings::delivery::{Delivery, File};
+use vm_reading::vm_endings::texts::{cut_text, whole_text};
+use vm_reading::vm_endings::writing::file_of;
+use vm_reading::vm_pool::Ended;
+use vm_reading::vm_serve::{Served, serve};
 use vm_words::Run;
 
 /// What a run gives, and what is kept of it.

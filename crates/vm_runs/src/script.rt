@@ -2,8 +2,8 @@
 
 ghost use Rattle.std.specs.Prelude.{◌≡◌, ◌≤◌};
 ghost use Rattle.vm_words.specs.declared.Command.TheVariants as commands;
-ghost use Rattle.vm_endings.specs.{Deliveries.content_of, Endings.AnswersCommand, Endings.HasReadCause, Files.HasFile};
-ghost use Rattle.vm_endings.specs.Outside.{Outside, Remains, with_shown, with_unread};
+ghost use Rattle.vm_reading.specs.from_vm_endings.{Deliveries.content_of, Endings.AnswersCommand, Endings.HasReadCause, Files.HasFile};
+ghost use Rattle.vm_reading.specs.from_vm_endings.Outside.{Outside, Remains, with_shown, with_unread};
 ghost use Rattle.vm_reading.specs.Readings.{IsStoredIn};
 ghost use Rattle.vm_runs.specs.Answers.{AnswersRun, TellsLimits};
 
@@ -11,16 +11,18 @@ use crate::outcome::{Outcome, outcome_of};
 use std::alloc::{AllocError, Global};
 use std::sync::Wait;
 use std::thread::Threads;
-use vm_drive::gate::Gate;
-use vm_endings::delivery::Delivery;
-use vm_endings::ends::Ends;
-use vm_endings::limits::{are_entries, are_frames, are_workers, holds_call, is_version};
-use vm_endings::stop::{Quantity, Stop};
-use vm_endings::undone::Undone;
 use vm_io::host::Host;
 use vm_kind::{OfSize, Sizes, TreeOf, WordKeys};
 use vm_page::{LARGE, WORDS};
 use vm_reading::reading::{ReadTree, StoredTree, read_calls, read_tree};
+use vm_reading::vm_drive::gate::Gate;
+use vm_reading::vm_endings::delivery::Delivery;
+use vm_reading::vm_endings::ends::Ends;
+use vm_reading::vm_endings::limits::{
+    are_entries, are_frames, are_workers, holds_call, is_version,
+};
+use vm_reading::vm_endings::stop::{Quantity, Stop};
+use vm_reading::vm_endings::undone::Undone;
 use vm_words::Run;
 
 // The number of workers, where the numbers are within their limits; else the first that is not.

@@ -9,8 +9,8 @@ use Rattle.std.proofs.lemmas.Map.Made.{distinct_count-le}
 use Rattle.vm_image.specs.{Blocks.numbers_for, declared.blocks.PlannedFault.PlannedFault}
 use Rattle.vm_core.specs.Prelude.{at, MAX_COUNT}
 use Rattle.vm_rule.specs.Prelude.{most_faults, no_block, Stored, times_noted}
-use Rattle.vm_step.specs.Prelude.{Note}
-use Rattle.vm_pool.specs.{Closing.AreSums, declared.ended.Ended.Ended}
+use Rattle.vm_drive.specs.from_vm_step.Prelude.{Note}
+use Rattle.vm_drive.specs.from_vm_pool.{Closing.AreSums, declared_ended_Ended.Ended}
 use Rattle.vm_drive.specs.Prelude.{notes_about}
 use Rattle.vm_serve.specs.Served.{distinct_entries, same_entry}
 

@@ -20,15 +20,15 @@ use Rattle.vm_rule.proofs.ListFacts.{at-map, length-mapped, listed-long}
 use Rattle.vm_rule.proofs.Parts.{listed-same}
 use Rattle.vm_rule_laws.specs.Known.{kept_by}
 use Rattle.vm_rule_laws.proofs.Knowing.{owes-nothing}
-use Rattle.vm_step.specs.Prelude.{Note, Origin, View}
-use Rattle.vm_evict.specs.declared.flushing.Flushed.{Flushed}
-use Rattle.vm_evict.specs.Flushes.{first_noted, HasNoLock, IsFlushed, noted_pages, RisesFrom}
-use Rattle.vm_pool.specs.Closing.{AreSums, IsClosed, IsStored, view_at_end}
-use Rattle.vm_pool.specs.declared.ended.Ended.{Ended}
+use Rattle.vm_drive.specs.from_vm_step.Prelude.{Note, Origin, View}
+use Rattle.vm_drive.specs.from_vm_evict.declared_flushing_Flushed.{Flushed}
+use Rattle.vm_drive.specs.from_vm_evict.Flushes.{first_noted, HasNoLock, IsFlushed, noted_pages, RisesFrom}
+use Rattle.vm_drive.specs.from_vm_pool.Closing.{AreSums, IsClosed, IsStored, view_at_end}
+use Rattle.vm_drive.specs.from_vm_pool.declared_ended_Ended.{Ended}
 use Rattle.vm_tree_laws.specs.{History.gones, History.IsLegal, History.news, History.saids, Keeps.KeepsTree}
 use Rattle.vm_tree_laws.specs.{Keeps.merge_weight, Plain.KeepsPlain}
 use Rattle.vm_tree_laws.proofs.{Fullness.room_used, Starts.start_keeps}
-use Rattle.vm_tree_rule.specs.declared.fault.TreeFault.{TreeFault}
+use Rattle.vm_drive.specs.from_vm_tree_rule.declared_fault_TreeFault.{TreeFault}
 use Rattle.vm_drive.specs.Prelude.{IsUntold, notes_about, as_said}
 use Rattle.vm_drive.specs.{Drives.IsAtLastVersion, Drives.IsDriven, Holds.HoldsCalls, Lists.all_faults_of, Lists.AllShown}
 use Rattle.vm_drive.specs.Parts.{logs_of, noted_by}

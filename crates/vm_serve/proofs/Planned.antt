@@ -9,10 +9,10 @@ use Rattle.vm_image.specs.Blocks.{AreBlocksOf, numbers_for, pages_of_blocks}
 use Rattle.vm_core.specs.Prelude.{at, MAX_COUNT}
 use Rattle.vm_rule.specs.Prelude.{Each, MemBlock, most_faults, no_block, Stored, stored_of, words_of}
 use Rattle.vm_rule.proofs.ListFacts.{at-map, length-mapped}
-use Rattle.vm_evict.specs.declared.flushing.Flushed.{Flushed}
-use Rattle.vm_pool.specs.{Closing.view_at_end, declared.ended.Ended.Ended}
+use Rattle.vm_drive.specs.from_vm_evict.declared_flushing_Flushed.{Flushed}
+use Rattle.vm_drive.specs.from_vm_pool.{Closing.view_at_end, declared_ended_Ended.Ended}
 use Rattle.vm_tree_laws.specs.History.{saids}
-use Rattle.vm_tree_rule.specs.declared.fault.TreeFault.{TreeFault}
+use Rattle.vm_drive.specs.from_vm_tree_rule.declared_fault_TreeFault.{TreeFault}
 use Rattle.vm_drive.specs.Prelude.{notes_about}
 use Rattle.vm_serve.specs.Served.{IsServed, IsServedOn, MayBeServed}
 use Rattle.vm_serve.proofs.{Counting.few-faults, Counting.small-plan, Headline.words-held}

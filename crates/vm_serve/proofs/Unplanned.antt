@@ -3,9 +3,9 @@ use Rattle.std.proofs.Common.{[], ◌≡◌, arith, List, None, Option, refl, Re
 use Rattle.std.proofs.lemmas.Bool.{eq-eqb}
 use Rattle.vm_map.specs.{declared.call.Call.Call, declared.call.Reply.Reply, declared.call.Said.Said}
 use Rattle.vm_rule.specs.Prelude.{MemBlock}
-use Rattle.vm_evict.specs.declared.flushing.Flushed.{Flushed}
-use Rattle.vm_pool.specs.declared.ended.Ended.{Ended}
-use Rattle.vm_tree_rule.specs.declared.fault.TreeFault.{TreeFault}
+use Rattle.vm_drive.specs.from_vm_evict.declared_flushing_Flushed.{Flushed}
+use Rattle.vm_drive.specs.from_vm_pool.declared_ended_Ended.{Ended}
+use Rattle.vm_drive.specs.from_vm_tree_rule.declared_fault_TreeFault.{TreeFault}
 use Rattle.vm_drive.specs.Lists.{all_faults_of}
 use Rattle.vm_serve.specs.Served.{is_first, IsServed}
 

@@ -11,11 +11,11 @@ use Rattle.vm_node.specs.Halves.{half_of}
 use Rattle.vm_image.specs.File.{IsNextPage}
 use Rattle.vm_owner.specs.declared.Entry.{Entry}
 use Rattle.vm_rule.specs.Prelude.{began_of, StartsWith}
-use Rattle.vm_step.specs.Prelude.{View}
-use Rattle.vm_pool.specs.{Closing.view_at_end, declared.ended.Ended.Ended}
+use Rattle.vm_drive.specs.from_vm_step.Prelude.{View}
+use Rattle.vm_drive.specs.from_vm_pool.{Closing.view_at_end, declared_ended_Ended.Ended}
 use Rattle.vm_tree_laws.specs.History.{news}
 use Rattle.vm_tree_laws.proofs.Widths.{wide_pages, wide_room}
-use Rattle.vm_tree_rule.specs.declared.fault.TreeFault.{TreeFault}
+use Rattle.vm_drive.specs.from_vm_tree_rule.declared_fault_TreeFault.{TreeFault}
 use Rattle.vm_drive.specs.Prelude.{AreShown, IsOfLeaves, IsReplyShown}
 use Rattle.vm_drive.specs.Prelude.{AreTreeCalls, IsTreeCall}
 use Rattle.vm_drive.specs.{Lists.AllShown, Parts.HaveParts}

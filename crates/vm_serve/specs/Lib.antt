@@ -1,2 +1,9 @@
 pub mod Wide
 pub mod Served
+pub mod from_vm_calls
+pub mod from_vm_drive
+pub mod from_vm_evict
+pub mod from_vm_kind
+pub mod from_vm_pool
+pub mod from_vm_rule_laws
+pub mod from_vm_tree_rule

@@ -9,15 +9,15 @@ use Rattle.vm_image.specs.{Blocks.AreBlocksOf, Blocks.numbers_for, declared.bloc
 use Rattle.vm_image.specs.{File.AreFreePages, File.IsNextPage}
 use Rattle.vm_core.specs.Prelude.{at, MAX_COUNT}
 use Rattle.vm_rule.specs.Prelude.{block_words, bounds_of, last_of, MemBlock, most_faults, no_block, Stored, stored_of}
-use Rattle.vm_step.specs.Prelude.{View}
-use Rattle.vm_evict.specs.declared.flushing.Flushed.{Flushed}
-use Rattle.vm_evict.specs.Flushes.{IsFlushed}
-use Rattle.vm_pool.specs.Closing.{AreSums, IsStored, view_at_end}
-use Rattle.vm_pool.specs.declared.ended.Ended.{Ended}
+use Rattle.vm_drive.specs.from_vm_step.Prelude.{View}
+use Rattle.vm_drive.specs.from_vm_evict.declared_flushing_Flushed.{Flushed}
+use Rattle.vm_drive.specs.from_vm_evict.Flushes.{IsFlushed}
+use Rattle.vm_drive.specs.from_vm_pool.Closing.{AreSums, IsStored, view_at_end}
+use Rattle.vm_drive.specs.from_vm_pool.declared_ended_Ended.{Ended}
 use Rattle.vm_tree_laws.specs.History.{gones, IsLegal, news, saids}
 use Rattle.vm_tree_laws.specs.Keeps.{merge_weight}
-use Rattle.vm_kind.specs.{declared.tree.TreeOf.TreeOf, declared.word_keys.Sizes.Sizes, declared.word_keys.WordKeys.WordKeys}
-use Rattle.vm_tree_rule.specs.declared.fault.TreeFault.{TreeFault}
+use Rattle.vm_drive.specs.from_vm_kind.{declared_tree_TreeOf.TreeOf, declared_word_keys_Sizes.Sizes, declared_word_keys_WordKeys.WordKeys}
+use Rattle.vm_drive.specs.from_vm_tree_rule.declared_fault_TreeFault.{TreeFault}
 use Rattle.vm_drive.specs.Prelude.{IsUntold, notes_about}
 use Rattle.vm_drive.specs.Lists.{all_faults_of, AllCausedBy, AllShown, AreKept}
 use Rattle.vm_drive.specs.Parts.{HaveParts, logs_of, noted_by, StandIn}

@@ -4,8 +4,8 @@ ghost use Rattle.std.specs.Prelude.{[], ◌+◌, ◌<◌, ◌≡◌, ◌≤◌, 
 ghost use Rattle.vm_map.specs.{declared.call.Call.Call, declared.call.Reply.Reply};
 ghost use Rattle.vm_core.specs.Prelude.{at};
 ghost use Rattle.vm_rule.specs.Prelude.{MemBlock, no_block, Stored};
-ghost use Rattle.vm_evict.specs.declared.flushing.Flushed.{Flushed};
-ghost use Rattle.vm_tree_rule.specs.declared.fault.TreeFault.{TreeFault};
+ghost use Rattle.vm_drive.specs.from_vm_evict.declared_flushing_Flushed.{Flushed};
+ghost use Rattle.vm_drive.specs.from_vm_tree_rule.declared_fault_TreeFault.{TreeFault};
 ghost use Rattle.vm_drive.specs.Lists.{all_faults_of};
 ghost use Rattle.vm_serve.specs.Served.{is_first, IsServed, IsServedOn, TreeEnd};
 

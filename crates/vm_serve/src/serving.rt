@@ -6,7 +6,7 @@ ghost use Rattle.std.specs.Prelude.{[], ◌*◌, ◌≡◌, ◌≤◌, IfOk, len
 ghost use Rattle.vm_tree_model.specs.{Fixed.fixed, Tree.IsTree};
 ghost use Rattle.vm_image.specs.{File.IsNextPage};
 ghost use Rattle.vm_core.specs.Prelude.{MAX_VERSION};
-ghost use Rattle.vm_pool.specs.Closing.{view_at_end};
+ghost use Rattle.vm_drive.specs.from_vm_pool.Closing.{view_at_end};
 ghost use Rattle.vm_drive.specs.Prelude.{all_replies, HasContents};
 ghost use Rattle.vm_drive.specs.Drives.{AreAskable, AreFew, items_of};
 ghost use Rattle.vm_drive.specs.Lists.{HaveRoom};
@@ -20,14 +20,14 @@ use vm_core::Memory;
 use vm_drive::answers::Answers;
 use vm_drive::compact::Replies;
 use vm_drive::gate::Gate;
+use vm_drive::vm_evict::Flushed;
+use vm_drive::vm_kind::{OfSize, TreeOf, WordKeys};
+use vm_drive::vm_pool::save::{Saved, flush_and_close};
+use vm_drive::vm_pool::{Closed, Ended, Pool, Shape};
 use vm_drive::{DrivenInto, drive_into, rooms_for};
-use vm_evict::Flushed;
 use vm_image::{Image, PlannedFault, blocks_of};
-use vm_kind::{OfSize, TreeOf, WordKeys};
 use vm_map::call::Call;
 use vm_owner::Owner;
-use vm_pool::save::{Saved, flush_and_close};
-use vm_pool::{Closed, Ended, Pool, Shape};
 
 /// What serving the calls came to.
 #[derive(Drop)]

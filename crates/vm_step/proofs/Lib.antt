@@ -32,3 +32,5 @@ pub mod HeldFrames
 pub mod steps
 pub mod Releasing
 pub mod Masks
+pub mod from_vm_rule
+pub mod from_vm_rule_laws

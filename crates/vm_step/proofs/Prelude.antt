@@ -35,7 +35,7 @@ pub use Rattle.vm_core.specs.declared.event.Event.TheVariants.{Write}
 pub use Rattle.vm_core.specs.declared.event.ReadIs.TheVariants.{Closed, Moved, Same}
 pub use Rattle.vm_core.proofs.{Locks.sum_below-at, PageFacts.block-is_last, PageFacts.some-is, PageFacts.some-same}
 pub use Rattle.vm_core.proofs.{Upd.each-upd, Upd.each-upd2, Upd.upd-keeps, Upd.upd-other, Upd.upd-same, Upd.upd-self}
-pub use Rattle.vm_laws_others.proofs.Laws.{leave_others}
+pub use Rattle.vm_rule.proofs.from_vm_laws_others.Laws.{leave_others}
 pub use Rattle.vm_owner.specs.Kept.{after_release, Agrees, AreSized, AreZero, changed, Fits, IsTurn, owed_after, told}
 pub use Rattle.vm_owner.proofs.NumberLemmas.{has-without, has-without_other, has-without_same, without-both, without-none}
 pub use Rattle.vm_owner.proofs.Unchanged.{released_same}

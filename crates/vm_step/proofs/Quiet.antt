@@ -4,8 +4,8 @@
 use mathlib.Core.Option as maybe
 use Rattle.std.specs.Prelude.{map}
 use Rattle.vm_core.specs.Prelude.{has_free_bit}
-use Rattle.vm_numbers.proofs.Steps.{quiet_keeps}
-use Rattle.vm_numbers.specs.Hands.{Hands, NumbersFit}
+use Rattle.vm_rule.proofs.from_vm_numbers.Steps.{quiet_keeps}
+use Rattle.vm_rule.specs.from_vm_numbers.Hands.{Hands, NumbersFit}
 use Rattle.vm_rule.proofs.Numbered.{hands-still, numbers-as}
 use Rattle.vm_rule.specs.{Rule.hands_of, Views.any}
 use Rattle.vm_step.proofs.{Logical.logical-same, Written.IsWordOf}

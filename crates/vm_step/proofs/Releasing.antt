@@ -4,8 +4,8 @@ use Rattle.vm_core.specs.declared.event.Event.TheVariants.{Release}
 use Rattle.vm_core.specs.declared.event.Seen.TheVariants as sights
 use Rattle.std.specs.Prelude.{◌&&◌, ◌==◌, if◌then◌else◌, map}
 use Rattle.vm_core.specs.Step.{keeps_number, number_left, standing_words}
-use Rattle.vm_numbers.specs.Hands.{all_zero}
-use Rattle.vm_numbers.proofs.Sums.{hands-at, one-true}
+use Rattle.vm_rule.specs.from_vm_numbers.Hands.{all_zero}
+use Rattle.vm_rule.proofs.from_vm_numbers.Sums.{hands-at, one-true}
 use Rattle.vm_rule.specs.declared.view.WordPlace.TheVariants as places
 use Rattle.vm_rule.specs.Releases.{freed_by, numbers_left, without_all}
 use Rattle.vm_rule.specs.Rule.{hands_of}

@@ -21,3 +21,5 @@ pub mod Still
 pub mod Meeting
 pub mod HeldFrames
 pub mod Prelude
+pub mod from_vm_rule
+pub mod from_vm_rule_laws

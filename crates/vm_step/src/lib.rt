@@ -35,3 +35,6 @@ pub use kinds::write_back::{lock_write_back, upgrade};
 pub use layout::frame_place;
 pub use saw::{At, Saw};
 pub use took::Took;
+
+// Libraries below that the crates above name through this one.
+pub use vm_rule;

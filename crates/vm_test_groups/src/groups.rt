@@ -13,10 +13,10 @@ use vm_exmap::Interface;
 use vm_guard::{ExclusiveGuard, Group, read_word, release_group};
 use vm_owner::Bare;
 use vm_page::{LARGE, WORDS};
-use vm_pool::{Bring, Pool};
 use vm_rule::words::{Pass, Words};
 use vm_test_pages::blocks::used_pages;
 use vm_test_pages::passes::two_passes;
+use vm_test_pages::vm_pool::{Bring, Pool};
 
 /// The pages 0, 1 and 2, which are evicted, are brought in.
 fn three_brought<B: PageBlock<N>, const N: usize>(

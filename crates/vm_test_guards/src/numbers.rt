@@ -14,10 +14,10 @@ use vm_core::{Bundle, FRAMES, Memory};
 use vm_owner::Bare;
 use vm_page::WORDS;
 use vm_pool::{Pool, Shape};
-use vm_pool_callers::whole_again::join_each;
 use vm_rule::words::{Pass, Words};
 use vm_step::{Took, pbload, pgive, ptake};
 use vm_test_pages::passes::zeros;
+use vm_workers::vm_pool_callers::whole_again::join_each;
 
 /// How often each worker tries to take a number.
 const ROUNDS: u32 = 1_000;

@@ -5,3 +5,6 @@
 pub mod blocks;
 pub mod passes;
 pub mod pools;
+
+// Libraries below that the crates above name through this one.
+pub use vm_pool;

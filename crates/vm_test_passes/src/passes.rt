@@ -10,11 +10,11 @@ use vm_block::{Block, MemBlock};
 use vm_owner::Bare;
 use vm_page::{LARGE, PageBuf, WORDS};
 use vm_pool::{Bring, Closed, Pool, Shape};
-use vm_pool_callers::first_page::{Opened, open_page};
-use vm_pool_callers::two_pages::{TwoPages, open_two};
-use vm_pool_callers::whole_again::{meet_and_join, split_and_join};
 use vm_rule::words::Pass;
 use vm_workers::entries::{ThreeEntries, three_entries};
+use vm_workers::vm_pool_callers::first_page::{Opened, open_page};
+use vm_workers::vm_pool_callers::two_pages::{TwoPages, open_two};
+use vm_workers::vm_pool_callers::whole_again::{meet_and_join, split_and_join};
 
 /// Blocks of two pages of zeros, which answer every call.
 fn two_blocks(alloc: Global) -> Result<Vec<MemBlock<WORDS>>, Fail>

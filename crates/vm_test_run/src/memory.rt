@@ -4,8 +4,8 @@ use crate::expect::{OLD, host_with, is_kept, words};
 use std::test::Fail;
 use vm_cli::ends::Ends;
 use vm_cli::run::run;
+use vm_cli::vm_drive::gate::NoGate;
 use vm_device::MemDevices;
-use vm_drive::gate::NoGate;
 use vm_page::WORDS;
 
 /// Status 6 leaves the host and what is kept as they were, so that the same words over the same host are done then.

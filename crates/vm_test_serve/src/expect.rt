@@ -8,8 +8,8 @@ use std::test::Fail;
 use std::thread::Threads;
 use vm_cli::ends::Ends;
 use vm_cli::run::run;
+use vm_cli::vm_drive::gate::NoGate;
 use vm_device::Devices;
-use vm_drive::gate::NoGate;
 use vm_io::memory::MemHost;
 use vm_page::WORDS;
 

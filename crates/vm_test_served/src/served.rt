@@ -5,16 +5,16 @@ ghost use Rattle.vm_tree_model.specs.{Fixed.fixed, Tree.IsTree};
 use std::alloc::Global;
 use std::test::Fail;
 use vm_check::check;
-use vm_drive::compact::Short;
-use vm_drive::gate::NoGate;
 use vm_drive_callers::calls::two_lists;
 use vm_drive_callers::trees::{LARGE_MAGIC, MAGIC, page};
+use vm_drive_callers::vm_drive::compact::Short;
+use vm_drive_callers::vm_drive::gate::NoGate;
+use vm_drive_callers::vm_serve::serve;
 use vm_image::{Image, PlannedFault, image_of};
 use vm_kind::Sizes;
 use vm_map::call::{Call, Pair};
 use vm_map::window::Bound;
 use vm_page::{LARGE, WORDS};
-use vm_serve::serve;
 
 /// Three pages whose one leaf has the pair 9 4.
 fn one_pair(alloc: Global) -> Result<Image<WORDS>, Fail>

@@ -6,13 +6,13 @@ use vm_guard::ExclusiveGuard;
 use vm_image::PlannedFault;
 use vm_map::call::Reply;
 use vm_map::window::Bound;
-use vm_pool::Bring;
 use vm_step::At;
-use vm_tree_callers::calls::{
+use vm_tree_pages::vm_pool::Bring;
+use vm_tree_pages::vm_tree_callers::calls::{
     empty, get_beside, get_first, get_once, got, one_leaf, open, two_leaves, window_from,
     window_once,
 };
-use vm_tree_read::TryRead;
+use vm_tree_pages::vm_tree_read::TryRead;
 
 #[test]
 fn a_key_that_is_not_there_has_no_value(rt: HostRuntime) -> Result<(), Fail> {

@@ -6,10 +6,10 @@ use Rattle.vm_tree_model.specs.{Layout.Layout, Tree.map_of}
 use Rattle.vm_rule.specs.Prelude.{Entry, entry_of}
 use Rattle.vm_step.specs.Prelude.{Origin, View}
 use Rattle.vm_tree_laws.specs.{History.saids, Plain.plain_history}
-use Rattle.vm_tree_read.specs.Reads.{IsAnswered, IsDone}
-use Rattle.vm_tree_read.specs.declared.read.TryRead.{TryRead}
-use Rattle.vm_tree_read.specs.declared.read.TryRead.TheVariants as tries
-use Rattle.vm_tree_write.specs.Writes.{IsWriteDone}
+use Rattle.vm_tree_retry.specs.from_vm_tree_read.Reads.{IsAnswered, IsDone}
+use Rattle.vm_tree_retry.specs.from_vm_tree_read.declared_read_TryRead.{TryRead}
+use Rattle.vm_tree_retry.specs.from_vm_tree_read.declared_read_TryRead_TheVariants as tries
+use Rattle.vm_tree_retry.specs.from_vm_tree_write.Writes.{IsWriteDone}
 use Rattle.vm_tree_callers.specs.Pairs.{AnswersPut}
 use Rattle.vm_tree_callers.proofs.Pairs.{put-got}
 

@@ -4,7 +4,7 @@ use Rattle.vm_core.specs.Prelude.{LOCKED, state_of, version_of}
 use Rattle.vm_step.specs.Prelude.{Did, HasGiven, place_at, View, WhyAgain}
 use Rattle.vm_step.specs.{declared.saw.At.At, declared.saw.Saw.Saw}
 use Rattle.vm_step.specs.declared.saw.At.TheVariants as ats
-use Rattle.vm_tree_rule.specs.Shown.{IsAgain}
+use Rattle.vm_tree_retry.specs.from_vm_tree_rule.Shown.{IsAgain}
 
 other-words : (p : ℕ) (at : At) (first seen : ℕ) (last : Did) → at ≡ ats.Page p → WhyAgain at first seen last
     → (first ≢ seen) ⊎ (state_of seen ≡ LOCKED)

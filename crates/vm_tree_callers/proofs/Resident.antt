@@ -18,21 +18,21 @@ use Rattle.vm_step.specs.Prelude.{IsAlone, Origin, StaysAlone, View}
 use Rattle.vm_step.proofs.Asides.{alone-then}
 use Rattle.vm_guard.specs.Sure.{IsKnownFree, IsUnlockedWord, known_next}
 use Rattle.vm_exmap.specs.Frames.{HasFree}
-use Rattle.vm_fault.specs.Fetches.{IsKnownOut, IsOfBoth}
-use Rattle.vm_pool.specs.{Brings.KeepsLocks, declared.bring.Bring.Bring, Known.known_version, Known.KnowsAsked}
-use Rattle.vm_pool.specs.{Known.KnowsBring, Known.KnowsBrought}
-use Rattle.vm_pool.specs.Known.{KnowsBrought as brought}
-use Rattle.vm_pool.specs.declared.bring.Bring.TheVariants as brings
-use Rattle.vm_pool.proofs.{FirstPass.first-alone, FirstPass.first-out, FirstPass.first-words, Keeping.keeps-alone}
-use Rattle.vm_pool.proofs.{Knowing.brought-word, Knowing.when-free}
+use Rattle.vm_pool_callers.specs.from_vm_fault.Fetches.{IsKnownOut, IsOfBoth}
+use Rattle.vm_pool_callers.specs.from_vm_pool.{Brings.KeepsLocks, declared_bring_Bring.Bring, Known.known_version, Known.KnowsAsked}
+use Rattle.vm_pool_callers.specs.from_vm_pool.{Known.KnowsBring, Known.KnowsBrought}
+use Rattle.vm_pool_callers.specs.from_vm_pool.Known.{KnowsBrought as brought}
+use Rattle.vm_pool_callers.specs.from_vm_pool.declared_bring_Bring_TheVariants as brings
+use Rattle.vm_pool_callers.proofs.from_vm_pool.{FirstPass.first-alone, FirstPass.first-out, FirstPass.first-words, Keeping.keeps-alone}
+use Rattle.vm_pool_callers.proofs.from_vm_pool.{Knowing.brought-word, Knowing.when-free}
 use Rattle.vm_pool_callers.specs.Known.{HasAskedFirst}
 use Rattle.vm_pool_callers.proofs.FirstPage.{again, other-page}
 use Rattle.vm_tree_laws.specs.{May.IsProved, Plain.KeepsPlain, Plain.plain_kept}
 use Rattle.vm_tree_laws.proofs.Nodes.{leaf_by_tag}
-use Rattle.vm_tree_rule.specs.Resident.{KnowsResident}
-use Rattle.vm_tree_read.specs.Reads.{IsAnswered, IsDone, IsTried}
-use Rattle.vm_tree_read.specs.declared.read.TryRead.{TryRead}
-use Rattle.vm_tree_read.specs.declared.read.TryRead.TheVariants as tries
+use Rattle.vm_tree_retry.specs.from_vm_tree_rule.Resident.{KnowsResident}
+use Rattle.vm_tree_retry.specs.from_vm_tree_read.Reads.{IsAnswered, IsDone, IsTried}
+use Rattle.vm_tree_retry.specs.from_vm_tree_read.declared_read_TryRead.{TryRead}
+use Rattle.vm_tree_retry.specs.from_vm_tree_read.declared_read_TryRead_TheVariants as tries
 
 -- ---- the next word
 

@@ -1,16 +1,16 @@
 -- Whatever a write of the tree answers, the pass has its block at home as before; and a try asks for no frame.
-use Rattle.std.proofs.Common.{⊎_elim, ◌≡◌, Err, IfErr, IfOk, List, Ok, Result, ℕ}
+use Rattle.std.proofs.Common.{⊎_elim, ◌<◌, ◌≡◌, Err, IfErr, IfOk, IfSome, List, None, Ok, Option, refl, Result, Some, ℕ}
 use Rattle.vm_map.specs.{declared.call.Call.Call, declared.call.Reply.Reply, declared.call.Said.Said}
 use Rattle.vm_tree_model.specs.Layout.{Layout}
 use Rattle.vm_step.specs.Prelude.{View}
-use Rattle.vm_tree_rule.specs.{declared.fault.TreeFault.TreeFault, Turns.IsDamaged, Turns.IsNeeded}
-use Rattle.vm_tree_read.specs.Waiting.{Waits}
-use Rattle.vm_tree_split.specs.{Splits.KeepsLocksOnly}
-use Rattle.vm_tree_write.specs.{declared.write.TryWrite.TryWrite}
-use Rattle.vm_tree_write.specs.declared.write.TryWrite.TheVariants as writes
-use Rattle.vm_tree_retry.specs.Waiting.{damaged, faulted, IsDamagedForDel, IsDelReplied, IsDelRound, IsNeededByDel, IsPutFaulted, IsPutRound}
-use Rattle.vm_tree_retry.specs.Waiting.{IsWriteFaulted, IsWriteReplied, IsWriteRound, missing, tight, worn}
-use Rattle.vm_tree_write.specs.Writes.{HasKeyIn, IsDel, IsPut, IsSwap, OnlyWrites}
+use Rattle.vm_tree_retry.specs.from_vm_tree_rule.{declared_fault_TreeFault.TreeFault, Turns.IsDamaged, Turns.IsNeeded}
+use Rattle.vm_tree_retry.specs.from_vm_tree_read.Waiting.{HasRounds, rounds_in, Waits}
+use Rattle.vm_tree_retry.specs.from_vm_tree_split.{Splits.KeepsLocksOnly}
+use Rattle.vm_tree_retry.specs.from_vm_tree_write.{declared_write_TryWrite.TryWrite}
+use Rattle.vm_tree_retry.specs.from_vm_tree_write.declared_write_TryWrite_TheVariants as writes
+use Rattle.vm_tree_retry.specs.Waiting.{IsDamagedForDel, IsDelReplied, IsDelRound, IsNeededByDel, IsPutFaulted, IsPutRound}
+use Rattle.vm_tree_retry.specs.Waiting.{IsWriteFaulted, IsWriteReplied, IsWriteRound}
+use Rattle.vm_tree_retry.specs.from_vm_tree_write.Writes.{HasKeyIn, IsDel, IsPut, IsSwap, OnlyWrites}
 use Rattle.vm_tree_retry.proofs.Deleting.{again-frames, again-keeps, answer-frames, answer-out}
 use Rattle.vm_tree_callers.proofs.Homes.{of-reads, Rests}
 
@@ -48,9 +48,7 @@ module _ {S : Type 0} (plain : S → Said) (L : Layout) where
       → IfErr r (λ fault. IsWriteFaulted L KeepsLocksOnly (IsDelRound L) (IsNeededByDel L) (IsDamagedForDel L) (HasKeyIn L) key fault v w)
       → w.out ≡ v.out
   del-home key (Ok reply) v w a b = a.out
-  del-home key (Err fault) v w a (missing tried found page rounds k r n f all) = all.out
-  del-home key (Err fault) v w a (damaged tried page rounds k r n is all) = all.out
-  del-home key (Err fault) v w a (worn tried page rounds k r n would f all) = all.out
+  del-home key (Err fault) v w a b = b.leaves.out
 
   pub swap-home : (may : List ℕ → ℕ → Type 0) (call : Call) (key : ℕ) (r : Result Reply TreeFault) (v w : View S)
       → IfOk r (λ reply. IsWriteReplied plain L Waits (IsWriteRound L) (record {
@@ -58,9 +56,7 @@ module _ {S : Type 0} (plain : S → Said) (L : Layout) where
         reply = reply;
       }) v w) → IfErr r (λ fault. IsWriteFaulted L Waits (IsWriteRound L) (IsNeeded L) (IsDamaged L) may key fault v w) → w.out ≡ v.out
   swap-home may call key (Ok reply) v w a b = a.out
-  swap-home may call key (Err fault) v w a (missing tried found page rounds k r n f all) = all.out
-  swap-home may call key (Err fault) v w a (damaged tried page rounds k r n is all) = all.out
-  swap-home may call key (Err fault) v w a (worn tried page rounds k r n would f all) = all.out
+  swap-home may call key (Err fault) v w a b = b.leaves.out
 
   module _ (spare : List ℕ → ℕ) where
     pub put-rests : (key value : ℕ) (t : TryWrite) (v w : View S) → IsPut plain L spare key value t v w → Rests v w
@@ -71,16 +67,21 @@ module _ {S : Type 0} (plain : S → Said) (L : Layout) where
     put-rests key value (writes.Tight p) v w a = of-reads v w a.0.0
     put-rests key value (writes.Damaged p) v w a = of-reads v w a.0.0
 
-    fault-home : (key : ℕ) (fault : TreeFault) (v w : View S) → IsPutFaulted plain L spare key fault v w → w.out ≡ v.out
-    fault-home key fault v w (faulted (missing tried found page rounds k r n f all)) = all.out
-    fault-home key fault v w (faulted (damaged tried page rounds k r n is all)) = all.out
-    fault-home key fault v w (faulted (worn tried page rounds k r n would f all)) = all.out
-    fault-home key fault v w (tight tried found page rounds k r t f all) = all.out
-
     pub put-home : (call : Call) (key : ℕ) (r : Result Reply TreeFault) (v w : View S)
         → IfOk r (λ reply. IsWriteReplied plain L KeepsLocksOnly (IsPutRound plain L spare) (record {
           call = call;
           reply = reply;
         }) v w) → IfErr r (λ fault. IsPutFaulted plain L spare key fault v w) → w.out ≡ v.out
     put-home call key (Ok reply) v w a b = a.out
-    put-home call key (Err fault) v w a b = fault-home key fault v w b
+    put-home call key (Err fault) v w a b = b.leaves.out
+
+    pub put-within-home : (call : Call) (key turns : ℕ) (r : Result (Option Reply) TreeFault) (v w : View S)
+        → IfOk r (λ answer. IfSome answer (λ reply. (a : IsWriteReplied plain L KeepsLocksOnly (IsPutRound plain L spare) (record {
+          call = call;
+          reply = reply;
+        }) v w) × (rounds_in a.rounds < turns)))
+        → IfOk r (λ answer. answer ≡ None → KeepsLocksOnly v w × HasRounds (IsPutRound plain L spare key) turns v w)
+        → IfErr r (λ fault. (a : IsPutFaulted plain L spare key fault v w) × (rounds_in a.rounds < turns)) → w.out ≡ v.out
+    put-within-home call key turns (Ok (Some reply)) v w some none err = some.0.out
+    put-within-home call key turns (Ok None) v w some none err = (none refl).0.out
+    put-within-home call key turns (Err fault) v w some none err = err.0.leaves.out

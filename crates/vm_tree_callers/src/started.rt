@@ -6,7 +6,7 @@ ghost use Rattle.vm_tree_model.specs.Tree.{map_of};
 ghost use Rattle.vm_core.specs.Prelude.{MAX_VERSION};
 ghost use Rattle.vm_page.specs.Sizes.{IsSize};
 ghost use Rattle.vm_rule.specs.Prelude.{block_words, bounds_of, IsStarted, MayBegin};
-ghost use Rattle.vm_pool.specs.Brings.{IsBroughtOrFailed};
+ghost use Rattle.vm_pool_callers.specs.from_vm_pool.Brings.{IsBroughtOrFailed};
 ghost use Rattle.vm_tree_laws.specs.Plain.{KeepsPlain};
 
 use std::alloc::Global;
@@ -16,10 +16,10 @@ use vm_exmap::Interface;
 use vm_kind::{Kind, TreeOf};
 use vm_map::call::Reply;
 use vm_owner::Owner;
-use vm_pool::{Bring, Pool, Shape};
 use vm_pool_callers::first_page::{Opened, open_page};
+use vm_pool_callers::vm_pool::{Bring, Pool, Shape};
 use vm_rule::words::Pass;
-use vm_tree_read::{TryRead, try_get};
+use vm_tree_retry::vm_tree_read::{TryRead, try_get};
 
 /// A pool that was just started, with its first pass, what `bring` answered for page 0 and for the root, and what the get answered then.
 pub struct Started<U: Owner, B: Block, const N: usize> {

@@ -4,14 +4,14 @@ ghost use Rattle.std.specs.Prelude.{◌≡◌, ◌≤◌, IfSome, IsSome, true};
 ghost use Rattle.vm_tree_model.specs.Tree.{map_of};
 ghost use Rattle.vm_step.specs.Prelude.{GoesOn, IsReadyOn, view};
 ghost use Rattle.vm_tree_laws.specs.{History.IsLegal, Plain.plain_history};
-ghost use Rattle.vm_tree_rule.specs.Resident.{KnowsResident};
+ghost use Rattle.vm_tree_retry.specs.from_vm_tree_rule.Resident.{KnowsResident};
 ghost use Rattle.vm_tree_callers.specs.Pairs.{HasGotTwice};
 
 use vm_block::Block;
 use vm_kind::{Kind, TreeOf};
 use vm_map::call::Reply;
 use vm_rule::words::{Pass, Words};
-use vm_tree_read::{TryRead, try_get};
+use vm_tree_retry::vm_tree_read::{TryRead, try_get};
 
 /// The replies of two gets, where each was answered at once.
 pub fn get_twice<K: Kind, B: Block>(

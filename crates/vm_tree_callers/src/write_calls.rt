@@ -8,11 +8,11 @@ use vm_exmap::Interface;
 use vm_kind::{OfSize, TreeOf, WordKeys};
 use vm_map::call::Reply;
 use vm_page::WORDS;
-use vm_pool::Pool;
+use vm_pool_callers::vm_pool::Pool;
 use vm_rule::words::Pass;
+use vm_tree_retry::vm_tree_rule::{Tree, TreeFault};
+use vm_tree_retry::vm_tree_write::{TrySplit, TryWrite, try_del, try_put, try_split, try_swap};
 use vm_tree_retry::{del, put, swap};
-use vm_tree_rule::{Tree, TreeFault};
-use vm_tree_write::{TrySplit, TryWrite, try_del, try_put, try_split, try_swap};
 
 /// `put`.
 pub fn put_at<S: OfSize<N>, R: Wait, const N: usize>(

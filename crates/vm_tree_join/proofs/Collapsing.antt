@@ -11,9 +11,9 @@ use Rattle.vm_tree_model.specs.Node.{Node}
 use Rattle.vm_tree_model.specs.Page.{node_of}
 use Rattle.vm_rule.specs.Prelude.{AreApart, began_of, change_of, changes_of, draft_of, entries_of, last_of}
 use Rattle.vm_rule.specs.Releases.{freed_by}
-use Rattle.vm_step.specs.Prelude.{IsClaimed, Origin, View}
-use Rattle.vm_guard.specs.{declared.exclusive.ExclusiveGuard.ExclusiveGuard, Guards.IsHolding}
-use Rattle.vm_guard.specs.Groups.{IsGroupReleased, MayReleaseAll, pids_of}
+use Rattle.vm_tree_split.specs.from_vm_step.Prelude.{IsClaimed, Origin, View}
+use Rattle.vm_tree_split.specs.from_vm_guard.{declared_exclusive_ExclusiveGuard.ExclusiveGuard, Guards.IsHolding}
+use Rattle.vm_tree_split.specs.from_vm_guard.Groups.{IsGroupReleased, MayReleaseAll, pids_of}
 use Rattle.vm_tree_laws.specs.May.{MayCollapse}
 use Rattle.vm_tree_laws.specs.Plain.{KeepsPlain, ReleasesPlain}
 use Rattle.vm_tree_laws.proofs.Zeros.{node_words, other_words}

@@ -12,14 +12,15 @@ use Rattle.vm_rule.specs.Prelude.{AreApart, began_of, bundle_count, draft_of, Ea
 use Rattle.vm_rule.specs.Prelude.{IsLocking, Seat, seat_of, StartsWith, without_all}
 use Rattle.vm_rule.specs.declared.view.WordPlace.TheVariants as places
 use Rattle.vm_rule.proofs.Facts.{has-both}
-use Rattle.vm_step.specs.Prelude.{HoldsPage, IsAlone, KnowsAsBefore, Origin, View}
-use Rattle.vm_step.proofs.{Alone.still-alone, Asides.holds-then, Asides.knows-then, Asides.starts-then, Asides.still-locking}
-use Rattle.vm_guard.specs.{declared.exclusive.ExclusiveGuard.ExclusiveGuard, declared.opt.OptGuard.OptGuard}
-use Rattle.vm_guard.specs.{Groups.pids_of, Groups.released_words}
-use Rattle.vm_guard.specs.Sure.{IsKnownFree, IsUnlockedWord, known_next, known_word, words_with}
-use Rattle.vm_guard.proofs.Groups.{lacks}
+use Rattle.vm_tree_split.specs.from_vm_step.Prelude.{HoldsPage, IsAlone, KnowsAsBefore, Origin, View}
+use Rattle.vm_tree_split.proofs.from_vm_step.{Alone.still-alone, Asides.holds-then, Asides.knows-then}
+use Rattle.vm_tree_split.proofs.from_vm_step.{Asides.starts-then, Asides.still-locking}
+use Rattle.vm_tree_split.specs.from_vm_guard.{declared_exclusive_ExclusiveGuard.ExclusiveGuard, declared_opt_OptGuard.OptGuard}
+use Rattle.vm_tree_split.specs.from_vm_guard.{Groups.pids_of, Groups.released_words}
+use Rattle.vm_tree_split.specs.from_vm_guard.Sure.{IsKnownFree, IsUnlockedWord, known_next, known_word, words_with}
+use Rattle.vm_tree_split.proofs.from_vm_guard.Groups.{lacks}
 use Rattle.vm_tree_laws.specs.{History.IsLegal, Plain.KeepsPlain, Plain.plain_history}
-use Rattle.vm_tree_rule.specs.Resident.{KnowsResident}
+use Rattle.vm_tree_split.specs.from_vm_tree_rule.Resident.{KnowsResident}
 use Rattle.vm_tree_split.specs.Prepares.{guard_pages}
 use Rattle.vm_tree_split.proofs.{Framing.entry-same, Given.without-each}
 use Rattle.vm_tree_split.proofs.Splitting.{among-first, among-later}

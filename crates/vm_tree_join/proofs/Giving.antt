@@ -9,11 +9,12 @@ use Rattle.vm_rule.specs.FreeNumbers.{GiveNumbersTold}
 use Rattle.vm_rule.specs.Prelude.{bundle_count, has, index_of, IsLocking, Seat, seat_of, StartsWith, without_all}
 use Rattle.vm_rule.specs.declared.view.WordPlace.TheVariants as places
 use Rattle.vm_rule.proofs.{Bundled.has-frames_in, Bundled.has-without_all, Entries.append-none}
-use Rattle.vm_step.specs.Prelude.{HoldsPage, IsAlone, KnowsAsBefore, Origin, View}
-use Rattle.vm_step.proofs.{Alone.still-alone, Asides.holds-then, Asides.knows-then, Asides.starts-then, Asides.still-locking}
-use Rattle.vm_step.proofs.steps.Leaving.{LeavesOthers, others-tied}
-use Rattle.vm_guard.specs.Sure.{known_next, known_word}
-use Rattle.vm_guard.proofs.Groups.{lacks}
+use Rattle.vm_tree_split.specs.from_vm_step.Prelude.{HoldsPage, IsAlone, KnowsAsBefore, Origin, View}
+use Rattle.vm_tree_split.proofs.from_vm_step.{Alone.still-alone, Asides.holds-then, Asides.knows-then}
+use Rattle.vm_tree_split.proofs.from_vm_step.{Asides.starts-then, Asides.still-locking}
+use Rattle.vm_tree_split.proofs.from_vm_step.steps_Leaving.{LeavesOthers, others-tied}
+use Rattle.vm_tree_split.specs.from_vm_guard.Sure.{known_next, known_word}
+use Rattle.vm_tree_split.proofs.from_vm_guard.Groups.{lacks}
 use Rattle.vm_tree_join.specs.Locks.{AreNumbersGiven, GivesNumber}
 
 -- a page of the mask is taken off a list, and no other one

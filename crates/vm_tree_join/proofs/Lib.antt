@@ -5,3 +5,9 @@ pub mod Locking
 pub mod Giving
 pub mod Finishing
 pub mod Tags
+pub mod from_vm_exmap
+pub mod from_vm_guard
+pub mod from_vm_step
+pub mod from_vm_tree_read
+pub mod from_vm_tree_rule
+pub mod from_vm_tree_split

@@ -7,14 +7,14 @@ use Rattle.vm_core.specs.Prelude.{Version}
 use Rattle.vm_rule.specs.Prelude.{AreApart, began_of, Each, has, IsLocking, last_of, seat_of}
 use Rattle.vm_rule.specs.declared.view.Held.{Held}
 use Rattle.vm_rule.proofs.Entries.{append-none}
-use Rattle.vm_step.specs.Prelude.{HoldsPage, IsAlone, KeepsNumbers, KnowsAsBefore, Origin, ReadsAsBefore, Tie, View}
-use Rattle.vm_step.proofs.Asides.{holds-then, knows-then, numbers-then, still-locking}
-use Rattle.vm_guard.specs.{declared.exclusive.ExclusiveGuard.ExclusiveGuard, declared.opt.OptGuard.OptGuard}
-use Rattle.vm_guard.specs.{Groups.GuardsHeld, Groups.pids_of, Guards.IsHolding, Guards.IsReading}
-use Rattle.vm_guard.specs.Sure.{IsUnlockedWord, known_next, known_word}
-use Rattle.vm_guard.proofs.{Groups.lacks, Reading.reading-kept}
+use Rattle.vm_tree_split.specs.from_vm_step.Prelude.{HoldsPage, IsAlone, KeepsNumbers, KnowsAsBefore, Origin, ReadsAsBefore, Tie, View}
+use Rattle.vm_tree_split.proofs.from_vm_step.Asides.{holds-then, knows-then, numbers-then, still-locking}
+use Rattle.vm_tree_split.specs.from_vm_guard.{declared_exclusive_ExclusiveGuard.ExclusiveGuard, declared_opt_OptGuard.OptGuard}
+use Rattle.vm_tree_split.specs.from_vm_guard.{Groups.GuardsHeld, Groups.pids_of, Guards.IsHolding, Guards.IsReading}
+use Rattle.vm_tree_split.specs.from_vm_guard.Sure.{IsUnlockedWord, known_next, known_word}
+use Rattle.vm_tree_split.proofs.from_vm_guard.{Groups.lacks, Reading.reading-kept}
 use Rattle.vm_tree_laws.specs.Tied.{Tied}
-use Rattle.vm_tree_rule.specs.{Standing.MeetsTies}
+use Rattle.vm_tree_split.specs.from_vm_tree_rule.{Standing.MeetsTies}
 use Rattle.vm_tree_split.specs.{Prepares.KnowsBoth, Prepares.guard_pages, Splits.HasDraft}
 use Rattle.vm_tree_split.proofs.{Framing.unheld-not, Settling.locked-alone, Settling.locked-next}
 use Rattle.vm_tree_split.proofs.{Settling.locked-word, Splitting.among-first, Splitting.among-later}

@@ -3,7 +3,7 @@ use Rattle.std.proofs.Common.{⊎_elim, ◌%◌, ◌/◌, ◌^◌, ◌≡◌, �
 use Rattle.std.proofs.lemmas.Bool.{cases_eq}
 use Rattle.std.proofs.lemmas.Nat.Bits.{bit_at-pow_other, bit_at-pow_same}
 use Rattle.vm_core.specs.Prelude.{in_mask}
-use Rattle.vm_guard.proofs.FreeBits.{mask-from, mask-parts}
+use Rattle.vm_tree_split.proofs.from_vm_guard.FreeBits.{mask-from, mask-parts}
 
 pub bit-here : (p : ℕ) → in_mask (p / 64) (2 ^ (p % 64)) p ≡ true
 bit-here p = mask-from (p / 64) (2 ^ (p % 64)) p refl (bit_at-pow_same (p % 64))

@@ -1,3 +1,12 @@
 pub mod Locks
 pub mod Made
 pub mod Merging
+pub mod from_vm_evict
+pub mod from_vm_guard
+pub mod from_vm_kind
+pub mod from_vm_pool
+pub mod from_vm_rule
+pub mod from_vm_step
+pub mod from_vm_tree_read
+pub mod from_vm_tree_rule
+pub mod from_vm_tree_split

@@ -4,11 +4,11 @@ use Rattle.vm_tree_model.specs.{Layout.Layout, Page.IsInner, Page.IsLeaf, Page.n
 use Rattle.vm_core.specs.Prelude.{in_mask, version_of}
 use Rattle.vm_rule.specs.FreeNumbers.{GiveNumbersTold}
 use Rattle.vm_rule.specs.Prelude.{Each}
-use Rattle.vm_step.specs.Prelude.{IsAlone, View}
-use Rattle.vm_guard.specs.{declared.exclusive.ExclusiveGuard.ExclusiveGuard, declared.opt.OptGuard.OptGuard}
-use Rattle.vm_guard.specs.{Guards.IsLocked, Guards.IsReading, Sure.IsUnlockedWord, Sure.known_word}
+use Rattle.vm_tree_split.specs.from_vm_step.Prelude.{IsAlone, View}
+use Rattle.vm_tree_split.specs.from_vm_guard.{declared_exclusive_ExclusiveGuard.ExclusiveGuard, declared_opt_OptGuard.OptGuard}
+use Rattle.vm_tree_split.specs.from_vm_guard.{Guards.IsLocked, Guards.IsReading, Sure.IsUnlockedWord, Sure.known_word}
 use Rattle.vm_tree_laws.specs.Tied.{Tied}
-use Rattle.vm_tree_rule.specs.{Seeks.HasRead, Standing.MeetsTies}
+use Rattle.vm_tree_split.specs.from_vm_tree_rule.{Seeks.HasRead, Standing.MeetsTies}
 
 -- a node's words, with this tag: 2 of a leaf, 3 of an inner node
 abbrev pub IsKindOf : Layout → ℕ → List ℕ → Type 0

@@ -4,8 +4,8 @@ use Rattle.std.specs.Prelude.{[], ◌++◌, ◌∷◌, ◌≡◌, List, true, �
 use Rattle.vm_map.specs.declared.call.Said.{Said}
 use Rattle.vm_tree_model.specs.{Layout.Layout, Tree.map_of}
 use Rattle.vm_rule.specs.Prelude.{Entry, entry_of, has, IsLocking, seat_of, StartsWith}
-use Rattle.vm_step.specs.Prelude.{HoldsPage, KnowsAsBefore, View}
-use Rattle.vm_guard.specs.{declared.exclusive.ExclusiveGuard.ExclusiveGuard, declared.opt.OptGuard.OptGuard}
+use Rattle.vm_tree_split.specs.from_vm_step.Prelude.{HoldsPage, KnowsAsBefore, View}
+use Rattle.vm_tree_split.specs.from_vm_guard.{declared_exclusive_ExclusiveGuard.ExclusiveGuard, declared_opt_OptGuard.OptGuard}
 use Rattle.vm_tree_laws.specs.{History.IsLegal, Plain.plain_history}
 use Rattle.vm_tree_split.specs.Prelude.{GainsEntry}
 use Rattle.vm_tree_split.specs.Prepares.{guard_pages}

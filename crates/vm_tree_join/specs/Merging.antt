@@ -7,9 +7,9 @@ use Rattle.vm_map.specs.declared.call.Said.{Said}
 use Rattle.vm_owner.specs.Kept.{Change}
 use Rattle.vm_tree_model.specs.Layout.{Layout}
 use Rattle.vm_rule.specs.Prelude.{AreApart, began_of, changes_of, draft_of, entries_of, last_of}
-use Rattle.vm_step.specs.Prelude.{IsKeptNow, View}
-use Rattle.vm_guard.specs.declared.exclusive.ExclusiveGuard.{ExclusiveGuard}
-use Rattle.vm_guard.specs.Groups.{AreReleased, GuardsHeld, last_pid, pids_of}
+use Rattle.vm_tree_split.specs.from_vm_step.Prelude.{IsKeptNow, View}
+use Rattle.vm_tree_split.specs.from_vm_guard.declared_exclusive_ExclusiveGuard.{ExclusiveGuard}
+use Rattle.vm_tree_split.specs.from_vm_guard.Groups.{AreReleased, GuardsHeld, last_pid, pids_of}
 use Rattle.vm_tree_laws.specs.May.{MayCollapse, MayMerge}
 use Rattle.vm_tree_laws.specs.Plain.{KeepsPlain, ReleasesPlain}
 use Rattle.vm_tree_split.specs.Splits.{HasDraft, Stays}

@@ -2,20 +2,20 @@
 ghost use Rattle.std.specs.Prelude.{[], ◌++◌, ◌∷◌, ◌≡◌, IfErr, IfOk, length, List, None, replicate, slice_index, slice_set, true, ℕ};
 ghost use Rattle.vm_tree_model.specs.Page.{IsInner, IsLeaf};
 ghost use Rattle.vm_rule.specs.Prelude.{AreApart, loads_at};
-ghost use Rattle.vm_step.specs.Prelude.{GoesOn, IsReadyOn, view};
-ghost use Rattle.vm_guard.specs.{Denied.AgainOrWorn, Guards.IsReading};
+ghost use Rattle.vm_tree_split.specs.from_vm_step.Prelude.{GoesOn, IsReadyOn, view};
+ghost use Rattle.vm_tree_split.specs.from_vm_guard.{Denied.AgainOrWorn, Guards.IsReading};
 ghost use Rattle.vm_tree_laws.specs.May.{MayCollapse, MayMerge};
-ghost use Rattle.vm_tree_rule.specs.Resident.{KnowsResident};
+ghost use Rattle.vm_tree_split.specs.from_vm_tree_rule.Resident.{KnowsResident};
 ghost use Rattle.vm_tree_split.specs.Prepares.{IsLockDenied, SaysWorn};
 ghost use Rattle.vm_tree_join.specs.{Locks.IsReadAs, Locks.KnowsFree, Made.IsMergeMade, Merging.page_change};
 
 use crate::locks::{LocksOfFour, LocksOfThree, lock_four, lock_three};
 use crate::merge::{give_number, write_collapse, write_merge};
 use vm_block::Block;
-use vm_guard::{Deny, OptGuard};
-use vm_kind::{Edits, TreeOf};
 use vm_rule::words::{Pass, Words};
 use vm_tree_split::prepare::LockedPair;
+use vm_tree_split::vm_guard::{Deny, OptGuard};
+use vm_tree_split::vm_kind::{Edits, TreeOf};
 
 /// Locks the parent and both leaves, at the versions read, and makes the merge: the left leaf gets the words of `joined`, and the right leaf's page is freed.
 pub fn join_below<K: Edits, B: Block>(

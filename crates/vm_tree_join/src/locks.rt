@@ -1,16 +1,16 @@
 // Three or four pages that are locked together, at the versions read, or none of them.
 ghost use Rattle.std.specs.Prelude.{[], ◌∷◌, ◌≡◌, IfErr, IfOk, None};
 ghost use Rattle.vm_rule.specs.Prelude.{AreApart};
-ghost use Rattle.vm_step.specs.Prelude.{GoesOn, IsReadyOn, view};
-ghost use Rattle.vm_guard.specs.{Denied.AgainOrWorn, Guards.IsReading};
+ghost use Rattle.vm_tree_split.specs.from_vm_step.Prelude.{GoesOn, IsReadyOn, view};
+ghost use Rattle.vm_tree_split.specs.from_vm_guard.{Denied.AgainOrWorn, Guards.IsReading};
 ghost use Rattle.vm_tree_split.specs.Prepares.{IsLockDenied, SaysWorn};
 ghost use Rattle.vm_tree_join.specs.Locks.{AreAllLocked, KnowsFree};
 
 use vm_block::Block;
-use vm_guard::{Deny, ExclusiveGuard, OptGuard};
-use vm_kind::{Kind, TreeOf};
 use vm_rule::words::{Pass, Words};
 use vm_tree_split::prepare::{LockedPair, lock_two};
+use vm_tree_split::vm_guard::{Deny, ExclusiveGuard, OptGuard};
+use vm_tree_split::vm_kind::{Kind, TreeOf};
 
 /// Three pages that are locked: one, and two more.
 pub struct LocksOfThree {

@@ -7,24 +7,24 @@ use Rattle.vm_tree_model.specs.{Edits.child_of, Layout.Layout}
 use Rattle.vm_tree_model.specs.Page.{node_of, pairs_of}
 use Rattle.vm_node.specs.Loads.{IsAnswer}
 use Rattle.vm_inner.specs.Neighbours.{AreBeside}
-use Rattle.vm_rule.specs.Prelude.{loads_at}
+use Rattle.vm_tree_join.specs.from_vm_rule.Prelude.{loads_at}
 use Rattle.vm_core.specs.Prelude.{LoadsAre}
-use Rattle.vm_step.specs.Prelude.{NoneExpected, NoWord, Origin, View}
-use Rattle.vm_guard.specs.declared.deny.Deny.TheVariants as denies
-use Rattle.vm_guard.specs.{declared.opt.OptGuard.OptGuard, Guards.Loads, Guards.placed}
-use Rattle.vm_guard.specs.Denied.{AgainOrNeed}
+use Rattle.vm_tree_join.specs.from_vm_step.Prelude.{NoneExpected, NoWord, Origin, View}
+use Rattle.vm_tree_join.specs.from_vm_guard.declared_deny_Deny_TheVariants as denies
+use Rattle.vm_tree_join.specs.from_vm_guard.{declared_opt_OptGuard.OptGuard, Guards.Loads, Guards.placed}
+use Rattle.vm_tree_join.specs.from_vm_guard.Denied.{AgainOrNeed}
 use Rattle.vm_tree_laws.specs.{Descent.IsReached, Tied.IsNodeAs, Tied.Tied}
-use Rattle.vm_tree_rule.specs.{Above.IsParentOf, declared.turn.Turn.Turn, Leaves.ReadsOn, Seeks.HasRead}
-use Rattle.vm_tree_rule.specs.Standing.{IsNameIn, IsOpened, NamesNode, Sees, StaysOpen, tree_pages}
-use Rattle.vm_tree_rule.specs.Turns.{IsNoChild, IsStopped, IsStopped as stops}
-use Rattle.vm_tree_rule.proofs.{Downward.awaits-later, Downward.inner-here, Downward.node-later}
-use Rattle.vm_tree_rule.proofs.{Reaching.parent-beside, Entering.opened-reads, Entering.refused-turn}
-use Rattle.vm_tree_rule.proofs.Logged.{shown-later, shown-start}
-use Rattle.vm_tree_rule.proofs.Readings.{denied-reads, each-loaded, leaves-self, leaves-then, loads-behind}
-use Rattle.vm_tree_rule.proofs.Readings.{loads-reads, log-then, opened-later, opened-loads, placed-are, reads-self}
-use Rattle.vm_tree_rule.proofs.Readings.{reads-then, valid-reads}
-use Rattle.vm_tree_rule.proofs.Seeking.{StaysBeside}
-use Rattle.vm_tree_rule.proofs.Showing.{needs-behind, needs-front}
+use Rattle.vm_tree_join.specs.from_vm_tree_rule.{Above.IsParentOf, declared_turn_Turn.Turn, Leaves.ReadsOn, Seeks.HasRead}
+use Rattle.vm_tree_join.specs.from_vm_tree_rule.Standing.{IsNameIn, IsOpened, NamesNode, Sees, StaysOpen, tree_pages}
+use Rattle.vm_tree_join.specs.from_vm_tree_rule.Turns.{IsNoChild, IsStopped, IsStopped as stops}
+use Rattle.vm_tree_join.proofs.from_vm_tree_rule.{Downward.awaits-later, Downward.inner-here, Downward.node-later}
+use Rattle.vm_tree_join.proofs.from_vm_tree_rule.{Reaching.parent-beside, Entering.opened-reads, Entering.refused-turn}
+use Rattle.vm_tree_join.proofs.from_vm_tree_rule.Logged.{shown-later, shown-start}
+use Rattle.vm_tree_join.proofs.from_vm_tree_rule.Readings.{denied-reads, each-loaded, leaves-self, leaves-then, loads-behind}
+use Rattle.vm_tree_join.proofs.from_vm_tree_rule.Readings.{loads-reads, log-then, opened-later, opened-loads, placed-are, reads-self}
+use Rattle.vm_tree_join.proofs.from_vm_tree_rule.Readings.{reads-then, valid-reads}
+use Rattle.vm_tree_join.proofs.from_vm_tree_rule.Seeking.{StaysBeside}
+use Rattle.vm_tree_join.proofs.from_vm_tree_rule.Showing.{needs-behind, needs-front}
 use Rattle.vm_tree_merge.specs.Beside.{IsChoice, IsNeighbour, IsTurnedBeside, LeavesBeside, TellBeside}
 
 loads-front : (words : List ℕ) (l m : List (ℕ × ℕ)) → LoadsAre words (l ++ m) → LoadsAre words l

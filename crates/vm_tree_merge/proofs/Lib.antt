@@ -1,3 +1,9 @@
 pub mod Choosing
 pub mod Pairing
 pub mod Trying
+pub mod from_vm_exmap
+pub mod from_vm_guard
+pub mod from_vm_step
+pub mod from_vm_tree_read
+pub mod from_vm_tree_rule
+pub mod from_vm_tree_split

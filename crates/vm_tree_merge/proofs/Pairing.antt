@@ -10,17 +10,17 @@ use Rattle.vm_tree_model.specs.{Edits.child_of, Edits.TakesPair, Layout.Layout, 
 use Rattle.vm_tree_model.specs.Page.{IsInner, IsLeaf, node_of, pairs_of}
 use Rattle.vm_core.specs.Prelude.{MAX_VERSION, version_of}
 use Rattle.vm_inner.specs.Neighbours.{AreBeside}
-use Rattle.vm_rule.specs.Prelude.{AreApart}
-use Rattle.vm_step.specs.Prelude.{Origin, View}
-use Rattle.vm_step.specs.declared.saw.Saw.{Saw}
-use Rattle.vm_guard.specs.{declared.deny.Deny.Deny, declared.opt.OptGuard.OptGuard}
-use Rattle.vm_guard.specs.declared.deny.Deny.TheVariants as denies
-use Rattle.vm_guard.specs.Denied.{AgainOrWorn}
+use Rattle.vm_tree_join.specs.from_vm_rule.Prelude.{AreApart}
+use Rattle.vm_tree_join.specs.from_vm_step.Prelude.{Origin, View}
+use Rattle.vm_tree_join.specs.from_vm_step.declared_saw_Saw.{Saw}
+use Rattle.vm_tree_join.specs.from_vm_guard.{declared_deny_Deny.Deny, declared_opt_OptGuard.OptGuard}
+use Rattle.vm_tree_join.specs.from_vm_guard.declared_deny_Deny_TheVariants as denies
+use Rattle.vm_tree_join.specs.from_vm_guard.Denied.{AgainOrWorn}
 use Rattle.vm_tree_laws.specs.May.{IsEdit, MayCollapse, MayMerge}
-use Rattle.vm_tree_rule.specs.{Resident.IsKnownNow, Standing.tree_pages}
-use Rattle.vm_tree_rule.proofs.{Downward.inner-here, Entering.opened-reads}
-use Rattle.vm_tree_split.specs.Prepares.{IsDeniedAt, IsLockDenied, IsLockedMeanwhile}
-use Rattle.vm_tree_split.proofs.Splitting.{zeros-free}
+use Rattle.vm_tree_join.specs.from_vm_tree_rule.{Resident.IsKnownNow, Standing.tree_pages}
+use Rattle.vm_tree_join.proofs.from_vm_tree_rule.{Downward.inner-here, Entering.opened-reads}
+use Rattle.vm_tree_join.specs.from_vm_tree_split.Prepares.{IsDeniedAt, IsLockDenied, IsLockedMeanwhile}
+use Rattle.vm_tree_join.proofs.from_vm_tree_split.Splitting.{zeros-free}
 use Rattle.vm_tree_join.specs.{Locks.IsReadAs, Locks.KnowsFree, Merging.page_change}
 use Rattle.vm_tree_merge.specs.{Beside.AreInOrder, Beside.as_one, Tried.IsLeafRead, Tried.IsToMerge}
 

@@ -4,19 +4,21 @@ use Rattle.vm_map.specs.declared.call.Said.{Said}
 use Rattle.vm_map.specs.Map.{del_pair}
 use Rattle.vm_tree_model.specs.{Edits.IsLeafWith, Layout.Layout}
 use Rattle.vm_tree_model.specs.Page.{IsLeaf, pairs_of}
-use Rattle.vm_rule.specs.Prelude.{AreApart}
-use Rattle.vm_step.specs.Prelude.{View}
-use Rattle.vm_step.specs.declared.saw.Saw.{Saw}
-use Rattle.vm_guard.specs.declared.opt.OptGuard.{OptGuard}
-use Rattle.vm_guard.specs.declared.deny.Deny.TheVariants as denies
+use Rattle.vm_tree_join.specs.from_vm_rule.Prelude.{AreApart}
+use Rattle.vm_tree_join.specs.from_vm_step.Prelude.{View}
+use Rattle.vm_tree_join.specs.from_vm_step.declared_saw_Saw.{Saw}
+use Rattle.vm_tree_join.specs.from_vm_guard.declared_opt_OptGuard.{OptGuard}
+use Rattle.vm_tree_join.specs.from_vm_guard.declared_deny_Deny_TheVariants as denies
 use Rattle.vm_tree_laws.specs.May.{IsEdit}
-use Rattle.vm_tree_rule.specs.{Above.IsAbove, declared.above.Above.Above, Leaves.ReadsOn, Seeks.IsMetaRead, Standing.IsOpened}
-use Rattle.vm_tree_rule.specs.Resident.{IsKnownNow}
-use Rattle.vm_tree_rule.proofs.Seeking.{meta-beside}
-use Rattle.vm_tree_rule.proofs.{Downward.awaits-later, Entering.opened-reads, Readings.leaves-self}
-use Rattle.vm_tree_rule.proofs.{Seeking.opened-beside, Seeking.StaysBeside}
-use Rattle.vm_tree_split.specs.Prepares.{IsLockDenied, guard_pages}
-use Rattle.vm_tree_split.proofs.{Backing.AreOpened, Backing.denied-shown, Framing.keeps-then, Refusing.denied-keeps, Trying.reads-keep}
+use Rattle.vm_tree_join.specs.from_vm_tree_rule.{Above.IsAbove, declared_above_Above.Above, Leaves.ReadsOn}
+use Rattle.vm_tree_join.specs.from_vm_tree_rule.{Seeks.IsMetaRead, Standing.IsOpened}
+use Rattle.vm_tree_join.specs.from_vm_tree_rule.Resident.{IsKnownNow}
+use Rattle.vm_tree_join.proofs.from_vm_tree_rule.Seeking.{meta-beside}
+use Rattle.vm_tree_join.proofs.from_vm_tree_rule.{Downward.awaits-later, Entering.opened-reads, Readings.leaves-self}
+use Rattle.vm_tree_join.proofs.from_vm_tree_rule.{Seeking.opened-beside, Seeking.StaysBeside}
+use Rattle.vm_tree_join.specs.from_vm_tree_split.Prepares.{IsLockDenied, guard_pages}
+use Rattle.vm_tree_join.proofs.from_vm_tree_split.{Backing.AreOpened, Backing.denied-shown, Framing.keeps-then}
+use Rattle.vm_tree_join.proofs.from_vm_tree_split.{Refusing.denied-keeps, Trying.reads-keep}
 use Rattle.vm_tree_join.specs.Made.{IsMergeMade}
 use Rattle.vm_tree_merge.specs.Beside.{AreInOrder, LeavesBeside}
 use Rattle.vm_tree_merge.specs.Done.{IsLockLost, IsMergeDone, MergesPages}

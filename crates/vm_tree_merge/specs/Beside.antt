@@ -5,15 +5,15 @@ use Rattle.vm_tree_model.specs.{Edits.child_of, Layout.Layout, Layout.size, Node
 use Rattle.vm_tree_model.specs.Page.{node_of, pairs_of}
 use Rattle.vm_core.specs.Prelude.{MAX_VERSION, version_of}
 use Rattle.vm_inner.specs.Neighbours.{AreBeside, HasNoPair}
-use Rattle.vm_kind.specs.Joins.{both_as_one}
-use Rattle.vm_step.specs.Prelude.{Did, NeedsPage, ReadsAsBefore, View}
-use Rattle.vm_step.specs.declared.saw.Saw.{Saw}
-use Rattle.vm_guard.specs.{declared.opt.OptGuard.OptGuard, Guards.IsValid}
+use Rattle.vm_tree_join.specs.from_vm_kind.Joins.{both_as_one}
+use Rattle.vm_tree_join.specs.from_vm_step.Prelude.{Did, NeedsPage, ReadsAsBefore, View}
+use Rattle.vm_tree_join.specs.from_vm_step.declared_saw_Saw.{Saw}
+use Rattle.vm_tree_join.specs.from_vm_guard.{declared_opt_OptGuard.OptGuard, Guards.IsValid}
 use Rattle.vm_tree_laws.specs.Tied.{Tied}
-use Rattle.vm_tree_rule.specs.{Above.IsParentOf, declared.turn.Turn.Turn, Leaves.LeavesWord, Leaves.ReadsOn}
-use Rattle.vm_tree_rule.specs.{Seeks.HasRead, Seeks.IsMetaRead, Seeks.IsNamedRoot}
-use Rattle.vm_tree_rule.specs.declared.turn.Turn.TheVariants as turns
-use Rattle.vm_tree_rule.specs.{Shown.IsAgain, Standing.AwaitsNode, Standing.IsOpened, Turns.IsNoChild}
+use Rattle.vm_tree_join.specs.from_vm_tree_rule.{Above.IsParentOf, declared_turn_Turn.Turn, Leaves.LeavesWord, Leaves.ReadsOn}
+use Rattle.vm_tree_join.specs.from_vm_tree_rule.{Seeks.HasRead, Seeks.IsMetaRead, Seeks.IsNamedRoot}
+use Rattle.vm_tree_join.specs.from_vm_tree_rule.declared_turn_Turn_TheVariants as turns
+use Rattle.vm_tree_join.specs.from_vm_tree_rule.{Shown.IsAgain, Standing.AwaitsNode, Standing.IsOpened, Turns.IsNoChild}
 
 -- these words, where their keys rise, name the left page at `low` and the right one at the next key, and one of them
 -- for the key: the right one only where it is the last

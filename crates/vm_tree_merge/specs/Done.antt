@@ -3,14 +3,14 @@ use Rattle.std.specs.Prelude.{[], ◌*◌, ◌∷◌, ◌≡◌, ◌≢◌, ◌�
 use Rattle.vm_map.specs.declared.call.Said.{Said}
 use Rattle.vm_tree_model.specs.{Layout.Layout, Layout.size}
 use Rattle.vm_tree_model.specs.Page.{IsLeaf, node_of, pairs_of}
-use Rattle.vm_step.specs.Prelude.{UnlockedExpected, View}
-use Rattle.vm_step.specs.declared.saw.Saw.{Saw}
-use Rattle.vm_guard.specs.{declared.opt.OptGuard.OptGuard}
-use Rattle.vm_guard.specs.declared.deny.Deny.TheVariants as denies
+use Rattle.vm_tree_join.specs.from_vm_step.Prelude.{UnlockedExpected, View}
+use Rattle.vm_tree_join.specs.from_vm_step.declared_saw_Saw.{Saw}
+use Rattle.vm_tree_join.specs.from_vm_guard.{declared_opt_OptGuard.OptGuard}
+use Rattle.vm_tree_join.specs.from_vm_guard.declared_deny_Deny_TheVariants as denies
 use Rattle.vm_tree_laws.specs.May.{IsEdit}
-use Rattle.vm_tree_rule.specs.{Above.IsAbove, declared.above.Above.Above, Leaves.ReadsOn, Seeks.HasRead, Shown.IsShown}
-use Rattle.vm_tree_rule.specs.declared.above.Above.TheVariants as aboves
-use Rattle.vm_tree_split.specs.{Prepares.IsLockDenied, Splits.KeepsLocksOnly}
+use Rattle.vm_tree_join.specs.from_vm_tree_rule.{Above.IsAbove, declared_above_Above.Above, Leaves.ReadsOn, Seeks.HasRead, Shown.IsShown}
+use Rattle.vm_tree_join.specs.from_vm_tree_rule.declared_above_Above_TheVariants as aboves
+use Rattle.vm_tree_join.specs.from_vm_tree_split.{Prepares.IsLockDenied, Splits.KeepsLocksOnly}
 use Rattle.vm_tree_join.specs.Made.{IsMergeMade}
 use Rattle.vm_tree_merge.specs.Beside.{AreInOrder, IsNeighbour}
 

@@ -6,11 +6,11 @@ use Rattle.vm_map.specs.declared.call.Reply.TheVariants.{Gone}
 use Rattle.vm_tree_model.specs.{Layout.Layout, Layout.size, Node.Covers}
 use Rattle.vm_tree_model.specs.Page.{IsLeaf, node_of, pairs_of}
 use Rattle.vm_core.specs.Prelude.{MAX_VERSION, version_of}
-use Rattle.vm_step.specs.Prelude.{View}
-use Rattle.vm_guard.specs.declared.opt.OptGuard.{OptGuard}
+use Rattle.vm_tree_join.specs.from_vm_step.Prelude.{View}
+use Rattle.vm_tree_join.specs.from_vm_guard.declared_opt_OptGuard.{OptGuard}
 use Rattle.vm_tree_laws.specs.May.{IsEdit}
-use Rattle.vm_tree_rule.specs.{Seeks.HasRead, Standing.Awaits, Standing.IsOpened}
-use Rattle.vm_tree_rule.specs.{declared.above.Above.Above, Resident.IsKnownNow, Resident.KnowsResident}
+use Rattle.vm_tree_join.specs.from_vm_tree_rule.{Seeks.HasRead, Standing.Awaits, Standing.IsOpened}
+use Rattle.vm_tree_join.specs.from_vm_tree_rule.{declared_above_Above.Above, Resident.IsKnownNow, Resident.KnowsResident}
 use Rattle.vm_tree_merge.specs.Beside.{as_one, IsNeighbour, IsTurnedBeside, IsUnmerged, LeavesBeside}
 use Rattle.vm_tree_merge.specs.declared.tries.Merge.{Merge}
 use Rattle.vm_tree_merge.specs.declared.tries.Merge.TheVariants as merges

@@ -5,18 +5,18 @@ ghost use Rattle.vm_tree_model.specs.{Edits.TakesPair, Layout.size};
 ghost use Rattle.vm_tree_model.specs.Page.{node_of, pairs_of};
 ghost use Rattle.vm_core.specs.Prelude.{MAX_VERSION, version_of};
 ghost use Rattle.vm_node.specs.Loads.{IsAnswer};
-ghost use Rattle.vm_step.specs.Prelude.{GoesOn, IsReadyOn, ReadsAsBefore, view};
-ghost use Rattle.vm_tree_rule.specs.{Above.IsParentOf, Leaves.LeavesWord, Leaves.ReadsOn, Resident.IsKnownNow};
+ghost use Rattle.vm_tree_join.specs.from_vm_step.Prelude.{GoesOn, IsReadyOn, ReadsAsBefore, view};
+ghost use Rattle.vm_tree_join.specs.from_vm_tree_rule.{Above.IsParentOf, Leaves.LeavesWord, Leaves.ReadsOn, Resident.IsKnownNow};
 ghost use Rattle.vm_tree_merge.specs.Beside.{as_one, HasNoOther, IsChoice, IsNeighbour, IsReadWhole, IsTurnedBeside, IsUnmerged, LeavesBeside, TellBeside};
 ghost use Rattle.vm_tree_merge.specs.Tried.{IsToMerge};
 
 use vm_block::Block;
 use vm_core::{MAX_VERSION, StateWord};
-use vm_guard::OptGuard;
 use vm_inner::ChildPair;
-use vm_kind::{Merges, TreeOf};
-use vm_rule::words::{Pass, Words};
-use vm_tree_rule::{Turn, enter};
+use vm_tree_join::vm_guard::OptGuard;
+use vm_tree_join::vm_kind::{Merges, TreeOf};
+use vm_tree_join::vm_rule::words::{Pass, Words};
+use vm_tree_join::vm_tree_rule::{Turn, enter};
 
 /// Which page beside the leaf its parent names, what both pages' keys are there, and the edit that takes the right one out.
 #[derive(Drop)]

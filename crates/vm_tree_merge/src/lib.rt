@@ -6,3 +6,8 @@ pub mod pair;
 pub mod tries;
 
 pub use tries::{Merge, try_merge};
+
+// Libraries below that the crates above name through this one.
+pub use vm_tree_join::{
+    vm_exmap, vm_guard, vm_kind, vm_pool, vm_step, vm_tree_read, vm_tree_rule, vm_tree_split,
+};

@@ -3,20 +3,20 @@ ghost use Rattle.std.specs.Prelude.{[], ◌∷◌, ◌≡◌, ◌≢◌, ◌≤�
 ghost use Rattle.vm_map.specs.Map.{Rises};
 ghost use Rattle.vm_tree_model.specs.{Edits.TakesPair, Layout.size, Merges.IsJoined, Page.pairs_of};
 ghost use Rattle.vm_core.specs.Prelude.{MAX_VERSION, version_of};
-ghost use Rattle.vm_step.specs.Prelude.{GoesOn, IsReadyOn, view};
-ghost use Rattle.vm_guard.specs.declared.opt.OptGuard.{OptGuard as Guard};
-ghost use Rattle.vm_tree_rule.specs.{Resident.IsKnownNow, Resident.KnowsResident, Seeks.IsMetaRead};
-ghost use Rattle.vm_tree_split.specs.Prepares.{IsLockDenied};
+ghost use Rattle.vm_tree_join.specs.from_vm_step.Prelude.{GoesOn, IsReadyOn, view};
+ghost use Rattle.vm_tree_join.specs.from_vm_guard.declared_opt_OptGuard.{OptGuard as Guard};
+ghost use Rattle.vm_tree_join.specs.from_vm_tree_rule.{Resident.IsKnownNow, Resident.KnowsResident, Seeks.IsMetaRead};
+ghost use Rattle.vm_tree_join.specs.from_vm_tree_split.Prepares.{IsLockDenied};
 ghost use Rattle.vm_tree_join.specs.Made.{IsMergeMade};
 ghost use Rattle.vm_tree_merge.specs.Beside.{AreInOrder, as_one};
 ghost use Rattle.vm_tree_merge.specs.Tried.{IsLeafRead, IsToMerge};
 
 use crate::beside::Neighbour;
 use vm_block::Block;
-use vm_guard::{Deny, OptGuard};
-use vm_kind::{Merges, TreeOf};
-use vm_rule::words::{Pass, Words};
-use vm_step::Saw;
+use vm_tree_join::vm_guard::{Deny, OptGuard};
+use vm_tree_join::vm_kind::{Merges, TreeOf};
+use vm_tree_join::vm_rule::words::{Pass, Words};
+use vm_tree_join::vm_step::Saw;
 use vm_tree_join::{join_below, join_last};
 
 /// The words of both as one leaf's: `rest`, those of the leaf without a key, and the neighbour's.

@@ -2,18 +2,18 @@
 ghost use Rattle.std.specs.Prelude.{◌≡◌, length, List, None, Some, true, ℕ};
 ghost use Rattle.vm_tree_model.specs.Page.{IsLeaf};
 ghost use Rattle.vm_tree_laws.specs.May.{IsEdit};
-ghost use Rattle.vm_step.specs.Prelude.{GoesOn, IsReadyOn, view};
-ghost use Rattle.vm_tree_rule.specs.{Above.IsAbove, Above.IsParentOf, Above.KnowsAbove, Resident.IsKnownNow, Seeks.IsMetaRead};
+ghost use Rattle.vm_tree_join.specs.from_vm_step.Prelude.{GoesOn, IsReadyOn, view};
+ghost use Rattle.vm_tree_join.specs.from_vm_tree_rule.{Above.IsAbove, Above.IsParentOf, Above.KnowsAbove, Resident.IsKnownNow, Seeks.IsMetaRead};
 ghost use Rattle.vm_tree_merge.specs.Tried.{IsDelRead, IsFinalMerge, IsKnownAfter, IsLeafRead, IsMergeTried};
 
 use crate::beside::{is_last, neighbour_to_join};
 use crate::pair::{merge_below, merge_last};
 use vm_block::Block;
-use vm_guard::OptGuard;
-use vm_kind::{Merges, TreeOf};
-use vm_rule::words::{Pass, Words};
-use vm_step::Saw;
-use vm_tree_rule::{Above, Reached, Turn};
+use vm_tree_join::vm_guard::OptGuard;
+use vm_tree_join::vm_kind::{Merges, TreeOf};
+use vm_tree_join::vm_rule::words::{Pass, Words};
+use vm_tree_join::vm_step::Saw;
+use vm_tree_join::vm_tree_rule::{Above, Reached, Turn};
 
 /// What a try of a merge comes to.
 #[derive(Drop)]

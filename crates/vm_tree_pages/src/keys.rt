@@ -6,11 +6,11 @@ use std::sync::Wait;
 use std::test::Fail;
 use vm_block::{Block, MemBlock};
 use vm_exmap::Interface;
-use vm_kind::{OfSize, TreeOf, WordKeys};
 use vm_map::call::Reply;
-use vm_pool::Pool;
 use vm_rule::words::Pass;
 use vm_tree_callers::calls::got;
+use vm_tree_callers::vm_kind::{OfSize, TreeOf, WordKeys};
+use vm_tree_callers::vm_pool::Pool;
 use vm_tree_callers::write_calls::{del_at, put_at};
 
 /// The keys from `from` on and below `to`, none of which was there, get the value 1.

@@ -3,3 +3,7 @@
 
 pub mod keys;
 pub mod pages;
+
+// Libraries below that the crates above name through this one.
+pub use vm_tree_callers;
+pub use vm_tree_callers::{vm_pool, vm_tree_read, vm_tree_write};

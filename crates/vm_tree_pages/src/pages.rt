@@ -6,14 +6,14 @@ use std::alloc::Global;
 use std::test::Fail;
 use vm_block::{Block, MemBlock};
 use vm_exmap::Interface;
-use vm_guard::{ExclusiveGuard, OptGuard};
-use vm_kind::{OfSize, TreeOf, WordKeys};
 use vm_page::{PageBuf, WORDS};
-use vm_pool::Pool;
 use vm_rule::words::Pass;
 use vm_step::pbload;
 use vm_tree_callers::calls::{MAGIC, put_page, state_word};
-use vm_tree_rule::Tree;
+use vm_tree_callers::vm_guard::{ExclusiveGuard, OptGuard};
+use vm_tree_callers::vm_kind::{OfSize, TreeOf, WordKeys};
+use vm_tree_callers::vm_pool::Pool;
+use vm_tree_callers::vm_tree_rule::Tree;
 
 /// Five pages of a tree of height 1: the root on page 1, leaves on pages 2 (below key 100), 3 (below 200) and 4.
 pub fn three_leaves(alloc: Global) -> Result<Vec<u8>, Fail> {

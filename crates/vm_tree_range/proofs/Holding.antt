@@ -9,8 +9,8 @@ use Rattle.vm_rule.proofs.Entries.{append-none}
 use Rattle.vm_step.specs.Prelude.{HoldsPage, KnowsAsBefore, MayUnshare, Origin, View}
 use Rattle.vm_step.specs.steps.Share.{HasShare, pages_known}
 use Rattle.vm_step.proofs.Asides.{alone-self, alone-then, holds-then, knows-then, numbers-then, starts-then, still-locking}
-use Rattle.vm_guard.specs.Guards.{IsSharedAt, IsSharing, IsUnshared}
-use Rattle.vm_tree_rule.specs.Leaves.{ReadsOn}
+use Rattle.vm_tree_read.specs.from_vm_guard.Guards.{IsSharedAt, IsSharing, IsUnshared}
+use Rattle.vm_tree_read.specs.from_vm_tree_rule.Leaves.{ReadsOn}
 use Rattle.vm_tree_range.specs.Ranges.{HoldsOn, HoldsSilently, StepsOn}
 
 -- a share less than one more leaves a write-back, which had a share of its own

@@ -3,3 +3,7 @@ pub mod Holding
 pub mod Ranging
 pub mod RangeRounds
 pub mod Readable
+pub mod from_vm_guard
+pub mod from_vm_pool
+pub mod from_vm_tree_read
+pub mod from_vm_tree_rule

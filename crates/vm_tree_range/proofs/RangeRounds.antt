@@ -9,15 +9,15 @@ use Rattle.vm_rule.specs.Prelude.{Entry, entry_of}
 use Rattle.vm_rule.proofs.Entries.{append-none}
 use Rattle.vm_step.specs.Prelude.{Origin, View}
 use Rattle.vm_step.proofs.Asides.{alone-then, holds-then, knows-then, still-locking}
-use Rattle.vm_guard.specs.declared.deny.Deny.TheVariants as denies
-use Rattle.vm_tree_rule.specs.declared.turn.Turn.TheVariants as turns
-use Rattle.vm_tree_rule.proofs.Entering.{opened-reads}
+use Rattle.vm_tree_read.specs.from_vm_guard.declared_deny_Deny_TheVariants as denies
+use Rattle.vm_tree_read.specs.from_vm_tree_rule.declared_turn_Turn_TheVariants as turns
+use Rattle.vm_tree_read.proofs.from_vm_tree_rule.Entering.{opened-reads}
 use Rattle.vm_tree_range.specs.declared.hold.TryRange.{TryRange}
 use Rattle.vm_tree_range.specs.declared.hold.TryRange.TheVariants as tries
 use Rattle.vm_tree_range.specs.Ranges.{HoldsSilently, IsRangeDone, IsRangeReplied, IsRangeRound, IsRangeStopped}
 use Rattle.vm_tree_range.specs.Ranges.{IsRangeStopped as stops, range_bound}
 use Rattle.vm_tree_read.specs.Reads.{key_of}
-use Rattle.vm_tree_read.specs.Waiting.{AreRounds, Waits}
+use Rattle.vm_tree_read.specs.Waiting.{AreRounds, HasRounds, rounds_in, Waits}
 use Rattle.vm_tree_range.proofs.Ranging.{same-entry}
 
 -- the pairs of a reply that has some
@@ -134,3 +134,11 @@ module _ {S : Type 0} (plain : S → Said) (L : Layout) where
         parts = (a.on.parts.0 ∙ k.parts.0, a.on.parts.1 ∙ k.parts.1);
         alone = alone-then v x w k.parts k.alone a.on.alone;
       }
+
+  -- and fewer rounds were made than may be
+  pub range-replied-within : (turns n : ℕ) (said : Said) (v x w : View S)
+      → Waits v x × HasRounds (IsRangeRound L (key_of said.call) (range_bound said.call)) n v x → n < turns
+      → IsRangeDone plain L said x w → (r : IsRangeReplied plain L said v w) × (rounds_in r.rounds < turns)
+  unfolding range-replied
+  range-replied-within turns n said v x w both few a =
+      (range-replied said v x w (both.0, both.1.0) a, subst (λ (m : ℕ). m < turns) (sym both.1.1) few)

@@ -16,17 +16,17 @@ use Rattle.vm_rule.proofs.{Entries.append-none, Heard.each-both}
 use Rattle.vm_step.specs.Prelude.{IsKeptNow, MayTellHeld, NoneExpected, Origin, View}
 use Rattle.vm_step.specs.steps.Share.{HasShare, pages_known}
 use Rattle.vm_step.proofs.Asides.{starts-then}
-use Rattle.vm_guard.specs.{declared.deny.Deny.Deny, Denied.IsDenied, Denied.KeptWord, Denied.NotWorn}
-use Rattle.vm_guard.specs.declared.deny.Deny.TheVariants as denies
-use Rattle.vm_guard.specs.Guards.{IsReading, IsSharedAt, IsUnshared}
-use Rattle.vm_guard.proofs.Sharing.{pages-same, shares-same}
+use Rattle.vm_tree_read.specs.from_vm_guard.{declared_deny_Deny.Deny, Denied.IsDenied, Denied.KeptWord, Denied.NotWorn}
+use Rattle.vm_tree_read.specs.from_vm_guard.declared_deny_Deny_TheVariants as denies
+use Rattle.vm_tree_read.specs.from_vm_guard.Guards.{IsReading, IsSharedAt, IsUnshared}
+use Rattle.vm_tree_read.proofs.from_vm_guard.Sharing.{pages-same, shares-same}
 use Rattle.vm_tree_laws.specs.{History.IsLegal, Plain.KeepsPlain, Plain.plain_history, Plain.ProvesHeld, Tied.Tied}
 use Rattle.vm_tree_laws.specs.May.{AreLeavesFrom, IsProvedByAll, MOST_LEAVES, pairs_held}
 use Rattle.vm_tree_laws.proofs.Ranges.{leaves_more, pairs_more}
-use Rattle.vm_tree_rule.specs.{declared.turn.Turn.Turn, Leaves.ReadsOn, Seeks.HasLoaded, Standing.IsOpened}
-use Rattle.vm_tree_rule.specs.{Turns.IsTurnedBack, Turns.TellLeaf}
-use Rattle.vm_tree_rule.specs.declared.turn.Turn.TheVariants as turns
-use Rattle.vm_tree_rule.proofs.Readings.{denied-reads}
+use Rattle.vm_tree_read.specs.from_vm_tree_rule.{declared_turn_Turn.Turn, Leaves.ReadsOn, Seeks.HasLoaded, Standing.IsOpened}
+use Rattle.vm_tree_read.specs.from_vm_tree_rule.{Turns.IsTurnedBack, Turns.TellLeaf}
+use Rattle.vm_tree_read.specs.from_vm_tree_rule.declared_turn_Turn_TheVariants as turns
+use Rattle.vm_tree_read.proofs.from_vm_tree_rule.Readings.{denied-reads}
 use Rattle.vm_tree_range.specs.declared.hold.TryRange.{TryRange}
 use Rattle.vm_tree_range.specs.declared.hold.TryRange.TheVariants as tries
 use Rattle.vm_tree_range.specs.Ranges.{DenyAnswers, HasGathered, HoldsLeaves, HoldsOn, HoldsSilently, IsBorneOutByAll}

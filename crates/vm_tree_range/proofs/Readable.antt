@@ -10,9 +10,9 @@ use Rattle.vm_rule.specs.declared.view.WordPlace.TheVariants as places
 use Rattle.vm_rule.proofs.WordFacts.{less-state, version-within, word-state}
 use Rattle.vm_step.specs.Prelude.{Did, IsAlone, Origin, View}
 use Rattle.vm_step.proofs.Alone.{still-alone}
-use Rattle.vm_guard.specs.Guards.{IsSharedAt, IsUnshared}
-use Rattle.vm_guard.specs.Sure.{known_next, known_word, KnowsBut}
-use Rattle.vm_tree_rule.specs.Resident.{IsReadableWord, IsReadNow, KnowsReadable}
+use Rattle.vm_tree_read.specs.from_vm_guard.Guards.{IsSharedAt, IsUnshared}
+use Rattle.vm_tree_read.specs.from_vm_guard.Sure.{known_next, known_word, KnowsBut}
+use Rattle.vm_tree_read.specs.from_vm_tree_rule.Resident.{IsReadableWord, IsReadNow, KnowsReadable}
 
 -- ---- words
 

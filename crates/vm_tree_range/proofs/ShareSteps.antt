@@ -4,12 +4,12 @@ use Rattle.vm_rule.specs.Prelude.{Start}
 use Rattle.vm_rule.specs.declared.view.WordPlace.{WordPlace}
 use Rattle.vm_rule.proofs.{Entries.each-map, Heard.each-both}
 use Rattle.vm_step.specs.Prelude.{Did, View}
-use Rattle.vm_guard.specs.{declared.deny.Deny.Deny, Denied.IsDenied}
-use Rattle.vm_guard.specs.{Guards.IsSharedAt, Guards.IsUnshared, Guards.Loads, LockSteps.share_did, Quiet.IsUnmark}
+use Rattle.vm_tree_read.specs.from_vm_guard.{declared_deny_Deny.Deny, Denied.IsDenied}
+use Rattle.vm_tree_read.specs.from_vm_guard.{Guards.IsSharedAt, Guards.IsUnshared, Guards.Loads, LockSteps.share_did, Quiet.IsUnmark}
 use Rattle.vm_tree_model.specs.Layout.{Layout}
-use Rattle.vm_tree_rule.specs.{declared.turn.Turn.Turn, Leaves.OnlyReads, Leaves.ReadsOn, Turns.IsTurnedBack}
-use Rattle.vm_tree_rule.specs.declared.turn.Turn.TheVariants as turns
-use Rattle.vm_tree_rule.proofs.Readings.{denied-reads, loads-reads}
+use Rattle.vm_tree_read.specs.from_vm_tree_rule.{declared_turn_Turn.Turn, Leaves.OnlyReads, Leaves.ReadsOn, Turns.IsTurnedBack}
+use Rattle.vm_tree_read.specs.from_vm_tree_rule.declared_turn_Turn_TheVariants as turns
+use Rattle.vm_tree_read.proofs.from_vm_tree_rule.Readings.{denied-reads, loads-reads}
 use Rattle.vm_tree_range.specs.Ranges.{IsShareStep, IsShareStep as steps, LeavesShares, OnlyShares}
 
 -- a step of a range

@@ -15,14 +15,15 @@ use Rattle.vm_step.specs.{Prelude.Did, Prelude.HoldsPage, Prelude.KeepsNumbers, 
 use Rattle.vm_step.specs.{Prelude.NoneExpected, Prelude.StaysAlone, Prelude.View, steps.Share.HasShare}
 use Rattle.vm_step.specs.{steps.Share.pages_known}
 use Rattle.vm_step.specs.declared.saw.Saw.{Saw}
-use Rattle.vm_guard.specs.{declared.deny.Deny.Deny, Denied.IsDenied, Denied.KeptWord, Denied.NotWorn, LockSteps.share_did, Quiet.IsUnmark}
-use Rattle.vm_guard.specs.declared.deny.Deny.TheVariants as denies
+use Rattle.vm_tree_read.specs.from_vm_guard.{declared_deny_Deny.Deny, Denied.IsDenied, Denied.KeptWord}
+use Rattle.vm_tree_read.specs.from_vm_guard.{Denied.NotWorn, LockSteps.share_did, Quiet.IsUnmark}
+use Rattle.vm_tree_read.specs.from_vm_guard.declared_deny_Deny_TheVariants as denies
 use Rattle.vm_tree_laws.specs.{History.IsLegal, Plain.KeepsPlain, Plain.plain_history}
 use Rattle.vm_tree_laws.specs.May.{AreLeavesFrom, IsProvedByAll, MOST_LEAVES, pairs_held}
-use Rattle.vm_tree_rule.specs.{declared.fault.TreeFault.TreeFault, declared.turn.Turn.Turn, Seeks.HasLoaded}
-use Rattle.vm_tree_rule.specs.declared.fault.TreeFault.TheVariants as faults
-use Rattle.vm_tree_rule.specs.{Standing.IsOpened, Turns.IsTurnedBack, Turns.TellLeaf}
-use Rattle.vm_tree_rule.specs.declared.turn.Turn.TheVariants as turns
+use Rattle.vm_tree_read.specs.from_vm_tree_rule.{declared_fault_TreeFault.TreeFault, declared_turn_Turn.Turn, Seeks.HasLoaded}
+use Rattle.vm_tree_read.specs.from_vm_tree_rule.declared_fault_TreeFault_TheVariants as faults
+use Rattle.vm_tree_read.specs.from_vm_tree_rule.{Standing.IsOpened, Turns.IsTurnedBack, Turns.TellLeaf}
+use Rattle.vm_tree_read.specs.from_vm_tree_rule.declared_turn_Turn_TheVariants as turns
 use Rattle.vm_tree_range.specs.declared.hold.TryRange.{TryRange}
 use Rattle.vm_tree_range.specs.declared.hold.TryRange.TheVariants as tries
 use Rattle.vm_tree_read.specs.Reads.{GainsEntry, key_of}

@@ -8,22 +8,22 @@ ghost use Rattle.vm_map.specs.declared.call.Call.TheVariants.{Range};
 ghost use Rattle.vm_map.specs.declared.call.Reply.TheVariants.{Many};
 ghost use Rattle.vm_node.specs.{Loads.IsPageWith, Shows.AppendsRange};
 ghost use Rattle.vm_step.specs.Prelude.{GoesOn, IsReadyOn, NoneExpected, view};
-ghost use Rattle.vm_guard.specs.{Guards.IsReading, Denied.IsDenied, Denied.KeptWord, Denied.NotWorn};
-ghost use Rattle.vm_tree_rule.specs.{Few.ReadsInPlace, Resident.IsReadNow, Resident.KnowsReadable, Seeks.HasLoaded};
+ghost use Rattle.vm_tree_read.specs.from_vm_guard.{Guards.IsReading, Denied.IsDenied, Denied.KeptWord, Denied.NotWorn};
+ghost use Rattle.vm_tree_read.specs.from_vm_tree_rule.{Few.ReadsInPlace, Resident.IsReadNow, Resident.KnowsReadable, Seeks.HasLoaded};
 ghost use Rattle.vm_tree_laws.specs.May.{MOST_LEAVES};
 ghost use Rattle.vm_tree_range.specs.Ranges.{DenyAnswers, HasGathered, HoldsLeaves, IsMany, IsOnTheWay, IsRangeDone};
 ghost use Rattle.vm_tree_range.specs.Ranges.{IsRangeFinal, IsTriedRange, LeavesShares, TellRange, TurnAnswers};
 
 use vm_block::Block;
-use vm_guard::{Deny, OptGuard};
-use vm_kind::{Kind, Ranges, TreeOf};
 use vm_map::call::Reply;
 use vm_map::span::Span;
 use vm_map::window::Bound;
 use vm_rule::words::{Pass, Words};
 use vm_step::{Saw, frame_place};
 use vm_tree_read::answer::leaf_at;
-use vm_tree_rule::{InPlace, Turn};
+use vm_tree_read::vm_guard::{Deny, OptGuard};
+use vm_tree_read::vm_kind::{Kind, Ranges, TreeOf};
+use vm_tree_read::vm_tree_rule::{InPlace, Turn};
 
 /// How many leaves are held together at most.
 pub const LEAVES: u32 = 16;

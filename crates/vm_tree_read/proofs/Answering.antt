@@ -4,12 +4,12 @@ use Rattle.std.proofs.Common.{length, List, refl, slice_index, Some, subst, sym,
 use Rattle.vm_map.specs.{declared.call.Said.Said, Map.Rises}
 use Rattle.vm_tree_model.specs.{Layout.Layout, Node.Covers, Page.node_of, Page.pairs_of, Tree.map_of}
 use Rattle.vm_core.specs.Prelude.{LoadsAre, page_at, version_of}
-use Rattle.vm_rule.specs.Prelude.{began_of, entries_under, Entry, entry_of, last_of, loads_at, LockValidates}
-use Rattle.vm_step.specs.Prelude.{IsKeptNow, MayTell, NoneExpected, Origin, View}
-use Rattle.vm_step.specs.declared.saw.Saw.{Saw}
-use Rattle.vm_guard.specs.declared.deny.Deny.TheVariants as denies
-use Rattle.vm_guard.specs.Denied.{AgainOrNeed, IsDenied, KeptWord}
-use Rattle.vm_guard.specs.Guards.{IsReading, IsValid, placed}
+use Rattle.vm_pool.specs.from_vm_rule.Prelude.{began_of, entries_under, Entry, entry_of, last_of, loads_at, LockValidates}
+use Rattle.vm_tree_rule.specs.from_vm_step.Prelude.{IsKeptNow, MayTell, NoneExpected, Origin, View}
+use Rattle.vm_tree_rule.specs.from_vm_step.declared_saw_Saw.{Saw}
+use Rattle.vm_pool.specs.from_vm_guard.declared_deny_Deny_TheVariants as denies
+use Rattle.vm_pool.specs.from_vm_guard.Denied.{AgainOrNeed, IsDenied, KeptWord}
+use Rattle.vm_pool.specs.from_vm_guard.Guards.{IsReading, IsValid, placed}
 use Rattle.vm_tree_laws.specs.{History.IsLegal, May.IsProved, Plain.KeepsPlain}
 use Rattle.vm_tree_laws.specs.{Plain.plain_history, Plain.ReadsPlain, Tied.IsNodeAs, Tied.Tied}
 use Rattle.vm_tree_rule.specs.{Leaves.ReadsOn, Seeks.HasLoaded, Shown.IsAgain, Turns.TellLeaf, Ways.TellNoNode}

@@ -1,18 +1,19 @@
 -- Tries and pages brought, one after the other.
-use Rattle.std.proofs.Common.{[], ◌++◌, ◌+◌, ◌∙◌, ◌∷◌, ◌≡◌, ap, append_assoc, List, refl, slice_index, subst, sym, ℕ}
+use Rattle.std.proofs.Common.{[], ◌++◌, ◌+◌, ◌<◌, ◌∙◌, ◌∷◌, ◌≡◌, ap, append_assoc, List, refl, slice_index, subst, sym, ℕ}
 use Rattle.vm_map.specs.declared.call.Said.{Said}
 use Rattle.vm_tree_model.specs.{Layout.Layout, Tree.map_of}
-use Rattle.vm_rule.specs.Prelude.{entries_under, Entry, entry_of}
-use Rattle.vm_rule.proofs.Entries.{append-none}
-use Rattle.vm_step.specs.Prelude.{NoneExpected, Origin, View}
-use Rattle.vm_step.proofs.Asides.{alone-self, alone-then, holds-then, knows-then, numbers-then, starts-then, still-locking}
+use Rattle.vm_pool.specs.from_vm_rule.Prelude.{entries_under, Entry, entry_of}
+use Rattle.vm_pool.proofs.from_vm_rule.Entries.{append-none}
+use Rattle.vm_tree_rule.specs.from_vm_step.Prelude.{NoneExpected, Origin, View}
+use Rattle.vm_tree_rule.proofs.from_vm_step.Asides.{alone-self, alone-then, holds-then, knows-then, numbers-then}
+use Rattle.vm_tree_rule.proofs.from_vm_step.Asides.{starts-then, still-locking}
 use Rattle.vm_pool.specs.{Brings.IsBring, Brings.KeepsLocks, declared.bring.Bring.Bring}
 use Rattle.vm_pool.specs.declared.bring.Bring.TheVariants as brings
 use Rattle.vm_tree_laws.specs.{History.IsLegal, Plain.plain_history}
 use Rattle.vm_tree_rule.specs.{declared.fault.TreeFault.TreeFault, declared.turn.Turn.Turn, Leaves.ReadsOn, Turns.IsTurnedBack}
 use Rattle.vm_tree_rule.specs.declared.turn.Turn.TheVariants as turns
 use Rattle.vm_tree_read.specs.Reads.{IsAnswered, key_of}
-use Rattle.vm_tree_read.specs.Waiting.{AreRounds, IsBringFault, IsReplied, IsRound, NamesFault, Waits}
+use Rattle.vm_tree_read.specs.Waiting.{AreRounds, HasRounds, IsBringFault, IsReplied, IsRound, NamesFault, rounds_in, Waits}
 
 module _ {X : Type 0} where
   pub waits-self : (v : View X) → Waits v v
@@ -130,3 +131,11 @@ module _ {S : Type 0} (plain : S → Said) (L : Layout) where
     parts = (a.reads.parts.0 ∙ k.parts.0, a.reads.parts.1 ∙ k.parts.1);
     alone = alone-then v x w k.parts k.alone a.reads.alone;
   }
+
+  -- and fewer rounds were made than may be
+  pub replied-within : (turns n : ℕ) (said : Said) (v x w : View S)
+      → Waits v x × HasRounds (IsRound L NoneExpected (key_of said.call)) n v x → n < turns → IsAnswered plain L said x w
+      → (r : IsReplied plain L said v w) × (rounds_in r.rounds < turns)
+  unfolding replied
+  replied-within turns n said v x w both few a =
+      (replied said v x w (both.0, both.1.0) a, subst (λ (m : ℕ). m < turns) (sym both.1.1) few)

@@ -3,3 +3,7 @@ pub mod Lasting
 pub mod Losing
 pub mod Rounds
 pub mod Reckoning
+pub mod from_vm_exmap
+pub mod from_vm_guard
+pub mod from_vm_pool
+pub mod from_vm_tree_rule

@@ -3,12 +3,12 @@ use Rattle.std.proofs.Common.{[], ⊎_elim, ◌++◌, ◌||◌, ◌∙◌, ◌�
 use Rattle.std.proofs.Common.{inl, inr, List, subst, sym, true, true≢false, ℕ}
 use Rattle.std.proofs.lemmas.Bool.{cases_Bool, cases_eq, ne_eqb, or_left, or_parts, or_right}
 use Rattle.vm_owner.proofs.NumberLemmas.{has-without_other, has-without_same}
-use Rattle.vm_rule.specs.Prelude.{frames_in, has, without}
-use Rattle.vm_rule.proofs.Facts.{has-both}
-use Rattle.vm_step.specs.Prelude.{Did, View}
-use Rattle.vm_exmap.specs.{Returns.IsFreed, Walks.IsAlloc, Walks.TakesNone}
-use Rattle.vm_exmap.specs.declared.interface.Alloc.TheVariants as allocs
-use Rattle.vm_evict.specs.{declared.report.Report.Report, Evictions.FramesCome}
+use Rattle.vm_pool.specs.from_vm_rule.Prelude.{frames_in, has, without}
+use Rattle.vm_pool.proofs.from_vm_rule.Facts.{has-both}
+use Rattle.vm_tree_rule.specs.from_vm_step.Prelude.{Did, View}
+use Rattle.vm_pool.specs.from_vm_exmap.{Returns.IsFreed, Walks.IsAlloc, Walks.TakesNone}
+use Rattle.vm_pool.specs.from_vm_exmap.declared_interface_Alloc_TheVariants as allocs
+use Rattle.vm_pool.specs.from_vm_evict.{declared_report_Report.Report, Evictions.FramesCome}
 use Rattle.vm_pool.specs.{declared.bring.Bring.Bring, Sweeps.IsSwept}
 use Rattle.vm_pool.specs.Brings.{Fetches, Fetches as fetched, Gets, Gets as gets, GetsNone, GetsNone as none, IsBring, IsBring as is_bring}
 use Rattle.vm_tree_rule.specs.Leaves.{ReadsOn}
@@ -161,14 +161,3 @@ module _ {X : Type 0} where
       loses-then old (f ∷ kept) new v x w (gets-loses home cap f old kept before after v x g)
       (fetches-loses cap p f kept new x w answer t)
   bring-loses home cap p old new before after v w answer (is_bring.frameless g) = none-loses home cap old new before after v w answer g
-
-  -- a try left the frames, and then a call lost none
-  pub lost-over : (old mid new : List ℕ) (u v x w : View X) → LosesNone old u mid v → x.frames ≡ v.frames
-      → LosesNone mid x new w → LosesNone old u new w
-  lost-over old mid new u v x w before same after =
-      loses-then old mid new u v w before
-      (loses-then mid mid new v x w (loses-same mid mid v x same (λ f e. e)) after)
-
-  pub lost-on : (old mid new : List ℕ) (u v x w : View X) → LosesNone old u mid v → ReadsOn v x
-      → LosesNone mid x new w → LosesNone old u new w
-  lost-on old mid new u v x w before r after = lost-over old mid new u v x w before r.0.frames.0 after

@@ -1,8 +1,8 @@
 -- How many words of pages a read loads: those of its descent, and those of its leaf.
 use Rattle.std.proofs.Common.{[], ◌*◌, ◌+◌, ◌≤◌, arith, List, refl, sym, ℕ}
-use Rattle.vm_rule.proofs.Entries.{append-none}
-use Rattle.vm_step.specs.Prelude.{View}
-use Rattle.vm_guard.specs.PageWords.{LoadsWords}
+use Rattle.vm_pool.proofs.from_vm_rule.Entries.{append-none}
+use Rattle.vm_tree_rule.specs.from_vm_step.Prelude.{View}
+use Rattle.vm_pool.specs.from_vm_guard.PageWords.{LoadsWords}
 use Rattle.vm_tree_rule.specs.Few.{LoadsAtMost, LoadsHeight, LoadsWithin, ReadsInPlace}
 use Rattle.vm_tree_rule.proofs.Counting.{height-more, height-same, height-within, place-within}
 

@@ -1,13 +1,15 @@
--- A call that waits, round after round: what is left of its pass and interface while no try was answered.
-use Rattle.std.proofs.Common.{◌∙◌, ◌≡◌, Bool, refl}
-use Rattle.vm_rule.specs.declared.words.{Pass.Pass, Words.Words}
-use Rattle.vm_step.specs.Prelude.{AreHeld, GoesOn, IsReadyOn, View, view}
-use Rattle.vm_step.proofs.Going.{goes-then}
-use Rattle.vm_exmap.specs.declared.interface.Interface.{Interface}
-use Rattle.vm_exmap.proofs.Handing.{held-on}
-use Rattle.vm_tree_rule.specs.Leaves.{ReadsOn}
-use Rattle.vm_tree_read.specs.Waiting.{LosesNone}
-use Rattle.vm_tree_read.proofs.Losing.{loses-same, loses-then, lost-over}
+-- A call that is tried again, round after round: what is left of its pass and interface while no try was answered, and how many
+-- rounds were made.
+use Rattle.std.proofs.Common.{◌+◌, ◌∙◌, ◌≡◌, arith, Bool, refl, ℕ}
+use Rattle.vm_pool.specs.from_vm_rule.{declared_words_Pass.Pass, declared_words_Words.Words}
+use Rattle.vm_tree_rule.specs.from_vm_step.Prelude.{AreHeld, GoesOn, IsReadyOn, View, view}
+use Rattle.vm_tree_rule.proofs.from_vm_step.Going.{goes-then}
+use Rattle.vm_pool.specs.from_vm_exmap.declared_interface_Interface.{Interface}
+use Rattle.vm_tree_rule.specs.declared.fault.TreeFault.{TreeFault}
+use Rattle.vm_tree_read.specs.Waiting.{AreRounds as rounds, HasRounds, LosesNone, RoundTells}
+use Rattle.vm_tree_read.specs.declared.round.Round.{Round}
+use Rattle.vm_tree_read.specs.declared.round.Round.TheVariants as comes
+use Rattle.vm_tree_read.proofs.Losing.{loses-same, loses-then}
 
 module _ {U B X : Type 0} {o : _} where
   pub record HasTried (leaves : View X → View X → Type 0) (words : Words U B X o) (tells : Bool) (p q : Pass U X o)
@@ -29,39 +31,32 @@ module _ {U B X : Type 0} {o : _} where
       left = left;
     }
 
-    module _ {p q : Pass U X o} {old mid : Interface} (h : HasTried leaves words tells p q old mid) (r : Pass U X o)
-        (goes : GoesOn words tells q r) (start : (view r).start ≡ (view q).start)
-        (frames : (view r).frames ≡ (view q).frames) where
-      -- one try more left the frames
-      pub tried-more : leaves (view p) (view r) → HasTried leaves words tells p r old mid
-      tried-more left = record {
-        goes = goes-then h.goes goes;
-        held = held-on mid.frames (view q) (view r) h.held start frames;
-        lost = loses-then old.frames mid.frames mid.frames (view p) (view q) (view r) h.lost
-            (loses-same mid.frames mid.frames (view q) (view r) frames (λ f e. e));
-        iface = h.iface;
-        left = left;
-      }
+  -- one round more was made
+  pub tried-round : {leaves further : View X → View X → Type 0} {words : Words U B X o} {tells : Bool} {p q : Pass U X o}
+      {old mid : Interface} → HasTried leaves words tells p q old mid → (r : Pass U X o) (new : Interface)
+      → GoesOn words tells q r → AreHeld new.frames (view r) → LosesNone mid.frames (view q) new.frames (view r)
+      → (new.home ≡ mid.home) × (new.cap ≡ mid.cap) → further (view p) (view r) → HasTried further words tells p r old new
+  tried-round {p = p} {q = q} {old = old} {mid = mid} h r new goes held lost iface left = record {
+    goes = goes-then h.goes goes;
+    held = held;
+    lost = loses-then old.frames mid.frames new.frames (view p) (view q) (view r) h.lost lost;
+    iface = (iface.0 ∙ h.iface.0, iface.1 ∙ h.iface.1);
+    left = left;
+  }
 
-      -- and then a call was made that moves frames
-      pub tried-fetch : (w : Pass U X o) (new : Interface) → GoesOn words tells r w → AreHeld new.frames (view w)
-          → LosesNone mid.frames (view r) new.frames (view w)
-          → (new.home ≡ mid.home) × (new.cap ≡ mid.cap) → leaves (view p) (view w) → HasTried leaves words tells p w old new
-      tried-fetch w new then held lost iface left = record {
-        goes = goes-then h.goes (goes-then goes then);
-        held = held;
-        lost = lost-over old.frames mid.frames new.frames (view p) (view q) (view r) (view w) h.lost frames lost;
-        iface = (iface.0 ∙ h.iface.0, iface.1 ∙ h.iface.1);
-        left = left;
-      }
+-- what is told of a round may be told in other words
+pub told-as : {T : Type 0} (done as_done : T → Type 0) (undone as_undone : Type 0) (failed as_failed : TreeFault → Type 0)
+    (round : Round T) → RoundTells done undone failed round → ((t : T) → done t → as_done t) → (undone → as_undone)
+    → ((fault : TreeFault) → failed fault → as_failed fault) → RoundTells as_done as_undone as_failed round
+told-as done as_done undone as_undone failed as_failed (comes.Done t) k d u f = d t k
+told-as done as_done undone as_undone failed as_failed comes.Soon k d u f = u k
+told-as done as_done undone as_undone failed as_failed comes.Later k d u f = u k
+told-as done as_done undone as_undone failed as_failed (comes.Failed fault) k d u f = f fault k
 
-    -- so did one that read
-    module _ {p q : Pass U X o} {old mid : Interface} (h : HasTried leaves words tells p q old mid) (r : Pass U X o)
-        (goes : GoesOn words tells q r) (reads : ReadsOn (view q) (view r)) where
-      pub tried-read : leaves (view p) (view r) → HasTried leaves words tells p r old mid
-      tried-read = tried-more h r goes reads.0.start reads.0.frames.0
+-- no round was made yet, and then one more
+module _ {X : Type 0} (round : View X → View X → Type 0) where
+  pub has-none : (v : View X) → HasRounds round 0 v v
+  has-none v = (rounds.none, refl)
 
-      pub tried-call : (w : Pass U X o) (new : Interface) → GoesOn words tells r w → AreHeld new.frames (view w)
-          → LosesNone mid.frames (view r) new.frames (view w)
-          → (new.home ≡ mid.home) × (new.cap ≡ mid.cap) → leaves (view p) (view w) → HasTried leaves words tells p w old new
-      tried-call = tried-fetch h r goes reads.0.start reads.0.frames.0
+  pub has-further : (n : ℕ) (v x w : View X) → HasRounds round n v x → round x w → HasRounds round (n + 1) v w
+  has-further n v x w made last = (rounds.further x w made.0 last, (let e = made.1 in omega (arith, e)))

@@ -1,2 +1,9 @@
 pub mod Reads
 pub mod Waiting
+pub mod from_vm_clock
+pub mod from_vm_evict
+pub mod from_vm_exmap
+pub mod from_vm_guard
+pub mod from_vm_kind
+pub mod from_vm_pool
+pub mod from_vm_tree_rule

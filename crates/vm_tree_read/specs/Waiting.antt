@@ -1,16 +1,19 @@
--- What a read leaves and answers that waits: tries, and pages brought in between, until a try is answered or a page can't be brought.
-use Rattle.std.specs.Prelude.{[], ◌++◌, ◌∷◌, ◌≡◌, ◌⊎◌, false, List, true, ℕ}
+-- What a read leaves and answers that is tried again: tries, and pages brought in between, until a try is answered or a
+-- page can't be brought, or as many were made as may be.
+use Rattle.std.specs.Prelude.{[], ◌++◌, ◌∷◌, ◌≡◌, ◌⊎◌, false, List, suc, true, ℕ}
 use Rattle.vm_map.specs.{declared.call.Said.Said}
 use Rattle.vm_tree_model.specs.{Layout.Layout, Tree.map_of}
-use Rattle.vm_rule.specs.Prelude.{entry_of, has, IsLocking, seat_of, StartsWith}
-use Rattle.vm_step.specs.Prelude.{HoldsPage, KeepsNumbers, KnowsAsBefore, NoneExpected, StaysAlone, View}
-use Rattle.vm_step.specs.declared.saw.Saw.{Saw}
+use Rattle.vm_pool.specs.from_vm_rule.Prelude.{entry_of, has, IsLocking, seat_of, StartsWith}
+use Rattle.vm_tree_rule.specs.from_vm_step.Prelude.{HoldsPage, KeepsNumbers, KnowsAsBefore, NoneExpected, StaysAlone, View}
+use Rattle.vm_tree_rule.specs.from_vm_step.declared_saw_Saw.{Saw}
 use Rattle.vm_pool.specs.{Brings.IsBring, declared.bring.Bring.Bring}
 use Rattle.vm_pool.specs.declared.bring.Bring.TheVariants as brings
 use Rattle.vm_tree_laws.specs.{History.IsLegal, Plain.plain_history}
 use Rattle.vm_tree_rule.specs.{declared.fault.TreeFault.TreeFault, Leaves.ReadsOn, Shown.IsShown, Turns.IsDamaged, Turns.IsNeeded}
 use Rattle.vm_tree_rule.specs.declared.fault.TreeFault.TheVariants as faults
 use Rattle.vm_tree_read.specs.Reads.{GainsEntry, IsAnswered, key_of}
+use Rattle.vm_tree_read.specs.declared.round.Round.{Round}
+use Rattle.vm_tree_read.specs.declared.round.Round.TheVariants as comes
 
 -- the fault that such an answer names, where it names one
 abbrev pub NamesFault : Bring → TreeFault → Type 0
@@ -67,8 +70,15 @@ module _ {X : Type 0} where
     pub brings : IsBring home cap p old new before after v w answer
     pub none : NamesNone answer
 
+-- what a round came to: an answer, of which `done` tells; none, of which `undone` tells; or a fault, of which `failed` tells
+abbrev pub RoundTells : {T : Type 0} → (T → Type 0) → Type 0 → (TreeFault → Type 0) → Round T → Type 0
+RoundTells done undone failed (comes.Done answer) = done answer
+RoundTells done undone failed comes.Soon = undone
+RoundTells done undone failed comes.Later = undone
+RoundTells done undone failed (comes.Failed fault) = failed fault
+
 module _ {X : Type 0} where
-  -- A round of a call that waits: a try, from v on, was not answered, since others came before, as the steps of this
+  -- A round of a call: a try, from v on, was not answered, since others came before, as the steps of this
   -- try show; or it needed a page, which was then to be brought, once, and the answer named no fault. An exchange of the
   -- try may expect a word in the place of one that it read as `expects` tells
   pub data IsRound (L : Layout) (expects : ℕ → ℕ → Type 0) (key : ℕ) (v w : View X) : Type 0 where
@@ -79,6 +89,15 @@ module _ {X : Type 0} where
   pub data AreRounds (round : View X → View X → Type 0) (v : View X) : View X → Type 0 where
     none : AreRounds round v v
     further : (x w : View X) → AreRounds round v x → round x w → AreRounds round v w
+
+  -- how many they are
+  abbrev pub rounds_in : {round : View X → View X → Type 0} {v w : View X} → AreRounds round v w → ℕ
+  rounds_in none = 0
+  rounds_in (further x w before last) = suc (rounds_in before)
+
+  -- so many rounds were made, and none of them was answered
+  abbrev pub HasRounds : (View X → View X → Type 0) → ℕ → View X → View X → Type 0
+  HasRounds round n v w = (r : AreRounds round v w) × (rounds_in r ≡ n)
 
   -- a try, from v on, needed a page, which could not be brought; or it met a damaged page
   pub data IsReadFault (L : Layout) (key : ℕ) (fault : TreeFault) (v w : View X) : Type 0 where

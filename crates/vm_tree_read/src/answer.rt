@@ -2,9 +2,9 @@
 ghost use Rattle.std.specs.Prelude.{[], ◌*◌, ◌+◌, ◌≡◌, ◌≤◌, IfErr, IfOk, IsOk, length, List, Some, true, ℕ};
 ghost use Rattle.vm_tree_model.specs.{Node.Covers, Page.node_of};
 ghost use Rattle.vm_node.specs.Loads.{IsAnswer, IsPageWith, Tells};
-ghost use Rattle.vm_step.specs.Prelude.{GoesOn, IsReadyOn, NoneExpected, view};
-ghost use Rattle.vm_guard.specs.{Guards.IsReading, Guards.Loads, Guards.placed, PageWords.LoadsWords};
-ghost use Rattle.vm_guard.specs.Denied.{AgainOrNeed, IsDenied, KeptWord};
+ghost use Rattle.vm_tree_rule.specs.from_vm_step.Prelude.{GoesOn, IsReadyOn, NoneExpected, view};
+ghost use Rattle.vm_pool.specs.from_vm_guard.{Guards.IsReading, Guards.Loads, Guards.placed, PageWords.LoadsWords};
+ghost use Rattle.vm_pool.specs.from_vm_guard.Denied.{AgainOrNeed, IsDenied, KeptWord};
 ghost use Rattle.vm_tree_rule.specs.{Above.IsAbove, Above.IsLeafOn, Above.KnowsAbove, Leaves.ReadsOn};
 ghost use Rattle.vm_tree_rule.specs.Standing.{Awaits, AwaitsNode, fence_of, IsOpened};
 ghost use Rattle.vm_tree_rule.specs.Ways.{IsOnWay, TellNoNode};
@@ -15,11 +15,11 @@ ghost use Rattle.vm_tree_rule.specs.Turns.{IsTurnedBack, TellLeaf};
 ghost use Rattle.vm_tree_read.specs.Reads.{IsAnswered, IsLeafBetween, TellReply};
 
 use vm_block::Block;
-use vm_guard::{Deny, OptGuard};
-use vm_kind::{Kind, Pages, TreeOf};
 use vm_node::Place;
-use vm_rule::words::{Pass, Words};
-use vm_step::{Saw, frame_place};
+use vm_pool::vm_guard::{Deny, OptGuard};
+use vm_pool::vm_rule::words::{Pass, Words};
+use vm_tree_rule::vm_kind::{Kind, Pages, TreeOf};
+use vm_tree_rule::vm_step::{Saw, frame_place};
 use vm_tree_rule::{InPlace, Reached, Turn, descend, reach};
 
 /// Whether the page is a leaf with just these fences, from the words loaded that tell its tag and its fences.

@@ -5,20 +5,20 @@ ghost use Rattle.vm_map.specs.declared.call.Call.TheVariants.{Get, Window as For
 ghost use Rattle.vm_map.specs.declared.call.Reply.TheVariants.{Got};
 ghost use Rattle.vm_tree_model.specs.Page.{pairs_of};
 ghost use Rattle.vm_node.specs.{Loads.IsPageWith, Shows.ShowsFirst};
-ghost use Rattle.vm_step.specs.Prelude.{GoesOn, IsReadyOn, view};
-ghost use Rattle.vm_guard.specs.Guards.{IsReading};
+ghost use Rattle.vm_tree_rule.specs.from_vm_step.Prelude.{GoesOn, IsReadyOn, view};
+ghost use Rattle.vm_pool.specs.from_vm_guard.Guards.{IsReading};
 ghost use Rattle.vm_tree_rule.specs.{Resident.KnowsResident, Turns.IsTurnedBack};
 ghost use Rattle.vm_tree_rule.specs.Few.{LoadsHeight, LoadsWithin, ReadsInPlace};
 ghost use Rattle.vm_tree_read.specs.Reads.{IsAnswered, IsDone, IsDoneInKind, IsTried};
 
 use crate::answer::{answer, leaf_at};
 use vm_block::Block;
-use vm_guard::OptGuard;
-use vm_kind::{Kind, TreeOf, Windows};
 use vm_map::call::Reply;
 use vm_map::window::{MOST_PAIRS, Window};
-use vm_rule::words::{Pass, Words};
-use vm_step::{Saw, frame_place};
+use vm_pool::vm_guard::OptGuard;
+use vm_pool::vm_rule::words::{Pass, Words};
+use vm_tree_rule::vm_kind::{Kind, TreeOf, Windows};
+use vm_tree_rule::vm_step::{Saw, frame_place};
 use vm_tree_rule::{InPlace, Turn};
 
 /// What a try of a read answers.

@@ -3,18 +3,19 @@ use Rattle.std.proofs.Common.{[], ⊎_elim, ◌++◌, ◌<◌, ◌∙◌, ◌∷
 use Rattle.vm_map.specs.declared.call.Call.TheVariants.{Del}
 use Rattle.vm_map.specs.{declared.call.Reply.Reply, declared.call.Said.Said}
 use Rattle.vm_tree_model.specs.{Layout.Layout, Tree.map_of}
-use Rattle.vm_rule.specs.Prelude.{Entry, entry_of, IsLocking, seat_of, StartsWith}
-use Rattle.vm_rule.proofs.Entries.{append-none}
-use Rattle.vm_step.specs.Prelude.{HoldsPage, KnowsAsBefore, Origin, UnlockedExpected, View}
-use Rattle.vm_step.specs.declared.saw.Saw.{Saw}
-use Rattle.vm_step.proofs.Asides.{holds-then, knows-then, still-locking}
-use Rattle.vm_guard.specs.declared.deny.Deny.TheVariants as denies
+use Rattle.vm_tree_write.specs.from_vm_rule.Prelude.{Entry, entry_of, IsLocking, seat_of, StartsWith}
+use Rattle.vm_tree_write.proofs.from_vm_rule.Entries.{append-none}
+use Rattle.vm_tree_write.specs.from_vm_step.Prelude.{HoldsPage, KnowsAsBefore, Origin, UnlockedExpected, View}
+use Rattle.vm_tree_write.specs.from_vm_step.declared_saw_Saw.{Saw}
+use Rattle.vm_tree_write.proofs.from_vm_step.Asides.{holds-then, knows-then, still-locking}
+use Rattle.vm_tree_write.specs.from_vm_guard.declared_deny_Deny_TheVariants as denies
 use Rattle.vm_tree_laws.specs.{History.IsLegal, Plain.plain_history}
-use Rattle.vm_tree_rule.specs.{Leaves.ReadsOn, Shown.IsShown, Turns.IsNeeded}
-use Rattle.vm_tree_read.specs.{Reads.GainsEntry, Reads.IsAnswered, Waiting.AreRounds, Waiting.IsNoBringFault}
-use Rattle.vm_tree_read.specs.Waiting.{IsRound as round}
-use Rattle.vm_tree_split.specs.Splits.{KeepsLocksOnly}
-use Rattle.vm_tree_split.proofs.{Refusing.denied-keeps, Trying.reads-keep}
+use Rattle.vm_tree_write.specs.from_vm_tree_rule.{Leaves.ReadsOn, Shown.IsShown, Turns.IsNeeded}
+use Rattle.vm_tree_write.specs.from_vm_tree_read.{Reads.GainsEntry, Reads.IsAnswered, Waiting.AreRounds}
+use Rattle.vm_tree_write.specs.from_vm_tree_read.{Waiting.HasRounds, Waiting.IsNoBringFault, Waiting.rounds_in}
+use Rattle.vm_tree_write.specs.from_vm_tree_read.Waiting.{IsRound as round}
+use Rattle.vm_tree_write.specs.from_vm_tree_split.Splits.{KeepsLocksOnly}
+use Rattle.vm_tree_write.proofs.from_vm_tree_split.{Refusing.denied-keeps, Trying.reads-keep}
 use Rattle.vm_tree_write.specs.Prelude.{IsLockLost, IsMergeDone, IsNeededBeside}
 use Rattle.vm_tree_write.specs.declared.write.TryWrite.TheVariants as tries
 use Rattle.vm_tree_retry.specs.Waiting.{IsDelReplied, IsDelRound, IsDelRound as del_round, IsNeededByDel}
@@ -27,7 +28,8 @@ module _ {X : Type 0} (L : Layout) (key : ℕ) (saw : Saw) (v w : View X) where
   ToTry = (ReadsOn v w × IsShown UnlockedExpected v saw w) ⊎ IsLockLost L v saw w
 
   pub again-keeps : ToTry → KeepsLocksOnly v w
-  again-keeps a = ⊎_elim (λ (r : ReadsOn v w × IsShown UnlockedExpected v saw w). reads-keep v w r.0) (λ (l : IsLockLost L v saw w). l.keeps) a
+  again-keeps a =
+      ⊎_elim (λ (r : ReadsOn v w × IsShown UnlockedExpected v saw w). reads-keep v w r.0) (λ (l : IsLockLost L v saw w). l.keeps) a
 
   -- it has just the frames that it had
   pub again-frames : ToTry → (w.start ≡ v.start) × (w.frames ≡ v.frames)
@@ -207,3 +209,10 @@ module _ {S : Type 0} (plain : S → Said) (L : Layout) where
           start = a.start;
           parts = a.parts;
         }
+
+    -- and fewer rounds were made than may be
+    pub del-replied-within : (turns n : ℕ) (v x w : View S) → KeepsLocksOnly v x × HasRounds (IsDelRound L key) n v x → n < turns
+        → IsDel plain L key (tries.Done reply) x w → (r : IsDelReplied plain L key reply v w) × (rounds_in r.rounds < turns)
+    unfolding del-replied
+    del-replied-within turns n v x w kept few done =
+        (del-replied v x w kept.0 kept.1.0 done, subst (λ (m : ℕ). m < turns) (sym kept.1.1) few)

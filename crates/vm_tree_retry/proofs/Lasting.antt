@@ -1,20 +1,21 @@
 -- The answer of a write that waited.
-use Rattle.std.proofs.Common.{[], inl, ⊎_elim, ◌++◌, ◌∙◌, ◌∷◌, ◌≡◌, ◌⊎◌, ap, append_assoc, List, subst, sym, true, ℕ}
+use Rattle.std.proofs.Common.{[], inl, ⊎_elim, ◌++◌, ◌<◌, ◌∙◌, ◌∷◌, ◌≡◌, ◌⊎◌, ap, append_assoc, List, subst, sym, true, ℕ}
 use Rattle.vm_map.specs.declared.call.Said.{Said}
 use Rattle.vm_tree_model.specs.{Layout.Layout, Tree.map_of}
-use Rattle.vm_rule.specs.Prelude.{Entry, entry_of, IsLocking, seat_of, StartsWith}
-use Rattle.vm_step.specs.Prelude.{HoldsPage, KnowsAsBefore, Origin, View}
-use Rattle.vm_step.proofs.Asides.{holds-then, knows-then, still-locking}
-use Rattle.vm_pool.specs.Brings.{KeepsLocks}
-use Rattle.vm_rule.proofs.Entries.{append-none}
+use Rattle.vm_tree_write.specs.from_vm_rule.Prelude.{Entry, entry_of, IsLocking, seat_of, StartsWith}
+use Rattle.vm_tree_write.specs.from_vm_step.Prelude.{HoldsPage, KnowsAsBefore, Origin, View}
+use Rattle.vm_tree_write.proofs.from_vm_step.Asides.{holds-then, knows-then, still-locking}
+use Rattle.vm_tree_write.specs.from_vm_pool.Brings.{KeepsLocks}
+use Rattle.vm_tree_write.proofs.from_vm_rule.Entries.{append-none}
 use Rattle.vm_tree_laws.specs.{History.IsLegal, Plain.plain_history}
-use Rattle.vm_tree_rule.specs.Leaves.{ReadsOn}
-use Rattle.vm_tree_read.specs.{Reads.GainsEntry, Reads.IsAnswered, Reads.key_of, Waiting.AreRounds, Waiting.Waits}
-use Rattle.vm_tree_read.proofs.Lasting.{bring-waits}
-use Rattle.vm_tree_split.specs.{Splits.KeepsLocksOnly}
+use Rattle.vm_tree_write.specs.from_vm_tree_rule.Leaves.{ReadsOn}
+use Rattle.vm_tree_write.specs.from_vm_tree_read.{Reads.GainsEntry, Reads.IsAnswered, Reads.key_of}
+use Rattle.vm_tree_write.specs.from_vm_tree_read.{Waiting.AreRounds, Waiting.HasRounds, Waiting.rounds_in, Waiting.Waits}
+use Rattle.vm_tree_write.proofs.from_vm_tree_read.Lasting.{bring-waits}
+use Rattle.vm_tree_write.specs.from_vm_tree_split.{Splits.KeepsLocksOnly}
 use Rattle.vm_tree_write.specs.{Writes.IsVain, Writes.IsWriteDone}
 use Rattle.vm_tree_retry.specs.{Waiting.IsWriteReplied}
-use Rattle.vm_tree_split.proofs.{Framing.entry-same, Framing.keeps-then, Numbering.worn-kept}
+use Rattle.vm_tree_write.proofs.from_vm_tree_split.{Framing.entry-same, Framing.keeps-then, Numbering.worn-kept}
 
 module _ {S : Type 0} (plain : S → Said) (L : Layout) where
   -- what both kinds of answers have
@@ -179,3 +180,12 @@ module _ {S : Type 0} (plain : S → Said) (L : Layout) where
         start = a.start ∙ k.start;
         parts = (a.parts.0 ∙ k.parts.0, a.parts.1 ∙ k.parts.1);
       }
+
+  -- and fewer rounds were made than may be
+  pub replied-within : (keeps : View S → View S → Type 0) (round : ℕ → View S → View S → Type 0) (turns n : ℕ) (said : Said)
+      (v x w : View S) → keeps v x × HasRounds (round (key_of said.call)) n v x → n < turns → Lasts v x
+      → (IsWriteDone plain L said x w × ¬ (IsVain said)) ⊎ (IsAnswered plain L said x w × IsVain said)
+      → (r : IsWriteReplied plain L keeps round said v w) × (rounds_in r.rounds < turns)
+  unfolding replied
+  replied-within keeps round turns n said v x w kept few k answered =
+      (replied keeps round said v x w (kept.0, kept.1.0) k answered, subst (λ (m : ℕ). m < turns) (sym kept.1.1) few)

@@ -1,2 +1,3 @@
 pub mod Lasting
 pub mod Deleting
+pub mod from_vm_tree_split

@@ -1,20 +1,21 @@
--- What a write answers that waits: tries, pages brought and nodes split in between, until a try is answered or can't be.
+-- What a write answers that is tried again: tries, pages brought and nodes split in between, until a try is answered or
+-- can't be, or as many were made as may be.
 use Rattle.std.specs.Prelude.{[], ◌++◌, ◌∷◌, ◌≡◌, ◌⊎◌, List, true, ℕ}
 use Rattle.vm_map.specs.{declared.call.Call.TheVariants.Del, declared.call.Reply.Reply, declared.call.Said.Said}
 use Rattle.vm_tree_model.specs.{Layout.Layout, Tree.map_of}
-use Rattle.vm_rule.specs.Prelude.{Entry, entry_of, IsLocking, seat_of, StartsWith}
-use Rattle.vm_step.specs.Prelude.{HoldsPage, KnowsAsBefore, UnlockedExpected, View}
-use Rattle.vm_step.specs.declared.saw.Saw.{Saw}
-use Rattle.vm_evict.specs.declared.report.Report.{Report}
-use Rattle.vm_pool.specs.{Brings.SaysDry, declared.bring.Bring.Bring, Sweeps.IsSwept}
+use Rattle.vm_tree_write.specs.from_vm_rule.Prelude.{Entry, entry_of, IsLocking, seat_of, StartsWith}
+use Rattle.vm_tree_write.specs.from_vm_step.Prelude.{HoldsPage, KnowsAsBefore, UnlockedExpected, View}
+use Rattle.vm_tree_write.specs.from_vm_step.declared_saw_Saw.{Saw}
+use Rattle.vm_tree_write.specs.from_vm_evict.declared_report_Report.{Report}
+use Rattle.vm_tree_write.specs.from_vm_pool.{Brings.SaysDry, declared_bring_Bring.Bring, Sweeps.IsSwept}
 use Rattle.vm_tree_laws.specs.{History.IsLegal, Plain.plain_history}
-use Rattle.vm_kind.specs.Room.{HasRoomFor}
-use Rattle.vm_tree_rule.specs.{declared.fault.TreeFault.TreeFault, Leaves.ReadsOn, Turns.IsDamaged, Turns.IsNeeded}
-use Rattle.vm_tree_rule.specs.declared.fault.TreeFault.TheVariants as faults
-use Rattle.vm_tree_read.specs.Reads.{GainsEntry, IsAnswered, key_of}
-use Rattle.vm_tree_read.specs.Waiting.{AreRounds, IsBringFault, IsNoBringFault, IsRound, NamesFault, NamesNone}
-use Rattle.vm_tree_split.specs.{Splits.KeepsLocksOnly, Tries.IsCause, Tries.IsEnded, Tries.MetNoFullNode}
-use Rattle.vm_tree_split.specs.declared.tries.TrySplit.TheVariants as splits
+use Rattle.vm_tree_write.specs.from_vm_kind.Room.{HasRoomFor}
+use Rattle.vm_tree_write.specs.from_vm_tree_rule.{declared_fault_TreeFault.TreeFault, Leaves.ReadsOn, Turns.IsDamaged, Turns.IsNeeded}
+use Rattle.vm_tree_write.specs.from_vm_tree_rule.declared_fault_TreeFault_TheVariants as faults
+use Rattle.vm_tree_write.specs.from_vm_tree_read.Reads.{GainsEntry, IsAnswered, key_of}
+use Rattle.vm_tree_write.specs.from_vm_tree_read.Waiting.{AreRounds, IsBringFault, IsNoBringFault, IsRound, NamesFault, NamesNone}
+use Rattle.vm_tree_write.specs.from_vm_tree_split.{Splits.KeepsLocksOnly, Tries.IsCause, Tries.IsEnded, Tries.MetNoFullNode}
+use Rattle.vm_tree_write.specs.from_vm_tree_split.declared_tries_TrySplit_TheVariants as splits
 use Rattle.vm_tree_write.specs.Prelude.{IsDamagedBeside, IsLockLost, IsNeededBeside}
 use Rattle.vm_tree_write.specs.declared.write.TryWrite.TheVariants as tries
 use Rattle.vm_tree_write.specs.Writes.{IsDel, IsTight, IsVain, IsWornLeaf, IsWriteDone}
@@ -63,20 +64,25 @@ module _ {X : Type 0} (L : Layout) where
   abbrev pub IsDamagedForDel : View X → ℕ → ℕ → View X → Type 0
   IsDamagedForDel v key p w = IsDamaged L v key p w ⊎ IsDamagedBeside L v key p w
 
-  -- the last try, after such rounds, needed a page, as `needs` tells, that could not be brought, or met a damaged one, as
-  -- `meets` tells, or reached a leaf at the last version which it would have written, as `may` tells of its words
-  pub data IsWriteFaulted (keeps : View X → View X → Type 0) (round : ℕ → View X → View X → Type 0)
+  -- a try needed a page, as `needs` tells, that could not be brought, or met a damaged one, as `meets` tells, or reached a
+  -- leaf at the last version which it would have written, as `may` tells of its words
+  pub data IsWriteFault (needs meets : View X → ℕ → ℕ → View X → Type 0) (may : List ℕ → ℕ → Type 0)
+      (key : ℕ) (fault : TreeFault) (v w : View X) : Type 0 where
+    missing : (page : ℕ) (x : View X) → ReadsOn v x → needs v key page x → IsBringFault page fault x w
+        → IsWriteFault needs meets may key fault v w
+    damaged : (page : ℕ) → ReadsOn v w → meets v key page w → fault ≡ faults.Damaged page → IsWriteFault needs meets may key fault v w
+    worn : (page : ℕ) → ReadsOn v w → (a : IsWornLeaf L v key page w) → may a.words key → fault ≡ faults.Worn page
+        → IsWriteFault needs meets may key fault v w
+
+  -- the last try, after such rounds, ended so
+  pub record IsWriteFaulted (keeps : View X → View X → Type 0) (round : ℕ → View X → View X → Type 0)
       (needs meets : View X → ℕ → ℕ → View X → Type 0) (may : List ℕ → ℕ → Type 0)
       (key : ℕ) (fault : TreeFault) (v w : View X) : Type 0 where
-    missing :
-        (tried found : View X) (page : ℕ) → AreRounds (round key) v tried → keeps v tried → ReadsOn tried found → needs tried key page found
-        → IsBringFault page fault found w → keeps v w → IsWriteFaulted keeps round needs meets may key fault v w
-    damaged :
-        (tried : View X) (page : ℕ) → AreRounds (round key) v tried → keeps v tried → ReadsOn tried w → meets tried key page w
-        → fault ≡ faults.Damaged page → keeps v w → IsWriteFaulted keeps round needs meets may key fault v w
-    worn :
-        (tried : View X) (page : ℕ) → AreRounds (round key) v tried → keeps v tried → ReadsOn tried w → (a : IsWornLeaf L tried key page w)
-        → may a.words key → fault ≡ faults.Worn page → keeps v w → IsWriteFaulted keeps round needs meets may key fault v w
+    pub tried : View X
+    pub rounds : AreRounds (round key) v tried
+    pub waits : keeps v tried
+    pub why : IsWriteFault needs meets may key fault tried w
+    pub leaves : keeps v w
 
 module _ {S : Type 0} (plain : S → Said) (L : Layout) where
   -- The last try of a del was answered: the pair was taken out of its leaf, alone or with a merge, or a read shows
@@ -136,10 +142,16 @@ module _ {S : Type 0} (plain : S → Said) (L : Layout) (spare : List ℕ → �
     round : IsWriteRound L key v w → IsPutRound key v w
     tight : (page : ℕ) (x : View S) → ReadsOn v x → IsTight L spare v key page x → IsNoRoomFault key x w → IsPutRound key v w
 
-  -- the last try of a put, after such rounds, needed a page that could not be brought, or met a damaged page, or reached
-  -- a leaf at the last version, or met a full leaf for which no room could be made
-  pub data IsPutFaulted (key : ℕ) (fault : TreeFault) (v w : View S) : Type 0 where
-    faulted : IsWriteFaulted L KeepsLocksOnly IsPutRound (IsNeeded L) (IsDamaged L) (HasRoomFor L spare) key fault v w → IsPutFaulted key fault v w
-    tight :
-        (tried found : View S) (page : ℕ) → AreRounds (IsPutRound key) v tried → KeepsLocksOnly v tried → ReadsOn tried found
-        → IsTight L spare tried key page found → IsRoomFault key fault found w → KeepsLocksOnly v w → IsPutFaulted key fault v w
+  -- a try of a put needed a page that could not be brought, or met a damaged page, or reached a leaf at the last version,
+  -- or met a full leaf for which no room could be made
+  pub data IsPutFault (key : ℕ) (fault : TreeFault) (v w : View S) : Type 0 where
+    unwritten : IsWriteFault L (IsNeeded L) (IsDamaged L) (HasRoomFor L spare) key fault v w → IsPutFault key fault v w
+    tight : (page : ℕ) (x : View S) → ReadsOn v x → IsTight L spare v key page x → IsRoomFault key fault x w → IsPutFault key fault v w
+
+  -- the last try of a put, after such rounds, ended so
+  pub record IsPutFaulted (key : ℕ) (fault : TreeFault) (v w : View S) : Type 0 where
+    pub tried : View S
+    pub rounds : AreRounds (IsPutRound key) v tried
+    pub waits : KeepsLocksOnly v tried
+    pub why : IsPutFault key fault tried w
+    pub leaves : KeepsLocksOnly v w

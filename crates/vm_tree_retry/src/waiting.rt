@@ -1,26 +1,25 @@
-// The writes that wait: they try again until they are answered, and bring the pages that they need.
-ghost use Rattle.std.specs.Prelude.{◌<◌, ◌≡◌, ◌≤◌, IfErr, IfOk, None};
+// The writes that wait: one round after another (see `round`) until one is answered, and a rest where others came before.
+ghost use Rattle.std.specs.Prelude.{◌≡◌, ◌≤◌, IfErr, IfOk, None};
 ghost use Rattle.vm_map.specs.declared.call.Call.TheVariants.{Del, Put, Swap as ForSwap};
-ghost use Rattle.vm_step.specs.Prelude.{AreHeld, GoesOn, IsReadyOn, view};
-ghost use Rattle.vm_tree_read.specs.Reads.{IsOfKind};
-ghost use Rattle.vm_tree_read.specs.Waiting.{LosesNone, Waits};
-ghost use Rattle.vm_tree_rule.specs.Turns.{IsDamaged, IsNeeded};
-ghost use Rattle.vm_tree_split.specs.{Splits.KeepsLocksOnly, Tries.IsTrySplit};
+ghost use Rattle.vm_tree_write.specs.from_vm_step.Prelude.{AreHeld, GoesOn, IsReadyOn, view};
+ghost use Rattle.vm_tree_write.specs.from_vm_tree_read.Reads.{IsOfKind};
+ghost use Rattle.vm_tree_write.specs.from_vm_tree_read.Waiting.{LosesNone, Waits};
+ghost use Rattle.vm_tree_write.specs.from_vm_tree_rule.Turns.{IsDamaged, IsNeeded};
+ghost use Rattle.vm_tree_write.specs.from_vm_tree_split.Splits.{KeepsLocksOnly};
 ghost use Rattle.vm_tree_write.specs.Writes.{HasKeyIn, HasValueIn};
-ghost use Rattle.vm_tree_retry.specs.Waiting.{IsDamagedForDel, IsDelReplied, IsDelRound, IsNeededByDel, IsNoRoomFault, IsPutFaulted, IsPutRound, IsRoomFault, IsWriteFaulted, IsWriteReplied, IsWriteRound};
+ghost use Rattle.vm_tree_retry.specs.Waiting.{IsDamagedForDel, IsDelReplied, IsDelRound, IsNeededByDel, IsPutFaulted, IsPutRound, IsWriteFaulted, IsWriteReplied, IsWriteRound};
 
+use crate::round::{del_round, put_round, swap_round};
 use crossbeam_utils::Backoff;
 use std::sync::Wait;
 use vm_block::PageBlock;
-use vm_exmap::Interface;
-use vm_kind::{Edits, Kind, Merges, TreeOf};
 use vm_map::call::{Reply, Swap};
-use vm_pool::{Pool, dry_cause};
-use vm_rule::words::Pass;
-use vm_tree_read::waiting::{fetch, settle};
-use vm_tree_rule::TreeFault;
-use vm_tree_split::{TrySplit, try_split};
-use vm_tree_write::write::{Tried, del_once, put_once, swap_once};
+use vm_tree_write::vm_exmap::Interface;
+use vm_tree_write::vm_kind::{Edits, Merges, TreeOf};
+use vm_tree_write::vm_pool::Pool;
+use vm_tree_write::vm_rule::words::Pass;
+use vm_tree_write::vm_tree_read::round::Round;
+use vm_tree_write::vm_tree_rule::TreeFault;
 
 /// Takes the pair of the key out.
 pub fn del<K: Merges, R: Wait, B: PageBlock<N>, const N: usize>(
@@ -45,16 +44,11 @@ pub fn del<K: Merges, R: Wait, B: PageBlock<N>, const N: usize>(
 {
     let backoff = Backoff::new();
     for _ in rt.forever() {
-        match del_once(&pool.words, pass, key) {
-            Tried::Done(was) => return Ok(Reply::Gone(was)),
-            Tried::Again(_) => backoff.snooze(),
-            Tried::Need(pid) => match fetch(pool, pass, iface, pid, &backoff) {
-                Ok(()) => {}
-                Err(fault) => return Err(fault),
-            },
-            Tried::Worn(pid) => return Err(TreeFault::Worn { pid }),
-            Tried::Damaged(pid) => return Err(TreeFault::Damaged { pid }),
-            Tried::Tight(_) => unreachable!(),
+        match del_round(pool, pass, iface, key) {
+            Round::Done(was) => return Ok(Reply::Gone(was)),
+            Round::Soon => {}
+            Round::Later => backoff.snooze(),
+            Round::Failed(fault) => return Err(fault),
         }
     }
     unreachable!()
@@ -86,63 +80,14 @@ pub fn swap<K: Edits, R: Wait, B: PageBlock<N>, const N: usize>(
 {
     let backoff = Backoff::new();
     for _ in rt.forever() {
-        match swap_once(&pool.words, pass, key, want, value) {
-            Tried::Done(was) => return Ok(Reply::Swapped(Swap::outcome(was, want))),
-            Tried::Again(_) => backoff.snooze(),
-            Tried::Need(pid) => match fetch(pool, pass, iface, pid, &backoff) {
-                Ok(()) => {}
-                Err(fault) => return Err(fault),
-            },
-            Tried::Worn(pid) => return Err(TreeFault::Worn { pid }),
-            Tried::Damaged(pid) => return Err(TreeFault::Damaged { pid }),
-            Tried::Tight(_) => unreachable!(),
+        match swap_round(pool, pass, iface, key, want, value) {
+            Round::Done(was) => return Ok(Reply::Swapped(Swap::outcome(was, want))),
+            Round::Soon => {}
+            Round::Later => backoff.snooze(),
+            Round::Failed(fault) => return Err(fault),
         }
     }
     unreachable!()
-}
-
-/// Goes on after a try to make room for a key by a split: brings the page that it needs, frees frames, or waits for others.
-fn after_split<K: Kind, B: PageBlock<N>, const N: usize>(
-    pool: &Pool<TreeOf<K>, B, N>,
-    pass: &mut Pass<TreeOf<K>>,
-    iface: &mut Interface,
-    answer: TrySplit,
-    backoff: &Backoff,
-) -> Result<(), TreeFault>
-    requires ready { IsReadyOn pool.now.words B.tells pass.old }
-    requires home { (view pass.old).out ≡ None }
-    requires frames { AreHeld iface.old.frames (view pass.old) }
-    requires tried { (key : _) × (v : _) × IsTrySplit K.plain K.layout K.spare key answer v (view pass.old) }
-    ensures goes { GoesOn pool.now.words B.tells pass.old pass.new }
-    ensures held { AreHeld iface.new.frames (view pass.new) }
-    ensures iface { (iface.new.home ≡ iface.old.home) × (iface.new.cap ≡ iface.old.cap) }
-    ensures lost { LosesNone iface.old.frames (view pass.old) iface.new.frames (view pass.new) }
-    ensures keeps { KeepsLocksOnly (view pass.old) (view pass.new) }
-    ensures ok { IfOk result (λ _. (key : _) (v : _) → IsTrySplit K.plain K.layout K.spare key answer v (view pass.old)
-        → IsNoRoomFault K.plain K.layout K.spare key v (view pass.new)) }
-    ensures err { IfErr result (λ fault. (key : _) (v : _) → IsTrySplit K.plain K.layout K.spare key answer v (view pass.old)
-        → IsRoomFault K.plain K.layout K.spare key fault v (view pass.new)) }
-{
-    match answer {
-        TrySplit::Split => Ok(()),
-        TrySplit::Roomy => Ok(()),
-        TrySplit::Again(_) => {
-            backoff.snooze();
-            Ok(())
-        }
-        TrySplit::Need(pid) => fetch(pool, pass, iface, pid, backoff),
-        TrySplit::Worn(pid) => Err(TreeFault::Worn { pid }),
-        TrySplit::Damaged(pid) => Err(TreeFault::Damaged { pid }),
-        TrySplit::Full {
-            pages,
-            next: _,
-            need: _,
-        } => Err(TreeFault::Full { pages }),
-        TrySplit::Dry => {
-            let report = pool.sweep(pass, iface, iface.cap);
-            settle(dry_cause(&report), backoff)
-        }
-    }
 }
 
 /// Puts a value at the key.
@@ -169,22 +114,11 @@ pub fn put<K: Edits, R: Wait, B: PageBlock<N>, const N: usize>(
 {
     let backoff = Backoff::new();
     for _ in rt.forever() {
-        match put_once(&pool.words, pass, key, value) {
-            Tried::Done(was) => return Ok(Reply::Was(was)),
-            Tried::Again(_) => backoff.snooze(),
-            Tried::Need(pid) => match fetch(pool, pass, iface, pid, &backoff) {
-                Ok(()) => {}
-                Err(fault) => return Err(fault),
-            },
-            Tried::Worn(pid) => return Err(TreeFault::Worn { pid }),
-            Tried::Damaged(pid) => return Err(TreeFault::Damaged { pid }),
-            Tried::Tight(_) => {
-                let answer = try_split(&pool.words, pass, iface, key);
-                match after_split(pool, pass, iface, answer, &backoff) {
-                    Ok(()) => {}
-                    Err(fault) => return Err(fault),
-                }
-            }
+        match put_round(pool, pass, iface, key, value) {
+            Round::Done(was) => return Ok(Reply::Was(was)),
+            Round::Soon => {}
+            Round::Later => backoff.snooze(),
+            Round::Failed(fault) => return Err(fault),
         }
     }
     unreachable!()

@@ -4,8 +4,8 @@ use Rattle.std.proofs.lemmas.List.{length-append, length-map}
 use Rattle.vm_rule.specs.Prelude.{loads_at}
 use Rattle.vm_rule.proofs.Entries.{append-none}
 use Rattle.vm_step.specs.Prelude.{View}
-use Rattle.vm_guard.specs.PageWords.{LoadsWords}
-use Rattle.vm_guard.proofs.PageLoads.{words-then}
+use Rattle.vm_kind.specs.from_vm_guard.PageWords.{LoadsWords}
+use Rattle.vm_kind.proofs.from_vm_guard.PageLoads.{words-then}
 use Rattle.vm_step.proofs.Asides.{starts-then}
 use Rattle.vm_tree_rule.specs.Few.{HasHeight, height_in, LoadsAtMost, LoadsHeight, LoadsWithin, ReadsInPlace}
 use Rattle.vm_tree_rule.specs.Standing.{IsOpened}

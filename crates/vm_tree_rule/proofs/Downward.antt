@@ -5,8 +5,8 @@ use Rattle.vm_tree_model.specs.{Edits.child_of, Layout.Layout, Page.IsInner}
 use Rattle.vm_core.specs.Prelude.{LoadsAre, version_of}
 use Rattle.vm_rule.specs.Prelude.{began_of, Each, last_of, loads_at}
 use Rattle.vm_step.specs.Prelude.{Origin, Tie, View}
-use Rattle.vm_guard.specs.{Guards.BeginsReading, Guards.Loads, PageWords.LoadsWords}
-use Rattle.vm_guard.proofs.Starting.{each-at}
+use Rattle.vm_kind.specs.from_vm_guard.{Guards.BeginsReading, Guards.Loads, PageWords.LoadsWords}
+use Rattle.vm_kind.proofs.from_vm_guard.Starting.{each-at}
 use Rattle.vm_tree_laws.specs.{Descent.IsReached, Descent.IsReachedAs, Tied.IsNodeAs, Tied.IsTied, Tied.Tied}
 use Rattle.vm_tree_laws.proofs.Descents.{kind_by_level, reached_as, reached_child}
 use Rattle.vm_tree_rule.specs.{Few.HasHeight, Leaves.OnlyReads, Turns.LoadsName}

@@ -11,11 +11,11 @@ use Rattle.vm_rule.specs.Looks.{tie_of}
 use Rattle.vm_step.specs.Prelude.{Did, HasGiven, IsKeptNow, NoneExpected, NoWord, Origin, ReadsAsBefore, Tie, View}
 use Rattle.vm_step.specs.declared.saw.At.TheVariants as ats
 use Rattle.vm_step.specs.declared.saw.Saw.{Saw}
-use Rattle.vm_guard.specs.declared.deny.Deny.{Deny}
-use Rattle.vm_guard.specs.declared.deny.Deny.TheVariants as denies
-use Rattle.vm_guard.specs.Denied.{AgainOrNeed, IsDenied, KeptWord}
-use Rattle.vm_guard.specs.Guards.{BeginsReading, IsReading, IsValid}
-use Rattle.vm_guard.proofs.Reading.{reading-kept}
+use Rattle.vm_kind.specs.from_vm_guard.declared_deny_Deny.{Deny}
+use Rattle.vm_kind.specs.from_vm_guard.declared_deny_Deny_TheVariants as denies
+use Rattle.vm_kind.specs.from_vm_guard.Denied.{AgainOrNeed, IsDenied, KeptWord}
+use Rattle.vm_kind.specs.from_vm_guard.Guards.{BeginsReading, IsReading, IsValid}
+use Rattle.vm_kind.proofs.from_vm_guard.Reading.{reading-kept}
 use Rattle.vm_tree_laws.specs.{Plain.KeepsPlain, Tied.Tied}
 use Rattle.vm_tree_rule.specs.{declared.turn.Turn.Turn, Leaves.LeavesWord, Leaves.ReadsOn}
 use Rattle.vm_tree_rule.specs.declared.turn.Turn.TheVariants as turns

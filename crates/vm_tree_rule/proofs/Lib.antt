@@ -10,3 +10,4 @@ pub mod Surely
 pub mod Counting
 pub mod Reaching
 pub mod OnWay
+pub mod from_vm_step

@@ -4,8 +4,8 @@ use Rattle.vm_rule.specs.Prelude.{did_load, Each}
 use Rattle.vm_rule.specs.declared.view.WordPlace.TheVariants as places
 use Rattle.vm_step.specs.Prelude.{Did, HasGiven, NoWord, View}
 use Rattle.vm_step.specs.declared.saw.Saw.{Saw}
-use Rattle.vm_guard.specs.{declared.deny.Deny.Deny, Denied.IsDenied, Denied.KeptWord}
-use Rattle.vm_guard.specs.declared.deny.Deny.TheVariants as denies
+use Rattle.vm_kind.specs.from_vm_guard.{declared_deny_Deny.Deny, Denied.IsDenied, Denied.KeptWord}
+use Rattle.vm_kind.specs.from_vm_guard.declared_deny_Deny_TheVariants as denies
 use Rattle.vm_tree_rule.specs.{Leaves.LeavesWord, Shown.IsShown, Standing.IsOpened}
 use Rattle.vm_tree_rule.proofs.Readings.{leaves-then, log-then}
 use Rattle.vm_tree_rule.proofs.Showing.{saw-behind, saw-kept, seen-front}

@@ -7,8 +7,8 @@ use Rattle.vm_node.specs.Loads.{IsPageWith}
 use Rattle.vm_core.specs.Prelude.{LoadsAre}
 use Rattle.vm_rule.specs.Prelude.{last_of, loads_at}
 use Rattle.vm_step.specs.Prelude.{Origin, ReadsAsBefore, View}
-use Rattle.vm_guard.specs.declared.opt.OptGuard.{OptGuard}
-use Rattle.vm_guard.specs.Guards.{BeginsReading, IsReading, IsValid, Loads}
+use Rattle.vm_kind.specs.from_vm_guard.declared_opt_OptGuard.{OptGuard}
+use Rattle.vm_kind.specs.from_vm_guard.Guards.{BeginsReading, IsReading, IsValid, Loads}
 use Rattle.vm_tree_laws.specs.{Descent.IsReachedAs, Tied.IsNodeAs, Tied.Tied}
 use Rattle.vm_tree_laws.proofs.Descents.{child_as, child_there, reached_as}
 use Rattle.vm_tree_rule.specs.Leaves.{LeavesWord, ReadsOn}

@@ -3,7 +3,7 @@ use Rattle.std.proofs.Common.{[], ◌++◌, ◌∙◌, ◌≡◌, ◌≢◌, ap,
 use Rattle.vm_tree_model.specs.Layout.{Layout}
 use Rattle.vm_rule.proofs.Entries.{append-none}
 use Rattle.vm_step.specs.Prelude.{KnowsSame, View}
-use Rattle.vm_guard.specs.declared.opt.OptGuard.{OptGuard}
+use Rattle.vm_kind.specs.from_vm_guard.declared_opt_OptGuard.{OptGuard}
 use Rattle.vm_tree_rule.specs.declared.above.Above.{Above}
 use Rattle.vm_tree_rule.specs.declared.above.Above.TheVariants as aboves
 use Rattle.vm_tree_rule.specs.declared.descent.Stand.{Stand}

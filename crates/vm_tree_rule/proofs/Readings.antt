@@ -12,9 +12,9 @@ use Rattle.vm_rule.proofs.{Entries.append-none, Entries.each-map, Heard.each-bot
 use Rattle.vm_step.specs.Prelude.{Did, IsAlone, KnowsElse, Origin, ReadsAsBefore, Tie, View}
 use Rattle.vm_step.proofs.{Alone.still-alone, Tables.else-knows, Tables.else-self, Tables.else-then}
 use Rattle.vm_step.proofs.Asides.{alone-self, alone-then, holds-then, knows-then, numbers-then, starts-then, still-locking}
-use Rattle.vm_guard.specs.{declared.deny.Deny.Deny, Denied.IsDenied, Quiet.IsQuiet, Quiet.IsSteady, Quiet.IsUnmark}
-use Rattle.vm_guard.specs.Guards.{BeginsReading, IsReading, IsValid, Loads, placed}
-use Rattle.vm_guard.proofs.{Groups.each-with, Reading.reading-kept}
+use Rattle.vm_kind.specs.from_vm_guard.{declared_deny_Deny.Deny, Denied.IsDenied, Quiet.IsQuiet, Quiet.IsSteady, Quiet.IsUnmark}
+use Rattle.vm_kind.specs.from_vm_guard.Guards.{BeginsReading, IsReading, IsValid, Loads, placed}
+use Rattle.vm_kind.proofs.from_vm_guard.{Groups.each-with, Reading.reading-kept}
 use Rattle.vm_tree_rule.specs.Leaves.{IsAnyState, LeavesWord, OnlyClears, OnlyReads, ReadsOn}
 use Rattle.vm_tree_rule.specs.Standing.{IsOpened}
 use Rattle.vm_tree_rule.proofs.Showing.{nones-clear, nones-there, start-unmarks, unmarks-clear, unmarks-elsewhere}

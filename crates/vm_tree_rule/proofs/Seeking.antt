@@ -3,14 +3,14 @@ use Rattle.std.proofs.Common.{◌++◌, ◌<◌, ◌∙◌, ◌∷◌, ◌≡◌
 use Rattle.vm_tree_model.specs.{Layout.Layout, Page.IsInner}
 use Rattle.vm_node.specs.Loads.{IsPageWith}
 use Rattle.vm_node.proofs.Telling.{page_first, page_then}
-use Rattle.vm_inner.specs.Found.{FindsChild}
+use Rattle.vm_kind.specs.from_vm_inner.Found.{FindsChild}
 use Rattle.vm_rule.specs.Prelude.{last_of, loads_at}
 use Rattle.vm_step.specs.Prelude.{KnowsSame, Origin, ReadsAsBefore, View}
 use Rattle.vm_step.specs.declared.saw.At.TheVariants as ats
 use Rattle.vm_step.proofs.Alone.{still-alone}
-use Rattle.vm_guard.specs.declared.opt.OptGuard.{OptGuard}
-use Rattle.vm_guard.specs.Guards.{IsValid, Loads, placed}
-use Rattle.vm_guard.proofs.Reading.{reading-kept}
+use Rattle.vm_kind.specs.from_vm_guard.declared_opt_OptGuard.{OptGuard}
+use Rattle.vm_kind.specs.from_vm_guard.Guards.{IsValid, Loads, placed}
+use Rattle.vm_kind.proofs.from_vm_guard.Reading.{reading-kept}
 use Rattle.vm_tree_laws.specs.Tied.{Tied}
 use Rattle.vm_tree_rule.specs.{Leaves.LeavesWord, Leaves.ReadsOn, Turns.IsTurnedBack, Turns.WhyDamaged as why, Ways.IsOnWay}
 use Rattle.vm_tree_rule.specs.declared.turn.Turn.TheVariants as turns

@@ -9,8 +9,8 @@ use Rattle.vm_rule.proofs.{Entries.each-map, Heard.each-both, WordFacts.version-
 use Rattle.vm_step.specs.Prelude.{AreQuiet, Begins, Begins as begun, Did, IsSaw, NeedsPage, NoWord, place_at}
 use Rattle.vm_step.specs.{declared.saw.Saw.Saw, Evidence.Gives}
 use Rattle.vm_step.specs.declared.saw.At.TheVariants as ats
-use Rattle.vm_guard.specs.{Denied.KeptWord, Guards.AreUnmarking, Quiet.IsUnmark, Quiet.LeavesNone, Quiet.OnlyUnmarks}
-use Rattle.vm_guard.proofs.Unmarking.{load-unmarks, unmarking-unmarks, unmarks-both}
+use Rattle.vm_kind.specs.from_vm_guard.{Denied.KeptWord, Guards.AreUnmarking, Quiet.IsUnmark, Quiet.LeavesNone, Quiet.OnlyUnmarks}
+use Rattle.vm_kind.proofs.from_vm_guard.Unmarking.{load-unmarks, unmarking-unmarks, unmarks-both}
 use Rattle.vm_tree_rule.specs.{Leaves.OnlyClears, Shown.IsSeen}
 
 -- ---- which words steps leave

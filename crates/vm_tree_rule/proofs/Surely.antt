@@ -12,10 +12,10 @@ use Rattle.vm_rule.specs.declared.view.WordPlace.TheVariants as places
 use Rattle.vm_rule.proofs.WordFacts.{version-within, word-state}
 use Rattle.vm_step.specs.Prelude.{IsAlone, IsKeptNow, KnowsSame, LocksNone, NoneExpected, NoWord, Origin, ReadsAsBefore, View}
 use Rattle.vm_step.proofs.{Alone.same-word, Alone.still-alone, Asides.whole-then}
-use Rattle.vm_guard.specs.{declared.deny.Deny.Deny, declared.opt.OptGuard.OptGuard, Denied.AgainOrNeed, Denied.IsDenied}
-use Rattle.vm_guard.specs.Guards.{BeginsReading, IsReading, IsValid, Loads}
-use Rattle.vm_guard.specs.Sure.{IsKnownAt, IsUnlockedWord, known_next, known_word, unmarked_word}
-use Rattle.vm_guard.proofs.Reading.{reading-kept}
+use Rattle.vm_kind.specs.from_vm_guard.{declared_deny_Deny.Deny, declared_opt_OptGuard.OptGuard, Denied.AgainOrNeed, Denied.IsDenied}
+use Rattle.vm_kind.specs.from_vm_guard.Guards.{BeginsReading, IsReading, IsValid, Loads}
+use Rattle.vm_kind.specs.from_vm_guard.Sure.{IsKnownAt, IsUnlockedWord, known_next, known_word, unmarked_word}
+use Rattle.vm_kind.proofs.from_vm_guard.Reading.{reading-kept}
 use Rattle.vm_tree_laws.specs.{Plain.KeepsPlain, Tied.IsTied, Tied.Tied}
 use Rattle.vm_tree_laws.proofs.Plainly.{plain_ties}
 use Rattle.vm_tree_rule.specs.Leaves.{LeavesWord, OnlyReads, ReadsOn}

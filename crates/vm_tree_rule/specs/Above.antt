@@ -3,7 +3,7 @@ use Rattle.std.specs.Prelude.{◌++◌, ◌<◌, ◌≡◌, ◌≢◌, ◌≤◌
 use Rattle.vm_tree_model.specs.Layout.{Layout}
 use Rattle.vm_rule.specs.Prelude.{loads_at}
 use Rattle.vm_step.specs.Prelude.{View}
-use Rattle.vm_guard.specs.declared.opt.OptGuard.{OptGuard}
+use Rattle.vm_kind.specs.from_vm_guard.declared_opt_OptGuard.{OptGuard}
 use Rattle.vm_tree_rule.specs.declared.above.Above.{Above}
 use Rattle.vm_tree_rule.specs.declared.above.Above.TheVariants as aboves
 use Rattle.vm_tree_rule.specs.{Resident.IsKnownNow, Seeks.IsMetaRead, Seeks.IsNamedRoot, Seeks.TellChild}

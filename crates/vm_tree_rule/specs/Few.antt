@@ -2,7 +2,7 @@
 use Rattle.std.specs.Prelude.{[], ◌++◌, ◌∷◌, ◌≡◌, ◌≤◌, ◌⊎◌, length, List, map, slice_index_or, ℕ}
 use Rattle.vm_rule.specs.Prelude.{loads_at, StartsWith}
 use Rattle.vm_step.specs.Prelude.{View}
-use Rattle.vm_guard.specs.{Guards.Loads, PageWords.LoadsWords}
+use Rattle.vm_kind.specs.from_vm_guard.{Guards.Loads, PageWords.LoadsWords}
 use Rattle.vm_tree_rule.specs.Standing.{IsOpened}
 
 -- the height of the tree, among the words that a descent loads: the second one, behind the root's page; 0 where it did not come so far

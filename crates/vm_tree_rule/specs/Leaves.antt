@@ -5,7 +5,7 @@ use Rattle.vm_rule.specs.Prelude.{Each, IsLocking, seat_of, StartsWith}
 use Rattle.vm_rule.specs.declared.view.WordPlace.{WordPlace}
 use Rattle.vm_rule.specs.declared.view.WordPlace.TheVariants as places
 use Rattle.vm_step.specs.Prelude.{Did, HoldsPage, IsAlone, KeepsNumbers, KnowsAsBefore, KnowsElse, StaysAlone, Tie, View}
-use Rattle.vm_guard.specs.Quiet.{IsUnmark}
+use Rattle.vm_kind.specs.from_vm_guard.Quiet.{IsUnmark}
 
 -- the place is that of a page's state word
 abbrev pub IsAnyState : WordPlace → Type 0

@@ -7,3 +7,5 @@ pub mod Shown
 pub mod Standing
 pub mod Turns
 pub mod Ways
+pub mod from_vm_kind
+pub mod from_vm_step

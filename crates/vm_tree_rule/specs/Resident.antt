@@ -3,7 +3,7 @@
 use Rattle.std.specs.Prelude.{◌<◌, ◌≡◌, suc, true, zero, ℕ}
 use Rattle.vm_core.specs.Prelude.{LOCKED, state_of}
 use Rattle.vm_step.specs.Prelude.{IsAlone, KnowsUnheld, View}
-use Rattle.vm_guard.specs.Sure.{IsUnlockedWord, known_next, known_word}
+use Rattle.vm_kind.specs.from_vm_guard.Sure.{IsUnlockedWord, known_next, known_word}
 
 -- the page with this word is resident, nobody has it exclusively, and it has just so many shares
 abbrev pub IsReadableWord : ℕ → ℕ → Type 0

@@ -4,10 +4,10 @@ use Rattle.std.specs.Prelude.{[], ◌*◌, ◌++◌, ◌+◌, ◌<◌, ◌∷◌
 use Rattle.vm_tree_model.specs.{Edits.child_of, Layout.Layout, Page.node_of}
 use Rattle.vm_kind.specs.Bounds.{Bounds}
 use Rattle.vm_node.specs.Loads.{IsPageWith}
-use Rattle.vm_inner.specs.Found.{FindsChild, FindsChildIn, FindsNoChild}
+use Rattle.vm_kind.specs.from_vm_inner.Found.{FindsChild, FindsChildIn, FindsNoChild}
 use Rattle.vm_rule.specs.Prelude.{last_of, loads_at}
 use Rattle.vm_step.specs.Prelude.{View}
-use Rattle.vm_guard.specs.{declared.opt.OptGuard.OptGuard, Guards.IsValid, Guards.Loads, Guards.placed}
+use Rattle.vm_kind.specs.from_vm_guard.{declared_opt_OptGuard.OptGuard, Guards.IsValid, Guards.Loads, Guards.placed}
 use Rattle.vm_tree_laws.specs.Tied.{Tied}
 use Rattle.vm_tree_rule.specs.{declared.seek.Met.Met, Leaves.ReadsOn, Resident.IsKnownNow, Standing.Awaits, Standing.IsOpened}
 use Rattle.vm_tree_rule.specs.declared.seek.Met.TheVariants as met

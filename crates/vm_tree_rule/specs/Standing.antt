@@ -6,7 +6,7 @@ use Rattle.vm_tree_model.specs.Page.{node_of}
 use Rattle.vm_core.specs.Prelude.{version_of}
 use Rattle.vm_rule.specs.Prelude.{began_of, Each, last_of, loads_at, LockValidates}
 use Rattle.vm_step.specs.Prelude.{Tie, View}
-use Rattle.vm_guard.specs.Guards.{BeginsReading, IsReading, IsValid}
+use Rattle.vm_kind.specs.from_vm_guard.Guards.{BeginsReading, IsReading, IsValid}
 use Rattle.vm_tree_laws.specs.{Descent.IsReached, Descent.IsReachedAs, Tied.IsNodeAs, Tied.IsTied, Tied.Tied}
 use Rattle.vm_tree_rule.specs.{declared.descent.Stand.Stand, Leaves.LeavesWord, Leaves.ReadsOn}
 

@@ -6,9 +6,9 @@ use Rattle.vm_rule.specs.Prelude.{last_of, loads_at}
 use Rattle.vm_step.specs.Prelude.{Did, NeedsPage, NoneExpected, NoWord, View}
 use Rattle.vm_step.specs.declared.saw.At.TheVariants as ats
 use Rattle.vm_step.specs.declared.saw.Saw.{Saw}
-use Rattle.vm_guard.specs.{declared.deny.Deny.Deny, Guards.IsValid}
-use Rattle.vm_guard.specs.declared.deny.Deny.TheVariants as denies
-use Rattle.vm_guard.specs.Denied.{AgainOrNeed, IsDenied, KeptWord}
+use Rattle.vm_kind.specs.from_vm_guard.{declared_deny_Deny.Deny, Guards.IsValid}
+use Rattle.vm_kind.specs.from_vm_guard.declared_deny_Deny_TheVariants as denies
+use Rattle.vm_kind.specs.from_vm_guard.Denied.{AgainOrNeed, IsDenied, KeptWord}
 use Rattle.vm_tree_laws.specs.Tied.{Tied}
 use Rattle.vm_tree_rule.specs.{declared.turn.Turn.Turn, Leaves.LeavesWord, Leaves.ReadsOn, Seeks.HasLoaded}
 use Rattle.vm_tree_rule.specs.{Seeks.TellChild, Shown.IsAgain, Ways.IsOnWay, Ways.TellNoNode}

@@ -3,7 +3,7 @@ use Rattle.std.specs.Prelude.{[], ◌+◌, ◌∷◌, ◌≡◌, List, None, Opt
 use Rattle.vm_tree_model.specs.Layout.{Layout}
 use Rattle.vm_node.specs.Loads.{IsPageWith}
 use Rattle.vm_step.specs.Prelude.{View}
-use Rattle.vm_guard.specs.Guards.{IsValid}
+use Rattle.vm_kind.specs.from_vm_guard.Guards.{IsValid}
 use Rattle.vm_tree_laws.specs.Tied.{IsNodeAs, Tied}
 use Rattle.vm_tree_rule.specs.{Leaves.ReadsOn, Seeks.HasLoaded, Seeks.IsNamedRoot, Seeks.TellChildIn, Standing.fence_of, Standing.IsOpened}
 use Rattle.vm_tree_rule.specs.declared.descent.Stand.{Stand}

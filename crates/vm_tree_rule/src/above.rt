@@ -1,7 +1,7 @@
 // The way down to a leaf that may become one with its neighbour: the pages above it that change then stay open.
 ghost use Rattle.std.specs.Prelude.{◌≡◌, ◌≢◌, ◌≤◌, IfErr, IfOk, IsOk, true};
 ghost use Rattle.vm_step.specs.Prelude.{GoesOn, IsReadyOn, view};
-ghost use Rattle.vm_guard.specs.Guards.{IsReading};
+ghost use Rattle.vm_kind.specs.from_vm_guard.Guards.{IsReading};
 ghost use Rattle.vm_tree_rule.specs.{Above.IsAbove, Above.IsLeafReached, Above.KnowsAbove, Leaves.ReadsOn, Turns.IsTurnedBack, Ways.StandsOnWay};
 ghost use Rattle.vm_tree_rule.specs.Resident.{IsKnownNow, KnowsResident};
 ghost use Rattle.vm_tree_rule.specs.Seeks.{IsMetaRead};
@@ -10,7 +10,7 @@ ghost use Rattle.vm_tree_rule.specs.Standing.{Awaits, IsOpened, IsStand};
 use crate::descent::{Stand, Top, enter_root, step};
 use crate::turn::Turn;
 use vm_block::Block;
-use vm_guard::OptGuard;
+use vm_kind::vm_guard::OptGuard;
 use vm_kind::{Kind, TreeOf};
 use vm_rule::words::{Pass, Words};
 

@@ -4,13 +4,13 @@ ghost use Rattle.std.proofs.Common.{subst, sym, ◌∙◌};
 ghost use Rattle.std.proofs.lemmas.List.{map-append};
 ghost use Rattle.vm_rule.proofs.Entries.{append-none};
 ghost use Rattle.vm_step.specs.Prelude.{IsFrameAt, IsReadyOn, IsSamePass, view};
-ghost use Rattle.vm_guard.specs.Guards.{IsReading, Loads};
-ghost use Rattle.vm_guard.specs.PageWords.{LoadsWords};
-ghost use Rattle.vm_guard.proofs.PageLoads.{words-then};
-ghost use Rattle.vm_guard.proofs.Reading.{loaded-then, none-loaded};
+ghost use Rattle.vm_kind.specs.from_vm_guard.Guards.{IsReading, Loads};
+ghost use Rattle.vm_kind.specs.from_vm_guard.PageWords.{LoadsWords};
+ghost use Rattle.vm_kind.proofs.from_vm_guard.PageLoads.{words-then};
+ghost use Rattle.vm_kind.proofs.from_vm_guard.Reading.{loaded-then, none-loaded};
 
 use vm_block::Block;
-use vm_guard::OptGuard;
+use vm_kind::vm_guard::OptGuard;
 use vm_node::Place;
 use vm_owner::Owner;
 use vm_rule::words::{Pass, Words};

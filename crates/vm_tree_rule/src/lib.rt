@@ -15,3 +15,7 @@ pub use in_place::InPlace;
 pub use seek::{Met, seek_full};
 pub use turn::Turn;
 pub use vm_kind::Tree;
+
+// Libraries below that the crates above name through this one.
+pub use vm_kind;
+pub use vm_step;

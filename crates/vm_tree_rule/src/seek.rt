@@ -1,7 +1,7 @@
 // The search for the first full node on the way of a key, from the root on.
 ghost use Rattle.std.specs.Prelude.{◌*◌, ◌+◌, ◌≡◌, ◌≤◌, IfErr, IfOk, IsOk, length, List, true, ℕ};
 ghost use Rattle.vm_step.specs.Prelude.{GoesOn, IsReadyOn, view};
-ghost use Rattle.vm_guard.specs.{Guards.IsReading, PageWords.LoadsWords};
+ghost use Rattle.vm_kind.specs.from_vm_guard.{Guards.IsReading, PageWords.LoadsWords};
 ghost use Rattle.vm_tree_rule.specs.{Leaves.ReadsOn, Turns.IsTurnedBack};
 ghost use Rattle.vm_tree_rule.specs.Few.{LoadsHeight, LoadsWithin, ReadsInPlace};
 ghost use Rattle.vm_tree_rule.specs.Resident.{IsKnownNow, KnowsLocks, KnowsResident};
@@ -13,7 +13,7 @@ use crate::descent::{enter_root, step};
 use crate::in_place::InPlace;
 use crate::turn::Turn;
 use vm_block::Block;
-use vm_guard::OptGuard;
+use vm_kind::vm_guard::OptGuard;
 use vm_kind::{Pages, TreeOf};
 use vm_rule::words::{Pass, Words};
 use vm_step::frame_place;

@@ -11,17 +11,17 @@ use Rattle.vm_step.specs.Prelude.{Begins, Begins as begun, Did, IsSaw, NoneExpec
 use Rattle.vm_step.specs.declared.saw.At.{At}
 use Rattle.vm_step.specs.declared.saw.Saw.{Saw}
 use Rattle.vm_step.proofs.Asides.{starts-then}
-use Rattle.vm_exmap.specs.declared.interface.Alloc.TheVariants as allocs
-use Rattle.vm_exmap.specs.Walks.{IsAlloc}
+use Rattle.vm_tree_read.specs.from_vm_exmap.declared_interface_Alloc_TheVariants as allocs
+use Rattle.vm_tree_read.specs.from_vm_exmap.Walks.{IsAlloc}
 use Rattle.vm_guard.specs.declared.deny.Deny.TheVariants as denies
 use Rattle.vm_guard.specs.declared.given.Fresh.TheVariants as freshes
 use Rattle.vm_guard.specs.declared.opt.OptGuard.{OptGuard}
 use Rattle.vm_guard.specs.{Reused.IsFreshAnswer, Reused.IsLostTake, Spares.FindsFew, Spares.spare_loads}
 use Rattle.vm_guard.specs.Denied.{AgainOrNeed, AgainOrWorn, IsDenied, KeptWord}
-use Rattle.vm_tree_rule.specs.{Leaves.LeavesWord, Standing.IsOpened}
-use Rattle.vm_tree_rule.specs.Shown.{IsAgain, IsSeen, IsShown}
-use Rattle.vm_tree_rule.proofs.{Logged.shown-kept, Logged.shown-later, Showing.saw-behind, Showing.seen-front}
-use Rattle.vm_tree_rule.proofs.Readings.{leaves-self, leaves-then, log-then}
+use Rattle.vm_tree_read.specs.from_vm_tree_rule.{Leaves.LeavesWord, Standing.IsOpened}
+use Rattle.vm_tree_read.specs.from_vm_tree_rule.Shown.{IsAgain, IsSeen, IsShown}
+use Rattle.vm_tree_read.proofs.from_vm_tree_rule.{Logged.shown-kept, Logged.shown-later, Showing.saw-behind, Showing.seen-front}
+use Rattle.vm_tree_read.proofs.from_vm_tree_rule.Readings.{leaves-self, leaves-then, log-then}
 use Rattle.vm_tree_split.specs.{Prepares.IsShort.after_one}
 use Rattle.vm_tree_split.specs.{Prepares.IsShort.at_once, Tries.IsBackedBy}
 use Rattle.vm_tree_split.specs.Prepares.{IsDeniedAt, IsLockDenied, IsLockedMeanwhile, IsNotLocked, guard_pages}

@@ -9,11 +9,11 @@ use Rattle.vm_tree_model.specs.Layout.{IsLayout, Layout}
 use Rattle.vm_core.specs.Prelude.{LoadsAre}
 use Rattle.vm_rule.specs.Prelude.{AreApart, has, last_of, loads_at, put_at}
 use Rattle.vm_step.specs.Prelude.{Did, Origin, View}
-use Rattle.vm_exmap.specs.Frames.{MovesFrames}
+use Rattle.vm_tree_read.specs.from_vm_exmap.Frames.{MovesFrames}
 use Rattle.vm_guard.specs.{declared.exclusive.ExclusiveGuard.ExclusiveGuard, declared.opt.OptGuard.OptGuard}
 use Rattle.vm_guard.specs.{Groups.GuardsHeld, Groups.pids_of}
-use Rattle.vm_tree_rule.specs.Seeks.{IsFullBelow, IsRootFull}
-use Rattle.vm_tree_rule.proofs.{Entering.opened-reads, Readings.loads-behind}
+use Rattle.vm_tree_read.specs.from_vm_tree_rule.Seeks.{IsFullBelow, IsRootFull}
+use Rattle.vm_tree_read.proofs.from_vm_tree_rule.{Entering.opened-reads, Readings.loads-behind}
 use Rattle.vm_tree_split.specs.{Prepares.AreTaken, Prepares.IsPrepared, Tries.HasSplit}
 use Rattle.vm_tree_split.specs.Splits.{AreToSplit, CanSplit, CanSplitRoot, HasDraft, IsRootToSplit, IsSplitUp, KeepsLocksOnly, MayUse}
 use Rattle.vm_tree_split.proofs.Preparing.{first-held, first-inner, first-not, first-stays, first-words, fresh-zero}

@@ -10,10 +10,10 @@ use Rattle.vm_rule.specs.Prelude.{put_at, seat_of, without_all}
 use Rattle.vm_rule.proofs.{Bundled.has-without_all, Entries.append-none, Facts.has-both}
 use Rattle.vm_step.specs.Prelude.{AreHeld, Did, View}
 use Rattle.vm_step.proofs.Asides.{holds-then, knows-then, starts-then, still-locking}
-use Rattle.vm_exmap.specs.{declared.interface.Alloc.Alloc, Frames.MovesFrames, Returns.IsFreed, Walks.IsAlloc}
-use Rattle.vm_exmap.specs.declared.interface.Alloc.TheVariants as allocs
-use Rattle.vm_exmap.proofs.FrameMoves.{moved-aside, moved-nothing, moved-then}
-use Rattle.vm_exmap.proofs.Handing.{apart-join, apart-not, each-has, each-join, each-of, held-rest, held-swap}
+use Rattle.vm_tree_read.specs.from_vm_exmap.{declared_interface_Alloc.Alloc, Frames.MovesFrames, Returns.IsFreed, Walks.IsAlloc}
+use Rattle.vm_tree_read.specs.from_vm_exmap.declared_interface_Alloc_TheVariants as allocs
+use Rattle.vm_tree_read.proofs.from_vm_exmap.FrameMoves.{moved-aside, moved-nothing, moved-then}
+use Rattle.vm_tree_read.proofs.from_vm_exmap.Handing.{apart-join, apart-not, each-has, each-join, each-of, held-rest, held-swap}
 use Rattle.vm_tree_split.specs.Splits.{KeepsLocksOnly}
 use Rattle.vm_tree_split.proofs.Numbering.{worn-kept, worn-then}
 

@@ -4,7 +4,7 @@ use Rattle.vm_tree_model.specs.Layout.{Layout}
 use Rattle.vm_core.specs.Prelude.{Version}
 use Rattle.vm_rule.specs.Prelude.{draft_of, has, last_of}
 use Rattle.vm_step.specs.Prelude.{AreHeld, View}
-use Rattle.vm_exmap.proofs.Handing.{held-on, held-swap}
+use Rattle.vm_tree_read.proofs.from_vm_exmap.Handing.{held-on, held-swap}
 use Rattle.vm_guard.specs.{declared.exclusive.ExclusiveGuard.ExclusiveGuard, declared.opt.OptGuard.OptGuard}
 use Rattle.vm_guard.specs.{Guards.IsHolding, Guards.IsReleased}
 use Rattle.vm_tree_read.specs.Waiting.{LosesNone}

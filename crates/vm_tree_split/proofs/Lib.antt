@@ -15,3 +15,8 @@ pub mod Trying
 pub mod Losing
 pub mod Backing
 pub mod Settling
+pub mod from_vm_exmap
+pub mod from_vm_guard
+pub mod from_vm_step
+pub mod from_vm_tree_read
+pub mod from_vm_tree_rule

@@ -6,7 +6,7 @@ use Rattle.std.proofs.lemmas.List.{reverse-append}
 use Rattle.vm_rule.specs.Prelude.{has, without_all}
 use Rattle.vm_rule.proofs.Bundled.{has-without_all}
 use Rattle.vm_step.specs.Prelude.{Did, View}
-use Rattle.vm_exmap.specs.Walks.{TakesNone}
+use Rattle.vm_tree_read.specs.from_vm_exmap.Walks.{TakesNone}
 use Rattle.vm_tree_read.specs.Waiting.{LosesNone}
 use Rattle.vm_tree_read.proofs.Losing.{has-behind, has-neither, has-none, loses-same}
 

@@ -11,13 +11,13 @@ use Rattle.vm_rule.specs.Prelude.{has, IsLocking, seat_of, without, without_all}
 use Rattle.vm_rule.proofs.Facts.{has-both}
 use Rattle.vm_step.specs.Prelude.{Did, HoldsPage, KeepsNumbers, Origin, View}
 use Rattle.vm_step.proofs.Asides.{holds-then, numbers-then, still-locking}
-use Rattle.vm_exmap.specs.Frames.{MovesFrames}
+use Rattle.vm_tree_read.specs.from_vm_exmap.Frames.{MovesFrames}
 use Rattle.vm_guard.specs.{declared.exclusive.ExclusiveGuard.ExclusiveGuard, declared.opt.OptGuard.OptGuard}
 use Rattle.vm_guard.specs.{Guards.IsHolding, Guards.IsReading, Groups.guards_of, Groups.pids_of, Reused.IsFreshAnswer}
 use Rattle.vm_guard.specs.declared.given.Fresh.TheVariants as freshes
 use Rattle.vm_guard.proofs.{Freshly.holding-on, Groups.lacks, Groups.without-front, Reading.reading-elsewhere}
 use Rattle.vm_tree_laws.specs.Descent.{IsReached}
-use Rattle.vm_tree_rule.specs.{Seeks.HasRead, Standing.Awaits, Standing.tree_pages}
+use Rattle.vm_tree_read.specs.from_vm_tree_rule.{Seeks.HasRead, Standing.Awaits, Standing.tree_pages}
 use Rattle.vm_tree_split.specs.Prepares.{AreTaken}
 use Rattle.vm_tree_split.specs.Splits.{HasDraft, IsSplitUp, KeepsLocksOnly}
 use Rattle.vm_tree_split.specs.PageNumbers.{GainsNone}

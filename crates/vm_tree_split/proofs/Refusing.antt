@@ -12,8 +12,8 @@ use Rattle.vm_rule.proofs.Entries.{append-none, each-map}
 use Rattle.vm_step.specs.Prelude.{Did, HoldsPage, KeepsFrames, KnowsAsBefore, Origin, View}
 use Rattle.vm_step.specs.declared.saw.Saw.{Saw}
 use Rattle.vm_step.proofs.Asides.{holds-then, keeps-then, knows-then, starts-then, still-locking}
-use Rattle.vm_exmap.specs.Frames.{MovesFrames}
-use Rattle.vm_exmap.proofs.FrameMoves.{leaves-states}
+use Rattle.vm_tree_read.specs.from_vm_exmap.Frames.{MovesFrames}
+use Rattle.vm_tree_read.proofs.from_vm_exmap.FrameMoves.{leaves-states}
 use Rattle.vm_guard.specs.{declared.deny.Deny.Deny, declared.given.Fresh.Fresh, declared.opt.OptGuard.OptGuard}
 use Rattle.vm_guard.specs.{Denied.AgainOrWorn, Fresh.IsAmid, Fresh.IsNextAnswer, Fresh.IsNil, Quiet.IsQuiet}
 use Rattle.vm_guard.specs.Reused.{IsFreshAnswer, IsReuseAnswer, IsTakenAnswer, IsUnused}
@@ -23,7 +23,7 @@ use Rattle.vm_guard.specs.Guards.{IsHolding, IsLocked, IsReleased}
 use Rattle.vm_guard.proofs.{Amid.amid-then, Amid.amid-within, FreshAnswers.next-kept, FreshNone.nload-nil}
 use Rattle.vm_tree_model.specs.Layout.{Layout}
 use Rattle.vm_tree_laws.specs.Tied.{Tied}
-use Rattle.vm_tree_rule.specs.Leaves.{LeavesWord}
+use Rattle.vm_tree_read.specs.from_vm_tree_rule.Leaves.{LeavesWord}
 use Rattle.vm_tree_split.specs.{declared.tries.TrySplit.TrySplit, PageNumbers.GainsWorn, Prepares.IsDeniedAt}
 use Rattle.vm_tree_split.specs.{Prepares.IsLockDenied, Prepares.IsLockedMeanwhile, Prepares.SaysDenied}
 use Rattle.vm_tree_split.specs.{Splits.KeepsLocksOnly}

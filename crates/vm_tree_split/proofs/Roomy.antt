@@ -10,7 +10,7 @@ use Rattle.vm_step.proofs.HeldFrames.{held-on}
 use Rattle.vm_guard.specs.declared.opt.OptGuard.{OptGuard}
 use Rattle.vm_guard.specs.Guards.{IsReading}
 use Rattle.vm_guard.proofs.{Amid.amid-alone, Reading.reading-kept}
-use Rattle.vm_tree_rule.specs.{Leaves.LeavesWord, Seeks.HasRead, Standing.Awaits}
+use Rattle.vm_tree_read.specs.from_vm_tree_rule.{Leaves.LeavesWord, Seeks.HasRead, Standing.Awaits}
 use Rattle.vm_tree_read.specs.Waiting.{LosesNone}
 use Rattle.vm_tree_read.proofs.Losing.{loses-same}
 use Rattle.vm_tree_split.specs.{Prepares.KnowsToSplit, Splits.KeepsLocksOnly}

@@ -11,7 +11,7 @@ use Rattle.vm_rule.specs.declared.view.WordPlace.TheVariants as places
 use Rattle.vm_rule.proofs.WordFacts.{version-within}
 use Rattle.vm_step.specs.Prelude.{Did, IsAlone, KnowsUnheld, LocksNone, Origin, View}
 use Rattle.vm_step.proofs.Alone.{still-alone}
-use Rattle.vm_exmap.specs.Frames.{MovesFrames}
+use Rattle.vm_tree_read.specs.from_vm_exmap.Frames.{MovesFrames}
 use Rattle.vm_guard.specs.{declared.deny.Deny.Deny, declared.exclusive.ExclusiveGuard.ExclusiveGuard, declared.opt.OptGuard.OptGuard}
 use Rattle.vm_guard.specs.{Denied.AgainOrWorn, Denied.SameOrUnlocked, Guards.IsLocked}
 use Rattle.vm_guard.specs.declared.deny.Deny.TheVariants as denies
@@ -19,7 +19,7 @@ use Rattle.vm_guard.specs.Spares.{known_spare, KnowsFew}
 use Rattle.vm_guard.specs.Sure.{HoldsUsed, IsKnownFree, IsUnlockedWord, known_next, known_word, MayBeTried}
 use Rattle.vm_tree_model.specs.Layout.{IsLayout, Layout}
 use Rattle.vm_tree_laws.specs.Tied.{Tied}
-use Rattle.vm_tree_rule.specs.{Leaves.ReadsOn, Resident.IsKnownNow, Standing.Awaits}
+use Rattle.vm_tree_read.specs.from_vm_tree_rule.{Leaves.ReadsOn, Resident.IsKnownNow, Standing.Awaits}
 use Rattle.vm_tree_split.specs.Prepares.{AreLocked, IsInUseAt, KnowsBoth, KnowsToSplit, SaysWorn}
 use Rattle.vm_tree_split.proofs.{Ends.meta-not, Splitting.node-not, Under.locked-in-use, Under.use-more}
 

@@ -26,7 +26,7 @@ use Rattle.vm_guard.specs.Groups.{AreReleased, MayReleaseAll, next_after_all, pi
 use Rattle.vm_guard.proofs.Groups.{lacks}
 use Rattle.vm_tree_laws.specs.Plain.{ReleasesPlain}
 use Rattle.vm_tree_laws.proofs.Established.{may_split}
-use Rattle.vm_tree_rule.proofs.Whole.{zero-at}
+use Rattle.vm_tree_read.proofs.from_vm_tree_rule.Whole.{zero-at}
 use Rattle.vm_tree_split.specs.Drafts.{DraftsIn, IsDraftPlace, IsRedrafted, KnowsSameStates}
 use Rattle.vm_tree_split.specs.Splits.{AreToSplit, HasDraft, IsDrafted, IsGroupDone, IsSplitUp, MayUse, Stays}
 use Rattle.vm_tree_split.proofs.{Drafting.each-append, Framing.after-some, Numbering.freed-used}

@@ -7,18 +7,18 @@ use Rattle.vm_rule.proofs.Entries.{append-none}
 use Rattle.vm_step.specs.Prelude.{NoneExpected, View}
 use Rattle.vm_step.specs.declared.saw.Saw.{Saw}
 use Rattle.vm_step.proofs.Asides.{starts-then}
-use Rattle.vm_exmap.specs.declared.interface.Alloc.{Alloc}
-use Rattle.vm_exmap.specs.declared.interface.Alloc.TheVariants as allocs
+use Rattle.vm_tree_read.specs.from_vm_exmap.declared_interface_Alloc.{Alloc}
+use Rattle.vm_tree_read.specs.from_vm_exmap.declared_interface_Alloc_TheVariants as allocs
 use Rattle.vm_guard.specs.{declared.deny.Deny.Deny, declared.given.Fresh.Fresh, declared.opt.OptGuard.OptGuard, Guards.IsValid}
 use Rattle.vm_guard.specs.declared.deny.Deny.TheVariants as denies
 use Rattle.vm_guard.specs.declared.given.Fresh.TheVariants as freshes
 use Rattle.vm_guard.specs.Denied.{AgainOrNeed, IsDenied, KeptWord}
 use Rattle.vm_tree_laws.specs.Tied.{Tied}
-use Rattle.vm_tree_rule.specs.{declared.turn.Turn.Turn, Leaves.ReadsOn, Standing.IsOpened, Turns.IsTurnedBack}
-use Rattle.vm_tree_rule.specs.declared.turn.Turn.TheVariants as turns
-use Rattle.vm_tree_rule.specs.Seeks.{IsFullBelow, IsRoomy, IsRootFull}
-use Rattle.vm_tree_rule.proofs.Entering.{opened-reads}
-use Rattle.vm_tree_rule.proofs.Readings.{denied-reads, reads-then, valid-reads}
+use Rattle.vm_tree_read.specs.from_vm_tree_rule.{declared_turn_Turn.Turn, Leaves.ReadsOn, Standing.IsOpened, Turns.IsTurnedBack}
+use Rattle.vm_tree_read.specs.from_vm_tree_rule.declared_turn_Turn_TheVariants as turns
+use Rattle.vm_tree_read.specs.from_vm_tree_rule.Seeks.{IsFullBelow, IsRoomy, IsRootFull}
+use Rattle.vm_tree_read.proofs.from_vm_tree_rule.Entering.{opened-reads}
+use Rattle.vm_tree_read.proofs.from_vm_tree_rule.Readings.{denied-reads, reads-then, valid-reads}
 use Rattle.vm_tree_split.specs.{declared.tries.TrySplit.TrySplit, Splits.KeepsLocksOnly, Tries.IsEnded.below, Tries.IsEnded.root}
 use Rattle.vm_tree_split.specs.declared.tries.TrySplit.TheVariants as tries
 use Rattle.vm_tree_split.specs.Prepares.{IsNotLocked, IsRefusedPages, IsShort, IsUntaken, SaysDenied, SaysRefused, SaysShort}

@@ -10,14 +10,14 @@ use Rattle.vm_rule.specs.declared.view.Held.{Held}
 use Rattle.vm_rule.proofs.Entries.{append-none}
 use Rattle.vm_step.specs.Prelude.{Did, HoldsPage, KnowsAsBefore, Origin, Release, Tie, View}
 use Rattle.vm_step.proofs.Asides.{holds-then, knows-then, starts-then, still-locking}
-use Rattle.vm_exmap.specs.Frames.{MovesFrames}
-use Rattle.vm_exmap.proofs.FrameMoves.{moved-aside}
+use Rattle.vm_tree_read.specs.from_vm_exmap.Frames.{MovesFrames}
+use Rattle.vm_tree_read.proofs.from_vm_exmap.FrameMoves.{moved-aside}
 use Rattle.vm_guard.specs.{declared.exclusive.ExclusiveGuard.ExclusiveGuard, Fresh.IsAmid, Given.AreFreshPages, Groups.pids_of}
 use Rattle.vm_guard.specs.Guards.{IsElsewhere, IsHolding, IsLocked, IsReading}
 use Rattle.vm_guard.proofs.Reading.{reading-kept}
 use Rattle.vm_tree_laws.specs.{Descent.IsReached, Tied.Tied}
-use Rattle.vm_tree_rule.specs.{Seeks.HasRead, Standing.Awaits, Standing.MeetsTies, Standing.tree_pages}
-use Rattle.vm_tree_rule.proofs.{Downward.inner-here, Readings.each-behind}
+use Rattle.vm_tree_read.specs.from_vm_tree_rule.{Seeks.HasRead, Standing.Awaits, Standing.MeetsTies, Standing.tree_pages}
+use Rattle.vm_tree_read.proofs.from_vm_tree_rule.{Downward.inner-here, Readings.each-behind}
 use Rattle.vm_tree_read.proofs.Answering.{words-are}
 use Rattle.vm_tree_split.specs.Prepares.{IsInUseAt}
 use Rattle.vm_tree_split.specs.Splits.{HasDraft, IsGroupDone}

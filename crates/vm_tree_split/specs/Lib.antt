@@ -4,3 +4,10 @@ pub mod Prelude
 pub mod Prepares
 pub mod Splits
 pub mod Tries
+pub mod from_vm_evict
+pub mod from_vm_guard
+pub mod from_vm_kind
+pub mod from_vm_pool
+pub mod from_vm_step
+pub mod from_vm_tree_read
+pub mod from_vm_tree_rule

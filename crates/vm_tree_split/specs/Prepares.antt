@@ -7,8 +7,8 @@ use Rattle.vm_core.specs.Prelude.{MAX_VERSION, version_of}
 use Rattle.vm_page.specs.Pages.{all_zero}
 use Rattle.vm_rule.specs.Prelude.{began_of, HoldsNoPage}
 use Rattle.vm_step.specs.Prelude.{Did, IsAlone, KnowsUnheld, UnlockedExpected, View}
-use Rattle.vm_exmap.specs.{declared.interface.Alloc.Alloc, Frames.MovesFrames, Returns.IsFreed, Walks.IsAlloc}
-use Rattle.vm_exmap.specs.declared.interface.Alloc.TheVariants as allocs
+use Rattle.vm_tree_read.specs.from_vm_exmap.{declared_interface_Alloc.Alloc, Frames.MovesFrames, Returns.IsFreed, Walks.IsAlloc}
+use Rattle.vm_tree_read.specs.from_vm_exmap.declared_interface_Alloc_TheVariants as allocs
 use Rattle.vm_guard.specs.{declared.deny.Deny.Deny, declared.exclusive.ExclusiveGuard.ExclusiveGuard}
 use Rattle.vm_guard.specs.{declared.given.Fresh.Fresh, declared.group.Group.Group, declared.opt.OptGuard.OptGuard}
 use Rattle.vm_guard.specs.{Given.AreFreshPages, Groups.guards_of, Guards.IsLocked, Guards.IsReleased}
@@ -18,7 +18,7 @@ use Rattle.vm_guard.specs.declared.given.Fresh.TheVariants as freshes
 use Rattle.vm_guard.specs.Denied.{AgainOrWorn, IsDenied, KeptWord}
 use Rattle.vm_guard.specs.Sure.{IsUnlockedWord, known_next, known_word}
 use Rattle.vm_tree_laws.specs.Tied.{Tied}
-use Rattle.vm_tree_rule.specs.Standing.{MeetsTies}
+use Rattle.vm_tree_read.specs.from_vm_tree_rule.Standing.{MeetsTies}
 use Rattle.vm_tree_split.specs.declared.tries.TrySplit.{TrySplit}
 use Rattle.vm_tree_split.specs.declared.tries.TrySplit.TheVariants as tries
 

@@ -2,7 +2,7 @@
 ghost use Rattle.std.specs.Prelude.{◌+◌, ◌<◌, ◌^◌, ◌≡◌, ◌≤◌, length, None, true, ℕ};
 ghost use Rattle.vm_rule.specs.Prelude.{HoldsNoPage};
 ghost use Rattle.vm_step.specs.Prelude.{AreHeld, GoesOn, IsReadyOn, view};
-ghost use Rattle.vm_tree_rule.specs.{Resident.KnowsResident, Seeks.IsFullBelow, Seeks.IsRootFull, Turns.IsTurnedBack};
+ghost use Rattle.vm_tree_read.specs.from_vm_tree_rule.{Resident.KnowsResident, Seeks.IsFullBelow, Seeks.IsRootFull, Turns.IsTurnedBack};
 ghost use Rattle.vm_tree_read.specs.Waiting.{LosesNone};
 ghost use Rattle.vm_tree_split.specs.{Prepares.KnowsToSplit, Splits.KeepsLocksOnly};
 ghost use Rattle.vm_tree_split.specs.Tries.{IsEndOf, IsFinalSplit, IsTrySplit};
@@ -10,12 +10,12 @@ ghost use Rattle.vm_tree_split.specs.Tries.{IsEndOf, IsFinalSplit, IsTrySplit};
 use crate::prepare::{Prepared, prepare};
 use crate::split::{write_root, write_split};
 use vm_block::Block;
-use vm_exmap::Interface;
 use vm_guard::OptGuard;
-use vm_kind::{Edits, TreeOf};
 use vm_rule::words::{Pass, Words};
 use vm_step::Saw;
-use vm_tree_rule::{Met, Turn, seek_full};
+use vm_tree_read::vm_exmap::Interface;
+use vm_tree_read::vm_kind::{Edits, TreeOf};
+use vm_tree_read::vm_tree_rule::{Met, Turn, seek_full};
 
 /// What a try of a split answers.
 #[derive(Debug, Drop)]

@@ -7,10 +7,10 @@ use Rattle.vm_map.specs.Map.{lookup_at, Rises}
 use Rattle.vm_tree_model.specs.{Layout.Layout, Node.Covers}
 use Rattle.vm_tree_model.specs.Page.{node_of, pairs_of}
 use Rattle.vm_core.specs.Prelude.{MAX_VERSION, version_of}
-use Rattle.vm_step.specs.Prelude.{View}
-use Rattle.vm_guard.specs.declared.opt.OptGuard.{OptGuard}
-use Rattle.vm_tree_rule.specs.{Seeks.HasRead, Standing.Awaits, Standing.IsOpened}
-use Rattle.vm_tree_rule.proofs.{Downward.awaits-later, Seeking.opened-beside}
+use Rattle.vm_tree_merge.specs.from_vm_step.Prelude.{View}
+use Rattle.vm_tree_merge.specs.from_vm_guard.declared_opt_OptGuard.{OptGuard}
+use Rattle.vm_tree_merge.specs.from_vm_tree_rule.{Seeks.HasRead, Standing.Awaits, Standing.IsOpened}
+use Rattle.vm_tree_merge.proofs.from_vm_tree_rule.{Downward.awaits-later, Seeking.opened-beside}
 use Rattle.vm_tree_merge.specs.{Beside.IsUnmerged, Beside.LeavesBeside, Tried.IsDelRead}
 use Rattle.vm_tree_merge.proofs.Trying.{stays-beside}
 use Rattle.vm_tree_write.specs.Writes.{IsWriteOf}

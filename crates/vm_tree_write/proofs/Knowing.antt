@@ -5,14 +5,14 @@ use Rattle.std.proofs.lemmas.List.{get_or-set_other}
 use Rattle.vm_tree_model.specs.Layout.{Layout}
 use Rattle.vm_rule.specs.Prelude.{bundle_count, index_of}
 use Rattle.vm_rule.specs.declared.view.WordPlace.TheVariants as places
-use Rattle.vm_step.specs.Prelude.{IsAlone, Origin, View}
-use Rattle.vm_step.proofs.Alone.{still-alone}
-use Rattle.vm_guard.specs.Guards.{IsLocked, IsReleased}
-use Rattle.vm_guard.specs.Sure.{IsKnownFree, IsUnlockedWord, known_next, known_word}
+use Rattle.vm_tree_merge.specs.from_vm_step.Prelude.{IsAlone, Origin, View}
+use Rattle.vm_tree_merge.proofs.from_vm_step.Alone.{still-alone}
+use Rattle.vm_tree_merge.specs.from_vm_guard.Guards.{IsLocked, IsReleased}
+use Rattle.vm_tree_merge.specs.from_vm_guard.Sure.{IsKnownFree, IsUnlockedWord, known_next, known_word}
 use Rattle.vm_tree_laws.specs.Tied.{Tied}
-use Rattle.vm_tree_rule.specs.Resident.{KnowsResident}
-use Rattle.vm_tree_split.specs.Drafts.{IsRedrafted, KnowsSameStates}
-use Rattle.vm_tree_split.proofs.Settling.{locked-alone, locked-next, locked-word}
+use Rattle.vm_tree_merge.specs.from_vm_tree_rule.Resident.{KnowsResident}
+use Rattle.vm_tree_merge.specs.from_vm_tree_split.Drafts.{IsRedrafted, KnowsSameStates}
+use Rattle.vm_tree_merge.proofs.from_vm_tree_split.Settling.{locked-alone, locked-next, locked-word}
 
 module _ {X : Type 0} (p version : ℕ) (said : Option X) (v w : View X) (r : IsReleased p version said v w) (alone : IsAlone v) where
   released-word : (q : ℕ) → q ≢ p → known_word q w ≡ known_word q v

@@ -2,3 +2,8 @@ pub mod Apart
 pub mod Writing
 pub mod Telling
 pub mod Knowing
+pub mod from_vm_exmap
+pub mod from_vm_rule
+pub mod from_vm_step
+pub mod from_vm_tree_read
+pub mod from_vm_tree_split

@@ -11,30 +11,31 @@ use Rattle.vm_tree_model.specs.Page.{IsLeaf, node_of, pairs_of}
 use Rattle.vm_node.specs.Loads.{IsPageWith}
 use Rattle.vm_core.specs.Prelude.{MAX_VERSION, version_of}
 use Rattle.vm_rule.specs.Prelude.{last_of}
-use Rattle.vm_step.specs.Prelude.{NoneExpected, Origin, UnlockedExpected, View}
-use Rattle.vm_step.specs.declared.saw.Saw.{Saw}
-use Rattle.vm_guard.specs.declared.deny.Deny.{Deny}
-use Rattle.vm_guard.specs.declared.deny.Deny.TheVariants as denies
-use Rattle.vm_guard.specs.Denied.{AgainOrNeed, AgainOrWorn, IsDenied, KeptWord}
-use Rattle.vm_guard.specs.Guards.{IsReading, IsValid, Loads, placed}
+use Rattle.vm_tree_merge.specs.from_vm_step.Prelude.{NoneExpected, Origin, UnlockedExpected, View}
+use Rattle.vm_tree_merge.specs.from_vm_step.declared_saw_Saw.{Saw}
+use Rattle.vm_tree_merge.specs.from_vm_guard.declared_deny_Deny.{Deny}
+use Rattle.vm_tree_merge.specs.from_vm_guard.declared_deny_Deny_TheVariants as denies
+use Rattle.vm_tree_merge.specs.from_vm_guard.Denied.{AgainOrNeed, AgainOrWorn, IsDenied, KeptWord}
+use Rattle.vm_tree_merge.specs.from_vm_guard.Guards.{IsReading, IsValid, Loads, placed}
 use Rattle.vm_tree_laws.specs.{May.IsEdit, May.IsProved, Tied.Tied}
-use Rattle.vm_tree_rule.specs.{Leaves.ReadsOn, Seeks.HasLoaded, Seeks.HasRead, Standing.Awaits, Standing.IsOpened}
-use Rattle.vm_tree_rule.specs.{Turns.IsTurnedBack, Turns.TellLeaf}
-use Rattle.vm_tree_rule.specs.Shown.{IsShown}
-use Rattle.vm_tree_rule.specs.declared.turn.Turn.TheVariants as turns
-use Rattle.vm_tree_rule.proofs.Entering.{opened-reads}
-use Rattle.vm_tree_rule.proofs.Readings.{denied-reads, loads-reads, opened-loads, reads-then, same-page, valid-reads}
-use Rattle.vm_tree_rule.proofs.{Downward.awaits-later, Reaching.above-beside, Reaching.above-known, Seeking.beside-loads, Surely.known-same}
-use Rattle.vm_tree_rule.specs.{Above.IsAbove, Above.KnowsAbove, declared.above.Reached.Reached}
-use Rattle.vm_tree_rule.specs.Resident.{IsKnownNow}
-use Rattle.vm_kind.specs.Room.{HasRoomFor}
-use Rattle.vm_tree_read.specs.Reads.{IsAnswered}
-use Rattle.vm_tree_read.proofs.Answering.{answered-as, answered-later, page-with}
+use Rattle.vm_tree_merge.specs.from_vm_tree_rule.{Leaves.ReadsOn, Seeks.HasLoaded, Seeks.HasRead, Standing.Awaits, Standing.IsOpened}
+use Rattle.vm_tree_merge.specs.from_vm_tree_rule.{Turns.IsTurnedBack, Turns.TellLeaf}
+use Rattle.vm_tree_merge.specs.from_vm_tree_rule.Shown.{IsShown}
+use Rattle.vm_tree_merge.specs.from_vm_tree_rule.declared_turn_Turn_TheVariants as turns
+use Rattle.vm_tree_merge.proofs.from_vm_tree_rule.Entering.{opened-reads}
+use Rattle.vm_tree_merge.proofs.from_vm_tree_rule.Readings.{denied-reads, loads-reads, opened-loads, reads-then, same-page, valid-reads}
+use Rattle.vm_tree_merge.proofs.from_vm_tree_rule.{Downward.awaits-later, Reaching.above-beside, Reaching.above-known}
+use Rattle.vm_tree_merge.proofs.from_vm_tree_rule.{Seeking.beside-loads, Surely.known-same}
+use Rattle.vm_tree_merge.specs.from_vm_tree_rule.{Above.IsAbove, Above.KnowsAbove, declared_above_Reached.Reached}
+use Rattle.vm_tree_merge.specs.from_vm_tree_rule.Resident.{IsKnownNow}
+use Rattle.vm_tree_merge.specs.from_vm_kind.Room.{HasRoomFor}
+use Rattle.vm_tree_merge.specs.from_vm_tree_read.Reads.{IsAnswered}
+use Rattle.vm_tree_merge.proofs.from_vm_tree_read.Answering.{answered-as, answered-later, page-with}
 use Rattle.vm_tree_merge.specs.{Beside.IsUnmerged, Done.IsLockLost, Done.IsMergeDone}
 use Rattle.vm_tree_write.specs.Writes.{IsDel, IsDelAlone, IsFullLeaf, IsSwap, IsTight, IsVain, IsWornLeaf}
 use Rattle.vm_tree_write.specs.Writes.{IsWriteDone, IsWriteOf, swap_reply, TellTight, WritesNothing}
 use Rattle.vm_tree_write.specs.declared.write.TryWrite.TheVariants as tries
-use Rattle.vm_tree_split.proofs.Backing.{shown-refused, shown-unlocked, shown-wider}
+use Rattle.vm_tree_merge.proofs.from_vm_tree_split.Backing.{shown-refused, shown-unlocked, shown-wider}
 use Rattle.vm_tree_write.proofs.Writing.{leaf-is, written-later}
 
 -- a leaf that was written was below the last version

@@ -19,21 +19,21 @@ use Rattle.vm_rule.specs.Prelude.{loads_at, next_after, Seat, seat_of}
 use Rattle.vm_rule.specs.declared.view.WordPlace.{WordPlace}
 use Rattle.vm_rule.specs.declared.view.WordPlace.TheVariants as places
 use Rattle.vm_rule.proofs.{Entries.each-map, Heard.each-both}
-use Rattle.vm_step.specs.Prelude.{Did, HasWritten, HoldsPage, IsKeptNow, Origin, View}
-use Rattle.vm_step.proofs.{Asides.starts-then, Asides.whole-then, Evidenced.next-stays}
-use Rattle.vm_guard.specs.Guards.{IsElsewhere, IsLocked, IsReading, IsReleased, placed}
-use Rattle.vm_guard.specs.Quiet.{IsUnmark}
-use Rattle.vm_guard.proofs.QuietSteps.{elsewhere-then}
+use Rattle.vm_tree_merge.specs.from_vm_step.Prelude.{Did, HasWritten, HoldsPage, IsKeptNow, Origin, View}
+use Rattle.vm_tree_merge.proofs.from_vm_step.{Asides.starts-then, Asides.whole-then, Evidenced.next-stays}
+use Rattle.vm_tree_merge.specs.from_vm_guard.Guards.{IsElsewhere, IsLocked, IsReading, IsReleased, placed}
+use Rattle.vm_tree_merge.specs.from_vm_guard.Quiet.{IsUnmark}
+use Rattle.vm_tree_merge.proofs.from_vm_guard.QuietSteps.{elsewhere-then}
 use Rattle.vm_tree_laws.specs.{History.IsLegal, May.IsEdit, Plain.KeepsPlain, Plain.plain_history}
 use Rattle.vm_tree_laws.specs.{Plain.ReleasesPlain, Tied.IsSound, Tied.Tied}
-use Rattle.vm_tree_rule.specs.Leaves.{ReadsOn}
-use Rattle.vm_tree_rule.proofs.Readings.{reads-self, reads-then}
-use Rattle.vm_tree_read.proofs.Answering.{words-are}
-use Rattle.vm_tree_split.specs.Drafts.{DraftsIn, IsRedrafted, SetsDiffering}
-use Rattle.vm_tree_split.specs.PageNumbers.{GainsNone}
+use Rattle.vm_tree_merge.specs.from_vm_tree_rule.Leaves.{ReadsOn}
+use Rattle.vm_tree_merge.proofs.from_vm_tree_rule.Readings.{reads-self, reads-then}
+use Rattle.vm_tree_merge.proofs.from_vm_tree_read.Answering.{words-are}
+use Rattle.vm_tree_merge.specs.from_vm_tree_split.Drafts.{DraftsIn, IsRedrafted, SetsDiffering}
+use Rattle.vm_tree_merge.specs.from_vm_tree_split.PageNumbers.{GainsNone}
 use Rattle.vm_tree_write.specs.Writes.{IsBorneOutBy, IsWriteDone, IsWriteOf, IsWritePlace, OnlyWrites}
-use Rattle.vm_tree_split.proofs.{Drafting.Stores, Framing.entry-same, Framing.unheld-not, Numbering.gains-kept}
-use Rattle.vm_tree_split.proofs.{Numbering.gains-then, Numbering.released-used}
+use Rattle.vm_tree_merge.proofs.from_vm_tree_split.{Drafting.Stores, Framing.entry-same, Framing.unheld-not, Numbering.gains-kept}
+use Rattle.vm_tree_merge.proofs.from_vm_tree_split.{Numbering.gains-then, Numbering.released-used}
 
 -- a page of the tree with a leaf's tag is a leaf
 pub leaf-is : (L : Layout) (laws : IsLayout L) (pages p : ℕ) (words : List ℕ) → IsSound L pages p words
@@ -332,9 +332,9 @@ only-later p v x w r a = record {
   ties = (a.ties.0 ++ r.0.ties.0, a.ties.1 ∙ ap (λ (t : List _). a.ties.0 ++ t) r.0.ties.1 ∙ sym (append_assoc a.ties.0 r.0.ties.0 v.ties));
   group = (a.group.0 ∙ r.0.group.0, a.group.1 ∙ r.0.group.1, a.group.2 ∙ r.0.group.2);
   numbers = gains-then v x w r.0.start (gains-kept v x r.0.numbers) a.numbers;
-  holds = λ q. Rattle.vm_step.proofs.Asides.holds-then v x w q (r.0.holds q) (a.holds q);
-  knows = λ q l. Rattle.vm_step.proofs.Asides.knows-then v x w q (r.0.knows q l)
-      (a.knows q (Rattle.vm_step.proofs.Asides.still-locking v x q (r.0.holds q) l));
+  holds = λ q. Rattle.vm_tree_merge.proofs.from_vm_step.Asides.holds-then v x w q (r.0.holds q) (a.holds q);
+  knows = λ q l. Rattle.vm_tree_merge.proofs.from_vm_step.Asides.knows-then v x w q (r.0.knows q l)
+      (a.knows q (Rattle.vm_tree_merge.proofs.from_vm_step.Asides.still-locking v x q (r.0.holds q) l));
   current = a.current;
   alone = λ whole current q ne. a.alone (whole-then v x r.0.parts whole) (r.0.alone.current current) q ne ∙ r.0.alone.words whole current q;
 }

@@ -11,18 +11,19 @@ use Rattle.vm_core.specs.Prelude.{LOCKED, page_at, version_of, word_of}
 use Rattle.vm_rule.specs.Prelude.{began_of, Each, entry_of, IsLocking, IsWhole, Kept, last_of, seat_of, StartsWith}
 use Rattle.vm_rule.specs.declared.view.WordPlace.{WordPlace}
 use Rattle.vm_rule.specs.declared.view.WordPlace.TheVariants as places
-use Rattle.vm_step.specs.Prelude.{Did, HasWritten, HoldsPage, KnowsAsBefore, Tie, UnlockedExpected, View}
-use Rattle.vm_step.specs.declared.saw.Saw.{Saw}
-use Rattle.vm_guard.specs.{Guards.IsLocked, Guards.IsReading, Guards.IsValid, Quiet.IsUnmark}
-use Rattle.vm_guard.specs.declared.deny.Deny.TheVariants as denies
-use Rattle.vm_guard.specs.Denied.{AgainOrWorn, IsDenied, KeptWord}
+use Rattle.vm_tree_merge.specs.from_vm_step.Prelude.{Did, HasWritten, HoldsPage, KnowsAsBefore, Tie, UnlockedExpected, View}
+use Rattle.vm_tree_merge.specs.from_vm_step.declared_saw_Saw.{Saw}
+use Rattle.vm_tree_merge.specs.from_vm_guard.{Guards.IsLocked, Guards.IsReading, Guards.IsValid, Quiet.IsUnmark}
+use Rattle.vm_tree_merge.specs.from_vm_guard.declared_deny_Deny_TheVariants as denies
+use Rattle.vm_tree_merge.specs.from_vm_guard.Denied.{AgainOrWorn, IsDenied, KeptWord}
 use Rattle.vm_tree_laws.specs.{History.IsLegal, May.IsEdit, Plain.KeepsPlain, Plain.plain_history, Tied.Tied}
-use Rattle.vm_kind.specs.Room.{HasRoomFor, IsTightFor}
-use Rattle.vm_tree_rule.specs.{Leaves.ReadsOn, Seeks.HasLoaded, Seeks.HasRead, Shown.IsShown, Standing.Awaits, Standing.IsOpened}
-use Rattle.vm_tree_rule.specs.Turns.{IsDamaged, IsNeeded, TellLeaf}
+use Rattle.vm_tree_merge.specs.from_vm_kind.Room.{HasRoomFor, IsTightFor}
+use Rattle.vm_tree_merge.specs.from_vm_tree_rule.{Leaves.ReadsOn, Seeks.HasLoaded, Seeks.HasRead, Shown.IsShown}
+use Rattle.vm_tree_merge.specs.from_vm_tree_rule.{Standing.Awaits, Standing.IsOpened}
+use Rattle.vm_tree_merge.specs.from_vm_tree_rule.Turns.{IsDamaged, IsNeeded, TellLeaf}
 use Rattle.vm_node.specs.Loads.{IsPageWith}
-use Rattle.vm_tree_read.specs.Reads.{GainsEntry, IsAnswered}
-use Rattle.vm_tree_split.specs.{Drafts.IsDraftPlace, PageNumbers.GainsNone}
+use Rattle.vm_tree_merge.specs.from_vm_tree_read.Reads.{GainsEntry, IsAnswered}
+use Rattle.vm_tree_merge.specs.from_vm_tree_split.{Drafts.IsDraftPlace, PageNumbers.GainsNone}
 use Rattle.vm_tree_merge.specs.{Beside.IsDamagedBeside, Beside.IsNeededBeside, Beside.IsUnmerged, Done.IsLockLost, Done.IsMergeDone}
 use Rattle.vm_tree_write.specs.{declared.write.Tried.Tried, declared.write.TryWrite.TryWrite}
 use Rattle.vm_tree_write.specs.declared.write.Tried.TheVariants as onces

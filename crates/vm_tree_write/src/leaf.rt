@@ -2,19 +2,19 @@
 ghost use Rattle.std.specs.Prelude.{◌++◌, ◌≡◌, IfErr, IfOk, length, None};
 ghost use Rattle.vm_tree_model.specs.Page.{IsLeaf, node_of};
 ghost use Rattle.vm_rule.specs.Prelude.{loads_at};
-ghost use Rattle.vm_step.specs.Prelude.{GoesOn, IsReadyOn, UnlockedExpected, view};
-ghost use Rattle.vm_guard.specs.Denied.{AgainOrWorn, IsDenied, KeptWord};
-ghost use Rattle.vm_guard.specs.Guards.{IsReading, placed};
+ghost use Rattle.vm_tree_merge.specs.from_vm_step.Prelude.{GoesOn, IsReadyOn, UnlockedExpected, view};
+ghost use Rattle.vm_tree_merge.specs.from_vm_guard.Denied.{AgainOrWorn, IsDenied, KeptWord};
+ghost use Rattle.vm_tree_merge.specs.from_vm_guard.Guards.{IsReading, placed};
 ghost use Rattle.vm_tree_laws.specs.May.{IsEdit};
-ghost use Rattle.vm_tree_rule.specs.Resident.{IsKnownNow, KnowsResident};
-ghost use Rattle.vm_tree_split.specs.Prepares.{SaysWorn};
+ghost use Rattle.vm_tree_merge.specs.from_vm_tree_rule.Resident.{IsKnownNow, KnowsResident};
+ghost use Rattle.vm_tree_merge.specs.from_vm_tree_split.Prepares.{SaysWorn};
 ghost use Rattle.vm_tree_write.specs.Writes.{IsWriteOf};
 
 use vm_block::Block;
-use vm_guard::{Deny, OptGuard};
-use vm_kind::{Edits, TreeOf};
 use vm_rule::words::{Pass, Words};
-use vm_tree_split::draft::{Edited, redraft};
+use vm_tree_merge::vm_guard::{Deny, OptGuard};
+use vm_tree_merge::vm_kind::{Edits, TreeOf};
+use vm_tree_merge::vm_tree_split::draft::{Edited, redraft};
 
 /// Locks the leaf whose words stand in `before`, makes the edit, and releases it: what is said becomes an entry there.
 pub fn write_leaf<K: Edits, B: Block>(

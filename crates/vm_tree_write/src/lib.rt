@@ -4,5 +4,9 @@
 pub mod leaf;
 pub mod write;
 
-pub use vm_tree_split::{TrySplit, try_split};
+pub use vm_tree_merge::vm_tree_split::{TrySplit, try_split};
 pub use write::{TryWrite, try_del, try_put, try_swap};
+
+// Libraries below that the crates above name through this one.
+pub use vm_rule;
+pub use vm_tree_merge::{vm_exmap, vm_kind, vm_pool, vm_tree_read, vm_tree_rule, vm_tree_split};

@@ -5,29 +5,29 @@ ghost use Rattle.vm_map.specs.declared.call.Reply.TheVariants.{Gone, Was};
 ghost use Rattle.vm_map.specs.Map.{del_pair, lookup_at, Rises};
 ghost use Rattle.vm_tree_model.specs.{Edits.IsLeafWith, Node.Covers, Page.IsLeaf, Page.node_of, Page.pairs_of};
 ghost use Rattle.vm_node.specs.Loads.{IsPageWith, Tells};
-ghost use Rattle.vm_step.specs.Prelude.{GoesOn, IsReadyOn, UnlockedExpected, view};
-ghost use Rattle.vm_guard.specs.Denied.{AgainOrWorn, IsDenied, KeptWord};
-ghost use Rattle.vm_guard.specs.Guards.{IsReading};
-ghost use Rattle.vm_tree_rule.specs.{Above.IsAbove, Above.KnowsAbove, Few.ReadsInPlace, Resident.IsKnownNow, Resident.KnowsResident, Seeks.HasLoaded, Seeks.HasRead, Standing.Awaits, Standing.IsOpened};
-ghost use Rattle.vm_tree_rule.specs.Turns.{IsTurnedBack, TellLeaf};
-ghost use Rattle.vm_tree_read.specs.Reads.{TellReply};
-ghost use Rattle.vm_kind.specs.Room.{HasRoomFor, IsTightFor};
-ghost use Rattle.vm_tree_split.specs.Prepares.{SaysWorn};
+ghost use Rattle.vm_tree_merge.specs.from_vm_step.Prelude.{GoesOn, IsReadyOn, UnlockedExpected, view};
+ghost use Rattle.vm_tree_merge.specs.from_vm_guard.Denied.{AgainOrWorn, IsDenied, KeptWord};
+ghost use Rattle.vm_tree_merge.specs.from_vm_guard.Guards.{IsReading};
+ghost use Rattle.vm_tree_merge.specs.from_vm_tree_rule.{Above.IsAbove, Above.KnowsAbove, Few.ReadsInPlace, Resident.IsKnownNow, Resident.KnowsResident, Seeks.HasLoaded, Seeks.HasRead, Standing.Awaits, Standing.IsOpened};
+ghost use Rattle.vm_tree_merge.specs.from_vm_tree_rule.Turns.{IsTurnedBack, TellLeaf};
+ghost use Rattle.vm_tree_merge.specs.from_vm_tree_read.Reads.{TellReply};
+ghost use Rattle.vm_tree_merge.specs.from_vm_kind.Room.{HasRoomFor, IsTightFor};
+ghost use Rattle.vm_tree_merge.specs.from_vm_tree_split.Prepares.{SaysWorn};
 ghost use Rattle.vm_tree_merge.specs.Beside.{IsTurnedBeside};
 ghost use Rattle.vm_tree_write.specs.Writes.{HasKeyIn, HasValueIn, IsDel, IsFinal, IsPut, IsSwap, swap_reply, TellTight, with_reply};
 
 use crate::leaf::write_leaf;
 use vm_block::Block;
-use vm_guard::{Deny, OptGuard};
-use vm_kind::{Edits, Kind, Merges, TreeOf};
 use vm_map::call::{Reply, Swap};
 use vm_node::Place;
 use vm_rule::words::{Pass, Words};
-use vm_step::{Saw, frame_place};
+use vm_tree_merge::vm_guard::{Deny, OptGuard};
+use vm_tree_merge::vm_kind::{Edits, Kind, Merges, TreeOf};
+use vm_tree_merge::vm_step::{Saw, frame_place};
+use vm_tree_merge::vm_tree_read::answer::{answer, leaf_at, leaf_below, read_leaf};
+use vm_tree_merge::vm_tree_read::read::find_in_place;
+use vm_tree_merge::vm_tree_rule::{InPlace, Reached, Turn};
 use vm_tree_merge::{Merge, try_merge};
-use vm_tree_read::answer::{answer, leaf_at, leaf_below, read_leaf};
-use vm_tree_read::read::find_in_place;
-use vm_tree_rule::{InPlace, Reached, Turn};
 
 /// What a try of a write answers.
 #[derive(Debug, Drop)]

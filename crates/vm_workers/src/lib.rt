@@ -11,3 +11,6 @@ pub mod worker;
 
 pub use joins::join_workers;
 pub use walk::{run_all, run_and_join};
+
+// Libraries below that the crates above name through this one.
+pub use vm_pool_callers;

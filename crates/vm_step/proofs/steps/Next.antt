@@ -7,8 +7,8 @@ use Rattle.std.proofs.Common.{eq-eqb}
 use Rattle.vm_core.specs.declared.event.Seen.TheVariants as sights
 use Rattle.std.specs.Prelude.{map}
 use Rattle.vm_core.specs.Prelude.{has_free_bit}
-use Rattle.vm_numbers.proofs.Steps.{claim_keeps}
-use Rattle.vm_numbers.specs.Hands.{Hands, NumbersFit}
+use Rattle.vm_rule.proofs.from_vm_numbers.Steps.{claim_keeps}
+use Rattle.vm_rule.specs.from_vm_numbers.Hands.{Hands, NumbersFit}
 use Rattle.vm_owner.proofs.NumberLemmas.{has-both}
 use Rattle.vm_rule.proofs.Numbered.{hands-set, hands-there}
 use Rattle.vm_rule.specs.Rule.{hands_of}

@@ -9,7 +9,7 @@ use Rattle.vm_core.specs.declared.event.Seen.TheVariants as sights
 use Rattle.std.proofs.Math.Bool.{and-false, and-true}
 use Rattle.std.specs.Prelude.{◌&&◌, ◌==◌, if◌then◌else◌, map}
 use Rattle.vm_core.specs.Prelude.{has_free_bit}
-use Rattle.vm_numbers.specs.Hands.{all_zero, Hands, NumbersFit, zeroed}
+use Rattle.vm_rule.specs.from_vm_numbers.Hands.{all_zero, Hands, NumbersFit, zeroed}
 use Rattle.vm_owner.specs.Kept.{after_release as released_kept, changed, frees, MayMove, moved, NumberMove}
 use Rattle.vm_owner.specs.Kept.NumberMove.{Ended}
 use Rattle.vm_rule.specs.Releases.{freed_by}

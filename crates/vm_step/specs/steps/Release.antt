@@ -5,7 +5,7 @@ use Rattle.std.specs.Prelude.{[], ◌+◌, ◌<◌, ◌∷◌, ◌≡◌, ◌≤
 use Rattle.vm_core.specs.Prelude.{EVICTED, MAX_VERSION, word_of}
 use Rattle.vm_core.specs.declared.event.Event.TheVariants.{Downgrade, Release, ReleaseE}
 use Rattle.vm_core.specs.declared.event.Seen.TheVariants as sights
-use Rattle.vm_numbers.specs.Hands.{IsUsable}
+use Rattle.vm_rule.specs.from_vm_numbers.Hands.{IsUsable}
 use Rattle.vm_rule.specs.Rule.{hands_of}
 use Rattle.vm_rule.specs.Prelude.{AreApart, AreUnchanged, began_of, Change, changes_of, DowngradeTold, draft_of, Each}
 use Rattle.vm_rule.specs.Prelude.{entries_of, Entry, EvictTold, has, held_at, index_of, Kept, last_of, no_held}

@@ -3,7 +3,7 @@ use Rattle.std.proofs.lemmas.List.{drop_more, take_more}
 use Rattle.vm_map.specs.{declared.call.Call.Call, History.IsAskable}
 use Rattle.vm_map.specs.declared.call.Call.TheVariants.{Get}
 use Rattle.vm_step.specs.Prelude.{view}
-use Rattle.vm_tree_read.proofs.Losing.{loses-same, loses-then}
+use Rattle.vm_tree_range.proofs.from_vm_tree_read.Losing.{loses-same, loses-then}
 use Rattle.vm_calls.specs.{Kept.IsRoomFor, Spans.HasSpans}
 use Rattle.vm_calls.proofs.{Chain.calls-snoc, Lists.all-at, Memory.span-now, Memory.spans-after}
 use Rattle.vm_calls.proofs.Shortening.{room-after, room-now}

@@ -1,4 +1,4 @@
-use Rattle.vm_endings.specs.Outside.{outside_of, remains_of}
+use Rattle.vm_file_serve.specs.from_vm_endings.Outside.{outside_of, remains_of}
 use Rattle.vm_cli.proofs.command.give.Goals as goal
 
 pub returns-in-Run-clause-gives : goal.returns-in-Run-clause-gives

@@ -1,6 +1,6 @@
-use Rattle.vm_endings.specs.Deliveries.{content_of}
-use Rattle.vm_endings.specs.Endings.{done}
-use Rattle.vm_endings.proofs.Delivering.{refused}
+use Rattle.vm_file_serve.specs.from_vm_endings.Deliveries.{content_of}
+use Rattle.vm_file_serve.specs.from_vm_endings.Endings.{done}
+use Rattle.vm_file_serve.proofs.from_vm_endings.Delivering.{refused}
 use Rattle.vm_cli.proofs.run.perform.Goals as goal
 
 pub returns-in-Ok-clause-ends : goal.returns-in-Ok-clause-ends

@@ -1,5 +1,5 @@
 use Rattle.std.proofs.Common.{Err, ap, refl}
-use Rattle.vm_endings.specs.Endings.{command, usage}
+use Rattle.vm_file_serve.specs.from_vm_endings.Endings.{command, usage}
 use Rattle.vm_cli.proofs.Agreement.{agrees, complete, headline, idle_use, read_by, used_by}
 use Rattle.vm_cli.proofs.run.run.Goals as goal
 

@@ -1,7 +1,7 @@
 use Rattle.std.proofs.Common.{List, Result, subst, sym}
 use Rattle.vm_map.specs.declared.call.Reply.{Reply}
 use Rattle.vm_step.specs.Prelude.{view}
-use Rattle.vm_tree_rule.specs.declared.fault.TreeFault.{TreeFault}
+use Rattle.vm_calls.specs.from_vm_tree_rule.declared_fault_TreeFault.{TreeFault}
 use Rattle.vm_drive.specs.Drives.{IsDriven, items_of}
 use Rattle.vm_drive.proofs.Crews.{kept-contents, kept-replies}
 use Rattle.vm_drive.proofs.driving.drive.Goals as goal

@@ -1,5 +1,5 @@
 use Rattle.std.proofs.Common.{◌≡◌, ◌≤◌, length}
-use Rattle.vm_drive.specs.Drives.{AreAskable, AreFew, items_of}
+use Rattle.vm_serve.specs.from_vm_drive.Drives.{AreAskable, AreFew, items_of}
 use Rattle.vm_drive_callers.proofs.calls.shares.Given as goal
 
 abbrev pub invariant-loop-worker : goal.invariant-loop-worker

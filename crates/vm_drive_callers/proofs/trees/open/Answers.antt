@@ -1,5 +1,5 @@
 use Rattle.std.proofs.Common.{arith, refl, rules}
-use Rattle.vm_pool.proofs.FirstPass.{first-alone}
+use Rattle.vm_serve.proofs.from_vm_pool.FirstPass.{first-alone}
 use Rattle.vm_serve.proofs.Headline.{begins, fresh-enough}
 use Rattle.vm_drive_callers.proofs.trees.open.Goals as goal
 

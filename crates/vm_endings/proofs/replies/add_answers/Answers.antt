@@ -1,8 +1,8 @@
 use Rattle.std.proofs.Common.{◌+◌, ◌<◌, ◌∙◌, ap, arith, drop, get_or, length, None}
 use Rattle.std.proofs.lemmas.List.{take_rest}
 use Rattle.vm_map.specs.declared.call.Call.TheVariants.{Get}
-use Rattle.vm_calls.specs.Compact.{ranges_in, wins_in}
-use Rattle.vm_calls.specs.declared.compact.Short.TheVariants.{Got}
+use Rattle.vm_serve.specs.from_vm_calls.Compact.{ranges_in, wins_in}
+use Rattle.vm_serve.specs.from_vm_calls.declared_compact_Short_TheVariants.{Got}
 use Rattle.vm_endings.proofs.Telling.{answer_told, answers_told, ranges_one, spans_left, told_long, wins_left, wins_one}
 use Rattle.vm_endings.proofs.replies.add_answers.Goals as goal
 

@@ -1,5 +1,5 @@
 use Rattle.std.proofs.Common.{◌++◌, ◌+◌, ◌≡◌, ◌≤◌, drop}
-use Rattle.vm_calls.specs.Compact.{ranges_in, replies_in, told_in, wins_in}
+use Rattle.vm_serve.specs.from_vm_calls.Compact.{ranges_in, replies_in, told_in, wins_in}
 use Rattle.vm_script.specs.Texts.{replies_text}
 use Rattle.vm_endings.specs.Replies.{lines_in}
 use Rattle.vm_endings.proofs.replies.add_answers.Given as goal

@@ -1,6 +1,6 @@
 use Rattle.std.proofs.Common.{◌++◌, ◌≡◌, drop}
-use Rattle.vm_calls.specs.Compact.{all_replies}
-use Rattle.vm_drive.specs.Drives.{items_of}
+use Rattle.vm_serve.specs.from_vm_calls.Compact.{all_replies}
+use Rattle.vm_serve.specs.from_vm_drive.Drives.{items_of}
 use Rattle.vm_script.specs.Texts.{worker_replies}
 use Rattle.vm_endings.specs.Replies.{all_lines}
 use Rattle.vm_endings.proofs.replies.add_replies.Given as goal

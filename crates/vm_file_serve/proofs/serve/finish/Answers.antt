@@ -1,9 +1,9 @@
 use Rattle.std.proofs.Common.{◌∙◌, ◌≡◌, ap, Bool, map, Option, refl, rules, subst, sym, ℕ}
 use Rattle.std.proofs.lemmas.Result.{err_from_is_err_and}
-use Rattle.vm_drive.specs.Prelude.{all_replies}
-use Rattle.vm_drive.specs.Drives.{items_of}
-use Rattle.vm_endings.specs.{Deliveries.content_of, Serves.unsaved_page}
-use Rattle.vm_endings.proofs.Telling.{matched}
+use Rattle.vm_reading.specs.from_vm_drive.Prelude.{all_replies}
+use Rattle.vm_reading.specs.from_vm_drive.Drives.{items_of}
+use Rattle.vm_reading.specs.from_vm_endings.{Deliveries.content_of, Serves.unsaved_page}
+use Rattle.vm_reading.proofs.from_vm_endings.Telling.{matched}
 use Rattle.vm_file_serve.specs.Serving.{AreServable, IsToldServe}
 use Rattle.vm_file_serve.proofs.Bringing.{brought, lent_back, synced_many}
 use Rattle.vm_file_serve.proofs.Homes.{just_changes}

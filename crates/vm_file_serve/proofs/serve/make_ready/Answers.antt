@@ -1,8 +1,8 @@
 use Rattle.std.specs.declared.alloc.Global.{Global}
 use Rattle.std.proofs.Common.{inr, Vec}
 use Rattle.vm_map.specs.declared.call.Call.{Call}
-use Rattle.vm_drive.specs.Drives.{items_of}
-use Rattle.vm_endings.specs.Outside.{with_shown, with_unread}
+use Rattle.vm_reading.specs.from_vm_drive.Drives.{items_of}
+use Rattle.vm_reading.specs.from_vm_endings.Outside.{with_shown, with_unread}
 use Rattle.vm_file_serve.proofs.Answering.{calls-why}
 use Rattle.vm_file_serve.proofs.Words.{read_same}
 use Rattle.vm_file_serve.proofs.serve.make_ready.Goals as goal

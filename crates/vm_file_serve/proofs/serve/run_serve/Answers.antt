@@ -1,11 +1,12 @@
 use Rattle.std.proofs.Common.{inl, inr, List, map, refl, rules, subst, sym}
 use Rattle.std.specs.declared.alloc.AllocError.{AllocError}
-use Rattle.vm_endings.specs.declared.delivery.Delivery.{Delivery}
-use Rattle.vm_endings.specs.Deliveries.{content_of}
+use Rattle.vm_reading.specs.from_vm_endings.declared_delivery_Delivery.{Delivery}
+use Rattle.vm_reading.specs.from_vm_endings.Deliveries.{content_of}
 use Rattle.vm_file_serve.specs.declared.serve.Ready.{Ready}
-use Rattle.vm_endings.specs.Outside.{outside_of, remains_of}
+use Rattle.vm_reading.specs.from_vm_endings.Outside.{outside_of, remains_of}
 use Rattle.vm_file_serve.specs.Serving.{MayServe}
-use Rattle.vm_file_serve.proofs.Answering.{cause-of, leaves-of, limits-stop, may-serve, ready-answers, taking-answers, taking-cause, taking-leaves}
+use Rattle.vm_file_serve.proofs.Answering.{cause-of, leaves-of, limits-stop, may-serve, ready-answers, taking-answers}
+use Rattle.vm_file_serve.proofs.Answering.{taking-cause, taking-leaves}
 use Rattle.vm_file_serve.proofs.Bringing.{back_home, changes_own, keeps_files, lent_back, rose_home}
 use Rattle.vm_file_serve.proofs.Homes.{none_change}
 use Rattle.vm_file_serve.proofs.Served.{serve-devices, serve-gives, serve-home}

@@ -1,6 +1,6 @@
 use Rattle.std.proofs.Common.{◌∙◌, ◌≡◌, false, refl, sym, true}
-use Rattle.vm_endings.specs.Tests.{here, past}
-use Rattle.vm_endings.specs.Limits.{are_frames, are_workers}
+use Rattle.vm_reading.specs.from_vm_endings.Tests.{here, past}
+use Rattle.vm_reading.specs.from_vm_endings.Limits.{are_frames, are_workers}
 use Rattle.vm_file_serve.proofs.serve.workers_of.Goals as goal
 
 pub returns-then-not-are_workers : goal.returns-then-not-are_workers

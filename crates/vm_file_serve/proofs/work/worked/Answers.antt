@@ -2,10 +2,10 @@ use Rattle.std.proofs.Common.{List, map, Result, subst, sym, ℕ}
 use Rattle.std.proofs.lemmas.Result.{IfOk-weaker}
 use Rattle.vm_map.specs.declared.call.Reply.{Reply}
 use Rattle.vm_image.specs.File.{AreFreePages}
-use Rattle.vm_tree_rule.specs.declared.fault.TreeFault.{TreeFault}
-use Rattle.vm_drive.specs.Drives.{items_of}
-use Rattle.vm_drive.proofs.Crews.{kept-contents, kept-replies}
-use Rattle.vm_serve.specs.Served.{IsServedOn, MayBeServed}
+use Rattle.vm_reading.specs.from_vm_tree_rule.declared_fault_TreeFault.{TreeFault}
+use Rattle.vm_reading.specs.from_vm_drive.Drives.{items_of}
+use Rattle.vm_reading.proofs.from_vm_drive.Crews.{kept-contents, kept-replies}
+use Rattle.vm_reading.specs.from_vm_serve.Served.{IsServedOn, MayBeServed}
 use Rattle.vm_file_serve.proofs.work.worked.Goals as goal
 
 pub returns-clause-served : goal.returns-clause-served

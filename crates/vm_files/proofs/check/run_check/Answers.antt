@@ -1,4 +1,4 @@
-use Rattle.vm_endings.specs.Outside.{with_shown, with_unread}
+use Rattle.vm_reading.specs.from_vm_endings.Outside.{with_shown, with_unread}
 use Rattle.vm_files.proofs.Giving.{check-gives, check-stops}
 use Rattle.vm_files.proofs.check.run_check.Goals as goal
 

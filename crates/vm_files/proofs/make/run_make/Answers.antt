@@ -1,4 +1,4 @@
-use Rattle.vm_endings.specs.Outside.{nothing_left, nowhere}
+use Rattle.vm_reading.specs.from_vm_endings.Outside.{nothing_left, nowhere}
 use Rattle.vm_files.proofs.Making.{make_reads_none}
 use Rattle.vm_files.proofs.make.run_make.Goals as goal
 

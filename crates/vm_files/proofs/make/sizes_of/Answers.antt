@@ -1,7 +1,7 @@
 use Rattle.std.proofs.Common.{◌≡◌, ◌∙◌, ◌<◌, ap, false, true, refl, sym}
 use Rattle.vm_build.specs.Build.{needed}
-use Rattle.vm_endings.specs.Limits.{are_pages, are_pairs_to_make, are_words, words_or}
-use Rattle.vm_endings.specs.Tests.{here, past}
+use Rattle.vm_reading.specs.from_vm_endings.Limits.{are_pages, are_pairs_to_make, are_words, words_or}
+use Rattle.vm_reading.specs.from_vm_endings.Tests.{here, past}
 use Rattle.vm_files.proofs.make.sizes_of.Goals as goal
 
 pub returns-then-not-are_pages : goal.returns-then-not-are_pages

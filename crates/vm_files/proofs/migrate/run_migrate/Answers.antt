@@ -1,5 +1,5 @@
 use Rattle.std.proofs.Common.{◌∙◌, sym}
-use Rattle.vm_endings.specs.Outside.{nothing_left, nowhere, with_shown, with_unread}
+use Rattle.vm_reading.specs.from_vm_endings.Outside.{nothing_left, nowhere, with_shown, with_unread}
 use Rattle.vm_files.proofs.Giving.{migrate-answers, migrate-cause, pages-stop, unread-stops}
 use Rattle.vm_files.proofs.Migrating.{read_few, read_rise}
 use Rattle.vm_files.proofs.migrate.run_migrate.Goals as goal

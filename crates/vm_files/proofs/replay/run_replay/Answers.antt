@@ -1,8 +1,8 @@
 use Rattle.std.proofs.Common.{inl, inr, refl}
 use Rattle.vm_script.specs.Scripts.{most_bytes}
 use Rattle.vm_replay.specs.Told.{PlayedFile}
-use Rattle.vm_endings.specs.{Outside.with_shown, Outside.with_unread, Scripts.AreBadEvents}
-use Rattle.vm_endings.specs.Tests.{here}
+use Rattle.vm_reading.specs.from_vm_endings.{Outside.with_shown, Outside.with_unread, Scripts.AreBadEvents}
+use Rattle.vm_reading.specs.from_vm_endings.Tests.{here}
 use Rattle.vm_reading.proofs.Files.{short_file, long_file}
 use Rattle.vm_files.proofs.Giving.{replay-gives}
 use Rattle.vm_files.proofs.replay.run_replay.Goals as goal

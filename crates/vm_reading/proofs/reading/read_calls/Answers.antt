@@ -1,6 +1,6 @@
 use Rattle.std.proofs.Common.{refl}
 use Rattle.vm_script.specs.Scripts.{most_bytes}
-use Rattle.vm_drive.specs.Drives.{items_of}
+use Rattle.vm_endings.specs.from_vm_drive.Drives.{items_of}
 use Rattle.vm_endings.specs.Scripts.{IsBadScript, IsScriptOf}
 use Rattle.vm_reading.proofs.Files.{short_file, long_file, few_script, askable_script}
 use Rattle.vm_reading.proofs.reading.read_calls.Goals as goal

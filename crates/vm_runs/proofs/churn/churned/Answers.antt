@@ -2,7 +2,7 @@ use Rattle.std.proofs.Common.{◌∙◌, ◌≡◌, ◌≤◌, ap, length, List,
 use Rattle.vm_block.specs.declared.memory.MemBlock.{MemBlock}
 use Rattle.vm_tree_model.specs.{Fixed.fixed, Tree.IsTree, Tree.map_of}
 use Rattle.vm_image.specs.{Blocks.pages_of_blocks, File.most_pages}
-use Rattle.vm_churn.specs.{declared.tally.Tally.Tally, Tallies.total_of}
+use Rattle.vm_reading.specs.from_vm_churn.{declared_tally_Tally.Tally, Tallies.total_of}
 use Rattle.vm_runs.proofs.churn.churned.Goals as goal
 use Rattle.vm_runs.proofs.Churning.{churned, few_workers, most_blocks, saved_tree, small_tallies, some_blocks, values_fit}
 

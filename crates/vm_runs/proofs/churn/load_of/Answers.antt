@@ -1,6 +1,6 @@
 use Rattle.std.proofs.Common.{◌∙◌, ◌≡◌, ap, false, refl, Some, sym, true, ℕ}
-use Rattle.vm_endings.specs.Limits.{are_frames, are_pairs_to_churn, are_words, are_workers, words_or}
-use Rattle.vm_endings.specs.Tests.{here, past}
+use Rattle.vm_reading.specs.from_vm_endings.Limits.{are_frames, are_pairs_to_churn, are_words, are_workers, words_or}
+use Rattle.vm_reading.specs.from_vm_endings.Tests.{here, past}
 use Rattle.vm_runs.proofs.churn.load_of.Goals as goal
 use Rattle.vm_runs.proofs.Churning.{within_limits}
 

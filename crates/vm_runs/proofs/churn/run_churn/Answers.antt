@@ -1,5 +1,5 @@
 use Rattle.std.proofs.Common.{refl}
-use Rattle.vm_endings.specs.declared.ends.Ends.TheVariants.{LargeTree, Tree}
+use Rattle.vm_reading.specs.from_vm_endings.declared_ends_Ends_TheVariants.{LargeTree, Tree}
 use Rattle.vm_runs.proofs.churn.run_churn.Goals as goal
 use Rattle.vm_runs.proofs.Churning.{churn-does, churn-gives}
 

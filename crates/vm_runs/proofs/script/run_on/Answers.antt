@@ -1,8 +1,8 @@
 use Rattle.std.specs.declared.alloc.Global.{Global}
 use Rattle.std.proofs.Common.{◌∙◌, ◌≡◌, Vec, false, sym, true}
 use Rattle.vm_map.specs.declared.call.Call.{Call}
-use Rattle.vm_drive.specs.Drives.{items_of}
-use Rattle.vm_endings.specs.{Limits.holds_call, Outside.with_shown, Outside.with_unread}
+use Rattle.vm_reading.specs.from_vm_drive.Drives.{items_of}
+use Rattle.vm_reading.specs.from_vm_endings.{Limits.holds_call, Outside.with_shown, Outside.with_unread}
 use Rattle.vm_runs.proofs.Running.{calls-stop, depth-stops, run-does}
 use Rattle.vm_runs.proofs.script.run_on.Goals as goal
 

@@ -1,6 +1,6 @@
 use Rattle.std.proofs.Common.{arith}
-use Rattle.vm_endings.specs.Deliveries.{content_of}
-use Rattle.vm_endings.specs.Outside.{nothing_left, nowhere, with_shown, with_unread}
+use Rattle.vm_reading.specs.from_vm_endings.Deliveries.{content_of}
+use Rattle.vm_reading.specs.from_vm_endings.Outside.{nothing_left, nowhere, with_shown, with_unread}
 use Rattle.vm_runs.proofs.Running.{image-stops, large-gives, limits-stop, run-stops, small-gives}
 use Rattle.vm_runs.proofs.EarlierCauses.{earlier-cause}
 use Rattle.vm_runs.proofs.script.run_script.Goals as goal

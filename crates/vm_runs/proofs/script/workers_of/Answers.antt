@@ -1,6 +1,6 @@
 use Rattle.std.proofs.Common.{◌∙◌, ◌≡◌, ap, false, refl, sym, true}
-use Rattle.vm_endings.specs.{Runs.version_or, Tests.here, Tests.past}
-use Rattle.vm_endings.specs.Limits.{are_entries, are_frames, are_workers, is_version}
+use Rattle.vm_reading.specs.from_vm_endings.{Runs.version_or, Tests.here, Tests.past}
+use Rattle.vm_reading.specs.from_vm_endings.Limits.{are_entries, are_frames, are_workers, is_version}
 use Rattle.vm_runs.proofs.Outcomes.{version_is}
 use Rattle.vm_runs.proofs.script.workers_of.Goals as goal
 

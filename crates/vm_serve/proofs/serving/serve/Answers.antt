@@ -2,7 +2,7 @@ use Rattle.std.proofs.Common.{◌*◌, ◌∙◌, ◌≤◌, arith, length, List
 use Rattle.vm_map.specs.declared.call.Reply.{Reply}
 use Rattle.vm_image.specs.File.{AreFreePages}
 use Rattle.vm_core.specs.Prelude.{MAX_VERSION}
-use Rattle.vm_tree_rule.specs.declared.fault.TreeFault.{TreeFault}
+use Rattle.vm_drive.specs.from_vm_tree_rule.declared_fault_TreeFault.{TreeFault}
 use Rattle.vm_drive.specs.Drives.{items_of}
 use Rattle.vm_drive.proofs.Crews.{kept-contents, kept-replies}
 use Rattle.vm_serve.specs.Served.{IsServed}

@@ -2,8 +2,8 @@ use Rattle.std.proofs.Common.{◌*◌, ◌<◌, ◌∙◌, ◌≡◌, ◌≤◌,
 use Rattle.std.proofs.lemmas.Bool.{eq-eqb}
 use Rattle.vm_map.specs.declared.call.Said.{Said}
 use Rattle.vm_rule.proofs.ListFacts.{length-mapped}
-use Rattle.vm_step.specs.Prelude.{Origin, TableShape, View, view}
-use Rattle.vm_pool.proofs.FirstPass.{first-alone}
+use Rattle.vm_drive.specs.from_vm_step.Prelude.{Origin, TableShape, View, view}
+use Rattle.vm_drive.proofs.from_vm_pool.FirstPass.{first-alone}
 use Rattle.vm_drive.specs.Drives.{items_of}
 use Rattle.vm_serve.proofs.Headline.{begins-held, claimed-free, fresh-enough, has-started, served}
 use Rattle.vm_serve.proofs.serving.serve_on.Goals as goal

@@ -3,7 +3,7 @@ use Rattle.vm_map.specs.declared.call.Call.TheVariants.{Swap}
 use Rattle.vm_map.specs.declared.call.Said.{Said}
 use Rattle.vm_tree_model.specs.Fixed.{fixed}
 use Rattle.vm_step.specs.Prelude.{view}
-use Rattle.vm_tree_write.specs.Writes.{HasValueIn}
+use Rattle.vm_tree_retry.specs.from_vm_tree_write.Writes.{HasValueIn}
 use Rattle.vm_tree_callers.proofs.write_calls.swap_at.Goals as goal
 use Rattle.vm_tree_callers.proofs.WriteHomes.{swap-home}
 

@@ -1,8 +1,8 @@
 use Rattle.std.proofs.Common.{[], ◌<◌, ◌∙◌, ◌∷◌, ap, inl, inr, refl, replicate, subst, sym, ℕ}
 use Rattle.vm_rule.specs.Prelude.{AreApart, has}
-use Rattle.vm_step.specs.Prelude.{Origin, view}
+use Rattle.vm_tree_split.specs.from_vm_step.Prelude.{Origin, view}
 use Rattle.vm_tree_laws.specs.May.{MayMerge}
-use Rattle.vm_tree_rule.proofs.Whole.{tree-size}
+use Rattle.vm_tree_split.proofs.from_vm_tree_rule.Whole.{tree-size}
 use Rattle.vm_tree_split.proofs.Splitting.{among-first}
 use Rattle.vm_tree_join.specs.{Locks.GivesNumber, Merging.IsMerged, Merging.page_change}
 use Rattle.vm_tree_join.proofs.{Finishing.merge-made, Finishing.merge-resident, Tags.inner-of, Tags.leaf-of}

@@ -4,10 +4,10 @@ use Rattle.std.proofs.lemmas.Bool.{ne_eqb}
 use Rattle.vm_core.specs.Prelude.{LoadsAre}
 use Rattle.vm_page.specs.Pages.{all_zero}
 use Rattle.vm_rule.specs.Prelude.{AreApart, draft_of, has, last_of}
-use Rattle.vm_step.specs.Prelude.{Origin, view}
-use Rattle.vm_guard.proofs.Groups.{lacks}
+use Rattle.vm_tree_split.specs.from_vm_step.Prelude.{Origin, view}
+use Rattle.vm_tree_split.proofs.from_vm_guard.Groups.{lacks}
 use Rattle.vm_tree_laws.specs.May.{MayCollapse}
-use Rattle.vm_tree_rule.proofs.{Readings.loads-behind, Whole.tree-size}
+use Rattle.vm_tree_split.proofs.from_vm_tree_rule.{Readings.loads-behind, Whole.tree-size}
 use Rattle.vm_tree_split.specs.Splits.{HasDraft}
 use Rattle.vm_tree_split.proofs.{Ends.meta-not, Splitting.among-first, Splitting.among-later}
 use Rattle.vm_tree_join.specs.{Locks.GivesNumber, Merging.IsMerged, Merging.page_change}

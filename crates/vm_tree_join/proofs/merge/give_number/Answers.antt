@@ -2,8 +2,8 @@ use Rattle.std.proofs.Common.{◌%◌, ◌/◌, ◌^◌, ◌≡◌, arith, subst
 use Rattle.std.proofs.lemmas.Nat.{one_shl}
 use Rattle.vm_core.specs.Prelude.{in_mask}
 use Rattle.vm_rule.specs.FreeNumbers.{IsGivenBy}
-use Rattle.vm_step.specs.Prelude.{view}
-use Rattle.vm_guard.proofs.FreeBits.{mask-some}
+use Rattle.vm_tree_split.specs.from_vm_step.Prelude.{view}
+use Rattle.vm_tree_split.proofs.from_vm_guard.FreeBits.{mask-some}
 use Rattle.vm_tree_join.proofs.OneBit.{bit-here, bit-only}
 use Rattle.vm_tree_join.proofs.merge.give_number.Goals as goal
 

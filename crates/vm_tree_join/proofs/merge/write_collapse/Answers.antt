@@ -1,8 +1,8 @@
 use Rattle.std.proofs.Common.{◌∙◌, arith, replicate, sym}
 use Rattle.vm_rule.specs.Prelude.{last_of}
-use Rattle.vm_step.specs.Prelude.{view}
-use Rattle.vm_guard.specs.Guards.{IsHolding}
-use Rattle.vm_tree_rule.proofs.Whole.{tree-size, tree_place}
+use Rattle.vm_tree_split.specs.from_vm_step.Prelude.{view}
+use Rattle.vm_tree_split.specs.from_vm_guard.Guards.{IsHolding}
+use Rattle.vm_tree_split.proofs.from_vm_tree_rule.Whole.{tree-size, tree_place}
 use Rattle.vm_tree_join.proofs.merge.write_collapse.Goals as goal
 use Rattle.vm_tree_join.proofs.Collapsing.{collapse-all, collapse-done}
 use Rattle.vm_tree_split.proofs.Rooting.{drafts-four, four-apart, four-stay, two-held, two-pid, two-redrafts, two-set}

@@ -1,5 +1,5 @@
 use Rattle.std.proofs.Common.{◌∙◌, ap, inr, option_map, sym}
-use Rattle.vm_tree_split.proofs.Splitting.{none-not}
+use Rattle.vm_tree_join.proofs.from_vm_tree_split.Splitting.{none-not}
 use Rattle.vm_tree_merge.proofs.Choosing.{both-leaf, chosen}
 use Rattle.vm_tree_merge.proofs.beside.choose_of.Goals as goal
 

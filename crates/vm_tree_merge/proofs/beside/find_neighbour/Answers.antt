@@ -1,13 +1,14 @@
 use Rattle.std.proofs.Common.{◌∙◌, ap, inl, subst, sym}
 use Rattle.vm_map.specs.Map.{next_key}
 use Rattle.vm_tree_model.specs.Page.{node_of, pairs_of}
-use Rattle.vm_rule.specs.Prelude.{last_of}
-use Rattle.vm_step.specs.Prelude.{Origin, view}
-use Rattle.vm_tree_rule.proofs.Whole.{tree-size}
-use Rattle.vm_tree_rule.proofs.{Entering.opened-reads, Entering.refused-turn, Reaching.parent-beside, Surely.known-at, Surely.known-same}
-use Rattle.vm_tree_rule.proofs.Readings.{leaves-self, leaves-then, loads-reads, opened-earlier, opened-later}
-use Rattle.vm_tree_rule.proofs.Readings.{opened-loads, reads-self, reads-then, valid-reads}
-use Rattle.vm_tree_rule.proofs.Seeking.{beside-loads, beside-then, beside-valid}
+use Rattle.vm_tree_join.specs.from_vm_rule.Prelude.{last_of}
+use Rattle.vm_tree_join.specs.from_vm_step.Prelude.{Origin, view}
+use Rattle.vm_tree_join.proofs.from_vm_tree_rule.Whole.{tree-size}
+use Rattle.vm_tree_join.proofs.from_vm_tree_rule.{Entering.opened-reads, Entering.refused-turn}
+use Rattle.vm_tree_join.proofs.from_vm_tree_rule.{Reaching.parent-beside, Surely.known-at, Surely.known-same}
+use Rattle.vm_tree_join.proofs.from_vm_tree_rule.Readings.{leaves-self, leaves-then, loads-reads, opened-earlier, opened-later}
+use Rattle.vm_tree_join.proofs.from_vm_tree_rule.Readings.{opened-loads, reads-self, reads-then, valid-reads}
+use Rattle.vm_tree_join.proofs.from_vm_tree_rule.Seeking.{beside-loads, beside-then, beside-valid}
 use Rattle.vm_tree_merge.specs.Beside.{IsChoice}
 use Rattle.vm_tree_merge.proofs.Choosing.{key-names, key_beside, names-beside, names-leaf, parent-open, parent-read, stopped-beside}
 use Rattle.vm_tree_merge.proofs.beside.find_neighbour.Goals as goal

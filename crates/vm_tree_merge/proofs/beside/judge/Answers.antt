@@ -1,9 +1,9 @@
 use Rattle.std.proofs.Common.{inl, refl, sym}
-use Rattle.vm_tree_rule.proofs.{Entering.refused-turn, Surely.known-at, Surely.known-same}
-use Rattle.vm_tree_rule.proofs.Readings.{leaves-self, loads-reads, opened-loads, reads-self, valid-reads}
-use Rattle.vm_tree_rule.proofs.Seeking.{beside-loads, beside-then, beside-valid, opened-beside}
+use Rattle.vm_tree_join.proofs.from_vm_tree_rule.{Entering.refused-turn, Surely.known-at, Surely.known-same}
+use Rattle.vm_tree_join.proofs.from_vm_tree_rule.Readings.{leaves-self, loads-reads, opened-loads, reads-self, valid-reads}
+use Rattle.vm_tree_join.proofs.from_vm_tree_rule.Seeking.{beside-loads, beside-then, beside-valid, opened-beside}
 use Rattle.vm_tree_merge.specs.Beside.IsUnmerged.{many, worn_beside}
-use Rattle.vm_tree_split.proofs.Splitting.{none-not}
+use Rattle.vm_tree_join.proofs.from_vm_tree_split.Splitting.{none-not}
 use Rattle.vm_tree_merge.proofs.Choosing.{neighbour-then}
 use Rattle.vm_tree_merge.proofs.beside.judge.Goals as goal
 

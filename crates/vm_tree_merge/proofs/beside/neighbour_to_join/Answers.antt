@@ -1,6 +1,6 @@
 use Rattle.std.proofs.Common.{⊎_elim, ◌∙◌, ◌≡◌, ◌≢◌, ◌⊎◌, inl, inr, sym, ℕ}
-use Rattle.vm_tree_rule.proofs.Reaching.{parent-beside}
-use Rattle.vm_tree_rule.proofs.Readings.{err-then, ok-both, ok-then}
+use Rattle.vm_tree_join.proofs.from_vm_tree_rule.Reaching.{parent-beside}
+use Rattle.vm_tree_join.proofs.from_vm_tree_rule.Readings.{err-then, ok-both, ok-then}
 use Rattle.vm_tree_merge.specs.Beside.IsUnmerged.{full, single, worn_parent}
 use Rattle.vm_tree_merge.proofs.Choosing.{leaves-both, leaves-nothing, match-both, match-same, of-none, of-some, some-of}
 use Rattle.vm_tree_merge.proofs.beside.neighbour_to_join.Goals as goal

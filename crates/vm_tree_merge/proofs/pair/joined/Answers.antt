@@ -1,6 +1,6 @@
 use Rattle.std.proofs.Common.{rules, inl, inr, subst, sym, ◌≤◌}
 use Rattle.vm_tree_model.specs.{Layout.size, Merges.IsJoined}
-use Rattle.vm_kind.specs.Joins.{both_as_one}
+use Rattle.vm_tree_join.specs.from_vm_kind.Joins.{both_as_one}
 use Rattle.vm_tree_merge.specs.Beside.{as_one}
 use Rattle.vm_tree_merge.proofs.pair.joined.Goals as goal
 

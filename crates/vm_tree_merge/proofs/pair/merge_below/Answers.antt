@@ -1,6 +1,6 @@
 use Rattle.std.proofs.Common.{[], ◌∷◌, rules, subst}
-use Rattle.vm_step.specs.Prelude.{view}
-use Rattle.vm_tree_split.specs.Prepares.{IsLockDenied, SaysWorn}
+use Rattle.vm_tree_join.specs.from_vm_step.Prelude.{view}
+use Rattle.vm_tree_join.specs.from_vm_tree_split.Prepares.{IsLockDenied, SaysWorn}
 use Rattle.vm_tree_merge.proofs.Pairing.{denied-again, knows-three, pair-before, pair-behind}
 use Rattle.vm_tree_merge.proofs.pair.merge_below.Goals as goal
 

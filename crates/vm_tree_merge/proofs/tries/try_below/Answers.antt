@@ -1,7 +1,7 @@
 use Rattle.std.proofs.Common.{[], ◌∙◌, ◌∷◌, ap, inl, inr, length, refl}
 use Rattle.std.proofs.lemmas.Bool.{false≢true}
 use Rattle.std.proofs.lemmas.List.{length-replicate}
-use Rattle.vm_tree_rule.specs.declared.above.Above.TheVariants as aboves
+use Rattle.vm_tree_join.specs.from_vm_tree_rule.declared_above_Above_TheVariants as aboves
 use Rattle.vm_tree_merge.proofs.Choosing.{some-of}
 use Rattle.vm_tree_merge.proofs.Trying.{leaf-later, lost-three, merge-done}
 use Rattle.vm_tree_merge.proofs.tries.try_below.Goals as goal

@@ -1,6 +1,6 @@
 use Rattle.std.proofs.Common.{inl, refl, subst, sym}
-use Rattle.vm_step.specs.Prelude.{view}
-use Rattle.vm_tree_rule.specs.Above.{IsAbove, KnowsAbove}
+use Rattle.vm_tree_join.specs.from_vm_step.Prelude.{view}
+use Rattle.vm_tree_join.specs.from_vm_tree_rule.Above.{IsAbove, KnowsAbove}
 use Rattle.vm_tree_merge.specs.Tried.{IsMergeTried}
 use Rattle.vm_tree_merge.specs.Beside.IsUnmerged.{root}
 use Rattle.vm_tree_merge.proofs.{Choosing.leaves-nothing, Trying.dels-of, Trying.leaf-without}

@@ -2,11 +2,11 @@
 use Rattle.std.proofs.Common.{rules, ◌<◌, ◌++◌, ◌∷◌, ◌∙◌, [], arith, inr, length-append, refl, subst, sym, true≢false}
 use Rattle.vm_core.specs.Prelude.{MayShare}
 use Rattle.vm_map.specs.History.{bound_of}
-use Rattle.vm_guard.specs.Guards.{IsUnshared}
+use Rattle.vm_tree_read.specs.from_vm_guard.Guards.{IsUnshared}
 use Rattle.vm_step.specs.Prelude.{Origin, view}
 use Rattle.vm_tree_laws.specs.Tied.{Tied}
-use Rattle.vm_tree_rule.proofs.{Onward.loaded-more, Surely.known-at, Surely.known-same, Whole.tree-size}
-use Rattle.vm_tree_rule.proofs.Readings.{loads-reads, opened-loads, reads-then}
+use Rattle.vm_tree_read.proofs.from_vm_tree_rule.{Onward.loaded-more, Surely.known-at, Surely.known-same, Whole.tree-size}
+use Rattle.vm_tree_read.proofs.from_vm_tree_rule.Readings.{loads-reads, opened-loads, reads-then}
 use Rattle.vm_tree_range.specs.Ranges.{HoldsLeaves, TellRange}
 use Rattle.vm_tree_range.proofs.Holding.{may-unshare, reads-on, sharing-on}
 use Rattle.vm_tree_range.proofs.Ranging.{denied-tried, done-as, done-behind, gathered-on, held-more, held-on}

@@ -1,10 +1,10 @@
 -- The leaf is held at the version that was read, with those that are held already; then it is given up.
 use Rattle.std.proofs.Common.{◌<◌, ◌∙◌, subst, sym, true≢false}
 use Rattle.vm_core.specs.Prelude.{MayShare}
-use Rattle.vm_guard.specs.Guards.{IsUnshared}
+use Rattle.vm_tree_read.specs.from_vm_guard.Guards.{IsUnshared}
 use Rattle.vm_step.specs.Prelude.{view}
 use Rattle.vm_tree_laws.specs.Tied.{Tied}
-use Rattle.vm_tree_rule.proofs.{Surely.known-at, Whole.tree-size}
+use Rattle.vm_tree_read.proofs.from_vm_tree_rule.{Surely.known-at, Whole.tree-size}
 use Rattle.vm_tree_range.proofs.{Holding.may-unshare, Holding.on-self, Ranging.held-done, Ranging.may-hold}
 use Rattle.vm_tree_range.proofs.Readable.{may-share, readable-shared, readable-unshared}
 use Rattle.vm_tree_range.proofs.ShareSteps.{denied-shares, given-shares, shares-then, taken-shares}

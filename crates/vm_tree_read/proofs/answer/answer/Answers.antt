@@ -1,5 +1,5 @@
 use Rattle.std.proofs.Common.{◌∙◌, sym, true≢false}
-use Rattle.vm_step.specs.Prelude.{view}
+use Rattle.vm_tree_rule.specs.from_vm_step.Prelude.{view}
 use Rattle.vm_tree_rule.proofs.{Readings.valid-only, Surely.known-at, Surely.resident-same}
 use Rattle.vm_tree_rule.proofs.Whole.{tree-size}
 use Rattle.vm_tree_read.proofs.answer.answer.Goals as goal

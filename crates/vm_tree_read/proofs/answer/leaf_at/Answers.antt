@@ -1,5 +1,5 @@
 use Rattle.std.proofs.Common.{◌*◌, ◌+◌, arith}
-use Rattle.vm_step.specs.Prelude.{view}
+use Rattle.vm_tree_rule.specs.from_vm_step.Prelude.{view}
 use Rattle.vm_tree_rule.proofs.{Downward.awaits-later, Downward.node-later, Surely.known-same}
 use Rattle.vm_tree_rule.proofs.OnWay.{leaf-later, stands-leaf, way-later}
 use Rattle.vm_tree_read.proofs.Answering.{between-leaf, none-between}

@@ -1,4 +1,4 @@
-use Rattle.vm_step.specs.Prelude.{view}
+use Rattle.vm_tree_rule.specs.from_vm_step.Prelude.{view}
 use Rattle.vm_tree_rule.proofs.{Downward.awaits-later, Downward.node-later, Surely.known-same}
 use Rattle.vm_tree_rule.proofs.OnWay.{leaf-later, way-later}
 use Rattle.vm_tree_read.proofs.Answering.{between-leaf, none-between}

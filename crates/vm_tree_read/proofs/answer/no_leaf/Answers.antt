@@ -1,6 +1,6 @@
 use Rattle.std.proofs.Common.{◌∙◌, ap, sym, true≢false}
-use Rattle.vm_rule.specs.Prelude.{last_of}
-use Rattle.vm_step.specs.Prelude.{Origin, view}
+use Rattle.vm_pool.specs.from_vm_rule.Prelude.{last_of}
+use Rattle.vm_tree_rule.specs.from_vm_step.Prelude.{Origin, view}
 use Rattle.vm_tree_rule.specs.Turns.{WhyDamaged as why}
 use Rattle.vm_tree_rule.proofs.{OnWay.way-later, Readings.leaves-self, Readings.reads-self, Readings.valid-reads, Surely.known-at}
 use Rattle.vm_tree_rule.proofs.Entering.{damaged-turn, opened-reads, refused-turn, untold}

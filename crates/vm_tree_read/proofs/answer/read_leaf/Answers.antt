@@ -1,5 +1,5 @@
 use Rattle.std.proofs.Common.{inl, inr}
-use Rattle.vm_guard.specs.Guards.{placed}
+use Rattle.vm_pool.specs.from_vm_guard.Guards.{placed}
 use Rattle.vm_tree_rule.proofs.{Downward.node-later, OnWay.way-later, Surely.known-same}
 use Rattle.vm_tree_rule.proofs.Readings.{loads-reads, opened-loads}
 use Rattle.vm_tree_rule.proofs.Whole.{tree_key}

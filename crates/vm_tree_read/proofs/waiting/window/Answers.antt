@@ -1,103 +1,56 @@
-use Rattle.std.proofs.Common.{◌∙◌, arith, refl, rules}
-use Rattle.vm_step.specs.Prelude.{view}
-use Rattle.vm_exmap.proofs.Handing.{held-on}
-use Rattle.vm_tree_read.proofs.Lasting.{reads-wait, replied, waits-self, waits-then}
-use Rattle.vm_tree_read.proofs.Losing.{loses-same, loses-then, lost-on}
-use Rattle.vm_tree_read.proofs.Rounds.{tried-call, tried-none, tried-read}
-use Rattle.vm_tree_read.specs.Waiting.{AreRounds as rounds, IsReadFault as fault, IsRound as round}
+use Rattle.std.proofs.Common.{◌∙◌, rules}
+use Rattle.vm_tree_rule.specs.from_vm_step.Prelude.{view}
+use Rattle.vm_tree_read.proofs.Lasting.{replied, waits-self, waits-then}
+use Rattle.vm_tree_read.proofs.Losing.{loses-then}
+use Rattle.vm_tree_read.proofs.Rounds.{tried-none, tried-round}
+use Rattle.vm_tree_read.specs.Waiting.{AreRounds as rounds}
 use Rattle.vm_tree_read.proofs.waiting.window.Goals as goal
 
 pub loop-init : goal.loop-init
 loop-init g c = tried-none _ _ (waits-self _, rounds.none) c.requires.ready c.requires.frames
 
-pub loop-preserved-in-Again : goal.loop-preserved-in-Again
-loop-preserved-in-Again g c =
+pub window_round-requires : goal.window_round-requires
+window_round-requires g c =
     let i = c.loop.invariant in
-    let reads = c.in-Again.ensures.tried.0 in
-    tried-read i c.try_window.new.pass c.try_window.ensures.goes reads (
-      waits-then _ _ _ i.left.0 (reads-wait _ _ reads),
-      rounds.further _ _ i.left.1
-          (round.again _ reads c.in-Again.ensures.tried.1),
-    )
+    (search rules, (i.goes.ready, (c.requires.pages, (c.requires.most, (i.left.0.out ∙ c.requires.home, i.held)))))
 
-pub fetch-requires : goal.fetch-requires
-fetch-requires g c =
+pub loop-preserved-in-Soon : goal.loop-preserved-in-Soon
+loop-preserved-in-Soon g c =
     let i = c.loop.invariant in
-    let reads = c.in-Need.ensures.tried.0 in (
-      search rules,
-      (
-        c.try_window.ensures.goes.ready,
-        (
-          reads.0.out ∙ i.left.0.out ∙ c.requires.home,
-          (
-            held-on _ (view c.loop.pass) (view c.try_window.new.pass) i.held reads.0.start reads.0.frames.0,
-            (let inside = c.in-Need.ensures.tried.1.inside in let pages = i.goes.ready.table.is_shape.pages in
-                omega (arith, inside, pages)),
-          ),
-        ),
-      ),
-    )
+    let k = c.window_round.ensures in
+    let told = c.in-Soon.ensures.told in
+    tried-round i c.window_round.new.pass c.window_round.new.iface k.goes k.held k.lost k.iface
+    (waits-then _ _ _ i.left.0 told.0, rounds.further _ _ i.left.1 told.1)
 
 pub loop-preserved : goal.loop-preserved
 loop-preserved g c =
     let i = c.loop.invariant in
-    let k = c.fetch.ensures in
-    let reads = c.in-Need.ensures.tried.0 in
-    tried-call i c.try_window.new.pass c.try_window.ensures.goes reads c.fetch.new.pass c.fetch.new.iface k.goes
-    k.held k.lost k.iface (
-      waits-then _ _ _ i.left.0 (waits-then _ _ _ (reads-wait _ _ reads) k.waits),
-      rounds.further _ _ i.left.1 (round.needed _ _ reads c.in-Need.ensures.tried.1 c.in-Ok.ensures.ok),
-    )
-
-pub returns-in-Err-clause-err : goal.returns-in-Err-clause-err
-returns-in-Err-clause-err g c =
-    let i = c.loop.invariant in
-    let needed = c.in-Need.ensures.tried in
-    record {
-      tried = view c.loop.pass;
-      rounds = i.left.1;
-      waits = i.left.0;
-      why = fault.unbrought _ _ needed.0 needed.1 c.in-Err.ensures.err;
-      leaves = waits-then _ _ _ i.left.0 (waits-then _ _ _ (reads-wait _ _ needed.0) c.fetch.ensures.waits);
-    }
+    let k = c.window_round.ensures in
+    let told = c.in-Later.ensures.told in
+    tried-round i c.window_round.new.pass c.window_round.new.iface k.goes k.held k.lost k.iface
+    (waits-then _ _ _ i.left.0 told.0, rounds.further _ _ i.left.1 told.1)
 
 pub returns-in-Done-clause-ok : goal.returns-in-Done-clause-ok
-returns-in-Done-clause-ok g c = replied g.K.Kind.plain g.K.Kind.layout _ _ _ _ c.loop.invariant.left c.in-Done.ensures.tried
-
--- ---- no frame is lost
-
-pub returns-in-Err-clause-lost : goal.returns-in-Err-clause-lost
-returns-in-Err-clause-lost g c =
-    lost-on c.args.iface.now.frames c.loop.iface.frames c.fetch.new.iface.frames (view c.args.pass.now)
-    (view c.loop.pass) (view c.try_window.new.pass) (view c.fetch.new.pass) c.loop.invariant.lost
-    c.in-Need.ensures.tried.0 c.fetch.ensures.lost
+returns-in-Done-clause-ok g c = replied g.K.Kind.plain g.K.Kind.layout _ _ _ _ c.loop.invariant.left c.in-Done.ensures.told.0
 
 pub returns-in-Done-clause-lost : goal.returns-in-Done-clause-lost
 returns-in-Done-clause-lost g c =
-    let k = c.in-Done.ensures.tried.reads in
-    loses-then c.args.iface.now.frames c.loop.iface.frames c.loop.iface.frames (view c.args.pass.now)
-    (view c.loop.pass) (view c.try_window.new.pass) c.loop.invariant.lost
-    (loses-same c.loop.iface.frames c.loop.iface.frames (view c.loop.pass) (view c.try_window.new.pass) k.frames.0
-    (λ f e. e))
+    loses-then c.args.iface.now.frames c.loop.iface.frames c.window_round.new.iface.frames (view c.args.pass.now)
+    (view c.loop.pass) (view c.window_round.new.pass) c.loop.invariant.lost c.window_round.ensures.lost
 
--- ---- a page is damaged
-
-pub returns-in-Damaged-clause-err : goal.returns-in-Damaged-clause-err
-returns-in-Damaged-clause-err g c =
+pub returns-in-Failed-clause-err : goal.returns-in-Failed-clause-err
+returns-in-Failed-clause-err g c =
     let i = c.loop.invariant in
-    let back = c.in-Damaged.ensures.tried in
+    let told = c.in-Failed.ensures.told in
     record {
       tried = view c.loop.pass;
       rounds = i.left.1;
       waits = i.left.0;
-      why = fault.damaged _ back.0 back.1 refl;
-      leaves = waits-then _ _ _ i.left.0 (reads-wait _ _ back.0);
+      why = told.1;
+      leaves = waits-then _ _ _ i.left.0 told.0;
     }
 
-pub returns-in-Damaged-clause-lost : goal.returns-in-Damaged-clause-lost
-returns-in-Damaged-clause-lost g c =
-    let k = c.in-Damaged.ensures.tried.0 in
-    loses-then c.args.iface.now.frames c.loop.iface.frames c.loop.iface.frames (view c.args.pass.now)
-    (view c.loop.pass) (view c.try_window.new.pass) c.loop.invariant.lost
-    (loses-same c.loop.iface.frames c.loop.iface.frames (view c.loop.pass) (view c.try_window.new.pass) k.0.frames.0
-    (λ f e. e))
+pub returns-in-Failed-clause-lost : goal.returns-in-Failed-clause-lost
+returns-in-Failed-clause-lost g c =
+    loses-then c.args.iface.now.frames c.loop.iface.frames c.window_round.new.iface.frames (view c.args.pass.now)
+    (view c.loop.pass) (view c.window_round.new.pass) c.loop.invariant.lost c.window_round.ensures.lost

@@ -1,4 +1,4 @@
-use Rattle.vm_step.specs.Prelude.{NoneExpected, View}
+use Rattle.vm_tree_rule.specs.from_vm_step.Prelude.{NoneExpected, View}
 use Rattle.vm_tree_read.specs.Waiting.{AreRounds, IsRound, Waits}
 use Rattle.vm_tree_read.proofs.Rounds.{HasTried}
 use Rattle.vm_tree_read.proofs.waiting.window.Given as goal

@@ -1,6 +1,6 @@
 use Rattle.std.proofs.Common.{◌+◌, ◌≡◌, ◌≢◌, ◌≤◌, true}
 use Rattle.vm_step.specs.Prelude.{GoesOn, View, view}
-use Rattle.vm_guard.specs.Guards.{IsReading}
+use Rattle.vm_kind.specs.from_vm_guard.Guards.{IsReading}
 use Rattle.vm_tree_rule.specs.{Leaves.ReadsOn, Resident.IsKnownNow, Standing.IsOpened, Standing.IsStand, Ways.StandsOnWay}
 use Rattle.vm_tree_rule.proofs.above.under_node.Given as goal
 

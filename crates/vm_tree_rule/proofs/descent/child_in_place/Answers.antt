@@ -1,8 +1,8 @@
 use Rattle.std.proofs.Common.{◌≡◌, ◌≢◌, ◌⊎◌, arith, List, MatchOption, None, Option, option_map, rules, Some, sym, ℕ}
 use Rattle.std.proofs.lemmas.Grind.{common_steps}
 use Rattle.vm_step.specs.Prelude.{View}
-use Rattle.vm_inner.specs.declared.children.Fenced.{Fenced}
-use Rattle.vm_inner.specs.Found.{FindsChildIn, FindsNoChild}
+use Rattle.vm_kind.specs.from_vm_inner.declared_children_Fenced.{Fenced}
+use Rattle.vm_kind.specs.from_vm_inner.Found.{FindsChildIn, FindsNoChild}
 use Rattle.vm_node.specs.Loads.{IsPageWith}
 use Rattle.vm_tree_model.specs.{Layout.Layout, Page.node_of}
 use Rattle.vm_tree_rule.specs.{Few.ReadsInPlace, Seeks.TellChildIn, Seeks.TellLevel, Seeks.TellNoChild}

@@ -1,8 +1,8 @@
 use Rattle.std.proofs.Common.{◌∙◌, ◌≡◌, arith, Err, IfErr, IfOk, inl, IsOk, Result, subst, sym, ℕ}
 use Rattle.vm_step.specs.Prelude.{NoneExpected, NoWord, View, view}
-use Rattle.vm_guard.specs.{declared.deny.Deny.Deny, declared.opt.OptGuard.OptGuard, Denied.AgainOrNeed}
-use Rattle.vm_guard.specs.{Denied.IsDenied, Guards.BeginsReading}
-use Rattle.vm_guard.proofs.PageLoads.{words-then}
+use Rattle.vm_kind.specs.from_vm_guard.{declared_deny_Deny.Deny, declared_opt_OptGuard.OptGuard, Denied.AgainOrNeed}
+use Rattle.vm_kind.specs.from_vm_guard.{Denied.IsDenied, Guards.BeginsReading}
+use Rattle.vm_kind.proofs.from_vm_guard.PageLoads.{words-then}
 use Rattle.vm_tree_rule.specs.{Resident.IsReadNow, Standing.HasSteppedDown, Standing.StaysOpen}
 use Rattle.vm_tree_rule.proofs.descent.enter.Goals as goal
 use Rattle.vm_tree_rule.proofs.Downward.{awaits-named}

@@ -1,5 +1,5 @@
 use Rattle.std.proofs.Common.{[], ◌+◌, ◌<◌, ◌∙◌, ◌∷◌, ◌≡◌, ◌≤◌, ap, arith, inl, inr, length, refl, subst, sym, ℕ}
-use Rattle.vm_guard.specs.PageWords.{LoadsWords}
+use Rattle.vm_kind.specs.from_vm_guard.PageWords.{LoadsWords}
 use Rattle.vm_tree_rule.proofs.Counting.{meta-loaded, meta-within, none-within}
 use Rattle.vm_rule.specs.Prelude.{last_of}
 use Rattle.vm_step.specs.Prelude.{Origin, view}

@@ -1,8 +1,8 @@
 use Rattle.std.proofs.Math.Nat.{mul-add, mul-le-mul_left}
 use Rattle.std.proofs.Common.{[], ◌*◌, ◌++◌, ◌+◌, ◌-◌, ◌<◌, ◌∙◌, ◌∷◌, ◌≡◌, ◌≤◌, arith, length, List, refl, subst, suc, sym, ℕ}
 use Rattle.vm_step.specs.Prelude.{View, view}
-use Rattle.vm_guard.specs.PageWords.{LoadsWords}
-use Rattle.vm_guard.proofs.PageLoads.{none-words}
+use Rattle.vm_kind.specs.from_vm_guard.PageWords.{LoadsWords}
+use Rattle.vm_kind.proofs.from_vm_guard.PageLoads.{none-words}
 use Rattle.vm_tree_rule.specs.{Few.HasHeight, Few.LoadsAtMost, Few.LoadsHeight, Standing.Awaits}
 use Rattle.vm_tree_rule.proofs.Counting.{height-more, height-wider, height-within, place-within, within-wider}
 use Rattle.vm_tree_rule.proofs.Downward.{awaits-later, stand-awaits, stand-later}

@@ -2,7 +2,7 @@
 use Rattle.std.proofs.Common.{◌<◌, ◌∙◌, ◌≡◌, ap, arith, length, List, min, slice_index, subst, sym, true, ℕ}
 use Rattle.vm_rule.specs.Prelude.{draft_of}
 use Rattle.vm_step.specs.Prelude.{Origin, view}
-use Rattle.vm_tree_rule.proofs.Whole.{tree-size}
+use Rattle.vm_tree_read.proofs.from_vm_tree_rule.Whole.{tree-size}
 use Rattle.vm_tree_split.specs.Drafts.{DraftsIn, IsDraftedAmong, IsRedrafted}
 use Rattle.vm_tree_split.proofs.Drafting.{differs-then, drafted-whole, drafts-then, pages-then, redrafted-then}
 use Rattle.vm_tree_split.proofs.draft.redraft.Goals as goal

@@ -2,8 +2,8 @@ use Rattle.std.proofs.Common.{[], ⊎_elim, ◌++◌, ◌∙◌, ◌≡◌, ◌�
 use Rattle.std.proofs.lemmas.Result.{IfErr-weaker, IfOk-weaker}
 use Rattle.vm_step.specs.Prelude.{AreHeld, Did, view}
 use Rattle.vm_step.proofs.Alone.{still-alone}
-use Rattle.vm_exmap.specs.{Frames.MovesFrames, Walks.IsAlloc}
-use Rattle.vm_exmap.specs.declared.interface.Alloc.TheVariants as allocs
+use Rattle.vm_tree_read.specs.from_vm_exmap.{Frames.MovesFrames, Walks.IsAlloc}
+use Rattle.vm_tree_read.specs.from_vm_exmap.declared_interface_Alloc_TheVariants as allocs
 use Rattle.vm_tree_read.specs.Waiting.{LosesNone}
 use Rattle.vm_tree_read.proofs.Losing.{alloc-loses, loses-then, refused-alone}
 use Rattle.vm_tree_split.specs.{Prepares.IsShort.after_one, Prepares.IsShort.at_once, Prepares.LacksFrames, Prepares.LacksSecond}

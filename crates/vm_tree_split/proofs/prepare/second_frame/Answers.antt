@@ -1,8 +1,8 @@
 use Rattle.std.proofs.Common.{◌++◌, ◌+◌, ◌∙◌, ◌≡◌, ap, arith, length, List, refl, subst, sym, ℕ}
 use Rattle.std.proofs.lemmas.List.{length-append}
 use Rattle.vm_step.specs.Prelude.{AreHeld, view}
-use Rattle.vm_exmap.specs.declared.interface.Alloc.TheVariants as allocs
-use Rattle.vm_exmap.specs.Returns.{IsFreed}
+use Rattle.vm_tree_read.specs.from_vm_exmap.declared_interface_Alloc_TheVariants as allocs
+use Rattle.vm_tree_read.specs.from_vm_exmap.Returns.{IsFreed}
 use Rattle.vm_tree_read.specs.Waiting.{LosesNone}
 use Rattle.vm_tree_read.proofs.Losing.{alloc-loses, freed-loses, loses-then}
 use Rattle.vm_tree_split.proofs.{Framing.alloc-beside, Framing.alloc-more, Losing.refused-loses}

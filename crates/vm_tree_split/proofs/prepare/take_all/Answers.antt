@@ -1,7 +1,7 @@
 use Rattle.std.proofs.Common.{[], ◌∷◌, ⊎_elim, ◌++◌, ◌+◌, ◌<◌, ◌∙◌, ◌≤◌, arith, refl, subst, ℕ}
 use Rattle.std.proofs.lemmas.Bool.{cases_lt}
 use Rattle.vm_step.specs.Prelude.{view}
-use Rattle.vm_exmap.proofs.Handing.{held-on, held-rest, held-swap}
+use Rattle.vm_tree_read.proofs.from_vm_exmap.Handing.{held-on, held-rest, held-swap}
 use Rattle.vm_guard.specs.declared.given.Fresh.TheVariants as freshes
 use Rattle.vm_guard.specs.{Spares.KnowsFew, Sure.known_next}
 use Rattle.vm_guard.proofs.Searching.{given-of}

@@ -4,7 +4,7 @@ use Rattle.vm_step.specs.Prelude.{view}
 use Rattle.vm_guard.specs.Guards.{IsHolding}
 use Rattle.vm_guard.specs.Groups.{AreReleased, MayReleaseAll}
 use Rattle.vm_tree_laws.specs.Plain.{ReleasesPlain}
-use Rattle.vm_tree_rule.proofs.Whole.{tree-size, tree_place}
+use Rattle.vm_tree_read.proofs.from_vm_tree_rule.Whole.{tree-size, tree_place}
 use Rattle.vm_tree_split.proofs.Rooting.{four-all, four-apart, four-redrafted, four-released, four-stay, two-held}
 use Rattle.vm_tree_split.proofs.Rooting.{two-pid, two-redrafts, two-set}
 use Rattle.vm_tree_split.proofs.split.write_root.Goals as goal

@@ -4,7 +4,7 @@ use Rattle.vm_tree_model.specs.Page.{IsInner}
 use Rattle.vm_step.specs.Prelude.{view}
 use Rattle.vm_guard.specs.Groups.{AreReleased, MayReleaseAll}
 use Rattle.vm_tree_laws.specs.Plain.{ReleasesPlain}
-use Rattle.vm_tree_rule.proofs.Whole.{tree-size}
+use Rattle.vm_tree_read.proofs.from_vm_tree_rule.Whole.{tree-size}
 use Rattle.vm_tree_split.proofs.split.write_split.Goals as goal
 use Rattle.vm_tree_split.proofs.Splitting.{draft-past, first-apart, holding-past, none-said, redrafts-of, three-all}
 use Rattle.vm_tree_split.proofs.Splitting.{three-redrafted, three-released, three-stay, told-before}

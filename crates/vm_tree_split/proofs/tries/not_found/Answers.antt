@@ -1,5 +1,5 @@
 use Rattle.std.proofs.Common.{subst}
-use Rattle.vm_tree_rule.specs.Turns.{IsTurnedBack}
+use Rattle.vm_tree_read.specs.from_vm_tree_rule.Turns.{IsTurnedBack}
 use Rattle.vm_tree_split.proofs.tries.not_found.Goals as goal
 use Rattle.vm_tree_split.proofs.Trying.{turn-again, turn-damaged, turn-need}
 

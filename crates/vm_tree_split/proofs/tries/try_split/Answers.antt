@@ -1,9 +1,9 @@
 use Rattle.std.proofs.Common.{◌∙◌, subst, suc}
 use Rattle.std.proofs.lemmas.Bool.{false≢true}
 use Rattle.vm_step.specs.Prelude.{view}
-use Rattle.vm_exmap.proofs.Handing.{held-on}
-use Rattle.vm_tree_rule.specs.Seeks.{IsMet, KnowsMet}
-use Rattle.vm_tree_rule.proofs.Surely.{known-at}
+use Rattle.vm_tree_read.proofs.from_vm_exmap.Handing.{held-on}
+use Rattle.vm_tree_read.specs.from_vm_tree_rule.Seeks.{IsMet, KnowsMet}
+use Rattle.vm_tree_read.proofs.from_vm_tree_rule.Surely.{known-at}
 use Rattle.vm_tree_read.proofs.Losing.{loses-same, loses-then, reads-lose}
 use Rattle.vm_tree_split.proofs.Settling.{awaited-in-use, knows-to-split, meta-in-use}
 use Rattle.vm_tree_split.proofs.tries.try_split.Goals as goal

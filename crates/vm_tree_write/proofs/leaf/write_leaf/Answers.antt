@@ -1,13 +1,13 @@
 use Rattle.std.proofs.Common.{◌∙◌, ◌≡◌, ap, false, inl, inr, List, None, refl, Some, subst, sym, true, ℕ}
 use Rattle.vm_page.specs.Pages.{all_zero}
 use Rattle.vm_rule.specs.Prelude.{draft_of}
-use Rattle.vm_step.specs.Prelude.{IsClaimed, IsKeptNow, Origin, UnlockedExpected, View, view}
-use Rattle.vm_guard.specs.{Denied.AgainOrWorn, Denied.KeptWord, Guards.IsReleased}
+use Rattle.vm_tree_merge.specs.from_vm_step.Prelude.{IsClaimed, IsKeptNow, Origin, UnlockedExpected, View, view}
+use Rattle.vm_tree_merge.specs.from_vm_guard.{Denied.AgainOrWorn, Denied.KeptWord, Guards.IsReleased}
 use Rattle.vm_tree_laws.specs.Plain.{KeepsPlain}
-use Rattle.vm_tree_rule.proofs.{Readings.denied-reads, Surely.resident-same}
-use Rattle.vm_tree_rule.proofs.Whole.{tree-size}
-use Rattle.vm_tree_split.specs.Drafts.{DraftsIn, IsRedrafted}
-use Rattle.vm_tree_split.proofs.{Settling.only-worn}
+use Rattle.vm_tree_merge.proofs.from_vm_tree_rule.{Readings.denied-reads, Surely.resident-same}
+use Rattle.vm_tree_merge.proofs.from_vm_tree_rule.Whole.{tree-size}
+use Rattle.vm_tree_merge.specs.from_vm_tree_split.Drafts.{DraftsIn, IsRedrafted}
+use Rattle.vm_tree_merge.proofs.from_vm_tree_split.{Settling.only-worn}
 use Rattle.vm_tree_write.proofs.{Knowing.resident-written}
 use Rattle.vm_tree_write.proofs.leaf.write_leaf.Goals as goal
 use Rattle.vm_tree_write.proofs.Writing.{draft-is, not-zeros, old-is, owner, written}

@@ -1,11 +1,11 @@
 use Rattle.std.proofs.Common.{◌++◌, ◌∙◌, ap, length, option_map, refl, sym}
 use Rattle.std.proofs.lemmas.Bool.{false≢true}
 use Rattle.std.proofs.lemmas.List.{length-replicate}
-use Rattle.vm_step.specs.Prelude.{view}
-use Rattle.vm_guard.specs.Guards.{placed}
-use Rattle.vm_tree_rule.proofs.{OnWay.leaf-later, Onward.loaded-more, Surely.known-same}
-use Rattle.vm_tree_rule.proofs.Readings.{loads-reads, opened-loads}
-use Rattle.vm_tree_read.proofs.Answering.{reply-told, reply-whole}
+use Rattle.vm_tree_merge.specs.from_vm_step.Prelude.{view}
+use Rattle.vm_tree_merge.specs.from_vm_guard.Guards.{placed}
+use Rattle.vm_tree_merge.proofs.from_vm_tree_rule.{OnWay.leaf-later, Onward.loaded-more, Surely.known-same}
+use Rattle.vm_tree_merge.proofs.from_vm_tree_rule.Readings.{loads-reads, opened-loads}
+use Rattle.vm_tree_merge.proofs.from_vm_tree_read.Answering.{reply-told, reply-whole}
 use Rattle.vm_tree_write.proofs.Telling.{above-known-twice, above-twice, awaits-twice, known-twice, opened-twice, reads-twice}
 use Rattle.vm_tree_write.proofs.write.del_once.Goals as goal
 

@@ -1,6 +1,6 @@
 use Rattle.std.proofs.Common.{inl, inr, subst}
-use Rattle.vm_tree_rule.specs.Turns.{IsTurnedBack}
-use Rattle.vm_tree_split.proofs.Backing.{shown-wider}
+use Rattle.vm_tree_merge.specs.from_vm_tree_rule.Turns.{IsTurnedBack}
+use Rattle.vm_tree_merge.proofs.from_vm_tree_split.Backing.{shown-wider}
 use Rattle.vm_tree_merge.specs.Beside.{IsTurnedBeside}
 use Rattle.vm_tree_write.proofs.Telling.{not-read, to-try}
 use Rattle.vm_tree_write.proofs.write.not_yet.Goals as goal

@@ -3,11 +3,11 @@ use Rattle.std.proofs.lemmas.Bool.{false≢true}
 use Rattle.std.proofs.lemmas.List.{length-replicate}
 use Rattle.vm_tree_model.specs.{Node.Covers, Page.node_of}
 use Rattle.vm_node.proofs.Telling.{page_first, page_then}
-use Rattle.vm_step.specs.Prelude.{view}
-use Rattle.vm_guard.specs.Guards.{placed}
-use Rattle.vm_tree_rule.proofs.{OnWay.leaf-later, Onward.loaded-more, Surely.known-same}
-use Rattle.vm_tree_rule.proofs.Readings.{loads-reads, opened-loads}
-use Rattle.vm_kind.specs.Room.{IsTightFor}
+use Rattle.vm_tree_merge.specs.from_vm_step.Prelude.{view}
+use Rattle.vm_tree_merge.specs.from_vm_guard.Guards.{placed}
+use Rattle.vm_tree_merge.proofs.from_vm_tree_rule.{OnWay.leaf-later, Onward.loaded-more, Surely.known-same}
+use Rattle.vm_tree_merge.proofs.from_vm_tree_rule.Readings.{loads-reads, opened-loads}
+use Rattle.vm_tree_merge.specs.from_vm_kind.Room.{IsTightFor}
 use Rattle.vm_tree_write.proofs.Telling.{awaits-twice, edit-as, known-twice, opened-twice, put-done, put-edit, reads-twice, told-whole}
 use Rattle.vm_tree_write.proofs.write.put_once.Goals as goal
 

@@ -1,11 +1,11 @@
 use Rattle.std.proofs.Common.{◌++◌, ◌∙◌, ◌≢◌, ap, length, None, Some, sym, ℕ}
 use Rattle.std.proofs.lemmas.Bool.{false≢true}
 use Rattle.std.proofs.lemmas.List.{length-replicate}
-use Rattle.vm_step.specs.Prelude.{view}
-use Rattle.vm_guard.specs.Guards.{placed}
-use Rattle.vm_tree_rule.proofs.{OnWay.leaf-later, Onward.loaded-more, Surely.known-same}
-use Rattle.vm_tree_rule.proofs.Readings.{loads-reads, opened-loads}
-use Rattle.vm_tree_read.proofs.Answering.{reply-told, reply-whole}
+use Rattle.vm_tree_merge.specs.from_vm_step.Prelude.{view}
+use Rattle.vm_tree_merge.specs.from_vm_guard.Guards.{placed}
+use Rattle.vm_tree_merge.proofs.from_vm_tree_rule.{OnWay.leaf-later, Onward.loaded-more, Surely.known-same}
+use Rattle.vm_tree_merge.proofs.from_vm_tree_rule.Readings.{loads-reads, opened-loads}
+use Rattle.vm_tree_merge.proofs.from_vm_tree_read.Answering.{reply-told, reply-whole}
 use Rattle.vm_tree_write.proofs.Telling.{awaits-twice, edit-as, known-twice, opened-twice, reads-twice, swap-done, swap-edit, swap-proved}
 use Rattle.vm_tree_write.proofs.write.swap_once.Goals as goal
 

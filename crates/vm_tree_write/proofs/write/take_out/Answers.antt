@@ -1,6 +1,6 @@
 use Rattle.std.proofs.Common.{inr, sym}
-use Rattle.vm_step.specs.Prelude.{view}
-use Rattle.vm_tree_rule.proofs.{Entering.opened-reads, Showing.none-some}
+use Rattle.vm_tree_merge.specs.from_vm_step.Prelude.{view}
+use Rattle.vm_tree_merge.proofs.from_vm_tree_rule.{Entering.opened-reads, Showing.none-some}
 use Rattle.vm_tree_write.proofs.Telling.{del-done, del-merged}
 use Rattle.vm_tree_write.proofs.Apart.{left-awaits, left-open, left-read, read-of, why-alone}
 use Rattle.vm_tree_write.proofs.write.take_out.Goals as goal

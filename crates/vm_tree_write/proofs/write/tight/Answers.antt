@@ -1,8 +1,8 @@
 use Rattle.std.proofs.lemmas.Bool.{false≢true}
-use Rattle.vm_step.specs.Prelude.{view}
+use Rattle.vm_tree_merge.specs.from_vm_step.Prelude.{view}
 use Rattle.vm_tree_laws.specs.Tied.{Tied}
-use Rattle.vm_tree_rule.proofs.{Readings.valid-reads, Surely.known-at, Surely.resident-same}
-use Rattle.vm_tree_rule.proofs.Whole.{tree-size}
+use Rattle.vm_tree_merge.proofs.from_vm_tree_rule.{Readings.valid-reads, Surely.known-at, Surely.resident-same}
+use Rattle.vm_tree_merge.proofs.from_vm_tree_rule.Whole.{tree-size}
 use Rattle.vm_tree_write.proofs.Telling.{not-valid, tight}
 use Rattle.vm_tree_write.proofs.write.tight.Goals as goal
 

@@ -1,7 +1,7 @@
 use Rattle.std.proofs.Common.{subst, sym}
 use Rattle.vm_map.specs.declared.call.Reply.TheVariants.{Swapped}
 use Rattle.vm_map.specs.declared.call.Swap.{Swap as Outcome}
-use Rattle.vm_step.specs.Prelude.{view}
+use Rattle.vm_tree_merge.specs.from_vm_step.Prelude.{view}
 use Rattle.vm_tree_write.specs.declared.write.TryWrite.TheVariants as tries
 use Rattle.vm_tree_write.specs.Writes.{IsSwap}
 use Rattle.vm_tree_write.proofs.write.try_swap.Goals as goal

@@ -1,8 +1,8 @@
 use Rattle.std.proofs.Common.{List, subst, sym, ℕ}
-use Rattle.vm_step.specs.Prelude.{UnlockedExpected}
-use Rattle.vm_guard.specs.Denied.{AgainOrWorn, IsDenied, KeptWord}
-use Rattle.vm_kind.specs.Room.{HasRoomFor}
-use Rattle.vm_tree_split.specs.Prepares.{SaysWorn}
+use Rattle.vm_tree_merge.specs.from_vm_step.Prelude.{UnlockedExpected}
+use Rattle.vm_tree_merge.specs.from_vm_guard.Denied.{AgainOrWorn, IsDenied, KeptWord}
+use Rattle.vm_tree_merge.specs.from_vm_kind.Room.{HasRoomFor}
+use Rattle.vm_tree_merge.specs.from_vm_tree_split.Prepares.{SaysWorn}
 use Rattle.vm_tree_write.specs.Writes.{HasKeyIn, HasValueIn}
 use Rattle.vm_tree_write.proofs.Telling.{not-locked, to-try, worn-leaf}
 use Rattle.vm_tree_write.proofs.write.unwritten.Goals as goal

@@ -2,7 +2,7 @@ use Rattle.std.specs.declared.alloc.Global.{Global}
 use Rattle.std.proofs.Common.{[], ◌++◌, ◌∙◌, ◌∷◌, ap, append-nil, Err, if◌then◌else◌, Ok, refl, Result, sym, Vec, ℕ}
 use Rattle.vm_map.specs.{declared.call.Reply.Reply, declared.window.Window.Window, Map.Pairs}
 use Rattle.vm_map.specs.declared.call.Reply.TheVariants as replies
-use Rattle.vm_tree_rule.specs.declared.fault.TreeFault.{TreeFault}
+use Rattle.vm_tree_range.specs.from_vm_tree_rule.declared_fault_TreeFault.{TreeFault}
 use Rattle.vm_calls.specs.declared.compact.Short.TheVariants as shorts
 use Rattle.vm_calls.proofs.Shortening.{keeps-more, keeps-other}
 use Rattle.vm_calls.proofs.compact.RepliesAnswers.keep.Goals as goal

@@ -1,0 +1,2 @@
+-- Definitions of vm_pool that the crates above name through this one.
+pub use Rattle.vm_reading.specs.from_vm_pool.declared_ended_Ended

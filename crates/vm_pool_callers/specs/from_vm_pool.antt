@@ -1,0 +1,5 @@
+-- Definitions of vm_pool that the crates above name through this one.
+pub use Rattle.vm_pool.specs.Brings
+pub use Rattle.vm_pool.specs.Known
+pub use Rattle.vm_pool.specs.declared.bring.Bring as declared_bring_Bring
+pub use Rattle.vm_pool.specs.declared.bring.Bring.TheVariants as declared_bring_Bring_TheVariants

@@ -1,0 +1,4 @@
+-- Definitions of vm_drive that the crates above name through this one.
+pub use Rattle.vm_endings.specs.from_vm_drive.Drives
+pub use Rattle.vm_endings.specs.from_vm_drive.Lists
+pub use Rattle.vm_endings.specs.from_vm_drive.Prelude

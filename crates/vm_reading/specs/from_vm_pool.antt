@@ -1,0 +1,3 @@
+-- Definitions of vm_pool that the crates above name through this one.
+pub use Rattle.vm_endings.specs.from_vm_pool.Closing
+pub use Rattle.vm_endings.specs.from_vm_pool.declared_ended_Ended

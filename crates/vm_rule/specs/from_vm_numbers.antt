@@ -1,0 +1,2 @@
+-- Definitions of vm_numbers that the crates above name through this one.
+pub use Rattle.vm_numbers.specs.Hands

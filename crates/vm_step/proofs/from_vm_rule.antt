@@ -1,0 +1,6 @@
+-- Lemmas of vm_rule that the crates above name through this one.
+pub use Rattle.vm_rule.proofs.Bundled
+pub use Rattle.vm_rule.proofs.Entries
+pub use Rattle.vm_rule.proofs.Facts
+pub use Rattle.vm_rule.proofs.Heard
+pub use Rattle.vm_rule.proofs.WordFacts

@@ -1,0 +1,4 @@
+-- Definitions of vm_rule_laws that the crates above name through this one.
+pub use Rattle.vm_rule_laws.specs.Known
+pub use Rattle.vm_rule_laws.specs.Noted
+pub use Rattle.vm_rule_laws.specs.Standing

@@ -1,0 +1,2 @@
+-- Lemmas of vm_guard that the crates above name through this one.
+pub use Rattle.vm_tree_split.proofs.from_vm_guard.QuietSteps

@@ -1,0 +1,3 @@
+-- Definitions of vm_step that the crates above name through this one.
+pub use Rattle.vm_tree_join.specs.from_vm_step.Prelude
+pub use Rattle.vm_tree_join.specs.from_vm_step.declared_saw_Saw

@@ -1,0 +1,5 @@
+-- Definitions of vm_evict that the crates above name through this one.
+pub use Rattle.vm_pool.specs.from_vm_evict.Evictions
+pub use Rattle.vm_pool.specs.from_vm_evict.Flushes
+pub use Rattle.vm_pool.specs.from_vm_evict.declared_flushing_Flushed
+pub use Rattle.vm_pool.specs.from_vm_evict.declared_report_Report

@@ -1,0 +1,11 @@
+use Rattle.vm_tree_write.specs.from_vm_step.Prelude.{View}
+use Rattle.vm_tree_write.specs.from_vm_tree_read.Waiting.{HasRounds, Waits}
+use Rattle.vm_tree_write.proofs.from_vm_tree_read.Rounds.{HasTried}
+use Rattle.vm_tree_retry.specs.Waiting.{IsWriteRound}
+use Rattle.vm_tree_retry.proofs.within.swap_within.Given as goal
+
+-- so many rounds were made, and none of them was answered
+abbrev pub invariant-rounds : goal.invariant-rounds
+invariant-rounds g l = HasTried
+    (λ (x y : View _). Waits x y × HasRounds (IsWriteRound g.K.Kind.layout (g.K.Kind.rank l.fn.key)) l._made x y)
+    l.pool.words g.B.Block.tells l.fn.pass l.pass l.fn.iface l.iface

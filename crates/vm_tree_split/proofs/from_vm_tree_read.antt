@@ -1,0 +1,5 @@
+-- Lemmas of vm_tree_read that the crates above name through this one.
+pub use Rattle.vm_tree_read.proofs.Answering
+pub use Rattle.vm_tree_read.proofs.Lasting
+pub use Rattle.vm_tree_read.proofs.Losing
+pub use Rattle.vm_tree_read.proofs.Rounds

@@ -1,0 +1,12 @@
+-- Lemmas of vm_tree_rule that the crates above name through this one.
+pub use Rattle.vm_tree_read.proofs.from_vm_tree_rule.Downward
+pub use Rattle.vm_tree_read.proofs.from_vm_tree_rule.Entering
+pub use Rattle.vm_tree_read.proofs.from_vm_tree_rule.Logged
+pub use Rattle.vm_tree_read.proofs.from_vm_tree_rule.OnWay
+pub use Rattle.vm_tree_read.proofs.from_vm_tree_rule.Onward
+pub use Rattle.vm_tree_read.proofs.from_vm_tree_rule.Reaching
+pub use Rattle.vm_tree_read.proofs.from_vm_tree_rule.Readings
+pub use Rattle.vm_tree_read.proofs.from_vm_tree_rule.Seeking
+pub use Rattle.vm_tree_read.proofs.from_vm_tree_rule.Showing
+pub use Rattle.vm_tree_read.proofs.from_vm_tree_rule.Surely
+pub use Rattle.vm_tree_read.proofs.from_vm_tree_rule.Whole

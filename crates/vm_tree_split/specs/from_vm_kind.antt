@@ -1,0 +1,3 @@
+-- Definitions of vm_kind that the crates above name through this one.
+pub use Rattle.vm_tree_read.specs.from_vm_kind.Joins
+pub use Rattle.vm_tree_read.specs.from_vm_kind.Room

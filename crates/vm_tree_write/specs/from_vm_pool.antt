@@ -1,0 +1,4 @@
+-- Definitions of vm_pool that the crates above name through this one.
+pub use Rattle.vm_tree_merge.specs.from_vm_pool.Brings
+pub use Rattle.vm_tree_merge.specs.from_vm_pool.Sweeps
+pub use Rattle.vm_tree_merge.specs.from_vm_pool.declared_bring_Bring
