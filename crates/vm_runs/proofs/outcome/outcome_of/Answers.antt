@@ -3,12 +3,12 @@ use Rattle.vm_block.specs.declared.memory.MemBlock.{MemBlock}
 use Rattle.vm_map.specs.Map.{Pairs}
 use Rattle.vm_tree_model.specs.{Fixed.fixed, Tree.IsTree, Tree.map_of}
 use Rattle.vm_image.specs.Blocks.{pages_of_blocks}
-use Rattle.vm_drive.specs.Prelude.{all_replies}
-use Rattle.vm_drive.specs.Drives.{items_of}
+use Rattle.vm_reading.specs.from_vm_drive.Prelude.{all_replies}
+use Rattle.vm_reading.specs.from_vm_drive.Drives.{items_of}
 use Rattle.vm_script.specs.Texts.{rows_text, worker_replies}
-use Rattle.vm_serve.proofs.Planned.{as-many, saved}
-use Rattle.vm_endings.specs.{Deliveries.written_of, Made.last_map, Replies.all_lines, Replies.counters_of, Runs.IsKept}
-use Rattle.vm_endings.proofs.Telling.{matched}
+use Rattle.vm_reading.proofs.from_vm_serve.Planned.{as-many, saved}
+use Rattle.vm_reading.specs.from_vm_endings.{Deliveries.written_of, Made.last_map, Replies.all_lines, Replies.counters_of, Runs.IsKept}
+use Rattle.vm_reading.proofs.from_vm_endings.Telling.{matched}
 use Rattle.vm_runs.proofs.outcome.outcome_of.Goals as goal
 use Rattle.vm_runs.proofs.Outcomes.{cut_outcome, flushed_outcome, made}
 
