@@ -4,12 +4,12 @@ use crate::refused::empty_file;
 use std::test::Fail;
 use vm_face::vm_kind::Sizes;
 use vm_face::{Closing, open_image};
-use vm_map::call::{Pair, Reply};
+use vm_map::call::{Pair, Reply, Swap};
 use vm_map::span::Span;
 use vm_map::window::Bound;
 use vm_page::WORDS;
 
-/// The pages that a closed store wrote hold what its hand has put: one leaf is written.
+/// A hand makes calls and comes back, and the store is closed: one leaf was written.
 #[test]
 fn a_hand_puts_and_gets(rt: HostRuntime) -> Result<(), Fail> {
     let alloc = rt.alloc();
@@ -21,11 +21,13 @@ fn a_hand_puts_and_gets(rt: HostRuntime) -> Result<(), Fail> {
         return Err(Fail::from("no hand"));
     };
     let put = hand.put(5, 7, 100);
+    let swapped = hand.swap(5, 7, 8, 100);
     let got = hand.get(5, 100);
     let gone = hand.del(6, 100);
     store.take_back(hand);
     assert!(rt; matches!(put, Ok(Some(Reply::Was(None)))));
-    assert!(rt; matches!(got, Ok(Some(Reply::Got(Some(7))))));
+    assert!(rt; matches!(swapped, Ok(Some(Reply::Swapped(Swap::Done)))));
+    assert!(rt; matches!(got, Ok(Some(Reply::Got(Some(8))))));
     assert!(rt; matches!(gone, Ok(Some(Reply::Gone(None)))));
     let Ok(end) = store.close(alloc) else {
         return Err(Fail::from("not closed"));
