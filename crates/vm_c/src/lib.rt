@@ -1,0 +1,239 @@
+//! The store and the tree for C: `burnetroof.h` declares these functions. None starts a thread, takes a lock, sleeps or yields.
+#![tactic(auto)]
+
+mod answers;
+mod closing;
+mod hand_handle;
+mod opaque;
+mod opened;
+mod opening;
+mod store_handle;
+
+ghost use Rattle.std.specs.Prelude.{◌≡◌, IfSome, None};
+ghost use Rattle.vm_map.specs.declared.call.Call.TheVariants.{Del, Get, Put, Swap};
+ghost use Rattle.vm_c.specs.{Closed.Closes, Fits.IsFitHand, Fits.IsFitStore, Fits.IsHandOf, Given.Gives, Given.IsOneLess, Openings.OpensOn, Told.Answers};
+
+use answers::{HANDS, LENGTH, MEMORY, NONE, OK, TAKEN, Told, answer_of, page_told, refusal_of};
+use closing::{Counts, Unclosed, close};
+use hand_handle::HandHandle;
+use opening::{NoHand, give, open};
+use std::alloc::Global;
+use store_handle::StoreHandle;
+
+/// Opens the tree in the bytes of a page file: OK, TAKEN, LENGTH, FRAMES, NO_TREE, MEMORY.
+#[unsafe(no_mangle)]
+pub extern "C" fn brf_open(
+    alloc: Global,
+    bytes: &[u8],
+    frames: u32,
+    store: &mut StoreHandle,
+    told: &mut Told,
+) -> u32
+    requires store { IfSome store.old.value IsFitStore }
+    ensures store { IfSome store.new.value IsFitStore }
+    ensures taken { IfSome store.old.value (λ _. (result ≡ 13) × (store.new.value ≡ store.old.value) × (told.new ≡ told.old)) }
+    ensures opened { store.old.value ≡ None → OpensOn bytes.now frames store.new.value result told.new }
+{
+    if let Some(held) = store.take(alloc) {
+        store.put(held);
+        return TAKEN;
+    }
+    let (answer, said) = match open(alloc, bytes, frames) {
+        Ok(held) => {
+            store.put(held);
+            (OK, page_told(0))
+        }
+        Err(why) => refusal_of(why),
+    };
+    *told = said;
+    answer
+}
+
+/// A hand for one thread: OK, NONE, TAKEN, HANDS, MEMORY.
+#[unsafe(no_mangle)]
+pub extern "C" fn brf_hand_out(alloc: Global, store: &mut StoreHandle, hand: &mut HandHandle) -> u32
+    requires store { IfSome store.old.value IsFitStore }
+    requires hand { IfSome hand.old.value IsFitHand }
+    ensures store { IfSome store.new.value IsFitStore }
+    ensures hand { IfSome hand.new.value IsFitHand }
+    ensures taken { IfSome hand.old.value (λ _. (result ≡ 13) × (hand.new.value ≡ hand.old.value) × (store.new.value ≡ store.old.value)) }
+    ensures none { hand.old.value ≡ None → store.old.value ≡ None → (result ≡ 12) × (hand.new.value ≡ None) × (store.new.value ≡ None) }
+    ensures given { hand.old.value ≡ None → IfSome store.old.value (λ before. IfSome store.new.value (λ after. Gives before after hand.new.value result)) }
+{
+    if let Some(held) = hand.take(alloc) {
+        hand.put(held);
+        return TAKEN;
+    }
+    let Some(mut open) = store.take(alloc) else {
+        return NONE;
+    };
+    let given = give(alloc, &mut open);
+    store.put(open);
+    match given {
+        Ok(held) => {
+            hand.put(held);
+            OK
+        }
+        Err(NoHand::Hands) => HANDS,
+        Err(NoHand::Memory) => MEMORY,
+    }
+}
+
+/// The value at the key, in at most so many rounds: OK, NONE, BUSY, DEVICE, WORN, DAMAGED.
+#[unsafe(no_mangle)]
+pub extern "C" fn brf_get(
+    alloc: Global,
+    hand: &mut HandHandle,
+    key: u64,
+    rounds: u32,
+    told: &mut Told,
+) -> u32
+    requires hand { IfSome hand.old.value IsFitHand }
+    ensures hand { IfSome hand.new.value IsFitHand }
+    ensures none { hand.old.value ≡ None → (result ≡ 12) × (hand.new.value ≡ None) × (told.new ≡ told.old) }
+    ensures call { Answers (Get key) hand.old.value hand.new.value result told.new }
+{
+    let Some(mut held) = hand.take(alloc) else {
+        return NONE;
+    };
+    let (answer, said) = answer_of(held.hand.get(key, rounds));
+    hand.put(held);
+    *told = said;
+    answer
+}
+
+/// Puts a value at the key, and tells the one that was there: OK, NONE, BUSY, DEVICE, FULL, WORN, DAMAGED.
+#[unsafe(no_mangle)]
+pub extern "C" fn brf_put(
+    alloc: Global,
+    hand: &mut HandHandle,
+    key: u64,
+    value: u64,
+    rounds: u32,
+    told: &mut Told,
+) -> u32
+    requires hand { IfSome hand.old.value IsFitHand }
+    ensures hand { IfSome hand.new.value IsFitHand }
+    ensures none { hand.old.value ≡ None → (result ≡ 12) × (hand.new.value ≡ None) × (told.new ≡ told.old) }
+    ensures call { Answers (Put key value) hand.old.value hand.new.value result told.new }
+{
+    let Some(mut held) = hand.take(alloc) else {
+        return NONE;
+    };
+    let (answer, said) = answer_of(held.hand.put(key, value, rounds));
+    hand.put(held);
+    *told = said;
+    answer
+}
+
+/// Takes the pair of the key out, and tells its value: OK, NONE, BUSY, DEVICE, WORN, DAMAGED.
+#[unsafe(no_mangle)]
+pub extern "C" fn brf_del(
+    alloc: Global,
+    hand: &mut HandHandle,
+    key: u64,
+    rounds: u32,
+    told: &mut Told,
+) -> u32
+    requires hand { IfSome hand.old.value IsFitHand }
+    ensures hand { IfSome hand.new.value IsFitHand }
+    ensures none { hand.old.value ≡ None → (result ≡ 12) × (hand.new.value ≡ None) × (told.new ≡ told.old) }
+    ensures call { Answers (Del key) hand.old.value hand.new.value result told.new }
+{
+    let Some(mut held) = hand.take(alloc) else {
+        return NONE;
+    };
+    let (answer, said) = answer_of(held.hand.del(key, rounds));
+    hand.put(held);
+    *told = said;
+    answer
+}
+
+/// Puts a value at the key where its value is the one that is wanted: OK, OTHER, NONE, BUSY, DEVICE, WORN, DAMAGED.
+#[unsafe(no_mangle)]
+pub extern "C" fn brf_swap(
+    alloc: Global,
+    hand: &mut HandHandle,
+    key: u64,
+    want: u64,
+    value: u64,
+    rounds: u32,
+    told: &mut Told,
+) -> u32
+    requires hand { IfSome hand.old.value IsFitHand }
+    ensures hand { IfSome hand.new.value IsFitHand }
+    ensures none { hand.old.value ≡ None → (result ≡ 12) × (hand.new.value ≡ None) × (told.new ≡ told.old) }
+    ensures call { Answers (Swap key want value) hand.old.value hand.new.value result told.new }
+{
+    let Some(mut held) = hand.take(alloc) else {
+        return NONE;
+    };
+    let (answer, said) = answer_of(held.hand.swap(key, want, value, rounds));
+    hand.put(held);
+    *told = said;
+    answer
+}
+
+/// Ends a hand of this store: OK, NONE.
+#[unsafe(no_mangle)]
+pub extern "C" fn brf_hand_back(
+    alloc: Global,
+    store: &mut StoreHandle,
+    hand: &mut HandHandle,
+) -> u32
+    requires store { IfSome store.old.value IsFitStore }
+    requires hand { IfSome hand.old.value IsFitHand }
+    requires same { IfSome store.old.value (λ s. IfSome hand.old.value (IsHandOf s)) }
+    ensures store { IfSome store.new.value IsFitStore }
+    ensures hand { IfSome hand.new.value IsFitHand }
+    ensures no_store { store.old.value ≡ None → (result ≡ 12) × (store.new.value ≡ None) × (hand.new.value ≡ hand.old.value) }
+    ensures no_hand { hand.old.value ≡ None → (result ≡ 12) × (hand.new.value ≡ None) × (store.new.value ≡ store.old.value) }
+    ensures back { IfSome store.old.value (λ before. IfSome hand.old.value (λ gone.
+        (result ≡ 0) × (hand.new.value ≡ None) × IfSome store.new.value (IsOneLess before gone))) }
+{
+    let Some(mut open) = store.take(alloc) else {
+        return NONE;
+    };
+    let answer = match hand.take(alloc) {
+        Some(held) => {
+            open.store.take_back(Box::into_inner(held).into_hand());
+            OK
+        }
+        None => NONE,
+    };
+    store.put(open);
+    answer
+}
+
+/// Writes what is dirty, ends the store, and writes its pages to the image: OK, NONE, HANDS, LENGTH, MEMORY.
+#[unsafe(no_mangle)]
+pub extern "C" fn brf_close(
+    alloc: Global,
+    store: &mut StoreHandle,
+    image: &mut [u8],
+    counts: &mut Counts,
+) -> u32
+    requires store { IfSome store.old.value IsFitStore }
+    ensures store { IfSome store.new.value IsFitStore }
+    ensures none { store.old.value ≡ None → (result ≡ 12) × (store.new.value ≡ None) × (image.new ≡ image.old) × (counts.new ≡ counts.old) }
+    ensures closed { IfSome store.old.value (λ s. Closes s store.new.value (record { image = image.old; counts = counts.old }) (record { image = image.new; counts = counts.new }) result) }
+{
+    let Some(open) = store.take(alloc) else {
+        return NONE;
+    };
+    match close(alloc, open, image) {
+        Ok(counted) => {
+            *counts = counted;
+            OK
+        }
+        Err(Unclosed::Length(open)) => {
+            store.put(open);
+            LENGTH
+        }
+        Err(Unclosed::Hands(open)) => {
+            store.put(open);
+            HANDS
+        }
+        Err(Unclosed::Memory) => MEMORY,
+    }
+}
