@@ -194,15 +194,13 @@ pub extern "C" fn brf_hand_back(
     let Some(mut open) = store.take(alloc) else {
         return NONE;
     };
-    let answer = match hand.take(alloc) {
-        Some(held) => {
-            open.store.take_back(Box::into_inner(held).into_hand());
-            OK
-        }
-        None => NONE,
+    let Some(held) = hand.take(alloc) else {
+        store.put(open);
+        return NONE;
     };
+    open.store.take_back(Box::into_inner(held).into_hand());
     store.put(open);
-    answer
+    OK
 }
 
 /// Writes what is dirty, ends the store, and writes its pages to the image: OK, NONE, HANDS, LENGTH, MEMORY.
