@@ -1,4 +1,4 @@
-"""The other engines: their packages, their programs, and how one is run."""
+"""The other engines, and this repository's own library, which is linked and run as they are: their packages, their programs, and how one is run."""
 import dataclasses
 import os
 import pathlib
@@ -29,6 +29,8 @@ class Peer:
     churns: bool = True
     modes: tuple = ()
     remark: str = ""
+    # A library of the repository's own that it is linked with, which a run of the gate leaves.
+    archive: pathlib.Path | None = None
     # Its memory is bounded to the bytes of the program's frames of this size.
     words: int = workload.SMALL_PAGE
 
@@ -102,7 +104,9 @@ class Peer:
 
 # Seen in a profile of Debian 12's library: sync points, assertions and counters at each comparison of keys.
 DEBUG_BUILD = "RocksDB as Debian 12 builds it has its aids for debugging in it, which cost it much: these numbers say little of a build without them."
+LIBRARY = compiler.BENCH.parent / "crates" / "vm_c" / "out" / "libburnetroof.a"
 PEERS = (
+    Peer("library", "this repository's C library", ("burnetroof.cc",), can_be_bounded=True, archive=LIBRARY),
     Peer("olc", "B+-tree, plain C++", ("olc.cc", "olc_tree.cc"), has_ranges=False, tells_bytes=True),
     Peer("map", "std::map, one mutex", ("map.cc",)),
     Peer("lmdb", "LMDB", ("lmdb.cc",), "liblmdb-dev", "lmdb.h", "lmdb", tells_bytes=True, modes=served.TRANSACTION_A_CALL),
@@ -128,6 +132,8 @@ def prepare(peer, may_install):
         packages.install(peer.package, may_install)
         if not compiler.has_header(peer.header):
             raise Failure(f"{peer.package} was installed, but the compiler finds no {peer.header}")
-    libraries = [f"-l{peer.library}"] if peer.library else []
+    if peer.archive and not peer.archive.exists():
+        raise Failure(f"{peer.archive.name} is not there: .ci/library builds it after a run of the gate")
+    libraries = [f"-l{peer.library}"] if peer.library else [peer.archive] if peer.archive else []
     sources = [SOURCES / source for source in (*SHARED_SOURCES, *peer.sources)]
-    compiler.compile_to(program_of(peer), sources, libraries, sorted(SOURCES.glob("*.h")))
+    compiler.compile_to(program_of(peer), sources, libraries, [*sorted(SOURCES.glob("*.h")), *([peer.archive] if peer.archive else [])])

@@ -2,12 +2,14 @@
 use Rattle.std.specs.Prelude.{IfErr, IfOk, IfSome}
 use Rattle.std.proofs.Common.{◌<◌, ◌≡◌, Bool, Err, List, None, Ok, Option, refl, Result, Some, ℕ}
 use Rattle.vm_map.specs.{declared.call.Call.Call, declared.call.Reply.Reply, declared.call.Said.Said}
-use Rattle.vm_map.specs.declared.call.Call.TheVariants.{Del, Get, Put, Swap}
+use Rattle.vm_map.specs.declared.window.Bound.{Bound}
+use Rattle.vm_map.specs.declared.call.Call.TheVariants.{Del, Get, Put, Range, Swap, Window}
 use Rattle.vm_tree_model.specs.{Fixed.fixed, Layout.Layout}
 use Rattle.vm_rule.specs.{declared.words.Pass.Pass, declared.words.Words.Words}
 use Rattle.vm_step.specs.Prelude.{AreHeld, IsReadyOn, NoneExpected, View, view}
 use Rattle.vm_serve.specs.from_vm_kind.WordRoom.{spare_in}
 use Rattle.vm_serve.specs.from_vm_tree_rule.{declared_fault_TreeFault.TreeFault, Turns.IsDamaged, Turns.IsNeeded}
+use Rattle.vm_tree_range.specs.Ranges.{IsRangeFaulted, IsRangeReplied, IsRangeRound}
 use Rattle.vm_tree_retry.specs.from_vm_tree_read.Reads.{IsOfKind}
 use Rattle.vm_tree_retry.specs.from_vm_tree_read.Waiting.{HasRounds, IsFaulted, IsReplied, IsRound, rounds_in, Waits}
 use Rattle.vm_tree_retry.specs.from_vm_tree_split.Splits.{KeepsLocksOnly}
@@ -36,6 +38,33 @@ module _ (size : ℕ) where
   get-tells key turns (Ok (Some reply)) v w some kind none err = (some.0, kind)
   get-tells key turns (Ok None) v w some kind none err = (waits-pass v w (none refl).0, (none refl).0.mine)
   get-tells key turns (Err fault) v w some kind none err = err.0
+
+  pub window-tells : (start most turns : ℕ) (r : Result (Option Reply) TreeFault) (v w : View Said)
+      → IfOk r (λ answer. IfSome answer (λ reply. (k : IsReplied as_said L (record {
+        call = Window start most;
+        reply = reply;
+      }) v w) × (rounds_in k.rounds < turns)))
+      → IfOk r (λ answer. IfSome answer (λ reply. IsOfKind (Window start most) reply))
+      → IfOk r (λ answer. answer ≡ None → Waits v w × HasRounds (IsRound L NoneExpected start) turns v w)
+      → IfErr r (λ fault. (k : IsFaulted L start fault v w) × (rounds_in k.rounds < turns))
+      → IsHandCall size (Window start most) r v w
+  window-tells start most turns (Ok (Some reply)) v w some kind none err = (some.0, kind)
+  window-tells start most turns (Ok None) v w some kind none err = (waits-pass v w (none refl).0, (none refl).0.mine)
+  window-tells start most turns (Err fault) v w some kind none err = err.0
+
+  pub range-tells : {T : Type 0} (low : ℕ) (bound : Bound) (turns : ℕ) (r : Result (Option Reply) TreeFault) (v w : View Said)
+      (before after : T)
+      → IfOk r (λ answer. IfSome answer (λ reply. (k : IsRangeReplied as_said L (record {
+        call = Range low bound;
+        reply = reply;
+      }) v w) × (rounds_in k.rounds < turns)))
+      → IfOk r (λ answer. IfSome answer (λ reply. IsOfKind (Range low bound) reply))
+      → IfOk r (λ answer. answer ≡ None → Waits v w × HasRounds (IsRangeRound L low bound) turns v w × (after ≡ before))
+      → IfErr r (λ fault. (k : IsRangeFaulted L low bound fault v w) × (rounds_in k.rounds < turns) × (after ≡ before))
+      → IsHandCall size (Range low bound) r v w
+  range-tells low bound turns (Ok (Some reply)) v w before after some kind none err = (some.0, kind)
+  range-tells low bound turns (Ok None) v w before after some kind none err = (waits-pass v w (none refl).0, (none refl).0.mine)
+  range-tells low bound turns (Err fault) v w before after some kind none err = err.0
 
   pub put-tells : (key value turns : ℕ) (r : Result (Option Reply) TreeFault) (v w : View Said)
       → IfOk r (λ answer. IfSome answer (λ reply.

@@ -1,8 +1,10 @@
 //! A hand of a store: it makes calls, one at a time.
 
-ghost use Rattle.std.specs.Prelude.{◌≡◌};
+ghost use Rattle.std.specs.Prelude.{[], ◌*◌, ◌≡◌, ◌≤◌, IfErr, IfOk, None};
 ghost use Rattle.std.specs.Arc.{arc_value};
-ghost use Rattle.vm_map.specs.declared.call.Call.TheVariants.{Del, Get, Put, Swap as ForSwap};
+ghost use Rattle.vm_map.specs.declared.call.Call.TheVariants.{Del, Get, Put, Range, Swap as ForSwap, Window as ForWindow};
+ghost use Rattle.vm_tree_model.specs.Fixed.{capacity};
+ghost use Rattle.vm_tree_laws.specs.May.{MOST_LEAVES};
 ghost use Rattle.vm_step.specs.Prelude.{view};
 ghost use Rattle.vm_serve.specs.from_vm_calls.Calls.{KeepsPass};
 ghost use Rattle.vm_face.specs.{Calls.IsHandCall, Passes.IsHandOn};
@@ -11,13 +13,16 @@ use std::alloc::Global;
 use std::sync::Arc;
 use vm_block::PageBlock;
 use vm_map::call::Reply;
+use vm_map::span::Span;
+use vm_map::window::Bound;
 use vm_owner::Owner;
 use vm_rule::words::Pass;
 use vm_serve::vm_exmap::Interface;
 use vm_serve::vm_kind::{OfSize, TreeOf, WordKeys};
 use vm_serve::vm_pool::Pool;
 use vm_serve::vm_tree_rule::TreeFault;
-use vm_tree_retry::vm_tree_read::within::get_within;
+use vm_tree_range::range_within;
+use vm_tree_retry::vm_tree_read::within::{get_within, window_within};
 use vm_tree_retry::within::{del_within, put_within, swap_within};
 
 /// One thread's own things: a pass, an interface, and a share of the pool.
@@ -90,6 +95,55 @@ impl<S: OfSize<N>, B: PageBlock<N> + Drop, const N: usize> Hand<TreeOf<WordKeys<
             &key,
             want,
             value,
+            rounds,
+        )
+    }
+
+    /// The first pairs from a key on, at most `most` of them, in at most so many rounds; none where they were used up.
+    pub fn window(&mut self, start: u64, most: u32, rounds: u32) -> Result<Option<Reply>, TreeFault>
+        requires hand { IsHandOn (arc_value self.old.pool).words B.tells self.old.pass self.old.iface.frames }
+        requires most { 1 ≤ most }
+        ensures hand { IsHandOn (arc_value self.new.pool).words B.tells self.new.pass self.new.iface.frames }
+        ensures pool { arc_value self.new.pool ≡ arc_value self.old.pool }
+        ensures keeps { KeepsPass (view self.old.pass) (view self.new.pass) }
+        ensures call { IsHandCall N (ForWindow start most) result (view self.old.pass) (view self.new.pass) }
+    {
+        window_within(
+            &self.pool,
+            &mut self.pass,
+            &mut self.iface,
+            &start,
+            most,
+            rounds,
+        )
+    }
+
+    /// All pairs from the key `low` on and below a bound, or how far sixteen leaves reach, in at most so many rounds; none where they were used up.
+    /// `out` is empty, with room for the pairs of sixteen leaves; it holds the pairs in the reply, and is what it was where there is none.
+    pub fn range(
+        &mut self,
+        low: u64,
+        bound: Bound,
+        out: &mut Span,
+        rounds: u32,
+    ) -> Result<Option<Reply>, TreeFault>
+        requires hand { IsHandOn (arc_value self.old.pool).words B.tells self.old.pass self.old.iface.frames }
+        requires empty { out.old.0 ≡ [] }
+        requires room { capacity N * MOST_LEAVES ≤ out.old.1 }
+        ensures hand { IsHandOn (arc_value self.new.pool).words B.tells self.new.pass self.new.iface.frames }
+        ensures pool { arc_value self.new.pool ≡ arc_value self.old.pool }
+        ensures keeps { KeepsPass (view self.old.pass) (view self.new.pass) }
+        ensures call { IsHandCall N (Range low bound) result (view self.old.pass) (view self.new.pass) }
+        ensures none { IfOk result (λ answer. answer ≡ None → out.new ≡ out.old) }
+        ensures err { IfErr result (λ _. out.new ≡ out.old) }
+    {
+        range_within(
+            &self.pool,
+            &mut self.pass,
+            &mut self.iface,
+            &low,
+            bound,
+            out,
             rounds,
         )
     }

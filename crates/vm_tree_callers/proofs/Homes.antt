@@ -1,22 +1,19 @@
 -- Whatever a read of the tree answers, the pass has its block at home as before; and a call that asks for no frame
 -- leaves it those that it had.
-use Rattle.std.proofs.Common.{◌<◌, ◌∙◌, ◌≡◌, ap, Bool, Err, false, IfErr, IfOk, IfSome, inl, length, List, None, Ok}
-use Rattle.std.proofs.Common.{Option, refl, Result, Some}
-use Rattle.std.proofs.Common.{subst, sym, ℕ}
+use Rattle.std.proofs.Common.{◌<◌, ◌∙◌, ◌≡◌, ap, Bool, Err, false, IfErr, IfOk, inl, length, List, None, Ok, Result, subst, sym, ℕ}
 use Rattle.vm_map.specs.{declared.call.Call.Call, declared.call.Reply.Reply, declared.call.Said.Said}
 use Rattle.vm_core.specs.Prelude.{Version}
 use Rattle.vm_rule.specs.Prelude.{draft_of, has, last_of, LookTold}
 use Rattle.vm_rule.specs.declared.view.Held.{Held}
-use Rattle.vm_step.specs.Prelude.{AreHeld, KnowsAsBefore, NoneExpected, Origin, View}
+use Rattle.vm_step.specs.Prelude.{AreHeld, KnowsAsBefore, Origin, View}
 use Rattle.vm_exmap.proofs.Handing.{held-on}
 use Rattle.vm_guard.specs.Guards.{IsHolding}
 use Rattle.vm_guard.proofs.QuietSteps.{look-quiet}
 use Rattle.vm_tree_model.specs.Layout.{Layout}
 use Rattle.vm_tree_laws.specs.Tied.{Tied}
 use Rattle.vm_tree_retry.specs.from_vm_tree_rule.{declared_fault_TreeFault.TreeFault, Leaves.OnlyReads}
-use Rattle.vm_tree_retry.specs.from_vm_tree_read.{declared_read_TryRead.TryRead, Reads.IsTried, Waiting.HasRounds}
-use Rattle.vm_tree_retry.specs.from_vm_tree_read.{Waiting.IsFaulted, Waiting.IsReplied}
-use Rattle.vm_tree_retry.specs.from_vm_tree_read.Waiting.{IsRound, rounds_in, Waits}
+use Rattle.vm_tree_retry.specs.from_vm_tree_read.{declared_read_TryRead.TryRead, Reads.IsTried, Waiting.IsFaulted}
+use Rattle.vm_tree_retry.specs.from_vm_tree_read.Waiting.{IsReplied}
 use Rattle.vm_tree_retry.specs.from_vm_tree_read.declared_read_TryRead_TheVariants as reads
 
 -- what a call leaves that asks for no frame and moves no block
@@ -53,18 +50,6 @@ pub got-home : {S : Type 0} (plain : S → Said) (L : Layout) (call : Call) (key
     }) v w) → IfErr r (λ fault. IsFaulted L key fault v w) → w.out ≡ v.out
 got-home plain L call key (Ok reply) v w a b = a.out
 got-home plain L call key (Err fault) v w a b = b.leaves.out
-
-pub got-within-home : {S : Type 0} (plain : S → Said) (L : Layout) (call : Call) (key turns : ℕ)
-    (r : Result (Option Reply) TreeFault) (v w : View S)
-    → IfOk r (λ answer. IfSome answer (λ reply. (a : IsReplied plain L (record {
-      call = call;
-      reply = reply;
-    }) v w) × (rounds_in a.rounds < turns)))
-    → IfOk r (λ answer. answer ≡ None → Waits v w × HasRounds (IsRound L NoneExpected key) turns v w)
-    → IfErr r (λ fault. (a : IsFaulted L key fault v w) × (rounds_in a.rounds < turns)) → w.out ≡ v.out
-got-within-home plain L call key turns (Ok (Some reply)) v w some none err = some.0.out
-got-within-home plain L call key turns (Ok None) v w some none err = (none refl).0.out
-got-within-home plain L call key turns (Err fault) v w some none err = err.0.leaves.out
 
 -- a page that the pass holds and has not written is so after a read of the tree
 pub record IsBeside {X : Type 0} (p frame version : ℕ) (dirty : Bool) (w : View X) : Type 0 where

@@ -1,10 +1,10 @@
 -- Whatever a write of the tree answers, the pass has its block at home as before; and a try asks for no frame.
-use Rattle.std.proofs.Common.{⊎_elim, ◌<◌, ◌≡◌, Err, IfErr, IfOk, IfSome, List, None, Ok, Option, refl, Result, Some, ℕ}
+use Rattle.std.proofs.Common.{⊎_elim, ◌≡◌, Err, IfErr, IfOk, List, Ok, Result, ℕ}
 use Rattle.vm_map.specs.{declared.call.Call.Call, declared.call.Reply.Reply, declared.call.Said.Said}
 use Rattle.vm_tree_model.specs.Layout.{Layout}
 use Rattle.vm_step.specs.Prelude.{View}
 use Rattle.vm_tree_retry.specs.from_vm_tree_rule.{declared_fault_TreeFault.TreeFault, Turns.IsDamaged, Turns.IsNeeded}
-use Rattle.vm_tree_retry.specs.from_vm_tree_read.Waiting.{HasRounds, rounds_in, Waits}
+use Rattle.vm_tree_retry.specs.from_vm_tree_read.Waiting.{Waits}
 use Rattle.vm_tree_retry.specs.from_vm_tree_split.{Splits.KeepsLocksOnly}
 use Rattle.vm_tree_retry.specs.from_vm_tree_write.{declared_write_TryWrite.TryWrite}
 use Rattle.vm_tree_retry.specs.from_vm_tree_write.declared_write_TryWrite_TheVariants as writes
@@ -74,14 +74,3 @@ module _ {S : Type 0} (plain : S → Said) (L : Layout) where
         }) v w) → IfErr r (λ fault. IsPutFaulted plain L spare key fault v w) → w.out ≡ v.out
     put-home call key (Ok reply) v w a b = a.out
     put-home call key (Err fault) v w a b = b.leaves.out
-
-    pub put-within-home : (call : Call) (key turns : ℕ) (r : Result (Option Reply) TreeFault) (v w : View S)
-        → IfOk r (λ answer. IfSome answer (λ reply. (a : IsWriteReplied plain L KeepsLocksOnly (IsPutRound plain L spare) (record {
-          call = call;
-          reply = reply;
-        }) v w) × (rounds_in a.rounds < turns)))
-        → IfOk r (λ answer. answer ≡ None → KeepsLocksOnly v w × HasRounds (IsPutRound plain L spare key) turns v w)
-        → IfErr r (λ fault. (a : IsPutFaulted plain L spare key fault v w) × (rounds_in a.rounds < turns)) → w.out ≡ v.out
-    put-within-home call key turns (Ok (Some reply)) v w some none err = some.0.out
-    put-within-home call key turns (Ok None) v w some none err = (none refl).0.out
-    put-within-home call key turns (Err fault) v w some none err = err.0.leaves.out

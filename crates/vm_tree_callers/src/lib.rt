@@ -1,7 +1,6 @@
 //! Callers of the tree, proved over the contracts of its calls alone; small trees, and calls on them that keep of their contracts what the next call asks for.
 #![tactic(auto)]
 
-pub mod bounded;
 pub mod calls;
 mod met;
 mod put_get;

@@ -1,0 +1,87 @@
+//! A store is opened on an empty tree, hands of it make calls and come back, and the store is closed.
+
+use crate::refused::empty_file;
+use std::test::Fail;
+use vm_face::vm_kind::Sizes;
+use vm_face::{Closing, open_image};
+use vm_map::call::{Pair, Reply, Swap};
+use vm_map::span::Span;
+use vm_map::window::Bound;
+use vm_page::WORDS;
+
+/// A hand makes calls and comes back, and the store is closed: one leaf was written.
+#[test]
+fn a_hand_puts_and_gets(rt: HostRuntime) -> Result<(), Fail> {
+    let alloc = rt.alloc();
+    let file = empty_file(alloc)?;
+    let Ok(mut store) = open_image::<Sizes, WORDS>(alloc, file.as_slice(), 64) else {
+        return Err(Fail::from("no store"));
+    };
+    let Some(mut hand) = store.hand() else {
+        return Err(Fail::from("no hand"));
+    };
+    let put = hand.put(5, 7, 100);
+    let swapped = hand.swap(5, 7, 8, 100);
+    let got = hand.get(5, 100);
+    let gone = hand.del(6, 100);
+    store.take_back(hand);
+    assert!(rt; matches!(put, Ok(Some(Reply::Was(None)))));
+    assert!(rt; matches!(swapped, Ok(Some(Reply::Swapped(Swap::Done)))));
+    assert!(rt; matches!(got, Ok(Some(Reply::Got(Some(8))))));
+    assert!(rt; matches!(gone, Ok(Some(Reply::Gone(None)))));
+    let Ok(end) = store.close(alloc) else {
+        return Err(Fail::from("not closed"));
+    };
+    assert_eq!(rt; end.report.written, 1);
+    assert_eq!(rt; end.blocks.len(), 8);
+    Ok(())
+}
+
+/// A window and a range show the one pair, and a call without a round is not made.
+#[test]
+fn a_hand_reads_pairs(rt: HostRuntime) -> Result<(), Fail> {
+    let alloc = rt.alloc();
+    let file = empty_file(alloc)?;
+    let mut out = Span::with_room(alloc, 448)?;
+    let Ok(mut store) = open_image::<Sizes, WORDS>(alloc, file.as_slice(), 64) else {
+        return Err(Fail::from("no store"));
+    };
+    let Some(mut hand) = store.hand() else {
+        return Err(Fail::from("no hand"));
+    };
+    let none = hand.put(5, 7, 0);
+    let put = hand.put(5, 7, 100);
+    let window = hand.window(0, 28, 100);
+    let range = hand.range(0, Bound::End, &mut out, 100);
+    assert!(rt; matches!(none, Ok(None)));
+    assert!(rt; matches!(put, Ok(Some(Reply::Was(None)))));
+    let pair = [Pair { key: 5, value: 7 }];
+    let Ok(Some(Reply::Win(window))) = window else {
+        return Err(Fail::from("no window"));
+    };
+    assert_eq!(rt; window.pairs.as_slice(), pair.as_slice());
+    let Ok(Some(Reply::Many(span))) = range else {
+        return Err(Fail::from("no range"));
+    };
+    assert_eq!(rt; span.as_slice(), pair.as_slice());
+    Ok(())
+}
+
+/// A store with a hand out is not closed, and comes back.
+#[test]
+fn a_store_whose_hand_is_out_stays_open(rt: HostRuntime) -> Result<(), Fail> {
+    let alloc = rt.alloc();
+    let file = empty_file(alloc)?;
+    let Ok(mut store) = open_image::<Sizes, WORDS>(alloc, file.as_slice(), 64) else {
+        return Err(Fail::from("no store"));
+    };
+    let Some(hand) = store.hand() else {
+        return Err(Fail::from("no hand"));
+    };
+    let Err(Closing::Hands(back)) = store.close(alloc) else {
+        return Err(Fail::from("closed"));
+    };
+    assert_eq!(rt; back.out, 1);
+    drop(hand);
+    Ok(())
+}
