@@ -17,7 +17,7 @@ abbrev pub page_telling : ℕ → Told
 page_telling page = record { value = 0; page = page; had = 0 }
 
 -- 0 for a reply, and its value; 1 where the rounds were used up; 2 to 5 for a fault, and its page or how many pages there are; 6 where a swap
--- found another value, which is told, or none
+-- found another value, which is told, or none; 15 where a range has too many leaves, and the key up to which they reach
 abbrev pub answer_for : Result (Option Reply) TreeFault → ℕ × Told
 answer_for (Ok (Some (Got value))) = (0, value_telling value)
 answer_for (Ok (Some (Was value))) = (0, value_telling value)
@@ -27,7 +27,7 @@ answer_for (Ok (Some (Swapped swaps.Done))) = (0, page_telling 0)
 answer_for (Ok (Some (Swapped (swaps.Kept value)))) = (6, value_telling (Some value))
 answer_for (Ok (Some (Swapped swaps.Missing))) = (6, page_telling 0)
 answer_for (Ok (Some (Many span))) = (0, page_telling 0)
-answer_for (Ok (Some (Wide reach))) = (0, page_telling 0)
+answer_for (Ok (Some (Wide reach))) = (15, value_telling (Some reach))
 answer_for (Ok None) = (1, page_telling 0)
 answer_for (Err (faults.Device page count)) = (2, page_telling page)
 answer_for (Err (faults.Full pages)) = (3, page_telling pages)

@@ -4,5 +4,6 @@ pub mod Fits
 pub mod Given
 pub mod HandHandles
 pub mod Openings
+pub mod Shows
 pub mod StoreHandles
 pub mod Told

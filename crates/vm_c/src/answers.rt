@@ -34,6 +34,10 @@ pub const HANDS: u32 = 11;
 pub const NONE: u32 = 12;
 /// The handle has something.
 pub const TAKEN: u32 = 13;
+/// There is too little room for the pairs.
+pub const ROOM: u32 = 14;
+/// A range has too many leaves.
+pub const WIDE: u32 = 15;
 
 /// What is said beside an answer: a value where there is one, and a page.
 #[repr(C)]
@@ -85,7 +89,7 @@ pub fn answer_of(answer: Result<Option<Reply>, TreeFault>) -> (u32, Told)
         Ok(Some(Reply::Swapped(Swap::Missing))) => (OTHER, page_told(0)),
         Ok(Some(Reply::Win(_))) => (OK, page_told(0)),
         Ok(Some(Reply::Many(_))) => (OK, page_told(0)),
-        Ok(Some(Reply::Wide(_))) => (OK, page_told(0)),
+        Ok(Some(Reply::Wide(reach))) => (WIDE, value_told(Some(reach))),
         Ok(None) => (BUSY, page_told(0)),
         Err(TreeFault::Device { pid, count: _ }) => (DEVICE, page_told(pid)),
         Err(TreeFault::Full { pages }) => (FULL, page_told(pages)),

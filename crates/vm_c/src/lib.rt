@@ -7,18 +7,25 @@ mod hand_handle;
 mod opaque;
 mod opened;
 mod opening;
+mod showing;
 mod store_handle;
 
 ghost use Rattle.std.specs.Prelude.{◌≡◌, IfSome, None};
 ghost use Rattle.vm_map.specs.declared.call.Call.TheVariants.{Del, Get, Put, Swap};
 ghost use Rattle.vm_c.specs.{Closed.Closes, Fits.IsFitHand, Fits.IsFitStore, Fits.IsHandOf, Given.Gives, Given.IsOneLess, Openings.OpensOn, Told.Answers};
+ghost use Rattle.vm_c.specs.Shows.{bound_asked, outs, ShowsRange, ShowsWindow};
 
-use answers::{HANDS, LENGTH, MEMORY, NONE, OK, TAKEN, Told, answer_of, page_told, refusal_of};
+use answers::{
+    HANDS, LENGTH, MEMORY, NONE, OK, ROOM, TAKEN, Told, answer_of, page_told, refusal_of,
+};
 use closing::{Counts, Unclosed, close};
 use hand_handle::HandHandle;
 use opening::{NoHand, give, open};
+use showing::{KeyValue, MOST_IN_RANGE, Shown, bound_of, range, window};
 use std::alloc::Global;
 use store_handle::StoreHandle;
+use vm_map::span::Span;
+use vm_map::window::MOST_PAIRS;
 
 /// Opens the tree in the bytes of a page file: OK, TAKEN, LENGTH, FRAMES, NO_TREE, MEMORY.
 #[unsafe(no_mangle)]
@@ -169,6 +176,76 @@ pub extern "C" fn brf_swap(
         return NONE;
     };
     let (answer, said) = answer_of(held.hand.swap(key, want, value, rounds));
+    hand.put(held);
+    *told = said;
+    answer
+}
+
+/// The first pairs from a key on, at most so many: OK, ROOM, NONE, BUSY, DEVICE, WORN, DAMAGED.
+#[unsafe(no_mangle)]
+pub extern "C" fn brf_window(
+    alloc: Global,
+    hand: &mut HandHandle,
+    start: u64,
+    most: u32,
+    rounds: u32,
+    pairs: &mut [KeyValue],
+    shown: &mut Shown,
+    told: &mut Told,
+) -> u32
+    requires hand { IfSome hand.old.value IsFitHand }
+    ensures hand { IfSome hand.new.value IsFitHand }
+    ensures none { hand.old.value ≡ None
+        → (result ≡ 12) × (hand.new.value ≡ None) × (outs told.new pairs.new shown.new ≡ outs told.old pairs.old shown.old) }
+    ensures call { IfSome hand.old.value (λ before.
+        ShowsWindow start most before hand.new.value result (outs told.old pairs.old shown.old) (outs told.new pairs.new shown.new)) }
+{
+    let Some(mut held) = hand.take(alloc) else {
+        return NONE;
+    };
+    if most == 0 || pairs.len() < (most as usize).min(MOST_PAIRS) {
+        hand.put(held);
+        return ROOM;
+    }
+    let (answer, said) = window(&mut held, start, most, rounds, pairs, shown);
+    hand.put(held);
+    *told = said;
+    answer
+}
+
+/// All pairs from a key on and below another, or to the last: OK, WIDE, ROOM, MEMORY, NONE, BUSY, DEVICE, WORN, DAMAGED.
+#[unsafe(no_mangle)]
+pub extern "C" fn brf_range(
+    alloc: Global,
+    hand: &mut HandHandle,
+    low: u64,
+    high: u64,
+    to_end: u32,
+    rounds: u32,
+    pairs: &mut [KeyValue],
+    shown: &mut Shown,
+    told: &mut Told,
+) -> u32
+    requires hand { IfSome hand.old.value IsFitHand }
+    ensures hand { IfSome hand.new.value IsFitHand }
+    ensures none { hand.old.value ≡ None
+        → (result ≡ 12) × (hand.new.value ≡ None) × (outs told.new pairs.new shown.new ≡ outs told.old pairs.old shown.old) }
+    ensures call { IfSome hand.old.value (λ before. ShowsRange low (bound_asked high to_end) before hand.new.value result
+        (outs told.old pairs.old shown.old) (outs told.new pairs.new shown.new)) }
+{
+    let Some(mut held) = hand.take(alloc) else {
+        return NONE;
+    };
+    if pairs.len() < MOST_IN_RANGE {
+        hand.put(held);
+        return ROOM;
+    }
+    let Ok(out) = Span::with_room(alloc, MOST_IN_RANGE) else {
+        hand.put(held);
+        return MEMORY;
+    };
+    let bound = bound_of(high, to_end);
+    let (answer, said) = range(&mut held, low, bound, out, rounds, pairs, shown);
     hand.put(held);
     *told = said;
     answer
