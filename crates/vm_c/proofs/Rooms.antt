@@ -1,5 +1,6 @@
 -- There is room for the pairs of a window or a range.
-use Rattle.std.proofs.Common.{[], ◌&&◌, ◌*◌, ◌∙◌, ◌∷◌, ◌≡◌, ◌≤◌, ap, arith, Err, length, length-append, length-take, List, min, nat_le, nat_lt}
+use Rattle.std.proofs.Common.{[], ◌&&◌, ◌*◌, ◌∙◌, ◌∷◌, ◌≡◌, ◌≤◌, ap}
+use Rattle.std.proofs.Common.{arith, Err, length, length-append, length-take, List, min, nat_le, nat_lt}
 use Rattle.std.proofs.Common.{None, Ok, Option, Result, slice_index, Some, subst, sym, take, true, ℕ}
 use Rattle.std.proofs.lemmas.List.Sums.{count_by-le-length, length-filter}
 use Rattle.vm_map.specs.{declared.call.Reply.Reply, declared.call.Said.Said, History.between, History.bound_of, Map.Pairs}

@@ -1,5 +1,6 @@
 -- One pair more is shown.
-use Rattle.std.proofs.Common.{[], ◌++◌, ◌+◌, ◌<◌, ◌∙◌, ◌∷◌, ◌≡◌, ◌≤◌, ap, arith, drop, get_or, length, length-take-le, List, map, set, subst, suc, sym, take, ℕ}
+use Rattle.std.proofs.Common.{[], ◌++◌, ◌+◌, ◌<◌, ◌∙◌, ◌∷◌, ◌≡◌, ◌≤◌, ap, arith, drop}
+use Rattle.std.proofs.Common.{get_or, length, length-take-le, List, map, set, subst, suc, sym, take, ℕ}
 use Rattle.std.proofs.Math.Seq.{drop-cons, set-append_seam}
 use Rattle.std.proofs.lemmas.List.{append_assoc, length-map, map-append, take_more}
 use Rattle.vm_map.specs.Map.{Pairs}

@@ -1,5 +1,6 @@
 -- What a window or a range shows.
-use Rattle.std.specs.Prelude.{◌++◌, ◌<◌, ◌==◌, ◌≡◌, ◌≤◌, ◌⊎◌, drop, Err, if◌then◌else◌, IfSome, length, List, map, min, None, Ok, Option, Result, Some, ℕ}
+use Rattle.std.specs.Prelude.{◌++◌, ◌<◌, ◌==◌, ◌≡◌, ◌≤◌, ◌⊎◌, drop, Err, if◌then◌else◌, IfSome, length, List, map, min, None, Ok}
+use Rattle.std.specs.Prelude.{Option, Result, Some, ℕ}
 use Rattle.vm_map.specs.{declared.call.Call.Call, declared.call.Reply.Reply, Map.Pairs}
 use Rattle.vm_map.specs.declared.call.Call.TheVariants.{Range, Window}
 use Rattle.vm_map.specs.declared.call.Reply.TheVariants.{Gone, Got, Many, Swapped, Was, Wide, Win}
@@ -57,7 +58,8 @@ Shows bound (Ok None) old new had has = (new ≡ old) × (has ≡ had)
 Shows bound (Err fault) old new had has = (new ≡ old) × (has ≡ had)
 
 -- the hand made this call, and what C gets is of its answer
-pub record HasShown (call : Call) (bound : Bound) (before after : OpenHand) (number : ℕ) (told : Told) (old new : List KeyValue) (had has : Shown) : Type 0 where
+pub record HasShown (call : Call) (bound : Bound) (before after : OpenHand) (number : ℕ) (told : Told) (old new : List KeyValue)
+    (had has : Shown) : Type 0 where
   pub answered : HasAnswered call before after number told
   pub shows : Shows bound answered.answer old new had has
 

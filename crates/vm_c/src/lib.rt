@@ -291,7 +291,8 @@ pub extern "C" fn brf_close(
     requires store { IfSome store.old.value IsFitStore }
     ensures store { IfSome store.new.value IsFitStore }
     ensures none { store.old.value ≡ None → (result ≡ 12) × (store.new.value ≡ None) × (image.new ≡ image.old) × (counts.new ≡ counts.old) }
-    ensures closed { IfSome store.old.value (λ s. Closes s store.new.value (record { image = image.old; counts = counts.old }) (record { image = image.new; counts = counts.new }) result) }
+    ensures closed { IfSome store.old.value (λ s. Closes s store.new.value
+        (record { image = image.old; counts = counts.old }) (record { image = image.new; counts = counts.new }) result) }
 {
     let Some(open) = store.take(alloc) else {
         return NONE;

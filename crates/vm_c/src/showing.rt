@@ -3,7 +3,8 @@
 ghost use Rattle.std.specs.Prelude.{[], ◌≡◌, ◌≤◌, length, min};
 ghost use Rattle.vm_map.specs.declared.call.Call.TheVariants.{Range as ForRange, Window as ForWindow};
 ghost use Rattle.vm_map.specs.declared.window.Bound.TheVariants.{End};
-ghost use Rattle.vm_c.specs.{Fits.IsFitHand, Shows.ArePairsShown, Shows.bound_asked, Shows.FitsIn, Shows.FitsReply, Shows.HasShown, Shows.shown_for, Shows.Shows, Shows.ShowsReply};
+ghost use Rattle.vm_c.specs.{Fits.IsFitHand, Shows.ArePairsShown, Shows.bound_asked, Shows.FitsIn, Shows.FitsReply};
+ghost use Rattle.vm_c.specs.Shows.{HasShown, shown_for, Shows, ShowsReply};
 
 use crate::answers::{Told, answer_of};
 use crate::opened::OpenHand;
