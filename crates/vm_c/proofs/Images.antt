@@ -3,10 +3,9 @@ use Rattle.std.proofs.Common.{[], ◌*◌, ◌/◌, ◌∙◌, ◌∷◌, ◌≡
 use Rattle.std.proofs.Common.{length-append, List, map, refl, subst, suc, sym, true, zero, ℕ}
 use Rattle.std.proofs.lemmas.List.{length-map}
 use Rattle.vm_block.specs.Memory.{stored_of, words_of}
-use Rattle.vm_block.specs.declared.memory.MemBlock.{MemBlock}
+use Rattle.vm_block.specs.declared.{memory.MemBlock.MemBlock, stored.Stored.Stored}
 use Rattle.vm_map.specs.declared.call.Said.{Said}
 use Rattle.vm_image.specs.{Blocks.pages_of_blocks, File.IsPageFile, File.page_in, File.pages_in, File.pages_of_bytes}
-use Rattle.vm_rule.specs.Prelude.{block_words}
 use Rattle.vm_step.specs.Prelude.{View}
 use Rattle.vm_face.specs.Closed.{IsClosedOn}
 
@@ -24,7 +23,7 @@ file-long bytes blocks file is =
     let same : length (pages_of_bytes 64 bytes) ≡ length (pages_of_blocks blocks) = ap (λ (l : List (List ℕ)). length l) is in
     omega (arith, read, held, same, file.3)
 
-pub words-held : (blocks : List (MemBlock 64)) → block_words (map stored_of blocks) ≡ pages_of_blocks blocks
+pub words-held : (blocks : List (MemBlock 64)) → map (λ (b : Stored). b.words) (map stored_of blocks) ≡ pages_of_blocks blocks
 words-held [] = refl
 words-held (b ∷ bs) = ap (λ (l : List (List ℕ)). words_of b ∷ l) (words-held bs)
 
