@@ -1,0 +1,9 @@
+pub mod Answers
+pub mod Closed
+pub mod Fits
+pub mod Given
+pub mod HandHandles
+pub mod Openings
+pub mod Shows
+pub mod StoreHandles
+pub mod Told
