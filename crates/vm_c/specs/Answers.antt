@@ -7,18 +7,18 @@ use Rattle.vm_serve.specs.from_vm_tree_rule.declared_fault_TreeFault.{TreeFault}
 use Rattle.vm_serve.specs.from_vm_tree_rule.declared_fault_TreeFault_TheVariants as faults
 use Rattle.vm_face.specs.declared.image.Opening.{Opening}
 use Rattle.vm_face.specs.declared.image.Opening.TheVariants as openings
-use Rattle.vm_c.specs.declared.answers.Told.{Told}
+use Rattle.vm_c.specs.declared.answers.CallTold.{CallTold}
 
-abbrev pub value_telling : Option ℕ → Told
+abbrev pub value_telling : Option ℕ → CallTold
 value_telling None = record { value = 0; page = 0; had = 0 }
 value_telling (Some value) = record { value = value; page = 0; had = 1 }
 
-abbrev pub page_telling : ℕ → Told
+abbrev pub page_telling : ℕ → CallTold
 page_telling page = record { value = 0; page = page; had = 0 }
 
 -- 0 for a reply, and its value; 1 where the rounds were used up; 2 to 5 for a fault, and its page or how many pages there are; 6 where a swap
 -- found another value, which is told, or none; 15 where a range has too many leaves, and the key up to which they reach
-abbrev pub answer_for : Result (Option Reply) TreeFault → ℕ × Told
+abbrev pub answer_for : Result (Option Reply) TreeFault → ℕ × CallTold
 answer_for (Ok (Some (Got value))) = (0, value_telling value)
 answer_for (Ok (Some (Was value))) = (0, value_telling value)
 answer_for (Ok (Some (Gone value))) = (0, value_telling value)
@@ -35,7 +35,7 @@ answer_for (Err (faults.Worn page)) = (4, page_telling page)
 answer_for (Err (faults.Damaged page)) = (5, page_telling page)
 
 -- 7 to 10 for a reason why there is no store; of pages that are no tree, the page at fault and the number of the reason are told
-abbrev pub refusal_for : Opening → ℕ × Told
+abbrev pub refusal_for : Opening → ℕ × CallTold
 refusal_for (openings.Length len) = (7, page_telling 0)
 refusal_for openings.Frames = (8, page_telling 0)
 refusal_for (openings.Page pid why) = (9, record { value = why; page = pid; had = 0 })

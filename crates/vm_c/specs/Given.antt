@@ -33,6 +33,6 @@ IsNotGiven before after reasons.Hands = after ≡ before
 IsNotGiven before after reasons.Memory = IsGivenBack before after
 
 -- the number is 0 where there is a hand afterwards, and else 11, as the store is as it was, or 10
-abbrev pub Gives : OpenStore → OpenStore → Option OpenHand → (number : ℕ) → Type 0
-Gives before after None number = ((number ≡ 11) × (after ≡ before)) ⊎ ((number ≡ 10) × IsGivenBack before after)
-Gives before after (Some hand) number = (number ≡ 0) × IsOneMore before hand after
+abbrev pub GivesHand : OpenStore → OpenStore → Option OpenHand → (number : ℕ) → Type 0
+GivesHand before after None number = ((number ≡ 11) × (after ≡ before)) ⊎ ((number ≡ 10) × IsGivenBack before after)
+GivesHand before after (Some hand) number = (number ≡ 0) × IsOneMore before hand after

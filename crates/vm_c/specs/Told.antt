@@ -6,11 +6,11 @@ use Rattle.vm_step.specs.Prelude.{view}
 use Rattle.vm_serve.specs.from_vm_calls.Calls.{KeepsPass}
 use Rattle.vm_serve.specs.from_vm_tree_rule.declared_fault_TreeFault.{TreeFault}
 use Rattle.vm_face.specs.Calls.{IsHandCall}
-use Rattle.vm_c.specs.{Answers.answer_for, declared.answers.Told.Told, declared.opened.OpenHand.OpenHand}
+use Rattle.vm_c.specs.{Answers.answer_for, declared.answers.CallTold.CallTold, declared.opened.OpenHand.OpenHand}
 
 -- The hand made this call, and the number and what is told are those of its answer: a reply that is an entry of the history, a fault with its
 -- cause, or that the rounds were used up
-pub record HasAnswered (call : Call) (before after : OpenHand) (number : ℕ) (told : Told) : Type 0 where
+pub record HasAnswered (call : Call) (before after : OpenHand) (number : ℕ) (told : CallTold) : Type 0 where
   pub answer : Result (Option Reply) TreeFault
   pub is : (number, told) ≡ answer_for answer
   pub made : IsHandCall 64 call answer (view before.hand.pass) (view after.hand.pass)
@@ -18,5 +18,5 @@ pub record HasAnswered (call : Call) (before after : OpenHand) (number : ℕ) (t
   pub pool : arc_value after.hand.pool ≡ arc_value before.hand.pool
 
 -- so it did, where the handle had a hand; it has it afterwards
-abbrev pub Answers : Call → Option OpenHand → Option OpenHand → ℕ → Told → Type 0
-Answers call old new number told = (before : OpenHand) → old ≡ Some before → IfSome new (λ after. HasAnswered call before after number told)
+abbrev pub AnswersCall : Call → Option OpenHand → Option OpenHand → ℕ → CallTold → Type 0
+AnswersCall call old new number told = (before : OpenHand) → old ≡ Some before → IfSome new (λ after. HasAnswered call before after number told)

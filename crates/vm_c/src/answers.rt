@@ -42,22 +42,22 @@ pub const WIDE: u32 = 15;
 /// What is said beside an answer: a value where there is one, and a page.
 #[repr(C)]
 #[derive(Clone, Copy, Drop)]
-pub struct Told {
+pub struct CallTold {
     pub value: u64,
     pub page: u32,
     pub had: u32,
 }
 
-fn value_told(value: Option<u64>) -> Told
+fn value_told(value: Option<u64>) -> CallTold
     ensures { result ≡ value_telling value }
 {
     match value {
-        Some(value) => Told {
+        Some(value) => CallTold {
             value,
             page: 0,
             had: 1,
         },
-        None => Told {
+        None => CallTold {
             value: 0,
             page: 0,
             had: 0,
@@ -66,10 +66,10 @@ fn value_told(value: Option<u64>) -> Told
 }
 
 /// Only a page is said.
-pub fn page_told(page: u32) -> Told
+pub fn page_told(page: u32) -> CallTold
     ensures { result ≡ page_telling page }
 {
-    Told {
+    CallTold {
         value: 0,
         page,
         had: 0,
@@ -77,7 +77,7 @@ pub fn page_told(page: u32) -> Told
 }
 
 /// The number of a call's answer, and what is said.
-pub fn answer_of(answer: Result<Option<Reply>, TreeFault>) -> (u32, Told)
+pub fn answer_of(answer: Result<Option<Reply>, TreeFault>) -> (u32, CallTold)
     ensures { result ≡ answer_for answer }
 {
     match answer {
@@ -99,14 +99,14 @@ pub fn answer_of(answer: Result<Option<Reply>, TreeFault>) -> (u32, Told)
 }
 
 /// The number of a reason why there is no store, and what is said.
-pub fn refusal_of(why: Opening) -> (u32, Told)
+pub fn refusal_of(why: Opening) -> (u32, CallTold)
     ensures { result ≡ refusal_for why }
 {
     match why {
         Opening::Length { len: _ } => (LENGTH, page_told(0)),
         Opening::Frames => (FRAMES, page_told(0)),
         Opening::Page { pid, why } => {
-            let told = Told {
+            let told = CallTold {
                 value: why as u64,
                 page: pid,
                 had: 0,

@@ -14,7 +14,7 @@ use vm_serve::vm_kind::{TreeOf, Words64};
 /// What was counted of all pages' blocks, and how many pages' last words are not in the image.
 #[repr(C)]
 #[derive(Clone, Copy, Drop)]
-pub struct Counts {
+pub struct BlockCounts {
     pub reads: u64,
     pub writes: u64,
     pub faults: u64,
@@ -37,7 +37,7 @@ pub fn close(
     alloc: Global,
     open: Box<OpenStore, Global>,
     image: &mut [u8],
-) -> Result<Counts, Unclosed>
+) -> Result<BlockCounts, Unclosed>
     requires store { IsFitStore open.value }
     ensures { MatchResult result (IsClosedInto open.value image.new) (IsUnclosed open.value image.old image.new) }
 {
@@ -61,10 +61,10 @@ pub fn close(
 }
 
 // What was counted of the blocks of a store that is closed.
-fn counts_of(summary: &Summary<TreeOf<Words64>, MemBlock<64>>) -> Counts
+fn counts_of(summary: &Summary<TreeOf<Words64>, MemBlock<64>>) -> BlockCounts
     ensures { result.unwritten ≡ summary.now.report.failed }
 {
-    Counts {
+    BlockCounts {
         reads: summary.ended.reads(),
         writes: summary.ended.writes(),
         faults: summary.ended.faults(),

@@ -12,16 +12,16 @@ mod store_handle;
 
 ghost use Rattle.std.specs.Prelude.{◌≡◌, IfSome, None};
 ghost use Rattle.vm_map.specs.declared.call.Call.TheVariants.{Del, Get, Put, Swap};
-ghost use Rattle.vm_c.specs.{Closed.Closes, Fits.IsFitHand, Fits.IsFitStore, Fits.IsHandOf, Given.Gives, Given.IsOneLess, Openings.OpensOn, Told.Answers};
+ghost use Rattle.vm_c.specs.{Closed.Closes, Fits.IsFitHand, Fits.IsFitStore, Fits.IsHandOf, Given.GivesHand, Given.IsOneLess, Openings.OpensOn, Told.AnswersCall};
 ghost use Rattle.vm_c.specs.Shows.{bound_asked, outs, ShowsRange, ShowsWindow};
 
 use answers::{
-    HANDS, LENGTH, MEMORY, NONE, OK, ROOM, TAKEN, Told, answer_of, page_told, refusal_of,
+    CallTold, HANDS, LENGTH, MEMORY, NONE, OK, ROOM, TAKEN, answer_of, page_told, refusal_of,
 };
-use closing::{Counts, Unclosed, close};
+use closing::{BlockCounts, Unclosed, close};
 use hand_handle::HandHandle;
 use opening::{NoHand, give, open};
-use showing::{KeyValue, MOST_IN_RANGE, Shown, bound_of, range, window};
+use showing::{KeyValue, MOST_IN_RANGE, ShownPairs, bound_of, range, window};
 use std::alloc::Global;
 use store_handle::StoreHandle;
 use vm_map::span::Span;
@@ -34,7 +34,7 @@ pub extern "C" fn brf_open(
     bytes: &[u8],
     frames: u32,
     store: &mut StoreHandle,
-    told: &mut Told,
+    told: &mut CallTold,
 ) -> u32
     requires store { IfSome store.old.value IsFitStore }
     ensures store { IfSome store.new.value IsFitStore }
@@ -65,7 +65,7 @@ pub extern "C" fn brf_hand_out(alloc: Global, store: &mut StoreHandle, hand: &mu
     ensures hand { IfSome hand.new.value IsFitHand }
     ensures taken { IfSome hand.old.value (λ _. (result ≡ 13) × (hand.new.value ≡ hand.old.value) × (store.new.value ≡ store.old.value)) }
     ensures none { hand.old.value ≡ None → store.old.value ≡ None → (result ≡ 12) × (hand.new.value ≡ None) × (store.new.value ≡ None) }
-    ensures given { hand.old.value ≡ None → IfSome store.old.value (λ before. IfSome store.new.value (λ after. Gives before after hand.new.value result)) }
+    ensures given { hand.old.value ≡ None → IfSome store.old.value (λ before. IfSome store.new.value (λ after. GivesHand before after hand.new.value result)) }
 {
     if let Some(held) = hand.take(alloc) {
         hand.put(held);
@@ -93,12 +93,12 @@ pub extern "C" fn brf_get(
     hand: &mut HandHandle,
     key: u64,
     rounds: u32,
-    told: &mut Told,
+    told: &mut CallTold,
 ) -> u32
     requires hand { IfSome hand.old.value IsFitHand }
     ensures hand { IfSome hand.new.value IsFitHand }
     ensures none { hand.old.value ≡ None → (result ≡ 12) × (hand.new.value ≡ None) × (told.new ≡ told.old) }
-    ensures call { Answers (Get key) hand.old.value hand.new.value result told.new }
+    ensures call { AnswersCall (Get key) hand.old.value hand.new.value result told.new }
 {
     let Some(mut held) = hand.take(alloc) else {
         return NONE;
@@ -117,12 +117,12 @@ pub extern "C" fn brf_put(
     key: u64,
     value: u64,
     rounds: u32,
-    told: &mut Told,
+    told: &mut CallTold,
 ) -> u32
     requires hand { IfSome hand.old.value IsFitHand }
     ensures hand { IfSome hand.new.value IsFitHand }
     ensures none { hand.old.value ≡ None → (result ≡ 12) × (hand.new.value ≡ None) × (told.new ≡ told.old) }
-    ensures call { Answers (Put key value) hand.old.value hand.new.value result told.new }
+    ensures call { AnswersCall (Put key value) hand.old.value hand.new.value result told.new }
 {
     let Some(mut held) = hand.take(alloc) else {
         return NONE;
@@ -140,12 +140,12 @@ pub extern "C" fn brf_del(
     hand: &mut HandHandle,
     key: u64,
     rounds: u32,
-    told: &mut Told,
+    told: &mut CallTold,
 ) -> u32
     requires hand { IfSome hand.old.value IsFitHand }
     ensures hand { IfSome hand.new.value IsFitHand }
     ensures none { hand.old.value ≡ None → (result ≡ 12) × (hand.new.value ≡ None) × (told.new ≡ told.old) }
-    ensures call { Answers (Del key) hand.old.value hand.new.value result told.new }
+    ensures call { AnswersCall (Del key) hand.old.value hand.new.value result told.new }
 {
     let Some(mut held) = hand.take(alloc) else {
         return NONE;
@@ -165,12 +165,12 @@ pub extern "C" fn brf_swap(
     want: u64,
     value: u64,
     rounds: u32,
-    told: &mut Told,
+    told: &mut CallTold,
 ) -> u32
     requires hand { IfSome hand.old.value IsFitHand }
     ensures hand { IfSome hand.new.value IsFitHand }
     ensures none { hand.old.value ≡ None → (result ≡ 12) × (hand.new.value ≡ None) × (told.new ≡ told.old) }
-    ensures call { Answers (Swap key want value) hand.old.value hand.new.value result told.new }
+    ensures call { AnswersCall (Swap key want value) hand.old.value hand.new.value result told.new }
 {
     let Some(mut held) = hand.take(alloc) else {
         return NONE;
@@ -190,8 +190,8 @@ pub extern "C" fn brf_window(
     most: u32,
     rounds: u32,
     pairs: &mut [KeyValue],
-    shown: &mut Shown,
-    told: &mut Told,
+    shown: &mut ShownPairs,
+    told: &mut CallTold,
 ) -> u32
     requires hand { IfSome hand.old.value IsFitHand }
     ensures hand { IfSome hand.new.value IsFitHand }
@@ -223,8 +223,8 @@ pub extern "C" fn brf_range(
     to_end: u32,
     rounds: u32,
     pairs: &mut [KeyValue],
-    shown: &mut Shown,
-    told: &mut Told,
+    shown: &mut ShownPairs,
+    told: &mut CallTold,
 ) -> u32
     requires hand { IfSome hand.old.value IsFitHand }
     ensures hand { IfSome hand.new.value IsFitHand }
@@ -286,7 +286,7 @@ pub extern "C" fn brf_close(
     alloc: Global,
     store: &mut StoreHandle,
     image: &mut [u8],
-    counts: &mut Counts,
+    counts: &mut BlockCounts,
 ) -> u32
     requires store { IfSome store.old.value IsFitStore }
     ensures store { IfSome store.new.value IsFitStore }

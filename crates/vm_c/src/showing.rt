@@ -6,7 +6,7 @@ ghost use Rattle.vm_map.specs.declared.window.Bound.TheVariants.{End};
 ghost use Rattle.vm_c.specs.{Fits.IsFitHand, Shows.ArePairsShown, Shows.bound_asked, Shows.FitsIn, Shows.FitsReply};
 ghost use Rattle.vm_c.specs.Shows.{HasShown, shown_for, Shows, ShowsReply};
 
-use crate::answers::{Told, answer_of};
+use crate::answers::{CallTold, answer_of};
 use crate::opened::OpenHand;
 use vm_map::call::{Pair, Reply};
 use vm_map::span::Span;
@@ -27,7 +27,7 @@ pub struct KeyValue {
 /// How many pairs are shown, which are all below the bound; or all to the last, where it ends.
 #[repr(C)]
 #[derive(Clone, Copy, Drop)]
-pub struct Shown {
+pub struct ShownPairs {
     pub bound: u64,
     pub count: u32,
     pub ends: u32,
@@ -51,8 +51,8 @@ pub fn window(
     most: u32,
     rounds: u32,
     pairs: &mut [KeyValue],
-    shown: &mut Shown,
-) -> (u32, Told)
+    shown: &mut ShownPairs,
+) -> (u32, CallTold)
     requires hand { IsFitHand hand.old }
     requires most { 1 ≤ most }
     requires room { min most 28 ≤ length pairs.old }
@@ -72,8 +72,8 @@ pub fn range(
     mut out: Span,
     rounds: u32,
     pairs: &mut [KeyValue],
-    shown: &mut Shown,
-) -> (u32, Told)
+    shown: &mut ShownPairs,
+) -> (u32, CallTold)
     requires hand { IsFitHand hand.old }
     requires empty { out.0 ≡ [] }
     requires out { 448 ≤ out.1 }
@@ -91,7 +91,7 @@ fn show(
     answer: &Result<Option<Reply>, TreeFault>,
     bound: Bound,
     pairs: &mut [KeyValue],
-    shown: &mut Shown,
+    shown: &mut ShownPairs,
 )
     requires { FitsIn (length pairs.old) answer.now }
     ensures { Shows bound answer.now pairs.old pairs.new shown.old shown.new }
@@ -103,7 +103,7 @@ fn show(
     }
 }
 
-fn show_reply(reply: &Reply, bound: Bound, pairs: &mut [KeyValue], shown: &mut Shown)
+fn show_reply(reply: &Reply, bound: Bound, pairs: &mut [KeyValue], shown: &mut ShownPairs)
     requires { FitsReply (length pairs.old) reply.now }
     ensures { ShowsReply bound reply.now pairs.old pairs.new shown.old shown.new }
 {
@@ -124,18 +124,18 @@ fn show_reply(reply: &Reply, bound: Bound, pairs: &mut [KeyValue], shown: &mut S
     }
 }
 
-fn shown_of(bound: Bound, count: usize) -> Shown
+fn shown_of(bound: Bound, count: usize) -> ShownPairs
     requires { count ≤ 448 }
     ensures { result ≡ shown_for bound count }
 {
     let count = count as u32;
     match bound {
-        Bound::Key(bound) => Shown {
+        Bound::Key(bound) => ShownPairs {
             bound,
             count,
             ends: 0,
         },
-        Bound::End => Shown {
+        Bound::End => ShownPairs {
             bound: 0,
             count,
             ends: 1,
