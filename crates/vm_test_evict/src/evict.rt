@@ -71,6 +71,25 @@ fn bring_first<B: PageBlock<WORDS>>(rt: &impl Abort, words: &Words<Bare, B>, pas
     };
 }
 
+/// Sets the last word of page 0, which is in use, and unlocked in its frame.
+fn set_last<B: Block>(rt: &impl Abort, words: &Words<Bare, B>, pass: &mut Pass<Bare>)
+    requires size { words.now.table.shared.key.size ≡ WORDS }
+    requires ready { IsReadyOn words.now B.tells pass.old }
+    requires pages { words.now.table.shared.key.pages ≡ 1 }
+    requires out { (view pass.old).out ≡ None }
+    ensures ready { IsReadyOn words.now B.tells pass.new }
+    ensures out { (view pass.new).out ≡ None }
+{
+    let Ok(mut held) = ExclusiveGuard::take(words, pass, 0) else {
+        panic!(rt; "the page can be locked");
+    };
+    if held.read(words, pass, 1) == 0 {
+        panic!(rt; "the page is in use");
+    }
+    held.set(words, pass, 63, 5);
+    held.release(words, pass, None);
+}
+
 /// A table of one page, unlocked at version 7 and dirty in its frame, and its first pass. The page was evicted at version 5, was brought in by the
 /// first call of its block, and then had its last word set. The block has such a page and this plan.
 pub(crate) fn one_page(
@@ -88,14 +107,7 @@ pub(crate) fn one_page(
     blocks.push(MemBlock::new(alloc, used_page(), plan)?)?;
     let (words, mut pass) = Words::started(alloc, WORDS, 1, 1, 5, blocks, &[])?;
     bring_first(rt, &words, &mut pass);
-    let Ok(mut held) = ExclusiveGuard::take(&words, &mut pass, 0) else {
-        panic!(rt; "the page can be locked");
-    };
-    if held.read(&words, &mut pass, 1) == 0 {
-        panic!(rt; "the page is in use");
-    }
-    held.set(&words, &mut pass, 63, 5);
-    held.release(&words, &mut pass, None);
+    set_last(rt, &words, &mut pass);
     Ok((words, pass))
 }
 
