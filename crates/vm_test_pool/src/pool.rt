@@ -147,6 +147,28 @@ fn a_page_that_goes_ends_an_older_read(rt: HostRuntime) -> Result<(), Fail> {
     Ok(())
 }
 
+/// The next sweep writes page 0, whose word `i` is 7, and frees its frame; the page is brought again with this word.
+fn written_now<R: Abort, B: PageBlock<N>, const N: usize>(
+    rt: &R,
+    pool: &Pool<Bare, B, N>,
+    pass: &mut Pass<Bare>,
+    iface: &mut Interface,
+    i: usize,
+) -> Result<(), Fail>
+    requires ready { IsReadyOn pool.now.words B.tells pass.old }
+    requires home { (view pass.old).out ≡ None }
+    requires held { AreHeld iface.old.frames (view pass.old) }
+    requires page { 1 ≤ pool.now.words.table.shared.key.pages }
+    requires place { i < N }
+{
+    let report = pool.sweep(pass, iface, 1);
+    assert_eq!(rt; (report.freed, report.written, report.failed), (1, 1, 0));
+    brought(pool, pass, iface, 0)?;
+    let word = read_word(&pool.words, pass, 0, i);
+    assert_eq!(rt; word, Some(7));
+    Ok(())
+}
+
 /// A page of `N` words whose word `i` is set, and whose first write fails, is written by the next sweep.
 fn written_again<R: Abort, const N: usize>(rt: &R, alloc: Global, i: usize) -> Result<(), Fail>
     requires sized { IsSize N }
@@ -164,12 +186,7 @@ fn written_again<R: Abort, const N: usize>(rt: &R, alloc: Global, i: usize) -> R
     assert_eq!(rt; report.first_failed, Some((0, 1)));
     let dirty = is_dirty(rt, &pool, &mut pass, 0);
     assert!(rt; dirty);
-    let report = pool.sweep(&mut pass, &mut iface, 1);
-    assert_eq!(rt; (report.freed, report.written, report.failed), (1, 1, 0));
-    brought(&pool, &mut pass, &mut iface, 0)?;
-    let word = read_word(&pool.words, &mut pass, 0, i);
-    assert_eq!(rt; word, Some(7));
-    Ok(())
+    written_now(rt, &pool, &mut pass, &mut iface, i)
 }
 
 #[test]
