@@ -3,10 +3,8 @@
 #![tactic(auto)]
 
 mod command;
+pub mod drive;
 pub mod laws;
 pub mod run;
 
-pub use vm_file_serve::vm_endings::ends;
-
-// Libraries below that the crates above name through this one.
-pub use vm_file_serve::vm_drive;
+pub use vm_file_serve::endings::ends;

@@ -2,8 +2,6 @@
 #![tactic(auto)]
 
 pub mod calls;
+pub mod drive;
+pub mod serve;
 pub mod trees;
-
-// Libraries below that the crates above name through this one.
-pub use vm_serve;
-pub use vm_serve::vm_drive;

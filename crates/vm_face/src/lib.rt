@@ -4,11 +4,9 @@
 
 pub mod hand;
 pub mod image;
+pub mod kind;
 pub mod store;
 
 pub use hand::Hand;
 pub use image::{Opening, open_image};
 pub use store::{Closing, Summary, TreeStore, open_on};
-
-// Libraries below that the crates above name through this one.
-pub use vm_serve::vm_kind;

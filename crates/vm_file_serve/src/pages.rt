@@ -12,9 +12,7 @@ use vm_check::{CheckFault, check};
 use vm_device::{Devices, Failed, TakeFault, take_all};
 use vm_image::{BlocksFault, Image, read_blocks};
 use vm_page::WORDS;
-use vm_reading::vm_endings::limits::holds_call;
-use vm_reading::vm_endings::stop::{Quantity, Stop};
-use vm_reading::vm_endings::undone::Undone;
+use vm_reading::endings::{Quantity, Stop, Undone, holds_call};
 
 // Whether as many bytes are 2 to 256 pages of 64 words.
 fn is_served_length(size: u64) -> bool

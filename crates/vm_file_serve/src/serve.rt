@@ -21,14 +21,10 @@ use vm_image::Image;
 use vm_io::host::Host;
 use vm_map::call::Call;
 use vm_page::WORDS;
+use vm_reading::drive::Gate;
+use vm_reading::endings::{Delivery, Ends, Quantity, Stop, Undone, are_frames, are_workers};
 use vm_reading::reading::read_calls;
-use vm_reading::vm_drive::gate::Gate;
-use vm_reading::vm_endings::delivery::Delivery;
-use vm_reading::vm_endings::ends::Ends;
-use vm_reading::vm_endings::limits::{are_frames, are_workers};
-use vm_reading::vm_endings::stop::{Quantity, Stop};
-use vm_reading::vm_endings::undone::Undone;
-use vm_reading::vm_serve::ServedOn;
+use vm_reading::serve::ServedOn;
 use vm_words::Serve;
 
 /// The pages of the file, and the calls of each worker.

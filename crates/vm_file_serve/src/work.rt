@@ -17,14 +17,11 @@ use vm_core::Memory;
 use vm_image::Image;
 use vm_map::call::Call;
 use vm_page::WORDS;
-use vm_reading::vm_drive::compact::Replies;
-use vm_reading::vm_drive::gate::Gate;
-use vm_reading::vm_drive::rooms_for;
-use vm_reading::vm_endings::delivery::Delivery;
-use vm_reading::vm_endings::texts::{cut_text, whole_text};
-use vm_reading::vm_kind::{Sizes, Tree};
-use vm_reading::vm_pool::{Ended, Shape};
-use vm_reading::vm_serve::{ServedOn, serve_on};
+use vm_reading::drive::{Gate, Replies, rooms_for};
+use vm_reading::endings::{Delivery, cut_text, whole_text};
+use vm_reading::kind::{Sizes, Tree};
+use vm_reading::pool::{Ended, Shape};
+use vm_reading::serve::{ServedOn, serve_on};
 
 /// Makes the calls on the tree of these pages, which the blocks hold, in a pool of so many frames, each page at version 0 at the start. The image is let
 /// go before. Where there is no memory the blocks are dropped.

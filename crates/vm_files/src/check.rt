@@ -11,11 +11,8 @@ ghost use Rattle.vm_reading.specs.from_vm_endings.declared_ends_Ends.{Ends};
 use std::alloc::{AllocError, Global};
 use vm_check::Rows;
 use vm_io::host::Host;
+use vm_reading::endings::{Delivery, Stop, Undone, add_rows};
 use vm_reading::reading::read_tree;
-use vm_reading::vm_endings::delivery::Delivery;
-use vm_reading::vm_endings::replies::add_rows;
-use vm_reading::vm_endings::stop::Stop;
-use vm_reading::vm_endings::undone::Undone;
 use vm_script::text::tree_text;
 use vm_words::Check;
 

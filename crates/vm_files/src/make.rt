@@ -15,11 +15,10 @@ use std::alloc::{AllocError, Global};
 use vm_build::{needed, numbered_image};
 use vm_image::Image;
 use vm_page::{LARGE, WORDS};
-use vm_reading::vm_endings::delivery::Delivery;
-use vm_reading::vm_endings::limits::{are_pages, are_pairs_to_make, are_words, words_of};
-use vm_reading::vm_endings::stop::{Quantity, Stop};
-use vm_reading::vm_endings::undone::Undone;
-use vm_reading::vm_endings::writing::{file_of, used_in};
+use vm_reading::endings::{
+    Delivery, Quantity, Stop, Undone, are_pages, are_pairs_to_make, are_words, file_of, used_in,
+    words_of,
+};
 use vm_script::text::made_text;
 use vm_words::Make;
 

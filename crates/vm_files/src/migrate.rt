@@ -20,12 +20,8 @@ use vm_image::Image;
 use vm_io::host::Host;
 use vm_map::call::Pair;
 use vm_page::LARGE;
+use vm_reading::endings::{Delivery, Quantity, Stop, Undone, are_pages, file_of, used_in};
 use vm_reading::reading::read_tree;
-use vm_reading::vm_endings::delivery::Delivery;
-use vm_reading::vm_endings::limits::are_pages;
-use vm_reading::vm_endings::stop::{Quantity, Stop};
-use vm_reading::vm_endings::undone::Undone;
-use vm_reading::vm_endings::writing::{file_of, used_in};
 use vm_script::text::migrated_text;
 use vm_words::Migrate;
 

@@ -2,7 +2,5 @@
 #![tactic(auto)]
 
 pub mod calls;
+pub mod tree_range;
 pub mod trees;
-
-// Libraries below that the crates above name through this one.
-pub use vm_tree_range;

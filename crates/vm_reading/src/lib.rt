@@ -1,8 +1,10 @@
 //! The readers of page files and scripts, which the commands with workers and those without take.
 #![tactic(auto)]
 
+pub mod churn;
+pub mod drive;
+pub mod endings;
+pub mod kind;
+pub mod pool;
 pub mod reading;
-
-// Libraries below that the crates above name through this one.
-pub use vm_endings;
-pub use vm_endings::{vm_churn, vm_drive, vm_kind, vm_pool, vm_serve};
+pub mod serve;

@@ -17,17 +17,14 @@ use vm_core::Memory;
 use vm_kind::{OfSize, Sizes, TreeOf, WordKeys};
 use vm_map::call::Pair;
 use vm_page::{LARGE, WORDS};
-use vm_reading::reading::ReadTree;
-use vm_reading::vm_churn::{Tally, calls_of, sum_of, tallies_for, tally_all};
-use vm_reading::vm_drive::gate::Gate;
-use vm_reading::vm_endings::delivery::Delivery;
-use vm_reading::vm_endings::ends::Ends;
-use vm_reading::vm_endings::limits::{
-    are_frames, are_pairs_to_churn, are_words, are_workers, words_of,
+use vm_reading::churn::{Tally, calls_of, sum_of, tallies_for, tally_all};
+use vm_reading::drive::Gate;
+use vm_reading::endings::{
+    Delivery, Ends, Quantity, Stop, Undone, are_frames, are_pairs_to_churn, are_words, are_workers,
+    words_of,
 };
-use vm_reading::vm_endings::stop::{Quantity, Stop};
-use vm_reading::vm_endings::undone::Undone;
-use vm_reading::vm_serve::{ServedOn, serve_into};
+use vm_reading::reading::ReadTree;
+use vm_reading::serve::{ServedOn, serve_into};
 use vm_script::text::{Churned, churn_text};
 use vm_words::Churn;
 

@@ -19,13 +19,11 @@ use vm_image::{Image, image_of};
 use vm_kind::{OfSize, TreeOf, WordKeys};
 use vm_map::call::Call;
 use vm_owner::Owner;
+use vm_reading::drive::Gate;
+use vm_reading::endings::{Delivery, File, cut_text, file_of, whole_text};
+use vm_reading::pool::Ended;
 use vm_reading::reading::ReadTree;
-use vm_reading::vm_drive::gate::Gate;
-use vm_reading::vm_endings::delivery::{Delivery, File};
-use vm_reading::vm_endings::texts::{cut_text, whole_text};
-use vm_reading::vm_endings::writing::file_of;
-use vm_reading::vm_pool::Ended;
-use vm_reading::vm_serve::{Served, serve};
+use vm_reading::serve::{Served, serve};
 use vm_words::Run;
 
 /// What a run gives, and what is kept of it.

@@ -14,15 +14,12 @@ use std::thread::Threads;
 use vm_io::host::Host;
 use vm_kind::{OfSize, Sizes, TreeOf, WordKeys};
 use vm_page::{LARGE, WORDS};
-use vm_reading::reading::{ReadTree, StoredTree, read_calls, read_tree};
-use vm_reading::vm_drive::gate::Gate;
-use vm_reading::vm_endings::delivery::Delivery;
-use vm_reading::vm_endings::ends::Ends;
-use vm_reading::vm_endings::limits::{
-    are_entries, are_frames, are_workers, holds_call, is_version,
+use vm_reading::drive::Gate;
+use vm_reading::endings::{
+    Delivery, Ends, Quantity, Stop, Undone, are_entries, are_frames, are_workers, holds_call,
+    is_version,
 };
-use vm_reading::vm_endings::stop::{Quantity, Stop};
-use vm_reading::vm_endings::undone::Undone;
+use vm_reading::reading::{ReadTree, StoredTree, read_calls, read_tree};
 use vm_words::Run;
 
 // The number of workers, where the numbers are within their limits; else the first that is not.

@@ -2,10 +2,8 @@
 
 use std::test::Fail;
 use vm_drive_callers::calls::two_lists;
+use vm_drive_callers::drive::{NoGate, Short, drive};
 use vm_drive_callers::trees::{empty, open, two_leaves};
-use vm_drive_callers::vm_drive::compact::Short;
-use vm_drive_callers::vm_drive::drive;
-use vm_drive_callers::vm_drive::gate::NoGate;
 use vm_map::call::{Call, Pair};
 use vm_map::window::Bound;
 

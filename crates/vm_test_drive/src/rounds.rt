@@ -8,9 +8,8 @@ use std::test::Fail;
 use std::thread::Threads;
 use vm_core::Memory;
 use vm_drive_callers::calls::{expect_lists, faults_in, shares};
+use vm_drive_callers::drive::{Driven, NoGate, drive};
 use vm_drive_callers::trees::{empty, open};
-use vm_drive_callers::vm_drive::gate::NoGate;
-use vm_drive_callers::vm_drive::{Driven, drive};
 use vm_exmap::{Alloc, Interface};
 
 /// So many workers put 300 keys each, of which no two are the same, in a tree of 128 pages: each put is answered, and each key is there. How

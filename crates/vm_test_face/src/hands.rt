@@ -2,7 +2,7 @@
 
 use crate::refused::empty_file;
 use std::test::Fail;
-use vm_face::vm_kind::Sizes;
+use vm_face::kind::Sizes;
 use vm_face::{Closing, open_image};
 use vm_map::call::{Pair, Reply, Swap};
 use vm_map::span::Span;

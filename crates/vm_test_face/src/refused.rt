@@ -3,7 +3,7 @@
 use std::alloc::Global;
 use std::test::Fail;
 use vm_build::numbered_image;
-use vm_face::vm_kind::Sizes;
+use vm_face::kind::Sizes;
 use vm_face::{Opening, open_image};
 use vm_page::WORDS;
 

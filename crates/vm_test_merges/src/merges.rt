@@ -10,11 +10,10 @@ use vm_map::call::Reply;
 use vm_page::WORDS;
 use vm_tree_pages::keys::{get_range, put_range};
 use vm_tree_pages::pages::{are_unlocked, free_numbers, is_page, three_leaves, touch};
-use vm_tree_pages::vm_tree_callers::calls::{
-    MAGIC, open, open_with, put_page, state_word, two_leaves,
+use vm_tree_pages::tree_callers::{
+    MAGIC, del_at, del_once, open, open_with, put_page, state_word, two_leaves,
 };
-use vm_tree_pages::vm_tree_callers::write_calls::{del_at, del_once};
-use vm_tree_pages::vm_tree_write::TryWrite;
+use vm_tree_pages::tree_write::TryWrite;
 
 /// Seven pages of a tree of height 2: the root on page 1, below it page 2 (below key 500) over the leaves on pages 4 and 5, and page 3 over the leaf on page 6.
 fn three_levels(alloc: Global) -> Result<Vec<u8>, Fail> {

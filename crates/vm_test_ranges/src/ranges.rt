@@ -7,8 +7,8 @@ use vm_map::call::{Pair, Reply};
 use vm_map::window::Bound;
 use vm_page::WORDS;
 use vm_range_callers::calls::{lock_of, many, range_once, range_under, ranged, span};
+use vm_range_callers::tree_range::TryRange;
 use vm_range_callers::trees::{LARGE_MAGIC, MAGIC, leaves, open};
-use vm_range_callers::vm_tree_range::TryRange;
 
 const FIRST: Pair = Pair { key: 5, value: 0 };
 

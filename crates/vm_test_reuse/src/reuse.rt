@@ -18,11 +18,10 @@ use vm_rule::words::Pass;
 use vm_step::{At, Saw};
 use vm_tree_pages::keys::{del_range, get_range, put_range};
 use vm_tree_pages::pages::{free_numbers, is_page, three_leaves};
-use vm_tree_pages::vm_pool::Pool;
-use vm_tree_pages::vm_tree_callers::calls::{
-    LARGE_MAGIC, MAGIC, empty, empty_sized, got, open, open_sized, state_word,
+use vm_tree_pages::pool::Pool;
+use vm_tree_pages::tree_callers::{
+    LARGE_MAGIC, MAGIC, del_at, empty, empty_sized, got, open, open_sized, state_word,
 };
-use vm_tree_pages::vm_tree_callers::write_calls::del_at;
 use vm_tree_rule::Tree;
 
 /// An empty tree gets the keys below 29, and loses them again. The 29th put splits the leaf: the right half stands on page 2, the lower one of two pages, and

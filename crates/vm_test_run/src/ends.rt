@@ -2,8 +2,8 @@
 
 use crate::expect::{RUN, host, host_with, is_kept, perform};
 use std::test::Fail;
+use vm_cli::drive::NoGate;
 use vm_cli::ends::Ends;
-use vm_cli::vm_drive::gate::NoGate;
 
 /// The end of the pool has the counts that are said; a later command that has no workers leaves it.
 #[test]

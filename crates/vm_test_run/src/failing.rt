@@ -3,8 +3,8 @@
 use crate::expect::{RUN, expect_no_run, expect_run, host, is_kept, perform};
 use crate::pages::empty_tree;
 use std::test::Fail;
+use vm_cli::drive::NoGate;
 use vm_cli::ends::Ends;
-use vm_cli::vm_drive::gate::NoGate;
 
 /// Where the line of a refusal can't be said, the status is 3. Call 1 says where no file is read, call 3 behind an image.
 #[test]

@@ -2,7 +2,7 @@
 
 use std::sync::atomic::{AtomicBool, AtomicU64, Ordering};
 use std::thread;
-use vm_cli::vm_drive::gate::Gate;
+use vm_cli::drive::Gate;
 
 /// How many calls of a worker came to a gate, and how many left it.
 #[derive(Drop)]

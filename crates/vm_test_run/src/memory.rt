@@ -2,9 +2,9 @@
 
 use crate::expect::{OLD, host_with, is_kept, words};
 use std::test::Fail;
+use vm_cli::drive::NoGate;
 use vm_cli::ends::Ends;
 use vm_cli::run::run;
-use vm_cli::vm_drive::gate::NoGate;
 use vm_device::MemDevices;
 use vm_page::WORDS;
 

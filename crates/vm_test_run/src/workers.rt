@@ -8,8 +8,8 @@ use std::sync::Wait;
 use std::sync::atomic::Ordering;
 use std::test::Fail;
 use std::thread::Threads;
+use vm_cli::drive::NoGate;
 use vm_cli::ends::Ends;
-use vm_cli::vm_drive::gate::NoGate;
 
 /// Two workers make these calls over the file that this line makes, and what is said of both commands is one of these texts.
 fn comes_to_one_of<R: Abort + Threads + Wait + Sync>(

@@ -6,14 +6,12 @@ use vm_image::PlannedFault;
 use vm_map::call::{Reply, Swap};
 use vm_map::window::Bound;
 use vm_tree_pages::keys::put_range;
-use vm_tree_pages::vm_tree_callers::calls::{
-    empty, get_once, got, open_with, two_leaves, window_from,
+use vm_tree_pages::tree_callers::{
+    del_at, del_once, empty, get_once, got, open_with, put_at, put_once, split_once, swap_at,
+    swap_once, two_leaves, window_from,
 };
-use vm_tree_pages::vm_tree_callers::write_calls::{
-    del_at, del_once, put_at, put_once, split_once, swap_at, swap_once,
-};
-use vm_tree_pages::vm_tree_read::TryRead;
-use vm_tree_pages::vm_tree_write::{TrySplit, TryWrite};
+use vm_tree_pages::tree_read::TryRead;
+use vm_tree_pages::tree_write::{TrySplit, TryWrite};
 use vm_tree_rule::TreeFault;
 
 #[test]

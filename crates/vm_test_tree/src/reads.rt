@@ -7,12 +7,12 @@ use vm_image::PlannedFault;
 use vm_map::call::Reply;
 use vm_map::window::Bound;
 use vm_step::At;
-use vm_tree_pages::vm_pool::Bring;
-use vm_tree_pages::vm_tree_callers::calls::{
+use vm_tree_pages::pool::Bring;
+use vm_tree_pages::tree_callers::{
     empty, get_beside, get_first, get_once, got, one_leaf, open, two_leaves, window_from,
     window_once,
 };
-use vm_tree_pages::vm_tree_read::TryRead;
+use vm_tree_pages::tree_read::TryRead;
 
 #[test]
 fn a_key_that_is_not_there_has_no_value(rt: HostRuntime) -> Result<(), Fail> {

@@ -14,16 +14,13 @@ use vm_map::window::Bound;
 use vm_page::{LARGE, WORDS};
 use vm_rule::words::Pass;
 use vm_tree_pages::keys::put_range;
-use vm_tree_pages::vm_pool::Pool;
-use vm_tree_pages::vm_tree_callers::calls::{
-    LARGE_MAGIC, empty, empty_sized, got, open, open_sized, open_with, state_word, two_leaves,
+use vm_tree_pages::pool::Pool;
+use vm_tree_pages::tree_callers::{
+    LARGE_MAGIC, del_at, del_once, empty, empty_sized, got, open, open_sized, open_with, put_at,
+    put_meet_get, put_once, put_then_get, split_once, state_word, swap_at, swap_once, two_leaves,
     window_from,
 };
-use vm_tree_pages::vm_tree_callers::write_calls::{
-    del_at, del_once, put_at, put_once, split_once, swap_at, swap_once,
-};
-use vm_tree_pages::vm_tree_callers::{put_meet_get, put_then_get};
-use vm_tree_pages::vm_tree_write::{TrySplit, TryWrite};
+use vm_tree_pages::tree_write::{TrySplit, TryWrite};
 use vm_tree_rule::{Tree, TreeFault};
 
 /// 800 keys in a mixed order get the number behind them. None of them was there.

@@ -2,9 +2,15 @@
 #![tactic(auto)]
 
 pub mod calls;
+pub mod guard;
+pub mod kind;
 mod met;
+pub mod pool;
 mod put_get;
 mod started;
+pub mod tree_read;
+pub mod tree_rule;
+pub mod tree_write;
 mod twice;
 mod why;
 pub mod write_calls;
@@ -14,9 +20,3 @@ pub use put_get::put_then_get;
 pub use started::{Started, get_from_start};
 pub use twice::get_twice;
 pub use why::why_again;
-
-// Libraries below that the crates above name through this one.
-pub use vm_guard;
-pub use vm_kind;
-pub use vm_pool_callers::vm_pool;
-pub use vm_tree_retry::{vm_tree_read, vm_tree_rule, vm_tree_write};

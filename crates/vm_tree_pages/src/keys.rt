@@ -9,8 +9,8 @@ use vm_exmap::Interface;
 use vm_map::call::Reply;
 use vm_rule::words::Pass;
 use vm_tree_callers::calls::got;
-use vm_tree_callers::vm_kind::{OfSize, TreeOf, WordKeys};
-use vm_tree_callers::vm_pool::Pool;
+use vm_tree_callers::kind::{OfSize, TreeOf, WordKeys};
+use vm_tree_callers::pool::Pool;
 use vm_tree_callers::write_calls::{del_at, put_at};
 
 /// The keys from `from` on and below `to`, none of which was there, get the value 1.

@@ -3,7 +3,7 @@
 
 pub mod keys;
 pub mod pages;
-
-// Libraries below that the crates above name through this one.
-pub use vm_tree_callers;
-pub use vm_tree_callers::{vm_pool, vm_tree_read, vm_tree_write};
+pub mod pool;
+pub mod tree_callers;
+pub mod tree_read;
+pub mod tree_write;

@@ -10,10 +10,10 @@ use vm_page::{PageBuf, WORDS};
 use vm_rule::words::Pass;
 use vm_step::pbload;
 use vm_tree_callers::calls::{MAGIC, put_page, state_word};
-use vm_tree_callers::vm_guard::{ExclusiveGuard, OptGuard};
-use vm_tree_callers::vm_kind::{OfSize, TreeOf, WordKeys};
-use vm_tree_callers::vm_pool::Pool;
-use vm_tree_callers::vm_tree_rule::Tree;
+use vm_tree_callers::guard::{ExclusiveGuard, OptGuard};
+use vm_tree_callers::kind::{OfSize, TreeOf, WordKeys};
+use vm_tree_callers::pool::Pool;
+use vm_tree_callers::tree_rule::Tree;
 
 /// Five pages of a tree of height 1: the root on page 1, leaves on pages 2 (below key 100), 3 (below 200) and 4.
 pub fn three_leaves(alloc: Global) -> Result<Vec<u8>, Fail> {

@@ -1,0 +1,3 @@
+//! What the crates above name of `vm_serve` through this one.
+
+pub use vm_serve::{Served, ServedOn, serve, serve_into, serve_on};

@@ -1,0 +1,3 @@
+//! What the crates above name of `vm_drive` through this one.
+
+pub use vm_reading::drive::{Gate, NoGate};
