@@ -1,5 +1,7 @@
 //! A replay, and the words that a table begins with, with ample memory. The values are worked out by hand from the rules, and not taken from a run.
 
+use std::alloc::Global;
+use std::process::Abort;
 use std::test::Fail;
 use vm_block::MemBlock;
 use vm_core::{Core, CoreShape, Event, ReadIs, ReplayFault, Seen};
@@ -57,9 +59,8 @@ fn a_replay_sees_each_event_and_names_the_illegal_one(rt: HostRuntime) -> Result
 /// The state word of an evicted page at version 7.
 const EVICTED_AT_7: u64 = 0xff00_0000_0000_0007;
 
-#[test]
-fn a_started_table_has_its_words_by_the_layout(rt: HostRuntime) -> Result<(), Fail> {
-    let alloc = rt.alloc();
+/// A table of 67 frames, whose two pages are evicted at version 7, with the number of page 1 free.
+fn started(alloc: Global) -> Result<Words<Bare, MemBlock<WORDS>>, Fail> {
     let mut blocks = Vec::new(alloc);
     blocks.push(MemBlock::new(alloc, PageBuf::zero(), &[])?)?;
     blocks.push(MemBlock::new(alloc, PageBuf::zero(), &[])?)?;
@@ -72,21 +73,38 @@ fn a_started_table_has_its_words_by_the_layout(rt: HostRuntime) -> Result<(), Fa
         blocks,
         &[1],
     )?;
-    let table = &words.table.shared;
+    Ok(words)
+}
+
+/// The table has these words at these places.
+fn expect_words(rt: &impl Abort, words: &Words<Bare, MemBlock<WORDS>>, wanted: &[(usize, u64)]) {
+    let count = words.table.word_count();
+    for &(at, word) in wanted {
+        assert!(rt; at < count, "word {at} of {count}");
+        assert_eq!(rt; words.table.shared.peek(at), word, "word {at}");
+    }
+}
+
+#[test]
+fn a_started_table_has_its_words_by_the_layout(rt: HostRuntime) -> Result<(), Fail> {
+    let words = started(rt.alloc())?;
     // Two state words, two translations, two fault words, 4288 words of frames, two bundles, the next word, the hand, 67 owner words, one
     // free-number word, in which the bit of page 1 is set.
     assert_eq!(rt; words.table.word_count(), 4366);
-    assert_eq!(rt; table.peek(0), EVICTED_AT_7);
-    assert_eq!(rt; table.peek(1), EVICTED_AT_7);
-    assert_eq!(rt; table.peek(3), 0);
-    assert_eq!(rt; table.peek(5), 0);
-    assert_eq!(rt; table.peek(4293), 0);
-    assert_eq!(rt; table.peek(4294), u64::MAX);
-    assert_eq!(rt; table.peek(4295), 7);
-    assert_eq!(rt; table.peek(4296), 2);
-    assert_eq!(rt; table.peek(4297), 0);
-    assert_eq!(rt; table.peek(4298), 0);
-    assert_eq!(rt; table.peek(4364), 0);
-    assert_eq!(rt; table.peek(4365), 2);
+    let wanted = [
+        (0, EVICTED_AT_7),
+        (1, EVICTED_AT_7),
+        (3, 0),
+        (5, 0),
+        (4293, 0),
+        (4294, u64::MAX),
+        (4295, 7),
+        (4296, 2),
+        (4297, 0),
+        (4298, 0),
+        (4364, 0),
+        (4365, 2),
+    ];
+    expect_words(&rt, &words, &wanted);
     Ok(())
 }

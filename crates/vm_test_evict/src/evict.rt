@@ -17,7 +17,7 @@ use vm_guard::ExclusiveGuard;
 use vm_owner::Bare;
 use vm_page::{PageBuf, WORDS};
 use vm_rule::words::{Pass, Words};
-use vm_step::{Batch, Candidates, Looks, Took, block_out, lock_exclusive, mark};
+use vm_step::{Candidates, Looks, Took, block_out, lock_exclusive, mark};
 use vm_test_pages::blocks::used_page;
 
 /// The word of a marked page at version 7.
@@ -71,6 +71,25 @@ fn bring_first<B: PageBlock<WORDS>>(rt: &impl Abort, words: &Words<Bare, B>, pas
     };
 }
 
+/// Sets the last word of page 0, which is in use, and unlocked in its frame.
+fn set_last<B: Block>(rt: &impl Abort, words: &Words<Bare, B>, pass: &mut Pass<Bare>)
+    requires size { words.now.table.shared.key.size ≡ WORDS }
+    requires ready { IsReadyOn words.now B.tells pass.old }
+    requires pages { words.now.table.shared.key.pages ≡ 1 }
+    requires out { (view pass.old).out ≡ None }
+    ensures ready { IsReadyOn words.now B.tells pass.new }
+    ensures out { (view pass.new).out ≡ None }
+{
+    let Ok(mut held) = ExclusiveGuard::take(words, pass, 0) else {
+        panic!(rt; "the page can be locked");
+    };
+    if held.read(words, pass, 1) == 0 {
+        panic!(rt; "the page is in use");
+    }
+    held.set(words, pass, 63, 5);
+    held.release(words, pass, None);
+}
+
 /// A table of one page, unlocked at version 7 and dirty in its frame, and its first pass. The page was evicted at version 5, was brought in by the
 /// first call of its block, and then had its last word set. The block has such a page and this plan.
 pub(crate) fn one_page(
@@ -88,14 +107,7 @@ pub(crate) fn one_page(
     blocks.push(MemBlock::new(alloc, used_page(), plan)?)?;
     let (words, mut pass) = Words::started(alloc, WORDS, 1, 1, 5, blocks, &[])?;
     bring_first(rt, &words, &mut pass);
-    let Ok(mut held) = ExclusiveGuard::take(&words, &mut pass, 0) else {
-        panic!(rt; "the page can be locked");
-    };
-    if held.read(&words, &mut pass, 1) == 0 {
-        panic!(rt; "the page is in use");
-    }
-    held.set(&words, &mut pass, 63, 5);
-    held.release(&words, &mut pass, None);
+    set_last(rt, &words, &mut pass);
     Ok((words, pass))
 }
 
@@ -158,47 +170,48 @@ fn last_in_block(
     page.get(63)
 }
 
+/// The table has these words at these places.
+pub(crate) fn expect_words(
+    rt: &impl Abort,
+    words: &Words<Bare, MemBlock<WORDS>>,
+    wanted: &[(usize, u64)],
+) {
+    let count = words.table.word_count();
+    for &(at, word) in wanted {
+        assert!(rt; at < count, "word {at} of {count}");
+        assert_eq!(rt; words.table.shared.peek(at), word, "word {at}");
+    }
+}
+
+/// The eviction freed these frames and reported this.
+fn expect_evicted(rt: &impl Abort, evicted: &Evicted, frames: &[u32], report: Report) {
+    assert_eq!(rt; evicted.frames.as_slice(), frames);
+    assert_eq!(rt; evicted.report, report);
+}
+
 #[test]
 fn a_page_whose_write_failed_is_evicted_later(rt: HostRuntime) -> Result<(), Fail> {
     let (words, mut pass) = one_page(&rt, rt.alloc(), &[2])?;
     mark_first(&rt, &words, &mut pass);
+    let evicted = evict_first(&words, &mut pass);
     let failed = Report {
         failed: 1,
         first_failed: Some((0, 1)),
         ..NOTHING
     };
-    let evicted = evict_first(&words, &mut pass);
-    assert_eq!(rt;
-        evicted,
-        Evicted {
-            frames: Batch::new(),
-            report: failed
-        }
-    );
+    expect_evicted(&rt, &evicted, &[], failed);
     // The page's state word, its translation word and its fault word, and the owner word of its frame.
-    assert_eq!(rt; words.table.shared.peek(0), 7);
-    assert_eq!(rt; words.table.shared.peek(1), DIRTY_IN_0);
-    assert_eq!(rt; words.table.shared.peek(2), 1);
-    assert_eq!(rt; words.table.shared.peek(OWNER_OF_0), 1);
+    let left = [(0, 7), (1, DIRTY_IN_0), (2, 1), (OWNER_OF_0, 1)];
+    expect_words(&rt, &words, &left);
     mark_first(&rt, &words, &mut pass);
-    let mut frames = Batch::new();
-    frames.push(0);
+    let evicted = evict_first(&words, &mut pass);
     let freed = Report {
         freed: 1,
         written: 1,
         ..NOTHING
     };
-    let evicted = evict_first(&words, &mut pass);
-    assert_eq!(rt;
-        evicted,
-        Evicted {
-            frames,
-            report: freed
-        }
-    );
-    assert_eq!(rt; words.table.shared.peek(0), EVICTED_AT_8);
-    assert_eq!(rt; words.table.shared.peek(1), 0);
-    assert_eq!(rt; words.table.shared.peek(OWNER_OF_0), 0);
+    expect_evicted(&rt, &evicted, &[0], freed);
+    expect_words(&rt, &words, &[(0, EVICTED_AT_8), (1, 0), (OWNER_OF_0, 0)]);
     let word = last_in_block(&rt, &words, &mut pass);
     assert_eq!(rt; word, 5);
     Ok(())
@@ -208,15 +221,8 @@ fn a_page_whose_write_failed_is_evicted_later(rt: HostRuntime) -> Result<(), Fai
 fn a_page_that_is_marked_no_more_is_lost(rt: HostRuntime) -> Result<(), Fail> {
     let (words, mut pass) = one_page(&rt, rt.alloc(), &[])?;
     let evicted = evict_first(&words, &mut pass);
-    let lost = Report { lost: 1, ..NOTHING };
-    assert_eq!(rt;
-        evicted,
-        Evicted {
-            frames: Batch::new(),
-            report: lost
-        }
-    );
-    assert_eq!(rt; words.table.shared.peek(0), 7);
+    expect_evicted(&rt, &evicted, &[], Report { lost: 1, ..NOTHING });
+    expect_words(&rt, &words, &[(0, 7)]);
     Ok(())
 }
 
@@ -225,15 +231,8 @@ fn a_clean_page_that_is_marked_no_more_is_lost(rt: HostRuntime) -> Result<(), Fa
     let (words, mut pass) = one_page(&rt, rt.alloc(), &[])?;
     flush_all(&words, &mut pass);
     let evicted = evict_first(&words, &mut pass);
-    let lost = Report { lost: 1, ..NOTHING };
-    assert_eq!(rt;
-        evicted,
-        Evicted {
-            frames: Batch::new(),
-            report: lost
-        }
-    );
-    assert_eq!(rt; words.table.shared.peek(0), 7);
+    expect_evicted(&rt, &evicted, &[], Report { lost: 1, ..NOTHING });
+    expect_words(&rt, &words, &[(0, 7)]);
     Ok(())
 }
 
@@ -242,20 +241,12 @@ fn a_clean_page_is_evicted_unwritten(rt: HostRuntime) -> Result<(), Fail> {
     let (words, mut pass) = one_page(&rt, rt.alloc(), &[])?;
     flush_all(&words, &mut pass);
     mark_first(&rt, &words, &mut pass);
-    let mut frames = Batch::new();
-    frames.push(0);
+    let evicted = evict_first(&words, &mut pass);
     let freed = Report {
         freed: 1,
         ..NOTHING
     };
-    let evicted = evict_first(&words, &mut pass);
-    assert_eq!(rt;
-        evicted,
-        Evicted {
-            frames,
-            report: freed
-        }
-    );
-    assert_eq!(rt; words.table.shared.peek(0), EVICTED_AT_8);
+    expect_evicted(&rt, &evicted, &[0], freed);
+    expect_words(&rt, &words, &[(0, EVICTED_AT_8)]);
     Ok(())
 }

@@ -2,7 +2,7 @@
 ghost use Rattle.std.specs.Prelude.{◌≡◌, None};
 ghost use Rattle.vm_step.specs.Prelude.{IsReadyOn, view};
 
-use crate::evict::{DIRTY_IN_0, one_page};
+use crate::evict::{DIRTY_IN_0, expect_words, one_page};
 use std::process::Abort;
 use std::test::Fail;
 use vm_block::{Block, PageBlock};
@@ -62,9 +62,7 @@ fn a_page_whose_write_failed_is_written_by_the_next_flush(rt: HostRuntime) -> Re
     };
     assert_eq!(rt; flushed, failed);
     // The page's state word, its translation word and its fault word.
-    assert_eq!(rt; words.table.shared.peek(0), 7);
-    assert_eq!(rt; words.table.shared.peek(1), DIRTY_IN_0);
-    assert_eq!(rt; words.table.shared.peek(2), 1);
+    expect_words(&rt, &words, &[(0, 7), (1, DIRTY_IN_0), (2, 1)]);
     let flushed = flush_all(&words, &mut pass);
     assert_eq!(rt;
         flushed,
@@ -73,8 +71,7 @@ fn a_page_whose_write_failed_is_written_by_the_next_flush(rt: HostRuntime) -> Re
             ..NOTHING
         }
     );
-    assert_eq!(rt; words.table.shared.peek(0), 7);
-    assert_eq!(rt; words.table.shared.peek(1), CLEAN_IN_0);
+    expect_words(&rt, &words, &[(0, 7), (1, CLEAN_IN_0)]);
     let flushed = flush_all(&words, &mut pass);
     assert_eq!(rt; flushed, NOTHING);
     Ok(())
@@ -86,6 +83,6 @@ fn a_page_that_is_locked_is_busy(rt: HostRuntime) -> Result<(), Fail> {
     lock_first(&rt, &words, &mut pass);
     let flushed = flush_all(&words, &mut pass);
     assert_eq!(rt; flushed, Flushed { busy: 1, ..NOTHING });
-    assert_eq!(rt; words.table.shared.peek(1), DIRTY_IN_0);
+    expect_words(&rt, &words, &[(1, DIRTY_IN_0)]);
     Ok(())
 }

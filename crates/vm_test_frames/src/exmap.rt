@@ -1,9 +1,10 @@
 //! Interfaces over a table whose frames are all free, with ample memory. The values are worked out by hand from the rules, and not taken
 //! from a run.
 ghost use Rattle.std.specs.Prelude.{◌≤◌, IfOk, true};
-ghost use Rattle.vm_step.specs.Prelude.{IsReadyOn};
+ghost use Rattle.vm_step.specs.Prelude.{AreHeld, IsReadyOn, view};
 
 use std::alloc::Global;
+use std::process::Abort;
 use std::test::Fail;
 use vm_block::{Block, MemBlock};
 use vm_exmap::{Alloc, AllocOne, Interface};
@@ -64,22 +65,33 @@ fn a_walk_begins_at_its_home_and_takes_the_lowest_bits(rt: HostRuntime) -> Resul
     Ok(())
 }
 
+/// The interface gives one frame, which is this.
+fn expect_one(
+    rt: &impl Abort,
+    words: &Words<Bare, MemBlock<WORDS>>,
+    pass: &mut Pass<Bare>,
+    iface: &mut Interface,
+    wanted: u32,
+)
+    requires ready { IsReadyOn words.now true pass.old }
+    requires frames { AreHeld iface.old.frames (view pass.old) }
+    ensures ready { IsReadyOn words.now true pass.new }
+    ensures frames { AreHeld iface.new.frames (view pass.new) }
+{
+    let AllocOne::Frame(frame) = iface.alloc_one(words, pass) else {
+        panic!(rt; "frame {wanted} is free");
+    };
+    assert_eq!(rt; frame, wanted);
+}
+
 #[test]
 fn one_frame_is_the_first_that_a_batch_would_have(rt: HostRuntime) -> Result<(), Fail> {
     let (words, mut pass) = free_frames(rt.alloc(), 128)?;
     let mut frames = Interface::new(3, 2);
-    let AllocOne::Frame(first) = frames.alloc_one(&words, &mut pass) else {
-        panic!(rt; "frames are free");
-    };
-    assert_eq!(rt; first, 64);
-    let AllocOne::Frame(second) = frames.alloc_one(&words, &mut pass) else {
-        panic!(rt; "the interface has one more");
-    };
-    assert_eq!(rt; second, 65);
-    let AllocOne::Frame(third) = frames.alloc_one(&words, &mut pass) else {
-        panic!(rt; "frames are left");
-    };
-    assert_eq!(rt; third, 66);
+    expect_one(&rt, &words, &mut pass, &mut frames, 64);
+    // The interface has one more.
+    expect_one(&rt, &words, &mut pass, &mut frames, 65);
+    expect_one(&rt, &words, &mut pass, &mut frames, 66);
     let kept = frames.frames.as_slice() == [67].as_slice();
     assert!(rt; kept);
     Ok(())
@@ -89,10 +101,7 @@ fn one_frame_is_the_first_that_a_batch_would_have(rt: HostRuntime) -> Result<(),
 fn no_frame_is_left_after_the_only_one(rt: HostRuntime) -> Result<(), Fail> {
     let (words, mut pass) = free_frames(rt.alloc(), 1)?;
     let mut frames = Interface::new(0, 64);
-    let AllocOne::Frame(only) = frames.alloc_one(&words, &mut pass) else {
-        panic!(rt; "one frame is free");
-    };
-    assert_eq!(rt; only, 0);
+    expect_one(&rt, &words, &mut pass, &mut frames, 0);
     let AllocOne::Dry = frames.alloc_one(&words, &mut pass) else {
         panic!(rt; "no frame is left");
     };

@@ -58,6 +58,15 @@ fn take_both<B: Block>(rt: &impl Abort, words: &Words<Bare, B>, pass: &mut Pass<
     }
 }
 
+/// The table has these words at these places.
+fn expect_words<B: Block>(rt: &impl Abort, words: &Words<Bare, B>, wanted: &[(usize, u64)]) {
+    let count = words.table.word_count();
+    for &(at, word) in wanted {
+        assert!(rt; at < count, "word {at} of {count}");
+        assert_eq!(rt; words.table.shared.peek(at), word, "word {at}");
+    }
+}
+
 /// A page of `N` words, whose word `i` is 5, is brought into frame 0, and no second time.
 fn brought_once<R: Abort, const N: usize>(rt: &R, alloc: Global, i: usize) -> Result<(), Fail>
     requires sized { IsSize N }
@@ -69,7 +78,7 @@ fn brought_once<R: Abort, const N: usize>(rt: &R, alloc: Global, i: usize) -> Re
         panic!(rt; "the page can be read");
     };
     // Word `i` of frame 0, behind a state word, a translation word and a fault word.
-    assert_eq!(rt; words.table.shared.peek(3 + i), 5);
+    expect_words(rt, &words, &[(3 + i, 5)]);
     let again = fault_in::<Bare, MemBlock<N>, N>(&words, &mut pass, 0, 1);
     let saw = Saw {
         at: At::Page(0),
@@ -104,7 +113,7 @@ fn a_page_whose_block_failed_is_brought_later(rt: HostRuntime) -> Result<(), Fai
         fault_in::<Bare, MemBlock<WORDS>, WORDS>(&words, &mut pass, 0, 0),
         Fetch::Brought
     );
-    assert_eq!(rt; words.table.shared.peek(66), 5);
+    expect_words(&rt, &words, &[(66, 5)]);
     Ok(())
 }
 
@@ -126,22 +135,24 @@ fn a_table_of_resident_pages_has_its_words_by_the_layout(rt: HostRuntime) -> Res
     blocks.push(MemBlock::new(alloc, PageBuf::zero(), &[])?)?;
     blocks.push(MemBlock::new(alloc, last, &[])?)?;
     let (words, _pass) = resident::<MemBlock<WORDS>, WORDS>(alloc, blocks, 7)?;
-    let table = &words.table.shared;
     // Two state words, two translations, two fault words, 128 words of frames, a bundle, the next word, the hand, two owner words, a free-number word.
     assert_eq!(rt; words.table.word_count(), 140);
-    assert_eq!(rt; table.peek(0), 7);
-    assert_eq!(rt; table.peek(1), 7);
-    assert_eq!(rt; table.peek(2), 1);
-    assert_eq!(rt; table.peek(3), 2);
-    assert_eq!(rt; table.peek(4), 0);
-    assert_eq!(rt; table.peek(132), 0);
-    assert_eq!(rt; table.peek(133), 9);
-    assert_eq!(rt; table.peek(134), 0);
-    assert_eq!(rt; table.peek(135), 2);
-    assert_eq!(rt; table.peek(136), 0);
-    assert_eq!(rt; table.peek(137), 1);
-    assert_eq!(rt; table.peek(138), 2);
-    assert_eq!(rt; table.peek(139), 0);
+    let wanted = [
+        (0, 7),
+        (1, 7),
+        (2, 1),
+        (3, 2),
+        (4, 0),
+        (132, 0),
+        (133, 9),
+        (134, 0),
+        (135, 2),
+        (136, 0),
+        (137, 1),
+        (138, 2),
+        (139, 0),
+    ];
+    expect_words(&rt, &words, &wanted);
     Ok(())
 }
 
@@ -154,19 +165,21 @@ fn a_table_of_a_large_page_has_its_words_by_the_layout(rt: HostRuntime) -> Resul
     let mut blocks = Vec::new(alloc);
     blocks.push(MemBlock::new(alloc, page, &[])?)?;
     let (words, _pass) = resident::<MemBlock<LARGE>, LARGE>(alloc, blocks, 7)?;
-    let table = &words.table.shared;
     // A state word, a translation, a fault word, 512 words of the frame, a bundle, the next word, the hand, an owner word, a
     // free-number word.
     assert_eq!(rt; words.table.word_count(), 520);
-    assert_eq!(rt; table.peek(0), 7);
-    assert_eq!(rt; table.peek(1), 1);
-    assert_eq!(rt; table.peek(2), 0);
-    assert_eq!(rt; table.peek(513), 0);
-    assert_eq!(rt; table.peek(514), 9);
-    assert_eq!(rt; table.peek(515), 0);
-    assert_eq!(rt; table.peek(516), 1);
-    assert_eq!(rt; table.peek(517), 0);
-    assert_eq!(rt; table.peek(518), 1);
-    assert_eq!(rt; table.peek(519), 0);
+    let wanted = [
+        (0, 7),
+        (1, 1),
+        (2, 0),
+        (513, 0),
+        (514, 9),
+        (515, 0),
+        (516, 1),
+        (517, 0),
+        (518, 1),
+        (519, 0),
+    ];
+    expect_words(&rt, &words, &wanted);
     Ok(())
 }

@@ -5,6 +5,7 @@ ghost use Rattle.vm_core.specs.Prelude.{MAX_VERSION};
 ghost use Rattle.vm_step.specs.Prelude.{IsReadyOn, view};
 
 use std::alloc::Global;
+use std::process::Abort;
 use std::test::Fail;
 use vm_block::{Block, MemBlock};
 use vm_exmap::Interface;
@@ -44,15 +45,22 @@ fn two_pages(
     Ok(Pool::start(alloc, shape, blocks, &[])?)
 }
 
+/// The last word of the frame is this.
+fn expect_last(rt: &impl Abort, pool: &Pool<Bare, MemBlock<WORDS>, WORDS>, word: u64) {
+    let table = &pool.words().table;
+    assert!(rt; LAST < table.word_count());
+    assert_eq!(rt; table.shared.peek(LAST), word);
+}
+
 #[test]
 fn a_page_takes_the_frame_of_another(rt: HostRuntime) -> Result<(), Fail> {
     let (pool, mut pass) = two_pages(rt.alloc(), 0, &[])?;
     let mut iface = Interface::new(0, 1);
     assert_eq!(rt; pool.bring(&mut pass, &mut iface, 0), Bring::Brought);
-    assert_eq!(rt; pool.words().table.shared.peek(LAST), 5);
+    expect_last(&rt, &pool, 5);
     assert_eq!(rt; iface.swept(), 0);
     assert_eq!(rt; pool.bring(&mut pass, &mut iface, 1), Bring::Brought);
-    assert_eq!(rt; pool.words().table.shared.peek(LAST), 6);
+    expect_last(&rt, &pool, 6);
     assert_eq!(rt; iface.swept(), 1);
     Ok(())
 }
@@ -66,7 +74,7 @@ fn a_frame_comes_back_from_a_read_that_failed(rt: HostRuntime) -> Result<(), Fai
     let kept = iface.frames.len();
     assert_eq!(rt; kept, 1);
     assert_eq!(rt; pool.bring(&mut pass, &mut iface, 0), Bring::Brought);
-    assert_eq!(rt; pool.words().table.shared.peek(LAST), 5);
+    expect_last(&rt, &pool, 5);
     Ok(())
 }
 

@@ -1,5 +1,5 @@
 //! Fresh pages, and groups of them, over a pool of a few evicted pages of zeros. The values are worked out by hand from the rules.
-ghost use Rattle.std.specs.Prelude.{[], ◌≡◌, ◌≢◌, ◌⊎◌, None};
+ghost use Rattle.std.specs.Prelude.{[], ◌<◌, ◌≡◌, ◌≢◌, ◌⊎◌, None};
 ghost use Rattle.vm_step.specs.Prelude.{AreHeld, IsReadyOn, view};
 ghost use Rattle.vm_guard.specs.Groups.{guards_of, MayReleaseAll};
 
@@ -65,14 +65,15 @@ fn released<B: Block>(words: &Words<Bare, B>, pass: &mut Pass<Bare>, frames: &Ba
     release_group(words, pass, group, None);
 }
 
-/// The first page of a group of so many fresh ones, which is released.
+/// A group of so many fresh pages, of which this is the first one, is claimed and released.
 fn claimed<B: Block>(
     rt: &impl Abort,
     words: &Words<Bare, B>,
     pass: &mut Pass<Bare>,
     frames: &mut Batch,
     n: u32,
-) -> Option<u32>
+    first: u32,
+)
     requires ready { IsReadyOn words.now B.tells pass.old }
     requires few { (n ≡ 1) ⊎ (n ≡ 2) }
     requires home { (view pass.old).out ≡ None }
@@ -82,9 +83,8 @@ fn claimed<B: Block>(
     ensures own { AreHeld frames.new (view pass.new) }
 {
     let group = given(rt, words, pass, frames, n);
-    let first = first_page(&group);
+    assert_eq!(rt; first_page(&group), Some(first));
     released(words, pass, frames, group);
-    first
 }
 
 /// A call for so many pages (1 or 2) is refused: of so many pages, this is the next one.
@@ -124,11 +124,9 @@ fn pages_are_given_until_none_is_left(rt: HostRuntime) -> Result<(), Fail> {
     let (pool, mut pass, _other) = two_passes(rt.alloc(), 64, 1, blocks, &[])?;
     let words = pool.words();
     let mut frames = free_frames(words, &mut pass, 8)?;
-    let one = claimed(&rt, words, &mut pass, &mut frames, 1);
-    assert_eq!(rt; one, Some(1));
+    claimed(&rt, words, &mut pass, &mut frames, 1, 1);
     assert_eq!(rt; frames.len(), 7);
-    let two = claimed(&rt, words, &mut pass, &mut frames, 2);
-    assert_eq!(rt; two, Some(2));
+    claimed(&rt, words, &mut pass, &mut frames, 2, 2);
     assert_eq!(rt; frames.len(), 5);
     is_full(&rt, words, &mut pass, &mut frames, 1, (4, 4));
     is_full(&rt, words, &mut pass, &mut frames, 2, (4, 4));
@@ -146,18 +144,33 @@ fn two_passes_claim_no_page_twice(rt: HostRuntime) -> Result<(), Fail> {
     let held = given(&rt, words, &mut pass, &mut frames, 1);
     assert_eq!(rt; first_page(&held), Some(1));
     // the other pass claims behind a page that is held
-    let second = claimed(&rt, words, &mut other, &mut others, 2);
-    assert_eq!(rt; second, Some(2));
+    claimed(&rt, words, &mut other, &mut others, 2, 2);
     released(words, &mut pass, &frames, held);
-    let fourth = claimed(&rt, words, &mut pass, &mut frames, 2);
-    assert_eq!(rt; fourth, Some(4));
+    claimed(&rt, words, &mut pass, &mut frames, 2, 4);
     // one page is left, and two are asked for
     is_full(&rt, words, &mut other, &mut others, 2, (7, 6));
-    let last = claimed(&rt, words, &mut other, &mut others, 1);
-    assert_eq!(rt; last, Some(6));
+    claimed(&rt, words, &mut other, &mut others, 1, 6);
     is_full(&rt, words, &mut pass, &mut frames, 1, (7, 7));
     is_full(&rt, words, &mut other, &mut others, 1, (7, 7));
     Ok(())
+}
+
+/// The page has this word at this place.
+fn expect_word<B: Block>(
+    rt: &impl Abort,
+    words: &Words<Bare, B>,
+    pass: &mut Pass<Bare>,
+    page: u32,
+    i: usize,
+    word: u64,
+)
+    requires ready { IsReadyOn words.now B.tells pass.old }
+    requires page { page < words.now.table.shared.key.pages }
+    requires place { i < words.now.table.shared.key.size }
+    ensures ready { IsReadyOn words.now B.tells pass.new }
+{
+    let found = read_word(words, pass, page, i);
+    assert_eq!(rt; found, Some(word), "page {page} word {i}");
 }
 
 #[test]
@@ -171,11 +184,8 @@ fn a_group_is_read_back(rt: HostRuntime) -> Result<(), Fail> {
     }
     let pages = write_two(words, &mut pass, &mut frames, 11, 12);
     assert_eq!(rt; pages, Some((2, 3)));
-    let low = read_word(words, &mut pass, 2, 0);
-    assert_eq!(rt; low, Some(11));
-    let high = read_word(words, &mut pass, 3, 0);
-    assert_eq!(rt; high, Some(12));
-    let none = read_word(words, &mut pass, 3, 63);
-    assert_eq!(rt; none, Some(0));
+    expect_word(&rt, words, &mut pass, 2, 0, 11);
+    expect_word(&rt, words, &mut pass, 3, 0, 12);
+    expect_word(&rt, words, &mut pass, 3, 63, 0);
     Ok(())
 }

@@ -36,22 +36,25 @@ fn three_brought<B: PageBlock<N>, const N: usize>(
     assert_eq!(rt; pool.bring(pass, &mut iface, 2), Bring::Brought);
 }
 
-/// Word `i` of each of the pages 0, 1 and 2.
-fn words_at<B: Block>(
+/// Word `i` of each of the pages 0, 1 and 2, or none where the page is locked.
+fn expect_words<B: Block>(
+    rt: &impl Abort,
     words: &Words<Bare, B>,
     pass: &mut Pass<Bare>,
     i: usize,
-) -> (Option<u64>, Option<u64>, Option<u64>)
+    wanted: (Option<u64>, Option<u64>, Option<u64>),
+)
     requires ready { IsReadyOn words.now B.tells pass.old }
     requires pages { words.now.table.shared.key.pages ≡ 3 }
     requires place { i < words.now.table.shared.key.size }
     ensures ready { IsReadyOn words.now B.tells pass.new }
 {
-    (
+    let found = (
         read_word(words, pass, 0, i),
         read_word(words, pass, 1, i),
         read_word(words, pass, 2, i),
-    )
+    );
+    assert_eq!(rt; found, wanted);
 }
 
 /// The page, which is in use, with this word `i`. The other pages that the pass holds it holds on.
@@ -115,19 +118,19 @@ fn group_of_three<R: Abort, const N: usize>(rt: &R, alloc: Global, i: usize) -> 
     let (pool, mut pass, mut other) = two_passes(alloc, 64, 3, blocks, &[])?;
     three_brought(rt, &pool, &mut pass);
     let words = pool.words();
-    let before = words_at(words, &mut other, i);
-    assert_eq!(rt; before, (Some(0), Some(0), Some(0)));
+    let before = (Some(0), Some(0), Some(0));
+    expect_words(rt, words, &mut other, i, before);
     let a = written(rt, words, &mut pass, 2, i, 12);
     let b = written(rt, words, &mut pass, 0, i, 10);
     // a page that is not locked yet has its old word
     let old = read_word(words, &mut other, 1, i);
     assert_eq!(rt; old, Some(0));
     let c = written(rt, words, &mut pass, 1, i, 11);
-    let meanwhile = words_at(words, &mut other, i);
-    assert_eq!(rt; meanwhile, (None, None, None));
+    let meanwhile = (None, None, None);
+    expect_words(rt, words, &mut other, i, meanwhile);
     released(words, &mut pass, a, b, c);
-    let after = words_at(words, &mut other, i);
-    assert_eq!(rt; after, (Some(10), Some(11), Some(12)));
+    let after = (Some(10), Some(11), Some(12));
+    expect_words(rt, words, &mut other, i, after);
     Ok(())
 }
 

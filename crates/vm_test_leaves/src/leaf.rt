@@ -82,26 +82,38 @@ fn has_bounds<const N: usize>(
     );
 }
 
-// Each pair of a full leaf is found, and its fences part the keys; a window shows 28 of the pairs at most, and ends before a pair or at the fence.
-fn full_leaf_is_read<const N: usize>(rt: &impl Abort, most: u32)
+// A leaf of the pairs 1 1, 2 2 and so on up to the last one, whose high fence is behind it.
+fn full_leaf<const N: usize>(most: u32) -> PageBuf<N>
     requires { IsSize N }
 {
     let last = u64::from(most);
-    let page = page_of(leaf_words::<N>([2, last, 1, last + 1, 0, 0, 0, 0], 1, last));
-    assert!(rt; is_leaf(&page));
-    finds(rt, &page, 0, None);
-    for key in 1..last + 1 {
-        finds(rt, &page, key, Some(key));
-    }
-    finds(rt, &page, last + 1, None);
-    finds(rt, &page, u64::MAX, None);
-    is_covered(rt, &page, 0, false);
-    is_covered(rt, &page, 1, true);
-    is_covered(rt, &page, last, true);
-    is_covered(rt, &page, last + 1, false);
+    page_of(leaf_words([2, last, 1, last + 1, 0, 0, 0, 0], 1, last))
+}
 
-    // The first 28 pairs, then the last one, then none of them.
-    let mut place = none_loaded(&page);
+// Each pair of such a leaf is found, and its fences part the keys.
+fn finds_all<const N: usize>(rt: &impl Abort, page: &PageBuf<N>, most: u32)
+    requires { IsSize N }
+{
+    let last = u64::from(most);
+    assert!(rt; is_leaf(page));
+    finds(rt, page, 0, None);
+    for key in 1..last + 1 {
+        finds(rt, page, key, Some(key));
+    }
+    finds(rt, page, last + 1, None);
+    finds(rt, page, u64::MAX, None);
+    is_covered(rt, page, 0, false);
+    is_covered(rt, page, 1, true);
+    is_covered(rt, page, last, true);
+    is_covered(rt, page, last + 1, false);
+}
+
+// A window shows 28 of the pairs at most, and ends before a pair or at the fence: the first 28 pairs, then the last one, then none of them.
+fn shows_windows<const N: usize>(rt: &impl Abort, page: &PageBuf<N>, most: u32)
+    requires { IsSize N }
+{
+    let last = u64::from(most);
+    let mut place = none_loaded(page);
     let shown = window_at(&mut place, N, 0, 100);
     assert_eq!(rt; shown.bound, Bound::Key(29));
     assert_eq!(rt; shown.pairs.len(), 28);
@@ -110,11 +122,19 @@ fn full_leaf_is_read<const N: usize>(rt: &impl Abort, most: u32)
         key: last,
         value: last,
     };
-    shows(rt, &page, last, 28, Bound::Key(last + 1), &[end]);
-    shows(rt, &page, 14, 0, Bound::Key(14), &[]);
+    shows(rt, page, last, 28, Bound::Key(last + 1), &[end]);
+    shows(rt, page, 14, 0, Bound::Key(14), &[]);
     let third = Pair { key: 3, value: 3 };
-    shows(rt, &page, 3, 1, Bound::Key(4), &[third]);
+    shows(rt, page, 3, 1, Bound::Key(4), &[third]);
+}
 
+// A full leaf is read in place.
+fn full_leaf_is_read<const N: usize>(rt: &impl Abort, most: u32)
+    requires { IsSize N }
+{
+    let page = full_leaf::<N>(most);
+    finds_all(rt, &page, most);
+    shows_windows(rt, &page, most);
     let mut place = in_buffer(&page);
     assert!(rt; is_leaf_at(&mut place, N));
     let count = count_at(&mut place, N);
@@ -149,11 +169,11 @@ fn a_right_half_covers_its_own_keys(rt: HostRuntime) {
 }
 
 // The count is read as the most pairs that there are, and each of their keys is the same.
-fn reads_any_words<const N: usize>(rt: &impl Abort, most: u32)
+fn reads_any_words<const N: usize>(rt: &impl Abort)
     requires { IsSize N }
 {
     let last = u64::MAX;
-    let mut page = page_of([last; N]);
+    let page = page_of([last; N]);
     finds(rt, &page, last, Some(last));
     finds(rt, &page, 5, None);
     assert!(rt; !is_leaf(&page));
@@ -162,6 +182,14 @@ fn reads_any_words<const N: usize>(rt: &impl Abort, most: u32)
     let mut place = none_loaded(&page);
     assert_eq!(rt; window_at(&mut place, N, 5, 100).pairs.len(), 28);
     assert!(rt; place.loaded <= 60 + keys_searched(N));
+}
+
+// Such a page is full for a further key; a del of the one that it has leaves a pair fewer.
+fn writes_any_words<const N: usize>(rt: &impl Abort, most: u32)
+    requires { IsSize N }
+{
+    let last = u64::MAX;
+    let mut page = page_of([last; N]);
     assert_eq!(rt; put(&mut page, 5, 5), Err(Full));
     assert_eq!(rt; words_of(&page), [last; N]);
     assert_eq!(rt; del(&mut page, last), Some(last));
@@ -174,6 +202,8 @@ fn reads_any_words<const N: usize>(rt: &impl Abort, most: u32)
 
 #[test]
 fn any_words_are_safe(rt: HostRuntime) {
-    reads_any_words::<WORDS>(&rt, 28);
-    reads_any_words::<LARGE>(&rt, 252);
+    reads_any_words::<WORDS>(&rt);
+    writes_any_words::<WORDS>(&rt, 28);
+    reads_any_words::<LARGE>(&rt);
+    writes_any_words::<LARGE>(&rt, 252);
 }

@@ -97,6 +97,27 @@ fn a_page_has_at_most_252_shares(rt: HostRuntime) -> Result<(), Fail> {
     Ok(())
 }
 
+/// A validated read of the one page of a table has word `w` at place `i`.
+fn expect_read<B: Block>(
+    rt: &impl Abort,
+    words: &Words<Bare, B>,
+    pass: &mut Pass<Bare>,
+    i: usize,
+    w: u64,
+)
+    requires ready { IsReadyOn words.now B.tells pass.old }
+    requires pages { words.now.table.shared.key.pages ≡ 1 }
+    requires place { i < words.now.table.shared.key.size }
+{
+    let Ok(guard) = OptGuard::start(words, pass, 0) else {
+        panic!(rt; "the page can be read");
+    };
+    let read = guard.word(words, pass, i);
+    let valid = guard.validate_silently(words, pass).is_ok();
+    assert!(rt; valid);
+    assert_eq!(rt; read, w);
+}
+
 /// Word `i` of the one page of a table, which is in use, is set, and read again.
 fn read_again<R: Abort, B: Block>(rt: &R, words: &Words<Bare, B>, pass: &mut Pass<Bare>, i: usize)
     requires ready { IsReadyOn words.now B.tells pass.old }
@@ -119,13 +140,7 @@ fn read_again<R: Abort, B: Block>(rt: &R, words: &Words<Bare, B>, pass: &mut Pas
     let drafted = held.read(words, pass, i);
     assert_eq!(rt; drafted, 5);
     held.release(words, pass, None);
-    let Ok(guard) = OptGuard::start(words, pass, 0) else {
-        panic!(rt; "the page can be read");
-    };
-    let read = guard.word(words, pass, i);
-    let valid = guard.validate_silently(words, pass).is_ok();
-    assert!(rt; valid);
-    assert_eq!(rt; read, 5);
+    expect_read(rt, words, pass, i, 5);
 }
 
 /// Word `i` of a page of `N` words, of which only the first is not 0, is set, and read again.
@@ -218,6 +233,43 @@ impl PageBlock<WORDS> for Mute {
     ghost whole = { λ block tells. cc };
 }
 
+/// Sets two words of page 0, which is clean, and dirty from the first of them on.
+fn set_two(rt: &impl Abort, words: &Words<Bare, Mute>, pass: &mut Pass<Bare>)
+    requires size { words.now.table.shared.key.size ≡ WORDS }
+    requires ready { IsReadyOn words.now ⟦<Mute as Block>⟧.tells pass.old }
+    requires pages { words.now.table.shared.key.pages ≡ 1 }
+    requires out { (view pass.old).out ≡ None }
+    ensures ready { IsReadyOn words.now ⟦<Mute as Block>⟧.tells pass.new }
+    ensures out { (view pass.new).out ≡ None }
+{
+    let Ok(mut held) = ExclusiveGuard::take(words, pass, 0) else {
+        panic!(rt; "the page can be locked");
+    };
+    let clean = !held.dirty;
+    assert!(rt; clean);
+    held.set(words, pass, 0, 5);
+    let dirty = held.dirty;
+    assert!(rt; dirty);
+    held.set(words, pass, 1, 6);
+    held.release(words, pass, None);
+}
+
+/// Page 0 is dirty, or it is not.
+fn expect_dirty(rt: &impl Abort, words: &Words<Bare, Mute>, pass: &mut Pass<Bare>, dirty: bool)
+    requires ready { IsReadyOn words.now ⟦<Mute as Block>⟧.tells pass.old }
+    requires pages { words.now.table.shared.key.pages ≡ 1 }
+    requires out { (view pass.old).out ≡ None }
+    ensures ready { IsReadyOn words.now ⟦<Mute as Block>⟧.tells pass.new }
+    ensures out { (view pass.new).out ≡ None }
+{
+    let Ok(held) = ExclusiveGuard::take(words, pass, 0) else {
+        panic!(rt; "the page can be locked");
+    };
+    let found = held.dirty;
+    assert_eq!(rt; found, dirty);
+    held.release(words, pass, None);
+}
+
 #[test]
 fn a_set_makes_a_clean_page_dirty_and_a_flush_makes_it_clean(rt: HostRuntime) -> Result<(), Fail> {
     let mut blocks = Vec::new(rt.alloc());
@@ -226,29 +278,10 @@ fn a_set_makes_a_clean_page_dirty_and_a_flush_makes_it_clean(rt: HostRuntime) ->
         writes: 0,
     })?;
     let (words, mut pass) = resident::<Mute, WORDS>(rt.alloc(), blocks, 7)?;
-    let Ok(mut held) = ExclusiveGuard::take(&words, &mut pass, 0) else {
-        panic!(rt; "the page can be locked");
-    };
-    let clean = !held.dirty;
-    assert!(rt; clean);
-    held.set(&words, &mut pass, 0, 5);
-    let dirty = held.dirty;
-    assert!(rt; dirty);
-    held.set(&words, &mut pass, 1, 6);
-    held.release(&words, &mut pass, None);
-    let Ok(held) = ExclusiveGuard::take(&words, &mut pass, 0) else {
-        panic!(rt; "the page can be locked");
-    };
-    let dirty = held.dirty;
-    assert!(rt; dirty);
-    held.release(&words, &mut pass, None);
+    set_two(&rt, &words, &mut pass);
+    expect_dirty(&rt, &words, &mut pass, true);
     let flushed = flush::<Bare, Mute, WORDS>(&words, &mut pass);
     assert_eq!(rt; flushed.written, 1);
-    let Ok(held) = ExclusiveGuard::take(&words, &mut pass, 0) else {
-        panic!(rt; "the page can be locked");
-    };
-    let clean = !held.dirty;
-    assert!(rt; clean);
-    held.release(&words, &mut pass, None);
+    expect_dirty(&rt, &words, &mut pass, false);
     Ok(())
 }

@@ -31,8 +31,13 @@ fn leads_to<const N: usize>(rt: &impl Abort, page: &PageBuf<N>, key: u64, found:
     assert!(rt; place.loaded <= keys_searched(N) + 2);
 }
 
-// A root over two children, which gets a third one, and the second one on another page.
-fn root_has_children<const N: usize>(rt: &impl Abort)
+// The page has these words.
+fn has_words<const N: usize>(rt: &impl Abort, page: &PageBuf<N>, wanted: [u64; N]) {
+    assert_eq!(rt; words_of(page), wanted);
+}
+
+// A root over the pages 1 and 2, with the keys below 15 and the others.
+fn root_of_two<const N: usize>(rt: &impl Abort) -> PageBuf<N>
     requires { IsSize N }
 {
     let mut page = page_of([7; N]);
@@ -41,18 +46,27 @@ fn root_has_children<const N: usize>(rt: &impl Abort)
     wanted[9] = 1;
     wanted[10] = 15;
     wanted[11] = 2;
-    assert_eq!(rt; words_of(&page), wanted);
+    has_words(rt, &page, wanted);
     for (key, page_of_child) in [(0, 1), (14, 1), (15, 2), (u64::MAX, 2)] {
         leads_to(rt, &page, key, Some(page_of_child));
     }
+    page
+}
 
+// A root over two children, which gets a third one, and the second one on another page.
+fn root_has_children<const N: usize>(rt: &impl Abort)
+    requires { IsSize N }
+{
+    let mut page = root_of_two::<N>(rt);
     assert_eq!(rt; add(&mut page, 29, 4), Ok(()));
     assert_eq!(rt; add(&mut page, 15, 5), Ok(()));
-    wanted[1] = 3;
+    let mut wanted = inner_words::<N>([3, 3, 0, 0, 1, 1, 0, 0], 0, 0);
+    wanted[9] = 1;
+    wanted[10] = 15;
     wanted[11] = 5;
     wanted[12] = 29;
     wanted[13] = 4;
-    assert_eq!(rt; words_of(&page), wanted);
+    has_words(rt, &page, wanted);
     for (key, page_of_child) in [(15, 5), (28, 5), (29, 4)] {
         leads_to(rt, &page, key, Some(page_of_child));
     }
@@ -77,38 +91,72 @@ fn a_further_child_is_found_and_not_put(rt: HostRuntime) {
     assert_eq!(rt; words_of(&page), words);
 }
 
+// The words of a node with the children 1000, 1010, .., as many as two halves have.
+fn full_words<const N: usize>(half: u32) -> [u64; N] {
+    let most = 2 * u64::from(half);
+    inner_words([3, most, 1000, 9000, 0, 2, 0, 0], 1000, most)
+}
+
+// A node with these children, of which the last one came last.
+fn full_node<const N: usize>(rt: &impl Abort, half: u32) -> PageBuf<N>
+    requires { IsSize N }
+{
+    let most = 2 * u64::from(half);
+    let fewer = most.saturating_sub(1);
+    let last = 990 + 10 * most;
+    let mut page = page_of(inner_words([3, fewer, 1000, 9000, 0, 2, 0, 0], 1000, fewer));
+    assert_eq!(rt; add(&mut page, last, last + 100), Ok(()));
+    has_words(rt, &page, full_words(half));
+    page
+}
+
+// It leads to each of them.
+fn leads_to_all<const N: usize>(rt: &impl Abort, page: &PageBuf<N>, half: u32)
+    requires { IsSize N }
+{
+    let most = 2 * u64::from(half);
+    leads_to(rt, page, 999, None);
+    for i in 0..most {
+        leads_to(rt, page, 1000 + 10 * i, Some(1100 + 10 * i));
+        leads_to(rt, page, 1009 + 10 * i, Some(1100 + 10 * i));
+    }
+    leads_to(rt, page, u64::MAX, Some(1090 + 10 * most));
+}
+
+// It is full for a further child, and not for another page of one that it has.
+fn takes_no_more<const N: usize>(rt: &impl Abort, page: &mut PageBuf<N>, half: u32)
+    requires { IsSize N }
+{
+    let last = 990 + 20 * u64::from(half);
+    assert!(rt; add_edit(page, last + 5, 9).is_err());
+    assert!(rt; add_edit(page, last, 9).is_ok());
+    assert_eq!(rt; add(page, last + 5, 9), Err(Full));
+    has_words(rt, page, full_words(half));
+}
+
 // A node with the children 1000, 1010, .., as many as it has place for, is full for a further one, and its split leaves half of them in each half.
 fn full_node_is_split<const N: usize>(rt: &impl Abort, half: u32)
     requires { IsSize N }
 {
-    let half = u64::from(half);
-    let most = 2 * half;
-    let fewer = most.saturating_sub(1);
-    let last = 990 + 10 * most;
-    let words = inner_words::<N>([3, fewer, 1000, 9000, 0, 2, 0, 0], 1000, fewer);
-    let mut page = page_of(words);
-    assert_eq!(rt; add(&mut page, last, last + 100), Ok(()));
-    let whole = inner_words::<N>([3, most, 1000, 9000, 0, 2, 0, 0], 1000, most);
-    assert_eq!(rt; words_of(&page), whole);
-    leads_to(rt, &page, 999, None);
-    for i in 0..most {
-        leads_to(rt, &page, 1000 + 10 * i, Some(1100 + 10 * i));
-        leads_to(rt, &page, 1009 + 10 * i, Some(1100 + 10 * i));
-    }
-    leads_to(rt, &page, u64::MAX, Some(last + 100));
-    assert!(rt; add_edit(&page, last + 5, 9).is_err());
-    assert!(rt; add_edit(&page, last, 9).is_ok());
-    assert_eq!(rt; add(&mut page, last + 5, 9), Err(Full));
-    assert_eq!(rt; words_of(&page), whole);
+    let mut page = full_node::<N>(rt, half);
+    leads_to_all(rt, &page, half);
+    takes_no_more(rt, &mut page, half);
 
     assert!(rt; count_of(&page) == most_pairs(N));
     let mut right = page_of([7; N]);
+    let half = u64::from(half);
     let middle = 1000 + 10 * half;
     assert_eq!(rt; split_inner(&mut page, &mut right), middle);
-    let wanted = inner_words::<N>([3, half, 1000, middle, 0, 2, 0, 0], 1000, half);
-    assert_eq!(rt; words_of(&page), wanted);
-    let wanted = inner_words::<N>([3, half, middle, 9000, 0, 2, 0, 0], middle, half);
-    assert_eq!(rt; words_of(&right), wanted);
+    has_words(
+        rt,
+        &page,
+        inner_words([3, half, 1000, middle, 0, 2, 0, 0], 1000, half),
+    );
+    has_words(
+        rt,
+        &right,
+        inner_words([3, half, middle, 9000, 0, 2, 0, 0], middle, half),
+    );
     leads_to(rt, &page, middle - 1, Some(middle + 90));
     leads_to(rt, &right, middle, Some(middle + 100));
 }

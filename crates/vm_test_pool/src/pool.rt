@@ -121,6 +121,11 @@ fn has_round<B: PageBlock<WORDS>>(
     Ok(())
 }
 
+/// The call was answered so.
+fn expect_answer(rt: &impl Abort, answer: Bring, wanted: Bring) {
+    assert_eq!(rt; answer, wanted);
+}
+
 #[test]
 fn a_page_that_goes_ends_an_older_read(rt: HostRuntime) -> Result<(), Fail> {
     let blocks = used_pages::<WORDS>(rt.alloc(), 2)?;
@@ -147,6 +152,50 @@ fn a_page_that_goes_ends_an_older_read(rt: HostRuntime) -> Result<(), Fail> {
     Ok(())
 }
 
+/// A sweep fails to write page 0, which stays dirty in its frame.
+fn not_written<R: Abort, B: PageBlock<N>, const N: usize>(
+    rt: &R,
+    pool: &Pool<Bare, B, N>,
+    pass: &mut Pass<Bare>,
+    iface: &mut Interface,
+)
+    requires ready { IsReadyOn pool.now.words B.tells pass.old }
+    requires home { (view pass.old).out ≡ None }
+    requires held { AreHeld iface.old.frames (view pass.old) }
+    requires page { (1 ≤ pool.now.words.table.shared.key.pages) × (1 ≤ pool.now.words.table.shared.key.next) }
+    ensures ready { IsReadyOn pool.now.words B.tells pass.new }
+    ensures home { (view pass.new).out ≡ None }
+    ensures held { AreHeld iface.new.frames (view pass.new) }
+{
+    let report = pool.sweep(pass, iface, 1);
+    assert_eq!(rt; (report.freed, report.failed), (0, 1));
+    assert_eq!(rt; report.first_failed, Some((0, 1)));
+    let dirty = is_dirty(rt, pool, pass, 0);
+    assert!(rt; dirty);
+}
+
+/// The next sweep writes page 0, whose word `i` is 7, and frees its frame; the page is brought again with this word.
+fn written_now<R: Abort, B: PageBlock<N>, const N: usize>(
+    rt: &R,
+    pool: &Pool<Bare, B, N>,
+    pass: &mut Pass<Bare>,
+    iface: &mut Interface,
+    i: usize,
+) -> Result<(), Fail>
+    requires ready { IsReadyOn pool.now.words B.tells pass.old }
+    requires home { (view pass.old).out ≡ None }
+    requires held { AreHeld iface.old.frames (view pass.old) }
+    requires page { 1 ≤ pool.now.words.table.shared.key.pages }
+    requires place { i < N }
+{
+    let report = pool.sweep(pass, iface, 1);
+    assert_eq!(rt; (report.freed, report.written, report.failed), (1, 1, 0));
+    brought(pool, pass, iface, 0)?;
+    let word = read_word(&pool.words, pass, 0, i);
+    assert_eq!(rt; word, Some(7));
+    Ok(())
+}
+
 /// A page of `N` words whose word `i` is set, and whose first write fails, is written by the next sweep.
 fn written_again<R: Abort, const N: usize>(rt: &R, alloc: Global, i: usize) -> Result<(), Fail>
     requires sized { IsSize N }
@@ -159,17 +208,8 @@ fn written_again<R: Abort, const N: usize>(rt: &R, alloc: Global, i: usize) -> R
     let mut iface = Interface::new(0, 1);
     brought(&pool, &mut pass, &mut iface, 0)?;
     put(&pool, &mut pass, 0, i, 7)?;
-    let report = pool.sweep(&mut pass, &mut iface, 1);
-    assert_eq!(rt; (report.freed, report.failed), (0, 1));
-    assert_eq!(rt; report.first_failed, Some((0, 1)));
-    let dirty = is_dirty(rt, &pool, &mut pass, 0);
-    assert!(rt; dirty);
-    let report = pool.sweep(&mut pass, &mut iface, 1);
-    assert_eq!(rt; (report.freed, report.written, report.failed), (1, 1, 0));
-    brought(&pool, &mut pass, &mut iface, 0)?;
-    let word = read_word(&pool.words, &mut pass, 0, i);
-    assert_eq!(rt; word, Some(7));
-    Ok(())
+    not_written(rt, &pool, &mut pass, &mut iface);
+    written_now(rt, &pool, &mut pass, &mut iface, i)
 }
 
 #[test]
@@ -238,7 +278,7 @@ fn a_held_page_is_no_candidate(rt: HostRuntime) -> Result<(), Fail> {
         worn: 0,
         first_worn: None,
     };
-    assert_eq!(rt; answer, Bring::Dry { looks });
+    expect_answer(&rt, answer, Bring::Dry { looks });
     guard.drop_with(&pool.words, &mut pass);
     Ok(())
 }

@@ -5,6 +5,7 @@ ghost use Rattle.vm_page.specs.Pages.{all_zero, page_at};
 ghost use Rattle.vm_rule.specs.Prelude.{block_words, stored_of};
 
 use std::alloc::Global;
+use std::process::Abort;
 use std::test::Fail;
 use vm_block::MemBlock;
 use vm_owner::Bare;
@@ -60,51 +61,59 @@ fn shared(alloc: Global, plan: &[u64]) -> Result<(Bring, Option<u64>), Fail> {
     Ok((answer, word))
 }
 
-#[test]
-fn a_word_is_read_again_for_sure(rt: HostRuntime) -> Result<(), Fail> {
-    let (word, evicted) = kept(rt.alloc(), &[])?;
-    assert_eq!(rt; word, Some(7));
-    assert_eq!(rt; evicted, 1);
+/// The word that is read again, and how many pages were evicted, are these.
+fn expect_kept(
+    rt: &impl Abort,
+    alloc: Global,
+    plan: &[u64],
+    wanted: (Option<u64>, u64),
+) -> Result<(), Fail> {
+    let found = kept(alloc, plan)?;
+    assert_eq!(rt; found, wanted);
+    Ok(())
+}
+
+/// What `bring` answers, and the word that is read under a share, are these.
+fn expect_shared(
+    rt: &impl Abort,
+    alloc: Global,
+    plan: &[u64],
+    wanted: (Bring, Option<u64>),
+) -> Result<(), Fail> {
+    let found = shared(alloc, plan)?;
+    assert_eq!(rt; found, wanted);
     Ok(())
 }
 
 #[test]
+fn a_word_is_read_again_for_sure(rt: HostRuntime) -> Result<(), Fail> {
+    expect_kept(&rt, rt.alloc(), &[], (Some(7), 1))
+}
+
+#[test]
 fn a_page_that_could_not_be_read_keeps_no_word(rt: HostRuntime) -> Result<(), Fail> {
-    let (word, evicted) = kept(rt.alloc(), &[1])?;
-    assert_eq!(rt; word, None);
-    assert_eq!(rt; evicted, 0);
-    Ok(())
+    expect_kept(&rt, rt.alloc(), &[1], (None, 0))
 }
 
 // The sweep's write fails, and the page stays. The call that is to bring it again finds no frame: its own sweep evicts the page, and it is brought.
 #[test]
 fn a_page_that_could_not_be_written_is_written_later(rt: HostRuntime) -> Result<(), Fail> {
-    let (word, evicted) = kept(rt.alloc(), &[2])?;
-    assert_eq!(rt; word, Some(7));
-    assert_eq!(rt; evicted, 1);
-    Ok(())
+    expect_kept(&rt, rt.alloc(), &[2], (Some(7), 1))
 }
 
 #[test]
 fn a_page_that_could_not_be_read_again_is_not_to_be_had(rt: HostRuntime) -> Result<(), Fail> {
-    let (word, evicted) = kept(rt.alloc(), &[3])?;
-    assert_eq!(rt; word, None);
-    assert_eq!(rt; evicted, 1);
-    Ok(())
+    expect_kept(&rt, rt.alloc(), &[3], (None, 1))
 }
 
 #[test]
 fn a_page_that_was_brought_is_shared(rt: HostRuntime) -> Result<(), Fail> {
-    let (answer, word) = shared(rt.alloc(), &[])?;
-    assert_eq!(rt; answer, Bring::Brought);
-    assert_eq!(rt; word, Some(5));
-    Ok(())
+    let answer = Bring::Brought;
+    expect_shared(&rt, rt.alloc(), &[], (answer, Some(5)))
 }
 
 #[test]
 fn a_page_whose_device_failed_is_not_shared(rt: HostRuntime) -> Result<(), Fail> {
-    let (answer, word) = shared(rt.alloc(), &[1])?;
-    assert_eq!(rt; answer, Bring::Device { pid: 1, count: 1 });
-    assert_eq!(rt; word, None);
-    Ok(())
+    let answer = Bring::Device { pid: 1, count: 1 };
+    expect_shared(&rt, rt.alloc(), &[1], (answer, None))
 }

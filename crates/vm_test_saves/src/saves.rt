@@ -71,6 +71,82 @@ fn bring_and_put<B: PageBlock<N>, const N: usize>(
     put_alone(rt, pool, pass, p, i, w);
 }
 
+/// One page was written, and no write failed.
+const WROTE_ONE: Flushed = Flushed {
+    written: 1,
+    failed: 0,
+    busy: 0,
+    first: None,
+};
+
+/// The blocks of a pool that was closed, where it ended with this next page number and its blocks counted so many reads, writes and faults.
+fn expect_end<B>(rt: &impl Abort, end: Closed<Bare, B>, next: u32, sums: [u64; 3]) -> Vec<B> {
+    let Closed {
+        blocks,
+        next: last,
+        ended,
+    } = end;
+    assert_eq!(rt; last, next);
+    assert_eq!(rt; [ended.reads(), ended.writes(), ended.faults()], sums);
+    blocks
+}
+
+/// The blocks of a pool that was flushed, where the flush said this, and closed.
+fn expect_saved<B: Block>(
+    rt: &impl Abort,
+    saved: Saved<Bare, B>,
+    wrote: Flushed,
+    next: u32,
+    sums: [u64; 3],
+) -> Vec<B> {
+    let Saved { report, closed } = saved;
+    assert_eq!(rt; report, wrote);
+    expect_end(rt, closed, next, sums)
+}
+
+/// The page that the block gives has this word at place `i`.
+fn expect_word(rt: &impl Abort, block: &mut MemBlock<WORDS>, i: usize, w: u64)
+    requires { i < WORDS }
+{
+    let mut read = PageBuf::zero();
+    let answered = block.read(&mut read).is_ok();
+    assert!(rt; answered);
+    assert_eq!(rt; read.get(i), w);
+}
+
+/// There are two blocks, whose pages have these words at place `i`.
+fn expect_words(rt: &impl Abort, mut blocks: Vec<MemBlock<WORDS>>, i: usize, words: (u64, u64))
+    requires { i < WORDS }
+{
+    let (Some(mut second), Some(mut first)) = (blocks.pop(), blocks.pop()) else {
+        panic!(rt; "there are two blocks");
+    };
+    assert_eq!(rt; blocks.len(), 0);
+    expect_word(rt, &mut first, i, words.0);
+    expect_word(rt, &mut second, i, words.1);
+}
+
+/// Of two blocks of large pages the second has a word behind a small page's end and its last one, and the first has neither.
+fn expect_large_words(rt: &impl Abort, mut blocks: Vec<MemBlock<LARGE>>) {
+    let (Some(mut second), Some(mut first)) = (blocks.pop(), blocks.pop()) else {
+        panic!(rt; "there are two blocks");
+    };
+    let mut read = PageBuf::zero();
+    let answered = second.read(&mut read).is_ok();
+    assert!(rt; answered);
+    let words = [
+        read.get(0),
+        read.get(63),
+        read.get(64),
+        read.get(510),
+        read.get(511),
+    ];
+    assert_eq!(rt; words, [0, 0, 8, 0, 7]);
+    let answered = first.read(&mut read).is_ok();
+    assert!(rt; answered);
+    assert_eq!(rt; (read.get(64), read.get(511)), (0, 0));
+}
+
 #[test]
 fn a_pool_that_is_closed_at_once_gives_its_blocks_back(rt: HostRuntime) -> Result<(), Fail> {
     let alloc = rt.alloc();
@@ -91,25 +167,8 @@ fn a_pool_that_is_closed_at_once_gives_its_blocks_back(rt: HostRuntime) -> Resul
     let Ok(end) = pool.close(alloc, pass) else {
         panic!(rt; "there is memory");
     };
-    let Closed {
-        mut blocks,
-        next,
-        ended,
-    } = end;
-    assert_eq!(rt; next, 1);
-    let sums = [ended.reads(), ended.writes(), ended.faults()];
-    assert_eq!(rt; sums, [0, 0, 0]);
-    let (Some(mut second), Some(mut first)) = (blocks.pop(), blocks.pop()) else {
-        panic!(rt; "there are two blocks");
-    };
-    assert_eq!(rt; blocks.len(), 0);
-    let mut read = PageBuf::zero();
-    let answered = first.read(&mut read).is_ok();
-    assert!(rt; answered);
-    assert_eq!(rt; read.get(63), 9);
-    let answered = second.read(&mut read).is_ok();
-    assert!(rt; answered);
-    assert_eq!(rt; read.get(63), 0);
+    let blocks = expect_end(&rt, end, 1, [0, 0, 0]);
+    expect_words(&rt, blocks, 63, (9, 0));
     Ok(())
 }
 
@@ -123,33 +182,9 @@ fn a_page_that_was_flushed_is_in_its_block(rt: HostRuntime) -> Result<(), Fail> 
     let Ok(saved) = flush_and_close(pool, alloc, pass) else {
         panic!(rt; "there is memory");
     };
-    let Saved { report, closed } = saved;
-    let wrote = Flushed {
-        written: 1,
-        failed: 0,
-        busy: 0,
-        first: None,
-    };
-    assert_eq!(rt; report, wrote);
-    let Closed {
-        mut blocks,
-        next,
-        ended,
-    } = closed;
-    assert_eq!(rt; next, 2);
     // The page was read once and written once.
-    let sums = [ended.reads(), ended.writes(), ended.faults()];
-    assert_eq!(rt; sums, [1, 1, 0]);
-    let (Some(mut second), Some(mut first)) = (blocks.pop(), blocks.pop()) else {
-        panic!(rt; "there are two blocks");
-    };
-    let mut read = PageBuf::zero();
-    let answered = second.read(&mut read).is_ok();
-    assert!(rt; answered);
-    assert_eq!(rt; read.get(5), 7);
-    let answered = first.read(&mut read).is_ok();
-    assert!(rt; answered);
-    assert_eq!(rt; read.get(5), 0);
+    let blocks = expect_saved(&rt, saved, WROTE_ONE, 2, [1, 1, 0]);
+    expect_words(&rt, blocks, 5, (0, 7));
     Ok(())
 }
 
@@ -165,32 +200,8 @@ fn the_last_words_of_a_large_page_are_in_its_block(rt: HostRuntime) -> Result<()
     let Ok(saved) = flush_and_close(pool, alloc, pass) else {
         panic!(rt; "there is memory");
     };
-    let Saved { report, closed } = saved;
-    assert_eq!(rt; (report.written, report.failed, report.busy), (1, 0, 0));
-    let Closed {
-        mut blocks,
-        next: _,
-        ended,
-    } = closed;
-    let sums = [ended.reads(), ended.writes(), ended.faults()];
-    assert_eq!(rt; sums, [1, 1, 0]);
-    let (Some(mut second), Some(mut first)) = (blocks.pop(), blocks.pop()) else {
-        panic!(rt; "there are two blocks");
-    };
-    let mut read = PageBuf::zero();
-    let answered = second.read(&mut read).is_ok();
-    assert!(rt; answered);
-    let words = [
-        read.get(0),
-        read.get(63),
-        read.get(64),
-        read.get(510),
-        read.get(511),
-    ];
-    assert_eq!(rt; words, [0, 0, 8, 0, 7]);
-    let answered = first.read(&mut read).is_ok();
-    assert!(rt; answered);
-    assert_eq!(rt; (read.get(64), read.get(511)), (0, 0));
+    let blocks = expect_saved(&rt, saved, WROTE_ONE, 2, [1, 1, 0]);
+    expect_large_words(&rt, blocks);
     Ok(())
 }
 
@@ -206,27 +217,16 @@ fn a_page_whose_write_failed_is_not_in_its_block(rt: HostRuntime) -> Result<(), 
     let Ok(saved) = flush_and_close(pool, alloc, pass) else {
         panic!(rt; "there is memory");
     };
-    let Saved { report, closed } = saved;
     let failed = Flushed {
         written: 0,
         failed: 1,
         busy: 0,
         first: Some(0),
     };
-    assert_eq!(rt; report, failed);
-    let Closed {
-        mut blocks,
-        next: _,
-        ended,
-    } = closed;
-    let sums = [ended.reads(), ended.writes(), ended.faults()];
-    assert_eq!(rt; sums, [1, 0, 1]);
+    let mut blocks = expect_saved(&rt, saved, failed, 1, [1, 0, 1]);
     let Some(mut block) = blocks.pop() else {
         panic!(rt; "there is a block");
     };
-    let mut read = PageBuf::zero();
-    let answered = block.read(&mut read).is_ok();
-    assert!(rt; answered);
-    assert_eq!(rt; read.get(5), 0);
+    expect_word(&rt, &mut block, 5, 0);
     Ok(())
 }

@@ -2,6 +2,7 @@
 
 use super::{EVICTED, LAST, LOCKED, MARKED, SHARE, core, event};
 use std::alloc::Global;
+use std::process::Abort;
 use std::test::Fail;
 use vm_core::{Event, ReplayFault, replay};
 
@@ -226,9 +227,8 @@ const NO_PAGE: [Event; 24] = [
     event!(Disown, a = 0, p = 2),
 ];
 
-/// Whether a core of two pages, frames and actors refuses just the last event of the case.
-fn is_refused(alloc: Global, case: Case) -> Result<bool, Fail> {
-    let (steps, more, last) = case;
+/// So many events of the way, and perhaps one more.
+fn before(alloc: Global, steps: usize, more: Option<Event>) -> Result<Vec<Event>, Fail> {
     let mut events = Vec::new(alloc);
     for &event in WAY.iter().take(steps) {
         events.push(event)?;
@@ -236,6 +236,13 @@ fn is_refused(alloc: Global, case: Case) -> Result<bool, Fail> {
     if let Some(event) = more {
         events.push(event)?;
     }
+    Ok(events)
+}
+
+/// Whether a core of two pages, frames and actors refuses just the last event of the case.
+fn is_refused(alloc: Global, case: Case) -> Result<bool, Fail> {
+    let (steps, more, last) = case;
+    let mut events = before(alloc, steps, more)?;
     let index = events.len();
     events.push(last)?;
     let mut core = core(alloc, 2, 2, 1)?;
@@ -245,24 +252,50 @@ fn is_refused(alloc: Global, case: Case) -> Result<bool, Fail> {
     }
 }
 
-#[test]
-fn events_that_may_not_happen(rt: HostRuntime) -> Result<(), Fail> {
-    let mut cases = Vec::new(rt.alloc());
-    cases.extend_from_slice(&ON_WORDS)?;
-    cases.extend_from_slice(&ON_RELEASES)?;
-    cases.extend_from_slice(&ON_FRAMES)?;
-    cases.extend_from_slice(&ON_COUNTERS)?;
-    cases.extend_from_slice(&ON_OWNERS)?;
-    cases.extend_from_slice(&ON_NUMBERS)?;
-    cases.extend_from_slice(&ON_DEVICES)?;
-    for event in NO_ACTOR {
-        cases.push((NOTHING, None, event))?;
-    }
-    for event in NO_PAGE {
-        cases.push((NOTHING, None, event))?;
-    }
+/// Just the last event of each of these cases is refused.
+fn expect_refused(rt: &impl Abort, alloc: Global, on: &str, cases: &[Case]) -> Result<(), Fail> {
     for (at, &case) in cases.iter().enumerate() {
-        assert!(rt; is_refused(rt.alloc(), case)?, "case {at}");
+        assert!(rt; is_refused(alloc, case)?, "case {at} on {on}");
     }
     Ok(())
+}
+
+/// Each of these events is refused where nothing has happened.
+fn expect_unstarted(
+    rt: &impl Abort,
+    alloc: Global,
+    on: &str,
+    events: &[Event],
+) -> Result<(), Fail> {
+    for (at, &event) in events.iter().enumerate() {
+        assert!(rt;
+            is_refused(alloc, (NOTHING, None, event))?,
+            "event {at} on {on}"
+        );
+    }
+    Ok(())
+}
+
+/// The cases on the words and on the frame of a page.
+fn expect_refused_on_pages(rt: &impl Abort, alloc: Global) -> Result<(), Fail> {
+    expect_refused(rt, alloc, "words", &ON_WORDS)?;
+    expect_refused(rt, alloc, "releases", &ON_RELEASES)?;
+    expect_refused(rt, alloc, "frames", &ON_FRAMES)
+}
+
+/// The other cases.
+fn expect_refused_elsewhere(rt: &impl Abort, alloc: Global) -> Result<(), Fail> {
+    expect_refused(rt, alloc, "counters", &ON_COUNTERS)?;
+    expect_refused(rt, alloc, "owners", &ON_OWNERS)?;
+    expect_refused(rt, alloc, "numbers", &ON_NUMBERS)?;
+    expect_refused(rt, alloc, "devices", &ON_DEVICES)
+}
+
+#[test]
+fn events_that_may_not_happen(rt: HostRuntime) -> Result<(), Fail> {
+    let alloc = rt.alloc();
+    expect_refused_on_pages(&rt, alloc)?;
+    expect_refused_elsewhere(&rt, alloc)?;
+    expect_unstarted(&rt, alloc, "no actor", &NO_ACTOR)?;
+    expect_unstarted(&rt, alloc, "no page", &NO_PAGE)
 }

@@ -178,16 +178,26 @@ const NUMBERS: [Row; 7] = [
     row!(Seen::Word(3); PBLoad, a = 0, g = 0),
 ];
 
+/// The page is written and written back.
+fn play_writes(rt: &impl Abort, alloc: Global, core: &mut Core) -> Result<(), Fail> {
+    plays(rt, alloc, core, &WRITES)?;
+    plays(rt, alloc, core, &WRITES_BACK)
+}
+
+/// Its number is claimed, its frame gets and loses it, and the numbers are given and taken.
+fn play_numbers(rt: &impl Abort, alloc: Global, core: &mut Core) -> Result<(), Fail> {
+    plays(rt, alloc, core, &CLAIMS)?;
+    plays(rt, alloc, core, &OWNS)?;
+    plays(rt, alloc, core, &NUMBERS)
+}
+
 /// Each event that the first script lacks.
 #[test]
 fn a_page_is_written_back(rt: HostRuntime) -> Result<(), Fail> {
     let alloc = rt.alloc();
     let mut core = core(alloc, 2, 2, 1)?;
-    plays(&rt, alloc, &mut core, &WRITES)?;
-    plays(&rt, alloc, &mut core, &WRITES_BACK)?;
-    plays(&rt, alloc, &mut core, &CLAIMS)?;
-    plays(&rt, alloc, &mut core, &OWNS)?;
-    plays(&rt, alloc, &mut core, &NUMBERS)?;
+    play_writes(&rt, alloc, &mut core)?;
+    play_numbers(&rt, alloc, &mut core)?;
     assert_eq!(rt; core.shape().pages, 2);
     assert_eq!(rt; core.block_word(1, 9), 77);
     Ok(())

@@ -1,5 +1,6 @@
 //! The words' layout, by worked values.
 
+use std::process::Abort;
 use vm_core::{Bundle, StateWord, TransWord};
 
 #[test]
@@ -17,6 +18,12 @@ fn state_words(rt: HostRuntime) {
     }
 }
 
+/// The translation word has this frame, and its page is dirty or not.
+fn expect_translation(rt: &impl Abort, word: u64, frame: Option<u32>, dirty: bool) {
+    assert_eq!(rt; TransWord::frame(word), frame, "the frame of {word}");
+    assert_eq!(rt; TransWord::dirty(word), dirty, "the dirty bit of {word}");
+}
+
 #[test]
 fn translation_words(rt: HostRuntime) {
     assert_eq!(rt; TransWord::of(3, true), 9223372036854775812);
@@ -30,8 +37,7 @@ fn translation_words(rt: HostRuntime) {
         (4294967297, None, false),
         (18446744073709551615, None, true),
     ] {
-        assert_eq!(rt; TransWord::frame(word), frame, "the frame of {word}");
-        assert_eq!(rt; TransWord::dirty(word), dirty, "the dirty bit of {word}");
+        expect_translation(&rt, word, frame, dirty);
     }
 }
 

@@ -1,6 +1,0 @@
-use Rattle.vm_block.specs.Memory.{stored_of}
-use Rattle.vm_rule.proofs.Whole.{whole-each}
-use Rattle.vm_test_core.proofs.rule.a_started_table_has_its_words_by_the_layout.Goals as goal
-
-pub started-requires-clause-whole : goal.started-requires-clause-whole
-started-requires-clause-whole g c told = whole-each stored_of 64 c.push-2.new.self.items (λ b. b.whole)
