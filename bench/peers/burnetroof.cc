@@ -18,12 +18,13 @@ void put_word(std::vector<uint8_t>& bytes, size_t place, uint64_t word) {
   for (int i = 0; i < 8; i++) bytes[8 * place + i] = uint8_t(word >> (56 - 8 * i));
 }
 
-// The bytes of a page file of so many pages: page 0 names the root on page 1, a leaf without a pair.
+// The bytes of a page file of so many pages: page 0 names the root on page 1, a leaf without a pair and without a high fence.
 std::vector<uint8_t> empty_image(size_t pages) {
   std::vector<uint8_t> bytes(pages * PAGE);
   put_word(bytes, 0, 0x564D434143484531);
   put_word(bytes, 1, 1);
   put_word(bytes, PAGE / 8, 2);
+  put_word(bytes, PAGE / 8 + 4, 1);
   return bytes;
 }
 
