@@ -14,6 +14,7 @@ use std::rt::Files;
 use std::sync::Wait;
 use vm_block::{Block, PageBlock};
 use vm_device::{Devices, Failed, FileDevices, SyncBlock};
+use vm_io::host::Host;
 use vm_io::loops::{SayFault, say_all};
 use vm_io::system::StdHost;
 use vm_page::{PageBuf, WORDS};
@@ -49,6 +50,43 @@ fn main(rt: HostRuntime) -> ExitCode {
     }
 }
 
+/// Prints the words of the page that are not 0.
+fn print_words<H: Host>(
+    host: &mut H,
+    alloc: Global,
+    p: u32,
+    page: &PageBuf<WORDS>,
+) -> Result<(), Unread> {
+    for i in 0..WORDS {
+        let word = page.get(i);
+        if word != 0 {
+            say_all(
+                host,
+                format!(in alloc; "page {p} word {i} {word}\n")?.as_bytes(),
+            )?;
+        }
+    }
+    Ok(())
+}
+
+/// Prints the words of page `p` that are not 0, and how many reads its block has counted.
+fn print_page<H: Host, D: Devices<WORDS>>(
+    host: &mut H,
+    devices: &mut D,
+    alloc: Global,
+    p: u32,
+) -> Result<(), Unread> {
+    let mut block = devices.get(NAME, p)?;
+    let mut page = PageBuf::zero();
+    block.read(&mut page)?;
+    block.sync()?;
+    print_words(host, alloc, p, &page)?;
+    let reads = block.reads();
+    say_all(host, format!(in alloc; "reads {reads}\n")?.as_bytes())?;
+    devices.back(NAME, p, block);
+    Ok(())
+}
+
 /// Prints the file's length, the words of its pages 0 and 1 that are not 0, and what was counted. A page that the file lacks is a fault.
 fn print_pages<R: Files<File = File> + Print + Wait>(rt: &R, alloc: Global) -> Result<(), Unread> {
     let mut host = StdHost::new(rt, alloc);
@@ -56,22 +94,7 @@ fn print_pages<R: Files<File = File> + Print + Wait>(rt: &R, alloc: Global) -> R
     let size = devices.length(NAME)?;
     say_all(&mut host, format!(in alloc; "length {size}\n")?.as_bytes())?;
     for p in 0..2 {
-        let mut block = devices.get(NAME, p)?;
-        let mut page = PageBuf::zero();
-        block.read(&mut page)?;
-        block.sync()?;
-        for i in 0..WORDS {
-            let word = page.get(i);
-            if word != 0 {
-                say_all(
-                    &mut host,
-                    format!(in alloc; "page {p} word {i} {word}\n")?.as_bytes(),
-                )?;
-            }
-        }
-        let reads = block.reads();
-        say_all(&mut host, format!(in alloc; "reads {reads}\n")?.as_bytes())?;
-        devices.back(NAME, p, block);
+        print_page(&mut host, &mut devices, alloc, p)?;
     }
     let lacking = devices.get(NAME, 8).is_err();
     let faults = devices.faults();

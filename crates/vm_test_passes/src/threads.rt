@@ -1,5 +1,5 @@
 //! Four workers in threads over a pool of eight pages and six frames, with ample memory. What stands in the end is the same whatever the schedule.
-ghost use Rattle.std.specs.Prelude.{◌<◌, ◌≤◌, IfOk, length};
+ghost use Rattle.std.specs.Prelude.{◌<◌, ◌≡◌, ◌≤◌, IfOk, length};
 ghost use Rattle.vm_page.specs.Sizes.{IsSize};
 ghost use Rattle.vm_rule.specs.Prelude.{HoldsNoPage};
 ghost use Rattle.vm_step.specs.Prelude.{IsAlone, IsReadyOn, view};
@@ -26,6 +26,19 @@ fn used_page<const N: usize>() -> PageBuf<N>
     page
 }
 
+/// Blocks of so many pages that are in use, which answer every call.
+fn used_blocks<const N: usize>(alloc: Global, n: u32) -> Result<Vec<MemBlock<N>>, Fail>
+    requires sized { IsSize N }
+    ensures { IfOk result (λ blocks. length blocks.items ≡ n) }
+{
+    if n == 0 {
+        return Ok(Vec::new(alloc));
+    }
+    let mut blocks = used_blocks(alloc, n - 1)?;
+    blocks.push(MemBlock::new(alloc, used_page(), &[])?)?;
+    Ok(blocks)
+}
+
 /// A pool of eight pages, all in use, and six frames, and its first pass.
 fn eight_pages<const N: usize>(
     alloc: Global,
@@ -37,15 +50,7 @@ fn eight_pages<const N: usize>(
     ensures pages { IfOk result (λ made. HasPages made.0.words.table.shared.key) }
     ensures parts { IfOk result (λ made. 4 ≤ length (view made.1).fresh) }
 {
-    let mut blocks = Vec::new(alloc);
-    blocks.push(MemBlock::new(alloc, used_page(), &[])?)?;
-    blocks.push(MemBlock::new(alloc, used_page(), &[])?)?;
-    blocks.push(MemBlock::new(alloc, used_page(), &[])?)?;
-    blocks.push(MemBlock::new(alloc, used_page(), &[])?)?;
-    blocks.push(MemBlock::new(alloc, used_page(), &[])?)?;
-    blocks.push(MemBlock::new(alloc, used_page(), &[])?)?;
-    blocks.push(MemBlock::new(alloc, used_page(), &[])?)?;
-    blocks.push(MemBlock::new(alloc, used_page(), &[])?)?;
+    let blocks = used_blocks(alloc, 8)?;
     let shape = Shape {
         pages: 8,
         frames: 6,
@@ -53,6 +58,31 @@ fn eight_pages<const N: usize>(
         first_version: 0,
     };
     Ok(Pool::start(alloc, shape, blocks, &[])?)
+}
+
+/// Word 2 of page 5 is 205, and so on, and word `last` of each page is 1.
+fn expect_all_set<const N: usize>(rt: &impl Abort, blocks: Vec<MemBlock<N>>, last: usize)
+    requires sized { IsSize N }
+    requires last { last < N }
+{
+    let mut p: u64 = 0;
+    for mut block in blocks {
+        assert!(rt; p < 8);
+        let mut read = PageBuf::zero();
+        let answered = block.read(&mut read).is_ok();
+        assert!(rt; answered);
+        let words = [
+            read.get(0),
+            read.get(1),
+            read.get(2),
+            read.get(3),
+            read.get(last),
+        ];
+        let due = [p, 100 + p, 200 + p, 300 + p, 1];
+        assert_eq!(rt; words, due);
+        p += 1;
+    }
+    assert_eq!(rt; p, 8);
 }
 
 /// Worker number 2 sets word 2 of page 5 to 205, and so on. The last word of each page, `last`, stays 1.
@@ -76,24 +106,7 @@ fn all_set<R: Abort + Threads + Sync, const N: usize>(
         next: _,
         ended: _,
     } = closed;
-    let mut p: u64 = 0;
-    for mut block in blocks {
-        assert!(rt; p < 8);
-        let mut read = PageBuf::zero();
-        let answered = block.read(&mut read).is_ok();
-        assert!(rt; answered);
-        let words = [
-            read.get(0),
-            read.get(1),
-            read.get(2),
-            read.get(3),
-            read.get(last),
-        ];
-        let due = [p, 100 + p, 200 + p, 300 + p, 1];
-        assert_eq!(rt; words, due);
-        p += 1;
-    }
-    assert_eq!(rt; p, 8);
+    expect_all_set(rt, blocks, last);
     Ok(())
 }
 
