@@ -39,7 +39,9 @@ pub fn give<'a, R: Threads + Wait + Sync, H: Host, G: Gate + Sync, D: Devices<WO
     ensures shown { H.shown host.new ≡ H.shown host.old }
     ensures puts { H.gives host.new ≡ H.gives host.old }
     ensures later { H.takes host.old ≤ H.takes host.new }
-    ensures cause { HasUnreadCause (UnreadCause command.now (H.takes host.old) (H.takes host.new) (outside_of (H.shown host.old) D.tells (D.state devices.old)) (remains_of (H.last host.new) (D.state devices.new))) result }
+    ensures cause { HasUnreadCause
+        (UnreadCause command.now (H.takes host.old) (H.takes host.new) (outside_of (H.shown host.old) D.tells (D.state devices.old))
+        (remains_of (H.last host.new) (D.state devices.new))) result }
     ensures home { LeavesDevices (outside_of (H.shown host.old) D.tells (D.state devices.old)) (remains_of (H.last host.new) (D.state devices.new)) result }
     ensures devices { ChangesDevices command.now (outside_of (H.shown host.old) D.tells (D.state devices.old)) (remains_of (H.last host.new) (D.state devices.new)) }
 {

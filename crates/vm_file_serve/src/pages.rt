@@ -31,7 +31,8 @@ pub fn taken<'a, D: Devices<WORDS>>(
     name: &'a str,
 ) -> Result<Vec<D::B>, Undone<Stop<'a>>>
     ensures taken { IfOk result (λ blocks. TakesPages D.tells (D.state devices.old) (D.state devices.new) name.now (map D.B.stored blocks.items)) }
-    ensures stopped { (shown : Option Shown) (unread : List ℕ) → IfErr result (λ undone. StopsTaking (outside_of shown D.tells (D.state devices.old)) (remains_of unread (D.state devices.new)) name.now undone) }
+    ensures stopped { (shown : Option Shown) (unread : List ℕ)
+        → IfErr result (λ undone. StopsTaking (outside_of shown D.tells (D.state devices.old)) (remains_of unread (D.state devices.new)) name.now undone) }
 {
     let size = match devices.length(name) {
         Ok(size) => size,

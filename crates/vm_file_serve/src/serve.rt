@@ -61,7 +61,9 @@ fn make_ready<'a, H: Host, B: PageBlock<WORDS>>(
 ) -> Result<Ready, Undone<Stop<'a>>>
     requires some { 2 ≤ length blocks.old }
     requires most { length blocks.old ≤ 256 }
-    ensures gives { (outside : Outside) (left : Remains) → IsToServe B.tells serve.now workers (with_shown outside (H.shown host.old)) (with_unread left (H.last host.new)) (map B.stored blocks.old) (map B.stored blocks.new) result }
+    ensures gives { (outside : Outside) (left : Remains)
+        → IsToServe B.tells serve.now workers (with_shown outside (H.shown host.old)) (with_unread left (H.last host.new)) (map B.stored blocks.old)
+        (map B.stored blocks.new) result }
     ensures shown { H.shown host.new ≡ H.shown host.old }
     ensures puts { H.gives host.new ≡ H.gives host.old }
     ensures later { H.takes host.old ≤ H.takes host.new }
@@ -126,11 +128,14 @@ pub fn run_serve<'a, R: Threads + Wait + Sync, H: Host, G: Gate + Sync, D: Devic
     ends: &mut Ends,
     devices: &mut D,
 ) -> Result<Delivery<'a>, Undone<Stop<'a>>>
-    ensures gives { AnswersCommand content_of (commands.Serve serve.now) (outside_of (H.shown host.old) D.tells (D.state devices.old)) (remains_of (H.last host.new) (D.state devices.new)) ends.old ends.new result }
+    ensures gives { AnswersCommand content_of (commands.Serve serve.now) (outside_of (H.shown host.old) D.tells (D.state devices.old))
+        (remains_of (H.last host.new) (D.state devices.new)) ends.old ends.new result }
     ensures shown { H.shown host.new ≡ H.shown host.old }
     ensures puts { H.gives host.new ≡ H.gives host.old }
     ensures later { H.takes host.old ≤ H.takes host.new }
-    ensures cause { HasUnreadCause (UnreadCause (commands.Serve serve.now) (H.takes host.old) (H.takes host.new) (outside_of (H.shown host.old) D.tells (D.state devices.old)) (remains_of (H.last host.new) (D.state devices.new))) result }
+    ensures cause { HasUnreadCause
+        (UnreadCause (commands.Serve serve.now) (H.takes host.old) (H.takes host.new) (outside_of (H.shown host.old) D.tells (D.state devices.old))
+        (remains_of (H.last host.new) (D.state devices.new))) result }
     ensures home { LeavesDevices (outside_of (H.shown host.old) D.tells (D.state devices.old)) (remains_of (H.last host.new) (D.state devices.new)) result }
     ensures devices { ChangesDevices (commands.Serve serve.now) (outside_of (H.shown host.old) D.tells (D.state devices.old)) (remains_of (H.last host.new) (D.state devices.new)) }
 {

@@ -105,7 +105,9 @@ pub fn run_migrate<'a, H: Host>(
     host: &mut H,
     migrate: &Migrate<'a>,
 ) -> Result<Delivery<'a>, Undone<Stop<'a>>>
-    ensures gives { (outside : Outside) (left : Remains) (same : Ends) → AnswersCommand content_of (commands.Migrate migrate.now) (with_shown outside (H.shown host.old)) (with_unread left (H.last host.new)) same same result }
+    ensures gives { (outside : Outside) (left : Remains) (same : Ends)
+        → AnswersCommand content_of (commands.Migrate migrate.now) (with_shown outside (H.shown host.old)) (with_unread left (H.last host.new)) same
+        same result }
     ensures shown { H.shown host.new ≡ H.shown host.old }
     ensures puts { H.gives host.new ≡ H.gives host.old }
     ensures later { H.takes host.old ≤ H.takes host.new }

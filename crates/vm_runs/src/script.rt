@@ -98,7 +98,9 @@ pub fn run_script<'a, R: Threads + Wait + Sync, H: Host, G: Gate + Sync>(
     gate: &G,
     ends: &mut Ends,
 ) -> Result<Delivery<'a>, Undone<Stop<'a>>>
-    ensures gives { (outside : Outside) (left : Remains) → AnswersCommand content_of (commands.Run run.now) (with_shown outside (H.shown host.old)) (with_unread left (H.last host.new)) ends.old ends.new result }
+    ensures gives { (outside : Outside) (left : Remains)
+        → AnswersCommand content_of (commands.Run run.now) (with_shown outside (H.shown host.old)) (with_unread left (H.last host.new)) ends.old
+        ends.new result }
     ensures shown { H.shown host.new ≡ H.shown host.old }
     ensures puts { H.gives host.new ≡ H.gives host.old }
     ensures later { H.takes host.old ≤ H.takes host.new }

@@ -38,7 +38,8 @@ empty_spec 𝓤 𝓛 𝓜 𝓡 wired T L =
     let inst = layouts (a_type ∷ []) (T, tt) in let fn = inst_fn inst code.function in let In = plain (λ _. Z) in
     let hs : Stays En.signature.params En.kept = (stay_dropped In yes, tt) in
     proved_at 𝓛 En hs c 𝓜 𝓡 (Goes-dropped 𝓛 1 In yes (λ κs x f. refl), tt) (#self inst) fn (code.unfolded 𝓤 H 𝓜 𝓡 wired (T, tt)) (λ z are.
-    let κs = z.0.0 in let qs = z.0.1 in let Post : Val → SProp 𝓤 = (walk_of 𝓛 En hs c).post z in let Run : List Val → SProp 𝓤 = λ ws. WpFn 𝓤 H 𝓣.C 𝓣.Λ fn ws Post in let Out : RattleType = type_at En.signature.result κs in
+    let κs = z.0.0 in let qs = z.0.1 in let Post : Val → SProp 𝓤 = (walk_of 𝓛 En hs c).post z in
+    let Run : List Val → SProp 𝓤 = λ ws. WpFn 𝓤 H 𝓣.C 𝓣.Λ fn ws Post in let Out : RattleType = type_at En.signature.result κs in
     let a = z.0.3.0 in let n : Val = ptr_val null_ptr in
     let h = one (layout Z) z.0.4.0 ((LZ.lawful 𝓛).typed a z.0.4.0 are.0) in let w : Val = both n h.0 in
     let good : Good (layout Out) w = (and_tt (has_ty (layout Z) h.0) h.2.0, ((Ptr-Good null_ptr).1, (h.2.1, tt))) in
