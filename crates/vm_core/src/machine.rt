@@ -43,9 +43,32 @@ pub struct Core {
 impl Model for Core {
     ghost Value = { CoreData };
 
-    ghost view = { λ c. record { shape = c.shape; pages = c.pages.items; frames = c.frames.items; bundles = c.bundles.items; held = c.held.items; next = c.next; hand = c.hand; owners = c.owners.items; spares = c.spares.items; numbers = c.numbers.items } };
+    ghost view = { λ c. record {
+      shape = c.shape;
+      pages = c.pages.items;
+      frames = c.frames.items;
+      bundles = c.bundles.items;
+      held = c.held.items;
+      next = c.next;
+      hand = c.hand;
+      owners = c.owners.items;
+      spares = c.spares.items;
+      numbers = c.numbers.items;
+    } };
 
-    ghost invariant = { λ c. CoreFits (record { shape = c.shape; pages = c.pages.items; frames = c.frames.items; bundles = c.bundles.items; held = c.held.items; next = c.next; hand = c.hand; owners = c.owners.items; spares = c.spares.items; numbers = c.numbers.items }) };
+    ghost invariant = { λ c.
+        CoreFits (record {
+          shape = c.shape;
+          pages = c.pages.items;
+          frames = c.frames.items;
+          bundles = c.bundles.items;
+          held = c.held.items;
+          next = c.next;
+          hand = c.hand;
+          owners = c.owners.items;
+          spares = c.spares.items;
+          numbers = c.numbers.items;
+        }) };
 }
 
 impl Core {

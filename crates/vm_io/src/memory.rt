@@ -136,7 +136,9 @@ impl Host for MemHost {
         ensures stuck { HasStuckCause (failed_gives self.old).stuck (failed_gives self.new).stuck (length piece.now) result }
         ensures apart { SameTakes (failed_takes self.old) (failed_takes self.new) (last_failed self.old) (last_failed self.new) }
         ensures exact { is_ok result ≡ can_say self.old piece.now }
-        ensures counted { failed_gives self.new ≡ (if is_ok result then (if moves_some self.old piece.now then failed_gives self.old else more_stuck (failed_gives self.old)) else more_failed (failed_gives self.old)) }
+        ensures counted { failed_gives
+            self.new ≡ (if is_ok result then (if moves_some self.old piece.now then failed_gives self.old else more_stuck (failed_gives self.old))
+            else more_failed (failed_gives self.old)) }
         ensures most { IfOk result (λ n. n ≡ min (piece_of self.old) (length piece.now)) }
         ensures next { IsNext self.old self.new }
     {

@@ -38,11 +38,15 @@ pub trait Owner {
     // What a page's words say of another page's words.
     ghost tied: { Start → ℕ → List ℕ → ℕ → List ℕ → Type 0 };
 
-    ghost releases: { (start : Start) (kept : Kept Self.Said) (due : List ℕ) (changes : List Change) (entries : List (Entry Self.Said)) → keeps start kept → Fits kept due changes → IsTurn kept.history entries → may_release start due changes entries → keeps start (after_release changes entries kept) };
+    ghost releases: { (start : Start) (kept : Kept Self.Said) (due : List ℕ) (changes : List Change) (entries : List (Entry Self.Said))
+        → keeps start kept → Fits kept due changes → IsTurn kept.history entries → may_release start due changes entries
+        → keeps start (after_release changes entries kept) };
 
-    ghost reads: { (start : Start) (kept : Kept Self.Said) (page : ℕ) (entries : List (Entry Self.Said)) → keeps start kept → page < length kept.pages → IsTurn kept.history entries → may_read start page (page_at kept.pages page) entries → keeps start (told entries kept) };
+    ghost reads: { (start : Start) (kept : Kept Self.Said) (page : ℕ) (entries : List (Entry Self.Said)) → keeps start kept → page < length kept.pages
+        → IsTurn kept.history entries → may_read start page (page_at kept.pages page) entries → keeps start (told entries kept) };
 
-    ghost holds: { (start : Start) (kept : Kept Self.Said) (pages : List (ℕ × List ℕ)) (entries : List (Entry Self.Said)) → keeps start kept → PagesHave kept.pages pages → IsTurn kept.history entries → may_hold start pages entries → keeps start (told entries kept) };
+    ghost holds: { (start : Start) (kept : Kept Self.Said) (pages : List (ℕ × List ℕ)) (entries : List (Entry Self.Said)) → keeps start kept
+        → PagesHave kept.pages pages → IsTurn kept.history entries → may_hold start pages entries → keeps start (told entries kept) };
 
     ghost claims: { (start : Start) (kept : Kept Self.Said) (n : ℕ) → keeps start kept → AreZero kept n → keeps start (claimed n kept) };
 

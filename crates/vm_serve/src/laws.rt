@@ -20,7 +20,8 @@ pub fn no_faults_without_a_plan()
 /// Where a block had counted no fault when the pool began, an answer that its device failed, or a first failed write of the last flush, has
 /// raised its count.
 pub fn faults_are_counted()
-    ensures { (n : ℕ) (tells : Bool) (pages : List (List ℕ)) (before : List Stored) (lists : List (List Call)) (replies : List (List (Result Reply TreeFault))) (report : Flushed) (blocks : List Stored) (end : TreeEnd n)
+    ensures { (n : ℕ) (tells : Bool) (pages : List (List ℕ)) (before : List Stored) (lists : List (List Call))
+        (replies : List (List (Result Reply TreeFault))) (report : Flushed) (blocks : List Stored) (end : TreeEnd n)
         → IsServedOn n tells pages before lists replies report blocks end → (p : ℕ) → (at no_block before p).count ≡ 0
         → 1 ≤ all_faults_of p replies + is_first report.first p → (at no_block before p).count < (at no_block blocks p).count }
 {}

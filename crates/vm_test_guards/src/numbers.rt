@@ -68,7 +68,8 @@ fn work_all<R: Threads + Sync, B: PageBlock<N> + Send + Sync, const N: usize>(
     requires whole { All (λ p. (view p).pending ≡ []) passes.old }
     requires pages { 64 < pool.now.words.table.shared.key.pages }
     ensures count { length passes.new ≡ length passes.old }
-    ensures done { (i : ℕ) (d : _) → i < length passes.old → HasPut pool.now.words.table.shared.key B.tells pool.now.words.table.shared.table_id (slice_index_or passes.old i d) (slice_index_or passes.new i d) }
+    ensures done { (i : ℕ) (d : _) → i < length passes.old
+        → HasPut pool.now.words.table.shared.key B.tells pool.now.words.table.shared.table_id (slice_index_or passes.old i d) (slice_index_or passes.new i d) }
 {
     let count = passes.len();
     if count > 0 {

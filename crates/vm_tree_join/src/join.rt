@@ -87,7 +87,8 @@ pub fn join_last<K: Edits, B: Block>(
     requires above { IsReadAs K.layout root (K.words_of over.now) 3 (view pass.old) }
     requires left { IsReadAs K.layout left (K.words_of first.now) 2 (view pass.old) }
     requires right { IsReadAs K.layout right (K.words_of second.now) 2 (view pass.old) }
-    requires merge { (view pass.old).start.tells ≡ true → (page : List ℕ) → slice_index page 1 ≡ root.pid → IsInner K.layout (K.words_of over.now) → IsLeaf K.layout (K.words_of first.now) → IsLeaf K.layout (K.words_of second.now)
+    requires merge { (view pass.old).start.tells ≡ true → (page : List ℕ) → slice_index page 1 ≡ root.pid → IsInner K.layout (K.words_of over.now)
+        → IsLeaf K.layout (K.words_of first.now) → IsLeaf K.layout (K.words_of second.now)
         → MayCollapse K.layout (page_change meta.pid page (slice_set (slice_set page 1 left.pid) 2 0)) (page_change root.pid (K.words_of over.now) (replicate K.layout.words 0))
         (page_change left.pid (K.words_of first.now) (K.words_of joined.now)) (page_change right.pid (K.words_of second.now) (replicate K.layout.words 0)) (K.plain said.now) }
     ensures goes { GoesOn words.now B.tells pass.old pass.new }

@@ -194,7 +194,8 @@ fn take_all<K: Kind, B: Block>(
     ensures ok { IfOk result (λ all. AreTaken K.layout n first second all.up all.low (guards_of all.pages) (view pass.old) (view pass.new)) }
     ensures lost { IfOk result (λ all. LosesNone iface.old.frames (view pass.old) (iface.new.frames ++ all.frames) (view pass.new)) }
     ensures lost_none { IfErr result (λ _. LosesNone iface.old.frames (view pass.old) iface.new.frames (view pass.new)) }
-    ensures err { IfErr result (λ answer. AreHeld iface.new.frames (view pass.new) × KeepsLocksOnly (view pass.old) (view pass.new) × IsUntaken K.layout n first second (view pass.old) (view pass.new) answer) }
+    ensures err { IfErr result (λ answer. AreHeld iface.new.frames (view pass.new) × KeepsLocksOnly (view pass.old) (view pass.new)
+        × IsUntaken K.layout n first second (view pass.old) (view pass.new) answer) }
     ensures sure { KnowsToSplit K.layout first second (view pass.old) → IfErr result IsFinalSplit }
 {
     let mut frames = match frames_for(words, pass, iface, n) {
@@ -254,7 +255,8 @@ pub fn prepare<K: Kind, B: Block>(
     ensures ok { IfOk result (λ all. IsPrepared K.layout n first second all.up all.low (guards_of all.pages) (view pass.old) (view pass.new)) }
     ensures lost { IfOk result (λ all. LosesNone iface.old.frames (view pass.old) (iface.new.frames ++ all.frames) (view pass.new)) }
     ensures lost_none { IfErr result (λ _. LosesNone iface.old.frames (view pass.old) iface.new.frames (view pass.new)) }
-    ensures err { IfErr result (λ answer. AreHeld iface.new.frames (view pass.new) × KeepsLocksOnly (view pass.old) (view pass.new) × IsUnsplit K.plain K.layout K.spare n first second (view pass.old) (view pass.new) answer) }
+    ensures err { IfErr result (λ answer. AreHeld iface.new.frames (view pass.new) × KeepsLocksOnly (view pass.old) (view pass.new)
+        × IsUnsplit K.plain K.layout K.spare n first second (view pass.old) (view pass.new) answer) }
     ensures sure { KnowsToSplit K.layout first second (view pass.old) → IfErr result IsFinalSplit }
 {
     match room_for(words, pass, n) {

@@ -115,7 +115,8 @@ pub fn put_all<R: Threads + Sync, B: PageBlock<N> + Send + Sync, const N: usize>
     requires may { All (λ p. MayStartWork pool.now.words.table.shared.key B.tells pool.now.words.table.shared.table_id [] p) passes.old }
     requires pages { HasPages pool.now.words.table.shared.key }
     ensures count { length passes.new ≡ length passes.old }
-    ensures done { (i : ℕ) (d : _) → i < length passes.old → HasPut pool.now.words.table.shared.key B.tells pool.now.words.table.shared.table_id (slice_index_or passes.old i d) (slice_index_or passes.new i d) }
+    ensures done { (i : ℕ) (d : _) → i < length passes.old
+        → HasPut pool.now.words.table.shared.key B.tells pool.now.words.table.shared.table_id (slice_index_or passes.old i d) (slice_index_or passes.new i d) }
 {
     let count = passes.len();
     if count > 0 {

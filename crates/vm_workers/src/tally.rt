@@ -96,7 +96,8 @@ pub fn tally_all<R: Threads + Sync, B: Block + Send + Sync>(
 )
     requires may { All (λ w. MayWork words.now.table.shared.key B.tells words.now.table.shared.table_id w) workers.old }
     ensures count { length workers.new ≡ length workers.old }
-    ensures done { (i : ℕ) (d : _) → i < length workers.old → HasSaid words.now.table.shared.key B.tells words.now.table.shared.table_id (slice_index_or workers.old i d) (slice_index_or workers.new i d) }
+    ensures done { (i : ℕ) (d : _) → i < length workers.old
+        → HasSaid words.now.table.shared.key B.tells words.now.table.shared.table_id (slice_index_or workers.old i d) (slice_index_or workers.new i d) }
 {
     let count = workers.len();
     if count > 0 {

@@ -65,7 +65,8 @@ pub fn run_all<R: Threads + Sync, U: Owner + Send + Sync, B: Block + Send + Sync
 )
     requires may { All (λ w. MayWork words.now.table.shared.key B.tells words.now.table.shared.table_id w) workers.old }
     ensures count { length workers.new ≡ length workers.old }
-    ensures done { (i : ℕ) (d : _) → i < length workers.old → HasDoneJob words.now.table.shared.key B.tells words.now.table.shared.table_id (slice_index_or workers.old i d) (slice_index_or workers.new i d) }
+    ensures done { (i : ℕ) (d : _) → i < length workers.old
+        → HasDoneJob words.now.table.shared.key B.tells words.now.table.shared.table_id (slice_index_or workers.old i d) (slice_index_or workers.new i d) }
 {
     let count = workers.len();
     if count > 0 {
