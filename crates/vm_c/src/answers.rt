@@ -5,7 +5,7 @@ ghost use Rattle.vm_c.specs.Answers.{answer_for, page_telling, refusal_for, valu
 
 use vm_face::Opening;
 use vm_map::call::{Reply, Swap};
-use vm_serve::vm_tree_rule::TreeFault;
+use vm_serve::tree_rule::TreeFault;
 
 pub const OK: u32 = 0;
 /// The rounds were used up.

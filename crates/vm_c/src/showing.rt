@@ -11,7 +11,7 @@ use crate::opened::OpenHand;
 use vm_map::call::{Pair, Reply};
 use vm_map::span::Span;
 use vm_map::window::Bound;
-use vm_serve::vm_tree_rule::TreeFault;
+use vm_serve::tree_rule::TreeFault;
 
 /// The most pairs of a range: those of sixteen leaves.
 pub const MOST_IN_RANGE: usize = 448;

@@ -6,7 +6,7 @@ ghost use Rattle.vm_tree_range.specs.from_vm_tree_rule.declared_fault_TreeFault.
 ghost use Rattle.vm_calls.specs.Kept.{Room, spans_of, windows_of};
 
 use vm_map::call::Reply;
-use vm_tree_range::vm_tree_rule::TreeFault;
+use vm_tree_range::tree_rule::TreeFault;
 
 /// What a call is answered: a reply, or why there is none.
 pub type Answer = Result<Reply, TreeFault>;

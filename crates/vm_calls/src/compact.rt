@@ -9,7 +9,7 @@ use crate::answers::{Answer, Answers};
 use vm_map::call::{Call, Reply, Swap};
 use vm_map::span::Span;
 use vm_map::window::Window;
-use vm_tree_range::vm_tree_rule::TreeFault;
+use vm_tree_range::tree_rule::TreeFault;
 
 /// An answer without the window that it may show, and without the pairs of a range.
 #[derive(Debug, Drop, PartialEq)]

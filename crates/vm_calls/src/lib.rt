@@ -3,9 +3,12 @@
 
 pub mod answers;
 pub mod compact;
+pub mod evict;
+pub mod exmap;
 pub mod gate;
+pub mod kind;
+pub mod pool;
 pub mod spans;
+pub mod tree_read;
+pub mod tree_rule;
 pub mod worker;
-
-// Libraries below that the crates above name through this one.
-pub use vm_tree_range::{vm_evict, vm_exmap, vm_kind, vm_pool, vm_tree_read, vm_tree_rule};

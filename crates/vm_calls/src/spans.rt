@@ -7,7 +7,7 @@ use std::alloc::{AllocError, Global};
 use vm_map::call::Call;
 use vm_map::span::Span;
 use vm_tree_range::LEAVES;
-use vm_tree_range::vm_kind::{OfSize, Ranges, WordKeys};
+use vm_tree_range::kind::{OfSize, Ranges, WordKeys};
 
 /// How many of the calls ask for a range.
 pub fn ranges_among(calls: &[Call]) -> usize

@@ -18,11 +18,11 @@ use vm_map::call::Call;
 use vm_map::span::Span;
 use vm_owner::Owner;
 use vm_rule::words::Pass;
+use vm_tree_range::exmap::Interface;
+use vm_tree_range::kind::{OfSize, TreeOf, WordKeys};
+use vm_tree_range::pool::Pool;
 use vm_tree_range::range;
-use vm_tree_range::vm_exmap::Interface;
-use vm_tree_range::vm_kind::{OfSize, TreeOf, WordKeys};
-use vm_tree_range::vm_pool::Pool;
-use vm_tree_range::vm_tree_read::{get, window};
+use vm_tree_range::tree_read::{get, window};
 use vm_tree_retry::{del, put, swap};
 
 /// A worker's own things.

@@ -8,13 +8,14 @@ ghost use Rattle.vm_clock.specs.Clock.{IsChosen, IsFrameVisited, IsPageVisited, 
 ghost use Rattle.vm_clock.specs.Met.{HoldsChosen};
 
 mod met;
+pub mod step;
 
 use crate::met::{MASKS, is_met, no_pages, note};
 use arrayvec::ArrayVec;
 use vm_block::Block;
 use vm_core::{FRAMES, MAX_VERSION, StateWord};
 use vm_owner::Owner;
-use vm_step::vm_rule::words::{Pass, Words};
+use vm_step::rule::{Pass, Words};
 use vm_step::{Candidates, Looks, Took, hand, look_silently, mark, oload};
 
 /// No look yet.
@@ -142,6 +143,3 @@ fn visit<U: Owner, B: Block>(
         }
     }
 }
-
-// Libraries below that the crates above name through this one.
-pub use vm_step;

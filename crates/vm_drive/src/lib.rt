@@ -2,11 +2,14 @@
 #![tactic(auto)]
 
 mod driving;
+pub mod evict;
+pub mod exmap;
+pub mod kind;
 pub mod memory;
+pub mod pool;
+pub mod tree_read;
+pub mod tree_rule;
 
 pub use driving::{Driven, DrivenInto, drive, drive_into};
 pub use memory::rooms_for;
 pub use vm_calls::{answers, compact, gate};
-
-// Libraries below that the crates above name through this one.
-pub use vm_calls::{vm_evict, vm_exmap, vm_kind, vm_pool, vm_tree_read, vm_tree_rule};

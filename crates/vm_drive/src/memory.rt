@@ -6,8 +6,8 @@ ghost use Rattle.vm_drive.specs.{Drives.items_of, Lists.HaveRoom, Lists.HaveSpan
 
 use std::alloc::{AllocError, Global};
 use vm_calls::compact::{Replies, windows_in};
+use vm_calls::kind::OfSize;
 use vm_calls::spans::{ranges_among, spans_of};
-use vm_calls::vm_kind::OfSize;
 use vm_map::call::Call;
 use vm_map::span::Span;
 

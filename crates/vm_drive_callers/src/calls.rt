@@ -13,10 +13,10 @@ use vm_exmap::Interface;
 use vm_map::call::{Call, Reply};
 use vm_page::WORDS;
 use vm_rule::words::Pass;
-use vm_serve::vm_drive::compact::{Replies, Short};
-use vm_serve::vm_pool::Pool;
-use vm_serve::vm_tree_read::get;
-use vm_serve::vm_tree_rule::{Tree, TreeFault};
+use vm_serve::drive::{Replies, Short};
+use vm_serve::pool::Pool;
+use vm_serve::tree_read::get;
+use vm_serve::tree_rule::{Tree, TreeFault};
 
 /// Puts of so many keys, from the first one on by this step; each key gets the number behind it.
 fn puts(alloc: Global, first: u64, step: u64, count: u64) -> Result<Vec<Call>, AllocError>

@@ -1,5 +1,3 @@
 //! What the crates above name of `vm_drive` through this one.
 
-pub use vm_serve::vm_drive::compact::Short;
-pub use vm_serve::vm_drive::gate::{Gate, NoGate};
-pub use vm_serve::vm_drive::{Driven, drive};
+pub use vm_serve::drive::{Driven, Gate, NoGate, Short, drive};

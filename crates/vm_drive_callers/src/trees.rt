@@ -13,8 +13,8 @@ use vm_check::check;
 use vm_image::{Image, PlannedFault, blocks_of, read_image};
 use vm_page::{PageBuf, WORDS};
 use vm_rule::words::Pass;
-use vm_serve::vm_pool::{Pool, Shape};
-use vm_serve::vm_tree_rule::Tree;
+use vm_serve::pool::{Pool, Shape};
+use vm_serve::tree_rule::Tree;
 
 /// The first word of a page file with pages of 64 words, and of one with pages of 512.
 pub const MAGIC: u64 = 0x564D_4341_4348_4531;

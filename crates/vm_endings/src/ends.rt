@@ -1,7 +1,7 @@
 //! What is kept of a run after it.
 
-use vm_serve::vm_kind::{Tree, TreeOf, Words512};
-use vm_serve::vm_pool::Ended;
+use vm_serve::kind::{Tree, TreeOf, Words512};
+use vm_serve::pool::Ended;
 
 /// The tree of pages of 512 words.
 pub type LargeTree = TreeOf<Words512>;

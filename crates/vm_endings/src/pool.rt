@@ -1,3 +1,3 @@
 //! What the crates above name of `vm_pool` through this one.
 
-pub use vm_serve::vm_pool::{Ended, Shape};
+pub use vm_serve::pool::{Ended, Shape};

@@ -12,8 +12,8 @@ use vm_map::call::{Call, Pair, Reply};
 use vm_map::span::Span;
 use vm_map::window::Window;
 use vm_script::text::{Line, gathered_text, reply_text, row_text, said_text, shown_text};
-use vm_serve::vm_drive::compact::{Replies, Short};
-use vm_serve::vm_tree_rule::TreeFault;
+use vm_serve::drive::{Replies, Short};
+use vm_serve::tree_rule::TreeFault;
 
 // Why a call had no reply, as it is told.
 fn line_of(fault: TreeFault) -> Line

@@ -12,8 +12,8 @@ use std::alloc::{AllocError, Global};
 use vm_map::call::{Call, Pair};
 use vm_owner::Owner;
 use vm_script::text::{counters_text, unflushed_text};
-use vm_serve::vm_drive::compact::Replies;
-use vm_serve::vm_pool::Ended;
+use vm_serve::drive::Replies;
+use vm_serve::pool::Ended;
 
 /// The text of the replies, of the rows and of the counters.
 pub fn whole_text<U: Owner>(

@@ -11,7 +11,7 @@ use crate::walk::walk;
 use vm_block::Block;
 use vm_core::FRAMES;
 use vm_owner::Owner;
-use vm_step::vm_rule::words::{Pass, Words};
+use vm_step::rule::{Pass, Words};
 use vm_step::{Batch, Saw, give};
 
 /// What an allocation answers.

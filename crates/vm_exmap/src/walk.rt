@@ -8,7 +8,7 @@ use crate::interface::Alloc;
 use vm_block::Block;
 use vm_core::{Bundle, FRAMES};
 use vm_owner::Owner;
-use vm_step::vm_rule::words::{Pass, Words};
+use vm_step::rule::{Pass, Words};
 use vm_step::{At, Saw, Took, bload, take};
 
 /// What came of a visit to a bundle.

@@ -17,12 +17,12 @@ use vm_map::span::Span;
 use vm_map::window::Bound;
 use vm_owner::Owner;
 use vm_rule::words::Pass;
-use vm_serve::vm_exmap::Interface;
-use vm_serve::vm_kind::{OfSize, TreeOf, WordKeys};
-use vm_serve::vm_pool::Pool;
-use vm_serve::vm_tree_rule::TreeFault;
+use vm_serve::exmap::Interface;
+use vm_serve::kind::{OfSize, TreeOf, WordKeys};
+use vm_serve::pool::Pool;
+use vm_serve::tree_rule::TreeFault;
 use vm_tree_range::range_within;
-use vm_tree_retry::vm_tree_read::within::{get_within, window_within};
+use vm_tree_retry::tree_read::{get_within, window_within};
 use vm_tree_retry::within::{del_within, put_within, swap_within};
 
 /// One thread's own things: a pass, an interface, and a share of the pool.

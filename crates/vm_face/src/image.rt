@@ -13,8 +13,8 @@ use std::alloc::Global;
 use vm_block::MemBlock;
 use vm_check::{CheckFault, check};
 use vm_image::{ImageFault, blocks_of, read_image};
-use vm_serve::vm_kind::{OfSize, TreeOf, WordKeys};
-use vm_serve::vm_pool::Shape;
+use vm_serve::kind::{OfSize, TreeOf, WordKeys};
+use vm_serve::pool::Shape;
 
 /// Why there is no store.
 #[derive(Drop)]

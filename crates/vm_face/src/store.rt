@@ -17,11 +17,10 @@ use vm_block::PageBlock;
 use vm_core::Memory;
 use vm_owner::Owner;
 use vm_rule::words::Pass;
-use vm_serve::vm_evict::Flushed;
-use vm_serve::vm_exmap::Interface;
-use vm_serve::vm_kind::{OfSize, TreeOf, WordKeys};
-use vm_serve::vm_pool::save::{Saved, flush_and_close};
-use vm_serve::vm_pool::{Closed, Ended, Pool, Shape};
+use vm_serve::evict::Flushed;
+use vm_serve::exmap::Interface;
+use vm_serve::kind::{OfSize, TreeOf, WordKeys};
+use vm_serve::pool::{Closed, Ended, Pool, Saved, Shape, flush_and_close};
 
 /// The most hands of a store that may be out.
 pub const MOST_HANDS: u32 = 64;

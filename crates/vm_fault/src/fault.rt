@@ -10,7 +10,7 @@ use vm_block::PageBlock;
 use vm_core::{MAX_VERSION, StateWord};
 use vm_owner::Owner;
 use vm_page::PageBuf;
-use vm_step::vm_rule::words::{Pass, Words};
+use vm_step::rule::{Pass, Words};
 use vm_step::{
     At, Saw, Took, block_home, block_out, fill, install, lock_exclusive, look_silently, own, raise,
     release_evicted, release_silently,

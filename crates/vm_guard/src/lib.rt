@@ -10,6 +10,7 @@ mod group;
 mod held;
 mod opt;
 mod pair;
+pub mod rule;
 mod shared;
 mod single;
 mod standing;
@@ -24,6 +25,3 @@ pub use opt::OptGuard;
 pub use pair::write_two;
 pub use shared::SharedGuard;
 pub use single::read_word;
-
-// Libraries below that the crates above name through this one.
-pub use vm_rule;

@@ -3,6 +3,8 @@
 #![tactic(auto)]
 
 mod edits;
+pub mod guard;
+pub mod inner;
 mod kind;
 mod merges;
 mod pages;
@@ -19,7 +21,3 @@ pub use ranges::Ranges;
 pub use tree::{Tree, TreeOf};
 pub use windows::Windows;
 pub use word_keys::{OfSize, Sizes, WordKeys, Words64, Words512};
-
-// Libraries below that the crates above name through this one.
-pub use vm_guard;
-pub use vm_inner;

@@ -3,7 +3,7 @@
 use crate::kind::Kind;
 use vm_block::Block;
 use vm_guard::OptGuard;
-use vm_guard::vm_rule::words::{Pass, Words};
+use vm_guard::rule::{Pass, Words};
 use vm_owner::Owner;
 
 /// A kind of node with a buffer of a page's words, and the calls on it.

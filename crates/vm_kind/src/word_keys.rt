@@ -16,7 +16,7 @@ use crate::windows::Windows;
 use std::marker::PhantomData;
 use vm_block::Block;
 use vm_guard::OptGuard;
-use vm_guard::vm_rule::words::{Pass, Words};
+use vm_guard::rule::{Pass, Words};
 use vm_inner::{ChildPair, Fenced, add_edit, beside, child_at, new_root, remove_edit};
 use vm_map::call::{Call, Reply, Said, Swap};
 use vm_map::span::Span;

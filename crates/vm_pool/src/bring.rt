@@ -9,7 +9,7 @@ ghost use Rattle.vm_pool.specs.Brings.{Fetches, IsBring, IsFramed, IsSure, Keeps
 use crate::pool::Pool;
 use vm_block::PageBlock;
 use vm_clock::candidates;
-use vm_clock::vm_step::{Batch, Looks, Saw};
+use vm_clock::step::{Batch, Looks, Saw};
 use vm_core::FRAMES;
 use vm_evict::evict;
 use vm_evict::report::Report;

@@ -4,16 +4,14 @@
 mod bring;
 mod closing;
 mod ended;
+pub mod evict;
+pub mod exmap;
+pub mod guard;
 mod passes;
 mod pool;
+pub mod rule;
 pub mod save;
 
 pub use bring::{Bring, dry_cause};
 pub use ended::{Closed, Ended};
 pub use pool::{Pool, Shape};
-
-// Libraries below that the crates above name through this one.
-pub use vm_evict;
-pub use vm_exmap;
-pub use vm_guard;
-pub use vm_rule;

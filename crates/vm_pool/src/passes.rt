@@ -10,7 +10,7 @@ ghost use Rattle.vm_pool.specs.Parting.{HaveMet, Joins, Splits};
 use crate::pool::Pool;
 use std::alloc::Global;
 use vm_block::Block;
-use vm_clock::vm_step::{catch_up, follow_pass, hear_pass, join_pass, split_pass};
+use vm_clock::step::{catch_up, follow_pass, hear_pass, join_pass, split_pass};
 use vm_core::Memory;
 use vm_owner::Owner;
 use vm_rule::words::{Pass, Words};

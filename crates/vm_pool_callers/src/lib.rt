@@ -4,10 +4,8 @@
 
 pub mod first_page;
 pub mod kept_word;
+pub mod pool;
 pub mod round_trip;
 pub mod shared_page;
 pub mod two_pages;
 pub mod whole_again;
-
-// Libraries below that the crates above name through this one.
-pub use vm_pool;

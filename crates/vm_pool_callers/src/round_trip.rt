@@ -11,7 +11,7 @@ use vm_core::FRAMES;
 use vm_exmap::Interface;
 use vm_owner::Bare;
 use vm_pool::Pool;
-use vm_pool::vm_guard::{ExclusiveGuard, read_word};
+use vm_pool::guard::{ExclusiveGuard, read_word};
 use vm_rule::words::Pass;
 
 /// Brings the page, sets its word `i` to `w`, sweeps as many pages as a sweep can, brings the page again and reads that word: it is

@@ -12,7 +12,7 @@ use vm_block::{Block, PageBlock};
 use vm_core::Memory;
 use vm_exmap::Interface;
 use vm_owner::Owner;
-use vm_pool::vm_guard::SharedGuard;
+use vm_pool::guard::SharedGuard;
 use vm_pool::{Bring, Pool, Shape};
 use vm_rule::words::Pass;
 

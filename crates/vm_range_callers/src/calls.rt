@@ -16,7 +16,7 @@ use vm_map::window::Bound;
 use vm_page::WORDS;
 use vm_rule::words::Pass;
 use vm_step::look_silently;
-use vm_tree_range::vm_pool::Pool;
+use vm_tree_range::pool::Pool;
 use vm_tree_range::{TryRange, range, try_range};
 use vm_tree_rule::{Tree, TreeFault};
 

@@ -10,7 +10,7 @@ use vm_check::check;
 use vm_image::{blocks_of, read_image};
 use vm_kind::{OfSize, TreeOf, WordKeys};
 use vm_rule::words::Pass;
-use vm_tree_range::vm_pool::{Pool, Shape};
+use vm_tree_range::pool::{Pool, Shape};
 
 /// The first word of a page file with pages of 64 words, and of one with pages of 512.
 pub const MAGIC: u64 = 0x564D_4341_4348_4531;

@@ -8,7 +8,9 @@ ghost use Rattle.vm_rule.specs.Prelude.{Event};
 ghost use Rattle.vm_rule.specs.Kept.{IsRunKept, KeptFault, KeptFrom};
 
 pub mod began;
+pub mod block;
 mod opening;
+pub mod owner;
 mod started;
 pub mod view;
 pub mod words;
@@ -54,7 +56,3 @@ pub fn replay_kept(
 {
     replay(alloc, core, events)
 }
-
-// Libraries below that the crates above name through this one.
-pub use vm_block;
-pub use vm_owner;

@@ -9,8 +9,8 @@ ghost use Rattle.vm_rule.specs.{declared.view.Origin.Origin, declared.view.Table
 ghost use Rattle.vm_rule_laws.specs.{Alone.HasNothing, Noted.NotesStand, Standing.PageStands};
 ghost use Rattle.vm_rule_laws.specs.Known.{HasStepped, IsWholePass, kept_by, KnowsTable};
 
-use vm_rule::vm_block::Block;
-use vm_rule::vm_owner::Owner;
+use vm_rule::block::Block;
+use vm_rule::owner::Owner;
 
 /// Where a pass of a table lives, the table meets the rule, from the start that its shape has for proofs: what a table keeps between steps
 /// has one other case, that its first pass has not begun.

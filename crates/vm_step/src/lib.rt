@@ -7,6 +7,7 @@ mod choice;
 pub mod kinds;
 mod layout;
 mod operation;
+pub mod rule;
 mod saw;
 mod seat;
 mod state_words;
@@ -35,6 +36,3 @@ pub use kinds::write_back::{lock_write_back, upgrade};
 pub use layout::frame_place;
 pub use saw::{At, Saw};
 pub use took::Took;
-
-// Libraries below that the crates above name through this one.
-pub use vm_rule;

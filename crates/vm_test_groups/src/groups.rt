@@ -16,7 +16,7 @@ use vm_page::{LARGE, WORDS};
 use vm_rule::words::{Pass, Words};
 use vm_test_pages::blocks::used_pages;
 use vm_test_pages::passes::two_passes;
-use vm_test_pages::vm_pool::{Bring, Pool};
+use vm_test_pages::pool::{Bring, Pool};
 
 /// The pages 0, 1 and 2, which are evicted, are brought in.
 fn three_brought<B: PageBlock<N>, const N: usize>(

@@ -17,7 +17,7 @@ use vm_pool::{Pool, Shape};
 use vm_rule::words::{Pass, Words};
 use vm_step::{Took, pbload, pgive, ptake};
 use vm_test_pages::passes::zeros;
-use vm_workers::vm_pool_callers::whole_again::join_each;
+use vm_workers::pool_callers::join_each;
 
 /// How often each worker tries to take a number.
 const ROUNDS: u32 = 1_000;

@@ -4,7 +4,5 @@
 
 pub mod blocks;
 pub mod passes;
+pub mod pool;
 pub mod pools;
-
-// Libraries below that the crates above name through this one.
-pub use vm_pool;

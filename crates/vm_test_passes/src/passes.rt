@@ -12,9 +12,9 @@ use vm_page::{LARGE, PageBuf, WORDS};
 use vm_pool::{Bring, Closed, Pool, Shape};
 use vm_rule::words::Pass;
 use vm_workers::entries::{ThreeEntries, three_entries};
-use vm_workers::vm_pool_callers::first_page::{Opened, open_page};
-use vm_workers::vm_pool_callers::two_pages::{TwoPages, open_two};
-use vm_workers::vm_pool_callers::whole_again::{meet_and_join, split_and_join};
+use vm_workers::pool_callers::{
+    Opened, TwoPages, meet_and_join, open_page, open_two, split_and_join,
+};
 
 /// Blocks of two pages of zeros, which answer every call.
 fn two_blocks(alloc: Global) -> Result<Vec<MemBlock<WORDS>>, Fail>

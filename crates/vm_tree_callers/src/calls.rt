@@ -18,11 +18,11 @@ use vm_kind::{OfSize, Sizes, TreeOf, WordKeys, Words64};
 use vm_map::call::Reply;
 use vm_map::window::Bound;
 use vm_page::WORDS;
-use vm_pool_callers::vm_pool::{Bring, Pool, Shape};
+use vm_pool_callers::pool::{Bring, Pool, Shape};
 use vm_rule::words::Pass;
 use vm_step::look_silently;
-use vm_tree_retry::vm_tree_read::{TryRead, get, try_get, try_window, window};
-use vm_tree_retry::vm_tree_rule::{Tree, TreeFault};
+use vm_tree_retry::tree_read::{TryRead, get, try_get, try_window, window};
+use vm_tree_retry::tree_rule::{Tree, TreeFault};
 
 /// The first word of a page file with pages of 64 words.
 pub const MAGIC: u64 = 0x564D_4341_4348_4531;

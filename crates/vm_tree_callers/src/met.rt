@@ -7,10 +7,10 @@ ghost use Rattle.vm_tree_callers.specs.Pairs.{AnswersPut};
 use vm_block::Block;
 use vm_kind::{Edits, TreeOf};
 use vm_map::call::Reply;
-use vm_pool_callers::vm_pool::Pool;
+use vm_pool_callers::pool::Pool;
 use vm_rule::words::Pass;
-use vm_tree_retry::vm_tree_read::{TryRead, try_get};
-use vm_tree_retry::vm_tree_write::{TryWrite, try_put};
+use vm_tree_retry::tree_read::{TryRead, try_get};
+use vm_tree_retry::tree_write::{TryWrite, try_put};
 
 /// The reply of the get, where both calls were answered at once.
 pub fn put_meet_get<K: Edits, B: Block, const N: usize>(

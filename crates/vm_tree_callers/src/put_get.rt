@@ -8,8 +8,8 @@ use vm_block::Block;
 use vm_kind::{Edits, TreeOf};
 use vm_map::call::Reply;
 use vm_rule::words::{Pass, Words};
-use vm_tree_retry::vm_tree_read::{TryRead, try_get};
-use vm_tree_retry::vm_tree_write::{TryWrite, try_put};
+use vm_tree_retry::tree_read::{TryRead, try_get};
+use vm_tree_retry::tree_write::{TryWrite, try_put};
 
 /// The reply of the get, where both were answered at once.
 pub fn put_then_get<K: Edits, B: Block>(

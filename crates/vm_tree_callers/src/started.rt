@@ -17,9 +17,9 @@ use vm_kind::{Kind, TreeOf};
 use vm_map::call::Reply;
 use vm_owner::Owner;
 use vm_pool_callers::first_page::{Opened, open_page};
-use vm_pool_callers::vm_pool::{Bring, Pool, Shape};
+use vm_pool_callers::pool::{Bring, Pool, Shape};
 use vm_rule::words::Pass;
-use vm_tree_retry::vm_tree_read::{TryRead, try_get};
+use vm_tree_retry::tree_read::{TryRead, try_get};
 
 /// A pool that was just started, with its first pass, what `bring` answered for page 0 and for the root, and what the get answered then.
 pub struct Started<U: Owner, B: Block, const N: usize> {

@@ -1,3 +1,3 @@
 //! What the crates above name of `vm_tree_read` through this one.
 
-pub use vm_tree_retry::vm_tree_read::TryRead;
+pub use vm_tree_retry::tree_read::TryRead;

@@ -11,7 +11,7 @@ use vm_block::Block;
 use vm_kind::{Kind, TreeOf};
 use vm_map::call::Reply;
 use vm_rule::words::{Pass, Words};
-use vm_tree_retry::vm_tree_read::{TryRead, try_get};
+use vm_tree_retry::tree_read::{TryRead, try_get};
 
 /// The replies of two gets, where each was answered at once.
 pub fn get_twice<K: Kind, B: Block>(

@@ -8,7 +8,7 @@ use vm_block::Block;
 use vm_kind::{Kind, TreeOf};
 use vm_rule::words::{Pass, Words};
 use vm_step::Saw;
-use vm_tree_retry::vm_tree_read::{TryRead, try_get};
+use vm_tree_retry::tree_read::{TryRead, try_get};
 
 /// The evidence of a get that is to be tried again.
 pub fn why_again<K: Kind, B: Block>(

@@ -8,10 +8,10 @@ use vm_exmap::Interface;
 use vm_kind::{OfSize, TreeOf, WordKeys};
 use vm_map::call::Reply;
 use vm_page::WORDS;
-use vm_pool_callers::vm_pool::Pool;
+use vm_pool_callers::pool::Pool;
 use vm_rule::words::Pass;
-use vm_tree_retry::vm_tree_rule::{Tree, TreeFault};
-use vm_tree_retry::vm_tree_write::{TrySplit, TryWrite, try_del, try_put, try_split, try_swap};
+use vm_tree_retry::tree_rule::{Tree, TreeFault};
+use vm_tree_retry::tree_write::{TrySplit, TryWrite, try_del, try_put, try_split, try_swap};
 use vm_tree_retry::{del, put, swap};
 
 /// `put`.

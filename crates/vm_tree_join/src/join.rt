@@ -13,9 +13,9 @@ use crate::locks::{LocksOfFour, LocksOfThree, lock_four, lock_three};
 use crate::merge::{give_number, write_collapse, write_merge};
 use vm_block::Block;
 use vm_rule::words::{Pass, Words};
+use vm_tree_split::guard::{Deny, OptGuard};
+use vm_tree_split::kind::{Edits, TreeOf};
 use vm_tree_split::prepare::LockedPair;
-use vm_tree_split::vm_guard::{Deny, OptGuard};
-use vm_tree_split::vm_kind::{Edits, TreeOf};
 
 /// Locks the parent and both leaves, at the versions read, and makes the merge: the left leaf gets the words of `joined`, and the right leaf's page is freed.
 pub fn join_below<K: Edits, B: Block>(

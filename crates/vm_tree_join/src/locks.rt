@@ -8,9 +8,9 @@ ghost use Rattle.vm_tree_join.specs.Locks.{AreAllLocked, KnowsFree};
 
 use vm_block::Block;
 use vm_rule::words::{Pass, Words};
+use vm_tree_split::guard::{Deny, ExclusiveGuard, OptGuard};
+use vm_tree_split::kind::{Kind, TreeOf};
 use vm_tree_split::prepare::{LockedPair, lock_two};
-use vm_tree_split::vm_guard::{Deny, ExclusiveGuard, OptGuard};
-use vm_tree_split::vm_kind::{Kind, TreeOf};
 
 /// Three pages that are locked: one, and two more.
 pub struct LocksOfThree {

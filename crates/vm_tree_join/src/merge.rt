@@ -9,9 +9,9 @@ use vm_block::Block;
 use vm_core::FRAMES;
 use vm_rule::words::{Pass, Words};
 use vm_tree_split::draft::{Edited, Whole, redraft};
-use vm_tree_split::vm_guard::{ExclusiveGuard, Group, release_group};
-use vm_tree_split::vm_kind::{Edits, Kind, TreeOf};
-use vm_tree_split::vm_step::pgive;
+use vm_tree_split::guard::{ExclusiveGuard, Group, release_group};
+use vm_tree_split::kind::{Edits, Kind, TreeOf};
+use vm_tree_split::step::pgive;
 
 /// Makes the edit of the parent, whose words stand in `over`; the left leaf gets the words of `joined`, and the right one's page zeros. The three are released
 /// together: what is said becomes an entry there, and the right page's number is the pass's to give.

@@ -13,10 +13,10 @@ ghost use Rattle.vm_tree_merge.specs.Tried.{IsToMerge};
 use vm_block::Block;
 use vm_core::{MAX_VERSION, StateWord};
 use vm_inner::ChildPair;
-use vm_tree_join::vm_guard::OptGuard;
-use vm_tree_join::vm_kind::{Merges, TreeOf};
-use vm_tree_join::vm_rule::words::{Pass, Words};
-use vm_tree_join::vm_tree_rule::{Turn, enter};
+use vm_tree_join::guard::OptGuard;
+use vm_tree_join::kind::{Merges, TreeOf};
+use vm_tree_join::rule::{Pass, Words};
+use vm_tree_join::tree_rule::{Turn, enter};
 
 /// Which page beside the leaf its parent names, what both pages' keys are there, and the edit that takes the right one out.
 #[derive(Drop)]

@@ -2,12 +2,15 @@
 #![tactic(auto)]
 
 pub mod beside;
+pub mod exmap;
+pub mod guard;
+pub mod kind;
 pub mod pair;
+pub mod pool;
+pub mod step;
+pub mod tree_read;
+pub mod tree_rule;
+pub mod tree_split;
 pub mod tries;
 
 pub use tries::{Merge, try_merge};
-
-// Libraries below that the crates above name through this one.
-pub use vm_tree_join::{
-    vm_exmap, vm_guard, vm_kind, vm_pool, vm_step, vm_tree_read, vm_tree_rule, vm_tree_split,
-};

@@ -13,10 +13,10 @@ ghost use Rattle.vm_tree_merge.specs.Tried.{IsLeafRead, IsToMerge};
 
 use crate::beside::Neighbour;
 use vm_block::Block;
-use vm_tree_join::vm_guard::{Deny, OptGuard};
-use vm_tree_join::vm_kind::{Merges, TreeOf};
-use vm_tree_join::vm_rule::words::{Pass, Words};
-use vm_tree_join::vm_step::Saw;
+use vm_tree_join::guard::{Deny, OptGuard};
+use vm_tree_join::kind::{Merges, TreeOf};
+use vm_tree_join::rule::{Pass, Words};
+use vm_tree_join::step::Saw;
 use vm_tree_join::{join_below, join_last};
 
 /// The words of both as one leaf's: `rest`, those of the leaf without a key, and the neighbour's.

@@ -9,11 +9,11 @@ ghost use Rattle.vm_tree_merge.specs.Tried.{IsDelRead, IsFinalMerge, IsKnownAfte
 use crate::beside::{is_last, neighbour_to_join};
 use crate::pair::{merge_below, merge_last};
 use vm_block::Block;
-use vm_tree_join::vm_guard::OptGuard;
-use vm_tree_join::vm_kind::{Merges, TreeOf};
-use vm_tree_join::vm_rule::words::{Pass, Words};
-use vm_tree_join::vm_step::Saw;
-use vm_tree_join::vm_tree_rule::{Above, Reached, Turn};
+use vm_tree_join::guard::OptGuard;
+use vm_tree_join::kind::{Merges, TreeOf};
+use vm_tree_join::rule::{Pass, Words};
+use vm_tree_join::step::Saw;
+use vm_tree_join::tree_rule::{Above, Reached, Turn};
 
 /// What a try of a merge comes to.
 #[derive(Drop)]

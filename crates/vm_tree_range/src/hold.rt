@@ -21,9 +21,9 @@ use vm_map::window::Bound;
 use vm_rule::words::{Pass, Words};
 use vm_step::{Saw, frame_place};
 use vm_tree_read::answer::leaf_at;
-use vm_tree_read::vm_guard::{Deny, OptGuard};
-use vm_tree_read::vm_kind::{Kind, Ranges, TreeOf};
-use vm_tree_read::vm_tree_rule::{InPlace, Turn};
+use vm_tree_read::guard::{Deny, OptGuard};
+use vm_tree_read::kind::{Kind, Ranges, TreeOf};
+use vm_tree_read::tree_rule::{InPlace, Turn};
 
 /// How many leaves are held together at most.
 pub const LEAVES: u32 = 16;

@@ -1,12 +1,14 @@
 //! Ranges of the tree: all pairs from a key on and below a bound, answered from leaves that are held together, at the last of their locks.
 #![tactic(auto)]
 
+pub mod evict;
+pub mod exmap;
 pub mod hold;
+pub mod kind;
+pub mod pool;
 pub mod ranges;
+pub mod tree_read;
+pub mod tree_rule;
 
 pub use hold::{LEAVES, TryRange};
 pub use ranges::{range, range_within, try_range};
-
-// Libraries below that the crates above name through this one.
-pub use vm_tree_read;
-pub use vm_tree_read::{vm_evict, vm_exmap, vm_kind, vm_pool, vm_tree_rule};

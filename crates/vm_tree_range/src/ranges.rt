@@ -15,11 +15,11 @@ use vm_map::call::Reply;
 use vm_map::span::Span;
 use vm_map::window::Bound;
 use vm_rule::words::{Pass, Words};
+use vm_tree_read::exmap::Interface;
+use vm_tree_read::kind::{Ranges, TreeOf};
+use vm_tree_read::pool::Pool;
 use vm_tree_read::round::{Round, fetch};
-use vm_tree_read::vm_exmap::Interface;
-use vm_tree_read::vm_kind::{Ranges, TreeOf};
-use vm_tree_read::vm_pool::Pool;
-use vm_tree_read::vm_tree_rule::TreeFault;
+use vm_tree_read::tree_rule::TreeFault;
 
 /// All pairs from the key `low` on and below a bound, as they were at one moment. The leaves that cover them are held together, at most
 /// sixteen; where these do not reach the bound, the answer is how far they reach. `out` is empty, and has room for the pairs of sixteen leaves; it has

@@ -16,10 +16,10 @@ ghost use Rattle.vm_tree_read.specs.Reads.{IsAnswered, IsLeafBetween, TellReply}
 
 use vm_block::Block;
 use vm_node::Place;
-use vm_pool::vm_guard::{Deny, OptGuard};
-use vm_pool::vm_rule::words::{Pass, Words};
-use vm_tree_rule::vm_kind::{Kind, Pages, TreeOf};
-use vm_tree_rule::vm_step::{Saw, frame_place};
+use vm_pool::guard::{Deny, OptGuard};
+use vm_pool::rule::{Pass, Words};
+use vm_tree_rule::kind::{Kind, Pages, TreeOf};
+use vm_tree_rule::step::{Saw, frame_place};
 use vm_tree_rule::{InPlace, Reached, Turn, descend, reach};
 
 /// Whether the page is a leaf with just these fences, from the words loaded that tell its tag and its fences.

@@ -2,17 +2,17 @@
 #![tactic(auto)]
 
 pub mod answer;
+pub mod evict;
+pub mod exmap;
+pub mod guard;
+pub mod kind;
+pub mod pool;
 pub mod read;
 pub mod round;
+pub mod tree_rule;
 pub mod waiting;
 pub mod within;
 
 pub use read::{TryRead, try_get, try_window};
 pub use waiting::{get, window};
 pub use within::{get_within, window_within};
-
-// Libraries below that the crates above name through this one.
-pub use vm_pool;
-pub use vm_pool::{vm_evict, vm_exmap, vm_guard};
-pub use vm_tree_rule;
-pub use vm_tree_rule::vm_kind;

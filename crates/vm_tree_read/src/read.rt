@@ -15,10 +15,10 @@ use crate::answer::{answer, leaf_at};
 use vm_block::Block;
 use vm_map::call::Reply;
 use vm_map::window::{MOST_PAIRS, Window};
-use vm_pool::vm_guard::OptGuard;
-use vm_pool::vm_rule::words::{Pass, Words};
-use vm_tree_rule::vm_kind::{Kind, TreeOf, Windows};
-use vm_tree_rule::vm_step::{Saw, frame_place};
+use vm_pool::guard::OptGuard;
+use vm_pool::rule::{Pass, Words};
+use vm_tree_rule::kind::{Kind, TreeOf, Windows};
+use vm_tree_rule::step::{Saw, frame_place};
 use vm_tree_rule::{InPlace, Turn};
 
 /// What a try of a read answers.

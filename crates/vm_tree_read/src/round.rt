@@ -9,10 +9,10 @@ ghost use Rattle.vm_tree_read.specs.Waiting.{IsBringFault, IsNoBringFault, IsRea
 use crate::read::{TryRead, look_up, try_window};
 use vm_block::PageBlock;
 use vm_map::call::Reply;
-use vm_pool::vm_exmap::Interface;
-use vm_pool::vm_rule::words::Pass;
+use vm_pool::exmap::Interface;
+use vm_pool::rule::Pass;
 use vm_pool::{Bring, Pool};
-use vm_tree_rule::vm_kind::{Kind, TreeOf, Windows};
+use vm_tree_rule::kind::{Kind, TreeOf, Windows};
 use vm_tree_rule::{TreeFault, Turn};
 
 /// What a round came to.

@@ -11,10 +11,10 @@ use std::sync::Wait;
 use vm_block::PageBlock;
 use vm_map::call::Reply;
 use vm_pool::Pool;
-use vm_pool::vm_exmap::Interface;
-use vm_pool::vm_rule::words::Pass;
+use vm_pool::exmap::Interface;
+use vm_pool::rule::Pass;
 use vm_tree_rule::TreeFault;
-use vm_tree_rule::vm_kind::{Kind, TreeOf, Windows};
+use vm_tree_rule::kind::{Kind, TreeOf, Windows};
 
 /// The value at the key.
 pub fn get<K: Kind, R: Wait, B: PageBlock<N>, const N: usize>(

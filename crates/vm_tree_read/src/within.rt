@@ -9,10 +9,10 @@ use crate::round::{Round, get_round, window_round};
 use vm_block::PageBlock;
 use vm_map::call::Reply;
 use vm_pool::Pool;
-use vm_pool::vm_exmap::Interface;
-use vm_pool::vm_rule::words::Pass;
+use vm_pool::exmap::Interface;
+use vm_pool::rule::Pass;
 use vm_tree_rule::TreeFault;
-use vm_tree_rule::vm_kind::{Kind, TreeOf, Windows};
+use vm_tree_rule::kind::{Kind, TreeOf, Windows};
 
 /// As `get`, in at most `turns` rounds.
 pub fn get_within<K: Kind, B: PageBlock<N>, const N: usize>(

@@ -2,12 +2,11 @@
 #![tactic(auto)]
 
 pub mod round;
+pub mod tree_read;
+pub mod tree_rule;
+pub mod tree_write;
 pub mod waiting;
 pub mod within;
 
 pub use waiting::{del, put, swap};
 pub use within::{del_within, put_within, swap_within};
-
-// Libraries below that the crates above name through this one.
-pub use vm_tree_write;
-pub use vm_tree_write::{vm_tree_read, vm_tree_rule};

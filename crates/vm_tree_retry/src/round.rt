@@ -12,13 +12,13 @@ ghost use Rattle.vm_tree_retry.specs.Rounds.{MayTry};
 ghost use Rattle.vm_tree_retry.specs.Waiting.{IsDamagedForDel, IsDelRound, IsNeededByDel, IsNoRoomFault, IsPutFault, IsPutRound, IsRoomFault, IsWriteFault, IsWriteRound};
 
 use vm_block::PageBlock;
-use vm_tree_write::vm_exmap::Interface;
-use vm_tree_write::vm_kind::{Edits, Kind, Merges, TreeOf};
-use vm_tree_write::vm_pool::{Pool, dry_cause};
-use vm_tree_write::vm_rule::words::Pass;
-use vm_tree_write::vm_tree_read::round::{Round, fetch, settle};
-use vm_tree_write::vm_tree_rule::TreeFault;
-use vm_tree_write::vm_tree_split::{TrySplit, try_split};
+use vm_tree_write::exmap::Interface;
+use vm_tree_write::kind::{Edits, Kind, Merges, TreeOf};
+use vm_tree_write::pool::{Pool, dry_cause};
+use vm_tree_write::rule::Pass;
+use vm_tree_write::tree_read::{Round, fetch, settle};
+use vm_tree_write::tree_rule::TreeFault;
+use vm_tree_write::tree_split::{TrySplit, try_split};
 use vm_tree_write::write::{Tried, del_once, put_once, swap_once};
 
 /// A round of a del.

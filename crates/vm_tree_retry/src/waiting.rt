@@ -14,12 +14,12 @@ use crossbeam_utils::Backoff;
 use std::sync::Wait;
 use vm_block::PageBlock;
 use vm_map::call::{Reply, Swap};
-use vm_tree_write::vm_exmap::Interface;
-use vm_tree_write::vm_kind::{Edits, Merges, TreeOf};
-use vm_tree_write::vm_pool::Pool;
-use vm_tree_write::vm_rule::words::Pass;
-use vm_tree_write::vm_tree_read::round::Round;
-use vm_tree_write::vm_tree_rule::TreeFault;
+use vm_tree_write::exmap::Interface;
+use vm_tree_write::kind::{Edits, Merges, TreeOf};
+use vm_tree_write::pool::Pool;
+use vm_tree_write::rule::Pass;
+use vm_tree_write::tree_read::Round;
+use vm_tree_write::tree_rule::TreeFault;
 
 /// Takes the pair of the key out.
 pub fn del<K: Merges, R: Wait, B: PageBlock<N>, const N: usize>(

@@ -12,12 +12,12 @@ ghost use Rattle.vm_tree_retry.specs.Waiting.{IsDamagedForDel, IsDelReplied, IsD
 use crate::round::{del_round, put_round, swap_round};
 use vm_block::PageBlock;
 use vm_map::call::{Reply, Swap};
-use vm_tree_write::vm_exmap::Interface;
-use vm_tree_write::vm_kind::{Edits, Merges, TreeOf};
-use vm_tree_write::vm_pool::Pool;
-use vm_tree_write::vm_rule::words::Pass;
-use vm_tree_write::vm_tree_read::round::Round;
-use vm_tree_write::vm_tree_rule::TreeFault;
+use vm_tree_write::exmap::Interface;
+use vm_tree_write::kind::{Edits, Merges, TreeOf};
+use vm_tree_write::pool::Pool;
+use vm_tree_write::rule::Pass;
+use vm_tree_write::tree_read::Round;
+use vm_tree_write::tree_rule::TreeFault;
 
 /// As `del`, in at most `turns` rounds.
 pub fn del_within<K: Merges, B: PageBlock<N>, const N: usize>(

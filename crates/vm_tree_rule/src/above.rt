@@ -10,7 +10,7 @@ ghost use Rattle.vm_tree_rule.specs.Standing.{Awaits, IsOpened, IsStand};
 use crate::descent::{Stand, Top, enter_root, step};
 use crate::turn::Turn;
 use vm_block::Block;
-use vm_kind::vm_guard::OptGuard;
+use vm_kind::guard::OptGuard;
 use vm_kind::{Kind, TreeOf};
 use vm_rule::words::{Pass, Words};
 

@@ -10,7 +10,7 @@ ghost use Rattle.vm_kind.proofs.from_vm_guard.PageLoads.{words-then};
 ghost use Rattle.vm_kind.proofs.from_vm_guard.Reading.{loaded-then, none-loaded};
 
 use vm_block::Block;
-use vm_kind::vm_guard::OptGuard;
+use vm_kind::guard::OptGuard;
 use vm_node::Place;
 use vm_owner::Owner;
 use vm_rule::words::{Pass, Words};

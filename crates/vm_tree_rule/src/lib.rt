@@ -5,7 +5,9 @@ pub mod above;
 pub mod descent;
 mod fault;
 mod in_place;
+pub mod kind;
 pub mod seek;
+pub mod step;
 mod turn;
 
 pub use above::{Above, Reached, reach};
@@ -15,7 +17,3 @@ pub use in_place::InPlace;
 pub use seek::{Met, seek_full};
 pub use turn::Turn;
 pub use vm_kind::Tree;
-
-// Libraries below that the crates above name through this one.
-pub use vm_kind;
-pub use vm_step;

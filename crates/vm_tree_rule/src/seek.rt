@@ -13,7 +13,7 @@ use crate::descent::{enter_root, step};
 use crate::in_place::InPlace;
 use crate::turn::Turn;
 use vm_block::Block;
-use vm_kind::vm_guard::OptGuard;
+use vm_kind::guard::OptGuard;
 use vm_kind::{Pages, TreeOf};
 use vm_rule::words::{Pass, Words};
 use vm_step::frame_place;

@@ -2,7 +2,7 @@
 ghost use Rattle.vm_kind.specs.from_vm_guard.Denied.{AgainOrNeed};
 ghost use Rattle.vm_tree_rule.specs.Turns.{IsTurnOf};
 
-use vm_kind::vm_guard::Deny;
+use vm_kind::guard::Deny;
 use vm_step::Saw;
 
 /// Why a call on the tree gave no answer yet.

@@ -8,7 +8,7 @@ ghost use Rattle.vm_tree_split.specs.Drafts.{DraftsIn, IsDraftedAmong, IsRedraft
 use vm_block::Block;
 use vm_guard::ExclusiveGuard;
 use vm_rule::words::{Pass, Words};
-use vm_tree_read::vm_kind::{Edits, Pages, TreeOf};
+use vm_tree_read::kind::{Edits, Pages, TreeOf};
 
 /// The words that a draft is to have, told word by word.
 pub trait Wanted {

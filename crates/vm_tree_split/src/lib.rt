@@ -2,14 +2,15 @@
 #![tactic(auto)]
 
 pub mod draft;
+pub mod exmap;
+pub mod guard;
+pub mod kind;
+pub mod pool;
 pub mod prepare;
 pub mod split;
+pub mod step;
+pub mod tree_read;
+pub mod tree_rule;
 pub mod tries;
 
 pub use tries::{TrySplit, try_split};
-
-// Libraries below that the crates above name through this one.
-pub use vm_guard;
-pub use vm_step;
-pub use vm_tree_read;
-pub use vm_tree_read::{vm_exmap, vm_kind, vm_pool, vm_tree_rule};

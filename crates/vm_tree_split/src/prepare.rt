@@ -15,8 +15,8 @@ use vm_block::Block;
 use vm_guard::{Deny, ExclusiveGuard, Fresh, Group, NoRoom, OptGuard, fresh, room_for};
 use vm_rule::words::{Pass, Words};
 use vm_step::Batch;
-use vm_tree_read::vm_exmap::{Alloc, Interface};
-use vm_tree_read::vm_kind::{Kind, TreeOf};
+use vm_tree_read::exmap::{Alloc, Interface};
+use vm_tree_read::kind::{Kind, TreeOf};
 
 /// Two pages that are locked.
 pub struct LockedPair {

@@ -7,7 +7,7 @@ use crate::draft::{Edited, LeftHalf, Whole, redraft};
 use vm_block::Block;
 use vm_guard::{ExclusiveGuard, Group, release_group};
 use vm_rule::words::{Pass, Words};
-use vm_tree_read::vm_kind::{Edits, TreeOf};
+use vm_tree_read::kind::{Edits, TreeOf};
 
 /// Splits the full node `low` below the node `up`, which has room, into itself and the fresh page `right`, and releases the three together.
 pub fn write_split<K: Edits, B: Block>(

@@ -13,9 +13,9 @@ use vm_block::Block;
 use vm_guard::OptGuard;
 use vm_rule::words::{Pass, Words};
 use vm_step::Saw;
-use vm_tree_read::vm_exmap::Interface;
-use vm_tree_read::vm_kind::{Edits, TreeOf};
-use vm_tree_read::vm_tree_rule::{Met, Turn, seek_full};
+use vm_tree_read::exmap::Interface;
+use vm_tree_read::kind::{Edits, TreeOf};
+use vm_tree_read::tree_rule::{Met, Turn, seek_full};
 
 /// What a try of a split answers.
 #[derive(Debug, Drop)]

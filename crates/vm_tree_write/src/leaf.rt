@@ -12,9 +12,9 @@ ghost use Rattle.vm_tree_write.specs.Writes.{IsWriteOf};
 
 use vm_block::Block;
 use vm_rule::words::{Pass, Words};
-use vm_tree_merge::vm_guard::{Deny, OptGuard};
-use vm_tree_merge::vm_kind::{Edits, TreeOf};
-use vm_tree_merge::vm_tree_split::draft::{Edited, redraft};
+use vm_tree_merge::guard::{Deny, OptGuard};
+use vm_tree_merge::kind::{Edits, TreeOf};
+use vm_tree_merge::tree_split::{Edited, redraft};
 
 /// Locks the leaf whose words stand in `before`, makes the edit, and releases it: what is said becomes an entry there.
 pub fn write_leaf<K: Edits, B: Block>(

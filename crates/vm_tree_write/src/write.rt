@@ -23,12 +23,11 @@ use vm_block::Block;
 use vm_map::call::{Reply, Swap};
 use vm_node::Place;
 use vm_rule::words::{Pass, Words};
-use vm_tree_merge::vm_guard::{Deny, OptGuard};
-use vm_tree_merge::vm_kind::{Edits, Kind, Merges, TreeOf};
-use vm_tree_merge::vm_step::{Saw, frame_place};
-use vm_tree_merge::vm_tree_read::answer::{answer, leaf_at, leaf_below, read_leaf};
-use vm_tree_merge::vm_tree_read::read::find_in_place;
-use vm_tree_merge::vm_tree_rule::{InPlace, Reached, Turn};
+use vm_tree_merge::guard::{Deny, OptGuard};
+use vm_tree_merge::kind::{Edits, Kind, Merges, TreeOf};
+use vm_tree_merge::step::{Saw, frame_place};
+use vm_tree_merge::tree_read::{answer, find_in_place, leaf_at, leaf_below, read_leaf};
+use vm_tree_merge::tree_rule::{InPlace, Reached, Turn};
 use vm_tree_merge::{Merge, try_merge};
 
 /// What a try of a write answers.

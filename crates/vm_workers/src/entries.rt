@@ -12,7 +12,7 @@ use vm_core::Memory;
 use vm_exmap::Interface;
 use vm_guard::{Deny, OptGuard};
 use vm_owner::Owner;
-use vm_pool_callers::vm_pool::{Bring, Pool, Shape};
+use vm_pool_callers::pool::{Bring, Pool, Shape};
 use vm_rule::words::{Pass, Words};
 
 /// Why three entries were not made.

@@ -7,7 +7,7 @@ ghost use Rattle.vm_workers.specs.Works.{views_of};
 use crate::worker::PageWorker;
 use vm_block::Block;
 use vm_owner::Owner;
-use vm_pool_callers::vm_pool::Pool;
+use vm_pool_callers::pool::Pool;
 use vm_rule::words::Pass;
 
 /// Takes in the passes of the workers, which hold no page.

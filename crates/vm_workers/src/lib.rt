@@ -4,6 +4,7 @@
 
 pub mod entries;
 mod joins;
+pub mod pool_callers;
 pub mod puts;
 pub mod tally;
 mod walk;
@@ -11,6 +12,3 @@ pub mod worker;
 
 pub use joins::join_workers;
 pub use walk::{run_all, run_and_join};
-
-// Libraries below that the crates above name through this one.
-pub use vm_pool_callers;

@@ -13,7 +13,7 @@ use vm_core::Memory;
 use vm_exmap::Interface;
 use vm_guard::ExclusiveGuard;
 use vm_owner::Bare;
-use vm_pool_callers::vm_pool::Pool;
+use vm_pool_callers::pool::Pool;
 use vm_pool_callers::whole_again::join_each;
 use vm_rule::words::Pass;
 

@@ -9,7 +9,7 @@ use std::thread;
 use std::thread::Threads;
 use vm_block::Block;
 use vm_owner::Owner;
-use vm_pool_callers::vm_pool::Pool;
+use vm_pool_callers::pool::Pool;
 use vm_rule::words::{Pass, Words};
 use vm_step::look_silently;
 

@@ -1,0 +1,3 @@
+//! What the crates above name of `vm_inner` through this one.
+
+pub use vm_inner::Fenced;

@@ -1,0 +1,6 @@
+//! What the crates above name of `vm_tree_read` through this one.
+
+pub use vm_tree_split::tree_read::{
+    Round, TryRead, answer, fetch, find_in_place, get, get_within, leaf_at, leaf_below, read_leaf,
+    settle, try_get, try_window, window, window_within,
+};

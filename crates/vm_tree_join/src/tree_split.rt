@@ -1,0 +1,4 @@
+//! What the crates above name of `vm_tree_split` through this one.
+
+pub use vm_tree_split::draft::{Edited, redraft};
+pub use vm_tree_split::{TrySplit, try_split};

@@ -1,0 +1,3 @@
+//! What the crates above name of `vm_step` through this one.
+
+pub use vm_step::{Saw, frame_place};
