@@ -2,6 +2,7 @@
 #![tactic(auto)]
 
 pub mod call;
+pub mod key;
 pub mod plain;
 pub mod span;
 pub mod window;
