@@ -1,0 +1,6 @@
+pub mod Ranks
+pub mod Halves
+pub mod RoundTrip
+pub mod BytesLaws
+pub mod KeyMaps
+pub mod Samples

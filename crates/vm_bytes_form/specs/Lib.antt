@@ -1,0 +1,5 @@
+pub mod Strings
+pub mod Cuts
+pub mod Forms
+pub mod Bytes
+pub mod KeyMap
