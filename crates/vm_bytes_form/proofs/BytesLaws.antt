@@ -13,7 +13,7 @@ use Rattle.vm_bytes_form.proofs.Ranks.{rank-below, string_of_rank}
 use Rattle.vm_bytes_form.proofs.Halves.{key_words-few, pays}
 use Rattle.vm_bytes_form.proofs.RoundTrip.{length_form, length-string_words}
 
-same-tells : (a b : List ℕ) → same_words a b ≡ true → a ≡ b
+pub same-tells : (a b : List ℕ) → same_words a b ≡ true → a ≡ b
 same-tells [] [] is = refl
 same-tells [] (y ∷ ys) is = absurd (cc)
 same-tells (x ∷ xs) [] is = absurd (cc)
@@ -73,8 +73,9 @@ pairs_words [] keys = refl
 pairs_words (e ∷ es) keys = omega (arith, pairs_words es keys.1, key_words-are e.0 keys.0, length-append (heap es) (entry_block e), length-append (key_block e.0) (e.1 ∷ []))
 
 -- the node's size is what its words take
-pub size-taken : (n : ByteNode) → IsFitting 512 n → size bytes (ranked n) ≡ taken n
-size-taken n fits = omega (arith, pairs_words n.entries fits.keys, fence_words n.low fits.low, high_words n.high fits.high, length-append (fence_block n.high) (key_block n.low))
+pub size-taken : (n : ByteNode) → IsString 64 n.low → ((s : List ℕ) → n.high ≡ Some s → IsString 64 s × (1 ≤ length s)) → AreKeys n.entries
+    → size bytes (ranked n) ≡ taken n
+size-taken n low high keys = omega (arith, pairs_words n.entries keys, fence_words n.low low, high_words n.high high, length-append (fence_block n.high) (key_block n.low))
 
 module _ (w : List ℕ) (clean : bytes_clean w ≡ true) where
   fits : IsFitting 512 (node_in w)
@@ -94,7 +95,7 @@ module _ (w : List ℕ) (clean : bytes_clean w ≡ true) where
   high_below (Some s) each = let below = rank-is_below s (each s refl).0 in omega (arith, below)
 
   clean_fits : size bytes (ranked (node_in w)) ≤ 504
-  clean_fits = omega (arith, size-taken (node_in w) fits, fits.room)
+  clean_fits = omega (arith, size-taken (node_in w) fits.low fits.high fits.keys, fits.room)
 
 tag_none : (t : ℕ) → t ≢ 4 → t ≢ 5 → kind_of t ≡ 0
 tag_none t four five = grind (arith, nat_tests, four, five)

@@ -9,7 +9,7 @@ use Rattle.vm_bytes_form.specs.Bytes.{same_words}
 use Rattle.vm_bytes_form.specs.KeyMap.{before, lookup_key, put_key, del_key, ranks_of}
 use Rattle.vm_bytes_form.proofs.Ranks.{rank_before, in_order}
 
-same-refl : (s : List ℕ) → same_words s s ≡ true
+pub same-refl : (s : List ℕ) → same_words s s ≡ true
 same-refl [] = refl
 same-refl (a ∷ s) = and_from (eqb a a) (same_words s s) (eq-eqb a a refl) (same-refl s)
 

@@ -3,4 +3,5 @@ pub mod Halves
 pub mod RoundTrip
 pub mod BytesLaws
 pub mod KeyMaps
+pub mod EditLaws
 pub mod Samples

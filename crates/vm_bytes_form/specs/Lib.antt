@@ -3,3 +3,4 @@ pub mod Cuts
 pub mod Forms
 pub mod Bytes
 pub mod KeyMap
+pub mod NodeEdits

@@ -1,12 +1,15 @@
 //! Keys that are byte strings: the number that stands for each, and the words of a node with such keys. Definitions and laws.
 #![tactic(auto)]
 
-ghost use Rattle.std.specs.Prelude.{◌≡◌, ℕ, ◌+◌, ◌<◌, ◌≤◌, List, length};
-ghost use Rattle.vm_map.specs.Map.{Pairs, lookup_at, put_pair, del_pair};
+ghost use Rattle.std.specs.Prelude.{[], ◌≡◌, ℕ, ◌+◌, ◌<◌, ◌≤◌, List, length, slice_index_or};
+ghost use Rattle.vm_map.specs.Map.{Pairs, Rises, lookup_at, put_pair, del_pair};
 ghost use Rattle.vm_bytes_form.specs.KeyMap.{lookup_key, put_key, del_key, ranks_of};
 ghost use Rattle.vm_bytes_form.specs.Strings.{AreBytes, IsString, IsBefore, rank, rank_in, string_in};
 ghost use Rattle.vm_bytes_form.specs.Cuts.{pair_size, Pays};
-ghost use Rattle.vm_tree_model.specs.Layout.{IsLayout, pairs_size, cut_from};
+ghost use Rattle.vm_tree_model.specs.Edits.{AddsPair, IsFullFor, IsNewRoot, IsSplit, TakesPair};
+ghost use Rattle.vm_tree_model.specs.Layout.{IsClean, IsFullNode, IsLayout, pairs_size, cut_from};
+ghost use Rattle.vm_tree_model.specs.Page.{node_of, pairs_of};
+ghost use Rattle.vm_bytes_form.specs.NodeEdits.{del_in, kept_at_split, lower_half, put_in, root_over, upper_half};
 ghost use Rattle.vm_bytes_form.specs.Bytes.{bytes};
 ghost use Rattle.vm_bytes_form.specs.Forms.{Entry, AreKeys, ByteNode, IsFitting, form_of, node_in};
 
@@ -33,6 +36,14 @@ pub fn forms_are_read_back()
     ensures length { (size : ℕ) (n : ByteNode) → IsFitting size n → length (form_of size n) ≡ size }
 {}
 
+/// The words of a node that fits are clean, and they are the only clean words of that node: clean words are the form of what they are read as.
+#[tactic(auto, using(crate::proofs::EditLaws::form_clean, crate::proofs::EditLaws::clean_fitting, crate::proofs::EditLaws::clean_is_form))]
+pub fn forms_alone_are_clean()
+    ensures clean { (n : ByteNode) → IsFitting 512 n → IsClean bytes (form_of 512 n) }
+    ensures fits { (words : List ℕ) → IsClean bytes words → IsFitting 512 (node_in words) }
+    ensures only { (words : List ℕ) → IsClean bytes words → words ≡ form_of 512 (node_in words) }
+{}
+
 /// Pages of nodes with byte keys are a layout.
 #[tactic(auto, using(crate::proofs::BytesLaws::bytes_is_layout))]
 pub fn bytes_are_a_layout()
@@ -45,4 +56,16 @@ pub fn maps_are_over_ranks()
     ensures finds { (m : List Entry) (s : List ℕ) → AreKeys m → IsString 64 s → lookup_at (ranks_of m) (rank s) ≡ lookup_key m s }
     ensures puts { (m : List Entry) (s : List ℕ) (v : ℕ) → AreKeys m → IsString 64 s → put_pair (ranks_of m) (rank s) v ≡ ranks_of (put_key m s v) }
     ensures dels { (m : List Entry) (s : List ℕ) → AreKeys m → IsString 64 s → del_pair (ranks_of m) (rank s) ≡ ranks_of (del_key m s) }
+{}
+
+/// The form of an edited node is the page that the edit over ranks makes: a pair put where there is room for it, or taken out, the halves of a node with no
+/// room for a further pair, and a new root.
+pub fn edits_are_of_ranks()
+    ensures puts { (old s : List ℕ) (v low high : ℕ) → IsClean bytes old → Rises low high (pairs_of bytes old) → IsString 64 s → ¬ (IsFullFor bytes old (rank s))
+        → AddsPair bytes old (form_of 512 (put_in (node_in old) s v)) (rank s) v }
+    ensures dels { (old s : List ℕ) → IsClean bytes old → IsString 64 s → TakesPair bytes old (form_of 512 (del_in (node_in old) s)) (rank s) }
+    ensures splits { (old s : List ℕ) → IsClean bytes old → IsFullNode bytes (node_of bytes old)
+        → (slice_index_or (node_in old).entries (kept_at_split (node_in old).entries) ([], 0)).0 ≡ s → 1 ≤ length s
+        → IsSplit bytes old (form_of 512 (lower_half (node_in old) s)) (form_of 512 (upper_half (node_in old) s)) (rank s) }
+    ensures roots { (level left right : ℕ) (s : List ℕ) → IsString 64 s → IsNewRoot bytes (form_of 512 (root_over level left s right)) level left (rank s) right }
 {}
