@@ -107,7 +107,7 @@ fence-few k = go (eqb k RANK_END)
     go true = omega arith
     go false = key_words-few k
 
-passes : (w : List ℕ) (level low high : ℕ) → bytes_clean w ≡ true → get_or w 2 0 ≡ level → rank (node_in w).low ≡ low → high_rank (node_in w).high ≡ high
+passes : (w : List ℕ) (level low high : ℕ) → bytes_clean w ≡ true → (node_in w).level ≡ level → rank (node_in w).low ≡ low → high_rank (node_in w).high ≡ high
     → (level ≡ 0) ⊎ (1 ≤ length (map ranked_entry (node_in w).entries)) → (bytes_has_fences low high w ≡ true) × (bytes_has_form level w ≡ true)
 passes w level low high clean at from upto some =
     let pair : (eqb level 0 || leb 1 (length (node_in w).entries)) ≡ true = elim some [
@@ -117,10 +117,10 @@ passes w level low high clean at from upto some =
     (and_from _ _ (eq-eqb _ _ from) (eq-eqb _ _ upto), and_from _ _ (and_from _ _ clean (eq-eqb _ _ at)) pair)
 
 passed : (w : List ℕ) (level low high : ℕ) → bytes_has_fences low high w ≡ true → bytes_has_form level w ≡ true
-    → (bytes_clean w ≡ true) × (get_or w 2 0 ≡ level) × (rank (node_in w).low ≡ low) × (high_rank (node_in w).high ≡ high)
+    → (bytes_clean w ≡ true) × ((node_in w).level ≡ level) × (rank (node_in w).low ≡ low) × (high_rank (node_in w).high ≡ high)
 passed w level low high fences form =
     let (a, some) = and_parts _ (eqb level 0 || leb 1 (length (node_in w).entries)) form in
-    let (clean, at) = and_parts (bytes_clean w) (eqb (get_or w 2 0) level) a in
+    let (clean, at) = and_parts (bytes_clean w) (eqb (node_in w).level level) a in
     let (from, upto) = and_parts (eqb (rank (node_in w).low) low) (eqb (high_rank (node_in w).high) high) fences in
     (clean, eqb-true _ _ at, eqb-true _ _ from, eqb-true _ _ upto)
 
@@ -136,13 +136,18 @@ splits n separator fits full =
       above = (let le = p.above in omega (arith, le));
     }
 
+tag_is : (w : List ℕ) → (node_in w).tag ≡ get_or w 0 0
+unfolding node_in
+tag_is w = refl
+
 pub bytes_is_layout : IsLayout bytes
 bytes_is_layout = record {
   some_words = omega arith;
   some_magic = omega arith;
   some_keys = omega arith;
-  free_tag = λ w zeros. tag_none (get_or w 0 0) (λ e. omega (arith, zeros 0, e)) (λ e. omega (arith, zeros 0, e));
-  meta_tag = λ w magic node. let none : kind_of (get_or w 0 0) ≡ 0 = tag_none (get_or w 0 0) (λ e. omega (arith, magic, e)) (λ e. omega (arith, magic, e)) in omega (arith, none, node);
+  free_tag = λ w zeros. tag_none (node_in w).tag (λ e. omega (arith, zeros 0, e, tag_is w)) (λ e. omega (arith, zeros 0, e, tag_is w));
+  meta_tag = λ w magic node. let none : kind_of (node_in w).tag ≡ 0 = tag_none (node_in w).tag (λ e. omega (arith, magic, e, tag_is w))
+      (λ e. omega (arith, magic, e, tag_is w)) in omega (arith, none, node);
   clean_length = clean_length;
   clean_high = λ w clean. high_below w clean (node_in w).high (fits w clean).high;
   clean_fits = clean_fits;

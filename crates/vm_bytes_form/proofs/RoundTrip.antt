@@ -77,6 +77,7 @@ bytes-string_words (suc n) s rest bytes =
 
 -- the string at a slot whose place has its block
 string-there : (words s rest : List ℕ) (place : ℕ) → IsString 64 s → drop place words ≡ key_block s ++ rest → string_at words (place * 256 + length s) ≡ s
+unfolding string_at
 string-there words s rest place is at =
     let place_is : (place * 256 + length s) / 256 ≡ place = div-mul-add place 256 (length s) (omega (arith, is.fits)) in
     let long_is : (place * 256 + length s) % 256 ≡ length s = mod-mul-add place 256 (length s) (omega (arith, is.fits)) in
@@ -117,6 +118,7 @@ module _ (size : ℕ) (n : ByteNode) (fits : IsFitting size n) where
   front = n.tag ∷ length n.entries ∷ n.level ∷ fence_slot size n.low ∷ high_slot (size - length (key_block n.low)) n.high ∷ 0 ∷ 0 ∷ 0 ∷ slots (size - length (fence_blocks n)) n.entries ++ replicate (size - 8 - taken n) 0
 
   whole : form_of size n ≡ front ++ (heap n.entries ++ fence_blocks n)
+  unfolding form_of
   whole = ap (λ (l : List ℕ). n.tag ∷ length n.entries ∷ n.level ∷ fence_slot size n.low ∷ high_slot (size - length (key_block n.low)) n.high ∷ 0 ∷ 0 ∷ 0 ∷ l)
       (append_assoc (slots (size - length (fence_blocks n)) n.entries ++ replicate (size - 8 - taken n) 0) (heap n.entries) (fence_blocks n))
 
@@ -144,6 +146,7 @@ module _ (size : ℕ) (n : ByteNode) (fits : IsFitting size n) where
       ∙ drop-exact ((front ++ heap n.entries) ++ fence_block n.high) (key_block n.low) _ (omega (arith, length-append (front ++ heap n.entries) (fence_block n.high), length-append front (heap n.entries), length-front, length-back, fits.room))
 
   fence_read : (s rest : List ℕ) (end : ℕ) → IsString 64 s → drop (end - length (key_block s)) (form_of size n) ≡ key_block s ++ rest → string_at (form_of size n) (fence_slot end s) ≡ s
+  unfolding string_at
   fence_read [] rest end is at = refl
   fence_read (b ∷ s) rest end is at = string-there (form_of size n) (b ∷ s) rest (end - length (key_block (b ∷ s))) is at
 
@@ -163,6 +166,7 @@ module _ (size : ℕ) (n : ByteNode) (fits : IsFitting size n) where
       rw (slot_some s (size - length (key_block n.low)) of.1) (ap (λ (t : List ℕ). Some t) (fence_read s (key_block n.low) (size - length (key_block n.low)) of.0 (rw place (from_fences ∙ blocks))))
 
   entries_read : map (entry_at (form_of size n)) (take (length n.entries) (drop 8 (form_of size n))) ≡ n.entries
+  unfolding form_of
   entries_read =
       ap (λ (l : List ℕ). map (entry_at (form_of size n)) (take (length n.entries) l))
         (append_assoc (slots (size - length (fence_blocks n)) n.entries ++ replicate (size - 8 - taken n) 0) (heap n.entries) (fence_blocks n)
@@ -171,4 +175,5 @@ module _ (size : ℕ) (n : ByteNode) (fits : IsFitting size n) where
       ∙ entries-there (form_of size n) n.entries (size - length (fence_blocks n)) (fence_blocks n) fits.keys (omega (arith, fits.room)) from_heap
 
   pub read_back : node_in (form_of size n) ≡ n
+  unfolding form_of node_in
   read_back = λ i. record { tag = n.tag; level = n.level; low = low_read i; high = high_read n.high refl i; entries = entries_read i }

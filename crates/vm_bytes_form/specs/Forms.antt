@@ -67,13 +67,13 @@ abbrev pub taken : ByteNode → ℕ
 taken n = length n.entries + length (heap n.entries) + length (fence_blocks n)
 
 -- the words of a node on a page of so many
-abbrev pub form_of : ℕ → ByteNode → List ℕ
+unfoldable pub form_of : ℕ → ByteNode → List ℕ
 form_of size n =
     n.tag ∷ length n.entries ∷ n.level ∷ fence_slot size n.low ∷ high_slot (size - length (key_block n.low)) n.high ∷ 0 ∷ 0 ∷ 0
     ∷ slots (size - length (fence_blocks n)) n.entries ++ replicate (size - 8 - taken n) 0 ++ heap n.entries ++ fence_blocks n
 
 -- the string that a slot names, in any words
-abbrev pub string_at : List ℕ → ℕ → List ℕ
+unfoldable pub string_at : List ℕ → ℕ → List ℕ
 string_at words slot = take (min (slot % 256) 64) (bytes_of_words (drop (slot / 256) words))
 
 -- the entry that a slot names
@@ -81,7 +81,7 @@ abbrev pub entry_at : List ℕ → ℕ → Entry
 entry_at words slot = (string_at words slot, slice_index words (slot / 256 + words_for (slot % 256)))
 
 -- what any words mean: a count above the places for slots is read as those
-abbrev pub node_in : List ℕ → ByteNode
+unfoldable pub node_in : List ℕ → ByteNode
 node_in words = record {
   tag = slice_index words 0;
   level = slice_index words 2;
