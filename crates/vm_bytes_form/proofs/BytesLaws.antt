@@ -49,7 +49,7 @@ fitting-tells n is =
     record { room = leb-true (8 + taken n) 512 room; low = string-tells n.low low; high = high-tells n.high high; keys = keys-tell n.entries keys }
 
 -- the words of a key, by its rank
-key_words-are : (s : List ℕ) → IsString 64 s → key_words (rank s) ≡ length (key_block s)
+pub key_words-are : (s : List ℕ) → IsString 64 s → key_words (rank s) ≡ length (key_block s)
 key_words-are s is = ap (λ (t : List ℕ). words_for (length t)) (string_of_rank 64 s is.fits is.bytes) ∙ sym (length-string_words (words_for (length s)) s)
 
 rank-is_below : (s : List ℕ) → IsString 64 s → rank s < RANK_END

@@ -125,7 +125,7 @@ ranks-drop zero es = refl
 ranks-drop (suc n) [] = refl
 ranks-drop (suc n) (e ∷ es) = ranks-drop n es
 
-ranks-at : (i : ℕ) (es : List Entry) → i < length es → (get_or (ranks_of es) i (0, 0)).0 ≡ rank (get_or es i ([], 0)).0
+pub ranks-at : (i : ℕ) (es : List Entry) → i < length es → (get_or (ranks_of es) i (0, 0)).0 ≡ rank (get_or es i ([], 0)).0
 ranks-at i [] lt = absurd (omega (arith, lt))
 ranks-at zero (e ∷ es) lt = refl
 ranks-at (suc i) (e ∷ es) lt = ranks-at i es (omega (arith, lt))
@@ -233,7 +233,7 @@ module _ (old : List ℕ) (clean : IsClean bytes old) where
     }
 
 -- a root over two nodes
-rank-nil : rank [] ≡ 0
+pub rank-nil : rank [] ≡ 0
 unfolding rank_in
 rank-nil = refl
 

@@ -1,0 +1,6 @@
+pub mod KeyTests
+pub mod SlotLemmas
+pub mod HeaderLemmas
+pub mod KeySearch
+pub mod KeyFound
+mod Floor

@@ -1,0 +1,22 @@
+-- The words of a node that is being written.
+use Rattle.std.specs.Prelude.{ℕ, ◌≡◌, ◌+◌, List, ◌++◌, length, take, drop}
+use Rattle.vm_bytes_form.specs.Forms.{Entry, ByteNode, IsFitting, fence_blocks, form_of, heap}
+
+-- the words with a block of them written over from a place on
+abbrev pub over : List ℕ → ℕ → List ℕ → List ℕ
+over words at block = take at words ++ (block ++ drop (at + length block) words)
+
+-- the entries from one place on and before another
+abbrev pub entries_between : ℕ → ℕ → List Entry → List Entry
+entries_between from upto es = drop from (take upto es)
+
+-- the node with these entries behind its own
+abbrev pub with_more : ByteNode → List Entry → ByteNode
+with_more n es = record n { entries = n.entries ++ es }
+
+-- The words are those of a node that fits; so many pairs were put, and the lowest block stands at the end
+pub record IsDraft (words : List ℕ) (count end : ℕ) (n : ByteNode) : Type 0 where
+  pub fits : IsFitting 512 n
+  pub form : words ≡ form_of 512 n
+  pub count_is : count ≡ length n.entries
+  pub end_is : end + (length (heap n.entries) + length (fence_blocks n)) ≡ 512
