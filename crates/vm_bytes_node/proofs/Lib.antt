@@ -4,3 +4,11 @@ pub mod HeaderLemmas
 pub mod KeySearch
 pub mod KeyFound
 mod Floor
+pub mod FormLists
+pub mod KeyWords
+pub mod DraftForms
+pub mod Entries
+pub mod KeyPlaces
+pub mod Splices
+pub mod RoomLaw
+pub mod PairEdits

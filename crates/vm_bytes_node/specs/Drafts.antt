@@ -1,5 +1,5 @@
 -- The words of a node that is being written.
-use Rattle.std.specs.Prelude.{ℕ, ◌≡◌, ◌+◌, List, ◌++◌, length, take, drop}
+use Rattle.std.specs.Prelude.{ℕ, ◌≡◌, ◌+◌, ◌≤◌, List, [], ◌++◌, length, take, drop, Option}
 use Rattle.vm_bytes_form.specs.Forms.{Entry, ByteNode, IsFitting, fence_blocks, form_of, heap}
 
 -- the words with a block of them written over from a place on
@@ -10,9 +10,22 @@ over words at block = take at words ++ (block ++ drop (at + length block) words)
 abbrev pub entries_between : ℕ → ℕ → List Entry → List Entry
 entries_between from upto es = drop from (take upto es)
 
+-- a node with no pair
+abbrev pub empty_node : ℕ → ℕ → List ℕ → Option (List ℕ) → ByteNode
+empty_node tag level low high = record { tag = tag; level = level; low = low; high = high; entries = [] }
+
 -- the node with these entries behind its own
 abbrev pub with_more : ByteNode → List Entry → ByteNode
 with_more n es = record n { entries = n.entries ++ es }
+
+-- the node with other entries in place of those from one place on and before another
+abbrev pub spliced : ByteNode → ℕ → ℕ → List Entry → ByteNode
+spliced n from upto es = record n { entries = take from n.entries ++ (es ++ drop upto n.entries) }
+
+-- a draft's pairs have their slots, and its blocks their words, on the page
+pub record IsInPage (count end : ℕ) : Type 0 where
+  pub slots : count ≤ 504
+  pub blocks : end ≤ 512
 
 -- The words are those of a node that fits; so many pairs were put, and the lowest block stands at the end
 pub record IsDraft (words : List ℕ) (count end : ℕ) (n : ByteNode) : Type 0 where

@@ -1,3 +1,4 @@
 pub mod Limits
 pub mod Room
 pub mod Drafts
+pub mod Edited

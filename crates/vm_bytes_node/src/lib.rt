@@ -18,11 +18,14 @@
 //! call works on any words, also on words that no one validated. None takes memory. A call named `.._at` loads the words that it needs of a page where it stands.
 #![tactic(auto)]
 
+mod draft;
+mod edits;
 mod fences;
 mod order;
 mod search;
 mod slots;
 
+pub use edits::{del_edit, put_edit};
 pub use fences::{covers_at, has_fences_at, has_level_at, high_at, is_leaf_at, low_at, spare_at};
 pub use order::{is_before, pair_size, same_key};
 pub use search::{KeyBound, child_at, find_at, upper_bound_at};

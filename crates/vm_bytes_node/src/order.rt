@@ -1,6 +1,6 @@
 //! Keys in their order, and what they take of a node.
 
-ghost use Rattle.std.specs.Prelude.{◌≡◌, ◌<◌};
+ghost use Rattle.std.specs.Prelude.{◌≡◌, ◌+◌, ◌<◌, ◌≤◌, length};
 ghost use Rattle.vm_bytes_form.specs.Cuts.{pair_size as size_of_pair, words_for};
 ghost use Rattle.vm_bytes_form.specs.Strings.{AreBytes, IsString, RANK_END, rank};
 ghost use Rattle.vm_node.specs.Loads.{IsAnswer};
@@ -49,7 +49,9 @@ pub fn same_key(key: &Key, other: &Key) -> bool
 
 /// What a pair of this key takes of a node's room: its slot, the words of the key, and the value.
 pub fn pair_size(key: &Key) -> usize
-    ensures { result ≡ size_of_pair (rank key.now) }
+    ensures rank { result ≡ size_of_pair (rank key.now) }
+    ensures words { result ≡ 2 + words_for (length key.now) }
+    ensures few { result ≤ 10 }
 {
     2 + words_of(bytes_of(key).len())
 }
