@@ -12,3 +12,5 @@ pub mod KeyPlaces
 pub mod Splices
 pub mod RoomLaw
 pub mod PairEdits
+pub mod Cutting
+pub mod Splits

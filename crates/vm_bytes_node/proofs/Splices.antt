@@ -50,3 +50,28 @@ module _ (n : ByteNode) (before behind count : ℕ) (between : List Entry) (all 
 
     pub whole_fits : IsFitting 512 (with_more (with_more (with_more bare first) between) last)
     whole_fits = subst (IsFitting 512) (sym spliced_is) fits
+
+-- the halves of a page: its header with another fence, and a part of its pairs
+module _ (words : List ℕ) (page : List ℕ) (count end tag level : ℕ) (tag_read : tag ≡ get_or words 0 0) (level_read : level ≡ get_or words 2 0) where
+  tagged : tag ≡ (node_in words).tag
+  tagged = tag_read ∙ sym (tag_is words)
+
+  levelled : level ≡ (node_in words).level
+  levelled = level_read ∙ sym (level_is words)
+
+  pub lower_begun : (low high : List ℕ) → low ≡ (node_in words).low → IsDraft page count end (empty_node tag level low (Some high))
+      → IsDraft page count end (record (node_in words) { high = Some high; entries = [] })
+  lower_begun low high low_read draft =
+      let same : empty_node tag level low (Some high) ≡ record (node_in words) { high = Some high; entries = [] } =
+          λ i. empty_node (tagged i) (levelled i) (low_read i) (Some high) in
+      subst (IsDraft page count end) same draft
+
+  pub upper_begun : (low : List ℕ) (high : Option (List ℕ)) → high ≡ (node_in words).high → IsDraft page count end (empty_node tag level low high)
+      → IsDraft page count end (record (node_in words) { low = low; entries = [] })
+  upper_begun low high high_read draft =
+      let same : empty_node tag level low high ≡ record (node_in words) { low = low; entries = [] } =
+          λ i. empty_node (tagged i) (levelled i) low (high_read i) in
+      subst (IsDraft page count end) same draft
+
+pub last_entries : (from count : ℕ) (es : List Entry) → count ≡ length es → entries_between from count es ≡ drop from es
+last_entries from count es all = ap (drop from) (take_all count es (omega (arith, all)))

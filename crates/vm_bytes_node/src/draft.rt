@@ -111,8 +111,8 @@ impl Draft {
     }
 }
 
-// The pair at place `i` of a page in a buffer.
-fn pair_of(page: &PageBuf<512>, i: usize) -> (Key, u64)
+/// The pair at place `i` of a page in a buffer.
+pub(crate) fn pair_of(page: &PageBuf<512>, i: usize) -> (Key, u64)
     requires { i < MOST_SLOTS }
     ensures { i < length (node_in page.now).entries → (result.0 ≡ (slice_index_or (node_in page.now).entries i ([], 0)).0)
         × (result.1 ≡ (slice_index_or (node_in page.now).entries i ([], 0)).1) }

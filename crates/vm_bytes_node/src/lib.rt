@@ -21,12 +21,14 @@
 mod draft;
 mod edits;
 mod fences;
+mod halves;
 mod order;
 mod search;
 mod slots;
 
 pub use edits::{del_edit, put_edit};
 pub use fences::{covers_at, has_fences_at, has_level_at, high_at, is_leaf_at, low_at, spare_at};
+pub use halves::{new_root, split};
 pub use order::{is_before, pair_size, same_key};
 pub use search::{KeyBound, child_at, find_at, upper_bound_at};
 pub use slots::{count_at, key_at, string_at, value_at};
