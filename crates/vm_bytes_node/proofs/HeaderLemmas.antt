@@ -1,7 +1,6 @@
 -- What the header of any words says.
-use Rattle.std.proofs.Common.{◌≡◌, ◌≢◌, ℕ, ◌<◌, ◌≤◌, List, get_or, Option, Some, None, Bool, eqb, true, false, ◌⊎◌, inl, inr, if◌then◌else◌, refl, arith, sym, ap, ◌∙◌, unwrap_or}
-use Rattle.std.proofs.lemmas.Bool.{eqb-true, eq-eqb, ne_eqb, cases_eq, cases_lt}
-use Rattle.std.proofs.lemmas.Bool.Decides.{nat_tests}
+use Rattle.std.proofs.Common.{◌≡◌, ◌≢◌, ℕ, ◌<◌, ◌≤◌, List, get_or, Option, Some, None, Bool, eqb, true, false, inl, inr, if◌then◌else◌, refl, arith, sym, ap, ◌∙◌, unwrap_or}
+use Rattle.std.proofs.lemmas.Bool.{eq-eqb, ne_eqb, cases_eq, cases_lt}
 use Rattle.std.specs.Option.{option_map}
 use Rattle.vm_node.specs.Loads.{IsAnswer}
 use Rattle.vm_tree_model.specs.{Node.Covers, Page.node_of}

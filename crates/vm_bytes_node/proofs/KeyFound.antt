@@ -1,15 +1,14 @@
 -- What stands before the place where the keys begin to be above one: the key, or its child.
-use Rattle.std.proofs.Common.{◌≡◌, ◌≢◌, ◌⊎◌, inl, inr, ℕ, zero, suc, ◌+◌, ◌-◌, ◌<◌, ◌≤◌, List, ◌∷◌, refl, MatchOption, None, Option, Some}
+use Rattle.std.proofs.Common.{◌≡◌, ◌≢◌, ◌⊎◌, inl, inr, ℕ, zero, suc, ◌+◌, ◌<◌, ◌≤◌, List, ◌∷◌, refl, MatchOption, None, Option, Some}
 use Rattle.std.proofs.Common.{[], length, get_or, subst, sym, ap, unwrap_or, ◌∙◌, arith}
-use Rattle.std.proofs.lemmas.Bool.{cases_lt}
 use Rattle.vm_map.specs.Map.{floor_pair, lookup_at, next_key, Pairs, Rises}
 use Rattle.std.specs.Option.{option_map}
 use Rattle.vm_tree_model.specs.Page.{pairs_of}
-use Rattle.vm_node.specs.Places.{HasSides, IsBound, place_of}
+use Rattle.vm_node.specs.Places.{HasSides, IsBound}
 use Rattle.vm_node.proofs.Bounds.{bound_place, no_index}
 use Rattle.vm_inner.specs.Found.{FindsChildIn, FindsNoChild}
 use Rattle.vm_bytes_node.proofs.Floor.{floor_none, floor_before, found_floor, next_behind, next_last}
-use Rattle.vm_bytes_form.specs.Bytes.{bytes, ranked_entry}
+use Rattle.vm_bytes_form.specs.Bytes.{bytes}
 use Rattle.vm_bytes_form.specs.Forms.{Entry, node_in}
 use Rattle.vm_bytes_form.specs.KeyMap.{ranks_of}
 use Rattle.vm_bytes_node.proofs.KeySearch.{length-pairs}

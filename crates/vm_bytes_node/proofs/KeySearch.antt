@@ -2,7 +2,6 @@
 use Rattle.std.proofs.Common.{◌≡◌, ℕ, ◌+◌, ◌-◌, ◌*◌, ◌/◌, ◌^◌, ◌<◌, ◌≤◌, List, [], length, get_or, subst, ap, sym, ◌∙◌}
 use Rattle.std.proofs.Common.{arith, MatchOption, None, Option, Some}
 use Rattle.std.proofs.lemmas.List.{length-map}
-use Rattle.vm_map.specs.Map.{Pairs}
 use Rattle.vm_tree_model.specs.Page.{pairs_of}
 use Rattle.vm_node.specs.Loads.{Tells}
 use Rattle.vm_node.specs.Places.{HasSides, IsBound}
@@ -10,7 +9,7 @@ use Rattle.vm_node.proofs.Searches.{IsNarrowed}
 use Rattle.vm_node.proofs.Sizes.{halved}
 use Rattle.vm_node.proofs.Telling.{Joins, told_none, told_then, told_so}
 use Rattle.vm_bytes_form.specs.Bytes.{bytes, ranked_entry}
-use Rattle.vm_bytes_form.specs.Forms.{Entry, node_in}
+use Rattle.vm_bytes_form.specs.Forms.{node_in}
 use Rattle.vm_bytes_form.specs.Strings.{rank}
 use Rattle.vm_bytes_form.proofs.EditLaws.{ranks-at}
 

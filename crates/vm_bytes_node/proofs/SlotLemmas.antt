@@ -1,12 +1,12 @@
 -- What the slots of any words name.
-use Rattle.std.proofs.Common.{◌≡◌, ◌⊎◌, inl, inr, ℕ, zero, suc, ◌+◌, ◌-◌, ◌*◌, ◌/◌, ◌%◌, ◌<◌, ◌≤◌, List, [], ◌∷◌, ◌++◌, length, get_or, map, min, take, drop, refl, sym, ap, ◌∙◌, arith, length-append, length-drop}
+use Rattle.std.proofs.Common.{◌≡◌, ◌⊎◌, inl, inr, ℕ, zero, suc, ◌+◌, ◌-◌, ◌*◌, ◌/◌, ◌%◌, ◌<◌, ◌≤◌, List, [], ◌∷◌, ◌++◌, length, get_or, min, take, drop, refl, sym, ap, ◌∙◌, arith, length-drop}
 use Rattle.std.proofs.lemmas.Bool.{cases_lt}
-use Rattle.std.proofs.lemmas.List.{drop_all, get_or-drop, get_or-map, get_or-take, length-map, length-take, take-append-le, take-take, take_all, take_more, append_assoc}
+use Rattle.std.proofs.lemmas.List.{drop_all, get_or-drop, get_or-map, get_or-take, length-map, length-take, take-append-le, take_all, take_more}
 use Rattle.std.specs.Int.{w64, to_be_bytes}
 use Rattle.vm_page.specs.Bytes.{bytes_of_words}
-use Rattle.vm_page.proofs.Words.{bytes_of-append, bytes_of-one, length-bytes_of}
+use Rattle.vm_page.proofs.Words.{bytes_of-append, bytes_of-one}
 use Rattle.vm_bytes_form.specs.Cuts.{words_for}
-use Rattle.vm_bytes_form.specs.Forms.{Entry, entry_at, node_in, string_at}
+use Rattle.vm_bytes_form.specs.Forms.{entry_at, node_in, string_at}
 
 module _ (words : List ℕ) (size : length words ≡ 512) where
   behind : length (drop 8 words) ≡ 504

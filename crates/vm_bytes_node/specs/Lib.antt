@@ -1,4 +1,2 @@
 pub mod Limits
 pub mod Room
-pub mod Drafts
-pub mod Edited

@@ -14,21 +14,17 @@
 //! A slot is place * 256 + length: the string stands in as many words as it needs from this place on, the greatest byte first, with zeros behind
 //! its end. The word behind a pair's key is the value, or in an inner node the child's page.
 //!
-//! So a node's words are one function of its tag, level, fences and pairs (`form_of`). Each edit makes the words of its result anew, in a page of its own. Every
-//! call works on any words, also on words that no one validated. None takes memory. A call named `.._at` loads the words that it needs of a page where it stands.
+//! So a node's words are one function of its tag, level, fences and pairs (`form_of`). Here they are read, word by word, of a page where it stands. Every call
+//! works on any words, also on words that no one validated: it loads a bounded number of them, and tells what it answers of each page that has these words.
+//! None takes memory.
 #![tactic(auto)]
 
-mod draft;
-mod edits;
 mod fences;
-mod halves;
 mod order;
 mod search;
 mod slots;
 
-pub use edits::{del_edit, put_edit};
 pub use fences::{covers_at, has_fences_at, has_level_at, high_at, is_leaf_at, low_at, spare_at};
-pub use halves::{new_root, split};
-pub use order::{is_before, pair_size, same_key};
+pub use order::{in_range, is_before, pair_size, same_key, words_of};
 pub use search::{KeyBound, child_at, find_at, upper_bound_at};
-pub use slots::{count_at, key_at, string_at, value_at};
+pub use slots::{HEADER, count_at, key_at, string_at, value_at};

@@ -57,7 +57,7 @@ pub fn pair_size(key: &Key) -> usize
 }
 
 /// How many words a string of so many bytes takes.
-pub(crate) fn words_of(bytes: usize) -> usize
+pub fn words_of(bytes: usize) -> usize
     ensures { result ≡ words_for bytes }
 {
     bytes.div_ceil(8)

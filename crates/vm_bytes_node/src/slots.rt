@@ -12,7 +12,7 @@ use vm_node::Place;
 use vm_page::LARGE;
 
 /// How many words stand before the slots.
-pub(crate) const HEADER: usize = 8;
+pub const HEADER: usize = 8;
 
 /// How many pairs the page has; a count above the number of words behind the header is read as that. One word is loaded.
 pub fn count_at<P: Place>(place: &mut P) -> usize

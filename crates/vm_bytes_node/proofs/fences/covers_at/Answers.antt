@@ -1,4 +1,4 @@
-use Rattle.std.proofs.Common.{◌≡◌, Some, None, sym, ap, arith, ◌∙◌}
+use Rattle.std.proofs.Common.{arith}
 use Rattle.vm_node.proofs.Telling.{told_then, told_so}
 use Rattle.vm_bytes_node.proofs.HeaderLemmas.{covers_below, covers_endless}
 use Rattle.vm_bytes_node.proofs.fences.covers_at.Goals as goal

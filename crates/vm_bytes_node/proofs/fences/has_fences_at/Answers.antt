@@ -1,4 +1,4 @@
-use Rattle.std.proofs.Common.{◌≡◌, ℕ, List, Option, Bool, true, false, sym, ap, subst, unwrap_or, ◌∙◌, arith}
+use Rattle.std.proofs.Common.{◌≡◌, ℕ, List, Option, Bool, sym, ap, unwrap_or, ◌∙◌, arith}
 use Rattle.std.specs.Option.{option_map}
 use Rattle.vm_node.specs.Loads.{IsAnswer}
 use Rattle.vm_node.proofs.Telling.{told_then, told_so}

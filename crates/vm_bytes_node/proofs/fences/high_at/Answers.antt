@@ -1,4 +1,4 @@
-use Rattle.std.proofs.Common.{◌≡◌, ℕ, List, Some, get_or, sym, ap, arith, ◌∙◌}
+use Rattle.std.proofs.Common.{ℕ, List, Some, sym, ap, arith, ◌∙◌}
 use Rattle.vm_bytes_form.specs.Forms.{string_at}
 use Rattle.vm_node.proofs.Telling.{told_word, told_then, told_so}
 use Rattle.vm_bytes_node.proofs.HeaderLemmas.{high_none, high_some}

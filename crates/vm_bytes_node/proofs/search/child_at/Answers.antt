@@ -1,5 +1,5 @@
 -- The child is that of the pair before the place where the keys begin to be above.
-use Rattle.std.proofs.Common.{◌≡◌, ℕ, suc, ◌-◌, ◌<◌, length, arith}
+use Rattle.std.proofs.Common.{◌≡◌, suc, ◌-◌, ◌<◌, length, arith}
 use Rattle.vm_bytes_form.specs.Forms.{node_in}
 use Rattle.vm_bytes_form.specs.Strings.{rank}
 use Rattle.vm_node.proofs.Telling.{told_then, told_so}

@@ -1,5 +1,5 @@
 -- The value found is that of the pair before the place where the keys begin to be above.
-use Rattle.std.proofs.Common.{◌≡◌, ◌≢◌, ◌⊎◌, inl, inr, ℕ, suc, ◌+◌, ◌-◌, ◌<◌, length, sym, ◌∙◌, arith}
+use Rattle.std.proofs.Common.{◌≡◌, ◌≢◌, ◌⊎◌, inl, inr, suc, ◌-◌, ◌<◌, length, sym, ◌∙◌, arith}
 use Rattle.vm_tree_model.specs.Page.{pairs_of}
 use Rattle.vm_bytes_form.specs.Bytes.{bytes}
 use Rattle.vm_bytes_form.specs.Forms.{node_in}

@@ -1,5 +1,5 @@
 -- The value stands behind the key's words, and is 0 where that is past the page's end.
-use Rattle.std.proofs.Common.{◌≡◌, ℕ, ◌+◌, ◌/◌, ◌%◌, ◌<◌, ◌≤◌, [], List, length, get_or, sym, ap, ◌∙◌, arith}
+use Rattle.std.proofs.Common.{◌≡◌, ℕ, ◌+◌, ◌/◌, ◌%◌, ◌<◌, [], List, length, get_or, sym, ap, ◌∙◌, arith}
 use Rattle.std.proofs.lemmas.List.{get_or_past}
 use Rattle.vm_bytes_form.specs.Cuts.{words_for}
 use Rattle.vm_bytes_form.specs.Forms.{Entry, node_in}

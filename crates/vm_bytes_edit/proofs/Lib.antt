@@ -1,0 +1,10 @@
+pub mod FormLists
+pub mod KeyWords
+pub mod DraftForms
+pub mod Entries
+pub mod KeyPlaces
+pub mod RoomLaw
+pub mod PairEdits
+pub mod Splices
+pub mod Cutting
+pub mod Splits
