@@ -1,8 +1,8 @@
 -- The sizes of the first pairs, and where a node is cut.
-use Rattle.std.proofs.Common.{◌≡◌, ℕ, zero, suc, ◌+◌, ◌*◌, ◌<◌, ◌≤◌, List, [], ◌∷◌, ◌++◌, length, get_or, drop, take, Bool, true, false, leb, if◌then◌else◌, nat_le, refl, sym, ap, ◌∙◌, arith}
+use Rattle.std.proofs.Common.{◌≡◌, ℕ, zero, suc, ◌+◌, ◌*◌, ◌<◌, ◌≤◌, List, [], ◌∷◌, ◌++◌, length, get_or, drop, take, false, leb, refl, sym, ap, ◌∙◌, arith}
 use Rattle.std.proofs.lemmas.Bool.{le-leb}
 use Rattle.std.proofs.lemmas.Bool.Decides.{nat_tests}
-use Rattle.std.proofs.lemmas.List.{drop_all, drop_more, take_all, take_more}
+use Rattle.std.proofs.lemmas.List.{drop_more, take_more}
 use Rattle.vm_map.specs.Map.{Pairs, Rises}
 use Rattle.vm_tree_model.specs.Layout.{cut_from, pairs_size}
 use Rattle.vm_node.proofs.Bounds.{at_least}
@@ -33,8 +33,8 @@ pub cut_more : (each : ℕ → ℕ) (got whole all i key size : ℕ) (m : Pairs)
     → all ≡ i + cut_from each got whole (drop i m) → all ≡ i + 1 + cut_from each (got + size) whole (drop (i + 1) m)
 cut_more each got whole all i key size m inside less is size_is so_far =
     let step : cut_from each got whole (drop i m) ≡ suc (cut_from each (got + size) whole (drop (i + 1) m)) =
-        ap (cut_from each got whole) (drop_more m i (0, 0) inside) ∙ cut_next each got whole (get_or m i (0, 0)) (drop (i + 1) m) less
-        ∙ ap (λ (s : ℕ). suc (cut_from each (got + s) whole (drop (i + 1) m))) (ap each is ∙ sym size_is) in
+    ap (cut_from each got whole) (drop_more m i (0, 0) inside) ∙ cut_next each got whole (get_or m i (0, 0)) (drop (i + 1) m) less
+    ∙ ap (λ (s : ℕ). suc (cut_from each (got + s) whole (drop (i + 1) m))) (ap each is ∙ sym size_is) in
     omega (arith, so_far, step)
 
 -- a key behind the first one is not the lowest

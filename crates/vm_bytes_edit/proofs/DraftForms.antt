@@ -1,9 +1,9 @@
 -- The words of a node change as its fences and pairs come.
-use Rattle.std.proofs.Common.{◌≡◌, ℕ, zero, suc, ◌+◌, ◌-◌, ◌*◌, ◌<◌, ◌≤◌, List, [], ◌∷◌, ◌++◌, length, set, replicate, Option, Some, None, refl, sym, ap, subst, ◌∙◌, arith, length-append}
+use Rattle.std.proofs.Common.{◌≡◌, ℕ, ◌+◌, ◌-◌, ◌*◌, ◌<◌, ◌≤◌, List, [], ◌∷◌, ◌++◌, length, set, replicate, Some, None, refl, sym, ap, subst, ◌∙◌, arith, length-append}
 use Rattle.std.proofs.lemmas.List.{append_assoc, append-nil, length-replicate, replicate-append-replicate}
 use Rattle.vm_bytes_form.specs.Strings.{IsString}
 use Rattle.vm_bytes_form.specs.Cuts.{words_for}
-use Rattle.vm_bytes_form.specs.Forms.{Entry, ByteNode, IsFitting, entry_block, fence_block, fence_blocks, fence_slot, form_of, heap, high_slot, key_block, slots, taken}
+use Rattle.vm_bytes_form.specs.Forms.{Entry, ByteNode, IsFitting, entry_block, fence_blocks, fence_slot, form_of, heap, high_slot, key_block, slots, taken}
 use Rattle.vm_bytes_form.proofs.RoundTrip.{length-string_words}
 use Rattle.vm_bytes_edit.specs.Drafts.{empty_node, IsDraft, over, with_more}
 use Rattle.vm_bytes_edit.proofs.FormLists.{over_exact, set_exact}
@@ -39,9 +39,9 @@ block-below : (tag count level low high : ℕ) (page front back block : List ℕ
 block-below tag count level low high page front back block all rest at is sum place =
     let before : List ℕ = tag ∷ count ∷ level ∷ low ∷ high ∷ 0 ∷ 0 ∷ 0 ∷ (front ++ replicate rest 0) in
     let parted : page ≡ before ++ (replicate (length block) 0 ++ back) = is ∙ ap (λ (l : List ℕ). tag ∷ count ∷ level ∷ low ∷ high ∷ 0 ∷ 0 ∷ 0 ∷ l)
-        (ap (λ (l : List ℕ). front ++ (l ++ back)) (zeros all rest (length block) sum)
-        ∙ ap (λ (l : List ℕ). front ++ l) (append_assoc (replicate rest 0) (replicate (length block) 0) back)
-        ∙ sym (append_assoc front (replicate rest 0) (replicate (length block) 0 ++ back))) in
+    (ap (λ (l : List ℕ). front ++ (l ++ back)) (zeros all rest (length block) sum)
+    ∙ ap (λ (l : List ℕ). front ++ l) (append_assoc (replicate rest 0) (replicate (length block) 0) back)
+    ∙ sym (append_assoc front (replicate rest 0) (replicate (length block) 0 ++ back))) in
     over_exact page before (replicate (length block) 0) back block at parted
     (omega (arith, place, length-append front (replicate rest 0), length-replicate {A = ℕ} rest 0)) (length-replicate {A = ℕ} (length block) 0)
     ∙ ap (λ (l : List ℕ). tag ∷ count ∷ level ∷ low ∷ high ∷ 0 ∷ 0 ∷ 0 ∷ l) (append_assoc front (replicate rest 0) (block ++ back))
@@ -161,8 +161,13 @@ module _ (n : ByteNode) (key : List ℕ) (value : ℕ) where
   behind = heap n.entries ++ fence_blocks n
 
   pub taken-more : taken more ≡ taken n + (2 + words_for (length key))
-  taken-more = omega (arith, length-append n.entries ((key, value) ∷ []), ap length (heap-push n.entries (key, value)),
-      length-append (entry_block (key, value)) (heap n.entries), length-entry (key, value))
+  taken-more = omega (
+    arith,
+    length-append n.entries ((key, value) ∷ []),
+    ap length (heap-push n.entries (key, value)),
+    length-append (entry_block (key, value)) (heap n.entries),
+    length-entry (key, value),
+  )
 
   -- the form with a further pair
   more-is : (place : ℕ) → place ≡ base - length (heap n.entries) - length (entry_block (key, value))
@@ -171,17 +176,17 @@ module _ (n : ByteNode) (key : List ℕ) (value : ℕ) where
       ≡ form_of 512 more
   more-is place is = sym (form-is more
       ∙ ap (λ (c : ℕ). n.tag ∷ c ∷ n.level ∷ fence_slot 512 n.low ∷ high_slot (512 - length (key_block n.low)) n.high ∷ 0 ∷ 0 ∷ 0
-        ∷ (slots base (n.entries ++ (key, value) ∷ []) ++ (replicate (504 - taken more) 0 ++ (heap (n.entries ++ (key, value) ∷ []) ++ fence_blocks n))))
-        (length-append n.entries ((key, value) ∷ []))
+      ∷ (slots base (n.entries ++ (key, value) ∷ []) ++ (replicate (504 - taken more) 0 ++ (heap (n.entries ++ (key, value) ∷ []) ++ fence_blocks n))))
+      (length-append n.entries ((key, value) ∷ []))
       ∙ ap (λ (l : List ℕ). n.tag ∷ (length n.entries + 1) ∷ n.level ∷ fence_slot 512 n.low ∷ high_slot (512 - length (key_block n.low)) n.high ∷ 0 ∷ 0 ∷ 0 ∷ l)
-        (ap (λ (l : List ℕ). l ++ (replicate (504 - taken more) 0 ++ (heap (n.entries ++ (key, value) ∷ []) ++ fence_blocks n)))
-        (slots-push base n.entries (key, value)
-        ∙ ap (λ (p : ℕ). slots base n.entries ++ ((p * 256 + length key) ∷ [])) (sym is))
-        ∙ append_assoc (slots base n.entries) ((place * 256 + length key) ∷ []) _
-        ∙ ap (λ (l : List ℕ). slots base n.entries ++ ((place * 256 + length key) ∷ (replicate (504 - taken more) 0 ++ l)))
-        (ap (λ (l : List ℕ). l ++ fence_blocks n) (heap-push n.entries (key, value))
-        ∙ append_assoc (key_block key ++ (value ∷ [])) (heap n.entries) (fence_blocks n)
-        ∙ append_assoc (key_block key) (value ∷ []) behind)))
+      (ap (λ (l : List ℕ). l ++ (replicate (504 - taken more) 0 ++ (heap (n.entries ++ (key, value) ∷ []) ++ fence_blocks n)))
+      (slots-push base n.entries (key, value)
+      ∙ ap (λ (p : ℕ). slots base n.entries ++ ((p * 256 + length key) ∷ [])) (sym is))
+      ∙ append_assoc (slots base n.entries) ((place * 256 + length key) ∷ []) _
+      ∙ ap (λ (l : List ℕ). slots base n.entries ++ ((place * 256 + length key) ∷ (replicate (504 - taken more) 0 ++ l)))
+      (ap (λ (l : List ℕ). l ++ fence_blocks n) (heap-push n.entries (key, value))
+      ∙ append_assoc (key_block key ++ (value ∷ [])) (heap n.entries) (fence_blocks n)
+      ∙ append_assoc (key_block key) (value ∷ []) behind)))
 
   module _ (page valued written slotted new : List ℕ) (count end place slot : ℕ) (draft : IsDraft page count end n) (fits : IsFitting 512 more)
       (valued_is : valued ≡ set page (end - 1) value) (place_is : place ≡ end - 1 - words_for (length key))
@@ -219,11 +224,20 @@ module _ (n : ByteNode) (key : List ℕ) (value : ℕ) where
     value_comes =
         let upto : List ℕ = head (length n.entries) (front ++ (0 ∷ (replicate rest 0 ++ replicate (words_for (length key)) 0))) in
         let split : (l : List ℕ) → upto ++ l ≡ head (length n.entries) (front ++ (0 ∷ (replicate rest 0 ++ (replicate (words_for (length key)) 0 ++ l)))) =
-            λ l. ap (head (length n.entries)) (append_assoc front (0 ∷ (replicate rest 0 ++ replicate (words_for (length key)) 0)) l
-            ∙ ap (λ (m : List ℕ). front ++ (0 ∷ m)) (append_assoc (replicate rest 0) (replicate (words_for (length key)) 0) l)) in
+        λ l. ap (head (length n.entries)) (append_assoc front (0 ∷ (replicate rest 0 ++ replicate (words_for (length key)) 0)) l
+        ∙ ap (λ (m : List ℕ). front ++ (0 ∷ m)) (append_assoc (replicate rest 0) (replicate (words_for (length key)) 0) l)) in
         valued_is ∙ set_exact page upto behind 0 value (end - 1) (parted ∙ sym (split (0 ∷ behind)))
-        (omega (arith, ends, sizes, front_long, draft.count_is, length-append {A = ℕ} front (0 ∷ (replicate rest 0 ++ replicate (words_for (length key)) 0)),
-          length-append {A = ℕ} (replicate rest 0) (replicate (words_for (length key)) 0), length-replicate {A = ℕ} rest 0, length-replicate {A = ℕ} (words_for (length key)) 0))
+        (omega (
+          arith,
+          ends,
+          sizes,
+          front_long,
+          draft.count_is,
+          length-append {A = ℕ} front (0 ∷ (replicate rest 0 ++ replicate (words_for (length key)) 0)),
+          length-append {A = ℕ} (replicate rest 0) (replicate (words_for (length key)) 0),
+          length-replicate {A = ℕ} rest 0,
+          length-replicate {A = ℕ} (words_for (length key)) 0,
+        ))
         ∙ split (value ∷ behind)
 
     -- the key comes
@@ -231,7 +245,7 @@ module _ (n : ByteNode) (key : List ℕ) (value : ℕ) where
     key_comes =
         let upto : List ℕ = head (length n.entries) (front ++ (0 ∷ replicate rest 0)) in
         let split : (l : List ℕ) → upto ++ l ≡ head (length n.entries) (front ++ (0 ∷ (replicate rest 0 ++ l))) =
-            λ l. ap (head (length n.entries)) (append_assoc front (0 ∷ replicate rest 0) l) in
+        λ l. ap (head (length n.entries)) (append_assoc front (0 ∷ replicate rest 0) l) in
         written_is ∙ over_exact valued upto (replicate (words_for (length key)) 0) (value ∷ behind) (key_block key) place
         (value_comes ∙ sym (split (replicate (words_for (length key)) 0 ++ (value ∷ behind))))
         (omega (arith, ends, sizes, front_long, draft.count_is, place_is, length-append {A = ℕ} front (0 ∷ replicate rest 0), length-replicate {A = ℕ} rest 0))
@@ -251,8 +265,16 @@ module _ (n : ByteNode) (key : List ℕ) (value : ℕ) where
           ∙ ap (λ (s : ℕ). head (length n.entries + 1) (front ++ (s ∷ (replicate rest 0 ++ (key_block key ++ (value ∷ behind)))))) slot_is
           ∙ more-is place (omega (arith, place_is, ends, length-entry (key, value)));
       count_is = omega (arith, draft.count_is, length-append n.entries ((key, value) ∷ []));
-      end_is = omega (arith, place_is, ends, sizes, draft.count_is, ap length (heap-push n.entries (key, value)),
-          length-append (entry_block (key, value)) (heap n.entries), length-entry (key, value));
+      end_is = omega (
+        arith,
+        place_is,
+        ends,
+        sizes,
+        draft.count_is,
+        ap length (heap-push n.entries (key, value)),
+        length-append (entry_block (key, value)) (heap n.entries),
+        length-entry (key, value),
+      );
     }
 
   -- where there is room for a further pair

@@ -1,7 +1,7 @@
 -- Parts of a list of entries, and what they take of a node.
-use Rattle.std.proofs.Common.{◌≡◌, ℕ, zero, suc, ◌+◌, ◌-◌, ◌<◌, ◌≤◌, List, [], ◌∷◌, ◌++◌, length, get_or, take, drop, refl, sym, ap, subst, ◌∙◌, arith, length-append}
+use Rattle.std.proofs.Common.{◌≡◌, ℕ, zero, suc, ◌+◌, ◌<◌, ◌≤◌, List, [], ◌∷◌, ◌++◌, length, get_or, take, drop, refl, sym, ap, subst, ◌∙◌, arith, length-append}
 use Rattle.std.proofs.lemmas.List.{append_assoc, append-nil, drop-append-le, length-take-le, take-append-drop, take-take, take_more}
-use Rattle.vm_bytes_form.specs.Forms.{AreKeys, ByteNode, Entry, IsFitting, entry_block, fence_blocks, heap, taken}
+use Rattle.vm_bytes_form.specs.Forms.{AreKeys, ByteNode, Entry, IsFitting, entry_block, heap}
 use Rattle.vm_bytes_edit.specs.Drafts.{entries_between, with_more}
 
 pub between_more : (from i : ℕ) (es : List Entry) → from ≤ i → i < length es → entries_between from (i + 1) es ≡ entries_between from i es ++ (get_or es i ([], 0) ∷ [])
@@ -36,8 +36,16 @@ pub fits_first : (n : ByteNode) (xs ys : List Entry) → IsFitting 512 (with_mor
 fits_first n xs ys fits =
     let parted = append_assoc n.entries xs ys in
     record {
-      room = (let room = fits.room in omega (arith, room, length-append n.entries (xs ++ ys), length-append xs ys, length-append n.entries xs,
-          heap-append n.entries (xs ++ ys), heap-append xs ys, heap-append n.entries xs));
+      room = (let room = fits.room in omega (
+        arith,
+        room,
+        length-append n.entries (xs ++ ys),
+        length-append xs ys,
+        length-append n.entries xs,
+        heap-append n.entries (xs ++ ys),
+        heap-append xs ys,
+        heap-append n.entries xs,
+      ));
       low = fits.low;
       high = fits.high;
       keys = AreKeys-first (n.entries ++ xs) ys (subst AreKeys (sym parted) fits.keys);

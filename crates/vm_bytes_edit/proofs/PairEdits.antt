@@ -1,19 +1,18 @@
 -- What an edit at a key's place makes of a page.
-use Rattle.std.proofs.Common.{◌≡◌, ◌≢◌, ℕ, zero, suc, ◌+◌, ◌-◌, ◌<◌, ◌≤◌, List, [], ◌∷◌, ◌++◌, length, get_or, take, drop, MatchOption, Option, Some, None, refl, sym, ap, subst, ◌∙◌, arith}
-use Rattle.std.proofs.lemmas.Bool.{cases_lt}
+use Rattle.std.proofs.Common.{◌≡◌, ◌≢◌, ℕ, suc, ◌+◌, ◌-◌, ◌<◌, ◌≤◌, List, [], ◌∷◌, length, get_or, MatchOption, Option, Some, None, sym, ap, subst, ◌∙◌, arith}
 use Rattle.vm_map.specs.Map.{del_pair, lookup_at, Pairs, Rises}
-use Rattle.vm_tree_model.specs.Layout.{IsClean, size}
+use Rattle.vm_tree_model.specs.Layout.{IsClean}
 use Rattle.vm_tree_model.specs.Node.{Covers}
 use Rattle.vm_tree_model.specs.Page.{IsInner, IsLeaf, node_of, pairs_of}
 use Rattle.vm_tree_model.specs.Edits.{AddsPair, IsFullFor, IsLeafWith, PutsInLeaf, TakesPair}
-use Rattle.vm_node.specs.Places.{IsBound, place_of}
+use Rattle.vm_node.specs.Places.{place_of}
 use Rattle.vm_node.proofs.Bounds.{bound_place}
 use Rattle.vm_node.proofs.Indexes.{not-absent}
 use Rattle.vm_node.proofs.Leaves.{adds_leaf, takes_leaf}
 use Rattle.vm_inner.proofs.InnerNodes.{adds_inner}
 use Rattle.vm_bytes_form.specs.Bytes.{bytes}
 use Rattle.vm_bytes_form.specs.Cuts.{pair_size}
-use Rattle.vm_bytes_form.specs.Forms.{AreKeys, ByteNode, Entry, IsFitting, form_of, node_in}
+use Rattle.vm_bytes_form.specs.Forms.{ByteNode, IsFitting, form_of, node_in}
 use Rattle.vm_bytes_form.specs.NodeEdits.{del_in, put_in}
 use Rattle.vm_bytes_form.specs.Strings.{IsString, rank}
 use Rattle.vm_bytes_form.proofs.EditLaws.{adds, clean_fitting, del-fits, put-fits, takes}
@@ -67,25 +66,24 @@ module _ (words s : List ℕ) (is : IsString 64 s) (at : ℕ) (old : Option ℕ)
         → (put_in n s v ≡ spliced n (at - 1) at ((s, v) ∷ [])) × (del_in n s ≡ spliced n (at - 1) (at - 1 + 1) [])
     both_edits v clean low high rises =
         let e = edits_there s v is n.entries there.0 low high (clean_fitting words clean).keys rises (there.1 ∙ at_is low high rises)
-            (ap (λ (x : ℕ × ℕ). x.0) there.2) in
+        (ap (λ (x : ℕ × ℕ). x.0) there.2) in
         let before : there.0 ≡ at - 1 = let is_at = there.1 in omega (arith, is_at) in
         let behind : suc there.0 ≡ at - 1 + 1 = let is_at = there.1 in omega (arith, is_at) in
         let puts : put_in n s v ≡ spliced n there.0 (suc there.0) ((s, v) ∷ []) = λ j. record n { entries = e.0 j } in
-        let dels : del_in n s ≡ spliced n there.0 (suc there.0) [] = λ j. record n { entries = e.1 j } in
-        (
+        let dels : del_in n s ≡ spliced n there.0 (suc there.0) [] = λ j. record n { entries = e.1 j } in (
           puts ∙ ap (λ (i : ℕ). spliced n i (suc there.0) ((s, v) ∷ [])) before ∙ ap (λ (i : ℕ). spliced n (at - 1) i ((s, v) ∷ [])) there.1,
           dels ∙ ap (λ (i : ℕ). spliced n i (suc there.0) []) before ∙ ap (λ (i : ℕ). spliced n (at - 1) i []) behind,
         )
 
     pub put_there_form : (v : ℕ) (new : List ℕ) → (IsClean bytes words → at ≤ length n.entries → IsFitting 512 (spliced n (at - 1) at ((s, v) ∷ []))
-          → new ≡ form_of 512 (spliced n (at - 1) at ((s, v) ∷ [])))
+        → new ≡ form_of 512 (spliced n (at - 1) at ((s, v) ∷ [])))
         → IsClean bytes words → (low high : ℕ) → Rises low high pairs → new ≡ form_of 512 (put_in n s v)
     put_there_form v new made clean low high rises =
         let e = (both_edits v clean low high rises).0 in
         made clean inside (subst (IsFitting 512) e (put-fits words clean s v is low high rises found_not_full)) ∙ ap (form_of 512) (sym e)
 
     pub del_form : (new : List ℕ) → (IsClean bytes words → at - 1 < length n.entries → IsFitting 512 (spliced n (at - 1) (at - 1 + 1) [])
-          → new ≡ form_of 512 (spliced n (at - 1) (at - 1 + 1) []))
+        → new ≡ form_of 512 (spliced n (at - 1) (at - 1 + 1) []))
         → IsClean bytes words → (low high : ℕ) → Rises low high pairs → new ≡ form_of 512 (del_in n s)
     del_form new made clean low high rises =
         let e = (both_edits 0 clean low high rises).1 in
@@ -111,11 +109,11 @@ module _ (words s : List ℕ) (is : IsString 64 s) (at : ℕ) (old : Option ℕ)
       room_not_full clean full = let more = full.count in omega (arith, more, roomy, spare_is words clean)
 
       pub put_new_form : (v : ℕ) (new : List ℕ) → (IsClean bytes words → at ≤ length n.entries → IsFitting 512 (spliced n at at ((s, v) ∷ []))
-            → new ≡ form_of 512 (spliced n at at ((s, v) ∷ [])))
+          → new ≡ form_of 512 (spliced n at at ((s, v) ∷ [])))
           → IsClean bytes words → (low high : ℕ) → Rises low high pairs → new ≡ form_of 512 (put_in n s v)
       put_new_form v new made clean low high rises =
           let e : put_in n s v ≡ spliced n at at ((s, v) ∷ []) =
-              (let l = put_new s v is n.entries at (clean_fitting words clean).keys (absent low high rises) (at_is low high rises) in λ j. record n { entries = l j }) in
+          (let l = put_new s v is n.entries at (clean_fitting words clean).keys (absent low high rises) (at_is low high rises) in λ j. record n { entries = l j }) in
           made clean inside (subst (IsFitting 512) e (put-fits words clean s v is low high rises (room_not_full clean))) ∙ ap (form_of 512) (sym e)
 
 -- what follows for nodes, leaves and inner nodes

@@ -1,12 +1,11 @@
 -- Of a clean page the room that is left and the node's size are the whole room.
-use Rattle.std.proofs.Common.{◌≡◌, ◌≢◌, ℕ, zero, suc, ◌+◌, ◌-◌, ◌*◌, ◌/◌, ◌<◌, ◌≤◌, List, [], ◌∷◌, ◌++◌, length, get_or, drop, min, replicate, Option, Some, None, Bool, true, false, if◌then◌else◌, ◌==◌, refl, sym, ap, subst, ◌∙◌, arith, length-append}
-use Rattle.std.proofs.lemmas.Bool.{eq-eqb, ne_eqb}
+use Rattle.std.proofs.Common.{◌≡◌, ◌≢◌, ℕ, zero, suc, ◌+◌, ◌-◌, ◌*◌, ◌/◌, ◌<◌, ◌≤◌, List, [], ◌∷◌, ◌++◌, length, get_or, replicate, Option, Some, None, refl, sym, ap, ◌∙◌, arith, length-append}
+use Rattle.std.proofs.lemmas.Bool.{ne_eqb}
 use Rattle.std.proofs.lemmas.List.{get_or-drop, get_or_append_left, nil_from_length}
 use Rattle.std.proofs.lemmas.Nat.{div-mul-add}
 use Rattle.vm_tree_model.specs.Layout.{IsClean, size}
 use Rattle.vm_tree_model.specs.Page.{node_of}
 use Rattle.vm_bytes_form.specs.Bytes.{bytes}
-use Rattle.vm_bytes_form.specs.Cuts.{words_for}
 use Rattle.vm_bytes_form.specs.Forms.{AreKeys, ByteNode, Entry, IsFitting, entry_block, fence_block, fence_blocks, fence_slot, form_of, heap, high_slot, key_block, node_in, slots, taken}
 use Rattle.vm_bytes_form.specs.Strings.{IsString}
 use Rattle.vm_bytes_form.proofs.BytesLaws.{size-taken}
@@ -42,8 +41,7 @@ fence-place : (end : ℕ) (s : List ℕ) → IsString 64 s → 1 ≤ length s �
 fence-place end [] is some above below = absurd (omega (arith, some))
 fence-place end (b ∷ s) is some above below =
     let fits = is.fits in
-    let few : length (key_block (b ∷ s)) ≤ 8 = omega (arith, length-block (b ∷ s), fits) in
-    (
+    let few : length (key_block (b ∷ s)) ≤ 8 = omega (arith, length-block (b ∷ s), fits) in (
       λ none. omega (arith, none),
       place_is (fence_slot end (b ∷ s)) (end - length (key_block (b ∷ s))) (length (b ∷ s)) refl (omega (arith, fits)) (omega (arith, few, above)) (omega (arith, below)),
     )
@@ -90,14 +88,14 @@ module _ (words : List ℕ) (n : ByteNode) (fits : IsFitting 512 n) (is : words 
           let high_word : get_or words 4 0 ≡ 0 = fourth ∙ ap (high_slot (512 - length (key_block n.low))) no_high in
           let low_word : get_or words 3 0 ≡ 0 = third ∙ ap (fence_slot 512) no_low in
           let blocks : length (fence_blocks n) ≡ 0 = length-append (fence_block n.high) (key_block n.low)
-              ∙ (let a = ap (λ (h : Option (List ℕ)). length (fence_block h)) no_high in let b = ap (λ (l : List ℕ). length (key_block l)) no_low in omega (arith, a, b)) in
+          ∙ (let a = ap (λ (h : Option (List ℕ)). length (fence_block h)) no_high in let b = ap (λ (l : List ℕ). length (key_block l)) no_low in omega (arith, a, b)) in
           let slot : lowest_slot words ≡ 0 = rw (nothing, high_word, low_word) refl in
           ap place_of_slot slot ∙ omega (arith, blocks, no_heap)
       without None no_high (b ∷ low) low_is =
           let high_word : get_or words 4 0 ≡ 0 = fourth ∙ ap (high_slot (512 - length (key_block n.low))) no_high in
           let there = fence-place 512 n.low fits.low (let long = ap length low_is in omega (arith, long)) (omega arith) (omega arith) in
           let blocks : length (fence_blocks n) ≡ length (key_block n.low) = length-append (fence_block n.high) (key_block n.low)
-              ∙ (let a = ap (λ (h : Option (List ℕ)). length (fence_block h)) no_high in omega (arith, a)) in
+          ∙ (let a = ap (λ (h : Option (List ℕ)). length (fence_block h)) no_high in omega (arith, a)) in
           let slot : lowest_slot words ≡ fence_slot 512 n.low = rw (nothing, high_word) third in
           ap place_of_slot slot ∙ there.1 ∙ omega (arith, blocks, no_heap)
       without (Some s) high_is low low_is =
@@ -106,15 +104,15 @@ module _ (words : List ℕ) (n : ByteNode) (fits : IsFitting 512 n) (is : words 
           let there = fence-place (512 - length (key_block n.low)) s of.0 of.1 (omega (arith, few)) (omega arith) in
           let high_word : get_or words 4 0 ≡ fence_slot (512 - length (key_block n.low)) s = fourth ∙ ap (high_slot (512 - length (key_block n.low))) high_is in
           let blocks : length (fence_blocks n) ≡ length (key_block s) + length (key_block n.low) = length-append (fence_block n.high) (key_block n.low)
-              ∙ (let a = ap (λ (h : Option (List ℕ)). length (fence_block h)) high_is in omega (arith, a)) in
+          ∙ (let a = ap (λ (h : Option (List ℕ)). length (fence_block h)) high_is in omega (arith, a)) in
           let slot : lowest_slot words ≡ fence_slot (512 - length (key_block n.low)) s =
-              rw (nothing, ne_eqb (get_or words 4 0) 0 (λ e. there.0 (sym high_word ∙ e))) high_word in
+          rw (nothing, ne_eqb (get_or words 4 0) 0 (λ e. there.0 (sym high_word ∙ e))) high_word in
           ap place_of_slot slot ∙ there.1 ∙ omega (arith, blocks, no_heap)
   lowest (suc i) long =
       let some : count_in words ≢ 0 = λ e. omega (arith, count, long, e) in
       let at : 7 + count_in words ≡ 8 + i = omega (arith, count, long) in
       let slot : lowest_slot words ≡ (base - length (heap n.entries)) * 256 + length (get_or n.entries i ([], 0)).0 =
-          rw (ne_eqb (count_in words) 0 some) (ap (λ (k : ℕ). get_or words k 0) at ∙ last_slot i long) in
+      rw (ne_eqb (count_in words) 0 some) (ap (λ (k : ℕ). get_or words k 0) at ∙ last_slot i long) in
       let room = fits.room in
       place_is (lowest_slot words) (base - length (heap n.entries)) (length (get_or n.entries i ([], 0)).0) slot
       (key_short n.entries i fits.keys) (omega (arith, room, long)) (omega arith)

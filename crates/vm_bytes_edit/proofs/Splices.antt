@@ -1,10 +1,9 @@
 -- A draft that gets the first pairs of a page, others, and the last pairs of the page.
-use Rattle.std.proofs.Common.{◌≡◌, ℕ, ◌+◌, ◌<◌, ◌≤◌, List, [], ◌∷◌, ◌++◌, length, get_or, take, drop, Option, Some, None, refl, sym, ap, subst, ◌∙◌, arith}
+use Rattle.std.proofs.Common.{◌≡◌, ℕ, ◌≤◌, List, [], ◌++◌, length, get_or, take, drop, Option, Some, sym, ap, subst, ◌∙◌, arith}
 use Rattle.std.proofs.lemmas.List.{take_all}
 use Rattle.vm_tree_model.specs.Layout.{IsClean}
 use Rattle.vm_bytes_form.specs.Bytes.{bytes}
-use Rattle.vm_bytes_form.specs.Forms.{ByteNode, Entry, IsFitting, form_of, node_in}
-use Rattle.vm_bytes_form.specs.Strings.{IsString}
+use Rattle.vm_bytes_form.specs.Forms.{ByteNode, Entry, IsFitting, node_in}
 use Rattle.vm_bytes_form.proofs.EditLaws.{clean_fitting}
 use Rattle.vm_bytes_edit.specs.Drafts.{empty_node, entries_between, IsDraft, spliced, with_more}
 use Rattle.vm_bytes_edit.proofs.Entries.{fits_first, with_both}
@@ -63,14 +62,14 @@ module _ (words : List ℕ) (page : List ℕ) (count end tag level : ℕ) (tag_r
       → IsDraft page count end (record (node_in words) { high = Some high; entries = [] })
   lower_begun low high low_read draft =
       let same : empty_node tag level low (Some high) ≡ record (node_in words) { high = Some high; entries = [] } =
-          λ i. empty_node (tagged i) (levelled i) (low_read i) (Some high) in
+      λ i. empty_node (tagged i) (levelled i) (low_read i) (Some high) in
       subst (IsDraft page count end) same draft
 
   pub upper_begun : (low : List ℕ) (high : Option (List ℕ)) → high ≡ (node_in words).high → IsDraft page count end (empty_node tag level low high)
       → IsDraft page count end (record (node_in words) { low = low; entries = [] })
   upper_begun low high high_read draft =
       let same : empty_node tag level low high ≡ record (node_in words) { low = low; entries = [] } =
-          λ i. empty_node (tagged i) (levelled i) low (high_read i) in
+      λ i. empty_node (tagged i) (levelled i) low (high_read i) in
       subst (IsDraft page count end) same draft
 
 pub last_entries : (from count : ℕ) (es : List Entry) → count ≡ length es → entries_between from count es ≡ drop from es

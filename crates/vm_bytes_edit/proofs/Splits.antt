@@ -1,14 +1,13 @@
 -- The halves of a node with no room for a further pair.
-use Rattle.std.proofs.Common.{◌≡◌, ℕ, zero, ◌<◌, ◌≤◌, List, [], length, get_or, take, drop, Some, sym, ap, subst, ◌∙◌, arith}
-use Rattle.std.proofs.lemmas.List.{length-map}
-use Rattle.vm_map.specs.Map.{Pairs, Rises}
-use Rattle.vm_tree_model.specs.Layout.{IsClean, IsFullNode, PaysForSplit, cut}
+use Rattle.std.proofs.Common.{◌≡◌, ℕ, ◌<◌, ◌≤◌, List, [], length, get_or, take, drop, Some, sym, ap, subst, ◌∙◌, arith}
+use Rattle.vm_map.specs.Map.{Rises}
+use Rattle.vm_tree_model.specs.Layout.{IsClean, IsFullNode, PaysForSplit}
 use Rattle.vm_tree_model.specs.Page.{IsInner, IsLeaf, node_of, pairs_of}
 use Rattle.vm_tree_model.specs.Edits.{IsSplit}
 use Rattle.vm_node.proofs.Leaves.{left_leaf, right_leaf}
 use Rattle.vm_inner.proofs.InnerNodes.{left_inner, right_inner}
-use Rattle.vm_bytes_form.specs.Bytes.{bytes, ranked, ranked_entry}
-use Rattle.vm_bytes_form.specs.Forms.{ByteNode, Entry, IsFitting, form_of, node_in}
+use Rattle.vm_bytes_form.specs.Bytes.{bytes}
+use Rattle.vm_bytes_form.specs.Forms.{ByteNode, IsFitting, form_of, node_in}
 use Rattle.vm_bytes_form.specs.NodeEdits.{kept_at_split, lower_half, upper_half}
 use Rattle.vm_bytes_form.specs.Strings.{rank}
 use Rattle.vm_bytes_form.proofs.BytesLaws.{bytes_is_layout}
@@ -75,8 +74,8 @@ module _ (words s left right : List ℕ) (kept_found count : ℕ) (counted : cou
 
   module _ (low high : ℕ) (rises : Rises low high (pairs_of bytes words)) where
     pub lower_is : (kept_found ≤ length (node_in words).entries → 1 ≤ length s
-          → IsFitting 512 (record (node_in words) { high = Some s; entries = take kept_found (node_in words).entries })
-          → left ≡ form_of 512 (record (node_in words) { high = Some s; entries = take kept_found (node_in words).entries }))
+        → IsFitting 512 (record (node_in words) { high = Some s; entries = take kept_found (node_in words).entries })
+        → left ≡ form_of 512 (record (node_in words) { high = Some s; entries = take kept_found (node_in words).entries }))
         → left ≡ form_of 512 (lower_half (node_in words) s)
     lower_is made =
         let fits = lower_fits words clean full s separator_is low high rises in
@@ -85,8 +84,8 @@ module _ (words s left right : List ℕ) (kept_found count : ℕ) (counted : cou
         ∙ ap (λ (i : ℕ). form_of 512 (record (node_in words) { high = Some s; entries = take i (node_in words).entries })) kept_is
 
     pub upper_is : (count ≡ length (node_in words).entries → kept_found ≤ count → IsClean bytes words
-          → IsFitting 512 (record (node_in words) { low = s; entries = drop kept_found (node_in words).entries })
-          → right ≡ form_of 512 (record (node_in words) { low = s; entries = drop kept_found (node_in words).entries }))
+        → IsFitting 512 (record (node_in words) { low = s; entries = drop kept_found (node_in words).entries })
+        → right ≡ form_of 512 (record (node_in words) { low = s; entries = drop kept_found (node_in words).entries }))
         → right ≡ form_of 512 (upper_half (node_in words) s)
     upper_is made =
         let fits = upper_fits words clean full s separator_is low high rises in

@@ -9,8 +9,7 @@ ghost use Rattle.vm_bytes_form.specs.Strings.{IsString};
 ghost use Rattle.vm_bytes_edit.specs.Drafts.{empty_node, entries_between, IsDraft, IsInPage, over, with_more};
 ghost use Rattle.vm_bytes_node.specs.Limits.{MOST_SLOTS};
 
-use vm_bytes_node::{in_range, pair_size, words_of};
-use vm_bytes_node::{HEADER, key_at, value_at};
+use vm_bytes_node::{HEADER, in_range, key_at, pair_size, value_at, words_of};
 use vm_map::key::Key;
 use vm_node::in_buffer;
 use vm_page::{LARGE, PageBuf};

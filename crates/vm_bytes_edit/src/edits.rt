@@ -14,10 +14,9 @@ ghost use Rattle.vm_bytes_node.specs.Limits.{MOST_SLOTS};
 ghost use Rattle.vm_bytes_edit.specs.Edited.{IsPlaced, LacksRoomFor, TakesPairOf};
 
 use crate::draft::Draft;
-use vm_bytes_node::{high_at, low_at, spare_at};
-use vm_bytes_node::{in_range, pair_size, same_key};
-use vm_bytes_node::upper_bound_at;
-use vm_bytes_node::{count_at, value_at};
+use vm_bytes_node::{
+    count_at, high_at, in_range, low_at, pair_size, same_key, spare_at, upper_bound_at, value_at,
+};
 use vm_map::key::Key;
 use vm_node::{Full, Place, in_buffer};
 use vm_page::PageBuf;
@@ -89,7 +88,13 @@ fn key_place(page: &PageBuf<512>, key: &Key) -> (usize, Option<u64>)
 }
 
 // The page with a pair behind the first ones, and those from another place on behind that.
-fn with_pair(page: &PageBuf<512>, before: usize, behind: usize, key: &Key, value: u64) -> PageBuf<512>
+fn with_pair(
+    page: &PageBuf<512>,
+    before: usize,
+    behind: usize,
+    key: &Key,
+    value: u64,
+) -> PageBuf<512>
     requires inside { behind ≤ MOST_SLOTS }
     requires order { before ≤ behind }
     ensures { IsClean bytes page.now → behind ≤ length (node_in page.now).entries

@@ -11,9 +11,7 @@ ghost use Rattle.vm_bytes_form.specs.NodeEdits.{kept_at_split, lower_half, root_
 ghost use Rattle.vm_bytes_node.specs.Limits.{MOST_SLOTS};
 
 use crate::draft::{Draft, pair_of};
-use vm_bytes_node::{high_at, low_at};
-use vm_bytes_node::{in_range, pair_size};
-use vm_bytes_node::count_at;
+use vm_bytes_node::{count_at, high_at, in_range, low_at, pair_size};
 use vm_map::key::Key;
 use vm_node::in_buffer;
 use vm_page::PageBuf;

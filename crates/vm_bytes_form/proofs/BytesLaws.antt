@@ -1,13 +1,13 @@
 -- Nodes with byte keys are a layout.
-use Rattle.std.proofs.Common.{◌≡◌, ◌≢◌, ◌⊎◌, inl, inr, ℕ, zero, suc, ◌+◌, ◌-◌, ◌*◌, ◌<◌, ◌≤◌, List, [], ◌∷◌, ◌++◌, length, get_or, map, take, drop, Option, Some, None, Bool, true, false, eqb, ltb, leb, ◌==◌, ◌||◌, ◌&&◌, if◌then◌else◌, refl, sym, ap, ◌∙◌, arith, length-append}
-use Rattle.std.proofs.lemmas.Bool.{cases_eq, and_parts, and_from, eqb-true, eq-eqb, leb-true, le-leb, ltb-true, or_left, or_right}
+use Rattle.std.proofs.Common.{◌≡◌, ◌≢◌, ◌⊎◌, inl, inr, ℕ, ◌+◌, ◌<◌, ◌≤◌, List, [], ◌∷◌, length, get_or, map, Option, Some, None, Bool, true, false, eqb, ltb, leb, ◌==◌, ◌||◌, if◌then◌else◌, refl, sym, ap, ◌∙◌, arith, length-append}
+use Rattle.std.proofs.lemmas.Bool.{and_parts, and_from, eqb-true, eq-eqb, leb-true, le-leb, ltb-true, or_left, or_right}
 use Rattle.std.proofs.lemmas.Bool.Decides.{nat_tests}
 use Rattle.std.proofs.lemmas.List.{length-map}
-use Rattle.vm_tree_model.specs.Node.{Node, IsNode}
-use Rattle.vm_tree_model.specs.Layout.{Layout, IsLayout, PaysForSplit, pairs_size, size}
-use Rattle.vm_bytes_form.specs.Strings.{AreBytes, IsString, rank, rank_in, RANK_END, string_of}
+use Rattle.vm_tree_model.specs.Node.{Node}
+use Rattle.vm_tree_model.specs.Layout.{IsLayout, PaysForSplit, pairs_size, size}
+use Rattle.vm_bytes_form.specs.Strings.{AreBytes, IsString, rank, RANK_END}
 use Rattle.vm_bytes_form.specs.Cuts.{words_for, key_words, pair_size}
-use Rattle.vm_bytes_form.specs.Forms.{Entry, ByteNode, key_block, fence_block, entry_block, heap, fence_blocks, taken, form_of, node_in, AreKeys, IsFitting}
+use Rattle.vm_bytes_form.specs.Forms.{Entry, ByteNode, key_block, fence_block, entry_block, heap, taken, form_of, node_in, AreKeys, IsFitting}
 use Rattle.vm_bytes_form.specs.Bytes.{kind_of, high_rank, ranked_entry, ranked, same_words, are_bytes, is_string, is_high, are_keys, is_fitting, bytes_clean, bytes_has_fences, bytes_has_form, bytes}
 use Rattle.vm_bytes_form.proofs.Ranks.{rank-below, string_of_rank}
 use Rattle.vm_bytes_form.proofs.Halves.{key_words-few, pays}

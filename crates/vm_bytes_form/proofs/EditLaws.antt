@@ -1,21 +1,20 @@
 -- The words of an edited node are those of a clean page, whose node over ranks is the edit of the old one.
-use Rattle.std.proofs.Common.{◌≡◌, ◌≢◌, ◌⊎◌, inl, inr, ℕ, zero, suc, ◌+◌, ◌-◌, ◌*◌, ◌<◌, ◌≤◌, List, [], ◌∷◌, ◌++◌, length, get_or, map, take, drop, Option, Some, None, Bool, true, false, eqb, ltb, leb, ◌==◌, ◌&&◌, if◌then◌else◌, refl, sym, ap, subst, ◌∙◌, arith, length-append}
+use Rattle.std.proofs.Common.{◌≡◌, inl, inr, ℕ, zero, suc, ◌+◌, ◌<◌, ◌≤◌, List, [], ◌∷◌, length, get_or, take, drop, Option, Some, None, Bool, true, false, eqb, ltb, leb, if◌then◌else◌, refl, sym, ap, subst, ◌∙◌, arith}
 use Rattle.std.proofs.lemmas.Bool.{cases_eq, cases_lt, and_parts, and_from, le-leb, lt-ltb, ne_eqb, eq-eqb}
 use Rattle.std.proofs.lemmas.Bool.Decides.{nat_tests}
 use Rattle.std.proofs.lemmas.List.{length-map}
 use Rattle.vm_map.specs.Map.{Pairs, Rises, lookup_at, put_pair, del_pair}
 use Rattle.vm_map.proofs.MapLemmas.{lookup-below}
-use Rattle.vm_tree_model.specs.Layout.{IsClean, IsFullNode, IsLayout, PaysForSplit, cut, left_part, right_part, pairs_size, size}
+use Rattle.vm_tree_model.specs.Layout.{IsClean, IsFullNode, PaysForSplit, left_part, right_part, pairs_size, size}
 use Rattle.vm_tree_model.specs.Node.{Node}
-use Rattle.vm_tree_model.specs.Page.{node_of, pairs_of}
+use Rattle.vm_tree_model.specs.Page.{pairs_of}
 use Rattle.vm_tree_model.specs.Edits.{AddsPair, TakesPair, IsSplit, IsNewRoot, IsFullFor}
 use Rattle.vm_bytes_form.specs.Strings.{AreBytes, IsString, rank, rank_in}
-use Rattle.vm_bytes_form.specs.Cuts.{pair_size, key_words}
-use Rattle.vm_bytes_form.specs.Forms.{Entry, ByteNode, fence_block, key_block, taken, form_of, node_in, AreKeys, IsFitting}
-use Rattle.vm_bytes_form.specs.Bytes.{high_rank, ranked_entry, ranked, same_words, are_bytes, is_string, is_high, are_keys, is_fitting, bytes_clean, bytes}
+use Rattle.vm_bytes_form.specs.Cuts.{pair_size}
+use Rattle.vm_bytes_form.specs.Forms.{Entry, ByteNode, taken, form_of, node_in, AreKeys, IsFitting}
+use Rattle.vm_bytes_form.specs.Bytes.{high_rank, ranked_entry, ranked, same_words, are_bytes, is_string, is_high, are_keys, is_fitting, bytes}
 use Rattle.vm_bytes_form.specs.KeyMap.{before, put_key, del_key, ranks_of}
 use Rattle.vm_bytes_form.specs.NodeEdits.{put_in, del_in, kept_at_split, lower_half, upper_half, root_over}
-use Rattle.vm_bytes_form.proofs.Halves.{key_words-few}
 use Rattle.vm_bytes_form.proofs.RoundTrip.{read_back}
 use Rattle.vm_bytes_form.proofs.BytesLaws.{fitting-tells, same-tells, size-taken, bytes_is_layout}
 use Rattle.vm_bytes_form.proofs.KeyMaps.{same-refl, put_is, del_is}

@@ -1,10 +1,9 @@
 -- A full node with byte keys is cut into halves that fit, and the weights pay for it.
-use Rattle.std.proofs.Common.{◌≡◌, ◌≢◌, ◌⊎◌, inl, inr, ℕ, zero, suc, ◌+◌, ◌-◌, ◌*◌, ◌/◌, ◌<◌, ◌≤◌, leb, Bool, true, false, List, [], ◌∷◌, length, take, drop, if◌then◌else◌, refl, arith}
-use Rattle.std.proofs.lemmas.Bool.{cases_lt, cases_Bool, leb-true}
+use Rattle.std.proofs.Common.{◌≡◌, inl, inr, ℕ, zero, suc, ◌+◌, ◌*◌, ◌<◌, ◌≤◌, leb, true, false, [], ◌∷◌, length, take, drop, refl, arith}
+use Rattle.std.proofs.lemmas.Bool.{cases_lt}
 use Rattle.std.proofs.lemmas.Bool.Decides.{nat_tests}
 use Rattle.vm_map.specs.Map.{Pairs}
-use Rattle.vm_bytes_form.specs.Strings.{string_of}
-use Rattle.vm_bytes_form.specs.Cuts.{words_for, key_words, pair_size, Pays}
+use Rattle.vm_bytes_form.specs.Cuts.{key_words, pair_size, Pays}
 use Rattle.vm_tree_model.specs.Layout.{pairs_size, cut_from}
 use Rattle.vm_bytes_form.proofs.Ranks.{length-string}
 

@@ -1,9 +1,9 @@
 -- A map over byte strings is the map over their ranks.
-use Rattle.std.proofs.Common.{◌≡◌, ◌≢◌, ◌⊎◌, inl, inr, ℕ, ◌<◌, ◌≤◌, List, [], ◌∷◌, length, map, Some, None, Bool, true, false, eqb, ltb, ◌==◌, ◌&&◌, if◌then◌else◌, refl, sym, ap, ◌∙◌, arith}
-use Rattle.std.proofs.lemmas.Bool.{cases_eq, cases_lt, eq-eqb, ne_eqb, lt-ltb, and_from}
+use Rattle.std.proofs.Common.{◌≡◌, inl, inr, ℕ, ◌≤◌, List, [], ◌∷◌, Bool, true, false, eqb, ltb, if◌then◌else◌, refl, sym, ap, ◌∙◌, arith}
+use Rattle.std.proofs.lemmas.Bool.{eq-eqb, ne_eqb, lt-ltb, and_from}
 use Rattle.std.proofs.lemmas.Bool.Decides.{nat_tests}
 use Rattle.vm_map.specs.Map.{Pairs, lookup_at, put_pair, del_pair}
-use Rattle.vm_bytes_form.specs.Strings.{AreBytes, IsString, IsBefore, rank_in, rank}
+use Rattle.vm_bytes_form.specs.Strings.{IsString, IsBefore, rank}
 use Rattle.vm_bytes_form.specs.Forms.{Entry, AreKeys}
 use Rattle.vm_bytes_form.specs.Bytes.{same_words}
 use Rattle.vm_bytes_form.specs.KeyMap.{before, lookup_key, put_key, del_key, ranks_of}

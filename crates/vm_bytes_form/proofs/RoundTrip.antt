@@ -1,5 +1,5 @@
 -- What is read of a node's words is the node.
-use Rattle.std.proofs.Common.{◌≡◌, ◌≢◌, ℕ, zero, suc, ◌+◌, ◌-◌, ◌*◌, ◌/◌, ◌%◌, ◌<◌, ◌≤◌, ◌==◌, eqb, false, List, [], ◌∷◌, ◌++◌, length, get_or, take, drop, map, min, replicate, Option, Some, None, if◌then◌else◌, refl, sym, ap, ◌∙◌, arith, length-append, length-drop}
+use Rattle.std.proofs.Common.{◌≡◌, ℕ, zero, suc, ◌+◌, ◌-◌, ◌*◌, ◌/◌, ◌%◌, ◌<◌, ◌≤◌, eqb, false, List, [], ◌∷◌, ◌++◌, length, get_or, take, drop, map, min, replicate, Option, Some, None, if◌then◌else◌, refl, sym, ap, ◌∙◌, arith, length-append}
 use Rattle.std.proofs.lemmas.Bool.{ne_eqb}
 use Rattle.std.proofs.lemmas.List.{append_assoc, append-nil, length-replicate, get_or-drop, drop-drop}
 use Rattle.std.proofs.lemmas.Nat.{be_bytes_8, div-mul-add, mod-mul-add}
@@ -169,8 +169,8 @@ module _ (size : ℕ) (n : ByteNode) (fits : IsFitting size n) where
   unfolding form_of
   entries_read =
       ap (λ (l : List ℕ). map (entry_at (form_of size n)) (take (length n.entries) l))
-        (append_assoc (slots (size - length (fence_blocks n)) n.entries ++ replicate (size - 8 - taken n) 0) (heap n.entries) (fence_blocks n)
-        ∙ append_assoc (slots (size - length (fence_blocks n)) n.entries) (replicate (size - 8 - taken n) 0) (heap n.entries ++ fence_blocks n))
+      (append_assoc (slots (size - length (fence_blocks n)) n.entries ++ replicate (size - 8 - taken n) 0) (heap n.entries) (fence_blocks n)
+      ∙ append_assoc (slots (size - length (fence_blocks n)) n.entries) (replicate (size - 8 - taken n) 0) (heap n.entries ++ fence_blocks n))
       ∙ ap (map (entry_at (form_of size n))) (take-exact (slots (size - length (fence_blocks n)) n.entries) (replicate (size - 8 - taken n) 0 ++ (heap n.entries ++ fence_blocks n)) (length n.entries) (sym (length-slots (size - length (fence_blocks n)) n.entries)))
       ∙ entries-there (form_of size n) n.entries (size - length (fence_blocks n)) (fence_blocks n) fits.keys (omega (arith, fits.room)) from_heap
 

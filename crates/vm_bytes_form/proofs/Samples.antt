@@ -1,6 +1,6 @@
 -- The words of nodes that were worked out apart from these definitions.
 use Rattle.std.proofs.Common.{◌≡◌, ℕ, suc, zero, ◌+◌, List, [], ◌∷◌, ◌++◌, length, get_or, replicate, true, Some, None, refl}
-use Rattle.vm_bytes_form.specs.Forms.{Entry, ByteNode, form_of, node_in, string_at}
+use Rattle.vm_bytes_form.specs.Forms.{Entry, form_of, node_in, string_at}
 use Rattle.vm_bytes_form.specs.Bytes.{bytes_clean}
 
 -- a leaf of three keys: none, 00, 0000

@@ -55,7 +55,7 @@ module _ (words : List ℕ) (key low : List ℕ) (low_read : low ≡ (node_in wo
   low_le = let not_below = not_lt (rank key) (rank low) from in omega (arith, not_below, ap rank low_read)
     where
       not_lt : (a b : ℕ) → (a < b → ⊥) → b ≤ a
-      not_lt a b never = elim (cases_lt a b) [ | inl lt ↦ absurd (never lt) | inr le ↦ le ]
+      not_lt a b never = elim (cases_lt a b) [ inl lt ↦ absurd (never lt) | inr le ↦ le ]
 
   pub covers_below : (high : List ℕ) (r : Bool) → Some high ≡ (node_in words).high → IsAnswer r (rank key < rank high)
       → IsAnswer r (Covers (node_of bytes words) (rank key))

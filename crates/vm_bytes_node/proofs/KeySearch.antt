@@ -83,11 +83,11 @@ module _ {P : Type 0} {loads : P → List (ℕ × ℕ) → P → Type 0} {p q r 
     left = (let fewer : 9 - (is.looks + 1) ≡ more.0 = omega (arith, more.1) in rw fewer (omega (arith, more.2, place, some)));
     told = told_so (omega arith) (told_then join is.told look) (λ words size told all.
         let here : (get_or (pairs_of bytes words) middle (0, 0)).0 ≡ rank found = pair_key words found middle (omega (arith, all, among)) (told.1 (omega (arith, all, among))) in record {
-      before = λ i e. let at : i ≡ middle = omega (arith, e) in rw at (rw here below);
-      here = (told.0 all).here;
-      low_is = λ i e. let at : i ≡ middle = omega (arith, e) in rw at here;
-      next_is = (told.0 all).next_is;
-    });
+          before = λ i e. let at : i ≡ middle = omega (arith, e) in rw at (rw here below);
+          here = (told.0 all).here;
+          low_is = λ i e. let at : i ≡ middle = omega (arith, e) in rw at here;
+          next_is = (told.0 all).next_is;
+        });
   }
 
   pub search_left : key ≤ rank found → IsKeySearched loads p r count key from middle low (Some (rank found))
@@ -97,9 +97,9 @@ module _ {P : Type 0} {loads : P → List (ℕ × ℕ) → P → Type 0} {p q r 
     left = (let fewer : 9 - (is.looks + 1) ≡ more.0 = omega (arith, more.1) in rw fewer (omega (arith, more.2, place, some)));
     told = told_so (omega arith) (told_then join is.told look) (λ words size told all.
         let here : (get_or (pairs_of bytes words) middle (0, 0)).0 ≡ rank found = pair_key words found middle (omega (arith, all, among)) (told.1 (omega (arith, all, among))) in record {
-      before = (told.0 all).before;
-      here = λ lt. rw here from_here;
-      low_is = (told.0 all).low_is;
-      next_is = (omega (arith, all, among, length-pairs words), here);
-    });
+          before = (told.0 all).before;
+          here = λ lt. rw here from_here;
+          low_is = (told.0 all).low_is;
+          next_is = (omega (arith, all, among, length-pairs words), here);
+        });
   }

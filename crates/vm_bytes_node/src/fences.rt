@@ -120,7 +120,11 @@ pub fn spare_at<P: Place>(place: &mut P) -> usize
 {
     let count = count_at(place);
     let slot = lowest_slot_at(place, count);
-    let end = if slot == 0 { LARGE as u64 } else { (slot / 256).min(LARGE as u64) };
+    let end = if slot == 0 {
+        LARGE as u64
+    } else {
+        (slot / 256).min(LARGE as u64)
+    };
     (end as usize).saturating_sub(8 + count)
 }
 

@@ -1,5 +1,5 @@
 -- So far the first words are written.
-use Rattle.std.proofs.Common.{◌≡◌, ◌+◌, ◌≤◌, length, take}
+use Rattle.std.proofs.Common.{◌≡◌, ◌≤◌, take}
 use Rattle.vm_bytes_form.specs.Forms.{key_block}
 use Rattle.vm_bytes_edit.specs.Drafts.{over}
 use Rattle.vm_bytes_edit.proofs.draft.write_key.Given as goal

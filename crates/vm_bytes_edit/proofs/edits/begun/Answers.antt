@@ -1,6 +1,5 @@
 -- The header is read off the page in the buffer.
-use Rattle.std.proofs.Common.{◌≡◌, ℕ, ◌≤◌, List, Some, None, length, sym, subst, ◌∙◌}
-use Rattle.vm_bytes_form.specs.Forms.{node_in}
+use Rattle.std.proofs.Common.{sym, ◌∙◌}
 use Rattle.vm_node.proofs.Telling.{told_buffer}
 use Rattle.vm_bytes_edit.proofs.Splices.{begun_of, high_some}
 use Rattle.vm_bytes_edit.proofs.edits.begun.Goals as goal

@@ -1,5 +1,4 @@
 -- The pair before the place goes.
-use Rattle.std.proofs.Common.{◌≡◌, Some, sym, ◌∙◌}
 use Rattle.vm_bytes_edit.proofs.PairEdits.{del_form, del_leaf, del_takes, found_was}
 use Rattle.vm_bytes_edit.proofs.edits.del_edit.Goals as goal
 

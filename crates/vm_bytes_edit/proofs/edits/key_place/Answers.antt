@@ -1,5 +1,5 @@
 -- The search tells what stands before the place.
-use Rattle.std.proofs.Common.{◌≡◌, ◌≢◌, ◌⊎◌, inl, inr, ℕ, suc, ◌+◌, ◌-◌, ◌<◌, List, length, get_or, sym, ◌∙◌, arith}
+use Rattle.std.proofs.Common.{◌≡◌, ◌≢◌, ◌⊎◌, inl, inr, ◌-◌, ◌<◌, length, sym, ◌∙◌, arith}
 use Rattle.vm_tree_model.specs.Page.{pairs_of}
 use Rattle.vm_node.proofs.Telling.{told_buffer}
 use Rattle.vm_bytes_form.specs.Bytes.{bytes}

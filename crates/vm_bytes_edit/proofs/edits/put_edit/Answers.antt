@@ -1,5 +1,5 @@
 -- The pair is written over, or put in its place, or there is no room for it.
-use Rattle.std.proofs.Common.{◌≡◌, ℕ, ◌≤◌, Some, sym, subst, ◌∙◌, arith}
+use Rattle.std.proofs.Common.{◌≡◌, ℕ, ◌≤◌, sym, ◌∙◌, arith}
 use Rattle.vm_bytes_form.specs.Cuts.{pair_size}
 use Rattle.vm_bytes_form.specs.Strings.{rank}
 use Rattle.vm_bytes_node.specs.Room.{spare_in}

@@ -1,5 +1,5 @@
 -- First come the pairs before the place, then the new one, then those behind.
-use Rattle.std.proofs.Common.{◌≡◌, ℕ, ◌≤◌, [], ◌∷◌, List, length, ap, subst, ◌∙◌, arith}
+use Rattle.std.proofs.Common.{[], ◌∷◌, ap, ◌∙◌, arith}
 use Rattle.vm_bytes_form.specs.Forms.{form_of, node_in}
 use Rattle.vm_node.proofs.Telling.{told_buffer}
 use Rattle.vm_bytes_edit.proofs.Splices.{between_fits, first_fits, spliced_is, whole_fits}
@@ -13,7 +13,7 @@ returns c = λ clean inside fits.
     let new = (c.args.key.now, c.args.value) ∷ [] in
     let order = c.requires.order in
     let first = c.copy.ensures.draft _ (c.begun-draft.ensures.draft clean) (omega (arith, inside, order)) (omega arith)
-        (first_fits n c.args.before c.args.behind _ new count fits) in
+    (first_fits n c.args.before c.args.behind _ new count fits) in
     let second = c.add.ensures.draft _ first (between_fits n c.args.before c.args.behind _ new count fits) in
     let third = c.copy-2.ensures.draft _ second (omega (arith, count)) (omega (arith, count, inside)) (whole_fits n c.args.before c.args.behind _ new count fits) in
     c.into_page.ensures ∙ third.form ∙ ap (form_of 512) (spliced_is n c.args.before c.args.behind _ new count)

@@ -1,12 +1,11 @@
 -- The cut comes where the first pairs have at least half.
-use Rattle.std.proofs.Common.{◌≡◌, ℕ, ◌+◌, ◌*◌, ◌<◌, ◌≤◌, length, drop, take, sym, ap, ◌∙◌, arith}
+use Rattle.std.proofs.Common.{◌≡◌, ℕ, length, drop, take, sym, ap, ◌∙◌, arith}
 use Rattle.std.proofs.lemmas.List.{drop_all, take_all}
 use Rattle.vm_map.specs.Map.{Pairs}
 use Rattle.vm_tree_model.specs.Layout.{cut_from, pairs_size}
 use Rattle.vm_tree_model.specs.Page.{pairs_of}
 use Rattle.vm_bytes_form.specs.Bytes.{bytes}
 use Rattle.vm_bytes_form.specs.Cuts.{pair_size}
-use Rattle.vm_bytes_form.specs.Forms.{node_in}
 use Rattle.vm_bytes_edit.proofs.Cutting.{cut_here, cut_more}
 use Rattle.vm_bytes_node.proofs.KeySearch.{length-pairs, pair_key}
 use Rattle.vm_bytes_edit.proofs.halves.kept_of.Goals as goal
@@ -43,6 +42,6 @@ returns-clause-kept c = λ all.
     let past = c.loop-i-test.false in
     let ended = c.loop-i.auto.i-end in
     let nothing : cut_from pair_size c.loop-i.got c.sizes_of-whole.result (drop c.loop-i.i m) ≡ 0 =
-        ap (cut_from pair_size c.loop-i.got c.sizes_of-whole.result) (drop_all c.loop-i.i m (omega (arith, past, all, length-pairs c.args.page.now))) in
+    ap (cut_from pair_size c.loop-i.got c.sizes_of-whole.result) (drop_all c.loop-i.i m (omega (arith, past, all, length-pairs c.args.page.now))) in
     let cut = c.loop-i.invariant.cut all in
     sym (ap (λ (w : ℕ). cut_from pair_size 0 w m) (sym whole) ∙ cut ∙ omega (arith, nothing, past, ended))

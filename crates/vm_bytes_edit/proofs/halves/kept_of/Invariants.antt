@@ -1,6 +1,6 @@
 -- So far the first pairs have less than half.
-use Rattle.std.proofs.Common.{◌≡◌, ◌+◌, ◌*◌, ◌≤◌, length, drop, take}
-use Rattle.vm_tree_model.specs.Layout.{cut_from, pairs_size}
+use Rattle.std.proofs.Common.{◌≡◌, ◌+◌, ◌*◌, ◌≤◌, length, drop}
+use Rattle.vm_tree_model.specs.Layout.{cut_from}
 use Rattle.vm_tree_model.specs.Page.{pairs_of}
 use Rattle.vm_bytes_form.specs.Bytes.{bytes}
 use Rattle.vm_bytes_form.specs.Cuts.{pair_size}

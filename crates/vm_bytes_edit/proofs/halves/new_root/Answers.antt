@@ -18,11 +18,11 @@ pub returns-clause-form : goal.returns-clause-form
 returns-clause-form c =
     let empty : c.new-lowest.result ≡ [] = c.new-lowest.ensures in
     let fits : IsFitting 512 (rooted c.args.level c.args.left c.args.separator.now c.args.right c.new-lowest.result) =
-        subst (λ (k : List ℕ). IsFitting 512 (rooted c.args.level c.args.left c.args.separator.now c.args.right k)) (sym empty)
-        (root-fits c.args.level c.args.left c.args.separator.now c.args.right c.in_range.ensures.string) in
+    subst (λ (k : List ℕ). IsFitting 512 (rooted c.args.level c.args.left c.args.separator.now c.args.right k)) (sym empty)
+    (root-fits c.args.level c.args.left c.args.separator.now c.args.right c.in_range.ensures.string) in
     let bare : ByteNode = empty_node 5 c.args.level c.new-lowest.result None in
     let first = c.add.ensures.draft bare c.new-draft.ensures.draft
-        (fits_first bare ((c.new-lowest.result, c.args.left) ∷ []) ((c.args.separator.now, c.args.right) ∷ []) fits) in
+    (fits_first bare ((c.new-lowest.result, c.args.left) ∷ []) ((c.args.separator.now, c.args.right) ∷ []) fits) in
     let second = c.add-2.ensures.draft (with_more bare ((c.new-lowest.result, c.args.left) ∷ [])) first fits in
     c.into_page.ensures ∙ second.form ∙ ap (λ (k : List ℕ). form_of 512 (rooted c.args.level c.args.left c.args.separator.now c.args.right k)) empty
 

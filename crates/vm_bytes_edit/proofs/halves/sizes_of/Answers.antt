@@ -1,6 +1,5 @@
 -- Each turn a pair's size comes.
-use Rattle.std.proofs.Common.{◌≡◌, ℕ, ◌+◌, ◌≤◌, length, take, ap, ◌∙◌, arith}
-use Rattle.vm_tree_model.specs.Layout.{pairs_size}
+use Rattle.std.proofs.Common.{ℕ, ◌+◌, ap, ◌∙◌, arith}
 use Rattle.vm_tree_model.specs.Page.{pairs_of}
 use Rattle.vm_bytes_form.specs.Bytes.{bytes}
 use Rattle.vm_bytes_form.specs.Cuts.{pair_size}

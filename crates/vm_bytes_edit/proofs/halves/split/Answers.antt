@@ -1,5 +1,5 @@
 -- The halves fit, and the separator lies above the lowest key.
-use Rattle.std.proofs.Common.{◌≡◌, ℕ, List, length}
+use Rattle.std.proofs.Common.{◌≡◌, length}
 use Rattle.vm_node.proofs.Telling.{told_buffer}
 use Rattle.vm_bytes_form.specs.Forms.{node_in}
 use Rattle.vm_bytes_form.specs.Strings.{rank}

@@ -1,5 +1,5 @@
 -- The header comes with the separator as its low fence, then the last pairs.
-use Rattle.std.proofs.Common.{◌≡◌, ℕ, List, [], drop, sym, ap, subst, ◌∙◌, arith}
+use Rattle.std.proofs.Common.{◌≡◌, List, [], drop, sym, ap, subst, ◌∙◌, arith}
 use Rattle.vm_node.proofs.Telling.{told_buffer}
 use Rattle.vm_bytes_form.specs.Forms.{Entry, IsFitting, form_of, node_in}
 use Rattle.vm_bytes_edit.specs.Drafts.{entries_between, IsDraft, with_more}
@@ -13,7 +13,7 @@ returns c = λ all inside clean fits.
     let high = c.high_at.ensures.told in
     let high_read = told_buffer high high.through c.in_buffer.ensures.same c.in_buffer.ensures.size in
     let begun : IsDraft c.match-high_at.draft.page c.match-high_at.draft.count c.match-high_at.draft.end
-        (record (node_in c.args.page.now) { low = c.args.separator.now; entries = [] }) = elim c.match-high_at.branch [
+    (record (node_in c.args.page.now) { low = c.args.separator.now; entries = [] }) = elim c.match-high_at.branch [
       | in-Some w ↦ subst (λ (d : Draft). IsDraft d.page d.count d.end (record (node_in c.args.page.now) { low = c.args.separator.now; entries = [] })) (sym w.draft-is)
           (let some = sym w.in-Some.is ∙ high_read in upper_begun c.args.page.now _ _ _ _ _ c.get.ensures.word c.get-2.ensures.word _ _ some
           (w.close.ensures.draft _ _ _ c.new-draft.ensures.draft (high_some c.args.page.now _ clean some)))

@@ -19,7 +19,7 @@ returns-clause-told g c =
     told_so (omega arith) (told_then g.met.P.Place.join
     (told_then g.met.P.Place.join c.count_at-count.ensures.told c.upper_bound_at-above.ensures.told) c.value_at-page.ensures.told)
     (λ words size read.
-      let b = read.0.1 read.0.0 in
-      let inside = b.0.inside in
-      let there : c.upper_bound_at-above.result.at - 1 < length (node_in words).entries = omega (arith, last, inside, length-pairs words) in
-      child_before words (rank c.args.key.now) _ b.0 _ _ b.1 (c.upper_bound_at-above.result.at - 1) _ last (read.1 there))
+    let b = read.0.1 read.0.0 in
+    let inside = b.0.inside in
+    let there : c.upper_bound_at-above.result.at - 1 < length (node_in words).entries = omega (arith, last, inside, length-pairs words) in
+    child_before words (rank c.args.key.now) _ b.0 _ _ b.1 (c.upper_bound_at-above.result.at - 1) _ last (read.1 there))

@@ -26,8 +26,8 @@ returns-clause-told g c =
     told_so (omega arith) (told_then g.met.P.Place.join
     (told_then g.met.P.Place.join c.count_at-count.ensures.told c.upper_bound_at-above.ensures.told) c.value_at.ensures.told)
     (λ words size read.
-      let b = read.0.1 read.0.0 in
-      let inside = b.0.inside in
-      let there : c.upper_bound_at-above.result.at - 1 < length (node_in words).entries = omega (arith, last, inside, length-pairs words) in
-      found_before (pairs_of bytes words) (rank c.args.key.now) _ _ _ b.0 b.1 (c.upper_bound_at-above.result.at - 1) _ last
-      (c.same_key.ensures.rank.0 c.if-not-same_key.false) (read.1 there ∙ sym (values-at _ (node_in words).entries there)))
+    let b = read.0.1 read.0.0 in
+    let inside = b.0.inside in
+    let there : c.upper_bound_at-above.result.at - 1 < length (node_in words).entries = omega (arith, last, inside, length-pairs words) in
+    found_before (pairs_of bytes words) (rank c.args.key.now) _ _ _ b.0 b.1 (c.upper_bound_at-above.result.at - 1) _ last
+    (c.same_key.ensures.rank.0 c.if-not-same_key.false) (read.1 there ∙ sym (values-at _ (node_in words).entries there)))

@@ -7,7 +7,7 @@ use Rattle.vm_bytes_node.proofs.KeySearch.{search_begins, search_right, search_l
 use Rattle.vm_bytes_node.proofs.search.upper_bound_at.Goals as goal
 
 not_before : (a b : ℕ) → (a < b → ⊥) → b ≤ a
-not_before a b never = elim (cases_lt a b) [ | inl lt ↦ absurd (never lt) | inr le ↦ le ]
+not_before a b never = elim (cases_lt a b) [ inl lt ↦ absurd (never lt) | inr le ↦ le ]
 
 pub halves-init : goal.halves-init
 halves-init g c =

@@ -1,5 +1,5 @@
 -- A high fence comes below the low one.
-use Rattle.std.proofs.Common.{◌≡◌, ℕ, List, Some, sym, subst}
+use Rattle.std.proofs.Common.{ℕ, Some, sym, subst}
 use Rattle.vm_bytes_edit.specs.Drafts.{empty_node, IsDraft}
 use Rattle.vm_bytes_edit.proofs.DraftForms.{closes}
 use Rattle.vm_bytes_edit.proofs.draft.Draft.close.Goals as goal

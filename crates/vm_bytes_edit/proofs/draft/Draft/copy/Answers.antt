@@ -1,6 +1,6 @@
 -- Each turn a pair more comes.
-use Rattle.std.proofs.Common.{◌≡◌, ℕ, ◌+◌, ◌≤◌, List, [], ◌∷◌, length, sym, subst, ap, ◌∙◌, arith}
-use Rattle.vm_bytes_form.specs.Forms.{ByteNode, Entry, IsFitting, node_in}
+use Rattle.std.proofs.Common.{◌≡◌, ℕ, List, sym, subst, ap, ◌∙◌, arith}
+use Rattle.vm_bytes_form.specs.Forms.{Entry, IsFitting, node_in}
 use Rattle.vm_bytes_edit.specs.Drafts.{entries_between, IsDraft, with_more}
 use Rattle.vm_bytes_edit.proofs.Entries.{between_none, comes_next, fits_next, with_none}
 use Rattle.vm_bytes_edit.proofs.draft.Draft.copy.Goals as goal

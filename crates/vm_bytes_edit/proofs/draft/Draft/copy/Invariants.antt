@@ -1,5 +1,5 @@
 -- So far the pairs before this one have come.
-use Rattle.std.proofs.Common.{◌≡◌, ◌≤◌, length}
+use Rattle.std.proofs.Common.{◌≤◌, length}
 use Rattle.vm_bytes_form.specs.Forms.{ByteNode, IsFitting, node_in}
 use Rattle.vm_bytes_edit.specs.Drafts.{entries_between, IsDraft, IsInPage, with_more}
 use Rattle.vm_bytes_edit.proofs.draft.Draft.copy.Given as goal
