@@ -1,5 +1,6 @@
 -- The sizes of the first pairs, and where a node is cut.
-use Rattle.std.proofs.Common.{◌≡◌, ℕ, zero, suc, ◌+◌, ◌*◌, ◌<◌, ◌≤◌, List, [], ◌∷◌, ◌++◌, length, get_or, drop, take, false, leb, refl, sym, ap, ◌∙◌, arith}
+use Rattle.std.proofs.Common.{◌≡◌, ℕ, zero, suc, ◌+◌, ◌*◌, ◌<◌, ◌≤◌, List, [], ◌∷◌, ◌++◌, length, get_or, drop, take, false, leb, refl, sym}
+use Rattle.std.proofs.Common.{ap, ◌∙◌, arith}
 use Rattle.std.proofs.lemmas.Bool.{le-leb}
 use Rattle.std.proofs.lemmas.Bool.Decides.{nat_tests}
 use Rattle.std.proofs.lemmas.List.{drop_more, take_more}
@@ -26,10 +27,12 @@ cut_here each got whole [] half = refl
 cut_here each got whole (e ∷ es) half = rw (le-leb whole (2 * got) half) refl
 
 -- they have less
-cut_next : (each : ℕ → ℕ) (got whole : ℕ) (e : ℕ × ℕ) (es : Pairs) → 2 * got < whole → cut_from each got whole (e ∷ es) ≡ suc (cut_from each (got + each e.0) whole es)
+cut_next : (each : ℕ → ℕ) (got whole : ℕ) (e : ℕ × ℕ) (es : Pairs) → 2 * got < whole
+    → cut_from each got whole (e ∷ es) ≡ suc (cut_from each (got + each e.0) whole es)
 cut_next each got whole e es less = let not_half : leb whole (2 * got) ≡ false = grind (arith, nat_tests, less) in rw not_half refl
 
-pub cut_more : (each : ℕ → ℕ) (got whole all i key size : ℕ) (m : Pairs) → i < length m → 2 * got < whole → (get_or m i (0, 0)).0 ≡ key → size ≡ each key
+pub cut_more : (each : ℕ → ℕ) (got whole all i key size : ℕ) (m : Pairs) → i < length m → 2 * got < whole → (get_or m i (0, 0)).0 ≡ key
+    → size ≡ each key
     → all ≡ i + cut_from each got whole (drop i m) → all ≡ i + 1 + cut_from each (got + size) whole (drop (i + 1) m)
 cut_more each got whole all i key size m inside less is size_is so_far =
     let step : cut_from each got whole (drop i m) ≡ suc (cut_from each (got + size) whole (drop (i + 1) m)) =
@@ -41,7 +44,8 @@ cut_more each got whole all i key size m inside less is size_is so_far =
 pub not_lowest : (m : Pairs) (low high i : ℕ) → Rises low high m → 1 ≤ i → i < length m → 1 ≤ (get_or m i (0, 0)).0
 not_lowest [] low high i rises some inside = absurd (omega (arith, inside))
 not_lowest (e ∷ es) low high zero rises some inside = absurd (omega (arith, some))
-not_lowest (e ∷ es) low high (suc i) rises some inside = let least = at_least es (e.0 + 1) high i rises.2 (omega (arith, inside)) in omega (arith, least)
+not_lowest (e ∷ es) low high (suc i) rises some inside = let least = at_least es (e.0 + 1) high i rises.2 (omega (arith, inside)) in
+    omega (arith, least)
 
 pub not_empty : (s : List ℕ) → 1 ≤ rank s → 1 ≤ length s
 not_empty [] some = absurd (omega (arith, some, rank-nil))

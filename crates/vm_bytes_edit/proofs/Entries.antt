@@ -1,10 +1,12 @@
 -- Parts of a list of entries, and what they take of a node.
-use Rattle.std.proofs.Common.{◌≡◌, ℕ, zero, suc, ◌+◌, ◌<◌, ◌≤◌, List, [], ◌∷◌, ◌++◌, length, get_or, take, drop, refl, sym, ap, subst, ◌∙◌, arith, length-append}
+use Rattle.std.proofs.Common.{◌≡◌, ℕ, zero, suc, ◌+◌, ◌<◌, ◌≤◌, List, [], ◌∷◌, ◌++◌, length, get_or, take, drop, refl, sym, ap, subst, ◌∙◌}
+use Rattle.std.proofs.Common.{arith, length-append}
 use Rattle.std.proofs.lemmas.List.{append_assoc, append-nil, drop-append-le, length-take-le, take-append-drop, take-take, take_more}
 use Rattle.vm_bytes_form.specs.Forms.{AreKeys, ByteNode, Entry, IsFitting, entry_block, heap}
 use Rattle.vm_bytes_edit.specs.Drafts.{entries_between, with_more}
 
-pub between_more : (from i : ℕ) (es : List Entry) → from ≤ i → i < length es → entries_between from (i + 1) es ≡ entries_between from i es ++ (get_or es i ([], 0) ∷ [])
+pub between_more : (from i : ℕ) (es : List Entry) → from ≤ i → i < length es
+    → entries_between from (i + 1) es ≡ entries_between from i es ++ (get_or es i ([], 0) ∷ [])
 between_more from i es begun inside =
     ap (drop from) (take_more es i ([], 0) inside)
     ∙ drop-append-le from (take i es) (get_or es i ([], 0) ∷ []) (omega (arith, begun, length-take-le i es (omega (arith, inside))))
@@ -12,7 +14,8 @@ between_more from i es begun inside =
 pub between_split : (from i upto : ℕ) (es : List Entry) → from ≤ i → i ≤ upto → i ≤ length es
     → entries_between from upto es ≡ entries_between from i es ++ entries_between i upto es
 between_split from i upto es begun more inside =
-    ap (drop from) (sym (take-append-drop i (take upto es)) ∙ ap (λ (l : List Entry). l ++ drop i (take upto es)) (take-take i upto es more))
+    ap (drop from) (sym (take-append-drop i (take upto es))
+        ∙ ap (λ (l : List Entry). l ++ drop i (take upto es)) (take-take i upto es more))
     ∙ drop-append-le from (take i es) (drop i (take upto es)) (omega (arith, begun, length-take-le i es inside))
 
 pub between_none : (from : ℕ) (es : List Entry) → from ≤ length es → entries_between from from es ≡ []
@@ -25,7 +28,8 @@ between_none from es inside = go from es
 
 heap-append : (es fs : List Entry) → length (heap (es ++ fs)) ≡ length (heap es) + length (heap fs)
 heap-append [] fs = omega arith
-heap-append (e ∷ es) fs = omega (arith, heap-append es fs, length-append (heap (es ++ fs)) (entry_block e), length-append (heap es) (entry_block e))
+heap-append (e ∷ es) fs = omega (arith, heap-append es fs, length-append (heap (es ++ fs)) (entry_block e),
+    length-append (heap es) (entry_block e))
 
 AreKeys-first : (es fs : List Entry) → AreKeys (es ++ fs) → AreKeys es
 AreKeys-first [] fs keys = tt
@@ -66,8 +70,10 @@ comes_next n from i upto es key value begun inside whole is =
     ∙ ap (λ (l : List Entry). with_more n l) (ap (λ (e : Entry). entries_between from i es ++ (e ∷ [])) (λ j. (is.0 j, is.1 j))
     ∙ sym (between_more from i es begun (omega (arith, inside, whole))))
 
-pub fits_next : (n : ByteNode) (from i upto : ℕ) (es : List Entry) → from ≤ i → i < upto → upto ≤ length es → IsFitting 512 (with_more n (entries_between from upto es))
+pub fits_next : (n : ByteNode) (from i upto : ℕ) (es : List Entry) → from ≤ i → i < upto → upto ≤ length es
+    → IsFitting 512 (with_more n (entries_between from upto es))
     → IsFitting 512 (with_more n (entries_between from (i + 1) es))
 fits_next n from i upto es begun inside whole fits =
     fits_first n (entries_between from (i + 1) es) (entries_between (i + 1) upto es)
-    (subst (λ (l : List Entry). IsFitting 512 (with_more n l)) (between_split from (i + 1) upto es (omega (arith, begun)) (omega (arith, inside)) (omega (arith, inside, whole))) fits)
+    (subst (λ (l : List Entry). IsFitting 512 (with_more n l)) (between_split from (i + 1) upto es (omega (arith, begun))
+        (omega (arith, inside)) (omega (arith, inside, whole))) fits)

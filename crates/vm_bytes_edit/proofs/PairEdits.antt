@@ -1,5 +1,6 @@
 -- What an edit at a key's place makes of a page.
-use Rattle.std.proofs.Common.{◌≡◌, ◌≢◌, ℕ, suc, ◌+◌, ◌-◌, ◌<◌, ◌≤◌, List, [], ◌∷◌, length, get_or, MatchOption, Option, Some, None, sym, ap, subst, ◌∙◌, arith}
+use Rattle.std.proofs.Common.{◌≡◌, ◌≢◌, ℕ, suc, ◌+◌, ◌-◌, ◌<◌, ◌≤◌, List, [], ◌∷◌, length, get_or, MatchOption, Option, Some, None, sym, ap}
+use Rattle.std.proofs.Common.{subst, ◌∙◌, arith}
 use Rattle.vm_map.specs.Map.{del_pair, lookup_at, Pairs, Rises}
 use Rattle.vm_tree_model.specs.Layout.{IsClean}
 use Rattle.vm_tree_model.specs.Node.{Covers}
@@ -71,11 +72,13 @@ module _ (words s : List ℕ) (is : IsString 64 s) (at : ℕ) (old : Option ℕ)
         let behind : suc there.0 ≡ at - 1 + 1 = let is_at = there.1 in omega (arith, is_at) in
         let puts : put_in n s v ≡ spliced n there.0 (suc there.0) ((s, v) ∷ []) = λ j. record n { entries = e.0 j } in
         let dels : del_in n s ≡ spliced n there.0 (suc there.0) [] = λ j. record n { entries = e.1 j } in (
-          puts ∙ ap (λ (i : ℕ). spliced n i (suc there.0) ((s, v) ∷ [])) before ∙ ap (λ (i : ℕ). spliced n (at - 1) i ((s, v) ∷ [])) there.1,
+          puts ∙ ap (λ (i : ℕ). spliced n i (suc there.0) ((s, v) ∷ [])) before
+              ∙ ap (λ (i : ℕ). spliced n (at - 1) i ((s, v) ∷ [])) there.1,
           dels ∙ ap (λ (i : ℕ). spliced n i (suc there.0) []) before ∙ ap (λ (i : ℕ). spliced n (at - 1) i []) behind,
         )
 
-    pub put_there_form : (v : ℕ) (new : List ℕ) → (IsClean bytes words → at ≤ length n.entries → IsFitting 512 (spliced n (at - 1) at ((s, v) ∷ []))
+    pub put_there_form : (v : ℕ) (new : List ℕ) → (IsClean bytes words → at ≤ length n.entries
+        → IsFitting 512 (spliced n (at - 1) at ((s, v) ∷ []))
         → new ≡ form_of 512 (spliced n (at - 1) at ((s, v) ∷ [])))
         → IsClean bytes words → (low high : ℕ) → Rises low high pairs → new ≡ form_of 512 (put_in n s v)
     put_there_form v new made clean low high rises =
@@ -108,23 +111,28 @@ module _ (words s : List ℕ) (is : IsString 64 s) (at : ℕ) (old : Option ℕ)
       pub room_not_full : IsClean bytes words → ¬ (IsFullFor bytes words (rank s))
       room_not_full clean full = let more = full.count in omega (arith, more, roomy, spare_is words clean)
 
-      pub put_new_form : (v : ℕ) (new : List ℕ) → (IsClean bytes words → at ≤ length n.entries → IsFitting 512 (spliced n at at ((s, v) ∷ []))
+      pub put_new_form : (v : ℕ) (new : List ℕ) → (IsClean bytes words → at ≤ length n.entries
+          → IsFitting 512 (spliced n at at ((s, v) ∷ []))
           → new ≡ form_of 512 (spliced n at at ((s, v) ∷ [])))
           → IsClean bytes words → (low high : ℕ) → Rises low high pairs → new ≡ form_of 512 (put_in n s v)
       put_new_form v new made clean low high rises =
           let e : put_in n s v ≡ spliced n at at ((s, v) ∷ []) =
-          (let l = put_new s v is n.entries at (clean_fitting words clean).keys (absent low high rises) (at_is low high rises) in λ j. record n { entries = l j }) in
-          made clean inside (subst (IsFitting 512) e (put-fits words clean s v is low high rises (room_not_full clean))) ∙ ap (form_of 512) (sym e)
+          (let l = put_new s v is n.entries at (clean_fitting words clean).keys (absent low high rises) (at_is low high rises) in
+              λ j. record n { entries = l j }) in
+          made clean inside (subst (IsFitting 512) e (put-fits words clean s v is low high rises (room_not_full clean)))
+              ∙ ap (form_of 512) (sym e)
 
 -- what follows for nodes, leaves and inner nodes
 module _ (words new s : List ℕ) (v : ℕ) (is : IsString 64 s) where
   module _ (roomy : IsClean bytes words → ¬ (IsFullFor bytes words (rank s)))
-      (form : IsClean bytes words → (low high : ℕ) → Rises low high (pairs_of bytes words) → new ≡ form_of 512 (put_in (node_in words) s v)) where
+      (form : IsClean bytes words → (low high : ℕ) → Rises low high (pairs_of bytes words)
+          → new ≡ form_of 512 (put_in (node_in words) s v)) where
     pub put_adds : IsClean bytes words → (low high : ℕ) → Rises low high (pairs_of bytes words) → AddsPair bytes words new (rank s) v
     put_adds clean low high rises = subst (λ (w : List ℕ). AddsPair bytes words w (rank s) v) (sym (form clean low high rises))
         (adds words clean s v is low high rises (roomy clean))
 
-    pub put_leaf : (old : Option ℕ) → ((low high : ℕ) → Rises low high (pairs_of bytes words) → old ≡ lookup_at (pairs_of bytes words) (rank s))
+    pub put_leaf : (old : Option ℕ) → ((low high : ℕ) → Rises low high (pairs_of bytes words)
+        → old ≡ lookup_at (pairs_of bytes words) (rank s))
         → IsLeaf bytes words → Covers (node_of bytes words) (rank s) → PutsInLeaf bytes words new (rank s) v old
     put_leaf old was leaf covers = record {
       was_there = was _ _ leaf.node.rises;
@@ -135,9 +143,11 @@ module _ (words new s : List ℕ) (v : ℕ) (is : IsString 64 s) where
     pub put_inner : IsInner bytes words → Covers (node_of bytes words) (rank s) → IsInner bytes new
     put_inner inner covers = adds_inner bytes words new (rank s) v (put_adds inner.clean _ _ inner.node.rises) inner covers
 
-  module _ (form : IsClean bytes words → (low high : ℕ) → Rises low high (pairs_of bytes words) → new ≡ form_of 512 (del_in (node_in words) s)) where
+  module _ (form : IsClean bytes words → (low high : ℕ) → Rises low high (pairs_of bytes words)
+      → new ≡ form_of 512 (del_in (node_in words) s)) where
     pub del_takes : IsClean bytes words → (low high : ℕ) → Rises low high (pairs_of bytes words) → TakesPair bytes words new (rank s)
-    del_takes clean low high rises = subst (λ (w : List ℕ). TakesPair bytes words w (rank s)) (sym (form clean low high rises)) (takes words clean s is)
+    del_takes clean low high rises = subst (λ (w : List ℕ). TakesPair bytes words w (rank s)) (sym (form clean low high rises))
+        (takes words clean s is)
 
     pub del_leaf : IsLeaf bytes words → IsLeafWith bytes words new (del_pair (pairs_of bytes words) (rank s))
     del_leaf leaf = takes_leaf bytes words new (rank s) (del_takes leaf.clean _ _ leaf.node.rises) leaf

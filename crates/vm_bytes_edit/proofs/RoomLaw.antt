@@ -1,12 +1,14 @@
 -- Of a clean page the room that is left and the node's size are the whole room.
-use Rattle.std.proofs.Common.{◌≡◌, ◌≢◌, ℕ, zero, suc, ◌+◌, ◌-◌, ◌*◌, ◌/◌, ◌<◌, ◌≤◌, List, [], ◌∷◌, ◌++◌, length, get_or, replicate, Option, Some, None, refl, sym, ap, ◌∙◌, arith, length-append}
+use Rattle.std.proofs.Common.{◌≡◌, ◌≢◌, ℕ, zero, suc, ◌+◌, ◌-◌, ◌*◌, ◌/◌, ◌<◌, ◌≤◌, List, [], ◌∷◌, ◌++◌, length, get_or, replicate, Option}
+use Rattle.std.proofs.Common.{Some, None, refl, sym, ap, ◌∙◌, arith, length-append}
 use Rattle.std.proofs.lemmas.Bool.{ne_eqb}
 use Rattle.std.proofs.lemmas.List.{get_or-drop, get_or_append_left, nil_from_length}
 use Rattle.std.proofs.lemmas.Nat.{div-mul-add}
 use Rattle.vm_tree_model.specs.Layout.{IsClean, size}
 use Rattle.vm_tree_model.specs.Page.{node_of}
 use Rattle.vm_bytes_form.specs.Bytes.{bytes}
-use Rattle.vm_bytes_form.specs.Forms.{AreKeys, ByteNode, Entry, IsFitting, entry_block, fence_block, fence_blocks, fence_slot, form_of, heap, high_slot, key_block, node_in, slots, taken}
+use Rattle.vm_bytes_form.specs.Forms.{AreKeys, ByteNode, Entry, IsFitting, entry_block, fence_block, fence_blocks, fence_slot, form_of}
+use Rattle.vm_bytes_form.specs.Forms.{heap, high_slot, key_block, node_in, slots, taken}
 use Rattle.vm_bytes_form.specs.Strings.{IsString}
 use Rattle.vm_bytes_form.proofs.BytesLaws.{size-taken}
 use Rattle.vm_bytes_form.proofs.EditLaws.{clean_fitting, clean_is_form}
@@ -21,8 +23,10 @@ slots-last end (e ∷ []) zero long = refl
 slots-last end (e ∷ []) (suc i) long = absurd (omega (arith, long))
 slots-last end (e ∷ (d ∷ es)) zero long = absurd (omega (arith, long))
 slots-last end (e ∷ (d ∷ es)) (suc i) long =
-    let place : end - length (entry_block e) - length (heap (d ∷ es)) ≡ end - length (heap (e ∷ (d ∷ es))) = omega (arith, length-append (heap (d ∷ es)) (entry_block e)) in
-    slots-last (end - length (entry_block e)) (d ∷ es) i (omega (arith, long)) ∙ ap (λ (p : ℕ). p * 256 + length (get_or (d ∷ es) i ([], 0)).0) place
+    let place : end - length (entry_block e) - length (heap (d ∷ es)) ≡ end - length (heap (e ∷ (d ∷ es))) = omega
+        (arith, length-append (heap (d ∷ es)) (entry_block e)) in
+    slots-last (end - length (entry_block e)) (d ∷ es) i (omega (arith, long))
+        ∙ ap (λ (p : ℕ). p * 256 + length (get_or (d ∷ es) i ([], 0)).0) place
 
 -- the place of a slot
 place_is : (slot place long : ℕ) → slot ≡ place * 256 + long → long < 256 → 1 ≤ place → place ≤ 512 → place_of_slot slot ≡ place
@@ -43,7 +47,8 @@ fence-place end (b ∷ s) is some above below =
     let fits = is.fits in
     let few : length (key_block (b ∷ s)) ≤ 8 = omega (arith, length-block (b ∷ s), fits) in (
       λ none. omega (arith, none),
-      place_is (fence_slot end (b ∷ s)) (end - length (key_block (b ∷ s))) (length (b ∷ s)) refl (omega (arith, fits)) (omega (arith, few, above)) (omega (arith, below)),
+      place_is (fence_slot end (b ∷ s)) (end - length (key_block (b ∷ s))) (length (b ∷ s)) refl (omega (arith, fits))
+          (omega (arith, few, above)) (omega (arith, below)),
     )
 
 module _ (words : List ℕ) (n : ByteNode) (fits : IsFitting 512 n) (is : words ≡ form_of 512 n) where
@@ -67,9 +72,11 @@ module _ (words : List ℕ) (n : ByteNode) (fits : IsFitting 512 n) (is : words 
   fourth = ap (λ (w : List ℕ). get_or w 4 0) shown
 
   -- with a pair
-  last_slot : (i : ℕ) → length n.entries ≡ suc i → get_or words (8 + i) 0 ≡ (base - length (heap n.entries)) * 256 + length (get_or n.entries i ([], 0)).0
+  last_slot : (i : ℕ) → length n.entries ≡ suc i → get_or words (8 + i) 0 ≡ (base - length (heap n.entries)) * 256 + length
+      (get_or n.entries i ([], 0)).0
   last_slot i long = ap (λ (w : List ℕ). get_or w (8 + i) 0) shown
-      ∙ sym (get_or-drop 8 (n.tag ∷ length n.entries ∷ n.level ∷ fence_slot 512 n.low ∷ high_slot (512 - length (key_block n.low)) n.high ∷ 0 ∷ 0 ∷ 0 ∷ (slots base n.entries ++ tail)) i 0)
+      ∙ sym (get_or-drop 8 (n.tag ∷ length n.entries ∷ n.level ∷ fence_slot 512 n.low ∷ high_slot (512 - length (key_block n.low)) n.high
+          ∷ 0 ∷ 0 ∷ 0 ∷ (slots base n.entries ++ tail)) i 0)
       ∙ get_or_append_left (slots base n.entries) tail 0 i (omega (arith, long, length-slots base n.entries))
       ∙ slots-last base n.entries i long
 
@@ -83,12 +90,14 @@ module _ (words : List ℕ) (n : ByteNode) (fits : IsFitting 512 n) (is : words 
       no_heap : length (heap n.entries) ≡ 0
       no_heap = ap (λ (l : List Entry). length (heap l)) (nil_from_length n.entries none)
 
-      without : (high : Option (List ℕ)) → n.high ≡ high → (low : List ℕ) → n.low ≡ low → place_of_slot (lowest_slot words) ≡ base - length (heap n.entries)
+      without : (high : Option (List ℕ)) → n.high ≡ high → (low : List ℕ) → n.low ≡ low
+          → place_of_slot (lowest_slot words) ≡ base - length (heap n.entries)
       without None no_high [] no_low =
           let high_word : get_or words 4 0 ≡ 0 = fourth ∙ ap (high_slot (512 - length (key_block n.low))) no_high in
           let low_word : get_or words 3 0 ≡ 0 = third ∙ ap (fence_slot 512) no_low in
           let blocks : length (fence_blocks n) ≡ 0 = length-append (fence_block n.high) (key_block n.low)
-          ∙ (let a = ap (λ (h : Option (List ℕ)). length (fence_block h)) no_high in let b = ap (λ (l : List ℕ). length (key_block l)) no_low in omega (arith, a, b)) in
+          ∙ (let a = ap (λ (h : Option (List ℕ)). length (fence_block h)) no_high in
+              let b = ap (λ (l : List ℕ). length (key_block l)) no_low in omega (arith, a, b)) in
           let slot : lowest_slot words ≡ 0 = rw (nothing, high_word, low_word) refl in
           ap place_of_slot slot ∙ omega (arith, blocks, no_heap)
       without None no_high (b ∷ low) low_is =
@@ -102,8 +111,10 @@ module _ (words : List ℕ) (n : ByteNode) (fits : IsFitting 512 n) (is : words 
           let of = fits.high s high_is in
           let few : length (key_block n.low) ≤ 8 = (let low_fits = fits.low.fits in omega (arith, length-block n.low, low_fits)) in
           let there = fence-place (512 - length (key_block n.low)) s of.0 of.1 (omega (arith, few)) (omega arith) in
-          let high_word : get_or words 4 0 ≡ fence_slot (512 - length (key_block n.low)) s = fourth ∙ ap (high_slot (512 - length (key_block n.low))) high_is in
-          let blocks : length (fence_blocks n) ≡ length (key_block s) + length (key_block n.low) = length-append (fence_block n.high) (key_block n.low)
+          let high_word : get_or words 4 0 ≡ fence_slot (512 - length (key_block n.low)) s = fourth
+              ∙ ap (high_slot (512 - length (key_block n.low))) high_is in
+          let blocks : length (fence_blocks n) ≡ length (key_block s) + length (key_block n.low) = length-append (fence_block n.high)
+              (key_block n.low)
           ∙ (let a = ap (λ (h : Option (List ℕ)). length (fence_block h)) high_is in omega (arith, a)) in
           let slot : lowest_slot words ≡ fence_slot (512 - length (key_block n.low)) s =
           rw (nothing, ne_eqb (get_or words 4 0) 0 (λ e. there.0 (sym high_word ∙ e))) high_word in
@@ -124,4 +135,5 @@ pub spare_is : (words : List ℕ) → IsClean bytes words → spare_in words + s
 spare_is words clean =
     let fits = clean_fitting words clean in
     let room = fits.room in
-    omega (arith, spare words (node_in words) fits (clean_is_form words clean), size-taken (node_in words) fits.low fits.high fits.keys, room)
+    omega (arith, spare words (node_in words) fits (clean_is_form words clean), size-taken (node_in words) fits.low fits.high fits.keys,
+        room)

@@ -10,13 +10,15 @@ use Rattle.vm_bytes_edit.proofs.Entries.{fits_first, with_both}
 use Rattle.vm_bytes_node.proofs.HeaderLemmas.{level_is, tag_is}
 
 -- a draft with the header of a page
-pub begun_of : (words : List ℕ) (page : List ℕ) (count end tag level : ℕ) (low : List ℕ) (high : Option (List ℕ)) → tag ≡ get_or words 0 0 → level ≡ get_or words 2 0
+pub begun_of : (words : List ℕ) (page : List ℕ) (count end tag level : ℕ) (low : List ℕ) (high : Option (List ℕ)) → tag ≡ get_or words 0 0
+    → level ≡ get_or words 2 0
     → low ≡ (node_in words).low → high ≡ (node_in words).high → IsDraft page count end (empty_node tag level low high)
     → IsDraft page count end (record (node_in words) { entries = [] })
 begun_of words page count end tag level low high tag_read level_read low_read high_read draft =
     let tagged = tag_read ∙ sym (tag_is words) in
     let levelled = level_read ∙ sym (level_is words) in
-    let same : empty_node tag level low high ≡ record (node_in words) { entries = [] } = λ i. empty_node (tagged i) (levelled i) (low_read i) (high_read i) in
+    let same : empty_node tag level low high ≡ record (node_in words) { entries = [] } = λ i. empty_node (tagged i) (levelled i)
+        (low_read i) (high_read i) in
     subst (IsDraft page count end) same draft
 
 -- a high fence is not empty
@@ -35,7 +37,8 @@ module _ (n : ByteNode) (before behind count : ℕ) (between : List Entry) (all 
 
   pub joined : with_more (with_more bare first) (between ++ last) ≡ spliced n before behind between
   joined = with_both bare first (between ++ last)
-      ∙ ap (λ (l : List Entry). record n { entries = take before n.entries ++ (between ++ drop behind l) }) (take_all count n.entries (omega (arith, all)))
+      ∙ ap (λ (l : List Entry). record n { entries = take before n.entries ++ (between ++ drop behind l) })
+          (take_all count n.entries (omega (arith, all)))
 
   pub spliced_is : with_more (with_more (with_more bare first) between) last ≡ spliced n before behind between
   spliced_is = with_both (with_more bare first) between last ∙ joined
@@ -51,7 +54,8 @@ module _ (n : ByteNode) (before behind count : ℕ) (between : List Entry) (all 
     whole_fits = subst (IsFitting 512) (sym spliced_is) fits
 
 -- the halves of a page: its header with another fence, and a part of its pairs
-module _ (words : List ℕ) (page : List ℕ) (count end tag level : ℕ) (tag_read : tag ≡ get_or words 0 0) (level_read : level ≡ get_or words 2 0) where
+module _ (words : List ℕ) (page : List ℕ) (count end tag level : ℕ) (tag_read : tag ≡ get_or words 0 0)
+    (level_read : level ≡ get_or words 2 0) where
   tagged : tag ≡ (node_in words).tag
   tagged = tag_read ∙ sym (tag_is words)
 
@@ -65,7 +69,8 @@ module _ (words : List ℕ) (page : List ℕ) (count end tag level : ℕ) (tag_r
       λ i. empty_node (tagged i) (levelled i) (low_read i) (Some high) in
       subst (IsDraft page count end) same draft
 
-  pub upper_begun : (low : List ℕ) (high : Option (List ℕ)) → high ≡ (node_in words).high → IsDraft page count end (empty_node tag level low high)
+  pub upper_begun : (low : List ℕ) (high : Option (List ℕ)) → high ≡ (node_in words).high
+      → IsDraft page count end (empty_node tag level low high)
       → IsDraft page count end (record (node_in words) { low = low; entries = [] })
   upper_begun low high high_read draft =
       let same : empty_node tag level low high ≡ record (node_in words) { low = low; entries = [] } =

@@ -34,7 +34,8 @@ module _ (words : List ℕ) (clean : IsClean bytes words) (full : IsFullNode byt
   pub inside : kept < length n.entries
   inside = let lt = paid.right_some in omega (arith, lt, length-pairs words)
 
-  module _ (s : List ℕ) (separates : s ≡ (get_or n.entries kept ([], 0)).0) (low high : ℕ) (rises : Rises low high (pairs_of bytes words)) where
+  module _ (s : List ℕ) (separates : s ≡ (get_or n.entries kept ([], 0)).0) (low high : ℕ)
+      (rises : Rises low high (pairs_of bytes words)) where
     pub not_nil : 1 ≤ length s
     not_nil = not_empty s (let least = not_lowest (pairs_of bytes words) low high kept rises some_stay some_go in
         let key = ranks-at kept n.entries inside in omega (arith, least, key, ap rank separates))
@@ -48,9 +49,11 @@ module _ (words : List ℕ) (clean : IsClean bytes words) (full : IsFullNode byt
     module _ (left right : List ℕ) (left_is : left ≡ form_of 512 (lower_half n s)) (right_is : right ≡ form_of 512 (upper_half n s)) where
       pub split_is : IsSplit bytes words left right (rank s)
       split_is = subst (λ (l : List ℕ). IsSplit bytes words l right (rank s)) (sym left_is)
-          (subst (λ (r : List ℕ). IsSplit bytes words (form_of 512 (lower_half n s)) r (rank s)) (sym right_is) (splits_in_two words clean full s (sym separates) not_nil))
+          (subst (λ (r : List ℕ). IsSplit bytes words (form_of 512 (lower_half n s)) r (rank s)) (sym right_is)
+              (splits_in_two words clean full s (sym separates) not_nil))
 
-module _ (words left right : List ℕ) (separator : ℕ) (full : IsFullNode bytes (node_of bytes words)) (split : IsSplit bytes words left right separator) where
+module _ (words left right : List ℕ) (separator : ℕ) (full : IsFullNode bytes (node_of bytes words))
+    (split : IsSplit bytes words left right separator) where
   pub split_leaves : IsLeaf bytes words → IsLeaf bytes left × IsLeaf bytes right
   split_leaves leaf = let some = some_go words leaf.clean full in
       (left_leaf bytes words left right separator split some leaf, right_leaf bytes words left right separator split some leaf)
@@ -59,7 +62,8 @@ module _ (words left right : List ℕ) (separator : ℕ) (full : IsFullNode byte
   split_inners inner =
       let first = some_stay words inner.clean full in
       let some = some_go words inner.clean full in
-      (left_inner bytes words left right separator split first some inner, right_inner bytes words left right separator split first some inner)
+      (left_inner bytes words left right separator split first some inner,
+          right_inner bytes words left right separator split first some inner)
 
 -- what the parts of the call give
 module _ (words s left right : List ℕ) (kept_found count : ℕ) (counted : count ≡ length (node_in words).entries)
@@ -80,7 +84,8 @@ module _ (words s left right : List ℕ) (kept_found count : ℕ) (counted : cou
     lower_is made =
         let fits = lower_fits words clean full s separator_is low high rises in
         made (omega (arith, less, counted)) (not_nil words clean full s separator_is low high rises)
-        (subst (λ (i : ℕ). IsFitting 512 (record (node_in words) { high = Some s; entries = take i (node_in words).entries })) (sym kept_is) fits)
+        (subst (λ (i : ℕ). IsFitting 512 (record (node_in words) { high = Some s; entries = take i (node_in words).entries }))
+            (sym kept_is) fits)
         ∙ ap (λ (i : ℕ). form_of 512 (record (node_in words) { high = Some s; entries = take i (node_in words).entries })) kept_is
 
     pub upper_is : (count ≡ length (node_in words).entries → kept_found ≤ count → IsClean bytes words

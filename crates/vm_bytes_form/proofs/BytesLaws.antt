@@ -1,5 +1,6 @@
 -- Nodes with byte keys are a layout.
-use Rattle.std.proofs.Common.{◌≡◌, ◌≢◌, ◌⊎◌, inl, inr, ℕ, ◌+◌, ◌<◌, ◌≤◌, List, [], ◌∷◌, length, get_or, map, Option, Some, None, Bool, true, false, eqb, ltb, leb, ◌==◌, ◌||◌, if◌then◌else◌, refl, sym, ap, ◌∙◌, arith, length-append}
+use Rattle.std.proofs.Common.{◌≡◌, ◌≢◌, ◌⊎◌, inl, inr, ℕ, ◌+◌, ◌<◌, ◌≤◌, List, [], ◌∷◌, length, get_or, map, Option, Some, None, Bool, true}
+use Rattle.std.proofs.Common.{false, eqb, ltb, leb, ◌==◌, ◌||◌, if◌then◌else◌, refl, sym, ap, ◌∙◌, arith, length-append}
 use Rattle.std.proofs.lemmas.Bool.{and_parts, and_from, eqb-true, eq-eqb, leb-true, le-leb, ltb-true, or_left, or_right}
 use Rattle.std.proofs.lemmas.Bool.Decides.{nat_tests}
 use Rattle.std.proofs.lemmas.List.{length-map}
@@ -7,8 +8,10 @@ use Rattle.vm_tree_model.specs.Node.{Node}
 use Rattle.vm_tree_model.specs.Layout.{IsLayout, PaysForSplit, pairs_size, size}
 use Rattle.vm_bytes_form.specs.Strings.{AreBytes, IsString, rank, RANK_END}
 use Rattle.vm_bytes_form.specs.Cuts.{words_for, key_words, pair_size}
-use Rattle.vm_bytes_form.specs.Forms.{Entry, ByteNode, key_block, fence_block, entry_block, heap, taken, form_of, node_in, AreKeys, IsFitting}
-use Rattle.vm_bytes_form.specs.Bytes.{kind_of, high_rank, ranked_entry, ranked, same_words, are_bytes, is_string, is_high, are_keys, is_fitting, bytes_clean, bytes_has_fences, bytes_has_form, bytes}
+use Rattle.vm_bytes_form.specs.Forms.{Entry, ByteNode, key_block, fence_block, entry_block, heap, taken, form_of, node_in, AreKeys}
+use Rattle.vm_bytes_form.specs.Forms.{IsFitting}
+use Rattle.vm_bytes_form.specs.Bytes.{kind_of, high_rank, ranked_entry, ranked, same_words, are_bytes, is_string, is_high, are_keys}
+use Rattle.vm_bytes_form.specs.Bytes.{is_fitting, bytes_clean, bytes_has_fences, bytes_has_form, bytes}
 use Rattle.vm_bytes_form.proofs.Ranks.{rank-below, string_of_rank}
 use Rattle.vm_bytes_form.proofs.Halves.{key_words-few, pays}
 use Rattle.vm_bytes_form.proofs.RoundTrip.{length_form, length-string_words}
@@ -28,7 +31,8 @@ bytes-tell [] is = tt
 bytes-tell (b ∷ s) is = let (here, rest) = and_parts (ltb b 256) (are_bytes s) is in (ltb-true b 256 here, bytes-tell s rest)
 
 string-tells : (s : List ℕ) → is_string s ≡ true → IsString 64 s
-string-tells s is = let (fits, each) = and_parts (leb (length s) 64) (are_bytes s) is in record { fits = leb-true (length s) 64 fits; bytes = bytes-tell s each }
+string-tells s is = let (fits, each) = and_parts (leb (length s) 64) (are_bytes s) is in
+    record { fits = leb-true (length s) 64 fits; bytes = bytes-tell s each }
 
 keys-tell : (es : List Entry) → are_keys es ≡ true → AreKeys es
 keys-tell [] is = tt
@@ -46,11 +50,13 @@ fitting-tells n is =
     let (a, keys) = and_parts _ (are_keys n.entries) is in
     let (b, high) = and_parts _ (is_high n.high) a in
     let (room, low) = and_parts (leb (8 + taken n) 512) (is_string n.low) b in
-    record { room = leb-true (8 + taken n) 512 room; low = string-tells n.low low; high = high-tells n.high high; keys = keys-tell n.entries keys }
+    record { room = leb-true (8 + taken n) 512 room; low = string-tells n.low low; high = high-tells n.high high;
+        keys = keys-tell n.entries keys }
 
 -- the words of a key, by its rank
 pub key_words-are : (s : List ℕ) → IsString 64 s → key_words (rank s) ≡ length (key_block s)
-key_words-are s is = ap (λ (t : List ℕ). words_for (length t)) (string_of_rank 64 s is.fits is.bytes) ∙ sym (length-string_words (words_for (length s)) s)
+key_words-are s is = ap (λ (t : List ℕ). words_for (length t)) (string_of_rank 64 s is.fits is.bytes)
+    ∙ sym (length-string_words (words_for (length s)) s)
 
 rank-is_below : (s : List ℕ) → IsString 64 s → rank s < RANK_END
 rank-is_below s is = rank-below 64 s is.bytes
@@ -64,18 +70,21 @@ fence-of k = if k == RANK_END then 0 else key_words k
 fence_words : (s : List ℕ) → IsString 64 s → (if rank s == RANK_END then 0 else key_words (rank s)) ≡ length (key_block s)
 fence_words s is = rw (not_end (rank s) (rank-is_below s is)) (key_words-are s is)
 
-high_words : (high : Option (List ℕ)) → ((s : List ℕ) → high ≡ Some s → IsString 64 s × (1 ≤ length s)) → (if high_rank high == RANK_END then 0 else key_words (high_rank high)) ≡ length (fence_block high)
+high_words : (high : Option (List ℕ)) → ((s : List ℕ) → high ≡ Some s → IsString 64 s × (1 ≤ length s))
+    → (if high_rank high == RANK_END then 0 else key_words (high_rank high)) ≡ length (fence_block high)
 high_words None each = refl
 high_words (Some s) each = fence_words s (each s refl).0
 
 pairs_words : (es : List Entry) → AreKeys es → pairs_size pair_size (map ranked_entry es) ≡ length es + length (heap es)
 pairs_words [] keys = refl
-pairs_words (e ∷ es) keys = omega (arith, pairs_words es keys.1, key_words-are e.0 keys.0, length-append (heap es) (entry_block e), length-append (key_block e.0) (e.1 ∷ []))
+pairs_words (e ∷ es) keys = omega (arith, pairs_words es keys.1, key_words-are e.0 keys.0, length-append (heap es) (entry_block e),
+    length-append (key_block e.0) (e.1 ∷ []))
 
 -- the node's size is what its words take
 pub size-taken : (n : ByteNode) → IsString 64 n.low → ((s : List ℕ) → n.high ≡ Some s → IsString 64 s × (1 ≤ length s)) → AreKeys n.entries
     → size bytes (ranked n) ≡ taken n
-size-taken n low high keys = omega (arith, pairs_words n.entries keys, fence_words n.low low, high_words n.high high, length-append (fence_block n.high) (key_block n.low))
+size-taken n low high keys = omega (arith, pairs_words n.entries keys, fence_words n.low low, high_words n.high high,
+    length-append (fence_block n.high) (key_block n.low))
 
 module _ (w : List ℕ) (clean : bytes_clean w ≡ true) where
   fits : IsFitting 512 (node_in w)
@@ -107,8 +116,10 @@ fence-few k = go (eqb k RANK_END)
     go true = omega arith
     go false = key_words-few k
 
-passes : (w : List ℕ) (level low high : ℕ) → bytes_clean w ≡ true → (node_in w).level ≡ level → rank (node_in w).low ≡ low → high_rank (node_in w).high ≡ high
-    → (level ≡ 0) ⊎ (1 ≤ length (map ranked_entry (node_in w).entries)) → (bytes_has_fences low high w ≡ true) × (bytes_has_form level w ≡ true)
+passes : (w : List ℕ) (level low high : ℕ) → bytes_clean w ≡ true → (node_in w).level ≡ level → rank (node_in w).low ≡ low
+    → high_rank (node_in w).high ≡ high
+    → (level ≡ 0) ⊎ (1 ≤ length (map ranked_entry (node_in w).entries))
+        → (bytes_has_fences low high w ≡ true) × (bytes_has_form level w ≡ true)
 passes w level low high clean at from upto some =
     let pair : (eqb level 0 || leb 1 (length (node_in w).entries)) ≡ true = elim some [
       | inl bottom ↦ or_left _ _ (eq-eqb _ _ bottom)
@@ -126,7 +137,8 @@ passed w level low high fences form =
 
 splits : (n : Node) (separator : ℕ) → size bytes n ≤ 504 → 504 < size bytes n + 10 → PaysForSplit bytes n separator
 splits n separator fits full =
-    let p = pays (bytes.fence_size n.low) (bytes.fence_size n.high) (bytes.fence_size separator) n.pairs (fence-few n.low) (fence-few n.high) (fence-few separator) fits full in
+    let p = pays (bytes.fence_size n.low) (bytes.fence_size n.high) (bytes.fence_size separator) n.pairs (fence-few n.low)
+        (fence-few n.high) (fence-few separator) fits full in
     record {
       left_some = p.left_some;
       right_some = p.right_some;

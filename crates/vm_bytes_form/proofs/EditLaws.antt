@@ -1,5 +1,6 @@
 -- The words of an edited node are those of a clean page, whose node over ranks is the edit of the old one.
-use Rattle.std.proofs.Common.{◌≡◌, inl, inr, ℕ, zero, suc, ◌+◌, ◌<◌, ◌≤◌, List, [], ◌∷◌, length, get_or, take, drop, Option, Some, None, Bool, true, false, eqb, ltb, leb, if◌then◌else◌, refl, sym, ap, subst, ◌∙◌, arith}
+use Rattle.std.proofs.Common.{◌≡◌, inl, inr, ℕ, zero, suc, ◌+◌, ◌<◌, ◌≤◌, List, [], ◌∷◌, length, get_or, take, drop, Option, Some, None}
+use Rattle.std.proofs.Common.{Bool, true, false, eqb, ltb, leb, if◌then◌else◌, refl, sym, ap, subst, ◌∙◌, arith}
 use Rattle.std.proofs.lemmas.Bool.{cases_eq, cases_lt, and_parts, and_from, le-leb, lt-ltb, ne_eqb, eq-eqb}
 use Rattle.std.proofs.lemmas.Bool.Decides.{nat_tests}
 use Rattle.std.proofs.lemmas.List.{length-map}
@@ -12,7 +13,8 @@ use Rattle.vm_tree_model.specs.Edits.{AddsPair, TakesPair, IsSplit, IsNewRoot, I
 use Rattle.vm_bytes_form.specs.Strings.{AreBytes, IsString, rank, rank_in}
 use Rattle.vm_bytes_form.specs.Cuts.{pair_size}
 use Rattle.vm_bytes_form.specs.Forms.{Entry, ByteNode, taken, form_of, node_in, AreKeys, IsFitting}
-use Rattle.vm_bytes_form.specs.Bytes.{high_rank, ranked_entry, ranked, same_words, are_bytes, is_string, is_high, are_keys, is_fitting, bytes}
+use Rattle.vm_bytes_form.specs.Bytes.{high_rank, ranked_entry, ranked, same_words, are_bytes, is_string, is_high, are_keys, is_fitting}
+use Rattle.vm_bytes_form.specs.Bytes.{bytes}
 use Rattle.vm_bytes_form.specs.KeyMap.{before, put_key, del_key, ranks_of}
 use Rattle.vm_bytes_form.specs.NodeEdits.{put_in, del_in, kept_at_split, lower_half, upper_half, root_over}
 use Rattle.vm_bytes_form.proofs.RoundTrip.{read_back}
@@ -33,10 +35,12 @@ are_keys-from (e ∷ es) keys = and_from (is_string e.0) (are_keys es) (is_strin
 
 is_high-from : (high : Option (List ℕ)) → ((s : List ℕ) → high ≡ Some s → IsString 64 s × (1 ≤ length s)) → is_high high ≡ true
 is_high-from None each = refl
-is_high-from (Some s) each = let is = each s refl in and_from (is_string s) (leb 1 (length s)) (is_string-from s is.0) (le-leb 1 (length s) is.1)
+is_high-from (Some s) each = let is = each s refl in and_from (is_string s) (leb 1 (length s)) (is_string-from s is.0)
+    (le-leb 1 (length s) is.1)
 
 fitting-from : (n : ByteNode) → IsFitting 512 n → is_fitting n ≡ true
-fitting-from n is = and_from _ _ (and_from _ _ (and_from _ _ (le-leb (8 + taken n) 512 is.room) (is_string-from n.low is.low)) (is_high-from n.high is.high)) (are_keys-from n.entries is.keys)
+fitting-from n is = and_from _ _ (and_from _ _ (and_from _ _ (le-leb (8 + taken n) 512 is.room) (is_string-from n.low is.low))
+    (is_high-from n.high is.high)) (are_keys-from n.entries is.keys)
 
 -- the words of a node that fits are clean, and clean words are those of their node
 pub form_clean : (n : ByteNode) → IsFitting 512 n → IsClean bytes (form_of 512 n)
@@ -49,14 +53,16 @@ pub clean_fitting : (w : List ℕ) → IsClean bytes w → IsFitting 512 (node_i
 clean_fitting w clean = fitting-tells (node_in w) (and_parts (is_fitting (node_in w)) (same_words w (form_of 512 (node_in w))) clean).0
 
 pub clean_is_form : (w : List ℕ) → IsClean bytes w → w ≡ form_of 512 (node_in w)
-clean_is_form w clean = same-tells w (form_of 512 (node_in w)) (and_parts (is_fitting (node_in w)) (same_words w (form_of 512 (node_in w))) clean).1
+clean_is_form w clean = same-tells w (form_of 512 (node_in w))
+    (and_parts (is_fitting (node_in w)) (same_words w (form_of 512 (node_in w))) clean).1
 
 -- the entries of an edit have keys too
 AreKeys-put : (es : List Entry) (s : List ℕ) (v : ℕ) → AreKeys es → IsString 64 s → AreKeys (put_key es s v)
 AreKeys-put [] s v keys is = (is, tt)
 AreKeys-put (e ∷ es) s v keys is = go (AreKeys-put es s v keys.1 is) (before s e.0) (same_words s e.0)
   where
-    go : AreKeys (put_key es s v) → (less same : Bool) → AreKeys (if less then (s, v) ∷ e ∷ es else (if same then (s, v) ∷ es else e ∷ put_key es s v))
+    go : AreKeys (put_key es s v) → (less same : Bool)
+        → AreKeys (if less then (s, v) ∷ e ∷ es else (if same then (s, v) ∷ es else e ∷ put_key es s v))
     go rest true same = (is, keys)
     go rest false true = (is, keys.1)
     go rest false false = (keys.0, rest)
@@ -85,12 +91,14 @@ size-put each [] k v = omega arith
 size-put each (e ∷ es) k v = go (size-put each es k v) (ltb k e.0) (eqb k e.0)
   where
     go : pairs_size each (put_pair es k v) ≤ pairs_size each es + each k → (less same : Bool)
-        → pairs_size each (if less then (k, v) ∷ e ∷ es else (if same then (k, v) ∷ es else e ∷ put_pair es k v)) ≤ each e.0 + pairs_size each es + each k
+        → pairs_size each (if less then (k, v) ∷ e ∷ es else (if same then (k, v) ∷ es else e ∷ put_pair es k v)) ≤ each e.0 + pairs_size
+            each es + each k
     go rest true same = omega arith
     go rest false true = omega arith
     go rest false false = omega (arith, rest)
 
-size-put_there : (each : ℕ → ℕ) (es : Pairs) (low high k v w : ℕ) → Rises low high es → lookup_at es k ≡ Some w → pairs_size each (put_pair es k v) ≡ pairs_size each es
+size-put_there : (each : ℕ → ℕ) (es : Pairs) (low high k v w : ℕ) → Rises low high es → lookup_at es k ≡ Some w
+    → pairs_size each (put_pair es k v) ≡ pairs_size each es
 size-put_there each [] low high k v w rises there = absurd (cc)
 size-put_there each (e ∷ es) low high k v w rises there = elim (cases_eq k e.0) [
   | inl same ↦
@@ -110,7 +118,8 @@ size-del : (each : ℕ → ℕ) (es : Pairs) (k : ℕ) → pairs_size each (del_
 size-del each [] k = omega arith
 size-del each (e ∷ es) k = go (size-del each es k) (eqb k e.0)
   where
-    go : pairs_size each (del_pair es k) ≤ pairs_size each es → (same : Bool) → pairs_size each (if same then es else e ∷ del_pair es k) ≤ each e.0 + pairs_size each es
+    go : pairs_size each (del_pair es k) ≤ pairs_size each es → (same : Bool)
+        → pairs_size each (if same then es else e ∷ del_pair es k) ≤ each e.0 + pairs_size each es
     go rest true = omega arith
     go rest false = omega (arith, rest)
 
@@ -150,11 +159,13 @@ module _ (old : List ℕ) (clean : IsClean bytes old) where
     put-ranked = let e = put_is n.entries s v is.keys key in λ i. record (ranked n) { pairs = sym e i }
 
     put-size : (low high : ℕ) → Rises low high (pairs_of bytes old) → ¬ (IsFullFor bytes old (rank s))
-        → pairs_size pair_size (put_pair (ranks_of n.entries) (rank s) v) + (bytes.fence_size (rank n.low) + bytes.fence_size (high_rank n.high)) ≤ 504
+        → pairs_size pair_size (put_pair (ranks_of n.entries) (rank s) v) +
+            (bytes.fence_size (rank n.low) + bytes.fence_size (high_rank n.high)) ≤ 504
     put-size low high rises roomy = go (lookup_at (ranks_of n.entries) (rank s)) refl
       where
         go : (found : Option ℕ) → lookup_at (ranks_of n.entries) (rank s) ≡ found
-            → pairs_size pair_size (put_pair (ranks_of n.entries) (rank s) v) + (bytes.fence_size (rank n.low) + bytes.fence_size (high_rank n.high)) ≤ 504
+            → pairs_size pair_size (put_pair (ranks_of n.entries) (rank s) v) +
+                (bytes.fence_size (rank n.low) + bytes.fence_size (high_rank n.high)) ≤ 504
         go None none = elim (cases_lt 504 (size bytes (ranked n) + pair_size (rank s))) [
           | inl more ↦ absurd (roomy (record { count = more; absent = none }))
           | inr fits ↦ omega (arith, fits, size-put pair_size (ranks_of n.entries) (rank s) v)
@@ -163,9 +174,11 @@ module _ (old : List ℕ) (clean : IsClean bytes old) where
 
     pub put-fits : (low high : ℕ) → Rises low high (pairs_of bytes old) → ¬ (IsFullFor bytes old (rank s)) → IsFitting 512 (put_in n s v)
     put-fits low high rises roomy = fits_by_size (put_in n s v) is.low is.high (AreKeys-put n.entries s v is.keys key)
-        (let le = put-size low high rises roomy in let same = ap (λ (m : Node). pairs_size pair_size m.pairs) put-ranked in omega (arith, le, same))
+        (let le = put-size low high rises roomy in let same = ap (λ (m : Node). pairs_size pair_size m.pairs) put-ranked in
+            omega (arith, le, same))
 
-    pub adds : (low high : ℕ) → Rises low high (pairs_of bytes old) → ¬ (IsFullFor bytes old (rank s)) → AddsPair bytes old (form_of 512 (put_in n s v)) (rank s) v
+    pub adds : (low high : ℕ) → Rises low high (pairs_of bytes old) → ¬ (IsFullFor bytes old (rank s))
+        → AddsPair bytes old (form_of 512 (put_in n s v)) (rank s) v
     adds low high rises roomy =
         let fits = put-fits low high rises roomy in
         record {
@@ -181,7 +194,8 @@ module _ (old : List ℕ) (clean : IsClean bytes old) where
 
     pub del-fits : IsFitting 512 (del_in n s)
     del-fits = fits_by_size (del_in n s) is.low is.high (AreKeys-del n.entries s is.keys)
-        (let same = ap (λ (m : Node). pairs_size pair_size m.pairs) del-ranked in omega (arith, room, same, size-del pair_size (ranks_of n.entries) (rank s)))
+        (let same = ap (λ (m : Node). pairs_size pair_size m.pairs) del-ranked in
+            omega (arith, room, same, size-del pair_size (ranks_of n.entries) (rank s)))
 
     pub takes : TakesPair bytes old (form_of 512 (del_in n s)) (rank s)
     takes = record {
@@ -190,7 +204,8 @@ module _ (old : List ℕ) (clean : IsClean bytes old) where
     }
 
   -- a node without room is cut in two
-  module _ (full : IsFullNode bytes (ranked n)) (s : List ℕ) (separates : (get_or n.entries (kept_at_split n.entries) ([], 0)).0 ≡ s) (some : 1 ≤ length s) where
+  module _ (full : IsFullNode bytes (ranked n)) (s : List ℕ) (separates : (get_or n.entries (kept_at_split n.entries) ([], 0)).0 ≡ s)
+      (some : 1 ≤ length s) where
     paid : PaysForSplit bytes (ranked n) (rank s)
     paid = bytes_is_layout.splits (ranked n) (rank s) room full
 
@@ -245,11 +260,13 @@ module _ (level left : ℕ) (s : List ℕ) (right : ℕ) (key : IsString 64 s) w
 
   root-ranked : ranked (root_over level left s right)
       ≡ record { tag = 3; level = level; low = 0; high = bytes.key_end; pairs = (0, left) ∷ (rank s, right) ∷ [] }
-  root-ranked = λ i. record { tag = 3; level = level; low = rank-nil i; high = bytes.key_end; pairs = (rank-nil i, left) ∷ (rank s, right) ∷ [] }
+  root-ranked = λ i. record { tag = 3; level = level; low = rank-nil i; high = bytes.key_end; pairs = (rank-nil i, left) ∷ (rank s, right)
+      ∷ [] }
 
   pub root-fits : IsFitting 512 (root_over level left s right)
   root-fits = fits_by_size (root_over level left s right) empty_is no_high (empty_is, (key, tt))
       (let le = bytes_is_layout.new_root (rank s) in let same = ap (size bytes) root-ranked in omega (arith, le, same))
 
   pub root_grows : IsNewRoot bytes (form_of 512 (root_over level left s right)) level left (rank s) right
-  root_grows = record { node = ap ranked (read_back 512 (root_over level left s right) root-fits) ∙ root-ranked; clean = form_clean (root_over level left s right) root-fits }
+  root_grows = record { node = ap ranked (read_back 512 (root_over level left s right) root-fits)
+      ∙ root-ranked; clean = form_clean (root_over level left s right) root-fits }

@@ -24,14 +24,16 @@ module _ (each : ℕ → ℕ) (most : ℕ) (few : (k : ℕ) → each k ≤ most)
   at_once got le = grind (arith, nat_tests, le)
 
   -- the first pairs have half of the whole, and not many more
-  pub cut-enough : (es : Pairs) (got : ℕ) → whole ≤ 2 * (got + pairs_size each es) → whole ≤ 2 * (got + pairs_size each (take (cut_from each got whole es) es))
+  pub cut-enough : (es : Pairs) (got : ℕ) → whole ≤ 2 * (got + pairs_size each es)
+      → whole ≤ 2 * (got + pairs_size each (take (cut_from each got whole es) es))
   cut-enough [] got enough = enough
   cut-enough (e ∷ es) got enough = elim (cases_lt (2 * got) whole) [
     | inl lt ↦ rw (not_yet got lt) (let rest = cut-enough es (got + each e.0) (omega (arith, enough)) in omega (arith, rest))
     | inr past ↦ rw (at_once got past) (omega (arith, past))
   ]
 
-  pub cut-close : (es : Pairs) (got : ℕ) → 2 * got ≤ whole + 2 * most → 2 * (got + pairs_size each (take (cut_from each got whole es) es)) ≤ whole + 2 * most
+  pub cut-close : (es : Pairs) (got : ℕ) → 2 * got ≤ whole + 2 * most
+      → 2 * (got + pairs_size each (take (cut_from each got whole es) es)) ≤ whole + 2 * most
   cut-close [] got le = omega (arith, le)
   cut-close (e ∷ es) got le = elim (cases_lt (2 * got) whole) [
     | inl lt ↦ rw (not_yet got lt) (let rest = cut-close es (got + each e.0) (omega (arith, lt, few e.0)) in omega (arith, rest))
@@ -49,7 +51,8 @@ none-right each [] (suc m) le = refl
 none-right each (e ∷ es) zero le = absurd (omega (arith, le))
 none-right each (e ∷ es) (suc m) le = none-right each es m (omega (arith, le))
 
-pub pays : (low high separator : ℕ) (es : Pairs) → low ≤ 8 → high ≤ 8 → separator ≤ 8 → low + high + pairs_size pair_size es ≤ 504 → 504 < low + high + pairs_size pair_size es + 10
+pub pays : (low high separator : ℕ) (es : Pairs) → low ≤ 8 → high ≤ 8 → separator ≤ 8 → low + high + pairs_size pair_size es ≤ 504
+    → 504 < low + high + pairs_size pair_size es + 10
     → Pays low high separator es (cut_from pair_size 0 (pairs_size pair_size es) es)
 pays low high separator es l h s fits full =
     let whole = pairs_size pair_size es in

@@ -16,7 +16,8 @@ same-refl (a ∷ s) = and_from (eqb a a) (same_words s s) (eq-eqb a a refl) (sam
 same-not : (s t : List ℕ) → IsBefore s t → (same_words s t ≡ false) × (same_words t s ≡ false)
 same-not s [] less = absurd less
 same-not [] (b ∷ t) less = (refl, refl)
-same-not (a ∷ s) (b ∷ t) (inl less) = (rw (ne_eqb a b (λ e. omega (arith, less, e))) refl, rw (ne_eqb b a (λ e. omega (arith, less, e))) refl)
+same-not (a ∷ s) (b ∷ t) (inl less) = (rw (ne_eqb a b (λ e. omega (arith, less, e))) refl,
+    rw (ne_eqb b a (λ e. omega (arith, less, e))) refl)
 same-not (a ∷ s) (b ∷ t) (inr rest) = let (one, two) = same-not s t rest.1 in (rw (eq-eqb a b rest.0) one, rw (eq-eqb b a (sym rest.0)) two)
 
 before-is : (s t : List ℕ) → IsBefore s t → (before s t ≡ true) × (before t s ≡ false)
@@ -41,16 +42,20 @@ before-not (a ∷ s) = let same : ltb a a ≡ false = grind (arith, nat_tests) i
 module _ (s t : List ℕ) (is : IsString 64 s) (it : IsString 64 t) where
   pub same_test : same_words s t ≡ eqb (rank s) (rank t)
   same_test = elim (in_order s t) [
-    | inl less ↦ (same-not s t less).0 ∙ sym (ne_eqb (rank s) (rank t) (λ e. omega (arith, e, rank_before 64 s t it.fits is.bytes it.bytes less)))
+    | inl less ↦ (same-not s t less).0 ∙ sym (ne_eqb (rank s) (rank t)
+        (λ e. omega (arith, e, rank_before 64 s t it.fits is.bytes it.bytes less)))
     | inr (inl one) ↦ ap (same_words s) (sym one) ∙ same-refl s ∙ sym (eq-eqb (rank s) (rank t) (ap rank one))
-    | inr (inr more) ↦ (same-not t s more).1 ∙ sym (ne_eqb (rank s) (rank t) (λ e. omega (arith, e, rank_before 64 t s is.fits it.bytes is.bytes more)))
+    | inr (inr more) ↦ (same-not t s more).1 ∙ sym
+        (ne_eqb (rank s) (rank t) (λ e. omega (arith, e, rank_before 64 t s is.fits it.bytes is.bytes more)))
   ]
 
   pub before_test : before s t ≡ ltb (rank s) (rank t)
   before_test = elim (in_order s t) [
     | inl less ↦ (before-is s t less).0 ∙ sym (lt-ltb (rank s) (rank t) (rank_before 64 s t it.fits is.bytes it.bytes less))
-    | inr (inl one) ↦ ap (before s) (sym one) ∙ before-not s ∙ sym (not_less (rank s) (rank t) (let e : rank s ≡ rank t = ap rank one in omega (arith, e)))
-    | inr (inr more) ↦ (before-is t s more).1 ∙ sym (not_less (rank s) (rank t) (let lt = rank_before 64 t s is.fits it.bytes is.bytes more in omega (arith, lt)))
+    | inr (inl one) ↦ ap (before s) (sym one) ∙ before-not s
+        ∙ sym (not_less (rank s) (rank t) (let e : rank s ≡ rank t = ap rank one in omega (arith, e)))
+    | inr (inr more) ↦ (before-is t s more).1 ∙ sym
+        (not_less (rank s) (rank t) (let lt = rank_before 64 t s is.fits it.bytes is.bytes more in omega (arith, lt)))
   ]
     where
       not_less : (a b : ℕ) → b ≤ a → ltb a b ≡ false
@@ -61,8 +66,10 @@ pub lookup_is : (m : List Entry) (s : List ℕ) → AreKeys m → IsString 64 s 
 lookup_is [] s keys is = refl
 lookup_is (e ∷ es) s keys is = rw (same_test s e.0 is keys.0, lookup_is es s keys.1 is) refl
 
-put_cases : (e : Entry) (es : List Entry) (s : List ℕ) (v : ℕ) (less same : Bool) → put_pair (ranks_of es) (rank s) v ≡ ranks_of (put_key es s v)
-    → (if less then (rank s, v) ∷ (rank e.0, e.1) ∷ ranks_of es else (if same then (rank s, v) ∷ ranks_of es else (rank e.0, e.1) ∷ put_pair (ranks_of es) (rank s) v))
+put_cases : (e : Entry) (es : List Entry) (s : List ℕ) (v : ℕ) (less same : Bool)
+    → put_pair (ranks_of es) (rank s) v ≡ ranks_of (put_key es s v)
+    → (if less then (rank s, v) ∷ (rank e.0, e.1) ∷ ranks_of es else (if same then (rank s, v) ∷ ranks_of es else (rank e.0, e.1) ∷ put_pair
+        (ranks_of es) (rank s) v))
     ≡ ranks_of (if less then (s, v) ∷ e ∷ es else (if same then (s, v) ∷ es else e ∷ put_key es s v))
 put_cases e es s v true same rest = refl
 put_cases e es s v false true rest = refl
@@ -70,7 +77,8 @@ put_cases e es s v false false rest = ap (λ (l : Pairs). (rank e.0, e.1) ∷ l)
 
 pub put_is : (m : List Entry) (s : List ℕ) (v : ℕ) → AreKeys m → IsString 64 s → put_pair (ranks_of m) (rank s) v ≡ ranks_of (put_key m s v)
 put_is [] s v keys is = refl
-put_is (e ∷ es) s v keys is = rw (before_test s e.0 is keys.0, same_test s e.0 is keys.0) (put_cases e es s v (ltb (rank s) (rank e.0)) (eqb (rank s) (rank e.0)) (put_is es s v keys.1 is))
+put_is (e ∷ es) s v keys is = rw (before_test s e.0 is keys.0, same_test s e.0 is keys.0)
+    (put_cases e es s v (ltb (rank s) (rank e.0)) (eqb (rank s) (rank e.0)) (put_is es s v keys.1 is))
 
 del_cases : (e : Entry) (es : List Entry) (s : List ℕ) (same : Bool) → del_pair (ranks_of es) (rank s) ≡ ranks_of (del_key es s)
     → (if same then ranks_of es else (rank e.0, e.1) ∷ del_pair (ranks_of es) (rank s)) ≡ ranks_of (if same then es else e ∷ del_key es s)

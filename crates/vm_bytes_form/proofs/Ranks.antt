@@ -1,5 +1,6 @@
 -- Strings stand in the order of their ranks.
-use Rattle.std.proofs.Common.{◌≡◌, ◌⊎◌, inl, inr, ℕ, zero, suc, ◌+◌, ◌-◌, ◌*◌, ◌/◌, ◌%◌, ◌^◌, ◌<◌, ◌≤◌, eqb, Bool, true, false, List, [], ◌∷◌, length, if◌then◌else◌, refl, sym, ap, arith}
+use Rattle.std.proofs.Common.{◌≡◌, ◌⊎◌, inl, inr, ℕ, zero, suc, ◌+◌, ◌-◌, ◌*◌, ◌/◌, ◌%◌, ◌^◌, ◌<◌, ◌≤◌, eqb, Bool, true, false, List, []}
+use Rattle.std.proofs.Common.{◌∷◌, length, if◌then◌else◌, refl, sym, ap, arith}
 use Rattle.std.proofs.lemmas.Bool.{cases_eq, cases_lt, ne_eqb}
 use Rattle.std.proofs.lemmas.Nat.{mul-add-lt, div-mul-add, mod-mul-add}
 use Rattle.std.proofs.Math.Nat.{pow-succ', one-le-pow}
@@ -17,7 +18,8 @@ rank-below zero s bytes = omega arith
 rank-below (suc n) [] bytes = power-above (suc n)
 rank-below (suc n) (b ∷ s) bytes =
     let rest = rank-below n s bytes.1 in
-    let fits : (b + 1) * 257 ^ n + rank_in n s < 257 ^ n * 257 = mul-add-lt (b + 1) (257 ^ n) (rank_in n s) 257 (omega (arith, bytes.0)) rest in
+    let fits : (b + 1) * 257 ^ n + rank_in n s < 257 ^ n * 257 = mul-add-lt (b + 1) (257 ^ n) (rank_in n s) 257
+        (omega (arith, bytes.0)) rest in
     omega (arith, fits, power-more n)
 
 -- a string before another one has the lower rank
@@ -31,7 +33,8 @@ rank_before (suc n) [] (b ∷ t) fits bs bt before = omega (arith, some (b + 1) 
     some a c one two = grind (arith, one, two)
 rank_before (suc n) (a ∷ s) (b ∷ t) fits bs bt (inl less) =
     let rest = rank-below n s bs.1 in
-    let lower : (a + 1) * 257 ^ n + rank_in n s < 257 ^ n * (b + 1) = mul-add-lt (a + 1) (257 ^ n) (rank_in n s) (b + 1) (omega (arith, less)) rest in
+    let lower : (a + 1) * 257 ^ n + rank_in n s < 257 ^ n * (b + 1) = mul-add-lt (a + 1) (257 ^ n) (rank_in n s) (b + 1)
+        (omega (arith, less)) rest in
     grind (arith, lower)
 rank_before (suc n) (a ∷ s) (b ∷ t) fits bs bt (inr same) =
     let rest = rank_before n s t (omega (arith, fits)) bs.1 bt.1 same.1 in

@@ -11,7 +11,8 @@ three_slots : (get_or three 8 0 ≡ 130816) × (get_or three 9 0 ≡ 130305) × 
 unfolding form_of node_in string_at
 three_slots = (refl, refl, refl, refl)
 
-three_heap : (get_or three 507 0 ≡ 0) × (get_or three 508 0 ≡ 3) × (get_or three 509 0 ≡ 0) × (get_or three 510 0 ≡ 2) × (get_or three 511 0 ≡ 1) × (length three ≡ 512)
+three_heap : (get_or three 507 0 ≡ 0) × (get_or three 508 0 ≡ 3) × (get_or three 509 0 ≡ 0) × (get_or three 510 0 ≡ 2)
+    × (get_or three 511 0 ≡ 1) × (length three ≡ 512)
 unfolding form_of node_in string_at
 three_heap = (refl, refl, refl, refl, refl, refl)
 
@@ -31,13 +32,15 @@ keys_from (suc n) b = (long_key b, b) ∷ keys_from n (b + 1)
 abbrev left : List ℕ
 left = form_of 512 (record { tag = 4; level = 0; low = []; high = Some (long_key 26); entries = keys_from 25 1 })
 
-left_words : (get_or left 1 0 ≡ 25) × (get_or left 3 0 ≡ 0) × (get_or left 4 0 ≡ 129088) × (get_or left 8 0 ≡ 126784) × (get_or left 9 0 ≡ 124480) × (get_or left 511 0 ≡ 26)
+left_words : (get_or left 1 0 ≡ 25) × (get_or left 3 0 ≡ 0) × (get_or left 4 0 ≡ 129088) × (get_or left 8 0 ≡ 126784)
+    × (get_or left 9 0 ≡ 124480) × (get_or left 511 0 ≡ 26)
 unfolding form_of node_in string_at
 left_words = (refl, refl, refl, refl, refl, refl)
 
 abbrev right : List ℕ
 right = form_of 512 (record { tag = 4; level = 0; low = long_key 26; high = None; entries = keys_from 26 26 })
 
-right_words : (get_or right 1 0 ≡ 26) × (get_or right 3 0 ≡ 129088) × (get_or right 4 0 ≡ 0) × (get_or right 8 0 ≡ 126784) × (length right ≡ 512)
+right_words : (get_or right 1 0 ≡ 26) × (get_or right 3 0 ≡ 129088) × (get_or right 4 0 ≡ 0) × (get_or right 8 0 ≡ 126784)
+    × (length right ≡ 512)
 unfolding form_of node_in string_at
 right_words = (refl, refl, refl, refl, refl)

@@ -1,5 +1,6 @@
 -- Nodes with byte keys as a layout: each key stands for its rank.
-use Rattle.std.specs.Prelude.{ℕ, ◌+◌, ◌==◌, ◌&&◌, ◌||◌, nat_le, nat_lt, List, [], ◌∷◌, length, map, Option, Some, None, Bool, true, false, if◌then◌else◌}
+use Rattle.std.specs.Prelude.{ℕ, ◌+◌, ◌==◌, ◌&&◌, ◌||◌, nat_le, nat_lt, List, [], ◌∷◌, length, map, Option, Some, None, Bool, true, false}
+use Rattle.std.specs.Prelude.{if◌then◌else◌}
 use Rattle.vm_tree_model.specs.Node.{Node}
 use Rattle.vm_tree_model.specs.Layout.{Layout}
 use Rattle.vm_bytes_form.specs.Strings.{rank, RANK_END}
@@ -55,7 +56,8 @@ abbrev pub bytes_has_fences : ℕ → ℕ → List ℕ → Bool
 bytes_has_fences low high words = rank (node_in words).low == low && high_rank (node_in words).high == high
 
 abbrev pub bytes_has_form : ℕ → List ℕ → Bool
-bytes_has_form level words = bytes_clean words && (node_in words).level == level && (level == 0 || nat_le 1 (length (node_in words).entries))
+bytes_has_form level words = bytes_clean words && (node_in words).level == level &&
+    (level == 0 || nat_le 1 (length (node_in words).entries))
 
 abbrev pub bytes : Layout
 bytes = record {

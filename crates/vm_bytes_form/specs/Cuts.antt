@@ -22,5 +22,7 @@ pub record Pays (low high separator : ℕ) (es : Pairs) (m : ℕ) : Type 0 where
   pub right_some : m < length es
   pub left_fits : low + separator + pairs_size pair_size (take m es) ≤ 504
   pub right_fits : separator + high + pairs_size pair_size (drop m es) ≤ 504
-  pub below : 100 + (low + separator + pairs_size pair_size (take m es) - 261) + (100 + (separator + high + pairs_size pair_size (drop m es) - 261)) + 10 ≤ 100 + (low + high + pairs_size pair_size es - 261)
-  pub above : 100 + (low + separator + pairs_size pair_size (take m es) - 261) + (100 + (separator + high + pairs_size pair_size (drop m es) - 261)) + 100 ≤ 100 + (low + high + pairs_size pair_size es - 261)
+  pub below : 100 + (low + separator + pairs_size pair_size (take m es) - 261) +
+      (100 + (separator + high + pairs_size pair_size (drop m es) - 261)) + 10 ≤ 100 + (low + high + pairs_size pair_size es - 261)
+  pub above : 100 + (low + separator + pairs_size pair_size (take m es) - 261) +
+      (100 + (separator + high + pairs_size pair_size (drop m es) - 261)) + 100 ≤ 100 + (low + high + pairs_size pair_size es - 261)

@@ -1,5 +1,6 @@
 -- What the header of any words says.
-use Rattle.std.proofs.Common.{◌≡◌, ◌≢◌, ℕ, ◌<◌, ◌≤◌, List, get_or, Option, Some, None, Bool, eqb, true, false, inl, inr, if◌then◌else◌, refl, arith, sym, ap, ◌∙◌, unwrap_or}
+use Rattle.std.proofs.Common.{◌≡◌, ◌≢◌, ℕ, ◌<◌, ◌≤◌, List, get_or, Option, Some, None, Bool, eqb, true, false, inl, inr, if◌then◌else◌}
+use Rattle.std.proofs.Common.{refl, arith, sym, ap, ◌∙◌, unwrap_or}
 use Rattle.std.proofs.lemmas.Bool.{eq-eqb, ne_eqb, cases_eq, cases_lt}
 use Rattle.std.specs.Option.{option_map}
 use Rattle.vm_node.specs.Loads.{IsAnswer}

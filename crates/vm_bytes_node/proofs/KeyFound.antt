@@ -67,11 +67,13 @@ module _ (words : List ℕ) (key above : ℕ) (bound : IsBound (pairs_of bytes w
   }
 
   module _ (low : ℕ) (next : Option ℕ) (sides : HasSides pairs above low next) where
-    pub child_before : (at page : ℕ) → suc at ≡ above → page ≡ (get_or (node_in words).entries at ([], 0)).1 → FindsChildIn bytes words key page low next
+    pub child_before : (at page : ℕ) → suc at ≡ above → page ≡ (get_or (node_in words).entries at ([], 0)).1
+        → FindsChildIn bytes words key page low next
     child_before at page last read =
         let behind : at + 1 ≡ above = omega (arith, last) in
         let there : at < length pairs = omega (arith, last, bound.inside) in
-        let value : (get_or pairs at (0, 0)).1 ≡ page = values-at at (node_in words).entries (omega (arith, there, length-pairs words)) ∙ sym read in
+        let value : (get_or pairs at (0, 0)).1 ≡ page = values-at at (node_in words).entries (omega (arith, there, length-pairs words))
+            ∙ sym read in
         let below = bound.before at behind in
         let floor = floor_is_before pairs key above low next bound sides at last in
         let low_is : (get_or pairs at (0, 0)).0 ≡ low = sides.before at behind in

@@ -1,5 +1,6 @@
 -- Tests of keys are tests of their ranks.
-use Rattle.std.proofs.Common.{◌≡◌, ℕ, suc, ◌+◌, ◌<◌, ltb, Bool, true, false, List, [], ◌∷◌, length, get_or, Some, refl, sym, ap, subst, ◌∙◌, arith}
+use Rattle.std.proofs.Common.{◌≡◌, ℕ, suc, ◌+◌, ◌<◌, ltb, Bool, true, false, List, [], ◌∷◌, length, get_or, Some, refl, sym, ap, subst, ◌∙◌}
+use Rattle.std.proofs.Common.{arith}
 use Rattle.std.proofs.lemmas.Bool.{lt-ltb, ltb-true}
 use Rattle.std.proofs.lemmas.Bool.Decides.{nat_tests}
 use Rattle.std.proofs.lemmas.Cmp.{same_from_slice_cmp_tested}
@@ -36,12 +37,14 @@ decided false P Q is to from = (λ t. absurd (cc), λ _ q. absurd (let t = is.1 
 
 module _ (s t key other : List ℕ) (same_key : s ≡ key) (same_other : t ≡ other) (is : IsString 64 s) (it : IsString 64 t) (r : Bool) where
   pub before_answers : r ≡ is_some_and is_lt (slice_partial_cmp (λ x y. Some (nat_cmp x y)) s t) → IsAnswer r (rank key < rank other)
-  before_answers e = subst (λ (k : List ℕ). IsAnswer r (rank k < rank other)) same_key (subst (λ (o : List ℕ). IsAnswer r (rank s < rank o)) same_other
+  before_answers e = subst (λ (k : List ℕ). IsAnswer r (rank k < rank other)) same_key
+      (subst (λ (o : List ℕ). IsAnswer r (rank s < rank o)) same_other
       (answers r (ltb (rank s) (rank t)) (rank s < rank t) (is_before s t r e ∙ before_test s t is it)
       (ltb-true (rank s) (rank t)) (lt-ltb (rank s) (rank t))))
 
   pub same_answers : r ≡ bytes_eq s t → IsAnswer r (rank key ≡ rank other)
-  same_answers e = subst (λ (k : List ℕ). IsAnswer r (rank k ≡ rank other)) same_key (subst (λ (o : List ℕ). IsAnswer r (rank s ≡ rank o)) same_other
+  same_answers e = subst (λ (k : List ℕ). IsAnswer r (rank k ≡ rank other)) same_key
+      (subst (λ (o : List ℕ). IsAnswer r (rank s ≡ rank o)) same_other
       (decided r (s ≡ t) (rank s ≡ rank t) (subst (λ (b : Bool). Decides b (s ≡ t)) (sym e) (bytes_eq-Decides s t))
       (ap rank) (rank_one 64 s t is.fits it.fits is.bytes it.bytes)))
 

@@ -1,7 +1,9 @@
 -- What the slots of any words name.
-use Rattle.std.proofs.Common.{◌≡◌, ◌⊎◌, inl, inr, ℕ, zero, suc, ◌+◌, ◌-◌, ◌*◌, ◌/◌, ◌%◌, ◌<◌, ◌≤◌, List, [], ◌∷◌, ◌++◌, length, get_or, min, take, drop, refl, sym, ap, ◌∙◌, arith, length-drop}
+use Rattle.std.proofs.Common.{◌≡◌, ◌⊎◌, inl, inr, ℕ, zero, suc, ◌+◌, ◌-◌, ◌*◌, ◌/◌, ◌%◌, ◌<◌, ◌≤◌, List, [], ◌∷◌, ◌++◌, length, get_or, min}
+use Rattle.std.proofs.Common.{take, drop, refl, sym, ap, ◌∙◌, arith, length-drop}
 use Rattle.std.proofs.lemmas.Bool.{cases_lt}
-use Rattle.std.proofs.lemmas.List.{drop_all, get_or-drop, get_or-map, get_or-take, length-map, length-take, take-append-le, take_all, take_more}
+use Rattle.std.proofs.lemmas.List.{drop_all, get_or-drop, get_or-map, get_or-take, length-map, length-take, take-append-le, take_all}
+use Rattle.std.proofs.lemmas.List.{take_more}
 use Rattle.std.specs.Int.{w64, to_be_bytes}
 use Rattle.vm_page.specs.Bytes.{bytes_of_words}
 use Rattle.vm_page.proofs.Words.{bytes_of-append, bytes_of-one}
@@ -17,12 +19,15 @@ module _ (words : List ℕ) (size : length words ≡ 512) where
   count_is = length-map (take (get_or words 1 0) (drop 8 words)) (entry_at words)
       ∙ length-take (get_or words 1 0) (drop 8 words) ∙ ap (min (get_or words 1 0)) behind
 
-  pub entry_is : (i : ℕ) → i < length (node_in words).entries → get_or (node_in words).entries i ([], 0) ≡ entry_at words (get_or words (8 + i) 0)
+  pub entry_is : (i : ℕ) → i < length (node_in words).entries
+      → get_or (node_in words).entries i ([], 0) ≡ entry_at words (get_or words (8 + i) 0)
   unfolding node_in
   entry_is i lt =
-      let few : i < length (take (get_or words 1 0) (drop 8 words)) = omega (arith, lt, length-map (take (get_or words 1 0) (drop 8 words)) (entry_at words)) in
+      let few : i < length (take (get_or words 1 0) (drop 8 words)) = omega (arith, lt, length-map (take (get_or words 1 0) (drop 8 words))
+          (entry_at words)) in
       get_or-map (entry_at words) (take (get_or words 1 0) (drop 8 words)) i 0 ([], 0) few
-      ∙ ap (entry_at words) (get_or-take (get_or words 1 0) (drop 8 words) i 0 (omega (arith, few, length-take (get_or words 1 0) (drop 8 words)))
+      ∙ ap (entry_at words) (get_or-take (get_or words 1 0) (drop 8 words) i 0
+          (omega (arith, few, length-take (get_or words 1 0) (drop 8 words)))
       ∙ get_or-drop 8 words i 0)
 
 take-twice : (n : ℕ) (xs ys : List ℕ) → take n (take n xs ++ ys) ≡ take n (xs ++ ys)
@@ -41,10 +46,12 @@ take-short n (suc k) (w ∷ ws) le = elim (cases_lt n 8) [
   | inl lt ↦ take-append-le n (to_be_bytes w64 w) (bytes_of_words (take k ws)) (omega (arith, lt))
       ∙ sym (take-append-le n (to_be_bytes w64 w) (bytes_of_words ws) (omega (arith, lt)))
   | inr more ↦ let fewer : n - 8 ≤ 8 * k = omega (arith, le) in
-      take-behind (n - 8) n (to_be_bytes w64 w) (bytes_of_words (take k ws)) (bytes_of_words ws) (omega (arith, more)) (take-short (n - 8) k ws fewer)
+      take-behind (n - 8) n (to_be_bytes w64 w) (bytes_of_words (take k ws)) (bytes_of_words ws) (omega (arith, more))
+          (take-short (n - 8) k ws fewer)
 ]
   where
-    take-behind : (m n : ℕ) (front xs ys : List ℕ) → length front + m ≡ n → take m xs ≡ take m ys → take n (front ++ xs) ≡ take n (front ++ ys)
+    take-behind : (m n : ℕ) (front xs ys : List ℕ) → length front + m ≡ n → take m xs ≡ take m ys
+        → take n (front ++ xs) ≡ take n (front ++ ys)
     take-behind m n [] xs ys is same = let e : m ≡ n = omega (arith, is) in rw (← e) same
     take-behind m zero (f ∷ fs) xs ys is same = refl
     take-behind m (suc n) (f ∷ fs) xs ys is same = ap (λ (l : List ℕ). f ∷ l) (take-behind m n fs xs ys (omega (arith, is)) same)
@@ -70,7 +77,8 @@ module _ (words : List ℕ) (size : length words ≡ 512) (from long : ℕ) wher
       ∙ ap (λ (n : ℕ). take long (bytes_of_words (take n (drop from words)))) next_is
 
   -- as many words as the string needs, or all that are left, show it whole
-  pub shows_all : (slot k : ℕ) (key : List ℕ) → from ≡ min (slot / 256) 512 → long ≡ min (slot % 256) 64 → (words_for long ≤ k) ⊎ (512 ≤ from + k)
+  pub shows_all : (slot k : ℕ) (key : List ℕ) → from ≡ min (slot / 256) 512 → long ≡ min (slot % 256) 64
+      → (words_for long ≤ k) ⊎ (512 ≤ from + k)
       → key ≡ take long (bytes_of_words (take k (drop from words))) → key ≡ string_at words slot
   unfolding string_at
   shows_all slot k key from_is long_is enough is = is ∙ whole ∙ ap (λ (n : ℕ). take n (bytes_of_words (drop from words))) long_is
@@ -79,11 +87,13 @@ module _ (words : List ℕ) (size : length words ≡ 512) (from long : ℕ) wher
       whole : take long (bytes_of_words (take k (drop from words))) ≡ take long (bytes_of_words (drop from words))
       whole = elim enough [
         | inl le ↦ take-short long k (drop from words) (omega (arith, le))
-        | inr past ↦ ap (λ (l : List ℕ). take long (bytes_of_words l)) (take_all k (drop from words) (omega (arith, length-drop from words, size, past)))
+        | inr past ↦ ap (λ (l : List ℕ). take long (bytes_of_words l))
+            (take_all k (drop from words) (omega (arith, length-drop from words, size, past)))
       ]
 
       place : drop from words ≡ drop (slot / 256) words
       place = elim (cases_lt (slot / 256) 512) [
         | inl lt ↦ let same : from ≡ slot / 256 = omega (arith, from_is, lt) in ap (λ (n : ℕ). drop n words) same
-        | inr past ↦ drop_all from words (omega (arith, from_is, past, size)) ∙ sym (drop_all (slot / 256) words (omega (arith, past, size)))
+        | inr past ↦ drop_all from words (omega (arith, from_is, past, size))
+            ∙ sym (drop_all (slot / 256) words (omega (arith, past, size)))
       ]

@@ -10,7 +10,8 @@ counted : (c : goal.After-upper_of) → c.count_at-count.result ≡ length (node
 counted c = let told = c.count_at-count.ensures.told in told_buffer told told.through c.in_buffer.ensures.same c.in_buffer.ensures.size
 
 pub returns-clause-separator : goal.returns-clause-separator
-returns-clause-separator c = λ clean full. separator_is c.args.page.now c.first_from-separator.result c.lower_of.result c.upper_of.result c.kept_of-kept.result _
+returns-clause-separator c = λ clean full. separator_is c.args.page.now c.first_from-separator.result c.lower_of.result c.upper_of.result
+    c.kept_of-kept.result _
     (counted c) (c.kept_of-kept.ensures.kept (counted c)) c.first_from-separator.ensures clean full
 
 pub returns-clause-form : goal.returns-clause-form
@@ -23,7 +24,8 @@ returns-clause-form c = λ clean full low high rises. (
 
 pub returns-clause-halves : goal.returns-clause-halves
 returns-clause-halves c = λ clean full low high rises. let forms = returns-clause-form c clean full low high rises in
-    split_is c.args.page.now clean full c.first_from-separator.result (returns-clause-separator c clean full) low high rises _ _ forms.0 forms.1
+    split_is c.args.page.now clean full c.first_from-separator.result (returns-clause-separator c clean full) low high rises _ _ forms.0
+        forms.1
 
 pub returns-clause-leaves : goal.returns-clause-leaves
 returns-clause-leaves c = λ leaf full. split_leaves c.args.page.now _ _ (rank c.first_from-separator.result) full

@@ -8,7 +8,8 @@ use Rattle.vm_bytes_form.specs.Strings.{RANK_END, rank}
 use Rattle.vm_bytes_node.proofs.HeaderLemmas.{high_or_end}
 use Rattle.vm_bytes_node.proofs.fences.has_fences_at.Goals as goal
 
-both : (words low : List ℕ) (high wanted : Option (List ℕ)) (wanted_low : ℕ) (r : Bool) → low ≡ (node_in words).low → high ≡ (node_in words).high
+both : (words low : List ℕ) (high wanted : Option (List ℕ)) (wanted_low : ℕ) (r : Bool) → low ≡ (node_in words).low
+    → high ≡ (node_in words).high
     → rank low ≡ wanted_low → IsAnswer r (high_rank high ≡ high_rank wanted)
     → IsAnswer r ((rank (node_in words).low ≡ wanted_low) × (high_rank (node_in words).high ≡ unwrap_or (option_map rank wanted) RANK_END))
 both words low high wanted wanted_low r low_read high_read same is = (

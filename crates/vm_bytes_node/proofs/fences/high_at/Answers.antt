@@ -9,6 +9,7 @@ returns-then-slot-eq0-clause-told g c = told_so (omega arith) (told_word c.word-
     (λ words size read. sym (high_none words (read ∙ c.if-slot-eq0.true)))
 
 pub returns-clause-told : goal.returns-clause-told
-returns-clause-told g c = told_so (omega arith) (told_then g.met.P.Place.join (told_word c.word-slot.ensures.loads) c.string_at.ensures.told)
+returns-clause-told g c = told_so (omega arith) (told_then g.met.P.Place.join
+    (told_word c.word-slot.ensures.loads) c.string_at.ensures.told)
     (λ words size read. ap (λ (s : List ℕ). Some s) (read.1 ∙ ap (string_at words) (sym read.0))
     ∙ sym (high_some words (λ none. c.if-slot-eq0.false (sym read.0 ∙ none))))

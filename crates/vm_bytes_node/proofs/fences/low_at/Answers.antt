@@ -5,5 +5,6 @@ use Rattle.vm_bytes_node.proofs.HeaderLemmas.{low_is}
 use Rattle.vm_bytes_node.proofs.fences.low_at.Goals as goal
 
 pub returns-clause-told : goal.returns-clause-told
-returns-clause-told g c = told_so (omega arith) (told_then g.met.P.Place.join (told_word c.word-slot.ensures.loads) c.string_at.ensures.told)
+returns-clause-told g c = told_so (omega arith) (told_then g.met.P.Place.join
+    (told_word c.word-slot.ensures.loads) c.string_at.ensures.told)
     (λ words size read. read.1 ∙ ap (string_at words) (sym read.0) ∙ sym (low_is words))

@@ -26,4 +26,5 @@ returns-clause-told g c =
     told_so (omega arith) (told_then g.met.P.Place.join c.count_at-count.ensures.told c.lowest_slot_at-slot.ensures.told)
     (λ words size read.
     let count = read.0 ∙ count_is words size in
-    c.saturating_sub.ensures ∙ spare_is words c.lowest_slot_at-slot.result c.count_at-count.result c.if-slot-eq0.end count (read.1 count) end)
+    c.saturating_sub.ensures ∙ spare_is words c.lowest_slot_at-slot.result c.count_at-count.result c.if-slot-eq0.end count
+        (read.1 count) end)

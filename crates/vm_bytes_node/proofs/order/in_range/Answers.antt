@@ -7,4 +7,5 @@ pub returns-clause-string : goal.returns-clause-string
 returns-clause-string c = subst (IsString 64) c.bytes_of.ensures.value c.bytes_of.ensures.string
 
 pub returns-clause-rank : goal.returns-clause-rank
-returns-clause-rank c = subst (λ (s : List ℕ). rank s < RANK_END) c.bytes_of.ensures.value (rank-below 64 c.bytes_of.result.now c.bytes_of.ensures.string.bytes)
+returns-clause-rank c = subst (λ (s : List ℕ). rank s < RANK_END) c.bytes_of.ensures.value
+    (rank-below 64 c.bytes_of.result.now c.bytes_of.ensures.string.bytes)

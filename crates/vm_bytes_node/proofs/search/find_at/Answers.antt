@@ -7,12 +7,14 @@ use Rattle.vm_bytes_form.specs.Strings.{rank}
 use Rattle.vm_node.proofs.Telling.{told_then, told_so}
 use Rattle.vm_bytes_node.proofs.KeyFound.{found_before, none_before, values-at}
 use Rattle.vm_bytes_node.proofs.KeySearch.{length-pairs}
-use Rattle.vm_bytes_node.proofs.search.find_at.Goals.{then-above-eq0-via-then-above-eq0, then-above-eq0-via-else-above-eq0+then-not-same_key}
+use Rattle.vm_bytes_node.proofs.search.find_at.Goals.{then-above-eq0-via-then-above-eq0}
+use Rattle.vm_bytes_node.proofs.search.find_at.Goals.{then-above-eq0-via-else-above-eq0+then-not-same_key}
 use Rattle.vm_bytes_node.proofs.search.find_at.Goals as goal
 
 pub returns-then-above-eq0-clause-told : goal.returns-then-above-eq0-clause-told
 returns-then-above-eq0-clause-told g c =
-    let other : (c.upper_bound_at-above.result.at ≡ 0) ⊎ (rank c.upper_bound_at-above.result.low ≢ rank c.args.key.now) = elim c.then-above-eq0.branch [
+    let other : (c.upper_bound_at-above.result.at ≡ 0) ⊎ (rank c.upper_bound_at-above.result.low ≢ rank c.args.key.now) = elim
+        c.then-above-eq0.branch [
       | then-above-eq0-via-then-above-eq0 w ↦ inl w.if-above-eq0.true
       | then-above-eq0-via-else-above-eq0+then-not-same_key w ↦ inr (w.same_key.ensures.rank.1 w.if-not-same_key.true)
     ] in

@@ -8,7 +8,8 @@ use Rattle.vm_node.proofs.Telling.{told_word, told_then, told_so}
 use Rattle.vm_bytes_node.proofs.SlotLemmas.{shows_all, shows_more}
 use Rattle.vm_bytes_node.proofs.slots.string_at.Goals as goal
 
-enough : (from long words upto i : ℕ) → words ≡ words_for long → upto ≡ min (from + words) 512 → upto ≤ i → from ≤ i → (words_for long ≤ i - from) ⊎ (512 ≤ from + (i - from))
+enough : (from long words upto i : ℕ) → words ≡ words_for long → upto ≡ min (from + words) 512 → upto ≤ i → from ≤ i
+    → (words_for long ≤ i - from) ⊎ (512 ≤ from + (i - from))
 enough from long words upto i words_is upto_is past begun = elim (cases_lt (from + words) 512) [
   | inl lt ↦ inl (omega (arith, words_is, upto_is, past, lt))
   | inr more ↦ inr (omega (arith, upto_is, past, more, begun))
@@ -33,5 +34,7 @@ pub returns-clause-told : goal.returns-clause-told
 returns-clause-told g c =
     let past = c.loop-i-test.false in
     told_so (omega (arith, c.words_of.ensures, c.min-upto.ensures, c.min-long.ensures)) c.loop-i.invariant.told
-    (λ words size read. shows_all words size c.min-from.result c.min-long.result c.args.slot (c.loop-i.i - c.min-from.result) _ c.min-from.ensures c.min-long.ensures
-    (enough c.min-from.result c.min-long.result c.words_of.result c.min-upto.result c.loop-i.i c.words_of.ensures c.min-upto.ensures past c.loop-i.invariant.from) read)
+    (λ words size read. shows_all words size c.min-from.result c.min-long.result c.args.slot
+        (c.loop-i.i - c.min-from.result) _ c.min-from.ensures c.min-long.ensures
+    (enough c.min-from.result c.min-long.result c.words_of.result c.min-upto.result c.loop-i.i c.words_of.ensures c.min-upto.ensures past
+        c.loop-i.invariant.from) read)

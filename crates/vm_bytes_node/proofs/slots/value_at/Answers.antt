@@ -7,9 +7,12 @@ use Rattle.vm_node.proofs.Telling.{told_word, told_then, told_so}
 use Rattle.vm_bytes_node.proofs.SlotLemmas.{entry_is}
 use Rattle.vm_bytes_node.proofs.slots.value_at.Goals as goal
 
-module _ (words : List ℕ) (size : length words ≡ 512) (i slot : ℕ) (read : get_or words (8 + i) 0 ≡ slot) (there : i < length (node_in words).entries) where
-  value_is : (at value : ℕ) → at ≡ slot / 256 + words_for (slot % 256) → get_or words at 0 ≡ value → value ≡ (get_or (node_in words).entries i ([], 0)).1
-  value_is at value at_is found = sym found ∙ ap (λ (k : ℕ). get_or words k 0) (at_is ∙ ap (λ (s : ℕ). s / 256 + words_for (s % 256)) (sym read))
+module _ (words : List ℕ) (size : length words ≡ 512) (i slot : ℕ) (read : get_or words (8 + i) 0 ≡ slot)
+    (there : i < length (node_in words).entries) where
+  value_is : (at value : ℕ) → at ≡ slot / 256 + words_for (slot % 256) → get_or words at 0 ≡ value
+      → value ≡ (get_or (node_in words).entries i ([], 0)).1
+  value_is at value at_is found = sym found ∙ ap (λ (k : ℕ). get_or words k 0) (at_is
+      ∙ ap (λ (s : ℕ). s / 256 + words_for (s % 256)) (sym read))
       ∙ sym (ap (λ (e : Entry). e.1) (entry_is words size i there))
 
 pub returns-then-at-clause-told : goal.returns-then-at-clause-told
