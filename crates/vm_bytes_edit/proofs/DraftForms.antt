@@ -4,8 +4,8 @@ use Rattle.std.proofs.Common.{subst, ◌∙◌, arith, length-append}
 use Rattle.std.proofs.lemmas.List.{append_assoc, append-nil, length-replicate, replicate-append-replicate}
 use Rattle.vm_bytes_form.specs.Strings.{IsString}
 use Rattle.vm_bytes_form.specs.Cuts.{words_for}
-use Rattle.vm_bytes_form.specs.Forms.{Entry, ByteNode, IsFitting, entry_block, fence_blocks, fence_slot, form_of, heap, high_slot}
-use Rattle.vm_bytes_form.specs.Forms.{key_block, slots, taken}
+use Rattle.vm_bytes_form.specs.Forms.{KeyEntry, ByteNode, IsFitting, entry_block, fence_blocks, fence_slot, form_of, heap, high_slot}
+use Rattle.vm_bytes_form.specs.Forms.{key_block, slots, room_taken}
 use Rattle.vm_bytes_form.proofs.RoundTrip.{length-string_words}
 use Rattle.vm_bytes_edit.specs.Drafts.{empty_node, IsDraft, over, with_more}
 use Rattle.vm_bytes_edit.proofs.FormLists.{over_exact, set_exact}
@@ -13,22 +13,22 @@ use Rattle.vm_bytes_edit.proofs.FormLists.{over_exact, set_exact}
 pub length-block : (s : List ℕ) → length (key_block s) ≡ words_for (length s)
 length-block s = length-string_words (words_for (length s)) s
 
-pub length-slots : (end : ℕ) (es : List Entry) → length (slots end es) ≡ length es
+pub length-slots : (end : ℕ) (es : List KeyEntry) → length (slots end es) ≡ length es
 length-slots end [] = refl
 length-slots end (e ∷ es) = omega (arith, length-slots (end - length (entry_block e)) es)
 
-length-entry : (e : Entry) → length (entry_block e) ≡ words_for (length e.0) + 1
+length-entry : (e : KeyEntry) → length (entry_block e) ≡ words_for (length e.0) + 1
 length-entry e = omega (arith, length-append (key_block e.0) (e.1 ∷ []), length-block e.0)
 
 -- the parts of a form, from the slots on
 pub form-is : (n : ByteNode) → form_of 512 n
     ≡ n.tag ∷ length n.entries ∷ n.level ∷ fence_slot 512 n.low ∷ high_slot (512 - length (key_block n.low)) n.high ∷ 0 ∷ 0 ∷ 0
-    ∷ (slots (512 - length (fence_blocks n)) n.entries ++ (replicate (504 - taken n) 0 ++ (heap n.entries ++ fence_blocks n)))
+    ∷ (slots (512 - length (fence_blocks n)) n.entries ++ (replicate (504 - room_taken n) 0 ++ (heap n.entries ++ fence_blocks n)))
 unfolding form_of
 form-is n = ap (λ (l : List ℕ). n.tag ∷ length n.entries ∷ n.level ∷ fence_slot 512 n.low ∷ high_slot
     (512 - length (key_block n.low)) n.high ∷ 0 ∷ 0 ∷ 0 ∷ l)
-    (append_assoc (slots (512 - length (fence_blocks n)) n.entries ++ replicate (504 - taken n) 0) (heap n.entries) (fence_blocks n)
-    ∙ append_assoc (slots (512 - length (fence_blocks n)) n.entries) (replicate (504 - taken n) 0) (heap n.entries ++ fence_blocks n))
+    (append_assoc (slots (512 - length (fence_blocks n)) n.entries ++ replicate (504 - room_taken n) 0) (heap n.entries) (fence_blocks n)
+    ∙ append_assoc (slots (512 - length (fence_blocks n)) n.entries) (replicate (504 - room_taken n) 0) (heap n.entries ++ fence_blocks n))
 
 -- zeros in two parts
 zeros : (all m k : ℕ) → m + k ≡ all → replicate {A = ℕ} all 0 ≡ replicate {A = ℕ} m 0 ++ replicate {A = ℕ} k 0
@@ -72,19 +72,19 @@ module _ (tag level : ℕ) (low : List ℕ) (is : IsString 64 low) where
   begun-fits = record { room = omega (arith, length-block low, is.fits); low = is; high = λ s some. absurd (cc); keys = tt }
 
   low_written : (page : List ℕ) → page ≡ set (set (replicate 512 0) 0 tag) 2 level → (end : ℕ) → end ≡ 512 - words_for (length low)
-      → over page end (key_block low) ≡ tag ∷ 0 ∷ level ∷ 0 ∷ 0 ∷ 0 ∷ 0 ∷ 0 ∷ (replicate (504 - taken begun) 0 ++ key_block low)
+      → over page end (key_block low) ≡ tag ∷ 0 ∷ level ∷ 0 ∷ 0 ∷ 0 ∷ 0 ∷ 0 ∷ (replicate (504 - room_taken begun) 0 ++ key_block low)
   low_written page page_is end end_is =
-      block-below tag 0 level 0 0 page [] [] (key_block low) 504 (504 - taken begun) end
+      block-below tag 0 level 0 0 page [] [] (key_block low) 504 (504 - room_taken begun) end
       (page_is ∙ ap (λ (l : List ℕ). tag ∷ 0 ∷ level ∷ 0 ∷ 0 ∷ 0 ∷ 0 ∷ 0 ∷ l) (sym (append-nil (replicate 504 0))))
       (omega (arith, length-block low, is.fits)) (omega (arith, end_is, length-block low, is.fits))
-      ∙ ap (λ (l : List ℕ). tag ∷ 0 ∷ level ∷ 0 ∷ 0 ∷ 0 ∷ 0 ∷ 0 ∷ (replicate (504 - taken begun) 0 ++ l)) (append-nil (key_block low))
+      ∙ ap (λ (l : List ℕ). tag ∷ 0 ∷ level ∷ 0 ∷ 0 ∷ 0 ∷ 0 ∷ 0 ∷ (replicate (504 - room_taken begun) 0 ++ l)) (append-nil (key_block low))
 
   begun_is : (page : List ℕ) (end slot : ℕ) → page ≡ tag ∷ 0 ∷ level ∷ slot ∷ 0 ∷ 0 ∷ 0 ∷ 0 ∷
-      (replicate (504 - taken begun) 0 ++ key_block low)
+      (replicate (504 - room_taken begun) 0 ++ key_block low)
       → slot ≡ fence_slot 512 low → end ≡ 512 - words_for (length low) → IsDraft page 0 end begun
   begun_is page end slot page_is slot_is end_is = record {
     fits = begun-fits;
-    form = page_is ∙ ap (λ (s : ℕ). tag ∷ 0 ∷ level ∷ s ∷ 0 ∷ 0 ∷ 0 ∷ 0 ∷ (replicate (504 - taken begun) 0 ++ key_block low)) slot_is
+    form = page_is ∙ ap (λ (s : ℕ). tag ∷ 0 ∷ level ∷ s ∷ 0 ∷ 0 ∷ 0 ∷ 0 ∷ (replicate (504 - room_taken begun) 0 ++ key_block low)) slot_is
         ∙ sym (form-is begun);
     count_is = refl;
     end_is = omega (arith, end_is, length-block low, is.fits);
@@ -130,9 +130,9 @@ module _ (tag level : ℕ) (low high old written new : List ℕ) (count end late
   }
 
   words_are : written ≡ tag ∷ 0 ∷ level ∷ fence_slot 512 low ∷ 0 ∷ 0 ∷ 0 ∷ 0 ∷
-      (replicate (504 - taken closed) 0 ++ (key_block high ++ key_block low))
-  words_are = written_is ∙ block-below tag 0 level (fence_slot 512 low) 0 old [] (key_block low) (key_block high) (504 - taken node)
-      (504 - taken closed) later
+      (replicate (504 - room_taken closed) 0 ++ (key_block high ++ key_block low))
+  words_are = written_is ∙ block-below tag 0 level (fence_slot 512 low) 0 old [] (key_block low) (key_block high) (504 - room_taken node)
+      (504 - room_taken closed) later
       (draft.form ∙ form-is node) (omega (arith, both, lone, length-block high, low_few, key.fits))
       (let at = draft.end_is in omega (arith, both, lone, low_few, key.fits, later_is, at))
 
@@ -141,7 +141,7 @@ module _ (tag level : ℕ) (low high old written new : List ℕ) (count end late
     fits = closed-fits;
     form = new_is ∙ ap (λ (p : List ℕ). set p 4 slot) words_are
         ∙ ap (λ (s : ℕ). tag ∷ 0 ∷ level ∷ fence_slot 512 low ∷ s ∷ 0 ∷ 0 ∷ 0 ∷
-            (replicate (504 - taken closed) 0 ++ (key_block high ++ key_block low)))
+            (replicate (504 - room_taken closed) 0 ++ (key_block high ++ key_block low)))
         (slot_below (512 - length (key_block low)) later slot high some
         (let at = draft.end_is in omega (arith, later_is, at, length-block low)) slot_is)
         ∙ sym (form-is closed);
@@ -150,7 +150,8 @@ module _ (tag level : ℕ) (low high old written new : List ℕ) (count end late
   }
 
 -- a pair comes behind the others
-slots-push : (end : ℕ) (es : List Entry) (e : Entry) → slots end (es ++ e ∷ []) ≡ slots end es ++ slots (end - length (heap es)) (e ∷ [])
+slots-push : (end : ℕ) (es : List KeyEntry) (e : KeyEntry)
+    → slots end (es ++ e ∷ []) ≡ slots end es ++ slots (end - length (heap es)) (e ∷ [])
 slots-push end [] e = let none : end - 0 ≡ end = omega arith in rw none refl
 slots-push end (d ∷ es) e =
     let place : end - length (entry_block d) - length (heap es) ≡ end - length (heap (d ∷ es)) = omega
@@ -159,7 +160,7 @@ slots-push end (d ∷ es) e =
     (slots-push (end - length (entry_block d)) es e
     ∙ ap (λ (p : ℕ). slots (end - length (entry_block d)) es ++ slots p (e ∷ [])) place)
 
-heap-push : (es : List Entry) (e : Entry) → heap (es ++ e ∷ []) ≡ entry_block e ++ heap es
+heap-push : (es : List KeyEntry) (e : KeyEntry) → heap (es ++ e ∷ []) ≡ entry_block e ++ heap es
 heap-push [] e = sym (append-nil (entry_block e))
 heap-push (d ∷ es) e = ap (λ (l : List ℕ). l ++ entry_block d) (heap-push es e) ∙ append_assoc (entry_block e) (heap es) (entry_block d)
 
@@ -173,7 +174,7 @@ module _ (n : ByteNode) (key : List ℕ) (value : ℕ) where
   abbrev behind : List ℕ
   behind = heap n.entries ++ fence_blocks n
 
-  pub taken-more : taken more ≡ taken n + (2 + words_for (length key))
+  pub taken-more : room_taken more ≡ room_taken n + (2 + words_for (length key))
   taken-more = omega (
     arith,
     length-append n.entries ((key, value) ∷ []),
@@ -185,20 +186,21 @@ module _ (n : ByteNode) (key : List ℕ) (value : ℕ) where
   -- the form with a further pair
   more-is : (place : ℕ) → place ≡ base - length (heap n.entries) - length (entry_block (key, value))
       → n.tag ∷ (length n.entries + 1) ∷ n.level ∷ fence_slot 512 n.low ∷ high_slot (512 - length (key_block n.low)) n.high ∷ 0 ∷ 0 ∷ 0
-      ∷ (slots base n.entries ++ ((place * 256 + length key) ∷ (replicate (504 - taken more) 0 ++ (key_block key ++ (value ∷ behind)))))
+      ∷ (slots base n.entries ++ ((place * 256 + length key) ∷
+          (replicate (504 - room_taken more) 0 ++ (key_block key ++ (value ∷ behind)))))
       ≡ form_of 512 more
   more-is place is = sym (form-is more
       ∙ ap (λ (c : ℕ). n.tag ∷ c ∷ n.level ∷ fence_slot 512 n.low ∷ high_slot (512 - length (key_block n.low)) n.high ∷ 0 ∷ 0 ∷ 0
       ∷ (slots base (n.entries ++ (key, value) ∷ []) ++
-          (replicate (504 - taken more) 0 ++ (heap (n.entries ++ (key, value) ∷ []) ++ fence_blocks n))))
+          (replicate (504 - room_taken more) 0 ++ (heap (n.entries ++ (key, value) ∷ []) ++ fence_blocks n))))
       (length-append n.entries ((key, value) ∷ []))
       ∙ ap (λ (l : List ℕ). n.tag ∷ (length n.entries + 1) ∷ n.level ∷ fence_slot 512 n.low ∷ high_slot
           (512 - length (key_block n.low)) n.high ∷ 0 ∷ 0 ∷ 0 ∷ l)
-      (ap (λ (l : List ℕ). l ++ (replicate (504 - taken more) 0 ++ (heap (n.entries ++ (key, value) ∷ []) ++ fence_blocks n)))
+      (ap (λ (l : List ℕ). l ++ (replicate (504 - room_taken more) 0 ++ (heap (n.entries ++ (key, value) ∷ []) ++ fence_blocks n)))
       (slots-push base n.entries (key, value)
       ∙ ap (λ (p : ℕ). slots base n.entries ++ ((p * 256 + length key) ∷ [])) (sym is))
       ∙ append_assoc (slots base n.entries) ((place * 256 + length key) ∷ []) _
-      ∙ ap (λ (l : List ℕ). slots base n.entries ++ ((place * 256 + length key) ∷ (replicate (504 - taken more) 0 ++ l)))
+      ∙ ap (λ (l : List ℕ). slots base n.entries ++ ((place * 256 + length key) ∷ (replicate (504 - room_taken more) 0 ++ l)))
       (ap (λ (l : List ℕ). l ++ fence_blocks n) (heap-push n.entries (key, value))
       ∙ append_assoc (key_block key ++ (value ∷ [])) (heap n.entries) (fence_blocks n)
       ∙ append_assoc (key_block key) (value ∷ []) behind)))
@@ -209,12 +211,12 @@ module _ (n : ByteNode) (key : List ℕ) (value : ℕ) where
       (slot_is : slot ≡ place * 256 + length key) (written_is : written ≡ over valued place (key_block key))
       (slotted_is : slotted ≡ set written (8 + count) slot) (new_is : new ≡ set slotted 1 (count + 1)) where
     abbrev rest : ℕ
-    rest = 504 - taken more
+    rest = 504 - room_taken more
 
     abbrev front : List ℕ
     front = slots base n.entries
 
-    sizes : taken n + (2 + words_for (length key)) + rest ≡ 504
+    sizes : room_taken n + (2 + words_for (length key)) + rest ≡ 504
     sizes = omega (arith, taken-more, fits.room)
 
     front_long : length front ≡ count
@@ -229,7 +231,7 @@ module _ (n : ByteNode) (key : List ℕ) (value : ℕ) where
     -- zeros: one for the slot, what is left, those of the key, one for the value
     parted : page ≡ head (length n.entries) (front ++ (0 ∷ (replicate rest 0 ++ (replicate (words_for (length key)) 0 ++ (0 ∷ behind)))))
     parted = draft.form ∙ form-is n ∙ ap (λ (l : List ℕ). head (length n.entries) (front ++ l))
-        (ap (λ (l : List ℕ). l ++ behind) (zeros (504 - taken n) (1 + rest) (words_for (length key) + 1) (omega (arith, sizes))
+        (ap (λ (l : List ℕ). l ++ behind) (zeros (504 - room_taken n) (1 + rest) (words_for (length key) + 1) (omega (arith, sizes))
         ∙ ap (λ (l : List ℕ). l ++ replicate (words_for (length key) + 1) 0) (zeros (1 + rest) 1 rest (omega arith))
         ∙ ap (λ (l : List ℕ). (0 ∷ replicate rest 0) ++ l) (zeros (words_for (length key) + 1) (words_for (length key)) 1 (omega arith)))
         ∙ append_assoc (0 ∷ replicate rest 0) (replicate (words_for (length key)) 0 ++ (0 ∷ [])) behind

@@ -5,14 +5,15 @@ use Rattle.std.proofs.lemmas.Bool.{cases_eq, cases_lt, eq-eqb, ne_eqb, lt-ltb}
 use Rattle.std.proofs.lemmas.Bool.Decides.{nat_tests}
 use Rattle.vm_map.specs.Map.{lookup_at, Pairs, Rises}
 use Rattle.vm_node.specs.Places.{place_of}
-use Rattle.vm_bytes_form.specs.Forms.{AreKeys, Entry}
+use Rattle.vm_bytes_form.specs.Forms.{AreKeys, KeyEntry}
 use Rattle.vm_bytes_form.specs.KeyMap.{del_key, put_key, ranks_of}
 use Rattle.vm_bytes_form.specs.Strings.{IsString, rank}
 use Rattle.vm_bytes_form.proofs.KeyMaps.{before_test, same_test}
 
 module _ (s : List ℕ) (v : ℕ) (is : IsString 64 s) where
   -- no entry has the key
-  pub put_new : (es : List Entry) (at : ℕ) → AreKeys es → lookup_at (ranks_of es) (rank s) ≡ None → at ≡ place_of (ranks_of es) (rank s + 1)
+  pub put_new : (es : List KeyEntry) (at : ℕ) → AreKeys es → lookup_at (ranks_of es) (rank s) ≡ None
+      → at ≡ place_of (ranks_of es) (rank s + 1)
       → put_key es s v ≡ take at es ++ ((s, v) ∷ drop at es)
   put_new [] at keys none place = rw place refl
   put_new (e ∷ es) at keys none place = elim (cases_eq (rank s) (rank e.0)) [
@@ -29,7 +30,7 @@ module _ (s : List ℕ) (v : ℕ) (is : IsString 64 s) where
               let not_above : ltb (rank s) (rank e.0) ≡ false = grind (arith, nat_tests, upto) in
               let next : at ≡ suc (place_of (ranks_of es) (rank s + 1)) = place ∙ rw goes refl in
               rw (before_test s e.0 is keys.0, not_above, same_test s e.0 is keys.0, ne_eqb (rank s) (rank e.0) other, next)
-              (ap (λ (l : List Entry). e ∷ l) (put_new es (place_of (ranks_of es) (rank s + 1)) keys.1 none' refl))
+              (ap (λ (l : List KeyEntry). e ∷ l) (put_new es (place_of (ranks_of es) (rank s + 1)) keys.1 none' refl))
         ]
   ]
 
@@ -41,7 +42,7 @@ none_lower (e ∷ es) low high k rises le = let first = rises.0 in let stops : l
 
 module _ (s : List ℕ) (v : ℕ) (is : IsString 64 s) where
   -- an entry has the key: it stands before the place where the keys begin to be above
-  pub edits_there : (es : List Entry) (at low high : ℕ) → AreKeys es → Rises low high (ranks_of es)
+  pub edits_there : (es : List KeyEntry) (at low high : ℕ) → AreKeys es → Rises low high (ranks_of es)
       → suc at ≡ place_of (ranks_of es) (rank s + 1)
       → (get_or (ranks_of es) at (0, 0)).0 ≡ rank s
       → (put_key es s v ≡ take at es ++ ((s, v) ∷ drop (suc at) es)) × (del_key es s ≡ take at es ++ drop (suc at) es)
@@ -75,5 +76,5 @@ module _ (s : List ℕ) (v : ℕ) (is : IsString 64 s) where
           → (e ∷ put_key es s v ≡ take at (e ∷ es) ++ ((s, v) ∷ drop (suc at) (e ∷ es)))
               × (e ∷ del_key es s ≡ take at (e ∷ es) ++ drop (suc at) (e ∷ es))
       go zero place has differs rest = absurd (differs has)
-      go (suc i) place has differs rest = let both = rest i place has in (ap (λ (l : List Entry). e ∷ l) both.0,
-          ap (λ (l : List Entry). e ∷ l) both.1)
+      go (suc i) place has differs rest = let both = rest i place has in (ap (λ (l : List KeyEntry). e ∷ l) both.0,
+          ap (λ (l : List KeyEntry). e ∷ l) both.1)

@@ -27,11 +27,11 @@ word-of (suc n) (suc i) s lt =
 pub block_word : (s bytes : List ℕ) (i count k : ℕ) → i < words_for (length s) → count ≡ min (length s - 8 * i) 8 → k ≡ count
     → bytes ≡ take k (drop (8 * i) s)
     → from_be_bytes w64 (bytes ++ drop count (replicate 8 0)) ≡ get_or (key_block s) i 0
-block_word s bytes i count k inside few is taken =
+block_word s bytes i count k inside few is room_taken =
     let t = drop (8 * i) s in
     let all : take k t ≡ take 8 t = (let same : k ≡ min 8 (length t) = omega (arith, few, is, length-drop (8 * i) s) in
         ap (λ (m : ℕ). take m t) same ∙ take_min 8 t) in
     let long : count ≡ length (take 8 t) = omega (arith, few, length-drop (8 * i) s, length-take 8 t) in
-    ap (from_be_bytes w64) (ap (λ (l : List ℕ). l ++ drop count (replicate 8 0)) (taken ∙ all)
+    ap (from_be_bytes w64) (ap (λ (l : List ℕ). l ++ drop count (replicate 8 0)) (room_taken ∙ all)
         ∙ ap (λ (m : ℕ). take 8 t ++ drop m (replicate 8 0)) long ∙ sym (padded-is 8 t))
     ∙ sym (word-of (words_for (length s)) i s inside)

@@ -19,7 +19,7 @@ use Rattle.vm_bytes_form.specs.Strings.{IsString, rank}
 use Rattle.vm_bytes_form.proofs.EditLaws.{adds, clean_fitting, del-fits, put-fits, takes}
 use Rattle.vm_bytes_edit.specs.Drafts.{spliced}
 use Rattle.vm_bytes_edit.specs.Edited.{IsPlaced, LacksRoomFor, TakesPairOf}
-use Rattle.vm_bytes_node.specs.Room.{spare_in}
+use Rattle.vm_bytes_node.specs.Room.{spare_words}
 use Rattle.vm_bytes_node.proofs.Floor.{floor_before, found_floor}
 use Rattle.vm_bytes_edit.proofs.KeyPlaces.{edits_there, put_new}
 use Rattle.vm_bytes_node.proofs.KeySearch.{length-pairs}
@@ -98,13 +98,13 @@ module _ (words s : List ℕ) (is : IsString 64 s) (at : ℕ) (old : Option ℕ)
     absent = subst (λ (o : Option ℕ). MatchOption o ((low high : ℕ) → Rises low high pairs → lookup_at pairs (rank s) ≡ None)
         (λ v. (i : ℕ) × (suc i ≡ at) × (get_or pairs i (0, 0) ≡ (rank s, v)))) none placed.there
 
-    pub lacks : spare_in words < pair_size (rank s) → LacksRoomFor words (rank s)
+    pub lacks : spare_words words < pair_size (rank s) → LacksRoomFor words (rank s)
     lacks less = record { room = less; absent = absent }
 
-    pub lacks_full : spare_in words < pair_size (rank s) → IsLeaf bytes words → IsFullFor bytes words (rank s)
+    pub lacks_full : spare_words words < pair_size (rank s) → IsLeaf bytes words → IsFullFor bytes words (rank s)
     lacks_full less leaf = record { count = omega (arith, less, spare_is words leaf.clean); absent = absent _ _ leaf.node.rises }
 
-    module _ (roomy : pair_size (rank s) ≤ spare_in words) where
+    module _ (roomy : pair_size (rank s) ≤ spare_words words) where
       pub room_takes : TakesPairOf words (rank s)
       room_takes lacks = let less = lacks.0 in omega (arith, less, roomy)
 

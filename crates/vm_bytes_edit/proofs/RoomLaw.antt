@@ -7,16 +7,16 @@ use Rattle.std.proofs.lemmas.Nat.{div-mul-add}
 use Rattle.vm_tree_model.specs.Layout.{IsClean, size}
 use Rattle.vm_tree_model.specs.Page.{node_of}
 use Rattle.vm_bytes_form.specs.Bytes.{bytes}
-use Rattle.vm_bytes_form.specs.Forms.{AreKeys, ByteNode, Entry, IsFitting, entry_block, fence_block, fence_blocks, fence_slot, form_of}
-use Rattle.vm_bytes_form.specs.Forms.{heap, high_slot, key_block, node_in, slots, taken}
+use Rattle.vm_bytes_form.specs.Forms.{AreKeys, ByteNode, KeyEntry, IsFitting, entry_block, fence_block, fence_blocks, fence_slot, form_of}
+use Rattle.vm_bytes_form.specs.Forms.{heap, high_slot, key_block, node_in, slots, room_taken}
 use Rattle.vm_bytes_form.specs.Strings.{IsString}
 use Rattle.vm_bytes_form.proofs.BytesLaws.{size-taken}
 use Rattle.vm_bytes_form.proofs.EditLaws.{clean_fitting, clean_is_form}
-use Rattle.vm_bytes_node.specs.Room.{count_in, lowest_slot, place_of_slot, spare_in}
+use Rattle.vm_bytes_node.specs.Room.{count_shown, lowest_slot, place_of_slot, spare_words}
 use Rattle.vm_bytes_edit.proofs.DraftForms.{form-is, length-block, length-slots}
 
 -- the slot of the last of the entries
-slots-last : (end : ℕ) (es : List Entry) (i : ℕ) → length es ≡ suc i
+slots-last : (end : ℕ) (es : List KeyEntry) (i : ℕ) → length es ≡ suc i
     → get_or (slots end es) i 0 ≡ (end - length (heap es)) * 256 + length (get_or es i ([], 0)).0
 slots-last end [] i long = absurd (omega (arith, long))
 slots-last end (e ∷ []) zero long = refl
@@ -34,7 +34,7 @@ place_is slot place long is short some fits =
     let there : slot / 256 ≡ place = ap (λ (s : ℕ). s / 256) is ∙ div-mul-add place 256 long short in
     rw (ne_eqb slot 0 (λ none. omega (arith, is, none, some))) (omega (arith, there, fits))
 
-key_short : (es : List Entry) (i : ℕ) → AreKeys es → length (get_or es i ([], 0)).0 < 256
+key_short : (es : List KeyEntry) (i : ℕ) → AreKeys es → length (get_or es i ([], 0)).0 < 256
 key_short [] i keys = omega arith
 key_short (e ∷ es) zero keys = let fits = keys.0.fits in omega (arith, fits)
 key_short (e ∷ es) (suc i) keys = key_short es i keys.1
@@ -56,14 +56,14 @@ module _ (words : List ℕ) (n : ByteNode) (fits : IsFitting 512 n) (is : words 
   base = 512 - length (fence_blocks n)
 
   abbrev tail : List ℕ
-  tail = replicate (504 - taken n) 0 ++ (heap n.entries ++ fence_blocks n)
+  tail = replicate (504 - room_taken n) 0 ++ (heap n.entries ++ fence_blocks n)
 
   shown : words ≡ n.tag ∷ length n.entries ∷ n.level ∷ fence_slot 512 n.low ∷ high_slot (512 - length (key_block n.low)) n.high ∷ 0 ∷ 0 ∷ 0
       ∷ (slots base n.entries ++ tail)
   shown = is ∙ form-is n
 
-  count : count_in words ≡ length n.entries
-  count = ap count_in shown ∙ (let room = fits.room in omega (arith, room))
+  count : count_shown words ≡ length n.entries
+  count = ap count_shown shown ∙ (let room = fits.room in omega (arith, room))
 
   third : get_or words 3 0 ≡ fence_slot 512 n.low
   third = ap (λ (w : List ℕ). get_or w 3 0) shown
@@ -84,11 +84,11 @@ module _ (words : List ℕ) (n : ByteNode) (fits : IsFitting 512 n) (is : words 
   lowest : (m : ℕ) → length n.entries ≡ m → place_of_slot (lowest_slot words) ≡ base - length (heap n.entries)
   lowest zero none = without n.high refl n.low refl
     where
-      nothing : count_in words ≡ 0
+      nothing : count_shown words ≡ 0
       nothing = count ∙ none
 
       no_heap : length (heap n.entries) ≡ 0
-      no_heap = ap (λ (l : List Entry). length (heap l)) (nil_from_length n.entries none)
+      no_heap = ap (λ (l : List KeyEntry). length (heap l)) (nil_from_length n.entries none)
 
       without : (high : Option (List ℕ)) → n.high ≡ high → (low : List ℕ) → n.low ≡ low
           → place_of_slot (lowest_slot words) ≡ base - length (heap n.entries)
@@ -120,18 +120,18 @@ module _ (words : List ℕ) (n : ByteNode) (fits : IsFitting 512 n) (is : words 
           rw (nothing, ne_eqb (get_or words 4 0) 0 (λ e. there.0 (sym high_word ∙ e))) high_word in
           ap place_of_slot slot ∙ there.1 ∙ omega (arith, blocks, no_heap)
   lowest (suc i) long =
-      let some : count_in words ≢ 0 = λ e. omega (arith, count, long, e) in
-      let at : 7 + count_in words ≡ 8 + i = omega (arith, count, long) in
+      let some : count_shown words ≢ 0 = λ e. omega (arith, count, long, e) in
+      let at : 7 + count_shown words ≡ 8 + i = omega (arith, count, long) in
       let slot : lowest_slot words ≡ (base - length (heap n.entries)) * 256 + length (get_or n.entries i ([], 0)).0 =
-      rw (ne_eqb (count_in words) 0 some) (ap (λ (k : ℕ). get_or words k 0) at ∙ last_slot i long) in
+      rw (ne_eqb (count_shown words) 0 some) (ap (λ (k : ℕ). get_or words k 0) at ∙ last_slot i long) in
       let room = fits.room in
       place_is (lowest_slot words) (base - length (heap n.entries)) (length (get_or n.entries i ([], 0)).0) slot
       (key_short n.entries i fits.keys) (omega (arith, room, long)) (omega arith)
 
-  spare : spare_in words ≡ 504 - taken n
+  spare : spare_words words ≡ 504 - room_taken n
   spare = let place = lowest (length n.entries) refl in let room = fits.room in omega (arith, place, count, room)
 
-pub spare_is : (words : List ℕ) → IsClean bytes words → spare_in words + size bytes (node_of bytes words) ≡ 504
+pub spare_is : (words : List ℕ) → IsClean bytes words → spare_words words + size bytes (node_of bytes words) ≡ 504
 spare_is words clean =
     let fits = clean_fitting words clean in
     let room = fits.room in

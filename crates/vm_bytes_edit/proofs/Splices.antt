@@ -3,7 +3,7 @@ use Rattle.std.proofs.Common.{◌≡◌, ℕ, ◌≤◌, List, [], ◌++◌, len
 use Rattle.std.proofs.lemmas.List.{take_all}
 use Rattle.vm_tree_model.specs.Layout.{IsClean}
 use Rattle.vm_bytes_form.specs.Bytes.{bytes}
-use Rattle.vm_bytes_form.specs.Forms.{ByteNode, Entry, IsFitting, node_in}
+use Rattle.vm_bytes_form.specs.Forms.{ByteNode, KeyEntry, IsFitting, node_in}
 use Rattle.vm_bytes_form.proofs.EditLaws.{clean_fitting}
 use Rattle.vm_bytes_edit.specs.Drafts.{empty_node, entries_between, IsDraft, spliced, with_more}
 use Rattle.vm_bytes_edit.proofs.Entries.{fits_first, with_both}
@@ -25,19 +25,19 @@ begun_of words page count end tag level low high tag_read level_read low_read hi
 pub high_some : (words high : List ℕ) → IsClean bytes words → Some high ≡ (node_in words).high → 1 ≤ length high
 high_some words high clean is = ((clean_fitting words clean).high high (sym is)).1
 
-module _ (n : ByteNode) (before behind count : ℕ) (between : List Entry) (all : count ≡ length n.entries) where
+module _ (n : ByteNode) (before behind count : ℕ) (between : List KeyEntry) (all : count ≡ length n.entries) where
   abbrev bare : ByteNode
   bare = record n { entries = [] }
 
-  abbrev first : List Entry
+  abbrev first : List KeyEntry
   first = entries_between 0 before n.entries
 
-  abbrev last : List Entry
+  abbrev last : List KeyEntry
   last = entries_between behind count n.entries
 
   pub joined : with_more (with_more bare first) (between ++ last) ≡ spliced n before behind between
   joined = with_both bare first (between ++ last)
-      ∙ ap (λ (l : List Entry). record n { entries = take before n.entries ++ (between ++ drop behind l) })
+      ∙ ap (λ (l : List KeyEntry). record n { entries = take before n.entries ++ (between ++ drop behind l) })
           (take_all count n.entries (omega (arith, all)))
 
   pub spliced_is : with_more (with_more (with_more bare first) between) last ≡ spliced n before behind between
@@ -77,5 +77,5 @@ module _ (words : List ℕ) (page : List ℕ) (count end tag level : ℕ) (tag_r
       λ i. empty_node (tagged i) (levelled i) low (high_read i) in
       subst (IsDraft page count end) same draft
 
-pub last_entries : (from count : ℕ) (es : List Entry) → count ≡ length es → entries_between from count es ≡ drop from es
+pub last_entries : (from count : ℕ) (es : List KeyEntry) → count ≡ length es → entries_between from count es ≡ drop from es
 last_entries from count es all = ap (drop from) (take_all count es (omega (arith, all)))

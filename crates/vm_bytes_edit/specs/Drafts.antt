@@ -1,13 +1,13 @@
 -- The words of a node that is being written.
 use Rattle.std.specs.Prelude.{ℕ, ◌≡◌, ◌+◌, ◌≤◌, List, [], ◌++◌, length, take, drop, Option}
-use Rattle.vm_bytes_form.specs.Forms.{Entry, ByteNode, IsFitting, fence_blocks, form_of, heap}
+use Rattle.vm_bytes_form.specs.Forms.{KeyEntry, ByteNode, IsFitting, fence_blocks, form_of, heap}
 
 -- the words with a block of them written over from a place on
 abbrev pub over : List ℕ → ℕ → List ℕ → List ℕ
 over words at block = take at words ++ (block ++ drop (at + length block) words)
 
 -- the entries from one place on and before another
-abbrev pub entries_between : ℕ → ℕ → List Entry → List Entry
+abbrev pub entries_between : ℕ → ℕ → List KeyEntry → List KeyEntry
 entries_between from upto es = drop from (take upto es)
 
 -- a node with no pair
@@ -15,11 +15,11 @@ abbrev pub empty_node : ℕ → ℕ → List ℕ → Option (List ℕ) → ByteN
 empty_node tag level low high = record { tag = tag; level = level; low = low; high = high; entries = [] }
 
 -- the node with these entries behind its own
-abbrev pub with_more : ByteNode → List Entry → ByteNode
+abbrev pub with_more : ByteNode → List KeyEntry → ByteNode
 with_more n es = record n { entries = n.entries ++ es }
 
 -- the node with other entries in place of those from one place on and before another
-abbrev pub spliced : ByteNode → ℕ → ℕ → List Entry → ByteNode
+abbrev pub spliced : ByteNode → ℕ → ℕ → List KeyEntry → ByteNode
 spliced n from upto es = record n { entries = take from n.entries ++ (es ++ drop upto n.entries) }
 
 -- a draft's pairs have their slots, and its blocks their words, on the page

@@ -5,7 +5,7 @@ use Rattle.vm_tree_model.specs.Page.{pairs_of}
 use Rattle.vm_node.specs.Places.{IsBound}
 use Rattle.vm_bytes_form.specs.Bytes.{bytes}
 use Rattle.vm_bytes_form.specs.Cuts.{pair_size}
-use Rattle.vm_bytes_node.specs.Room.{spare_in}
+use Rattle.vm_bytes_node.specs.Room.{spare_words}
 
 -- The keys begin to be above the key at this place; the pair before it has the key and this value, or where the keys rise none has it
 pub record IsPlaced (words : List ℕ) (key at : ℕ) (old : Option ℕ) : Type 0 where
@@ -15,9 +15,9 @@ pub record IsPlaced (words : List ℕ) (key at : ℕ) (old : Option ℕ) : Type 
 
 -- less is left than the pair takes, and the key is not there where the keys rise
 pub record LacksRoomFor (words : List ℕ) (key : ℕ) : Type 0 where
-  pub room : spare_in words < pair_size key
+  pub room : spare_words words < pair_size key
   pub absent : (low high : ℕ) → Rises low high (pairs_of bytes words) → lookup_at (pairs_of bytes words) key ≡ None
 
 -- the key is there, or as much is left as the pair takes
 abbrev pub TakesPairOf : List ℕ → ℕ → Type 0
-TakesPairOf words key = ¬ ((spare_in words < pair_size key) × (lookup_at (pairs_of bytes words) key ≡ None))
+TakesPairOf words key = ¬ ((spare_words words < pair_size key) × (lookup_at (pairs_of bytes words) key ≡ None))

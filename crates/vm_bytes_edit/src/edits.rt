@@ -9,7 +9,7 @@ ghost use Rattle.vm_tree_model.specs.Edits.{AddsPair, IsFullFor, IsLeafWith, Put
 ghost use Rattle.vm_bytes_form.specs.{Bytes.bytes, Forms.IsFitting, Forms.form_of, Forms.node_in, Strings.IsString, Strings.rank};
 ghost use Rattle.vm_bytes_form.specs.NodeEdits.{del_in, put_in};
 ghost use Rattle.vm_bytes_edit.specs.Drafts.{IsDraft, IsInPage, spliced};
-ghost use Rattle.vm_bytes_node.specs.Room.{spare_in};
+ghost use Rattle.vm_bytes_node.specs.Room.{spare_words};
 ghost use Rattle.vm_bytes_node.specs.Limits.{MOST_SLOTS};
 ghost use Rattle.vm_bytes_edit.specs.Edited.{IsPlaced, LacksRoomFor, TakesPairOf};
 
@@ -65,7 +65,7 @@ pub fn del_edit(page: &PageBuf<512>, key: &Key) -> Option<(u64, PageBuf<512>)>
 
 /// How much of its room the page has left.
 pub fn spare_of(page: &PageBuf<512>) -> usize
-    ensures { result ≡ spare_in page.now }
+    ensures { result ≡ spare_words page.now }
 {
     spare_at(&mut in_buffer(page))
 }

@@ -8,7 +8,7 @@ use Rattle.vm_tree_model.specs.Node.{Node}
 use Rattle.vm_tree_model.specs.Layout.{IsLayout, PaysForSplit, pairs_size, size}
 use Rattle.vm_bytes_form.specs.Strings.{AreBytes, IsString, rank, RANK_END}
 use Rattle.vm_bytes_form.specs.Cuts.{words_for, key_words, pair_size}
-use Rattle.vm_bytes_form.specs.Forms.{Entry, ByteNode, key_block, fence_block, entry_block, heap, taken, form_of, node_in, AreKeys}
+use Rattle.vm_bytes_form.specs.Forms.{KeyEntry, ByteNode, key_block, fence_block, entry_block, heap, room_taken, form_of, node_in, AreKeys}
 use Rattle.vm_bytes_form.specs.Forms.{IsFitting}
 use Rattle.vm_bytes_form.specs.Bytes.{kind_of, high_rank, ranked_entry, ranked, same_words, are_bytes, is_string, is_high, are_keys}
 use Rattle.vm_bytes_form.specs.Bytes.{is_fitting, bytes_clean, bytes_has_fences, bytes_has_form, bytes}
@@ -34,7 +34,7 @@ string-tells : (s : List ℕ) → is_string s ≡ true → IsString 64 s
 string-tells s is = let (fits, each) = and_parts (leb (length s) 64) (are_bytes s) is in
     record { fits = leb-true (length s) 64 fits; bytes = bytes-tell s each }
 
-keys-tell : (es : List Entry) → are_keys es ≡ true → AreKeys es
+keys-tell : (es : List KeyEntry) → are_keys es ≡ true → AreKeys es
 keys-tell [] is = tt
 keys-tell (e ∷ es) is = let (here, rest) = and_parts (is_string e.0) (are_keys es) is in (string-tells e.0 here, keys-tell es rest)
 
@@ -49,8 +49,8 @@ pub fitting-tells : (n : ByteNode) → is_fitting n ≡ true → IsFitting 512 n
 fitting-tells n is =
     let (a, keys) = and_parts _ (are_keys n.entries) is in
     let (b, high) = and_parts _ (is_high n.high) a in
-    let (room, low) = and_parts (leb (8 + taken n) 512) (is_string n.low) b in
-    record { room = leb-true (8 + taken n) 512 room; low = string-tells n.low low; high = high-tells n.high high;
+    let (room, low) = and_parts (leb (8 + room_taken n) 512) (is_string n.low) b in
+    record { room = leb-true (8 + room_taken n) 512 room; low = string-tells n.low low; high = high-tells n.high high;
         keys = keys-tell n.entries keys }
 
 -- the words of a key, by its rank
@@ -75,14 +75,14 @@ high_words : (high : Option (List ℕ)) → ((s : List ℕ) → high ≡ Some s 
 high_words None each = refl
 high_words (Some s) each = fence_words s (each s refl).0
 
-pairs_words : (es : List Entry) → AreKeys es → pairs_size pair_size (map ranked_entry es) ≡ length es + length (heap es)
+pairs_words : (es : List KeyEntry) → AreKeys es → pairs_size pair_size (map ranked_entry es) ≡ length es + length (heap es)
 pairs_words [] keys = refl
 pairs_words (e ∷ es) keys = omega (arith, pairs_words es keys.1, key_words-are e.0 keys.0, length-append (heap es) (entry_block e),
     length-append (key_block e.0) (e.1 ∷ []))
 
 -- the node's size is what its words take
 pub size-taken : (n : ByteNode) → IsString 64 n.low → ((s : List ℕ) → n.high ≡ Some s → IsString 64 s × (1 ≤ length s)) → AreKeys n.entries
-    → size bytes (ranked n) ≡ taken n
+    → size bytes (ranked n) ≡ room_taken n
 size-taken n low high keys = omega (arith, pairs_words n.entries keys, fence_words n.low low, high_words n.high high,
     length-append (fence_block n.high) (key_block n.low))
 

@@ -12,7 +12,7 @@ use Rattle.vm_tree_model.specs.Page.{pairs_of}
 use Rattle.vm_tree_model.specs.Edits.{AddsPair, TakesPair, IsSplit, IsNewRoot, IsFullFor}
 use Rattle.vm_bytes_form.specs.Strings.{AreBytes, IsString, rank, rank_in}
 use Rattle.vm_bytes_form.specs.Cuts.{pair_size}
-use Rattle.vm_bytes_form.specs.Forms.{Entry, ByteNode, taken, form_of, node_in, AreKeys, IsFitting}
+use Rattle.vm_bytes_form.specs.Forms.{KeyEntry, ByteNode, room_taken, form_of, node_in, AreKeys, IsFitting}
 use Rattle.vm_bytes_form.specs.Bytes.{high_rank, ranked_entry, ranked, same_words, are_bytes, is_string, is_high, are_keys, is_fitting}
 use Rattle.vm_bytes_form.specs.Bytes.{bytes}
 use Rattle.vm_bytes_form.specs.KeyMap.{before, put_key, del_key, ranks_of}
@@ -29,7 +29,7 @@ are_bytes-from (b ∷ s) is = and_from (ltb b 256) (are_bytes s) (lt-ltb b 256 i
 is_string-from : (s : List ℕ) → IsString 64 s → is_string s ≡ true
 is_string-from s is = and_from (leb (length s) 64) (are_bytes s) (le-leb (length s) 64 is.fits) (are_bytes-from s is.bytes)
 
-are_keys-from : (es : List Entry) → AreKeys es → are_keys es ≡ true
+are_keys-from : (es : List KeyEntry) → AreKeys es → are_keys es ≡ true
 are_keys-from [] keys = refl
 are_keys-from (e ∷ es) keys = and_from (is_string e.0) (are_keys es) (is_string-from e.0 keys.0) (are_keys-from es keys.1)
 
@@ -39,7 +39,7 @@ is_high-from (Some s) each = let is = each s refl in and_from (is_string s) (leb
     (le-leb 1 (length s) is.1)
 
 fitting-from : (n : ByteNode) → IsFitting 512 n → is_fitting n ≡ true
-fitting-from n is = and_from _ _ (and_from _ _ (and_from _ _ (le-leb (8 + taken n) 512 is.room) (is_string-from n.low is.low))
+fitting-from n is = and_from _ _ (and_from _ _ (and_from _ _ (le-leb (8 + room_taken n) 512 is.room) (is_string-from n.low is.low))
     (is_high-from n.high is.high)) (are_keys-from n.entries is.keys)
 
 -- the words of a node that fits are clean, and clean words are those of their node
@@ -57,7 +57,7 @@ clean_is_form w clean = same-tells w (form_of 512 (node_in w))
     (and_parts (is_fitting (node_in w)) (same_words w (form_of 512 (node_in w))) clean).1
 
 -- the entries of an edit have keys too
-AreKeys-put : (es : List Entry) (s : List ℕ) (v : ℕ) → AreKeys es → IsString 64 s → AreKeys (put_key es s v)
+AreKeys-put : (es : List KeyEntry) (s : List ℕ) (v : ℕ) → AreKeys es → IsString 64 s → AreKeys (put_key es s v)
 AreKeys-put [] s v keys is = (is, tt)
 AreKeys-put (e ∷ es) s v keys is = go (AreKeys-put es s v keys.1 is) (before s e.0) (same_words s e.0)
   where
@@ -67,7 +67,7 @@ AreKeys-put (e ∷ es) s v keys is = go (AreKeys-put es s v keys.1 is) (before s
     go rest false true = (is, keys.1)
     go rest false false = (keys.0, rest)
 
-AreKeys-del : (es : List Entry) (s : List ℕ) → AreKeys es → AreKeys (del_key es s)
+AreKeys-del : (es : List KeyEntry) (s : List ℕ) → AreKeys es → AreKeys (del_key es s)
 AreKeys-del [] s keys = tt
 AreKeys-del (e ∷ es) s keys = go (AreKeys-del es s keys.1) (same_words s e.0)
   where
@@ -75,12 +75,12 @@ AreKeys-del (e ∷ es) s keys = go (AreKeys-del es s keys.1) (same_words s e.0)
     go rest true = keys.1
     go rest false = (keys.0, rest)
 
-AreKeys-take : (n : ℕ) (es : List Entry) → AreKeys es → AreKeys (take n es)
+AreKeys-take : (n : ℕ) (es : List KeyEntry) → AreKeys es → AreKeys (take n es)
 AreKeys-take zero es keys = tt
 AreKeys-take (suc n) [] keys = tt
 AreKeys-take (suc n) (e ∷ es) keys = (keys.0, AreKeys-take n es keys.1)
 
-AreKeys-drop : (n : ℕ) (es : List Entry) → AreKeys es → AreKeys (drop n es)
+AreKeys-drop : (n : ℕ) (es : List KeyEntry) → AreKeys es → AreKeys (drop n es)
 AreKeys-drop zero es keys = keys
 AreKeys-drop (suc n) [] keys = tt
 AreKeys-drop (suc n) (e ∷ es) keys = AreKeys-drop n es keys.1
@@ -123,17 +123,17 @@ size-del each (e ∷ es) k = go (size-del each es k) (eqb k e.0)
     go rest true = omega arith
     go rest false = omega (arith, rest)
 
-ranks-take : (n : ℕ) (es : List Entry) → ranks_of (take n es) ≡ take n (ranks_of es)
+ranks-take : (n : ℕ) (es : List KeyEntry) → ranks_of (take n es) ≡ take n (ranks_of es)
 ranks-take zero es = refl
 ranks-take (suc n) [] = refl
 ranks-take (suc n) (e ∷ es) = ap (λ (l : Pairs). ranked_entry e ∷ l) (ranks-take n es)
 
-ranks-drop : (n : ℕ) (es : List Entry) → ranks_of (drop n es) ≡ drop n (ranks_of es)
+ranks-drop : (n : ℕ) (es : List KeyEntry) → ranks_of (drop n es) ≡ drop n (ranks_of es)
 ranks-drop zero es = refl
 ranks-drop (suc n) [] = refl
 ranks-drop (suc n) (e ∷ es) = ranks-drop n es
 
-pub ranks-at : (i : ℕ) (es : List Entry) → i < length es → (get_or (ranks_of es) i (0, 0)).0 ≡ rank (get_or es i ([], 0)).0
+pub ranks-at : (i : ℕ) (es : List KeyEntry) → i < length es → (get_or (ranks_of es) i (0, 0)).0 ≡ rank (get_or es i ([], 0)).0
 ranks-at i [] lt = absurd (omega (arith, lt))
 ranks-at zero (e ∷ es) lt = refl
 ranks-at (suc i) (e ∷ es) lt = ranks-at i es (omega (arith, lt))
@@ -212,7 +212,7 @@ module _ (old : List ℕ) (clean : IsClean bytes old) where
     inside : kept_at_split n.entries < length n.entries
     inside = let lt = paid.right_some in omega (arith, lt, length-map n.entries ranked_entry)
 
-    key_of : (i : ℕ) (es : List Entry) → i < length es → AreKeys es → IsString 64 (get_or es i ([], 0)).0
+    key_of : (i : ℕ) (es : List KeyEntry) → i < length es → AreKeys es → IsString 64 (get_or es i ([], 0)).0
     key_of i [] lt keys = absurd (omega (arith, lt))
     key_of zero (e ∷ es) lt keys = keys.0
     key_of (suc i) (e ∷ es) lt keys = key_of i es (omega (arith, lt)) keys.1

@@ -4,7 +4,7 @@ use Rattle.std.proofs.lemmas.Bool.{eq-eqb, ne_eqb, lt-ltb, and_from}
 use Rattle.std.proofs.lemmas.Bool.Decides.{nat_tests}
 use Rattle.vm_map.specs.Map.{Pairs, lookup_at, put_pair, del_pair}
 use Rattle.vm_bytes_form.specs.Strings.{IsString, IsBefore, rank}
-use Rattle.vm_bytes_form.specs.Forms.{Entry, AreKeys}
+use Rattle.vm_bytes_form.specs.Forms.{KeyEntry, AreKeys}
 use Rattle.vm_bytes_form.specs.Bytes.{same_words}
 use Rattle.vm_bytes_form.specs.KeyMap.{before, lookup_key, put_key, del_key, ranks_of}
 use Rattle.vm_bytes_form.proofs.Ranks.{rank_before, in_order}
@@ -62,11 +62,11 @@ module _ (s t : List ℕ) (is : IsString 64 s) (it : IsString 64 t) where
       not_less a b le = grind (arith, nat_tests, le)
 
 -- what a map over strings finds, and how it changes, is what the map over ranks does
-pub lookup_is : (m : List Entry) (s : List ℕ) → AreKeys m → IsString 64 s → lookup_at (ranks_of m) (rank s) ≡ lookup_key m s
+pub lookup_is : (m : List KeyEntry) (s : List ℕ) → AreKeys m → IsString 64 s → lookup_at (ranks_of m) (rank s) ≡ lookup_key m s
 lookup_is [] s keys is = refl
 lookup_is (e ∷ es) s keys is = rw (same_test s e.0 is keys.0, lookup_is es s keys.1 is) refl
 
-put_cases : (e : Entry) (es : List Entry) (s : List ℕ) (v : ℕ) (less same : Bool)
+put_cases : (e : KeyEntry) (es : List KeyEntry) (s : List ℕ) (v : ℕ) (less same : Bool)
     → put_pair (ranks_of es) (rank s) v ≡ ranks_of (put_key es s v)
     → (if less then (rank s, v) ∷ (rank e.0, e.1) ∷ ranks_of es else (if same then (rank s, v) ∷ ranks_of es else (rank e.0, e.1) ∷ put_pair
         (ranks_of es) (rank s) v))
@@ -75,16 +75,17 @@ put_cases e es s v true same rest = refl
 put_cases e es s v false true rest = refl
 put_cases e es s v false false rest = ap (λ (l : Pairs). (rank e.0, e.1) ∷ l) rest
 
-pub put_is : (m : List Entry) (s : List ℕ) (v : ℕ) → AreKeys m → IsString 64 s → put_pair (ranks_of m) (rank s) v ≡ ranks_of (put_key m s v)
+pub put_is : (m : List KeyEntry) (s : List ℕ) (v : ℕ) → AreKeys m → IsString 64 s
+    → put_pair (ranks_of m) (rank s) v ≡ ranks_of (put_key m s v)
 put_is [] s v keys is = refl
 put_is (e ∷ es) s v keys is = rw (before_test s e.0 is keys.0, same_test s e.0 is keys.0)
     (put_cases e es s v (ltb (rank s) (rank e.0)) (eqb (rank s) (rank e.0)) (put_is es s v keys.1 is))
 
-del_cases : (e : Entry) (es : List Entry) (s : List ℕ) (same : Bool) → del_pair (ranks_of es) (rank s) ≡ ranks_of (del_key es s)
+del_cases : (e : KeyEntry) (es : List KeyEntry) (s : List ℕ) (same : Bool) → del_pair (ranks_of es) (rank s) ≡ ranks_of (del_key es s)
     → (if same then ranks_of es else (rank e.0, e.1) ∷ del_pair (ranks_of es) (rank s)) ≡ ranks_of (if same then es else e ∷ del_key es s)
 del_cases e es s true rest = refl
 del_cases e es s false rest = ap (λ (l : Pairs). (rank e.0, e.1) ∷ l) rest
 
-pub del_is : (m : List Entry) (s : List ℕ) → AreKeys m → IsString 64 s → del_pair (ranks_of m) (rank s) ≡ ranks_of (del_key m s)
+pub del_is : (m : List KeyEntry) (s : List ℕ) → AreKeys m → IsString 64 s → del_pair (ranks_of m) (rank s) ≡ ranks_of (del_key m s)
 del_is [] s keys is = refl
 del_is (e ∷ es) s keys is = rw (same_test s e.0 is keys.0) (del_cases e es s (eqb (rank s) (rank e.0)) (del_is es s keys.1 is))

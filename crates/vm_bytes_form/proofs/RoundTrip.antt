@@ -8,8 +8,9 @@ use Rattle.std.specs.Int.{w64, to_be_bytes, from_be_bytes}
 use Rattle.vm_page.specs.Bytes.{bytes_of_words}
 use Rattle.vm_bytes_form.specs.Strings.{AreBytes, IsString}
 use Rattle.vm_bytes_form.specs.Cuts.{words_for}
-use Rattle.vm_bytes_form.specs.Forms.{Entry, ByteNode, padded, string_words, key_block, fence_block, entry_block, heap, slots, fence_slot}
-use Rattle.vm_bytes_form.specs.Forms.{high_slot, fence_blocks, taken, form_of, string_at, entry_at, node_in, AreKeys, IsFitting}
+use Rattle.vm_bytes_form.specs.Forms.{KeyEntry, ByteNode, padded, string_words, key_block, fence_block, entry_block, heap, slots}
+use Rattle.vm_bytes_form.specs.Forms.{fence_slot}
+use Rattle.vm_bytes_form.specs.Forms.{high_slot, fence_blocks, room_taken, form_of, string_at, entry_at, node_in, AreKeys, IsFitting}
 
 -- lists that are put together, at the place where they meet
 drop-exact : {X : Type 0} (xs ys : List X) (n : ℕ) → n ≡ length xs → drop n (xs ++ ys) ≡ ys
@@ -101,7 +102,7 @@ value-there words s rest place v is at =
         ∙ get-exact (key_block s) rest v (words_for (length s)) (sym (length-string_words (words_for (length s)) s)))
 
 -- the entries whose blocks stand below a place
-entries-there : (words : List ℕ) (es : List Entry) (end : ℕ) (back : List ℕ) → AreKeys es → length (heap es) ≤ end
+entries-there : (words : List ℕ) (es : List KeyEntry) (end : ℕ) (back : List ℕ) → AreKeys es → length (heap es) ≤ end
     → drop (end - length (heap es)) words ≡ heap es ++ back → map (entry_at words) (slots end es) ≡ es
 entries-there words [] end back keys fits at = refl
 entries-there words (e ∷ es) end back keys fits at =
@@ -123,25 +124,25 @@ entries-there words (e ∷ es) end back keys fits at =
     dropped : (a b : ℕ) → drop (b + a) words ≡ drop b (drop a words)
     dropped a b = let sum : b + a ≡ a + b = omega arith in ap (λ (n : ℕ). drop n words) sum ∙ sym (drop-drop b a words)
 
-length-slots : (end : ℕ) (es : List Entry) → length (slots end es) ≡ length es
+length-slots : (end : ℕ) (es : List KeyEntry) → length (slots end es) ≡ length es
 length-slots end [] = refl
 length-slots end (e ∷ es) = omega (arith, length-slots (end - length (entry_block e)) es)
 
 module _ (size : ℕ) (n : ByteNode) (fits : IsFitting size n) where
   abbrev front : List ℕ
   front = n.tag ∷ length n.entries ∷ n.level ∷ fence_slot size n.low ∷ high_slot (size - length (key_block n.low)) n.high ∷ 0 ∷ 0 ∷ 0
-      ∷ slots (size - length (fence_blocks n)) n.entries ++ replicate (size - 8 - taken n) 0
+      ∷ slots (size - length (fence_blocks n)) n.entries ++ replicate (size - 8 - room_taken n) 0
 
   whole : form_of size n ≡ front ++ (heap n.entries ++ fence_blocks n)
   unfolding form_of
   whole = ap (λ (l : List ℕ). n.tag ∷ length n.entries ∷ n.level ∷ fence_slot size n.low ∷ high_slot
       (size - length (key_block n.low)) n.high ∷ 0 ∷ 0 ∷ 0 ∷ l)
-      (append_assoc (slots (size - length (fence_blocks n)) n.entries ++ replicate (size - 8 - taken n) 0) (heap n.entries)
+      (append_assoc (slots (size - length (fence_blocks n)) n.entries ++ replicate (size - 8 - room_taken n) 0) (heap n.entries)
           (fence_blocks n))
 
   length-front : length front ≡ size - length (heap n.entries) - length (fence_blocks n)
-  length-front = omega (arith, length-append (slots (size - length (fence_blocks n)) n.entries) (replicate (size - 8 - taken n) 0),
-      length-slots (size - length (fence_blocks n)) n.entries, length-replicate {A = ℕ} (size - 8 - taken n) 0, fits.room)
+  length-front = omega (arith, length-append (slots (size - length (fence_blocks n)) n.entries) (replicate (size - 8 - room_taken n) 0),
+      length-slots (size - length (fence_blocks n)) n.entries, length-replicate {A = ℕ} (size - 8 - room_taken n) 0, fits.room)
 
   length-back : length (fence_blocks n) ≡ length (fence_block n.high) + length (key_block n.low)
   length-back = length-append (fence_block n.high) (key_block n.low)
@@ -199,11 +200,12 @@ module _ (size : ℕ) (n : ByteNode) (fits : IsFitting size n) where
   unfolding form_of
   entries_read =
       ap (λ (l : List ℕ). map (entry_at (form_of size n)) (take (length n.entries) l))
-      (append_assoc (slots (size - length (fence_blocks n)) n.entries ++ replicate (size - 8 - taken n) 0) (heap n.entries) (fence_blocks n)
-      ∙ append_assoc (slots (size - length (fence_blocks n)) n.entries) (replicate (size - 8 - taken n) 0)
+      (append_assoc (slots (size - length (fence_blocks n)) n.entries ++ replicate (size - 8 - room_taken n) 0) (heap n.entries)
+          (fence_blocks n)
+      ∙ append_assoc (slots (size - length (fence_blocks n)) n.entries) (replicate (size - 8 - room_taken n) 0)
           (heap n.entries ++ fence_blocks n))
       ∙ ap (map (entry_at (form_of size n))) (take-exact (slots (size - length (fence_blocks n)) n.entries)
-          (replicate (size - 8 - taken n) 0 ++ (heap n.entries ++ fence_blocks n)) (length n.entries)
+          (replicate (size - 8 - room_taken n) 0 ++ (heap n.entries ++ fence_blocks n)) (length n.entries)
           (sym (length-slots (size - length (fence_blocks n)) n.entries)))
       ∙ entries-there (form_of size n) n.entries (size - length (fence_blocks n)) (fence_blocks n) fits.keys
           (omega (arith, fits.room)) from_heap

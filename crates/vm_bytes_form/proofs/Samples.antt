@@ -1,6 +1,6 @@
 -- The words of nodes that were worked out apart from these definitions.
 use Rattle.std.proofs.Common.{◌≡◌, ℕ, suc, zero, ◌+◌, List, [], ◌∷◌, ◌++◌, length, get_or, replicate, true, Some, None, refl}
-use Rattle.vm_bytes_form.specs.Forms.{Entry, form_of, node_in, string_at}
+use Rattle.vm_bytes_form.specs.Forms.{KeyEntry, form_of, node_in, string_at}
 use Rattle.vm_bytes_form.specs.Bytes.{bytes_clean}
 
 -- a leaf of three keys: none, 00, 0000
@@ -25,7 +25,7 @@ abbrev long_key : ℕ → List ℕ
 long_key b = replicate 63 0 ++ b ∷ []
 
 -- the leaf of such keys from 1 on, and the right half of 51 of them, split at the 26th
-abbrev keys_from : ℕ → ℕ → List Entry
+abbrev keys_from : ℕ → ℕ → List KeyEntry
 keys_from zero b = []
 keys_from (suc n) b = (long_key b, b) ∷ keys_from n (b + 1)
 

@@ -5,7 +5,7 @@ use Rattle.vm_tree_model.specs.Node.{Node}
 use Rattle.vm_tree_model.specs.Layout.{Layout}
 use Rattle.vm_bytes_form.specs.Strings.{rank, RANK_END}
 use Rattle.vm_bytes_form.specs.Cuts.{key_words, pair_size}
-use Rattle.vm_bytes_form.specs.Forms.{Entry, ByteNode, taken, form_of, node_in}
+use Rattle.vm_bytes_form.specs.Forms.{KeyEntry, ByteNode, room_taken, form_of, node_in}
 
 -- a leaf's tag is 4, an inner node's 5
 abbrev pub kind_of : ℕ → ℕ
@@ -16,7 +16,7 @@ high_rank None = RANK_END
 high_rank (Some s) = rank s
 
 -- a key's rank, with its value
-abbrev pub ranked_entry : Entry → ℕ × ℕ
+abbrev pub ranked_entry : KeyEntry → ℕ × ℕ
 ranked_entry e = (rank e.0, e.1)
 
 -- the node with the ranks of its keys
@@ -40,13 +40,13 @@ abbrev pub is_high : Option (List ℕ) → Bool
 is_high None = true
 is_high (Some s) = is_string s && nat_le 1 (length s)
 
-abbrev pub are_keys : List Entry → Bool
+abbrev pub are_keys : List KeyEntry → Bool
 are_keys [] = true
 are_keys (e ∷ es) = is_string e.0 && are_keys es
 
 -- the node fits on a page of 512 words
 abbrev pub is_fitting : ByteNode → Bool
-is_fitting n = nat_le (8 + taken n) 512 && is_string n.low && is_high n.high && are_keys n.entries
+is_fitting n = nat_le (8 + room_taken n) 512 && is_string n.low && is_high n.high && are_keys n.entries
 
 -- the words are those of the node that they are read as
 abbrev pub bytes_clean : List ℕ → Bool

@@ -7,8 +7,8 @@ use Rattle.vm_bytes_form.specs.Strings.{IsString}
 use Rattle.vm_bytes_form.specs.Cuts.{words_for}
 
 -- a key with its value
-abbrev pub Entry : Type 0
-Entry = List ℕ × ℕ
+abbrev pub KeyEntry : Type 0
+KeyEntry = List ℕ × ℕ
 
 -- A node whose keys are byte strings. The tag is 4 for a leaf, 5 for an inner node; there may be no high fence
 pub record ByteNode : Type 0 where
@@ -16,7 +16,7 @@ pub record ByteNode : Type 0 where
   pub level : ℕ
   pub low : List ℕ
   pub high : Option (List ℕ)
-  pub entries : List Entry
+  pub entries : List KeyEntry
 
 -- n bytes of the string, zeros behind its end
 abbrev pub padded : ℕ → List ℕ → List ℕ
@@ -37,16 +37,16 @@ fence_block None = []
 fence_block (Some s) = key_block s
 
 -- a key and its value
-abbrev pub entry_block : Entry → List ℕ
+abbrev pub entry_block : KeyEntry → List ℕ
 entry_block e = key_block e.0 ++ e.1 ∷ []
 
 -- the blocks of the entries, packed down: the first one stands last
-abbrev pub heap : List Entry → List ℕ
+abbrev pub heap : List KeyEntry → List ℕ
 heap [] = []
 heap (e ∷ es) = heap es ++ entry_block e
 
 -- the slots of the entries, whose blocks stand below the place `end`
-abbrev pub slots : ℕ → List Entry → List ℕ
+abbrev pub slots : ℕ → List KeyEntry → List ℕ
 slots end [] = []
 slots end (e ∷ es) = ((end - length (entry_block e)) * 256 + length e.0) ∷ slots (end - length (entry_block e)) es
 
@@ -64,21 +64,21 @@ abbrev pub fence_blocks : ByteNode → List ℕ
 fence_blocks n = fence_block n.high ++ key_block n.low
 
 -- how many words of the room are taken
-abbrev pub taken : ByteNode → ℕ
-taken n = length n.entries + length (heap n.entries) + length (fence_blocks n)
+abbrev pub room_taken : ByteNode → ℕ
+room_taken n = length n.entries + length (heap n.entries) + length (fence_blocks n)
 
 -- the words of a node on a page of so many
 unfoldable pub form_of : ℕ → ByteNode → List ℕ
 form_of size n =
     n.tag ∷ length n.entries ∷ n.level ∷ fence_slot size n.low ∷ high_slot (size - length (key_block n.low)) n.high ∷ 0 ∷ 0 ∷ 0
-    ∷ slots (size - length (fence_blocks n)) n.entries ++ replicate (size - 8 - taken n) 0 ++ heap n.entries ++ fence_blocks n
+    ∷ slots (size - length (fence_blocks n)) n.entries ++ replicate (size - 8 - room_taken n) 0 ++ heap n.entries ++ fence_blocks n
 
 -- the string that a slot names, in any words
 unfoldable pub string_at : List ℕ → ℕ → List ℕ
 string_at words slot = take (min (slot % 256) 64) (bytes_of_words (drop (slot / 256) words))
 
 -- the entry that a slot names
-abbrev pub entry_at : List ℕ → ℕ → Entry
+abbrev pub entry_at : List ℕ → ℕ → KeyEntry
 entry_at words slot = (string_at words slot, slice_index words (slot / 256 + words_for (slot % 256)))
 
 -- what any words mean: a count above the places for slots is read as those
@@ -92,13 +92,13 @@ node_in words = record {
 }
 
 -- each key is a string of at most 64 bytes
-abbrev pub AreKeys : List Entry → Type 0
+abbrev pub AreKeys : List KeyEntry → Type 0
 AreKeys [] = Unit {0}
 AreKeys (e ∷ es) = IsString 64 e.0 × AreKeys es
 
 -- A node that fits on a page of so many words: strings of at most 64 bytes, a high fence that is not empty
 pub record IsFitting (size : ℕ) (n : ByteNode) : Type 0 where
-  pub room : 8 + taken n ≤ size
+  pub room : 8 + room_taken n ≤ size
   pub low : IsString 64 n.low
   pub high : (s : List ℕ) → n.high ≡ Some s → IsString 64 s × (1 ≤ length s)
   pub keys : AreKeys n.entries

@@ -1,7 +1,7 @@
 -- What an edit does to a node with byte keys: a pair is put or taken out, the node is cut in two, a root grows.
 use Rattle.std.specs.Prelude.{ℕ, List, [], ◌∷◌, take, drop, Some, None}
 use Rattle.vm_tree_model.specs.Layout.{cut}
-use Rattle.vm_bytes_form.specs.Forms.{Entry, ByteNode}
+use Rattle.vm_bytes_form.specs.Forms.{KeyEntry, ByteNode}
 use Rattle.vm_bytes_form.specs.Bytes.{bytes}
 use Rattle.vm_bytes_form.specs.KeyMap.{put_key, del_key, ranks_of}
 
@@ -14,7 +14,7 @@ abbrev pub del_in : ByteNode → List ℕ → ByteNode
 del_in n key = record n { entries = del_key n.entries key }
 
 -- how many entries stay at a split: the least number that have at least half of the sizes' sum
-abbrev pub kept_at_split : List Entry → ℕ
+abbrev pub kept_at_split : List KeyEntry → ℕ
 kept_at_split es = cut bytes (ranks_of es)
 
 -- the entries that stay, below the separator, and those that go

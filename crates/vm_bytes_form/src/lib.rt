@@ -11,7 +11,7 @@ ghost use Rattle.vm_tree_model.specs.Layout.{IsClean, IsFullNode, IsLayout, pair
 ghost use Rattle.vm_tree_model.specs.Page.{node_of, pairs_of};
 ghost use Rattle.vm_bytes_form.specs.NodeEdits.{del_in, kept_at_split, lower_half, put_in, root_over, upper_half};
 ghost use Rattle.vm_bytes_form.specs.Bytes.{bytes};
-ghost use Rattle.vm_bytes_form.specs.Forms.{Entry, AreKeys, ByteNode, IsFitting, form_of, node_in};
+ghost use Rattle.vm_bytes_form.specs.Forms.{KeyEntry, AreKeys, ByteNode, IsFitting, form_of, node_in};
 
 /// The strings of at most n bytes stand in the order of their ranks, each rank is that of one string, and the string is read back.
 #[tactic(auto, using(crate::proofs::Ranks::rank_before, crate::proofs::Ranks::rank_one, crate::proofs::Ranks::rank_tells, crate::proofs::Ranks::string_of_rank))]
@@ -53,9 +53,9 @@ pub fn bytes_are_a_layout()
 /// A map over strings of at most 64 bytes is the map over their ranks.
 #[tactic(auto, using(crate::proofs::KeyMaps::lookup_is, crate::proofs::KeyMaps::put_is, crate::proofs::KeyMaps::del_is))]
 pub fn maps_are_over_ranks()
-    ensures finds { (m : List Entry) (s : List ℕ) → AreKeys m → IsString 64 s → lookup_at (ranks_of m) (rank s) ≡ lookup_key m s }
-    ensures puts { (m : List Entry) (s : List ℕ) (v : ℕ) → AreKeys m → IsString 64 s → put_pair (ranks_of m) (rank s) v ≡ ranks_of (put_key m s v) }
-    ensures dels { (m : List Entry) (s : List ℕ) → AreKeys m → IsString 64 s → del_pair (ranks_of m) (rank s) ≡ ranks_of (del_key m s) }
+    ensures finds { (m : List KeyEntry) (s : List ℕ) → AreKeys m → IsString 64 s → lookup_at (ranks_of m) (rank s) ≡ lookup_key m s }
+    ensures puts { (m : List KeyEntry) (s : List ℕ) (v : ℕ) → AreKeys m → IsString 64 s → put_pair (ranks_of m) (rank s) v ≡ ranks_of (put_key m s v) }
+    ensures dels { (m : List KeyEntry) (s : List ℕ) → AreKeys m → IsString 64 s → del_pair (ranks_of m) (rank s) ≡ ranks_of (del_key m s) }
 {}
 
 /// The form of an edited node is the page that the edit over ranks makes: a pair put where there is room for it, or taken out, the halves of a node with no

@@ -9,12 +9,12 @@ use Rattle.vm_node.proofs.Bounds.{bound_place, no_index}
 use Rattle.vm_inner.specs.Found.{FindsChildIn, FindsNoChild}
 use Rattle.vm_bytes_node.proofs.Floor.{floor_none, floor_before, found_floor, next_behind, next_last}
 use Rattle.vm_bytes_form.specs.Bytes.{bytes}
-use Rattle.vm_bytes_form.specs.Forms.{Entry, node_in}
+use Rattle.vm_bytes_form.specs.Forms.{KeyEntry, node_in}
 use Rattle.vm_bytes_form.specs.KeyMap.{ranks_of}
 use Rattle.vm_bytes_node.proofs.KeySearch.{length-pairs}
 
 -- the values are the same
-pub values-at : (i : ℕ) (es : List Entry) → i < length es → (get_or (ranks_of es) i (0, 0)).1 ≡ (get_or es i ([], 0)).1
+pub values-at : (i : ℕ) (es : List KeyEntry) → i < length es → (get_or (ranks_of es) i (0, 0)).1 ≡ (get_or es i ([], 0)).1
 values-at i [] lt = absurd (omega (arith, lt))
 values-at zero (e ∷ es) lt = refl
 values-at (suc i) (e ∷ es) lt = values-at i es (omega (arith, lt))

@@ -35,13 +35,12 @@ decided : (r : Bool) (P Q : Type 0) → Decides r P → (P → Q) → (Q → P) 
 decided true P Q is to from = (λ _. to (is.0 refl), λ f _. absurd (cc))
 decided false P Q is to from = (λ t. absurd (cc), λ _ q. absurd (let t = is.1 (from q) in cc))
 
-module _ (s t key other : List ℕ) (same_key : s ≡ key) (same_other : t ≡ other) (is : IsString 64 s) (it : IsString 64 t) (r : Bool) where
-  pub before_answers : r ≡ is_some_and is_lt (slice_partial_cmp (λ x y. Some (nat_cmp x y)) s t) → IsAnswer r (rank key < rank other)
-  before_answers e = subst (λ (k : List ℕ). IsAnswer r (rank k < rank other)) same_key
-      (subst (λ (o : List ℕ). IsAnswer r (rank s < rank o)) same_other
-      (answers r (ltb (rank s) (rank t)) (rank s < rank t) (is_before s t r e ∙ before_test s t is it)
-      (ltb-true (rank s) (rank t)) (lt-ltb (rank s) (rank t))))
+pub before_answers : (s t : List ℕ) → IsString 64 s → IsString 64 t → (r : Bool)
+    → r ≡ is_some_and is_lt (slice_partial_cmp (λ x y. Some (nat_cmp x y)) s t) → IsAnswer r (rank s < rank t)
+before_answers s t is it r e = answers r (ltb (rank s) (rank t)) (rank s < rank t) (is_before s t r e ∙ before_test s t is it)
+    (ltb-true (rank s) (rank t)) (lt-ltb (rank s) (rank t))
 
+module _ (s t key other : List ℕ) (same_key : s ≡ key) (same_other : t ≡ other) (is : IsString 64 s) (it : IsString 64 t) (r : Bool) where
   pub same_answers : r ≡ bytes_eq s t → IsAnswer r (rank key ≡ rank other)
   same_answers e = subst (λ (k : List ℕ). IsAnswer r (rank k ≡ rank other)) same_key
       (subst (λ (o : List ℕ). IsAnswer r (rank s ≡ rank o)) same_other

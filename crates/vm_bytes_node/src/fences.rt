@@ -6,7 +6,7 @@ ghost use Rattle.vm_tree_model.specs.{Node.Covers, Page.node_of};
 ghost use Rattle.vm_bytes_form.specs.{Bytes.bytes, Bytes.high_rank, Forms.node_in, Strings.RANK_END, Strings.rank};
 ghost use Rattle.vm_node.specs.Loads.{IsAnswer, Tells};
 ghost use Rattle.vm_bytes_node.specs.Limits.{MOST_SLOTS};
-ghost use Rattle.vm_bytes_node.specs.Room.{count_in, lowest_slot, spare_in};
+ghost use Rattle.vm_bytes_node.specs.Room.{count_shown, lowest_slot, spare_words};
 
 use crate::order::{in_range, is_before, same_key};
 use crate::slots::{count_at, string_at};
@@ -116,7 +116,7 @@ pub fn spare_at<P: Place>(place: &mut P) -> usize
     requires size { P.size place.old ≡ 512 }
     ensures ready { P.ready place.new }
     ensures size { P.size place.new ≡ 512 }
-    ensures told { Tells 512 P.loads place.old 3 place.new (λ page. result ≡ spare_in page) }
+    ensures told { Tells 512 P.loads place.old 3 place.new (λ page. result ≡ spare_words page) }
 {
     let count = count_at(place);
     let slot = lowest_slot_at(place, count);
@@ -135,7 +135,7 @@ fn lowest_slot_at<P: Place>(place: &mut P, count: usize) -> u64
     requires count { count ≤ MOST_SLOTS }
     ensures ready { P.ready place.new }
     ensures size { P.size place.new ≡ 512 }
-    ensures told { Tells 512 P.loads place.old 2 place.new (λ page. count ≡ count_in page → result ≡ lowest_slot page) }
+    ensures told { Tells 512 P.loads place.old 2 place.new (λ page. count ≡ count_shown page → result ≡ lowest_slot page) }
 {
     if count > 0 {
         return place.word(7 + count);

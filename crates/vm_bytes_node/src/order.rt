@@ -36,7 +36,16 @@ pub fn in_range(key: &Key)
 pub fn is_before(key: &Key, other: &Key) -> bool
     ensures { IsAnswer result (rank key.now < rank other.now) }
 {
-    bytes_of(key) < bytes_of(other)
+    is_lower(bytes_of(key), bytes_of(other))
+}
+
+// The same, of the bytes of the two.
+fn is_lower(left: &[u8], right: &[u8]) -> bool
+    requires left { IsString 64 left.now }
+    requires right { IsString 64 right.now }
+    ensures { IsAnswer result (rank left.now < rank right.now) }
+{
+    left < right
 }
 
 /// Whether the two are one key.

@@ -2,7 +2,7 @@
 use Rattle.std.proofs.Common.{◌≡◌, ℕ, ◌≤◌, sym, ◌∙◌, arith}
 use Rattle.vm_bytes_form.specs.Cuts.{pair_size}
 use Rattle.vm_bytes_form.specs.Strings.{rank}
-use Rattle.vm_bytes_node.specs.Room.{spare_in}
+use Rattle.vm_bytes_node.specs.Room.{spare_words}
 use Rattle.vm_bytes_edit.proofs.PairEdits.{found_not_full, found_takes, found_was, lacks_full, put_adds, put_inner, put_leaf, put_new_form}
 use Rattle.vm_bytes_edit.proofs.PairEdits.{put_there_form, room_not_full, absent}
 use Rattle.vm_bytes_edit.proofs.edits.put_edit.Goals as goal
@@ -51,21 +51,24 @@ roomy spare size left pair le a b = omega (arith, le, a, b)
 
 pub returns-in-None-2-clause-form : goal.returns-in-None-2-clause-form
 returns-in-None-2-clause-form c =
-    let room : pair_size (rank c.args.key.now) ≤ spare_in c.args.page.now = roomy _ _ _ _ c.if-spare_of-pair_size.false c.spare_of.ensures
+    let room : pair_size (rank c.args.key.now) ≤ spare_words c.args.page.now = roomy _ _ _ _ c.if-spare_of-pair_size.false
+        c.spare_of.ensures
         c.pair_size.ensures.rank in
     put_new_form c.args.page.now c.args.key.now c.key_place-at.ensures.string _ _ c.key_place-at.ensures.placed c.in-None-2.is room
     c.args.value c.with_pair-in-None-2.result c.with_pair-in-None-2.ensures
 
 pub returns-in-None-2-clause-full : goal.returns-in-None-2-clause-full
 returns-in-None-2-clause-full c = λ leaf.
-    let room : pair_size (rank c.args.key.now) ≤ spare_in c.args.page.now = roomy _ _ _ _ c.if-spare_of-pair_size.false c.spare_of.ensures
+    let room : pair_size (rank c.args.key.now) ≤ spare_words c.args.page.now = roomy _ _ _ _ c.if-spare_of-pair_size.false
+        c.spare_of.ensures
         c.pair_size.ensures.rank in
     room_not_full c.args.page.now c.args.key.now c.key_place-at.ensures.string _ _ c.key_place-at.ensures.placed c.in-None-2.is room
         leaf.clean
 
 pub returns-in-None-2-clause-node : goal.returns-in-None-2-clause-node
 returns-in-None-2-clause-node c =
-    let room : pair_size (rank c.args.key.now) ≤ spare_in c.args.page.now = roomy _ _ _ _ c.if-spare_of-pair_size.false c.spare_of.ensures
+    let room : pair_size (rank c.args.key.now) ≤ spare_words c.args.page.now = roomy _ _ _ _ c.if-spare_of-pair_size.false
+        c.spare_of.ensures
         c.pair_size.ensures.rank in
     put_adds c.args.page.now c.with_pair-in-None-2.result c.args.key.now c.args.value c.key_place-at.ensures.string
     (room_not_full c.args.page.now c.args.key.now c.key_place-at.ensures.string _ _ c.key_place-at.ensures.placed c.in-None-2.is room)
@@ -73,7 +76,8 @@ returns-in-None-2-clause-node c =
 
 pub returns-in-None-2-clause-leaf : goal.returns-in-None-2-clause-leaf
 returns-in-None-2-clause-leaf c =
-    let room : pair_size (rank c.args.key.now) ≤ spare_in c.args.page.now = roomy _ _ _ _ c.if-spare_of-pair_size.false c.spare_of.ensures
+    let room : pair_size (rank c.args.key.now) ≤ spare_words c.args.page.now = roomy _ _ _ _ c.if-spare_of-pair_size.false
+        c.spare_of.ensures
         c.pair_size.ensures.rank in
     put_leaf c.args.page.now c.with_pair-in-None-2.result c.args.key.now c.args.value c.key_place-at.ensures.string
     (room_not_full c.args.page.now c.args.key.now c.key_place-at.ensures.string _ _ c.key_place-at.ensures.placed c.in-None-2.is room)
@@ -83,7 +87,8 @@ returns-in-None-2-clause-leaf c =
 
 pub returns-in-None-2-clause-inner : goal.returns-in-None-2-clause-inner
 returns-in-None-2-clause-inner c =
-    let room : pair_size (rank c.args.key.now) ≤ spare_in c.args.page.now = roomy _ _ _ _ c.if-spare_of-pair_size.false c.spare_of.ensures
+    let room : pair_size (rank c.args.key.now) ≤ spare_words c.args.page.now = roomy _ _ _ _ c.if-spare_of-pair_size.false
+        c.spare_of.ensures
         c.pair_size.ensures.rank in
     put_inner c.args.page.now c.with_pair-in-None-2.result c.args.key.now c.args.value c.key_place-at.ensures.string
     (room_not_full c.args.page.now c.args.key.now c.key_place-at.ensures.string _ _ c.key_place-at.ensures.placed c.in-None-2.is room)

@@ -1,7 +1,7 @@
 -- The header comes with the separator as its low fence, then the last pairs.
 use Rattle.std.proofs.Common.{◌≡◌, List, [], drop, sym, ap, subst, ◌∙◌, arith}
 use Rattle.vm_node.proofs.Telling.{told_buffer}
-use Rattle.vm_bytes_form.specs.Forms.{Entry, IsFitting, form_of, node_in}
+use Rattle.vm_bytes_form.specs.Forms.{KeyEntry, IsFitting, form_of, node_in}
 use Rattle.vm_bytes_edit.specs.Drafts.{entries_between, IsDraft, with_more}
 use Rattle.vm_bytes_edit.specs.declared.draft.Draft.{Draft}
 use Rattle.vm_bytes_edit.proofs.Splices.{high_some, last_entries, upper_begun}
@@ -26,7 +26,8 @@ returns c = λ all inside clean fits.
     let last : entries_between c.args.kept c.args.count (node_in c.args.page.now).entries
         ≡ drop c.args.kept (node_in c.args.page.now).entries = last_entries _ _ _ all in
     c.into_page.ensures ∙ (c.copy.ensures.draft _ begun (omega (arith, all)) inside
-    (subst (λ (l : List Entry). IsFitting 512 (with_more (record (node_in c.args.page.now) { low = c.args.separator.now; entries = [] }) l))
+    (subst (λ (l : List KeyEntry). IsFitting 512 (with_more (record (node_in c.args.page.now) { low = c.args.separator.now; entries = [] })
+        l))
         (sym last) fits)).form
-    ∙ ap (λ (l : List Entry). form_of 512 (with_more (record (node_in c.args.page.now) { low = c.args.separator.now; entries = [] }) l))
+    ∙ ap (λ (l : List KeyEntry). form_of 512 (with_more (record (node_in c.args.page.now) { low = c.args.separator.now; entries = [] }) l))
         last

@@ -1,13 +1,13 @@
 use Rattle.std.proofs.Common.{◌≡◌, ◌≤◌, ℕ, List, get_or, sym, ◌∙◌, arith}
 use Rattle.std.proofs.lemmas.Bool.{eq-eqb}
 use Rattle.vm_node.proofs.Telling.{told_word, told_then, told_so}
-use Rattle.vm_bytes_node.specs.Room.{count_in, lowest_slot}
+use Rattle.vm_bytes_node.specs.Room.{count_shown, lowest_slot}
 use Rattle.vm_bytes_node.proofs.fences.lowest_slot_at.Goals as goal
 
-low_slot : (words : List ℕ) (count slot : ℕ) → count ≤ 0 → count ≡ count_in words → get_or words 4 0 ≡ 0 → get_or words 3 0 ≡ slot
+low_slot : (words : List ℕ) (count slot : ℕ) → count ≤ 0 → count ≡ count_shown words → get_or words 4 0 ≡ 0 → get_or words 3 0 ≡ slot
     → slot ≡ lowest_slot words
 low_slot words count slot few is no_high found =
-    let none : count_in words ≡ 0 = omega (arith, few, is) in rw (eq-eqb (count_in words) 0 none, no_high) (sym found)
+    let none : count_shown words ≡ 0 = omega (arith, few, is) in rw (eq-eqb (count_shown words) 0 none, no_high) (sym found)
 
 pub returns-then-high-eq0-clause-told : goal.returns-then-high-eq0-clause-told
 returns-then-high-eq0-clause-told g c =

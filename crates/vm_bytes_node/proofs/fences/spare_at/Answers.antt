@@ -1,7 +1,7 @@
 use Rattle.std.proofs.Common.{◌≡◌, ◌≢◌, ℕ, ◌+◌, ◌-◌, ◌/◌, min, List, ap, ◌∙◌, arith, refl}
 use Rattle.std.proofs.lemmas.Bool.{eq-eqb, ne_eqb}
 use Rattle.vm_node.proofs.Telling.{told_then, told_so}
-use Rattle.vm_bytes_node.specs.Room.{count_in, lowest_slot, place_of_slot, spare_in}
+use Rattle.vm_bytes_node.specs.Room.{count_shown, lowest_slot, place_of_slot, spare_words}
 use Rattle.vm_bytes_node.proofs.SlotLemmas.{count_is}
 use Rattle.vm_bytes_node.proofs.fences.spare_at.Goals.{then-slot-eq0, else-slot-eq0}
 use Rattle.vm_bytes_node.proofs.fences.spare_at.Goals as goal
@@ -12,8 +12,8 @@ place_none slot none = rw (eq-eqb slot 0 none) refl
 place_some : (slot place : ℕ) → slot ≢ 0 → place ≡ min (slot / 256) 512 → place ≡ place_of_slot slot
 place_some slot place some is = rw (ne_eqb slot 0 some) (omega (arith, is))
 
-spare_is : (words : List ℕ) (slot count end : ℕ) → count ≡ count_in words → slot ≡ lowest_slot words → end ≡ place_of_slot slot
-    → end - (8 + count) ≡ spare_in words
+spare_is : (words : List ℕ) (slot count end : ℕ) → count ≡ count_shown words → slot ≡ lowest_slot words → end ≡ place_of_slot slot
+    → end - (8 + count) ≡ spare_words words
 spare_is words slot count end counted found placed =
     ap (λ (e : ℕ). e - (8 + count)) (placed ∙ ap place_of_slot found) ∙ ap (λ (n : ℕ). place_of_slot (lowest_slot words) - (8 + n)) counted
 

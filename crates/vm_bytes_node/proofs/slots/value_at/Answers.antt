@@ -2,7 +2,7 @@
 use Rattle.std.proofs.Common.{◌≡◌, ℕ, ◌+◌, ◌/◌, ◌%◌, ◌<◌, [], List, length, get_or, sym, ap, ◌∙◌, arith}
 use Rattle.std.proofs.lemmas.List.{get_or_past}
 use Rattle.vm_bytes_form.specs.Cuts.{words_for}
-use Rattle.vm_bytes_form.specs.Forms.{Entry, node_in}
+use Rattle.vm_bytes_form.specs.Forms.{KeyEntry, node_in}
 use Rattle.vm_node.proofs.Telling.{told_word, told_then, told_so}
 use Rattle.vm_bytes_node.proofs.SlotLemmas.{entry_is}
 use Rattle.vm_bytes_node.proofs.slots.value_at.Goals as goal
@@ -13,7 +13,7 @@ module _ (words : List ℕ) (size : length words ≡ 512) (i slot : ℕ) (read :
       → value ≡ (get_or (node_in words).entries i ([], 0)).1
   value_is at value at_is found = sym found ∙ ap (λ (k : ℕ). get_or words k 0) (at_is
       ∙ ap (λ (s : ℕ). s / 256 + words_for (s % 256)) (sym read))
-      ∙ sym (ap (λ (e : Entry). e.1) (entry_is words size i there))
+      ∙ sym (ap (λ (e : KeyEntry). e.1) (entry_is words size i there))
 
 pub returns-then-at-clause-told : goal.returns-then-at-clause-told
 returns-then-at-clause-told g c =

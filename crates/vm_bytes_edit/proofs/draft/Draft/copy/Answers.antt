@@ -1,6 +1,6 @@
 -- Each turn a pair more comes.
 use Rattle.std.proofs.Common.{◌≡◌, ℕ, List, sym, subst, ap, ◌∙◌, arith}
-use Rattle.vm_bytes_form.specs.Forms.{Entry, IsFitting, node_in}
+use Rattle.vm_bytes_form.specs.Forms.{KeyEntry, IsFitting, node_in}
 use Rattle.vm_bytes_edit.specs.Drafts.{entries_between, IsDraft, with_more}
 use Rattle.vm_bytes_edit.proofs.Entries.{between_none, comes_next, fits_next, with_none}
 use Rattle.vm_bytes_edit.proofs.draft.Draft.copy.Goals as goal
@@ -9,7 +9,7 @@ pub loop-i-init : goal.loop-i-init
 loop-i-init c = record {
   fits = c.requires.fits;
   draft = λ n draft whole begun fits. subst (IsDraft c.args.self.now.page c.args.self.now.count c.args.self.now.end)
-      (sym (ap (λ (l : List Entry). with_more n l) (between_none c.args.from (node_in c.args.page.now).entries
+      (sym (ap (λ (l : List KeyEntry). with_more n l) (between_none c.args.from (node_in c.args.page.now).entries
           (omega (arith, whole, begun))) ∙ with_none n)) draft;
 }
 
