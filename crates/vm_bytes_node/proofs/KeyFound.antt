@@ -4,7 +4,7 @@ use Rattle.std.proofs.Common.{[], length, get_or, subst, sym, ap, unwrap_or, ◌
 use Rattle.vm_map.specs.Map.{floor_pair, lookup_at, next_key, Pairs, Rises}
 use Rattle.std.specs.Option.{option_map}
 use Rattle.vm_tree_model.specs.Page.{pairs_of}
-use Rattle.vm_node.specs.Places.{HasSides, IsBound}
+use Rattle.vm_node.specs.Places.{HasSides, IsBound, place_of}
 use Rattle.vm_node.proofs.Bounds.{bound_place, no_index}
 use Rattle.vm_inner.specs.Found.{FindsChildIn, FindsNoChild}
 use Rattle.vm_bytes_node.proofs.Floor.{floor_none, floor_before, found_floor, next_behind, next_last}
@@ -31,9 +31,9 @@ module _ (m : Pairs) (key above low : ℕ) (next : Option ℕ) (bound : IsBound 
       ap Some read ∙ sym (subst (λ (k : ℕ). lookup_at m k ≡ Some (get_or m at (0, 0)).1) there
       (found_floor m from upto key (get_or m at (0, 0)) rises (floor_is_before at is from upto rises)))
 
-  pub none_before : (above ≡ 0) ⊎ (low ≢ key) → (from upto : ℕ) → Rises from upto m → None ≡ lookup_at m key
-  none_before other from upto rises = sym (no_index m from upto key above rises (bound_place m from upto key above rises lower)
-      (λ inside same. let past = bound.here inside in omega (arith, past, same)))
+  -- where it is not the key, as many are lower
+  pub lower_place : (above ≡ 0) ⊎ (low ≢ key) → (from upto : ℕ) → Rises from upto m → above ≡ place_of m key
+  lower_place other from upto rises = bound_place m from upto key above rises lower
     where
       before : (i : ℕ) → i + 1 ≡ above → (get_or m i (0, 0)).0 < key
       before i is = elim other [
@@ -47,6 +47,10 @@ module _ (m : Pairs) (key above low : ℕ) (next : Option ℕ) (bound : IsBound 
 
       lower : IsBound m key above
       lower = record { inside = bound.inside; before = before; here = λ inside. let past = bound.here inside in omega (arith, past) }
+
+  pub none_before : (above ≡ 0) ⊎ (low ≢ key) → (from upto : ℕ) → Rises from upto m → None ≡ lookup_at m key
+  none_before other from upto rises = sym (no_index m from upto key above rises (lower_place other from upto rises)
+      (λ inside same. let past = bound.here inside in omega (arith, past, same)))
 
 next_of : (m : Pairs) (from upto high at : ℕ) (next : Option ℕ) → Rises from upto m
     → MatchOption next (at + 1 ≡ length m) (λ k. (at + 1 < length m) × ((get_or m (at + 1) (0, 0)).0 ≡ k))
@@ -73,7 +77,7 @@ module _ (words : List ℕ) (key above : ℕ) (bound : IsBound (pairs_of bytes w
         let behind : at + 1 ≡ above = omega (arith, last) in
         let there : at < length pairs = omega (arith, last, bound.inside) in
         let value : (get_or pairs at (0, 0)).1 ≡ page = values-at at (node_in words).entries (omega (arith, there, length-pairs words))
-            ∙ sym read in
+        ∙ sym read in
         let below = bound.before at behind in
         let floor = floor_is_before pairs key above low next bound sides at last in
         let low_is : (get_or pairs at (0, 0)).0 ≡ low = sides.before at behind in

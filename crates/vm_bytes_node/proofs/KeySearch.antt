@@ -50,18 +50,18 @@ module _ {P : Type 0} {loads : P → List (ℕ × ℕ) → P → Type 0} {p q : 
       → IsBound (pairs_of bytes words) key from × HasSides (pairs_of bytes words) from low next)
   search_ends is le ge inside = let few = is.few in told_so (omega (arith, few)) is.told (λ words size narrowed all.
       let m = narrowed all in (
-    record {
-      inside = omega (arith, all, inside, le, length-pairs words);
-      before = m.before;
-      here = λ lt. subst (λ (i : ℕ). key ≤ (get_or (pairs_of bytes words) i (0, 0)).0) (antisym le ge) (m.here (omega (arith, lt, ge)));
-    },
-    record {
-      before = m.low_is;
-      here = subst (λ (i : ℕ). MatchOption next (i ≡ length (pairs_of bytes words))
-          (λ k. (i < length (pairs_of bytes words)) × ((get_or (pairs_of bytes words) i (0, 0)).0 ≡ k))) (antisym le ge)
-          m.next_is;
-    },
-  ))
+        record {
+          inside = omega (arith, all, inside, le, length-pairs words);
+          before = m.before;
+          here = λ lt. subst (λ (i : ℕ). key ≤ (get_or (pairs_of bytes words) i (0, 0)).0) (antisym le ge) (m.here (omega (arith, lt, ge)));
+        },
+        record {
+          before = m.low_is;
+          here = subst (λ (i : ℕ). MatchOption next (i ≡ length (pairs_of bytes words))
+              (λ k. (i < length (pairs_of bytes words)) × ((get_or (pairs_of bytes words) i (0, 0)).0 ≡ k))) (antisym le ge)
+              m.next_is;
+        },
+      ))
     where
       antisym : from ≤ upto → upto ≤ from → upto ≡ from
       antisym a b = omega (arith, a, b)
@@ -71,7 +71,7 @@ module _ {P : Type 0} {loads : P → List (ℕ × ℕ) → P → Type 0} {p q r 
     (is : IsKeySearched loads p q count key from upto low next) (some : from < upto) (inside : upto ≤ count)
     (place : middle ≡ from + (upto - from) / 2)
     (look : Tells 512 loads q 9 r (λ words. middle < length (node_in words).entries
-        → found ≡ (get_or (node_in words).entries middle ([], 0)).0)) where
+    → found ≡ (get_or (node_in words).entries middle ([], 0)).0)) where
   more : (j : ℕ) × (9 - is.looks ≡ j + 1) × ((upto - from) / 2 < 2 ^ j)
   more = halved (upto - from) (9 - is.looks) (omega (arith, some)) is.left
 
@@ -85,7 +85,7 @@ module _ {P : Type 0} {loads : P → List (ℕ × ℕ) → P → Type 0} {p q r 
     left = (let fewer : 9 - (is.looks + 1) ≡ more.0 = omega (arith, more.1) in rw fewer (omega (arith, more.2, place, some)));
     told = told_so (omega arith) (told_then join is.told look) (λ words size told all.
         let here : (get_or (pairs_of bytes words) middle (0, 0)).0 ≡ rank found = pair_key words found middle (omega (arith, all, among))
-            (told.1 (omega (arith, all, among))) in record {
+        (told.1 (omega (arith, all, among))) in record {
           before = λ i e. let at : i ≡ middle = omega (arith, e) in rw at (rw here below);
           here = (told.0 all).here;
           low_is = λ i e. let at : i ≡ middle = omega (arith, e) in rw at here;
@@ -100,7 +100,7 @@ module _ {P : Type 0} {loads : P → List (ℕ × ℕ) → P → Type 0} {p q r 
     left = (let fewer : 9 - (is.looks + 1) ≡ more.0 = omega (arith, more.1) in rw fewer (omega (arith, more.2, place, some)));
     told = told_so (omega arith) (told_then join is.told look) (λ words size told all.
         let here : (get_or (pairs_of bytes words) middle (0, 0)).0 ≡ rank found = pair_key words found middle (omega (arith, all, among))
-            (told.1 (omega (arith, all, among))) in record {
+        (told.1 (omega (arith, all, among))) in record {
           before = (told.0 all).before;
           here = λ lt. rw here from_here;
           low_is = (told.0 all).low_is;

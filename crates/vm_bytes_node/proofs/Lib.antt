@@ -4,3 +4,4 @@ pub mod HeaderLemmas
 pub mod KeySearch
 pub mod KeyFound
 pub mod Floor
+pub mod WindowSteps

@@ -23,11 +23,15 @@ module _ (words : List ℕ) (size : length words ≡ 512) where
       → get_or (node_in words).entries i ([], 0) ≡ entry_at words (get_or words (8 + i) 0)
   unfolding node_in
   entry_is i lt =
-      let few : i < length (take (get_or words 1 0) (drop 8 words)) = omega (arith, lt, length-map (take (get_or words 1 0) (drop 8 words))
-          (entry_at words)) in
+      let few : i < length (take (get_or words 1 0) (drop 8 words)) = omega (
+        arith,
+        lt,
+        length-map (take (get_or words 1 0) (drop 8 words))
+            (entry_at words),
+      ) in
       get_or-map (entry_at words) (take (get_or words 1 0) (drop 8 words)) i 0 ([], 0) few
       ∙ ap (entry_at words) (get_or-take (get_or words 1 0) (drop 8 words) i 0
-          (omega (arith, few, length-take (get_or words 1 0) (drop 8 words)))
+      (omega (arith, few, length-take (get_or words 1 0) (drop 8 words)))
       ∙ get_or-drop 8 words i 0)
 
 take-twice : (n : ℕ) (xs ys : List ℕ) → take n (take n xs ++ ys) ≡ take n (xs ++ ys)
@@ -47,7 +51,7 @@ take-short n (suc k) (w ∷ ws) le = elim (cases_lt n 8) [
       ∙ sym (take-append-le n (to_be_bytes w64 w) (bytes_of_words ws) (omega (arith, lt)))
   | inr more ↦ let fewer : n - 8 ≤ 8 * k = omega (arith, le) in
       take-behind (n - 8) n (to_be_bytes w64 w) (bytes_of_words (take k ws)) (bytes_of_words ws) (omega (arith, more))
-          (take-short (n - 8) k ws fewer)
+      (take-short (n - 8) k ws fewer)
 ]
   where
     take-behind : (m n : ℕ) (front xs ys : List ℕ) → length front + m ≡ n → take m xs ≡ take m ys

@@ -9,7 +9,7 @@ use std::process::Abort;
 use vm_bytes_edit::{del_edit, new_root, put_edit, spare_of, split};
 use vm_bytes_node::{
     child_at, covers_at, find_at, has_fences_at, has_level_at, high_at, is_before, is_leaf_at,
-    low_at, pair_size, spare_at,
+    low_at, pair_size, spare_at, window_at,
 };
 use vm_map::key::Key;
 use vm_node::{Full, in_buffer};
@@ -215,6 +215,49 @@ fn a_split_cuts_at_the_half(rt: HostRuntime) {
     assert!(&rt; !covers_at(&mut in_buffer(&left), &fence));
     assert!(&rt; covers_at(&mut in_buffer(&right), &fence));
     assert!(&rt; covers_at(&mut in_buffer(&left), &long_key(&rt, 25)));
+}
+
+// A window from a key on shows so many pairs, the first of this value, and ends there, from eleven words a pair and 100 more.
+fn shows(
+    rt: &impl Abort,
+    page: &PageBuf<512>,
+    from: &Key,
+    most: u32,
+    count: usize,
+    value: u64,
+    bound: &Option<Key>,
+) {
+    let mut place = none_loaded(page);
+    let window = window_at(&mut place, from, most);
+    assert_eq!(rt; window.pairs.len(), count);
+    if let Some(first) = window.pairs.as_slice().first() {
+        assert_eq!(rt; first.value, value);
+    }
+    match (&window.bound, bound) {
+        (Some(found), Some(wanted)) => assert_eq!(rt; found.as_slice(), wanted.as_slice()),
+        (None, None) => {}
+        _ => panic!(rt; "another bound"),
+    }
+    assert!(rt; place.loaded <= most.min(28) * 11 + 100);
+}
+
+#[test]
+fn a_window_ends_at_the_next_key(rt: HostRuntime) {
+    let page = three_keys(&rt);
+    shows(&rt, &page, &Key::new(), 2, 2, 1, &Some(key(&rt, &[0, 0])));
+    shows(&rt, &page, &key(&rt, &[0]), 28, 2, 2, &None);
+    shows(&rt, &page, &key(&rt, &[0, 0, 0]), 1, 0, 0, &None);
+    let page = full_leaf(&rt);
+    shows(
+        &rt,
+        &page,
+        &Key::new(),
+        100,
+        28,
+        1,
+        &Some(long_key(&rt, 29)),
+    );
+    shows(&rt, &page, &long_key(&rt, 40), 28, 11, 40, &None);
 }
 
 #[test]

@@ -12,5 +12,5 @@ low_slot words count slot few is no_high found =
 pub returns-then-high-eq0-clause-told : goal.returns-then-high-eq0-clause-told
 returns-then-high-eq0-clause-told g c =
     told_so (omega arith) (told_then g.met.P.Place.join (told_word c.word-high.ensures.loads)
-        (told_word c.word-then-high-eq0.ensures.loads))
+    (told_word c.word-then-high-eq0.ensures.loads))
     (λ words size read is. low_slot words c.args.count _ c.if-count-gt0.false is (read.0 ∙ c.if-high-eq0.true) read.1)

@@ -27,4 +27,4 @@ returns-clause-told g c =
     (λ words size read.
     let count = read.0 ∙ count_is words size in
     c.saturating_sub.ensures ∙ spare_is words c.lowest_slot_at-slot.result c.count_at-count.result c.if-slot-eq0.end count
-        (read.1 count) end)
+    (read.1 count) end)

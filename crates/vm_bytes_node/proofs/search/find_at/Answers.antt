@@ -14,7 +14,7 @@ use Rattle.vm_bytes_node.proofs.search.find_at.Goals as goal
 pub returns-then-above-eq0-clause-told : goal.returns-then-above-eq0-clause-told
 returns-then-above-eq0-clause-told g c =
     let other : (c.upper_bound_at-above.result.at ≡ 0) ⊎ (rank c.upper_bound_at-above.result.low ≢ rank c.args.key.now) = elim
-        c.then-above-eq0.branch [
+    c.then-above-eq0.branch [
       | then-above-eq0-via-then-above-eq0 w ↦ inl w.if-above-eq0.true
       | then-above-eq0-via-else-above-eq0+then-not-same_key w ↦ inr (w.same_key.ensures.rank.1 w.if-not-same_key.true)
     ] in

@@ -8,4 +8,4 @@ pub returns-clause-told : goal.returns-clause-told
 returns-clause-told g c =
     told_so (omega arith) (told_then g.met.P.Place.join (told_word c.word-slot.ensures.loads) c.string_at.ensures.told)
     (λ words size read there. read.1 ∙ ap (string_at words) (sym read.0)
-        ∙ sym (ap (λ (e : KeyEntry). e.0) (entry_is words size c.args.i there)))
+    ∙ sym (ap (λ (e : KeyEntry). e.0) (entry_is words size c.args.i there)))
