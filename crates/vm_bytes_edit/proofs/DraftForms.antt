@@ -42,13 +42,13 @@ block-below : (tag count level low high : ℕ) (page front back block : List ℕ
 block-below tag count level low high page front back block all rest at is sum place =
     let before : List ℕ = tag ∷ count ∷ level ∷ low ∷ high ∷ 0 ∷ 0 ∷ 0 ∷ (front ++ replicate rest 0) in
     let parted : page ≡ before ++ (replicate (length block) 0 ++ back) = is
-        ∙ ap (λ (l : List ℕ). tag ∷ count ∷ level ∷ low ∷ high ∷ 0 ∷ 0 ∷ 0 ∷ l)
+    ∙ ap (λ (l : List ℕ). tag ∷ count ∷ level ∷ low ∷ high ∷ 0 ∷ 0 ∷ 0 ∷ l)
     (ap (λ (l : List ℕ). front ++ (l ++ back)) (zeros all rest (length block) sum)
     ∙ ap (λ (l : List ℕ). front ++ l) (append_assoc (replicate rest 0) (replicate (length block) 0) back)
     ∙ sym (append_assoc front (replicate rest 0) (replicate (length block) 0 ++ back))) in
     over_exact page before (replicate (length block) 0) back block at parted
     (omega (arith, place, length-append front (replicate rest 0), length-replicate {A = ℕ} rest 0))
-        (length-replicate {A = ℕ} (length block) 0)
+    (length-replicate {A = ℕ} (length block) 0)
     ∙ ap (λ (l : List ℕ). tag ∷ count ∷ level ∷ low ∷ high ∷ 0 ∷ 0 ∷ 0 ∷ l) (append_assoc front (replicate rest 0) (block ++ back))
 
 -- the slot of a string that is not empty, below a place
@@ -92,14 +92,14 @@ module _ (tag level : ℕ) (low : List ℕ) (is : IsString 64 low) where
 
   module _ (zeros set_page page : List ℕ) (end slot : ℕ) (blank : zeros ≡ set (set (replicate 512 0) 0 tag) 2 level)
       (end_is : end ≡ 512 - words_for (length low)) (slot_is : slot ≡ end * 256 + length low)
-          (written : page ≡ over zeros end (key_block low)) where
+      (written : page ≡ over zeros end (key_block low)) where
     pub begins_empty : length low ≤ 0 → IsDraft page 0 end begun
     begins_empty none = begun_is page end 0 (written ∙ low_written zeros blank end end_is) (slot_empty 512 low none) end_is
 
     pub begins : 0 < length low → set_page ≡ set page 3 slot → IsDraft set_page 0 end begun
     begins some set_is = begun_is set_page end slot
         (set_is ∙ ap (λ (p : List ℕ). set p 3 slot) (written ∙ low_written zeros blank end end_is))
-            (slot_below 512 end slot low some end_is slot_is) end_is
+        (slot_below 512 end slot low some end_is slot_is) end_is
 
 -- a high fence comes below the low one
 module _ (tag level : ℕ) (low high old written new : List ℕ) (count end later slot : ℕ)
@@ -141,7 +141,7 @@ module _ (tag level : ℕ) (low high old written new : List ℕ) (count end late
     fits = closed-fits;
     form = new_is ∙ ap (λ (p : List ℕ). set p 4 slot) words_are
         ∙ ap (λ (s : ℕ). tag ∷ 0 ∷ level ∷ fence_slot 512 low ∷ s ∷ 0 ∷ 0 ∷ 0 ∷
-            (replicate (504 - room_taken closed) 0 ++ (key_block high ++ key_block low)))
+        (replicate (504 - room_taken closed) 0 ++ (key_block high ++ key_block low)))
         (slot_below (512 - length (key_block low)) later slot high some
         (let at = draft.end_is in omega (arith, later_is, at, length-block low)) slot_is)
         ∙ sym (form-is closed);
@@ -155,7 +155,7 @@ slots-push : (end : ℕ) (es : List KeyEntry) (e : KeyEntry)
 slots-push end [] e = let none : end - 0 ≡ end = omega arith in rw none refl
 slots-push end (d ∷ es) e =
     let place : end - length (entry_block d) - length (heap es) ≡ end - length (heap (d ∷ es)) = omega
-        (arith, length-append (heap es) (entry_block d)) in
+    (arith, length-append (heap es) (entry_block d)) in
     ap (λ (l : List ℕ). ((end - length (entry_block d)) * 256 + length d.0) ∷ l)
     (slots-push (end - length (entry_block d)) es e
     ∙ ap (λ (p : ℕ). slots (end - length (entry_block d)) es ++ slots p (e ∷ [])) place)
@@ -187,15 +187,15 @@ module _ (n : ByteNode) (key : List ℕ) (value : ℕ) where
   more-is : (place : ℕ) → place ≡ base - length (heap n.entries) - length (entry_block (key, value))
       → n.tag ∷ (length n.entries + 1) ∷ n.level ∷ fence_slot 512 n.low ∷ high_slot (512 - length (key_block n.low)) n.high ∷ 0 ∷ 0 ∷ 0
       ∷ (slots base n.entries ++ ((place * 256 + length key) ∷
-          (replicate (504 - room_taken more) 0 ++ (key_block key ++ (value ∷ behind)))))
+      (replicate (504 - room_taken more) 0 ++ (key_block key ++ (value ∷ behind)))))
       ≡ form_of 512 more
   more-is place is = sym (form-is more
       ∙ ap (λ (c : ℕ). n.tag ∷ c ∷ n.level ∷ fence_slot 512 n.low ∷ high_slot (512 - length (key_block n.low)) n.high ∷ 0 ∷ 0 ∷ 0
       ∷ (slots base (n.entries ++ (key, value) ∷ []) ++
-          (replicate (504 - room_taken more) 0 ++ (heap (n.entries ++ (key, value) ∷ []) ++ fence_blocks n))))
+      (replicate (504 - room_taken more) 0 ++ (heap (n.entries ++ (key, value) ∷ []) ++ fence_blocks n))))
       (length-append n.entries ((key, value) ∷ []))
       ∙ ap (λ (l : List ℕ). n.tag ∷ (length n.entries + 1) ∷ n.level ∷ fence_slot 512 n.low ∷ high_slot
-          (512 - length (key_block n.low)) n.high ∷ 0 ∷ 0 ∷ 0 ∷ l)
+      (512 - length (key_block n.low)) n.high ∷ 0 ∷ 0 ∷ 0 ∷ l)
       (ap (λ (l : List ℕ). l ++ (replicate (504 - room_taken more) 0 ++ (heap (n.entries ++ (key, value) ∷ []) ++ fence_blocks n)))
       (slots-push base n.entries (key, value)
       ∙ ap (λ (p : ℕ). slots base n.entries ++ ((p * 256 + length key) ∷ [])) (sym is))
@@ -243,7 +243,7 @@ module _ (n : ByteNode) (key : List ℕ) (value : ℕ) where
     value_comes =
         let upto : List ℕ = head (length n.entries) (front ++ (0 ∷ (replicate rest 0 ++ replicate (words_for (length key)) 0))) in
         let split : (l : List ℕ) → upto ++ l ≡ head (length n.entries)
-            (front ++ (0 ∷ (replicate rest 0 ++ (replicate (words_for (length key)) 0 ++ l)))) =
+        (front ++ (0 ∷ (replicate rest 0 ++ (replicate (words_for (length key)) 0 ++ l)))) =
         λ l. ap (head (length n.entries)) (append_assoc front (0 ∷ (replicate rest 0 ++ replicate (words_for (length key)) 0)) l
         ∙ ap (λ (m : List ℕ). front ++ (0 ∷ m)) (append_assoc (replicate rest 0) (replicate (words_for (length key)) 0) l)) in
         valued_is ∙ set_exact page upto behind 0 value (end - 1) (parted ∙ sym (split (0 ∷ behind)))
@@ -268,8 +268,16 @@ module _ (n : ByteNode) (key : List ℕ) (value : ℕ) where
         λ l. ap (head (length n.entries)) (append_assoc front (0 ∷ replicate rest 0) l) in
         written_is ∙ over_exact valued upto (replicate (words_for (length key)) 0) (value ∷ behind) (key_block key) place
         (value_comes ∙ sym (split (replicate (words_for (length key)) 0 ++ (value ∷ behind))))
-        (omega (arith, ends, sizes, front_long, draft.count_is, place_is, length-append {A = ℕ} front (0 ∷ replicate rest 0),
-            length-replicate {A = ℕ} rest 0))
+        (omega (
+          arith,
+          ends,
+          sizes,
+          front_long,
+          draft.count_is,
+          place_is,
+          length-append {A = ℕ} front (0 ∷ replicate rest 0),
+          length-replicate {A = ℕ} rest 0,
+        ))
         (length-replicate {A = ℕ} (words_for (length key)) 0 ∙ sym (length-block key))
         ∙ split (key_block key ++ (value ∷ behind))
 

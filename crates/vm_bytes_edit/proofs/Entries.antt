@@ -15,7 +15,7 @@ pub between_split : (from i upto : ℕ) (es : List KeyEntry) → from ≤ i → 
     → entries_between from upto es ≡ entries_between from i es ++ entries_between i upto es
 between_split from i upto es begun more inside =
     ap (drop from) (sym (take-append-drop i (take upto es))
-        ∙ ap (λ (l : List KeyEntry). l ++ drop i (take upto es)) (take-take i upto es more))
+    ∙ ap (λ (l : List KeyEntry). l ++ drop i (take upto es)) (take-take i upto es more))
     ∙ drop-append-le from (take i es) (drop i (take upto es)) (omega (arith, begun, length-take-le i es inside))
 
 pub between_none : (from : ℕ) (es : List KeyEntry) → from ≤ length es → entries_between from from es ≡ []
@@ -28,8 +28,12 @@ between_none from es inside = go from es
 
 heap-append : (es fs : List KeyEntry) → length (heap (es ++ fs)) ≡ length (heap es) + length (heap fs)
 heap-append [] fs = omega arith
-heap-append (e ∷ es) fs = omega (arith, heap-append es fs, length-append (heap (es ++ fs)) (entry_block e),
-    length-append (heap es) (entry_block e))
+heap-append (e ∷ es) fs = omega (
+  arith,
+  heap-append es fs,
+  length-append (heap (es ++ fs)) (entry_block e),
+  length-append (heap es) (entry_block e),
+)
 
 AreKeys-first : (es fs : List KeyEntry) → AreKeys (es ++ fs) → AreKeys es
 AreKeys-first [] fs keys = tt
@@ -76,4 +80,4 @@ pub fits_next : (n : ByteNode) (from i upto : ℕ) (es : List KeyEntry) → from
 fits_next n from i upto es begun inside whole fits =
     fits_first n (entries_between from (i + 1) es) (entries_between (i + 1) upto es)
     (subst (λ (l : List KeyEntry). IsFitting 512 (with_more n l)) (between_split from (i + 1) upto es (omega (arith, begun))
-        (omega (arith, inside)) (omega (arith, inside, whole))) fits)
+    (omega (arith, inside)) (omega (arith, inside, whole))) fits)

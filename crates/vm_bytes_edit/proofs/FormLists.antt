@@ -13,7 +13,7 @@ over_exact page front mid back block at is front_is mid_is =
     ∙ ap (λ (l : List ℕ). l ++ (block ++ drop (at + length block) (front ++ (mid ++ back)))) (take_at front (mid ++ back) at front_is)
     ∙ ap (λ (l : List ℕ). front ++ (block ++ drop (at + length block) l)) (sym (append_assoc front mid back))
     ∙ ap (λ (l : List ℕ). front ++ (block ++ l)) (drop_at (front ++ mid) back (at + length block)
-        (omega (arith, length-append front mid, front_is, mid_is)))
+    (omega (arith, length-append front mid, front_is, mid_is)))
 
 pub set_exact : (page front back : List ℕ) (old word at : ℕ) → page ≡ front ++ (old ∷ back) → length front ≡ at
     → set page at word ≡ front ++ (word ∷ back)
@@ -24,16 +24,20 @@ pub over_more : (page block : List ℕ) (at i word : ℕ) → i < length block �
     → set (over page at (take i block)) (at + i) word ≡ over page at (take (i + 1) block)
 over_more page block at i word inside fits is =
     let long : length (take i block) ≡ i = length-take-le i block (omega (arith, inside)) in
-    let front : length (take at page ++ take i block) ≡ at + i = omega (arith, length-append (take at page) (take i block),
-        length-take-le at page (omega (arith, fits)), long) in
+    let front : length (take at page ++ take i block) ≡ at + i = omega (
+      arith,
+      length-append (take at page) (take i block),
+      length-take-le at page (omega (arith, fits)),
+      long,
+    ) in
     let rest : drop (at + length (take i block)) page ≡ get_or page (at + i) 0 ∷ drop (at + i + 1) page =
     ap (λ (n : ℕ). drop (at + n) page) long ∙ drop_more page (at + i) 0 (omega (arith, inside, fits)) in
     let parted : over page at (take i block) ≡ (take at page ++ take i block) ++ (get_or page (at + i) 0 ∷ drop (at + i + 1) page) =
     ap (λ (l : List ℕ). take at page ++ (take i block ++ l)) rest
-        ∙ sym (append_assoc (take at page) (take i block) (get_or page (at + i) 0 ∷ drop (at + i + 1) page)) in
+    ∙ sym (append_assoc (take at page) (take i block) (get_or page (at + i) 0 ∷ drop (at + i + 1) page)) in
     let behind : at + i + 1 ≡ at + length (take (i + 1) block) = omega (arith, length-take-le (i + 1) block (omega (arith, inside))) in
     set_exact (over page at (take i block)) (take at page ++ take i block) (drop (at + i + 1) page) (get_or page (at + i) 0) word
-        (at + i) parted front
+    (at + i) parted front
     ∙ append_assoc (take at page) (take i block) (word ∷ drop (at + i + 1) page)
     ∙ ap (λ (l : List ℕ). take at page ++ l) (
     ap (λ (n : ℕ). take i block ++ (word ∷ drop n page)) behind

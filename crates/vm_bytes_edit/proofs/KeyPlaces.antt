@@ -51,7 +51,7 @@ module _ (s : List ℕ) (v : ℕ) (is : IsString 64 s) where
     | inl same ↦
         let goes : ltb (rank e.0) (rank s + 1) ≡ true = grind (arith, nat_tests, same) in
         let rest : place_of (ranks_of es) (rank s + 1) ≡ 0 = none_lower (ranks_of es) (rank e.0 + 1) high (rank s + 1) rises.2
-            (omega (arith, same)) in
+        (omega (arith, same)) in
         let is_place : suc at ≡ suc (place_of (ranks_of es) (rank s + 1)) = place ∙ rw goes refl in
         let first : at ≡ 0 = omega (arith, is_place, rest) in
         let not_above : ltb (rank s) (rank e.0) ≡ false = grind (arith, nat_tests, same) in
@@ -66,7 +66,7 @@ module _ (s : List ℕ) (v : ℕ) (is : IsString 64 s) where
           let next : suc at ≡ suc (place_of (ranks_of es) (rank s + 1)) = place ∙ rw goes refl in
           rw (before_test s e.0 is keys.0, not_above, same_test s e.0 is keys.0, ne_eqb (rank s) (rank e.0) other)
           (go at (omega (arith, next)) has (λ e. other (sym e))
-              (λ i place has. edits_there es i (rank e.0 + 1) high keys.1 rises.2 place has))
+          (λ i place has. edits_there es i (rank e.0 + 1) high keys.1 rises.2 place has))
     ]
   ]
     where
@@ -74,7 +74,9 @@ module _ (s : List ℕ) (v : ℕ) (is : IsString 64 s) where
           → ((i : ℕ) → suc i ≡ place_of (ranks_of es) (rank s + 1) → (get_or (ranks_of es) i (0, 0)).0 ≡ rank s
           → (put_key es s v ≡ take i es ++ ((s, v) ∷ drop (suc i) es)) × (del_key es s ≡ take i es ++ drop (suc i) es))
           → (e ∷ put_key es s v ≡ take at (e ∷ es) ++ ((s, v) ∷ drop (suc at) (e ∷ es)))
-              × (e ∷ del_key es s ≡ take at (e ∷ es) ++ drop (suc at) (e ∷ es))
+          × (e ∷ del_key es s ≡ take at (e ∷ es) ++ drop (suc at) (e ∷ es))
       go zero place has differs rest = absurd (differs has)
-      go (suc i) place has differs rest = let both = rest i place has in (ap (λ (l : List KeyEntry). e ∷ l) both.0,
-          ap (λ (l : List KeyEntry). e ∷ l) both.1)
+      go (suc i) place has differs rest = let both = rest i place has in (
+        ap (λ (l : List KeyEntry). e ∷ l) both.0,
+        ap (λ (l : List KeyEntry). e ∷ l) both.1,
+      )

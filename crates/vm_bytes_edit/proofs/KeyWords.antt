@@ -21,7 +21,7 @@ word-of (suc n) zero s lt = refl
 word-of (suc n) (suc i) s lt =
     let next : 8 + 8 * i ≡ 8 * suc i = omega arith in
     word-of n i (drop 8 s) (omega (arith, lt)) ∙ ap (λ (t : List ℕ). from_be_bytes w64 (padded 8 t)) (drop-drop (8 * i) 8 s
-        ∙ ap (λ (m : ℕ). drop m s) next)
+    ∙ ap (λ (m : ℕ). drop m s) next)
 
 -- a word of a string is that of its bytes from a place on, with zeros behind its end
 pub block_word : (s bytes : List ℕ) (i count k : ℕ) → i < words_for (length s) → count ≡ min (length s - 8 * i) 8 → k ≡ count
@@ -30,8 +30,8 @@ pub block_word : (s bytes : List ℕ) (i count k : ℕ) → i < words_for (lengt
 block_word s bytes i count k inside few is room_taken =
     let t = drop (8 * i) s in
     let all : take k t ≡ take 8 t = (let same : k ≡ min 8 (length t) = omega (arith, few, is, length-drop (8 * i) s) in
-        ap (λ (m : ℕ). take m t) same ∙ take_min 8 t) in
+    ap (λ (m : ℕ). take m t) same ∙ take_min 8 t) in
     let long : count ≡ length (take 8 t) = omega (arith, few, length-drop (8 * i) s, length-take 8 t) in
     ap (from_be_bytes w64) (ap (λ (l : List ℕ). l ++ drop count (replicate 8 0)) (room_taken ∙ all)
-        ∙ ap (λ (m : ℕ). take 8 t ++ drop m (replicate 8 0)) long ∙ sym (padded-is 8 t))
+    ∙ ap (λ (m : ℕ). take 8 t ++ drop m (replicate 8 0)) long ∙ sym (padded-is 8 t))
     ∙ sym (word-of (words_for (length s)) i s inside)

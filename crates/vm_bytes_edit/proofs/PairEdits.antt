@@ -118,15 +118,15 @@ module _ (words s : List ℕ) (is : IsString 64 s) (at : ℕ) (old : Option ℕ)
       put_new_form v new made clean low high rises =
           let e : put_in n s v ≡ spliced n at at ((s, v) ∷ []) =
           (let l = put_new s v is n.entries at (clean_fitting words clean).keys (absent low high rises) (at_is low high rises) in
-              λ j. record n { entries = l j }) in
+          λ j. record n { entries = l j }) in
           made clean inside (subst (IsFitting 512) e (put-fits words clean s v is low high rises (room_not_full clean)))
-              ∙ ap (form_of 512) (sym e)
+          ∙ ap (form_of 512) (sym e)
 
 -- what follows for nodes, leaves and inner nodes
 module _ (words new s : List ℕ) (v : ℕ) (is : IsString 64 s) where
   module _ (roomy : IsClean bytes words → ¬ (IsFullFor bytes words (rank s)))
       (form : IsClean bytes words → (low high : ℕ) → Rises low high (pairs_of bytes words)
-          → new ≡ form_of 512 (put_in (node_in words) s v)) where
+      → new ≡ form_of 512 (put_in (node_in words) s v)) where
     pub put_adds : IsClean bytes words → (low high : ℕ) → Rises low high (pairs_of bytes words) → AddsPair bytes words new (rank s) v
     put_adds clean low high rises = subst (λ (w : List ℕ). AddsPair bytes words w (rank s) v) (sym (form clean low high rises))
         (adds words clean s v is low high rises (roomy clean))

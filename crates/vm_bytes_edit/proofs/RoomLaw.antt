@@ -24,9 +24,9 @@ slots-last end (e ∷ []) (suc i) long = absurd (omega (arith, long))
 slots-last end (e ∷ (d ∷ es)) zero long = absurd (omega (arith, long))
 slots-last end (e ∷ (d ∷ es)) (suc i) long =
     let place : end - length (entry_block e) - length (heap (d ∷ es)) ≡ end - length (heap (e ∷ (d ∷ es))) = omega
-        (arith, length-append (heap (d ∷ es)) (entry_block e)) in
+    (arith, length-append (heap (d ∷ es)) (entry_block e)) in
     slots-last (end - length (entry_block e)) (d ∷ es) i (omega (arith, long))
-        ∙ ap (λ (p : ℕ). p * 256 + length (get_or (d ∷ es) i ([], 0)).0) place
+    ∙ ap (λ (p : ℕ). p * 256 + length (get_or (d ∷ es) i ([], 0)).0) place
 
 -- the place of a slot
 place_is : (slot place long : ℕ) → slot ≡ place * 256 + long → long < 256 → 1 ≤ place → place ≤ 512 → place_of_slot slot ≡ place
@@ -76,7 +76,7 @@ module _ (words : List ℕ) (n : ByteNode) (fits : IsFitting 512 n) (is : words 
       (get_or n.entries i ([], 0)).0
   last_slot i long = ap (λ (w : List ℕ). get_or w (8 + i) 0) shown
       ∙ sym (get_or-drop 8 (n.tag ∷ length n.entries ∷ n.level ∷ fence_slot 512 n.low ∷ high_slot (512 - length (key_block n.low)) n.high
-          ∷ 0 ∷ 0 ∷ 0 ∷ (slots base n.entries ++ tail)) i 0)
+      ∷ 0 ∷ 0 ∷ 0 ∷ (slots base n.entries ++ tail)) i 0)
       ∙ get_or_append_left (slots base n.entries) tail 0 i (omega (arith, long, length-slots base n.entries))
       ∙ slots-last base n.entries i long
 
@@ -97,7 +97,7 @@ module _ (words : List ℕ) (n : ByteNode) (fits : IsFitting 512 n) (is : words 
           let low_word : get_or words 3 0 ≡ 0 = third ∙ ap (fence_slot 512) no_low in
           let blocks : length (fence_blocks n) ≡ 0 = length-append (fence_block n.high) (key_block n.low)
           ∙ (let a = ap (λ (h : Option (List ℕ)). length (fence_block h)) no_high in
-              let b = ap (λ (l : List ℕ). length (key_block l)) no_low in omega (arith, a, b)) in
+          let b = ap (λ (l : List ℕ). length (key_block l)) no_low in omega (arith, a, b)) in
           let slot : lowest_slot words ≡ 0 = rw (nothing, high_word, low_word) refl in
           ap place_of_slot slot ∙ omega (arith, blocks, no_heap)
       without None no_high (b ∷ low) low_is =
@@ -112,9 +112,9 @@ module _ (words : List ℕ) (n : ByteNode) (fits : IsFitting 512 n) (is : words 
           let few : length (key_block n.low) ≤ 8 = (let low_fits = fits.low.fits in omega (arith, length-block n.low, low_fits)) in
           let there = fence-place (512 - length (key_block n.low)) s of.0 of.1 (omega (arith, few)) (omega arith) in
           let high_word : get_or words 4 0 ≡ fence_slot (512 - length (key_block n.low)) s = fourth
-              ∙ ap (high_slot (512 - length (key_block n.low))) high_is in
+          ∙ ap (high_slot (512 - length (key_block n.low))) high_is in
           let blocks : length (fence_blocks n) ≡ length (key_block s) + length (key_block n.low) = length-append (fence_block n.high)
-              (key_block n.low)
+          (key_block n.low)
           ∙ (let a = ap (λ (h : Option (List ℕ)). length (fence_block h)) high_is in omega (arith, a)) in
           let slot : lowest_slot words ≡ fence_slot (512 - length (key_block n.low)) s =
           rw (nothing, ne_eqb (get_or words 4 0) 0 (λ e. there.0 (sym high_word ∙ e))) high_word in
@@ -135,5 +135,9 @@ pub spare_is : (words : List ℕ) → IsClean bytes words → spare_words words 
 spare_is words clean =
     let fits = clean_fitting words clean in
     let room = fits.room in
-    omega (arith, spare words (node_in words) fits (clean_is_form words clean), size-taken (node_in words) fits.low fits.high fits.keys,
-        room)
+    omega (
+      arith,
+      spare words (node_in words) fits (clean_is_form words clean),
+      size-taken (node_in words) fits.low fits.high fits.keys,
+      room,
+    )

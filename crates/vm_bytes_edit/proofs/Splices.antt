@@ -18,7 +18,7 @@ begun_of words page count end tag level low high tag_read level_read low_read hi
     let tagged = tag_read ∙ sym (tag_is words) in
     let levelled = level_read ∙ sym (level_is words) in
     let same : empty_node tag level low high ≡ record (node_in words) { entries = [] } = λ i. empty_node (tagged i) (levelled i)
-        (low_read i) (high_read i) in
+    (low_read i) (high_read i) in
     subst (IsDraft page count end) same draft
 
 -- a high fence is not empty
@@ -38,7 +38,7 @@ module _ (n : ByteNode) (before behind count : ℕ) (between : List KeyEntry) (a
   pub joined : with_more (with_more bare first) (between ++ last) ≡ spliced n before behind between
   joined = with_both bare first (between ++ last)
       ∙ ap (λ (l : List KeyEntry). record n { entries = take before n.entries ++ (between ++ drop behind l) })
-          (take_all count n.entries (omega (arith, all)))
+      (take_all count n.entries (omega (arith, all)))
 
   pub spliced_is : with_more (with_more (with_more bare first) between) last ≡ spliced n before behind between
   spliced_is = with_both (with_more bare first) between last ∙ joined

@@ -50,7 +50,7 @@ module _ (words : List ℕ) (clean : IsClean bytes words) (full : IsFullNode byt
       pub split_is : IsSplit bytes words left right (rank s)
       split_is = subst (λ (l : List ℕ). IsSplit bytes words l right (rank s)) (sym left_is)
           (subst (λ (r : List ℕ). IsSplit bytes words (form_of 512 (lower_half n s)) r (rank s)) (sym right_is)
-              (splits_in_two words clean full s (sym separates) not_nil))
+          (splits_in_two words clean full s (sym separates) not_nil))
 
 module _ (words left right : List ℕ) (separator : ℕ) (full : IsFullNode bytes (node_of bytes words))
     (split : IsSplit bytes words left right separator) where
@@ -61,9 +61,10 @@ module _ (words left right : List ℕ) (separator : ℕ) (full : IsFullNode byte
   pub split_inners : IsInner bytes words → IsInner bytes left × IsInner bytes right
   split_inners inner =
       let first = some_stay words inner.clean full in
-      let some = some_go words inner.clean full in
-      (left_inner bytes words left right separator split first some inner,
-          right_inner bytes words left right separator split first some inner)
+      let some = some_go words inner.clean full in (
+        left_inner bytes words left right separator split first some inner,
+        right_inner bytes words left right separator split first some inner,
+      )
 
 -- what the parts of the call give
 module _ (words s left right : List ℕ) (kept_found count : ℕ) (counted : count ≡ length (node_in words).entries)
@@ -85,7 +86,7 @@ module _ (words s left right : List ℕ) (kept_found count : ℕ) (counted : cou
         let fits = lower_fits words clean full s separator_is low high rises in
         made (omega (arith, less, counted)) (not_nil words clean full s separator_is low high rises)
         (subst (λ (i : ℕ). IsFitting 512 (record (node_in words) { high = Some s; entries = take i (node_in words).entries }))
-            (sym kept_is) fits)
+        (sym kept_is) fits)
         ∙ ap (λ (i : ℕ). form_of 512 (record (node_in words) { high = Some s; entries = take i (node_in words).entries })) kept_is
 
     pub upper_is : (count ≡ length (node_in words).entries → kept_found ≤ count → IsClean bytes words

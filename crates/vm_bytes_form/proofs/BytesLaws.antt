@@ -50,8 +50,12 @@ fitting-tells n is =
     let (a, keys) = and_parts _ (are_keys n.entries) is in
     let (b, high) = and_parts _ (is_high n.high) a in
     let (room, low) = and_parts (leb (8 + room_taken n) 512) (is_string n.low) b in
-    record { room = leb-true (8 + room_taken n) 512 room; low = string-tells n.low low; high = high-tells n.high high;
-        keys = keys-tell n.entries keys }
+    record {
+      room = leb-true (8 + room_taken n) 512 room;
+      low = string-tells n.low low;
+      high = high-tells n.high high;
+      keys = keys-tell n.entries keys;
+    }
 
 -- the words of a key, by its rank
 pub key_words-are : (s : List ℕ) → IsString 64 s → key_words (rank s) ≡ length (key_block s)
@@ -77,14 +81,24 @@ high_words (Some s) each = fence_words s (each s refl).0
 
 pairs_words : (es : List KeyEntry) → AreKeys es → pairs_size pair_size (map ranked_entry es) ≡ length es + length (heap es)
 pairs_words [] keys = refl
-pairs_words (e ∷ es) keys = omega (arith, pairs_words es keys.1, key_words-are e.0 keys.0, length-append (heap es) (entry_block e),
-    length-append (key_block e.0) (e.1 ∷ []))
+pairs_words (e ∷ es) keys = omega (
+  arith,
+  pairs_words es keys.1,
+  key_words-are e.0 keys.0,
+  length-append (heap es) (entry_block e),
+  length-append (key_block e.0) (e.1 ∷ []),
+)
 
 -- the node's size is what its words take
 pub size-taken : (n : ByteNode) → IsString 64 n.low → ((s : List ℕ) → n.high ≡ Some s → IsString 64 s × (1 ≤ length s)) → AreKeys n.entries
     → size bytes (ranked n) ≡ room_taken n
-size-taken n low high keys = omega (arith, pairs_words n.entries keys, fence_words n.low low, high_words n.high high,
-    length-append (fence_block n.high) (key_block n.low))
+size-taken n low high keys = omega (
+  arith,
+  pairs_words n.entries keys,
+  fence_words n.low low,
+  high_words n.high high,
+  length-append (fence_block n.high) (key_block n.low),
+)
 
 module _ (w : List ℕ) (clean : bytes_clean w ≡ true) where
   fits : IsFitting 512 (node_in w)
@@ -119,7 +133,7 @@ fence-few k = go (eqb k RANK_END)
 passes : (w : List ℕ) (level low high : ℕ) → bytes_clean w ≡ true → (node_in w).level ≡ level → rank (node_in w).low ≡ low
     → high_rank (node_in w).high ≡ high
     → (level ≡ 0) ⊎ (1 ≤ length (map ranked_entry (node_in w).entries))
-        → (bytes_has_fences low high w ≡ true) × (bytes_has_form level w ≡ true)
+    → (bytes_has_fences low high w ≡ true) × (bytes_has_form level w ≡ true)
 passes w level low high clean at from upto some =
     let pair : (eqb level 0 || leb 1 (length (node_in w).entries)) ≡ true = elim some [
       | inl bottom ↦ or_left _ _ (eq-eqb _ _ bottom)
@@ -138,7 +152,7 @@ passed w level low high fences form =
 splits : (n : Node) (separator : ℕ) → size bytes n ≤ 504 → 504 < size bytes n + 10 → PaysForSplit bytes n separator
 splits n separator fits full =
     let p = pays (bytes.fence_size n.low) (bytes.fence_size n.high) (bytes.fence_size separator) n.pairs (fence-few n.low)
-        (fence-few n.high) (fence-few separator) fits full in
+    (fence-few n.high) (fence-few separator) fits full in
     record {
       left_some = p.left_some;
       right_some = p.right_some;

@@ -92,7 +92,7 @@ size-put each (e ∷ es) k v = go (size-put each es k v) (ltb k e.0) (eqb k e.0)
   where
     go : pairs_size each (put_pair es k v) ≤ pairs_size each es + each k → (less same : Bool)
         → pairs_size each (if less then (k, v) ∷ e ∷ es else (if same then (k, v) ∷ es else e ∷ put_pair es k v)) ≤ each e.0 + pairs_size
-            each es + each k
+        each es + each k
     go rest true same = omega arith
     go rest false true = omega arith
     go rest false false = omega (arith, rest)
@@ -160,12 +160,12 @@ module _ (old : List ℕ) (clean : IsClean bytes old) where
 
     put-size : (low high : ℕ) → Rises low high (pairs_of bytes old) → ¬ (IsFullFor bytes old (rank s))
         → pairs_size pair_size (put_pair (ranks_of n.entries) (rank s) v) +
-            (bytes.fence_size (rank n.low) + bytes.fence_size (high_rank n.high)) ≤ 504
+        (bytes.fence_size (rank n.low) + bytes.fence_size (high_rank n.high)) ≤ 504
     put-size low high rises roomy = go (lookup_at (ranks_of n.entries) (rank s)) refl
       where
         go : (found : Option ℕ) → lookup_at (ranks_of n.entries) (rank s) ≡ found
             → pairs_size pair_size (put_pair (ranks_of n.entries) (rank s) v) +
-                (bytes.fence_size (rank n.low) + bytes.fence_size (high_rank n.high)) ≤ 504
+            (bytes.fence_size (rank n.low) + bytes.fence_size (high_rank n.high)) ≤ 504
         go None none = elim (cases_lt 504 (size bytes (ranked n) + pair_size (rank s))) [
           | inl more ↦ absurd (roomy (record { count = more; absent = none }))
           | inr fits ↦ omega (arith, fits, size-put pair_size (ranks_of n.entries) (rank s) v)
@@ -175,7 +175,7 @@ module _ (old : List ℕ) (clean : IsClean bytes old) where
     pub put-fits : (low high : ℕ) → Rises low high (pairs_of bytes old) → ¬ (IsFullFor bytes old (rank s)) → IsFitting 512 (put_in n s v)
     put-fits low high rises roomy = fits_by_size (put_in n s v) is.low is.high (AreKeys-put n.entries s v is.keys key)
         (let le = put-size low high rises roomy in let same = ap (λ (m : Node). pairs_size pair_size m.pairs) put-ranked in
-            omega (arith, le, same))
+        omega (arith, le, same))
 
     pub adds : (low high : ℕ) → Rises low high (pairs_of bytes old) → ¬ (IsFullFor bytes old (rank s))
         → AddsPair bytes old (form_of 512 (put_in n s v)) (rank s) v
@@ -195,7 +195,7 @@ module _ (old : List ℕ) (clean : IsClean bytes old) where
     pub del-fits : IsFitting 512 (del_in n s)
     del-fits = fits_by_size (del_in n s) is.low is.high (AreKeys-del n.entries s is.keys)
         (let same = ap (λ (m : Node). pairs_size pair_size m.pairs) del-ranked in
-            omega (arith, room, same, size-del pair_size (ranks_of n.entries) (rank s)))
+        omega (arith, room, same, size-del pair_size (ranks_of n.entries) (rank s)))
 
     pub takes : TakesPair bytes old (form_of 512 (del_in n s)) (rank s)
     takes = record {
@@ -260,13 +260,22 @@ module _ (level left : ℕ) (s : List ℕ) (right : ℕ) (key : IsString 64 s) w
 
   root-ranked : ranked (root_over level left s right)
       ≡ record { tag = 3; level = level; low = 0; high = bytes.key_end; pairs = (0, left) ∷ (rank s, right) ∷ [] }
-  root-ranked = λ i. record { tag = 3; level = level; low = rank-nil i; high = bytes.key_end; pairs = (rank-nil i, left) ∷ (rank s, right)
-      ∷ [] }
+  root-ranked = λ i. record {
+    tag = 3;
+    level = level;
+    low = rank-nil i;
+    high = bytes.key_end;
+    pairs = (rank-nil i, left) ∷ (rank s, right)
+        ∷ [];
+  }
 
   pub root-fits : IsFitting 512 (root_over level left s right)
   root-fits = fits_by_size (root_over level left s right) empty_is no_high (empty_is, (key, tt))
       (let le = bytes_is_layout.new_root (rank s) in let same = ap (size bytes) root-ranked in omega (arith, le, same))
 
   pub root_grows : IsNewRoot bytes (form_of 512 (root_over level left s right)) level left (rank s) right
-  root_grows = record { node = ap ranked (read_back 512 (root_over level left s right) root-fits)
-      ∙ root-ranked; clean = form_clean (root_over level left s right) root-fits }
+  root_grows = record {
+    node = ap ranked (read_back 512 (root_over level left s right) root-fits)
+        ∙ root-ranked;
+    clean = form_clean (root_over level left s right) root-fits;
+  }

@@ -16,8 +16,10 @@ same-refl (a ∷ s) = and_from (eqb a a) (same_words s s) (eq-eqb a a refl) (sam
 same-not : (s t : List ℕ) → IsBefore s t → (same_words s t ≡ false) × (same_words t s ≡ false)
 same-not s [] less = absurd less
 same-not [] (b ∷ t) less = (refl, refl)
-same-not (a ∷ s) (b ∷ t) (inl less) = (rw (ne_eqb a b (λ e. omega (arith, less, e))) refl,
-    rw (ne_eqb b a (λ e. omega (arith, less, e))) refl)
+same-not (a ∷ s) (b ∷ t) (inl less) = (
+  rw (ne_eqb a b (λ e. omega (arith, less, e))) refl,
+  rw (ne_eqb b a (λ e. omega (arith, less, e))) refl,
+)
 same-not (a ∷ s) (b ∷ t) (inr rest) = let (one, two) = same-not s t rest.1 in (rw (eq-eqb a b rest.0) one, rw (eq-eqb b a (sym rest.0)) two)
 
 before-is : (s t : List ℕ) → IsBefore s t → (before s t ≡ true) × (before t s ≡ false)
@@ -69,7 +71,7 @@ lookup_is (e ∷ es) s keys is = rw (same_test s e.0 is keys.0, lookup_is es s k
 put_cases : (e : KeyEntry) (es : List KeyEntry) (s : List ℕ) (v : ℕ) (less same : Bool)
     → put_pair (ranks_of es) (rank s) v ≡ ranks_of (put_key es s v)
     → (if less then (rank s, v) ∷ (rank e.0, e.1) ∷ ranks_of es else (if same then (rank s, v) ∷ ranks_of es else (rank e.0, e.1) ∷ put_pair
-        (ranks_of es) (rank s) v))
+    (ranks_of es) (rank s) v))
     ≡ ranks_of (if less then (s, v) ∷ e ∷ es else (if same then (s, v) ∷ es else e ∷ put_key es s v))
 put_cases e es s v true same rest = refl
 put_cases e es s v false true rest = refl

@@ -19,7 +19,7 @@ rank-below (suc n) [] bytes = power-above (suc n)
 rank-below (suc n) (b ∷ s) bytes =
     let rest = rank-below n s bytes.1 in
     let fits : (b + 1) * 257 ^ n + rank_in n s < 257 ^ n * 257 = mul-add-lt (b + 1) (257 ^ n) (rank_in n s) 257
-        (omega (arith, bytes.0)) rest in
+    (omega (arith, bytes.0)) rest in
     omega (arith, fits, power-more n)
 
 -- a string before another one has the lower rank
@@ -34,7 +34,7 @@ rank_before (suc n) [] (b ∷ t) fits bs bt before = omega (arith, some (b + 1) 
 rank_before (suc n) (a ∷ s) (b ∷ t) fits bs bt (inl less) =
     let rest = rank-below n s bs.1 in
     let lower : (a + 1) * 257 ^ n + rank_in n s < 257 ^ n * (b + 1) = mul-add-lt (a + 1) (257 ^ n) (rank_in n s) (b + 1)
-        (omega (arith, less)) rest in
+    (omega (arith, less)) rest in
     grind (arith, lower)
 rank_before (suc n) (a ∷ s) (b ∷ t) fits bs bt (inr same) =
     let rest = rank_before n s t (omega (arith, fits)) bs.1 bt.1 same.1 in

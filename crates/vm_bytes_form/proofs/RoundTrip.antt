@@ -73,7 +73,7 @@ bytes-string_words : (n : ℕ) (s rest : List ℕ) → AreBytes s
 bytes-string_words zero s rest bytes = refl
 bytes-string_words (suc n) s rest bytes =
     let word : to_be_bytes w64 (from_be_bytes w64 (padded 8 s)) ≡ padded 8 s = be_bytes_8 (padded 8 s) (from_be_bytes w64 (padded 8 s))
-        (length-padded 8 s) (padded-below 8 s bytes) refl in
+    (length-padded 8 s) (padded-below 8 s bytes) refl in
     let more : 8 + 8 * n ≡ 8 * suc n = omega arith in
     ap (λ (l : List ℕ). l ++ bytes_of_words (string_words n (drop 8 s) ++ rest)) word
     ∙ ap (λ (l : List ℕ). padded 8 s ++ l) (bytes-string_words n (drop 8 s) rest (AreBytes-drop 8 s bytes))
@@ -90,7 +90,7 @@ string-there words s rest place is at =
     let long_is : (place * 256 + length s) % 256 ≡ length s = mod-mul-add place 256 (length s) (omega (arith, is.fits)) in
     let whole : min (length s) 64 ≡ length s = omega (arith, is.fits) in
     rw (place_is, long_is, whole, at, bytes-string_words (words_for (length s)) s rest is.bytes)
-        (take-padded (8 * words_for (length s)) s (bytes_of_words rest) (omega arith))
+    (take-padded (8 * words_for (length s)) s (bytes_of_words rest) (omega arith))
 
 value-there : (words s rest : List ℕ) (place v : ℕ) → IsString 64 s → drop place words ≡ key_block s ++ v ∷ rest
     → get_or words ((place * 256 + length s) / 256 + words_for ((place * 256 + length s) % 256)) 0 ≡ v
@@ -98,8 +98,8 @@ value-there words s rest place v is at =
     let place_is : (place * 256 + length s) / 256 ≡ place = div-mul-add place 256 (length s) (omega (arith, is.fits)) in
     let long_is : (place * 256 + length s) % 256 ≡ length s = mod-mul-add place 256 (length s) (omega (arith, is.fits)) in
     rw (place_is, long_is) (sym (get_or-drop place words (words_for (length s)) 0)
-        ∙ ap (λ (l : List ℕ). get_or l (words_for (length s)) 0) at
-        ∙ get-exact (key_block s) rest v (words_for (length s)) (sym (length-string_words (words_for (length s)) s)))
+    ∙ ap (λ (l : List ℕ). get_or l (words_for (length s)) 0) at
+    ∙ get-exact (key_block s) rest v (words_for (length s)) (sym (length-string_words (words_for (length s)) s)))
 
 -- the entries whose blocks stand below a place
 entries-there : (words : List ℕ) (es : List KeyEntry) (end : ℕ) (back : List ℕ) → AreKeys es → length (heap es) ≤ end
@@ -110,11 +110,11 @@ entries-there words (e ∷ es) end back keys fits at =
     let place : ℕ = end - length (entry_block e) in
     let below : place - length (heap es) ≡ end - length (heap (e ∷ es)) = omega (arith, long) in
     let parted : drop (place - length (heap es)) words ≡ heap es ++ (entry_block e ++ back) = rw below (at
-        ∙ append_assoc (heap es) (entry_block e) back) in
+    ∙ append_assoc (heap es) (entry_block e) back) in
     let again : length (heap es) + (place - length (heap es)) ≡ place = omega (arith, long, fits) in
     let here : drop place words ≡ entry_block e ++ back = ap (λ (n : ℕ). drop n words) (sym again)
-        ∙ dropped (place - length (heap es)) (length (heap es)) ∙ ap (drop (length (heap es))) parted
-        ∙ drop-exact (heap es) (entry_block e ++ back) (length (heap es)) refl in
+    ∙ dropped (place - length (heap es)) (length (heap es)) ∙ ap (drop (length (heap es))) parted
+    ∙ drop-exact (heap es) (entry_block e ++ back) (length (heap es)) refl in
     let block : drop place words ≡ key_block e.0 ++ e.1 ∷ back = here ∙ append_assoc (key_block e.0) (e.1 ∷ []) back in
     let key = string-there words e.0 (e.1 ∷ back) place keys.0 block in
     let value = value-there words e.0 back place e.1 keys.0 block in
@@ -138,18 +138,29 @@ module _ (size : ℕ) (n : ByteNode) (fits : IsFitting size n) where
   whole = ap (λ (l : List ℕ). n.tag ∷ length n.entries ∷ n.level ∷ fence_slot size n.low ∷ high_slot
       (size - length (key_block n.low)) n.high ∷ 0 ∷ 0 ∷ 0 ∷ l)
       (append_assoc (slots (size - length (fence_blocks n)) n.entries ++ replicate (size - 8 - room_taken n) 0) (heap n.entries)
-          (fence_blocks n))
+      (fence_blocks n))
 
   length-front : length front ≡ size - length (heap n.entries) - length (fence_blocks n)
-  length-front = omega (arith, length-append (slots (size - length (fence_blocks n)) n.entries) (replicate (size - 8 - room_taken n) 0),
-      length-slots (size - length (fence_blocks n)) n.entries, length-replicate {A = ℕ} (size - 8 - room_taken n) 0, fits.room)
+  length-front = omega (
+    arith,
+    length-append (slots (size - length (fence_blocks n)) n.entries) (replicate (size - 8 - room_taken n) 0),
+    length-slots (size - length (fence_blocks n)) n.entries,
+    length-replicate {A = ℕ} (size - 8 - room_taken n) 0,
+    fits.room,
+  )
 
   length-back : length (fence_blocks n) ≡ length (fence_block n.high) + length (key_block n.low)
   length-back = length-append (fence_block n.high) (key_block n.low)
 
   pub length_form : length (form_of size n) ≡ size
-  length_form = ap length whole ∙ omega (arith, length-append front (heap n.entries ++ fence_blocks n), length-append (heap n.entries)
-      (fence_blocks n), length-front, fits.room)
+  length_form = ap length whole ∙ omega (
+    arith,
+    length-append front (heap n.entries ++ fence_blocks n),
+    length-append (heap n.entries)
+        (fence_blocks n),
+    length-front,
+    fits.room,
+  )
 
   -- what stands from the heap on, from the fences on, from the low fence on
   from_heap : drop (size - length (fence_blocks n) - length (heap n.entries)) (form_of size n) ≡ heap n.entries ++ fence_blocks n
@@ -160,15 +171,21 @@ module _ (size : ℕ) (n : ByteNode) (fits : IsFitting size n) where
   from_fences =
       ap (drop (size - length (fence_blocks n))) (whole ∙ sym (append_assoc front (heap n.entries) (fence_blocks n)))
       ∙ drop-exact (front ++ heap n.entries) (fence_blocks n) _
-          (omega (arith, length-append front (heap n.entries), length-front, fits.room))
+      (omega (arith, length-append front (heap n.entries), length-front, fits.room))
 
   from_low : drop (size - length (key_block n.low)) (form_of size n) ≡ key_block n.low
   from_low =
       ap (drop (size - length (key_block n.low))) (whole ∙ sym (append_assoc front (heap n.entries) (fence_blocks n))
-          ∙ sym (append_assoc (front ++ heap n.entries) (fence_block n.high) (key_block n.low)))
+      ∙ sym (append_assoc (front ++ heap n.entries) (fence_block n.high) (key_block n.low)))
       ∙ drop-exact ((front ++ heap n.entries) ++ fence_block n.high) (key_block n.low) _
-          (omega (arith, length-append (front ++ heap n.entries) (fence_block n.high), length-append front (heap n.entries), length-front,
-          length-back, fits.room))
+      (omega (
+        arith,
+        length-append (front ++ heap n.entries) (fence_block n.high),
+        length-append front (heap n.entries),
+        length-front,
+        length-back,
+        fits.room,
+      ))
 
   fence_read : (s rest : List ℕ) (end : ℕ) → IsString 64 s → drop (end - length (key_block s)) (form_of size n) ≡ key_block s ++ rest
       → string_at (form_of size n) (fence_slot end s) ≡ s
@@ -191,24 +208,24 @@ module _ (size : ℕ) (n : ByteNode) (fits : IsFitting size n) where
       let of = fits.high s is in
       let blocks : fence_blocks n ≡ key_block s ++ key_block n.low = ap (λ (h : Option (List ℕ)). fence_block h ++ key_block n.low) is in
       let place : size - length (key_block n.low) - length (key_block s) ≡ size - length (fence_blocks n) = omega
-          (arith, ap length blocks, length-append (key_block s) (key_block n.low)) in
+      (arith, ap length blocks, length-append (key_block s) (key_block n.low)) in
       rw (slot_some s (size - length (key_block n.low)) of.1)
-          (ap (λ (t : List ℕ). Some t) (fence_read s (key_block n.low) (size - length (key_block n.low)) of.0
-          (rw place (from_fences ∙ blocks))))
+      (ap (λ (t : List ℕ). Some t) (fence_read s (key_block n.low) (size - length (key_block n.low)) of.0
+      (rw place (from_fences ∙ blocks))))
 
   entries_read : map (entry_at (form_of size n)) (take (length n.entries) (drop 8 (form_of size n))) ≡ n.entries
   unfolding form_of
   entries_read =
       ap (λ (l : List ℕ). map (entry_at (form_of size n)) (take (length n.entries) l))
       (append_assoc (slots (size - length (fence_blocks n)) n.entries ++ replicate (size - 8 - room_taken n) 0) (heap n.entries)
-          (fence_blocks n)
+      (fence_blocks n)
       ∙ append_assoc (slots (size - length (fence_blocks n)) n.entries) (replicate (size - 8 - room_taken n) 0)
-          (heap n.entries ++ fence_blocks n))
+      (heap n.entries ++ fence_blocks n))
       ∙ ap (map (entry_at (form_of size n))) (take-exact (slots (size - length (fence_blocks n)) n.entries)
-          (replicate (size - 8 - room_taken n) 0 ++ (heap n.entries ++ fence_blocks n)) (length n.entries)
-          (sym (length-slots (size - length (fence_blocks n)) n.entries)))
+      (replicate (size - 8 - room_taken n) 0 ++ (heap n.entries ++ fence_blocks n)) (length n.entries)
+      (sym (length-slots (size - length (fence_blocks n)) n.entries)))
       ∙ entries-there (form_of size n) n.entries (size - length (fence_blocks n)) (fence_blocks n) fits.keys
-          (omega (arith, fits.room)) from_heap
+      (omega (arith, fits.room)) from_heap
 
   pub read_back : node_in (form_of size n) ≡ n
   unfolding form_of node_in

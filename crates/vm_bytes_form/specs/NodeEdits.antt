@@ -26,5 +26,11 @@ upper_half n separator = record n { low = separator; entries = drop (kept_at_spl
 
 -- a root over two nodes, of which the right one begins at the separator
 abbrev pub root_over : ℕ → ℕ → List ℕ → ℕ → ByteNode
-root_over level left separator right = record { tag = 5; level = level; low = []; high = None; entries = ([], left) ∷ (separator, right)
-    ∷ [] }
+root_over level left separator right = record {
+  tag = 5;
+  level = level;
+  low = [];
+  high = None;
+  entries = ([], left) ∷ (separator, right)
+      ∷ [];
+}

@@ -1,6 +1,6 @@
 -- The entries from a key on, among keys that rise, are those from the place where the keys stop being lower.
-use Rattle.std.proofs.Common.{◌≡◌, ◌≢◌, ℕ, zero, suc, ◌+◌, ◌<◌, ◌≤◌, true, false, [], ◌∷◌, ◌++◌, length, get_or, take, drop, ltb}
-use Rattle.std.proofs.Common.{List, Option, Some, refl, sym, ap, subst, ◌∙◌, arith, append-nil, append_assoc, inl, inr}
+use Rattle.std.proofs.Common.{◌≡◌, ℕ, zero, suc, ◌+◌, ◌<◌, ◌≤◌, true, false, [], ◌∷◌, ◌++◌, length, get_or, take, drop, ltb}
+use Rattle.std.proofs.Common.{List, Option, Some, refl, sym, ap, ◌∙◌, arith, append-nil, append_assoc, inl, inr}
 use Rattle.std.proofs.lemmas.Bool.Decides.{nat_tests}
 use Rattle.std.proofs.lemmas.Bool.{cases_eq, cases_lt, lt-ltb}
 use Rattle.std.proofs.lemmas.List.{drop_all, drop_more, take_all, take_at}
@@ -8,8 +8,8 @@ use Rattle.vm_map.specs.Map.{Pairs, Rises}
 use Rattle.vm_tree_model.specs.Layout.{IsClean}
 use Rattle.vm_tree_model.specs.Page.{pairs_of}
 use Rattle.vm_node.specs.Places.{place_of}
-use Rattle.vm_bytes_form.specs.Bytes.{bytes, ranked_entry}
-use Rattle.vm_bytes_form.specs.Forms.{AreKeys, ByteNode, KeyEntry, node_in}
+use Rattle.vm_bytes_form.specs.Bytes.{bytes}
+use Rattle.vm_bytes_form.specs.Forms.{AreKeys, KeyEntry, node_in}
 use Rattle.vm_bytes_form.specs.KeyMap.{before, ranks_of}
 use Rattle.vm_bytes_form.specs.Strings.{IsString, rank}
 use Rattle.vm_bytes_form.proofs.EditLaws.{clean_fitting}
@@ -147,7 +147,7 @@ module _ (start : List ℕ) (count : ℕ) (words : List ℕ) where
     showing_ends most bound past few fence clean low high rises =
         let whole : shown ≡ entries_from start entries = sym (append-nil shown)
         ∙ ap (λ (l : List KeyEntry). shown ++ l) (sym (drop_all i entries (let all = is.all in omega (arith, past, all))))
-            ∙ is.whole clean low high rises in
+        ∙ is.whole clean low high rises in
         record {
           shows = sym (ap (take most) (sym whole) ∙ take_all most shown few);
           ends = fence ∙ sym (ap (λ (l : List KeyEntry). key_after l most (node_in words).high) (sym whole)

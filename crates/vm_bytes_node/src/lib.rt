@@ -27,7 +27,7 @@ mod slots;
 pub mod window;
 
 pub use fences::{covers_at, has_fences_at, has_level_at, high_at, is_leaf_at, low_at, spare_at};
-pub use order::{in_range, is_before, pair_size, same_key, words_of};
+pub use order::{copied, in_range, is_before, pair_size, same_key, words_of};
 pub use search::{KeyBound, child_at, find_at, upper_bound_at};
 pub use shown::window_at;
 pub use slots::{HEADER, count_at, key_at, string_at, value_at};

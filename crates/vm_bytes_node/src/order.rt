@@ -24,6 +24,14 @@ fn are_bytes(bytes: &[u8])
     let _ = bytes.len();
 }
 
+/// The key once more.
+pub fn copied(key: &Key) -> Key
+    ensures { result ≡ key.now }
+{
+    // A key has 64 bytes at most, so there is one of these.
+    Key::of(key.as_slice()).unwrap_or(Key::new())
+}
+
 /// A key is a string of at most 64 bytes, and its rank is below the end of all ranks. Nothing is done.
 pub fn in_range(key: &Key)
     ensures string { IsString 64 key.now }

@@ -20,4 +20,4 @@ returns-in_default-clause-draft c = λ clean.
     let low_read = told_buffer low low.through c.in_buffer-place.ensures.same c.in_buffer-place.ensures.size in
     let high_read = told_buffer high high.through (low.through.same ∙ c.in_buffer-place.ensures.same) c.low_at-low.ensures.ready in
     begun_of c.args.page.now _ _ _ _ _ _ _ c.get.ensures.word c.get-2.ensures.word low_read (sym c.in_default.is
-        ∙ high_read) c.new-draft.ensures.draft
+    ∙ high_read) c.new-draft.ensures.draft

@@ -14,7 +14,7 @@ use Rattle.vm_bytes_edit.proofs.edits.key_place.Goals as goal
 pub returns-then-bound-eq0-clause-placed : goal.returns-then-bound-eq0-clause-placed
 returns-then-bound-eq0-clause-placed c =
     let other : (c.upper_bound_at-bound.result.at ≡ 0) ⊎ (rank c.upper_bound_at-bound.result.low ≢ rank c.args.key.now) = elim
-        c.then-bound-eq0.branch [
+    c.then-bound-eq0.branch [
       | then-bound-eq0-via-then-bound-eq0 w ↦ inl w.if-bound-eq0.true
       | then-bound-eq0-via-else-bound-eq0+then-not-same_key w ↦ inr (w.same_key.ensures.rank.1 w.if-not-same_key.true)
     ] in
@@ -37,9 +37,9 @@ returns-clause-placed c =
     let b = told_buffer told told.through (counted.through.same ∙ c.in_buffer-place.ensures.same) c.count_at-count.ensures.ready count in
     let inside = b.0.inside in
     let there : c.upper_bound_at-bound.result.at - 1 < length (node_in c.args.page.now).entries = omega
-        (arith, some, inside, length-pairs c.args.page.now) in
+    (arith, some, inside, length-pairs c.args.page.now) in
     let value = told_buffer valued valued.through (told.through.same
-        ∙ (counted.through.same ∙ c.in_buffer-place.ensures.same)) c.upper_bound_at-bound.ensures.ready there in
+    ∙ (counted.through.same ∙ c.in_buffer-place.ensures.same)) c.upper_bound_at-bound.ensures.ready there in
     let key = b.1.before (c.upper_bound_at-bound.result.at - 1) (omega (arith, some)) ∙ c.same_key.ensures.rank.0 c.if-not-same_key.false in
     let read = values-at (c.upper_bound_at-bound.result.at - 1) (node_in c.args.page.now).entries there ∙ sym value in
     record { bound = b.0; there = (c.upper_bound_at-bound.result.at - 1, omega (arith, some), λ j. (key j, read j)) }

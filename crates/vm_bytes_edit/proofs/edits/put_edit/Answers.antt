@@ -27,18 +27,18 @@ returns-in-Some-clause-room c = found_takes c.args.page.now c.args.key.now c.key
 pub returns-in-Some-clause-node : goal.returns-in-Some-clause-node
 returns-in-Some-clause-node c = put_adds c.args.page.now c.with_pair.result c.args.key.now c.args.value c.key_place-at.ensures.string
     (λ _. found_not_full c.args.page.now c.args.key.now c.key_place-at.ensures.string _ _ c.key_place-at.ensures.placed _ c.in-Some.is)
-        (returns-in-Some-clause-form c)
+    (returns-in-Some-clause-form c)
 
 pub returns-in-Some-clause-leaf : goal.returns-in-Some-clause-leaf
 returns-in-Some-clause-leaf c = put_leaf c.args.page.now c.with_pair.result c.args.key.now c.args.value c.key_place-at.ensures.string
     (λ _. found_not_full c.args.page.now c.args.key.now c.key_place-at.ensures.string _ _ c.key_place-at.ensures.placed _ c.in-Some.is)
-        (returns-in-Some-clause-form c)
+    (returns-in-Some-clause-form c)
     _ (returns-in-Some-clause-was c)
 
 pub returns-in-Some-clause-inner : goal.returns-in-Some-clause-inner
 returns-in-Some-clause-inner c = put_inner c.args.page.now c.with_pair.result c.args.key.now c.args.value c.key_place-at.ensures.string
     (λ _. found_not_full c.args.page.now c.args.key.now c.key_place-at.ensures.string _ _ c.key_place-at.ensures.placed _ c.in-Some.is)
-        (returns-in-Some-clause-form c)
+    (returns-in-Some-clause-form c)
 
 pub returns-in-None-clause-full : goal.returns-in-None-clause-full
 returns-in-None-clause-full c =
@@ -52,44 +52,44 @@ roomy spare size left pair le a b = omega (arith, le, a, b)
 pub returns-in-None-2-clause-form : goal.returns-in-None-2-clause-form
 returns-in-None-2-clause-form c =
     let room : pair_size (rank c.args.key.now) ≤ spare_words c.args.page.now = roomy _ _ _ _ c.if-spare_of-pair_size.false
-        c.spare_of.ensures
-        c.pair_size.ensures.rank in
+    c.spare_of.ensures
+    c.pair_size.ensures.rank in
     put_new_form c.args.page.now c.args.key.now c.key_place-at.ensures.string _ _ c.key_place-at.ensures.placed c.in-None-2.is room
     c.args.value c.with_pair-in-None-2.result c.with_pair-in-None-2.ensures
 
 pub returns-in-None-2-clause-full : goal.returns-in-None-2-clause-full
 returns-in-None-2-clause-full c = λ leaf.
     let room : pair_size (rank c.args.key.now) ≤ spare_words c.args.page.now = roomy _ _ _ _ c.if-spare_of-pair_size.false
-        c.spare_of.ensures
-        c.pair_size.ensures.rank in
+    c.spare_of.ensures
+    c.pair_size.ensures.rank in
     room_not_full c.args.page.now c.args.key.now c.key_place-at.ensures.string _ _ c.key_place-at.ensures.placed c.in-None-2.is room
-        leaf.clean
+    leaf.clean
 
 pub returns-in-None-2-clause-node : goal.returns-in-None-2-clause-node
 returns-in-None-2-clause-node c =
     let room : pair_size (rank c.args.key.now) ≤ spare_words c.args.page.now = roomy _ _ _ _ c.if-spare_of-pair_size.false
-        c.spare_of.ensures
-        c.pair_size.ensures.rank in
+    c.spare_of.ensures
+    c.pair_size.ensures.rank in
     put_adds c.args.page.now c.with_pair-in-None-2.result c.args.key.now c.args.value c.key_place-at.ensures.string
     (room_not_full c.args.page.now c.args.key.now c.key_place-at.ensures.string _ _ c.key_place-at.ensures.placed c.in-None-2.is room)
-        (returns-in-None-2-clause-form c)
+    (returns-in-None-2-clause-form c)
 
 pub returns-in-None-2-clause-leaf : goal.returns-in-None-2-clause-leaf
 returns-in-None-2-clause-leaf c =
     let room : pair_size (rank c.args.key.now) ≤ spare_words c.args.page.now = roomy _ _ _ _ c.if-spare_of-pair_size.false
-        c.spare_of.ensures
-        c.pair_size.ensures.rank in
+    c.spare_of.ensures
+    c.pair_size.ensures.rank in
     put_leaf c.args.page.now c.with_pair-in-None-2.result c.args.key.now c.args.value c.key_place-at.ensures.string
     (room_not_full c.args.page.now c.args.key.now c.key_place-at.ensures.string _ _ c.key_place-at.ensures.placed c.in-None-2.is room)
-        (returns-in-None-2-clause-form c)
+    (returns-in-None-2-clause-form c)
     _ (λ low high rises. sym (absent c.args.page.now c.args.key.now c.key_place-at.ensures.string _ _ c.key_place-at.ensures.placed
-        c.in-None-2.is low high rises))
+    c.in-None-2.is low high rises))
 
 pub returns-in-None-2-clause-inner : goal.returns-in-None-2-clause-inner
 returns-in-None-2-clause-inner c =
     let room : pair_size (rank c.args.key.now) ≤ spare_words c.args.page.now = roomy _ _ _ _ c.if-spare_of-pair_size.false
-        c.spare_of.ensures
-        c.pair_size.ensures.rank in
+    c.spare_of.ensures
+    c.pair_size.ensures.rank in
     put_inner c.args.page.now c.with_pair-in-None-2.result c.args.key.now c.args.value c.key_place-at.ensures.string
     (room_not_full c.args.page.now c.args.key.now c.key_place-at.ensures.string _ _ c.key_place-at.ensures.placed c.in-None-2.is room)
-        (returns-in-None-2-clause-form c)
+    (returns-in-None-2-clause-form c)

@@ -16,5 +16,5 @@ returns c = λ clean inside fits.
     (first_fits n c.args.before c.args.behind _ new count fits) in
     let second = c.add.ensures.draft _ first (between_fits n c.args.before c.args.behind _ new count fits) in
     let third = c.copy-2.ensures.draft _ second (omega (arith, count)) (omega (arith, count, inside))
-        (whole_fits n c.args.before c.args.behind _ new count fits) in
+    (whole_fits n c.args.before c.args.behind _ new count fits) in
     c.into_page.ensures ∙ third.form ∙ ap (form_of 512) (spliced_is n c.args.before c.args.behind _ new count)

@@ -14,5 +14,5 @@ returns c = λ clean inside fits.
     (first_fits n c.args.at (c.args.at + 1) _ [] count fits) in
     let whole = joined n c.args.at (c.args.at + 1) _ [] count in
     let second = c.copy-2.ensures.draft _ first (omega (arith, count)) (omega (arith, count, inside))
-        (subst (IsFitting 512) (sym whole) fits) in
+    (subst (IsFitting 512) (sym whole) fits) in
     c.into_page.ensures ∙ second.form ∙ ap (form_of 512) whole

@@ -18,7 +18,7 @@ pub returns-then-whole-got-clause-kept : goal.returns-then-whole-got-clause-kept
 returns-then-whole-got-clause-kept c = λ all.
     let m = pairs_of bytes c.args.page.now in
     let whole = whole_is m c.args.count _ (all ∙ sym (length-pairs c.args.page.now))
-        (c.sizes_of-whole.ensures.sizes (omega (arith, all))) in
+    (c.sizes_of-whole.ensures.sizes (omega (arith, all))) in
     let here = cut_here pair_size c.loop-i.got c.sizes_of-whole.result (drop c.loop-i.i m) c.if-whole-got.true in
     let cut = c.loop-i.invariant.cut all in
     sym (ap (λ (w : ℕ). cut_from pair_size 0 w m) (sym whole) ∙ cut ∙ omega (arith, here))
@@ -34,7 +34,7 @@ loop-i-preserved c =
           (pairs_of bytes c.args.page.now)
           (omega (arith, inside, all, length-pairs c.args.page.now)) (omega (arith, less))
           (pair_key c.args.page.now _ c.loop-i.i (omega (arith, inside, all)) (c.pair_of.ensures (omega (arith, inside, all))).0)
-              c.pair_size-got.ensures.rank
+          c.pair_size-got.ensures.rank
           (c.loop-i.invariant.cut all);
     }
 
@@ -42,11 +42,11 @@ pub returns-clause-kept : goal.returns-clause-kept
 returns-clause-kept c = λ all.
     let m = pairs_of bytes c.args.page.now in
     let whole = whole_is m c.args.count _ (all ∙ sym (length-pairs c.args.page.now))
-        (c.sizes_of-whole.ensures.sizes (omega (arith, all))) in
+    (c.sizes_of-whole.ensures.sizes (omega (arith, all))) in
     let past = c.loop-i-test.false in
     let ended = c.loop-i.auto.i-end in
     let nothing : cut_from pair_size c.loop-i.got c.sizes_of-whole.result (drop c.loop-i.i m) ≡ 0 =
     ap (cut_from pair_size c.loop-i.got c.sizes_of-whole.result)
-        (drop_all c.loop-i.i m (omega (arith, past, all, length-pairs c.args.page.now))) in
+    (drop_all c.loop-i.i m (omega (arith, past, all, length-pairs c.args.page.now))) in
     let cut = c.loop-i.invariant.cut all in
     sym (ap (λ (w : ℕ). cut_from pair_size 0 w m) (sym whole) ∙ cut ∙ omega (arith, nothing, past, ended))

@@ -25,7 +25,7 @@ returns-clause-form c =
     (fits_first bare ((c.new-lowest.result, c.args.left) ∷ []) ((c.args.separator.now, c.args.right) ∷ []) fits) in
     let second = c.add-2.ensures.draft (with_more bare ((c.new-lowest.result, c.args.left) ∷ [])) first fits in
     c.into_page.ensures ∙ second.form ∙ ap (λ (k : List ℕ). form_of 512
-        (rooted c.args.level c.args.left c.args.separator.now c.args.right k)) empty
+    (rooted c.args.level c.args.left c.args.separator.now c.args.right k)) empty
 
 pub returns-clause-root : goal.returns-clause-root
 returns-clause-root c = subst (λ (w : List ℕ). IsNewRoot bytes w c.args.level c.args.left (rank c.args.separator.now) c.args.right)

@@ -15,7 +15,7 @@ loop-i-preserved c =
       few = omega (arith, few, c.pair_size-whole.ensures.few);
       sizes = λ all. ap (λ (s : ℕ). s + c.pair_size-whole.result) (c.loop-i.invariant.sizes all)
           ∙ sizes_more pair_size (pairs_of bytes c.args.page.now) c.loop-i.i _ c.pair_size-whole.result
-              (omega (arith, inside, all, length-pairs c.args.page.now))
+          (omega (arith, inside, all, length-pairs c.args.page.now))
           (pair_key c.args.page.now _ c.loop-i.i (omega (arith, inside, all)) (c.pair_of.ensures (omega (arith, inside, all))).0)
-              c.pair_size-whole.ensures.rank;
+          c.pair_size-whole.ensures.rank;
     }

@@ -25,7 +25,7 @@ returns-clause-form c = λ clean full low high rises. (
 pub returns-clause-halves : goal.returns-clause-halves
 returns-clause-halves c = λ clean full low high rises. let forms = returns-clause-form c clean full low high rises in
     split_is c.args.page.now clean full c.first_from-separator.result (returns-clause-separator c clean full) low high rises _ _ forms.0
-        forms.1
+    forms.1
 
 pub returns-clause-leaves : goal.returns-clause-leaves
 returns-clause-leaves c = λ leaf full. split_leaves c.args.page.now _ _ (rank c.first_from-separator.result) full

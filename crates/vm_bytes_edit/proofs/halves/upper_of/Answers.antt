@@ -21,13 +21,13 @@ returns c = λ all inside clean fits.
       | in_default w ↦ subst (λ (d : Draft). IsDraft d.page d.count d.end
           (record (node_in c.args.page.now) { low = c.args.separator.now; entries = [] })) (sym w.draft-is)
           (upper_begun c.args.page.now _ _ _ _ _ c.get.ensures.word c.get-2.ensures.word _ _ (sym w.in_default.is
-              ∙ high_read) c.new-draft.ensures.draft)
+          ∙ high_read) c.new-draft.ensures.draft)
     ] in
     let last : entries_between c.args.kept c.args.count (node_in c.args.page.now).entries
-        ≡ drop c.args.kept (node_in c.args.page.now).entries = last_entries _ _ _ all in
+    ≡ drop c.args.kept (node_in c.args.page.now).entries = last_entries _ _ _ all in
     c.into_page.ensures ∙ (c.copy.ensures.draft _ begun (omega (arith, all)) inside
     (subst (λ (l : List KeyEntry). IsFitting 512 (with_more (record (node_in c.args.page.now) { low = c.args.separator.now; entries = [] })
-        l))
-        (sym last) fits)).form
+    l))
+    (sym last) fits)).form
     ∙ ap (λ (l : List KeyEntry). form_of 512 (with_more (record (node_in c.args.page.now) { low = c.args.separator.now; entries = [] }) l))
-        last
+    last

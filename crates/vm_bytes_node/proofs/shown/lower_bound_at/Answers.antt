@@ -1,5 +1,5 @@
 -- The pair before the place has the key, or as many are lower.
-use Rattle.std.proofs.Common.{◌≡◌, ◌≢◌, ◌⊎◌, inl, inr, ℕ, suc, ◌+◌, ◌-◌, sym, ◌∙◌, arith}
+use Rattle.std.proofs.Common.{◌≡◌, ◌≢◌, ◌⊎◌, inl, inr, suc, ◌+◌, ◌-◌, sym, ◌∙◌, arith}
 use Rattle.vm_tree_model.specs.Page.{pairs_of}
 use Rattle.vm_node.proofs.Bounds.{bound_place}
 use Rattle.vm_node.proofs.Telling.{told_so}
@@ -24,7 +24,7 @@ returns-then-same_key-clause-told g c =
 pub returns-else-above-gt0-clause-told : goal.returns-else-above-gt0-clause-told
 returns-else-above-gt0-clause-told g c =
     let other : (c.upper_bound_at-above.result.at ≡ 0) ⊎ (rank c.upper_bound_at-above.result.low ≢ rank c.args.key.now) = elim
-        c.else-above-gt0.branch [
+    c.else-above-gt0.branch [
       | else-above-gt0-via-then-above-gt0+else-same_key w ↦ inr (w.same_key.ensures.rank.1 w.if-same_key.false)
       | else-above-gt0-via-else-above-gt0 w ↦ inl (let none = w.if-above-gt0.false in omega (arith, none))
     ] in

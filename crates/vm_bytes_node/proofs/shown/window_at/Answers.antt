@@ -1,5 +1,5 @@
 -- A window ends before an entry for which there is no room; each other one from the start on is taken.
-use Rattle.std.proofs.Common.{◌≡◌, ℕ, ◌+◌, ◌*◌, ◌<◌, ◌≤◌, List, [], ◌∷◌, ◌++◌, length, get_or, min, ap, subst, sym, ◌∙◌, arith}
+use Rattle.std.proofs.Common.{◌≡◌, ℕ, ◌+◌, ◌*◌, ◌<◌, List, [], ◌∷◌, ◌++◌, length, get_or, min, ap, ◌∙◌, arith}
 use Rattle.std.proofs.Common.{length-append}
 use Rattle.vm_node.specs.Loads.{Tells}
 use Rattle.vm_node.proofs.Telling.{Joins, told_then, told_so}
@@ -14,7 +14,7 @@ loop-i-init g c = rw c.new-pairs.ensures (record {
   few = omega arith;
   told = told_so (omega arith) (told_then g.met.P.Place.join c.count_at-count.ensures.told c.lower_bound_at-first.ensures.told)
       (λ words size read. showing_begins c.args.start.now c.count_at-count.result words c.lower_bound_at-first.result
-          c.in_range.ensures.string
+      c.in_range.ensures.string
       read.0 (read.1 read.0));
 })
 
@@ -47,7 +47,7 @@ returns-then-len-room-clause-told g c =
     let long : length c.loop-i.pairs ≡ min c.args.most 28 = omega (arith, few, c.min-room.ensures, c.len.ensures.value, full) in
     told_so (omega (arith, long)) (told_then g.met.P.Place.join c.loop-i.invariant.told c.key_at-key.ensures.told)
     (λ words size read. showing_stops c.args.start.now c.count_at-count.result words c.loop-i.i c.loop-i.pairs read.0 c.key_at-key.result
-        c.loop-i-test.true
+    c.loop-i-test.true
     read.1 (min c.args.most 28) long)
 
 pub returns-clause-told : goal.returns-clause-told
@@ -55,5 +55,5 @@ returns-clause-told g c =
     let few = c.loop-i.invariant.few in
     told_so (omega (arith, few)) (told_then g.met.P.Place.join c.loop-i.invariant.told c.high_at-bound.ensures.told)
     (λ words size read. showing_ends c.args.start.now c.count_at-count.result words c.loop-i.i c.loop-i.pairs read.0
-        (min c.args.most 28) c.high_at-bound.result
+    (min c.args.most 28) c.high_at-bound.result
     c.loop-i-test.false few read.1)

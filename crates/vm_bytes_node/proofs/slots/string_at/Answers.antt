@@ -27,7 +27,7 @@ loop-i-preserved g c =
       fits = rw c.append_word.ensures (omega (arith, length-take c.min-long.result (c.loop-i.key ++ to_be_bytes w64 c.word-word.result)));
       told = told_so {B = λ words. c.append_word.new.key ≡ take c.min-long.result
           (bytes_of_words (take (c.loop-i.i + 1 - c.min-from.result) (drop c.min-from.result words)))} (omega (arith, begun))
-              (told_then g.met.P.Place.join c.loop-i.invariant.told (told_word c.word-word.ensures.loads))
+          (told_then g.met.P.Place.join c.loop-i.invariant.told (told_word c.word-word.ensures.loads))
           (λ words size read. shows_more words size c.min-from.result c.min-long.result (c.loop-i.i - c.min-from.result) c.loop-i.i
           (c.loop-i.i + 1 - c.min-from.result) c.word-word.result c.loop-i.key _ (omega (arith, begun)) (omega (arith, begun))
           (omega (arith, inside, c.min-upto.ensures)) read.1 read.0 c.append_word.ensures);

@@ -18,8 +18,8 @@ returns-clause-draft c = λ n draft fits.
     let counted : c.set-3.new.self ≡ set c.set-2.new.self 1 (c.args.self.now.count + 1) =
     c.set-3.ensures.words ∙ ap (λ (k : ℕ). set c.set-2.new.self 1 (k + 1)) e.count in
     subst (λ (k : ℕ). IsDraft c.set-3.new.self (k + 1) c.put_block-slot.new.self.end (with_more n ((c.args.key.now, c.args.value) ∷ [])))
-        (sym e.count)
+    (sym e.count)
     (adds_pair n c.args.key.now c.args.value c.args.self.now.page c.set.new.self c.put_block-slot.new.self.page c.set-2.new.self
-        c.set-3.new.self
+    c.set-3.new.self
     c.args.self.now.count c.args.self.now.end c.put_block-slot.new.self.end c.put_block-slot.result draft fits c.set.ensures.words e.end
-        e.slot e.words slotted counted)
+    e.slot e.words slotted counted)

@@ -8,7 +8,7 @@ pub returns-clause-draft : goal.returns-clause-draft
 returns-clause-draft c = λ tag level low draft some.
     let e = c.put_block-slot.ensures in
     subst (λ (n : ℕ). IsDraft c.set.new.self n c.put_block-slot.new.self.end (empty_node tag level low (Some c.args.high.now)))
-        (sym e.count)
+    (sym e.count)
     (closes tag level low c.args.high.now c.args.self.now.page c.put_block-slot.new.self.page c.set.new.self c.args.self.now.count
-        c.args.self.now.end
+    c.args.self.now.end
     c.put_block-slot.new.self.end c.put_block-slot.result draft e.string some e.end e.slot e.words c.set.ensures.words)
