@@ -1,14 +1,15 @@
 -- Where a key stands among entries, a put and a del change the list there.
-use Rattle.std.proofs.Common.{◌≡◌, ◌≢◌, inl, inr, ℕ, zero, suc, ◌+◌, ◌≤◌, List, [], ◌∷◌, ◌++◌, get_or, take, drop, None, true, false, ltb}
+use Rattle.std.proofs.Common.{◌≡◌, ◌≢◌, inl, inr, ℕ, zero, suc, ◌+◌, List, [], ◌∷◌, ◌++◌, get_or, take, drop, None, true, false, ltb}
 use Rattle.std.proofs.Common.{refl, sym, ap, ◌∙◌, arith}
 use Rattle.std.proofs.lemmas.Bool.{cases_eq, cases_lt, eq-eqb, ne_eqb, lt-ltb}
 use Rattle.std.proofs.lemmas.Bool.Decides.{nat_tests}
-use Rattle.vm_map.specs.Map.{lookup_at, Pairs, Rises}
+use Rattle.vm_map.specs.Map.{lookup_at, Rises}
 use Rattle.vm_node.specs.Places.{place_of}
 use Rattle.vm_bytes_form.specs.Forms.{AreKeys, KeyEntry}
 use Rattle.vm_bytes_form.specs.KeyMap.{del_key, put_key, ranks_of}
 use Rattle.vm_bytes_form.specs.Strings.{IsString, rank}
 use Rattle.vm_bytes_form.proofs.KeyMaps.{before_test, same_test}
+use Rattle.vm_bytes_node.proofs.WindowSteps.{none_lower}
 
 module _ (s : List ℕ) (v : ℕ) (is : IsString 64 s) where
   -- no entry has the key
@@ -33,12 +34,6 @@ module _ (s : List ℕ) (v : ℕ) (is : IsString 64 s) where
               (ap (λ (l : List KeyEntry). e ∷ l) (put_new es (place_of (ranks_of es) (rank s + 1)) keys.1 none' refl))
         ]
   ]
-
--- no key of rising pairs is below the first
-none_lower : (m : Pairs) (low high k : ℕ) → Rises low high m → k ≤ low → place_of m k ≡ 0
-none_lower [] low high k rises le = refl
-none_lower (e ∷ es) low high k rises le = let first = rises.0 in let stops : ltb e.0 k ≡ false = grind (arith, nat_tests, first, le) in
-    rw stops refl
 
 module _ (s : List ℕ) (v : ℕ) (is : IsString 64 s) where
   -- an entry has the key: it stands before the place where the keys begin to be above

@@ -3,7 +3,7 @@ use Rattle.std.proofs.Common.{◌≡◌, inl, inr, ℕ, zero, suc, ◌+◌, ◌<
 use Rattle.std.proofs.Common.{Bool, true, false, eqb, ltb, leb, if◌then◌else◌, refl, sym, ap, subst, ◌∙◌, arith}
 use Rattle.std.proofs.lemmas.Bool.{cases_eq, cases_lt, and_parts, and_from, le-leb, lt-ltb, ne_eqb, eq-eqb}
 use Rattle.std.proofs.lemmas.Bool.Decides.{nat_tests}
-use Rattle.std.proofs.lemmas.List.{length-map}
+use Rattle.std.proofs.lemmas.List.{drop-map, length-map, take-map}
 use Rattle.vm_map.specs.Map.{Pairs, Rises, lookup_at, put_pair, del_pair}
 use Rattle.vm_map.proofs.MapLemmas.{lookup-below}
 use Rattle.vm_tree_model.specs.Layout.{IsClean, IsFullNode, PaysForSplit, left_part, right_part, pairs_size, size}
@@ -123,16 +123,6 @@ size-del each (e ∷ es) k = go (size-del each es k) (eqb k e.0)
     go rest true = omega arith
     go rest false = omega (arith, rest)
 
-ranks-take : (n : ℕ) (es : List KeyEntry) → ranks_of (take n es) ≡ take n (ranks_of es)
-ranks-take zero es = refl
-ranks-take (suc n) [] = refl
-ranks-take (suc n) (e ∷ es) = ap (λ (l : Pairs). ranked_entry e ∷ l) (ranks-take n es)
-
-ranks-drop : (n : ℕ) (es : List KeyEntry) → ranks_of (drop n es) ≡ drop n (ranks_of es)
-ranks-drop zero es = refl
-ranks-drop (suc n) [] = refl
-ranks-drop (suc n) (e ∷ es) = ranks-drop n es
-
 pub ranks-at : (i : ℕ) (es : List KeyEntry) → i < length es → (get_or (ranks_of es) i (0, 0)).0 ≡ rank (get_or es i ([], 0)).0
 ranks-at i [] lt = absurd (omega (arith, lt))
 ranks-at zero (e ∷ es) lt = refl
@@ -221,10 +211,12 @@ module _ (old : List ℕ) (clean : IsClean bytes old) where
     separator_is = subst (IsString 64) separates (key_of (kept_at_split n.entries) n.entries inside is.keys)
 
     lower-ranked : ranked (lower_half n s) ≡ left_part bytes (ranked n) (rank s)
-    lower-ranked = let e = ranks-take (kept_at_split n.entries) n.entries in λ i. record (ranked n) { high = rank s; pairs = e i }
+    lower-ranked = let e = sym (take-map ranked_entry (kept_at_split n.entries) n.entries) in
+        λ i. record (ranked n) { high = rank s; pairs = e i }
 
     upper-ranked : ranked (upper_half n s) ≡ right_part bytes (ranked n) (rank s)
-    upper-ranked = let e = ranks-drop (kept_at_split n.entries) n.entries in λ i. record (ranked n) { low = rank s; pairs = e i }
+    upper-ranked = let e = sym (drop-map ranked_entry (kept_at_split n.entries) n.entries) in
+        λ i. record (ranked n) { low = rank s; pairs = e i }
 
     high_is : (t : List ℕ) → Some s ≡ Some t → IsString 64 t × (1 ≤ length t)
     high_is t e = let same : s ≡ t = cc in rw (← same) (separator_is, some)

@@ -17,7 +17,7 @@ use Rattle.vm_bytes_form.proofs.KeyMaps.{before_test}
 use Rattle.vm_bytes_node.specs.KeyWindows.{entries_from, IsKeyWindow, key_after}
 
 -- no key of rising pairs is below the first
-none_lower : (m : Pairs) (low high k : ℕ) → Rises low high m → k ≤ low → place_of m k ≡ 0
+pub none_lower : (m : Pairs) (low high k : ℕ) → Rises low high m → k ≤ low → place_of m k ≡ 0
 none_lower [] low high k rises le = refl
 none_lower (e ∷ es) low high k rises le =
     let first = rises.0 in

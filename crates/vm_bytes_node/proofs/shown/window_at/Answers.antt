@@ -45,7 +45,8 @@ returns-then-len-room-clause-told g c =
     let few = c.loop-i.invariant.few in
     let full = c.if-len-room.true in
     let long : length c.loop-i.pairs ≡ min c.args.most 28 = omega (arith, few, c.min-room.ensures, c.len.ensures.value, full) in
-    told_so (omega (arith, long)) (told_then g.met.P.Place.join c.loop-i.invariant.told c.key_at-key.ensures.told)
+    told_so (omega (arith, long)) (told_then {A = IsShowing c.args.start.now c.count_at-count.result c.loop-i.i c.loop-i.pairs}
+    g.met.P.Place.join c.loop-i.invariant.told c.key_at-key.ensures.told)
     (λ words size read. showing_stops c.args.start.now c.count_at-count.result words c.loop-i.i c.loop-i.pairs read.0 c.key_at-key.result
     c.loop-i-test.true
     read.1 (min c.args.most 28) long)
@@ -53,7 +54,8 @@ returns-then-len-room-clause-told g c =
 pub returns-clause-told : goal.returns-clause-told
 returns-clause-told g c =
     let few = c.loop-i.invariant.few in
-    told_so (omega (arith, few)) (told_then g.met.P.Place.join c.loop-i.invariant.told c.high_at-bound.ensures.told)
+    told_so (omega (arith, few)) (told_then {A = IsShowing c.args.start.now c.count_at-count.result c.loop-i.i c.loop-i.pairs}
+    g.met.P.Place.join c.loop-i.invariant.told c.high_at-bound.ensures.told)
     (λ words size read. showing_ends c.args.start.now c.count_at-count.result words c.loop-i.i c.loop-i.pairs read.0
     (min c.args.most 28) c.high_at-bound.result
     c.loop-i-test.false few read.1)
