@@ -1,10 +1,10 @@
 //! The two ends of a place: the value goes in at one, in one thread, and comes out at the other, in another.
 
-ghost use Rattle.std.specs.Prelude.{[], ◌∷◌, ◌≡◌, IfErr, IfOk, None};
+ghost use Rattle.std.specs.Prelude.{◌≡◌, IfErr, IfOk};
 ghost use Rattle.std.specs.Arc.{arc_value};
-ghost use Rattle.vm_handover.specs.Places.{knowing};
+ghost use Rattle.vm_handover.specs.Places.{opened};
 
-use crate::place::{EMPTY, GIVEN, Handed, Knows, Lays, Lifts, Opens, Parts, PlaceTable, TAKEN};
+use crate::place::{EMPTY, GIVEN, Handed, Knows, Lays, Lifts, Opens, PlaceTable};
 use atomic_table::{Seat, Table};
 use std::alloc::{AllocError, Global};
 use std::snapshot::Snapshot;
@@ -17,22 +17,19 @@ pub struct Giver<T: Handed> {
     seat: Seat<Option<T>, Knows<T::About>>,
     /// The datum, for clauses. It has no bytes.
     pub about: Snapshot<T::About>,
-    ghost sized: { ((arc_value place).shared.table_id.words ≡ 1) × ((arc_value place).shared.table_id.slots ≡ 1) },
-    ghost seated: { (seat.table_id ≡ (arc_value place).shared.table_id) × (seat.id ≡ 0) },
-    ghost knows: { seat.me ≡ (knowing about.value, (0, None) ∷ []) },
     ghost told: { about.value ≡ (arc_value place).shared.key },
+    ghost sized: { ((arc_value place).shared.table_id.words ≡ 1) × ((arc_value place).shared.table_id.slots ≡ 1) },
+    ghost seated: { (seat.table_id ≡ (arc_value place).shared.table_id) × (seat.id ≡ 0) × opened seat.me },
 }
 
 /// The end at which the value comes out.
 #[derive(Drop)]
 pub struct Taker<T: Handed> {
     place: Arc<PlaceTable<T>, Global>,
-    seat: Seat<Option<T>, Knows<T::About>>,
     /// The datum, for clauses. It has no bytes.
     pub about: Snapshot<T::About>,
-    ghost sized: { ((arc_value place).shared.table_id.words ≡ 1) × ((arc_value place).shared.table_id.slots ≡ 1) },
-    ghost seated: { seat.table_id ≡ (arc_value place).shared.table_id },
-    ghost knows: { seat.me ≡ (knowing about.value, []) },
+    ghost told: { about.value ≡ (arc_value place).shared.key },
+    ghost sized: { (arc_value place).shared.table_id.words ≡ 1 },
 }
 
 /// A place for one value, by its two ends.
@@ -43,27 +40,23 @@ pub fn handover<T: Handed + Drop>(
     ensures giver { IfOk result (λ ends. ends.0.about.value ≡ about.now) }
     ensures taker { IfOk result (λ ends. ends.1.about.value ≡ about.now) }
 {
-    let (table, mut giver) = Table::vacant(alloc, &[EMPTY], 1, about)?;
-    table.shared.load::<Opens>(&mut giver, 0);
-    let taker = table.shared.split_seat::<Parts>(&mut giver);
+    let (table, mut seat) = Table::vacant(alloc, &[EMPTY], 1, about)?;
+    table.shared.load::<Opens>(&mut seat, 0);
     let place = Arc::new(alloc, table)?;
-    let other = Arc::try_clone(&place)?;
-    Ok((
-        Giver {
-            place,
-            seat: giver,
-            about: Snapshot::of(about),
-        },
-        Taker {
-            place: other,
-            seat: taker,
-            about: Snapshot::of(about),
-        },
-    ))
+    let taker = Taker {
+        place: Arc::try_clone(&place)?,
+        about: Snapshot::of(about),
+    };
+    let giver = Giver {
+        place,
+        seat,
+        about: Snapshot::of(about),
+    };
+    Ok((giver, taker))
 }
 
 impl<T: Handed + Drop> Giver<T> {
-    /// Lays the value. It never fails.
+    /// Gives the value. It never fails.
     pub fn give(self, value: T)
         requires { T.keeps self.about.value value }
     {
@@ -84,18 +77,12 @@ impl<T: Handed + Drop> Taker<T> {
         ensures taken { IfOk result (T.keeps self.about.value) }
         ensures none { IfErr result (λ back. back ≡ self) }
     {
-        let Taker {
-            place,
-            mut seat,
-            about,
-        } = self;
-        let found = place
-            .shared
-            .compare_exchange::<Lifts<T>>(&mut seat, 0, GIVEN, TAKEN);
+        let shared = &self.place.shared;
+        let (found, mut seat) = shared.swap_new_seat::<Lifts<T>>(0, EMPTY);
         if found != GIVEN {
-            return Err(Taker { place, seat, about });
+            return Err(self);
         }
-        let value = place.shared.exchange(&mut seat, 0, None);
+        let value = shared.exchange(&mut seat, 0, None);
         Ok(value.unwrap())
     }
 }

@@ -1,6 +1,6 @@
-//! The place where the value goes in and comes out: a table of one word and one slot. The word says how far the value came, and the slot has it.
+//! The place where the value goes in and comes out: a table of one word and one slot. The word says whether the value is there, and the slot has it.
 
-use atomic_table::{Play, Split, Table, TableRule};
+use atomic_table::{Play, Table, TableRule};
 use std::alloc::Global;
 use std::marker::PhantomData;
 
@@ -11,20 +11,17 @@ pub trait Handed {
     ghost keeps: { Self.About → Self → Type 0 };
 }
 
-/// The word of a place to which nothing was given.
+/// The word of a place that has no value: none was given, or it was taken.
 pub(crate) const EMPTY: u64 = 0;
 
 /// The word of a place that has the value.
 pub(crate) const GIVEN: u64 = 1;
 
-/// The word of a place whose value was taken.
-pub(crate) const TAKEN: u64 = 2;
-
-/// What an end knows of its place. No value of it is made: contracts and proofs alone speak of it.
+/// What a seat at the place knows. No value of it is made: contracts and proofs alone speak of it.
 pub struct Knows<A> {
-    /// The datum.
+    /// The datum: each step of a new seat tells of it, as the first seat knew it.
     pub about: A,
-    /// Whether the place was just made, with its slot at home.
+    /// Whether the place was just made, and nobody has its slot.
     pub fresh: bool,
 }
 
@@ -50,32 +47,23 @@ pub(crate) type PlaceTable<T> = Table<
     Global,
 >;
 
-/// The end that gives takes the empty slot.
+/// The first seat takes the slot, which is empty.
 pub(crate) struct Opens;
 
 impl<T, A> Play<Option<T>, Knows<A>> for Opens {
     ghost use Rattle.vm_handover.specs.Places.{opened};
 
-    ghost then = { opened };
+    ghost then = { λ _ _ _. opened };
 }
 
-/// Both ends know the datum.
-pub(crate) struct Parts;
-
-impl<A> Split<Knows<A>> for Parts {
-    ghost left = { λ v. v };
-
-    ghost right = { λ v. v };
-}
-
-/// The value comes into the place.
+/// The value comes into the place. The step tells nothing.
 pub(crate) struct Lays;
 
 impl<T, A> Play<Option<T>, Knows<A>> for Lays {
     ghost then = { λ _ _ _ _. Unit {0} };
 }
 
-/// The value goes out of the place, where it was given.
+/// A new seat takes the slot with the value, where it was given.
 pub(crate) struct Lifts<T> {
     marker: PhantomData<T>,
 }
@@ -83,5 +71,5 @@ pub(crate) struct Lifts<T> {
 impl<T: Handed> Play<Option<T>, Knows<T::About>> for Lifts<T> {
     ghost use Rattle.vm_handover.specs.Places.{lifted};
 
-    ghost then = { lifted T.keeps };
+    ghost then = { λ _. lifted T.keeps };
 }
