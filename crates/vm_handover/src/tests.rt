@@ -3,13 +3,25 @@
 ghost use Rattle.std.specs.Prelude.{◌≡◌};
 
 use crate::{Handed, handover};
+use std::cell::Cell;
+use std::marker::PhantomData;
 use std::test::Fail;
 use std::thread;
 
-/// A number, of which the datum says what it is.
+/// A number, of which the datum says what it is. It goes to other threads, and is not shared with them.
 #[derive(Drop)]
 struct Number {
     value: u64,
+    marker: PhantomData<Cell<u64>>,
+}
+
+fn number_of(value: u64) -> Number
+    ensures { result.value ≡ value }
+{
+    Number {
+        value,
+        marker: PhantomData,
+    }
 }
 
 impl Handed for Number {
@@ -25,7 +37,7 @@ fn a_value_comes_out_once_it_was_given(rt: HostRuntime) -> Result<(), Fail> {
     let Err(taker) = taker.take() else {
         return Err(Fail::from("taken before it was given"));
     };
-    giver.give(Number { value: 7 });
+    giver.give(number_of(7));
     let Ok(number) = taker.take() else {
         return Err(Fail::from("not taken"));
     };
@@ -37,11 +49,7 @@ fn a_value_comes_out_once_it_was_given(rt: HostRuntime) -> Result<(), Fail> {
 #[test]
 fn a_value_is_given_in_another_thread(rt: HostRuntime) -> Result<(), Fail> {
     let (giver, taker) = handover::<Number>(rt.alloc(), &7)?;
-    let ((), early) = thread::join(
-        &rt,
-        move || giver.give(Number { value: 7 }),
-        move || taker.take(),
-    );
+    let ((), early) = thread::join(&rt, move || giver.give(number_of(7)), move || taker.take());
     let late = match early {
         Ok(number) => Ok(number),
         Err(taker) => taker.take(),
@@ -59,8 +67,8 @@ fn two_places_do_not_mix(rt: HostRuntime) -> Result<(), Fail> {
     let (first_in, first_out) = handover::<Number>(rt.alloc(), &7)?;
     let (second_in, second_out) = handover::<Number>(rt.alloc(), &8)?;
     let (third_in, third_out) = handover::<Number>(rt.alloc(), &9)?;
-    second_in.give(Number { value: 8 });
-    first_in.give(Number { value: 7 });
+    second_in.give(number_of(8));
+    first_in.give(number_of(7));
     drop(third_in);
     let (Ok(first), Ok(second)) = (first_out.take(), second_out.take()) else {
         return Err(Fail::from("not taken"));
