@@ -24,8 +24,8 @@ module _ {A : Type 0} where
   not-fresh w v old e f = true≢false (sym f ∙ ap (λ (u : Knows A). u.fresh) (sym e) ∙ old)
 
   -- a seat that knows the place as just made is not the one that stepped
-  still-fresh : (views : List (Knows A)) (id : ℕ) (w : Knows A) → w.fresh ≡ false → (i : ℕ) (v : Knows A) → get_elem? (slice_set views id w) i ≡ some v
-      → v.fresh ≡ true → (i ≢ id) × (get_elem? views i ≡ some v)
+  still-fresh : (views : List (Knows A)) (id : ℕ) (w : Knows A) → w.fresh ≡ false → (i : ℕ) (v : Knows A)
+      → get_elem? (slice_set views id w) i ≡ some v → v.fresh ≡ true → (i ≢ id) × (get_elem? views i ≡ some v)
   still-fresh views id w old i v e f = ⊎_elim (λ here. absurd (not-fresh w v old here.1 f)) (λ there. there) (at_set views id i w v e)
 
   -- nor is it the new one
@@ -43,7 +43,8 @@ module _ {T A : Type 0} (kept : A → T → Type 0) (about : A) where
         record {
           one = length-set s.words 0 n ∙ h.one;
           given = λ e. let value = h.given (sym (word-is s.words n h.one) ∙ e) in absurd (not-both value.0 _ first.1 value.1);
-          fresh = λ i v e f. let there = still-fresh s.views id w refl i v e f in absurd (there.0 ((h.fresh i v there.1 f).0 ∙ sym first.0));
+          fresh = λ i v e f. let there = still-fresh s.views id w refl i v e f in
+              absurd (there.0 ((h.fresh i v there.1 f).0 ∙ sym first.0));
         },
         (refl, refl),
       )
@@ -51,7 +52,8 @@ module _ {T A : Type 0} (kept : A → T → Type 0) (about : A) where
   -- the first seat takes the slot, which is empty
   pub opens : (slots id : ℕ) (b : A) (me : Me (Option T) (Knows A)) → me ≡ (made b, [])
       → Allows (IsInOrder kept about) slots id me 0 (λ n. n) (λ _. opened)
-  opens slots id b me at = subst (λ (m : Me (Option T) (Knows A)). Allows (IsInOrder kept about) slots id m 0 (λ n. n) (λ _. opened)) (sym at)
+  opens slots id b me at =
+      subst (λ (m : Me (Option T) (Knows A)). Allows (IsInOrder kept about) slots id m 0 (λ n. n) (λ _. opened)) (sym at)
       (opens-so slots id b)
 
   lays-so : (w : Knows A) (value : T) (more : List (ℕ × Option T)) → w.fresh ≡ false → kept about value
