@@ -1,9 +1,9 @@
 -- Which parts a store's pass misses, as hands are given and come back.
-use Rattle.std.proofs.Common.{[], ⊎_elim, ◌++◌, ◌+◌, ◌-◌, ◌<◌, ◌==◌, ◌∙◌, ◌∷◌, ◌≡◌, ◌≤◌, ◌⊎◌, ap, arith, false}
+use Rattle.std.proofs.Common.{[], ⊎_elim, ◌++◌, ◌+◌, ◌-◌, ◌==◌, ◌∙◌, ◌∷◌, ◌≡◌, ◌≤◌, ◌⊎◌, ap, arith, false}
 use Rattle.std.proofs.Common.{if◌then◌else◌, inl, inr, length, List, refl, subst, sym, true, true≢false, ℕ}
 use Rattle.std.proofs.lemmas.Bool.{cases_eq, eq-eqb, ne_eqb}
 use Rattle.std.proofs.lemmas.List.{nil_from_length}
-use Rattle.vm_rule.specs.Prelude.{AreApart, has, IsWhole, owns, PARTS, times}
+use Rattle.vm_rule.specs.Prelude.{AreApart, has, IsWhole, owns, times}
 use Rattle.vm_rule.proofs.Heard.{times-joined}
 use Rattle.vm_step.specs.Prelude.{View}
 use Rattle.vm_serve.specs.from_vm_pool.Parting.{Splits}

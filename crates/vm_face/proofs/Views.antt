@@ -1,16 +1,14 @@
 -- The views of a store's pass and of a hand's, as hands are given and come back.
-use Rattle.std.proofs.Common.{[], ⊎_elim, ◌++◌, ◌+◌, ◌-◌, ◌<◌, ◌==◌, ◌||◌, ◌∙◌, ◌∷◌, ◌≡◌, ◌≤◌, ap, append-nil, arith, Bool, length, List}
+use Rattle.std.proofs.Common.{[], ⊎_elim, ◌++◌, ◌+◌, ◌-◌, ◌<◌, ◌∙◌, ◌∷◌, ◌≡◌, ◌≤◌, ap, append-nil, arith, Bool, length, List}
 use Rattle.std.proofs.Common.{refl, slice_index, subst, sym, true, ℕ}
 use Rattle.std.proofs.lemmas.Bool.{cases_eq, eq-eqb, ne_eqb}
-use Rattle.vm_rule.specs.Prelude.{AreApart, CaughtUp, entries_by, giver, has, HoldsNoPage, HoldsNothing, IsWhole, Kept, other_parts, owns}
+use Rattle.vm_rule.specs.Prelude.{AreApart, CaughtUp, has, Kept, owns}
 use Rattle.vm_rule.specs.Prelude.{PARTS, Start, times}
 use Rattle.vm_step.specs.Prelude.{HasStill, View}
-use Rattle.vm_step.proofs.Together.{holds-none as nothing-holds, new-nothing}
 use Rattle.vm_serve.specs.from_vm_pool.Parting.{Joins, Splits}
 use Rattle.vm_serve.specs.from_vm_calls.Calls.{KeepsPass}
-use Rattle.vm_serve.proofs.from_vm_calls.Lists.{starts-then}
 use Rattle.vm_serve.proofs.from_vm_drive.Hiring.{holds-none, split-keeps}
-use Rattle.vm_face.specs.{Given.IsBackIn, Given.IsHandGiven, Passes.hand_number, Passes.IsHandView, Passes.IsStoreView}
+use Rattle.vm_face.specs.Passes.{hand_number, IsHandView, IsStoreView}
 use Rattle.vm_face.proofs.Parts.{misses-less, misses-more, times-none}
 
 here-among : (n : ℕ) (ns : List ℕ) → has n (n ∷ ns) ≡ true
@@ -22,9 +20,6 @@ later-among k n ns t = ⊎_elim (λ e. rw (eq-eqb k n e) refl) (λ ne. rw (ne_eq
 module _ {X : Type 0} where
   caught-current : (v x : View X) → CaughtUp v x → x.current ≡ true
   caught-current v x c = ap (λ (y : View X). y.current) c.brings.view
-
-  number-is : (v u w : View X) (s : Splits v u w) → hand_number u ≡ s.number
-  number-is v u w s = ap (λ (y : View X). slice_index y.used 0) s.new
 
   -- the part that is given is one of the table's
   number-inside : (out ever : ℕ) (v u w : View X) → IsStoreView out ever v → (s : Splits v u w) → s.number < PARTS
@@ -47,27 +42,6 @@ module _ {X : Type 0} where
             absurd (omega (arith, one, used, fresh));
       }
 
-  pub hand-given : (out ever : ℕ) (v u w : View X) → IsStoreView out ever v → Splits v u w → IsHandView u
-  hand-given out ever v u w store s =
-      let nothing : HoldsNothing u = new-nothing v.start (s.number ∷ []) w.releases w.seen u s.new in
-      let one : hand_number u ≡ s.number = number-is v u w s in record {
-        holds = nothing-holds u nothing;
-        parts = (ap (λ (y : View X). y.used) s.new ∙ ap (λ n. n ∷ []) (sym one), ap (λ (y : View X). y.fresh) s.new);
-        inside = subst (λ n. n < PARTS) (sym one) (number-inside out ever v u w store s);
-      }
-
-  pub is-given : (v u w : View X) → Splits v u w → IsHandGiven v u w
-  is-given v u w s =
-      let still : HasStill v w = split-keeps v u w s in record {
-        heard = s.kept.seen;
-        knows = ap (λ (y : View X). y.seen) s.new;
-        start = (s.kept.start, ap (λ (y : View X). y.start) s.new);
-        mine = (still.mine, ap (λ (y : View X). y.mine) s.new);
-        unused = ap (λ n. entries_by (n ∷ []) w.seen) (number-is v u w s) ∙ s.unused;
-        used = still.used;
-        notes = ap (λ (y : View X). y.notes) s.new;
-      }
-
   pub store-takes : (tells : Bool) (keeps : Start → Kept X → Type 0) (out ever : ℕ) (v u w : View X) → IsStoreView out ever v
       → IsHandView u → Joins tells keeps v u w → AreApart (w.used ++ w.fresh) → IsStoreView (out - 1) ever w
   store-takes tells keeps out ever v u w store hand j apart =
@@ -79,16 +53,6 @@ module _ {X : Type 0} where
         inside = λ k t. store.inside k (subst (λ (l : List ℕ). has k l ≡ true) same t);
         all = j.knows.all;
       }
-
-  pub is-back : (tells : Bool) (keeps : Start → Kept X → Type 0) (v u w : View X) → IsHandView u → Joins tells keeps v u w → IsBackIn v u w
-  is-back tells keeps v u w hand j = record {
-    heard = (j.kept.seen, j.heard);
-    start = j.kept.start;
-    used = j.used ∙ ap (λ (l : List ℕ). v.used ++ l) hand.parts.0;
-    mine = j.mine;
-    ours = j.ours;
-    theirs = ap (λ (l : List ℕ). entries_by l w.seen) (sym hand.parts.0) ∙ j.theirs;
-  }
 
   -- what keeps a pass keeps it a hand's
   pub hand-after : (t u : View X) → KeepsPass t u → IsHandView t → IsHandView u
@@ -102,16 +66,4 @@ module _ {X : Type 0} where
         };
         parts = (k.parts.0 ∙ h.parts.0 ∙ ap (λ n. n ∷ []) (sym same), k.parts.1 ∙ h.parts.1);
         inside = subst (λ n. n < PARTS) (sym same) h.inside;
-      }
-
-  -- a hand that went back after it had given its frames back
-  pub back-before : (v t u w : View X) → KeepsPass t u → u.mine ≡ t.mine → IsBackIn v u w → IsBackIn v t w
-  back-before v t u w k mine b =
-      let same : hand_number u ≡ hand_number t = ap (λ (l : List ℕ). slice_index l 0) k.parts.0 in record {
-        heard = (b.heard.0, starts-then w.seen u.seen t.seen b.heard.1 k.seen);
-        start = b.start;
-        used = b.used ∙ ap (λ n. v.used ++ n ∷ []) same;
-        mine = b.mine;
-        ours = b.ours;
-        theirs = ap (λ n. entries_by (n ∷ []) w.seen) (sym same) ∙ b.theirs ∙ mine;
       }

@@ -1,4 +1,4 @@
-use Rattle.std.proofs.Common.{◌≡◌, rules, subst, sym}
+use Rattle.std.proofs.Common.{rules, subst, sym}
 use Rattle.vm_step.specs.Prelude.{view}
 use Rattle.vm_serve.proofs.from_vm_calls.Doing.{moves-keep}
 use Rattle.vm_face.specs.Passes.{IsStoreView}
