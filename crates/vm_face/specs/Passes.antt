@@ -1,5 +1,6 @@
 -- The passes of a store and of its hands, over the words of one pool.
-use Rattle.std.specs.Prelude.{[], ◌+◌, ◌<◌, ◌∷◌, ◌≡◌, ◌≤◌, ◌⊎◌, Bool, length, List, slice_index, true, ℕ}
+use Rattle.std.specs.Prelude.{[], ◌&&◌, ◌*◌, ◌+◌, ◌<◌, ◌∷◌, ◌≡◌, ◌≤◌, ◌⊎◌, All, Bool, length, List, nat_le, nat_lt, slice_index, true, ℕ}
+use Rattle.atomic_table.specs.declared.badge.Badge.{Badge}
 use Rattle.vm_rule.specs.{declared.words.Pass.Pass, declared.words.Words.Words}
 use Rattle.vm_rule.specs.Prelude.{has, HoldsNoPage, IsWhole, owns, PARTS}
 use Rattle.vm_step.specs.Prelude.{AreHeld, IsReadyOn, View, view}
@@ -45,3 +46,12 @@ module _ {U B X : Type 0} {o : _} where
     pub ready : IsReadyOn w tells p
     pub pages : 2 ≤ w.table.shared.key.pages
     pub store : IsStoreView out ever (view p)
+
+  -- a store's pass whose hands that are out come back where it is about a pass of this table
+  pub record IsStore (w : Words U B X o) (tells : Bool) (p : Pass U X o) (homes : List (Badge (View X))) (ever : ℕ) : Type 0 where
+    pub on : IsStoreOn w tells p (length homes) ever
+    pub ways : All (λ k. k.table_id ≡ w.table.shared.table_id) homes
+
+-- a hand more may be out, of these that are out, and that ever were
+abbrev pub has_room : (frames out ever : ℕ) → Bool
+has_room frames out ever = nat_lt out 64 && nat_lt ever 4294967295 && nat_le (8 * (out + 1)) frames

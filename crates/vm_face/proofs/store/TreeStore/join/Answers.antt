@@ -3,7 +3,7 @@ use Rattle.vm_step.specs.Prelude.{view}
 use Rattle.vm_serve.proofs.from_vm_calls.Doing.{moves-keep}
 use Rattle.vm_face.specs.Passes.{IsStoreView}
 use Rattle.vm_face.proofs.Views.{hand-after, store-takes}
-use Rattle.vm_face.proofs.store.TreeStore.take_back.Goals as goal
+use Rattle.vm_face.proofs.store.TreeStore.join.Goals as goal
 
 pub returns-clause-store : goal.returns-clause-store
 returns-clause-store g c =
