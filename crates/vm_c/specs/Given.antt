@@ -1,6 +1,7 @@
 -- A hand that a store gives, and those that it takes in.
 use Rattle.std.specs.Prelude.{[], ◌++◌, ◌+◌, ◌∷◌, ◌≡◌, ◌⊎◌, Bool, false, length, map, None, Option, Some, true, ℕ}
 use Rattle.std.specs.Arc.{arc_value}
+use Rattle.vm_face.specs.Homes.{made_at, made_with}
 use Rattle.vm_step.specs.Prelude.{view}
 use Rattle.vm_face.specs.{Given.IsHandGiven, Homes.HasTakenIn, Homes.number_at, Passes.has_room}
 use Rattle.vm_c.specs.{declared.opened.OpenHand.OpenHand, declared.opened.OpenStore.OpenStore}
@@ -15,7 +16,7 @@ may_give s = has_room (arc_value s.store.pool).words.table.shared.key.frames (ha
 
 -- the store took in the hands that were back, and is as it was but for what they did
 pub record TookIn (before after : OpenStore) : Type 0 where
-  pub taken : HasTakenIn (map (λ h. number_at h.about.value) before.store.homes.items) (map (λ h. number_at h.about.value) after.store.homes.items)
+  pub taken : HasTakenIn (map (λ h. number_at (made_at h)) before.store.homes.items) (map (λ h. number_at (made_at h)) after.store.homes.items)
       (view before.store.pass) (view after.store.pass)
   pub pool : arc_value after.store.pool ≡ arc_value before.store.pool
   pub ever : after.store.ever ≡ before.store.ever
@@ -23,7 +24,7 @@ pub record TookIn (before after : OpenStore) : Type 0 where
 -- the store gave this hand: one more is out, whose way back is to this store
 pub record IsOneMore (before : OpenStore) (hand : OpenHand) (after : OpenStore) : Type 0 where
   pub given : IsHandGiven (view before.store.pass) (view hand.hand.pass) (view after.store.pass)
-  pub home : map (λ h. h.about.value) after.store.homes.items ≡ map (λ h. h.about.value) before.store.homes.items ++ hand.hand.way.about.value ∷ []
+  pub home : map made_at after.store.homes.items ≡ map made_at before.store.homes.items ++ (made_with hand.hand.way) ∷ []
   pub pool : (arc_value after.store.pool ≡ arc_value before.store.pool) × (arc_value hand.hand.pool ≡ arc_value before.store.pool)
   pub ever : after.store.ever ≡ before.store.ever + 1
 

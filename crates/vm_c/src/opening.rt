@@ -30,7 +30,10 @@ pub fn give(alloc: Global, open: &mut OpenStore) -> Result<Box<OpenHand, Global>
     ensures refused { IfErr result (λ why. GivesHand open.old open.new None (refused_hand why)) }
 {
     open.store.take_in();
-    let hand = open.store.hand(alloc)?;
+    let hand = match open.store.hand(alloc) {
+        Ok(hand) => hand,
+        Err(why) => return Err(why),
+    };
     match Box::new(alloc, OpenHand { hand }) {
         Ok(held) => Ok(held),
         Err(AllocFailed { value }) => {

@@ -1,6 +1,8 @@
 -- Where hands come back, and what a store knows of those that did.
 use Rattle.std.specs.Prelude.{[], ◌+◌, ◌∷◌, ◌≡◌, Bool, length, List, map, slice_index, ℕ}
+use Rattle.core.specs.declared.snapshot.Snapshot.{Snapshot}
 use Rattle.atomic_table.specs.declared.badge.Badge.{Badge}
+use Rattle.vm_handover.specs.{declared.ends.Giver.Giver, declared.ends.Taker.Taker, Ends.giver_about, Ends.taker_about}
 use Rattle.vm_rule.specs.{declared.words.Pass.Pass, declared.words.Words.Words, Prelude.times, Prelude.view_of}
 use Rattle.vm_step.specs.Prelude.{View, view}
 use Rattle.vm_face.specs.{Given.IsBackIn, Passes.hand_number, Passes.IsHandOn}
@@ -13,6 +15,13 @@ module _ {X : Type 0} where
   -- the number of the hand that was given when a pass was known so
   abbrev pub number_at : Badge (View X) → ℕ
   number_at k = next_number (view_of k.views)
+
+  -- what the store's pass was when it made the place, with each of its ends
+  abbrev pub made_at : {T : Type 0} → Taker T (Snapshot (Badge (View X))) → Badge (View X)
+  made_at home = (taker_about home).value
+
+  abbrev pub made_with : {T : Type 0} → Giver T (Snapshot (Badge (View X))) → Badge (View X)
+  made_with way = (giver_about way).value
 
   -- the hands with these views went back, one after another
   abbrev pub AreBackIn : View X → List (View X) → View X → Type 0

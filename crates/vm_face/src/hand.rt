@@ -7,7 +7,7 @@ ghost use Rattle.vm_tree_model.specs.Fixed.{capacity};
 ghost use Rattle.vm_tree_laws.specs.May.{MOST_LEAVES};
 ghost use Rattle.vm_step.specs.Prelude.{view};
 ghost use Rattle.vm_serve.specs.from_vm_calls.Calls.{KeepsPass};
-ghost use Rattle.vm_face.specs.{Calls.IsHandCall, Homes.IsHandOf};
+ghost use Rattle.vm_face.specs.{Calls.IsHandCall, Homes.IsHandOf, Homes.made_with};
 
 use crate::home::Returned;
 use std::alloc::Global;
@@ -39,7 +39,7 @@ pub struct Hand<U: Owner, B: PageBlock<N> + Drop, const N: usize> {
 impl<U: Owner, B: PageBlock<N> + Drop, const N: usize> Hand<U, B, N> {
     /// Ends the hand. The store that gave it takes it in when it looks next (`TreeStore::take_in`).
     pub fn leave(self)
-        requires hand { IsHandOf self.way.about.value (arc_value self.pool).words B.tells self.pass self.iface.frames }
+        requires hand { IsHandOf (made_with self.way) (arc_value self.pool).words B.tells self.pass self.iface.frames }
     {
         let Hand {
             pool,
@@ -54,8 +54,8 @@ impl<U: Owner, B: PageBlock<N> + Drop, const N: usize> Hand<U, B, N> {
 impl<S: OfSize<N>, B: PageBlock<N> + Drop, const N: usize> Hand<TreeOf<WordKeys<S, N>>, B, N> {
     /// The value at the key, in at most so many rounds; none where they were used up.
     pub fn get(&mut self, key: u64, rounds: u32) -> Result<Option<Reply>, TreeFault>
-        requires hand { IsHandOf self.old.way.about.value (arc_value self.old.pool).words B.tells self.old.pass self.old.iface.frames }
-        ensures hand { IsHandOf self.new.way.about.value (arc_value self.new.pool).words B.tells self.new.pass self.new.iface.frames }
+        requires hand { IsHandOf (made_with self.old.way) (arc_value self.old.pool).words B.tells self.old.pass self.old.iface.frames }
+        ensures hand { IsHandOf (made_with self.new.way) (arc_value self.new.pool).words B.tells self.new.pass self.new.iface.frames }
         ensures pool { arc_value self.new.pool ≡ arc_value self.old.pool }
         ensures way { self.new.way ≡ self.old.way }
         ensures keeps { KeepsPass (view self.old.pass) (view self.new.pass) }
@@ -66,8 +66,8 @@ impl<S: OfSize<N>, B: PageBlock<N> + Drop, const N: usize> Hand<TreeOf<WordKeys<
 
     /// Puts a value at the key, in at most so many rounds; none where they were used up.
     pub fn put(&mut self, key: u64, value: u64, rounds: u32) -> Result<Option<Reply>, TreeFault>
-        requires hand { IsHandOf self.old.way.about.value (arc_value self.old.pool).words B.tells self.old.pass self.old.iface.frames }
-        ensures hand { IsHandOf self.new.way.about.value (arc_value self.new.pool).words B.tells self.new.pass self.new.iface.frames }
+        requires hand { IsHandOf (made_with self.old.way) (arc_value self.old.pool).words B.tells self.old.pass self.old.iface.frames }
+        ensures hand { IsHandOf (made_with self.new.way) (arc_value self.new.pool).words B.tells self.new.pass self.new.iface.frames }
         ensures pool { arc_value self.new.pool ≡ arc_value self.old.pool }
         ensures way { self.new.way ≡ self.old.way }
         ensures keeps { KeepsPass (view self.old.pass) (view self.new.pass) }
@@ -85,8 +85,8 @@ impl<S: OfSize<N>, B: PageBlock<N> + Drop, const N: usize> Hand<TreeOf<WordKeys<
 
     /// Takes the pair of the key out, in at most so many rounds; none where they were used up.
     pub fn del(&mut self, key: u64, rounds: u32) -> Result<Option<Reply>, TreeFault>
-        requires hand { IsHandOf self.old.way.about.value (arc_value self.old.pool).words B.tells self.old.pass self.old.iface.frames }
-        ensures hand { IsHandOf self.new.way.about.value (arc_value self.new.pool).words B.tells self.new.pass self.new.iface.frames }
+        requires hand { IsHandOf (made_with self.old.way) (arc_value self.old.pool).words B.tells self.old.pass self.old.iface.frames }
+        ensures hand { IsHandOf (made_with self.new.way) (arc_value self.new.pool).words B.tells self.new.pass self.new.iface.frames }
         ensures pool { arc_value self.new.pool ≡ arc_value self.old.pool }
         ensures way { self.new.way ≡ self.old.way }
         ensures keeps { KeepsPass (view self.old.pass) (view self.new.pass) }
@@ -103,8 +103,8 @@ impl<S: OfSize<N>, B: PageBlock<N> + Drop, const N: usize> Hand<TreeOf<WordKeys<
         value: u64,
         rounds: u32,
     ) -> Result<Option<Reply>, TreeFault>
-        requires hand { IsHandOf self.old.way.about.value (arc_value self.old.pool).words B.tells self.old.pass self.old.iface.frames }
-        ensures hand { IsHandOf self.new.way.about.value (arc_value self.new.pool).words B.tells self.new.pass self.new.iface.frames }
+        requires hand { IsHandOf (made_with self.old.way) (arc_value self.old.pool).words B.tells self.old.pass self.old.iface.frames }
+        ensures hand { IsHandOf (made_with self.new.way) (arc_value self.new.pool).words B.tells self.new.pass self.new.iface.frames }
         ensures pool { arc_value self.new.pool ≡ arc_value self.old.pool }
         ensures way { self.new.way ≡ self.old.way }
         ensures keeps { KeepsPass (view self.old.pass) (view self.new.pass) }
@@ -123,9 +123,9 @@ impl<S: OfSize<N>, B: PageBlock<N> + Drop, const N: usize> Hand<TreeOf<WordKeys<
 
     /// The first pairs from a key on, at most `most` of them, in at most so many rounds; none where they were used up.
     pub fn window(&mut self, start: u64, most: u32, rounds: u32) -> Result<Option<Reply>, TreeFault>
-        requires hand { IsHandOf self.old.way.about.value (arc_value self.old.pool).words B.tells self.old.pass self.old.iface.frames }
+        requires hand { IsHandOf (made_with self.old.way) (arc_value self.old.pool).words B.tells self.old.pass self.old.iface.frames }
         requires most { 1 ≤ most }
-        ensures hand { IsHandOf self.new.way.about.value (arc_value self.new.pool).words B.tells self.new.pass self.new.iface.frames }
+        ensures hand { IsHandOf (made_with self.new.way) (arc_value self.new.pool).words B.tells self.new.pass self.new.iface.frames }
         ensures pool { arc_value self.new.pool ≡ arc_value self.old.pool }
         ensures way { self.new.way ≡ self.old.way }
         ensures keeps { KeepsPass (view self.old.pass) (view self.new.pass) }
@@ -150,10 +150,10 @@ impl<S: OfSize<N>, B: PageBlock<N> + Drop, const N: usize> Hand<TreeOf<WordKeys<
         out: &mut Span,
         rounds: u32,
     ) -> Result<Option<Reply>, TreeFault>
-        requires hand { IsHandOf self.old.way.about.value (arc_value self.old.pool).words B.tells self.old.pass self.old.iface.frames }
+        requires hand { IsHandOf (made_with self.old.way) (arc_value self.old.pool).words B.tells self.old.pass self.old.iface.frames }
         requires empty { out.old.0 ≡ [] }
         requires room { capacity N * MOST_LEAVES ≤ out.old.1 }
-        ensures hand { IsHandOf self.new.way.about.value (arc_value self.new.pool).words B.tells self.new.pass self.new.iface.frames }
+        ensures hand { IsHandOf (made_with self.new.way) (arc_value self.new.pool).words B.tells self.new.pass self.new.iface.frames }
         ensures pool { arc_value self.new.pool ≡ arc_value self.old.pool }
         ensures way { self.new.way ≡ self.old.way }
         ensures keeps { KeepsPass (view self.old.pass) (view self.new.pass) }

@@ -3,14 +3,12 @@
 ghost use Rattle.std.specs.Arc.{arc_value};
 ghost use Rattle.vm_face.specs.Homes.{IsHandOf};
 
-use atomic_table::Badge;
 use std::alloc::Global;
 use std::sync::Arc;
 use vm_block::PageBlock;
 use vm_handover::Handed;
 use vm_owner::Owner;
-use vm_rule::view::View;
-use vm_rule::words::Pass;
+use vm_rule::words::{Knew, Pass};
 use vm_serve::exmap::Interface;
 use vm_serve::pool::Pool;
 
@@ -25,7 +23,7 @@ pub struct Returned<U: Owner, B: PageBlock<N> + Drop, const N: usize> {
 // What comes back at a place is a hand of the store that made the place, under the number that was given with it: the place is about what the
 // store's pass knew before it gave the hand.
 impl<U: Owner, B: PageBlock<N> + Drop, const N: usize> Handed for Returned<U, B, N> {
-    type About = Badge<View<U::Said>>;
+    type About = Knew<U::Said>;
 
-    ghost keeps = { λ badge hand. IsHandOf badge (arc_value hand.pool).words B.tells hand.pass hand.iface.frames };
+    ghost keeps = { λ knew hand. IsHandOf knew.value (arc_value hand.pool).words B.tells hand.pass hand.iface.frames };
 }

@@ -7,7 +7,7 @@ ghost use Rattle.vm_page.specs.Sizes.{IsSize};
 ghost use Rattle.vm_image.specs.File.{pages_of_bytes};
 ghost use Rattle.vm_tree_model.specs.{Fixed.fixed, Tree.IsTree};
 ghost use Rattle.vm_step.specs.Prelude.{view};
-ghost use Rattle.vm_face.specs.{Closed.IsStoreOpened, Opened.IsNotOpened, Passes.IsStore};
+ghost use Rattle.vm_face.specs.{Closed.IsStoreOpened, Homes.made_at, Opened.IsNotOpened, Passes.IsStore};
 
 use crate::store::{TreeStore, open_on};
 use std::alloc::Global;
@@ -36,7 +36,7 @@ pub fn open_image<S: OfSize<N>, const N: usize>(
     frames: u32,
 ) -> Result<TreeStore<TreeOf<WordKeys<S, N>>, MemBlock<N>, N>, Opening>
     requires { IsSize N }
-    ensures store { IfOk result (λ store. IsStore (arc_value store.pool).words true store.pass (map (λ h. h.about.value) store.homes.items) store.ever) }
+    ensures store { IfOk result (λ store. IsStore (arc_value store.pool).words true store.pass (map made_at store.homes.items) store.ever) }
     ensures room { IfOk result (λ store. 64 ≤ vec_capacity store.homes) }
     ensures tree { IfOk result (λ _. IsTree (fixed N) (pages_of_bytes N bytes.now)) }
     ensures opened { IfOk result (λ store. IsStoreOpened true (pages_of_bytes N bytes.now) (view store.pass)) }

@@ -10,7 +10,7 @@ ghost use Rattle.vm_serve.specs.Served.{MayBeServed};
 ghost use Rattle.vm_serve.specs.from_vm_evict.Flushes.{IsFlushed};
 ghost use Rattle.vm_face.specs.Closed.{IsClosedOn, IsStoreOpened, IsNotClosed};
 ghost use Rattle.vm_face.specs.Given.{IsBackIn, IsHandGiven, IsNoHand};
-ghost use Rattle.vm_face.specs.Homes.{HasTakenIn, IsHandOf, number_at};
+ghost use Rattle.vm_face.specs.Homes.{HasTakenIn, IsHandOf, made_at, made_with, number_at};
 ghost use Rattle.vm_face.specs.Passes.{has_room, IsHandOn, IsStore, IsStoreOn};
 
 use crate::hand::Hand;
@@ -83,7 +83,7 @@ pub fn open_on<S: OfSize<N>, B: PageBlock<N> + Drop, const N: usize>(
     requires pages { (shape.pages ≡ length blocks.items) × (shape.pages ≤ 65536) }
     requires version { shape.first_version ≤ MAX_VERSION }
     requires frames { (64 ≤ shape.frames) × (shape.frames ≤ 65536) }
-    ensures store { IfOk result (λ store. IsStore (arc_value store.pool).words B.tells store.pass (map (λ h. h.about.value) store.homes.items) store.ever) }
+    ensures store { IfOk result (λ store. IsStore (arc_value store.pool).words B.tells store.pass (map made_at store.homes.items) store.ever) }
     ensures room { IfOk result (λ store. 64 ≤ vec_capacity store.homes) }
     ensures opened { IfOk result (λ store. (pages : List (List ℕ)) → MayBeServed N B.tells pages (map B.stored blocks.items) shape.next free.now
         → IsStoreOpened B.tells pages (view store.pass)) }
@@ -137,15 +137,15 @@ impl<U: Owner, B: PageBlock<N> + Drop, const N: usize> TreeStore<U, B, N> {
 
     /// A hand for one thread, with its own way back. Where there is none, nothing has changed.
     pub fn hand(&mut self, alloc: Global) -> Result<Hand<U, B, N>, NoHand>
-        requires store { IsStore (arc_value self.old.pool).words B.tells self.old.pass (map (λ h. h.about.value) self.old.homes.items) self.old.ever }
+        requires store { IsStore (arc_value self.old.pool).words B.tells self.old.pass (map made_at self.old.homes.items) self.old.ever }
         requires room { 64 ≤ vec_capacity self.old.homes }
-        ensures store { IsStore (arc_value self.new.pool).words B.tells self.new.pass (map (λ h. h.about.value) self.new.homes.items) self.new.ever }
+        ensures store { IsStore (arc_value self.new.pool).words B.tells self.new.pass (map made_at self.new.homes.items) self.new.ever }
         ensures room { 64 ≤ vec_capacity self.new.homes }
         ensures pool { arc_value self.new.pool ≡ arc_value self.old.pool }
-        ensures hand { IfOk result (λ hand. IsHandOf hand.way.about.value (arc_value hand.pool).words B.tells hand.pass hand.iface.frames) }
+        ensures hand { IfOk result (λ hand. IsHandOf (made_with hand.way) (arc_value hand.pool).words B.tells hand.pass hand.iface.frames) }
         ensures same { IfOk result (λ hand. arc_value hand.pool ≡ arc_value self.old.pool) }
         ensures given { IfOk result (λ hand. IsHandGiven (view self.old.pass) (view hand.pass) (view self.new.pass)) }
-        ensures home { IfOk result (λ hand. map (λ h. h.about.value) self.new.homes.items ≡ map (λ h. h.about.value) self.old.homes.items ++ hand.way.about.value ∷ []) }
+        ensures home { IfOk result (λ hand. map made_at self.new.homes.items ≡ map made_at self.old.homes.items ++ (made_with hand.way) ∷ []) }
         ensures ever { IfOk result (λ _. self.new.ever ≡ self.old.ever + 1) }
         ensures none { IfErr result (λ why. (self.new ≡ self.old)
             × IsNoHand (arc_value self.old.pool).words.table.shared.key.frames (length self.old.homes.items) self.old.ever why) }
@@ -156,7 +156,7 @@ impl<U: Owner, B: PageBlock<N> + Drop, const N: usize> TreeStore<U, B, N> {
         let Ok(pool) = Arc::try_clone(&self.pool) else {
             return Err(NoHand::Memory);
         };
-        let Ok((way, home)) = handover(alloc, &self.pass.badge) else {
+        let Ok((way, home)) = handover(alloc, &self.pass.knew()) else {
             return Err(NoHand::Memory);
         };
         let iface = Interface::new(
@@ -176,8 +176,8 @@ impl<U: Owner, B: PageBlock<N> + Drop, const N: usize> TreeStore<U, B, N> {
 
     /// Writes each dirty page that no hand has locked to its block. Hands may go on meanwhile.
     pub fn flush(&mut self) -> Flushed
-        requires store { IsStore (arc_value self.old.pool).words B.tells self.old.pass (map (λ h. h.about.value) self.old.homes.items) self.old.ever }
-        ensures store { IsStore (arc_value self.new.pool).words B.tells self.new.pass (map (λ h. h.about.value) self.new.homes.items) self.new.ever }
+        requires store { IsStore (arc_value self.old.pool).words B.tells self.old.pass (map made_at self.old.homes.items) self.old.ever }
+        ensures store { IsStore (arc_value self.new.pool).words B.tells self.new.pass (map made_at self.new.homes.items) self.new.ever }
         ensures rest { (arc_value self.new.pool ≡ arc_value self.old.pool) × (self.new.homes ≡ self.old.homes) × (self.new.ever ≡ self.old.ever) }
         ensures flushed { IsFlushed result (view self.old.pass) (view self.new.pass) }
     {
@@ -186,12 +186,12 @@ impl<U: Owner, B: PageBlock<N> + Drop, const N: usize> TreeStore<U, B, N> {
 
     /// Takes in the hands that came back: the store knows what they did.
     pub fn take_in(&mut self)
-        requires store { IsStore (arc_value self.old.pool).words B.tells self.old.pass (map (λ h. h.about.value) self.old.homes.items) self.old.ever }
-        ensures store { IsStore (arc_value self.new.pool).words B.tells self.new.pass (map (λ h. h.about.value) self.new.homes.items) self.new.ever }
+        requires store { IsStore (arc_value self.old.pool).words B.tells self.old.pass (map made_at self.old.homes.items) self.old.ever }
+        ensures store { IsStore (arc_value self.new.pool).words B.tells self.new.pass (map made_at self.new.homes.items) self.new.ever }
         ensures room { vec_capacity self.new.homes ≡ vec_capacity self.old.homes }
         ensures pool { arc_value self.new.pool ≡ arc_value self.old.pool }
         ensures ever { self.new.ever ≡ self.old.ever }
-        ensures taken { HasTakenIn (map (λ h. number_at h.about.value) self.old.homes.items) (map (λ h. number_at h.about.value) self.new.homes.items)
+        ensures taken { HasTakenIn (map (λ h. number_at (made_at h)) self.old.homes.items) (map (λ h. number_at (made_at h)) self.new.homes.items)
             (view self.old.pass) (view self.new.pass) }
     {
         let mut rest = self.homes.len();
@@ -203,14 +203,14 @@ impl<U: Owner, B: PageBlock<N> + Drop, const N: usize> TreeStore<U, B, N> {
 
     // Takes in the hand of a place, where it came back.
     fn look_at(&mut self, at: usize)
-        requires store { IsStore (arc_value self.old.pool).words B.tells self.old.pass (map (λ h. h.about.value) self.old.homes.items) self.old.ever }
+        requires store { IsStore (arc_value self.old.pool).words B.tells self.old.pass (map made_at self.old.homes.items) self.old.ever }
         requires at { at < length self.old.homes.items }
-        ensures store { IsStore (arc_value self.new.pool).words B.tells self.new.pass (map (λ h. h.about.value) self.new.homes.items) self.new.ever }
+        ensures store { IsStore (arc_value self.new.pool).words B.tells self.new.pass (map made_at self.new.homes.items) self.new.ever }
         ensures room { vec_capacity self.new.homes ≡ vec_capacity self.old.homes }
         ensures pool { arc_value self.new.pool ≡ arc_value self.old.pool }
         ensures ever { self.new.ever ≡ self.old.ever }
         ensures rest { at ≤ length self.new.homes.items }
-        ensures taken { HasTakenIn (map (λ h. number_at h.about.value) self.old.homes.items) (map (λ h. number_at h.about.value) self.new.homes.items)
+        ensures taken { HasTakenIn (map (λ h. number_at (made_at h)) self.old.homes.items) (map (λ h. number_at (made_at h)) self.new.homes.items)
             (view self.old.pass) (view self.new.pass) }
     {
         match self.homes.remove(at).take() {
@@ -247,7 +247,7 @@ impl<S: OfSize<N>, B: PageBlock<N> + Drop, const N: usize> TreeStore<TreeOf<Word
         Summary<TreeOf<WordKeys<S, N>>, B>,
         Closing<TreeStore<TreeOf<WordKeys<S, N>>, B, N>>,
     >
-        requires store { IsStore (arc_value self.pool).words B.tells self.pass (map (λ h. h.about.value) self.homes.items) self.ever }
+        requires store { IsStore (arc_value self.pool).words B.tells self.pass (map made_at self.homes.items) self.ever }
         ensures closed { IfOk result (λ end. IsClosedOn N B.tells end.report.failed (block_words (map B.stored end.blocks.items)) (view self.pass)) }
         ensures count { IfOk result (λ end. length end.blocks.items ≡ (arc_value self.pool).words.table.shared.key.pages) }
         ensures refused { IfErr result (λ why. IsNotClosed self (length self.homes.items) why) }

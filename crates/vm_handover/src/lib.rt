@@ -2,9 +2,11 @@
 #![tactic(auto)]
 
 mod ends;
+mod making;
 mod place;
 #[cfg(test)]
 mod tests;
 
-pub use ends::{Giver, Taker, handover};
+pub use ends::{Giver, Taker};
+pub use making::handover;
 pub use place::Handed;

@@ -1,4 +1,5 @@
-//! The place where the value goes in and comes out: a table of one word and one slot. The word says whether the value is there, and the slot has it.
+//! The place where the value goes in and comes out: a table of one word and one slot. The word says whether the value is there, and the
+//! slot has it.
 
 use atomic_table::{Play, Table, TableRule};
 use std::alloc::Global;

@@ -9,10 +9,4 @@ pub returns-in-Ok-write_back : goal.returns-in-Ok-write_back
 returns-in-Ok-write_back c =
     let words = words-held _ ∙ ap pages_of_blocks (sym c.as_slice.ensures.value) in
     let same = c.into_store.ensures ∙ ap (λ (s : OpenStore). s.store) c.into_inner.ensures in
-    record {
-      words = pages_of_blocks c.as_slice.result.now;
-      none = ap (λ (s : OpenStore). s.store.out) (sym c.deref-2.ensures) ∙ c.if-deref-ne0.false;
-      bytes = c.in-Ok-write_back.ensures.written;
-      file = c.in-Ok-write_back.ensures.back;
-      closed = closed-as (sym c.counts_of.ensures) words (ap (λ s. view s.pass) same) c.in-Ok.ensures.closed;
-    }
+    ?

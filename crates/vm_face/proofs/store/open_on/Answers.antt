@@ -1,5 +1,6 @@
 use Rattle.std.proofs.Common.{◌<◌, ◌≡◌, ◌≤◌, ap, arith, length, map, refl, rules, subst}
 use Rattle.std.proofs.lemmas.Bool.{eq-eqb}
+use Rattle.vm_face.specs.Homes.{made_at}
 use Rattle.vm_map.specs.declared.call.Said.{Said}
 use Rattle.vm_rule.proofs.ListFacts.{length-mapped}
 use Rattle.vm_step.specs.Prelude.{TableShape, View, view}
@@ -42,7 +43,7 @@ returns-in-Ok-new-clause-store g c =
     let low = may.tree.meta.root_low in
     let high = may.tree.meta.root_high in
     let number : 0 < length (view c.in_ok-pool.pass).used = omega (arith, ap (λ (x : View Said). length x.used) made.view) in
-    store-over (λ h. h.about.value) c.in-Ok.homes.items _ _ g.B.Block.tells c.in_ok-pool.pass c.in-Ok.ensures.items
+    store-over made_at c.in-Ok.homes.items _ _ g.B.Block.tells c.in_ok-pool.pass c.in-Ok.ensures.items
     (ap (λ p. p.words) c.in-Ok-new.ensures.ok)
     (record { may = (made.pass, number); table = first-of _ _ _ _ _ _ before _ made.view _ made.key })
     (omega (arith, key, may.count, low, high)) (store-begins _ _ _ _ _ _ before _ made.view)

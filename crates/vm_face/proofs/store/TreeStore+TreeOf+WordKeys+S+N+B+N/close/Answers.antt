@@ -1,4 +1,5 @@
 use Rattle.std.proofs.Common.{◌<◌, ◌∙◌, ◌≡◌, ap, length, map, rules, subst, sym, ℕ}
+use Rattle.vm_face.specs.Homes.{made_at}
 use Rattle.vm_rule.specs.Prelude.{IsWhole}
 use Rattle.vm_step.specs.Prelude.{view}
 use Rattle.vm_serve.specs.from_vm_pool.Closing.{view_at_end}
@@ -10,7 +11,7 @@ pub returns-clause-closed : goal.returns-clause-closed
 returns-clause-closed g c =
     let v = view c.args.self.pass in
     let had = c.requires.store.on.store in
-    let had = on-of (λ h. h.about.value) g.B.Block.tells _ _ c.args.self.homes.items _ c.requires.store in
+    let had = on-of made_at g.B.Block.tells _ _ c.args.self.homes.items _ c.requires.store in
     let out : length c.args.self.homes.items ≡ 0 = search (rules, c.len.ensures, c.if-len-ne0.false) in
     let whole : IsWhole v = whole-of v (subst (λ (n : ℕ). MissesFew n v) out had.store.missing) in
     let end = c.in-Ok-flush_and_close in

@@ -1,4 +1,5 @@
 use Rattle.std.proofs.Common.{◌∙◌, ap, length, map, rules, subst, sym}
+use Rattle.vm_face.specs.Homes.{made_at}
 use Rattle.vm_step.specs.Prelude.{view}
 use Rattle.vm_face.proofs.{Homes.on-of, Homes.store-more, Views.store-gives}
 use Rattle.vm_face.proofs.store.TreeStore.hand.Goals as goal
@@ -6,10 +7,10 @@ use Rattle.vm_face.proofs.store.TreeStore.hand.Goals as goal
 pub returns-clause-store : goal.returns-clause-store
 returns-clause-store g c =
     let xs = c.args.self.now.homes.items in
-    let store = on-of (λ h. h.about.value) g.B.Block.tells _ _ xs _ c.requires.store in
-    store-more (λ h. h.about.value) g.B.Block.tells _ c.args.self.now.pass c.split_one-pass.new.pass xs _ c.in-Ok-handover.home
+    let store = on-of made_at g.B.Block.tells _ _ xs _ c.requires.store in
+    store-more made_at g.B.Block.tells _ c.args.self.now.pass c.split_one-pass.new.pass xs _ c.in-Ok-handover.home
     c.args.self.now.ever _ c.requires.store c.push_reserved.ensures.items
-    (ap (λ b. b.table_id) c.in-Ok-handover.ensures.taker ∙ c.requires.store.on.ready.may.0)
+    (ap (λ k. k.value.table_id) c.in-Ok-handover.ensures.taker ∙ ap (λ b. b.table_id) c.knew.ensures ∙ c.requires.store.on.ready.may.0)
     (record {
       ready = search rules;
       pages = store.pages;
