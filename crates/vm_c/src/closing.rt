@@ -37,7 +37,7 @@ pub enum Unclosed {
 /// Takes in the hands that came back, writes what is dirty, ends the store, and writes its pages to the image.
 pub fn close(
     alloc: Global,
-    mut open: Box<OpenStore, Global>,
+    open: Box<OpenStore, Global>,
     image: &mut [u8],
 ) -> Result<BlockCounts, Unclosed>
     requires store { IsFitStore open.value }
@@ -47,7 +47,7 @@ pub fn close(
     if image.len() != 512 * open.store.pages() {
         return Err(Unclosed::Length(open));
     }
-    open.store.take_in();
+    let open = with_hands_back(open);
     if open.store.out() != 0 {
         return Err(Unclosed::Hands(open));
     }
@@ -66,6 +66,25 @@ pub fn close(
         },
         Err(Closing::Memory) => Err(Unclosed::Memory),
     }
+}
+
+// The store, with the hands taken in that were back.
+fn with_hands_back(mut open: Box<OpenStore, Global>) -> Box<OpenStore, Global>
+    requires store { IsFitStore open.value }
+    ensures store { IsFitStore result.value }
+    ensures took { TookIn open.value result.value }
+{
+    take_in(&mut open);
+    open
+}
+
+// Takes in the hands that are back.
+fn take_in(open: &mut OpenStore)
+    requires store { IsFitStore open.old }
+    ensures store { IsFitStore open.new }
+    ensures took { TookIn open.old open.new }
+{
+    open.store.take_in();
 }
 
 // What was counted of the blocks of a store that is closed.

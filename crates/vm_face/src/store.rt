@@ -1,6 +1,6 @@
 //! A store: a pool of pages, the pass that knows what the hands did that are back, and how many hands are out.
 
-ghost use Rattle.std.specs.Prelude.{[], ◌++◌, ◌+◌, ◌<◌, ◌∷◌, ◌≡◌, ◌≤◌, IfErr, IfOk, length, List, map, ℕ};
+ghost use Rattle.std.specs.Prelude.{[], ◌++◌, ◌+◌, ◌<◌, ◌∷◌, ◌≡◌, ◌≤◌, IfErr, IfOk, length, List, map, true, ℕ};
 ghost use Rattle.std.specs.Arc.{arc_value};
 ghost use Rattle.std.specs.Vec.{vec_capacity};
 ghost use Rattle.vm_core.specs.Prelude.{MAX_VERSION};
@@ -147,6 +147,7 @@ impl<U: Owner, B: PageBlock<N> + Drop, const N: usize> TreeStore<U, B, N> {
         ensures given { IfOk result (λ hand. IsHandGiven (view self.old.pass) (view hand.pass) (view self.new.pass)) }
         ensures home { IfOk result (λ hand. map made_at self.new.homes.items ≡ map made_at self.old.homes.items ++ (made_with hand.way) ∷ []) }
         ensures ever { IfOk result (λ _. self.new.ever ≡ self.old.ever + 1) }
+        ensures may { IfOk result (λ _. has_room (arc_value self.old.pool).words.table.shared.key.frames (length self.old.homes.items) self.old.ever ≡ true) }
         ensures none { IfErr result (λ why. (self.new ≡ self.old)
             × IsNoHand (arc_value self.old.pool).words.table.shared.key.frames (length self.old.homes.items) self.old.ever why) }
     {
