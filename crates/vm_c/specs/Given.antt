@@ -4,7 +4,7 @@ use Rattle.std.specs.Arc.{arc_value}
 use Rattle.vm_face.specs.Homes.{made_at, made_with}
 use Rattle.vm_step.specs.Prelude.{view}
 use Rattle.vm_face.specs.{Given.IsHandGiven, Homes.HasTakenIn, Homes.number_at, Passes.has_room}
-use Rattle.vm_c.specs.{declared.opened.OpenHand.OpenHand, declared.opened.OpenStore.OpenStore}
+use Rattle.vm_c.specs.{declared.opened.OpenHand.OpenHand, declared.opened.OpenStore.OpenStore, Fits.IsFitStore}
 
 -- how many hands of the store are out
 abbrev pub hands_out : OpenStore → ℕ
@@ -14,8 +14,9 @@ hands_out s = length s.store.homes.items
 abbrev pub may_give : OpenStore → Bool
 may_give s = has_room (arc_value s.store.pool).words.table.shared.key.frames (hands_out s) s.store.ever
 
--- the store took in the hands that were back, and is as it was but for what they did
+-- the store took in the hands that were back, and is as it was but for what they did: fit again
 pub record TookIn (before after : OpenStore) : Type 0 where
+  pub fit : IsFitStore after
   pub taken : HasTakenIn (map (λ h. number_at (made_at h)) before.store.homes.items) (map (λ h. number_at (made_at h)) after.store.homes.items)
       (view before.store.pass) (view after.store.pass)
   pub pool : arc_value after.store.pool ≡ arc_value before.store.pool

@@ -17,7 +17,8 @@ ghost use Rattle.vm_c.specs.{Closed.Closes, Fits.IsFitHand, Fits.IsFitStore, Flu
 ghost use Rattle.vm_c.specs.Shows.{bound_asked, outs, ShowsRange, ShowsWindow};
 
 use answers::{
-    BUSY, CallTold, HANDS, LENGTH, MEMORY, NONE, OK, ROOM, TAKEN, answer_of, page_told, refusal_of,
+    BUSY, CallTold, HANDS, LENGTH, MEMORY, NONE, OK, ROOM, TAKEN, answer_of, hand_refusal_of,
+    page_told, refusal_of,
 };
 use closing::{BlockCounts, Unclosed, close};
 use flushing::{FlushTold, flush};
@@ -26,7 +27,6 @@ use opening::{give, open};
 use showing::{KeyValue, MOST_IN_RANGE, ShownPairs, bound_of, range, window};
 use std::alloc::Global;
 use store_handle::StoreHandle;
-use vm_face::NoHand;
 use vm_map::span::Span;
 use vm_map::window::MOST_PAIRS;
 
@@ -84,8 +84,7 @@ pub extern "C" fn brf_hand_out(alloc: Global, store: &mut StoreHandle, hand: &mu
             hand.put(held);
             OK
         }
-        Err(NoHand::Crowded) => HANDS,
-        Err(NoHand::Memory) => MEMORY,
+        Err(why) => hand_refusal_of(why),
     }
 }
 
