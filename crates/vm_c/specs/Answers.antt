@@ -1,6 +1,6 @@
 -- The numbers that exports answer, and what is told beside them.
 use Rattle.std.specs.Prelude.{Err, None, Ok, Option, Result, Some, ℕ}
-use Rattle.vm_map.specs.declared.call.{Reply.Reply, Swap.Swap}
+use Rattle.vm_map.specs.declared.call.{Reply.Reply}
 use Rattle.vm_map.specs.declared.call.Reply.TheVariants.{Gone, Got, Many, Swapped, Was, Wide, Win}
 use Rattle.vm_map.specs.declared.call.Swap.TheVariants as swaps
 use Rattle.vm_serve.specs.from_vm_tree_rule.declared_fault_TreeFault.{TreeFault}

@@ -1,5 +1,5 @@
 -- Stores and hands as each export finds and leaves them.
-use Rattle.std.specs.Prelude.{◌≡◌, ◌≤◌, map, true}
+use Rattle.std.specs.Prelude.{◌≤◌, map, true}
 use Rattle.std.specs.{Arc.arc_value, Vec.vec_capacity}
 use Rattle.vm_face.specs.Homes.{made_at, made_with}
 use Rattle.vm_face.specs.{Homes.IsHandOf, Passes.IsStore}

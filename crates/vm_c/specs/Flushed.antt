@@ -1,5 +1,5 @@
 -- What flushing a store answers.
-use Rattle.std.specs.Prelude.{◌≡◌, Option, Some, ℕ}
+use Rattle.std.specs.Prelude.{◌≡◌}
 use Rattle.std.specs.Arc.{arc_value}
 use Rattle.vm_step.specs.Prelude.{view}
 use Rattle.vm_evict.specs.declared.flushing.Flushed.{Flushed}

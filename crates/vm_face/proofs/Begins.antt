@@ -1,8 +1,8 @@
 -- What the pass of a store knows that was opened just now.
-use Rattle.std.proofs.Common.{[], ◌+◌, ◌<◌, ◌∙◌, ◌≡◌, ◌≤◌, ap, arith, Bool, length, List, map, refl, subst, sym, true, ℕ}
+use Rattle.std.proofs.Common.{[], ◌∙◌, ◌≡◌, ◌≤◌, ap, arith, Bool, length, List, map, refl, subst, sym, true, ℕ}
 use Rattle.atomic_table.specs.declared.badge.Badge.{Badge}
 use Rattle.vm_map.specs.declared.call.Said.{Said}
-use Rattle.vm_rule.specs.Prelude.{block_words, has, HoldsNoPage, numbers, PARTS, started_shape, Stored, unborn}
+use Rattle.vm_rule.specs.Prelude.{block_words, has, HoldsNoPage, numbers, started_shape, Stored, unborn}
 use Rattle.vm_rule.specs.{Begun.begun, declared.words.Pass.Pass, declared.words.Words.Words, Started.contents_of}
 use Rattle.vm_step.specs.Prelude.{IsReadyOn, Origin, View, view}
 use Rattle.vm_step.proofs.{Numbers.has-numbers, Together.numbers-length}

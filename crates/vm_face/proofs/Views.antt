@@ -1,8 +1,8 @@
 -- The views of a store's pass and of a hand's, as hands are given and come back.
-use Rattle.std.proofs.Common.{[], ⊎_elim, ◌++◌, ◌+◌, ◌-◌, ◌<◌, ◌==◌, ◌||◌, ◌∙◌, ◌∷◌, ◌≡◌, ◌≤◌, ap, append-nil, arith, Bool, length, List}
+use Rattle.std.proofs.Common.{[], ⊎_elim, ◌++◌, ◌+◌, ◌-◌, ◌<◌, ◌∙◌, ◌∷◌, ◌≡◌, ap, append-nil, arith, Bool, length, List}
 use Rattle.std.proofs.Common.{inl, inr, refl, slice_index, subst, sym, true, ℕ}
 use Rattle.std.proofs.lemmas.Bool.{cases_eq, eq-eqb, ne_eqb}
-use Rattle.vm_rule.specs.Prelude.{AreApart, CaughtUp, entries_by, giver, has, HoldsNoPage, HoldsNothing, IsWhole, Kept, other_parts, owns}
+use Rattle.vm_rule.specs.Prelude.{AreApart, CaughtUp, entries_by, has, HoldsNothing, Kept}
 use Rattle.vm_rule.specs.Prelude.{PARTS, Start, times}
 use Rattle.vm_step.specs.Prelude.{Did, HasStill, IsAsideOf, View}
 use Rattle.vm_step.proofs.Together.{holds-none as nothing-holds, new-nothing}
@@ -11,7 +11,7 @@ use Rattle.vm_serve.specs.from_vm_calls.Calls.{KeepsPass}
 use Rattle.vm_serve.proofs.from_vm_calls.Lists.{starts-then}
 use Rattle.vm_serve.proofs.from_vm_drive.Hiring.{holds-none, split-keeps}
 use Rattle.vm_face.specs.{Given.IsBackIn, Given.IsHandGiven, Homes.next_number, Passes.hand_number, Passes.IsHandView, Passes.IsStoreView}
-use Rattle.vm_face.proofs.Parts.{misses-less, misses-more, times-none}
+use Rattle.vm_face.proofs.Parts.{misses-less, misses-more}
 
 here-among : (n : ℕ) (ns : List ℕ) → has n (n ∷ ns) ≡ true
 here-among n ns = rw (eq-eqb n n refl) refl

@@ -2,7 +2,6 @@
 use Rattle.std.specs.Prelude.{◌≡◌, ◌≤◌, Bool, List, true, ℕ}
 use Rattle.vm_map.specs.{declared.call.Said.Said, History.after_all}
 use Rattle.vm_tree_model.specs.{Fixed.fixed, Tree.IsTree, Tree.map_of}
-use Rattle.vm_rule.specs.Prelude.{StartsWith}
 use Rattle.vm_step.specs.Prelude.{View}
 use Rattle.vm_tree_laws.specs.History.{IsLegal, saids}
 use Rattle.vm_face.specs.declared.store.Closing.{Closing}

@@ -127,17 +127,17 @@ fn a_ninth_hand_waits_for_another_to_come_back(rt: HostRuntime) -> Result<(), Fa
         return Err(Fail::from("no store"));
     };
     let mut hands = Vec::new(alloc);
-    for _ in 0..8 {
+    for _ in 0..7 {
         let Ok(hand) = store.hand(alloc) else {
             return Err(Fail::from("no hand"));
         };
         hands.push(hand)?;
     }
-    assert!(rt; matches!(store.hand(alloc), Err(NoHand::Crowded)));
-    let Some(hand) = hands.pop() else {
+    let Ok(last) = store.hand(alloc) else {
         return Err(Fail::from("no hand"));
     };
-    hand.leave();
+    assert!(rt; matches!(store.hand(alloc), Err(NoHand::Crowded)));
+    last.leave();
     assert!(rt; matches!(store.hand(alloc), Err(NoHand::Crowded)));
     store.take_in();
     assert!(rt; store.hand(alloc).is_ok());

@@ -1,4 +1,4 @@
-use Rattle.std.proofs.Common.{map, rules}
+use Rattle.std.proofs.Common.{rules}
 use Rattle.vm_step.specs.Prelude.{view}
 use Rattle.vm_face.proofs.Views.{store-aside}
 use Rattle.vm_face.proofs.store.TreeStore.flush.Goals as goal

@@ -1,4 +1,4 @@
-use Rattle.std.proofs.Common.{◌∙◌, ap, length, map, rules, subst, sym}
+use Rattle.std.proofs.Common.{◌∙◌, ap, length, rules}
 use Rattle.vm_face.specs.Homes.{made_at}
 use Rattle.vm_step.specs.Prelude.{view}
 use Rattle.vm_face.proofs.{Homes.on-of, Homes.store-more, Views.store-gives}

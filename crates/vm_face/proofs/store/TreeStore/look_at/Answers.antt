@@ -1,4 +1,4 @@
-use Rattle.std.proofs.Common.{[], ◌++◌, ◌+◌, ◌<◌, ◌∙◌, ◌∷◌, ◌≡◌, ap, arith, length, rules, sym}
+use Rattle.std.proofs.Common.{[], ◌++◌, ◌∙◌, ◌∷◌, ap, arith, sym}
 use Rattle.vm_face.specs.Homes.{made_at}
 use Rattle.vm_step.specs.Prelude.{view}
 use Rattle.vm_face.specs.Homes.{number_at}
