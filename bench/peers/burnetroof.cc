@@ -29,7 +29,7 @@ std::vector<uint8_t> empty_image(size_t pages) {
 }
 
 struct Opened {
-  std::mutex hands;  // only one thread may give a hand out or take one back
+  std::mutex hands;  // one thread at a time gives a hand out
   brf_store store = BRF_NOTHING;
 };
 
@@ -40,10 +40,7 @@ class HandSession : public Session {
     require(brf_hand_out(&opened_.store, &hand_) == BRF_OK, "hand out");
   }
 
-  ~HandSession() override {
-    const std::lock_guard held(opened_.hands);
-    brf_hand_back(&opened_.store, &hand_);
-  }
+  ~HandSession() override { brf_hand_back(&hand_); }
 
   std::optional<uint64_t> get(uint64_t key) override {
     brf_told told;

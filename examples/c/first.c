@@ -17,6 +17,6 @@ int main(int argc, char **argv) {
     if (brf_open(image, size, 64, &store, &told) != BRF_OK || brf_hand_out(&store, &hand) != BRF_OK) return 1;
     if (brf_put_yielding(&hand, 7, 70, &told) != BRF_OK) return 1;
     if (brf_get_yielding(&hand, 7, &told) == BRF_OK && told.had) printf("7 has %llu\n", (unsigned long long)told.value);
-    if (brf_hand_back(&store, &hand) != BRF_OK || brf_close(&store, image, size, &counts) != BRF_OK) return 1;
+    if (brf_hand_back(&hand) != BRF_OK || brf_close(&store, image, size, &counts) != BRF_OK) return 1;
     return counts.unwritten ? 1 : 0; /* with none unwritten, `image` is a page file with all pairs */
 }

@@ -9,14 +9,13 @@
 
 class Hand {
 public:
-    explicit Hand(brf_store &store) : store_(store) { opened_ = brf_hand_out(&store_, &hand_) == BRF_OK; }
+    explicit Hand(brf_store &store) { opened_ = brf_hand_out(&store, &hand_) == BRF_OK; }
     Hand(const Hand &) = delete;
-    ~Hand() { brf_hand_back(&store_, &hand_); }
+    ~Hand() { brf_hand_back(&hand_); }
     explicit operator bool() const { return opened_; }
     brf_hand *get() { return &hand_; }
 
 private:
-    brf_store &store_;
     brf_hand hand_ = BRF_NOTHING;
     bool opened_;
 };
@@ -48,6 +47,8 @@ int main(int argc, char **argv) {
         if (brf_del_yielding(hand.get(), 7, &told) != BRF_OK || told.value != 72) return failed(12);
         if (brf_get_yielding(hand.get(), 7, &told) != BRF_OK || told.had) return failed(13);
     }
+    brf_flushed flushed;
+    if (brf_flush(&store, &flushed) != BRF_OK || flushed.written != 1 || flushed.failed || flushed.busy) return failed(17);
     if (brf_close(&store, image.data(), image.size() - 1, &counts) != BRF_LENGTH) return failed(14);
     if (brf_close(&store, image.data(), image.size(), &counts) != BRF_OK || counts.unwritten) return failed(15);
     if (brf_close(&store, image.data(), image.size(), &counts) != BRF_NONE) return failed(16);

@@ -37,7 +37,7 @@ unsafe extern "C" {
     fn brf_hand_out(store: &mut Handle, hand: &mut Handle) -> u32;
     fn brf_get(hand: &mut Handle, key: u64, rounds: u32, told: &mut Told) -> u32;
     fn brf_put(hand: &mut Handle, key: u64, value: u64, rounds: u32, told: &mut Told) -> u32;
-    fn brf_hand_back(store: &mut Handle, hand: &mut Handle) -> u32;
+    fn brf_hand_back(hand: &mut Handle) -> u32;
     fn brf_close(store: &mut Handle, image: *mut u8, len: usize, counts: &mut Counts) -> u32;
 }
 
@@ -75,7 +75,7 @@ fn main() {
         }
     });
     for hand in &mut hands {
-        assert_eq!(unsafe { brf_hand_back(&mut store, hand) }, OK);
+        assert_eq!(unsafe { brf_hand_back(hand) }, OK);
     }
     let mut counts = Counts::default();
     assert_eq!(unsafe { brf_close(&mut store, image.as_mut_ptr(), image.len(), &mut counts) }, OK);

@@ -95,7 +95,7 @@ int main(int argc, char **argv) {
         pthread_join(threads[t], NULL);
         if (tasks[t].failed != BRF_OK) return failed("count", tasks[t].failed);
         words += tasks[t].words;
-        if ((answer = brf_hand_back(&store, &tasks[t].hand)) != BRF_OK) return failed("hand back", answer);
+        if ((answer = brf_hand_back(&tasks[t].hand)) != BRF_OK) return failed("hand back", answer);
     }
 
     struct brf_counts counts;

@@ -167,7 +167,7 @@ int main(int argc, char **argv) {
             if (calls[i].worker == w) printf("%u %u %s\n", w, calls[i].place, calls[i].reply);
     say_rows(&all[0].hand);
     for (unsigned w = 0; w < workers; w++)
-        if ((answer = brf_hand_back(&store, &all[w].hand)) != BRF_OK) refuse("hand back", answer);
+        if ((answer = brf_hand_back(&all[w].hand)) != BRF_OK) refuse("hand back", answer);
 
     struct brf_counts counts;
     answer = brf_close(&store, image, size, &counts);

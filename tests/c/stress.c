@@ -1,5 +1,5 @@
-/* Threads on one store, each with keys of its own, of which it keeps a model, and with keys that all share. Each answer is compared with the model; the store is closed,
- * and its image opened again and compared once more.
+/* Threads on one store, each with keys of its own, of which it keeps a model, and with keys that all share. Each answer is compared with the model; each thread hands its
+ * hand back itself, while the store is flushed and gives further hands; the store is closed, and its image opened again and compared once more.
  * usage: stress IMAGE THREADS FRAMES CALLS */
 #define BRF_LOOPS
 #include "burnetroof.h"
@@ -16,6 +16,7 @@ struct task {
     uint32_t has[KEYS];
     pthread_t thread;
     const char *wrong;
+    brf_answer back;
 };
 
 static uint64_t threads;
@@ -57,7 +58,20 @@ static void *work(void *given) {
         brf_answer answer = (number >> 40) % 16 == 0 ? call_shared(task, number) : call_own(task, number);
         if (answer != BRF_OK) task->wrong = "a call was not answered";
     }
+    task->back = brf_hand_back(&task->hand);
     return NULL;
+}
+
+/* While the threads work, and hands go back: flushes, and hands that are given and go back at once. */
+static brf_answer disturb(brf_store *store) {
+    struct brf_flushed flushed;
+    brf_answer answer = BRF_OK;
+    for (int turn = 0; turn < 20 && answer == BRF_OK; turn++) {
+        brf_hand hand = BRF_NOTHING;
+        answer = brf_flush(store, &flushed);
+        if (answer == BRF_OK && brf_hand_out(store, &hand) == BRF_OK) answer = brf_hand_back(&hand);
+    }
+    return answer;
 }
 
 static int failed(const char *what, brf_answer answer) {
@@ -78,7 +92,7 @@ static brf_answer compare(size_t size, uint32_t frames) {
             answer = brf_get_yielding(&hand, k * threads + t, &told);
             if (told.had != tasks[t].has[k] || (told.had && told.value != tasks[t].value[k])) return BRF_OTHER;
         }
-    if (answer == BRF_OK) answer = brf_hand_back(&store, &hand);
+    if (answer == BRF_OK) answer = brf_hand_back(&hand);
     return answer == BRF_OK ? brf_close(&store, image, size, &counts) : answer;
 }
 
@@ -104,10 +118,11 @@ int main(int argc, char **argv) {
     if ((answer = brf_close(&store, image, size, &counts)) != BRF_HANDS) return failed("closed with hands out", answer);
     for (uint64_t t = 0; t < threads; t++)
         if (pthread_create(&tasks[t].thread, NULL, work, &tasks[t])) return failed("thread", 0);
+    if ((answer = disturb(&store)) != BRF_OK) return failed("flush", answer);
     for (uint64_t t = 0; t < threads; t++) pthread_join(tasks[t].thread, NULL);
     for (uint64_t t = 0; t < threads; t++) {
         if (tasks[t].wrong) return failed(tasks[t].wrong, 0);
-        if ((answer = brf_hand_back(&store, &tasks[t].hand)) != BRF_OK) return failed("hand back", answer);
+        if (tasks[t].back != BRF_OK) return failed("hand back", tasks[t].back);
     }
     if ((answer = brf_close(&store, image, size, &counts)) != BRF_OK || counts.unwritten) return failed("close", answer);
     printf("%llu threads, %u frames: reads %llu, writes %llu\n", (unsigned long long)threads, frames, (unsigned long long)counts.reads, (unsigned long long)counts.writes);

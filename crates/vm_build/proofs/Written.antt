@@ -1,6 +1,6 @@
 -- The words of a node as they are written: a header over zeros, then two words for each entry.
-use Rattle.std.proofs.Common.{◌≡◌, ℕ, zero, suc, ◌+◌, ◌-◌, ◌*◌, ◌<◌, ◌≤◌, List, [], ◌∷◌, ◌++◌, length, take}
-use Rattle.std.proofs.Common.{replicate, get_or, slice_index, slice_set, Bool, true, false, not, Option, Some, None}
+use Rattle.std.proofs.Common.{◌≡◌, ℕ, suc, ◌+◌, ◌-◌, ◌*◌, ◌<◌, ◌≤◌, List, [], ◌∷◌, ◌++◌, length, take}
+use Rattle.std.proofs.Common.{replicate, get_or, slice_set, Bool, true, false, not, Option, Some, None}
 use Rattle.std.proofs.Common.{unwrap_or, is_some, is_none, ◌==◌, if◌then◌else◌, refl, ◌∙◌, ap, subst, arith}
 use Rattle.std.proofs.Common.{length-take}
 use mir.Val.{bool_byte}
@@ -12,16 +12,12 @@ use Rattle.vm_page.specs.Sizes.{IsSize}
 use Rattle.vm_build.specs.Levels.{fill_of}
 use Rattle.vm_node.proofs.Sizes.{whole}
 use Rattle.vm_build.proofs.Fill.{fill_fits}
+use Rattle.vm_build.proofs.Nodes.{zero_at}
 
 -- the eight words of a header, and those behind it
 abbrev pub headed : ℕ → ℕ → Option ℕ → ℕ → List ℕ → List ℕ
 headed level low high count rest = (if level == 0 then 2 else 3) ∷ count ∷ low ∷ unwrap_or high
     0 ∷ (if is_none high then 1 else 0) ∷ level ∷ 0 ∷ 0 ∷ rest
-
-zero_at : (n i : ℕ) → slice_index (replicate n 0) i ≡ 0
-zero_at zero i = refl
-zero_at (suc n) zero = refl
-zero_at (suc n) (suc i) = zero_at n i
 
 zeros_are : (words : List ℕ) → ((i : ℕ) → get_or words i 0 ≡ 0) → words ≡ replicate (length words) 0
 zeros_are [] free = refl

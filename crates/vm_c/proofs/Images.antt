@@ -1,6 +1,6 @@
 -- The bytes of pages of 64 words, and the words of blocks in memory.
-use Rattle.std.proofs.Common.{[], ◌*◌, ◌/◌, ◌∙◌, ◌∷◌, ◌≡◌, ap, arith, length}
-use Rattle.std.proofs.Common.{length-append, List, map, refl, subst, suc, sym, true, zero, ℕ}
+use Rattle.std.proofs.Common.{[], ◌*◌, ◌/◌, ◌∷◌, ◌≡◌, ap, arith, length}
+use Rattle.std.proofs.Common.{length-append, List, map, refl, subst, suc, true, zero, ℕ}
 use Rattle.std.proofs.lemmas.List.{length-map}
 use Rattle.vm_block.specs.Memory.{stored_of, words_of}
 use Rattle.vm_block.specs.declared.{memory.MemBlock.MemBlock, stored.Stored.Stored}

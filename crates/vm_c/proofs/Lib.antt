@@ -1,3 +1,4 @@
 pub mod Images
 pub mod Rooms
 pub mod Shown
+pub mod Taking

@@ -38,7 +38,8 @@ module _ (v w : View Said) (tells : v.start.tells ≡ true) where
       → IsHandCall 64 (Window start most) answer v w → FitsIn room answer
   window-fits start most room le (Ok (Some (Win window))) call =
       let told = call.0.answered.told (ap (λ (o : Origin). o.tells) call.0.waits.start ∙ tells) in
-      let few : length window.pairs ≤ min most 28 = subst (λ (l : Pairs). length l ≤ min most 28) (sym told.proved.2.shows) (take-few (min most 28) _) in
+      let few : length window.pairs ≤ min most 28 =
+      subst (λ (l : Pairs). length l ≤ min most 28) (sym told.proved.2.shows) (take-few (min most 28) _) in
       (omega (arith, few, le), omega (arith, few))
   window-fits start most room le (Ok (Some (Got value))) call = tt
   window-fits start most room le (Ok (Some (Was value))) call = tt

@@ -1,10 +1,12 @@
 -- The numbers that exports answer, and what is told beside them.
 use Rattle.std.specs.Prelude.{Err, None, Ok, Option, Result, Some, ℕ}
-use Rattle.vm_map.specs.declared.call.{Reply.Reply, Swap.Swap}
+use Rattle.vm_map.specs.declared.call.{Reply.Reply}
 use Rattle.vm_map.specs.declared.call.Reply.TheVariants.{Gone, Got, Many, Swapped, Was, Wide, Win}
 use Rattle.vm_map.specs.declared.call.Swap.TheVariants as swaps
 use Rattle.vm_serve.specs.from_vm_tree_rule.declared_fault_TreeFault.{TreeFault}
 use Rattle.vm_serve.specs.from_vm_tree_rule.declared_fault_TreeFault_TheVariants as faults
+use Rattle.vm_face.specs.declared.store.NoHand.{NoHand}
+use Rattle.vm_face.specs.declared.store.NoHand.TheVariants as hands
 use Rattle.vm_face.specs.declared.image.Opening.{Opening}
 use Rattle.vm_face.specs.declared.image.Opening.TheVariants as openings
 use Rattle.vm_c.specs.declared.answers.CallTold.{CallTold}
@@ -40,3 +42,8 @@ refusal_for (openings.Length len) = (7, page_telling 0)
 refusal_for openings.Frames = (8, page_telling 0)
 refusal_for (openings.Page pid why) = (9, record { value = why; page = pid; had = 0 })
 refusal_for openings.Memory = (10, page_telling 0)
+
+-- 11 or 10 for a reason why there is no hand
+abbrev pub refused_hand : NoHand → ℕ
+refused_hand hands.Crowded = 11
+refused_hand hands.Memory = 10

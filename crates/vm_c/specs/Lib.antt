@@ -1,6 +1,7 @@
 pub mod Answers
 pub mod Closed
 pub mod Fits
+pub mod Flushed
 pub mod Given
 pub mod HandHandles
 pub mod Openings

@@ -1,5 +1,5 @@
 -- What opening a store answers.
-use Rattle.std.specs.Prelude.{◌≡◌, List, None, Option, Some, true, ℕ}
+use Rattle.std.specs.Prelude.{[], ◌≡◌, List, None, Option, Some, true, ℕ}
 use Rattle.vm_image.specs.File.{pages_of_bytes}
 use Rattle.vm_tree_model.specs.{Fixed.fixed, Tree.IsTree}
 use Rattle.vm_step.specs.Prelude.{view}
@@ -10,7 +10,7 @@ use Rattle.vm_c.specs.{Answers.page_telling, Answers.refusal_for, declared.answe
 pub record IsOpenedOn (bytes : List ℕ) (s : OpenStore) : Type 0 where
   pub tree : IsTree (fixed 64) (pages_of_bytes 64 bytes)
   pub opened : IsStoreOpened true (pages_of_bytes 64 bytes) (view s.store.pass)
-  pub fresh : (s.store.out ≡ 0) × (s.store.ever ≡ 0)
+  pub fresh : (s.store.homes.items ≡ []) × (s.store.ever ≡ 0)
 
 -- there is a reason why there is no store, and the number and what is told are those of the reason
 pub record IsRefusedOpening (bytes : List ℕ) (frames number : ℕ) (told : CallTold) : Type 0 where

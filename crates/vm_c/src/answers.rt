@@ -1,9 +1,9 @@
 //! What an export answers: a number, and what is said beside it.
 
 ghost use Rattle.std.specs.Prelude.{◌≡◌};
-ghost use Rattle.vm_c.specs.Answers.{answer_for, page_telling, refusal_for, value_telling};
+ghost use Rattle.vm_c.specs.Answers.{answer_for, page_telling, refusal_for, refused_hand, value_telling};
 
-use vm_face::Opening;
+use vm_face::{NoHand, Opening};
 use vm_map::call::{Reply, Swap};
 use vm_serve::tree_rule::TreeFault;
 
@@ -114,5 +114,15 @@ pub fn refusal_of(why: Opening) -> (u32, CallTold)
             (NO_TREE, told)
         }
         Opening::Memory => (MEMORY, page_told(0)),
+    }
+}
+
+/// The number of a reason why there is no hand.
+pub fn hand_refusal_of(why: NoHand) -> u32
+    ensures { result ≡ refused_hand why }
+{
+    match why {
+        NoHand::Crowded => HANDS,
+        NoHand::Memory => MEMORY,
     }
 }

@@ -2,7 +2,7 @@
 
 ghost use Rattle.std.specs.Prelude.{◌*◌, ◌≡◌, ◌≤◌, length, MatchResult, OnErr, OnOk};
 ghost use Rattle.vm_image.specs.{Blocks.pages_of_blocks, File.IsPageFile, File.bytes_of_pages, File.pages_of_bytes};
-ghost use Rattle.vm_c.specs.{Closed.IsClosedInto, Closed.IsUnclosed, Fits.IsFitStore};
+ghost use Rattle.vm_c.specs.{Closed.IsClosedInto, Closed.IsUnclosed, declared.opened.OpenStore.OpenStore, Fits.IsFitStore, Given.TookIn};
 
 use crate::opened::OpenStore;
 use std::alloc::{AllocFailed, Global};
@@ -26,25 +26,29 @@ pub struct BlockCounts {
 pub enum Unclosed {
     /// The image is not as long as the store's pages: the store comes back as it was.
     Length(Box<OpenStore, Global>),
-    /// Hands are out: the store comes back as it was.
+    /// Hands are out: the store comes back, with those taken in that were back.
     Hands(Box<OpenStore, Global>),
+    /// No hand is out, but somebody has a share of the pool: the store comes back.
+    Shared(Box<OpenStore, Global>),
     /// There was no memory: the store is gone, and the image as it was.
     Memory,
 }
 
-/// Writes what is dirty, ends the store, and writes its pages to the image.
+/// Takes in the hands that came back, writes what is dirty, ends the store, and writes its pages to the image.
 pub fn close(
     alloc: Global,
     open: Box<OpenStore, Global>,
     image: &mut [u8],
 ) -> Result<BlockCounts, Unclosed>
     requires store { IsFitStore open.value }
-    ensures { MatchResult result (IsClosedInto open.value image.new) (IsUnclosed open.value image.old image.new) }
+    ensures { MatchResult result (λ counts. (between : OpenStore) × TookIn open.value between × IsClosedInto between image.new counts)
+        (IsUnclosed open.value image.old image.new) }
 {
     if image.len() != 512 * open.store.pages() {
         return Err(Unclosed::Length(open));
     }
-    if open.store.out != 0 {
+    let open = with_hands_back(open);
+    if open.store.out() != 0 {
         return Err(Unclosed::Hands(open));
     }
     match Box::into_inner(open).into_store().close(alloc) {
@@ -56,8 +60,31 @@ pub fn close(
             Ok(open) => Err(Unclosed::Hands(open)),
             Err(_) => Err(Unclosed::Memory),
         },
+        Err(Closing::Shared(store)) => match Box::new(alloc, OpenStore { store }) {
+            Ok(open) => Err(Unclosed::Shared(open)),
+            Err(_) => Err(Unclosed::Memory),
+        },
         Err(Closing::Memory) => Err(Unclosed::Memory),
     }
+}
+
+// The store, with the hands taken in that were back.
+fn with_hands_back(mut open: Box<OpenStore, Global>) -> Box<OpenStore, Global>
+    requires store { IsFitStore open.value }
+    ensures store { IsFitStore result.value }
+    ensures took { TookIn open.value result.value }
+{
+    take_in(&mut open);
+    open
+}
+
+// Takes in the hands that are back.
+fn take_in(open: &mut OpenStore)
+    requires store { IsFitStore open.old }
+    ensures store { IsFitStore open.new }
+    ensures took { TookIn open.old open.new }
+{
+    open.store.take_in();
 }
 
 // What was counted of the blocks of a store that is closed.

@@ -3,6 +3,7 @@
 
 mod answers;
 mod closing;
+mod flushing;
 mod hand_handle;
 mod opaque;
 mod opened;
@@ -12,15 +13,17 @@ mod store_handle;
 
 ghost use Rattle.std.specs.Prelude.{◌≡◌, IfSome, None};
 ghost use Rattle.vm_map.specs.declared.call.Call.TheVariants.{Del, Get, Put, Swap};
-ghost use Rattle.vm_c.specs.{Closed.Closes, Fits.IsFitHand, Fits.IsFitStore, Fits.IsHandOf, Given.GivesHand, Given.IsOneLess, Openings.OpensOn, Told.AnswersCall};
+ghost use Rattle.vm_c.specs.{Closed.Closes, Fits.IsFitHand, Fits.IsFitStore, Flushed.HasFlushed, Given.GivesHand, Openings.OpensOn, Told.AnswersCall};
 ghost use Rattle.vm_c.specs.Shows.{bound_asked, outs, ShowsRange, ShowsWindow};
 
 use answers::{
-    CallTold, HANDS, LENGTH, MEMORY, NONE, OK, ROOM, TAKEN, answer_of, page_told, refusal_of,
+    BUSY, CallTold, HANDS, LENGTH, MEMORY, NONE, OK, ROOM, TAKEN, answer_of, hand_refusal_of,
+    page_told, refusal_of,
 };
 use closing::{BlockCounts, Unclosed, close};
+use flushing::{FlushTold, flush};
 use hand_handle::HandHandle;
-use opening::{NoHand, give, open};
+use opening::{give, open};
 use showing::{KeyValue, MOST_IN_RANGE, ShownPairs, bound_of, range, window};
 use std::alloc::Global;
 use store_handle::StoreHandle;
@@ -81,8 +84,7 @@ pub extern "C" fn brf_hand_out(alloc: Global, store: &mut StoreHandle, hand: &mu
             hand.put(held);
             OK
         }
-        Err(NoHand::Hands) => HANDS,
-        Err(NoHand::Memory) => MEMORY,
+        Err(why) => hand_refusal_of(why),
     }
 }
 
@@ -251,36 +253,38 @@ pub extern "C" fn brf_range(
     answer
 }
 
-/// Ends a hand of this store: OK, NONE.
+/// Ends a hand: it goes back to the store that gave it, which takes it in at its next call. OK, NONE.
 #[unsafe(no_mangle)]
-pub extern "C" fn brf_hand_back(
-    alloc: Global,
-    store: &mut StoreHandle,
-    hand: &mut HandHandle,
-) -> u32
-    requires store { IfSome store.old.value IsFitStore }
+pub extern "C" fn brf_hand_back(alloc: Global, hand: &mut HandHandle) -> u32
     requires hand { IfSome hand.old.value IsFitHand }
-    requires same { IfSome store.old.value (λ s. IfSome hand.old.value (IsHandOf s)) }
+    ensures hand { hand.new.value ≡ None }
+    ensures none { hand.old.value ≡ None → result ≡ 12 }
+    ensures back { IfSome hand.old.value (λ _. result ≡ 0) }
+{
+    let Some(held) = hand.take(alloc) else {
+        return NONE;
+    };
+    Box::into_inner(held).into_hand().leave();
+    OK
+}
+
+/// Writes the dirty pages of the store that no hand has locked: OK, NONE.
+#[unsafe(no_mangle)]
+pub extern "C" fn brf_flush(alloc: Global, store: &mut StoreHandle, told: &mut FlushTold) -> u32
+    requires store { IfSome store.old.value IsFitStore }
     ensures store { IfSome store.new.value IsFitStore }
-    ensures hand { IfSome hand.new.value IsFitHand }
-    ensures no_store { store.old.value ≡ None → (result ≡ 12) × (store.new.value ≡ None) × (hand.new.value ≡ hand.old.value) }
-    ensures no_hand { hand.old.value ≡ None → (result ≡ 12) × (hand.new.value ≡ None) × (store.new.value ≡ store.old.value) }
-    ensures back { IfSome store.old.value (λ before. IfSome hand.old.value (λ gone.
-        (result ≡ 0) × (hand.new.value ≡ None) × IfSome store.new.value (IsOneLess before gone))) }
+    ensures none { store.old.value ≡ None → (result ≡ 12) × (store.new.value ≡ None) × (told.new ≡ told.old) }
+    ensures flushed { IfSome store.old.value (λ before. (result ≡ 0) × IfSome store.new.value (λ after. HasFlushed before after told.new)) }
 {
     let Some(mut open) = store.take(alloc) else {
         return NONE;
     };
-    let Some(held) = hand.take(alloc) else {
-        store.put(open);
-        return NONE;
-    };
-    open.store.take_back(Box::into_inner(held).into_hand());
+    *told = flush(&mut open);
     store.put(open);
     OK
 }
 
-/// Writes what is dirty, ends the store, and writes its pages to the image: OK, NONE, HANDS, LENGTH, MEMORY.
+/// Takes in the hands that came back, writes what is dirty, ends the store, and writes its pages to the image: OK, NONE, HANDS, BUSY, LENGTH, MEMORY.
 #[unsafe(no_mangle)]
 pub extern "C" fn brf_close(
     alloc: Global,
@@ -309,6 +313,10 @@ pub extern "C" fn brf_close(
         Err(Unclosed::Hands(open)) => {
             store.put(open);
             HANDS
+        }
+        Err(Unclosed::Shared(open)) => {
+            store.put(open);
+            BUSY
         }
         Err(Unclosed::Memory) => MEMORY,
     }

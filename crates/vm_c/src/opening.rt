@@ -1,12 +1,12 @@
 //! Stores that are opened, and the hands that they give.
 
-ghost use Rattle.std.specs.Prelude.{IfErr, IfOk};
+ghost use Rattle.std.specs.Prelude.{IfErr, IfOk, None, Some};
 ghost use Rattle.vm_face.specs.Opened.{IsNotOpened};
-ghost use Rattle.vm_c.specs.{Fits.IsFitHand, Fits.IsFitStore, Given.IsNotGiven, Given.IsOneMore, Openings.IsOpenedOn};
+ghost use Rattle.vm_c.specs.{Answers.refused_hand, Fits.IsFitHand, Fits.IsFitStore, Given.GivesHand, Openings.IsOpenedOn};
 
 use crate::opened::{OpenHand, OpenStore};
 use std::alloc::{AllocFailed, Global};
-use vm_face::{Opening, open_image};
+use vm_face::{NoHand, Opening, open_image};
 
 /// A store on the tree in the bytes of a page file, with so many frames.
 pub fn open(alloc: Global, bytes: &[u8], frames: u32) -> Result<Box<OpenStore, Global>, Opening>
@@ -21,29 +21,23 @@ pub fn open(alloc: Global, bytes: &[u8], frames: u32) -> Result<Box<OpenStore, G
     }
 }
 
-/// Why there is no hand.
-#[derive(Drop)]
-pub enum NoHand {
-    /// No hand more may be out.
-    Hands,
-    Memory,
-}
-
-/// A hand of the store.
+/// A hand of the store, which takes in those that came back before.
 pub fn give(alloc: Global, open: &mut OpenStore) -> Result<Box<OpenHand, Global>, NoHand>
     requires store { IsFitStore open.old }
     ensures store { IsFitStore open.new }
     ensures hand { IfOk result (λ held. IsFitHand held.value) }
-    ensures given { IfOk result (λ held. IsOneMore open.old held.value open.new) }
-    ensures refused { IfErr result (λ why. IsNotGiven open.old open.new why) }
+    ensures given { IfOk result (λ held. GivesHand open.old open.new (Some held.value) 0) }
+    ensures refused { IfErr result (λ why. GivesHand open.old open.new None (refused_hand why)) }
 {
-    let Some(hand) = open.store.hand() else {
-        return Err(NoHand::Hands);
+    open.store.take_in();
+    let hand = match open.store.hand(alloc) {
+        Ok(hand) => hand,
+        Err(why) => return Err(why),
     };
     match Box::new(alloc, OpenHand { hand }) {
         Ok(held) => Ok(held),
         Err(AllocFailed { value }) => {
-            open.store.take_back(value.into_hand());
+            value.into_hand().leave();
             Err(NoHand::Memory)
         }
     }

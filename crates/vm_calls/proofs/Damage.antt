@@ -1,5 +1,5 @@
 -- A call that met a damaged page: the page is one of the table's, and blocks do not tell their words.
-use Rattle.std.proofs.Common.{◌<◌, ◌≡◌, ap, false, sym, subst, ℕ, ◌∙◌}
+use Rattle.std.proofs.Common.{◌<◌, subst, ℕ}
 use Rattle.vm_map.specs.declared.window.Bound.{Bound}
 use Rattle.vm_step.specs.Prelude.{Origin, View}
 use Rattle.vm_tree_model.specs.Layout.{Layout}

@@ -171,19 +171,7 @@ agrees words outside left new before after status p = λ shown other last more s
 
 -- ---- valid input
 
--- a file may be answered as not read for a cause that is not there
-no_cause : (d : Command) (takes takes' : ℕ) (outside : Outside) (left : Remains) → DevicesServe d outside left
-    → ¬ (Rose takes takes') → UnreadCause d takes takes' outside left → ⊥
-no_cause (Run run) takes takes' outside left fine taken cause = taken cause
-no_cause (Make make) takes takes' outside left fine taken cause = taken cause
-no_cause (Check check) takes takes' outside left fine taken cause = taken cause
-no_cause (Churn churn) takes takes' outside left fine taken cause = taken cause
-no_cause (Replay replay) takes takes' outside left fine taken cause = taken cause
-no_cause (Migrate migrate) takes takes' outside left fine taken cause = taken cause
-no_cause (Serve serve) takes takes' outside left fine taken (inl cause) = taken cause
-no_cause (Serve serve) takes takes' outside left fine taken (inr cause) = fine.1 cause
-
--- the same of words that are this command's
+-- a file is not answered as unread for a cause that is not there
 no_cause_by : (words : List (List ℕ)) (d : Command) (takes takes' : ℕ) (outside : Outside) (left : Remains)
     → IsCommand words d → DevicesServe d outside left → ¬ (Rose takes takes')
     → UnreadBy words takes takes' outside left → ⊥

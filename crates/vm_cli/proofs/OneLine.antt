@@ -219,23 +219,6 @@ cut_not_done outside left (Migrate migrate) content before after is = absurd is
 cut_not_done outside left (Replay replay) content before after is = λ e. omega (arith, e, is.1)
 cut_not_done outside left (Serve serve) content before after is = λ e. omega (arith, e, is.1)
 
--- nor is it that of a file that was not read
-pub cut_read : (outside : Outside) (left : Remains) (c : Command) (content : Content) (before after : Ends)
-    → Cut c outside left content before after → content.status ≢ 2
-cut_read outside left (Run run) content before after is = λ e. omega (arith, e, is.1)
-cut_read outside left (Make make) content before after is = absurd is
-cut_read outside left (Check check) content before after is = absurd is
-cut_read outside left (Churn churn) content before after is = absurd is
-cut_read outside left (Migrate migrate) content before after is = absurd is
-cut_read outside left (Replay replay) content before after is = λ e. omega (arith, e, is.1)
-cut_read outside left (Serve serve) content before after is = λ e. omega (arith, e, is.1)
-
--- so what was done has another status
-pub done_read : (outside : Outside) (left : Remains) (c : Command) (content : Content) (before after : Ends)
-    → Performs c outside left content before after → content.status ≢ 2
-done_read outside left c content before after (told t e) = λ two. omega (arith, e, two)
-done_read outside left c content before after (cut t) = cut_read outside left c content before after t
-
 run_ends : (outside : Outside) (left : Remains) (run : RunLine) (content : Content) (before after : Ends)
     → Performs (Run run) outside left content before after → as_done content.status ≡ 0
 run_ends outside left run content before after (told t e) = ap as_done e

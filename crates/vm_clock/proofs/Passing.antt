@@ -1,9 +1,9 @@
 -- What a walk leaves of the words of a table that nobody else changes: each page passed has its word as the clock
 -- leaves it, by the first visit.
-use Rattle.vm_step.specs.from_vm_rule.declared_view_WordPlace_TheVariants as places
+use Rattle.vm_supply.specs.from_vm_rule.declared_view_WordPlace_TheVariants as places
 use Rattle.vm_clock.specs.Clock.{Visits as visits, VisitsFrame as frames}
 use Rattle.std.proofs.lemmas.List.{get_or_past}
-use Rattle.vm_step.specs.Prelude.{known_word_at}
+use Rattle.vm_supply.specs.from_vm_step.Prelude.{known_word_at}
 use Rattle.vm_clock.proofs.Prelude.{[], and_left, and_right, ap, arith, candidate_pages, cases_eq, cases_lt}
 use Rattle.vm_clock.proofs.Prelude.{cond-false, cond-true, Did, did_change, did_load, Each, each-both, each-map}
 use Rattle.vm_clock.proofs.Prelude.{else-knows, eq-eqb, eqb, false, Follows, follows-between, follows-kept}

@@ -7,16 +7,17 @@ pub use Rattle.std.proofs.lemmas.Bool.{and_left, and_right, cases_eq, cases_lt, 
 pub use Rattle.std.proofs.lemmas.Bool.{lt-ltb, ne_eqb, true≢false}
 pub use Rattle.std.proofs.lemmas.List.{get_or-set_other, get_or-set_same, length-append, length-set}
 pub use Rattle.vm_core.specs.Prelude.{MARKED, MAX_VERSION, UNLOCKED}
-pub use Rattle.vm_step.specs.from_vm_rule.Prelude.{AreApart, did_change, did_exchange, did_load, Each, has, index_of, LookTold}
-pub use Rattle.vm_step.specs.from_vm_rule.Prelude.{MarkTold, set_if, Start, Within}
-pub use Rattle.vm_step.proofs.from_vm_rule.{Entries.each-map, Facts.has-both, Heard.each-both}
-pub use Rattle.vm_step.proofs.from_vm_rule.{WordFacts.version-within, WordFacts.word-state}
-pub use Rattle.vm_step.specs.Prelude.{AreCandidates, candidate_pages, Did, Follows, IsAlone, IsCandidate, Origin, RunsAlone, View, view}
-pub use Rattle.vm_step.specs.declared.choice.Looks.{Looks}
-pub use Rattle.vm_step.proofs.{Alone.runs-one, Alone.runs-then, Asides.aside-within, Asides.only-then}
-pub use Rattle.vm_step.proofs.{Asides.OnlyReads, Groups.apart-end, steps.Look.look-only, steps.Unchanged.mark-only}
-pub use Rattle.vm_step.proofs.{Tables.else-knows, Tables.follows-between, Tables.follows-kept, Tables.follows-length}
-pub use Rattle.vm_step.proofs.Evidenced.{first-or, given-behind, given-front, held-state}
+pub use Rattle.vm_supply.specs.from_vm_rule.Prelude.{AreApart, did_change, did_exchange, did_load, Each, has, index_of, LookTold}
+pub use Rattle.vm_supply.specs.from_vm_rule.Prelude.{MarkTold, set_if, Start, Within}
+pub use Rattle.vm_supply.proofs.from_vm_rule.{Entries.each-map, Facts.has-both, Heard.each-both}
+pub use Rattle.vm_supply.proofs.from_vm_rule.WordFacts.{version-within, word-state}
+pub use Rattle.vm_supply.specs.from_vm_step.Prelude.{AreCandidates, candidate_pages, Did, Follows, IsAlone, IsCandidate, Origin}
+pub use Rattle.vm_supply.specs.from_vm_step.Prelude.{RunsAlone, View, view}
+pub use Rattle.vm_supply.specs.from_vm_step.declared_choice_Looks.{Looks}
+pub use Rattle.vm_supply.proofs.from_vm_step.{Alone.runs-one, Alone.runs-then, Asides.aside-within, Asides.only-then}
+pub use Rattle.vm_supply.proofs.from_vm_step.{Asides.OnlyReads, Groups.apart-end, steps_Look.look-only, steps_Unchanged.mark-only}
+pub use Rattle.vm_supply.proofs.from_vm_step.Tables.{else-knows, follows-between, follows-kept, follows-length}
+pub use Rattle.vm_supply.proofs.from_vm_step.Evidenced.{first-or, given-behind, given-front, held-state}
 pub use Rattle.vm_clock.specs.{Clock.passed_word, Clock.Visits, Clock.VisitsFrame, Clock.WalksFrames, Met.HoldsChosen}
 pub use Rattle.vm_clock.specs.Clock.{FindsOwner, IsBelowLast, IsChosen, IsFrameVisited, IsPageVisited, IsPassed}
 pub use Rattle.vm_clock.specs.Clock.{IsWalked, KnowsWalked, looks_counted, LooksAt}

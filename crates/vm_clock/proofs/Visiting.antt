@@ -1,11 +1,11 @@
 -- The pages among the candidates, and what a visit comes to.
-use Rattle.vm_step.specs.from_vm_rule.declared_view_WordPlace_TheVariants as places
+use Rattle.vm_supply.specs.from_vm_rule.declared_view_WordPlace_TheVariants as places
 use Rattle.vm_clock.specs.Clock.{Visits as visits, VisitsFrame as frames}
 use Rattle.vm_core.specs.Prelude.{at, has_free_bit, upd}
 use Rattle.vm_core.proofs.Upd.{upd-other, upd-same}
-use Rattle.vm_step.specs.steps.Owner.{OwnerLoadTold}
-use Rattle.vm_step.proofs.{Asides.alone-silent, steps.Leaving.only-of, steps.Leaving.others-still}
-use Rattle.vm_step.proofs.steps.Unchanged.{still-holds, still-knows, still-own}
+use Rattle.vm_supply.specs.from_vm_step.steps_Owner.{OwnerLoadTold}
+use Rattle.vm_supply.proofs.from_vm_step.{Asides.alone-silent, steps_Leaving.only-of, steps_Leaving.others-still}
+use Rattle.vm_supply.proofs.from_vm_step.steps_Unchanged.{still-holds, still-knows, still-own}
 use Rattle.vm_clock.proofs.Prelude.{[], ap, apart-end, AreApart, AreCandidates, arith, aside-within, Bool}
 use Rattle.vm_clock.proofs.Prelude.{candidate_pages, cases_eq, Did, did_exchange, did_load, Each, each-both, each-map}
 use Rattle.vm_clock.proofs.Prelude.{eq-eqb, eqb, false, FindsOwner, has, has-both, HoldsChosen, inl, inr, IsBelowLast}

@@ -1,5 +1,5 @@
 -- A walk: the next visit makes it longer; each of its looks is counted; its candidates are pages of the table, each another.
-use Rattle.vm_step.specs.from_vm_rule.declared_view_WordPlace_TheVariants as places
+use Rattle.vm_supply.specs.from_vm_rule.declared_view_WordPlace_TheVariants as places
 use Rattle.vm_clock.proofs.Passing.{walked-knows}
 use Rattle.vm_clock.proofs.Prelude.{[], ap, AreCandidates, arith, aside-within, Did, did_change, FindsOwner}
 use Rattle.vm_clock.proofs.Prelude.{given-behind, given-front, hand_more, IsChosen, IsFrameVisited, length}

@@ -7,12 +7,12 @@
 use Rattle.std.specs.Prelude.{[], false, if◌then◌else◌, length, List, nat_lt, None, suc, true, zero, ℕ, ◌%◌, ◌&&◌}
 use Rattle.std.specs.Prelude.{◌*◌, ◌++◌, ◌+◌, ◌<◌, ◌==◌, ◌∷◌, ◌≡◌, ◌≢◌, ◌≤◌, ◌⊎◌}
 use Rattle.vm_core.specs.Prelude.{EVICTED, hand_more, MARKED, MAX_VERSION, state_of, UNLOCKED, version_of, word_of}
-use Rattle.vm_step.specs.from_vm_rule.Prelude.{did_change, did_exchange, did_load, has}
-use Rattle.vm_step.specs.from_vm_rule.declared_view_WordPlace.{WordPlace}
-use Rattle.vm_step.specs.from_vm_rule.declared_view_WordPlace_TheVariants as places
-use Rattle.vm_step.specs.Prelude.{candidate_pages, Did, first_or, HasGiven, IsAlone, IsAside, IsAsideOf, IsHeld}
-use Rattle.vm_step.specs.Prelude.{KeepsFrames, known_word_at, KnowsAt, KnowsElse, RunsAlone, View}
-use Rattle.vm_step.specs.declared.choice.Looks.{Looks}
+use Rattle.vm_supply.specs.from_vm_rule.Prelude.{did_change, did_exchange, did_load, has}
+use Rattle.vm_supply.specs.from_vm_rule.declared_view_WordPlace.{WordPlace}
+use Rattle.vm_supply.specs.from_vm_rule.declared_view_WordPlace_TheVariants as places
+use Rattle.vm_supply.specs.from_vm_step.Prelude.{candidate_pages, Did, first_or, HasGiven, IsAlone, IsAside, IsAsideOf, IsHeld}
+use Rattle.vm_supply.specs.from_vm_step.Prelude.{KeepsFrames, known_word_at, KnowsAt, KnowsElse, RunsAlone, View}
+use Rattle.vm_supply.specs.from_vm_step.declared_choice_Looks.{Looks}
 
 -- a count of no look
 abbrev pub no_looks : Looks

@@ -3,7 +3,7 @@
 #![tactic(auto)]
 
 ghost use Rattle.std.specs.Prelude.{◌%◌, ◌*◌, ◌+◌, ◌<◌, ◌≡◌, ◌≤◌, length};
-ghost use Rattle.vm_step.specs.Prelude.{AreCandidates, GoesOn, IsReadyOn, view};
+ghost use Rattle.vm_supply.specs.from_vm_step.Prelude.{AreCandidates, GoesOn, IsReadyOn, view};
 ghost use Rattle.vm_clock.specs.Clock.{IsChosen, IsFrameVisited, IsPageVisited, looks_counted};
 ghost use Rattle.vm_clock.specs.Met.{HoldsChosen};
 
@@ -15,8 +15,9 @@ use arrayvec::ArrayVec;
 use vm_block::Block;
 use vm_core::{FRAMES, MAX_VERSION, StateWord};
 use vm_owner::Owner;
-use vm_step::rule::{Pass, Words};
-use vm_step::{Candidates, Looks, Took, hand, look_silently, mark, oload};
+use vm_supply::hand;
+use vm_supply::rule::{Pass, Words};
+use vm_supply::step::{Candidates, Looks, Took, look_silently, mark, oload};
 
 /// No look yet.
 const NO_LOOKS: Looks = Looks {

@@ -2,8 +2,8 @@
 // second round. A look goes through those chosen only where a filter has the page's bit.
 ghost use Rattle.std.specs.Prelude.{◌%◌, ◌≡◌, replicate, true};
 ghost use Rattle.vm_core.specs.Prelude.{at, has_free_bit, upd};
-ghost use Rattle.vm_step.specs.from_vm_rule.Prelude.{has};
-ghost use Rattle.vm_step.specs.Prelude.{candidate_pages};
+ghost use Rattle.vm_supply.specs.from_vm_rule.Prelude.{has};
+ghost use Rattle.vm_supply.specs.from_vm_step.Prelude.{candidate_pages};
 ghost use Rattle.vm_clock.specs.Met.{HoldsChosen, may_hold};
 
 /// The masks of a filter.

@@ -1,5 +1,5 @@
 -- What the place of the first that passes tells of the pages out.
-use Rattle.std.proofs.Common.{◌≡◌, ℕ, zero, suc, ◌<◌, List, [], ◌∷◌, length, map, Bool, true, false, cond, Some, None}
+use Rattle.std.proofs.Common.{◌≡◌, ℕ, zero, suc, ◌<◌, List, [], ◌∷◌, length, Bool, true, false, cond, Some, None}
 use Rattle.std.proofs.Common.{refl, sym, ap, ◌∙◌, slice_get, slice_index_or, ◌≤◌, arith}
 use Rattle.std.specs.List.{remove}
 use Rattle.vm_device.specs.Devices.{count_out, is_page, outs_without}

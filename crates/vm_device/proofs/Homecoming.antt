@@ -71,9 +71,6 @@ pub record AreHomeTo (tells : Bool) (base : List OutPage) (before : List Stored)
   pub files : tells ≡ true → now.files ≡ with_all_words old.files name 0 done
 
 module _ (tells : Bool) (base : List OutPage) (before : List Stored) (old : DeviceState) (name : List ℕ) where
-  pub none_home : old.outs ≡ base ++ outs_of name 0 before → old.count ≤ MAX_COUNT → AreHomeTo tells base before old old name []
-  none_home outs most = record { outs = outs; count = omega (arith, most); files = λ _. refl }
-
   pub one_home : (now new : DeviceState) (done : List Stored) (block : Stored) (page : ℕ) → AreHomeTo tells base before old now name done
       → page ≡ length done → length done < length before → count_out base name page ≡ None → BringsHome tells block now new name page
       → AreHomeTo tells base before old new name (done ++ block ∷ [])

@@ -21,15 +21,6 @@ pub record AreSyncedTo (tells : Bool) (old now : List Stored) (n : ℕ) (first :
   pub each : (p : ℕ) (d : Stored) → p < n → (answered : Bool) × IsAfterSync tells answered (get_or old p d) (get_or now p d)
   pub failed : IsFirst tells old now n first
 
-module _ (tells : Bool) (old : List Stored) where
-  pub none_synced : AreSyncedTo tells old old 0 None
-  none_synced = record {
-    many = refl;
-    behind = λ p d more. refl;
-    each = λ p d low. absurd (omega (arith, low));
-    failed = λ p d low. absurd (omega (arith, low));
-  }
-
 module _ (tells : Bool) (old now : List Stored) (i : ℕ) (first : Option ℕ) (a : AreSyncedTo tells old now i first)
     (lt : i < length old) (b : Stored) (is : b ≡ get_or now i b) (new : Stored) where
   within : i < length now
@@ -96,9 +87,6 @@ pub record AreAskedTo (old now : List ℕ) (n : ℕ) : Type 0 where
   pub many : length now ≡ length old
   pub behind : (p d : ℕ) → n ≤ p → get_or now p d ≡ get_or old p d
   pub each : (p d : ℕ) → p < n → get_or now p d ≡ count_more (get_or old p d)
-
-pub none_asked : (old : List ℕ) → AreAskedTo old old 0
-none_asked old = record { many = refl; behind = λ p d more. refl; each = λ p d low. absurd (omega (arith, low)) }
 
 pub one_asked : (old now : List ℕ) (i was new : ℕ) → AreAskedTo old now i → i < length old → was ≡ get_or now i was → new ≡ count_more was
     → AreAskedTo old (set now i new) (i + 1)

@@ -1,6 +1,6 @@
 -- What the place of the first file with a name tells of the files.
-use Rattle.std.proofs.Common.{◌≡◌, ℕ, zero, suc, ◌<◌, List, [], ◌∷◌, length, map, Bool, true, false, cond, Some, None}
-use Rattle.std.proofs.Common.{refl, sym, ap, ◌∙◌, slice_index_or, slice_get, slice_set, string_bytes, arith}
+use Rattle.std.proofs.Common.{◌≡◌, ℕ, zero, suc, ◌<◌, List, [], ◌∷◌, length, Bool, true, false, cond, Some, None}
+use Rattle.std.proofs.Common.{refl, sym, ap, ◌∙◌, slice_index_or, slice_set, arith}
 use Rattle.std.specs.Str.{bytes_eq}
 use Rattle.std.specs.Prelude.{Option, is_some}
 use Rattle.vm_device.specs.Devices.{StoredFile, file_of, files_home, with_words}

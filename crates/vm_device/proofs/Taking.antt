@@ -2,7 +2,7 @@
 use Rattle.std.proofs.Common.{◌≡◌, ℕ, ◌+◌, ◌≤◌, List, [], ◌∷◌, ◌++◌, length, length-append, min, Bool, true, Some, None, slice_index_or}
 use Rattle.std.proofs.Common.{refl, sym, ap, ◌∙◌, subst, arith, inl, inr}
 use Rattle.std.proofs.lemmas.Bool.{cases_lt}
-use Rattle.std.proofs.lemmas.List.{append-nil, append_assoc, get_or_append_left}
+use Rattle.std.proofs.lemmas.List.{append_assoc, get_or_append_left}
 use Rattle.std.proofs.Math.Seq.{get_or-append_seam}
 use Rattle.vm_page.specs.Counts.{count_more, MAX_COUNT}
 use Rattle.vm_block.specs.declared.stored.Stored.{Stored}
@@ -18,17 +18,6 @@ unfolding count_more
 counted first last many low is = omega (arith, low, is)
 
 module _ (tells : Bool) (old : DeviceState) (name : List ℕ) where
-  pub none_out : AllAreOut tells old old name 0 []
-  none_out = record {
-    many = refl;
-    home = λ p low. absurd (omega (arith, low));
-    outs = sym (append-nil old.outs);
-    told = λ t p d low. absurd (omega (arith, low));
-    count = refl;
-    answered = refl;
-    files = λ t. refl;
-  }
-
   -- one block more is taken out
   pub one_out : (now new : DeviceState) (page : ℕ) (blocks : List Stored) (block : Stored) → AllAreOut tells old now name page blocks
       → (tells ≡ true → words_at now.files name page ≡ Some block.words) → count_out now.outs name page ≡ None

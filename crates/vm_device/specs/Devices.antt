@@ -1,7 +1,7 @@
 -- What devices hold and have counted, as plain data, and what each call answers and changes of it.
 use Rattle.std.specs.Prelude.{ℕ, ◌≡◌, ◌+◌, ◌++◌, List, [], ◌∷◌, Bool, true, ◌&&◌, ◌||◌, cond, if◌then◌else◌}
 use Rattle.std.specs.Prelude.{nat_eq, nat_lt, slice_get, slice_set}
-use Rattle.std.specs.Prelude.{Option, Some, None, Result, is_some, is_ok, IfOk, OnOk, OnErr, option_map}
+use Rattle.std.specs.Prelude.{Option, Some, None, Result, is_ok, IfOk, OnOk, OnErr, option_map}
 use Rattle.std.specs.Str.{bytes_eq}
 use Rattle.vm_page.specs.Counts.{count_more, MAX_COUNT}
 use Rattle.vm_block.specs.declared.stored.Stored.{Stored}

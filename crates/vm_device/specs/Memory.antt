@@ -1,6 +1,6 @@
 -- What devices in memory hold, and which of their calls fail.
 use Rattle.std.specs.Prelude.{ℕ, ◌+◌, ◌-◌, ◌*◌, ◌/◌, ◌^◌, ◌≡◌, All, List, [], ◌∷◌, length, map, zero, suc}
-use Rattle.std.specs.Prelude.{min, Bool, Some, None, string_bytes, nat_eq, ◌==◌}
+use Rattle.std.specs.Prelude.{min, Bool, string_bytes, nat_eq, ◌==◌}
 use Rattle.std.proofs.Common.{arith}
 use Rattle.std.specs.List.{filter, list_any}
 use Rattle.vm_page.specs.Counts.{count_more}

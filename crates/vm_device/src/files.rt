@@ -1,6 +1,6 @@
 //! Devices over the real files.
 
-ghost use Rattle.std.specs.Prelude.{◌≡◌, [], None};
+ghost use Rattle.std.specs.Prelude.{[]};
 ghost use Rattle.vm_page.specs.Sizes.{IsSize};
 ghost use Rattle.vm_device.specs.Held.{IsUntouched, state_with};
 

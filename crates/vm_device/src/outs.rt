@@ -1,6 +1,6 @@
 //! The pages whose blocks are out.
 
-ghost use Rattle.std.specs.Prelude.{◌≡◌, ◌++◌, [], ◌∷◌, None, IfNone, MatchOption, OnOk, OnErr};
+ghost use Rattle.std.specs.Prelude.{◌≡◌, ◌++◌, [], ◌∷◌, None, MatchOption, OnOk, OnErr};
 ghost use Rattle.vm_device.specs.Devices.{count_out, is_page, outs_without};
 ghost use Rattle.vm_device.specs.Held.{StandsFirst, out_page, outs_in};
 

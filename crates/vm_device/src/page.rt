@@ -3,7 +3,6 @@
 ghost use Rattle.std.specs.Prelude.{◌≡◌, IfOk, is_ok, not, true};
 ghost use Rattle.vm_page.specs.Counts.{count_more};
 ghost use Rattle.vm_page.specs.Sizes.{IsSize};
-ghost use Rattle.vm_block.specs.Blocks.{Reads, Writes};
 ghost use Rattle.vm_device.specs.Devices.{Syncs};
 ghost use Rattle.vm_device.specs.Memory.{IsNewPage, fails_sync, page_stored};
 

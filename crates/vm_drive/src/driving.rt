@@ -1,23 +1,20 @@
 //! All workers, side by side.
 
-ghost use Rattle.std.specs.List.{AllByRecursion};
 ghost use Rattle.std.specs.Prelude.{[], ◌*◌, ◌<◌, ◌≡◌, ◌≤◌, IfErr, IfOk, length, None};
 ghost use Rattle.std.specs.Vec.{vec_capacity};
 ghost use Rattle.vm_rule.specs.Prelude.{Each, HoldsNoPage, IsWhole};
 ghost use Rattle.vm_step.specs.Prelude.{GoesOn, IsReadyOn, view};
-ghost use Rattle.vm_calls.specs.Compact.{all_replies, HasContents};
 ghost use Rattle.vm_drive.specs.Crews.{AllWorked, answers_of, AreAtHome, AreHired, AreIdle, AreJoined, HasWorked, IsBack, IsIdle, share_of};
-ghost use Rattle.vm_drive.specs.Drives.{AreAskable, AreFew, IsDriven, IsDrivenInto, items_of};
+ghost use Rattle.vm_drive.specs.Drives.{AreAskable, AreFew, IsDrivenInto, items_of};
 ghost use Rattle.vm_drive.specs.{Holds.list_at, Lists.HaveRoom};
 
-use crate::memory::{rooms_for, spans_for};
+use crate::memory::spans_for;
 use std::alloc::{AllocError, Global};
 use std::sync::Wait;
 use std::thread;
 use std::thread::Threads;
 use vm_block::{Block, PageBlock};
 use vm_calls::answers::Answers;
-use vm_calls::compact::Replies;
 use vm_calls::exmap::Interface;
 use vm_calls::gate::Gate;
 use vm_calls::kind::{OfSize, TreeOf, WordKeys};
@@ -28,15 +25,6 @@ use vm_map::call::Call;
 use vm_map::span::Span;
 use vm_owner::Owner;
 use vm_rule::words::Pass;
-
-/// What the workers were answered, and how many pages their sweeps evicted.
-#[derive(Drop)]
-pub struct Driven {
-    /// For each list an answer for each of its calls, in order.
-    pub replies: Vec<Replies>,
-    /// Up to the greatest `u64`.
-    pub evicted: u64,
-}
 
 /// What keeps what the workers were answered, and how many pages their sweeps evicted.
 #[derive(Drop)]
@@ -49,48 +37,8 @@ pub struct DrivenInto<A> {
 
 /// Makes the lists' calls, one worker for each list, side by side: 1 to 64 lists of at most 1,000,000 calls each, eight frames for each. The
 /// pass has all parts and holds no page, and has a fresh part for each list. Afterwards it has all parts again, and knows what the workers did.
-/// Where there is no memory, no call was made, and the pass is as it was.
-pub fn drive<
-    S: OfSize<N> + Sync,
-    R: Threads + Wait + Sync,
-    B: PageBlock<N> + Send + Sync,
-    G: Gate + Sync,
-    const N: usize,
->(
-    rt: &R,
-    alloc: Global,
-    pool: &Pool<TreeOf<WordKeys<S, N>>, B, N>,
-    pass: &mut Pass<TreeOf<WordKeys<S, N>>>,
-    lists: &[Vec<Call>],
-    gate: &G,
-) -> Result<Driven, Memory>
-    requires ready { IsReadyOn pool.now.words B.tells pass.old }
-    requires whole { IsWhole (view pass.old) }
-    requires holds { HoldsNoPage (view pass.old) }
-    requires fresh { length lists.now ≤ length (view pass.old).fresh }
-    requires lists { (1 ≤ length lists.now) × (length lists.now ≤ 64) }
-    requires few { AreFew (items_of lists.now) }
-    requires askable { AreAskable (items_of lists.now) }
-    requires frames { 8 * length lists.now ≤ pool.now.words.frames }
-    requires pages { 1 ≤ pool.now.words.table.shared.key.pages }
-    ensures goes { GoesOn pool.now.words B.tells pass.old pass.new }
-    ensures driven { IfOk result (λ driven. IsDriven N B.tells (items_of lists.now) (all_replies driven.replies.items) (view pass.old) (view pass.new)) }
-    ensures contents { IfOk result (λ driven. AllByRecursion HasContents driven.replies.items) }
-    ensures memory { IfErr result (λ _. pass.new ≡ pass.old) }
-{
-    let rooms = match rooms_for(alloc, lists) {
-        Ok(rooms) => rooms,
-        Err(AllocError) => return Err(Memory),
-    };
-    let DrivenInto { kept, evicted } = drive_into(rt, alloc, pool, pass, lists, gate, rooms)?;
-    Ok(Driven {
-        replies: kept,
-        evicted,
-    })
-}
-
-/// The same, where each list has something that keeps its answers, in the lists' order: it stands for no answer yet, and has room for one to
-/// each of the list's calls, and for a window or a range's pairs to each that asks for them.
+/// Where there is no memory, no call was made, and the pass is as it was. Each list has something that keeps its answers, in the lists' order:
+/// it stands for no answer yet, and has room for one to each of the list's calls, and for a window or a range's pairs to each that asks for them.
 pub fn drive_into<
     S: OfSize<N> + Sync,
     R: Threads + Wait + Sync,

@@ -10,6 +10,6 @@ pub mod pool;
 pub mod tree_read;
 pub mod tree_rule;
 
-pub use driving::{Driven, DrivenInto, drive, drive_into};
+pub use driving::{DrivenInto, drive_into};
 pub use memory::rooms_for;
 pub use vm_calls::{answers, compact, gate};

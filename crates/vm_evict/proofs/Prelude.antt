@@ -24,40 +24,42 @@ pub use Rattle.vm_rule.specs.Prelude.{translation_of, TranslationTold, UnshareTo
 pub use Rattle.vm_rule.specs.Prelude.{Within, words_held, WriteLockTold}
 pub use Rattle.vm_rule.proofs.{Entries.append-none, Entries.each-map, Facts.has-both, Found.part-found, Heard.each-both, Joining.has-left}
 pub use Rattle.vm_rule.proofs.WordFacts.{mapping-clean, version-within, word-made, word-state, word-version}
-pub use Rattle.vm_step.specs.from_vm_rule_laws.Standing.{mapping_in, state_in}
-pub use Rattle.vm_step.specs.{declared.choice.Looks.Looks, declared.took.Took.TheVariants.Lost}
-pub use Rattle.vm_step.specs.{declared.took.Took.TheVariants.Taken, steps.Owner.OwnerTold}
-pub use Rattle.vm_step.specs.Prelude.{candidate_pages, Did, first_or, GoesOnce, HasGiven, HasWritten, HoldsPage}
-pub use Rattle.vm_step.specs.Prelude.{IsAlone, IsAsideOf, IsCalledOnce, IsCandidate, IsHeld, IsLost, IsOfPage}
-pub use Rattle.vm_step.specs.Prelude.{IsSamePass, IsToldOf, KeepsFrames, known_word_at, KnowsAsBefore, LeavesLast}
-pub use Rattle.vm_step.specs.Prelude.{LeavesRest, MayRaise, MayTakeOut, MayUnshare, Note, Origin, ReadsAsBefore}
-pub use Rattle.vm_step.specs.Prelude.{Release, RunsAlone, StaysHome, Tie, LeavesOnly, Translation, Unstored, View}
-pub use Rattle.vm_step.specs.Prelude.{view, Works, WritesNone}
-pub use Rattle.vm_step.proofs.{After.knows-after, Alone.runs-one, Alone.runs-self, Alone.runs-then, Alone.stays-alone}
-pub use Rattle.vm_step.proofs.{Alone.still-alone, Asides.reads-then, Asides.starts-then, Asides.still-locking}
-pub use Rattle.vm_step.proofs.{Asides.whole-then, Leaves.aside-of, Leaves.leaves-then, Leaves.works-none}
-pub use Rattle.vm_step.proofs.{Leaves.works-then, Releasing.each-has, steps.Content.load-works, steps.Look.look-only}
-pub use Rattle.vm_step.proofs.{steps.Look.look-others, steps.Look.look-own, steps.Mapping.clean-held}
-pub use Rattle.vm_step.proofs.{steps.Mapping.clean-works, steps.Mapping.clear-held, steps.Mapping.clear-works}
-pub use Rattle.vm_step.proofs.{steps.Owner.owner-held, steps.Owner.owner-works, steps.Raise.raise-held}
-pub use Rattle.vm_step.proofs.{steps.Raise.raise-works, steps.Release.evict-alone, steps.Release.evict-leaves}
-pub use Rattle.vm_step.proofs.{steps.Release.evict-seat, steps.Unchanged.lost-only, steps.Unchanged.still-own}
-pub use Rattle.vm_step.proofs.{steps.Unchanged.still-works, steps.WriteBack.write_lock-own}
-pub use Rattle.vm_step.proofs.{steps.WriteBack.write_lock-seat, Tables.else-knows}
-pub use Rattle.vm_step.proofs.Asides.{alone-self, alone-then, aside-then, aside-within, holds-then, keeps-self}
-pub use Rattle.vm_step.proofs.Asides.{keeps-then, knows-then, numbers-self, numbers-then, only-then, OnlyReads}
-pub use Rattle.vm_step.proofs.steps.WriteBack.{upgrade-brings, upgrade-did, upgrade-draft, upgrade-held, upgrade-last}
-pub use Rattle.vm_step.proofs.steps.WriteBack.{upgrade-others, upgrade-own, upgrade-seat, write_lock-brings}
-pub use Rattle.vm_step.proofs.steps.WriteBack.{write_lock-did, write_lock-held, write_lock-leaves, write_lock-others}
-pub use Rattle.vm_step.proofs.Device.{comes-home, counts-one, goes-out, may-bring-written, noted-more, two-loads}
-pub use Rattle.vm_step.proofs.DeviceCalls.{called-behind, called-front, goes-once, home-both, home-else, is-fault}
-pub use Rattle.vm_step.proofs.DeviceCalls.{no-fault, once-behind, once-front}
-pub use Rattle.vm_step.proofs.Evidenced.{given-behind, given-front, held-state, leaves-both, leaves-front, lost-view}
-pub use Rattle.vm_step.proofs.Evidenced.{written-behind, written-front}
-pub use Rattle.vm_step.proofs.steps.Leaving.{aside-self, LeavesOthers, LeavesOwn, others-still, rest-of}
-pub use Rattle.vm_step.proofs.steps.Lock.{lock-brings, lock-did, lock-draft, lock-held, lock-others, lock-own, lock-seat}
-pub use Rattle.vm_step.proofs.steps.Share.{unshare-did, unshare-leaves, unshare-others, unshare-own, unshare-seat}
-pub use Rattle.vm_step.proofs.steps.Translate.{tload-others, tload-own, tload-works, translation-only}
+pub use Rattle.vm_supply.specs.from_vm_rule_laws.Standing.{mapping_in, state_in}
+pub use Rattle.vm_supply.specs.from_vm_step.{declared_choice_Looks.Looks, declared_took_Took_TheVariants.Lost}
+pub use Rattle.vm_supply.specs.from_vm_step.{declared_took_Took_TheVariants.Taken, steps_Owner.OwnerTold}
+pub use Rattle.vm_supply.specs.from_vm_step.Prelude.{candidate_pages, Did, first_or, GoesOnce, HasGiven, HasWritten, HoldsPage}
+pub use Rattle.vm_supply.specs.from_vm_step.Prelude.{IsAlone, IsAsideOf, IsCalledOnce, IsCandidate, IsHeld, IsLost, IsOfPage}
+pub use Rattle.vm_supply.specs.from_vm_step.Prelude.{IsSamePass, IsToldOf, KeepsFrames, known_word_at, KnowsAsBefore, LeavesLast}
+pub use Rattle.vm_supply.specs.from_vm_step.Prelude.{LeavesRest, MayRaise, MayTakeOut, MayUnshare, Note, Origin, ReadsAsBefore}
+pub use Rattle.vm_supply.specs.from_vm_step.Prelude.{Release, RunsAlone, StaysHome, Tie, LeavesOnly, Translation, Unstored, View}
+pub use Rattle.vm_supply.specs.from_vm_step.Prelude.{view, Works, WritesNone}
+pub use Rattle.vm_supply.proofs.from_vm_step.{After.knows-after, Alone.runs-one, Alone.runs-self, Alone.runs-then, Alone.stays-alone}
+pub use Rattle.vm_supply.proofs.from_vm_step.{Alone.still-alone, Asides.reads-then, Asides.starts-then, Asides.still-locking}
+pub use Rattle.vm_supply.proofs.from_vm_step.{Asides.whole-then, Leaves.aside-of, Leaves.leaves-then, Leaves.works-none}
+pub use Rattle.vm_supply.proofs.from_vm_step.{Leaves.works-then, Releasing.each-has, steps_Content.load-works, steps_Look.look-only}
+pub use Rattle.vm_supply.proofs.from_vm_step.{steps_Look.look-others, steps_Look.look-own, steps_Mapping.clean-held}
+pub use Rattle.vm_supply.proofs.from_vm_step.steps_Mapping.{clean-works, clear-held, clear-works}
+pub use Rattle.vm_supply.proofs.from_vm_step.steps_Owner.{owner-held, owner-works}
+pub use Rattle.vm_supply.proofs.steps.Raise.{raise-held}
+pub use Rattle.vm_supply.proofs.steps.Raise.{raise-works}
+pub use Rattle.vm_supply.proofs.from_vm_step.steps_Release.{evict-alone, evict-leaves}
+pub use Rattle.vm_supply.proofs.from_vm_step.{steps_Release.evict-seat, steps_Unchanged.lost-only, steps_Unchanged.still-own}
+pub use Rattle.vm_supply.proofs.from_vm_step.{steps_Unchanged.still-works, steps_WriteBack.write_lock-own}
+pub use Rattle.vm_supply.proofs.from_vm_step.{steps_WriteBack.write_lock-seat, Tables.else-knows}
+pub use Rattle.vm_supply.proofs.from_vm_step.Asides.{alone-self, alone-then, aside-then, aside-within, holds-then, keeps-self}
+pub use Rattle.vm_supply.proofs.from_vm_step.Asides.{keeps-then, knows-then, numbers-self, numbers-then, only-then, OnlyReads}
+pub use Rattle.vm_supply.proofs.from_vm_step.steps_WriteBack.{upgrade-brings, upgrade-did, upgrade-draft, upgrade-held, upgrade-last}
+pub use Rattle.vm_supply.proofs.from_vm_step.steps_WriteBack.{upgrade-others, upgrade-own, upgrade-seat, write_lock-brings}
+pub use Rattle.vm_supply.proofs.from_vm_step.steps_WriteBack.{write_lock-did, write_lock-held, write_lock-leaves, write_lock-others}
+pub use Rattle.vm_supply.proofs.from_vm_step.Device.{comes-home, counts-one, goes-out, may-bring-written, noted-more, two-loads}
+pub use Rattle.vm_supply.proofs.from_vm_step.DeviceCalls.{called-behind, called-front, goes-once, home-both, home-else, is-fault}
+pub use Rattle.vm_supply.proofs.from_vm_step.DeviceCalls.{no-fault, once-behind, once-front}
+pub use Rattle.vm_supply.proofs.from_vm_step.Evidenced.{given-behind, given-front, held-state, leaves-both, leaves-front, lost-view}
+pub use Rattle.vm_supply.proofs.from_vm_step.Evidenced.{written-behind, written-front}
+pub use Rattle.vm_supply.proofs.from_vm_step.steps_Leaving.{aside-self, LeavesOthers, LeavesOwn, others-still, rest-of}
+pub use Rattle.vm_supply.proofs.from_vm_step.steps_Lock.{lock-brings, lock-did, lock-draft, lock-held, lock-others, lock-own, lock-seat}
+pub use Rattle.vm_supply.proofs.from_vm_step.steps_Share.{unshare-did, unshare-leaves, unshare-others, unshare-own, unshare-seat}
+pub use Rattle.vm_supply.proofs.from_vm_step.steps_Translate.{tload-others, tload-own, tload-works, translation-only}
 pub use Rattle.vm_evict.specs.{declared.candidate.Phase.Phase, declared.candidate.Stage.Stage}
 pub use Rattle.vm_evict.specs.{declared.flushing.Flushed.Flushed, declared.report.Evicted.Evicted, Flushes.SharesSeen}
 pub use Rattle.vm_evict.specs.{Flushes.written, Tables.IsOfAny, Tables.KnowsKept, Tables.KnowsLocked, Tables.KnowsOn}

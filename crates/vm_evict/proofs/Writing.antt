@@ -1,6 +1,6 @@
 -- A page is written back: its words are copied from its frame and written to its block, by the lock that the pass has for that.
 use Rattle.vm_rule.specs.declared.view.WordPlace.TheVariants as places
-use Rattle.vm_step.proofs.Device.{Moves}
+use Rattle.vm_supply.proofs.from_vm_step.Device.{Moves}
 use Rattle.vm_evict.proofs.Evidenced.{no-mapping, none-silent}
 use Rattle.vm_evict.proofs.Prelude.{[], ap, arith, at, Bool, cases_eq, clean-held, clean-works, clean_in, cleans}
 use Rattle.vm_evict.proofs.Prelude.{CleanTold, comes-home, cond-false, CopiesWords, count_more, counts-one, Did}

@@ -8,9 +8,9 @@ use Rattle.vm_core.specs.Prelude.{EVICTED, LOCKED, mapping_of, trans_word, versi
 use Rattle.vm_rule.specs.Prelude.{AreApart, clean_in, contents_at, Each, has, last_in, last_of}
 use Rattle.vm_rule.specs.declared.view.WordPlace.{WordPlace}
 use Rattle.vm_rule.specs.declared.view.WordPlace.TheVariants as places
-use Rattle.vm_step.specs.{declared.choice.Looks.Looks, Evidence.IsLoad}
-use Rattle.vm_step.specs.Prelude.{candidate_pages, Did, GoesOnce, HasGiven, HasWritten, IsAlone, IsAsideOf, IsLost}
-use Rattle.vm_step.specs.Prelude.{KnowsElse, Note, Release, RunsAlone, StaysHome, Unstored, View, WritesNone}
+use Rattle.vm_supply.specs.from_vm_step.{declared_choice_Looks.Looks, Evidence.IsLoad}
+use Rattle.vm_supply.specs.from_vm_step.Prelude.{candidate_pages, Did, GoesOnce, HasGiven, HasWritten, IsAlone, IsAsideOf, IsLost}
+use Rattle.vm_supply.specs.from_vm_step.Prelude.{KnowsElse, Note, Release, RunsAlone, StaysHome, Unstored, View, WritesNone}
 use Rattle.vm_evict.specs.{declared.candidate.Stage.Stage, declared.report.Report.Report, Phases.InPhases}
 use Rattle.vm_evict.specs.{Tables.IsOfAny, Tables.KnowsStage}
 use Rattle.vm_evict.specs.Writes.{HasNotSaved, HasSaved, IsAllowed, IsFoundDirty}

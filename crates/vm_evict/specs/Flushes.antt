@@ -7,10 +7,10 @@ use Rattle.vm_core.specs.Prelude.{EVICTED, mapping_of, MARKED, state_of, UNLOCKE
 use Rattle.vm_rule.specs.Prelude.{did_change, did_exchange, Each, has, seat_of, stands_dirty}
 use Rattle.vm_rule.specs.declared.view.WordPlace.{WordPlace}
 use Rattle.vm_rule.specs.declared.view.WordPlace.TheVariants as places
-use Rattle.vm_step.specs.from_vm_rule_laws.Standing.{mapping_in, state_in}
-use Rattle.vm_step.specs.{declared.took.Took.TheVariants.Lost, declared.took.Took.TheVariants.Taken, declared.took.Took.Took}
-use Rattle.vm_step.specs.Prelude.{Did, first_or, GoesOnce, HasGiven, HasWritten, IsAlone, IsAside, IsAsideOf}
-use Rattle.vm_step.specs.Prelude.{IsCalledOnce, IsHeld, LeavesOnly, Note, RunsAlone, Unstored, View, WritesNone}
+use Rattle.vm_supply.specs.from_vm_rule_laws.Standing.{mapping_in, state_in}
+use Rattle.vm_supply.specs.from_vm_step.{declared_took_Took_TheVariants.Lost, declared_took_Took_TheVariants.Taken, declared_took_Took.Took}
+use Rattle.vm_supply.specs.from_vm_step.Prelude.{Did, first_or, GoesOnce, HasGiven, HasWritten, IsAlone, IsAside, IsAsideOf}
+use Rattle.vm_supply.specs.from_vm_step.Prelude.{IsCalledOnce, IsHeld, LeavesOnly, Note, RunsAlone, Unstored, View, WritesNone}
 use Rattle.vm_evict.specs.{declared.flushing.Flushed.Flushed, Evictions.HasLost, Evictions.HasTaken}
 use Rattle.vm_evict.specs.Writes.{HasNotSaved, HasSaved, IsAllowed, IsFoundDirty, IsOwnPlace, StaysOn}
 

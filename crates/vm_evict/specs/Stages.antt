@@ -5,10 +5,10 @@ use Rattle.std.specs.Prelude.{[], Bool, false, IsSome, length, List, None, Some,
 use Rattle.vm_core.specs.Prelude.{mapping_of, version_of, word_of}
 use Rattle.vm_rule.specs.Prelude.{clean_in, draft_of, Each, has, held_at, IsLocking, last_of, Seat, seat_of, stands_dirty, StartsWith}
 use Rattle.vm_rule.specs.declared.view.WordPlace.TheVariants as places
-use Rattle.vm_step.specs.Prelude.{candidate_pages, Did, HoldsPage, IsAlone, IsToldOf, KeepsNumbers, KnowsAsBefore}
-use Rattle.vm_step.specs.Prelude.{LeavesRest, Note, ReadsAsBefore, Release, RunsAlone, StaysAlone, Tie, Translation}
-use Rattle.vm_step.specs.Prelude.{Unstored, View}
-use Rattle.vm_step.specs.declared.choice.Looks.{Looks}
+use Rattle.vm_supply.specs.from_vm_step.Prelude.{candidate_pages, Did, HoldsPage, IsAlone, IsToldOf, KeepsNumbers, KnowsAsBefore}
+use Rattle.vm_supply.specs.from_vm_step.Prelude.{LeavesRest, Note, ReadsAsBefore, Release, RunsAlone, StaysAlone, Tie, Translation}
+use Rattle.vm_supply.specs.from_vm_step.Prelude.{Unstored, View}
+use Rattle.vm_supply.specs.from_vm_step.declared_choice_Looks.{Looks}
 use Rattle.vm_evict.specs.{declared.candidate.Phase.Phase, declared.candidate.Stage.Stage}
 use Rattle.vm_evict.specs.{declared.report.Evicted.Evicted, declared.report.Report.Report, Phases.Does}
 use Rattle.vm_evict.specs.{Phases.DoesOne, Tables.KnowsStage, Writes.HasNotSaved, Writes.writing_seat}

@@ -5,7 +5,7 @@ use Rattle.std.specs.Prelude.{false, List, None, true, ℕ, ◌+◌, ◌≡◌, 
 use Rattle.vm_core.specs.Prelude.{EVICTED, LOCKED, trans_word, UNLOCKED, version_of, word_of}
 use Rattle.vm_rule.specs.{declared.view.WordPlace.WordPlace, Prelude.has}
 use Rattle.vm_rule.specs.declared.view.WordPlace.TheVariants as places
-use Rattle.vm_step.specs.Prelude.{known_word_at, View}
+use Rattle.vm_supply.specs.from_vm_step.Prelude.{known_word_at, View}
 use Rattle.vm_evict.specs.declared.candidate.Stage.{Stage}
 use Rattle.vm_evict.specs.declared.candidate.Stage.TheVariants as stages
 

@@ -7,8 +7,8 @@ use Rattle.vm_rule.specs.Prelude.{clean_in, did_load, did_store, dirty_in, Each,
 use Rattle.vm_rule.specs.Prelude.{stands_dirty, TranslationTold}
 use Rattle.vm_rule.specs.declared.view.WordPlace.{WordPlace}
 use Rattle.vm_rule.specs.declared.view.WordPlace.TheVariants as places
-use Rattle.vm_step.specs.Prelude.{Did, GoesOnce, HasGiven, HasWritten, IsAlone, IsOfPage, IsToldOf, KeepsFrames}
-use Rattle.vm_step.specs.Prelude.{known_word_at, Origin, StaysHome, View, Works, WritesNone}
+use Rattle.vm_supply.specs.from_vm_step.Prelude.{Did, GoesOnce, HasGiven, HasWritten, IsAlone, IsOfPage, IsToldOf, KeepsFrames}
+use Rattle.vm_supply.specs.from_vm_step.Prelude.{known_word_at, Origin, StaysHome, View, Works, WritesNone}
 
 -- a count of faults of page p that the bound of its block allows
 abbrev pub IsAllowed : Origin → ℕ → ℕ → Type 0

@@ -1,7 +1,7 @@
 // All candidates of an eviction: a phase goes over the whole list before the next one begins.
 ghost use Rattle.std.specs.Prelude.{◌<◌, ◌≡◌, ◌≤◌, length, ℕ};
 ghost use Rattle.vm_page.specs.Sizes.{IsSize};
-ghost use Rattle.vm_step.specs.Prelude.{AreCandidates, GoesOn, IsReadyOn, view};
+ghost use Rattle.vm_supply.specs.from_vm_step.Prelude.{AreCandidates, GoesOn, IsReadyOn, view};
 ghost use Rattle.vm_evict.specs.declared.candidate.Stage.TheVariants as stages;
 ghost use Rattle.vm_evict.specs.Evictions.{Counts, frame_at, gathered, stage_at};
 ghost use Rattle.vm_evict.specs.Stages.{IsOver, IsPhaseMade, IsUnderWay, MayBeginPhase, MayEnd};
@@ -12,7 +12,7 @@ use vm_block::PageBlock;
 use vm_core::FRAMES;
 use vm_owner::Owner;
 use vm_rule::words::{Pass, Words};
-use vm_step::Looks;
+use vm_supply::step::Looks;
 
 /// How far the eviction is with each candidate, by its place in the list.
 pub(crate) type Stages = [Stage; FRAMES];

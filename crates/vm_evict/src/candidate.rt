@@ -1,7 +1,7 @@
 // One candidate for eviction: what each phase does with it.
 ghost use Rattle.std.specs.Prelude.{◌<◌, ◌≡◌, false, None};
 ghost use Rattle.vm_page.specs.Sizes.{IsSize};
-ghost use Rattle.vm_step.specs.Prelude.{GoesOn, IsCandidate, IsReadyOn, view};
+ghost use Rattle.vm_supply.specs.from_vm_step.Prelude.{GoesOn, IsCandidate, IsReadyOn, view};
 ghost use Rattle.vm_evict.specs.declared.candidate.Phase.TheVariants as phases;
 ghost use Rattle.vm_evict.specs.declared.candidate.Stage.TheVariants as stages;
 ghost use Rattle.vm_evict.specs.Evictions.{IsToShare};
@@ -12,7 +12,7 @@ use vm_block::{Block, PageBlock};
 use vm_core::{StateWord, TransWord};
 use vm_owner::Owner;
 use vm_rule::words::{Pass, Words};
-use vm_step::{
+use vm_supply::step::{
     Took, clear, disown, lock_exclusive, lock_write_back, look_silently, release_evicted, tload,
     unlock_shared, upgrade,
 };

@@ -3,7 +3,7 @@ ghost use Rattle.std.specs.Prelude.{◌+◌, ◌<◌, ◌≡◌, ◌⊎◌, None
 ghost use Rattle.vm_core.specs.Prelude.{MARKED, state_of, UNLOCKED};
 ghost use Rattle.vm_rule.specs.Prelude.{LookTold};
 ghost use Rattle.vm_page.specs.Sizes.{IsSize};
-ghost use Rattle.vm_step.specs.Prelude.{GoesOn, IsReadyOn, view};
+ghost use Rattle.vm_supply.specs.from_vm_step.Prelude.{GoesOn, IsReadyOn, view};
 ghost use Rattle.vm_evict.specs.Flushes.{done_of, IsCounted, IsFlushed, IsVisit, Marks};
 
 use crate::write::{dirty_frame, write_where_dirty};
@@ -11,7 +11,7 @@ use vm_block::{Block, PageBlock};
 use vm_core::StateWord;
 use vm_owner::Owner;
 use vm_rule::words::{Pass, Words};
-use vm_step::{Took, lock_write_back, look_silently, mark, tload, unlock_shared};
+use vm_supply::step::{Took, lock_write_back, look_silently, mark, tload, unlock_shared};
 
 /// What a flush did.
 #[derive(Clone, Copy, Debug, PartialEq, Eq)]

@@ -4,7 +4,7 @@
 
 ghost use Rattle.std.specs.Prelude.{◌≡◌, None};
 ghost use Rattle.vm_page.specs.Sizes.{IsSize};
-ghost use Rattle.vm_step.specs.Prelude.{AreCandidates, GoesOn, IsReadyOn, view};
+ghost use Rattle.vm_supply.specs.from_vm_step.Prelude.{AreCandidates, GoesOn, IsReadyOn, view};
 ghost use Rattle.vm_evict.specs.Evictions.{IsBatch};
 
 mod batch;
@@ -20,7 +20,7 @@ use report::Evicted;
 use vm_block::PageBlock;
 use vm_owner::Owner;
 use vm_rule::words::{Pass, Words};
-use vm_step::Candidates;
+use vm_supply::step::Candidates;
 
 /// Evicts candidates, in phases: dirty ones are shared from their mark and written; clean ones are locked exclusively; the written ones become
 /// exclusive from one share; all are taken out of their frames; all are released as evicted. A page whose write fails stays resident and dirty.

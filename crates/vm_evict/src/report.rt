@@ -4,7 +4,7 @@ ghost use Rattle.vm_evict.specs.Stages.{IsAdded, IsOver, none_of};
 
 use crate::candidate::Stage;
 use vm_core::FRAMES;
-use vm_step::{Batch, Looks};
+use vm_supply::step::{Batch, Looks};
 
 /// What became of the candidates of an eviction.
 #[derive(Clone, Copy, Debug, PartialEq, Eq)]

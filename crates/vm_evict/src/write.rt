@@ -2,7 +2,7 @@
 ghost use Rattle.std.specs.Prelude.{◌<◌, ◌≡◌, ◌≤◌, length, None, Some};
 ghost use Rattle.vm_page.specs.Sizes.{IsSize};
 ghost use Rattle.vm_rule.specs.Prelude.{frame_read_by, last_of, seat_of};
-ghost use Rattle.vm_step.specs.Prelude.{GoesOn, IsReadyOn, view};
+ghost use Rattle.vm_supply.specs.from_vm_step.Prelude.{GoesOn, IsReadyOn, view};
 ghost use Rattle.vm_evict.specs.Writes.{EndsWrite, IsCopied, IsDirtyFrame, IsFoundToWrite, IsUnderWriteBack, WritesBack};
 
 use vm_block::{Block, PageBlock};
@@ -10,7 +10,8 @@ use vm_core::TransWord;
 use vm_owner::Owner;
 use vm_page::PageBuf;
 use vm_rule::words::{Pass, Words};
-use vm_step::{block_home, block_out, frame_place, load_at, raise, set_clean, tload};
+use vm_supply::step::{frame_place, load_at, set_clean, tload};
+use vm_supply::{block_home, block_out, raise};
 
 /// The frame of a dirty page, by its translation word.
 pub(crate) fn dirty_frame(word: u64) -> Option<u32>

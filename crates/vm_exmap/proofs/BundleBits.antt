@@ -1,6 +1,6 @@
 -- The bits of a bundle's word and the frames that they are of, gathered from a list into a mask, one at a time. Some
 -- bits are asked of a word that is not 0.
-use Rattle.vm_step.proofs.Masks.{mask-count, no-bit}
+use Rattle.vm_supply.proofs.from_vm_step.Masks.{mask-count, no-bit}
 use Rattle.vm_exmap.proofs.Prelude.{[], ap, AreLowest, arith, bit_at, bit_at-lt, bit_at-pow_other, bit_at-pow_same}
 use Rattle.vm_exmap.proofs.Prelude.{bit_at-zero, bit_at_or, bit_count, bit_or, cases_eq, eqb, false, frames_in, has}
 use Rattle.vm_exmap.proofs.Prelude.{has-both, in_mask, is_of, length, List, max, nat_tests, same_from_bits_below}

@@ -1,6 +1,6 @@
 -- What steps leave of a view that move free frames alone: of one step, and of several in a row.
-use Rattle.vm_step.specs.Prelude.{KeepsNumbers}
-use Rattle.vm_step.proofs.Asides.{numbers-self, numbers-then}
+use Rattle.vm_supply.specs.from_vm_step.Prelude.{KeepsNumbers}
+use Rattle.vm_supply.proofs.from_vm_step.Asides.{numbers-self, numbers-then}
 use Rattle.vm_exmap.proofs.Prelude.{[], alone-silent, alone-then, ap, append-none, append_assoc, Brings, bundles_of}
 use Rattle.vm_exmap.proofs.Prelude.{contents_at, Did, Each, each-both, each-map, else-knows, else-then, has}
 use Rattle.vm_exmap.proofs.Prelude.{HoldsPage, inr, IsAlone, IsAsideOf, IsBundleOf, IsLocking, KnowsAsBefore}

@@ -3,9 +3,9 @@ use Rattle.vm_exmap.proofs.Prelude.{[], ap, AreApart, AreGiven, AreHeld, cases_B
 use Rattle.vm_exmap.proofs.Prelude.{false, has, has-both, if◌then◌else◌, List, ne_eqb, or_left, or_parts, or_right}
 use Rattle.vm_exmap.proofs.Prelude.{refl, rules, subst, sym, true, true≢false, View, ℕ, ⊎_elim, ◌++◌, ◌<◌, ◌||◌, ◌∙◌}
 use Rattle.vm_exmap.proofs.Prelude.{◌∷◌, ◌≡◌}
-pub use Rattle.vm_step.proofs.HeldFrames.{held-on}
-pub use Rattle.vm_step.proofs.Releasing.{each-has as each-of}
-pub use Rattle.vm_step.proofs.from_vm_rule.Heard.{each-both as each-join}
+pub use Rattle.vm_supply.proofs.from_vm_step.HeldFrames.{held-on}
+pub use Rattle.vm_supply.proofs.from_vm_step.Releasing.{each-has as each-of}
+pub use Rattle.vm_supply.proofs.from_vm_rule.Heard.{each-both as each-join}
 
 -- ---- what holds of each number of a list
 

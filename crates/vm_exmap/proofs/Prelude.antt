@@ -12,24 +12,24 @@ pub use Rattle.std.proofs.lemmas.Nat.Bits.{bit_at-lt, bit_at-pow_other, bit_at-p
 pub use Rattle.std.proofs.lemmas.Nat.Bits.{same_from_bits_below, shr_and_one}
 pub use Rattle.vm_core.specs.{Prelude.AreLowest, Prelude.no_seat, Words.bit_count}
 pub use Rattle.vm_core.proofs.Locks.{sum_below-at}
-pub use Rattle.vm_step.specs.from_vm_rule.{Bundles.taken_view, declared_view_WordPlace.WordPlace}
-pub use Rattle.vm_step.specs.from_vm_rule.Prelude.{AreApart, Brings, bundles_of, BundleTold, contents_at, did_change, did_exchange}
-pub use Rattle.vm_step.specs.from_vm_rule.Prelude.{did_load, Each, frames_below, GiveTold, has, index_of, IsLocking, last_in}
-pub use Rattle.vm_step.specs.from_vm_rule.Prelude.{put_at, Seat, seat_of, StartsWith, TakeTold, with_contents, Within, without_all}
-pub use Rattle.vm_step.proofs.from_vm_rule.{Entries.append-none, Entries.each-map, Facts.has-both, Heard.each-both}
-pub use Rattle.vm_step.proofs.from_vm_rule.Bundled.{frames_in-apart, has-frames_in, has-without_all, with_contents-at}
-pub use Rattle.vm_step.specs.{declared.saw.At.At, declared.saw.Saw.Saw, Evidence.Begins.read}
-pub use Rattle.vm_step.specs.Prelude.{AreHeld, Did, HoldsPage, IsAlone, IsAsideOf, IsSaw, known_word_at}
-pub use Rattle.vm_step.specs.Prelude.{KnowsAsBefore, KnowsElse, NoneExpected, NoWord, Origin, PassMayGive, place_at}
-pub use Rattle.vm_step.specs.Prelude.{Put, ReadsAsBefore, Release, RunsAlone, Tie, view, View, WhyAgain}
-pub use Rattle.vm_step.proofs.{Evidenced.lost-view, Evidenced.taken-view}
-pub use Rattle.vm_step.proofs.Alone.{found-known, runs-one, runs-then, same-word, still-alone, words-known}
-pub use Rattle.vm_step.proofs.Asides.{alone-silent, alone-then, starts-then}
-pub use Rattle.vm_step.proofs.Tables.{at-then, else-knows, else-same, else-then, follows-inside, last-known}
+pub use Rattle.vm_supply.specs.from_vm_rule.{Bundles.taken_view, declared_view_WordPlace.WordPlace}
+pub use Rattle.vm_supply.specs.from_vm_rule.Prelude.{AreApart, Brings, bundles_of, BundleTold, contents_at, did_change, did_exchange}
+pub use Rattle.vm_supply.specs.from_vm_rule.Prelude.{did_load, Each, frames_below, GiveTold, has, index_of, IsLocking, last_in}
+pub use Rattle.vm_supply.specs.from_vm_rule.Prelude.{put_at, Seat, seat_of, StartsWith, TakeTold, with_contents, Within, without_all}
+pub use Rattle.vm_supply.proofs.from_vm_rule.{Entries.append-none, Entries.each-map, Facts.has-both, Heard.each-both}
+pub use Rattle.vm_supply.proofs.from_vm_rule.Bundled.{frames_in-apart, has-frames_in, has-without_all, with_contents-at}
+pub use Rattle.vm_supply.specs.from_vm_step.{declared_saw_At.At, declared_saw_Saw.Saw, Evidence.Begins.read}
+pub use Rattle.vm_supply.specs.from_vm_step.Prelude.{AreHeld, Did, HoldsPage, IsAlone, IsAsideOf, IsSaw, known_word_at}
+pub use Rattle.vm_supply.specs.from_vm_step.Prelude.{KnowsAsBefore, KnowsElse, NoneExpected, NoWord, Origin, PassMayGive, place_at}
+pub use Rattle.vm_supply.specs.from_vm_step.Prelude.{Put, ReadsAsBefore, Release, RunsAlone, Tie, view, View, WhyAgain}
+pub use Rattle.vm_supply.proofs.from_vm_step.Evidenced.{lost-view, taken-view}
+pub use Rattle.vm_supply.proofs.from_vm_step.Alone.{found-known, runs-one, runs-then, same-word, still-alone, words-known}
+pub use Rattle.vm_supply.proofs.from_vm_step.Asides.{alone-silent, alone-then, starts-then}
+pub use Rattle.vm_supply.proofs.from_vm_step.Tables.{at-then, else-knows, else-same, else-then, follows-inside, last-known}
 pub use Rattle.vm_exmap.specs.{Frames.IsBundleOf, Frames.MovesFrames, Returns.GivesTo.none, Returns.GivesTo.some}
 pub use Rattle.vm_exmap.specs.{Walks.PassesBy.empty, Walks.PassesBy.lost}
 pub use Rattle.vm_exmap.specs.Returns.{AreGiven, GivesFromFirst, is_of, KnowsGiven}
 pub use Rattle.vm_exmap.specs.Visits.{IsEmptyVisit, IsFound, IsLostVisit, IsTakenVisit}
 pub use Rattle.vm_exmap.specs.Walks.{Asks, bundle_at, Dry, IsDry, PassesBy, TakesBits, TakesFrom, Walks}
 unfoldable pub use Rattle.vm_core.specs.Prelude.{in_mask}
-unfoldable pub use Rattle.vm_step.specs.from_vm_rule.Prelude.{frames_in}
+unfoldable pub use Rattle.vm_supply.specs.from_vm_rule.Prelude.{frames_in}

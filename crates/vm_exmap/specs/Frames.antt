@@ -1,8 +1,8 @@
 -- Frames that a pass holds or knows to be free, and what a call leaves that moves free frames alone.
 use Rattle.std.specs.Prelude.{[], List, true, ℕ, ◌++◌, ◌<◌, ◌≡◌, ◌≢◌, ◌⊎◌}
-use Rattle.vm_step.specs.from_vm_rule.Prelude.{bundles_of, contents_at, Each, has, IsLocking, last_of, seat_of, StartsWith}
-use Rattle.vm_step.specs.from_vm_rule.declared_view_WordPlace.{WordPlace}
-use Rattle.vm_step.specs.Prelude.{Did, IsAlone, KeepsNumbers, known_word_at, KnowsElse, Origin, RunsAlone, StaysAlone, View}
+use Rattle.vm_supply.specs.from_vm_rule.Prelude.{bundles_of, contents_at, Each, has, IsLocking, last_of, seat_of, StartsWith}
+use Rattle.vm_supply.specs.from_vm_rule.declared_view_WordPlace.{WordPlace}
+use Rattle.vm_supply.specs.from_vm_step.Prelude.{Did, IsAlone, KeepsNumbers, known_word_at, KnowsElse, Origin, RunsAlone, StaysAlone, View}
 
 -- the place is a bundle's word
 abbrev pub IsBundleOf : Origin → WordPlace → Type 0

@@ -2,9 +2,9 @@
 use Rattle.std.specs.Prelude.{[], bit_or, Bool, false, if◌then◌else◌, length, List, min, suc, zero, ℕ, ◌&&◌, ◌++◌}
 use Rattle.std.specs.Prelude.{◌-◌, ◌/◌, ◌<◌, ◌==◌, ◌∷◌, ◌≡◌, ◌⊎◌}
 use Rattle.vm_core.specs.Prelude.{in_mask}
-use Rattle.vm_step.specs.from_vm_rule.Prelude.{bundles_of, did_change, FRAMES, has}
-use Rattle.vm_step.specs.from_vm_rule.declared_view_WordPlace.{WordPlace}
-use Rattle.vm_step.specs.Prelude.{Did, IsAlone, known_word_at, KnowsAt, View}
+use Rattle.vm_supply.specs.from_vm_rule.Prelude.{bundles_of, did_change, FRAMES, has}
+use Rattle.vm_supply.specs.from_vm_rule.declared_view_WordPlace.{WordPlace}
+use Rattle.vm_supply.specs.from_vm_step.Prelude.{Did, IsAlone, known_word_at, KnowsAt, View}
 use Rattle.vm_exmap.specs.Frames.{MovesFrames}
 
 -- the frame is one of these, and of bundle g

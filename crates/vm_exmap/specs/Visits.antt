@@ -1,10 +1,10 @@
 -- What comes of a visit to one bundle on a walk, and of the walk: the parts of an allocation from an interface without a frame.
 use Rattle.std.specs.Prelude.{[], bit_xor, false, length, List, ℕ, ◌++◌, ◌∷◌, ◌≡◌, ◌≢◌, ◌≤◌}
-use Rattle.vm_step.specs.from_vm_rule.Prelude.{did_exchange, did_load, Each, frames_in, has}
-use Rattle.vm_step.specs.from_vm_rule.declared_view_WordPlace.{WordPlace}
-use Rattle.vm_step.specs.Prelude.{AreHeld, Did, IsAlone, known_word_at, View}
-use Rattle.vm_step.specs.declared.saw.At.{At}
-use Rattle.vm_step.specs.declared.saw.Saw.{Saw}
+use Rattle.vm_supply.specs.from_vm_rule.Prelude.{did_exchange, did_load, Each, frames_in, has}
+use Rattle.vm_supply.specs.from_vm_rule.declared_view_WordPlace.{WordPlace}
+use Rattle.vm_supply.specs.from_vm_step.Prelude.{AreHeld, Did, IsAlone, known_word_at, View}
+use Rattle.vm_supply.specs.from_vm_step.declared_saw_At.{At}
+use Rattle.vm_supply.specs.from_vm_step.declared_saw_Saw.{Saw}
 use Rattle.vm_exmap.specs.{declared.interface.Alloc.Alloc, declared.walk.Visited.Visited, Frames.MovesFrames}
 use Rattle.vm_exmap.specs.Walks.{Asks, IsDry, IsLostOut, TakesBits, TakesFrom}
 

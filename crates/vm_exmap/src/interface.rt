@@ -1,8 +1,8 @@
 // A pass's own store of free frames over the bundles that all passes share: frames are taken from a bundle and given back in batches, each
 // by one step on the bundle's word.
 ghost use Rattle.std.specs.Prelude.{[], ◌++◌, ◌+◌, ◌-◌, ◌^◌, ◌∷◌, ◌≡◌, ◌≤◌, length, min};
-ghost use Rattle.vm_step.specs.from_vm_rule.Prelude.{FRAMES};
-ghost use Rattle.vm_step.specs.Prelude.{AreHeld, GoesOn, IsAlone, IsReadyOn, view};
+ghost use Rattle.vm_supply.specs.from_vm_rule.Prelude.{FRAMES};
+ghost use Rattle.vm_supply.specs.from_vm_step.Prelude.{AreHeld, GoesOn, IsAlone, IsReadyOn, view};
 ghost use Rattle.vm_exmap.specs.Returns.{AreGiven, IsFreed};
 ghost use Rattle.vm_exmap.specs.Walks.{HandsOut, IsAlloc, NotLost, as_batch};
 
@@ -11,8 +11,9 @@ use crate::walk::walk;
 use vm_block::Block;
 use vm_core::FRAMES;
 use vm_owner::Owner;
-use vm_step::rule::{Pass, Words};
-use vm_step::{Batch, Saw, give};
+use vm_supply::give;
+use vm_supply::rule::{Pass, Words};
+use vm_supply::step::{Batch, Saw};
 
 /// What an allocation answers.
 #[derive(Drop)]

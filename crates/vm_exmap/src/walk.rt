@@ -1,6 +1,6 @@
 // A walk over the bundles for free frames: each is visited once, from a home on and round, until the bits asked of one of them are taken.
 ghost use Rattle.std.specs.Prelude.{◌*◌, ◌<◌, ◌≤◌};
-ghost use Rattle.vm_step.specs.Prelude.{GoesOn, IsReadyOn, view};
+ghost use Rattle.vm_supply.specs.from_vm_step.Prelude.{GoesOn, IsReadyOn, view};
 ghost use Rattle.vm_exmap.specs.Visits.{IsVisited, IsWalk};
 
 use crate::bits::frames_of;
@@ -8,8 +8,9 @@ use crate::interface::Alloc;
 use vm_block::Block;
 use vm_core::{Bundle, FRAMES};
 use vm_owner::Owner;
-use vm_step::rule::{Pass, Words};
-use vm_step::{At, Saw, Took, bload, take};
+use vm_supply::rule::{Pass, Words};
+use vm_supply::step::{At, Saw, Took};
+use vm_supply::{bload, take};
 
 /// What came of a visit to a bundle.
 pub(crate) enum Visited {

@@ -1,13 +1,14 @@
 -- What the pass of a store knows that was opened just now.
-use Rattle.std.proofs.Common.{[], ◌+◌, ◌<◌, ◌∙◌, ◌≡◌, ◌≤◌, ap, arith, Bool, length, List, refl, subst, sym, true, ℕ}
+use Rattle.std.proofs.Common.{[], ◌∙◌, ◌≡◌, ◌≤◌, ap, arith, Bool, length, List, map, refl, subst, sym, true, ℕ}
+use Rattle.atomic_table.specs.declared.badge.Badge.{Badge}
 use Rattle.vm_map.specs.declared.call.Said.{Said}
-use Rattle.vm_rule.specs.Prelude.{block_words, has, HoldsNoPage, numbers, PARTS, started_shape, Stored, unborn}
+use Rattle.vm_rule.specs.Prelude.{block_words, has, HoldsNoPage, numbers, started_shape, Stored, unborn}
 use Rattle.vm_rule.specs.{Begun.begun, declared.words.Pass.Pass, declared.words.Words.Words, Started.contents_of}
 use Rattle.vm_step.specs.Prelude.{IsReadyOn, Origin, View, view}
 use Rattle.vm_step.proofs.{Numbers.has-numbers, Together.numbers-length}
 use Rattle.vm_serve.proofs.from_vm_pool.FirstPass.{first-alone, start-is}
 use Rattle.vm_serve.specs.Served.{MayBeServed}
-use Rattle.vm_face.specs.{Closed.IsStoreOpened, Passes.IsStoreOn, Passes.IsStoreView}
+use Rattle.vm_face.specs.{Closed.IsStoreOpened, Passes.IsStore, Passes.IsStoreView}
 use Rattle.vm_face.proofs.Parts.{misses-none}
 
 -- where blocks tell, their words are the start's
@@ -39,7 +40,6 @@ module _ (size : ℕ) (tells : Bool) (version next : ℕ) (free : List ℕ) (fra
         fresh = omega (arith, long);
         inside = λ k t.
             let within = has-numbers 4294967295 1 k (subst (λ (l : List ℕ). has k l ≡ true) fresh-is t) in omega (arith, within.1);
-        all = λ whole. ap (λ (x : View Said). x.mine) is ∙ sym seen-none;
       }
 
   pub store-opened : (pages : List (List ℕ)) → MayBeServed size tells pages blocks next free → IsStoreOpened tells pages v
@@ -50,9 +50,11 @@ module _ (size : ℕ) (tells : Bool) (version next : ℕ) (free : List ℕ) (fra
         telling = ap (λ (o : Origin). o.tells) start;
       }
 
-module _ {U B X : Type 0} {o : _} where
-  -- a store over words that are those which its pass may step on
-  pub store-over : (x w : Words U B X o) (tells : Bool) (p : Pass U X o) (out ever : ℕ) → x ≡ w → IsReadyOn w tells p
-      → 2 ≤ w.table.shared.key.pages → IsStoreView out ever (view p) → IsStoreOn x tells p out ever
-  store-over x w tells p out ever same ready pages store =
-      subst (λ (y : Words U B X o). IsStoreOn y tells p out ever) (sym same) (record { ready = ready; pages = pages; store = store })
+module _ {U B X T : Type 0} {o : _} where
+  -- a store over words that are those which its pass may step on, with no hand out
+  pub store-over : (f : T → Badge (View X)) (homes : List T) (x w : Words U B X o) (tells : Bool) (p : Pass U X o) → homes ≡ [] → x ≡ w
+      → IsReadyOn w tells p → 2 ≤ w.table.shared.key.pages → IsStoreView 0 0 (view p) → IsStore x tells p (map f homes) 0
+  store-over f homes x w tells p none same ready pages store =
+      subst (λ (l : List T). IsStore x tells p (map f l) 0) (sym none)
+      (subst (λ (y : Words U B X o). IsStore y tells p [] 0) (sym same)
+      (record { on = record { ready = ready; pages = pages; store = store }; ways = tt }))

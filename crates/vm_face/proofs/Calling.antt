@@ -1,6 +1,7 @@
 -- What the tree's calls that never wait tell, in the terms of a hand.
 use Rattle.std.specs.Prelude.{IfErr, IfOk, IfSome}
-use Rattle.std.proofs.Common.{◌<◌, ◌≡◌, Bool, Err, List, None, Ok, Option, refl, Result, Some, ℕ}
+use Rattle.std.proofs.Common.{◌<◌, ◌∙◌, ◌≡◌, ap, Bool, Err, List, None, Ok, Option, refl, Result, slice_index, Some, sym, ℕ}
+use Rattle.atomic_table.specs.declared.badge.Badge.{Badge}
 use Rattle.vm_map.specs.{declared.call.Call.Call, declared.call.Reply.Reply, declared.call.Said.Said}
 use Rattle.vm_map.specs.declared.window.Bound.{Bound}
 use Rattle.vm_map.specs.declared.call.Call.TheVariants.{Del, Get, Put, Range, Swap, Window}
@@ -18,7 +19,7 @@ use Rattle.vm_tree_retry.specs.Waiting.{IsDamagedForDel, IsDelReplied, IsDelRoun
 use Rattle.vm_tree_retry.specs.Waiting.{IsWriteFaulted, IsWriteReplied, IsWriteRound}
 use Rattle.vm_serve.specs.from_vm_calls.{Calls.KeepsPass, TreeCalls.as_said}
 use Rattle.vm_serve.proofs.from_vm_calls.{Answering.tree-called, Keeping.all-pass, Keeping.waits-pass}
-use Rattle.vm_face.specs.{Calls.IsHandCall, Passes.IsHandOn}
+use Rattle.vm_face.specs.{Calls.IsHandCall, Homes.IsHandOf}
 use Rattle.vm_face.proofs.Views.{hand-after}
 
 module _ (size : ℕ) where
@@ -112,13 +113,18 @@ module _ (size : ℕ) where
   call-keeps call (Err fault) v w k = (tree-called size call (Err fault) v w k).0
 
 module _ {U B : Type 0} {o : _} where
-  -- a hand that made a call is one again
-  pub hand-called : (size : ℕ) (call : Call) (r : Result (Option Reply) TreeFault) (w : Words U B Said o) (tells : Bool)
-      (p q : Pass U Said o) (old new : List ℕ) → IsHandOn w tells p old → IsHandCall size call r (view p) (view q)
-      → IsReadyOn w tells q → AreHeld new (view q) → IsHandOn w tells q new
-  hand-called size call r w tells p q old new hand called ready held = record {
-    ready = ready;
-    pages = hand.pages;
-    hand = hand-after (view p) (view q) (call-keeps size call r (view p) (view q) called) hand.hand;
-    frames = held;
-  }
+  -- a hand that made a call is one again, with the way back that it had
+  pub hand-called : (size : ℕ) (call : Call) (r : Result (Option Reply) TreeFault) (k : Badge (View Said)) (w : Words U B Said o) (tells : Bool)
+      (p q : Pass U Said o) (old new : List ℕ) → IsHandOf k w tells p old → IsHandCall size call r (view p) (view q)
+      → IsReadyOn w tells q → AreHeld new (view q) → IsHandOf k w tells q new
+  hand-called size call r k w tells p q old new hand called ready held =
+      let keeps = call-keeps size call r (view p) (view q) called in record {
+        hand = record {
+          ready = ready;
+          pages = hand.hand.pages;
+          hand = hand-after (view p) (view q) keeps hand.hand.hand;
+          frames = held;
+        };
+        table = hand.table ∙ hand.hand.ready.may.0 ∙ sym ready.may.0;
+        number = ap (λ (l : List ℕ). slice_index l 0) keeps.parts.0 ∙ hand.number;
+      }

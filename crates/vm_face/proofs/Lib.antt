@@ -1,5 +1,6 @@
 pub mod Begins
 pub mod Calling
 pub mod Ends
+pub mod Homes
 pub mod Parts
 pub mod Views

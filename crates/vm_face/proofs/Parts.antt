@@ -1,9 +1,9 @@
 -- Which parts a store's pass misses, as hands are given and come back.
-use Rattle.std.proofs.Common.{[], ⊎_elim, ◌++◌, ◌+◌, ◌-◌, ◌<◌, ◌==◌, ◌∙◌, ◌∷◌, ◌≡◌, ◌≤◌, ◌⊎◌, ap, arith, false}
-use Rattle.std.proofs.Common.{if◌then◌else◌, inl, inr, length, List, refl, subst, sym, true, true≢false, ℕ}
-use Rattle.std.proofs.lemmas.Bool.{cases_eq, eq-eqb, ne_eqb}
+use Rattle.std.proofs.Common.{[], ⊎_elim, ◌++◌, ◌+◌, ◌-◌, ◌<◌, ◌==◌, ◌∙◌, ◌∷◌, ◌≡◌, ◌≢◌, ◌≤◌, ◌⊎◌, ap, arith, false}
+use Rattle.std.proofs.Common.{if◌then◌else◌, inl, inr, length, List, refl, subst, suc, sym, true, true≢false, ℕ}
+use Rattle.std.proofs.lemmas.Bool.{cases_Bool, cases_eq, eq-eqb, ne_eqb}
 use Rattle.std.proofs.lemmas.List.{nil_from_length}
-use Rattle.vm_rule.specs.Prelude.{AreApart, has, IsWhole, owns, PARTS, times}
+use Rattle.vm_rule.specs.Prelude.{AreApart, Each, entries_by, Entry, has, IsWhole, owns, PARTS, Sound, times}
 use Rattle.vm_rule.proofs.Heard.{times-joined}
 use Rattle.vm_step.specs.Prelude.{View}
 use Rattle.vm_serve.specs.from_vm_pool.Parting.{Splits}
@@ -115,3 +115,34 @@ module _ {X : Type 0} where
             (m.others k l);
       })
       (m.others b h.inside)
+
+  -- ---- each entry of the history is the pass's own where it has all parts
+
+  -- a number whose entries are none is that of no entry
+  none-behind : (k : ℕ) (e : Entry X) (es : List (Entry X)) → entries_by (k ∷ []) (e ∷ es) ≡ [] → (e.number ≢ k) × (entries_by (k ∷ []) es ≡ [])
+  none-behind k e es none =
+      ⊎_elim
+      (λ here.
+      let more : entries_by (k ∷ []) (e ∷ es) ≡ e ∷ entries_by (k ∷ []) es = rw (eq-eqb e.number k here) refl in
+      absurd (let n : suc (length (entries_by (k ∷ []) es)) ≡ 0 = ap (λ (l : List (Entry X)). length l) (sym more ∙ none) in omega (arith, n)))
+      (λ ne. let same : entries_by (k ∷ []) (e ∷ es) ≡ entries_by (k ∷ []) es = rw (ne_eqb e.number k ne) refl in (ne, sym same ∙ none))
+      (cases_eq e.number k)
+
+  all-used : (used fresh : List ℕ) (seen : List (Entry X)) → Each (λ e. e.number < PARTS) seen
+      → ((k : ℕ) → k < PARTS → 1 ≤ times k used + times k fresh) → ((k : ℕ) → has k fresh ≡ true → entries_by (k ∷ []) seen ≡ [])
+      → entries_by used seen ≡ seen
+  all-used used fresh [] numbered whole none = refl
+  all-used used fresh (e ∷ es) numbered whole none =
+      let rest : entries_by used es ≡ es =
+      all-used used fresh es numbered.1 whole (λ k t. (none-behind k e es (none k t)).1) in
+      let given : has e.number fresh ≡ false =
+      ⊎_elim (λ t. absurd ((none-behind e.number e es (none e.number t)).0 refl)) (λ f. f) (cases_Bool (has e.number fresh)) in
+      let not : times e.number fresh ≡ 0 = times-none e.number fresh given in
+      let one : 1 ≤ times e.number used + times e.number fresh = whole e.number numbered.0 in
+      ⊎_elim
+      (λ t. let with : entries_by used (e ∷ es) ≡ e ∷ entries_by used es = rw t refl in with ∙ ap (λ (l : List (Entry X)). e ∷ l) rest)
+      (λ f. let zero : times e.number used ≡ 0 = times-none e.number used f in absurd (omega (arith, one, not, zero)))
+      (cases_Bool (has e.number used))
+
+  pub all-own : (v : View X) → Sound v → IsWhole v → v.mine ≡ v.seen
+  all-own v sound whole = sound.mine ∙ all-used v.used v.fresh v.seen sound.numbered whole sound.fresh

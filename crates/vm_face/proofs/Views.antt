@@ -1,17 +1,15 @@
 -- The views of a store's pass and of a hand's, as hands are given and come back.
-use Rattle.std.proofs.Common.{[], ⊎_elim, ◌++◌, ◌+◌, ◌-◌, ◌<◌, ◌==◌, ◌||◌, ◌∙◌, ◌∷◌, ◌≡◌, ◌≤◌, ap, append-nil, arith, Bool, length, List}
-use Rattle.std.proofs.Common.{refl, slice_index, subst, sym, true, ℕ}
+use Rattle.std.proofs.Common.{[], ⊎_elim, ◌++◌, ◌+◌, ◌-◌, ◌<◌, ◌∙◌, ◌∷◌, ◌≡◌, ap, append-nil, arith, Bool, length, List}
+use Rattle.std.proofs.Common.{inl, inr, refl, slice_index, subst, sym, true, ℕ}
 use Rattle.std.proofs.lemmas.Bool.{cases_eq, eq-eqb, ne_eqb}
-use Rattle.vm_rule.specs.Prelude.{AreApart, CaughtUp, entries_by, giver, has, HoldsNoPage, HoldsNothing, IsWhole, Kept, other_parts, owns}
+use Rattle.vm_rule.specs.Prelude.{AreApart, CaughtUp, entries_by, has, Kept}
 use Rattle.vm_rule.specs.Prelude.{PARTS, Start, times}
-use Rattle.vm_step.specs.Prelude.{HasStill, View}
-use Rattle.vm_step.proofs.Together.{holds-none as nothing-holds, new-nothing}
+use Rattle.vm_step.specs.Prelude.{Did, HasStill, IsAsideOf, View}
 use Rattle.vm_serve.specs.from_vm_pool.Parting.{Joins, Splits}
 use Rattle.vm_serve.specs.from_vm_calls.Calls.{KeepsPass}
-use Rattle.vm_serve.proofs.from_vm_calls.Lists.{starts-then}
 use Rattle.vm_serve.proofs.from_vm_drive.Hiring.{holds-none, split-keeps}
-use Rattle.vm_face.specs.{Given.IsBackIn, Given.IsHandGiven, Passes.hand_number, Passes.IsHandView, Passes.IsStoreView}
-use Rattle.vm_face.proofs.Parts.{misses-less, misses-more, times-none}
+use Rattle.vm_face.specs.{Given.IsBackIn, Homes.next_hand, Passes.hand_number, Passes.IsHandView, Passes.IsStoreView}
+use Rattle.vm_face.proofs.Parts.{misses-less, misses-more}
 
 here-among : (n : ℕ) (ns : List ℕ) → has n (n ∷ ns) ≡ true
 here-among n ns = rw (eq-eqb n n refl) refl
@@ -25,6 +23,9 @@ module _ {X : Type 0} where
 
   number-is : (v u w : View X) (s : Splits v u w) → hand_number u ≡ s.number
   number-is v u w s = ap (λ (y : View X). slice_index y.used 0) s.new
+
+  pub number-given : (v u w : View X) → Splits v u w → hand_number u ≡ next_hand v
+  number-given v u w s = number-is v u w s ∙ sym (ap (λ (l : List ℕ). slice_index l 0) s.given)
 
   -- the part that is given is one of the table's
   number-inside : (out ever : ℕ) (v u w : View X) → IsStoreView out ever v → (s : Splits v u w) → s.number < PARTS
@@ -40,32 +41,6 @@ module _ {X : Type 0} where
         fresh = (let was = store.fresh in let fewer : length v.fresh ≡ length (s.number ∷ w.fresh) = ap length s.given in
             omega (arith, was, fewer));
         inside = λ k t. store.inside k (subst (λ (l : List ℕ). has k l ≡ true) (sym s.given) (later-among k s.number w.fresh t));
-        all = λ whole.
-            let one : 1 ≤ owns s.number w = whole s.number (number-inside out ever v u w store s) in
-            let used : times s.number w.used ≡ 0 = ap (times s.number) still.used ∙ times-none s.number v.used s.foreign.0 in
-            let fresh : times s.number w.fresh ≡ 0 = times-none s.number w.fresh s.foreign.1 in
-            absurd (omega (arith, one, used, fresh));
-      }
-
-  pub hand-given : (out ever : ℕ) (v u w : View X) → IsStoreView out ever v → Splits v u w → IsHandView u
-  hand-given out ever v u w store s =
-      let nothing : HoldsNothing u = new-nothing v.start (s.number ∷ []) w.releases w.seen u s.new in
-      let one : hand_number u ≡ s.number = number-is v u w s in record {
-        holds = nothing-holds u nothing;
-        parts = (ap (λ (y : View X). y.used) s.new ∙ ap (λ n. n ∷ []) (sym one), ap (λ (y : View X). y.fresh) s.new);
-        inside = subst (λ n. n < PARTS) (sym one) (number-inside out ever v u w store s);
-      }
-
-  pub is-given : (v u w : View X) → Splits v u w → IsHandGiven v u w
-  is-given v u w s =
-      let still : HasStill v w = split-keeps v u w s in record {
-        heard = s.kept.seen;
-        knows = ap (λ (y : View X). y.seen) s.new;
-        start = (s.kept.start, ap (λ (y : View X). y.start) s.new);
-        mine = (still.mine, ap (λ (y : View X). y.mine) s.new);
-        unused = ap (λ n. entries_by (n ∷ []) w.seen) (number-is v u w s) ∙ s.unused;
-        used = still.used;
-        notes = ap (λ (y : View X). y.notes) s.new;
       }
 
   pub store-takes : (tells : Bool) (keeps : Start → Kept X → Type 0) (out ever : ℕ) (v u w : View X) → IsStoreView out ever v
@@ -77,7 +52,6 @@ module _ {X : Type 0} where
         missing = misses-less out v u w store.missing hand apart j.parts;
         fresh = ap (λ (l : List ℕ). length l + ever + 1) same ∙ store.fresh;
         inside = λ k t. store.inside k (subst (λ (l : List ℕ). has k l ≡ true) same t);
-        all = j.knows.all;
       }
 
   pub is-back : (tells : Bool) (keeps : Start → Kept X → Type 0) (v u w : View X) → IsHandView u → Joins tells keeps v u w → IsBackIn v u w
@@ -104,14 +78,27 @@ module _ {X : Type 0} where
         inside = subst (λ n. n < PARTS) (sym same) h.inside;
       }
 
-  -- a hand that went back after it had given its frames back
-  pub back-before : (v t u w : View X) → KeepsPass t u → u.mine ≡ t.mine → IsBackIn v u w → IsBackIn v t w
-  back-before v t u w k mine b =
-      let same : hand_number u ≡ hand_number t = ap (λ (l : List ℕ). slice_index l 0) k.parts.0 in record {
-        heard = (b.heard.0, starts-then w.seen u.seen t.seen b.heard.1 k.seen);
-        start = b.start;
-        used = b.used ∙ ap (λ n. v.used ++ n ∷ []) same;
-        mine = b.mine;
-        ours = b.ours;
-        theirs = ap (λ n. entries_by (n ∷ []) w.seen) (sym same) ∙ b.theirs ∙ mine;
-      }
+  -- a store's pass that did something aside, and holds no more than before, is one again
+  pub store-aside : (touched : ℕ → Type 0) (done : List Did) (out ever : ℕ) (v w : View X) → IsAsideOf touched done v w → IsStoreView out ever v
+      → IsStoreView out ever w
+  store-aside touched done out ever v w aside store = record {
+    holds = record {
+      shares = λ p. (aside.holds p).shares ∙ store.holds.shares p;
+      exclusive = λ p. (aside.holds p).exclusive ∙ store.holds.exclusive p;
+      writing = λ p. (aside.holds p).writing ∙ store.holds.writing p;
+      out = aside.out ∙ store.holds.out;
+    };
+    current = aside.alone.current store.current;
+    missing = record {
+      away = store.missing.away;
+      few = store.missing.few;
+      others = λ k l. ⊎_elim
+          (λ some. inl (
+          let used : times k w.used ≡ times k v.used = ap (times k) aside.parts.0 in
+          let fresh : times k w.fresh ≡ times k v.fresh = ap (times k) aside.parts.1 in
+          omega (arith, some, used, fresh)))
+          (λ gone. inr gone) (store.missing.others k l);
+    };
+    fresh = ap (λ (l : List ℕ). length l + ever + 1) aside.parts.1 ∙ store.fresh;
+    inside = λ k t. store.inside k (subst (λ (l : List ℕ). has k l ≡ true) aside.parts.1 t);
+  }

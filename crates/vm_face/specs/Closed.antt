@@ -1,8 +1,7 @@
 -- What a store comes to that was opened on pages, and closed.
-use Rattle.std.specs.Prelude.{◌≡◌, Bool, List, true, ℕ}
+use Rattle.std.specs.Prelude.{◌≡◌, ◌≤◌, Bool, List, true, ℕ}
 use Rattle.vm_map.specs.{declared.call.Said.Said, History.after_all}
 use Rattle.vm_tree_model.specs.{Fixed.fixed, Tree.IsTree, Tree.map_of}
-use Rattle.vm_rule.specs.Prelude.{StartsWith}
 use Rattle.vm_step.specs.Prelude.{View}
 use Rattle.vm_tree_laws.specs.History.{IsLegal, saids}
 use Rattle.vm_face.specs.declared.store.Closing.{Closing}
@@ -22,7 +21,8 @@ pub record IsClosedOn (n : ℕ) (tells : Bool) (failed : ℕ) (words : List (Lis
   pub saved : tells ≡ true → failed ≡ 0 → IsTree (fixed n) words
       × (map_of (fixed n) words ≡ after_all (map_of (fixed n) v.start.contents) (saids v.seen))
 
--- where hands are out, the store comes back
-abbrev pub IsNotClosed : {T : Type 0} → T → Closing T → Type 0
-IsNotClosed store (closings.Hands back) = back ≡ store
-IsNotClosed store closings.Memory = Unit {0}
+-- the store comes back where so many hands are out, or none but somebody has a share of its pool
+abbrev pub IsNotClosed : {T : Type 0} → T → (out : ℕ) → Closing T → Type 0
+IsNotClosed store out (closings.Hands back) = (back ≡ store) × (1 ≤ out)
+IsNotClosed store out (closings.Shared back) = (back ≡ store) × (out ≡ 0)
+IsNotClosed store out closings.Memory = out ≡ 0

@@ -1,8 +1,15 @@
 -- A hand that a store gives, and one that comes back.
-use Rattle.std.specs.Prelude.{[], ◌++◌, ◌∷◌, ◌≡◌, ℕ}
+use Rattle.std.specs.Prelude.{[], ◌++◌, ◌∷◌, ◌≡◌, false, true, ℕ}
 use Rattle.vm_rule.specs.Prelude.{entries_by, StartsWith}
 use Rattle.vm_step.specs.Prelude.{View}
-use Rattle.vm_face.specs.Passes.{hand_number}
+use Rattle.vm_face.specs.Passes.{hand_number, has_room}
+use Rattle.vm_face.specs.declared.store.NoHand.{NoHand}
+use Rattle.vm_face.specs.declared.store.NoHand.TheVariants as reasons
+
+-- of so many frames, with so many hands out, of those that ever were: there is no room for one more
+abbrev pub IsNoHand : (frames out ever : ℕ) → NoHand → Type 0
+IsNoHand frames out ever reasons.Crowded = has_room frames out ever ≡ false
+IsNoHand frames out ever reasons.Memory = has_room frames out ever ≡ true
 
 module _ {X : Type 0} where
   -- The store's pass, with the view v, gave a part to a hand's, which has the view u: its view is w then. The hand knows

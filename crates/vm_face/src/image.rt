@@ -1,12 +1,13 @@
 //! A store of the pages of a page file, in memory.
 
-ghost use Rattle.std.specs.Prelude.{◌≡◌, ◌≤◌, IfErr, IfOk, true};
+ghost use Rattle.std.specs.Prelude.{[], ◌≡◌, ◌≤◌, IfErr, IfOk, map, true};
 ghost use Rattle.std.specs.Arc.{arc_value};
+ghost use Rattle.std.specs.Vec.{vec_capacity};
 ghost use Rattle.vm_page.specs.Sizes.{IsSize};
 ghost use Rattle.vm_image.specs.File.{pages_of_bytes};
 ghost use Rattle.vm_tree_model.specs.{Fixed.fixed, Tree.IsTree};
 ghost use Rattle.vm_step.specs.Prelude.{view};
-ghost use Rattle.vm_face.specs.{Closed.IsStoreOpened, Opened.IsNotOpened, Passes.IsStoreOn};
+ghost use Rattle.vm_face.specs.{Closed.IsStoreOpened, Homes.made_at, Opened.IsNotOpened, Passes.IsStore};
 
 use crate::store::{TreeStore, open_on};
 use std::alloc::Global;
@@ -35,10 +36,11 @@ pub fn open_image<S: OfSize<N>, const N: usize>(
     frames: u32,
 ) -> Result<TreeStore<TreeOf<WordKeys<S, N>>, MemBlock<N>, N>, Opening>
     requires { IsSize N }
-    ensures store { IfOk result (λ store. IsStoreOn (arc_value store.pool).words true store.pass store.out store.ever) }
+    ensures store { IfOk result (λ store. IsStore (arc_value store.pool).words true store.pass (map made_at store.homes.items) store.ever) }
+    ensures room { IfOk result (λ store. 64 ≤ vec_capacity store.homes) }
     ensures tree { IfOk result (λ _. IsTree (fixed N) (pages_of_bytes N bytes.now)) }
     ensures opened { IfOk result (λ store. IsStoreOpened true (pages_of_bytes N bytes.now) (view store.pass)) }
-    ensures none { IfOk result (λ store. (store.out ≡ 0) × (store.ever ≡ 0)) }
+    ensures none { IfOk result (λ store. (store.homes.items ≡ []) × (store.ever ≡ 0)) }
     ensures refused { IfErr result (λ why. IsNotOpened N bytes.now frames why) }
 {
     if frames < 64 || 65536 < frames {

@@ -3,10 +3,11 @@
 #![tactic(auto)]
 
 pub mod hand;
+pub mod home;
 pub mod image;
 pub mod kind;
 pub mod store;
 
 pub use hand::Hand;
 pub use image::{Opening, open_image};
-pub use store::{Closing, Summary, TreeStore, open_on};
+pub use store::{Closing, NoHand, Summary, TreeStore, open_on};

@@ -4,9 +4,10 @@ use Rattle.vm_core.specs.Fn as fns
 use Rattle.vm_fault.proofs.Ending.{both-within, brought-at, brought-once, brought-silent, EndsAs, evicted-ends}
 use Rattle.vm_fault.proofs.Ending.{failed-at, failed-once, failed-silent, IsHeldEmpty, page-within, still-draft}
 use Rattle.vm_fault.proofs.Ending.{still-free, still-last, still-owns, still-paid, unlocked-ends}
-use Rattle.vm_step.specs.steps.Owner.{OwnerTold}
-use Rattle.vm_step.proofs.steps.Owner.{settle-did, settle-frames, settle-held, settle-notes, settle-out, settle-works, stands-installed}
-use Rattle.vm_step.specs.from_vm_rule.Prelude.{StandsIn}
+use Rattle.vm_supply.specs.from_vm_step.steps_Owner.{OwnerTold}
+use Rattle.vm_supply.proofs.from_vm_step.steps_Owner.{settle-did, settle-frames, settle-held, settle-notes, settle-out, settle-works}
+use Rattle.vm_supply.proofs.from_vm_step.steps_Owner.{stands-installed}
+use Rattle.vm_supply.specs.from_vm_rule.Prelude.{StandsIn}
 use Rattle.vm_fault.proofs.Prelude.{[], all-stored, ap, append_assoc, arith, Bool, call-did, called, Change, clean_in}
 use Rattle.vm_fault.proofs.Prelude.{count_more, counts-one, Did, did_store, Each, Entry, Err, EVICTED, EvictTold}
 use Rattle.vm_fault.proofs.Prelude.{false, filled, fills, Fills, goes-out, has, HasWritten, Held, held_at, HomeTold}

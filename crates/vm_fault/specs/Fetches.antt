@@ -4,14 +4,14 @@
 use Rattle.std.specs.Prelude.{[], List, None, slice_index, Some, true, ℕ, ◌++◌, ◌+◌, ◌<◌, ◌∷◌, ◌≡◌, ◌≢◌, ◌≤◌, ◌⊎◌}
 use Rattle.vm_core.specs.Fn as fns
 use Rattle.vm_core.specs.Prelude.{EVICTED, LOCKED, MAX_VERSION, state_of, trans_word, UNLOCKED, version_of, word_of}
-use Rattle.vm_step.specs.from_vm_rule.Prelude.{clean_in, did_exchange, did_store, Each, last_in, last_of, LockTold}
-use Rattle.vm_step.specs.from_vm_rule.Prelude.{LookTold, Start, without}
-use Rattle.vm_step.specs.from_vm_rule.declared_view_WordPlace.{WordPlace}
-use Rattle.vm_step.specs.{declared.saw.Saw.Saw, Evidence.EvictedExpected}
-use Rattle.vm_step.specs.Prelude.{Did, GoesOnce, HasGiven, HasWritten, IsAlone, IsAside, IsLost, IsOfPage, IsSaw}
-use Rattle.vm_step.specs.Prelude.{KeepsFrames, known_word_at, KnowsElse, KnowsSame, LeavesOnly, NoWord, Release}
-use Rattle.vm_step.specs.Prelude.{RunsAlone, View}
-use Rattle.vm_step.specs.declared.saw.At.{At}
+use Rattle.vm_supply.specs.from_vm_rule.Prelude.{clean_in, did_exchange, did_store, Each, last_in, last_of, LockTold}
+use Rattle.vm_supply.specs.from_vm_rule.Prelude.{LookTold, Start, without}
+use Rattle.vm_supply.specs.from_vm_rule.declared_view_WordPlace.{WordPlace}
+use Rattle.vm_supply.specs.from_vm_step.{declared_saw_Saw.Saw, Evidence.EvictedExpected}
+use Rattle.vm_supply.specs.from_vm_step.Prelude.{Did, GoesOnce, HasGiven, HasWritten, IsAlone, IsAside, IsLost, IsOfPage, IsSaw}
+use Rattle.vm_supply.specs.from_vm_step.Prelude.{KeepsFrames, known_word_at, KnowsElse, KnowsSame, LeavesOnly, NoWord, Release}
+use Rattle.vm_supply.specs.from_vm_step.Prelude.{RunsAlone, View}
+use Rattle.vm_supply.specs.from_vm_step.declared_saw_At.{At}
 use Rattle.vm_fault.specs.declared.fault.Fetch.{Fetch}
 
 -- the page was found at the last version, in a state other than evicted: no lock of it may be tried

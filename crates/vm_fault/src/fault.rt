@@ -2,19 +2,20 @@
 ghost use Rattle.std.specs.Prelude.{◌<◌, ◌≡◌, None, true};
 ghost use Rattle.vm_core.specs.Prelude.{EVICTED, MAX_VERSION};
 ghost use Rattle.vm_page.specs.Sizes.{IsSize};
-ghost use Rattle.vm_step.specs.from_vm_rule.Prelude.{has};
-ghost use Rattle.vm_step.specs.Prelude.{GoesOn, IsReadyOn, view};
+ghost use Rattle.vm_supply.specs.from_vm_rule.Prelude.{has};
+ghost use Rattle.vm_supply.specs.from_vm_step.Prelude.{GoesOn, IsReadyOn, view};
 ghost use Rattle.vm_fault.specs.Fetches.{IsFetched, IsFoundEvicted};
 
 use vm_block::PageBlock;
 use vm_core::{MAX_VERSION, StateWord};
 use vm_owner::Owner;
 use vm_page::PageBuf;
-use vm_step::rule::{Pass, Words};
-use vm_step::{
-    At, Saw, Took, block_home, block_out, fill, install, lock_exclusive, look_silently, own, raise,
-    release_evicted, release_silently,
+use vm_supply::rule::{Pass, Words};
+use vm_supply::step::{
+    At, Saw, Took, fill, install, lock_exclusive, look_silently, own, release_evicted,
+    release_silently,
 };
+use vm_supply::{block_home, block_out, raise};
 
 /// What bringing a page into a frame answers.
 #[derive(Clone, Copy, Debug, PartialEq, Eq)]

@@ -6,11 +6,11 @@ use Rattle.vm_io.specs.Shown.{Shown}
 use Rattle.vm_page.specs.Counts.{count_more, MAX_COUNT}
 use Rattle.vm_block.specs.declared.stored.Stored.{Stored}
 use Rattle.vm_device.specs.Devices.{count_out, DeviceState, OutPage, size_of, StoredFile, words_at}
-use Rattle.vm_device.specs.Whole.{AllAreOut, NoneIsOut, outs_of, RoseOrLast}
+use Rattle.vm_device.specs.Whole.{AllAreOut, outs_of, RoseOrLast}
 use Rattle.vm_reading.specs.from_vm_endings.Held.{IsServedLength}
 use Rattle.vm_reading.specs.from_vm_endings.Outside.{outside_of, remains_of}
-use Rattle.vm_reading.specs.from_vm_endings.declared_stop_Stop_TheVariants.{Length, Unread}
-use Rattle.vm_reading.specs.from_vm_endings.declared_undone_Undone_TheVariants.{Memory, Stopped}
+use Rattle.vm_reading.specs.from_vm_endings.declared_stop_Stop_TheVariants.{Unread}
+use Rattle.vm_reading.specs.from_vm_endings.declared_undone_Undone_TheVariants.{Stopped}
 use Rattle.vm_file_serve.specs.Serving.{TakesPages, StopsTaking}
 use Rattle.vm_file_serve.proofs.Words.{held_pages, IsWhole}
 
@@ -44,16 +44,6 @@ module _ (tells : Bool) (old mid : DeviceState) (name : List ℕ) (outs : mid.ou
         files = λ t. out.files t ∙ files t;
       }
 
-  -- the length was answered, and is not one that is served
-  pub no_length : (shown : Option Shown) (unread : List ℕ) (size : ℕ) → mid.answered ≡ Some size
-      → (tells ≡ true → size_of old.files name ≡ Some size) → ¬ (IsServedLength size)
-      → StopsTaking (outside_of shown tells old) (remains_of unread mid) name (Stopped (Length size))
-  no_length shown unread size answered told none = record {
-    home = outs;
-    kept = files;
-    why = record { answered = answered; none = none; size = told };
-  }
-
   -- it was not
   pub no_answer : (shown : Option Shown) (unread : List ℕ) (given : Bor (List ℕ)) → given.now ≡ name
       → mid.count ≡ count_more old.count
@@ -62,23 +52,4 @@ module _ (tells : Bool) (old mid : DeviceState) (name : List ℕ) (outs : mid.ou
     home = outs;
     kept = files;
     why = (is, subst (λ (n : ℕ). RoseOrLast old.count n) (sym count) (one_fault old.count));
-  }
-
-  -- a block was not taken out
-  pub no_block_out : (new : DeviceState) (shown : Option Shown) (unread : List ℕ) (given : Bor (List ℕ)) → given.now ≡ name
-      → mid.count ≡ old.count → NoneIsOut tells mid new
-      → StopsTaking (outside_of shown tells old) (remains_of unread new) name (Stopped (Unread given))
-  no_block_out new shown unread given is count none = record {
-    home = none.outs ∙ outs;
-    kept = λ t. none.files t ∙ files t;
-    why = (is, subst (λ (n : ℕ). RoseOrLast n new.count) count none.count);
-  }
-
-  -- memory was wanting
-  pub no_memory : (new : DeviceState) (shown : Option Shown) (unread : List ℕ) → new ≡ mid
-      → StopsTaking (outside_of shown tells old) (remains_of unread new) name Memory
-  no_memory new shown unread same = record {
-    home = ap (λ (d : DeviceState). d.outs) same ∙ outs;
-    kept = λ t. ap (λ (d : DeviceState). d.files) same ∙ files t;
-    why = tt;
   }

@@ -7,7 +7,7 @@ ghost use Rattle.vm_reading.specs.from_vm_endings.Deliveries.{content_of};
 ghost use Rattle.vm_reading.specs.from_vm_endings.Endings.{AnswersCommand, ChangesDevices, HasUnreadCause, LeavesDevices, UnreadCause};
 ghost use Rattle.vm_reading.specs.from_vm_endings.Outside.{Outside, outside_of, Remains, remains_of, with_shown, with_unread};
 ghost use Rattle.vm_reading.specs.from_vm_endings.declared_ends_Ends.{Ends};
-ghost use Rattle.vm_file_serve.specs.Serving.{IsToServe, TakesPages, MayServe, ReadyCause, Serves, TellsServeLimits};
+ghost use Rattle.vm_file_serve.specs.Serving.{IsToServe, MayServe, ReadyCause, Serves, TellsServeLimits};
 
 use crate::pages::{pages_in, taken};
 use crate::work::{told, worked};

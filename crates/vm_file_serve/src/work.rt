@@ -1,7 +1,7 @@
 //! The workers' calls on the blocks of a file, and the text of what they came to.
 
 ghost use Rattle.std.specs.List.{AllByRecursion};
-ghost use Rattle.std.specs.Prelude.{◌*◌, ◌≡◌, ◌≤◌, IfOk, length, List, map, ℕ};
+ghost use Rattle.std.specs.Prelude.{◌*◌, ◌≡◌, ◌≤◌, IfOk, length, map};
 ghost use Rattle.vm_reading.specs.from_vm_drive.Prelude.{all_replies, HasContents};
 ghost use Rattle.vm_reading.specs.from_vm_drive.Drives.{AreAskable, AreFew, items_of};
 ghost use Rattle.vm_reading.specs.from_vm_pool.Closing.{view_at_end};

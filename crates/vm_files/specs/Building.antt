@@ -1,5 +1,5 @@
 -- What the parts of make and migrate answer: the tests of the numbers, and the building of the page file.
-use Rattle.std.specs.Prelude.{ℕ, ◌≡◌, ◌<◌, ◌≤◌, length, Result, Ok, Err}
+use Rattle.std.specs.Prelude.{◌≡◌, ◌<◌, ◌≤◌, length, Result, Ok, Err}
 use Rattle.vm_map.specs.Map.{Pairs}
 use Rattle.vm_build.specs.Build.{needed}
 use Rattle.vm_reading.specs.from_vm_endings.declared_delivery_Delivery.{Delivery}

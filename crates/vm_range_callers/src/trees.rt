@@ -6,25 +6,11 @@ ghost use Rattle.vm_step.specs.Prelude.{IsReadyOn, view};
 use std::alloc::Global;
 use std::test::Fail;
 use vm_block::{Block, MemBlock};
-use vm_check::check;
-use vm_image::{blocks_of, read_image};
 use vm_kind::{OfSize, TreeOf, WordKeys};
 use vm_rule::words::Pass;
-use vm_tree_range::pool::{Pool, Shape};
-
-/// The first word of a page file with pages of 64 words, and of one with pages of 512.
-pub const MAGIC: u64 = 0x564D_4341_4348_4531;
-
-pub const LARGE_MAGIC: u64 = 0x564D_4341_4348_4532;
-
-/// A page of so many words, with these from word 0 on, behind the bytes of others.
-fn put_page(bytes: &mut Vec<u8>, size: usize, words: &[u64]) -> Result<(), Fail> {
-    for i in 0..size {
-        let word: u64 = if i < words.len() { words[i] } else { 0 };
-        bytes.extend_from_slice(&word.to_be_bytes())?;
-    }
-    Ok(())
-}
+use vm_tree_callers::calls::{open_sized, put_page};
+pub use vm_tree_callers::calls::{LARGE_MAGIC, MAGIC};
+use vm_tree_range::pool::Pool;
 
 /// Leaf `k` of so many: its keys lie from 10 * k on and below 10 * (k + 1), and it has the one pair of 10 * k + 5 and k. Leaf 1 is empty.
 fn leaf(k: u64, count: u64) -> [u64; 10]
@@ -75,14 +61,5 @@ pub fn open<S: OfSize<N>, const N: usize>(
     ensures ready { IfOk result (λ made. IsReadyOn made.0.words ⟦<MemBlock<N> as Block>⟧.tells made.1) }
     ensures home { IfOk result (λ made. (view made.1).out ≡ None) }
 {
-    let image = read_image(alloc, bytes)?;
-    check(alloc, &image)?;
-    let blocks = blocks_of(alloc, &image, &[])?;
-    let shape = Shape {
-        pages: image.pages(),
-        frames: 64,
-        next: image.next(),
-        first_version,
-    };
-    Ok(Pool::start(alloc, shape, blocks, &[])?)
+    open_sized(alloc, bytes, &[], first_version)
 }

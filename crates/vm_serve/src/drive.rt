@@ -2,4 +2,4 @@
 
 pub use vm_drive::compact::{Replies, Short};
 pub use vm_drive::gate::{Gate, NoGate};
-pub use vm_drive::{Driven, drive, rooms_for};
+pub use vm_drive::{DrivenInto, drive_into, rooms_for};

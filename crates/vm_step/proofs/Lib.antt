@@ -12,7 +12,6 @@ pub mod Unclaimed
 pub mod Keeping
 pub mod OwedPages
 pub mod Quiet
-pub mod Slots
 pub mod Exchange
 pub mod Numbers
 pub mod Asides

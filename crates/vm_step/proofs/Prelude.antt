@@ -1,4 +1,5 @@
--- What the proofs of this crate cite from the crates below and from its own specs, passed on from one place. Declares nothing.
+-- What the proofs of this crate and of vm_supply cite from the crates below and from this crate's specs, passed on from
+-- one place. Declares nothing.
 pub use Rattle.std.specs.{Option.option_or, Prelude.All, Prelude.bit_and, Prelude.bit_xor, Prelude.option_map}
 pub use Rattle.std.proofs.{lemmas.Bool.Decides.nat_tests, lemmas.Option.none-some, Math.Bool.or-false}
 pub use Rattle.std.proofs.{Math.Bool.or_assoc, Math.ListN.get_or-eq_default}

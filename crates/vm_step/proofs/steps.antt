@@ -9,12 +9,7 @@ pub mod Mark
 pub mod Translate
 pub mod Content
 pub mod Mapping
-pub mod Bundle
 pub mod Next
 pub mod Owner
-pub mod Raise
-pub mod CatchUp
-pub mod Pass
-pub mod Block
 pub mod Release
 pub mod Number

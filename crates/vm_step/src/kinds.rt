@@ -1,10 +1,6 @@
 // The kinds of steps: a file a kind, or a pair of kinds. Each call is one operation on one word of the table; beside it stands its law, that what it
 // tells is an event of the core.
-pub mod block;
-pub mod bundle;
-pub mod catch_up;
 pub mod content;
-pub mod hand;
 pub mod lock;
 pub mod look;
 pub mod mapping;
@@ -12,8 +8,6 @@ pub mod mark;
 pub mod next;
 pub mod number;
 pub mod owner;
-pub mod pass;
-pub mod raise;
 pub mod release;
 pub mod share;
 pub mod translate;

@@ -28,7 +28,7 @@ pub(crate) fn translation_place<U: Owner, B: Block>(words: &Words<U, B>, p: u32)
 }
 
 /// The place of a page's fault word.
-pub(crate) fn fault_place<U: Owner, B: Block>(words: &Words<U, B>, p: u32) -> usize
+pub fn fault_place<U: Owner, B: Block>(words: &Words<U, B>, p: u32) -> usize
     requires page { p < words.now.table.shared.key.pages }
     ensures place { IsPlacedAt words.now.table.shared.key (places.Fault p) result }
     ensures inside { result < words.now.table.shared.table_id.words }
@@ -62,7 +62,7 @@ fn behind_frames<U: Owner, B: Block>(words: &Words<U, B>) -> usize
 }
 
 /// The place of a bundle's word.
-pub(crate) fn bundle_place<U: Owner, B: Block>(words: &Words<U, B>, g: u32) -> usize
+pub fn bundle_place<U: Owner, B: Block>(words: &Words<U, B>, g: u32) -> usize
     requires bundle { g * FRAMES < words.now.table.shared.key.frames }
     ensures place { IsPlacedAt words.now.table.shared.key (places.Bundle g) result }
     ensures inside { result < words.now.table.shared.table_id.words }
@@ -71,7 +71,7 @@ pub(crate) fn bundle_place<U: Owner, B: Block>(words: &Words<U, B>, g: u32) -> u
 }
 
 /// The place of the next word.
-pub(crate) fn next_place<U: Owner, B: Block>(words: &Words<U, B>) -> usize
+pub fn next_place<U: Owner, B: Block>(words: &Words<U, B>) -> usize
     ensures place { IsPlacedAt words.now.table.shared.key places.Next result }
     ensures inside { result < words.now.table.shared.table_id.words }
 {
@@ -79,7 +79,7 @@ pub(crate) fn next_place<U: Owner, B: Block>(words: &Words<U, B>) -> usize
 }
 
 /// The place of the hand's word, behind the next word.
-pub(crate) fn hand_place<U: Owner, B: Block>(words: &Words<U, B>) -> usize
+pub fn hand_place<U: Owner, B: Block>(words: &Words<U, B>) -> usize
     ensures place { IsPlacedAt words.now.table.shared.key places.Hand result }
     ensures inside { result < words.now.table.shared.table_id.words }
 {

@@ -1,11 +1,13 @@
-//! A call for each kind of step on the running table. Each is one event of the core; its contract is the pass's view afterwards, as a
-//! function of its view before and of the word found.
+//! A call for each kind of step on a page's own words, on free page numbers and on the next word. Each is one event of the core; its contract is
+//! the pass's view afterwards, as a function of its view before and of the word found. The other kinds stand in `vm_supply`, over this crate's
+//! operations.
 #![tactic(auto)]
 
 mod batch;
 mod choice;
 pub mod kinds;
 mod layout;
+pub mod making;
 mod operation;
 pub mod rule;
 mod saw;
@@ -15,11 +17,7 @@ mod took;
 
 pub use batch::Batch;
 pub use choice::{Candidates, Looks};
-pub use kinds::block::{block_home, block_out};
-pub use kinds::bundle::{bload, give, take};
-pub use kinds::catch_up::catch_up;
 pub use kinds::content::{blank, fill, load, load_at, store, store_at};
-pub use kinds::hand::hand;
 pub use kinds::lock::lock_exclusive;
 pub use kinds::look::{look, look_silently};
 pub use kinds::mapping::{clear, install, set_clean, set_dirty};
@@ -27,8 +25,6 @@ pub use kinds::mark::{mark, unmark};
 pub use kinds::next::{claim, nload};
 pub use kinds::number::{pbload, pgive, ptake};
 pub use kinds::owner::{disown, oload, own};
-pub use kinds::pass::{follow_pass, hear_pass, join_pass, split_pass};
-pub use kinds::raise::raise;
 pub use kinds::release::{downgrade, release, release_evicted, release_silently};
 pub use kinds::share::{lock_shared, lock_shared_silently, unlock_shared};
 pub use kinds::translate::tload;

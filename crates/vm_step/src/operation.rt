@@ -1,12 +1,11 @@
 // The operations on a word of the table, by a pass: for each its seat is taken out, steps, and is put back. A kind of step is a call of one of them.
 ghost use Rattle.std.specs.Prelude.{◌%◌, ◌+◌, ◌-◌, ◌<◌, ◌==◌, ◌^◌, ◌≡◌, bit_or};
 ghost use prog.Atomic.{either};
-ghost use Rattle.atomic_table.specs.Table.{Joins};
 ghost use Rattle.vm_rule.specs.Prelude.{Stands};
 ghost use Rattle.vm_step.specs.Prelude.{AllowsStep, IsSamePass, MayStep, view};
 
 use crate::seat::lift;
-use atomic_table::{Join, Play};
+use atomic_table::Play;
 use std::marker::{Brand, PhantomData};
 use vm_block::Block;
 use vm_owner::Owner;
@@ -14,7 +13,7 @@ use vm_rule::view::View;
 use vm_rule::words::{Pass, Words};
 
 /// What a step tells the call that makes it. A call of an operation picks it, for its proof alone.
-pub(crate) trait StepTold<X> {
+pub trait StepTold<X> {
     ghost use Rattle.std.specs.Prelude.{ℕ};
     ghost use Rattle.vm_step.specs.Prelude.{View};
 
@@ -27,7 +26,7 @@ impl<X> StepTold<X> for Brand {
 }
 
 /// The same, as the table has it: the pass has no slot out, and is fit to step again.
-pub(crate) struct StepPlay<M> {
+pub struct StepPlay<M> {
     marker: PhantomData<M>,
 }
 
@@ -38,7 +37,7 @@ impl<S, X, M: StepTold<X>> Play<S, View<X>> for StepPlay<M> {
 }
 
 /// Loads the word at this place. What the step is about is for the proof alone.
-pub(crate) fn load<U: Owner, B: Block, A: Copy, M: StepTold<U::Said>>(
+pub fn load<U: Owner, B: Block, A: Copy, M: StepTold<U::Said>>(
     words: &Words<U, B>,
     pass: &mut Pass<U>,
     at: usize,
@@ -59,7 +58,7 @@ pub(crate) fn load<U: Owner, B: Block, A: Copy, M: StepTold<U::Said>>(
 }
 
 /// Stores a number there. What the step is about is for the proof alone.
-pub(crate) fn store<U: Owner, B: Block, A: Copy, M: StepTold<U::Said>>(
+pub fn store<U: Owner, B: Block, A: Copy, M: StepTold<U::Said>>(
     words: &Words<U, B>,
     pass: &mut Pass<U>,
     at: usize,
@@ -80,7 +79,7 @@ pub(crate) fn store<U: Owner, B: Block, A: Copy, M: StepTold<U::Said>>(
 }
 
 /// Puts the new number there, where the word is the one expected, and answers the word before. What the step is about is for the proof alone.
-pub(crate) fn compare_exchange<U: Owner, B: Block, A: Copy, M: StepTold<U::Said>>(
+pub fn compare_exchange<U: Owner, B: Block, A: Copy, M: StepTold<U::Said>>(
     words: &Words<U, B>,
     pass: &mut Pass<U>,
     at: usize,
@@ -101,31 +100,6 @@ pub(crate) fn compare_exchange<U: Owner, B: Block, A: Copy, M: StepTold<U::Said>
         .table
         .shared
         .compare_exchange::<StepPlay<M>>(&mut seat, at, expects, new);
-    pass.badge = seat.into_badge();
-    found
-}
-
-/// Adds to the word, and answers it as it was. What the step is about is for the proof alone.
-pub(crate) fn fetch_add<U: Owner, B: Block, A: Copy, M: StepTold<U::Said>>(
-    words: &Words<U, B>,
-    pass: &mut Pass<U>,
-    at: usize,
-    k: u64,
-    _about: A,
-) -> u64
-    requires pass { MayStep words.now.table.shared.table_id pass.old }
-    requires at { at < words.now.table.shared.table_id.words }
-    requires allows { AllowsStep
-        (Stands B.stored U.keeps U.tied words.now.table.shared.key B.tells) words.now.table.shared.table_id.slots pass.old.badge.id
-        (view pass.old) at (λ n. (n + k) % 2 ^ 64) M.told }
-    ensures pass { IsSamePass pass.old pass.new }
-    ensures told { M.told result (view pass.old) (view pass.new) }
-{
-    let mut seat = lift::<View<U::Said>, Option<B>>(&mut pass.badge);
-    let found = words
-        .table
-        .shared
-        .fetch_add::<StepPlay<M>>(&mut seat, at, k);
     pass.badge = seat.into_badge();
     found
 }
@@ -156,7 +130,7 @@ pub(crate) fn fetch_sub<U: Owner, B: Block, A: Copy, M: StepTold<U::Said>>(
 }
 
 /// Sets bits of the word, and answers it as it was. What the step is about is for the proof alone.
-pub(crate) fn fetch_or<U: Owner, B: Block, A: Copy, M: StepTold<U::Said>>(
+pub fn fetch_or<U: Owner, B: Block, A: Copy, M: StepTold<U::Said>>(
     words: &Words<U, B>,
     pass: &mut Pass<U>,
     at: usize,
@@ -173,32 +147,6 @@ pub(crate) fn fetch_or<U: Owner, B: Block, A: Copy, M: StepTold<U::Said>>(
 {
     let mut seat = lift::<View<U::Said>, Option<B>>(&mut pass.badge);
     let found = words.table.shared.fetch_or::<StepPlay<M>>(&mut seat, at, k);
-    pass.badge = seat.into_badge();
-    found
-}
-
-/// Another pass is taken in, which goes; then the word at this place is loaded.
-pub(crate) fn take_in<U: Owner, B: Block, J: Join<View<U::Said>>, M: StepTold<U::Said>>(
-    words: &Words<U, B>,
-    pass: &mut Pass<U>,
-    other: Pass<U>,
-    at: usize,
-) -> u64
-    requires pass { MayStep words.now.table.shared.table_id pass.old }
-    requires other { other.badge.table_id ≡ words.now.table.shared.table_id }
-    requires at { at < words.now.table.shared.table_id.words }
-    requires joins { Joins (Stands B.stored U.keeps U.tied words.now.table.shared.key B.tells) pass.old.badge.id (view pass.old) other.badge.id
-        (view other) (J.both (view pass.old) (view other)) J.spent }
-    requires allows { AllowsStep
-        (Stands B.stored U.keeps U.tied words.now.table.shared.key B.tells) words.now.table.shared.table_id.slots pass.old.badge.id
-        (J.both (view pass.old) (view other)) at (λ n. n) M.told }
-    ensures pass { IsSamePass pass.old pass.new }
-    ensures told { M.told result (J.both (view pass.old) (view other)) (view pass.new) }
-{
-    let mut seat = lift::<View<U::Said>, Option<B>>(&mut pass.badge);
-    let gone = other.into_badge().into_seat::<Option<B>>();
-    words.table.shared.join_seat::<J>(&mut seat, gone);
-    let found = words.table.shared.load::<StepPlay<M>>(&mut seat, at);
     pass.badge = seat.into_badge();
     found
 }

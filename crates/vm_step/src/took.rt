@@ -13,7 +13,7 @@ pub enum Took {
 }
 
 /// The answer, from the word that was found.
-pub(crate) fn answer(found: u64, expects: u64) -> Took
+pub fn answer(found: u64, expects: u64) -> Took
     ensures word { found_by expects result ≡ found }
     ensures lost { (word : ℕ) → result ≡ Lost word → word ≢ expects }
 {

@@ -28,7 +28,7 @@ fn one_failure<R: Abort + Threads + Wait + Sync>(
     let (pool, mut pass) = open(alloc, &image, &plan, 0, 16)?;
     let lists = shares(alloc, 2, 150)?;
     let driven = drive(rt, alloc, &pool, &mut pass, lists.as_slice(), &NoGate)?;
-    let replies = driven.replies.as_slice();
+    let replies = driven.kept.as_slice();
     let few = faults_in(replies) <= 1;
     assert!(rt; few);
     expect_fault(
@@ -61,7 +61,7 @@ fn a_failed_first_read_is_one_fault(rt: HostRuntime) -> Result<(), Fail> {
     let (pool, mut pass) = open(alloc, &image, &plan, 0, 64)?;
     let lists = shares(alloc, 2, 10)?;
     let driven = drive(&rt, alloc, &pool, &mut pass, lists.as_slice(), &NoGate)?;
-    let replies = driven.replies.as_slice();
+    let replies = driven.kept.as_slice();
     assert_eq!(rt; faults_in(replies), 1);
     expect_fault(replies, TreeFault::Device { pid: 0, count: 1 })?;
     expect_lists(&rt, &pool, &mut pass, lists.as_slice(), replies)?;
@@ -77,8 +77,8 @@ fn a_worn_leaf_is_read_by_all(rt: HostRuntime) -> Result<(), Fail> {
     let calls = [Call::Get { key: 5 }, Call::Put { key: 5, value: 7 }];
     let lists = two_lists(alloc, &calls, &calls)?;
     let driven = drive(&rt, alloc, &pool, &mut pass, lists.as_slice(), &NoGate)?;
-    assert_eq!(rt; driven.replies.len(), 2);
-    for answers in driven.replies.as_slice() {
+    assert_eq!(rt; driven.kept.len(), 2);
+    for answers in driven.kept.as_slice() {
         let [read, written] = answers.short.as_slice() else {
             return Err(Fail::from("an answer to each call"));
         };
@@ -96,7 +96,7 @@ fn a_full_image_takes_28_pairs(rt: HostRuntime) -> Result<(), Fail> {
     let (pool, mut pass) = open(alloc, &image, &[], 0, 64)?;
     let lists = shares(alloc, 2, 20)?;
     let driven = drive(&rt, alloc, &pool, &mut pass, lists.as_slice(), &NoGate)?;
-    let replies = driven.replies.as_slice();
+    let replies = driven.kept.as_slice();
     assert_eq!(rt; faults_in(replies), 12);
     expect_fault(replies, TreeFault::Full { pages: 2 })?;
     expect_lists(&rt, &pool, &mut pass, lists.as_slice(), replies)?;

@@ -173,7 +173,7 @@ fn a_call_ends_while_a_page_is_read(rt: HostRuntime) -> Result<(), Fail> {
     let second = Call::Put { key: 20, value: 9 };
     let lists = two_lists(alloc, &[first], &[second])?;
     let driven = drive(&rt, alloc, &pool, &mut pass, lists.as_slice(), &signals)?;
-    let [first, second] = driven.replies.as_slice() else {
+    let [first, second] = driven.kept.as_slice() else {
         return Err(Fail::from("two lists of replies"));
     };
     assert!(rt; first.short.as_slice() == [Short::Was(Some(1))].as_slice());

@@ -24,7 +24,7 @@ fn ranges_stand_apart_in_order(rt: HostRuntime) -> Result<(), Fail> {
     };
     let lists = two_lists(alloc, &[last, Call::Get { key: 9 }, both], &[both])?;
     let driven = drive(&rt, alloc, &pool, &mut pass, lists.as_slice(), &NoGate)?;
-    let [first, second] = driven.replies.as_slice() else {
+    let [first, second] = driven.kept.as_slice() else {
         return Err(Fail::from("two lists of replies"));
     };
     let short = [Short::Many, Short::Got(Some(9)), Short::Many];
@@ -57,7 +57,7 @@ fn a_range_of_an_empty_map_has_no_pair(rt: HostRuntime) -> Result<(), Fail> {
     };
     let lists = two_lists(alloc, &[all], &[])?;
     let driven = drive(&rt, alloc, &pool, &mut pass, lists.as_slice(), &NoGate)?;
-    let [first, _] = driven.replies.as_slice() else {
+    let [first, _] = driven.kept.as_slice() else {
         return Err(Fail::from("two lists of replies"));
     };
     assert!(rt; first.short.as_slice() == [Short::Many].as_slice());

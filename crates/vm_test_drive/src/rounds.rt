@@ -8,7 +8,7 @@ use std::test::Fail;
 use std::thread::Threads;
 use vm_core::Memory;
 use vm_drive_callers::calls::{expect_lists, faults_in, shares};
-use vm_drive_callers::drive::{Driven, NoGate, drive};
+use vm_drive_callers::drive::{DrivenInto, NoGate, drive};
 use vm_drive_callers::trees::{empty, open};
 use vm_exmap::{Alloc, Interface};
 
@@ -27,9 +27,9 @@ fn round<R: Abort + Threads + Wait + Sync>(
     let (pool, mut pass) = open(alloc, &image, &[], 0, frames)?;
     let lists = shares(alloc, workers, 300)?;
     let driven = drive(rt, alloc, &pool, &mut pass, lists.as_slice(), &NoGate)?;
-    let Driven { replies, evicted } = driven;
-    assert_eq!(rt; faults_in(replies.as_slice()), 0);
-    expect_lists(rt, &pool, &mut pass, lists.as_slice(), replies.as_slice())?;
+    let DrivenInto { kept, evicted } = driven;
+    assert_eq!(rt; faults_in(kept.as_slice()), 0);
+    expect_lists(rt, &pool, &mut pass, lists.as_slice(), kept.as_slice())?;
     Ok(evicted)
 }
 
@@ -68,10 +68,10 @@ fn workers_are_driven_again_after_want_of_memory(rt: HostRuntime) -> Result<(), 
         Ok(driven) => driven,
         Err(Memory) => drive(&rt, alloc, &pool, &mut pass, lists.as_slice(), &NoGate)?,
     };
-    let Driven { replies, evicted } = driven;
+    let DrivenInto { kept, evicted } = driven;
     assert_eq!(rt; evicted, 0);
-    assert_eq!(rt; faults_in(replies.as_slice()), 0);
-    expect_lists(&rt, &pool, &mut pass, lists.as_slice(), replies.as_slice())?;
+    assert_eq!(rt; faults_in(kept.as_slice()), 0);
+    expect_lists(&rt, &pool, &mut pass, lists.as_slice(), kept.as_slice())?;
     Ok(())
 }
 
@@ -84,7 +84,7 @@ fn a_worker_keeps_no_frame(rt: HostRuntime) -> Result<(), Fail> {
     let (pool, mut pass) = open(alloc, &image, &[], 0, 64)?;
     let lists = shares(alloc, 1, 1)?;
     let driven = drive(&rt, alloc, &pool, &mut pass, lists.as_slice(), &NoGate)?;
-    assert_eq!(rt; faults_in(driven.replies.as_slice()), 0);
+    assert_eq!(rt; faults_in(driven.kept.as_slice()), 0);
     let mut iface = Interface::new(0, 64);
     let Alloc::Batch(free) = iface.alloc(&pool.words, &mut pass, 64) else {
         panic!(rt; "frames are free");

@@ -17,7 +17,8 @@ use vm_guard::ExclusiveGuard;
 use vm_owner::Bare;
 use vm_page::{PageBuf, WORDS};
 use vm_rule::words::{Pass, Words};
-use vm_step::{Candidates, Looks, Took, block_out, lock_exclusive, mark};
+use vm_step::{Candidates, Looks, Took, lock_exclusive, mark};
+use vm_supply::block_out;
 use vm_test_pages::blocks::used_page;
 
 /// The word of a marked page at version 7.

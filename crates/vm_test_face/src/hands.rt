@@ -3,7 +3,7 @@
 use crate::refused::empty_file;
 use std::test::Fail;
 use vm_face::kind::Sizes;
-use vm_face::{Closing, open_image};
+use vm_face::{Closing, NoHand, open_image};
 use vm_map::call::{Pair, Reply, Swap};
 use vm_map::span::Span;
 use vm_map::window::Bound;
@@ -17,14 +17,15 @@ fn a_hand_puts_and_gets(rt: HostRuntime) -> Result<(), Fail> {
     let Ok(mut store) = open_image::<Sizes, WORDS>(alloc, file.as_slice(), 64) else {
         return Err(Fail::from("no store"));
     };
-    let Some(mut hand) = store.hand() else {
+    let Ok(mut hand) = store.hand(alloc) else {
         return Err(Fail::from("no hand"));
     };
     let put = hand.put(5, 7, 100);
     let swapped = hand.swap(5, 7, 8, 100);
     let got = hand.get(5, 100);
     let gone = hand.del(6, 100);
-    store.take_back(hand);
+    hand.leave();
+    store.take_in();
     assert!(rt; matches!(put, Ok(Some(Reply::Was(None)))));
     assert!(rt; matches!(swapped, Ok(Some(Reply::Swapped(Swap::Done)))));
     assert!(rt; matches!(got, Ok(Some(Reply::Got(Some(8))))));
@@ -55,7 +56,7 @@ fn a_hand_reads_pairs(rt: HostRuntime) -> Result<(), Fail> {
     let Ok(mut store) = open_image::<Sizes, WORDS>(alloc, file.as_slice(), 64) else {
         return Err(Fail::from("no store"));
     };
-    let Some(mut hand) = store.hand() else {
+    let Ok(mut hand) = store.hand(alloc) else {
         return Err(Fail::from("no hand"));
     };
     let none = hand.put(5, 7, 0);
@@ -78,13 +79,67 @@ fn a_store_whose_hand_is_out_stays_open(rt: HostRuntime) -> Result<(), Fail> {
     let Ok(mut store) = open_image::<Sizes, WORDS>(alloc, file.as_slice(), 64) else {
         return Err(Fail::from("no store"));
     };
-    let Some(hand) = store.hand() else {
+    let Ok(hand) = store.hand(alloc) else {
         return Err(Fail::from("no hand"));
     };
     let Err(Closing::Hands(back)) = store.close(alloc) else {
         return Err(Fail::from("closed"));
     };
-    assert_eq!(rt; back.out, 1);
+    assert_eq!(rt; back.out(), 1);
     drop(hand);
+    Ok(())
+}
+
+/// A hand that left is out until it is taken in; a flush before writes the page that it put on, so that the close finds none.
+#[test]
+fn a_hand_that_left_is_taken_in(rt: HostRuntime) -> Result<(), Fail> {
+    let alloc = rt.alloc();
+    let file = empty_file(alloc)?;
+    let Ok(mut store) = open_image::<Sizes, WORDS>(alloc, file.as_slice(), 64) else {
+        return Err(Fail::from("no store"));
+    };
+    let (Ok(mut hand), Ok(other)) = (store.hand(alloc), store.hand(alloc)) else {
+        return Err(Fail::from("no hand"));
+    };
+    let put = hand.put(5, 7, 100);
+    assert!(rt; matches!(put, Ok(Some(Reply::Was(None)))));
+    hand.leave();
+    assert_eq!(rt; store.out(), 2);
+    store.take_in();
+    assert_eq!(rt; store.out(), 1);
+    let report = store.flush();
+    assert_eq!(rt; (report.written, report.failed, report.busy), (1, 0, 0));
+    other.leave();
+    store.take_in();
+    let Ok(end) = store.close(alloc) else {
+        return Err(Fail::from("not closed"));
+    };
+    assert_eq!(rt; end.report.written, 0);
+    Ok(())
+}
+
+/// Eight hands may be out of a store of 64 frames, and a ninth when one is back.
+#[test]
+fn a_ninth_hand_waits_for_another_to_come_back(rt: HostRuntime) -> Result<(), Fail> {
+    let alloc = rt.alloc();
+    let file = empty_file(alloc)?;
+    let Ok(mut store) = open_image::<Sizes, WORDS>(alloc, file.as_slice(), 64) else {
+        return Err(Fail::from("no store"));
+    };
+    let mut hands = Vec::new(alloc);
+    for _ in 0..7 {
+        let Ok(hand) = store.hand(alloc) else {
+            return Err(Fail::from("no hand"));
+        };
+        hands.push(hand)?;
+    }
+    let Ok(last) = store.hand(alloc) else {
+        return Err(Fail::from("no hand"));
+    };
+    assert!(rt; matches!(store.hand(alloc), Err(NoHand::Crowded)));
+    last.leave();
+    assert!(rt; matches!(store.hand(alloc), Err(NoHand::Crowded)));
+    store.take_in();
+    assert!(rt; store.hand(alloc).is_ok());
     Ok(())
 }

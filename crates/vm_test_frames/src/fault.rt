@@ -14,7 +14,8 @@ use vm_fault::{Fetch, fault_in};
 use vm_owner::Bare;
 use vm_page::{LARGE, PageBuf, WORDS};
 use vm_rule::words::{Pass, Words};
-use vm_step::{At, Saw, Took, take};
+use vm_step::{At, Saw, Took};
+use vm_supply::take;
 use vm_test_tables::resident::resident;
 
 /// The word of an evicted page at version 1.

@@ -1,12 +1,10 @@
 -- What the steps of the tests need: pages that are fresh and may be released, and pages that are held on.
-use Rattle.std.proofs.Common.{[], ⊎_elim, ◌<◌, ◌∙◌, ◌∷◌, ◌≡◌, ◌≢◌, ◌⊎◌, ap, arith, Bool, eqb, false, inl, inr}
+use Rattle.std.proofs.Common.{[], ⊎_elim, ◌∙◌, ◌∷◌, ◌≡◌, ◌≢◌, ◌⊎◌, ap, arith, Bool, eqb, false, inl, inr}
 use Rattle.std.proofs.Common.{length, List, None, refl, subst, sym, true, ℕ}
 use Rattle.std.proofs.lemmas.Bool.{eq-eqb, or_left, or_right}
 use Rattle.std.proofs.lemmas.Option.{none-some}
-use Rattle.vm_core.specs.Prelude.{Version}
 use Rattle.vm_page.specs.Pages.{all_zero}
 use Rattle.vm_rule.specs.Prelude.{AreApart, began_of, Change, changes_of, Each, Entry, has, Kept, last_of, Start}
-use Rattle.vm_rule.specs.declared.view.Held.{Held}
 use Rattle.vm_step.specs.Prelude.{AreHeld, Did, IsClaimed, IsNotOut, Origin, View}
 use Rattle.vm_step.proofs.HeldFrames.{held-on}
 use Rattle.vm_guard.specs.{declared.exclusive.ExclusiveGuard.ExclusiveGuard, Given.AreFreshPages, Guards.IsElsewhere}
@@ -17,6 +15,7 @@ use Rattle.vm_guard.specs.Reused.{IsFreshAnswer}
 use Rattle.vm_guard.proofs.Searching.{looks-none}
 use Rattle.vm_step.proofs.steps.Next.{nload-others}
 use Rattle.vm_guard.proofs.InUse.{claims-used}
+use Rattle.vm_guard.proofs.GuardSteps.{still-held}
 
 -- the guards of one page, or of two, are some
 pub fresh-some : (n : ℕ) (pages : List ℕ) (gs : List ExclusiveGuard) → pids_of gs ≡ pages → length pages ≡ n → (n ≡ 1) ⊎ (n ≡ 2) → gs ≢ []
@@ -71,18 +70,7 @@ module _ {X : Type 0} where
       → IsHolding p f version dirty w
   holding-on p f version dirty q done v w ne pending e h =
       let k = e.knows p ne (inl h.owns) in
-      record {
-        page = subst (λ (o : Origin). p < o.pages) (sym e.steady.start) h.page;
-        frame_is = subst (λ (o : Origin). f < o.frames) (sym e.steady.start) h.frame_is;
-        below = h.below;
-        owns = (e.holds p ne).exclusive ∙ h.owns;
-        stands = ap (λ (y : Held). y.mapping) k.held ∙ h.stands;
-        owned = ap (λ (y : Held). y.owner) k.held ∙ h.owned;
-        told = ap (λ (y : Held). y.fault) k.held ∙ h.told ∙ ap (λ (y : Held). y.block.count) (sym k.held);
-        at = ap (λ (y : Version). y.version) k.last ∙ h.at;
-        size = ap length k.draft ∙ h.size ∙ ap (λ (o : Origin). o.size) (sym e.steady.start);
-        free = ap (has p) pending ∙ h.free;
-      }
+      still-held h e.steady.start (e.holds p ne).exclusive k pending
 
   -- a call that leaves all but the open read of a page leaves the others
   pub quiet-elsewhere : (p : ℕ) (done : List Did) (v w : View X) → IsQuiet p done v w → IsElsewhere p done [] v w

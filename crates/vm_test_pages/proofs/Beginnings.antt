@@ -5,7 +5,7 @@ use Rattle.std.proofs.lemmas.{Bool.cases_eq, Bool.cases_lt, Bool.false≢true, B
 use Rattle.vm_page.specs.Pages.{all_zero}
 use Rattle.vm_core.specs.Prelude.{page_at}
 use Rattle.vm_rule.specs.Prelude.{AreClaimed, block_words, Each, has, Kept, MayBegin, MemBlock, Start, Stored, stored_of, words_of}
-use Rattle.vm_rule.proofs.ListFacts.{length-mapped}
+use Rattle.vm_rule.proofs.{ListFacts.length-mapped, NumberReleases.zeros-are}
 
 abbrev AllZero : List (List ℕ) → Type 0
 AllZero pages = (p : ℕ) → p < length pages → page_at pages p ≡ replicate (length (page_at pages p)) 0
@@ -22,10 +22,6 @@ words-more : {n : ℕ} (blocks : List (MemBlock n)) (b : MemBlock n)
 words-more [] b = refl
 words-more (x ∷ blocks) b = ap (λ (l : List (List ℕ)). words_of x ∷ l) (words-more blocks b)
 
-all-zeros : (n : ℕ) → all_zero (replicate n 0) ≡ true
-all-zeros zero = refl
-all-zeros (suc n) = all-zeros n
-
 -- a page past the last one has no words
 past-last : (pages : List (List ℕ)) (p : ℕ) → length pages ≤ p → page_at pages p ≡ []
 past-last [] p l = refl
@@ -35,7 +31,7 @@ past-last (x ∷ pages) (suc p) l = past-last pages p (omega (arith, l))
 each-zero : (pages : List (List ℕ)) → AllZero pages → (p : ℕ) → all_zero (page_at pages p) ≡ true
 each-zero pages z p =
     ⊎_elim
-    (λ (l : p < length pages). ap all_zero (z p l) ∙ all-zeros (length (page_at pages p)))
+    (λ (l : p < length pages). ap all_zero (z p l) ∙ zeros-are (length (page_at pages p)))
     (λ (l : length pages ≤ p). ap all_zero (past-last pages p l))
     (cases_lt p (length pages))
 

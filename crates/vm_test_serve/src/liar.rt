@@ -1,8 +1,5 @@
 //! Devices that tell nothing, one of whose blocks lies once.
 
-ghost use Rattle.std.specs.Prelude.{◌≡◌};
-ghost use Rattle.vm_page.specs.Counts.{count_more};
-
 use vm_block::{Block, PageBlock};
 use vm_device::{Devices, Failed, MemDevices, MemPage, SyncBlock};
 use vm_page::{PageBuf, WORDS};

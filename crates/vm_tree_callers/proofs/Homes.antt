@@ -1,11 +1,10 @@
 -- Whatever a read of the tree answers, the pass has its block at home as before; and a call that asks for no frame
 -- leaves it those that it had.
-use Rattle.std.proofs.Common.{◌<◌, ◌∙◌, ◌≡◌, ap, Bool, Err, false, IfErr, IfOk, inl, length, List, None, Ok, Result, subst, sym, ℕ}
+use Rattle.std.proofs.Common.{◌∙◌, ◌≡◌, ap, Bool, Err, false, IfErr, IfOk, inl, List, None, Ok, Result, sym, ℕ}
 use Rattle.vm_map.specs.{declared.call.Call.Call, declared.call.Reply.Reply, declared.call.Said.Said}
 use Rattle.vm_core.specs.Prelude.{Version}
 use Rattle.vm_rule.specs.Prelude.{draft_of, has, last_of, LookTold}
-use Rattle.vm_rule.specs.declared.view.Held.{Held}
-use Rattle.vm_step.specs.Prelude.{AreHeld, KnowsAsBefore, Origin, View}
+use Rattle.vm_step.specs.Prelude.{AreHeld, KnowsAsBefore, View}
 use Rattle.vm_exmap.proofs.Handing.{held-on}
 use Rattle.vm_guard.specs.Guards.{IsHolding}
 use Rattle.vm_guard.proofs.QuietSteps.{look-quiet}
@@ -15,6 +14,7 @@ use Rattle.vm_tree_retry.specs.from_vm_tree_rule.{declared_fault_TreeFault.TreeF
 use Rattle.vm_tree_retry.specs.from_vm_tree_read.{declared_read_TryRead.TryRead, Reads.IsTried, Waiting.IsFaulted}
 use Rattle.vm_tree_retry.specs.from_vm_tree_read.Waiting.{IsReplied}
 use Rattle.vm_tree_retry.specs.from_vm_tree_read.declared_read_TryRead_TheVariants as reads
+use Rattle.vm_guard.proofs.GuardSteps.{still-held}
 
 -- what a call leaves that asks for no frame and moves no block
 pub record Rests {X : Type 0} (v w : View X) : Type 0 where
@@ -63,18 +63,7 @@ reads-beside p f version dirty v w b r =
     let h = b.held in
     let k : KnowsAsBefore v w p = r.knows p (inl h.owns) in
     record {
-      held = record {
-        page = subst (λ (o : Origin). p < o.pages) (sym r.start) h.page;
-        frame_is = subst (λ (o : Origin). f < o.frames) (sym r.start) h.frame_is;
-        below = h.below;
-        owns = (r.holds p).exclusive ∙ h.owns;
-        stands = ap (λ (y : Held). y.mapping) k.held ∙ h.stands;
-        owned = ap (λ (y : Held). y.owner) k.held ∙ h.owned;
-        told = ap (λ (y : Held). y.fault) k.held ∙ h.told ∙ ap (λ (y : Held). y.block.count) (sym k.held);
-        at = ap (λ (y : Version). y.version) k.last ∙ h.at;
-        size = ap length k.draft ∙ h.size ∙ ap (λ (o : Origin). o.size) (sym r.start);
-        free = ap (has p) r.group.0 ∙ h.free;
-      };
+      held = still-held h r.start (r.holds p).exclusive k r.group.0;
       same = k.draft ∙ b.same ∙ sym (ap (λ (y : Version). y.words) k.last);
       unpaid = ap (has p) r.group.1 ∙ b.unpaid;
     }

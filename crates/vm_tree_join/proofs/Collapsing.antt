@@ -19,7 +19,7 @@ use Rattle.vm_tree_laws.specs.Plain.{KeepsPlain, ReleasesPlain}
 use Rattle.vm_tree_laws.proofs.Zeros.{node_words, other_words}
 use Rattle.vm_tree_join.specs.Merging.{page_change, IsMerged}
 use Rattle.vm_tree_split.specs.Splits.{HasDraft, Stays}
-use Rattle.vm_tree_join.proofs.Merging.{all-zeros}
+use Rattle.vm_rule.proofs.NumberReleases.{zeros-are}
 use Rattle.vm_tree_split.proofs.Splitting.{none-not, words-claimed}
 
 -- page 0 names a page other than page 0
@@ -146,11 +146,11 @@ module _ {S : Type 0} (plain : S → Said) (L : Layout) (laws : IsLayout L) (sai
       cond-false _ _ _ (ap all_zero t.0.last ∙ used (tells-then tells)) ∙ ap all_zero t.0.draft
       ∙ names-not (last_of v a).words c words some in
       let two : (if all_zero (last_of y b).words then false else all_zero (draft_of y b)) ≡ true =
-      cond-false _ _ _ (ap all_zero t.1.last ∙ root-used tells) ∙ ap all_zero t.1.draft ∙ all-zeros L.words in
+      cond-false _ _ _ (ap all_zero t.1.last ∙ root-used tells) ∙ ap all_zero t.1.draft ∙ zeros-are L.words in
       let three : (if all_zero (last_of y c).words then false else all_zero (draft_of y c)) ≡ false =
       cond-false _ _ _ (ap all_zero t.2.last ∙ left-used tells) ∙ ap all_zero t.2.draft ∙ both-used tells in
       let last : (if all_zero (last_of y d).words then false else all_zero (draft_of y d)) ≡ true =
-      cond-false _ _ _ (ap all_zero t.3.last ∙ right-used tells) ∙ ap all_zero t.3.draft ∙ all-zeros L.words in
+      cond-false _ _ _ (ap all_zero t.3.last ∙ right-used tells) ∙ ap all_zero t.3.draft ∙ zeros-are L.words in
       cond-false _ _ _ one ∙ cond-true _ _ _ two ∙ ap (λ (l : List ℕ). b ∷ l) (cond-false _ _ _ three ∙ cond-true _ _ _ last)
 
   pub collapse-done : (w : View S) → y.start.size ≡ L.words → c ≢ 0 → IsHolding g1.pid g1.frame g1.version g1.dirty y

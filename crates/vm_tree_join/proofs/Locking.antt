@@ -5,7 +5,6 @@ use Rattle.std.proofs.lemmas.Bool.{cases_eq, ne_eqb}
 use Rattle.vm_tree_model.specs.Layout.{Layout}
 use Rattle.vm_core.specs.Prelude.{Version}
 use Rattle.vm_rule.specs.Prelude.{AreApart, began_of, Each, has, IsLocking, last_of, seat_of}
-use Rattle.vm_rule.specs.declared.view.Held.{Held}
 use Rattle.vm_rule.proofs.Entries.{append-none}
 use Rattle.vm_tree_split.specs.from_vm_step.Prelude.{HoldsPage, IsAlone, KeepsNumbers, KnowsAsBefore, Origin, ReadsAsBefore, Tie, View}
 use Rattle.vm_tree_split.proofs.from_vm_step.Asides.{holds-then, knows-then, numbers-then, still-locking}
@@ -20,6 +19,7 @@ use Rattle.vm_tree_split.proofs.{Framing.unheld-not, Settling.locked-alone, Sett
 use Rattle.vm_tree_split.proofs.{Settling.locked-word, Splitting.among-first, Splitting.among-later}
 use Rattle.vm_tree_split.proofs.Under.{but-then, KeepsBut, locked-but, locked-draft, meets-fewer, Was, was-before, was-locked, was-on}
 use Rattle.vm_tree_join.specs.Locks.{AreAllLocked, IsKindOf, IsLockedAt, IsReadAs, KnowsFree}
+use Rattle.vm_tree_split.proofs.from_vm_guard.GuardSteps.{still-held}
 
 module _ {X : Type 0} where
   -- what steps on other pages leave of page p
@@ -55,19 +55,7 @@ module _ {X : Type 0} where
       → (IsLocking (seat_of v p) → KnowsAsBefore v w p) → w.pending ≡ v.pending → IsHolding p f version dirty v
       → IsHolding p f version dirty w
   holding-kept p f version dirty v w start holds knows pending h =
-      let k : KnowsAsBefore v w p = knows (inl h.owns) in
-      record {
-        page = subst (λ (o : Origin). p < o.pages) (sym start) h.page;
-        frame_is = subst (λ (o : Origin). f < o.frames) (sym start) h.frame_is;
-        below = h.below;
-        owns = holds.exclusive ∙ h.owns;
-        stands = ap (λ (y : Held). y.mapping) k.held ∙ h.stands;
-        owned = ap (λ (y : Held). y.owner) k.held ∙ h.owned;
-        told = ap (λ (y : Held). y.fault) k.held ∙ h.told ∙ ap (λ (y : Held). y.block.count) (sym k.held);
-        at = ap (λ (y : Version). y.version) k.last ∙ h.at;
-        size = ap length k.draft ∙ h.size ∙ ap (λ (o : Origin). o.size) (sym start);
-        free = ap (has p) pending ∙ h.free;
-      }
+      still-held h start holds.exclusive (knows (inl h.owns)) pending
 
   holding-past : (p f version : ℕ) (dirty : _) (v w : View X) → IsPast p v w → IsHolding p f version dirty v → IsHolding p f version dirty w
   holding-past p f version dirty v w e h = holding-kept p f version dirty v w e.start e.holds e.knows e.pending h

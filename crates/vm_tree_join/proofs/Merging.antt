@@ -1,7 +1,7 @@
 -- Three pages that are held get the drafts of a merge, and are released together: the right leaf's page is free then,
 -- and its number still to be given.
-use Rattle.std.proofs.Common.{[], ⊎_elim, ◌++◌, ◌∙◌, ◌∷◌, ◌≡◌, ◌≤◌, ap, arith, false, if◌then◌else◌, List, None, refl}
-use Rattle.std.proofs.Common.{replicate, Some, subst, suc, sym, true, zero, ℕ}
+use Rattle.std.proofs.Common.{[], ⊎_elim, ◌++◌, ◌∙◌, ◌∷◌, ◌≡◌, ◌≤◌, ap, arith, false, if◌then◌else◌, List, None}
+use Rattle.std.proofs.Common.{replicate, Some, subst, sym, true, ℕ}
 use Rattle.std.proofs.lemmas.Bool.{cond-false, cond-true}
 use Rattle.vm_map.specs.declared.call.Said.{Said}
 use Rattle.vm_page.specs.Pages.{all_zero}
@@ -19,10 +19,7 @@ use Rattle.vm_tree_laws.proofs.Zeros.{node_words}
 use Rattle.vm_tree_join.specs.Merging.{page_change, IsMerged}
 use Rattle.vm_tree_split.specs.Splits.{HasDraft, Stays}
 use Rattle.vm_tree_split.proofs.Splitting.{may-three, words-claimed}
-
-pub all-zeros : (n : ℕ) → all_zero (replicate n 0) ≡ true
-all-zeros zero = refl
-all-zeros (suc n) = all-zeros n
+use Rattle.vm_rule.proofs.NumberReleases.{zeros-are}
 
 module _ (L : Layout) (laws : IsLayout L) (up left right : ℕ) (over above first joined second : List ℕ) (said : Said)
     (m : MayMerge L (page_change up over above) (page_change left first joined)
@@ -101,7 +98,7 @@ module _ {S : Type 0} (plain : S → Said) (L : Layout) (laws : IsLayout L) (sai
       ∙ ap all_zero t.1.draft ∙ joined-used L laws a b c over above first joined second (plain said) m in
       let three : (if all_zero (last_of y c).words then false else all_zero (draft_of y c)) ≡ true =
       cond-false _ _ _ (ap all_zero t.2.last ∙ second-used L laws a b c over above first joined second (plain said) m)
-      ∙ ap all_zero t.2.draft ∙ all-zeros L.words in
+      ∙ ap all_zero t.2.draft ∙ zeros-are L.words in
       cond-false _ _ _ one ∙ cond-false _ _ _ two ∙ cond-true _ _ _ three
 
   pub merge-done : (w : View S) → IsGroupReleased (KeepsPlain plain L) (g1 ∷ g2 ∷ g3 ∷ []) (Some said) y w

@@ -1,12 +1,10 @@
 -- The release of the last two leaves under the root, which became one, after a key was removed from one of them, keeps what the tree keeps.
-use Rattle.std.proofs.Common.{◌≡◌, ◌≢◌, ◌⊎◌, inl, inr, ℕ, ◌+◌, ◌*◌, ◌≤◌, Bool, true, false, true≢false, List, [], ◌∷◌}
-use Rattle.std.proofs.Common.{length, get_or, set, Some, refl, sym, ap, ◌∙◌, arith, length-set, get_or-set_same}
+use Rattle.std.proofs.Common.{◌≡◌, ◌≢◌, ◌⊎◌, inl, inr, ℕ, ◌+◌, ◌*◌, ◌≤◌, true, false, true≢false, List, [], ◌∷◌}
+use Rattle.std.proofs.Common.{length, get_or, set, refl, sym, ap, ◌∙◌, arith, length-set, get_or-set_same}
 use Rattle.std.proofs.Common.{get_or-set_other}
-use Rattle.std.proofs.lemmas.Bool.{cases_eq}
+use Rattle.std.proofs.lemmas.Bool.{cases_eq, false_from_ne_true}
 use Rattle.std.proofs.lemmas.Bool.Decides.{nat_tests}
 use Rattle.vm_map.specs.declared.call.Said.{Said}
-use Rattle.vm_map.specs.declared.call.Call.TheVariants.{Del}
-use Rattle.vm_map.specs.declared.call.Reply.TheVariants.{Gone}
 use Rattle.vm_page.specs.Pages.{all_zero}
 use Rattle.vm_tree_model.specs.Node.{Node, IsNode}
 use Rattle.vm_tree_model.specs.Page.{pairs_of, node_of}
@@ -24,14 +22,13 @@ use Rattle.vm_owner.specs.Kept.{Start, Kept, Change, changed_pages, Agrees, chan
 use Rattle.vm_owner.proofs.NumberLemmas.{without-none}
 use Rattle.vm_owner.proofs.ChangeLemmas.{length-changed, changed-other, changed-here, sum-changed, total}
 use Rattle.vm_tree_laws.specs.Keeps.{KeepsTree, merge_weight}
-use Rattle.vm_tree_laws.specs.May.{IsEdit, MayCollapse}
+use Rattle.vm_tree_laws.specs.May.{MayCollapse}
 use Rattle.vm_tree_laws.proofs.Among.{fourth}
 use Rattle.vm_tree_laws.proofs.Halves.{IsOther, counted, counted_node, counted_other, load_other}
 use Rattle.vm_tree_laws.proofs.Payments.{merge_pays}
 use Rattle.vm_tree_laws.proofs.GroupReleases.{regroup_keeps}
-use Rattle.vm_tree_laws.proofs.Merges.{between, between_count, between_here, between_keeps, between_leaf}
-use Rattle.vm_tree_laws.proofs.Merges.{between_left, between_load, between_nodes, between_other, free_other}
-use Rattle.vm_tree_laws.proofs.Merges.{frees_behind, frees_page, joined_load, node_load}
+use Rattle.vm_tree_laws.proofs.Merges.{between, between_count, between_keeps, between_left, between_nodes, between_other}
+use Rattle.vm_tree_laws.proofs.Merges.{free_other, frees_behind, frees_page, has_lost, HasLost, joined_load, leaf_load, node_load}
 use Rattle.vm_tree_laws.proofs.Nodes.{not_owed, other_not_owed}
 use Rattle.vm_tree_laws.proofs.RootSplits.{grown_meta}
 use Rattle.vm_tree_laws.proofs.Zeros.{free_words, node_words, other_words}
@@ -149,22 +146,52 @@ module _ (L : Layout) (laws : IsLayout L) (start : Start) (kept : Kept Said) (ke
       counted_node L (page_at old r) r_is,
     )
 
-    -- the key was removed from leaf l
-    module _ (l : ℕ) (mid : List ℕ) (tag : (node_at L old l).tag ≡ 2)
-        (edit : IsEdit L (page_at old l) mid (Del may.key) (Gone (Some may.value)))
-        (among : has l (changed_pages changes) ≡ true) (nq : q ≢ l)
-        (at_left : page_at (set old l mid) p ≡ may.left_mid) (at_right : page_at (set old l mid) r ≡ may.right_mid)
-        (tag_left : (node_of L may.left_mid).tag ≡ 2) (tag_right : (node_of L may.right_mid).tag ≡ 2)
-        (less : load L new + L.node_weight * 2 ≤ load L (set old l mid) + merge_weight L)
-        (fewer : node_count L (set old l mid) ≡ node_count L new + 2) where
+    -- the key was removed from one of them
+    module _ (lost : HasLost L old p r may.left_mid may.right_mid may.key may.value) where
+      abbrev l : ℕ
+      l = lost.l
+
       abbrev mids : List (List ℕ)
-      mids = set old l mid
+      mids = set old l lost.mid
+
+      left_tag : (node_of L left).tag ≡ 2
+      left_tag = ap (λ (n : Node). n.tag) may.joined.node ∙ lost.tag_left
+
+      left_is : IsNode (node_of L left)
+      left_is = (omega (arith, left_tag), omega (arith, left_tag))
+
+      less : load L new + L.node_weight * 2 ≤ load L mids + merge_weight L
+      less = omega (
+        arith,
+        sum,
+        load_other L meta meta_other,
+        load_other L root root_other,
+        load_other L right right_other,
+        joined_load L left left_is may.few,
+        lost.weighs,
+        leaf_load L may.left_mid lost.tag_left,
+        leaf_load L may.right_mid lost.tag_right,
+        node_load L (page_at old q) q_is,
+      )
+
+      fewer : node_count L mids ≡ node_count L new + 2
+      fewer = omega (
+        arith,
+        fewer_nodes left_is,
+        between_nodes L laws start kept keeps l lost.mid lost.tag e turn may.key may.value may.said_is lost.edit,
+      )
+
+      among : has l (changed_pages changes) ≡ true
+      among = elim lost.one [ inl s ↦ rw s (grind (arith, nat_tests)) | inr s ↦ rw s (grind (arith, nat_tests)) ]
+
+      nq : q ≢ l
+      nq same = elim lost.one [ inl s ↦ q_ne_p (same ∙ s) | inr s ↦ q_ne_r (same ∙ s) ]
 
       above : 1 ≤ l
-      above = (in_range L laws old keeps.tree l (omega (arith, tag), omega (arith, tag))).0
+      above = (in_range L laws old keeps.tree l (omega (arith, lost.tag), omega (arith, lost.tag))).0
 
       stays : (x : ℕ) → x ≢ l → page_at mids x ≡ page_at old x
-      stays = between_other L laws start kept keeps l mid tag e turn may.key may.value may.said_is edit
+      stays = between_other L laws start kept keeps l lost.mid lost.tag e turn may.key may.value may.said_is lost.edit
 
       at_root : page_at mids q ≡ page_at old q
       at_root = stays q nq
@@ -179,7 +206,8 @@ module _ (L : Layout) (laws : IsLayout L) (start : Start) (kept : Kept Said) (ke
       others x none = changed-other changes old x none ∙ sym (stays x (out x none))
 
       count : length new ≡ length mids
-      count = length-changed changes old ∙ sym (between_count L laws start kept keeps l mid tag e turn may.key may.value may.said_is edit)
+      count = length-changed changes old
+          ∙ sym (between_count L laws start kept keeps l lost.mid lost.tag e turn may.key may.value may.said_is lost.edit)
 
       collapse : IsCollapseOf L mids new q may.low p may.separator r
       collapse = record {
@@ -194,9 +222,9 @@ module _ (L : Layout) (laws : IsLayout L) (start : Start) (kept : Kept Said) (ke
             (omega (arith, length-set (page_at old 0) 1 p, meta_length, laws.some_words));
         inner = ap (λ (w : List ℕ). (node_of L w).tag) at_root ∙ may.inner;
         pairs = ap (λ (w : List ℕ). pairs_of L w) at_root ∙ may.pairs;
-        left_leaf = ap (λ (w : List ℕ). (node_of L w).tag) at_left ∙ tag_left;
-        right_leaf = ap (λ (w : List ℕ). (node_of L w).tag) at_right ∙ tag_right;
-        left = rw (at_left, at_right, at_p) may.joined;
+        left_leaf = ap (λ (w : List ℕ). (node_of L w).tag) lost.at_left ∙ lost.tag_left;
+        right_leaf = ap (λ (w : List ℕ). (node_of L w).tag) lost.at_right ∙ lost.tag_right;
+        left = rw (lost.at_left, lost.at_right, at_p) may.joined;
         right = rw at_r may.zeroed;
         gone = rw at_q may.gone;
         others = λ x ge nq np nr. let nz : x ≢ 0 = λ s. omega (arith, ge, s) in others x (grind (arith, nat_tests, nz, nq, np, nr));
@@ -210,9 +238,7 @@ module _ (L : Layout) (laws : IsLayout L) (start : Start) (kept : Kept Said) (ke
               (frees_page root_change (left_change ∷ right_change ∷ []) (node_words L laws (page_at old q) q_is)
               (free_words L root may.gone))))
           | inr xq ↦ elim (cases_eq x p) [
-            | inl s ↦ inl (rw s (rw at_p
-                (let tag' : (node_of L left).tag ≡ 2 = ap (λ (n : Node). n.tag) may.joined.node ∙ tag_left in
-                node_words L laws left (omega (arith, tag'), omega (arith, tag')))))
+            | inl s ↦ inl (rw s (rw at_p (node_words L laws left left_is)))
             | inr xp ↦ let s : x ≡ r = fourth x 0 q p r some xz xq xp in
                 inr (rw s (frees_behind meta_change (root_change ∷ left_change ∷ right_change ∷ []) r
                 (frees_behind root_change (left_change ∷ right_change ∷ []) r
@@ -222,19 +248,17 @@ module _ (L : Layout) (laws : IsLayout L) (start : Start) (kept : Kept Said) (ke
         ]
       ]
 
+      was_keeps : KeepsTree L start (between L laws start kept keeps l lost.mid lost.tag e turn may.key may.value may.said_is lost.edit)
+      was_keeps = between_keeps L laws start kept keeps l lost.mid lost.tag e turn may.key may.value may.said_is lost.edit
+
       edit_collapse_keeps : KeepsTree L start (after_release changes (e ∷ []) kept)
       edit_collapse_keeps = regroup_keeps L laws start
-          (between L laws start kept keeps l mid tag e turn may.key may.value may.said_is edit)
-          (between_keeps L laws start kept keeps l mid tag e turn may.key may.value may.said_is edit)
+          (between L laws start kept keeps l lost.mid lost.tag e turn may.key may.value may.said_is lost.edit) was_keeps
           (changed_pages changes) new (owed_after changes kept.owed) (frees changes) (merge_weight L)
-          (between_left L laws start kept keeps l mid tag e turn may.key may.value may.said_is edit) (record {
+          (between_left L laws start kept keeps l lost.mid lost.tag e turn may.key may.value may.said_is lost.edit) (record {
             same_count = count;
-            tree = collapsed_tree L laws mids new q may.low p may.separator r
-                (between_keeps L laws start kept keeps l mid tag e turn may.key may.value may.said_is edit).tree
-                collapse;
-            contents = collapsed_map L laws mids new q may.low p may.separator r
-                (between_keeps L laws start kept keeps l mid tag e turn may.key may.value may.said_is edit).tree
-                collapse;
+            tree = collapsed_tree L laws mids new q may.low p may.separator r was_keeps.tree collapse;
+            contents = collapsed_map L laws mids new q may.low p may.separator r was_keeps.tree collapse;
             others = others;
             apart = rw owed_same keeps.owed.apart;
             owed_was = λ x some. let some' : has x kept.owed ≡ true = ap (has x) (sym owed_same) ∙ some in (some', not_in x some');
@@ -245,85 +269,15 @@ module _ (L : Layout) (laws : IsLayout L) (start : Start) (kept : Kept Said) (ke
           })
         where
           not_in : (x : ℕ) → has x kept.owed ≡ true → has x (changed_pages changes) ≡ false
-          not_in x some = go (has x (changed_pages changes)) refl
-            where
-              go : (b : Bool) → has x (changed_pages changes) ≡ b → b ≡ false
-              go false none = refl
-              go true in_it = absurd (elim (cases_eq x 0) [
-                | inl s ↦ true≢false (sym some ∙ ap (λ y. has y kept.owed) s ∙ zero_not_owed)
-                | inr xz ↦ elim (cases_eq x q) [
-                  | inl s ↦ true≢false (sym some ∙ ap (λ y. has y kept.owed) s ∙ not_owed L laws start kept keeps q q_is)
-                  | inr xq ↦ elim (cases_eq x p) [
-                    | inl s ↦ true≢false (sym some ∙ ap (λ y. has y kept.owed) s ∙ not_owed L laws start kept keeps p p_is)
-                    | inr xp ↦ let s : x ≡ r = fourth x 0 q p r in_it xz xq xp in
-                        true≢false (sym some ∙ ap (λ y. has y kept.owed) s ∙ not_owed L laws start kept keeps r r_is)
-                  ]
-                ]
-              ])
-
-    left_node : (node_of L may.left_mid).tag ≡ 2 → IsNode (node_of L left)
-    left_node mid = let tag : (node_of L left).tag ≡ 2 = ap (λ (n : Node). n.tag) may.joined.node ∙ mid in
-        (omega (arith, tag), omega (arith, tag))
+          not_in x some = false_from_ne_true _ (λ in_it. true≢false (sym some ∙ elim (cases_eq x 0) [
+            | inl s ↦ rw s zero_not_owed
+            | inr xz ↦ not_owed L laws start kept keeps x (elim (cases_eq x q) [
+              | inl s ↦ rw s q_is
+              | inr xq ↦ elim (cases_eq x p) [ inl s ↦ rw s p_is | inr xp ↦ rw (fourth x 0 q p r in_it xz xq xp) r_is ]
+            ])
+          ]))
 
     pub collapse_keeps : KeepsTree L start (after_release changes (e ∷ []) kept)
-    collapse_keeps = elim may.deletes [
-      | inl d ↦
-          let edit = d.0 in
-          let other : page_at (set old p may.left_mid) r ≡ may.right_mid = between_other L laws start kept keeps p
-          may.left_mid may.left_leaf e turn may.key may.value may.said_is edit r (λ s. p_ne_r (sym s))
-          ∙ sym d.1 in
-          let mid_leaf = between_leaf L laws start kept keeps p may.left_mid may.left_leaf e turn may.key may.value may.said_is edit in
-          let left_is = left_node mid_leaf in
-          let mid_load = between_load L laws start kept keeps p may.left_mid may.left_leaf e turn may.key may.value may.said_is edit in
-          let mid_weight = node_load L may.left_mid (omega (arith, mid_leaf), omega (arith, mid_leaf)) in
-          edit_collapse_keeps p may.left_mid may.left_leaf edit (grind (arith, nat_tests)) q_ne_p
-          (between_here L laws start kept keeps p may.left_mid may.left_leaf e turn may.key may.value may.said_is
-          edit) other mid_leaf (rw (d.1) may.right_leaf)
-          (omega (
-            arith,
-            sum,
-            load_other L meta meta_other,
-            load_other L root root_other,
-            load_other L right right_other,
-            joined_load L left left_is may.few,
-            mid_load,
-            mid_weight,
-            node_load L (page_at old q) q_is,
-            node_load L (page_at old r) r_is,
-          ))
-          (omega (
-            arith,
-            fewer_nodes left_is,
-            between_nodes L laws start kept keeps p may.left_mid may.left_leaf e
-                turn may.key may.value may.said_is edit,
-          ))
-      | inr d ↦
-          let edit = d.1 in
-          let other : page_at (set old r may.right_mid) p ≡ may.left_mid = between_other L laws start kept keeps r
-          may.right_mid may.right_leaf e turn may.key may.value may.said_is edit p p_ne_r ∙ sym d.0 in
-          let mid_leaf = between_leaf L laws start kept keeps r may.right_mid may.right_leaf e turn may.key may.value may.said_is edit in
-          let left_is = left_node (rw (d.0) may.left_leaf) in
-          let mid_load = between_load L laws start kept keeps r may.right_mid may.right_leaf e turn may.key may.value may.said_is edit in
-          let mid_weight = node_load L may.right_mid (omega (arith, mid_leaf), omega (arith, mid_leaf)) in
-          edit_collapse_keeps r may.right_mid may.right_leaf edit (grind (arith, nat_tests)) q_ne_r
-          other (between_here L laws start kept keeps r may.right_mid may.right_leaf e turn may.key may.value
-          may.said_is edit) (rw (d.0) may.left_leaf) mid_leaf
-          (omega (
-            arith,
-            sum,
-            load_other L meta meta_other,
-            load_other L root root_other,
-            load_other L right right_other,
-            joined_load L left left_is may.few,
-            mid_load,
-            mid_weight,
-            node_load L (page_at old q) q_is,
-            node_load L (page_at old p) p_is,
-          ))
-          (omega (
-            arith,
-            fewer_nodes left_is,
-            between_nodes L laws start kept keeps r may.right_mid may.right_leaf e
-                turn may.key may.value may.said_is edit,
-          ))
-    ]
+    collapse_keeps = edit_collapse_keeps
+        (has_lost L laws start kept keeps p r may.left_mid may.right_mid e turn may.key may.value may.said_is p_ne_r
+        may.left_leaf may.right_leaf may.deletes)

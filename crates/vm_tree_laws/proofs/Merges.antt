@@ -2,7 +2,7 @@
 use Rattle.std.proofs.Common.{◌≡◌, ◌≢◌, ◌⊎◌, ◌||◌, inl, inr, ℕ, ◌+◌, ◌*◌, ◌-◌, ◌≤◌, ◌==◌, Bool, true, false}
 use Rattle.std.proofs.Common.{true≢false, List, [], ◌∷◌, ◌++◌, length, set, Some, eq-eqb, refl, sym, ap, ◌∙◌, subst}
 use Rattle.std.proofs.Common.{arith, length-set, get_or-set_same, get_or-set_other}
-use Rattle.std.proofs.lemmas.Bool.{cases_eq}
+use Rattle.std.proofs.lemmas.Bool.{cases_eq, false_from_ne_true}
 use Rattle.std.proofs.lemmas.Bool.Decides.{nat_tests}
 use Rattle.std.proofs.Math.Nat.{mul-le-mul_left}
 use Rattle.vm_map.specs.Map.{lookup_at, del_pair, next_key}
@@ -87,9 +87,63 @@ module _ (L : Layout) (laws : IsLayout L) (start : Start) (kept : Kept Said) (ke
   pub between_leaf : (node_of L mid).tag ≡ 2
   between_leaf = edit.2.leaf.node.tag
 
+-- of leaves p and r one lost the key, and they say left and right then
+pub record HasLost (L : Layout) (pages : List (List ℕ)) (p r : ℕ) (left right : List ℕ) (key value : ℕ) : Type 0 where
+  pub l : ℕ
+  pub mid : List ℕ
+  pub tag : (node_at L pages l).tag ≡ 2
+  pub edit : IsEdit L (page_at pages l) mid (Del key) (Gone (Some value))
+  pub one : (l ≡ p) ⊎ (l ≡ r)
+  pub at_left : page_at (set pages l mid) p ≡ left
+  pub at_right : page_at (set pages l mid) r ≡ right
+  pub tag_left : (node_of L left).tag ≡ 2
+  pub tag_right : (node_of L right).tag ≡ 2
+  pub weighs : load L (set pages l mid) + load_of L (page_at pages p) + load_of L (page_at pages r)
+      ≡ load L pages + load_of L left + load_of L right
+
+module _ (L : Layout) (laws : IsLayout L) (start : Start) (kept : Kept Said) (keeps : KeepsTree L start kept) (p r : ℕ)
+    (left right : List ℕ) (e : Entry Said) (turn : e.count ≡ entries_under e.number kept.history + 1) (key value : ℕ)
+    (said : e.said ≡ record {
+      call = Del key;
+      reply = Gone (Some value);
+    }) where
+  pub has_lost : p ≢ r → (node_at L kept.pages p).tag ≡ 2 → (node_at L kept.pages r).tag ≡ 2
+      → (IsEdit L (page_at kept.pages p) left (Del key) (Gone (Some value)) × (right ≡ page_at kept.pages r))
+      ⊎ ((left ≡ page_at kept.pages p) × IsEdit L (page_at kept.pages r) right (Del key) (Gone (Some value)))
+      → HasLost L kept.pages p r left right key value
+  has_lost ne tag_p tag_r (inl d) = record {
+    l = p;
+    mid = left;
+    tag = tag_p;
+    edit = d.0;
+    one = inl refl;
+    at_left = between_here L laws start kept keeps p left tag_p e turn key value said d.0;
+    at_right = between_other L laws start kept keeps p left tag_p e turn key value said d.0 r (λ s. ne (sym s)) ∙ sym d.1;
+    tag_left = between_leaf L laws start kept keeps p left tag_p e turn key value said d.0;
+    tag_right = rw (d.1) tag_r;
+    weighs = let load = between_load L laws start kept keeps p left tag_p e turn key value said d.0 in
+        omega (arith, load, ap (load_of L) d.1);
+  }
+  has_lost ne tag_p tag_r (inr d) = record {
+    l = r;
+    mid = right;
+    tag = tag_r;
+    edit = d.1;
+    one = inr refl;
+    at_left = between_other L laws start kept keeps r right tag_r e turn key value said d.1 p ne ∙ sym d.0;
+    at_right = between_here L laws start kept keeps r right tag_r e turn key value said d.1;
+    tag_left = rw (d.0) tag_p;
+    tag_right = between_leaf L laws start kept keeps r right tag_r e turn key value said d.1;
+    weighs = let load = between_load L laws start kept keeps r right tag_r e turn key value said d.1 in
+        omega (arith, load, ap (load_of L) d.0);
+  }
+
 -- what a node weighs at least
 pub node_load : (L : Layout) (w : List ℕ) → IsNode (node_of L w) → L.node_weight ≤ load_of L w
 node_load L w is = let at = load_at L w is in omega (arith, at)
+
+pub leaf_load : (L : Layout) (w : List ℕ) → (node_of L w).tag ≡ 2 → L.node_weight ≤ load_of L w
+leaf_load L w tag = node_load L w (omega (arith, tag), omega (arith, tag))
 
 -- and one that two leaves became, at most
 pub joined_load : (L : Layout) (w : List ℕ) → IsNode (node_of L w) → size L (node_of L w) ≤ L.merge_room
@@ -146,6 +200,12 @@ module _ (L : Layout) (laws : IsLayout L) (start : Start) (kept : Kept Said) (ke
 
     r_is : IsNode (node_at L old r)
     r_is = let tag = may.right_leaf in (omega (arith, tag), omega (arith, tag))
+
+    are_nodes : (x : ℕ) → has x (changed_pages changes) ≡ true → IsNode (node_at L old x)
+    are_nodes x some = elim (cases_eq x q) [
+      | inl s ↦ rw s q_is
+      | inr xq ↦ elim (cases_eq x p) [ inl s ↦ rw s p_is | inr xp ↦ rw (third x q p r some xq xp) r_is ]
+    ]
 
     q_ne_p : q ≢ p
     q_ne_p = let none = apart.0 in grind (arith, nat_tests, none)
@@ -210,19 +270,50 @@ module _ (L : Layout) (laws : IsLayout L) (start : Start) (kept : Kept Said) (ke
       counted_node L (page_at old r) r_is,
     )
 
-    -- the key was removed from leaf l
-    module _ (l : ℕ) (mid : List ℕ) (tag : (node_at L old l).tag ≡ 2)
-        (edit : IsEdit L (page_at old l) mid (Del may.key) (Gone (Some may.value)))
-        (among : has l (changed_pages changes) ≡ true) (nq : q ≢ l)
-        (at_left : page_at (set old l mid) p ≡ may.left_mid) (at_right : page_at (set old l mid) r ≡ may.right_mid)
-        (tag_left : (node_of L may.left_mid).tag ≡ 2) (tag_right : (node_of L may.right_mid).tag ≡ 2)
-        (less : load L new + L.node_weight * 1 ≤ load L (set old l mid) + merge_weight L)
-        (fewer : node_count L (set old l mid) ≡ node_count L new + 1) where
+    -- the key was removed from one of them
+    module _ (lost : HasLost L old p r may.left_mid may.right_mid may.key may.value) where
+      abbrev l : ℕ
+      l = lost.l
+
       abbrev mids : List (List ℕ)
-      mids = set old l mid
+      mids = set old l lost.mid
+
+      left_tag : (node_of L left).tag ≡ 2
+      left_tag = ap (λ (n : Node). n.tag) may.joined.node ∙ lost.tag_left
+
+      left_is : IsNode (node_of L left)
+      left_is = (omega (arith, left_tag), omega (arith, left_tag))
+
+      less : load L new + L.node_weight * 1 ≤ load L mids + merge_weight L
+      less = omega (
+        arith,
+        sum,
+        parent_load,
+        load_other L right right_other,
+        joined_load L left left_is may.few,
+        lost.weighs,
+        leaf_load L may.left_mid lost.tag_left,
+        leaf_load L may.right_mid lost.tag_right,
+      )
+
+      fewer : node_count L mids ≡ node_count L new + 1
+      fewer = omega (
+        arith,
+        fewer_nodes left_is,
+        between_nodes L laws start kept keeps l lost.mid lost.tag e turn may.key may.value may.said_is lost.edit,
+      )
+
+      among : has l (changed_pages changes) ≡ true
+      among = elim lost.one [
+        | inl s ↦ rw s (has_behind p q (p ∷ r ∷ []) (has_first p (r ∷ [])))
+        | inr s ↦ rw s (has_behind r q (p ∷ r ∷ []) (has_behind r p (r ∷ []) (has_first r [])))
+      ]
+
+      nq : q ≢ l
+      nq same = elim lost.one [ inl s ↦ q_ne_p (same ∙ s) | inr s ↦ q_ne_r (same ∙ s) ]
 
       stays : (x : ℕ) → x ≢ l → page_at mids x ≡ page_at old x
-      stays = between_other L laws start kept keeps l mid tag e turn may.key may.value may.said_is edit
+      stays = between_other L laws start kept keeps l lost.mid lost.tag e turn may.key may.value may.said_is lost.edit
 
       at_parent : page_at mids q ≡ page_at old q
       at_parent = stays q nq
@@ -234,21 +325,11 @@ module _ (L : Layout) (laws : IsLayout L) (start : Start) (kept : Kept Said) (ke
       others x none = changed-other changes old x none ∙ sym (stays x (out x none))
 
       count : length new ≡ length mids
-      count = length-changed changes old ∙ sym (between_count L laws start kept keeps l mid tag e turn may.key may.value may.said_is edit)
+      count = length-changed changes old
+          ∙ sym (between_count L laws start kept keeps l lost.mid lost.tag e turn may.key may.value may.said_is lost.edit)
 
       page_zero : has 0 (changed_pages changes) ≡ false
-      page_zero = go (has 0 (changed_pages changes)) refl
-        where
-          go : (b : Bool) → has 0 (changed_pages changes) ≡ b → b ≡ false
-          go false none = refl
-          go true some = absurd (elim (cases_eq 0 q) [
-            | inl s ↦ laws.meta_tag _ keeps.tree.meta.magic (subst (λ x. IsNode (node_at L old x)) (sym s) q_is)
-            | inr zq ↦ elim (cases_eq 0 p) [
-              | inl s ↦ laws.meta_tag _ keeps.tree.meta.magic (subst (λ x. IsNode (node_at L old x)) (sym s) p_is)
-              | inr zp ↦ let s : 0 ≡ r = third 0 q p r some zq zp in
-                  laws.meta_tag _ keeps.tree.meta.magic (subst (λ x. IsNode (node_at L old x)) (sym s) r_is)
-            ]
-          ])
+      page_zero = false_from_ne_true _ (λ some. laws.meta_tag _ keeps.tree.meta.magic (are_nodes 0 some))
 
       merge : IsMergeOf L mids new q may.low p may.separator r
       merge = record {
@@ -258,21 +339,19 @@ module _ (L : Layout) (laws : IsLayout L) (start : Start) (kept : Kept Said) (ke
         names = ap (λ (w : List ℕ). lookup_at (pairs_of L w) may.low) at_parent ∙ may.names;
         names_right = ap (λ (w : List ℕ). lookup_at (pairs_of L w) may.separator) at_parent ∙ may.names_right;
         next = subst (λ (w : List ℕ). next_key (pairs_of L w) (node_of L w).high may.low ≡ may.separator) (sym at_parent) may.next;
-        left_leaf = ap (λ (w : List ℕ). (node_of L w).tag) at_left ∙ tag_left;
-        right_leaf = ap (λ (w : List ℕ). (node_of L w).tag) at_right ∙ tag_right;
+        left_leaf = ap (λ (w : List ℕ). (node_of L w).tag) lost.at_left ∙ lost.tag_left;
+        right_leaf = ap (λ (w : List ℕ). (node_of L w).tag) lost.at_right ∙ lost.tag_right;
         parent = rw (at_parent, at_q) may.takes;
-        left = rw (at_left, at_right, at_p) may.joined;
+        left = rw (lost.at_left, lost.at_right, at_p) may.joined;
         right = rw at_r may.zeroed;
         others = λ x nq np nr. others x (none_of_three x q p r nq np nr);
       }
 
       used : (x : ℕ) → has x (changed_pages changes) ≡ true → (all_zero (page_at new x) ≡ false) ⊎ (frees changes x ≡ true)
       used x some = elim (cases_eq x q) [
-        | inl s ↦ inl (rw s (rw at_q (let tag' : (node_of L parent).tag ≡ 3 = ap (λ (n : Node). n.tag) may.takes.node
-            ∙ may.inner in node_words L laws parent (omega (arith, tag'), omega (arith, tag')))))
+        | inl s ↦ inl (rw s (rw at_q (node_words L laws parent parent_node)))
         | inr xq ↦ elim (cases_eq x p) [
-          | inl s ↦ inl (rw s (rw at_p (let tag' : (node_of L left).tag ≡ 2 = ap (λ (n : Node). n.tag) may.joined.node
-              ∙ tag_left in node_words L laws left (omega (arith, tag'), omega (arith, tag')))))
+          | inl s ↦ inl (rw s (rw at_p (node_words L laws left left_is)))
           | inr xp ↦ let s : x ≡ r = third x q p r some xq xp in
               inr (rw s (frees_behind parent_change (left_change ∷ right_change ∷ []) r
               (frees_behind left_change (right_change ∷ []) r
@@ -281,19 +360,17 @@ module _ (L : Layout) (laws : IsLayout L) (start : Start) (kept : Kept Said) (ke
         ]
       ]
 
+      was_keeps : KeepsTree L start (between L laws start kept keeps l lost.mid lost.tag e turn may.key may.value may.said_is lost.edit)
+      was_keeps = between_keeps L laws start kept keeps l lost.mid lost.tag e turn may.key may.value may.said_is lost.edit
+
       edit_merge_keeps : KeepsTree L start (after_release changes (e ∷ []) kept)
       edit_merge_keeps = regroup_keeps L laws start
-          (between L laws start kept keeps l mid tag e turn may.key may.value may.said_is edit)
-          (between_keeps L laws start kept keeps l mid tag e turn may.key may.value may.said_is edit)
+          (between L laws start kept keeps l lost.mid lost.tag e turn may.key may.value may.said_is lost.edit) was_keeps
           (changed_pages changes) new (owed_after changes kept.owed) (frees changes) (merge_weight L)
-          (between_left L laws start kept keeps l mid tag e turn may.key may.value may.said_is edit) (record {
+          (between_left L laws start kept keeps l lost.mid lost.tag e turn may.key may.value may.said_is lost.edit) (record {
             same_count = count;
-            tree = merged_tree L laws mids new q may.low p may.separator r
-                (between_keeps L laws start kept keeps l mid tag e turn may.key may.value may.said_is edit).tree
-                merge;
-            contents = merged_map L laws mids new q may.low p may.separator r
-                (between_keeps L laws start kept keeps l mid tag e turn may.key may.value may.said_is edit).tree
-                merge;
+            tree = merged_tree L laws mids new q may.low p may.separator r was_keeps.tree merge;
+            contents = merged_map L laws mids new q may.low p may.separator r was_keeps.tree merge;
             others = others;
             apart = rw owed_same keeps.owed.apart;
             owed_was = λ x some. let some' : has x kept.owed ≡ true = ap (has x) (sym owed_same) ∙ some in (some', not_in x some');
@@ -304,79 +381,10 @@ module _ (L : Layout) (laws : IsLayout L) (start : Start) (kept : Kept Said) (ke
           })
         where
           not_in : (x : ℕ) → has x kept.owed ≡ true → has x (changed_pages changes) ≡ false
-          not_in x some = go (has x (changed_pages changes)) refl
-            where
-              go : (b : Bool) → has x (changed_pages changes) ≡ b → b ≡ false
-              go false none = refl
-              go true in_it = absurd (elim (cases_eq x q) [
-                | inl s ↦ true≢false (sym some ∙ ap (λ y. has y kept.owed) s ∙ not_owed L laws start kept keeps q q_is)
-                | inr xq ↦ elim (cases_eq x p) [
-                  | inl s ↦ true≢false (sym some ∙ ap (λ y. has y kept.owed) s ∙ not_owed L laws start kept keeps p p_is)
-                  | inr xp ↦ let s : x ≡ r = third x q p r in_it xq xp in
-                      true≢false (sym some ∙ ap (λ y. has y kept.owed) s ∙ not_owed L laws start kept keeps r r_is)
-                ]
-              ])
-
-    left_node : (node_of L may.left_mid).tag ≡ 2 → IsNode (node_of L left)
-    left_node mid = let tag : (node_of L left).tag ≡ 2 = ap (λ (n : Node). n.tag) may.joined.node ∙ mid in
-        (omega (arith, tag), omega (arith, tag))
+          not_in x some = false_from_ne_true _
+              (λ in_it. true≢false (sym some ∙ not_owed L laws start kept keeps x (are_nodes x in_it)))
 
     pub merge_keeps : KeepsTree L start (after_release changes (e ∷ []) kept)
-    merge_keeps = elim may.deletes [
-      | inl d ↦
-          let edit = d.0 in
-          let other : page_at (set old p may.left_mid) r ≡ may.right_mid = between_other L laws start kept keeps p
-          may.left_mid may.left_leaf e turn may.key may.value may.said_is edit r (λ s. p_ne_r (sym s))
-          ∙ sym d.1 in
-          let mid_leaf = between_leaf L laws start kept keeps p may.left_mid may.left_leaf e turn may.key may.value may.said_is edit in
-          let left_is = left_node mid_leaf in
-          let mid_load = between_load L laws start kept keeps p may.left_mid may.left_leaf e turn may.key may.value may.said_is edit in
-          let mid_weight = node_load L may.left_mid (omega (arith, mid_leaf), omega (arith, mid_leaf)) in
-          edit_merge_keeps p may.left_mid may.left_leaf edit (has_behind p q (p ∷ r ∷ []) (has_first p (r ∷ []))) q_ne_p
-          (between_here L laws start kept keeps p may.left_mid may.left_leaf e turn may.key may.value may.said_is
-          edit) other mid_leaf (rw (d.1) may.right_leaf)
-          (omega (
-            arith,
-            sum,
-            parent_load,
-            load_other L right right_other,
-            joined_load L left left_is may.few,
-            mid_load,
-            mid_weight,
-            node_load L (page_at old r) r_is,
-          ))
-          (omega (
-            arith,
-            fewer_nodes left_is,
-            between_nodes L laws start kept keeps p may.left_mid may.left_leaf e
-                turn may.key may.value may.said_is edit,
-          ))
-      | inr d ↦
-          let edit = d.1 in
-          let other : page_at (set old r may.right_mid) p ≡ may.left_mid = between_other L laws start kept keeps r
-          may.right_mid may.right_leaf e turn may.key may.value may.said_is edit p p_ne_r ∙ sym d.0 in
-          let mid_leaf = between_leaf L laws start kept keeps r may.right_mid may.right_leaf e turn may.key may.value may.said_is edit in
-          let left_is = left_node (rw (d.0) may.left_leaf) in
-          let mid_load = between_load L laws start kept keeps r may.right_mid may.right_leaf e turn may.key may.value may.said_is edit in
-          let mid_weight = node_load L may.right_mid (omega (arith, mid_leaf), omega (arith, mid_leaf)) in
-          edit_merge_keeps r may.right_mid may.right_leaf edit
-          (has_behind r q (p ∷ r ∷ []) (has_behind r p (r ∷ []) (has_first r []))) q_ne_r
-          other (between_here L laws start kept keeps r may.right_mid may.right_leaf e turn may.key may.value
-          may.said_is edit) (rw (d.0) may.left_leaf) mid_leaf
-          (omega (
-            arith,
-            sum,
-            parent_load,
-            load_other L right right_other,
-            joined_load L left left_is may.few,
-            mid_load,
-            mid_weight,
-            node_load L (page_at old p) p_is,
-          ))
-          (omega (
-            arith,
-            fewer_nodes left_is,
-            between_nodes L laws start kept keeps r may.right_mid may.right_leaf e
-                turn may.key may.value may.said_is edit,
-          ))
-    ]
+    merge_keeps = edit_merge_keeps
+        (has_lost L laws start kept keeps p r may.left_mid may.right_mid e turn may.key may.value may.said_is p_ne_r
+        may.left_leaf may.right_leaf may.deletes)

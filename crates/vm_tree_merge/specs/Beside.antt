@@ -7,7 +7,6 @@ use Rattle.vm_core.specs.Prelude.{MAX_VERSION, version_of}
 use Rattle.vm_inner.specs.Neighbours.{AreBeside, HasNoPair}
 use Rattle.vm_tree_join.specs.from_vm_kind.Joins.{both_as_one}
 use Rattle.vm_tree_join.specs.from_vm_step.Prelude.{Did, NeedsPage, ReadsAsBefore, View}
-use Rattle.vm_tree_join.specs.from_vm_step.declared_saw_Saw.{Saw}
 use Rattle.vm_tree_join.specs.from_vm_guard.{declared_opt_OptGuard.OptGuard, Guards.IsValid}
 use Rattle.vm_tree_laws.specs.Tied.{Tied}
 use Rattle.vm_tree_join.specs.from_vm_tree_rule.{Above.IsParentOf, declared_turn_Turn.Turn, Leaves.LeavesWord, Leaves.ReadsOn}

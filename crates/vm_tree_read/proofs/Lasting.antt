@@ -3,11 +3,11 @@ use Rattle.std.proofs.Common.{[], ◌++◌, ◌+◌, ◌<◌, ◌∙◌, ◌∷�
 use Rattle.vm_map.specs.declared.call.Said.{Said}
 use Rattle.vm_tree_model.specs.{Layout.Layout, Tree.map_of}
 use Rattle.vm_pool.specs.from_vm_rule.Prelude.{entries_under, Entry, entry_of}
-use Rattle.vm_pool.proofs.from_vm_rule.Entries.{append-none}
+use Rattle.vm_pool.proofs.{from_vm_rule.Entries.append-none, Keeping.keeps-then}
 use Rattle.vm_tree_rule.specs.from_vm_step.Prelude.{NoneExpected, Origin, View}
-use Rattle.vm_tree_rule.proofs.from_vm_step.Asides.{alone-self, alone-then, holds-then, knows-then, numbers-then}
-use Rattle.vm_tree_rule.proofs.from_vm_step.Asides.{starts-then, still-locking}
-use Rattle.vm_pool.specs.{Brings.IsBring, Brings.KeepsLocks, declared.bring.Bring.Bring}
+use Rattle.vm_tree_rule.proofs.from_vm_step.Asides.{alone-self, alone-then, holds-then, knows-then}
+use Rattle.vm_tree_rule.proofs.from_vm_step.Asides.{still-locking}
+use Rattle.vm_pool.specs.{Brings.IsBring, declared.bring.Bring.Bring}
 use Rattle.vm_pool.specs.declared.bring.Bring.TheVariants as brings
 use Rattle.vm_tree_laws.specs.{History.IsLegal, Plain.plain_history}
 use Rattle.vm_tree_rule.specs.{declared.fault.TreeFault.TreeFault, declared.turn.Turn.Turn, Leaves.ReadsOn, Turns.IsTurnedBack}
@@ -34,21 +34,7 @@ module _ {X : Type 0} where
   }
 
   pub waits-then : (u v w : View X) → Waits u v → Waits v w → Waits u w
-  waits-then u v w f g = record {
-    holds = λ q. holds-then u v w q (f.holds q) (g.holds q);
-    knows = λ q l. knows-then u v w q (f.knows q l) (g.knows q (still-locking u v q (f.holds q) l));
-    mine = g.mine ∙ f.mine;
-    seen = starts-then u.seen v.seen w.seen f.seen g.seen;
-    releases = starts-then u.releases v.releases w.releases f.releases g.releases;
-    notes = starts-then u.notes v.notes w.notes f.notes g.notes;
-    log = starts-then u.log v.log w.log f.log g.log;
-    group = (g.group.0 ∙ f.group.0, g.group.1 ∙ f.group.1, g.group.2 ∙ f.group.2);
-    numbers = numbers-then u v w f.start f.numbers g.numbers;
-    out = g.out ∙ f.out;
-    start = g.start ∙ f.start;
-    parts = (g.parts.0 ∙ f.parts.0, g.parts.1 ∙ f.parts.1);
-    alone = alone-then u v w f.parts f.alone g.alone;
-  }
+  waits-then u v w f g = keeps-then u v w f g
 
   pub reads-wait : (v w : View X) → ReadsOn v w → Waits v w
   reads-wait v w r = record {
@@ -72,23 +58,6 @@ module _ {X : Type 0} where
   turned-reads L v key (turns.Again saw) w t = t.0
   turned-reads L v key (turns.Need p) w t = t.0
   turned-reads L v key (turns.Damaged p) w t = t.0
-
-  pub bring-waits : (v w : View X) → KeepsLocks v w → Waits v w
-  bring-waits v w k = record {
-    holds = k.holds;
-    knows = k.knows;
-    mine = k.mine;
-    seen = k.seen;
-    releases = k.releases;
-    notes = k.notes;
-    log = k.log;
-    group = k.group;
-    numbers = k.numbers;
-    out = k.out;
-    start = k.start;
-    parts = k.parts;
-    alone = k.alone;
-  }
 
   -- the fault that the answer of a page's bringing names
   pub names-fault : (home cap p : ℕ) (old new : List ℕ) (before after : ℕ) (v w : View X) (answer : Bring)

@@ -3,10 +3,10 @@
 use Rattle.std.specs.Prelude.{[], ◌++◌, ◌∷◌, ◌≡◌, ◌⊎◌, false, List, suc, true, ℕ}
 use Rattle.vm_map.specs.{declared.call.Said.Said}
 use Rattle.vm_tree_model.specs.{Layout.Layout, Tree.map_of}
-use Rattle.vm_pool.specs.from_vm_rule.Prelude.{entry_of, has, IsLocking, seat_of, StartsWith}
-use Rattle.vm_tree_rule.specs.from_vm_step.Prelude.{HoldsPage, KeepsNumbers, KnowsAsBefore, NoneExpected, StaysAlone, View}
+use Rattle.vm_pool.specs.from_vm_rule.Prelude.{entry_of, has, IsLocking, seat_of}
+use Rattle.vm_tree_rule.specs.from_vm_step.Prelude.{HoldsPage, KnowsAsBefore, NoneExpected, StaysAlone, View}
 use Rattle.vm_tree_rule.specs.from_vm_step.declared_saw_Saw.{Saw}
-use Rattle.vm_pool.specs.{Brings.IsBring, declared.bring.Bring.Bring}
+use Rattle.vm_pool.specs.{Brings.IsBring, Brings.KeepsLocks, declared.bring.Bring.Bring}
 use Rattle.vm_pool.specs.declared.bring.Bring.TheVariants as brings
 use Rattle.vm_tree_laws.specs.{History.IsLegal, Plain.plain_history}
 use Rattle.vm_tree_rule.specs.{declared.fault.TreeFault.TreeFault, Leaves.ReadsOn, Shown.IsShown, Turns.IsDamaged, Turns.IsNeeded}
@@ -28,24 +28,9 @@ abbrev pub NamesNone : Bring → Type 0
 NamesNone answer = (fault : TreeFault) → ¬ (NamesFault answer fault)
 
 module _ {X : Type 0} where
-  -- the pass holds just the locks and page numbers that it held, made no entry, and has its block at home; what it
-  -- has seen of entries and releases, its notes and its steps
-  -- go on
-  pub record Waits (v w : View X) : Type 0 where
-    pub holds : (q : ℕ) → HoldsPage v w q
-    -- what it knows of a page that it has locked is as it was
-    pub knows : (q : ℕ) → IsLocking (seat_of v q) → KnowsAsBefore v w q
-    pub mine : w.mine ≡ v.mine
-    pub seen : StartsWith w.seen v.seen
-    pub releases : StartsWith w.releases v.releases
-    pub notes : StartsWith w.notes v.notes
-    pub log : StartsWith w.log v.log
-    pub out : w.out ≡ v.out
-    pub group : (w.pending ≡ v.pending) × (w.owed ≡ v.owed) × (w.next ≡ v.next)
-    pub numbers : KeepsNumbers v w
-    pub start : w.start ≡ v.start
-    pub parts : (w.used ≡ v.used) × (w.fresh ≡ v.fresh)
-    pub alone : StaysAlone v w
+  -- the pass holds just what it held, and made no entry, as after a page was brought
+  abbrev pub Waits : View X → View X → Type 0
+  Waits v w = KeepsLocks v w
 
   -- no frame is lost: each one that the pass has is among the new ones, or it had it before, and not among the old ones
   abbrev pub LosesNone : List ℕ → View X → List ℕ → View X → Type 0

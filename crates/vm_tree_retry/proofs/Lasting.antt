@@ -11,7 +11,6 @@ use Rattle.vm_tree_laws.specs.{History.IsLegal, Plain.plain_history}
 use Rattle.vm_tree_write.specs.from_vm_tree_rule.Leaves.{ReadsOn}
 use Rattle.vm_tree_write.specs.from_vm_tree_read.{Reads.GainsEntry, Reads.IsAnswered, Reads.key_of}
 use Rattle.vm_tree_write.specs.from_vm_tree_read.{Waiting.AreRounds, Waiting.HasRounds, Waiting.rounds_in, Waiting.Waits}
-use Rattle.vm_tree_write.proofs.from_vm_tree_read.Lasting.{bring-waits}
 use Rattle.vm_tree_write.specs.from_vm_tree_split.{Splits.KeepsLocksOnly}
 use Rattle.vm_tree_write.specs.{Writes.IsVain, Writes.IsWriteDone}
 use Rattle.vm_tree_retry.specs.{Waiting.IsWriteReplied}
@@ -140,7 +139,7 @@ module _ {X : Type 0} where
 
   -- a sweep after a try
   pub sweep-keeps : (v x w : View X) → KeepsLocksOnly v x → KeepsLocks x w → KeepsLocksOnly v w
-  sweep-keeps v x w k locks = keeps-then v x w k (waits-keep x w (bring-waits x w locks))
+  sweep-keeps v x w k locks = keeps-then v x w k (waits-keep x w locks)
 
 -- what is said is the pass's next entry, as it was before
 module _ {S : Type 0} (says : S) (v x : View S) (k : Lasts v x) where

@@ -6,10 +6,8 @@ use Rattle.vm_map.specs.declared.call.Said.{Said}
 use Rattle.vm_tree_model.specs.Layout.{Layout}
 use Rattle.vm_core.specs.Prelude.{version_of}
 use Rattle.vm_rule.specs.Prelude.{last_of, loads_at, Open, seat_of, ties_below}
-use Rattle.vm_rule.specs.declared.view.WordPlace.TheVariants as places
 use Rattle.vm_rule.specs.Looks.{tie_of}
-use Rattle.vm_step.specs.Prelude.{Did, HasGiven, IsKeptNow, NoneExpected, NoWord, Origin, ReadsAsBefore, Tie, View}
-use Rattle.vm_step.specs.declared.saw.At.TheVariants as ats
+use Rattle.vm_step.specs.Prelude.{IsKeptNow, NoneExpected, NoWord, Origin, ReadsAsBefore, Tie, View}
 use Rattle.vm_step.specs.declared.saw.Saw.{Saw}
 use Rattle.vm_kind.specs.from_vm_guard.declared_deny_Deny.{Deny}
 use Rattle.vm_kind.specs.from_vm_guard.declared_deny_Deny_TheVariants as denies
@@ -22,8 +20,8 @@ use Rattle.vm_tree_rule.specs.declared.turn.Turn.TheVariants as turns
 use Rattle.vm_tree_rule.specs.Standing.{HasSteppedDown, IsOpened, NamesForKey, Sees, tree_pages}
 use Rattle.vm_tree_rule.specs.Turns.{IsNoChild, IsStopped, WhyDamaged}
 use Rattle.vm_tree_rule.specs.Turns.{IsStopped as stops, IsTurnedBack, IsTurnOf, LoadsName}
-use Rattle.vm_tree_rule.proofs.Logged.{given-since, read-since, shown-kept, shown-later, shown-start}
-use Rattle.vm_tree_rule.proofs.Readings.{begins-leave, begins-reads, denied-reads, leaves-self, log-then}
+use Rattle.vm_tree_rule.proofs.Logged.{shown-kept, shown-later, shown-start}
+use Rattle.vm_tree_rule.proofs.Readings.{begins-leave, begins-reads, denied-reads, log-then}
 use Rattle.vm_tree_rule.proofs.Readings.{reading-beside, reads-self, reads-then, valid-leave, valid-reads}
 use Rattle.vm_tree_rule.proofs.Readings.{validates-back}
 use Rattle.vm_tree_rule.proofs.Showing.{needs-behind, needs-front}

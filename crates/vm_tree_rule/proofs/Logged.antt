@@ -1,8 +1,8 @@
 -- The evidence of an end without a page, in the log of the whole call.
-use Rattle.std.proofs.Common.{[], ◌++◌, ◌∙◌, ◌∷◌, ◌≡◌, ap, append_assoc, List, None, refl, sym, ℕ}
+use Rattle.std.proofs.Common.{[], ◌++◌, ◌∙◌, ◌∷◌, ◌≡◌, ap, append_assoc, List, None, sym, ℕ}
 use Rattle.vm_rule.specs.Prelude.{did_load, Each}
 use Rattle.vm_rule.specs.declared.view.WordPlace.TheVariants as places
-use Rattle.vm_step.specs.Prelude.{Did, HasGiven, NoWord, View}
+use Rattle.vm_step.specs.Prelude.{Did, NoWord, View}
 use Rattle.vm_step.specs.declared.saw.Saw.{Saw}
 use Rattle.vm_kind.specs.from_vm_guard.{declared_deny_Deny.Deny, Denied.IsDenied, Denied.KeptWord}
 use Rattle.vm_kind.specs.from_vm_guard.declared_deny_Deny_TheVariants as denies
@@ -92,19 +92,3 @@ module _ {X : Type 0} where
     at = s.at;
     seen = seen-front expects s.done more saw s.seen;
   }
-
-  -- the word that the read of a page began with is one that the call read
-  pub given-since : (p word : ℕ) (more : List Did) (u v w : View X) → IsReadSince p word u v → w.log ≡ v.log ++ more
-      → (done : List Did) × (w.log ≡ u.log ++ done) × HasGiven done (places.State p) word
-  given-since p word more u v w r log =
-      let front : List Did = r.before ++ did_load (places.State p) word ∷ r.since in (
-        front ++ more,
-        log-then front more u v w r.log log,
-        record {
-          earlier = r.before;
-          step = did_load (places.State p) word;
-          later = r.since ++ more;
-          cut = append_assoc r.before (did_load (places.State p) word ∷ r.since) more;
-          gives = (refl, refl);
-        },
-      )

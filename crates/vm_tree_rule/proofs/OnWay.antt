@@ -1,11 +1,10 @@
 -- The way on which a page was reached goes on with each step down, and stays as it is while the call reads on. What a search finds wrong with a page
 -- on it is that the page is no node of the level and the fences at which it was reached.
-use Rattle.std.proofs.Common.{[], ◌++◌, ◌+◌, ◌<◌, ◌∙◌, ◌∷◌, ◌≡◌, ◌≤◌, ap, arith, inl, inr, List, None, Option}
+use Rattle.std.proofs.Common.{[], ◌++◌, ◌+◌, ◌∙◌, ◌∷◌, ◌≡◌, ◌≤◌, ap, arith, inl, inr, List, None, Option}
 use Rattle.std.proofs.Common.{option_map, refl, Some, subst, sym}
 use Rattle.std.proofs.Common.{unwrap_or, ℕ}
 use Rattle.vm_map.proofs.MapLemmas.{floor_some}
 use Rattle.vm_tree_model.specs.{Edits.child_of, Layout.Layout, Page.IsInner, Page.node_of, Page.pairs_of}
-use Rattle.vm_node.specs.Loads.{IsPageWith}
 use Rattle.vm_kind.specs.from_vm_inner.Found.{FindsChildIn, FindsNoChild}
 use Rattle.vm_rule.specs.Prelude.{loads_at}
 use Rattle.vm_step.specs.Prelude.{View}

@@ -6,7 +6,6 @@ use Rattle.vm_node.proofs.Telling.{page_first, page_then}
 use Rattle.vm_kind.specs.from_vm_inner.Found.{FindsChild}
 use Rattle.vm_rule.specs.Prelude.{last_of, loads_at}
 use Rattle.vm_step.specs.Prelude.{KnowsSame, Origin, ReadsAsBefore, View}
-use Rattle.vm_step.specs.declared.saw.At.TheVariants as ats
 use Rattle.vm_step.proofs.Alone.{still-alone}
 use Rattle.vm_kind.specs.from_vm_guard.declared_opt_OptGuard.{OptGuard}
 use Rattle.vm_kind.specs.from_vm_guard.Guards.{IsValid, Loads, placed}

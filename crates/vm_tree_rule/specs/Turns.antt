@@ -4,7 +4,6 @@ use Rattle.vm_tree_model.specs.{Layout.Layout, Node.Covers, Page.node_of}
 use Rattle.vm_node.specs.Loads.{IsPageWith}
 use Rattle.vm_rule.specs.Prelude.{last_of, loads_at}
 use Rattle.vm_step.specs.Prelude.{Did, NeedsPage, NoneExpected, NoWord, View}
-use Rattle.vm_step.specs.declared.saw.At.TheVariants as ats
 use Rattle.vm_step.specs.declared.saw.Saw.{Saw}
 use Rattle.vm_kind.specs.from_vm_guard.{declared_deny_Deny.Deny, Guards.IsValid}
 use Rattle.vm_kind.specs.from_vm_guard.declared_deny_Deny_TheVariants as denies

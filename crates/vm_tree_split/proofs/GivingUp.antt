@@ -19,7 +19,7 @@ pub record AreKept {X : Type 0} (up low : ExclusiveGuard) (w : View X) : Type 0 
   pub same : (draft_of w up.pid ≡ (last_of w up.pid).words) × (draft_of w low.pid ≡ (last_of w low.pid).words)
   pub unpaid : (has up.pid w.owed ≡ false) × (has low.pid w.owed ≡ false)
 
-module _ {X : Type 0} {L : Layout} (a b : OptGuard) (up low : ExclusiveGuard) (v w : View X)
+module _ {X : Type 0} {L : Layout} {a b : OptGuard} {up low : ExclusiveGuard} {v w : View X}
     (l : AreLocked L a b up low v w) (apart : b.pid ≢ a.pid) where
   up-draft : HasDraft a.pid (last_of l.between a.pid).words (last_of l.between a.pid).words w
   up-draft =
@@ -54,7 +54,7 @@ module _ {X : Type 0} {L : Layout} (a b : OptGuard) (up low : ExclusiveGuard) (v
   pub locks-out : w.out ≡ v.out
   locks-out = l.low_locked.elsewhere.steady.out ∙ l.up_locked.elsewhere.steady.out
 
-  module _ (before after : List ℕ) (y : View X) (none : IsNone before after w y) where
+  module _ {before after : List ℕ} {y : View X} (none : IsNone before after w y) where
     pub none-kept : AreKept up low y
     none-kept =
         let k = locks-kept in

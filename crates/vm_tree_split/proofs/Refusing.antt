@@ -1,15 +1,14 @@
 -- A split that is refused: what it took goes back, and the pass holds what it held.
-use Rattle.std.proofs.Common.{[], ⊎_elim, ◌++◌, ◌<◌, ◌∙◌, ◌∷◌, ◌≡◌, ◌≢◌, ◌⊎◌, ap, Bool, inl, inr, length, List, None}
+use Rattle.std.proofs.Common.{[], ⊎_elim, ◌++◌, ◌∙◌, ◌∷◌, ◌≡◌, ◌≢◌, ◌⊎◌, ap, Bool, inl, inr, List, None}
 use Rattle.std.proofs.Common.{refl, Some, subst, sym, true, ℕ}
 use Rattle.std.proofs.lemmas.Bool.{cases_eq}
 use Rattle.vm_core.specs.Prelude.{Version}
 use Rattle.vm_owner.proofs.NumberLemmas.{without-none}
 use Rattle.vm_rule.specs.Bundles.{frames_in}
-use Rattle.vm_rule.specs.Prelude.{did_load, draft_of, has, IsLocking, last_of, numbers, Seat, seat_of, without}
-use Rattle.vm_rule.specs.declared.view.Held.{Held}
+use Rattle.vm_rule.specs.Prelude.{did_load, draft_of, IsLocking, last_of, numbers, Seat, seat_of, without}
 use Rattle.vm_rule.specs.declared.view.WordPlace.TheVariants as places
 use Rattle.vm_rule.proofs.Entries.{append-none, each-map}
-use Rattle.vm_step.specs.Prelude.{Did, HoldsPage, KeepsFrames, KnowsAsBefore, Origin, View}
+use Rattle.vm_step.specs.Prelude.{Did, HoldsPage, KeepsFrames, KnowsAsBefore, View}
 use Rattle.vm_step.specs.declared.saw.Saw.{Saw}
 use Rattle.vm_step.proofs.Asides.{holds-then, keeps-then, knows-then, starts-then, still-locking}
 use Rattle.vm_tree_read.specs.from_vm_exmap.Frames.{MovesFrames}
@@ -32,6 +31,7 @@ use Rattle.vm_tree_split.proofs.{Framing.after-some, Framing.unheld-not, Numberi
 use Rattle.vm_tree_split.proofs.{Numbering.released-same, Numbering.worn-kept, Numbering.worn-page}
 use Rattle.vm_tree_split.proofs.{Numbering.worn-then}
 use Rattle.vm_tree_split.proofs.Seeing.{OnlySees, sees-few, sees-some, sees-taken}
+use Rattle.vm_guard.proofs.GuardSteps.{still-held}
 
 state-same : (p q : ℕ) → places.State p ≡ places.State q → p ≡ q
 state-same p q e = cc
@@ -275,18 +275,7 @@ module _ {X : Type 0} where
       → IsHolding p f version dirty v → IsNone before after v w → IsHolding p f version dirty w
   holding-none p f version dirty before after v w h n =
       let k : KnowsAsBefore v w p = n.knows p (inl h.owns) in
-      record {
-        page = subst (λ (o : Origin). p < o.pages) (sym n.amid.start) h.page;
-        frame_is = subst (λ (o : Origin). f < o.frames) (sym n.amid.start) h.frame_is;
-        below = h.below;
-        owns = (n.holds p).exclusive ∙ h.owns;
-        stands = ap (λ (y : Held). y.mapping) k.held ∙ h.stands;
-        owned = ap (λ (y : Held). y.owner) k.held ∙ h.owned;
-        told = ap (λ (y : Held). y.fault) k.held ∙ h.told ∙ ap (λ (y : Held). y.block.count) (sym k.held);
-        at = ap (λ (y : Version). y.version) k.last ∙ h.at;
-        size = ap length k.draft ∙ h.size ∙ ap (λ (o : Origin). o.size) (sym n.amid.start);
-        free = ap (has p) n.amid.pending ∙ h.free;
-      }
+      still-held h n.amid.start (n.holds p).exclusive k n.amid.pending
 
   -- by what a call answers that claims pages
   next-none : (n : ℕ) (before after : List ℕ) (answer : Fresh) (v w : View X) → IsNextAnswer n before after v w answer

@@ -15,7 +15,6 @@ use Rattle.vm_tree_model.specs.Page.{IsFree, IsInner, IsLeaf, node_of}
 use Rattle.vm_core.specs.Prelude.{Version}
 use Rattle.vm_rule.specs.Prelude.{AreApart, began_of, change_of, changes_of, draft_of, entries_of, has, last_of}
 use Rattle.vm_rule.specs.Prelude.{next_after, Seat, seat_of, without_all}
-use Rattle.vm_rule.specs.declared.view.Held.{Held}
 use Rattle.vm_rule.specs.declared.view.WordPlace.{WordPlace}
 use Rattle.vm_rule.proofs.Entries.{append-none, each-map}
 use Rattle.vm_step.specs.Prelude.{Did, HoldsPage, IsClaimed, KnowsAsBefore, Origin, View}
@@ -30,6 +29,7 @@ use Rattle.vm_tree_read.proofs.from_vm_tree_rule.Whole.{zero-at}
 use Rattle.vm_tree_split.specs.Drafts.{DraftsIn, IsDraftPlace, IsRedrafted, KnowsSameStates}
 use Rattle.vm_tree_split.specs.Splits.{AreToSplit, HasDraft, IsDrafted, IsGroupDone, IsSplitUp, MayUse, Stays}
 use Rattle.vm_tree_split.proofs.{Drafting.each-append, Framing.after-some, Numbering.freed-used}
+use Rattle.vm_guard.proofs.GuardSteps.{still-held}
 
 -- pages that are apart
 pub first-apart : (a b c : ℕ) → AreApart (a ∷ b ∷ c ∷ []) → (a ≢ b) × (a ≢ c) × (b ≢ c)
@@ -134,18 +134,7 @@ module _ {X : Type 0} where
       → IsHolding p frame version dirty v → IsRedrafted q v w → IsHolding p frame version dirty w
   holding-past p frame version dirty q v w ne h d =
       let k : KnowsAsBefore v w p = d.elsewhere.knows p ne (inl h.owns) in
-      record {
-        page = subst (λ (o : Origin). p < o.pages) (sym d.elsewhere.steady.start) h.page;
-        frame_is = subst (λ (o : Origin). frame < o.frames) (sym d.elsewhere.steady.start) h.frame_is;
-        below = h.below;
-        owns = (d.elsewhere.holds p ne).exclusive ∙ h.owns;
-        stands = ap (λ (y : Held). y.mapping) k.held ∙ h.stands;
-        owned = ap (λ (y : Held). y.owner) k.held ∙ h.owned;
-        told = ap (λ (y : Held). y.fault) k.held ∙ h.told ∙ ap (λ (y : Held). y.block.count) (sym k.held);
-        at = ap (λ (y : Version). y.version) k.last ∙ h.at;
-        size = ap length k.draft ∙ h.size ∙ ap (λ (o : Origin). o.size) (sym d.elsewhere.steady.start);
-        free = ap (has p) d.group.0 ∙ h.free;
-      }
+      still-held h d.elsewhere.steady.start (d.elsewhere.holds p ne).exclusive k d.group.0
 
   -- and keeps its draft
   pub draft-past : (p q : ℕ) (old new : List ℕ) (v w : View X) → p ≢ q → (seat_of v p).exclusive ≡ true

@@ -1,12 +1,11 @@
 -- A full node below its parent: what the search read of both is what the locks prove of them, and a fresh page stands beside them.
-use Rattle.std.proofs.Common.{[], ◌++◌, ◌+◌, ◌<◌, ◌∙◌, ◌∷◌, ◌≡◌, ◌≢◌, ap, arith, Bool, false, inl, length, List, refl, subst, suc, sym}
+use Rattle.std.proofs.Common.{[], ◌++◌, ◌+◌, ◌∙◌, ◌∷◌, ◌≡◌, ◌≢◌, ap, arith, Bool, false, inl, length, List, refl, subst, suc, sym}
 use Rattle.std.proofs.Common.{true, ℕ}
 use Rattle.std.proofs.lemmas.List.{length-append}
 use Rattle.vm_tree_model.specs.{Layout.Layout, Node.Covers, Page.IsInner, Page.node_of}
 use Rattle.vm_core.specs.Prelude.{no_seat, Version, version_of}
 use Rattle.vm_page.specs.Pages.{all_zero}
 use Rattle.vm_rule.specs.Prelude.{began_of, draft_of, Each, has, IsLocking, last_of, no_held, put_at, Seat, seat_of, StartsWith}
-use Rattle.vm_rule.specs.declared.view.Held.{Held}
 use Rattle.vm_rule.proofs.Entries.{append-none}
 use Rattle.vm_step.specs.Prelude.{Did, HoldsPage, KnowsAsBefore, Origin, Release, Tie, View}
 use Rattle.vm_step.proofs.Asides.{holds-then, knows-then, starts-then, still-locking}
@@ -21,6 +20,7 @@ use Rattle.vm_tree_read.proofs.from_vm_tree_rule.{Downward.inner-here, Readings.
 use Rattle.vm_tree_read.proofs.Answering.{words-are}
 use Rattle.vm_tree_split.specs.Prepares.{IsInUseAt}
 use Rattle.vm_tree_split.specs.Splits.{HasDraft, IsGroupDone}
+use Rattle.vm_guard.proofs.GuardSteps.{still-held}
 
 pub true-false : (b : Bool) → b ≡ true → b ≡ false → ⊥
 true-false b t f = absurd (cc)
@@ -158,18 +158,7 @@ module _ {X : Type 0} where
       → IsHolding p f version dirty w
   holding-else p f version dirty q done {own = own} v w ne pending h e =
       let k : KnowsAsBefore v w p = e.knows p ne (inl h.owns) in
-      record {
-        page = subst (λ (o : Origin). p < o.pages) (sym e.steady.start) h.page;
-        frame_is = subst (λ (o : Origin). f < o.frames) (sym e.steady.start) h.frame_is;
-        below = h.below;
-        owns = (e.holds p ne).exclusive ∙ h.owns;
-        stands = ap (λ (y : Held). y.mapping) k.held ∙ h.stands;
-        owned = ap (λ (y : Held). y.owner) k.held ∙ h.owned;
-        told = ap (λ (y : Held). y.fault) k.held ∙ h.told ∙ ap (λ (y : Held). y.block.count) (sym k.held);
-        at = ap (λ (y : Version). y.version) k.last ∙ h.at;
-        size = ap length k.draft ∙ h.size ∙ ap (λ (o : Origin). o.size) (sym e.steady.start);
-        free = ap (has p) pending ∙ h.free;
-      }
+      still-held h e.steady.start (e.holds p ne).exclusive k pending
 
   pub draft-else : (p q : ℕ) (done : List Did) {own : List Release} (old new : List ℕ) (v w : View X) → p ≢ q
       → (seat_of v p).exclusive ≡ true → HasDraft p old new v → IsElsewhere q done own v w → HasDraft p old new w

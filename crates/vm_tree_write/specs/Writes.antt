@@ -12,7 +12,6 @@ use Rattle.vm_rule.specs.Prelude.{began_of, Each, entry_of, IsLocking, IsWhole, 
 use Rattle.vm_rule.specs.declared.view.WordPlace.{WordPlace}
 use Rattle.vm_rule.specs.declared.view.WordPlace.TheVariants as places
 use Rattle.vm_tree_merge.specs.from_vm_step.Prelude.{Did, HasWritten, HoldsPage, KnowsAsBefore, Tie, UnlockedExpected, View}
-use Rattle.vm_tree_merge.specs.from_vm_step.declared_saw_Saw.{Saw}
 use Rattle.vm_tree_merge.specs.from_vm_guard.{Guards.IsLocked, Guards.IsReading, Guards.IsValid, Quiet.IsUnmark}
 use Rattle.vm_tree_merge.specs.from_vm_guard.declared_deny_Deny_TheVariants as denies
 use Rattle.vm_tree_merge.specs.from_vm_guard.Denied.{AgainOrWorn, IsDenied, KeptWord}

@@ -2,7 +2,7 @@
 use Rattle.vm_clock.proofs.Prelude.{add_assoc, ap, arith, inl, inr, length, mod-add-mod, subst, suc, sym, view, ◌%◌}
 use Rattle.vm_clock.proofs.Prelude.{◌*◌, ◌+◌, ◌<◌, ◌∙◌, ◌≡◌, ◌≤◌}
 use Rattle.vm_clock.proofs.Walking.{IsWalking, walked-chosen, walked-list, walked-so, walking-on}
-use Rattle.vm_step.proofs.Going.{goes-then}
+use Rattle.vm_supply.proofs.from_vm_step.Going.{goes-then}
 use Rattle.vm_clock.proofs.candidates.Goals as goal
 
 pub returns-then-len-want-clause-list : goal.returns-then-len-want-clause-list

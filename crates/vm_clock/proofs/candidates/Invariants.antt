@@ -1,5 +1,5 @@
 use Rattle.vm_clock.proofs.Prelude.{HoldsChosen, view, ◌%◌, ◌+◌, ◌<◌, ◌≡◌}
-use Rattle.vm_step.specs.Prelude.{GoesOn}
+use Rattle.vm_supply.specs.from_vm_step.Prelude.{GoesOn}
 use Rattle.vm_clock.proofs.Walking.{IsWalking}
 use Rattle.vm_clock.proofs.candidates.Given as goal
 

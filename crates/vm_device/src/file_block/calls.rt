@@ -1,6 +1,6 @@
 //! The calls of a page of a real file: the edge whose words no contract tells, kept to a few lines.
 
-ghost use Rattle.std.specs.Prelude.{◌≡◌, ◌*◌, ◌-◌, ◌^◌, vec_len};
+ghost use Rattle.std.specs.Prelude.{◌≡◌, ◌*◌, ◌-◌, vec_len};
 ghost use Rattle.vm_page.specs.Counts.{count_more};
 ghost use Rattle.vm_page.specs.Sizes.{IsSize};
 ghost use Rattle.vm_device.specs.Edge.{CountsNothing};

@@ -1,6 +1,6 @@
 //! The calls of devices in memory, which fail exactly where their plan says so, and whose blocks fail where those of theirs do.
 
-ghost use Rattle.std.specs.Prelude.{◌≡◌, ◌*◌, ◌/◌, ◌&&◌, length, is_ok, is_some, not, true, IfOk, IfSome, IsErr, MatchOption, None, map, option_map, slice_get, slice_set, string_bytes};
+ghost use Rattle.std.specs.Prelude.{◌≡◌, ◌*◌, ◌/◌, ◌&&◌, length, is_ok, is_some, not, true, IfOk, IfSome, IsErr, MatchOption, None, option_map, slice_get, slice_set, string_bytes};
 ghost use Rattle.std.specs.Str.{bytes_eq};
 ghost use Rattle.vm_page.specs.Sizes.{IsSize};
 ghost use Rattle.vm_device.specs.Devices.{Measures, TakesOut, file_of, words_at};

@@ -21,10 +21,10 @@ use Rattle.vm_step.proofs.{steps.Leaving.others-tied, Written.word-left, Written
 use Rattle.vm_step.proofs.Numbers.{all-zeros, claimed-is, has-numbers, numbers-has}
 use Rattle.vm_step.proofs.Prelude.{holdings, [], after_event, after_step, AllowsStep, any-here, any-same, any-true}
 use Rattle.vm_step.proofs.Prelude.{ap, append-none, AreZero, arith, at-bound, at_next, began_of, Bool, Brings}
-use Rattle.vm_step.proofs.Prelude.{cases_Bool, CatchUpIsItsEvent, chosen, Claim, claim-step, claimed, claimed_view}
+use Rattle.vm_step.proofs.Prelude.{cases_Bool, chosen, Claim, claim-step, claimed, claimed_view}
 use Rattle.vm_step.proofs.Prelude.{ClaimIsItsEvent, ClaimTold, core-still, core_shown, Did, did_exchange, did_load}
 use Rattle.vm_step.proofs.Prelude.{draft-is, each-map, either, eqb, false, false_from_ne_true, false≢true, FindsAt}
-use Rattle.vm_step.proofs.Prelude.{FollowIsItsEvent, fun_ext, get_elem?, has, if◌then◌else◌, index_of, inl, inr}
+use Rattle.vm_step.proofs.Prelude.{fun_ext, get_elem?, has, if◌then◌else◌, index_of, inl, inr}
 use Rattle.vm_step.proofs.Prelude.{is_owed, is_pending, IsEvent, IsPassOf, IsPlacedAt, IsSome, Kept, kept_of}
 use Rattle.vm_step.proofs.Prelude.{KnowsPage, KnowsPages, last_in, Legal, length, List, lost-claim, logical, may_call}
 use Rattle.vm_step.proofs.Prelude.{next-here, next_view, NextStepTold, NextTold, NLoad, NloadIsItsEvent, no_held}
@@ -356,7 +356,7 @@ module _ {X B : Type 0} (stored : B → Stored) (keeps : Start → Kept X → Ty
       (k.0, k.1, told-next stored keeps tied start tells s r id v there live _ _ k.0 k.3 k.4 k.2))
 
   -- a load that leaves the pass its frames, its seats and its block
-  load-event : (start : Origin) (s : Table (Option B) (View X)) (id found : ℕ) (v w : View X)
+  pub load-event : (start : Origin) (s : Table (Option B) (View X)) (id found : ℕ) (v w : View X)
       → IsPassOf stored start keeps tied tells s id v → FindsAt start s places.Next found → w.out ≡ v.out
       → holdings w ≡ holdings v → w.seats ≡ v.seats
       → IsEvent stored start s (table_after s s.words id w) (NLoad id) (sights.Word found)
@@ -370,16 +370,6 @@ module _ {X B : Type 0} (stored : B → Stored) (keeps : Start → Kept X → Ty
   nload-event start s id found v w pass at told =
       let view = told.brings.view in load-event start s id found v w pass at (ap (λ (y : View X). y.out) view)
       (ap (λ (y : View X). holdings y) view) (ap (λ (y : View X). y.seats) view)
-
-  pub catch_up-event : CatchUpIsItsEvent stored keeps tied tells
-  catch_up-event start s id v w c pass at =
-      let view = c.brings.view in load-event start s id c.found v w pass at (ap (λ (y : View X). y.out) view)
-      (ap (λ (y : View X). holdings y) view) (ap (λ (y : View X). y.seats) view)
-
-  pub follow-event : FollowIsItsEvent stored keeps tied tells
-  follow-event start s id v w f pass at =
-      load-event start s id f.found v w pass at (ap (λ (y : View X). y.out) f.view)
-      (ap (λ (y : View X). holdings y) f.view) (ap (λ (y : View X). y.seats) f.view)
 
   -- a claim sees whether the word was the one expected, and the word where it was not
   pub claim-event : ClaimIsItsEvent stored keeps tied tells

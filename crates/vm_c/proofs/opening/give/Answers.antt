@@ -1,26 +1,43 @@
-use Rattle.std.proofs.Common.{◌∙◌, ◌≡◌, ap, subst, sym}
-use Rattle.vm_step.specs.Prelude.{view}
-use Rattle.vm_face.specs.Given.{IsBackIn}
-use Rattle.vm_c.specs.declared.opened.OpenHand.{OpenHand}
+use Rattle.std.proofs.Common.{inr, refl, rules}
+use Rattle.vm_c.proofs.Taking.{gives-as, gives-none, took-in}
 use Rattle.vm_c.proofs.opening.give.Goals as goal
 
--- the hand that comes back is the one that was given
+pub returns-in-Ok-new-clause-given : goal.returns-in-Ok-new-clause-given
+returns-in-Ok-new-clause-given c =
+    let told = c.take_in.ensures in
+    let took = took-in c.args.open.now (record { store = c.take_in.new.self }) told.store (search rules) told.taken told.pool told.ever in
+    gives-as c.args.open.now (record { store = c.take_in.new.self }) (record { store = c.hand.new.self }) c.in-Ok-new.held.value
+    (record { hand = c.in-Ok.hand }) c.in-Ok-new.ensures.ok
+    took
+    (record {
+      given = c.in-Ok.ensures.given;
+      home = c.in-Ok.ensures.home;
+      pool = (c.in-Ok.ensures.pool, c.in-Ok.ensures.same);
+      ever = c.in-Ok.ensures.ever;
+    })
+
 pub returns-in-Err-clause-refused : goal.returns-in-Err-clause-refused
 returns-in-Err-clause-refused c =
-    let hand = c.in-Some.hand in
-    let same : c.into_hand.result ≡ hand = c.into_hand.ensures ∙ ap (λ (h : OpenHand). h.hand) c.in-Err.ensures.value_returned in
-    record {
-      hand = record { hand = hand };
-      between = record { store = c.hand.new.self };
-      given = record {
-        given = c.in-Some.ensures.given;
-        of = ap (λ p. p.words.table.shared.table_id) (c.in-Some.ensures.same ∙ sym c.in-Some.ensures.pool);
-        pool = c.in-Some.ensures.pool;
-        counts = c.in-Some.ensures.counts;
-      };
-      back = record {
-        back = subst (λ h. IsBackIn (view c.hand.new.self.pass) (view h.pass) (view c.take_back.new.self.pass)) same c.take_back.ensures.back;
-        pool = c.take_back.ensures.pool;
-        counts = c.take_back.ensures.counts;
-      };
-    }
+    let told = c.take_in.ensures in
+    let took = took-in c.args.open.now (record { store = c.take_in.new.self }) told.store (search rules) told.taken told.pool told.ever in
+    gives-none c.args.open.now (record { store = c.take_in.new.self }) (record { store = c.hand.new.self }) c.in-Err.why c.in-Err.ensures.none.0
+    took c.in-Err.ensures.none.1
+
+pub returns-in-Err-new-clause-refused : goal.returns-in-Err-new-clause-refused
+returns-in-Err-new-clause-refused c =
+    let told = c.take_in.ensures in
+    let took = took-in c.args.open.now (record { store = c.take_in.new.self }) told.store (search rules) told.taken told.pool told.ever in
+    let given = c.in-Ok.ensures in (
+      record { store = c.take_in.new.self },
+      took,
+      inr (
+        refl,
+        (
+          given.may,
+          inr (
+            record { hand = c.in-Ok.hand },
+            record { given = given.given; home = given.home; pool = (given.pool, given.same); ever = given.ever },
+          ),
+        ),
+      ),
+    )

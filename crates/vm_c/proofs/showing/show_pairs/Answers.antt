@@ -1,4 +1,4 @@
-use Rattle.std.proofs.Common.{◌∙◌, ◌≡◌, ap, get_or, set, subst, sym, ℕ}
+use Rattle.std.proofs.Common.{◌∙◌, ap, set, ℕ}
 use Rattle.vm_c.specs.Shows.{as_shown}
 use Rattle.vm_c.proofs.Shown.{shown-more}
 use Rattle.vm_c.proofs.showing.show_pairs.Goals as goal

@@ -2,7 +2,7 @@ use Rattle.std.proofs.Common.{rules}
 use Rattle.vm_evict.proofs.Gathering.{each-at}
 use Rattle.vm_evict.proofs.Passing.{back-more, front-more, passed-more, passed-none}
 use Rattle.vm_evict.proofs.Prelude.{arith, length, length-set, refl, view, ◌∙◌}
-use Rattle.vm_step.proofs.Going.{goes-then}
+use Rattle.vm_supply.proofs.from_vm_step.Going.{goes-then}
 use Rattle.vm_evict.proofs.batch.pass_over.Goals as goal
 
 pub loop-i-init : goal.loop-i-init

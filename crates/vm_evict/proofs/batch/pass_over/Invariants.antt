@@ -1,6 +1,6 @@
 use Rattle.vm_evict.proofs.Passing.{Passes}
 use Rattle.vm_evict.proofs.Prelude.{length, MayBeginPhase, MayEnd, stage_at, view, ℕ, ◌<◌, ◌≡◌, ◌≤◌}
-use Rattle.vm_step.specs.Prelude.{GoesOn}
+use Rattle.vm_supply.specs.from_vm_step.Prelude.{GoesOn}
 use Rattle.vm_evict.proofs.batch.pass_over.Given as goal
 
 -- the candidates below i have passed the phase

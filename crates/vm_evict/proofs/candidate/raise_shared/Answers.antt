@@ -1,6 +1,6 @@
 use Rattle.vm_evict.proofs.Locking.{may-give, may-raise, raise-lost, raised-so}
 use Rattle.vm_evict.proofs.Prelude.{ap, arith, version-within, view, word_of, ◌∙◌}
-use Rattle.vm_step.proofs.Going.{goes-then}
+use Rattle.vm_supply.proofs.from_vm_step.Going.{goes-then}
 use Rattle.vm_evict.proofs.candidate.raise_shared.Goals as goal
 
 pub upgrade-requires-clause-legal : goal.upgrade-requires-clause-legal

@@ -4,7 +4,7 @@ use Rattle.vm_evict.specs.declared.candidate.Stage.TheVariants as stages
 use Rattle.vm_evict.proofs.{Moving.advances-after, Moving.gives-nothing, Saving.failed-so, Saving.written-so}
 use Rattle.vm_evict.proofs.Locking.{lock-now, lost-so, may-unshare, share-known, share-quiet, under-write-back, writing}
 use Rattle.vm_evict.proofs.Prelude.{false, refl, shares, view, ◌∙◌}
-use Rattle.vm_step.proofs.Going.{goes-then}
+use Rattle.vm_supply.proofs.from_vm_step.Going.{goes-then}
 use Rattle.vm_evict.proofs.candidate.save_marked.Goals as goal
 
 pub returns-in-Lost-clause-moved : goal.returns-in-Lost-clause-moved

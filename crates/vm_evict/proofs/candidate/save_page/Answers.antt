@@ -5,7 +5,7 @@ use Rattle.vm_evict.proofs.{candidate.save_page.Goals.else-seen-word-via-then-se
 use Rattle.vm_evict.proofs.{FlushVisits.not-dirty, Moving.advances-after}
 use Rattle.vm_evict.proofs.Prelude.{ap, refl, view, View, ◌∙◌}
 use Rattle.vm_evict.proofs.Saving.{clean-so, looked, shares-another, shares-dirty, waits-known, waits-on}
-use Rattle.vm_step.proofs.Going.{goes-then}
+use Rattle.vm_supply.proofs.from_vm_step.Going.{goes-then}
 use Rattle.vm_evict.proofs.candidate.save_page.Goals as goal
 
 pub returns-then-is_none-clause-moved : goal.returns-then-is_none-clause-moved

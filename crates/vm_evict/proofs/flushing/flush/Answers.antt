@@ -1,7 +1,7 @@
 -- Page after page gives each clause.
 use Rattle.vm_evict.proofs.FlushPages.{flushed-more, flushed-none}
 use Rattle.vm_evict.proofs.Prelude.{arith, IsFlushedTo, refl, subst, suc, sym, view, ◌+◌, ◌<◌, ◌∙◌, ◌≡◌}
-use Rattle.vm_step.proofs.Going.{goes-then}
+use Rattle.vm_supply.proofs.from_vm_step.Going.{goes-then}
 use Rattle.vm_evict.proofs.flushing.flush.Goals as goal
 
 pub loop-p-init : goal.loop-p-init

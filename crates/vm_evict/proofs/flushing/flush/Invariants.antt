@@ -1,5 +1,5 @@
 use Rattle.vm_evict.proofs.Prelude.{IsFlushedTo, view}
-use Rattle.vm_step.specs.Prelude.{GoesOn}
+use Rattle.vm_supply.specs.from_vm_step.Prelude.{GoesOn}
 use Rattle.vm_evict.proofs.flushing.flush.Given as goal
 
 -- the pages below p were visited

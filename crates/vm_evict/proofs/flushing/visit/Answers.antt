@@ -1,7 +1,7 @@
 use Rattle.std.proofs.Common.{rules}
 use Rattle.vm_evict.proofs.FlushVisits.{by-look-gone, by-look-held}
 use Rattle.vm_evict.proofs.Prelude.{ap, arith, held-state, inl, inr, subst, sym, view, View, ⊎_elim, ◌<◌, ◌∙◌}
-use Rattle.vm_step.proofs.Going.{goes-then}
+use Rattle.vm_supply.proofs.from_vm_step.Going.{goes-then}
 use Rattle.vm_evict.proofs.flushing.visit.Goals as goal
 
 pub returns-then-state-2-clause-visited : goal.returns-then-state-2-clause-visited

@@ -6,7 +6,7 @@ use Rattle.vm_evict.proofs.Locking.{lock-now, may-unshare, under-write-back}
 use Rattle.vm_evict.proofs.Prelude.{ap, arith, MARKED, MAX_VERSION, refl, state_of, subst, sym, version-within}
 use Rattle.vm_evict.proofs.Prelude.{word-state, word_of, ℕ, ◌<◌, ◌∙◌, ◌≤◌}
 use Rattle.vm_evict.proofs.Writing.{still-locked}
-use Rattle.vm_step.proofs.Going.{goes-then}
+use Rattle.vm_supply.proofs.from_vm_step.Going.{goes-then}
 use Rattle.vm_evict.proofs.flushing.visit_unheld.Goals as goal
 
 pub returns-then-is_none-clause-visited : goal.returns-then-is_none-clause-visited

@@ -1,4 +1,4 @@
-use Rattle.vm_step.proofs.Masks.{all-below, below-clear, below-set}
+use Rattle.vm_supply.proofs.from_vm_step.Masks.{all-below, below-clear, below-set}
 use Rattle.vm_exmap.proofs.Prelude.{[], ap, arith, bit_and, bit_at, frames_below, length, length-append, List}
 use Rattle.vm_exmap.proofs.Prelude.{shr_and_one, sym, ℕ, ◌*◌, ◌++◌, ◌+◌, ◌∙◌, ◌∷◌, ◌≡◌}
 use Rattle.vm_exmap.proofs.bits.frames_of.Goals as goal

@@ -2,7 +2,7 @@
 use Rattle.vm_exmap.proofs.{interface.give_back.Goals.else-mask-ne0, interface.give_back.Goals.then-mask-ne0, Walking.bundle-count}
 use Rattle.vm_exmap.proofs.Prelude.{arith, subst, view, ◌<◌, ◌∙◌, ◌≡◌}
 use Rattle.vm_exmap.proofs.Returning.{all-given, given-more, given-none, may-give}
-use Rattle.vm_step.proofs.Going.{goes-then}
+use Rattle.vm_supply.proofs.from_vm_step.Going.{goes-then}
 use Rattle.vm_exmap.proofs.interface.give_back.Goals as goal
 
 pub give-requires-clause-legal : goal.give-requires-clause-legal

@@ -1,5 +1,5 @@
 use Rattle.vm_exmap.proofs.Prelude.{view}
-use Rattle.vm_step.specs.Prelude.{GoesOn}
+use Rattle.vm_supply.specs.from_vm_step.Prelude.{GoesOn}
 use Rattle.vm_exmap.proofs.Returning.{AreGivenBelow}
 use Rattle.vm_exmap.proofs.interface.give_back.Given as goal
 

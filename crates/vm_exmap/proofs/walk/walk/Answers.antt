@@ -1,7 +1,7 @@
 -- Each visit is to the next bundle of the walk: it is passed by, or the walk ends there.
 use Rattle.vm_exmap.proofs.Prelude.{arith, subst, sym, view, ◌+◌, ◌<◌, ◌∙◌, ◌≡◌}
 use Rattle.vm_exmap.proofs.Walking.{bundle-count, comes-to, finds, IsUnderWay, pass-empty, pass-lost, walked-dry}
-use Rattle.vm_step.proofs.Going.{goes-then}
+use Rattle.vm_supply.proofs.from_vm_step.Going.{goes-then}
 use Rattle.vm_exmap.proofs.walk.walk.Goals as goal
 use Rattle.vm_exmap.proofs.walk.walk.Goals.{in-Empty, in-Lost}
 

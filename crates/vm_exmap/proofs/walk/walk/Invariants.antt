@@ -1,5 +1,5 @@
 use Rattle.vm_exmap.proofs.Prelude.{view}
-use Rattle.vm_step.specs.Prelude.{GoesOn}
+use Rattle.vm_supply.specs.from_vm_step.Prelude.{GoesOn}
 use Rattle.vm_exmap.proofs.Walking.{IsUnderWay}
 use Rattle.vm_exmap.proofs.walk.walk.Given as goal
 

@@ -1,5 +1,6 @@
 use Rattle.std.proofs.Common.{◌<◌, ◌≡◌, ◌≤◌, ap, arith, length, map, refl, rules, subst}
 use Rattle.std.proofs.lemmas.Bool.{eq-eqb}
+use Rattle.vm_face.specs.Homes.{made_at}
 use Rattle.vm_map.specs.declared.call.Said.{Said}
 use Rattle.vm_rule.proofs.ListFacts.{length-mapped}
 use Rattle.vm_step.specs.Prelude.{TableShape, View, view}
@@ -33,8 +34,8 @@ start-requires g c =
       ),
     )
 
-pub returns-in-Ok-clause-store : goal.returns-in-Ok-clause-store
-returns-in-Ok-clause-store g c =
+pub returns-in-Ok-new-clause-store : goal.returns-in-Ok-new-clause-store
+returns-in-Ok-new-clause-store g c =
     let made = c.in_ok-pool.ensures in
     let may = c.requires.tree.1 in
     let before = map g.B.Block.stored c.args.blocks.items in
@@ -42,17 +43,18 @@ returns-in-Ok-clause-store g c =
     let low = may.tree.meta.root_low in
     let high = may.tree.meta.root_high in
     let number : 0 < length (view c.in_ok-pool.pass).used = omega (arith, ap (λ (x : View Said). length x.used) made.view) in
-    store-over _ _ g.B.Block.tells c.in_ok-pool.pass 0 0 (ap (λ p. p.words) c.in-Ok.ensures.ok)
+    store-over made_at c.in-Ok.homes.items _ _ g.B.Block.tells c.in_ok-pool.pass c.in-Ok.ensures.items
+    (ap (λ p. p.words) c.in-Ok-new.ensures.ok)
     (record { may = (made.pass, number); table = first-of _ _ _ _ _ _ before _ made.view _ made.key })
     (omega (arith, key, may.count, low, high)) (store-begins _ _ _ _ _ _ before _ made.view)
 
-pub returns-in-Ok-clause-opened : goal.returns-in-Ok-clause-opened
-returns-in-Ok-clause-opened g c = λ pages may.
+pub returns-in-Ok-new-clause-opened : goal.returns-in-Ok-new-clause-opened
+returns-in-Ok-new-clause-opened g c = λ pages may.
     store-opened g.row.N g.B.Block.tells _ _ _ _ (map g.B.Block.stored c.args.blocks.items) _ c.in_ok-pool.ensures.view pages may
 
-pub returns-in-Ok-clause-none : goal.returns-in-Ok-clause-none
-returns-in-Ok-clause-none g c = (
-  refl,
+pub returns-in-Ok-new-clause-none : goal.returns-in-Ok-new-clause-none
+returns-in-Ok-new-clause-none g c = (
+  c.in-Ok.ensures.items,
   refl,
   seen-none _ _ _ _ _ _ (map g.B.Block.stored c.args.blocks.items) _ c.in_ok-pool.ensures.view,
 )

@@ -1,4 +1,4 @@
-use Rattle.std.proofs.Common.{rules, arith, ◌≡◌, ◌∙◌, ◌<◌, length}
+use Rattle.std.proofs.Common.{rules, arith, ◌∙◌, ◌<◌, length}
 use Rattle.vm_image.specs.Reading.{IsBlockRead, IsFailedRead}
 use Rattle.vm_image.proofs.BlocksRead.{all_read, one_failed, one_more, one_page}
 use Rattle.vm_image.proofs.FilePages.{have_more}

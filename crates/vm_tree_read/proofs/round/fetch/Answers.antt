@@ -1,13 +1,13 @@
 use Rattle.vm_tree_rule.specs.from_vm_step.Prelude.{view}
 use Rattle.vm_tree_read.specs.Waiting.{IsBringFault, IsNoBringFault, NamesFault, NamesNone}
-use Rattle.vm_tree_read.proofs.{Lasting.bring-waits, Lasting.names-fault, Losing.bring-loses, Rounds.told-as}
+use Rattle.vm_tree_read.proofs.{Lasting.names-fault, Losing.bring-loses, Rounds.told-as}
 use Rattle.vm_tree_read.proofs.round.fetch.Goals as goal
 
 pub returns-clause-lost : goal.returns-clause-lost
 returns-clause-lost g c = bring-loses _ _ _ _ _ _ _ _ _ _ c.bring-answer.ensures.answer
 
 pub returns-clause-waits : goal.returns-clause-waits
-returns-clause-waits g c = bring-waits _ _ c.bring-answer.ensures.keeps
+returns-clause-waits g c = c.bring-answer.ensures.keeps
 
 pub returns-clause-told : goal.returns-clause-told
 returns-clause-told g c =

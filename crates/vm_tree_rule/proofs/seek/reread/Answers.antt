@@ -1,6 +1,5 @@
-use Rattle.std.proofs.Common.{◌∙◌, ◌≡◌, ◌≢◌, subst, sym, ℕ}
+use Rattle.std.proofs.Common.{◌∙◌, ◌≡◌, ◌≢◌, sym, ℕ}
 use Rattle.vm_step.specs.Prelude.{view}
-use Rattle.vm_tree_rule.specs.Turns.{IsTurnedBack}
 use Rattle.vm_tree_rule.proofs.{Counting.words-same, Entering.refused-turn, Seeking.reread-has, Seeking.torn-turn}
 use Rattle.vm_tree_rule.proofs.Readings.{leaves-self, loads-reads, opened-loads, reads-self}
 use Rattle.vm_tree_rule.proofs.Surely.{known-at, known-same}

@@ -62,9 +62,7 @@ fresh-requires-clause-frames g c =
     let y = view c.lock_two.new.pass in
     let l = c.in-Ok-lock_two.ensures.ok in
     let here = held-on (c.in-Ok.frames ++ c.frames_for.new.iface.frames) x y c.in-Ok.ensures.ok.1
-    (locks-start c.args.first c.args.second c.in-Ok-lock_two.locks.up c.in-Ok-lock_two.locks.low x y l
-    c.requires.apart) (locks-frames c.args.first c.args.second c.in-Ok-lock_two.locks.up
-    c.in-Ok-lock_two.locks.low x y l c.requires.apart) in
+    (locks-start l c.requires.apart) (locks-frames l c.requires.apart) in
     let many = c.in-Ok.ensures.ok.0 in (
       held-rest c.frames_for.new.iface.frames c.in-Ok.frames y
           (held-swap c.in-Ok.frames c.frames_for.new.iface.frames y here),
@@ -73,8 +71,7 @@ fresh-requires-clause-frames g c =
 
 pub fresh-requires-clause-home : goal.fresh-requires-clause-home
 fresh-requires-clause-home g c =
-    locks-out c.args.first c.args.second c.in-Ok-lock_two.locks.up c.in-Ok-lock_two.locks.low
-    (view c.frames_for.new.pass) (view c.lock_two.new.pass) c.in-Ok-lock_two.ensures.ok c.requires.apart
+    locks-out c.in-Ok-lock_two.ensures.ok c.requires.apart
     ∙ c.in-Ok.ensures.moves.1.out ∙ c.requires.home
 
 pub returns-in-Pages-clause-held : goal.returns-in-Pages-clause-held
@@ -84,9 +81,7 @@ returns-in-Pages-clause-held g c =
     let w = view c.fresh.new.pass in
     let l = c.in-Ok-lock_two.ensures.ok in
     let here = held-on (c.in-Ok.frames ++ c.frames_for.new.iface.frames) x y c.in-Ok.ensures.ok.1
-    (locks-start c.args.first c.args.second c.in-Ok-lock_two.locks.up c.in-Ok-lock_two.locks.low x y l
-    c.requires.apart) (locks-frames c.args.first c.args.second c.in-Ok-lock_two.locks.up
-    c.in-Ok-lock_two.locks.low x y l c.requires.apart) in
+    (locks-start l c.requires.apart) (locks-frames l c.requires.apart) in
     let f = (given-of c.args.n c.in-Pages.pages c.in-Ok.frames c.fresh.new.frames y w c.requires.count c.in-Pages.ensures.answer).1 in
     fresh-beside c.frames_for.new.iface.frames c.in-Ok.frames c.fresh.new.frames f.taken y w here f.cut f.frames f.amid.start
 
@@ -114,50 +109,38 @@ pub give_up-requires-clause-held : goal.give_up-requires-clause-held
 give_up-requires-clause-held g c =
     let none = none-given c.args.n c.in-Ok.frames c.fresh.new.frames (freshes.Again c.in-Again.saw)
     (view c.lock_two.new.pass) (view c.fresh.new.pass) c.in-Again.ensures.answer tt in
-    (none-kept c.args.first c.args.second c.in-Ok-lock_two.locks.up c.in-Ok-lock_two.locks.low
-    (view c.frames_for.new.pass) (view c.lock_two.new.pass) c.in-Ok-lock_two.ensures.ok c.requires.apart
-    c.in-Ok.frames c.fresh.new.frames (view c.fresh.new.pass) none).held
+    (none-kept c.in-Ok-lock_two.ensures.ok c.requires.apart none).held
 
 pub give_up-requires-clause-same : goal.give_up-requires-clause-same
 give_up-requires-clause-same g c =
     let none = none-given c.args.n c.in-Ok.frames c.fresh.new.frames (freshes.Again c.in-Again.saw)
     (view c.lock_two.new.pass) (view c.fresh.new.pass) c.in-Again.ensures.answer tt in
-    (none-kept c.args.first c.args.second c.in-Ok-lock_two.locks.up c.in-Ok-lock_two.locks.low
-    (view c.frames_for.new.pass) (view c.lock_two.new.pass) c.in-Ok-lock_two.ensures.ok c.requires.apart
-    c.in-Ok.frames c.fresh.new.frames (view c.fresh.new.pass) none).same
+    (none-kept c.in-Ok-lock_two.ensures.ok c.requires.apart none).same
 
 pub give_up-requires-clause-unpaid : goal.give_up-requires-clause-unpaid
 give_up-requires-clause-unpaid g c =
     let none = none-given c.args.n c.in-Ok.frames c.fresh.new.frames (freshes.Again c.in-Again.saw)
     (view c.lock_two.new.pass) (view c.fresh.new.pass) c.in-Again.ensures.answer tt in
-    (none-kept c.args.first c.args.second c.in-Ok-lock_two.locks.up c.in-Ok-lock_two.locks.low
-    (view c.frames_for.new.pass) (view c.lock_two.new.pass) c.in-Ok-lock_two.ensures.ok c.requires.apart
-    c.in-Ok.frames c.fresh.new.frames (view c.fresh.new.pass) none).unpaid
+    (none-kept c.in-Ok-lock_two.ensures.ok c.requires.apart none).unpaid
 
 pub give_up-requires-clause-home : goal.give_up-requires-clause-home
 give_up-requires-clause-home g c =
     let none = none-given c.args.n c.in-Ok.frames c.fresh.new.frames (freshes.Again c.in-Again.saw)
     (view c.lock_two.new.pass) (view c.fresh.new.pass) c.in-Again.ensures.answer tt in
-    none-out c.args.first c.args.second c.in-Ok-lock_two.locks.up c.in-Ok-lock_two.locks.low
-    (view c.frames_for.new.pass) (view c.lock_two.new.pass) c.in-Ok-lock_two.ensures.ok c.requires.apart
-    c.in-Ok.frames c.fresh.new.frames (view c.fresh.new.pass) none ∙ c.in-Ok.ensures.moves.1.out ∙ c.requires.home
+    none-out c.in-Ok-lock_two.ensures.ok c.requires.apart none ∙ c.in-Ok.ensures.moves.1.out ∙ c.requires.home
 
 pub give_up-requires-clause-frames : goal.give_up-requires-clause-frames
 give_up-requires-clause-frames g c =
     let none = none-given c.args.n c.in-Ok.frames c.fresh.new.frames (freshes.Again c.in-Again.saw)
     (view c.lock_two.new.pass) (view c.fresh.new.pass) c.in-Again.ensures.answer tt in
-    none-frames c.args.first c.args.second c.in-Ok-lock_two.locks.up c.in-Ok-lock_two.locks.low
-    (view c.frames_for.new.pass) (view c.lock_two.new.pass) c.in-Ok-lock_two.ensures.ok c.requires.apart
-    c.in-Ok.frames c.fresh.new.frames (view c.fresh.new.pass) none c.frames_for.new.iface.frames
+    none-frames c.in-Ok-lock_two.ensures.ok c.requires.apart none c.frames_for.new.iface.frames
     c.in-Ok.ensures.ok.1
 
 pub returns-in-Again-clause-err : goal.returns-in-Again-clause-err
 returns-in-Again-clause-err g c =
     let none = none-given c.args.n c.in-Ok.frames c.fresh.new.frames (freshes.Again c.in-Again.saw)
     (view c.lock_two.new.pass) (view c.fresh.new.pass) c.in-Again.ensures.answer tt in
-    let k = none-ended c.args.first c.args.second c.in-Ok-lock_two.locks.up c.in-Ok-lock_two.locks.low
-    (view c.frames_for.new.pass) (view c.lock_two.new.pass) c.in-Ok-lock_two.ensures.ok c.requires.apart
-    c.in-Ok.frames c.fresh.new.frames (view c.fresh.new.pass) none (view c.args.pass.now)
+    let k = none-ended c.in-Ok-lock_two.ensures.ok c.requires.apart none (view c.args.pass.now)
     (view c.give_up.new.pass) c.in-Ok.ensures.keeps c.give_up.ensures.done in (
       c.give_up.ensures.held,
       k,
@@ -182,50 +165,38 @@ pub give_up-requires-in-Worn-clause-held : goal.give_up-requires-in-Worn-clause-
 give_up-requires-in-Worn-clause-held g c =
     let none = none-given c.args.n c.in-Ok.frames c.fresh.new.frames (freshes.Worn c.in-Worn.pid)
     (view c.lock_two.new.pass) (view c.fresh.new.pass) c.in-Worn.ensures.answer tt in
-    (none-kept c.args.first c.args.second c.in-Ok-lock_two.locks.up c.in-Ok-lock_two.locks.low
-    (view c.frames_for.new.pass) (view c.lock_two.new.pass) c.in-Ok-lock_two.ensures.ok c.requires.apart
-    c.in-Ok.frames c.fresh.new.frames (view c.fresh.new.pass) none).held
+    (none-kept c.in-Ok-lock_two.ensures.ok c.requires.apart none).held
 
 pub give_up-requires-in-Worn-clause-same : goal.give_up-requires-in-Worn-clause-same
 give_up-requires-in-Worn-clause-same g c =
     let none = none-given c.args.n c.in-Ok.frames c.fresh.new.frames (freshes.Worn c.in-Worn.pid)
     (view c.lock_two.new.pass) (view c.fresh.new.pass) c.in-Worn.ensures.answer tt in
-    (none-kept c.args.first c.args.second c.in-Ok-lock_two.locks.up c.in-Ok-lock_two.locks.low
-    (view c.frames_for.new.pass) (view c.lock_two.new.pass) c.in-Ok-lock_two.ensures.ok c.requires.apart
-    c.in-Ok.frames c.fresh.new.frames (view c.fresh.new.pass) none).same
+    (none-kept c.in-Ok-lock_two.ensures.ok c.requires.apart none).same
 
 pub give_up-requires-in-Worn-clause-unpaid : goal.give_up-requires-in-Worn-clause-unpaid
 give_up-requires-in-Worn-clause-unpaid g c =
     let none = none-given c.args.n c.in-Ok.frames c.fresh.new.frames (freshes.Worn c.in-Worn.pid)
     (view c.lock_two.new.pass) (view c.fresh.new.pass) c.in-Worn.ensures.answer tt in
-    (none-kept c.args.first c.args.second c.in-Ok-lock_two.locks.up c.in-Ok-lock_two.locks.low
-    (view c.frames_for.new.pass) (view c.lock_two.new.pass) c.in-Ok-lock_two.ensures.ok c.requires.apart
-    c.in-Ok.frames c.fresh.new.frames (view c.fresh.new.pass) none).unpaid
+    (none-kept c.in-Ok-lock_two.ensures.ok c.requires.apart none).unpaid
 
 pub give_up-requires-in-Worn-clause-home : goal.give_up-requires-in-Worn-clause-home
 give_up-requires-in-Worn-clause-home g c =
     let none = none-given c.args.n c.in-Ok.frames c.fresh.new.frames (freshes.Worn c.in-Worn.pid)
     (view c.lock_two.new.pass) (view c.fresh.new.pass) c.in-Worn.ensures.answer tt in
-    none-out c.args.first c.args.second c.in-Ok-lock_two.locks.up c.in-Ok-lock_two.locks.low
-    (view c.frames_for.new.pass) (view c.lock_two.new.pass) c.in-Ok-lock_two.ensures.ok c.requires.apart
-    c.in-Ok.frames c.fresh.new.frames (view c.fresh.new.pass) none ∙ c.in-Ok.ensures.moves.1.out ∙ c.requires.home
+    none-out c.in-Ok-lock_two.ensures.ok c.requires.apart none ∙ c.in-Ok.ensures.moves.1.out ∙ c.requires.home
 
 pub give_up-requires-in-Worn-clause-frames : goal.give_up-requires-in-Worn-clause-frames
 give_up-requires-in-Worn-clause-frames g c =
     let none = none-given c.args.n c.in-Ok.frames c.fresh.new.frames (freshes.Worn c.in-Worn.pid)
     (view c.lock_two.new.pass) (view c.fresh.new.pass) c.in-Worn.ensures.answer tt in
-    none-frames c.args.first c.args.second c.in-Ok-lock_two.locks.up c.in-Ok-lock_two.locks.low
-    (view c.frames_for.new.pass) (view c.lock_two.new.pass) c.in-Ok-lock_two.ensures.ok c.requires.apart
-    c.in-Ok.frames c.fresh.new.frames (view c.fresh.new.pass) none c.frames_for.new.iface.frames
+    none-frames c.in-Ok-lock_two.ensures.ok c.requires.apart none c.frames_for.new.iface.frames
     c.in-Ok.ensures.ok.1
 
 pub returns-in-Worn-clause-err : goal.returns-in-Worn-clause-err
 returns-in-Worn-clause-err g c =
     let none = none-given c.args.n c.in-Ok.frames c.fresh.new.frames (freshes.Worn c.in-Worn.pid)
     (view c.lock_two.new.pass) (view c.fresh.new.pass) c.in-Worn.ensures.answer tt in
-    let k = none-ended c.args.first c.args.second c.in-Ok-lock_two.locks.up c.in-Ok-lock_two.locks.low
-    (view c.frames_for.new.pass) (view c.lock_two.new.pass) c.in-Ok-lock_two.ensures.ok c.requires.apart
-    c.in-Ok.frames c.fresh.new.frames (view c.fresh.new.pass) none (view c.args.pass.now)
+    let k = none-ended c.in-Ok-lock_two.ensures.ok c.requires.apart none (view c.args.pass.now)
     (view c.give_up-in-Worn.new.pass) c.in-Ok.ensures.keeps c.give_up-in-Worn.ensures.done in (
       c.give_up-in-Worn.ensures.held,
       k,
@@ -251,45 +222,35 @@ give_up-requires-in-Full-clause-held g c =
     let none = none-given c.args.n c.in-Ok.frames c.fresh.new.frames
     (freshes.Full c.in-Full.pages c.in-Full.next c.in-Full.need) (view c.lock_two.new.pass)
     (view c.fresh.new.pass) c.in-Full.ensures.answer tt in
-    (none-kept c.args.first c.args.second c.in-Ok-lock_two.locks.up c.in-Ok-lock_two.locks.low
-    (view c.frames_for.new.pass) (view c.lock_two.new.pass) c.in-Ok-lock_two.ensures.ok c.requires.apart
-    c.in-Ok.frames c.fresh.new.frames (view c.fresh.new.pass) none).held
+    (none-kept c.in-Ok-lock_two.ensures.ok c.requires.apart none).held
 
 pub give_up-requires-in-Full-clause-same : goal.give_up-requires-in-Full-clause-same
 give_up-requires-in-Full-clause-same g c =
     let none = none-given c.args.n c.in-Ok.frames c.fresh.new.frames
     (freshes.Full c.in-Full.pages c.in-Full.next c.in-Full.need) (view c.lock_two.new.pass)
     (view c.fresh.new.pass) c.in-Full.ensures.answer tt in
-    (none-kept c.args.first c.args.second c.in-Ok-lock_two.locks.up c.in-Ok-lock_two.locks.low
-    (view c.frames_for.new.pass) (view c.lock_two.new.pass) c.in-Ok-lock_two.ensures.ok c.requires.apart
-    c.in-Ok.frames c.fresh.new.frames (view c.fresh.new.pass) none).same
+    (none-kept c.in-Ok-lock_two.ensures.ok c.requires.apart none).same
 
 pub give_up-requires-in-Full-clause-unpaid : goal.give_up-requires-in-Full-clause-unpaid
 give_up-requires-in-Full-clause-unpaid g c =
     let none = none-given c.args.n c.in-Ok.frames c.fresh.new.frames
     (freshes.Full c.in-Full.pages c.in-Full.next c.in-Full.need) (view c.lock_two.new.pass)
     (view c.fresh.new.pass) c.in-Full.ensures.answer tt in
-    (none-kept c.args.first c.args.second c.in-Ok-lock_two.locks.up c.in-Ok-lock_two.locks.low
-    (view c.frames_for.new.pass) (view c.lock_two.new.pass) c.in-Ok-lock_two.ensures.ok c.requires.apart
-    c.in-Ok.frames c.fresh.new.frames (view c.fresh.new.pass) none).unpaid
+    (none-kept c.in-Ok-lock_two.ensures.ok c.requires.apart none).unpaid
 
 pub give_up-requires-in-Full-clause-home : goal.give_up-requires-in-Full-clause-home
 give_up-requires-in-Full-clause-home g c =
     let none = none-given c.args.n c.in-Ok.frames c.fresh.new.frames
     (freshes.Full c.in-Full.pages c.in-Full.next c.in-Full.need) (view c.lock_two.new.pass)
     (view c.fresh.new.pass) c.in-Full.ensures.answer tt in
-    none-out c.args.first c.args.second c.in-Ok-lock_two.locks.up c.in-Ok-lock_two.locks.low
-    (view c.frames_for.new.pass) (view c.lock_two.new.pass) c.in-Ok-lock_two.ensures.ok c.requires.apart
-    c.in-Ok.frames c.fresh.new.frames (view c.fresh.new.pass) none ∙ c.in-Ok.ensures.moves.1.out ∙ c.requires.home
+    none-out c.in-Ok-lock_two.ensures.ok c.requires.apart none ∙ c.in-Ok.ensures.moves.1.out ∙ c.requires.home
 
 pub give_up-requires-in-Full-clause-frames : goal.give_up-requires-in-Full-clause-frames
 give_up-requires-in-Full-clause-frames g c =
     let none = none-given c.args.n c.in-Ok.frames c.fresh.new.frames
     (freshes.Full c.in-Full.pages c.in-Full.next c.in-Full.need) (view c.lock_two.new.pass)
     (view c.fresh.new.pass) c.in-Full.ensures.answer tt in
-    none-frames c.args.first c.args.second c.in-Ok-lock_two.locks.up c.in-Ok-lock_two.locks.low
-    (view c.frames_for.new.pass) (view c.lock_two.new.pass) c.in-Ok-lock_two.ensures.ok c.requires.apart
-    c.in-Ok.frames c.fresh.new.frames (view c.fresh.new.pass) none c.frames_for.new.iface.frames
+    none-frames c.in-Ok-lock_two.ensures.ok c.requires.apart none c.frames_for.new.iface.frames
     c.in-Ok.ensures.ok.1
 
 pub returns-in-Full-clause-err : goal.returns-in-Full-clause-err
@@ -297,9 +258,7 @@ returns-in-Full-clause-err g c =
     let none = none-given c.args.n c.in-Ok.frames c.fresh.new.frames
     (freshes.Full c.in-Full.pages c.in-Full.next c.in-Full.need) (view c.lock_two.new.pass)
     (view c.fresh.new.pass) c.in-Full.ensures.answer tt in
-    let k = none-ended c.args.first c.args.second c.in-Ok-lock_two.locks.up c.in-Ok-lock_two.locks.low
-    (view c.frames_for.new.pass) (view c.lock_two.new.pass) c.in-Ok-lock_two.ensures.ok c.requires.apart
-    c.in-Ok.frames c.fresh.new.frames (view c.fresh.new.pass) none (view c.args.pass.now)
+    let k = none-ended c.in-Ok-lock_two.ensures.ok c.requires.apart none (view c.args.pass.now)
     (view c.give_up-in-Full.new.pass) c.in-Ok.ensures.keeps c.give_up-in-Full.ensures.done in (
       c.give_up-in-Full.ensures.held,
       k,
@@ -346,8 +305,7 @@ returns-in-Pages-clause-lost g c =
     let y = view c.lock_two.new.pass in
     let w = view c.fresh.new.pass in
     let f = (given-of c.args.n c.in-Pages.pages c.in-Ok.frames c.fresh.new.frames y w c.requires.count c.in-Pages.ensures.answer).1 in
-    let same = locks-frames c.args.first c.args.second c.in-Ok-lock_two.locks.up c.in-Ok-lock_two.locks.low x y
-    c.in-Ok-lock_two.ensures.ok c.requires.apart in
+    let same = locks-frames c.in-Ok-lock_two.ensures.ok c.requires.apart in
     loses-then c.args.iface.now.frames all (own ++ c.fresh.new.frames) (view c.args.pass.now) x w c.in-Ok.ensures.lost
     (loses-then all all (own ++ c.fresh.new.frames) x y w (loses-same all all x y same (λ n e. e))
     (fresh-loses own c.in-Ok.frames c.fresh.new.frames f.taken y w f.cut f.frames))
@@ -362,9 +320,7 @@ returns-in-Again-clause-lost_none g c =
     (view c.give_up.new.pass) c.in-Ok.ensures.lost
     (loses-then (c.in-Ok.frames ++ own) (own ++ c.fresh.new.frames) end (view c.frames_for.new.pass)
     (view c.fresh.new.pass) (view c.give_up.new.pass)
-    (none-lost c.args.first c.args.second c.in-Ok-lock_two.locks.up c.in-Ok-lock_two.locks.low
-    (view c.frames_for.new.pass) (view c.lock_two.new.pass) c.in-Ok-lock_two.ensures.ok c.requires.apart
-    c.in-Ok.frames c.fresh.new.frames (view c.fresh.new.pass) none own) c.give_up.ensures.lost)
+    (none-lost c.in-Ok-lock_two.ensures.ok c.requires.apart none own) c.give_up.ensures.lost)
 
 pub returns-in-Worn-clause-lost_none : goal.returns-in-Worn-clause-lost_none
 returns-in-Worn-clause-lost_none g c =
@@ -376,9 +332,7 @@ returns-in-Worn-clause-lost_none g c =
     (view c.give_up-in-Worn.new.pass) c.in-Ok.ensures.lost
     (loses-then (c.in-Ok.frames ++ own) (own ++ c.fresh.new.frames) end (view c.frames_for.new.pass)
     (view c.fresh.new.pass) (view c.give_up-in-Worn.new.pass)
-    (none-lost c.args.first c.args.second c.in-Ok-lock_two.locks.up c.in-Ok-lock_two.locks.low
-    (view c.frames_for.new.pass) (view c.lock_two.new.pass) c.in-Ok-lock_two.ensures.ok c.requires.apart
-    c.in-Ok.frames c.fresh.new.frames (view c.fresh.new.pass) none own) c.give_up-in-Worn.ensures.lost)
+    (none-lost c.in-Ok-lock_two.ensures.ok c.requires.apart none own) c.give_up-in-Worn.ensures.lost)
 
 pub returns-in-Full-clause-lost_none : goal.returns-in-Full-clause-lost_none
 returns-in-Full-clause-lost_none g c =
@@ -391,9 +345,7 @@ returns-in-Full-clause-lost_none g c =
     (view c.give_up-in-Full.new.pass) c.in-Ok.ensures.lost
     (loses-then (c.in-Ok.frames ++ own) (own ++ c.fresh.new.frames) end (view c.frames_for.new.pass)
     (view c.fresh.new.pass) (view c.give_up-in-Full.new.pass)
-    (none-lost c.args.first c.args.second c.in-Ok-lock_two.locks.up c.in-Ok-lock_two.locks.low
-    (view c.frames_for.new.pass) (view c.lock_two.new.pass) c.in-Ok-lock_two.ensures.ok c.requires.apart
-    c.in-Ok.frames c.fresh.new.frames (view c.fresh.new.pass) none own) c.give_up-in-Full.ensures.lost)
+    (none-lost c.in-Ok-lock_two.ensures.ok c.requires.apart none own) c.give_up-in-Full.ensures.lost)
 
 -- ---- a pass that knows both pages to be free, and holds nothing
 

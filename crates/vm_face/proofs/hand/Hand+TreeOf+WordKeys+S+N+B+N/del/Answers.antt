@@ -7,7 +7,7 @@ use Rattle.vm_face.proofs.hand.Hand+TreeOf+WordKeys+S+N+B+N.del.Goals as goal
 pub returns-clause-hand : goal.returns-clause-hand
 returns-clause-hand g c =
     let call = c.del_within.ensures in
-    hand-called g.row.N (Del c.args.key) c.del_within.result _ _ _ _ _ _ c.requires.hand
+    hand-called g.row.N (Del c.args.key) c.del_within.result _ _ _ _ _ _ _ c.requires.hand
     (del-tells g.row.N c.args.key c.args.rounds c.del_within.result (view c.args.self.now.pass) (view c.del_within.new.pass)
     call.some call.kind call.none call.err) (search rules) call.held
 

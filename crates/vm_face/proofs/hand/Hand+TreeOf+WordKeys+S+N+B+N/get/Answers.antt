@@ -7,7 +7,7 @@ use Rattle.vm_face.proofs.hand.Hand+TreeOf+WordKeys+S+N+B+N.get.Goals as goal
 pub returns-clause-hand : goal.returns-clause-hand
 returns-clause-hand g c =
     let call = c.get_within.ensures in
-    hand-called g.row.N (Get c.args.key) c.get_within.result _ _ _ _ _ _ c.requires.hand
+    hand-called g.row.N (Get c.args.key) c.get_within.result _ _ _ _ _ _ _ c.requires.hand
     (get-tells g.row.N c.args.key c.args.rounds c.get_within.result (view c.args.self.now.pass) (view c.get_within.new.pass)
     call.some call.kind call.none call.err) (search rules) call.held
 

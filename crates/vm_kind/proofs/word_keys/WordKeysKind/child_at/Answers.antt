@@ -1,5 +1,5 @@
 -- The child that the search finds in a page of the level that was asked for.
-use Rattle.std.proofs.Common.{◌≡◌, ◌≢◌, ◌⊎◌, arith, inr, List, MatchOption, None, Option, option_map, refl, Some, subst, sym, ℕ}
+use Rattle.std.proofs.Common.{◌≡◌, ◌≢◌, ◌⊎◌, arith, inr, List, MatchOption, None, Option, option_map, refl, Some, subst, ℕ}
 use Rattle.vm_tree_model.specs.{Layout.Layout, Page.node_of}
 use Rattle.vm_inner.specs.declared.children.Fenced.{Fenced}
 use Rattle.vm_inner.specs.Found.{FindsChildIn, FindsNoChild}

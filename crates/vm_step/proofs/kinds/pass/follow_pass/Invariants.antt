@@ -1,5 +1,0 @@
-use Rattle.vm_step.proofs.Prelude.{TakesOver, told_of}
-use Rattle.vm_step.proofs.kinds.pass.follow_pass.Given as goal
-
-abbrev pub ghosts-take_in : goal.ghosts-take_in
-ghosts-take_in g a = record { told = told_of a.words.now.table.shared.key g.B.Block.tells (λ _. TakesOver) }

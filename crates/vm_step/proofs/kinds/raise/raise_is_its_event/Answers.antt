@@ -1,5 +1,0 @@
-use Rattle.vm_step.proofs.kinds.raise.raise_is_its_event.Goals as goal
-use Rattle.vm_step.proofs.steps.Block.{raise-event}
-
-pub returns : goal.returns
-returns g c start s id p count v w = raise-event _ start _ _ _ s id p count v w

@@ -1,0 +1,5 @@
+pub mod Slots
+pub mod steps
+pub mod from_vm_rule
+pub mod from_vm_rule_laws
+pub mod from_vm_step

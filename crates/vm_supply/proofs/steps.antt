@@ -1,0 +1,5 @@
+pub mod Bundle
+pub mod CatchUp
+pub mod Pass
+pub mod Raise
+pub mod Block
