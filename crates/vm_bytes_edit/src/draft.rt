@@ -1,8 +1,6 @@
 //! A page that is written: the words of a node whose pairs come one by one, by rising key.
 
-ghost use Rattle.std.specs.Prelude.{[], ◌≡◌, ◌∷◌, ◌++◌, ◌+◌, ◌-◌, ◌*◌, ◌<◌, ◌≤◌, length, List, None, slice_index, slice_index_or, Some, ℕ};
-ghost use Rattle.vm_tree_model.specs.Layout.{IsClean};
-ghost use Rattle.vm_bytes_form.specs.Bytes.{bytes};
+ghost use Rattle.std.specs.Prelude.{[], ◌≡◌, ◌∷◌, ◌+◌, ◌-◌, ◌*◌, ◌<◌, ◌≤◌, length, List, None, slice_index, slice_index_or, Some, ℕ};
 ghost use Rattle.vm_bytes_form.specs.Cuts.{words_for};
 ghost use Rattle.vm_bytes_form.specs.Forms.{ByteNode, IsFitting, key_block, node_in};
 ghost use Rattle.vm_bytes_form.specs.Strings.{IsString};

@@ -1,6 +1,6 @@
 //! Edits of one pair: each makes the words of its result in a page of its own.
 
-ghost use Rattle.std.specs.Prelude.{[], ◌≡◌, ◌∷◌, ◌+◌, ◌<◌, ◌≤◌, length, IfNone, IfOk, IfSome, MatchResult, OnErr, OnOk, ℕ};
+ghost use Rattle.std.specs.Prelude.{[], ◌≡◌, ◌∷◌, ◌+◌, ◌<◌, ◌≤◌, length, IfOk, IfSome, MatchResult, OnErr, ℕ};
 ghost use Rattle.std.specs.Option.{option_map};
 ghost use Rattle.vm_map.specs.Map.{del_pair, lookup_at, Rises};
 ghost use Rattle.vm_tree_model.specs.{Layout.IsClean, Node.Covers};
@@ -18,7 +18,7 @@ use vm_bytes_node::{
     count_at, high_at, in_range, low_at, pair_size, same_key, spare_at, upper_bound_at, value_at,
 };
 use vm_map::key::Key;
-use vm_node::{Full, Place, in_buffer};
+use vm_node::{Full, in_buffer};
 use vm_page::PageBuf;
 
 /// The page that a put of this value at the key makes, of any page whose keys rise, and the old value. `Full` comes where less room is left than a

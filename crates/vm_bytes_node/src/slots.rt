@@ -1,6 +1,6 @@
 //! The slots of a node, and the strings and values that they name.
 
-ghost use Rattle.std.specs.Prelude.{[], ◌≡◌, ◌+◌, ◌++◌, ◌<◌, ◌≤◌, length, slice_index, slice_index_or, take};
+ghost use Rattle.std.specs.Prelude.{[], ◌≡◌, ◌+◌, ◌++◌, ◌<◌, ◌≤◌, length, slice_index_or, take};
 ghost use Rattle.std.specs.Int.{to_be_bytes, w64};
 ghost use Rattle.vm_bytes_form.specs.Forms.{node_in, string_at as string_in};
 ghost use Rattle.vm_node.specs.Loads.{Tells};

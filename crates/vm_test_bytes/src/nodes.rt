@@ -3,8 +3,6 @@
 //! A node is its tag, count, level, the slots of its fences, three zeros, a slot for each pair, and from word 511 down what the slots name. A slot is
 //! place * 256 + length.
 
-ghost use Rattle.std.specs.Prelude.{◌<◌, ◌≤◌, length};
-
 use std::process::Abort;
 use vm_bytes_edit::{del_edit, new_root, put_edit, spare_of, split};
 use vm_bytes_node::{
