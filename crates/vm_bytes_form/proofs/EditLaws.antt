@@ -10,12 +10,12 @@ use Rattle.vm_tree_model.specs.Layout.{IsClean, IsFullNode, PaysForSplit, left_p
 use Rattle.vm_tree_model.specs.Node.{Node}
 use Rattle.vm_tree_model.specs.Page.{pairs_of}
 use Rattle.vm_tree_model.specs.Edits.{AddsPair, TakesPair, IsSplit, IsNewRoot, IsFullFor}
-use Rattle.vm_bytes_form.specs.Strings.{AreBytes, IsString, rank, rank_in}
+use Rattle.vm_bytes_form.specs.Strings.{before, AreBytes, IsString, rank, rank_in}
 use Rattle.vm_bytes_form.specs.Cuts.{pair_size}
 use Rattle.vm_bytes_form.specs.Forms.{KeyEntry, ByteNode, room_taken, form_of, node_in, AreKeys, IsFitting}
 use Rattle.vm_bytes_form.specs.Bytes.{high_rank, ranked_entry, ranked, same_words, are_bytes, is_string, is_high, are_keys, is_fitting}
 use Rattle.vm_bytes_form.specs.Bytes.{bytes}
-use Rattle.vm_bytes_form.specs.KeyMap.{before, put_key, del_key, ranks_of}
+use Rattle.vm_bytes_form.specs.KeyMap.{put_key, del_key, ranks_of}
 use Rattle.vm_bytes_form.specs.NodeEdits.{put_in, del_in, kept_at_split, lower_half, upper_half, root_over}
 use Rattle.vm_bytes_form.proofs.RoundTrip.{read_back}
 use Rattle.vm_bytes_form.proofs.BytesLaws.{fitting-tells, same-tells, size-taken, bytes_is_layout}

@@ -1,19 +1,20 @@
 -- A map over byte strings is the map over their ranks.
-use Rattle.std.proofs.Common.{◌≡◌, inl, inr, ℕ, ◌≤◌, List, [], ◌∷◌, Bool, true, false, eqb, ltb, if◌then◌else◌, refl, sym, ap, ◌∙◌, arith}
-use Rattle.std.proofs.lemmas.Bool.{eq-eqb, ne_eqb, lt-ltb, and_from}
+use Rattle.std.proofs.Common.{◌≡◌, ◌&&◌, inl, inr, ℕ, ◌<◌, ◌≤◌, length, List, [], ◌∷◌, Bool, true, false, eqb, ltb, if◌then◌else◌, refl}
+use Rattle.std.proofs.Common.{sym, ap, ◌∙◌, arith}
+use Rattle.std.proofs.lemmas.Bool.{and_from, and_parts, cases_lt, eq-eqb, eqb-true, lt-ltb, ne_eqb}
 use Rattle.std.proofs.lemmas.Bool.Decides.{nat_tests}
 use Rattle.vm_map.specs.Map.{Pairs, lookup_at, put_pair, del_pair}
-use Rattle.vm_bytes_form.specs.Strings.{IsString, IsBefore, rank}
+use Rattle.vm_bytes_form.specs.Strings.{AreBytes, before, IsBefore, IsString, rank, rank_in}
 use Rattle.vm_bytes_form.specs.Forms.{KeyEntry, AreKeys}
 use Rattle.vm_bytes_form.specs.Bytes.{same_words}
-use Rattle.vm_bytes_form.specs.KeyMap.{before, lookup_key, put_key, del_key, ranks_of}
-use Rattle.vm_bytes_form.proofs.Ranks.{rank_before, in_order}
+use Rattle.vm_bytes_form.specs.KeyMap.{lookup_key, put_key, del_key, ranks_of}
+use Rattle.vm_bytes_form.proofs.Ranks.{rank_before, in_order, Stands, rank_tells}
 
 pub same-refl : (s : List ℕ) → same_words s s ≡ true
 same-refl [] = refl
 same-refl (a ∷ s) = and_from (eqb a a) (same_words s s) (eq-eqb a a refl) (same-refl s)
 
-same-not : (s t : List ℕ) → IsBefore s t → (same_words s t ≡ false) × (same_words t s ≡ false)
+same-not : (s t : List ℕ) → Stands s t → (same_words s t ≡ false) × (same_words t s ≡ false)
 same-not s [] less = absurd less
 same-not [] (b ∷ t) less = (refl, refl)
 same-not (a ∷ s) (b ∷ t) (inl less) = (
@@ -22,7 +23,7 @@ same-not (a ∷ s) (b ∷ t) (inl less) = (
 )
 same-not (a ∷ s) (b ∷ t) (inr rest) = let (one, two) = same-not s t rest.1 in (rw (eq-eqb a b rest.0) one, rw (eq-eqb b a (sym rest.0)) two)
 
-before-is : (s t : List ℕ) → IsBefore s t → (before s t ≡ true) × (before t s ≡ false)
+before-is : (s t : List ℕ) → Stands s t → (before s t ≡ true) × (before t s ≡ false)
 before-is s [] less = absurd less
 before-is [] (b ∷ t) less = (refl, refl)
 before-is (a ∷ s) (b ∷ t) (inl less) =
@@ -35,6 +36,27 @@ before-is (a ∷ s) (b ∷ t) (inr rest) =
     let there : ltb a b ≡ false = grind (arith, nat_tests, e) in
     let back : ltb b a ≡ false = grind (arith, nat_tests, e) in
     (rw (there, eq-eqb a b e) one, rw (back, eq-eqb b a (sym e)) two)
+
+-- and back
+stands : (s t : List ℕ) → IsBefore s t → Stands s t
+stands s [] is = absurd (cc)
+stands [] (b ∷ t) is = tt
+stands (a ∷ s) (b ∷ t) is = elim (cases_lt a b) [
+  | inl less ↦ inl less
+  | inr from ↦
+      let not_less : ltb a b ≡ false = grind (arith, nat_tests, from) in
+      let rest : (eqb a b && before s t) ≡ true = (rw not_less at is) in
+      let parts = and_parts (eqb a b) (before s t) rest in
+      inr (eqb-true a b parts.0, stands s t parts.1)
+]
+
+-- so strings are in order where their ranks are
+module _ (n : ℕ) (s t : List ℕ) where
+  pub rank_rises : length t ≤ n → AreBytes s → AreBytes t → IsBefore s t → rank_in n s < rank_in n t
+  rank_rises fits bs bt is = rank_before n s t fits bs bt (stands s t is)
+
+  pub rank_shows : length s ≤ n → length t ≤ n → AreBytes s → AreBytes t → rank_in n s < rank_in n t → IsBefore s t
+  rank_shows fits_s fits_t bs bt less = (before-is s t (rank_tells n s t fits_s fits_t bs bt less)).0
 
 before-not : (s : List ℕ) → before s s ≡ false
 before-not [] = refl

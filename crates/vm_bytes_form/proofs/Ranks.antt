@@ -4,7 +4,13 @@ use Rattle.std.proofs.Common.{◌∷◌, length, if◌then◌else◌, refl, sym,
 use Rattle.std.proofs.lemmas.Bool.{cases_eq, cases_lt, ne_eqb}
 use Rattle.std.proofs.lemmas.Nat.{mul-add-lt, div-mul-add, mod-mul-add}
 use Rattle.std.proofs.Math.Nat.{pow-succ', one-le-pow}
-use Rattle.vm_bytes_form.specs.Strings.{AreBytes, IsBefore, rank_in, string_in}
+use Rattle.vm_bytes_form.specs.Strings.{AreBytes, rank_in, string_in}
+
+-- one string stands before another: at the first byte where they differ, or at its end
+abbrev pub Stands : List ℕ → List ℕ → Type 0
+Stands s [] = ⊥
+Stands [] (b ∷ t) = Unit {0}
+Stands (a ∷ s) (b ∷ t) = (a < b) ⊎ ((a ≡ b) × Stands s t)
 
 power-above : (n : ℕ) → 1 ≤ 257 ^ n
 power-above n = one-le-pow n 257 (omega arith)
@@ -23,7 +29,7 @@ rank-below (suc n) (b ∷ s) bytes =
     omega (arith, fits, power-more n)
 
 -- a string before another one has the lower rank
-pub rank_before : (n : ℕ) (s t : List ℕ) → length t ≤ n → AreBytes s → AreBytes t → IsBefore s t → rank_in n s < rank_in n t
+pub rank_before : (n : ℕ) (s t : List ℕ) → length t ≤ n → AreBytes s → AreBytes t → Stands s t → rank_in n s < rank_in n t
 unfolding rank_in
 rank_before n s [] fits bs bt before = absurd before
 rank_before zero s (b ∷ t) fits bs bt before = absurd (omega (arith, fits))
@@ -41,7 +47,7 @@ rank_before (suc n) (a ∷ s) (b ∷ t) fits bs bt (inr same) =
     rw same.0 (omega (arith, rest))
 
 -- any two strings: one stands before the other, or they are one
-pub in_order : (s t : List ℕ) → IsBefore s t ⊎ ((s ≡ t) ⊎ IsBefore t s)
+pub in_order : (s t : List ℕ) → Stands s t ⊎ ((s ≡ t) ⊎ Stands t s)
 in_order [] [] = inr (inl refl)
 in_order [] (b ∷ t) = inl tt
 in_order (a ∷ s) [] = inr (inr tt)
@@ -67,7 +73,7 @@ module _ (n : ℕ) (s t : List ℕ) (fits_s : length s ≤ n) (fits_t : length t
   ]
 
   -- and the lower rank is that of the string that stands before
-  pub rank_tells : rank_in n s < rank_in n t → IsBefore s t
+  pub rank_tells : rank_in n s < rank_in n t → Stands s t
   rank_tells less = elim (in_order s t) [
     | inl before ↦ before
     | inr (inl one) ↦ absurd (omega (arith, less, ap (rank_in n) one))

@@ -1,14 +1,9 @@
 -- A finite map whose keys are byte strings: its pairs by rising key, as dictionaries order them.
-use Rattle.std.specs.Prelude.{ℕ, ◌==◌, ◌&&◌, nat_lt, List, [], ◌∷◌, map, Option, Some, None, Bool, true, false, if◌then◌else◌}
+use Rattle.std.specs.Prelude.{ℕ, List, [], ◌∷◌, map, Option, Some, None, if◌then◌else◌}
 use Rattle.vm_map.specs.Map.{Pairs}
 use Rattle.vm_bytes_form.specs.Forms.{KeyEntry}
 use Rattle.vm_bytes_form.specs.Bytes.{same_words, ranked_entry}
-
--- s stands before t
-abbrev pub before : List ℕ → List ℕ → Bool
-before s [] = false
-before [] (b ∷ t) = true
-before (a ∷ s) (b ∷ t) = if nat_lt a b then true else a == b && before s t
+use Rattle.vm_bytes_form.specs.Strings.{before}
 
 -- the value of the first pair that has the key
 abbrev pub lookup_key : List KeyEntry → List ℕ → Option ℕ

@@ -1,5 +1,6 @@
 -- Keys that are byte strings, and each as a number: strings of at most 64 bytes stand in the order of their ranks.
-use Rattle.std.specs.Prelude.{◌≡◌, ◌⊎◌, ℕ, zero, suc, ◌+◌, ◌-◌, ◌*◌, ◌/◌, ◌%◌, ◌^◌, ◌<◌, ◌≤◌, ◌==◌, List, [], ◌∷◌, length, if◌then◌else◌}
+use Rattle.std.specs.Prelude.{◌≡◌, ℕ, zero, suc, ◌+◌, ◌-◌, ◌*◌, ◌/◌, ◌%◌, ◌^◌, ◌<◌, ◌≤◌, ◌==◌, List, [], ◌∷◌, length, if◌then◌else◌, Bool}
+use Rattle.std.specs.Prelude.{true, false, nat_lt, ◌&&◌}
 
 abbrev pub AreBytes : List ℕ → Type 0
 AreBytes [] = Unit {0}
@@ -11,10 +12,13 @@ pub record IsString (most : ℕ) (s : List ℕ) : Type 0 where
   pub bytes : AreBytes s
 
 -- s stands before t, as words in a dictionary do
+abbrev pub before : List ℕ → List ℕ → Bool
+before s [] = false
+before [] (b ∷ t) = true
+before (a ∷ s) (b ∷ t) = if nat_lt a b then true else a == b && before s t
+
 abbrev pub IsBefore : List ℕ → List ℕ → Type 0
-IsBefore s [] = ⊥
-IsBefore [] (b ∷ t) = Unit {0}
-IsBefore (a ∷ s) (b ∷ t) = (a < b) ⊎ ((a ≡ b) × IsBefore s t)
+IsBefore s t = before s t ≡ true
 
 -- digits of base 257, the first one the greatest: a byte and 1, and 0 where the string has ended
 unfoldable pub rank_in : ℕ → List ℕ → ℕ

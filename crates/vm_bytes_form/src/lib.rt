@@ -14,7 +14,7 @@ ghost use Rattle.vm_bytes_form.specs.Bytes.{bytes};
 ghost use Rattle.vm_bytes_form.specs.Forms.{KeyEntry, AreKeys, ByteNode, IsFitting, form_of, node_in};
 
 /// The strings of at most n bytes stand in the order of their ranks, each rank is that of one string, and the string is read back.
-#[tactic(auto, using(crate::proofs::Ranks::rank_before, crate::proofs::Ranks::rank_one, crate::proofs::Ranks::rank_tells, crate::proofs::Ranks::string_of_rank))]
+#[tactic(auto, using(crate::proofs::KeyMaps::rank_rises, crate::proofs::Ranks::rank_one, crate::proofs::KeyMaps::rank_shows, crate::proofs::Ranks::string_of_rank))]
 pub fn ranks_are_in_order()
     ensures rises { (n : ℕ) (s t : List ℕ) → length t ≤ n → AreBytes s → AreBytes t → IsBefore s t → rank_in n s < rank_in n t }
     ensures one { (n : ℕ) (s t : List ℕ) → length s ≤ n → length t ≤ n → AreBytes s → AreBytes t → rank_in n s ≡ rank_in n t → s ≡ t }

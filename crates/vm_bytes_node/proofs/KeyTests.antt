@@ -10,8 +10,7 @@ use Rattle.std.specs.Str.{bytes_eq}
 use Rattle.std.specs.Cmp.Lexicographic.{slice_partial_cmp}
 use Rattle.std.specs.Ordering.{nat_cmp, is_some_and, is_lt}
 use Rattle.vm_node.specs.Loads.{IsAnswer}
-use Rattle.vm_bytes_form.specs.KeyMap.{before}
-use Rattle.vm_bytes_form.specs.Strings.{AreBytes, IsString, rank}
+use Rattle.vm_bytes_form.specs.Strings.{before, AreBytes, IsString, rank}
 use Rattle.vm_bytes_form.specs.Cuts.{words_for, pair_size}
 use Rattle.vm_bytes_form.proofs.BytesLaws.{key_words-are}
 use Rattle.vm_bytes_form.proofs.KeyMaps.{before_test}

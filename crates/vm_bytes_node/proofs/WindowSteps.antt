@@ -10,8 +10,8 @@ use Rattle.vm_tree_model.specs.Page.{pairs_of}
 use Rattle.vm_node.specs.Places.{place_of}
 use Rattle.vm_bytes_form.specs.Bytes.{bytes}
 use Rattle.vm_bytes_form.specs.Forms.{AreKeys, KeyEntry, node_in}
-use Rattle.vm_bytes_form.specs.KeyMap.{before, ranks_of}
-use Rattle.vm_bytes_form.specs.Strings.{IsString, rank}
+use Rattle.vm_bytes_form.specs.KeyMap.{ranks_of}
+use Rattle.vm_bytes_form.specs.Strings.{before, IsString, rank}
 use Rattle.vm_bytes_form.proofs.EditLaws.{clean_fitting}
 use Rattle.vm_bytes_form.proofs.KeyMaps.{before_test}
 use Rattle.vm_bytes_node.specs.KeyWindows.{entries_from, IsKeyWindow, key_after}

@@ -1,7 +1,7 @@
 -- What a window shows of a node with byte keys.
 use Rattle.std.specs.Prelude.{◌≡◌, zero, suc, ℕ, List, [], ◌∷◌, take, Option, Some, if◌then◌else◌}
 use Rattle.vm_bytes_form.specs.Forms.{ByteNode, KeyEntry}
-use Rattle.vm_bytes_form.specs.KeyMap.{before}
+use Rattle.vm_bytes_form.specs.Strings.{before}
 
 -- the entries from a key on
 abbrev pub entries_from : List ℕ → List KeyEntry → List KeyEntry
