@@ -23,7 +23,8 @@ struct brf_file {
 
 static inline void brf_let_file_go(struct brf_file *file) {
     free(file->image);
-    *file = (struct brf_file){NULL, 0};
+    file->image = NULL;
+    file->size = 0;
 }
 
 /* Reads all that the descriptor has into memory of its size. */
@@ -44,7 +45,8 @@ static inline int brf_read_file(int from, struct brf_file *file) {
 /* Opens a store on a page file: the answers of brf_open, and UNREAD. But for OK nothing is held. */
 static inline brf_answer brf_open_file(const char *name, uint32_t frames, brf_store *store, struct brf_file *file, struct brf_told *told) {
     int from = open(name, O_RDONLY | O_CLOEXEC);
-    *file = (struct brf_file){NULL, 0};
+    file->image = NULL;
+    file->size = 0;
     brf_answer answer = BRF_UNREAD;
     if (from >= 0 && !brf_read_file(from, file)) answer = brf_open(file->image, file->size, frames, store, told);
     if (from >= 0) close(from);
