@@ -20,7 +20,7 @@ use Rattle.vm_bytes_form.proofs.EditLaws.{adds, clean_fitting, del-fits, put-fit
 use Rattle.vm_bytes_edit.specs.Drafts.{spliced}
 use Rattle.vm_bytes_edit.specs.Edited.{IsPlaced, LacksRoomFor, TakesPairOf}
 use Rattle.vm_bytes_node.specs.Room.{spare_words}
-use Rattle.vm_bytes_node.proofs.Floor.{floor_before, found_floor}
+use Rattle.vm_inner.proofs.Floor.{floor_before, found_floor}
 use Rattle.vm_bytes_edit.proofs.KeyPlaces.{edits_there, put_new}
 use Rattle.vm_bytes_node.proofs.KeySearch.{length-pairs}
 use Rattle.vm_bytes_edit.proofs.RoomLaw.{spare_is}

@@ -7,7 +7,7 @@ use Rattle.vm_tree_model.specs.Page.{pairs_of}
 use Rattle.vm_node.specs.Places.{HasSides, IsBound, place_of}
 use Rattle.vm_node.proofs.Bounds.{bound_place, no_index}
 use Rattle.vm_inner.specs.Found.{FindsChildIn, FindsNoChild}
-use Rattle.vm_bytes_node.proofs.Floor.{floor_none, floor_before, found_floor, next_behind, next_last}
+use Rattle.vm_inner.proofs.Floor.{floor_none, floor_before, found_floor, next_behind, next_last}
 use Rattle.vm_bytes_form.specs.Bytes.{bytes}
 use Rattle.vm_bytes_form.specs.Forms.{KeyEntry, node_in}
 use Rattle.vm_bytes_form.specs.KeyMap.{ranks_of}

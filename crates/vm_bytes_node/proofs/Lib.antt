@@ -3,5 +3,4 @@ pub mod SlotLemmas
 pub mod HeaderLemmas
 pub mod KeySearch
 pub mod KeyFound
-pub mod Floor
 pub mod WindowSteps

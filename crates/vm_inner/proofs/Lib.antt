@@ -1,4 +1,4 @@
-mod Floor
+pub mod Floor
 mod NewRoots
 pub mod InnerNodes
 mod Siblings

@@ -8,10 +8,13 @@ use Rattle.vm_tree_retry.specs.from_vm_tree_read.Waiting.{Waits}
 use Rattle.vm_tree_retry.specs.from_vm_tree_split.{Splits.KeepsLocksOnly}
 use Rattle.vm_tree_retry.specs.from_vm_tree_write.{declared_write_TryWrite.TryWrite}
 use Rattle.vm_tree_retry.specs.from_vm_tree_write.declared_write_TryWrite_TheVariants as writes
-use Rattle.vm_tree_retry.specs.Waiting.{IsDamagedForDel, IsDelReplied, IsDelRound, IsNeededByDel, IsPutFaulted, IsPutRound}
-use Rattle.vm_tree_retry.specs.Waiting.{IsWriteFaulted, IsWriteReplied, IsWriteRound}
+use Rattle.vm_tree_round.specs.Rounds.{IsDamagedForDel, IsDelRound, IsNeededByDel, IsPutRound}
+use Rattle.vm_tree_retry.specs.Waiting.{IsDelReplied, IsPutFaulted}
+use Rattle.vm_tree_round.specs.Rounds.{IsWriteRound}
+use Rattle.vm_tree_retry.specs.Waiting.{IsWriteFaulted, IsWriteReplied}
 use Rattle.vm_tree_retry.specs.from_vm_tree_write.Writes.{HasKeyIn, IsDel, IsPut, IsSwap, OnlyWrites}
-use Rattle.vm_tree_retry.proofs.Deleting.{again-frames, again-keeps, answer-frames, answer-out}
+use Rattle.vm_tree_round.proofs.Deleting.{again-frames, again-keeps, answer-frames}
+use Rattle.vm_tree_retry.proofs.Deleting.{answer-out}
 use Rattle.vm_tree_callers.proofs.Homes.{of-reads, Rests}
 
 of-writes : {X : Type 0} (p : ℕ) (v w : View X) → OnlyWrites p v w → Rests v w

@@ -1,11 +1,10 @@
 -- The answer of a write that waited.
-use Rattle.std.proofs.Common.{[], inl, ⊎_elim, ◌++◌, ◌<◌, ◌∙◌, ◌∷◌, ◌≡◌, ◌⊎◌, ap, append_assoc, List, subst, sym, true, ℕ}
+use Rattle.std.proofs.Common.{[], ⊎_elim, ◌++◌, ◌<◌, ◌∙◌, ◌∷◌, ◌≡◌, ◌⊎◌, ap, append_assoc, List, subst, sym, true, ℕ}
 use Rattle.vm_map.specs.declared.call.Said.{Said}
 use Rattle.vm_tree_model.specs.{Layout.Layout, Tree.map_of}
 use Rattle.vm_tree_write.specs.from_vm_rule.Prelude.{Entry, entry_of, IsLocking, seat_of, StartsWith}
 use Rattle.vm_tree_write.specs.from_vm_step.Prelude.{HoldsPage, KnowsAsBefore, Origin, View}
 use Rattle.vm_tree_write.proofs.from_vm_step.Asides.{holds-then, knows-then, still-locking}
-use Rattle.vm_tree_write.specs.from_vm_pool.Brings.{KeepsLocks}
 use Rattle.vm_tree_write.proofs.from_vm_rule.Entries.{append-none}
 use Rattle.vm_tree_laws.specs.{History.IsLegal, Plain.plain_history}
 use Rattle.vm_tree_write.specs.from_vm_tree_rule.Leaves.{ReadsOn}
@@ -13,8 +12,8 @@ use Rattle.vm_tree_write.specs.from_vm_tree_read.{Reads.GainsEntry, Reads.IsAnsw
 use Rattle.vm_tree_write.specs.from_vm_tree_read.{Waiting.AreRounds, Waiting.HasRounds, Waiting.rounds_in, Waiting.Waits}
 use Rattle.vm_tree_write.specs.from_vm_tree_split.{Splits.KeepsLocksOnly}
 use Rattle.vm_tree_write.specs.{Writes.IsVain, Writes.IsWriteDone}
-use Rattle.vm_tree_retry.specs.{Waiting.IsWriteReplied}
-use Rattle.vm_tree_write.proofs.from_vm_tree_split.{Framing.entry-same, Framing.keeps-then, Numbering.worn-kept}
+use Rattle.vm_tree_retry.specs.Waiting.{IsWriteReplied}
+use Rattle.vm_tree_write.proofs.from_vm_tree_split.{Framing.entry-same}
 
 module _ {S : Type 0} (plain : S → Said) (L : Layout) where
   -- what both kinds of answers have
@@ -66,10 +65,6 @@ module _ {S : Type 0} (plain : S → Said) (L : Layout) where
       })
       a
 
-  pub write-frames : (said : Said) (x w : View S) → (IsWriteDone plain L said x w × ¬ (IsVain said))
-      ⊎ (IsAnswered plain L said x w × IsVain said) → (w.start ≡ x.start) × (w.frames ≡ x.frames)
-  write-frames said x w a = let k = has-reply said x w a in (k.start, k.frames)
-
 module _ {X : Type 0} where
   -- what is left of the pass by all that was done before the last try
   pub record Lasts (v x : View X) : Type 0 where
@@ -117,29 +112,6 @@ module _ {X : Type 0} where
     holds = k.holds;
     knows = k.knows;
   }
-
-  pub waits-keep : (v x : View X) → Waits v x → KeepsLocksOnly v x
-  waits-keep v x k = record {
-    start = k.start;
-    parts = k.parts;
-    mine = k.mine;
-    seen = k.seen;
-    releases = k.releases;
-    notes = k.notes;
-    log = k.log;
-    out = k.out;
-    pending = k.group.0;
-    owed = k.group.1;
-    numbers = worn-kept v x k.numbers;
-    next = λ q e. inl (sym k.group.2 ∙ e);
-    holds = k.holds;
-    knows = k.knows;
-    current = k.alone.current;
-  }
-
-  -- a sweep after a try
-  pub sweep-keeps : (v x w : View X) → KeepsLocksOnly v x → KeepsLocks x w → KeepsLocksOnly v w
-  sweep-keeps v x w k locks = keeps-then v x w k (waits-keep x w locks)
 
 -- what is said is the pass's next entry, as it was before
 module _ {S : Type 0} (says : S) (v x : View S) (k : Lasts v x) where

@@ -7,13 +7,14 @@ ghost use Rattle.vm_tree_write.specs.from_vm_tree_read.Waiting.{LosesNone, Waits
 ghost use Rattle.vm_tree_write.specs.from_vm_tree_rule.Turns.{IsDamaged, IsNeeded};
 ghost use Rattle.vm_tree_write.specs.from_vm_tree_split.Splits.{KeepsLocksOnly};
 ghost use Rattle.vm_tree_write.specs.Writes.{HasKeyIn, HasValueIn};
-ghost use Rattle.vm_tree_retry.specs.Waiting.{IsDamagedForDel, IsDelReplied, IsDelRound, IsNeededByDel, IsPutFaulted, IsPutRound, IsWriteFaulted, IsWriteReplied, IsWriteRound};
+ghost use Rattle.vm_tree_round.specs.Rounds.{IsDamagedForDel, IsDelRound, IsNeededByDel, IsPutRound, IsWriteRound};
+ghost use Rattle.vm_tree_retry.specs.Waiting.{IsDelReplied, IsPutFaulted, IsWriteFaulted, IsWriteReplied};
 
-use crate::round::{del_round, put_round, swap_round};
 use crossbeam_utils::Backoff;
 use std::sync::Wait;
 use vm_block::PageBlock;
 use vm_map::call::{Reply, Swap};
+use vm_tree_round::{del_round, put_round, swap_round};
 use vm_tree_write::exmap::Interface;
 use vm_tree_write::kind::{Edits, Merges, TreeOf};
 use vm_tree_write::pool::Pool;

@@ -7,7 +7,8 @@ use Rattle.vm_tree_write.specs.from_vm_tree_read.Waiting.{HasRounds, rounds_in, 
 use Rattle.vm_tree_write.proofs.from_vm_tree_read.Lasting.{waits-self, waits-then}
 use Rattle.vm_tree_write.proofs.from_vm_tree_read.Losing.{loses-then}
 use Rattle.vm_tree_write.proofs.from_vm_tree_read.Rounds.{has-further, has-none, tried-none, tried-round}
-use Rattle.vm_tree_retry.specs.Waiting.{IsWriteReplied, IsWriteRound}
+use Rattle.vm_tree_round.specs.Rounds.{IsWriteRound}
+use Rattle.vm_tree_retry.specs.Waiting.{IsWriteReplied}
 use Rattle.vm_tree_retry.proofs.Lasting.{replied-within, waits-last}
 use Rattle.vm_tree_retry.proofs.within.swap_within.Goals as goal
 

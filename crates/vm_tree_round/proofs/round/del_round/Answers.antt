@@ -4,10 +4,10 @@ use Rattle.vm_tree_write.proofs.from_vm_exmap.Handing.{held-on}
 use Rattle.vm_tree_write.proofs.from_vm_tree_read.Losing.{loses-same, loses-then, reads-lose}
 use Rattle.vm_tree_write.proofs.from_vm_tree_read.Rounds.{told-as}
 use Rattle.vm_tree_write.proofs.from_vm_tree_split.{Framing.keeps-then, Trying.reads-keep}
-use Rattle.vm_tree_retry.specs.Waiting.{IsWriteFault as fault}
-use Rattle.vm_tree_retry.proofs.Deleting.{again-frames, again-keeps, again-round, answer-frames, needed-inside, needed-round}
-use Rattle.vm_tree_retry.proofs.Lasting.{waits-keep}
-use Rattle.vm_tree_retry.proofs.round.del_round.Goals as goal
+use Rattle.vm_tree_round.specs.Rounds.{IsWriteFault as fault}
+use Rattle.vm_tree_round.proofs.Deleting.{again-frames, again-keeps, again-round, answer-frames, needed-inside, needed-round}
+use Rattle.vm_tree_round.proofs.Leaving.{waits-keep}
+use Rattle.vm_tree_round.proofs.round.del_round.Goals as goal
 
 pub returns-in-Done-clause-held : goal.returns-in-Done-clause-held
 returns-in-Done-clause-held g c =

@@ -6,9 +6,9 @@ use Rattle.vm_tree_write.specs.from_vm_tree_read.Waiting.{IsRound as round}
 use Rattle.vm_tree_write.proofs.from_vm_tree_read.Losing.{loses-same, loses-then, reads-lose}
 use Rattle.vm_tree_write.proofs.from_vm_tree_read.Rounds.{told-as}
 use Rattle.vm_tree_write.proofs.from_vm_tree_split.{Framing.keeps-then, Trying.reads-keep}
-use Rattle.vm_tree_retry.specs.Waiting.{IsPutFault as put_fault, IsPutRound as put_round, IsWriteFault as fault}
-use Rattle.vm_tree_retry.proofs.Lasting.{waits-keep}
-use Rattle.vm_tree_retry.proofs.round.put_round.Goals as goal
+use Rattle.vm_tree_round.specs.Rounds.{IsPutFault as put_fault, IsPutRound as put_round, IsWriteFault as fault}
+use Rattle.vm_tree_round.proofs.Leaving.{waits-keep}
+use Rattle.vm_tree_round.proofs.round.put_round.Goals as goal
 
 pub returns-in-Done-clause-held : goal.returns-in-Done-clause-held
 returns-in-Done-clause-held g c =

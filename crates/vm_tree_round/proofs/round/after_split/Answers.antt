@@ -1,10 +1,10 @@
 use Rattle.std.proofs.Common.{ap, arith, refl, rules}
 use Rattle.vm_tree_write.specs.from_vm_step.Prelude.{Origin, view}
 use Rattle.vm_tree_write.proofs.from_vm_tree_read.{Losing.loses-same, Losing.swept-loses, Rounds.told-as}
-use Rattle.vm_tree_retry.specs.Waiting.{IsNoRoomFault as no_faults, IsRoomFault as room_faults}
+use Rattle.vm_tree_round.specs.Rounds.{IsNoRoomFault as no_faults, IsRoomFault as room_faults}
 use Rattle.vm_tree_write.proofs.from_vm_tree_split.{Framing.keeps-self, Trying.tried-as}
-use Rattle.vm_tree_retry.proofs.{Lasting.sweep-keeps, Lasting.waits-keep}
-use Rattle.vm_tree_retry.proofs.round.after_split.Goals as goal
+use Rattle.vm_tree_round.proofs.Leaving.{sweep-keeps, waits-keep}
+use Rattle.vm_tree_round.proofs.round.after_split.Goals as goal
 
 -- ---- a page is brought
 

@@ -5,9 +5,9 @@ use Rattle.vm_tree_write.specs.from_vm_tree_read.Waiting.{IsRound as round}
 use Rattle.vm_tree_write.proofs.from_vm_tree_read.Lasting.{reads-wait, waits-then}
 use Rattle.vm_tree_write.proofs.from_vm_tree_read.Losing.{loses-same, loses-then, reads-lose}
 use Rattle.vm_tree_write.proofs.from_vm_tree_read.Rounds.{told-as}
-use Rattle.vm_tree_retry.specs.Waiting.{IsWriteFault as fault}
-use Rattle.vm_tree_retry.proofs.Lasting.{write-frames}
-use Rattle.vm_tree_retry.proofs.round.swap_round.Goals as goal
+use Rattle.vm_tree_round.specs.Rounds.{IsWriteFault as fault}
+use Rattle.vm_tree_round.proofs.Leaving.{write-frames}
+use Rattle.vm_tree_round.proofs.round.swap_round.Goals as goal
 
 pub returns-in-Done-clause-held : goal.returns-in-Done-clause-held
 returns-in-Done-clause-held g c =

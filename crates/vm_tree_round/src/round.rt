@@ -8,8 +8,8 @@ ghost use Rattle.vm_tree_write.specs.from_vm_tree_rule.Turns.{IsDamaged, IsNeede
 ghost use Rattle.vm_tree_write.specs.from_vm_tree_split.{Splits.KeepsLocksOnly, Tries.IsTrySplit};
 ghost use Rattle.vm_tree_write.specs.declared.write.TryWrite.TheVariants.{Done as Answered};
 ghost use Rattle.vm_tree_write.specs.Writes.{HasKeyIn, HasValueIn, IsDel, IsPut, IsSwap, swap_reply};
-ghost use Rattle.vm_tree_retry.specs.Rounds.{MayTry};
-ghost use Rattle.vm_tree_retry.specs.Waiting.{IsDamagedForDel, IsDelRound, IsNeededByDel, IsNoRoomFault, IsPutFault, IsPutRound, IsRoomFault, IsWriteFault, IsWriteRound};
+ghost use Rattle.vm_tree_round.specs.Rounds.{MayTry};
+ghost use Rattle.vm_tree_round.specs.Rounds.{IsDamagedForDel, IsDelRound, IsNeededByDel, IsNoRoomFault, IsPutFault, IsPutRound, IsRoomFault, IsWriteFault, IsWriteRound};
 
 use vm_block::PageBlock;
 use vm_tree_write::exmap::Interface;
@@ -22,7 +22,7 @@ use vm_tree_write::tree_split::{TrySplit, try_split};
 use vm_tree_write::write::{Tried, del_once, put_once, swap_once};
 
 /// A round of a del.
-pub(crate) fn del_round<K: Merges, B: PageBlock<N>, const N: usize>(
+pub fn del_round<K: Merges, B: PageBlock<N>, const N: usize>(
     pool: &Pool<TreeOf<K>, B, N>,
     pass: &mut Pass<TreeOf<K>>,
     iface: &mut Interface,
@@ -50,7 +50,7 @@ pub(crate) fn del_round<K: Merges, B: PageBlock<N>, const N: usize>(
 }
 
 /// A round of a swap.
-pub(crate) fn swap_round<K: Edits, B: PageBlock<N>, const N: usize>(
+pub fn swap_round<K: Edits, B: PageBlock<N>, const N: usize>(
     pool: &Pool<TreeOf<K>, B, N>,
     pass: &mut Pass<TreeOf<K>>,
     iface: &mut Interface,
@@ -118,7 +118,7 @@ fn after_split<K: Kind, B: PageBlock<N>, const N: usize>(
 }
 
 /// A round of a put. Where the leaf is full it tries a split, once.
-pub(crate) fn put_round<K: Edits, B: PageBlock<N>, const N: usize>(
+pub fn put_round<K: Edits, B: PageBlock<N>, const N: usize>(
     pool: &Pool<TreeOf<K>, B, N>,
     pass: &mut Pass<TreeOf<K>>,
     iface: &mut Interface,
