@@ -1,5 +1,5 @@
 -- A node's children go on the stack from right to left.
-use Rattle.std.proofs.Common.{◌≡◌, ℕ, zero, suc, ◌<◌, ◌≤◌, List, [], ◌∷◌, ◌++◌, length, get_or, take, reverse, true}
+use Rattle.std.proofs.Common.{◌≡◌, ℕ, zero, suc, ◌<◌, ◌≤◌, List, [], ◌∷◌, ◌++◌, length, get_or, map, take, reverse, true}
 use Rattle.std.proofs.Common.{◌&&◌, leb, ltb, refl, sym, arith, append_assoc}
 use Rattle.std.proofs.lemmas.Bool.{and_parts, leb-true, ltb-true}
 use Rattle.std.proofs.lemmas.List.{reverse-append}
@@ -26,18 +26,15 @@ children-take (e ∷ es) level (suc i) high lt =
     λ k. record { page = e.1; level = level; low = e.0; high = first k } ∷ rest k
 
 -- one more child on the stack is one less to come
-pub push_step : (m : Pairs) (level i j high : ℕ) (slots : List Slot) → j < length m → i ≡ suc j
-    → children level (take j m) (get_or m j (0, 0)).0 ++ reverse (slots ++ record {
-      page = (get_or m j (0, 0)).1;
-      level = level;
-      low = (get_or m j (0, 0)).0;
-      high = high;
-    } ∷ []) ≡ children level (take i m) high ++ reverse slots
-push_step m level i j high slots lt is =
+pub push_step : {A : Type 0} (slot : A → Slot) (m : Pairs) (level i j high : ℕ) (child : A) (items : List A) → j < length m → i ≡ suc j
+    → slot child ≡ record { page = (get_or m j (0, 0)).1; level = level; low = (get_or m j (0, 0)).0; high = high }
+    → children level (take j m) (get_or m j (0, 0)).0 ++ map slot (reverse (items ++ child ∷ []))
+    ≡ children level (take i m) high ++ map slot (reverse items)
+push_step slot m level i j high child items lt is child_is =
+    let top : reverse (items ++ child ∷ []) ≡ child ∷ reverse items = reverse-append items (child ∷ []) in
     let s : Slot = record { page = (get_or m j (0, 0)).1; level = level; low = (get_or m j (0, 0)).0; high = high } in
-    let top : reverse (slots ++ s ∷ []) ≡ s ∷ reverse slots = reverse-append slots (s ∷ []) in
-    let back = append_assoc (children level (take j m) (get_or m j (0, 0)).0) (s ∷ []) (reverse slots) in
-    rw (is, children-take m level j high lt, top) (sym back)
+    let back = append_assoc (children level (take j m) (get_or m j (0, 0)).0) (s ∷ []) (map slot (reverse items)) in
+    rw (is, children-take m level j high lt, top, child_is) (sym back)
 
 pub names_at : (m : Pairs) (pages i : ℕ) → names_pages pages m ≡ true → i < length m → (1 ≤ (get_or m i (0, 0)).1)
     × ((get_or m i (0, 0)).1 < pages)

@@ -1,7 +1,7 @@
 -- One visit of the walk: a fault ends it, and else it goes on.
 use Rattle.std.proofs.Common.{◌≡◌, ℕ, zero, suc, ◌-◌, ◌<◌, ◌≢◌, inl, inr, List, [], ◌∷◌, ◌++◌, length, get_or, set}
 use Rattle.std.proofs.Common.{Option, Some, None, Err, Bool, true, false, ◌&&◌, eqb, leb, ltb, refl, sym, ap, ◌∙◌}
-use Rattle.std.proofs.Common.{arith, reverse, length-set}
+use Rattle.std.proofs.Common.{arith, length-set}
 use Rattle.std.proofs.lemmas.Bool.{cases_Bool, and_parts, eq-eqb, ne_eqb, ltb-true}
 use Rattle.std.proofs.lemmas.Bool.Decides.{nat_tests}
 use Rattle.std.proofs.lemmas.List.{get_or_read}
@@ -11,8 +11,7 @@ use Rattle.vm_tree_model.specs.Page.{pairs_of}
 use Rattle.vm_tree_model.specs.Tree.{page_at, leaf_part}
 use Rattle.vm_tree_model.specs.Walk.{Slot, children, slots_below, slot_fault, names_pages}
 use Rattle.vm_tree_model.specs.Reason.{walk, comes_to, unseen_pages}
-use Rattle.vm_check.specs.Progress.{AllInside, IsGoing, IsNextVisit}
-use Rattle.vm_check.specs.declared.walk.Walk.{Walk}
+use Rattle.vm_check.specs.Progress.{AllInside, IsGoing, IsNextVisit, Reached}
 use Rattle.vm_tree_model.proofs.Tests.{tests_tell, unseen_tells}
 use Rattle.vm_tree_model.proofs.Complete.{unseen-less, fault_or-None}
 
@@ -84,18 +83,18 @@ fault_read L pages visited s found count p flag words inside count_is p_is flag_
     sym (is ∙ (λ i. slot_fault L (count_is i) (read i) s (words_is i)))
 
 -- a visit without a fault is one step further
-pub next_visit : (L : Layout) (pages : List (List ℕ)) (s : Slot) (old new : Walk) → IsGoing pages old → s.page < length pages
-    → slot_fault L (length pages) (get_or old.visited.items s.page false) s (page_at pages s.page) ≡ None
-    → new.visited.items ≡ set old.visited.items s.page true
-    → reverse new.slots.items ≡ slots_below L s (page_at pages s.page) ++ reverse old.slots.items
-    → new.rows.items ≡ old.rows.items ++ leaf_part L (page_at pages s.page)
-    → AllInside (length pages) (slots_below L s (page_at pages s.page) ++ reverse old.slots.items)
+pub next_visit : (L : Layout) (pages : List (List ℕ)) (s : Slot) (old new : Reached) → IsGoing pages old → s.page < length pages
+    → slot_fault L (length pages) (get_or old.visited s.page false) s (page_at pages s.page) ≡ None
+    → new.visited ≡ set old.visited s.page true
+    → new.slots ≡ slots_below L s (page_at pages s.page) ++ old.slots
+    → new.rows ≡ old.rows ++ leaf_part L (page_at pages s.page)
+    → AllInside (length pages) (slots_below L s (page_at pages s.page) ++ old.slots)
     → IsNextVisit L pages s old new
 next_visit L pages s old new going within none visited slots rows all =
-    let inside : s.page < length old.visited.items = rw going.flags within in
-    let unseen = (unseen_tells L (length pages) s (page_at pages s.page) (get_or old.visited.items s.page false) none).0 in
+    let inside : s.page < length old.visited = rw going.flags within in
+    let unseen = (unseen_tells L (length pages) s (page_at pages s.page) (get_or old.visited s.page false) none).0 in
     record {
-      going = record { flags = rw visited (length-set old.visited.items s.page true ∙ going.flags); inside = rw slots all };
-      same = rw (visited, slots, rows) (goes_on L pages s (reverse old.slots.items) old.visited.items old.rows.items inside none);
-      fewer = rw visited (omega (arith, unseen-less old.visited.items s.page inside unseen));
+      going = record { flags = rw visited (length-set old.visited s.page true ∙ going.flags); inside = rw slots all };
+      same = rw (visited, slots, rows) (goes_on L pages s old.slots old.visited old.rows inside none);
+      fewer = rw visited (omega (arith, unseen-less old.visited s.page inside unseen));
     }

@@ -1,11 +1,27 @@
 -- How far a walk in the program has come.
-use Rattle.std.specs.Prelude.{◌≡◌, ℕ, ◌<◌, List, [], ◌∷◌, length, reverse, Option, Some, Err}
+use Rattle.std.specs.Prelude.{◌≡◌, ℕ, ◌<◌, Bool, List, [], ◌∷◌, length, map, reverse, Option, Some, Err}
+use Rattle.vm_map.specs.Map.{Pairs}
 use Rattle.vm_tree_model.specs.Layout.{Layout}
 use Rattle.vm_tree_model.specs.Walk.{Slot}
 use Rattle.vm_tree_model.specs.Reason.{Walked, comes_to, unseen_pages}
+use Rattle.vm_check.specs.Places.{place}
 use Rattle.vm_check.specs.declared.walk.Walk.{Walk}
 use Rattle.vm_check.specs.declared.fault.CheckFault.{CheckFault}
 use Rattle.vm_check.specs.declared.fault.CheckFault.TheVariants.{BadPage, Memory}
+
+-- the places still to be filled, the next one first; which pages were visited; the rows met
+pub record Reached : Type 0 where
+  pub slots : List Slot
+  pub visited : List Bool
+  pub rows : Pairs
+
+-- where a walk is, with numbers for its keys
+abbrev pub reached : {K R : Type 0} → (K → ℕ) → ℕ → (R → ℕ × ℕ) → Walk K R → Reached
+reached rank end pair walk = record {
+  slots = map (place rank end) (reverse walk.slots.items);
+  visited = walk.visited.items;
+  rows = map pair walk.rows.items;
+}
 
 -- the slots name pages of the image
 abbrev pub AllInside : ℕ → List Slot → Type 0
@@ -13,23 +29,23 @@ AllInside pages [] = Unit {0}
 AllInside pages (slot ∷ slots) = (slot.page < pages) × AllInside pages slots
 
 -- there is a flag for each page, and the slots name pages of the image
-pub record IsGoing (pages : List (List ℕ)) (walk : Walk) : Type 0 where
-  pub flags : length walk.visited.items ≡ length pages
-  pub inside : AllInside (length pages) (reverse walk.slots.items)
+pub record IsGoing (pages : List (List ℕ)) (at : Reached) : Type 0 where
+  pub flags : length at.visited ≡ length pages
+  pub inside : AllInside (length pages) at.slots
 
 -- what the walk comes to from here
-abbrev pub outcome : Layout → List (List ℕ) → Walk → Walked
-outcome L pages walk = comes_to L pages (reverse walk.slots.items) walk.visited.items walk.rows.items
+abbrev pub outcome : Layout → List (List ℕ) → Reached → Walked
+outcome L pages at = comes_to L pages at.slots at.visited at.rows
 
 -- what it comes to if this slot is still to be filled first
-abbrev pub outcome_at : Layout → List (List ℕ) → Slot → Walk → Walked
-outcome_at L pages slot walk = comes_to L pages (slot ∷ reverse walk.slots.items) walk.visited.items walk.rows.items
+abbrev pub outcome_at : Layout → List (List ℕ) → Slot → Reached → Walked
+outcome_at L pages slot at = comes_to L pages (slot ∷ at.slots) at.visited at.rows
 
 -- one visit further: the outcome is the same, and one page fewer is unvisited
-pub record IsNextVisit (L : Layout) (pages : List (List ℕ)) (slot : Slot) (old new : Walk) : Type 0 where
+pub record IsNextVisit (L : Layout) (pages : List (List ℕ)) (slot : Slot) (old new : Reached) : Type 0 where
   pub going : IsGoing pages new
   pub same : outcome_at L pages slot old ≡ outcome L pages new
-  pub fewer : unseen_pages new.visited.items < unseen_pages old.visited.items
+  pub fewer : unseen_pages new.visited < unseen_pages old.visited
 
 -- the fault is the one that the walk comes to, or want of memory
 abbrev pub IsFaultOf : Walked → CheckFault → Type 0

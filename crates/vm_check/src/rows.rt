@@ -9,3 +9,11 @@ pub struct Rows {
     pub height: u64,
     pub used: u32,
 }
+
+/// The same, where pairs are of another kind.
+#[derive(Drop)]
+pub struct TreeRows<R> {
+    pub pairs: Vec<R>,
+    pub height: u64,
+    pub used: u32,
+}

@@ -1,79 +1,76 @@
 //! A place in the tree, and the tests of the page that is named for it.
 
-ghost use Rattle.vm_map.specs.Keys.{KEY_END};
-ghost use Rattle.std.specs.Prelude.{◌≡◌, ◌+◌, ◌-◌, ◌*◌, ◌<◌, nat_lt, unwrap_or, true};
+ghost use Rattle.std.specs.Prelude.{◌≡◌, nat_le, nat_lt};
 ghost use Rattle.vm_page.specs.Sizes.{IsSize};
-ghost use Rattle.vm_tree_model.specs.Fixed.{fixed};
 ghost use Rattle.vm_tree_model.specs.Page.{pairs_of};
-ghost use Rattle.vm_tree_model.specs.Walk.{rises, has_tag, has_fences, has_form, has_keys, names_pages, has_children, slot_fault};
+ghost use Rattle.vm_tree_model.specs.Walk.{has_children, has_keys, names_pages, rises, slot_fault};
+ghost use Rattle.vm_check.specs.Places.{least_after, place, rank_or};
 
-use std::marker::Model;
-use vm_image::is_zero_from;
-use vm_node::pairs::{count_of, key_at, most_pairs, value_at};
+use crate::nodes::Nodes;
 use vm_page::PageBuf;
 
 /// A place in the tree and the page that is named for it. `high` is exclusive, and `None` where there is no high fence.
 #[derive(Drop)]
-pub(crate) struct NodeSlot {
-    pub(crate) page: u32,
-    pub(crate) level: u64,
-    pub(crate) low: u64,
-    pub(crate) high: Option<u64>,
-}
-
-impl Model for NodeSlot {
-    ghost use Rattle.std.specs.Prelude.{unwrap_or};
-    ghost use Rattle.vm_map.specs.Keys.{KEY_END};
-    ghost use Rattle.vm_tree_model.specs.Walk.{Slot};
-
-    ghost Value = { Slot };
-
-    ghost view = { λ s. record { page = s.page; level = s.level; low = s.low; high = unwrap_or s.high KEY_END } };
+pub struct NodeSlot<K> {
+    pub page: u32,
+    pub level: u64,
+    pub low: K,
+    pub high: Option<K>,
 }
 
 // The key is below the fence, or there is none.
-fn is_below(key: u64, fence: Option<u64>) -> bool
-    ensures { result ≡ nat_lt key (unwrap_or fence KEY_END) }
+fn is_below<F: Nodes<N>, const N: usize>(key: &F::Key, fence: &Option<F::Key>) -> bool
+    ensures { result ≡ nat_lt (F.rank key.now) (rank_or F.rank F.layout.key_end fence.now) }
 {
     match fence {
-        Some(fence) => key < fence,
-        None => true,
+        Some(fence) => F::is_before(key, fence),
+        None => {
+            F::in_range(key);
+            true
+        }
     }
 }
 
-// The key after it, and none after the last.
-fn after(key: u64) -> Option<u64>
-    ensures { unwrap_or result KEY_END ≡ key + 1 }
+// The key is above the last one, or where there is none it is not below the low fence.
+fn is_behind<F: Nodes<N>, const N: usize>(key: &F::Key, last: &Option<F::Key>, low: &F::Key) -> bool
+    ensures { result ≡ nat_le (least_after F.rank (F.rank low.now) last.now) (F.rank key.now) }
 {
-    key.checked_add(1)
+    match last {
+        Some(last) => F::is_before(last, key),
+        None => !F::is_before(key, low),
+    }
 }
 
 // The keys rise, from low on and below high.
-fn keys_rise<const N: usize>(page: &PageBuf<N>, low: u64, high: Option<u64>) -> bool
+fn keys_rise<F: Nodes<N>, const N: usize>(
+    page: &PageBuf<N>,
+    low: &F::Key,
+    high: &Option<F::Key>,
+) -> bool
     requires { IsSize N }
-    ensures { result ≡ rises low (unwrap_or high KEY_END) (pairs_of (fixed N) page.now) }
+    ensures { result ≡ rises (F.rank low.now) (rank_or F.rank F.layout.key_end high.now) (pairs_of F.layout page.now) }
 {
-    let mut least = Some(low);
-    for i in 0..count_of(page) {
-        let key = key_at(page, i);
-        if is_below(key, least) {
+    let mut last = None;
+    for i in 0..F::count(page) {
+        let key = F::key_at(page, i);
+        if !is_behind::<F, N>(&key, &last, low) {
             return false;
         }
-        if !is_below(key, high) {
+        if !is_below::<F, N>(&key, high) {
             return false;
         }
-        least = after(key);
+        last = Some(key);
     }
     true
 }
 
 // Each value is the number of a page but 0.
-fn values_name_pages<const N: usize>(page: &PageBuf<N>, pages: u32) -> bool
+fn values_name_pages<F: Nodes<N>, const N: usize>(page: &PageBuf<N>, pages: u32) -> bool
     requires { IsSize N }
-    ensures { result ≡ names_pages pages (pairs_of (fixed N) page.now) }
+    ensures { result ≡ names_pages pages (pairs_of F.layout page.now) }
 {
-    for i in 0..count_of(page) {
-        let child = value_at(page, i);
+    for i in 0..F::count(page) {
+        let child = F::value_at(page, i);
         if child == 0 {
             return false;
         }
@@ -84,101 +81,65 @@ fn values_name_pages<const N: usize>(page: &PageBuf<N>, pages: u32) -> bool
     true
 }
 
-impl NodeSlot {
-    fn has_tag<const N: usize>(&self, page: &PageBuf<N>) -> bool
-        requires { IsSize N }
-        ensures { result ≡ has_tag (fixed N) self.now page.now }
-    {
-        page.get(0) == if self.level == 0 { 2 } else { 3 }
+// The keys rise within the fences, and an inner node's first key is its low fence.
+fn has_keys<F: Nodes<N>, const N: usize>(slot: &NodeSlot<F::Key>, page: &PageBuf<N>) -> bool
+    requires { IsSize N }
+    ensures { result ≡ has_keys F.layout (place F.rank F.layout.key_end slot.now) page.now }
+{
+    if !keys_rise::<F, N>(page, &slot.low, &slot.high) {
+        return false;
     }
+    if slot.level == 0 {
+        return true;
+    }
+    if F::count(page) == 0 {
+        return false;
+    }
+    let first = F::key_at(page, 0);
+    !F::is_before(&slot.low, &first) && !F::is_before(&first, &slot.low)
+}
 
-    fn has_fences<const N: usize>(&self, page: &PageBuf<N>) -> bool
-        requires { IsSize N }
-        ensures { result ≡ has_fences (fixed N) self.now page.now }
-    {
-        if page.get(2) != self.low {
-            return false;
-        }
-        match self.high {
-            Some(high) => page.get(3) == high && page.get(4) == 0,
-            None => page.get(3) == 0 && page.get(4) == 1,
-        }
+fn has_children<F: Nodes<N>, const N: usize>(
+    slot: &NodeSlot<F::Key>,
+    pages: u32,
+    page: &PageBuf<N>,
+) -> bool
+    requires { IsSize N }
+    ensures { result ≡ has_children F.layout pages (place F.rank F.layout.key_end slot.now) page.now }
+{
+    if slot.level == 0 {
+        return true;
     }
+    values_name_pages::<F, N>(page, pages)
+}
 
-    fn has_form<const N: usize>(&self, page: &PageBuf<N>) -> bool
-        requires { IsSize N }
-        ensures { result ≡ has_form (fixed N) self.now page.now }
-    {
-        let count = page.get(1);
-        if self.level > 0 && count == 0 {
-            return false;
-        }
-        if count > most_pairs(N) as u64 {
-            return false;
-        }
-        if page.get(5) != self.level {
-            return false;
-        }
-        if page.get(6) != 0 || page.get(7) != 0 {
-            return false;
-        }
-        is_zero_from(page, 8 + 2 * count as usize)
+/// Why the page does not fill its place, in an image of so many pages.
+pub(crate) fn fault_of<F: Nodes<N>, const N: usize>(
+    slot: &NodeSlot<F::Key>,
+    pages: u32,
+    visited: bool,
+    page: &PageBuf<N>,
+) -> Option<u8>
+    requires { IsSize N }
+    ensures { result ≡ slot_fault F.layout pages visited (place F.rank F.layout.key_end slot.now) page.now }
+{
+    if visited {
+        return Some(3);
     }
-
-    fn has_children<const N: usize>(&self, pages: u32, page: &PageBuf<N>) -> bool
-        requires { IsSize N }
-        ensures { result ≡ has_children (fixed N) pages self.now page.now }
-    {
-        if self.level == 0 {
-            return true;
-        }
-        values_name_pages(page, pages)
+    if !F::has_tag(page, slot.level) {
+        return Some(4);
     }
-
-    /// Why the page does not fill its place, in an image of so many pages.
-    pub(crate) fn fault<const N: usize>(
-        &self,
-        pages: u32,
-        visited: bool,
-        page: &PageBuf<N>,
-    ) -> Option<u8>
-        requires { IsSize N }
-        ensures { result ≡ slot_fault (fixed N) pages visited self.now page.now }
-    {
-        if visited {
-            return Some(3);
-        }
-        if !self.has_tag(page) {
-            return Some(4);
-        }
-        if !self.has_fences(page) {
-            return Some(5);
-        }
-        if !self.has_form(page) {
-            return Some(6);
-        }
-        if !self.has_keys(page) {
-            return Some(7);
-        }
-        if !self.has_children(pages, page) {
-            return Some(8);
-        }
-        None
+    if !F::has_fences(page, &slot.low, &slot.high) {
+        return Some(5);
     }
-
-    fn has_keys<const N: usize>(&self, page: &PageBuf<N>) -> bool
-        requires { IsSize N }
-        ensures { result ≡ has_keys (fixed N) self.now page.now }
-    {
-        if !keys_rise(page, self.low, self.high) {
-            return false;
-        }
-        if self.level == 0 {
-            return true;
-        }
-        if count_of(page) == 0 {
-            return false;
-        }
-        key_at(page, 0) == self.low
+    if !F::has_form(page, slot.level) {
+        return Some(6);
     }
+    if !has_keys::<F, N>(slot, page) {
+        return Some(7);
+    }
+    if !has_children::<F, N>(slot, pages, page) {
+        return Some(8);
+    }
+    None
 }

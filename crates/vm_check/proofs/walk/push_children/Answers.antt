@@ -1,22 +1,36 @@
-use Rattle.std.proofs.Common.{◌≡◌, suc, ◌-◌, ◌^◌, ◌<◌, length, unwrap_or, ◌∙◌, arith}
-use Rattle.vm_tree_model.specs.Fixed.{fixed_pairs}
+use Rattle.std.proofs.Common.{◌≡◌, suc, ◌-◌, ◌<◌, length, get_or, ap, ◌∙◌, arith}
+use Rattle.vm_tree_model.specs.Page.{pairs_of}
+use Rattle.vm_check.specs.Places.{place, rank_or}
+use Rattle.vm_check.specs.declared.slot.NodeSlot.{NodeSlot}
 use Rattle.vm_check.proofs.Pushes.{push_step, names_at}
 use Rattle.vm_check.proofs.walk.push_children.Goals as goal
 
 pub overflow_cast-value_at : goal.overflow_cast-value_at
 overflow_cast-value_at g c =
-    let lt : c.loop-i.i - 1 < length (fixed_pairs g.row.N c.args.page.now) = omega (arith, c.count_of-i.ensures.pairs) in
-    omega (
-      arith,
-      names_at (fixed_pairs g.row.N c.args.page.now) c.args.pages (c.loop-i.i - 1) c.requires.names lt,
-      c.value_at.ensures.pair,
-      c.ranges.pages.fits,
-    )
+    let pairs = pairs_of g.F.Nodes.layout c.args.page.now in
+    let lt : c.loop-i.i - 1 < length pairs = omega (arith, c.count-i.ensures) in
+    omega (arith, names_at pairs c.args.pages (c.loop-i.i - 1) c.requires.names lt, c.value_at.ensures, c.ranges.pages.fits)
 
 pub loop-i-preserved : goal.loop-i-preserved
 loop-i-preserved g c =
-    let lt : c.loop-i.i - 1 < length (fixed_pairs g.row.N c.args.page.now) = omega (arith, c.count_of-i.ensures.pairs) in
+    let pairs = pairs_of g.F.Nodes.layout c.args.page.now in
+    let end = g.F.Nodes.layout.key_end in
+    let lt : c.loop-i.i - 1 < length pairs = omega (arith, c.count-i.ensures) in
     let next : c.loop-i.i ≡ suc (c.loop-i.i - 1) = omega arith in
-    let step = push_step (fixed_pairs g.row.N c.args.page.now) c.args.level c.loop-i.i (c.loop-i.i - 1)
-    (unwrap_or c.loop-i.high (2 ^ 64)) c.loop-i.slots.items lt next in
-    rw (c.in_ok-push.ensures.items, c.key_at-low.ensures.pair, c.value_at.ensures.pair) (step ∙ c.loop-i.invariant)
+    let child : NodeSlot _ = record { page = c.value_at.result; level = c.args.level; low = c.key_at-low.result; high = c.replace-high.result } in
+    let is : place g.F.Nodes.rank end child ≡ record {
+      page = (get_or pairs (c.loop-i.i - 1) (0, 0)).1;
+      level = c.args.level;
+      low = (get_or pairs (c.loop-i.i - 1) (0, 0)).0;
+      high = rank_or g.F.Nodes.rank end c.loop-i.above;
+    } = λ k. record {
+      page = c.value_at.ensures k;
+      level = c.args.level;
+      low = c.key_at-low.ensures k;
+      high = rank_or g.F.Nodes.rank end (c.replace-high.ensures.value k);
+    } in
+    let top : rank_or g.F.Nodes.rank end c.replace-high.new.dest ≡ (get_or pairs (c.loop-i.i - 1) (0, 0)).0 =
+    ap (rank_or g.F.Nodes.rank end) c.replace-high.ensures.after ∙ c.copied.ensures ∙ c.key_at-low.ensures in
+    let step = push_step (place g.F.Nodes.rank end) pairs c.args.level c.loop-i.i (c.loop-i.i - 1)
+    (rank_or g.F.Nodes.rank end c.loop-i.above) child c.loop-i.slots.items lt next is in
+    rw (c.in_ok-push.ensures.items, top) (step ∙ c.loop-i.invariant)
