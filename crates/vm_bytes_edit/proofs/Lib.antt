@@ -8,3 +8,4 @@ pub mod PairEdits
 pub mod Splices
 pub mod Cutting
 pub mod Splits
+pub mod Formed

@@ -1,11 +1,12 @@
 -- A draft that gets the first pairs of a page, others, and the last pairs of the page.
-use Rattle.std.proofs.Common.{◌≡◌, ℕ, ◌≤◌, List, [], ◌++◌, length, get_or, take, drop, Option, Some, sym, ap, subst, ◌∙◌, arith}
+use Rattle.std.proofs.Common.{◌≡◌, ℕ, ◌≤◌, List, [], ◌++◌, length, get_or, take, drop, Option, None, Some, IfSome}
+use Rattle.std.proofs.Common.{refl, sym, ap, subst, ◌∙◌, arith}
 use Rattle.std.proofs.lemmas.List.{take_all}
 use Rattle.vm_tree_model.specs.Layout.{IsClean}
 use Rattle.vm_bytes_form.specs.Bytes.{bytes}
 use Rattle.vm_bytes_form.specs.Forms.{ByteNode, KeyEntry, IsFitting, node_in}
 use Rattle.vm_bytes_form.proofs.EditLaws.{clean_fitting}
-use Rattle.vm_bytes_edit.specs.Drafts.{empty_node, entries_between, IsDraft, spliced, with_more}
+use Rattle.vm_bytes_edit.specs.Drafts.{empty_node, entries_between, HasNoEmptyHigh, IsDraft, spliced, with_more}
 use Rattle.vm_bytes_edit.proofs.Entries.{fits_first, with_both}
 use Rattle.vm_bytes_node.proofs.HeaderLemmas.{level_is, tag_is}
 
@@ -22,8 +23,18 @@ begun_of words page count end tag level low high tag_read level_read low_read hi
     subst (IsDraft page count end) same draft
 
 -- a high fence is not empty
-pub high_some : (words high : List ℕ) → IsClean bytes words → Some high ≡ (node_in words).high → 1 ≤ length high
-high_some words high clean is = ((clean_fitting words clean).high high (sym is)).1
+pub high_long : (n : ByteNode) (high : List ℕ) → HasNoEmptyHigh n → Some high ≡ n.high → 1 ≤ length high
+high_long n high long is = subst (λ (h : Option (List ℕ)). IfSome h (λ s. 1 ≤ length s)) (sym is) long
+
+pub no_empty_high : (n : ByteNode) → IsFitting 512 n → HasNoEmptyHigh n
+no_empty_high n fits = go n.high (λ s is. (fits.high s is).1)
+  where
+    go : (high : Option (List ℕ)) → ((s : List ℕ) → high ≡ Some s → 1 ≤ length s) → IfSome high (λ s. 1 ≤ length s)
+    go None each = tt
+    go (Some s) each = each s refl
+
+pub clean_high : (words : List ℕ) → IsClean bytes words → HasNoEmptyHigh (node_in words)
+clean_high words clean = no_empty_high (node_in words) (clean_fitting words clean)
 
 module _ (n : ByteNode) (before behind count : ℕ) (between : List KeyEntry) (all : count ≡ length n.entries) where
   abbrev bare : ByteNode

@@ -1,5 +1,5 @@
 -- The words of a node that is being written.
-use Rattle.std.specs.Prelude.{ℕ, ◌≡◌, ◌+◌, ◌≤◌, List, [], ◌++◌, length, take, drop, Option}
+use Rattle.std.specs.Prelude.{ℕ, ◌≡◌, ◌+◌, ◌≤◌, List, [], ◌++◌, length, take, drop, Option, IfSome}
 use Rattle.vm_bytes_form.specs.Forms.{KeyEntry, ByteNode, IsFitting, fence_blocks, form_of, heap}
 
 -- the words with a block of them written over from a place on
@@ -21,6 +21,10 @@ with_more n es = record n { entries = n.entries ++ es }
 -- the node with other entries in place of those from one place on and before another
 abbrev pub spliced : ByteNode → ℕ → ℕ → List KeyEntry → ByteNode
 spliced n from upto es = record n { entries = take from n.entries ++ (es ++ drop upto n.entries) }
+
+-- a high fence is no empty string
+abbrev pub HasNoEmptyHigh : ByteNode → Type 0
+HasNoEmptyHigh n = IfSome n.high (λ high. 1 ≤ length high)
 
 -- a draft's pairs have their slots, and its blocks their words, on the page
 pub record IsInPage (count end : ℕ) : Type 0 where

@@ -4,10 +4,10 @@ ghost use Rattle.std.specs.Prelude.{[], ◌≡◌, ◌∷◌, ◌+◌, ◌-◌, 
 ghost use Rattle.vm_bytes_form.specs.Cuts.{words_for};
 ghost use Rattle.vm_bytes_form.specs.Forms.{ByteNode, IsFitting, key_block, node_in};
 ghost use Rattle.vm_bytes_form.specs.Strings.{IsString};
-ghost use Rattle.vm_bytes_edit.specs.Drafts.{empty_node, entries_between, IsDraft, IsInPage, over, with_more};
+ghost use Rattle.vm_bytes_edit.specs.Drafts.{empty_node, entries_between, HasNoEmptyHigh, IsDraft, IsInPage, over, with_more};
 ghost use Rattle.vm_bytes_node.specs.Limits.{MOST_SLOTS};
 
-use vm_bytes_node::{HEADER, in_range, key_at, pair_size, value_at, words_of};
+use vm_bytes_node::{HEADER, high_at, in_range, key_at, low_at, pair_size, value_at, words_of};
 use vm_map::key::Key;
 use vm_node::in_buffer;
 use vm_page::{LARGE, PageBuf};
@@ -106,6 +106,20 @@ impl Draft {
         write_key(&mut self.page, self.end, key);
         (self.end * 256 + key.len()) as u64
     }
+}
+
+/// A draft of a node with the page's tag, level and fences, and no pair.
+pub(crate) fn begun(page: &PageBuf<512>) -> Draft
+    ensures draft { HasNoEmptyHigh (node_in page.now) → IsDraft result.page result.count result.end (record (node_in page.now) { entries = [] }) }
+    ensures fits { IsInPage result.count result.end }
+{
+    let mut place = in_buffer(page);
+    let low = low_at(&mut place);
+    let mut draft = Draft::new(page.get(0), page.get(2), &low);
+    if let Some(high) = high_at(&mut place) {
+        draft.close(&high);
+    }
+    draft
 }
 
 /// The pair at place `i` of a page in a buffer.

@@ -8,15 +8,13 @@ ghost use Rattle.vm_tree_model.specs.Page.{IsInner, IsLeaf, node_of, pairs_of};
 ghost use Rattle.vm_tree_model.specs.Edits.{AddsPair, IsFullFor, IsLeafWith, PutsInLeaf, TakesPair};
 ghost use Rattle.vm_bytes_form.specs.{Bytes.bytes, Forms.IsFitting, Forms.form_of, Forms.node_in, Strings.IsString, Strings.rank};
 ghost use Rattle.vm_bytes_form.specs.NodeEdits.{del_in, put_in};
-ghost use Rattle.vm_bytes_edit.specs.Drafts.{IsDraft, IsInPage, spliced};
+ghost use Rattle.vm_bytes_edit.specs.Drafts.{spliced};
 ghost use Rattle.vm_bytes_node.specs.Room.{spare_words};
 ghost use Rattle.vm_bytes_node.specs.Limits.{MOST_SLOTS};
 ghost use Rattle.vm_bytes_edit.specs.Edited.{IsPlaced, LacksRoomFor, TakesPairOf};
 
-use crate::draft::Draft;
-use vm_bytes_node::{
-    count_at, high_at, in_range, low_at, pair_size, same_key, spare_at, upper_bound_at, value_at,
-};
+use crate::draft::begun;
+use vm_bytes_node::{count_at, in_range, pair_size, same_key, spare_at, upper_bound_at, value_at};
 use vm_map::key::Key;
 use vm_node::{Full, in_buffer};
 use vm_page::PageBuf;
@@ -118,18 +116,4 @@ fn without_pair(page: &PageBuf<512>, at: usize) -> PageBuf<512>
     draft.copy(page, 0, at);
     draft.copy(page, at + 1, count_at(&mut in_buffer(page)));
     draft.into_page()
-}
-
-// A draft of a node with the page's tag, level and fences, and no pair.
-fn begun(page: &PageBuf<512>) -> Draft
-    ensures draft { IsClean bytes page.now → IsDraft result.page result.count result.end (record (node_in page.now) { entries = [] }) }
-    ensures fits { IsInPage result.count result.end }
-{
-    let mut place = in_buffer(page);
-    let low = low_at(&mut place);
-    let mut draft = Draft::new(page.get(0), page.get(2), &low);
-    if let Some(high) = high_at(&mut place) {
-        draft.close(&high);
-    }
-    draft
 }

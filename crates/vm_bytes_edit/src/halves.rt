@@ -67,8 +67,8 @@ fn kept_of(page: &PageBuf<512>, count: usize) -> usize
     count
 }
 
-// What the first pairs take of a node's room.
-fn sizes_of(page: &PageBuf<512>, count: usize) -> usize
+/// What the first pairs take of a node's room.
+pub(crate) fn sizes_of(page: &PageBuf<512>, count: usize) -> usize
     requires { count ≤ MOST_SLOTS }
     ensures sizes { count ≤ length (node_in page.now).entries → result ≡ pairs_size size_of_pair (take count (pairs_of bytes page.now)) }
     ensures few { result ≤ 10 * count }

@@ -6,7 +6,9 @@
 
 mod draft;
 mod edits;
+mod form;
 mod halves;
 
 pub use edits::{del_edit, put_edit, spare_of};
+pub use form::is_form;
 pub use halves::{new_root, split};

@@ -4,7 +4,7 @@ use Rattle.vm_node.proofs.Telling.{told_buffer}
 use Rattle.vm_bytes_form.specs.Forms.{KeyEntry, IsFitting, form_of, node_in}
 use Rattle.vm_bytes_edit.specs.Drafts.{entries_between, IsDraft, with_more}
 use Rattle.vm_bytes_edit.specs.declared.draft.Draft.{Draft}
-use Rattle.vm_bytes_edit.proofs.Splices.{high_some, last_entries, upper_begun}
+use Rattle.vm_bytes_edit.proofs.Splices.{clean_high, high_long, last_entries, upper_begun}
 use Rattle.vm_bytes_edit.proofs.halves.upper_of.Goals.{in-Some, in_default}
 use Rattle.vm_bytes_edit.proofs.halves.upper_of.Goals as goal
 
@@ -17,7 +17,8 @@ returns c = λ all inside clean fits.
       | in-Some w ↦ subst (λ (d : Draft). IsDraft d.page d.count d.end
           (record (node_in c.args.page.now) { low = c.args.separator.now; entries = [] })) (sym w.draft-is)
           (let some = sym w.in-Some.is ∙ high_read in upper_begun c.args.page.now _ _ _ _ _ c.get.ensures.word c.get-2.ensures.word _ _ some
-          (w.close.ensures.draft _ _ _ c.new-draft.ensures.draft (high_some c.args.page.now _ clean some)))
+          (w.close.ensures.draft _ _ _ c.new-draft.ensures.draft
+          (high_long (node_in c.args.page.now) _ (clean_high c.args.page.now clean) some)))
       | in_default w ↦ subst (λ (d : Draft). IsDraft d.page d.count d.end
           (record (node_in c.args.page.now) { low = c.args.separator.now; entries = [] })) (sym w.draft-is)
           (upper_begun c.args.page.now _ _ _ _ _ c.get.ensures.word c.get-2.ensures.word _ _ (sym w.in_default.is
