@@ -1,5 +1,5 @@
 -- The checker's tests of a node with byte keys.
-use Rattle.std.proofs.Common.{[], ◌≡◌, ◌≢◌, ◌&&◌, ◌||◌, ℕ, ◌<◌, List, Bool, eqb, false, get_or, if◌then◌else◌, leb, length, ltb, refl, sym, true, ◌∙◌, ap, arith}
+use Rattle.std.proofs.Common.{[], ◌≡◌, ◌≢◌, ℕ, ◌<◌, List, eqb, false, if◌then◌else◌, length, ltb, refl, true, arith}
 use Rattle.std.proofs.lemmas.Bool.{eq-eqb, ne_eqb}
 use Rattle.std.proofs.lemmas.Bool.Decides.{nat_tests}
 use Rattle.vm_tree_model.specs.Page.{pairs_of}

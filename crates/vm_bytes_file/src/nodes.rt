@@ -1,12 +1,13 @@
 //! The checker over nodes whose keys are byte strings.
 
 ghost use Rattle.std.specs.Prelude.{◌≡◌, ◌==◌, if◌then◌else◌, MatchResult, refl};
-ghost use Rattle.vm_bytes_form.specs.{Bytes.bytes, Bytes.bytes_clean, Bytes.ranked_entry, Strings.rank};
+ghost use Rattle.vm_bytes_form.specs.{Bytes.bytes, Bytes.ranked_entry, Strings.rank};
 ghost use Rattle.vm_bytes_form.proofs.BytesLaws.{bytes_is_layout};
 ghost use Rattle.vm_check.specs.Rows.{AreRowsOf, IsRefusedImage};
 
 use crate::empty::MAGIC;
 use std::alloc::Global;
+use vm_bytes_edit::is_form;
 use vm_bytes_node::window::KeyPair;
 use vm_bytes_node::{copied, count_at, has_fences_at, in_range, is_before, key_at, value_at};
 use vm_check::{CheckFault, Nodes, TreeRows, check_nodes};
@@ -14,12 +15,6 @@ use vm_image::Image;
 use vm_map::key::Key;
 use vm_node::in_buffer;
 use vm_page::PageBuf;
-
-fn is_form(page: &PageBuf<512>) -> bool
-    ensures { result ≡ bytes_clean page.now }
-{
-    page.get(0) == 0
-}
 
 /// Nodes whose keys are byte strings of at most 64 bytes.
 #[derive(Drop)]

@@ -11,7 +11,7 @@ use Rattle.vm_tree_model.specs.Page.{pairs_of}
 use Rattle.vm_tree_model.specs.Tree.{page_at, leaf_part}
 use Rattle.vm_tree_model.specs.Walk.{Slot, children, slots_below, slot_fault, names_pages}
 use Rattle.vm_tree_model.specs.Reason.{walk, comes_to, unseen_pages}
-use Rattle.vm_check.specs.Progress.{AllInside, IsGoing, IsNextVisit, Reached}
+use Rattle.vm_check.specs.Progress.{AllInside, IsGoing, IsNextVisit, WalkState}
 use Rattle.vm_tree_model.proofs.Tests.{tests_tell, unseen_tells}
 use Rattle.vm_tree_model.proofs.Complete.{unseen-less, fault_or-None}
 
@@ -83,7 +83,7 @@ fault_read L pages visited s found count p flag words inside count_is p_is flag_
     sym (is ∙ (λ i. slot_fault L (count_is i) (read i) s (words_is i)))
 
 -- a visit without a fault is one step further
-pub next_visit : (L : Layout) (pages : List (List ℕ)) (s : Slot) (old new : Reached) → IsGoing pages old → s.page < length pages
+pub next_visit : (L : Layout) (pages : List (List ℕ)) (s : Slot) (old new : WalkState) → IsGoing pages old → s.page < length pages
     → slot_fault L (length pages) (get_or old.visited s.page false) s (page_at pages s.page) ≡ None
     → new.visited ≡ set old.visited s.page true
     → new.slots ≡ slots_below L s (page_at pages s.page) ++ old.slots

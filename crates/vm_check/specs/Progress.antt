@@ -10,13 +10,13 @@ use Rattle.vm_check.specs.declared.fault.CheckFault.{CheckFault}
 use Rattle.vm_check.specs.declared.fault.CheckFault.TheVariants.{BadPage, Memory}
 
 -- the places still to be filled, the next one first; which pages were visited; the rows met
-pub record Reached : Type 0 where
+pub record WalkState : Type 0 where
   pub slots : List Slot
   pub visited : List Bool
   pub rows : Pairs
 
 -- where a walk is, with numbers for its keys
-abbrev pub reached : {K R : Type 0} → (K → ℕ) → ℕ → (R → ℕ × ℕ) → Walk K R → Reached
+abbrev pub reached : {K R : Type 0} → (K → ℕ) → ℕ → (R → ℕ × ℕ) → Walk K R → WalkState
 reached rank end pair walk = record {
   slots = map (place rank end) (reverse walk.slots.items);
   visited = walk.visited.items;
@@ -29,20 +29,20 @@ AllInside pages [] = Unit {0}
 AllInside pages (slot ∷ slots) = (slot.page < pages) × AllInside pages slots
 
 -- there is a flag for each page, and the slots name pages of the image
-pub record IsGoing (pages : List (List ℕ)) (at : Reached) : Type 0 where
+pub record IsGoing (pages : List (List ℕ)) (at : WalkState) : Type 0 where
   pub flags : length at.visited ≡ length pages
   pub inside : AllInside (length pages) at.slots
 
 -- what the walk comes to from here
-abbrev pub outcome : Layout → List (List ℕ) → Reached → Walked
+abbrev pub outcome : Layout → List (List ℕ) → WalkState → Walked
 outcome L pages at = comes_to L pages at.slots at.visited at.rows
 
 -- what it comes to if this slot is still to be filled first
-abbrev pub outcome_at : Layout → List (List ℕ) → Slot → Reached → Walked
+abbrev pub outcome_at : Layout → List (List ℕ) → Slot → WalkState → Walked
 outcome_at L pages slot at = comes_to L pages (slot ∷ at.slots) at.visited at.rows
 
 -- one visit further: the outcome is the same, and one page fewer is unvisited
-pub record IsNextVisit (L : Layout) (pages : List (List ℕ)) (slot : Slot) (old new : Reached) : Type 0 where
+pub record IsNextVisit (L : Layout) (pages : List (List ℕ)) (slot : Slot) (old new : WalkState) : Type 0 where
   pub going : IsGoing pages new
   pub same : outcome_at L pages slot old ≡ outcome L pages new
   pub fewer : unseen_pages new.visited < unseen_pages old.visited

@@ -8,9 +8,11 @@ use Rattle.vm_bytes_file.proofs.empty.empty_image.Goals as goal
 
 pub loop-free-preserved : goal.loop-free-preserved
 loop-free-preserved c =
-    let (some, are) = c.loop-free.invariant in
-    (omega (arith, some), c.in_ok-push-3.ensures.items ∙ ap (λ (page : List ℕ). c.loop-free.made.items ++ page ∷ []) c.zero.ensures
-    ∙ ap (λ (made : List (List ℕ)). made ++ replicate 512 0 ∷ []) are ∙ one_more c.loop-free._free some)
+    let (some, are) = c.loop-free.invariant in (
+      omega (arith, some),
+      c.in_ok-push-3.ensures.items ∙ ap (λ (page : List ℕ). c.loop-free.made.items ++ page ∷ []) c.zero.ensures
+          ∙ ap (λ (made : List (List ℕ)). made ++ replicate 512 0 ∷ []) are ∙ one_more c.loop-free._free some,
+    )
 
 pub returns-clause-tree : goal.returns-clause-tree
 returns-clause-tree c =

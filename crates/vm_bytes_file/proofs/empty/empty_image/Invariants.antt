@@ -1,6 +1,5 @@
-use Rattle.std.proofs.Common.{◌≡◌, ◌-◌, ◌≤◌, ◌∷◌, replicate}
-use Rattle.vm_bytes_form.specs.Forms.{form_of}
-use Rattle.vm_bytes_file.specs.KeyFiles.{empty_leaf, empty_pages, first_page}
+use Rattle.std.proofs.Common.{◌≡◌, ◌≤◌}
+use Rattle.vm_bytes_file.specs.KeyFiles.{empty_pages}
 use Rattle.vm_bytes_file.proofs.empty.empty_image.Given as goal
 
 -- the free pages up to this one are made

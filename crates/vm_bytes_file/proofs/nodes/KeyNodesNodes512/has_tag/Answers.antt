@@ -1,4 +1,3 @@
-use Rattle.std.proofs.Common.{sym, ◌∙◌}
 use Rattle.vm_bytes_form.specs.Forms.{node_in}
 use Rattle.vm_bytes_node.proofs.HeaderLemmas.{tag_is}
 use Rattle.vm_bytes_file.proofs.KeyNodeTests.{tag_test}
