@@ -11,7 +11,7 @@ use Rattle.vm_words.specs.declared.form.FormSlot.{FormSlot}
 use Rattle.vm_words.specs.declared.form.FormVerb.{FormVerb}
 use Rattle.vm_words.specs.declared.form.FormVerb.TheVariants as verbs
 use Rattle.vm_words.specs.declared.Command.{Command}
-use Rattle.vm_words.specs.declared.Command.TheVariants.{Run, Make, Check, Churn, Replay, Migrate, Serve}
+use Rattle.vm_words.specs.declared.Command.TheVariants.{Run, Make, Check, Churn, Replay, Migrate, Serve, MakeBytes}
 
 -- the command that was entered, with what clap found for it
 abbrev pub Entered : Type 0
@@ -66,6 +66,7 @@ line_of (Serve serve) = (
   verbs.Serve,
   named serve.file.now ∷ named serve.script.now ∷ counted serve.workers ∷ counted serve.frames ∷ [],
 )
+line_of (MakeBytes make) = (verbs.MakeBytes, named make.file.now ∷ counted make.pages ∷ [])
 
 abbrev pub IsCommand : List Text → Command → Type 0
 IsCommand words command = IsCommandLine words (line_of command).0 (line_of command).1

@@ -3,7 +3,7 @@ use Rattle.std.specs.Prelude.{Bool, true, false, List, [], ◌∷◌, Option, co
 use Rattle.std.specs.Str.{bytes_eq}
 use Rattle.clap.specs.Words.{Text}
 use Rattle.vm_words.specs.declared.form.FormVerb.{FormVerb}
-use Rattle.vm_words.specs.declared.form.FormVerb.TheVariants.{Run, Make, Check, Churn, Replay, Migrate, Serve}
+use Rattle.vm_words.specs.declared.form.FormVerb.TheVariants.{Run, Make, Check, Churn, Replay, Migrate, Serve, MakeBytes}
 use Rattle.vm_words.specs.declared.form.FormSlot.{FormSlot}
 use Rattle.vm_words.specs.declared.form.FormSlot.TheVariants.{Image, Script, Workers, Frames, Keep, Fail}
 use Rattle.vm_words.specs.declared.form.FormSlot.TheVariants.{FirstVersion, File, Pages, Pairs, Seed, Words, Input}
@@ -15,7 +15,7 @@ use Rattle.vm_words.specs.declared.form.FormKind.TheVariants.{Name, Number, Faul
 
 -- every command
 abbrev pub verbs : List FormVerb
-verbs = Run ∷ Make ∷ Check ∷ Churn ∷ Replay ∷ Migrate ∷ Serve ∷ []
+verbs = Run ∷ Make ∷ Check ∷ Churn ∷ Replay ∷ Migrate ∷ Serve ∷ MakeBytes ∷ []
 
 abbrev pub title : FormVerb → Text
 title Run = codes "run"
@@ -25,6 +25,7 @@ title Churn = codes "churn"
 title Replay = codes "replay"
 title Migrate = codes "migrate"
 title Serve = codes "serve"
+title MakeBytes = codes "make-bytes"
 
 -- the command with this name
 abbrev pub verb_at : Text → Option FormVerb
@@ -39,6 +40,7 @@ slots_in Churn = Pairs ∷ Seed ∷ Workers ∷ Frames ∷ Words ∷ []
 slots_in Replay = File ∷ []
 slots_in Migrate = Input ∷ Output ∷ Pages ∷ []
 slots_in Serve = File ∷ Script ∷ Workers ∷ Frames ∷ []
+slots_in MakeBytes = File ∷ Pages ∷ []
 
 abbrev pub slot_text : FormSlot → Text
 slot_text Image = codes "image"

@@ -14,6 +14,7 @@ pub enum FormVerb {
     Replay,
     Migrate,
     Serve,
+    MakeBytes,
 }
 
 /// A word behind a command's name.
@@ -58,7 +59,7 @@ pub enum FormKind {
 }
 
 // Every command.
-pub(crate) const VERBS: [FormVerb; 7] = [
+pub(crate) const VERBS: [FormVerb; 8] = [
     FormVerb::Run,
     FormVerb::Make,
     FormVerb::Check,
@@ -66,6 +67,7 @@ pub(crate) const VERBS: [FormVerb; 7] = [
     FormVerb::Replay,
     FormVerb::Migrate,
     FormVerb::Serve,
+    FormVerb::MakeBytes,
 ];
 
 // The command's name.
@@ -80,6 +82,7 @@ pub(crate) fn title_of<'a>(verb: FormVerb) -> &'a str
         FormVerb::Replay => "replay",
         FormVerb::Migrate => "migrate",
         FormVerb::Serve => "serve",
+        FormVerb::MakeBytes => "make-bytes",
     }
 }
 
@@ -119,6 +122,7 @@ pub(crate) fn slots_of(verb: FormVerb) -> &'static [FormSlot]
             FormSlot::Workers,
             FormSlot::Frames,
         ],
+        FormVerb::MakeBytes => &[FormSlot::File, FormSlot::Pages],
     }
 }
 

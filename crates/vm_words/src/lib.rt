@@ -25,6 +25,7 @@ pub enum Command<'a> {
     Replay(Replay<'a>),
     Migrate(Migrate<'a>),
     Serve(Serve<'a>),
+    MakeBytes(MakeBytes<'a>),
 }
 
 /// `run IMAGE SCRIPT --workers W --frames F [--keep FILE] [--fail P:N,..] [--first-version V]`
@@ -120,6 +121,15 @@ pub struct Serve<'a> {
     pub workers: u64,
     /// How many frames.
     pub frames: u64,
+}
+
+/// `make-bytes FILE PAGES`
+#[derive(Clone, Copy)]
+pub struct MakeBytes<'a> {
+    /// The name of the file that is written.
+    pub file: &'a str,
+    /// How many pages it has.
+    pub pages: u64,
 }
 
 /// Why the words gave no command.

@@ -10,7 +10,7 @@ use crate::form::{
     FormPlace, FormSlot, FormVerb, VERBS, kind_of, name_of, place_of, slots_of, title_of,
 };
 use crate::value::{Value, name, name_if_given, number, number_if_given, plan, value_of};
-use crate::{Check, Churn, Command, Make, Migrate, Options, Replay, Run, Serve};
+use crate::{Check, Churn, Command, Make, MakeBytes, Migrate, Options, Replay, Run, Serve};
 use clap::ArgMatches;
 use std::alloc::{AllocError, Global};
 
@@ -117,6 +117,10 @@ fn command_with<'a>(alloc: Global, verb: FormVerb, values: Vec<Value<'a>>) -> Co
             script: name(&mut values),
             workers: number(&mut values),
             frames: number(&mut values),
+        }),
+        FormVerb::MakeBytes => Command::MakeBytes(MakeBytes {
+            file: name(&mut values),
+            pages: number(&mut values),
         }),
     }
 }
