@@ -1,7 +1,7 @@
 -- A page that could not be brought: the note, or the worn page.
 use Rattle.std.proofs.Common.{[], ◌++◌, ◌<◌, ◌∙◌, ◌∷◌, ◌≡◌, arith, Err, List, Ok, refl, subst, sym, ℕ}
 use Rattle.vm_map.specs.{declared.call.Call.Call, declared.call.Said.Said}
-use Rattle.vm_core.specs.Prelude.{EVICTED, MAX_VERSION, word_of}
+use Rattle.vm_event.specs.Prelude.{EVICTED, MAX_VERSION, word_of}
 use Rattle.vm_rule.specs.declared.view.WordPlace.TheVariants as places
 use Rattle.vm_rule.proofs.WordFacts.{word-version}
 use Rattle.vm_step.specs.Prelude.{Origin, View}

@@ -3,7 +3,7 @@ use Rattle.std.proofs.Common.{[], ◌++◌, ◌+◌, ◌==◌, ◌∙◌, ◌∷
 use Rattle.std.proofs.Common.{length, List, Ok, refl, Result, subst, sym, ℕ}
 use Rattle.std.proofs.lemmas.List.{length-append, map-append}
 use Rattle.vm_map.specs.{declared.call.Call.Call, declared.call.Reply.Reply, declared.call.Said.Said}
-use Rattle.vm_core.specs.Prelude.{no_seat}
+use Rattle.vm_event.specs.Prelude.{no_seat}
 use Rattle.vm_rule.specs.Prelude.{Entry, entry_of, put_at, Seat, seat_of, StartsWith}
 use Rattle.vm_rule.proofs.Entries.{append-none, starts-self}
 use Rattle.vm_step.specs.Prelude.{Did, Note, Put, View}

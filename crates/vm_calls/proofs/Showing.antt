@@ -3,7 +3,7 @@ use Rattle.std.proofs.Common.{[], ◌++◌, ◌∙◌, ◌∷◌, ◌≡◌, ap,
 use Rattle.vm_map.specs.{declared.call.Call.Call, declared.call.Reply.Reply, declared.call.Said.Said}
 use Rattle.vm_map.specs.declared.call.Call.TheVariants.{Del, Get, Put, Range, Swap, Window}
 use Rattle.vm_tree_model.specs.Fixed.{fixed}
-use Rattle.vm_core.specs.Prelude.{page_at}
+use Rattle.vm_event.specs.Prelude.{page_at}
 use Rattle.vm_rule.specs.Prelude.{began_of, last_in, StartsWith}
 use Rattle.vm_step.specs.Prelude.{Origin, View}
 use Rattle.vm_tree_laws.specs.Keeps.{KeepsTree}

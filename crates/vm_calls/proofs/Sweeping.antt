@@ -1,7 +1,7 @@
 -- What a sweep tells of worn pages and of writes that failed.
 use Rattle.std.proofs.Common.{[], ⊎_elim, ◌%◌, ◌++◌, ◌+◌, ◌<◌, ◌∙◌, ◌∷◌, ◌≡◌, ◌⊎◌, ap, append_assoc, inl, inr, List}
 use Rattle.std.proofs.Common.{None, Option, refl, Some, subst, suc, sym, zero, ℕ}
-use Rattle.vm_core.specs.Prelude.{hand_more, MAX_VERSION, version_of}
+use Rattle.vm_event.specs.Prelude.{hand_more, MAX_VERSION, version_of}
 use Rattle.vm_rule.specs.Prelude.{did_change, did_load, StartsWith}
 use Rattle.vm_rule.specs.declared.view.WordPlace.TheVariants as places
 use Rattle.vm_step.specs.Prelude.{Did, first_or, HasGiven, Note, Origin, View}

@@ -5,7 +5,7 @@ use Rattle.std.specs.Prelude.{[], ◌++◌, ◌∷◌, ◌≡◌, Err, List, Ok,
 use Rattle.vm_map.specs.{declared.call.Call.Call, declared.call.Reply.Reply, declared.call.Said.Said}
 use Rattle.vm_map.specs.declared.call.Call.TheVariants.{Del, Get, Put, Range, Swap, Window}
 use Rattle.vm_tree_model.specs.{Fixed.fixed, Page.node_of}
-use Rattle.vm_core.specs.Prelude.{page_at}
+use Rattle.vm_event.specs.Prelude.{page_at}
 use Rattle.vm_owner.specs.Kept.{PagesHave}
 use Rattle.vm_rule.specs.Prelude.{began_of, Entry, Kept, last_in, StartsWith}
 use Rattle.vm_step.specs.Prelude.{Release, View}

@@ -6,7 +6,7 @@ pub use Rattle.std.proofs.{lemmas.Bool.Decides.nat_tests, Math.Nat.mod-add-mod, 
 pub use Rattle.std.proofs.lemmas.Bool.{and_left, and_right, cases_eq, cases_lt, cond-false, cond-true, eq-eqb, le-ltb}
 pub use Rattle.std.proofs.lemmas.Bool.{lt-ltb, ne_eqb, true≢false}
 pub use Rattle.std.proofs.lemmas.List.{get_or-set_other, get_or-set_same, length-append, length-set}
-pub use Rattle.vm_core.specs.Prelude.{MARKED, MAX_VERSION, UNLOCKED}
+pub use Rattle.vm_event.specs.Prelude.{MARKED, MAX_VERSION, UNLOCKED}
 pub use Rattle.vm_supply.specs.from_vm_rule.Prelude.{AreApart, did_change, did_exchange, did_load, Each, has, index_of, LookTold}
 pub use Rattle.vm_supply.specs.from_vm_rule.Prelude.{MarkTold, set_if, Start, Within}
 pub use Rattle.vm_supply.proofs.from_vm_rule.{Entries.each-map, Facts.has-both, Heard.each-both}
@@ -21,4 +21,4 @@ pub use Rattle.vm_supply.proofs.from_vm_step.Evidenced.{first-or, given-behind, 
 pub use Rattle.vm_clock.specs.{Clock.passed_word, Clock.Visits, Clock.VisitsFrame, Clock.WalksFrames, Met.HoldsChosen}
 pub use Rattle.vm_clock.specs.Clock.{FindsOwner, IsBelowLast, IsChosen, IsFrameVisited, IsPageVisited, IsPassed}
 pub use Rattle.vm_clock.specs.Clock.{IsWalked, KnowsWalked, looks_counted, LooksAt}
-unfoldable pub use Rattle.vm_core.specs.Prelude.{hand_more, state_of, version_of, word_of}
+unfoldable pub use Rattle.vm_event.specs.Prelude.{hand_more, state_of, version_of, word_of}

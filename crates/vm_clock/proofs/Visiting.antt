@@ -1,8 +1,8 @@
 -- The pages among the candidates, and what a visit comes to.
 use Rattle.vm_supply.specs.from_vm_rule.declared_view_WordPlace_TheVariants as places
 use Rattle.vm_clock.specs.Clock.{Visits as visits, VisitsFrame as frames}
-use Rattle.vm_core.specs.Prelude.{at, has_free_bit, upd}
-use Rattle.vm_core.proofs.Upd.{upd-other, upd-same}
+use Rattle.vm_event.specs.Prelude.{at, has_free_bit, upd}
+use Rattle.vm_event.proofs.Upd.{upd-other, upd-same}
 use Rattle.vm_supply.specs.from_vm_step.steps_Owner.{OwnerLoadTold}
 use Rattle.vm_supply.proofs.from_vm_step.{Asides.alone-silent, steps_Leaving.only-of, steps_Leaving.others-still}
 use Rattle.vm_supply.proofs.from_vm_step.steps_Unchanged.{still-holds, still-knows, still-own}

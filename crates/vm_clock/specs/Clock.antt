@@ -6,7 +6,7 @@
 -- marked one, which it chooses.
 use Rattle.std.specs.Prelude.{[], false, if◌then◌else◌, length, List, nat_lt, None, suc, true, zero, ℕ, ◌%◌, ◌&&◌}
 use Rattle.std.specs.Prelude.{◌*◌, ◌++◌, ◌+◌, ◌<◌, ◌==◌, ◌∷◌, ◌≡◌, ◌≢◌, ◌≤◌, ◌⊎◌}
-use Rattle.vm_core.specs.Prelude.{EVICTED, hand_more, MARKED, MAX_VERSION, state_of, UNLOCKED, version_of, word_of}
+use Rattle.vm_event.specs.Prelude.{EVICTED, hand_more, MARKED, MAX_VERSION, state_of, UNLOCKED, version_of, word_of}
 use Rattle.vm_supply.specs.from_vm_rule.Prelude.{did_change, did_exchange, did_load, has}
 use Rattle.vm_supply.specs.from_vm_rule.declared_view_WordPlace.{WordPlace}
 use Rattle.vm_supply.specs.from_vm_rule.declared_view_WordPlace_TheVariants as places

@@ -1,6 +1,6 @@
 -- A filter of the pages chosen in a walk: a bit for each page's number modulo 1,024. A page whose bit is not set was not chosen.
 use Rattle.std.specs.Prelude.{◌%◌, ◌≡◌, Bool, List, true, ℕ}
-use Rattle.vm_core.specs.Prelude.{at, has_free_bit}
+use Rattle.vm_event.specs.Prelude.{at, has_free_bit}
 use Rattle.vm_supply.specs.from_vm_rule.Prelude.{has}
 use Rattle.vm_supply.specs.from_vm_step.Prelude.{candidate_pages}
 

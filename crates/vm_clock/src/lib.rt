@@ -13,7 +13,7 @@ pub mod step;
 use crate::met::{MASKS, is_met, no_pages, note};
 use arrayvec::ArrayVec;
 use vm_block::Block;
-use vm_core::{FRAMES, MAX_VERSION, StateWord};
+use vm_event::{FRAMES, MAX_VERSION, StateWord};
 use vm_owner::Owner;
 use vm_supply::hand;
 use vm_supply::rule::{Pass, Words};

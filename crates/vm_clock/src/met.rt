@@ -1,7 +1,7 @@
 // Which pages a walk has chosen: a page is met again where another one put it into a frame that the walk had still to pass, or in the walk's
 // second round. A look goes through those chosen only where a filter has the page's bit.
 ghost use Rattle.std.specs.Prelude.{◌%◌, ◌≡◌, replicate, true};
-ghost use Rattle.vm_core.specs.Prelude.{at, has_free_bit, upd};
+ghost use Rattle.vm_event.specs.Prelude.{at, has_free_bit, upd};
 ghost use Rattle.vm_supply.specs.from_vm_rule.Prelude.{has};
 ghost use Rattle.vm_supply.specs.from_vm_step.Prelude.{candidate_pages};
 ghost use Rattle.vm_clock.specs.Met.{HoldsChosen, may_hold};

@@ -1,9 +1,9 @@
 -- A page that is left in its frame, and the hold of its number.
 use Rattle.std.proofs.Common.{◌∙◌, ◌≡◌, ap, Bool, false, sym, ℕ}
 use Rattle.std.proofs.lemmas.Bool.{cond-false}
-use Rattle.vm_core.specs.Prelude.{State, upd}
-use Rattle.vm_core.specs.declared.event.PageAct.{PageAct}
-use Rattle.vm_core.specs.Step.{acted, keeps_number, left}
+use Rattle.vm_event.specs.Prelude.{State, upd}
+use Rattle.vm_event.specs.declared.event.PageAct.{PageAct}
+use Rattle.vm_event.specs.Step.{acted, keeps_number, left}
 
 -- the hold ends
 pub left-ends : (c d e : State) (a p : ℕ) (act : PageAct) → d ≡ acted c a p act → keeps_number c p ≡ false

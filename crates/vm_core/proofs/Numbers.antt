@@ -9,8 +9,9 @@ use Rattle.std.proofs.lemmas.Nat.Bits.{bit_at-lt, bit_at-zero, bit_at_above, bit
 use Rattle.std.proofs.Math.ListN.{get_or-eq_default}
 use Rattle.std.proofs.Math.Nat.{lt-div-mul-add, mod-lt}
 use Rattle.vm_page.specs.Pages.{all_zero}
-use Rattle.vm_core.specs.Prelude.{at, has_free_bit, held_of, in_mask}
-use Rattle.vm_core.proofs.At.{at-get}
+use Rattle.vm_event.specs.Prelude.{at, has_free_bit, in_mask}
+use Rattle.vm_core.specs.Prelude.{held_of}
+use Rattle.vm_event.proofs.At.{at-get}
 use Rattle.vm_core.proofs.Starting.{none-free}
 
 -- the bit of a number that a mask has

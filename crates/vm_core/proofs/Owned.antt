@@ -1,9 +1,12 @@
 -- An owner word that is written, and the frame whose owner word an actor may write: it is a frame of the core.
 use Rattle.std.specs.Prelude.{IsSome}
 use Rattle.std.proofs.Common.{◌<◌, ◌≡◌, ap, arith, Bool, length, None, Option, refl, slice_set, Some, subst, sym, ℕ}
-use Rattle.vm_core.specs.Prelude.{core_of, CoreData, CoreFits, frame_of, HeldFrame, NamesActorAndPage, State, upd}
-use Rattle.vm_core.specs.{CoreOf.OwnedFrame, declared.event.Mapping.Mapping}
-use Rattle.vm_core.proofs.At.{at_set, frame-in}
+use Rattle.vm_event.specs.Prelude.{frame_of, NamesActorAndPage, State, upd}
+use Rattle.vm_core.specs.Prelude.{core_of, CoreData, CoreFits, HeldFrame}
+use Rattle.vm_event.specs.{declared.event.Mapping.Mapping}
+use Rattle.vm_core.specs.{CoreOf.OwnedFrame}
+use Rattle.vm_event.proofs.At.{at_set}
+use Rattle.vm_core.proofs.CorePages.{frame-in}
 
 frame-is : (t : Option Mapping) (f : ℕ) → frame_of t ≡ Some f → (dirty : Bool) × (t ≡ Some (record { frame = f; dirty = dirty }))
 frame-is None f e = absurd (let no : ⊥ = cc in no)

@@ -7,11 +7,15 @@ use Rattle.std.proofs.lemmas.List.{get_or-replicate, get_or_default, length-map,
 use Rattle.std.proofs.lemmas.Nat.Bits.{bit_at-zero}
 use Rattle.std.proofs.Math.ListN.{get_or-eq_default}
 use mathlib.Core.Path.{fun_ext}
-use Rattle.vm_core.specs.Prelude.{at, core_block, core_of, core_start, EVICTED, evicted_page, full_bundle}
-use Rattle.vm_core.specs.Prelude.{has_free_bit, held_of, LocksInv, MAX_VERSION, no_seat, outside_page, page_of}
-use Rattle.vm_core.specs.Prelude.{PageData, pages_of, start, StartBundles, StartPages, sum_below, words_of_frames}
-use Rattle.vm_core.specs.declared.event.CoreShape.{CoreShape}
-use Rattle.vm_core.proofs.At.{at-get, page-here}
+use Rattle.vm_event.specs.Prelude.{at, core_block, core_start, EVICTED, evicted_page, full_bundle}
+use Rattle.vm_core.specs.Prelude.{core_of}
+use Rattle.vm_event.specs.Prelude.{has_free_bit, LocksInv, MAX_VERSION, no_seat, outside_page}
+use Rattle.vm_core.specs.Prelude.{held_of, page_of}
+use Rattle.vm_event.specs.Prelude.{start, sum_below}
+use Rattle.vm_core.specs.Prelude.{PageData, pages_of, StartBundles, StartPages, words_of_frames}
+use Rattle.vm_event.specs.declared.event.CoreShape.{CoreShape}
+use Rattle.vm_event.proofs.At.{at-get}
+use Rattle.vm_core.proofs.CorePages.{page-here}
 
 -- the lists of the start
 pub record StartLists (shape : CoreShape) (pages : List PageData) (frames : List (List ℕ)) (bundles : List ℕ)

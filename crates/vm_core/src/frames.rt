@@ -1,11 +1,12 @@
 //! The words of frames, and the set of frames that an actor holds.
 
 ghost use Rattle.std.specs.Prelude.{◌/◌, ◌<◌, ◌↔◌, ◌≡◌, bit_or, false, IfOk, if◌then◌else◌, IsTrue, length, List, replicate, true, ℕ};
-ghost use Rattle.vm_core.specs.Prelude.{at, has_free_bit, in_mask, upd, words_of_frames};
+ghost use Rattle.vm_event.specs.Prelude.{at, has_free_bit, in_mask, upd};
+ghost use Rattle.vm_core.specs.Prelude.{words_of_frames};
 
-use crate::words::FRAMES;
 use std::alloc::{AllocError, Global};
 use std::marker::Model;
+use vm_event::FRAMES;
 use vm_page::WORDS;
 
 /// The frames that an actor holds, as a mask for each bundle.

@@ -1,13 +1,13 @@
 //! The lists of a machine at the start.
 
 ghost use Rattle.std.specs.Prelude.{◌*◌, ◌+◌, ◌-◌, ◌/◌, ◌<◌, ◌≡◌, IfOk, replicate};
-ghost use Rattle.vm_core.specs.Prelude.{core_block, full_bundle, StartBundles, StartPages};
+ghost use Rattle.vm_event.specs.Prelude.{core_block, full_bundle};
+ghost use Rattle.vm_core.specs.Prelude.{StartBundles, StartPages};
 
-use crate::event::CoreShape;
 use crate::frames::FrameSet;
 use crate::page::PageCell;
-use crate::words::FRAMES;
 use std::alloc::{AllocError, Global};
+use vm_event::{CoreShape, FRAMES};
 use vm_page::WORDS;
 
 /// The words of a page's block at the start.

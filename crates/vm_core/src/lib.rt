@@ -5,16 +5,15 @@
 //! event of it.
 #![tactic(auto)]
 
-mod event;
 mod frames;
 mod initial;
 mod machine;
 mod page;
 mod playing;
-mod words;
 
-pub use event::{CoreShape, Event, Illegal, Mapping, Open, PageAct, ReadIs, Seat, Seen};
 pub use machine::Core;
 pub use playing::{ReplayFault, replay};
-pub use vm_page::Memory;
-pub use words::{Bundle, DIRTY, FRAMES, MAX_VERSION, STRIDE, StateWord, TransWord};
+pub use vm_event::{
+    Bundle, CoreShape, DIRTY, Event, FRAMES, Illegal, MAX_VERSION, Mapping, Memory, Open, PageAct,
+    ReadIs, STRIDE, Seat, Seen, StateWord, TransWord,
+};

@@ -4,7 +4,8 @@
 //! on frames, bundles, counters and owner words stand in the child modules, those on one page in `page`.
 
 ghost use Rattle.std.specs.Prelude.{◌<◌, ◌↔◌, ◌≡◌, ◌≤◌, IfOk, IsTrue, slice_index};
-ghost use Rattle.vm_core.specs.Prelude.{core_of, core_start, CoreData, CoreFits, NamesActorAndPage, start, Steps};
+ghost use Rattle.vm_event.specs.Prelude.{core_start, NamesActorAndPage, start};
+ghost use Rattle.vm_core.specs.Prelude.{core_of, CoreData, CoreFits, Steps};
 ghost use Rattle.vm_core.specs.CoreOf.{ActSteps};
 
 mod bundles;
@@ -13,7 +14,6 @@ mod frames;
 mod numbers;
 mod owners;
 
-use crate::event::{CoreShape, Event, Illegal, PageAct, Seen};
 use crate::frames::FrameSet;
 use crate::initial::{
     bundle_count, start_bundles, start_frames, start_held, start_pages, start_words,
@@ -21,6 +21,7 @@ use crate::initial::{
 use crate::page::PageCell;
 use std::alloc::Global;
 use std::marker::Model;
+use vm_event::{CoreShape, Event, Illegal, PageAct, Seen};
 use vm_page::{Memory, WORDS};
 
 /// The machine. For contracts it is the state `core_of core` of `specs/State.antt`: its shape, its pages, the words of its frames, its bundle

@@ -4,7 +4,8 @@
 //! device. Each is tried (`try_..`): first whether it may happen, then the change.
 
 ghost use Rattle.std.specs.Prelude.{◌<◌, ◌≡◌, IfOk, length, None, slice_index};
-ghost use Rattle.vm_core.specs.Prelude.{at, core_block, evicted_page, finds, LocksInv, no_seat, page_of, page_word, PageData, PageSteps, trans_word};
+ghost use Rattle.vm_event.specs.Prelude.{at, core_block, evicted_page, finds, LocksInv, no_seat, page_word, trans_word};
+ghost use Rattle.vm_core.specs.Prelude.{page_of, PageData, PageSteps};
 
 mod device;
 mod exclusive;
@@ -12,11 +13,10 @@ mod mapping;
 mod reads;
 mod shared;
 
-use crate::event::{CoreShape, Illegal, Mapping, PageAct, Seat, Seen};
 use crate::initial::core_block;
-use crate::words::{StateWord, TransWord};
 use std::alloc::{AllocError, Global};
 use std::marker::Model;
+use vm_event::{CoreShape, Illegal, Mapping, PageAct, Seat, Seen, StateWord, TransWord};
 use vm_page::WORDS;
 
 /// One page: its state word in its two parts, its translation, its fault word, its block's count of faults and words, and a seat for each
@@ -40,7 +40,7 @@ impl Model for PageCell {
     ghost invariant = { λ r. LocksInv (length r.seats.items) r.state r.version (at no_seat r.seats.items) };
 }
 
-#[tactic(auto, using(crate::proofs::At::at_set, crate::proofs::At::seat_here))]
+#[tactic(auto, using(vm_event::proofs::At::at_set, vm_event::proofs::At::seat_here))]
 impl PageCell {
     /// A page at the start: evicted at version 0, with its block.
     pub fn new(alloc: Global, shape: CoreShape, p: u32) -> Result<Self, AllocError>

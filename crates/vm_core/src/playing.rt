@@ -3,10 +3,10 @@
 ghost use Rattle.std.specs.Prelude.{IfErr, IfOk};
 ghost use Rattle.vm_core.specs.Prelude.{core_of, Replayed};
 
-use crate::event::{Event, Seen};
 use crate::machine::Core;
 use std::alloc::Global;
 use thiserror::Error;
+use vm_event::{Event, Seen};
 
 /// Why a replay ended early.
 #[derive(Clone, Copy, Debug, Error, PartialEq)]

@@ -1,7 +1,7 @@
 -- From what the calls of all lists found to what is so at the end.
 use Rattle.std.proofs.Common.{[], ◌+◌, ◌<◌, ◌∷◌, ◌≡◌, ◌≤◌, arith, List, Result, subst, ℕ}
 use Rattle.vm_map.specs.{declared.call.Call.Call, declared.call.Reply.Reply}
-use Rattle.vm_core.specs.Prelude.{MAX_VERSION, version_of}
+use Rattle.vm_event.specs.Prelude.{MAX_VERSION, version_of}
 use Rattle.vm_rule.specs.Prelude.{last_of}
 use Rattle.vm_rule.specs.declared.view.WordPlace.TheVariants as places
 use Rattle.vm_step.specs.Prelude.{HasGiven, View}

@@ -4,7 +4,7 @@ use Rattle.std.specs.List.{AllByRecursion}
 use Rattle.std.specs.Prelude.{◌++◌, ◌+◌, ◌≡◌, ◌≤◌, Bool, length, List, map, Result, true, Vec, ℕ}
 use Rattle.vm_map.specs.{declared.call.Call.Call, declared.call.Reply.Reply, declared.call.Said.Said, History.IsAskable}
 use Rattle.vm_tree_model.specs.{Fixed.fixed, Tree.map_of}
-use Rattle.vm_core.specs.Prelude.{MAX_VERSION}
+use Rattle.vm_event.specs.Prelude.{MAX_VERSION}
 use Rattle.vm_rule.specs.Prelude.{Entry, has, HoldsNoPage, last_of, StartsWith}
 use Rattle.vm_step.specs.from_vm_rule_laws.Known.{kept_by}
 use Rattle.vm_step.specs.Prelude.{IsAlone, View}

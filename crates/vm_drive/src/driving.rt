@@ -20,7 +20,7 @@ use vm_calls::gate::Gate;
 use vm_calls::kind::{OfSize, TreeOf, WordKeys};
 use vm_calls::pool::Pool;
 use vm_calls::worker::{Worker, work};
-use vm_core::Memory;
+use vm_event::Memory;
 use vm_map::call::Call;
 use vm_map::span::Span;
 use vm_owner::Owner;

@@ -8,7 +8,7 @@ use std::alloc::{AllocError, Global};
 use std::sync::Wait;
 use std::thread::Threads;
 use vm_block::PageBlock;
-use vm_core::Memory;
+use vm_event::Memory;
 use vm_map::call::Call;
 use vm_page::WORDS;
 use vm_rule::words::Pass;

@@ -1,7 +1,7 @@
 -- The limits of the numbers of a command line.
 use Rattle.std.specs.Prelude.{◌&&◌, ◌*◌, ◌+◌, ◌==◌, ◌||◌, Bool, if◌then◌else◌, leb, length, List, None, Option, Some, ℕ}
 use Rattle.vm_image.specs.declared.blocks.PlannedFault.{PlannedFault}
-use Rattle.vm_core.specs.Prelude.{MAX_VERSION}
+use Rattle.vm_event.specs.Prelude.{MAX_VERSION}
 
 -- 1 to 64 workers
 abbrev pub are_workers : ℕ → Bool

@@ -1,7 +1,7 @@
 -- Scripts and event lists: which bytes are one, and why others are refused.
 use Rattle.std.specs.Prelude.{◌<◌, ◌≤◌, length, List, ℕ}
 use Rattle.vm_map.specs.declared.call.Call.{Call}
-use Rattle.vm_core.specs.declared.event.CoreShape.{CoreShape}
+use Rattle.vm_event.specs.declared.event.CoreShape.{CoreShape}
 use Rattle.vm_script.specs.{declared.event_line.EventLine.EventLine, Events.IsFirstBadEvent, Events.SpellsEvents}
 use Rattle.vm_script.specs.Scripts.{IsFirstBad, IsScript, most_bytes}
 

@@ -3,7 +3,7 @@
 use Rattle.std.specs.Prelude.{◌++◌, ◌≡◌, ◌⊎◌, Bool, List, None, Option, Result, Some, true, ℕ}
 use Rattle.vm_map.specs.{declared.call.Call.Call, declared.call.Reply.Reply, declared.call.Said.Said}
 use Rattle.vm_block.specs.declared.stored.Stored.{Stored}
-use Rattle.vm_core.specs.Prelude.{at}
+use Rattle.vm_event.specs.Prelude.{at}
 use Rattle.vm_device.specs.Whole.{RoseOrLast, SyncsAll}
 use Rattle.vm_rule.specs.Prelude.{no_block}
 use Rattle.vm_serve.specs.from_vm_evict.declared_flushing_Flushed.{Flushed}

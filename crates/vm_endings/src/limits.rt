@@ -3,7 +3,7 @@
 ghost use Rattle.std.specs.Prelude.{◌≡◌};
 ghost use Rattle.vm_endings.specs.Limits.{are_entries, are_frames, are_pages, are_pairs_to_churn, are_pairs_to_make, are_words, are_workers, holds_call, is_version, words_or};
 
-use vm_core::MAX_VERSION;
+use vm_event::MAX_VERSION;
 use vm_image::PlannedFault;
 
 /// Whether there are 1 to 64 workers.

@@ -7,11 +7,11 @@ pub use Rattle.std.proofs.Common.{◌&&◌, ◌++◌, ◌+◌, ◌-◌, ◌<◌,
 pub use Rattle.std.proofs.lemmas.Bool.{cases_Bool, cases_eq, cases_lt, cond-false, cond-true, eq-eqb, false≢true, ne_eqb, or_left, or_right}
 pub use Rattle.std.proofs.lemmas.List.{ext_get_or, get_or-set_other, get_or-set_same, length-append, length-set}
 pub use Rattle.vm_block.specs.Blocks.{Writes}
-pub use Rattle.vm_core.specs.Prelude.{EVICTED, frame_of, is_readable, left_open, LOCKED, mapping_at, mapping_of}
-pub use Rattle.vm_core.specs.Prelude.{MARKED, MAX_VERSION, no_seat, open_after, open_frame, trans_word, UNLOCKED}
-pub use Rattle.vm_core.specs.Prelude.{unshared, Version}
-pub use Rattle.vm_core.specs.declared.event.ReadIs.TheVariants.{Closed, Moved, Opened, Same}
-pub use Rattle.vm_core.proofs.{Upd.upd-other, Upd.upd-same}
+pub use Rattle.vm_event.specs.Prelude.{EVICTED, frame_of, is_readable, left_open, LOCKED, mapping_at, mapping_of}
+pub use Rattle.vm_event.specs.Prelude.{MARKED, MAX_VERSION, no_seat, open_after, open_frame, trans_word, UNLOCKED}
+pub use Rattle.vm_event.specs.Prelude.{unshared, Version}
+pub use Rattle.vm_event.specs.declared.event.ReadIs.TheVariants.{Closed, Moved, Opened, Same}
+pub use Rattle.vm_event.proofs.{Upd.upd-other, Upd.upd-same}
 pub use Rattle.vm_owner.proofs.NumberLemmas.{has-last}
 pub use Rattle.vm_rule.specs.{declared.view.Held.Held, declared.view.WordPlace.WordPlace, Releases.evicted_view}
 pub use Rattle.vm_rule.specs.Prelude.{AreApart, Brings, clean_in, CleanTold, ClearTold, contents_at, did_exchange}
@@ -82,4 +82,4 @@ pub use Rattle.vm_evict.specs.Phases.{clears, disowns, Does, DoesOne, Empties, g
 pub use Rattle.vm_evict.specs.Stages.{Adds, Advances, HasLockTaken, HasNoLockOf, IsAdded, IsAt, IsCleanAt, IsEmptied}
 pub use Rattle.vm_evict.specs.Stages.{IsOver, IsOwning, IsPhaseMade, IsSeenClean, IsUnderWay, IsWaiting, IsWriting}
 pub use Rattle.vm_evict.specs.Stages.{LeavesAll, MayBeginPhase, MayEnd, Moves, none_of, owning_seat, Rests}
-unfoldable pub use Rattle.vm_core.specs.Prelude.{at, count_more, frame_in, is_dirty, state_of, version_of, word_of}
+unfoldable pub use Rattle.vm_event.specs.Prelude.{at, count_more, frame_in, is_dirty, state_of, version_of, word_of}

@@ -4,7 +4,7 @@
 -- resident and dirty, at its version. Or it changed before it could be locked.
 use Rattle.std.specs.Prelude.{[], Bool, false, if◌then◌else◌, length, List, None, Option, slice_index_or, Some, suc}
 use Rattle.std.specs.Prelude.{true, zero, ℕ, ◌++◌, ◌+◌, ◌<◌, ◌||◌, ◌∷◌, ◌≡◌, ◌≢◌, ◌⊎◌}
-use Rattle.vm_core.specs.Prelude.{EVICTED, LOCKED, mapping_of, trans_word, version_of, word_of}
+use Rattle.vm_event.specs.Prelude.{EVICTED, LOCKED, mapping_of, trans_word, version_of, word_of}
 use Rattle.vm_rule.specs.Prelude.{AreApart, clean_in, contents_at, Each, has, last_in, last_of}
 use Rattle.vm_rule.specs.declared.view.WordPlace.{WordPlace}
 use Rattle.vm_rule.specs.declared.view.WordPlace.TheVariants as places

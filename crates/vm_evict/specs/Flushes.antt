@@ -3,7 +3,7 @@
 -- before it could be locked, is busy; any other is written under a share, and is clean then, or its write failed and it stays dirty.
 use Rattle.std.specs.Prelude.{[], Bool, Err, false, if◌then◌else◌, length, List, None, Ok, Option, Result, Some, suc}
 use Rattle.std.specs.Prelude.{true, zero, ℕ, ◌++◌, ◌+◌, ◌-◌, ◌<◌, ◌==◌, ◌^◌, ◌∷◌, ◌≡◌, ◌≢◌, ◌≤◌, ◌⊎◌}
-use Rattle.vm_core.specs.Prelude.{EVICTED, mapping_of, MARKED, state_of, UNLOCKED, version_of, word_of}
+use Rattle.vm_event.specs.Prelude.{EVICTED, mapping_of, MARKED, state_of, UNLOCKED, version_of, word_of}
 use Rattle.vm_rule.specs.Prelude.{did_change, did_exchange, Each, has, seat_of, stands_dirty}
 use Rattle.vm_rule.specs.declared.view.WordPlace.{WordPlace}
 use Rattle.vm_rule.specs.declared.view.WordPlace.TheVariants as places

@@ -4,7 +4,7 @@
 -- all are released as evicted.
 -- No step is on another word than those of the candidates and the owner words of their frames.
 use Rattle.std.specs.Prelude.{length, List, None, slice_index_or, ℕ, ◌++◌, ◌+◌, ◌-◌, ◌<◌, ◌^◌, ◌≡◌, ◌⊎◌}
-use Rattle.vm_core.specs.Prelude.{EVICTED, LOCKED, trans_word, version_of, word_of}
+use Rattle.vm_event.specs.Prelude.{EVICTED, LOCKED, trans_word, version_of, word_of}
 use Rattle.vm_rule.specs.Prelude.{did_change, did_exchange, did_load, did_store, Each}
 use Rattle.vm_rule.specs.declared.view.WordPlace.TheVariants as places
 use Rattle.vm_supply.specs.from_vm_step.Prelude.{Did}

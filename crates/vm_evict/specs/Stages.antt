@@ -2,7 +2,7 @@
 -- pass's view now; and what the
 -- steps of a phase on one candidate come to.
 use Rattle.std.specs.Prelude.{[], Bool, false, IsSome, length, List, None, Some, true, ℕ, ◌++◌, ◌+◌, ◌<◌, ◌∷◌, ◌≡◌, ◌≢◌, ◌⊎◌}
-use Rattle.vm_core.specs.Prelude.{mapping_of, version_of, word_of}
+use Rattle.vm_event.specs.Prelude.{mapping_of, version_of, word_of}
 use Rattle.vm_rule.specs.Prelude.{clean_in, draft_of, Each, has, held_at, IsLocking, last_of, Seat, seat_of, stands_dirty, StartsWith}
 use Rattle.vm_rule.specs.declared.view.WordPlace.TheVariants as places
 use Rattle.vm_supply.specs.from_vm_step.Prelude.{candidate_pages, Did, HoldsPage, IsAlone, IsToldOf, KeepsNumbers, KnowsAsBefore}

@@ -2,7 +2,7 @@
 -- Such a pass loses a candidate only
 -- where it knew another word of the page than the one at which the page was marked; and it has written none of those that it lost.
 use Rattle.std.specs.Prelude.{false, List, None, true, ℕ, ◌+◌, ◌≡◌, ◌≢◌}
-use Rattle.vm_core.specs.Prelude.{EVICTED, LOCKED, trans_word, UNLOCKED, version_of, word_of}
+use Rattle.vm_event.specs.Prelude.{EVICTED, LOCKED, trans_word, UNLOCKED, version_of, word_of}
 use Rattle.vm_rule.specs.{declared.view.WordPlace.WordPlace, Prelude.has}
 use Rattle.vm_rule.specs.declared.view.WordPlace.TheVariants as places
 use Rattle.vm_supply.specs.from_vm_step.Prelude.{known_word_at, View}

@@ -2,7 +2,7 @@
 -- becomes clean; or the write
 -- fails, and its fault is noted. The page stays locked, and in its frame.
 use Rattle.std.specs.Prelude.{[], Bool, Err, false, length, List, None, Ok, Option, Result, Some, true, ℕ, ◌++◌, ◌<◌, ◌∷◌, ◌≡◌, ◌≤◌, ◌⊎◌}
-use Rattle.vm_core.specs.Prelude.{at, mapping_of, trans_word}
+use Rattle.vm_event.specs.Prelude.{at, mapping_of, trans_word}
 use Rattle.vm_rule.specs.Prelude.{clean_in, did_load, did_store, dirty_in, Each, held_at, last_of, Seat, seat_of}
 use Rattle.vm_rule.specs.Prelude.{stands_dirty, TranslationTold}
 use Rattle.vm_rule.specs.declared.view.WordPlace.{WordPlace}

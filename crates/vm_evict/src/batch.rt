@@ -9,7 +9,7 @@ ghost use Rattle.vm_evict.specs.Stages.{IsOver, IsPhaseMade, IsUnderWay, MayBegi
 use crate::candidate::{Phase, Stage, advance};
 use crate::report::Evicted;
 use vm_block::PageBlock;
-use vm_core::FRAMES;
+use vm_event::FRAMES;
 use vm_owner::Owner;
 use vm_rule::words::{Pass, Words};
 use vm_supply::step::Looks;

@@ -9,7 +9,7 @@ ghost use Rattle.vm_evict.specs.Stages.{Advances, Carries, IsAt, MayBeginPhase};
 
 use crate::write::{dirty_frame, write_where_dirty};
 use vm_block::{Block, PageBlock};
-use vm_core::{StateWord, TransWord};
+use vm_event::{StateWord, TransWord};
 use vm_owner::Owner;
 use vm_rule::words::{Pass, Words};
 use vm_supply::step::{

@@ -1,6 +1,6 @@
 // All dirty pages that nobody has locked are written, and stay resident.
 ghost use Rattle.std.specs.Prelude.{◌+◌, ◌<◌, ◌≡◌, ◌⊎◌, None};
-ghost use Rattle.vm_core.specs.Prelude.{MARKED, state_of, UNLOCKED};
+ghost use Rattle.vm_event.specs.Prelude.{MARKED, state_of, UNLOCKED};
 ghost use Rattle.vm_rule.specs.Prelude.{LookTold};
 ghost use Rattle.vm_page.specs.Sizes.{IsSize};
 ghost use Rattle.vm_supply.specs.from_vm_step.Prelude.{GoesOn, IsReadyOn, view};
@@ -8,7 +8,7 @@ ghost use Rattle.vm_evict.specs.Flushes.{done_of, IsCounted, IsFlushed, IsVisit,
 
 use crate::write::{dirty_frame, write_where_dirty};
 use vm_block::{Block, PageBlock};
-use vm_core::StateWord;
+use vm_event::StateWord;
 use vm_owner::Owner;
 use vm_rule::words::{Pass, Words};
 use vm_supply::step::{Took, lock_write_back, look_silently, mark, tload, unlock_shared};

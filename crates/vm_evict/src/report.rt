@@ -3,7 +3,7 @@ ghost use Rattle.std.specs.Prelude.{[], ◌<◌, ◌≡◌, length};
 ghost use Rattle.vm_evict.specs.Stages.{IsAdded, IsOver, none_of};
 
 use crate::candidate::Stage;
-use vm_core::FRAMES;
+use vm_event::FRAMES;
 use vm_supply::step::{Batch, Looks};
 
 /// What became of the candidates of an eviction.

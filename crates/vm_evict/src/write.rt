@@ -6,7 +6,7 @@ ghost use Rattle.vm_supply.specs.from_vm_step.Prelude.{GoesOn, IsReadyOn, view};
 ghost use Rattle.vm_evict.specs.Writes.{EndsWrite, IsCopied, IsDirtyFrame, IsFoundToWrite, IsUnderWriteBack, WritesBack};
 
 use vm_block::{Block, PageBlock};
-use vm_core::TransWord;
+use vm_event::TransWord;
 use vm_owner::Owner;
 use vm_page::PageBuf;
 use vm_rule::words::{Pass, Words};

@@ -10,8 +10,8 @@ pub use Rattle.std.proofs.lemmas.Bool.{and_left, and_parts, and_right, cases_Boo
 pub use Rattle.std.proofs.lemmas.Bool.{eqb-true, le-ltb, ne_eqb, or_left, or_parts, or_right, true≢false}
 pub use Rattle.std.proofs.lemmas.Nat.Bits.{bit_at-lt, bit_at-pow_other, bit_at-pow_same, bit_at-zero, bit_at_or}
 pub use Rattle.std.proofs.lemmas.Nat.Bits.{same_from_bits_below, shr_and_one}
-pub use Rattle.vm_core.specs.{Prelude.AreLowest, Prelude.no_seat, Words.bit_count}
-pub use Rattle.vm_core.proofs.Locks.{sum_below-at}
+pub use Rattle.vm_event.specs.{Prelude.AreLowest, Prelude.no_seat, Words.bit_count}
+pub use Rattle.vm_event.proofs.Locks.{sum_below-at}
 pub use Rattle.vm_supply.specs.from_vm_rule.{Bundles.taken_view, declared_view_WordPlace.WordPlace}
 pub use Rattle.vm_supply.specs.from_vm_rule.Prelude.{AreApart, Brings, bundles_of, BundleTold, contents_at, did_change, did_exchange}
 pub use Rattle.vm_supply.specs.from_vm_rule.Prelude.{did_load, Each, frames_below, GiveTold, has, index_of, IsLocking, last_in}
@@ -31,5 +31,5 @@ pub use Rattle.vm_exmap.specs.{Walks.PassesBy.empty, Walks.PassesBy.lost}
 pub use Rattle.vm_exmap.specs.Returns.{AreGiven, GivesFromFirst, is_of, KnowsGiven}
 pub use Rattle.vm_exmap.specs.Visits.{IsEmptyVisit, IsFound, IsLostVisit, IsTakenVisit}
 pub use Rattle.vm_exmap.specs.Walks.{Asks, bundle_at, Dry, IsDry, PassesBy, TakesBits, TakesFrom, Walks}
-unfoldable pub use Rattle.vm_core.specs.Prelude.{in_mask}
+unfoldable pub use Rattle.vm_event.specs.Prelude.{in_mask}
 unfoldable pub use Rattle.vm_supply.specs.from_vm_rule.Prelude.{frames_in}

@@ -1,7 +1,7 @@
 -- How frames go back to the bundles: for each bundle that has some of them, by rising number, one step that sets their bits.
 use Rattle.std.specs.Prelude.{[], bit_or, Bool, false, if◌then◌else◌, length, List, min, suc, zero, ℕ, ◌&&◌, ◌++◌}
 use Rattle.std.specs.Prelude.{◌-◌, ◌/◌, ◌<◌, ◌==◌, ◌∷◌, ◌≡◌, ◌⊎◌}
-use Rattle.vm_core.specs.Prelude.{in_mask}
+use Rattle.vm_event.specs.Prelude.{in_mask}
 use Rattle.vm_supply.specs.from_vm_rule.Prelude.{bundles_of, did_change, FRAMES, has}
 use Rattle.vm_supply.specs.from_vm_rule.declared_view_WordPlace.{WordPlace}
 use Rattle.vm_supply.specs.from_vm_step.Prelude.{Did, IsAlone, known_word_at, KnowsAt, View}

@@ -1,6 +1,6 @@
 -- How an interface comes to frames: from its own, or by a walk over the bundles, from its home bundle on and round.
 use Rattle.std.specs.Prelude.{[], bit_xor, false, length, List, max, min, suc, zero, ℕ, ◌%◌, ◌++◌, ◌+◌, ◌<◌, ◌∷◌, ◌≡◌, ◌≢◌, ◌⊎◌}
-use Rattle.vm_core.specs.Prelude.{AreLowest}
+use Rattle.vm_event.specs.Prelude.{AreLowest}
 use Rattle.vm_supply.specs.from_vm_rule.Prelude.{bundles_of, did_exchange, did_load, Each, frames_in, has}
 use Rattle.vm_supply.specs.from_vm_rule.declared_view_WordPlace.{WordPlace}
 use Rattle.vm_supply.specs.from_vm_step.Prelude.{Did, IsAlone, IsSaw, known_word_at, KnowsElse, KnowsSame, NoneExpected, NoWord, View}

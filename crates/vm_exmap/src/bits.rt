@@ -1,10 +1,10 @@
 // The frames of a bundle's bits, and the bits of frames.
 ghost use Rattle.std.specs.Prelude.{◌*◌, ◌<◌, ◌^◌, ◌≡◌, ℕ};
-ghost use Rattle.vm_core.specs.Prelude.{in_mask};
+ghost use Rattle.vm_event.specs.Prelude.{in_mask};
 ghost use Rattle.vm_supply.specs.from_vm_rule.Prelude.{frames_in};
 ghost use Rattle.vm_exmap.specs.Returns.{is_of};
 
-use vm_core::FRAMES;
+use vm_event::FRAMES;
 use vm_supply::step::Batch;
 
 /// The frames of bundle `g` whose bits are set, by rising number.

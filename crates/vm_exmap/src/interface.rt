@@ -9,7 +9,7 @@ ghost use Rattle.vm_exmap.specs.Walks.{HandsOut, IsAlloc, NotLost, as_batch};
 use crate::bits::mask_of;
 use crate::walk::walk;
 use vm_block::Block;
-use vm_core::FRAMES;
+use vm_event::FRAMES;
 use vm_owner::Owner;
 use vm_supply::give;
 use vm_supply::rule::{Pass, Words};

@@ -6,7 +6,7 @@ ghost use Rattle.vm_exmap.specs.Visits.{IsVisited, IsWalk};
 use crate::bits::frames_of;
 use crate::interface::Alloc;
 use vm_block::Block;
-use vm_core::{Bundle, FRAMES};
+use vm_event::{Bundle, FRAMES};
 use vm_owner::Owner;
 use vm_supply::rule::{Pass, Words};
 use vm_supply::step::{At, Saw, Took};

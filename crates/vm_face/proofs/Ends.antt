@@ -2,7 +2,7 @@
 use Rattle.std.proofs.Common.{[], ◌<◌, ◌∙◌, ◌≡◌, ap, Bool, length, List, subst, sym, true, ℕ}
 use Rattle.vm_map.specs.{declared.call.Said.Said, History.after_all}
 use Rattle.vm_tree_model.specs.{Fixed.fixed, Layout.Layout, Tree.IsTree, Tree.map_of}
-use Rattle.vm_core.specs.Prelude.{at}
+use Rattle.vm_event.specs.Prelude.{at}
 use Rattle.vm_rule.specs.Prelude.{began_of, block_words, Entry, last_of, listed, no_block, Stored}
 use Rattle.vm_rule.proofs.ListFacts.{at-map, length-mapped, listed-long}
 use Rattle.vm_rule.proofs.Parts.{listed-same}

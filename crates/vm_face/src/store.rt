@@ -3,7 +3,7 @@
 ghost use Rattle.std.specs.Prelude.{[], ◌++◌, ◌+◌, ◌<◌, ◌∷◌, ◌≡◌, ◌≤◌, IfErr, IfOk, length, List, map, true, ℕ};
 ghost use Rattle.std.specs.Arc.{arc_value};
 ghost use Rattle.std.specs.Vec.{vec_capacity};
-ghost use Rattle.vm_core.specs.Prelude.{MAX_VERSION};
+ghost use Rattle.vm_event.specs.Prelude.{MAX_VERSION};
 ghost use Rattle.vm_rule.specs.Prelude.{block_words};
 ghost use Rattle.vm_step.specs.Prelude.{view};
 ghost use Rattle.vm_serve.specs.Served.{MayBeServed};
@@ -18,7 +18,7 @@ use crate::home::Returned;
 use std::alloc::Global;
 use std::sync::Arc;
 use vm_block::PageBlock;
-use vm_core::Memory;
+use vm_event::Memory;
 use vm_evict::{Flushed, flush};
 use vm_handover::{Taker, handover};
 use vm_owner::Owner;

@@ -1,6 +1,6 @@
 -- The page was found evicted and locked, and its block was read: it is installed with the block's words and released,
 -- or released as evicted.
-use Rattle.vm_core.specs.Fn as fns
+use Rattle.vm_event.specs.Fn as fns
 use Rattle.vm_fault.proofs.Ending.{both-within, brought-at, brought-once, brought-silent, EndsAs, evicted-ends}
 use Rattle.vm_fault.proofs.Ending.{failed-at, failed-once, failed-silent, IsHeldEmpty, page-within, still-draft}
 use Rattle.vm_fault.proofs.Ending.{still-free, still-last, still-owns, still-paid, unlocked-ends}

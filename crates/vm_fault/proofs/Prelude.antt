@@ -5,7 +5,7 @@ pub use Rattle.std.proofs.Common.{sym, true, ℕ, ⊎_elim, ◌++◌, ◌+◌, �
 pub use Rattle.std.proofs.lemmas.Bool.{cases_eq, cond-false, false≢true, ne_eqb, or_left}
 pub use Rattle.std.proofs.lemmas.Option.{none-some}
 pub use Rattle.vm_block.specs.Blocks.{Reads}
-pub use Rattle.vm_core.specs.Prelude.{EVICTED, LOCKED, MAX_VERSION, trans_word, UNLOCKED, Version}
+pub use Rattle.vm_event.specs.Prelude.{EVICTED, LOCKED, MAX_VERSION, trans_word, UNLOCKED, Version}
 pub use Rattle.vm_supply.specs.from_vm_rule.{declared_view_Held.Held, declared_view_WordPlace.WordPlace}
 pub use Rattle.vm_supply.specs.from_vm_rule.Prelude.{Brings, Change, clean_in, did_exchange, did_load, did_store, draft_of, Each}
 pub use Rattle.vm_supply.specs.from_vm_rule.Prelude.{Entry, EvictTold, has, held_at, HomeTold, InstallTold, IsHeldAt, IsLocking}
@@ -38,4 +38,4 @@ pub use Rattle.vm_supply.proofs.from_vm_step.steps_Release.{release-silent}
 pub use Rattle.vm_fault.specs.Fetches.{IsBrought, IsFailed, IsFetched, IsFetchToTry, IsFetchWorn, IsFoundEvicted}
 pub use Rattle.vm_fault.specs.Fetches.{IsLostTo, IsOfBoth, IsReleasedAs, IsWornIn, KnowsReleased, locks_out}
 pub use Rattle.vm_fault.specs.Fetches.{ReadsOnce, releases_as}
-unfoldable pub use Rattle.vm_core.specs.Prelude.{count_more, state_of, version_of, word_of}
+unfoldable pub use Rattle.vm_event.specs.Prelude.{count_more, state_of, version_of, word_of}

@@ -2,8 +2,8 @@
 -- that it had: resident in
 -- the frame, or evicted again where its block could not be read.
 use Rattle.std.specs.Prelude.{[], List, None, slice_index, Some, true, ℕ, ◌++◌, ◌+◌, ◌<◌, ◌∷◌, ◌≡◌, ◌≢◌, ◌≤◌, ◌⊎◌}
-use Rattle.vm_core.specs.Fn as fns
-use Rattle.vm_core.specs.Prelude.{EVICTED, LOCKED, MAX_VERSION, state_of, trans_word, UNLOCKED, version_of, word_of}
+use Rattle.vm_event.specs.Fn as fns
+use Rattle.vm_event.specs.Prelude.{EVICTED, LOCKED, MAX_VERSION, state_of, trans_word, UNLOCKED, version_of, word_of}
 use Rattle.vm_supply.specs.from_vm_rule.Prelude.{clean_in, did_exchange, did_store, Each, last_in, last_of, LockTold}
 use Rattle.vm_supply.specs.from_vm_rule.Prelude.{LookTold, Start, without}
 use Rattle.vm_supply.specs.from_vm_rule.declared_view_WordPlace.{WordPlace}

@@ -1,13 +1,13 @@
 // A page that is not in memory is brought from its block into a frame.
 ghost use Rattle.std.specs.Prelude.{◌<◌, ◌≡◌, None, true};
-ghost use Rattle.vm_core.specs.Prelude.{EVICTED, MAX_VERSION};
+ghost use Rattle.vm_event.specs.Prelude.{EVICTED, MAX_VERSION};
 ghost use Rattle.vm_page.specs.Sizes.{IsSize};
 ghost use Rattle.vm_supply.specs.from_vm_rule.Prelude.{has};
 ghost use Rattle.vm_supply.specs.from_vm_step.Prelude.{GoesOn, IsReadyOn, view};
 ghost use Rattle.vm_fault.specs.Fetches.{IsFetched, IsFoundEvicted};
 
 use vm_block::PageBlock;
-use vm_core::{MAX_VERSION, StateWord};
+use vm_event::{MAX_VERSION, StateWord};
 use vm_owner::Owner;
 use vm_page::PageBuf;
 use vm_supply::rule::{Pass, Words};

@@ -5,7 +5,7 @@ use Rattle.std.proofs.lemmas.Bool.{cases_lt, eq-eqb}
 use Rattle.vm_map.specs.{declared.call.Call.Call, declared.call.Reply.Reply, declared.call.Said.Said}
 use Rattle.vm_tree_model.specs.{Fixed.fixed, Tree.map_of}
 use Rattle.vm_page.specs.Counts.{count_more}
-use Rattle.vm_core.specs.Prelude.{at}
+use Rattle.vm_event.specs.Prelude.{at}
 use Rattle.vm_block.specs.declared.stored.Stored.{Stored}
 use Rattle.vm_device.specs.Devices.{DeviceState, is_faulty, size_of, StoredFile, words_at}
 use Rattle.vm_device.specs.Whole.{AreSynced, HaveBlocksWords, IsAfterSync, RoseOrLast, SyncsAll}

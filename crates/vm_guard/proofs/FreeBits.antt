@@ -6,8 +6,8 @@ use Rattle.std.proofs.Common.{ℕ}
 use Rattle.std.proofs.lemmas.Bool.{and_from, cases_Bool, cases_eq, false≢true, ne_eqb}
 use Rattle.std.proofs.lemmas.Bool.Decides.{nat_tests}
 use Rattle.std.proofs.lemmas.Nat.Bits.{bit_at-lt, bit_at-zero, bit_at_and, bit_at_xor, same_from_bits}
-use Rattle.vm_core.specs.Prelude.{AreLowest, in_mask}
-use Rattle.vm_core.specs.Words.{bit_count}
+use Rattle.vm_event.specs.Prelude.{AreLowest, in_mask}
+use Rattle.vm_event.specs.Words.{bit_count}
 use Rattle.vm_owner.specs.Numbers.{has}
 use Rattle.vm_rule.specs.Bundles.{frames_in}
 use Rattle.vm_rule.proofs.Bundled.{has-frames_in}

@@ -2,7 +2,7 @@
 -- call for fresh ones takes.
 use Rattle.std.specs.Prelude.{bit_xor}
 use Rattle.std.proofs.Common.{inl, inr}
-use Rattle.vm_core.specs.{Prelude.AreLowest, Prelude.Version, Words.bit_count}
+use Rattle.vm_event.specs.{Prelude.AreLowest, Prelude.Version, Words.bit_count}
 use Rattle.vm_page.specs.Pages.{all_zero}
 use Rattle.vm_rule.specs.FreeNumbers.{SpareTold, TakeNumbersTold}
 use Rattle.vm_rule.specs.Prelude.{IsLocking}

@@ -2,7 +2,7 @@
 use Rattle.std.proofs.Common.{[], ◌&&◌, ◌==◌, ◌≡◌, ◌≢◌, ◌∙◌, ◌∷◌, ap, Bool, false, inl, inr, List, refl, slice_index}
 use Rattle.std.proofs.Common.{subst, suc, sym, true, zero, ℕ}
 use Rattle.std.proofs.lemmas.Bool.{ne_eqb}
-use Rattle.vm_core.specs.Prelude.{Version}
+use Rattle.vm_event.specs.Prelude.{Version}
 use Rattle.vm_page.specs.Pages.{all_zero}
 use Rattle.vm_rule.specs.Prelude.{draft_of, last_of, Start}
 use Rattle.vm_step.specs.Prelude.{Did, IsClaimed, View}

@@ -1,5 +1,5 @@
 -- What looks and loads leave of the open read of their page, when a look leaves it in place, and which frame a load under a lock reads.
-use Rattle.vm_core.proofs.PageFacts.{none-some}
+use Rattle.vm_event.proofs.PageFacts.{none-some}
 use Rattle.vm_guard.proofs.Prelude.{[], and_from, ap, arith, began_of, Bool, cases_Bool, cases_eq, cond-false}
 use Rattle.vm_guard.proofs.Prelude.{cond-true, Each, eq-eqb, eqb, EVICTED, false, frame_in, frame_of, frame_or}
 use Rattle.vm_guard.proofs.Prelude.{frame_read_by, framed, has_lock, HoldsPage, if◌then◌else◌, inl, inr, is_dirty}

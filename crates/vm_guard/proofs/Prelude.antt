@@ -12,12 +12,12 @@ pub use Rattle.std.proofs.lemmas.List.{get_or-set_other, get_or-set_same, get_or
 pub use Rattle.std.proofs.lemmas.List.{length-replicate, length-set, length-take-le, reverse-append, set-get_or}
 pub use Rattle.std.proofs.lemmas.List.{take_more_set}
 pub use Rattle.std.proofs.lemmas.Result.{err_from_is_err_and, IfErr-weaker, IfOk-weaker}
-pub use Rattle.vm_core.specs.{declared.event.ReadIs.TheVariants.Same, FrameActs.frame_or}
-pub use Rattle.vm_core.specs.Prelude.{EVICTED, frame_of, framed, History, is_readable, kept_loads, left_open}
-pub use Rattle.vm_core.specs.Prelude.{loads_more, LoadsAre, LOCKED, mapping_at, mapping_of, MARKED, MAX_VERSION}
-pub use Rattle.vm_core.specs.Prelude.{MayLock, MayShare, one_share_more, open_after, open_frame, trans_word, UNLOCKED}
-pub use Rattle.vm_core.specs.Prelude.{Version}
-pub use Rattle.vm_core.proofs.{PageFacts.some-same, Upd.upd-other}
+pub use Rattle.vm_event.specs.{declared.event.ReadIs.TheVariants.Same, FrameActs.frame_or}
+pub use Rattle.vm_event.specs.Prelude.{EVICTED, frame_of, framed, History, is_readable, kept_loads, left_open}
+pub use Rattle.vm_event.specs.Prelude.{loads_more, LoadsAre, LOCKED, mapping_at, mapping_of, MARKED, MAX_VERSION}
+pub use Rattle.vm_event.specs.Prelude.{MayLock, MayShare, one_share_more, open_after, open_frame, trans_word, UNLOCKED}
+pub use Rattle.vm_event.specs.Prelude.{Version}
+pub use Rattle.vm_event.proofs.{PageFacts.some-same, Upd.upd-other}
 pub use Rattle.vm_owner.proofs.NumberLemmas.{has-without_other, without-none}
 pub use Rattle.vm_rule.specs.{declared.view.Held.Held, declared.view.WordPlace.WordPlace, Looks.NamesFrame}
 pub use Rattle.vm_rule.specs.Prelude.{AreApart, at_state, began_of, Brings, Change, changes_of, ClaimTold, clean_in}
@@ -85,5 +85,5 @@ pub use Rattle.vm_guard.specs.Quiet.{IsQuiet, IsSteady, LeavesNone, LeavesTable,
 pub use Rattle.vm_guard.specs.Sure.{IsKnownAt, IsKnownFree, IsUnlockedWord, known_next, known_word, KnowsStates}
 pub use Rattle.vm_guard.specs.Sure.{MayBeSeized, unmarked_word, words_with}
 pub use Rattle.vm_guard.specs.Takes.{HasRoom, IsToExpect, PassMayRelease, SaysWhy}
-unfoldable pub use Rattle.vm_core.specs.Prelude.{frame_in, is_dirty, state_of, version_of, word_of}
+unfoldable pub use Rattle.vm_event.specs.Prelude.{frame_in, is_dirty, state_of, version_of, word_of}
 unfoldable pub use Rattle.vm_rule.specs.Prelude.{numbers}

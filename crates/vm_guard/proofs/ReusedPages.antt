@@ -1,6 +1,6 @@
 -- The pages that a call gives whose numbers were free, one or two: their numbers are taken, and each page is locked and put into a frame.
 use Rattle.std.proofs.Common.{replicate}
-use Rattle.vm_core.specs.Prelude.{in_mask}
+use Rattle.vm_event.specs.Prelude.{in_mask}
 use Rattle.vm_rule.specs.Bundles.{frames_in}
 use Rattle.vm_rule.specs.FreeNumbers.{TakeNumbersTold}
 use Rattle.vm_rule.proofs.Bundled.{frames_in-apart, has-frames_in}

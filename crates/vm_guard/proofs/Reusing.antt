@@ -1,6 +1,6 @@
 -- Pages whose numbers were taken from a free-number word: the steps on that word, what a pass leaves that gives the numbers back, and why.
 use Rattle.std.proofs.Common.{bit_xor, eq-eqb, replicate}
-use Rattle.vm_core.specs.Prelude.{in_mask}
+use Rattle.vm_event.specs.Prelude.{in_mask}
 use Rattle.vm_owner.proofs.NumberLemmas.{without-none}
 use Rattle.vm_page.specs.Pages.{all_zero}
 use Rattle.vm_rule.specs.Bundles.{frames_in}

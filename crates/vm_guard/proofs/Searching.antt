@@ -1,6 +1,6 @@
 -- The loads of free-number words with which a call for fresh pages begins leave all that the pass has; and so pages
 -- that are given are given by the whole call.
-use Rattle.vm_core.specs.Words.{bit_count}
+use Rattle.vm_event.specs.Words.{bit_count}
 use Rattle.vm_rule.specs.FreeNumbers.{SpareTold}
 use Rattle.vm_rule.specs.Bundles.{frames_in}
 use Rattle.vm_step.proofs.{Numbers.has-numbers, steps.Leaving.own-self, Together.numbers-length}

@@ -2,7 +2,7 @@
 -- look and the exchange leave. And a page
 -- that is held beside it.
 use Rattle.std.specs.Prelude.{IfOk}
-use Rattle.vm_core.proofs.PageFacts.{some-is}
+use Rattle.vm_event.proofs.PageFacts.{some-is}
 use Rattle.vm_owner.specs.Kept.{entries_under}
 use Rattle.vm_step.proofs.Asides.{knows-then, still-locking}
 use Rattle.vm_step.proofs.steps.Share.{where-said, where-taken}

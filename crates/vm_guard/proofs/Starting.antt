@@ -1,5 +1,5 @@
 -- The start of an optimistic guard: what its looks, the mark that it takes away and its load of the translation word prove of each answer.
-use Rattle.vm_core.proofs.PageFacts.{none-some}
+use Rattle.vm_event.proofs.PageFacts.{none-some}
 use Rattle.vm_step.specs.Evidence.Begins.{read}
 use Rattle.vm_guard.proofs.OpenReads.{each-parts, holds-back, left-same, looked-open, looked-same, mapped-frame}
 use Rattle.vm_guard.proofs.OpenReads.{named, readable-state, reads-by, translated-keeps, translated-reading}

@@ -1,7 +1,7 @@
 -- The mark of a page is taken away, or was not there: one exchange, or no step. It leaves the view, and the word that
 -- it leaves is none that
 -- a later look denies a call by; and which steps leave at most the page's word without its mark.
-use Rattle.vm_core.proofs.PageFacts.{none-some}
+use Rattle.vm_event.proofs.PageFacts.{none-some}
 use Rattle.vm_guard.proofs.Prelude.{[], ap, AreQuiet, AreUnmarking, arith, At, Begins, cases_eq, cond-false}
 use Rattle.vm_guard.proofs.Prelude.{cond-true, Did, did_exchange, did_load, Each}
 use Rattle.vm_guard.specs.Quiet.{IsUnmark}

@@ -1,6 +1,6 @@
 -- What a guard's release to a share leaves: the draft is the page's next version, and the pass has one share of the page.
 use Rattle.std.specs.Prelude.{[], ◌++◌, ◌+◌, ◌∷◌, ◌≡◌, false, List, true, ℕ}
-use Rattle.vm_core.specs.Prelude.{word_of}
+use Rattle.vm_event.specs.Prelude.{word_of}
 use Rattle.vm_rule.specs.Prelude.{did_store, draft_of, held_at, last_of, loads_at, next_after, seat_of, without}
 use Rattle.vm_rule.specs.Releases.{freed_by, numbers_left}
 use Rattle.vm_rule.specs.declared.view.WordPlace.{WordPlace}

@@ -3,7 +3,7 @@
 -- every other answer nothing is claimed, no lock is kept and the frames are as they were.
 use Rattle.std.specs.Prelude.{[], ◌++◌, ◌+◌, ◌<◌, ◌∷◌, ◌≡◌, ◌≤◌, ◌⊎◌, Bool, false, length, List, None, Option}
 use Rattle.std.specs.Prelude.{replicate, reverse, Some, true, ℕ}
-use Rattle.vm_core.specs.Prelude.{LOCKED, MAX_VERSION, MayLock, version_of, word_of}
+use Rattle.vm_event.specs.Prelude.{LOCKED, MAX_VERSION, MayLock, version_of, word_of}
 use Rattle.vm_rule.specs.Prelude.{contents_at, did_load, did_store, draft_of, Each, has, held_at, IsLocking, IsUnheld}
 use Rattle.vm_rule.specs.Prelude.{last_of, loads_at, Mapping, next_after, NextTold, numbers, seat_of, StartsWith}
 use Rattle.vm_rule.specs.Prelude.{without_all}

@@ -2,7 +2,7 @@
 -- gives up again. So it wastes one
 -- version of a page at most, and makes no page dirty, whoever else is there.
 use Rattle.std.specs.Prelude.{[], ◌+◌, ◌∷◌, ◌≡◌, ◌⊎◌, Bool, false, List, Some, ℕ}
-use Rattle.vm_core.specs.Prelude.{EVICTED, trans_word, version_of, word_of}
+use Rattle.vm_event.specs.Prelude.{EVICTED, trans_word, version_of, word_of}
 use Rattle.vm_rule.specs.Prelude.{clean_in, did_store}
 use Rattle.vm_rule.specs.declared.view.WordPlace.{WordPlace}
 use Rattle.vm_step.specs.Prelude.{Did, LeavesOnly, WritesNone}

@@ -1,6 +1,6 @@
 -- Fresh pages, whether their numbers were free or they were claimed: what holds of them either way.
 use Rattle.std.specs.Prelude.{[], ◌++◌, ◌<◌, ◌≡◌, ◌⊎◌, false, length, List, None, replicate, reverse, true, ℕ}
-use Rattle.vm_core.specs.Prelude.{LOCKED, word_of}
+use Rattle.vm_event.specs.Prelude.{LOCKED, word_of}
 use Rattle.vm_rule.specs.Prelude.{AreApart, contents_at, draft_of, Each, has, IsUnheld, last_of, seat_of, without_all}
 use Rattle.vm_step.specs.Prelude.{AreHeld, Did, IsAlone, View}
 use Rattle.vm_guard.specs.{declared.exclusive.ExclusiveGuard.ExclusiveGuard, Fresh.IsAmid, FreshPlaces.KnowsOthers}

@@ -1,6 +1,6 @@
 -- Groups of guards: pages whose drafts become their last words at one point, the first release of the group.
 use Rattle.std.specs.Prelude.{[], ◌&&◌, ◌++◌, ◌+◌, ◌<◌, ◌∷◌, ◌≡◌, ◌≤◌, ◌⊎◌, false, if◌then◌else◌, IsSome, List, None, Option, true, ℕ}
-use Rattle.vm_core.specs.Prelude.{MAX_VERSION, version_of}
+use Rattle.vm_event.specs.Prelude.{MAX_VERSION, version_of}
 use Rattle.vm_rule.specs.Prelude.{AreApart, AreUnchanged, began_of, Change, changes_of, did_store, draft_of, Each}
 use Rattle.vm_rule.specs.Prelude.{entries_of, Entry, has, held_at, IsLocking, Kept, last_of, loads_at, next_after}
 use Rattle.vm_rule.specs.Prelude.{ReleaseTold, seat_of, Start, without_all}

@@ -1,8 +1,8 @@
 -- What guards are to the view of their pass, and what their calls answer.
 use Rattle.std.specs.Prelude.{[], ◌++◌, ◌+◌, ◌-◌, ◌<◌, ◌^◌, ◌∷◌, ◌≡◌, ◌≢◌, ◌≤◌, ◌⊎◌, Bool, false, length, List, None}
 use Rattle.std.specs.Prelude.{Option, slice_set, Some, suc, true, ℕ}
-use Rattle.vm_core.specs.Prelude.{frame_of, is_readable, LOCKED, mapping_of, MARKED, MAX_VERSION, one_share_more}
-use Rattle.vm_core.specs.Prelude.{state_of, trans_word, UNLOCKED, unshared, version_of, word_of}
+use Rattle.vm_event.specs.Prelude.{frame_of, is_readable, LOCKED, mapping_of, MARKED, MAX_VERSION, one_share_more}
+use Rattle.vm_event.specs.Prelude.{state_of, trans_word, UNLOCKED, unshared, version_of, word_of}
 use Rattle.vm_rule.specs.Prelude.{did_change, did_exchange, did_load, did_store, dirty_in, draft_of, Each, entries_of}
 use Rattle.vm_rule.specs.Prelude.{frame_read_by, has, IsLocking, IsUnheld, IsWhole, last_of, loads_at, LockValidates}
 use Rattle.vm_rule.specs.Prelude.{LookTold, Mapping, next_after, no_held, Open, put_at, seat_of, Start, ties_below}

@@ -2,7 +2,7 @@
 -- lock that was tried more than once
 -- leaves no word but the one that took it, whoever else is there.
 use Rattle.std.specs.Prelude.{[], ◌++◌, ◌∷◌, ◌≡◌, List, None, Option, Some, ℕ}
-use Rattle.vm_core.specs.Prelude.{frame_of, LOCKED, mapping_of, one_share_more, state_of, version_of, word_of}
+use Rattle.vm_event.specs.Prelude.{frame_of, LOCKED, mapping_of, one_share_more, state_of, version_of, word_of}
 use Rattle.vm_rule.specs.Prelude.{did_exchange, did_load, Each, Mapping}
 use Rattle.vm_rule.specs.declared.view.WordPlace.{WordPlace}
 use Rattle.vm_step.specs.Prelude.{Did}

@@ -1,7 +1,7 @@
 -- What a call leaves of a view that says nothing and changes no lock: the lists and the log go on, and at most the open read of one page is
 -- another.
 use Rattle.std.specs.Prelude.{[], ◌++◌, ◌≡◌, ◌≢◌, ◌⊎◌, List, None, Some, ℕ}
-use Rattle.vm_core.specs.Prelude.{MARKED, state_of, UNLOCKED, version_of, word_of}
+use Rattle.vm_event.specs.Prelude.{MARKED, state_of, UNLOCKED, version_of, word_of}
 use Rattle.vm_rule.specs.Prelude.{Each, IsLocking, seat_of, StartsWith}
 use Rattle.vm_rule.specs.declared.view.WordPlace.{WordPlace}
 use Rattle.vm_step.specs.Prelude.{Did, HoldsPage, KeepsNumbers, KnowsAsBefore, ReadsAsBefore, Release, RunsAlone, StaysAlone, Tie, View}

@@ -4,7 +4,7 @@
 -- but that of a page at its last version.
 use Rattle.std.specs.Prelude.{[], ◌++◌, ◌<◌, ◌==◌, ◌||◌, ◌∷◌, ◌≡◌, ◌≢◌, ◌⊎◌, bit_or, bit_xor, length, List, None}
 use Rattle.std.specs.Prelude.{replicate, reverse, true, false, ℕ}
-use Rattle.vm_core.specs.Prelude.{AreLowest, LOCKED, word_of}
+use Rattle.vm_event.specs.Prelude.{AreLowest, LOCKED, word_of}
 use Rattle.vm_rule.specs.Bundles.{frames_in}
 use Rattle.vm_rule.specs.FreeNumbers.{TakeNumbersTold}
 use Rattle.vm_rule.specs.Prelude.{AreApart, contents_at, did_change, did_exchange, draft_of, Each, has, IsLocking}

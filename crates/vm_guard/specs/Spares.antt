@@ -1,7 +1,7 @@
 -- Pages whose numbers are free: how a call for fresh pages looks for them in the free-number words, from the first
 -- one on, and what it leaves of them.
 use Rattle.std.specs.Prelude.{[], ◌*◌, ◌+◌, ◌<◌, ◌∷◌, ◌≡◌, ◌≤◌, length, List, ℕ}
-use Rattle.vm_core.specs.Words.{bit_count}
+use Rattle.vm_event.specs.Words.{bit_count}
 use Rattle.vm_rule.specs.FreeNumbers.{SpareTold}
 use Rattle.vm_rule.specs.Prelude.{did_load}
 use Rattle.vm_rule.specs.declared.view.WordPlace.{WordPlace}

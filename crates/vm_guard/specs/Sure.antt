@@ -1,7 +1,7 @@
 -- What a pass that is alone knows of a page, with which a call on the page is sure to succeed; and what it knows of the table afterwards.
 use Rattle.std.specs.Prelude.{[], false, ◌*◌, ◌+◌, ◌<◌, ◌==◌, ◌∷◌, ◌≡◌, ◌≢◌, ◌≤◌, ◌⊎◌, if◌then◌else◌, List, slice_set, true, ℕ}
-use Rattle.vm_core.specs.Words.{bit_count}
-use Rattle.vm_core.specs.Prelude.{AreLowest, EVICTED, in_mask, LOCKED, MARKED, MAX_VERSION, state_of, UNLOCKED, version_of, word_of}
+use Rattle.vm_event.specs.Words.{bit_count}
+use Rattle.vm_event.specs.Prelude.{AreLowest, EVICTED, in_mask, LOCKED, MARKED, MAX_VERSION, state_of, UNLOCKED, version_of, word_of}
 use Rattle.vm_page.specs.Pages.{all_zero}
 use Rattle.vm_rule.specs.Prelude.{index_of, IsLocking, last_of, seat_of}
 use Rattle.vm_rule.specs.declared.view.WordPlace.{WordPlace}

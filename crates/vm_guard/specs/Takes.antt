@@ -1,6 +1,6 @@
 -- What a page's word tells a call that is to lock the page, and what the layer above must let a release do.
 use Rattle.std.specs.Prelude.{[], ◌∷◌, ◌≡◌, ◌≢◌, ◌⊎◌, List, None, Option, true, ℕ}
-use Rattle.vm_core.specs.Prelude.{EVICTED, is_readable, LOCKED, MAX_VERSION, MayLock, MayShare, state_of, version_of}
+use Rattle.vm_event.specs.Prelude.{EVICTED, is_readable, LOCKED, MAX_VERSION, MayLock, MayShare, state_of, version_of}
 use Rattle.vm_rule.specs.Prelude.{AreUnchanged, began_of, Change, change_of, entries_of, Entry, Start}
 use Rattle.vm_step.specs.Prelude.{View}
 use Rattle.vm_step.specs.declared.saw.At.{At}

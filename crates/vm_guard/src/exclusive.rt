@@ -1,6 +1,6 @@
 // Guards that hold a page exclusively: the page's words are the guard's draft until its release makes them the next version.
 ghost use Rattle.std.specs.Prelude.{[], ◌<◌, ◌≡◌, IfErr, IfOk, IsOk, None, option_map, slice_index, true};
-ghost use Rattle.vm_core.specs.Prelude.{MAX_VERSION, version_of};
+ghost use Rattle.vm_event.specs.Prelude.{MAX_VERSION, version_of};
 ghost use Rattle.vm_rule.specs.Prelude.{draft_of, ReleaseTold};
 ghost use Rattle.vm_step.specs.Prelude.{GoesOn, IsAlone, IsClaimed, IsFirst, IsKeptNow, IsNotOut, IsReadyOn, KnowsSame, NoWord};
 ghost use Rattle.vm_step.specs.Prelude.{UnlockedExpected, view};
@@ -14,7 +14,7 @@ use crate::fresh_pages;
 use crate::shared::SharedGuard;
 use crate::standing::{Lock, standing};
 use vm_block::Block;
-use vm_core::StateWord;
+use vm_event::StateWord;
 use vm_owner::Owner;
 use vm_rule::words::{Pass, Words};
 use vm_step::{

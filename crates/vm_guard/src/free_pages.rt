@@ -1,7 +1,7 @@
 // Calls for fresh pages: those whose numbers are free come first. Their numbers are taken from a free-number word, and then they are locked; where no word has
 // as many as are asked for, pages from the next one on are claimed.
 ghost use Rattle.std.specs.Prelude.{◌*◌, ◌+◌, ◌<◌, ◌≡◌, ◌≢◌, ◌≤◌, ◌⊎◌, IfErr, IfOk, IfSome, length, None, true, ℕ};
-ghost use Rattle.vm_core.specs.{Prelude.AreLowest, Prelude.in_mask, Words.bit_count};
+ghost use Rattle.vm_event.specs.{Prelude.AreLowest, Prelude.in_mask, Words.bit_count};
 ghost use Rattle.vm_rule.specs.FreeNumbers.{GiveNumbersTold, TakeNumbersTold};
 ghost use Rattle.vm_step.specs.Prelude.{AreHeld, GoesOn, IsAlone, IsReadyOn, LocksNone, view};
 ghost use Rattle.vm_step.specs.steps.Number.{PassMayGiveNumbers};
@@ -15,7 +15,7 @@ use crate::fresh_pages::{denied, furnish, give_back, next_pages, next_room, seiz
 use crate::given::{Fresh, NoRoom};
 use crate::group::Group;
 use vm_block::Block;
-use vm_core::{Bundle, FRAMES};
+use vm_event::{Bundle, FRAMES};
 use vm_owner::Owner;
 use vm_rule::words::{Pass, Words};
 use vm_step::{At, Batch, Saw, Took, pbload, pgive, ptake};

@@ -1,7 +1,7 @@
 // Pages that were never claimed: they are locked, given frames of zeros where they have none, and claimed for a group of the pass. Where the free-number words
 // have no page numbers they are what a call for fresh pages gives.
 ghost use Rattle.std.specs.Prelude.{◌+◌, ◌<◌, ◌≡◌, ◌≤◌, ◌⊎◌, IfErr, IfOk, IsOk, length, None, replicate, Some, true};
-ghost use Rattle.vm_core.specs.Prelude.{mapping_of};
+ghost use Rattle.vm_event.specs.Prelude.{mapping_of};
 ghost use Rattle.vm_rule.specs.Prelude.{last_of};
 ghost use Rattle.vm_step.specs.Prelude.{AreHeld, GoesOn, IsAlone, IsReadyOn, LocksNone, view};
 ghost use Rattle.vm_guard.specs.Denied.{AgainOrWorn, OnlyWorn, SameOrUnlocked};
@@ -16,7 +16,7 @@ use crate::given::{Fresh, NoRoom};
 use crate::group::Group;
 use crate::standing::Lock;
 use vm_block::Block;
-use vm_core::{MAX_VERSION, Mapping, StateWord, TransWord};
+use vm_event::{MAX_VERSION, Mapping, StateWord, TransWord};
 use vm_owner::Owner;
 use vm_rule::words::{Pass, Words};
 use vm_step::{

@@ -1,6 +1,6 @@
 // An entry that two pages prove together: the least that a caller of a share with an entry does. It stands on the guards' contracts alone.
 ghost use Rattle.std.specs.Prelude.{◌+◌, ◌++◌, ◌<◌, ◌≡◌, ◌≢◌, false, IfErr, IfOk, None, Some};
-ghost use Rattle.vm_core.specs.Prelude.{version_of};
+ghost use Rattle.vm_event.specs.Prelude.{version_of};
 ghost use Rattle.vm_rule.specs.Prelude.{entries_of, seat_of};
 ghost use Rattle.vm_step.specs.Prelude.{GoesOn, IsReadyOn, view};
 ghost use Rattle.vm_guard.specs.{Guards.IsReading, Guards.IsSharing, Pairs.SaysOfTwo};

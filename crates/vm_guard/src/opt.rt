@@ -1,7 +1,7 @@
 // Optimistic guards: a page is read without a lock, and a later look at its word tells whether all words read were of one version.
 ghost use Rattle.std.specs.Prelude.{[], ◌<◌, ◌∷◌, ◌≡◌, ◌≢◌, ◌⊎◌, IfErr, IfOk, IsOk, length, None, option_map, true};
 ghost use Rattle.vm_page.specs.Sizes.{IsSize};
-ghost use Rattle.vm_core.specs.Prelude.{is_readable, LOCKED, MAX_VERSION, MayShare, state_of, version_of};
+ghost use Rattle.vm_event.specs.Prelude.{is_readable, LOCKED, MAX_VERSION, MayShare, state_of, version_of};
 ghost use Rattle.vm_step.specs.Prelude.{GoesOn, IsAlone, IsFrameAt, IsKeptNow, IsReadyOn, KnowsUnheld, MayTell, MayTellHeld, NoneExpected};
 ghost use Rattle.vm_step.specs.Prelude.{NoWord, UnlockedExpected, view};
 ghost use Rattle.vm_guard.specs.Denied.{AgainOrNeed, AgainOrWorn, IsDenied, KeptWord, NotWorn, SameOrUnlocked};
@@ -14,7 +14,7 @@ use crate::exclusive::ExclusiveGuard;
 use crate::shared::{SharedGuard, room};
 use crate::standing::{Lock, standing};
 use vm_block::Block;
-use vm_core::{MAX_VERSION, StateWord, TransWord};
+use vm_event::{MAX_VERSION, StateWord, TransWord};
 use vm_owner::Owner;
 use vm_page::PageBuf;
 use vm_rule::words::{Pass, Words};

@@ -1,6 +1,6 @@
 // Guards that hold a share of a page: its words stay what they are.
 ghost use Rattle.std.specs.Prelude.{◌<◌, ◌≡◌, IfErr, IfOk, IsOk, slice_index, true};
-ghost use Rattle.vm_core.specs.Prelude.{MayShare};
+ghost use Rattle.vm_event.specs.Prelude.{MayShare};
 ghost use Rattle.vm_rule.specs.Prelude.{last_of};
 ghost use Rattle.vm_step.specs.Prelude.{GoesOn, IsAlone, IsReadyOn, KnowsSame, MayUnshare, NoneExpected, NoWord, view};
 ghost use Rattle.vm_guard.specs.{Denied.IsDenied, Denied.NotWorn, Quiet.IsQuiet, Quiet.LeavesTable, Sure.known_word, Takes.HasRoom, Takes.SaysWhy};
@@ -9,7 +9,7 @@ ghost use Rattle.vm_guard.specs.Guards.{IsShared, IsSharing, IsUnshared};
 use crate::deny::Deny;
 use crate::standing::{Lock, standing};
 use vm_block::Block;
-use vm_core::StateWord;
+use vm_event::StateWord;
 use vm_owner::Owner;
 use vm_rule::words::{Pass, Words};
 use vm_step::{At, Saw, Took, load, lock_shared_silently, look_silently, unlock_shared};

@@ -1,6 +1,6 @@
 // One word of a page, read optimistically: the least that a caller of the guards does. It stands on their contracts alone.
 ghost use Rattle.std.specs.Prelude.{◌<◌, ◌≡◌, IfSome, IsSome, slice_index, true};
-ghost use Rattle.vm_core.specs.Prelude.{is_readable, state_of};
+ghost use Rattle.vm_event.specs.Prelude.{is_readable, state_of};
 ghost use Rattle.vm_rule.specs.Prelude.{last_of};
 ghost use Rattle.vm_step.specs.Prelude.{GoesOn, IsAlone, IsReadyOn, StaysAlone, view};
 ghost use Rattle.vm_guard.specs.Sure.{known_word};

@@ -1,11 +1,11 @@
 // What guards that hold a lock share: the mark of a lock, and where a page stands that the pass has locked.
 ghost use Rattle.std.specs.Prelude.{◌<◌, ◌≡◌, IsSome, Some, ℕ};
-ghost use Rattle.vm_core.specs.Prelude.{mapping_of};
+ghost use Rattle.vm_event.specs.Prelude.{mapping_of};
 ghost use Rattle.vm_rule.specs.Prelude.{IsLocking, no_held, put_at, seat_of, TranslationTold};
 ghost use Rattle.vm_step.specs.Prelude.{GoesOn, IsReadyOn, view};
 
 use vm_block::Block;
-use vm_core::{Mapping, TransWord};
+use vm_event::{Mapping, TransWord};
 use vm_owner::Owner;
 use vm_rule::words::{Pass, Words};
 use vm_step::tload;

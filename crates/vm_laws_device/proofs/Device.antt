@@ -1,10 +1,10 @@
 -- The calls of a page's device, and a fault word that is raised, keep what holds of the page.
 use Rattle.std.proofs.Common.{⊎_elim, ◌∙◌, ◌≡◌, ap, Bool, length, List, Option, refl, Some, sym, ℕ}
 use Rattle.std.proofs.lemmas.Bool.{true≢false}
-use Rattle.vm_core.specs.Prelude.{block_after, History, MayCall, Page, PageInv, raised, StandsInv, WordsInv, written}
-use Rattle.vm_core.specs.{declared.event.Mapping.Mapping, DeviceActs.failed, DeviceActs.MayWrite}
-use Rattle.vm_core.proofs.Locks.{locked-from_owner}
-use Rattle.vm_core.proofs.PageFacts.{none-some, some-is, some-same}
+use Rattle.vm_event.specs.Prelude.{block_after, History, MayCall, Page, PageInv, raised, StandsInv, WordsInv, written}
+use Rattle.vm_event.specs.{declared.event.Mapping.Mapping, DeviceActs.failed, DeviceActs.MayWrite}
+use Rattle.vm_event.proofs.Locks.{locked-from_owner}
+use Rattle.vm_event.proofs.PageFacts.{none-some, some-is, some-same}
 
 -- a failed call, of the holder or of the one that writes back
 pub failed-keeps : {actors : ℕ} → {size : ℕ} → {tells : Bool} → {words : ℕ → List ℕ} → {r : Page} → {h : History}

@@ -1,9 +1,9 @@
 -- Each event on a device, the next word or the hand keeps the invariant.
 use Rattle.std.proofs.Common.{⊎_elim, eqb, inl, refl, ℕ}
 use Rattle.std.proofs.lemmas.Bool.{cases_Bool}
-use Rattle.vm_core.specs.Prelude.{Keeps, World}
-use Rattle.vm_core.specs.declared.event.Event.TheVariants.{Claim, Hand, NLoad, Raise, Read, RFail, WFail, Write}
-use Rattle.vm_core.proofs.Whole.{page-alone}
+use Rattle.vm_event.specs.Prelude.{Keeps, World}
+use Rattle.vm_event.specs.declared.event.Event.TheVariants.{Claim, Hand, NLoad, Raise, Read, RFail, WFail, Write}
+use Rattle.vm_event.proofs.Whole.{page-alone}
 use Rattle.vm_laws_device.proofs.Device.{failed-keeps, raised-keeps, written-keeps}
 
 pub read_law : (w : World) (a p : ℕ) → Keeps w (Read a p)

@@ -5,8 +5,9 @@ use Rattle.std.proofs.Common.{⊎_elim, ◌%◌, ◌+◌, ◌/◌, ◌<◌, ◌�
 use Rattle.std.proofs.Common.{inr, max, min, sym, true, ℕ}
 use Rattle.std.proofs.lemmas.Bool.{and_from, and_left, and_right, cases_eq, eq-eqb, ne_eqb}
 use Rattle.std.proofs.lemmas.Nat.Bits.{bit_at-lt, bit_at_and, bit_at_or, bit_at_xor}
-use Rattle.vm_core.specs.Prelude.{has_free_bit, in_mask, upd}
-use Rattle.vm_core.proofs.{Masks.apart, Upd.upd-other, Upd.upd-same}
+use Rattle.vm_event.specs.Prelude.{has_free_bit, in_mask, upd}
+use Rattle.vm_event.proofs.{Upd.upd-other, Upd.upd-same}
+use Rattle.vm_event.proofs.Masks.{apart}
 
 -- one bit of a word, of a mask among it, and of their difference
 bits-cases : (x m y : ℕ) → x < 2 → m < 2 → m ≡ min m x → y ≡ (x + m) % 2 → ((m ≡ 1) × (x ≡ 1) × (y ≡ 0)) ⊎ ((m ≡ 0) × (y ≡ x))

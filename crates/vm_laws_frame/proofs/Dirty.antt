@@ -1,12 +1,12 @@
 -- A translation that is made dirty or clean keeps what holds of the page.
 use Rattle.std.proofs.Common.{◌<◌, ◌∙◌, ◌≡◌, ◌≢◌, ◌≤◌, ap, arith, Bool, false, IsSome, List, None, Option, refl, Some, subst, sym, true, ℕ}
 use Rattle.std.proofs.lemmas.Bool.{true≢false}
-use Rattle.vm_core.specs.Prelude.{EVICTED, History, LoadsAre, LOCKED, LocksInv, MayClean, MayDirty, Page, PageInv}
-use Rattle.vm_core.specs.Prelude.{ReadInv, ReadsPage, stands_in, sum_below, with_dirty}
-use Rattle.vm_core.specs.{declared.event.Mapping.Mapping, declared.event.Open.Open, declared.event.Seat.Seat}
-use Rattle.vm_core.specs.{FrameActs.cleaned, FrameActs.dirtied}
-use Rattle.vm_core.proofs.Locks.{locked-from_owner, shared-state, sum_below-at}
-use Rattle.vm_core.proofs.PageFacts.{none-some, some-is, some-same}
+use Rattle.vm_event.specs.Prelude.{EVICTED, History, LoadsAre, LOCKED, LocksInv, MayClean, MayDirty, Page, PageInv}
+use Rattle.vm_event.specs.Prelude.{ReadInv, ReadsPage, stands_in, sum_below, with_dirty}
+use Rattle.vm_event.specs.{declared.event.Mapping.Mapping, declared.event.Open.Open, declared.event.Seat.Seat}
+use Rattle.vm_event.specs.{FrameActs.cleaned, FrameActs.dirtied}
+use Rattle.vm_event.proofs.Locks.{locked-from_owner, shared-state, sum_below-at}
+use Rattle.vm_event.proofs.PageFacts.{none-some, some-is, some-same}
 
 -- the frame of the translation stays
 pub dirty-stands : (dirty : Bool) (trans : Option Mapping) (f : ℕ) → stands_in (with_dirty dirty trans) f ≡ stands_in trans f

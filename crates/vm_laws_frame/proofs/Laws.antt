@@ -2,17 +2,17 @@
 use Rattle.std.proofs.Common.{⊎_elim, ◌+◌, ◌∙◌, ◌≡◌, ap, arith, Bool, cond, eqb, false, length, refl, subst, sym, true, ℕ}
 use Rattle.std.proofs.lemmas.Bool.{and_from, and_right, cases_Bool, eq-eqb, eqb-true, false≢true, ne_eqb, true≢false}
 use Rattle.std.proofs.lemmas.List.{length-set}
-use Rattle.vm_core.specs.Prelude.{at_actor, at_page, cleared, FrameInv, Free, gains, has_free_bit, HoldsAt, in_mask}
-use Rattle.vm_core.specs.Prelude.{installed, Inv, Keeps, Legal, Mapped, MayDirty, Page, PageInv, stands_in, State}
-use Rattle.vm_core.specs.Prelude.{upd, World}
-use Rattle.vm_core.specs.declared.event.Event.TheVariants.{BLoad, Clean, Clear, Dirty, Disown, Give, Install, Load}
-use Rattle.vm_core.specs.declared.event.Event.TheVariants.{OLoad, Own, PBLoad, PGive, PTake, Store, Take, TLoad}
-use Rattle.vm_core.specs.{Inv.FramePlace.Held, Step.owned}
-use Rattle.vm_core.proofs.Spares.{inv-beside}
+use Rattle.vm_event.specs.Prelude.{at_actor, at_page, cleared, FrameInv, Free, gains, has_free_bit, HoldsAt, in_mask}
+use Rattle.vm_event.specs.Prelude.{installed, Inv, Keeps, Legal, Mapped, MayDirty, Page, PageInv, stands_in, State}
+use Rattle.vm_event.specs.Prelude.{upd, World}
+use Rattle.vm_event.specs.declared.event.Event.TheVariants.{BLoad, Clean, Clear, Dirty, Disown, Give, Install, Load}
+use Rattle.vm_event.specs.declared.event.Event.TheVariants.{OLoad, Own, PBLoad, PGive, PTake, Store, Take, TLoad}
+use Rattle.vm_event.specs.{Inv.FramePlace.Held, Step.owned}
+use Rattle.vm_event.proofs.Spares.{inv-beside}
 use Rattle.std.specs.Prelude.{bit_or, bit_xor}
-use Rattle.vm_core.specs.Step.{given_by, taken_by}
-use Rattle.vm_core.proofs.Upd.{each-upd, upd-keeps, upd-map, upd-other, upd-same}
-use Rattle.vm_core.proofs.Whole.{frame-same, page-alone, pages-page}
+use Rattle.vm_event.specs.Step.{given_by, taken_by}
+use Rattle.vm_event.proofs.Upd.{each-upd, upd-keeps, upd-map, upd-other, upd-same}
+use Rattle.vm_event.proofs.Whole.{frame-same, page-alone, pages-page}
 use Rattle.vm_laws_frame.proofs.{Bits.given-free, Bits.taken-free, Put.cleared-keeps, Put.installed-keeps}
 use Rattle.vm_laws_frame.proofs.{Read.frame_read-keeps, Read.loaded-keeps, Store.store-elsewhere, Store.store-here}
 use Rattle.vm_laws_frame.proofs.Dirty.{cleaned-keeps, dirtied-keeps, dirty-stands}

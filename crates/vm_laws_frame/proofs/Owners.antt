@@ -2,11 +2,11 @@
 -- owner word of its frame is written.
 use Rattle.std.proofs.Common.{⊎_elim, ◌+◌, ◌∙◌, ◌≡◌, ◌≢◌, ap, Some, sym, true, ℕ}
 use Rattle.std.proofs.lemmas.Bool.{cases_eq}
-use Rattle.vm_core.specs.Prelude.{frame_of, Inv, LOCKED, MayDirty, on_page, OwnersInv, Page, stands_in, upd, World}
-use Rattle.vm_core.specs.{declared.event.Mapping.Mapping, Step.changed_at, Step.owned}
-use Rattle.vm_core.proofs.{Locks.locked-from_owner, PageFacts.some-is}
-use Rattle.vm_core.proofs.OwnerWords.{stands-in, word-elsewhere, word-written}
-use Rattle.vm_core.proofs.Upd.{each-upd, upd-other, upd-same}
+use Rattle.vm_event.specs.Prelude.{frame_of, Inv, LOCKED, MayDirty, on_page, OwnersInv, Page, stands_in, upd, World}
+use Rattle.vm_event.specs.{declared.event.Mapping.Mapping, Step.changed_at, Step.owned}
+use Rattle.vm_event.proofs.{Locks.locked-from_owner, PageFacts.some-is}
+use Rattle.vm_event.proofs.OwnerWords.{stands-in, word-elsewhere, word-written}
+use Rattle.vm_event.proofs.Upd.{each-upd, upd-other, upd-same}
 
 -- a page that is held exclusively, with another translation
 pub held-owners : (w : World) (i : Inv w) (a p : ℕ) (r : Page) → ((w.core.pages p).seats a).exclusive ≡ true

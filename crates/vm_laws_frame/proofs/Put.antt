@@ -1,8 +1,8 @@
 -- A page that is put into a frame, or taken out of it, keeps what holds of it.
 use Rattle.std.proofs.Common.{◌∙◌, ◌≡◌, arith, Bool, false, List, None, Option, refl, Some, subst, sym, ℕ}
-use Rattle.vm_core.specs.Prelude.{cleared, History, installed, LOCKED, MayInstall, Page, PageInv, ReadInv, StandsInv}
-use Rattle.vm_core.specs.{declared.event.Mapping.Mapping, declared.event.Open.Open, FrameActs.MayClear}
-use Rattle.vm_core.proofs.{Locks.locked-from_owner, PageFacts.none-some, PageFacts.some-same}
+use Rattle.vm_event.specs.Prelude.{cleared, History, installed, LOCKED, MayInstall, Page, PageInv, ReadInv, StandsInv}
+use Rattle.vm_event.specs.{declared.event.Mapping.Mapping, declared.event.Open.Open, FrameActs.MayClear}
+use Rattle.vm_event.proofs.{Locks.locked-from_owner, PageFacts.none-some, PageFacts.some-same}
 
 -- a locked page, wherever it stands
 locked-stands : {state version : ℕ} → {trans : Option Mapping} → {h : History} → (next : Option Mapping)

@@ -2,11 +2,11 @@
 use Rattle.std.proofs.Common.{[], ⊎_elim, ◌++◌, ◌<◌, ◌∙◌, ◌∷◌, ◌≡◌, ◌≤◌, ◌⊎◌, ap, Bool, inl, inr, List, None, Option}
 use Rattle.std.proofs.Common.{refl, slice_index, Some, subst, sym, ℕ}
 use Rattle.std.proofs.lemmas.Bool.{cases_Bool, cond-false, cond-true}
-use Rattle.vm_core.specs.Prelude.{frame_of, frame_read, framed, History, load_frame, loads_more, LoadsAre, open_frame}
-use Rattle.vm_core.specs.Prelude.{Page, PageInv, ReadInv, ReadsPage, upd, word_at}
-use Rattle.vm_core.specs.{declared.event.Mapping.Mapping, declared.event.Open.Open, FrameActs.frame_or, FrameActs.reads_locked}
-use Rattle.vm_core.proofs.{Locks.locks-seat, Upd.each-upd, Upd.upd-self}
-use Rattle.vm_core.proofs.PageFacts.{faults-seat, reads-seat, some-same}
+use Rattle.vm_event.specs.Prelude.{frame_of, frame_read, framed, History, load_frame, loads_more, LoadsAre, open_frame}
+use Rattle.vm_event.specs.Prelude.{Page, PageInv, ReadInv, ReadsPage, upd, word_at}
+use Rattle.vm_event.specs.{declared.event.Mapping.Mapping, declared.event.Open.Open, FrameActs.frame_or, FrameActs.reads_locked}
+use Rattle.vm_event.proofs.{Locks.locks-seat, Upd.each-upd, Upd.upd-self}
+use Rattle.vm_event.proofs.PageFacts.{faults-seat, reads-seat, some-same}
 
 frame-cases : (q : Option ℕ) (n f : ℕ) → frame_or q n ≡ Some f → (q ≡ Some f) ⊎ (n ≡ f)
 frame-cases None n f e = inr (some-same n f e)

@@ -2,9 +2,9 @@
 use Rattle.std.proofs.Common.{◌∙◌, ◌≡◌, ap, arith, Bool, false, List, Option, slice_set, Some, subst, sym, true, ℕ}
 use Rattle.std.proofs.lemmas.Bool.{eq-eqb, false≢true, true≢false}
 use Rattle.std.proofs.lemmas.List.{length-set}
-use Rattle.vm_core.specs.Prelude.{History, HoldsAt, LoadsAre, LOCKED, Page, PageInv, ReadsPage, stands_in, upd, WordsInv}
-use Rattle.vm_core.specs.declared.event.Mapping.{Mapping}
-use Rattle.vm_core.proofs.{Locks.locked-from_owner, PageFacts.some-same, Upd.upd-other, Upd.upd-same}
+use Rattle.vm_event.specs.Prelude.{History, HoldsAt, LoadsAre, LOCKED, Page, PageInv, ReadsPage, stands_in, upd, WordsInv}
+use Rattle.vm_event.specs.declared.event.Mapping.{Mapping}
+use Rattle.vm_event.proofs.{Locks.locked-from_owner, PageFacts.some-same, Upd.upd-other, Upd.upd-same}
 
 -- the words of a page that stands elsewhere
 elsewhere : (words : ℕ → List ℕ) (f : ℕ) (ws : List ℕ) (trans : Option Mapping) → stands_in trans f ≡ false

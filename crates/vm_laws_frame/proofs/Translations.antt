@@ -1,8 +1,8 @@
 -- What a translation word says, and that it says what was written.
 use Rattle.std.proofs.Common.{◌%◌, ◌<◌, ◌^◌, ◌∙◌, ◌≡◌, ap, arith, Bool, false, None, Option, refl, Some, true, ℕ}
-use Rattle.vm_core.specs.Prelude.{frame_in, is_dirty, mapping_at, mapping_of, trans_word}
-use Rattle.vm_core.specs.declared.event.Mapping.{Mapping}
-use Rattle.vm_core.proofs.WordBits.{frame-of, top-clear, top-set}
+use Rattle.vm_event.specs.Prelude.{frame_in, is_dirty, mapping_at, mapping_of, trans_word}
+use Rattle.vm_event.specs.declared.event.Mapping.{Mapping}
+use Rattle.vm_event.proofs.WordBits.{frame-of, top-clear, top-set}
 use Rattle.vm_laws_frame.specs.Translations.{FitsWord, TranslationsRead}
 
 no-frame : (word : ℕ) → word % 2 ^ 63 ≡ 0 → frame_in word ≡ None

@@ -1,7 +1,7 @@
 -- What a translation word says.
 use Rattle.std.specs.Prelude.{◌%◌, ◌<◌, ◌^◌, ◌≡◌, None, Option, Some, ℕ}
-use Rattle.vm_core.specs.Prelude.{mapping_of, trans_word}
-use Rattle.vm_core.specs.declared.event.Mapping.{Mapping}
+use Rattle.vm_event.specs.Prelude.{mapping_of, trans_word}
+use Rattle.vm_event.specs.declared.event.Mapping.{Mapping}
 
 -- the frame's number has 32 bits
 abbrev pub FitsWord : Option Mapping → Type 0

@@ -2,8 +2,8 @@
 #![tactic(auto)]
 
 ghost use Rattle.std.specs.Prelude.{ℕ};
-ghost use Rattle.vm_core.specs.Prelude.{Keeps, World};
-ghost use Rattle.vm_core.specs.declared.event.Event.TheVariants.{BLoad, Clean, Clear, Dirty, Disown, Give, Install, Load, OLoad, Own, PBLoad, PGive, PTake, Store, Take, TLoad};
+ghost use Rattle.vm_event.specs.Prelude.{Keeps, World};
+ghost use Rattle.vm_event.specs.declared.event.Event.TheVariants.{BLoad, Clean, Clear, Dirty, Disown, Give, Install, Load, OLoad, Own, PBLoad, PGive, PTake, Store, Take, TLoad};
 ghost use Rattle.vm_laws_frame.specs.Translations.{TranslationsRead};
 
 /// A translation load keeps the invariant.

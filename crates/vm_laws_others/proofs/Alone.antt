@@ -1,9 +1,9 @@
 -- Who may have a page locked beside whom: nobody beside its exclusive holder, and one actor alone may call its device.
 use Rattle.std.proofs.Common.{⊎_elim, ◌<◌, ◌||◌, ◌∙◌, ◌≡◌, ◌≤◌, ◌⊎◌, arith, Bool, false, inl, inr, refl, sym, true, ℕ}
 use Rattle.std.proofs.lemmas.Bool.Decides.{nat_tests}
-use Rattle.vm_core.specs.Prelude.{LOCKED, LocksInv, MayCall, OneHolder, Page, share_count, sum_below}
-use Rattle.vm_core.specs.declared.event.Seat.{Seat}
-use Rattle.vm_core.proofs.Locks.{locked-from_owner, sum_below-at}
+use Rattle.vm_event.specs.Prelude.{LOCKED, LocksInv, MayCall, OneHolder, Page, share_count, sum_below}
+use Rattle.vm_event.specs.declared.event.Seat.{Seat}
+use Rattle.vm_event.proofs.Locks.{locked-from_owner, sum_below-at}
 
 -- two exclusive holders are one
 pub one-holder : {actors state version : ℕ} → {seats : ℕ → Seat} → LocksInv actors state version seats → (a b : ℕ)

@@ -1,8 +1,8 @@
 -- What an act on a page's translation or device leaves of the page.
 use Rattle.std.proofs.Common.{⊎_elim, ◌∙◌, ◌≡◌, ◌⊎◌, arith, Bool, false, inl, inr, List, None, Option, refl, Some, sym, true, true≢false, ℕ}
-use Rattle.vm_core.specs.Prelude.{count_more, frame_of, History, LocksInv, MayCall, Page, raised, with_dirty, written}
-use Rattle.vm_core.specs.{declared.event.Mapping.Mapping, DeviceActs.failed, FrameActs.cleaned}
-use Rattle.vm_core.proofs.Locks.{locked-from_owner}
+use Rattle.vm_event.specs.Prelude.{count_more, frame_of, History, LocksInv, MayCall, Page, raised, with_dirty, written}
+use Rattle.vm_event.specs.{declared.event.Mapping.Mapping, DeviceActs.failed, FrameActs.cleaned}
+use Rattle.vm_event.proofs.Locks.{locked-from_owner}
 use Rattle.vm_laws_others.specs.Leaves.{CountsMove, stands_dirty}
 use Rattle.vm_laws_others.proofs.{Alone.one-caller, Alone.unshared-beside, Page.counts-same, Page.PageLeaves}
 

@@ -2,12 +2,12 @@
 use Rattle.std.proofs.Common.{⊎_elim, ◌&&◌, ◌+◌, ◌||◌, ◌∙◌, ◌≡◌, ◌≢◌, ◌≤◌, ap, arith, Bool, cond, eqb, false, inl}
 use Rattle.std.proofs.Common.{List, refl, slice_set, Some, subst, sym, true, ℕ}
 use Rattle.std.proofs.lemmas.Bool.{and_left, cases_Bool, cond-false, eq-eqb, eqb-true, false≢true, ne_eqb}
-use Rattle.vm_core.specs.Prelude.{at_actor, at_page, Free, History, HoldsAt, in_mask, Inv, Mapped, Nowhere, Page, stands_in, upd, World}
-use Rattle.vm_core.specs.{declared.event.Mapping.Mapping, FrameActs.MayDirty, History.stored, History.writes_to}
-use Rattle.vm_core.specs.{Inv.FramePlace, Inv.FramePlace.Held}
-use Rattle.vm_core.specs.declared.event.Event.TheVariants.{BLoad, Claim, Disown, Give, Hand, Load, NLoad, OLoad, Own, Store, Take}
-use Rattle.vm_core.specs.Step.{given_by, MayStore, owned, taken_by}
-use Rattle.vm_core.proofs.{OwnerWords.word-elsewhere, PageFacts.some-is, Upd.upd-other}
+use Rattle.vm_event.specs.Prelude.{at_actor, at_page, Free, History, HoldsAt, in_mask, Inv, Mapped, Nowhere, Page, stands_in, upd, World}
+use Rattle.vm_event.specs.{declared.event.Mapping.Mapping, FrameActs.MayDirty, History.stored, History.writes_to}
+use Rattle.vm_event.specs.{Inv.FramePlace, Inv.FramePlace.Held}
+use Rattle.vm_event.specs.declared.event.Event.TheVariants.{BLoad, Claim, Disown, Give, Hand, Load, NLoad, OLoad, Own, Store, Take}
+use Rattle.vm_event.specs.Step.{given_by, MayStore, owned, taken_by}
+use Rattle.vm_event.proofs.{OwnerWords.word-elsewhere, PageFacts.some-is, Upd.upd-other}
 use Rattle.vm_laws_others.specs.Leaves.{Leaves, LeavesOthers}
 use Rattle.vm_laws_others.proofs.Alone.{one-caller, one-holder}
 use Rattle.vm_laws_others.proofs.Page.{loads-other, page-same, PageLeaves}

@@ -1,20 +1,20 @@
 -- Each event leaves what the other actors know and hold.
 use Rattle.std.proofs.Common.{⊎_elim, ◌≡◌, ◌≢◌, Bool, inl, List, refl, subst, ℕ}
 use Rattle.std.proofs.lemmas.Bool.{cases_Bool}
-use Rattle.vm_core.specs.Prelude.{finds, History, on_page, Page, upd, World}
-use Rattle.vm_core.specs.declared.event.Event.{Event}
-use Rattle.vm_core.specs.declared.event.Event.TheVariants.{BLoad, Claim, Clean, Clear, Dirty, Disown, Downgrade, Give}
-use Rattle.vm_core.specs.declared.event.Event.TheVariants.{Hand, Install, Load, LockS, LockW, LockX, Look, Mark}
-use Rattle.vm_core.specs.declared.event.Event.TheVariants.{NLoad, OLoad, Own, Raise, Read, Release, ReleaseE, RFail}
-use Rattle.vm_core.specs.declared.event.Event.TheVariants.{Store, PBLoad, PGive, PTake, Take, TLoad, UnlockS, Unmark}
-use Rattle.vm_core.specs.declared.event.Event.TheVariants.{Upgrade, WFail, Write}
-use Rattle.vm_core.proofs.Upd.{upd-other, upd-self}
+use Rattle.vm_event.specs.Prelude.{finds, History, on_page, Page, upd, World}
+use Rattle.vm_event.specs.declared.event.Event.{Event}
+use Rattle.vm_event.specs.declared.event.Event.TheVariants.{BLoad, Claim, Clean, Clear, Dirty, Disown, Downgrade, Give}
+use Rattle.vm_event.specs.declared.event.Event.TheVariants.{Hand, Install, Load, LockS, LockW, LockX, Look, Mark}
+use Rattle.vm_event.specs.declared.event.Event.TheVariants.{NLoad, OLoad, Own, Raise, Read, Release, ReleaseE, RFail}
+use Rattle.vm_event.specs.declared.event.Event.TheVariants.{Store, PBLoad, PGive, PTake, Take, TLoad, UnlockS, Unmark}
+use Rattle.vm_event.specs.declared.event.Event.TheVariants.{Upgrade, WFail, Write}
+use Rattle.vm_event.proofs.Upd.{upd-other, upd-self}
 use Rattle.vm_laws_others.specs.Leaves.{Leaves, LeavesOthers}
 use Rattle.vm_laws_others.proofs.Device.{cleaned-leaves, failed-leaves, mapped-leaves, raised-leaves, written-leaves}
 use Rattle.vm_laws_others.proofs.Frames.{bundle_load-leaves, claim-leaves, disown-leaves, give-leaves, hand-leaves}
 use Rattle.vm_laws_others.proofs.Frames.{load-leaves, next_load-leaves, own_page-leaves, owner_load-leaves}
 use Rattle.vm_laws_others.proofs.Frames.{store-leaves, take-leaves}
-use Rattle.vm_core.specs.Step.{number_left}
+use Rattle.vm_event.specs.Step.{number_left}
 use Rattle.vm_laws_others.proofs.Spares.{give_numbers-leaves, leaves-beside, spare_load-leaves, take_numbers-leaves}
 use Rattle.vm_laws_others.proofs.Page.{loads-other, page-leaves, page-same, PageLeaves}
 use Rattle.vm_laws_others.proofs.State.{locked-leaves, marked-leaves, release-leaves, seat-leaves, shared-leaves}

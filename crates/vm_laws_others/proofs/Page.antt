@@ -1,7 +1,7 @@
 -- From what an event leaves of one page to what it leaves of the world.
 use Rattle.std.proofs.Common.{◌<◌, ◌≡◌, ◌≢◌, ◌≤◌, ap, arith, Bool, List, refl, true, ℕ}
-use Rattle.vm_core.specs.Prelude.{History, Page, upd, World}
-use Rattle.vm_core.proofs.Upd.{each-upd, each-upd2, upd-other}
+use Rattle.vm_event.specs.Prelude.{History, Page, upd, World}
+use Rattle.vm_event.proofs.Upd.{each-upd, each-upd2, upd-other}
 use Rattle.vm_laws_others.specs.Leaves.{CountsMove, Leaves, PageMoves, Untouched}
 
 -- what an event of the actor a leaves of one page and of its history

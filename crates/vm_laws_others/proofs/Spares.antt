@@ -2,9 +2,9 @@
 use Rattle.std.specs.Prelude.{bit_or, bit_xor, Bool, ℕ}
 use Rattle.std.proofs.Common.{⊎_elim, eqb}
 use Rattle.std.proofs.lemmas.Bool.{cases_Bool}
-use Rattle.vm_core.specs.Prelude.{upd, World}
-use Rattle.vm_core.specs.Step.{given_by, taken_by}
-use Rattle.vm_core.specs.declared.event.Event.TheVariants.{PBLoad, PGive, PTake}
+use Rattle.vm_event.specs.Prelude.{upd, World}
+use Rattle.vm_event.specs.Step.{given_by, taken_by}
+use Rattle.vm_event.specs.declared.event.Event.TheVariants.{PBLoad, PGive, PTake}
 use Rattle.vm_laws_others.specs.Leaves.{Leaves, LeavesActor, LeavesOthers}
 use Rattle.vm_laws_others.proofs.Frames.{nothing-leaves}
 

@@ -1,12 +1,12 @@
 -- What an act on a state word leaves of its page.
 use Rattle.std.proofs.Common.{◌+◌, ◌-◌, ◌<◌, ◌∙◌, ◌≡◌, ◌≢◌, ◌≤◌, arith, refl, sym, true, ℕ}
-use Rattle.vm_core.specs.Prelude.{appended, drafted, EVICTED, finds, History, LOCKED, locked, LocksInv, MARKED}
-use Rattle.vm_core.specs.Prelude.{marked, MayLock, MayShare, MayUnlock, MayUpgrade, one_share_more, Page, shared}
-use Rattle.vm_core.specs.Prelude.{state_of, sum_below, UNLOCKED, unlocked, unmarked, upd, upgraded, version_of}
-use Rattle.vm_core.specs.Prelude.{write_locked}
-use Rattle.vm_core.specs.declared.event.Seat.{Seat}
-use Rattle.vm_core.proofs.{PageFacts.found, Upd.upd-other}
-use Rattle.vm_core.proofs.Locks.{locked-from_owner, shared-state, sum_below-at}
+use Rattle.vm_event.specs.Prelude.{appended, drafted, EVICTED, finds, History, LOCKED, locked, LocksInv, MARKED}
+use Rattle.vm_event.specs.Prelude.{marked, MayLock, MayShare, MayUnlock, MayUpgrade, one_share_more, Page, shared}
+use Rattle.vm_event.specs.Prelude.{state_of, sum_below, UNLOCKED, unlocked, unmarked, upd, upgraded, version_of}
+use Rattle.vm_event.specs.Prelude.{write_locked}
+use Rattle.vm_event.specs.declared.event.Seat.{Seat}
+use Rattle.vm_event.proofs.{PageFacts.found, Upd.upd-other}
+use Rattle.vm_event.proofs.Locks.{locked-from_owner, shared-state, sum_below-at}
 use Rattle.vm_laws_others.proofs.{Alone.one-holder, Alone.unshared-beside, Page.counts-same, Page.PageLeaves}
 
 -- an act that changes the state and the actor's own seat, at the same version; a draft may be opened where nobody holds the page

@@ -2,8 +2,8 @@
 //! keep their words, no version falls. The laws let a running pass keep what it knows while the other passes step.
 #![tactic(auto)]
 
-ghost use Rattle.vm_core.specs.Prelude.{World};
-ghost use Rattle.vm_core.specs.declared.event.Event.{Event};
+ghost use Rattle.vm_event.specs.Prelude.{World};
+ghost use Rattle.vm_event.specs.declared.event.Event.{Event};
 ghost use Rattle.vm_laws_others.specs.Leaves.{LeavesOthers};
 
 /// Every legal event leaves what the other actors know and hold.

@@ -1,15 +1,15 @@
 -- Each event on a state word keeps the invariant.
 use Rattle.std.proofs.Common.{⊎_elim, ◌<◌, ◌∙◌, ◌≡◌, ◌≢◌, ◌≤◌, ◌⊎◌, arith, Bool, inl, inr, List, refl, subst, sym, ℕ}
 use Rattle.std.proofs.lemmas.Bool.{cases_Bool}
-use Rattle.vm_core.specs.Prelude.{finds, History, Keeps, LOCKED, LocksInv, MARKED, MayShare, Page, PageInv, state_of}
-use Rattle.vm_core.specs.Prelude.{sum_below, UNLOCKED, upd, World}
-use Rattle.vm_core.specs.declared.event.Seat.{Seat}
-use Rattle.vm_core.specs.declared.event.Event.TheVariants.{Downgrade, LockS, LockW, LockX, Look, Mark, Release}
-use Rattle.vm_core.specs.declared.event.Event.TheVariants.{ReleaseE, UnlockS, Unmark, Upgrade}
-use Rattle.vm_core.proofs.{Locks.shared-state, Locks.sum_below-at, PageFacts.found, PageFacts.none-some, Upd.upd-self}
-use Rattle.vm_core.proofs.Spares.{inv-beside}
-use Rattle.vm_core.specs.Step.{number_left}
-use Rattle.vm_core.proofs.Whole.{page-alone, page-both, page-history, page-loads}
+use Rattle.vm_event.specs.Prelude.{finds, History, Keeps, LOCKED, LocksInv, MARKED, MayShare, Page, PageInv, state_of}
+use Rattle.vm_event.specs.Prelude.{sum_below, UNLOCKED, upd, World}
+use Rattle.vm_event.specs.declared.event.Seat.{Seat}
+use Rattle.vm_event.specs.declared.event.Event.TheVariants.{Downgrade, LockS, LockW, LockX, Look, Mark, Release}
+use Rattle.vm_event.specs.declared.event.Event.TheVariants.{ReleaseE, UnlockS, Unmark, Upgrade}
+use Rattle.vm_event.proofs.{Locks.shared-state, Locks.sum_below-at, PageFacts.found, PageFacts.none-some, Upd.upd-self}
+use Rattle.vm_event.proofs.Spares.{inv-beside}
+use Rattle.vm_event.specs.Step.{number_left}
+use Rattle.vm_event.proofs.Whole.{page-alone, page-both, page-history, page-loads}
 use Rattle.vm_laws_state.proofs.{Lock.locked-keeps, Lock.upgraded-keeps, Look.looked-keeps, Share.shared-keeps, Share.write_locked-keeps}
 use Rattle.vm_laws_state.proofs.Release.{downgraded-keeps, emptied-keeps, released-keeps}
 use Rattle.vm_laws_state.proofs.Unlock.{marked-keeps, unlocked-keeps, unmarked-keeps}

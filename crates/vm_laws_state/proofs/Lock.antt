@@ -1,10 +1,10 @@
 -- An exclusive lock, new or from a write-back, keeps what holds of a page.
 use Rattle.std.proofs.Common.{[], ◌<◌, ◌∙◌, ◌≡◌, ◌≢◌, arith, Bool, List, refl, true, ℕ}
-use Rattle.vm_core.specs.Prelude.{drafted, finds, History, LOCKED, locked, MayLock, MayUpgrade, Page, PageInv}
-use Rattle.vm_core.specs.Prelude.{state_of, upd, upgraded, version_of}
-use Rattle.vm_core.proofs.Locks.{locks-lock, locks-upgrade}
-use Rattle.vm_core.proofs.PageFacts.{found, no-read, reads-seat}
-use Rattle.vm_core.proofs.PageMoves.{contents-lock, read-lock, sizes-lock, stands-lock}
+use Rattle.vm_event.specs.Prelude.{drafted, finds, History, LOCKED, locked, MayLock, MayUpgrade, Page, PageInv}
+use Rattle.vm_event.specs.Prelude.{state_of, upd, upgraded, version_of}
+use Rattle.vm_event.proofs.Locks.{locks-lock, locks-upgrade}
+use Rattle.vm_event.proofs.PageFacts.{found, no-read, reads-seat}
+use Rattle.vm_event.proofs.PageMoves.{contents-lock, read-lock, sizes-lock, stands-lock}
 
 pub locked-keeps : {actors : ℕ} → {size : ℕ} → {tells : Bool} → {words : ℕ → List ℕ} → {r : Page} → {h : History}
     → {l : ℕ → List (ℕ × ℕ)} → (a expects : ℕ) → a < actors → PageInv actors size tells words r h l → MayLock expects

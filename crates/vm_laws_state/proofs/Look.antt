@@ -2,12 +2,12 @@
 use Rattle.std.proofs.Common.{[], ⊎_elim, ◌≢◌, arith, Bool, cond, eqb, false, List, None, Option, refl, Some, true, ℕ}
 use Rattle.std.proofs.lemmas.Bool.{cases_Bool, cond-false, cond-true}
 use Rattle.std.proofs.lemmas.Bool.Decides.{nat_tests}
-use Rattle.vm_core.specs.Prelude.{EVICTED, History, is_readable, kept_loads, left_of, left_open, looked, open_after}
-use Rattle.vm_core.specs.Prelude.{Page, PageInv, ReadInv, upd}
-use Rattle.vm_core.specs.{declared.event.Mapping.Mapping, declared.event.Open.Open}
-use Rattle.vm_core.specs.declared.event.ReadIs.TheVariants.{Closed, Moved, Same}
-use Rattle.vm_core.proofs.Locks.{locks-seat}
-use Rattle.vm_core.proofs.PageFacts.{faults-seat, no-read, reads-seat}
+use Rattle.vm_event.specs.Prelude.{EVICTED, History, is_readable, kept_loads, left_of, left_open, looked, open_after}
+use Rattle.vm_event.specs.Prelude.{Page, PageInv, ReadInv, upd}
+use Rattle.vm_event.specs.{declared.event.Mapping.Mapping, declared.event.Open.Open}
+use Rattle.vm_event.specs.declared.event.ReadIs.TheVariants.{Closed, Moved, Same}
+use Rattle.vm_event.proofs.Locks.{locks-seat}
+use Rattle.vm_event.proofs.PageFacts.{faults-seat, no-read, reads-seat}
 
 -- a read that was just opened
 new-read : (words : ℕ → List ℕ) (state version : ℕ) (trans : Option Mapping) → state ≢ EVICTED

@@ -1,10 +1,10 @@
 -- A page given up by its exclusive holder, in its three forms, keeps what holds of it.
 use Rattle.std.proofs.Common.{◌+◌, ◌<◌, ◌∙◌, ◌≡◌, ap, arith, Bool, List, refl, sym, ℕ}
-use Rattle.vm_core.specs.Prelude.{appended, EVICTED, History, LOCKED, MayEmpty, MayReleaseLock, Page, PageInv, UNLOCKED, WordsInv}
-use Rattle.vm_core.specs.StateActs.{downgraded, emptied, released}
-use Rattle.vm_core.proofs.Locks.{locked-from_owner, locks-downgrade, locks-empty, locks-release}
-use Rattle.vm_core.proofs.PageFacts.{none-some, reads-keep}
-use Rattle.vm_core.proofs.PageMoves.{contents-release, read-release, sizes-release, stands-release}
+use Rattle.vm_event.specs.Prelude.{appended, EVICTED, History, LOCKED, MayEmpty, MayReleaseLock, Page, PageInv, UNLOCKED, WordsInv}
+use Rattle.vm_event.specs.StateActs.{downgraded, emptied, released}
+use Rattle.vm_event.proofs.Locks.{locked-from_owner, locks-downgrade, locks-empty, locks-release}
+use Rattle.vm_event.proofs.PageFacts.{none-some, reads-keep}
+use Rattle.vm_event.proofs.PageMoves.{contents-release, read-release, sizes-release, stands-release}
 
 pub released-keeps : {actors : ℕ} → {size : ℕ} → {tells : Bool} → {words : ℕ → List ℕ} → {r : Page} → {h : History}
     → {l : ℕ → List (ℕ × ℕ)} → (a : ℕ) → PageInv actors size tells words r h l → MayReleaseLock r a

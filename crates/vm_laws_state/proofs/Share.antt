@@ -2,11 +2,11 @@
 use Rattle.std.proofs.Common.{[], ◌<◌, ◌∙◌, ◌≡◌, ◌≢◌, ap, arith, Bool, List, refl, sym, true, ℕ}
 use Rattle.std.proofs.lemmas.Bool.{true≢false}
 use Rattle.std.proofs.lemmas.Bool.Decides.{nat_tests}
-use Rattle.vm_core.specs.Prelude.{EVICTED, finds, History, LOCKED, MARKED, MayShare, Page, PageInv, shared, state_of}
-use Rattle.vm_core.specs.Prelude.{upd, version_of, write_locked}
-use Rattle.vm_core.proofs.{Locks.locks-share, Locks.locks-write_lock, Upd.upd-same}
-use Rattle.vm_core.proofs.PageFacts.{faults-seat, found, no-read, reads-seat}
-use Rattle.vm_core.proofs.PageMoves.{contents-open, read-open, sizes-open, stands-open}
+use Rattle.vm_event.specs.Prelude.{EVICTED, finds, History, LOCKED, MARKED, MayShare, Page, PageInv, shared, state_of}
+use Rattle.vm_event.specs.Prelude.{upd, version_of, write_locked}
+use Rattle.vm_event.proofs.{Locks.locks-share, Locks.locks-write_lock, Upd.upd-same}
+use Rattle.vm_event.proofs.PageFacts.{faults-seat, found, no-read, reads-seat}
+use Rattle.vm_event.proofs.PageMoves.{contents-open, read-open, sizes-open, stands-open}
 
 pub shared-keeps : {actors : ℕ} → {size : ℕ} → {tells : Bool} → {words : ℕ → List ℕ} → {r : Page} → {h : History}
     → {l : ℕ → List (ℕ × ℕ)} → (a expects : ℕ) → a < actors → PageInv actors size tells words r h l → MayShare expects

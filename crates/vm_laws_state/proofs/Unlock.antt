@@ -1,12 +1,12 @@
 -- A share given up, a mark set or taken away keep what holds of a page.
 use Rattle.std.proofs.Common.{⊎_elim, ◌-◌, ◌<◌, ◌∙◌, ◌≡◌, ◌≢◌, ◌≤◌, ◌⊎◌, ap, arith, Bool, false, inl, inr, List, refl, sym, true, ℕ}
 use Rattle.std.proofs.lemmas.Bool.{cases_Bool, cases_eq, cond-false, ne_eqb, true≢false}
-use Rattle.vm_core.specs.Prelude.{EVICTED, finds, History, LOCKED, MARKED, marked, MayUnlock, Page, PageInv, state_of}
-use Rattle.vm_core.specs.Prelude.{sum_below, UNLOCKED, unlocked, unmarked, unshared}
-use Rattle.vm_core.specs.declared.event.Seat.{Seat}
-use Rattle.vm_core.proofs.{PageFacts.found, PageFacts.reads-keep, Upd.upd-other, Upd.upd-same}
-use Rattle.vm_core.proofs.Locks.{locks-mark, locks-unlock, shared-state, sum_below-at}
-use Rattle.vm_core.proofs.PageMoves.{contents-open, read-open, sizes-open, stands-open}
+use Rattle.vm_event.specs.Prelude.{EVICTED, finds, History, LOCKED, MARKED, marked, MayUnlock, Page, PageInv, state_of}
+use Rattle.vm_event.specs.Prelude.{sum_below, UNLOCKED, unlocked, unmarked, unshared}
+use Rattle.vm_event.specs.declared.event.Seat.{Seat}
+use Rattle.vm_event.proofs.{PageFacts.found, PageFacts.reads-keep, Upd.upd-other, Upd.upd-same}
+use Rattle.vm_event.proofs.Locks.{locks-mark, locks-unlock, shared-state, sum_below-at}
+use Rattle.vm_event.proofs.PageMoves.{contents-open, read-open, sizes-open, stands-open}
 
 -- a write-back that ended did so with the last share
 last-share : (s : Seat) → s.writing ≡ true → (unshared s).writing ≡ false → s.shares ≡ 1

@@ -2,12 +2,12 @@
 use Rattle.std.proofs.Common.{⊎_elim, ◌<◌, ◌∙◌, ◌≡◌, ◌≢◌, ap, arith, eqb, None, Option, Some, subst, sym, true, ℕ}
 use Rattle.std.proofs.lemmas.Bool.{cases_Bool, cond-false, cond-true, eqb-true}
 use Rattle.std.proofs.lemmas.Bool.Decides.{nat_tests}
-use Rattle.vm_core.specs.Prelude.{EVICTED, Inv, is_readable, left_open, LoadsAre, LOCKED, ReadsPage, state_of}
-use Rattle.vm_core.specs.Prelude.{Validates, version_of, WordsInv, World}
-use Rattle.vm_core.specs.{declared.event.Mapping.Mapping, declared.event.Open.Open, OneVersion.IsOneVersion, OneVersion.LockReadsOne}
-use Rattle.vm_core.specs.declared.event.Event.TheVariants.{LockS, LockW, LockX, Look, Upgrade}
-use Rattle.vm_core.specs.declared.event.ReadIs.TheVariants.{Closed, Moved, Same}
-use Rattle.vm_core.proofs.PageFacts.{found, some-is, some-same}
+use Rattle.vm_event.specs.Prelude.{EVICTED, Inv, is_readable, left_open, LoadsAre, LOCKED, ReadsPage, state_of}
+use Rattle.vm_event.specs.Prelude.{Validates, version_of, WordsInv, World}
+use Rattle.vm_event.specs.{declared.event.Mapping.Mapping, declared.event.Open.Open, OneVersion.IsOneVersion, OneVersion.LockReadsOne}
+use Rattle.vm_event.specs.declared.event.Event.TheVariants.{LockS, LockW, LockX, Look, Upgrade}
+use Rattle.vm_event.specs.declared.event.ReadIs.TheVariants.{Closed, Moved, Same}
+use Rattle.vm_event.proofs.PageFacts.{found, some-is, some-same}
 
 -- an open read at the version of a page that is neither locked nor evicted
 one-version : (w : World) (a p : ℕ) (o : Open) → w.core.tells ≡ true → Inv w → (w.core.pages p).state ≢ LOCKED

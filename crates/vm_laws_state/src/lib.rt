@@ -2,9 +2,9 @@
 #![tactic(auto)]
 
 ghost use Rattle.std.specs.Prelude.{ℕ};
-ghost use Rattle.vm_core.specs.Prelude.{Keeps, Validates, World};
-ghost use Rattle.vm_core.specs.declared.event.Event.TheVariants.{Downgrade, LockS, LockW, LockX, Look, Mark, Release, ReleaseE, UnlockS, Unmark};
-ghost use Rattle.vm_core.specs.declared.event.Event.TheVariants.{Upgrade};
+ghost use Rattle.vm_event.specs.Prelude.{Keeps, Validates, World};
+ghost use Rattle.vm_event.specs.declared.event.Event.TheVariants.{Downgrade, LockS, LockW, LockX, Look, Mark, Release, ReleaseE, UnlockS, Unmark};
+ghost use Rattle.vm_event.specs.declared.event.Event.TheVariants.{Upgrade};
 
 /// A look keeps the invariant.
 #[tactic(auto, using(crate::proofs::Laws::look_law))]

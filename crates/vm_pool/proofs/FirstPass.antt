@@ -9,8 +9,8 @@ use Rattle.vm_pool.proofs.Prelude.{version_of, View, word-state, word-version, w
 use Rattle.vm_pool.proofs.Prelude.{◌∙◌, ◌≡◌, ◌≢◌, ◌≤◌, [], at-any, if◌then◌else◌, last_of, length-mapped, lt-ltb}
 use Rattle.vm_pool.proofs.Prelude.{true}
 use Rattle.std.proofs.Common.{replicate}
-use Rattle.vm_core.specs.Prelude.{at, page_at}
-use Rattle.vm_core.proofs.At.{at-get}
+use Rattle.vm_event.specs.Prelude.{at, page_at}
+use Rattle.vm_event.proofs.At.{at-get}
 use Rattle.vm_rule.specs.Prelude.{block_words}
 
 -- the first bundle of a table with frames has some

@@ -12,8 +12,8 @@ pub use Rattle.std.proofs.lemmas.List.{get_or-set_other, nil_from_length, take_a
 pub use mathlib.Core.List.{map-append}
 pub use Rattle.atomic_table.proofs.Lists.{at_index}
 pub use Rattle.atomic_table.specs.Table.{Final, Seen}
-pub use Rattle.vm_core.specs.{Prelude.Version}
-pub use Rattle.vm_core.specs.Prelude.{EVICTED, get_elem?, is_readable, LOCKED, MAX_VERSION, some, some-injective, UNLOCKED}
+pub use Rattle.vm_event.specs.{Prelude.Version}
+pub use Rattle.vm_event.specs.Prelude.{EVICTED, get_elem?, is_readable, LOCKED, MAX_VERSION, some, some-injective, UNLOCKED}
 pub use Rattle.vm_owner.proofs.NumberLemmas.{has-without_other}
 pub use Rattle.vm_rule.specs.{Begun.begun, declared.view.WordPlace.WordPlace, Prelude.world_of, Reading.at_home}
 pub use Rattle.vm_rule.specs.Prelude.{AreApart, began_of, bounds_of, bundles_of, CaughtUp, core_shown, counts_of}
@@ -59,5 +59,5 @@ pub use Rattle.vm_pool.specs.{Sweeps.IsSwept, Sweeps.KnowsSwept}
 pub use Rattle.vm_pool.specs.Brings.{counted, Fetches, Gets, GetsNone, IsBring, IsFramed, IsSure, KeepsLocks, SaysDry}
 pub use Rattle.vm_pool.specs.Known.{IsStill, known_version, KnowsAsked, KnowsBring, KnowsBrought, KnowsFailed}
 pub use Rattle.vm_pool.specs.Parting.{HaveMet, Joins, KeepsAll, Splits}
-unfoldable pub use Rattle.vm_core.specs.Prelude.{at, full_bundle, state_of, version_of, word_of}
+unfoldable pub use Rattle.vm_event.specs.Prelude.{at, full_bundle, state_of, version_of, word_of}
 unfoldable pub use Rattle.vm_rule.specs.Prelude.{block_of, frames_in, listed, pages_from}

@@ -2,7 +2,7 @@
 -- it; or no frame was to be
 -- had, for a cause that the sweep tells.
 use Rattle.std.specs.Prelude.{[], ◌++◌, ◌+◌, ◌-◌, ◌^◌, ◌∷◌, ◌≡◌, ◌≤◌, ◌⊎◌, Err, List, min, None, Ok, Option, Result, Some, ℕ}
-use Rattle.vm_core.specs.Prelude.{at}
+use Rattle.vm_event.specs.Prelude.{at}
 use Rattle.vm_rule.specs.Prelude.{IsLocking, seat_of, StartsWith}
 use Rattle.vm_clock.specs.from_vm_step.Prelude.{HoldsPage, KeepsNumbers, KnowsAsBefore, StaysAlone, View}
 use Rattle.vm_clock.specs.from_vm_step.{declared_choice_Looks.Looks, declared_saw_Saw.Saw}

@@ -1,7 +1,7 @@
 -- What is left of a pool that was closed by a pass with all parts: the blocks, the next word, and sums of the blocks' counts.
 use Rattle.std.specs.List.{sum_by}
 use Rattle.std.specs.Prelude.{[], ◌-◌, ◌<◌, ◌^◌, ◌≡◌, ◌≢◌, ◌≤◌, ◌⊎◌, Bool, false, length, List, min, true, ℕ}
-use Rattle.vm_core.specs.Prelude.{at, EVICTED, MAX_COUNT, version_of}
+use Rattle.vm_event.specs.Prelude.{at, EVICTED, MAX_COUNT, version_of}
 use Rattle.vm_rule.specs.Prelude.{began_of, bounds_of, Each, Kept, last_of, no_block, stands_dirty, Start, Stored}
 use Rattle.vm_rule.specs.Prelude.{table_words, times_noted, view_of}
 use Rattle.vm_rule.specs.declared.view.WordPlace.TheVariants as places

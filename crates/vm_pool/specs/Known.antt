@@ -2,7 +2,7 @@
 -- before the call; else from after
 -- the sweep that the call made.
 use Rattle.std.specs.Prelude.{[], ◌<◌, ◌∷◌, ◌≡◌, ◌≢◌, ◌⊎◌, bit_xor, List, max, ℕ}
-use Rattle.vm_core.specs.Prelude.{AreLowest, EVICTED, UNLOCKED, version_of}
+use Rattle.vm_event.specs.Prelude.{AreLowest, EVICTED, UNLOCKED, version_of}
 use Rattle.vm_rule.specs.Prelude.{bundles_of, frames_in}
 use Rattle.vm_rule.specs.declared.view.WordPlace.TheVariants as places
 use Rattle.vm_clock.specs.from_vm_step.Prelude.{IsAlone, IsOfPage, known_word_at, KnowsElse, View}

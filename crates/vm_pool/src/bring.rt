@@ -10,7 +10,7 @@ use crate::pool::Pool;
 use vm_block::PageBlock;
 use vm_clock::candidates;
 use vm_clock::step::{Batch, Looks, Saw};
-use vm_core::FRAMES;
+use vm_event::FRAMES;
 use vm_evict::evict;
 use vm_evict::report::Report;
 use vm_exmap::{AllocOne, Interface};

@@ -3,7 +3,7 @@
 ghost use Rattle.std.specs.Mem.Slots.{IsFull, slots_items, slots_len};
 ghost use Rattle.std.specs.Prelude.{[], ◌*◌, ◌+◌, ◌≡◌, ◌≤◌, List, map, Some, true};
 ghost use Rattle.std.specs.Vec.{vec_capacity};
-ghost use Rattle.vm_core.specs.Prelude.{at};
+ghost use Rattle.vm_event.specs.Prelude.{at};
 ghost use Rattle.vm_rule.specs.Prelude.{bundles_of, HoldsNoPage, IsWhole, view_of, width_of};
 ghost use Rattle.vm_pool.specs.Closing.{AreSums, IsClosed, view_at_end};
 
@@ -11,7 +11,7 @@ use crate::ended::{Closed, Ended};
 use atomic_table::Closed as ClosedTable;
 use std::alloc::Global;
 use vm_block::Block;
-use vm_core::FRAMES;
+use vm_event::FRAMES;
 use vm_owner::Owner;
 use vm_rule::words::{Pass, Words};
 

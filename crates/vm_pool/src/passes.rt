@@ -11,7 +11,7 @@ use crate::pool::Pool;
 use std::alloc::Global;
 use vm_block::Block;
 use vm_clock::step::{catch_up, follow_pass, hear_pass, join_pass, split_pass};
-use vm_core::Memory;
+use vm_event::Memory;
 use vm_owner::Owner;
 use vm_rule::words::{Pass, Words};
 

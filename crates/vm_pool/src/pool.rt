@@ -10,7 +10,7 @@ use crate::closing::closed;
 use crate::ended::Closed;
 use std::alloc::Global;
 use vm_block::{Block, PageBlock};
-use vm_core::Memory;
+use vm_event::Memory;
 use vm_owner::Owner;
 use vm_rule::words::{Pass, Words};
 

@@ -1,7 +1,7 @@
 // A pool's dirty pages are written, and the pool is closed. It stands on the contracts of `flush` and `close` alone, and shows that they are
 // enough for a caller: where no write failed, each block has the last words of its page.
 ghost use Rattle.std.specs.Prelude.{◌<◌, ◌≡◌, IfErr, IfOk, length, map, None, true, ℕ};
-ghost use Rattle.vm_core.specs.Prelude.{at};
+ghost use Rattle.vm_event.specs.Prelude.{at};
 ghost use Rattle.vm_rule.specs.Prelude.{HoldsNoPage, last_of, no_block};
 ghost use Rattle.vm_clock.specs.from_vm_step.Prelude.{IsAlone, IsReadyOn, view};
 ghost use Rattle.vm_evict.specs.Flushes.{IsFlushed};

@@ -9,9 +9,9 @@ pub use Rattle.std.proofs.lemmas.Nat.Bits.{bit_at-lt, bit_at-zero, bit_at_ones, 
 pub use Rattle.std.proofs.lemmas.Option.{IfSome_then}
 pub use Rattle.std.specs.Int.{bit_at}
 pub use Rattle.vm_pool.specs.from_vm_clock.Clock.{IsPassed, IsWalked, KnowsWalked, passed_word}
-pub use Rattle.vm_core.proofs.Upd.{sum_below-past}
-pub use Rattle.vm_core.specs.Prelude.{AreLowest, EVICTED, is_readable, MARKED, MAX_VERSION, MayShare, UNLOCKED, Version}
-pub use Rattle.vm_core.specs.Words.{bit_count}
+pub use Rattle.vm_event.proofs.Upd.{sum_below-past}
+pub use Rattle.vm_event.specs.Prelude.{AreLowest, EVICTED, is_readable, MARKED, MAX_VERSION, MayShare, UNLOCKED, Version}
+pub use Rattle.vm_event.specs.Words.{bit_count}
 pub use Rattle.vm_pool.proofs.from_vm_evict.Gathering.{page-at}
 pub use Rattle.vm_pool.specs.from_vm_evict.Evictions.{candidate_at, frame_at, gathered, IsEnd, stage_at}
 pub use Rattle.vm_pool.specs.from_vm_evict.Tables.{KnowsStage}
@@ -44,4 +44,4 @@ pub use Rattle.vm_step.proofs.Written.{index-below}
 pub use Rattle.vm_step.specs.Prelude.{AreHeld, candidate_pages, Did, HasJoined, IsAlone, IsOfPage, known_word_at}
 pub use Rattle.vm_step.specs.Prelude.{MayUnshare, Origin, Release, StaysAlone, TableShape, view, View}
 pub use mathlib.Core.List.{map-append}
-unfoldable pub use Rattle.vm_core.specs.Prelude.{at, full_bundle, state_of, sum_below, version_of, word_of}
+unfoldable pub use Rattle.vm_event.specs.Prelude.{at, full_bundle, state_of, sum_below, version_of, word_of}

@@ -1,7 +1,7 @@
 -- What callers of a pool start from: the first pass of a pool after it asked for a page, and a pass that can write a
 -- word and read it again.
 use Rattle.std.specs.Prelude.{[], ◌+◌, ◌<◌, ◌≡◌, List, ℕ}
-use Rattle.vm_core.specs.Prelude.{at, MAX_VERSION}
+use Rattle.vm_event.specs.Prelude.{at, MAX_VERSION}
 use Rattle.vm_step.specs.Prelude.{View}
 use Rattle.vm_exmap.specs.Frames.{HasFree}
 use Rattle.vm_pool.specs.from_vm_fault.Fetches.{IsKnownOut}

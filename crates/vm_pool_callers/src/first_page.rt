@@ -1,7 +1,7 @@
 // A pool is started and a page brought at once. It stands on the contracts of `start` and `bring` alone, and shows that what `bring` promises
 // a pass that is alone can be had: the first pass is such a one, and knows each page to be evicted and each frame to be free.
 ghost use Rattle.std.specs.Prelude.{[], ◌<◌, ◌≡◌, IfOk, length, map, true};
-ghost use Rattle.vm_core.specs.Prelude.{MAX_VERSION};
+ghost use Rattle.vm_event.specs.Prelude.{MAX_VERSION};
 ghost use Rattle.vm_page.specs.Sizes.{IsSize};
 ghost use Rattle.vm_rule.specs.Prelude.{block_words, bounds_of, IsStarted, MayBegin, started_shape, unborn};
 ghost use Rattle.vm_rule.specs.Begun.{begun};
@@ -11,7 +11,7 @@ ghost use Rattle.vm_pool_callers.specs.Known.{HasAskedFirst};
 
 use std::alloc::Global;
 use vm_block::{Block, PageBlock};
-use vm_core::Memory;
+use vm_event::Memory;
 use vm_exmap::Interface;
 use vm_owner::Owner;
 use vm_pool::{Bring, Pool, Shape};

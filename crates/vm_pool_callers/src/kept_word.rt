@@ -1,14 +1,14 @@
 // A pool is started, and a word of a page goes out to the page's block and comes back: it stands on the contracts of `start` and `round_trip` alone, and
 // shows that a word can be had again for sure from the very start, with a sweep in between.
 ghost use Rattle.std.specs.Prelude.{[], ◌+◌, ◌<◌, ◌≡◌, false, IfOk, IfSome, length, map, Some, true};
-ghost use Rattle.vm_core.specs.Prelude.{at, MAX_VERSION};
+ghost use Rattle.vm_event.specs.Prelude.{at, MAX_VERSION};
 ghost use Rattle.vm_page.specs.{Pages.all_zero, Pages.page_at, Sizes.IsSize};
 ghost use Rattle.vm_rule.specs.Prelude.{block_words, bounds_of, IsStarted, MayBegin};
 
 use crate::round_trip::round_trip;
 use std::alloc::Global;
 use vm_block::{Block, PageBlock};
-use vm_core::Memory;
+use vm_event::Memory;
 use vm_exmap::Interface;
 use vm_owner::Bare;
 use vm_pool::{Pool, Shape};

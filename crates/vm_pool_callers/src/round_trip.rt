@@ -7,7 +7,7 @@ ghost use Rattle.vm_step.specs.Prelude.{AreHeld, IsAlone, IsReadyOn, view};
 ghost use Rattle.vm_pool_callers.specs.Known.{MayGoRound};
 
 use vm_block::PageBlock;
-use vm_core::FRAMES;
+use vm_event::FRAMES;
 use vm_exmap::Interface;
 use vm_owner::Bare;
 use vm_pool::Pool;

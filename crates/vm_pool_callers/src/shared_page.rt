@@ -1,7 +1,7 @@
 // A pool is started, a page brought, shared and read: it stands on the contracts of `open_page` and the shared guard alone, and shows that a page
 // that was brought can be shared for sure.
 ghost use Rattle.std.specs.Prelude.{[], ◌<◌, ◌≡◌, IfOk, IsSome, length, map, true};
-ghost use Rattle.vm_core.specs.Prelude.{MAX_VERSION};
+ghost use Rattle.vm_event.specs.Prelude.{MAX_VERSION};
 ghost use Rattle.vm_page.specs.Sizes.{IsSize};
 ghost use Rattle.vm_rule.specs.Prelude.{block_words, bounds_of, IsStarted, MayBegin};
 ghost use Rattle.vm_pool.specs.Brings.{IsBroughtOrFailed};
@@ -9,7 +9,7 @@ ghost use Rattle.vm_pool.specs.Brings.{IsBroughtOrFailed};
 use crate::first_page::{Opened, open_page};
 use std::alloc::Global;
 use vm_block::{Block, PageBlock};
-use vm_core::Memory;
+use vm_event::Memory;
 use vm_exmap::Interface;
 use vm_owner::Owner;
 use vm_pool::guard::SharedGuard;

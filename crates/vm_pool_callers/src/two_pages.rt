@@ -1,7 +1,7 @@
 // A pool is started, two pages are brought, and a word of the first is read. It stands on the contracts of `open_page`, `bring` and `read_word`
 // alone, and shows that they can be chained: what a pass that is alone knows after one call is what makes the next one sure.
 ghost use Rattle.std.specs.Prelude.{[], ◌<◌, ◌≡◌, ◌≢◌, ◌≤◌, IfOk, IsSome, length, map, true};
-ghost use Rattle.vm_core.specs.Prelude.{MAX_VERSION};
+ghost use Rattle.vm_event.specs.Prelude.{MAX_VERSION};
 ghost use Rattle.vm_page.specs.Sizes.{IsSize};
 ghost use Rattle.vm_rule.specs.Prelude.{block_words, bounds_of, IsStarted, MayBegin};
 ghost use Rattle.vm_pool.specs.Brings.{IsBroughtOrFailed};
@@ -9,7 +9,7 @@ ghost use Rattle.vm_pool.specs.Brings.{IsBroughtOrFailed};
 use crate::first_page::{Opened, open_page};
 use std::alloc::Global;
 use vm_block::{Block, PageBlock};
-use vm_core::Memory;
+use vm_event::Memory;
 use vm_exmap::Interface;
 use vm_owner::Owner;
 use vm_pool::guard::read_word;

@@ -7,7 +7,7 @@ ghost use Rattle.vm_step.specs.Prelude.{GoesOn, HasJoined, IsReadyOn, MayStep, v
 
 use std::alloc::Global;
 use vm_block::{Block, PageBlock};
-use vm_core::Memory;
+use vm_event::Memory;
 use vm_owner::Owner;
 use vm_pool::{Closed, Pool, Shape};
 use vm_rule::words::Pass;

@@ -6,7 +6,7 @@ use std::alloc::Global;
 use std::sync::Wait;
 use std::test::Fail;
 use vm_block::{Block, MemBlock};
-use vm_core::StateWord;
+use vm_event::StateWord;
 use vm_exmap::Interface;
 use vm_guard::OptGuard;
 use vm_kind::{OfSize, TreeOf, WordKeys};

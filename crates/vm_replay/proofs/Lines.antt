@@ -2,7 +2,7 @@
 use Rattle.std.proofs.Common.{◌++◌, ◌+◌, ◌<◌, ◌∙◌, ◌∷◌, ◌≡◌, ap, append_assoc, arith, Bool, drop, get_or, inl, length, List, refl}
 use Rattle.std.proofs.Common.{subst, suc, sym, ℕ}
 use Rattle.std.proofs.Math.Seq.{drop-cons}
-use Rattle.vm_core.specs.Prelude.{run, sees, State}
+use Rattle.vm_event.specs.Prelude.{run, sees, State}
 use Rattle.vm_rule.specs.Prelude.{CoreShape}
 use Rattle.vm_script.specs.{declared.event_line.EventLine.EventLine, SeenTexts.seen_line}
 use Rattle.vm_replay.specs.{declared.line.LineTurn.LineTurn, declared.line.LineTurn.TheVariants.Done, Turns.IsLinePlayed, Turns.Turned}

@@ -1,6 +1,6 @@
 -- The lines of a core are played in one way: they give one text, and are all legal or not.
 use Rattle.std.proofs.Common.{[], ◌++◌, ◌+◌, ◌∙◌, ◌∷◌, ◌≡◌, ap, Bool, inl, inr, length, List, subst, sym, ℕ}
-use Rattle.vm_core.specs.Prelude.{core_start, run, sees, start, State}
+use Rattle.vm_event.specs.Prelude.{core_start, run, sees, start, State}
 use Rattle.vm_rule.specs.Prelude.{CoreShape}
 use Rattle.vm_script.specs.{declared.event_line.EventLine.EventLine, SeenTexts.seen_line}
 use Rattle.vm_script.proofs.EventReadings.{one_list}

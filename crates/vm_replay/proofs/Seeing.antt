@@ -3,14 +3,15 @@ use Rattle.std.specs.List.{AllByRecursion, range_with_len}
 use Rattle.std.proofs.Common.{[], ◌∙◌, ◌∷◌, ◌≡◌, ap, Bool, false, if◌then◌else◌, length, List, map, Ok, refl, slice_index, subst, suc}
 use Rattle.std.proofs.Common.{sym, true, ℕ}
 use Rattle.std.proofs.lemmas.List.FromFn.{length-map-range_with_len}
-use Rattle.vm_core.specs.Prelude.{after_event, Replayed, seen, sees, State}
-use Rattle.vm_core.specs.declared.event.Event.TheVariants.{BLoad, Claim, Clean, Clear, Dirty, Disown, Downgrade, Give}
-use Rattle.vm_core.specs.declared.event.Event.TheVariants.{Hand, Install, Load, LockS, LockW, LockX, Look, Mark}
-use Rattle.vm_core.specs.declared.event.Event.TheVariants.{NLoad, OLoad, Own, Raise, Read, Release, ReleaseE, RFail}
-use Rattle.vm_core.specs.declared.event.Event.TheVariants.{PBLoad, PGive, PTake, Store, Take, TLoad, UnlockS, Unmark}
-use Rattle.vm_core.specs.declared.event.Event.TheVariants.{Upgrade, WFail, Write}
-use Rattle.vm_core.specs.declared.event.Seen.{Seen}
-use Rattle.vm_core.specs.declared.event.Seen.TheVariants as seens
+use Rattle.vm_event.specs.Prelude.{after_event, seen, sees, State}
+use Rattle.vm_core.specs.Prelude.{Replayed}
+use Rattle.vm_event.specs.declared.event.Event.TheVariants.{BLoad, Claim, Clean, Clear, Dirty, Disown, Downgrade, Give}
+use Rattle.vm_event.specs.declared.event.Event.TheVariants.{Hand, Install, Load, LockS, LockW, LockX, Look, Mark}
+use Rattle.vm_event.specs.declared.event.Event.TheVariants.{NLoad, OLoad, Own, Raise, Read, Release, ReleaseE, RFail}
+use Rattle.vm_event.specs.declared.event.Event.TheVariants.{PBLoad, PGive, PTake, Store, Take, TLoad, UnlockS, Unmark}
+use Rattle.vm_event.specs.declared.event.Event.TheVariants.{Upgrade, WFail, Write}
+use Rattle.vm_event.specs.declared.event.Seen.{Seen}
+use Rattle.vm_event.specs.declared.event.Seen.TheVariants as seens
 use Rattle.vm_rule.specs.Prelude.{Event}
 use Rattle.vm_script.specs.{declared.event_line.EventLine.EventLine, Sights.FitsSight}
 use Rattle.vm_script.specs.declared.event_line.EventLine.TheVariants.{Fill, Loads, One}

@@ -1,11 +1,11 @@
 -- A core keeps its shape.
 use Rattle.std.proofs.Common.{[], ◌∙◌, ◌∷◌, ◌≡◌, Bool, false, if◌then◌else◌, List, refl, true}
-use Rattle.vm_core.specs.Prelude.{after_event, run, State}
-use Rattle.vm_core.specs.declared.event.Event.TheVariants.{BLoad, Claim, Clean, Clear, Dirty, Disown, Downgrade, Give}
-use Rattle.vm_core.specs.declared.event.Event.TheVariants.{Hand, Install, Load, LockS, LockW, LockX, Look, Mark}
-use Rattle.vm_core.specs.declared.event.Event.TheVariants.{NLoad, OLoad, Own, Raise, Read, Release, ReleaseE, RFail}
-use Rattle.vm_core.specs.declared.event.Event.TheVariants.{PBLoad, PGive, PTake, Store, Take, TLoad, UnlockS, Unmark}
-use Rattle.vm_core.specs.declared.event.Event.TheVariants.{Upgrade, WFail, Write}
+use Rattle.vm_event.specs.Prelude.{after_event, run, State}
+use Rattle.vm_event.specs.declared.event.Event.TheVariants.{BLoad, Claim, Clean, Clear, Dirty, Disown, Downgrade, Give}
+use Rattle.vm_event.specs.declared.event.Event.TheVariants.{Hand, Install, Load, LockS, LockW, LockX, Look, Mark}
+use Rattle.vm_event.specs.declared.event.Event.TheVariants.{NLoad, OLoad, Own, Raise, Read, Release, ReleaseE, RFail}
+use Rattle.vm_event.specs.declared.event.Event.TheVariants.{PBLoad, PGive, PTake, Store, Take, TLoad, UnlockS, Unmark}
+use Rattle.vm_event.specs.declared.event.Event.TheVariants.{Upgrade, WFail, Write}
 use Rattle.vm_rule.specs.Prelude.{Event}
 
 either_shape : (b : Bool) (c d : State) → c.shape ≡ d.shape → (if b then c else d).shape ≡ d.shape

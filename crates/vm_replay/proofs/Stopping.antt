@@ -1,6 +1,7 @@
 -- A list of events with an illegal one is not legal throughout.
 use Rattle.std.proofs.Common.{[], ◌<◌, ◌∷◌, ◌≡◌, arith, Err, length, List, refl, slice_get, Some, subst, suc, sym, take, zero, ℕ}
-use Rattle.vm_core.specs.Prelude.{after_event, AllLegal, Legal, Replayed, run, State}
+use Rattle.vm_event.specs.Prelude.{after_event, AllLegal, Legal, run, State}
+use Rattle.vm_core.specs.Prelude.{Replayed}
 use Rattle.vm_core.specs.declared.playing.ReplayFault.{ReplayFault}
 use Rattle.vm_core.specs.declared.playing.ReplayFault.TheVariants as faults
 use Rattle.vm_rule.specs.Prelude.{Event}

@@ -2,8 +2,8 @@
 use Rattle.std.specs.Fmt.{decimal}
 use Rattle.std.specs.List.{range_with_len}
 use Rattle.std.specs.Prelude.{[], ◌++◌, ◌+◌, ◌∷◌, ◌≡◌, ◌⊎◌, Bool, codes, false, length, List, map, slice_index, true, ℕ}
-use Rattle.vm_core.specs.Prelude.{AllLegal, core_start, run, sees, start, State, WORDS}
-use Rattle.vm_core.specs.declared.event.Event.TheVariants.{Load, Store}
+use Rattle.vm_event.specs.Prelude.{AllLegal, core_start, run, sees, start, State, WORDS}
+use Rattle.vm_event.specs.declared.event.Event.TheVariants.{Load, Store}
 use Rattle.vm_rule.specs.Prelude.{CoreShape, Event}
 use Rattle.vm_script.specs.{declared.event_line.EventLine.EventLine, SeenTexts.seen_line}
 use Rattle.vm_script.specs.declared.event_line.EventLine.TheVariants.{Fill, Loads, One}

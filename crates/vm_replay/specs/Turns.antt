@@ -1,6 +1,6 @@
 -- The turn of one line.
 use Rattle.std.specs.Prelude.{◌++◌, ◌≡◌, ◌≤◌, length, List, ℕ}
-use Rattle.vm_core.specs.Prelude.{AllLegal, run, sees, State, WORDS}
+use Rattle.vm_event.specs.Prelude.{AllLegal, run, sees, State, WORDS}
 use Rattle.vm_script.specs.{declared.event_line.EventLine.EventLine, SeenTexts.seen_line}
 use Rattle.vm_replay.specs.{declared.line.LineTurn.LineTurn, declared.line.LineTurn.TheVariants.Done}
 use Rattle.vm_replay.specs.{declared.line.LineTurn.TheVariants.Illegal, Played.events_of, Played.illegal_line}

@@ -7,7 +7,8 @@ ghost use Rattle.vm_replay.specs.Played.{events_of as events_in, illegal_line, l
 ghost use Rattle.vm_replay.specs.Turns.{Turned};
 
 use std::alloc::{AllocError, Global};
-use vm_core::{Core, Event, Memory, ReplayFault};
+use vm_core::{Core, ReplayFault};
+use vm_event::{Event, Memory};
 use vm_page::WORDS;
 use vm_rule::replay_kept;
 use vm_script::event_line::EventLine;

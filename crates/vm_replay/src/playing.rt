@@ -7,7 +7,8 @@ ghost use Rattle.vm_replay.specs.Played.{end_line, PlayedFromStart};
 
 use crate::line::{LineTurn, play_line};
 use std::alloc::{AllocError, Global};
-use vm_core::{Core, CoreShape, Memory};
+use vm_core::Core;
+use vm_event::{CoreShape, Memory};
 use vm_script::event_line::EventLine;
 
 /// What is told of a replay.

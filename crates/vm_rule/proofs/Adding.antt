@@ -10,7 +10,7 @@ use Rattle.vm_rule.proofs.{Were.were-did, Were.were-moves, Worlds.draft-is, Worl
 use Rattle.vm_rule.proofs.Entries.{append-none, each-map, entries-both, entries-none, entries-within, mine-in}
 use Rattle.vm_rule.proofs.Entries.{not-whole, starts-self, total-same}
 use Rattle.std.specs.Prelude.{map}
-use Rattle.vm_core.specs.Prelude.{has_free_bit}
+use Rattle.vm_event.specs.Prelude.{has_free_bit}
 use Rattle.vm_numbers.specs.Hands.{NumbersFit}
 use Rattle.vm_rule.specs.Rule.{hands_of, logical}
 use Rattle.vm_rule.proofs.Heard.{Added, added, each-both, has-first, next-both, starts-more, times-has}

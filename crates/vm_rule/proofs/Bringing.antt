@@ -10,7 +10,7 @@ use Rattle.vm_rule.proofs.Prelude.{List, listed, logical, no_held, None, Option,
 use Rattle.vm_rule.proofs.Prelude.{Ruled, seat_of, set_block, set_here, set_if, slice_set, Snapshot, some, Start}
 use Rattle.vm_rule.proofs.Prelude.{StartsWith, Stored, subst, sym, Table, true, true≢false, View, Within, World}
 use Rattle.vm_rule.proofs.Prelude.{KnowsOwners, world_after, world_of, ℕ, ◌++◌, ◌<◌, ◌∙◌, ◌≡◌}
-use Rattle.vm_core.specs.Prelude.{has_free_bit}
+use Rattle.vm_event.specs.Prelude.{has_free_bit}
 use Rattle.vm_rule.specs.Views.{any}
 use Rattle.vm_rule.proofs.Numbered.{hands-still, numbers-as}
 use Rattle.vm_rule.proofs.Worlds.{core-still, draft-is, last-is, world-still}

@@ -2,7 +2,7 @@
 use Rattle.std.proofs.lemmas.List.{set-append_right}
 use Rattle.std.proofs.Math.Nat.{mod-eq_of_lt}
 use Rattle.std.proofs.Math.Pow.{pow-lt}
-use Rattle.vm_core.proofs.Masks.{inserted-free}
+use Rattle.vm_event.proofs.Masks.{inserted-free}
 use Rattle.vm_rule.proofs.ListFacts.{at-listed, at-right}
 use Rattle.vm_rule.proofs.Parts.{listed-upd}
 use Rattle.vm_rule.proofs.Prelude.{[], ap, arith, at, bit_at, bit_at-zero, bit_or, Bool, eq-eqb, eqb, false}

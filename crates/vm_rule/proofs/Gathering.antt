@@ -1,6 +1,6 @@
 -- A core in which open reads are closed, frames go from one actor to another, and actors come that have nothing: it meets the invariant.
 use Rattle.std.proofs.Common.{eq-eqb, ne_eqb}
-use Rattle.vm_core.specs.Inv.{FramePlace}
+use Rattle.vm_event.specs.Inv.{FramePlace}
 use Rattle.vm_rule.proofs.Prelude.{ap, arith, at_actor, at_free, at_page, Bool, cases_Bool, cases_eq, false}
 use Rattle.vm_rule.proofs.Prelude.{FrameIsAt, Free, Held, held-place, History, if◌then◌else◌, Inv, IsFramePlace, List}
 use Rattle.vm_rule.proofs.Prelude.{Mapped, None, Nowhere, OneHolder, Open, Option, Page, PageInv, ReadInv, Seat}

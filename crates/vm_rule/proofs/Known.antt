@@ -1,5 +1,5 @@
 -- What a pass knows of pages stays true after an event of another pass; and so does what any pass knows of translations and ties.
-use Rattle.vm_core.specs.declared.event.Event.TheVariants.{Release}
+use Rattle.vm_event.specs.declared.event.Event.TheVariants.{Release}
 use Rattle.vm_rule.specs.declared.view.Release.{Release as Released}
 use Rattle.vm_rule.proofs.{Entries.each-map, Facts.any-here, Facts.any-true, Prelude.◌≤◌, Views.at-bound, Were.were-moves}
 use Rattle.vm_rule.proofs.Prelude.{[], any, ap, arith, began_of, Bool, cases_eq, cases_lt, Did, Downgrade, Each}

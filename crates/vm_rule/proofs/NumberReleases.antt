@@ -3,7 +3,7 @@
 use mathlib.Core.Option as maybe
 use mathlib.Core.Option.{some-injective}
 use Rattle.std.specs.Prelude.{map}
-use Rattle.vm_core.specs.Prelude.{has_free_bit}
+use Rattle.vm_event.specs.Prelude.{has_free_bit}
 use Rattle.vm_numbers.specs.Hands.{after_first, after_later, all_zero, freed_of, Hands, IsNoOther, IsUsable, less, NumbersFit}
 use Rattle.vm_numbers.proofs.Steps.{first_keeps, later_keeps}
 use Rattle.vm_owner.proofs.NumberLemmas.{without-none}

@@ -4,8 +4,8 @@
 -- (vm_step/proofs/Written).
 use Rattle.std.proofs.Common.{eq-eqb}
 use Rattle.std.specs.Prelude.{map}
-use Rattle.vm_core.specs.declared.event.Event.TheVariants.{PGive, PTake}
-use Rattle.vm_core.specs.Prelude.{has_free_bit}
+use Rattle.vm_event.specs.declared.event.Event.TheVariants.{PGive, PTake}
+use Rattle.vm_event.specs.Prelude.{has_free_bit}
 use Rattle.vm_laws_frame.proofs.Bits.{given-free}
 use Rattle.vm_numbers.specs.Hands.{all_zero, in_hand, IsGivable, NumbersFit}
 use Rattle.vm_numbers.proofs.{Steps.give_keeps, Steps.take_keeps, Sums.hands-at, Sums.hands-two, Sums.one-true}

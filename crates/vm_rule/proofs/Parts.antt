@@ -1,6 +1,6 @@
 -- A word of the table is set: the words of its kind change at one place, and all others stay.
 use Rattle.std.proofs.lemmas.List.{get_or-set_other}
-use Rattle.vm_core.proofs.At.{at_set}
+use Rattle.vm_event.proofs.At.{at_set}
 use Rattle.vm_page.proofs.Sizes.{room, same-page}
 use Rattle.vm_rule.specs.declared.view.WordPlace.TheVariants as places
 use Rattle.vm_rule.proofs.Prelude.{ap, arith, at, bundle_count, bundles_of, cases_eq, cases_lt, frame_words, fun_ext}

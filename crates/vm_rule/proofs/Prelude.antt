@@ -15,29 +15,33 @@ pub use Rattle.std.proofs.lemmas.Nat.Bits.{bit_at-lt, bit_at-zero, bit_at_above,
 pub use mathlib.Core.Path.{fun_ext, subst₃}
 pub use Rattle.atomic_table.proofs.Lists.{at_longer, at_set, at_snoc, set_else, set_here}
 pub use Rattle.atomic_table.specs.Table.{step}
-pub use Rattle.vm_core.specs.{declared.playing.ReplayFault.ReplayFault, History.histories_after, Inv.FramePlace.Held}
-pub use Rattle.vm_core.specs.{Inv.IsFramePlace, OneVersion.AllReadOne, StateActs.seated, Step.changed_at}
-pub use Rattle.vm_core.specs.{Step.given_by, Step.owned, Step.taken_by, Told.FaultsTold, Told.StandsAt}
-pub use Rattle.vm_core.specs.declared.event.Event.TheVariants.{BLoad, Claim, Clean, Clear, Dirty, Disown, Downgrade}
-pub use Rattle.vm_core.specs.declared.event.Event.TheVariants.{Give, Hand, Install, Load, LockS, LockW, LockX, Look}
-pub use Rattle.vm_core.specs.declared.event.Event.TheVariants.{Mark, NLoad, OLoad, Own, Raise, Read, ReleaseE, RFail}
-pub use Rattle.vm_core.specs.declared.event.Event.TheVariants.{Store, Take, TLoad, UnlockS, Unmark, Upgrade, WFail}
-pub use Rattle.vm_core.specs.declared.event.Event.TheVariants.{Write}
-pub use Rattle.vm_core.specs.FrameActs.{frame_of}
-pub use Rattle.vm_core.specs.Prelude.{after_event, AllLegal, appended, at_actor, at_free, at_page, begin, block_after}
-pub use Rattle.vm_core.specs.Prelude.{core_of, core_start, CoreStart, drafted, EVICTED, evicted_page, finds, framed}
-pub use Rattle.vm_core.specs.Prelude.{FrameIsAt, FrameOnce, Free, gains, get_elem?, History, Inv, is_readable}
-pub use Rattle.vm_core.specs.Prelude.{IsStart, Keeps, kept_loads, left_of, Legal, load_frame, loads_more, LOCKED}
-pub use Rattle.vm_core.specs.Prelude.{LocksInv, Mapped, mapping_of, MARKED, MAX_COUNT, MAX_VERSION, MayCall, no_seat}
-pub use Rattle.vm_core.specs.Prelude.{Nowhere, on_page, one_share_more, OneHolder, open_after, open_frame}
-pub use Rattle.vm_core.specs.Prelude.{outside_page, Page, page_word, PageInv, ReadInv, Replayed, run, RunsTo}
-pub use Rattle.vm_core.specs.Prelude.{share_count, some, some-injective, stands_in, start, State, stored_at, Told}
-pub use Rattle.vm_core.specs.Prelude.{trans_word, UNLOCKED, unshared, Validates, Version, with_dirty, word_at}
-pub use Rattle.vm_core.specs.Prelude.{WordsInv, World, world_after, world_run}
-pub use Rattle.vm_core.proofs.{At.at-get, Locks.locked-from_owner, Locks.shared-state, Locks.sum_below-at}
-pub use Rattle.vm_core.proofs.{PageFacts.found, PageFacts.none-some, Starting.locks-none, Whole.page-alone}
-pub use Rattle.vm_core.proofs.{WordBits.frame-of, WordBits.top-clear, WordBits.top-set}
-pub use Rattle.vm_core.proofs.Upd.{each-upd, sum_below-past, upd-keeps, upd-map, upd-other, upd-same, upd-self}
+pub use Rattle.vm_event.specs.{History.histories_after, Inv.FramePlace.Held}
+pub use Rattle.vm_core.specs.{declared.playing.ReplayFault.ReplayFault}
+pub use Rattle.vm_event.specs.{Inv.IsFramePlace, OneVersion.AllReadOne, StateActs.seated, Step.changed_at}
+pub use Rattle.vm_event.specs.{Step.given_by, Step.owned, Step.taken_by, Told.FaultsTold, Told.StandsAt}
+pub use Rattle.vm_event.specs.declared.event.Event.TheVariants.{BLoad, Claim, Clean, Clear, Dirty, Disown, Downgrade}
+pub use Rattle.vm_event.specs.declared.event.Event.TheVariants.{Give, Hand, Install, Load, LockS, LockW, LockX, Look}
+pub use Rattle.vm_event.specs.declared.event.Event.TheVariants.{Mark, NLoad, OLoad, Own, Raise, Read, ReleaseE, RFail}
+pub use Rattle.vm_event.specs.declared.event.Event.TheVariants.{Store, Take, TLoad, UnlockS, Unmark, Upgrade, WFail}
+pub use Rattle.vm_event.specs.declared.event.Event.TheVariants.{Write}
+pub use Rattle.vm_event.specs.FrameActs.{frame_of}
+pub use Rattle.vm_event.specs.Prelude.{after_event, AllLegal, appended, at_actor, at_free, at_page, begin, block_after}
+pub use Rattle.vm_event.specs.Prelude.{core_start, CoreStart, drafted, EVICTED, evicted_page, finds, framed}
+pub use Rattle.vm_core.specs.Prelude.{core_of}
+pub use Rattle.vm_event.specs.Prelude.{FrameIsAt, FrameOnce, Free, gains, get_elem?, History, Inv, is_readable}
+pub use Rattle.vm_event.specs.Prelude.{IsStart, Keeps, kept_loads, left_of, Legal, load_frame, loads_more, LOCKED}
+pub use Rattle.vm_event.specs.Prelude.{LocksInv, Mapped, mapping_of, MARKED, MAX_COUNT, MAX_VERSION, MayCall, no_seat}
+pub use Rattle.vm_event.specs.Prelude.{Nowhere, on_page, one_share_more, OneHolder, open_after, open_frame}
+pub use Rattle.vm_event.specs.Prelude.{outside_page, Page, page_word, PageInv, ReadInv, run, RunsTo}
+pub use Rattle.vm_core.specs.Prelude.{Replayed}
+pub use Rattle.vm_event.specs.Prelude.{share_count, some, some-injective, stands_in, start, State, stored_at, Told}
+pub use Rattle.vm_event.specs.Prelude.{trans_word, UNLOCKED, unshared, Validates, Version, with_dirty, word_at}
+pub use Rattle.vm_event.specs.Prelude.{WordsInv, World, world_after, world_run}
+pub use Rattle.vm_event.proofs.{At.at-get, Locks.locked-from_owner, Locks.shared-state, Locks.sum_below-at}
+pub use Rattle.vm_event.proofs.{PageFacts.found, PageFacts.none-some, Whole.page-alone}
+pub use Rattle.vm_core.proofs.{Starting.locks-none}
+pub use Rattle.vm_event.proofs.{WordBits.frame-of, WordBits.top-clear, WordBits.top-set}
+pub use Rattle.vm_event.proofs.Upd.{each-upd, sum_below-past, upd-keeps, upd-map, upd-other, upd-same, upd-self}
 pub use Rattle.vm_laws_state.proofs.Laws.{downgrade_law, lock_exclusive_law, lock_shared_law, lock_write_back_law}
 pub use Rattle.vm_laws_state.proofs.Laws.{look_law, mark_law, release_evicted_law, release_law, unlock_shared_law}
 pub use Rattle.vm_laws_state.proofs.Laws.{unmark_law, upgrade_law}
@@ -79,20 +83,8 @@ pub use Rattle.vm_rule.specs.Prelude.{started_words, StartsWith, Stored, Table, 
 pub use Rattle.vm_rule.specs.Prelude.{times, times_noted, total, TranslationHolds, unborn, view_from, WasNext}
 pub use Rattle.vm_rule.specs.Prelude.{WasWord, WereWords, width, width_of, with_contents, with_word, Within, without}
 pub use Rattle.vm_rule.specs.Prelude.{without_all, Words, world_of}
-unfoldable pub use Rattle.vm_core.specs.Prelude.{
-  at,
-  core_block,
-  count_more,
-  frame_in,
-  full_bundle,
-  hand_more,
-  has_free_bit,
-  in_mask,
-  state_of,
-  sum_below,
-  upd,
-}
-unfoldable pub use Rattle.vm_core.specs.Prelude.{version_of, word_of}
+unfoldable pub use Rattle.vm_event.specs.Prelude.{at, core_block, count_more, frame_in, full_bundle, hand_more, has_free_bit, in_mask, state_of, sum_below, upd}
+unfoldable pub use Rattle.vm_event.specs.Prelude.{version_of, word_of}
 unfoldable pub use Rattle.vm_rule.specs.Prelude.{
   block_of,
   chosen,

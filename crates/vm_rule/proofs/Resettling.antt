@@ -5,7 +5,7 @@
 use mathlib.Core.Option as maybe
 use Rattle.vm_rule.proofs.{Entries.append-none, Pages.page-in, Pages.page-out, Views.at-bound, Views.at-there, Views.views-set}
 use Rattle.std.specs.Prelude.{map}
-use Rattle.vm_core.specs.Prelude.{has_free_bit}
+use Rattle.vm_event.specs.Prelude.{has_free_bit}
 use Rattle.vm_numbers.specs.Hands.{NumbersFit}
 use Rattle.vm_rule.proofs.Numbered.{numbers-as}
 use Rattle.vm_rule.specs.{Reading.numbers_held, Rule.hands_of, Views.any}

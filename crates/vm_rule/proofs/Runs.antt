@@ -1,8 +1,8 @@
 -- Lists of events keep the invariant, and each validated read saw one version.
-use Rattle.vm_core.specs.declared.event.Event.TheVariants.{PBLoad, PGive, PTake, Release}
+use Rattle.vm_event.specs.declared.event.Event.TheVariants.{PBLoad, PGive, PTake, Release}
 use Rattle.vm_laws_frame.proofs.Laws.{give_numbers_law, spare_load_law, take_numbers_law}
 use Rattle.std.proofs.lemmas.Bool.{eqb-true}
-use Rattle.vm_core.specs.Prelude.{has_free_bit}
+use Rattle.vm_event.specs.Prelude.{has_free_bit}
 use Rattle.vm_laws_frame.proofs.Bits.{given-free}
 use Rattle.vm_rule.proofs.Prelude.{Bool, false, if◌then◌else◌, Legal, sym, taken-free, true≢false, ℕ, ◌<◌, []}
 use Rattle.vm_rule.proofs.Prelude.{after_event, AllLegal, AllReadOne, BLoad, bundle_load_law, cases_Bool, Claim}

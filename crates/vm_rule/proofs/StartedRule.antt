@@ -2,8 +2,8 @@
 -- invariant; the first pass
 -- has all parts and knows nothing yet, and the lists are empty.
 use mathlib.Core.Option as maybe
-use Rattle.vm_core.specs.Prelude.{start as start_of}
-use Rattle.vm_core.specs.Prelude.{has_free_bit}
+use Rattle.vm_event.specs.Prelude.{start as start_of}
+use Rattle.vm_event.specs.Prelude.{has_free_bit}
 use Rattle.vm_numbers.specs.Hands.{all_zero, Hands, no_hands, unit_if}
 use Rattle.vm_rule.proofs.FreeWords.{free_words-bits}
 use Rattle.vm_rule.proofs.StartedWords.{started-spare}

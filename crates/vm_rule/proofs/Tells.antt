@@ -1,5 +1,5 @@
 -- What the invariant tells, in full.
-use Rattle.vm_core.specs.Inv.{FramePlace}
+use Rattle.vm_event.specs.Inv.{FramePlace}
 use Rattle.vm_rule.proofs.Prelude.{eq-eqb, FrameIsAt, Free, free-place, Held, held-place, Inv, Mapped, mapped-place, Nowhere, refl}
 use Rattle.vm_rule.proofs.Prelude.{StandsAt, State, subst, sym, Told, World, ℕ, ◌<◌, ◌∙◌, ◌≡◌}
 

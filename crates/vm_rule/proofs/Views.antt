@@ -1,7 +1,7 @@
 -- What is read off the views, after one of them changed.
 use mathlib.Core.Option as maybe
 use Rattle.atomic_table.proofs.Lists.{at_set as view_set}
-use Rattle.vm_core.proofs.At.{at_set}
+use Rattle.vm_event.proofs.At.{at_set}
 use Rattle.vm_rule.proofs.Prelude.{[], any, ap, arith, at, block_of, Bool, fun_ext, get_elem?, home, known, length}
 use Rattle.vm_rule.proofs.Prelude.{List, Option, out_of, out_or, refl, slice_set, some, some-injective, spent, Stored}
 use Rattle.vm_rule.proofs.Prelude.{subst, suc, sym, total, upd, upd-keeps, View, zero, ℕ, ⊎_elim, ◌+◌, ◌<◌, ◌||◌, ◌∙◌}

@@ -1,7 +1,7 @@
 -- The blocks that a table begins with have a page's words each.
 use Rattle.std.proofs.Common.{[], arith, length, List, map, suc, zero, ℕ, ◌∷◌, ◌≡◌}
 use Rattle.vm_block.specs.declared.stored.Stored.{Stored}
-use Rattle.vm_core.specs.Prelude.{at}
+use Rattle.vm_event.specs.Prelude.{at}
 use Rattle.vm_rule.specs.Prelude.{AreWhole}
 
 pub whole-each : {B : Type 0} (stored : B → Stored) (size : ℕ) (items : List B)

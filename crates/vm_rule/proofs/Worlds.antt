@@ -1,10 +1,10 @@
 -- The world that is read after a step of one pass: it is the world after the event.
 use Rattle.std.proofs.Common.{eq-eqb, ne_eqb}
-use Rattle.vm_core.specs.{declared.event.Event.TheVariants.Release, History.stored as store_history}
+use Rattle.vm_event.specs.{declared.event.Event.TheVariants.Release, History.stored as store_history}
 use Rattle.vm_rule.specs.declared.view.WordPlace.TheVariants as places
 use Rattle.vm_rule.specs.declared.view.Release.{Release as Released}
 use Rattle.vm_rule.proofs.{Found.content-here, Found.loads-here, Found.seat-here, Found.seats-here, Parts.upd-is, Views.block-same}
-use Rattle.vm_core.specs.Step.{keeps_number, number_left}
+use Rattle.vm_event.specs.Step.{keeps_number, number_left}
 use Rattle.vm_owner.specs.Numbers.{has}
 use Rattle.vm_rule.specs.Reading.{holdings, numbers_held}
 use Rattle.vm_rule.proofs.Views.{at-there}

@@ -3,7 +3,7 @@
 use Rattle.std.specs.Int.{bit_at}
 use Rattle.std.specs.Prelude.{[], bit_and, bit_or, bit_xor, false, if◌then◌else◌, length, List, suc, true, zero, ℕ}
 use Rattle.std.specs.Prelude.{◌*◌, ◌++◌, ◌+◌, ◌<◌, ◌==◌, ◌∷◌, ◌≡◌}
-use Rattle.vm_core.specs.{declared.words.TheConstants.FRAMES, Prelude.hand_more, Prelude.in_mask}
+use Rattle.vm_event.specs.{declared.words.TheConstants.FRAMES, Prelude.hand_more, Prelude.in_mask}
 use Rattle.vm_owner.specs.Numbers.{has}
 use Rattle.vm_rule.specs.{Brought.Brings, declared.view.Put.Put, declared.view.View.View, Puts.put, Releases.without_all}
 use Rattle.vm_rule.specs.declared.view.WordPlace.TheVariants as places

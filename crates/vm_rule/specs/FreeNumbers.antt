@@ -1,7 +1,7 @@
 -- What the steps on a free-number word tell. Numbers that are taken come to the pass; those that are given leave it,
 -- whether it held them or freed their pages.
 use Rattle.std.specs.Prelude.{[], bit_and, bit_or, bit_xor, false, if◌then◌else◌, ℕ, ◌++◌, ◌<◌, ◌==◌, ◌≡◌, ◌⊎◌, true}
-use Rattle.vm_core.specs.{Prelude.in_mask}
+use Rattle.vm_event.specs.{Prelude.in_mask}
 use Rattle.vm_numbers.specs.Hands.{all_zero}
 use Rattle.vm_owner.specs.Numbers.{has}
 use Rattle.vm_rule.specs.{Brought.Brings, Bundles.frames_in, declared.view.View.View, Releases.without_all}

@@ -1,7 +1,8 @@
 -- What is kept by a list of events from the start.
 use Rattle.std.specs.Prelude.{◌++◌, ◌≡◌, ◌≤◌, List, take}
-use Rattle.vm_core.specs.Prelude.{begin, core_start, CoreStart, FrameOnce, Inv, RunsTo, start, State, world_run}
-use Rattle.vm_core.specs.{declared.playing.ReplayFault.ReplayFault, OneVersion.AllReadOne, Told.DeviceHolds, Told.FaultsTold}
+use Rattle.vm_event.specs.Prelude.{begin, core_start, CoreStart, FrameOnce, Inv, RunsTo, start, State, world_run}
+use Rattle.vm_event.specs.{OneVersion.AllReadOne, Told.DeviceHolds, Told.FaultsTold}
+use Rattle.vm_core.specs.{declared.playing.ReplayFault.ReplayFault}
 use Rattle.vm_core.specs.declared.playing.ReplayFault.TheVariants as faults
 use Rattle.vm_rule.specs.Prelude.{CoreShape, Event}
 

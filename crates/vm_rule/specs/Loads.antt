@@ -1,8 +1,8 @@
 -- What a load tells: of a translation word, or of a word of a page's frame.
 use Rattle.std.specs.Prelude.{[], if◌then◌else◌, is_some, IsSome, List, nat_lt, None, Option, slice_index, Some, true}
 use Rattle.std.specs.Prelude.{ℕ, ◌&&◌, ◌++◌, ◌<◌, ◌||◌, ◌∷◌, ◌≡◌, ◌≤◌}
-use Rattle.vm_core.specs.Prelude.{frame_of, framed, loads_more, mapping_of, open_frame}
-use Rattle.vm_core.specs.{declared.event.Mapping.Mapping, declared.event.Open.Open}
+use Rattle.vm_event.specs.Prelude.{frame_of, framed, loads_more, mapping_of, open_frame}
+use Rattle.vm_event.specs.{declared.event.Mapping.Mapping, declared.event.Open.Open}
 use Rattle.vm_rule.specs.{Brought.Brings, declared.view.Translation.Translation, declared.view.View.View}
 use Rattle.vm_rule.specs.{Log.did_load, Puts.put, Puts.put_at, Reading.last_of, Rule.no_held, Views.draft_of}
 use Rattle.vm_rule.specs.{Views.IsLocking, Views.loads_at, Views.may_call, Views.seat_of}

@@ -2,9 +2,9 @@
 -- write-back that becomes exclusive. So do the steps on marks. A step that expects a word changes the view only where it found that word.
 use Rattle.std.specs.Prelude.{[], Bool, false, if◌then◌else◌, IsSome, length, List, nat_lt, None, Option, Some, true}
 use Rattle.std.specs.Prelude.{ℕ, ◌++◌, ◌+◌, ◌-◌, ◌<◌, ◌==◌, ◌^◌, ◌||◌, ◌∷◌, ◌≡◌, ◌≢◌, ◌≤◌}
-use Rattle.vm_core.specs.Prelude.{EVICTED, LoadsAre, LOCKED, mapping_of, MAX_VERSION, one_share_more, state_of}
-use Rattle.vm_core.specs.Prelude.{unshared, version_of, word_of}
-use Rattle.vm_core.specs.{declared.event.Mapping.Mapping, declared.event.Open.Open, declared.event.Seat.Seat}
+use Rattle.vm_event.specs.Prelude.{EVICTED, LoadsAre, LOCKED, mapping_of, MAX_VERSION, one_share_more, state_of}
+use Rattle.vm_event.specs.Prelude.{unshared, version_of, word_of}
+use Rattle.vm_event.specs.{declared.event.Mapping.Mapping, declared.event.Open.Open, declared.event.Seat.Seat}
 use Rattle.vm_laws_others.specs.Leaves.{stands_dirty}
 use Rattle.vm_numbers.specs.Hands.{all_zero}
 use Rattle.vm_owner.specs.{declared.Entry.Entry, Kept.Start, Numbers.has}

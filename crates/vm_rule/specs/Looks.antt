@@ -1,10 +1,10 @@
 -- What a look tells: the view after it, and what a validated read saw.
 use Rattle.std.specs.Prelude.{[], ◌++◌, ◌<◌, ◌==◌, ◌∷◌, ◌≡◌, ◌≤◌, ◌⊎◌, false, if◌then◌else◌, length, List, None}
 use Rattle.std.specs.Prelude.{Option, Some, suc, true, zero, ℕ}
-use Rattle.vm_core.specs.Prelude.{EVICTED, frame_of, is_readable, kept_loads, left_open, LoadsAre, mapping_of, MARKED}
-use Rattle.vm_core.specs.Prelude.{open_after, open_frame, state_of, UNLOCKED, version_of}
-use Rattle.vm_core.specs.{declared.event.Open.Open, declared.event.ReadIs.ReadIs}
-use Rattle.vm_core.specs.declared.event.ReadIs.TheVariants.{Closed, Same}
+use Rattle.vm_event.specs.Prelude.{EVICTED, frame_of, is_readable, kept_loads, left_open, LoadsAre, mapping_of, MARKED}
+use Rattle.vm_event.specs.Prelude.{open_after, open_frame, state_of, UNLOCKED, version_of}
+use Rattle.vm_event.specs.{declared.event.Open.Open, declared.event.ReadIs.ReadIs}
+use Rattle.vm_event.specs.declared.event.ReadIs.TheVariants.{Closed, Same}
 use Rattle.vm_owner.specs.Kept.{Start}
 use Rattle.vm_rule.specs.{Brought.Brings, Brought.entries_of, declared.view.Did.Did, declared.view.Tie.Tie}
 use Rattle.vm_rule.specs.{declared.view.View.View, Layout.at_state, Log.did_load, Puts.put, Reading.last_of}

@@ -1,7 +1,7 @@
 -- What the steps on a page's translation word tell: a page is put into a frame of the pass, or taken out of its
 -- frame; it is made dirty, or clean.
 use Rattle.std.specs.Prelude.{[], ◌<◌, ◌∷◌, ◌≡◌, Bool, false, length, List, None, Option, Some, true, ℕ}
-use Rattle.vm_core.specs.{declared.event.Mapping.Mapping, Prelude.trans_word}
+use Rattle.vm_event.specs.{declared.event.Mapping.Mapping, Prelude.trans_word}
 use Rattle.vm_owner.specs.Numbers.{has, without}
 use Rattle.vm_rule.specs.{Brought.Brings, declared.view.Held.Held, declared.view.Put.Put, declared.view.View.View, Log.did_store, Puts.put}
 use Rattle.vm_rule.specs.{Puts.put_at, Reading.last_of, Rule.no_held, Views.seat_of}

@@ -5,9 +5,9 @@
 pub use Rattle.atomic_table.specs.{Seated.TableId, Table.Allows, Table.Me, Table.opening, Table.rest, Table.State as Table, Table.Step}
 pub use Rattle.vm_block.specs.{declared.memory.MemBlock.MemBlock, declared.stored.Stored.Stored, Memory.stored_of}
 pub use Rattle.vm_block.specs.{Memory.words_of, Plans.most_faults}
-pub use Rattle.vm_core.specs.{declared.event.CoreShape.CoreShape, declared.event.Event.Event}
-pub use Rattle.vm_core.specs.{declared.event.Mapping.Mapping, declared.event.Open.Open, declared.event.ReadIs.ReadIs}
-pub use Rattle.vm_core.specs.{declared.event.Seat.Seat, declared.words.TheConstants.FRAMES}
+pub use Rattle.vm_event.specs.{declared.event.CoreShape.CoreShape, declared.event.Event.Event}
+pub use Rattle.vm_event.specs.{declared.event.Mapping.Mapping, declared.event.Open.Open, declared.event.ReadIs.ReadIs}
+pub use Rattle.vm_event.specs.{declared.event.Seat.Seat, declared.words.TheConstants.FRAMES}
 pub use Rattle.vm_laws_others.specs.Leaves.{actor_of, Leaves, stands_dirty}
 pub use Rattle.vm_owner.specs.{declared.Entry.Entry, Numbers.AreApart, Numbers.has, Numbers.without}
 pub use Rattle.vm_owner.specs.Kept.{AreUnchanged, Change, changed_pages, claimed, entries_under, Kept, Start}

@@ -1,6 +1,6 @@
 -- A function from numbers, as a list of its changes; and lists that are read off functions.
 use Rattle.std.specs.Prelude.{[], ◌++◌, ◌∷◌, Bool, if◌then◌else◌, List, suc, zero, ℕ}
-use Rattle.vm_core.specs.Prelude.{upd}
+use Rattle.vm_event.specs.Prelude.{upd}
 use Rattle.vm_rule.specs.declared.view.Put.{Put}
 
 -- the function: d, changed at each place of the list, the last change first

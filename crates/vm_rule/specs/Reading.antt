@@ -3,8 +3,8 @@ use Rattle.std.specs.Prelude.{[], ◌*◌, ◌++◌, ◌+◌, ◌==◌, ◌∷�
 use mathlib.Core.Option as maybe
 use Rattle.atomic_table.specs.Table.{State as Table}
 use Rattle.vm_block.specs.declared.stored.Stored.{Stored}
-use Rattle.vm_core.specs.Prelude.{at, History, mapping_of, outside_page, Page, State, state_of, Version, version_of, World}
-use Rattle.vm_core.specs.declared.event.Seat.{Seat}
+use Rattle.vm_event.specs.Prelude.{at, History, mapping_of, outside_page, Page, State, state_of, Version, version_of, World}
+use Rattle.vm_event.specs.declared.event.Seat.{Seat}
 use Rattle.vm_owner.specs.Numbers.{has}
 use Rattle.vm_rule.specs.{declared.view.Origin.Origin, declared.view.Out.Out, declared.view.Release.Release}
 use Rattle.vm_rule.specs.{declared.view.View.View, Layout.table_words, Layout.Words, Puts.listed, Views.loads_at}

@@ -2,7 +2,7 @@
 -- members logical. A page that
 -- is not resident is released as evicted.
 use Rattle.std.specs.Prelude.{[], ◌&&◌, ◌++◌, ◌+◌, ◌==◌, ◌∷◌, ◌≡◌, false, if◌then◌else◌, List, None, Option, Some, true, ℕ}
-use Rattle.vm_core.specs.Prelude.{EVICTED, word_of}
+use Rattle.vm_event.specs.Prelude.{EVICTED, word_of}
 use Rattle.vm_numbers.specs.Hands.{all_zero, freed_of}
 use Rattle.vm_owner.specs.{Kept.Change, Numbers.has, Numbers.without}
 use Rattle.vm_rule.specs.{Brought.Brings, Brought.entries_of, declared.view.View.View, Log.did_store, Puts.put}

@@ -4,9 +4,9 @@ use Rattle.std.specs.Prelude.{List, None, Option, replicate, Some, true, ℕ}
 use mathlib.Core.Option as maybe
 use Rattle.atomic_table.specs.Table.{State as Table}
 use Rattle.vm_block.specs.declared.stored.Stored.{Stored}
-use Rattle.vm_core.specs.Prelude.{at, EVICTED, frame_of, get_elem?, has_free_bit, History, Inv, is_readable, LOCKED}
-use Rattle.vm_core.specs.Prelude.{mapping_of, MAX_COUNT, Page, state_of, trans_word, version_of, World}
-use Rattle.vm_core.specs.declared.event.{Mapping.Mapping, Seat.Seat}
+use Rattle.vm_event.specs.Prelude.{at, EVICTED, frame_of, get_elem?, has_free_bit, History, Inv, is_readable, LOCKED}
+use Rattle.vm_event.specs.Prelude.{mapping_of, MAX_COUNT, Page, state_of, trans_word, version_of, World}
+use Rattle.vm_event.specs.declared.event.{Mapping.Mapping, Seat.Seat}
 use Rattle.vm_laws_others.specs.Leaves.{stands_dirty}
 use Rattle.vm_numbers.specs.Hands.{Hands, NumbersFit}
 use Rattle.std.specs.Prelude.{map}

@@ -2,7 +2,7 @@
 -- it is back. A block that is taken out leaves its slot empty; one that comes home may have had one call of its device.
 use Rattle.std.specs.Prelude.{[], ◌≡◌, Bool, false, if◌then◌else◌, IsSome, List, None, Some, true, ℕ}
 use Rattle.vm_block.specs.declared.stored.Stored.{Stored}
-use Rattle.vm_core.specs.Prelude.{at, count_more}
+use Rattle.vm_event.specs.Prelude.{at, count_more}
 use Rattle.vm_rule.specs.{Brought.Brings, Brought.BringsWith, declared.view.Out.Out, declared.view.View.View}
 use Rattle.vm_rule.specs.{Log.did_load, Mappings.held_at, Puts.put, Reading.last_of, Views.draft_of, Views.seat_of}
 use Rattle.vm_rule.specs.declared.view.WordPlace.TheVariants as places

@@ -1,6 +1,6 @@
 -- What the rule keeps of a live view, read off that view alone.
 use Rattle.std.specs.Prelude.{[], ◌++◌, ◌<◌, ◌∷◌, ◌≡◌, ◌≤◌, true, ℕ}
-use Rattle.vm_core.specs.Prelude.{MAX_VERSION}
+use Rattle.vm_event.specs.Prelude.{MAX_VERSION}
 use Rattle.vm_owner.specs.{Kept.AreCounted, Numbers.AreApart, Numbers.has}
 use Rattle.vm_rule.specs.{declared.view.View.View, Reading.last_of, Rule.AreNext, Views.Each, Views.entries_by, Views.PARTS}
 

@@ -2,9 +2,9 @@
 use Rattle.std.specs.Prelude.{[], ◌%◌, ◌*◌, ◌++◌, ◌/◌, ◌<◌, ◌^◌, ◌∷◌, ◌≡◌, ◌≤◌, bit_or, Bool, if◌then◌else◌, length}
 use Rattle.std.specs.Prelude.{List, map, replicate, true, ℕ}
 use Rattle.vm_block.specs.declared.stored.Stored.{Stored}
-use Rattle.vm_core.specs.{declared.words.TheConstants.FRAMES, Prelude.at, Prelude.EVICTED, Prelude.full_bundle}
-use Rattle.vm_core.specs.{Prelude.MAX_VERSION, Prelude.page_at}
-use Rattle.vm_core.specs.Prelude.{upd, word_of}
+use Rattle.vm_event.specs.{declared.words.TheConstants.FRAMES, Prelude.at, Prelude.EVICTED, Prelude.full_bundle}
+use Rattle.vm_event.specs.{Prelude.MAX_VERSION, Prelude.page_at}
+use Rattle.vm_event.specs.Prelude.{upd, word_of}
 use Rattle.vm_owner.specs.{Kept.first_kept, Kept.Kept, Kept.Start, Numbers.has}
 use Rattle.vm_page.specs.Pages.{all_zero}
 use Rattle.vm_rule.specs.{declared.view.Origin.Origin, declared.view.Snapshot.Snapshot}

@@ -1,7 +1,7 @@
 -- Views: what is read off one, what is summed over all, and the views that passes begin and end with.
 use Rattle.std.specs.Prelude.{[], Bool, false, if◌then◌else◌, List, nat_lt, None, suc, true, zero, ℕ, ◌&&◌, ◌++◌, ◌+◌}
 use Rattle.std.specs.Prelude.{◌<◌, ◌==◌, ◌||◌, ◌∷◌, ◌≡◌, ◌≤◌, ◌⊎◌}
-use Rattle.vm_core.specs.{declared.event.Seat.Seat, Prelude.no_seat}
+use Rattle.vm_event.specs.{declared.event.Seat.Seat, Prelude.no_seat}
 use Rattle.vm_owner.specs.{declared.Entry.Entry, Numbers.has}
 use Rattle.vm_rule.specs.{declared.view.Note.Note, declared.view.Origin.Origin, declared.view.View.View, Puts.put_at}
 

@@ -3,7 +3,8 @@
 #![tactic(auto)]
 
 ghost use Rattle.std.specs.Prelude.{◌≡◌, Err, IfErr, IfOk, List, Ok, true};
-ghost use Rattle.vm_core.specs.Prelude.{AllLegal, begin, core_of, CoreStart, Inv, IsStart, Replayed, RunsTo, start, State, Told, World, world_run};
+ghost use Rattle.vm_event.specs.Prelude.{AllLegal, begin, CoreStart, Inv, IsStart, RunsTo, start, State, Told, World, world_run};
+ghost use Rattle.vm_core.specs.Prelude.{core_of, Replayed};
 ghost use Rattle.vm_rule.specs.Prelude.{Event};
 ghost use Rattle.vm_rule.specs.Kept.{IsRunKept, KeptFault, KeptFrom};
 
@@ -16,7 +17,8 @@ pub mod view;
 pub mod words;
 
 use std::alloc::Global;
-use vm_core::{Core, Event, ReplayFault, Seen, replay};
+use vm_core::{Core, ReplayFault, replay};
+use vm_event::{Event, Seen};
 
 /// Every start meets the invariant, whatever the number of frames in its last bundle.
 #[tactic(auto, using(crate::proofs::Starts::start_law))]

@@ -10,7 +10,7 @@ use atomic_table::{Play, Seat, Table};
 use std::alloc::{AllocError, Global};
 use std::marker::PhantomData;
 use vm_block::Block;
-use vm_core::Memory;
+use vm_event::Memory;
 use vm_owner::Owner;
 
 /// The same word, `count` times.

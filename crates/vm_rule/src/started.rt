@@ -1,7 +1,7 @@
 //! The maker of a table: every page is evicted, its words in its block, and every frame is free.
 
 ghost use Rattle.std.specs.Prelude.{◌*◌, ◌++◌, ◌-◌, ◌^◌, ◌≡◌, ◌≤◌, IfOk, length, map, true};
-ghost use Rattle.vm_core.specs.Prelude.{full_bundle, MAX_VERSION};
+ghost use Rattle.vm_event.specs.Prelude.{full_bundle, MAX_VERSION};
 ghost use Rattle.vm_rule.specs.Prelude.{AreClaimed, block_words, bundles_of, counts_of, AreWhole, free_words, IsStarted, listed, MayBegin, started_shape, started_words, unborn};
 ghost use Rattle.vm_page.specs.Sizes.{IsSize};
 ghost use Rattle.vm_rule.specs.Prelude.{view_of};
@@ -13,7 +13,7 @@ use crate::view::TableShape;
 use crate::words::{Pass, Words};
 use std::alloc::{AllocError, Global};
 use vm_block::Block;
-use vm_core::{FRAMES, Memory, StateWord, TransWord};
+use vm_event::{FRAMES, Memory, StateWord, TransWord};
 use vm_owner::Owner;
 
 impl<U: Owner, B: Block + Drop> Words<U, B> {

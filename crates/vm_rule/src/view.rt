@@ -2,7 +2,7 @@
 use crate::began::Began;
 use std::collections::LinkedList;
 use vm_block::Stored;
-use vm_core::{Mapping, Seat};
+use vm_event::{Mapping, Seat};
 use vm_owner::Entry;
 
 /// One change of a function from numbers. A list of them, the last change first, is a function.

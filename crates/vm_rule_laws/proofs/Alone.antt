@@ -2,7 +2,7 @@
 use Rattle.std.proofs.Common.{[], ⊎_elim, ◌∙◌, ◌∷◌, ◌≡◌, ◌≢◌, ◌≤◌, ap, arith, Bool, false, List, Option, refl, subst}
 use Rattle.std.proofs.Common.{sym, true, true≢false, ℕ}
 use Rattle.std.proofs.lemmas.Bool.{cases_Bool, eq-eqb}
-use Rattle.vm_rule.specs.from_vm_core.Prelude.{get_elem?, some}
+use Rattle.vm_rule.specs.from_vm_event.Prelude.{get_elem?, some}
 use Rattle.vm_rule.specs.Prelude.{has, HoldsNothing, is_pending, Kept, KnowsPages, owns, Ruled, seat_of, spent, Start}
 use Rattle.vm_rule.specs.Prelude.{Stored, Table, times, world_of}
 use Rattle.vm_rule.specs.{declared.view.Origin.Origin, declared.view.View.View}

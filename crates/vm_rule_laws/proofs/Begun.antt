@@ -1,7 +1,7 @@
 -- A table stands by its rule, or its first pass has not begun: and then no pass lives.
 use Rattle.std.proofs.Common.{[], ⊎_elim, ◌∙◌, ◌∷◌, ◌≡◌, ap, Bool, List, Option, subst, suc, sym, true, true≢false, zero, ℕ}
 use mathlib.Core.Option as maybe
-use Rattle.vm_rule.specs.from_vm_core.Prelude.{get_elem?, some, some-injective}
+use Rattle.vm_rule.specs.from_vm_event.Prelude.{get_elem?, some, some-injective}
 use Rattle.vm_rule.specs.Prelude.{HasShape, Kept, Ruled, Stands, Start, Stored, Table, unborn}
 use Rattle.vm_rule.specs.{declared.view.Origin.Origin, declared.view.TableShape.TableShape, declared.view.View.View}
 

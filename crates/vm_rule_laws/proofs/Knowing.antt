@@ -3,7 +3,7 @@ use Rattle.std.proofs.Common.{[], ⊎_elim, ◌++◌, ◌<◌, ◌∙◌, ◌≡
 use Rattle.std.proofs.Common.{sym, true, true≢false, zero, ℕ}
 use Rattle.std.proofs.lemmas.Bool.{cases_Bool, cases_eq, cases_lt}
 use mathlib.Core.Path.{fun_ext}
-use Rattle.vm_rule.specs.from_vm_core.Prelude.{at, get_elem?, has_free_bit, History, some, some-injective}
+use Rattle.vm_rule.specs.from_vm_event.Prelude.{at, get_elem?, has_free_bit, History, some, some-injective}
 use Rattle.vm_rule.specs.Prelude.{any, began_of, block_of, chosen, core_shown, has, histories_of, is_owed, is_pending}
 use Rattle.vm_rule.specs.Prelude.{Kept, kept_of, last_in, listed, logical, no_block, page_from, pages_from, Ruled}
 use Rattle.vm_rule.specs.Prelude.{Seat, seats_of, snapshot_of, Start, Stored, Table, table_words, Words, world_of}

@@ -3,7 +3,7 @@ use Rattle.std.proofs.Common.{[], ⊎_elim, ◌++◌, ◌+◌, ◌∙◌, ◌∷
 use Rattle.std.proofs.Common.{refl, subst, sym, true, ℕ}
 use Rattle.std.proofs.lemmas.Bool.{cases_Bool}
 use Rattle.std.proofs.lemmas.List.{append-nil, length-append}
-use Rattle.vm_rule.specs.from_vm_core.Prelude.{get_elem?, some}
+use Rattle.vm_rule.specs.from_vm_event.Prelude.{get_elem?, some}
 use Rattle.vm_rule.specs.Prelude.{Kept, Ruled, spent, Start, StartsWith, Stored, Table}
 use Rattle.vm_rule.specs.{declared.view.Origin.Origin, declared.view.View.View}
 

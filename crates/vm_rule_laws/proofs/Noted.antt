@@ -1,7 +1,7 @@
 -- What a pass noted is at most the fault word of the page, so at most the count of its block, which the snapshot shows.
 use Rattle.std.proofs.Common.{⊎_elim, ◌∙◌, ◌≡◌, ◌≤◌, ap, arith, Bool, length, List, Option, sym, ℕ}
 use Rattle.std.proofs.lemmas.Bool.{cases_lt}
-use Rattle.vm_rule.specs.from_vm_core.Prelude.{Page}
+use Rattle.vm_rule.specs.from_vm_event.Prelude.{Page}
 use Rattle.vm_rule.specs.Prelude.{block_of, core_shown, Kept, listed, no_block, Ruled, snapshot_of, Start, Stored}
 use Rattle.vm_rule.specs.Prelude.{Table, times_noted, total}
 use Rattle.vm_rule.specs.{declared.view.Origin.Origin, declared.view.Snapshot.Snapshot, declared.view.View.View}

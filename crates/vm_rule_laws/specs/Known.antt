@@ -1,6 +1,6 @@
 -- What a pass with all parts of a table knows of it once it has made a step, read off its view alone.
 use Rattle.std.specs.Prelude.{◌≡◌, length, List, Option, true, ℕ}
-use Rattle.vm_rule.specs.from_vm_core.Prelude.{at, get_elem?, has_free_bit, some, State}
+use Rattle.vm_rule.specs.from_vm_event.Prelude.{at, get_elem?, has_free_bit, some, State}
 use Rattle.vm_rule.specs.Prelude.{chosen, core_from, core_shown, Entry, frames_held, has, numbers_held, IsWhole, Kept}
 use Rattle.vm_rule.specs.Prelude.{last_of, listed, no_block, seats_of, Stored, Table, table_words}
 use Rattle.vm_rule.specs.{declared.view.Origin.Origin, declared.view.Release.Release, declared.view.Snapshot.Snapshot}

@@ -1,6 +1,6 @@
 -- What the notes of a pass say of the blocks, as a snapshot of the table shows them.
 use Rattle.std.specs.Prelude.{◌≢◌, ◌≤◌, List, ℕ}
-use Rattle.vm_rule.specs.from_vm_core.Prelude.{MAX_COUNT}
+use Rattle.vm_rule.specs.from_vm_event.Prelude.{MAX_COUNT}
 use Rattle.vm_rule.specs.Prelude.{times_noted}
 use Rattle.vm_rule.specs.{declared.view.Note.Note, declared.view.Snapshot.Snapshot}
 use Rattle.vm_rule_laws.specs.Standing.{block_in}

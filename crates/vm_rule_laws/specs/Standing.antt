@@ -1,6 +1,6 @@
 -- Where the last words of a page stand: in the page's frame, or in its block, as a snapshot of the table shows both.
 use Rattle.std.specs.Prelude.{◌≡◌, ◌≢◌, false, IsSome, length, List, None, Option, Some, true, ℕ}
-use Rattle.vm_rule.specs.from_vm_core.Prelude.{at, EVICTED, LOCKED, mapping_of, state_of, version_of}
+use Rattle.vm_rule.specs.from_vm_event.Prelude.{at, EVICTED, LOCKED, mapping_of, state_of, version_of}
 use Rattle.vm_rule.specs.Prelude.{frame_words, last_in, Mapping, no_block, Seat, Stored, table_words}
 use Rattle.vm_rule.specs.{declared.view.Origin.Origin, declared.view.Release.Release, declared.view.Snapshot.Snapshot}
 

@@ -3,7 +3,7 @@
 #![tactic(auto)]
 
 ghost use Rattle.std.specs.Prelude.{[], ◌<◌, ◌≡◌, ◌≢◌, false, Option, true, ℕ};
-ghost use Rattle.vm_rule.specs.from_vm_core.Prelude.{get_elem?, some};
+ghost use Rattle.vm_rule.specs.from_vm_event.Prelude.{get_elem?, some};
 ghost use Rattle.vm_rule.specs.Prelude.{began_of, HasShape, index_of, Ruled, seat_of, Stands, Table, width, Within};
 ghost use Rattle.vm_rule.specs.{declared.view.Origin.Origin, declared.view.TableShape.TableShape, declared.view.View.View, declared.view.WordPlace.WordPlace};
 ghost use Rattle.vm_rule_laws.specs.{Alone.HasNothing, Noted.NotesStand, Standing.PageStands};

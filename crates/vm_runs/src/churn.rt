@@ -13,7 +13,7 @@ use std::sync::Wait;
 use std::thread::Threads;
 use vm_block::MemBlock;
 use vm_build::{needed, numbered_image};
-use vm_core::Memory;
+use vm_event::Memory;
 use vm_kind::{OfSize, Sizes, TreeOf, WordKeys};
 use vm_map::call::Pair;
 use vm_page::{LARGE, WORDS};

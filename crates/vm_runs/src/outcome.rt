@@ -4,7 +4,7 @@ ghost use Rattle.std.specs.Prelude.{◌*◌, ◌≡◌, ◌≤◌, IfOk, length}
 ghost use Rattle.vm_page.specs.Sizes.{IsSize};
 ghost use Rattle.vm_tree_model.specs.{Fixed.fixed, Tree.IsTree, Tree.map_of};
 ghost use Rattle.vm_image.specs.{Blocks.pages_of_blocks, File.most_pages};
-ghost use Rattle.vm_core.specs.Prelude.{MAX_VERSION};
+ghost use Rattle.vm_event.specs.Prelude.{MAX_VERSION};
 ghost use Rattle.vm_reading.specs.from_vm_drive.Drives.{AreAskable, AreFew, items_of};
 ghost use Rattle.vm_reading.specs.from_vm_endings.Deliveries.{content_of, written_of};
 ghost use Rattle.vm_reading.specs.from_vm_endings.Runs.{IsKept, IsOutcome, version_or};
@@ -14,7 +14,7 @@ use std::sync::Wait;
 use std::thread::Threads;
 use vm_block::MemBlock;
 use vm_check::{CheckFault, check};
-use vm_core::Memory;
+use vm_event::Memory;
 use vm_image::{Image, image_of};
 use vm_kind::{OfSize, TreeOf, WordKeys};
 use vm_map::call::Call;

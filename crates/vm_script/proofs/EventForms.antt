@@ -1,11 +1,11 @@
 -- A line is told by its verb and its numbers.
 use Rattle.std.proofs.Common.{◌∙◌, ◌≡◌, ap, ap₂, get_or, List, lit<, refl, subst, sym, ℕ}
-use Rattle.vm_core.specs.{declared.event.CoreShape.CoreShape, declared.event.Event.Event}
-use Rattle.vm_core.specs.declared.event.Event.TheVariants.{BLoad, Claim, Clean, Clear, Dirty, Disown, Downgrade, Give}
-use Rattle.vm_core.specs.declared.event.Event.TheVariants.{Hand, Install, Load, LockS, LockW, LockX, Look, Mark}
-use Rattle.vm_core.specs.declared.event.Event.TheVariants.{NLoad, OLoad, Own, Raise, Read, Release, ReleaseE, RFail}
-use Rattle.vm_core.specs.declared.event.Event.TheVariants.{PBLoad, PGive, PTake, Store, Take, TLoad, UnlockS, Unmark}
-use Rattle.vm_core.specs.declared.event.Event.TheVariants.{Upgrade, WFail, Write}
+use Rattle.vm_event.specs.{declared.event.CoreShape.CoreShape, declared.event.Event.Event}
+use Rattle.vm_event.specs.declared.event.Event.TheVariants.{BLoad, Claim, Clean, Clear, Dirty, Disown, Downgrade, Give}
+use Rattle.vm_event.specs.declared.event.Event.TheVariants.{Hand, Install, Load, LockS, LockW, LockX, Look, Mark}
+use Rattle.vm_event.specs.declared.event.Event.TheVariants.{NLoad, OLoad, Own, Raise, Read, Release, ReleaseE, RFail}
+use Rattle.vm_event.specs.declared.event.Event.TheVariants.{PBLoad, PGive, PTake, Store, Take, TLoad, UnlockS, Unmark}
+use Rattle.vm_event.specs.declared.event.Event.TheVariants.{Upgrade, WFail, Write}
 use Rattle.vm_script.specs.{declared.event_line.EventLine.EventLine, declared.event_line.Verb.Verb, Verbs.kinds_of, Verbs.verb_name}
 use Rattle.vm_script.specs.declared.event_line.EventLine.TheVariants.{Fill, Loads, One}
 use Rattle.vm_script.specs.declared.event_line.Verb.TheVariants as verbs

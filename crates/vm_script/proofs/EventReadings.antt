@@ -3,7 +3,7 @@ use Rattle.std.specs.List.{AllByRecursion, flat_map}
 use Rattle.std.proofs.Common.{[], ◌++◌, ◌+◌, ◌<◌, ◌∙◌, ◌∷◌, ◌≡◌, ◌≤◌, ◌⊎◌, ap, append_assoc, arith, drop, inl, inr}
 use Rattle.std.proofs.Common.{length, length-append, List, subst, sym, ℕ}
 use Rattle.std.proofs.lemmas.List.{append-nil}
-use Rattle.vm_core.specs.declared.event.CoreShape.{CoreShape}
+use Rattle.vm_event.specs.declared.event.CoreShape.{CoreShape}
 use Rattle.vm_script.specs.{declared.event_line.EventLine.EventLine, Scripts.BeginsWith, Verbs.kinds_of, Verbs.verb_name}
 use Rattle.vm_script.specs.EventLines.{event_line_text, fields_text, form, IsEventLine, IsShape, shape_text}
 use Rattle.vm_script.specs.Events.{events_text, IsFirstBadEvent, IsFirstBadLine, LacksShape, most_event_lines, SpellsEvents}

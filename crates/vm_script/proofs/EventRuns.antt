@@ -1,7 +1,7 @@
 -- An event list that is read in part, and the first bad line of one.
 use Rattle.std.specs.List.{AllByRecursion}
 use Rattle.std.proofs.Common.{[], ◌++◌, ◌+◌, ◌<◌, ◌∷◌, ◌≡◌, ◌≤◌, ◌⊎◌, ap, arith, inl, inr, length, List, None, ℕ}
-use Rattle.vm_core.specs.declared.event.CoreShape.{CoreShape}
+use Rattle.vm_event.specs.declared.event.CoreShape.{CoreShape}
 use Rattle.vm_script.specs.{Cuts.IsLine, declared.event_line.EventLine.EventLine, EventWords.ReadsAs}
 use Rattle.vm_script.specs.EventLines.{event_line_text, IsEventLine, IsShape, shape_text}
 use Rattle.vm_script.specs.Events.{events_text, IsFirstBadEvent, LacksShape, most_event_lines}

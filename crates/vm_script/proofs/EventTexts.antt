@@ -1,6 +1,6 @@
 -- The text of one line: where it is cut, and that it is the line's alone.
 use Rattle.std.proofs.Common.{[], ◌++◌, ◌∙◌, ◌∷◌, ◌≡◌, ◌≢◌, ap₂, arith, codes, List, lit<, lit≤, subst, sym, ℕ}
-use Rattle.vm_core.specs.declared.event.CoreShape.{CoreShape}
+use Rattle.vm_event.specs.declared.event.CoreShape.{CoreShape}
 use Rattle.vm_script.specs.{Cuts.IsCut, Cuts.Lacks, declared.event_line.EventLine.EventLine, declared.event_line.FieldKind.FieldKind}
 use Rattle.vm_script.specs.{declared.event_line.FieldKind.TheVariants.Count, declared.event_line.Verb.Verb, Verbs.kinds_of, Verbs.verb_name}
 use Rattle.vm_script.specs.EventLines.{AreFields, event_line_text, fields_text, form, form_text, IsEventLine, IsShape, shape_text}

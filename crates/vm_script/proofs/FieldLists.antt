@@ -3,7 +3,7 @@ use Rattle.std.specs.Fmt.{decimal}
 use Rattle.std.proofs.Common.{[], ◌++◌, ◌<◌, ◌^◌, ◌∙◌, ◌∷◌, ◌≡◌, ◌≢◌, ◌≤◌, ap, arith, length, List, lit<, refl, subst}
 use Rattle.std.proofs.Common.{suc, sym, take, zero, ℕ}
 use Rattle.std.proofs.lemmas.Fmt.{decimal_injective}
-use Rattle.vm_core.specs.declared.event.CoreShape.{CoreShape}
+use Rattle.vm_event.specs.declared.event.CoreShape.{CoreShape}
 use Rattle.vm_script.specs.{Cuts.IsCut, Cuts.Lacks, declared.event_line.FieldKind.FieldKind}
 use Rattle.vm_script.specs.declared.event_line.FieldKind.TheVariants.{Actor, Bundle, Count, Frame, Page, Place, Spare, State, Word}
 use Rattle.vm_script.specs.EventLines.{AreFields, field_text, fields_text, IsField, IsShape}

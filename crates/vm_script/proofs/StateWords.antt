@@ -7,7 +7,7 @@ use Rattle.std.proofs.Common.{false, if◌then◌else◌, inl, inr, List, lit<, 
 use Rattle.std.proofs.lemmas.Bool.{eqb-false}
 use Rattle.std.proofs.lemmas.Fmt.{decimal_injective, decimal_is_IsNumeral}
 use Rattle.std.proofs.lemmas.Str.Parse.{digit_from_value}
-use Rattle.vm_core.specs.Prelude.{state_of, version_of, word_of}
+use Rattle.vm_event.specs.Prelude.{state_of, version_of, word_of}
 use Rattle.vm_script.specs.{Cuts.IsCut, Cuts.Lacks, EventLines.state_name, EventLines.state_text}
 use Rattle.vm_script.proofs.Words.{cut_here, each_append, one_cut}
 

@@ -1,13 +1,13 @@
 -- Event lines: a verb and its numbers, with single spaces between them.
 use Rattle.std.specs.Fmt.{decimal}
 use Rattle.std.specs.Prelude.{[], ◌*◌, ◌++◌, ◌<◌, ◌==◌, ◌^◌, ◌∷◌, ◌≤◌, codes, if◌then◌else◌, List, ℕ}
-use Rattle.vm_core.specs.Prelude.{EVICTED, LOCKED, MARKED, state_of, UNLOCKED, version_of, WORDS}
-use Rattle.vm_core.specs.{declared.event.CoreShape.CoreShape, declared.words.TheConstants.FRAMES}
-use Rattle.vm_core.specs.declared.event.Event.TheVariants.{BLoad, Claim, Clean, Clear, Dirty, Disown, Downgrade, Give}
-use Rattle.vm_core.specs.declared.event.Event.TheVariants.{Hand, Install, Load, LockS, LockW, LockX, Look, Mark}
-use Rattle.vm_core.specs.declared.event.Event.TheVariants.{NLoad, OLoad, Own, Raise, Read, Release, ReleaseE, RFail}
-use Rattle.vm_core.specs.declared.event.Event.TheVariants.{PBLoad, PGive, PTake, Store, Take, TLoad, UnlockS, Unmark}
-use Rattle.vm_core.specs.declared.event.Event.TheVariants.{Upgrade, WFail, Write}
+use Rattle.vm_event.specs.Prelude.{EVICTED, LOCKED, MARKED, state_of, UNLOCKED, version_of, WORDS}
+use Rattle.vm_event.specs.{declared.event.CoreShape.CoreShape, declared.words.TheConstants.FRAMES}
+use Rattle.vm_event.specs.declared.event.Event.TheVariants.{BLoad, Claim, Clean, Clear, Dirty, Disown, Downgrade, Give}
+use Rattle.vm_event.specs.declared.event.Event.TheVariants.{Hand, Install, Load, LockS, LockW, LockX, Look, Mark}
+use Rattle.vm_event.specs.declared.event.Event.TheVariants.{NLoad, OLoad, Own, Raise, Read, Release, ReleaseE, RFail}
+use Rattle.vm_event.specs.declared.event.Event.TheVariants.{PBLoad, PGive, PTake, Store, Take, TLoad, UnlockS, Unmark}
+use Rattle.vm_event.specs.declared.event.Event.TheVariants.{Upgrade, WFail, Write}
 use Rattle.vm_script.specs.{declared.event_line.EventLine.EventLine, declared.event_line.FieldKind.FieldKind}
 use Rattle.vm_script.specs.{declared.event_line.Verb.Verb, Verbs.kinds_of, Verbs.verb_name}
 use Rattle.vm_script.specs.declared.event_line.EventLine.TheVariants.{Fill, Loads, One}

@@ -1,7 +1,7 @@
 -- Event lists: a shape line, then event lines, each ended by a line feed, which the last may lack.
 use Rattle.std.specs.List.{AllByRecursion, flat_map}
 use Rattle.std.specs.Prelude.{[], ◌++◌, ◌+◌, ◌<◌, ◌∷◌, ◌≡◌, ◌≤◌, ◌⊎◌, Err, length, List, Ok, Result, ℕ}
-use Rattle.vm_core.specs.declared.event.CoreShape.{CoreShape}
+use Rattle.vm_event.specs.declared.event.CoreShape.{CoreShape}
 use Rattle.vm_script.specs.{declared.event_line.EventLine.EventLine, declared.events.EventsFault.EventsFault}
 use Rattle.vm_script.specs.declared.events.EventsFault.TheVariants.{Line, Long, Memory}
 use Rattle.vm_script.specs.EventLines.{event_line_text, IsEventLine, IsShape, shape_text}

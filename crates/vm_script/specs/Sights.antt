@@ -1,9 +1,9 @@
 -- The text of one thing seen.
 use Rattle.std.specs.Fmt.{decimal}
 use Rattle.std.specs.Prelude.{◌++◌, ◌-◌, ◌==◌, ◌^◌, ◌∷◌, codes, if◌then◌else◌, List, nat_lt, ℕ}
-use Rattle.vm_core.specs.{declared.event.ReadIs.ReadIs, declared.event.Seen.Seen}
-use Rattle.vm_core.specs.declared.event.ReadIs.TheVariants.{Closed, Moved, Opened, Same}
-use Rattle.vm_core.specs.declared.event.Seen.TheVariants as seens
+use Rattle.vm_event.specs.{declared.event.ReadIs.ReadIs, declared.event.Seen.Seen}
+use Rattle.vm_event.specs.declared.event.ReadIs.TheVariants.{Closed, Moved, Opened, Same}
+use Rattle.vm_event.specs.declared.event.Seen.TheVariants as seens
 use Rattle.vm_script.specs.{declared.seen.Sight.Sight, EventLines.state_text}
 use Rattle.vm_script.specs.declared.seen.Sight.TheVariants.{Bits, Done, Exchange, Failed, Loaded, Look, Next}
 use Rattle.vm_script.specs.declared.seen.Sight.TheVariants.{NumberExchange, Owner, Place, State, Translation}

@@ -3,7 +3,7 @@
 ghost use Rattle.std.specs.Prelude.{◌<◌, ◌^◌, ◌≡◌};
 ghost use Rattle.vm_script.specs.{EventLines.form, EventWords.AreNarrow, EventWords.used, Verbs.kinds_of as kinds_in, Verbs.verb_name};
 
-use vm_core::Event;
+use vm_event::Event;
 
 /// One event, or one of the two short forms for 64 events.
 #[derive(Clone, Copy)]

@@ -10,7 +10,7 @@ ghost use Rattle.vm_script.specs.Verbs.{verb_name};
 use crate::event_line::{EventLine, FieldKind, VERBS, Verb, kinds_of, line_with, name_of};
 use crate::number::number_of;
 use crate::script::cut;
-use vm_core::{CoreShape, FRAMES, MAX_VERSION, StateWord};
+use vm_event::{CoreShape, FRAMES, MAX_VERSION, StateWord};
 use vm_page::WORDS;
 
 // The verb that a word names.

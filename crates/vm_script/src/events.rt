@@ -7,7 +7,7 @@ use crate::event_words::{event_line_of, shape_of};
 use crate::script::{MOST_BYTES, line_of};
 use std::alloc::Global;
 use thiserror::Error;
-use vm_core::CoreShape;
+use vm_event::CoreShape;
 
 /// Why an event list was not read.
 #[derive(Clone, Copy, Debug, PartialEq, Eq, Error)]

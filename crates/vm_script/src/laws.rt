@@ -3,7 +3,7 @@ ghost use Rattle.std.specs.Fmt.{decimal};
 ghost use Rattle.std.specs.Prelude.{◌<◌, ◌^◌, ◌≡◌, List, ℕ};
 ghost use Rattle.vm_map.specs.declared.call.Call.{Call};
 ghost use Rattle.vm_image.specs.declared.blocks.PlannedFault.{PlannedFault};
-ghost use Rattle.vm_core.specs.declared.event.CoreShape.{CoreShape};
+ghost use Rattle.vm_event.specs.declared.event.CoreShape.{CoreShape};
 ghost use Rattle.vm_script.specs.{declared.event_line.EventLine.EventLine, declared.script.Order.Order, Events.IsFirstBadEvent, Events.SpellsEvents};
 ghost use Rattle.vm_script.specs.{Faults.IsPlan, Faults.plan_text};
 ghost use Rattle.vm_script.specs.Scripts.{IsFirstBad, IsScript, Spells};

@@ -7,7 +7,7 @@ ghost use Rattle.vm_script.specs.Sights.{found_text, left_name, owner_text, seen
 
 use crate::event_line::EventLine;
 use std::alloc::{AllocError, Global};
-use vm_core::{DIRTY, Event, ReadIs, Seen, StateWord, TransWord};
+use vm_event::{DIRTY, Event, ReadIs, Seen, StateWord, TransWord};
 use vm_page::WORDS;
 
 // How what an event sees is told.

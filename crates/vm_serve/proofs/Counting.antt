@@ -7,7 +7,7 @@ use Rattle.std.proofs.lemmas.Bool.{cases_Bool, cases_eq, eq-eqb, ne_eqb}
 use Rattle.std.proofs.lemmas.List.Sums.{sum_by-cons}
 use Rattle.std.proofs.lemmas.Map.Made.{distinct_count-le}
 use Rattle.vm_image.specs.{Blocks.numbers_for, declared.blocks.PlannedFault.PlannedFault}
-use Rattle.vm_core.specs.Prelude.{at, MAX_COUNT}
+use Rattle.vm_event.specs.Prelude.{at, MAX_COUNT}
 use Rattle.vm_rule.specs.Prelude.{most_faults, no_block, Stored, times_noted}
 use Rattle.vm_drive.specs.from_vm_step.Prelude.{Note}
 use Rattle.vm_drive.specs.from_vm_pool.{Closing.AreSums, declared_ended_Ended.Ended}

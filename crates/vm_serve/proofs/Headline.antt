@@ -11,7 +11,7 @@ use Rattle.vm_tree_model.proofs.{FixedLaws.sized_layout, WordTests.all_zero-from
 use Rattle.vm_node.specs.Halves.{half_of}
 use Rattle.vm_image.specs.{declared.blocks.PlannedFault.PlannedFault, File.AreFreePages, File.IsNextPage}
 use Rattle.vm_image.specs.Blocks.{AreBlocksOf, pages_of_blocks}
-use Rattle.vm_core.specs.Prelude.{at, MAX_COUNT, MAX_VERSION, page_at}
+use Rattle.vm_event.specs.Prelude.{at, MAX_COUNT, MAX_VERSION, page_at}
 use Rattle.vm_rule.specs.Prelude.{AreClaimed, began_of, block_words, bounds_of, Entry, has, last_of, listed}
 use Rattle.vm_rule.specs.Prelude.{IsStarted, MayBegin, MemBlock, no_block, numbers, started_origin, started_shape}
 use Rattle.vm_rule.specs.Prelude.{Stored, stored_of, unborn, words_of}

@@ -6,7 +6,7 @@ use Rattle.vm_map.specs.{declared.call.Call.Call, declared.call.Reply.Reply, dec
 use Rattle.vm_tree_model.specs.{Fixed.fixed, Tree.IsTree, Tree.map_of}
 use Rattle.vm_image.specs.{declared.blocks.PlannedFault.PlannedFault, File.AreFreePages, File.IsNextPage}
 use Rattle.vm_image.specs.Blocks.{AreBlocksOf, numbers_for, pages_of_blocks}
-use Rattle.vm_core.specs.Prelude.{at, MAX_COUNT}
+use Rattle.vm_event.specs.Prelude.{at, MAX_COUNT}
 use Rattle.vm_rule.specs.Prelude.{Each, MemBlock, most_faults, no_block, Stored, stored_of, words_of}
 use Rattle.vm_rule.proofs.ListFacts.{at-map, length-mapped}
 use Rattle.vm_drive.specs.from_vm_evict.declared_flushing_Flushed.{Flushed}

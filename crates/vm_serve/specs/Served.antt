@@ -7,7 +7,7 @@ use Rattle.vm_tree_model.specs.{Count.node_count, Fixed.fixed, Tree.IsTree, Tree
 use Rattle.vm_node.specs.Halves.{half_of}
 use Rattle.vm_image.specs.{Blocks.AreBlocksOf, Blocks.numbers_for, declared.blocks.PlannedFault.PlannedFault}
 use Rattle.vm_image.specs.{File.AreFreePages, File.IsNextPage}
-use Rattle.vm_core.specs.Prelude.{at, MAX_COUNT}
+use Rattle.vm_event.specs.Prelude.{at, MAX_COUNT}
 use Rattle.vm_rule.specs.Prelude.{block_words, bounds_of, last_of, MemBlock, most_faults, no_block, Stored, stored_of}
 use Rattle.vm_drive.specs.from_vm_step.Prelude.{View}
 use Rattle.vm_drive.specs.from_vm_evict.declared_flushing_Flushed.{Flushed}

@@ -2,7 +2,7 @@
 
 ghost use Rattle.std.specs.Prelude.{[], ◌+◌, ◌<◌, ◌≡◌, ◌≤◌, Bool, List, Result, ℕ};
 ghost use Rattle.vm_map.specs.{declared.call.Call.Call, declared.call.Reply.Reply};
-ghost use Rattle.vm_core.specs.Prelude.{at};
+ghost use Rattle.vm_event.specs.Prelude.{at};
 ghost use Rattle.vm_rule.specs.Prelude.{MemBlock, no_block, Stored};
 ghost use Rattle.vm_drive.specs.from_vm_evict.declared_flushing_Flushed.{Flushed};
 ghost use Rattle.vm_drive.specs.from_vm_tree_rule.declared_fault_TreeFault.{TreeFault};

@@ -2,7 +2,7 @@
 -- state word, what the pass knows of
 -- pages afterwards, what it shows of itself where it is taken, and what it tells either way.
 use Rattle.std.proofs.Common.{eq-eqb, ne_eqb}
-use Rattle.vm_core.specs.declared.event.Seen.TheVariants as sights
+use Rattle.vm_event.specs.declared.event.Seen.TheVariants as sights
 use Rattle.vm_rule.specs.declared.view.WordPlace.TheVariants as places
 use Rattle.vm_step.proofs.{Evidenced.lost-view, Evidenced.taken-view, Here.frame-inside, Here.last, Here.last-told}
 use Rattle.vm_step.proofs.{Here.older, Here.since, Here.validates, Here.world, Logical.not-pending, Quiet.quiet-shows}

@@ -5,8 +5,8 @@ use Rattle.std.proofs.Common.{if◌then◌else◌, length, List, refl, suc, sym,
 use Rattle.std.proofs.lemmas.Bool.{cases_Bool, cases_eq, eq-eqb, false≢true, ne_eqb}
 use Rattle.std.proofs.lemmas.List.{length-append}
 use Rattle.std.proofs.lemmas.Nat.Bits.{bit_at-lt, bit_at-zero}
-use Rattle.vm_core.specs.Prelude.{sum_below}
-use Rattle.vm_core.specs.Words.{bit_count}
+use Rattle.vm_event.specs.Prelude.{sum_below}
+use Rattle.vm_event.specs.Words.{bit_count}
 use Rattle.vm_owner.specs.Numbers.{has}
 use Rattle.vm_rule.specs.Bundles.{frames_below, frames_in}
 use Rattle.vm_rule.proofs.{Entries.append-none, Facts.has-both}

@@ -18,24 +18,24 @@ pub use prog.Atomic.{either}
 pub use Rattle.atomic_table.proofs.Lists.{at_set, set_else, set_here}
 pub use Rattle.atomic_table.specs.Table.{gives, Joins, put_back, Splits, Step, step}
 pub use Rattle.vm_block.specs.Blocks.{Reads, Writes}
-pub use Rattle.vm_core.specs.{declared.event.Seen.Seen, PageStep.exchange_seen, Step.MayOwn, Step.owned}
-pub use Rattle.vm_core.specs.Prelude.{after_event, at_page, block_after, EVICTED, finds, frame_of, frame_read, framed}
-pub use Rattle.vm_core.specs.Prelude.{gains, get_elem?, History, Inv, is_readable, IsOwned, kept_loads, left_of}
-pub use Rattle.vm_core.specs.Prelude.{left_open, Legal, load_frame, loads_more, LoadsAre, LOCKED, locked, looked}
-pub use Rattle.vm_core.specs.Prelude.{mapping_at, mapping_of, MARKED, marked, MAX_COUNT, MAX_VERSION, MayCall}
-pub use Rattle.vm_core.specs.Prelude.{MayLock, MayShare, MayUnlock, NamesActorAndPage, NamesBundle, no_seat, on_page}
-pub use Rattle.vm_core.specs.Prelude.{one_share_more, open_after, open_frame, outside_page, Page, page_at, page_word}
-pub use Rattle.vm_core.specs.Prelude.{raised, ReadInv, seen, share_count, shared, some, some-injective, stands_in}
-pub use Rattle.vm_core.specs.Prelude.{State, taken, trans_word, UNLOCKED, unmarked, unshared, upgraded, Version}
-pub use Rattle.vm_core.specs.Prelude.{with_dirty, word_at, World, world_after, write_locked, written}
-pub use Rattle.vm_core.specs.declared.event.Event.TheVariants.{BLoad, Claim, Clean, Clear, Dirty, Disown, Downgrade}
-pub use Rattle.vm_core.specs.declared.event.Event.TheVariants.{Give, Hand, Install, Load, LockS, LockW, LockX, Look}
-pub use Rattle.vm_core.specs.declared.event.Event.TheVariants.{Mark, NLoad, OLoad, Own, Raise, Read, ReleaseE, RFail}
-pub use Rattle.vm_core.specs.declared.event.Event.TheVariants.{Store, Take, TLoad, UnlockS, Unmark, Upgrade, WFail}
-pub use Rattle.vm_core.specs.declared.event.Event.TheVariants.{Write}
-pub use Rattle.vm_core.specs.declared.event.ReadIs.TheVariants.{Closed, Moved, Same}
-pub use Rattle.vm_core.proofs.{Locks.sum_below-at, PageFacts.block-is_last, PageFacts.some-is, PageFacts.some-same}
-pub use Rattle.vm_core.proofs.{Upd.each-upd, Upd.each-upd2, Upd.upd-keeps, Upd.upd-other, Upd.upd-same, Upd.upd-self}
+pub use Rattle.vm_event.specs.{declared.event.Seen.Seen, PageStep.exchange_seen, Step.MayOwn, Step.owned}
+pub use Rattle.vm_event.specs.Prelude.{after_event, at_page, block_after, EVICTED, finds, frame_of, frame_read, framed}
+pub use Rattle.vm_event.specs.Prelude.{gains, get_elem?, History, Inv, is_readable, IsOwned, kept_loads, left_of}
+pub use Rattle.vm_event.specs.Prelude.{left_open, Legal, load_frame, loads_more, LoadsAre, LOCKED, locked, looked}
+pub use Rattle.vm_event.specs.Prelude.{mapping_at, mapping_of, MARKED, marked, MAX_COUNT, MAX_VERSION, MayCall}
+pub use Rattle.vm_event.specs.Prelude.{MayLock, MayShare, MayUnlock, NamesActorAndPage, NamesBundle, no_seat, on_page}
+pub use Rattle.vm_event.specs.Prelude.{one_share_more, open_after, open_frame, outside_page, Page, page_at, page_word}
+pub use Rattle.vm_event.specs.Prelude.{raised, ReadInv, seen, share_count, shared, some, some-injective, stands_in}
+pub use Rattle.vm_event.specs.Prelude.{State, taken, trans_word, UNLOCKED, unmarked, unshared, upgraded, Version}
+pub use Rattle.vm_event.specs.Prelude.{with_dirty, word_at, World, world_after, write_locked, written}
+pub use Rattle.vm_event.specs.declared.event.Event.TheVariants.{BLoad, Claim, Clean, Clear, Dirty, Disown, Downgrade}
+pub use Rattle.vm_event.specs.declared.event.Event.TheVariants.{Give, Hand, Install, Load, LockS, LockW, LockX, Look}
+pub use Rattle.vm_event.specs.declared.event.Event.TheVariants.{Mark, NLoad, OLoad, Own, Raise, Read, ReleaseE, RFail}
+pub use Rattle.vm_event.specs.declared.event.Event.TheVariants.{Store, Take, TLoad, UnlockS, Unmark, Upgrade, WFail}
+pub use Rattle.vm_event.specs.declared.event.Event.TheVariants.{Write}
+pub use Rattle.vm_event.specs.declared.event.ReadIs.TheVariants.{Closed, Moved, Same}
+pub use Rattle.vm_event.proofs.{Locks.sum_below-at, PageFacts.block-is_last, PageFacts.some-is, PageFacts.some-same}
+pub use Rattle.vm_event.proofs.{Upd.each-upd, Upd.each-upd2, Upd.upd-keeps, Upd.upd-other, Upd.upd-same, Upd.upd-self}
 pub use Rattle.vm_rule.proofs.from_vm_laws_others.Laws.{leave_others}
 pub use Rattle.vm_owner.specs.Kept.{after_release, Agrees, AreSized, AreZero, changed, Fits, IsTurn, owed_after, told}
 pub use Rattle.vm_owner.proofs.NumberLemmas.{has-without, has-without_other, has-without_same, without-both, without-none}
@@ -137,17 +137,5 @@ pub use Rattle.vm_step.specs.steps.Bundle.{BloadIsItsEvent, GiveIsItsEvent, IsMa
 pub use Rattle.vm_step.specs.steps.Owner.{DisownIsItsEvent, IsOwnerEvent, OloadIsItsEvent, owned_view, OwnerLoadTold}
 pub use Rattle.vm_step.specs.steps.Owner.{OwnerTold, OwnIsItsEvent}
 pub use Rattle.vm_step.specs.steps.Release.{DowngradeIsItsEvent, IsLater, ReleaseEvictedIsItsEvent, ReleaseIsItsEvent}
-unfoldable pub use Rattle.vm_core.specs.Prelude.{
-  at,
-  count_more,
-  frame_in,
-  hand_more,
-  in_mask,
-  is_dirty,
-  state_of,
-  sum_below,
-  upd,
-  version_of,
-  word_of,
-}
+unfoldable pub use Rattle.vm_event.specs.Prelude.{at, count_more, frame_in, hand_more, in_mask, is_dirty, state_of, sum_below, upd, version_of, word_of}
 unfoldable pub use Rattle.vm_rule.specs.Prelude.{block_of, chosen, frames_in, histories_of, listed, logical, numbers, pages_from}

@@ -3,7 +3,7 @@
 -- knows of pages and of the frames that it holds.
 use mathlib.Core.Option as maybe
 use Rattle.std.specs.Prelude.{map}
-use Rattle.vm_core.specs.Prelude.{has_free_bit}
+use Rattle.vm_event.specs.Prelude.{has_free_bit}
 use Rattle.vm_rule.proofs.from_vm_numbers.Steps.{quiet_keeps}
 use Rattle.vm_rule.specs.from_vm_numbers.Hands.{Hands, NumbersFit}
 use Rattle.vm_rule.proofs.Numbered.{hands-still, numbers-as}

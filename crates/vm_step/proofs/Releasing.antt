@@ -1,9 +1,9 @@
 -- The ways to release a page that a pass holds exclusively: the table, the versions and the group before and after,
 -- and what the pass knows of the page.
-use Rattle.vm_core.specs.declared.event.Event.TheVariants.{Release}
-use Rattle.vm_core.specs.declared.event.Seen.TheVariants as sights
+use Rattle.vm_event.specs.declared.event.Event.TheVariants.{Release}
+use Rattle.vm_event.specs.declared.event.Seen.TheVariants as sights
 use Rattle.std.specs.Prelude.{◌&&◌, ◌==◌, if◌then◌else◌, map}
-use Rattle.vm_core.specs.Step.{keeps_number, number_left, standing_words}
+use Rattle.vm_event.specs.Step.{keeps_number, number_left, standing_words}
 use Rattle.vm_rule.specs.from_vm_numbers.Hands.{all_zero}
 use Rattle.vm_rule.proofs.from_vm_numbers.Sums.{hands-at, one-true}
 use Rattle.vm_rule.specs.declared.view.WordPlace.TheVariants as places

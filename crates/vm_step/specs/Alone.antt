@@ -1,6 +1,6 @@
 -- A pass that is alone knows the whole table: what a run of its steps leaves of the table as it knows it.
 use Rattle.std.specs.Prelude.{[], ◌++◌, ◌<◌, ◌∷◌, ◌≡◌, ◌⊎◌, false, length, List, None, slice_index, true, ℕ}
-use Rattle.vm_core.specs.Prelude.{EVICTED, MARKED, state_of, UNLOCKED}
+use Rattle.vm_event.specs.Prelude.{EVICTED, MARKED, state_of, UNLOCKED}
 use Rattle.vm_rule.specs.{declared.view.Did.Did, declared.view.Origin.Origin, declared.view.Release.Release}
 use Rattle.vm_rule.specs.{declared.view.View.View, declared.view.WordPlace.WordPlace}
 use Rattle.vm_rule.specs.Prelude.{Each, index_of, IsFoundAt, IsWhole, seat_of, set_if, width, Within}

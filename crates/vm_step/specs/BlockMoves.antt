@@ -1,8 +1,8 @@
 -- The table after a move of a page's slot, and what a call of the page's device, seen when its block comes home, is to the core.
 use Rattle.std.specs.Prelude.{◌≡◌, List, Option, slice_set, Some, true, ℕ}
 use mathlib.Core.Option as maybe
-use Rattle.vm_core.specs.Prelude.{after_event, get_elem?, Legal, on_page, seen, some, State}
-use Rattle.vm_core.specs.declared.event.Seen.{Seen}
+use Rattle.vm_event.specs.Prelude.{after_event, get_elem?, Legal, on_page, seen, some, State}
+use Rattle.vm_event.specs.declared.event.Seen.{Seen}
 use Rattle.vm_rule.specs.Prelude.{core_shown, Event, Stored, Table}
 use Rattle.vm_step.specs.Prelude.{Origin, View}
 

@@ -1,6 +1,6 @@
 -- Pages that are chosen for eviction, each with the word at which it was marked.
 use Rattle.std.specs.Prelude.{[], ◌<◌, ◌∷◌, ◌≡◌, ◌≤◌, List, None, Option, Some, ℕ}
-use Rattle.vm_core.specs.Prelude.{LOCKED, MARKED, MAX_VERSION, state_of, version_of}
+use Rattle.vm_event.specs.Prelude.{LOCKED, MARKED, MAX_VERSION, state_of, version_of}
 use Rattle.vm_rule.specs.Prelude.{AreApart, Each}
 
 -- the pages of the candidates

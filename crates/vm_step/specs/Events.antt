@@ -1,7 +1,7 @@
 -- A step of the table is an event of the core.
 use Rattle.std.specs.Prelude.{◌==◌, ◌≡◌, Bool, if◌then◌else◌, List, Option, slice_index, slice_set, true, ℕ}
-use Rattle.vm_core.specs.{declared.event.Seen.Seen, Prelude.after_event, Prelude.get_elem?, Prelude.Legal, Prelude.seen, Prelude.some}
-use Rattle.vm_core.specs.declared.event.Seen.TheVariants as sights
+use Rattle.vm_event.specs.{declared.event.Seen.Seen, Prelude.after_event, Prelude.get_elem?, Prelude.Legal, Prelude.seen, Prelude.some}
+use Rattle.vm_event.specs.declared.event.Seen.TheVariants as sights
 use Rattle.vm_rule.specs.{declared.view.Origin.Origin, declared.view.View.View, declared.view.WordPlace.WordPlace}
 use Rattle.vm_rule.specs.Prelude.{core_shown, Event, index_of, Kept, Ruled, Start, Stored, Table, Within}
 

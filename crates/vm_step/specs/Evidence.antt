@@ -1,6 +1,6 @@
 -- What the steps of a call, as its pass's log has them, say of the words that the call answers with.
 use Rattle.std.specs.Prelude.{[], ◌++◌, ◌<◌, ◌∷◌, ◌≡◌, ◌≢◌, ◌≤◌, ◌⊎◌, List, None, Some, ℕ}
-use Rattle.vm_core.specs.Prelude.{EVICTED, LOCKED, MAX_VERSION, state_of, UNLOCKED, version_of, word_of}
+use Rattle.vm_event.specs.Prelude.{EVICTED, LOCKED, MAX_VERSION, state_of, UNLOCKED, version_of, word_of}
 use Rattle.vm_rule.specs.{declared.view.Did.Did, declared.view.WordPlace.WordPlace, Prelude.Each}
 use Rattle.vm_rule.specs.declared.view.WordPlace.TheVariants as places
 use Rattle.vm_step.specs.{declared.saw.At.At, declared.saw.Saw.Saw}

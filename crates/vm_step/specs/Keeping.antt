@@ -1,6 +1,6 @@
 -- What a step tells of the layer above: at the step it keeps its relation, and its history is the one that the pass has seen then.
 use Rattle.std.specs.Prelude.{◌<◌, ◌≡◌, ◌≤◌, false, length, replicate, true, ℕ}
-use Rattle.vm_core.specs.Prelude.{page_at}
+use Rattle.vm_event.specs.Prelude.{page_at}
 use Rattle.vm_rule.specs.{declared.view.View.View, Prelude.began_of, Prelude.draft_of, Prelude.has, Prelude.IsLocking}
 use Rattle.vm_rule.specs.{Prelude.Kept, Prelude.last_of, Prelude.seat_of, Prelude.Start}
 use Rattle.vm_rule.specs.declared.view.WordPlace.TheVariants as places

@@ -2,7 +2,7 @@
 -- table shows changes in its
 -- actors alone.
 use Rattle.std.specs.Prelude.{[], ◌++◌, ◌+◌, ◌||◌, ◌∷◌, ◌≡◌, Bool, false, length, List, Option, slice_set, ℕ}
-use Rattle.vm_core.specs.Prelude.{no_seat, upd, World}
+use Rattle.vm_event.specs.Prelude.{no_seat, upd, World}
 use Rattle.vm_rule.specs.Prelude.{giver, hearer, joined, Kept, newcomer, Ruled, spent, Start, Stored, Table, world_of}
 use Rattle.vm_step.specs.Prelude.{Origin, View}
 

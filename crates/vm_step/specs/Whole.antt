@@ -1,6 +1,6 @@
 -- What a pass that was brought up to date knows, above all where it has all parts of its table.
 use Rattle.std.specs.Prelude.{[], ◌<◌, ◌≡◌, ◌≤◌, Bool, true, ℕ}
-use Rattle.vm_core.specs.Prelude.{version_of}
+use Rattle.vm_event.specs.Prelude.{version_of}
 use Rattle.vm_rule.specs.Prelude.{began_of, CaughtUp, HoldsNoPage, IsWhole, Kept, last_of, Start}
 use Rattle.vm_rule.specs.declared.view.WordPlace.TheVariants as places
 use Rattle.vm_rule.specs.declared.view.View.{View}

@@ -4,7 +4,7 @@ ghost use Rattle.std.specs.Prelude.{[], ◌++◌, ◌+◌, ◌<◌, ◌==◌, �
 
 use arrayvec::ArrayVec;
 use std::marker::Model;
-use vm_core::FRAMES;
+use vm_event::FRAMES;
 
 /// At most 64 frames: contracts see the list of their numbers.
 #[derive(Debug, Drop, PartialEq)]

@@ -1,6 +1,6 @@
 // The pages that a clock chose for eviction, and what the looks that found them came to.
 use arrayvec::ArrayVec;
-use vm_core::FRAMES;
+use vm_event::FRAMES;
 
 /// What the looks of a walk came to.
 #[derive(Clone, Copy, Debug, PartialEq, Eq)]

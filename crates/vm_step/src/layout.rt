@@ -5,7 +5,7 @@ ghost use Rattle.vm_rule.specs.declared.view.WordPlace.TheVariants as places;
 ghost use Rattle.vm_step.specs.Prelude.{IsFrameAt, IsPlacedAt};
 
 use vm_block::Block;
-use vm_core::FRAMES;
+use vm_event::FRAMES;
 use vm_owner::Owner;
 use vm_rule::words::Words;
 

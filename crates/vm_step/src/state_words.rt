@@ -1,8 +1,8 @@
 // State words that a step puts in the place of another.
 ghost use Rattle.std.specs.Prelude.{◌≡◌};
-ghost use Rattle.vm_core.specs.Prelude.{MayShare, one_share_more, state_of, version_of, word_of};
+ghost use Rattle.vm_event.specs.Prelude.{MayShare, one_share_more, state_of, version_of, word_of};
 
-use vm_core::StateWord;
+use vm_event::StateWord;
 
 /// One share, in a state word: the version stands below.
 pub(crate) const SHARE: u64 = 1 << 56;

@@ -3,8 +3,8 @@
 use Rattle.std.proofs.Common.{eq-eqb, ne_eqb}
 use mathlib.Core.Option as maybe
 use Rattle.atomic_table.proofs.Lists.{at_set as list-set}
-use Rattle.vm_core.specs.Prelude.{has_free_bit}
-use Rattle.vm_core.proofs.{At.at_set, PageFacts.none-some}
+use Rattle.vm_event.specs.Prelude.{has_free_bit}
+use Rattle.vm_event.proofs.{At.at_set, PageFacts.none-some}
 use Rattle.vm_step.specs.from_vm_rule.Slots.DeviceDid.{failed, read, wrote}
 use Rattle.vm_step.specs.from_vm_rule.declared_view_WordPlace_TheVariants as places
 use Rattle.vm_step.proofs.{Here.last-told, Quiet.has-led, Quiet.HasLed, Written.IsWordOf, Written.word-loaded}

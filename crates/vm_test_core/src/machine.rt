@@ -7,7 +7,8 @@ mod words;
 ghost use Rattle.std.specs.Prelude.{◌≤◌};
 
 use std::alloc::Global;
-use vm_core::{Core, CoreShape, Event, Memory};
+use vm_core::Core;
+use vm_event::{CoreShape, Event, Memory};
 
 /// State words at version 0, to which a version is added; an unlocked word is the version alone. One shared lock:
 const SHARE: u64 = 0x0100_0000_0000_0000;

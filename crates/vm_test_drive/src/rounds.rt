@@ -6,10 +6,10 @@ use std::process::Abort;
 use std::sync::Wait;
 use std::test::Fail;
 use std::thread::Threads;
-use vm_core::Memory;
 use vm_drive_callers::calls::{expect_lists, faults_in, shares};
 use vm_drive_callers::drive::{DrivenInto, NoGate, drive};
 use vm_drive_callers::trees::{empty, open};
+use vm_event::Memory;
 use vm_exmap::{Alloc, Interface};
 
 /// So many workers put 300 keys each, of which no two are the same, in a tree of 128 pages: each put is answered, and each key is there. How

@@ -7,7 +7,7 @@ use std::alloc::Global;
 use std::test::Fail;
 use vm_block::{Block, MemBlock};
 use vm_clock::candidates;
-use vm_core::MAX_VERSION;
+use vm_event::MAX_VERSION;
 use vm_owner::Bare;
 use vm_page::{PageBuf, WORDS};
 use vm_rule::words::{Pass, Words};

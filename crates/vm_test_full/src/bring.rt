@@ -1,7 +1,7 @@
 //! Pages that are brought into a pool of two pages and one frame, with ample memory. The values are worked out by hand from the rules, and not
 //! taken from a run.
 ghost use Rattle.std.specs.Prelude.{◌≡◌, ◌≤◌, IfOk, None};
-ghost use Rattle.vm_core.specs.Prelude.{MAX_VERSION};
+ghost use Rattle.vm_event.specs.Prelude.{MAX_VERSION};
 ghost use Rattle.vm_step.specs.Prelude.{IsReadyOn, view};
 
 use std::alloc::Global;

@@ -1,7 +1,7 @@
 //! A pool of 66 pages and 64 frames, where the first 64 pages have them all, with ample memory. The values are worked out by hand from the rules, and
 //! not taken from a run.
 ghost use Rattle.std.specs.Prelude.{◌≡◌, ◌≤◌, IfOk, None};
-ghost use Rattle.vm_core.specs.Prelude.{MAX_VERSION};
+ghost use Rattle.vm_event.specs.Prelude.{MAX_VERSION};
 ghost use Rattle.vm_step.specs.Prelude.{AreHeld, IsReadyOn, view};
 
 use std::alloc::Global;
@@ -9,7 +9,7 @@ use std::process::Abort;
 use std::test::Fail;
 use vm_block::{Block, MemBlock, PageBlock};
 use vm_clock::candidates;
-use vm_core::MAX_VERSION;
+use vm_event::MAX_VERSION;
 use vm_evict::evict;
 use vm_evict::report::Report;
 use vm_exmap::Interface;

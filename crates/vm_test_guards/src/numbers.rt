@@ -10,7 +10,7 @@ use std::test::Fail;
 use std::thread;
 use std::thread::Threads;
 use vm_block::{Block, MemBlock, PageBlock};
-use vm_core::{Bundle, FRAMES, Memory};
+use vm_event::{Bundle, FRAMES, Memory};
 use vm_owner::Bare;
 use vm_page::WORDS;
 use vm_pool::{Pool, Shape};

@@ -8,7 +8,7 @@ use std::alloc::Global;
 use std::process::Abort;
 use std::test::Fail;
 use vm_block::{MemBlock, PageBlock};
-use vm_core::StateWord;
+use vm_event::StateWord;
 use vm_exmap::Interface;
 use vm_guard::{OptGuard, write_two};
 use vm_owner::{Bare, Owner};

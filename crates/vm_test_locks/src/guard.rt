@@ -9,7 +9,7 @@ use std::alloc::Global;
 use std::process::Abort;
 use std::test::Fail;
 use vm_block::{Block, Failed, MemBlock, PageBlock};
-use vm_core::StateWord;
+use vm_event::StateWord;
 use vm_evict::flush;
 use vm_guard::{Deny, ExclusiveGuard, OptGuard, SharedGuard};
 use vm_owner::Bare;

@@ -4,7 +4,7 @@ use std::alloc::Global;
 use std::process::Abort;
 use std::sync::Wait;
 use std::test::Fail;
-use vm_core::MAX_VERSION;
+use vm_event::MAX_VERSION;
 use vm_exmap::Interface;
 use vm_map::call::Reply;
 use vm_page::WORDS;

@@ -3,7 +3,7 @@ use Rattle.std.proofs.Common.{[], ⊎_elim, ◌++◌, ◌<◌, ◌||◌, ◌∙�
 use Rattle.std.proofs.Common.{map, refl, replicate, subst, suc, sym, true, zero, ℕ}
 use Rattle.std.proofs.lemmas.{Bool.cases_eq, Bool.cases_lt, Bool.false≢true, Bool.ne_eqb, List.length-replicate}
 use Rattle.vm_page.specs.Pages.{all_zero}
-use Rattle.vm_core.specs.Prelude.{page_at}
+use Rattle.vm_event.specs.Prelude.{page_at}
 use Rattle.vm_rule.specs.Prelude.{AreClaimed, block_words, Each, has, Kept, MayBegin, MemBlock, Start, Stored, stored_of, words_of}
 use Rattle.vm_rule.proofs.{ListFacts.length-mapped, NumberReleases.zeros-are}
 

@@ -1,6 +1,6 @@
 -- A page that was locked, and then only read, may be released as it was.
 use Rattle.std.proofs.Common.{◌∙◌, ◌≡◌, ap, Bool, inl, List, subst, sym, ℕ}
-use Rattle.vm_core.specs.Prelude.{Version}
+use Rattle.vm_event.specs.Prelude.{Version}
 use Rattle.vm_rule.specs.Prelude.{Start}
 use Rattle.vm_step.specs.Prelude.{Did, IsClaimed, View}
 use Rattle.vm_guard.specs.{Guards.IsLocked, Quiet.IsQuiet}

@@ -7,7 +7,7 @@ ghost use Rattle.vm_step.specs.Prelude.{AreHeld, IsReadyOn, view};
 use std::alloc::Global;
 use std::test::Fail;
 use vm_block::{Block, MemBlock};
-use vm_core::FRAMES;
+use vm_event::FRAMES;
 use vm_exmap::{Alloc, Interface};
 use vm_owner::{Bare, Owner};
 use vm_page::PageBuf;

@@ -7,7 +7,7 @@ use std::alloc::Global;
 use std::process::Abort;
 use std::test::Fail;
 use vm_block::{Block, MemBlock, PageBlock};
-use vm_core::StateWord;
+use vm_event::StateWord;
 use vm_exmap::Interface;
 use vm_guard::{ExclusiveGuard, OptGuard, SharedGuard, read_word};
 use vm_owner::Bare;

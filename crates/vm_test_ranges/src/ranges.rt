@@ -1,6 +1,6 @@
 //! Ranges of small trees, with ample memory.
 use std::test::Fail;
-use vm_core::MAX_VERSION;
+use vm_event::MAX_VERSION;
 use vm_exmap::Interface;
 use vm_kind::Sizes;
 use vm_map::call::{Pair, Reply};

@@ -8,7 +8,7 @@ use std::process::Abort;
 use std::sync::Wait;
 use std::test::Fail;
 use vm_block::{Block, MemBlock};
-use vm_core::StateWord;
+use vm_event::StateWord;
 use vm_exmap::Interface;
 use vm_guard::OptGuard;
 use vm_kind::Sizes;

@@ -1,6 +1,6 @@
 //! Tables whose pages all stand in frames: they begin evicted, and each is brought into a frame.
 ghost use Rattle.std.specs.Prelude.{[], ◌<◌, ◌≡◌, ◌≤◌, false, IfOk, length, None, ℕ};
-ghost use Rattle.vm_core.specs.Prelude.{MAX_VERSION};
+ghost use Rattle.vm_event.specs.Prelude.{MAX_VERSION};
 ghost use Rattle.vm_page.specs.Sizes.{IsSize};
 ghost use Rattle.vm_rule.specs.Prelude.{seat_of};
 ghost use Rattle.vm_step.specs.Prelude.{IsReadyOn, view};

@@ -1,7 +1,7 @@
 // An event list at its limits, and the line of an event. What else is read, which lines are refused and what other events see are
 // cases of `vm_cases`.
 use std::test::Fail;
-use vm_core::{Event, Seen};
+use vm_event::{Event, Seen};
 use vm_script::event_line::EventLine;
 use vm_script::events::{EventsFault, MOST_EVENT_LINES, read_events};
 use vm_script::script::MOST_BYTES;

@@ -1,6 +1,6 @@
 //! Devices that fail and pages at the last version, with ample memory: each fault names its page, leaves the map as it was, and holds nothing up that can go on.
 use std::test::Fail;
-use vm_core::MAX_VERSION;
+use vm_event::MAX_VERSION;
 use vm_exmap::Interface;
 use vm_image::PlannedFault;
 use vm_map::call::{Reply, Swap};

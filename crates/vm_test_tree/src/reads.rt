@@ -1,6 +1,6 @@
 //! Reads of small trees, with ample memory. The pages are worked out by hand from the formats.
 use std::test::Fail;
-use vm_core::StateWord;
+use vm_event::StateWord;
 use vm_exmap::Interface;
 use vm_guard::ExclusiveGuard;
 use vm_image::PlannedFault;

@@ -6,7 +6,7 @@ use std::process::Abort;
 use std::sync::Wait;
 use std::test::Fail;
 use vm_block::{Block, MemBlock};
-use vm_core::{MAX_VERSION, StateWord};
+use vm_event::{MAX_VERSION, StateWord};
 use vm_exmap::Interface;
 use vm_kind::Sizes;
 use vm_map::call::{Reply, Swap};

@@ -6,7 +6,7 @@ use Rattle.vm_map.specs.declared.call.Said.{Said}
 use Rattle.vm_tree_model.specs.{Fixed.fixed, Tree.IsTree}
 use Rattle.vm_tree_model.proofs.FixedLaws.{sized_layout}
 use Rattle.vm_image.specs.{Blocks.AreBlocksOf, Blocks.pages_of_blocks, declared.blocks.PlannedFault.PlannedFault, File.IsNextPage}
-use Rattle.vm_core.specs.Prelude.{page_at}
+use Rattle.vm_event.specs.Prelude.{page_at}
 use Rattle.vm_rule.specs.Prelude.{block_words, MayBegin, MemBlock, numbers, started_shape, Stored, stored_of, unborn, words_of}
 use Rattle.vm_rule.specs.Begun.{begun}
 use Rattle.vm_step.specs.Prelude.{View}

@@ -1,6 +1,6 @@
 -- What the evidence of a try tells of its call.
 use Rattle.std.proofs.Common.{⊎_elim, ◌++◌, ◌≡◌, ◌≢◌, ◌⊎◌, ap, inl, inr, List, subst, sym, ℕ}
-use Rattle.vm_core.specs.Prelude.{LOCKED, state_of, version_of}
+use Rattle.vm_event.specs.Prelude.{LOCKED, state_of, version_of}
 use Rattle.vm_step.specs.Prelude.{Did, HasGiven, place_at, View, WhyAgain}
 use Rattle.vm_step.specs.{declared.saw.At.At, declared.saw.Saw.Saw}
 use Rattle.vm_step.specs.declared.saw.At.TheVariants as ats

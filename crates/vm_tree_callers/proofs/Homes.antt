@@ -2,7 +2,7 @@
 -- leaves it those that it had.
 use Rattle.std.proofs.Common.{◌∙◌, ◌≡◌, ap, Bool, Err, false, IfErr, IfOk, inl, List, None, Ok, Result, sym, ℕ}
 use Rattle.vm_map.specs.{declared.call.Call.Call, declared.call.Reply.Reply, declared.call.Said.Said}
-use Rattle.vm_core.specs.Prelude.{Version}
+use Rattle.vm_event.specs.Prelude.{Version}
 use Rattle.vm_rule.specs.Prelude.{draft_of, has, last_of, LookTold}
 use Rattle.vm_step.specs.Prelude.{AreHeld, KnowsAsBefore, View}
 use Rattle.vm_exmap.proofs.Handing.{held-on}

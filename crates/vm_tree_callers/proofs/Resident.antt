@@ -8,8 +8,8 @@ use Rattle.vm_map.specs.declared.call.Call.TheVariants.{Get}
 use Rattle.vm_map.specs.declared.call.Reply.TheVariants.{Gone, Got, Many, Swapped, Was, Wide, Win}
 use Rattle.vm_tree_model.specs.{Layout.IsLayout, Layout.Layout, Node.Covers, Page.node_of, Page.pairs_of, Tree.IsLeafAt, Tree.map_of}
 use Rattle.vm_tree_model.proofs.Laws.{lookup-map_of}
-use Rattle.vm_core.specs.Prelude.{MAX_VERSION, page_at, state_of, UNLOCKED}
-use Rattle.vm_core.proofs.At.{at-get}
+use Rattle.vm_event.specs.Prelude.{MAX_VERSION, page_at, state_of, UNLOCKED}
+use Rattle.vm_event.proofs.At.{at-get}
 use Rattle.vm_rule.specs.Prelude.{block_words, bundles_of, counts_of, IsStarted, MayBegin, started_shape, started_words, Stored, unborn}
 use Rattle.vm_rule.specs.Begun.{begun}
 use Rattle.vm_rule.specs.declared.view.WordPlace.TheVariants as places

@@ -1,6 +1,6 @@
 //! A pool over a small tree, and the tree's reads by a pass whose block is at home: it is at home again after each of them.
 ghost use Rattle.std.specs.Prelude.{◌<◌, ◌≡◌, ◌≤◌, false, IfOk, length, None};
-ghost use Rattle.vm_core.specs.Prelude.{MAX_VERSION};
+ghost use Rattle.vm_event.specs.Prelude.{MAX_VERSION};
 ghost use Rattle.vm_rule.specs.Prelude.{draft_of, has, last_of};
 ghost use Rattle.vm_step.specs.Prelude.{AreHeld, IsReadyOn, view};
 ghost use Rattle.vm_guard.specs.Guards.{IsHolding};

@@ -3,7 +3,7 @@
 ghost use Rattle.std.specs.Prelude.{[], ◌<◌, ◌≡◌, ◌≤◌, IfOk, length, map, true};
 ghost use Rattle.vm_map.specs.Map.{lookup_at};
 ghost use Rattle.vm_tree_model.specs.Tree.{map_of};
-ghost use Rattle.vm_core.specs.Prelude.{MAX_VERSION};
+ghost use Rattle.vm_event.specs.Prelude.{MAX_VERSION};
 ghost use Rattle.vm_page.specs.Sizes.{IsSize};
 ghost use Rattle.vm_rule.specs.Prelude.{block_words, bounds_of, IsStarted, MayBegin};
 ghost use Rattle.vm_pool_callers.specs.from_vm_pool.Brings.{IsBroughtOrFailed};
@@ -11,7 +11,7 @@ ghost use Rattle.vm_tree_laws.specs.Plain.{KeepsPlain};
 
 use std::alloc::Global;
 use vm_block::{Block, PageBlock};
-use vm_core::Memory;
+use vm_event::Memory;
 use vm_exmap::Interface;
 use vm_kind::{Kind, TreeOf};
 use vm_map::call::Reply;

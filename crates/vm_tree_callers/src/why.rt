@@ -1,7 +1,7 @@
 // Why a get is to be tried again, over its contract alone: the word seen was found by a step of the call, and it is another word than the first
 // one, or a Locked page's, where blocks tell their words. So no get answers so with words that it never loaded, or with equal words of a page that is not locked.
 ghost use Rattle.std.specs.Prelude.{◌++◌, ◌≡◌, ◌≢◌, ◌≤◌, ◌⊎◌, IfSome};
-ghost use Rattle.vm_core.specs.Prelude.{LOCKED, state_of};
+ghost use Rattle.vm_event.specs.Prelude.{LOCKED, state_of};
 ghost use Rattle.vm_step.specs.Prelude.{GoesOn, HasGiven, IsReadyOn, place_at, view};
 
 use vm_block::Block;

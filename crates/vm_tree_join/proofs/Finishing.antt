@@ -6,7 +6,7 @@ use Rattle.std.proofs.lemmas.Bool.{cases_Bool, cases_eq, ne_eqb}
 use Rattle.std.proofs.lemmas.List.{get_or-set_other}
 use Rattle.vm_map.specs.declared.call.Said.{Said}
 use Rattle.vm_tree_model.specs.{Layout.Layout, Tree.map_of}
-use Rattle.vm_core.specs.Prelude.{version_of}
+use Rattle.vm_event.specs.Prelude.{version_of}
 use Rattle.vm_page.specs.Pages.{all_zero}
 use Rattle.vm_rule.specs.Prelude.{AreApart, began_of, bundle_count, draft_of, Each, Entry, entry_of, has, index_of}
 use Rattle.vm_rule.specs.Prelude.{IsLocking, Seat, seat_of, StartsWith, without_all}

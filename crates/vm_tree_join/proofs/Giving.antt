@@ -3,7 +3,7 @@ use Rattle.std.proofs.Common.{[], ⊎_elim, ◌<◌, ◌∙◌, ◌∷◌, ◌�
 use Rattle.std.proofs.Common.{slice_index, slice_set, subst, sym, true, true≢false, ℕ}
 use Rattle.std.proofs.lemmas.Bool.{cases_Bool, cond-false, cond-true, eq-eqb, ne_eqb, or_left}
 use Rattle.std.proofs.lemmas.List.{get_or-set_other}
-use Rattle.vm_core.specs.Prelude.{in_mask}
+use Rattle.vm_event.specs.Prelude.{in_mask}
 use Rattle.vm_rule.specs.Bundles.{frames_in}
 use Rattle.vm_rule.specs.FreeNumbers.{GiveNumbersTold}
 use Rattle.vm_rule.specs.Prelude.{bundle_count, has, index_of, IsLocking, Seat, seat_of, StartsWith, without_all}

@@ -3,7 +3,7 @@ use Rattle.std.proofs.Common.{[], ⊎_elim, ◌++◌, ◌<◌, ◌||◌, ◌∙�
 use Rattle.std.proofs.Common.{List, refl, subst, sym, true, true≢false, ℕ}
 use Rattle.std.proofs.lemmas.Bool.{cases_eq, ne_eqb}
 use Rattle.vm_tree_model.specs.Layout.{Layout}
-use Rattle.vm_core.specs.Prelude.{Version}
+use Rattle.vm_event.specs.Prelude.{Version}
 use Rattle.vm_rule.specs.Prelude.{AreApart, began_of, Each, has, IsLocking, last_of, seat_of}
 use Rattle.vm_rule.proofs.Entries.{append-none}
 use Rattle.vm_tree_split.specs.from_vm_step.Prelude.{HoldsPage, IsAlone, KeepsNumbers, KnowsAsBefore, Origin, ReadsAsBefore, Tie, View}

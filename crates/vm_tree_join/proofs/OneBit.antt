@@ -2,7 +2,7 @@
 use Rattle.std.proofs.Common.{⊎_elim, ◌%◌, ◌/◌, ◌^◌, ◌≡◌, ◌≢◌, arith, refl, true, ℕ}
 use Rattle.std.proofs.lemmas.Bool.{cases_eq}
 use Rattle.std.proofs.lemmas.Nat.Bits.{bit_at-pow_other, bit_at-pow_same}
-use Rattle.vm_core.specs.Prelude.{in_mask}
+use Rattle.vm_event.specs.Prelude.{in_mask}
 use Rattle.vm_tree_split.proofs.from_vm_guard.FreeBits.{mask-from, mask-parts}
 
 pub bit-here : (p : ℕ) → in_mask (p / 64) (2 ^ (p % 64)) p ≡ true

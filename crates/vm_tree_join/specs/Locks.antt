@@ -1,7 +1,7 @@
 -- Pages that are locked one after the other, and numbers of pages that are given then.
 use Rattle.std.specs.Prelude.{[], ◌∷◌, ◌≡◌, ◌⊎◌, List, true, ℕ}
 use Rattle.vm_tree_model.specs.{Layout.Layout, Page.IsInner, Page.IsLeaf, Page.node_of}
-use Rattle.vm_core.specs.Prelude.{in_mask, version_of}
+use Rattle.vm_event.specs.Prelude.{in_mask, version_of}
 use Rattle.vm_rule.specs.FreeNumbers.{GiveNumbersTold}
 use Rattle.vm_rule.specs.Prelude.{Each}
 use Rattle.vm_tree_split.specs.from_vm_step.Prelude.{IsAlone, View}

@@ -1,12 +1,12 @@
 // Two leaves become one: the pages concerned, which are locked, are written and released together, with the del that made them few.
 ghost use Rattle.std.specs.Prelude.{[], ◌≡◌, ◌<◌, ◌∷◌, true, ℕ};
-ghost use Rattle.vm_core.specs.Prelude.{in_mask};
+ghost use Rattle.vm_event.specs.Prelude.{in_mask};
 ghost use Rattle.vm_rule.specs.FreeNumbers.{GiveNumbersTold, IsGivenBy};
 ghost use Rattle.vm_tree_split.specs.from_vm_step.Prelude.{GoesOn, IsReadyOn, view};
 ghost use Rattle.vm_tree_join.specs.Merging.{CanCollapse, CanMerge, IsMerged};
 
 use vm_block::Block;
-use vm_core::FRAMES;
+use vm_event::FRAMES;
 use vm_rule::words::{Pass, Words};
 use vm_tree_split::draft::{Edited, Whole, redraft};
 use vm_tree_split::guard::{ExclusiveGuard, Group, release_group};

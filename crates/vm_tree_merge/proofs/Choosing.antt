@@ -8,7 +8,7 @@ use Rattle.vm_tree_model.specs.Page.{node_of, pairs_of}
 use Rattle.vm_node.specs.Loads.{IsAnswer}
 use Rattle.vm_inner.specs.Neighbours.{AreBeside}
 use Rattle.vm_tree_join.specs.from_vm_rule.Prelude.{loads_at}
-use Rattle.vm_core.specs.Prelude.{LoadsAre}
+use Rattle.vm_event.specs.Prelude.{LoadsAre}
 use Rattle.vm_tree_join.specs.from_vm_step.Prelude.{NoneExpected, NoWord, Origin, View}
 use Rattle.vm_tree_join.specs.from_vm_guard.declared_deny_Deny_TheVariants as denies
 use Rattle.vm_tree_join.specs.from_vm_guard.{declared_opt_OptGuard.OptGuard, Guards.Loads, Guards.placed}

@@ -8,7 +8,7 @@ use Rattle.vm_map.specs.declared.call.Call.TheVariants.{Del}
 use Rattle.vm_map.specs.declared.call.Reply.TheVariants.{Gone}
 use Rattle.vm_tree_model.specs.{Edits.child_of, Edits.TakesPair, Layout.Layout, Layout.size, Merges.IsJoined}
 use Rattle.vm_tree_model.specs.Page.{IsInner, IsLeaf, node_of, pairs_of}
-use Rattle.vm_core.specs.Prelude.{MAX_VERSION, version_of}
+use Rattle.vm_event.specs.Prelude.{MAX_VERSION, version_of}
 use Rattle.vm_inner.specs.Neighbours.{AreBeside}
 use Rattle.vm_tree_join.specs.from_vm_rule.Prelude.{AreApart}
 use Rattle.vm_tree_join.specs.from_vm_step.Prelude.{Origin, View}

@@ -3,7 +3,7 @@ use Rattle.std.specs.Prelude.{◌*◌, ◌++◌, ◌<◌, ◌≡◌, ◌≢◌, 
 use Rattle.vm_map.specs.Map.{Rises}
 use Rattle.vm_tree_model.specs.{Edits.child_of, Layout.Layout, Layout.size, Node.Node}
 use Rattle.vm_tree_model.specs.Page.{node_of, pairs_of}
-use Rattle.vm_core.specs.Prelude.{MAX_VERSION, version_of}
+use Rattle.vm_event.specs.Prelude.{MAX_VERSION, version_of}
 use Rattle.vm_inner.specs.Neighbours.{AreBeside, HasNoPair}
 use Rattle.vm_tree_join.specs.from_vm_kind.Joins.{both_as_one}
 use Rattle.vm_tree_join.specs.from_vm_step.Prelude.{Did, NeedsPage, ReadsAsBefore, View}

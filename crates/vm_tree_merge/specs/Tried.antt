@@ -5,7 +5,7 @@ use Rattle.vm_map.specs.declared.call.Call.TheVariants.{Del}
 use Rattle.vm_map.specs.declared.call.Reply.TheVariants.{Gone}
 use Rattle.vm_tree_model.specs.{Layout.Layout, Layout.size, Node.Covers}
 use Rattle.vm_tree_model.specs.Page.{IsLeaf, node_of, pairs_of}
-use Rattle.vm_core.specs.Prelude.{MAX_VERSION, version_of}
+use Rattle.vm_event.specs.Prelude.{MAX_VERSION, version_of}
 use Rattle.vm_tree_join.specs.from_vm_step.Prelude.{View}
 use Rattle.vm_tree_join.specs.from_vm_guard.declared_opt_OptGuard.{OptGuard}
 use Rattle.vm_tree_laws.specs.May.{IsEdit}

@@ -3,7 +3,7 @@ ghost use Rattle.std.specs.Prelude.{◌*◌, ◌≤◌, ◌≡◌, ◌≢◌, fa
 ghost use Rattle.vm_map.specs.Map.{Rises};
 ghost use Rattle.vm_tree_model.specs.{Edits.TakesPair, Layout.size};
 ghost use Rattle.vm_tree_model.specs.Page.{node_of, pairs_of};
-ghost use Rattle.vm_core.specs.Prelude.{MAX_VERSION, version_of};
+ghost use Rattle.vm_event.specs.Prelude.{MAX_VERSION, version_of};
 ghost use Rattle.vm_node.specs.Loads.{IsAnswer};
 ghost use Rattle.vm_tree_join.specs.from_vm_step.Prelude.{GoesOn, IsReadyOn, ReadsAsBefore, view};
 ghost use Rattle.vm_tree_join.specs.from_vm_tree_rule.{Above.IsParentOf, Leaves.LeavesWord, Leaves.ReadsOn, Resident.IsKnownNow};
@@ -11,7 +11,7 @@ ghost use Rattle.vm_tree_merge.specs.Beside.{as_one, HasNoOther, IsChoice, IsNei
 ghost use Rattle.vm_tree_merge.specs.Tried.{IsToMerge};
 
 use vm_block::Block;
-use vm_core::{MAX_VERSION, StateWord};
+use vm_event::{MAX_VERSION, StateWord};
 use vm_inner::ChildPair;
 use vm_tree_join::guard::OptGuard;
 use vm_tree_join::kind::{Merges, TreeOf};

@@ -2,7 +2,7 @@
 ghost use Rattle.std.specs.Prelude.{[], ◌∷◌, ◌≡◌, ◌≢◌, ◌≤◌, ◌⊎◌, false, IfErr, IfOk, IsOk, length, None, true, ℕ};
 ghost use Rattle.vm_map.specs.Map.{Rises};
 ghost use Rattle.vm_tree_model.specs.{Edits.TakesPair, Layout.size, Merges.IsJoined, Page.pairs_of};
-ghost use Rattle.vm_core.specs.Prelude.{MAX_VERSION, version_of};
+ghost use Rattle.vm_event.specs.Prelude.{MAX_VERSION, version_of};
 ghost use Rattle.vm_tree_join.specs.from_vm_step.Prelude.{GoesOn, IsReadyOn, view};
 ghost use Rattle.vm_tree_join.specs.from_vm_guard.declared_opt_OptGuard.{OptGuard as Guard};
 ghost use Rattle.vm_tree_join.specs.from_vm_tree_rule.{Resident.IsKnownNow, Resident.KnowsResident, Seeks.IsMetaRead};

@@ -9,7 +9,7 @@ use Rattle.vm_map.specs.declared.call.Reply.TheVariants.{Many, Wide}
 use Rattle.vm_tree_model.specs.{Layout.Layout, Page.node_of, Page.pairs_of, Tree.map_of}
 use Rattle.vm_node.specs.{Loads.IsPageWith, Shows.AppendsRange}
 use Rattle.vm_node.proofs.Telling.{page_first, page_then}
-use Rattle.vm_core.specs.Prelude.{version_of}
+use Rattle.vm_event.specs.Prelude.{version_of}
 use Rattle.vm_owner.specs.Kept.{PagesHave}
 use Rattle.vm_rule.specs.Prelude.{began_of, Each, entries_under, Entry, entry_of, last_of, StartsWith}
 use Rattle.vm_rule.proofs.{Entries.append-none, Heard.each-both}

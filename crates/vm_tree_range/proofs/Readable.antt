@@ -3,8 +3,8 @@ use Rattle.std.proofs.Common.{⊎_elim, [], ◌++◌, ◌+◌, ◌-◌, ◌<◌,
 use Rattle.std.proofs.Common.{slice_index, subst, suc, sym, zero, ℕ}
 use Rattle.std.proofs.lemmas.Bool.{cases_eq, cond-false, ne_eqb}
 use Rattle.std.proofs.lemmas.List.{get_or-set_other, get_or-set_same}
-use Rattle.vm_core.specs.Prelude.{MARKED, MayShare, one_share_more, state_of, UNLOCKED, upd, version_of, word_of}
-use Rattle.vm_core.proofs.Upd.{upd-other, upd-same}
+use Rattle.vm_event.specs.Prelude.{MARKED, MayShare, one_share_more, state_of, UNLOCKED, upd, version_of, word_of}
+use Rattle.vm_event.proofs.Upd.{upd-other, upd-same}
 use Rattle.vm_rule.specs.Prelude.{bundle_count, index_of, Start, width}
 use Rattle.vm_rule.specs.declared.view.WordPlace.TheVariants as places
 use Rattle.vm_rule.proofs.WordFacts.{less-state, version-within, word-state}

@@ -3,7 +3,7 @@ use Rattle.std.proofs.Common.{[], ⊎_elim, ◌++◌, ◌+◌, ◌<◌, ◌∙�
 use Rattle.std.proofs.Common.{length, List, refl, slice_index, Some, subst, sym, true, ℕ}
 use Rattle.vm_map.specs.{declared.call.Said.Said, Map.Rises}
 use Rattle.vm_tree_model.specs.{Layout.Layout, Node.Covers, Page.node_of, Page.pairs_of, Tree.map_of}
-use Rattle.vm_core.specs.Prelude.{LoadsAre, page_at, version_of}
+use Rattle.vm_event.specs.Prelude.{LoadsAre, page_at, version_of}
 use Rattle.vm_pool.specs.from_vm_rule.Prelude.{began_of, entries_under, Entry, entry_of, last_of, loads_at, LockValidates}
 use Rattle.vm_tree_rule.specs.from_vm_step.Prelude.{IsKeptNow, MayTell, NoneExpected, Origin, View}
 use Rattle.vm_tree_rule.specs.from_vm_step.declared_saw_Saw.{Saw}

@@ -5,7 +5,7 @@ use Rattle.vm_map.specs.declared.call.Call.TheVariants.{Del, Get, Put, Range, Sw
 use Rattle.vm_map.specs.declared.call.Reply.TheVariants.{Gone, Got, Many, Swapped, Was, Wide, Win}
 use Rattle.vm_tree_model.specs.{Layout.Layout, Node.Covers, Page.node_of, Page.pairs_of, Tree.map_of}
 use Rattle.vm_node.specs.Loads.{IsPageWith}
-use Rattle.vm_core.specs.Prelude.{page_at}
+use Rattle.vm_event.specs.Prelude.{page_at}
 use Rattle.vm_pool.specs.from_vm_rule.Prelude.{began_of, Entry, entry_of, Kept, last_of}
 use Rattle.vm_tree_rule.specs.from_vm_step.Prelude.{View}
 use Rattle.vm_tree_laws.specs.{History.IsLegal, May.IsProved, Plain.KeepsPlain, Plain.plain_history}

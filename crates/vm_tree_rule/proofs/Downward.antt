@@ -2,7 +2,7 @@
 use Rattle.std.proofs.Common.{[], ⊎_elim, ◌++◌, ◌+◌, ◌<◌, ◌∙◌, ◌∷◌, ◌≡◌, ◌≤◌, ap, append_assoc, arith, inl, length, List, refl}
 use Rattle.std.proofs.Common.{slice_index, Some, subst, suc, sym, true, ℕ}
 use Rattle.vm_tree_model.specs.{Edits.child_of, Layout.Layout, Page.IsInner}
-use Rattle.vm_core.specs.Prelude.{LoadsAre, version_of}
+use Rattle.vm_event.specs.Prelude.{LoadsAre, version_of}
 use Rattle.vm_rule.specs.Prelude.{began_of, Each, last_of, loads_at}
 use Rattle.vm_step.specs.Prelude.{Origin, Tie, View}
 use Rattle.vm_kind.specs.from_vm_guard.{Guards.BeginsReading, Guards.Loads, PageWords.LoadsWords}

@@ -4,7 +4,7 @@ use Rattle.std.proofs.Common.{inr, length, List, None, refl, Some, subst, suc, s
 use Rattle.std.proofs.lemmas.Bool.{cases_eq, ne_eqb}
 use Rattle.vm_map.specs.declared.call.Said.{Said}
 use Rattle.vm_tree_model.specs.Layout.{Layout}
-use Rattle.vm_core.specs.Prelude.{version_of}
+use Rattle.vm_event.specs.Prelude.{version_of}
 use Rattle.vm_rule.specs.Prelude.{last_of, loads_at, Open, seat_of, ties_below}
 use Rattle.vm_rule.specs.Looks.{tie_of}
 use Rattle.vm_step.specs.Prelude.{IsKeptNow, NoneExpected, NoWord, Origin, ReadsAsBefore, Tie, View}

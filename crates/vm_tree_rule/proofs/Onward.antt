@@ -4,7 +4,7 @@ use Rattle.std.proofs.Common.{None, Option, refl, slice_index, Some, subst, suc,
 use Rattle.vm_map.specs.Map.{next_key}
 use Rattle.vm_tree_model.specs.{Layout.Layout, Page.node_of, Page.pairs_of}
 use Rattle.vm_node.specs.Loads.{IsPageWith}
-use Rattle.vm_core.specs.Prelude.{LoadsAre}
+use Rattle.vm_event.specs.Prelude.{LoadsAre}
 use Rattle.vm_rule.specs.Prelude.{last_of, loads_at}
 use Rattle.vm_step.specs.Prelude.{Origin, ReadsAsBefore, View}
 use Rattle.vm_kind.specs.from_vm_guard.declared_opt_OptGuard.{OptGuard}

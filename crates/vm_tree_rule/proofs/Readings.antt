@@ -5,7 +5,7 @@ use Rattle.std.proofs.Common.{sym, zero, ℕ}
 use Rattle.std.proofs.lemmas.Grind.{same_number_lists}
 use Rattle.std.specs.List.{All}
 use Rattle.vm_node.specs.Loads.{IsPageWith}
-use Rattle.vm_core.specs.Prelude.{LoadsAre, version_of}
+use Rattle.vm_event.specs.Prelude.{LoadsAre, version_of}
 use Rattle.vm_rule.specs.Prelude.{began_of, Each, LockValidates, Start, Within}
 use Rattle.vm_rule.specs.declared.view.WordPlace.TheVariants as places
 use Rattle.vm_rule.proofs.{Entries.append-none, Entries.each-map, Heard.each-both}

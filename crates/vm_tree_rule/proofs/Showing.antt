@@ -1,7 +1,7 @@
 -- The evidence of one step of a call, in the log of the whole call.
 use Rattle.std.proofs.Common.{[], ⊎_elim, ◌++◌, ◌∙◌, ◌∷◌, ◌≡◌, ◌≢◌, ◌⊎◌, ap, append_assoc, arith, inl, inr, List, None, Option, refl}
 use Rattle.std.proofs.Common.{Some, subst, sym, ℕ}
-use Rattle.vm_core.specs.Prelude.{state_of, UNLOCKED, version_of, word_of}
+use Rattle.vm_event.specs.Prelude.{state_of, UNLOCKED, version_of, word_of}
 use Rattle.vm_rule.specs.Prelude.{did_load, Each}
 use Rattle.vm_rule.specs.declared.view.WordPlace.{WordPlace}
 use Rattle.vm_rule.specs.declared.view.WordPlace.TheVariants as places

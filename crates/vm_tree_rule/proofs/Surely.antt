@@ -6,7 +6,7 @@ use Rattle.std.proofs.lemmas.Bool.{cases_eq, cases_lt, Decides.nat_tests, ne_eqb
 use Rattle.std.proofs.lemmas.List.{get_or-set_other}
 use Rattle.vm_map.specs.declared.call.Said.{Said}
 use Rattle.vm_tree_model.specs.{Layout.IsLayout, Layout.Layout, Page.IsInner, Page.IsLeaf}
-use Rattle.vm_core.specs.Prelude.{is_readable, LOCKED, MARKED, page_at, state_of, UNLOCKED, version_of, word_of}
+use Rattle.vm_event.specs.Prelude.{is_readable, LOCKED, MARKED, page_at, state_of, UNLOCKED, version_of, word_of}
 use Rattle.vm_rule.specs.Prelude.{began_of, bundle_count, index_of, last_of}
 use Rattle.vm_rule.specs.declared.view.WordPlace.TheVariants as places
 use Rattle.vm_rule.proofs.WordFacts.{version-within, word-state}

@@ -1,7 +1,7 @@
 -- What a pass that is alone has to know of the table, so that a call on the tree is sure to be answered; and what it
 -- knows then of a page that it reads.
 use Rattle.std.specs.Prelude.{◌<◌, ◌≡◌, suc, true, zero, ℕ}
-use Rattle.vm_core.specs.Prelude.{LOCKED, state_of}
+use Rattle.vm_event.specs.Prelude.{LOCKED, state_of}
 use Rattle.vm_step.specs.Prelude.{IsAlone, KnowsUnheld, View}
 use Rattle.vm_kind.specs.from_vm_guard.Sure.{IsUnlockedWord, known_next, known_word}
 

@@ -3,7 +3,7 @@ use Rattle.std.specs.Prelude.{◌++◌, ◌<◌, ◌∷◌, ◌≡◌, ◌≢◌
 use Rattle.std.specs.Option.{option_map}
 use Rattle.vm_tree_model.specs.{Edits.child_of, Layout.Layout, Node.Covers}
 use Rattle.vm_tree_model.specs.Page.{node_of}
-use Rattle.vm_core.specs.Prelude.{version_of}
+use Rattle.vm_event.specs.Prelude.{version_of}
 use Rattle.vm_rule.specs.Prelude.{began_of, Each, last_of, loads_at, LockValidates}
 use Rattle.vm_step.specs.Prelude.{Tie, View}
 use Rattle.vm_kind.specs.from_vm_guard.Guards.{BeginsReading, IsReading, IsValid}

@@ -6,7 +6,7 @@ use Rattle.std.proofs.Common.{subst, suc, sym, true, ℕ}
 use Rattle.std.proofs.lemmas.Bool.{eq-eqb, ne_eqb, or_left, or_right}
 use Rattle.vm_map.specs.declared.call.Said.{Said}
 use Rattle.vm_tree_model.specs.Layout.{IsLayout, Layout}
-use Rattle.vm_core.specs.Prelude.{LoadsAre}
+use Rattle.vm_event.specs.Prelude.{LoadsAre}
 use Rattle.vm_rule.specs.Prelude.{AreApart, has, last_of, loads_at, put_at}
 use Rattle.vm_step.specs.Prelude.{Did, Origin, View}
 use Rattle.vm_tree_read.specs.from_vm_exmap.Frames.{MovesFrames}

@@ -4,7 +4,7 @@ use Rattle.std.proofs.Common.{false, if◌then◌else◌, inl, inr, List, None, 
 use Rattle.std.proofs.Common.{subst, sym, true, true≢false, ℕ}
 use Rattle.std.proofs.lemmas.Bool.{cases_Bool, cases_eq, eq-eqb, ne_eqb, or_left, or_right}
 use Rattle.std.proofs.lemmas.List.{reverse-append}
-use Rattle.vm_core.specs.Prelude.{no_seat}
+use Rattle.vm_event.specs.Prelude.{no_seat}
 use Rattle.vm_rule.specs.Prelude.{Each, entries_under, entry_of, frames_in, has, IsLocking, IsUnheld, next_after}
 use Rattle.vm_rule.specs.Prelude.{put_at, seat_of, without_all}
 use Rattle.vm_rule.proofs.{Bundled.has-without_all, Entries.append-none, Facts.has-both}

@@ -1,7 +1,7 @@
 -- Two pages that were locked are given up, since no fresh pages were given: the pass holds what it held.
 use Rattle.std.proofs.Common.{◌++◌, ◌∙◌, ◌≡◌, ◌≢◌, ap, false, inl, List, None, refl, subst, sym, ℕ}
 use Rattle.vm_tree_model.specs.Layout.{Layout}
-use Rattle.vm_core.specs.Prelude.{Version}
+use Rattle.vm_event.specs.Prelude.{Version}
 use Rattle.vm_rule.specs.Prelude.{draft_of, has, last_of}
 use Rattle.vm_step.specs.Prelude.{AreHeld, View}
 use Rattle.vm_tree_read.proofs.from_vm_exmap.Handing.{held-on, held-swap}

@@ -8,7 +8,7 @@ use Rattle.vm_page.specs.Pages.{all_zero}
 use Rattle.vm_tree_laws.proofs.Zeros.{node_words, other_words}
 use Rattle.vm_tree_model.specs.{Edits.IsNewRoot, Edits.IsSplit, Node.Node, Page.IsFree, Page.node_of}
 use Rattle.vm_tree_model.specs.Layout.{IsClean, IsFullNode, IsLayout, Layout, size}
-use Rattle.vm_core.specs.Prelude.{Version}
+use Rattle.vm_event.specs.Prelude.{Version}
 use Rattle.vm_rule.specs.Prelude.{AreApart, began_of, change_of, changes_of, draft_of, has, last_of, seat_of}
 use Rattle.vm_step.specs.Prelude.{HoldsPage, IsClaimed, Origin, View}
 use Rattle.vm_step.proofs.Asides.{holds-then}

@@ -3,8 +3,8 @@ use Rattle.std.proofs.Common.{[], ⊎_elim, ◌*◌, ◌+◌, ◌<◌, ◌∙◌
 use Rattle.std.proofs.Common.{IsOk, List, Result, slice_index, subst, suc, sym, true, zero, ℕ}
 use Rattle.std.proofs.lemmas.Bool.{cases_eq, cases_lt, false≢true}
 use Rattle.std.proofs.lemmas.List.{get_or-set_other}
-use Rattle.vm_core.specs.Words.{bit_count}
-use Rattle.vm_core.specs.Prelude.{LOCKED, MAX_VERSION, Version, version_of, word_of}
+use Rattle.vm_event.specs.Words.{bit_count}
+use Rattle.vm_event.specs.Prelude.{LOCKED, MAX_VERSION, Version, version_of, word_of}
 use Rattle.vm_page.specs.Pages.{all_zero}
 use Rattle.vm_rule.specs.Prelude.{bundle_count, HoldsNoPage, index_of}
 use Rattle.vm_rule.specs.declared.view.WordPlace.TheVariants as places

@@ -12,7 +12,7 @@ use Rattle.vm_tree_model.specs.Edits.{AddsPair, child_of, IsSplit}
 use Rattle.vm_tree_model.specs.Layout.{IsClean, IsFullNode, IsLayout, Layout, size}
 use Rattle.vm_tree_model.specs.Node.{Covers, IsNode, Node}
 use Rattle.vm_tree_model.specs.Page.{IsFree, IsInner, IsLeaf, node_of}
-use Rattle.vm_core.specs.Prelude.{Version}
+use Rattle.vm_event.specs.Prelude.{Version}
 use Rattle.vm_rule.specs.Prelude.{AreApart, began_of, change_of, changes_of, draft_of, entries_of, has, last_of}
 use Rattle.vm_rule.specs.Prelude.{next_after, Seat, seat_of, without_all}
 use Rattle.vm_rule.specs.declared.view.WordPlace.{WordPlace}

@@ -3,7 +3,7 @@ use Rattle.std.proofs.Common.{[], ◌++◌, ◌+◌, ◌∙◌, ◌∷◌, ◌�
 use Rattle.std.proofs.Common.{true, ℕ}
 use Rattle.std.proofs.lemmas.List.{length-append}
 use Rattle.vm_tree_model.specs.{Layout.Layout, Node.Covers, Page.IsInner, Page.node_of}
-use Rattle.vm_core.specs.Prelude.{no_seat, Version, version_of}
+use Rattle.vm_event.specs.Prelude.{no_seat, Version, version_of}
 use Rattle.vm_page.specs.Pages.{all_zero}
 use Rattle.vm_rule.specs.Prelude.{began_of, draft_of, Each, has, IsLocking, last_of, no_held, put_at, Seat, seat_of, StartsWith}
 use Rattle.vm_rule.proofs.Entries.{append-none}

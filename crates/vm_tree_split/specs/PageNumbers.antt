@@ -1,6 +1,6 @@
 -- What a call on the tree leaves of the page numbers of its pass: those that it holds, and those of freed pages that it has still to give.
 use Rattle.std.specs.Prelude.{◌++◌, ◌≡◌, ◌⊎◌, List, true, ℕ}
-use Rattle.vm_core.specs.Prelude.{MAX_VERSION, version_of}
+use Rattle.vm_event.specs.Prelude.{MAX_VERSION, version_of}
 use Rattle.vm_rule.specs.Prelude.{has}
 use Rattle.vm_rule.specs.declared.view.WordPlace.{WordPlace}
 use Rattle.vm_step.specs.Prelude.{Did, HasGiven, View}

@@ -6,7 +6,7 @@ use Rattle.vm_map.specs.declared.call.Reply.TheVariants.{Gone}
 use Rattle.vm_map.specs.Map.{lookup_at, Rises}
 use Rattle.vm_tree_model.specs.{Layout.Layout, Node.Covers}
 use Rattle.vm_tree_model.specs.Page.{node_of, pairs_of}
-use Rattle.vm_core.specs.Prelude.{MAX_VERSION, version_of}
+use Rattle.vm_event.specs.Prelude.{MAX_VERSION, version_of}
 use Rattle.vm_tree_merge.specs.from_vm_step.Prelude.{View}
 use Rattle.vm_tree_merge.specs.from_vm_guard.declared_opt_OptGuard.{OptGuard}
 use Rattle.vm_tree_merge.specs.from_vm_tree_rule.{Seeks.HasRead, Standing.Awaits, Standing.IsOpened}

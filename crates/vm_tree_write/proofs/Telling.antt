@@ -9,7 +9,7 @@ use Rattle.vm_map.specs.Map.{lookup_at}
 use Rattle.vm_tree_model.specs.{Edits.PutsInLeaf, Layout.IsClean, Layout.IsLayout, Layout.Layout, Layout.size, Node.Covers}
 use Rattle.vm_tree_model.specs.Page.{IsLeaf, node_of, pairs_of}
 use Rattle.vm_node.specs.Loads.{IsPageWith}
-use Rattle.vm_core.specs.Prelude.{MAX_VERSION, version_of}
+use Rattle.vm_event.specs.Prelude.{MAX_VERSION, version_of}
 use Rattle.vm_rule.specs.Prelude.{last_of}
 use Rattle.vm_tree_merge.specs.from_vm_step.Prelude.{NoneExpected, Origin, UnlockedExpected, View}
 use Rattle.vm_tree_merge.specs.from_vm_step.declared_saw_Saw.{Saw}

@@ -12,7 +12,7 @@ use Rattle.vm_map.specs.declared.call.Reply.TheVariants.{Gone, Swapped, Was}
 use Rattle.vm_map.specs.declared.call.Swap.TheVariants as swaps
 use Rattle.vm_tree_model.specs.{Layout.IsLayout, Layout.Layout, Tree.map_of}
 use Rattle.vm_tree_model.specs.Page.{IsFree, IsInner, IsLeaf, node_of}
-use Rattle.vm_core.specs.Prelude.{LOCKED, version_of, word_of}
+use Rattle.vm_event.specs.Prelude.{LOCKED, version_of, word_of}
 use Rattle.vm_owner.proofs.NumberLemmas.{without-none}
 use Rattle.vm_rule.specs.Prelude.{AreUnchanged, began_of, change_of, draft_of, Each, Entry, entry_of, IsLocking, last_of}
 use Rattle.vm_rule.specs.Prelude.{loads_at, next_after, Seat, seat_of}
@@ -117,7 +117,7 @@ module _ {S : Type 0} (plain : S → Said) (L : Layout) (laws : IsLayout L) wher
     module _ (d : IsRedrafted p x y) (drafted : v.start.tells ≡ true → draft_of y p ≡ after) where
       -- its words before and after are those of the two pages
       pub old-is : v.start.tells ≡ true → (last_of y p).words ≡ before
-      old-is tells = ap (λ (z : Rattle.vm_core.specs.History.Version). z.words) d.last ∙ last-is tells
+      old-is tells = ap (λ (z : Rattle.vm_event.specs.History.Version). z.words) d.last ∙ last-is tells
 
       pub edits : v.start.tells ≡ true → (node_of L before).tag ≡ 2
           → (IsLeaf L before → IsEdit L before after (plain said).call (plain said).reply)
@@ -229,7 +229,7 @@ module _ {S : Type 0} (plain : S → Said) (L : Layout) (laws : IsLayout L) wher
             → IsBorneOutBy plain L p before after (plain said) v w
         borne-out tag edit kept-if tells =
             let kept = kept-if tells in
-            let last : (last_of w p).words ≡ after = ap (λ (z : Rattle.vm_core.specs.History.Version). z.words) e.last ∙ drafted tells in
+            let last : (last_of w p).words ≡ after = ap (λ (z : Rattle.vm_event.specs.History.Version). z.words) e.last ∙ drafted tells in
             let keeps : KeepsPlain plain L (began_of v.start) kept.kept =
             subst (λ (o : Origin). KeepsPlain plain L (began_of o) kept.kept) rest.steady.start kept.holds in
             record {
@@ -285,7 +285,7 @@ module _ {S : Type 0} (plain : S → Said) (L : Layout) (laws : IsLayout L) wher
                       ∙ ap (λ (t : List (Entry S)). t ++ entry_of v said ∷ []) (append_assoc v.seen seen.0 e.entry.0),
                 );
                 stores = stores sets;
-                last = ap (λ (z : Rattle.vm_core.specs.History.Version). z.version) e.last;
+                last = ap (λ (z : Rattle.vm_event.specs.History.Version). z.version) e.last;
                 told = borne-out tag edit kept;
               },
               refl,

@@ -7,7 +7,7 @@ use Rattle.vm_map.specs.declared.call.Swap.TheVariants as swaps
 use Rattle.vm_map.specs.Map.{lookup_at, Rises}
 use Rattle.vm_tree_model.specs.{Edits.IsFullFor, Layout.Layout, Node.Covers, Tree.map_of}
 use Rattle.vm_tree_model.specs.Page.{IsLeaf, node_of, pairs_of}
-use Rattle.vm_core.specs.Prelude.{LOCKED, page_at, version_of, word_of}
+use Rattle.vm_event.specs.Prelude.{LOCKED, page_at, version_of, word_of}
 use Rattle.vm_rule.specs.Prelude.{began_of, Each, entry_of, IsLocking, IsWhole, Kept, last_of, seat_of, StartsWith}
 use Rattle.vm_rule.specs.declared.view.WordPlace.{WordPlace}
 use Rattle.vm_rule.specs.declared.view.WordPlace.TheVariants as places

@@ -4,9 +4,9 @@ use Rattle.std.proofs.Common.{drop, length, List, map, None, Option, refl, slice
 use Rattle.std.proofs.Common.{Some, subst, suc, sym, take, ℕ}
 use Rattle.std.proofs.lemmas.Bool.{cases_eq}
 use Rattle.std.proofs.lemmas.List.{get_or-set_other, get_or-set_same}
-use Rattle.vm_core.specs.Prelude.{no_seat}
-use Rattle.vm_core.specs.declared.event.ReadIs.TheVariants.{Closed, Moved, Opened, Same}
-use Rattle.vm_core.proofs.Upd.{upd-other, upd-same}
+use Rattle.vm_event.specs.Prelude.{no_seat}
+use Rattle.vm_event.specs.declared.event.ReadIs.TheVariants.{Closed, Moved, Opened, Same}
+use Rattle.vm_event.proofs.Upd.{upd-other, upd-same}
 use Rattle.vm_rule.specs.Prelude.{did_load, Each, entries_of, HoldsNoPage, left_at, LookTold, Open, owns, put, put_at}
 use Rattle.vm_rule.specs.Prelude.{ReadIs, Seat, seat_of, Start, times, total, where_same}
 use Rattle.vm_rule.specs.declared.view.WordPlace.TheVariants as places

@@ -8,7 +8,7 @@ ghost use Rattle.vm_workers.specs.Entries.{HasThree, SaysThree};
 use crate::tally::AllowAll;
 use std::alloc::Global;
 use vm_block::{Block, PageBlock};
-use vm_core::Memory;
+use vm_event::Memory;
 use vm_exmap::Interface;
 use vm_guard::{Deny, OptGuard};
 use vm_owner::Owner;

@@ -9,7 +9,7 @@ use std::alloc::Global;
 use std::thread;
 use std::thread::Threads;
 use vm_block::PageBlock;
-use vm_core::Memory;
+use vm_event::Memory;
 use vm_exmap::Interface;
 use vm_guard::ExclusiveGuard;
 use vm_owner::Bare;

@@ -1,12 +1,12 @@
 //! The events on bundle words: free frames go to an actor and come back.
 
 ghost use Rattle.std.specs.Prelude.{◌*◌, ◌<◌, ◌↔◌, ◌≡◌, IsTrue};
-ghost use Rattle.vm_core.specs.Prelude.{core_of, NamesBundle, Steps, taken};
-ghost use Rattle.vm_core.specs.Step.{given, MayGive, MayTake};
+ghost use Rattle.vm_event.specs.Prelude.{NamesBundle, taken};
+ghost use Rattle.vm_core.specs.Prelude.{core_of, Steps};
+ghost use Rattle.vm_event.specs.Step.{given, MayGive, MayTake};
 
-use crate::event::{Event, Illegal, Seen};
 use crate::machine::Core;
-use crate::words::FRAMES;
+use vm_event::{Event, FRAMES, Illegal, Seen};
 
 impl Core {
     /// Whether the numbers name an actor and a bundle.

@@ -1,12 +1,12 @@
 //! The events on the next word, from which page numbers are claimed, and on the clock's hand.
 
 ghost use Rattle.std.specs.Prelude.{◌↔◌, ◌≡◌, IsTrue};
-ghost use Rattle.vm_core.specs.Prelude.{core_of, hand_more, MayDirty, NamesActorAndPage, Steps};
-ghost use Rattle.vm_core.specs.Step.{MayClaim};
+ghost use Rattle.vm_event.specs.Prelude.{hand_more, MayDirty, NamesActorAndPage};
+ghost use Rattle.vm_core.specs.Prelude.{core_of, Steps};
+ghost use Rattle.vm_event.specs.Step.{MayClaim};
 
-use crate::event::{Event, Illegal, Seen};
 use crate::machine::Core;
-use crate::words::STRIDE;
+use vm_event::{Event, Illegal, STRIDE, Seen};
 
 impl Core {
     /// A load of the next word.
@@ -66,7 +66,7 @@ impl Core {
 }
 
 /// The clock's next place: 64 pages on, wrapping.
-#[tactic(auto, unfolding(crate::specs::Words::hand_more))]
+#[tactic(auto, unfolding(vm_event::specs::Words::hand_more))]
 fn hand_more(hand: u64) -> u64
     ensures { result ≡ hand_more hand }
 {

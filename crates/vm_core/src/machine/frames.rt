@@ -1,12 +1,13 @@
 //! The events on frames: a held frame goes under a page and comes back, and words are loaded and stored.
 
 ghost use Rattle.std.specs.Prelude.{◌<◌, ◌↔◌, ◌≡◌, false, IsTrue, slice_index, true, ℕ};
-ghost use Rattle.vm_core.specs.Prelude.{ClearFrame, core_of, HoldsAt, load_frame, NamesActorAndPage, Steps, stored_at};
-ghost use Rattle.vm_core.specs.Step.{MayPut, MayStore, put_under, taken_out};
+ghost use Rattle.vm_event.specs.Prelude.{HoldsAt, load_frame, NamesActorAndPage, stored_at};
+ghost use Rattle.vm_core.specs.Prelude.{ClearFrame, core_of, Steps};
+ghost use Rattle.vm_event.specs.Step.{MayPut, MayStore, put_under, taken_out};
 
-use crate::event::{Event, Illegal, Seen};
 use crate::frames::frame_words;
 use crate::machine::Core;
+use vm_event::{Event, Illegal, Seen};
 use vm_page::WORDS;
 
 impl Core {

@@ -1,13 +1,13 @@
 //! The events on free-number words: page numbers go to an actor and become free; and the hold of a number that ends.
 
 ghost use Rattle.std.specs.Prelude.{◌*◌, ◌<◌, ◌↔◌, ◌≡◌, false, IsTrue, true, ℕ};
-ghost use Rattle.vm_core.specs.Prelude.{core_of, in_mask, Steps, upd};
-ghost use Rattle.vm_core.specs.Step.{keeps_number, MayGiveNumbers, MayTakeNumbers, NamesSpares, numbers_given, numbers_taken};
+ghost use Rattle.vm_event.specs.Prelude.{in_mask, upd};
+ghost use Rattle.vm_core.specs.Prelude.{core_of, Steps};
+ghost use Rattle.vm_event.specs.Step.{keeps_number, MayGiveNumbers, MayTakeNumbers, NamesSpares, numbers_given, numbers_taken};
 
-use crate::event::{Event, Illegal, Seen};
 use crate::frames::frame_words;
 use crate::machine::Core;
-use crate::words::FRAMES;
+use vm_event::{Event, FRAMES, Illegal, Seen};
 use vm_page::WORDS;
 
 impl Core {

@@ -2,12 +2,13 @@
 //! anyone loads such a word, to find the page of a frame. A page that is given up in its frame is named by it.
 
 ghost use Rattle.std.specs.Prelude.{◌<◌, ◌↔◌, ◌≡◌, IsTrue};
-ghost use Rattle.vm_core.specs.Prelude.{core_of, IsOwned, NamesActorAndPage, Steps, upd};
+ghost use Rattle.vm_event.specs.Prelude.{IsOwned, NamesActorAndPage, upd};
+ghost use Rattle.vm_core.specs.Prelude.{core_of, Steps};
 ghost use Rattle.vm_core.specs.CoreOf.{LeaveSteps, OwnedFrame};
-ghost use Rattle.vm_core.specs.Step.{NamesActorAndFrame};
+ghost use Rattle.vm_event.specs.Step.{NamesActorAndFrame};
 
-use crate::event::{Event, Illegal, PageAct, Seen};
 use crate::machine::Core;
+use vm_event::{Event, Illegal, PageAct, Seen};
 
 impl Core {
     /// The frame of a page that the actor holds exclusively, where it is resident.

@@ -1,15 +1,16 @@
 //! The calls of a page's block, which may fail, and the fault word that tells it.
 
 ghost use Rattle.std.specs.Prelude.{[], ◌<◌, ◌↔◌, ◌≡◌, IsTrue, length};
-ghost use Rattle.vm_core.specs.Prelude.{block_after, count_more, MayCall, page_of, PageSteps, words_of_frames};
-ghost use Rattle.vm_core.specs.DeviceActs.{failed, MayWrite};
+ghost use Rattle.vm_event.specs.Prelude.{block_after, count_more, MayCall};
+ghost use Rattle.vm_core.specs.Prelude.{page_of, PageSteps, words_of_frames};
+ghost use Rattle.vm_event.specs.DeviceActs.{failed, MayWrite};
 
-use crate::event::{Illegal, Mapping, PageAct, Seen};
 use crate::frames::frame_words;
 use crate::page::PageCell;
+use vm_event::{Illegal, Mapping, PageAct, Seen};
 use vm_page::WORDS;
 
-#[tactic(auto, using(crate::proofs::At::at_set, crate::proofs::At::seat_here))]
+#[tactic(auto, using(vm_event::proofs::At::at_set, vm_event::proofs::At::seat_here))]
 impl PageCell {
     /// A read of the block that went well. It changes nothing here: its words come into a frame by stores.
     pub(super) fn try_read(&mut self, a: usize) -> Result<Seen, Illegal>

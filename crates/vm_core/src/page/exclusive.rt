@@ -1,15 +1,15 @@
 //! The exclusive lock of a page: taken, upgraded from a write-back, and given up at the next version.
 
 ghost use Rattle.std.specs.Prelude.{[], ◌<◌, ◌↔◌, ◌≡◌, ◌⊎◌, IsTrue, length};
-ghost use Rattle.vm_core.specs.Prelude.{EVICTED, locked, MARKED, MayEmpty, MayReleaseLock, MayUpgrade, page_of, PageSteps, state_of, UNLOCKED};
-ghost use Rattle.vm_core.specs.Prelude.{upgraded, version_of};
-ghost use Rattle.vm_core.specs.StateActs.{downgraded, emptied, released};
+ghost use Rattle.vm_event.specs.Prelude.{EVICTED, locked, MARKED, MayEmpty, MayReleaseLock, MayUpgrade, state_of, UNLOCKED};
+ghost use Rattle.vm_core.specs.Prelude.{page_of, PageSteps};
+ghost use Rattle.vm_event.specs.Prelude.{upgraded, version_of};
+ghost use Rattle.vm_event.specs.StateActs.{downgraded, emptied, released};
 
-use crate::event::{Illegal, PageAct, Seat, Seen};
 use crate::page::PageCell;
-use crate::words::{MAX_VERSION, StateWord};
+use vm_event::{Illegal, MAX_VERSION, PageAct, Seat, Seen, StateWord};
 
-#[tactic(auto, using(crate::proofs::At::at_set, crate::proofs::At::seat_here))]
+#[tactic(auto, using(vm_event::proofs::At::at_set, vm_event::proofs::At::seat_here))]
 impl PageCell {
     /// The exclusive lock, where the word is the expected one.
     pub(super) fn try_lock_exclusive(&mut self, a: usize, expects: u64) -> Result<Seen, Illegal>

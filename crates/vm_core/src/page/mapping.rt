@@ -1,15 +1,17 @@
 //! The frame under a page: put there, taken away, made dirty and clean.
 
 ghost use Rattle.std.specs.Prelude.{[], ◌<◌, ◌↔◌, ◌≡◌, IsTrue, length, true};
-ghost use Rattle.vm_core.specs.Prelude.{cleared, ClearFrame, HeldFrame, HoldsAt, installed, MayClean, MayDirty, MayInstall, page_of, PageSteps};
-ghost use Rattle.vm_core.specs.Prelude.{with_dirty, words_of_frames};
+ghost use Rattle.vm_event.specs.Prelude.{cleared, HoldsAt, installed, MayClean, MayDirty, MayInstall};
+ghost use Rattle.vm_core.specs.Prelude.{ClearFrame, HeldFrame, page_of, PageSteps};
+ghost use Rattle.vm_event.specs.Prelude.{with_dirty};
+ghost use Rattle.vm_core.specs.Prelude.{words_of_frames};
 
-use crate::event::{Illegal, Mapping, PageAct, Seen};
 use crate::frames::frame_words;
 use crate::page::PageCell;
+use vm_event::{Illegal, Mapping, PageAct, Seen};
 use vm_page::WORDS;
 
-#[tactic(auto, using(crate::proofs::At::at_set, crate::proofs::At::seat_here))]
+#[tactic(auto, using(vm_event::proofs::At::at_set, vm_event::proofs::At::seat_here))]
 impl PageCell {
     /// Whether the actor may put a frame with these words under the page.
     pub fn may_install(&self, a: usize, words: &[u64; WORDS]) -> bool

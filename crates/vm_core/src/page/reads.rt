@@ -1,14 +1,14 @@
 //! Optimistic reads of a page: looks, the frame of an open read, and what a load reads.
 
 ghost use Rattle.std.specs.Prelude.{◌&&◌, ◌<◌, ◌==◌, ◌||◌, ◌≡◌, if◌then◌else◌, is_some, length, nat_lt};
-ghost use Rattle.vm_core.specs.Prelude.{frame_of, frame_read, framed, left_of, left_open, load_frame, looked, open_after, open_frame, page_of};
-ghost use Rattle.vm_core.specs.declared.event.ReadIs.TheVariants.{Closed};
+ghost use Rattle.vm_event.specs.Prelude.{frame_of, frame_read, framed, left_of, left_open, load_frame, looked, open_after, open_frame};
+ghost use Rattle.vm_core.specs.Prelude.{page_of};
+ghost use Rattle.vm_event.specs.declared.event.ReadIs.TheVariants.{Closed};
 
-use crate::event::{Mapping, Open, ReadIs, Seat};
 use crate::page::PageCell;
-use crate::words::StateWord;
+use vm_event::{Mapping, Open, ReadIs, Seat, StateWord};
 
-#[tactic(auto, using(crate::proofs::At::at_set, crate::proofs::At::seat_here))]
+#[tactic(auto, using(vm_event::proofs::At::at_set, vm_event::proofs::At::seat_here))]
 impl PageCell {
     /// A look, and what it leaves of the actor's open read.
     pub(super) fn look(&mut self, a: usize) -> ReadIs

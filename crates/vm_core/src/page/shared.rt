@@ -1,14 +1,14 @@
 //! The shares of a page, its clock mark, and the lock for write-back.
 
 ghost use Rattle.std.specs.Prelude.{[], ◌<◌, ◌≡◌, ◌≤◌, ◌⊎◌, length};
-ghost use Rattle.vm_core.specs.Prelude.{MARKED, marked, MayUnlock, one_share_more, page_of, PageSteps, shared, UNLOCKED, unlocked, unmarked};
-ghost use Rattle.vm_core.specs.Prelude.{unshared, write_locked};
+ghost use Rattle.vm_event.specs.Prelude.{MARKED, marked, MayUnlock, one_share_more, shared, UNLOCKED, unlocked, unmarked};
+ghost use Rattle.vm_core.specs.Prelude.{page_of, PageSteps};
+ghost use Rattle.vm_event.specs.Prelude.{unshared, write_locked};
 
-use crate::event::{Illegal, PageAct, Seat, Seen};
 use crate::page::PageCell;
-use crate::words::StateWord;
+use vm_event::{Illegal, PageAct, Seat, Seen, StateWord};
 
-#[tactic(auto, using(crate::proofs::At::at_set, crate::proofs::At::seat_here))]
+#[tactic(auto, using(vm_event::proofs::At::at_set, vm_event::proofs::At::seat_here))]
 impl PageCell {
     /// One share more, where the word is the expected one. A page has at most 252 shares.
     pub(super) fn try_lock_shared(&mut self, a: usize, expects: u64) -> Result<Seen, Illegal>

@@ -7,7 +7,7 @@
 -- speaks.
 --
 -- What a load of a word of a frame leaves: it speaks of the words that were loaded through the open read of one page.
-use Rattle.vm_core.specs.declared.event.Seen.TheVariants as sights
+use Rattle.vm_event.specs.declared.event.Seen.TheVariants as sights
 use Rattle.vm_rule.specs.declared.view.WordPlace.TheVariants as places
 use Rattle.vm_step.proofs.{Fit.fit, Mine.member-mine, Mine.stands-known, Quiet.held-shows, Quiet.quiet-shows}
 use Rattle.vm_step.proofs.{Standing.allows, Standing.allows-load, Written.word-left, Written.word-loaded}

@@ -4,8 +4,8 @@
 --
 -- What a look leaves: it speaks of the open read of one page, and says at most one entry. Under a lock of the page nothing changes.
 use Rattle.std.proofs.Common.{eq-eqb, ne_eqb}
-use Rattle.vm_core.specs.declared.event.ReadIs.TheVariants as read
-use Rattle.vm_core.specs.declared.event.Seen.TheVariants as sights
+use Rattle.vm_event.specs.declared.event.ReadIs.TheVariants as read
+use Rattle.vm_event.specs.declared.event.Seen.TheVariants as sights
 use Rattle.vm_rule.specs.declared.view.WordPlace.TheVariants as places
 use Rattle.vm_step.proofs.{Asides.alone-silent, Asides.OnlyReads, Fit.fit, Keeping.kept-now, Keeping.shared-free}
 use Rattle.vm_step.proofs.{Quiet.event-shows, Standing.allows, Unclaimed.logical-zero, Written.word-loaded}
@@ -235,7 +235,7 @@ module _ {X B : Type 0} (stored : B → Stored) (keeps : Start → Kept X → Ty
             size = size-told stored keeps tied start tells s r id v there live p;
             valid = λ t same.
                 let k = stays (slice_index s.words p) (seat_of v p).reading same in
-                subst (λ (y : Version). Rattle.vm_core.specs.Inv.LoadsAre y.words (loads_at v p)) (sym last)
+                subst (λ (y : Version). Rattle.vm_event.specs.Inv.LoadsAre y.words (loads_at v p)) (sym last)
                 (read-valid stored keeps tied start tells s r id v there live p l (sym same_tells ∙ t)
                 (free-here stored start s p l (seat_of v p).reading same) k.0 k.1 (k.2 ∙ sym version));
             holds = λ t same.

@@ -6,7 +6,7 @@
 --
 -- What a page leaves that is put into a frame of the pass, or taken out of its frame: the steps work on that page,
 -- which is locked meanwhile.
-use Rattle.vm_core.specs.declared.event.Seen.TheVariants as sights
+use Rattle.vm_event.specs.declared.event.Seen.TheVariants as sights
 use Rattle.vm_rule.specs.declared.view.WordPlace.TheVariants as places
 use Rattle.vm_rule.proofs.Facts.{has-left}
 use Rattle.vm_step.proofs.{Fit.fit, Here.frame-inside, Leaves.works-one, Mine.owner-known, Mine.stands-called}

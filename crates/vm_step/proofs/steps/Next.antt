@@ -4,9 +4,9 @@
 --
 -- What a step on the next word leaves: it speaks of no page. A load tells the next page to who holds it; a claim owes pages.
 use Rattle.std.proofs.Common.{eq-eqb}
-use Rattle.vm_core.specs.declared.event.Seen.TheVariants as sights
+use Rattle.vm_event.specs.declared.event.Seen.TheVariants as sights
 use Rattle.std.specs.Prelude.{map}
-use Rattle.vm_core.specs.Prelude.{has_free_bit}
+use Rattle.vm_event.specs.Prelude.{has_free_bit}
 use Rattle.vm_rule.proofs.from_vm_numbers.Steps.{claim_keeps}
 use Rattle.vm_rule.specs.from_vm_numbers.Hands.{Hands, NumbersFit}
 use Rattle.vm_owner.proofs.NumberLemmas.{has-both}

@@ -1,9 +1,9 @@
 -- The steps on a free-number word: page numbers may come to the pass or go from it, and no page changes; that the
 -- table allows them, and that they are their events.
 use Rattle.std.proofs.Common.{eq-eqb, ne_eqb}
-use Rattle.vm_core.specs.declared.event.Event.TheVariants.{PBLoad, PTake}
-use Rattle.vm_core.specs.declared.event.Seen.TheVariants as sights
-use Rattle.vm_core.specs.Step.{NamesSpares}
+use Rattle.vm_event.specs.declared.event.Event.TheVariants.{PBLoad, PTake}
+use Rattle.vm_event.specs.declared.event.Seen.TheVariants as sights
+use Rattle.vm_event.specs.Step.{NamesSpares}
 use Rattle.vm_owner.specs.Kept.{MayMove, moved, NumberMove}
 use Rattle.vm_rule.specs.declared.view.WordPlace.TheVariants as places
 use Rattle.vm_rule.specs.FreeNumbers.{GiveNumbersTold, numbered_view, SpareTold, TakeNumbersTold}

@@ -1,11 +1,11 @@
 -- The steps on a frame's owner word: they change nothing of what a pass knows or holds; that the table allows them,
 -- and that they are their events.
-use Rattle.vm_core.specs.FrameActs.{frame_of, trans_word}
-use Rattle.vm_core.specs.declared.event.Seen.TheVariants as sights
+use Rattle.vm_event.specs.FrameActs.{frame_of, trans_word}
+use Rattle.vm_event.specs.declared.event.Seen.TheVariants as sights
 use Rattle.vm_rule.specs.declared.view.WordPlace.TheVariants as places
 use Rattle.vm_step.proofs.{Fit.fit, Here.frame-inside, Mine.stands-called, Quiet.held-shows, Standing.allows}
 use Rattle.vm_step.proofs.{Standing.allows-load, Written.word-left}
-use Rattle.vm_core.proofs.OwnerWords.{word-elsewhere, word-written}
+use Rattle.vm_event.proofs.OwnerWords.{word-elsewhere, word-written}
 use Rattle.vm_step.proofs.Leaves.{works-one, works-then}
 use Rattle.vm_step.proofs.Mine.{owner-inside}
 use Rattle.vm_step.proofs.steps.Mapping.{install-frames, install-held, install-works}

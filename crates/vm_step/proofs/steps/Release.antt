@@ -5,10 +5,10 @@
 -- What a release leaves: it speaks of one page, whose exclusive lock it gives up, of what the pass says, and of the
 -- group. So do a release of a
 -- page that is not resident, and a release to a share, which say nothing.
-use Rattle.vm_core.specs.declared.event.Seen.TheVariants as sights
+use Rattle.vm_event.specs.declared.event.Seen.TheVariants as sights
 use Rattle.std.proofs.Math.Bool.{and-false, and-true}
 use Rattle.std.specs.Prelude.{◌&&◌, ◌==◌, if◌then◌else◌, map}
-use Rattle.vm_core.specs.Prelude.{has_free_bit}
+use Rattle.vm_event.specs.Prelude.{has_free_bit}
 use Rattle.vm_rule.specs.from_vm_numbers.Hands.{all_zero, Hands, NumbersFit, zeroed}
 use Rattle.vm_owner.specs.Kept.{after_release as released_kept, changed, frees, MayMove, moved, NumberMove}
 use Rattle.vm_owner.specs.Kept.NumberMove.{Ended}

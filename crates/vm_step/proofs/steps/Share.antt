@@ -4,7 +4,7 @@
 --
 -- What a share leaves that was taken, or given up: it speaks of one page, of whose shares the pass has one more, or one less.
 use Rattle.std.proofs.Common.{eq-eqb}
-use Rattle.vm_core.specs.declared.event.Seen.TheVariants as sights
+use Rattle.vm_event.specs.declared.event.Seen.TheVariants as sights
 use Rattle.vm_owner.specs.Kept.{PagesHave, IsTurn, told}
 use Rattle.vm_rule.specs.Prelude.{entries_where, mine_with}
 use Rattle.vm_rule.specs.declared.view.WordPlace.TheVariants as places

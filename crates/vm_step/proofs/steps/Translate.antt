@@ -2,7 +2,7 @@
 -- it, and that it is its event.
 --
 -- What a load of a translation word leaves: it speaks of the open read of one page. Under a lock of the page nothing changes.
-use Rattle.vm_core.specs.declared.event.Seen.TheVariants as sights
+use Rattle.vm_event.specs.declared.event.Seen.TheVariants as sights
 use Rattle.vm_rule.specs.declared.view.WordPlace.TheVariants as places
 use Rattle.vm_step.proofs.{Asides.alone-silent, Asides.OnlyReads, Fit.fit, Here.frame-inside, Quiet.quiet-shows, Standing.allows-load}
 use Rattle.vm_step.proofs.{steps.Content.frame-known, Written.word-loaded}

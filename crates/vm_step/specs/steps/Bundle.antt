@@ -1,9 +1,9 @@
 -- Frames taken from a bundle or given back, its load: what may be taken and given, and their events. What they tell
 -- stands in vm_rule/specs/Bundles.
 use Rattle.std.specs.Prelude.{◌≡◌, ◌≢◌, bit_and, bit_or, bit_xor, Bool, List, Option, slice_set, true, ℕ}
-use Rattle.vm_core.specs.{declared.event.Event.TheVariants.BLoad, declared.event.Event.TheVariants.Give}
-use Rattle.vm_core.specs.{declared.event.Event.TheVariants.Take, Prelude.in_mask}
-use Rattle.vm_core.specs.declared.event.Seen.TheVariants as sights
+use Rattle.vm_event.specs.{declared.event.Event.TheVariants.BLoad, declared.event.Event.TheVariants.Give}
+use Rattle.vm_event.specs.{declared.event.Event.TheVariants.Take, Prelude.in_mask}
+use Rattle.vm_event.specs.declared.event.Seen.TheVariants as sights
 use Rattle.vm_rule.specs.{declared.view.Origin.Origin, declared.view.View.View}
 use Rattle.vm_rule.specs.Prelude.{BundleTold, GiveTold, has, index_of, Kept, Start, Stored, Table, TakeTold}
 use Rattle.vm_rule.specs.declared.view.WordPlace.TheVariants as places

@@ -1,7 +1,7 @@
 -- A pass that is brought up to date: its event. What it tells, `CatchTold`, stands in specs/Whole, as a pass with all parts knows more.
 use Rattle.std.specs.Prelude.{Bool, List, Option, ℕ}
-use Rattle.vm_core.specs.declared.event.Event.TheVariants.{NLoad}
-use Rattle.vm_core.specs.declared.event.Seen.TheVariants as sights
+use Rattle.vm_event.specs.declared.event.Event.TheVariants.{NLoad}
+use Rattle.vm_event.specs.declared.event.Seen.TheVariants as sights
 use Rattle.vm_rule.specs.Prelude.{CaughtUp, Kept, Start, Stored, Table}
 use Rattle.vm_rule.specs.declared.view.WordPlace.TheVariants as places
 use Rattle.vm_step.specs.{Events.FindsAt, Prelude.IsEvent, Prelude.IsPassOf, Prelude.Origin, Prelude.table_after, Prelude.View}

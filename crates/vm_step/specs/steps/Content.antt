@@ -1,8 +1,8 @@
 -- A load or a store of a word of a frame: their events. `LoadTold` stands in vm_rule/specs/Loads, `StoresTold` and
 -- `PassMayStore` in vm_rule/specs/Stores.
 use Rattle.std.specs.Prelude.{◌<◌, ◌≡◌, Bool, List, Option, slice_set, Some, true, ℕ}
-use Rattle.vm_core.specs.{declared.event.Event.TheVariants.Load, declared.event.Event.TheVariants.Store}
-use Rattle.vm_core.specs.declared.event.Seen.TheVariants as sights
+use Rattle.vm_event.specs.{declared.event.Event.TheVariants.Load, declared.event.Event.TheVariants.Store}
+use Rattle.vm_event.specs.declared.event.Seen.TheVariants as sights
 use Rattle.vm_rule.specs.Prelude.{Drafts, FillTold, frame_read_by, has, index_of, Kept, LoadTold, Start, Stored, StoreTold, Table}
 use Rattle.vm_rule.specs.declared.view.WordPlace.TheVariants as places
 use Rattle.vm_step.specs.{Events.FindsAt, Prelude.IsEvent, Prelude.IsPassOf, Prelude.Origin, Prelude.table_after, Prelude.View}

@@ -1,7 +1,7 @@
 -- The clock's hand that is moved on: its event. What it tells, `HandTold`, stands in vm_rule/specs/Bundles.
 use Rattle.std.specs.Prelude.{Bool, List, Option, slice_set, ℕ}
-use Rattle.vm_core.specs.{declared.event.Event.TheVariants.Hand, Prelude.hand_more}
-use Rattle.vm_core.specs.declared.event.Seen.TheVariants as sights
+use Rattle.vm_event.specs.{declared.event.Event.TheVariants.Hand, Prelude.hand_more}
+use Rattle.vm_event.specs.declared.event.Seen.TheVariants as sights
 use Rattle.vm_rule.specs.Prelude.{HandTold, index_of, Kept, Start, Stored, Table}
 use Rattle.vm_rule.specs.declared.view.WordPlace.TheVariants as places
 use Rattle.vm_step.specs.{Events.FindsAt, Prelude.IsEvent, Prelude.IsPassOf, Prelude.Origin, Prelude.table_after, Prelude.View}

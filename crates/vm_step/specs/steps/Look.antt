@@ -1,7 +1,7 @@
 -- A look at a page's state word: what may be said at it, what it tells, and its event. `LookTold` stands in vm_rule/specs/Looks.
 use Rattle.std.specs.Prelude.{◌≡◌, ◌⊎◌, Bool, length, List, None, Option, Some, true, ℕ}
-use Rattle.vm_core.specs.{declared.event.Event.TheVariants.Look, declared.event.ReadIs.TheVariants.Same, Prelude.LoadsAre}
-use Rattle.vm_core.specs.declared.event.Seen.TheVariants as sights
+use Rattle.vm_event.specs.{declared.event.Event.TheVariants.Look, declared.event.ReadIs.TheVariants.Same, Prelude.LoadsAre}
+use Rattle.vm_event.specs.declared.event.Seen.TheVariants as sights
 use Rattle.vm_rule.specs.{declared.view.Origin.Origin, declared.view.View.View}
 use Rattle.vm_rule.specs.Prelude.{began_of, Each, entries_of, Entry, Kept, left_at, loads_at, LookTold, Open, seat_of, Start, Stored, Table}
 use Rattle.vm_rule.specs.declared.view.WordPlace.TheVariants as places

@@ -1,9 +1,9 @@
 -- A page that is put into a frame, taken out of it, made dirty or clean: their events. What they ask and tell stands
 -- in vm_rule/specs/Mappings.
 use Rattle.std.specs.Prelude.{◌<◌, ◌^◌, Bool, List, None, Option, slice_set, Some, ℕ}
-use Rattle.vm_core.specs.Prelude.{trans_word}
-use Rattle.vm_core.specs.declared.event.Event.TheVariants.{Clean, Clear, Dirty, Install}
-use Rattle.vm_core.specs.declared.event.Seen.TheVariants as sights
+use Rattle.vm_event.specs.Prelude.{trans_word}
+use Rattle.vm_event.specs.declared.event.Event.TheVariants.{Clean, Clear, Dirty, Install}
+use Rattle.vm_event.specs.declared.event.Seen.TheVariants as sights
 use Rattle.vm_rule.specs.Prelude.{clean_in, CleanTold, ClearTold, dirty_in, DirtyTold, index_of, InstallTold, IsWritten, Kept, MayPutInto}
 use Rattle.vm_rule.specs.Prelude.{StandsClean, StandsIn, Start, Stored, Table}
 use Rattle.vm_rule.specs.declared.view.WordPlace.TheVariants as places

@@ -1,7 +1,7 @@
 -- A mark that is set or taken away: their events. What they tell, `MarkTold`, stands in vm_rule/specs/Locks.
 use Rattle.std.specs.Prelude.{◌≡◌, Bool, List, Option, ℕ}
-use Rattle.vm_core.specs.Prelude.{MARKED, state_of, UNLOCKED, version_of, word_of}
-use Rattle.vm_core.specs.declared.event.Event.TheVariants.{Mark, Unmark}
+use Rattle.vm_event.specs.Prelude.{MARKED, state_of, UNLOCKED, version_of, word_of}
+use Rattle.vm_event.specs.declared.event.Event.TheVariants.{Mark, Unmark}
 use Rattle.vm_rule.specs.Prelude.{Kept, MarkTold, Start, Stored, Table}
 use Rattle.vm_rule.specs.declared.view.WordPlace.TheVariants as places
 use Rattle.vm_step.specs.Prelude.{exchange_sees, exchanged, IsEvent, IsPassOf, Origin, table_after, View}

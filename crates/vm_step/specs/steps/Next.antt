@@ -1,8 +1,8 @@
 -- A load of the next word, and a claim from it on: which pages may be claimed, and their events. What they tell
 -- stands in vm_rule/specs/Nexts.
 use Rattle.std.specs.Prelude.{◌+◌, ◌<◌, ◌≡◌, ◌≤◌, ◌⊎◌, Bool, false, IsSome, List, Option, true, ℕ}
-use Rattle.vm_core.specs.declared.event.Event.TheVariants.{Claim, NLoad}
-use Rattle.vm_core.specs.declared.event.Seen.TheVariants as sights
+use Rattle.vm_event.specs.declared.event.Event.TheVariants.{Claim, NLoad}
+use Rattle.vm_event.specs.declared.event.Seen.TheVariants as sights
 use Rattle.vm_rule.specs.Prelude.{ClaimTold, has, held_at, index_of, Kept, NextTold, seat_of, Start, Stored, Table}
 use Rattle.vm_rule.specs.{declared.view.Origin.Origin, declared.view.View.View}
 use Rattle.vm_rule.specs.declared.view.WordPlace.TheVariants as places

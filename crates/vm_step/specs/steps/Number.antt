@@ -1,9 +1,9 @@
 -- Page numbers taken from a free-number word or given, its load: what may be taken and given, and their events. What
 -- they tell stands in vm_rule/specs/FreeNumbers.
 use Rattle.std.specs.Prelude.{◌<◌, ◌≡◌, ◌≢◌, bit_or, bit_xor, Bool, List, Option, slice_set, true, ℕ}
-use Rattle.vm_core.specs.declared.event.Event.TheVariants.{PBLoad, PGive, PTake}
-use Rattle.vm_core.specs.Prelude.{in_mask}
-use Rattle.vm_core.specs.declared.event.Seen.TheVariants as sights
+use Rattle.vm_event.specs.declared.event.Event.TheVariants.{PBLoad, PGive, PTake}
+use Rattle.vm_event.specs.Prelude.{in_mask}
+use Rattle.vm_event.specs.declared.event.Seen.TheVariants as sights
 use Rattle.vm_rule.specs.{declared.view.Origin.Origin, declared.view.View.View}
 use Rattle.vm_rule.specs.FreeNumbers.{GiveNumbersTold, IsGivenBy, SpareTold, TakeNumbersTold}
 use Rattle.vm_rule.specs.Prelude.{index_of, Kept, Start, Stored, Table}

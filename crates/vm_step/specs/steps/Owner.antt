@@ -2,8 +2,8 @@
 -- loaded. What the steps tell, and
 -- their events.
 use Rattle.std.specs.Prelude.{[], ◌+◌, ◌≤◌, Bool, List, Option, slice_set, ℕ}
-use Rattle.vm_core.specs.declared.event.Event.TheVariants.{Disown, OLoad, Own}
-use Rattle.vm_core.specs.declared.event.Seen.TheVariants as sights
+use Rattle.vm_event.specs.declared.event.Event.TheVariants.{Disown, OLoad, Own}
+use Rattle.vm_event.specs.declared.event.Seen.TheVariants as sights
 use Rattle.vm_rule.specs.Prelude.{Brings, did_load, did_store, Event, held_at, index_of, Kept, put, StandsIn, Start, Stored, Table}
 use Rattle.vm_rule.specs.declared.view.WordPlace.TheVariants as places
 use Rattle.vm_step.specs.{Events.FindsAt, Prelude.IsEvent, Prelude.IsPassOf, Prelude.Origin, Prelude.table_after, Prelude.View}

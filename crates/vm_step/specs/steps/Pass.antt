@@ -1,8 +1,8 @@
 -- Passes that are split, joined, or meet: their events, and what is none. What they tell stands in
 -- vm_rule/specs/Joins and Hearing, and in specs/NoEvents.
 use Rattle.std.specs.Prelude.{[], ◌<◌, ◌≡◌, ◌≢◌, Bool, length, List, Option, true, ℕ}
-use Rattle.vm_core.specs.{declared.event.Event.TheVariants.NLoad, Prelude.get_elem?, Prelude.some}
-use Rattle.vm_core.specs.declared.event.Seen.TheVariants as sights
+use Rattle.vm_event.specs.{declared.event.Event.TheVariants.NLoad, Prelude.get_elem?, Prelude.some}
+use Rattle.vm_event.specs.declared.event.Seen.TheVariants as sights
 use Rattle.vm_rule.specs.Prelude.{HoldsNoPage, Kept, OnlyKnows, Start, Stored, Table, TakesOver}
 use Rattle.vm_rule.specs.declared.view.WordPlace.TheVariants as places
 use Rattle.vm_step.specs.{Events.FindsAt, Prelude.IsEvent, Prelude.IsPassOf, Prelude.Origin, Prelude.table_after, Prelude.View}

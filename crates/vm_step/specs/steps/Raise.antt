@@ -1,7 +1,7 @@
 -- A fault word that is raised: when it may be, and its event. What it tells, `RaiseTold`, stands in vm_rule/specs/Faults.
 use Rattle.std.specs.Prelude.{◌<◌, ◌≡◌, Bool, List, Option, slice_set, true, ℕ}
-use Rattle.vm_core.specs.declared.event.Event.TheVariants.{Raise}
-use Rattle.vm_core.specs.declared.event.Seen.TheVariants as sights
+use Rattle.vm_event.specs.declared.event.Event.TheVariants.{Raise}
+use Rattle.vm_event.specs.declared.event.Seen.TheVariants as sights
 use Rattle.vm_rule.specs.Prelude.{held_at, index_of, Kept, may_call, RaiseTold, seat_of, Start, Stored, Table}
 use Rattle.vm_rule.specs.{declared.view.Origin.Origin, declared.view.View.View}
 use Rattle.vm_rule.specs.declared.view.WordPlace.TheVariants as places

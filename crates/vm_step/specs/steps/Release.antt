@@ -2,9 +2,9 @@
 -- what each tells, and their events.
 -- `ReleaseTold`, `EvictTold` and `DowngradeTold` stand in vm_rule/specs/Releases.
 use Rattle.std.specs.Prelude.{[], ◌+◌, ◌<◌, ◌∷◌, ◌≡◌, ◌≤◌, ◌⊎◌, Bool, false, IsSome, length, List, None, Option, slice_set, true, ℕ}
-use Rattle.vm_core.specs.Prelude.{EVICTED, MAX_VERSION, word_of}
-use Rattle.vm_core.specs.declared.event.Event.TheVariants.{Downgrade, Release, ReleaseE}
-use Rattle.vm_core.specs.declared.event.Seen.TheVariants as sights
+use Rattle.vm_event.specs.Prelude.{EVICTED, MAX_VERSION, word_of}
+use Rattle.vm_event.specs.declared.event.Event.TheVariants.{Downgrade, Release, ReleaseE}
+use Rattle.vm_event.specs.declared.event.Seen.TheVariants as sights
 use Rattle.vm_rule.specs.from_vm_numbers.Hands.{IsUsable}
 use Rattle.vm_rule.specs.Rule.{hands_of}
 use Rattle.vm_rule.specs.Prelude.{AreApart, AreUnchanged, began_of, Change, changes_of, DowngradeTold, draft_of, Each}

@@ -2,9 +2,9 @@
 -- and `UnshareTold` stand in
 -- vm_rule/specs/Locks.
 use Rattle.std.specs.Prelude.{[], ◌++◌, ◌-◌, ◌<◌, ◌^◌, ◌∷◌, ◌≡◌, ◌≤◌, ◌⊎◌, Bool, length, List, map, None, Option, slice_set, true, ℕ}
-use Rattle.vm_core.specs.Prelude.{MayShare, one_share_more, state_of, version_of, word_of}
-use Rattle.vm_core.specs.declared.event.Event.TheVariants.{LockS, UnlockS}
-use Rattle.vm_core.specs.declared.event.Seen.TheVariants as sights
+use Rattle.vm_event.specs.Prelude.{MayShare, one_share_more, state_of, version_of, word_of}
+use Rattle.vm_event.specs.declared.event.Event.TheVariants.{LockS, UnlockS}
+use Rattle.vm_event.specs.declared.event.Seen.TheVariants as sights
 use Rattle.vm_rule.specs.Prelude.{began_of, Each, entries_of, Entry, Kept, last_of, LockValidates, seat_of, ShareTold, Start, Stored, Table}
 use Rattle.vm_rule.specs.Prelude.{UnshareTold}
 use Rattle.vm_rule.specs.{declared.view.Origin.Origin, declared.view.View.View}

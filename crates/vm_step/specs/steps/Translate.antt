@@ -1,7 +1,7 @@
 -- A load of a translation word: its event. What it tells, `TranslationTold`, stands in vm_rule/specs/Loads.
 use Rattle.std.specs.Prelude.{Bool, List, Option, ℕ}
-use Rattle.vm_core.specs.declared.event.Event.TheVariants.{TLoad}
-use Rattle.vm_core.specs.declared.event.Seen.TheVariants as sights
+use Rattle.vm_event.specs.declared.event.Event.TheVariants.{TLoad}
+use Rattle.vm_event.specs.declared.event.Seen.TheVariants as sights
 use Rattle.vm_rule.specs.Prelude.{Kept, Start, Stored, Table, TranslationTold}
 use Rattle.vm_rule.specs.declared.view.WordPlace.TheVariants as places
 use Rattle.vm_step.specs.{Events.FindsAt, Prelude.IsEvent, Prelude.IsPassOf, Prelude.Origin, Prelude.table_after, Prelude.View}

@@ -1,8 +1,8 @@
 -- A lock for write-back, and one that becomes exclusive: their events. `WriteLockTold`, `UpgradeTold` and
 -- `MayRaiseLock` stand in vm_rule/specs/Locks.
 use Rattle.std.specs.Prelude.{◌≡◌, Bool, List, Option, ℕ}
-use Rattle.vm_core.specs.Prelude.{LOCKED, MARKED, state_of, version_of, word_of}
-use Rattle.vm_core.specs.declared.event.Event.TheVariants.{LockW, Upgrade}
+use Rattle.vm_event.specs.Prelude.{LOCKED, MARKED, state_of, version_of, word_of}
+use Rattle.vm_event.specs.declared.event.Event.TheVariants.{LockW, Upgrade}
 use Rattle.vm_rule.specs.Prelude.{Kept, MayRaiseLock, Start, Stored, Table, UpgradeTold, WriteLockTold}
 use Rattle.vm_rule.specs.declared.view.WordPlace.TheVariants as places
 use Rattle.vm_step.specs.Prelude.{exchange_sees, exchanged, IsEvent, IsPassOf, Origin, table_after, View}

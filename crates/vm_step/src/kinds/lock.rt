@@ -1,6 +1,6 @@
 // A page is locked exclusively.
 ghost use Rattle.std.specs.Prelude.{◌<◌, ◌≡◌, ◌≢◌, ℕ};
-ghost use Rattle.vm_core.specs.Prelude.{MayLock};
+ghost use Rattle.vm_event.specs.Prelude.{MayLock};
 ghost use Rattle.vm_rule.specs.Prelude.{LockTold};
 ghost use Rattle.vm_step.specs.Prelude.{found_by, GoesOn, MayStep, view};
 ghost use Rattle.vm_step.specs.{declared.took.Took.TheVariants.Lost, steps.Lock.LockExclusiveIsItsEvent};
@@ -11,7 +11,7 @@ use crate::state_words::word_with;
 use crate::took::{Took, answer};
 use std::marker::Brand;
 use vm_block::Block;
-use vm_core::StateWord;
+use vm_event::StateWord;
 use vm_owner::Owner;
 use vm_rule::words::{Pass, Words};
 

@@ -1,6 +1,6 @@
 // A look at a page's state word: it opens a read of the page, validates the one that is open, or closes it.
 ghost use Rattle.std.specs.Prelude.{◌<◌, ◌≡◌, None, option_map, true};
-ghost use Rattle.vm_core.specs.declared.event.ReadIs.TheVariants.{Same};
+ghost use Rattle.vm_event.specs.declared.event.ReadIs.TheVariants.{Same};
 ghost use Rattle.vm_rule.specs.Prelude.{left_at, LookTold, seat_of};
 ghost use Rattle.vm_step.specs.Prelude.{GoesOn, IsKeptNow, KnowsUnheld, MayStep, MayTell, view};
 ghost use Rattle.vm_step.specs.steps.Look.{LookIsItsEvent};

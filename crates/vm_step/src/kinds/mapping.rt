@@ -8,7 +8,7 @@ use crate::layout::translation_place;
 use crate::operation::store;
 use std::marker::Brand;
 use vm_block::Block;
-use vm_core::TransWord;
+use vm_event::TransWord;
 use vm_owner::Owner;
 use vm_rule::words::{Pass, Words};
 

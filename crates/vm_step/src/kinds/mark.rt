@@ -1,6 +1,6 @@
 // The clock marks a page that nobody has locked, a candidate for eviction, and takes the mark away again.
 ghost use Rattle.std.specs.Prelude.{◌<◌, ◌≡◌, ◌≢◌, ℕ};
-ghost use Rattle.vm_core.specs.Prelude.{MARKED, state_of, UNLOCKED, version_of, word_of};
+ghost use Rattle.vm_event.specs.Prelude.{MARKED, state_of, UNLOCKED, version_of, word_of};
 ghost use Rattle.vm_rule.specs.Prelude.{MarkTold};
 ghost use Rattle.vm_step.specs.Prelude.{found_by, GoesOn, MayStep, view};
 ghost use Rattle.vm_step.specs.{declared.took.Took.TheVariants.Lost, steps.Mark.MarkIsItsEvent, steps.Mark.UnmarkIsItsEvent};
@@ -11,7 +11,7 @@ use crate::state_words::word_with;
 use crate::took::{Took, answer};
 use std::marker::Brand;
 use vm_block::Block;
-use vm_core::StateWord;
+use vm_event::StateWord;
 use vm_owner::Owner;
 use vm_rule::words::{Pass, Words};
 

@@ -11,7 +11,7 @@ use crate::operation::{compare_exchange, fetch_or, load};
 use crate::took::{Took, answer};
 use std::marker::Brand;
 use vm_block::Block;
-use vm_core::FRAMES;
+use vm_event::FRAMES;
 use vm_owner::Owner;
 use vm_rule::words::{Pass, Words};
 

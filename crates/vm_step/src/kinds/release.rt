@@ -1,6 +1,6 @@
 // A page that is locked exclusively is released at its next version: as Unlocked, as Evicted, or to one share of the pass.
 ghost use Rattle.std.specs.Prelude.{[], ◌+◌, ◌<◌, ◌≡◌, None, option_map, true};
-ghost use Rattle.vm_core.specs.Prelude.{MAX_VERSION};
+ghost use Rattle.vm_event.specs.Prelude.{MAX_VERSION};
 ghost use Rattle.vm_rule.specs.Prelude.{DowngradeTold, EvictTold, ReleaseTold};
 ghost use Rattle.vm_step.specs.Prelude.{GoesOn, IsKeptNow, MayDowngrade, MayEvict, MayGiveUp, MayStep, view};
 ghost use Rattle.vm_step.specs.steps.Release.{DowngradeIsItsEvent, ReleaseEvictedIsItsEvent, ReleaseIsItsEvent};
@@ -9,7 +9,7 @@ use crate::layout::state_place;
 use crate::operation::store;
 use std::marker::Brand;
 use vm_block::Block;
-use vm_core::StateWord;
+use vm_event::StateWord;
 use vm_owner::Owner;
 use vm_rule::words::{Pass, Words};
 

@@ -1,6 +1,6 @@
 // A share of a page is taken, and given up.
 ghost use Rattle.std.specs.Prelude.{◌<◌, ◌≡◌, ◌≢◌, None, option_map, true, ℕ};
-ghost use Rattle.vm_core.specs.Prelude.{MayShare, version_of};
+ghost use Rattle.vm_event.specs.Prelude.{MayShare, version_of};
 ghost use Rattle.vm_rule.specs.Prelude.{ShareTold, UnshareTold};
 ghost use Rattle.vm_step.specs.Prelude.{found_by, GoesOn, IsKeptNow, MayStep, MayTellHeld, MayUnshare, view};
 ghost use Rattle.vm_step.specs.{declared.took.Took.TheVariants.Lost, steps.Share.LockSharedIsItsEvent, steps.Share.UnlockSharedIsItsEvent};

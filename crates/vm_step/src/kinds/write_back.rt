@@ -1,6 +1,6 @@
 // A page that is marked is locked for write-back, which is its one share; and that lock becomes exclusive.
 ghost use Rattle.std.specs.Prelude.{◌<◌, ◌≡◌, ◌≢◌, ℕ};
-ghost use Rattle.vm_core.specs.Prelude.{MARKED, state_of};
+ghost use Rattle.vm_event.specs.Prelude.{MARKED, state_of};
 ghost use Rattle.vm_rule.specs.Prelude.{MayRaiseLock, UpgradeTold, WriteLockTold};
 ghost use Rattle.vm_step.specs.Prelude.{found_by, GoesOn, MayStep, view};
 ghost use Rattle.vm_step.specs.{declared.took.Took.TheVariants.Lost, steps.WriteBack.LockWriteBackIsItsEvent, steps.WriteBack.UpgradeIsItsEvent};
@@ -11,7 +11,7 @@ use crate::state_words::word_with;
 use crate::took::{Took, answer};
 use std::marker::Brand;
 use vm_block::Block;
-use vm_core::StateWord;
+use vm_event::StateWord;
 use vm_owner::Owner;
 use vm_rule::words::{Pass, Words};
 

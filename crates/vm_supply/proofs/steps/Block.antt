@@ -3,8 +3,8 @@
 -- the core.
 use mathlib.Core.Option as maybe
 use Rattle.atomic_table.specs.Table.{takes as picks}
-use Rattle.vm_core.specs.DeviceActs.{failed}
-use Rattle.vm_core.specs.declared.event.Seen.TheVariants as sights
+use Rattle.vm_event.specs.DeviceActs.{failed}
+use Rattle.vm_event.specs.declared.event.Seen.TheVariants as sights
 use Rattle.vm_step.specs.from_vm_rule.declared_view_WordPlace_TheVariants as places
 use Rattle.vm_step.proofs.{Here.is-of, Standing.allows-any}
 use Rattle.vm_supply.proofs.{steps.Raise.count-known, steps.Raise.raise-legal}

@@ -5,7 +5,7 @@
 -- What a step on a bundle's word leaves: it speaks of no page. Frames that are taken come to the pass, and frames
 -- that are given back leave it.
 use Rattle.std.proofs.Common.{eq-eqb}
-use Rattle.vm_core.specs.declared.event.Seen.TheVariants as sights
+use Rattle.vm_event.specs.declared.event.Seen.TheVariants as sights
 use Rattle.vm_step.specs.from_vm_rule.declared_view_WordPlace_TheVariants as places
 use Rattle.vm_step.proofs.{Exchange.exchange-tells, Exchange.tried-event, Fit.either-has, Fit.either-lives, Fit.fit}
 use Rattle.vm_step.proofs.{Here.world, Quiet.held-shows, Standing.allows, Standing.allows-load, Written.word-left}

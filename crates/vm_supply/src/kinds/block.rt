@@ -1,9 +1,9 @@
 // A page's block is taken out of its slot, and comes home. Each is two loads of the page's fault word: at the first the slot goes to the pass, at the
 // second it is back.
 ghost use Rattle.std.specs.Prelude.{◌<◌, ◌≡◌, ◌⊎◌, false, IsSome, None, Option, Some, true, ℕ};
-ghost use Rattle.vm_core.specs.Prelude.{count_more};
-ghost use Rattle.vm_core.specs.declared.event.Event.TheVariants.{Read, RFail, WFail, Write};
-ghost use Rattle.vm_core.specs.declared.event.Seen.TheVariants as sights;
+ghost use Rattle.vm_event.specs.Prelude.{count_more};
+ghost use Rattle.vm_event.specs.declared.event.Event.TheVariants.{Read, RFail, WFail, Write};
+ghost use Rattle.vm_event.specs.declared.event.Seen.TheVariants as sights;
 ghost use Rattle.vm_step.specs.from_vm_rule.Prelude.{core_shown, held_at, HomeTold, MayBring, out_at, OutTold, ReturnTold, seat_of, ShiftTold};
 ghost use Rattle.vm_step.specs.from_vm_rule.Prelude.{SlotTold, Stored, Table, words_held};
 ghost use Rattle.vm_step.specs.Prelude.{GoesOn, IsPassOf, MayStep, MayTakeOut, Origin, view, View};

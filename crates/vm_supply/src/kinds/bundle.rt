@@ -7,7 +7,7 @@ ghost use Rattle.vm_step.specs.steps.Bundle.{BloadIsItsEvent, GiveIsItsEvent, Is
 
 use std::marker::Brand;
 use vm_block::Block;
-use vm_core::FRAMES;
+use vm_event::FRAMES;
 use vm_owner::Owner;
 use vm_step::Took;
 use vm_step::making::{answer, bundle_place, compare_exchange, fetch_or, load};

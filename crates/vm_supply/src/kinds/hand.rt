@@ -6,7 +6,7 @@ ghost use Rattle.vm_step.specs.steps.Hand.{HandIsItsEvent};
 use crate::operation::fetch_add;
 use std::marker::Brand;
 use vm_block::Block;
-use vm_core::STRIDE;
+use vm_event::STRIDE;
 use vm_owner::Owner;
 use vm_step::making::hand_place;
 use vm_step::rule::{Pass, Words};

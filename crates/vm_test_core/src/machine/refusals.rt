@@ -4,7 +4,8 @@ use super::{EVICTED, LAST, LOCKED, MARKED, SHARE, core, event};
 use std::alloc::Global;
 use std::process::Abort;
 use std::test::Fail;
-use vm_core::{Event, ReplayFault, replay};
+use vm_core::{ReplayFault, replay};
+use vm_event::Event;
 
 /// Actor 0 takes frame 0, locks page 1, whose block has zeros as the frame has, puts the frame under it, says that it is the page's, writes into it,
 /// releases it, and has it under write-back at last. A case begins with so many of these events.

@@ -4,7 +4,8 @@ use super::{EVICTED, MARKED, SHARE, core};
 use std::alloc::Global;
 use std::process::Abort;
 use std::test::Fail;
-use vm_core::{Core, Event, ReadIs, ReplayFault, Seen, replay};
+use vm_core::{Core, ReplayFault, replay};
+use vm_event::{Event, ReadIs, Seen};
 
 type Row = (Event, Seen);
 

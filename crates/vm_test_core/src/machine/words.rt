@@ -1,7 +1,7 @@
 //! The words' layout, by worked values.
 
 use std::process::Abort;
-use vm_core::{Bundle, StateWord, TransWord};
+use vm_event::{Bundle, StateWord, TransWord};
 
 #[test]
 fn state_words(rt: HostRuntime) {

@@ -1,8 +1,8 @@
 use Rattle.std.specs.Int.{bit_at}
 use Rattle.std.proofs.Common.{◌%◌, ◌/◌, ◌∙◌, ap, eqb, sym}
 use Rattle.std.proofs.lemmas.Nat.Bits.{shr_and_one}
-use Rattle.vm_core.specs.Prelude.{has_free_bit}
-use Rattle.vm_core.proofs.At.{at-get}
+use Rattle.vm_event.specs.Prelude.{has_free_bit}
+use Rattle.vm_event.proofs.At.{at-get}
 use Rattle.vm_clock.proofs.met.may_hold.Goals as goal
 
 pub returns : goal.returns

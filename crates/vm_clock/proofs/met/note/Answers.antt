@@ -1,6 +1,7 @@
 use Rattle.std.proofs.Common.{◌%◌, ◌/◌, ◌<◌, ◌∙◌, ap, arith, length}
-use Rattle.vm_core.specs.Prelude.{at, has_free_bit}
-use Rattle.vm_core.proofs.{At.at-get, At.at_set, Masks.inserted-free}
+use Rattle.vm_event.specs.Prelude.{at, has_free_bit}
+use Rattle.vm_event.proofs.{At.at-get, At.at_set}
+use Rattle.vm_event.proofs.Masks.{inserted-free}
 use Rattle.vm_clock.proofs.met.note.Goals as goal
 
 pub returns : goal.returns

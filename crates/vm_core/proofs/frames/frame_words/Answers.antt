@@ -1,6 +1,6 @@
 use Rattle.std.proofs.Common.{◌∙◌, replicate, sym}
 use Rattle.std.proofs.Math.ListN.{get_or-eq_default}
-use Rattle.vm_core.proofs.At.{at-get}
+use Rattle.vm_event.proofs.At.{at-get}
 use Rattle.vm_core.proofs.frames.frame_words.Goals as goal
 
 pub returns-in-Some : goal.returns-in-Some

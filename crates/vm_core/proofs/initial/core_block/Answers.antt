@@ -5,7 +5,7 @@ use Rattle.std.proofs.lemmas.List.{take_more_set}
 use Rattle.std.proofs.lemmas.List.FromFn.{map-range_with_len_more}
 use Rattle.std.proofs.Math.ListN.{length-set}
 use Rattle.std.proofs.Math.Seq.{take-length}
-use Rattle.vm_core.specs.Prelude.{core_block}
+use Rattle.vm_event.specs.Prelude.{core_block}
 use Rattle.vm_core.proofs.initial.core_block.Goals as goal
 use Rattle.vm_core.proofs.Starting.{block-past}
 

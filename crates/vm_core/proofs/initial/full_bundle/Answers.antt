@@ -1,6 +1,6 @@
 use Rattle.std.proofs.Common.{◌*◌, ◌-◌, ◌^◌, ◌∙◌, ◌≡◌, ap, arith, min, sym}
 use Rattle.std.proofs.lemmas.Nat.{one_shl}
-use Rattle.vm_core.specs.Prelude.{full_bundle}
+use Rattle.vm_event.specs.Prelude.{full_bundle}
 use Rattle.vm_core.proofs.initial.full_bundle.Goals as goal
 
 pub returns-then-left : goal.returns-then-left

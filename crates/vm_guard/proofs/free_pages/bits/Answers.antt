@@ -1,8 +1,8 @@
 use Rattle.std.specs.Int.{bit_at}
 use Rattle.std.proofs.Common.{◌+◌, ◌<◌, ◌∙◌, ◌≡◌, ap, arith, bit_and, refl}
 use Rattle.std.proofs.lemmas.Nat.Bits.{bit_at-lt, shr_and_one}
-use Rattle.vm_core.specs.Prelude.{sum_below}
-use Rattle.vm_core.proofs.WordBits.{sum-next}
+use Rattle.vm_event.specs.Prelude.{sum_below}
+use Rattle.vm_event.proofs.WordBits.{sum-next}
 use Rattle.vm_guard.proofs.free_pages.bits.Goals.{else-word-i-eq1, then-word-i-eq1}
 use Rattle.vm_guard.proofs.free_pages.bits.Goals as goal
 

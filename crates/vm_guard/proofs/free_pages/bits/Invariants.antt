@@ -1,6 +1,6 @@
 use Rattle.std.specs.Int.{bit_at}
 use Rattle.std.proofs.Common.{◌≡◌, ◌≤◌}
-use Rattle.vm_core.specs.Prelude.{sum_below}
+use Rattle.vm_event.specs.Prelude.{sum_below}
 use Rattle.vm_guard.proofs.free_pages.bits.Given as goal
 
 -- how many of the first i bits are set

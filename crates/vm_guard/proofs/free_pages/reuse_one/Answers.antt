@@ -3,7 +3,7 @@ use Rattle.vm_guard.proofs.ReusedPages.{denied-once, denied-spares, denied-spend
 use Rattle.vm_guard.proofs.Reusing.{denied-taken, due-among, may-give-back, took-has}
 use Rattle.vm_rule.proofs.Bundled.{has-frames_in}
 use Rattle.vm_guard.proofs.Prelude.{ap, arith, held-on, last_of, Origin, replicate, subst, sym, true, view, [], ℕ, ◌≡◌, ◌∙◌}
-use Rattle.vm_core.specs.Prelude.{in_mask}
+use Rattle.vm_event.specs.Prelude.{in_mask}
 use Rattle.vm_guard.proofs.free_pages.reuse_one.Goals as goal
 
 pub lowest_page-requires-clause-some : goal.lowest_page-requires-clause-some

@@ -1,4 +1,4 @@
-use Rattle.vm_core.specs.Prelude.{in_mask}
+use Rattle.vm_event.specs.Prelude.{in_mask}
 use Rattle.vm_rule.proofs.Bundled.{has-frames_in}
 use Rattle.vm_guard.proofs.{Amid.amid-alone, FreshNone.seized-on, Freshly.frames-left}
 use Rattle.vm_guard.proofs.FreeBits.{count-two, first-bit, lower-some, two-bits, upper-parts, upper-some}

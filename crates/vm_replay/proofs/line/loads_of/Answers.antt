@@ -1,6 +1,6 @@
 use Rattle.std.proofs.Common.{[], ◌++◌, ◌∙◌, ◌∷◌, ap, arith, sym, ℕ}
 use Rattle.std.proofs.lemmas.List.FromFn.{map-range_with_len_more}
-use Rattle.vm_core.specs.declared.event.Event.TheVariants.{Load}
+use Rattle.vm_event.specs.declared.event.Event.TheVariants.{Load}
 use Rattle.vm_rule.specs.Prelude.{Event}
 use Rattle.vm_replay.proofs.line.loads_of.Goals as goal
 

@@ -1,7 +1,7 @@
 use Rattle.std.proofs.Common.{[], ◌++◌, ◌∙◌, ◌∷◌, ap, arith, slice_index, sym, ℕ}
 use Rattle.std.proofs.lemmas.List.FromFn.{map-range_with_len_more}
 use Rattle.vm_core.specs.Prelude.{core_of}
-use Rattle.vm_core.specs.declared.event.Event.TheVariants.{Store}
+use Rattle.vm_event.specs.declared.event.Event.TheVariants.{Store}
 use Rattle.vm_rule.specs.Prelude.{Event}
 use Rattle.vm_replay.proofs.line.stores_of.Goals as goal
 

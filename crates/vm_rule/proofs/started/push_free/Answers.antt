@@ -1,5 +1,5 @@
 use Rattle.std.proofs.lemmas.List.{take_more}
-use Rattle.vm_core.proofs.At.{at-value}
+use Rattle.vm_event.proofs.At.{at-value}
 use Rattle.vm_rule.proofs.FreeWords.{free-none, free-pushed, has-item}
 use Rattle.vm_rule.proofs.ListFacts.{length-listed}
 use Rattle.vm_rule.proofs.Prelude.{ap, arith, free_words, get_or, length, length-append, List, listed, refl, sym}

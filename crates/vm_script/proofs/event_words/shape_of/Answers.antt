@@ -1,5 +1,5 @@
 use Rattle.std.proofs.Common.{◌++◌, ◌∙◌, ◌∷◌, ◌≡◌, ap₂, codes, List, rules, subst, sym, ℕ}
-use Rattle.vm_core.specs.declared.event.CoreShape.{CoreShape}
+use Rattle.vm_event.specs.declared.event.CoreShape.{CoreShape}
 use Rattle.vm_script.specs.EventLines.{IsShape}
 use Rattle.vm_script.proofs.event_words.shape_of.Goals as goal
 use Rattle.vm_script.proofs.EventTexts.{are_counts, cut_shape, largest, numbers, one_shape}

@@ -1,7 +1,7 @@
 use Rattle.std.specs.Fmt.{decimal}
 use Rattle.std.proofs.Common.{◌<◌, ◌^◌, ◌∙◌, arith, sym}
 use Rattle.std.proofs.lemmas.Fmt.{decimal_injective}
-use Rattle.vm_core.specs.Prelude.{state_of, version_of}
+use Rattle.vm_event.specs.Prelude.{state_of, version_of}
 use Rattle.vm_script.specs.EventLines.{state_name}
 use Rattle.vm_script.proofs.event_words.state_word_of.Goals as goal
 use Rattle.vm_script.proofs.StateWords.{cut_state, spelled_state, state_in, version_in}

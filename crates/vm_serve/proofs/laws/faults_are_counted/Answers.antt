@@ -1,5 +1,5 @@
 use Rattle.std.proofs.Common.{⊎_elim, ◌≤◌, arith}
-use Rattle.vm_core.specs.Prelude.{at, MAX_COUNT}
+use Rattle.vm_event.specs.Prelude.{at, MAX_COUNT}
 use Rattle.vm_rule.specs.Prelude.{no_block}
 use Rattle.vm_drive.specs.from_vm_pool.Closing.{view_at_end}
 use Rattle.vm_drive.specs.Prelude.{notes_about}

@@ -1,7 +1,7 @@
 use Rattle.std.proofs.Common.{◌*◌, ◌∙◌, ◌≤◌, arith, length, List, Result, subst, sym, ℕ}
 use Rattle.vm_map.specs.declared.call.Reply.{Reply}
 use Rattle.vm_image.specs.File.{AreFreePages}
-use Rattle.vm_core.specs.Prelude.{MAX_VERSION}
+use Rattle.vm_event.specs.Prelude.{MAX_VERSION}
 use Rattle.vm_drive.specs.from_vm_tree_rule.declared_fault_TreeFault.{TreeFault}
 use Rattle.vm_drive.specs.Drives.{items_of}
 use Rattle.vm_drive.proofs.Crews.{kept-contents, kept-replies}

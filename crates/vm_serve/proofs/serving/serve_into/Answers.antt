@@ -1,7 +1,7 @@
 use Rattle.std.proofs.Common.{[], ◌*◌, ◌∙◌, ◌≤◌, arith, length, List, subst, sym, ℕ}
 use Rattle.std.proofs.lemmas.Result.{IfOk-weaker}
 use Rattle.vm_image.specs.File.{AreFreePages}
-use Rattle.vm_core.specs.Prelude.{MAX_VERSION}
+use Rattle.vm_event.specs.Prelude.{MAX_VERSION}
 use Rattle.vm_serve.proofs.Planned.{of-image, served-planned}
 use Rattle.vm_serve.proofs.serving.serve_into.Goals as goal
 

@@ -1,5 +1,5 @@
 use Rattle.std.proofs.Common.{[], ◌++◌, ◌<◌, ◌∙◌, ◌∷◌, ◌≡◌, ap, arith, List, refl, subst, sym, ℕ}
-use Rattle.vm_core.specs.Prelude.{MARKED, MAX_VERSION, state_of, version_of}
+use Rattle.vm_event.specs.Prelude.{MARKED, MAX_VERSION, state_of, version_of}
 use Rattle.vm_step.specs.Prelude.{AreCandidates}
 use Rattle.vm_test_evict.proofs.evict.candidate.Goals as goal
 

@@ -1,7 +1,7 @@
 use Rattle.std.proofs.Common.{◌<◌, ◌∙◌, ◌≡◌, ap, arith, inr, List, None, refl, true, ℕ}
 use Rattle.std.proofs.lemmas.Bool.{or_left}
-use Rattle.vm_core.specs.Prelude.{EVICTED, MAX_VERSION, no_seat, state_of, version_of}
-use Rattle.vm_core.proofs.Upd.{upd-same}
+use Rattle.vm_event.specs.Prelude.{EVICTED, MAX_VERSION, no_seat, state_of, version_of}
+use Rattle.vm_event.proofs.Upd.{upd-same}
 use Rattle.vm_rule.specs.Prelude.{last_of, locked_view, LockTold, put_at, Seat, seat_of, Start}
 use Rattle.vm_step.specs.Prelude.{MayTakeOut, View}
 use Rattle.vm_step.proofs.Evidenced.{taken-view}

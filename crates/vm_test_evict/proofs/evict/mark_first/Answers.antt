@@ -1,5 +1,5 @@
 use Rattle.std.proofs.Common.{◌≡◌, arith}
-use Rattle.vm_core.specs.Prelude.{state_of, UNLOCKED}
+use Rattle.vm_event.specs.Prelude.{state_of, UNLOCKED}
 use Rattle.vm_test_evict.proofs.evict.mark_first.Goals as goal
 
 unlocked : state_of 7 ≡ UNLOCKED

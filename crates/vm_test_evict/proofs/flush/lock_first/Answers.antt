@@ -1,5 +1,5 @@
 use Rattle.std.proofs.Common.{◌<◌, ◌≡◌, arith, inl}
-use Rattle.vm_core.specs.Prelude.{MAX_VERSION, state_of, UNLOCKED, version_of}
+use Rattle.vm_event.specs.Prelude.{MAX_VERSION, state_of, UNLOCKED, version_of}
 use Rattle.vm_test_evict.proofs.flush.lock_first.Goals as goal
 
 unlocked : state_of 7 ≡ UNLOCKED

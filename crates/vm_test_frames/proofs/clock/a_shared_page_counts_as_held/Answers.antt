@@ -1,5 +1,5 @@
 use Rattle.std.proofs.Common.{◌≤◌, arith, inl}
-use Rattle.vm_core.specs.Prelude.{state_of}
+use Rattle.vm_event.specs.Prelude.{state_of}
 use Rattle.vm_test_frames.proofs.clock.a_shared_page_counts_as_held.Goals as goal
 
 no-shares : state_of 7 ≤ 251

@@ -1,5 +1,5 @@
 use Rattle.std.proofs.Common.{◌≤◌, arith, inl}
-use Rattle.vm_core.specs.Prelude.{state_of}
+use Rattle.vm_event.specs.Prelude.{state_of}
 use Rattle.vm_test_full.proofs.full.+share_first.Goals as goal
 
 no_shares : state_of 1 ≤ 251

@@ -1,5 +1,5 @@
 use Rattle.std.proofs.Common.{[], ◌<◌, ◌≡◌, arith, inl, inr, List, None, refl, subst, sym, true, ℕ}
-use Rattle.vm_core.specs.Prelude.{is_readable, state_of, version_of}
+use Rattle.vm_event.specs.Prelude.{is_readable, state_of, version_of}
 use Rattle.vm_rule.specs.Prelude.{did_load, LookTold, Start}
 use Rattle.vm_rule.specs.declared.view.WordPlace.TheVariants as places
 use Rattle.vm_step.specs.Prelude.{View, view}

@@ -1,7 +1,7 @@
 use Rattle.std.proofs.Common.{[], ◌||◌, ◌<◌, ◌∙◌, ◌∷◌, ◌≡◌, ap, false, inl, inr, List, refl, replicate, slice_index}
 use Rattle.std.proofs.Common.{slice_set, subst, sym, ℕ}
 use Rattle.std.proofs.lemmas.Bool.{ne_eqb}
-use Rattle.vm_core.specs.Prelude.{LoadsAre}
+use Rattle.vm_event.specs.Prelude.{LoadsAre}
 use Rattle.vm_page.specs.Pages.{all_zero}
 use Rattle.vm_rule.specs.Prelude.{AreApart, draft_of, has, last_of}
 use Rattle.vm_tree_split.specs.from_vm_step.Prelude.{Origin, view}

@@ -1,5 +1,5 @@
 use Rattle.std.proofs.Common.{[], ◌∙◌, ◌∷◌, ap, inl, inr, None, refl, subst, sym}
-use Rattle.vm_core.specs.Prelude.{Version}
+use Rattle.vm_event.specs.Prelude.{Version}
 use Rattle.vm_rule.specs.Prelude.{AreUnchanged, change_of, has}
 use Rattle.vm_tree_split.specs.from_vm_step.Prelude.{IsClaimed, view}
 use Rattle.vm_tree_split.specs.from_vm_guard.Guards.{IsHolding, IsReleased}

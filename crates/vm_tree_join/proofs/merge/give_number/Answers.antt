@@ -1,6 +1,6 @@
 use Rattle.std.proofs.Common.{◌%◌, ◌/◌, ◌^◌, ◌≡◌, arith, subst, sym, true, ℕ}
 use Rattle.std.proofs.lemmas.Nat.{one_shl}
-use Rattle.vm_core.specs.Prelude.{in_mask}
+use Rattle.vm_event.specs.Prelude.{in_mask}
 use Rattle.vm_rule.specs.FreeNumbers.{IsGivenBy}
 use Rattle.vm_tree_split.specs.from_vm_step.Prelude.{view}
 use Rattle.vm_tree_split.proofs.from_vm_guard.FreeBits.{mask-some}

@@ -1,6 +1,6 @@
 -- A leaf is read and held behind those that are held; at the last one all of them prove the reply.
 use Rattle.std.proofs.Common.{rules, ◌<◌, ◌++◌, ◌∷◌, ◌∙◌, [], arith, inr, length-append, refl, subst, sym, true≢false}
-use Rattle.vm_core.specs.Prelude.{MayShare}
+use Rattle.vm_event.specs.Prelude.{MayShare}
 use Rattle.vm_map.specs.History.{bound_of}
 use Rattle.vm_tree_read.specs.from_vm_guard.Guards.{IsUnshared}
 use Rattle.vm_step.specs.Prelude.{Origin, view}

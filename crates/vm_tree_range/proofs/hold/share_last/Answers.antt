@@ -1,6 +1,6 @@
 -- The leaf is held at the version that was read, with those that are held already; then it is given up.
 use Rattle.std.proofs.Common.{◌<◌, ◌∙◌, subst, sym, true≢false}
-use Rattle.vm_core.specs.Prelude.{MayShare}
+use Rattle.vm_event.specs.Prelude.{MayShare}
 use Rattle.vm_tree_read.specs.from_vm_guard.Guards.{IsUnshared}
 use Rattle.vm_step.specs.Prelude.{view}
 use Rattle.vm_tree_laws.specs.Tied.{Tied}

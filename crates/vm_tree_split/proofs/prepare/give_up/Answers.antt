@@ -1,5 +1,5 @@
 use Rattle.std.proofs.Common.{◌++◌, ◌∙◌, ap, inl, subst, sym}
-use Rattle.vm_core.specs.Prelude.{Version}
+use Rattle.vm_event.specs.Prelude.{Version}
 use Rattle.vm_owner.proofs.NumberLemmas.{without-none}
 use Rattle.vm_rule.specs.Prelude.{has}
 use Rattle.vm_step.specs.Prelude.{view}

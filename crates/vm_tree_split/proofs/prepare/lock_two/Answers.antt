@@ -1,5 +1,5 @@
 use Rattle.std.proofs.Common.{[], ◌∙◌, ◌∷◌, ap, inl, inr, None, subst, sym}
-use Rattle.vm_core.specs.Prelude.{Version}
+use Rattle.vm_event.specs.Prelude.{Version}
 use Rattle.vm_rule.specs.Prelude.{AreUnchanged, change_of, has}
 use Rattle.vm_step.specs.Prelude.{view}
 use Rattle.vm_guard.specs.Guards.{IsReleased}

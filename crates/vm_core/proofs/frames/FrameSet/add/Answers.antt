@@ -1,6 +1,6 @@
 use Rattle.std.proofs.Common.{◌<◌, ◌∙◌, ap, bit_or, length, List, subst, sym, ℕ}
-use Rattle.vm_core.specs.Prelude.{at, upd}
-use Rattle.vm_core.proofs.At.{at-value, at_set}
+use Rattle.vm_event.specs.Prelude.{at, upd}
+use Rattle.vm_event.proofs.At.{at-value, at_set}
 use Rattle.vm_core.proofs.frames.FrameSet.add.Goals as goal
 
 pub returns-clause-words : goal.returns-clause-words

@@ -1,8 +1,8 @@
 use Rattle.std.specs.Int.{bit_at}
 use Rattle.std.proofs.Common.{◌%◌, ◌/◌, ◌<◌, ◌∙◌, ap, eqb, length, List, subst, sym, ℕ}
 use Rattle.std.proofs.lemmas.Nat.Bits.{shr_and_one}
-use Rattle.vm_core.specs.Prelude.{has_free_bit}
-use Rattle.vm_core.proofs.At.{at-value}
+use Rattle.vm_event.specs.Prelude.{has_free_bit}
+use Rattle.vm_event.proofs.At.{at-value}
 use Rattle.vm_core.proofs.frames.FrameSet.has.Goals as goal
 
 pub returns : goal.returns

@@ -1,7 +1,8 @@
 use Rattle.std.proofs.Common.{◌<◌, arith, length, List, subst, sym, ℕ}
 use Rattle.std.proofs.lemmas.Bool.{eq-eqb, eqb-true}
-use Rattle.vm_core.specs.Prelude.{at}
-use Rattle.vm_core.proofs.{At.at-value, Masks.all-held}
+use Rattle.vm_event.specs.Prelude.{at}
+use Rattle.vm_event.proofs.{At.at-value}
+use Rattle.vm_event.proofs.Masks.{all-held}
 use Rattle.vm_core.proofs.frames.FrameSet.has_all.Goals as goal
 
 pub returns : goal.returns

@@ -1,6 +1,7 @@
 use Rattle.std.proofs.Common.{◌/◌, ◌<◌, ◌∙◌, ap, length, List, subst, sym, ℕ}
-use Rattle.vm_core.specs.Prelude.{at, has_free_bit}
-use Rattle.vm_core.proofs.{At.at-value, At.at_set, Masks.inserted-free}
+use Rattle.vm_event.specs.Prelude.{at, has_free_bit}
+use Rattle.vm_event.proofs.{At.at-value, At.at_set}
+use Rattle.vm_event.proofs.Masks.{inserted-free}
 use Rattle.vm_core.proofs.frames.FrameSet.insert.Goals as goal
 
 pub returns-clause-words : goal.returns-clause-words

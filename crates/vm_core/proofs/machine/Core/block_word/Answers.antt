@@ -1,6 +1,7 @@
 use Rattle.std.proofs.Common.{◌<◌, ◌∙◌, ap, arith, length, slice_index, subst, sym}
-use Rattle.vm_core.specs.Prelude.{CoreData, Page}
-use Rattle.vm_core.proofs.At.{page-here}
+use Rattle.vm_event.specs.Prelude.{Page}
+use Rattle.vm_core.specs.Prelude.{CoreData}
+use Rattle.vm_core.proofs.CorePages.{page-here}
 use Rattle.vm_core.proofs.machine.Core.block_word.Goals as goal
 
 pub returns : goal.returns

@@ -1,7 +1,7 @@
 use Rattle.std.proofs.Common.{◌<◌, arith, length, subst, sym}
 use Rattle.vm_core.specs.Prelude.{CoreData}
 use Rattle.vm_core.proofs.machine.Core.end_hold.Goals as goal
-use Rattle.vm_core.proofs.Masks.{core-ended}
+use Rattle.vm_core.proofs.CoreFrames.{core-ended}
 
 pub returns : goal.returns
 returns c =

@@ -1,6 +1,7 @@
 use Rattle.std.proofs.Common.{◌<◌, arith, length, subst, sym}
-use Rattle.vm_core.specs.Prelude.{core_of, CoreData, HeldFrame, NamesActorAndPage, Page}
-use Rattle.vm_core.proofs.{At.page-here, Owned.owned-frame}
+use Rattle.vm_event.specs.Prelude.{NamesActorAndPage, Page}
+use Rattle.vm_core.specs.Prelude.{core_of, CoreData, HeldFrame}
+use Rattle.vm_core.proofs.{CorePages.page-here, Owned.owned-frame}
 use Rattle.vm_core.proofs.machine.Core.held_frame.Goals as goal
 
 pub returns : goal.returns

@@ -1,8 +1,10 @@
 use Rattle.std.proofs.Common.{◌<◌, ◌∙◌, ◌≡◌, ap, arith, length, None, refl, Some, subst, sym}
 use Rattle.std.proofs.lemmas.Bool.{eq-eqb, eqb-true}
-use Rattle.vm_core.specs.Prelude.{at, CoreData, Page, pages_of}
-use Rattle.vm_core.specs.declared.event.Mapping.{Mapping}
-use Rattle.vm_core.proofs.{At.at-value, At.frame-in, At.page-here, PageFacts.none-some, PageFacts.some-same}
+use Rattle.vm_event.specs.Prelude.{at, Page}
+use Rattle.vm_core.specs.Prelude.{CoreData, pages_of}
+use Rattle.vm_event.specs.declared.event.Mapping.{Mapping}
+use Rattle.vm_event.proofs.{At.at-value, PageFacts.none-some, PageFacts.some-same}
+use Rattle.vm_core.proofs.{CorePages.frame-in, CorePages.page-here}
 use Rattle.vm_core.proofs.machine.Core.is_owned.Goals as goal
 
 pub returns-in-Some : goal.returns-in-Some

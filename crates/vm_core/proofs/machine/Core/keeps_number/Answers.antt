@@ -1,10 +1,11 @@
 use Rattle.std.specs.Cmp.Lexicographic.{pointwise}
 use Rattle.std.proofs.Common.{◌<◌, ◌∙◌, ◌≡◌, ap, arith, eqb, length, List, None, Option, replicate, Some, subst, sym, ℕ}
 use Rattle.vm_page.specs.Pages.{all_zero}
-use Rattle.vm_core.specs.Prelude.{CoreData, Page, pages_of, words_of_frames}
-use Rattle.vm_core.specs.declared.event.Mapping.{Mapping}
-use Rattle.vm_core.specs.Step.{standing_words}
-use Rattle.vm_core.proofs.{At.page-here, Numbers.zero-words}
+use Rattle.vm_event.specs.Prelude.{Page}
+use Rattle.vm_core.specs.Prelude.{CoreData, pages_of, words_of_frames}
+use Rattle.vm_event.specs.declared.event.Mapping.{Mapping}
+use Rattle.vm_event.specs.Step.{standing_words}
+use Rattle.vm_core.proofs.{CorePages.page-here, Numbers.zero-words}
 use Rattle.vm_core.proofs.machine.Core.keeps_number.Goals as goal
 
 pub returns-in-Some : goal.returns-in-Some

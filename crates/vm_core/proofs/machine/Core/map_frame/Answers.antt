@@ -1,8 +1,8 @@
 use Rattle.std.proofs.Common.{◌<◌, arith, length, subst, sym}
 use Rattle.vm_core.specs.Prelude.{core_of, CoreData}
-use Rattle.vm_core.specs.Step.{MayPut}
+use Rattle.vm_event.specs.Step.{MayPut}
 use Rattle.vm_core.proofs.machine.Core.map_frame.Goals as goal
-use Rattle.vm_core.proofs.Masks.{core-installed}
+use Rattle.vm_core.proofs.CoreFrames.{core-installed}
 
 pub returns : goal.returns
 returns c =

@@ -1,8 +1,8 @@
 use Rattle.std.proofs.Common.{◌∙◌, arith, refl, sym}
 use Rattle.std.proofs.lemmas.Bool.{eq-eqb, eqb-true}
 use Rattle.std.proofs.lemmas.Nat.{and_comm}
-use Rattle.vm_core.specs.Prelude.{at}
-use Rattle.vm_core.proofs.Masks.{none-held}
+use Rattle.vm_event.specs.Prelude.{at}
+use Rattle.vm_event.proofs.Masks.{none-held}
 use Rattle.vm_core.proofs.machine.Core.may_give_numbers.Goals as goal
 
 pub returns-then-spare-mask-eq0 : goal.returns-then-spare-mask-eq0

@@ -1,8 +1,8 @@
 use Rattle.std.proofs.Common.{◌+◌, ◌/◌, ◌<◌, ◌≡◌, arith, length, subst, sym}
 use Rattle.vm_core.specs.Prelude.{core_of, CoreData}
-use Rattle.vm_core.specs.Step.{MayTake}
+use Rattle.vm_event.specs.Step.{MayTake}
 use Rattle.vm_core.proofs.machine.Core.move_to_actor.Goals as goal
-use Rattle.vm_core.proofs.Masks.{core-taken, row-length}
+use Rattle.vm_core.proofs.CoreFrames.{core-taken, row-length}
 
 pub add-requires : goal.add-requires
 add-requires c =

@@ -1,8 +1,8 @@
 use Rattle.std.proofs.Common.{◌<◌, arith, length, subst, sym}
 use Rattle.vm_core.specs.Prelude.{core_of, CoreData}
-use Rattle.vm_core.specs.Step.{MayGive}
+use Rattle.vm_event.specs.Step.{MayGive}
 use Rattle.vm_core.proofs.machine.Core.move_to_bundle.Goals as goal
-use Rattle.vm_core.proofs.Masks.{core-given}
+use Rattle.vm_core.proofs.CoreFrames.{core-given}
 
 pub returns : goal.returns
 returns c =

@@ -1,8 +1,9 @@
 use Rattle.std.proofs.Common.{◌<◌, ◌∙◌, ◌≡◌, arith, below_more, length, refl, sym, ℕ}
 use Rattle.std.proofs.lemmas.Bool.{cases_lt, false≢true}
 use Rattle.std.proofs.Common.{⊎_elim}
-use Rattle.vm_core.specs.Prelude.{at, has_free_bit, held_of}
-use Rattle.vm_core.proofs.{Masks.held-row, Numbers.held-past}
+use Rattle.vm_event.specs.Prelude.{at, has_free_bit}
+use Rattle.vm_core.specs.Prelude.{held_of}
+use Rattle.vm_core.proofs.{CoreFrames.held-row, Numbers.held-past}
 use Rattle.vm_core.proofs.machine.Core.nobody_else_holds.Goals.{else-b-a-via-then-b-a+else-has_any, else-b-a-via-else-b-a}
 use Rattle.vm_core.proofs.machine.Core.nobody_else_holds.Goals as goal
 

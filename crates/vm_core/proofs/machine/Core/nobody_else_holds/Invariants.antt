@@ -1,5 +1,6 @@
 use Rattle.std.proofs.Common.{◌<◌, ◌≡◌, false, true, ℕ}
-use Rattle.vm_core.specs.Prelude.{held_of, in_mask}
+use Rattle.vm_event.specs.Prelude.{in_mask}
+use Rattle.vm_core.specs.Prelude.{held_of}
 use Rattle.vm_core.proofs.machine.Core.nobody_else_holds.Given as goal
 
 abbrev pub invariant-loop-b : goal.invariant-loop-b

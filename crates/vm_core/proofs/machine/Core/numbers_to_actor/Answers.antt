@@ -1,8 +1,8 @@
 use Rattle.std.proofs.Common.{◌+◌, ◌/◌, ◌<◌, ◌≡◌, arith, length, subst, sym}
 use Rattle.vm_core.specs.Prelude.{core_of, CoreData}
-use Rattle.vm_core.specs.Step.{MayTakeNumbers}
+use Rattle.vm_event.specs.Step.{MayTakeNumbers}
 use Rattle.vm_core.proofs.machine.Core.numbers_to_actor.Goals as goal
-use Rattle.vm_core.proofs.Masks.{core-numbers_taken, row-length}
+use Rattle.vm_core.proofs.CoreFrames.{core-numbers_taken, row-length}
 
 pub add-requires : goal.add-requires
 add-requires c =

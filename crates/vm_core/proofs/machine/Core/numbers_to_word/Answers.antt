@@ -1,8 +1,8 @@
 use Rattle.std.proofs.Common.{◌<◌, arith, length, subst, sym}
 use Rattle.vm_core.specs.Prelude.{core_of, CoreData}
-use Rattle.vm_core.specs.Step.{MayGiveNumbers}
+use Rattle.vm_event.specs.Step.{MayGiveNumbers}
 use Rattle.vm_core.proofs.machine.Core.numbers_to_word.Goals as goal
-use Rattle.vm_core.proofs.Masks.{core-numbers_given}
+use Rattle.vm_core.proofs.CoreFrames.{core-numbers_given}
 
 pub returns : goal.returns
 returns c =

@@ -1,6 +1,6 @@
 use Rattle.std.proofs.Common.{◌<◌, arith, length, subst, sym}
 use Rattle.vm_core.specs.Prelude.{CoreData}
-use Rattle.vm_core.proofs.At.{at-value}
+use Rattle.vm_event.proofs.At.{at-value}
 use Rattle.vm_core.proofs.machine.Core.owner.Goals as goal
 
 pub returns : goal.returns

@@ -1,6 +1,7 @@
 use Rattle.std.proofs.Common.{◌+◌, ◌/◌, ◌<◌, ◌≡◌, arith, false, length, subst, sym}
-use Rattle.vm_core.specs.Prelude.{core_of, CoreData, HoldsAt, NamesActorAndPage}
-use Rattle.vm_core.proofs.{At.frame-in, Masks.core-cleared, Masks.row-length}
+use Rattle.vm_event.specs.Prelude.{HoldsAt, NamesActorAndPage}
+use Rattle.vm_core.specs.Prelude.{core_of, CoreData}
+use Rattle.vm_core.proofs.{CorePages.frame-in, CoreFrames.core-cleared, CoreFrames.row-length}
 use Rattle.vm_core.proofs.machine.Core.unmap_frame.Goals as goal
 
 pub insert-requires : goal.insert-requires

@@ -1,6 +1,6 @@
 use Rattle.std.proofs.Common.{◌∙◌, ap, length, List, subst, sym}
-use Rattle.vm_core.specs.Prelude.{at, evicted_page, LocksInv, no_seat}
-use Rattle.vm_core.specs.declared.event.Seat.{Seat}
+use Rattle.vm_event.specs.Prelude.{at, evicted_page, LocksInv, no_seat}
+use Rattle.vm_event.specs.declared.event.Seat.{Seat}
 use Rattle.vm_core.proofs.page.PageCell.new.Goals as goal
 use Rattle.vm_core.proofs.Starting.{locks-start, no-seats}
 

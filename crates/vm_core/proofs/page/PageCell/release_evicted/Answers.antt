@@ -1,6 +1,7 @@
 use Rattle.std.proofs.Common.{◌<◌, false, length, subst, sym}
-use Rattle.vm_core.specs.Prelude.{MayEmpty, page_of, PageData}
-use Rattle.vm_core.proofs.{At.locks-write, Locks.locks-empty}
+use Rattle.vm_event.specs.Prelude.{MayEmpty}
+use Rattle.vm_core.specs.Prelude.{page_of, PageData}
+use Rattle.vm_event.proofs.{At.locks-write, Locks.locks-empty}
 use Rattle.vm_core.proofs.page.PageCell.release_evicted.Goals as goal
 
 pub invariant_of-self : goal.invariant_of-self

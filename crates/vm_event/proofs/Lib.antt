@@ -1,0 +1,10 @@
+pub mod WordBits
+pub mod Upd
+pub mod Locks
+pub mod PageFacts
+pub mod PageMoves
+pub mod Whole
+pub mod OwnerWords
+pub mod At
+pub mod Spares
+pub mod Masks

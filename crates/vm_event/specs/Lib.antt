@@ -1,0 +1,14 @@
+pub mod Fn
+pub mod Words
+pub mod State
+pub mod StateActs
+pub mod FrameActs
+pub mod DeviceActs
+pub mod PageStep
+pub mod Step
+pub mod History
+pub mod Inv
+pub mod Told
+pub mod Start
+pub mod OneVersion
+pub mod Prelude
