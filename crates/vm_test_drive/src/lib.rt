@@ -5,8 +5,6 @@
 #[cfg(test)]
 mod faults;
 #[cfg(test)]
-mod overlap;
-#[cfg(test)]
 mod ranges;
 #[cfg(test)]
 mod rounds;

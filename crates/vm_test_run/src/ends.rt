@@ -1,9 +1,10 @@
 //! What is kept of a run: the end of its pool.
 
-use crate::expect::{RUN, host, host_with, is_kept, perform};
+use crate::expect::{RUN, is_kept, perform};
 use std::test::Fail;
 use vm_cli::drive::NoGate;
 use vm_cli::ends::Ends;
+use vm_test_hosts::hosts::{host, host_with};
 
 /// The end of the pool has the counts that are said; a later command that has no workers leaves it.
 #[test]

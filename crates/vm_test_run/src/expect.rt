@@ -1,7 +1,6 @@
-//! Hosts and command lines, and what a command is expected to come to.
+//! What a command is expected to come to.
 
-use crate::pages::empty_tree;
-use std::alloc::{AllocError, Global};
+use std::alloc::Global;
 use std::process::Abort;
 use std::sync::Wait;
 use std::test::Fail;
@@ -13,46 +12,10 @@ use vm_device::MemDevices;
 use vm_io::host::Host;
 use vm_io::memory::MemHost;
 use vm_page::WORDS;
+use vm_test_hosts::hosts::{OLD, words};
 
 /// One worker, on the page file `I0` and the script `S`.
 pub(crate) const RUN: &str = "run I0 S --workers 1 --frames 64";
-
-/// Two workers on the same.
-pub(crate) const RUN_BY_TWO: &str = "run I0 S --workers 2 --frames 64";
-
-/// The bytes of the file `K` before a run.
-pub(crate) const OLD: &[u8] = b"old";
-
-/// A host with an image `I0`, a script `S`, and a file `K` that can be written, whose calls with these numbers fail.
-pub(crate) fn host(
-    alloc: Global,
-    image: Vec<u8>,
-    script: &[u8],
-    plan: &[u64],
-) -> Result<MemHost, AllocError> {
-    let mut files = Vec::new(alloc);
-    files.push((String::from_str(alloc, "I0")?, image))?;
-    files.push((
-        String::from_str(alloc, "S")?,
-        Vec::from_slice(alloc, script)?,
-    ))?;
-    files.push((String::from_str(alloc, "K")?, Vec::from_slice(alloc, OLD)?))?;
-    MemHost::new(alloc, files, 40_000, plan)
-}
-
-/// A host whose image is the empty tree of eight pages.
-pub(crate) fn host_with(alloc: Global, script: &str) -> Result<MemHost, AllocError> {
-    host(alloc, empty_tree(alloc, 6)?, script.as_bytes(), &[])
-}
-
-/// The words of a line.
-pub(crate) fn words(alloc: Global, line: &str) -> Result<Vec<String>, AllocError> {
-    let mut list = Vec::new(alloc);
-    for word in line.split_whitespace() {
-        list.push(String::from_str(alloc, word)?)?;
-    }
-    Ok(list)
-}
 
 /// Performs the command of the line. Want of memory is no answer.
 pub(crate) fn perform<R: Threads + Wait + Sync, H: Host, G: Gate + Sync>(

@@ -1,10 +1,11 @@
 //! Hosts whose calls with given numbers fail: what is read, written or said up to there.
 
-use crate::expect::{RUN, expect_no_run, expect_run, host, is_kept, perform};
-use crate::pages::empty_tree;
+use crate::expect::{RUN, expect_no_run, expect_run, is_kept, perform};
 use std::test::Fail;
 use vm_cli::drive::NoGate;
 use vm_cli::ends::Ends;
+use vm_test_hosts::hosts::host;
+use vm_test_hosts::pages::empty_tree;
 
 /// Where the line of a refusal can't be said, the status is 3. Call 1 says where no file is read, call 3 behind an image.
 #[test]

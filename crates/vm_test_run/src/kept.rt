@@ -1,13 +1,14 @@
 //! The file that a run keeps: it is replaced as a whole before anything is said, or it is as it was.
 
-use crate::expect::{OLD, RUN, expect_no_run, expect_run, host};
-use crate::pages::{add_news, add_rows, empty_tree, puts, two_leaves};
+use crate::expect::{RUN, expect_no_run, expect_run};
 use std::alloc::{AllocError, Global};
 use std::process::Abort;
 use std::sync::Wait;
 use std::test::Fail;
 use std::thread::Threads;
 use vm_io::memory::MemHost;
+use vm_test_hosts::hosts::{OLD, host};
+use vm_test_hosts::pages::{add_news, add_rows, empty_tree, puts, two_leaves};
 
 /// Keeps what the run leaves in the file `K`.
 const RUN_KEEP: &str = "run I0 S --workers 1 --frames 64 --keep K";

@@ -9,12 +9,8 @@ mod expect;
 #[cfg(test)]
 mod failing;
 #[cfg(test)]
-mod gates;
-#[cfg(test)]
 mod kept;
 #[cfg(test)]
 mod memory;
-#[cfg(test)]
-mod pages;
 #[cfg(test)]
 mod workers;

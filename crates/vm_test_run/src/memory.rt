@@ -1,12 +1,13 @@
 //! Want of memory: it shows where one of the allocations is made to fail.
 
-use crate::expect::{OLD, host_with, is_kept, words};
+use crate::expect::is_kept;
 use std::test::Fail;
 use vm_cli::drive::NoGate;
 use vm_cli::ends::Ends;
 use vm_cli::run::run;
 use vm_device::MemDevices;
 use vm_page::WORDS;
+use vm_test_hosts::hosts::{OLD, host_with, words};
 
 /// Status 6 leaves the host and what is kept as they were, so that the same words over the same host are done then.
 #[test]

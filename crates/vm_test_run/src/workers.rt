@@ -1,7 +1,6 @@
 //! Scripts of two workers, side by side, and the gate round each of their calls.
 
-use crate::expect::{RUN_BY_TWO, host, host_with, is_kept, perform};
-use crate::gates::{Counts, Held};
+use crate::expect::{is_kept, perform};
 use std::alloc::Global;
 use std::process::Abort;
 use std::sync::Wait;
@@ -10,6 +9,11 @@ use std::test::Fail;
 use std::thread::Threads;
 use vm_cli::drive::NoGate;
 use vm_cli::ends::Ends;
+use vm_drive_callers::gates::{CallCounts, HeldCall};
+use vm_test_hosts::hosts::{host, host_with};
+
+/// Two workers, on the page file `I0` and the script `S`.
+const RUN_BY_TWO: &str = "run I0 S --workers 2 --frames 64";
 
 /// Two workers make these calls over the file that this line makes, and what is said of both commands is one of these texts.
 fn comes_to_one_of<R: Abort + Threads + Wait + Sync>(
@@ -67,7 +71,7 @@ fn two_workers_at_one_key(rt: HostRuntime) -> Result<(), Fail> {
 fn a_call_ends_while_another_waits(rt: HostRuntime) -> Result<(), Fail> {
     let alloc = rt.alloc();
     let mut host = host_with(alloc, "0 put 1 10\n1 put 2 20\n")?;
-    let gate = Held::new();
+    let gate = HeldCall::new();
     let mut ends = Ends::Nothing;
     let status = perform(&rt, alloc, &mut host, RUN_BY_TWO, &gate, &mut ends)?;
     assert_eq!(rt; status, 0);
@@ -84,7 +88,7 @@ fn a_call_ends_while_another_waits(rt: HostRuntime) -> Result<(), Fail> {
 fn the_gate_is_called_round_each_call(rt: HostRuntime) -> Result<(), Fail> {
     let alloc = rt.alloc();
     let mut host = host_with(alloc, "0 get 1\n1 get 1\n0 put 2 2\n1 del 3\n0 scan 1 1\n")?;
-    let gate = Counts::new();
+    let gate = CallCounts::new();
     let mut ends = Ends::Nothing;
     let status = perform(&rt, alloc, &mut host, RUN_BY_TWO, &gate, &mut ends)?;
     assert_eq!(rt; status, 0);

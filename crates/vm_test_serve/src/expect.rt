@@ -1,7 +1,6 @@
 //! What a `serve` is expected to come to.
 
-use crate::files::NAME;
-use std::alloc::{AllocError, Global};
+use std::alloc::Global;
 use std::process::Abort;
 use std::sync::Wait;
 use std::test::Fail;
@@ -12,25 +11,11 @@ use vm_cli::run::run;
 use vm_device::Devices;
 use vm_io::memory::MemHost;
 use vm_page::WORDS;
+use vm_test_hosts::devices::NAME;
+use vm_test_hosts::hosts::{host_of_file, words};
 
 /// One worker, on the page file `I0` and the script `S`.
 pub(crate) const SERVE: &str = "serve I0 S --workers 1 --frames 64";
-
-/// The words of a line.
-fn words(alloc: Global, line: &str) -> Result<Vec<String>, AllocError> {
-    let mut list = Vec::new(alloc);
-    for word in line.split_whitespace() {
-        list.push(String::from_str(alloc, word)?)?;
-    }
-    Ok(list)
-}
-
-/// A host with one file.
-pub(crate) fn host_with(alloc: Global, name: &str, bytes: Vec<u8>) -> Result<MemHost, AllocError> {
-    let mut files = Vec::new(alloc);
-    files.push((String::from_str(alloc, name)?, bytes))?;
-    MemHost::new(alloc, files, 40_000, &[])
-}
 
 /// A command comes to this status over these devices and a host with one file, and this is said. Whether the end of a pool is kept is answered.
 pub(crate) fn expect<R: Abort + Threads + Wait + Sync, D: Devices<WORDS>>(
@@ -71,7 +56,7 @@ pub(crate) fn expect_serve<R: Abort + Threads + Wait + Sync, D: Devices<WORDS>>(
     said: &str,
 ) -> Result<bool, Fail> {
     let bytes = Vec::from_slice(alloc, script.as_bytes())?;
-    let mut host = host_with(alloc, "S", bytes)?;
+    let mut host = host_of_file(alloc, "S", bytes)?;
     let kept = expect(rt, alloc, devices, &mut host, SERVE, status, said)?;
     for p in 0..8 {
         let block = devices.get(NAME, p)?;

@@ -5,10 +5,6 @@
 #[cfg(test)]
 mod expect;
 #[cfg(test)]
-mod files;
-#[cfg(test)]
-mod liar;
-#[cfg(test)]
 mod refused;
 #[cfg(test)]
 mod served;

@@ -1,10 +1,12 @@
 //! Serves that are refused: nothing is kept, and each block is home again.
 
-use crate::expect::{SERVE, expect, expect_serve, host_with};
-use crate::files::{MAGIC, devices, plain_devices};
+use crate::expect::{SERVE, expect, expect_serve};
 use std::test::Fail;
 use vm_device::{BlockFault, Devices, MemDevices, PagesFile};
 use vm_page::{PageBuf, WORDS};
+use vm_test_hosts::devices::{devices, plain_devices};
+use vm_test_hosts::hosts::host_of_file;
+use vm_test_hosts::pages::MAGIC;
 
 /// A file of two pages and six bytes more.
 #[test]
@@ -16,7 +18,7 @@ fn a_length_is_refused(rt: HostRuntime) -> Result<(), Fail> {
     let mut files = Vec::new(alloc);
     files.push(PagesFile::new(String::from_str(alloc, "I0")?, 1030, pages))?;
     let mut devices = MemDevices::<WORDS>::new(alloc, files, &[], &[], &[])?;
-    let mut host = host_with(alloc, "S", Vec::new(alloc))?;
+    let mut host = host_of_file(alloc, "S", Vec::new(alloc))?;
     let said = "image length 1030\n";
     let kept = expect(&rt, alloc, &mut devices, &mut host, SERVE, 4, said)?;
     assert!(rt; !kept);
@@ -64,7 +66,7 @@ fn a_script_is_refused(rt: HostRuntime) -> Result<(), Fail> {
 fn numbers_are_refused(rt: HostRuntime) -> Result<(), Fail> {
     let alloc = rt.alloc();
     let mut devices = plain_devices(alloc)?;
-    let mut host = host_with(alloc, "S", Vec::new(alloc))?;
+    let mut host = host_of_file(alloc, "S", Vec::new(alloc))?;
     let line = "serve I0 S --workers 0 --frames 64";
     let kept = expect(
         &rt,
@@ -76,7 +78,7 @@ fn numbers_are_refused(rt: HostRuntime) -> Result<(), Fail> {
         "shape workers\n",
     )?;
     assert!(rt; !kept);
-    let mut host = host_with(alloc, "S", Vec::new(alloc))?;
+    let mut host = host_of_file(alloc, "S", Vec::new(alloc))?;
     let line = "serve I0 S --workers 9 --frames 64";
     let kept = expect(
         &rt,
@@ -114,7 +116,7 @@ fn a_file_is_not_read(rt: HostRuntime) -> Result<(), Fail> {
 fn a_script_is_not_read(rt: HostRuntime) -> Result<(), Fail> {
     let alloc = rt.alloc();
     let mut devices = plain_devices(alloc)?;
-    let mut host = host_with(alloc, "T", Vec::new(alloc))?;
+    let mut host = host_of_file(alloc, "T", Vec::new(alloc))?;
     let kept = expect(&rt, alloc, &mut devices, &mut host, SERVE, 2, "read S\n")?;
     assert!(rt; !kept);
     assert_eq!(rt; devices.faults(), 0);

@@ -1,10 +1,12 @@
 //! Scripts that are served.
 
-use crate::expect::{expect, expect_serve, host_with};
-use crate::files::{MAGIC, NAME, bytes_of, devices, plain_devices};
-use crate::liar::Liar;
+use crate::expect::{expect, expect_serve};
 use std::test::Fail;
 use vm_device::{BlockFault, Devices};
+use vm_test_hosts::devices::{NAME, bytes_of, devices, plain_devices};
+use vm_test_hosts::hosts::host_of_file;
+use vm_test_hosts::liar::Liar;
+use vm_test_hosts::pages::MAGIC;
 
 /// A pair is put and got; the file has it behind that.
 #[test]
@@ -16,7 +18,7 @@ fn a_pair_is_put_into_the_file(rt: HostRuntime) -> Result<(), Fail> {
     assert!(rt; kept);
     assert_eq!(rt; devices.faults(), 0);
     let bytes = bytes_of(alloc, &mut devices)?;
-    let mut host = host_with(alloc, NAME, bytes)?;
+    let mut host = host_of_file(alloc, NAME, bytes)?;
     let said = "row 5 7\ntree height 0 used 2 rows 1\n";
     let kept = expect(&rt, alloc, &mut devices, &mut host, "check I0", 0, said)?;
     assert!(rt; !kept);

@@ -1,9 +1,10 @@
 //! Pages that could not be written back, or not made to last.
 
 use crate::expect::expect_serve;
-use crate::files::{MAGIC, devices};
 use std::test::Fail;
 use vm_device::{BlockFault, Devices};
+use vm_test_hosts::devices::devices;
+use vm_test_hosts::pages::MAGIC;
 
 /// The write of page 1 fails in the last flush.
 #[test]

@@ -9,7 +9,7 @@ use vm_map::window::Bound;
 use vm_step::At;
 use vm_tree_pages::pool::Bring;
 use vm_tree_pages::tree_callers::{
-    empty, get_beside, get_first, get_once, got, one_leaf, open, two_leaves, window_from,
+    empty, get_beside, get_first, get_once, got, one_leaf, open, put_at, two_leaves, window_from,
     window_once,
 };
 use vm_tree_pages::tree_read::TryRead;
@@ -70,6 +70,24 @@ fn a_descent_reaches_each_leaf(rt: HostRuntime) -> Result<(), Fail> {
     assert_eq!(rt; first, Some((Bound::Key(7), 1)));
     let last = window_once(&pool, &mut pass, &iface, u64::MAX, 1);
     assert_eq!(rt; last, Some((Bound::End, 0)));
+    Ok(())
+}
+
+#[test]
+fn windows_reach_both_ends_of_the_keys(rt: HostRuntime) -> Result<(), Fail> {
+    let bytes = empty(rt.alloc(), 8)?;
+    let (pool, mut pass) = open(rt.alloc(), bytes.as_slice())?;
+    let mut iface = Interface::new(0, 16);
+    let reply = put_at(&rt, &pool, &mut pass, &mut iface, u64::MAX, 1);
+    assert_eq!(rt; reply, Ok(Reply::Was(None)));
+    let reply = put_at(&rt, &pool, &mut pass, &mut iface, 0, 2);
+    assert_eq!(rt; reply, Ok(Reply::Was(None)));
+    let last = window_from(&rt, &pool, &mut pass, &mut iface, u64::MAX, 1);
+    assert_eq!(rt; last, Some((Bound::End, 1)));
+    let first = window_from(&rt, &pool, &mut pass, &mut iface, 0, 1);
+    assert_eq!(rt; first, Some((Bound::Key(u64::MAX), 1)));
+    let all = window_from(&rt, &pool, &mut pass, &mut iface, 0, 28);
+    assert_eq!(rt; all, Some((Bound::End, 2)));
     Ok(())
 }
 

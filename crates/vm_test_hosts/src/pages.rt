@@ -4,18 +4,26 @@ ghost use Rattle.std.specs.Prelude.{◌≤◌, length};
 use std::alloc::{AllocError, Global};
 use vm_page::{PageBuf, WORDS};
 
-const MAGIC: u64 = 0x564D_4341_4348_4531;
+/// The first word of a page file.
+pub const MAGIC: u64 = 0x564D_4341_4348_4531;
 
-/// Appends a page that begins with these words.
-fn put_page(bytes: &mut Vec<u8>, words: &[u64]) -> Result<(), AllocError>
+/// A page that begins with these words.
+pub(crate) fn page_of(words: &[u64]) -> PageBuf<WORDS>
     requires { length words.now ≤ 64 }
 {
     let mut page = PageBuf::<WORDS>::zero();
     for i in 0..words.len() {
         page.set(i, words[i]);
     }
+    page
+}
+
+/// Appends a page that begins with these words.
+fn put_page(bytes: &mut Vec<u8>, words: &[u64]) -> Result<(), AllocError>
+    requires { length words.now ≤ 64 }
+{
     let mut written = [0; 512];
-    page.put_bytes(&mut written);
+    page_of(words).put_bytes(&mut written);
     bytes.extend_from_slice(&written)
 }
 
@@ -28,7 +36,7 @@ fn put_free(bytes: &mut Vec<u8>, pages: usize) -> Result<(), AllocError> {
 }
 
 /// Two pages whose one leaf is empty, and so many free ones behind them.
-pub(crate) fn empty_tree(alloc: Global, free: usize) -> Result<Vec<u8>, AllocError> {
+pub fn empty_tree(alloc: Global, free: usize) -> Result<Vec<u8>, AllocError> {
     let mut bytes = Vec::new(alloc);
     put_page(&mut bytes, &[MAGIC, 1, 0])?;
     put_page(&mut bytes, &[2, 0, 0, 0, 1])?;
@@ -37,7 +45,7 @@ pub(crate) fn empty_tree(alloc: Global, free: usize) -> Result<Vec<u8>, AllocErr
 }
 
 /// Eight pages: below the root on page 3, leaves with the pairs 1 1 to 14 14 on page 1, and 15 15 to 29 29 on page 2.
-pub(crate) fn two_leaves(alloc: Global) -> Result<Vec<u8>, AllocError> {
+pub fn two_leaves(alloc: Global) -> Result<Vec<u8>, AllocError> {
     let mut bytes = Vec::new(alloc);
     put_page(&mut bytes, &[MAGIC, 3, 1])?;
     let low = [
@@ -56,7 +64,7 @@ pub(crate) fn two_leaves(alloc: Global) -> Result<Vec<u8>, AllocError> {
 }
 
 /// The script of puts of 1 1, 2 2 and so on by worker 0.
-pub(crate) fn puts(alloc: Global, count: u64) -> Result<String, AllocError> {
+pub fn puts(alloc: Global, count: u64) -> Result<String, AllocError> {
     let mut text = String::new(alloc);
     for i in 0..count {
         let key = i.wrapping_add(1);
@@ -66,7 +74,7 @@ pub(crate) fn puts(alloc: Global, count: u64) -> Result<String, AllocError> {
 }
 
 /// Appends the replies `new` to the first calls of worker 0.
-pub(crate) fn add_news(alloc: Global, text: &mut String, count: u64) -> Result<(), AllocError> {
+pub fn add_news(alloc: Global, text: &mut String, count: u64) -> Result<(), AllocError> {
     for i in 0..count {
         let number = i.wrapping_add(1);
         text.push_str(format!(in alloc; "0 {number} new\n")?.as_str())?;
@@ -75,7 +83,7 @@ pub(crate) fn add_news(alloc: Global, text: &mut String, count: u64) -> Result<(
 }
 
 /// Appends the rows of so many keys from 1 on, each with itself as its value.
-pub(crate) fn add_rows(alloc: Global, text: &mut String, count: u64) -> Result<(), AllocError> {
+pub fn add_rows(alloc: Global, text: &mut String, count: u64) -> Result<(), AllocError> {
     for i in 0..count {
         let key = i.wrapping_add(1);
         text.push_str(format!(in alloc; "row {key} {key}\n")?.as_str())?;

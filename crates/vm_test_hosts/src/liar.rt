@@ -6,20 +6,20 @@ use vm_page::{PageBuf, WORDS};
 
 /// Devices in memory, as devices that tell nothing.
 #[derive(Drop)]
-pub(crate) struct Liar {
+pub struct Liar {
     inner: MemDevices<WORDS>,
 }
 
 /// A page that may have another word 2 at its second read.
 #[derive(Drop)]
-pub(crate) struct LiarPage {
+pub struct LiarPage {
     page: MemPage<WORDS>,
     lies: bool,
 }
 
 impl Liar {
     /// Devices that lie of page 1 of each file.
-    pub(crate) fn new(inner: MemDevices<WORDS>) -> Liar {
+    pub fn new(inner: MemDevices<WORDS>) -> Liar {
         Liar { inner }
     }
 }

@@ -1,31 +1,17 @@
-//! Page files, in devices and as bytes.
-ghost use Rattle.std.specs.Prelude.{◌≤◌, length};
+//! Devices in memory with one page file, and its bytes.
 
+use crate::pages::{MAGIC, page_of};
 use std::alloc::{AllocError, Global};
 use std::test::Fail;
 use vm_device::{BlockFault, Devices, MemDevices, PagesFile};
-use vm_page::{PageBuf, WORDS};
-
-/// The first word of a page file.
-pub(crate) const MAGIC: u64 = 0x564D_4341_4348_4531;
+use vm_page::WORDS;
 
 /// The page file's name.
-pub(crate) const NAME: &str = "I0";
-
-/// A page that begins with these words.
-fn page_of(words: &[u64]) -> PageBuf<WORDS>
-    requires { length words.now ≤ 64 }
-{
-    let mut page = PageBuf::<WORDS>::zero();
-    for i in 0..words.len() {
-        page.set(i, words[i]);
-    }
-    page
-}
+pub const NAME: &str = "I0";
 
 /// Devices with a page file of eight pages, which begins with this word: a tree of one empty leaf, where it is the right one. The plans are of calls on
 /// the devices, and of calls and syncs of blocks.
-pub(crate) fn devices(
+pub fn devices(
     alloc: Global,
     first: u64,
     plan: &[u64],
@@ -47,12 +33,12 @@ pub(crate) fn devices(
 }
 
 /// The same with nothing planned.
-pub(crate) fn plain_devices(alloc: Global) -> Result<MemDevices<WORDS>, AllocError> {
+pub fn plain_devices(alloc: Global) -> Result<MemDevices<WORDS>, AllocError> {
     devices(alloc, MAGIC, &[], &[], &[])
 }
 
 /// The bytes of the page file that devices hold.
-pub(crate) fn bytes_of(alloc: Global, devices: &mut MemDevices<WORDS>) -> Result<Vec<u8>, Fail> {
+pub fn bytes_of(alloc: Global, devices: &mut MemDevices<WORDS>) -> Result<Vec<u8>, Fail> {
     let mut bytes = Vec::new(alloc);
     for p in 0..8 {
         let block = devices.get(NAME, p)?;

@@ -1,7 +1,7 @@
 use Rattle.std.proofs.Common.{arith}
 use Rattle.vm_pool.proofs.FirstPass.{first-alone}
 use Rattle.vm_drive_callers.proofs.from_vm_serve.Headline.{fresh-enough}
-use Rattle.vm_test_drive.proofs.overlap.open_held.Goals as goal
+use Rattle.vm_test_overlap.proofs.overlap.open_held.Goals as goal
 
 pub returns-clause-whole : goal.returns-clause-whole
 returns-clause-whole c = (first-alone _ _ _ _ _ _ _ _ c.in_ok-start.ensures.view).0

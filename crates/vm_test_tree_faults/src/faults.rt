@@ -135,21 +135,3 @@ fn a_worn_root_is_not_split(rt: HostRuntime) -> Result<(), Fail> {
     assert_eq!(rt; reply, Ok(Reply::Got(Some(1))));
     Ok(())
 }
-
-#[test]
-fn windows_reach_both_ends_of_the_keys(rt: HostRuntime) -> Result<(), Fail> {
-    let bytes = empty(rt.alloc(), 8)?;
-    let (pool, mut pass) = open_with(rt.alloc(), bytes.as_slice(), &[], 0)?;
-    let mut iface = Interface::new(0, 16);
-    let reply = put_at(&rt, &pool, &mut pass, &mut iface, u64::MAX, 1);
-    assert_eq!(rt; reply, Ok(Reply::Was(None)));
-    let reply = put_at(&rt, &pool, &mut pass, &mut iface, 0, 2);
-    assert_eq!(rt; reply, Ok(Reply::Was(None)));
-    let last = window_from(&rt, &pool, &mut pass, &mut iface, u64::MAX, 1);
-    assert_eq!(rt; last, Some((Bound::End, 1)));
-    let first = window_from(&rt, &pool, &mut pass, &mut iface, 0, 1);
-    assert_eq!(rt; first, Some((Bound::Key(u64::MAX), 1)));
-    let all = window_from(&rt, &pool, &mut pass, &mut iface, 0, 28);
-    assert_eq!(rt; all, Some((Bound::End, 2)));
-    Ok(())
-}

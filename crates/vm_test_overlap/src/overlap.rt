@@ -6,10 +6,10 @@ ghost use Rattle.vm_step.specs.Prelude.{IsReadyOn, view};
 use std::alloc::Global;
 use std::sync::atomic::{AtomicBool, Ordering};
 use std::test::Fail;
-use std::thread;
 use vm_block::{Block, Failed, MemBlock, PageBlock};
 use vm_drive_callers::calls::two_lists;
 use vm_drive_callers::drive::{Gate, Short, drive};
+use vm_drive_callers::gates::wait_for;
 use vm_drive_callers::trees::two_leaves;
 use vm_image::{Image, blocks_of};
 use vm_map::call::Call;
@@ -17,9 +17,6 @@ use vm_page::{PageBuf, WORDS};
 use vm_pool::{Pool, Shape};
 use vm_rule::words::Pass;
 use vm_tree_rule::Tree;
-
-/// How often a wait looks again.
-const TURNS: u32 = 1_000_000;
 
 /// What a block and a gate tell each other, and whether each saw what it waited for before its turns ended.
 #[derive(Drop)]
@@ -38,17 +35,6 @@ impl Signals {
             gate_saw: AtomicBool::new(false),
             block_saw: AtomicBool::new(false),
         }
-    }
-}
-
-/// Waits for a flag, and sets another where it was seen.
-fn wait_for(flag: &AtomicBool, saw: &AtomicBool) {
-    for _ in 0..TURNS {
-        if flag.load(Ordering::SeqCst) {
-            saw.store(true, Ordering::SeqCst);
-            return;
-        }
-        thread::yield_now();
     }
 }
 

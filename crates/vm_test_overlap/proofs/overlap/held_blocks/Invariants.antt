@@ -1,6 +1,6 @@
 use Rattle.std.specs.Vec.Iter.{into_iter_items, into_iter_len}
 use Rattle.std.proofs.Common.{◌++◌, ◌≡◌, length}
-use Rattle.vm_test_drive.proofs.overlap.held_blocks.Given as goal
+use Rattle.vm_test_overlap.proofs.overlap.held_blocks.Given as goal
 
 abbrev pub invariant-loop-inner : goal.invariant-loop-inner
 invariant-loop-inner l = record {

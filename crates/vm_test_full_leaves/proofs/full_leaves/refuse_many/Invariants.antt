@@ -1,6 +1,6 @@
 use Rattle.std.proofs.Common.{◌≡◌, None, true}
 use Rattle.vm_step.specs.Prelude.{AreHeld, IsReady, view}
-use Rattle.vm_test_writes.proofs.writes.refuse_many.Given as goal
+use Rattle.vm_test_full_leaves.proofs.full_leaves.refuse_many.Given as goal
 
 -- the pass is ready and at home
 abbrev pub invariant-loop-i : goal.invariant-loop-i

@@ -2,13 +2,13 @@
 
 use std::sync::atomic::{AtomicBool, AtomicU64, Ordering};
 use std::thread;
-use vm_cli::drive::Gate;
+use vm_serve::drive::Gate;
 
 /// How many calls of a worker came to a gate, and how many left it.
 #[derive(Drop)]
-pub(crate) struct Turns {
-    pub(crate) begun: AtomicU64,
-    pub(crate) ended: AtomicU64,
+pub struct Turns {
+    pub begun: AtomicU64,
+    pub ended: AtomicU64,
 }
 
 impl Turns {
@@ -22,15 +22,16 @@ impl Turns {
 
 /// A gate for two workers, which counts their calls, and those that come or leave out of turn.
 #[derive(Drop)]
-pub(crate) struct Counts {
-    pub(crate) first: Turns,
-    pub(crate) second: Turns,
-    pub(crate) odd: AtomicU64,
+pub struct CallCounts {
+    pub first: Turns,
+    pub second: Turns,
+    pub odd: AtomicU64,
 }
 
-impl Counts {
-    pub(crate) fn new() -> Counts {
-        Counts {
+impl CallCounts {
+    /// No call has come.
+    pub fn new() -> CallCounts {
+        CallCounts {
             first: Turns::new(),
             second: Turns::new(),
             odd: AtomicU64::new(0),
@@ -53,7 +54,7 @@ impl Counts {
     }
 }
 
-impl Gate for Counts {
+impl Gate for CallCounts {
     fn before(&self, worker: u32, call: u32) {
         let turns = self.turns(worker);
         let begun = turns.begun.fetch_add(1, Ordering::SeqCst);
@@ -73,7 +74,7 @@ impl Gate for Counts {
 const TURNS: u32 = 1_000_000;
 
 /// Waits for a flag, and sets another where it was seen.
-fn wait_for(flag: &AtomicBool, saw: &AtomicBool) {
+pub fn wait_for(flag: &AtomicBool, saw: &AtomicBool) {
     for _ in 0..TURNS {
         if flag.load(Ordering::SeqCst) {
             saw.store(true, Ordering::SeqCst);
@@ -85,16 +86,17 @@ fn wait_for(flag: &AtomicBool, saw: &AtomicBool) {
 
 /// A gate that holds call 1 of worker 0 until call 1 of worker 1 was answered, and that one until the first has come.
 #[derive(Drop)]
-pub(crate) struct Held {
+pub struct HeldCall {
     has_come: AtomicBool,
     is_answered: AtomicBool,
     first_saw: AtomicBool,
     second_saw: AtomicBool,
 }
 
-impl Held {
-    pub(crate) fn new() -> Held {
-        Held {
+impl HeldCall {
+    /// No call has come.
+    pub fn new() -> HeldCall {
+        HeldCall {
             has_come: AtomicBool::new(false),
             is_answered: AtomicBool::new(false),
             first_saw: AtomicBool::new(false),
@@ -103,12 +105,12 @@ impl Held {
     }
 
     /// Whether each call saw what it waited for before its turns ended.
-    pub(crate) fn saw_the_other(&self) -> bool {
+    pub fn saw_the_other(&self) -> bool {
         self.first_saw.load(Ordering::SeqCst) && self.second_saw.load(Ordering::SeqCst)
     }
 }
 
-impl Gate for Held {
+impl Gate for HeldCall {
     fn before(&self, worker: u32, call: u32) {
         if worker == 0 && call == 1 {
             self.has_come.store(true, Ordering::SeqCst);
