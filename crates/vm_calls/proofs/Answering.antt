@@ -15,11 +15,11 @@ use Rattle.vm_tree_range.specs.from_vm_tree_read.Waiting.{IsFaulted as IsReadFau
 use Rattle.vm_tree_range.specs.from_vm_tree_read.Waiting.{IsReadFault as read_fault, IsReplied as IsReadReplied, Waits}
 use Rattle.vm_tree_retry.specs.from_vm_tree_split.Splits.{KeepsLocksOnly}
 use Rattle.vm_tree_retry.specs.Prelude.{IsDamagedBeside, IsMergeDone}
-use Rattle.vm_tree_round.proofs.Deleting.{needed-inside}
-use Rattle.vm_tree_round.specs.Rounds.{IsDamagedForDel, IsDelRound, IsNeededByDel}
+use Rattle.vm_tree_retry.proofs.from_vm_tree_round.Deleting.{needed-inside}
+use Rattle.vm_tree_retry.specs.from_vm_tree_round.Rounds.{IsDamagedForDel, IsDelRound, IsNeededByDel}
 use Rattle.vm_tree_retry.specs.Waiting.{IsDelReplied, IsPutFaulted}
-use Rattle.vm_tree_round.specs.Rounds.{IsPutFault, IsPutFault as put_fault, IsPutRound, IsWriteFault, IsWriteFault as write_fault}
-use Rattle.vm_tree_round.specs.Rounds.{IsWriteRound}
+use Rattle.vm_tree_retry.specs.from_vm_tree_round.Rounds.{IsPutFault, IsPutFault as put_fault, IsPutRound, IsWriteFault, IsWriteFault as write_fault}
+use Rattle.vm_tree_retry.specs.from_vm_tree_round.Rounds.{IsWriteRound}
 use Rattle.vm_tree_retry.specs.Waiting.{IsWriteFaulted, IsWriteReplied}
 use Rattle.vm_tree_retry.specs.Prelude.{HasKeyIn, IsDelAlone, HasValueIn, IsVain, IsWornLeaf, IsWriteDone}
 use Rattle.vm_calls.specs.{Calls.KeepsPass, Causes.IsUntold, Shows.IsReplyShown, TreeCalls.as_said, TreeCalls.IsTreeCall}

@@ -21,7 +21,7 @@ use Rattle.vm_tree_range.specs.from_vm_tree_read.Waiting.{NamesFault}
 use Rattle.vm_tree_retry.specs.from_vm_tree_split.Prepares.{IsDeniedAt, IsLockDenied, IsLockedMeanwhile, IsNotLocked, IsRefusedPages}
 use Rattle.vm_tree_retry.specs.from_vm_tree_split.Prepares.{IsUntaken, IsUntaken as untaken}
 use Rattle.vm_tree_retry.specs.from_vm_tree_split.Tries.{IsEnded, IsEnded as ends, IsUnsplit, IsUnsplit as unsplit}
-use Rattle.vm_tree_round.specs.Rounds.{IsRoomFault, IsRoomFault as rooms}
+use Rattle.vm_tree_retry.specs.from_vm_tree_round.Rounds.{IsRoomFault, IsRoomFault as rooms}
 use Rattle.vm_tree_retry.specs.from_vm_tree_split.declared_tries_TrySplit_TheVariants as splits
 use Rattle.vm_tree_range.proofs.from_vm_tree_rule.Readings.{each-behind}
 use Rattle.vm_tree_retry.proofs.from_vm_tree_split.{Roomy.roomy-start, Seeing.sees-few, Seeing.sees-room}

@@ -11,9 +11,9 @@ use Rattle.vm_tree_range.specs.from_vm_tree_read.Reads.{IsOfKind}
 use Rattle.vm_tree_range.specs.from_vm_tree_read.Waiting.{IsFaulted, IsReplied, Waits}
 use Rattle.vm_tree_range.specs.Ranges.{IsRangeFaulted, IsRangeReplied}
 use Rattle.vm_tree_retry.specs.from_vm_tree_split.Splits.{KeepsLocksOnly}
-use Rattle.vm_tree_round.specs.Rounds.{IsDamagedForDel, IsDelRound, IsNeededByDel, IsPutRound}
+use Rattle.vm_tree_retry.specs.from_vm_tree_round.Rounds.{IsDamagedForDel, IsDelRound, IsNeededByDel, IsPutRound}
 use Rattle.vm_tree_retry.specs.Waiting.{IsDelReplied, IsPutFaulted}
-use Rattle.vm_tree_round.specs.Rounds.{IsWriteRound}
+use Rattle.vm_tree_retry.specs.from_vm_tree_round.Rounds.{IsWriteRound}
 use Rattle.vm_tree_retry.specs.Waiting.{IsWriteFaulted, IsWriteReplied}
 use Rattle.vm_tree_retry.specs.Prelude.{HasKeyIn, HasValueIn}
 

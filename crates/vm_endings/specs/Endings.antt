@@ -14,7 +14,7 @@ use Rattle.vm_endings.specs.Commands.{Cut, order_of, ToldCommand}
 use Rattle.vm_endings.specs.Deliveries.{Content, IsDelivered, line, WentOut}
 
 abbrev pub usage_text : List ℕ
-usage_text = codes "usage: vmcache run, make, check, churn, replay, migrate, serve" ++ 10 ∷ []
+usage_text = codes "usage: vmcache run, make, check, churn, replay, migrate, serve, make-bytes" ++ 10 ∷ []
 
 -- what a command did that nothing stopped
 pub data Performs (command : Command) (outside : Outside) (left : Remains) (content : Content) (before after : Ends) : Type 0 where

@@ -15,9 +15,9 @@ use Rattle.vm_tree_retry.specs.from_vm_tree_read.Reads.{IsOfKind}
 use Rattle.vm_tree_retry.specs.from_vm_tree_read.Waiting.{HasRounds, IsFaulted, IsReplied, IsRound, rounds_in, Waits}
 use Rattle.vm_tree_retry.specs.from_vm_tree_split.Splits.{KeepsLocksOnly}
 use Rattle.vm_tree_retry.specs.Prelude.{HasKeyIn, HasValueIn}
-use Rattle.vm_tree_round.specs.Rounds.{IsDamagedForDel, IsDelRound, IsNeededByDel, IsPutRound}
+use Rattle.vm_tree_retry.specs.from_vm_tree_round.Rounds.{IsDamagedForDel, IsDelRound, IsNeededByDel, IsPutRound}
 use Rattle.vm_tree_retry.specs.Waiting.{IsDelReplied, IsPutFaulted}
-use Rattle.vm_tree_round.specs.Rounds.{IsWriteRound}
+use Rattle.vm_tree_retry.specs.from_vm_tree_round.Rounds.{IsWriteRound}
 use Rattle.vm_tree_retry.specs.Waiting.{IsWriteFaulted, IsWriteReplied}
 use Rattle.vm_serve.specs.from_vm_calls.{Calls.KeepsPass, TreeCalls.as_said}
 use Rattle.vm_serve.proofs.from_vm_calls.{Answering.tree-called, Keeping.all-pass, Keeping.waits-pass}

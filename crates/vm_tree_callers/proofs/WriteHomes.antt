@@ -8,12 +8,12 @@ use Rattle.vm_tree_retry.specs.from_vm_tree_read.Waiting.{Waits}
 use Rattle.vm_tree_retry.specs.from_vm_tree_split.{Splits.KeepsLocksOnly}
 use Rattle.vm_tree_retry.specs.from_vm_tree_write.{declared_write_TryWrite.TryWrite}
 use Rattle.vm_tree_retry.specs.from_vm_tree_write.declared_write_TryWrite_TheVariants as writes
-use Rattle.vm_tree_round.specs.Rounds.{IsDamagedForDel, IsDelRound, IsNeededByDel, IsPutRound}
+use Rattle.vm_tree_retry.specs.from_vm_tree_round.Rounds.{IsDamagedForDel, IsDelRound, IsNeededByDel, IsPutRound}
 use Rattle.vm_tree_retry.specs.Waiting.{IsDelReplied, IsPutFaulted}
-use Rattle.vm_tree_round.specs.Rounds.{IsWriteRound}
+use Rattle.vm_tree_retry.specs.from_vm_tree_round.Rounds.{IsWriteRound}
 use Rattle.vm_tree_retry.specs.Waiting.{IsWriteFaulted, IsWriteReplied}
 use Rattle.vm_tree_retry.specs.from_vm_tree_write.Writes.{HasKeyIn, IsDel, IsPut, IsSwap, OnlyWrites}
-use Rattle.vm_tree_round.proofs.Deleting.{again-frames, again-keeps, answer-frames}
+use Rattle.vm_tree_retry.proofs.from_vm_tree_round.Deleting.{again-frames, again-keeps, answer-frames}
 use Rattle.vm_tree_retry.proofs.Deleting.{answer-out}
 use Rattle.vm_tree_callers.proofs.Homes.{of-reads, Rests}
 

@@ -3,19 +3,19 @@ use Rattle.std.proofs.Common.{[], ⊎_elim, ◌++◌, ◌<◌, ◌∙◌, ◌∷
 use Rattle.vm_map.specs.declared.call.Call.TheVariants.{Del}
 use Rattle.vm_map.specs.{declared.call.Reply.Reply, declared.call.Said.Said}
 use Rattle.vm_tree_model.specs.{Layout.Layout, Tree.map_of}
-use Rattle.vm_tree_write.specs.from_vm_rule.Prelude.{Entry, entry_of, IsLocking, seat_of, StartsWith}
-use Rattle.vm_tree_write.proofs.from_vm_rule.Entries.{append-none}
-use Rattle.vm_tree_write.specs.from_vm_step.Prelude.{HoldsPage, KnowsAsBefore, Origin, View}
-use Rattle.vm_tree_write.proofs.from_vm_step.Asides.{holds-then, knows-then, still-locking}
+use Rattle.vm_tree_round.specs.from_vm_rule.Prelude.{Entry, entry_of, IsLocking, seat_of, StartsWith}
+use Rattle.vm_tree_round.proofs.from_vm_rule.Entries.{append-none}
+use Rattle.vm_tree_round.specs.from_vm_step.Prelude.{HoldsPage, KnowsAsBefore, Origin, View}
+use Rattle.vm_tree_round.proofs.from_vm_step.Asides.{holds-then, knows-then, still-locking}
 use Rattle.vm_tree_laws.specs.{History.IsLegal, Plain.plain_history}
-use Rattle.vm_tree_write.specs.from_vm_tree_read.{Reads.GainsEntry, Reads.IsAnswered, Waiting.AreRounds}
-use Rattle.vm_tree_write.specs.from_vm_tree_read.{Waiting.HasRounds, Waiting.rounds_in}
-use Rattle.vm_tree_write.specs.from_vm_tree_split.Splits.{KeepsLocksOnly}
-use Rattle.vm_tree_write.specs.Prelude.{IsMergeDone}
-use Rattle.vm_tree_write.specs.declared.write.TryWrite.TheVariants as tries
+use Rattle.vm_tree_round.specs.from_vm_tree_read.{Reads.GainsEntry, Reads.IsAnswered, Waiting.AreRounds}
+use Rattle.vm_tree_round.specs.from_vm_tree_read.{Waiting.HasRounds, Waiting.rounds_in}
+use Rattle.vm_tree_round.specs.from_vm_tree_split.Splits.{KeepsLocksOnly}
+use Rattle.vm_tree_round.specs.from_vm_tree_write.Prelude.{IsMergeDone}
+use Rattle.vm_tree_round.specs.from_vm_tree_write.declared_write_TryWrite_TheVariants as tries
 use Rattle.vm_tree_round.specs.Rounds.{IsDelRound}
 use Rattle.vm_tree_retry.specs.Waiting.{IsDelReplied}
-use Rattle.vm_tree_write.specs.Writes.{IsDel, IsDelAlone, IsVain, IsWriteDone}
+use Rattle.vm_tree_round.specs.from_vm_tree_write.Writes.{IsDel, IsDelAlone, IsVain, IsWriteDone}
 use Rattle.vm_tree_retry.proofs.Lasting.{keeps-last, Lasts, mine-from, reads-last, seen-from}
 
 module _ {S : Type 0} (plain : S → Said) (L : Layout) where

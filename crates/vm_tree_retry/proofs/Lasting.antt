@@ -2,18 +2,18 @@
 use Rattle.std.proofs.Common.{[], ⊎_elim, ◌++◌, ◌<◌, ◌∙◌, ◌∷◌, ◌≡◌, ◌⊎◌, ap, append_assoc, List, subst, sym, true, ℕ}
 use Rattle.vm_map.specs.declared.call.Said.{Said}
 use Rattle.vm_tree_model.specs.{Layout.Layout, Tree.map_of}
-use Rattle.vm_tree_write.specs.from_vm_rule.Prelude.{Entry, entry_of, IsLocking, seat_of, StartsWith}
-use Rattle.vm_tree_write.specs.from_vm_step.Prelude.{HoldsPage, KnowsAsBefore, Origin, View}
-use Rattle.vm_tree_write.proofs.from_vm_step.Asides.{holds-then, knows-then, still-locking}
-use Rattle.vm_tree_write.proofs.from_vm_rule.Entries.{append-none}
+use Rattle.vm_tree_round.specs.from_vm_rule.Prelude.{Entry, entry_of, IsLocking, seat_of, StartsWith}
+use Rattle.vm_tree_round.specs.from_vm_step.Prelude.{HoldsPage, KnowsAsBefore, Origin, View}
+use Rattle.vm_tree_round.proofs.from_vm_step.Asides.{holds-then, knows-then, still-locking}
+use Rattle.vm_tree_round.proofs.from_vm_rule.Entries.{append-none}
 use Rattle.vm_tree_laws.specs.{History.IsLegal, Plain.plain_history}
-use Rattle.vm_tree_write.specs.from_vm_tree_rule.Leaves.{ReadsOn}
-use Rattle.vm_tree_write.specs.from_vm_tree_read.{Reads.GainsEntry, Reads.IsAnswered, Reads.key_of}
-use Rattle.vm_tree_write.specs.from_vm_tree_read.{Waiting.AreRounds, Waiting.HasRounds, Waiting.rounds_in, Waiting.Waits}
-use Rattle.vm_tree_write.specs.from_vm_tree_split.{Splits.KeepsLocksOnly}
-use Rattle.vm_tree_write.specs.{Writes.IsVain, Writes.IsWriteDone}
+use Rattle.vm_tree_round.specs.from_vm_tree_rule.Leaves.{ReadsOn}
+use Rattle.vm_tree_round.specs.from_vm_tree_read.{Reads.GainsEntry, Reads.IsAnswered, Reads.key_of}
+use Rattle.vm_tree_round.specs.from_vm_tree_read.{Waiting.AreRounds, Waiting.HasRounds, Waiting.rounds_in, Waiting.Waits}
+use Rattle.vm_tree_round.specs.from_vm_tree_split.{Splits.KeepsLocksOnly}
+use Rattle.vm_tree_round.specs.from_vm_tree_write.{Writes.IsVain, Writes.IsWriteDone}
 use Rattle.vm_tree_retry.specs.Waiting.{IsWriteReplied}
-use Rattle.vm_tree_write.proofs.from_vm_tree_split.{Framing.entry-same}
+use Rattle.vm_tree_round.proofs.from_vm_tree_split.{Framing.entry-same}
 
 module _ {S : Type 0} (plain : S → Said) (L : Layout) where
   -- what both kinds of answers have

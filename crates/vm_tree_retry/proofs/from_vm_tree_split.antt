@@ -1,3 +1,3 @@
 -- Lemmas of vm_tree_split that the crates above name through this one.
-pub use Rattle.vm_tree_write.proofs.from_vm_tree_split.Roomy
-pub use Rattle.vm_tree_write.proofs.from_vm_tree_split.Seeing
+pub use Rattle.vm_tree_round.proofs.from_vm_tree_split.Roomy
+pub use Rattle.vm_tree_round.proofs.from_vm_tree_split.Seeing

@@ -1,0 +1,1 @@
+pub mod from_vm_tree_round

@@ -3,15 +3,15 @@
 use Rattle.std.specs.Prelude.{[], ◌++◌, ◌∷◌, ◌≡◌, ◌⊎◌, List, true, ℕ}
 use Rattle.vm_map.specs.{declared.call.Call.TheVariants.Del, declared.call.Reply.Reply, declared.call.Said.Said}
 use Rattle.vm_tree_model.specs.{Layout.Layout, Tree.map_of}
-use Rattle.vm_tree_write.specs.from_vm_rule.Prelude.{Entry, entry_of, IsLocking, seat_of, StartsWith}
-use Rattle.vm_tree_write.specs.from_vm_step.Prelude.{HoldsPage, KnowsAsBefore, View}
+use Rattle.vm_tree_round.specs.from_vm_rule.Prelude.{Entry, entry_of, IsLocking, seat_of, StartsWith}
+use Rattle.vm_tree_round.specs.from_vm_step.Prelude.{HoldsPage, KnowsAsBefore, View}
 use Rattle.vm_tree_laws.specs.{History.IsLegal, Plain.plain_history}
-use Rattle.vm_tree_write.specs.from_vm_tree_rule.{declared_fault_TreeFault.TreeFault}
-use Rattle.vm_tree_write.specs.from_vm_tree_read.Reads.{GainsEntry, IsAnswered, key_of}
-use Rattle.vm_tree_write.specs.from_vm_tree_read.Waiting.{AreRounds}
-use Rattle.vm_tree_write.specs.from_vm_tree_split.{Splits.KeepsLocksOnly}
-use Rattle.vm_tree_write.specs.declared.write.TryWrite.TheVariants as tries
-use Rattle.vm_tree_write.specs.Writes.{IsDel, IsVain, IsWriteDone}
+use Rattle.vm_tree_round.specs.from_vm_tree_rule.{declared_fault_TreeFault.TreeFault}
+use Rattle.vm_tree_round.specs.from_vm_tree_read.Reads.{GainsEntry, IsAnswered, key_of}
+use Rattle.vm_tree_round.specs.from_vm_tree_read.Waiting.{AreRounds}
+use Rattle.vm_tree_round.specs.from_vm_tree_split.{Splits.KeepsLocksOnly}
+use Rattle.vm_tree_round.specs.from_vm_tree_write.declared_write_TryWrite_TheVariants as tries
+use Rattle.vm_tree_round.specs.from_vm_tree_write.Writes.{IsDel, IsVain, IsWriteDone}
 
 module _ {S : Type 0} (plain : S → Said) (L : Layout) where
   -- The last try was answered, by a write or by a read that shows that there is nothing to write; what was done

@@ -1,12 +1,12 @@
 // The writes that wait: one round after another (see `round`) until one is answered, and a rest where others came before.
 ghost use Rattle.std.specs.Prelude.{◌≡◌, ◌≤◌, IfErr, IfOk, None};
 ghost use Rattle.vm_map.specs.declared.call.Call.TheVariants.{Del, Put, Swap as ForSwap};
-ghost use Rattle.vm_tree_write.specs.from_vm_step.Prelude.{AreHeld, GoesOn, IsReadyOn, view};
-ghost use Rattle.vm_tree_write.specs.from_vm_tree_read.Reads.{IsOfKind};
-ghost use Rattle.vm_tree_write.specs.from_vm_tree_read.Waiting.{LosesNone, Waits};
-ghost use Rattle.vm_tree_write.specs.from_vm_tree_rule.Turns.{IsDamaged, IsNeeded};
-ghost use Rattle.vm_tree_write.specs.from_vm_tree_split.Splits.{KeepsLocksOnly};
-ghost use Rattle.vm_tree_write.specs.Writes.{HasKeyIn, HasValueIn};
+ghost use Rattle.vm_tree_round.specs.from_vm_step.Prelude.{AreHeld, GoesOn, IsReadyOn, view};
+ghost use Rattle.vm_tree_round.specs.from_vm_tree_read.Reads.{IsOfKind};
+ghost use Rattle.vm_tree_round.specs.from_vm_tree_read.Waiting.{LosesNone, Waits};
+ghost use Rattle.vm_tree_round.specs.from_vm_tree_rule.Turns.{IsDamaged, IsNeeded};
+ghost use Rattle.vm_tree_round.specs.from_vm_tree_split.Splits.{KeepsLocksOnly};
+ghost use Rattle.vm_tree_round.specs.from_vm_tree_write.Writes.{HasKeyIn, HasValueIn};
 ghost use Rattle.vm_tree_round.specs.Rounds.{IsDamagedForDel, IsDelRound, IsNeededByDel, IsPutRound, IsWriteRound};
 ghost use Rattle.vm_tree_retry.specs.Waiting.{IsDelReplied, IsPutFaulted, IsWriteFaulted, IsWriteReplied};
 
@@ -14,13 +14,13 @@ use crossbeam_utils::Backoff;
 use std::sync::Wait;
 use vm_block::PageBlock;
 use vm_map::call::{Reply, Swap};
+use vm_tree_round::exmap::Interface;
+use vm_tree_round::kind::{Edits, Merges, TreeOf};
+use vm_tree_round::pool::Pool;
+use vm_tree_round::rule::Pass;
+use vm_tree_round::tree_read::Round;
+use vm_tree_round::tree_rule::TreeFault;
 use vm_tree_round::{del_round, put_round, swap_round};
-use vm_tree_write::exmap::Interface;
-use vm_tree_write::kind::{Edits, Merges, TreeOf};
-use vm_tree_write::pool::Pool;
-use vm_tree_write::rule::Pass;
-use vm_tree_write::tree_read::Round;
-use vm_tree_write::tree_rule::TreeFault;
 
 /// Takes the pair of the key out.
 pub fn del<K: Merges, R: Wait, B: PageBlock<N>, const N: usize>(

@@ -5,10 +5,10 @@
 use std::env;
 use std::io::ErrorKind;
 use std::process::ExitCode;
+use vm_cli::drive::NoGate;
 use vm_cli::ends::Ends;
 use vm_cli::run::run;
 use vm_device::FileDevices;
-use vm_drive::gate::NoGate;
 use vm_io::system::StdHost;
 use vm_page::WORDS;
 

@@ -1,9 +1,9 @@
 use Rattle.std.proofs.Common.{◌∙◌, rules}
-use Rattle.vm_tree_write.specs.from_vm_step.Prelude.{view}
-use Rattle.vm_tree_write.specs.from_vm_tree_read.Waiting.{AreRounds as rounds}
-use Rattle.vm_tree_write.proofs.from_vm_tree_read.Losing.{loses-then}
-use Rattle.vm_tree_write.proofs.from_vm_tree_read.Rounds.{tried-none, tried-round}
-use Rattle.vm_tree_write.proofs.from_vm_tree_split.Framing.{keeps-self, keeps-then}
+use Rattle.vm_tree_round.specs.from_vm_step.Prelude.{view}
+use Rattle.vm_tree_round.specs.from_vm_tree_read.Waiting.{AreRounds as rounds}
+use Rattle.vm_tree_round.proofs.from_vm_tree_read.Losing.{loses-then}
+use Rattle.vm_tree_round.proofs.from_vm_tree_read.Rounds.{tried-none, tried-round}
+use Rattle.vm_tree_round.proofs.from_vm_tree_split.Framing.{keeps-self, keeps-then}
 use Rattle.vm_tree_retry.proofs.Deleting.{del-replied}
 use Rattle.vm_tree_retry.proofs.waiting.del.Goals as goal
 

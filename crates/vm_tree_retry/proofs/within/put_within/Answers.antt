@@ -1,10 +1,10 @@
 use Rattle.std.proofs.Common.{◌<◌, ◌∙◌, arith, inl, rules, subst, sym}
-use Rattle.vm_tree_write.specs.from_vm_step.Prelude.{view}
-use Rattle.vm_tree_write.specs.from_vm_tree_read.Waiting.{HasRounds}
-use Rattle.vm_tree_write.proofs.from_vm_tree_read.Losing.{loses-then}
-use Rattle.vm_tree_write.proofs.from_vm_tree_read.Rounds.{has-further, has-none, tried-none, tried-round}
-use Rattle.vm_tree_write.specs.from_vm_tree_split.Splits.{KeepsLocksOnly}
-use Rattle.vm_tree_write.proofs.from_vm_tree_split.Framing.{keeps-self, keeps-then}
+use Rattle.vm_tree_round.specs.from_vm_step.Prelude.{view}
+use Rattle.vm_tree_round.specs.from_vm_tree_read.Waiting.{HasRounds}
+use Rattle.vm_tree_round.proofs.from_vm_tree_read.Losing.{loses-then}
+use Rattle.vm_tree_round.proofs.from_vm_tree_read.Rounds.{has-further, has-none, tried-none, tried-round}
+use Rattle.vm_tree_round.specs.from_vm_tree_split.Splits.{KeepsLocksOnly}
+use Rattle.vm_tree_round.proofs.from_vm_tree_split.Framing.{keeps-self, keeps-then}
 use Rattle.vm_tree_round.specs.Rounds.{IsPutRound}
 use Rattle.vm_tree_retry.proofs.Lasting.{keeps-last, replied-within}
 use Rattle.vm_tree_retry.proofs.within.put_within.Goals as goal

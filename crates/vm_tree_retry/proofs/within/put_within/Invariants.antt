@@ -1,7 +1,7 @@
-use Rattle.vm_tree_write.specs.from_vm_step.Prelude.{View}
-use Rattle.vm_tree_write.specs.from_vm_tree_read.Waiting.{HasRounds}
-use Rattle.vm_tree_write.proofs.from_vm_tree_read.Rounds.{HasTried}
-use Rattle.vm_tree_write.specs.from_vm_tree_split.Splits.{KeepsLocksOnly}
+use Rattle.vm_tree_round.specs.from_vm_step.Prelude.{View}
+use Rattle.vm_tree_round.specs.from_vm_tree_read.Waiting.{HasRounds}
+use Rattle.vm_tree_round.proofs.from_vm_tree_read.Rounds.{HasTried}
+use Rattle.vm_tree_round.specs.from_vm_tree_split.Splits.{KeepsLocksOnly}
 use Rattle.vm_tree_round.specs.Rounds.{IsPutRound}
 use Rattle.vm_tree_retry.proofs.within.put_within.Given as goal
 

@@ -2,11 +2,11 @@ use Rattle.std.proofs.Common.{◌<◌, ◌∙◌, arith, rules, subst, sym}
 use Rattle.vm_map.specs.declared.call.Call.TheVariants.{Swap}
 use Rattle.vm_map.specs.declared.call.Reply.TheVariants.{Swapped}
 use Rattle.vm_map.specs.declared.call.Swap.{Swap as Outcome}
-use Rattle.vm_tree_write.specs.from_vm_step.Prelude.{view}
-use Rattle.vm_tree_write.specs.from_vm_tree_read.Waiting.{HasRounds, rounds_in, Waits}
-use Rattle.vm_tree_write.proofs.from_vm_tree_read.Lasting.{waits-self, waits-then}
-use Rattle.vm_tree_write.proofs.from_vm_tree_read.Losing.{loses-then}
-use Rattle.vm_tree_write.proofs.from_vm_tree_read.Rounds.{has-further, has-none, tried-none, tried-round}
+use Rattle.vm_tree_round.specs.from_vm_step.Prelude.{view}
+use Rattle.vm_tree_round.specs.from_vm_tree_read.Waiting.{HasRounds, rounds_in, Waits}
+use Rattle.vm_tree_round.proofs.from_vm_tree_read.Lasting.{waits-self, waits-then}
+use Rattle.vm_tree_round.proofs.from_vm_tree_read.Losing.{loses-then}
+use Rattle.vm_tree_round.proofs.from_vm_tree_read.Rounds.{has-further, has-none, tried-none, tried-round}
 use Rattle.vm_tree_round.specs.Rounds.{IsWriteRound}
 use Rattle.vm_tree_retry.specs.Waiting.{IsWriteReplied}
 use Rattle.vm_tree_retry.proofs.Lasting.{replied-within, waits-last}

@@ -1,6 +1,6 @@
-use Rattle.vm_tree_write.specs.from_vm_step.Prelude.{View}
-use Rattle.vm_tree_write.specs.from_vm_tree_read.Waiting.{HasRounds, Waits}
-use Rattle.vm_tree_write.proofs.from_vm_tree_read.Rounds.{HasTried}
+use Rattle.vm_tree_round.specs.from_vm_step.Prelude.{View}
+use Rattle.vm_tree_round.specs.from_vm_tree_read.Waiting.{HasRounds, Waits}
+use Rattle.vm_tree_round.proofs.from_vm_tree_read.Rounds.{HasTried}
 use Rattle.vm_tree_round.specs.Rounds.{IsWriteRound}
 use Rattle.vm_tree_retry.proofs.within.swap_within.Given as goal
 

@@ -1,0 +1,2 @@
+-- Lemmas of vm_tree_round that the crates above name through this one.
+pub use Rattle.vm_tree_round.proofs.Deleting

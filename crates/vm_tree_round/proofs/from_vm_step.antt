@@ -1,0 +1,2 @@
+-- Lemmas of vm_step that the crates above name through this one.
+pub use Rattle.vm_tree_write.proofs.from_vm_step.Asides

@@ -1,0 +1,4 @@
+-- Lemmas of vm_tree_read that the crates above name through this one.
+pub use Rattle.vm_tree_write.proofs.from_vm_tree_read.Lasting
+pub use Rattle.vm_tree_write.proofs.from_vm_tree_read.Losing
+pub use Rattle.vm_tree_write.proofs.from_vm_tree_read.Rounds

@@ -1,0 +1,2 @@
+-- Definitions of vm_tree_join that the crates above name through this one.
+pub use Rattle.vm_tree_write.specs.from_vm_tree_join.Made
