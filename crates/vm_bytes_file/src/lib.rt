@@ -8,3 +8,4 @@ mod nodes;
 pub use empty::empty_image;
 pub use kind::is_key_file;
 pub use nodes::{KeyNodes, check_keys};
+pub use vm_bytes_node::window::KeyPair;

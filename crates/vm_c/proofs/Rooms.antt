@@ -9,7 +9,7 @@ use Rattle.vm_map.specs.declared.call.Reply.TheVariants.{Gone, Got, Many, Swappe
 use Rattle.vm_map.specs.declared.window.Bound.{Bound}
 use Rattle.vm_tree_model.specs.{Fixed.fixed, Fixed.fixed_node, Fixed.fixed_pairs, Fixed.places}
 use Rattle.vm_step.specs.Prelude.{Origin, View}
-use Rattle.vm_serve.specs.from_vm_tree_rule.declared_fault_TreeFault.{TreeFault}
+use Rattle.vm_face.specs.from_vm_tree_rule.declared_fault_TreeFault.{TreeFault}
 use Rattle.vm_tree_laws.specs.May.{IsProvedByAll, pairs_held}
 use Rattle.vm_face.specs.Calls.{IsHandCall}
 use Rattle.vm_c.specs.Shows.{FitsIn}

@@ -3,8 +3,8 @@ use Rattle.std.specs.Prelude.{Err, None, Ok, Option, Result, Some, ℕ}
 use Rattle.vm_map.specs.declared.call.{Reply.Reply}
 use Rattle.vm_map.specs.declared.call.Reply.TheVariants.{Gone, Got, Many, Swapped, Was, Wide, Win}
 use Rattle.vm_map.specs.declared.call.Swap.TheVariants as swaps
-use Rattle.vm_serve.specs.from_vm_tree_rule.declared_fault_TreeFault.{TreeFault}
-use Rattle.vm_serve.specs.from_vm_tree_rule.declared_fault_TreeFault_TheVariants as faults
+use Rattle.vm_face.specs.from_vm_tree_rule.declared_fault_TreeFault.{TreeFault}
+use Rattle.vm_face.specs.from_vm_tree_rule.declared_fault_TreeFault_TheVariants as faults
 use Rattle.vm_face.specs.declared.store.NoHand.{NoHand}
 use Rattle.vm_face.specs.declared.store.NoHand.TheVariants as hands
 use Rattle.vm_face.specs.declared.image.Opening.{Opening}

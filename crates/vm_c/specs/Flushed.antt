@@ -2,8 +2,8 @@
 use Rattle.std.specs.Prelude.{◌≡◌}
 use Rattle.std.specs.Arc.{arc_value}
 use Rattle.vm_step.specs.Prelude.{view}
-use Rattle.vm_evict.specs.declared.flushing.Flushed.{Flushed}
-use Rattle.vm_evict.specs.Flushes.{IsFlushed}
+use Rattle.vm_face.specs.from_vm_evict.declared_flushing_Flushed.{Flushed}
+use Rattle.vm_face.specs.from_vm_evict.Flushes.{IsFlushed}
 use Rattle.vm_c.specs.{declared.flushing.FlushTold.FlushTold, declared.opened.OpenStore.OpenStore}
 
 -- The store's dirty pages were written but for those that somebody had locked, as is told: how many were, how many writes failed, how many pages

@@ -6,7 +6,7 @@ use Rattle.vm_map.specs.declared.call.Call.TheVariants.{Range, Window}
 use Rattle.vm_map.specs.declared.call.Reply.TheVariants.{Gone, Got, Many, Swapped, Was, Wide, Win}
 use Rattle.vm_map.specs.declared.window.Bound.{Bound}
 use Rattle.vm_map.specs.declared.window.Bound.TheVariants.{End, Key}
-use Rattle.vm_serve.specs.from_vm_tree_rule.declared_fault_TreeFault.{TreeFault}
+use Rattle.vm_face.specs.from_vm_tree_rule.declared_fault_TreeFault.{TreeFault}
 use Rattle.vm_c.specs.{declared.answers.CallTold.CallTold, declared.opened.OpenHand.OpenHand, Told.HasAnswered}
 use Rattle.vm_c.specs.declared.showing.{KeyValue.KeyValue, ShownPairs.ShownPairs}
 

@@ -3,9 +3,9 @@
 ghost use Rattle.std.specs.Prelude.{◌≡◌};
 ghost use Rattle.vm_c.specs.Answers.{answer_for, page_telling, refusal_for, refused_hand, value_telling};
 
+use vm_face::tree_rule::TreeFault;
 use vm_face::{NoHand, Opening};
 use vm_map::call::{Reply, Swap};
-use vm_serve::tree_rule::TreeFault;
 
 pub const OK: u32 = 0;
 /// The rounds were used up.

@@ -7,9 +7,9 @@ ghost use Rattle.vm_c.specs.{Closed.IsClosedInto, Closed.IsUnclosed, declared.op
 use crate::opened::OpenStore;
 use std::alloc::{AllocFailed, Global};
 use vm_block::MemBlock;
+use vm_face::kind::{TreeOf, Words64};
 use vm_face::{Closing, Summary};
 use vm_image::{Memory, image_of};
-use vm_serve::kind::{TreeOf, Words64};
 
 /// What was counted of all pages' blocks, and how many pages' last words are not in the image.
 #[repr(C)]

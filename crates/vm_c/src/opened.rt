@@ -3,8 +3,8 @@
 ghost use Rattle.std.specs.Prelude.{◌≡◌};
 
 use vm_block::{MemBlock, PageBlock};
+use vm_face::kind::{OfSize, TreeOf, WordKeys, Words64};
 use vm_face::{Hand, TreeStore};
-use vm_serve::kind::{OfSize, TreeOf, WordKeys, Words64};
 
 /// A store of pages of 64 words.
 pub struct OpenStore {

@@ -8,10 +8,10 @@ ghost use Rattle.vm_c.specs.Shows.{HasShown, shown_for, Shows, ShowsReply};
 
 use crate::answers::{CallTold, answer_of};
 use crate::opened::OpenHand;
+use vm_face::tree_rule::TreeFault;
 use vm_map::call::{Pair, Reply};
 use vm_map::span::Span;
 use vm_map::window::Bound;
-use vm_serve::tree_rule::TreeFault;
 
 /// The most pairs of a range: those of sixteen leaves.
 pub const MOST_IN_RANGE: usize = 448;

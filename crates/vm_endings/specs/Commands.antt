@@ -5,13 +5,13 @@ use Rattle.vm_words.specs.{declared.Command.Command, declared.Run.Run, declared.
 use Rattle.vm_words.specs.declared.Command.TheVariants as commands
 use Rattle.vm_replay.specs.Told.{PlayedFile}
 use Rattle.vm_endings.specs.{Checks.ToldCheck, Churns.ToldChurn, declared.ends.Ends.Ends, Deliveries.Content}
-use Rattle.vm_endings.specs.{Files.HasFile, Makes.ToldMake, Migrates.ToldMigrate, Replays.PlayedReplay}
+use Rattle.vm_endings.specs.{Files.HasFile, Makes.ToldMake, MakesBytes.ToldMakeBytes, Migrates.ToldMigrate, Replays.PlayedReplay}
 use Rattle.vm_endings.specs.declared.stop.Quantity.TheVariants.{Fail, FirstVersion, Frames, Pages, Pairs, Words, Workers}
 use Rattle.vm_endings.specs.Limits.{are_entries, are_frames, are_pages, are_pairs_to_churn, are_pairs_to_make}
 use Rattle.vm_endings.specs.Limits.{are_words, are_workers, is_version, words_or}
 use Rattle.vm_endings.specs.{Outside.Outside, Outside.Remains, Runs.CutRun, Runs.ToldRun, Runs.version_or}
 use Rattle.vm_endings.specs.{Serves.CutServe, Serves.ToldServe}
-use Rattle.vm_endings.specs.Tests.{depth, events, image, room, script, space, stored, stored_depth, Test, within}
+use Rattle.vm_endings.specs.Tests.{any_image, depth, events, image, room, script, space, stored, stored_depth, Test, within}
 
 -- the numbers of a run
 abbrev pub limits_of : Run → List Test
@@ -35,7 +35,7 @@ order_of (commands.Make make) =
     ∷ within Words (are_words (words_or make.words))
     ∷ room (words_or make.words) make.pages make.pairs
     ∷ []
-order_of (commands.Check check) = image check.file.now ∷ []
+order_of (commands.Check check) = any_image check.file.now ∷ []
 order_of (commands.Churn churn) =
     within Pairs (are_pairs_to_churn churn.pairs)
     ∷ within Workers (are_workers churn.workers)
@@ -48,6 +48,7 @@ order_of (commands.Migrate migrate) =
 order_of (commands.Serve serve) =
     limits_to_serve serve
     ++ stored serve.file.now ∷ stored_depth serve.frames serve.file.now ∷ script serve.script.now serve.workers ∷ []
+order_of (commands.MakeBytes make) = within Pages (are_pages 512 make.pages) ∷ []
 
 -- what status 0 says of a command: what it gave, what remains outside, and what is kept in `after`
 abbrev pub ToldCommand : Command → Outside → Remains → Content → Ends → Ends → Type 0
@@ -58,6 +59,7 @@ ToldCommand (commands.Churn churn) outside left content before after = ToldChurn
 ToldCommand (commands.Replay replay) outside left content before after = PlayedReplay true replay outside.shown content × (after ≡ before)
 ToldCommand (commands.Migrate migrate) outside left content before after = ToldMigrate migrate outside.shown content × (after ≡ before)
 ToldCommand (commands.Serve serve) outside left content before after = ToldServe serve outside left content after
+ToldCommand (commands.MakeBytes make) outside left content before after = ToldMakeBytes make content × (after ≡ before)
 
 -- how else it may end, and with which status
 abbrev pub Cut : Command → Outside → Remains → Content → Ends → Ends → Type 0
@@ -69,6 +71,7 @@ Cut (commands.Replay replay) outside left content before after =
     (PlayedReplay false replay outside.shown content × (after ≡ before)) × (content.status ≡ 5)
 Cut (commands.Migrate migrate) outside left content before after = ⊥
 Cut (commands.Serve serve) outside left content before after = CutServe serve outside left content after × (content.status ≡ 7)
+Cut (commands.MakeBytes make) outside left content before after = ⊥
 
 -- nothing in what is asked for makes it end so: no failures of blocks are planned; every event is legal
 abbrev pub IsSmooth : Command → Outside → Type 0
@@ -79,3 +82,4 @@ IsSmooth (commands.Churn churn) outside = Unit {0}
 IsSmooth (commands.Replay replay) outside = HasFile outside.shown replay.file.now (λ bytes. (text : List ℕ) × PlayedFile bytes text true)
 IsSmooth (commands.Migrate migrate) outside = Unit {0}
 IsSmooth (commands.Serve serve) outside = Unit {0}
+IsSmooth (commands.MakeBytes make) outside = Unit {0}

@@ -18,10 +18,14 @@ pages_of_file bytes = pages_of_bytes (words_of_file bytes) bytes
 abbrev pub layout_of_file : List ℕ → Layout
 layout_of_file bytes = fixed (words_of_file bytes)
 
--- the bytes are a page file whose pages are a tree
-pub record IsTreeFile (bytes : List ℕ) : Type 0 where
-  pub file : IsPageFile (words_of_file bytes) bytes
-  pub tree : IsTree (layout_of_file bytes) (pages_of_file bytes)
+-- the bytes are a page file whose pages, read in this layout, are a tree
+pub record IsTreeIn (L : Layout) (bytes : List ℕ) : Type 0 where
+  pub file : IsPageFile L.words bytes
+  pub tree : IsTree L (pages_of_bytes L.words bytes)
+
+-- in the layout that their first bytes tell
+abbrev pub IsTreeFile : List ℕ → Type 0
+IsTreeFile bytes = IsTreeIn (layout_of_file bytes) bytes
 
 -- the bytes are a page file of these pages of n words, which are a tree
 pub record IsFileOf (n : ℕ) (pages : List (List ℕ)) (bytes : List ℕ) : Type 0 where
@@ -29,16 +33,22 @@ pub record IsFileOf (n : ℕ) (pages : List (List ℕ)) (bytes : List ℕ) : Typ
   pub good : IsTreeFile bytes
   pub held : pages_of_file bytes ≡ pages
 
--- the bytes are a page file whose pages are no tree, and this is the first reason
-pub record HoldsNoTree (bytes : List ℕ) (page why : ℕ) : Type 0 where
-  pub file : IsPageFile (words_of_file bytes) bytes
-  pub reason : reason (layout_of_file bytes) (pages_of_file bytes) ≡ Some (page, why)
-  pub none : ¬ (IsTree (layout_of_file bytes) (pages_of_file bytes))
+-- the bytes are a page file whose pages, read in this layout, are no tree, and this is the first reason
+pub record HoldsNoTreeIn (L : Layout) (bytes : List ℕ) (page why : ℕ) : Type 0 where
+  pub file : IsPageFile L.words bytes
+  pub reason : reason L (pages_of_bytes L.words bytes) ≡ Some (page, why)
+  pub none : ¬ (IsTree L (pages_of_bytes L.words bytes))
 
--- the bytes are no page file; of their number at most one more than a page file's most is told
-pub record IsWrongLength (bytes : List ℕ) (told : ℕ) : Type 0 where
-  pub none : ¬ (IsPageFile (words_of_file bytes) bytes)
+abbrev pub HoldsNoTree : List ℕ → (page why : ℕ) → Type 0
+HoldsNoTree bytes page why = HoldsNoTreeIn (layout_of_file bytes) bytes page why
+
+-- the bytes are no file of pages of this layout; of their number at most one more than a page file's most is told
+pub record IsWrongLengthIn (L : Layout) (bytes : List ℕ) (told : ℕ) : Type 0 where
+  pub none : ¬ (IsPageFile L.words bytes)
   pub len : told ≡ min (length bytes) 33554433
+
+abbrev pub IsWrongLength : List ℕ → ℕ → Type 0
+IsWrongLength bytes told = IsWrongLengthIn (layout_of_file bytes) bytes told
 
 -- the map that a page file holds
 abbrev pub file_map : List ℕ → Pairs

@@ -9,7 +9,8 @@ use Rattle.vm_endings.specs.declared.stop.Quantity.TheVariants.{Frames}
 use Rattle.vm_endings.specs.{declared.stop.Stop.Stop, Files.HasFile, Limits.holds_call}
 use Rattle.vm_endings.specs.declared.stop.Stop.TheVariants.{Length, Line, Long, Page, Shape, TooFew, Unread}
 use Rattle.vm_endings.specs.Held.{AreNoTree, HasFilePages, IsNoServedLength, IsServedTree}
-use Rattle.vm_endings.specs.Images.{file_height, file_map, HoldsNoTree, IsTreeFile, IsWrongLength, root_level}
+use Rattle.vm_endings.specs.Images.{file_height, file_map, HoldsNoTree, HoldsNoTreeIn, IsTreeFile, IsTreeIn, IsWrongLength, IsWrongLengthIn, root_level}
+use Rattle.vm_endings.specs.AnyFiles.{any_layout}
 use Rattle.vm_endings.specs.Outside.{Outside, Remains}
 use Rattle.vm_endings.specs.Scripts.{AreBadEvents, AreGoodEvents, IsBadScript, IsGoodScript, IsLong}
 
@@ -20,6 +21,8 @@ pub data Test : Type 0 where
   room : (words pages pairs : ℕ) → Test
   -- the file with this name is a page file whose pages are a tree
   image : List ℕ → Test
+  -- the file with this name is a page file whose pages are a tree, with byte keys where it begins as such a file
+  any_image : List ℕ → Test
   -- so many pages of 512 words are enough for the pairs of the tree in the file with this name
   space : ℕ → List ℕ → Test
   -- so many frames hold the pages of one call on the tree in the file with this name
@@ -37,6 +40,7 @@ abbrev pub Passes : Outside → Test → Type 0
 Passes outside (within quantity holds) = holds ≡ true
 Passes outside (room words pages pairs) = needed words pairs ≤ pages
 Passes outside (image name) = HasFile outside.shown name IsTreeFile
+Passes outside (any_image name) = HasFile outside.shown name (λ bytes. IsTreeIn (any_layout bytes) bytes)
 Passes outside (space pages name) = HasFile outside.shown name (λ bytes. needed 512 (length (file_map bytes)) ≤ pages)
 Passes outside (depth frames name) = HasFile outside.shown name (λ bytes. holds_call (file_height bytes) frames ≡ true)
 Passes outside (stored name) = HasFilePages outside name IsServedTree
@@ -63,6 +67,10 @@ Fails outside left (image name) (Unread unread) = IsUnread left name unread.now
 Fails outside left (image name) (Length told) = HasFile outside.shown name (λ bytes. IsWrongLength bytes told)
 Fails outside left (image name) (Page page why) = HasFile outside.shown name (λ bytes. HoldsNoTree bytes page why)
 Fails outside left (image name) _ = ⊥
+Fails outside left (any_image name) (Unread unread) = IsUnread left name unread.now
+Fails outside left (any_image name) (Length told) = HasFile outside.shown name (λ bytes. IsWrongLengthIn (any_layout bytes) bytes told)
+Fails outside left (any_image name) (Page page why) = HasFile outside.shown name (λ bytes. HoldsNoTreeIn (any_layout bytes) bytes page why)
+Fails outside left (any_image name) _ = ⊥
 Fails outside left (space pages name) (TooFew told wanted) =
     (told ≡ pages) × HasFile outside.shown name
     (λ bytes. (pages < needed 512 (length (file_map bytes))) × (wanted ≡ needed 512 (length (file_map bytes))))

@@ -6,6 +6,7 @@ pub mod churn;
 pub mod delivery;
 pub mod drive;
 pub mod ends;
+pub mod key_files;
 pub mod kind;
 pub mod limits;
 pub mod pool;

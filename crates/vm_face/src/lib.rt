@@ -7,6 +7,7 @@ pub mod home;
 pub mod image;
 pub mod kind;
 pub mod store;
+pub mod tree_rule;
 
 pub use hand::Hand;
 pub use image::{Opening, open_image};

@@ -12,7 +12,7 @@ use Rattle.vm_device.specs.Whole.{AreSynced, HaveBlocksWords, IsAfterSync, RoseO
 use Rattle.vm_image.specs.Reading.{AreRead, held_words}
 use Rattle.vm_rule.specs.Prelude.{no_block}
 use Rattle.vm_reading.specs.from_vm_drive.Drives.{items_of}
-use Rattle.vm_evict.specs.declared.flushing.Flushed.{Flushed}
+use Rattle.vm_reading.specs.from_vm_evict.declared_flushing_Flushed.{Flushed}
 use Rattle.vm_reading.specs.from_vm_pool.declared_ended_Ended.{Ended}
 use Rattle.vm_reading.specs.from_vm_tree_rule.declared_fault_TreeFault.{TreeFault}
 use Rattle.vm_reading.specs.from_vm_serve.Served.{is_first, IsServedOn}

@@ -13,11 +13,12 @@ use Rattle.vm_map.specs.History.{IsAskable}
 use Rattle.vm_script.specs.declared.script.Order.{Order}
 use Rattle.vm_script.specs.Scripts.{IsScriptCall, IsOrder, IsScript, calls_by, lists_of, most_lines}
 use Rattle.vm_endings.specs.Files.{HasFile}
-use Rattle.vm_image.specs.File.{IsPageFile, words_of_file}
+use Rattle.vm_page.specs.Sizes.{IsSize}
+use Rattle.vm_tree_model.specs.Layout.{Layout}
+use Rattle.vm_image.specs.File.{IsPageFile}
 use Rattle.vm_image.proofs.FileSizes.{bytes_few}
 use Rattle.vm_endings.specs.from_vm_drive.Drives.{AreAskable, AreFew}
-use Rattle.vm_endings.proofs.FileWords.{file_sized}
-use Rattle.vm_endings.specs.Images.{most_image, IsWrongLength}
+use Rattle.vm_endings.specs.Images.{most_image, IsWrongLengthIn}
 
 whole_bytes : (bytes found : List ℕ) (limit : ℕ) → found ≡ take (limit + 1) bytes → length found ≤ limit → found ≡ bytes
 whole_bytes bytes found limit e h = e ∙ take_all (limit + 1) bytes (omega (arith, ap length e, length-take (limit + 1) bytes))
@@ -34,34 +35,37 @@ pub long_file : (told : Option Shown) (name found : List ℕ) (limit : ℕ) → 
 long_file None name found limit w h = (found, h)
 long_file (Some shown) name found limit w h = (w.bytes, w.file, omega (arith, ap length w.front, length-take (limit + 1) w.bytes))
 
--- a page file has no more bytes than one may have
-file_few : (bytes : List ℕ) → IsPageFile (words_of_file bytes) bytes → length bytes ≤ most_image
-file_few bytes file = omega (arith, bytes_few (words_of_file bytes) (file_sized bytes) file.0 file.2, file.3)
+-- where a file's first bytes tell its layout, whose pages have 64 or 512 words
+module _ (layout : List ℕ → Layout) (sized : (bytes : List ℕ) → IsSize (layout bytes).words) where
+  -- a page file has no more bytes than one may have
+  file_few : (bytes : List ℕ) → IsPageFile (layout bytes).words bytes → length bytes ≤ most_image
+  file_few bytes file = omega (arith, bytes_few (layout bytes).words (sized bytes) file.0 file.2, file.3)
 
--- a page file that was read is the file
-pub page_file : (told : Option Shown) (name found : List ℕ) (P : List ℕ → Type 0)
-    → ReadsWhole told name most_image found → IsPageFile (words_of_file found) found → P found → HasFile told name P
-page_file told name found P w file p = short_file told name found most_image P w (file_few found file) p
+  -- a page file that was read is the file
+  pub page_file : (told : Option Shown) (name found : List ℕ) (P : List ℕ → Type 0)
+      → ReadsWhole told name most_image found → IsPageFile (layout found).words found → P found → HasFile told name P
+  page_file told name found P w file p = short_file told name found most_image P w (file_few found file) p
 
-short_length : (bytes found : List ℕ) (told : ℕ) → found ≡ take (most_image + 1) bytes → told ≡ length found
-    → ¬ (IsPageFile (words_of_file found) found) → (most_image < length found) ⊎ (length found ≤ most_image)
-    → IsWrongLength bytes told
-short_length bytes found told e t none (inr short) =
-    let same : found ≡ bytes = whole_bytes bytes found most_image e short in
-    let len : length found ≡ length bytes = ap length same in
-    record { none = λ file. none (subst (λ b. IsPageFile (words_of_file b) b) (sym same) file); len = omega arith }
-short_length bytes found told e t none (inl long) = record {
-  none = λ file. omega (arith, ap length e, length-take (most_image + 1) bytes, file_few bytes file);
-  len = omega (arith, ap length e, length-take (most_image + 1) bytes);
-}
+  short_length : (bytes found : List ℕ) (told : ℕ) → found ≡ take (most_image + 1) bytes → told ≡ length found
+      → ¬ (IsPageFile (layout found).words found) → (most_image < length found) ⊎ (length found ≤ most_image)
+      → IsWrongLengthIn (layout bytes) bytes told
+  short_length bytes found told e t none (inr short) =
+      let same : found ≡ bytes = whole_bytes bytes found most_image e short in
+      let len : length found ≡ length bytes = ap length same in
+      record { none = λ file. none (subst (λ b. IsPageFile (layout b).words b) (sym same) file); len = omega arith }
+  short_length bytes found told e t none (inl long) = record {
+    none = λ file. omega (arith, ap length e, length-take (most_image + 1) bytes, file_few bytes file);
+    len = omega (arith, ap length e, length-take (most_image + 1) bytes);
+  }
 
--- where what was read is no page file, the file is none, and its length is told up to one past a page file's most
-pub wrong_length : (told : Option Shown) (name found : List ℕ) (len : ℕ) → ReadsWhole told name most_image found
-    → len ≡ length found → ¬ (IsPageFile (words_of_file found) found)
-    → HasFile told name (λ bytes. IsWrongLength bytes len)
-wrong_length None name found len w e none = (w.0, short_length w.0 found len w.1 e none (cases_lt most_image (length found)))
-wrong_length (Some shown) name found len w e none =
-    (w.bytes, w.file, short_length w.bytes found len w.front e none (cases_lt most_image (length found)))
+  -- where what was read is no page file, the file is none, and its length is told up to one past a page file's most
+  pub wrong_length : (told : Option Shown) (name found : List ℕ) (len : ℕ) → ReadsWhole told name most_image found
+      → len ≡ length found → ¬ (IsPageFile (layout found).words found)
+      → HasFile told name (λ bytes. IsWrongLengthIn (layout bytes) bytes len)
+  wrong_length None name found len w e none =
+      (w.0, short_length w.0 found len w.1 e none (cases_lt most_image (length found)))
+  wrong_length (Some shown) name found len w e none =
+      (w.bytes, w.file, short_length w.bytes found len w.front e none (cases_lt most_image (length found)))
 
 length_filter : {X : Type 0} (p : X → Bool) (xs : List X) → length (filter p xs) ≤ length xs
 length_filter p [] = omega arith

@@ -1,10 +1,17 @@
 -- What was read of files, as what the files hold.
-use Rattle.std.proofs.Common.{ℕ, List, Result, Ok, Err, sym, subst, arith}
+use Rattle.std.proofs.Common.{ℕ, Bool, false, true, if◌then◌else◌, List, Result, Ok, Err, refl, sym, subst, arith}
 use Rattle.vm_io.specs.Loops.{ReadsWhole}
 use Rattle.vm_tree_model.specs.Fixed.{fixed}
 use Rattle.vm_image.specs.File.{IsPageFile, pages_of_bytes, words_of_file}
 use Rattle.vm_check.specs.Rows.{AreRows}
 use Rattle.vm_check.specs.declared.rows.Rows.{Rows}
+use Rattle.vm_page.specs.Sizes.{IsSize}
+use Rattle.vm_bytes_form.specs.Bytes.{bytes as keyed}
+use Rattle.vm_endings.specs.from_vm_bytes_file.KeyFiles.{is_key_file}
+use Rattle.vm_endings.specs.AnyFiles.{any_layout}
+use Rattle.vm_reading.specs.declared.any.AnyTree.{AnyTree}
+use Rattle.vm_reading.specs.declared.any.AnyTree.TheVariants.{Keys, Words}
+use Rattle.vm_reading.specs.AnyReadings.{IsAnyStored, ReadsAnyTree, TellsAnyTree}
 use Rattle.vm_reading.specs.declared.reading.ReadTree.{ReadTree}
 use Rattle.vm_reading.specs.declared.reading.StoredTree.{StoredTree}
 use Rattle.vm_reading.specs.declared.reading.StoredTree.TheVariants.{Words64, Words512}
@@ -12,12 +19,13 @@ use Rattle.vm_endings.specs.declared.stop.Stop.{Stop}
 use Rattle.vm_endings.specs.declared.stop.Stop.TheVariants.{Length, Page}
 use Rattle.vm_endings.specs.declared.undone.Undone.{Undone}
 use Rattle.vm_endings.specs.declared.undone.Undone.TheVariants.{Stopped, Memory}
+use Rattle.vm_endings.proofs.FileWords.{file_sized}
 use Rattle.vm_endings.specs.Endings.{HasReadCause}
 use Rattle.vm_endings.specs.Files.{HasFile}
-use Rattle.vm_endings.specs.Images.{HoldsNoTree, IsTreeFile, layout_of_file, most_image, pages_of_file}
+use Rattle.vm_endings.specs.Images.{HoldsNoTree, HoldsNoTreeIn, IsTreeFile, IsTreeIn, layout_of_file, most_image, pages_of_file}
 use Rattle.vm_endings.specs.{Outside.Outside, Outside.Remains}
-use Rattle.vm_endings.specs.Tests.{image, Passes}
-use Rattle.vm_reading.specs.Readings.{IsStoredIn, IsStoredTree, ReadsTree, TellsNoTree, TellsTree, rows_in}
+use Rattle.vm_endings.specs.Tests.{any_image, image, Passes}
+use Rattle.vm_reading.specs.Readings.{IsStoredIn, IsStoredTree, ReadsTree, TellsNoTree, TellsNoTreeIn, TellsTree, rows_in}
 use Rattle.vm_reading.proofs.Files.{has_file, page_file, wrong_length}
 
 -- the bytes are a page file whose pages are a tree with these rows
@@ -48,15 +56,15 @@ none-told : (outside : Outside) (left : Remains) (name found : List ℕ) (undone
     → ReadsWhole outside.shown name most_image found → TellsNoTree found undone
     → ReadsTree outside left name (Err undone)
 none-told outside left name found Memory w t = tt
-none-told outside left name found (Stopped (Length len)) w t = wrong_length outside.shown name found len w t.0 t.1
+none-told outside left name found (Stopped (Length len)) w t = wrong_length layout_of_file file_sized outside.shown name found len w t.0 t.1
 none-told outside left name found (Stopped (Page page why)) w t =
-    page_file outside.shown name found (λ bytes. HoldsNoTree bytes page why) w t.file t
+    page_file layout_of_file file_sized outside.shown name found (λ bytes. HoldsNoTree bytes page why) w t.file t
 none-told outside left name found (Stopped _) w t = absurd t
 
 pub tree-told : (outside : Outside) (left : Remains) (name found : List ℕ) (r : Result StoredTree (Undone Stop))
     → ReadsWhole outside.shown name most_image found → TellsTree found r → ReadsTree outside left name r
 tree-told outside left name found (Ok tree) w t =
-    page_file outside.shown name found (IsStoredTree tree) w (tree-rows tree found t).file t
+    page_file layout_of_file file_sized outside.shown name found (IsStoredTree tree) w (tree-rows tree found t).file t
 tree-told outside left name found (Err undone) w t = none-told outside left name found undone w t
 
 -- bytes that were read cause no fault of reading
@@ -70,3 +78,48 @@ none-cause found before now (Stopped _) t = absurd t
 pub tree-cause : (found : List ℕ) (before now : ℕ) (r : Result StoredTree (Undone Stop)) → TellsTree found r → HasReadCause before now r
 tree-cause found before now (Ok tree) t = tt
 tree-cause found before now (Err undone) t = none-cause found before now undone t
+
+-- ---- of any kind
+
+-- a file with byte keys has pages of 512 words
+any_sized : (bytes : List ℕ) → IsSize (any_layout bytes).words
+any_sized bytes = go (is_key_file bytes)
+  where
+    go : (b : Bool) → IsSize (if b then keyed else layout_of_file bytes).words
+    go true = refl
+    go false = file_sized bytes
+
+any-file : (tree : AnyTree) (bytes : List ℕ) → IsAnyStored tree bytes → IsTreeIn (any_layout bytes) bytes
+any-file (Words tree) bytes is =
+    subst (λ b. IsTreeIn (if b then keyed else layout_of_file bytes) bytes) (sym is.0) (rows-file (rows_in tree) bytes (tree-rows tree bytes is.1))
+any-file (Keys rows) bytes is =
+    subst (λ b. IsTreeIn (if b then keyed else layout_of_file bytes) bytes) (sym is.0) (record { file = is.1; tree = is.2.tree })
+
+-- a file that was read passes its test
+pub any-pass : (outside : Outside) (name : List ℕ) (tree : AnyTree) → HasFile outside.shown name (IsAnyStored tree)
+    → Passes outside (any_image name)
+any-pass outside name tree has =
+    has_file outside.shown name (IsAnyStored tree) (λ bytes. IsTreeIn (any_layout bytes) bytes) (any-file tree) has
+
+any-none : (outside : Outside) (left : Remains) (name found : List ℕ) (undone : Undone Stop)
+    → ReadsWhole outside.shown name most_image found → TellsNoTreeIn (any_layout found) found undone
+    → ReadsAnyTree outside left name (Err undone)
+any-none outside left name found Memory w t = tt
+any-none outside left name found (Stopped (Length len)) w t =
+    wrong_length any_layout any_sized outside.shown name found len w t.0 t.1
+any-none outside left name found (Stopped (Page page why)) w t =
+    page_file any_layout any_sized outside.shown name found (λ bytes. HoldsNoTreeIn (any_layout bytes) bytes page why) w t.file t
+any-none outside left name found (Stopped _) w t = absurd t
+
+pub any-told : (outside : Outside) (left : Remains) (name found : List ℕ) (r : Result AnyTree (Undone Stop))
+    → ReadsWhole outside.shown name most_image found → TellsAnyTree found r → ReadsAnyTree outside left name r
+any-told outside left name found (Ok tree) w t =
+    page_file any_layout any_sized outside.shown name found (IsAnyStored tree) w (any-file tree found t).file t
+any-told outside left name found (Err undone) w t = any-none outside left name found undone w t
+
+pub any-cause : (found : List ℕ) (before now : ℕ) (r : Result AnyTree (Undone Stop)) → TellsAnyTree found r → HasReadCause before now r
+any-cause found before now (Ok tree) t = tt
+any-cause found before now (Err Memory) t = tt
+any-cause found before now (Err (Stopped (Length len))) t = λ two. absurd (omega arith)
+any-cause found before now (Err (Stopped (Page page why))) t = λ two. absurd (omega arith)
+any-cause found before now (Err (Stopped _)) t = absurd t

@@ -1,6 +1,8 @@
+pub mod AnyReadings
 pub mod Readings
 pub mod from_vm_churn
 pub mod from_vm_drive
+pub mod from_vm_evict
 pub mod from_vm_endings
 pub mod from_vm_pool
 pub mod from_vm_serve

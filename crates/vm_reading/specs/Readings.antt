@@ -1,7 +1,7 @@
 -- What the readers of files answer.
 use Rattle.std.specs.Prelude.{ℕ, ◌≡◌, List, length, Result, Ok, Err}
 use Rattle.vm_map.specs.declared.call.Call.{Call}
-use Rattle.vm_tree_model.specs.Fixed.{fixed}
+use Rattle.vm_tree_model.specs.{Fixed.fixed, Layout.Layout}
 use Rattle.vm_image.specs.File.{IsPageFile, pages_of_bytes, words_of_file}
 use Rattle.vm_check.specs.Rows.{AreRows}
 use Rattle.vm_check.specs.declared.rows.Rows.{Rows}
@@ -14,7 +14,7 @@ use Rattle.vm_endings.specs.declared.undone.Undone.{Undone}
 use Rattle.vm_endings.specs.declared.undone.Undone.TheVariants.{Stopped, Memory}
 use Rattle.vm_endings.specs.Files.{HasFile}
 use Rattle.vm_endings.specs.Outside.{Outside, Remains}
-use Rattle.vm_endings.specs.Images.{HoldsNoTree}
+use Rattle.vm_endings.specs.Images.{HoldsNoTreeIn, layout_of_file}
 use Rattle.vm_endings.specs.Scripts.{IsScriptOf}
 use Rattle.vm_endings.specs.Tests.{Fails, image, script}
 
@@ -36,11 +36,14 @@ rows_in (Words64 stored) = stored.rows
 rows_in (Words512 stored) = stored.rows
 
 -- why the bytes give no tree: they are no page file, or its pages are none
+abbrev pub TellsNoTreeIn : Layout → List ℕ → Undone Stop → Type 0
+TellsNoTreeIn L bytes Memory = Unit {0}
+TellsNoTreeIn L bytes (Stopped (Length told)) = (told ≡ length bytes) × ¬ (IsPageFile L.words bytes)
+TellsNoTreeIn L bytes (Stopped (Page page why)) = HoldsNoTreeIn L bytes page why
+TellsNoTreeIn L bytes (Stopped _) = ⊥
+
 abbrev pub TellsNoTree : List ℕ → Undone Stop → Type 0
-TellsNoTree bytes Memory = Unit {0}
-TellsNoTree bytes (Stopped (Length told)) = (told ≡ length bytes) × ¬ (IsPageFile (words_of_file bytes) bytes)
-TellsNoTree bytes (Stopped (Page page why)) = HoldsNoTree bytes page why
-TellsNoTree bytes (Stopped _) = ⊥
+TellsNoTree bytes undone = TellsNoTreeIn (layout_of_file bytes) bytes undone
 
 -- what the bytes of a page file with pages of n words give
 abbrev pub TellsStored : (n : ℕ) → List ℕ → Result (ReadTree n) (Undone Stop) → Type 0

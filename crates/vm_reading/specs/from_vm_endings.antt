@@ -1,4 +1,6 @@
 -- Definitions of vm_endings that the crates above name through this one.
+pub use Rattle.vm_endings.specs.AnyFiles
+pub use Rattle.vm_endings.specs.MakesBytes
 pub use Rattle.vm_endings.specs.Checks
 pub use Rattle.vm_endings.specs.Churns
 pub use Rattle.vm_endings.specs.Commands

@@ -19,7 +19,7 @@ use vm_page::{LARGE, WORDS};
 use vm_script::script::{MOST_BYTES, ScriptFault, read_script};
 
 /// The greatest number of bytes of a page file: 65,536 pages of 64 words, or 8,192 of 512.
-const MOST_IMAGE: usize = 33_554_432;
+pub(crate) const MOST_IMAGE: usize = 33_554_432;
 
 /// A page file's pages of `N` words, and what the tree that they are holds.
 #[derive(Drop)]
@@ -71,7 +71,7 @@ fn stored_of<'a, const N: usize>(
 }
 
 // The tree that the bytes spell, whose first eight tell how many words a page has.
-fn tree_in<'a>(alloc: Global, bytes: &[u8]) -> Result<StoredTree, Undone<Stop<'a>>>
+pub(crate) fn tree_in<'a>(alloc: Global, bytes: &[u8]) -> Result<StoredTree, Undone<Stop<'a>>>
     ensures { TellsTree bytes.now result }
 {
     if file_words(bytes) == LARGE {

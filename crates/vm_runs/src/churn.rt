@@ -14,7 +14,6 @@ use std::thread::Threads;
 use vm_block::MemBlock;
 use vm_build::{needed, numbered_image};
 use vm_event::Memory;
-use vm_kind::{OfSize, Sizes, TreeOf, WordKeys};
 use vm_map::call::Pair;
 use vm_page::{LARGE, WORDS};
 use vm_reading::churn::{Tally, calls_of, sum_of, tallies_for, tally_all};
@@ -23,6 +22,7 @@ use vm_reading::endings::{
     Delivery, Ends, Quantity, Stop, Undone, are_frames, are_pairs_to_churn, are_words, are_workers,
     words_of,
 };
+use vm_reading::kind::{OfSize, Sizes, TreeOf, WordKeys};
 use vm_reading::reading::ReadTree;
 use vm_reading::serve::{ServedOn, serve_into};
 use vm_script::text::{Churned, churn_text};

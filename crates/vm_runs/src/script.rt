@@ -12,13 +12,13 @@ use std::alloc::{AllocError, Global};
 use std::sync::Wait;
 use std::thread::Threads;
 use vm_io::host::Host;
-use vm_kind::{OfSize, Sizes, TreeOf, WordKeys};
 use vm_page::{LARGE, WORDS};
 use vm_reading::drive::Gate;
 use vm_reading::endings::{
     Delivery, Ends, Quantity, Stop, Undone, are_entries, are_frames, are_workers, holds_call,
     is_version,
 };
+use vm_reading::kind::{OfSize, Sizes, TreeOf, WordKeys};
 use vm_reading::reading::{ReadTree, StoredTree, read_calls, read_tree};
 use vm_words::Run;
 

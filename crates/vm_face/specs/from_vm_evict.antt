@@ -1,0 +1,3 @@
+-- Definitions of vm_evict that the crates above name through this one.
+pub use Rattle.vm_serve.specs.from_vm_evict.declared_flushing_Flushed
+pub use Rattle.vm_serve.specs.from_vm_evict.Flushes
