@@ -5,7 +5,7 @@ use Rattle.vm_io.specs.Shown.{Shown}
 use Rattle.vm_io.specs.declared.host.GiveFaults.{GiveFaults}
 use Rattle.vm_device.specs.Devices.{DeviceState, size_of, words_at}
 use Rattle.vm_words.specs.declared.Command.{Command}
-use Rattle.vm_words.specs.declared.Command.TheVariants.{Run, Make, Check, Churn, Replay, Migrate, Serve}
+use Rattle.vm_words.specs.declared.Command.TheVariants.{Run, Make, Check, Churn, Replay, Migrate, Serve, MakeBytes}
 use Rattle.vm_words.specs.declared.Serve.{Serve as ServeLine}
 use Rattle.vm_words.specs.declared.form.FormVerb.{FormVerb}
 use Rattle.vm_words.specs.Commands.{IsCommand, line_of}
@@ -78,6 +78,7 @@ have_same words (Check check) a b shown is same = tt
 have_same words (Churn churn) a b shown is same = tt
 have_same words (Replay replay) a b shown is same = tt
 have_same words (Migrate migrate) a b shown is same = tt
+have_same words (MakeBytes make) a b shown is same = tt
 have_same words (Serve serve) a b shown is same = record {
   first = (same.tells (serve, is)).0;
   second = (same.tells (serve, is)).1;
@@ -91,6 +92,7 @@ same_back (Check check) a b same = tt
 same_back (Churn churn) a b same = tt
 same_back (Replay replay) a b same = tt
 same_back (Migrate migrate) a b same = tt
+same_back (MakeBytes make) a b same = tt
 same_back (Serve serve) a b same = held_back a b same
 
 module _ (shown : Shown) (a b : Outside) (left last : Remains) where
@@ -187,6 +189,7 @@ own_same (Check check) outside left fine = tt
 own_same (Churn churn) outside left fine = tt
 own_same (Replay replay) outside left fine = tt
 own_same (Migrate migrate) outside left fine = tt
+own_same (MakeBytes make) outside left fine = tt
 own_same (Serve serve) outside left fine = record { first = fine.0; second = fine.0; files = refl }
 
 valid_command : (shown : Shown) (a : Outside) (left : Remains) (c d : Command) (new : Option Shown) (before after : Ends)
@@ -238,6 +241,7 @@ read_by words (Check check) takes takes' outside left is cause = inl cause
 read_by words (Churn churn) takes takes' outside left is cause = inl cause
 read_by words (Replay replay) takes takes' outside left is cause = inl cause
 read_by words (Migrate migrate) takes takes' outside left is cause = inl cause
+read_by words (MakeBytes make) takes takes' outside left is cause = inl cause
 read_by words (Serve serve) takes takes' outside left is (inl cause) = inl cause
 read_by words (Serve serve) takes takes' outside left is (inr cause) = inr ((serve, is), cause)
 
@@ -270,3 +274,4 @@ used_by words (Check check) outside left is change = idle_use words outside left
 used_by words (Churn churn) outside left is change = idle_use words outside left change
 used_by words (Replay replay) outside left is change = idle_use words outside left change
 used_by words (Migrate migrate) outside left is change = idle_use words outside left change
+used_by words (MakeBytes make) outside left is change = idle_use words outside left change

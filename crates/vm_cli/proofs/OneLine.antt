@@ -11,7 +11,7 @@ use Rattle.vm_file_serve.proofs.from_vm_serve.Unplanned.{all_flushed}
 use Rattle.vm_replay.specs.Told.{PlayedFile}
 use Rattle.vm_replay.proofs.OnePlay.{one_played}
 use Rattle.vm_words.specs.declared.Command.{Command}
-use Rattle.vm_words.specs.declared.Command.TheVariants.{Run, Make, Check, Churn, Replay, Migrate, Serve}
+use Rattle.vm_words.specs.declared.Command.TheVariants.{Run, Make, Check, Churn, Replay, Migrate, Serve, MakeBytes}
 use Rattle.vm_words.specs.declared.Replay.{Replay as ReplayLine}
 use Rattle.vm_words.specs.declared.Run.{Run as RunLine}
 use Rattle.vm_words.specs.declared.Serve.{Serve as ServeLine}
@@ -126,6 +126,10 @@ same_order (Serve serve) (Serve other) e =
     let workers : serve.workers ≡ other.workers = cc in
     let frames : serve.frames ≡ other.frames = cc in
     cc (file, script, workers, frames)
+same_order (MakeBytes make) (MakeBytes other) e =
+    let says = ap (λ (l : FormVerb × List Meaning). l.1) e in
+    let pages : make.pages ≡ other.pages = cc in
+    cc (pages)
 same_order c d e = absurd (two_lines c d (λ v. absurd cc) e)
 
 few_workers : (workers : ℕ) → are_workers workers ≡ true → workers < 2 ^ 32
@@ -145,6 +149,7 @@ bounded shown a b (Check check) same = (tt, λ _. tt)
 bounded shown a b (Churn churn) same = (tt, λ _. (tt, λ _. (tt, λ _. (tt, λ _. tt))))
 bounded shown a b (Replay replay) same = (tt, λ _. tt)
 bounded shown a b (Migrate migrate) same = (tt, λ _. (tt, λ _. (tt, λ _. tt)))
+bounded shown a b (MakeBytes make) same = (tt, λ _. tt)
 bounded shown a b (Serve serve) same =
     (tt, λ few. (tt, λ _. (same, λ _. (same, λ _. (few_workers serve.workers few, λ _. tt)))))
 
@@ -191,6 +196,7 @@ cut_done shown a left (Make make) (Make other) content before after e smooth is 
 cut_done shown a left (Check check) (Check other) content before after e smooth is = absurd is
 cut_done shown a left (Churn churn) (Churn other) content before after e smooth is = absurd is
 cut_done shown a left (Migrate migrate) (Migrate other) content before after e smooth is = absurd is
+cut_done shown a left (MakeBytes make) (MakeBytes other) content before after e smooth is = absurd is
 cut_done shown a left (Replay replay) (Replay other) content before after e smooth is =
     absurd (played_apart shown other.file.now replay.file.now smooth.2.0 content.text (sym (same_file replay other e))
     (smooth.0, smooth.1, smooth.2.1) is.0.0.0)
@@ -205,6 +211,7 @@ done_status (Check check) status is = is
 done_status (Churn churn) status is = is
 done_status (Replay replay) status is = is
 done_status (Migrate migrate) status is = is
+done_status (MakeBytes make) status is = is
 done_status (Serve serve) status (inl zero) = inl zero
 done_status (Serve serve) status (inr six) = inr (inl six)
 
@@ -216,6 +223,7 @@ cut_not_done outside left (Make make) content before after is = absurd is
 cut_not_done outside left (Check check) content before after is = absurd is
 cut_not_done outside left (Churn churn) content before after is = absurd is
 cut_not_done outside left (Migrate migrate) content before after is = absurd is
+cut_not_done outside left (MakeBytes make) content before after is = absurd is
 cut_not_done outside left (Replay replay) content before after is = λ e. omega (arith, e, is.1)
 cut_not_done outside left (Serve serve) content before after is = λ e. omega (arith, e, is.1)
 
@@ -272,6 +280,8 @@ one_ending shown a b left last (Churn churn) (Churn other) content more before a
     both_told (over shown a) (over shown b) left last (Churn churn) (Churn other) content more before after start end (λ t. t) (λ t. t) p q
 one_ending shown a b left last (Migrate migrate) (Migrate other) content more before after start end e p q =
     both_told (over shown a) (over shown b) left last (Migrate migrate) (Migrate other) content more before after start end (λ t. t) (λ t. t) p q
+one_ending shown a b left last (MakeBytes make) (MakeBytes other) content more before after start end e p q =
+    both_told (over shown a) (over shown b) left last (MakeBytes make) (MakeBytes other) content more before after start end (λ t. t) (λ t. t) p q
 one_ending shown a b left last (Replay replay) (Replay other) content more before after start end e p q =
     ap as_done (replays_end shown a b left last replay other content more before after start end
     (same_file replay other e) p q)

@@ -13,7 +13,7 @@ use Rattle.vm_file_serve.specs.from_vm_endings.Files.{HasFile}
 use Rattle.vm_file_serve.specs.from_vm_endings.Held.{HasFilePages, pages_held}
 use Rattle.vm_file_serve.specs.from_vm_endings.Outside.{Outside, Remains, with_shown}
 use Rattle.vm_file_serve.specs.from_vm_endings.Stops.{status_of}
-use Rattle.vm_file_serve.specs.from_vm_endings.Tests.{AllPass, Fails, Passes, StopsAt, Test, depth, events, here}
+use Rattle.vm_file_serve.specs.from_vm_endings.Tests.{AllPass, any_image, Fails, Passes, StopsAt, Test, depth, events, here}
 use Rattle.vm_file_serve.specs.from_vm_endings.Tests.{image, past, room, script, space, stored}
 use Rattle.vm_file_serve.specs.from_vm_endings.Tests.{stored_depth, within}
 
@@ -56,6 +56,7 @@ IsBounded a b (within quantity holds) = Unit {0}
 IsBounded a b (room words pages pairs) = Unit {0}
 IsBounded a b (space pages name) = Unit {0}
 IsBounded a b (image name) = Unit {0}
+IsBounded a b (any_image name) = Unit {0}
 IsBounded a b (depth frames name) = Unit {0}
 IsBounded a b (stored name) = HoldSame a b
 IsBounded a b (stored_depth frames name) = HoldSame a b
@@ -67,6 +68,7 @@ bounded_back a b (within quantity holds) is = tt
 bounded_back a b (room words pages pairs) is = tt
 bounded_back a b (space pages name) is = tt
 bounded_back a b (image name) is = tt
+bounded_back a b (any_image name) is = tt
 bounded_back a b (depth frames name) is = tt
 bounded_back a b (stored name) is = held_back a b is
 bounded_back a b (stored_depth frames name) is = held_back a b is
@@ -87,6 +89,13 @@ module _ (shown : Shown) (a b : Outside) (left : Remains) where
   read_image name (Length told) p f = let b = both_of shown name _ _ p f in absurd (b.2.none b.1.file)
   read_image name (Page page why) p f = let b = both_of shown name _ _ p f in absurd (b.2.none b.1.tree)
   read_image name _ p f = absurd f
+
+  read_any : (name : List ℕ) (stop : Stop) → Passes (over shown a) (any_image name)
+      → Fails (over shown b) left (any_image name) stop → status_of stop ≡ 2
+  read_any name (Unread unread) p f = refl
+  read_any name (Length told) p f = let b = both_of shown name _ _ p f in absurd (b.2.none b.1.file)
+  read_any name (Page page why) p f = let b = both_of shown name _ _ p f in absurd (b.2.none b.1.tree)
+  read_any name _ p f = absurd f
 
   read_script : (name : List ℕ) (workers : ℕ) (stop : Stop) → workers < 2 ^ 32
       → Passes (over shown a) (script name workers) → Fails (over shown b) left (script name workers) stop
@@ -134,6 +143,7 @@ module _ (shown : Shown) (a b : Outside) (left : Remains) where
       let b = both_of shown name _ _ p f.1 in absurd (omega (arith, b.1, b.2.0))
   unread_only (space pages name) _ few p f = absurd f
   unread_only (image name) stop few p f = read_image name stop p f
+  unread_only (any_image name) stop few p f = read_any name stop p f
   unread_only (depth frames name) (Shape other) few p f =
       let b = both_of shown name _ _ p f.1 in absurd (true≢false (sym b.1 ∙ b.2))
   unread_only (depth frames name) _ few p f = absurd f
@@ -163,6 +173,7 @@ status_in (within quantity holds) = 5
 status_in (room words pages pairs) = 4
 status_in (space pages name) = 4
 status_in (image name) = 4
+status_in (any_image name) = 4
 status_in (depth frames name) = 5
 status_in (stored name) = 4
 status_in (stored_depth frames name) = 5
@@ -181,6 +192,10 @@ one_status outside left (image name) (Unread unread) f read = absurd (read refl)
 one_status outside left (image name) (Length told) f read = refl
 one_status outside left (image name) (Page page why) f read = refl
 one_status outside left (image name) _ f read = absurd f
+one_status outside left (any_image name) (Unread unread) f read = absurd (read refl)
+one_status outside left (any_image name) (Length told) f read = refl
+one_status outside left (any_image name) (Page page why) f read = refl
+one_status outside left (any_image name) _ f read = absurd f
 one_status outside left (depth frames name) (Shape other) f read = refl
 one_status outside left (depth frames name) _ f read = absurd f
 one_status outside left (stored name) (Unread unread) f read = absurd (read refl)

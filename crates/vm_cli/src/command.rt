@@ -14,6 +14,7 @@ use vm_file_serve::endings::{Delivery, Ends, Stop, Undone};
 use vm_file_serve::serve::run_serve;
 use vm_files::check::run_check;
 use vm_files::make::run_make;
+use vm_files::make_bytes::run_make_bytes;
 use vm_files::migrate::run_migrate;
 use vm_files::replay::run_replay;
 use vm_io::host::Host;
@@ -50,5 +51,6 @@ pub fn give<'a, R: Threads + Wait + Sync, H: Host, G: Gate + Sync, D: Devices<WO
         Command::Replay(replay) => run_replay(alloc, host, replay),
         Command::Migrate(migrate) => run_migrate(alloc, host, migrate),
         Command::Serve(serve) => run_serve(rt, alloc, host, serve, gate, ends, devices),
+        Command::MakeBytes(make) => run_make_bytes(alloc, make),
     }
 }

@@ -9,22 +9,27 @@ use Rattle.vm_bytes_text.specs.KeyTexts.{key_rows_text}
 use Rattle.vm_script.specs.Texts.{rows_text, tree_line}
 use Rattle.vm_endings.specs.Images.{layout_of_file, root_level}
 
--- how the words of a file's pages mean nodes
+-- how the words of a file's pages mean nodes, with byte keys or without
+abbrev pub layout_with : Bool → List ℕ → Layout
+layout_with has_keys file = if has_keys then keyed else layout_of_file file
+
+-- as its first bytes tell
 abbrev pub any_layout : List ℕ → Layout
-any_layout file = if is_key_file file then keyed else layout_of_file file
-
-abbrev pub any_pages : List ℕ → List (List ℕ)
-any_pages file = pages_of_bytes (any_layout file).words file
-
--- the map that the file holds, over the numbers that stand for its keys
-abbrev pub any_map : List ℕ → Pairs
-any_map file = map_of (any_layout file) (any_pages file)
+any_layout file = layout_with (is_key_file file) file
 
 -- the lines of rows, with byte keys or with words as keys
-abbrev pub any_rows_text : Bool → Pairs → List ℕ
-any_rows_text keyed rows = if keyed then key_rows_text rows else rows_text rows
+abbrev pub rows_text_with : Bool → Pairs → List ℕ
+rows_text_with has_keys rows = if has_keys then key_rows_text rows else rows_text rows
 
--- the file's rows, and the line of its size
+-- the lines of the map that pages hold, and the line of their size
+abbrev pub pages_text : Bool → Layout → List (List ℕ) → List ℕ
+pages_text has_keys L pages = rows_text_with has_keys (map_of L pages)
+    ++ tree_line (root_level pages) (used_pages pages) (length (map_of L pages))
+
+abbrev pub check_text_with : Bool → List ℕ → List ℕ
+check_text_with has_keys file =
+    pages_text has_keys (layout_with has_keys file) (pages_of_bytes (layout_with has_keys file).words file)
+
+-- what `check` tells of a file
 abbrev pub any_check_text : List ℕ → List ℕ
-any_check_text file = any_rows_text (is_key_file file) (any_map file)
-    ++ tree_line (root_level (any_pages file)) (used_pages (any_pages file)) (length (any_map file))
+any_check_text file = check_text_with (is_key_file file) file

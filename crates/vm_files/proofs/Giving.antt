@@ -18,63 +18,99 @@ use Rattle.vm_reading.specs.from_vm_endings.declared_stop_Stop.{Stop}
 use Rattle.vm_reading.specs.from_vm_endings.declared_stop_Stop_TheVariants.{Shape, TooFew}
 use Rattle.vm_reading.specs.from_vm_endings.declared_undone_Undone.{Undone}
 use Rattle.vm_reading.specs.from_vm_endings.declared_undone_Undone_TheVariants.{Stopped, Memory}
+use Rattle.vm_tree_model.specs.Tree.{map_of}
+use Rattle.vm_image.specs.File.{pages_of_bytes}
+use Rattle.vm_check.specs.declared.rows.TreeRows.{TreeRows}
+use Rattle.vm_bytes_form.specs.Bytes.{bytes as keyed}
+use Rattle.vm_words.specs.declared.MakeBytes.{MakeBytes}
+use Rattle.vm_reading.specs.AnyReadings.{AreKeyRows, IsAnyStored, ReadsAnyTree}
+use Rattle.vm_reading.specs.declared.any.AnyTree.{AnyTree}
+use Rattle.vm_reading.specs.declared.any.AnyTree.TheVariants.{Keys, Words}
+use Rattle.vm_reading.specs.from_vm_endings.AnyFiles.{check_text_with}
+use Rattle.vm_reading.specs.from_vm_endings.MakesBytes.{ToldMakeBytes}
+use Rattle.vm_files.specs.Checking.{key_check_text, text_in}
 use Rattle.vm_reading.specs.from_vm_endings.Checks.{IsChecked}
 use Rattle.vm_reading.specs.from_vm_endings.Deliveries.{Content, content_of, line}
 use Rattle.vm_reading.specs.from_vm_endings.Endings.{Performs, AnswersCommand, HasReadCause, cut, told}
 use Rattle.vm_reading.specs.from_vm_endings.Files.{HasFile}
-use Rattle.vm_reading.specs.from_vm_endings.Images.{IsTreeFile, file_height, file_map}
+use Rattle.vm_reading.specs.from_vm_endings.Images.{IsTreeFile, file_height, file_map, root_level}
 use Rattle.vm_reading.specs.from_vm_endings.Limits.{are_pages}
 use Rattle.vm_reading.specs.from_vm_endings.Migrates.{IsMigrated}
 use Rattle.vm_reading.specs.from_vm_endings.Outside.{Outside, Remains}
 use Rattle.vm_reading.specs.Readings.{IsStoredTree, ReadsTree, rows_in}
 use Rattle.vm_files.specs.Building.{TellsMigrated}
-use Rattle.vm_reading.proofs.Found.{HasRows, rows-file, rows-pass, tree-rows}
+use Rattle.vm_reading.proofs.Found.{any-file, any-pass, HasRows, rows-file, rows-pass, tree-rows}
 use Rattle.vm_reading.specs.from_vm_endings.Scripts.{AreGoodEvents}
 use Rattle.vm_reading.specs.from_vm_endings.Tests.{Passes, here, image, past}
 use Rattle.vm_reading.proofs.Files.{has_file}
 
-of-tree : (shown : Option Shown) (name : List ℕ) (tree : StoredTree) → HasFile shown name (IsStoredTree tree)
-    → HasFile shown name (HasRows (rows_in tree))
-of-tree shown name tree has = has_file shown name (IsStoredTree tree) (HasRows (rows_in tree)) (tree-rows tree) has
-
 -- ---- a check
 
-checked-bytes : (rows : Rows) (text bytes : List ℕ) → text ≡ check_text rows.pairs.items rows.height rows.used
-    → HasRows rows bytes → IsChecked text bytes
-checked-bytes rows text bytes is has = record {
-  good = rows-file rows bytes has;
-  told = is ∙ ap (λ l. check_text l rows.height rows.used) has.are.pairs
-      ∙ ap (λ n. check_text (file_map bytes) n rows.used) has.are.height
-      ∙ ap (λ n. check_text (file_map bytes) (file_height bytes) n) has.are.used;
+-- the text of what was read is that of the file
+checked-words : (tree : StoredTree) (text bytes : List ℕ) → text ≡ text_in (Words tree) → HasRows (rows_in tree) bytes
+    → text ≡ check_text_with false bytes
+checked-words tree text bytes is has =
+    is ∙ ap (λ l. check_text l (rows_in tree).height (rows_in tree).used) has.are.pairs
+    ∙ ap (λ n. check_text (file_map bytes) n (rows_in tree).used) has.are.height
+    ∙ ap (λ n. check_text (file_map bytes) (file_height bytes) n) has.are.used
+
+checked-keys : (rows : TreeRows (List ℕ × ℕ)) (text bytes : List ℕ) → text ≡ text_in (Keys rows) → AreKeyRows rows bytes
+    → text ≡ check_text_with true bytes
+checked-keys rows text bytes is has =
+    let pages = pages_of_bytes 512 bytes in
+    is ∙ ap (λ l. key_check_text l rows.height rows.used) has.1.pairs
+    ∙ ap (λ n. key_check_text (map_of keyed pages) n rows.used) has.1.height
+    ∙ ap (λ n. key_check_text (map_of keyed pages) (root_level pages) n) has.1.used
+
+checked-bytes : (tree : AnyTree) (text bytes : List ℕ) → text ≡ text_in tree → IsAnyStored tree bytes → IsChecked text bytes
+checked-bytes (Words tree) text bytes is has = record {
+  good = any-file (Words tree) bytes has;
+  told = subst (λ b. text ≡ check_text_with b bytes) (sym has.0) (checked-words tree text bytes is (tree-rows tree bytes has.1));
+}
+checked-bytes (Keys rows) text bytes is has = record {
+  good = any-file (Keys rows) bytes has;
+  told = subst (λ b. text ≡ check_text_with b bytes) (sym has.0) (checked-keys rows text bytes is has.1);
 }
 
-pub check-gives : (outside : Outside) (left : Remains) (check : Check) (tree : StoredTree) (rows : Rows)
-    (delivery : Delivery) (text : List ℕ) → HasFile outside.shown check.file.now (IsStoredTree tree) → rows ≡ rows_in tree
-    → text ≡ check_text rows.pairs.items rows.height rows.used → content_of delivery ≡ line text 0 → (same : Ends)
+pub check-gives : (outside : Outside) (left : Remains) (check : Check) (tree : AnyTree)
+    (delivery : Delivery) (text : List ℕ) → HasFile outside.shown check.file.now (IsAnyStored tree)
+    → text ≡ text_in tree → content_of delivery ≡ line text 0 → (same : Ends)
     → AnswersCommand content_of (commands.Check check) outside left same same (Ok delivery)
-check-gives outside left check tree rows delivery text read are is content same =
-    let has : HasFile outside.shown check.file.now (HasRows rows) =
-    subst (λ (r : Rows). HasFile outside.shown check.file.now (HasRows r)) (sym are)
-    (of-tree outside.shown check.file.now tree read) in (
-      (rows-pass outside check.file.now rows has, tt),
-      subst
-          (λ (c : Content). Performs (commands.Check check) outside left c same same)
-          (sym content)
-          (told (
-            (
-              has_file outside.shown check.file.now (HasRows rows) (IsChecked text)
-                  (λ bytes h. checked-bytes rows text bytes is h) has,
-              refl,
-            ),
-            refl,
-          ) refl),
-    )
+check-gives outside left check tree delivery text read is content same = (
+  (any-pass outside check.file.now tree read, tt),
+  subst
+      (λ (c : Content). Performs (commands.Check check) outside left c same same)
+      (sym content)
+      (told (
+        (
+          has_file outside.shown check.file.now (IsAnyStored tree) (IsChecked text)
+              (λ bytes h. checked-bytes tree text bytes is h) read,
+          refl,
+        ),
+        refl,
+      ) refl),
+)
 
 pub check-stops : (outside : Outside) (left : Remains) (check : Check) (undone : Undone Stop)
-    → ReadsTree outside left check.file.now (Err undone) → (same : Ends)
+    → ReadsAnyTree outside left check.file.now (Err undone) → (same : Ends)
     → AnswersCommand content_of (commands.Check check) outside left same same (Err undone)
 check-stops outside left check Memory reads same = refl
 check-stops outside left check (Stopped stop) reads same = (here reads, refl)
+
+-- ---- a make-bytes
+
+pub no-pages-stop : (make : MakeBytes) → are_pages 512 make.pages ≡ false → (outside : Outside) (left : Remains)
+    (same : Ends) → AnswersCommand content_of (commands.MakeBytes make) outside left same same (Err (Stopped (Shape Pages)))
+no-pages-stop make bad outside left same = (here (bad, refl), refl)
+
+pub makes-bytes : (make : MakeBytes) (delivery : Delivery) → are_pages 512 make.pages ≡ true
+    → ToldMakeBytes make (content_of delivery) × (delivery.status ≡ 0) → (outside : Outside) (left : Remains) (same : Ends)
+    → AnswersCommand content_of (commands.MakeBytes make) outside left same same (Ok delivery)
+makes-bytes make delivery good is outside left same = ((good, tt), told (is.0, refl) is.1)
+
+of-tree : (shown : Option Shown) (name : List ℕ) (tree : StoredTree) → HasFile shown name (IsStoredTree tree)
+    → HasFile shown name (HasRows (rows_in tree))
+of-tree shown name tree has = has_file shown name (IsStoredTree tree) (HasRows (rows_in tree)) (tree-rows tree) has
 
 -- ---- a migrate
 

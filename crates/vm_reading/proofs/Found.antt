@@ -1,14 +1,13 @@
 -- What was read of files, as what the files hold.
-use Rattle.std.proofs.Common.{ℕ, Bool, false, true, if◌then◌else◌, List, Result, Ok, Err, refl, sym, subst, arith}
+use Rattle.std.proofs.Common.{ℕ, Bool, false, true, List, Result, Ok, Err, refl, sym, subst, arith}
 use Rattle.vm_io.specs.Loops.{ReadsWhole}
 use Rattle.vm_tree_model.specs.Fixed.{fixed}
 use Rattle.vm_image.specs.File.{IsPageFile, pages_of_bytes, words_of_file}
 use Rattle.vm_check.specs.Rows.{AreRows}
 use Rattle.vm_check.specs.declared.rows.Rows.{Rows}
 use Rattle.vm_page.specs.Sizes.{IsSize}
-use Rattle.vm_bytes_form.specs.Bytes.{bytes as keyed}
 use Rattle.vm_endings.specs.from_vm_bytes_file.KeyFiles.{is_key_file}
-use Rattle.vm_endings.specs.AnyFiles.{any_layout}
+use Rattle.vm_endings.specs.AnyFiles.{any_layout, layout_with}
 use Rattle.vm_reading.specs.declared.any.AnyTree.{AnyTree}
 use Rattle.vm_reading.specs.declared.any.AnyTree.TheVariants.{Keys, Words}
 use Rattle.vm_reading.specs.AnyReadings.{IsAnyStored, ReadsAnyTree, TellsAnyTree}
@@ -85,15 +84,15 @@ tree-cause found before now (Err undone) t = none-cause found before now undone 
 any_sized : (bytes : List ℕ) → IsSize (any_layout bytes).words
 any_sized bytes = go (is_key_file bytes)
   where
-    go : (b : Bool) → IsSize (if b then keyed else layout_of_file bytes).words
+    go : (b : Bool) → IsSize (layout_with b bytes).words
     go true = refl
     go false = file_sized bytes
 
-any-file : (tree : AnyTree) (bytes : List ℕ) → IsAnyStored tree bytes → IsTreeIn (any_layout bytes) bytes
+pub any-file : (tree : AnyTree) (bytes : List ℕ) → IsAnyStored tree bytes → IsTreeIn (any_layout bytes) bytes
 any-file (Words tree) bytes is =
-    subst (λ b. IsTreeIn (if b then keyed else layout_of_file bytes) bytes) (sym is.0) (rows-file (rows_in tree) bytes (tree-rows tree bytes is.1))
+    subst (λ b. IsTreeIn (layout_with b bytes) bytes) (sym is.0) (rows-file (rows_in tree) bytes (tree-rows tree bytes is.1))
 any-file (Keys rows) bytes is =
-    subst (λ b. IsTreeIn (if b then keyed else layout_of_file bytes) bytes) (sym is.0) (record { file = is.1; tree = is.2.tree })
+    subst (λ b. IsTreeIn (layout_with b bytes) bytes) (sym is.0) (record { file = is.1; tree = is.2.tree })
 
 -- a file that was read passes its test
 pub any-pass : (outside : Outside) (name : List ℕ) (tree : AnyTree) → HasFile outside.shown name (IsAnyStored tree)

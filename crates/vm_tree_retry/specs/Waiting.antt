@@ -6,6 +6,7 @@ use Rattle.vm_tree_model.specs.{Layout.Layout, Tree.map_of}
 use Rattle.vm_tree_round.specs.from_vm_rule.Prelude.{Entry, entry_of, IsLocking, seat_of, StartsWith}
 use Rattle.vm_tree_round.specs.from_vm_step.Prelude.{HoldsPage, KnowsAsBefore, View}
 use Rattle.vm_tree_laws.specs.{History.IsLegal, Plain.plain_history}
+use Rattle.vm_tree_round.specs.Rounds.{IsDelRound, IsPutFault, IsPutRound, IsWriteFault}
 use Rattle.vm_tree_round.specs.from_vm_tree_rule.{declared_fault_TreeFault.TreeFault}
 use Rattle.vm_tree_round.specs.from_vm_tree_read.Reads.{GainsEntry, IsAnswered, key_of}
 use Rattle.vm_tree_round.specs.from_vm_tree_read.Waiting.{AreRounds}

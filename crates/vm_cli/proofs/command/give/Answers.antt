@@ -32,3 +32,9 @@ pub returns-in-Migrate-clause-gives : goal.returns-in-Migrate-clause-gives
 returns-in-Migrate-clause-gives g c = rw c.in-Migrate.is (c.run_migrate.ensures.gives
     (outside_of (g.H.Host.shown c.args.host.now) g.D.Devices.tells (g.D.Devices.state c.args.devices.now))
     (remains_of (g.H.Host.last c.run_migrate.new.host) (g.D.Devices.state c.args.devices.now)) c.args.ends.now)
+
+pub returns-in-MakeBytes-clause-gives : goal.returns-in-MakeBytes-clause-gives
+returns-in-MakeBytes-clause-gives g c = rw c.in-MakeBytes.is (c.run_make_bytes.ensures.gives _ _ c.args.ends.now)
+
+pub returns-in-MakeBytes-clause-cause : goal.returns-in-MakeBytes-clause-cause
+returns-in-MakeBytes-clause-cause g c = rw c.in-MakeBytes.is (c.run_make_bytes.ensures.cause _)

@@ -4,9 +4,8 @@ use Rattle.vm_files.proofs.check.run_check.Goals as goal
 
 pub returns-in-Ok-text_of-clause-gives : goal.returns-in-Ok-text_of-clause-gives
 returns-in-Ok-text_of-clause-gives g c = λ outside left.
-    check-gives (with_shown outside _) (with_unread left _) c.args.check.now c.in-Ok.tree c.into_rows-rows.result c.line.result
-    c.in-Ok-text_of.text.items (c.in-Ok.ensures.reads outside left) c.into_rows-rows.ensures c.in-Ok-text_of.ensures
-    c.line.ensures
+    check-gives (with_shown outside _) (with_unread left _) c.args.check.now c.in-Ok.tree c.line.result
+    c.in-Ok-text_of.text.items (c.in-Ok.ensures.reads outside left) c.in-Ok-text_of.ensures c.line.ensures
 
 pub returns-in-Err-clause-gives : goal.returns-in-Err-clause-gives
 returns-in-Err-clause-gives g c = λ outside left.
