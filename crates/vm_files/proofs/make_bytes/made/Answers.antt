@@ -2,7 +2,6 @@
 use Rattle.std.proofs.Common.{[], ◌≡◌, ◌∙◌, ap, List, refl, subst, sym, true, ℕ}
 use Rattle.vm_tree_model.specs.Tree.{IsTree, map_of}
 use Rattle.vm_bytes_form.specs.Bytes.{bytes as keyed}
-use Rattle.vm_reading.specs.from_vm_endings.from_vm_bytes_file.KeyFiles.{is_key_file}
 use Rattle.vm_files.proofs.make_bytes.made.Goals as goal
 
 pub returns-in-Ok : goal.returns-in-Ok
