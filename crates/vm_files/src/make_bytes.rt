@@ -1,6 +1,6 @@
 //! The command `make-bytes`: a page file with byte keys that holds nothing.
 
-ghost use Rattle.std.specs.Prelude.{◌≡◌, ◌≤◌, IfOk};
+ghost use Rattle.std.specs.Prelude.{◌≡◌, ◌≤◌, IfOk, ℕ};
 ghost use Rattle.vm_words.specs.declared.Command.TheVariants as commands;
 ghost use Rattle.vm_reading.specs.from_vm_endings.Deliveries.{content_of};
 ghost use Rattle.vm_reading.specs.from_vm_endings.Endings.{AnswersCommand, HasReadCause};
