@@ -17,7 +17,8 @@ use vm_io::host::Host;
 use vm_page::WORDS;
 use vm_words::{Command, WordsFault, command_of};
 
-const USAGE: &[u8] = b"usage: vmcache run, make, check, churn, replay, migrate, serve, make-bytes\n";
+const USAGE: &[u8] =
+    b"usage: vmcache run, make, check, churn, replay, migrate, serve, make-bytes\n";
 
 /// Performs the command of the words after the program's name, and gives the exit status.
 ///

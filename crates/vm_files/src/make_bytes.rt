@@ -15,11 +15,7 @@ use vm_script::text::made_text;
 use vm_words::MakeBytes;
 
 // The file, and the line that tells its size.
-fn made<'a>(
-    alloc: Global,
-    make: &MakeBytes<'a>,
-    pages: u32,
-) -> Result<Delivery<'a>, AllocError>
+fn made<'a>(alloc: Global, make: &MakeBytes<'a>, pages: u32) -> Result<Delivery<'a>, AllocError>
     requires pages { pages ≡ make.now.pages }
     requires some { 2 ≤ pages }
     requires most { pages ≤ 8192 }
