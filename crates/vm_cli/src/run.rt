@@ -26,7 +26,7 @@ const USAGE: &[u8] =
 /// |---|---|
 /// | 0 | `run`: the calls were made, every page was flushed, and the kept file was written; the replies, the rows and the counters were said |
 /// | 0 | `serve`: the calls were made, every page of the file was flushed and made to last; the replies and the counters were said |
-/// | 0 | `make`, `migrate`: the file was written, and its size said. `check`: the rows and the size were said. `replay`: what each event saw was said |
+/// | 0 | `make`, `make-bytes`, `migrate`: the file was written, and its size said. `check`: the rows and the size were said. `replay`: what each event saw was said |
 /// | 0 | `churn`: the calls were made, every page was flushed, and the counts said |
 /// | 1 | exactly where the words are no command; the usage line was said |
 /// | 2 | only where a `take` of the host failed, or, in a `serve`, devices counted a fault; the line names the file |
