@@ -53,7 +53,7 @@ impl<'a> Case<'a> {
 fn words_in(bytes: &[u8]) -> u64
     ensures { result ≤ 512 }
 {
-    if bytes.starts_with(b"VMCACHE2") {
+    if bytes.starts_with(b"VMCACHE2") || bytes.starts_with(b"VMCBYTE1") {
         512
     } else {
         64

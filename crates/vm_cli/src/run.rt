@@ -17,7 +17,8 @@ use vm_io::host::Host;
 use vm_page::WORDS;
 use vm_words::{Command, WordsFault, command_of};
 
-const USAGE: &[u8] = b"usage: vmcache run, make, check, churn, replay, migrate, serve, make-bytes\n";
+const USAGE: &[u8] =
+    b"usage: vmcache run, make, check, churn, replay, migrate, serve, make-bytes\n";
 
 /// Performs the command of the words after the program's name, and gives the exit status.
 ///
@@ -25,7 +26,7 @@ const USAGE: &[u8] = b"usage: vmcache run, make, check, churn, replay, migrate, 
 /// |---|---|
 /// | 0 | `run`: the calls were made, every page was flushed, and the kept file was written; the replies, the rows and the counters were said |
 /// | 0 | `serve`: the calls were made, every page of the file was flushed and made to last; the replies and the counters were said |
-/// | 0 | `make`, `migrate`: the file was written, and its size said. `check`: the rows and the size were said. `replay`: what each event saw was said |
+/// | 0 | `make`, `make-bytes`, `migrate`: the file was written, and its size said. `check`: the rows and the size were said. `replay`: what each event saw was said |
 /// | 0 | `churn`: the calls were made, every page was flushed, and the counts said |
 /// | 1 | exactly where the words are no command; the usage line was said |
 /// | 2 | only where a `take` of the host failed, or, in a `serve`, devices counted a fault; the line names the file |

@@ -1,6 +1,6 @@
 //! The command `make-bytes`: a page file with byte keys that holds nothing.
 
-ghost use Rattle.std.specs.Prelude.{◌≡◌, ◌≤◌, IfOk};
+ghost use Rattle.std.specs.Prelude.{◌≡◌, ◌≤◌, IfOk, ℕ};
 ghost use Rattle.vm_words.specs.declared.Command.TheVariants as commands;
 ghost use Rattle.vm_reading.specs.from_vm_endings.Deliveries.{content_of};
 ghost use Rattle.vm_reading.specs.from_vm_endings.Endings.{AnswersCommand, HasReadCause};
@@ -15,11 +15,7 @@ use vm_script::text::made_text;
 use vm_words::MakeBytes;
 
 // The file, and the line that tells its size.
-fn made<'a>(
-    alloc: Global,
-    make: &MakeBytes<'a>,
-    pages: u32,
-) -> Result<Delivery<'a>, AllocError>
+fn made<'a>(alloc: Global, make: &MakeBytes<'a>, pages: u32) -> Result<Delivery<'a>, AllocError>
     requires pages { pages ≡ make.now.pages }
     requires some { 2 ≤ pages }
     requires most { pages ≤ 8192 }

@@ -92,7 +92,7 @@ pub any-file : (tree : AnyTree) (bytes : List ℕ) → IsAnyStored tree bytes �
 any-file (Words tree) bytes is =
     subst (λ b. IsTreeIn (layout_with b bytes) bytes) (sym is.0) (rows-file (rows_in tree) bytes (tree-rows tree bytes is.1))
 any-file (Keys rows) bytes is =
-    subst (λ b. IsTreeIn (layout_with b bytes) bytes) (sym is.0) (record { file = is.1; tree = is.2.tree })
+    subst (λ b. IsTreeIn (layout_with b bytes) bytes) (sym is.0) (record { file = is.1.0; tree = is.1.1.tree })
 
 -- a file that was read passes its test
 pub any-pass : (outside : Outside) (name : List ℕ) (tree : AnyTree) → HasFile outside.shown name (IsAnyStored tree)

@@ -46,7 +46,7 @@ module _ {X : Type 0} (L : Layout) where
     pub tried : View X
     pub rounds : AreRounds (round key) v tried
     pub waits : keeps v tried
-    pub why : IsWriteFault needs meets may key fault tried w
+    pub why : IsWriteFault L needs meets may key fault tried w
     pub leaves : keeps v w
 
 module _ {S : Type 0} (plain : S → Said) (L : Layout) where
@@ -78,7 +78,7 @@ module _ {S : Type 0} (plain : S → Said) (L : Layout) (spare : List ℕ → �
   -- the last try of a put, after such rounds, ended so
   pub record IsPutFaulted (key : ℕ) (fault : TreeFault) (v w : View S) : Type 0 where
     pub tried : View S
-    pub rounds : AreRounds (IsPutRound key) v tried
+    pub rounds : AreRounds (IsPutRound plain L spare key) v tried
     pub waits : KeepsLocksOnly v tried
-    pub why : IsPutFault key fault tried w
+    pub why : IsPutFault plain L spare key fault tried w
     pub leaves : KeepsLocksOnly v w
