@@ -10,16 +10,13 @@ pub trait Edits: Pages {
     ghost use Rattle.std.specs.Prelude.{◌≡◌, ◌≢◌, ◌⊎◌, ◌<◌, ◌≤◌, IfOk, IfSome, length, List, MatchResult, OnErr, slice_index, ℕ};
     ghost use Rattle.std.specs.Option.{option_map};
     ghost use Rattle.vm_map.specs.Map.{del_pair, lookup_at, Rises};
-    ghost use Rattle.vm_tree_model.specs.{Layout.IsClean, Node.Covers};
+    ghost use Rattle.vm_tree_model.specs.Node.{Covers};
     ghost use Rattle.vm_tree_model.specs.Page.{IsInner, IsLeaf, node_of, pairs_of};
     ghost use Rattle.vm_tree_model.specs.Edits.{AddsPair, IsFullFor, IsLeafWith, IsNewRoot, IsSplit, PutsInLeaf};
     ghost use Rattle.vm_kind.specs.Room.{HasRoomFor, IsTightFor};
 
     // The words of a page as an edit leaves them.
     ghost edited: { List ℕ → Self.Edit → List ℕ };
-
-    // The words of the left half of a page that is split at this key.
-    ghost left_half: { List ℕ → ℕ → List ℕ };
 
     /// What a put of this value at the key changes, and the old value, of any page whose keys rise. `Full` comes where less room is left than a pair of
     /// the key takes, and the key is not found; of a leaf it comes exactly where it has no room for a pair of the key, and not the key.
@@ -63,21 +60,16 @@ pub trait Edits: Pages {
         ensures { (i : ℕ) → i < Self.layout.words → i ≢ 1 → (i < result.0) ⊎ (result.1 ≤ i)
             → slice_index (edited (Self.words_of page.now) edit.now) i ≡ slice_index (Self.words_of page.now) i };
 
-    /// Makes the right half of a node that has no room for a further pair, and stays as it is. What `right` held before is lost. Gives the separator,
-    /// which is the first key of the right half and its low fence, and the high fence of the left half.
-    fn right_half(page: &Self::Page, right: &mut Self::Page) -> Self::Key
+    /// Makes the two halves of a node that has no room for a further pair, and stays as it is. What `left` and `right` held before is lost. Gives the
+    /// separator, which is the first key of the right half and its low fence, and the high fence of the left half.
+    fn split(page: &Self::Page, left: &mut Self::Page, right: &mut Self::Page) -> Self::Key
         requires full { Self.spare (Self.words_of page.now) < Self.layout.growth }
-        ensures size { length (Self.words_of right.new) ≡ Self.layout.words }
-        ensures halves { IsClean Self.layout (Self.words_of page.now)
-            → IsSplit Self.layout (Self.words_of page.now) (left_half (Self.words_of page.now) (Self.rank result)) (Self.words_of right.new) (Self.rank result) }
-        ensures left_leaf { IsLeaf Self.layout (Self.words_of page.now) → IsLeaf Self.layout (left_half (Self.words_of page.now) (Self.rank result)) }
+        ensures left_size { length (Self.words_of left.new) ≡ Self.layout.words }
+        ensures right_size { length (Self.words_of right.new) ≡ Self.layout.words }
+        ensures halves { IsLeaf Self.layout (Self.words_of page.now) ⊎ IsInner Self.layout (Self.words_of page.now)
+            → IsSplit Self.layout (Self.words_of page.now) (Self.words_of left.new) (Self.words_of right.new) (Self.rank result) }
+        ensures left_leaf { IsLeaf Self.layout (Self.words_of page.now) → IsLeaf Self.layout (Self.words_of left.new) }
         ensures right_leaf { IsLeaf Self.layout (Self.words_of page.now) → IsLeaf Self.layout (Self.words_of right.new) };
-
-    /// Word `i` of the left half of the page.
-    fn left_word(page: &Self::Page, separator: &Self::Key, i: usize) -> u64
-        requires { i < Self.layout.words }
-        ensures word { result ≡ slice_index (left_half (Self.words_of page.now) (Self.rank separator.now)) i }
-        ensures size { length (left_half (Self.words_of page.now) (Self.rank separator.now)) ≡ Self.layout.words };
 
     /// Makes the page a root over two nodes: `left` from the lowest key on, and `right` from the separator on. What the page held before is lost.
     fn new_root(page: &mut Self::Page, level: u64, left: u64, separator: &Self::Key, right: u64)

@@ -1,6 +1,7 @@
 //! Kinds of nodes whose keys are numbers, of which ranges are answered.
 
 use crate::windows::Windows;
+use vm_map::call::Reply;
 use vm_map::span::Span;
 use vm_map::window::Bound;
 use vm_node::Place;
@@ -22,6 +23,10 @@ pub trait Ranges: Windows {
     /// The key that this number stands for.
     fn key_of(number: u64) -> Self::Key
         ensures { Self.rank result ≡ number };
+
+    /// The reply alone.
+    fn reply_of(said: Self::Said) -> Reply
+        ensures { result ≡ (Self.plain said).reply };
 
     /// Appends the page's pairs from the key `from` on and below both `bound` and its high fence, and answers that fence. There must be room for as
     /// many pairs as a node has at most.

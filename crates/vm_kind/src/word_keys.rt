@@ -4,7 +4,7 @@ ghost use Rattle.vm_map.specs.Keys.{KEY_END};
 ghost use Rattle.vm_page.specs.Sizes.{IsSize};
 ghost use Rattle.vm_tree_model.specs.Fixed.{capacity, fixed};
 ghost use Rattle.vm_tree_model.proofs.FixedLaws.{sized_layout};
-ghost use Rattle.vm_node.specs.{Edited.edited, Halves.left_half, Sizes.looks_for};
+ghost use Rattle.vm_node.specs.{Edited.edited, Sizes.looks_for};
 ghost use Rattle.vm_kind.specs.WordRoom.{spare_in, spare_is};
 
 use crate::edits::Edits;
@@ -20,11 +20,11 @@ use vm_guard::rule::{Pass, Words};
 use vm_inner::{ChildPair, Fenced, add_edit, beside, child_at, new_root, remove_edit};
 use vm_map::call::{Call, Reply, Said, Swap};
 use vm_map::span::Span;
-use vm_map::window::{Bound, Window};
+use vm_map::window::Bound;
 use vm_node::pairs::{count_at, count_of, most_pairs};
 use vm_node::{
     Edit, Full, Place, covers, del, del_edit, find_at, has_fences_at, has_level_at, in_buffer,
-    is_leaf, is_leaf_at, join, left_word, put_edit, range_at, right_half, window_at,
+    is_leaf, is_leaf_at, join, put_edit, range_at, split, window_at,
 };
 use vm_owner::Owner;
 use vm_page::PageBuf;
@@ -203,13 +203,12 @@ impl<S: OfSize<N>, const N: usize> Pages for WordKeys<S, N> {
 }
 
 impl<S: OfSize<N>, const N: usize> Windows for WordKeys<S, N> {
+    ghost window_each = { 2 };
+
     ghost window_most = { looks_for N + 4 };
 
-    fn window_at<P: Place>(place: &mut P, start: &u64, most: u32) -> Window {
-        window_at(place, N, *start, most)
-    }
-
-    fn shown(start: &u64, most: u32, window: Window) -> Said {
+    fn window_at<P: Place>(place: &mut P, start: &u64, most: u32) -> Said {
+        let window = window_at(place, N, *start, most);
         Said {
             call: Call::Window {
                 start: *start,
@@ -217,10 +216,6 @@ impl<S: OfSize<N>, const N: usize> Windows for WordKeys<S, N> {
             },
             reply: Reply::Win(window),
         }
-    }
-
-    fn reply_of(said: Said) -> Reply {
-        said.reply
     }
 }
 
@@ -233,6 +228,10 @@ impl<S: OfSize<N>, const N: usize> Ranges for WordKeys<S, N> {
 
     fn key_of(number: u64) -> u64 {
         number
+    }
+
+    fn reply_of(said: Said) -> Reply {
+        said.reply
     }
 
     fn range_at<P: Place>(place: &mut P, from: &u64, bound: Bound, out: &mut Span) -> Bound {
@@ -259,8 +258,6 @@ impl<S: OfSize<N>, const N: usize> Edits for WordKeys<S, N> {
 
     ghost edited = { edited N };
 
-    ghost left_half = { left_half N };
-
     fn put_edit(page: &PageBuf<N>, key: &u64, value: u64) -> Result<(Option<u64>, Edit), Full> {
         put_edit(page, *key, value)
     }
@@ -282,14 +279,12 @@ impl<S: OfSize<N>, const N: usize> Edits for WordKeys<S, N> {
         edit.changes(N)
     }
 
-    fn right_half(page: &PageBuf<N>, right: &mut PageBuf<N>) -> u64 {
-        let separator = right_half(page, right);
+    fn split(page: &PageBuf<N>, left: &mut PageBuf<N>, right: &mut PageBuf<N>) -> u64 {
+        left.copy_from(page);
+        let separator = split(left, right);
+        let _ = in_buffer(left);
         let _ = in_buffer(right);
         separator
-    }
-
-    fn left_word(page: &PageBuf<N>, separator: &u64, i: usize) -> u64 {
-        left_word(page, *separator, i)
     }
 
     fn new_root(page: &mut PageBuf<N>, level: u64, left: u64, separator: &u64, right: u64) {

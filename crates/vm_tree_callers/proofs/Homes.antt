@@ -43,13 +43,13 @@ read-rests plain L call key (reads.Damaged p) v w a = of-reads v w a.0.0
 pub rests-held : {X : Type 0} (frames : List ℕ) (v w : View X) → AreHeld frames v → Rests v w → AreHeld frames w
 rests-held frames v w h r = held-on frames v w h r.start r.frames
 
-pub got-home : {S : Type 0} (plain : S → Said) (L : Layout) (call : Call) (key : ℕ) (r : Result Reply TreeFault)
-    (v w : View S) → IfOk r (λ reply. IsReplied plain L (record {
+pub got-home : {S R : Type 0} (plain : S → Said) (told : R → Reply) (L : Layout) (call : Call) (key : ℕ)
+    (r : Result R TreeFault) (v w : View S) → IfOk r (λ reply. IsReplied plain L (record {
       call = call;
-      reply = reply;
+      reply = told reply;
     }) v w) → IfErr r (λ fault. IsFaulted L key fault v w) → w.out ≡ v.out
-got-home plain L call key (Ok reply) v w a b = a.out
-got-home plain L call key (Err fault) v w a b = b.leaves.out
+got-home plain told L call key (Ok reply) v w a b = a.out
+got-home plain told L call key (Err fault) v w a b = b.leaves.out
 
 -- a page that the pass holds and has not written is so after a read of the tree
 pub record IsBeside {X : Type 0} (p frame version : ℕ) (dirty : Bool) (w : View X) : Type 0 where

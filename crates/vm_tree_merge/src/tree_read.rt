@@ -2,5 +2,5 @@
 
 pub use vm_tree_join::tree_read::{
     Round, TryRead, answer, fetch, find_in_place, get, get_within, leaf_at, leaf_below, read_leaf,
-    settle, try_get, try_window, window, window_within,
+    settle, show_window, try_get, try_window, window, window_said, window_within,
 };

@@ -1,6 +1,7 @@
 -- What a read of the tree answers: the reply at one step of the history, or why it is to be tried again.
 use Rattle.std.specs.Prelude.{[], ◌++◌, ◌∷◌, ◌≡◌, List, true, ℕ}
 use Rattle.vm_map.specs.{declared.call.Call.Call, declared.call.Reply.Reply, declared.call.Said.Said, Map.Rises}
+use Rattle.vm_map.specs.declared.window.Window.{Window as Shown}
 use Rattle.vm_map.specs.declared.call.Call.TheVariants.{Del, Get, Put, Range, Swap, Window}
 use Rattle.vm_map.specs.declared.call.Reply.TheVariants.{Gone, Got, Many, Swapped, Was, Wide, Win}
 use Rattle.vm_tree_model.specs.{Layout.Layout, Node.Covers, Page.node_of, Page.pairs_of, Tree.map_of}
@@ -33,6 +34,10 @@ IsOfKind (Swap key want value) (Swapped outcome) = Unit {0}
 IsOfKind (Range low bound) (Many span) = Unit {0}
 IsOfKind (Range low bound) (Wide reach) = Unit {0}
 IsOfKind _ _ = ⊥
+
+-- a window of at most so many pairs from this key on, with what it shows
+abbrev pub says_window : ℕ → ℕ → Shown → Said
+says_window start most shown = record { call = Window start most; reply = Win shown }
 
 -- the words are a leaf's that covers the call's key; and they prove the reply where their keys rise, as those of a tree's leaf do
 pub record ProvesReply (L : Layout) (words : List ℕ) (said : Said) : Type 0 where

@@ -12,3 +12,8 @@ pub use Rattle.vm_pool.specs.from_vm_guard.declared_deny_Deny_TheVariants
 pub use Rattle.vm_pool.specs.from_vm_guard.declared_given_Fresh
 pub use Rattle.vm_pool.specs.from_vm_guard.declared_given_Fresh_TheVariants
 pub use Rattle.vm_pool.specs.from_vm_guard.declared_opt_OptGuard
+pub use Rattle.vm_tree_rule.specs.from_vm_guard.Given
+pub use Rattle.vm_tree_rule.specs.from_vm_guard.Groups
+pub use Rattle.vm_tree_rule.specs.from_vm_guard.Spares
+pub use Rattle.vm_tree_rule.specs.from_vm_guard.declared_exclusive_ExclusiveGuard
+pub use Rattle.vm_tree_rule.specs.from_vm_guard.declared_group_Group

@@ -13,6 +13,6 @@ pub mod tree_rule;
 pub mod waiting;
 pub mod within;
 
-pub use read::{TryRead, try_get, try_window};
-pub use waiting::{get, window};
-pub use within::{get_within, window_within};
+pub use read::{TryRead, show_window, try_get, try_window};
+pub use waiting::{get, window, window_said};
+pub use within::{get_within, window_said_within, window_within};

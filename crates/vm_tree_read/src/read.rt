@@ -9,15 +9,16 @@ ghost use Rattle.vm_tree_rule.specs.from_vm_step.Prelude.{GoesOn, IsReadyOn, vie
 ghost use Rattle.vm_pool.specs.from_vm_guard.Guards.{IsReading};
 ghost use Rattle.vm_tree_rule.specs.{Resident.KnowsResident, Turns.IsTurnedBack};
 ghost use Rattle.vm_tree_rule.specs.Few.{LoadsHeight, LoadsWithin, ReadsInPlace};
-ghost use Rattle.vm_tree_read.specs.Reads.{IsAnswered, IsDone, IsDoneInKind, IsTried};
+ghost use Rattle.vm_tree_read.specs.Reads.{IsAnswered, IsDone, IsDoneInKind, IsTried, says_window};
+ghost use Rattle.vm_map.specs.declared.window.Window.{Window};
 
 use crate::answer::{answer, leaf_at};
 use vm_block::Block;
 use vm_map::call::Reply;
-use vm_map::window::{MOST_PAIRS, Window};
+use vm_map::window::MOST_PAIRS;
 use vm_pool::guard::OptGuard;
 use vm_pool::rule::{Pass, Words};
-use vm_tree_rule::kind::{Kind, TreeOf, Windows};
+use vm_tree_rule::kind::{Kind, Ranges, TreeOf, Windows};
 use vm_tree_rule::step::{Saw, frame_place};
 use vm_tree_rule::{InPlace, Turn};
 
@@ -70,19 +71,20 @@ pub fn find_in_place<K: Kind, B: Block>(
     K::find_at(&mut place, key)
 }
 
-/// What the page under the guard shows from the key `start` on, found where it stands.
+/// The call of a window with what the page under the guard shows from the key `start` on, found where it stands.
 fn window_in_place<K: Windows, B: Block>(
     words: &Words<TreeOf<K>, B>,
     pass: &mut Pass<TreeOf<K>>,
     guard: &OptGuard,
     start: &K::Key,
     most: u32,
-) -> Window
+) -> K::Said
     requires ready { IsReadyOn words.now B.tells pass.old }
     requires reading { IsReading guard.now.pid guard.now.word guard.now.frame (view pass.old) }
     ensures goes { GoesOn words.now B.tells pass.old pass.new }
-    ensures found { ReadsInPlace guard.now.pid guard.now.word guard.now.frame (2 * min most MOST_PAIRS + K.window_most) (view pass.old) (view pass.new)
-        (λ loaded. (page : List ℕ) → IsPageWith K.layout.words loaded page → ShowsFirst K.layout page (K.rank start.now) most result) }
+    ensures found { (shown : Window) × (K.plain result ≡ says_window (K.rank start.now) most shown)
+        × ReadsInPlace guard.now.pid guard.now.word guard.now.frame (K.window_each * min most MOST_PAIRS + K.window_most) (view pass.old) (view pass.new)
+        (λ loaded. (page : List ℕ) → IsPageWith K.layout.words loaded page → ShowsFirst K.layout page (K.rank start.now) most shown) }
 {
     let mut place = InPlace {
         words,
@@ -144,9 +146,39 @@ pub fn try_get<K: Kind, B: Block>(
     }
 }
 
+/// A window with its reply, or why there is none to tell yet. `window_most` words are loaded of the leaf, and `window_each` for each pair.
+pub fn show_window<K: Windows, B: Block>(
+    words: &Words<TreeOf<K>, B>,
+    pass: &mut Pass<TreeOf<K>>,
+    start: &K::Key,
+    most: u32,
+) -> Result<K::Said, Turn>
+    requires ready { IsReadyOn words.now B.tells pass.old }
+    requires pages { 1 ≤ words.now.table.shared.key.pages }
+    requires most { 1 ≤ most }
+    ensures goes { GoesOn words.now B.tells pass.old pass.new }
+    ensures ok { IfOk result (λ said. (shown : Window) × (K.plain said ≡ says_window (K.rank start.now) most shown)
+        × IsAnswered K.plain K.layout (says_window (K.rank start.now) most shown) (view pass.old) (view pass.new)) }
+    ensures err { IfErr result (λ turn. IsTurnedBack K.layout (view pass.old) (K.rank start.now) turn (view pass.new)) }
+    ensures sure { B.tells ≡ true → KnowsResident (view pass.old) → IsOk result }
+    ensures known { B.tells ≡ true → KnowsResident (view pass.old) → KnowsResident (view pass.new) }
+    ensures few { LoadsWithin (λ h. 2 + K.bounds.child * h + (1 + K.bounds.fences + (K.window_each * min most MOST_PAIRS + K.window_most))) (view pass.old) (view pass.new) }
+    ensures height { IfOk result (λ _. (h : ℕ) × LoadsHeight (2 + K.bounds.child * h + (1 + K.bounds.fences + (K.window_each * min most MOST_PAIRS + K.window_most))) h (view pass.old) (view pass.new)) }
+{
+    let guard = match leaf_at(words, pass, start) {
+        Ok(guard) => guard,
+        Err(turn) => return Err(turn),
+    };
+    let said = window_in_place(words, pass, &guard, start, most);
+    match answer(words, pass, &guard, &said) {
+        Ok(()) => Ok(said),
+        Err(saw) => Err(Turn::Again(saw)),
+    }
+}
+
 /// The first pairs from the key `start` on, at most `most` (1 or more) of them and at most those of one leaf. As many words are loaded on the way as by a
-/// look-up, and of the leaf two for each pair, and `window_most` more.
-pub fn try_window<K: Windows, B: Block>(
+/// look-up, and of the leaf `window_each` for each pair, and `window_most` more.
+pub fn try_window<K: Ranges, B: Block>(
     words: &Words<TreeOf<K>, B>,
     pass: &mut Pass<TreeOf<K>>,
     start: &K::Key,
@@ -160,17 +192,11 @@ pub fn try_window<K: Windows, B: Block>(
     ensures kind { IsDoneInKind (ForWindow (K.rank start.now) most) result }
     ensures sure { B.tells ≡ true → KnowsResident (view pass.old) → IsDone result }
     ensures known { B.tells ≡ true → KnowsResident (view pass.old) → KnowsResident (view pass.new) }
-    ensures few { LoadsWithin (λ h. 2 + K.bounds.child * h + (1 + K.bounds.fences + (2 * min most MOST_PAIRS + K.window_most))) (view pass.old) (view pass.new) }
-    ensures height { IsDone result → (h : ℕ) × LoadsHeight (2 + K.bounds.child * h + (1 + K.bounds.fences + (2 * min most MOST_PAIRS + K.window_most))) h (view pass.old) (view pass.new) }
+    ensures few { LoadsWithin (λ h. 2 + K.bounds.child * h + (1 + K.bounds.fences + (K.window_each * min most MOST_PAIRS + K.window_most))) (view pass.old) (view pass.new) }
+    ensures height { IsDone result → (h : ℕ) × LoadsHeight (2 + K.bounds.child * h + (1 + K.bounds.fences + (K.window_each * min most MOST_PAIRS + K.window_most))) h (view pass.old) (view pass.new) }
 {
-    let guard = match leaf_at(words, pass, start) {
-        Ok(guard) => guard,
-        Err(turn) => return not_yet::<K>(turn),
-    };
-    let shown = window_in_place(words, pass, &guard, start, most);
-    let said = K::shown(start, most, shown);
-    match answer(words, pass, &guard, &said) {
-        Ok(()) => TryRead::Done(K::reply_of(said)),
-        Err(saw) => TryRead::Again(saw),
+    match show_window(words, pass, start, most) {
+        Ok(said) => TryRead::Done(K::reply_of(said)),
+        Err(turn) => not_yet::<K>(turn),
     }
 }

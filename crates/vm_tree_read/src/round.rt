@@ -1,14 +1,15 @@
 // A round of a read that is tried until it is answered: one try, and what its answer asks for, as a page to be brought. A round never waits.
-ghost use Rattle.std.specs.Prelude.{◌<◌, ◌≡◌, ◌≤◌, None};
-ghost use Rattle.vm_map.specs.declared.call.Call.TheVariants.{Get, Window as ForWindow};
+ghost use Rattle.std.specs.Prelude.{◌<◌, ◌≡◌, ◌≤◌, None, ℕ};
+ghost use Rattle.vm_map.specs.declared.window.Window.{Window};
+ghost use Rattle.vm_map.specs.declared.call.Call.TheVariants.{Get};
 ghost use Rattle.vm_map.specs.declared.call.Reply.TheVariants.{Got};
 ghost use Rattle.vm_tree_rule.specs.from_vm_step.Prelude.{AreHeld, GoesOn, IsReadyOn, NoneExpected, view};
-ghost use Rattle.vm_tree_read.specs.Reads.{IsAnswered, IsOfKind};
+ghost use Rattle.vm_tree_rule.specs.Turns.{IsTurnedBack};
+ghost use Rattle.vm_tree_read.specs.Reads.{IsAnswered, says_window};
 ghost use Rattle.vm_tree_read.specs.Waiting.{IsBringFault, IsNoBringFault, IsReadFault, IsRound, LosesNone, NamesFault, NamesNone, RoundTells, Waits};
 
-use crate::read::{TryRead, look_up, try_window};
+use crate::read::{look_up, show_window};
 use vm_block::PageBlock;
-use vm_map::call::Reply;
 use vm_pool::exmap::Interface;
 use vm_pool::rule::Pass;
 use vm_pool::{Bring, Pool};
@@ -62,6 +63,32 @@ pub fn fetch<T, K: Kind, B: PageBlock<N>, const N: usize>(
     settle(answer)
 }
 
+/// What a round comes to whose try was turned back: a page that it needs is brought, once.
+fn turned_round<T, K: Kind, B: PageBlock<N>, const N: usize>(
+    pool: &Pool<TreeOf<K>, B, N>,
+    pass: &mut Pass<TreeOf<K>>,
+    iface: &mut Interface,
+    turn: Turn,
+) -> Round<T>
+    requires ready { IsReadyOn pool.now.words B.tells pass.old }
+    requires home { (view pass.old).out ≡ None }
+    requires frames { AreHeld iface.old.frames (view pass.old) }
+    requires turned { (v : _) × (key : ℕ) × IsTurnedBack K.layout v key turn (view pass.old) }
+    ensures goes { GoesOn pool.now.words B.tells pass.old pass.new }
+    ensures held { AreHeld iface.new.frames (view pass.new) }
+    ensures iface { (iface.new.home ≡ iface.old.home) × (iface.new.cap ≡ iface.old.cap) }
+    ensures lost { LosesNone iface.old.frames (view pass.old) iface.new.frames (view pass.new) }
+    ensures told { (v : _) (key : ℕ) → IsTurnedBack K.layout v key turn (view pass.old) → RoundTells (λ _. ⊥)
+        (Waits v (view pass.new) × IsRound K.layout NoneExpected key v (view pass.new))
+        (λ fault. Waits v (view pass.new) × IsReadFault K.layout key fault v (view pass.new)) result }
+{
+    match turn {
+        Turn::Again(_) => Round::Later,
+        Turn::Damaged(pid) => Round::Failed(TreeFault::Damaged { pid }),
+        Turn::Need(pid) => fetch(pool, pass, iface, pid),
+    }
+}
+
 /// A round of a get. A reply has room for a window's pairs, so it is made where it is handed on, and not here.
 pub(crate) fn get_round<K: Kind, B: PageBlock<N>, const N: usize>(
     pool: &Pool<TreeOf<K>, B, N>,
@@ -84,9 +111,7 @@ pub(crate) fn get_round<K: Kind, B: PageBlock<N>, const N: usize>(
 {
     match look_up(&pool.words, pass, key) {
         Ok(value) => Round::Done(value),
-        Err(Turn::Again(_)) => Round::Later,
-        Err(Turn::Damaged(pid)) => Round::Failed(TreeFault::Damaged { pid }),
-        Err(Turn::Need(pid)) => fetch(pool, pass, iface, pid),
+        Err(turn) => turned_round(pool, pass, iface, turn),
     }
 }
 
@@ -97,7 +122,7 @@ pub(crate) fn window_round<K: Windows, B: PageBlock<N>, const N: usize>(
     iface: &mut Interface,
     start: &K::Key,
     most: u32,
-) -> Round<Reply>
+) -> Round<K::Said>
     requires ready { IsReadyOn pool.now.words B.tells pass.old }
     requires pages { 1 ≤ pool.now.words.table.shared.key.pages }
     requires most { 1 ≤ most }
@@ -108,15 +133,13 @@ pub(crate) fn window_round<K: Windows, B: PageBlock<N>, const N: usize>(
     ensures iface { (iface.new.home ≡ iface.old.home) × (iface.new.cap ≡ iface.old.cap) }
     ensures lost { LosesNone iface.old.frames (view pass.old) iface.new.frames (view pass.new) }
     ensures told { RoundTells
-        (λ reply. IsAnswered K.plain K.layout (record { call = ForWindow (K.rank start.now) most; reply = reply }) (view pass.old) (view pass.new)
-        × IsOfKind (ForWindow (K.rank start.now) most) reply)
+        (λ said. (shown : Window) × (K.plain said ≡ says_window (K.rank start.now) most shown)
+        × IsAnswered K.plain K.layout (says_window (K.rank start.now) most shown) (view pass.old) (view pass.new))
         (Waits (view pass.old) (view pass.new) × IsRound K.layout NoneExpected (K.rank start.now) (view pass.old) (view pass.new))
         (λ fault. Waits (view pass.old) (view pass.new) × IsReadFault K.layout (K.rank start.now) fault (view pass.old) (view pass.new)) result }
 {
-    match try_window(&pool.words, pass, start, most) {
-        TryRead::Done(reply) => Round::Done(reply),
-        TryRead::Again(_) => Round::Later,
-        TryRead::Damaged(pid) => Round::Failed(TreeFault::Damaged { pid }),
-        TryRead::Need(pid) => fetch(pool, pass, iface, pid),
+    match show_window(&pool.words, pass, start, most) {
+        Ok(said) => Round::Done(said),
+        Err(turn) => turned_round(pool, pass, iface, turn),
     }
 }

@@ -1,5 +1,6 @@
 //! What the crates above name of `vm_tree_read` through this one.
 
 pub use vm_tree_write::tree_read::{
-    Round, TryRead, get, get_within, try_get, try_window, window, window_within,
+    Round, TryRead, get, get_within, show_window, try_get, try_window, window, window_said,
+    window_within,
 };

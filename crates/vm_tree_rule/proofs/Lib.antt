@@ -10,4 +10,5 @@ pub mod Surely
 pub mod Counting
 pub mod Reaching
 pub mod OnWay
+pub mod from_vm_guard
 pub mod from_vm_step

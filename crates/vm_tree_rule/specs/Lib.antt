@@ -7,5 +7,6 @@ pub mod Shown
 pub mod Standing
 pub mod Turns
 pub mod Ways
+pub mod from_vm_guard
 pub mod from_vm_kind
 pub mod from_vm_step

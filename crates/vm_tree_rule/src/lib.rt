@@ -4,6 +4,7 @@
 pub mod above;
 pub mod descent;
 mod fault;
+pub mod guard;
 mod in_place;
 pub mod kind;
 pub mod seek;

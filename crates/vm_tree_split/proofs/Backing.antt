@@ -13,11 +13,11 @@ use Rattle.vm_step.specs.declared.saw.Saw.{Saw}
 use Rattle.vm_step.proofs.Asides.{starts-then}
 use Rattle.vm_tree_read.specs.from_vm_exmap.declared_interface_Alloc_TheVariants as allocs
 use Rattle.vm_tree_read.specs.from_vm_exmap.Walks.{IsAlloc}
-use Rattle.vm_guard.specs.declared.deny.Deny.TheVariants as denies
-use Rattle.vm_guard.specs.declared.given.Fresh.TheVariants as freshes
-use Rattle.vm_guard.specs.declared.opt.OptGuard.{OptGuard}
-use Rattle.vm_guard.specs.{Reused.IsFreshAnswer, Reused.IsLostTake, Spares.FindsFew, Spares.spare_loads}
-use Rattle.vm_guard.specs.Denied.{AgainOrNeed, AgainOrWorn, IsDenied, KeptWord}
+use Rattle.vm_tree_read.specs.from_vm_guard.declared_deny_Deny_TheVariants as denies
+use Rattle.vm_tree_read.specs.from_vm_guard.declared_given_Fresh_TheVariants as freshes
+use Rattle.vm_tree_read.specs.from_vm_guard.declared_opt_OptGuard.{OptGuard}
+use Rattle.vm_tree_read.specs.from_vm_guard.{Reused.IsFreshAnswer, Reused.IsLostTake, Spares.FindsFew, Spares.spare_loads}
+use Rattle.vm_tree_read.specs.from_vm_guard.Denied.{AgainOrNeed, AgainOrWorn, IsDenied, KeptWord}
 use Rattle.vm_tree_read.specs.from_vm_tree_rule.{Leaves.LeavesWord, Standing.IsOpened}
 use Rattle.vm_tree_read.specs.from_vm_tree_rule.Shown.{IsAgain, IsSeen, IsShown}
 use Rattle.vm_tree_read.proofs.from_vm_tree_rule.{Logged.shown-kept, Logged.shown-later, Showing.saw-behind, Showing.seen-front}

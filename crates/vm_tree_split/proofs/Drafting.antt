@@ -11,8 +11,8 @@ use Rattle.vm_rule.proofs.Entries.{append-none}
 use Rattle.vm_step.specs.Prelude.{Did, Follows, IsAlone, Origin, View}
 use Rattle.vm_step.proofs.Alone.{set-else, still-alone}
 use Rattle.vm_step.proofs.Asides.{alone-self, alone-then, holds-then, numbers-self, numbers-then, reads-then}
-use Rattle.vm_guard.specs.{Guards.dirty_steps, Guards.IsSet, Sure.known_next}
-use Rattle.vm_guard.proofs.QuietSteps.{elsewhere-then, quiet-elsewhere, quiet-none}
+use Rattle.vm_tree_read.specs.from_vm_guard.{Guards.dirty_steps, Guards.IsSet, Sure.known_next}
+use Rattle.vm_tree_read.proofs.from_vm_guard.QuietSteps.{elsewhere-then, quiet-elsewhere, quiet-none}
 use Rattle.vm_tree_split.specs.Drafts.{DraftsIn, IsDraftedAmong, IsDraftPlace, IsRedrafted, KnowsSameStates, SetsDiffering}
 
 -- steps that write elsewhere leave the word at this number

@@ -10,8 +10,8 @@ use Rattle.vm_event.specs.Prelude.{LoadsAre}
 use Rattle.vm_rule.specs.Prelude.{AreApart, has, last_of, loads_at, put_at}
 use Rattle.vm_step.specs.Prelude.{Did, Origin, View}
 use Rattle.vm_tree_read.specs.from_vm_exmap.Frames.{MovesFrames}
-use Rattle.vm_guard.specs.{declared.exclusive.ExclusiveGuard.ExclusiveGuard, declared.opt.OptGuard.OptGuard}
-use Rattle.vm_guard.specs.{Groups.GuardsHeld, Groups.pids_of}
+use Rattle.vm_tree_read.specs.from_vm_guard.{declared_exclusive_ExclusiveGuard.ExclusiveGuard, declared_opt_OptGuard.OptGuard}
+use Rattle.vm_tree_read.specs.from_vm_guard.{Groups.GuardsHeld, Groups.pids_of}
 use Rattle.vm_tree_read.specs.from_vm_tree_rule.Seeks.{IsFullBelow, IsRootFull}
 use Rattle.vm_tree_read.proofs.from_vm_tree_rule.{Entering.opened-reads, Readings.loads-behind}
 use Rattle.vm_tree_split.specs.{Prepares.AreTaken, Prepares.IsPrepared, Tries.HasSplit}

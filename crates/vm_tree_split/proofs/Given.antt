@@ -5,9 +5,9 @@ use Rattle.std.proofs.lemmas.Bool.{eq-eqb, or_left, or_right}
 use Rattle.vm_owner.proofs.NumberLemmas.{without-none}
 use Rattle.vm_rule.specs.Prelude.{has, without_all}
 use Rattle.vm_step.specs.Prelude.{View}
-use Rattle.vm_guard.specs.{declared.group.Group.Group, Groups.guards_of, Groups.pids_of, Reused.IsFreshAnswer}
-use Rattle.vm_guard.specs.declared.given.Fresh.TheVariants as freshes
-use Rattle.vm_guard.proofs.Searching.{looks-none, looks-some}
+use Rattle.vm_tree_read.specs.from_vm_guard.{declared_group_Group.Group, Groups.guards_of, Groups.pids_of, Reused.IsFreshAnswer}
+use Rattle.vm_tree_read.specs.from_vm_guard.declared_given_Fresh_TheVariants as freshes
+use Rattle.vm_tree_read.proofs.from_vm_guard.Searching.{looks-none, looks-some}
 
 -- none of these pages is among the others
 pub without-each : (ps o : List ℕ) → ((q : ℕ) → has q ps ≡ true → has q o ≡ false) → without_all ps o ≡ o

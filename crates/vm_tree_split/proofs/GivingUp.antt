@@ -5,8 +5,8 @@ use Rattle.vm_event.specs.Prelude.{Version}
 use Rattle.vm_rule.specs.Prelude.{draft_of, has, last_of}
 use Rattle.vm_step.specs.Prelude.{AreHeld, View}
 use Rattle.vm_tree_read.proofs.from_vm_exmap.Handing.{held-on, held-swap}
-use Rattle.vm_guard.specs.{declared.exclusive.ExclusiveGuard.ExclusiveGuard, declared.opt.OptGuard.OptGuard}
-use Rattle.vm_guard.specs.{Guards.IsHolding, Guards.IsReleased}
+use Rattle.vm_tree_read.specs.from_vm_guard.{declared_exclusive_ExclusiveGuard.ExclusiveGuard, declared_opt_OptGuard.OptGuard}
+use Rattle.vm_tree_read.specs.from_vm_guard.{Guards.IsHolding, Guards.IsReleased}
 use Rattle.vm_tree_read.specs.Waiting.{LosesNone}
 use Rattle.vm_tree_read.proofs.Losing.{loses-swap}
 use Rattle.vm_tree_split.specs.{Prepares.AreLocked, Prepares.GivesUpBoth, Splits.HasDraft, Splits.KeepsLocksOnly}

@@ -12,10 +12,10 @@ use Rattle.vm_rule.proofs.Facts.{has-both}
 use Rattle.vm_step.specs.Prelude.{Did, HoldsPage, KeepsNumbers, Origin, View}
 use Rattle.vm_step.proofs.Asides.{holds-then, numbers-then, still-locking}
 use Rattle.vm_tree_read.specs.from_vm_exmap.Frames.{MovesFrames}
-use Rattle.vm_guard.specs.{declared.exclusive.ExclusiveGuard.ExclusiveGuard, declared.opt.OptGuard.OptGuard}
-use Rattle.vm_guard.specs.{Guards.IsHolding, Guards.IsReading, Groups.guards_of, Groups.pids_of, Reused.IsFreshAnswer}
-use Rattle.vm_guard.specs.declared.given.Fresh.TheVariants as freshes
-use Rattle.vm_guard.proofs.{Freshly.holding-on, Groups.lacks, Groups.without-front, Reading.reading-elsewhere}
+use Rattle.vm_tree_read.specs.from_vm_guard.{declared_exclusive_ExclusiveGuard.ExclusiveGuard, declared_opt_OptGuard.OptGuard}
+use Rattle.vm_tree_read.specs.from_vm_guard.{Guards.IsHolding, Guards.IsReading, Groups.guards_of, Groups.pids_of, Reused.IsFreshAnswer}
+use Rattle.vm_tree_read.specs.from_vm_guard.declared_given_Fresh_TheVariants as freshes
+use Rattle.vm_tree_read.proofs.from_vm_guard.{Freshly.holding-on, Groups.lacks, Groups.without-front, Reading.reading-elsewhere}
 use Rattle.vm_tree_laws.specs.Descent.{IsReached}
 use Rattle.vm_tree_read.specs.from_vm_tree_rule.{Seeks.HasRead, Standing.Awaits, Standing.tree_pages}
 use Rattle.vm_tree_split.specs.Prepares.{AreTaken}

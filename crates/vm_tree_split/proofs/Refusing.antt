@@ -13,13 +13,13 @@ use Rattle.vm_step.specs.declared.saw.Saw.{Saw}
 use Rattle.vm_step.proofs.Asides.{holds-then, keeps-then, knows-then, starts-then, still-locking}
 use Rattle.vm_tree_read.specs.from_vm_exmap.Frames.{MovesFrames}
 use Rattle.vm_tree_read.proofs.from_vm_exmap.FrameMoves.{leaves-states}
-use Rattle.vm_guard.specs.{declared.deny.Deny.Deny, declared.given.Fresh.Fresh, declared.opt.OptGuard.OptGuard}
-use Rattle.vm_guard.specs.{Denied.AgainOrWorn, Fresh.IsAmid, Fresh.IsNextAnswer, Fresh.IsNil, Quiet.IsQuiet}
-use Rattle.vm_guard.specs.Reused.{IsFreshAnswer, IsReuseAnswer, IsTakenAnswer, IsUnused}
-use Rattle.vm_guard.specs.declared.deny.Deny.TheVariants as denies
-use Rattle.vm_guard.specs.declared.given.Fresh.TheVariants as freshes
-use Rattle.vm_guard.specs.Guards.{IsHolding, IsLocked, IsReleased}
-use Rattle.vm_guard.proofs.{Amid.amid-then, Amid.amid-within, FreshAnswers.next-kept, FreshNone.nload-nil}
+use Rattle.vm_tree_read.specs.from_vm_guard.{declared_deny_Deny.Deny, declared_given_Fresh.Fresh, declared_opt_OptGuard.OptGuard}
+use Rattle.vm_tree_read.specs.from_vm_guard.{Denied.AgainOrWorn, Fresh.IsAmid, Fresh.IsNextAnswer, Fresh.IsNil, Quiet.IsQuiet}
+use Rattle.vm_tree_read.specs.from_vm_guard.Reused.{IsFreshAnswer, IsReuseAnswer, IsTakenAnswer, IsUnused}
+use Rattle.vm_tree_read.specs.from_vm_guard.declared_deny_Deny_TheVariants as denies
+use Rattle.vm_tree_read.specs.from_vm_guard.declared_given_Fresh_TheVariants as freshes
+use Rattle.vm_tree_read.specs.from_vm_guard.Guards.{IsHolding, IsLocked, IsReleased}
+use Rattle.vm_tree_read.proofs.from_vm_guard.{Amid.amid-then, Amid.amid-within, FreshAnswers.next-kept, FreshNone.nload-nil}
 use Rattle.vm_tree_model.specs.Layout.{Layout}
 use Rattle.vm_tree_laws.specs.Tied.{Tied}
 use Rattle.vm_tree_read.specs.from_vm_tree_rule.Leaves.{LeavesWord}
@@ -31,7 +31,7 @@ use Rattle.vm_tree_split.proofs.{Framing.after-some, Framing.unheld-not, Numberi
 use Rattle.vm_tree_split.proofs.{Numbering.released-same, Numbering.worn-kept, Numbering.worn-page}
 use Rattle.vm_tree_split.proofs.{Numbering.worn-then}
 use Rattle.vm_tree_split.proofs.Seeing.{OnlySees, sees-few, sees-some, sees-taken}
-use Rattle.vm_guard.proofs.GuardSteps.{still-held}
+use Rattle.vm_tree_read.proofs.from_vm_guard.GuardSteps.{still-held}
 
 state-same : (p q : ℕ) → places.State p ≡ places.State q → p ≡ q
 state-same p q e = cc

@@ -7,9 +7,9 @@ use Rattle.vm_rule.specs.declared.view.WordPlace.TheVariants as places
 use Rattle.vm_rule.proofs.Entries.{each-map}
 use Rattle.vm_step.specs.Prelude.{AreHeld, Did, LocksNone, Origin, View}
 use Rattle.vm_step.proofs.HeldFrames.{held-on}
-use Rattle.vm_guard.specs.declared.opt.OptGuard.{OptGuard}
-use Rattle.vm_guard.specs.Guards.{IsReading}
-use Rattle.vm_guard.proofs.{Amid.amid-alone, Reading.reading-kept}
+use Rattle.vm_tree_read.specs.from_vm_guard.declared_opt_OptGuard.{OptGuard}
+use Rattle.vm_tree_read.specs.from_vm_guard.Guards.{IsReading}
+use Rattle.vm_tree_read.proofs.from_vm_guard.{Amid.amid-alone, Reading.reading-kept}
 use Rattle.vm_tree_read.specs.from_vm_tree_rule.{Leaves.LeavesWord, Seeks.HasRead, Standing.Awaits}
 use Rattle.vm_tree_read.specs.Waiting.{LosesNone}
 use Rattle.vm_tree_read.proofs.Losing.{loses-same}

@@ -1,20 +1,20 @@
 -- Four pages that are held get their new drafts one after the other, and are released together: page 0, the full root, and two fresh pages.
-use Rattle.std.proofs.Common.{◌≤◌, [], ◌+◌, ◌<◌, ◌∙◌, ◌∷◌, ◌≡◌, ◌≢◌, ap, Bool, false, inl, inr, List, None, refl}
+use Rattle.std.proofs.Common.{◌≤◌, ◌⊎◌, [], ◌+◌, ◌<◌, ◌∙◌, ◌∷◌, ◌≡◌, ◌≢◌, ap, Bool, false, inl, inr, List, None, refl}
 use Rattle.std.proofs.Common.{replicate, slice_index, slice_set, subst, sym, true, ℕ}
 use Rattle.vm_map.specs.declared.call.Said.{Said}
 use Rattle.std.proofs.Common.{arith, length}
 use Rattle.std.proofs.lemmas.List.{get_or-set_same, length-set}
 use Rattle.vm_page.specs.Pages.{all_zero}
 use Rattle.vm_tree_laws.proofs.Zeros.{node_words, other_words}
-use Rattle.vm_tree_model.specs.{Edits.IsNewRoot, Edits.IsSplit, Node.Node, Page.IsFree, Page.node_of}
+use Rattle.vm_tree_model.specs.{Edits.IsNewRoot, Edits.IsSplit, Node.Node, Page.IsFree, Page.IsInner, Page.IsLeaf, Page.node_of}
 use Rattle.vm_tree_model.specs.Layout.{IsClean, IsFullNode, IsLayout, Layout, size}
 use Rattle.vm_event.specs.Prelude.{Version}
 use Rattle.vm_rule.specs.Prelude.{AreApart, began_of, change_of, changes_of, draft_of, has, last_of, seat_of}
 use Rattle.vm_step.specs.Prelude.{HoldsPage, IsClaimed, Origin, View}
 use Rattle.vm_step.proofs.Asides.{holds-then}
-use Rattle.vm_guard.specs.{declared.exclusive.ExclusiveGuard.ExclusiveGuard, Guards.IsHolding, Guards.IsSet}
-use Rattle.vm_guard.specs.Groups.{AreReleased, MayReleaseAll, pids_of}
-use Rattle.vm_guard.proofs.Groups.{lacks}
+use Rattle.vm_tree_read.specs.from_vm_guard.{declared_exclusive_ExclusiveGuard.ExclusiveGuard, Guards.IsHolding, Guards.IsSet}
+use Rattle.vm_tree_read.specs.from_vm_guard.Groups.{AreReleased, MayReleaseAll, pids_of}
+use Rattle.vm_tree_read.proofs.from_vm_guard.Groups.{lacks}
 use Rattle.vm_tree_laws.specs.Plain.{ReleasesPlain}
 use Rattle.vm_tree_laws.proofs.Established.{may_split_root}
 use Rattle.vm_tree_split.specs.Drafts.{IsRedrafted}
@@ -189,7 +189,7 @@ module _ {S : Type 0} (plain : S → Said) (L : Layout) (laws : IsLayout L) (spa
     (four : y.start.tells ≡ true → AreDrafted L a b c d (last_of v a).words
     (slice_set (slice_set (last_of v a).words 1 d) 2 (height + 1)) page left half crown y) (zero : a ≡ 0)
     (told : v.start.tells ≡ true → IsRootToSplit L a b c d height page v) (full : spare page < L.growth)
-    (split : IsClean L page → IsSplit L page left half separator)
+    (split : IsLeaf L page ⊎ IsInner L page → IsSplit L page left half separator)
     (grows : IsNewRoot L crown (height + 1) b separator c)
     (usable : v.start.tells ≡ true → MayUse c v × MayUse d v) where
   tells-then : y.start.tells ≡ true → v.start.tells ≡ true
@@ -215,7 +215,7 @@ module _ {S : Type 0} (plain : S → Said) (L : Layout) (laws : IsLayout L) (spa
       (subst (λ (l : List ℕ). IsFullNode L (node_of L l)) (sym f.second.last) (spare-full L spare spare_is page clean full))
       (subst (λ (l : List ℕ). IsSplit L l (draft_of y b) (draft_of y c) separator) (sym f.second.last)
       (subst (λ (l : List ℕ). IsSplit L page l (draft_of y c) separator) (sym f.second.draft)
-      (subst (λ (l : List ℕ). IsSplit L page left l separator) (sym f.third.draft) (split clean))))
+      (subst (λ (l : List ℕ). IsSplit L page left l separator) (sym f.third.draft) (split to.kind))))
       (subst (λ (l : List ℕ). IsNewRoot L l (height + 1) b separator c) (sym f.fourth.draft) grows)
       (f.first.draft ∙ ap (λ (l : List ℕ). slice_set (slice_set l 1 d) 2 (height + 1)) (sym f.first.last))
       (subst (IsFree L) (sym f.third.last) (zeros-free L)) (subst (IsFree L) (sym f.fourth.last) (zeros-free L))
@@ -256,7 +256,7 @@ module _ {S : Type 0} (plain : S → Said) (L : Layout) (laws : IsLayout L) (spa
   four-used whole h i1 tells =
       let k = four tells in
       let to = to-split tells in
-      let halves = split (node-clean page to.kind) in
+      let halves = split to.kind in
       let f : ℕ → Bool = λ q. all_zero (draft_of y q) in
       let tag : (node_of L crown).tag ≡ 3 = ap (λ (n : Node). n.tag) grows.node in
       let crown-not : all_zero crown ≡ false = node_words L laws crown (omega (arith, tag), omega (arith, tag)) in

@@ -13,10 +13,10 @@ use Rattle.vm_step.specs.Prelude.{Did, IsAlone, known_word_at, View}
 use Rattle.vm_step.proofs.Alone.{same-word, words-known}
 use Rattle.vm_step.proofs.steps.Leaving.{holds-still, LeavesOthers, others-still, others-within}
 use Rattle.vm_step.proofs.steps.Unchanged.{still-own}
-use Rattle.vm_guard.specs.{Fresh.IsNil, Reused.HasFreshRoom, Reused.IsLostTake, Spares.FindsAllFew, Spares.FindsSome, Spares.spare_loads}
-use Rattle.vm_guard.proofs.{Amid.amid-alone, Amid.silent-of, FreshAnswers.next-kept, FreshNone.nil-then}
-use Rattle.vm_guard.proofs.{FreshNone.nload-nil, FreshSure.loaded-at, FreeSure.all-few-known, FreeSure.some-known}
-use Rattle.vm_guard.proofs.Searching.{Looks, looks-none, looks-some}
+use Rattle.vm_tree_read.specs.from_vm_guard.{Fresh.IsNil, Reused.HasFreshRoom, Reused.IsLostTake, Spares.FindsAllFew, Spares.FindsSome, Spares.spare_loads}
+use Rattle.vm_tree_read.proofs.from_vm_guard.{Amid.amid-alone, Amid.silent-of, FreshAnswers.next-kept, FreshNone.nil-then}
+use Rattle.vm_tree_read.proofs.from_vm_guard.{FreshNone.nload-nil, FreshSure.loaded-at, FreeSure.all-few-known, FreeSure.some-known}
+use Rattle.vm_tree_read.proofs.from_vm_guard.Searching.{Looks, looks-none, looks-some}
 
 loads-none : (g : ℕ) (xs : List ℕ) → Each (λ (d : Did). d.wrote ≡ None) (spare_loads g xs)
 loads-none g [] = tt

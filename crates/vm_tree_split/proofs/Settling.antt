@@ -12,11 +12,11 @@ use Rattle.vm_rule.proofs.WordFacts.{version-within}
 use Rattle.vm_step.specs.Prelude.{Did, IsAlone, KnowsUnheld, LocksNone, Origin, View}
 use Rattle.vm_step.proofs.Alone.{still-alone}
 use Rattle.vm_tree_read.specs.from_vm_exmap.Frames.{MovesFrames}
-use Rattle.vm_guard.specs.{declared.deny.Deny.Deny, declared.exclusive.ExclusiveGuard.ExclusiveGuard, declared.opt.OptGuard.OptGuard}
-use Rattle.vm_guard.specs.{Denied.AgainOrWorn, Denied.SameOrUnlocked, Guards.IsLocked}
-use Rattle.vm_guard.specs.declared.deny.Deny.TheVariants as denies
-use Rattle.vm_guard.specs.Spares.{known_spare, KnowsFew}
-use Rattle.vm_guard.specs.Sure.{HoldsUsed, IsKnownFree, IsUnlockedWord, known_next, known_word, MayBeTried}
+use Rattle.vm_tree_read.specs.from_vm_guard.{declared_deny_Deny.Deny, declared_exclusive_ExclusiveGuard.ExclusiveGuard, declared_opt_OptGuard.OptGuard}
+use Rattle.vm_tree_read.specs.from_vm_guard.{Denied.AgainOrWorn, Denied.SameOrUnlocked, Guards.IsLocked}
+use Rattle.vm_tree_read.specs.from_vm_guard.declared_deny_Deny_TheVariants as denies
+use Rattle.vm_tree_read.specs.from_vm_guard.Spares.{known_spare, KnowsFew}
+use Rattle.vm_tree_read.specs.from_vm_guard.Sure.{HoldsUsed, IsKnownFree, IsUnlockedWord, known_next, known_word, MayBeTried}
 use Rattle.vm_tree_model.specs.Layout.{IsLayout, Layout}
 use Rattle.vm_tree_laws.specs.Tied.{Tied}
 use Rattle.vm_tree_read.specs.from_vm_tree_rule.{Leaves.ReadsOn, Resident.IsKnownNow, Standing.Awaits}

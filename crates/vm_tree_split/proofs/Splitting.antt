@@ -20,16 +20,16 @@ use Rattle.vm_rule.proofs.Entries.{append-none, each-map}
 use Rattle.vm_step.specs.Prelude.{Did, HoldsPage, IsClaimed, KnowsAsBefore, Origin, View}
 use Rattle.vm_step.proofs.{Alone.still-alone, Asides.alone-then, Asides.holds-then, Asides.knows-then}
 use Rattle.vm_step.proofs.{Asides.numbers-then, Asides.starts-then, Asides.still-locking}
-use Rattle.vm_guard.specs.{declared.exclusive.ExclusiveGuard.ExclusiveGuard, Guards.IsHolding}
-use Rattle.vm_guard.specs.Groups.{AreReleased, MayReleaseAll, next_after_all, pids_of}
-use Rattle.vm_guard.proofs.Groups.{lacks}
+use Rattle.vm_tree_read.specs.from_vm_guard.{declared_exclusive_ExclusiveGuard.ExclusiveGuard, Guards.IsHolding}
+use Rattle.vm_tree_read.specs.from_vm_guard.Groups.{AreReleased, MayReleaseAll, next_after_all, pids_of}
+use Rattle.vm_tree_read.proofs.from_vm_guard.Groups.{lacks}
 use Rattle.vm_tree_laws.specs.Plain.{ReleasesPlain}
 use Rattle.vm_tree_laws.proofs.Established.{may_split}
 use Rattle.vm_tree_read.proofs.from_vm_tree_rule.Whole.{zero-at}
 use Rattle.vm_tree_split.specs.Drafts.{DraftsIn, IsDraftPlace, IsRedrafted, KnowsSameStates}
 use Rattle.vm_tree_split.specs.Splits.{AreToSplit, HasDraft, IsDrafted, IsGroupDone, IsSplitUp, MayUse, Stays}
 use Rattle.vm_tree_split.proofs.{Drafting.each-append, Framing.after-some, Numbering.freed-used}
-use Rattle.vm_guard.proofs.GuardSteps.{still-held}
+use Rattle.vm_tree_read.proofs.from_vm_guard.GuardSteps.{still-held}
 
 -- pages that are apart
 pub first-apart : (a b c : ℕ) → AreApart (a ∷ b ∷ c ∷ []) → (a ≢ b) × (a ≢ c) × (b ≢ c)
@@ -383,7 +383,7 @@ module _ {S : Type 0} (plain : S → Said) (L : Layout) (laws : IsLayout L) (spa
     (three : y.start.tells ≡ true → AreThree L a b c over above page left half y)
     (told : v.start.tells ≡ true → AreToSplit L a b c over page v)
     (room : L.growth ≤ spare over) (full : spare page < L.growth)
-    (split : IsClean L page → IsSplit L page left half separator)
+    (split : IsLeaf L page ⊎ IsInner L page → IsSplit L page left half separator)
     (adds : IsInner L over → AddsPair L over above separator c) (usable : v.start.tells ≡ true → MayUse c v) where
   tells-then : y.start.tells ≡ true → v.start.tells ≡ true
   tells-then tells = ap (λ (o : Origin). o.tells) (sym stays.start) ∙ tells
@@ -399,14 +399,14 @@ module _ {S : Type 0} (plain : S → Said) (L : Layout) (laws : IsLayout L) (spa
       splits-three plain L a b c to.names.0 separator over above page left (replicate L.words 0) half y t.first
       t.second t.third to.inner to.names.1 to.names.2
       (spare-room L spare spare_is over to.inner.clean room) (spare-full L spare spare_is page clean full)
-      (split clean) (adds to.inner) (zeros-free L)
+      (split to.kind) (adds to.inner) (zeros-free L)
 
   -- each of the three is in use then
   three-used : y.start.tells ≡ true → (q : ℕ) → has q (a ∷ b ∷ c ∷ []) ≡ true → all_zero (draft_of y q) ≡ false
   three-used tells =
       let t = three tells in
       let to = to-split tells in
-      let halves = split (node-clean page to.kind) in
+      let halves = split to.kind in
       let f : ℕ → Bool = λ q. all_zero (draft_of y q) in
       each-used f a (b ∷ c ∷ [])
       (ap all_zero t.first.draft ∙ tag-not L laws above (node_of L over)

@@ -9,10 +9,10 @@ use Rattle.vm_step.specs.declared.saw.Saw.{Saw}
 use Rattle.vm_step.proofs.Asides.{starts-then}
 use Rattle.vm_tree_read.specs.from_vm_exmap.declared_interface_Alloc.{Alloc}
 use Rattle.vm_tree_read.specs.from_vm_exmap.declared_interface_Alloc_TheVariants as allocs
-use Rattle.vm_guard.specs.{declared.deny.Deny.Deny, declared.given.Fresh.Fresh, declared.opt.OptGuard.OptGuard, Guards.IsValid}
-use Rattle.vm_guard.specs.declared.deny.Deny.TheVariants as denies
-use Rattle.vm_guard.specs.declared.given.Fresh.TheVariants as freshes
-use Rattle.vm_guard.specs.Denied.{AgainOrNeed, IsDenied, KeptWord}
+use Rattle.vm_tree_read.specs.from_vm_guard.{declared_deny_Deny.Deny, declared_given_Fresh.Fresh, declared_opt_OptGuard.OptGuard, Guards.IsValid}
+use Rattle.vm_tree_read.specs.from_vm_guard.declared_deny_Deny_TheVariants as denies
+use Rattle.vm_tree_read.specs.from_vm_guard.declared_given_Fresh_TheVariants as freshes
+use Rattle.vm_tree_read.specs.from_vm_guard.Denied.{AgainOrNeed, IsDenied, KeptWord}
 use Rattle.vm_tree_laws.specs.Tied.{Tied}
 use Rattle.vm_tree_read.specs.from_vm_tree_rule.{declared_turn_Turn.Turn, Leaves.ReadsOn, Standing.IsOpened, Turns.IsTurnedBack}
 use Rattle.vm_tree_read.specs.from_vm_tree_rule.declared_turn_Turn_TheVariants as turns

@@ -11,16 +11,16 @@ use Rattle.vm_step.specs.Prelude.{Did, HoldsPage, KnowsAsBefore, Origin, Release
 use Rattle.vm_step.proofs.Asides.{holds-then, knows-then, starts-then, still-locking}
 use Rattle.vm_tree_read.specs.from_vm_exmap.Frames.{MovesFrames}
 use Rattle.vm_tree_read.proofs.from_vm_exmap.FrameMoves.{moved-aside}
-use Rattle.vm_guard.specs.{declared.exclusive.ExclusiveGuard.ExclusiveGuard, Fresh.IsAmid, Given.AreFreshPages, Groups.pids_of}
-use Rattle.vm_guard.specs.Guards.{IsElsewhere, IsHolding, IsLocked, IsReading}
-use Rattle.vm_guard.proofs.Reading.{reading-kept}
+use Rattle.vm_tree_read.specs.from_vm_guard.{declared_exclusive_ExclusiveGuard.ExclusiveGuard, Fresh.IsAmid, Given.AreFreshPages, Groups.pids_of}
+use Rattle.vm_tree_read.specs.from_vm_guard.Guards.{IsElsewhere, IsHolding, IsLocked, IsReading}
+use Rattle.vm_tree_read.proofs.from_vm_guard.Reading.{reading-kept}
 use Rattle.vm_tree_laws.specs.{Descent.IsReached, Tied.Tied}
 use Rattle.vm_tree_read.specs.from_vm_tree_rule.{Seeks.HasRead, Standing.Awaits, Standing.MeetsTies, Standing.tree_pages}
 use Rattle.vm_tree_read.proofs.from_vm_tree_rule.{Downward.inner-here, Readings.each-behind}
 use Rattle.vm_tree_read.proofs.Answering.{words-are}
 use Rattle.vm_tree_split.specs.Prepares.{IsInUseAt}
 use Rattle.vm_tree_split.specs.Splits.{HasDraft, IsGroupDone}
-use Rattle.vm_guard.proofs.GuardSteps.{still-held}
+use Rattle.vm_tree_read.proofs.from_vm_guard.GuardSteps.{still-held}
 
 pub true-false : (b : Bool) → b ≡ true → b ≡ false → ⊥
 true-false b t f = absurd (cc)

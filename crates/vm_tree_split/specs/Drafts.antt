@@ -4,7 +4,7 @@ use Rattle.vm_rule.specs.Prelude.{Each, last_of}
 use Rattle.vm_rule.specs.declared.view.WordPlace.{WordPlace}
 use Rattle.vm_rule.specs.declared.view.WordPlace.TheVariants as places
 use Rattle.vm_step.specs.Prelude.{Did, HoldsPage, IsAlone, KeepsNumbers, ReadsAsBefore, StaysAlone, View}
-use Rattle.vm_guard.specs.{Guards.IsElsewhere, Sure.known_next, Sure.KnowsStates}
+use Rattle.vm_tree_read.specs.from_vm_guard.{Guards.IsElsewhere, Sure.known_next, Sure.KnowsStates}
 
 -- a draft from one place on and before another has the wanted words; behind these it has those of the page before, and before these its own
 pub record IsDraftedAmong (from end : ℕ) (before after old new : List ℕ) : Type 0 where

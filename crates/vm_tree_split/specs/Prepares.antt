@@ -9,14 +9,14 @@ use Rattle.vm_rule.specs.Prelude.{began_of, HoldsNoPage}
 use Rattle.vm_step.specs.Prelude.{Did, IsAlone, KnowsUnheld, UnlockedExpected, View}
 use Rattle.vm_tree_read.specs.from_vm_exmap.{declared_interface_Alloc.Alloc, Frames.MovesFrames, Returns.IsFreed, Walks.IsAlloc}
 use Rattle.vm_tree_read.specs.from_vm_exmap.declared_interface_Alloc_TheVariants as allocs
-use Rattle.vm_guard.specs.{declared.deny.Deny.Deny, declared.exclusive.ExclusiveGuard.ExclusiveGuard}
-use Rattle.vm_guard.specs.{declared.given.Fresh.Fresh, declared.group.Group.Group, declared.opt.OptGuard.OptGuard}
-use Rattle.vm_guard.specs.{Given.AreFreshPages, Groups.guards_of, Guards.IsLocked, Guards.IsReleased}
-use Rattle.vm_guard.specs.{Reused.HasFreshRoom, Reused.IsFreshAnswer}
-use Rattle.vm_guard.specs.declared.deny.Deny.TheVariants as denies
-use Rattle.vm_guard.specs.declared.given.Fresh.TheVariants as freshes
-use Rattle.vm_guard.specs.Denied.{AgainOrWorn, IsDenied, KeptWord}
-use Rattle.vm_guard.specs.Sure.{IsUnlockedWord, known_next, known_word}
+use Rattle.vm_tree_read.specs.from_vm_guard.{declared_deny_Deny.Deny, declared_exclusive_ExclusiveGuard.ExclusiveGuard}
+use Rattle.vm_tree_read.specs.from_vm_guard.{declared_given_Fresh.Fresh, declared_group_Group.Group, declared_opt_OptGuard.OptGuard}
+use Rattle.vm_tree_read.specs.from_vm_guard.{Given.AreFreshPages, Groups.guards_of, Guards.IsLocked, Guards.IsReleased}
+use Rattle.vm_tree_read.specs.from_vm_guard.{Reused.HasFreshRoom, Reused.IsFreshAnswer}
+use Rattle.vm_tree_read.specs.from_vm_guard.declared_deny_Deny_TheVariants as denies
+use Rattle.vm_tree_read.specs.from_vm_guard.declared_given_Fresh_TheVariants as freshes
+use Rattle.vm_tree_read.specs.from_vm_guard.Denied.{AgainOrWorn, IsDenied, KeptWord}
+use Rattle.vm_tree_read.specs.from_vm_guard.Sure.{IsUnlockedWord, known_next, known_word}
 use Rattle.vm_tree_laws.specs.Tied.{Tied}
 use Rattle.vm_tree_read.specs.from_vm_tree_rule.Standing.{MeetsTies}
 use Rattle.vm_tree_split.specs.declared.tries.TrySplit.{TrySplit}

@@ -7,8 +7,8 @@ use Rattle.vm_tree_model.specs.Page.{IsInner, IsLeaf, node_of}
 use Rattle.vm_rule.specs.declared.view.WordPlace.{WordPlace}
 use Rattle.vm_rule.specs.Prelude.{AreApart, began_of, changes_of, draft_of, Each, has, IsLocking, last_of, seat_of, StartsWith, without_all}
 use Rattle.vm_step.specs.Prelude.{Did, HoldsPage, IsAlone, KeepsNumbers, KnowsAsBefore, StaysAlone, View}
-use Rattle.vm_guard.specs.declared.exclusive.ExclusiveGuard.{ExclusiveGuard}
-use Rattle.vm_guard.specs.Groups.{AreReleased, GuardsHeld, pids_of}
+use Rattle.vm_tree_read.specs.from_vm_guard.declared_exclusive_ExclusiveGuard.{ExclusiveGuard}
+use Rattle.vm_tree_read.specs.from_vm_guard.Groups.{AreReleased, GuardsHeld, pids_of}
 use Rattle.vm_tree_laws.specs.Plain.{ReleasesPlain}
 use Rattle.vm_tree_split.specs.{Drafts.IsDraftPlace, Drafts.KnowsSameStates, PageNumbers.GainsWorn}
 

@@ -4,8 +4,8 @@ use Rattle.vm_map.specs.declared.call.Said.{Said}
 use Rattle.vm_step.specs.Prelude.{Did, UnlockedExpected, View}
 use Rattle.vm_step.specs.declared.saw.Saw.{Saw}
 use Rattle.vm_tree_read.specs.from_vm_exmap.Frames.{MovesFrames}
-use Rattle.vm_guard.specs.{declared.exclusive.ExclusiveGuard.ExclusiveGuard, declared.opt.OptGuard.OptGuard, Fresh.IsFull}
-use Rattle.vm_guard.specs.{Groups.pids_of, Guards.IsValid, Reused.HasFreshRoom, Spares.FindsAllFew}
+use Rattle.vm_tree_read.specs.from_vm_guard.{declared_exclusive_ExclusiveGuard.ExclusiveGuard, declared_opt_OptGuard.OptGuard, Fresh.IsFull}
+use Rattle.vm_tree_read.specs.from_vm_guard.{Groups.pids_of, Guards.IsValid, Reused.HasFreshRoom, Spares.FindsAllFew}
 use Rattle.vm_tree_model.specs.Layout.{Layout}
 use Rattle.vm_tree_laws.specs.Tied.{Tied}
 use Rattle.vm_tree_read.specs.from_vm_tree_rule.{Leaves.ReadsOn, Shown.IsAgain, Shown.IsSeen, Turns.IsDamaged, Turns.IsNeeded}

@@ -1,10 +1,10 @@
 -- Definitions of vm_guard that the crates above name through this one.
-pub use Rattle.vm_guard.specs.Denied
-pub use Rattle.vm_guard.specs.Groups
-pub use Rattle.vm_guard.specs.Guards
-pub use Rattle.vm_guard.specs.Quiet
-pub use Rattle.vm_guard.specs.Sure
-pub use Rattle.vm_guard.specs.declared.deny.Deny as declared_deny_Deny
-pub use Rattle.vm_guard.specs.declared.deny.Deny.TheVariants as declared_deny_Deny_TheVariants
-pub use Rattle.vm_guard.specs.declared.exclusive.ExclusiveGuard as declared_exclusive_ExclusiveGuard
-pub use Rattle.vm_guard.specs.declared.opt.OptGuard as declared_opt_OptGuard
+pub use Rattle.vm_tree_read.specs.from_vm_guard.Denied
+pub use Rattle.vm_tree_read.specs.from_vm_guard.Groups
+pub use Rattle.vm_tree_read.specs.from_vm_guard.Guards
+pub use Rattle.vm_tree_read.specs.from_vm_guard.Quiet
+pub use Rattle.vm_tree_read.specs.from_vm_guard.Sure
+pub use Rattle.vm_tree_read.specs.from_vm_guard.declared_deny_Deny
+pub use Rattle.vm_tree_read.specs.from_vm_guard.declared_deny_Deny_TheVariants
+pub use Rattle.vm_tree_read.specs.from_vm_guard.declared_exclusive_ExclusiveGuard
+pub use Rattle.vm_tree_read.specs.from_vm_guard.declared_opt_OptGuard

@@ -1,13 +1,13 @@
-// The draft of a locked page becomes a page's words: those of a buffer, or those that an edit or a split leaves of one, which needs no second buffer.
+// The draft of a locked page becomes a page's words: those of a buffer, or those that an edit leaves of one, which needs no second buffer.
 ghost use Rattle.std.specs.Prelude.{◌<◌, ◌≡◌, ◌≢◌, ◌≤◌, ◌⊎◌, length, List, slice_index, true, ℕ};
 ghost use Rattle.vm_rule.specs.Prelude.{draft_of};
 ghost use Rattle.vm_step.specs.Prelude.{GoesOn, IsReadyOn, view};
-ghost use Rattle.vm_guard.specs.Guards.{IsHolding};
+ghost use Rattle.vm_tree_read.specs.from_vm_guard.Guards.{IsHolding};
 ghost use Rattle.vm_tree_split.specs.Drafts.{DraftsIn, IsDraftedAmong, IsRedrafted, KnowsSameStates, SetsDiffering};
 
 use vm_block::Block;
-use vm_guard::ExclusiveGuard;
 use vm_rule::words::{Pass, Words};
+use vm_tree_read::guard::ExclusiveGuard;
 use vm_tree_read::kind::{Edits, Pages, TreeOf};
 
 /// The words that a draft is to have, told word by word.
@@ -77,29 +77,6 @@ impl<K: Edits> Wanted for Edited<'_, K> {
 
     fn word(&self, i: usize) -> u64 {
         K::edited_word(self.page, &self.edit, i)
-    }
-}
-
-/// The left half of a full node.
-#[derive(Drop)]
-pub struct LeftHalf<'a, K: Edits> {
-    pub page: &'a K::Page,
-    pub separator: &'a K::Key,
-}
-
-impl<K: Edits> Wanted for LeftHalf<'_, K> {
-    ghost words = { λ h. K.left_half (K.words_of h.page.now) (K.rank h.separator.now) };
-
-    ghost size = { λ h. K.layout.words };
-
-    ghost made_of = { λ h before. Unit {0} };
-
-    fn span(&self) -> (usize, usize) {
-        (2, K::words())
-    }
-
-    fn word(&self, i: usize) -> u64 {
-        K::left_word(self.page, self.separator, i)
     }
 }
 

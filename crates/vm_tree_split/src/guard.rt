@@ -1,3 +1,3 @@
 //! What the crates above name of `vm_guard` through this one.
 
-pub use vm_guard::{Deny, ExclusiveGuard, Group, OptGuard, release_group};
+pub use vm_tree_read::guard::{Deny, ExclusiveGuard, Group, OptGuard, release_group};

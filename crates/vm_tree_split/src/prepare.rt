@@ -4,7 +4,7 @@ ghost use Rattle.std.specs.Prelude.{[], ◌++◌, ◌∷◌, ◌≡◌, ◌≢�
 ghost use Rattle.vm_rule.specs.Prelude.{draft_of, has, last_of};
 ghost use Rattle.vm_step.specs.Prelude.{AreHeld, GoesOn, IsAlone, IsReadyOn, view};
 ghost use Rattle.vm_tree_read.specs.from_vm_exmap.Frames.{MovesFrames};
-ghost use Rattle.vm_guard.specs.{Denied.AgainOrWorn, Groups.guards_of, Guards.IsHolding, Guards.IsReading};
+ghost use Rattle.vm_tree_read.specs.from_vm_guard.{Denied.AgainOrWorn, Groups.guards_of, Guards.IsHolding, Guards.IsReading};
 ghost use Rattle.vm_tree_read.specs.Waiting.{LosesNone};
 ghost use Rattle.vm_tree_split.specs.{Splits.KeepsLocksOnly, Tries.IsFinalSplit, Tries.IsUnsplit};
 ghost use Rattle.vm_tree_split.specs.Prepares.{AreLocked, AreTaken, GivesUpBoth, IsPrepared, IsUntaken, KnowsBoth, KnowsToSplit, LacksFrames};
@@ -12,10 +12,10 @@ ghost use Rattle.vm_tree_split.specs.Prepares.{IsLockDenied, LacksSecond, SaysWo
 
 use crate::tries::TrySplit;
 use vm_block::Block;
-use vm_guard::{Deny, ExclusiveGuard, Fresh, Group, NoRoom, OptGuard, fresh, room_for};
 use vm_rule::words::{Pass, Words};
 use vm_step::Batch;
 use vm_tree_read::exmap::{Alloc, Interface};
+use vm_tree_read::guard::{Deny, ExclusiveGuard, Fresh, Group, NoRoom, OptGuard, fresh, room_for};
 use vm_tree_read::kind::{Kind, TreeOf};
 
 /// Two pages that are locked.

@@ -3,10 +3,10 @@ ghost use Rattle.std.specs.Prelude.{[], ◌+◌, ◌<◌, ◌^◌, ◌∷◌};
 ghost use Rattle.vm_step.specs.Prelude.{GoesOn, IsReadyOn, view};
 ghost use Rattle.vm_tree_split.specs.Splits.{CanSplit, CanSplitRoot, IsSplitUp};
 
-use crate::draft::{Edited, LeftHalf, Whole, redraft};
+use crate::draft::{Edited, Whole, redraft};
 use vm_block::Block;
-use vm_guard::{ExclusiveGuard, Group, release_group};
 use vm_rule::words::{Pass, Words};
+use vm_tree_read::guard::{ExclusiveGuard, Group, release_group};
 use vm_tree_read::kind::{Edits, TreeOf};
 
 /// Splits the full node `low` below the node `up`, which has room, into itself and the fresh page `right`, and releases the three together.
@@ -24,12 +24,11 @@ pub fn write_split<K: Edits, B: Block>(
     ensures goes { GoesOn words.now B.tells pass.old pass.new }
     ensures split { IsSplitUp K.plain K.layout (up.pid ∷ low.pid ∷ right.pid ∷ []) (view pass.old) (view pass.new) }
 {
-    let mut half = K::zero();
-    let separator = K::right_half(page, &mut half);
-    let left: LeftHalf<'_, K> = LeftHalf {
-        page,
-        separator: &separator,
-    };
+    let mut lower = K::zero();
+    let mut upper = K::zero();
+    let separator = K::split(page, &mut lower, &mut upper);
+    let lower: Whole<'_, K> = Whole { page: &lower };
+    let upper: Whole<'_, K> = Whole { page: &upper };
     let edit = match K::add_edit(over, &separator, right.pid as u64) {
         Ok(edit) => edit,
         Err(_) => unreachable!(),
@@ -45,9 +44,8 @@ pub fn write_split<K: Edits, B: Block>(
     let mut second = low;
     let mut third = right;
     redraft(words, pass, &mut first, over, &above);
-    redraft(words, pass, &mut second, page, &left);
-    let half: Whole<'_, K> = Whole { page: &half };
-    redraft(words, pass, &mut third, &zero, &half);
+    redraft(words, pass, &mut second, page, &lower);
+    redraft(words, pass, &mut third, &zero, &upper);
     let group = Group::Three(first, second, third);
     release_group(words, pass, group, None::<K::Said>.as_ref());
 }
@@ -70,12 +68,11 @@ pub fn write_root<K: Edits, B: Block>(
     ensures goes { GoesOn words.now B.tells pass.old pass.new }
     ensures split { IsSplitUp K.plain K.layout (meta.pid ∷ low.pid ∷ right.pid ∷ top.pid ∷ []) (view pass.old) (view pass.new) }
 {
-    let mut half = K::zero();
-    let separator = K::right_half(page, &mut half);
-    let left: LeftHalf<'_, K> = LeftHalf {
-        page,
-        separator: &separator,
-    };
+    let mut lower = K::zero();
+    let mut upper = K::zero();
+    let separator = K::split(page, &mut lower, &mut upper);
+    let lower: Whole<'_, K> = Whole { page: &lower };
+    let upper: Whole<'_, K> = Whole { page: &upper };
     let mut crown = K::zero();
     K::new_root(
         &mut crown,
@@ -91,9 +88,8 @@ pub fn write_root<K: Edits, B: Block>(
     let mut fourth = top;
     first.set(words, pass, 1, fourth.pid as u64);
     first.set(words, pass, 2, height + 1);
-    redraft(words, pass, &mut second, page, &left);
-    let half: Whole<'_, K> = Whole { page: &half };
-    redraft(words, pass, &mut third, &zero, &half);
+    redraft(words, pass, &mut second, page, &lower);
+    redraft(words, pass, &mut third, &zero, &upper);
     let crown: Whole<'_, K> = Whole { page: &crown };
     redraft(words, pass, &mut fourth, &zero, &crown);
     let group = Group::Four(first, second, third, fourth);

@@ -10,10 +10,10 @@ ghost use Rattle.vm_tree_split.specs.Tries.{IsEndOf, IsFinalSplit, IsTrySplit};
 use crate::prepare::{Prepared, prepare};
 use crate::split::{write_root, write_split};
 use vm_block::Block;
-use vm_guard::OptGuard;
 use vm_rule::words::{Pass, Words};
 use vm_step::Saw;
 use vm_tree_read::exmap::Interface;
+use vm_tree_read::guard::OptGuard;
 use vm_tree_read::kind::{Edits, TreeOf};
 use vm_tree_read::tree_rule::{Met, Turn, seek_full};
 

@@ -1,102 +1,29 @@
-use Rattle.std.proofs.Common.{◌*◌, ◌+◌, ◌++◌, ◌∙◌, ◌≡◌, ap, arith, min, subst, sym, true≢false}
-use Rattle.vm_tree_rule.proofs.{Counting.within-wider, Onward.loaded-more, Surely.known-same}
-use Rattle.vm_tree_rule.proofs.Readings.{loads-reads, opened-loads, reads-then}
-use Rattle.vm_tree_read.proofs.Answering.{answered-as, answered-later, unproved, reply-told}
-use Rattle.vm_tree_read.proofs.Reckoning.{leaf-few, leaf-height, place-few}
-use Rattle.vm_map.specs.declared.call.{Call.Call, Reply.Reply, Said.Said}
-use Rattle.vm_tree_read.specs.Reads.{TellReply}
+use Rattle.std.proofs.Common.{◌∙◌, ◌≡◌, ap, subst, sym, true≢false}
+use Rattle.vm_map.specs.declared.call.Reply.{Reply}
+use Rattle.vm_map.specs.declared.call.Said.{Said}
+use Rattle.vm_map.specs.declared.call.Call.TheVariants.{Window as ForWindow}
+use Rattle.vm_tree_rule.specs.from_vm_step.Prelude.{view}
+use Rattle.vm_tree_read.specs.Reads.{IsAnswered, IsOfKind}
 use Rattle.vm_tree_read.proofs.read.try_window.Goals as goal
 
-abbrev saying : Call → Reply → Said
-saying call reply = record { call = call; reply = reply }
+pub returns-in-Ok-clause-tried : goal.returns-in-Ok-clause-tried
+returns-in-Ok-clause-tried g c = subst (λ (reply : Reply). IsAnswered g.K.Kind.plain g.K.Kind.layout
+    (record { call = ForWindow (g.K.Kind.rank c.args.start.now) c.args.most; reply = reply })
+    (view c.args.pass.now) (view c.show_window.new.pass))
+    (sym (c.reply_of.ensures ∙ ap (λ (s : Said). s.reply) c.in-Ok.ensures.ok.1)) c.in-Ok.ensures.ok.2
 
--- the reply that was taken out of what is said is the one in it
-same-reply : (said : Said) (call : Call) (shown reply : Reply) → said ≡ saying call shown → reply ≡ said.reply → said ≡ saying call reply
-same-reply said call shown reply is taken = is ∙ ap (saying call) (sym (taken ∙ ap (λ (s : Said). s.reply) is))
+pub returns-in-Ok-clause-kind : goal.returns-in-Ok-clause-kind
+returns-in-Ok-clause-kind g c = subst (IsOfKind (ForWindow (g.K.Kind.rank c.args.start.now) c.args.most))
+    (sym (c.reply_of.ensures ∙ ap (λ (s : Said). s.reply) c.in-Ok.ensures.ok.1)) tt
 
 pub returns-in-Err-clause-tried : goal.returns-in-Err-clause-tried
 returns-in-Err-clause-tried g c = c.not_yet.ensures.tried _ _ _ _ c.in-Err.ensures.err
 
-pub returns-in-Err-clause-sure : goal.returns-in-Err-clause-sure
-returns-in-Err-clause-sure g c tells k = absurd (true≢false (sym (c.in-Err.ensures.sure tells k)))
-
-pub returns-in-Err-clause-known : goal.returns-in-Err-clause-known
-returns-in-Err-clause-known g c tells k = absurd (true≢false (sym (c.in-Err.ensures.sure tells k)))
-
-pub answer-requires-clause-reading : goal.answer-requires-clause-reading
-answer-requires-clause-reading g c = c.window_in_place-shown.ensures.found.loads.reads
-
-pub answer-requires-clause-proves : goal.answer-requires-clause-proves
-answer-requires-clause-proves g c =
-    let leaf = c.in-Ok.ensures.leaf in
-    let f = c.window_in_place-shown.ensures.found in (
-      leaf.0 ++ f.loaded,
-      loaded-more _ _ _ leaf.0 f.loaded _ _ leaf.1 f.loads,
-      subst (TellReply g.K.Kind.layout (leaf.0 ++ f.loaded)) (sym c.shown-said.ensures)
-          (reply-told g.K.Kind.layout leaf.0 f.loaded _ leaf.2
-          (λ page with covers low high rises. (covers, c.requires.most, f.tells page with low high rises))),
-    )
-
-pub returns-in-Err-clause-few : goal.returns-in-Err-clause-few
-returns-in-Err-clause-few g c = within-wider _ _ _ _ (λ h. omega arith) c.in-Err.ensures.few
-
-pub returns-in-Ok-answer-clause-few : goal.returns-in-Ok-answer-clause-few
-returns-in-Ok-answer-clause-few g c = let k = c.in-Ok.ensures.height in
-    leaf-few g.K.Kind.bounds.child (1 + g.K.Kind.bounds.fences)
-    (λ h. 2 + g.K.Kind.bounds.child * h
-    + (1 + g.K.Kind.bounds.fences + (2 * min c.args.most 28 + g.K.Windows.window_most)))
-    (2 * min c.args.most 28 + g.K.Windows.window_most) k.0 _ _ _ _ k.1
-    (place-few _ _ _ _ _ _ _ c.window_in_place-shown.ensures.found) c.in-Ok-answer.ensures.words (omega arith)
-
-pub returns-in-Ok-answer-clause-height : goal.returns-in-Ok-answer-clause-height
-returns-in-Ok-answer-clause-height g c done =
-    let k = c.in-Ok.ensures.height in (
-      k.0,
-      leaf-height g.K.Kind.bounds.child (1 + g.K.Kind.bounds.fences)
-          (2 + g.K.Kind.bounds.child * k.0
-          + (1 + g.K.Kind.bounds.fences + (2 * min c.args.most 28 + g.K.Windows.window_most)))
-          (2 * min c.args.most 28 + g.K.Windows.window_most) k.0 _ _ _ _ k.1
-          (place-few _ _ _ _ _ _ _ c.window_in_place-shown.ensures.found) c.in-Ok-answer.ensures.words (omega arith),
-    )
+pub returns-in-Ok-clause-height : goal.returns-in-Ok-clause-height
+returns-in-Ok-clause-height g c done = c.in-Ok.ensures.height
 
 pub returns-in-Err-clause-height : goal.returns-in-Err-clause-height
 returns-in-Err-clause-height g c done = absurd (c.not_yet.ensures.unanswered done)
 
-pub returns-in-Err-answer-clause-few : goal.returns-in-Err-answer-clause-few
-returns-in-Err-answer-clause-few g c = let k = c.in-Ok.ensures.height in
-    leaf-few g.K.Kind.bounds.child (1 + g.K.Kind.bounds.fences)
-    (λ h. 2 + g.K.Kind.bounds.child * h
-    + (1 + g.K.Kind.bounds.fences + (2 * min c.args.most 28 + g.K.Windows.window_most)))
-    (2 * min c.args.most 28 + g.K.Windows.window_most) k.0 _ _ _ _ k.1
-    (place-few _ _ _ _ _ _ _ c.window_in_place-shown.ensures.found) c.in-Err-answer.ensures.words (omega arith)
-
-pub returns-in-Ok-answer-clause-tried : goal.returns-in-Ok-answer-clause-tried
-returns-in-Ok-answer-clause-tried g c = answered-as g.K.Kind.plain g.K.Kind.layout _ _ _ _
-    (same-reply _ _ _ _ c.shown-said.ensures c.reply_of.ensures)
-    (answered-later g.K.Kind.plain g.K.Kind.layout _ _ _ _
-    (reads-then _ _ _ c.in-Ok.ensures.reads.0 (loads-reads _ _ _ _ _ _ c.window_in_place-shown.ensures.found.loads))
-    c.in-Ok-answer.ensures.ok)
-
-pub returns-in-Ok-answer-clause-known : goal.returns-in-Ok-answer-clause-known
-returns-in-Ok-answer-clause-known g c tells k =
-    c.in-Ok-answer.ensures.known
-    (known-same _ _ _ _ (loads-reads _ _ _ _ _ _ c.window_in_place-shown.ensures.found.loads).0
-    c.window_in_place-shown.ensures.found.loads.table (c.in-Ok.ensures.known tells k))
-
-pub returns-in-Err-answer-clause-tried : goal.returns-in-Err-answer-clause-tried
-returns-in-Err-answer-clause-tried g c = unproved g.K.Kind.layout _ _ _ (g.K.Kind.rank c.args.start.now) _ _ _ _
-    (opened-loads _ _ _ _ _ _ _ c.in-Ok.ensures.reads.1 c.window_in_place-shown.ensures.found.loads)
-    c.in-Err-answer.ensures.err
-
-pub returns-in-Err-answer-clause-sure : goal.returns-in-Err-answer-clause-sure
-returns-in-Err-answer-clause-sure g c tells k =
-    true≢false (sym (c.in-Err-answer.ensures.sure
-    (known-same _ _ _ _ (loads-reads _ _ _ _ _ _ c.window_in_place-shown.ensures.found.loads).0
-    c.window_in_place-shown.ensures.found.loads.table (c.in-Ok.ensures.known tells k))))
-
-pub returns-in-Err-answer-clause-known : goal.returns-in-Err-answer-clause-known
-returns-in-Err-answer-clause-known g c tells k =
-    absurd (true≢false (sym
-    (c.in-Err-answer.ensures.sure
-    (known-same _ _ _ _ (loads-reads _ _ _ _ _ _ c.window_in_place-shown.ensures.found.loads).0
-    c.window_in_place-shown.ensures.found.loads.table (c.in-Ok.ensures.known tells k)))))
+pub returns-in-Err-clause-sure : goal.returns-in-Err-clause-sure
+returns-in-Err-clause-sure g c tells k = absurd (true≢false (sym (c.in-Err.ensures.sure tells k)))

@@ -1,81 +1,20 @@
-use Rattle.std.proofs.Common.{◌∙◌, arith, refl, rules}
 use Rattle.vm_tree_rule.specs.from_vm_step.Prelude.{view}
 use Rattle.vm_pool.proofs.from_vm_exmap.Handing.{held-on}
-use Rattle.vm_tree_read.proofs.Lasting.{reads-wait, waits-then}
-use Rattle.vm_tree_read.proofs.Losing.{loses-same, loses-then, reads-lose}
+use Rattle.vm_tree_read.proofs.Losing.{loses-same}
 use Rattle.vm_tree_read.proofs.Rounds.{told-as}
-use Rattle.vm_tree_read.specs.Waiting.{IsReadFault as fault, IsRound as round}
 use Rattle.vm_tree_read.proofs.round.window_round.Goals as goal
 
-pub returns-in-Done-clause-held : goal.returns-in-Done-clause-held
-returns-in-Done-clause-held g c =
-    let k = c.in-Done.ensures.tried.reads in
-    held-on _ (view c.args.pass.now) (view c.try_window.new.pass) c.requires.frames k.start k.frames.0
+pub returns-in-Ok-clause-held : goal.returns-in-Ok-clause-held
+returns-in-Ok-clause-held g c =
+    let k = c.in-Ok.ensures.ok.2.reads in
+    held-on _ (view c.args.pass.now) (view c.show_window.new.pass) c.requires.frames k.start k.frames.0
 
-pub returns-in-Done-clause-lost : goal.returns-in-Done-clause-lost
-returns-in-Done-clause-lost g c =
-    loses-same _ _ (view c.args.pass.now) (view c.try_window.new.pass) c.in-Done.ensures.tried.reads.frames.0 (λ f e. e)
+pub returns-in-Ok-clause-lost : goal.returns-in-Ok-clause-lost
+returns-in-Ok-clause-lost g c =
+    loses-same _ _ (view c.args.pass.now) (view c.show_window.new.pass) c.in-Ok.ensures.ok.2.reads.frames.0 (λ f e. e)
 
--- ---- others came before
+-- ---- the try was turned back
 
-pub returns-in-Again-clause-held : goal.returns-in-Again-clause-held
-returns-in-Again-clause-held g c =
-    let reads = c.in-Again.ensures.tried.0 in
-    held-on _ (view c.args.pass.now) (view c.try_window.new.pass) c.requires.frames reads.0.start reads.0.frames.0
-
-pub returns-in-Again-clause-lost : goal.returns-in-Again-clause-lost
-returns-in-Again-clause-lost g c =
-    reads-lose c.args.iface.now.frames (view c.args.pass.now) (view c.try_window.new.pass) c.in-Again.ensures.tried.0
-
-pub returns-in-Again-clause-told : goal.returns-in-Again-clause-told
-returns-in-Again-clause-told g c =
-    let back = c.in-Again.ensures.tried in (reads-wait _ _ back.0, round.again _ back.0 back.1)
-
--- ---- a page is damaged
-
-pub returns-in-Damaged-clause-held : goal.returns-in-Damaged-clause-held
-returns-in-Damaged-clause-held g c =
-    let reads = c.in-Damaged.ensures.tried.0 in
-    held-on _ (view c.args.pass.now) (view c.try_window.new.pass) c.requires.frames reads.0.start reads.0.frames.0
-
-pub returns-in-Damaged-clause-lost : goal.returns-in-Damaged-clause-lost
-returns-in-Damaged-clause-lost g c =
-    reads-lose c.args.iface.now.frames (view c.args.pass.now) (view c.try_window.new.pass) c.in-Damaged.ensures.tried.0
-
-pub returns-in-Damaged-clause-told : goal.returns-in-Damaged-clause-told
-returns-in-Damaged-clause-told g c =
-    let back = c.in-Damaged.ensures.tried in (reads-wait _ _ back.0, fault.damaged _ back.0 back.1 refl)
-
--- ---- a page is needed
-
-pub fetch-requires : goal.fetch-requires
-fetch-requires g c =
-    let needed = c.in-Need.ensures.tried in
-    let inside = needed.1.inside in
-    let pages = c.requires.ready.table.is_shape.pages in (
-      search rules,
-      (
-        c.try_window.ensures.goes.ready,
-        (
-          needed.0.0.out ∙ c.requires.home,
-          (
-            held-on _ (view c.args.pass.now) (view c.try_window.new.pass) c.requires.frames needed.0.0.start needed.0.0.frames.0,
-            omega (arith, inside, pages),
-          ),
-        ),
-      ),
-    )
-
-pub returns-in-Need-clause-lost : goal.returns-in-Need-clause-lost
-returns-in-Need-clause-lost g c =
-    loses-then c.args.iface.now.frames c.args.iface.now.frames c.fetch.new.iface.frames (view c.args.pass.now)
-    (view c.try_window.new.pass) (view c.fetch.new.pass)
-    (reads-lose c.args.iface.now.frames (view c.args.pass.now) (view c.try_window.new.pass) c.in-Need.ensures.tried.0)
-    c.fetch.ensures.lost
-
-pub returns-in-Need-clause-told : goal.returns-in-Need-clause-told
-returns-in-Need-clause-told g c =
-    let needed = c.in-Need.ensures.tried in
-    let waits = waits-then _ _ _ (reads-wait _ _ needed.0) c.fetch.ensures.waits in
-    told-as _ _ _ _ _ _ c.fetch.result c.fetch.ensures.told (λ t none. absurd none) (λ k. (waits, round.needed _ _ needed.0 needed.1 k))
-    (λ _ k. (waits, fault.unbrought _ _ needed.0 needed.1 k))
+pub returns-in-Err-clause-told : goal.returns-in-Err-clause-told
+returns-in-Err-clause-told g c =
+    told-as _ _ _ _ _ _ c.turned_round.result (c.turned_round.ensures.told _ _ c.in-Err.ensures.err) (λ t none. absurd none) (λ k. k) (λ _ k. k)

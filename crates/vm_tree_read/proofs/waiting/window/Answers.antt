@@ -1,56 +1,17 @@
-use Rattle.std.proofs.Common.{◌∙◌, rules}
+use Rattle.std.proofs.Common.{◌∙◌, ap, subst, sym}
+use Rattle.vm_map.specs.declared.call.Reply.{Reply}
+use Rattle.vm_map.specs.declared.call.Said.{Said}
+use Rattle.vm_map.specs.declared.call.Call.TheVariants.{Window as ForWindow}
 use Rattle.vm_tree_rule.specs.from_vm_step.Prelude.{view}
-use Rattle.vm_tree_read.proofs.Lasting.{replied, waits-self, waits-then}
-use Rattle.vm_tree_read.proofs.Losing.{loses-then}
-use Rattle.vm_tree_read.proofs.Rounds.{tried-none, tried-round}
-use Rattle.vm_tree_read.specs.Waiting.{AreRounds as rounds}
+use Rattle.vm_tree_read.specs.{Reads.IsOfKind, Waiting.IsReplied}
 use Rattle.vm_tree_read.proofs.waiting.window.Goals as goal
 
-pub loop-init : goal.loop-init
-loop-init g c = tried-none _ _ (waits-self _, rounds.none) c.requires.ready c.requires.frames
+pub returns-in-Ok-clause-ok : goal.returns-in-Ok-clause-ok
+returns-in-Ok-clause-ok g c = subst (λ (reply : Reply). IsReplied g.K.Kind.plain g.K.Kind.layout
+    (record { call = ForWindow (g.K.Kind.rank c.args.start.now) c.args.most; reply = reply })
+    (view c.args.pass.now) (view c.window_said.new.pass))
+    (sym (c.reply_of.ensures ∙ ap (λ (s : Said). s.reply) c.in-Ok.ensures.ok.1)) c.in-Ok.ensures.ok.2
 
-pub window_round-requires : goal.window_round-requires
-window_round-requires g c =
-    let i = c.loop.invariant in
-    (search rules, (i.goes.ready, (c.requires.pages, (c.requires.most, (i.left.0.out ∙ c.requires.home, i.held)))))
-
-pub loop-preserved-in-Soon : goal.loop-preserved-in-Soon
-loop-preserved-in-Soon g c =
-    let i = c.loop.invariant in
-    let k = c.window_round.ensures in
-    let told = c.in-Soon.ensures.told in
-    tried-round i c.window_round.new.pass c.window_round.new.iface k.goes k.held k.lost k.iface
-    (waits-then _ _ _ i.left.0 told.0, rounds.further _ _ i.left.1 told.1)
-
-pub loop-preserved : goal.loop-preserved
-loop-preserved g c =
-    let i = c.loop.invariant in
-    let k = c.window_round.ensures in
-    let told = c.in-Later.ensures.told in
-    tried-round i c.window_round.new.pass c.window_round.new.iface k.goes k.held k.lost k.iface
-    (waits-then _ _ _ i.left.0 told.0, rounds.further _ _ i.left.1 told.1)
-
-pub returns-in-Done-clause-ok : goal.returns-in-Done-clause-ok
-returns-in-Done-clause-ok g c = replied g.K.Kind.plain g.K.Kind.layout _ _ _ _ c.loop.invariant.left c.in-Done.ensures.told.0
-
-pub returns-in-Done-clause-lost : goal.returns-in-Done-clause-lost
-returns-in-Done-clause-lost g c =
-    loses-then c.args.iface.now.frames c.loop.iface.frames c.window_round.new.iface.frames (view c.args.pass.now)
-    (view c.loop.pass) (view c.window_round.new.pass) c.loop.invariant.lost c.window_round.ensures.lost
-
-pub returns-in-Failed-clause-err : goal.returns-in-Failed-clause-err
-returns-in-Failed-clause-err g c =
-    let i = c.loop.invariant in
-    let told = c.in-Failed.ensures.told in
-    record {
-      tried = view c.loop.pass;
-      rounds = i.left.1;
-      waits = i.left.0;
-      why = told.1;
-      leaves = waits-then _ _ _ i.left.0 told.0;
-    }
-
-pub returns-in-Failed-clause-lost : goal.returns-in-Failed-clause-lost
-returns-in-Failed-clause-lost g c =
-    loses-then c.args.iface.now.frames c.loop.iface.frames c.window_round.new.iface.frames (view c.args.pass.now)
-    (view c.loop.pass) (view c.window_round.new.pass) c.loop.invariant.lost c.window_round.ensures.lost
+pub returns-in-Ok-clause-kind : goal.returns-in-Ok-clause-kind
+returns-in-Ok-clause-kind g c = subst (IsOfKind (ForWindow (g.K.Kind.rank c.args.start.now) c.args.most))
+    (sym (c.reply_of.ensures ∙ ap (λ (s : Said). s.reply) c.in-Ok.ensures.ok.1)) tt

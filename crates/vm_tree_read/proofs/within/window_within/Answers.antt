@@ -1,69 +1,19 @@
-use Rattle.std.proofs.Common.{◌∙◌, ◌<◌, arith, rules, subst, sym}
-use Rattle.vm_tree_rule.specs.from_vm_step.Prelude.{NoneExpected, view}
-use Rattle.vm_tree_read.proofs.Lasting.{replied-within, waits-self, waits-then}
-use Rattle.vm_tree_read.proofs.Losing.{loses-then}
-use Rattle.vm_tree_read.proofs.Rounds.{has-further, has-none, tried-none, tried-round}
-use Rattle.vm_tree_read.specs.Waiting.{HasRounds, IsRound}
+use Rattle.std.proofs.Common.{◌∙◌, ◌≡◌, ◌<◌, ap, IfSome, Option, Some, subst, sym}
+use Rattle.vm_map.specs.declared.call.Reply.{Reply}
+use Rattle.vm_map.specs.declared.call.Said.{Said}
+use Rattle.vm_map.specs.declared.call.Call.TheVariants.{Window as ForWindow}
+use Rattle.vm_tree_rule.specs.from_vm_step.Prelude.{view}
+use Rattle.vm_tree_read.specs.Waiting.{IsReplied, rounds_in}
 use Rattle.vm_tree_read.proofs.within.window_within.Goals as goal
 
-pub rounds-init : goal.rounds-init
-rounds-init g c = tried-none _ _ (waits-self _, has-none _ _) c.requires.ready c.requires.frames
+-- what holds of an answer that is there
+given : {A : Type 0} (P : A → Type 0) (o : Option A) (a : A) → o ≡ Some a → IfSome o P → P a
+given P o a is k = subst (λ (x : Option _). IfSome x P) is k
 
-pub window_round-requires : goal.window_round-requires
-window_round-requires g c =
-    let i = c.rounds.invariant in
-    (search rules, (i.goes.ready, (c.requires.pages, (c.requires.most, (i.left.0.out ∙ c.requires.home, i.held)))))
-
-pub rounds-preserved-in-Soon : goal.rounds-preserved-in-Soon
-rounds-preserved-in-Soon g c =
-    let i = c.rounds.invariant in
-    let k = c.window_round.ensures in
-    let told = c.in-Soon.ensures.told in
-    tried-round i c.window_round.new.pass c.window_round.new.iface k.goes k.held k.lost k.iface
-    (waits-then _ _ _ i.left.0 told.0, has-further _ _ _ _ _ i.left.1 told.1)
-
-pub rounds-preserved : goal.rounds-preserved
-rounds-preserved g c =
-    let i = c.rounds.invariant in
-    let k = c.window_round.ensures in
-    let told = c.in-Later.ensures.told in
-    tried-round i c.window_round.new.pass c.window_round.new.iface k.goes k.held k.lost k.iface
-    (waits-then _ _ _ i.left.0 told.0, has-further _ _ _ _ _ i.left.1 told.1)
-
-pub returns-in-Done-clause-some : goal.returns-in-Done-clause-some
-returns-in-Done-clause-some g c =
-    replied-within g.K.Kind.plain g.K.Kind.layout _ _ _ _ _ _ c.rounds.invariant.left c.rounds-test.true c.in-Done.ensures.told.0
-
-pub returns-in-Done-clause-lost : goal.returns-in-Done-clause-lost
-returns-in-Done-clause-lost g c =
-    loses-then c.args.iface.now.frames c.rounds.iface.frames c.window_round.new.iface.frames (view c.args.pass.now)
-    (view c.rounds.pass) (view c.window_round.new.pass) c.rounds.invariant.lost c.window_round.ensures.lost
-
-pub returns-in-Failed-clause-err : goal.returns-in-Failed-clause-err
-returns-in-Failed-clause-err g c =
-    let i = c.rounds.invariant in
-    let told = c.in-Failed.ensures.told in (
-      record {
-        tried = view c.rounds.pass;
-        rounds = i.left.1.0;
-        waits = i.left.0;
-        why = told.1;
-        leaves = waits-then _ _ _ i.left.0 told.0;
-      },
-      subst (λ n. n < c.args.turns) (sym i.left.1.1) c.rounds-test.true,
-    )
-
-pub returns-in-Failed-clause-lost : goal.returns-in-Failed-clause-lost
-returns-in-Failed-clause-lost g c =
-    loses-then c.args.iface.now.frames c.rounds.iface.frames c.window_round.new.iface.frames (view c.args.pass.now)
-    (view c.rounds.pass) (view c.window_round.new.pass) c.rounds.invariant.lost c.window_round.ensures.lost
-
--- ---- all were in vain
-
-pub returns-clause-none : goal.returns-clause-none
-returns-clause-none g c _ =
-    let left = c.rounds.invariant.left in (
-      left.0,
-      subst (λ n. HasRounds (IsRound g.K.Kind.layout NoneExpected (g.K.Kind.rank c.args.start.now)) n (view c.args.pass.now)
-          (view c.rounds.pass)) (omega (arith, c.rounds.auto._made-end, c.rounds-test.false)) left.1,
-    )
+pub returns-in-Ok-Some-clause-some : goal.returns-in-Ok-Some-clause-some
+returns-in-Ok-Some-clause-some g c =
+    let k = given _ _ _ c.in-Ok-Some.field-0-is c.in-Ok-Some.ensures.some in
+    subst (λ (reply : Reply). (r : IsReplied g.K.Kind.plain g.K.Kind.layout
+    (record { call = ForWindow (g.K.Kind.rank c.args.start.now) c.args.most; reply = reply })
+    (view c.args.pass.now) (view c.window_said_within.new.pass)) × (rounds_in r.rounds < c.args.turns))
+    (sym (c.reply_of.ensures ∙ ap (λ (s : Said). s.reply) k.1)) (k.2, k.3)

@@ -1,7 +1,7 @@
 use Rattle.std.proofs.Common.{◌<◌, ◌∙◌, ◌≡◌, ap, arith, length, refl, subst, sym, ℕ}
 use Rattle.vm_rule.specs.Prelude.{draft_of}
 use Rattle.vm_step.specs.Prelude.{view}
-use Rattle.vm_guard.specs.Guards.{IsSet}
+use Rattle.vm_tree_read.specs.from_vm_guard.Guards.{IsSet}
 use Rattle.vm_tree_read.proofs.from_vm_tree_rule.Whole.{tree-size, tree_place}
 use Rattle.vm_tree_split.proofs.Drafting.{differs-more, differs-self, drafted-none, drafted-same, drafted-set}
 use Rattle.vm_tree_split.proofs.Drafting.{drafts-more, drafts-self, pages-more, pages-self, redrafted-self, set-more}

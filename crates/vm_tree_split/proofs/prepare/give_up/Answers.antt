@@ -4,7 +4,7 @@ use Rattle.vm_owner.proofs.NumberLemmas.{without-none}
 use Rattle.vm_rule.specs.Prelude.{has}
 use Rattle.vm_step.specs.Prelude.{view}
 use Rattle.vm_tree_read.proofs.from_vm_exmap.Handing.{held-on}
-use Rattle.vm_guard.specs.Guards.{IsReleased}
+use Rattle.vm_tree_read.specs.from_vm_guard.Guards.{IsReleased}
 use Rattle.vm_tree_read.proofs.Losing.{freed-loses, loses-same, loses-then}
 use Rattle.vm_tree_split.proofs.prepare.give_up.Goals as goal
 use Rattle.vm_tree_split.proofs.Splitting.{none-said}

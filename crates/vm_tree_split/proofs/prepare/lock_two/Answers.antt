@@ -2,8 +2,8 @@ use Rattle.std.proofs.Common.{[], ◌∙◌, ◌∷◌, ap, inl, inr, None, subs
 use Rattle.vm_event.specs.Prelude.{Version}
 use Rattle.vm_rule.specs.Prelude.{AreUnchanged, change_of, has}
 use Rattle.vm_step.specs.Prelude.{view}
-use Rattle.vm_guard.specs.Guards.{IsReleased}
-use Rattle.vm_guard.proofs.Reading.{reading-elsewhere}
+use Rattle.vm_tree_read.specs.from_vm_guard.Guards.{IsReleased}
+use Rattle.vm_tree_read.proofs.from_vm_guard.Reading.{reading-elsewhere}
 use Rattle.vm_tree_split.proofs.prepare.lock_two.Goals as goal
 use Rattle.vm_tree_split.proofs.Splitting.{none-said}
 use Rattle.vm_tree_split.proofs.Settling.{locked-alone, locked-word, only-worn}

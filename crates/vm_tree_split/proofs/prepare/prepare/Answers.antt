@@ -1,7 +1,7 @@
 use Rattle.std.proofs.Common.{◌++◌, refl}
 use Rattle.std.proofs.lemmas.Result.{IfErr-weaker, IfOk-weaker}
 use Rattle.vm_step.specs.Prelude.{AreHeld, view}
-use Rattle.vm_guard.specs.Groups.{guards_of}
+use Rattle.vm_tree_read.specs.from_vm_guard.Groups.{guards_of}
 use Rattle.vm_tree_read.specs.Waiting.{LosesNone}
 use Rattle.vm_tree_read.proofs.Losing.{loses-then}
 use Rattle.vm_tree_split.specs.{Prepares.AreTaken, Prepares.IsPrepared, Prepares.IsUntaken, Splits.KeepsLocksOnly, Tries.IsUnsplit}

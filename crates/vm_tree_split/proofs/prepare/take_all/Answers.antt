@@ -2,9 +2,9 @@ use Rattle.std.proofs.Common.{[], ◌∷◌, ⊎_elim, ◌++◌, ◌+◌, ◌<�
 use Rattle.std.proofs.lemmas.Bool.{cases_lt}
 use Rattle.vm_step.specs.Prelude.{view}
 use Rattle.vm_tree_read.proofs.from_vm_exmap.Handing.{held-on, held-rest, held-swap}
-use Rattle.vm_guard.specs.declared.given.Fresh.TheVariants as freshes
-use Rattle.vm_guard.specs.{Spares.KnowsFew, Sure.known_next}
-use Rattle.vm_guard.proofs.Searching.{given-of}
+use Rattle.vm_tree_read.specs.from_vm_guard.declared_given_Fresh_TheVariants as freshes
+use Rattle.vm_tree_read.specs.from_vm_guard.{Spares.KnowsFew, Sure.known_next}
+use Rattle.vm_tree_read.proofs.from_vm_guard.Searching.{given-of}
 use Rattle.vm_tree_read.proofs.Losing.{freed-loses, loses-same, loses-swap, loses-then}
 use Rattle.vm_tree_split.specs.Prepares.IsUntaken.{short, unclaimed, unlocked}
 use Rattle.vm_tree_split.proofs.{Losing.fresh-loses, Refusing.denied-keeps, Refusing.none-given, Refusing.says-denied, Under.reading-moved}

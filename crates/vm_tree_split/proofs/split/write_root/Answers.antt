@@ -1,8 +1,8 @@
 use Rattle.std.proofs.Common.{[], ◌+◌, ◌∙◌, ◌∷◌, arith, subst, sym}
 use Rattle.vm_rule.specs.Prelude.{last_of}
 use Rattle.vm_step.specs.Prelude.{view}
-use Rattle.vm_guard.specs.Guards.{IsHolding}
-use Rattle.vm_guard.specs.Groups.{AreReleased, MayReleaseAll}
+use Rattle.vm_tree_read.specs.from_vm_guard.Guards.{IsHolding}
+use Rattle.vm_tree_read.specs.from_vm_guard.Groups.{AreReleased, MayReleaseAll}
 use Rattle.vm_tree_laws.specs.Plain.{ReleasesPlain}
 use Rattle.vm_tree_read.proofs.from_vm_tree_rule.Whole.{tree-size, tree_place}
 use Rattle.vm_tree_split.proofs.Rooting.{four-all, four-apart, four-redrafted, four-released, four-stay, two-held}
@@ -82,9 +82,9 @@ pub release_group-requires-clause-may : goal.release_group-requires-clause-may
 release_group-requires-clause-may g c =
     let r = c.requires.can in
     let page = g.K.Pages.words_of c.args.page.now in
-    let separator = g.K.Kind.rank c.right_half-separator.result in
-    let left = g.K.Edits.left_half page separator in
-    let half = g.K.Pages.words_of c.right_half-separator.new.right in
+    let separator = g.K.Kind.rank c.split-separator.result in
+    let left = g.K.Pages.words_of c.split-separator.new.left in
+    let half = g.K.Pages.words_of c.split-separator.new.right in
     let crown = g.K.Pages.words_of c.new_root.new.page in
     let ne = four-apart _ _ _ _ r.apart in
     let t = two-set c.args.meta c.set.new.self c.args.top.pid (c.args.height + 1) (view c.args.pass.now)
@@ -124,7 +124,7 @@ release_group-requires-clause-may g c =
     (four-all g.K.Kind.plain g.K.Kind.layout g.K.Kind.is_layout g.K.Kind.spare g.K.Kind.spare_is c.args.meta.pid
     c.args.low.pid c.args.right.pid c.args.top.pid c.args.height separator page left half crown
     (view c.args.pass.now) (view c.redraft-3.new.pass) c.set-2.new.self c.redraft.new.guard c.redraft-2.new.guard
-    c.redraft-3.new.guard stays four r.zero r.told r.full c.right_half-separator.ensures.halves
+    c.redraft-3.new.guard stays four r.zero r.told r.full c.split-separator.ensures.halves
     c.new_root.ensures.root r.usable
     (tree-size _ _ _ c.redraft-3.ensures.goes.ready.table.is_shape.size c.args.words.now.sized.0
     c.args.words.now.size.takes) first d2.guard.0 d3.guard.0 d4.guard.0 h1 h2 h3 d4.holds r.apart r.home)
@@ -133,9 +133,9 @@ pub returns-clause-split : goal.returns-clause-split
 returns-clause-split g c =
     let r = c.requires.can in
     let page = g.K.Pages.words_of c.args.page.now in
-    let separator = g.K.Kind.rank c.right_half-separator.result in
-    let left = g.K.Edits.left_half page separator in
-    let half = g.K.Pages.words_of c.right_half-separator.new.right in
+    let separator = g.K.Kind.rank c.split-separator.result in
+    let left = g.K.Pages.words_of c.split-separator.new.left in
+    let half = g.K.Pages.words_of c.split-separator.new.right in
     let crown = g.K.Pages.words_of c.new_root.new.page in
     let ne = four-apart _ _ _ _ r.apart in
     let t = two-set c.args.meta c.set.new.self c.args.top.pid (c.args.height + 1) (view c.args.pass.now)
@@ -169,7 +169,7 @@ returns-clause-split g c =
     four-released g.K.Kind.plain g.K.Kind.layout g.K.Kind.is_layout g.K.Kind.spare g.K.Kind.spare_is c.args.meta.pid
     c.args.low.pid c.args.right.pid c.args.top.pid c.args.height separator page left half crown
     (view c.args.pass.now) (view c.redraft-3.new.pass) c.set-2.new.self c.redraft.new.guard c.redraft-2.new.guard
-    c.redraft-3.new.guard stays four r.zero r.told r.full c.right_half-separator.ensures.halves
+    c.redraft-3.new.guard stays four r.zero r.told r.full c.split-separator.ensures.halves
     c.new_root.ensures.root r.usable _
     (tree-size _ _ _ c.redraft-3.ensures.goes.ready.table.is_shape.size c.args.words.now.sized.0
     c.args.words.now.size.takes) h1 first d2.guard.0 d3.guard.0 d4.guard.0

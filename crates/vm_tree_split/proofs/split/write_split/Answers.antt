@@ -2,7 +2,7 @@ use Rattle.std.proofs.Common.{[], ◌∙◌, ◌∷◌, arith, refl, subst, sym}
 use Rattle.vm_tree_model.specs.Edits.{AddsPair}
 use Rattle.vm_tree_model.specs.Page.{IsInner}
 use Rattle.vm_step.specs.Prelude.{view}
-use Rattle.vm_guard.specs.Groups.{AreReleased, MayReleaseAll}
+use Rattle.vm_tree_read.specs.from_vm_guard.Groups.{AreReleased, MayReleaseAll}
 use Rattle.vm_tree_laws.specs.Plain.{ReleasesPlain}
 use Rattle.vm_tree_read.proofs.from_vm_tree_rule.Whole.{tree-size}
 use Rattle.vm_tree_split.proofs.split.write_split.Goals as goal
@@ -13,7 +13,7 @@ pub unreachable-requires : goal.unreachable-requires
 unreachable-requires g c =
     let short = c.in-Err.ensures.refused in
     let room = c.requires.can.room in
-    absurd (omega (arith, short, room, g.K.Kind.is_layout.grows (g.K.Kind.rank c.right_half-separator.result)))
+    absurd (omega (arith, short, room, g.K.Kind.is_layout.grows (g.K.Kind.rank c.split-separator.result)))
 
 pub redraft-requires-clause-made_of : goal.redraft-requires-clause-made_of
 redraft-requires-clause-made_of g c = (refl, c.changes-changes.ensures)
@@ -57,10 +57,10 @@ release_group-requires-clause-may g c =
     let d3 = c.redraft-3.ensures in
     let over = g.K.Pages.words_of c.args.over.now in
     let page = g.K.Pages.words_of c.args.page.now in
-    let separator = g.K.Kind.rank c.right_half-separator.result in
+    let separator = g.K.Kind.rank c.split-separator.result in
     let above = g.K.Edits.edited over c.in-Ok.edit in
-    let left = g.K.Edits.left_half page separator in
-    let half = g.K.Pages.words_of c.right_half-separator.new.right in
+    let left = g.K.Pages.words_of c.split-separator.new.left in
+    let half = g.K.Pages.words_of c.split-separator.new.right in
     let three = three-redrafted g.K.Kind.layout c.args.up.pid c.args.low.pid c.args.right.pid over above page left
     half (view c.args.pass.now) (view c.redraft.new.pass) (view c.redraft-2.new.pass) (view c.redraft-3.new.pass)
     r.apart r.held.0.owns r.held.1.0.owns r.held.1.1.0.owns r.told d1.redrafted d2.redrafted d3.redrafted d1.draft d2.draft d3.draft in
@@ -79,7 +79,7 @@ release_group-requires-clause-may g c =
     (three-all g.K.Kind.plain g.K.Kind.layout g.K.Kind.is_layout g.K.Kind.spare g.K.Kind.spare_is _ _ _ separator over
     above page left half (view c.args.pass.now) (view c.redraft-3.new.pass) c.redraft.new.guard
     c.redraft-2.new.guard c.redraft-3.new.guard stays three r.told r.room r.full
-    c.right_half-separator.ensures.halves adds r.usable
+    c.split-separator.ensures.halves adds r.usable
     (tree-size _ _ _ c.redraft-3.ensures.goes.ready.table.is_shape.size c.args.words.now.sized.0
     c.args.words.now.size.takes) d1.guard.0 d2.guard.0 d3.guard.0 h1 h2 d3.holds r.apart r.home)
 
@@ -91,10 +91,10 @@ returns-clause-split g c =
     let d3 = c.redraft-3.ensures in
     let over = g.K.Pages.words_of c.args.over.now in
     let page = g.K.Pages.words_of c.args.page.now in
-    let separator = g.K.Kind.rank c.right_half-separator.result in
+    let separator = g.K.Kind.rank c.split-separator.result in
     let above = g.K.Edits.edited over c.in-Ok.edit in
-    let left = g.K.Edits.left_half page separator in
-    let half = g.K.Pages.words_of c.right_half-separator.new.right in
+    let left = g.K.Pages.words_of c.split-separator.new.left in
+    let half = g.K.Pages.words_of c.split-separator.new.right in
     let three = three-redrafted g.K.Kind.layout c.args.up.pid c.args.low.pid c.args.right.pid over above page left
     half (view c.args.pass.now) (view c.redraft.new.pass) (view c.redraft-2.new.pass) (view c.redraft-3.new.pass)
     r.apart r.held.0.owns r.held.1.0.owns r.held.1.1.0.owns r.told d1.redrafted d2.redrafted d3.redrafted d1.draft d2.draft d3.draft in
@@ -107,7 +107,7 @@ returns-clause-split g c =
     three-released g.K.Kind.plain g.K.Kind.layout g.K.Kind.is_layout g.K.Kind.spare g.K.Kind.spare_is _ _ _ separator
     over above page left half (view c.args.pass.now) (view c.redraft-3.new.pass) c.redraft.new.guard
     c.redraft-2.new.guard c.redraft-3.new.guard stays three r.told r.room r.full
-    c.right_half-separator.ensures.halves adds r.usable _ d1.guard.0 d2.guard.0 d3.guard.0
+    c.split-separator.ensures.halves adds r.usable _ d1.guard.0 d2.guard.0 d3.guard.0
     (subst (λ o. AreReleased c.redraft.new.guard (c.redraft-2.new.guard ∷ c.redraft-3.new.guard ∷ []) o
     (view c.redraft-3.new.pass) (view c.release_group.new.pass))
     (none-said _ c.as_ref.result c.as_ref.ensures.variant) c.release_group.ensures.released.0)

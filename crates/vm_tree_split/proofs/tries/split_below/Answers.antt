@@ -1,7 +1,7 @@
 use Rattle.std.proofs.Common.{◌++◌, inl, inr, refl}
 use Rattle.vm_step.specs.Prelude.{view}
 use Rattle.vm_tree_read.proofs.from_vm_exmap.Handing.{held-on}
-use Rattle.vm_guard.specs.Groups.{guards_of}
+use Rattle.vm_tree_read.specs.from_vm_guard.Groups.{guards_of}
 use Rattle.vm_tree_read.proofs.from_vm_tree_rule.Whole.{tree-size}
 use Rattle.vm_tree_read.proofs.Losing.{freed-loses, loses-same, loses-then}
 use Rattle.vm_tree_split.proofs.{Ends.below-ended, Ends.can-split, Under.some-taken, Under.taken-one}

@@ -1,7 +1,7 @@
 use Rattle.vm_tree_rule.specs.from_vm_step.Prelude.{NoneExpected, View}
 use Rattle.vm_tree_read.specs.Waiting.{AreRounds, IsRound, Waits}
 use Rattle.vm_tree_read.proofs.Rounds.{HasTried}
-use Rattle.vm_tree_read.proofs.waiting.window.Given as goal
+use Rattle.vm_tree_read.proofs.waiting.window_said.Given as goal
 
 -- no try was answered yet
 abbrev pub invariant-loop : goal.invariant-loop

@@ -1,7 +1,7 @@
 use Rattle.vm_tree_rule.specs.from_vm_step.Prelude.{NoneExpected, View}
 use Rattle.vm_tree_read.specs.Waiting.{HasRounds, IsRound, Waits}
 use Rattle.vm_tree_read.proofs.Rounds.{HasTried}
-use Rattle.vm_tree_read.proofs.within.window_within.Given as goal
+use Rattle.vm_tree_read.proofs.within.window_said_within.Given as goal
 
 -- so many rounds were made, and none of them was answered
 abbrev pub invariant-rounds : goal.invariant-rounds

@@ -1,0 +1,89 @@
+use Rattle.std.proofs.Common.{◌*◌, ◌+◌, ◌++◌, arith, min, subst, sym, true≢false}
+use Rattle.vm_tree_rule.proofs.{Counting.within-wider, Onward.loaded-more, Surely.known-same}
+use Rattle.vm_tree_rule.proofs.Readings.{loads-reads, opened-loads, reads-then}
+use Rattle.vm_tree_read.proofs.Answering.{answered-as, answered-later, unproved, reply-told}
+use Rattle.vm_tree_read.proofs.Reckoning.{leaf-few, leaf-height, place-few}
+use Rattle.vm_tree_read.specs.Reads.{TellReply}
+use Rattle.vm_tree_read.proofs.read.show_window.Goals as goal
+
+pub returns-in-Err-clause-known : goal.returns-in-Err-clause-known
+returns-in-Err-clause-known g c tells k = absurd (true≢false (sym (c.in-Err.ensures.sure tells k)))
+
+pub answer-requires-clause-reading : goal.answer-requires-clause-reading
+answer-requires-clause-reading g c = c.window_in_place-said.ensures.found.2.loads.reads
+
+pub answer-requires-clause-proves : goal.answer-requires-clause-proves
+answer-requires-clause-proves g c =
+    let leaf = c.in-Ok.ensures.leaf in
+    let f = c.window_in_place-said.ensures.found.2 in (
+      leaf.0 ++ f.loaded,
+      loaded-more _ _ _ leaf.0 f.loaded _ _ leaf.1 f.loads,
+      subst (TellReply g.K.Kind.layout (leaf.0 ++ f.loaded)) (sym c.window_in_place-said.ensures.found.1)
+          (reply-told g.K.Kind.layout leaf.0 f.loaded _ leaf.2
+          (λ page with covers low high rises. (covers, c.requires.most, f.tells page with low high rises))),
+    )
+
+pub returns-in-Err-clause-few : goal.returns-in-Err-clause-few
+returns-in-Err-clause-few g c = within-wider _ _ _ _ (λ h. omega arith) c.in-Err.ensures.few
+
+pub returns-in-Ok-answer-clause-few : goal.returns-in-Ok-answer-clause-few
+returns-in-Ok-answer-clause-few g c = let k = c.in-Ok.ensures.height in
+    leaf-few g.K.Kind.bounds.child (1 + g.K.Kind.bounds.fences)
+    (λ h. 2 + g.K.Kind.bounds.child * h
+    + (1 + g.K.Kind.bounds.fences + (g.K.Windows.window_each * min c.args.most 28 + g.K.Windows.window_most)))
+    (g.K.Windows.window_each * min c.args.most 28 + g.K.Windows.window_most) k.0 _ _ _ _ k.1
+    (place-few _ _ _ _ _ _ _ c.window_in_place-said.ensures.found.2) c.in-Ok-answer.ensures.words (omega arith)
+
+pub returns-in-Ok-answer-clause-height : goal.returns-in-Ok-answer-clause-height
+returns-in-Ok-answer-clause-height g c =
+    let k = c.in-Ok.ensures.height in (
+      k.0,
+      leaf-height g.K.Kind.bounds.child (1 + g.K.Kind.bounds.fences)
+          (2 + g.K.Kind.bounds.child * k.0
+          + (1 + g.K.Kind.bounds.fences + (g.K.Windows.window_each * min c.args.most 28 + g.K.Windows.window_most)))
+          (g.K.Windows.window_each * min c.args.most 28 + g.K.Windows.window_most) k.0 _ _ _ _ k.1
+          (place-few _ _ _ _ _ _ _ c.window_in_place-said.ensures.found.2) c.in-Ok-answer.ensures.words (omega arith),
+    )
+
+pub returns-in-Err-answer-clause-few : goal.returns-in-Err-answer-clause-few
+returns-in-Err-answer-clause-few g c = let k = c.in-Ok.ensures.height in
+    leaf-few g.K.Kind.bounds.child (1 + g.K.Kind.bounds.fences)
+    (λ h. 2 + g.K.Kind.bounds.child * h
+    + (1 + g.K.Kind.bounds.fences + (g.K.Windows.window_each * min c.args.most 28 + g.K.Windows.window_most)))
+    (g.K.Windows.window_each * min c.args.most 28 + g.K.Windows.window_most) k.0 _ _ _ _ k.1
+    (place-few _ _ _ _ _ _ _ c.window_in_place-said.ensures.found.2) c.in-Err-answer.ensures.words (omega arith)
+
+pub returns-in-Ok-answer-clause-ok : goal.returns-in-Ok-answer-clause-ok
+returns-in-Ok-answer-clause-ok g c =
+    let found = c.window_in_place-said.ensures.found in (
+      found.0,
+      found.1,
+      answered-as g.K.Kind.plain g.K.Kind.layout _ _ _ _ found.1
+          (answered-later g.K.Kind.plain g.K.Kind.layout _ _ _ _
+          (reads-then _ _ _ c.in-Ok.ensures.reads.0 (loads-reads _ _ _ _ _ _ found.2.loads)) c.in-Ok-answer.ensures.ok),
+    )
+
+pub returns-in-Ok-answer-clause-known : goal.returns-in-Ok-answer-clause-known
+returns-in-Ok-answer-clause-known g c tells k =
+    c.in-Ok-answer.ensures.known
+    (known-same _ _ _ _ (loads-reads _ _ _ _ _ _ c.window_in_place-said.ensures.found.2.loads).0
+    c.window_in_place-said.ensures.found.2.loads.table (c.in-Ok.ensures.known tells k))
+
+pub returns-in-Err-answer-clause-err : goal.returns-in-Err-answer-clause-err
+returns-in-Err-answer-clause-err g c = unproved g.K.Kind.layout _ _ _ (g.K.Kind.rank c.args.start.now) _ _ _ _
+    (opened-loads _ _ _ _ _ _ _ c.in-Ok.ensures.reads.1 c.window_in_place-said.ensures.found.2.loads)
+    c.in-Err-answer.ensures.err
+
+pub returns-in-Err-answer-clause-sure : goal.returns-in-Err-answer-clause-sure
+returns-in-Err-answer-clause-sure g c tells k =
+    absurd (true≢false (sym
+    (c.in-Err-answer.ensures.sure
+    (known-same _ _ _ _ (loads-reads _ _ _ _ _ _ c.window_in_place-said.ensures.found.2.loads).0
+    c.window_in_place-said.ensures.found.2.loads.table (c.in-Ok.ensures.known tells k)))))
+
+pub returns-in-Err-answer-clause-known : goal.returns-in-Err-answer-clause-known
+returns-in-Err-answer-clause-known g c tells k =
+    absurd (true≢false (sym
+    (c.in-Err-answer.ensures.sure
+    (known-same _ _ _ _ (loads-reads _ _ _ _ _ _ c.window_in_place-said.ensures.found.2.loads).0
+    c.window_in_place-said.ensures.found.2.loads.table (c.in-Ok.ensures.known tells k)))))
