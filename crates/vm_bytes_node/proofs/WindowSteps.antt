@@ -5,16 +5,15 @@ use Rattle.std.proofs.lemmas.Bool.Decides.{nat_tests}
 use Rattle.std.proofs.lemmas.Bool.{cases_eq, cases_lt, lt-ltb}
 use Rattle.std.proofs.lemmas.List.{drop_all, drop_more, take_all, take_at}
 use Rattle.vm_map.specs.Map.{Pairs, Rises}
-use Rattle.vm_tree_model.specs.Layout.{IsClean}
 use Rattle.vm_tree_model.specs.Page.{pairs_of}
 use Rattle.vm_node.specs.Places.{place_of}
 use Rattle.vm_bytes_form.specs.Bytes.{bytes}
 use Rattle.vm_bytes_form.specs.Forms.{AreKeys, KeyEntry, node_in}
 use Rattle.vm_bytes_form.specs.KeyMap.{ranks_of}
 use Rattle.vm_bytes_form.specs.Strings.{before, IsString, rank}
-use Rattle.vm_bytes_form.proofs.EditLaws.{clean_fitting}
 use Rattle.vm_bytes_form.proofs.KeyMaps.{before_test}
 use Rattle.vm_bytes_node.specs.KeyWindows.{entries_from, IsKeyWindow, key_after}
+use Rattle.vm_bytes_node.proofs.ReadKeys.{entries_read}
 
 -- no key of rising pairs is below the first
 pub none_lower : (m : Pairs) (low high k : ℕ) → Rises low high m → k ≤ low → place_of m k ≡ 0
@@ -92,7 +91,7 @@ after_whole (e ∷ es) (suc n) high le = after_whole es n high (omega (arith, le
 -- What was taken and the entries from place i on are those from the start on
 pub record IsShowing (start : List ℕ) (count i : ℕ) (shown : List KeyEntry) (words : List ℕ) : Type 0 where
   pub all : count ≡ length (node_in words).entries
-  pub whole : IsClean bytes words → (low high : ℕ) → Rises low high (pairs_of bytes words)
+  pub whole : (low high : ℕ) → Rises low high (pairs_of bytes words)
       → shown ++ drop i (node_in words).entries ≡ entries_from start (node_in words).entries
 
 module _ (start : List ℕ) (count : ℕ) (words : List ℕ) where
@@ -104,8 +103,8 @@ module _ (start : List ℕ) (count : ℕ) (words : List ℕ) where
       → IsShowing start count first [] words
   showing_begins first is all first_is = record {
     all = all;
-    whole = λ clean low high rises. ap (λ (i : ℕ). drop i entries) (first_is low high rises)
-        ∙ from_place entries start low high (clean_fitting words clean).keys is rises;
+    whole = λ low high rises. ap (λ (i : ℕ). drop i entries) (first_is low high rises)
+        ∙ from_place entries start low high (entries_read words) is rises;
   }
 
   module _ (i : ℕ) (shown : List KeyEntry) (is : IsShowing start count i shown words) where
@@ -122,17 +121,17 @@ module _ (start : List ℕ) (count : ℕ) (words : List ℕ) where
           → IsShowing start count (i + 1) (shown ++ (key, value) ∷ []) words
       showing_more value read = record {
         all = is.all;
-        whole = λ clean low high rises. append_assoc shown ((key, value) ∷ []) (drop (i + 1) entries)
-            ∙ ap (λ (l : List KeyEntry). shown ++ l) (sym (next value (read there))) ∙ is.whole clean low high rises;
+        whole = λ low high rises. append_assoc shown ((key, value) ∷ []) (drop (i + 1) entries)
+            ∙ ap (λ (l : List KeyEntry). shown ++ l) (sym (next value (read there))) ∙ is.whole low high rises;
       }
 
       -- for the next entry there is no room
-      pub showing_stops : (most : ℕ) → length shown ≡ most → IsClean bytes words → (low high : ℕ) → Rises low high (pairs_of bytes words)
+      pub showing_stops : (most : ℕ) → length shown ≡ most → (low high : ℕ) → Rises low high (pairs_of bytes words)
           → IsKeyWindow (node_in words) start most shown (Some key)
-      showing_stops most long clean low high rises =
+      showing_stops most long low high rises =
           let value : ℕ = (get_or entries i ([], 0)).1 in
           let whole : shown ++ ((key, value) ∷ drop (i + 1) entries) ≡ entries_from start entries =
-          ap (λ (l : List KeyEntry). shown ++ l) (sym (next value refl)) ∙ is.whole clean low high rises in
+          ap (λ (l : List KeyEntry). shown ++ l) (sym (next value refl)) ∙ is.whole low high rises in
           record {
             shows = sym (ap (take most) (sym whole) ∙ take_at shown ((key, value) ∷ drop (i + 1) entries) most long);
             ends = sym (ap (λ (l : List KeyEntry). key_after l most (node_in words).high) (sym whole)
@@ -142,12 +141,11 @@ module _ (start : List ℕ) (count : ℕ) (words : List ℕ) where
 
     -- no entry is left
     pub showing_ends : (most : ℕ) (bound : Option (List ℕ)) → count ≤ i → length shown ≤ most → bound ≡ (node_in words).high
-        → IsClean bytes words
         → (low high : ℕ) → Rises low high (pairs_of bytes words) → IsKeyWindow (node_in words) start most shown bound
-    showing_ends most bound past few fence clean low high rises =
+    showing_ends most bound past few fence low high rises =
         let whole : shown ≡ entries_from start entries = sym (append-nil shown)
         ∙ ap (λ (l : List KeyEntry). shown ++ l) (sym (drop_all i entries (let all = is.all in omega (arith, past, all))))
-        ∙ is.whole clean low high rises in
+        ∙ is.whole low high rises in
         record {
           shows = sym (ap (take most) (sym whole) ∙ take_all most shown few);
           ends = fence ∙ sym (ap (λ (l : List KeyEntry). key_after l most (node_in words).high) (sym whole)

@@ -3,7 +3,7 @@
 ghost use Rattle.std.specs.Prelude.{◌≡◌, ◌+◌, ◌*◌, ◌≤◌, length, min, ℕ};
 ghost use Rattle.vm_map.specs.Map.{Rises};
 ghost use Rattle.vm_map.specs.declared.window.TheConstants.{MOST_PAIRS};
-ghost use Rattle.vm_tree_model.specs.{Layout.IsClean, Page.pairs_of};
+ghost use Rattle.vm_tree_model.specs.Page.{pairs_of};
 ghost use Rattle.vm_bytes_form.specs.{Bytes.bytes, Forms.node_in, Strings.rank};
 ghost use Rattle.vm_node.specs.{Loads.Tells, Places.place_of};
 ghost use Rattle.vm_bytes_node.specs.{Limits.MOST_SLOTS, KeyWindows.IsKeyWindow};
@@ -17,7 +17,7 @@ use vm_map::key::Key;
 use vm_map::window::MOST_PAIRS;
 use vm_node::Place;
 
-/// The first `most` pairs from the key `start` on, or all of them, of any clean page whose keys rise; a `most` above 28 is read as 28. The bound is
+/// The first `most` pairs from the key `start` on, or all of them, of any page whose keys rise; a `most` above 28 is read as 28. The bound is
 /// the key of the next pair where there is one, else the page's high fence, if it has one. At most eleven words a pair are loaded, and 100 more.
 pub fn window_at<P: Place>(place: &mut P, start: &Key, most: u32) -> KeyWindow
     requires ready { P.ready place.old }
@@ -25,7 +25,7 @@ pub fn window_at<P: Place>(place: &mut P, start: &Key, most: u32) -> KeyWindow
     ensures ready { P.ready place.new }
     ensures size { P.size place.new ≡ 512 }
     ensures told { Tells 512 P.loads place.old (11 * min most MOST_PAIRS + 100) place.new
-        (λ page. IsClean bytes page → (low high : ℕ) → Rises low high (pairs_of bytes page)
+        (λ page. (low high : ℕ) → Rises low high (pairs_of bytes page)
         → IsKeyWindow (node_in page) start.now (min most MOST_PAIRS) result.pairs result.bound) }
 {
     in_range(start);

@@ -1,0 +1,3 @@
+pub mod KeyHistories
+pub mod KeyShown
+pub mod Paid

@@ -1,0 +1,2 @@
+pub mod KeyHistory
+pub mod Plain
