@@ -1,0 +1,12 @@
+use Rattle.std.proofs.Common.{refl, rules}
+use Rattle.vm_bytes_form.specs.Bytes.{bytes}
+use Rattle.vm_bytes_form.proofs.BytesLaws.{bytes_is_layout}
+use Rattle.vm_bytes_laws.specs.Plain.{plain_said}
+use Rattle.vm_tree_callers.proofs.Beginnings.{begins-of}
+use Rattle.vm_test_bytes_tree.proofs.calls.open.Goals as goal
+
+pub start-requires : goal.start-requires
+start-requires c =
+    let start = begins-of plain_said bytes bytes_is_layout 512 _ _ _ _ c.in_ok-image.ensures.tree c.next.ensures
+    c.in_ok-blocks.ensures.blocks in
+    search (rules, start)
