@@ -1,6 +1,5 @@
 -- A page that could not be brought: the note, or the worn page.
 use Rattle.std.proofs.Common.{[], ◌++◌, ◌<◌, ◌∙◌, ◌∷◌, ◌≡◌, arith, Err, List, Ok, refl, subst, sym, ℕ}
-use Rattle.vm_map.specs.{declared.call.Call.Call, declared.call.Said.Said}
 use Rattle.vm_event.specs.Prelude.{EVICTED, MAX_VERSION, word_of}
 use Rattle.vm_rule.specs.declared.view.WordPlace.TheVariants as places
 use Rattle.vm_rule.proofs.WordFacts.{word-version}
@@ -11,10 +10,10 @@ use Rattle.vm_tree_range.specs.from_vm_pool.declared_bring_Bring_TheVariants as 
 use Rattle.vm_tree_range.proofs.from_vm_pool.Keeping.{alloc-keeps, framed-keeps}
 use Rattle.vm_tree_range.specs.from_vm_tree_rule.declared_fault_TreeFault.{TreeFault}
 use Rattle.vm_tree_range.specs.from_vm_tree_read.Waiting.{IsBringFault, IsBringFault as fault_for}
-use Rattle.vm_calls.specs.Calls.{KeepsPass}
-use Rattle.vm_calls.proofs.Called.{HasFoundWorn, HasNoted, IsCalled}
+use Rattle.vm_calling.specs.{Called.HasFoundWorn, Called.HasNoted, Called.IsCalled, Calling.Calling, Calls.KeepsPass}
+use Rattle.vm_calling.proofs.Tracing.{given-more, max-later}
+use Rattle.vm_calls.proofs.Sweeping.{swept-noted, swept-worn}
 use Rattle.vm_calls.proofs.Finding.{found-worn, noted-after, noted-before}
-use Rattle.vm_calls.proofs.{Sweeping.swept-noted, Sweeping.swept-worn, Tracing.given-more, Tracing.max-later}
 
 module _ {X : Type 0} where
   fetch-noted : (cap p f : ℕ) (old new : List ℕ) (v w : View X) (q count : ℕ)
@@ -89,10 +88,10 @@ module _ {X : Type 0} where
   bring-worn home cap p old new before after v w q inside (is_bring.frameless g) = none-worn home cap old new before after v w q g
 
 -- a page could not be brought, by a call that began with the view u
-pub fault-called : (size : ℕ) (call : Call) (fault : TreeFault) (p : ℕ) (u v w : View Said) → KeepsPass u v
-    → w.mine ≡ u.mine → p < v.start.pages → IsBringFault p fault v w → IsCalled size call (Err fault) u w
-fault-called size call fault p u v w k mine inside (fault_for.device home cap before after q count old new b is) =
-    subst (λ (f : TreeFault). IsCalled size call (Err f) u w) (sym is)
+pub fault-called : {X C R P : Type 0} (kind : Calling X C R P) (call : C) (fault : TreeFault) (p : ℕ) (u v w : View X) → KeepsPass u v
+    → w.mine ≡ u.mine → p < v.start.pages → IsBringFault p fault v w → IsCalled kind call (Err fault) u w
+fault-called kind call fault p u v w k mine inside (fault_for.device home cap before after q count old new b is) =
+    subst (λ (f : TreeFault). IsCalled kind call (Err f) u w) (sym is)
     (mine, noted-before q count u v w k.notes (bring-noted home cap p old new before after v w q count b))
-fault-called size call fault p u v w k mine inside (fault_for.worn home cap before after q old new b is) =
-    subst (λ (f : TreeFault). IsCalled size call (Err f) u w) (sym is) (mine, bring-worn home cap p old new before after v w q inside b)
+fault-called kind call fault p u v w k mine inside (fault_for.worn home cap before after q old new b is) =
+    subst (λ (f : TreeFault). IsCalled kind call (Err f) u w) (sym is) (mine, bring-worn home cap p old new before after v w q inside b)

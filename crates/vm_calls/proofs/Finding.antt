@@ -1,6 +1,5 @@
 -- What the steps of a call found, and what it noted, its pass found and noted.
 use Rattle.std.proofs.Common.{◌++◌, ◌<◌, ◌∙◌, ◌∷◌, ◌≡◌, ap, append_assoc, List, refl, subst, sym, ℕ}
-use Rattle.vm_map.specs.declared.call.Said.{Said}
 use Rattle.vm_event.specs.Prelude.{MAX_VERSION, version_of}
 use Rattle.vm_rule.specs.Prelude.{StartsWith}
 use Rattle.vm_rule.specs.declared.view.WordPlace.{WordPlace}
@@ -8,7 +7,7 @@ use Rattle.vm_rule.specs.declared.view.WordPlace.TheVariants as places
 use Rattle.vm_step.specs.Prelude.{Did, HasGiven, Note, Origin, View}
 use Rattle.vm_tree_range.specs.from_vm_guard.declared_deny_Deny_TheVariants as denies
 use Rattle.vm_tree_range.specs.from_vm_guard.Denied.{AgainOrWorn, IsDenied}
-use Rattle.vm_calls.proofs.Called.{HasFoundWorn, HasNoted}
+use Rattle.vm_calling.specs.Called.{HasFoundWorn, HasNoted}
 
 module _ {X : Type 0} where
   -- the steps of a call are among those of its pass
@@ -54,10 +53,10 @@ module _ {X : Type 0} where
             ∙ ap (λ (l : List Note). u.notes ++ l) (append_assoc n.before (one ∷ n.after) s.0);
       }
 
--- a lock that was denied since the page is worn
-pub denied-worn : (expects : ℕ → ℕ → Type 0) (kept : ℕ → Type 0) (p q : ℕ) (v w : View Said) → p < v.start.pages
-    → IsDenied AgainOrWorn kept expects p (denies.Worn q) v w → HasFoundWorn q w
-denied-worn expects kept p q v w inside d =
-    let worn = d.evidence.1 in
-    subst (λ n. HasFoundWorn n w) (sym d.evidence.0)
-    (found-worn p d.done v v w d.quiet.steady.log refl d.quiet.steady.start inside worn.word worn.given worn.last)
+  -- a lock that was denied since the page is worn
+  pub denied-worn : (expects : ℕ → ℕ → Type 0) (kept : ℕ → Type 0) (p q : ℕ) (v w : View X) → p < v.start.pages
+      → IsDenied AgainOrWorn kept expects p (denies.Worn q) v w → HasFoundWorn q w
+  denied-worn expects kept p q v w inside d =
+      let worn = d.evidence.1 in
+      subst (λ n. HasFoundWorn n w) (sym d.evidence.0)
+      (found-worn p d.done v v w d.quiet.steady.log refl d.quiet.steady.start inside worn.word worn.given worn.last)

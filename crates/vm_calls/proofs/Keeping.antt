@@ -1,6 +1,5 @@
 -- What the tree's calls leave of a worker's pass.
 use Rattle.std.proofs.Common.{[], ◌∙◌, ◌≡◌, List, sym, ℕ}
-use Rattle.vm_map.specs.declared.call.Said.{Said}
 use Rattle.vm_rule.specs.Prelude.{StartsWith}
 use Rattle.vm_rule.proofs.Entries.{append-none}
 use Rattle.vm_step.specs.Prelude.{View}
@@ -10,7 +9,7 @@ use Rattle.vm_tree_range.specs.Ranges.{HoldsOn}
 use Rattle.vm_tree_retry.specs.from_vm_tree_split.{Splits.KeepsLocksOnly}
 use Rattle.vm_tree_retry.specs.from_vm_tree_join.Made.{HoldsAll}
 use Rattle.vm_tree_retry.specs.Prelude.{OnlyWrites}
-use Rattle.vm_calls.specs.Calls.{KeepsPass}
+use Rattle.vm_calling.specs.Calls.{KeepsPass}
 
 pub same-front : {A : Type 0} (l m : List A) → l ≡ m → StartsWith l m
 same-front l m e = ([], e ∙ sym (append-none m))
@@ -76,7 +75,7 @@ module _ {X : Type 0} where
     log = k.log;
   }
 
-pub all-pass : (v w : View Said) → KeepsLocksOnly v w → KeepsPass v w
+pub all-pass : {X : Type 0} (v w : View X) → KeepsLocksOnly v w → KeepsPass v w
 all-pass v w k = record {
   holds = k.holds;
   out = k.out;

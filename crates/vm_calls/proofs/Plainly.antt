@@ -5,7 +5,7 @@ use Rattle.vm_rule.specs.Prelude.{Entry, Kept, Start}
 use Rattle.vm_tree_model.specs.Layout.{Layout}
 use Rattle.vm_tree_laws.specs.{History.IsLegal, Keeps.KeepsTree, Plain.KeepsPlain, Plain.plain_history}
 use Rattle.vm_tree_laws.proofs.Plainly.{plain_self}
-use Rattle.vm_calls.specs.TreeCalls.{as_said}
+use Rattle.vm_calls.specs.Calls.{as_said}
 
 pub plain-legal : (m : Pairs) (h : List (Entry Said)) → IsLegal m (plain_history as_said h) → IsLegal m h
 plain-legal m h l = subst (λ (e : List (Entry Said)). IsLegal m e) (plain_self h) l

@@ -1,6 +1,5 @@
 -- A put without room for a split: a worn page, a full image, or a sweep that made no frame free.
 use Rattle.std.proofs.Common.{[], ap, arith, Err, List, refl, subst, sym, ℕ, ⊎_elim, ◌+◌, ◌<◌, ◌∙◌, ◌∷◌, ◌≡◌, ◌≤◌}
-use Rattle.vm_map.specs.{declared.call.Call.Call, declared.call.Call.TheVariants.Put, declared.call.Said.Said}
 use Rattle.vm_tree_model.specs.Layout.{Layout}
 use Rattle.vm_rule.specs.Bundles.{frames_in}
 use Rattle.vm_rule.specs.Prelude.{did_load, Each, StartsWith}
@@ -25,15 +24,15 @@ use Rattle.vm_tree_retry.specs.from_vm_tree_round.Rounds.{IsRoomFault, IsRoomFau
 use Rattle.vm_tree_retry.specs.from_vm_tree_split.declared_tries_TrySplit_TheVariants as splits
 use Rattle.vm_tree_range.proofs.from_vm_tree_rule.Readings.{each-behind}
 use Rattle.vm_tree_retry.proofs.from_vm_tree_split.{Roomy.roomy-start, Seeing.sees-few, Seeing.sees-room}
-use Rattle.vm_calls.specs.{Calls.KeepsPass, TreeCalls.as_said}
-use Rattle.vm_calls.proofs.Called.{HasFoundNext, HasFoundWorn, IsCalled}
-use Rattle.vm_calls.proofs.Damage.{damaged-untold}
+use Rattle.vm_map.specs.declared.call.Said.{Said}
+use Rattle.vm_calling.specs.{Called.HasFoundNext, Called.HasFoundWorn, Called.IsCalled, Calling.Calling, Calls.KeepsPass}
+use Rattle.vm_calling.proofs.{Doing.keeps-then, Lists.starts-then, Tracing.given-more, Tracing.max-later}
+use Rattle.vm_calls.proofs.{Bringing.fault-called, Damage.damaged-untold, Keeping.all-pass, Keeping.reads-pass}
+use Rattle.vm_calls.proofs.Sweeping.{swept-noted, swept-worn}
 use Rattle.vm_calls.proofs.Finding.{denied-worn, found-worn, given-in, noted-before}
-use Rattle.vm_calls.proofs.{Bringing.fault-called, Doing.keeps-then, Keeping.all-pass, Keeping.reads-pass, Lists.starts-then}
-use Rattle.vm_calls.proofs.{Sweeping.swept-noted, Sweeping.swept-worn, Tracing.given-more, Tracing.max-later}
 
 -- the image of so many pages had none left
-next-full : (n pages next need : ℕ) (v w : View Said) → n ≤ 2 → IsFull n pages next need v w → HasFoundNext pages w
+next-full : {X : Type 0} (n pages next need : ℕ) (v w : View X) → n ≤ 2 → IsFull n pages next need v w → HasFoundNext pages w
 next-full n pages next need v w few f =
     let asked : need ≡ n = f.asked in
     let high : pages < next + need = f.full in
@@ -54,7 +53,7 @@ place-inside start pages p word done are g =
     (subst (IsPlaceOf start pages) g.gives.0 here).0
 
 -- a fresh page was at the last version, whether it was to be claimed or its number was taken
-answer-worn : (n : ℕ) (before after : List ℕ) (p : ℕ) (v w : View Said)
+answer-worn : {X : Type 0} (n : ℕ) (before after : List ℕ) (p : ℕ) (v w : View X)
     → IsFreshAnswer n before after v w (freshes.Worn p) → HasFoundWorn p w
 answer-worn n before after p v w answer =
     ⊎_elim
@@ -77,7 +76,7 @@ answer-worn n before after p v w answer =
     answer
 
 -- no word had so many bits, and too few pages were left
-answer-full : (n : ℕ) (before after : List ℕ) (pages next need : ℕ) (v w : View Said) → n ≤ 2
+answer-full : {X : Type 0} (n : ℕ) (before after : List ℕ) (pages next need : ℕ) (v w : View X) → n ≤ 2
     → IsFreshAnswer n before after v w (freshes.Full pages next need)
     → (pages ≡ v.start.pages) × HasFoundNext pages w
 answer-full n before after pages next need v w few answer =
@@ -88,21 +87,21 @@ answer-full n before after pages next need v w few answer =
     answer
 
 -- a sweep for a split made no frame free
-swept-called : (size : ℕ) (call : Call) (fault : TreeFault) (u v w : View Said) (want cap : ℕ) (old new : List ℕ)
+swept-called : {X C R P : Type 0} (kind : Calling X C R P) (call : C) (fault : TreeFault) (u v w : View X) (want cap : ℕ) (old new : List ℕ)
     (report : Report) (answer : Bring) → KeepsPass u v → w.mine ≡ u.mine → IsSwept want cap old new report v w
-    → SaysDry report answer → NamesFault answer fault → IsCalled size call (Err fault) u w
-swept-called size call fault u v w want cap old new report brings.Brought k mine s says names = absurd names
-swept-called size call fault u v w want cap old new report (brings.Again saw) k mine s says names = absurd names
-swept-called size call fault u v w want cap old new report (brings.Dry looks) k mine s says names = absurd names
-swept-called size call fault u v w want cap old new report (brings.Device p count) k mine s says names =
-    subst (λ (f : TreeFault). IsCalled size call (Err f) u w) (sym names)
+    → SaysDry report answer → NamesFault answer fault → IsCalled kind call (Err fault) u w
+swept-called kind call fault u v w want cap old new report brings.Brought k mine s says names = absurd names
+swept-called kind call fault u v w want cap old new report (brings.Again saw) k mine s says names = absurd names
+swept-called kind call fault u v w want cap old new report (brings.Dry looks) k mine s says names = absurd names
+swept-called kind call fault u v w want cap old new report (brings.Device p count) k mine s says names =
+    subst (λ (f : TreeFault). IsCalled kind call (Err f) u w) (sym names)
     (mine, noted-before p count u v w k.notes (swept-noted want cap old new report v w p count s says.1))
-swept-called size call fault u v w want cap old new report (brings.Worn p) k mine s says names =
-    subst (λ (f : TreeFault). IsCalled size call (Err f) u w) (sym names) (mine, swept-worn want cap old new report v w p s says.2.first)
+swept-called kind call fault u v w want cap old new report (brings.Worn p) k mine s says names =
+    subst (λ (f : TreeFault). IsCalled kind call (Err f) u w) (sym names) (mine, swept-worn want cap old new report v w p s says.2.first)
 
-module _ (L : Layout) where
+module _ {X : Type 0} (L : Layout) where
   -- one of these pages could not be locked
-  deny-worn : (n : ℕ) (gs : List OptGuard) (p : ℕ) (v w : View Said) → v.start.pages ≡ n
+  deny-worn : (n : ℕ) (gs : List OptGuard) (p : ℕ) (v w : View X) → v.start.pages ≡ n
       → Each (λ (g : OptGuard). g.pid < n) gs → IsLockDenied L gs (denies.Worn p) v w → HasFoundWorn p w
   deny-worn n [] p v w same inside k = absurd k
   deny-worn n (g ∷ gs) p v w same inside k =
@@ -114,7 +113,7 @@ module _ (L : Layout) where
       (deny-worn n gs p m.locked m.done (ap (λ (o : Origin). o.pages) m.taken.elsewhere.steady.start ∙ same) inside.1 m.inner))
       k
 
-  lock-worn : (a b : OptGuard) (p : ℕ) (v w : View Said) → a.pid < v.start.pages → b.pid < v.start.pages
+  lock-worn : (a b : OptGuard) (p : ℕ) (v w : View X) → a.pid < v.start.pages → b.pid < v.start.pages
       → IsNotLocked L a b (denies.Worn p) v w → HasFoundWorn p w
   lock-worn a b p v w la lb h =
       let here : (q : ℕ) → q < v.start.pages → q < h.asked.start.pages = λ q l. subst (λ (o : Origin). q < o.pages) (sym h.moves.start) l in
@@ -122,7 +121,7 @@ module _ (L : Layout) where
       (deny-worn h.asked.start.pages (a ∷ b ∷ []) p h.asked h.back refl (here a.pid la, (here b.pid lb, tt))
       h.denied)
 
-  module _ (n : ℕ) (a b : OptGuard) (answer : Fresh) (v w : View Said) (h : IsRefusedPages L n a b answer v w) where
+  module _ (n : ℕ) (a b : OptGuard) (answer : Fresh) (v w : View X) (h : IsRefusedPages L n a b answer v w) where
     locked-start : h.locked.start ≡ v.start
     locked-start = h.locks.low_locked.elsewhere.steady.start ∙ h.locks.up_locked.elsewhere.steady.start ∙ h.moves.start
 
@@ -137,12 +136,12 @@ module _ (L : Layout) where
         (h.back.up_back.done, h.back.up_back.elsewhere.steady.log)
         (h.back.low_back.done, h.back.low_back.elsewhere.steady.log))
 
-  fresh-worn : (n : ℕ) (a b : OptGuard) (p : ℕ) (v w : View Said) → IsRefusedPages L n a b (freshes.Worn p) v w → HasFoundWorn p w
+  fresh-worn : (n : ℕ) (a b : OptGuard) (p : ℕ) (v w : View X) → IsRefusedPages L n a b (freshes.Worn p) v w → HasFoundWorn p w
   fresh-worn n a b p v w h =
       max-later h.refused w p (back-start n a b (freshes.Worn p) v w h) (back-log n a b (freshes.Worn p) v w h)
       (answer-worn n h.before h.after p h.locked h.refused h.fresh)
 
-  untaken-worn : (n : ℕ) (a b : OptGuard) (p : ℕ) (v w : View Said) → a.pid < v.start.pages → b.pid < v.start.pages
+  untaken-worn : (n : ℕ) (a b : OptGuard) (p : ℕ) (v w : View X) → a.pid < v.start.pages → b.pid < v.start.pages
       → IsUntaken L n a b v w (splits.Worn p) → HasFoundWorn p w
   untaken-worn n a b p v w la lb (untaken.short (allocs.Batch batch) h says) = absurd says
   untaken-worn n a b p v w la lb (untaken.short allocs.Dry h says) = absurd (let no : splits.Worn p ≡ splits.Dry = says in cc)
@@ -163,7 +162,7 @@ module _ (L : Layout) where
   untaken-worn n a b p v w la lb (untaken.unclaimed (freshes.Full pages next need) h says) =
       absurd (let no : splits.Worn p ≡ splits.Full pages next need = says in cc)
 
-  fresh-full : (n : ℕ) (a b : OptGuard) (pages next need : ℕ) (v w : View Said) → n ≤ 2
+  fresh-full : (n : ℕ) (a b : OptGuard) (pages next need : ℕ) (v w : View X) → n ≤ 2
       → IsRefusedPages L n a b (freshes.Full pages next need) v w → (pages ≡ v.start.pages) × HasFoundNext pages w
   fresh-full n a b pages next need v w few h =
       let k = answer-full n h.before h.after pages next need h.locked h.refused few h.fresh in (
@@ -175,7 +174,7 @@ module _ (L : Layout) where
         },
       )
 
-  untaken-full : (n : ℕ) (a b : OptGuard) (pages next need : ℕ) (v w : View Said) → n ≤ 2
+  untaken-full : (n : ℕ) (a b : OptGuard) (pages next need : ℕ) (v w : View X) → n ≤ 2
       → IsUntaken L n a b v w (splits.Full pages next need) → (pages ≡ v.start.pages) × HasFoundNext pages w
   untaken-full n a b pages next need v w few (untaken.short (allocs.Batch batch) h says) = absurd says
   untaken-full n a b pages next need v w few (untaken.short allocs.Dry h says) =
@@ -197,9 +196,9 @@ module _ (L : Layout) where
       let same : pages' ≡ pages = (let e : splits.Full pages next need ≡ splits.Full pages' next' need' = says in cc) in
       subst (λ m. (m ≡ v.start.pages) × HasFoundNext m w) same (fresh-full n a b pages' next' need' v w few h)
 
-  module _ (spare : List ℕ → ℕ) where
-    unsplit-worn : (n : ℕ) (a b : OptGuard) (p : ℕ) (v w : View Said) → a.pid < v.start.pages → b.pid < v.start.pages
-        → IsUnsplit as_said L spare n a b v w (splits.Worn p) → HasFoundWorn p w
+  module _ (plain : X → Said) (spare : List ℕ → ℕ) where
+    unsplit-worn : (n : ℕ) (a b : OptGuard) (p : ℕ) (v w : View X) → a.pid < v.start.pages → b.pid < v.start.pages
+        → IsUnsplit plain L spare n a b v w (splits.Worn p) → HasFoundWorn p w
     unsplit-worn n a b p v w la lb (unsplit.full pages next need searched f h says) =
         absurd (let no : splits.Worn p ≡ splits.Full pages next need = says in cc)
     unsplit-worn n a b p v w la lb (unsplit.untaken roomy room h) =
@@ -207,7 +206,7 @@ module _ (L : Layout) where
         (sym (roomy-start v roomy (sees-room n v roomy room))) l in
         untaken-worn n a b p roomy w (here a.pid la) (here b.pid lb) h
 
-    ended-worn : (key p : ℕ) (v w : View Said) → IsEnded as_said L spare v key w (splits.Worn p) → HasFoundWorn p w
+    ended-worn : (key p : ℕ) (v w : View X) → IsEnded plain L spare v key w (splits.Worn p) → HasFoundWorn p w
     ended-worn key p v w (ends.root meta low height page x reads full end) =
         ⊎_elim
         (λ split. absurd (let no : splits.Worn p ≡ splits.Split = split.0 in cc))
@@ -219,8 +218,8 @@ module _ (L : Layout) where
         (λ u. unsplit-worn 1 parent node p x w full.parent_opened.reading.page full.opened.reading.page u)
         end
 
-    unsplit-full : (n : ℕ) (a b : OptGuard) (pages next need : ℕ) (v w : View Said) → n ≤ 2
-        → IsUnsplit as_said L spare n a b v w (splits.Full pages next need) → (pages ≡ v.start.pages)
+    unsplit-full : (n : ℕ) (a b : OptGuard) (pages next need : ℕ) (v w : View X) → n ≤ 2
+        → IsUnsplit plain L spare n a b v w (splits.Full pages next need) → (pages ≡ v.start.pages)
         × HasFoundNext pages w
     unsplit-full n a b pages next need v w few (unsplit.full pages' next' need' searched f h says) =
         let same : pages' ≡ pages = (let e : splits.Full pages next need ≡ splits.Full pages' next' need' = says in cc) in
@@ -233,8 +232,8 @@ module _ (L : Layout) where
         let k = untaken-full n a b pages next need roomy w few h in
         (k.0 ∙ ap (λ (o : Origin). o.pages) (roomy-start v roomy (sees-room n v roomy room)), k.1)
 
-    ended-full : (key pages next need : ℕ) (v w : View Said)
-        → IsEnded as_said L spare v key w (splits.Full pages next need) → (pages ≡ v.start.pages) × HasFoundNext pages
+    ended-full : (key pages next need : ℕ) (v w : View X)
+        → IsEnded plain L spare v key w (splits.Full pages next need) → (pages ≡ v.start.pages) × HasFoundNext pages
         w
     ended-full key pages next need v w (ends.root meta low height page x reads full end) =
         ⊎_elim
@@ -249,19 +248,21 @@ module _ (L : Layout) where
         (k.0 ∙ ap (λ (o : Origin). o.pages) reads.0.start, k.1))
         end
 
-    pub room-called : (size key value : ℕ) (fault : TreeFault) (u v w : View Said) → KeepsPass u v → w.mine ≡ u.mine
-        → IsRoomFault as_said L spare key fault v w → IsCalled size (Put key value) (Err fault) u w
-    room-called size key value fault u v w k mine (rooms.missing found page reads needed fault_is) =
-        fault-called size (Put key value) fault page u found w (keeps-then u v found k (reads-pass v found reads.0))
-        mine (subst (λ (o : Origin). page < o.pages) (sym reads.0.start) needed.inside) fault_is
-    room-called size key value fault u v w k mine (rooms.damaged page reads bad is) =
-        subst (λ (f : TreeFault). IsCalled size (Put key value) (Err f) u w) (sym is) (mine, damaged-untold L key page v w reads bad)
-    room-called size key value fault u v w k mine (rooms.worn p end is) =
-        subst (λ (f : TreeFault). IsCalled size (Put key value) (Err f) u w) (sym is) (mine, ended-worn key p v w end)
-    room-called size key value fault u v w k mine (rooms.full pages next need end is) =
-        let f = ended-full key pages next need v w end in
-        subst (λ (f : TreeFault). IsCalled size (Put key value) (Err f) u w) (sym is)
-        (mine, tt, f.0 ∙ ap (λ (o : Origin). o.pages) k.start, f.1)
-    room-called size key value fault u v w k mine (rooms.swept dry want cap old new report answer end kept s says names) =
-        swept-called size (Put key value) fault u dry w want cap old new report answer
-        (keeps-then u v dry k (all-pass v dry kept)) mine s says names
+-- no room could be made for a key, by a call that may fill the image
+pub room-called : {X C R : Type 0} (kind : Calling X C R Said) (L : Layout) (spare : List ℕ → ℕ) (call : C) (key : ℕ)
+    (fault : TreeFault) (u v w : View X) → kind.may_fill call → KeepsPass u v → w.mine ≡ u.mine
+    → IsRoomFault kind.plain L spare key fault v w → IsCalled kind call (Err fault) u w
+room-called kind L spare call key fault u v w may k mine (rooms.missing found page reads needed fault_is) =
+    fault-called kind call fault page u found w (keeps-then u v found k (reads-pass v found reads.0))
+    mine (subst (λ (o : Origin). page < o.pages) (sym reads.0.start) needed.inside) fault_is
+room-called kind L spare call key fault u v w may k mine (rooms.damaged page reads bad is) =
+    subst (λ (f : TreeFault). IsCalled kind call (Err f) u w) (sym is) (mine, damaged-untold L key page v w reads bad)
+room-called kind L spare call key fault u v w may k mine (rooms.worn p end is) =
+    subst (λ (f : TreeFault). IsCalled kind call (Err f) u w) (sym is) (mine, ended-worn L kind.plain spare key p v w end)
+room-called kind L spare call key fault u v w may k mine (rooms.full pages next need end is) =
+    let f = ended-full L kind.plain spare key pages next need v w end in
+    subst (λ (f : TreeFault). IsCalled kind call (Err f) u w) (sym is)
+    (mine, may, f.0 ∙ ap (λ (o : Origin). o.pages) k.start, f.1)
+room-called kind L spare call key fault u v w may k mine (rooms.swept dry want cap old new report answer end kept s says names) =
+    swept-called kind call fault u dry w want cap old new report answer
+    (keeps-then u v dry k (all-pass v dry kept)) mine s says names

@@ -1,23 +1,12 @@
--- What a call of the tree that waits leaves of a worker's pass.
-use Rattle.std.specs.Prelude.{◌≡◌, ℕ}
+-- Calls whose keys are words: how they read, and which of them a full image refuses.
+use Rattle.std.specs.Prelude.{ℕ}
 use Rattle.vm_map.specs.declared.call.Call.{Call}
 use Rattle.vm_map.specs.declared.call.Call.TheVariants.{Del, Get, Put, Range, Swap, Window}
-use Rattle.vm_rule.specs.Prelude.{StartsWith}
-use Rattle.vm_step.specs.Prelude.{HoldsPage, View}
+use Rattle.vm_map.specs.declared.call.Said.{Said}
 
-module _ {X : Type 0} where
-  -- the pass holds just the pages, shares and blocks that it held, has the parts that it had, and knows what it knew
-  -- of the history, the releases,
-  -- its notes and its steps
-  pub record KeepsPass (v w : View X) : Type 0 where
-    pub holds : (q : ℕ) → HoldsPage v w q
-    pub out : w.out ≡ v.out
-    pub start : w.start ≡ v.start
-    pub parts : (w.used ≡ v.used) × (w.fresh ≡ v.fresh)
-    pub seen : StartsWith w.seen v.seen
-    pub releases : StartsWith w.releases v.releases
-    pub notes : StartsWith w.notes v.notes
-    pub log : StartsWith w.log v.log
+-- keys are words, so what is said reads as it is
+abbrev pub as_said : Said → Said
+as_said said = said
 
 -- the call is a put
 abbrev pub IsPutCall : Call → Type 0

@@ -1,9 +1,12 @@
--- A worker's calls of the tree, one after another: what each tells is of this call alone, between what the pass knew
+-- A worker's calls of the tree with words as keys: what each tells is of this call alone, between what the pass knew
 -- before it and behind it.
-use Rattle.std.specs.Prelude.{[], ◌∷◌, ◌≡◌, Err, List, Ok, Result, ℕ}
+use Rattle.std.specs.Prelude.{Err, Ok, Result, ℕ}
 use Rattle.vm_map.specs.{declared.call.Call.Call, declared.call.Reply.Reply, declared.call.Said.Said}
 use Rattle.vm_map.specs.declared.call.Call.TheVariants.{Del, Get, Put, Range, Swap, Window}
-use Rattle.vm_tree_model.specs.Fixed.{fixed}
+use Rattle.vm_tree_model.specs.{Fixed.fixed, Tree.map_of}
+use Rattle.vm_tree_laws.specs.History.{IsLegal}
+use Rattle.vm_calling.specs.Calling.{Calling}
+use Rattle.vm_calls.specs.{Calls.as_said, Calls.IsPutCall, Shows.IsReplyShown}
 use Rattle.vm_tree_range.specs.from_vm_kind.WordRoom.{spare_in}
 use Rattle.vm_step.specs.Prelude.{View}
 use Rattle.vm_tree_range.specs.from_vm_tree_rule.{declared_fault_TreeFault.TreeFault, Turns.IsDamaged, Turns.IsNeeded}
@@ -16,10 +19,6 @@ use Rattle.vm_tree_retry.specs.Waiting.{IsDelReplied, IsPutFaulted}
 use Rattle.vm_tree_retry.specs.from_vm_tree_round.Rounds.{IsWriteRound}
 use Rattle.vm_tree_retry.specs.Waiting.{IsWriteFaulted, IsWriteReplied}
 use Rattle.vm_tree_retry.specs.Prelude.{HasKeyIn, HasValueIn}
-
--- keys are words, so what is said reads as it is
-abbrev pub as_said : Said → Said
-as_said said = said
 
 -- All that the tree, on pages of n words, tells of a call that was answered so. A reply is one to such a call, and
 -- became the pass's next entry,
@@ -53,9 +52,13 @@ IsTreeCall n (Range low bound) (Ok reply) v w = IsRangeReplied as_said (fixed n)
 }) v w × IsOfKind (Range low bound) reply
 IsTreeCall n (Range low bound) (Err fault) v w = IsRangeFaulted (fixed n) low bound fault v w
 
--- The calls were made in order, with these answers: what one leaves the next one begins with
-abbrev pub AreTreeCalls : ℕ → List Call → List (Result Reply TreeFault) → View Said → View Said → Type 0
-AreTreeCalls n [] [] v w = w ≡ v
-AreTreeCalls n [] (r ∷ rs) v w = ⊥
-AreTreeCalls n (c ∷ cs) [] v w = ⊥
-AreTreeCalls n (c ∷ cs) (r ∷ rs) v w = (x : View Said) × IsTreeCall n c r v x × AreTreeCalls n cs rs x w
+-- the kind of calls that are made on the tree with words as keys, on pages of n words
+abbrev pub word_calls : ℕ → Calling Said Call Reply Said
+word_calls n = record {
+  plain = as_said;
+  said = λ call reply. record { call = call; reply = reply };
+  may_fill = IsPutCall;
+  tells = IsTreeCall n;
+  shows = IsReplyShown n;
+  legal = λ start history. IsLegal (map_of (fixed n) start.contents) history;
+}

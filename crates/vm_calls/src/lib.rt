@@ -1,11 +1,10 @@
-//! One worker's calls of the tree, one after another, and what keeps their answers.
+//! One worker's calls of the tree with words as keys, one after another, and the answers in little memory.
 #![tactic(auto)]
 
 pub mod answers;
 pub mod compact;
 pub mod evict;
 pub mod exmap;
-pub mod gate;
 pub mod kind;
 pub mod pool;
 pub mod spans;

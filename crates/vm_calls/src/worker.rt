@@ -1,4 +1,4 @@
-//! One worker: its pass, its interface, what keeps its answers, and the memory for its ranges.
+//! A worker's calls of the tree with words as keys.
 
 ghost use Rattle.std.specs.List.{AllByRecursion};
 ghost use Rattle.std.specs.Prelude.{[], ◌+◌, ◌∷◌, ◌≡◌, ◌≤◌, length, None};
@@ -7,16 +7,16 @@ ghost use Rattle.vm_rule.specs.Prelude.{Each, HoldsNoPage};
 ghost use Rattle.vm_step.specs.Prelude.{AreHeld, IsReadyOn, view};
 ghost use Rattle.vm_tree_range.specs.from_vm_tree_read.Waiting.{LosesNone};
 ghost use Rattle.vm_calls.specs.Spans.{HasSpans, IsEmptySpan, ranges_asked};
-ghost use Rattle.vm_calls.specs.Workers.{HasCalled, HasKept, IsAtWork};
-ghost use Rattle.vm_calls.specs.{Calls.KeepsPass, Kept.IsRoomFor, TreeCalls.IsTreeCall};
+ghost use Rattle.vm_calling.specs.{Calls.KeepsPass, Workers.HasCalled, Workers.HasKept, Workers.IsAtWork};
+ghost use Rattle.vm_calls.specs.{Kept.IsRoomFor, TreeCalls.IsTreeCall, TreeCalls.word_calls};
 
 use crate::answers::{Answer, Answers};
-use crate::gate::Gate;
 use std::sync::Wait;
 use vm_block::PageBlock;
+use vm_calling::gate::Gate;
+use vm_calling::worker::Worker;
 use vm_map::call::Call;
 use vm_map::span::Span;
-use vm_owner::Owner;
 use vm_rule::words::Pass;
 use vm_tree_range::exmap::Interface;
 use vm_tree_range::kind::{OfSize, TreeOf, WordKeys};
@@ -24,16 +24,6 @@ use vm_tree_range::pool::Pool;
 use vm_tree_range::range;
 use vm_tree_range::tree_read::{get, window};
 use vm_tree_retry::{del, put, swap};
-
-/// A worker's own things.
-#[derive(Drop)]
-pub struct Worker<U: Owner, A> {
-    pub pass: Pass<U>,
-    pub iface: Interface,
-    pub answers: A,
-    /// One for each of its calls that asks for a range, and is not made yet.
-    pub spans: Vec<Span>,
-}
 
 // Makes one call. A range takes one of the spans.
 fn answer<S: OfSize<N>, R: Wait, B: PageBlock<N>, const N: usize>(
@@ -81,15 +71,15 @@ fn call_all<S: OfSize<N>, R: Wait, B: PageBlock<N>, G: Gate, A: Answers, const N
     gate: &G,
     number: u32,
     calls: &[Call],
-    worker: &mut Worker<TreeOf<WordKeys<S, N>>, A>,
+    worker: &mut Worker<TreeOf<WordKeys<S, N>>, A, Vec<Span>>,
 )
     requires work { IsAtWork pool.now.words.table.shared.key B.tells pool.now.words.table.shared.table_id worker.old }
     requires room { IsRoomFor calls.now (A.room worker.old.answers) }
     requires fresh { A.keeps worker.old.answers [] }
-    requires spans { HasSpans N calls.now worker.old.spans.items }
+    requires spans { HasSpans N calls.now worker.old.memory.items }
     requires askable { AllByRecursion IsAskable calls.now }
     ensures work { IsAtWork pool.now.words.table.shared.key B.tells pool.now.words.table.shared.table_id worker.new }
-    ensures done { HasCalled N A.keeps calls.now worker.new.answers (view worker.old.pass) (view worker.new.pass) }
+    ensures done { HasCalled (word_calls N) A.keeps calls.now worker.new.answers (view worker.old.pass) (view worker.new.pass) }
     ensures lost { LosesNone worker.old.iface.frames (view worker.old.pass) worker.new.iface.frames (view worker.new.pass) }
 {
     let mut count = 0u32;
@@ -101,7 +91,7 @@ fn call_all<S: OfSize<N>, R: Wait, B: PageBlock<N>, G: Gate, A: Answers, const N
             pool,
             &mut worker.pass,
             &mut worker.iface,
-            &mut worker.spans,
+            &mut worker.memory,
             call,
         );
         gate.after(number, count);
@@ -116,17 +106,17 @@ pub fn work<S: OfSize<N>, R: Wait, B: PageBlock<N>, G: Gate, A: Answers, const N
     gate: &G,
     number: u32,
     calls: &[Call],
-    worker: &mut Worker<TreeOf<WordKeys<S, N>>, A>,
+    worker: &mut Worker<TreeOf<WordKeys<S, N>>, A, Vec<Span>>,
 )
     requires work { IsAtWork pool.now.words.table.shared.key B.tells pool.now.words.table.shared.table_id worker.old }
     requires holds { HoldsNoPage (view worker.old.pass) }
     requires room { IsRoomFor calls.now (A.room worker.old.answers) }
     requires fresh { A.keeps worker.old.answers [] }
-    requires spans { HasSpans N calls.now worker.old.spans.items }
+    requires spans { HasSpans N calls.now worker.old.memory.items }
     requires askable { AllByRecursion IsAskable calls.now }
     ensures ready { IsReadyOn pool.now.words B.tells worker.new.pass }
     ensures holds { HoldsNoPage (view worker.new.pass) }
-    ensures done { HasKept N A.keeps calls.now worker.new.answers (view worker.old.pass) (view worker.new.pass) }
+    ensures done { HasKept (word_calls N) A.keeps calls.now worker.new.answers (view worker.old.pass) (view worker.new.pass) }
     ensures lost { LosesNone worker.old.iface.frames (view worker.old.pass) [] (view worker.new.pass) }
 {
     call_all(rt, pool, gate, number, calls, worker);

@@ -1,18 +1,16 @@
 -- One worker more is hired.
 use Rattle.std.proofs.Common.{[], ⊎_elim, ◌++◌, ◌+◌, ◌==◌, ◌∙◌, ◌∷◌, ◌≡◌, ◌≤◌, ap, arith, Bool, false, if◌then◌else◌}
-use Rattle.std.proofs.Common.{inr, length, List, refl, slice_index, subst, sym, true, true≢false, Vec, ℕ}
-use Rattle.std.specs.declared.alloc.Global.{Global}
+use Rattle.std.proofs.Common.{inr, length, List, refl, slice_index, subst, sym, true, true≢false, ℕ}
 use Rattle.std.proofs.lemmas.Bool.{cases_eq, eq-eqb, ne_eqb}
 use Rattle.std.proofs.lemmas.List.{length-append, map-append}
-use Rattle.vm_map.specs.{declared.call.Said.Said, Map.Pairs}
 use Rattle.vm_rule.specs.Prelude.{Each, entries_by, has, HoldsNoPage, HoldsNothing, IsWhole, other_parts, owns, TableId, times}
 use Rattle.vm_rule.proofs.Entries.{each-map}
 use Rattle.vm_step.specs.Prelude.{AreHeld, HasStill, IsReady, TableShape, View, view}
 use Rattle.vm_step.proofs.{Still.caught-still, Still.still-fresh, Together.holds-none as nothing-holds, Together.new-nothing}
-use Rattle.vm_calls.specs.from_vm_pool.Parting.{KeepsAll, Splits}
-use Rattle.vm_calls.specs.declared.worker.Worker.{Worker}
-use Rattle.vm_drive.specs.Crews.{AreAtHome, AreHired, IsNewWorker, number_of, numbers_of, spans_given}
-use Rattle.vm_calls.proofs.Lists.{starts-then}
+use Rattle.vm_calling.specs.from_vm_pool.Parting.{KeepsAll, Splits}
+use Rattle.vm_calling.specs.declared.worker.Worker.{Worker}
+use Rattle.vm_drive.specs.Crews.{AreAtHome, AreHired, IsNewWorker, number_of, numbers_of, memories_given}
+use Rattle.vm_calling.proofs.Lists.{starts-then}
 use Rattle.vm_drive.proofs.Lists.{apart-snoc, each-snoc, front-none, times-both}
 
 module _ {X : Type 0} where
@@ -58,19 +56,19 @@ not-among m rest (n ∷ ns) e =
     (cases_eq m n)
 
 -- one more behind those that are at home
-pub home-snoc : {U X A : Type 0} {owner : _} (first cap : ℕ) (ds : List (Worker U A X owner)) (d : Worker U A X owner)
+pub home-snoc : {U X A M : Type 0} {owner : _} (first cap : ℕ) (ds : List (Worker U A M X owner)) (d : Worker U A M X owner)
     → AreAtHome first cap ds → d.iface.home ≡ first + length ds → d.iface.cap ≡ cap
     → AreAtHome first cap (ds ++ d ∷ [])
 home-snoc first cap [] d h home size = (omega arith, size, tt)
 home-snoc first cap (e ∷ es) d h home size = (h.0, h.1, home-snoc (first + 1) cap es d h.2 (omega arith) size)
 
-module _ {U A : Type 0} {owner : _} (shape : TableShape) (tells : Bool) (t : TableId) where
+module _ {U X A M : Type 0} {owner : _} (shape : TableShape) (tells : Bool) (t : TableId) where
   -- the worker with a pass that was just split off
-  pub is-new : 1 ≤ shape.pages → (v w x : View Said) (d : Worker U A Said owner) → KeepsAll v w
+  pub is-new : 1 ≤ shape.pages → (v w x : View X) (d : Worker U A M X owner) → KeepsAll v w
       → Splits w (view d.pass) x → IsReady shape tells t d.pass → d.iface.frames ≡ [] → IsNewWorker shape tells t v d
   is-new pages v w x d kept s ready none =
       let is = s.new in
-      let used : (view d.pass).used ≡ s.number ∷ [] = ap (λ (y : View Said). y.used) is in
+      let used : (view d.pass).used ≡ s.number ∷ [] = ap (λ (y : View X). y.used) is in
       let one : number_of d ≡ s.number = ap (λ l. slice_index l 0) used in
       let nothing : HoldsNothing (view d.pass) = new-nothing w.start (s.number ∷ []) x.releases x.seen (view d.pass) is in
       record {
@@ -81,21 +79,21 @@ module _ {U A : Type 0} {owner : _} (shape : TableShape) (tells : Bool) (t : Tab
           frames = subst (λ (l : List ℕ). AreHeld l (view d.pass)) (sym none) (record { apart = tt; inside = tt; held = tt });
         };
         holds = nothing-holds (view d.pass) nothing;
-        parts = (used ∙ ap (λ n. n ∷ []) (sym one), ap (λ (y : View Said). y.fresh) is);
-        start = ap (λ (y : View Said). y.start) is ∙ kept.start;
-        said = ap (λ (y : View Said). y.mine) is;
-        noted = ap (λ (y : View Said). y.notes) is;
-        log = ap (λ (y : View Said). y.log) is;
-        frames = ap (λ (y : View Said). y.frames) is;
+        parts = (used ∙ ap (λ n. n ∷ []) (sym one), ap (λ (y : View X). y.fresh) is);
+        start = ap (λ (y : View X). y.start) is ∙ kept.start;
+        said = ap (λ (y : View X). y.mine) is;
+        noted = ap (λ (y : View X). y.notes) is;
+        log = ap (λ (y : View X). y.log) is;
+        frames = ap (λ (y : View X). y.frames) is;
       }
 
-  pub hired-more : 1 ≤ shape.pages → (rooms : List A) (spans : List (Vec (Pairs × ℕ) Global)) (v : View Said)
-      (ds : List (Worker U A Said owner)) (w x : View Said) (d : Worker U A Said owner)
-      → AreHired shape tells t rooms spans v ds w → Splits w (view d.pass) x → IsReady shape tells t d.pass → d.iface.frames ≡ []
-      → AreHired shape tells t (rooms ++ d.answers ∷ []) (spans_given (ds ++ d ∷ [])) v (ds ++ d ∷ []) x
-  hired-more pages rooms spans v ds w x d h s ready none =
+  pub hired-more : 1 ≤ shape.pages → (rooms : List A) (memories : List M) (v : View X)
+      (ds : List (Worker U A M X owner)) (w x : View X) (d : Worker U A M X owner)
+      → AreHired shape tells t rooms memories v ds w → Splits w (view d.pass) x → IsReady shape tells t d.pass → d.iface.frames ≡ []
+      → AreHired shape tells t (rooms ++ d.answers ∷ []) (memories_given (ds ++ d ∷ [])) v (ds ++ d ∷ []) x
+  hired-more pages rooms memories v ds w x d h s ready none =
       let still : HasStill w x = split-keeps w (view d.pass) x s in
-      let one : number_of d ≡ s.number = ap (λ (y : View Said). slice_index y.used 0) s.new in
+      let one : number_of d ≡ s.number = ap (λ (y : View X). slice_index y.used 0) s.new in
       let numbers : numbers_of (ds ++ d ∷ []) ≡ numbers_of ds ++ number_of d ∷ [] = map-append number_of ds (d ∷ []) in
       let fresh : w.fresh ≡ number_of d ∷ x.fresh = s.given ∙ ap (λ n. n ∷ x.fresh) (sym one) in
       let others : Each (λ n. has n (number_of d ∷ x.fresh) ≡ false) (numbers_of ds) =
@@ -133,7 +131,7 @@ module _ {U A : Type 0} {owner : _} (shape : TableShape) (tells : Bool) (t : Tab
             (ap (λ l. entries_by (number_of d ∷ []) l) (sym kept.seen.1) ∙ ap (λ n. entries_by (n ∷ []) x.seen)
             one ∙ s.unused)));
         each = each-snoc (IsNewWorker shape tells t v) ds d h.each (is-new pages v w x d h.kept s ready none);
-        answers = map-append (λ (worker : Worker U A Said owner). worker.answers) ds (d ∷ []) ∙ ap (λ l. l ++ d.answers ∷ []) h.answers;
-        spans = refl;
-        all = inr (⊎_elim (λ empty. subst (λ (y : View Said). IsWhole y → y.mine ≡ y.seen) empty.1 s.all) (λ known. known) h.all);
+        answers = map-append (λ (worker : Worker U A M X owner). worker.answers) ds (d ∷ []) ∙ ap (λ l. l ++ d.answers ∷ []) h.answers;
+        memories = refl;
+        all = inr (⊎_elim (λ empty. subst (λ (y : View X). IsWhole y → y.mine ≡ y.seen) empty.1 s.all) (λ known. known) h.all);
       }

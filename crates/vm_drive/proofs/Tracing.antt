@@ -1,22 +1,23 @@
 -- From what the calls of all lists found to what is so at the end.
 use Rattle.std.proofs.Common.{[], ◌+◌, ◌<◌, ◌∷◌, ◌≡◌, ◌≤◌, arith, List, Result, subst, ℕ}
-use Rattle.vm_map.specs.{declared.call.Call.Call, declared.call.Reply.Reply}
 use Rattle.vm_event.specs.Prelude.{MAX_VERSION, version_of}
 use Rattle.vm_rule.specs.Prelude.{last_of}
 use Rattle.vm_rule.specs.declared.view.WordPlace.TheVariants as places
 use Rattle.vm_step.specs.Prelude.{HasGiven, View}
-use Rattle.vm_calls.specs.from_vm_tree_rule.declared_fault_TreeFault.{TreeFault}
-use Rattle.vm_calls.proofs.{Called.FoundFull, Called.FoundWorn, Tracing.all-caused}
+use Rattle.vm_calling.specs.from_vm_tree_rule.declared_fault_TreeFault.{TreeFault}
+use Rattle.vm_calling.specs.{Called.FoundFull, Called.FoundWorn, Calling.Calling}
+use Rattle.vm_calling.proofs.Tracing.{all-caused}
 use Rattle.vm_drive.specs.Lists.{AllCausedBy}
 
-module _ (full worn damaged full' worn' damaged' : ℕ → Type 0) (f : (n : ℕ) → full n → full' n) (g : (n : ℕ) → worn n → worn' n)
+module _ {X C R P : Type 0} (kind : Calling X C R P)
+    (full worn damaged full' worn' damaged' : ℕ → Type 0) (f : (n : ℕ) → full n → full' n) (g : (n : ℕ) → worn n → worn' n)
     (h : (n : ℕ) → damaged n → damaged' n) where
-  pub lists-caused : (lists : List (List Call)) (answers : List (List (Result Reply TreeFault)))
-      → AllCausedBy full worn damaged lists answers → AllCausedBy full' worn' damaged' lists answers
+  pub lists-caused : (lists : List (List C)) (answers : List (List (Result R TreeFault)))
+      → AllCausedBy kind full worn damaged lists answers → AllCausedBy kind full' worn' damaged' lists answers
   lists-caused [] answers k = tt
   lists-caused (cs ∷ lists) [] k = tt
   lists-caused (cs ∷ lists) (rs ∷ answers) k =
-      (all-caused full worn damaged full' worn' damaged' f g h cs rs k.0, lists-caused lists answers k.1)
+      (all-caused kind full worn damaged full' worn' damaged' f g h cs rs k.0, lists-caused lists answers k.1)
 
 module _ {X : Type 0} where
   -- no next word that the pass found is above this one

@@ -2,15 +2,12 @@
 use Rattle.std.specs.declared.alloc.Global.{Global}
 use Rattle.std.specs.List.{AllByRecursion}
 use Rattle.std.specs.Prelude.{◌++◌, ◌+◌, ◌≡◌, ◌≤◌, Bool, length, List, map, Result, true, Vec, ℕ}
-use Rattle.vm_map.specs.{declared.call.Call.Call, declared.call.Reply.Reply, declared.call.Said.Said, History.IsAskable}
-use Rattle.vm_tree_model.specs.{Fixed.fixed, Tree.map_of}
 use Rattle.vm_event.specs.Prelude.{MAX_VERSION}
 use Rattle.vm_rule.specs.Prelude.{Entry, has, HoldsNoPage, last_of, StartsWith}
 use Rattle.vm_step.specs.from_vm_rule_laws.Known.{kept_by}
 use Rattle.vm_step.specs.Prelude.{IsAlone, View}
-use Rattle.vm_tree_laws.specs.History.{IsLegal}
-use Rattle.vm_calls.specs.from_vm_tree_rule.declared_fault_TreeFault.{TreeFault}
-use Rattle.vm_calls.specs.Causes.{IsUntold, notes_about}
+use Rattle.vm_calling.specs.from_vm_tree_rule.declared_fault_TreeFault.{TreeFault}
+use Rattle.vm_calling.specs.{Calling.Calling, Causes.IsUntold, Causes.notes_about}
 use Rattle.vm_drive.specs.Lists.{all_faults_of, AllCausedBy, AllShown, AreKept}
 use Rattle.vm_drive.specs.Parts.{HaveParts, logs_of, noted_by, StandBehind}
 use Rattle.vm_drive.specs.Holds.{HoldsCalls}
@@ -23,53 +20,50 @@ items_of vectors = map (λ v. v.items) vectors
 abbrev pub AreFew : {X : Type 0} → List (List X) → Type 0
 AreFew lists = AllByRecursion (λ list. length list ≤ 1000000) lists
 
--- each window is asked for at least one pair, and each range up to a bound above its key
-abbrev pub AreAskable : List (List Call) → Type 0
-AreAskable lists = AllByRecursion (λ calls. AllByRecursion IsAskable calls) lists
+-- each call of the lists may be made
+abbrev pub AreAskable : {C : Type 0} → (C → Type 0) → List (List C) → Type 0
+AreAskable askable lists = AllByRecursion (λ calls. AllByRecursion askable calls) lists
 
 -- the next word leaves no room for a split of the image of so many pages
-abbrev pub IsUsedUp : View Said → ℕ → Type 0
+abbrev pub IsUsedUp : {X : Type 0} → View X → ℕ → Type 0
 IsUsedUp w pages = (pages ≡ w.start.pages) × (pages ≤ (kept_by w).next + 1)
 
 -- the page is at the last version that there can be
-abbrev pub IsAtLastVersion : View Said → ℕ → Type 0
+abbrev pub IsAtLastVersion : {X : Type 0} → View X → ℕ → Type 0
 IsAtLastVersion w p = MAX_VERSION ≤ (last_of w p).version
 
--- The workers have made the calls of their lists on a tree of pages of n words, with these answers, and their passes
--- went into the one that had the
+-- The workers have made the calls of their lists, with these answers, and their passes went into the one that had the
 -- view v and has the view w: it is whole again, holds no page, and has just the frames that it had. What it has seen
 -- begins with what it had seen, is
 -- legal, and is all its own. Its own entries grew by just the lists' calls that had a reply, each list in order under
 -- a number of its own. Each fault
--- of a device has its own new note of the page; each other fault has its cause, each window is a leaf's, the table's
--- page as it stood, and each range
--- is that of leaves that stood together. Each worker made its calls one after another, and what each was answered
+-- of a device has its own new note of the page; each other fault has its cause, and each reply shows what it does. Each worker made its calls one after another, and what each was answered
 -- comes of the steps and notes of that very call
-pub record IsDriven (n : ℕ) (tells : Bool) (lists : List (List Call)) (answers : List (List (Result Reply TreeFault)))
-    (v w : View Said) : Type 0 where
+pub record IsDriven {X C R P : Type 0} (kind : Calling X C R P) (tells : Bool) (lists : List (List C)) (answers : List (List (Result R TreeFault)))
+    (v w : View X) : Type 0 where
   pub alone : IsAlone w
   pub holds : HoldsNoPage w
   -- so no frame is lost: each worker's went back to the bundles
   pub frames : (f : ℕ) → has f w.frames ≡ has f v.frames
   pub start : w.start ≡ v.start
   pub seen : StartsWith w.seen v.seen
-  pub legal : tells ≡ true → IsLegal (map_of (fixed n) w.start.contents) w.seen
+  pub legal : tells ≡ true → kind.legal w.start w.seen
   pub all : w.mine ≡ w.seen
-  pub grew : List (Entry Said)
+  pub grew : List (Entry X)
   pub mine : w.mine ≡ v.mine ++ grew
-  pub calls : HoldsCalls grew lists answers
+  pub calls : HoldsCalls kind grew lists answers
   pub faults : (p : ℕ) → notes_about p v.notes + all_faults_of p answers ≤ notes_about p w.notes
-  pub caused : AllCausedBy (IsUsedUp w) (IsAtLastVersion w) (IsUntold w) lists answers
-  pub shown : AllShown n w lists answers
+  pub caused : AllCausedBy kind (IsUsedUp w) (IsAtLastVersion w) (IsUntold w) lists answers
+  pub shown : AllShown kind w lists answers
   -- what each worker's pass knew behind its last call; its steps and notes stand in those of the joined pass, one worker's behind another's
-  pub passes : List (View Said)
-  pub parts : HaveParts n w lists answers passes
+  pub passes : List (View X)
+  pub parts : HaveParts kind w lists answers passes
   pub logs : StandBehind v.log (logs_of passes) w.log
   pub noted : StandBehind v.notes (noted_by passes) w.notes
 
 -- the same, where each worker's answers were kept so
-pub record IsDrivenInto (n : ℕ) {A : Type 0} (keeps : A → List (Result Reply TreeFault) → Type 0) (tells : Bool)
-    (lists : List (List Call)) (kept : List A) (v w : View Said) : Type 0 where
-  pub told : List (List (Result Reply TreeFault))
+pub record IsDrivenInto {X C R P A : Type 0} (kind : Calling X C R P) (keeps : A → List (Result R TreeFault) → Type 0) (tells : Bool)
+    (lists : List (List C)) (kept : List A) (v w : View X) : Type 0 where
+  pub told : List (List (Result R TreeFault))
   pub stand : AreKept keeps kept told
-  pub driven : IsDriven n tells lists told v w
+  pub driven : IsDriven kind tells lists told v w

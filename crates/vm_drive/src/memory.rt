@@ -2,7 +2,7 @@
 
 ghost use Rattle.std.specs.Prelude.{IfOk};
 ghost use Rattle.vm_calls.specs.Compact.{KeepsAnswers, room_in};
-ghost use Rattle.vm_drive.specs.{Drives.items_of, Lists.HaveRoom, Lists.HaveSpans};
+ghost use Rattle.vm_drive.specs.{Drives.items_of, Lists.HaveMemory, Lists.HaveRoom, Rooms.RoomFor, Rooms.SpansFor};
 
 use std::alloc::{AllocError, Global};
 use vm_calls::compact::{Replies, windows_in};
@@ -13,7 +13,7 @@ use vm_map::span::Span;
 
 /// For each list, room for an answer to each of its calls, and for a window or a range's pairs to each that asks for them.
 pub fn rooms_for(alloc: Global, lists: &[Vec<Call>]) -> Result<Vec<Replies>, AllocError>
-    ensures { IfOk result (λ rooms. HaveRoom KeepsAnswers room_in rooms.items (items_of lists.now)) }
+    ensures { IfOk result (λ rooms. HaveRoom KeepsAnswers (RoomFor room_in) rooms.items (items_of lists.now)) }
 {
     let mut rooms = Vec::with_capacity(alloc, lists.len())?;
     'lists: for calls in lists {
@@ -34,7 +34,7 @@ pub fn spans_for<S: OfSize<N>, const N: usize>(
     alloc: Global,
     lists: &[Vec<Call>],
 ) -> Result<Vec<Vec<Span>>, AllocError>
-    ensures { IfOk result (λ spans. HaveSpans N (items_of lists.now) spans.items) }
+    ensures { IfOk result (λ spans. HaveMemory (SpansFor N) (items_of lists.now) spans.items) }
 {
     let mut all = Vec::with_capacity(alloc, lists.len())?;
     'lists: for calls in lists {

@@ -1,14 +1,15 @@
 use Rattle.std.proofs.Common.{drop, take}
 use Rattle.vm_step.specs.Prelude.{view}
 use Rattle.vm_tree_range.specs.from_vm_tree_read.Waiting.{LosesNone}
-use Rattle.vm_calls.specs.{Kept.IsRoomFor, Spans.HasSpans, Workers.HasCalled, Workers.IsAtWork}
+use Rattle.vm_calling.specs.Workers.{HasCalled, IsAtWork}
+use Rattle.vm_calls.specs.{Kept.IsRoomFor, Spans.HasSpans, TreeCalls.word_calls}
 use Rattle.vm_calls.proofs.worker.call_all.Given as goal
 
 abbrev pub invariant-calls : goal.invariant-calls
 invariant-calls g l = record {
   work : IsAtWork l.pool.words.table.shared.key g.B.Block.tells l.pool.words.table.shared.table_id l.worker;
-  done : HasCalled g.row.N g.A.Answers.keeps (take l.call-index l.calls) l.worker.answers (view l.fn.worker.pass) (view l.worker.pass);
+  done : HasCalled (word_calls g.row.N) g.A.Answers.keeps (take l.call-index l.calls) l.worker.answers (view l.fn.worker.pass) (view l.worker.pass);
   lost : LosesNone l.fn.worker.iface.frames (view l.fn.worker.pass) l.worker.iface.frames (view l.worker.pass);
   room : IsRoomFor (drop l.call-index l.calls) (g.A.Answers.room l.worker.answers);
-  spans : HasSpans g.row.N (drop l.call-index l.calls) l.worker.spans.items;
+  spans : HasSpans g.row.N (drop l.call-index l.calls) l.worker.memory.items;
 }

@@ -1,13 +1,15 @@
 use Rattle.std.proofs.Common.{[]}
 use Rattle.vm_step.specs.Prelude.{view}
 use Rattle.vm_tree_range.proofs.from_vm_tree_read.Losing.{loses-then}
-use Rattle.vm_calls.proofs.{Chain.calls-done, Chain.holds-none-on, Doing.moves-keep, Framing.given-loses}
+use Rattle.vm_calling.proofs.{Chain.calls-done, Chain.holds-none-on, Doing.moves-keep, Framing.given-loses}
+use Rattle.vm_calls.specs.TreeCalls.{word_calls}
+use Rattle.vm_calls.proofs.Answering.{word_laws}
 use Rattle.vm_calls.proofs.worker.work.Goals as goal
 
 pub returns-clause-holds : goal.returns-clause-holds
 returns-clause-holds g c =
     let had = c.call_all.ensures.done in
-    let called = calls-done g.row.N _ had.told (view c.args.worker.now.pass) (view c.call_all.new.worker.pass) had.each in
+    let called = calls-done (word_calls g.row.N) (word_laws g.row.N) _ had.told (view c.args.worker.now.pass) (view c.call_all.new.worker.pass) had.each in
     holds-none-on (view c.call_all.new.worker.pass) (view c.give_all.new.pass)
     (moves-keep c.give_all.ensures.given.done _ _ c.give_all.ensures.given.moves)
     (holds-none-on (view c.args.worker.now.pass) (view c.call_all.new.worker.pass) called.keeps c.requires.holds)

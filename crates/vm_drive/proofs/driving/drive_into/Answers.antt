@@ -2,16 +2,20 @@ use Rattle.std.specs.Vec.{vec_capacity}
 use Rattle.std.proofs.Common.{◌∙◌, ◌≡◌, ◌≤◌, ap, arith, length, List, rules, subst, sym}
 use Rattle.vm_rule.specs.Prelude.{Each}
 use Rattle.vm_step.specs.Prelude.{view}
-use Rattle.vm_calls.specs.declared.worker.Worker.{Worker}
+use Rattle.vm_tree_model.specs.Fixed.{fixed}
+use Rattle.vm_tree_laws.specs.Plain.{KeepsPlain}
+use Rattle.vm_calling.specs.declared.worker.Worker.{Worker}
+use Rattle.vm_calls.specs.{Calls.as_said, TreeCalls.word_calls}
+use Rattle.vm_calls.proofs.Answering.{word_laws}
 use Rattle.vm_drive.specs.Crews.{AllWorked, answers_of, AreAtHome, AreIdle, AreJoined, IsBack, share_of}
-use Rattle.vm_drive.specs.{Drives.items_of, Lists.AreKept}
-use Rattle.vm_drive.proofs.Crews.{items-long, room-long, spans-long, whole-back, worked-long}
+use Rattle.vm_drive.specs.{Drives.items_of, Lists.AreKept, Rooms.RoomFor, Rooms.SpansFor}
+use Rattle.vm_drive.proofs.Crews.{items-long, room-long, memories-long, whole-back, worked-long}
 use Rattle.vm_drive.proofs.Finishing.{all_kept, driven, hired-idle, hired-long, told_of, worked-back}
 use Rattle.vm_drive.proofs.driving.drive_into.Goals as goal
 
 pub hire-workers-requires : goal.hire-workers-requires
 hire-workers-requires g c =
-    let long : length c.args.rooms.items ≡ length c.args.lists.now = room-long g.A.Answers.keeps g.A.Answers.room _ _
+    let long : length c.args.rooms.items ≡ length c.args.lists.now = room-long g.A.Answers.keeps (RoomFor g.A.Answers.room) _ _
     c.requires.rooms ∙ items-long c.args.lists.now in
     let fresh : length c.args.rooms.items ≤ length (view c.args.pass.now).fresh =
     subst (λ n. n ≤ length (view c.args.pass.now).fresh) (sym long) c.requires.fresh in
@@ -19,18 +23,15 @@ hire-workers-requires g c =
     let places = c.in-Ok.ensures.workers in
     let room : length c.args.rooms.items ≤ vec_capacity c.in-Ok.places.0 =
     subst (λ n. n ≤ vec_capacity c.in-Ok.places.0) (sym long) places.1 in
-    let spans : length c.in-Ok-spans_for.spans.items ≡ length c.args.rooms.items =
-    spans-long g.row.N _ _ c.in-Ok-spans_for.ensures
-    ∙ sym (room-long g.A.Answers.keeps g.A.Answers.room _ _ c.requires.rooms) in (
+    let memories : length c.in-Ok-spans_for.spans.items ≡ length c.args.rooms.items =
+    memories-long (SpansFor g.row.N) _ _ c.in-Ok-spans_for.ensures
+    ∙ sym (room-long g.A.Answers.keeps (RoomFor g.A.Answers.room) _ _ c.requires.rooms) in (
       omega arith,
       (
-        omega arith,
+        c.requires.ready,
         (
-          c.requires.ready,
-          (
-            c.requires.holds,
-            (fresh, (c.requires.pages, (c.cap_for-cap.ensures.some, (few, (spans, (places.0, room)))))),
-          ),
+          c.requires.holds,
+          (fresh, (c.requires.pages, (c.cap_for-cap.ensures.some, (few, (memories, (places.0, room)))))),
         ),
       ),
     )
@@ -42,12 +43,12 @@ work_all-requires-after_bounds g c κs within =
     let t = c.args.pool.now.words.table.shared.table_id in
     let lists = items_of c.args.lists.now in
     let whole = sym c.as_mut_slice.ensures.value in
-    let idle = subst (λ (l : List (Worker _ _ _ _)). AreIdle g.row.N g.A.Answers.keeps g.A.Answers.room shape
+    let idle = subst (λ (l : List (Worker _ _ _ _ _)). AreIdle g.A.Answers.keeps (RoomFor g.A.Answers.room) (SpansFor g.row.N) shape
     g.B.Block.tells t lists l) whole
-    (hired-idle g.row.N g.A.Answers.keeps shape g.B.Block.tells t g.A.Answers.room lists c.args.rooms.items
+    (hired-idle g.A.Answers.keeps (RoomFor g.A.Answers.room) (SpansFor g.row.N) shape g.B.Block.tells t lists c.args.rooms.items
     c.in-Ok-spans_for.spans.items (view c.args.pass.now) (view c.hire-workers.new.pass)
     c.hire-workers.result.items hired c.requires.rooms c.in-Ok-spans_for.ensures) in
-    let homes = subst (λ (l : List (Worker _ _ _ _)). AreAtHome 0 (share_of c.args.pool.now.words.frames (length c.args.lists.now)) l) whole
+    let homes = subst (λ (l : List (Worker _ _ _ _ _)). AreAtHome 0 (share_of c.args.pool.now.words.frames (length c.args.lists.now)) l) whole
     (subst (λ n. AreAtHome 0 n c.hire-workers.result.items) c.cap_for-cap.ensures.share c.hire-workers.ensures.homes) in
     (omega arith, (omega arith, (c.requires.lists, (c.requires.askable, (idle, homes)))))
 
@@ -61,26 +62,23 @@ gather-requires g c =
     let olds = c.hire-workers.result.items in
     let news = c.work_all.new.workers in
     let worked : length news ≡ length olds = worked-long _ _ _ _ _ _ _ _ c.work_all.ensures
-    ∙ ap (λ (l : List (Worker _ _ _ _)). length l) c.as_mut_slice.ensures.value in
+    ∙ ap (λ (l : List (Worker _ _ _ _ _)). length l) c.as_mut_slice.ensures.value in
     let back = sym (whole-back news olds c.hire-workers.result.len worked (search rules)) in
-    let many : length olds ≡ length c.args.lists.now = hired-long g.row.N g.A.Answers.keeps _ _ _ g.A.Answers.room _ _
+    let many : length olds ≡ length c.args.lists.now = hired-long g.A.Answers.keeps (RoomFor g.A.Answers.room) (SpansFor g.row.N) _ _ _ _ _
     _ _ _ _ hired c.requires.rooms ∙ items-long c.args.lists.now in
-    let room = subst (λ (l : List (Worker _ _ _ _)). length l ≤ vec_capacity c.in-Ok.places.1) back
+    let room = subst (λ (l : List (Worker _ _ _ _ _)). length l ≤ vec_capacity c.in-Ok.places.1) back
     (subst (λ n. n ≤ vec_capacity c.in-Ok.places.1) (sym (worked ∙ many)) c.in-Ok.ensures.kept.1) in
-    let some = subst (λ (l : List (Worker _ _ _ _)). 1 ≤ length l) back (subst (λ n. 1 ≤ n) (sym (worked ∙ many)) c.requires.lists.0) in
-    let all : AllWorked g.row.N g.A.Answers.keeps shape g.B.Block.tells t lists olds news =
-    subst (λ (l : List (Worker _ _ _ _)). AllWorked g.row.N g.A.Answers.keeps shape g.B.Block.tells t lists l
+    let some = subst (λ (l : List (Worker _ _ _ _ _)). 1 ≤ length l) back (subst (λ n. 1 ≤ n) (sym (worked ∙ many)) c.requires.lists.0) in
+    let all : AllWorked (word_calls g.row.N) g.A.Answers.keeps shape g.B.Block.tells t lists olds news =
+    subst (λ (l : List (Worker _ _ _ _ _)). AllWorked (word_calls g.row.N) g.A.Answers.keeps shape g.B.Block.tells t lists l
     news) c.as_mut_slice.ensures.value c.work_all.ensures in
-    let are-back = subst (λ (l : List (Worker _ _ _ _)). Each (IsBack shape g.B.Block.tells t x) l) back
-    (worked-back g.row.N g.A.Answers.keeps shape g.B.Block.tells t lists (view c.args.pass.now) x olds news
+    let are-back = subst (λ (l : List (Worker _ _ _ _ _)). Each (IsBack shape g.B.Block.tells t x) l) back
+    (worked-back (word_calls g.row.N) (word_laws g.row.N) g.A.Answers.keeps shape g.B.Block.tells t lists (view c.args.pass.now) x olds news
     hired.kept.start all hired.each) in (
       omega arith,
       (
-        omega arith,
-        (
-          c.hire-workers.ensures.goes.ready,
-          (hired.kept.out ∙ c.requires.holds.out, ((c.in-Ok.ensures.kept.0, room), (some, are-back))),
-        ),
+        c.hire-workers.ensures.goes.ready,
+        (hired.kept.out ∙ c.requires.holds.out, ((c.in-Ok.ensures.kept.0, room), (some, are-back))),
       ),
     )
 
@@ -96,22 +94,22 @@ returns-clause-driven g c =
     let olds = c.hire-workers.result.items in
     let news = c.work_all.new.workers in
     let worked : length news ≡ length olds = worked-long _ _ _ _ _ _ _ _ c.work_all.ensures
-    ∙ ap (λ (l : List (Worker _ _ _ _)). length l) c.as_mut_slice.ensures.value in
+    ∙ ap (λ (l : List (Worker _ _ _ _ _)). length l) c.as_mut_slice.ensures.value in
     let back = whole-back news olds c.hire-workers.result.len worked (search rules) in
-    let all : AllWorked g.row.N g.A.Answers.keeps shape g.B.Block.tells t lists olds news =
-    subst (λ (l : List (Worker _ _ _ _)). AllWorked g.row.N g.A.Answers.keeps shape g.B.Block.tells t lists l
+    let all : AllWorked (word_calls g.row.N) g.A.Answers.keeps shape g.B.Block.tells t lists olds news =
+    subst (λ (l : List (Worker _ _ _ _ _)). AllWorked (word_calls g.row.N) g.A.Answers.keeps shape g.B.Block.tells t lists l
     news) c.as_mut_slice.ensures.value c.work_all.ensures in
     let kept : c.gather.result.kept.items ≡ answers_of news = c.gather.ensures.kept
-    ∙ ap (λ (l : List (Worker _ _ _ _)). answers_of l) back in
-    let many : length olds ≡ length c.args.lists.now = hired-long g.row.N g.A.Answers.keeps _ _ _ g.A.Answers.room _ _
+    ∙ ap (λ (l : List (Worker _ _ _ _ _)). answers_of l) back in
+    let many : length olds ≡ length c.args.lists.now = hired-long g.A.Answers.keeps (RoomFor g.A.Answers.room) (SpansFor g.row.N) _ _ _ _ _
     _ _ _ _ hired c.requires.rooms ∙ items-long c.args.lists.now in
     let some : 1 ≤ length olds = subst (λ n. 1 ≤ n) (sym many) c.requires.lists.0 in
     record {
-      told = told_of g.row.N g.A.Answers.keeps shape g.B.Block.tells t lists olds news all;
+      told = told_of (word_calls g.row.N) (word_laws g.row.N) g.A.Answers.keeps shape g.B.Block.tells t lists olds news all;
       stand = subst (λ l. AreKept g.A.Answers.keeps l
-          (told_of g.row.N g.A.Answers.keeps shape g.B.Block.tells t lists olds news all)) (sym kept)
-          (all_kept g.row.N g.A.Answers.keeps shape g.B.Block.tells t lists olds news all);
-      driven = driven g.row.N g.A.Answers.keeps shape g.B.Block.tells t lists c.args.rooms.items
+          (told_of (word_calls g.row.N) (word_laws g.row.N) g.A.Answers.keeps shape g.B.Block.tells t lists olds news all)) (sym kept)
+          (all_kept (word_calls g.row.N) (word_laws g.row.N) g.A.Answers.keeps shape g.B.Block.tells t lists olds news all);
+      driven = driven (word_calls g.row.N) (word_laws g.row.N) g.A.Answers.keeps shape g.B.Block.tells t lists c.args.rooms.items
           c.in-Ok-spans_for.spans.items v x w olds news c.requires.whole c.requires.holds some hired all
-          (subst (λ (l : List (Worker _ _ _ _)). AreJoined g.row.N g.B.Block.tells x l w) back c.gather.ensures.joined);
+          (subst (λ (l : List (Worker _ _ _ _ _)). AreJoined (KeepsPlain as_said (fixed g.row.N)) g.B.Block.tells x l w) back c.gather.ensures.joined);
     }

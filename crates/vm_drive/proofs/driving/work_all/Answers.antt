@@ -1,5 +1,6 @@
 use Rattle.std.proofs.Common.{◌<◌, ◌∙◌, ◌≡◌, arith, get_or, length, rules, subst, sym, ℕ}
-use Rattle.vm_calls.specs.declared.worker.Worker.{Worker}
+use Rattle.vm_calling.specs.declared.worker.Worker.{Worker}
+use Rattle.vm_calls.specs.TreeCalls.{word_calls}
 use Rattle.vm_drive.specs.{Crews.HasWorked, Drives.items_of, Holds.list_at}
 use Rattle.vm_drive.proofs.Crews.{idle-at, idle-long, items-long, worked-all}
 use Rattle.vm_drive.proofs.driving.work_all.Goals as goal
@@ -16,13 +17,13 @@ returns g c =
     let shape = c.args.pool.now.words.table.shared.key in
     let t = c.args.pool.now.words.table.shared.table_id in
     let lists = items_of c.args.lists.now in
-    worked-all g.row.N g.A.Answers.keeps shape g.B.Block.tells t lists c.args.workers.now c.for_each_mut.new.s
+    worked-all (word_calls g.row.N) g.A.Answers.keeps shape g.B.Block.tells t lists c.args.workers.now c.for_each_mut.new.s
     (idle-long _ _ _ _ _ _ _ _ c.requires.idle) (search rules)
-    (λ (i : ℕ) (d : Worker _ _ _ _) (l : i < length c.args.workers.now).
+    (λ (i : ℕ) (d : Worker _ _ _ _ _) (l : i < length c.args.workers.now).
     let at = (c.for_each_mut.ensures i d l).1 in
-    let left : HasWorked g.row.N g.A.Answers.keeps shape g.B.Block.tells t (list_at lists i) at.argument.now
+    let left : HasWorked (word_calls g.row.N) g.A.Answers.keeps shape g.B.Block.tells t (list_at lists i) at.argument.now
     (get_or c.for_each_mut.new.s i d) =
-    subst (λ (n : Worker _ _ _ _). HasWorked g.row.N g.A.Answers.keeps shape g.B.Block.tells t (list_at lists i)
+    subst (λ (n : Worker _ _ _ _ _). HasWorked (word_calls g.row.N) g.A.Answers.keeps shape g.B.Block.tells t (list_at lists i)
     at.argument.now n) at.left at.call in
-    subst (λ (o : Worker _ _ _ _). HasWorked g.row.N g.A.Answers.keeps shape g.B.Block.tells t (list_at lists i) o
+    subst (λ (o : Worker _ _ _ _ _). HasWorked (word_calls g.row.N) g.A.Answers.keeps shape g.B.Block.tells t (list_at lists i) o
     (get_or c.for_each_mut.new.s i d)) at.argument_is left)

@@ -1,7 +1,7 @@
 use Rattle.std.proofs.Common.{[], ◌++◌, ◌+◌, ◌<◌, ◌∙◌, ◌∷◌, ◌≡◌, ap, length, rules, sym, take}
 use Rattle.std.proofs.lemmas.List.{map-append, take_more}
 use Rattle.vm_calls.specs.Compact.{KeepsAnswers, room_in}
-use Rattle.vm_drive.specs.Drives.{items_of}
+use Rattle.vm_drive.specs.{Drives.items_of, Rooms.RoomFor}
 use Rattle.vm_calls.proofs.Shortening.{keeps-none}
 use Rattle.vm_drive.proofs.Crews.{room-snoc}
 use Rattle.vm_drive.proofs.memory.rooms_for.Goals as goal
@@ -17,7 +17,7 @@ lists-preserved c =
     ++ c.calls-item.result.items ∷ [] = ap (λ l. items_of l) one ∙ map-append (λ v. v.items)
     (take c.lists.calls-index xs) (c.calls-item.result ∷ []) in
     rw (c.in_ok-push.ensures.items, more)
-    (room-snoc KeepsAnswers room_in _ _ _ _ c.lists.invariant
+    (room-snoc KeepsAnswers (RoomFor room_in) _ _ _ _ c.lists.invariant
     (keeps-none _ c.in_ok-short.ensures.items c.in_ok-windows.ensures.items c.in_ok-spans.ensures.items) (record {
       answers = (let cap = c.in_ok-short.ensures.capacity in let len = c.in_ok-short.ensures.len in let long =
           c.len.ensures in search rules);

@@ -2,8 +2,8 @@ use Rattle.std.proofs.Common.{[], ◌++◌, ◌+◌, ◌<◌, ◌∙◌, ◌∷�
 use Rattle.std.proofs.lemmas.List.{map-append, take_more}
 use Rattle.vm_map.specs.declared.call.Call.{Call}
 use Rattle.vm_calls.specs.Spans.{HasSpans}
-use Rattle.vm_drive.specs.Drives.{items_of}
-use Rattle.vm_drive.proofs.Crews.{spans-snoc}
+use Rattle.vm_drive.specs.{Drives.items_of, Rooms.SpansFor}
+use Rattle.vm_drive.proofs.Crews.{memories-snoc}
 use Rattle.vm_drive.proofs.memory.spans_for.Goals as goal
 
 pub lists-preserved : goal.lists-preserved
@@ -17,6 +17,6 @@ lists-preserved g c =
     ++ c.calls-item.result.items ∷ [] = ap (λ l. items_of l) one ∙ map-append (λ v. v.items)
     (take c.lists.calls-index xs) (c.calls-item.result ∷ []) in
     rw (c.in_ok-push.ensures.items, more)
-    (spans-snoc g.row.N _ _ _ _ c.lists.invariant
+    (memories-snoc (SpansFor g.row.N) _ _ _ _ c.lists.invariant
     (subst (λ (l : List Call). HasSpans g.row.N l c.in_ok-own.own.items) c.as_slice.ensures.value
     c.in_ok-own.ensures))

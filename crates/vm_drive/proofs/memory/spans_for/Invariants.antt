@@ -1,6 +1,6 @@
 use Rattle.std.proofs.Common.{take}
-use Rattle.vm_drive.specs.{Drives.items_of, Lists.HaveSpans}
+use Rattle.vm_drive.specs.{Drives.items_of, Lists.HaveMemory, Rooms.SpansFor}
 use Rattle.vm_drive.proofs.memory.spans_for.Given as goal
 
 abbrev pub invariant-lists : goal.invariant-lists
-invariant-lists g l = HaveSpans g.row.N (items_of (take l.calls-index l.lists)) l.all.items
+invariant-lists g l = HaveMemory (SpansFor g.row.N) (items_of (take l.calls-index l.lists)) l.all.items

@@ -1,14 +1,13 @@
 -- What steps found stays found.
 use Rattle.std.proofs.Common.{[], ◌++◌, ◌+◌, ◌<◌, ◌∙◌, ◌∷◌, ◌≡◌, ap, append_assoc, Err, false, List, Ok, Result, subst, sym, ℕ}
-use Rattle.vm_map.specs.{declared.call.Call.Call, declared.call.Reply.Reply}
 use Rattle.vm_rule.specs.Prelude.{StartsWith}
 use Rattle.vm_rule.specs.declared.view.WordPlace.{WordPlace}
 use Rattle.vm_rule.specs.declared.view.WordPlace.TheVariants as places
 use Rattle.vm_step.specs.Prelude.{Did, HasGiven, Origin, View}
-use Rattle.vm_tree_range.specs.from_vm_tree_rule.declared_fault_TreeFault.{TreeFault}
-use Rattle.vm_tree_range.specs.from_vm_tree_rule.declared_fault_TreeFault_TheVariants.{Damaged, Device, Full, Worn}
-use Rattle.vm_calls.specs.Causes.{AreCausedBy, CausedBy, IsUntold}
-use Rattle.vm_calls.proofs.Called.{FoundFull, FoundWorn}
+use Rattle.vm_tree_read.specs.from_vm_tree_rule.declared_fault_TreeFault.{TreeFault}
+use Rattle.vm_tree_read.specs.from_vm_tree_rule.declared_fault_TreeFault_TheVariants.{Damaged, Device, Full, Worn}
+use Rattle.vm_calling.specs.Causes.{AreCausedBy, CausedBy, IsUntold}
+use Rattle.vm_calling.specs.{Called.FoundFull, Called.FoundWorn, Calling.Calling}
 
 -- what was found stays found
 pub given-more : (l m : List Did) (at : WordPlace) (word : ℕ) → StartsWith l m → HasGiven m at word → HasGiven l at word
@@ -20,20 +19,20 @@ given-more l m at word s h = record {
   gives = h.gives;
 }
 
-module _ (full worn damaged full' worn' damaged' : ℕ → Type 0) (f : (n : ℕ) → full n → full' n) (g : (n : ℕ) → worn n → worn' n)
-    (h : (n : ℕ) → damaged n → damaged' n) where
-  pub caused-by : (c : Call) (r : Result Reply TreeFault) → CausedBy full worn damaged c r → CausedBy full' worn' damaged' c r
-  caused-by c (Ok reply) k = tt
-  caused-by c (Err (Device p count)) k = tt
-  caused-by c (Err (Full pages)) k = (k.0, f pages k.1)
-  caused-by c (Err (Worn p)) k = g p k
-  caused-by c (Err (Damaged p)) k = h p k
+module _ {X C R P : Type 0} (k : Calling X C R P) (full worn damaged full' worn' damaged' : ℕ → Type 0)
+    (f : (n : ℕ) → full n → full' n) (g : (n : ℕ) → worn n → worn' n) (h : (n : ℕ) → damaged n → damaged' n) where
+  pub caused-by : (c : C) (r : Result R TreeFault) → CausedBy k full worn damaged c r → CausedBy k full' worn' damaged' c r
+  caused-by c (Ok reply) had = tt
+  caused-by c (Err (Device p count)) had = tt
+  caused-by c (Err (Full pages)) had = (had.0, f pages had.1)
+  caused-by c (Err (Worn p)) had = g p had
+  caused-by c (Err (Damaged p)) had = h p had
 
-  pub all-caused : (cs : List Call) (rs : List (Result Reply TreeFault)) → AreCausedBy full worn damaged cs rs
-      → AreCausedBy full' worn' damaged' cs rs
-  all-caused [] rs k = tt
-  all-caused (c ∷ cs) [] k = tt
-  all-caused (c ∷ cs) (r ∷ rs) k = (caused-by c r k.0, all-caused cs rs k.1)
+  pub all-caused : (cs : List C) (rs : List (Result R TreeFault)) → AreCausedBy k full worn damaged cs rs
+      → AreCausedBy k full' worn' damaged' cs rs
+  all-caused [] rs had = tt
+  all-caused (c ∷ cs) [] had = tt
+  all-caused (c ∷ cs) (r ∷ rs) had = (caused-by c r had.0, all-caused cs rs had.1)
 
 module _ {X : Type 0} where
   -- so does what began so

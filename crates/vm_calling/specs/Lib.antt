@@ -1,0 +1,11 @@
+pub mod Called
+pub mod Calling
+pub mod Calls
+pub mod Causes
+pub mod Prelude
+pub mod Workers
+pub mod from_vm_evict
+pub mod from_vm_exmap
+pub mod from_vm_kind
+pub mod from_vm_pool
+pub mod from_vm_tree_rule

@@ -1,0 +1,3 @@
+//! What the crates above name of `vm_exmap` through this one.
+
+pub use vm_tree_read::exmap::Interface;
