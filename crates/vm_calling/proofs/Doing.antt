@@ -102,7 +102,7 @@ module _ {X C R P : Type 0} (k : Calling X C R P) where
       (h.0, caused-snoc full worn damaged cs rs c r (omega arith) h.1 one)
 
   answered-snoc : (cs : List C) (rs : List (Result R TreeFault)) (c : C) (r : Result R TreeFault)
-      → length rs ≡ length cs → answered k (cs ++ c ∷ []) (rs ++ r ∷ []) ≡ answered k cs rs ++ answered k (c ∷ []) (r ∷ [])
+      → length rs ≡ length cs → answered k.said (cs ++ c ∷ []) (rs ++ r ∷ []) ≡ answered k.said cs rs ++ answered k.said (c ∷ []) (r ∷ [])
   answered-snoc [] [] c r e = refl
   answered-snoc [] (r' ∷ rs) c r e = absurd (omega arith)
   answered-snoc (c' ∷ cs) [] c r e = absurd (omega arith)
@@ -118,19 +118,19 @@ module _ {X C R P : Type 0} (k : Calling X C R P) where
   pub record HasDone (calls : List C) (answers : List (Result R TreeFault)) (v w : View X) : Type 0 where
     pub keeps : KeepsPass v w
     pub long : length answers ≡ length calls
-    pub mine : said_in k w.mine ≡ said_in k v.mine ++ answered k calls answers
+    pub mine : said_in k.plain w.mine ≡ said_in k.plain v.mine ++ answered k.said calls answers
     pub faults : (p : ℕ) → notes_about p v.notes + faults_of p answers ≤ notes_about p w.notes
     pub caused : AreCausedBy k (FoundFull w) (FoundWorn w) (IsUntold w) calls answers
     pub shown : AreShown k w calls answers
 
-  same-mine : (v w : View X) → w.mine ≡ v.mine → said_in k w.mine ≡ said_in k v.mine ++ []
-  same-mine v w e = ap (λ (l : List (Entry X)). said_in k l) e ∙ sym (append-none (said_in k v.mine))
+  same-mine : (v w : View X) → w.mine ≡ v.mine → said_in k.plain w.mine ≡ said_in k.plain v.mine ++ []
+  same-mine v w e = ap (λ (l : List (Entry X)). said_in k.plain l) e ∙ sym (append-none (said_in k.plain v.mine))
 
   pub done-none : (v : View X) → HasDone [] [] v v
   done-none v = record {
     keeps = keeps-self v;
     long = refl;
-    mine = sym (append-none (said_in k v.mine));
+    mine = sym (append-none (said_in k.plain v.mine));
     faults = λ p. omega arith;
     caused = tt;
     shown = tt;
@@ -138,7 +138,7 @@ module _ {X C R P : Type 0} (k : Calling X C R P) where
 
   -- what one call adds: its entry, its note, its cause
   pub record AddsCall (c : C) (r : Result R TreeFault) (v w : View X) : Type 0 where
-    pub mine : said_in k w.mine ≡ said_in k v.mine ++ answered k (c ∷ []) (r ∷ [])
+    pub mine : said_in k.plain w.mine ≡ said_in k.plain v.mine ++ answered k.said (c ∷ []) (r ∷ [])
     pub faults : (p : ℕ) → notes_about p v.notes + is_fault p r ≤ notes_about p w.notes
     pub caused : CausedBy k (FoundFull w) (FoundWorn w) (IsUntold w) c r
     pub shown : AreShown k w (c ∷ []) (r ∷ [])
@@ -147,9 +147,9 @@ module _ {X C R P : Type 0} (k : Calling X C R P) where
   adds-call c (Ok reply) v w kept a =
       let one = a.0 in
       record {
-        mine = ap (λ (l : List (Entry X)). said_in k l) one.mine
+        mine = ap (λ (l : List (Entry X)). said_in k.plain l) one.mine
             ∙ map-append (λ (e : Entry X). k.plain e.said) v.mine (entry_of v one.says ∷ [])
-            ∙ ap (λ (s : P). said_in k v.mine ++ s ∷ []) one.says_is;
+            ∙ ap (λ (s : P). said_in k.plain v.mine ++ s ∷ []) one.says_is;
         faults = λ p. let h : notes_about p v.notes ≤ notes_about p w.notes = notes-rise p w.notes v.notes kept.notes in omega arith;
         caused = tt;
         shown = (a.1, tt);
@@ -188,8 +188,8 @@ module _ {X C R P : Type 0} (k : Calling X C R P) where
         record {
           keeps = keeps-then v w x d.keeps kept;
           long = length-append rs (r ∷ []) ∙ ap (λ n. n + 1) d.long ∙ sym (length-append cs (c ∷ []));
-          mine = one.mine ∙ ap (λ (l : List P). l ++ answered k (c ∷ []) (r ∷ [])) d.mine ∙ append_assoc (said_in k v.mine)
-              (answered k cs rs) (answered k (c ∷ []) (r ∷ [])) ∙ ap (λ (l : List P). said_in k v.mine ++ l)
+          mine = one.mine ∙ ap (λ (l : List P). l ++ answered k.said (c ∷ []) (r ∷ [])) d.mine ∙ append_assoc (said_in k.plain v.mine)
+              (answered k.said cs rs) (answered k.said (c ∷ []) (r ∷ [])) ∙ ap (λ (l : List P). said_in k.plain v.mine ++ l)
               (sym (answered-snoc cs rs c r d.long));
           faults = λ p.
               let before : notes_about p v.notes + faults_of p rs ≤ notes_about p w.notes = d.faults p in
@@ -211,7 +211,7 @@ module _ {X C R P : Type 0} (k : Calling X C R P) where
         record {
           keeps = keeps-then v w x d.keeps kept;
           long = d.long;
-          mine = ap (λ (l : List (Entry X)). said_in k l) m.mine ∙ d.mine;
+          mine = ap (λ (l : List (Entry X)). said_in k.plain l) m.mine ∙ d.mine;
           faults = λ p. let h : notes_about p v.notes + faults_of p rs ≤ notes_about p w.notes = d.faults p in
               let s : notes_about p x.notes ≡ notes_about p w.notes = ap (notes_about p) m.notes in omega arith;
           caused = all-caused k (FoundFull w) (FoundWorn w) (IsUntold w) (FoundFull x) (FoundWorn x) (IsUntold x)

@@ -18,18 +18,18 @@ pub record Calling (X C R P : Type 0) : Type 1 where
   -- a history is right for what the pages were when it began
   pub legal : Origin → List (Entry X) → Type 0
 
+-- what the entries of a history say
+abbrev pub said_in : {X P : Type 0} → (X → P) → List (Entry X) → List P
+said_in plain h = map (λ e. plain e.said) h
+
+-- the calls with their replies, but those that a fault answered
+abbrev pub answered : {C R P : Type 0} → (C → R → P) → List C → List (Result R TreeFault) → List P
+answered said [] rs = []
+answered said (c ∷ cs) [] = []
+answered said (c ∷ cs) (Ok r ∷ rs) = said c r ∷ answered said cs rs
+answered said (c ∷ cs) (Err f ∷ rs) = answered said cs rs
+
 module _ {X C R P : Type 0} (k : Calling X C R P) where
-  -- what the entries of a history say
-  abbrev pub said_in : List (Entry X) → List P
-  said_in h = map (λ e. k.plain e.said) h
-
-  -- the calls with their replies, but those that a fault answered
-  abbrev pub answered : List C → List (Result R TreeFault) → List P
-  answered [] rs = []
-  answered (c ∷ cs) [] = []
-  answered (c ∷ cs) (Ok r ∷ rs) = k.said c r ∷ answered cs rs
-  answered (c ∷ cs) (Err f ∷ rs) = answered cs rs
-
   -- each reply of a list that was answered shows what it does
   abbrev pub AreShown : View X → List C → List (Result R TreeFault) → Type 0
   AreShown v [] rs = Unit {0}

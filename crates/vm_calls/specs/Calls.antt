@@ -2,11 +2,15 @@
 use Rattle.std.specs.Prelude.{ℕ}
 use Rattle.vm_map.specs.declared.call.Call.{Call}
 use Rattle.vm_map.specs.declared.call.Call.TheVariants.{Del, Get, Put, Range, Swap, Window}
-use Rattle.vm_map.specs.declared.call.Said.{Said}
+use Rattle.vm_map.specs.{declared.call.Reply.Reply, declared.call.Said.Said}
 
 -- keys are words, so what is said reads as it is
 abbrev pub as_said : Said → Said
 as_said said = said
+
+-- a call with its reply
+abbrev pub word_said : Call → Reply → Said
+word_said call reply = record { call = call; reply = reply }
 
 -- the call is a put
 abbrev pub IsPutCall : Call → Type 0

@@ -6,7 +6,7 @@ use Rattle.vm_map.specs.declared.call.Call.TheVariants.{Del, Get, Put, Range, Sw
 use Rattle.vm_tree_model.specs.{Fixed.fixed, Tree.map_of}
 use Rattle.vm_tree_laws.specs.History.{IsLegal}
 use Rattle.vm_calling.specs.Calling.{Calling}
-use Rattle.vm_calls.specs.{Calls.as_said, Calls.IsPutCall, Shows.IsReplyShown}
+use Rattle.vm_calls.specs.{Calls.as_said, Calls.IsPutCall, Calls.word_said, Shows.IsReplyShown}
 use Rattle.vm_tree_range.specs.from_vm_kind.WordRoom.{spare_in}
 use Rattle.vm_step.specs.Prelude.{View}
 use Rattle.vm_tree_range.specs.from_vm_tree_rule.{declared_fault_TreeFault.TreeFault, Turns.IsDamaged, Turns.IsNeeded}
@@ -56,7 +56,7 @@ IsTreeCall n (Range low bound) (Err fault) v w = IsRangeFaulted (fixed n) low bo
 abbrev pub word_calls : ℕ → Calling Said Call Reply Said
 word_calls n = record {
   plain = as_said;
-  said = λ call reply. record { call = call; reply = reply };
+  said = word_said;
   may_fill = IsPutCall;
   tells = IsTreeCall n;
   shows = IsReplyShown n;

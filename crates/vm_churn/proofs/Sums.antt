@@ -11,7 +11,7 @@ use Rattle.vm_build.specs.Numbers.{number_at, numbered}
 use Rattle.vm_rule.specs.Prelude.{Entry}
 use Rattle.vm_tree_laws.specs.History.{saids}
 use Rattle.vm_drive.specs.from_vm_tree_rule.declared_fault_TreeFault.{TreeFault}
-use Rattle.vm_drive.specs.Prelude.{answered}
+use Rattle.vm_drive.specs.Prelude.{answered, as_said, word_said}
 use Rattle.vm_drive.specs.Holds.{HoldsCalls, list_at}
 use Rattle.vm_churn.specs.Calls.{calls_for, churn_lists, key_at, place_calls, places_of, worker_calls}
 use Rattle.vm_churn.specs.Tallies.{sum_values}
@@ -124,7 +124,7 @@ small_worker n seed workers w few = small-calls n seed (places_of n workers w)
     (few-range 1 n (omega arith)))
 
 weight-small : (cs : List Call) (rs : List (Result Reply TreeFault)) → AllByRecursion IsSmall cs
-    → weight puts (answered cs rs) ≤ 100000 * length cs
+    → weight puts (answered word_said cs rs) ≤ 100000 * length cs
 weight-small [] rs small = omega arith
 weight-small (c ∷ cs) [] small = omega arith
 weight-small (c ∷ cs) (Ok r ∷ rs) small = omega (arith, small.0, weight-small cs rs small.1)
@@ -136,19 +136,19 @@ sum_to-most f (suc n) each = omega (arith, each n (omega arith), sum_to-most f n
 
 -- the values of the last map add up to less than 2 ^ 64
 pub sum_fits : (n seed workers : ℕ) (h : List (Entry Said)) (answers : List (List (Result Reply TreeFault)))
-    → n ≤ 100000 → workers ≤ 64 → HoldsCalls h (churn_lists n seed workers) answers
+    → n ≤ 100000 → workers ≤ 64 → HoldsCalls as_said word_said h (churn_lists n seed workers) answers
     → sum_values (after_all (gather (numbered seed n)) (saids h)) < 18446744073709551616
 sum_fits n seed workers h answers few most holds =
     let lists : List (List Call) = churn_lists n seed workers in
     let long : length (churn_lists n seed workers) ≡ workers = count_lists n seed workers in
-    let all : weight puts (saids h) ≡ sum_to (λ w. weight puts (answered (list_at lists w) (list_at answers w)))
+    let all : weight puts (saids h) ≡ sum_to (λ w. weight puts (answered word_said (list_at lists w) (list_at answers w)))
     (length lists) = weight_held puts h lists answers holds in
-    let each : sum_to (λ w. weight puts (answered (list_at lists w) (list_at answers w))) (length lists) ≤ 30000000000
-    * length lists = sum_to-most (λ w. weight puts (answered (list_at lists w) (list_at answers w)))
+    let each : sum_to (λ w. weight puts (answered word_said (list_at lists w) (list_at answers w))) (length lists) ≤ 30000000000
+    * length lists = sum_to-most (λ w. weight puts (answered word_said (list_at lists w) (list_at answers w)))
     (length lists) (λ w l.
-    subst (λ (cs : List Call). weight puts (answered cs (list_at answers w)) ≤ 30000000000)
+    subst (λ (cs : List Call). weight puts (answered word_said cs (list_at answers w)) ≤ 30000000000)
     (sym (list_is n seed workers w (subst (λ k. w < k) long l)))
-    (let small : weight puts (answered (worker_calls n seed workers w) (list_at answers w)) ≤ 100000 * length
+    (let small : weight puts (answered word_said (worker_calls n seed workers w) (list_at answers w)) ≤ 100000 * length
     (worker_calls n seed workers w) = weight-small (worker_calls n seed workers w) (list_at answers w)
     (small_worker n seed workers w few) in
     omega (arith, small, few_worker n seed workers w))) in

@@ -11,7 +11,7 @@ use Rattle.vm_map.specs.History.{after, AreReplies, IsReply}
 use Rattle.vm_rule.specs.Prelude.{Each, entries_by, Entry}
 use Rattle.vm_tree_laws.specs.History.{gones, is_gone, is_new, news, saids}
 use Rattle.vm_drive.specs.from_vm_tree_rule.declared_fault_TreeFault.{TreeFault}
-use Rattle.vm_drive.specs.Prelude.{answered}
+use Rattle.vm_drive.specs.Prelude.{answered, as_said, word_said}
 use Rattle.vm_drive.specs.Holds.{HoldsCalls, list_at, said_by}
 use Rattle.vm_churn.specs.Tallies.{count_in, founds, is_found, tally_of, tells_found, tells_gone, tells_new, told_tally}
 
@@ -62,7 +62,7 @@ module _ (weigh : Said → ℕ) where
     abbrev hit : Entry Said → ℕ → ℕ
     hit e w = cond (e.number == numbers w) (weigh e.said) 0
 
-    own : (e : Entry Said) (h : List (Entry Said)) (w : ℕ) → weight (said_by (numbers w) (e ∷ h)) ≡ hit e w + weight (said_by (numbers w) h)
+    own : (e : Entry Said) (h : List (Entry Said)) (w : ℕ) → weight (said_by as_said (numbers w) (e ∷ h)) ≡ hit e w + weight (said_by as_said (numbers w) h)
     own e h w =
         ⊎_elim
         (λ (is : e.number ≡ numbers w). let t : (e.number == numbers w) ≡ true = eq-eqb e.number (numbers w) is in rw t (omega arith))
@@ -77,23 +77,23 @@ module _ (weigh : Said → ℕ) where
 
     -- the weight of a history is that of its numbers' entries
     parted : (h : List (Entry Said)) → Each (λ e. (w : ℕ) × (w < n) × (e.number ≡ numbers w)) h
-        → sum_to (λ w. weight (said_by (numbers w) h)) n ≡ weight (saids h)
+        → sum_to (λ w. weight (said_by as_said (numbers w) h)) n ≡ weight (saids h)
     parted [] only = sum_to-none (λ w. 0) n (λ k l. refl)
     parted (e ∷ h) only =
-        let both = sum_to-both (hit e) (λ w. weight (said_by (numbers w) h))
-        (λ w. weight (said_by (numbers w) (e ∷ h))) n (λ w l. own e h w) in
+        let both = sum_to-both (hit e) (λ w. weight (said_by as_said (numbers w) h))
+        (λ w. weight (said_by as_said (numbers w) (e ∷ h))) n (λ w l. own e h w) in
         let first : sum_to (hit e) n ≡ weigh e.said = one e only.0.0 only.0.1 only.0.2 in
-        let rest : sum_to (λ w. weight (said_by (numbers w) h)) n ≡ weight (saids h) = parted h only.1 in
+        let rest : sum_to (λ w. weight (said_by as_said (numbers w) h)) n ≡ weight (saids h) = parted h only.1 in
         omega (arith, both, first, rest)
 
   -- so it is that of the calls with their answers, list by list
   pub weight_held : (h : List (Entry Said)) (lists : List (List Call)) (answers : List (List Answer))
-      → HoldsCalls h lists answers
-      → weight (saids h) ≡ sum_to (λ w. weight (answered (list_at lists w) (list_at answers w))) (length lists)
+      → HoldsCalls as_said word_said h lists answers
+      → weight (saids h) ≡ sum_to (λ w. weight (answered word_said (list_at lists w) (list_at answers w))) (length lists)
   weight_held h lists answers holds =
       sym (parted holds.numbers (length lists) holds.apart h holds.only)
-      ∙ sum_to-same (λ w. weight (said_by (holds.numbers w) h))
-      (λ w. weight (answered (list_at lists w) (list_at answers w))) (length lists)
+      ∙ sum_to-same (λ w. weight (said_by as_said (holds.numbers w) h))
+      (λ w. weight (answered word_said (list_at lists w) (list_at answers w))) (length lists)
       (λ w l. ap weight (holds.each w l))
 
 -- ---- what answers weigh
@@ -121,10 +121,10 @@ listed g count (cs ∷ lists) (rs ∷ answers) long same =
     sum_to-first (λ w. g (list_at (cs ∷ lists) w) (list_at (rs ∷ answers) w)) (length lists)
     ∙ omega (arith, rest, first, sum_by-cons count rs answers)
 
-each-by : (k : ℕ) (h : List (Entry Said)) → Each IsAnswered (saids h) → Each IsAnswered (said_by k h)
+each-by : (k : ℕ) (h : List (Entry Said)) → Each IsAnswered (saids h) → Each IsAnswered (said_by as_said k h)
 each-by k [] all = tt
 each-by k (e ∷ h) all =
-    let rest : Each IsAnswered (said_by k h) = each-by k h all.1 in
+    let rest : Each IsAnswered (said_by as_said k h) = each-by k h all.1 in
     elim (e.number == k || false) as (λ b.
     Each IsAnswered (saids (cond b (e ∷ entries_by (k ∷ []) h) (entries_by (k ∷ []) h)))) [
       | true ↦
@@ -138,8 +138,8 @@ module _ (weigh : Said → ℕ) (tells : Answer → Bool)
   count_first : (r : Answer) (rs : List Answer) → count_by tells (r ∷ rs) ≡ cond (tells r) 1 0 + count_by tells rs
   count_first r rs = sum_by-cons (λ (x : Answer). cond (tells x) 1 0) r rs
 
-  weight_told : (cs : List Call) (rs : List Answer) → length rs ≡ length cs → Each IsAnswered (answered cs rs)
-      → weight weigh (answered cs rs) ≡ count_by tells rs
+  weight_told : (cs : List Call) (rs : List Answer) → length rs ≡ length cs → Each IsAnswered (answered word_said cs rs)
+      → weight weigh (answered word_said cs rs) ≡ count_by tells rs
   weight_told [] [] long all = refl
   weight_told [] (r ∷ rs) long all = absurd (omega arith)
   weight_told (c ∷ cs) [] long all = absurd (omega arith)
@@ -153,12 +153,12 @@ module _ (weigh : Said → ℕ) (tells : Answer → Bool)
 
   -- what a legal history weighs is how many of the answers are told so
   pub counted : (m : Pairs) (h : List (Entry Said)) (lists : List (List Call)) (answers : List (List Answer))
-      → AreReplies m (saids h) → HoldsCalls h lists answers → count_in tells answers ≡ weight weigh (saids h)
+      → AreReplies m (saids h) → HoldsCalls as_said word_said h lists answers → count_in tells answers ≡ weight weigh (saids h)
   counted m h lists answers are holds =
       let all : Each IsAnswered (saids h) = all-answered m (saids h) are in
-      let each : (w : ℕ) → w < length lists → Each IsAnswered (answered (list_at lists w) (list_at answers w)) =
+      let each : (w : ℕ) → w < length lists → Each IsAnswered (answered word_said (list_at lists w) (list_at answers w)) =
       λ w l. subst (λ (ss : List Said). Each IsAnswered ss) (holds.each w l) (each-by (holds.numbers w) h all) in
-      let lists_told = listed (λ cs rs. weight weigh (answered cs rs)) (count_by tells) lists answers holds.lists_long
+      let lists_told = listed (λ cs rs. weight weigh (answered word_said cs rs)) (count_by tells) lists answers holds.lists_long
       (λ w l. weight_told (list_at lists w) (list_at answers w) (holds.each_long w l) (each w l)) in
       sym (weight_held weigh h lists answers holds ∙ lists_told)
 
@@ -211,7 +211,7 @@ gones-weigh (e ∷ h) = ap (λ n. is_gone e.said.call e.said.reply + n) (gones-w
 
 -- the answers' tally is the history's
 pub tallied : (m : Pairs) (h : List (Entry Said)) (lists : List (List Call)) (answers : List (List Answer))
-    → AreReplies m (saids h) → HoldsCalls h lists answers → told_tally answers ≡ tally_of h
+    → AreReplies m (saids h) → HoldsCalls as_said word_said h lists answers → told_tally answers ≡ tally_of h
 tallied m h lists answers are holds =
     let some : count_in tells_found answers ≡ founds h = counted (λ s. is_found s.call s.reply) tells_found
     (λ s a. right-found s.call s.reply a.0 a.1) (λ f. refl) m h lists answers are holds ∙ founds-weigh h in

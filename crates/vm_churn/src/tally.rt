@@ -2,7 +2,7 @@
 
 ghost use Rattle.std.specs.List.{AllByRecursion};
 ghost use Rattle.std.specs.Prelude.{◌<◌, ◌^◌, ◌≡◌, ◌≤◌, IfOk, length};
-ghost use Rattle.vm_drive.specs.{Drives.AreFew, Drives.items_of, Lists.HaveRoom};
+ghost use Rattle.vm_drive.specs.{Drives.AreFew, Drives.items_of, Lists.HaveRoom, Rooms.RoomFor};
 ghost use Rattle.vm_churn.specs.Tallies.{IsSmall, StandsFor, sum_values, tally_room, told_after, total_of};
 
 use std::alloc::{AllocError, Global};
@@ -62,7 +62,7 @@ fn add(tally: Tally, answer: &Answer) -> Tally
 /// A tally for each list of calls, of no answer yet.
 pub fn tallies_for(alloc: Global, lists: &[Vec<Call>]) -> Result<Vec<Tally>, AllocError>
     requires { AreFew (items_of lists.now) }
-    ensures { IfOk result (λ tallies. HaveRoom StandsFor tally_room tallies.items (items_of lists.now)) }
+    ensures { IfOk result (λ tallies. HaveRoom StandsFor (RoomFor tally_room) tallies.items (items_of lists.now)) }
 {
     let mut tallies = Vec::with_capacity(alloc, lists.len())?;
     'lists: for _calls in lists {

@@ -32,7 +32,7 @@ module _ {U X A M C R P : Type 0} {owner : _} (kind : Calling X C R P) where
   -- the number and the causes of one worker, with these answers, in the terms of the joined pass
   pub record IsFinished (w : View X) (rest : List (Entry X)) (calls : List C) (d : Worker U A M X owner)
       (told : List (Result R TreeFault)) : Type 0 where
-    pub said : said_by kind (number_of d) rest ≡ answered kind calls told
+    pub said : said_by kind.plain (number_of d) rest ≡ answered kind.said calls told
     pub long : length told ≡ length calls
     pub faults : (p : ℕ) → faults_of p told ≤ notes_about p (view d.pass).notes
     pub shown : AreShown kind w calls told
@@ -66,7 +66,7 @@ module _ {U X A M C R P : Type 0} {owner : _} (kind : Calling X C R P) where
 
   finished-said : (w : View X) (rest : List (Entry X)) (lists : List (List C))
       (ds : List (Worker U A M X owner)) (ts : List (List (Result R TreeFault))) (i : ℕ)
-      → AreFinished w rest lists ds ts → i < length lists → said_by kind (slice_index (numbers_of ds) i) rest ≡ answered kind
+      → AreFinished w rest lists ds ts → i < length lists → said_by kind.plain (slice_index (numbers_of ds) i) rest ≡ answered kind.said
       (list_at lists i) (list_at ts i)
   finished-said w rest [] ds ts i f l = absurd (omega arith)
   finished-said w rest (c ∷ cs) [] ts i f l = absurd f
@@ -164,7 +164,7 @@ module _ {U X A M C R P : Type 0} {owner : _} (kind : Calling X C R P) {owned : 
       behind (number_of n ∷ []) v.seen rest (view n.pass).mine unused
       (ap (λ l. entries_by (number_of n ∷ []) l) (sym seen) ∙ i.entries) in
       record {
-        said = ap (λ l. said_in kind l) mine ∙ did.mine ∙ ap (λ l. said_in kind l ++ answered kind calls told) new.said;
+        said = ap (λ l. said_in kind.plain l) mine ∙ did.mine ∙ ap (λ l. said_in kind.plain l ++ answered kind.said calls told) new.said;
         long = did.long;
         faults = λ p. let all : notes_about p (view o.pass).notes + faults_of p told ≤ notes_about p
             (view n.pass).notes = did.faults p in omega arith;

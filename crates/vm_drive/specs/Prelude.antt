@@ -2,7 +2,7 @@
 pub use Rattle.vm_calling.specs.Called.{AreCalls}
 pub use Rattle.vm_calling.specs.Calling.{answered, AreMade, AreShown, Calling, said_in}
 pub use Rattle.vm_calling.specs.Causes.{IsUntold, notes_about}
-pub use Rattle.vm_calls.specs.Calls.{as_said}
+pub use Rattle.vm_calls.specs.Calls.{as_said, word_said}
 pub use Rattle.vm_calls.specs.Compact.{HasContents, all_replies}
 pub use Rattle.vm_calls.specs.Kept.{IsRoomFor, Room, windows_asked}
 pub use Rattle.vm_calls.specs.Shows.{IsOfLeaves, IsReplyShown}

@@ -1,7 +1,6 @@
 //! The workers on a tree with words as keys, side by side.
 
 ghost use Rattle.std.specs.Prelude.{◌*◌, ◌<◌, ◌≡◌, ◌≤◌, IfErr, IfOk, length};
-ghost use Rattle.vm_map.specs.History.{IsAskable};
 ghost use Rattle.vm_rule.specs.Prelude.{HoldsNoPage, IsWhole};
 ghost use Rattle.vm_step.specs.Prelude.{GoesOn, IsReadyOn, view};
 ghost use Rattle.vm_calls.specs.TreeCalls.{word_calls};
@@ -53,7 +52,7 @@ pub fn drive_into<
     requires fresh { length lists.now ≤ length (view pass.old).fresh }
     requires lists { (1 ≤ length lists.now) × (length lists.now ≤ 64) }
     requires few { AreFew (items_of lists.now) }
-    requires askable { AreAskable IsAskable (items_of lists.now) }
+    requires askable { AreAskable (items_of lists.now) }
     requires frames { 8 * length lists.now ≤ pool.now.words.frames }
     requires pages { 1 ≤ pool.now.words.table.shared.key.pages }
     requires rooms { HaveRoom A.keeps (RoomFor A.room) rooms.items (items_of lists.now) }
@@ -91,7 +90,7 @@ fn work_all<
     workers: &mut [Worker<TreeOf<WordKeys<S, N>>, A, Vec<Span>>],
 )
     requires lists { (1 ≤ length lists.now) × (length lists.now ≤ 64) }
-    requires askable { AreAskable IsAskable (items_of lists.now) }
+    requires askable { AreAskable (items_of lists.now) }
     requires idle { AreIdle A.keeps (RoomFor A.room) (SpansFor N) pool.now.words.table.shared.key B.tells pool.now.words.table.shared.table_id (items_of lists.now) workers.old }
     requires homes { AreAtHome 0 (share_of pool.now.words.frames (length lists.now)) workers.old }
     ensures { AllWorked (word_calls N) A.keeps pool.now.words.table.shared.key B.tells pool.now.words.table.shared.table_id (items_of lists.now) workers.old workers.new }
@@ -102,7 +101,7 @@ fn work_all<
         lists.len(),
         &|i: usize, worker: &mut Worker<TreeOf<WordKeys<S, N>>, A, Vec<Span>>|
             requires inside { (i < length lists.now) × (length lists.now ≤ 64) }
-            requires askable { AreAskable IsAskable (items_of lists.now) }
+            requires askable { AreAskable (items_of lists.now) }
             requires idle { IsIdle A.keeps (RoomFor A.room) (SpansFor N) pool.now.words.table.shared.key B.tells pool.now.words.table.shared.table_id (list_at (items_of lists.now) i) worker.old }
             ensures { HasWorked (word_calls N) A.keeps pool.entry.now.words.table.shared.key B.tells pool.entry.now.words.table.shared.table_id (list_at (items_of lists.entry.now) i) worker.old worker.new }
         { work(rt, pool, gate, i as u32, lists[i].as_slice(), worker) },

@@ -11,7 +11,7 @@ use Rattle.vm_owner.specs.declared.Entry.{Entry}
 use Rattle.vm_serve.specs.from_vm_tree_rule.declared_fault_TreeFault.{TreeFault}
 use Rattle.vm_serve.specs.from_vm_calls.Compact.{all_replies, HasContents, ranges_in, replies_in, told_in, wins_in}
 use Rattle.vm_serve.specs.from_vm_calls.{declared_compact_Replies.Replies, declared_compact_Short.Short}
-use Rattle.vm_serve.specs.from_vm_drive.{Drives.AreFew, Drives.items_of, Holds.HoldsCalls, Holds.list_at}
+use Rattle.vm_serve.specs.from_vm_drive.{Drives.AreFew, Drives.items_of, Holds.HoldsCalls, Holds.list_at, Prelude.as_said, Prelude.word_said}
 use Rattle.vm_serve.specs.from_vm_calls.declared_compact_Short_TheVariants as shorts
 use Rattle.vm_script.specs.{declared.text.Line.Line, Texts.replies_text, Texts.reply_line, Texts.worker_replies}
 use Rattle.vm_endings.specs.Replies.{all_lines, AreMatched, line_in, lines_in}
@@ -110,7 +110,7 @@ matched_lists (calls ∷ lists) (answers ∷ replies) long each =
 
 -- a history that holds the workers' calls has an answer for each of them
 pub matched : (h : List (Entry Said)) (lists : List (List Call)) (replies : List (List Answer))
-    → HoldsCalls h lists replies → AreMatched lists replies
+    → HoldsCalls as_said word_said h lists replies → AreMatched lists replies
 matched h lists replies holds = matched_lists lists replies holds.lists_long holds.each_long
 
 -- ---- one worker's answers, one after another

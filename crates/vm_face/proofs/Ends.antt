@@ -12,7 +12,7 @@ use Rattle.vm_tree_laws.specs.{History.IsLegal, History.saids, Keeps.KeepsTree, 
 use Rattle.vm_serve.specs.from_vm_evict.declared_flushing_Flushed.{Flushed}
 use Rattle.vm_serve.specs.from_vm_evict.Flushes.{IsFlushed}
 use Rattle.vm_serve.specs.from_vm_pool.Closing.{IsClosed}
-use Rattle.vm_serve.specs.from_vm_calls.TreeCalls.{as_said}
+use Rattle.vm_serve.specs.from_vm_calls.Calls.{as_said}
 use Rattle.vm_serve.proofs.from_vm_calls.Plainly.{plain-keeps}
 use Rattle.vm_face.specs.Closed.{IsClosedOn}
 

@@ -29,10 +29,10 @@ use Rattle.vm_tree_laws.specs.{History.gones, History.IsLegal, History.news, His
 use Rattle.vm_tree_laws.specs.{Keeps.merge_weight, Plain.KeepsPlain}
 use Rattle.vm_tree_laws.proofs.{Fullness.room_used, Starts.start_keeps}
 use Rattle.vm_drive.specs.from_vm_tree_rule.declared_fault_TreeFault.{TreeFault}
-use Rattle.vm_drive.specs.Prelude.{IsUntold, notes_about, as_said}
+use Rattle.vm_drive.specs.Prelude.{as_said, IsUntold, notes_about, word_calls, word_said}
 use Rattle.vm_drive.specs.{Drives.IsAtLastVersion, Drives.IsDriven, Holds.HoldsCalls, Lists.all_faults_of, Lists.AllShown}
 use Rattle.vm_drive.specs.Parts.{logs_of, noted_by}
-use Rattle.vm_drive.proofs.Prelude.{FoundFull, FoundWorn, notes-both, plain-keeps}
+use Rattle.vm_drive.proofs.Prelude.{FoundFull, FoundWorn, notes-both, plain-keeps, word_laws}
 use Rattle.vm_drive.proofs.Prelude.{found-later, max-later}
 use Rattle.vm_drive.proofs.Tracing.{lists-caused, used-up, worn-out}
 use Rattle.vm_drive.proofs.{Parted.parts-later, Parted.traced, Parts.behind-in, Showing.all-shown-more}
@@ -179,7 +179,7 @@ module _ (size : ℕ) (sized : IsSize size) {U : Type 0} (tells : Bool) (pages :
     (replies : List (List (Result Reply TreeFault))) (report : Flushed) (end : Ended U Said) (v w : View Said)
     (may : MayBeServed size tells pages before next free)
     (is : v ≡ begun (unborn (started_shape size tells version next free frames before)))
-    (driven : IsDriven size tells lists replies v w) (flushed : IsFlushed report w (view_at_end end)) (last : ℕ)
+    (driven : IsDriven (word_calls size) tells lists replies v w) (flushed : IsFlushed report w (view_at_end end)) (last : ℕ)
     (closed : IsClosed tells (KeepsPlain as_said (fixed size)) (view_at_end end) after last) where
   abbrev e : View Said
   e = view_at_end end
@@ -240,8 +240,8 @@ module _ (size : ℕ) (sized : IsSize size) {U : Type 0} (tells : Bool) (pages :
   telling : e.start.tells ≡ tells
   telling = ap (λ (o : Origin). o.tells) start-is
 
-  shown : AllShown size e lists replies
-  shown = all-shown-more size w e flushed.aside.start flushed.aside.seen flushed.aside.releases lists replies driven.shown
+  shown : AllShown (word_calls size) e lists replies
+  shown = all-shown-more (word_calls size) (word_laws size) w e flushed.aside.start flushed.aside.seen flushed.aside.releases lists replies driven.shown
 
   saved : tells ≡ true → ((p : ℕ) → p < length before → (at no_block after p).words ≡ (last_of w p).words)
       → IsTree (fixed size) (block_words after)
@@ -316,23 +316,23 @@ module _ (size : ℕ) (sized : IsSize size) {U : Type 0} (tells : Bool) (pages :
     free = begun_free;
     bounds = bounds;
     legal = legal;
-    calls = subst (λ (l : List (Entry Said)). HoldsCalls l lists replies) (sym grew-all) driven.calls;
+    calls = subst (λ (l : List (Entry Said)). HoldsCalls as_said word_said l lists replies) (sym grew-all) driven.calls;
     noted = noted;
     counted = counted;
     worked = w;
     last_flush = flushed;
     earlier = earlier;
     all_made = sym all-seen;
-    caused = lists-caused (FoundFull w) (FoundWorn w) (IsUntold w) (IsFilled size tells pages end) (IsAtLastVersion e) (IsUntold e) filled
+    caused = lists-caused (word_calls size) (FoundFull w) (FoundWorn w) (IsUntold w) (IsFilled size tells pages end) (IsAtLastVersion e) (IsUntold e) filled
         (λ p m. worn-out e p closed.versions
         (max-later w e p flushed.aside.start (flushed.done, flushed.aside.log) m))
         (λ p u. subst (λ (o : Origin). (o.tells ≡ false) × (p < o.pages)) (sym flushed.aside.start) u) lists replies
-        (traced size v.log w lists replies driven.passes driven.parts driven.logs);
+        (traced (word_calls size) (word_laws size) v.log w lists replies driven.passes driven.parts driven.logs);
     widened = all-widened size sized tells pages end may.tree begun_next telling began lists replies w driven.passes
         shown driven.parts;
     shown = shown;
     passes = driven.passes;
-    parts = parts-later size w e flushed.aside.start all-seen flushed.aside.releases lists replies driven.passes driven.parts;
+    parts = parts-later (word_calls size) w e flushed.aside.start all-seen flushed.aside.releases lists replies driven.passes driven.parts;
     logs = behind-in v.log (logs_of driven.passes) w.log flushed.done e.log driven.logs flushed.aside.log;
     noted_in = behind-in v.notes (noted_by driven.passes) w.notes flushed.noted.notes e.notes driven.noted flushed.noted.after;
     unflushed = λ none. flushed.noted.first ∙ none-noted flushed.noted.notes (flushed.noted.each ∙ none);

@@ -16,8 +16,8 @@ use Rattle.vm_drive.specs.from_vm_pool.{Closing.view_at_end, declared_ended_Ende
 use Rattle.vm_tree_laws.specs.History.{news}
 use Rattle.vm_tree_laws.proofs.Widths.{wide_pages, wide_room}
 use Rattle.vm_drive.specs.from_vm_tree_rule.declared_fault_TreeFault.{TreeFault}
-use Rattle.vm_drive.specs.Prelude.{AreShown, IsOfLeaves, IsReplyShown}
-use Rattle.vm_drive.specs.Prelude.{AreTreeCalls, IsTreeCall}
+use Rattle.vm_drive.specs.Prelude.{AreMade, AreShown, as_said, IsOfLeaves, IsReplyShown, IsTreeCall, word_calls}
+use Rattle.vm_drive.proofs.Prelude.{plain-keeps}
 use Rattle.vm_drive.specs.{Lists.AllShown, Parts.HaveParts}
 use Rattle.vm_serve.specs.{Served.IsWidened, Wide.AllWidenedBy, Wide.AreWidenedBy, Wide.WidenedBy}
 
@@ -48,22 +48,23 @@ module _ (size : ℕ) (sized : IsSize size) {U : Type 0} (tells : Bool) (pages :
   abbrev Cause : Type 0
   Cause = tells ≡ true → IsWidened size pages end
 
-  widened : (low reach : ℕ) (bound : Bound) → IsOfLeaves size (record {
+  widened : (low reach : ℕ) (bound : Bound) → IsOfLeaves as_said (fixed size) (record {
     call = Range low bound;
     reply = Wide reach;
   }) e → e.start.contents ≡ pages → IsWidened size pages end
   widened low reach bound l held =
       let laws = sized_layout size sized in
       let start = began_of e.start in
+      let keeps = plain-keeps (fixed size) start l.kept l.keeps in
       let p = l.proved in
       let tree' : IsTree (fixed size) e.start.contents = subst (λ (l : List (List ℕ)). IsTree (fixed size) l) (sym held) tree in
       let free : (p : ℕ) → e.start.next ≤ p → p < length e.start.contents → IsFree (fixed size) (page_at e.start.contents p) =
       subst (λ (l : List (List ℕ)). (p : ℕ) → e.start.next ≤ p → p < length l → IsFree (fixed size) (page_at l p)) (sym held) next.free in
-      let enough : 19 ≤ length e.start.contents = wide_pages (fixed size) laws start l.kept l.keeps l.leaves low reach
+      let enough : 19 ≤ length e.start.contents = wide_pages (fixed size) laws start l.kept keeps l.leaves low reach
       l.there p.0 p.1 p.3 in
       let room : (half_of size - 1) * 19 ≤ 2 * (capacity size - half_of size) * node_count (fixed size)
       e.start.contents + 2 * news l.kept.history + (half_of size - 1) * e.start.next =
-      wide_room (fixed size) laws start l.kept l.keeps tree' free l.leaves low reach l.there p.0 p.1 p.3 in
+      wide_room (fixed size) laws start l.kept keeps tree' free l.leaves low reach l.there p.0 p.1 p.3 in
       let later : news l.kept.history ≤ news e.seen = news-more e.seen l.kept.history l.history in
       let cause : (half_of size - 1) * 19 ≤ 2 * half_of size * node_count (fixed size) e.start.contents + 2 * news
       e.seen + (half_of size - 1) * e.start.next =
@@ -94,15 +95,15 @@ module _ (size : ℕ) (sized : IsSize size) {U : Type 0} (tells : Bool) (pages :
   wide-one (Swap key want value) (Wide reach) v x s h = absurd h.1
   wide-one (Range low bound) (Wide reach) v x s h = (tt, λ t. widened low reach bound (s (telling ∙ t)) (began t))
 
-  are-widened : (cs : List Call) (rs : List (Result Reply TreeFault)) (v x : View Said) → AreShown size e cs rs
-      → AreTreeCalls size cs rs v x → AreWidenedBy Cause cs rs
+  are-widened : (cs : List Call) (rs : List (Result Reply TreeFault)) (v x : View Said) → AreShown (word_calls size) e cs rs
+      → AreMade (word_calls size) cs rs v x → AreWidenedBy Cause cs rs
   are-widened [] rs v x s t = tt
   are-widened (c ∷ cs) [] v x s t = tt
   are-widened (c ∷ cs) (Ok r ∷ rs) v x s t = (wide-one c r v t.0 s.0 t.1, are-widened cs rs t.0 x s.1 t.2)
   are-widened (c ∷ cs) (Err f ∷ rs) v x s t = (tt, are-widened cs rs t.0 x s t.2)
 
   pub all-widened : (lists : List (List Call)) (answers : List (List (Result Reply TreeFault))) (w : View Said)
-      (passes : List (View Said)) → AllShown size e lists answers → HaveParts size w lists answers passes
+      (passes : List (View Said)) → AllShown (word_calls size) e lists answers → HaveParts (word_calls size) w lists answers passes
       → AllWidenedBy Cause lists answers
   all-widened [] answers w passes s p = tt
   all-widened (cs ∷ lists) [] w passes s p = tt

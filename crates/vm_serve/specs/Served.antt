@@ -18,7 +18,7 @@ use Rattle.vm_tree_laws.specs.History.{gones, IsLegal, news, saids}
 use Rattle.vm_tree_laws.specs.Keeps.{merge_weight}
 use Rattle.vm_drive.specs.from_vm_kind.{declared_tree_TreeOf.TreeOf, declared_word_keys_Sizes.Sizes, declared_word_keys_WordKeys.WordKeys}
 use Rattle.vm_drive.specs.from_vm_tree_rule.declared_fault_TreeFault.{TreeFault}
-use Rattle.vm_drive.specs.Prelude.{IsUntold, notes_about}
+use Rattle.vm_drive.specs.Prelude.{as_said, IsUntold, notes_about, word_calls, word_said}
 use Rattle.vm_drive.specs.Lists.{all_faults_of, AllCausedBy, AllShown, AreKept}
 use Rattle.vm_drive.specs.Parts.{HaveParts, logs_of, noted_by, StandIn}
 use Rattle.vm_drive.specs.{Drives.IsAtLastVersion, Drives.IsUsedUp, Holds.HoldsCalls}
@@ -105,7 +105,7 @@ pub record IsServedOn (n : ℕ) (tells : Bool) {U : Type 0} (pages : List (List 
   pub free : AreFreePages n pages (view_at_end end).start.next (view_at_end end).start.free
   pub bounds : bounds_of blocks ≡ bounds_of before
   pub legal : tells ≡ true → IsLegal (map_of (fixed n) pages) (view_at_end end).seen
-  pub calls : HoldsCalls (view_at_end end).seen lists replies
+  pub calls : HoldsCalls as_said word_said (view_at_end end).seen lists replies
   pub noted : (p : ℕ) → all_faults_of p replies + is_first report.first p ≤ notes_about p (view_at_end end).notes
   pub counted : (p : ℕ) → (notes_about p (view_at_end end).notes ≤ (at no_block blocks p).count) ⊎ (MAX_COUNT ≤ (at no_block blocks p).count)
   -- what the pass knew once all calls were made: the flush came next, and the notes of the replies that are faults stood already
@@ -113,12 +113,12 @@ pub record IsServedOn (n : ℕ) (tells : Bool) {U : Type 0} (pages : List (List 
   pub last_flush : IsFlushed report worked (view_at_end end)
   pub earlier : (p : ℕ) → all_faults_of p replies ≤ notes_about p worked.notes
   pub all_made : worked.seen ≡ (view_at_end end).seen
-  pub caused : AllCausedBy (IsFilled n tells pages end) (IsAtLastVersion (view_at_end end)) (IsUntold (view_at_end end)) lists replies
+  pub caused : AllCausedBy (word_calls n) (IsFilled n tells pages end) (IsAtLastVersion (view_at_end end)) (IsUntold (view_at_end end)) lists replies
   pub widened : AllWidenedBy (tells ≡ true → IsWidened n pages end) lists replies
-  pub shown : AllShown n (view_at_end end) lists replies
+  pub shown : AllShown (word_calls n) (view_at_end end) lists replies
   -- what each worker's pass knew behind its last call; its steps and notes stand in those of the end, one worker's behind another's
   pub passes : List (View Said)
-  pub parts : HaveParts n (view_at_end end) lists replies passes
+  pub parts : HaveParts (word_calls n) (view_at_end end) lists replies passes
   pub logs : StandIn (logs_of passes) (view_at_end end).log
   pub noted_in : StandIn (noted_by passes) (view_at_end end).notes
   pub unflushed : report.failed ≡ 0 → report.first ≡ None

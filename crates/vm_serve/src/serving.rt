@@ -9,7 +9,7 @@ ghost use Rattle.vm_event.specs.Prelude.{MAX_VERSION};
 ghost use Rattle.vm_drive.specs.from_vm_pool.Closing.{view_at_end};
 ghost use Rattle.vm_drive.specs.Prelude.{all_replies, HasContents};
 ghost use Rattle.vm_drive.specs.Drives.{AreAskable, AreFew, items_of};
-ghost use Rattle.vm_drive.specs.Lists.{HaveRoom};
+ghost use Rattle.vm_drive.specs.{Lists.HaveRoom, Rooms.RoomFor};
 ghost use Rattle.vm_serve.specs.Served.{IsServed, IsServedInto, IsServedOnInto, MayBeServed};
 
 use std::alloc::Global;
@@ -141,7 +141,7 @@ pub fn serve_into<
     requires lists { (1 ≤ length lists.now) × (length lists.now ≤ 64) }
     requires few { AreFew (items_of lists.now) }
     requires askable { AreAskable (items_of lists.now) }
-    requires rooms { HaveRoom A.keeps A.room rooms.items (items_of lists.now) }
+    requires rooms { HaveRoom A.keeps (RoomFor A.room) rooms.items (items_of lists.now) }
     ensures served { IfOk result (λ s. IsServedInto N A.keeps image.entry [] (items_of lists.now) s.kept.items s.report s.blocks.items s.ended) }
     ensures version { IfOk result (λ s. (view_at_end s.ended).start.version ≡ first_version) }
     ensures frames { IfOk result (λ s. (view_at_end s.ended).start.frames ≡ frames) }
@@ -207,7 +207,7 @@ pub fn serve_on<
     requires lists { (1 ≤ length lists.now) × (length lists.now ≤ 64) }
     requires few { AreFew (items_of lists.now) }
     requires askable { AreAskable (items_of lists.now) }
-    requires rooms { HaveRoom A.keeps A.room rooms.items (items_of lists.now) }
+    requires rooms { HaveRoom A.keeps (RoomFor A.room) rooms.items (items_of lists.now) }
     ensures served { IfOk result (λ s. (pages : List (List ℕ)) → MayBeServed N B.tells pages (map B.stored blocks.items) shape.next free.now
         → IsServedOnInto N B.tells A.keeps pages (map B.stored blocks.items) (items_of lists.now) s.kept.items s.report
         (map B.stored s.blocks.items) s.ended) }

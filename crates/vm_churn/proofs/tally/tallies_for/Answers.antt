@@ -20,5 +20,5 @@ lists-preserved c =
     ++ c._calls-item.result.items ∷ [] = ap (λ l. items_of l) one ∙ map-append (λ v. v.items)
     (take c.lists._calls-index xs) (c._calls-item.result ∷ []) in
     rw (c.in_ok-push.ensures.items, more)
-    (room-snoc StandsFor tally_room _ _ _ _ c.lists.invariant (λ few. refl)
+    (room-snoc StandsFor (RoomFor tally_room) _ _ _ _ c.lists.invariant (λ few. refl)
     (few_room _ none (few_at xs c.lists._calls-index c._calls-item.result c.requires inside c._calls-item.is)))
