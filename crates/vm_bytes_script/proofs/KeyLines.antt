@@ -1,6 +1,6 @@
 -- A call with a byte key is written on one line, and a text is that of one call.
 use Rattle.std.specs.Fmt.{decimal}
-use Rattle.std.proofs.Common.{[], ◌++◌, ◌<◌, ◌^◌, ◌∙◌, ◌∷◌, ◌≡◌, ◌≢◌, ◌⊎◌, ap, arith, codes, get_or, inl, inr, List, refl, sym, ℕ}
+use Rattle.std.proofs.Common.{[], ◌++◌, ◌<◌, ◌^◌, ◌∙◌, ◌∷◌, ◌≡◌, ◌≢◌, ◌⊎◌, ap, arith, codes, get_or, inl, inr, List, refl, ℕ}
 use Rattle.std.proofs.lemmas.Fmt.{decimal_injective}
 use Rattle.vm_bytes_form.specs.Strings.{IsString}
 use Rattle.vm_bytes_laws.specs.declared.call.KeyCall.{KeyCall}

@@ -1,14 +1,14 @@
 -- The lines of what calls with byte keys were answered.
 use Rattle.std.specs.Fmt.{decimal}
 use Rattle.std.specs.List.{flat_map}
-use Rattle.std.specs.Prelude.{[], ◌++◌, ◌+◌, ◌∷◌, codes, Err, List, None, Ok, Option, Result, Some, ℕ}
+use Rattle.std.specs.Prelude.{[], ◌++◌, ◌∷◌, codes, List, None, Option, Some, ℕ}
 use Rattle.vm_bytes_form.specs.Forms.{KeyEntry}
 use Rattle.vm_bytes_laws.specs.{declared.call.KeyCall.KeyCall, declared.call.KeyReply.KeyReply}
 use Rattle.vm_bytes_laws.specs.declared.call.KeyCall.TheVariants.{Del, Get, Put, Swap, Window}
 use Rattle.vm_bytes_laws.specs.declared.call.KeyReply.TheVariants.{Gone, Got, Swapped, Was, Win}
 use Rattle.vm_bytes_node.specs.declared.window.KeyWindow.{KeyWindow}
 use Rattle.vm_bytes_text.specs.KeyTexts.{key_text}
-use Rattle.vm_script.specs.{declared.text.Line.Line, Texts.outcome_text, Texts.swap_text, Texts.told_line, Texts.value_text}
+use Rattle.vm_script.specs.{Texts.swap_text, Texts.told_line, Texts.value_text}
 
 -- the key of a window's bound, or `end`
 abbrev pub key_bound_text : Option (List ℕ) → List ℕ

@@ -30,15 +30,15 @@ key_calls = record { is_call = IsKeyScriptCall; text = key_call_text; is_range =
 
 -- the bytes spell these orders
 abbrev pub SpellsKeys : ℕ → List ℕ → List (Order KeyCall) → Type 0
-SpellsKeys workers bytes orders = Spells key_calls workers bytes orders
+SpellsKeys = Spells key_calls
 
 -- line number n is the first bad one
 abbrev pub IsFirstBadKeys : ℕ → List ℕ → ℕ → Type 0
-IsFirstBadKeys workers bytes n = IsFirstBad key_calls workers bytes n
+IsFirstBadKeys = IsFirstBad key_calls
 
 -- a script gives each worker its calls, in order
 abbrev pub IsKeyScript : ℕ → List ℕ → List (List KeyCall) → Type 0
-IsKeyScript workers bytes lists = IsScript key_calls workers bytes lists
+IsKeyScript = IsScript key_calls
 
 -- the right answer of a reader: its calls, too long, or the first bad line; want of memory is free
 abbrev pub ReadsKeyScript : {V : Type 0} → (V → List (List KeyCall)) → ℕ → List ℕ → Result V ScriptFault → Type 0

@@ -52,10 +52,8 @@ fn window_answer(alloc: Global, call: &KeyCall, window: &KeyWindow) -> Result<St
 {
     match call {
         KeyCall::Window { start, .. } => window_text(alloc, start, window),
-        KeyCall::Get { .. }
-        | KeyCall::Put { .. }
-        | KeyCall::Del { .. }
-        | KeyCall::Swap { .. } => Ok(String::new(alloc)),
+        KeyCall::Get { .. } | KeyCall::Put { .. } | KeyCall::Del { .. } | KeyCall::Swap { .. } =>
+            Ok(String::new(alloc)),
     }
 }
 

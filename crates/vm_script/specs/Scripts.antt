@@ -46,19 +46,19 @@ word_calls = record { is_call = IsScriptCall; text = call_text; is_range = is_ra
 
 -- an order that a script for so many workers may have
 abbrev pub IsOrder : ℕ → Order Call → Type 0
-IsOrder workers order = orders.IsOrder word_calls workers order
+IsOrder = orders.IsOrder word_calls
 
 -- the bytes spell these orders
 abbrev pub Spells : ℕ → List ℕ → List (Order Call) → Type 0
-Spells workers bytes lines = orders.Spells word_calls workers bytes lines
+Spells = orders.Spells word_calls
 
 -- line number n is the first bad one
 abbrev pub IsFirstBad : ℕ → List ℕ → ℕ → Type 0
-IsFirstBad workers bytes n = orders.IsFirstBad word_calls workers bytes n
+IsFirstBad = orders.IsFirstBad word_calls
 
 -- a script gives each worker its calls, in order
 abbrev pub IsScript : ℕ → List ℕ → List (List Call) → Type 0
-IsScript workers bytes lists = orders.IsScript word_calls workers bytes lists
+IsScript = orders.IsScript word_calls
 
 -- the right answer of a reader
 abbrev pub ReadsScript : {V : Type 0} → (V → List (List Call)) → ℕ → List ℕ → Result V ScriptFault → Type 0

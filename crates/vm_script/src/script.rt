@@ -156,6 +156,7 @@ pub fn read_lists<K: CallSyntax>(
     if bytes.len() > MOST_BYTES {
         return Err(ScriptFault::Long);
     }
+    // Nothing is done, but where a line is no call none begins there, and the line of a call is that of one call.
     K::texts_tell_calls();
     let mut lists = empty_lists(alloc, workers)?;
     let mut rest = bytes;

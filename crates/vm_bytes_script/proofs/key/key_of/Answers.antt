@@ -1,4 +1,4 @@
-use Rattle.std.proofs.Common.{[], ◌*◌, ◌/◌, ◌∷◌, ◌≡◌, ◌≤◌, ◌∙◌, ap, arith, eqb-true, length, List, sym, ℕ}
+use Rattle.std.proofs.Common.{[], ◌*◌, ◌∷◌, ◌≡◌, ◌∙◌, ap, arith, eqb-true, length, List, sym, ℕ}
 use Rattle.std.proofs.Common.{length-take}
 use Rattle.hex.specs.Hex.{encode_lower}
 use Rattle.vm_bytes_form.specs.Strings.{IsString}

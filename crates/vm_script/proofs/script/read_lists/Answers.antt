@@ -1,7 +1,7 @@
-use Rattle.std.proofs.Common.{[], ◌+◌, ◌≡◌, arith, inl, refl}
+use Rattle.std.proofs.Common.{[], ◌≡◌, arith, inl, refl}
 use Rattle.vm_script.specs.Orders.{range_count}
 use Rattle.vm_script.proofs.Lines.{bad_line}
-use Rattle.vm_script.proofs.Lists.{count_of, few_of, reading_count, reading_more, reading_script}
+use Rattle.vm_script.proofs.Lists.{few_of, reading_count, reading_more, reading_script}
 use Rattle.vm_script.proofs.RangeLines.{counted, many_ranges}
 use Rattle.vm_script.proofs.script.read_lists.Goals as goal
 

@@ -1,4 +1,4 @@
-use Rattle.std.proofs.Common.{◌<◌, ◌∙◌, ◌≡◌, ◌⊎◌, inl, inr, sym}
+use Rattle.std.proofs.Common.{◌∙◌, ◌≡◌, inl, inr, sym}
 use Rattle.vm_bytes_laws.specs.declared.call.KeyCall.{KeyCall}
 use Rattle.vm_bytes_laws.specs.declared.call.KeyCall.TheVariants.{Del, Get, Put, Swap, Window}
 use Rattle.vm_bytes_script.specs.KeyScripts.{IsKeyScriptCall}
