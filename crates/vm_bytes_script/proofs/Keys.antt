@@ -1,5 +1,5 @@
 -- Texts of keys: which bytes they lack, and that one is that of one key.
-use Rattle.std.proofs.Common.{[], ◌&&◌, ◌*◌, ◌/◌, ◌%◌, ◌<◌, ◌∙◌, ◌∷◌, ◌≡◌, ap, arith, Bool, inl, Err, inr, length, List, Ok}
+use Rattle.std.proofs.Common.{[], ◌&&◌, ◌*◌, ◌/◌, ◌%◌, ◌<◌, ◌∙◌, ◌∷◌, ◌≡◌, ap, arith, Bool, Err, false, inl, inr, length, List, Ok}
 use Rattle.std.proofs.Common.{refl, Result, slice_index, suc, sym, true, zero, ℕ}
 use Rattle.std.specs.Prelude.{is_err, MatchResult, nat_lt}
 use Rattle.std.proofs.lemmas.Bool.{and_parts, cases_lt, ltb-true}
@@ -72,3 +72,6 @@ decoded_is text room out key r told long each e = decoded text out key r (decode
 
 pub not_refused : (r : Result Unit FromHexError) → r ≡ Ok tt → true ≡ is_err r → ⊥
 not_refused r read refused = cc
+
+pub apart : false ≡ true → ⊥
+apart e = cc
