@@ -1,17 +1,32 @@
--- A text is that of one call, and of one order.
+-- A call with word keys is written on one line, and a text is that of one call.
 use Rattle.std.specs.Fmt.{decimal}
-use Rattle.std.proofs.Common.{◌++◌, ◌<◌, ◌^◌, ◌∙◌, ◌∷◌, ◌≡◌, ap, arith, get_or, lit<, ℕ}
+use Rattle.std.proofs.Common.{◌++◌, ◌∷◌, ◌≡◌, ◌≢◌, ap, arith, get_or}
 use Rattle.std.proofs.lemmas.Fmt.{decimal_injective}
 use Rattle.vm_map.specs.declared.call.Call.{Call}
 use Rattle.vm_map.specs.declared.call.Call.TheVariants.{Del, Get, Put, Range, Swap, Window}
-use Rattle.vm_script.specs.declared.script.Order.{Order}
-use Rattle.vm_script.specs.Scripts.{call_text, IsOrder, IsScriptCall, order_text}
+use Rattle.vm_script.specs.Cuts.{Lacks}
+use Rattle.vm_script.specs.Scripts.{call_text, IsScriptCall}
 use Rattle.vm_script.specs.Texts.{bound_text}
-use Rattle.vm_script.proofs.Bounds.{one_range}
-use Rattle.vm_script.proofs.Words.{lacks_decimal, one_cut, one_pair, one_three}
+use Rattle.vm_script.proofs.Bounds.{lacks_range, one_range}
+use Rattle.vm_script.proofs.Words.{each_append, lacks_decimal, lacks_pair, lacks_verb, numbers_text, one_pair, one_three, text_is, verb_text}
+
+lacks_numbers : (call : Call) → IsScriptCall call → Lacks 10 (numbers_text call)
+lacks_numbers (Get key) is = lacks_decimal 10 key (omega arith) is
+lacks_numbers (Put key value) is = lacks_pair 10 key value (omega arith) is.0 is.1
+lacks_numbers (Del key) is = lacks_decimal 10 key (omega arith) is
+lacks_numbers (Window start most) is = lacks_pair 10 start most (omega arith) is.0 (omega (arith, is.2))
+lacks_numbers (Swap key want value) is = each_append (λ b. b ≢ 10) (decimal key)
+    (32 ∷ (decimal want ++ 32 ∷ decimal value)) (lacks_decimal 10 key (omega arith) is.0)
+    (λ e. omega arith, lacks_pair 10 want value (omega arith) is.1 is.2)
+lacks_numbers (Range low bound) is = lacks_range 10 low bound (omega arith) is
+
+pub lacks_call : (call : Call) → IsScriptCall call → Lacks 10 (call_text call)
+lacks_call call is = rw (text_is call)
+    (each_append (λ b. b ≢ 10) (verb_text call) (32 ∷ numbers_text call) (lacks_verb 10 call (omega arith))
+    (λ e. omega arith, lacks_numbers call is))
 
 -- a text is that of one call
-one_call : (a b : Call) → IsScriptCall a → IsScriptCall b → call_text a ≡ call_text b → a ≡ b
+pub one_call : (a b : Call) → IsScriptCall a → IsScriptCall b → call_text a ≡ call_text b → a ≡ b
 one_call (Get k) (Get k') a b e = let rest : decimal k ≡ decimal k' = cc in ap Get (decimal_injective k k' a b rest)
 one_call (Get k) (Put k' v') a b e = let first : 103 ≡ 112 = ap (λ l. get_or l 0 0) e in absurd (omega (arith, first))
 one_call (Get k) (Del k') a b e = let first : 103 ≡ 100 = ap (λ l. get_or l 0 0) e in absurd (omega (arith, first))
@@ -60,13 +75,3 @@ one_call (Range l u) (Range l' u') a b e =
     let rest : decimal l ++ 32 ∷ bound_text u ≡ decimal l' ++ 32 ∷ bound_text u' = cc in
     let same = one_range l l' u u' a b rest in
     cc (same.0, same.1)
-
-pub one_order : (workers : ℕ) (a b : Order) → workers < 2 ^ 32 → IsOrder workers a → IsOrder workers b → order_text a ≡ order_text b → a ≡ b
-one_order workers a b w is_a is_b e =
-    let small : a.worker < 2 ^ 64 = omega (arith, is_a.worker) in
-    let small' : b.worker < 2 ^ 64 = omega (arith, is_b.worker) in
-    let parts = one_cut 32 (decimal a.worker) (call_text a.call) (decimal b.worker) (call_text b.call)
-    (lacks_decimal 32 a.worker (lit< tt) small) (lacks_decimal 32 b.worker (lit< tt) small') e in
-    let worker = decimal_injective a.worker b.worker small small' parts.0 in
-    let call = one_call a.call b.call is_a.call is_b.call parts.1 in
-    ap (λ w. record a { worker = w }) worker ∙ ap (λ c. record b { call = c }) call

@@ -70,9 +70,13 @@ outcome_text lines.Full = codes "full"
 outcome_text (lines.Worn page) = codes "worn " ++ decimal page
 outcome_text (lines.Damaged page) = codes "damaged " ++ decimal page
 
+-- `WORKER NUMBER TOLD`, whatever is told
+abbrev pub told_line : ℕ → ℕ → List ℕ → List ℕ
+told_line worker number told = decimal worker ++ 32 ∷ decimal number ++ 32 ∷ told ++ 10 ∷ []
+
 -- `WORKER NUMBER REPLY`
 abbrev pub reply_line : ℕ → ℕ → Line → List ℕ
-reply_line worker number line = decimal worker ++ 32 ∷ decimal number ++ 32 ∷ outcome_text line ++ 10 ∷ []
+reply_line worker number line = told_line worker number (outcome_text line)
 
 -- `row K V`
 abbrev pub row_line : ℕ × ℕ → List ℕ

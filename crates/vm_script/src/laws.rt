@@ -11,13 +11,13 @@ ghost use Rattle.vm_script.specs.Scripts.{IsFirstBad, IsScript, Spells};
 /// A script has one reading: its bytes spell one list of orders, and so one list of calls for each
 /// worker, or they have one first bad line, and never both.
 pub fn one_reading()
-    ensures one_list { (workers : ℕ) (bytes : List ℕ) (a b : List Order) → workers < 2 ^ 32
+    ensures one_list { (workers : ℕ) (bytes : List ℕ) (a b : List (Order Call)) → workers < 2 ^ 32
         → Spells workers bytes a → Spells workers bytes b → a ≡ b }
     ensures one_script { (workers : ℕ) (bytes : List ℕ) (a b : List (List Call)) → workers < 2 ^ 32
         → IsScript workers bytes a → IsScript workers bytes b → a ≡ b }
     ensures one_bad_line { (workers : ℕ) (bytes : List ℕ) (m n : ℕ) → workers < 2 ^ 32
         → IsFirstBad workers bytes m → IsFirstBad workers bytes n → m ≡ n }
-    ensures not_both { (workers : ℕ) (bytes : List ℕ) (orders : List Order) (n : ℕ) → workers < 2 ^ 32
+    ensures not_both { (workers : ℕ) (bytes : List ℕ) (orders : List (Order Call)) (n : ℕ) → workers < 2 ^ 32
         → Spells workers bytes orders → IsFirstBad workers bytes n → ⊥ }
 {}
 

@@ -1,6 +1,7 @@
 //! Scripts of calls for workers, lists of events for the machine, and the text of what they answer.
 #![tactic(auto)]
 
+pub mod calls;
 pub mod event_line;
 mod event_words;
 pub mod events;

@@ -1,21 +1,47 @@
-// Reads scripts: lines `WORKER CALL`, single spaces, each line ended by a line feed.
-ghost use Rattle.std.specs.Prelude.{◌≡◌, ◌≤◌, All, IfOk, length, map, MatchOption};
-ghost use Rattle.vm_script.specs.Calls.{ReadsBound, ReadsCall, ReadsOrder, ReadsPair, ReadsRange, ReadsThree};
+//! Reads scripts: lines `WORKER CALL`, single spaces, each line ended by a line feed. How a call is written is a matter of its kind.
+
+ghost use Rattle.std.specs.Prelude.{[], ◌≡◌, ◌≤◌, All, IfOk, length, map, MatchOption};
+ghost use Rattle.vm_script.specs.Calls.{ReadsOrder};
 ghost use Rattle.vm_script.specs.Cuts.{IsCut, IsLine, Lacks};
 ghost use Rattle.vm_script.specs.declared.script.ScriptFault.TheVariants.{Memory};
-ghost use Rattle.vm_script.specs.Scripts.{calls_by as calls_in, lists_of as lists_in, most_lines, range_count as count_of, ReadsOrders, ReadsScript};
+ghost use Rattle.vm_script.specs.Orders.{lists_of, most_lines, ReadsScript as Reads};
+ghost use Rattle.vm_script.specs.Scripts.{ReadsScript};
 
+use crate::calls::WordCalls;
 use crate::number::number_of;
 use std::alloc::{AllocError, AllocFailed, Global};
 use thiserror::Error;
 use vm_map::call::Call;
-use vm_map::window::{Bound, MOST_PAIRS};
+
+/// A kind of calls, as a script's lines have them. It is no value: a type stands for it.
+pub trait CallSyntax {
+    type Call: Drop;
+
+    ghost use Rattle.std.specs.Prelude.{◌≡◌};
+    ghost use Rattle.vm_script.specs.EventWords.{ReadsAs};
+    ghost use Rattle.vm_script.specs.Orders.{Grammar, TellsCalls};
+
+    // Which calls a script may have, how each is written, and which are ranges.
+    ghost grammar: { Grammar Self.Call };
+
+    /// The call that the bytes spell. `None` exactly where they spell none.
+    fn call_of(bytes: &[u8]) -> Option<Self::Call>
+        ensures { ReadsAs grammar.is_call grammar.text bytes.now result };
+
+    /// Whether the call is a range, of which a script may have fewer than lines.
+    fn is_range(call: &Self::Call) -> bool
+        ensures { result ≡ grammar.is_range call.now };
+
+    /// A call is written on one line, and a text is that of one call.
+    fn texts_tell_calls()
+        ensures { TellsCalls grammar };
+}
 
 /// A line of a script: a call, and the worker that makes it.
-#[derive(Clone, Copy)]
-pub struct Order {
+#[derive(Drop)]
+pub struct Order<C> {
     pub worker: u32,
-    pub call: Call,
+    pub call: C,
 }
 
 /// Why a script was not read.
@@ -56,8 +82,8 @@ pub const MOST_LINES: u32 = 1_000_000;
 /// How many lines of a script may be ranges.
 pub const MOST_RANGES: u32 = 1_000;
 
-// The bytes before the first `at`, and those behind it.
-pub(crate) fn cut(bytes: &[u8], at: u8) -> Option<(&[u8], &[u8])>
+/// The bytes before the first `at`, and those behind it.
+pub fn cut(bytes: &[u8], at: u8) -> Option<(&[u8], &[u8])>
     ensures { MatchOption result (Lacks at bytes.now) (λ x. IsCut bytes.now at x.0.now x.1.now) }
 {
     for (i, byte) in bytes.iter().enumerate() {
@@ -66,129 +92,6 @@ pub(crate) fn cut(bytes: &[u8], at: u8) -> Option<(&[u8], &[u8])>
         }
     }
     None
-}
-
-// Two numbers with a space between them.
-fn pair_of(bytes: &[u8]) -> Option<(u64, u64)>
-    ensures { ReadsPair bytes.now result }
-{
-    let Some((key, value)) = cut(bytes, b' ') else {
-        return None;
-    };
-    let Some(key) = number_of(key) else {
-        return None;
-    };
-    let Some(value) = number_of(value) else {
-        return None;
-    };
-    Some((key, value))
-}
-
-// Three numbers with spaces between them.
-fn three_of(bytes: &[u8]) -> Option<(u64, u64, u64)>
-    ensures { ReadsThree bytes.now result }
-{
-    let Some((first, rest)) = cut(bytes, b' ') else {
-        return None;
-    };
-    let Some(first) = number_of(first) else {
-        return None;
-    };
-    let Some((second, third)) = pair_of(rest) else {
-        return None;
-    };
-    Some((first, second, third))
-}
-
-// A number, or `end`.
-fn bound_of(bytes: &[u8]) -> Option<Bound>
-    ensures { ReadsBound bytes.now result }
-{
-    if bytes == b"end".as_slice() {
-        return Some(Bound::End);
-    }
-    let key = number_of(bytes)?;
-    Some(Bound::Key(key))
-}
-
-// A number and a bound above it, with a space between them.
-fn range_of(bytes: &[u8]) -> Option<(u64, Bound)>
-    ensures { ReadsRange bytes.now result }
-{
-    let Some((low, bound)) = cut(bytes, b' ') else {
-        return None;
-    };
-    let Some(low) = number_of(low) else {
-        return None;
-    };
-    let Some(bound) = bound_of(bound) else {
-        return None;
-    };
-    if bound.is_above(low) {
-        Some((low, bound))
-    } else {
-        None
-    }
-}
-
-// The call that a line spells behind its worker.
-fn call_of(bytes: &[u8]) -> Option<Call>
-    ensures { ReadsCall bytes.now result }
-{
-    let (verb, rest) = cut(bytes, b' ')?;
-    if verb == b"get".as_slice() {
-        let key = number_of(rest)?;
-        return Some(Call::Get { key });
-    }
-    if verb == b"del".as_slice() {
-        let key = number_of(rest)?;
-        return Some(Call::Del { key });
-    }
-    if verb == b"put".as_slice() {
-        let (key, value) = pair_of(rest)?;
-        return Some(Call::Put { key, value });
-    }
-    if verb == b"swap".as_slice() {
-        let (key, want, value) = three_of(rest)?;
-        return Some(Call::Swap { key, want, value });
-    }
-    if verb == b"range".as_slice() {
-        let (low, bound) = range_of(rest)?;
-        return Some(Call::Range { low, bound });
-    }
-    if verb == b"scan".as_slice() {
-        let (start, most) = pair_of(rest)?;
-        if 1 <= most && most <= MOST_PAIRS as u64 {
-            return Some(Call::Window {
-                start,
-                most: most as u32,
-            });
-        }
-    }
-    None
-}
-
-// The order that a line spells.
-fn order_of(line: &[u8], workers: u32) -> Option<Order>
-    ensures { ReadsOrder workers line.now result }
-{
-    let Some((worker, rest)) = cut(line, b' ') else {
-        return None;
-    };
-    let Some(worker) = number_of(worker) else {
-        return None;
-    };
-    let Some(call) = call_of(rest) else {
-        return None;
-    };
-    if worker < u64::from(workers) {
-        Some(Order {
-            worker: worker as u32,
-            call,
-        })
-    } else {
-        None
-    }
 }
 
 // The first line, and what stands behind it.
@@ -201,28 +104,61 @@ pub(crate) fn line_of(bytes: &[u8]) -> (&[u8], &[u8])
     }
 }
 
-// One for a range, and nothing for another call.
-fn range_count(call: Call) -> u32
-    ensures { result ≡ count_of call }
+// The order that a line spells.
+fn order_of<K: CallSyntax>(line: &[u8], workers: u32) -> Option<Order<K::Call>>
+    ensures { ReadsOrder K.grammar workers line.now result }
 {
-    match call {
-        Call::Range { .. } => 1,
-        Call::Get { .. }
-        | Call::Put { .. }
-        | Call::Del { .. }
-        | Call::Window { .. }
-        | Call::Swap { .. } => 0,
+    let Some((worker, rest)) = cut(line, b' ') else {
+        return None;
+    };
+    let Some(worker) = number_of(worker) else {
+        return None;
+    };
+    let Some(call) = K::call_of(rest) else {
+        return None;
+    };
+    if worker < u64::from(workers) {
+        Some(Order {
+            worker: worker as u32,
+            call,
+        })
+    } else {
+        None
     }
 }
 
-// The orders that a script spells.
-fn read_orders(alloc: Global, bytes: &[u8], workers: u32) -> Result<Vec<Order>, ScriptFault>
-    ensures { ReadsOrders (λ v. v.items) workers bytes.now result }
+// A list for each worker, with no call yet.
+fn empty_lists<C: Drop>(alloc: Global, workers: u32) -> Result<Vec<Vec<C>>, AllocError>
+    ensures { IfOk result (λ v. map (λ calls. calls.items) v.items ≡ lists_of workers []) }
+{
+    let mut lists = Vec::new(alloc);
+    'workers: for _worker in 0..workers {
+        lists.push(Vec::new(alloc))?;
+    }
+    Ok(lists)
+}
+
+/// Reads a script of calls of a kind: the calls of each worker below `workers`, in the script's order. Each line is `WORKER CALL`; the last line
+/// feed may be missing, and no bytes are no lines.
+///
+/// # Errors
+/// `Long` exactly over `MOST_BYTES`. Else `Line` exactly where a line is refused, or is one too
+/// many or a range too many, with the first such. `Memory` where there is none.
+pub fn read_lists<K: CallSyntax>(
+    alloc: Global,
+    bytes: &[u8],
+    workers: u32,
+) -> Result<Vec<Vec<K::Call>>, ScriptFault>
+    ensures reading { Reads K.grammar (λ v. map (λ calls. calls.items) v.items) workers bytes.now result }
+    ensures count { IfOk result (λ v. length v.items ≡ workers) }
+    ensures few { IfOk result (λ v. All (λ calls. length calls.items ≤ most_lines) v.items) }
 {
     if bytes.len() > MOST_BYTES {
         return Err(ScriptFault::Long);
     }
-    let mut orders = Vec::new(alloc);
+    // Nothing is done, but where a line is no call none begins there, and the line of a call is that of one call.
+    K::texts_tell_calls();
+    let mut lists = empty_lists(alloc, workers)?;
     let mut rest = bytes;
     let mut number = 0;
     let mut ranges = 0;
@@ -232,53 +168,28 @@ fn read_orders(alloc: Global, bytes: &[u8], workers: u32) -> Result<Vec<Order>, 
             return Err(ScriptFault::Line(number));
         }
         let (line, behind) = line_of(rest);
-        let Some(order) = order_of(line, workers) else {
+        let Some(order) = order_of::<K>(line, workers) else {
             return Err(ScriptFault::Line(number));
         };
-        ranges += range_count(order.call);
+        ranges += u32::from(K::is_range(&order.call));
         if ranges > MOST_RANGES {
             return Err(ScriptFault::Line(number));
         }
-        orders.push(order)?;
+        lists[order.worker as usize].push(order.call)?;
         rest = behind;
-    }
-    Ok(orders)
-}
-
-// The calls of one worker, in order.
-fn calls_of(alloc: Global, orders: &[Order], worker: u32) -> Result<Vec<Call>, AllocError>
-    ensures { IfOk result (λ v. v.items ≡ calls_in worker orders.now) }
-{
-    orders
-        .iter()
-        .filter(|order| order.worker == worker)
-        .map(|order| order.call)
-        .collect(alloc)
-}
-
-fn lists_of(alloc: Global, orders: &[Order], workers: u32) -> Result<Vec<Vec<Call>>, AllocError>
-    ensures { IfOk result (λ v. map (λ calls. calls.items) v.items ≡ lists_in workers orders.now) }
-{
-    let mut lists = Vec::new(alloc);
-    'workers: for worker in 0..workers {
-        lists.push(calls_of(alloc, orders, worker)?)?;
     }
     Ok(lists)
 }
 
-/// Reads a script: the calls of each worker below `workers`, in the script's order. Each line is
-/// `WORKER CALL`, where the call is `get K`, `put K V`, `del K`, `swap K OLD NEW`, `scan K N` or `range A B` in canonical
-/// decimals below 2^64, N from 1 to 28, B above A or the word `end`; the last line feed may be missing, and no bytes are no
-/// lines.
+/// Reads a script of calls with word keys: `get K`, `put K V`, `del K`, `swap K OLD NEW`, `scan K N` or `range A B` in canonical decimals below
+/// 2^64, N from 1 to 28, B above A or the word `end`.
 ///
 /// # Errors
-/// `Long` exactly over `MOST_BYTES`. Else `Line` exactly where a line is refused, or is one too
-/// many or a range too many, with the first such. `Memory` where there is none.
+/// Those of `read_lists`.
 pub fn read_script(alloc: Global, bytes: &[u8], workers: u32) -> Result<Vec<Vec<Call>>, ScriptFault>
     ensures reading { ReadsScript (λ v. map (λ calls. calls.items) v.items) workers bytes.now result }
     ensures count { IfOk result (λ v. length v.items ≡ workers) }
     ensures few { IfOk result (λ v. All (λ calls. length calls.items ≤ most_lines) v.items) }
 {
-    let orders = read_orders(alloc, bytes, workers)?;
-    Ok(lists_of(alloc, orders.as_slice(), workers)?)
+    read_lists::<WordCalls>(alloc, bytes, workers)
 }

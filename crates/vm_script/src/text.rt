@@ -4,7 +4,7 @@ ghost use Rattle.std.specs.Prelude.{◌++◌, ◌≡◌, IfOk, if◌then◌else�
 ghost use Rattle.vm_map.specs.declared.call.Reply.TheVariants.{Gone, Got, Many, Swapped, Was, Wide, Win};
 ghost use Rattle.vm_script.specs.declared.text.Line.TheVariants as lines;
 ghost use Rattle.vm_script.specs.Texts.{answer_text, bound_text, churn_line, counters_line, made_line, migrated_line, outcome_text, range_text, reply_line};
-ghost use Rattle.vm_script.specs.Texts.{row_line, shown_text, tree_line, unflushed_line, window_text};
+ghost use Rattle.vm_script.specs.Texts.{row_line, shown_text, swap_text, told_line, tree_line, unflushed_line, value_text, window_text};
 
 use std::alloc::{AllocError, Global};
 use vm_map::call::{Call, Pair, Reply, Said, Swap};
@@ -69,15 +69,38 @@ fn range_text(alloc: Global, span: &Span) -> Result<String, AllocError>
     Ok(text)
 }
 
+/// A value behind its word, or the word for none.
+pub fn value_words(
+    alloc: Global,
+    word: &str,
+    none: &str,
+    value: Option<u64>,
+) -> Result<String, AllocError>
+    ensures { IfOk result (λ text. string_bytes text ≡ value_text word.now none.now value) }
+{
+    match value {
+        None => String::from_str(alloc, none),
+        Some(value) => format!(in alloc; "{word} {value}"),
+    }
+}
+
+/// What a swap did: `swapped`, `kept V` or `none`.
+pub fn swap_words(alloc: Global, outcome: Swap) -> Result<String, AllocError>
+    ensures { IfOk result (λ text. string_bytes text ≡ swap_text outcome) }
+{
+    match outcome {
+        Swap::Done => String::from_str(alloc, "swapped"),
+        Swap::Kept(value) => format!(in alloc; "kept {value}"),
+        Swap::Missing => String::from_str(alloc, "none"),
+    }
+}
+
 // The text of the value that was found for a get. A call of another kind has none, and so it is with each of these functions.
 fn got_answer(alloc: Global, call: &Call, found: Option<u64>) -> Result<String, AllocError>
     ensures { IfOk result (λ text. string_bytes text ≡ answer_text call.now (Got found)) }
 {
     match *call {
-        Call::Get { .. } => match found {
-            None => String::from_str(alloc, "none"),
-            Some(value) => format!(in alloc; "some {value}"),
-        },
+        Call::Get { .. } => value_words(alloc, "some", "none", found),
         Call::Put { .. }
         | Call::Del { .. }
         | Call::Window { .. }
@@ -91,10 +114,7 @@ fn was_answer(alloc: Global, call: &Call, old: Option<u64>) -> Result<String, Al
     ensures { IfOk result (λ text. string_bytes text ≡ answer_text call.now (Was old)) }
 {
     match *call {
-        Call::Put { .. } => match old {
-            None => String::from_str(alloc, "new"),
-            Some(value) => format!(in alloc; "was {value}"),
-        },
+        Call::Put { .. } => value_words(alloc, "was", "new", old),
         Call::Get { .. }
         | Call::Del { .. }
         | Call::Window { .. }
@@ -108,10 +128,7 @@ fn gone_answer(alloc: Global, call: &Call, old: Option<u64>) -> Result<String, A
     ensures { IfOk result (λ text. string_bytes text ≡ answer_text call.now (Gone old)) }
 {
     match *call {
-        Call::Del { .. } => match old {
-            None => String::from_str(alloc, "none"),
-            Some(value) => format!(in alloc; "gone {value}"),
-        },
+        Call::Del { .. } => value_words(alloc, "gone", "none", old),
         Call::Get { .. }
         | Call::Put { .. }
         | Call::Window { .. }
@@ -139,11 +156,7 @@ fn swap_answer(alloc: Global, call: &Call, outcome: Swap) -> Result<String, Allo
     ensures { IfOk result (λ text. string_bytes text ≡ answer_text call.now (Swapped outcome)) }
 {
     match *call {
-        Call::Swap { .. } => match outcome {
-            Swap::Done => String::from_str(alloc, "swapped"),
-            Swap::Kept(value) => format!(in alloc; "kept {value}"),
-            Swap::Missing => String::from_str(alloc, "none"),
-        },
+        Call::Swap { .. } => swap_words(alloc, outcome),
         Call::Get { .. }
         | Call::Put { .. }
         | Call::Del { .. }
@@ -208,6 +221,24 @@ fn outcome(alloc: Global, line: &Line) -> Result<String, AllocError>
     }
 }
 
+/// Appends the line `WORKER NUMBER TOLD` of a worker's call, whatever is told of it.
+///
+/// # Errors
+///
+/// `AllocError` where memory was refused; `out` is then as before.
+pub fn told_text(
+    alloc: Global,
+    worker: u32,
+    number: u32,
+    told: &str,
+    out: &mut Vec<u8>,
+) -> Result<(), AllocError>
+    ensures { out.new.items ≡ (if is_ok result then out.old.items ++ told_line worker number told.now else out.old.items) }
+{
+    let line = format!(in alloc; "{worker} {number} {told}\n")?;
+    out.extend_from_slice(line.as_bytes())
+}
+
 /// Appends the line `WORKER NUMBER REPLY` of a worker's call: `some V` or `none` to a get, `new` or `was V` to a put,
 /// `gone V` or `none` to a del, `swapped`, `kept V` or `none` to a swap, `window K B` with ` k=v` for each pair to a window from K on, B being the key of its bound or
 /// `end`, `range COUNT` with ` k=v` for each pair, or `wide R`, to a range; and `fault P`, `full`, `worn P` or `damaged P` where there is no reply. A reply that is not of its call's
@@ -226,8 +257,7 @@ pub fn reply_text(
     ensures { out.new.items ≡ (if is_ok result then out.old.items ++ reply_line worker number line.now else out.old.items) }
 {
     let told = outcome(alloc, line)?;
-    let line = format!(in alloc; "{worker} {number} {told}\n")?;
-    out.extend_from_slice(line.as_bytes())
+    told_text(alloc, worker, number, &told, out)
 }
 
 /// Appends the line of a call that was answered, as `reply_text` does.
@@ -246,8 +276,7 @@ pub fn said_text(
     ensures { out.new.items ≡ (if is_ok result then out.old.items ++ reply_line worker number (lines.Said (record { call = call.now; reply = reply.now })) else out.old.items) }
 {
     let told = answer(alloc, call, reply)?;
-    let line = format!(in alloc; "{worker} {number} {told}\n")?;
-    out.extend_from_slice(line.as_bytes())
+    told_text(alloc, worker, number, &told, out)
 }
 
 /// Appends the line of a call that was answered by a window, as `reply_text` does.
@@ -266,8 +295,7 @@ pub fn shown_text(
     ensures { out.new.items ≡ (if is_ok result then out.old.items ++ reply_line worker number (lines.Said (record { call = call.now; reply = Win window.now })) else out.old.items) }
 {
     let told = window_answer(alloc, call, window)?;
-    let line = format!(in alloc; "{worker} {number} {told}\n")?;
-    out.extend_from_slice(line.as_bytes())
+    told_text(alloc, worker, number, &told, out)
 }
 
 /// Appends the line of a call that was answered by all pairs of a range, as `reply_text` does.
@@ -286,8 +314,7 @@ pub fn gathered_text(
     ensures { out.new.items ≡ (if is_ok result then out.old.items ++ reply_line worker number (lines.Said (record { call = call.now; reply = Many span.now })) else out.old.items) }
 {
     let told = range_answer(alloc, call, span)?;
-    let line = format!(in alloc; "{worker} {number} {told}\n")?;
-    out.extend_from_slice(line.as_bytes())
+    told_text(alloc, worker, number, &told, out)
 }
 
 /// Appends the line `row K V` of a pair.

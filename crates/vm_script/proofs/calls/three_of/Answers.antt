@@ -1,6 +1,6 @@
 use Rattle.std.specs.Fmt.{decimal}
 use Rattle.std.proofs.Common.{◌++◌, ◌∷◌, lit<}
-use Rattle.vm_script.proofs.script.three_of.Goals as goal
+use Rattle.vm_script.proofs.calls.three_of.Goals as goal
 use Rattle.vm_script.proofs.Words.{cut_here, lacks_decimal, no_cut}
 
 pub returns-in_default : goal.returns-in_default

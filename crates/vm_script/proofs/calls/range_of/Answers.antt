@@ -3,7 +3,7 @@ use Rattle.std.proofs.Common.{◌∙◌, ◌≡◌, arith, lit<, sym}
 use Rattle.std.proofs.lemmas.Fmt.{decimal_injective}
 use Rattle.vm_script.specs.Texts.{bound_text}
 use Rattle.vm_script.proofs.Bounds.{low_key, one_bound}
-use Rattle.vm_script.proofs.script.range_of.Goals as goal
+use Rattle.vm_script.proofs.calls.range_of.Goals as goal
 use Rattle.vm_script.proofs.Words.{cut_here, lacks_decimal, no_cut}
 
 pub returns-in_default : goal.returns-in_default

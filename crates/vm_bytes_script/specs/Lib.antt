@@ -1,0 +1,3 @@
+pub mod KeyScripts
+pub mod Readings
+pub mod KeyReplies
