@@ -76,7 +76,7 @@ length_filter p (x ∷ xs) = let h = length_filter p xs in
       | false ↦ omega arith
     ]
 
-few_calls : (worker : ℕ) (orders : List Order) → length orders ≤ most_lines → length (calls_by worker orders) ≤ most_lines
+few_calls : (worker : ℕ) (orders : List (Order Call)) → length orders ≤ most_lines → length (calls_by worker orders) ≤ most_lines
 few_calls worker orders few =
     omega (
       arith,
@@ -88,7 +88,7 @@ few_append : {X : Type 0} (xs : List (List X)) (x : List X) → AreFew xs → le
 few_append [] x few h = (h, tt)
 few_append (y ∷ xs) x few h = (few.0, few_append xs x few.1 h)
 
-few_lists : (workers : ℕ) (orders : List Order) → length orders ≤ most_lines → AreFew (lists_of workers orders)
+few_lists : (workers : ℕ) (orders : List (Order Call)) → length orders ≤ most_lines → AreFew (lists_of workers orders)
 few_lists zero orders few = tt
 few_lists (suc workers) orders few = few_append (lists_of workers orders) (calls_by workers orders)
     (few_lists workers orders few) (few_calls workers orders few)
@@ -105,14 +105,14 @@ askable_call (Window start most) is = is.1
 askable_call (Swap key want value) is = tt
 askable_call (Range low bound) is = is.0
 
-askable_calls : (workers worker : ℕ) (orders : List Order) → AllByRecursion (IsOrder workers) orders
+askable_calls : (workers worker : ℕ) (orders : List (Order Call)) → AllByRecursion (IsOrder workers) orders
     → AllByRecursion IsAskable (calls_by worker orders)
 askable_calls workers worker [] each = tt
 askable_calls workers worker (order ∷ orders) each =
     let others = askable_calls workers worker orders each.1 in
     elim (order.worker == worker) as (λ b.
     AllByRecursion IsAskable
-    (map (λ (o : Order). o.call)
+    (map (λ (o : Order Call). o.call)
     (cond b (order ∷ filter (λ o. o.worker == worker) orders) (filter (λ o. o.worker == worker) orders)))) [
       | true ↦ (askable_call order.call each.0.call, others)
       | false ↦ others
@@ -122,7 +122,7 @@ askable_append : (xs : List (List Call)) (x : List Call) → AreAskable xs → A
 askable_append [] x all h = (h, tt)
 askable_append (y ∷ xs) x all h = (all.0, askable_append xs x all.1 h)
 
-askable_lists : (workers below : ℕ) (orders : List Order) → AllByRecursion (IsOrder workers) orders → AreAskable (lists_of below orders)
+askable_lists : (workers below : ℕ) (orders : List (Order Call)) → AllByRecursion (IsOrder workers) orders → AreAskable (lists_of below orders)
 askable_lists workers zero orders each = tt
 askable_lists workers (suc below) orders each = askable_append (lists_of below orders) (calls_by below orders)
     (askable_lists workers below orders each) (askable_calls workers below orders each)
