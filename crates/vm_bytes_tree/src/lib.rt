@@ -8,8 +8,9 @@ mod keys;
 mod windows;
 
 pub use keys::{BytesKeys, BytesTree};
-pub use vm_tree_retry::tree_read::{TryRead, get, show_window, try_get};
-pub use vm_tree_retry::tree_rule::TreeFault;
-pub use vm_tree_retry::tree_write::{TrySplit, TryWrite, try_put, try_split, try_swap};
-pub use vm_tree_retry::{put, swap};
+pub use vm_tree_del::tree_read::{TryRead, get, show_window, try_get};
+pub use vm_tree_del::tree_retry::{put, swap};
+pub use vm_tree_del::tree_rule::TreeFault;
+pub use vm_tree_del::tree_write::{TrySplit, TryWrite, try_put, try_split, try_swap};
+pub use vm_tree_del::{del, try_del};
 pub use windows::window;

@@ -5,7 +5,7 @@ ghost use Rattle.vm_bytes_form.specs.Bytes.{bytes};
 ghost use Rattle.vm_bytes_form.specs.Strings.{rank};
 ghost use Rattle.vm_bytes_laws.specs.Plain.{plain_reply, plain_said};
 ghost use Rattle.vm_step.specs.Prelude.{AreHeld, GoesOn, IsReadyOn, view};
-ghost use Rattle.vm_tree_retry.specs.from_vm_tree_read.Waiting.{IsFaulted, IsReplied, LosesNone};
+ghost use Rattle.vm_tree_del.specs.from_vm_tree_read.Waiting.{IsFaulted, IsReplied, LosesNone};
 
 use crate::keys::BytesTree;
 use std::sync::Wait;
@@ -15,8 +15,8 @@ use vm_exmap::Interface;
 use vm_guard::rule::Pass;
 use vm_map::key::Key;
 use vm_pool::Pool;
-use vm_tree_retry::tree_read::window_said;
-use vm_tree_retry::tree_rule::TreeFault;
+use vm_tree_del::tree_read::window_said;
+use vm_tree_del::tree_rule::TreeFault;
 
 /// The first pairs from the key `start` on, at most `most` (1 or more) of them and at most those of one leaf.
 pub fn window<R: Wait, B: PageBlock<512>>(

@@ -8,7 +8,7 @@ use std::test::Fail;
 use vm_block::{Block, MemBlock};
 use vm_bytes_file::empty_image;
 use vm_bytes_laws::call::KeyReply;
-use vm_bytes_tree::{BytesTree, TreeFault, get, put, swap, window};
+use vm_bytes_tree::{BytesTree, TreeFault, del, get, put, swap, window};
 use vm_exmap::Interface;
 use vm_image::blocks_of;
 use vm_map::call::Reply;
@@ -80,6 +80,25 @@ pub fn put_at<R: Wait>(
     ensures held { AreHeld iface.new.frames (view pass.new) }
 {
     put(rt, pool, pass, iface, &key(bytes), value)
+}
+
+/// `del`.
+pub fn del_at<R: Wait>(
+    rt: &R,
+    pool: &Pool<BytesTree, MemBlock<512>, 512>,
+    pass: &mut Pass<BytesTree>,
+    iface: &mut Interface,
+    bytes: &[u8],
+) -> Result<Reply, TreeFault>
+    requires pages { 1 ≤ pool.now.words.table.shared.key.pages }
+    requires ready { IsReadyOn pool.now.words ⟦<MemBlock<512> as Block>⟧.tells pass.old }
+    requires home { (view pass.old).out ≡ None }
+    requires held { AreHeld iface.old.frames (view pass.old) }
+    ensures ready { IsReadyOn pool.now.words ⟦<MemBlock<512> as Block>⟧.tells pass.new }
+    ensures home { (view pass.new).out ≡ None }
+    ensures held { AreHeld iface.new.frames (view pass.new) }
+{
+    del(rt, pool, pass, iface, &key(bytes))
 }
 
 /// `swap`.

@@ -6,7 +6,7 @@ use Rattle.vm_map.specs.declared.call.Call.TheVariants.{Window as ForWindow}
 use Rattle.vm_bytes_form.specs.{Bytes.bytes, Strings.rank}
 use Rattle.vm_bytes_laws.specs.Plain.{plain_said}
 use Rattle.vm_step.specs.Prelude.{view}
-use Rattle.vm_tree_retry.specs.from_vm_tree_read.Waiting.{IsReplied}
+use Rattle.vm_tree_del.specs.from_vm_tree_read.Waiting.{IsReplied}
 use Rattle.vm_bytes_tree.proofs.windows.window.Goals as goal
 
 pub returns-in-Ok-clause-ok : goal.returns-in-Ok-clause-ok

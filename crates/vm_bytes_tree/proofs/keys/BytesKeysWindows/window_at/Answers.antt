@@ -1,8 +1,7 @@
 -- What the window shows of strings it shows of ranks.
-use Rattle.std.proofs.Common.{◌≡◌, ap, arith, List, ℕ}
+use Rattle.std.proofs.Common.{ap, arith, List, ℕ}
 use Rattle.vm_map.specs.declared.call.Call.TheVariants.{Window as ForWindow}
 use Rattle.vm_map.specs.declared.call.Reply.TheVariants.{Win}
-use Rattle.vm_map.specs.declared.call.Said.{Said}
 use Rattle.vm_node.proofs.Telling.{told_so}
 use Rattle.vm_bytes_form.specs.Strings.{rank}
 use Rattle.vm_bytes_laws.specs.Plain.{plain_window}

@@ -1,0 +1,2 @@
+pub mod Dels
+pub mod from_vm_tree_read
