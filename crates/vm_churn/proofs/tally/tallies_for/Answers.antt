@@ -1,6 +1,6 @@
 use Rattle.std.proofs.Common.{[], ◌++◌, ◌+◌, ◌<◌, ◌∙◌, ◌∷◌, ◌≡◌, ap, length, refl, sym, take}
 use Rattle.std.proofs.lemmas.List.{map-append, take_more}
-use Rattle.vm_drive.specs.Drives.{items_of}
+use Rattle.vm_drive.specs.{Drives.items_of, Rooms.RoomFor}
 use Rattle.vm_drive.proofs.Crews.{room-snoc}
 use Rattle.vm_churn.specs.{declared.tally.Tally.Tally, Tallies.StandsFor, Tallies.tally_room}
 use Rattle.vm_churn.proofs.Counting.{few_at, few_room}
