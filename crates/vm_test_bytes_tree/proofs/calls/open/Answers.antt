@@ -1,4 +1,4 @@
-use Rattle.std.proofs.Common.{refl, rules}
+use Rattle.std.proofs.Common.{rules}
 use Rattle.vm_bytes_form.specs.Bytes.{bytes}
 use Rattle.vm_bytes_form.proofs.BytesLaws.{bytes_is_layout}
 use Rattle.vm_bytes_laws.specs.Plain.{plain_said}
