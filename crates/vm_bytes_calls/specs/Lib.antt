@@ -1,0 +1,2 @@
+pub mod KeyCalls
+pub mod KeyAnswers
