@@ -13,7 +13,7 @@ use Rattle.vm_tree_range.specs.from_vm_tree_read.Waiting.{Waits}
 use Rattle.vm_tree_retry.specs.from_vm_tree_split.Splits.{KeepsLocksOnly}
 use Rattle.vm_tree_retry.specs.from_vm_tree_round.Rounds.{IsPutRound, IsWriteRound}
 use Rattle.vm_tree_retry.specs.Prelude.{HasKeyIn, HasValueIn}
-use Rattle.vm_calling.specs.{Called.AreCalls, Called.IsCalled, Calls.KeepsPass}
+use Rattle.vm_calls.specs.{Called.AreCalls, Called.IsCalled, Keeps.KeepsPass}
 use Rattle.vm_calls.proofs.{Damage.damaged-untold, Keeping.all-pass, Keeping.waits-pass, Showing.of-leaf-more}
 use Rattle.vm_calls.proofs.Telling.{answered-leaf, put-faulted, read-entered, read-faulted, read-replied, write-entered, write-faulted, write-replied}
 use Rattle.vm_bytes_calls.specs.KeyCalls.{IsKeyCall, IsKeyShown, key_calls, key_said}

@@ -18,7 +18,7 @@ use Rattle.vm_tree_retry.specs.from_vm_tree_split.Splits.{KeepsLocksOnly}
 use Rattle.vm_tree_retry.specs.from_vm_tree_round.Rounds.{IsPutRound, IsWriteRound}
 use Rattle.vm_tree_retry.specs.Waiting.{IsPutFaulted, IsWriteFaulted, IsWriteReplied}
 use Rattle.vm_tree_retry.specs.Prelude.{HasKeyIn, HasValueIn}
-use Rattle.vm_calling.specs.Calling.{Calling}
+use Rattle.vm_calls.specs.Calling.{Calling}
 use Rattle.vm_calls.specs.Shows.{IsOfLeaf}
 
 -- a call with its reply, read with the rank of each key

@@ -3,7 +3,7 @@ use Rattle.std.specs.Prelude.{◌≡◌, IfSome, Option, Result, Some, ℕ}
 use Rattle.std.specs.Arc.{arc_value}
 use Rattle.vm_map.specs.declared.call.{Call.Call, Reply.Reply}
 use Rattle.vm_step.specs.Prelude.{view}
-use Rattle.vm_face.specs.from_vm_calling.Calls.{KeepsPass}
+use Rattle.vm_face.specs.from_vm_calls.Keeps.{KeepsPass}
 use Rattle.vm_face.specs.from_vm_tree_rule.declared_fault_TreeFault.{TreeFault}
 use Rattle.vm_face.specs.Calls.{IsHandCall}
 use Rattle.vm_c.specs.{Answers.answer_for, declared.answers.CallTold.CallTold, declared.opened.OpenHand.OpenHand}

@@ -17,8 +17,8 @@ use Rattle.vm_tree_retry.specs.from_vm_tree_round.Rounds.{IsDamagedForDel, IsDel
 use Rattle.vm_tree_retry.specs.Waiting.{IsDelReplied, IsPutFaulted, IsWriteFaulted, IsWriteReplied}
 use Rattle.vm_tree_retry.specs.Prelude.{HasKeyIn, IsDelAlone, HasValueIn, IsVain}
 use Rattle.vm_tree_range.specs.from_vm_kind.WordRoom.{spare_in}
-use Rattle.vm_calling.specs.{Called.AreCalls, Called.IsCalled, Calls.KeepsPass, Causes.IsUntold}
-use Rattle.vm_calling.proofs.Doing.{keeps-then}
+use Rattle.vm_calls.specs.{Called.AreCalls, Called.IsCalled, Keeps.KeepsPass, Causes.IsUntold}
+use Rattle.vm_calls.proofs.Doing.{keeps-then}
 use Rattle.vm_calls.specs.{Calls.as_said, Shows.IsReplyShown, TreeCalls.IsTreeCall, TreeCalls.word_calls}
 use Rattle.vm_calls.proofs.Keeping.{all-pass, merge-pass, reads-pass, waits-pass, writes-pass}
 use Rattle.vm_calls.proofs.Damage.{beside-untold, damaged-untold}

@@ -10,8 +10,8 @@ use Rattle.vm_tree_range.specs.from_vm_pool.declared_bring_Bring_TheVariants as 
 use Rattle.vm_tree_range.proofs.from_vm_pool.Keeping.{alloc-keeps, framed-keeps}
 use Rattle.vm_tree_range.specs.from_vm_tree_rule.declared_fault_TreeFault.{TreeFault}
 use Rattle.vm_tree_range.specs.from_vm_tree_read.Waiting.{IsBringFault, IsBringFault as fault_for}
-use Rattle.vm_calling.specs.{Called.HasFoundWorn, Called.HasNoted, Called.IsCalled, Calling.Calling, Calls.KeepsPass}
-use Rattle.vm_calling.proofs.Tracing.{given-more, max-later}
+use Rattle.vm_calls.specs.{Called.HasFoundWorn, Called.HasNoted, Called.IsCalled, Calling.Calling, Keeps.KeepsPass}
+use Rattle.vm_calls.proofs.Tracing.{given-more, max-later}
 use Rattle.vm_calls.proofs.Sweeping.{swept-noted, swept-worn}
 use Rattle.vm_calls.proofs.Finding.{found-worn, noted-after, noted-before}
 

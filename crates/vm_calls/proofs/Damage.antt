@@ -9,8 +9,8 @@ use Rattle.vm_tree_range.specs.declared.hold.TryRange.TheVariants as ranges
 use Rattle.vm_tree_range.specs.Ranges.{HoldsSilently, IsRangeStopped}
 use Rattle.vm_tree_range.proofs.RangeRounds.{damaged-stopped}
 use Rattle.vm_tree_retry.specs.Prelude.{IsDamagedBeside}
-use Rattle.vm_calling.specs.Causes.{IsUntold}
-use Rattle.vm_calling.proofs.Tracing.{untold-later}
+use Rattle.vm_calls.specs.Causes.{IsUntold}
+use Rattle.vm_calls.proofs.Tracing.{untold-later}
 
 module _ {X : Type 0} (L : Layout) where
   opened-inside : (p word frame : ℕ) (v x : View X) → IsOpened v p word frame x → p < v.start.pages

@@ -7,7 +7,7 @@ use Rattle.vm_rule.specs.declared.view.WordPlace.TheVariants as places
 use Rattle.vm_step.specs.Prelude.{Did, HasGiven, Note, Origin, View}
 use Rattle.vm_tree_range.specs.from_vm_guard.declared_deny_Deny_TheVariants as denies
 use Rattle.vm_tree_range.specs.from_vm_guard.Denied.{AgainOrWorn, IsDenied}
-use Rattle.vm_calling.specs.Called.{HasFoundWorn, HasNoted}
+use Rattle.vm_calls.specs.Called.{HasFoundWorn, HasNoted}
 
 module _ {X : Type 0} where
   -- the steps of a call are among those of its pass

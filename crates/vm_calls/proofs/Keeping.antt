@@ -9,7 +9,7 @@ use Rattle.vm_tree_range.specs.Ranges.{HoldsOn}
 use Rattle.vm_tree_retry.specs.from_vm_tree_split.{Splits.KeepsLocksOnly}
 use Rattle.vm_tree_retry.specs.from_vm_tree_join.Made.{HoldsAll}
 use Rattle.vm_tree_retry.specs.Prelude.{OnlyWrites}
-use Rattle.vm_calling.specs.Calls.{KeepsPass}
+use Rattle.vm_calls.specs.Keeps.{KeepsPass}
 
 pub same-front : {A : Type 0} (l m : List A) → l ≡ m → StartsWith l m
 same-front l m e = ([], e ∙ sym (append-none m))

@@ -1,4 +1,10 @@
+pub mod Lists
 pub mod Memory
+pub mod Shown
+pub mod Tracing
+pub mod Doing
+pub mod Framing
+pub mod Chain
 pub mod Damage
 pub mod Showing
 pub mod Keeping

@@ -25,8 +25,8 @@ use Rattle.vm_tree_retry.specs.from_vm_tree_split.declared_tries_TrySplit_TheVar
 use Rattle.vm_tree_range.proofs.from_vm_tree_rule.Readings.{each-behind}
 use Rattle.vm_tree_retry.proofs.from_vm_tree_split.{Roomy.roomy-start, Seeing.sees-few, Seeing.sees-room}
 use Rattle.vm_map.specs.declared.call.Said.{Said}
-use Rattle.vm_calling.specs.{Called.HasFoundNext, Called.HasFoundWorn, Called.IsCalled, Calling.Calling, Calls.KeepsPass}
-use Rattle.vm_calling.proofs.{Doing.keeps-then, Lists.starts-then, Tracing.given-more, Tracing.max-later}
+use Rattle.vm_calls.specs.{Called.HasFoundNext, Called.HasFoundWorn, Called.IsCalled, Calling.Calling, Keeps.KeepsPass}
+use Rattle.vm_calls.proofs.{Doing.keeps-then, Lists.starts-then, Tracing.given-more, Tracing.max-later}
 use Rattle.vm_calls.proofs.{Bringing.fault-called, Damage.damaged-untold, Keeping.all-pass, Keeping.reads-pass}
 use Rattle.vm_calls.proofs.Sweeping.{swept-noted, swept-worn}
 use Rattle.vm_calls.proofs.Finding.{denied-worn, found-worn, given-in, noted-before}

@@ -7,7 +7,7 @@ use Rattle.vm_event.specs.Prelude.{page_at}
 use Rattle.vm_rule.specs.Prelude.{began_of, last_in, StartsWith}
 use Rattle.vm_step.specs.Prelude.{Origin, View}
 use Rattle.vm_tree_laws.specs.Plain.{KeepsPlain}
-use Rattle.vm_calling.proofs.Lists.{starts-then}
+use Rattle.vm_calls.proofs.Lists.{starts-then}
 use Rattle.vm_calls.specs.{Calls.as_said, Shows.IsOfLeaf, Shows.IsOfLeaves, Shows.IsReplyShown}
 
 module _ {S : Type 0} (plain : S → Said) (L : Layout) where

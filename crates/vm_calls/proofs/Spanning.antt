@@ -10,8 +10,8 @@ use Rattle.vm_tree_range.specs.Ranges.{IsRangeDone, IsRangeFault, IsRangeFault a
 use Rattle.vm_tree_range.specs.from_vm_tree_read.Waiting.{Waits}
 use Rattle.vm_tree_range.proofs.RangeRounds.{needed-inside}
 use Rattle.vm_tree_laws.specs.{May.IsProvedByAll, Plain.KeepsPlain}
-use Rattle.vm_calling.specs.{Called.IsCalled, Calls.KeepsPass}
-use Rattle.vm_calling.proofs.Doing.{keeps-then}
+use Rattle.vm_calls.specs.{Called.IsCalled, Keeps.KeepsPass}
+use Rattle.vm_calls.proofs.Doing.{keeps-then}
 use Rattle.vm_calls.specs.{Calls.as_said, Shows.IsReplyShown, TreeCalls.word_calls}
 use Rattle.vm_calls.proofs.{Bringing.fault-called, Damage.range-untold}
 use Rattle.vm_calls.proofs.Keeping.{on-pass, waits-pass}

@@ -10,8 +10,8 @@ use Rattle.vm_tree_range.specs.from_vm_clock.Clock.{Visits, Visits as visits, Vi
 use Rattle.vm_tree_range.specs.from_vm_evict.{declared_report_Report.Report, Evictions.first_of}
 use Rattle.vm_tree_range.specs.from_vm_pool.Sweeps.{IsSwept}
 use Rattle.vm_tree_range.proofs.from_vm_pool.Keeping.{swept-keeps}
-use Rattle.vm_calling.specs.Called.{HasFoundWorn, HasNoted}
-use Rattle.vm_calling.proofs.Tracing.{given-more}
+use Rattle.vm_calls.specs.Called.{HasFoundWorn, HasNoted}
+use Rattle.vm_calls.proofs.Tracing.{given-more}
 use Rattle.vm_calls.proofs.Finding.{given-in}
 
 -- a walk of the clock met this page of so many, and found it at the last version

@@ -14,8 +14,8 @@ use Rattle.vm_tree_range.specs.from_vm_tree_read.Waiting.{IsReadFault as read_fa
 use Rattle.vm_tree_retry.specs.from_vm_tree_round.Rounds.{IsPutFault, IsPutFault as put_fault, IsWriteFault, IsWriteFault as write_fault}
 use Rattle.vm_tree_retry.specs.Waiting.{IsPutFaulted, IsWriteFaulted, IsWriteReplied}
 use Rattle.vm_tree_retry.specs.Prelude.{IsVain, IsWornLeaf, IsWriteDone}
-use Rattle.vm_calling.specs.{Called.HasEntered, Called.HasFoundWorn, Called.IsCalled, Calling.Calling, Calls.KeepsPass, Causes.IsUntold}
-use Rattle.vm_calling.proofs.Doing.{keeps-then}
+use Rattle.vm_calls.specs.{Called.HasEntered, Called.HasFoundWorn, Called.IsCalled, Calling.Calling, Keeps.KeepsPass, Causes.IsUntold}
+use Rattle.vm_calls.proofs.Doing.{keeps-then}
 use Rattle.vm_calls.specs.Shows.{IsOfLeaf}
 use Rattle.vm_calls.proofs.Keeping.{all-pass, reads-pass, same-front, waits-pass, writes-pass}
 use Rattle.vm_calls.proofs.{Bringing.fault-called, Damage.damaged-untold, Finding.denied-worn, Rooms.room-called}

@@ -1,10 +1,15 @@
+pub mod Called
+pub mod Calling
 pub mod Calls
+pub mod Causes
 pub mod Compact
+pub mod Keeps
 pub mod Kept
 pub mod Prelude
 pub mod Shows
 pub mod Spans
 pub mod TreeCalls
+pub mod Workers
 pub mod from_vm_evict
 pub mod from_vm_kind
 pub mod from_vm_pool

@@ -5,7 +5,7 @@ use Rattle.vm_map.specs.{declared.call.Call.Call, declared.call.Reply.Reply, dec
 use Rattle.vm_map.specs.declared.call.Call.TheVariants.{Del, Get, Put, Range, Swap, Window}
 use Rattle.vm_tree_model.specs.{Fixed.fixed, Tree.map_of}
 use Rattle.vm_tree_laws.specs.History.{IsLegal}
-use Rattle.vm_calling.specs.Calling.{Calling}
+use Rattle.vm_calls.specs.Calling.{Calling}
 use Rattle.vm_calls.specs.{Calls.as_said, Calls.IsPutCall, Calls.word_said, Shows.IsReplyShown}
 use Rattle.vm_tree_range.specs.from_vm_kind.WordRoom.{spare_in}
 use Rattle.vm_step.specs.Prelude.{View}

@@ -1,10 +1,11 @@
-//! One worker's calls of the tree with words as keys, one after another, and the answers in little memory.
+//! A worker and its calls, one after another: what is said of a kind of calls, and those of the tree with words as keys, with their answers in little memory.
 #![tactic(auto)]
 
 pub mod answers;
 pub mod compact;
 pub mod evict;
 pub mod exmap;
+pub mod gate;
 pub mod kind;
 pub mod pool;
 pub mod spans;

@@ -1,4 +1,4 @@
-//! A worker's calls of the tree with words as keys.
+//! A worker: its pass, its interface, what keeps its answers, and the memory for its calls; and its calls of the tree with words as keys.
 
 ghost use Rattle.std.specs.List.{AllByRecursion};
 ghost use Rattle.std.specs.Prelude.{[], ◌+◌, ◌∷◌, ◌≡◌, ◌≤◌, length, None};
@@ -7,16 +7,16 @@ ghost use Rattle.vm_rule.specs.Prelude.{Each, HoldsNoPage};
 ghost use Rattle.vm_step.specs.Prelude.{AreHeld, IsReadyOn, view};
 ghost use Rattle.vm_tree_range.specs.from_vm_tree_read.Waiting.{LosesNone};
 ghost use Rattle.vm_calls.specs.Spans.{HasSpans, IsEmptySpan, ranges_asked};
-ghost use Rattle.vm_calling.specs.{Calls.KeepsPass, Workers.HasCalled, Workers.HasKept, Workers.IsAtWork};
+ghost use Rattle.vm_calls.specs.{Keeps.KeepsPass, Workers.HasCalled, Workers.HasKept, Workers.IsAtWork};
 ghost use Rattle.vm_calls.specs.{Kept.IsRoomFor, TreeCalls.IsTreeCall, TreeCalls.word_calls};
 
 use crate::answers::{Answer, Answers};
+use crate::gate::Gate;
 use std::sync::Wait;
 use vm_block::PageBlock;
-use vm_calling::gate::Gate;
-use vm_calling::worker::Worker;
 use vm_map::call::Call;
 use vm_map::span::Span;
+use vm_owner::Owner;
 use vm_rule::words::Pass;
 use vm_tree_range::exmap::Interface;
 use vm_tree_range::kind::{OfSize, TreeOf, WordKeys};
@@ -24,6 +24,16 @@ use vm_tree_range::pool::Pool;
 use vm_tree_range::range;
 use vm_tree_range::tree_read::{get, window};
 use vm_tree_retry::{del, put, swap};
+
+/// A worker's own things.
+#[derive(Drop)]
+pub struct Worker<U: Owner, A, M> {
+    pub pass: Pass<U>,
+    pub iface: Interface,
+    pub answers: A,
+    /// What those of its calls that are not made yet need beside, taken before the first of them.
+    pub memory: M,
+}
 
 // Makes one call. A range takes one of the spans.
 fn answer<S: OfSize<N>, R: Wait, B: PageBlock<N>, const N: usize>(

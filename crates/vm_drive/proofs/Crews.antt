@@ -4,11 +4,11 @@ use Rattle.std.proofs.Common.{[], ◌++◌, ◌<◌, ◌∷◌, ◌≡◌, ap, a
 use Rattle.std.proofs.Common.{subst, suc, sym, take, Vec, zero, ℕ}
 use Rattle.vm_rule.specs.Prelude.{TableId}
 use Rattle.vm_step.specs.Prelude.{TableShape}
-use Rattle.vm_calling.specs.from_vm_tree_rule.declared_fault_TreeFault.{TreeFault}
+use Rattle.vm_calls.specs.from_vm_tree_rule.declared_fault_TreeFault.{TreeFault}
 use Rattle.std.specs.List.{AllByRecursion}
 use Rattle.vm_map.specs.declared.call.Reply.{Reply}
 use Rattle.vm_calls.specs.{Compact.all_replies, Compact.HasContents, Compact.KeepsAnswers, declared.compact.Replies.Replies}
-use Rattle.vm_calling.specs.{Calling.Calling, declared.worker.Worker.Worker}
+use Rattle.vm_calls.specs.{Calling.Calling, declared.worker.Worker.Worker}
 use Rattle.vm_drive.specs.Crews.{AllWorked, AreIdle, HasWorked, IsIdle}
 use Rattle.vm_drive.specs.Lists.{AreKept, HaveMemory, HaveRoom}
 use Rattle.vm_drive.specs.{Drives.items_of, Holds.list_at}

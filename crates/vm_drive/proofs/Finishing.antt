@@ -6,19 +6,19 @@ use Rattle.vm_rule.specs.Prelude.{AreApart, Each, entries_by, Entry, has, HoldsN
 use Rattle.vm_rule.proofs.Entries.{each-map}
 use Rattle.vm_step.specs.from_vm_rule_laws.Known.{kept_by}
 use Rattle.vm_step.specs.Prelude.{Did, Note, TableShape, View, view}
-use Rattle.vm_calling.specs.from_vm_pool.Parting.{KeepsAll}
-use Rattle.vm_calling.specs.from_vm_tree_rule.declared_fault_TreeFault.{TreeFault}
-use Rattle.vm_calling.specs.{Calling.answered, Calling.AreShown, Calling.Calling, Calling.said_in, Called.AreCalls, Called.FoundFull, Called.FoundWorn}
-use Rattle.vm_calling.specs.Causes.{faults_of, IsUntold, notes_about}
-use Rattle.vm_calling.specs.declared.worker.Worker.{Worker}
+use Rattle.vm_calls.specs.from_vm_pool.Parting.{KeepsAll}
+use Rattle.vm_calls.specs.from_vm_tree_rule.declared_fault_TreeFault.{TreeFault}
+use Rattle.vm_calls.specs.{Calling.answered, Calling.AreShown, Calling.Calling, Calling.said_in, Called.AreCalls, Called.FoundFull, Called.FoundWorn}
+use Rattle.vm_calls.specs.Causes.{faults_of, IsUntold, notes_about}
+use Rattle.vm_calls.specs.declared.worker.Worker.{Worker}
 use Rattle.vm_drive.specs.Crews.{all_notes_of, AllWorked, answers_of, AreHired, AreIdle, AreJoined, HasWorked, IsBack, IsIn, IsNewWorker}
 use Rattle.vm_drive.specs.Crews.{number_of, numbers_of, memories_given, worker_logs, worker_notes}
 use Rattle.vm_drive.specs.Drives.{IsAtLastVersion, IsDriven, IsUsedUp}
 use Rattle.vm_drive.specs.Lists.{all_faults_of, AllShown, AreKept, HaveMemory, HaveRoom}
 use Rattle.vm_drive.specs.Parts.{HasPart, HaveParts, logs_of, noted_by, StandBehind, StandIn}
 use Rattle.vm_drive.specs.Holds.{list_at, said_by}
-use Rattle.vm_calling.proofs.Doing.{HasDone}
-use Rattle.vm_calling.proofs.{Chain.calls-done, Chain.kept-done, Lists.starts-then, Showing.are-shown-more}
+use Rattle.vm_calls.proofs.Doing.{HasDone}
+use Rattle.vm_calls.proofs.{Chain.calls-done, Chain.kept-done, Lists.starts-then, Shown.are-shown-more}
 use Rattle.vm_drive.proofs.Lists.{all-in, behind, each-both-of, each-right, has-both, none-in, one-place, others-only, place-of}
 use Rattle.vm_drive.proofs.Tracing.{lists-caused, used-up, worn-out}
 use Rattle.vm_drive.proofs.{Crews.room-long, Framing.none-left, Hiring.all-then, Hiring.holds-none, Parted.traced}

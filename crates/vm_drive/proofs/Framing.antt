@@ -4,7 +4,7 @@ use Rattle.std.proofs.lemmas.Bool.{cases_Bool}
 use Rattle.vm_owner.proofs.NumberLemmas.{has-both}
 use Rattle.vm_rule.specs.Prelude.{has}
 use Rattle.vm_step.specs.Prelude.{View}
-use Rattle.vm_calling.specs.Prelude.{LosesNone}
+use Rattle.vm_calls.specs.Prelude.{LosesNone}
 
 module _ {X : Type 0} where
   -- a pass that began with no frame has none where none is left to it

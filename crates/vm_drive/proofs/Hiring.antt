@@ -7,10 +7,10 @@ use Rattle.vm_rule.specs.Prelude.{Each, entries_by, has, HoldsNoPage, HoldsNothi
 use Rattle.vm_rule.proofs.Entries.{each-map}
 use Rattle.vm_step.specs.Prelude.{AreHeld, HasStill, IsReady, TableShape, View, view}
 use Rattle.vm_step.proofs.{Still.caught-still, Still.still-fresh, Together.holds-none as nothing-holds, Together.new-nothing}
-use Rattle.vm_calling.specs.from_vm_pool.Parting.{KeepsAll, Splits}
-use Rattle.vm_calling.specs.declared.worker.Worker.{Worker}
+use Rattle.vm_calls.specs.from_vm_pool.Parting.{KeepsAll, Splits}
+use Rattle.vm_calls.specs.declared.worker.Worker.{Worker}
 use Rattle.vm_drive.specs.Crews.{AreAtHome, AreHired, IsNewWorker, number_of, numbers_of, memories_given}
-use Rattle.vm_calling.proofs.Lists.{starts-then}
+use Rattle.vm_calls.proofs.Lists.{starts-then}
 use Rattle.vm_drive.proofs.Lists.{apart-snoc, each-snoc, front-none, times-both}
 
 module _ {X : Type 0} where

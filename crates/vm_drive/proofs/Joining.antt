@@ -4,11 +4,11 @@ use Rattle.std.proofs.lemmas.List.{map-append}
 use Rattle.vm_rule.specs.Prelude.{entries_by, Entry, has, Kept, owns, Start, times}
 use Rattle.vm_rule.proofs.Entries.{append-none, each-map}
 use Rattle.vm_step.specs.Prelude.{Did, Note, View, view}
-use Rattle.vm_calling.specs.from_vm_pool.Parting.{Joins}
-use Rattle.vm_calling.specs.{Causes.notes_about, declared.worker.Worker.Worker}
+use Rattle.vm_calls.specs.from_vm_pool.Parting.{Joins}
+use Rattle.vm_calls.specs.{Causes.notes_about, declared.worker.Worker.Worker}
 use Rattle.vm_drive.specs.Crews.{all_notes_of, AreJoined, IsIn, number_of, numbers_of, worker_logs, worker_notes}
 use Rattle.vm_drive.specs.Parts.{StandBehind}
-use Rattle.vm_calling.proofs.{Doing.notes-both, Lists.starts-then}
+use Rattle.vm_calls.proofs.{Doing.notes-both, Lists.starts-then}
 use Rattle.vm_drive.proofs.Lists.{each-snoc, has-last, has-left, nested, nested-one, times-both}
 use Rattle.vm_drive.proofs.{Framing.none-added, Hiring.all-then, Parts.behind-first, Parts.behind-snoc}
 

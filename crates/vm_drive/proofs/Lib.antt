@@ -9,6 +9,5 @@ pub mod Joining
 pub mod Crews
 pub mod Finishing
 pub mod Prelude
-pub mod from_vm_calling
 pub mod from_vm_calls
 pub mod from_vm_pool

@@ -2,13 +2,13 @@
 use Rattle.std.proofs.Common.{[], ◌++◌, ◌<◌, ◌∙◌, ◌∷◌, ◌≡◌, ap, append_assoc, List, Result, subst, sym, ℕ}
 use Rattle.vm_rule.specs.Prelude.{entries_by, Entry, Kept, Start, StartsWith}
 use Rattle.vm_step.specs.Prelude.{Did, View}
-use Rattle.vm_calling.specs.from_vm_tree_rule.declared_fault_TreeFault.{TreeFault}
+use Rattle.vm_calls.specs.from_vm_tree_rule.declared_fault_TreeFault.{TreeFault}
 use Rattle.vm_drive.specs.Parts.{HaveParts, logs_of, StandBehind, StandIn}
 use Rattle.vm_drive.specs.Lists.{AllCausedBy}
-use Rattle.vm_calling.specs.{Called.AreCalls, Called.FoundFull, Called.FoundWorn, Calling.Calling}
-use Rattle.vm_calling.proofs.{Chain.calls-done, Lists.starts-then}
-use Rattle.vm_calling.proofs.{Tracing.all-caused, Tracing.untold-later}
-use Rattle.vm_calling.specs.Causes.{IsUntold}
+use Rattle.vm_calls.specs.{Called.AreCalls, Called.FoundFull, Called.FoundWorn, Calling.Calling}
+use Rattle.vm_calls.proofs.{Chain.calls-done, Lists.starts-then}
+use Rattle.vm_calls.proofs.{Tracing.all-caused, Tracing.untold-later}
+use Rattle.vm_calls.specs.Causes.{IsUntold}
 
 regroup : {A : Type 0} (f e l b : List A) (s : A) → f ++ ((e ++ s ∷ l) ++ b) ≡ (f ++ e) ++ s ∷ (l ++ b)
 regroup f e l b s = ap (λ (y : List _). f ++ y) (append_assoc e (s ∷ l) b) ∙ sym (append_assoc f e (s ∷ (l ++ b)))

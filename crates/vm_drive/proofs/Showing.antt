@@ -2,9 +2,9 @@
 use Rattle.std.proofs.Common.{[], ◌∷◌, ◌≡◌, List, Result, ℕ}
 use Rattle.vm_rule.specs.Prelude.{Kept, Start, StartsWith}
 use Rattle.vm_step.specs.Prelude.{View}
-use Rattle.vm_calling.specs.{Called.AreCalls, Calling.Calling}
-use Rattle.vm_calling.specs.from_vm_tree_rule.declared_fault_TreeFault.{TreeFault}
-use Rattle.vm_calling.proofs.Showing.{are-shown-more}
+use Rattle.vm_calls.specs.{Called.AreCalls, Calling.Calling}
+use Rattle.vm_calls.specs.from_vm_tree_rule.declared_fault_TreeFault.{TreeFault}
+use Rattle.vm_calls.proofs.Shown.{are-shown-more}
 use Rattle.vm_drive.specs.Lists.{AllShown}
 
 module _ {X C R P : Type 0} (kind : Calling X C R P) {owned : Start → Kept X → Type 0} (laws : AreCalls kind owned)

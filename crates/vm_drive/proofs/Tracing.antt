@@ -4,9 +4,9 @@ use Rattle.vm_event.specs.Prelude.{MAX_VERSION, version_of}
 use Rattle.vm_rule.specs.Prelude.{last_of}
 use Rattle.vm_rule.specs.declared.view.WordPlace.TheVariants as places
 use Rattle.vm_step.specs.Prelude.{HasGiven, View}
-use Rattle.vm_calling.specs.from_vm_tree_rule.declared_fault_TreeFault.{TreeFault}
-use Rattle.vm_calling.specs.{Called.FoundFull, Called.FoundWorn, Calling.Calling}
-use Rattle.vm_calling.proofs.Tracing.{all-caused}
+use Rattle.vm_calls.specs.from_vm_tree_rule.declared_fault_TreeFault.{TreeFault}
+use Rattle.vm_calls.specs.{Called.FoundFull, Called.FoundWorn, Calling.Calling}
+use Rattle.vm_calls.proofs.Tracing.{all-caused}
 use Rattle.vm_drive.specs.Lists.{AllCausedBy}
 
 module _ {X C R P : Type 0} (kind : Calling X C R P)

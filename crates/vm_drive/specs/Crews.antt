@@ -3,11 +3,11 @@ use Rattle.std.specs.Prelude.{[], ◌*◌, ◌++◌, ◌+◌, ◌/◌, ◌∷◌
 use Rattle.std.specs.Prelude.{slice_index, true, ℕ}
 use Rattle.vm_rule.specs.Prelude.{AreApart, Each, entries_by, has, HoldsNoPage, IsWhole, Kept, owns, Start, StartsWith, TableId, times}
 use Rattle.vm_step.specs.Prelude.{Did, IsReady, KnowsAll, Note, TableShape, View, view}
-use Rattle.vm_calling.specs.from_vm_pool.Parting.{KeepsAll}
-use Rattle.vm_calling.specs.from_vm_tree_rule.declared_fault_TreeFault.{TreeFault}
-use Rattle.vm_calling.specs.Prelude.{LosesNone}
-use Rattle.vm_calling.specs.{Calling.Calling, Causes.notes_about, declared.worker.Worker.Worker}
-use Rattle.vm_calling.specs.{Workers.HasKept, Workers.IsAtWork}
+use Rattle.vm_calls.specs.from_vm_pool.Parting.{KeepsAll}
+use Rattle.vm_calls.specs.from_vm_tree_rule.declared_fault_TreeFault.{TreeFault}
+use Rattle.vm_calls.specs.Prelude.{LosesNone}
+use Rattle.vm_calls.specs.{Calling.Calling, Causes.notes_about, declared.worker.Worker.Worker}
+use Rattle.vm_calls.specs.{Workers.HasKept, Workers.IsAtWork}
 use Rattle.vm_drive.specs.Parts.{StandBehind}
 
 -- the worker's number

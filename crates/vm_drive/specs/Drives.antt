@@ -7,8 +7,8 @@ use Rattle.vm_event.specs.Prelude.{MAX_VERSION}
 use Rattle.vm_rule.specs.Prelude.{Entry, has, HoldsNoPage, last_of, StartsWith}
 use Rattle.vm_step.specs.from_vm_rule_laws.Known.{kept_by}
 use Rattle.vm_step.specs.Prelude.{IsAlone, View}
-use Rattle.vm_calling.specs.from_vm_tree_rule.declared_fault_TreeFault.{TreeFault}
-use Rattle.vm_calling.specs.{Calling.Calling, Causes.IsUntold, Causes.notes_about}
+use Rattle.vm_calls.specs.from_vm_tree_rule.declared_fault_TreeFault.{TreeFault}
+use Rattle.vm_calls.specs.{Calling.Calling, Causes.IsUntold, Causes.notes_about}
 use Rattle.vm_drive.specs.Lists.{all_faults_of, AllCausedBy, AllShown, AreKept}
 use Rattle.vm_drive.specs.Parts.{HaveParts, logs_of, noted_by, StandBehind}
 use Rattle.vm_drive.specs.Holds.{HoldsCalls}

@@ -1,8 +1,8 @@
 -- The history holds each worker's calls once, in order, with their replies.
 use Rattle.std.specs.Prelude.{[], ◌<◌, ◌∷◌, ◌≡◌, length, List, Result, slice_index_or, ℕ}
 use Rattle.vm_rule.specs.Prelude.{Each, entries_by, Entry}
-use Rattle.vm_calling.specs.from_vm_tree_rule.declared_fault_TreeFault.{TreeFault}
-use Rattle.vm_calling.specs.Calling.{answered, said_in}
+use Rattle.vm_calls.specs.from_vm_tree_rule.declared_fault_TreeFault.{TreeFault}
+use Rattle.vm_calls.specs.Calling.{answered, said_in}
 
 -- one worker's list
 abbrev pub list_at : {A : Type 0} → List (List A) → ℕ → List A

@@ -5,7 +5,6 @@ pub mod Crews
 pub mod Drives
 pub mod Rooms
 pub mod Prelude
-pub mod from_vm_calling
 pub mod from_vm_calls
 pub mod from_vm_evict
 pub mod from_vm_kind

@@ -1,8 +1,8 @@
 -- Lists of calls, one for each worker, and the answers to them: of each list what is said of one.
 use Rattle.std.specs.Prelude.{[], ◌+◌, ◌∷◌, List, Result, ℕ}
 use Rattle.vm_step.specs.Prelude.{View}
-use Rattle.vm_calling.specs.from_vm_tree_rule.declared_fault_TreeFault.{TreeFault}
-use Rattle.vm_calling.specs.{Calling.AreShown, Calling.Calling, Causes.AreCausedBy, Causes.faults_of}
+use Rattle.vm_calls.specs.from_vm_tree_rule.declared_fault_TreeFault.{TreeFault}
+use Rattle.vm_calls.specs.{Calling.AreShown, Calling.Calling, Causes.AreCausedBy, Causes.faults_of}
 
 -- how many answers say that the device of page p failed
 abbrev pub all_faults_of : {R : Type 0} → ℕ → List (List (Result R TreeFault)) → ℕ

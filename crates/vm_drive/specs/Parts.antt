@@ -2,8 +2,8 @@
 use Rattle.std.specs.Prelude.{[], ◌++◌, ◌∷◌, ◌≡◌, List, Result, ℕ}
 use Rattle.vm_rule.specs.Prelude.{entries_by, StartsWith}
 use Rattle.vm_step.specs.Prelude.{Did, Note, View}
-use Rattle.vm_calling.specs.from_vm_tree_rule.declared_fault_TreeFault.{TreeFault}
-use Rattle.vm_calling.specs.Calling.{AreMade, Calling}
+use Rattle.vm_calls.specs.from_vm_tree_rule.declared_fault_TreeFault.{TreeFault}
+use Rattle.vm_calls.specs.Calling.{AreMade, Calling}
 
 module _ {A : Type 0} where
   -- these lists stand in this one, one behind another

@@ -8,9 +8,9 @@ ghost use Rattle.vm_drive.specs.Crews.{answers_of, AreAtHome, AreHired, AreJoine
 
 use std::alloc::{AllocError, Global};
 use vm_block::Block;
-use vm_calling::exmap::Interface;
-use vm_calling::pool::Pool;
-use vm_calling::worker::Worker;
+use vm_calls::exmap::Interface;
+use vm_calls::pool::Pool;
+use vm_calls::worker::Worker;
 use vm_owner::Owner;
 use vm_rule::words::Pass;
 

@@ -14,5 +14,5 @@ pub mod tree_rule;
 pub use crew::DrivenInto;
 pub use driving::drive_into;
 pub use memory::rooms_for;
-pub use vm_calling::gate;
+pub use vm_calls::gate;
 pub use vm_calls::{answers, compact};

@@ -19,7 +19,7 @@ use Rattle.vm_tree_retry.specs.from_vm_tree_round.Rounds.{IsDamagedForDel, IsDel
 use Rattle.vm_tree_retry.specs.Waiting.{IsDelReplied, IsPutFaulted}
 use Rattle.vm_tree_retry.specs.from_vm_tree_round.Rounds.{IsWriteRound}
 use Rattle.vm_tree_retry.specs.Waiting.{IsWriteFaulted, IsWriteReplied}
-use Rattle.vm_serve.specs.{from_vm_calling.Calls.KeepsPass, from_vm_calls.Calls.as_said}
+use Rattle.vm_serve.specs.from_vm_calls.{Calls.as_said, Keeps.KeepsPass}
 use Rattle.vm_serve.proofs.from_vm_calls.{Answering.tree-called, Keeping.all-pass, Keeping.waits-pass}
 use Rattle.vm_face.specs.{Calls.IsHandCall, Homes.IsHandOf}
 use Rattle.vm_face.proofs.Views.{hand-after}

@@ -6,7 +6,7 @@ use Rattle.vm_rule.specs.Prelude.{AreApart, CaughtUp, entries_by, has, Kept}
 use Rattle.vm_rule.specs.Prelude.{PARTS, Start, times}
 use Rattle.vm_step.specs.Prelude.{Did, HasStill, IsAsideOf, View}
 use Rattle.vm_serve.specs.from_vm_pool.Parting.{Joins, Splits}
-use Rattle.vm_serve.specs.from_vm_calling.Calls.{KeepsPass}
+use Rattle.vm_serve.specs.from_vm_calls.Keeps.{KeepsPass}
 use Rattle.vm_serve.proofs.from_vm_drive.Hiring.{holds-none, split-keeps}
 use Rattle.vm_face.specs.{Given.IsBackIn, Homes.next_hand, Passes.hand_number, Passes.IsHandView, Passes.IsStoreView}
 use Rattle.vm_face.proofs.Parts.{misses-less, misses-more}

@@ -4,6 +4,6 @@ pub mod Given
 pub mod Homes
 pub mod Opened
 pub mod Passes
-pub mod from_vm_calling
+pub mod from_vm_calls
 pub mod from_vm_evict
 pub mod from_vm_tree_rule

@@ -1,6 +1,5 @@
 pub mod Wide
 pub mod Served
-pub mod from_vm_calling
 pub mod from_vm_calls
 pub mod from_vm_drive
 pub mod from_vm_evict

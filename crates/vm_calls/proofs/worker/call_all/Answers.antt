@@ -4,7 +4,7 @@ use Rattle.vm_map.specs.{declared.call.Call.Call, History.IsAskable}
 use Rattle.vm_map.specs.declared.call.Call.TheVariants.{Get}
 use Rattle.vm_step.specs.Prelude.{view}
 use Rattle.vm_tree_range.proofs.from_vm_tree_read.Losing.{loses-same, loses-then}
-use Rattle.vm_calling.proofs.{Chain.calls-snoc, Lists.all-at}
+use Rattle.vm_calls.proofs.{Chain.calls-snoc, Lists.all-at}
 use Rattle.vm_calls.specs.{Kept.IsRoomFor, Spans.HasSpans, TreeCalls.word_calls}
 use Rattle.vm_calls.proofs.{Memory.span-now, Memory.spans-after, Shortening.room-after, Shortening.room-now}
 use Rattle.vm_calls.proofs.worker.call_all.Goals as goal

@@ -1,7 +1,7 @@
 use Rattle.std.proofs.Common.{drop, take}
 use Rattle.vm_step.specs.Prelude.{view}
 use Rattle.vm_tree_range.specs.from_vm_tree_read.Waiting.{LosesNone}
-use Rattle.vm_calling.specs.Workers.{HasCalled, IsAtWork}
+use Rattle.vm_calls.specs.Workers.{HasCalled, IsAtWork}
 use Rattle.vm_calls.specs.{Kept.IsRoomFor, Spans.HasSpans, TreeCalls.word_calls}
 use Rattle.vm_calls.proofs.worker.call_all.Given as goal
 

@@ -1,7 +1,7 @@
 use Rattle.std.proofs.Common.{[]}
 use Rattle.vm_step.specs.Prelude.{view}
 use Rattle.vm_tree_range.proofs.from_vm_tree_read.Losing.{loses-then}
-use Rattle.vm_calling.proofs.{Chain.calls-done, Chain.holds-none-on, Doing.moves-keep, Framing.given-loses}
+use Rattle.vm_calls.proofs.{Chain.calls-done, Chain.holds-none-on, Doing.moves-keep, Framing.given-loses}
 use Rattle.vm_calls.specs.TreeCalls.{word_calls}
 use Rattle.vm_calls.proofs.Answering.{word_laws}
 use Rattle.vm_calls.proofs.worker.work.Goals as goal

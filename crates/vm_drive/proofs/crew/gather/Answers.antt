@@ -4,7 +4,7 @@ use Rattle.std.proofs.Common.{if◌then◌else◌, inr, is_ok, length, List, sub
 use Rattle.std.proofs.lemmas.List.{length-append, map-append, nil_from_length}
 use Rattle.vm_rule.specs.Prelude.{Each}
 use Rattle.vm_step.specs.Prelude.{view}
-use Rattle.vm_calling.specs.declared.worker.Worker.{Worker}
+use Rattle.vm_calls.specs.declared.worker.Worker.{Worker}
 use Rattle.vm_drive.specs.Crews.{AreJoined, IsBack}
 use Rattle.vm_drive.proofs.{Joining.joined-more, Lists.each-right}
 use Rattle.vm_step.proofs.Going.{goes-then}

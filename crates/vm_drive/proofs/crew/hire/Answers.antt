@@ -4,7 +4,7 @@ use Rattle.std.proofs.Common.{[], ◌++◌, ◌+◌, ◌∙◌, ◌∷◌, ◌�
 use Rattle.std.proofs.Common.{is_ok, length, List, subst, sym, true, vec_len, zero-add, ℕ}
 use Rattle.std.proofs.lemmas.List.{length-append, length-map, map-append, nil_from_length}
 use Rattle.vm_step.specs.Prelude.{view}
-use Rattle.vm_calling.specs.declared.worker.Worker.{Worker}
+use Rattle.vm_calls.specs.declared.worker.Worker.{Worker}
 use Rattle.vm_drive.specs.Crews.{AreAtHome, AreHired, memories_given}
 use Rattle.vm_step.proofs.Going.{goes-then}
 use Rattle.vm_drive.proofs.crew.hire.Goals as goal

@@ -4,7 +4,7 @@ use Rattle.vm_rule.specs.Prelude.{Each}
 use Rattle.vm_step.specs.Prelude.{view}
 use Rattle.vm_tree_model.specs.Fixed.{fixed}
 use Rattle.vm_tree_laws.specs.Plain.{KeepsPlain}
-use Rattle.vm_calling.specs.declared.worker.Worker.{Worker}
+use Rattle.vm_calls.specs.declared.worker.Worker.{Worker}
 use Rattle.vm_calls.specs.{Calls.as_said, TreeCalls.word_calls}
 use Rattle.vm_calls.proofs.Answering.{word_laws}
 use Rattle.vm_drive.specs.Crews.{AllWorked, answers_of, AreAtHome, AreIdle, AreJoined, IsBack, share_of}

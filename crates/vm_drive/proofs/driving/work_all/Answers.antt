@@ -1,5 +1,5 @@
 use Rattle.std.proofs.Common.{◌<◌, ◌∙◌, ◌≡◌, arith, get_or, length, rules, subst, sym, ℕ}
-use Rattle.vm_calling.specs.declared.worker.Worker.{Worker}
+use Rattle.vm_calls.specs.declared.worker.Worker.{Worker}
 use Rattle.vm_calls.specs.TreeCalls.{word_calls}
 use Rattle.vm_drive.specs.{Crews.HasWorked, Drives.items_of, Holds.list_at}
 use Rattle.vm_drive.proofs.Crews.{idle-at, idle-long, items-long, worked-all}

@@ -1,6 +1,6 @@
 use Rattle.std.proofs.Common.{◌+◌, ◌-◌, ◌≡◌, arith, length, rules, subst}
 use Rattle.vm_step.specs.Prelude.{view}
-use Rattle.vm_serve.proofs.from_vm_calling.Doing.{moves-keep}
+use Rattle.vm_serve.proofs.from_vm_calls.Doing.{moves-keep}
 use Rattle.vm_face.specs.Passes.{IsStoreView}
 use Rattle.vm_face.proofs.Views.{hand-after, store-takes}
 use Rattle.vm_face.proofs.store.TreeStore.join.Goals as goal

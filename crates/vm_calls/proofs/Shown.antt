@@ -2,8 +2,8 @@
 use Rattle.std.proofs.Common.{[], ◌++◌, ◌+◌, ◌∷◌, ◌≡◌, arith, Err, length, List, Ok, Result}
 use Rattle.vm_rule.specs.Prelude.{Kept, Start, StartsWith}
 use Rattle.vm_step.specs.Prelude.{View}
-use Rattle.vm_tree_read.specs.from_vm_tree_rule.declared_fault_TreeFault.{TreeFault}
-use Rattle.vm_calling.specs.{Called.AreCalls, Calling.AreShown, Calling.Calling}
+use Rattle.vm_tree_range.specs.from_vm_tree_rule.declared_fault_TreeFault.{TreeFault}
+use Rattle.vm_calls.specs.{Called.AreCalls, Calling.AreShown, Calling.Calling}
 
 module _ {X C R P : Type 0} (k : Calling X C R P) where
   module _ {keeps : Start → Kept X → Type 0} (laws : AreCalls k keeps) (v w : View X) (start : w.start ≡ v.start)

@@ -1,9 +1,9 @@
 -- Why calls had no reply.
 use Rattle.std.specs.Prelude.{[], ◌+◌, ◌<◌, ◌==◌, ◌∷◌, ◌≡◌, Err, false, if◌then◌else◌, List, Ok, Result, ℕ}
 use Rattle.vm_step.specs.Prelude.{Note, View}
-use Rattle.vm_tree_read.specs.from_vm_tree_rule.declared_fault_TreeFault.{TreeFault}
-use Rattle.vm_tree_read.specs.from_vm_tree_rule.declared_fault_TreeFault_TheVariants.{Damaged, Device, Full, Worn}
-use Rattle.vm_calling.specs.Calling.{Calling}
+use Rattle.vm_tree_range.specs.from_vm_tree_rule.declared_fault_TreeFault.{TreeFault}
+use Rattle.vm_tree_range.specs.from_vm_tree_rule.declared_fault_TreeFault_TheVariants.{Damaged, Device, Full, Worn}
+use Rattle.vm_calls.specs.Calling.{Calling}
 
 -- how many notes are of page p
 abbrev pub notes_about : ℕ → List Note → ℕ

@@ -6,14 +6,14 @@ use Rattle.vm_event.specs.Prelude.{no_seat}
 use Rattle.vm_rule.specs.Prelude.{Entry, entry_of, Kept, put_at, Seat, seat_of, Start, StartsWith}
 use Rattle.vm_rule.proofs.Entries.{append-none, starts-self}
 use Rattle.vm_step.specs.Prelude.{Did, Note, Put, View}
-use Rattle.vm_tree_read.specs.from_vm_exmap.Frames.{MovesFrames}
-use Rattle.vm_tree_read.specs.from_vm_tree_rule.declared_fault_TreeFault.{TreeFault}
-use Rattle.vm_tree_read.specs.from_vm_tree_rule.declared_fault_TreeFault_TheVariants.{Damaged, Device, Full, Worn}
-use Rattle.vm_calling.specs.Causes.{AreCausedBy, CausedBy, faults_of, is_fault, IsUntold, notes_about}
-use Rattle.vm_calling.specs.{Calling.answered, Calling.AreShown, Calling.Calling, Calling.said_in, Calls.KeepsPass}
-use Rattle.vm_calling.specs.Called.{AreCalls, FoundFull, FoundWorn, HasNoted, IsCalled}
-use Rattle.vm_calling.proofs.Tracing.{all-caused, found-later, max-later, untold-later}
-use Rattle.vm_calling.proofs.{Lists.starts-then, Showing.are-shown-more, Showing.shown-snoc}
+use Rattle.vm_tree_range.specs.from_vm_exmap.Frames.{MovesFrames}
+use Rattle.vm_tree_range.specs.from_vm_tree_rule.declared_fault_TreeFault.{TreeFault}
+use Rattle.vm_tree_range.specs.from_vm_tree_rule.declared_fault_TreeFault_TheVariants.{Damaged, Device, Full, Worn}
+use Rattle.vm_calls.specs.Causes.{AreCausedBy, CausedBy, faults_of, is_fault, IsUntold, notes_about}
+use Rattle.vm_calls.specs.{Calling.answered, Calling.AreShown, Calling.Calling, Calling.said_in, Keeps.KeepsPass}
+use Rattle.vm_calls.specs.Called.{AreCalls, FoundFull, FoundWorn, HasNoted, IsCalled}
+use Rattle.vm_calls.proofs.Tracing.{all-caused, found-later, max-later, untold-later}
+use Rattle.vm_calls.proofs.{Lists.starts-then, Shown.are-shown-more, Shown.shown-snoc}
 
 -- ---- notes
 

@@ -2,9 +2,9 @@
 use Rattle.std.specs.Prelude.{◌≡◌, ◌≤◌, Bool, List, None, Result, ℕ}
 use Rattle.vm_rule.specs.Prelude.{TableId}
 use Rattle.vm_step.specs.Prelude.{AreHeld, Did, IsReady, TableShape, View, view}
-use Rattle.vm_tree_read.specs.from_vm_exmap.Frames.{MovesFrames}
-use Rattle.vm_tree_read.specs.from_vm_tree_rule.declared_fault_TreeFault.{TreeFault}
-use Rattle.vm_calling.specs.{Calling.AreMade, Calling.Calling, declared.worker.Worker.Worker}
+use Rattle.vm_tree_range.specs.from_vm_exmap.Frames.{MovesFrames}
+use Rattle.vm_tree_range.specs.from_vm_tree_rule.declared_fault_TreeFault.{TreeFault}
+use Rattle.vm_calls.specs.{Calling.AreMade, Calling.Calling, declared.worker.Worker.Worker}
 
 -- the worker's pass may step on this table, which has a page, has its block at home, and holds the interface's frames
 pub record IsAtWork {U X A M : Type 0} {owner : _} (shape : TableShape) (tells : Bool) (t : TableId)

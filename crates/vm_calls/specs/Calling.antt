@@ -2,7 +2,7 @@
 use Rattle.std.specs.Prelude.{[], ◌∷◌, ◌≡◌, Err, List, map, Ok, Result}
 use Rattle.vm_rule.specs.Prelude.{Entry}
 use Rattle.vm_step.specs.Prelude.{Origin, View}
-use Rattle.vm_tree_read.specs.from_vm_tree_rule.declared_fault_TreeFault.{TreeFault}
+use Rattle.vm_tree_range.specs.from_vm_tree_rule.declared_fault_TreeFault.{TreeFault}
 
 -- Of calls C with replies R, whose entries in the history are X, and are read as P
 pub record Calling (X C R P : Type 0) : Type 1 where

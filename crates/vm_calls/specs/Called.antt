@@ -4,9 +4,9 @@ use Rattle.vm_event.specs.Prelude.{MAX_VERSION, version_of}
 use Rattle.vm_rule.specs.Prelude.{began_of, entry_of, Kept, Start, StartsWith}
 use Rattle.vm_rule.specs.declared.view.WordPlace.TheVariants as places
 use Rattle.vm_step.specs.Prelude.{HasGiven, Note, Origin, View}
-use Rattle.vm_tree_read.specs.from_vm_tree_rule.declared_fault_TreeFault.{TreeFault}
-use Rattle.vm_tree_read.specs.from_vm_tree_rule.declared_fault_TreeFault_TheVariants.{Damaged, Device, Full, Worn}
-use Rattle.vm_calling.specs.{Calling.Calling, Calls.KeepsPass, Causes.IsUntold}
+use Rattle.vm_tree_range.specs.from_vm_tree_rule.declared_fault_TreeFault.{TreeFault}
+use Rattle.vm_tree_range.specs.from_vm_tree_rule.declared_fault_TreeFault_TheVariants.{Damaged, Device, Full, Worn}
+use Rattle.vm_calls.specs.{Calling.Calling, Keeps.KeepsPass, Causes.IsUntold}
 
 module _ {X : Type 0} where
   -- a step of the pass found the state word of this page of the table at the last version

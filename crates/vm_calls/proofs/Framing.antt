@@ -3,8 +3,8 @@ use Rattle.std.proofs.Common.{[], ⊎_elim, ◌∙◌, ◌≡◌, ap, Bool, fals
 use Rattle.std.proofs.lemmas.Bool.{cases_Bool}
 use Rattle.vm_rule.specs.Prelude.{has}
 use Rattle.vm_step.specs.Prelude.{View}
-use Rattle.vm_tree_read.specs.from_vm_exmap.Returns.{AreGiven}
-use Rattle.vm_tree_read.specs.Waiting.{LosesNone}
+use Rattle.vm_tree_range.specs.from_vm_exmap.Returns.{AreGiven}
+use Rattle.vm_tree_range.specs.from_vm_tree_read.Waiting.{LosesNone}
 
 module _ {X : Type 0} where
   -- an interface that gave all its frames back lost none

@@ -4,10 +4,10 @@ use Rattle.vm_rule.specs.Prelude.{StartsWith}
 use Rattle.vm_rule.specs.declared.view.WordPlace.{WordPlace}
 use Rattle.vm_rule.specs.declared.view.WordPlace.TheVariants as places
 use Rattle.vm_step.specs.Prelude.{Did, HasGiven, Origin, View}
-use Rattle.vm_tree_read.specs.from_vm_tree_rule.declared_fault_TreeFault.{TreeFault}
-use Rattle.vm_tree_read.specs.from_vm_tree_rule.declared_fault_TreeFault_TheVariants.{Damaged, Device, Full, Worn}
-use Rattle.vm_calling.specs.Causes.{AreCausedBy, CausedBy, IsUntold}
-use Rattle.vm_calling.specs.{Called.FoundFull, Called.FoundWorn, Calling.Calling}
+use Rattle.vm_tree_range.specs.from_vm_tree_rule.declared_fault_TreeFault.{TreeFault}
+use Rattle.vm_tree_range.specs.from_vm_tree_rule.declared_fault_TreeFault_TheVariants.{Damaged, Device, Full, Worn}
+use Rattle.vm_calls.specs.Causes.{AreCausedBy, CausedBy, IsUntold}
+use Rattle.vm_calls.specs.{Called.FoundFull, Called.FoundWorn, Calling.Calling}
 
 -- what was found stays found
 pub given-more : (l m : List Did) (at : WordPlace) (word : ℕ) → StartsWith l m → HasGiven m at word → HasGiven l at word

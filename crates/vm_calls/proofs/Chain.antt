@@ -3,9 +3,9 @@ use Rattle.std.proofs.Common.{[], ◌++◌, ◌∙◌, ◌∷◌, append_assoc, 
 use Rattle.vm_rule.specs.Prelude.{HoldsNoPage, Kept, Start}
 use Rattle.vm_rule.proofs.Entries.{append-none}
 use Rattle.vm_step.specs.Prelude.{View}
-use Rattle.vm_tree_read.specs.from_vm_tree_rule.declared_fault_TreeFault.{TreeFault}
-use Rattle.vm_calling.specs.{Called.AreCalls, Calling.AreMade, Calling.Calling, Calls.KeepsPass, Workers.HasKept}
-use Rattle.vm_calling.proofs.Doing.{done-more, done-moved, done-none, HasDone}
+use Rattle.vm_tree_range.specs.from_vm_tree_rule.declared_fault_TreeFault.{TreeFault}
+use Rattle.vm_calls.specs.{Called.AreCalls, Calling.AreMade, Calling.Calling, Keeps.KeepsPass, Workers.HasKept}
+use Rattle.vm_calls.proofs.Doing.{done-more, done-moved, done-none, HasDone}
 
 module _ {X C R P : Type 0} (k : Calling X C R P) where
   pub calls-snoc : (cs : List C) (rs : List (Result R TreeFault)) (c : C) (r : Result R TreeFault)

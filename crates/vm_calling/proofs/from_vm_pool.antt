@@ -1,2 +1,0 @@
--- Lemmas of vm_pool that the crates above name through this one.
-pub use Rattle.vm_tree_read.proofs.from_vm_pool.FirstPass

@@ -1,4 +1,0 @@
--- Definitions of vm_tree_rule that the crates above name through this one.
-pub use Rattle.vm_tree_read.specs.from_vm_tree_rule.Turns
-pub use Rattle.vm_tree_read.specs.from_vm_tree_rule.declared_fault_TreeFault
-pub use Rattle.vm_tree_read.specs.from_vm_tree_rule.declared_fault_TreeFault_TheVariants

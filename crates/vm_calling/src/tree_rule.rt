@@ -1,3 +1,0 @@
-//! What the crates above name of `vm_tree_rule` through this one.
-
-pub use vm_tree_read::tree_rule::TreeFault;
