@@ -8,10 +8,12 @@ use Rattle.vm_step.specs.Prelude.{View}
 use Rattle.vm_bytes_laws.specs.declared.call.{KeyCall.KeyCall, KeyReply.KeyReply, KeySaid.KeySaid}
 use Rattle.vm_bytes_laws.specs.declared.call.KeyCall.TheVariants.{Del, Get, Put, Swap, Window}
 use Rattle.vm_bytes_laws.specs.declared.call.KeyReply.TheVariants.{Gone, Got, Swapped, Was, Win}
-use Rattle.vm_bytes_laws.specs.Plain.{plain_call, plain_reply}
+use Rattle.vm_bytes_form.specs.{Bytes.bytes, Strings.rank}
+use Rattle.vm_bytes_laws.specs.Plain.{plain_call, plain_reply, plain_said}
+use Rattle.vm_tree_range.specs.from_vm_tree_read.Waiting.{IsFaulted, IsReplied}
 use Rattle.vm_tree_range.specs.from_vm_tree_rule.declared_fault_TreeFault.{TreeFault}
 use Rattle.vm_tree_range.specs.from_vm_tree_read.Reads.{IsOfKind}
-use Rattle.vm_bytes_calls.specs.KeyCalls.{HasNoPairs, IsKeyCall, IsKeyReplyTo}
+use Rattle.vm_bytes_calls.specs.KeyCalls.{HasNoPairs, IsKeyCall, IsKeyReplyTo, key_said}
 
 -- of such a call no reply shows pairs
 abbrev pub ShowsNone : KeyCall → Type 0
@@ -91,9 +93,14 @@ told-bare call s P Q r (Ok reply) v w same other ok kind err yes no =
 told-bare call s P Q r (Err fault) v w same other ok kind err yes no =
     no fault (subst (λ (a : Result Reply TreeFault). IfErr a Q) other err)
 
--- of a window both are told at once
-pub window-told : (start : List ℕ) (most : ℕ) (answer : Result KeyReply TreeFault) (v w : View KeySaid)
-    → IfOk answer (λ reply. IsKeyCall (Window start most) (Ok reply) v w) → IfErr answer (λ fault. IsKeyCall (Window start most) (Err fault) v w)
-    → IsKeyCall (Window start most) answer v w
-window-told start most (Ok reply) v w ok err = ok
-window-told start most (Err fault) v w ok err = err
+-- what is told of a window
+pub window-tells : (start : List ℕ) (most : ℕ) (answer : Result KeyReply TreeFault) (v w : View KeySaid)
+    → IfOk answer (λ reply. IsReplied plain_said bytes (key_said (Window start most) reply) v w)
+    → IfOk answer (λ reply. IsOfKind (plain_call (Window start most)) (plain_reply reply))
+    → IfErr answer (λ fault. IsFaulted bytes (rank start) fault v w) → IsKeyCall (Window start most) answer v w
+window-tells start most (Ok (Win window)) v w ok kind err = (ok, tt)
+window-tells start most (Ok (Got found)) v w ok kind err = absurd kind
+window-tells start most (Ok (Was old)) v w ok kind err = absurd kind
+window-tells start most (Ok (Gone old)) v w ok kind err = absurd kind
+window-tells start most (Ok (Swapped outcome)) v w ok kind err = absurd kind
+window-tells start most (Err fault) v w ok kind err = err

@@ -5,6 +5,7 @@ ghost use Rattle.vm_bytes_form.specs.Bytes.{bytes};
 ghost use Rattle.vm_bytes_form.specs.Strings.{rank};
 ghost use Rattle.vm_bytes_laws.specs.Plain.{plain_reply, plain_said};
 ghost use Rattle.vm_step.specs.Prelude.{AreHeld, GoesOn, IsReadyOn, view};
+ghost use Rattle.vm_tree_del.specs.from_vm_tree_read.Reads.{IsOfKind};
 ghost use Rattle.vm_tree_del.specs.from_vm_tree_read.Waiting.{IsFaulted, IsReplied, LosesNone};
 
 use crate::keys::BytesTree;
@@ -37,6 +38,7 @@ pub fn window<R: Wait, B: PageBlock<512>>(
     ensures iface { (iface.new.home ≡ iface.old.home) × (iface.new.cap ≡ iface.old.cap) }
     ensures lost { LosesNone iface.old.frames (view pass.old) iface.new.frames (view pass.new) }
     ensures ok { IfOk result (λ reply. IsReplied plain_said bytes (record { call = ForWindow (rank start.now) most; reply = plain_reply reply }) (view pass.old) (view pass.new)) }
+    ensures kind { IfOk result (λ reply. IsOfKind (ForWindow (rank start.now) most) (plain_reply reply)) }
     ensures err { IfErr result (λ fault. IsFaulted bytes (rank start.now) fault (view pass.old) (view pass.new)) }
 {
     match window_said(rt, pool, pass, iface, start, most) {
