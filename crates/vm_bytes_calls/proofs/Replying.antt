@@ -52,6 +52,7 @@ bare-one (Swap key want value) s (plain.Swapped outcome) k = tt
 bare-one (Swap key want value) s (plain.Win window) k = absurd k
 bare-one (Swap key want value) s (plain.Many pairs) k = absurd k
 bare-one (Swap key want value) s (plain.Wide reach) k = absurd k
+bare-one (Window start most) s reply k = absurd s
 
 pub bare-of : (call : KeyCall) → ShowsNone call → (r : Result Reply TreeFault) → IfOk r (λ reply. IsOfKind (plain_call call) reply)
     → IfOk r HasNoPairs
@@ -80,6 +81,7 @@ replies-to (Swap key want value) (Got found) s k = absurd k
 replies-to (Swap key want value) (Was old) s k = absurd k
 replies-to (Swap key want value) (Gone old) s k = absurd k
 replies-to (Swap key want value) (Win window) s k = absurd k
+replies-to (Window start most) reply s k = absurd s
 
 -- what is told of a reply and of a fault is told of the same answer
 pub told-bare : (call : KeyCall) (s : ShowsNone call) (P : Reply → Type 0) (Q : TreeFault → Type 0) (r : Result Reply TreeFault)
@@ -87,11 +89,11 @@ pub told-bare : (call : KeyCall) (s : ShowsNone call) (P : Reply → Type 0) (Q 
     → IfErr answer (λ fault. r ≡ Err fault) → IfOk r P → IfOk r (λ reply. IsOfKind (plain_call call) reply) → IfErr r Q
     → ((reply : KeyReply) → P (plain_reply reply) → IsKeyReplyTo call reply → IsKeyCall call (Ok reply) v w)
     → ((fault : TreeFault) → Q fault → IsKeyCall call (Err fault) v w) → IsKeyCall call answer v w
-told-bare call s P Q r (Ok reply) v w same other ok kind err yes no =
-    yes reply (subst (λ (a : Result Reply TreeFault). IfOk a P) same ok)
+told-bare call s P Q r (Ok reply) v w same other ok kind err replied failed =
+    replied reply (subst (λ (a : Result Reply TreeFault). IfOk a P) same ok)
     (replies-to call reply s (subst (λ (a : Result Reply TreeFault). IfOk a (λ y. IsOfKind (plain_call call) y)) same kind))
-told-bare call s P Q r (Err fault) v w same other ok kind err yes no =
-    no fault (subst (λ (a : Result Reply TreeFault). IfErr a Q) other err)
+told-bare call s P Q r (Err fault) v w same other ok kind err replied failed =
+    failed fault (subst (λ (a : Result Reply TreeFault). IfErr a Q) other err)
 
 -- what is told of a window
 pub window-tells : (start : List ℕ) (most : ℕ) (answer : Result KeyReply TreeFault) (v w : View KeySaid)

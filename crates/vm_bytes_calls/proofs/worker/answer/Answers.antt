@@ -40,9 +40,6 @@ returns-in-Put-clause-call g c =
     c.put.result c.bare-in-Put.result (view c.args.pass.now) (view c.put.new.pass) c.bare-in-Put.ensures.ok c.bare-in-Put.ensures.err
     c.put.ensures.ok c.put.ensures.kind c.put.ensures.err (λ reply ok one. (ok, one)) (λ fault err. err))
 
-pub bare-in-Put-requires : goal.bare-in-Put-requires
-bare-in-Put-requires g c = bare-of (Put c.in-Put.key c.in-Put.value) tt c.put.result c.put.ensures.kind
-
 pub returns-in-Del-clause-call : goal.returns-in-Del-clause-call
 returns-in-Del-clause-call g c =
     subst (λ (call : KeyCall). IsKeyCall call c.bare-in-Del.result (view c.args.pass.now) (view c.del.new.pass))
@@ -55,9 +52,6 @@ returns-in-Del-clause-call g c =
     c.del.result c.bare-in-Del.result (view c.args.pass.now) (view c.del.new.pass) c.bare-in-Del.ensures.ok c.bare-in-Del.ensures.err
     c.del.ensures.ok c.del.ensures.kind c.del.ensures.err (λ reply ok one. (ok, one)) (λ fault err. err))
 
-pub bare-in-Del-requires : goal.bare-in-Del-requires
-bare-in-Del-requires g c = bare-of (Del c.in-Del.key) tt c.del.result c.del.ensures.kind
-
 pub returns-in-Swap-clause-call : goal.returns-in-Swap-clause-call
 returns-in-Swap-clause-call g c =
     subst (λ (call : KeyCall). IsKeyCall call c.bare-in-Swap.result (view c.args.pass.now) (view c.swap.new.pass))
@@ -69,9 +63,6 @@ returns-in-Swap-clause-call g c =
     (λ words key. HasValueIn bytes words key c.in-Swap.want) (rank c.in-Swap.key) fault (view c.args.pass.now) (view c.swap.new.pass))
     c.swap.result c.bare-in-Swap.result (view c.args.pass.now) (view c.swap.new.pass) c.bare-in-Swap.ensures.ok c.bare-in-Swap.ensures.err
     c.swap.ensures.ok c.swap.ensures.kind c.swap.ensures.err (λ reply ok one. (ok, one)) (λ fault err. err))
-
-pub bare-in-Swap-requires : goal.bare-in-Swap-requires
-bare-in-Swap-requires g c = bare-of (Swap c.in-Swap.key c.in-Swap.want c.in-Swap.value) tt c.swap.result c.swap.ensures.kind
 
 pub returns-in-Window-clause-call : goal.returns-in-Window-clause-call
 returns-in-Window-clause-call g c =
