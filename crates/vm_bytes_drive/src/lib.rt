@@ -1,0 +1,6 @@
+//! The workers on a tree with byte keys: each makes a list of calls with a pass of its own, side by side.
+#![tactic(auto)]
+
+mod driving;
+
+pub use driving::{drive_into, rooms_for};
