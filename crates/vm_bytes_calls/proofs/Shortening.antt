@@ -8,15 +8,15 @@ use Rattle.vm_bytes_laws.specs.declared.call.KeyCall.TheVariants as calls
 use Rattle.vm_bytes_laws.specs.declared.call.KeyReply.TheVariants as replies
 use Rattle.vm_bytes_node.specs.declared.window.KeyWindow.{KeyWindow}
 use Rattle.vm_tree_range.specs.from_vm_tree_rule.declared_fault_TreeFault.{TreeFault}
-use Rattle.vm_bytes_calls.specs.declared.answers.{KeyReplies.KeyReplies, Short.Short}
-use Rattle.vm_bytes_calls.specs.declared.answers.Short.TheVariants as shorts
+use Rattle.vm_bytes_calls.specs.declared.answers.{KeyReplies.KeyReplies, KeyShort.KeyShort}
+use Rattle.vm_bytes_calls.specs.declared.answers.KeyShort.TheVariants as shorts
 use Rattle.vm_bytes_calls.specs.KeyAnswers.{answers_left, HasKeyRoom, KeepsKeyAnswers, key_told_in, key_windows_asked, key_windows_of, key_wins_in, windows_left}
 use Rattle.vm_bytes_calls.specs.KeyCalls.{IsKeyCall}
 
 -- ---- what short forms stand for
 
 -- those behind others, with the windows behind theirs
-told-both : (short more : List Short) (windows others : List KeyWindow) → key_wins_in short ≡ length windows
+told-both : (short more : List KeyShort) (windows others : List KeyWindow) → key_wins_in short ≡ length windows
     → key_told_in (short ++ more) (windows ++ others) ≡ key_told_in short windows ++ key_told_in more others
 told-both [] more [] others e = refl
 told-both [] more (w ∷ ws) others e = absurd (omega arith)
@@ -34,7 +34,7 @@ told-both (shorts.Win ∷ short) more (w ∷ ws) others e =
 told-both (shorts.Fault fault ∷ short) more ws others e =
     ap (λ (l : List (Result KeyReply TreeFault)). Err fault ∷ l) (told-both short more ws others e)
 
-wins-both : (short more : List Short) → key_wins_in (short ++ more) ≡ key_wins_in short + key_wins_in more
+wins-both : (short more : List KeyShort) → key_wins_in (short ++ more) ≡ key_wins_in short + key_wins_in more
 wins-both [] more = omega arith
 wins-both (shorts.Got found ∷ short) more = wins-both short more
 wins-both (shorts.Was old ∷ short) more = wins-both short more
@@ -45,19 +45,19 @@ wins-both (shorts.Fault fault ∷ short) more = wins-both short more
 
 pub keeps-none : (kept : KeyReplies) → kept.short.items ≡ [] → kept.windows.items ≡ [] → KeepsKeyAnswers kept []
 keeps-none kept short windows = record {
-  stands = ap (λ (l : List Short). key_told_in l kept.windows.items) short;
+  stands = ap (λ (l : List KeyShort). key_told_in l kept.windows.items) short;
   shown = ap key_wins_in short ∙ sym (ap (λ (l : List KeyWindow). length l) windows);
 }
 
 -- one more, with its window where it shows one
-pub keeps-more : (kept new : KeyReplies) (told : List (Result KeyReply TreeFault)) (s : Short) (others : List KeyWindow)
+pub keeps-more : (kept new : KeyReplies) (told : List (Result KeyReply TreeFault)) (s : KeyShort) (others : List KeyWindow)
     (answer given : Result KeyReply TreeFault) → new.short.items ≡ kept.short.items ++ s ∷ []
     → new.windows.items ≡ kept.windows.items ++ others → key_wins_in (s ∷ []) ≡ length others
     → key_told_in (s ∷ []) others ≡ given ∷ [] → answer ≡ given → KeepsKeyAnswers kept told
     → KeepsKeyAnswers new (told ++ answer ∷ [])
 keeps-more kept new told s others answer given short windows one is e k = record {
   stands =
-      ap (λ (l : List Short). key_told_in l new.windows.items) short
+      ap (λ (l : List KeyShort). key_told_in l new.windows.items) short
       ∙ ap (λ (l : List KeyWindow). key_told_in (kept.short.items ++ s ∷ []) l) windows
       ∙ told-both kept.short.items (s ∷ []) kept.windows.items others k.shown
       ∙ ap (λ (l : List (Result KeyReply TreeFault)). l ++ key_told_in (s ∷ []) others) k.stands
@@ -71,7 +71,7 @@ keeps-more kept new told s others answer given short windows one is e k = record
 }
 
 -- one more that shows no window
-pub keeps-other : (kept new : KeyReplies) (told : List (Result KeyReply TreeFault)) (s : Short)
+pub keeps-other : (kept new : KeyReplies) (told : List (Result KeyReply TreeFault)) (s : KeyShort)
     (answer given : Result KeyReply TreeFault) → new.short.items ≡ kept.short.items ++ s ∷ [] → new.windows ≡ kept.windows
     → key_wins_in (s ∷ []) ≡ 0 → key_told_in (s ∷ []) [] ≡ given ∷ [] → answer ≡ given
     → KeepsKeyAnswers kept told → KeepsKeyAnswers new (told ++ answer ∷ [])

@@ -6,11 +6,11 @@ use Rattle.vm_bytes_laws.specs.declared.call.KeyCall.TheVariants.{Del, Get, Put,
 use Rattle.vm_bytes_laws.specs.declared.call.KeyReply.TheVariants as replies
 use Rattle.vm_bytes_node.specs.declared.window.KeyWindow.{KeyWindow}
 use Rattle.vm_tree_range.specs.from_vm_tree_rule.declared_fault_TreeFault.{TreeFault}
-use Rattle.vm_bytes_calls.specs.declared.answers.{KeyReplies.KeyReplies, Short.Short}
-use Rattle.vm_bytes_calls.specs.declared.answers.Short.TheVariants as shorts
+use Rattle.vm_bytes_calls.specs.declared.answers.{KeyReplies.KeyReplies, KeyShort.KeyShort}
+use Rattle.vm_bytes_calls.specs.declared.answers.KeyShort.TheVariants as shorts
 
 -- the answers that these short forms are, each `Win` with the next of the windows; where none is left for one they end
-abbrev pub key_told_in : List Short → List KeyWindow → List (Result KeyReply TreeFault)
+abbrev pub key_told_in : List KeyShort → List KeyWindow → List (Result KeyReply TreeFault)
 key_told_in [] windows = []
 key_told_in (shorts.Got found ∷ more) windows = Ok (replies.Got found) ∷ key_told_in more windows
 key_told_in (shorts.Was old ∷ more) windows = Ok (replies.Was old) ∷ key_told_in more windows
@@ -21,7 +21,7 @@ key_told_in (shorts.Win ∷ more) (window ∷ windows) = Ok (replies.Win window)
 key_told_in (shorts.Fault fault ∷ more) windows = Err fault ∷ key_told_in more windows
 
 -- how many of them show a window
-abbrev pub key_wins_in : List Short → ℕ
+abbrev pub key_wins_in : List KeyShort → ℕ
 key_wins_in [] = 0
 key_wins_in (shorts.Got found ∷ more) = key_wins_in more
 key_wins_in (shorts.Was old ∷ more) = key_wins_in more

@@ -15,7 +15,7 @@ use vm_tree_range::tree_rule::TreeFault;
 
 /// An answer without the window that it may show.
 #[derive(Drop)]
-pub enum Short {
+pub enum KeyShort {
     Got(Option<u64>),
     Was(Option<u64>),
     Gone(Option<u64>),
@@ -29,7 +29,7 @@ pub enum Short {
 #[derive(Drop)]
 pub struct KeyReplies {
     /// Each answer, in the order of the calls.
-    pub short: Vec<Short>,
+    pub short: Vec<KeyShort>,
     /// The windows, in the order of the answers that show them.
     pub windows: Vec<KeyWindow>,
 }
@@ -46,7 +46,7 @@ impl KeyReplies {
     }
 
     // With an answer more, whose window stands already.
-    fn add(&mut self, short: Short)
+    fn add(&mut self, short: KeyShort)
         requires { vec_len self.old.short < vec_capacity self.old.short }
         ensures short { self.new.short.items ≡ self.old.short.items ++ short ∷ [] }
         ensures len { vec_len self.new.short ≡ vec_len self.old.short + 1 }
@@ -67,17 +67,17 @@ impl KeyReplies {
         ensures windows { windows_left self.old ≤ windows_left self.new + key_windows_of answer }
     {
         match answer {
-            Ok(KeyReply::Got(found)) => self.add(Short::Got(found)),
-            Ok(KeyReply::Was(old)) => self.add(Short::Was(old)),
-            Ok(KeyReply::Gone(old)) => self.add(Short::Gone(old)),
-            Ok(KeyReply::Swapped(outcome)) => self.add(Short::Swapped(outcome)),
+            Ok(KeyReply::Got(found)) => self.add(KeyShort::Got(found)),
+            Ok(KeyReply::Was(old)) => self.add(KeyShort::Was(old)),
+            Ok(KeyReply::Gone(old)) => self.add(KeyShort::Gone(old)),
+            Ok(KeyReply::Swapped(outcome)) => self.add(KeyShort::Swapped(outcome)),
             Ok(KeyReply::Win(window)) => {
                 if self.windows.push(window).is_err() {
                     unreachable!()
                 }
-                self.add(Short::Win)
+                self.add(KeyShort::Win)
             }
-            Err(fault) => self.add(Short::Fault(fault)),
+            Err(fault) => self.add(KeyShort::Fault(fault)),
         }
     }
 }

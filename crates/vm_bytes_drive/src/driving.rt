@@ -50,11 +50,7 @@ fn no_memory(alloc: Global, count: usize) -> Result<Vec<()>, AllocError>
 /// Makes the lists' calls, one worker for each list, side by side: 1 to 64 lists of at most 1,000,000 calls each, eight frames for each. The
 /// pass has all parts and holds no page, and has a fresh part for each list. Afterwards it has all parts again, and knows what the workers did.
 /// Where there is no memory, no call was made, and the pass is as it was. Each list has room for its answers, in the lists' order.
-pub fn drive_into<
-    R: Threads + Wait + Sync,
-    B: PageBlock<512> + Send + Sync,
-    G: Gate + Sync,
->(
+pub fn drive_into<R: Threads + Wait + Sync, B: PageBlock<512> + Send + Sync, G: Gate + Sync>(
     rt: &R,
     alloc: Global,
     pool: &Pool<BytesTree, B, 512>,
@@ -92,11 +88,7 @@ pub fn drive_into<
 }
 
 // Makes each worker's calls, in as many threads as there are workers.
-fn work_all<
-    R: Threads + Wait + Sync,
-    B: PageBlock<512> + Send + Sync,
-    G: Gate + Sync,
->(
+fn work_all<R: Threads + Wait + Sync, B: PageBlock<512> + Send + Sync, G: Gate + Sync>(
     rt: &R,
     pool: &Pool<BytesTree, B, 512>,
     gate: &G,

@@ -8,7 +8,7 @@ use Rattle.vm_bytes_laws.specs.declared.call.KeyCall.TheVariants.{Del, Get, Put,
 use Rattle.vm_bytes_text.specs.KeyTexts.{key_text}
 use Rattle.vm_script.specs.{Cuts.IsCut, Cuts.Lacks, Orders.TellsCalls}
 use Rattle.vm_script.proofs.Words.{cut_here, each_append, lacks_decimal, one_cut}
-use Rattle.vm_bytes_script.specs.KeyScripts.{IsKeyScriptCall, key_call_text, key_calls}
+use Rattle.vm_bytes_script.specs.KeyScripts.{IsKeyScriptCall, key_call_text, key_grammar}
 use Rattle.vm_bytes_script.proofs.Keys.{lacks_key, one_key}
 
 -- the word of a call
@@ -103,5 +103,5 @@ one_call (Window s n) (Window s' n') a b e =
 one_call (Swap k w v) b is_a is_b e = absurd is_a
 one_call a (Swap k w v) is_a is_b e = absurd is_b
 
-pub tells : TellsCalls key_calls
+pub tells : TellsCalls key_grammar
 tells = record { one_line = lacks_call; one_call = one_call }

@@ -25,21 +25,21 @@ IsKeyScriptCall (Del key) = IsString 64 key
 IsKeyScriptCall (Window start most) = IsString 64 start × (1 ≤ most) × (most ≤ MOST_PAIRS)
 IsKeyScriptCall (Swap key want value) = ⊥
 
-abbrev pub key_calls : Grammar KeyCall
-key_calls = record { is_call = IsKeyScriptCall; text = key_call_text; is_range = λ call. false }
+abbrev pub key_grammar : Grammar KeyCall
+key_grammar = record { is_call = IsKeyScriptCall; text = key_call_text; is_range = λ call. false }
 
 -- the bytes spell these orders
 abbrev pub SpellsKeys : ℕ → List ℕ → List (Order KeyCall) → Type 0
-SpellsKeys = Spells key_calls
+SpellsKeys = Spells key_grammar
 
 -- line number n is the first bad one
 abbrev pub IsFirstBadKeys : ℕ → List ℕ → ℕ → Type 0
-IsFirstBadKeys = IsFirstBad key_calls
+IsFirstBadKeys = IsFirstBad key_grammar
 
 -- a script gives each worker its calls, in order
 abbrev pub IsKeyScript : ℕ → List ℕ → List (List KeyCall) → Type 0
-IsKeyScript = IsScript key_calls
+IsKeyScript = IsScript key_grammar
 
 -- the right answer of a reader: its calls, too long, or the first bad line; want of memory is free
 abbrev pub ReadsKeyScript : {V : Type 0} → (V → List (List KeyCall)) → ℕ → List ℕ → Result V ScriptFault → Type 0
-ReadsKeyScript view workers bytes result = ReadsScript key_calls view workers bytes result
+ReadsKeyScript view workers bytes result = ReadsScript key_grammar view workers bytes result

@@ -2,7 +2,7 @@
 
 ghost use Rattle.std.specs.Prelude.{◌≡◌, ◌≤◌, All, false, IfOk, length, map};
 ghost use Rattle.vm_script.specs.Orders.{most_lines};
-ghost use Rattle.vm_bytes_script.specs.KeyScripts.{key_calls, ReadsKeyScript};
+ghost use Rattle.vm_bytes_script.specs.KeyScripts.{key_grammar, ReadsKeyScript};
 ghost use Rattle.vm_bytes_script.specs.Readings.{ReadsKeyPair};
 
 use crate::key::key_of;
@@ -19,7 +19,7 @@ pub struct KeyCalls;
 impl CallSyntax for KeyCalls {
     type Call = KeyCall;
 
-    ghost grammar = { key_calls };
+    ghost grammar = { key_grammar };
 
     fn call_of(bytes: &[u8]) -> Option<KeyCall> {
         let (verb, rest) = cut(bytes, b' ')?;

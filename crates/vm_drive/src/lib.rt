@@ -14,5 +14,4 @@ pub mod tree_rule;
 pub use crew::DrivenInto;
 pub use driving::drive_into;
 pub use memory::rooms_for;
-pub use vm_calls::gate;
-pub use vm_calls::{answers, compact};
+pub use vm_calls::{answers, compact, gate};

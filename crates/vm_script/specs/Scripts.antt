@@ -41,25 +41,25 @@ is_range (Window start most) = false
 is_range (Swap key want value) = false
 is_range (Range low bound) = true
 
-abbrev pub word_calls : Grammar Call
-word_calls = record { is_call = IsScriptCall; text = call_text; is_range = is_range }
+abbrev pub word_grammar : Grammar Call
+word_grammar = record { is_call = IsScriptCall; text = call_text; is_range = is_range }
 
 -- an order that a script for so many workers may have
 abbrev pub IsOrder : ℕ → Order Call → Type 0
-IsOrder = orders.IsOrder word_calls
+IsOrder = orders.IsOrder word_grammar
 
 -- the bytes spell these orders
 abbrev pub Spells : ℕ → List ℕ → List (Order Call) → Type 0
-Spells = orders.Spells word_calls
+Spells = orders.Spells word_grammar
 
 -- line number n is the first bad one
 abbrev pub IsFirstBad : ℕ → List ℕ → ℕ → Type 0
-IsFirstBad = orders.IsFirstBad word_calls
+IsFirstBad = orders.IsFirstBad word_grammar
 
 -- a script gives each worker its calls, in order
 abbrev pub IsScript : ℕ → List ℕ → List (List Call) → Type 0
-IsScript = orders.IsScript word_calls
+IsScript = orders.IsScript word_grammar
 
 -- the right answer of a reader
 abbrev pub ReadsScript : {V : Type 0} → (V → List (List Call)) → ℕ → List ℕ → Result V ScriptFault → Type 0
-ReadsScript view workers bytes result = orders.ReadsScript word_calls view workers bytes result
+ReadsScript view workers bytes result = orders.ReadsScript word_grammar view workers bytes result

@@ -1,7 +1,7 @@
 //! Calls with word keys, as a script's lines have them.
 
 ghost use Rattle.vm_script.specs.Calls.{ReadsBound, ReadsPair, ReadsRange, ReadsThree};
-ghost use Rattle.vm_script.specs.Scripts.{word_calls};
+ghost use Rattle.vm_script.specs.Scripts.{word_grammar};
 
 use crate::number::number_of;
 use crate::script::{CallSyntax, cut};
@@ -14,7 +14,7 @@ pub struct WordCalls;
 impl CallSyntax for WordCalls {
     type Call = Call;
 
-    ghost grammar = { word_calls };
+    ghost grammar = { word_grammar };
 
     fn call_of(bytes: &[u8]) -> Option<Call> {
         let (verb, rest) = cut(bytes, b' ')?;

@@ -4,7 +4,7 @@ use Rattle.vm_bytes_laws.specs.declared.call.KeyReply.{KeyReply}
 use Rattle.vm_bytes_laws.specs.declared.call.KeyReply.TheVariants as replies
 use Rattle.vm_tree_range.specs.from_vm_tree_rule.declared_fault_TreeFault.{TreeFault}
 use Rattle.vm_bytes_node.specs.declared.window.KeyWindow.{KeyWindow}
-use Rattle.vm_bytes_calls.specs.declared.answers.Short.TheVariants as shorts
+use Rattle.vm_bytes_calls.specs.declared.answers.KeyShort.TheVariants as shorts
 use Rattle.vm_bytes_calls.proofs.Shortening.{keeps-more, keeps-other}
 use Rattle.vm_bytes_calls.proofs.answers.KeyReplies.keep.Goals as goal
 
