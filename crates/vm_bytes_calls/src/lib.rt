@@ -3,3 +3,5 @@
 
 pub mod answers;
 pub mod worker;
+
+pub use vm_bytes_tree::BytesTree;

@@ -1,1 +1,2 @@
 pub mod Drives
+pub mod from_vm_drive

@@ -4,3 +4,5 @@
 mod driving;
 
 pub use driving::{drive_into, rooms_for};
+pub use vm_bytes_calls::{BytesTree, answers};
+pub use vm_drive::{DrivenInto, gate, pool};
