@@ -6,7 +6,7 @@ ghost use Rattle.vm_map.specs.declared.call.Call.TheVariants.{Del, Get, Put, Ran
 ghost use Rattle.vm_tree_model.specs.Fixed.{capacity};
 ghost use Rattle.vm_tree_laws.specs.May.{MOST_LEAVES};
 ghost use Rattle.vm_step.specs.Prelude.{view};
-ghost use Rattle.vm_serve.specs.from_vm_calls.Calls.{KeepsPass};
+ghost use Rattle.vm_serve.specs.from_vm_calls.Keeps.{KeepsPass};
 ghost use Rattle.vm_face.specs.{Calls.IsHandCall, Homes.IsHandOf, Homes.made_with};
 
 use crate::home::Returned;
