@@ -5,7 +5,8 @@ use Rattle.std.proofs.Common.{arith}
 use Rattle.std.specs.Option.{option_map_or}
 use Rattle.vm_io.specs.Shown.{Shown}
 use Rattle.vm_device.specs.Devices.{size_of}
-use Rattle.vm_script.proofs.Readings.{not_both}
+use Rattle.vm_script.specs.{Orders.TellsCalls, Scripts.word_grammar}
+use Rattle.vm_script.proofs.{Orders.lacks_call, Orders.one_call, Readings.not_both}
 use Rattle.vm_script.proofs.EventReadings.{not_both as not_both_events}
 use Rattle.vm_file_serve.specs.from_vm_endings.declared_stop_Stop.{Stop}
 use Rattle.vm_file_serve.specs.from_vm_endings.declared_stop_Stop_TheVariants.{Shape, Unread, Length, Page, TooFew, Long, Line}
@@ -16,6 +17,10 @@ use Rattle.vm_file_serve.specs.from_vm_endings.Stops.{status_of}
 use Rattle.vm_file_serve.specs.from_vm_endings.Tests.{AllPass, any_image, Fails, Passes, StopsAt, Test, depth, events, here}
 use Rattle.vm_file_serve.specs.from_vm_endings.Tests.{image, past, room, script, space, stored}
 use Rattle.vm_file_serve.specs.from_vm_endings.Tests.{stored_depth, within}
+
+-- a call with words as keys is one line, and a text is that of one call
+words-tell : TellsCalls word_grammar
+words-tell = record { one_line = lacks_call; one_call = one_call }
 
 -- the same outside, where the host tells and shows this
 abbrev pub over : Shown → Outside → Outside
@@ -104,7 +109,7 @@ module _ (shown : Shown) (a b : Outside) (left : Remains) where
   read_script name workers (Long lines) few p f =
       let b = both_of shown name _ _ p f.1 in absurd (omega (arith, b.1.1.short, b.2))
   read_script name workers (Line lines n) few p f =
-      let b = both_of shown name _ _ p f.1 in absurd (not_both workers b.0 b.1.1.reads.orders n few b.1.1.reads.spells b.2.first)
+      let b = both_of shown name _ _ p f.1 in absurd (not_both word_grammar words-tell workers b.0 b.1.1.reads.orders n few b.1.1.reads.spells b.2.first)
   read_script name workers _ few p f = absurd f
 
   read_events : (name : List ℕ) (stop : Stop) → Passes (over shown a) (events name)
