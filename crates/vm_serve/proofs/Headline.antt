@@ -4,11 +4,9 @@ use Rattle.std.proofs.Common.{inl, inr, length, List, map, None, refl, replicate
 use Rattle.std.proofs.Common.{Some, subst, suc, sym, true, true≢false, zero, ℕ}
 use Rattle.std.specs.List.{Contains}
 use Rattle.std.proofs.lemmas.Bool.{cases_lt, eqb-true, ne_eqb, or_cases}
-use Rattle.vm_map.specs.{declared.call.Call.Call, declared.call.Reply.Reply, declared.call.Said.Said, History.after_all}
-use Rattle.vm_page.specs.Sizes.{IsSize}
-use Rattle.vm_tree_model.specs.{Count.node_count, Fixed.fixed, Page.IsFree, Tree.IsTree, Tree.map_of}
-use Rattle.vm_tree_model.proofs.{FixedLaws.sized_layout, WordTests.all_zero-from}
-use Rattle.vm_node.specs.Halves.{half_of}
+use Rattle.vm_map.specs.{declared.call.Said.Said, History.after_all}
+use Rattle.vm_tree_model.specs.{Fixed.fixed, Layout.IsLayout, Layout.Layout, Page.IsFree, Tree.IsTree, Tree.map_of}
+use Rattle.vm_tree_model.proofs.WordTests.{all_zero-from}
 use Rattle.vm_image.specs.{declared.blocks.PlannedFault.PlannedFault, File.AreFreePages, File.IsNextPage}
 use Rattle.vm_image.specs.Blocks.{AreBlocksOf, pages_of_blocks}
 use Rattle.vm_event.specs.Prelude.{at, MAX_COUNT, MAX_VERSION, page_at}
@@ -25,20 +23,19 @@ use Rattle.vm_drive.specs.from_vm_evict.declared_flushing_Flushed.{Flushed}
 use Rattle.vm_drive.specs.from_vm_evict.Flushes.{first_noted, HasNoLock, IsFlushed, noted_pages, RisesFrom}
 use Rattle.vm_drive.specs.from_vm_pool.Closing.{AreSums, IsClosed, IsStored, view_at_end}
 use Rattle.vm_drive.specs.from_vm_pool.declared_ended_Ended.{Ended}
-use Rattle.vm_tree_laws.specs.{History.gones, History.IsLegal, History.news, History.saids, Keeps.KeepsTree}
-use Rattle.vm_tree_laws.specs.{Keeps.merge_weight, Plain.KeepsPlain}
-use Rattle.vm_tree_laws.proofs.{Fullness.room_used, Starts.start_keeps}
+use Rattle.vm_tree_laws.specs.{History.IsLegal, History.saids, Keeps.KeepsTree, Plain.KeepsPlain, Plain.plain_kept}
+use Rattle.vm_tree_laws.proofs.Starts.{start_keeps}
 use Rattle.vm_drive.specs.from_vm_tree_rule.declared_fault_TreeFault.{TreeFault}
-use Rattle.vm_drive.specs.Prelude.{as_said, IsUntold, notes_about, word_calls, word_said}
+use Rattle.vm_drive.specs.Prelude.{IsUntold, notes_about}
 use Rattle.vm_drive.specs.{Drives.IsAtLastVersion, Drives.IsDriven, Holds.HoldsCalls, Lists.all_faults_of, Lists.AllShown}
 use Rattle.vm_drive.specs.Parts.{logs_of, noted_by}
-use Rattle.vm_drive.proofs.Prelude.{FoundFull, FoundWorn, notes-both, plain-keeps, word_laws}
+use Rattle.vm_drive.proofs.Prelude.{FoundFull, FoundWorn, notes-both}
 use Rattle.vm_drive.proofs.Prelude.{found-later, max-later}
 use Rattle.vm_drive.proofs.Tracing.{lists-caused, used-up, worn-out}
 use Rattle.vm_drive.proofs.{Parted.parts-later, Parted.traced, Parts.behind-in, Showing.all-shown-more}
-use Rattle.vm_serve.specs.Served.{is_first, IsFilled, IsServedOn, MayBeServed}
+use Rattle.vm_serve.specs.Served.{is_first, IsFilled, IsServedAs, MayServe}
+use Rattle.vm_serve.specs.Serving.{IsServing, Serving}
 use Rattle.vm_serve.proofs.Counting.{few-notes}
-use Rattle.vm_serve.proofs.Widening.{all-widened, other-half}
 
 -- where blocks tell, their words are the start's
 contents-held : (size : ℕ) (tells : Bool) (blocks : List Stored) → tells ≡ true → contents_of size tells blocks ≡ block_words blocks
@@ -68,48 +65,40 @@ there p (q ∷ free) is = elim (or_cases (p == q) (has p free) is) [
 pub claimed-free : (size : ℕ) (pages : List (List ℕ)) (next : ℕ) (free : List ℕ) → AreFreePages size pages next free → AreClaimed next free
 claimed-free size pages next free spare p is = (spare.each p (there p free is)).1
 
--- and these pages are free
-free-words : (size : ℕ) (pages : List (List ℕ)) (next : ℕ) (free : List ℕ) → AreFreePages size pages next free
-    → (p : ℕ) → has p free ≡ true → IsFree (fixed size) (page_at pages p)
-free-words size pages next free spare p is = (spare.each p (there p free is)).2
+-- pages without a meaning are the same in any layout of so many words
+free-in : (L : Layout) (words : List ℕ) → IsFree (fixed L.words) words → IsFree L words
+free-in L words f = record { length = f.length; zero = f.zero }
 
--- the tree may begin with pages that are one, and with numbers of free pages
-begins-with : (size : ℕ) → IsSize size → (next : ℕ) (free : List ℕ) (pages : List (List ℕ)) → IsTree (fixed size) pages
-    → IsNextPage size pages next → ((p : ℕ) → has p free ≡ true → IsFree (fixed size) (page_at pages p))
-    → MayBegin (KeepsPlain as_said (fixed size)) next free pages
-begins-with size sized next free pages tree after spare = record {
-  zero = λ p l m. let f = after.free p l m in all-zero (length (page_at pages p)) (page_at pages p) refl f.zero;
-  spare = λ p e. let f = spare p e in all_zero-from (page_at pages p) f.zero;
-  kept = start_keeps (fixed size) (sized_layout size sized) (record {
-    pages = pages;
-    next = next;
-    free = free;
-  }) tree after.within;
-}
+module _ {S : Type 0} (plain : S → Said) (L : Layout) (laws : IsLayout L) where
+  -- the tree may begin with pages that are one, and with numbers of free pages
+  begins-with : (next : ℕ) (free : List ℕ) (pages : List (List ℕ)) → IsTree L pages → IsNextPage L.words pages next
+      → ((p : ℕ) → has p free ≡ true → IsFree (fixed L.words) (page_at pages p)) → MayBegin (KeepsPlain plain L) next free pages
+  begins-with next free pages tree after spare = record {
+    zero = λ p l m. let f = after.free p l m in all-zero (length (page_at pages p)) (page_at pages p) refl f.zero;
+    spare = λ p e. let f = spare p e in all_zero-from (page_at pages p) f.zero;
+    kept = start_keeps L laws (record { pages = pages; next = next; free = free }) tree after.within;
+  }
 
--- so it may with what blocks hold on which calls may be served, where they tell
-pub begins-held : (size : ℕ) → IsSize size → (tells : Bool) (pages : List (List ℕ)) (blocks : List Stored) (next : ℕ)
-    (free : List ℕ) → MayBeServed size tells pages blocks next free → tells ≡ true
-    → MayBegin (KeepsPlain as_said (fixed size)) next free (block_words blocks)
-begins-held size sized tells pages blocks next free may t =
-    subst (λ (l : List (List ℕ)). MayBegin (KeepsPlain as_said (fixed size)) next free l) (sym (may.held t))
-    (begins-with size sized next free pages may.tree may.next_page (free-words size pages next free may.free_pages))
+  -- so it may with what blocks hold on which calls may be served, where they tell
+  pub begins-held : (tells : Bool) (pages : List (List ℕ)) (blocks : List Stored) (next : ℕ) (free : List ℕ)
+      → MayServe L tells pages blocks next free → tells ≡ true → MayBegin (KeepsPlain plain L) next free (block_words blocks)
+  begins-held tells pages blocks next free may t =
+      subst (λ (l : List (List ℕ)). MayBegin (KeepsPlain plain L) next free l) (sym (may.held t))
+      (begins-with next free pages may.tree may.next_page (λ p is. (may.free_pages.each p (there p free is)).2))
 
--- so it may with the pages of an image that is one, and with no number
-pub begins : (size : ℕ) → IsSize size → (pages : List (List ℕ)) (plan : List PlannedFault) (next : ℕ)
-    (blocks : List (MemBlock size)) → IsTree (fixed size) pages → IsNextPage size pages next
-    → AreBlocksOf pages plan blocks → MayBegin (KeepsPlain as_said (fixed size)) next []
-    (block_words (map stored_of blocks))
-begins size sized pages plan next blocks tree after held =
-    subst (λ (l : List (List ℕ)). MayBegin (KeepsPlain as_said (fixed size)) next [] l)
-    (sym (words-held blocks ∙ held.held))
-    (begins-with size sized next [] pages tree after (λ p e. absurd (true≢false (sym e))))
+  -- so it may with the pages of an image that is one, and with no number
+  pub begins : (pages : List (List ℕ)) (plan : List PlannedFault) (next : ℕ) (blocks : List (MemBlock L.words))
+      → IsTree L pages → IsNextPage L.words pages next → AreBlocksOf pages plan blocks
+      → MayBegin (KeepsPlain plain L) next [] (block_words (map stored_of blocks))
+  begins pages plan next blocks tree after held =
+      subst (λ (l : List (List ℕ)). MayBegin (KeepsPlain plain L) next [] l) (sym (words-held blocks ∙ held.held))
+      (begins-with next [] pages tree after (λ p e. absurd (true≢false (sym e))))
 
 -- the numbers that a pool over such blocks is started with fit
-pub has-started : (size : ℕ) (tells : Bool) (pages : List (List ℕ)) (blocks : List Stored) (next : ℕ) (free : List ℕ)
-    (version frames count : ℕ) → MayBeServed size tells pages blocks next free → length blocks ≡ count
+pub has-started : (L : Layout) (tells : Bool) (pages : List (List ℕ)) (blocks : List Stored) (next : ℕ) (free : List ℕ)
+    (version frames count : ℕ) → MayServe L tells pages blocks next free → length blocks ≡ count
     → version ≤ MAX_VERSION → 64 ≤ frames → frames ≤ 65536 → count ≤ 65536 → IsStarted version next frames count
-has-started size tells pages blocks next free version frames count may long in-range some few-frames few =
+has-started L tells pages blocks next free version frames count may long in-range some few-frames few =
     let low = may.tree.meta.root_low in
     let high = may.tree.meta.root_high in
     let within = may.next_page.within in
@@ -128,12 +117,12 @@ numbers-long a zero = refl
 numbers-long a (suc n) = ap suc (numbers-long (suc a) n)
 
 -- the first pass has fresh parts enough
-pub fresh-enough : (size : ℕ) (tells : Bool) (version next : ℕ) (free : List ℕ) (frames count : ℕ)
-    (blocks : List Stored) (v : View Said)
+pub fresh-enough : {X : Type 0} (size : ℕ) (tells : Bool) (version next : ℕ) (free : List ℕ) (frames count : ℕ)
+    (blocks : List Stored) (v : View X)
     → v ≡ begun (unborn (started_shape size tells version next free frames blocks)) → count ≤ 64
     → count ≤ length v.fresh
-fresh-enough size tells version next free frames count blocks v is few =
-    let long : length v.fresh ≡ 4294967295 = ap (λ (x : View Said). length x.fresh) is ∙ numbers-long 1 4294967295 in
+fresh-enough {X = X} size tells version next free frames count blocks v is few =
+    let long : length v.fresh ≡ 4294967295 = ap (λ (x : View X). length x.fresh) is ∙ numbers-long 1 4294967295 in
     omega arith
 
 -- the page of the first note has one
@@ -174,49 +163,43 @@ blocks-hold blocks n words long each =
     ∙ listed-same n (at [] (block_words blocks)) words
     (λ p l. at-map (λ (b : Stored). b.words) [] no_block blocks p (subst (λ k. p < k) (sym long) l) ∙ each p l)
 
-module _ (size : ℕ) (sized : IsSize size) {U : Type 0} (tells : Bool) (pages : List (List ℕ)) (version next : ℕ)
-    (free : List ℕ) (frames : ℕ) (before after : List Stored) (lists : List (List Call))
-    (replies : List (List (Result Reply TreeFault))) (report : Flushed) (end : Ended U Said) (v w : View Said)
-    (may : MayBeServed size tells pages before next free)
-    (is : v ≡ begun (unborn (started_shape size tells version next free frames before)))
-    (driven : IsDriven (word_calls size) tells lists replies v w) (flushed : IsFlushed report w (view_at_end end)) (last : ℕ)
-    (closed : IsClosed tells (KeepsPlain as_said (fixed size)) (view_at_end end) after last) where
-  abbrev e : View Said
+module _ {X C R : Type 0} (s : Serving X C R) (serving : IsServing s) {U : Type 0} (tells : Bool) (pages : List (List ℕ))
+    (version next : ℕ) (free : List ℕ) (frames : ℕ) (before after : List Stored) (lists : List (List C))
+    (replies : List (List (Result R TreeFault))) (report : Flushed) (end : Ended U X) (v w : View X)
+    (may : MayServe s.layout tells pages before next free)
+    (is : v ≡ begun (unborn (started_shape s.layout.words tells version next free frames before)))
+    (driven : IsDriven s.calls tells lists replies v w) (flushed : IsFlushed report w (view_at_end end)) (last : ℕ)
+    (closed : IsClosed tells (KeepsPlain s.calls.plain s.layout) (view_at_end end) after last) where
+  abbrev e : View X
   e = view_at_end end
 
-  start-is : e.start ≡ started_origin size tells version next free frames before
-  start-is = flushed.aside.start ∙ driven.start ∙ ap (λ (x : View Said). x.start) is
+  start-is : e.start ≡ started_origin s.layout.words tells version next free frames before
+  start-is = flushed.aside.start ∙ driven.start ∙ ap (λ (x : View X). x.start) is
 
   began : tells ≡ true → e.start.contents ≡ pages
-  began t = ap (λ (o : Origin). o.contents) start-is ∙ contents-held size tells before t ∙ may.held t
+  began t = ap (λ (o : Origin). o.contents) start-is ∙ contents-held s.layout.words tells before t ∙ may.held t
 
   many : e.start.pages ≡ length pages
   many = ap (λ (o : Origin). o.pages) start-is ∙ may.count
 
   -- the history of the end is what the workers added
   grew-all : e.seen ≡ driven.grew
-  grew-all = sym closed.own ∙ flushed.aside.mine ∙ driven.mine ∙ ap (λ (x : View Said). x.mine ++ driven.grew) is
+  grew-all = sym closed.own ∙ flushed.aside.mine ∙ driven.mine ∙ ap (λ (x : View X). x.mine ++ driven.grew) is
 
-  keeps : tells ≡ true → KeepsTree (fixed size) (began_of e.start) (kept_by e)
-  keeps t = plain-keeps (fixed size) (began_of e.start) (kept_by e) (closed.kept t)
+  -- what the tree keeps, with the history as it reads
+  keeps : tells ≡ true → KeepsTree s.layout (began_of e.start) (record (plain_kept s.calls.plain (kept_by e)) { history = s.reads e.seen })
+  keeps t = subst (λ (h : List (Entry Said)). KeepsTree s.layout (began_of e.start) (record (plain_kept s.calls.plain (kept_by e)) { history = h }))
+      (serving.reading e.seen) (closed.kept t)
 
-  legal : tells ≡ true → IsLegal (map_of (fixed size) pages) e.seen
-  legal t = subst (λ (l : List (List ℕ)). IsLegal (map_of (fixed size) l) e.seen) (began t) (keeps t).legal
+  legal : tells ≡ true → IsLegal (map_of s.layout pages) (s.reads e.seen)
+  legal t = subst (λ (l : List (List ℕ)). IsLegal (map_of s.layout l) (s.reads e.seen)) (began t) (keeps t).legal
 
   -- the next word leaves no room, and what the tree keeps accounts for it
-  filled-up : tells ≡ true → length e.start.contents ≤ (kept_by e).next + 1 → (half_of size - 1) * length pages ≤ 2
-      * half_of size * node_count (fixed size) pages + 2 * news e.seen + merge_weight (fixed size) * gones e.seen
-      + (half_of size - 1) * (e.start.next + 1)
-  filled-up t high =
-      let cause = room_used (fixed size) (began_of e.start) (kept_by e) (keeps t) (owes-nothing e closed.paid) high in
-      subst (λ (l : List (List ℕ)). (half_of size - 1) * length l ≤ 2 * half_of size * node_count (fixed size) l
-      + 2 * news e.seen + merge_weight (fixed size) * gones e.seen + (half_of size - 1)
-      * (e.start.next + 1)) (began t)
-      (subst (λ (k : ℕ). (half_of size - 1) * length e.start.contents ≤ k * node_count (fixed size)
-      e.start.contents + 2 * news e.seen + merge_weight (fixed size) * gones e.seen + (half_of size - 1)
-      * (e.start.next + 1)) (other-half size sized) cause)
+  filled-up : tells ≡ true → length e.start.contents ≤ (kept_by e).next + 1 → s.pays pages e.start.next (s.reads e.seen)
+  filled-up t high = subst (λ (l : List (List ℕ)). s.pays l e.start.next (s.reads e.seen)) (began t)
+      (serving.paid (began_of e.start) (kept_by e) (closed.kept t) (owes-nothing e closed.paid) high)
 
-  filled : (n : ℕ) → FoundFull w n → IsFilled size tells pages end n
+  filled : (n : ℕ) → FoundFull w n → IsFilled s tells pages end n
   filled n f =
       let here : FoundFull e n = found-later w e n flushed.aside.start (flushed.done, flushed.aside.log) f in
       let up = used-up e n last closed.found here in
@@ -230,30 +213,30 @@ module _ (size : ℕ) (sized : IsSize size) {U : Type 0} (tells : Bool) (pages :
       }
 
   -- from the next word at the start on the pages are free
-  begun_next : IsNextPage size pages e.start.next
-  begun_next = subst (λ n. IsNextPage size pages n) (sym (ap (λ (o : Origin). o.next) start-is)) may.next_page
+  begun_next : IsNextPage s.layout.words pages e.start.next
+  begun_next = subst (λ n. IsNextPage s.layout.words pages n) (sym (ap (λ (o : Origin). o.next) start-is)) may.next_page
 
   -- the free ones below it are those that the pool began with
-  begun_free : AreFreePages size pages e.start.next e.start.free
-  begun_free = subst (λ (o : Origin). AreFreePages size pages o.next o.free) (sym start-is) may.free_pages
+  begun_free : AreFreePages s.layout.words pages e.start.next e.start.free
+  begun_free = subst (λ (o : Origin). AreFreePages s.layout.words pages o.next o.free) (sym start-is) may.free_pages
 
   telling : e.start.tells ≡ tells
   telling = ap (λ (o : Origin). o.tells) start-is
 
-  shown : AllShown (word_calls size) e lists replies
-  shown = all-shown-more (word_calls size) (word_laws size) w e flushed.aside.start flushed.aside.seen flushed.aside.releases lists replies driven.shown
+  shown : AllShown s.calls e lists replies
+  shown = all-shown-more s.calls serving.laws w e flushed.aside.start flushed.aside.seen flushed.aside.releases lists replies driven.shown
 
   saved : tells ≡ true → ((p : ℕ) → p < length before → (at no_block after p).words ≡ (last_of w p).words)
-      → IsTree (fixed size) (block_words after)
-      × (map_of (fixed size) (block_words after) ≡ after_all (map_of (fixed size) pages) (saids e.seen))
+      → IsTree s.layout (block_words after)
+      × (map_of s.layout (block_words after) ≡ after_all (map_of s.layout pages) (saids (s.reads e.seen)))
   saved t words =
       let same : (p : ℕ) → (last_of e p).words ≡ (last_of w p).words = flushed.aside.alone.words driven.alone.0 driven.alone.1 in
       let hold : block_words after ≡ (kept_by e).pages =
       blocks-hold after e.start.pages (λ p. (last_of e p).words) closed.count
       (λ p l. words p (subst (λ (o : Origin). p < o.pages) start-is l) ∙ sym (same p)) in (
-        subst (λ (l : List (List ℕ)). IsTree (fixed size) l) (sym hold) (keeps t).tree,
-        ap (λ (l : List (List ℕ)). map_of (fixed size) l) hold ∙ (keeps t).contents
-            ∙ ap (λ (l : List (List ℕ)). after_all (map_of (fixed size) l) (saids e.seen)) (began t),
+        subst (λ (l : List (List ℕ)). IsTree s.layout l) (sym hold) (keeps t).tree,
+        ap (λ (l : List (List ℕ)). map_of s.layout l) hold ∙ (keeps t).contents
+            ∙ ap (λ (l : List (List ℕ)). after_all (map_of s.layout l) (saids (s.reads e.seen))) (began t),
       )
 
   -- each lesser page than the first whose write failed is saved, so its block has its last words, where blocks tell
@@ -305,7 +288,7 @@ module _ (size : ℕ) (sized : IsSize size) {U : Type 0} (tells : Bool) (pages :
       (cases_lt (at no_block after p).count MAX_COUNT)
 
   pub served : AreSums after end → (tells ≡ true → report.failed ≡ 0 → (p : ℕ) → p < length before
-      → (at no_block after p).words ≡ (last_of w p).words) → IsServedOn size tells pages before lists replies report after end
+      → (at no_block after p).words ≡ (last_of w p).words) → IsServedAs s tells pages before lists replies report after end
   served sums words = record {
     count = closed.count ∙ many;
     many = many;
@@ -316,23 +299,22 @@ module _ (size : ℕ) (sized : IsSize size) {U : Type 0} (tells : Bool) (pages :
     free = begun_free;
     bounds = bounds;
     legal = legal;
-    calls = subst (λ (l : List (Entry Said)). HoldsCalls as_said word_said l lists replies) (sym grew-all) driven.calls;
+    calls = subst (λ (l : List (Entry X)). HoldsCalls s.calls.plain s.calls.said l lists replies) (sym grew-all) driven.calls;
     noted = noted;
     counted = counted;
     worked = w;
     last_flush = flushed;
     earlier = earlier;
     all_made = sym all-seen;
-    caused = lists-caused (word_calls size) (FoundFull w) (FoundWorn w) (IsUntold w) (IsFilled size tells pages end) (IsAtLastVersion e) (IsUntold e) filled
+    caused = lists-caused s.calls (FoundFull w) (FoundWorn w) (IsUntold w) (IsFilled s tells pages end) (IsAtLastVersion e) (IsUntold e) filled
         (λ p m. worn-out e p closed.versions
         (max-later w e p flushed.aside.start (flushed.done, flushed.aside.log) m))
         (λ p u. subst (λ (o : Origin). (o.tells ≡ false) × (p < o.pages)) (sym flushed.aside.start) u) lists replies
-        (traced (word_calls size) (word_laws size) v.log w lists replies driven.passes driven.parts driven.logs);
-    widened = all-widened size sized tells pages end may.tree begun_next telling began lists replies w driven.passes
-        shown driven.parts;
+        (traced s.calls serving.laws v.log w lists replies driven.passes driven.parts driven.logs);
+    besides = serving.beside tells pages e w may.tree begun_next telling began lists replies driven.passes shown driven.parts;
     shown = shown;
     passes = driven.passes;
-    parts = parts-later (word_calls size) w e flushed.aside.start all-seen flushed.aside.releases lists replies driven.passes driven.parts;
+    parts = parts-later s.calls w e flushed.aside.start all-seen flushed.aside.releases lists replies driven.passes driven.parts;
     logs = behind-in v.log (logs_of driven.passes) w.log flushed.done e.log driven.logs flushed.aside.log;
     noted_in = behind-in v.notes (noted_by driven.passes) w.notes flushed.noted.notes e.notes driven.noted flushed.noted.after;
     unflushed = λ none. flushed.noted.first ∙ none-noted flushed.noted.notes (flushed.noted.each ∙ none);

@@ -1,5 +1,6 @@
 pub mod Counting
 pub mod Widening
+pub mod WordServing
 pub mod Headline
 pub mod Planned
 pub mod Unplanned

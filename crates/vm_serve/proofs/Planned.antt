@@ -2,8 +2,8 @@
 use Rattle.std.proofs.Common.{[], ⊎_elim, ◌<◌, ◌∙◌, ◌∷◌, ◌≡◌, ◌≤◌, ap, arith, length, List, map, Result, slice_index_or, suc}
 use Rattle.std.proofs.Common.{refl, subst, sym, true, zero, ℕ}
 use Rattle.std.proofs.lemmas.Bool.{cases_lt}
-use Rattle.vm_map.specs.{declared.call.Call.Call, declared.call.Reply.Reply, declared.call.Said.Said, History.after_all}
-use Rattle.vm_tree_model.specs.{Fixed.fixed, Tree.IsTree, Tree.map_of}
+use Rattle.vm_map.specs.History.{after_all}
+use Rattle.vm_tree_model.specs.{Layout.Layout, Tree.IsTree, Tree.map_of}
 use Rattle.vm_image.specs.{declared.blocks.PlannedFault.PlannedFault, File.AreFreePages, File.IsNextPage}
 use Rattle.vm_image.specs.Blocks.{AreBlocksOf, numbers_for, pages_of_blocks}
 use Rattle.vm_event.specs.Prelude.{at, MAX_COUNT}
@@ -14,14 +14,14 @@ use Rattle.vm_drive.specs.from_vm_pool.{Closing.view_at_end, declared_ended_Ende
 use Rattle.vm_tree_laws.specs.History.{saids}
 use Rattle.vm_drive.specs.from_vm_tree_rule.declared_fault_TreeFault.{TreeFault}
 use Rattle.vm_drive.specs.Prelude.{notes_about}
-use Rattle.vm_serve.specs.Served.{IsServed, IsServedOn, MayBeServed}
+use Rattle.vm_serve.specs.{Served.IsServedAs, Served.IsServedFrom, Served.MayServe, Serving.Serving}
 use Rattle.vm_serve.proofs.{Counting.few-faults, Counting.small-plan, Headline.words-held}
 
 -- calls may be served on the blocks of an image that is a tree
-pub of-image : {n : ℕ} (pages : List (List ℕ)) (plan : List PlannedFault) (blocks : List (MemBlock n)) (next : ℕ)
-    (free : List ℕ) → IsTree (fixed n) pages → AreBlocksOf pages plan blocks → IsNextPage n pages next
-    → AreFreePages n pages next free → MayBeServed n true pages (map stored_of blocks) next free
-of-image pages plan blocks next free tree made after spare = record {
+pub of-image : (L : Layout) (pages : List (List ℕ)) (plan : List PlannedFault) (blocks : List (MemBlock L.words)) (next : ℕ)
+    (free : List ℕ) → IsTree L pages → AreBlocksOf pages plan blocks → IsNextPage L.words pages next
+    → AreFreePages L.words pages next free → MayServe L true pages (map stored_of blocks) next free
+of-image L pages plan blocks next free tree made after spare = record {
   tree = tree;
   count = length-mapped stored_of blocks ∙ sym (length-mapped words_of blocks) ∙ ap (λ (l : List (List ℕ)). length l) made.held;
   held = λ _. words-held blocks ∙ made.held;
@@ -30,20 +30,21 @@ of-image pages plan blocks next free tree made after spare = record {
 }
 
 -- there are as many blocks as pages
-pub as-many : {n : ℕ} {U : Type 0} (pages : List (List ℕ)) (plan : List PlannedFault) (lists : List (List Call))
-    (replies : List (List (Result Reply TreeFault))) (report : Flushed) (blocks : List (MemBlock n))
-    (end : Ended U Said) → IsServed n pages plan lists replies report blocks end → length blocks ≡ length pages
+pub as-many : {X C R : Type 0} {s : Serving X C R} {U : Type 0} (pages : List (List ℕ)) (plan : List PlannedFault)
+    (lists : List (List C)) (replies : List (List (Result R TreeFault))) (report : Flushed)
+    (blocks : List (MemBlock s.layout.words)) (end : Ended U X) → IsServedFrom s pages plan lists replies report blocks end
+    → length blocks ≡ length pages
 as-many pages plan lists replies report blocks end is = sym (length-mapped stored_of blocks) ∙ is.on.count
 
 -- where no write of the last flush failed, the blocks' pages are a tree whose map is the history's last one
-pub saved : {n : ℕ} {U : Type 0} (pages : List (List ℕ)) (plan : List PlannedFault) (lists : List (List Call))
-    (replies : List (List (Result Reply TreeFault))) (report : Flushed) (blocks : List (MemBlock n))
-    (end : Ended U Said) → IsServed n pages plan lists replies report blocks end → report.failed ≡ 0
-    → IsTree (fixed n) (pages_of_blocks blocks)
-    × (map_of (fixed n) (pages_of_blocks blocks) ≡ after_all (map_of (fixed n) pages) (saids (view_at_end end).seen))
-saved {n = n} pages plan lists replies report blocks end is none =
-    subst (λ (l : List (List ℕ)). IsTree (fixed n) l
-    × (map_of (fixed n) l ≡ after_all (map_of (fixed n) pages) (saids (view_at_end end).seen))) (words-held blocks)
+pub saved : {X C R : Type 0} {s : Serving X C R} {U : Type 0} (pages : List (List ℕ)) (plan : List PlannedFault)
+    (lists : List (List C)) (replies : List (List (Result R TreeFault))) (report : Flushed)
+    (blocks : List (MemBlock s.layout.words)) (end : Ended U X) → IsServedFrom s pages plan lists replies report blocks end
+    → report.failed ≡ 0 → IsTree s.layout (pages_of_blocks blocks) × (map_of s.layout (pages_of_blocks blocks)
+    ≡ after_all (map_of s.layout pages) (saids (s.reads (view_at_end end).seen)))
+saved {s = s} pages plan lists replies report blocks end is none =
+    subst (λ (l : List (List ℕ)). IsTree s.layout l
+    × (map_of s.layout l ≡ after_all (map_of s.layout pages) (saids (s.reads (view_at_end end).seen)))) (words-held blocks)
     (is.on.saved refl none)
 
 -- a fresh block's bound is that of its plan
@@ -67,10 +68,10 @@ at-past d [] p l = refl
 at-past d (x ∷ xs) zero l = absurd (omega arith)
 at-past d (x ∷ xs) (suc p) l = at-past d xs p (omega arith)
 
-module _ {size : ℕ} {U : Type 0} (pages : List (List ℕ)) (plan : List PlannedFault) (before after : List (MemBlock size))
-    (lists : List (List Call)) (replies : List (List (Result Reply TreeFault))) (report : Flushed) (end : Ended U Said)
-    (made : AreBlocksOf pages plan before) (few : length plan ≤ 64)
-    (on : IsServedOn size true pages (map stored_of before) lists replies report (map stored_of after) end) where
+module _ {X C R : Type 0} (s : Serving X C R) {U : Type 0} (pages : List (List ℕ)) (plan : List PlannedFault)
+    (before after : List (MemBlock s.layout.words)) (lists : List (List C)) (replies : List (List (Result R TreeFault)))
+    (report : Flushed) (end : Ended U X) (made : AreBlocksOf pages plan before) (few : length plan ≤ 64)
+    (on : IsServedAs s true pages (map stored_of before) lists replies report (map stored_of after) end) where
   abbrev blocks : List Stored
   blocks = map stored_of after
 
@@ -107,7 +108,7 @@ module _ {size : ℕ} {U : Type 0} (pages : List (List ℕ)) (plan : List Planne
       ⊎_elim (λ (l : notes_about p (view_at_end end).notes ≤ (at no_block blocks p).count). omega (arith, l, most))
       (λ (l : MAX_COUNT ≤ (at no_block blocks p).count). absurd (omega (arith, l, most, small))) (on.counted p)
 
-  pub served-planned : IsServed size pages plan lists replies report after end
+  pub served-planned : IsServedFrom s pages plan lists replies report after end
   served-planned = record {
     before = before;
     made = made;

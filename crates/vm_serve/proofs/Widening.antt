@@ -12,14 +12,13 @@ use Rattle.vm_image.specs.File.{IsNextPage}
 use Rattle.vm_owner.specs.declared.Entry.{Entry}
 use Rattle.vm_rule.specs.Prelude.{began_of, StartsWith}
 use Rattle.vm_drive.specs.from_vm_step.Prelude.{View}
-use Rattle.vm_drive.specs.from_vm_pool.{Closing.view_at_end, declared_ended_Ended.Ended}
 use Rattle.vm_tree_laws.specs.History.{news}
 use Rattle.vm_tree_laws.proofs.Widths.{wide_pages, wide_room}
 use Rattle.vm_drive.specs.from_vm_tree_rule.declared_fault_TreeFault.{TreeFault}
 use Rattle.vm_drive.specs.Prelude.{AreMade, AreShown, as_said, IsOfLeaves, IsReplyShown, IsTreeCall, word_calls}
 use Rattle.vm_drive.proofs.Prelude.{plain-keeps}
 use Rattle.vm_drive.specs.{Lists.AllShown, Parts.HaveParts}
-use Rattle.vm_serve.specs.{Served.IsWidened, Wide.AllWidenedBy, Wide.AreWidenedBy, Wide.WidenedBy}
+use Rattle.vm_serve.specs.Wide.{AllWidenedBy, AreWidenedBy, IsWidened, WidenedBy}
 
 -- a page has place for an even number of pairs
 pub other-half : (size : ℕ) → IsSize size → 2 * (capacity size - half_of size) ≡ 2 * half_of size
@@ -37,21 +36,17 @@ news-more l m s = subst (λ (k : List (Entry Said)). news m ≤ news k) (sym s.1
 account-more : (least nodes used m n : ℕ) → least ≤ nodes + 2 * m + used → m ≤ n → least ≤ nodes + 2 * n + used
 account-more least nodes used m n h le = omega (arith, h, le)
 
-module _ (size : ℕ) (sized : IsSize size) {U : Type 0} (tells : Bool) (pages : List (List ℕ)) (end : Ended U Said)
-    (tree : IsTree (fixed size) pages) (next : IsNextPage size pages (view_at_end end).start.next)
-    (telling : (view_at_end end).start.tells ≡ tells)
-    (began : tells ≡ true → (view_at_end end).start.contents ≡ pages) where
-  abbrev e : View Said
-  e = view_at_end end
-
+module _ (size : ℕ) (sized : IsSize size) (tells : Bool) (pages : List (List ℕ)) (e : View Said)
+    (tree : IsTree (fixed size) pages) (next : IsNextPage size pages e.start.next) (telling : e.start.tells ≡ tells)
+    (began : tells ≡ true → e.start.contents ≡ pages) where
   -- what is asked of a range that is too wide
   abbrev Cause : Type 0
-  Cause = tells ≡ true → IsWidened size pages end
+  Cause = tells ≡ true → IsWidened size pages e
 
   widened : (low reach : ℕ) (bound : Bound) → IsOfLeaves as_said (fixed size) (record {
     call = Range low bound;
     reply = Wide reach;
-  }) e → e.start.contents ≡ pages → IsWidened size pages end
+  }) e → e.start.contents ≡ pages → IsWidened size pages e
   widened low reach bound l held =
       let laws = sized_layout size sized in
       let start = began_of e.start in

@@ -1,4 +1,5 @@
 pub mod Wide
+pub mod Serving
 pub mod Served
 pub mod from_vm_calls
 pub mod from_vm_drive

@@ -11,4 +11,4 @@ mod serving;
 pub mod tree_read;
 pub mod tree_rule;
 
-pub use serving::{Served, ServedOn, serve, serve_into, serve_on};
+pub use serving::{Served, ServedOn, serve, serve_into, serve_on, shape_of};

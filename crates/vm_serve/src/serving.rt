@@ -166,8 +166,8 @@ pub fn serve_into<
     )
 }
 
-// What a pool of the image's pages is started with.
-fn shape_of<const N: usize>(image: &Image<N>, first_version: u64, frames: u32) -> Shape
+/// What a pool of the image's pages is started with.
+pub fn shape_of<const N: usize>(image: &Image<N>, first_version: u64, frames: u32) -> Shape
     ensures pages { (result.pages ≡ length image.now) × (result.pages ≤ 65536) }
     ensures next { IsNextPage N image.now result.next }
     ensures asked { (result.first_version ≡ first_version) × (result.frames ≡ frames) }

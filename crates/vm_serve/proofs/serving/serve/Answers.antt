@@ -6,6 +6,8 @@ use Rattle.vm_drive.specs.from_vm_tree_rule.declared_fault_TreeFault.{TreeFault}
 use Rattle.vm_drive.specs.Drives.{items_of}
 use Rattle.vm_drive.proofs.Crews.{kept-contents, kept-replies}
 use Rattle.vm_serve.specs.Served.{IsServed}
+use Rattle.vm_tree_model.specs.Fixed.{fixed}
+use Rattle.vm_serve.specs.Serving.{word_serving}
 use Rattle.vm_serve.proofs.Planned.{of-image, served-planned}
 use Rattle.vm_serve.proofs.serving.serve.Goals as goal
 
@@ -15,7 +17,7 @@ serve_on-requires-after_bounds g c κs within =
     let shape = c.shape_of-shape.ensures in
     let free = subst (λ (l : List ℕ). AreFreePages g.row.N image c.shape_of-shape.result.next l)
     (sym c.as_slice.ensures.value) c.in-Ok-free_pages.ensures in
-    let may = of-image image c.args.plan.now _ _ _ c.requires.tree c.in-Ok.ensures.blocks shape.next free in
+    let may = of-image (fixed g.row.N) image c.args.plan.now _ _ _ c.requires.tree c.in-Ok.ensures.blocks shape.next free in
     let frames = subst (λ n. (64 ≤ n) × (n ≤ 65536) × (8 * length c.args.lists.now ≤ n)) (sym shape.asked.1) c.requires.frames in (
       omega arith,
       (
@@ -37,18 +39,18 @@ returns-clause-served g c =
     let made = c.in-Ok.ensures.blocks in
     let free = subst (λ (l : List ℕ). AreFreePages g.row.N image c.shape_of-shape.result.next l)
     (sym c.as_slice.ensures.value) c.in-Ok-free_pages.ensures in
-    let may = of-image image c.args.plan.now _ _ _ c.requires.tree made c.shape_of-shape.ensures.next free in
+    let may = of-image (fixed g.row.N) image c.args.plan.now _ _ _ c.requires.tree made c.shape_of-shape.ensures.next free in
     let into = c.in_ok-kept.ensures.served image may in
     subst (λ (told : List (List (Result Reply TreeFault))). IsServed g.row.N image c.args.plan.now
     (items_of c.args.lists.now) told r.report r.blocks.items r.ended) (sym (kept-replies _ _ into.stand))
-    (served-planned image c.args.plan.now _ _ _ _ _ _ made c.requires.plan into.served)
+    (served-planned (word_serving g.row.N) image c.args.plan.now _ _ _ _ _ _ made c.requires.plan into.served)
 
 pub returns-clause-contents : goal.returns-clause-contents
 returns-clause-contents g c =
     let image = c.args.image.now in
     let free = subst (λ (l : List ℕ). AreFreePages g.row.N image c.shape_of-shape.result.next l)
     (sym c.as_slice.ensures.value) c.in-Ok-free_pages.ensures in
-    let may = of-image image c.args.plan.now _ _ _ c.requires.tree c.in-Ok.ensures.blocks
+    let may = of-image (fixed g.row.N) image c.args.plan.now _ _ _ c.requires.tree c.in-Ok.ensures.blocks
     c.shape_of-shape.ensures.next free in
     let into = c.in_ok-kept.ensures.served image may in
     kept-contents _ _ into.stand

@@ -5,6 +5,10 @@ use Rattle.vm_rule.proofs.ListFacts.{length-mapped}
 use Rattle.vm_drive.specs.from_vm_step.Prelude.{Origin, TableShape, View, view}
 use Rattle.vm_drive.proofs.from_vm_pool.FirstPass.{first-alone}
 use Rattle.vm_drive.specs.Drives.{items_of}
+use Rattle.vm_tree_model.{specs.Fixed.fixed, proofs.FixedLaws.sized_layout}
+use Rattle.vm_drive.specs.Prelude.{as_said}
+use Rattle.vm_serve.specs.Serving.{word_serving}
+use Rattle.vm_serve.proofs.WordServing.{word_kind}
 use Rattle.vm_serve.proofs.Headline.{begins-held, claimed-free, fresh-enough, has-started, served}
 use Rattle.vm_serve.proofs.serving.serve_on.Goals as goal
 
@@ -20,12 +24,12 @@ start-requires g c =
           (
             c.requires.pages.0,
             (
-              has-started g.row.N g.B.Block.tells _ before _ _ _ _ _ may (length-mapped g.B.Block.stored c.args.blocks.items)
+              has-started (fixed g.row.N) g.B.Block.tells _ before _ _ _ _ _ may (length-mapped g.B.Block.stored c.args.blocks.items)
                   c.requires.version c.requires.frames.0 c.requires.frames.1
                   (subst (λ n. n ≤ 65536) c.requires.pages.0 c.requires.pages.1),
               (
                 claimed-free _ _ _ _ may.free_pages,
-                λ told. begins-held g.row.N g.S.OfSize.is_size g.B.Block.tells _ before _ _ may told,
+                λ told. begins-held as_said (fixed g.row.N) (sized_layout g.row.N g.S.OfSize.is_size) g.B.Block.tells _ before _ _ may told,
               ),
             ),
           ),
@@ -78,7 +82,7 @@ returns-in-Ok-clause-served g c = λ pages may.
     record {
       told = into.told;
       stand = into.stand;
-      served = served g.row.N g.S.OfSize.is_size g.B.Block.tells pages _ c.args.shape.next c.args.free.now _ before
+      served = served (word_serving g.row.N) (word_kind g.row.N g.S.OfSize.is_size) g.B.Block.tells pages _ c.args.shape.next c.args.free.now _ before
           (map g.B.Block.stored c.in-Ok.saved.closed.blocks.items) (items_of c.args.lists.now) into.told
           c.in-Ok.saved.report c.in-Ok.saved.closed.ended (view c.in_ok-pool.pass) (view c.drive_into.new.pass) may
           c.in_ok-pool.ensures.view into.driven c.in-Ok.ensures.flushed c.in-Ok.saved.closed.next

@@ -1,0 +1,7 @@
+//! Workers' calls on a tree with byte keys: a pool over the blocks of an image, or over blocks of any kind, the workers, the flush, the end.
+#![tactic(auto)]
+
+mod serving;
+
+pub use serving::{KeyServed, serve, serve_on};
+pub use vm_bytes_drive::{BytesTree, answers};
