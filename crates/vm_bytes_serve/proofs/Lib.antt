@@ -1,1 +1,2 @@
 pub mod KeyKind
+pub mod Taken

@@ -2,6 +2,7 @@
 #![tactic(auto)]
 
 mod serving;
+mod strings;
 
 pub use serving::{KeyServed, serve, serve_on};
 pub use vm_bytes_drive::{BytesTree, answers};

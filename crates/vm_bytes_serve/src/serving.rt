@@ -12,6 +12,7 @@ ghost use Rattle.vm_bytes_calls.specs.KeyAnswers.{HasKeyRoom, KeepsKeyAnswers};
 ghost use Rattle.vm_bytes_drive.specs.Drives.{AreKeyAskable};
 ghost use Rattle.vm_bytes_serve.specs.KeyServing.{IsKeyServedInto, IsKeyServedOnInto};
 
+use crate::strings::{asked_in_range, shown_in_range};
 use std::alloc::Global;
 use std::sync::Wait;
 use std::thread::Threads;
@@ -103,6 +104,8 @@ pub fn serve_on<R: Threads + Wait + Sync, B: PageBlock<512> + Send + Sync + Drop
     let (pool, mut pass) = Pool::start(alloc, shape, blocks, free)?;
     let driven = drive_into(rt, alloc, &pool, &mut pass, lists, gate, rooms)?;
     let DrivenInto { kept, evicted } = driven;
+    asked_in_range(lists);
+    shown_in_range(kept.as_slice());
     match flush_and_close(pool, alloc, pass) {
         Ok(saved) => {
             let Saved { report, closed } = saved;

@@ -1,4 +1,4 @@
-use Rattle.std.proofs.Common.{◌*◌, ◌∙◌, ◌≤◌, arith, length, List, subst, sym, ℕ}
+use Rattle.std.proofs.Common.{◌*◌, ◌∙◌, ◌≤◌, arith, length, List, refl, subst, sym, ℕ}
 use Rattle.std.proofs.lemmas.Result.{IfOk-weaker}
 use Rattle.vm_image.specs.File.{AreFreePages}
 use Rattle.vm_event.specs.Prelude.{MAX_VERSION}
@@ -29,5 +29,8 @@ returns-clause-served g c =
     (λ s is. let into = is image may in record {
       told = into.told;
       stand = into.stand;
-      served = served-planned key_serving image c.args.plan.now _ _ _ _ _ _ made c.requires.plan into.served;
+      served = record {
+        ranks = served-planned key_serving image c.args.plan.now _ _ _ _ _ _ made c.requires.plan into.served.ranks;
+        heard = into.served.heard refl;
+      };
     }) c.serve_on.ensures.served

@@ -1,0 +1,32 @@
+use Rattle.std.proofs.Common.{◌*◌, ◌<◌, ◌∙◌, ◌≡◌, ◌≤◌, ap, arith, length, map, refl, rules, subst, sym}
+use Rattle.std.proofs.lemmas.Bool.{eq-eqb}
+use Rattle.vm_bytes_laws.specs.declared.call.KeySaid.{KeySaid}
+use Rattle.vm_bytes_laws.specs.Plain.{plain_said}
+use Rattle.vm_rule.proofs.ListFacts.{length-mapped}
+use Rattle.vm_step.specs.Prelude.{Origin, TableShape, View, view}
+use Rattle.vm_bytes_drive.proofs.from_vm_pool.FirstPass.{first-alone}
+use Rattle.vm_serve.specs.from_vm_drive.Drives.{items_of}
+use Rattle.vm_serve.proofs.Headline.{begins-held, claimed-free, fresh-enough, has-started, served}
+use Rattle.vm_bytes_form.{proofs.BytesLaws.bytes_is_layout, specs.Bytes.bytes}
+use Rattle.vm_bytes_history.proofs.Hearing.{heard}
+use Rattle.vm_bytes_serve.specs.KeyServing.{HoldsStrings, key_serving}
+use Rattle.vm_bytes_serve.proofs.{KeyKind.key_kind, Taken.show-strings}
+use Rattle.vm_bytes_serve.proofs.serving.serve_on.Goals as goal
+
+pub returns-in-Ok-flush_and_close-clause-served : goal.returns-in-Ok-flush_and_close-clause-served
+returns-in-Ok-flush_and_close-clause-served g c = λ pages may.
+    let before = map g.B.Block.stored c.args.blocks.items in
+    let key : c.in_ok-pool.pool.words.table.shared.key.pages ≡ length before =
+    ap (λ (s : TableShape). s.pages) c.in_ok-pool.ensures.key in
+    let into = c.in_ok-driven.ensures.driven in
+    let ranks = served key_serving key_kind g.B.Block.tells pages _ c.args.shape.next c.args.free.now _ before
+    (map g.B.Block.stored c.in-Ok-flush_and_close.saved.closed.blocks.items) (items_of c.args.lists.now) into.told
+    c.in-Ok-flush_and_close.saved.report c.in-Ok-flush_and_close.saved.closed.ended (view c.in_ok-pool.pass) (view c.drive_into.new.pass) may
+    c.in_ok-pool.ensures.view into.driven c.in-Ok-flush_and_close.ensures.flushed c.in-Ok-flush_and_close.saved.closed.next
+    c.in-Ok-flush_and_close.ensures.closed c.in-Ok-flush_and_close.ensures.sums
+    (λ told none p l. c.in-Ok-flush_and_close.ensures.words told none p (subst (λ n. p < n) (sym key) l)) in
+    record {
+      told = into.told;
+      stand = into.stand;
+      served = record { ranks = ranks; heard = λ told. ? };
+    }
