@@ -2,5 +2,6 @@
 #![tactic(auto)]
 
 pub mod churn;
+mod key_outcome;
 mod outcome;
 pub mod script;
