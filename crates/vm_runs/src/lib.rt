@@ -3,5 +3,6 @@
 
 pub mod churn;
 mod key_outcome;
+mod key_script;
 mod outcome;
 pub mod script;

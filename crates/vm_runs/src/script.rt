@@ -4,26 +4,25 @@ ghost use Rattle.std.specs.Prelude.{◌≡◌, ◌≤◌};
 ghost use Rattle.vm_words.specs.declared.Command.TheVariants as commands;
 ghost use Rattle.vm_reading.specs.from_vm_endings.{Deliveries.content_of, Endings.AnswersCommand, Endings.HasReadCause, Files.HasFile};
 ghost use Rattle.vm_reading.specs.from_vm_endings.Outside.{Outside, Remains, with_shown, with_unread};
-ghost use Rattle.vm_reading.specs.AnyReadings.{IsKeyImage, IsWordImage};
-ghost use Rattle.vm_runs.specs.Answers.{AnswersKeyRun, AnswersRun, TellsLimits};
+ghost use Rattle.vm_reading.specs.AnyReadings.{IsWordImage};
+ghost use Rattle.vm_runs.specs.Answers.{AnswersRun, TellsLimits};
 
-use crate::key_outcome::key_outcome_of;
+use crate::key_script::run_on_keys;
 use crate::outcome::{Outcome, outcome_of};
 use std::alloc::{AllocError, Global};
 use std::sync::Wait;
 use std::thread::Threads;
 use vm_io::host::Host;
 use vm_page::{LARGE, WORDS};
-use vm_reading::any::{AnyTree, KeyTree, read_any_tree};
+use vm_reading::any::{AnyTree, read_any_tree};
 use vm_reading::drive::Gate;
 use vm_reading::endings::{
     Delivery, Ends, Quantity, Stop, Undone, are_entries, are_frames, are_workers, holds_call,
     is_version,
 };
-use vm_reading::key_tree::BytesTree;
 use vm_reading::kind::{OfSize, Sizes, TreeOf, WordKeys};
 use vm_reading::reading::{ReadTree, StoredTree};
-use vm_reading::scripts::{read_calls, read_key_calls};
+use vm_reading::scripts::read_calls;
 use vm_words::Run;
 
 // The number of workers, where the numbers are within their limits; else the first that is not.
@@ -88,44 +87,9 @@ fn run_on<
     }
 }
 
-// The same on the tree of an image with byte keys.
-#[tactic(auto, unfolding(vm_page::specs::Counts::count_more))]
-fn run_on_keys<'a, R: Threads + Wait + Sync, H: Host, G: Gate + Sync>(
-    rt: &R,
-    alloc: Global,
-    host: &mut H,
-    run: &Run<'a>,
-    workers: u32,
-    tree: KeyTree,
-    gate: &G,
-) -> Result<Outcome<'a, BytesTree>, Undone<Stop<'a>>>
-    requires limits { TellsLimits run.now (Ok workers) }
-    requires image { HasFile (H.shown host.old) run.now.image.now (IsKeyImage tree) }
-    ensures gives { (outside : Outside) (left : Remains) → AnswersKeyRun run.now (with_shown outside (H.shown host.old)) (with_unread left (H.last host.new)) result }
-    ensures shown { H.shown host.new ≡ H.shown host.old }
-    ensures puts { H.gives host.new ≡ H.gives host.old }
-    ensures later { H.takes host.old ≤ H.takes host.new }
-    ensures cause { HasReadCause (H.takes host.old) (H.takes host.new) result }
-{
-    let KeyTree { image, rows } = tree;
-    if !holds_call(rows.height, run.frames) {
-        return Err(Undone::Stopped(Stop::Shape(Quantity::Frames)));
-    }
-    // The calls change the tree: its rows are told of the pages that they leave.
-    drop(rows);
-    let lists = match read_key_calls(alloc, host, run.script, workers) {
-        Ok(lists) => lists,
-        Err(undone) => return Err(undone),
-    };
-    match key_outcome_of(rt, alloc, run, &image, lists.as_slice(), gate) {
-        Ok(outcome) => Ok(outcome),
-        Err(AllocError) => Err(Undone::Memory),
-    }
-}
-
 /// Tests the numbers, reads the image, tests whether the frames are enough for the height of its tree, reads the script, makes the calls, and builds what
-/// is told. Of the image's first bytes comes whether keys are words or byte strings. The history is kept in `ends` once nothing can fail any more but
-/// the host.
+/// is told. The image's first bytes tell whether keys are words or byte strings. The history is kept in `ends` once nothing can fail any more but the
+/// host.
 pub fn run_script<'a, R: Threads + Wait + Sync, H: Host, G: Gate + Sync>(
     rt: &R,
     alloc: Global,

@@ -4,7 +4,7 @@ use Rattle.vm_bytes_laws.specs.declared.call.KeyCall.{KeyCall}
 use Rattle.vm_reading.specs.from_vm_drive.Drives.{items_of}
 use Rattle.vm_reading.specs.from_vm_endings.{Limits.holds_call, Outside.with_shown, Outside.with_unread}
 use Rattle.vm_runs.proofs.Running.{key-calls-stop, key-run-does, keys-too-deep}
-use Rattle.vm_runs.proofs.script.run_on_keys.Goals as goal
+use Rattle.vm_runs.proofs.key_script.run_on_keys.Goals as goal
 
 pub returns-then-not-holds_call-clause-gives : goal.returns-then-not-holds_call-clause-gives
 returns-then-not-holds_call-clause-gives g c = λ outside left.
