@@ -1,6 +1,7 @@
 -- Where a host tells, a file has one list of bytes, and where devices tell, one list of pages: so a test that passes fails only where the file was
 -- not read, and a test that fails has one status.
-use Rattle.std.proofs.Common.{◌≡◌, ◌≢◌, ◌∙◌, ℕ, ◌*◌, ◌<◌, ◌≤◌, ◌^◌, Bool, false, true, true≢false, length, List, [], ◌∷◌, Option, Some, refl, sym, ap, subst}
+use Rattle.std.proofs.Common.{◌≡◌, ◌≢◌, ◌∙◌, ℕ, ◌*◌, ◌<◌, ◌≤◌, ◌^◌, Bool, false, true, true≢false, length, List, []}
+use Rattle.std.proofs.Common.{◌∷◌, Option, Some, refl, sym, ap, subst}
 use Rattle.std.proofs.Common.{arith}
 use Rattle.std.specs.Option.{option_map_or}
 use Rattle.vm_io.specs.Shown.{Shown}
@@ -97,7 +98,8 @@ AreBounded shown a b (test ∷ tests) = IsBounded a b test × (Passes (over show
 -- a script is no bad one
 not_bad : {C : Type 0} (grammar : Grammar C) → TellsCalls grammar → (workers n : ℕ) (bytes : List ℕ) → workers < 2 ^ 32
     → IsGoodScriptIn grammar workers bytes → IsBadScriptIn grammar workers n bytes → ⊥
-not_bad grammar tells workers n bytes few good bad = not_both grammar tells workers bytes good.1.reads.orders n few good.1.reads.spells bad.first
+not_bad grammar tells workers n bytes few good bad =
+    not_both grammar tells workers bytes good.1.reads.orders n few good.1.reads.spells bad.first
 
 not_bad_with : (has_keys : Bool) (workers n : ℕ) (bytes : List ℕ) → workers < 2 ^ 32
     → IsGoodScriptWith has_keys workers bytes → IsBadScriptWith has_keys workers n bytes → ⊥
@@ -105,7 +107,8 @@ not_bad_with true workers n bytes few good bad = not_bad key_grammar keys-tell w
 not_bad_with false workers n bytes few good bad = not_bad word_grammar words-tell workers n bytes few good bad
 
 -- nor is it too long
-short_with : (has_keys : Bool) (workers : ℕ) (bytes : List ℕ) → IsGoodScriptWith has_keys workers bytes → length bytes ≤ most_bytes
+short_with : (has_keys : Bool) (workers : ℕ) (bytes : List ℕ) → IsGoodScriptWith has_keys workers bytes
+    → length bytes ≤ most_bytes
 short_with true workers bytes good = good.1.short
 short_with false workers bytes good = good.1.short
 
@@ -135,11 +138,12 @@ module _ (shown : Shown) (a b : Outside) (left : Remains) where
   read_script name workers _ few p f = absurd f
 
   read_run_script : (image name : List ℕ) (workers : ℕ) (stop : Stop) → workers < 2 ^ 32
-      → Passes (over shown a) (run_script image name workers) → Fails (over shown b) left (run_script image name workers) stop
-      → status_of stop ≡ 2
+      → Passes (over shown a) (run_script image name workers)
+      → Fails (over shown b) left (run_script image name workers) stop → status_of stop ≡ 2
   read_run_script image name workers (Unread unread) few p f = refl
   read_run_script image name workers (Long lines) few p f =
-      let b = both_of shown name _ _ p.2.2 f.1 in absurd (omega (arith, short_with (is_key_file p.0) workers b.0 b.1, b.2))
+      let b = both_of shown name _ _ p.2 f.1 in
+      absurd (omega (arith, short_with (is_key_file p.0) workers b.0 b.1, b.2))
   read_run_script image name workers (Line lines n) few p f =
       let i = both_of shown image _ _ p f.1 in
       let b = both_of shown name _ _ i.1 i.2 in

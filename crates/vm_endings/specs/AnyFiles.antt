@@ -1,5 +1,5 @@
--- Page files as `check` and `run` read them: the nodes have byte keys where the first bytes are those of such a file, and then a script's calls
--- have such keys.
+-- Page files as `check` and `run` read them: the nodes have byte keys where the first bytes are those of such a
+-- file, and so have a script's calls then.
 use Rattle.std.specs.Prelude.{◌++◌, Bool, false, if◌then◌else◌, length, List, true, ℕ}
 use Rattle.vm_map.specs.Map.{Pairs}
 use Rattle.vm_tree_model.specs.{Layout.Layout, Reason.used_pages, Tree.map_of}

@@ -1,4 +1,5 @@
--- What the command `run` does on a page file of any kind, as the end that is kept tells: on a tree of words as keys, or with byte keys.
+-- What the command `run` does on a page file of any kind, which the end that is kept tells: words as keys, or byte
+-- keys.
 use Rattle.std.specs.Prelude.{Option}
 use Rattle.vm_io.specs.Shown.{Shown}
 use Rattle.vm_words.specs.declared.Run.{Run}

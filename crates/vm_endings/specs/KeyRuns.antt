@@ -23,7 +23,8 @@ IsUnflushedKeyRun run end content pages lists = ¬ (run.options.fail.items ≡ [
 abbrev pub OfKeyFiles : Option Shown → Run → (List (List ℕ) → List (List KeyCall) → Type 0) → Type 0
 OfKeyFiles shown run P = HasFile shown run.image.now
     (λ image. (is_key_file image ≡ true) × IsTreeIn keyed image × HasFile shown run.script.now
-    (λ script. (lists : List (List KeyCall)) × IsKeyScriptOf run.workers lists script × P (pages_of_bytes 512 image) lists))
+    (λ script. (lists : List (List KeyCall)) × IsKeyScriptOf run.workers lists script
+    × P (pages_of_bytes 512 image) lists))
 
 -- what workers' calls come to: every page was flushed, or one was not
 abbrev pub IsKeyOutcome : {U : Type 0} → Run → List (List ℕ) → List (List KeyCall) → Content → Ended U KeySaid → Type 0

@@ -1,5 +1,5 @@
--- What the command `run` does on a tree of words as keys: the script's calls are made on the image's tree, the pages are flushed, and what came of
--- it is told.
+-- What the command `run` does where keys are words: the script's calls are made on the image's tree, the pages are
+-- flushed, and what came of it is told.
 use Rattle.std.specs.Borrow.{Bor}
 use Rattle.std.specs.Prelude.{◌++◌, ◌≡◌, ◌⊎◌, false, List, None, Option, Some, ℕ}
 use Rattle.vm_io.specs.Shown.{Shown}
@@ -51,7 +51,8 @@ pub record IsUnflushedRun (n : ℕ) {U : Type 0} (run : Run) (end : Ended U Said
   pub text : content.text ≡ worker_replies 0 (all_lines lists made.replies) ++ unflushed_line page ++ counters_of end evicted
   pub file : content.file ≡ None
 
--- this holds of the pages of the image, which have n words and are a tree of words as keys, and of the workers' calls in the script
+-- this holds of the pages of the image, which have n words and are a tree, with words as keys, and of the workers'
+-- calls in the script
 abbrev pub OfFiles : ℕ → Option Shown → Run → (List (List ℕ) → List (List Call) → Type 0) → Type 0
 OfFiles n shown run P = HasFile shown run.image.now
     (λ image. (is_key_file image ≡ false) × (words_of_file image ≡ n) × IsTreeFile image × HasFile shown run.script.now

@@ -13,7 +13,8 @@ abbrev pub IsLong : List ℕ → Type 0
 IsLong bytes = most_bytes < length bytes
 
 -- the bytes are a script of so many workers with these calls, as this grammar writes them
-pub record IsScriptIn {C : Type 0} (grammar : Grammar C) (workers : ℕ) (lists : List (List C)) (bytes : List ℕ) : Type 0 where
+pub record IsScriptIn {C : Type 0} (grammar : Grammar C) (workers : ℕ) (lists : List (List C))
+    (bytes : List ℕ) : Type 0 where
   pub short : length bytes ≤ most_bytes
   pub reads : IsScript grammar workers bytes lists
 

@@ -9,7 +9,8 @@ use Rattle.vm_endings.specs.declared.stop.Quantity.TheVariants.{Frames}
 use Rattle.vm_endings.specs.{declared.stop.Stop.Stop, Files.HasFile, Limits.holds_call}
 use Rattle.vm_endings.specs.declared.stop.Stop.TheVariants.{Length, Line, Long, Page, Shape, TooFew, Unread}
 use Rattle.vm_endings.specs.Held.{AreNoTree, HasFilePages, IsNoServedLength, IsServedTree}
-use Rattle.vm_endings.specs.Images.{file_map, HoldsNoTree, HoldsNoTreeIn, IsTreeFile, IsTreeIn, IsWrongLength, IsWrongLengthIn, root_level}
+use Rattle.vm_endings.specs.Images.{file_map, HoldsNoTree, HoldsNoTreeIn, IsTreeFile, IsTreeIn, IsWrongLength}
+use Rattle.vm_endings.specs.Images.{IsWrongLengthIn, root_level}
 use Rattle.vm_endings.specs.AnyFiles.{any_height, any_layout, IsBadScriptFor, IsGoodScriptFor}
 use Rattle.vm_endings.specs.Outside.{Outside, Remains}
 use Rattle.vm_endings.specs.Scripts.{AreBadEvents, AreGoodEvents, IsBadScript, IsGoodScript, IsLong}
@@ -33,7 +34,7 @@ pub data Test : Type 0 where
   stored_depth : ℕ → List ℕ → Test
   -- the file with this name is a script of so many workers
   script : List ℕ → ℕ → Test
-  -- the file with the second name is a script of so many workers, for the tree in the file with the first, with byte keys or without
+  -- the file with the second name is a script of so many workers, with keys as the tree in the file with the first has
   run_script : (image script : List ℕ) → ℕ → Test
   -- the file with this name is an event list
   events : List ℕ → Test

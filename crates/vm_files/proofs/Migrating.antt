@@ -1,5 +1,6 @@
 -- The pairs of a page file, as a builder takes them, and the page file that is built of them.
-use Rattle.std.proofs.Common.{◌≡◌, ◌∙◌, ◌/◌, ◌*◌, ◌≤◌, ap, arith, leb, length, List, Option, Some, subst, sym, true, ℕ, slice_index}
+use Rattle.std.proofs.Common.{◌≡◌, ◌∙◌, ◌/◌, ◌*◌, ◌≤◌, ap, arith, leb, length, List, Option, Some, subst, sym, true, ℕ}
+use Rattle.std.proofs.Common.{slice_index}
 use Rattle.std.proofs.lemmas.Bool.{and_parts, leb-true}
 use Rattle.vm_io.specs.Shown.{Shown}
 use Rattle.vm_map.specs.{Keys.KEY_END, Map.Pairs, Map.Rises}

@@ -1,5 +1,6 @@
 -- What is read of a file, and what the file has.
-use Rattle.std.proofs.Common.{◌≡◌, ℕ, ◌+◌, ◌≤◌, ◌<◌, List, length, take, Option, Some, None, ◌⊎◌, inl, inr, sym, ap, subst, ◌∙◌, arith}
+use Rattle.std.proofs.Common.{◌≡◌, ℕ, ◌+◌, ◌≤◌, ◌<◌, List, length, take, Option, Some, None, ◌⊎◌, inl, inr, sym, ap}
+use Rattle.std.proofs.Common.{subst, ◌∙◌, arith}
 use Rattle.std.proofs.Common.{length-take}
 use Rattle.std.proofs.lemmas.Bool.{cases_lt}
 use Rattle.std.proofs.lemmas.List.{take_all}
@@ -66,6 +67,7 @@ has_file None name P Q h f = (f.0, h f.0 f.1)
 has_file (Some shown) name P Q h f = (f.0, f.1, h f.0 f.2)
 
 -- there are bytes of which it holds
-abbrev pub some_bytes : (told : Option Shown) (name : List ℕ) (P : List ℕ → Type 0) → HasFile told name P → (bytes : List ℕ) × P bytes
+abbrev pub some_bytes : (told : Option Shown) (name : List ℕ) (P : List ℕ → Type 0) → HasFile told name P
+    → (bytes : List ℕ) × P bytes
 some_bytes None name P has = has
 some_bytes (Some shown) name P has = (has.0, has.2)

@@ -21,7 +21,8 @@ use Rattle.vm_endings.specs.declared.undone.Undone.TheVariants.{Stopped, Memory}
 use Rattle.vm_endings.proofs.FileWords.{file_sized}
 use Rattle.vm_endings.specs.Endings.{HasReadCause}
 use Rattle.vm_endings.specs.Files.{HasFile}
-use Rattle.vm_endings.specs.Images.{HoldsNoTree, HoldsNoTreeIn, IsTreeFile, IsTreeIn, layout_of_file, most_image, pages_of_file, root_level}
+use Rattle.vm_endings.specs.Images.{HoldsNoTree, HoldsNoTreeIn, IsTreeFile, IsTreeIn, layout_of_file, most_image}
+use Rattle.vm_endings.specs.Images.{pages_of_file, root_level}
 use Rattle.vm_endings.specs.{Outside.Outside, Outside.Remains}
 use Rattle.vm_endings.specs.Tests.{any_image, image, Passes}
 use Rattle.vm_reading.specs.Readings.{IsStoredIn, IsStoredTree, ReadsTree, TellsNoTree, TellsNoTreeIn, TellsTree, rows_in}
@@ -88,8 +89,10 @@ any_sized bytes = go (is_key_file bytes)
     go true = refl
     go false = file_sized bytes
 
-words-tree : (rows : Rows) (bytes : List ℕ) → is_key_file bytes ≡ false → HasRows rows bytes → IsTreeIn (any_layout bytes) bytes
-words-tree rows bytes words is = subst (λ b. IsTreeIn (layout_with b bytes) bytes) (sym words) (rows-file rows bytes is)
+words-tree : (rows : Rows) (bytes : List ℕ) → is_key_file bytes ≡ false → HasRows rows bytes
+    → IsTreeIn (any_layout bytes) bytes
+words-tree rows bytes words is =
+    subst (λ b. IsTreeIn (layout_with b bytes) bytes) (sym words) (rows-file rows bytes is)
 
 key-tree : (tree : KeyTree) (bytes : List ℕ) → IsKeyImage tree bytes → IsTreeIn (any_layout bytes) bytes
 key-tree tree bytes is =
@@ -109,14 +112,22 @@ height-with : (has_keys : Bool) (bytes : List ℕ) → is_key_file bytes ≡ has
     → root_level (pages_of_bytes (layout_with has_keys bytes).words bytes) ≡ any_height bytes
 height-with has_keys bytes kind = ap (λ b. root_level (pages_of_bytes (layout_with b bytes).words bytes)) (sym kind)
 
-pub word-image : (n : ℕ) (stored : ReadTree n) (bytes : List ℕ) → IsWordImage n stored bytes → IsAnyTree false stored.rows.height bytes
+pub word-image : (n : ℕ) (stored : ReadTree n) (bytes : List ℕ) → IsWordImage n stored bytes
+    → IsAnyTree false stored.rows.height bytes
 word-image n stored bytes is =
     let has = stored-rows n stored bytes is.1 in
-    record { kind = is.0; tree = words-tree stored.rows bytes is.0 has; level = has.are.height ∙ height-with false bytes is.0 }
+    record {
+      kind = is.0;
+      tree = words-tree stored.rows bytes is.0 has;
+      level = has.are.height ∙ height-with false bytes is.0;
+    }
 
 pub key-image : (tree : KeyTree) (bytes : List ℕ) → IsKeyImage tree bytes → IsAnyTree true tree.rows.height bytes
-key-image tree bytes is =
-    record { kind = is.0; tree = key-tree tree bytes is; level = is.1.rows.height ∙ height-with true bytes is.0 }
+key-image tree bytes is = record {
+  kind = is.0;
+  tree = key-tree tree bytes is;
+  level = is.1.rows.height ∙ height-with true bytes is.0;
+}
 
 -- a file that was read passes its test
 pub any-pass : (outside : Outside) (name : List ℕ) (tree : AnyTree) → HasFile outside.shown name (IsAnyStored tree)

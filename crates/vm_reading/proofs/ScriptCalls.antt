@@ -1,6 +1,7 @@
 -- What holds of the calls of a script: there are few, and each window and range asks for something.
 use Rattle.std.specs.List.{AllByRecursion, filter}
-use Rattle.std.proofs.Common.{◌≡◌, ◌==◌, ◌≤◌, ◌++◌, ◌∷◌, [], arith, Bool, cond, false, length, List, map, subst, suc, sym, true, zero, ℕ}
+use Rattle.std.proofs.Common.{◌≡◌, ◌==◌, ◌≤◌, ◌++◌, ◌∷◌, [], arith, Bool, cond, false, length, List, map, subst, suc}
+use Rattle.std.proofs.Common.{sym, true, zero, ℕ}
 use Rattle.std.proofs.lemmas.List.{length-map}
 use Rattle.vm_map.specs.declared.call.Call.{Call}
 use Rattle.vm_map.specs.declared.call.Call.TheVariants as words
@@ -23,12 +24,14 @@ length_filter p (x ∷ xs) = let h = length_filter p xs in
       | false ↦ omega arith
     ]
 
-all_append : {X : Type 0} (P : X → Type 0) (xs : List X) (x : X) → AllByRecursion P xs → P x → AllByRecursion P (xs ++ x ∷ [])
+all_append : {X : Type 0} (P : X → Type 0) (xs : List X) (x : X) → AllByRecursion P xs → P x
+    → AllByRecursion P (xs ++ x ∷ [])
 all_append P [] x all h = (h, tt)
 all_append P (y ∷ xs) x all h = (all.0, all_append P xs x all.1 h)
 
 module _ {C : Type 0} (grammar : Grammar C) where
-  few_calls : (worker : ℕ) (orders : List (Order C)) → length orders ≤ most_lines → length (calls_by worker orders) ≤ most_lines
+  few_calls : (worker : ℕ) (orders : List (Order C)) → length orders ≤ most_lines
+      → length (calls_by worker orders) ≤ most_lines
   few_calls worker orders few =
       omega (
         arith,
@@ -38,11 +41,13 @@ module _ {C : Type 0} (grammar : Grammar C) where
 
   few_lists : (workers : ℕ) (orders : List (Order C)) → length orders ≤ most_lines → AreFew (lists_of workers orders)
   few_lists zero orders few = tt
-  few_lists (suc workers) orders few = all_append (λ list. length list ≤ 1000000) (lists_of workers orders) (calls_by workers orders)
+  few_lists (suc workers) orders few =
+      all_append (λ list. length list ≤ 1000000) (lists_of workers orders) (calls_by workers orders)
       (few_lists workers orders few) (few_calls workers orders few)
 
   -- no worker of a script has more calls than a script has lines
-  pub few_script : (workers : ℕ) (bytes : List ℕ) (lists : List (List C)) → IsScript grammar workers bytes lists → AreFew lists
+  pub few_script : (workers : ℕ) (bytes : List ℕ) (lists : List (List C)) → IsScript grammar workers bytes lists
+      → AreFew lists
   few_script workers bytes lists s = subst (λ l. AreFew l) (sym s.each) (few_lists workers s.orders s.spells.few)
 
   -- what holds of each call that is written holds of each of a script
@@ -63,13 +68,15 @@ module _ {C : Type 0} (grammar : Grammar C) where
     such_lists : (workers below : ℕ) (orders : List (Order C)) → AllByRecursion (IsOrder grammar workers) orders
         → AllByRecursion (λ calls. AllByRecursion Q calls) (lists_of below orders)
     such_lists workers zero orders each = tt
-    such_lists workers (suc below) orders each = all_append (λ calls. AllByRecursion Q calls) (lists_of below orders) (calls_by below orders)
+    such_lists workers (suc below) orders each =
+        all_append (λ calls. AllByRecursion Q calls) (lists_of below orders) (calls_by below orders)
         (such_lists workers below orders each) (such_calls workers below orders each)
 
     pub such_script : (workers : ℕ) (bytes : List ℕ) (lists : List (List C)) → IsScript grammar workers bytes lists
         → AllByRecursion (λ calls. AllByRecursion Q calls) lists
     such_script workers bytes lists s =
-        subst (λ l. AllByRecursion (λ calls. AllByRecursion Q calls) l) (sym s.each) (such_lists workers workers s.orders s.spells.each)
+        subst (λ l. AllByRecursion (λ calls. AllByRecursion Q calls) l) (sym s.each)
+        (such_lists workers workers s.orders s.spells.each)
 
 askable_call : (call : Call) → IsScriptCall call → IsAskable call
 askable_call (words.Get key) is = tt
@@ -80,7 +87,8 @@ askable_call (words.Swap key want value) is = tt
 askable_call (words.Range low bound) is = is.0
 
 -- every call of a script is askable
-pub askable_script : (workers : ℕ) (bytes : List ℕ) (lists : List (List Call)) → IsScript word_grammar workers bytes lists → AreAskable lists
+pub askable_script : (workers : ℕ) (bytes : List ℕ) (lists : List (List Call)) → IsScript word_grammar workers bytes lists
+    → AreAskable lists
 askable_script workers bytes lists s = such_script word_grammar IsAskable askable_call workers bytes lists s
 
 askable_key_call : (call : KeyCall) → IsKeyScriptCall call → AreKeyAskable ((call ∷ []) ∷ [])
@@ -90,7 +98,7 @@ askable_key_call (keys.Del key) is = ((tt, tt), tt)
 askable_key_call (keys.Window start most) is = ((is.1.0, tt), tt)
 askable_key_call (keys.Swap key want value) is = absurd is
 
-pub askable_key_script : (workers : ℕ) (bytes : List ℕ) (lists : List (List KeyCall)) → IsScript key_grammar workers bytes lists
-    → AreKeyAskable lists
+pub askable_key_script : (workers : ℕ) (bytes : List ℕ) (lists : List (List KeyCall))
+    → IsScript key_grammar workers bytes lists → AreKeyAskable lists
 askable_key_script workers bytes lists s =
     such_script key_grammar _ (λ call is. (askable_key_call call is).0.0) workers bytes lists s

@@ -65,14 +65,18 @@ ReadsTree outside left name (Err Memory) = Unit {0}
 ReadsTree outside left name (Err (Stopped stop)) = Fails outside left (image name) stop
 
 -- what the reader of a script of calls, as this grammar writes them, answers
-abbrev pub ReadsCallsIn : {C V : Type 0} → Grammar C → (V → List (List C)) → Outside → Remains → List ℕ → ℕ → Result V (Undone Stop) → Type 0
-ReadsCallsIn grammar view outside left name workers (Ok v) = HasFile outside.shown name (IsScriptIn grammar workers (view v))
+abbrev pub ReadsCallsIn : {C V : Type 0} → Grammar C → (V → List (List C)) → Outside → Remains → List ℕ → ℕ
+    → Result V (Undone Stop) → Type 0
+ReadsCallsIn grammar view outside left name workers (Ok v) =
+    HasFile outside.shown name (IsScriptIn grammar workers (view v))
 ReadsCallsIn grammar view outside left name workers (Err Memory) = Unit {0}
 ReadsCallsIn grammar view outside left name workers (Err (Stopped stop)) =
     IsNoScript outside left name (λ n. HasFile outside.shown name (IsBadScriptIn grammar workers n)) stop
 
-abbrev pub ReadsCalls : {V : Type 0} → (V → List (List Call)) → Outside → Remains → List ℕ → ℕ → Result V (Undone Stop) → Type 0
+abbrev pub ReadsCalls : {V : Type 0} → (V → List (List Call)) → Outside → Remains → List ℕ → ℕ
+    → Result V (Undone Stop) → Type 0
 ReadsCalls view outside left name workers result = ReadsCallsIn word_grammar view outside left name workers result
 
-abbrev pub ReadsKeyCalls : {V : Type 0} → (V → List (List KeyCall)) → Outside → Remains → List ℕ → ℕ → Result V (Undone Stop) → Type 0
+abbrev pub ReadsKeyCalls : {V : Type 0} → (V → List (List KeyCall)) → Outside → Remains → List ℕ → ℕ
+    → Result V (Undone Stop) → Type 0
 ReadsKeyCalls view outside left name workers result = ReadsCallsIn key_grammar view outside left name workers result

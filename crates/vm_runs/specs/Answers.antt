@@ -41,9 +41,9 @@ AnswersBy does run outside left (Ok outcome) = AllPass outside (order_of (comman
 AnswersBy does run outside left (Err undone) = StopsRun outside left run undone
 
 abbrev pub AnswersRun : (n : ℕ) {U : Type 0} → Run → Outside → Remains → Result (Outcome U Said) (Undone Stop) → Type 0
-AnswersRun n run outside left result =
-    AnswersBy (λ outcome. DoesRun n run outside.shown (content_of outcome.delivery) outcome.ended) run outside left result
+AnswersRun n run outside left result = AnswersBy
+    (λ outcome. DoesRun n run outside.shown (content_of outcome.delivery) outcome.ended) run outside left result
 
 abbrev pub AnswersKeyRun : {U : Type 0} → Run → Outside → Remains → Result (Outcome U KeySaid) (Undone Stop) → Type 0
-AnswersKeyRun run outside left result =
-    AnswersBy (λ outcome. DoesKeyRun run outside.shown (content_of outcome.delivery) outcome.ended) run outside left result
+AnswersKeyRun run outside left result = AnswersBy
+    (λ outcome. DoesKeyRun run outside.shown (content_of outcome.delivery) outcome.ended) run outside left result
