@@ -87,8 +87,8 @@ askable_call (words.Swap key want value) is = tt
 askable_call (words.Range low bound) is = is.0
 
 -- every call of a script is askable
-pub askable_script : (workers : ℕ) (bytes : List ℕ) (lists : List (List Call)) → IsScript word_grammar workers bytes lists
-    → AreAskable lists
+pub askable_script : (workers : ℕ) (bytes : List ℕ) (lists : List (List Call))
+    → IsScript word_grammar workers bytes lists → AreAskable lists
 askable_script workers bytes lists s = such_script word_grammar IsAskable askable_call workers bytes lists s
 
 askable_key_call : (call : KeyCall) → IsKeyScriptCall call → AreKeyAskable ((call ∷ []) ∷ [])

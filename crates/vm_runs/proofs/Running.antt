@@ -29,7 +29,8 @@ use Rattle.vm_reading.specs.from_vm_endings.KeyRuns.{IsFlushedKeyRun, IsKeyOutco
 use Rattle.vm_reading.specs.from_vm_endings.{Limits.holds_call, Outside.nothing_left, Outside.nowhere, Outside.Outside, Outside.Remains}
 use Rattle.vm_reading.specs.from_vm_endings.Runs.{IsFlushedRun, IsOutcome, IsUnflushedRun, OfFiles}
 use Rattle.vm_reading.specs.from_vm_endings.Scripts.{IsGoodKeyScript, IsGoodScript, IsKeyScriptOf, IsScriptOf}
-use Rattle.vm_reading.specs.from_vm_endings.Tests.{AllPass, any_image, depth, Fails, here, IsNoScript, Passes, past, run_script, StopsAt, Test}
+use Rattle.vm_reading.specs.from_vm_endings.Tests.{AllPass, any_image, depth, Fails, here, IsNoScript, Passes, past}
+use Rattle.vm_reading.specs.from_vm_endings.Tests.{run_script, StopsAt, Test}
 use Rattle.vm_reading.specs.AnyReadings.{IsKeyImage, IsWordImage, ReadsAnyTree}
 use Rattle.vm_reading.specs.Readings.{ReadsCalls, ReadsKeyCalls}
 use Rattle.vm_runs.specs.Answers.{DoesKeyRun, DoesRun, StopsRun, TellsLimits}

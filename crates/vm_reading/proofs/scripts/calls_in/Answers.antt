@@ -10,7 +10,8 @@ pub returns-in-Ok-read_lists-clause-reads : goal.returns-in-Ok-read_lists-clause
 returns-in-Ok-read_lists-clause-reads g c = λ outside left.
     let k = rw c.as_slice.ensures.value at c.in-Ok-read_lists.ensures.reading in
     short_file _ _ _ most_bytes
-    (IsScriptIn g.met.K.CallSyntax.grammar c.args.workers (items_of c.in-Ok-read_lists.lists.items)) c.in-Ok.ensures.whole k.0 (record { short = k.0; reads = k.1 })
+    (IsScriptIn g.met.K.CallSyntax.grammar c.args.workers (items_of c.in-Ok-read_lists.lists.items))
+    c.in-Ok.ensures.whole k.0 (record { short = k.0; reads = k.1 })
 
 pub returns-in-Ok-read_lists-clause-few : goal.returns-in-Ok-read_lists-clause-few
 returns-in-Ok-read_lists-clause-few g c =

@@ -18,8 +18,8 @@ returns-in-Err-clause-gives g c = λ outside left.
     let holds : holds_call c.args.tree.rows.height c.args.run.now.frames ≡ true =
     sym c.holds_call.ensures ∙ c.if-not-holds_call.false in
     key-calls-stop c.args.run.now c.args.workers c.args.tree c.requires.limits (with_shown outside _)
-    c.requires.image c.in-Err.undone (λ (v : Vec (Vec KeyCall Global) Global). items_of v.items) holds (with_unread left _)
-    (c.in-Err.ensures.reads outside left)
+    c.requires.image c.in-Err.undone (λ (v : Vec (Vec KeyCall Global) Global). items_of v.items) holds
+    (with_unread left _) (c.in-Err.ensures.reads outside left)
 
 pub returns-in-Ok-key_outcome_of-clause-gives : goal.returns-in-Ok-key_outcome_of-clause-gives
 returns-in-Ok-key_outcome_of-clause-gives g c = λ outside left.
