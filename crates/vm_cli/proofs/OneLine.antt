@@ -4,6 +4,7 @@ use Rattle.std.proofs.Common.{Option, Some, None, refl, sym, ap, subst, arith}
 use Rattle.std.proofs.lemmas.Bool.{and_parts, leb-true}
 use Rattle.vm_io.specs.Shown.{Shown}
 use Rattle.vm_image.specs.declared.blocks.PlannedFault.{PlannedFault}
+use Rattle.vm_bytes_laws.specs.declared.call.KeySaid.{KeySaid}
 use Rattle.vm_map.specs.{declared.call.Call.Call, declared.call.Said.Said}
 use Rattle.vm_file_serve.specs.from_vm_pool.declared_ended_Ended.{Ended}
 use Rattle.vm_file_serve.specs.from_vm_serve.Served.{IsServed}
@@ -19,7 +20,7 @@ use Rattle.vm_words.specs.declared.form.FormVerb.{FormVerb}
 use Rattle.vm_words.specs.Commands.{line_of, number_or, plan_or}
 use Rattle.vm_words.specs.Values.{Meaning, named, counted, planned, absent}
 use Rattle.vm_file_serve.specs.from_vm_endings.declared_ends_Ends.{Ends}
-use Rattle.vm_file_serve.specs.from_vm_endings.declared_ends_Ends_TheVariants.{LargeTree, Nothing, Tree}
+use Rattle.vm_file_serve.specs.from_vm_endings.declared_ends_Ends_TheVariants.{BytesTree, LargeTree, Nothing, Tree}
 use Rattle.vm_cli.specs.Agreement.{as_done, IsDoneStatus}
 use Rattle.vm_file_serve.specs.from_vm_endings.Commands.{Cut, IsSmooth, order_of}
 use Rattle.vm_file_serve.specs.from_vm_endings.Deliveries.{Content}
@@ -27,7 +28,8 @@ use Rattle.vm_file_serve.specs.from_vm_endings.Endings.{Performs, cut, told}
 use Rattle.vm_file_serve.specs.from_vm_endings.Files.{HasFile}
 use Rattle.vm_file_serve.specs.from_vm_endings.Limits.{are_workers, words_or}
 use Rattle.vm_file_serve.specs.from_vm_endings.Outside.{Outside, Remains}
-use Rattle.vm_file_serve.specs.from_vm_endings.Runs.{CutRun, IsUnflushedRun, OfFiles, version_or}
+use Rattle.vm_file_serve.specs.from_vm_endings.{AnyRuns.CutRun, KeyRuns.IsUnflushedKeyRun, KeyRuns.OfKeyFiles}
+use Rattle.vm_file_serve.specs.from_vm_endings.Runs.{IsUnflushedRun, OfFiles, version_or}
 use Rattle.vm_file_serve.specs.from_vm_endings.Tests.{events}
 use Rattle.vm_cli.proofs.OneStop.{AreBounded, both_of, HoldSame, over}
 
@@ -178,13 +180,18 @@ all_written n run end content pages lists none is =
 
 no_cut_files : (n : ℕ) {U : Type 0} (shown : Shown) (run : RunLine) (end : Ended U Said) (content : Content)
     → run.options.fail.items ≡ [] → OfFiles n (Some shown) run (IsUnflushedRun n run end content) → ⊥
-no_cut_files n shown run end content none is = all_written n run end content _ is.2.2.2.0 none is.2.2.2.2
+no_cut_files n shown run end content none is = all_written n run end content _ is.2.3.2.0 none is.2.3.2.2
+
+no_cut_key_files : {U : Type 0} (shown : Shown) (run : RunLine) (end : Ended U KeySaid) (content : Content)
+    → run.options.fail.items ≡ [] → OfKeyFiles (Some shown) run (IsUnflushedKeyRun run end content) → ⊥
+no_cut_key_files shown run end content none is = is.2.2.2.2 none
 
 no_cut_run : (shown : Shown) (run : RunLine) (content : Content) (after : Ends) → run.options.fail.items ≡ []
     → CutRun run (Some shown) content after → ⊥
 no_cut_run shown run content Nothing none is = is
 no_cut_run shown run content (Tree end) none is = no_cut_files 64 shown run end content none is
 no_cut_run shown run content (LargeTree end) none is = no_cut_files 512 shown run end content none is
+no_cut_run shown run content (BytesTree end) none is = no_cut_key_files shown run end content none is
 
 -- what makes a command end otherwise is not there, but that a serve may end with 7
 pub cut_done : (shown : Shown) (a : Outside) (left : Remains) (c d : Command) (content : Content) (before after : Ends)

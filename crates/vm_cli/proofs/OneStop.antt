@@ -1,21 +1,27 @@
 -- Where a host tells, a file has one list of bytes, and where devices tell, one list of pages: so a test that passes fails only where the file was
 -- not read, and a test that fails has one status.
-use Rattle.std.proofs.Common.{◌≡◌, ◌≢◌, ◌∙◌, ℕ, ◌*◌, ◌<◌, ◌^◌, true, true≢false, length, List, [], ◌∷◌, Option, Some, refl, sym, ap, subst}
+use Rattle.std.proofs.Common.{◌≡◌, ◌≢◌, ◌∙◌, ℕ, ◌*◌, ◌<◌, ◌≤◌, ◌^◌, Bool, false, true, true≢false, length, List, []}
+use Rattle.std.proofs.Common.{◌∷◌, Option, Some, refl, sym, ap, subst}
 use Rattle.std.proofs.Common.{arith}
 use Rattle.std.specs.Option.{option_map_or}
 use Rattle.vm_io.specs.Shown.{Shown}
 use Rattle.vm_device.specs.Devices.{size_of}
-use Rattle.vm_script.specs.{Orders.TellsCalls, Scripts.word_grammar}
+use Rattle.vm_bytes_script.specs.KeyScripts.{key_grammar}
+use Rattle.vm_bytes_script.proofs.KeyLines.{tells as keys-tell}
+use Rattle.vm_script.specs.{Orders.Grammar, Orders.most_bytes, Orders.TellsCalls, Scripts.word_grammar}
 use Rattle.vm_script.proofs.{Orders.lacks_call, Orders.one_call, Readings.not_both}
 use Rattle.vm_script.proofs.EventReadings.{not_both as not_both_events}
 use Rattle.vm_file_serve.specs.from_vm_endings.declared_stop_Stop.{Stop}
 use Rattle.vm_file_serve.specs.from_vm_endings.declared_stop_Stop_TheVariants.{Shape, Unread, Length, Page, TooFew, Long, Line}
+use Rattle.vm_file_serve.specs.from_vm_bytes_file.KeyFiles.{is_key_file}
+use Rattle.vm_file_serve.specs.from_vm_endings.AnyFiles.{IsBadScriptWith, IsGoodScriptWith}
 use Rattle.vm_file_serve.specs.from_vm_endings.Files.{HasFile}
 use Rattle.vm_file_serve.specs.from_vm_endings.Held.{HasFilePages, pages_held}
 use Rattle.vm_file_serve.specs.from_vm_endings.Outside.{Outside, Remains, with_shown}
+use Rattle.vm_file_serve.specs.from_vm_endings.Scripts.{IsBadScriptIn, IsGoodScriptIn}
 use Rattle.vm_file_serve.specs.from_vm_endings.Stops.{status_of}
 use Rattle.vm_file_serve.specs.from_vm_endings.Tests.{AllPass, any_image, Fails, Passes, StopsAt, Test, depth, events, here}
-use Rattle.vm_file_serve.specs.from_vm_endings.Tests.{image, past, room, script, space, stored}
+use Rattle.vm_file_serve.specs.from_vm_endings.Tests.{image, past, room, run_script, script, space, stored}
 use Rattle.vm_file_serve.specs.from_vm_endings.Tests.{stored_depth, within}
 
 -- a call with words as keys is one line, and a text is that of one call
@@ -66,6 +72,7 @@ IsBounded a b (depth frames name) = Unit {0}
 IsBounded a b (stored name) = HoldSame a b
 IsBounded a b (stored_depth frames name) = HoldSame a b
 IsBounded a b (script name workers) = workers < 2 ^ 32
+IsBounded a b (run_script image name workers) = workers < 2 ^ 32
 IsBounded a b (events name) = Unit {0}
 
 bounded_back : (a b : Outside) (test : Test) → IsBounded a b test → IsBounded b a test
@@ -78,6 +85,7 @@ bounded_back a b (depth frames name) is = tt
 bounded_back a b (stored name) is = held_back a b is
 bounded_back a b (stored_depth frames name) is = held_back a b is
 bounded_back a b (script name workers) is = is
+bounded_back a b (run_script image name workers) is = is
 bounded_back a b (events name) is = tt
 
 -- of each test that is asked
@@ -86,6 +94,23 @@ AreBounded shown a b [] = Unit {0}
 AreBounded shown a b (test ∷ tests) = IsBounded a b test × (Passes (over shown a) test → AreBounded shown a b tests)
 
 -- ---- a test that passes fails only where the file was not read
+
+-- a script is no bad one
+not_bad : {C : Type 0} (grammar : Grammar C) → TellsCalls grammar → (workers n : ℕ) (bytes : List ℕ) → workers < 2 ^ 32
+    → IsGoodScriptIn grammar workers bytes → IsBadScriptIn grammar workers n bytes → ⊥
+not_bad grammar tells workers n bytes few good bad =
+    not_both grammar tells workers bytes good.1.reads.orders n few good.1.reads.spells bad.first
+
+not_bad_with : (has_keys : Bool) (workers n : ℕ) (bytes : List ℕ) → workers < 2 ^ 32
+    → IsGoodScriptWith has_keys workers bytes → IsBadScriptWith has_keys workers n bytes → ⊥
+not_bad_with true workers n bytes few good bad = not_bad key_grammar keys-tell workers n bytes few good bad
+not_bad_with false workers n bytes few good bad = not_bad word_grammar words-tell workers n bytes few good bad
+
+-- nor is it too long
+short_with : (has_keys : Bool) (workers : ℕ) (bytes : List ℕ) → IsGoodScriptWith has_keys workers bytes
+    → length bytes ≤ most_bytes
+short_with true workers bytes good = good.1.short
+short_with false workers bytes good = good.1.short
 
 module _ (shown : Shown) (a b : Outside) (left : Remains) where
   read_image : (name : List ℕ) (stop : Stop) → Passes (over shown a) (image name)
@@ -109,8 +134,21 @@ module _ (shown : Shown) (a b : Outside) (left : Remains) where
   read_script name workers (Long lines) few p f =
       let b = both_of shown name _ _ p f.1 in absurd (omega (arith, b.1.1.short, b.2))
   read_script name workers (Line lines n) few p f =
-      let b = both_of shown name _ _ p f.1 in absurd (not_both word_grammar words-tell workers b.0 b.1.1.reads.orders n few b.1.1.reads.spells b.2.first)
+      let b = both_of shown name _ _ p f.1 in absurd (not_bad word_grammar words-tell workers n b.0 few b.1 b.2)
   read_script name workers _ few p f = absurd f
+
+  read_run_script : (image name : List ℕ) (workers : ℕ) (stop : Stop) → workers < 2 ^ 32
+      → Passes (over shown a) (run_script image name workers)
+      → Fails (over shown b) left (run_script image name workers) stop → status_of stop ≡ 2
+  read_run_script image name workers (Unread unread) few p f = refl
+  read_run_script image name workers (Long lines) few p f =
+      let b = both_of shown name _ _ p.2 f.1 in
+      absurd (omega (arith, short_with (is_key_file p.0) workers b.0 b.1, b.2))
+  read_run_script image name workers (Line lines n) few p f =
+      let i = both_of shown image _ _ p f.1 in
+      let b = both_of shown name _ _ i.1 i.2 in
+      absurd (not_bad_with (is_key_file i.0) workers n b.0 few b.1 b.2)
+  read_run_script image name workers _ few p f = absurd f
 
   read_events : (name : List ℕ) (stop : Stop) → Passes (over shown a) (events name)
       → Fails (over shown b) left (events name) stop → status_of stop ≡ 2
@@ -162,6 +200,7 @@ module _ (shown : Shown) (a b : Outside) (left : Remains) where
       absurd (true≢false (sym t.1 ∙ t.2))
   unread_only (stored_depth frames name) _ few p f = absurd f
   unread_only (script name workers) stop few p f = read_script name workers stop few p f
+  unread_only (run_script image name workers) stop few p f = read_run_script image name workers stop few p f
   unread_only (events name) stop few p f = read_events name stop p f
 
   -- tests that all pass stop nothing but where a file was not read
@@ -183,6 +222,7 @@ status_in (depth frames name) = 5
 status_in (stored name) = 4
 status_in (stored_depth frames name) = 5
 status_in (script name workers) = 5
+status_in (run_script image name workers) = 5
 status_in (events name) = 5
 
 one_status : (outside : Outside) (left : Remains) (test : Test) (stop : Stop) → Fails outside left test stop
@@ -213,6 +253,10 @@ one_status outside left (script name workers) (Unread unread) f read = absurd (r
 one_status outside left (script name workers) (Long lines) f read = refl
 one_status outside left (script name workers) (Line lines n) f read = refl
 one_status outside left (script name workers) _ f read = absurd f
+one_status outside left (run_script image name workers) (Unread unread) f read = absurd (read refl)
+one_status outside left (run_script image name workers) (Long lines) f read = refl
+one_status outside left (run_script image name workers) (Line lines n) f read = refl
+one_status outside left (run_script image name workers) _ f read = absurd f
 one_status outside left (events name) (Unread unread) f read = absurd (read refl)
 one_status outside left (events name) (Long lines) f read = refl
 one_status outside left (events name) (Line lines n) f read = refl

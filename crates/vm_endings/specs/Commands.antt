@@ -9,9 +9,10 @@ use Rattle.vm_endings.specs.{Files.HasFile, Makes.ToldMake, MakesBytes.ToldMakeB
 use Rattle.vm_endings.specs.declared.stop.Quantity.TheVariants.{Fail, FirstVersion, Frames, Pages, Pairs, Words, Workers}
 use Rattle.vm_endings.specs.Limits.{are_entries, are_frames, are_pages, are_pairs_to_churn, are_pairs_to_make}
 use Rattle.vm_endings.specs.Limits.{are_words, are_workers, is_version, words_or}
-use Rattle.vm_endings.specs.{Outside.Outside, Outside.Remains, Runs.CutRun, Runs.ToldRun, Runs.version_or}
+use Rattle.vm_endings.specs.{AnyRuns.CutRun, AnyRuns.ToldRun, Outside.Outside, Outside.Remains, Runs.version_or}
 use Rattle.vm_endings.specs.{Serves.CutServe, Serves.ToldServe}
-use Rattle.vm_endings.specs.Tests.{any_image, depth, events, image, room, script, space, stored, stored_depth, Test, within}
+use Rattle.vm_endings.specs.Tests.{any_image, depth, events, image, room, run_script, script, space, stored}
+use Rattle.vm_endings.specs.Tests.{stored_depth, Test, within}
 
 -- the numbers of a run
 abbrev pub limits_of : Run → List Test
@@ -28,7 +29,12 @@ limits_to_serve serve = within Workers (are_workers serve.workers) ∷ within Fr
 
 -- what a command asks before it does anything
 abbrev pub order_of : Command → List Test
-order_of (commands.Run run) = limits_of run ++ image run.image.now ∷ depth run.frames run.image.now ∷ script run.script.now run.workers ∷ []
+order_of (commands.Run run) =
+    limits_of run
+    ++ any_image run.image.now
+    ∷ depth run.frames run.image.now
+    ∷ run_script run.image.now run.script.now run.workers
+    ∷ []
 order_of (commands.Make make) =
     within Pages (are_pages (words_or make.words) make.pages)
     ∷ within Pairs (are_pairs_to_make make.pairs)

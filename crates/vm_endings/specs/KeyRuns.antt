@@ -3,6 +3,7 @@
 use Rattle.std.specs.Borrow.{Bor}
 use Rattle.std.specs.List.{flat_map}
 use Rattle.std.specs.Prelude.{◌++◌, ◌≡◌, ◌⊎◌, List, None, Option, Result, Some, true, ℕ}
+use Rattle.vm_io.specs.Shown.{Shown}
 use Rattle.vm_tree_model.specs.Tree.{map_of}
 use Rattle.vm_block.specs.declared.memory.MemBlock.{MemBlock}
 use Rattle.vm_image.specs.{Blocks.pages_of_blocks, File.pages_of_bytes}
@@ -19,7 +20,15 @@ use Rattle.vm_bytes_text.specs.KeyTexts.{key_text, line_with}
 use Rattle.vm_bytes_replies.specs.KeyLines.{key_worker_lines}
 use Rattle.vm_script.specs.Texts.{unflushed_line}
 use Rattle.vm_words.specs.declared.Run.{Run}
-use Rattle.vm_endings.specs.{Deliveries.Content, Deliveries.Written, Images.IsTreeIn, Replies.counters_of, Runs.version_or}
+use Rattle.vm_endings.specs.{Deliveries.Content, Deliveries.Written, Files.HasFile, Images.IsTreeIn, Replies.counters_of}
+use Rattle.vm_endings.specs.{Runs.version_or, Scripts.IsKeyScriptOf}
+
+-- this holds of the pages of the image, which are a tree with byte keys, and of the workers' calls in the script
+abbrev pub OfKeyFiles : Option Shown → Run → (List (List ℕ) → List (List KeyCall) → Type 0) → Type 0
+OfKeyFiles shown run P = HasFile shown run.image.now
+    (λ image. (is_key_file image ≡ true) × IsTreeIn keyed image × HasFile shown run.script.now
+    (λ script. (lists : List (List KeyCall)) × IsKeyScriptOf run.workers lists script
+    × P (pages_of_bytes 512 image) lists))
 
 -- the lines of the pairs of a map over strings
 abbrev pub entries_text : List KeyEntry → List ℕ

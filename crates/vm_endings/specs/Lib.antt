@@ -11,6 +11,8 @@ pub mod Replies
 pub mod Ends
 pub mod Made
 pub mod Runs
+pub mod KeyRuns
+pub mod AnyRuns
 pub mod Serves
 pub mod Makes
 pub mod MakesBytes
@@ -22,6 +24,7 @@ pub mod Replays
 pub mod Commands
 pub mod Endings
 pub mod from_vm_churn
+pub mod from_vm_bytes_drive
 pub mod from_vm_bytes_file
 pub mod from_vm_drive
 pub mod from_vm_evict

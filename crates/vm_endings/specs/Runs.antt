@@ -1,6 +1,7 @@
--- What the command `run` does: the script's calls are made on the image's tree, the pages are flushed, and what came of it is told.
+-- What the command `run` does where keys are words: the script's calls are made on the image's tree, the pages are
+-- flushed, and what came of it is told.
 use Rattle.std.specs.Borrow.{Bor}
-use Rattle.std.specs.Prelude.{◌++◌, ◌≡◌, ◌⊎◌, List, None, Option, Some, ℕ}
+use Rattle.std.specs.Prelude.{◌++◌, ◌≡◌, ◌⊎◌, false, List, None, Option, Some, ℕ}
 use Rattle.vm_io.specs.Shown.{Shown}
 use Rattle.vm_map.specs.{declared.call.Call.Call, declared.call.Said.Said}
 use Rattle.vm_tree_model.specs.{Fixed.fixed, Tree.map_of}
@@ -9,7 +10,8 @@ use Rattle.vm_image.specs.File.{words_of_file}
 use Rattle.vm_serve.specs.from_vm_pool.declared_ended_Ended.{Ended}
 use Rattle.vm_script.specs.Texts.{rows_text, unflushed_line, worker_replies}
 use Rattle.vm_words.specs.declared.Run.{Run}
-use Rattle.vm_endings.specs.{declared.ends.Ends.Ends, Deliveries.Content, Deliveries.Written, Ends.OfEnd}
+use Rattle.vm_bytes_file.specs.KeyFiles.{is_key_file}
+use Rattle.vm_endings.specs.{Deliveries.Content, Deliveries.Written}
 use Rattle.vm_endings.specs.{Files.HasFile, Images.IsFileOf, Images.IsTreeFile, Images.pages_of_file, Made.IsMade}
 use Rattle.vm_endings.specs.{Made.last_map, Replies.all_lines, Replies.counters_of, Scripts.IsScriptOf}
 
@@ -49,19 +51,12 @@ pub record IsUnflushedRun (n : ℕ) {U : Type 0} (run : Run) (end : Ended U Said
   pub text : content.text ≡ worker_replies 0 (all_lines lists made.replies) ++ unflushed_line page ++ counters_of end evicted
   pub file : content.file ≡ None
 
--- this holds of the pages of the image, which have n words and are a tree, and of the workers' calls in the script
+-- this holds of the pages of the image, which have n words and are a tree, with words as keys, and of the workers'
+-- calls in the script
 abbrev pub OfFiles : ℕ → Option Shown → Run → (List (List ℕ) → List (List Call) → Type 0) → Type 0
-OfFiles n shown run P =
-    HasFile shown run.image.now (λ image. (words_of_file image ≡ n) × IsTreeFile image × HasFile shown run.script.now
+OfFiles n shown run P = HasFile shown run.image.now
+    (λ image. (is_key_file image ≡ false) × (words_of_file image ≡ n) × IsTreeFile image × HasFile shown run.script.now
     (λ script. (lists : List (List Call)) × IsScriptOf run.workers lists script × P (pages_of_file image) lists))
-
--- the headline: what status 0 says of a run, whose one history is kept in `after`
-abbrev pub ToldRun : Run → Option Shown → Content → Ends → Type 0
-ToldRun run shown content after = OfEnd after (λ n end. OfFiles n shown run (IsFlushedRun n run end content))
-
--- a run that was not flushed whole
-abbrev pub CutRun : Run → Option Shown → Content → Ends → Type 0
-CutRun run shown content after = OfEnd after (λ n end. OfFiles n shown run (IsUnflushedRun n run end content))
 
 -- what workers' calls come to: every page was flushed, or one was not
 abbrev pub IsOutcome : {U : Type 0} → ℕ → Run → List (List ℕ) → List (List Call) → Content → Ended U Said → Type 0

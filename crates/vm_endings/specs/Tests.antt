@@ -9,8 +9,9 @@ use Rattle.vm_endings.specs.declared.stop.Quantity.TheVariants.{Frames}
 use Rattle.vm_endings.specs.{declared.stop.Stop.Stop, Files.HasFile, Limits.holds_call}
 use Rattle.vm_endings.specs.declared.stop.Stop.TheVariants.{Length, Line, Long, Page, Shape, TooFew, Unread}
 use Rattle.vm_endings.specs.Held.{AreNoTree, HasFilePages, IsNoServedLength, IsServedTree}
-use Rattle.vm_endings.specs.Images.{file_height, file_map, HoldsNoTree, HoldsNoTreeIn, IsTreeFile, IsTreeIn, IsWrongLength, IsWrongLengthIn, root_level}
-use Rattle.vm_endings.specs.AnyFiles.{any_layout}
+use Rattle.vm_endings.specs.Images.{file_map, HoldsNoTree, HoldsNoTreeIn, IsTreeFile, IsTreeIn, IsWrongLength}
+use Rattle.vm_endings.specs.Images.{IsWrongLengthIn, root_level}
+use Rattle.vm_endings.specs.AnyFiles.{any_height, any_layout, IsBadScriptFor, IsGoodScriptFor}
 use Rattle.vm_endings.specs.Outside.{Outside, Remains}
 use Rattle.vm_endings.specs.Scripts.{AreBadEvents, AreGoodEvents, IsBadScript, IsGoodScript, IsLong}
 
@@ -25,7 +26,7 @@ pub data Test : Type 0 where
   any_image : List ℕ → Test
   -- so many pages of 512 words are enough for the pairs of the tree in the file with this name
   space : ℕ → List ℕ → Test
-  -- so many frames hold the pages of one call on the tree in the file with this name
+  -- so many frames hold the pages of one call on the tree in the file with this name, with byte keys or without
   depth : ℕ → List ℕ → Test
   -- the pages that devices hold of the file with this name are 2 to 256, and a tree
   stored : List ℕ → Test
@@ -33,6 +34,8 @@ pub data Test : Type 0 where
   stored_depth : ℕ → List ℕ → Test
   -- the file with this name is a script of so many workers
   script : List ℕ → ℕ → Test
+  -- the file with the second name is a script of so many workers, with keys as the tree in the file with the first has
+  run_script : (image script : List ℕ) → ℕ → Test
   -- the file with this name is an event list
   events : List ℕ → Test
 
@@ -42,10 +45,12 @@ Passes outside (room words pages pairs) = needed words pairs ≤ pages
 Passes outside (image name) = HasFile outside.shown name IsTreeFile
 Passes outside (any_image name) = HasFile outside.shown name (λ bytes. IsTreeIn (any_layout bytes) bytes)
 Passes outside (space pages name) = HasFile outside.shown name (λ bytes. needed 512 (length (file_map bytes)) ≤ pages)
-Passes outside (depth frames name) = HasFile outside.shown name (λ bytes. holds_call (file_height bytes) frames ≡ true)
+Passes outside (depth frames name) = HasFile outside.shown name (λ bytes. holds_call (any_height bytes) frames ≡ true)
 Passes outside (stored name) = HasFilePages outside name IsServedTree
 Passes outside (stored_depth frames name) = HasFilePages outside name (λ pages. holds_call (root_level pages) frames ≡ true)
 Passes outside (script name workers) = HasFile outside.shown name (IsGoodScript workers)
+Passes outside (run_script image name workers) =
+    HasFile outside.shown image (λ bytes. HasFile outside.shown name (IsGoodScriptFor bytes workers))
 Passes outside (events name) = HasFile outside.shown name AreGoodEvents
 
 -- a file was not read: it is the one that the host could not read last
@@ -55,6 +60,13 @@ IsUnread left name unread = (unread ≡ name) × (left.unread ≡ name)
 -- a page file of devices was not read: their count of faults rose since, or stands at its last value
 abbrev pub IsUnservable : Outside → Remains → (name unread : List ℕ) → Type 0
 IsUnservable outside left name unread = (unread ≡ name) × RoseOrLast outside.devices.count left.devices.count
+
+-- why a file is no script: it was not read, it is too long, or a line is refused, which `bad` says
+abbrev pub IsNoScript : Outside → Remains → (name : List ℕ) → (bad : ℕ → Type 0) → Stop → Type 0
+IsNoScript outside left name bad (Unread unread) = IsUnread left name unread.now
+IsNoScript outside left name bad (Long lines) = (lines ≡ Script) × HasFile outside.shown name IsLong
+IsNoScript outside left name bad (Line lines n) = (lines ≡ Script) × bad n
+IsNoScript outside left name bad _ = ⊥
 
 -- why a test fails; `left` is what remains outside then
 abbrev pub Fails : Outside → Remains → Test → Stop → Type 0
@@ -76,7 +88,7 @@ Fails outside left (space pages name) (TooFew told wanted) =
     (λ bytes. (pages < needed 512 (length (file_map bytes))) × (wanted ≡ needed 512 (length (file_map bytes))))
 Fails outside left (space pages name) _ = ⊥
 Fails outside left (depth frames name) (Shape other) =
-    (other ≡ Frames) × HasFile outside.shown name (λ bytes. holds_call (file_height bytes) frames ≡ false)
+    (other ≡ Frames) × HasFile outside.shown name (λ bytes. holds_call (any_height bytes) frames ≡ false)
 Fails outside left (depth frames name) _ = ⊥
 Fails outside left (stored name) (Unread unread) = IsUnservable outside left name unread.now
 Fails outside left (stored name) (Length told) = IsNoServedLength outside left name told
@@ -85,10 +97,10 @@ Fails outside left (stored name) _ = ⊥
 Fails outside left (stored_depth frames name) (Shape other) =
     (other ≡ Frames) × HasFilePages outside name (λ pages. holds_call (root_level pages) frames ≡ false)
 Fails outside left (stored_depth frames name) _ = ⊥
-Fails outside left (script name workers) (Unread unread) = IsUnread left name unread.now
-Fails outside left (script name workers) (Long lines) = (lines ≡ Script) × HasFile outside.shown name IsLong
-Fails outside left (script name workers) (Line lines n) = (lines ≡ Script) × HasFile outside.shown name (IsBadScript workers n)
-Fails outside left (script name workers) _ = ⊥
+Fails outside left (script name workers) stop =
+    IsNoScript outside left name (λ n. HasFile outside.shown name (IsBadScript workers n)) stop
+Fails outside left (run_script image name workers) stop = IsNoScript outside left name
+    (λ n. HasFile outside.shown image (λ bytes. HasFile outside.shown name (IsBadScriptFor bytes workers n))) stop
 Fails outside left (events name) (Unread unread) = IsUnread left name unread.now
 Fails outside left (events name) (Long lines) = (lines ≡ Events) × HasFile outside.shown name IsLong
 Fails outside left (events name) (Line lines n) = (lines ≡ Events) × HasFile outside.shown name (AreBadEvents n)

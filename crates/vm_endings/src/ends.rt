@@ -1,5 +1,6 @@
 //! What is kept of a run after it.
 
+use crate::key_tree::BytesTree;
 use vm_serve::kind::{Tree, TreeOf, Words512};
 use vm_serve::pool::Ended;
 
@@ -15,4 +16,6 @@ pub enum Ends {
     Tree(Ended<Tree>),
     /// Of pages of 512 words.
     LargeTree(Ended<LargeTree>),
+    /// Of pages of 512 words, whose nodes have byte keys.
+    BytesTree(Ended<BytesTree>),
 }

@@ -7,6 +7,8 @@ pub mod delivery;
 pub mod drive;
 pub mod ends;
 pub mod key_files;
+pub mod key_texts;
+pub mod key_tree;
 pub mod kind;
 pub mod limits;
 pub mod pool;

@@ -23,7 +23,7 @@ use vm_map::call::Call;
 use vm_page::WORDS;
 use vm_reading::drive::Gate;
 use vm_reading::endings::{Delivery, Ends, Quantity, Stop, Undone, are_frames, are_workers};
-use vm_reading::reading::read_calls;
+use vm_reading::scripts::read_calls;
 use vm_reading::serve::ServedOn;
 use vm_words::Serve;
 

@@ -20,11 +20,10 @@ use Rattle.vm_reading.specs.from_vm_endings.declared_undone_Undone.{Undone}
 use Rattle.vm_reading.specs.from_vm_endings.declared_undone_Undone_TheVariants.{Stopped, Memory}
 use Rattle.vm_tree_model.specs.Tree.{map_of}
 use Rattle.vm_image.specs.File.{pages_of_bytes}
-use Rattle.vm_check.specs.declared.rows.TreeRows.{TreeRows}
 use Rattle.vm_bytes_form.specs.Bytes.{bytes as keyed}
 use Rattle.vm_words.specs.declared.MakeBytes.{MakeBytes}
-use Rattle.vm_reading.specs.AnyReadings.{AreKeyRows, IsAnyStored, ReadsAnyTree}
-use Rattle.vm_reading.specs.declared.any.AnyTree.{AnyTree}
+use Rattle.vm_reading.specs.AnyReadings.{IsAnyStored, IsKeyStored, ReadsAnyTree}
+use Rattle.vm_reading.specs.declared.any.{AnyTree.AnyTree, KeyTree.KeyTree}
 use Rattle.vm_reading.specs.declared.any.AnyTree.TheVariants.{Keys, Words}
 use Rattle.vm_reading.specs.from_vm_endings.AnyFiles.{check_text_with}
 use Rattle.vm_reading.specs.from_vm_endings.MakesBytes.{ToldMakeBytes}
@@ -54,22 +53,22 @@ checked-words tree text bytes is has =
     ∙ ap (λ n. check_text (file_map bytes) n (rows_in tree).used) has.are.height
     ∙ ap (λ n. check_text (file_map bytes) (file_height bytes) n) has.are.used
 
-checked-keys : (rows : TreeRows (List ℕ × ℕ)) (text bytes : List ℕ) → text ≡ text_in (Keys rows) → AreKeyRows rows bytes
+checked-keys : (tree : KeyTree) (text bytes : List ℕ) → text ≡ text_in (Keys tree) → IsKeyStored tree bytes
     → text ≡ check_text_with true bytes
-checked-keys rows text bytes is has =
+checked-keys tree text bytes is has =
     let pages = pages_of_bytes 512 bytes in
-    is ∙ ap (λ l. key_check_text l rows.height rows.used) has.1.pairs
-    ∙ ap (λ n. key_check_text (map_of keyed pages) n rows.used) has.1.height
-    ∙ ap (λ n. key_check_text (map_of keyed pages) (root_level pages) n) has.1.used
+    is ∙ ap (λ l. key_check_text l tree.rows.height tree.rows.used) has.rows.pairs
+    ∙ ap (λ n. key_check_text (map_of keyed pages) n tree.rows.used) has.rows.height
+    ∙ ap (λ n. key_check_text (map_of keyed pages) (root_level pages) n) has.rows.used
 
 checked-bytes : (tree : AnyTree) (text bytes : List ℕ) → text ≡ text_in tree → IsAnyStored tree bytes → IsChecked text bytes
 checked-bytes (Words tree) text bytes is has = record {
   good = any-file (Words tree) bytes has;
   told = subst (λ b. text ≡ check_text_with b bytes) (sym has.0) (checked-words tree text bytes is (tree-rows tree bytes has.1));
 }
-checked-bytes (Keys rows) text bytes is has = record {
-  good = any-file (Keys rows) bytes has;
-  told = subst (λ b. text ≡ check_text_with b bytes) (sym has.0) (checked-keys rows text bytes is has.1);
+checked-bytes (Keys tree) text bytes is has = record {
+  good = any-file (Keys tree) bytes has;
+  told = subst (λ b. text ≡ check_text_with b bytes) (sym has.0) (checked-keys tree text bytes is has.1);
 }
 
 pub check-gives : (outside : Outside) (left : Remains) (check : Check) (tree : AnyTree)

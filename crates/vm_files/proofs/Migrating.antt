@@ -1,5 +1,6 @@
 -- The pairs of a page file, as a builder takes them, and the page file that is built of them.
-use Rattle.std.proofs.Common.{◌≡◌, ◌∙◌, ◌/◌, ◌*◌, ◌≤◌, ap, arith, leb, length, List, None, Option, Some, subst, sym, true, ℕ, slice_index}
+use Rattle.std.proofs.Common.{◌≡◌, ◌∙◌, ◌/◌, ◌*◌, ◌≤◌, ap, arith, leb, length, List, Option, Some, subst, sym, true, ℕ}
+use Rattle.std.proofs.Common.{slice_index}
 use Rattle.std.proofs.lemmas.Bool.{and_parts, leb-true}
 use Rattle.vm_io.specs.Shown.{Shown}
 use Rattle.vm_map.specs.{Keys.KEY_END, Map.Pairs, Map.Rises}
@@ -17,12 +18,7 @@ use Rattle.vm_reading.specs.declared.reading.StoredTree.{StoredTree}
 use Rattle.vm_reading.specs.Readings.{IsStoredTree, rows_in}
 use Rattle.vm_files.proofs.FilePairs.{pairs_few}
 use Rattle.vm_reading.proofs.from_vm_endings.FileWords.{file_sized, length-pages_in}
-use Rattle.vm_reading.proofs.Found.{HasRows, tree-rows}
-
--- there are bytes of which it holds
-abbrev some_bytes : (shown : Option Shown) (name : List ℕ) (P : List ℕ → Type 0) → HasFile shown name P → (bytes : List ℕ) × P bytes
-some_bytes None name P has = has
-some_bytes (Some shown) name P has = (has.0, has.2)
+use Rattle.vm_reading.proofs.{Files.some_bytes, Found.HasRows, Found.tree-rows}
 
 module _ (shown : Option Shown) (name : List ℕ) (tree : StoredTree) (rows : Rows)
     (read : HasFile shown name (IsStoredTree tree)) (are : rows ≡ rows_in tree) where

@@ -14,4 +14,4 @@ key_check_text rows height used = key_rows_text rows ++ tree_line height used (l
 
 abbrev pub text_in : AnyTree → List ℕ
 text_in (Words tree) = check_text (rows_in tree).pairs.items (rows_in tree).height (rows_in tree).used
-text_in (Keys rows) = key_check_text (ranks_of rows.pairs.items) rows.height rows.used
+text_in (Keys tree) = key_check_text (ranks_of tree.rows.pairs.items) tree.rows.height tree.rows.used

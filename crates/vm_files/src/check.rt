@@ -58,7 +58,7 @@ fn text_of(alloc: Global, tree: AnyTree) -> Result<Vec<u8>, AllocError>
 {
     match tree {
         AnyTree::Words(tree) => rows_text(alloc, &tree.into_rows()),
-        AnyTree::Keys(rows) => key_rows_text(alloc, &rows),
+        AnyTree::Keys(tree) => key_rows_text(alloc, &tree.rows),
     }
 }
 

@@ -1,23 +1,16 @@
 -- What is read of a file, and what the file has.
-use Rattle.std.proofs.Common.{◌≡◌, Bool, true, false, cond, zero, suc, ◌==◌, ℕ, ◌+◌, ◌≤◌, ◌<◌, List, [], ◌∷◌, ◌++◌}
-use Rattle.std.proofs.Common.{length, map, take, Option, Some, None, ◌⊎◌, inl, inr, sym, ap, subst, ◌∙◌, arith}
+use Rattle.std.proofs.Common.{◌≡◌, ℕ, ◌+◌, ◌≤◌, ◌<◌, List, length, take, Option, Some, None, ◌⊎◌, inl, inr, sym, ap}
+use Rattle.std.proofs.Common.{subst, ◌∙◌, arith}
 use Rattle.std.proofs.Common.{length-take}
 use Rattle.std.proofs.lemmas.Bool.{cases_lt}
-use Rattle.std.proofs.lemmas.List.{take_all, length-map}
-use Rattle.std.specs.List.{AllByRecursion, filter}
+use Rattle.std.proofs.lemmas.List.{take_all}
 use Rattle.vm_io.specs.Shown.{Shown}
 use Rattle.vm_io.specs.Loops.{ReadsWhole}
-use Rattle.vm_map.specs.declared.call.Call.{Call}
-use Rattle.vm_map.specs.declared.call.Call.TheVariants.{Get, Put, Del, Range, Swap, Window}
-use Rattle.vm_map.specs.History.{IsAskable}
-use Rattle.vm_script.specs.declared.script.Order.{Order}
-use Rattle.vm_script.specs.Scripts.{IsScriptCall, IsOrder, IsScript, calls_by, lists_of, most_lines}
 use Rattle.vm_endings.specs.Files.{HasFile}
 use Rattle.vm_page.specs.Sizes.{IsSize}
 use Rattle.vm_tree_model.specs.Layout.{Layout}
 use Rattle.vm_image.specs.File.{IsPageFile}
 use Rattle.vm_image.proofs.FileSizes.{bytes_few}
-use Rattle.vm_endings.specs.from_vm_drive.Drives.{AreAskable, AreFew}
 use Rattle.vm_endings.specs.Images.{most_image, IsWrongLengthIn}
 
 whole_bytes : (bytes found : List ℕ) (limit : ℕ) → found ≡ take (limit + 1) bytes → length found ≤ limit → found ≡ bytes
@@ -67,72 +60,14 @@ module _ (layout : List ℕ → Layout) (sized : (bytes : List ℕ) → IsSize (
   wrong_length (Some shown) name found len w e none =
       (w.bytes, w.file, short_length w.bytes found len w.front e none (cases_lt most_image (length found)))
 
-length_filter : {X : Type 0} (p : X → Bool) (xs : List X) → length (filter p xs) ≤ length xs
-length_filter p [] = omega arith
-length_filter p (x ∷ xs) = let h = length_filter p xs in
-    elim (p x) as (λ b. length (cond b (x ∷ filter p xs) (filter p xs)) ≤ suc (length xs)) [
-      | true ↦
-          omega arith
-      | false ↦ omega arith
-    ]
-
-few_calls : (worker : ℕ) (orders : List (Order Call)) → length orders ≤ most_lines → length (calls_by worker orders) ≤ most_lines
-few_calls worker orders few =
-    omega (
-      arith,
-      length-map (filter (λ order. order.worker == worker) orders) (λ order. order.call),
-      length_filter (λ order. order.worker == worker) orders,
-    )
-
-few_append : {X : Type 0} (xs : List (List X)) (x : List X) → AreFew xs → length x ≤ 1000000 → AreFew (xs ++ x ∷ [])
-few_append [] x few h = (h, tt)
-few_append (y ∷ xs) x few h = (few.0, few_append xs x few.1 h)
-
-few_lists : (workers : ℕ) (orders : List (Order Call)) → length orders ≤ most_lines → AreFew (lists_of workers orders)
-few_lists zero orders few = tt
-few_lists (suc workers) orders few = few_append (lists_of workers orders) (calls_by workers orders)
-    (few_lists workers orders few) (few_calls workers orders few)
-
--- no worker of a script has more calls than a script has lines
-pub few_script : (workers : ℕ) (bytes : List ℕ) (lists : List (List Call)) → IsScript workers bytes lists → AreFew lists
-few_script workers bytes lists s = subst (λ l. AreFew l) (sym s.each) (few_lists workers s.orders s.spells.few)
-
-askable_call : (call : Call) → IsScriptCall call → IsAskable call
-askable_call (Get key) is = tt
-askable_call (Put key value) is = tt
-askable_call (Del key) is = tt
-askable_call (Window start most) is = is.1
-askable_call (Swap key want value) is = tt
-askable_call (Range low bound) is = is.0
-
-askable_calls : (workers worker : ℕ) (orders : List (Order Call)) → AllByRecursion (IsOrder workers) orders
-    → AllByRecursion IsAskable (calls_by worker orders)
-askable_calls workers worker [] each = tt
-askable_calls workers worker (order ∷ orders) each =
-    let others = askable_calls workers worker orders each.1 in
-    elim (order.worker == worker) as (λ b.
-    AllByRecursion IsAskable
-    (map (λ (o : Order Call). o.call)
-    (cond b (order ∷ filter (λ o. o.worker == worker) orders) (filter (λ o. o.worker == worker) orders)))) [
-      | true ↦ (askable_call order.call each.0.call, others)
-      | false ↦ others
-    ]
-
-askable_append : (xs : List (List Call)) (x : List Call) → AreAskable xs → AllByRecursion IsAskable x → AreAskable (xs ++ x ∷ [])
-askable_append [] x all h = (h, tt)
-askable_append (y ∷ xs) x all h = (all.0, askable_append xs x all.1 h)
-
-askable_lists : (workers below : ℕ) (orders : List (Order Call)) → AllByRecursion (IsOrder workers) orders → AreAskable (lists_of below orders)
-askable_lists workers zero orders each = tt
-askable_lists workers (suc below) orders each = askable_append (lists_of below orders) (calls_by below orders)
-    (askable_lists workers below orders each) (askable_calls workers below orders each)
-
--- every call of a script is askable
-pub askable_script : (workers : ℕ) (bytes : List ℕ) (lists : List (List Call)) → IsScript workers bytes lists → AreAskable lists
-askable_script workers bytes lists s = subst (λ l. AreAskable l) (sym s.each) (askable_lists workers workers s.orders s.spells.each)
-
 -- what holds of a file's bytes may be said weaker
 pub has_file : (told : Option Shown) (name : List ℕ) (P Q : List ℕ → Type 0) → ((bytes : List ℕ) → P bytes → Q bytes)
     → HasFile told name P → HasFile told name Q
 has_file None name P Q h f = (f.0, h f.0 f.1)
 has_file (Some shown) name P Q h f = (f.0, f.1, h f.0 f.2)
+
+-- there are bytes of which it holds
+abbrev pub some_bytes : (told : Option Shown) (name : List ℕ) (P : List ℕ → Type 0) → HasFile told name P
+    → (bytes : List ℕ) × P bytes
+some_bytes None name P has = has
+some_bytes (Some shown) name P has = (has.0, has.2)

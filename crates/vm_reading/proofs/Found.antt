@@ -1,5 +1,5 @@
 -- What was read of files, as what the files hold.
-use Rattle.std.proofs.Common.{ℕ, Bool, false, true, List, Result, Ok, Err, refl, sym, subst, arith}
+use Rattle.std.proofs.Common.{◌≡◌, ◌∙◌, ap, ℕ, Bool, false, true, List, Result, Ok, Err, refl, sym, subst, arith}
 use Rattle.vm_io.specs.Loops.{ReadsWhole}
 use Rattle.vm_tree_model.specs.Fixed.{fixed}
 use Rattle.vm_image.specs.File.{IsPageFile, pages_of_bytes, words_of_file}
@@ -7,10 +7,10 @@ use Rattle.vm_check.specs.Rows.{AreRows}
 use Rattle.vm_check.specs.declared.rows.Rows.{Rows}
 use Rattle.vm_page.specs.Sizes.{IsSize}
 use Rattle.vm_endings.specs.from_vm_bytes_file.KeyFiles.{is_key_file}
-use Rattle.vm_endings.specs.AnyFiles.{any_layout, layout_with}
-use Rattle.vm_reading.specs.declared.any.AnyTree.{AnyTree}
+use Rattle.vm_endings.specs.AnyFiles.{any_height, any_layout, layout_with}
+use Rattle.vm_reading.specs.declared.any.{AnyTree.AnyTree, KeyTree.KeyTree}
 use Rattle.vm_reading.specs.declared.any.AnyTree.TheVariants.{Keys, Words}
-use Rattle.vm_reading.specs.AnyReadings.{IsAnyStored, ReadsAnyTree, TellsAnyTree}
+use Rattle.vm_reading.specs.AnyReadings.{IsAnyStored, IsKeyImage, IsWordImage, ReadsAnyTree, TellsAnyTree}
 use Rattle.vm_reading.specs.declared.reading.ReadTree.{ReadTree}
 use Rattle.vm_reading.specs.declared.reading.StoredTree.{StoredTree}
 use Rattle.vm_reading.specs.declared.reading.StoredTree.TheVariants.{Words64, Words512}
@@ -21,7 +21,8 @@ use Rattle.vm_endings.specs.declared.undone.Undone.TheVariants.{Stopped, Memory}
 use Rattle.vm_endings.proofs.FileWords.{file_sized}
 use Rattle.vm_endings.specs.Endings.{HasReadCause}
 use Rattle.vm_endings.specs.Files.{HasFile}
-use Rattle.vm_endings.specs.Images.{HoldsNoTree, HoldsNoTreeIn, IsTreeFile, IsTreeIn, layout_of_file, most_image, pages_of_file}
+use Rattle.vm_endings.specs.Images.{HoldsNoTree, HoldsNoTreeIn, IsTreeFile, IsTreeIn, layout_of_file, most_image}
+use Rattle.vm_endings.specs.Images.{pages_of_file, root_level}
 use Rattle.vm_endings.specs.{Outside.Outside, Outside.Remains}
 use Rattle.vm_endings.specs.Tests.{any_image, image, Passes}
 use Rattle.vm_reading.specs.Readings.{IsStoredIn, IsStoredTree, ReadsTree, TellsNoTree, TellsNoTreeIn, TellsTree, rows_in}
@@ -88,11 +89,45 @@ any_sized bytes = go (is_key_file bytes)
     go true = refl
     go false = file_sized bytes
 
+words-tree : (rows : Rows) (bytes : List ℕ) → is_key_file bytes ≡ false → HasRows rows bytes
+    → IsTreeIn (any_layout bytes) bytes
+words-tree rows bytes words is =
+    subst (λ b. IsTreeIn (layout_with b bytes) bytes) (sym words) (rows-file rows bytes is)
+
+key-tree : (tree : KeyTree) (bytes : List ℕ) → IsKeyImage tree bytes → IsTreeIn (any_layout bytes) bytes
+key-tree tree bytes is =
+    subst (λ b. IsTreeIn (layout_with b bytes) bytes) (sym is.0) (record { file = is.1.file; tree = is.1.rows.tree })
+
 pub any-file : (tree : AnyTree) (bytes : List ℕ) → IsAnyStored tree bytes → IsTreeIn (any_layout bytes) bytes
-any-file (Words tree) bytes is =
-    subst (λ b. IsTreeIn (layout_with b bytes) bytes) (sym is.0) (rows-file (rows_in tree) bytes (tree-rows tree bytes is.1))
-any-file (Keys rows) bytes is =
-    subst (λ b. IsTreeIn (layout_with b bytes) bytes) (sym is.0) (record { file = is.1.0; tree = is.1.1.tree })
+any-file (Words tree) bytes is = words-tree (rows_in tree) bytes is.0 (tree-rows tree bytes is.1)
+any-file (Keys tree) bytes is = key-tree tree bytes is
+
+-- the bytes are a page file whose pages are a tree of this height, with byte keys or without
+pub record IsAnyTree (has_keys : Bool) (height : ℕ) (bytes : List ℕ) : Type 0 where
+  pub kind : is_key_file bytes ≡ has_keys
+  pub tree : IsTreeIn (any_layout bytes) bytes
+  pub level : height ≡ any_height bytes
+
+height-with : (has_keys : Bool) (bytes : List ℕ) → is_key_file bytes ≡ has_keys
+    → root_level (pages_of_bytes (layout_with has_keys bytes).words bytes) ≡ any_height bytes
+height-with has_keys bytes kind = ap (λ b. root_level (pages_of_bytes (layout_with b bytes).words bytes)) (sym kind)
+
+pub word-image : (n : ℕ) (stored : ReadTree n) (bytes : List ℕ) → IsWordImage n stored bytes
+    → IsAnyTree false stored.rows.height bytes
+word-image n stored bytes is =
+    let has = stored-rows n stored bytes is.1 in
+    record {
+      kind = is.0;
+      tree = words-tree stored.rows bytes is.0 has;
+      level = has.are.height ∙ height-with false bytes is.0;
+    }
+
+pub key-image : (tree : KeyTree) (bytes : List ℕ) → IsKeyImage tree bytes → IsAnyTree true tree.rows.height bytes
+key-image tree bytes is = record {
+  kind = is.0;
+  tree = key-tree tree bytes is;
+  level = is.1.rows.height ∙ height-with true bytes is.0;
+}
 
 -- a file that was read passes its test
 pub any-pass : (outside : Outside) (name : List ℕ) (tree : AnyTree) → HasFile outside.shown name (IsAnyStored tree)

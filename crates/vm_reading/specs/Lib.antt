@@ -1,5 +1,6 @@
 pub mod AnyReadings
 pub mod Readings
+pub mod from_vm_bytes_drive
 pub mod from_vm_bytes_file
 pub mod from_vm_churn
 pub mod from_vm_drive

@@ -15,8 +15,11 @@ use Rattle.vm_endings.specs.declared.undone.Undone.TheVariants.{Stopped, Memory}
 use Rattle.vm_endings.specs.Files.{HasFile}
 use Rattle.vm_endings.specs.Outside.{Outside, Remains}
 use Rattle.vm_endings.specs.Images.{HoldsNoTreeIn, layout_of_file}
-use Rattle.vm_endings.specs.Scripts.{IsScriptOf}
-use Rattle.vm_endings.specs.Tests.{Fails, image, script}
+use Rattle.vm_endings.specs.Scripts.{IsBadScriptIn, IsScriptIn}
+use Rattle.vm_endings.specs.Tests.{Fails, image, IsNoScript}
+use Rattle.vm_bytes_laws.specs.declared.call.KeyCall.{KeyCall}
+use Rattle.vm_bytes_script.specs.KeyScripts.{key_grammar}
+use Rattle.vm_script.specs.{Orders.Grammar, Scripts.word_grammar}
 
 -- the bytes are a page file with pages of n words, which are a tree; these are its pages and its rows
 pub record IsStoredIn (n : ℕ) (stored : ReadTree n) (bytes : List ℕ) : Type 0 where
@@ -61,8 +64,19 @@ ReadsTree outside left name (Ok tree) = HasFile outside.shown name (IsStoredTree
 ReadsTree outside left name (Err Memory) = Unit {0}
 ReadsTree outside left name (Err (Stopped stop)) = Fails outside left (image name) stop
 
--- what the reader of a script answers
-abbrev pub ReadsCalls : {V : Type 0} → (V → List (List Call)) → Outside → Remains → List ℕ → ℕ → Result V (Undone Stop) → Type 0
-ReadsCalls view outside left name workers (Ok v) = HasFile outside.shown name (IsScriptOf workers (view v))
-ReadsCalls view outside left name workers (Err Memory) = Unit {0}
-ReadsCalls view outside left name workers (Err (Stopped stop)) = Fails outside left (script name workers) stop
+-- what the reader of a script of calls, as this grammar writes them, answers
+abbrev pub ReadsCallsIn : {C V : Type 0} → Grammar C → (V → List (List C)) → Outside → Remains → List ℕ → ℕ
+    → Result V (Undone Stop) → Type 0
+ReadsCallsIn grammar view outside left name workers (Ok v) =
+    HasFile outside.shown name (IsScriptIn grammar workers (view v))
+ReadsCallsIn grammar view outside left name workers (Err Memory) = Unit {0}
+ReadsCallsIn grammar view outside left name workers (Err (Stopped stop)) =
+    IsNoScript outside left name (λ n. HasFile outside.shown name (IsBadScriptIn grammar workers n)) stop
+
+abbrev pub ReadsCalls : {V : Type 0} → (V → List (List Call)) → Outside → Remains → List ℕ → ℕ
+    → Result V (Undone Stop) → Type 0
+ReadsCalls view outside left name workers result = ReadsCallsIn word_grammar view outside left name workers result
+
+abbrev pub ReadsKeyCalls : {V : Type 0} → (V → List (List KeyCall)) → Outside → Remains → List ℕ → ℕ
+    → Result V (Undone Stop) → Type 0
+ReadsKeyCalls view outside left name workers result = ReadsCallsIn key_grammar view outside left name workers result

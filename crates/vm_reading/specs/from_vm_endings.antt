@@ -1,14 +1,17 @@
 -- Definitions of vm_endings that the crates above name through this one.
 pub use Rattle.vm_endings.specs.AnyFiles
+pub use Rattle.vm_endings.specs.AnyRuns
 pub use Rattle.vm_endings.specs.MakesBytes
 pub use Rattle.vm_endings.specs.Checks
 pub use Rattle.vm_endings.specs.Churns
 pub use Rattle.vm_endings.specs.Commands
 pub use Rattle.vm_endings.specs.Deliveries
 pub use Rattle.vm_endings.specs.Endings
+pub use Rattle.vm_endings.specs.Ends
 pub use Rattle.vm_endings.specs.Files
 pub use Rattle.vm_endings.specs.Held
 pub use Rattle.vm_endings.specs.Images
+pub use Rattle.vm_endings.specs.KeyRuns
 pub use Rattle.vm_endings.specs.Limits
 pub use Rattle.vm_endings.specs.Made
 pub use Rattle.vm_endings.specs.Makes

@@ -10,19 +10,27 @@ use vm_check::{CheckFault, TreeRows};
 use vm_endings::key_files::{KeyPair, check_keys, is_key_file};
 use vm_endings::stop::Stop;
 use vm_endings::undone::Undone;
-use vm_image::{ImageFault, read_image};
+use vm_image::{Image, ImageFault, read_image};
 use vm_io::host::Host;
 use vm_io::loops::{ReadFault, read_whole};
+use vm_page::LARGE;
 
-/// What a page file holds: a tree of words as keys, with its pages, or the rows of a tree with byte keys.
+/// A page file's pages, whose nodes have byte keys, and what the tree that they are holds.
+#[derive(Drop)]
+pub struct KeyTree {
+    pub image: Image<LARGE>,
+    pub rows: TreeRows<KeyPair>,
+}
+
+/// The tree of a page file of any kind.
 #[derive(Drop)]
 pub enum AnyTree {
     Words(StoredTree),
-    Keys(TreeRows<KeyPair>),
+    Keys(KeyTree),
 }
 
-// The rows that the bytes of a file with byte keys spell.
-fn keys_in<'a>(alloc: Global, bytes: &[u8]) -> Result<TreeRows<KeyPair>, Undone<Stop<'a>>>
+// The tree that the bytes of a file with byte keys spell.
+fn keys_in<'a>(alloc: Global, bytes: &[u8]) -> Result<KeyTree, Undone<Stop<'a>>>
     ensures { TellsKeys bytes.now result }
 {
     let image = match read_image(alloc, bytes) {
@@ -31,7 +39,7 @@ fn keys_in<'a>(alloc: Global, bytes: &[u8]) -> Result<TreeRows<KeyPair>, Undone<
         Err(ImageFault::Memory) => return Err(Undone::Memory),
     };
     match check_keys(alloc, &image) {
-        Ok(rows) => Ok(rows),
+        Ok(rows) => Ok(KeyTree { image, rows }),
         Err(CheckFault::BadPage { pid, why }) => {
             Err(Undone::Stopped(Stop::Page { page: pid, why }))
         }
@@ -45,7 +53,7 @@ fn any_in<'a>(alloc: Global, bytes: &[u8]) -> Result<AnyTree, Undone<Stop<'a>>>
 {
     if is_key_file(bytes) {
         match keys_in(alloc, bytes) {
-            Ok(rows) => Ok(AnyTree::Keys(rows)),
+            Ok(tree) => Ok(AnyTree::Keys(tree)),
             Err(undone) => Err(undone),
         }
     } else {

@@ -1,22 +1,19 @@
-//! The files that commands read: a page file whose pages are a tree; a script's calls.
+//! Page files of words as keys, whose pages are a tree.
 
-ghost use Rattle.std.specs.Prelude.{◌≡◌, ◌≤◌, length, IfOk};
+ghost use Rattle.std.specs.Prelude.{◌≡◌, ◌≤◌};
 ghost use Rattle.vm_page.specs.Sizes.{IsSize};
 ghost use Rattle.vm_image.specs.File.{words_of_file};
-ghost use Rattle.vm_endings.specs.from_vm_drive.Drives.{AreAskable, AreFew, items_of};
 ghost use Rattle.vm_endings.specs.{Endings.HasReadCause, Outside.Outside, Outside.Remains, Outside.with_shown, Outside.with_unread};
-ghost use Rattle.vm_reading.specs.Readings.{ReadsCalls, ReadsTree, TellsStored, TellsTree, rows_in};
+ghost use Rattle.vm_reading.specs.Readings.{ReadsTree, TellsStored, TellsTree, rows_in};
 
 use std::alloc::Global;
 use vm_check::{CheckFault, Rows, check};
-use vm_endings::stop::{Lines, Stop};
+use vm_endings::stop::Stop;
 use vm_endings::undone::Undone;
 use vm_image::{Image, ImageFault, file_words, read_image};
 use vm_io::host::Host;
 use vm_io::loops::{ReadFault, read_whole};
-use vm_map::call::Call;
 use vm_page::{LARGE, WORDS};
-use vm_script::script::{MOST_BYTES, ScriptFault, read_script};
 
 /// The greatest number of bytes of a page file: 65,536 pages of 64 words, or 8,192 of 512.
 pub(crate) const MOST_IMAGE: usize = 33_554_432;
@@ -101,36 +98,6 @@ pub fn read_tree<'a, H: Host>(
 {
     match read_whole(alloc, host, name, MOST_IMAGE) {
         Ok(bytes) => tree_in(alloc, bytes.as_slice()),
-        Err(ReadFault::Failed) => Err(Undone::Stopped(Stop::Unread(name))),
-        Err(ReadFault::Memory) => Err(Undone::Memory),
-    }
-}
-
-/// Reads a script: the calls of each worker.
-pub fn read_calls<'a, H: Host>(
-    alloc: Global,
-    host: &mut H,
-    name: &'a str,
-    workers: u32,
-) -> Result<Vec<Vec<Call>>, Undone<Stop<'a>>>
-    ensures reads { (outside : Outside) (left : Remains) → ReadsCalls (λ v. items_of v.items) (with_shown outside (H.shown host.old)) (with_unread left (H.last host.new)) name.now workers result }
-    ensures few { IfOk result (λ v. AreFew (items_of v.items)) }
-    ensures askable { IfOk result (λ v. AreAskable (items_of v.items)) }
-    ensures workers { IfOk result (λ v. length v.items ≡ workers) }
-    ensures shown { H.shown host.new ≡ H.shown host.old }
-    ensures gives { H.gives host.new ≡ H.gives host.old }
-    ensures later { H.takes host.old ≤ H.takes host.new }
-    ensures cause { HasReadCause (H.takes host.old) (H.takes host.new) result }
-{
-    match read_whole(alloc, host, name, MOST_BYTES) {
-        Ok(script) => match read_script(alloc, script.as_slice(), workers) {
-            Ok(lists) => Ok(lists),
-            Err(ScriptFault::Long) => Err(Undone::Stopped(Stop::Long(Lines::Script))),
-            Err(ScriptFault::Line(line)) => {
-                Err(Undone::Stopped(Stop::Line(Lines::Script, line)))
-            }
-            Err(ScriptFault::Memory) => Err(Undone::Memory),
-        },
         Err(ReadFault::Failed) => Err(Undone::Stopped(Stop::Unread(name))),
         Err(ReadFault::Memory) => Err(Undone::Memory),
     }

@@ -2,5 +2,7 @@
 #![tactic(auto)]
 
 pub mod churn;
+mod key_outcome;
+mod key_script;
 mod outcome;
 pub mod script;

@@ -4,22 +4,25 @@ ghost use Rattle.std.specs.Prelude.{◌≡◌, ◌≤◌};
 ghost use Rattle.vm_words.specs.declared.Command.TheVariants as commands;
 ghost use Rattle.vm_reading.specs.from_vm_endings.{Deliveries.content_of, Endings.AnswersCommand, Endings.HasReadCause, Files.HasFile};
 ghost use Rattle.vm_reading.specs.from_vm_endings.Outside.{Outside, Remains, with_shown, with_unread};
-ghost use Rattle.vm_reading.specs.Readings.{IsStoredIn};
+ghost use Rattle.vm_reading.specs.AnyReadings.{IsWordImage};
 ghost use Rattle.vm_runs.specs.Answers.{AnswersRun, TellsLimits};
 
+use crate::key_script::run_on_keys;
 use crate::outcome::{Outcome, outcome_of};
 use std::alloc::{AllocError, Global};
 use std::sync::Wait;
 use std::thread::Threads;
 use vm_io::host::Host;
 use vm_page::{LARGE, WORDS};
+use vm_reading::any::{AnyTree, read_any_tree};
 use vm_reading::drive::Gate;
 use vm_reading::endings::{
     Delivery, Ends, Quantity, Stop, Undone, are_entries, are_frames, are_workers, holds_call,
     is_version,
 };
 use vm_reading::kind::{OfSize, Sizes, TreeOf, WordKeys};
-use vm_reading::reading::{ReadTree, StoredTree, read_calls, read_tree};
+use vm_reading::reading::{ReadTree, StoredTree};
+use vm_reading::scripts::read_calls;
 use vm_words::Run;
 
 // The number of workers, where the numbers are within their limits; else the first that is not.
@@ -61,7 +64,7 @@ fn run_on<
     gate: &G,
 ) -> Result<Outcome<'a, TreeOf<WordKeys<S, N>>>, Undone<Stop<'a>>>
     requires limits { TellsLimits run.now (Ok workers) }
-    requires image { HasFile (H.shown host.old) run.now.image.now (IsStoredIn N stored) }
+    requires image { HasFile (H.shown host.old) run.now.image.now (IsWordImage N stored) }
     ensures gives { (outside : Outside) (left : Remains) → AnswersRun N run.now (with_shown outside (H.shown host.old)) (with_unread left (H.last host.new)) result }
     ensures shown { H.shown host.new ≡ H.shown host.old }
     ensures puts { H.gives host.new ≡ H.gives host.old }
@@ -85,8 +88,8 @@ fn run_on<
 }
 
 /// Tests the numbers, reads the image, tests whether the frames are enough for the height of its tree, reads the script, makes the calls, and builds what
-/// is told. The history is kept in `ends` once nothing can fail
-/// any more but the host.
+/// is told. The image's first bytes tell whether keys are words or byte strings. The history is kept in `ends` once nothing can fail any more but the
+/// host.
 pub fn run_script<'a, R: Threads + Wait + Sync, H: Host, G: Gate + Sync>(
     rt: &R,
     alloc: Global,
@@ -107,8 +110,8 @@ pub fn run_script<'a, R: Threads + Wait + Sync, H: Host, G: Gate + Sync>(
         Ok(workers) => workers,
         Err(quantity) => return Err(Undone::Stopped(Stop::Shape(quantity))),
     };
-    match read_tree(alloc, host, run.image) {
-        Ok(StoredTree::Words64(stored)) => {
+    match read_any_tree(alloc, host, run.image) {
+        Ok(AnyTree::Words(StoredTree::Words64(stored))) => {
             match run_on::<Sizes, R, H, G, WORDS>(rt, alloc, host, run, workers, stored, gate) {
                 Ok(Outcome { delivery, ended }) => {
                     *ends = Ends::Tree(ended);
@@ -117,10 +120,19 @@ pub fn run_script<'a, R: Threads + Wait + Sync, H: Host, G: Gate + Sync>(
                 Err(undone) => Err(undone),
             }
         }
-        Ok(StoredTree::Words512(stored)) => {
+        Ok(AnyTree::Words(StoredTree::Words512(stored))) => {
             match run_on::<Sizes, R, H, G, LARGE>(rt, alloc, host, run, workers, stored, gate) {
                 Ok(Outcome { delivery, ended }) => {
                     *ends = Ends::LargeTree(ended);
+                    Ok(delivery)
+                }
+                Err(undone) => Err(undone),
+            }
+        }
+        Ok(AnyTree::Keys(tree)) => {
+            match run_on_keys(rt, alloc, host, run, workers, tree, gate) {
+                Ok(Outcome { delivery, ended }) => {
+                    *ends = Ends::BytesTree(ended);
                     Ok(delivery)
                 }
                 Err(undone) => Err(undone),

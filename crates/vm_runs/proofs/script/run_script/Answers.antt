@@ -1,7 +1,8 @@
 use Rattle.std.proofs.Common.{arith}
 use Rattle.vm_reading.specs.from_vm_endings.Deliveries.{content_of}
+use Rattle.vm_reading.specs.from_vm_endings.declared_ends_Ends_TheVariants.{BytesTree, LargeTree, Tree}
 use Rattle.vm_reading.specs.from_vm_endings.Outside.{nothing_left, nowhere, with_shown, with_unread}
-use Rattle.vm_runs.proofs.Running.{image-stops, large-gives, limits-stop, run-stops, small-gives}
+use Rattle.vm_runs.proofs.Running.{image-stops, limits-stop, run-gives, run-stops}
 use Rattle.vm_runs.proofs.EarlierCauses.{earlier-cause}
 use Rattle.vm_runs.proofs.script.run_script.Goals as goal
 
@@ -9,10 +10,10 @@ pub returns-in-Err-clause-gives : goal.returns-in-Err-clause-gives
 returns-in-Err-clause-gives g c = λ outside left. limits-stop c.args.run.now c.in-Err.quantity c.in-Err.ensures
     (with_shown outside _) (with_unread left _) c.args.ends.now
 
-pub returns-in-Err-read_tree-clause-gives : goal.returns-in-Err-read_tree-clause-gives
-returns-in-Err-read_tree-clause-gives g c = λ outside left. image-stops c.args.run.now c.in-Ok.workers
-    c.in-Err-read_tree.undone c.in-Ok.ensures (with_shown outside _) (with_unread left _)
-    (c.in-Err-read_tree.ensures.reads outside left) c.args.ends.now
+pub returns-in-Err-read_any_tree-clause-gives : goal.returns-in-Err-read_any_tree-clause-gives
+returns-in-Err-read_any_tree-clause-gives g c = λ outside left. image-stops c.args.run.now c.in-Ok.workers
+    c.in-Err-read_any_tree.undone c.in-Ok.ensures (with_shown outside _) (with_unread left _)
+    (c.in-Err-read_any_tree.ensures.reads outside left) c.args.ends.now
 
 pub returns-in-Err-run_on-clause-cause : goal.returns-in-Err-run_on-clause-cause
 returns-in-Err-run_on-clause-cause g c =
@@ -37,8 +38,8 @@ run_on-requires-after_bounds g c κs within = (
 
 pub returns-in-Ok-run_on-clause-gives : goal.returns-in-Ok-run_on-clause-gives
 returns-in-Ok-run_on-clause-gives g c = λ outside left.
-    small-gives c.args.run.now (with_shown outside _) (with_unread left _)
-    (content_of c.in-Ok-run_on.field-0.delivery) c.in-Ok-run_on.field-0.ended c.args.ends.now
+    run-gives c.args.run.now (with_shown outside _) (with_unread left _)
+    (content_of c.in-Ok-run_on.field-0.delivery) c.args.ends.now (Tree c.in-Ok-run_on.field-0.ended)
     (rw c.in-Ok-Words64.ensures.shown at (c.in-Ok-run_on.ensures.gives outside left))
 
 pub returns-in-Err-run_on-clause-gives : goal.returns-in-Err-run_on-clause-gives
@@ -61,11 +62,26 @@ run_on-requires-in-Ok-Words512-after_bounds g c κs within = (
 
 pub returns-in-Ok-run_on-2-clause-gives : goal.returns-in-Ok-run_on-2-clause-gives
 returns-in-Ok-run_on-2-clause-gives g c = λ outside left.
-    large-gives c.args.run.now (with_shown outside _) (with_unread left _)
-    (content_of c.in-Ok-run_on-2.field-0.delivery) c.in-Ok-run_on-2.field-0.ended c.args.ends.now
+    run-gives c.args.run.now (with_shown outside _) (with_unread left _)
+    (content_of c.in-Ok-run_on-2.field-0.delivery) c.args.ends.now (LargeTree c.in-Ok-run_on-2.field-0.ended)
     (rw c.in-Ok-Words512.ensures.shown at (c.in-Ok-run_on-2.ensures.gives outside left))
 
 pub returns-in-Err-run_on-2-clause-gives : goal.returns-in-Err-run_on-2-clause-gives
 returns-in-Err-run_on-2-clause-gives g c = λ outside left.
     run-stops c.args.run.now (with_shown outside _) (with_unread left _) c.in-Err-run_on-2.undone c.args.ends.now
     (rw c.in-Ok-Words512.ensures.shown at (c.in-Err-run_on-2.ensures.gives outside left))
+
+pub returns-in-Err-run_on_keys-clause-cause : goal.returns-in-Err-run_on_keys-clause-cause
+returns-in-Err-run_on_keys-clause-cause g c =
+    earlier-cause _ _ _ c.in-Err-run_on_keys.undone c.in-Ok-Keys.ensures.later c.in-Err-run_on_keys.ensures.cause
+
+pub returns-in-Ok-run_on_keys-clause-gives : goal.returns-in-Ok-run_on_keys-clause-gives
+returns-in-Ok-run_on_keys-clause-gives g c = λ outside left.
+    run-gives c.args.run.now (with_shown outside _) (with_unread left _)
+    (content_of c.in-Ok-run_on_keys.field-0.delivery) c.args.ends.now (BytesTree c.in-Ok-run_on_keys.field-0.ended)
+    (rw c.in-Ok-Keys.ensures.shown at (c.in-Ok-run_on_keys.ensures.gives outside left))
+
+pub returns-in-Err-run_on_keys-clause-gives : goal.returns-in-Err-run_on_keys-clause-gives
+returns-in-Err-run_on_keys-clause-gives g c = λ outside left.
+    run-stops c.args.run.now (with_shown outside _) (with_unread left _) c.in-Err-run_on_keys.undone c.args.ends.now
+    (rw c.in-Ok-Keys.ensures.shown at (c.in-Err-run_on_keys.ensures.gives outside left))
