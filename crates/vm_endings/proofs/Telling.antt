@@ -4,14 +4,14 @@ use Rattle.std.specs.List.{AllByRecursion}
 use Rattle.std.proofs.Common.{[], ◌++◌, ◌+◌, ◌-◌, ◌<◌, ◌∙◌, ◌∷◌, ◌≡◌, ◌≤◌, add-one, ap, append-nil, append_assoc}
 use Rattle.std.proofs.Common.{arith, drop, get_or, length, List, refl, Err, Ok, Result, subst, suc, sym, Vec, zero, ℕ}
 use Rattle.std.proofs.lemmas.List.{drop-drop, drop_all, drop_more, length-drop}
-use Rattle.vm_map.specs.{declared.call.Call.Call, declared.call.Reply.Reply, declared.call.Said.Said}
+use Rattle.vm_map.specs.{declared.call.Call.Call, declared.call.Reply.Reply}
 use Rattle.vm_map.specs.{declared.window.Window.Window, Map.Pairs}
 use Rattle.vm_map.specs.declared.call.Reply.TheVariants as kinds
 use Rattle.vm_owner.specs.declared.Entry.{Entry}
 use Rattle.vm_serve.specs.from_vm_tree_rule.declared_fault_TreeFault.{TreeFault}
 use Rattle.vm_serve.specs.from_vm_calls.Compact.{all_replies, HasContents, ranges_in, replies_in, told_in, wins_in}
 use Rattle.vm_serve.specs.from_vm_calls.{declared_compact_Replies.Replies, declared_compact_Short.Short}
-use Rattle.vm_serve.specs.from_vm_drive.{Drives.AreFew, Drives.items_of, Holds.HoldsCalls, Holds.list_at, Prelude.as_said, Prelude.word_said}
+use Rattle.vm_serve.specs.from_vm_drive.{Drives.AreFew, Drives.items_of, Holds.HoldsCalls, Holds.list_at}
 use Rattle.vm_serve.specs.from_vm_calls.declared_compact_Short_TheVariants as shorts
 use Rattle.vm_script.specs.{declared.text.Line.Line, Texts.replies_text, Texts.reply_line, Texts.worker_replies}
 use Rattle.vm_endings.specs.Replies.{all_lines, AreMatched, line_in, lines_in}
@@ -100,7 +100,7 @@ workers_told lists replies i said whole same h told =
     said ++ worker_replies i (all_lines (items_of l) (all_replies (drop i replies)))) (drop_all i lists long) in
     sym (append-nil said) ∙ sym none ∙ told
 
-matched_lists : (lists : List (List Call)) (replies : List (List Answer)) → length replies ≡ length lists
+matched_lists : {C R : Type 0} (lists : List (List C)) (replies : List (List (Result R TreeFault))) → length replies ≡ length lists
     → ((w : ℕ) → w < length lists → length (list_at replies w) ≡ length (list_at lists w)) → AreMatched lists replies
 matched_lists [] [] long each = tt
 matched_lists [] (answers ∷ replies) long each = absurd (omega arith)
@@ -109,8 +109,8 @@ matched_lists (calls ∷ lists) (answers ∷ replies) long each =
     (each 0 (omega arith), matched_lists lists replies (omega arith) (λ w h. each (suc w) (omega arith)))
 
 -- a history that holds the workers' calls has an answer for each of them
-pub matched : (h : List (Entry Said)) (lists : List (List Call)) (replies : List (List Answer))
-    → HoldsCalls as_said word_said h lists replies → AreMatched lists replies
+pub matched : {X C R P : Type 0} {plain : X → P} {said : C → R → P} (h : List (Entry X)) (lists : List (List C))
+    (replies : List (List (Result R TreeFault))) → HoldsCalls plain said h lists replies → AreMatched lists replies
 matched h lists replies holds = matched_lists lists replies holds.lists_long holds.each_long
 
 -- ---- one worker's answers, one after another

@@ -1,17 +1,11 @@
 -- The lines of workers' answers.
-use Rattle.std.specs.Prelude.{[], ◌∷◌, ◌≡◌, Err, length, List, Ok, Result, ℕ}
+use Rattle.std.specs.Prelude.{[], ◌∷◌, Err, List, Ok, Result, ℕ}
 use Rattle.vm_map.specs.{declared.call.Call.Call, declared.call.Reply.Reply}
 use Rattle.vm_serve.specs.from_vm_tree_rule.declared_fault_TreeFault.{TreeFault}
-use Rattle.vm_serve.specs.from_vm_tree_rule.declared_fault_TreeFault_TheVariants.{Damaged, Device, Full, Worn}
 use Rattle.vm_serve.specs.from_vm_pool.declared_ended_Ended.{Ended}
 use Rattle.vm_script.specs.{declared.text.Line.Line, Texts.counters_line}
 use Rattle.vm_script.specs.declared.text.Line.TheVariants as lines
-
-abbrev pub fault_line : TreeFault → Line
-fault_line (Device page count) = lines.Fault page
-fault_line (Full pages) = lines.Full
-fault_line (Worn page) = lines.Worn page
-fault_line (Damaged page) = lines.Damaged page
+pub use Rattle.vm_bytes_replies.specs.KeyLines.{AreMatched, fault_line}
 
 -- the line of a call: its reply, or why it has none
 abbrev pub line_in : Call → Result Reply TreeFault → Line
@@ -33,10 +27,3 @@ all_lines (calls ∷ lists) (answers ∷ replies) = lines_in calls answers ∷ a
 -- the counters of the device, as the end of the pool keeps them, and how many pages were evicted
 abbrev pub counters_of : {U S : Type 0} → Ended U S → ℕ → List ℕ
 counters_of end evicted = counters_line end.reads end.writes end.faults evicted
-
--- each list has an answer for each of its calls
-abbrev pub AreMatched : List (List Call) → List (List (Result Reply TreeFault)) → Type 0
-AreMatched [] [] = Unit {0}
-AreMatched [] (answers ∷ replies) = ⊥
-AreMatched (calls ∷ lists) [] = ⊥
-AreMatched (calls ∷ lists) (answers ∷ replies) = (length answers ≡ length calls) × AreMatched lists replies

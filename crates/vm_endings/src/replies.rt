@@ -5,27 +5,15 @@ ghost use Rattle.std.specs.Prelude.{[], ◌+◌, ◌++◌, ◌<◌, ◌^◌, ◌
 ghost use Rattle.vm_serve.specs.from_vm_calls.Compact.{all_replies, HasContents, ranges_in, replies_in, told_in, wins_in};
 ghost use Rattle.vm_serve.specs.from_vm_drive.Drives.{AreFew, items_of};
 ghost use Rattle.vm_script.specs.Texts.{replies_text, rows_text, worker_replies};
-ghost use Rattle.vm_endings.specs.Replies.{all_lines, AreMatched, fault_line, lines_in};
+ghost use Rattle.vm_endings.specs.Replies.{all_lines, AreMatched, lines_in};
 
 use std::alloc::{AllocError, Global};
+use vm_bytes_replies::line_of;
 use vm_map::call::{Call, Pair, Reply};
 use vm_map::span::Span;
 use vm_map::window::Window;
-use vm_script::text::{Line, gathered_text, reply_text, row_text, said_text, shown_text};
+use vm_script::text::{gathered_text, reply_text, row_text, said_text, shown_text};
 use vm_serve::drive::{Replies, Short};
-use vm_serve::tree_rule::TreeFault;
-
-// Why a call had no reply, as it is told.
-fn line_of(fault: TreeFault) -> Line
-    ensures { result ≡ fault_line fault }
-{
-    match fault {
-        TreeFault::Device { pid, .. } => Line::Fault(pid),
-        TreeFault::Full { .. } => Line::Full,
-        TreeFault::Worn { pid } => Line::Worn(pid),
-        TreeFault::Damaged { pid } => Line::Damaged(pid),
-    }
-}
 
 // Appends the line of one call. A window is the first of those that are left, and so are the pairs of a range.
 fn add_answer(

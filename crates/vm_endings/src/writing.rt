@@ -3,7 +3,8 @@
 ghost use Rattle.std.specs.Prelude.{◌≡◌, IfOk};
 ghost use Rattle.vm_page.specs.Sizes.{IsSize};
 ghost use Rattle.vm_tree_model.specs.{Fixed.fixed, Reason.used_pages, Tree.IsTree};
-ghost use Rattle.vm_endings.specs.Images.{IsFileOf};
+ghost use Rattle.vm_bytes_form.specs.Bytes.{bytes as keyed};
+ghost use Rattle.vm_endings.specs.{Images.IsFileOf, KeyRuns.IsKeyFileOf};
 
 use crate::delivery::File;
 use std::alloc::{AllocError, Global};
@@ -33,6 +34,22 @@ pub fn file_of<'a, const N: usize>(
     requires tree { IsTree (fixed N) image.now }
     ensures name { IfOk result (λ file. file.name ≡ name.entry) }
     ensures bytes { IfOk result (λ file. IsFileOf N image.now file.bytes.items) }
+{
+    match image.to_bytes(alloc) {
+        Ok(bytes) => Ok(File { name, bytes }),
+        Err(_) => Err(AllocError),
+    }
+}
+
+/// The page file of an image whose pages are a tree with byte keys.
+pub fn key_file_of<'a>(
+    alloc: Global,
+    image: &Image<512>,
+    name: &'a str,
+) -> Result<File<'a>, AllocError>
+    requires { IsTree keyed image.now }
+    ensures name { IfOk result (λ file. file.name ≡ name.entry) }
+    ensures bytes { IfOk result (λ file. IsKeyFileOf image.now file.bytes.items) }
 {
     match image.to_bytes(alloc) {
         Ok(bytes) => Ok(File { name, bytes }),

@@ -1,4 +1,5 @@
 pub mod Outcomes
+pub mod KeyOutcomes
 pub mod EarlierCauses
 pub mod Churning
 pub mod Running

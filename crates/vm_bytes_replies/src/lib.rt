@@ -1,0 +1,6 @@
+//! The text of what workers with byte keys were answered.
+#![tactic(auto)]
+
+mod replies;
+
+pub use replies::{add_key_replies, line_of};
