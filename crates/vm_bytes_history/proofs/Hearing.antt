@@ -13,6 +13,7 @@ use Rattle.vm_bytes_laws.specs.declared.call.{KeyCall.KeyCall, KeyReply.KeyReply
 use Rattle.vm_bytes_laws.proofs.KeyHistories.{after_is, replies_are}
 use Rattle.vm_bytes_calls.specs.KeyCalls.{key_said}
 use Rattle.vm_drive.specs.{from_vm_tree_rule.declared_fault_TreeFault.TreeFault, Holds.HoldsCalls, Holds.list_at, Prelude.answered}
+use Rattle.vm_bytes_history.proofs.Keys.{keys_after_all}
 use Rattle.vm_bytes_history.specs.Heard.{AskStrings, IsHeard, IsKeyMap, key_told, ShowStrings, strings_of, told_in}
 use Rattle.vm_bytes_history.proofs.{Retelling.Retold, Retelling.retell, Starts.map_has_strings}
 
@@ -79,6 +80,7 @@ module _ (pages : List (List ℕ)) (seen : List (Entry KeySaid)) (lists : List (
         right = replies_are start (told_in retold.told) begins.keys retold.spoken
             (subst (λ (m : Pairs). AreReplies m (map plain_said (told_in retold.told))) (sym begins.same)
             (subst (λ (ss : List Said). AreReplies (map_of bytes pages) ss) said legal.replies));
+        last_keys = keys_after_all start (told_in retold.told) begins.keys retold.spoken;
         last = sym (after_is start (told_in retold.told) begins.keys retold.spoken)
             ∙ ap (λ (m : Pairs). after_all m (map plain_said (told_in retold.told))) begins.same
             ∙ ap (after_all (map_of bytes pages)) (sym said);

@@ -1,3 +1,4 @@
 pub mod Starts
 pub mod Retelling
 pub mod Hearing
+pub mod Keys

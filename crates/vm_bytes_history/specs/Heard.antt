@@ -60,4 +60,5 @@ pub record IsHeard (pages : List (List ℕ)) (seen : List (Entry KeySaid)) (list
   pub spoken : AreSpoken (told_in history)
   pub holds : HoldsCalls as_told key_told history lists replies
   pub right : AreKeyReplies start (told_in history)
+  pub last_keys : AreKeys (map_after_all start (told_in history))
   pub last : ranks_of (map_after_all start (told_in history)) ≡ after_all (map_of bytes pages) (saids (plain_history plain_said seen))

@@ -40,16 +40,17 @@ fn add_answer(
     requires { key_wins_in (short.now ∷ []) ≤ length windows.now }
     ensures { OnOk result (out.new.items ≡ out.old.items ++ key_lines worker number (call.now ∷ []) (key_told_in (short.now ∷ []) windows.now)) }
 {
-    match short {
-        KeyShort::Got(found) => key_said_text(alloc, worker, number, call, &KeyReply::Got(*found), out),
-        KeyShort::Was(old) => key_said_text(alloc, worker, number, call, &KeyReply::Was(*old), out),
-        KeyShort::Gone(old) => key_said_text(alloc, worker, number, call, &KeyReply::Gone(*old), out),
-        KeyShort::Swapped(outcome) => {
-            key_said_text(alloc, worker, number, call, &KeyReply::Swapped(*outcome), out)
+    let reply = match short {
+        KeyShort::Got(found) => KeyReply::Got(*found),
+        KeyShort::Was(old) => KeyReply::Was(*old),
+        KeyShort::Gone(old) => KeyReply::Gone(*old),
+        KeyShort::Swapped(outcome) => KeyReply::Swapped(*outcome),
+        KeyShort::Win => return key_shown_text(alloc, worker, number, call, &windows[0], out),
+        KeyShort::Fault(fault) => {
+            return reply_text(alloc, worker, number, &line_of(*fault), out);
         }
-        KeyShort::Win => key_shown_text(alloc, worker, number, call, &windows[0], out),
-        KeyShort::Fault(fault) => reply_text(alloc, worker, number, &line_of(*fault), out),
-    }
+    };
+    key_said_text(alloc, worker, number, call, &reply, out)
 }
 
 // How many windows were told with this answer.
@@ -97,7 +98,7 @@ fn add_answers(
 ///
 /// # Errors
 ///
-/// `AllocError` where memory was refused.
+/// `AllocError` where memory was refused; `out` may then have some of the lines.
 pub fn add_key_replies(
     alloc: Global,
     lists: &[Vec<KeyCall>],

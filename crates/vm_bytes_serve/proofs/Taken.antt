@@ -2,7 +2,7 @@
 use Rattle.std.specs.declared.alloc.Global.{Global}
 use Rattle.std.specs.List.{AllByRecursion}
 use Rattle.std.specs.Prelude.{IfOk}
-use Rattle.std.proofs.Common.{[], ◌++◌, ◌+◌, ◌<◌, ◌∙◌, ◌∷◌, ◌≡◌, ◌≤◌, ap, arith, Err, get_or, length, List, Ok, Result, subst, suc, sym, take, Vec, zero, ℕ}
+use Rattle.std.proofs.Common.{[], ◌++◌, ◌+◌, ◌<◌, ◌∙◌, ◌∷◌, ◌≡◌, ◌≤◌, ap, arith, get_or, length, List, Result, subst, suc, sym, take, Vec, zero, ℕ}
 use Rattle.std.proofs.lemmas.List.{take_more}
 use Rattle.vm_bytes_form.specs.{Forms.AreKeys, Forms.KeyEntry, Strings.IsString}
 use Rattle.vm_bytes_laws.specs.KeyHistory.{key_called, ShowsKeys}

@@ -4,10 +4,11 @@ use Rattle.std.proofs.Common.{Option, Some, None, refl, sym, ap, subst, arith}
 use Rattle.std.proofs.lemmas.Bool.{and_parts, leb-true}
 use Rattle.vm_io.specs.Shown.{Shown}
 use Rattle.vm_image.specs.declared.blocks.PlannedFault.{PlannedFault}
-use Rattle.vm_bytes_laws.specs.declared.call.KeySaid.{KeySaid}
+use Rattle.vm_bytes_laws.specs.declared.call.{KeyCall.KeyCall, KeySaid.KeySaid}
 use Rattle.vm_map.specs.{declared.call.Call.Call, declared.call.Said.Said}
 use Rattle.vm_file_serve.specs.from_vm_pool.declared_ended_Ended.{Ended}
-use Rattle.vm_file_serve.specs.from_vm_serve.Served.{IsServed}
+use Rattle.vm_file_serve.specs.from_vm_serve.{Served.IsServed, Served.IsServedFrom, Serving.word_serving}
+use Rattle.vm_bytes_serve.specs.KeyServing.{key_serving}
 use Rattle.vm_file_serve.proofs.from_vm_serve.Unplanned.{all_flushed}
 use Rattle.vm_replay.specs.Told.{PlayedFile}
 use Rattle.vm_replay.proofs.OnePlay.{one_played}
@@ -174,7 +175,7 @@ all_written n run end content pages lists none is =
     let made = is.made in
     let served = subst (λ (plan : List PlannedFault). IsServed n pages plan lists made.replies made.report made.blocks
     end) none made.served in
-    let first = all_flushed n pages lists made.replies made.report made.blocks end served in
+    let first = all_flushed (word_serving n) pages lists made.replies made.report made.blocks end served in
     let least = is.least in
     absurd cc
 
@@ -182,9 +183,19 @@ no_cut_files : (n : ℕ) {U : Type 0} (shown : Shown) (run : RunLine) (end : End
     → run.options.fail.items ≡ [] → OfFiles n (Some shown) run (IsUnflushedRun n run end content) → ⊥
 no_cut_files n shown run end content none is = all_written n run end content _ is.2.3.2.0 none is.2.3.2.2
 
+all_keys_written : {U : Type 0} (run : RunLine) (end : Ended U KeySaid) (content : Content) (pages : List (List ℕ))
+    (lists : List (List KeyCall)) → run.options.fail.items ≡ [] → IsUnflushedKeyRun run end content pages lists → ⊥
+all_keys_written run end content pages lists none is =
+    let made = is.made in
+    let served = subst (λ (plan : List PlannedFault). IsServedFrom key_serving pages plan lists made.replies made.report made.blocks
+    end) none made.served.ranks in
+    let first = all_flushed key_serving pages lists made.replies made.report made.blocks end served in
+    let least = is.least in
+    absurd cc
+
 no_cut_key_files : {U : Type 0} (shown : Shown) (run : RunLine) (end : Ended U KeySaid) (content : Content)
     → run.options.fail.items ≡ [] → OfKeyFiles (Some shown) run (IsUnflushedKeyRun run end content) → ⊥
-no_cut_key_files shown run end content none is = is.2.2.2.2 none
+no_cut_key_files shown run end content none is = all_keys_written run end content _ is.2.2.2.0 none is.2.2.2.2
 
 no_cut_run : (shown : Shown) (run : RunLine) (content : Content) (after : Ends) → run.options.fail.items ≡ []
     → CutRun run (Some shown) content after → ⊥

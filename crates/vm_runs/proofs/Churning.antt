@@ -17,7 +17,7 @@ use Rattle.vm_reading.specs.from_vm_pool.{Closing.view_at_end, declared_ended_En
 use Rattle.vm_tree_laws.specs.History.{saids}
 use Rattle.vm_reading.specs.from_vm_tree_rule.declared_fault_TreeFault.{TreeFault}
 use Rattle.vm_reading.specs.from_vm_drive.{Drives.AreFew, Lists.AreKept}
-use Rattle.vm_reading.specs.from_vm_serve.declared_serving_ServedOn.{ServedOn}
+use Rattle.vm_reading.specs.from_vm_serve.{declared_serving_ServedOn.ServedOn, Serving.word_serving}
 use Rattle.vm_reading.proofs.from_vm_serve.{Planned.as-many, Planned.saved, Unplanned.all_flushed, Unplanned.no_faults}
 use Rattle.vm_reading.specs.from_vm_churn.{Calls.churn_count, Calls.churn_lists, declared_tally_Tally.Tally}
 use Rattle.vm_reading.specs.from_vm_churn.Tallies.{IsSmall, StandsFor, sum_values, tally_of, total_of}
@@ -124,7 +124,7 @@ module _ (n : ℕ) {U : Type 0} (load : Load) (within : IsWithinLimits load) (wo
   small_tallies = kept_small s.kept.items replies is.made.stand few-replies
 
   pub flushed : s.report.first ≡ None
-  flushed = all_flushed n is.pages lists replies s.report s.blocks.items s.ended is.made.served
+  flushed = all_flushed (word_serving n) is.pages lists replies s.report s.blocks.items s.ended is.made.served
 
   abbrev was_saved : IsTree (fixed n) (pages_of_blocks s.blocks.items)
       × (map_of (fixed n) (pages_of_blocks s.blocks.items) ≡ last_map n is.pages s.ended)
@@ -179,7 +179,7 @@ module _ (n : ℕ) {U : Type 0} (load : Load) (within : IsWithinLimits load) (wo
           version = is.version;
           frames = is.frames;
         };
-        faultless = no_faults n is.pages lists replies s.report s.blocks.items s.ended is.made.served;
+        faultless = no_faults (word_serving n) is.pages lists replies s.report s.blocks.items s.ended is.made.served;
         flushed = flushed;
         text = whole;
       } in

@@ -8,5 +8,6 @@ abbrev pub invariant-workers : goal.invariant-workers
 invariant-workers l = record {
   worker : l.worker ≡ l.answers-index;
   told : l.out.items ++ key_worker_lines l.answers-index (drop l.answers-index (items_of l.lists))
-      (drop l.answers-index (all_told l.replies)) ≡ l.fn.out.items ++ key_worker_lines 0 (items_of l.lists) (all_told l.replies);
+      (drop l.answers-index (all_told l.replies)) ≡ l.fn.out.items
+      ++ key_worker_lines 0 (items_of l.lists) (all_told l.replies);
 }

@@ -1,4 +1,5 @@
-use Rattle.std.proofs.Common.{◌*◌, ◌<◌, ◌∙◌, ◌≡◌, ◌≤◌, ap, arith, length, map, refl, rules, subst, sym}
+use Rattle.std.specs.List.{AllByRecursion}
+use Rattle.std.proofs.Common.{List, ◌*◌, ◌<◌, ◌∙◌, ◌≡◌, ◌≤◌, ap, arith, length, map, refl, rules, subst, sym}
 use Rattle.std.proofs.lemmas.Bool.{eq-eqb}
 use Rattle.vm_bytes_laws.specs.declared.call.KeySaid.{KeySaid}
 use Rattle.vm_bytes_laws.specs.Plain.{plain_said}
@@ -6,6 +7,8 @@ use Rattle.vm_rule.proofs.ListFacts.{length-mapped}
 use Rattle.vm_step.specs.Prelude.{Origin, TableShape, View, view}
 use Rattle.vm_bytes_drive.proofs.from_vm_pool.FirstPass.{first-alone}
 use Rattle.vm_serve.specs.from_vm_drive.Drives.{items_of}
+use Rattle.vm_serve.specs.from_vm_pool.Closing.{view_at_end}
+use Rattle.vm_bytes_calls.specs.declared.answers.KeyReplies.{KeyReplies}
 use Rattle.vm_serve.proofs.Headline.{begins-held, claimed-free, fresh-enough, has-started, served}
 use Rattle.vm_bytes_form.{proofs.BytesLaws.bytes_is_layout, specs.Bytes.bytes}
 use Rattle.vm_bytes_history.proofs.Hearing.{heard}
@@ -28,5 +31,11 @@ returns-in-Ok-flush_and_close-clause-served g c = λ pages may.
     record {
       told = into.told;
       stand = into.stand;
-      served = record { ranks = ranks; heard = λ told. ? };
+      served = record {
+        ranks = ranks;
+        heard = λ told. heard pages (view_at_end c.in-Ok-flush_and_close.saved.closed.ended).seen (items_of c.args.lists.now) into.told
+            c.asked_in_range.ensures (show-strings _ _ into.stand
+            (subst (λ (l : List KeyReplies). AllByRecursion HoldsStrings l) c.as_slice.ensures.value c.shown_in_range.ensures))
+            ranks.calls (ranks.legal told);
+      };
     }

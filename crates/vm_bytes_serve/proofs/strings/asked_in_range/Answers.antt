@@ -1,9 +1,9 @@
 use Rattle.std.specs.List.{AllByRecursion}
-use Rattle.std.proofs.Common.{◌+◌, ◌<◌, ◌≤◌, arith, length, subst, sym}
+use Rattle.std.proofs.Common.{arith, subst}
 use Rattle.vm_bytes_form.specs.Strings.{IsString}
 use Rattle.vm_bytes_laws.specs.KeyHistory.{key_called}
 use Rattle.vm_bytes_serve.proofs.Taken.{NamesStrings}
-use Rattle.vm_bytes_serve.proofs.Taken.{are-keys, asked, taken-all, taken-more}
+use Rattle.vm_bytes_serve.proofs.Taken.{asked, taken-all, taken-more}
 use Rattle.vm_bytes_serve.proofs.strings.asked_in_range.Goals as goal
 
 pub lists-preserved : goal.lists-preserved

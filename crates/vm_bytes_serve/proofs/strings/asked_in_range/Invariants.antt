@@ -1,7 +1,5 @@
 use Rattle.std.specs.List.{AllByRecursion}
 use Rattle.std.proofs.Common.{take}
-use Rattle.vm_bytes_form.specs.Strings.{IsString}
-use Rattle.vm_bytes_laws.specs.KeyHistory.{key_called}
 use Rattle.vm_bytes_serve.proofs.Taken.{NamesStrings}
 use Rattle.vm_bytes_serve.proofs.strings.asked_in_range.Given as goal
 

@@ -1,8 +1,7 @@
-use Rattle.std.specs.List.{AllByRecursion}
-use Rattle.std.proofs.Common.{◌+◌, ◌<◌, ◌≤◌, arith, length, subst, sym}
+use Rattle.std.proofs.Common.{arith}
 use Rattle.vm_bytes_form.specs.Strings.{IsString}
 use Rattle.vm_bytes_laws.specs.KeyHistory.{key_called}
-use Rattle.vm_bytes_serve.proofs.Taken.{are-keys, asked, taken-all, taken-more}
+use Rattle.vm_bytes_serve.proofs.Taken.{taken-all, taken-more}
 use Rattle.vm_bytes_serve.proofs.strings.calls_in_range.Goals as goal
 
 pub calls-preserved : goal.calls-preserved

@@ -1,9 +1,9 @@
 use Rattle.std.specs.List.{AllByRecursion}
-use Rattle.std.proofs.Common.{◌+◌, ◌<◌, ◌≤◌, arith, length, subst, sym}
+use Rattle.std.proofs.Common.{arith, subst}
 use Rattle.vm_bytes_laws.specs.KeyHistory.{ShowsKeys}
 use Rattle.vm_bytes_laws.specs.declared.call.KeyReply.TheVariants.{Win}
 use Rattle.vm_bytes_serve.specs.KeyServing.{HoldsStrings}
-use Rattle.vm_bytes_serve.proofs.Taken.{are-keys, asked, taken-all, taken-more}
+use Rattle.vm_bytes_serve.proofs.Taken.{taken-all, taken-more}
 use Rattle.vm_bytes_serve.proofs.strings.shown_in_range.Goals as goal
 
 pub kept-preserved : goal.kept-preserved

@@ -1,7 +1,5 @@
 use Rattle.std.specs.List.{AllByRecursion}
 use Rattle.std.proofs.Common.{take}
-use Rattle.vm_bytes_laws.specs.KeyHistory.{ShowsKeys}
-use Rattle.vm_bytes_laws.specs.declared.call.KeyReply.TheVariants.{Win}
 use Rattle.vm_bytes_serve.specs.KeyServing.{HoldsStrings}
 use Rattle.vm_bytes_serve.proofs.strings.shown_in_range.Given as goal
 

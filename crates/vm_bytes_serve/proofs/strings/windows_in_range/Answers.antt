@@ -1,8 +1,7 @@
-use Rattle.std.specs.List.{AllByRecursion}
-use Rattle.std.proofs.Common.{◌+◌, ◌<◌, ◌≤◌, arith, length, subst, sym}
+use Rattle.std.proofs.Common.{arith}
 use Rattle.vm_bytes_laws.specs.KeyHistory.{ShowsKeys}
 use Rattle.vm_bytes_laws.specs.declared.call.KeyReply.TheVariants.{Win}
-use Rattle.vm_bytes_serve.proofs.Taken.{are-keys, asked, taken-all, taken-more}
+use Rattle.vm_bytes_serve.proofs.Taken.{taken-all, taken-more}
 use Rattle.vm_bytes_serve.proofs.strings.windows_in_range.Goals as goal
 
 pub windows-preserved : goal.windows-preserved

@@ -2,10 +2,12 @@ use Rattle.std.proofs.Common.{◌<◌, ◌≡◌, ◌≤◌, ap, arith, length, 
 use Rattle.std.proofs.lemmas.Bool.{eq-eqb}
 use Rattle.vm_face.specs.Homes.{made_at}
 use Rattle.vm_map.specs.declared.call.Said.{Said}
+use Rattle.vm_tree_model.{specs.Fixed.fixed, proofs.FixedLaws.sized_layout}
 use Rattle.vm_rule.proofs.ListFacts.{length-mapped}
 use Rattle.vm_step.specs.Prelude.{TableShape, View, view}
 use Rattle.vm_serve.proofs.from_vm_pool.FirstPass.{first-of}
 use Rattle.vm_serve.proofs.Headline.{begins-held, claimed-free, has-started}
+use Rattle.vm_serve.specs.from_vm_drive.Prelude.{as_said}
 use Rattle.vm_face.proofs.Begins.{seen-none, store-begins, store-opened, store-over}
 use Rattle.vm_face.proofs.store.open_on.Goals as goal
 
@@ -21,12 +23,12 @@ start-requires g c =
           (
             c.requires.pages.0,
             (
-              has-started g.row.N g.B.Block.tells _ before _ _ _ _ _ may (length-mapped g.B.Block.stored c.args.blocks.items)
+              has-started (fixed g.row.N) g.B.Block.tells _ before _ _ _ _ _ may (length-mapped g.B.Block.stored c.args.blocks.items)
                   c.requires.version c.requires.frames.0 c.requires.frames.1
                   (subst (λ n. n ≤ 65536) c.requires.pages.0 c.requires.pages.1),
               (
                 claimed-free _ _ _ _ may.free_pages,
-                λ told. begins-held g.row.N g.S.OfSize.is_size g.B.Block.tells _ before _ _ may told,
+                λ told. begins-held as_said (fixed g.row.N) (sized_layout g.row.N g.S.OfSize.is_size) g.B.Block.tells _ before _ _ may told,
               ),
             ),
           ),
