@@ -1,2 +1,4 @@
 pub mod Drives
 pub mod from_vm_drive
+pub mod from_vm_bytes_calls
+pub mod from_vm_tree_rule

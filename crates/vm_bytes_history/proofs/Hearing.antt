@@ -11,8 +11,9 @@ use Rattle.vm_bytes_laws.specs.KeyHistory.{AreSpoken, key_called, ShowsKeys}
 use Rattle.vm_bytes_laws.specs.Plain.{plain_said}
 use Rattle.vm_bytes_laws.specs.declared.call.{KeyCall.KeyCall, KeyReply.KeyReply, KeySaid.KeySaid}
 use Rattle.vm_bytes_laws.proofs.KeyHistories.{after_is, replies_are}
-use Rattle.vm_bytes_calls.specs.KeyCalls.{key_said}
-use Rattle.vm_drive.specs.{from_vm_tree_rule.declared_fault_TreeFault.TreeFault, Holds.HoldsCalls, Holds.list_at, Prelude.answered}
+use Rattle.vm_bytes_drive.specs.from_vm_bytes_calls.KeyCalls.{key_said}
+use Rattle.vm_bytes_drive.specs.{from_vm_drive.Holds.HoldsCalls, from_vm_drive.Holds.list_at, from_vm_drive.Prelude.answered}
+use Rattle.vm_bytes_drive.specs.from_vm_tree_rule.declared_fault_TreeFault.{TreeFault}
 use Rattle.vm_bytes_history.proofs.Keys.{keys_after_all}
 use Rattle.vm_bytes_history.specs.Heard.{AskStrings, IsHeard, IsKeyMap, key_told, ShowStrings, strings_of, told_in}
 use Rattle.vm_bytes_history.proofs.{Retelling.Retold, Retelling.retell, Starts.map_has_strings}

@@ -9,7 +9,7 @@ use Rattle.vm_bytes_laws.specs.KeyHistory.{AreSpoken}
 use Rattle.vm_bytes_laws.specs.Plain.{plain_said}
 use Rattle.vm_bytes_laws.specs.declared.call.KeySaid.{KeySaid}
 use Rattle.vm_map.specs.declared.call.Said.{Said}
-use Rattle.vm_drive.specs.Holds.{said_by}
+use Rattle.vm_bytes_drive.specs.from_vm_drive.Holds.{said_by}
 use Rattle.vm_bytes_history.specs.Heard.{as_told, told_in}
 
 module _ {X P : Type 0} (plain : X → P) (k : ℕ) (e : Entry X) (h : List (Entry X)) where

@@ -11,7 +11,7 @@ use Rattle.vm_bytes_form.specs.Strings.{IsBefore, IsString, string_of}
 use Rattle.vm_bytes_laws.specs.KeyHistory.{AreKeyReplies, AreSpoken, key_called, map_after_all, ShowsKeys}
 use Rattle.vm_bytes_laws.specs.Plain.{plain_said}
 use Rattle.vm_bytes_laws.specs.declared.call.{KeyCall.KeyCall, KeyReply.KeyReply, KeySaid.KeySaid}
-use Rattle.vm_drive.specs.{from_vm_tree_rule.declared_fault_TreeFault.TreeFault, Holds.HoldsCalls}
+use Rattle.vm_bytes_drive.specs.{from_vm_drive.Holds.HoldsCalls, from_vm_tree_rule.declared_fault_TreeFault.TreeFault}
 
 -- each call's key is a string of at most 64 bytes
 abbrev pub AskStrings : List (List KeyCall) → Type 0

@@ -1,1 +1,3 @@
 pub mod Heard
+pub mod from_vm_bytes_calls
+pub mod from_vm_bytes_drive

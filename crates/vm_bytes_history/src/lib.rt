@@ -8,9 +8,11 @@ ghost use Rattle.vm_tree_laws.specs.{History.IsLegal, Plain.plain_history};
 ghost use Rattle.vm_bytes_form.specs.Bytes.{bytes};
 ghost use Rattle.vm_bytes_laws.specs.Plain.{plain_said};
 ghost use Rattle.vm_bytes_laws.specs.declared.call.{KeyCall.KeyCall, KeyReply.KeyReply, KeySaid.KeySaid};
-ghost use Rattle.vm_bytes_calls.specs.KeyCalls.{key_said};
-ghost use Rattle.vm_drive.specs.{from_vm_tree_rule.declared_fault_TreeFault.TreeFault, Holds.HoldsCalls};
+ghost use Rattle.vm_bytes_drive.specs.from_vm_bytes_calls.KeyCalls.{key_said};
+ghost use Rattle.vm_bytes_drive.specs.{from_vm_drive.Holds.HoldsCalls, from_vm_tree_rule.declared_fault_TreeFault.TreeFault};
 ghost use Rattle.vm_bytes_history.specs.Heard.{AskStrings, IsHeard, IsKeyMap, ShowStrings, strings_of};
+
+pub mod drive;
 
 /// The map that pages with byte keys hold is one over strings of at most 64 bytes, whatever their words are.
 #[tactic(auto, using(crate::proofs::Starts::map_has_strings))]

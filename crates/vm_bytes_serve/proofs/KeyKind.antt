@@ -2,7 +2,7 @@
 use Rattle.std.proofs.Common.{refl}
 use Rattle.vm_bytes_form.proofs.BytesLaws.{bytes_is_layout}
 use Rattle.vm_bytes_laws.proofs.Paid.{full_paid}
-use Rattle.vm_bytes_calls.proofs.Answering.{key_laws}
+use Rattle.vm_bytes_history.proofs.from_vm_bytes_calls.Answering.{key_laws}
 use Rattle.vm_serve.specs.Serving.{IsServing}
 use Rattle.vm_bytes_serve.specs.KeyServing.{key_serving}
 

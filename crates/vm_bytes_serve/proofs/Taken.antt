@@ -11,9 +11,9 @@ use Rattle.vm_bytes_laws.specs.declared.call.KeyReply.TheVariants as replies
 use Rattle.vm_bytes_node.specs.declared.window.KeyWindow.{KeyWindow}
 use Rattle.vm_serve.specs.from_vm_tree_rule.declared_fault_TreeFault.{TreeFault}
 use Rattle.vm_serve.specs.from_vm_drive.{Drives.items_of, Lists.AreKept}
-use Rattle.vm_bytes_calls.specs.declared.answers.{KeyReplies.KeyReplies, KeyShort.KeyShort}
-use Rattle.vm_bytes_calls.specs.declared.answers.KeyShort.TheVariants as shorts
-use Rattle.vm_bytes_calls.specs.KeyAnswers.{KeepsKeyAnswers, key_told_in}
+use Rattle.vm_bytes_history.specs.from_vm_bytes_calls.{declared_answers_KeyReplies.KeyReplies, declared_answers_KeyShort.KeyShort}
+use Rattle.vm_bytes_history.specs.from_vm_bytes_calls.declared_answers_KeyShort_TheVariants as shorts
+use Rattle.vm_bytes_history.specs.from_vm_bytes_calls.KeyAnswers.{KeepsKeyAnswers, key_told_in}
 use Rattle.vm_bytes_history.specs.Heard.{AskStrings, ShowStrings}
 use Rattle.vm_bytes_serve.specs.KeyServing.{HoldsStrings}
 

@@ -14,8 +14,8 @@ use Rattle.vm_bytes_form.specs.Bytes.{bytes}
 use Rattle.vm_bytes_laws.specs.declared.call.{KeyCall.KeyCall, KeyReply.KeyReply, KeySaid.KeySaid}
 use Rattle.vm_bytes_laws.specs.declared.call.KeyReply.TheVariants.{Win}
 use Rattle.vm_bytes_laws.specs.{KeyHistory.ShowsKeys, Plain.plain_said}
-use Rattle.vm_bytes_calls.specs.declared.answers.KeyReplies.{KeyReplies}
-use Rattle.vm_bytes_calls.specs.{KeyAnswers.KeepsKeyAnswers, KeyCalls.key_calls}
+use Rattle.vm_bytes_history.specs.from_vm_bytes_calls.declared_answers_KeyReplies.{KeyReplies}
+use Rattle.vm_bytes_history.specs.from_vm_bytes_calls.{KeyAnswers.KeepsKeyAnswers, KeyCalls.key_calls}
 use Rattle.vm_bytes_history.specs.Heard.{IsHeard}
 
 -- With P pages, of which X stood below the next one, N of them nodes, and with G puts of new keys, 100 * P is at most

@@ -1,1 +1,4 @@
 pub mod KeyServing
+pub mod from_vm_bytes_calls
+pub mod from_vm_bytes_drive
+pub mod from_vm_bytes_history

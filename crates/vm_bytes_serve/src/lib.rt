@@ -5,4 +5,4 @@ mod serving;
 mod strings;
 
 pub use serving::{KeyServed, serve, serve_on};
-pub use vm_bytes_drive::{BytesTree, answers};
+pub use vm_bytes_history::drive::{BytesTree, KeyReplies};

@@ -9,7 +9,7 @@ ghost use Rattle.vm_bytes_history.specs.Heard.{AskStrings};
 ghost use Rattle.vm_serve.specs.from_vm_drive.Drives.{items_of};
 ghost use Rattle.vm_bytes_serve.specs.KeyServing.{HoldsStrings};
 
-use vm_bytes_drive::answers::KeyReplies;
+use vm_bytes_history::drive::KeyReplies;
 use vm_bytes_laws::call::KeyCall;
 use vm_bytes_node::in_range;
 use vm_bytes_node::window::{KeyPair, KeyWindow};

@@ -8,7 +8,7 @@ use Rattle.vm_bytes_laws.specs.declared.call.{KeyCall.KeyCall, KeySaid.KeySaid}
 use Rattle.vm_map.specs.{declared.call.Call.Call, declared.call.Said.Said}
 use Rattle.vm_file_serve.specs.from_vm_pool.declared_ended_Ended.{Ended}
 use Rattle.vm_file_serve.specs.from_vm_serve.{Served.IsServed, Served.IsServedFrom, Serving.word_serving}
-use Rattle.vm_bytes_serve.specs.KeyServing.{key_serving}
+use Rattle.vm_file_serve.specs.from_vm_bytes_serve.KeyServing.{key_serving}
 use Rattle.vm_file_serve.proofs.from_vm_serve.Unplanned.{all_flushed}
 use Rattle.vm_replay.specs.Told.{PlayedFile}
 use Rattle.vm_replay.proofs.OnePlay.{one_played}

@@ -31,3 +31,6 @@ pub mod from_vm_evict
 pub mod from_vm_pool
 pub mod from_vm_serve
 pub mod from_vm_tree_rule
+pub mod from_vm_bytes_calls
+pub mod from_vm_bytes_serve
+pub mod from_vm_bytes_replies

@@ -1,6 +1,6 @@
 //! What is kept of a run after it.
 
-use crate::key_tree::BytesTree;
+use crate::key_serve::BytesTree;
 use vm_serve::kind::{Tree, TreeOf, Words512};
 use vm_serve::pool::Ended;
 

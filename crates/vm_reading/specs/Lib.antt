@@ -9,3 +9,6 @@ pub mod from_vm_endings
 pub mod from_vm_pool
 pub mod from_vm_serve
 pub mod from_vm_tree_rule
+pub mod from_vm_bytes_calls
+pub mod from_vm_bytes_serve
+pub mod from_vm_bytes_replies

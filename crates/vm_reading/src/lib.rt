@@ -6,7 +6,7 @@ pub mod churn;
 pub mod drive;
 pub mod endings;
 pub mod key_files;
-pub mod key_tree;
+pub mod key_serve;
 pub mod kind;
 pub mod pool;
 pub mod reading;

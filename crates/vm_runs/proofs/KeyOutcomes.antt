@@ -9,10 +9,10 @@ use Rattle.vm_image.specs.{Blocks.pages_of_blocks, declared.blocks.PlannedFault.
 use Rattle.vm_bytes_form.proofs.Ranks.{string_of_rank}
 use Rattle.vm_bytes_form.specs.{Bytes.bytes as keyed, Forms.AreKeys, Forms.KeyEntry, KeyMap.ranks_of}
 use Rattle.vm_bytes_laws.specs.declared.call.{KeyCall.KeyCall, KeyReply.KeyReply, KeySaid.KeySaid}
-use Rattle.vm_bytes_calls.specs.declared.answers.KeyReplies.{KeyReplies}
-use Rattle.vm_bytes_calls.specs.KeyAnswers.{KeepsKeyAnswers}
-use Rattle.vm_bytes_replies.specs.KeyLines.{AreAnswered, key_worker_lines}
-use Rattle.vm_bytes_serve.specs.KeyServing.{IsKeyServed, IsKeyServedInto}
+use Rattle.vm_reading.specs.from_vm_bytes_calls.declared_answers_KeyReplies.{KeyReplies}
+use Rattle.vm_reading.specs.from_vm_bytes_calls.KeyAnswers.{KeepsKeyAnswers}
+use Rattle.vm_reading.specs.from_vm_bytes_replies.KeyLines.{AreAnswered, key_worker_lines}
+use Rattle.vm_reading.specs.from_vm_bytes_serve.KeyServing.{IsKeyServed, IsKeyServedInto}
 use Rattle.vm_bytes_text.specs.KeyTexts.{key_rows_text, key_text, line_with}
 use Rattle.vm_reading.specs.from_vm_pool.{Closing.view_at_end, declared_ended_Ended.Ended}
 use Rattle.vm_reading.specs.from_vm_drive.Lists.{AreKept}

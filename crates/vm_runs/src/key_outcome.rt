@@ -17,7 +17,6 @@ use std::sync::Wait;
 use std::thread::Threads;
 use vm_block::MemBlock;
 use vm_bytes_laws::call::KeyCall;
-use vm_bytes_serve::{BytesTree, serve};
 use vm_check::CheckFault;
 use vm_event::Memory;
 use vm_image::{Image, image_of};
@@ -26,6 +25,7 @@ use vm_reading::any::KeyTree;
 use vm_reading::drive::Gate;
 use vm_reading::endings::{File, key_cut_text, key_file_of, key_whole_text};
 use vm_reading::key_files::check_keys;
+use vm_reading::key_serve::{BytesTree, serve};
 use vm_reading::serve::ServedOn;
 use vm_words::Run;
 

@@ -15,7 +15,7 @@ use vm_io::host::Host;
 use vm_reading::any::KeyTree;
 use vm_reading::drive::Gate;
 use vm_reading::endings::{Quantity, Stop, Undone, holds_call};
-use vm_reading::key_tree::BytesTree;
+use vm_reading::key_serve::BytesTree;
 use vm_reading::scripts::read_key_calls;
 use vm_words::Run;
 

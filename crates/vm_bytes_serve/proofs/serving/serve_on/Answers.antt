@@ -5,10 +5,10 @@ use Rattle.vm_bytes_laws.specs.declared.call.KeySaid.{KeySaid}
 use Rattle.vm_bytes_laws.specs.Plain.{plain_said}
 use Rattle.vm_rule.proofs.ListFacts.{length-mapped}
 use Rattle.vm_step.specs.Prelude.{Origin, TableShape, View, view}
-use Rattle.vm_bytes_drive.proofs.from_vm_pool.FirstPass.{first-alone}
+use Rattle.vm_bytes_history.proofs.from_vm_pool.FirstPass.{first-alone}
 use Rattle.vm_serve.specs.from_vm_drive.Drives.{items_of}
 use Rattle.vm_serve.specs.from_vm_pool.Closing.{view_at_end}
-use Rattle.vm_bytes_calls.specs.declared.answers.KeyReplies.{KeyReplies}
+use Rattle.vm_bytes_history.specs.from_vm_bytes_calls.declared_answers_KeyReplies.{KeyReplies}
 use Rattle.vm_serve.proofs.Headline.{begins-held, claimed-free, fresh-enough, has-started, served}
 use Rattle.vm_bytes_form.{proofs.BytesLaws.bytes_is_layout, specs.Bytes.bytes}
 use Rattle.vm_bytes_history.proofs.Hearing.{heard}
