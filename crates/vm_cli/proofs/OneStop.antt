@@ -72,7 +72,7 @@ IsBounded a b (depth frames name) = Unit {0}
 IsBounded a b (stored name) = HoldSame a b
 IsBounded a b (stored_depth frames name) = HoldSame a b
 IsBounded a b (script name workers) = workers < 2 ^ 32
-IsBounded a b (run_script image name workers) = workers < 2 ^ 32
+IsBounded a b (run_script tree name workers) = workers < 2 ^ 32
 IsBounded a b (events name) = Unit {0}
 
 bounded_back : (a b : Outside) (test : Test) → IsBounded a b test → IsBounded b a test
@@ -85,7 +85,7 @@ bounded_back a b (depth frames name) is = tt
 bounded_back a b (stored name) is = held_back a b is
 bounded_back a b (stored_depth frames name) is = held_back a b is
 bounded_back a b (script name workers) is = is
-bounded_back a b (run_script image name workers) is = is
+bounded_back a b (run_script tree name workers) is = is
 bounded_back a b (events name) is = tt
 
 -- of each test that is asked
@@ -137,18 +137,18 @@ module _ (shown : Shown) (a b : Outside) (left : Remains) where
       let b = both_of shown name _ _ p f.1 in absurd (not_bad word_grammar words-tell workers n b.0 few b.1 b.2)
   read_script name workers _ few p f = absurd f
 
-  read_run_script : (image name : List ℕ) (workers : ℕ) (stop : Stop) → workers < 2 ^ 32
-      → Passes (over shown a) (run_script image name workers)
-      → Fails (over shown b) left (run_script image name workers) stop → status_of stop ≡ 2
-  read_run_script image name workers (Unread unread) few p f = refl
-  read_run_script image name workers (Long lines) few p f =
+  read_run_script : (tree name : List ℕ) (workers : ℕ) (stop : Stop) → workers < 2 ^ 32
+      → Passes (over shown a) (run_script tree name workers)
+      → Fails (over shown b) left (run_script tree name workers) stop → status_of stop ≡ 2
+  read_run_script tree name workers (Unread unread) few p f = refl
+  read_run_script tree name workers (Long lines) few p f =
       let b = both_of shown name _ _ p.2 f.1 in
       absurd (omega (arith, short_with (is_key_file p.0) workers b.0 b.1, b.2))
-  read_run_script image name workers (Line lines n) few p f =
-      let i = both_of shown image _ _ p f.1 in
+  read_run_script tree name workers (Line lines n) few p f =
+      let i = both_of shown tree _ _ p f.1 in
       let b = both_of shown name _ _ i.1 i.2 in
       absurd (not_bad_with (is_key_file i.0) workers n b.0 few b.1 b.2)
-  read_run_script image name workers _ few p f = absurd f
+  read_run_script tree name workers _ few p f = absurd f
 
   read_events : (name : List ℕ) (stop : Stop) → Passes (over shown a) (events name)
       → Fails (over shown b) left (events name) stop → status_of stop ≡ 2
@@ -200,7 +200,7 @@ module _ (shown : Shown) (a b : Outside) (left : Remains) where
       absurd (true≢false (sym t.1 ∙ t.2))
   unread_only (stored_depth frames name) _ few p f = absurd f
   unread_only (script name workers) stop few p f = read_script name workers stop few p f
-  unread_only (run_script image name workers) stop few p f = read_run_script image name workers stop few p f
+  unread_only (run_script tree name workers) stop few p f = read_run_script tree name workers stop few p f
   unread_only (events name) stop few p f = read_events name stop p f
 
   -- tests that all pass stop nothing but where a file was not read
@@ -222,7 +222,7 @@ status_in (depth frames name) = 5
 status_in (stored name) = 4
 status_in (stored_depth frames name) = 5
 status_in (script name workers) = 5
-status_in (run_script image name workers) = 5
+status_in (run_script tree name workers) = 5
 status_in (events name) = 5
 
 one_status : (outside : Outside) (left : Remains) (test : Test) (stop : Stop) → Fails outside left test stop
@@ -253,10 +253,10 @@ one_status outside left (script name workers) (Unread unread) f read = absurd (r
 one_status outside left (script name workers) (Long lines) f read = refl
 one_status outside left (script name workers) (Line lines n) f read = refl
 one_status outside left (script name workers) _ f read = absurd f
-one_status outside left (run_script image name workers) (Unread unread) f read = absurd (read refl)
-one_status outside left (run_script image name workers) (Long lines) f read = refl
-one_status outside left (run_script image name workers) (Line lines n) f read = refl
-one_status outside left (run_script image name workers) _ f read = absurd f
+one_status outside left (run_script tree name workers) (Unread unread) f read = absurd (read refl)
+one_status outside left (run_script tree name workers) (Long lines) f read = refl
+one_status outside left (run_script tree name workers) (Line lines n) f read = refl
+one_status outside left (run_script tree name workers) _ f read = absurd f
 one_status outside left (events name) (Unread unread) f read = absurd (read refl)
 one_status outside left (events name) (Long lines) f read = refl
 one_status outside left (events name) (Line lines n) f read = refl

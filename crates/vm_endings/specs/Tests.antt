@@ -35,7 +35,7 @@ pub data Test : Type 0 where
   -- the file with this name is a script of so many workers
   script : List ℕ → ℕ → Test
   -- the file with the second name is a script of so many workers, with keys as the tree in the file with the first has
-  run_script : (image script : List ℕ) → ℕ → Test
+  run_script : (tree name : List ℕ) → ℕ → Test
   -- the file with this name is an event list
   events : List ℕ → Test
 
@@ -49,8 +49,8 @@ Passes outside (depth frames name) = HasFile outside.shown name (λ bytes. holds
 Passes outside (stored name) = HasFilePages outside name IsServedTree
 Passes outside (stored_depth frames name) = HasFilePages outside name (λ pages. holds_call (root_level pages) frames ≡ true)
 Passes outside (script name workers) = HasFile outside.shown name (IsGoodScript workers)
-Passes outside (run_script image name workers) =
-    HasFile outside.shown image (λ bytes. HasFile outside.shown name (IsGoodScriptFor bytes workers))
+Passes outside (run_script tree name workers) =
+    HasFile outside.shown tree (λ bytes. HasFile outside.shown name (IsGoodScriptFor bytes workers))
 Passes outside (events name) = HasFile outside.shown name AreGoodEvents
 
 -- a file was not read: it is the one that the host could not read last
@@ -99,8 +99,8 @@ Fails outside left (stored_depth frames name) (Shape other) =
 Fails outside left (stored_depth frames name) _ = ⊥
 Fails outside left (script name workers) stop =
     IsNoScript outside left name (λ n. HasFile outside.shown name (IsBadScript workers n)) stop
-Fails outside left (run_script image name workers) stop = IsNoScript outside left name
-    (λ n. HasFile outside.shown image (λ bytes. HasFile outside.shown name (IsBadScriptFor bytes workers n))) stop
+Fails outside left (run_script tree name workers) stop = IsNoScript outside left name
+    (λ n. HasFile outside.shown tree (λ bytes. HasFile outside.shown name (IsBadScriptFor bytes workers n))) stop
 Fails outside left (events name) (Unread unread) = IsUnread left name unread.now
 Fails outside left (events name) (Long lines) = (lines ≡ Events) × HasFile outside.shown name IsLong
 Fails outside left (events name) (Line lines n) = (lines ≡ Events) × HasFile outside.shown name (AreBadEvents n)

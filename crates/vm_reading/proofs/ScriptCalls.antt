@@ -1,6 +1,7 @@
 -- What holds of the calls of a script: there are few, and each window and range asks for something.
 use Rattle.std.specs.List.{AllByRecursion, filter}
-use Rattle.std.proofs.Common.{◌≡◌, ◌==◌, ◌≤◌, ◌++◌, ◌∷◌, [], arith, Bool, cond, false, length, List, map, subst, suc}
+use Rattle.std.specs.Prelude.{IfOk}
+use Rattle.std.proofs.Common.{◌≡◌, ◌==◌, ◌≤◌, ◌++◌, ◌∷◌, [], arith, Bool, cond, Err, false, length, List, map, Ok, Result, subst, suc}
 use Rattle.std.proofs.Common.{sym, true, zero, ℕ}
 use Rattle.std.proofs.lemmas.List.{length-map}
 use Rattle.vm_map.specs.declared.call.Call.{Call}
@@ -12,8 +13,12 @@ use Rattle.vm_bytes_script.specs.KeyScripts.{IsKeyScriptCall, key_grammar}
 use Rattle.vm_script.specs.declared.script.Order.{Order}
 use Rattle.vm_script.specs.Orders.{calls_by, Grammar, IsOrder, IsScript, lists_of, most_lines}
 use Rattle.vm_script.specs.Scripts.{IsScriptCall, word_grammar}
+use Rattle.vm_endings.specs.declared.{stop.Stop.Stop, undone.Undone.Undone}
+use Rattle.vm_endings.specs.{Outside.Outside, Outside.Remains, Scripts.IsScriptIn}
 use Rattle.vm_endings.specs.from_vm_bytes_drive.Drives.{AreKeyAskable}
 use Rattle.vm_endings.specs.from_vm_drive.Drives.{AreAskable, AreFew}
+use Rattle.vm_reading.specs.Readings.{ReadsCallsIn}
+use Rattle.vm_reading.proofs.Files.{some_bytes}
 
 length_filter : {X : Type 0} (p : X → Bool) (xs : List X) → length (filter p xs) ≤ length xs
 length_filter p [] = omega arith
@@ -95,10 +100,20 @@ askable_key_call : (call : KeyCall) → IsKeyScriptCall call → AreKeyAskable (
 askable_key_call (keys.Get key) is = ((tt, tt), tt)
 askable_key_call (keys.Put key value) is = ((tt, tt), tt)
 askable_key_call (keys.Del key) is = ((tt, tt), tt)
-askable_key_call (keys.Window start most) is = ((is.1.0, tt), tt)
+askable_key_call (keys.Window start most) is = ((is.1, tt), tt)
 askable_key_call (keys.Swap key want value) is = absurd is
 
 pub askable_key_script : (workers : ℕ) (bytes : List ℕ) (lists : List (List KeyCall))
     → IsScript key_grammar workers bytes lists → AreKeyAskable lists
 askable_key_script workers bytes lists s =
     such_script key_grammar _ (λ call is. (askable_key_call call is).0.0) workers bytes lists s
+
+-- what holds of every script holds of one that was read
+pub read_script : {C V : Type 0} (grammar : Grammar C) (view : V → List (List C)) (Q : List (List C) → Type 0)
+    → ((workers : ℕ) (bytes : List ℕ) (lists : List (List C)) → IsScript grammar workers bytes lists → Q lists)
+    → (outside : Outside) (left : Remains) (name : List ℕ) (workers : ℕ) (r : Result V (Undone Stop))
+    → ReadsCallsIn grammar view outside left name workers r → IfOk r (λ v. Q (view v))
+read_script grammar view Q each outside left name workers (Ok v) reads =
+    let found = some_bytes outside.shown name (IsScriptIn grammar workers (view v)) reads in
+    each workers found.0 (view v) found.1.reads
+read_script grammar view Q each outside left name workers (Err undone) reads = tt

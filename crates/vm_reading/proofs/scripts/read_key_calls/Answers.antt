@@ -1,0 +1,15 @@
+use Rattle.std.specs.declared.alloc.Global.{Global}
+use Rattle.std.proofs.Common.{Vec}
+use Rattle.vm_bytes_laws.specs.declared.call.KeyCall.{KeyCall}
+use Rattle.vm_bytes_script.specs.KeyScripts.{key_grammar}
+use Rattle.vm_endings.specs.from_vm_bytes_drive.Drives.{AreKeyAskable}
+use Rattle.vm_endings.specs.from_vm_drive.Drives.{items_of}
+use Rattle.vm_endings.specs.Outside.{nothing_left, nowhere, with_shown, with_unread}
+use Rattle.vm_reading.proofs.ScriptCalls.{askable_key_script, read_script}
+use Rattle.vm_reading.proofs.scripts.read_key_calls.Goals as goal
+
+pub returns-clause-askable : goal.returns-clause-askable
+returns-clause-askable g c =
+    read_script key_grammar (λ (v : Vec (Vec KeyCall Global) Global). items_of v.items) AreKeyAskable askable_key_script
+    (with_shown nowhere _) (with_unread nothing_left _) c.args.name.now c.args.workers c.calls_in.result
+    (c.calls_in.ensures.reads nowhere nothing_left)
