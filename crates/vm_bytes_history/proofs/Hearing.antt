@@ -15,7 +15,7 @@ use Rattle.vm_bytes_drive.specs.from_vm_bytes_calls.KeyCalls.{key_said}
 use Rattle.vm_bytes_drive.specs.{from_vm_drive.Holds.HoldsCalls, from_vm_drive.Holds.list_at, from_vm_drive.Prelude.answered}
 use Rattle.vm_bytes_drive.specs.from_vm_tree_rule.declared_fault_TreeFault.{TreeFault}
 use Rattle.vm_bytes_history.proofs.Keys.{keys_after_all}
-use Rattle.vm_bytes_history.specs.Heard.{AskStrings, IsHeard, IsKeyMap, key_told, ShowStrings, strings_of, told_in}
+use Rattle.vm_bytes_history.specs.Heard.{AskStrings, IsHeard, IsKeyMap, key_told, ShowStrings, strings_of, key_saids}
 use Rattle.vm_bytes_history.proofs.{Retelling.Retold, Retelling.retell, Starts.map_has_strings}
 
 abbrev Answer : Type 0
@@ -46,7 +46,7 @@ answered_spoken (call ∷ calls) [] ask show = tt
 answered_spoken (call ∷ calls) (Ok reply ∷ answers) ask show = (ask.0, show.0, answered_spoken calls answers ask.1 show.1)
 answered_spoken (call ∷ calls) (Err fault ∷ answers) ask show = answered_spoken calls answers ask.1 show.1
 
-saids_plain : (history : List (Entry KeySaid)) → saids (plain_history plain_said history) ≡ map plain_said (told_in history)
+saids_plain : (history : List (Entry KeySaid)) → saids (plain_history plain_said history) ≡ map plain_said (key_saids history)
 saids_plain [] = refl
 saids_plain (e ∷ history) = ap (λ (ss : List Said). plain_said e.said ∷ ss) (saids_plain history)
 
@@ -62,7 +62,7 @@ module _ (pages : List (List ℕ)) (seen : List (Entry KeySaid)) (lists : List (
       holds.only in
       let start : List KeyEntry = strings_of (map_of bytes pages) in
       let begins : IsKeyMap (map_of bytes pages) start = map_has_strings pages in
-      let said : saids (plain_history plain_said seen) ≡ map plain_said (told_in retold.told) =
+      let said : saids (plain_history plain_said seen) ≡ map plain_said (key_saids retold.told) =
       ap saids (sym retold.same) ∙ saids_plain retold.told in
       record {
         start = start;
@@ -78,11 +78,11 @@ module _ (pages : List (List ℕ)) (seen : List (Entry KeySaid)) (lists : List (
           each = retold.each;
           only = retold.only;
         };
-        right = replies_are start (told_in retold.told) begins.keys retold.spoken
-            (subst (λ (m : Pairs). AreReplies m (map plain_said (told_in retold.told))) (sym begins.same)
+        right = replies_are start (key_saids retold.told) begins.keys retold.spoken
+            (subst (λ (m : Pairs). AreReplies m (map plain_said (key_saids retold.told))) (sym begins.same)
             (subst (λ (ss : List Said). AreReplies (map_of bytes pages) ss) said legal.replies));
-        last_keys = keys_after_all start (told_in retold.told) begins.keys retold.spoken;
-        last = sym (after_is start (told_in retold.told) begins.keys retold.spoken)
-            ∙ ap (λ (m : Pairs). after_all m (map plain_said (told_in retold.told))) begins.same
+        last_keys = keys_after_all start (key_saids retold.told) begins.keys retold.spoken;
+        last = sym (after_is start (key_saids retold.told) begins.keys retold.spoken)
+            ∙ ap (λ (m : Pairs). after_all m (map plain_said (key_saids retold.told))) begins.same
             ∙ ap (after_all (map_of bytes pages)) (sym said);
       }

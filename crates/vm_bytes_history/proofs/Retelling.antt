@@ -10,7 +10,7 @@ use Rattle.vm_bytes_laws.specs.Plain.{plain_said}
 use Rattle.vm_bytes_laws.specs.declared.call.KeySaid.{KeySaid}
 use Rattle.vm_map.specs.declared.call.Said.{Said}
 use Rattle.vm_bytes_drive.specs.from_vm_drive.Holds.{said_by}
-use Rattle.vm_bytes_history.specs.Heard.{as_told, told_in}
+use Rattle.vm_bytes_history.specs.Heard.{as_told, key_saids}
 
 module _ {X P : Type 0} (plain : X → P) (k : ℕ) (e : Entry X) (h : List (Entry X)) where
   -- an entry is one of its own number
@@ -32,7 +32,7 @@ module _ (numbers : ℕ → ℕ) (n : ℕ) (apart : (v w : ℕ) → v < n → w 
     pub same : plain_history plain_said told ≡ plain_history plain_said h
     pub each : (w : ℕ) → w < n → said_by as_told (numbers w) told ≡ given w
     pub only : Each IsNumbered told
-    pub spoken : AreSpoken (told_in told)
+    pub spoken : AreSpoken (key_saids told)
 
   nothing_given : (given : List KeySaid) → [] ≡ map plain_said given → [] ≡ given
   nothing_given [] none = refl

@@ -44,8 +44,8 @@ abbrev pub key_told : KeyCall → KeyReply → KeySaid
 key_told call reply = record { call = call; reply = reply }
 
 -- the calls with their replies, in order
-abbrev pub told_in : List (Entry KeySaid) → List KeySaid
-told_in history = map (λ e. e.said) history
+abbrev pub key_saids : List (Entry KeySaid) → List KeySaid
+key_saids history = map (λ e. e.said) history
 
 -- A pass that had seen this, when it began with these pages, and whose workers made these calls with these replies: its
 -- history over strings. It begins with the map of the pages' strings. It has the same entries in the same order, under the same
@@ -57,8 +57,8 @@ pub record IsHeard (pages : List (List ℕ)) (seen : List (Entry KeySaid)) (list
   pub begins : IsKeyMap (map_of bytes pages) start
   pub history : List (Entry KeySaid)
   pub same : plain_history plain_said history ≡ plain_history plain_said seen
-  pub spoken : AreSpoken (told_in history)
+  pub spoken : AreSpoken (key_saids history)
   pub holds : HoldsCalls as_told key_told history lists replies
-  pub right : AreKeyReplies start (told_in history)
-  pub last_keys : AreKeys (map_after_all start (told_in history))
-  pub last : ranks_of (map_after_all start (told_in history)) ≡ after_all (map_of bytes pages) (saids (plain_history plain_said seen))
+  pub right : AreKeyReplies start (key_saids history)
+  pub last_keys : AreKeys (map_after_all start (key_saids history))
+  pub last : ranks_of (map_after_all start (key_saids history)) ≡ after_all (map_of bytes pages) (saids (plain_history plain_said seen))

@@ -6,7 +6,7 @@ ghost use Rattle.vm_event.specs.Prelude.{MAX_VERSION};
 ghost use Rattle.vm_serve.specs.from_vm_pool.Closing.{view_at_end};
 ghost use Rattle.vm_serve.specs.from_vm_drive.Drives.{AreFew, items_of};
 ghost use Rattle.vm_serve.specs.from_vm_drive.Lists.{HaveRoom};
-ghost use Rattle.vm_serve.specs.Served.{MayServe};
+ghost use Rattle.vm_serve.specs.Served.{MayServeOn};
 ghost use Rattle.vm_bytes_form.specs.Bytes.{bytes};
 ghost use Rattle.vm_bytes_history.specs.from_vm_bytes_calls.KeyAnswers.{HasKeyRoom, KeepsKeyAnswers};
 ghost use Rattle.vm_bytes_history.specs.from_vm_bytes_drive.Drives.{AreKeyAskable};
@@ -86,7 +86,7 @@ pub fn serve_on<R: Threads + Wait + Sync, B: PageBlock<512> + Send + Sync + Drop
     gate: &G,
     rooms: Vec<KeyReplies>,
 ) -> Result<KeyServed<B>, Memory>
-    requires tree { (pages : List (List ℕ)) × MayServe bytes B.tells pages (map B.stored blocks.items) shape.next free.now }
+    requires tree { (pages : List (List ℕ)) × MayServeOn bytes B.tells pages (map B.stored blocks.items) shape.next free.now }
     requires pages { (shape.pages ≡ length blocks.items) × (shape.pages ≤ 65536) }
     requires version { shape.first_version ≤ MAX_VERSION }
     requires frames { (64 ≤ shape.frames) × (shape.frames ≤ 65536) × (8 * length lists.now ≤ shape.frames) }
@@ -94,7 +94,7 @@ pub fn serve_on<R: Threads + Wait + Sync, B: PageBlock<512> + Send + Sync + Drop
     requires few { AreFew (items_of lists.now) }
     requires askable { AreKeyAskable (items_of lists.now) }
     requires rooms { HaveRoom KeepsKeyAnswers HasKeyRoom rooms.items (items_of lists.now) }
-    ensures served { IfOk result (λ s. (pages : List (List ℕ)) → MayServe bytes B.tells pages (map B.stored blocks.items) shape.next free.now
+    ensures served { IfOk result (λ s. (pages : List (List ℕ)) → MayServeOn bytes B.tells pages (map B.stored blocks.items) shape.next free.now
         → IsKeyServedOnInto B.tells pages (map B.stored blocks.items) (items_of lists.now) s.kept.items s.report
         (map B.stored s.blocks.items) s.ended) }
     ensures version { IfOk result (λ s. (view_at_end s.ended).start.version ≡ shape.first_version) }

@@ -14,7 +14,7 @@ use Rattle.vm_bytes_form.specs.{Bytes.bytes as keyed, Forms.KeyEntry, KeyMap.ran
 use Rattle.vm_bytes_file.specs.KeyFiles.{is_key_file}
 use Rattle.vm_bytes_laws.specs.declared.call.{KeyCall.KeyCall, KeyReply.KeyReply, KeySaid.KeySaid}
 use Rattle.vm_bytes_laws.specs.KeyHistory.{map_after_all}
-use Rattle.vm_bytes_serve.specs.from_vm_bytes_history.Heard.{told_in}
+use Rattle.vm_bytes_serve.specs.from_vm_bytes_history.Heard.{key_saids}
 use Rattle.vm_bytes_serve.specs.KeyServing.{IsKeyServed}
 use Rattle.vm_bytes_text.specs.KeyTexts.{key_text, line_with}
 use Rattle.vm_bytes_replies.specs.KeyLines.{key_worker_lines}
@@ -47,7 +47,7 @@ pub record IsMadeKeyRun {U : Type 0} (run : Run) (end : Ended U KeySaid) (pages 
 -- the map over strings after the calls of the one history
 abbrev pub last_strings : {U : Type 0} {run : Run} {end : Ended U KeySaid} {pages : List (List ℕ)} {lists : List (List KeyCall)}
     → IsMadeKeyRun run end pages lists → List KeyEntry
-last_strings made = map_after_all made.served.heard.start (told_in made.served.heard.history)
+last_strings made = map_after_all made.served.heard.start (key_saids made.served.heard.history)
 
 -- the bytes are a page file with byte keys, of these pages, which are a tree
 pub record IsKeyFileOf (pages : List (List ℕ)) (bytes : List ℕ) : Type 0 where

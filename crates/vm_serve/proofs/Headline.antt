@@ -33,7 +33,7 @@ use Rattle.vm_drive.proofs.Prelude.{FoundFull, FoundWorn, notes-both}
 use Rattle.vm_drive.proofs.Prelude.{found-later, max-later}
 use Rattle.vm_drive.proofs.Tracing.{lists-caused, used-up, worn-out}
 use Rattle.vm_drive.proofs.{Parted.parts-later, Parted.traced, Parts.behind-in, Showing.all-shown-more}
-use Rattle.vm_serve.specs.Served.{is_first, IsFilled, IsServedAs, MayServe}
+use Rattle.vm_serve.specs.Served.{is_first, IsFilled, IsServedAs, MayServeOn}
 use Rattle.vm_serve.specs.Serving.{IsServing, Serving}
 use Rattle.vm_serve.proofs.Counting.{few-notes}
 
@@ -81,7 +81,7 @@ module _ {S : Type 0} (plain : S → Said) (L : Layout) (laws : IsLayout L) wher
 
   -- so it may with what blocks hold on which calls may be served, where they tell
   pub begins-held : (tells : Bool) (pages : List (List ℕ)) (blocks : List Stored) (next : ℕ) (free : List ℕ)
-      → MayServe L tells pages blocks next free → tells ≡ true → MayBegin (KeepsPlain plain L) next free (block_words blocks)
+      → MayServeOn L tells pages blocks next free → tells ≡ true → MayBegin (KeepsPlain plain L) next free (block_words blocks)
   begins-held tells pages blocks next free may t =
       subst (λ (l : List (List ℕ)). MayBegin (KeepsPlain plain L) next free l) (sym (may.held t))
       (begins-with next free pages may.tree may.next_page (λ p is. (may.free_pages.each p (there p free is)).2))
@@ -96,7 +96,7 @@ module _ {S : Type 0} (plain : S → Said) (L : Layout) (laws : IsLayout L) wher
 
 -- the numbers that a pool over such blocks is started with fit
 pub has-started : (L : Layout) (tells : Bool) (pages : List (List ℕ)) (blocks : List Stored) (next : ℕ) (free : List ℕ)
-    (version frames count : ℕ) → MayServe L tells pages blocks next free → length blocks ≡ count
+    (version frames count : ℕ) → MayServeOn L tells pages blocks next free → length blocks ≡ count
     → version ≤ MAX_VERSION → 64 ≤ frames → frames ≤ 65536 → count ≤ 65536 → IsStarted version next frames count
 has-started L tells pages blocks next free version frames count may long in-range some few-frames few =
     let low = may.tree.meta.root_low in
@@ -166,7 +166,7 @@ blocks-hold blocks n words long each =
 module _ {X C R : Type 0} (s : Serving X C R) (serving : IsServing s) {U : Type 0} (tells : Bool) (pages : List (List ℕ))
     (version next : ℕ) (free : List ℕ) (frames : ℕ) (before after : List Stored) (lists : List (List C))
     (replies : List (List (Result R TreeFault))) (report : Flushed) (end : Ended U X) (v w : View X)
-    (may : MayServe s.layout tells pages before next free)
+    (may : MayServeOn s.layout tells pages before next free)
     (is : v ≡ begun (unborn (started_shape s.layout.words tells version next free frames before)))
     (driven : IsDriven s.calls tells lists replies v w) (flushed : IsFlushed report w (view_at_end end)) (last : ℕ)
     (closed : IsClosed tells (KeepsPlain s.calls.plain s.layout) (view_at_end end) after last) where

@@ -14,13 +14,13 @@ use Rattle.vm_drive.specs.from_vm_pool.{Closing.view_at_end, declared_ended_Ende
 use Rattle.vm_tree_laws.specs.History.{saids}
 use Rattle.vm_drive.specs.from_vm_tree_rule.declared_fault_TreeFault.{TreeFault}
 use Rattle.vm_drive.specs.Prelude.{notes_about}
-use Rattle.vm_serve.specs.{Served.IsServedAs, Served.IsServedFrom, Served.MayServe, Serving.Serving}
+use Rattle.vm_serve.specs.{Served.IsServedAs, Served.IsServedFrom, Served.MayServeOn, Serving.Serving}
 use Rattle.vm_serve.proofs.{Counting.few-faults, Counting.small-plan, Headline.words-held}
 
 -- calls may be served on the blocks of an image that is a tree
 pub of-image : (L : Layout) (pages : List (List ℕ)) (plan : List PlannedFault) (blocks : List (MemBlock L.words)) (next : ℕ)
     (free : List ℕ) → IsTree L pages → AreBlocksOf pages plan blocks → IsNextPage L.words pages next
-    → AreFreePages L.words pages next free → MayServe L true pages (map stored_of blocks) next free
+    → AreFreePages L.words pages next free → MayServeOn L true pages (map stored_of blocks) next free
 of-image L pages plan blocks next free tree made after spare = record {
   tree = tree;
   count = length-mapped stored_of blocks ∙ sym (length-mapped words_of blocks) ∙ ap (λ (l : List (List ℕ)). length l) made.held;

@@ -31,7 +31,7 @@ TreeEnd n = Ended (TreeOf (WordKeys Sizes n)) Said
 -- layout, are a tree, one for each block, and they are what the blocks hold, where blocks tell; the next word is that of
 -- the pages, the numbers are those of their free pages below it. Where blocks do not tell, that they hold these pages is
 -- the caller's word alone
-pub record MayServe (L : Layout) (tells : Bool) (pages : List (List ℕ)) (blocks : List Stored) (next : ℕ)
+pub record MayServeOn (L : Layout) (tells : Bool) (pages : List (List ℕ)) (blocks : List Stored) (next : ℕ)
     (free : List ℕ) : Type 0 where
   pub tree : IsTree L pages
   pub count : length blocks ≡ length pages
@@ -41,7 +41,7 @@ pub record MayServe (L : Layout) (tells : Bool) (pages : List (List ℕ)) (block
 
 -- so calls with words as keys may, on pages of n words
 abbrev pub MayBeServed : ℕ → (tells : Bool) (pages : List (List ℕ)) (blocks : List Stored) (next : ℕ) (free : List ℕ) → Type 0
-MayBeServed n = MayServe (fixed n)
+MayBeServed n = MayServeOn (fixed n)
 
 -- pages that were used up: the next word that the end keeps leaves no room for a split; and where blocks tell, the
 -- history accounts for it, from the next word at the start on
