@@ -1,21 +1,21 @@
 -- What a pass has seen of workers' calls with byte keys, told over strings.
 use Rattle.std.specs.List.{AllByRecursion}
-use Rattle.std.proofs.Common.{[], ◌<◌, ◌∙◌, ◌∷◌, ◌≡◌, ap, Err, length, List, map, Ok, refl, Result, subst, suc, sym, zero, ℕ}
-use Rattle.std.specs.Prelude.{IfOk}
+use Rattle.std.proofs.Common.{[], ◌∙◌, ◌∷◌, ◌≡◌, ap, Err, length, List, map, Ok, refl, Result, subst, suc, sym, zero, ℕ}
 use Rattle.vm_map.specs.{declared.call.Said.Said, History.after_all, History.AreReplies, Map.Pairs}
-use Rattle.vm_owner.specs.declared.Entry.{Entry}
 use Rattle.vm_tree_model.specs.Tree.{map_of}
+use Rattle.vm_rule.specs.Prelude.{Entry}
 use Rattle.vm_tree_laws.specs.{History.IsLegal, History.saids, Plain.plain_history}
-use Rattle.vm_bytes_form.specs.{Bytes.bytes, Forms.KeyEntry, KeyMap.ranks_of, Strings.IsString}
-use Rattle.vm_bytes_laws.specs.KeyHistory.{AreSpoken, key_called, ShowsKeys}
+use Rattle.vm_bytes_form.specs.{Bytes.bytes, Forms.KeyEntry}
+use Rattle.vm_bytes_laws.specs.KeyHistory.{AreSpoken}
 use Rattle.vm_bytes_laws.specs.Plain.{plain_said}
 use Rattle.vm_bytes_laws.specs.declared.call.{KeyCall.KeyCall, KeyReply.KeyReply, KeySaid.KeySaid}
 use Rattle.vm_bytes_laws.proofs.KeyHistories.{after_is, replies_are}
 use Rattle.vm_bytes_drive.specs.from_vm_bytes_calls.KeyCalls.{key_said}
-use Rattle.vm_bytes_drive.specs.{from_vm_drive.Holds.HoldsCalls, from_vm_drive.Holds.list_at, from_vm_drive.Prelude.answered}
 use Rattle.vm_bytes_drive.specs.from_vm_tree_rule.declared_fault_TreeFault.{TreeFault}
+use Rattle.vm_bytes_drive.specs.from_vm_drive.{Holds.HoldsCalls, Holds.list_at, Prelude.answered}
 use Rattle.vm_bytes_history.proofs.Keys.{keys_after_all}
-use Rattle.vm_bytes_history.specs.Heard.{AskStrings, IsHeard, IsKeyMap, key_told, ShowStrings, strings_of, key_saids}
+use Rattle.vm_bytes_history.specs.Heard.{AsksString, AskStrings, IsHeard, IsKeyMap, key_saids, key_told, ShowsStrings}
+use Rattle.vm_bytes_history.specs.Heard.{ShowStrings, strings_of}
 use Rattle.vm_bytes_history.proofs.{Retelling.Retold, Retelling.retell, Starts.map_has_strings}
 
 abbrev Answer : Type 0
@@ -39,27 +39,30 @@ answered_plain (call ∷ calls) (Err fault ∷ answers) = answered_plain calls a
 
 -- they speak of strings
 answered_spoken : (calls : List KeyCall) (answers : List Answer)
-    → AllByRecursion (λ call. IsString 64 (key_called call)) calls → AllByRecursion (λ answer. IfOk answer ShowsKeys) answers
+    → AllByRecursion AsksString calls → AllByRecursion ShowsStrings answers
     → AreSpoken (answered key_told calls answers)
 answered_spoken [] answers ask show = tt
 answered_spoken (call ∷ calls) [] ask show = tt
-answered_spoken (call ∷ calls) (Ok reply ∷ answers) ask show = (ask.0, show.0, answered_spoken calls answers ask.1 show.1)
+answered_spoken (call ∷ calls) (Ok reply ∷ answers) ask show =
+    (ask.0, show.0, answered_spoken calls answers ask.1 show.1)
 answered_spoken (call ∷ calls) (Err fault ∷ answers) ask show = answered_spoken calls answers ask.1 show.1
 
-saids_plain : (history : List (Entry KeySaid)) → saids (plain_history plain_said history) ≡ map plain_said (key_saids history)
+-- what a history says, read with ranks
+saids_plain : (h : List (Entry KeySaid)) → saids (plain_history plain_said h) ≡ map plain_said (key_saids h)
 saids_plain [] = refl
-saids_plain (e ∷ history) = ap (λ (ss : List Said). plain_said e.said ∷ ss) (saids_plain history)
+saids_plain (e ∷ h) = ap (λ (ss : List Said). plain_said e.said ∷ ss) (saids_plain h)
 
-module _ (pages : List (List ℕ)) (seen : List (Entry KeySaid)) (lists : List (List KeyCall)) (replies : List (List Answer)) where
+module _ (pages : List (List ℕ)) (seen : List (Entry KeySaid)) (lists : List (List KeyCall))
+    (replies : List (List Answer)) where
   pub heard : AskStrings lists → ShowStrings replies → HoldsCalls plain_said key_said seen lists replies
       → IsLegal (map_of bytes pages) (plain_history plain_said seen) → IsHeard pages seen lists replies
   heard ask show holds legal =
       let given : ℕ → List KeySaid = λ w. answered key_told (list_at lists w) (list_at replies w) in
-      let retold : Retold holds.numbers (length lists) holds.apart seen given = retell holds.numbers (length lists) holds.apart seen given
-      (λ w l. holds.each w l ∙ answered_plain (list_at lists w) (list_at replies w))
-      (λ w l. answered_spoken (list_at lists w) (list_at replies w)
-      (all_at (λ call. IsString 64 (key_called call)) lists w ask) (all_at (λ answer. IfOk answer ShowsKeys) replies w show))
-      holds.only in
+      let spoken : (w : ℕ) → AreSpoken (given w) = λ w. answered_spoken (list_at lists w) (list_at replies w)
+      (all_at AsksString lists w ask) (all_at ShowsStrings replies w show) in
+      let retold : Retold holds.numbers (length lists) holds.apart seen given =
+      retell holds.numbers (length lists) holds.apart seen given
+      (λ w l. holds.each w l ∙ answered_plain (list_at lists w) (list_at replies w)) (λ w l. spoken w) holds.only in
       let start : List KeyEntry = strings_of (map_of bytes pages) in
       let begins : IsKeyMap (map_of bytes pages) start = map_has_strings pages in
       let said : saids (plain_history plain_said seen) ≡ map plain_said (key_saids retold.told) =

@@ -1,14 +1,12 @@
--- A history whose entries, number by number, read as some calls with their replies is retold with those very calls and replies.
+-- A history whose entries, number by number, have the ranks of some calls and replies is retold with just these.
 use Rattle.std.proofs.Common.{[], ◌<◌, ◌==◌, ◌∙◌, ◌∷◌, ◌≡◌, ◌≢◌, ap, false, if◌then◌else◌, inl, inr}
 use Rattle.std.proofs.Common.{List, map, refl, subst, sym, true, ℕ}
 use Rattle.std.proofs.lemmas.Bool.{cases_eq, eq-eqb, ne_eqb}
-use Rattle.vm_owner.specs.declared.Entry.{Entry}
-use Rattle.vm_rule.specs.Prelude.{Each}
-use Rattle.vm_tree_laws.specs.Plain.{plain_entry, plain_history}
+use Rattle.vm_rule.specs.Prelude.{Each, Entry}
+use Rattle.vm_tree_laws.specs.Plain.{plain_history}
 use Rattle.vm_bytes_laws.specs.KeyHistory.{AreSpoken}
 use Rattle.vm_bytes_laws.specs.Plain.{plain_said}
 use Rattle.vm_bytes_laws.specs.declared.call.KeySaid.{KeySaid}
-use Rattle.vm_map.specs.declared.call.Said.{Said}
 use Rattle.vm_bytes_drive.specs.from_vm_drive.Holds.{said_by}
 use Rattle.vm_bytes_history.specs.Heard.{as_told, key_saids}
 
@@ -26,7 +24,7 @@ module _ (numbers : ℕ → ℕ) (n : ℕ) (apart : (v w : ℕ) → v < n → w 
   abbrev IsNumbered : Entry KeySaid → Type 0
   IsNumbered e = (w : ℕ) × (w < n) × (e.number ≡ numbers w)
 
-  -- the history, with what is given for each number in place of what its entries say
+  -- the history with what is given for each number in place of what its entries say
   pub record Retold (h : List (Entry KeySaid)) (given : ℕ → List KeySaid) : Type 0 where
     pub told : List (Entry KeySaid)
     pub same : plain_history plain_said told ≡ plain_history plain_said h
@@ -101,7 +99,8 @@ module _ (numbers : ℕ → ℕ) (n : ℕ) (apart : (v w : ℕ) → v < n → w 
         );
       }
 
-    retold_next : ((later : ℕ → List KeySaid) → ((v : ℕ) → v < n → said_by plain_said (numbers v) h ≡ map plain_said (later v))
+    retold_next : ((later : ℕ → List KeySaid)
+        → ((v : ℕ) → v < n → said_by plain_said (numbers v) h ≡ map plain_said (later v))
         → ((v : ℕ) → v < n → AreSpoken (later v)) → Retold h later)
         → (l : List KeySaid) → given w ≡ l → Retold (e ∷ h) given
     retold_next retell_rest [] is = absurd (let none = held ∙ ap (map plain_said) is in cc)

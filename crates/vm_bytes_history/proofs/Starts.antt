@@ -1,11 +1,11 @@
--- The map that pages with byte keys hold is one over strings: whatever the words are, each key that is read of them is a string.
+-- The map that pages with byte keys hold is one over strings: each key that is read of any words is a string.
 use Rattle.std.specs.List.{AllByRecursion}
-use Rattle.std.proofs.Common.{[], ◌++◌, ◌+◌, ◌<◌, ◌==◌, ◌∷◌, ◌≡◌, ◌≤◌, ap, arith, Bool, drop, eqb, false}
+use Rattle.std.proofs.Common.{[], ◌++◌, ◌+◌, ◌<◌, ◌==◌, ◌∷◌, ◌≡◌, arith, Bool, drop, eqb, false}
 use Rattle.std.proofs.Common.{if◌then◌else◌, List, ltb, refl, subst, sym, true, ℕ}
 use Rattle.vm_map.specs.Map.{gather, Pairs, put_pair, Rises}
 use Rattle.vm_map.proofs.MapLemmas.{KeysIn, Rises-gather}
 use Rattle.vm_tree_model.specs.Tree.{leaf_pairs, leaf_part, map_of}
-use Rattle.vm_bytes_form.specs.Bytes.{bytes, kind_of, ranked_entry}
+use Rattle.vm_bytes_form.specs.Bytes.{bytes, kind_of}
 use Rattle.vm_bytes_form.specs.Forms.{AreKeys, KeyEntry, node_in}
 use Rattle.vm_bytes_form.specs.KeyMap.{ranks_of}
 use Rattle.vm_bytes_form.specs.Strings.{IsBefore, IsString, rank, RANK_END, string_of}
@@ -22,7 +22,8 @@ abbrev AreRanks : Pairs → Type 0
 AreRanks pairs = AllByRecursion (λ e. IsRank e.0) pairs
 
 rank_is : (s : List ℕ) → IsString 64 s → IsRank (rank s)
-rank_is s is = subst (λ (t : List ℕ). IsString 64 t × (rank t ≡ rank s)) (sym (string_of_rank 64 s is.fits is.bytes)) (is, refl)
+rank_is s is =
+    subst (λ (t : List ℕ). IsString 64 t × (rank t ≡ rank s)) (sym (string_of_rank 64 s is.fits is.bytes)) (is, refl)
 
 -- ---- what is read of pages are ranks
 
@@ -57,7 +58,8 @@ ranks_read words = go (kind_of (node_in words).tag == 2)
 
 ranks_held : (pages : List (List ℕ)) → AreRanks (leaf_pairs bytes pages)
 ranks_held [] = tt
-ranks_held (words ∷ pages) = ranks_both (leaf_part bytes words) (leaf_pairs bytes pages) (ranks_read words) (ranks_held pages)
+ranks_held (words ∷ pages) =
+    ranks_both (leaf_part bytes words) (leaf_pairs bytes pages) (ranks_read words) (ranks_held pages)
 
 -- ---- so they are a map over strings
 
@@ -91,14 +93,13 @@ keys_rise (e ∷ es) low high all rises = (
   keys_rise es (e.0 + 1) high all.1 rises.2,
 )
 
-module _ (pages : List (List ℕ)) where
-  pub map_has_strings : IsKeyMap (map_of bytes pages) (strings_of (map_of bytes pages))
-  map_has_strings =
-      let read : AreRanks (leaf_pairs bytes (drop 1 pages)) = ranks_held (drop 1 pages) in
-      let all : AreRanks (map_of bytes pages) = ranks_gathered (leaf_pairs bytes (drop 1 pages)) read in
-      record {
-        keys = are_keys (map_of bytes pages) all;
-        rises = keys_rise (map_of bytes pages) 0 RANK_END all
-            (Rises-gather (leaf_pairs bytes (drop 1 pages)) 0 RANK_END (keys_in (leaf_pairs bytes (drop 1 pages)) read));
-        same = ranks_back (map_of bytes pages) all;
-      }
+pub map_has_strings : (pages : List (List ℕ)) → IsKeyMap (map_of bytes pages) (strings_of (map_of bytes pages))
+map_has_strings pages =
+    let pairs : Pairs = leaf_pairs bytes (drop 1 pages) in
+    let read : AreRanks pairs = ranks_held (drop 1 pages) in
+    let all : AreRanks (gather pairs) = ranks_gathered pairs read in
+    record {
+      keys = are_keys (gather pairs) all;
+      rises = keys_rise (gather pairs) 0 RANK_END all (Rises-gather pairs 0 RANK_END (keys_in pairs read));
+      same = ranks_back (gather pairs) all;
+    }

@@ -2,8 +2,8 @@
 #![tactic(auto)]
 
 ghost use Rattle.std.specs.Prelude.{List, Result, ℕ};
-ghost use Rattle.vm_owner.specs.declared.Entry.{Entry};
 ghost use Rattle.vm_tree_model.specs.Tree.{map_of};
+ghost use Rattle.vm_rule.specs.Prelude.{Entry};
 ghost use Rattle.vm_tree_laws.specs.{History.IsLegal, Plain.plain_history};
 ghost use Rattle.vm_bytes_form.specs.Bytes.{bytes};
 ghost use Rattle.vm_bytes_laws.specs.Plain.{plain_said};
