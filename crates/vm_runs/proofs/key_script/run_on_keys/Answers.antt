@@ -27,7 +27,8 @@ returns-in-Ok-key_outcome_of-clause-gives g c = λ outside left.
     let holds : holds_call c.args.tree.rows.height c.args.run.now.frames ≡ true =
     sym c.holds_call.ensures ∙ c.if-not-holds_call.false in
     key-run-does c.args.run.now c.args.workers c.args.tree c.requires.limits (with_shown outside _)
-    c.requires.image (items_of c.in-Ok.lists.items) _ c.in-Ok-key_outcome_of.outcome.ended holds
+    c.requires.image (items_of c.in-Ok.lists.items) (content_of c.in-Ok-key_outcome_of.outcome.delivery)
+    c.in-Ok-key_outcome_of.outcome.ended holds
     (rw c.requires.limits.0 at (c.in-Ok.ensures.reads outside left))
     (subst (λ (v : List (Vec KeyCall Global)). IsKeyOutcome c.args.run.now c.args.tree.image (items_of v)
     (content_of c.in-Ok-key_outcome_of.outcome.delivery) c.in-Ok-key_outcome_of.outcome.ended) c.as_slice.ensures.value
