@@ -1,7 +1,6 @@
-use Rattle.std.proofs.Common.{◌*◌, ◌∙◌, ◌≤◌, arith, length, List, refl, subst, sym, ℕ}
+use Rattle.std.proofs.Common.{◌*◌, ◌≤◌, length, List, refl, subst, sym, ℕ}
 use Rattle.std.proofs.lemmas.Result.{IfOk-weaker}
 use Rattle.vm_image.specs.File.{AreFreePages}
-use Rattle.vm_event.specs.Prelude.{MAX_VERSION}
 use Rattle.vm_serve.proofs.Planned.{of-image, served-planned}
 use Rattle.vm_bytes_form.specs.Bytes.{bytes}
 use Rattle.vm_bytes_serve.specs.KeyServing.{key_serving}
