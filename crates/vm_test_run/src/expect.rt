@@ -39,7 +39,7 @@ pub(crate) fn perform<R: Threads + Wait + Sync, H: Host, G: Gate + Sync>(
 pub(crate) fn is_kept(ends: &Ends) -> bool {
     match ends {
         Ends::Nothing => false,
-        Ends::Tree(_) | Ends::LargeTree(_) => true,
+        Ends::Tree(_) | Ends::LargeTree(_) | Ends::BytesTree(_) => true,
     }
 }
 

@@ -42,7 +42,7 @@ pub(crate) fn expect<R: Abort + Threads + Wait + Sync, D: Devices<WORDS>>(
     assert!(rt; host.said() == said.as_bytes(), "{line}");
     Ok(match ends {
         Ends::Nothing => false,
-        Ends::Tree(_) | Ends::LargeTree(_) => true,
+        Ends::Tree(_) | Ends::LargeTree(_) | Ends::BytesTree(_) => true,
     })
 }
 
