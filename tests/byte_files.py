@@ -11,9 +11,14 @@ from byte_nodes import INNER, LEAF, SHAPES, WORDS, Node, bytes_of, key_text, nod
 PAGE, PAGES, MAGIC, LAST = 8 * WORDS, 8192, int.from_bytes(b"VMCBYTE1", "big"), 2**64 - 1
 
 
+def row_lines(rows):
+    """The lines of these pairs."""
+    return [f"row {key_text(key)} {value}\n" for key, value in rows]
+
+
 def told(rows, height, used):
     """What `check` says of a tree with these pairs."""
-    return "".join(f"row {key_text(key)} {value}\n" for key, value in rows) + f"tree height {height} used {used} rows {len(rows)}\n"
+    return "".join(row_lines(rows)) + f"tree height {height} used {used} rows {len(rows)}\n"
 
 
 def refused(page, why):
