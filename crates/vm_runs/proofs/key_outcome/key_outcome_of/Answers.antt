@@ -8,13 +8,13 @@ use Rattle.vm_reading.specs.from_vm_bytes_calls.declared_answers_KeyReplies.{Key
 use Rattle.vm_reading.specs.from_vm_bytes_calls.KeyAnswers.{KeepsKeyAnswers}
 use Rattle.vm_reading.specs.from_vm_bytes_replies.KeyLines.{AreAnswered, key_worker_lines}
 use Rattle.vm_reading.specs.from_vm_drive.{Drives.items_of, Lists.AreKept}
-use Rattle.vm_reading.proofs.from_vm_serve.Planned.{as-many}
+use Rattle.vm_reading.proofs.from_vm_serve.Planned.{saved}
 use Rattle.vm_reading.specs.from_vm_endings.{Deliveries.written_of, KeyRuns.KeepsKeys, Replies.counters_of}
 use Rattle.vm_runs.proofs.key_outcome.key_outcome_of.Goals as goal
-use Rattle.vm_runs.proofs.KeyOutcomes.{answered, blocks-hold, key_cut, key_flushed, key_made}
+use Rattle.vm_runs.proofs.KeyOutcomes.{answered, key_cut, key_flushed, key_made}
 
 pub key_cut_text-requires-clause-answered : goal.key_cut_text-requires-clause-answered
-key_cut_text-requires-clause-answered g c κs within =
+key_cut_text-requires-clause-answered g c =
     subst (λ (l : List KeyReplies). AreAnswered (items_of c.args.lists.now) l) (sym c.as_slice.ensures.value)
     (answered c.args.run.now c.args.image.now (items_of c.args.lists.now) _ 0 0 c.in-Ok.served c.in-Ok.ensures.served)
 
@@ -30,6 +30,25 @@ returns-in-Some g c =
     let kept = subst (λ (l : List KeyReplies). AreKept KeepsKeyAnswers l into.told) (sym c.as_slice.ensures.value) into.stand in
     key_cut run image lists s.ended of s.evicted c.in-Some.page c.in_ok-text-in-Some.text c.told.result c.in-Some.is
     (c.in_ok-text-in-Some.ensures into.told kept) c.told.ensures
+
+pub keys_stored_in-requires-clause-tree : goal.keys_stored_in-requires-clause-tree
+keys_stored_in-requires-clause-tree g c =
+    let is = c.in-Ok.ensures.served.served.ranks in
+    subst (λ (b : List (MemBlock 512)). IsTree keyed (pages_of_blocks b)) (sym c.as_slice-in-None.ensures.value)
+    (saved _ _ _ _ _ _ _ is (is.on.flushed c.in-None.is)).0
+
+pub keys_kept-requires : goal.keys_kept-requires
+keys_kept-requires g c =
+    let is = c.in-Ok.ensures.served.served.ranks in
+    let held : c.in_ok-image-in-None.field-0.image ≡ pages_of_blocks c.in-Ok.served.blocks.items =
+    c.in_ok-image-in-None.ensures.image
+    ∙ ap (λ (b : List (MemBlock 512)). pages_of_blocks b) c.as_slice-in-None.ensures.value in
+    subst (λ (l : List (List ℕ)). IsTree keyed l) (sym held) (saved _ _ _ _ _ _ _ is (is.on.flushed c.in-None.is)).0
+
+pub key_whole_text-requires-clause-answered : goal.key_whole_text-requires-clause-answered
+key_whole_text-requires-clause-answered g c =
+    subst (λ (l : List KeyReplies). AreAnswered (items_of c.args.lists.now) l) (sym c.as_slice-in-None-2.ensures.value)
+    (answered c.args.run.now c.args.image.now (items_of c.args.lists.now) _ 0 0 c.in-Ok.served c.in-Ok.ensures.served)
 
 pub returns : goal.returns
 returns g c =
