@@ -1,5 +1,5 @@
 """The test of the harness: small runs of all engines, whose summaries must be right, and the two clocks beside each other."""
-from harness import calls, program, ranges, rounds, served, space, turnover, watch, workload
+from harness import calls, dictionary, program, ranges, rounds, served, space, turnover, watch, workload
 from harness.console import Failure, say
 
 PAIRS = 1_000
@@ -9,15 +9,19 @@ CALLS = 1_000  # on the served file
 APART = 0.1
 
 
-def check(engines, limit):
+def check(engines, parts, limit):
     """0 where all is right, else 1; says each step that is wrong."""
-    faults = [*faults_of_sizes(), *faults_of_lines(), *faults_of_turnover(), *faults_of_kinds(), *faults_of_gets()]
+    faults = [*faults_of_sizes(), *faults_of_lines(), *faults_of_turnover(), *faults_of_kinds(), *faults_of_gets(), *faults_of_words()]
     for part in rounds.PARTS:
+        if part.name not in parts:
+            continue
         taking_part = part.engines_of(engines)
         faults += faults_of_part(part, taking_part, limit)
         say(f"{part.name} with {', '.join(map(str, part.workers))} workers: {', '.join(engine.name for engine in taking_part)}")
-    faults += faults_of_space(space.engines_of(engines), limit)
-    faults += faults_of_served(engines, limit)
+    if rounds.SPACE in parts:
+        faults += faults_of_space(space.engines_of(engines), limit)
+    if served.NAME in parts:
+        faults += faults_of_served(engines, limit)
     faults += faults_of_watch(engines, limit)
     for fault in faults:
         say(f"wrong: {fault}")
@@ -147,6 +151,28 @@ def faults_of_gets():
             yield f"not half of {CALLS} served calls are puts"
         if any(key not in served.keys_of(worker, workers) for worker, by_worker in enumerate(lists) for key, _ in by_worker):
             yield f"one of {workers} workers has a key of another one"
+
+
+def faults_of_words():
+    """Five words, worked out by hand: the third and the fourth are the second worker's, and the second and the fourth are taken out."""
+    words = [b"b", b"a", b"ab", b"c", "\u00e9".encode()]
+    first = [("62", 1), ("61", 2), ("c3a9", 5), ("62", calls.GET), ("61", calls.GET), ("c3a9", calls.GET), ("61", None)]
+    second = [("6162", 3), ("63", 4), ("6162", calls.GET), ("63", calls.GET), ("63", None)]
+    script = dictionary.script_from(words, 2)
+    if script.lists != [first, second]:
+        yield f"the calls on five words are {script.lists}"
+    replies = [*(f"0 {place} {reply}" for place, reply in enumerate(("new", "new", "new", "some 1", "some 2", "some 5", "gone 2"), 1))]
+    replies += [*(f"1 {place} {reply}" for place, reply in enumerate(("new", "new", "some 3", "some 4", "gone 4"), 1))]
+    right = [*replies, "row 6162 3", "row 62 1", "row c3a9 5", "counters reads 3 writes 3 faults 0 evicted 0"]
+    for wrong in ([*right[:6], "0 7 none", *right[7:]], [*right[:12], right[13], right[12], *right[14:]], [*right[:14], right[15]], right[:-1]):
+        if are_taken(script.require_replies, wrong):
+            yield f"replies to calls on words are taken where {right} are right: {wrong}"
+    if not are_taken(script.require_replies, right):
+        yield "the right replies to calls on words are not taken"
+    for workers in (1, 2, 4):
+        summary = dictionary.summary_of_peer(dictionary.script_from(words, workers), True)
+        if summary != ["calls 12 some 5 read 15 rows 3 sum 9", "new 5 gone 2"]:
+            yield f"the summary of five words by {workers} workers is {summary}"
 
 
 def faults_of_kinds():

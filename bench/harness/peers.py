@@ -1,20 +1,21 @@
 """The other engines, and this repository's own library, which is linked and run as they are: their packages, their programs, and how one is run."""
+import contextlib
 import dataclasses
 import os
 import pathlib
 
-from harness import compiler, packages, process, ranges, served, space, turnover, workload
+from harness import calls, compiler, dictionary, packages, process, ranges, served, space, turnover, workload
 from harness.console import Failure
 
 SOURCES = compiler.BENCH / "peers"
-SHARED_SOURCES = ("main.cc", "calls.cc", "churn.cc", "ranges.cc", "served.cc", "workers.cc")
+SHARED_SOURCES = ("main.cc", "calls.cc", "churn.cc", "ranges.cc", "served.cc", "words.cc", "workers.cc")
 
 
 @dataclasses.dataclass(frozen=True)
 class Peer:
     """An engine: its name on the command line, its name in tables, its own source files, what it needs of Debian, whether its memory can be bounded, whether it
-    has ranges of one moment, whether its writes look and so are answered, whether it counts its pages, whether it makes other calls than those on a file that
-    stays, in which modes it makes these, and what a reader of its numbers has to know."""
+    has ranges of one moment, whether its writes look and so are answered, whether it counts its pages, whether it is given words as keys, whether it makes other
+    calls than those on a file that stays, in which modes it makes these, and what a reader of its numbers has to know."""
 
     name: str
     title: str
@@ -26,6 +27,7 @@ class Peer:
     has_ranges: bool = True
     answers_writes: bool = True
     tells_bytes: bool = False
+    has_words: bool = False
     churns: bool = True
     modes: tuple = ()
     remark: str = ""
@@ -53,6 +55,14 @@ class Peer:
         _, seconds, ran = self.run_calls(turnover.script_of(job.pairs, job.workers), job, limit)
         return seconds, 0.0, ran
 
+    def run_words(self, job, limit):
+        """Seconds of the workers by the peer's own clock, nothing that is to be taken off, and what the run cost. Its summary is right, else it has failed."""
+        with folder_beside(dictionary.text_of(job.pairs)) as (folder, file):
+            summary, seconds, ran = self.ended([program_of(self), dictionary.NAME, job.workers, folder, file], limit, {})
+        right = dictionary.summary_of_peer(dictionary.script_of(job.pairs, job.workers), self.answers_writes)
+        calls.require_lines(self.name, summary.split("\n"), right)
+        return seconds, 0.0, ran
+
     def run_space(self, kind, job, limit):
         """The bytes of the pages that hold the map once it is filled, and once the calls are made. Its summary is right, else it has failed."""
         told, _, _ = self.run_calls(space.script_of(kind, job.pairs), job, limit)
@@ -69,11 +79,8 @@ class Peer:
 
     def run_script(self, lines, job, limit, *more):
         """What it printed as its summary and its seconds, and what the run cost."""
-        with process.scratch_folder() as folder:
-            script, own_folder = pathlib.Path(folder) / "script", pathlib.Path(folder) / "store"
-            script.write_text("".join(lines), encoding="ascii")
-            own_folder.mkdir()
-            return self.ended([*self.words_for(job, own_folder), script, *more], limit, {})
+        with folder_beside("".join(lines).encode("ascii")) as (folder, script):
+            return self.ended([*self.words_for(job, folder), script, *more], limit, {})
 
     def run_served(self, mode, job, limit):
         """What the run cost, and the bytes of its files. Its summary is right, and so is that of the rows that it leaves, else it has failed."""
@@ -109,17 +116,29 @@ PEERS = (
     Peer("library", "this repository's C library", ("burnetroof.cc",), can_be_bounded=True, archive=LIBRARY),
     Peer("olc", "B+-tree, plain C++", ("olc.cc", "olc_tree.cc"), has_ranges=False, tells_bytes=True),
     Peer("map", "std::map, one mutex", ("map.cc",)),
-    Peer("lmdb", "LMDB", ("lmdb.cc",), "liblmdb-dev", "lmdb.h", "lmdb", tells_bytes=True, modes=served.TRANSACTION_A_CALL),
+    Peer("lmdb", "LMDB", ("lmdb.cc",), "liblmdb-dev", "lmdb.h", "lmdb", tells_bytes=True, has_words=True, modes=served.TRANSACTION_A_CALL),
     Peer(
         "sqlite", "SQLite", ("sqlite.cc",), "libsqlite3-dev", "sqlite3.h", "sqlite3", churns=False, modes=served.TRANSACTION_A_CALL + served.ONE_TRANSACTION
     ),
-    Peer("wiredtiger", "WiredTiger", ("wiredtiger.cc",), "libwiredtiger-dev", "wiredtiger.h", "wiredtiger", can_be_bounded=True),
+    Peer("wiredtiger", "WiredTiger", ("wiredtiger.cc",), "libwiredtiger-dev", "wiredtiger.h", "wiredtiger", can_be_bounded=True, has_words=True),
     Peer(
         "rocksdb", "RocksDB", ("rocksdb.cc",), "librocksdb-dev", "rocksdb/db.h", "rocksdb", can_be_bounded=True, answers_writes=False, remark=DEBUG_BUILD
     ),
-    Peer("leveldb", "LevelDB", ("leveldb.cc",), "libleveldb-dev", "leveldb/db.h", "leveldb", can_be_bounded=True, answers_writes=False),
+    Peer(
+        "leveldb", "LevelDB", ("leveldb.cc",), "libleveldb-dev", "leveldb/db.h", "leveldb", can_be_bounded=True, answers_writes=False, has_words=True
+    ),
     Peer("berkeleydb", "Berkeley DB", ("berkeleydb.cc",), "libdb-dev", "db.h", "db", can_be_bounded=True, tells_bytes=True),
 )
+
+
+@contextlib.contextmanager
+def folder_beside(content):
+    """An empty folder for an engine, and beside it a file with this content."""
+    with process.scratch_folder() as scratch:
+        folder, file = pathlib.Path(scratch) / "store", pathlib.Path(scratch) / "calls"
+        file.write_bytes(content)
+        folder.mkdir()
+        yield folder, file
 
 
 def program_of(peer):

@@ -3,7 +3,7 @@ import os
 import pathlib
 import subprocess
 
-from harness import compiler, process, ranges, served, space, turnover, watch, workload
+from harness import compiler, dictionary, process, ranges, served, space, turnover, watch, workload
 from harness.console import Failure
 
 TOP = compiler.BENCH.parent
@@ -22,6 +22,7 @@ class Program:
     has_ranges = True
     answers_writes = True
     tells_bytes = True
+    has_words = True
     churns = True
     modes = served.PROGRAM
     words = workload.SMALL_PAGE
@@ -70,6 +71,16 @@ class Program:
         with process.scratch_folder() as folder:
             image = pathlib.Path(folder) / "image"
             self.make(image, turnover.pages_of(job.pairs, job.words), job.pairs, job, limit)
+            seconds, ran = self.run_script(image, script.lines, job, limit)
+        script.require_replies(self.name, ran.output.splitlines())
+        return seconds, 0.0, ran
+
+    def run_words(self, job, limit):
+        """Seconds of the workers, nothing that is to be taken off, and what the run cost. Each reply is right and so is each row, else it has failed."""
+        script = dictionary.script_of(job.pairs, job.workers)
+        with process.scratch_folder() as folder:
+            image = pathlib.Path(folder) / "image"
+            self.ran("make-bytes", image, dictionary.pages_of(job.pairs), limit=limit)
             seconds, ran = self.run_script(image, script.lines, job, limit)
         script.require_replies(self.name, ran.output.splitlines())
         return seconds, 0.0, ran
@@ -125,6 +136,8 @@ class LargePages(Program):
 
     name = "vmcache512"
     title = "vmcache, pages of 4 KiB"
+    # A file with byte keys has these pages anyway.
+    has_words = False
     modes = ()
     words = workload.LARGE_PAGE
 

@@ -3,7 +3,7 @@ import dataclasses
 import functools
 import typing
 
-from harness import program, ranges, served, space, turnover, workload
+from harness import dictionary, machine, program, ranges, served, space, turnover, workload
 from harness.console import Failure, say
 
 
@@ -85,11 +85,30 @@ class TurnoverPart(Part):
         return engine.run_turnover(job, limit)
 
 
+class WordsPart(Part):
+    """The table of words as keys."""
+
+    @property
+    def heading(self):
+        return f"{self.title}, all pages in memory"
+
+    def takes(self, engine):
+        return engine.has_words
+
+    def note_of(self, pairs):
+        version, mean = machine.version_of(dictionary.PACKAGE), dictionary.bytes_a_word(pairs)
+        return f"Words: the first {pairs:,} of {dictionary.PACKAGE} {version} in a fixed order, of {mean:.1f} bytes in the mean. "
+
+    def run(self, engine, job, limit):
+        return engine.run_words(job, limit)
+
+
 PARTS = (
     Part("resident", "All pages in memory", (1, 2, 4), workload.resident_job, is_bounded=False),
     Part("tenth", "Frames for a tenth of the pages", (1, 4), workload.tenth_job, is_bounded=True),
     RangesPart("ranges", f"Ranges of {ranges.PAIRS_A_RANGE} pairs, all pages in memory", (1, 4), workload.resident_job, is_bounded=False),
     TurnoverPart("turnover", "A file near full whose pairs are turned over, all pages in memory", (1, 4), turnover.job, is_bounded=False),
+    WordsPart(dictionary.NAME, "Words as keys", (1, 4), dictionary.job, is_bounded=False),
 )
 SPACE = "space"
 COST = "cost"

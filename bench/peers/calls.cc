@@ -58,23 +58,29 @@ uint64_t puts_in(const Lists& lists) {
   return puts;
 }
 
-Answers answers_of(Store& store, const Lists& lists, bool is_one_transaction) {
-  std::vector<Answers> seen(lists.size());
+Answers sum_of(const std::vector<Answers>& answers) {
   Answers all;
-  all.seconds = run_workers(store, unsigned(lists.size()), [&](Session& session, unsigned worker) {
-    if (is_one_transaction) session.begin();
-    Answers own;
-    for (const Call& made : lists[worker]) call(session, made, own);
-    if (is_one_transaction) session.commit();
-    seen[worker] = own;
-  });
-  for (const auto& by_worker : seen) {
+  for (const auto& by_worker : answers) {
     all.calls += by_worker.calls;
     all.some += by_worker.some;
     all.read += by_worker.read;
     all.fresh += by_worker.fresh;
     all.gone += by_worker.gone;
   }
+  return all;
+}
+
+Answers answers_of(Store& store, const Lists& lists, bool is_one_transaction) {
+  std::vector<Answers> seen(lists.size());
+  const double seconds = run_workers(store, unsigned(lists.size()), [&](Session& session, unsigned worker) {
+    if (is_one_transaction) session.begin();
+    Answers own;
+    for (const Call& made : lists[worker]) call(session, made, own);
+    if (is_one_transaction) session.commit();
+    seen[worker] = own;
+  });
+  Answers all = sum_of(seen);
+  all.seconds = seconds;
   return all;
 }
 

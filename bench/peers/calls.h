@@ -28,6 +28,9 @@ struct Answers {
   double seconds = 0;
 };
 
+// What all workers were answered, but for the seconds.
+Answers sum_of(const std::vector<Answers>& answers);
+
 // The rows of a map with the sums of their keys and of their values.
 struct Rows {
   uint64_t count = 0, keys = 0, sum = 0;

@@ -7,6 +7,7 @@
 namespace {
 
 using LevelSession = LogSession<leveldb::DB, leveldb::Slice, leveldb::ReadOptions, leveldb::WriteOptions>;
+using LevelWords = LogCalls<WordSession, leveldb::DB, leveldb::Slice, leveldb::ReadOptions, leveldb::WriteOptions>;
 
 class LevelStore : public Store {
  public:
@@ -21,6 +22,7 @@ class LevelStore : public Store {
     engine_.reset(engine);
   }
   std::unique_ptr<Session> session() override { return std::make_unique<LevelSession>(*engine_, leveldb::WriteOptions()); }
+  std::unique_ptr<WordSession> word_session() override { return std::make_unique<LevelWords>(*engine_, leveldb::WriteOptions()); }
   void settle() override { engine_->CompactRange(nullptr, nullptr); }
   bool answers_writes() const override { return false; }
 

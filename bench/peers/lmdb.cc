@@ -9,6 +9,9 @@ namespace {
 
 MDB_val bytes_of(uint64_t& number) { return {sizeof number, &number}; }
 
+// The engine writes into no key.
+MDB_val bytes_of(std::string_view word) { return {word.size(), const_cast<char*>(word.data())}; }
+
 uint64_t number_in(const MDB_val& bytes) {
   uint64_t number;
   std::memcpy(&number, bytes.mv_data, sizeof number);
@@ -19,15 +22,18 @@ void must(int status) {
   if (status != MDB_SUCCESS) throw std::runtime_error(mdb_strerror(status));
 }
 
-class LmdbSession : public Session {
+// The calls by the keys of a kind of session.
+template <typename Base>
+class LmdbCalls : public Base {
  public:
-  LmdbSession(MDB_env* env, MDB_dbi table) : env_(env), table_(table) {}
-  ~LmdbSession() override {
-    if (cursor_) mdb_cursor_close(cursor_);
+  using Key = typename Base::Key;
+
+  LmdbCalls(MDB_env* env, MDB_dbi table) : env_(env), table_(table) {}
+  ~LmdbCalls() override {
     if (reader_) mdb_txn_abort(reader_);
   }
 
-  std::optional<uint64_t> get(uint64_t key) override {
+  std::optional<uint64_t> get(Key key) override {
     begin_reading();
     MDB_val key_bytes = bytes_of(key), found;
     const int status = mdb_get(reader_, table_, &key_bytes, &found);
@@ -40,7 +46,7 @@ class LmdbSession : public Session {
     return value;
   }
 
-  bool put(uint64_t key, uint64_t value) override {
+  bool put(Key key, uint64_t value) override {
     MDB_txn* const writer = begin_writing();
     MDB_val key_bytes = bytes_of(key), value_bytes = bytes_of(value);
     const int status = mdb_put(writer, table_, &key_bytes, &value_bytes, MDB_NOOVERWRITE);
@@ -54,13 +60,36 @@ class LmdbSession : public Session {
     return status == MDB_SUCCESS;
   }
 
-  bool del(uint64_t key) override {
+  bool del(Key key) override {
     MDB_txn* const writer = begin_writing();
     MDB_val key_bytes = bytes_of(key);
     const int status = mdb_del(writer, table_, &key_bytes, nullptr);
     if (status != MDB_NOTFOUND) must(status);
     must(mdb_txn_commit(writer));
     return status == MDB_SUCCESS;
+  }
+
+ protected:
+  void begin_reading() { must(reader_ ? mdb_txn_renew(reader_) : mdb_txn_begin(env_, nullptr, MDB_RDONLY, &reader_)); }
+
+  MDB_env* env_;
+  MDB_dbi table_;
+  MDB_txn* reader_ = nullptr;
+
+ private:
+  MDB_txn* begin_writing() {
+    MDB_txn* writer;
+    must(mdb_txn_begin(env_, nullptr, 0, &writer));
+    return writer;
+  }
+};
+
+// The session by numbers, which has ranges too.
+class LmdbSession : public LmdbCalls<Session> {
+ public:
+  using LmdbCalls::LmdbCalls;
+  ~LmdbSession() override {
+    if (cursor_) mdb_cursor_close(cursor_);
   }
 
   void range(const Span& span, Pairs& found) override {
@@ -79,17 +108,6 @@ class LmdbSession : public Session {
   }
 
  private:
-  void begin_reading() { must(reader_ ? mdb_txn_renew(reader_) : mdb_txn_begin(env_, nullptr, MDB_RDONLY, &reader_)); }
-
-  MDB_txn* begin_writing() {
-    MDB_txn* writer;
-    must(mdb_txn_begin(env_, nullptr, 0, &writer));
-    return writer;
-  }
-
-  MDB_env* env_;
-  MDB_dbi table_;
-  MDB_txn* reader_ = nullptr;
   MDB_cursor* cursor_ = nullptr;
 };
 
@@ -100,17 +118,18 @@ unsigned flags_for(Files files) {
 
 class LmdbStore : public Store {
  public:
-  LmdbStore(const std::string& folder, Files files) {
+  LmdbStore(const std::string& folder, Files files, Keys keys) {
     must(mdb_env_create(&env_));
     must(mdb_env_set_mapsize(env_, size_t(4) << 30));
     must(mdb_env_open(env_, folder.c_str(), flags_for(files), 0644));
     MDB_txn* writer;
     must(mdb_txn_begin(env_, nullptr, 0, &writer));
-    must(mdb_dbi_open(writer, nullptr, MDB_INTEGERKEY, &table_));
+    must(mdb_dbi_open(writer, nullptr, keys == Keys::numbers ? MDB_INTEGERKEY : 0, &table_));
     must(mdb_txn_commit(writer));
   }
   ~LmdbStore() override { mdb_env_close(env_); }
   std::unique_ptr<Session> session() override { return std::make_unique<LmdbSession>(env_, table_); }
+  std::unique_ptr<WordSession> word_session() override { return std::make_unique<LmdbCalls<WordSession>>(env_, table_); }
   void sync() override { must(mdb_env_sync(env_, 1)); }
 
   // As the tool mdb_stat counts them: without the free pages and the two that name the roots.
@@ -130,4 +149,4 @@ class LmdbStore : public Store {
 
 }  // namespace
 
-std::unique_ptr<Store> open_store(const Settings& settings) { return std::make_unique<LmdbStore>(settings.folder, settings.files); }
+std::unique_ptr<Store> open_store(const Settings& settings) { return std::make_unique<LmdbStore>(settings.folder, settings.files, settings.keys); }

@@ -15,32 +15,56 @@ inline uint64_t write_bytes(uint64_t cache_bytes) {
 
 inline uint64_t read_bytes(uint64_t cache_bytes) { return cache_bytes == 0 ? write_bytes(0) : cache_bytes / 2; }
 
-// The session of an engine with the calls Get, Put and Delete over slices.
-template <typename Engine, typename Slice, typename Reading, typename Writing>
-class LogSession : public Session {
+// The calls Get, Put and Delete of an engine, over slices, by the keys of a kind of session.
+template <typename Base, typename Engine, typename Slice, typename Reading, typename Writing>
+class LogCalls : public Base {
  public:
-  LogSession(Engine& engine, const Writing& writing) : engine_(engine), writing_(writing) {}
+  using Key = typename Base::Key;
 
-  std::optional<uint64_t> get(uint64_t key) override {
-    const ByteKey bytes = byte_key(key);
+  LogCalls(Engine& engine, const Writing& writing) : engine_(engine), writing_(writing) {}
+
+  std::optional<uint64_t> get(Key key) override {
+    const auto bytes = byte_key(key);
     const auto status = engine_.Get(Reading(), Slice(bytes.data(), bytes.size()), &found_);
     if (status.IsNotFound()) return std::nullopt;
     require(status.ok() && found_.size() == sizeof(uint64_t), "get");
     return value_in(found_.data());
   }
 
-  bool put(uint64_t key, uint64_t value) override {
-    const ByteKey bytes = byte_key(key);
+  bool put(Key key, uint64_t value) override {
+    const auto bytes = byte_key(key);
     const Slice words(reinterpret_cast<const char*>(&value), sizeof value);
     require(engine_.Put(writing_, Slice(bytes.data(), bytes.size()), words).ok(), "put");
     return true;
   }
 
-  bool del(uint64_t key) override {
-    const ByteKey bytes = byte_key(key);
+  bool del(Key key) override {
+    const auto bytes = byte_key(key);
     require(engine_.Delete(writing_, Slice(bytes.data(), bytes.size())).ok(), "del");
     return true;
   }
+
+ protected:
+  static uint64_t value_in(const char* bytes) {
+    uint64_t value;
+    std::memcpy(&value, bytes, sizeof value);
+    return value;
+  }
+
+  Engine& engine_;
+
+ private:
+  Writing writing_;
+  std::string found_;
+};
+
+// The session by numbers, which has ranges too.
+template <typename Engine, typename Slice, typename Reading, typename Writing>
+class LogSession : public LogCalls<Session, Engine, Slice, Reading, Writing> {
+  using Calls = LogCalls<Session, Engine, Slice, Reading, Writing>;
+
+ public:
+  using Calls::Calls;
 
   // An iterator sees the pairs as they were when it was made.
   void range(const Span& span, Pairs& found) override {
@@ -49,21 +73,14 @@ class LogSession : public Session {
     for (rows->Seek(Slice(low.data(), low.size())); rows->Valid(); rows->Next()) {
       const uint64_t key = number_of(rows->key().data());
       if (span.ends_at(key)) break;
-      found.emplace_back(key, value_in(rows->value().data()));
+      found.emplace_back(key, Calls::value_in(rows->value().data()));
     }
     require(rows->status().ok(), "range");
   }
 
  private:
-  static uint64_t value_in(const char* bytes) {
-    uint64_t value;
-    std::memcpy(&value, bytes, sizeof value);
-    return value;
+  auto iterator() {
+    auto* const rows = this->engine_.NewIterator(Reading());
+    return std::unique_ptr<std::remove_pointer_t<decltype(rows)>>(rows);
   }
-
-  auto iterator() { return std::unique_ptr<std::remove_pointer_t<decltype(engine_.NewIterator(Reading()))>>(engine_.NewIterator(Reading())); }
-
-  Engine& engine_;
-  Writing writing_;
-  std::string found_;
 };

@@ -1,5 +1,5 @@
-// Runs a workload on the one peer that this program is linked with: churn, or with a script its calls, or with times too its ranges; or a step on files that
-// stay: `fill`, `serve` or `rows`. Prints a summary, of churn in the words of `vmcache churn`, and the seconds of the workers.
+// Runs a workload on the one peer that this program is linked with: churn, or with a script its calls, or with times too its ranges; or the calls of a file of
+// words; or a step on files that stay: `fill`, `serve` or `rows`. Prints a summary, of churn in the words of `vmcache churn`, and the seconds of the workers.
 #include <charconv>
 #include <cstdio>
 #include <cstring>
@@ -10,10 +10,11 @@
 #include "churn.h"
 #include "ranges.h"
 #include "served.h"
+#include "words.h"
 
 namespace {
 
-constexpr int CHURN_WORDS = 6, CALLS_WORDS = 7, RANGES_WORDS = 8, SERVED_WORDS = 8;
+constexpr int WORDS_WORDS = 5, CHURN_WORDS = 6, CALLS_WORDS = 7, RANGES_WORDS = 8, SERVED_WORDS = 8;
 
 uint64_t number_of(const char* word, uint64_t least, uint64_t most) {
   uint64_t number = 0;
@@ -50,9 +51,19 @@ void run_ranges(Store& store, const Work& work, const char* script, unsigned tim
   std::printf("seconds %.9f\n", is.seconds);
 }
 
-// The words of all workloads: PAIRS SEED WORKERS.
-Work work_of(char** words) {
-  return {number_of(words[0], 1, 10'000'000), number_of(words[1], 0, UINT64_MAX), unsigned(number_of(words[2], 1, 64))};
+unsigned workers_of(const char* word) { return unsigned(number_of(word, 1, 64)); }
+
+// The words of all workloads but that of words: PAIRS SEED WORKERS.
+Work work_of(char** words) { return {number_of(words[0], 1, 10'000'000), number_of(words[1], 0, UINT64_MAX), workers_of(words[2])}; }
+
+// What the writes were answered is told only where it says something.
+void run_words(char** words) {
+  const Dealt dealt = dealt_from(words[4], workers_of(words[2]));
+  const auto store = open_store({.folder = words[3], .puts = words_in(dealt), .cache_bytes = 0, .keys = Keys::words});
+  const Worded is = make_words(*store, dealt);
+  std::printf("calls %lu some %lu read %lu rows %lu sum %lu\n", is.answers.calls, is.answers.some, is.answers.read, is.rows, is.sum);
+  if (store->answers_writes()) std::printf("new %lu gone %lu\n", is.answers.fresh, is.answers.gone);
+  std::printf("seconds %.9f\n", is.answers.seconds);
 }
 
 bool is_step(const std::string& word) { return word == "fill" || word == "serve" || word == "rows"; }
@@ -89,13 +100,17 @@ void run(int count, char** words) {
 }  // namespace
 
 int main(int count, char** words) {
-  if (count != CHURN_WORDS && count != CALLS_WORDS && count != RANGES_WORDS) {
+  const bool has_words = count == WORDS_WORDS && std::string(words[1]) == "words";
+  if (!has_words && count != CHURN_WORDS && count != CALLS_WORDS && count != RANGES_WORDS) {
     std::fprintf(stderr, "usage: %s PAIRS SEED WORKERS FOLDER CACHE_BYTES [SCRIPT [TIMES]]\n", words[0]);
+    std::fprintf(stderr, "       %s words WORKERS FOLDER FILE\n", words[0]);
     std::fprintf(stderr, "       %s fill|serve|rows PAIRS SEED WORKERS FOLDER SCRIPT MODE\n", words[0]);
     return 2;
   }
   try {
-    if (count == SERVED_WORDS && is_step(words[1])) {
+    if (has_words) {
+      run_words(words);
+    } else if (count == SERVED_WORDS && is_step(words[1])) {
       run_step(words);
     } else {
       run(count, words);

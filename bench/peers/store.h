@@ -6,6 +6,7 @@
 #include <optional>
 #include <stdexcept>
 #include <string>
+#include <string_view>
 #include <utility>
 #include <vector>
 
@@ -23,15 +24,25 @@ inline void require(bool is_right, const char* call) {
   if (!is_right) throw std::runtime_error(std::string("refused: ") + call);
 }
 
-// The calls of one thread. A session is made and dropped in the thread that uses it, since some engines tie it to that thread.
-class Session {
+// The calls of one thread, by keys of one type. A session is made and dropped in the thread that uses it, since some engines tie it to that thread.
+template <typename KeyType>
+class SessionOf {
  public:
-  virtual ~Session() = default;
-  virtual std::optional<uint64_t> get(uint64_t key) = 0;
+  using Key = KeyType;
+  virtual ~SessionOf() = default;
+  virtual std::optional<uint64_t> get(Key key) = 0;
   // Whether the key was new.
-  virtual bool put(uint64_t key, uint64_t value) = 0;
+  virtual bool put(Key key, uint64_t value) = 0;
   // Whether the key was there.
-  virtual bool del(uint64_t key) = 0;
+  virtual bool del(Key key) = 0;
+};
+
+// Byte strings as keys, none of them empty.
+using WordSession = SessionOf<std::string_view>;
+
+// Numbers as keys.
+class Session : public SessionOf<uint64_t> {
+ public:
   // Appends the pairs of a span as they were at one moment, by rising key. An engine that has no such call refuses it.
   virtual void range(const Span&, Pairs&) { require(false, "range"); }
   // What is called between the two is one transaction, of an engine that can have several calls in one.
@@ -43,6 +54,11 @@ class Store {
  public:
   virtual ~Store() = default;
   virtual std::unique_ptr<Session> session() = 0;
+  // On a store that was opened for words. An engine that is asked for numbers alone refuses it.
+  virtual std::unique_ptr<WordSession> word_session() {
+    require(false, "word_session");
+    return nullptr;
+  }
   // Brings what was put into the form in which the engine keeps it for long. There is no session meanwhile.
   virtual void settle() {}
   // Makes all that was written last, of an engine whose files stay. There is no session meanwhile.
@@ -56,6 +72,8 @@ class Store {
 // What becomes of the files: nobody opens them again; they stay, but no call waits until the disk has them; or each transaction does.
 enum class Files { scratch, unsynced, synced };
 
+enum class Keys { numbers, words };
+
 struct Settings {
   // A folder of its own, which is there, and empty but where files stayed.
   std::string folder;
@@ -64,6 +82,7 @@ struct Settings {
   // How many bytes of pages it may keep in memory; 0 where all shall fit.
   uint64_t cache_bytes;
   Files files = Files::scratch;
+  Keys keys = Keys::numbers;
 };
 
 std::unique_ptr<Store> open_store(const Settings& settings);

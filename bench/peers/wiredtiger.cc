@@ -1,4 +1,5 @@
-// WiredTiger: a table whose keys and values are numbers, with no log and no transaction beyond the call's own; of a range it is a snapshot.
+// WiredTiger: a table whose keys are numbers or bytes and whose values are numbers, with no log and no transaction beyond the call's own; of a range it is a
+// snapshot.
 #include <wiredtiger.h>
 
 #include <algorithm>
@@ -14,16 +15,30 @@ void must(int status) {
   if (status != 0) throw std::runtime_error(wiredtiger_strerror(status));
 }
 
-class WiredTigerSession : public Session {
+void set_key(WT_CURSOR* cursor, uint64_t key) { cursor->set_key(cursor, key); }
+
+// The cursor keeps the place of the bytes up to the call behind.
+void set_key(WT_CURSOR* cursor, std::string_view word) {
+  WT_ITEM bytes{};
+  bytes.data = word.data();
+  bytes.size = word.size();
+  cursor->set_key(cursor, &bytes);
+}
+
+// The calls by the keys of a kind of session.
+template <typename Base>
+class WiredTigerCalls : public Base {
  public:
-  explicit WiredTigerSession(WT_CONNECTION* connection) {
+  using Key = typename Base::Key;
+
+  explicit WiredTigerCalls(WT_CONNECTION* connection) {
     must(connection->open_session(connection, nullptr, nullptr, &session_));
     must(session_->open_cursor(session_, "table:pairs", nullptr, "overwrite=false", &cursor_));
   }
-  ~WiredTigerSession() override { session_->close(session_, nullptr); }
+  ~WiredTigerCalls() override { session_->close(session_, nullptr); }
 
-  std::optional<uint64_t> get(uint64_t key) override {
-    cursor_->set_key(cursor_, key);
+  std::optional<uint64_t> get(Key key) override {
+    set_key(cursor_, key);
     const int status = cursor_->search(cursor_);
     std::optional<uint64_t> value;
     if (status != WT_NOTFOUND) {
@@ -34,9 +49,9 @@ class WiredTigerSession : public Session {
     return value;
   }
 
-  bool put(uint64_t key, uint64_t value) override {
+  bool put(Key key, uint64_t value) override {
     const int status = again([&] {
-      cursor_->set_key(cursor_, key);
+      set_key(cursor_, key);
       cursor_->set_value(cursor_, value);
       return cursor_->insert(cursor_);
     });
@@ -45,7 +60,7 @@ class WiredTigerSession : public Session {
       return true;
     }
     must(again([&] {
-      cursor_->set_key(cursor_, key);
+      set_key(cursor_, key);
       cursor_->set_value(cursor_, value);
       return cursor_->update(cursor_);
     }));
@@ -53,15 +68,35 @@ class WiredTigerSession : public Session {
     return false;
   }
 
-  bool del(uint64_t key) override {
+  bool del(Key key) override {
     const int status = again([&] {
-      cursor_->set_key(cursor_, key);
+      set_key(cursor_, key);
       return cursor_->remove(cursor_);
     });
     if (status != WT_NOTFOUND) must(status);
     must(cursor_->reset(cursor_));
     return status == 0;
   }
+
+ protected:
+  WT_SESSION* session_ = nullptr;
+  WT_CURSOR* cursor_ = nullptr;
+
+ private:
+  // Makes a call until no other writer's change is in its way.
+  template <typename Call>
+  static int again(Call call) {
+    for (;;) {
+      const int status = call();
+      if (status != WT_ROLLBACK) return status;
+    }
+  }
+};
+
+// The session by numbers, which has ranges too.
+class WiredTigerSession : public WiredTigerCalls<Session> {
+ public:
+  using WiredTigerCalls::WiredTigerCalls;
 
   void range(const Span& span, Pairs& found) override {
     must(session_->begin_transaction(session_, "isolation=snapshot"));
@@ -80,24 +115,11 @@ class WiredTigerSession : public Session {
     must(cursor_->reset(cursor_));
     must(session_->commit_transaction(session_, nullptr));
   }
-
- private:
-  // Makes a call until no other writer's change is in its way.
-  template <typename Call>
-  static int again(Call call) {
-    for (;;) {
-      const int status = call();
-      if (status != WT_ROLLBACK) return status;
-    }
-  }
-
-  WT_SESSION* session_ = nullptr;
-  WT_CURSOR* cursor_ = nullptr;
 };
 
 class WiredTigerStore : public Store {
  public:
-  WiredTigerStore(const std::string& folder, uint64_t cache_bytes) : folder_(folder) {
+  WiredTigerStore(const std::string& folder, uint64_t cache_bytes, Keys keys) : folder_(folder) {
     const uint64_t cache = cache_bytes == 0 ? AMPLE_CACHE : std::max(cache_bytes, LEAST_CACHE);
     // With a small cache a page must be small too, or a few of them fill it.
     const std::string pages = cache_bytes == 0 ? "" : ",leaf_page_max=4KB,internal_page_max=4KB,memory_page_max=32KB";
@@ -105,11 +127,13 @@ class WiredTigerStore : public Store {
     open();
     WT_SESSION* session;
     must(connection_->open_session(connection_, nullptr, nullptr, &session));
-    must(session->create(session, "table:pairs", ("key_format=Q,value_format=Q" + pages).c_str()));
+    const std::string formats = keys == Keys::numbers ? "key_format=Q,value_format=Q" : "key_format=u,value_format=Q";
+    must(session->create(session, "table:pairs", (formats + pages).c_str()));
     must(session->close(session, nullptr));
   }
   ~WiredTigerStore() override { connection_->close(connection_, nullptr); }
   std::unique_ptr<Session> session() override { return std::make_unique<WiredTigerSession>(connection_); }
+  std::unique_ptr<WordSession> word_session() override { return std::make_unique<WiredTigerCalls<WordSession>>(connection_); }
   // Until its table is closed, what was put stands beside its pages, in lists.
   void settle() override {
     must(connection_->close(connection_, nullptr));
@@ -125,4 +149,4 @@ class WiredTigerStore : public Store {
 
 }  // namespace
 
-std::unique_ptr<Store> open_store(const Settings& settings) { return std::make_unique<WiredTigerStore>(settings.folder, settings.cache_bytes); }
+std::unique_ptr<Store> open_store(const Settings& settings) { return std::make_unique<WiredTigerStore>(settings.folder, settings.cache_bytes, settings.keys); }

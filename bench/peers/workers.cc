@@ -16,19 +16,19 @@ struct Worker {
   std::exception_ptr failure;
 };
 
-// One worker's thread. It is counted as ready once it has a session, and also where it could not get one: the others wait for it.
-void run_worker(Store& store, unsigned number, const Calls& calls, std::latch& ready, std::latch& go, Worker& worker) {
-  std::unique_ptr<Session> session;
+// One worker's thread. It is counted as ready once it has a task, and also where it could not get one: the others wait for it.
+void run_worker(const std::function<Task(unsigned)>& task_of, unsigned number, std::latch& ready, std::latch& go, Worker& worker) {
+  Task task;
   try {
-    session = store.session();
+    task = task_of(number);
   } catch (...) {
     worker.failure = std::current_exception();
   }
   ready.count_down();
   go.wait();
-  if (!session) return;
+  if (!task) return;
   try {
-    calls(*session, number);
+    task();
   } catch (...) {
     worker.failure = std::current_exception();
   }
@@ -43,11 +43,18 @@ void build(Store& store, const Work& work, const Places& places) {
 }
 
 double run_workers(Store& store, unsigned workers, const Calls& calls) {
+  return run_tasks(workers, [&](unsigned number) -> Task {
+    const std::shared_ptr<Session> session = store.session();
+    return [&calls, session, number] { calls(*session, number); };
+  });
+}
+
+double run_tasks(unsigned workers, const std::function<Task(unsigned)>& task_of) {
   std::vector<Worker> all(workers);
   std::latch ready(workers), go(1);
   std::vector<std::thread> threads;
   for (unsigned number = 0; number < workers; number++) {
-    threads.emplace_back([&, number] { run_worker(store, number, calls, ready, go, all[number]); });
+    threads.emplace_back([&, number] { run_worker(task_of, number, ready, go, all[number]); });
   }
   ready.wait();
   const auto start = Clock::now();

@@ -21,3 +21,9 @@ using Calls = std::function<void(Session&, unsigned)>;
 
 // Starts all workers at one point, and gives the seconds from there to the end of the last one.
 double run_workers(Store& store, unsigned workers, const Calls& calls);
+
+// What a worker does from that point on. It holds the worker's session.
+using Task = std::function<void()>;
+
+// The same of any tasks. Each is made, by the worker's number, and dropped in the worker's thread, and what that takes does not count.
+double run_tasks(unsigned workers, const std::function<Task(unsigned)>& task_of);
