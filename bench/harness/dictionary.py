@@ -1,7 +1,7 @@
 """What the words workload is: byte strings as keys, a script of them for the program and a file for a peer, and what both must answer.
 
-The keys are words of Debian's list in a fixed order, the values their numbers from 1 on; the map is empty at first. Words are dealt to the workers by twos. Each
-worker puts its words, then gets each, and then deletes every second one: half of all words, and the same ones by any number of workers.
+The keys are words of Debian's list in a fixed order, the values their numbers from 1 on; the map is empty at first. Words are dealt to the workers by twos.
+Each worker puts its words, then gets each, and then deletes every second one: half of all words, and the same ones by any number of workers.
 """
 import functools
 import pathlib
@@ -70,7 +70,7 @@ def script_of(count, workers):
 
 
 def summary_of_peer(script, answers_writes):
-    """The lines that a peer must print: of the calls and the last map, and, where its writes are answered, how many put a new word, and how many took one out."""
+    """The lines that a peer must print: of the calls and the last map, and, where its writes are answered, how many words were new and how many were gone."""
     told, _, writes = script.summary_of_calls.partition(" new ")
     lines = [f"{told} rows {len(script.rows)} sum {sum(value for _, value in script.rows)}"]
     return [*lines, f"new {writes}"] if answers_writes else lines
