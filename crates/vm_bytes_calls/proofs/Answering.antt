@@ -8,11 +8,11 @@ use Rattle.vm_bytes_node.specs.Room.{spare_words}
 use Rattle.vm_bytes_laws.specs.declared.call.{KeyCall.KeyCall, KeyReply.KeyReply, KeySaid.KeySaid}
 use Rattle.vm_bytes_laws.specs.declared.call.KeyCall.TheVariants.{Del, Get, Put, Swap, Window}
 use Rattle.vm_bytes_laws.specs.Plain.{plain_said}
-use Rattle.vm_tree_range.specs.from_vm_tree_rule.{declared_fault_TreeFault.TreeFault, Turns.IsDamaged, Turns.IsNeeded}
-use Rattle.vm_tree_range.specs.from_vm_tree_read.Waiting.{Waits}
-use Rattle.vm_tree_retry.specs.from_vm_tree_split.Splits.{KeepsLocksOnly}
-use Rattle.vm_tree_retry.specs.from_vm_tree_round.Rounds.{IsPutRound, IsWriteRound}
-use Rattle.vm_tree_retry.specs.Prelude.{HasKeyIn, HasValueIn}
+use Rattle.vm_calls.specs.from_vm_tree_rule.{declared_fault_TreeFault.TreeFault, Turns.IsDamaged, Turns.IsNeeded}
+use Rattle.vm_calls.specs.from_vm_tree_read.Waiting.{Waits}
+use Rattle.vm_calls.specs.from_vm_tree_split.Splits.{KeepsLocksOnly}
+use Rattle.vm_calls.specs.from_vm_tree_round.Rounds.{IsPutRound, IsWriteRound}
+use Rattle.vm_calls.specs.from_vm_tree_retry.Prelude.{HasKeyIn, HasValueIn}
 use Rattle.vm_calls.specs.{Called.AreCalls, Called.IsCalled, Keeps.KeepsPass}
 use Rattle.vm_calls.proofs.{Damage.damaged-untold, Keeping.all-pass, Keeping.waits-pass, Showing.of-leaf-more}
 use Rattle.vm_calls.proofs.Telling.{answered-leaf, put-faulted, read-entered, read-faulted, read-replied, write-entered, write-faulted, write-replied}

@@ -10,9 +10,9 @@ use Rattle.vm_bytes_laws.specs.declared.call.KeyCall.TheVariants.{Del, Get, Put,
 use Rattle.vm_bytes_laws.specs.declared.call.KeyReply.TheVariants.{Gone, Got, Swapped, Was, Win}
 use Rattle.vm_bytes_form.specs.{Bytes.bytes, Strings.rank}
 use Rattle.vm_bytes_laws.specs.Plain.{plain_call, plain_reply, plain_said}
-use Rattle.vm_tree_range.specs.from_vm_tree_read.Waiting.{IsFaulted, IsReplied}
-use Rattle.vm_tree_range.specs.from_vm_tree_rule.declared_fault_TreeFault.{TreeFault}
-use Rattle.vm_tree_range.specs.from_vm_tree_read.Reads.{IsOfKind}
+use Rattle.vm_calls.specs.from_vm_tree_read.Waiting.{IsFaulted, IsReplied}
+use Rattle.vm_calls.specs.from_vm_tree_rule.declared_fault_TreeFault.{TreeFault}
+use Rattle.vm_calls.specs.from_vm_tree_read.Reads.{IsOfKind}
 use Rattle.vm_bytes_calls.specs.KeyCalls.{HasNoPairs, IsKeyCall, IsKeyReplyTo, key_said}
 
 -- of such a call no reply shows pairs

@@ -7,7 +7,7 @@ use Rattle.vm_bytes_laws.specs.declared.call.{KeyCall.KeyCall, KeyReply.KeyReply
 use Rattle.vm_bytes_laws.specs.declared.call.KeyCall.TheVariants as calls
 use Rattle.vm_bytes_laws.specs.declared.call.KeyReply.TheVariants as replies
 use Rattle.vm_bytes_node.specs.declared.window.KeyWindow.{KeyWindow}
-use Rattle.vm_tree_range.specs.from_vm_tree_rule.declared_fault_TreeFault.{TreeFault}
+use Rattle.vm_calls.specs.from_vm_tree_rule.declared_fault_TreeFault.{TreeFault}
 use Rattle.vm_bytes_calls.specs.declared.answers.{KeyReplies.KeyReplies, KeyShort.KeyShort}
 use Rattle.vm_bytes_calls.specs.declared.answers.KeyShort.TheVariants as shorts
 use Rattle.vm_bytes_calls.specs.KeyAnswers.{answers_left, HasKeyRoom, KeepsKeyAnswers, key_told_in, key_windows_asked, key_windows_of, key_wins_in, windows_left}

@@ -12,12 +12,12 @@ use Rattle.vm_bytes_laws.specs.declared.call.{KeyCall.KeyCall, KeyReply.KeyReply
 use Rattle.vm_bytes_laws.specs.declared.call.KeyCall.TheVariants.{Del, Get, Put, Swap, Window}
 use Rattle.vm_bytes_laws.specs.declared.call.KeyReply.TheVariants.{Gone, Got, Swapped, Was, Win}
 use Rattle.vm_bytes_laws.specs.Plain.{plain_call, plain_reply, plain_said}
-use Rattle.vm_tree_range.specs.from_vm_tree_rule.{declared_fault_TreeFault.TreeFault, Turns.IsDamaged, Turns.IsNeeded}
-use Rattle.vm_tree_range.specs.from_vm_tree_read.Waiting.{IsFaulted, IsReplied, Waits}
-use Rattle.vm_tree_retry.specs.from_vm_tree_split.Splits.{KeepsLocksOnly}
-use Rattle.vm_tree_retry.specs.from_vm_tree_round.Rounds.{IsPutRound, IsWriteRound}
-use Rattle.vm_tree_retry.specs.Waiting.{IsPutFaulted, IsWriteFaulted, IsWriteReplied}
-use Rattle.vm_tree_retry.specs.Prelude.{HasKeyIn, HasValueIn}
+use Rattle.vm_calls.specs.from_vm_tree_rule.{declared_fault_TreeFault.TreeFault, Turns.IsDamaged, Turns.IsNeeded}
+use Rattle.vm_calls.specs.from_vm_tree_read.Waiting.{IsFaulted, IsReplied, Waits}
+use Rattle.vm_calls.specs.from_vm_tree_split.Splits.{KeepsLocksOnly}
+use Rattle.vm_calls.specs.from_vm_tree_round.Rounds.{IsPutRound, IsWriteRound}
+use Rattle.vm_calls.specs.from_vm_tree_retry.Waiting.{IsPutFaulted, IsWriteFaulted, IsWriteReplied}
+use Rattle.vm_calls.specs.from_vm_tree_retry.Prelude.{HasKeyIn, HasValueIn}
 use Rattle.vm_calls.specs.Calling.{Calling}
 use Rattle.vm_calls.specs.Shows.{IsOfLeaf}
 

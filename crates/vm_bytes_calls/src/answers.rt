@@ -4,14 +4,14 @@
 ghost use Rattle.std.specs.Prelude.{[], ◌+◌, ◌++◌, ◌<◌, ◌∷◌, ◌≡◌, ◌≤◌, IfOk, List, Result, vec_len};
 ghost use Rattle.std.specs.Vec.{vec_capacity};
 ghost use Rattle.vm_bytes_laws.specs.declared.call.KeyReply.{KeyReply};
-ghost use Rattle.vm_tree_range.specs.from_vm_tree_rule.declared_fault_TreeFault.{TreeFault};
+ghost use Rattle.vm_calls.specs.from_vm_tree_rule.declared_fault_TreeFault.{TreeFault};
 ghost use Rattle.vm_bytes_calls.specs.KeyAnswers.{answers_left, HasKeyRoom, KeepsKeyAnswers, key_windows_asked, key_windows_of, windows_left};
 
 use std::alloc::{AllocError, Global};
 use vm_bytes_laws::call::{KeyCall, KeyReply};
 use vm_bytes_node::window::KeyWindow;
 use vm_map::call::Swap;
-use vm_tree_range::tree_rule::TreeFault;
+use vm_calls::tree_rule::TreeFault;
 
 /// An answer without the window that it may show.
 #[derive(Drop)]

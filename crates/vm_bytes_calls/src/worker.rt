@@ -4,7 +4,7 @@ ghost use Rattle.std.specs.List.{AllByRecursion};
 ghost use Rattle.std.specs.Prelude.{[], ◌≡◌, ◌≤◌, Err, IfErr, IfOk, None, Ok};
 ghost use Rattle.vm_rule.specs.Prelude.{HoldsNoPage};
 ghost use Rattle.vm_step.specs.Prelude.{AreHeld, IsReadyOn, view};
-ghost use Rattle.vm_tree_range.specs.from_vm_tree_read.Waiting.{LosesNone};
+ghost use Rattle.vm_calls.specs.from_vm_tree_read.Waiting.{LosesNone};
 ghost use Rattle.vm_bytes_laws.specs.Plain.{plain_reply};
 ghost use Rattle.vm_calls.specs.Workers.{HasCalled, HasKept, IsAtWork};
 ghost use Rattle.vm_bytes_calls.specs.KeyAnswers.{HasKeyRoom, KeepsKeyAnswers};
@@ -19,9 +19,9 @@ use vm_calls::gate::Gate;
 use vm_calls::worker::Worker;
 use vm_map::call::Reply;
 use vm_rule::words::Pass;
-use vm_tree_range::exmap::Interface;
-use vm_tree_range::pool::Pool;
-use vm_tree_range::tree_rule::TreeFault;
+use vm_calls::exmap::Interface;
+use vm_calls::pool::Pool;
+use vm_calls::tree_rule::TreeFault;
 
 /// A worker on a tree with byte keys, which needs no memory beside that of its answers.
 pub type KeyWorker = Worker<BytesTree, KeyReplies, ()>;

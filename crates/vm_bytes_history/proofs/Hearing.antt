@@ -13,7 +13,7 @@ use Rattle.vm_bytes_laws.proofs.KeyHistories.{after_is, replies_are}
 use Rattle.vm_bytes_drive.specs.from_vm_bytes_calls.KeyCalls.{key_said}
 use Rattle.vm_bytes_drive.specs.from_vm_tree_rule.declared_fault_TreeFault.{TreeFault}
 use Rattle.vm_bytes_drive.specs.from_vm_drive.{Holds.HoldsCalls, Holds.list_at, Prelude.answered}
-use Rattle.vm_bytes_history.proofs.Keys.{keys_after_all}
+use Rattle.vm_bytes_laws.proofs.Keys.{keys_after_all}
 use Rattle.vm_bytes_history.specs.Heard.{AsksString, AskStrings, IsHeard, IsKeyMap, key_saids, key_told, ShowsStrings}
 use Rattle.vm_bytes_history.specs.Heard.{ShowStrings, strings_of}
 use Rattle.vm_bytes_history.proofs.{Retelling.Retold, Retelling.retell, Starts.map_has_strings}

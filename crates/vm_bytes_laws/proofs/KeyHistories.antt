@@ -6,9 +6,9 @@ use Rattle.std.proofs.lemmas.Bool.Decides.{nat_tests}
 use Rattle.std.proofs.lemmas.List.{length-map}
 use Rattle.vm_map.specs.History.{after, after_all, AreReplies, between, IsReply, outcome_of}
 use Rattle.vm_map.specs.Map.{is_value, Pairs, swap_pair}
-use Rattle.vm_bytes_form.specs.Bytes.{high_rank, ranked_entry, same_words}
+use Rattle.vm_bytes_form.specs.Bytes.{high_rank, ranked_entry}
 use Rattle.vm_bytes_form.specs.Forms.{AreKeys, KeyEntry}
-use Rattle.vm_bytes_form.specs.KeyMap.{del_key, lookup_key, put_key, ranks_of}
+use Rattle.vm_bytes_form.specs.KeyMap.{lookup_key, put_key, ranks_of}
 use Rattle.vm_bytes_form.specs.Strings.{before, IsString, rank, RANK_END}
 use Rattle.vm_bytes_form.proofs.KeyMaps.{before_test, del_is, lookup_is, put_is}
 use Rattle.vm_bytes_form.proofs.Ranks.{rank-below, rank_one}
@@ -20,44 +20,7 @@ use Rattle.vm_bytes_laws.specs.declared.call.KeyCall.TheVariants.{Get, Put, Del,
 use Rattle.vm_bytes_laws.specs.declared.call.KeyReply.{KeyReply}
 use Rattle.vm_bytes_laws.specs.declared.call.KeyReply.TheVariants.{Got, Was, Gone, Win, Swapped}
 use Rattle.vm_bytes_laws.specs.declared.call.KeySaid.{KeySaid}
-
--- the keys are strings after a put
-keys_put : (m : List KeyEntry) (s : List ℕ) (v : ℕ) → AreKeys m → IsString 64 s → AreKeys (put_key m s v)
-keys_put [] s v keys is = (is, tt)
-keys_put (e ∷ es) s v keys is = go (before s e.0) (same_words s e.0) (keys_put es s v keys.1 is)
-  where
-    go : (less same : Bool) → AreKeys (put_key es s v)
-        → AreKeys (if less then (s, v) ∷ e ∷ es else (if same then (s, v) ∷ es else e ∷ put_key es s v))
-    go true same rest = (is, keys)
-    go false true rest = (is, keys.1)
-    go false false rest = (keys.0, rest)
-
--- the keys are strings after a del
-keys_del : (m : List KeyEntry) (s : List ℕ) → AreKeys m → AreKeys (del_key m s)
-keys_del [] s keys = tt
-keys_del (e ∷ es) s keys = go (same_words s e.0) (keys_del es s keys.1)
-  where
-    go : (same : Bool) → AreKeys (del_key es s) → AreKeys (if same then es else e ∷ del_key es s)
-    go true rest = keys.1
-    go false rest = (keys.0, rest)
-
--- the keys are strings after a swap
-keys_swap : (m : List KeyEntry) (s : List ℕ) (want v : ℕ) → AreKeys m → IsString 64 s
-    → AreKeys (swap_key m s want v)
-keys_swap m s want v keys is = go (is_value (lookup_key m s) want)
-  where
-    go : (wanted : Bool) → AreKeys (if wanted then put_key m s v else m)
-    go true = keys_put m s v keys is
-    go false = keys
-
--- the keys are strings after each call
-keys_after : (m : List KeyEntry) (call : KeyCall) → AreKeys m → IsString 64 (key_called call)
-    → AreKeys (map_after m call)
-keys_after m (Get key) keys is = keys
-keys_after m (Put key value) keys is = keys_put m key value keys is
-keys_after m (Del key) keys is = keys_del m key keys
-keys_after m (Window start most) keys is = keys
-keys_after m (Swap key want value) keys is = keys_swap m key want value keys is
+use Rattle.vm_bytes_laws.proofs.Keys.{keys_after}
 
 -- a swap over strings is that over their ranks
 swap_is : (m : List KeyEntry) (s : List ℕ) (want v : ℕ) → AreKeys m → IsString 64 s

@@ -1,3 +1,4 @@
+pub mod Keys
 pub mod KeyHistories
 pub mod KeyShown
 pub mod Paid

@@ -6,12 +6,12 @@ use Rattle.std.proofs.lemmas.List.{drop-drop, drop_all, drop_more, get_or-map, l
 use Rattle.vm_bytes_laws.specs.declared.call.{KeyCall.KeyCall, KeyReply.KeyReply}
 use Rattle.vm_bytes_laws.specs.declared.call.KeyReply.TheVariants as replies
 use Rattle.vm_bytes_node.specs.declared.window.KeyWindow.{KeyWindow}
-use Rattle.vm_bytes_calls.specs.declared.answers.{KeyReplies.KeyReplies, KeyShort.KeyShort}
-use Rattle.vm_bytes_calls.specs.declared.answers.KeyShort.TheVariants as shorts
-use Rattle.vm_bytes_calls.specs.KeyAnswers.{KeepsKeyAnswers, key_told_in, key_wins_in}
-use Rattle.vm_drive.specs.from_vm_tree_rule.declared_fault_TreeFault.{TreeFault}
-use Rattle.vm_drive.specs.{Drives.AreFew, Drives.items_of, Lists.AreKept}
-use Rattle.vm_drive.proofs.{Crews.items-long, from_vm_calls.Lists.all-at}
+use Rattle.vm_bytes_serve.specs.from_vm_bytes_calls.{declared_answers_KeyReplies.KeyReplies, declared_answers_KeyShort.KeyShort}
+use Rattle.vm_bytes_serve.specs.from_vm_bytes_calls.declared_answers_KeyShort_TheVariants as shorts
+use Rattle.vm_bytes_serve.specs.from_vm_bytes_calls.KeyAnswers.{KeepsKeyAnswers, key_told_in, key_wins_in}
+use Rattle.vm_bytes_serve.specs.from_vm_tree_rule.declared_fault_TreeFault.{TreeFault}
+use Rattle.vm_bytes_serve.specs.from_vm_drive.{Drives.AreFew, Drives.items_of, Lists.AreKept}
+use Rattle.vm_bytes_serve.proofs.{from_vm_calls.Lists.all-at, from_vm_drive.Crews.items-long}
 use Rattle.vm_bytes_replies.specs.KeyLines.{AreAnswered, AreMatched, key_line, key_lines, key_worker_lines}
 
 abbrev pub Answer : Type 0

@@ -1,11 +1,11 @@
 -- The lines of workers' answers to calls with byte keys.
 use Rattle.std.specs.Prelude.{[], ◌++◌, ◌+◌, ◌∷◌, ◌≡◌, Err, length, List, Ok, Result, ℕ}
 use Rattle.vm_bytes_laws.specs.declared.call.{KeyCall.KeyCall, KeyReply.KeyReply}
-use Rattle.vm_bytes_calls.specs.{declared.answers.KeyReplies.KeyReplies, KeyAnswers.KeepsKeyAnswers}
+use Rattle.vm_bytes_serve.specs.from_vm_bytes_calls.{declared_answers_KeyReplies.KeyReplies, KeyAnswers.KeepsKeyAnswers}
 use Rattle.vm_bytes_script.specs.KeyReplies.{key_reply_line}
-use Rattle.vm_drive.specs.from_vm_tree_rule.declared_fault_TreeFault.{TreeFault}
-use Rattle.vm_drive.specs.from_vm_tree_rule.declared_fault_TreeFault_TheVariants.{Damaged, Device, Full, Worn}
-use Rattle.vm_drive.specs.Lists.{AreKept}
+use Rattle.vm_bytes_serve.specs.from_vm_tree_rule.declared_fault_TreeFault.{TreeFault}
+use Rattle.vm_bytes_serve.specs.from_vm_tree_rule.declared_fault_TreeFault_TheVariants.{Damaged, Device, Full, Worn}
+use Rattle.vm_bytes_serve.specs.from_vm_drive.Lists.{AreKept}
 use Rattle.vm_script.specs.{declared.text.Line.Line, Texts.reply_line}
 use Rattle.vm_script.specs.declared.text.Line.TheVariants as lines
 

@@ -2,5 +2,6 @@
 #![tactic(auto)]
 
 mod replies;
+pub mod serve;
 
 pub use replies::{add_key_replies, line_of};

@@ -2,17 +2,17 @@
 
 ghost use Rattle.std.specs.Prelude.{[], ◌+◌, ◌++◌, ◌<◌, ◌^◌, ◌∷◌, ◌≡◌, ◌≤◌, length, List, OnOk, Result};
 ghost use Rattle.vm_bytes_laws.specs.declared.call.KeyReply.{KeyReply};
-ghost use Rattle.vm_bytes_calls.specs.KeyAnswers.{KeepsKeyAnswers, key_told_in, key_wins_in};
-ghost use Rattle.vm_drive.specs.{Drives.AreFew, Drives.items_of, Lists.AreKept};
-ghost use Rattle.vm_drive.specs.from_vm_tree_rule.declared_fault_TreeFault.{TreeFault};
+ghost use Rattle.vm_bytes_serve.specs.from_vm_bytes_calls.KeyAnswers.{KeepsKeyAnswers, key_told_in, key_wins_in};
+ghost use Rattle.vm_bytes_serve.specs.from_vm_drive.{Drives.AreFew, Drives.items_of, Lists.AreKept};
+ghost use Rattle.vm_bytes_serve.specs.from_vm_tree_rule.declared_fault_TreeFault.{TreeFault};
 ghost use Rattle.vm_bytes_replies.specs.KeyLines.{AreAnswered, fault_line, key_lines, key_worker_lines};
 
 use std::alloc::{AllocError, Global};
-use vm_bytes_calls::answers::{KeyReplies, KeyShort};
+use vm_bytes_serve::{KeyReplies, KeyShort};
 use vm_bytes_laws::call::{KeyCall, KeyReply};
 use vm_bytes_node::window::KeyWindow;
 use vm_bytes_script::text::{key_said_text, key_shown_text};
-use vm_drive::tree_rule::TreeFault;
+use vm_bytes_serve::tree_rule::TreeFault;
 use vm_script::text::{Line, reply_text};
 
 /// Why a call had no reply, as it is told.

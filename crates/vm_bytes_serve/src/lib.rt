@@ -3,6 +3,7 @@
 
 mod serving;
 mod strings;
+pub mod tree_rule;
 
 pub use serving::{KeyServed, serve, serve_on};
-pub use vm_bytes_history::drive::{BytesTree, KeyReplies};
+pub use vm_bytes_history::drive::{BytesTree, KeyReplies, KeyShort};

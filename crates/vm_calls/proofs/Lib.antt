@@ -18,3 +18,4 @@ pub mod Spanning
 pub mod Answering
 pub mod Shortening
 pub mod from_vm_pool
+pub mod from_vm_tree_read

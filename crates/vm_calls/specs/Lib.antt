@@ -14,3 +14,7 @@ pub mod from_vm_evict
 pub mod from_vm_kind
 pub mod from_vm_pool
 pub mod from_vm_tree_rule
+pub mod from_vm_tree_read
+pub mod from_vm_tree_retry
+pub mod from_vm_tree_round
+pub mod from_vm_tree_split

@@ -14,8 +14,8 @@ use Rattle.vm_bytes_form.specs.{Bytes.bytes as keyed, Forms.KeyEntry, KeyMap.ran
 use Rattle.vm_bytes_file.specs.KeyFiles.{is_key_file}
 use Rattle.vm_bytes_laws.specs.declared.call.{KeyCall.KeyCall, KeyReply.KeyReply, KeySaid.KeySaid}
 use Rattle.vm_bytes_laws.specs.KeyHistory.{map_after_all}
-use Rattle.vm_bytes_serve.specs.from_vm_bytes_history.Heard.{key_saids}
-use Rattle.vm_bytes_serve.specs.KeyServing.{IsKeyServed}
+use Rattle.vm_bytes_replies.specs.from_vm_bytes_history.Heard.{key_saids}
+use Rattle.vm_bytes_replies.specs.from_vm_bytes_serve.KeyServing.{IsKeyServed}
 use Rattle.vm_bytes_text.specs.KeyTexts.{key_text, line_with}
 use Rattle.vm_bytes_replies.specs.KeyLines.{key_worker_lines}
 use Rattle.vm_script.specs.Texts.{unflushed_line}

@@ -1,7 +1,7 @@
 //! The texts of what workers' calls with byte keys came to: replies, rows, or the page that could not be written, and the device's counters.
 
 ghost use Rattle.std.specs.Prelude.{◌++◌, ◌≡◌, ◌≤◌, IfOk, length, List, Result};
-ghost use Rattle.vm_bytes_serve.specs.from_vm_bytes_calls.KeyAnswers.{KeepsKeyAnswers};
+ghost use Rattle.vm_bytes_replies.specs.from_vm_bytes_calls.KeyAnswers.{KeepsKeyAnswers};
 ghost use Rattle.vm_bytes_form.specs.KeyMap.{ranks_of};
 ghost use Rattle.vm_bytes_laws.specs.declared.call.KeyReply.{KeyReply};
 ghost use Rattle.vm_bytes_replies.specs.KeyLines.{AreAnswered, key_worker_lines};
@@ -15,7 +15,7 @@ use std::alloc::{AllocError, Global};
 use vm_bytes_file::KeyPair;
 use vm_bytes_laws::call::KeyCall;
 use vm_bytes_replies::add_key_replies;
-use vm_bytes_serve::KeyReplies;
+use vm_bytes_replies::serve::KeyReplies;
 use vm_bytes_text::add_key_rows;
 use vm_owner::Owner;
 use vm_script::text::{counters_text, unflushed_text};

@@ -7,10 +7,10 @@ use Rattle.vm_map.specs.Map.{del_pair, lookup_at, Rises}
 use Rattle.vm_tree_model.specs.{Edits.IsLeafWith, Layout.Layout, Node.Covers}
 use Rattle.vm_tree_model.specs.Page.{IsLeaf, node_of, pairs_of}
 use Rattle.vm_tree_laws.specs.May.{IsEdit}
-use Rattle.vm_tree_merge.specs.from_vm_step.Prelude.{View}
-use Rattle.vm_tree_merge.specs.from_vm_tree_rule.Leaves.{ReadsOn}
-use Rattle.vm_tree_merge.specs.from_vm_tree_read.Reads.{IsAnswered}
-use Rattle.vm_tree_merge.proofs.from_vm_tree_read.Answering.{answered-as, answered-later}
+use Rattle.vm_tree_write.specs.from_vm_step.Prelude.{View}
+use Rattle.vm_tree_write.specs.from_vm_tree_rule.Leaves.{ReadsOn}
+use Rattle.vm_tree_write.specs.from_vm_tree_read.Reads.{IsAnswered}
+use Rattle.vm_tree_write.proofs.from_vm_tree_read.Answering.{answered-as, answered-later}
 use Rattle.vm_tree_write.specs.declared.write.TryWrite.TheVariants as tries
 use Rattle.vm_tree_write.specs.Writes.{IsVain, IsWriteDone}
 use Rattle.vm_tree_write.proofs.Writing.{written-later}

@@ -3,9 +3,9 @@ use Rattle.std.specs.Prelude.{◌⊎◌, ℕ}
 use Rattle.vm_map.specs.declared.call.Call.TheVariants.{Del}
 use Rattle.vm_map.specs.declared.call.Said.{Said}
 use Rattle.vm_tree_model.specs.Layout.{Layout}
-use Rattle.vm_tree_merge.specs.from_vm_step.Prelude.{UnlockedExpected, View}
-use Rattle.vm_tree_merge.specs.from_vm_tree_rule.{Leaves.ReadsOn, Shown.IsShown, Turns.IsDamaged, Turns.IsNeeded}
-use Rattle.vm_tree_merge.specs.from_vm_tree_read.Reads.{IsAnswered}
+use Rattle.vm_tree_write.specs.from_vm_step.Prelude.{UnlockedExpected, View}
+use Rattle.vm_tree_write.specs.from_vm_tree_rule.{Leaves.ReadsOn, Shown.IsShown, Turns.IsDamaged, Turns.IsNeeded}
+use Rattle.vm_tree_write.specs.from_vm_tree_read.Reads.{IsAnswered}
 use Rattle.vm_tree_write.specs.declared.write.TryWrite.{TryWrite}
 use Rattle.vm_tree_write.specs.declared.write.TryWrite.TheVariants as tries
 use Rattle.vm_tree_write.specs.Writes.{HasKeyIn, IsVain, IsWornLeaf, IsWriteDone}

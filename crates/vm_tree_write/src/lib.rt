@@ -2,6 +2,7 @@
 #![tactic(auto)]
 
 pub mod exmap;
+pub mod guard;
 pub mod kind;
 pub mod leaf;
 pub mod pool;

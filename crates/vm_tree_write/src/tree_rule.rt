@@ -1,3 +1,3 @@
 //! What the crates above name of `vm_tree_rule` through this one.
 
-pub use vm_tree_merge::tree_rule::{Tree, TreeFault};
+pub use vm_tree_merge::tree_rule::{Tree, TreeFault, Turn};

@@ -6,12 +6,12 @@ use Rattle.vm_bytes_node.specs.Room.{spare_words}
 use Rattle.vm_bytes_laws.specs.declared.call.KeyCall.{KeyCall}
 use Rattle.vm_bytes_laws.specs.declared.call.KeyCall.TheVariants.{Del, Get, Put, Swap, Window}
 use Rattle.vm_bytes_laws.specs.Plain.{plain_said}
-use Rattle.vm_tree_range.specs.from_vm_tree_rule.Turns.{IsDamaged, IsNeeded}
-use Rattle.vm_tree_range.specs.from_vm_tree_read.Waiting.{IsFaulted, IsReplied, Waits}
-use Rattle.vm_tree_retry.specs.from_vm_tree_split.Splits.{KeepsLocksOnly}
-use Rattle.vm_tree_retry.specs.from_vm_tree_round.Rounds.{IsPutRound, IsWriteRound}
-use Rattle.vm_tree_retry.specs.Waiting.{IsPutFaulted, IsWriteFaulted, IsWriteReplied}
-use Rattle.vm_tree_retry.specs.Prelude.{HasKeyIn, HasValueIn}
+use Rattle.vm_calls.specs.from_vm_tree_rule.Turns.{IsDamaged, IsNeeded}
+use Rattle.vm_calls.specs.from_vm_tree_read.Waiting.{IsFaulted, IsReplied, Waits}
+use Rattle.vm_calls.specs.from_vm_tree_split.Splits.{KeepsLocksOnly}
+use Rattle.vm_calls.specs.from_vm_tree_round.Rounds.{IsPutRound, IsWriteRound}
+use Rattle.vm_calls.specs.from_vm_tree_retry.Waiting.{IsPutFaulted, IsWriteFaulted, IsWriteReplied}
+use Rattle.vm_calls.specs.from_vm_tree_retry.Prelude.{HasKeyIn, HasValueIn}
 use Rattle.vm_bytes_calls.specs.KeyCalls.{IsKeyCall}
 use Rattle.vm_bytes_calls.proofs.Replying.{bare-of, told-bare, window-tells}
 use Rattle.vm_bytes_calls.proofs.worker.answer.Goals as goal

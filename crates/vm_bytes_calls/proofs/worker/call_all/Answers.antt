@@ -2,7 +2,7 @@ use Rattle.std.proofs.Common.{[], ◌++◌, ◌+◌, ◌<◌, ◌∙◌, ◌∷�
 use Rattle.std.proofs.lemmas.List.{drop_more, take_more}
 use Rattle.vm_bytes_laws.specs.declared.call.KeyCall.{KeyCall}
 use Rattle.vm_step.specs.Prelude.{view}
-use Rattle.vm_tree_range.proofs.from_vm_tree_read.Losing.{loses-same, loses-then}
+use Rattle.vm_calls.proofs.from_vm_tree_read.Losing.{loses-same, loses-then}
 use Rattle.vm_calls.proofs.{Chain.calls-snoc, Lists.all-at}
 use Rattle.vm_bytes_calls.specs.{KeyAnswers.HasKeyRoom, KeyCalls.IsKeyAskable, KeyCalls.key_calls}
 use Rattle.vm_bytes_calls.proofs.{Answering.key-called, Shortening.room-after, Shortening.room-now}

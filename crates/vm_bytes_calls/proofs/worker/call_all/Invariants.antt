@@ -1,6 +1,6 @@
 use Rattle.std.proofs.Common.{drop, take}
 use Rattle.vm_step.specs.Prelude.{view}
-use Rattle.vm_tree_range.specs.from_vm_tree_read.Waiting.{LosesNone}
+use Rattle.vm_calls.specs.from_vm_tree_read.Waiting.{LosesNone}
 use Rattle.vm_calls.specs.Workers.{HasCalled, IsAtWork}
 use Rattle.vm_bytes_calls.specs.{KeyAnswers.HasKeyRoom, KeyAnswers.KeepsKeyAnswers, KeyCalls.key_calls}
 use Rattle.vm_bytes_calls.proofs.worker.call_all.Given as goal

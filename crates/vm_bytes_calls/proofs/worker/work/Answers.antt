@@ -1,6 +1,6 @@
 use Rattle.std.proofs.Common.{[]}
 use Rattle.vm_step.specs.Prelude.{view}
-use Rattle.vm_tree_range.proofs.from_vm_tree_read.Losing.{loses-then}
+use Rattle.vm_calls.proofs.from_vm_tree_read.Losing.{loses-then}
 use Rattle.vm_calls.proofs.{Chain.calls-done, Chain.holds-none-on, Doing.moves-keep, Framing.given-loses}
 use Rattle.vm_bytes_calls.specs.KeyCalls.{key_calls}
 use Rattle.vm_bytes_calls.proofs.Answering.{key_laws}

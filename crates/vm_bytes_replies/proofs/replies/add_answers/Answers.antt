@@ -1,7 +1,7 @@
 use Rattle.std.proofs.Common.{◌+◌, ◌<◌, ◌∙◌, ap, arith, drop, get_or, length, None, refl, sym}
 use Rattle.std.proofs.lemmas.List.{take_rest}
-use Rattle.vm_bytes_calls.specs.KeyAnswers.{key_wins_in}
-use Rattle.vm_bytes_calls.specs.declared.answers.KeyShort.TheVariants.{Got}
+use Rattle.vm_bytes_serve.specs.from_vm_bytes_calls.KeyAnswers.{key_wins_in}
+use Rattle.vm_bytes_serve.specs.from_vm_bytes_calls.declared_answers_KeyShort_TheVariants.{Got}
 use Rattle.vm_bytes_replies.proofs.Telling.{answer_told, answers_told, told_long, wins_left, wins_one}
 use Rattle.vm_bytes_replies.proofs.replies.add_answers.Goals as goal
 

@@ -1,5 +1,5 @@
 use Rattle.std.proofs.Common.{◌++◌, ◌+◌, ◌≡◌, ◌≤◌, drop}
-use Rattle.vm_bytes_calls.specs.KeyAnswers.{key_told_in, key_wins_in}
+use Rattle.vm_bytes_serve.specs.from_vm_bytes_calls.KeyAnswers.{key_told_in, key_wins_in}
 use Rattle.vm_bytes_replies.specs.KeyLines.{key_lines}
 use Rattle.vm_bytes_replies.proofs.replies.add_answers.Given as goal
 

@@ -1,5 +1,5 @@
 use Rattle.std.proofs.Common.{◌+◌, ◌++◌, ◌<◌, ◌∙◌, ap, arith, length, List}
-use Rattle.vm_drive.specs.Drives.{items_of}
+use Rattle.vm_bytes_serve.specs.from_vm_drive.Drives.{items_of}
 use Rattle.vm_bytes_replies.specs.KeyLines.{key_worker_lines}
 use Rattle.vm_bytes_replies.proofs.Telling.{Answer, few_at, its_matched, its_shown, kept_long, kept_told, worker_told}
 use Rattle.vm_bytes_replies.proofs.Telling.{workers_told}

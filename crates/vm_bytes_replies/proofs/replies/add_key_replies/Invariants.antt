@@ -1,5 +1,5 @@
 use Rattle.std.proofs.Common.{◌++◌, ◌≡◌, drop}
-use Rattle.vm_drive.specs.Drives.{items_of}
+use Rattle.vm_bytes_serve.specs.from_vm_drive.Drives.{items_of}
 use Rattle.vm_bytes_replies.specs.KeyLines.{key_worker_lines}
 use Rattle.vm_bytes_replies.proofs.Telling.{all_told}
 use Rattle.vm_bytes_replies.proofs.replies.add_key_replies.Given as goal

@@ -1,12 +1,12 @@
 use Rattle.std.proofs.Common.{◌++◌, ◌∙◌, ap, length, option_map, refl, sym}
 use Rattle.std.proofs.lemmas.Bool.{false≢true}
 use Rattle.std.proofs.lemmas.List.{length-replicate}
-use Rattle.vm_tree_merge.specs.from_vm_step.Prelude.{view}
-use Rattle.vm_tree_merge.specs.from_vm_guard.Guards.{placed}
-use Rattle.vm_tree_merge.proofs.from_vm_tree_rule.{OnWay.leaf-later, Onward.loaded-more, Surely.known-same}
-use Rattle.vm_tree_merge.proofs.from_vm_tree_rule.Readings.{loads-reads, opened-loads}
-use Rattle.vm_tree_merge.proofs.from_vm_tree_rule.Showing.{none-some}
-use Rattle.vm_tree_merge.proofs.from_vm_tree_read.Answering.{reply-told, reply-whole}
+use Rattle.vm_tree_write.specs.from_vm_step.Prelude.{view}
+use Rattle.vm_tree_write.specs.from_vm_guard.Guards.{placed}
+use Rattle.vm_tree_write.proofs.from_vm_tree_rule.{OnWay.leaf-later, Onward.loaded-more, Surely.known-same}
+use Rattle.vm_tree_write.proofs.from_vm_tree_rule.Readings.{loads-reads, opened-loads}
+use Rattle.vm_tree_write.proofs.from_vm_tree_rule.Showing.{none-some}
+use Rattle.vm_tree_write.proofs.from_vm_tree_read.Answering.{reply-told, reply-whole}
 use Rattle.vm_tree_write.proofs.Telling.{awaits-twice, edit-as, known-twice, opened-twice, reads-twice}
 use Rattle.vm_tree_del.proofs.Leaving.{del-edit, del-made}
 use Rattle.vm_tree_del.proofs.once.del_once.Goals as goal

@@ -1,7 +1,7 @@
 use Rattle.std.proofs.lemmas.Bool.{false≢true}
 use Rattle.std.proofs.Common.{subst, sym}
-use Rattle.vm_tree_merge.proofs.from_vm_tree_rule.Entering.{opened-reads}
-use Rattle.vm_tree_merge.specs.from_vm_tree_read.Reads.{TellReply}
+use Rattle.vm_tree_write.proofs.from_vm_tree_rule.Entering.{opened-reads}
+use Rattle.vm_tree_write.specs.from_vm_tree_read.Reads.{TellReply}
 use Rattle.vm_tree_write.proofs.Telling.{not-valid}
 use Rattle.vm_tree_del.proofs.Leaving.{del-none}
 use Rattle.vm_tree_del.proofs.once.missed.Goals as goal

@@ -1,5 +1,5 @@
 use Rattle.std.proofs.Common.{subst}
-use Rattle.vm_tree_merge.specs.from_vm_tree_rule.Turns.{IsTurnedBack}
+use Rattle.vm_tree_write.specs.from_vm_tree_rule.Turns.{IsTurnedBack}
 use Rattle.vm_tree_write.proofs.Telling.{not-read}
 use Rattle.vm_tree_del.proofs.once.not_yet.Goals as goal
 

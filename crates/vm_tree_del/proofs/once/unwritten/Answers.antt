@@ -1,7 +1,7 @@
 use Rattle.std.proofs.Common.{List, subst, sym, ℕ}
-use Rattle.vm_tree_merge.specs.from_vm_step.Prelude.{UnlockedExpected}
-use Rattle.vm_tree_merge.specs.from_vm_guard.Denied.{AgainOrWorn, IsDenied, KeptWord}
-use Rattle.vm_tree_merge.specs.from_vm_tree_split.Prepares.{SaysWorn}
+use Rattle.vm_tree_write.specs.from_vm_step.Prelude.{UnlockedExpected}
+use Rattle.vm_tree_write.specs.from_vm_guard.Denied.{AgainOrWorn, IsDenied, KeptWord}
+use Rattle.vm_tree_write.specs.from_vm_tree_split.Prepares.{SaysWorn}
 use Rattle.vm_tree_write.specs.Writes.{HasKeyIn}
 use Rattle.vm_tree_write.proofs.Telling.{not-locked, worn-leaf}
 use Rattle.vm_tree_del.proofs.once.unwritten.Goals as goal

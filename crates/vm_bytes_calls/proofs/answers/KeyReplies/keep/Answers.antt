@@ -2,7 +2,7 @@ use Rattle.std.specs.declared.alloc.Global.{Global}
 use Rattle.std.proofs.Common.{[], ◌++◌, ◌∙◌, ◌∷◌, ap, Err, if◌then◌else◌, Ok, refl, Result, Vec}
 use Rattle.vm_bytes_laws.specs.declared.call.KeyReply.{KeyReply}
 use Rattle.vm_bytes_laws.specs.declared.call.KeyReply.TheVariants as replies
-use Rattle.vm_tree_range.specs.from_vm_tree_rule.declared_fault_TreeFault.{TreeFault}
+use Rattle.vm_calls.specs.from_vm_tree_rule.declared_fault_TreeFault.{TreeFault}
 use Rattle.vm_bytes_node.specs.declared.window.KeyWindow.{KeyWindow}
 use Rattle.vm_bytes_calls.specs.declared.answers.KeyShort.TheVariants as shorts
 use Rattle.vm_bytes_calls.proofs.Shortening.{keeps-more, keeps-other}

@@ -40,7 +40,7 @@ keys_swap m s want v keys is = go (is_value (lookup_key m s) want)
     go false = keys
 
 -- the keys are strings after each call
-keys_after : (m : List KeyEntry) (call : KeyCall) → AreKeys m → IsString 64 (key_called call)
+pub keys_after : (m : List KeyEntry) (call : KeyCall) → AreKeys m → IsString 64 (key_called call)
     → AreKeys (map_after m call)
 keys_after m (Get key) keys is = keys
 keys_after m (Put key value) keys is = keys_put m key value keys is

@@ -1,0 +1,2 @@
+-- Definitions of vm_bytes_drive that the crates above name through this one.
+pub use Rattle.vm_bytes_serve.specs.from_vm_bytes_drive.Drives

@@ -1,0 +1,2 @@
+-- Definitions of vm_tree_round that the crates above name through this one.
+pub use Rattle.vm_tree_retry.specs.from_vm_tree_round.Rounds

@@ -1,0 +1,3 @@
+//! What the crates above name of `vm_guard` through this one.
+
+pub use vm_tree_merge::guard::{Deny, OptGuard};
