@@ -1,5 +1,5 @@
 -- What the tree's calls that wait tell, with byte keys, in the terms of a worker: what its pass keeps, its entry, its note, or what it found.
-use Rattle.std.proofs.Common.{◌∙◌, ◌≡◌, ap, Err, Ok, Result, sym, ℕ}
+use Rattle.std.proofs.Common.{◌∙◌, ◌≡◌, ap, Err, Ok, Result, sym}
 use Rattle.vm_rule.specs.Prelude.{StartsWith}
 use Rattle.vm_step.specs.Prelude.{Origin, View}
 use Rattle.vm_tree_laws.specs.Plain.{KeepsPlain}

@@ -1,7 +1,7 @@
 -- What the tree's calls tell with ranks tells with byte keys too: the same answer, whose reply shows no pairs.
 use Rattle.std.specs.Prelude.{IfErr, IfOk}
 use Rattle.std.proofs.Common.{◌≡◌, Err, List, Ok, Result, subst, ℕ}
-use Rattle.vm_map.specs.declared.call.{Call.Call, Reply.Reply}
+use Rattle.vm_map.specs.declared.call.{Reply.Reply}
 use Rattle.vm_map.specs.declared.call.Call.TheVariants as calls
 use Rattle.vm_map.specs.declared.call.Reply.TheVariants as plain
 use Rattle.vm_step.specs.Prelude.{View}

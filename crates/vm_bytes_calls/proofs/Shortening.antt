@@ -1,6 +1,6 @@
 -- Answers to calls with byte keys in little memory, and the room for them: one answer more.
 use Rattle.std.specs.declared.alloc.Global.{Global}
-use Rattle.std.proofs.Common.{[], ◌++◌, ◌+◌, ◌∙◌, ◌∷◌, ◌≡◌, ◌≤◌, ap, append-nil, arith, Err, length, List, Ok, refl, Result, sym, Vec, ℕ}
+use Rattle.std.proofs.Common.{[], ◌++◌, ◌+◌, ◌∙◌, ◌∷◌, ◌≡◌, ◌≤◌, ap, append-nil, arith, Err, length, List, Ok, refl, Result, sym, Vec}
 use Rattle.std.proofs.lemmas.List.{length-append}
 use Rattle.vm_step.specs.Prelude.{View}
 use Rattle.vm_bytes_laws.specs.declared.call.{KeyCall.KeyCall, KeyReply.KeyReply, KeySaid.KeySaid}

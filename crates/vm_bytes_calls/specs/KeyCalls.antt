@@ -1,6 +1,6 @@
 -- A worker's calls of the tree with byte keys: what each tells is of this call alone, between what the pass knew before
 -- it and behind it. It tells of the rank of each key.
-use Rattle.std.specs.Prelude.{◌<◌, ◌≡◌, ◌≤◌, Err, List, Ok, Result, true, ℕ}
+use Rattle.std.specs.Prelude.{◌≡◌, ◌≤◌, Err, Ok, Result, true}
 use Rattle.vm_map.specs.declared.call.{Reply.Reply, Said.Said}
 use Rattle.vm_map.specs.declared.call.Reply.TheVariants as plain
 use Rattle.vm_tree_model.specs.Tree.{map_of}

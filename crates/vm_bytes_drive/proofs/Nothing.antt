@@ -1,5 +1,5 @@
 -- Workers that need no memory have it, as many as there are.
-use Rattle.std.proofs.Common.{[], ◌+◌, ◌∷◌, ◌≡◌, arith, length, List}
+use Rattle.std.proofs.Common.{[], ◌∷◌, ◌≡◌, arith, length, List}
 use Rattle.vm_bytes_laws.specs.declared.call.KeyCall.{KeyCall}
 use Rattle.vm_drive.specs.Lists.{HaveMemory}
 use Rattle.vm_bytes_drive.specs.Drives.{NeedsNone}

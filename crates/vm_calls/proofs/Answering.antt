@@ -1,11 +1,10 @@
 -- What the tree's calls that wait tell, with words as keys, in the terms of a worker: what its pass keeps, its entry, its note, or what it found.
 use Rattle.std.specs.Prelude.{IfErr, IfOk}
-use Rattle.std.proofs.Common.{⊎_elim, ◌∙◌, ◌≡◌, ◌⊎◌, ap, Err, List, Ok, Result, subst, sym, ℕ}
+use Rattle.std.proofs.Common.{⊎_elim, ◌⊎◌, Err, List, Ok, Result, ℕ}
 use Rattle.vm_map.specs.{declared.call.Call.Call, declared.call.Reply.Reply, declared.call.Said.Said}
 use Rattle.vm_map.specs.declared.call.Call.TheVariants.{Del, Get, Put, Range, Swap, Window}
-use Rattle.vm_rule.specs.Prelude.{Kept, StartsWith}
-use Rattle.vm_step.specs.Prelude.{Origin, View}
-use Rattle.vm_tree_model.specs.{Fixed.fixed, Layout.Layout, Tree.map_of}
+use Rattle.vm_step.specs.Prelude.{View}
+use Rattle.vm_tree_model.specs.{Fixed.fixed, Layout.Layout}
 use Rattle.vm_tree_laws.specs.Plain.{KeepsPlain}
 use Rattle.vm_tree_range.specs.from_vm_tree_rule.{declared_fault_TreeFault.TreeFault, Leaves.ReadsOn, Turns.IsDamaged, Turns.IsNeeded}
 use Rattle.vm_tree_range.specs.from_vm_tree_read.Reads.{IsAnswered, IsOfKind}
@@ -19,7 +18,7 @@ use Rattle.vm_tree_retry.specs.Prelude.{HasKeyIn, IsDelAlone, HasValueIn, IsVain
 use Rattle.vm_tree_range.specs.from_vm_kind.WordRoom.{spare_in}
 use Rattle.vm_calls.specs.{Called.AreCalls, Called.IsCalled, Keeps.KeepsPass, Causes.IsUntold}
 use Rattle.vm_calls.proofs.Doing.{keeps-then}
-use Rattle.vm_calls.specs.{Calls.as_said, Shows.IsReplyShown, TreeCalls.IsTreeCall, TreeCalls.word_calls}
+use Rattle.vm_calls.specs.{Calls.as_said, TreeCalls.IsTreeCall, TreeCalls.word_calls}
 use Rattle.vm_calls.proofs.Keeping.{all-pass, merge-pass, reads-pass, waits-pass, writes-pass}
 use Rattle.vm_calls.proofs.Damage.{beside-untold, damaged-untold}
 use Rattle.vm_calls.proofs.{Plainly.plain-keeps, Showing.shown-more, Spanning.range-called, Spanning.range-faulted}

@@ -1,5 +1,5 @@
 -- A worker's calls, one after another: one more, and what all of them come to.
-use Rattle.std.proofs.Common.{[], ◌++◌, ◌∙◌, ◌∷◌, append_assoc, List, refl, Result, subst, sym, ℕ}
+use Rattle.std.proofs.Common.{[], ◌++◌, ◌∙◌, ◌∷◌, append_assoc, List, refl, Result, subst, sym}
 use Rattle.vm_rule.specs.Prelude.{HoldsNoPage, Kept, Start}
 use Rattle.vm_rule.proofs.Entries.{append-none}
 use Rattle.vm_step.specs.Prelude.{View}

@@ -1,5 +1,5 @@
 -- What a range tells, in the terms of a worker: what its pass keeps, its entry, which leaves it is of, or its fault.
-use Rattle.std.proofs.Common.{[], ◌++◌, ◌<◌, ◌∙◌, ◌∷◌, ap, Err, Ok, subst, sym, ℕ, ◌≡◌}
+use Rattle.std.proofs.Common.{◌++◌, ◌<◌, ◌∙◌, ap, Err, Ok, subst, sym, ℕ, ◌≡◌}
 use Rattle.vm_map.specs.{declared.call.Call.Call, declared.call.Reply.Reply, declared.call.Said.Said, declared.window.Bound.Bound}
 use Rattle.vm_map.specs.declared.call.Call.TheVariants.{Range}
 use Rattle.vm_rule.specs.Prelude.{began_of, entry_of}

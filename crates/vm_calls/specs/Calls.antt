@@ -1,5 +1,4 @@
 -- Calls whose keys are words: how they read, and which of them a full image refuses.
-use Rattle.std.specs.Prelude.{ℕ}
 use Rattle.vm_map.specs.declared.call.Call.{Call}
 use Rattle.vm_map.specs.declared.call.Call.TheVariants.{Del, Get, Put, Range, Swap, Window}
 use Rattle.vm_map.specs.{declared.call.Reply.Reply, declared.call.Said.Said}

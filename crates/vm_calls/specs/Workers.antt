@@ -1,5 +1,5 @@
 -- A worker at work, and what it has done.
-use Rattle.std.specs.Prelude.{◌≡◌, ◌≤◌, Bool, List, None, Result, ℕ}
+use Rattle.std.specs.Prelude.{◌≡◌, ◌≤◌, Bool, List, None, Result}
 use Rattle.vm_rule.specs.Prelude.{TableId}
 use Rattle.vm_step.specs.Prelude.{AreHeld, Did, IsReady, TableShape, View, view}
 use Rattle.vm_tree_range.specs.from_vm_exmap.Frames.{MovesFrames}

@@ -1,6 +1,6 @@
 -- What a drive leaves, from what was hired, what was worked and what was joined.
 use Rattle.std.proofs.Common.{[], ⊎_elim, ◌++◌, ◌+◌, ◌<◌, ◌∙◌, ◌∷◌, ◌≡◌, ◌≤◌, ap, append_assoc, arith, Bool, false}
-use Rattle.std.proofs.Common.{length, List, refl, Result, slice_index, subst, suc, sym, true, Vec, zero, ℕ}
+use Rattle.std.proofs.Common.{length, List, refl, Result, slice_index, subst, suc, sym, true, zero, ℕ}
 use Rattle.std.proofs.lemmas.List.{length-map}
 use Rattle.vm_rule.specs.Prelude.{AreApart, Each, entries_by, Entry, has, HoldsNoPage, IsWhole, Kept, owns, Start, TableId, times}
 use Rattle.vm_rule.proofs.Entries.{each-map}

@@ -1,5 +1,5 @@
 -- What the replies of all lists show they show in each later view.
-use Rattle.std.proofs.Common.{[], ◌∷◌, ◌≡◌, List, Result, ℕ}
+use Rattle.std.proofs.Common.{[], ◌∷◌, ◌≡◌, List, Result}
 use Rattle.vm_rule.specs.Prelude.{Kept, Start, StartsWith}
 use Rattle.vm_step.specs.Prelude.{View}
 use Rattle.vm_calls.specs.{Called.AreCalls, Calling.Calling}

@@ -1,5 +1,5 @@
 -- What each worker did, as a part of what the joined pass knows.
-use Rattle.std.specs.Prelude.{[], ◌++◌, ◌∷◌, ◌≡◌, List, Result, ℕ}
+use Rattle.std.specs.Prelude.{[], ◌++◌, ◌∷◌, ◌≡◌, List, Result}
 use Rattle.vm_rule.specs.Prelude.{entries_by, StartsWith}
 use Rattle.vm_step.specs.Prelude.{Did, Note, View}
 use Rattle.vm_calls.specs.from_vm_tree_rule.declared_fault_TreeFault.{TreeFault}

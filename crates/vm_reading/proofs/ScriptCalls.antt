@@ -1,7 +1,7 @@
 -- What holds of the calls of a script: there are few, and each window and range asks for something.
 use Rattle.std.specs.List.{AllByRecursion, filter}
 use Rattle.std.specs.Prelude.{IfOk}
-use Rattle.std.proofs.Common.{◌≡◌, ◌==◌, ◌≤◌, ◌++◌, ◌∷◌, [], arith, Bool, cond, Err, false, length, List, map, Ok, Result, subst, suc}
+use Rattle.std.proofs.Common.{◌==◌, ◌≤◌, ◌++◌, ◌∷◌, [], arith, Bool, cond, Err, false, length, List, map, Ok, Result, subst, suc}
 use Rattle.std.proofs.Common.{sym, true, zero, ℕ}
 use Rattle.std.proofs.lemmas.List.{length-map}
 use Rattle.vm_map.specs.declared.call.Call.{Call}

@@ -1,29 +1,25 @@
 -- What workers' calls with byte keys come to, from what serving them, the text and the kept file tell.
 use Rattle.std.specs.declared.alloc.Global.{Global}
 use Rattle.std.specs.Prelude.{unwrap_or}
-use Rattle.std.proofs.Common.{[], ◌*◌, ◌++◌, ◌∙◌, ◌∷◌, ◌≡◌, ap, inl, inr, List, None, Option, refl, Result, Some, subst, sym, Vec, ℕ}
-use Rattle.vm_map.specs.Map.{Pairs}
+use Rattle.std.proofs.Common.{[], ◌++◌, ◌∙◌, ◌∷◌, ◌≡◌, ap, inl, inr, List, None, Option, refl, Some, subst, sym, Vec, ℕ}
 use Rattle.vm_tree_model.specs.Tree.{IsTree, map_of}
 use Rattle.vm_block.specs.declared.memory.MemBlock.{MemBlock}
 use Rattle.vm_image.specs.{Blocks.pages_of_blocks, declared.blocks.PlannedFault.PlannedFault}
 use Rattle.vm_bytes_form.proofs.Ranks.{string_of_rank}
 use Rattle.vm_bytes_form.specs.{Bytes.bytes as keyed, Forms.AreKeys, Forms.KeyEntry, KeyMap.ranks_of}
-use Rattle.vm_bytes_laws.specs.declared.call.{KeyCall.KeyCall, KeyReply.KeyReply, KeySaid.KeySaid}
+use Rattle.vm_bytes_laws.specs.declared.call.{KeyCall.KeyCall, KeySaid.KeySaid}
 use Rattle.vm_reading.specs.from_vm_bytes_calls.declared_answers_KeyReplies.{KeyReplies}
-use Rattle.vm_reading.specs.from_vm_bytes_calls.KeyAnswers.{KeepsKeyAnswers}
 use Rattle.vm_reading.specs.from_vm_bytes_replies.KeyLines.{AreAnswered, key_worker_lines}
 use Rattle.vm_reading.specs.from_vm_bytes_serve.KeyServing.{IsKeyServed, IsKeyServedInto}
 use Rattle.vm_bytes_text.specs.KeyTexts.{key_rows_text, key_text, line_with}
 use Rattle.vm_reading.specs.from_vm_pool.{Closing.view_at_end, declared_ended_Ended.Ended}
-use Rattle.vm_reading.specs.from_vm_drive.Lists.{AreKept}
 use Rattle.vm_reading.specs.from_vm_serve.declared_serving_ServedOn.{ServedOn}
-use Rattle.vm_reading.specs.from_vm_tree_rule.declared_fault_TreeFault.{TreeFault}
 use Rattle.vm_reading.proofs.from_vm_serve.Planned.{saved}
 use Rattle.vm_reading.proofs.from_vm_endings.Telling.{matched}
 use Rattle.vm_script.specs.Texts.{unflushed_line}
 use Rattle.vm_words.specs.declared.Run.{Run}
 use Rattle.vm_reading.specs.from_vm_endings.{declared_delivery_File.File, Deliveries.content_of}
-use Rattle.vm_reading.specs.from_vm_endings.{Deliveries.written_of, Replies.counters_of, Runs.version_or}
+use Rattle.vm_reading.specs.from_vm_endings.{Deliveries.written_of, Replies.counters_of}
 use Rattle.vm_reading.specs.from_vm_endings.KeyRuns.{entries_text, IsFlushedKeyRun, IsKeyOutcome, IsMadeKeyRun, IsUnflushedKeyRun, KeepsKeys, last_strings}
 use Rattle.vm_runs.specs.declared.outcome.Outcome.{Outcome}
 use Rattle.vm_runs.proofs.Outcomes.{version_is}

@@ -1,5 +1,5 @@
 -- What a run gives, from what its parts tell.
-use Rattle.std.proofs.Common.{◌≡◌, ◌∙◌, inl, inr, ℕ, Bool, true, false, List, Option, Ok, Err, refl, sym, ap, subst, [], ◌∷◌, ◌++◌}
+use Rattle.std.proofs.Common.{◌≡◌, ◌∙◌, inl, inr, ℕ, Bool, true, false, List, Ok, Err, refl, sym, ap, subst, [], ◌∷◌, ◌++◌}
 use Rattle.vm_map.specs.declared.call.{Call.Call, Said.Said}
 use Rattle.vm_bytes_form.specs.Bytes.{bytes as keyed}
 use Rattle.vm_bytes_laws.specs.declared.call.{KeyCall.KeyCall, KeySaid.KeySaid}

@@ -1,5 +1,5 @@
 -- What serving comes to, from what was driven, what was flushed and what was closed.
-use Rattle.std.proofs.Common.{[], ⊎_elim, ◌*◌, ◌++◌, ◌+◌, ◌-◌, ◌<◌, ◌==◌, ◌∙◌, ◌∷◌, ◌≡◌, ◌≤◌, ◌⊎◌, ap, arith, Bool, false}
+use Rattle.std.proofs.Common.{[], ⊎_elim, ◌++◌, ◌+◌, ◌-◌, ◌<◌, ◌==◌, ◌∙◌, ◌∷◌, ◌≡◌, ◌≤◌, ◌⊎◌, ap, arith, Bool, false}
 use Rattle.std.proofs.Common.{inl, inr, length, List, map, None, refl, replicate, Result, slice_index}
 use Rattle.std.proofs.Common.{Some, subst, suc, sym, true, true≢false, zero, ℕ}
 use Rattle.std.specs.List.{Contains}

@@ -1,6 +1,5 @@
 -- Calls with words as keys are a kind of calls that are served.
 use Rattle.std.proofs.Common.{◌*◌, ◌+◌, ◌-◌, ◌≤◌, length, subst, ℕ}
-use Rattle.vm_map.specs.{declared.call.Call.Call, declared.call.Reply.Reply, declared.call.Said.Said}
 use Rattle.vm_page.specs.Sizes.{IsSize}
 use Rattle.vm_tree_model.specs.{Count.node_count, Fixed.fixed}
 use Rattle.vm_tree_model.proofs.FixedLaws.{sized_layout}

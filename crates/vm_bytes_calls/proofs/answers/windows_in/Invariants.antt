@@ -1,4 +1,4 @@
-use Rattle.std.proofs.Common.{◌+◌, ◌≡◌, ◌≤◌, drop, length}
+use Rattle.std.proofs.Common.{◌+◌, ◌≡◌, ◌≤◌, drop}
 use Rattle.vm_bytes_calls.specs.KeyAnswers.{key_windows_asked}
 use Rattle.vm_bytes_calls.proofs.answers.windows_in.Given as goal
 

@@ -4,7 +4,7 @@ use Rattle.vm_step.specs.Prelude.{view}
 use Rattle.vm_bytes_form.specs.{Bytes.bytes, Strings.rank}
 use Rattle.vm_bytes_node.specs.Room.{spare_words}
 use Rattle.vm_bytes_laws.specs.declared.call.KeyCall.{KeyCall}
-use Rattle.vm_bytes_laws.specs.declared.call.KeyCall.TheVariants.{Del, Get, Put, Swap, Window}
+use Rattle.vm_bytes_laws.specs.declared.call.KeyCall.TheVariants.{Del, Get, Put, Swap}
 use Rattle.vm_bytes_laws.specs.Plain.{plain_said}
 use Rattle.vm_calls.specs.from_vm_tree_rule.Turns.{IsDamaged, IsNeeded}
 use Rattle.vm_calls.specs.from_vm_tree_read.Waiting.{IsFaulted, IsReplied, Waits}

@@ -1,4 +1,4 @@
-use Rattle.std.proofs.Common.{[], ◌++◌, ◌+◌, ◌<◌, ◌∙◌, ◌∷◌, ◌≡◌, ap, arith, drop, length, List, refl, subst, sym}
+use Rattle.std.proofs.Common.{[], ◌++◌, ◌+◌, ◌<◌, ◌∙◌, ◌∷◌, ◌≡◌, ap, drop, length, List, refl, subst, sym}
 use Rattle.std.proofs.lemmas.List.{drop_more, take_more}
 use Rattle.vm_bytes_laws.specs.declared.call.KeyCall.{KeyCall}
 use Rattle.vm_step.specs.Prelude.{view}

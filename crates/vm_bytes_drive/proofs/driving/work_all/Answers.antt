@@ -1,4 +1,4 @@
-use Rattle.std.proofs.Common.{◌<◌, ◌∙◌, ◌≡◌, arith, get_or, length, rules, subst, sym, ℕ}
+use Rattle.std.proofs.Common.{◌<◌, ◌∙◌, ◌≡◌, get_or, length, rules, subst, sym, ℕ}
 use Rattle.vm_bytes_calls.specs.from_vm_calls.declared_worker_Worker.{Worker}
 use Rattle.vm_bytes_calls.specs.{KeyAnswers.KeepsKeyAnswers, KeyCalls.key_calls}
 use Rattle.vm_drive.specs.{Crews.HasWorked, Drives.items_of, Holds.list_at}

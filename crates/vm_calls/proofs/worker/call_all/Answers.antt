@@ -1,4 +1,4 @@
-use Rattle.std.proofs.Common.{[], ◌++◌, ◌+◌, ◌<◌, ◌∙◌, ◌∷◌, ◌≡◌, ap, arith, drop, get_or, length, List, refl, subst}
+use Rattle.std.proofs.Common.{[], ◌++◌, ◌+◌, ◌<◌, ◌∙◌, ◌∷◌, ◌≡◌, arith, drop, get_or, length, List, refl, subst}
 use Rattle.std.proofs.lemmas.List.{drop_more, take_more}
 use Rattle.vm_map.specs.{declared.call.Call.Call, History.IsAskable}
 use Rattle.vm_map.specs.declared.call.Call.TheVariants.{Get}

@@ -1,7 +1,7 @@
 use Rattle.std.specs.Option.{option_to_list}
 use Rattle.std.specs.Vec.Iter.{into_iter_items}
 use Rattle.std.proofs.Common.{[], ◌++◌, ◌+◌, ◌∙◌, ◌∷◌, ◌≡◌, ◌≤◌, ap, append-nil, append_assoc, arith, if◌then◌else◌}
-use Rattle.std.proofs.Common.{is_ok, length, List, subst, sym, true, vec_len, zero-add, ℕ}
+use Rattle.std.proofs.Common.{is_ok, length, List, subst, sym, true, vec_len, zero-add}
 use Rattle.std.proofs.lemmas.List.{length-append, length-map, map-append, nil_from_length}
 use Rattle.vm_step.specs.Prelude.{view}
 use Rattle.vm_calls.specs.declared.worker.Worker.{Worker}

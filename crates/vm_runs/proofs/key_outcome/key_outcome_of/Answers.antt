@@ -1,4 +1,4 @@
-use Rattle.std.proofs.Common.{◌++◌, ◌∙◌, ◌≡◌, ap, arith, length, List, subst, sym, ℕ}
+use Rattle.std.proofs.Common.{◌++◌, ◌∙◌, ◌≡◌, ap, arith, List, subst, sym, ℕ}
 use Rattle.vm_block.specs.declared.memory.MemBlock.{MemBlock}
 use Rattle.vm_tree_model.specs.Tree.{IsTree, map_of}
 use Rattle.vm_image.specs.Blocks.{pages_of_blocks}
