@@ -18,9 +18,9 @@ use Rattle.vm_tree_laws.specs.May.{MayCollapse}
 use Rattle.vm_tree_laws.specs.Plain.{KeepsPlain, ReleasesPlain}
 use Rattle.vm_tree_laws.proofs.Zeros.{node_words, other_words}
 use Rattle.vm_tree_join.specs.Merging.{page_change, IsMerged}
-use Rattle.vm_tree_split.specs.Splits.{HasDraft, Stays}
+use Rattle.vm_tree_split.specs.from_vm_tree_draft.Splits.{HasDraft, Stays}
 use Rattle.vm_rule.proofs.NumberReleases.{zeros-are}
-use Rattle.vm_tree_split.proofs.Splitting.{none-not, words-claimed}
+use Rattle.vm_tree_split.proofs.from_vm_tree_draft.Splitting.{none-not, words-claimed}
 
 -- page 0 names a page other than page 0
 names-not : (words : List ℕ) (left : ℕ) → 2 < length words → left ≢ 0 → all_zero (slice_set (slice_set words 1 left) 2 0) ≡ false

@@ -22,8 +22,9 @@ use Rattle.vm_tree_split.proofs.from_vm_guard.Groups.{lacks}
 use Rattle.vm_tree_laws.specs.{History.IsLegal, Plain.KeepsPlain, Plain.plain_history}
 use Rattle.vm_tree_split.specs.from_vm_tree_rule.Resident.{KnowsResident}
 use Rattle.vm_tree_split.specs.Prepares.{guard_pages}
-use Rattle.vm_tree_split.proofs.{Framing.entry-same, Given.without-each}
-use Rattle.vm_tree_split.proofs.Splitting.{among-first, among-later}
+use Rattle.vm_tree_split.proofs.from_vm_tree_draft.Framing.{entry-same}
+use Rattle.vm_tree_split.proofs.Given.{without-each}
+use Rattle.vm_tree_split.proofs.from_vm_tree_draft.Splitting.{among-first, among-later}
 use Rattle.vm_tree_split.proofs.Under.{KeepsBut, was-on}
 use Rattle.vm_tree_join.specs.{Locks.AreAllLocked, Locks.AreNumbersGiven, Made.HoldsAll, Made.IsMergeMade, Merging.IsMerged}
 use Rattle.vm_tree_join.proofs.{Giving.Gives, Giving.gives-all, Locking.locks-all, Locking.LocksAll, Locking.locks-but}

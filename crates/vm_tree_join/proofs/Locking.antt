@@ -14,9 +14,12 @@ use Rattle.vm_tree_split.specs.from_vm_guard.Sure.{IsUnlockedWord, known_next, k
 use Rattle.vm_tree_split.proofs.from_vm_guard.{Groups.lacks, Reading.reading-kept}
 use Rattle.vm_tree_laws.specs.Tied.{Tied}
 use Rattle.vm_tree_split.specs.from_vm_tree_rule.{Standing.MeetsTies}
-use Rattle.vm_tree_split.specs.{Prepares.KnowsBoth, Prepares.guard_pages, Splits.HasDraft}
-use Rattle.vm_tree_split.proofs.{Framing.unheld-not, Settling.locked-alone, Settling.locked-next}
-use Rattle.vm_tree_split.proofs.{Settling.locked-word, Splitting.among-first, Splitting.among-later}
+use Rattle.vm_tree_split.specs.from_vm_tree_draft.Splits.{HasDraft}
+use Rattle.vm_tree_split.specs.Prepares.{KnowsBoth, guard_pages}
+use Rattle.vm_tree_split.proofs.from_vm_tree_draft.Framing.{unheld-not}
+use Rattle.vm_tree_split.proofs.Settling.{locked-alone, locked-next}
+use Rattle.vm_tree_split.proofs.from_vm_tree_draft.Splitting.{among-first, among-later}
+use Rattle.vm_tree_split.proofs.Settling.{locked-word}
 use Rattle.vm_tree_split.proofs.Under.{but-then, KeepsBut, locked-but, locked-draft, meets-fewer, Was, was-before, was-locked, was-on}
 use Rattle.vm_tree_join.specs.Locks.{AreAllLocked, IsKindOf, IsLockedAt, IsReadAs, KnowsFree}
 use Rattle.vm_tree_split.proofs.from_vm_guard.GuardSteps.{still-held}

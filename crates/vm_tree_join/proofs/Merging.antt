@@ -17,8 +17,8 @@ use Rattle.vm_tree_laws.specs.May.{MayMerge}
 use Rattle.vm_tree_laws.specs.Plain.{KeepsPlain, ReleasesPlain}
 use Rattle.vm_tree_laws.proofs.Zeros.{node_words}
 use Rattle.vm_tree_join.specs.Merging.{page_change, IsMerged}
-use Rattle.vm_tree_split.specs.Splits.{HasDraft, Stays}
-use Rattle.vm_tree_split.proofs.Splitting.{may-three, words-claimed}
+use Rattle.vm_tree_split.specs.from_vm_tree_draft.Splits.{HasDraft, Stays}
+use Rattle.vm_tree_split.proofs.from_vm_tree_draft.Splitting.{may-three, words-claimed}
 use Rattle.vm_rule.proofs.NumberReleases.{zeros-are}
 
 module _ (L : Layout) (laws : IsLayout L) (up left right : ℕ) (over above first joined second : List ℕ) (said : Said)

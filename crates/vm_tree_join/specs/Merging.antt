@@ -12,7 +12,7 @@ use Rattle.vm_tree_split.specs.from_vm_guard.declared_exclusive_ExclusiveGuard.{
 use Rattle.vm_tree_split.specs.from_vm_guard.Groups.{AreReleased, GuardsHeld, last_pid, pids_of}
 use Rattle.vm_tree_laws.specs.May.{MayCollapse, MayMerge}
 use Rattle.vm_tree_laws.specs.Plain.{KeepsPlain, ReleasesPlain}
-use Rattle.vm_tree_split.specs.Splits.{HasDraft, Stays}
+use Rattle.vm_tree_split.specs.from_vm_tree_draft.Splits.{HasDraft, Stays}
 
 -- a page with its words before and after
 abbrev pub page_change : ℕ → List ℕ → List ℕ → Change

@@ -26,9 +26,10 @@ use Rattle.vm_tree_split.specs.{Prepares.IsShort.after_one}
 use Rattle.vm_tree_split.specs.{Prepares.IsShort.at_once, Tries.IsBackedBy}
 use Rattle.vm_tree_split.specs.Prepares.{IsDeniedAt, IsLockDenied, IsLockedMeanwhile, IsNotLocked, guard_pages}
 use Rattle.vm_tree_split.specs.Prepares.{IsRefusedPages, IsSecondRefused, IsShort}
-use Rattle.vm_tree_split.proofs.{Framing.alloc-more, Refusing.locked-leave, Refusing.moves-leave, Seeing.lost-same}
+use Rattle.vm_tree_draft.proofs.Framing.{alloc-more}
+use Rattle.vm_tree_split.proofs.{Refusing.locked-leave, Refusing.moves-leave, Seeing.lost-same}
 use Rattle.vm_tree_split.proofs.{Seeing.lost-wrote, Seeing.OnlySees, Seeing.sees-few, Seeing.sees-some}
-use Rattle.vm_tree_split.proofs.Splitting.{among-first, among-later}
+use Rattle.vm_tree_draft.proofs.Splitting.{among-first, among-later}
 
 -- what holds where no word is expected in the place of another holds where one may be
 begun-wider : (kept : ℕ → Type 0) (at : WordPlace) (first seen : ℕ) (last : Did) (earlier since : List Did)

@@ -15,11 +15,12 @@ use Rattle.vm_tree_read.specs.from_vm_guard.{Groups.GuardsHeld, Groups.pids_of}
 use Rattle.vm_tree_read.specs.from_vm_tree_rule.Seeks.{IsFullBelow, IsRootFull}
 use Rattle.vm_tree_read.proofs.from_vm_tree_rule.{Entering.opened-reads, Readings.loads-behind}
 use Rattle.vm_tree_split.specs.{Prepares.AreTaken, Prepares.IsPrepared, Tries.HasSplit}
-use Rattle.vm_tree_split.specs.Splits.{AreToSplit, CanSplit, CanSplitRoot, HasDraft, IsRootToSplit, IsSplitUp, KeepsLocksOnly, MayUse}
+use Rattle.vm_tree_draft.specs.Splits.{AreToSplit, CanSplit, CanSplitRoot, HasDraft, IsRootToSplit, IsSplitUp, KeepsLocksOnly, MayUse}
 use Rattle.vm_tree_split.proofs.Preparing.{first-held, first-inner, first-not, first-stays, first-words, fresh-zero}
 use Rattle.vm_tree_split.proofs.Preparing.{home-is, prepared-gains, prepared-keeps, second-held, second-not}
 use Rattle.vm_tree_split.proofs.Preparing.{second-reached, second-words, start-then}
-use Rattle.vm_tree_split.proofs.{Framing.keeps-then, Numbering.gains-kept, Numbering.gains-then, Seeing.OnlySees, Seeing.sees-room}
+use Rattle.vm_tree_draft.proofs.{Framing.keeps-then, Numbering.gains-kept, Numbering.gains-then}
+use Rattle.vm_tree_split.proofs.Seeing.{OnlySees, sees-room}
 use Rattle.vm_tree_split.proofs.Roomy.{awaits-loaded, read-loaded, reading-loaded, roomy-keeps, roomy-out, roomy-start}
 use Rattle.vm_tree_split.proofs.Under.{reading-moved}
 

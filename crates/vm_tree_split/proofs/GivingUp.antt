@@ -9,8 +9,10 @@ use Rattle.vm_tree_read.specs.from_vm_guard.{declared_exclusive_ExclusiveGuard.E
 use Rattle.vm_tree_read.specs.from_vm_guard.{Guards.IsHolding, Guards.IsReleased}
 use Rattle.vm_tree_read.specs.Waiting.{LosesNone}
 use Rattle.vm_tree_read.proofs.Losing.{loses-swap}
-use Rattle.vm_tree_split.specs.{Prepares.AreLocked, Prepares.GivesUpBoth, Splits.HasDraft, Splits.KeepsLocksOnly}
-use Rattle.vm_tree_split.proofs.{Framing.keeps-then, Framing.moves-keep, Under.draft-else, Under.holding-else}
+use Rattle.vm_tree_draft.specs.Splits.{HasDraft, KeepsLocksOnly}
+use Rattle.vm_tree_split.specs.Prepares.{AreLocked, GivesUpBoth}
+use Rattle.vm_tree_draft.proofs.Framing.{keeps-then, moves-keep}
+use Rattle.vm_tree_split.proofs.Under.{draft-else, holding-else}
 use Rattle.vm_tree_split.proofs.Refusing.{back-keeps, holding-none, IsNone, none-keeps}
 
 -- the pass keeps both, each with its last words as its draft

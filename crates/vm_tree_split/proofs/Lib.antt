@@ -1,11 +1,6 @@
-pub mod Drafting
-pub mod Numbering
 pub mod Seeing
 pub mod Given
-pub mod Splitting
 pub mod Under
-pub mod Rooting
-pub mod Framing
 pub mod Refusing
 pub mod Roomy
 pub mod Preparing
@@ -20,3 +15,4 @@ pub mod from_vm_guard
 pub mod from_vm_step
 pub mod from_vm_tree_read
 pub mod from_vm_tree_rule
+pub mod from_vm_tree_draft

@@ -19,9 +19,10 @@ use Rattle.vm_tree_read.proofs.from_vm_guard.{Freshly.holding-on, Groups.lacks, 
 use Rattle.vm_tree_laws.specs.Descent.{IsReached}
 use Rattle.vm_tree_read.specs.from_vm_tree_rule.{Seeks.HasRead, Standing.Awaits, Standing.tree_pages}
 use Rattle.vm_tree_split.specs.Prepares.{AreTaken}
-use Rattle.vm_tree_split.specs.Splits.{HasDraft, IsSplitUp, KeepsLocksOnly}
-use Rattle.vm_tree_split.specs.PageNumbers.{GainsNone}
-use Rattle.vm_tree_split.proofs.{Framing.unheld-not, Given.next-given, Given.owed-either, Given.without-each, Numbering.gains-worn}
+use Rattle.vm_tree_draft.specs.Splits.{HasDraft, IsSplitUp, KeepsLocksOnly}
+use Rattle.vm_tree_draft.specs.PageNumbers.{GainsNone}
+use Rattle.vm_tree_draft.proofs.{Framing.unheld-not, Numbering.gains-worn}
+use Rattle.vm_tree_split.proofs.Given.{next-given, owed-either, without-each}
 use Rattle.vm_tree_split.proofs.Under.{amid-holds, awaits-more, but-then, done-but, draft-amid, draft-else, fresh-but}
 use Rattle.vm_tree_split.proofs.Under.{holding-else, KeepsBut, locked-but, locked-draft, locked-inner, locked-reached}
 use Rattle.vm_tree_split.proofs.Under.{moved-holds, moves-but, read-moved, reading-moved, true-false, was-before}

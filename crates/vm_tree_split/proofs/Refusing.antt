@@ -23,13 +23,14 @@ use Rattle.vm_tree_read.proofs.from_vm_guard.{Amid.amid-then, Amid.amid-within, 
 use Rattle.vm_tree_model.specs.Layout.{Layout}
 use Rattle.vm_tree_laws.specs.Tied.{Tied}
 use Rattle.vm_tree_read.specs.from_vm_tree_rule.Leaves.{LeavesWord}
-use Rattle.vm_tree_split.specs.{declared.tries.TrySplit.TrySplit, PageNumbers.GainsWorn, Prepares.IsDeniedAt}
+use Rattle.vm_tree_draft.specs.PageNumbers.{GainsWorn}
+use Rattle.vm_tree_split.specs.{declared.tries.TrySplit.TrySplit, Prepares.IsDeniedAt}
 use Rattle.vm_tree_split.specs.{Prepares.IsLockDenied, Prepares.IsLockedMeanwhile, Prepares.SaysDenied}
-use Rattle.vm_tree_split.specs.{Splits.KeepsLocksOnly}
+use Rattle.vm_tree_draft.specs.Splits.{KeepsLocksOnly}
 use Rattle.vm_tree_split.specs.declared.tries.TrySplit.TheVariants as tries
-use Rattle.vm_tree_split.proofs.{Framing.after-some, Framing.unheld-not, Numbering.gains-worn}
-use Rattle.vm_tree_split.proofs.{Numbering.released-same, Numbering.worn-kept, Numbering.worn-page}
-use Rattle.vm_tree_split.proofs.{Numbering.worn-then}
+use Rattle.vm_tree_draft.proofs.{Framing.after-some, Framing.unheld-not, Numbering.gains-worn}
+use Rattle.vm_tree_draft.proofs.Numbering.{released-same, worn-kept, worn-page}
+use Rattle.vm_tree_draft.proofs.Numbering.{worn-then}
 use Rattle.vm_tree_split.proofs.Seeing.{OnlySees, sees-few, sees-some, sees-taken}
 use Rattle.vm_tree_read.proofs.from_vm_guard.GuardSteps.{still-held}
 

@@ -13,7 +13,8 @@ use Rattle.vm_tree_read.proofs.from_vm_guard.{Amid.amid-alone, Reading.reading-k
 use Rattle.vm_tree_read.specs.from_vm_tree_rule.{Leaves.LeavesWord, Seeks.HasRead, Standing.Awaits}
 use Rattle.vm_tree_read.specs.Waiting.{LosesNone}
 use Rattle.vm_tree_read.proofs.Losing.{loses-same}
-use Rattle.vm_tree_split.specs.{Prepares.KnowsToSplit, Splits.KeepsLocksOnly}
+use Rattle.vm_tree_draft.specs.Splits.{KeepsLocksOnly}
+use Rattle.vm_tree_split.specs.Prepares.{KnowsToSplit}
 use Rattle.vm_tree_split.proofs.{Refusing.sees-keeps, Seeing.OnlySees, Under.awaits-more, Under.use-more}
 
 module _ {X : Type 0} (v w : View X) (s : OnlySees v w) where

@@ -21,7 +21,8 @@ use Rattle.vm_tree_model.specs.Layout.{IsLayout, Layout}
 use Rattle.vm_tree_laws.specs.Tied.{Tied}
 use Rattle.vm_tree_read.specs.from_vm_tree_rule.{Leaves.ReadsOn, Resident.IsKnownNow, Standing.Awaits}
 use Rattle.vm_tree_split.specs.Prepares.{AreLocked, IsInUseAt, KnowsBoth, KnowsToSplit, SaysWorn}
-use Rattle.vm_tree_split.proofs.{Ends.meta-not, Splitting.node-not, Under.locked-in-use, Under.use-more}
+use Rattle.vm_tree_draft.proofs.Splitting.{node-not}
+use Rattle.vm_tree_split.proofs.{Ends.meta-not, Under.locked-in-use, Under.use-more}
 
 abbrev pub denied : Deny → Result ExclusiveGuard Deny
 denied deny = Err deny

@@ -19,14 +19,16 @@ use Rattle.vm_tree_read.specs.from_vm_tree_rule.declared_turn_Turn_TheVariants a
 use Rattle.vm_tree_read.specs.from_vm_tree_rule.Seeks.{IsFullBelow, IsRoomy, IsRootFull}
 use Rattle.vm_tree_read.proofs.from_vm_tree_rule.Entering.{opened-reads}
 use Rattle.vm_tree_read.proofs.from_vm_tree_rule.Readings.{denied-reads, reads-then, valid-reads}
-use Rattle.vm_tree_split.specs.{declared.tries.TrySplit.TrySplit, Splits.KeepsLocksOnly, Tries.IsEnded.below, Tries.IsEnded.root}
+use Rattle.vm_tree_draft.specs.Splits.{KeepsLocksOnly}
+use Rattle.vm_tree_split.specs.{declared.tries.TrySplit.TrySplit, Tries.IsEnded.below, Tries.IsEnded.root}
 use Rattle.vm_tree_split.specs.declared.tries.TrySplit.TheVariants as tries
 use Rattle.vm_tree_split.specs.Prepares.{IsNotLocked, IsRefusedPages, IsShort, IsUntaken, SaysDenied, SaysRefused, SaysShort}
 use Rattle.vm_tree_split.specs.Prepares.IsUntaken.{short, unclaimed, unlocked}
 use Rattle.vm_tree_split.specs.Tries.{IsBackedBy, IsCause, IsEnded, IsEndOf, IsTrySplit, IsUnsplit}
 use Rattle.vm_tree_split.specs.Tries.IsUnsplit.{full, untaken}
 use Rattle.vm_tree_split.proofs.Backing.{backed-lock, backed-pages, backed-short, backed-shown, shown-refused, shown-wider}
-use Rattle.vm_tree_split.proofs.{Framing.keeps-then, Numbering.worn-kept, Roomy.roomy-keeps, Roomy.roomy-leaves}
+use Rattle.vm_tree_draft.proofs.{Framing.keeps-then, Numbering.worn-kept}
+use Rattle.vm_tree_split.proofs.Roomy.{roomy-keeps, roomy-leaves}
 use Rattle.vm_tree_split.proofs.{Seeing.OnlySees, Seeing.sees-room}
 
 module _ {X : Type 0} where

@@ -19,7 +19,7 @@ use Rattle.vm_tree_read.specs.from_vm_tree_rule.{Seeks.HasRead, Standing.Awaits,
 use Rattle.vm_tree_read.proofs.from_vm_tree_rule.{Downward.inner-here, Readings.each-behind}
 use Rattle.vm_tree_read.proofs.Answering.{words-are}
 use Rattle.vm_tree_split.specs.Prepares.{IsInUseAt}
-use Rattle.vm_tree_split.specs.Splits.{HasDraft, IsGroupDone}
+use Rattle.vm_tree_draft.specs.Splits.{HasDraft, IsGroupDone}
 use Rattle.vm_tree_read.proofs.from_vm_guard.GuardSteps.{still-held}
 
 pub true-false : (b : Bool) → b ≡ true → b ≡ false → ⊥

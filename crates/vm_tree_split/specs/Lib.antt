@@ -1,8 +1,5 @@
-pub mod Drafts
-pub mod PageNumbers
 pub mod Prelude
 pub mod Prepares
-pub mod Splits
 pub mod Tries
 pub mod from_vm_evict
 pub mod from_vm_guard
@@ -11,3 +8,4 @@ pub mod from_vm_pool
 pub mod from_vm_step
 pub mod from_vm_tree_read
 pub mod from_vm_tree_rule
+pub mod from_vm_tree_draft

@@ -10,9 +10,11 @@ use Rattle.vm_tree_model.specs.Layout.{Layout}
 use Rattle.vm_tree_laws.specs.Tied.{Tied}
 use Rattle.vm_tree_read.specs.from_vm_tree_rule.{Leaves.ReadsOn, Shown.IsAgain, Shown.IsSeen, Turns.IsDamaged, Turns.IsNeeded}
 use Rattle.vm_tree_read.specs.from_vm_tree_rule.Seeks.{IsFullBelow, IsRoomy, IsRootFull}
-use Rattle.vm_tree_split.specs.{declared.tries.TrySplit.TrySplit, Splits.IsSplitUp, Splits.KeepsLocksOnly}
+use Rattle.vm_tree_draft.specs.Splits.{IsSplitUp, KeepsLocksOnly}
+use Rattle.vm_tree_split.specs.declared.tries.TrySplit.{TrySplit}
 use Rattle.vm_tree_split.specs.declared.tries.TrySplit.TheVariants as tries
-use Rattle.vm_tree_split.specs.{PageNumbers.GainsNone, Prepares.IsPrepared, Prepares.IsUntaken}
+use Rattle.vm_tree_draft.specs.PageNumbers.{GainsNone}
+use Rattle.vm_tree_split.specs.Prepares.{IsPrepared, IsUntaken}
 
 -- the steps from v to w show both words: of the state word of a page, of a bundle, of the next page or of a free-number word
 pub record IsBackedBy {X : Type 0} (v : View X) (saw : Saw) (w : View X) : Type 0 where

@@ -1,4 +1,4 @@
-//! Splits of full nodes: what a split takes before it writes, the pages that it writes, and the try that does both; and drafts of pages, which other writes make too.
+//! Splits of full nodes: what a split takes before it writes, and the try that takes it and writes.
 #![tactic(auto)]
 
 pub mod draft;
@@ -7,7 +7,6 @@ pub mod guard;
 pub mod kind;
 pub mod pool;
 pub mod prepare;
-pub mod split;
 pub mod step;
 pub mod tree_read;
 pub mod tree_rule;

@@ -6,7 +6,8 @@ ghost use Rattle.vm_step.specs.Prelude.{AreHeld, GoesOn, IsAlone, IsReadyOn, vie
 ghost use Rattle.vm_tree_read.specs.from_vm_exmap.Frames.{MovesFrames};
 ghost use Rattle.vm_tree_read.specs.from_vm_guard.{Denied.AgainOrWorn, Groups.guards_of, Guards.IsHolding, Guards.IsReading};
 ghost use Rattle.vm_tree_read.specs.Waiting.{LosesNone};
-ghost use Rattle.vm_tree_split.specs.{Splits.KeepsLocksOnly, Tries.IsFinalSplit, Tries.IsUnsplit};
+ghost use Rattle.vm_tree_draft.specs.Splits.{KeepsLocksOnly};
+ghost use Rattle.vm_tree_split.specs.Tries.{IsFinalSplit, IsUnsplit};
 ghost use Rattle.vm_tree_split.specs.Prepares.{AreLocked, AreTaken, GivesUpBoth, IsPrepared, IsUntaken, KnowsBoth, KnowsToSplit, LacksFrames};
 ghost use Rattle.vm_tree_split.specs.Prepares.{IsLockDenied, LacksSecond, SaysWorn};
 

@@ -4,11 +4,12 @@ ghost use Rattle.vm_rule.specs.Prelude.{HoldsNoPage};
 ghost use Rattle.vm_step.specs.Prelude.{AreHeld, GoesOn, IsReadyOn, view};
 ghost use Rattle.vm_tree_read.specs.from_vm_tree_rule.{Resident.KnowsResident, Seeks.IsFullBelow, Seeks.IsRootFull, Turns.IsTurnedBack};
 ghost use Rattle.vm_tree_read.specs.Waiting.{LosesNone};
-ghost use Rattle.vm_tree_split.specs.{Prepares.KnowsToSplit, Splits.KeepsLocksOnly};
+ghost use Rattle.vm_tree_draft.specs.Splits.{KeepsLocksOnly};
+ghost use Rattle.vm_tree_split.specs.Prepares.{KnowsToSplit};
 ghost use Rattle.vm_tree_split.specs.Tries.{IsEndOf, IsFinalSplit, IsTrySplit};
 
 use crate::prepare::{Prepared, prepare};
-use crate::split::{write_root, write_split};
+use vm_tree_draft::split::{write_root, write_split};
 use vm_block::Block;
 use vm_rule::words::{Pass, Words};
 use vm_step::Saw;

@@ -3,7 +3,7 @@ use Rattle.vm_rule.specs.Prelude.{AreApart, has}
 use Rattle.vm_tree_split.specs.from_vm_step.Prelude.{Origin, view}
 use Rattle.vm_tree_laws.specs.May.{MayMerge}
 use Rattle.vm_tree_split.proofs.from_vm_tree_rule.Whole.{tree-size}
-use Rattle.vm_tree_split.proofs.Splitting.{among-first}
+use Rattle.vm_tree_split.proofs.from_vm_tree_draft.Splitting.{among-first}
 use Rattle.vm_tree_join.specs.{Locks.GivesNumber, Merging.IsMerged, Merging.page_change}
 use Rattle.vm_tree_join.proofs.{Finishing.merge-made, Finishing.merge-resident, Tags.inner-of, Tags.leaf-of}
 use Rattle.vm_tree_join.proofs.Locking.{locks-but, locks-held, locks-pids, locks-words}

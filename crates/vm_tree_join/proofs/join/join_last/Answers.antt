@@ -8,8 +8,9 @@ use Rattle.vm_tree_split.specs.from_vm_step.Prelude.{Origin, view}
 use Rattle.vm_tree_split.proofs.from_vm_guard.Groups.{lacks}
 use Rattle.vm_tree_laws.specs.May.{MayCollapse}
 use Rattle.vm_tree_split.proofs.from_vm_tree_rule.{Readings.loads-behind, Whole.tree-size}
-use Rattle.vm_tree_split.specs.Splits.{HasDraft}
-use Rattle.vm_tree_split.proofs.{Ends.meta-not, Splitting.among-first, Splitting.among-later}
+use Rattle.vm_tree_split.specs.from_vm_tree_draft.Splits.{HasDraft}
+use Rattle.vm_tree_split.proofs.from_vm_tree_draft.Splitting.{among-first, among-later}
+use Rattle.vm_tree_split.proofs.Ends.{meta-not}
 use Rattle.vm_tree_join.specs.{Locks.GivesNumber, Merging.IsMerged, Merging.page_change}
 use Rattle.vm_tree_join.proofs.{Finishing.merge-made, Finishing.merge-resident, Giving.gives-all, Tags.inner-of, Tags.leaf-of}
 use Rattle.vm_tree_join.proofs.Locking.{draft-past, locks-but, locks-held, locks-past, locks-pids, locks-words, reads-past}

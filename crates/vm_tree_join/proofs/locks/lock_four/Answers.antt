@@ -4,7 +4,8 @@ use Rattle.vm_rule.specs.Prelude.{AreUnchanged, change_of, has}
 use Rattle.vm_tree_split.specs.from_vm_step.Prelude.{IsClaimed, view}
 use Rattle.vm_tree_split.specs.from_vm_guard.Guards.{IsHolding, IsReleased}
 use Rattle.vm_tree_split.proofs.from_vm_guard.{Groups.lacks, Reading.reading-elsewhere}
-use Rattle.vm_tree_split.proofs.{Refusing.denied-keeps, Settling.only-worn, Splitting.none-said}
+use Rattle.vm_tree_split.proofs.from_vm_tree_draft.Splitting.{none-said}
+use Rattle.vm_tree_split.proofs.{Refusing.denied-keeps, Settling.only-worn}
 use Rattle.vm_tree_join.proofs.Locking.{free-past, holding-kept}
 use Rattle.vm_tree_join.proofs.locks.lock_four.Goals as goal
 

@@ -5,8 +5,8 @@ use Rattle.vm_tree_split.specs.from_vm_guard.Guards.{IsHolding}
 use Rattle.vm_tree_split.proofs.from_vm_tree_rule.Whole.{tree-size, tree_place}
 use Rattle.vm_tree_join.proofs.merge.write_collapse.Goals as goal
 use Rattle.vm_tree_join.proofs.Collapsing.{collapse-all, collapse-done}
-use Rattle.vm_tree_split.proofs.Rooting.{drafts-four, four-apart, four-stay, two-held, two-pid, two-redrafts, two-set}
-use Rattle.vm_tree_split.proofs.Splitting.{draft-past, holding-past, redrafts-of, told-before}
+use Rattle.vm_tree_split.proofs.from_vm_tree_draft.Rooting.{drafts-four, four-apart, four-stay, two-held, two-pid, two-redrafts, two-set}
+use Rattle.vm_tree_split.proofs.from_vm_tree_draft.Splitting.{draft-past, holding-past, redrafts-of, told-before}
 
 pub set-requires-clause-holds : goal.set-requires-clause-holds
 set-requires-clause-holds g c = c.requires.can.held.0

@@ -2,7 +2,7 @@ use Rattle.std.proofs.Common.{◌∙◌, refl, replicate, sym}
 use Rattle.vm_tree_split.specs.from_vm_step.Prelude.{view}
 use Rattle.vm_tree_join.proofs.merge.write_merge.Goals as goal
 use Rattle.vm_tree_join.proofs.Merging.{merge-all, merge-done}
-use Rattle.vm_tree_split.proofs.Splitting.{draft-past, drafts-three, first-apart, holding-past, redrafts-of, three-stay, told-before}
+use Rattle.vm_tree_split.proofs.from_vm_tree_draft.Splitting.{draft-past, drafts-three, first-apart, holding-past, redrafts-of, three-stay, told-before}
 
 pub redraft-requires-clause-holds : goal.redraft-requires-clause-holds
 redraft-requires-clause-holds g c = c.requires.can.held.0

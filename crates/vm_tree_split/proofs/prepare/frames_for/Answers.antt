@@ -7,7 +7,7 @@ use Rattle.vm_tree_read.specs.from_vm_exmap.declared_interface_Alloc_TheVariants
 use Rattle.vm_tree_read.specs.Waiting.{LosesNone}
 use Rattle.vm_tree_read.proofs.Losing.{alloc-loses, loses-then, refused-alone}
 use Rattle.vm_tree_split.specs.{Prepares.IsShort.after_one, Prepares.IsShort.at_once, Prepares.LacksFrames, Prepares.LacksSecond}
-use Rattle.vm_tree_split.proofs.Framing.{alloc-keeps, alloc-more, keeps-then, more-then}
+use Rattle.vm_tree_draft.proofs.Framing.{alloc-keeps, alloc-more, keeps-then, more-then}
 use Rattle.vm_tree_split.proofs.prepare.frames_for.Goals as goal
 
 pub returns-in-Dry-clause-err : goal.returns-in-Dry-clause-err

@@ -7,7 +7,7 @@ use Rattle.vm_tree_read.proofs.from_vm_exmap.Handing.{held-on}
 use Rattle.vm_tree_read.specs.from_vm_guard.Guards.{IsReleased}
 use Rattle.vm_tree_read.proofs.Losing.{freed-loses, loses-same, loses-then}
 use Rattle.vm_tree_split.proofs.prepare.give_up.Goals as goal
-use Rattle.vm_tree_split.proofs.Splitting.{none-said}
+use Rattle.vm_tree_draft.proofs.Splitting.{none-said}
 
 pub release-requires-clause-owner : goal.release-requires-clause-owner
 release-requires-clause-owner g c =

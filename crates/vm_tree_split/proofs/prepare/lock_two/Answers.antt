@@ -5,7 +5,7 @@ use Rattle.vm_step.specs.Prelude.{view}
 use Rattle.vm_tree_read.specs.from_vm_guard.Guards.{IsReleased}
 use Rattle.vm_tree_read.proofs.from_vm_guard.Reading.{reading-elsewhere}
 use Rattle.vm_tree_split.proofs.prepare.lock_two.Goals as goal
-use Rattle.vm_tree_split.proofs.Splitting.{none-said}
+use Rattle.vm_tree_draft.proofs.Splitting.{none-said}
 use Rattle.vm_tree_split.proofs.Settling.{locked-alone, locked-word, only-worn}
 
 pub returns-in-Err-clause-err : goal.returns-in-Err-clause-err

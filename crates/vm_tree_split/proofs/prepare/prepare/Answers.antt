@@ -4,9 +4,10 @@ use Rattle.vm_step.specs.Prelude.{AreHeld, view}
 use Rattle.vm_tree_read.specs.from_vm_guard.Groups.{guards_of}
 use Rattle.vm_tree_read.specs.Waiting.{LosesNone}
 use Rattle.vm_tree_read.proofs.Losing.{loses-then}
-use Rattle.vm_tree_split.specs.{Prepares.AreTaken, Prepares.IsPrepared, Prepares.IsUntaken, Splits.KeepsLocksOnly, Tries.IsUnsplit}
+use Rattle.vm_tree_draft.specs.Splits.{KeepsLocksOnly}
+use Rattle.vm_tree_split.specs.{Prepares.AreTaken, Prepares.IsPrepared, Prepares.IsUntaken, Tries.IsUnsplit}
 use Rattle.vm_tree_split.specs.Tries.IsUnsplit.{full, untaken}
-use Rattle.vm_tree_split.proofs.Framing.{keeps-then}
+use Rattle.vm_tree_draft.proofs.Framing.{keeps-then}
 use Rattle.vm_tree_split.proofs.Roomy.{reading-loaded, roomy-held, roomy-keeps, roomy-loses, roomy-out, split-loaded}
 use Rattle.vm_tree_split.proofs.Seeing.{sees-few, sees-next, sees-room, sees-then}
 use Rattle.vm_tree_split.proofs.prepare.prepare.Goals as goal

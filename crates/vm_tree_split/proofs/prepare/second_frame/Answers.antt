@@ -5,7 +5,8 @@ use Rattle.vm_tree_read.specs.from_vm_exmap.declared_interface_Alloc_TheVariants
 use Rattle.vm_tree_read.specs.from_vm_exmap.Returns.{IsFreed}
 use Rattle.vm_tree_read.specs.Waiting.{LosesNone}
 use Rattle.vm_tree_read.proofs.Losing.{alloc-loses, freed-loses, loses-then}
-use Rattle.vm_tree_split.proofs.{Framing.alloc-beside, Framing.alloc-more, Losing.refused-loses}
+use Rattle.vm_tree_draft.proofs.Framing.{alloc-beside, alloc-more}
+use Rattle.vm_tree_split.proofs.Losing.{refused-loses}
 use Rattle.vm_tree_split.proofs.prepare.second_frame.Goals as goal
 
 pub returns-in-Batch-clause-moves : goal.returns-in-Batch-clause-moves

@@ -8,7 +8,7 @@ use Rattle.vm_tree_read.proofs.from_vm_guard.Searching.{given-of}
 use Rattle.vm_tree_read.proofs.Losing.{freed-loses, loses-same, loses-swap, loses-then}
 use Rattle.vm_tree_split.specs.Prepares.IsUntaken.{short, unclaimed, unlocked}
 use Rattle.vm_tree_split.proofs.{Losing.fresh-loses, Refusing.denied-keeps, Refusing.none-given, Refusing.says-denied, Under.reading-moved}
-use Rattle.vm_tree_split.proofs.Framing.{freed-keeps, fresh-beside, keeps-then}
+use Rattle.vm_tree_draft.proofs.Framing.{freed-keeps, fresh-beside, keeps-then}
 use Rattle.vm_tree_split.proofs.GivingUp.{locks-frames, locks-out, locks-start, none-ended, none-frames, none-kept, none-lost, none-out}
 use Rattle.vm_tree_split.proofs.prepare.take_all.Goals as goal
 use Rattle.vm_tree_split.proofs.Settling.{both-alone, both-moved, few-or-not, may-be-tried}

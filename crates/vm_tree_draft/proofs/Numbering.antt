@@ -8,7 +8,7 @@ use Rattle.vm_rule.specs.Prelude.{draft_of, has, last_of, StartsWith, without}
 use Rattle.vm_rule.specs.Releases.{freed_by, numbers_left}
 use Rattle.vm_step.specs.Prelude.{Did, IsWorn, KeepsNumbers, Origin, View}
 use Rattle.vm_tree_read.specs.from_vm_guard.Guards.{IsReleased}
-use Rattle.vm_tree_split.specs.PageNumbers.{GainsNone, GainsWorn, HasFoundLast}
+use Rattle.vm_tree_draft.specs.PageNumbers.{GainsNone, GainsWorn, HasFoundLast}
 
 -- ---- lists of numbers
 

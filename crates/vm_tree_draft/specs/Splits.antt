@@ -10,7 +10,7 @@ use Rattle.vm_step.specs.Prelude.{Did, HoldsPage, IsAlone, KeepsNumbers, KnowsAs
 use Rattle.vm_tree_read.specs.from_vm_guard.declared_exclusive_ExclusiveGuard.{ExclusiveGuard}
 use Rattle.vm_tree_read.specs.from_vm_guard.Groups.{AreReleased, GuardsHeld, pids_of}
 use Rattle.vm_tree_laws.specs.Plain.{ReleasesPlain}
-use Rattle.vm_tree_split.specs.{Drafts.IsDraftPlace, Drafts.KnowsSameStates, PageNumbers.GainsWorn}
+use Rattle.vm_tree_draft.specs.{Drafts.IsDraftPlace, Drafts.KnowsSameStates, PageNumbers.GainsWorn}
 
 -- the place is one at which the page of one of these guards is drafted
 abbrev pub IsDrafted : List ExclusiveGuard → WordPlace → Type 0

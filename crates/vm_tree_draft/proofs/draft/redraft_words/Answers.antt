@@ -3,11 +3,11 @@ use Rattle.vm_rule.specs.Prelude.{draft_of}
 use Rattle.vm_step.specs.Prelude.{view}
 use Rattle.vm_tree_read.specs.from_vm_guard.Guards.{IsSet}
 use Rattle.vm_tree_read.proofs.from_vm_tree_rule.Whole.{tree-size, tree_place}
-use Rattle.vm_tree_split.proofs.Drafting.{differs-more, differs-self, drafted-none, drafted-same, drafted-set}
-use Rattle.vm_tree_split.proofs.Drafting.{drafts-more, drafts-self, pages-more, pages-self, redrafted-self, set-more}
-use Rattle.vm_tree_split.proofs.draft.redraft_words.Goals.{else-word, then-word}
+use Rattle.vm_tree_draft.proofs.Drafting.{differs-more, differs-self, drafted-none, drafted-same, drafted-set}
+use Rattle.vm_tree_draft.proofs.Drafting.{drafts-more, drafts-self, pages-more, pages-self, redrafted-self, set-more}
+use Rattle.vm_tree_draft.proofs.draft.redraft_words.Goals.{else-word, then-word}
 use Rattle.vm_step.proofs.Going.{goes-then}
-use Rattle.vm_tree_split.proofs.draft.redraft_words.Goals as goal
+use Rattle.vm_tree_draft.proofs.draft.redraft_words.Goals as goal
 
 pub loop-i-init : goal.loop-i-init
 loop-i-init g c = record {

@@ -5,10 +5,10 @@ use Rattle.vm_tree_read.specs.from_vm_guard.Guards.{IsHolding}
 use Rattle.vm_tree_read.specs.from_vm_guard.Groups.{AreReleased, MayReleaseAll}
 use Rattle.vm_tree_laws.specs.Plain.{ReleasesPlain}
 use Rattle.vm_tree_read.proofs.from_vm_tree_rule.Whole.{tree-size, tree_place}
-use Rattle.vm_tree_split.proofs.Rooting.{four-all, four-apart, four-redrafted, four-released, four-stay, two-held}
-use Rattle.vm_tree_split.proofs.Rooting.{two-pid, two-redrafts, two-set}
-use Rattle.vm_tree_split.proofs.split.write_root.Goals as goal
-use Rattle.vm_tree_split.proofs.Splitting.{draft-past, holding-past, none-said, redrafts-of, told-before}
+use Rattle.vm_tree_draft.proofs.Rooting.{four-all, four-apart, four-redrafted, four-released, four-stay, two-held}
+use Rattle.vm_tree_draft.proofs.Rooting.{two-pid, two-redrafts, two-set}
+use Rattle.vm_tree_draft.proofs.split.write_root.Goals as goal
+use Rattle.vm_tree_draft.proofs.Splitting.{draft-past, holding-past, none-said, redrafts-of, told-before}
 
 pub set-requires-2-clause-holds : goal.set-requires-2-clause-holds
 set-requires-2-clause-holds g c = two-held c.args.meta c.set.new.self (view c.set.new.pass) c.set.ensures.guard c.set.ensures.holds

@@ -3,9 +3,9 @@ use Rattle.std.proofs.Common.{◌<◌, ◌∙◌, ◌≡◌, ap, arith, length, 
 use Rattle.vm_rule.specs.Prelude.{draft_of}
 use Rattle.vm_step.specs.Prelude.{Origin, view}
 use Rattle.vm_tree_read.proofs.from_vm_tree_rule.Whole.{tree-size}
-use Rattle.vm_tree_split.specs.Drafts.{DraftsIn, IsDraftedAmong, IsRedrafted}
-use Rattle.vm_tree_split.proofs.Drafting.{differs-then, drafted-whole, drafts-then, pages-then, redrafted-then}
-use Rattle.vm_tree_split.proofs.draft.redraft.Goals as goal
+use Rattle.vm_tree_draft.specs.Drafts.{DraftsIn, IsDraftedAmong, IsRedrafted}
+use Rattle.vm_tree_draft.proofs.Drafting.{differs-then, drafted-whole, drafts-then, pages-then, redrafted-then}
+use Rattle.vm_tree_draft.proofs.draft.redraft.Goals as goal
 
 pub redraft_words-requires-clause-places : goal.redraft_words-requires-clause-places
 redraft_words-requires-clause-places g c = (omega arith, omega (arith, g.K.Kind.is_layout.some_words))

@@ -17,13 +17,13 @@ use Rattle.vm_tree_read.specs.from_vm_guard.Groups.{AreReleased, MayReleaseAll, 
 use Rattle.vm_tree_read.proofs.from_vm_guard.Groups.{lacks}
 use Rattle.vm_tree_laws.specs.Plain.{ReleasesPlain}
 use Rattle.vm_tree_laws.proofs.Established.{may_split_root}
-use Rattle.vm_tree_split.specs.Drafts.{IsRedrafted}
-use Rattle.vm_tree_split.specs.Splits.{HasDraft, IsRootToSplit, IsSplitUp, MayUse, Stays}
-use Rattle.vm_tree_split.proofs.Drafting.{drafts-more, drafts-self, pages-more, pages-self, redrafted-self, set-more}
-use Rattle.vm_tree_split.proofs.Splitting.{among-first, among-later, draft-new, draft-past, each-used, group-done}
-use Rattle.vm_tree_split.proofs.Splitting.{node-clean, node-is, node-not, none-not, none-used, redrafted-holds}
-use Rattle.vm_tree_split.proofs.Splitting.{redrafted-stays, Redrafts, spare-full, stays-then, tag-not, told-before}
-use Rattle.vm_tree_split.proofs.Splitting.{use-then, words-claimed, zeros-free}
+use Rattle.vm_tree_draft.specs.Drafts.{IsRedrafted}
+use Rattle.vm_tree_draft.specs.Splits.{HasDraft, IsRootToSplit, IsSplitUp, MayUse, Stays}
+use Rattle.vm_tree_draft.proofs.Drafting.{drafts-more, drafts-self, pages-more, pages-self, redrafted-self, set-more}
+use Rattle.vm_tree_draft.proofs.Splitting.{among-first, among-later, draft-new, draft-past, each-used, group-done}
+use Rattle.vm_tree_draft.proofs.Splitting.{node-clean, node-is, node-not, none-not, none-used, redrafted-holds}
+use Rattle.vm_tree_draft.proofs.Splitting.{redrafted-stays, Redrafts, spare-full, stays-then, tag-not, told-before}
+use Rattle.vm_tree_draft.proofs.Splitting.{use-then, words-claimed, zeros-free}
 
 -- pages that are apart
 pub record AreFour (a b c d : ℕ) : Type 0 where

@@ -5,9 +5,9 @@ use Rattle.vm_step.specs.Prelude.{view}
 use Rattle.vm_tree_read.specs.from_vm_guard.Groups.{AreReleased, MayReleaseAll}
 use Rattle.vm_tree_laws.specs.Plain.{ReleasesPlain}
 use Rattle.vm_tree_read.proofs.from_vm_tree_rule.Whole.{tree-size}
-use Rattle.vm_tree_split.proofs.split.write_split.Goals as goal
-use Rattle.vm_tree_split.proofs.Splitting.{draft-past, first-apart, holding-past, none-said, redrafts-of, three-all}
-use Rattle.vm_tree_split.proofs.Splitting.{three-redrafted, three-released, three-stay, told-before}
+use Rattle.vm_tree_draft.proofs.split.write_split.Goals as goal
+use Rattle.vm_tree_draft.proofs.Splitting.{draft-past, first-apart, holding-past, none-said, redrafts-of, three-all}
+use Rattle.vm_tree_draft.proofs.Splitting.{three-redrafted, three-released, three-stay, told-before}
 
 pub unreachable-requires : goal.unreachable-requires
 unreachable-requires g c =

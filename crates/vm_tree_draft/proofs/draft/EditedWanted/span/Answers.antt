@@ -1,6 +1,6 @@
 -- Words stay where the edit leaves them.
 use Rattle.std.proofs.Common.{◌∙◌, ap, arith, List, slice_index, ℕ}
-use Rattle.vm_tree_split.proofs.draft.EditedWanted.span.Goals as goal
+use Rattle.vm_tree_draft.proofs.draft.EditedWanted.span.Goals as goal
 
 pub returns : goal.returns
 returns g c = record {

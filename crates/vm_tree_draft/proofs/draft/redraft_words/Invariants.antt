@@ -2,8 +2,8 @@ use Rattle.std.proofs.Common.{◌<◌, ◌≡◌, length, true}
 use Rattle.vm_rule.specs.Prelude.{draft_of}
 use Rattle.vm_step.specs.Prelude.{GoesOn, view}
 use Rattle.vm_tree_read.specs.from_vm_guard.Guards.{IsHolding}
-use Rattle.vm_tree_split.specs.Drafts.{DraftsIn, IsDraftedAmong, IsRedrafted, KnowsSameStates, SetsDiffering}
-use Rattle.vm_tree_split.proofs.draft.redraft_words.Given as goal
+use Rattle.vm_tree_draft.specs.Drafts.{DraftsIn, IsDraftedAmong, IsRedrafted, KnowsSameStates, SetsDiffering}
+use Rattle.vm_tree_draft.proofs.draft.redraft_words.Given as goal
 
 -- the draft is drafted from the first place on and before i, where blocks tell their words
 abbrev pub invariant-loop-i : goal.invariant-loop-i

@@ -1,7 +1,7 @@
 // A full node is split: the pages concerned are locked, written and released together.
 ghost use Rattle.std.specs.Prelude.{[], ◌+◌, ◌<◌, ◌^◌, ◌∷◌};
 ghost use Rattle.vm_step.specs.Prelude.{GoesOn, IsReadyOn, view};
-ghost use Rattle.vm_tree_split.specs.Splits.{CanSplit, CanSplitRoot, IsSplitUp};
+ghost use Rattle.vm_tree_draft.specs.Splits.{CanSplit, CanSplitRoot, IsSplitUp};
 
 use crate::draft::{Edited, Whole, redraft};
 use vm_block::Block;

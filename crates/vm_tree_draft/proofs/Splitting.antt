@@ -26,9 +26,9 @@ use Rattle.vm_tree_read.proofs.from_vm_guard.Groups.{lacks}
 use Rattle.vm_tree_laws.specs.Plain.{ReleasesPlain}
 use Rattle.vm_tree_laws.proofs.Established.{may_split}
 use Rattle.vm_tree_read.proofs.from_vm_tree_rule.Whole.{zero-at}
-use Rattle.vm_tree_split.specs.Drafts.{DraftsIn, IsDraftPlace, IsRedrafted, KnowsSameStates}
-use Rattle.vm_tree_split.specs.Splits.{AreToSplit, HasDraft, IsDrafted, IsGroupDone, IsSplitUp, MayUse, Stays}
-use Rattle.vm_tree_split.proofs.{Drafting.each-append, Framing.after-some, Numbering.freed-used}
+use Rattle.vm_tree_draft.specs.Drafts.{DraftsIn, IsDraftPlace, IsRedrafted, KnowsSameStates}
+use Rattle.vm_tree_draft.specs.Splits.{AreToSplit, HasDraft, IsDrafted, IsGroupDone, IsSplitUp, MayUse, Stays}
+use Rattle.vm_tree_draft.proofs.{Drafting.each-append, Framing.after-some, Numbering.freed-used}
 use Rattle.vm_tree_read.proofs.from_vm_guard.GuardSteps.{still-held}
 
 -- pages that are apart

@@ -13,7 +13,7 @@ use Rattle.vm_step.proofs.Alone.{set-else, still-alone}
 use Rattle.vm_step.proofs.Asides.{alone-self, alone-then, holds-then, numbers-self, numbers-then, reads-then}
 use Rattle.vm_tree_read.specs.from_vm_guard.{Guards.dirty_steps, Guards.IsSet, Sure.known_next}
 use Rattle.vm_tree_read.proofs.from_vm_guard.QuietSteps.{elsewhere-then, quiet-elsewhere, quiet-none}
-use Rattle.vm_tree_split.specs.Drafts.{DraftsIn, IsDraftedAmong, IsDraftPlace, IsRedrafted, KnowsSameStates, SetsDiffering}
+use Rattle.vm_tree_draft.specs.Drafts.{DraftsIn, IsDraftedAmong, IsDraftPlace, IsRedrafted, KnowsSameStates, SetsDiffering}
 
 -- steps that write elsewhere leave the word at this number
 follows-else : (start : Origin) (j : ℕ) (ds : List Did) (old new : List ℕ)

@@ -14,8 +14,8 @@ use Rattle.vm_tree_read.specs.from_vm_exmap.{declared_interface_Alloc.Alloc, Fra
 use Rattle.vm_tree_read.specs.from_vm_exmap.declared_interface_Alloc_TheVariants as allocs
 use Rattle.vm_tree_read.proofs.from_vm_exmap.FrameMoves.{moved-aside, moved-nothing, moved-then}
 use Rattle.vm_tree_read.proofs.from_vm_exmap.Handing.{apart-join, apart-not, each-has, each-join, each-of, held-rest, held-swap}
-use Rattle.vm_tree_split.specs.Splits.{KeepsLocksOnly}
-use Rattle.vm_tree_split.proofs.Numbering.{worn-kept, worn-then}
+use Rattle.vm_tree_draft.specs.Splits.{KeepsLocksOnly}
+use Rattle.vm_tree_draft.proofs.Numbering.{worn-kept, worn-then}
 
 -- a page that the pass did not hold is not locked
 pub unheld-not : {X : Type 0} (p : ℕ) (v : View X) → IsUnheld v p → IsLocking (seat_of v p) → ⊥
