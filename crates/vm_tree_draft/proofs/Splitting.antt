@@ -1,6 +1,6 @@
 -- Three pages that are held get their new drafts one after the other, and are released together.
 use Rattle.std.proofs.Common.{[], ⊎_elim, ◌++◌, ◌+◌, ◌<◌, ◌∙◌, ◌∷◌, ◌≡◌, ◌≢◌, ◌≤◌, ◌⊎◌, ap, append_assoc, arith, Bool}
-use Rattle.std.proofs.Common.{eqb, false, inl, inr, is_some, length, List, None, Option, option_map, refl, replicate}
+use Rattle.std.proofs.Common.{eqb, false, inl, inr, is_some, List, None, Option, option_map, refl, replicate}
 use Rattle.vm_page.specs.Pages.{all_zero}
 use Rattle.vm_tree_laws.proofs.Zeros.{node_words}
 use Rattle.std.proofs.lemmas.List.{length-replicate}
