@@ -5,7 +5,7 @@ use Rattle.vm_tree_read.specs.from_vm_exmap.declared_interface_Alloc_TheVariants
 use Rattle.vm_tree_read.specs.from_vm_exmap.Returns.{IsFreed}
 use Rattle.vm_tree_read.specs.Waiting.{LosesNone}
 use Rattle.vm_tree_read.proofs.Losing.{alloc-loses, freed-loses, loses-then}
-use Rattle.vm_tree_draft.proofs.Framing.{alloc-beside, alloc-more}
+use Rattle.vm_tree_draft.proofs.Framing.{alloc-beside, alloc-keeps, alloc-more, freed-keeps, keeps-then}
 use Rattle.vm_tree_split.proofs.Losing.{refused-loses}
 use Rattle.vm_tree_split.proofs.prepare.second_frame.Goals as goal
 
@@ -98,3 +98,22 @@ returns-in-Again-clause-lost_none g c =
 
 pub returns-in-Again-clause-sure : goal.returns-in-Again-clause-sure
 returns-in-Again-clause-sure g c alone = c.in-Again.ensures.sure alone
+
+pub returns-in-Batch-clause-keeps : goal.returns-in-Batch-clause-keeps
+returns-in-Batch-clause-keeps g c =
+    alloc-keeps c.args.iface.now.home c.args.iface.now.cap 1 c.args.iface.now.frames c.alloc.new.self.frames
+    (view c.args.pass.now) (view c.alloc.new.pass) (allocs.Batch c.in-Batch.more) c.in-Batch.ensures.answer
+
+pub returns-in-Dry-clause-keeps : goal.returns-in-Dry-clause-keeps
+returns-in-Dry-clause-keeps g c =
+    keeps-then (view c.args.pass.now) (view c.alloc.new.pass) (view c.free.new.pass)
+    (alloc-keeps c.args.iface.now.home c.args.iface.now.cap 1 c.args.iface.now.frames c.alloc.new.self.frames
+    (view c.args.pass.now) (view c.alloc.new.pass) allocs.Dry c.in-Dry.ensures.answer)
+    (freed-keeps _ _ _ _ _ _ c.free.ensures.freed)
+
+pub returns-in-Again-clause-keeps : goal.returns-in-Again-clause-keeps
+returns-in-Again-clause-keeps g c =
+    keeps-then (view c.args.pass.now) (view c.alloc.new.pass) (view c.free-in-Again.new.pass)
+    (alloc-keeps c.args.iface.now.home c.args.iface.now.cap 1 c.args.iface.now.frames c.alloc.new.self.frames
+    (view c.args.pass.now) (view c.alloc.new.pass) (allocs.Again c.in-Again.saw) c.in-Again.ensures.answer)
+    (freed-keeps _ _ _ _ _ _ c.free-in-Again.ensures.freed)
