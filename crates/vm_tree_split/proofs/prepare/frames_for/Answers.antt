@@ -134,3 +134,13 @@ returns-clause-sure g c alone =
     c.alloc.new.self.frames c.in-Batch.batch (view c.args.pass.now) (view c.alloc.new.pass)
     c.in-Batch.ensures.answer in
     c.second_frame.ensures.sure (still-alone (view c.args.pass.now) (view c.alloc.new.pass) m.moves.parts m.moves.alone.current alone)
+
+pub returns-in-Dry-clause-keeps : goal.returns-in-Dry-clause-keeps
+returns-in-Dry-clause-keeps g c =
+    alloc-keeps c.args.iface.now.home c.args.iface.now.cap c.args.n c.args.iface.now.frames c.alloc.new.self.frames
+    (view c.args.pass.now) (view c.alloc.new.pass) allocs.Dry c.in-Dry.ensures.answer
+
+pub returns-in-Again-clause-keeps : goal.returns-in-Again-clause-keeps
+returns-in-Again-clause-keeps g c =
+    alloc-keeps c.args.iface.now.home c.args.iface.now.cap c.args.n c.args.iface.now.frames c.alloc.new.self.frames
+    (view c.args.pass.now) (view c.alloc.new.pass) (allocs.Again c.in-Again.saw) c.in-Again.ensures.answer
