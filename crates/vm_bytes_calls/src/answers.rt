@@ -10,8 +10,8 @@ ghost use Rattle.vm_bytes_calls.specs.KeyAnswers.{answers_left, HasKeyRoom, Keep
 use std::alloc::{AllocError, Global};
 use vm_bytes_laws::call::{KeyCall, KeyReply};
 use vm_bytes_node::window::KeyWindow;
-use vm_map::call::Swap;
 use vm_calls::tree_rule::TreeFault;
+use vm_map::call::Swap;
 
 /// An answer without the window that it may show.
 #[derive(Drop)]

@@ -15,13 +15,13 @@ use std::sync::Wait;
 use vm_block::PageBlock;
 use vm_bytes_laws::call::{KeyCall, KeyReply};
 use vm_bytes_tree::{BytesTree, del, get, put, swap, window};
+use vm_calls::exmap::Interface;
 use vm_calls::gate::Gate;
+use vm_calls::pool::Pool;
+use vm_calls::tree_rule::TreeFault;
 use vm_calls::worker::Worker;
 use vm_map::call::Reply;
 use vm_rule::words::Pass;
-use vm_calls::exmap::Interface;
-use vm_calls::pool::Pool;
-use vm_calls::tree_rule::TreeFault;
 
 /// A worker on a tree with byte keys, which needs no memory beside that of its answers.
 pub type KeyWorker = Worker<BytesTree, KeyReplies, ()>;

@@ -8,11 +8,11 @@ ghost use Rattle.vm_bytes_serve.specs.from_vm_tree_rule.declared_fault_TreeFault
 ghost use Rattle.vm_bytes_replies.specs.KeyLines.{AreAnswered, fault_line, key_lines, key_worker_lines};
 
 use std::alloc::{AllocError, Global};
-use vm_bytes_serve::{KeyReplies, KeyShort};
 use vm_bytes_laws::call::{KeyCall, KeyReply};
 use vm_bytes_node::window::KeyWindow;
 use vm_bytes_script::text::{key_said_text, key_shown_text};
 use vm_bytes_serve::tree_rule::TreeFault;
+use vm_bytes_serve::{KeyReplies, KeyShort};
 use vm_script::text::{Line, reply_text};
 
 /// Why a call had no reply, as it is told.

@@ -17,12 +17,12 @@ ghost use Rattle.vm_tree_del.specs.Dels.{IsPlainDel};
 use vm_block::Block;
 use vm_map::call::Reply;
 use vm_rule::words::{Pass, Words};
+use vm_tree_write::TryWrite;
 use vm_tree_write::guard::{Deny, OptGuard};
 use vm_tree_write::kind::{Edits, Kind, TreeOf};
+use vm_tree_write::leaf::write_leaf;
 use vm_tree_write::tree_read::{answer, find_in_place, leaf_at, read_leaf};
 use vm_tree_write::tree_rule::Turn;
-use vm_tree_write::TryWrite;
-use vm_tree_write::leaf::write_leaf;
 use vm_tree_write::write::Tried;
 
 /// Why there is no answer yet.

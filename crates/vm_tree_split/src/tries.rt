@@ -9,10 +9,10 @@ ghost use Rattle.vm_tree_split.specs.Prepares.{KnowsToSplit};
 ghost use Rattle.vm_tree_split.specs.Tries.{IsEndOf, IsFinalSplit, IsTrySplit};
 
 use crate::prepare::{Prepared, prepare};
-use vm_tree_draft::split::{write_root, write_split};
 use vm_block::Block;
 use vm_rule::words::{Pass, Words};
 use vm_step::Saw;
+use vm_tree_draft::split::{write_root, write_split};
 use vm_tree_read::exmap::Interface;
 use vm_tree_read::guard::OptGuard;
 use vm_tree_read::kind::{Edits, TreeOf};
