@@ -153,9 +153,9 @@ module _ (shown : Shown) (a b : Outside) (left : Remains) where
   read_events : (name : List ℕ) (stop : Stop) → Passes (over shown a) (events name)
       → Fails (over shown b) left (events name) stop → status_of stop ≡ 2
   read_events name (Unread unread) p f = refl
-  read_events name (Long lines) p f = let b = both_of shown name _ _ p f.1 in absurd (omega (arith, b.1.2.short, b.2))
+  read_events name (Long lines) p f = let b = both_of shown name _ _ p f.1 in absurd (omega (arith, b.1.3.short, b.2))
   read_events name (Line lines n) p f =
-      let b = both_of shown name _ _ p f.1 in absurd (not_both_events b.0 b.1.0 b.1.1 n b.1.2.spells b.2.first)
+      let b = both_of shown name _ _ p f.1 in absurd (not_both_events b.0 b.1.0 b.1.1 b.1.2 n b.1.3.spells b.2.first)
   read_events name _ p f = absurd f
 
   read_stored : (name : List ℕ) (stop : Stop) → HoldSame a b → Passes (over shown a) (stored name)

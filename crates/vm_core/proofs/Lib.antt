@@ -1,3 +1,6 @@
+pub mod Groups
+pub mod Heads
+pub mod Over
 pub mod CorePages
 pub mod CoreFrames
 pub mod Owned
@@ -7,4 +10,3 @@ pub mod Cleaning
 pub mod Fits
 pub mod Starting
 pub mod Numbers
-pub mod Leaving

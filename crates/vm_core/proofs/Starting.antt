@@ -7,19 +7,22 @@ use Rattle.std.proofs.lemmas.List.{get_or-replicate, get_or_default, length-map,
 use Rattle.std.proofs.lemmas.Nat.Bits.{bit_at-zero}
 use Rattle.std.proofs.Math.ListN.{get_or-eq_default}
 use mathlib.Core.Path.{fun_ext}
-use Rattle.vm_event.specs.Prelude.{at, core_block, core_start, EVICTED, evicted_page, full_bundle}
+use Rattle.vm_event.specs.Prelude.{at, core_block, core_start, EVICTED, evicted_page, full_bundle, GroupsFit}
 use Rattle.vm_core.specs.Prelude.{core_of}
-use Rattle.vm_event.specs.Prelude.{has_free_bit, LocksInv, MAX_VERSION, no_seat, outside_page}
-use Rattle.vm_core.specs.Prelude.{held_of, page_of}
+use Rattle.vm_event.specs.Prelude.{has_free_bit, head_in, LocksInv, MAX_VERSION, no_seat, outside_page}
+use Rattle.vm_core.specs.Prelude.{head_of, held_of, page_of}
 use Rattle.vm_event.specs.Prelude.{start, sum_below}
-use Rattle.vm_core.specs.Prelude.{PageData, pages_of, StartBundles, StartPages, words_of_frames}
+use Rattle.vm_core.specs.Prelude.{PageData, pages_of, StartBundles, StartHeads, StartPages, words_of_frames}
+use Rattle.vm_core.specs.{CoreOf.HeadsFit}
 use Rattle.vm_event.specs.declared.event.CoreShape.{CoreShape}
 use Rattle.vm_event.proofs.At.{at-get}
-use Rattle.vm_core.proofs.CorePages.{page-here}
+use Rattle.vm_core.proofs.{CorePages.page-here, Groups.head-of}
 
 -- the lists of the start
-pub record StartLists (shape : CoreShape) (pages : List PageData) (frames : List (List ℕ)) (bundles : List ℕ)
-    (held : List (List ℕ)) (owners : List ℕ) (spares : List ℕ) (numbers : List (List ℕ)) : Type 0 where
+pub record StartLists (shape : CoreShape) (groups : List (ℕ × ℕ)) (heads : List ℕ) (pages : List PageData)
+    (frames : List (List ℕ)) (bundles : List ℕ) (held : List (List ℕ)) (owners : List ℕ) (spares : List ℕ)
+    (numbers : List (List ℕ)) : Type 0 where
+  pub heads_are : StartHeads shape.pages groups heads
   pub pages_are : StartPages shape shape.pages pages
   pub frames_are : frames ≡ replicate shape.frames (replicate 64 0)
   pub bundles_are : StartBundles shape.frames ((shape.frames + 63) / 64) bundles
@@ -106,10 +109,22 @@ start-held actors n =
     ∙ none-free 0 f)
     (cases_lt a actors)))
 
-pub start-is : (shape : CoreShape) (pages : List PageData) (frames : List (List ℕ)) (bundles : List ℕ)
-    (held : List (List ℕ)) (owners : List ℕ) (spares : List ℕ) (numbers : List (List ℕ)) → shape.next ≤ shape.pages
-    → StartLists shape pages frames bundles held owners spares numbers → core_of (record {
+-- the heads that groups give are near their pages
+pub heads-fit : (pages : ℕ) (groups : List (ℕ × ℕ)) (heads : List ℕ) → GroupsFit pages groups
+    → StartHeads pages groups heads → HeadsFit pages heads
+heads-fit pages groups heads fit i =
+    record {
+      len = i.len;
+      behind = λ p. subst (λ h. h ≤ p) (sym (i.each p)) (head-of pages groups p fit).behind;
+      near = λ p. subst (λ h. p < h + 8) (sym (i.each p)) (head-of pages groups p fit).near;
+    }
+
+pub start-is : (shape : CoreShape) (groups : List (ℕ × ℕ)) (heads : List ℕ) (pages : List PageData)
+    (frames : List (List ℕ)) (bundles : List ℕ) (held : List (List ℕ)) (owners : List ℕ) (spares : List ℕ)
+    (numbers : List (List ℕ)) → shape.next ≤ shape.pages
+    → StartLists shape groups heads pages frames bundles held owners spares numbers → core_of (record {
       shape = shape;
+      heads = heads;
       pages = pages;
       frames = frames;
       bundles = bundles;
@@ -119,8 +134,9 @@ pub start-is : (shape : CoreShape) (pages : List PageData) (frames : List (List 
       owners = owners;
       spares = spares;
       numbers = numbers;
-    }) ≡ start (core_start shape)
-start-is shape pages frames bundles held owners spares numbers le i =
+    }) ≡ start (core_start shape groups)
+start-is shape groups heads pages frames bundles held owners spares numbers le i =
+    let gs : head_of heads ≡ head_in groups = fun_ext i.heads_are.each in
     let ps : pages_of pages ≡ (λ p. evicted_page 0 (core_block shape.next p) 0) = start-pages shape pages le i.pages_are in
     let ws : words_of_frames frames ≡ (λ f. replicate 64 0) = ap words_of_frames i.frames_are
     ∙ fun_ext (λ f. all-same shape.frames f (replicate 64 0)) in
@@ -133,6 +149,7 @@ start-is shape pages frames bundles held owners spares numbers le i =
       shape = shape;
       size = 64;
       tells = true;
+      head = gs k;
       pages = ps k;
       words = ws k;
       bundles = bs k;

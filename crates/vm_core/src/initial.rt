@@ -1,8 +1,10 @@
 //! The lists of a machine at the start.
 
-ghost use Rattle.std.specs.Prelude.{◌*◌, ◌+◌, ◌-◌, ◌/◌, ◌<◌, ◌≡◌, IfOk, replicate};
-ghost use Rattle.vm_event.specs.Prelude.{core_block, full_bundle};
-ghost use Rattle.vm_core.specs.Prelude.{StartBundles, StartPages};
+ghost use Rattle.std.specs.Prelude.{[], ◌*◌, ◌+◌, ◌-◌, ◌/◌, ◌<◌, ◌≡◌, ◌≤◌, if◌then◌else◌, IfOk, length, replicate, ℕ};
+ghost use Rattle.vm_event.specs.Prelude.{core_block, full_bundle, GroupsFit, head_in};
+ghost use Rattle.vm_core.specs.Prelude.{head_of, StartBundles, StartHeads, StartPages};
+ghost use Rattle.vm_core.specs.CoreOf.{HeadsFit};
+ghost use Rattle.vm_event.specs.Groups.{in_group};
 
 use crate::frames::FrameSet;
 use crate::page::PageCell;
@@ -42,6 +44,42 @@ pub fn bundle_count(frames: u32) -> u32
     ensures { result ≡ (frames + (FRAMES - 1)) / FRAMES }
 {
     frames.div_ceil(FRAMES as u32)
+}
+
+/// Each page as its own head.
+fn own_heads(alloc: Global, pages: u32) -> Result<Vec<u32>, AllocError>
+    ensures { IfOk result (λ v. StartHeads pages [] v.items) }
+{
+    let mut heads = Vec::new(alloc);
+    for p in 0..pages {
+        heads.push(p)?;
+    }
+    Ok(heads)
+}
+
+/// The pages of a group get their head.
+fn set_head(heads: &mut [u32], group: (u32, u32))
+    requires { group.0 + group.1 ≤ length heads.old }
+    ensures { (p : ℕ) → head_of heads.new p ≡ (if in_group group p then group.0 else head_of heads.old p) }
+{
+    let (head, size) = group;
+    let first = head as usize;
+    for p in first..first + size as usize {
+        heads[p] = head;
+    }
+}
+
+/// The head of each page at the start: the first page of its group, or the page itself.
+pub fn start_heads(alloc: Global, pages: u32, groups: &[(u32, u32)]) -> Result<Vec<u32>, AllocError>
+    requires { GroupsFit pages groups.now }
+    ensures heads { IfOk result (λ v. StartHeads pages groups.now v.items) }
+    ensures fit { IfOk result (λ v. HeadsFit pages v.items) }
+{
+    let mut heads = own_heads(alloc, pages)?;
+    for i in (0..groups.len()).rev() {
+        set_head(&mut heads, groups[i]);
+    }
+    Ok(heads)
 }
 
 /// The pages at the start.

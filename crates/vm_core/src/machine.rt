@@ -1,22 +1,26 @@
 //! The machine: a pool's pages, frames, bundle words and counters as plain values, and one step.
 //!
-//! It is the rule book of the running pool: which events may happen in a state, the state that each leads to, and what it sees. The events
-//! on frames, bundles, counters and owner words stand in the child modules, those on one page in `page`.
+//! It is the rule book of the running pool: which events may happen in a state, the state that each leads to, and what it
+//! sees. The events on state words, frames, bundles, counters and owner words stand in the child modules, the acts on one
+//! page in `page`.
 
-ghost use Rattle.std.specs.Prelude.{◌<◌, ◌↔◌, ◌≡◌, ◌≤◌, IfOk, IsTrue, slice_index};
-ghost use Rattle.vm_event.specs.Prelude.{core_start, NamesActorAndPage, start};
+ghost use Rattle.std.specs.Prelude.{◌<◌, ◌↔◌, ◌≡◌, ◌≤◌, IfOk, IsTrue, slice_index, true};
+ghost use Rattle.vm_event.specs.Prelude.{core_start, GroupsFit, NamesActorAndPage, start};
 ghost use Rattle.vm_core.specs.Prelude.{core_of, CoreData, CoreFits, Steps};
 ghost use Rattle.vm_core.specs.CoreOf.{ActSteps};
+ghost use Rattle.vm_event.specs.PageStep.{page_seen, PageLegal};
+ghost use Rattle.vm_event.specs.Step.{acted, MayAct};
 
 mod bundles;
 mod counters;
 mod frames;
+mod heads;
 mod numbers;
 mod owners;
 
 use crate::frames::FrameSet;
 use crate::initial::{
-    bundle_count, start_bundles, start_frames, start_held, start_pages, start_words,
+    bundle_count, start_bundles, start_frames, start_heads, start_held, start_pages, start_words,
 };
 use crate::page::PageCell;
 use std::alloc::Global;
@@ -24,12 +28,13 @@ use std::marker::Model;
 use vm_event::{CoreShape, Event, Illegal, PageAct, Seen};
 use vm_page::{Memory, WORDS};
 
-/// The machine. For contracts it is the state `core_of core` of `specs/State.antt`: its shape, its pages, the words of its frames, its bundle
-/// words, the frames that each actor holds, the next word, the hand, the owner words, the free-number words and the page numbers
-/// that each actor holds.
+/// The machine. For contracts it is the state `core_of core` of `specs/State.antt`: its shape, the heads of its pages, its
+/// pages, the words of its frames, its bundle words, the frames that each actor holds, the next word, the hand, the owner
+/// words, the free-number words and the page numbers that each actor holds.
 #[derive(Drop)]
 pub struct Core {
     shape: CoreShape,
+    heads: Vec<u32>,
     pages: Vec<PageCell>,
     frames: Vec<[u64; WORDS]>,
     bundles: Vec<u64>,
@@ -46,6 +51,7 @@ impl Model for Core {
 
     ghost view = { λ c. record {
       shape = c.shape;
+      heads = c.heads.items;
       pages = c.pages.items;
       frames = c.frames.items;
       bundles = c.bundles.items;
@@ -60,6 +66,7 @@ impl Model for Core {
     ghost invariant = { λ c.
         CoreFits (record {
           shape = c.shape;
+          heads = c.heads.items;
           pages = c.pages.items;
           frames = c.frames.items;
           bundles = c.bundles.items;
@@ -73,13 +80,16 @@ impl Model for Core {
 }
 
 impl Core {
-    /// The machine at the start: every page is evicted at version 0 with no fault, every frame is free, zero and no page's, nobody holds
-    /// anything, and the hand is 0. Block `p` holds the words `64 * p + i` for pages below `shape.next`, and zeros from there on.
-    pub fn new(alloc: Global, shape: CoreShape) -> Result<Self, Memory>
-        requires { shape.next ≤ shape.pages }
-        ensures { IfOk result (λ c. core_of c ≡ start (core_start shape)) }
+    /// The machine at the start: every page is evicted at version 0 with no fault, every frame is free, zero and no
+    /// page's, nobody holds anything, and the hand is 0. Block `p` holds the words `64 * p + i` for pages below
+    /// `shape.next`, and zeros from there on. Each of `groups` is its first page and its number of pages.
+    pub fn new(alloc: Global, shape: CoreShape, groups: &[(u32, u32)]) -> Result<Self, Memory>
+        requires next { shape.next ≤ shape.pages }
+        requires groups { GroupsFit shape.pages groups.now }
+        ensures { IfOk result (λ c. core_of c ≡ start (core_start shape groups.now)) }
     {
         let count = bundle_count(shape.frames);
+        let heads = start_heads(alloc, shape.pages, groups)?;
         let pages = start_pages(alloc, shape)?;
         let frames = start_frames(alloc, shape.frames)?;
         let bundles = start_bundles(alloc, shape.frames, count)?;
@@ -90,6 +100,7 @@ impl Core {
         let numbers = start_held(alloc, shape.actors, words)?;
         Ok(Core {
             shape,
+            heads,
             pages,
             frames,
             bundles,
@@ -124,16 +135,16 @@ impl Core {
         ensures { Steps self.old event result self.new }
     {
         match event {
-            Event::Look { a, p } => self.on_page(a, p, PageAct::Look),
-            Event::LockX { a, p, expects } => self.on_page(a, p, PageAct::LockX(expects)),
-            Event::LockS { a, p, expects } => self.on_page(a, p, PageAct::LockS(expects)),
-            Event::UnlockS { a, p } => self.on_page(a, p, PageAct::UnlockS),
-            Event::Mark { a, p, expects } => self.on_page(a, p, PageAct::Mark(expects)),
-            Event::Unmark { a, p, expects } => self.on_page(a, p, PageAct::Unmark(expects)),
-            Event::LockW { a, p, expects } => self.on_page(a, p, PageAct::LockW(expects)),
-            Event::Upgrade { a, p, expects } => self.on_page(a, p, PageAct::Upgrade(expects)),
+            Event::Look { a, p } => self.on_head(a, p, PageAct::Look),
+            Event::LockX { a, p, expects } => self.on_head(a, p, PageAct::LockX(expects)),
+            Event::LockS { a, p, expects } => self.on_head(a, p, PageAct::LockS(expects)),
+            Event::UnlockS { a, p } => self.on_head(a, p, PageAct::UnlockS),
+            Event::Mark { a, p, expects } => self.on_head(a, p, PageAct::Mark(expects)),
+            Event::Unmark { a, p, expects } => self.on_head(a, p, PageAct::Unmark(expects)),
+            Event::LockW { a, p, expects } => self.on_head(a, p, PageAct::LockW(expects)),
+            Event::Upgrade { a, p, expects } => self.on_head(a, p, PageAct::Upgrade(expects)),
             Event::Release { a, p } => self.leave(a, p, PageAct::Release),
-            Event::ReleaseE { a, p } => self.on_page(a, p, PageAct::ReleaseE),
+            Event::ReleaseE { a, p } => self.on_head(a, p, PageAct::ReleaseE),
             Event::Downgrade { a, p } => self.leave(a, p, PageAct::Downgrade),
             Event::TLoad { a, p } => self.on_page(a, p, PageAct::TLoad),
             Event::Install { a, p, f } => self.install(a, p, f),
@@ -179,14 +190,31 @@ impl Core {
         a < self.shape.actors && p < self.shape.pages
     }
 
+    /// Whether the act of the actor may happen at the page.
+    fn may_at(&self, a: u32, p: u32, act: PageAct) -> bool
+        requires { NamesActorAndPage (core_of self.now) a p }
+        ensures { IsTrue result ↔ PageLegal true (core_of self.now).words ((core_of self.now).pages p) a act }
+    {
+        self.pages[p as usize].may(a as usize, act, &self.frames)
+    }
+
+    /// The act of the actor happens at the page.
+    fn act_at(&mut self, a: u32, p: u32, act: PageAct) -> Seen
+        requires { MayAct (core_of self.old) a p act }
+        ensures next { core_of self.new ≡ acted (core_of self.old) a p act }
+        ensures sight { result ≡ page_seen ((core_of self.old).pages p) a act }
+    {
+        let page = &mut self.pages[p as usize];
+        page.act(a as usize, act, &self.frames)
+    }
+
     /// An event on one page alone.
     fn on_page(&mut self, a: u32, p: u32, act: PageAct) -> Result<Seen, Illegal>
         ensures { ActSteps self.old a p act result self.new }
     {
-        if !self.names(a, p) {
+        if !self.names(a, p) || !self.may_at(a, p, act) {
             return Err(Illegal);
         }
-        let page = &mut self.pages[p as usize];
-        page.act(a as usize, act, &self.frames)
+        Ok(self.act_at(a, p, act))
     }
 }

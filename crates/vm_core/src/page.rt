@@ -1,11 +1,14 @@
 //! One page of the machine: its words, its block, and what each actor has of it.
 //!
-//! The events on it stand in the child modules: the exclusive lock, shares and write-back, optimistic reads, the frame under the page, its
-//! device. Each is tried (`try_..`): first whether it may happen, then the change.
+//! The acts on it stand in the child modules: the exclusive lock, shares and write-back, optimistic reads, the frame
+//! under the page, its device. Whether an act may happen is told apart from the act, since that on a state word happens
+//! at all pages under it or at none.
 
-ghost use Rattle.std.specs.Prelude.{◌<◌, ◌≡◌, IfOk, length, None, slice_index};
-ghost use Rattle.vm_event.specs.Prelude.{at, core_block, evicted_page, finds, LocksInv, no_seat, page_word, trans_word};
-ghost use Rattle.vm_core.specs.Prelude.{page_of, PageData, PageSteps};
+ghost use Rattle.std.specs.Prelude.{◌<◌, ◌↔◌, ◌≡◌, IfOk, IsTrue, length, None, slice_index, true};
+ghost use Rattle.vm_event.specs.Prelude.{at, core_block, evicted_page, finds, LocksInv, no_seat, page_after, page_word};
+ghost use Rattle.vm_event.specs.Prelude.{trans_word};
+ghost use Rattle.vm_core.specs.Prelude.{page_of, PageData, words_of_frames};
+ghost use Rattle.vm_event.specs.PageStep.{page_seen, PageLegal};
 
 mod device;
 mod exclusive;
@@ -14,9 +17,11 @@ mod reads;
 mod shared;
 
 use crate::initial::core_block;
+use crate::page::exclusive::may_lock;
+use crate::page::shared::may_share;
 use std::alloc::{AllocError, Global};
 use std::marker::Model;
-use vm_event::{CoreShape, Illegal, Mapping, PageAct, Seat, Seen, StateWord, TransWord};
+use vm_event::{CoreShape, Mapping, PageAct, Seat, Seen, StateWord, TransWord};
 use vm_page::WORDS;
 
 /// One page: its state word in its two parts, its translation, its fault word, its block's count of faults and words, and a seat for each
@@ -73,41 +78,71 @@ impl PageCell {
         self.block[i as usize]
     }
 
-    /// An act of an actor on the page, beside the words of all frames: exactly as its row says, and unchanged where it is illegal.
-    pub fn act(&mut self, a: usize, act: PageAct, frames: &[[u64; WORDS]]) -> Result<Seen, Illegal>
-        requires { a < length self.old.seats }
-        ensures step { PageSteps frames.now self.old a act result self.new }
+    /// Whether an act of an actor may happen at the page, beside the words of all frames.
+    pub fn may(&self, a: usize, act: PageAct, frames: &[[u64; WORDS]]) -> bool
+        requires { a < length self.now.seats }
+        ensures { IsTrue result ↔ PageLegal true (words_of_frames frames.now) (page_of self.now) a act }
+    {
+        match act {
+            PageAct::Look => true,
+            PageAct::LockX(expects) => may_lock(expects),
+            PageAct::LockS(expects) => may_share(expects),
+            PageAct::UnlockS => self.may_unlock(a),
+            PageAct::Mark(expects) => StateWord::state(expects) == StateWord::UNLOCKED,
+            PageAct::Unmark(expects) => StateWord::state(expects) == StateWord::MARKED,
+            PageAct::LockW(expects) => StateWord::state(expects) == StateWord::MARKED,
+            PageAct::Upgrade(expects) => self.may_upgrade(a, expects),
+            PageAct::Release => self.may_release(a),
+            PageAct::ReleaseE => self.may_empty(a),
+            PageAct::Downgrade => self.may_release(a),
+            PageAct::TLoad => true,
+            PageAct::Dirty => self.may_dirty(a),
+            PageAct::Clean => self.may_clean(a, frames),
+            PageAct::Read => self.owns(a),
+            PageAct::RFail => self.owns(a),
+            PageAct::Write => self.may_write(a),
+            PageAct::WFail => self.may_write(a),
+            PageAct::Raise => self.may_call(a),
+        }
+    }
+
+    /// An act of an actor on the page, beside the words of all frames: exactly as its row says, and what it sees.
+    pub fn act(&mut self, a: usize, act: PageAct, frames: &[[u64; WORDS]]) -> Seen
+        requires seat { a < length self.old.seats }
+        requires may { PageLegal true (words_of_frames frames.now) (page_of self.old) a act }
+        ensures page { page_of self.new ≡ page_after (words_of_frames frames.now) (page_of self.old) a act }
+        ensures sight { result ≡ page_seen (page_of self.old) a act }
         ensures seats { length self.new.seats ≡ length self.old.seats }
     {
         match act {
-            PageAct::Look => {
-                let word = self.word();
-                let left = self.look(a);
-                Ok(Seen::Look { word, left })
-            }
-            PageAct::LockX(expects) => self.try_lock_exclusive(a, expects),
-            PageAct::LockS(expects) => self.try_lock_shared(a, expects),
-            PageAct::UnlockS => self.try_unlock(a),
-            PageAct::Mark(expects) => self.try_mark(a, expects),
-            PageAct::Unmark(expects) => self.try_unmark(a, expects),
-            PageAct::LockW(expects) => self.try_write_lock(a, expects),
-            PageAct::Upgrade(expects) => self.try_upgrade(a, expects),
-            PageAct::Release => self.try_release(a),
-            PageAct::ReleaseE => self.try_release_evicted(a),
-            PageAct::Downgrade => self.try_downgrade(a),
-            PageAct::TLoad => {
-                let word = trans_word(self.trans);
-                self.set_read_frame(a);
-                Ok(Seen::Word(word))
-            }
-            PageAct::Dirty => self.try_dirty(a),
-            PageAct::Clean => self.try_clean(a, frames),
-            PageAct::Read => self.try_read(a),
-            PageAct::RFail => self.try_read_fault(a),
-            PageAct::Write => self.try_write(a, frames),
-            PageAct::WFail => self.try_write_fault(a),
-            PageAct::Raise => self.try_raise(a),
+            PageAct::Look => self.look(a),
+            PageAct::LockX(expects) => self.exchange_lock(a, expects),
+            PageAct::LockS(expects) => self.exchange_share(a, expects),
+            PageAct::UnlockS => self.unlock(a),
+            PageAct::Mark(expects) => self.exchange_mark(expects),
+            PageAct::Unmark(expects) => self.exchange_unmark(expects),
+            PageAct::LockW(expects) => self.exchange_write_lock(a, expects),
+            PageAct::Upgrade(expects) => self.exchange_upgrade(a, expects),
+            PageAct::Release => self.release(a),
+            PageAct::ReleaseE => self.release_evicted(a),
+            PageAct::Downgrade => self.downgrade(a),
+            PageAct::TLoad => self.load_translation(a),
+            PageAct::Dirty => self.set_dirty(true),
+            PageAct::Clean => self.set_dirty(false),
+            PageAct::Read => Seen::Done,
+            PageAct::RFail => self.fail(),
+            PageAct::Write => self.write(frames),
+            PageAct::WFail => self.fail(),
+            PageAct::Raise => self.raise(),
         }
+    }
+
+    /// Whether the actor holds the page exclusively.
+    fn owns(&self, a: usize) -> bool
+        requires { a < length self.now.seats }
+        ensures { result ≡ ((page_of self.now).seats a).exclusive }
+    {
+        self.seats[a].exclusive
     }
 
     /// Whether the state word is the one that is expected.

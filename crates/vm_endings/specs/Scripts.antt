@@ -47,14 +47,15 @@ IsGoodKeyScript = IsGoodScriptIn key_grammar
 abbrev pub IsBadKeyScript : (workers n : ℕ) → List ℕ → Type 0
 IsBadKeyScript = IsBadScriptIn key_grammar
 
--- the bytes are an event list of this shape with these lines
-pub record AreEventsOf (shape : CoreShape) (lines : List EventLine) (bytes : List ℕ) : Type 0 where
+-- the bytes are an event list of this shape with these groups and lines
+pub record AreEventsOf (shape : CoreShape) (groups : List (ℕ × ℕ)) (lines : List EventLine) (bytes : List ℕ) : Type 0 where
   pub short : length bytes ≤ most_bytes
-  pub spells : SpellsEvents bytes shape lines
+  pub spells : SpellsEvents bytes shape groups lines
 
 -- the bytes are an event list
 abbrev pub AreGoodEvents : List ℕ → Type 0
-AreGoodEvents bytes = (shape : CoreShape) × (lines : List EventLine) × AreEventsOf shape lines bytes
+AreGoodEvents bytes =
+    (shape : CoreShape) × (groups : List (ℕ × ℕ)) × (lines : List EventLine) × AreEventsOf shape groups lines bytes
 
 -- so many bytes are an event list's most, and line n is the first refused, or one too many
 pub record AreBadEvents (n : ℕ) (bytes : List ℕ) : Type 0 where

@@ -1,9 +1,13 @@
 pub mod WordBits
 pub mod Upd
+pub mod Mirrors
 pub mod Locks
 pub mod PageFacts
 pub mod PageMoves
 pub mod Whole
+pub mod Alone
+pub mod Groups
+pub mod Heads
 pub mod OwnerWords
 pub mod At
 pub mod Spares

@@ -1,6 +1,8 @@
 -- The invariant does not speak of the free numbers.
 use Rattle.std.specs.Prelude.{Bool, ℕ}
+use Rattle.std.proofs.Common.{refl}
 use Rattle.vm_event.specs.Prelude.{Inv, World}
+use Rattle.vm_event.proofs.Whole.{heads-beside, owners-beside}
 
 pub inv-beside : (w : World) (spares : ℕ → ℕ) (numbers : ℕ → ℕ → Bool) → Inv w → Inv (record w {
   core = record w.core { spares = spares; numbers = numbers };
@@ -12,5 +14,6 @@ inv-beside w spares numbers i =
       words = i.words;
       next = i.next;
       pages = i.pages;
-      owners = record { named = i.owners.named; owned = i.owners.owned };
+      owners = owners-beside w.core _ refl refl refl i.owners;
+      heads = heads-beside w.core _ refl refl i.heads;
     }

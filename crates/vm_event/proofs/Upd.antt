@@ -1,8 +1,8 @@
--- Laws of a function with one place changed.
+-- Laws of a function with one place changed, or each place under a head.
 use Rattle.std.proofs.Common.{⊎_elim, ◌+◌, ◌<◌, ◌∙◌, ◌≡◌, ◌≢◌, ◌⊎◌, ap, arith, eqb, inl, inr, refl, subst, suc, sym, zero, ℕ}
 use Rattle.std.proofs.lemmas.Bool.{cases_eq, cond-false, cond-true, eq-eqb, ne_eqb}
 use mathlib.Core.Path.{fun_ext}
-use Rattle.vm_event.specs.Prelude.{sum_below, upd}
+use Rattle.vm_event.specs.Prelude.{sum_below, upd, upd_over}
 
 pub upd-same : {A : Type 0} (f : ℕ → A) (k : ℕ) (x : A) → upd f k x k ≡ x
 unfolding upd
@@ -74,3 +74,47 @@ upd-map g f k x j =
     (ap g (upd-same f k x) ∙ sym (upd-same (λ i. g (f i)) k (g x))))
     (λ ne. ap g (upd-other f k x j ne) ∙ sym (upd-other (λ i. g (f i)) k (g x) j ne))
     (cases_eq j k)
+
+-- ---- each place whose head is k
+
+pub upd_over-here : {A : Type 0} (head : ℕ → ℕ) (k : ℕ) (f g : ℕ → A) (j : ℕ) → head j ≡ k → upd_over head k f g j ≡ g j
+unfolding upd_over
+upd_over-here head k f g j e = cond-true (eqb (head j) k) (g j) (f j) (eq-eqb (head j) k e)
+
+pub upd_over-other : {A : Type 0} (head : ℕ → ℕ) (k : ℕ) (f g : ℕ → A) (j : ℕ) → head j ≢ k
+    → upd_over head k f g j ≡ f j
+unfolding upd_over
+upd_over-other head k f g j ne = cond-false (eqb (head j) k) (g j) (f j) (ne_eqb (head j) k ne)
+
+-- a fact at each place, after a change over a head
+pub each-upd_over : {A : Type 0} (P : ℕ → A → Type 0) (head : ℕ → ℕ) (k : ℕ) (f g : ℕ → A)
+    → ((j : ℕ) → head j ≡ k → P j (g j)) → ((j : ℕ) → head j ≢ k → P j (f j)) → (j : ℕ) → P j (upd_over head k f g j)
+each-upd_over P head k f g here there j =
+    ⊎_elim (λ e. subst (P j) (sym (upd_over-here head k f g j e)) (here j e))
+    (λ ne. subst (P j) (sym (upd_over-other head k f g j ne)) (there j ne))
+    (cases_eq (head j) k)
+
+-- two functions, changed over one head
+pub each-upd_over2 : {A : Type 0} → {B : Type 0} (P : ℕ → A → B → Type 0) (head : ℕ → ℕ) (k : ℕ) (f f' : ℕ → A)
+    (g g' : ℕ → B) → ((j : ℕ) → head j ≡ k → P j (f' j) (g' j)) → ((j : ℕ) → head j ≢ k → P j (f j) (g j)) → (j : ℕ)
+    → P j (upd_over head k f f' j) (upd_over head k g g' j)
+each-upd_over2 P head k f f' g g' here there =
+    each-upd_over (λ j z. P j z (upd_over head k g g' j)) head k f f'
+    (λ j e. subst (P j (f' j)) (sym (upd_over-here head k g g' j e)) (here j e))
+    (λ j ne. subst (P j (f j)) (sym (upd_over-other head k g g' j ne)) (there j ne))
+
+pub upd_over-self : {A : Type 0} (head : ℕ → ℕ) (k : ℕ) (f : ℕ → A) → upd_over head k f f ≡ f
+upd_over-self head k f = fun_ext (each-upd_over (λ j y. y ≡ f j) head k f f (λ j _. refl) (λ j _. refl))
+
+-- what a change over a head leaves alone stays at each place
+pub upd_over-keeps : {A : Type 0} → {B : Type 0} (t : A → B) (head : ℕ → ℕ) (k : ℕ) (f g : ℕ → A)
+    → ((j : ℕ) → head j ≡ k → t (g j) ≡ t (f j)) → (j : ℕ) → t (upd_over head k f g j) ≡ t (f j)
+upd_over-keeps t head k f g e = each-upd_over (λ j y. t y ≡ t (f j)) head k f g e (λ j _. refl)
+
+-- where each place is its own head, one place changes
+pub upd_over-alone : {A : Type 0} (head : ℕ → ℕ) (k : ℕ) (f g : ℕ → A) → ((j : ℕ) → head j ≡ j)
+    → upd_over head k f g ≡ upd f k (g k)
+upd_over-alone head k f g own =
+    fun_ext (each-upd_over (λ j y. y ≡ upd f k (g k) j) head k f g
+    (λ j e. let same : j ≡ k = sym (own j) ∙ e in ap g same ∙ sym (ap (upd f k (g k)) same ∙ upd-same f k (g k)))
+    (λ j ne. sym (upd-other f k (g k) j (λ e. ne (own j ∙ e)))))

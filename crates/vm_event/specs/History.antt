@@ -1,6 +1,6 @@
 -- The versions of each page, and the loads of each open read: read from the events.
 use Rattle.std.specs.Prelude.{[], ◌&&◌, ◌++◌, ◌+◌, ◌∷◌, Bool, if◌then◌else◌, List, None, Option, slice_set, Some, ℕ}
-use Rattle.vm_event.specs.{declared.event.Event.Event, declared.event.ReadIs.ReadIs, Fn.upd, State.Page, State.State, StateActs.finds}
+use Rattle.vm_event.specs.{declared.event.Event.Event, declared.event.ReadIs.ReadIs, Fn.upd, Fn.upd_over, State.Page, State.State, StateActs.finds}
 use Rattle.vm_event.specs.{StateActs.left_of, Step.after_event, Step.word_at}
 use Rattle.vm_event.specs.declared.event.Event.TheVariants.{BLoad, Claim, Clean, Clear, Dirty, Disown, Downgrade, Give}
 use Rattle.vm_event.specs.declared.event.Event.TheVariants.{Hand, Install, Load, LockS, LockW, LockX, Look, Mark}
@@ -46,12 +46,15 @@ pub record World : Type 0 where
   pub histories : ℕ → History
   pub loads : ℕ → ℕ → List (ℕ × ℕ)
 
--- a taken exclusive lock opens a draft
+-- a taken exclusive lock opens a draft of each page under the word
 abbrev pub lock_history : World → ℕ → ℕ → ℕ → History
-lock_history w p expects = upd w.histories p (if finds (w.core.pages p) expects then drafted (w.histories p) else w.histories p)
+lock_history w h expects =
+    upd_over w.core.head h w.histories
+    (λ q. if finds (w.core.pages q) expects then drafted (w.histories q) else w.histories q)
 
+-- a version of a group is its pages' versions of one number
 abbrev pub release_history : World → ℕ → ℕ → History
-release_history w p = upd w.histories p (appended (w.histories p))
+release_history w h = upd_over w.core.head h w.histories (λ q. appended (w.histories q))
 
 -- the versions and drafts after the event
 abbrev pub histories_after : World → Event → ℕ → History
@@ -101,12 +104,15 @@ kept_loads Moved l = []
 kept_loads Closed l = []
 
 abbrev pub look_loads : World → ℕ → ℕ → ℕ → ℕ → List (ℕ × ℕ)
-look_loads w a p =
-    upd w.loads p (upd (w.loads p) a (kept_loads (left_of (w.core.pages p) ((w.core.pages p).seats a).reading) (w.loads p a)))
+look_loads w a h =
+    upd_over w.core.head h w.loads
+    (λ q. upd (w.loads q) a (kept_loads (left_of (w.core.pages q) ((w.core.pages q).seats a).reading) (w.loads q a)))
 
 -- a taken lock closes the open read
 abbrev pub lock_loads : World → ℕ → ℕ → ℕ → ℕ → ℕ → List (ℕ × ℕ)
-lock_loads w a p expects = upd w.loads p (upd (w.loads p) a (if finds (w.core.pages p) expects then [] else w.loads p a))
+lock_loads w a h expects =
+    upd_over w.core.head h w.loads
+    (λ q. upd (w.loads q) a (if finds (w.core.pages q) expects then [] else w.loads q a))
 
 -- one load more, where the open read has a frame
 abbrev pub loads_more : Option ℕ → List (ℕ × ℕ) → ℕ → ℕ → List (ℕ × ℕ)

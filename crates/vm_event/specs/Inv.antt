@@ -17,6 +17,11 @@ share_count state = if nat_lt state LOCKED then state else 0
 
 -- ---- one page
 
+-- the version that an open read is at
+abbrev pub read_version : Option Open → Option ℕ
+read_version None = None
+read_version (Some o) = Some o.version
+
 -- one actor holds the page exclusively, and no other
 pub record OneHolder (actors : ℕ) (seats : ℕ → Seat) : Type 0 where
   pub holder : ℕ
@@ -138,15 +143,42 @@ FrameIsAt c f x =
     FrameInv c.shape.actors c.shape.pages c.shape.frames f (has_free_bit c.bundles f) (λ a. c.held a f)
     (λ p. stands_in (c.pages p).trans f) x
 
--- an owner word that names a page is that of the page's frame; and each page that stands in a frame and is not locked
--- is named by its frame's word
-pub record OwnersInv (c : State) : Type 0 where
-  pub named : (f p : ℕ) → c.owners f ≡ p + 1 → stands_in (c.pages p).trans f ≡ true
-  pub owned : (p : ℕ) → (c.pages p).state ≢ LOCKED → IsOwned c p (p + 1)
+-- ---- owner words
 
--- the invariant: each frame stands in one place and has a page's words, the next word is no more than the pages, each
--- page is in order, and so are
--- the owner words
+-- a page of which h is the head stands in frame f
+pub record StandsUnder (c : State) (h f : ℕ) : Type 0 where
+  pub page : ℕ
+  pub under : c.head page ≡ h
+  pub stands : stands_in (c.pages page).trans f ≡ true
+
+-- an owner word that names a head is that of a frame of one of its pages; and each page that stands in a frame and is not locked has its
+-- head named by its frame's word
+pub record OwnersInv (c : State) : Type 0 where
+  pub named : (f h : ℕ) → c.owners f ≡ h + 1 → StandsUnder c h f
+  pub owned : (p : ℕ) → (c.pages p).state ≢ LOCKED → IsOwned c p (c.head p + 1)
+
+-- ---- groups
+
+-- the same locks, and an open read at the same version
+pub record IsSameSeat (s t : Seat) : Type 0 where
+  pub shares : s.shares ≡ t.shares
+  pub exclusive : s.exclusive ≡ t.exclusive
+  pub writing : s.writing ≡ t.writing
+  pub reading : read_version s.reading ≡ read_version t.reading
+
+-- the state, the version and the locks of a page are those of its head
+pub record IsMirror (r head : Page) : Type 0 where
+  pub state : r.state ≡ head.state
+  pub version : r.version ≡ head.version
+  pub seats : (a : ℕ) → IsSameSeat (r.seats a) (head.seats a)
+
+-- a head is its own, and each page stands under its head's word
+pub record HeadsInv (c : State) : Type 0 where
+  pub heads : (p : ℕ) → c.head (c.head p) ≡ c.head p
+  pub mirrors : (p : ℕ) → IsMirror (c.pages p) (c.pages (c.head p))
+
+-- the invariant: each frame stands in one place and has a page's words, the next word is no more than the pages, each page is in order,
+-- and so are the owner words and the groups
 pub record Inv (w : World) : Type 0 where
   pub place : ℕ → FramePlace
   pub frames : (f : ℕ) → FrameIsAt w.core f (place f)
@@ -154,6 +186,7 @@ pub record Inv (w : World) : Type 0 where
   pub next : w.core.next ≤ w.core.shape.pages
   pub pages : (p : ℕ) → PageInv w.core.shape.actors w.core.size w.core.tells w.core.words (w.core.pages p) (w.histories p) (w.loads p)
   pub owners : OwnersInv w.core
+  pub heads : HeadsInv w.core
 
 -- where the event is legal, it keeps the invariant
 abbrev pub Keeps : World → Event → Type 0

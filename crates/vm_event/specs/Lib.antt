@@ -1,5 +1,6 @@
 pub mod Fn
 pub mod Words
+pub mod Groups
 pub mod State
 pub mod StateActs
 pub mod FrameActs

@@ -16,14 +16,18 @@ pub record IsOneVersion (w : World) (a p : ℕ) (o : Open) : Type 0 where
 abbrev pub reads_at : World → ℕ → ℕ → Option Open
 reads_at w a p = ((w.core.pages p).seats a).reading
 
+-- and so it is of each page that stands under the head's word
+abbrev pub IsOneOver : World → ℕ → ℕ → Open → Type 0
+IsOneOver w a h o = (q : ℕ) → w.core.head q ≡ h → IsOneVersion w a q o
+
 -- a look that leaves the open read in place
 abbrev pub LookReadsOne : World → ℕ → ℕ → Type 0
-LookReadsOne w a p = (o : Open) → reads_at w a p ≡ Some o → left_of (w.core.pages p) (reads_at w a p) ≡ Same → IsOneVersion w a p o
+LookReadsOne w a h = (o : Open) → reads_at w a h ≡ Some o → left_of (w.core.pages h) (reads_at w a h) ≡ Same → IsOneOver w a h o
 
 -- a taken lock that expected the open read's version
 abbrev pub LockReadsOne : World → ℕ → ℕ → ℕ → Type 0
-LockReadsOne w a p expects =
-    (o : Open) → reads_at w a p ≡ Some o → finds (w.core.pages p) expects ≡ true → o.version ≡ version_of expects → IsOneVersion w a p o
+LockReadsOne w a h expects =
+    (o : Open) → reads_at w a h ≡ Some o → finds (w.core.pages h) expects ≡ true → o.version ≡ version_of expects → IsOneOver w a h o
 
 -- where the event validates an open read, that read is the last version
 abbrev pub ReadsOne : World → Event → Type 0

@@ -3,13 +3,12 @@ use Rattle.std.specs.List.{range_with_len}
 use Rattle.std.specs.Prelude.{[], ◌*◌, ◌+◌, ◌-◌, ◌^◌, ◌≡◌, ◌≤◌, Bool, false, if◌then◌else◌, length, List, map, min}
 use Rattle.std.specs.Prelude.{nat_lt, None, replicate, true, ℕ}
 use Rattle.vm_page.specs.declared.buf.TheConstants.{WORDS}
-use Rattle.vm_event.specs.{declared.event.CoreShape.CoreShape, declared.event.Seat.Seat}
+use Rattle.vm_event.specs.{declared.event.CoreShape.CoreShape, declared.event.Seat.Seat, Groups.GroupsFit, Groups.head_in}
 use Rattle.vm_event.specs.{declared.words.TheConstants.FRAMES, History.World, State.Page, State.State, Words.EVICTED}
 use Rattle.vm_event.specs.{Words.MAX_VERSION}
 
--- what a core starts from: its shape with the next word, how many words a page has, the first version of its pages,
--- and the blocks handed in by their words and
--- counts of faults, and whether they tell their words
+-- what a core starts from: its shape with the next word, how many words a page has, the first version of its pages, the blocks handed in by
+-- their words and counts of faults, whether they tell their words, and the groups of pages
 pub record CoreStart : Type 0 where
   pub shape : CoreShape
   pub size : ℕ
@@ -17,6 +16,7 @@ pub record CoreStart : Type 0 where
   pub tells : Bool
   pub blocks : ℕ → List ℕ
   pub counts : ℕ → ℕ
+  pub groups : List (ℕ × ℕ)
 
 abbrev pub no_seat : Seat
 no_seat = record { shares = 0; exclusive = false; writing = false; reading = None }
@@ -30,11 +30,12 @@ evicted_page version block count =
 unfoldable pub full_bundle : ℕ → ℕ → ℕ
 full_bundle frames g = 2 ^ min FRAMES (frames - FRAMES * g) - 1
 
--- the next word is at most the number of pages, the first version is a version, and each block has a page's words
+-- the next word is at most the number of pages, the first version is a version, each block has a page's words, and the groups fit
 pub record IsStart (s : CoreStart) : Type 0 where
   pub next : s.shape.next ≤ s.shape.pages
   pub first : s.first ≤ MAX_VERSION
   pub blocks : (p : ℕ) → length (s.blocks p) ≡ s.size
+  pub groups : GroupsFit s.shape.pages s.groups
 
 -- the state at the start: every page evicted, every frame free and no page's
 abbrev pub start : CoreStart → State
@@ -43,6 +44,7 @@ start s =
       shape = s.shape;
       size = s.size;
       tells = s.tells;
+      head = head_in s.groups;
       pages = λ p. evicted_page s.first (s.blocks p) (s.counts p);
       words = λ f. replicate s.size 0;
       bundles = full_bundle s.shape.frames;
@@ -70,8 +72,17 @@ unfoldable pub core_block : ℕ → ℕ → List ℕ
 core_block next p = if nat_lt p next then map (λ i. WORDS * p + i) (range_with_len 0 WORDS) else replicate WORDS 0
 
 -- what `Core::new` starts from
-abbrev pub core_start : CoreShape → CoreStart
-core_start shape = record { shape = shape; size = WORDS; first = 0; tells = true; blocks = core_block shape.next; counts = λ p. 0 }
+abbrev pub core_start : CoreShape → List (ℕ × ℕ) → CoreStart
+core_start shape groups =
+    record {
+      shape = shape;
+      size = WORDS;
+      first = 0;
+      tells = true;
+      blocks = core_block shape.next;
+      counts = λ p. 0;
+      groups = groups;
+    }
 
 -- what stands past the last page, of so many words
 abbrev pub outside_page : ℕ → Page

@@ -3,7 +3,7 @@ use Rattle.std.specs.Prelude.{[], ◌&&◌, ◌*◌, ◌+◌, ◌<◌, ◌==◌,
 use Rattle.std.specs.Prelude.{false, if◌then◌else◌, IsSome, List, None, Option, slice_index, slice_set, Some, true, ℕ}
 use Rattle.vm_page.specs.Pages.{all_zero}
 use Rattle.vm_event.specs.{declared.event.Event.Event, declared.event.Mapping.Mapping, declared.event.PageAct.PageAct}
-use Rattle.vm_event.specs.{declared.event.Seen.Seen, declared.words.TheConstants.FRAMES, Fn.upd, State.Page}
+use Rattle.vm_event.specs.{declared.event.Seen.Seen, declared.words.TheConstants.FRAMES, Fn.upd, Fn.upd_over, State.Page}
 use Rattle.vm_event.specs.{State.State, Words.hand_more, Words.has_free_bit, Words.in_mask}
 use Rattle.vm_event.specs.declared.event.Event.TheVariants.{BLoad, Claim, Clean, Clear, Dirty, Disown, Downgrade, Give}
 use Rattle.vm_event.specs.declared.event.Event.TheVariants.{Hand, Install, Load, LockS, LockW, LockX, Look, Mark}
@@ -41,6 +41,17 @@ MayAct c a p act = NamesActorAndPage c a p × PageLegal c.tells c.words (c.pages
 
 abbrev pub acted : State → ℕ → ℕ → PageAct → State
 acted c a p act = on_page c p (page_after c.words (c.pages p) a act)
+
+-- ---- an act on a state word: on each page that stands under it
+
+-- the page is the head of a group, or in none, and the act is legal at each page of which it is the head
+pub record MayActOver (c : State) (a h : ℕ) (act : PageAct) : Type 0 where
+  pub names : NamesActorAndPage c a h
+  pub head : c.head h ≡ h
+  pub pages : (q : ℕ) → c.head q ≡ h → PageLegal c.tells c.words (c.pages q) a act
+
+abbrev pub acted_over : State → ℕ → ℕ → PageAct → State
+acted_over c a h act = record c { pages = upd_over c.head h c.pages (λ q. page_after c.words (c.pages q) a act) }
 
 -- ---- install, clear
 
@@ -115,7 +126,7 @@ pub record MayClaim (c : State) (a x n : ℕ) : Type 0 where
 
 -- ---- owner words
 
--- the actor holds the page exclusively, and it is resident: so it may write the owner word of the page's frame
+-- the actor holds the page exclusively, and it is resident: so it may write the owner word of the page's frame, which names the page's head
 pub record MayOwn (c : State) (a p : ℕ) : Type 0 where
   pub names : NamesActorAndPage c a p
   pub page : MayDirty (c.pages p) a
@@ -133,9 +144,10 @@ owned c p w = record c { owners = changed_at c.owners (frame_of (c.pages p).tran
 abbrev pub IsOwned : State → ℕ → ℕ → Type 0
 IsOwned c p word = (m : Mapping) → (c.pages p).trans ≡ Some m → c.owners m.frame ≡ word
 
--- an act that gives the page up and leaves it in its frame: the frame's owner word names the page
-abbrev pub MayLeave : State → ℕ → ℕ → PageAct → Type 0
-MayLeave c a p act = NamesActorAndPage c a p × PageLegal c.tells c.words (c.pages p) a act × IsOwned c p (p + 1)
+-- an act that gives a page up with its group, and leaves each in its frame: the owner word of each frame names the head
+pub record MayLeave (c : State) (a h : ℕ) (act : PageAct) : Type 0 where
+  pub may : MayActOver c a h act
+  pub owned : (q : ℕ) → c.head q ≡ h → IsOwned c q (h + 1)
 
 -- ---- free-number words
 
@@ -170,31 +182,32 @@ abbrev pub standing_words : (ℕ → List ℕ) → Option Mapping → List ℕ
 standing_words words None = []
 standing_words words (Some m) = words m.frame
 
--- who leaves a page whose words are not all 0 holds its number no more; where the blocks do not tell their words, a page counts as such
+-- who leaves a page whose words are not all 0 holds its number no more, and so for each page of a group; where the blocks do not tell their
+-- words, a page counts as such
 abbrev pub keeps_number : State → ℕ → Bool
 keeps_number c p = c.tells && all_zero (standing_words c.words (c.pages p).trans)
 
 abbrev pub number_left : State → ℕ → ℕ → ℕ → ℕ → Bool
-number_left c a p = if keeps_number c p then c.numbers else upd c.numbers a (upd (c.numbers a) p false)
+number_left c a h = upd c.numbers a (upd_over c.head h (c.numbers a) (λ q. keeps_number c q && c.numbers a q))
 
--- the page is left by the act, in its frame
+-- the page is left by the act with its group, each in its frame
 abbrev pub left : State → ℕ → ℕ → PageAct → State
-left c a p act = record (acted c a p act) { numbers = number_left c a p }
+left c a h act = record (acted_over c a h act) { numbers = number_left c a h }
 
 -- ---- the rows
 
 -- the row of the event is met
 abbrev pub Legal : State → Event → Type 0
-Legal c (Look a p) = MayAct c a p acts.Look
-Legal c (LockX a p expects) = MayAct c a p (acts.LockX expects)
-Legal c (LockS a p expects) = MayAct c a p (acts.LockS expects)
-Legal c (UnlockS a p) = MayAct c a p acts.UnlockS
-Legal c (Mark a p expects) = MayAct c a p (acts.Mark expects)
-Legal c (Unmark a p expects) = MayAct c a p (acts.Unmark expects)
-Legal c (LockW a p expects) = MayAct c a p (acts.LockW expects)
-Legal c (Upgrade a p expects) = MayAct c a p (acts.Upgrade expects)
+Legal c (Look a p) = MayActOver c a p acts.Look
+Legal c (LockX a p expects) = MayActOver c a p (acts.LockX expects)
+Legal c (LockS a p expects) = MayActOver c a p (acts.LockS expects)
+Legal c (UnlockS a p) = MayActOver c a p acts.UnlockS
+Legal c (Mark a p expects) = MayActOver c a p (acts.Mark expects)
+Legal c (Unmark a p expects) = MayActOver c a p (acts.Unmark expects)
+Legal c (LockW a p expects) = MayActOver c a p (acts.LockW expects)
+Legal c (Upgrade a p expects) = MayActOver c a p (acts.Upgrade expects)
 Legal c (Release a p) = MayLeave c a p acts.Release
-Legal c (ReleaseE a p) = MayAct c a p acts.ReleaseE
+Legal c (ReleaseE a p) = MayActOver c a p acts.ReleaseE
 Legal c (Downgrade a p) = MayLeave c a p acts.Downgrade
 Legal c (TLoad a p) = MayAct c a p acts.TLoad
 Legal c (Install a p f) = MayPut c a p f
@@ -223,16 +236,16 @@ Legal c (PGive a g mask) = MayGiveNumbers c a g mask
 
 -- the state after the event
 abbrev pub after_event : State → Event → State
-after_event c (Look a p) = acted c a p acts.Look
-after_event c (LockX a p expects) = acted c a p (acts.LockX expects)
-after_event c (LockS a p expects) = acted c a p (acts.LockS expects)
-after_event c (UnlockS a p) = acted c a p acts.UnlockS
-after_event c (Mark a p expects) = acted c a p (acts.Mark expects)
-after_event c (Unmark a p expects) = acted c a p (acts.Unmark expects)
-after_event c (LockW a p expects) = acted c a p (acts.LockW expects)
-after_event c (Upgrade a p expects) = acted c a p (acts.Upgrade expects)
+after_event c (Look a p) = acted_over c a p acts.Look
+after_event c (LockX a p expects) = acted_over c a p (acts.LockX expects)
+after_event c (LockS a p expects) = acted_over c a p (acts.LockS expects)
+after_event c (UnlockS a p) = acted_over c a p acts.UnlockS
+after_event c (Mark a p expects) = acted_over c a p (acts.Mark expects)
+after_event c (Unmark a p expects) = acted_over c a p (acts.Unmark expects)
+after_event c (LockW a p expects) = acted_over c a p (acts.LockW expects)
+after_event c (Upgrade a p expects) = acted_over c a p (acts.Upgrade expects)
 after_event c (Release a p) = left c a p acts.Release
-after_event c (ReleaseE a p) = acted c a p acts.ReleaseE
+after_event c (ReleaseE a p) = acted_over c a p acts.ReleaseE
 after_event c (Downgrade a p) = left c a p acts.Downgrade
 after_event c (TLoad a p) = acted c a p acts.TLoad
 after_event c (Install a p f) = put_under c a p f
@@ -252,7 +265,7 @@ after_event c (Raise a p) = acted c a p acts.Raise
 after_event c (NLoad a) = c
 after_event c (Claim a x n) = record c { next = if c.next == x then x + n else c.next }
 after_event c (Hand a) = record c { hand = hand_more c.hand }
-after_event c (Own a p) = owned c p (p + 1)
+after_event c (Own a p) = owned c p (c.head p + 1)
 after_event c (Disown a p) = owned c p 0
 after_event c (OLoad a f) = c
 after_event c (PBLoad a g) = c

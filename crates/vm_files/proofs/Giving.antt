@@ -180,7 +180,7 @@ migrate-cause migrate pairs before now (Err (Stopped _)) t = absurd t
 -- ---- a replay
 
 played-file : (text bytes : List ℕ) (is_legal : Bool) → PlayedFile bytes text is_legal → AreGoodEvents bytes
-played-file text bytes is_legal p = (p.shape, p.lines, record { short = p.short; spells = p.spells })
+played-file text bytes is_legal p = (p.shape, p.groups, p.lines, record { short = p.short; spells = p.spells })
 
 replay-does : (outside : Outside) (left : Remains) (replay : Replay) (text : List ℕ) (is_legal : Bool) (status : ℕ)
     → HasFile outside.shown replay.file.now (λ bytes. PlayedFile bytes text is_legal) → ((is_legal ≡ true) × (status ≡ 0))

@@ -3,16 +3,16 @@ use Rattle.std.proofs.Common.{⊎_elim, ◌+◌, ◌∙◌, ◌≡◌, ap, arith
 use Rattle.std.proofs.lemmas.Bool.{and_from, and_right, cases_Bool, eq-eqb, eqb-true, false≢true, ne_eqb, true≢false}
 use Rattle.std.proofs.lemmas.List.{length-set}
 use Rattle.vm_event.specs.Prelude.{at_actor, at_page, cleared, FrameInv, Free, gains, has_free_bit, HoldsAt, in_mask}
-use Rattle.vm_event.specs.Prelude.{installed, Inv, Keeps, Legal, Mapped, MayDirty, Page, PageInv, stands_in, State}
-use Rattle.vm_event.specs.Prelude.{upd, World}
+use Rattle.vm_event.specs.Prelude.{installed, Inv, Keeps, Legal, Mapped, MayDirty, on_page, Page, PageInv}
+use Rattle.vm_event.specs.Prelude.{stands_in, State, upd, World}
 use Rattle.vm_event.specs.declared.event.Event.TheVariants.{BLoad, Clean, Clear, Dirty, Disown, Give, Install, Load}
 use Rattle.vm_event.specs.declared.event.Event.TheVariants.{OLoad, Own, PBLoad, PGive, PTake, Store, Take, TLoad}
 use Rattle.vm_event.specs.{Inv.FramePlace.Held, Step.owned}
-use Rattle.vm_event.proofs.Spares.{inv-beside}
+use Rattle.vm_event.proofs.{Mirrors.mirror-framed, Mirrors.still, Spares.inv-beside}
 use Rattle.std.specs.Prelude.{bit_or, bit_xor}
 use Rattle.vm_event.specs.Step.{given_by, taken_by}
 use Rattle.vm_event.proofs.Upd.{each-upd, upd-keeps, upd-map, upd-other, upd-same}
-use Rattle.vm_event.proofs.Whole.{frame-same, page-alone, pages-page}
+use Rattle.vm_event.proofs.Whole.{frame-same, heads-beside, heads-page, owners-beside, page-alone, pages-page}
 use Rattle.vm_laws_frame.proofs.{Bits.given-free, Bits.taken-free, Put.cleared-keeps, Put.installed-keeps}
 use Rattle.vm_laws_frame.proofs.{Read.frame_read-keeps, Read.loaded-keeps, Store.store-elsewhere, Store.store-here}
 use Rattle.vm_laws_frame.proofs.Dirty.{cleaned-keeps, dirtied-keeps, dirty-stands}
@@ -20,13 +20,18 @@ use Rattle.vm_laws_frame.proofs.Owners.{held-owners, word-owners}
 use Rattle.vm_laws_frame.proofs.Places.{frame-clear, frame-give, frame-install, frame-take, mapped-place}
 
 pub translation_load_law : (w : World) (a p : ℕ) → Keeps w (TLoad a p)
-translation_load_law w a p i m = page-alone w p _ i (λ _. refl) (i.owners.owned p) (frame_read-keeps a (i.pages p))
+translation_load_law w a p i m =
+    page-alone w p _ i (λ _. refl) (mirror-framed (w.core.pages p) a) (frame_read-keeps a (i.pages p))
 
 pub dirty_law : (w : World) (a p : ℕ) → Keeps w (Dirty a p)
-dirty_law w a p i m = page-alone w p _ i (dirty-stands true (w.core.pages p).trans) (i.owners.owned p) (dirtied-keeps a (i.pages p) m.1)
+dirty_law w a p i m =
+    page-alone w p _ i (dirty-stands true (w.core.pages p).trans) (still refl refl refl)
+    (dirtied-keeps a (i.pages p) m.1)
 
 pub clean_law : (w : World) (a p : ℕ) → Keeps w (Clean a p)
-clean_law w a p i m = page-alone w p _ i (dirty-stands false (w.core.pages p).trans) (i.owners.owned p) (cleaned-keeps a (i.pages p) m.1)
+clean_law w a p i m =
+    page-alone w p _ i (dirty-stands false (w.core.pages p).trans) (still refl refl refl)
+    (cleaned-keeps a (i.pages p) m.1)
 
 pub load_law : (w : World) (a p n : ℕ) → Keeps w (Load a p n)
 load_law w a p n i m =
@@ -38,6 +43,7 @@ load_law w a p n i m =
       pages = each-upd (λ q y. PageInv w.core.shape.actors w.core.size w.core.tells w.core.words (w.core.pages q)
           (w.histories q) y) w.loads p _ (loaded-keeps a n (i.pages p)) (λ q _. i.pages q);
       owners = i.owners;
+      heads = i.heads;
     }
 
 pub bundle_load_law : (w : World) (a g : ℕ) → Keeps w (BLoad a g)
@@ -58,7 +64,7 @@ install_law w a p f i m =
     let row : ℕ → Bool = upd (c.held a) f false in
     let r : Page = installed (c.pages p) f in
     let o = held-owners w i a p r m.page.owns refl
-    (λ g e. absurd (false≢true (ap (λ t. stands_in t g) (sym m.page.empty) ∙ i.owners.named g p e))) in
+    (λ g h e s. absurd (false≢true (ap (λ t. stands_in t g) (sym m.page.empty) ∙ s))) in
     record {
       place = upd i.place f (Mapped p);
       frames = each-upd (λ g x. FrameInv c.shape.actors c.shape.pages c.shape.frames g (has_free_bit c.bundles g)
@@ -73,7 +79,8 @@ install_law w a p f i m =
       words = i.words;
       next = i.next;
       pages = pages-page c w.histories w.loads p r i.pages (installed-keeps a f (i.pages p) m.page);
-      owners = record { named = o.named; owned = o.owned };
+      owners = owners-beside (on_page c p r) _ refl refl refl o;
+      heads = heads-beside (on_page c p r) _ refl refl (heads-page c p r i.heads (still refl refl refl));
     }
 
 pub clear_law : (w : World) (a p : ℕ) → Keeps w (Clear a p)
@@ -84,9 +91,9 @@ clear_law w a p i m =
     let row : ℕ → Bool = gains (c.held a) (c.pages p).trans in
     let row-is : row ≡ upd (c.held a) f true = ap (gains (c.held a)) at.stands in
     let r : Page = cleared (c.pages p) in
-    let unnamed : (g : ℕ) → c.owners g ≡ p + 1 → f ≡ g =
-    λ g e. eqb-true f g (ap (λ t. stands_in t g) (sym at.stands) ∙ i.owners.named g p e) in
-    let o = held-owners w i a p r at.owns refl (λ g e. let none : c.owners g ≡ 0 = ap c.owners (sym (unnamed g e))
+    let its : (g : ℕ) → stands_in (c.pages p).trans g ≡ true → f ≡ g =
+    λ g s. eqb-true f g (ap (λ t. stands_in t g) (sym at.stands) ∙ s) in
+    let o = held-owners w i a p r at.owns refl (λ g h e s. let none : c.owners g ≡ 0 = ap c.owners (sym (its g s))
     ∙ m.2 _ at.stands in absurd (omega (arith, none, e))) in
     record {
       place = upd i.place f (Held a);
@@ -102,7 +109,8 @@ clear_law w a p i m =
       words = i.words;
       next = i.next;
       pages = pages-page c w.histories w.loads p r i.pages (cleared-keeps a (i.pages p) m.1);
-      owners = record { named = o.named; owned = o.owned };
+      owners = owners-beside (on_page c p r) _ refl refl refl o;
+      heads = heads-beside (on_page c p r) _ refl refl (heads-page c p r i.heads (still refl refl refl));
     }
 
 -- a page whose holder may store into the frame
@@ -132,7 +140,8 @@ store_law w a f n x i m =
           (λ s. rw (and_right ((w.core.pages q).seats a).exclusive (stands_in (w.core.pages q).trans f) s)
           (store-elsewhere f _ s (i.pages q)))
           (cases_Bool (stands_in (w.core.pages q).trans f));
-      owners = record { named = i.owners.named; owned = i.owners.owned };
+      owners = owners-beside w.core _ refl refl refl i.owners;
+      heads = heads-beside w.core _ refl refl i.heads;
     }
 
 pub take_law : (w : World) (a g expects mask : ℕ) → Keeps w (Take a g expects mask)
@@ -151,7 +160,8 @@ take_law w a g expects mask i m =
       words = i.words;
       next = i.next;
       pages = i.pages;
-      owners = record { named = i.owners.named; owned = i.owners.owned };
+      owners = owners-beside w.core _ refl refl refl i.owners;
+      heads = heads-beside w.core _ refl refl i.heads;
     }))
     (λ e. rw e i)
     (cases_Bool (eqb (c.bundles g) expects))
@@ -168,14 +178,15 @@ give_law w a g mask i m =
       words = i.words;
       next = i.next;
       pages = i.pages;
-      owners = record { named = i.owners.named; owned = i.owners.owned };
+      owners = owners-beside w.core _ refl refl refl i.owners;
+      heads = heads-beside w.core _ refl refl i.heads;
     }
 
 -- ---- owner words
 
--- the owner word of a page that an actor holds is written: it names the page, or none
-word-law : (w : World) (a p word : ℕ) → Inv w → MayDirty (w.core.pages p) a → ((q : ℕ) → word ≡ q + 1 → q ≡ p)
-    → Inv (record w { core = owned w.core p word })
+-- the owner word of a page that an actor holds is written: it names the page's head, or none
+word-law : (w : World) (a p word : ℕ) → Inv w → MayDirty (w.core.pages p) a
+    → ((h : ℕ) → word ≡ h + 1 → w.core.head p ≡ h) → Inv (record w { core = owned w.core p word })
 word-law w a p word i may names = record {
   place = i.place;
   frames = i.frames;
@@ -183,13 +194,14 @@ word-law w a p word i may names = record {
   next = i.next;
   pages = i.pages;
   owners = word-owners w i a p word may names;
+  heads = heads-beside w.core _ refl refl i.heads;
 }
 
 pub own_law : (w : World) (a p : ℕ) → Keeps w (Own a p)
-own_law w a p i m = word-law w a p (p + 1) i m.page (λ q e. omega (arith, e))
+own_law w a p i m = word-law w a p (w.core.head p + 1) i m.page (λ h e. omega (arith, e))
 
 pub disown_law : (w : World) (a p : ℕ) → Keeps w (Disown a p)
-disown_law w a p i m = word-law w a p 0 i m.page (λ q e. absurd (omega (arith, e)))
+disown_law w a p i m = word-law w a p 0 i m.page (λ h e. absurd (omega (arith, e)))
 
 pub owner_load_law : (w : World) (a f : ℕ) → Keeps w (OLoad a f)
 owner_load_law w a f i m = i

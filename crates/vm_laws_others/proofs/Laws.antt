@@ -1,14 +1,16 @@
 -- Each event leaves what the other actors know and hold.
 use Rattle.std.proofs.Common.{⊎_elim, ◌≡◌, ◌≢◌, Bool, inl, List, refl, subst, ℕ}
 use Rattle.std.proofs.lemmas.Bool.{cases_Bool}
-use Rattle.vm_event.specs.Prelude.{finds, History, on_page, Page, upd, World}
+use Rattle.vm_event.specs.Prelude.{acted_over, finds, History, on_page, Page, page_after, upd, World}
+use Rattle.vm_event.specs.declared.event.PageAct.{PageAct}
+use Rattle.vm_event.specs.declared.event.PageAct.TheVariants as acts
 use Rattle.vm_event.specs.declared.event.Event.{Event}
 use Rattle.vm_event.specs.declared.event.Event.TheVariants.{BLoad, Claim, Clean, Clear, Dirty, Disown, Downgrade, Give}
 use Rattle.vm_event.specs.declared.event.Event.TheVariants.{Hand, Install, Load, LockS, LockW, LockX, Look, Mark}
 use Rattle.vm_event.specs.declared.event.Event.TheVariants.{NLoad, OLoad, Own, Raise, Read, Release, ReleaseE, RFail}
 use Rattle.vm_event.specs.declared.event.Event.TheVariants.{Store, PBLoad, PGive, PTake, Take, TLoad, UnlockS, Unmark}
 use Rattle.vm_event.specs.declared.event.Event.TheVariants.{Upgrade, WFail, Write}
-use Rattle.vm_event.proofs.Upd.{upd-other, upd-self}
+use Rattle.vm_event.proofs.Upd.{upd-other, upd-self, upd_over-self}
 use Rattle.vm_laws_others.specs.Leaves.{Leaves, LeavesOthers}
 use Rattle.vm_laws_others.proofs.Device.{cleaned-leaves, failed-leaves, mapped-leaves, raised-leaves, written-leaves}
 use Rattle.vm_laws_others.proofs.Frames.{bundle_load-leaves, claim-leaves, disown-leaves, give-leaves, hand-leaves}
@@ -16,7 +18,7 @@ use Rattle.vm_laws_others.proofs.Frames.{load-leaves, next_load-leaves, own_page
 use Rattle.vm_laws_others.proofs.Frames.{store-leaves, take-leaves}
 use Rattle.vm_event.specs.Step.{number_left}
 use Rattle.vm_laws_others.proofs.Spares.{give_numbers-leaves, leaves-beside, spare_load-leaves, take_numbers-leaves}
-use Rattle.vm_laws_others.proofs.Page.{loads-other, page-leaves, page-same, PageLeaves}
+use Rattle.vm_laws_others.proofs.Page.{group-leaves, loads-over, page-leaves, page-same, PageLeaves}
 use Rattle.vm_laws_others.proofs.State.{locked-leaves, marked-leaves, release-leaves, seat-leaves, shared-leaves}
 use Rattle.vm_laws_others.proofs.State.{unlocked-leaves, unmarked-leaves, upgraded-leaves, write_locked-leaves}
 
@@ -62,72 +64,100 @@ page-frames w a p r row here =
 
 -- ---- the events on a state word
 
+-- an act on a state word, where the histories stay
+group-alone : (w : World) (a h : ℕ) (act : PageAct) (ls : ℕ → ℕ → List (ℕ × ℕ))
+    → ((q : ℕ) → w.core.head q ≡ h → PageLeaves w.core.shape.actors a (w.core.pages q)
+    (page_after w.core.words (w.core.pages q) a act) (w.histories q) (w.histories q))
+    → ((b q : ℕ) → b ≢ a → ls q b ≡ w.loads q b) → Leaves a w (record {
+      core = acted_over w.core a h act;
+      histories = w.histories;
+      loads = ls;
+    })
+group-alone w a h act ls here loads =
+    subst (λ hs. Leaves a w (record { core = acted_over w.core a h act; histories = hs; loads = ls }))
+    (upd_over-self w.core.head h w.histories) (group-leaves w a h act w.histories ls here loads)
+
 look-leaves : (w : World) (a p : ℕ) → LeavesOthers w (Look a p)
-look-leaves w a p i m = page-alone w a p _ _ (seat-leaves _ a (w.core.pages p) (w.histories p) _) (loads-other w.loads p a _)
+look-leaves w a p i m =
+    group-alone w a p acts.Look _ (λ q _. seat-leaves _ a (w.core.pages q) (w.histories q) _)
+    (loads-over w.core.head p a w.loads _)
 
 lock_exclusive-leaves : (w : World) (a p expects : ℕ) → LeavesOthers w (LockX a p expects)
 lock_exclusive-leaves w a p expects i m =
-    ⊎_elim
-    (λ e. rw e (page-acts w a p _ _ _
-    (locked-leaves _ a expects (w.core.pages p) (w.histories p) (i.pages p).locks m.1 e)
-    (loads-other w.loads p a _)))
-    (λ e. rw e (page-acts w a p _ _ _ (page-same _ a (w.core.pages p) (w.histories p)) (loads-other w.loads p a _)))
-    (cases_Bool (finds (w.core.pages p) expects))
+    group-leaves w a p (acts.LockX expects) _ _
+    (λ q u. ⊎_elim
+    (λ e. rw e (locked-leaves _ a expects (w.core.pages q) (w.histories q) (i.pages q).locks (m.pages q u) e))
+    (λ e. rw e (page-same _ a (w.core.pages q) (w.histories q)))
+    (cases_Bool (finds (w.core.pages q) expects)))
+    (loads-over w.core.head p a w.loads _)
 
 lock_shared-leaves : (w : World) (a p expects : ℕ) → LeavesOthers w (LockS a p expects)
 lock_shared-leaves w a p expects i m =
-    ⊎_elim
-    (λ e. rw e (page-alone w a p _ _ (shared-leaves _ a expects (w.core.pages p) (w.histories p) m.1 e) (loads-other w.loads p a _)))
-    (λ e. rw e (page-alone w a p _ _ (page-same _ a (w.core.pages p) (w.histories p)) (loads-other w.loads p a _)))
-    (cases_Bool (finds (w.core.pages p) expects))
+    group-alone w a p (acts.LockS expects) _
+    (λ q u. ⊎_elim
+    (λ e. rw e (shared-leaves _ a expects (w.core.pages q) (w.histories q) (m.pages q u) e))
+    (λ e. rw e (page-same _ a (w.core.pages q) (w.histories q)))
+    (cases_Bool (finds (w.core.pages q) expects)))
+    (loads-over w.core.head p a w.loads _)
 
 unlock_shared-leaves : (w : World) (a p : ℕ) → LeavesOthers w (UnlockS a p)
 unlock_shared-leaves w a p i m =
-    page-alone w a p _ _ (unlocked-leaves _ a (w.core.pages p) (w.histories p) m.0.actor (i.pages p).locks m.1)
+    group-alone w a p acts.UnlockS _
+    (λ q u. unlocked-leaves _ a (w.core.pages q) (w.histories q) m.names.actor (i.pages q).locks (m.pages q u))
     (λ b q ne. refl)
 
 mark-leaves : (w : World) (a p expects : ℕ) → LeavesOthers w (Mark a p expects)
 mark-leaves w a p expects i m =
-    ⊎_elim
-    (λ e. rw e (page-alone w a p _ _ (marked-leaves _ a expects (w.core.pages p) (w.histories p) m.1 e) (λ b q ne. refl)))
-    (λ e. rw e (page-alone w a p _ _ (page-same _ a (w.core.pages p) (w.histories p)) (λ b q ne. refl)))
-    (cases_Bool (finds (w.core.pages p) expects))
+    group-alone w a p (acts.Mark expects) _
+    (λ q u. ⊎_elim
+    (λ e. rw e (marked-leaves _ a expects (w.core.pages q) (w.histories q) (m.pages q u) e))
+    (λ e. rw e (page-same _ a (w.core.pages q) (w.histories q)))
+    (cases_Bool (finds (w.core.pages q) expects)))
+    (λ b q ne. refl)
 
 unmark-leaves : (w : World) (a p expects : ℕ) → LeavesOthers w (Unmark a p expects)
 unmark-leaves w a p expects i m =
-    ⊎_elim
-    (λ e. rw e (page-alone w a p _ _ (unmarked-leaves _ a expects (w.core.pages p) (w.histories p) m.1 e) (λ b q ne. refl)))
-    (λ e. rw e (page-alone w a p _ _ (page-same _ a (w.core.pages p) (w.histories p)) (λ b q ne. refl)))
-    (cases_Bool (finds (w.core.pages p) expects))
+    group-alone w a p (acts.Unmark expects) _
+    (λ q u. ⊎_elim
+    (λ e. rw e (unmarked-leaves _ a expects (w.core.pages q) (w.histories q) (m.pages q u) e))
+    (λ e. rw e (page-same _ a (w.core.pages q) (w.histories q)))
+    (cases_Bool (finds (w.core.pages q) expects)))
+    (λ b q ne. refl)
 
 lock_write_back-leaves : (w : World) (a p expects : ℕ) → LeavesOthers w (LockW a p expects)
 lock_write_back-leaves w a p expects i m =
-    ⊎_elim
-    (λ e. rw e (page-alone w a p _ _ (write_locked-leaves _ a expects (w.core.pages p) (w.histories p) m.1 e) (loads-other w.loads p a _)))
-    (λ e. rw e (page-alone w a p _ _ (page-same _ a (w.core.pages p) (w.histories p)) (loads-other w.loads p a _)))
-    (cases_Bool (finds (w.core.pages p) expects))
+    group-alone w a p (acts.LockW expects) _
+    (λ q u. ⊎_elim
+    (λ e. rw e (write_locked-leaves _ a expects (w.core.pages q) (w.histories q) (m.pages q u) e))
+    (λ e. rw e (page-same _ a (w.core.pages q) (w.histories q)))
+    (cases_Bool (finds (w.core.pages q) expects)))
+    (loads-over w.core.head p a w.loads _)
 
 upgrade-leaves : (w : World) (a p expects : ℕ) → LeavesOthers w (Upgrade a p expects)
 upgrade-leaves w a p expects i m =
-    ⊎_elim
-    (λ e. rw e (page-acts w a p _ _ _ (upgraded-leaves _ a expects (w.core.pages p) (w.histories p) (i.pages p).locks
-    m.1 e) (loads-other w.loads p a _)))
-    (λ e. rw e (page-acts w a p _ _ _ (page-same _ a (w.core.pages p) (w.histories p)) (loads-other w.loads p a _)))
-    (cases_Bool (finds (w.core.pages p) expects))
+    group-leaves w a p (acts.Upgrade expects) _ _
+    (λ q u. ⊎_elim
+    (λ e. rw e (upgraded-leaves _ a expects (w.core.pages q) (w.histories q) (i.pages q).locks (m.pages q u) e))
+    (λ e. rw e (page-same _ a (w.core.pages q) (w.histories q)))
+    (cases_Bool (finds (w.core.pages q) expects)))
+    (loads-over w.core.head p a w.loads _)
 
 release_full-leaves : (w : World) (a p : ℕ) → LeavesOthers w (Release a p)
 release_full-leaves w a p i m = leaves-beside a w _ w.core.spares (number_left w.core a p)
-    (page-acts w a p _ _ _ (release-leaves _ a (w.core.pages p) (w.histories p) _ _ (i.pages p).locks m.1.owns)
+    (group-leaves w a p acts.Release _ _
+    (λ q u. release-leaves _ a (w.core.pages q) (w.histories q) _ _ (i.pages q).locks (m.may.pages q u).owns)
     (λ b q ne. refl))
 
 release_evicted-leaves : (w : World) (a p : ℕ) → LeavesOthers w (ReleaseE a p)
 release_evicted-leaves w a p i m =
-    page-acts w a p _ _ _ (release-leaves _ a (w.core.pages p) (w.histories p) _ _ (i.pages p).locks m.1.owns)
+    group-leaves w a p acts.ReleaseE _ _
+    (λ q u. release-leaves _ a (w.core.pages q) (w.histories q) _ _ (i.pages q).locks (m.pages q u).owns)
     (λ b q ne. refl)
 
 downgrade-leaves : (w : World) (a p : ℕ) → LeavesOthers w (Downgrade a p)
 downgrade-leaves w a p i m = leaves-beside a w _ w.core.spares (number_left w.core a p)
-    (page-acts w a p _ _ _ (release-leaves _ a (w.core.pages p) (w.histories p) _ _ (i.pages p).locks m.1.owns)
+    (group-leaves w a p acts.Downgrade _ _
+    (λ q u. release-leaves _ a (w.core.pages q) (w.histories q) _ _ (i.pages q).locks (m.may.pages q u).owns)
     (λ b q ne. refl))
 
 -- ---- the events on a translation

@@ -23,9 +23,11 @@ one_play c number count (line ∷ lines) text other legal also (inr p) (inr q) =
 pub one_played : (bytes text other : List ℕ) (legal also : Bool) → PlayedFile bytes text legal
     → PlayedFile bytes other also → (text ≡ other) × (legal ≡ also)
 one_played bytes text other legal also p q =
-    let same = one_list bytes p.shape q.shape p.lines q.lines p.spells q.spells in
-    let shape : PlayedFromStart q.shape p.lines text legal =
-    subst (λ (s : CoreShape). PlayedFromStart s p.lines text legal) same.0 p.played in
-    let first : PlayedFromStart q.shape q.lines text legal =
-    subst (λ (l : List EventLine). PlayedFromStart q.shape l text legal) same.1 shape in
-    one_play (start (core_start q.shape)) 2 0 q.lines text other legal also first q.played
+    let same = one_list bytes p.shape q.shape p.groups q.groups p.lines q.lines p.spells q.spells in
+    let shape : PlayedFromStart q.shape p.groups p.lines text legal =
+    subst (λ (s : CoreShape). PlayedFromStart s p.groups p.lines text legal) same.0 p.played in
+    let groups : PlayedFromStart q.shape q.groups p.lines text legal =
+    subst (λ (g : List (ℕ × ℕ)). PlayedFromStart q.shape g p.lines text legal) same.1 shape in
+    let first : PlayedFromStart q.shape q.groups q.lines text legal =
+    subst (λ (l : List EventLine). PlayedFromStart q.shape q.groups l text legal) same.2 groups in
+    one_play (start (core_start q.shape q.groups)) (length q.groups + 2) 0 q.lines text other legal also first q.played

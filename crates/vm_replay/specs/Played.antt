@@ -42,6 +42,6 @@ Played c number count (line ∷ lines) text is_legal =
     × Played (run c (events_of c line)) (number + 1) (count + length (events_of c line)) lines rest is_legal)))
     ⊎ ((AllLegal c (events_of c line) → ⊥) × ((text ≡ illegal_line number) × (is_legal ≡ false)))
 
--- played on a core of this shape from its start; line 1 is the shape's
-abbrev pub PlayedFromStart : CoreShape → List EventLine → List ℕ → Bool → Type 0
-PlayedFromStart shape lines text is_legal = Played (start (core_start shape)) 2 0 lines text is_legal
+-- played on a core of this shape and these groups from its start; line 1 is the shape's, and each group has one behind it
+abbrev pub PlayedFromStart : CoreShape → List (ℕ × ℕ) → List EventLine → List ℕ → Bool → Type 0
+PlayedFromStart shape groups lines text is_legal = Played (start (core_start shape groups)) (length groups + 2) 0 lines text is_legal

@@ -8,10 +8,11 @@ use Rattle.vm_replay.specs.declared.file.ReplayStop.TheVariants.{Line, Long, Mem
 -- the bytes spell an event list, which was played from the start of its core
 pub record PlayedFile (bytes : List ℕ) (text : List ℕ) (is_legal : Bool) : Type 0 where
   pub shape : CoreShape
+  pub groups : List (ℕ × ℕ)
   pub lines : List EventLine
   pub short : length bytes ≤ most_bytes
-  pub spells : SpellsEvents bytes shape lines
-  pub played : PlayedFromStart shape lines text is_legal
+  pub spells : SpellsEvents bytes shape groups lines
+  pub played : PlayedFromStart shape groups lines text is_legal
 
 -- what a replay of a file answers, its text and whether all lines were legal seen by `view`; want of memory is free
 abbrev pub TellsReplay : {V : Type 0} → (V → List ℕ × Bool) → List ℕ → Result V ReplayStop → Type 0

@@ -21,7 +21,7 @@ pub enum ReplayStop {
     Memory,
 }
 
-/// Reads the bytes as an event list, whole, and plays it from the start of a core of its shape.
+/// Reads the bytes as an event list, whole, and plays it from the start of a core of its shape and groups.
 ///
 /// # Errors
 ///
@@ -30,11 +30,11 @@ pub enum ReplayStop {
 pub fn replay_file(alloc: Global, bytes: &[u8]) -> Result<Played, ReplayStop>
     ensures { TellsReplay (λ played. (played.text.items, played.is_legal)) bytes.now result }
 {
-    let (shape, lines) = match read_events(alloc, bytes) {
+    let list = match read_events(alloc, bytes) {
         Ok(list) => list,
         Err(EventsFault::Long) => return Err(ReplayStop::Long),
         Err(EventsFault::Line(number)) => return Err(ReplayStop::Line(number)),
         Err(EventsFault::Memory) => return Err(ReplayStop::Memory),
     };
-    play(alloc, shape, &lines).map_err(|_| ReplayStop::Memory)
+    play(alloc, list.shape, &list.groups, &list.lines).map_err(|_| ReplayStop::Memory)
 }

@@ -398,7 +398,7 @@ module _ {X B : Type 0} (stored : B → Stored) (keeps : Start → Kept X → Ty
         spelled = sh.spelled;
         inv = subst Inv (sym sh.world) (event_law old e r.inv sh.legal);
         left = left;
-        outside = λ p le. ap (λ (y : World). y.histories p) sh.world ∙ histories-outside old e sh.legal p le
+        outside = λ p le. ap (λ (y : World). y.histories p) sh.world ∙ histories-outside old e (λ _. refl) sh.legal p le
             (λ a. ap (λ (y : Page). (y.seats a).exclusive) (outside-here stored start s p le));
         told = ap (listed start.pages) (block-same stored s.homes s.views id v w there sh.out);
         fit = blocks-still stored start s.homes s.views id v w there sh.out sh.calls r.blocks;

@@ -1,6 +1,7 @@
 -- What a call of a page's device, seen when its block comes home, leaves of the core: its invariant, and what the
 -- others have. Where blocks do
 -- not tell their words, nothing is said of the words of the block, whatever the call was.
+use Rattle.vm_event.proofs.Mirrors.{still}
 use Rattle.vm_rule.proofs.Prelude.{arith, block_after, Bool, called-leaves, count_more, counts-same, CountsMove, inr}
 use Rattle.vm_rule.proofs.Prelude.{Inv, IsSome, Leaves, List, locked-from_owner, MayCall, on_page, Page, page-alone}
 use Rattle.vm_rule.proofs.Prelude.{page-leaves, refl, subst, sym, true, true≢false, upd-self, WordsInv, World}
@@ -22,7 +23,7 @@ pub called-inv : (w : World) (a p count : ℕ) (block : List ℕ) → Inv w → 
 called-inv w a p count block i m k =
     let r : Page = w.core.pages p in
     let q = i.pages p in
-    page-alone w p _ i (λ _. refl) (i.owners.owned p) (record {
+    page-alone w p _ i (λ _. refl) (still refl refl refl) (record {
       locks = q.locks;
       stands = q.stands;
       sizes = q.sizes;

@@ -3,7 +3,7 @@
 use Rattle.std.proofs.Common.{eq-eqb, ne_eqb}
 use Rattle.vm_rule.specs.declared.view.WordPlace.TheVariants as places
 use Rattle.vm_rule.specs.declared.view.Release.{Release as Released}
-use Rattle.vm_rule.proofs.{Found.held-here, Parts.upd-is, Worlds.store-core, Worlds.stores-else, Worlds.worlds-same, Worlds.wrote}
+use Rattle.vm_rule.proofs.{Alone.worlds-same, Found.held-here, Parts.upd-is, Worlds.store-core, Worlds.stores-else, Worlds.wrote}
 use Rattle.vm_event.specs.declared.event.Event.TheVariants.{PGive, PTake}
 use Rattle.vm_rule.specs.Reading.{holdings, numbers_held}
 use Rattle.vm_rule.proofs.Views.{at-there}

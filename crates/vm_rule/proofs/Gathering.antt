@@ -1,6 +1,7 @@
 -- A core in which open reads are closed, frames go from one actor to another, and actors come that have nothing: it meets the invariant.
 use Rattle.std.proofs.Common.{eq-eqb, ne_eqb}
-use Rattle.vm_event.specs.Inv.{FramePlace}
+use Rattle.vm_event.specs.{Inv.FramePlace, Prelude.StandsUnder}
+use Rattle.vm_event.proofs.Alone.{heads-alone}
 use Rattle.vm_rule.proofs.Prelude.{ap, arith, at_actor, at_free, at_page, Bool, cases_Bool, cases_eq, false}
 use Rattle.vm_rule.proofs.Prelude.{FrameIsAt, Free, Held, held-place, History, if◌then◌else◌, Inv, IsFramePlace, List}
 use Rattle.vm_rule.proofs.Prelude.{Mapped, None, Nowhere, OneHolder, Open, Option, Page, PageInv, ReadInv, Seat}
@@ -96,7 +97,8 @@ pub record Regathers (w : World) (k from to : ℕ) (seats : ℕ → ℕ → Seat
   pub keeps : (a f : ℕ) → a ≢ from → a ≢ to → held a f ≡ w.core.held a f
 
 module _ (w : World) (k from to : ℕ) (seats : ℕ → ℕ → Seat) (held numbers : ℕ → ℕ → Bool)
-    (loads : ℕ → ℕ → List (ℕ × ℕ)) (g : Regathers w k from to seats held loads) (i : Inv w) where
+    (loads : ℕ → ℕ → List (ℕ × ℕ)) (g : Regathers w k from to seats held loads) (i : Inv w)
+    (own : (q : ℕ) → w.core.head q ≡ q) where
   -- a frame that the actor `from` had is the actor `to`'s, and each other stands where it stood
   regathered-frame : (f : ℕ) → FrameIsAt (regathered w k seats held numbers loads).core f
       (if w.core.held from f then Held to else i.place f)
@@ -144,5 +146,10 @@ module _ (w : World) (k from to : ℕ) (seats : ℕ → ℕ → Seat) (held numb
     next = i.next;
     pages = λ p. less-page w.core.shape.actors k w.core.size w.core.tells w.core.words (w.core.pages p)
         (w.histories p) (w.loads p) (loads p) (seats p) (g.less p) (g.past p) (i.pages p);
-    owners = record { named = i.owners.named; owned = i.owners.owned };
+    owners = record {
+      named = λ f h e. let s : StandsUnder w.core h f = i.owners.named f h e in
+          record { page = s.page; under = s.under; stands = s.stands };
+      owned = i.owners.owned;
+    };
+    heads = heads-alone (regathered w k seats held numbers loads).core own;
   }

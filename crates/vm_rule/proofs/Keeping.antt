@@ -32,9 +32,9 @@ kept-run s events new ok t r =
     }
 
 pub kept-more : (old new : State) (done : List Event) → RunsTo old done new → IsRunKept old done new
-kept-more old new done r shape before le b =
-    let c : State = start (core_start shape) in
-    kept-run (core_start shape) (before ++ done) new (core-start shape le) refl (record {
+kept-more old new done r shape groups before le fit b =
+    let c : State = start (core_start shape groups) in
+    kept-run (core_start shape groups) (before ++ done) new (core-start shape groups le fit) refl (record {
       legal = legal-both c before done b.legal (subst (λ x. AllLegal x done) b.state r.legal);
       state = r.state ∙ ap (λ x. run x done) b.state ∙ sym (run-both c before done);
     })

@@ -1,6 +1,7 @@
 -- What a pass knows of pages stays true after an event of another pass; and so does what any pass knows of translations and ties.
 use Rattle.vm_event.specs.declared.event.Event.TheVariants.{Release}
 use Rattle.vm_rule.specs.declared.view.Release.{Release as Released}
+use Rattle.vm_event.proofs.Upd.{upd_over-other}
 use Rattle.vm_rule.proofs.{Entries.each-map, Facts.any-here, Facts.any-true, Prelude.◌≤◌, Views.at-bound, Were.were-moves}
 use Rattle.vm_rule.proofs.Prelude.{[], any, ap, arith, began_of, Bool, cases_eq, cases_lt, Did, Downgrade, Each}
 use Rattle.vm_rule.proofs.Prelude.{Entry, Event, EVICTED, false, false_from_ne_true, get_elem?, has, histories_after}
@@ -8,24 +9,30 @@ use Rattle.vm_rule.proofs.Prelude.{History, IsLocking, KnowsPage, KnowsPages, la
 use Rattle.vm_rule.proofs.Prelude.{List, LockX, may_call, no_held, None, none-some, Note, Origin, Page, PageMoves}
 use Rattle.vm_rule.proofs.Prelude.{Put, put_at, refl, ReleaseE, Seat, seat_of, set_else, set_here, slice_set, Some}
 use Rattle.vm_rule.proofs.Prelude.{some, some-injective, Start, Store, subst, sym, Tie, TieHolds, Translation}
-use Rattle.vm_rule.proofs.Prelude.{TranslationHolds, true, true≢false, upd-other, Upgrade, Version, View, view_from}
-use Rattle.vm_rule.proofs.Prelude.{WereWords, World, ℕ, ⊎_elim, ◌<◌, ◌∙◌, ◌≡◌}
+use Rattle.vm_rule.proofs.Prelude.{TranslationHolds, true, true≢false, Upgrade, Version, View, view_from}
+use Rattle.vm_rule.proofs.Prelude.{WereWords, World, ℕ, ⊎_elim, ◌<◌, ◌∙◌, ◌≡◌, ◌≢◌}
+
+-- a page past the last one stands under the word of no page before
+past-other : (w : World) (p q : ℕ) → ((q : ℕ) → w.core.head q ≡ q) → w.core.shape.pages ≤ p → q < w.core.shape.pages
+    → w.core.head p ≢ q
+past-other w p q own le inside e = let mine : w.core.head p ≡ p = own p in absurd (omega arith)
 
 -- the versions and drafts of a page past the last one, which nobody holds, stay
-pub histories-outside : (w : World) (e : Event) → Legal w.core e → (p : ℕ) → w.core.shape.pages ≤ p
-    → ((a : ℕ) → ((w.core.pages p).seats a).exclusive ≡ false) → histories_after w e p ≡ w.histories p
-histories-outside w (LockX a q expects) m p le none =
-    let inside : q < w.core.shape.pages = m.0.page in upd-other w.histories q _ p (λ e. absurd (omega arith))
-histories-outside w (Upgrade a q expects) m p le none =
-    let inside : q < w.core.shape.pages = m.0.page in upd-other w.histories q _ p (λ e. absurd (omega arith))
-histories-outside w (Release a q) m p le none =
-    let inside : q < w.core.shape.pages = m.0.page in upd-other w.histories q _ p (λ e. absurd (omega arith))
-histories-outside w (ReleaseE a q) m p le none =
-    let inside : q < w.core.shape.pages = m.0.page in upd-other w.histories q _ p (λ e. absurd (omega arith))
-histories-outside w (Downgrade a q) m p le none =
-    let inside : q < w.core.shape.pages = m.0.page in upd-other w.histories q _ p (λ e. absurd (omega arith))
-histories-outside w (Store a f i x) m p le none = rw (none a) refl
-histories-outside w e m p le none = refl
+pub histories-outside : (w : World) (e : Event) → ((q : ℕ) → w.core.head q ≡ q) → Legal w.core e → (p : ℕ)
+    → w.core.shape.pages ≤ p → ((a : ℕ) → ((w.core.pages p).seats a).exclusive ≡ false)
+    → histories_after w e p ≡ w.histories p
+histories-outside w (LockX a q expects) own m p le none =
+    upd_over-other w.core.head q w.histories _ p (past-other w p q own le m.names.page)
+histories-outside w (Upgrade a q expects) own m p le none =
+    upd_over-other w.core.head q w.histories _ p (past-other w p q own le m.names.page)
+histories-outside w (Release a q) own m p le none =
+    upd_over-other w.core.head q w.histories _ p (past-other w p q own le m.may.names.page)
+histories-outside w (ReleaseE a q) own m p le none =
+    upd_over-other w.core.head q w.histories _ p (past-other w p q own le m.names.page)
+histories-outside w (Downgrade a q) own m p le none =
+    upd_over-other w.core.head q w.histories _ p (past-other w p q own le m.may.names.page)
+histories-outside w (Store a f i x) own m p le none = rw (none a) refl
+histories-outside w e own m p le none = refl
 
 pub translation-moves : (pages pages' : ℕ → Page) → ((p : ℕ) → PageMoves (pages p) (pages' p)) → (t : Translation)
     → TranslationHolds pages t → TranslationHolds pages' t

@@ -283,7 +283,7 @@ module _ {X B : Type 0} (stored : B → Stored) (keeps : Start → Kept X → Ty
             spelled = r.spelled;
             inv = subst Inv (sym world)
                 (regathered-inv _ k from to _ _ _ _ (regathers stored start r.releases r.drafts s views' k from to g)
-                r.inv);
+                r.inv (λ _. refl));
             risen = r.risen;
             zero = r.zero;
             numbers = λ t. numbers-as refl refl refl

@@ -11,6 +11,7 @@ use Rattle.vm_rule.proofs.{Known.known-nothing, Pages.page-in, Pages.page-out, P
 use Rattle.vm_rule.proofs.{Starts.evicted-inv, Starts.start-frames}
 use Rattle.vm_rule.proofs.ListFacts.{at-any, at-map, length-mapped, listed-long}
 use Rattle.vm_rule.proofs.Prelude.{[], ap, AreClaimed, AreWhole, arith, at, began_of, block_of, block_words, Bool}
+use Rattle.vm_event.proofs.Alone.{heads-alone}
 use Rattle.vm_rule.proofs.Prelude.{cases_Bool, cases_lt, chosen, cond, contents_of, core_shown, CoreStart, counts_of}
 use Rattle.vm_rule.proofs.Prelude.{EVICTED, evicted_page, false, first_view, FrameIsAt, Free, fun_ext, get_elem?, has}
 use Rattle.vm_rule.proofs.Prelude.{has_free_bit, histories_of, home, if◌then◌else◌, inl, inr, Inv, is_owed}
@@ -144,6 +145,7 @@ module _ (X : Type 0) {B : Type 0} (stored : B → Stored) (size : ℕ) (tells :
         tells = tells;
         blocks = λ p. [];
         counts = λ p. 0;
+        groups = [];
       } in
       let s : FrameIsAt (start_of c) f (cond (ltb f frames) Free Nowhere) = start-frames c f in
       record {
@@ -169,6 +171,7 @@ module _ (X : Type 0) {B : Type 0} (stored : B → Stored) (size : ℕ) (tells :
           frames blocks f in absurd (omega (arith, none, e));
       owned = λ p free m at. absurd (none-some m (sym (empty p) ∙ at));
     };
+    heads = heads-alone _ (λ _. refl);
   }
 
   -- ---- the rule

@@ -1,4 +1,6 @@
 -- The start meets the invariant.
+use Rattle.vm_event.specs.Prelude.{GroupsFit}
+use Rattle.vm_event.proofs.Groups.{start-heads}
 use Rattle.vm_rule.proofs.Prelude.{[], ap, arith, begin, bit_at, bit_at_ones, bit_at_ones_above, Bool, cases_Bool}
 use Rattle.vm_rule.proofs.Prelude.{cases_lt, cond, core_block, core_start, CoreShape, CoreStart, eq-eqb, evicted_page}
 use Rattle.vm_rule.proofs.Prelude.{FrameIsAt, Free, full_bundle, has_free_bit, Inv, IsStart, le-ltb, length}
@@ -59,12 +61,15 @@ start_law s ok =
       pages = λ p. evicted-inv s.shape.actors s.size s.tells (λ f. replicate s.size 0) s.first (s.blocks p)
           (s.blocks p) (s.counts p) ok.first (ok.blocks p) (λ _. refl);
       owners = record { named = λ f p e. absurd (omega (arith, e)); owned = λ p free m at. absurd (none-some m at) };
+      heads = start-heads s ok;
     }
 
-pub core-start : (shape : CoreShape) → shape.next ≤ shape.pages → IsStart (core_start shape)
+pub core-start : (shape : CoreShape) (groups : List (ℕ × ℕ)) → shape.next ≤ shape.pages → GroupsFit shape.pages groups
+    → IsStart (core_start shape groups)
 unfolding core_block
-core-start shape le = record {
+core-start shape groups le fit = record {
   next = le;
+  groups = fit;
   first = omega arith;
   blocks = λ p. ⊎_elim
       (λ lt. rw (lt-ltb p shape.next lt) (length-map-range_with_len (λ i. 64 * p + i) 0 64))

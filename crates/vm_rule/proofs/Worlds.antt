@@ -4,9 +4,12 @@ use Rattle.vm_event.specs.{declared.event.Event.TheVariants.Release, History.sto
 use Rattle.vm_rule.specs.declared.view.WordPlace.TheVariants as places
 use Rattle.vm_rule.specs.declared.view.Release.{Release as Released}
 use Rattle.vm_rule.proofs.{Found.content-here, Found.loads-here, Found.seat-here, Found.seats-here, Parts.upd-is, Views.block-same}
-use Rattle.vm_event.specs.Step.{keeps_number, number_left}
+use Rattle.vm_event.specs.declared.event.PageAct.TheVariants as acts
+use Rattle.vm_event.specs.Step.{keeps_number}
 use Rattle.vm_owner.specs.Numbers.{has}
 use Rattle.vm_rule.specs.Reading.{holdings, numbers_held}
+use Rattle.vm_rule.proofs.Alone.{after-act, after-left, after-look, after-releasee, taken-locks, taken-lockw}
+use Rattle.vm_rule.proofs.Alone.{taken-lockx, taken-mark, taken-unmark, taken-upgrade, worlds-same}
 use Rattle.vm_rule.proofs.Views.{at-there}
 use Rattle.vm_rule.proofs.Prelude.{cases_eq, fun_ext, spent, ◌==◌}
 use Rattle.vm_rule.proofs.Cores.{core-seat, core-state, core-step, core-word, held-still, loads-put, loads-still}
@@ -18,7 +21,7 @@ use Rattle.vm_rule.proofs.Prelude.{Inv, kept_loads, last_in, left_of, length, le
 use Rattle.vm_rule.proofs.Prelude.{loads_at, loads_more, loads_of, LOCKED, LockS, LockW, LockX, Look, mapped-place}
 use Rattle.vm_rule.proofs.Prelude.{Mapping, Mark, MARKED, None, on_page, one_share_more, open_after, open_frame}
 use Rattle.vm_rule.proofs.Prelude.{Option, Origin, Page, pushed, put, refl, ReleaseE, Seat, seat_of, seated, seats_of}
-use Rattle.vm_rule.proofs.Prelude.{slice_index, slice_set, Some, some, WordPlace, stands_in, State, state_of, Store}
+use Rattle.vm_rule.proofs.Prelude.{slice_index, slice_set, Some, some, WordPlace, stands_in, State, state_of, Store, subst}
 use Rattle.vm_rule.proofs.Prelude.{Stored, stored_at, sym, Table, table_words, TLoad, true, UNLOCKED, UnlockS, Unmark}
 use Rattle.vm_rule.proofs.Prelude.{unshared, upd, upd-other, upd-same, upd-self, Upgrade, version_of, View, width}
 use Rattle.vm_rule.proofs.Prelude.{word_at, World, world_after, world_of, ℕ, ⊎_elim, ◌++◌, ◌+◌, ◌-◌, ◌<◌, ◌∙◌, ◌∷◌}
@@ -108,42 +111,6 @@ release-appends start releases drafts p =
     let r : Released = release_of start releases drafts p in
     upd-is (histories_of start releases drafts) (histories_of start (releases ++ r ∷ []) drafts) p _
     (release-here start releases drafts r) (release-else start releases drafts r)
-
--- a world, part by part
-pub worlds-same : {c c' : State} {h h' : ℕ → History} {l l' : ℕ → ℕ → List (ℕ × ℕ)} → c ≡ c' → h ≡ h' → l ≡ l'
-    → ◌≡◌ {A = World} (record {
-      core = c;
-      histories = h;
-      loads = l;
-    }) (record { core = c'; histories = h'; loads = l' })
-worlds-same c h l i = record { core = c i; histories = h i; loads = l i }
-
--- ---- an exchange that is lost
-
-module _ (w : World) (a p expects : ℕ) (lost : finds (w.core.pages p) expects ≡ false) where
-  pages-self : on_page w.core p (w.core.pages p) ≡ w.core
-  pages-self = ap (λ pages. record w.core { pages = pages }) (upd-self w.core.pages p)
-
-  loads-self : upd w.loads p (upd (w.loads p) a (w.loads p a)) ≡ w.loads
-  loads-self = ap (upd w.loads p) (upd-self (w.loads p) a) ∙ upd-self w.loads p
-
-  pub lost-lockx : world_after w (LockX a p expects) ≡ w
-  lost-lockx = rw lost (worlds-same pages-self (upd-self w.histories p) loads-self)
-
-  pub lost-locks : world_after w (LockS a p expects) ≡ w
-  lost-locks = rw lost (worlds-same pages-self refl loads-self)
-
-  pub lost-mark : world_after w (Mark a p expects) ≡ w
-  lost-mark = rw lost (worlds-same pages-self refl refl)
-
-  pub lost-unmark : world_after w (Unmark a p expects) ≡ w
-  lost-unmark = rw lost (worlds-same pages-self refl refl)
-
-  pub lost-lockw : world_after w (LockW a p expects) ≡ w
-  lost-lockw = rw lost (worlds-same pages-self refl loads-self)
-
-  pub lost-upgrade : world_after w (Upgrade a p expects) ≡ w
-  lost-upgrade = rw lost (worlds-same pages-self (upd-self w.histories p) loads-self)
 
 -- ---- where a frame stands
 
@@ -276,7 +243,9 @@ module _ {X B : Type 0} (stored : B → Stored) (start : Origin) where
         let r : Page = page p in
         let here : seat_of v p ≡ r.seats id = sym (seat-here stored start s id p v l there) in
         let mine : loads_at v p ≡ loads_of s.views p id = sym (loads-here stored start s id p v there) in
-        worlds-same
+        subst (λ (z : World). world_of stored start releases drafts (stayed s id w) ≡ z)
+        (sym (after-look old (λ _. refl) id p))
+        (worlds-same
         (seat-step p (λ k. record k { reading = open_after (left_of y k.reading) k.reading y.version }) l there out frames seats
         ∙ (λ j. on_page c p (seated r id (record (r.seats id) {
           reading = open_after (left_of (record r {
@@ -289,7 +258,7 @@ module _ {X B : Type 0} (stored : B → Stored) (start : Origin) where
         ∙ (λ j. upd (loads_of s.views) p (upd (loads_of s.views p) id (kept_loads (left_of (record r {
           state = state j;
           version = version j;
-        }) (here j).reading) (mine j)))))
+        }) (here j).reading) (mine j))))))
 
     -- a translation word is loaded
     pub tload-step : (p : ℕ) (t : Option Mapping) → p < start.pages → get_elem? s.views id ≡ some v
@@ -353,31 +322,34 @@ module _ {X B : Type 0} (stored : B → Stored) (start : Origin) where
         (world_of stored start releases (upd drafts p (last_in start releases p).words)
         (wrote s id (places.State p) x w) ≡ world_after old (LockX id p expects))
     lockx-step p expects x wide l there out frames seats loads is keeps finding =
-        rw finding (taken _ _ (drafts-opened start releases drafts p) p expects x LOCKED (λ k. record k {
+        taken _ _ (drafts-opened start releases drafts p) p expects x LOCKED (λ k. record k {
           exclusive = true;
           reading = None;
-        }) wide l there out frames seats loads is keeps finding)
+        }) wide l there out frames seats loads is keeps finding
+        ∙ sym (taken-lockx old (λ _. refl) id p expects finding)
 
     -- a share
     pub locks-step : (p expects x : ℕ) → Takes p expects x (one_share_more (state_of expects))
         (record (seat_of v p) { shares = (seat_of v p).shares + 1; reading = None })
         (world_of stored start releases drafts (wrote s id (places.State p) x w) ≡ world_after old (LockS id p expects))
     locks-step p expects x wide l there out frames seats loads is keeps finding =
-        rw finding (taken drafts _ refl p expects x (one_share_more (page p).state) (λ k. record k {
+        taken drafts _ refl p expects x (one_share_more (page p).state) (λ k. record k {
           shares = k.shares + 1;
           reading = None;
         }) wide l there out frames seats loads
-        (is ∙ ap one_share_more (sym (found (page p) expects finding).0)) keeps finding)
+        (is ∙ ap one_share_more (sym (found (page p) expects finding).0)) keeps finding
+        ∙ sym (taken-locks old (λ _. refl) id p expects finding)
 
     -- a marked page, for its write-back
     pub lockw-step : (p expects x : ℕ) → Takes p expects x 1 (record (seat_of v p) { shares = 1; writing = true; reading = None })
         (world_of stored start releases drafts (wrote s id (places.State p) x w) ≡ world_after old (LockW id p expects))
     lockw-step p expects x wide l there out frames seats loads is keeps finding =
-        rw finding (taken drafts _ refl p expects x 1 (λ k. record k {
+        taken drafts _ refl p expects x 1 (λ k. record k {
           shares = 1;
           writing = true;
           reading = None;
-        }) wide l there out frames seats loads is keeps finding)
+        }) wide l there out frames seats loads is keeps finding
+        ∙ sym (taken-lockw old (λ _. refl) id p expects finding)
 
     -- a share under write-back that becomes an exclusive lock
     pub upgrade-step : (p expects x : ℕ) → Takes p expects x LOCKED (record {
@@ -389,12 +361,13 @@ module _ {X B : Type 0} (stored : B → Stored) (start : Origin) where
         (world_of stored start releases (upd drafts p (last_in start releases p).words)
         (wrote s id (places.State p) x w) ≡ world_after old (Upgrade id p expects))
     upgrade-step p expects x wide l there out frames seats loads is keeps finding =
-        rw finding (taken _ _ (drafts-opened start releases drafts p) p expects x LOCKED (λ k. record {
+        taken _ _ (drafts-opened start releases drafts p) p expects x LOCKED (λ k. record {
           shares = 0;
           exclusive = true;
           writing = false;
           reading = None;
-        }) wide l there out frames seats loads is keeps finding)
+        }) wide l there out frames seats loads is keeps finding
+        ∙ sym (taken-upgrade old (λ _. refl) id p expects finding)
 
     -- an exchange of the state alone
     abbrev Marks : (p expects x state : ℕ) → World → Type 0
@@ -413,11 +386,13 @@ module _ {X B : Type 0} (stored : B → Stored) (start : Origin) where
     -- an unlocked page is marked, and its mark taken away
     pub mark-step : (p expects x : ℕ) → Marks p expects x MARKED (world_after old (Mark id p expects))
     mark-step p expects x wide l there out frames seats loads is keeps finding =
-        rw finding (marked p expects x MARKED wide l there out frames seats loads is keeps finding)
+        marked p expects x MARKED wide l there out frames seats loads is keeps finding
+        ∙ sym (taken-mark old (λ _. refl) id p expects finding)
 
     pub unmark-step : (p expects x : ℕ) → Marks p expects x UNLOCKED (world_after old (Unmark id p expects))
     unmark-step p expects x wide l there out frames seats loads is keeps finding =
-        rw finding (marked p expects x UNLOCKED wide l there out frames seats loads is keeps finding)
+        marked p expects x UNLOCKED wide l there out frames seats loads is keeps finding
+        ∙ sym (taken-unmark old (λ _. refl) id p expects finding)
 
     -- a share is given up
     pub unlocks-step : (p x : ℕ) → Writes p (w.loads ≡ v.loads → w.seats ≡ put p (unshared (seat_of v p)) v.seats
@@ -428,6 +403,7 @@ module _ {X B : Type 0} (stored : B → Stored) (start : Origin) where
         (state-step p x ((page p).state - 1) (page p).version _ _ wide l there out frames
         (seats-put s.views id p v w (unshared (seat_of v p)) there seats) (row-moved p unshared l there) is keeps)
         refl (loads-still s.views id v w there loads)
+        ∙ sym (after-act old (λ _. refl) id p acts.UnlockS)
 
     -- an exclusive lock is given up for this seat, at the next version: the draft is the release
     abbrev Releases : (p x state : ℕ) → Seat → World → Type 0
@@ -452,7 +428,9 @@ module _ {X B : Type 0} (stored : B → Stored) (start : Origin) where
 
     -- it is evicted
     pub releasee-step : (p x : ℕ) → Releases p x EVICTED (record (seat_of v p) { exclusive = false }) (world_after old (ReleaseE id p))
-    releasee-step p x = released p x EVICTED (λ k. record k { exclusive = false })
+    releasee-step p x wide l there out frames loads seats is next =
+        released p x EVICTED (λ k. record k { exclusive = false }) wide l there out frames loads seats is next
+        ∙ sym (after-releasee old (λ _. refl) id p)
 
     -- the page stays in its frame, and the pass may hold its number no more
     abbrev Leaves : (p x state : ℕ) → Seat → World → Type 0
@@ -462,10 +440,15 @@ module _ {X B : Type 0} (stored : B → Stored) (start : Origin) where
         → w.loads ≡ v.loads → w.seats ≡ put p seat v.seats → state_of x ≡ state → version_of x ≡ (page p).version + 1
         → world_of stored start (releases ++ release_of start releases drafts p ∷ []) drafts (wrote s id (places.State p) x w) ≡ new
 
+    -- the numbers that the passes hold afterwards
+    abbrev numbers_after : ℕ → ℕ → ℕ → Bool
+    numbers_after p =
+        if keeps_number c p then numbers_held s.views else upd (numbers_held s.views) id (upd (numbers_held s.views id) p false)
+
     numbers-now : (p : ℕ) → get_elem? s.views id ≡ some v
         → ((h : ℕ) → has h w.numbers
         ≡ (if keeps_number c p then has h v.numbers else (if h == p then false else has h v.numbers)))
-        → numbers_held (slice_set s.views id w) ≡ number_left c id p
+        → numbers_held (slice_set s.views id w) ≡ numbers_after p
     numbers-now p there is =
         numbers-put s.views id v w there
         ∙ ⊎_elim
@@ -484,7 +467,7 @@ module _ {X B : Type 0} (stored : B → Stored) (start : Origin) where
         state = state;
         version = (page p).version + 1;
         seats = upd (page p).seats id (g ((page p).seats id));
-      })) { numbers = number_left c id p };
+      })) { numbers = numbers_after p };
       histories = upd histories p (appended (histories p));
       loads = loads_of s.views;
     })
@@ -495,13 +478,17 @@ module _ {X B : Type 0} (stored : B → Stored) (start : Origin) where
         (release-appends start releases drafts p) (loads-still s.views id v w there loads)
 
     pub release-step : (p x : ℕ) → Leaves p x UNLOCKED (record (seat_of v p) { exclusive = false }) (world_after old (Release id p))
-    release-step p x = left-in-frame p x UNLOCKED (λ k. record k { exclusive = false })
+    release-step p x wide l there out frames numbers loads seats is next =
+        left-in-frame p x UNLOCKED (λ k. record k { exclusive = false }) wide l there out frames numbers loads seats is next
+        ∙ sym (after-left old (λ _. refl) id p acts.Release)
 
     pub downgrade-step : (p x : ℕ) → Leaves p x 1 (record (seat_of v p) {
       shares = 1;
       exclusive = false;
     }) (world_after old (Downgrade id p))
-    downgrade-step p x = left-in-frame p x 1 (λ k. record k { shares = 1; exclusive = false })
+    downgrade-step p x wide l there out frames numbers loads seats is next =
+        left-in-frame p x 1 (λ k. record k { shares = 1; exclusive = false }) wide l there out frames numbers loads seats is next
+        ∙ sym (after-left old (λ _. refl) id p acts.Downgrade)
 
     -- a word is stored into the frame of a page that the pass holds exclusively
     pub store-step : (p f i x : ℕ) (dirty : Bool) → Inv old → length s.words ≡ width start → p < start.pages

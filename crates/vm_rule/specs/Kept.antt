@@ -1,6 +1,6 @@
 -- What is kept by a list of events from the start.
-use Rattle.std.specs.Prelude.{◌++◌, ◌≡◌, ◌≤◌, List, take}
-use Rattle.vm_event.specs.Prelude.{begin, core_start, CoreStart, FrameOnce, Inv, RunsTo, start, State, world_run}
+use Rattle.std.specs.Prelude.{◌++◌, ◌≡◌, ◌≤◌, List, take, ℕ}
+use Rattle.vm_event.specs.Prelude.{begin, core_start, CoreStart, FrameOnce, GroupsFit, Inv, RunsTo, start, State, world_run}
 use Rattle.vm_event.specs.{OneVersion.AllReadOne, Told.DeviceHolds, Told.FaultsTold}
 use Rattle.vm_core.specs.{declared.playing.ReplayFault.ReplayFault}
 use Rattle.vm_core.specs.declared.playing.ReplayFault.TheVariants as faults
@@ -19,8 +19,8 @@ pub record KeptFrom (s : CoreStart) (events : List Event) (new : State) : Type 0
 -- whatever legal events led from the start of a core to the old state, they and the ones done are kept
 abbrev pub IsRunKept : State → List Event → State → Type 0
 IsRunKept old done new =
-    (shape : CoreShape) (before : List Event) → shape.next ≤ shape.pages → RunsTo (start (core_start shape)) before old →
-    KeptFrom (core_start shape) (before ++ done) new
+    (shape : CoreShape) (groups : List (ℕ × ℕ)) (before : List Event) → shape.next ≤ shape.pages → GroupsFit shape.pages groups
+    → RunsTo (start (core_start shape groups)) before old → KeptFrom (core_start shape groups) (before ++ done) new
 
 -- the same for the events before an illegal one; want of memory did none
 abbrev pub KeptFault : State → List Event → ReplayFault → State → Type 0

@@ -32,13 +32,14 @@ page_from r blocks seats p =
 unfoldable pub pages_from : ℕ → Words → (ℕ → Stored) → (ℕ → ℕ → Seat) → ℕ → Page
 pages_from pages r blocks seats p = if nat_lt p pages then page_from r blocks seats p else outside_page r.size
 
--- the core state; its actors are the passes
+-- the core state; its actors are the passes, and its pages are in no group: each is its own head
 abbrev pub core_from : Origin → ℕ → Words → (ℕ → Stored) → (ℕ → ℕ → Seat) → (ℕ → ℕ → Bool) → (ℕ → ℕ → Bool) → State
 core_from start actors r blocks seats held numbers =
     record {
       shape = record { pages = start.pages; frames = start.frames; actors = actors; next = start.next };
       size = r.size;
       tells = start.tells;
+      head = λ p. p;
       pages = pages_from start.pages r blocks seats;
       words = frame_words r.size r.contents;
       bundles = r.bundles;

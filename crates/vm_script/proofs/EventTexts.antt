@@ -75,7 +75,7 @@ lacks_shape shape s = (
 abbrev pub largest : CoreShape
 largest = record { pages = 64; frames = 256; actors = 64; next = 64 }
 
-largest_is : IsShape largest
+pub largest_is : IsShape largest
 largest_is = record { pages = (lit≤ tt, lit≤ tt); frames = (lit≤ tt, lit≤ tt); actors = (lit≤ tt, lit≤ tt); next = (lit≤ tt, lit≤ tt) }
 
 same_shape : (one other : CoreShape) → numbers one ≡ numbers other → one ≡ other

@@ -11,7 +11,8 @@ pub mod StateWords
 pub mod FieldLists
 pub mod VerbNames
 pub mod EventTexts
+pub mod EventForms
+pub mod GroupLines
 pub mod EventRuns
 pub mod Plans
-pub mod EventForms
 pub mod EventReadings

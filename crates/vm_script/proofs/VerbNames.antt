@@ -1,8 +1,8 @@
 -- The verbs' words: letters alone, and no two the same.
 use Rattle.std.specs.Cmp.Lexicographic.{pointwise}
 use Rattle.std.specs.List.{AllByRecursion, list_all}
-use Rattle.std.proofs.Common.{[], ◌&&◌, ◌+◌, ◌<◌, ◌∙◌, ◌∷◌, ◌≡◌, ◌≢◌, ap, arith, Bool, bytes_eq, eqb, false, find}
-use Rattle.std.proofs.Common.{get_or, length, List, nat_lt, Option, refl, Some, suc, sym, take, true, zero, ℕ}
+use Rattle.std.proofs.Common.{[], ◌&&◌, ◌+◌, ◌<◌, ◌∙◌, ◌∷◌, ◌≡◌, ◌≢◌, ap, arith, Bool, bytes_eq, codes, eqb, false, find}
+use Rattle.std.proofs.Common.{get_or, length, List, nat_lt, None, Option, refl, Some, suc, sym, take, true, zero, ℕ}
 use Rattle.std.proofs.lemmas.Bool.Decides.{Decides-eqb}
 use Rattle.std.proofs.lemmas.Grind.{common_steps}
 use Rattle.std.proofs.lemmas.Slice.Eq.{slice_eq-Decides}
@@ -52,6 +52,10 @@ at_name _ = refl
 
 pub one_verb : (one other : Verb) → verb_name one ≡ verb_name other → one ≡ other
 one_verb one other e = let h : ◌≡◌ {A = Option Verb} (Some one) (Some other) = sym (at_name one) ∙ ap verb_at e ∙ at_name other in cc
+
+-- none is the word of a group line
+pub not_group : (verb : Verb) → codes "group" ≢ verb_name verb
+not_group verb e = let h : ◌≡◌ {A = Option Verb} None (Some verb) = ap verb_at e ∙ at_name verb in cc
 
 -- slices that `==` finds different are
 pub differs : (one other : List ℕ) (same : Bool) → same ≡ pointwise eqb one other → same ≡ false → one ≢ other

@@ -124,3 +124,7 @@ abbrev pub shape_text : CoreShape → List ℕ
 shape_text shape = codes
     "shape" ++ 32 ∷ (decimal
     shape.pages ++ 32 ∷ (decimal shape.frames ++ 32 ∷ (decimal shape.actors ++ 32 ∷ decimal shape.next)))
+
+-- `group H G`
+abbrev pub group_text : ℕ × ℕ → List ℕ
+group_text group = codes "group" ++ 32 ∷ (decimal group.0 ++ 32 ∷ decimal group.1)

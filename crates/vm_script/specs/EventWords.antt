@@ -40,3 +40,7 @@ AreNarrow _ _ = Unit {0}
 pub record IsShareCount (shares : ℕ) : Type 0 where
   pub some : 1 ≤ shares
   pub few : shares ≤ 252
+
+-- two numbers that fit 32 bits
+abbrev pub AreSmall : ℕ × ℕ → Type 0
+AreSmall pair = (pair.0 < 2 ^ 32) × (pair.1 < 2 ^ 32)

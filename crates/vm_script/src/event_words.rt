@@ -113,7 +113,11 @@ fn field_of(kind: FieldKind, shape: &CoreShape, word: &[u8]) -> Option<u64>
 }
 
 // The numbers of these kinds that words with single spaces between them spell; those past the last kind are 0.
-fn fields_of(kinds: &[FieldKind], shape: &CoreShape, text: &[u8]) -> Option<(u64, u64, u64, u64)>
+pub(crate) fn fields_of(
+    kinds: &[FieldKind],
+    shape: &CoreShape,
+    text: &[u8],
+) -> Option<(u64, u64, u64, u64)>
     requires shape { IsShape shape.now }
     requires some { 1 ≤ length kinds.now }
     requires few { length kinds.now ≤ 4 }
@@ -169,7 +173,7 @@ fn is_shape(shape: &CoreShape) -> bool
 }
 
 // A shape whose numbers may be counts.
-const LARGEST: CoreShape = CoreShape {
+pub(crate) const LARGEST: CoreShape = CoreShape {
     pages: 64,
     frames: 256,
     actors: 64,

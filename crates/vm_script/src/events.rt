@@ -1,11 +1,14 @@
-//! Event lists: the shape of a core and the events that it is to run.
+//! Event lists: the shape of a core, its groups of pages and the events that it is to run.
 
+ghost use Rattle.std.specs.Prelude.{◌≡◌};
 ghost use Rattle.vm_script.specs.Events.{ReadsEvents};
+ghost use Rattle.vm_script.specs.declared.events.EventsFault.TheVariants.{Memory};
 
 use crate::event_line::EventLine;
-use crate::event_words::{event_line_of, shape_of};
+use crate::event_words::shape_of;
+use crate::list_line::{ListLine, list_line_of};
 use crate::script::{MOST_BYTES, line_of};
-use std::alloc::Global;
+use std::alloc::{AllocFailed, Global};
 use thiserror::Error;
 use vm_event::CoreShape;
 
@@ -20,20 +23,39 @@ pub enum EventsFault {
     Memory,
 }
 
+impl<T: Drop> From<AllocFailed<T>> for EventsFault {
+    ghost from_gives = { λ _ fault. fault ≡ Memory };
+
+    fn from(_: AllocFailed<T>) -> Self {
+        EventsFault::Memory
+    }
+}
+
+/// What an event list spells.
+#[derive(Drop)]
+pub struct EventList {
+    pub shape: CoreShape,
+    /// Each group by its first page and its number of pages.
+    pub groups: Vec<(u32, u32)>,
+    pub lines: Vec<EventLine>,
+}
+
 /// The most lines of an event list, its shape line among them.
 pub const MOST_EVENT_LINES: u32 = 100_000;
 
-/// The shape and the event lines that an event list spells.
+/// The shape, the groups and the event lines that an event list spells.
 ///
-/// The first line is `shape P F A X`: 1 to 64 pages, 1 to 256 frames, 1 to 64 actors, and a next page number of 1 to P. Each
-/// further line is an event, or one of the short forms `fill a p f` and `loads a p`, whose numbers are within the shape.
+/// The first line is `shape P F A X`: 1 to 64 pages, 1 to 256 frames, 1 to 64 actors, and a next page number of 1 to P.
+/// Then lines `group H G` may stand, of pages H to H + G - 1: G is 2, 4 or 8, H a multiple of it, and each page is of the
+/// shape and in one group at most. Each further line is an event, or one of the short forms `fill a p f` and `loads a p`,
+/// whose numbers are within the shape.
 ///
 /// # Errors
 ///
 /// `Long` where the list has more than 16,777,216 bytes. Else `Line` with the number, from 1, of the first line that is
 /// refused, or 100,001 where all lines before it are good. `Memory` where memory was refused.
-pub fn read_events(alloc: Global, bytes: &[u8]) -> Result<(CoreShape, Vec<EventLine>), EventsFault>
-    ensures { ReadsEvents (λ v. (v.0, v.1.items)) bytes.now result }
+pub fn read_events(alloc: Global, bytes: &[u8]) -> Result<EventList, EventsFault>
+    ensures { ReadsEvents (λ v. (v.shape, v.groups.items, v.lines.items)) bytes.now result }
 {
     if bytes.len() > MOST_BYTES {
         return Err(EventsFault::Long);
@@ -42,6 +64,7 @@ pub fn read_events(alloc: Global, bytes: &[u8]) -> Result<(CoreShape, Vec<EventL
     let Some(shape) = shape_of(first) else {
         return Err(EventsFault::Line(1));
     };
+    let mut groups = Vec::new(alloc);
     let mut lines = Vec::new(alloc);
     let mut number = 1;
     'lines: while !rest.is_empty() {
@@ -50,13 +73,16 @@ pub fn read_events(alloc: Global, bytes: &[u8]) -> Result<(CoreShape, Vec<EventL
             return Err(EventsFault::Line(number));
         }
         let (line, behind) = line_of(rest);
-        let Some(event) = event_line_of(line, &shape) else {
-            return Err(EventsFault::Line(number));
-        };
-        if lines.push(event).is_err() {
-            return Err(EventsFault::Memory);
+        match list_line_of(line, &shape, &groups, &lines) {
+            Some(ListLine::Group(group)) => groups.push(group)?,
+            Some(ListLine::Event(event)) => lines.push(event)?,
+            None => return Err(EventsFault::Line(number)),
         }
         rest = behind;
     }
-    Ok((shape, lines))
+    Ok(EventList {
+        shape,
+        groups,
+        lines,
+    })
 }

@@ -21,14 +21,15 @@ pub fn one_reading()
         → Spells workers bytes orders → IsFirstBad workers bytes n → ⊥ }
 {}
 
-/// An event list has one reading: its bytes spell one shape with one list of event lines, or they have one first bad
-/// line, and never both.
+/// An event list has one reading: its bytes spell one shape with one list of groups and one of event lines, or they have
+/// one first bad line, and never both.
 pub fn one_event_reading()
-    ensures one_list { (bytes : List ℕ) (shape other : CoreShape) (a b : List EventLine)
-        → SpellsEvents bytes shape a → SpellsEvents bytes other b → (shape ≡ other) × (a ≡ b) }
+    ensures one_list { (bytes : List ℕ) (shape other : CoreShape) (groups others : List (ℕ × ℕ)) (a b : List EventLine)
+        → SpellsEvents bytes shape groups a → SpellsEvents bytes other others b
+        → (shape ≡ other) × (groups ≡ others) × (a ≡ b) }
     ensures one_bad_line { (bytes : List ℕ) (m n : ℕ) → IsFirstBadEvent bytes m → IsFirstBadEvent bytes n → m ≡ n }
-    ensures not_both { (bytes : List ℕ) (shape : CoreShape) (lines : List EventLine) (n : ℕ)
-        → SpellsEvents bytes shape lines → IsFirstBadEvent bytes n → ⊥ }
+    ensures not_both { (bytes : List ℕ) (shape : CoreShape) (groups : List (ℕ × ℕ)) (lines : List EventLine) (n : ℕ)
+        → SpellsEvents bytes shape groups lines → IsFirstBadEvent bytes n → ⊥ }
 {}
 
 /// A word spells one plan.

@@ -7,6 +7,7 @@ mod event_words;
 pub mod events;
 pub mod faults;
 pub mod laws;
+mod list_line;
 pub mod number;
 pub mod script;
 pub mod seen;

@@ -2,8 +2,11 @@
 -- state word, what the pass knows of
 -- pages afterwards, what it shows of itself where it is taken, and what it tells either way.
 use Rattle.std.proofs.Common.{eq-eqb, ne_eqb}
+use Rattle.vm_event.specs.declared.event.PageAct.TheVariants as acts
 use Rattle.vm_event.specs.declared.event.Seen.TheVariants as sights
+use Rattle.vm_event.proofs.Alone.{act-alone}
 use Rattle.vm_rule.specs.declared.view.WordPlace.TheVariants as places
+use Rattle.vm_rule.proofs.Alone.{taken-locks, taken-lockw, taken-lockx, taken-mark, taken-unmark, taken-upgrade}
 use Rattle.vm_step.proofs.{Evidenced.lost-view, Evidenced.taken-view, Here.frame-inside, Here.last, Here.last-told}
 use Rattle.vm_step.proofs.{Here.older, Here.since, Here.validates, Here.world, Logical.not-pending, Quiet.quiet-shows}
 use Rattle.vm_step.proofs.{Quiet.ShowsQuiet, Written.IsWordOf, Written.word-left}
@@ -208,28 +211,35 @@ module _ {X B : Type 0} (stored : B → Stored) (start : Origin) (s : Table (Opt
     pub lockx-exchange : MayLock expects → (held : Held) (words : List ℕ)
         → IsExchange p expects (word_of LOCKED (version_of expects)) (upd drafts p (last_in start releases p).words)
         (locked_view p held words v) (LockX id p expects) (locked (old.core.pages p) id)
-    lockx-exchange may held words = exchange-of LOCKED _ _ _ _ (named, may)
+    lockx-exchange may held words = exchange-of LOCKED _ _ _ _
+        (act-alone old.core id p (acts.LockX expects) (λ _. refl) (named, may))
         (λ w. lockx-step stored start s releases drafts id v w p expects (word_of LOCKED (version_of expects)) wide l
-        there) (λ f. rw f refl) (lost-lockx old id p expects)
+        there)
+        (λ f. ap (λ (y : World). y.core) (taken-lockx old (λ _. refl) id p expects f))
+        (lost-lockx old (λ _. refl) id p expects)
 
     -- a share
     pub locks-exchange : MayShare expects → (held : Held) (said : Option X)
         → IsExchange p expects (word_of (one_share_more (state_of expects)) (version_of expects)) drafts
         (shared_view p held said v) (LockS id p expects) (shared (old.core.pages p) id)
     locks-exchange may held said =
-        exchange-of (one_share_more (state_of expects)) _ _ _ _ (named, may)
+        exchange-of (one_share_more (state_of expects)) _ _ _ _
+        (act-alone old.core id p (acts.LockS expects) (λ _. refl) (named, may))
         (λ w. locks-step stored start s releases drafts id v w p expects
-        (word_of (one_share_more (state_of expects)) (version_of expects)) wide l there) (λ f. rw f refl)
-        (lost-locks old id p expects)
+        (word_of (one_share_more (state_of expects)) (version_of expects)) wide l there)
+        (λ f. ap (λ (y : World). y.core) (taken-locks old (λ _. refl) id p expects f))
+        (lost-locks old (λ _. refl) id p expects)
 
     -- a lock for write-back
     pub lockw-exchange : state_of expects ≡ MARKED → (held : Held)
         → IsExchange p expects (word_of 1 (version_of expects)) drafts (write_locked_view p held v)
         (LockW id p expects) (write_locked (old.core.pages p) id)
     lockw-exchange may held =
-        exchange-of 1 _ _ _ _ (named, may)
+        exchange-of 1 _ _ _ _ (act-alone old.core id p (acts.LockW expects) (λ _. refl) (named, may))
         (λ w. lockw-step stored start s releases drafts id v w p expects (word_of 1 (version_of expects)) wide l
-        there) (λ f. rw f refl) (lost-lockw old id p expects)
+        there)
+        (λ f. ap (λ (y : World). y.core) (taken-lockw old (λ _. refl) id p expects f))
+        (lost-lockw old (λ _. refl) id p expects)
 
     -- a lock for write-back that becomes exclusive
     pub upgrade-exchange : MayRaiseLock v p expects → (words : List ℕ)
@@ -237,7 +247,7 @@ module _ {X B : Type 0} (stored : B → Stored) (start : Origin) (s : Table (Opt
         (upgraded_view p words v) (Upgrade id p expects) (upgraded (old.core.pages p) id)
     upgrade-exchange may words =
         let here = seat-here stored start s id p v l there in
-        let legal : Legal old.core (Upgrade id p expects) = (
+        let legal : Legal old.core (Upgrade id p expects) = act-alone old.core id p (acts.Upgrade expects) (λ _. refl) (
           named,
           record {
             state = may.state;
@@ -248,21 +258,29 @@ module _ {X B : Type 0} (stored : B → Stored) (start : Origin) (s : Table (Opt
         ) in
         exchange-of LOCKED _ _ _ _ legal
         (λ w. upgrade-step stored start s releases drafts id v w p expects (word_of LOCKED (version_of expects))
-        wide l there) (λ f. rw f refl) (lost-upgrade old id p expects)
+        wide l there)
+        (λ f. ap (λ (y : World). y.core) (taken-upgrade old (λ _. refl) id p expects f))
+        (lost-upgrade old (λ _. refl) id p expects)
 
     -- a mark
     pub mark-exchange : state_of expects ≡ UNLOCKED → IsExchange p expects (word_of MARKED (version_of expects))
         drafts v (Mark id p expects) (marked (old.core.pages p))
-    mark-exchange may = exchange-of MARKED _ _ _ _ (named, may)
+    mark-exchange may = exchange-of MARKED _ _ _ _
+        (act-alone old.core id p (acts.Mark expects) (λ _. refl) (named, may))
         (λ w. mark-step stored start s releases drafts id v w p expects (word_of MARKED (version_of expects)) wide l
-        there) (λ f. rw f refl) (lost-mark old id p expects)
+        there)
+        (λ f. ap (λ (y : World). y.core) (taken-mark old (λ _. refl) id p expects f))
+        (lost-mark old (λ _. refl) id p expects)
 
     -- a mark that is taken away
     pub unmark-exchange : state_of expects ≡ MARKED → IsExchange p expects (word_of UNLOCKED (version_of expects))
         drafts v (Unmark id p expects) (unmarked (old.core.pages p))
-    unmark-exchange may = exchange-of UNLOCKED _ _ _ _ (named, may)
+    unmark-exchange may = exchange-of UNLOCKED _ _ _ _
+        (act-alone old.core id p (acts.Unmark expects) (λ _. refl) (named, may))
         (λ w. unmark-step stored start s releases drafts id v w p expects (word_of UNLOCKED (version_of expects)) wide
-        l there) (λ f. rw f refl) (lost-unmark old id p expects)
+        l there)
+        (λ f. ap (λ (y : World). y.core) (taken-unmark old (λ _. refl) id p expects f))
+        (lost-unmark old (λ _. refl) id p expects)
 
 -- ---- on a page's state word
 

@@ -1,5 +1,6 @@
 -- What the rule says of the pages that a pass holds exclusively: where they stand, what is known of them, and that no
 -- other view says a thing of them.
+use Rattle.vm_event.proofs.Alone.{alone-named}
 use Rattle.vm_step.proofs.Logical.{not-pending}
 use Rattle.vm_step.proofs.Prelude.{any, any-same, any-true, ap, arith, at_set, Bool, caller-here, cases_Bool}
 use Rattle.vm_step.proofs.Prelude.{cases_lt, core_shown, eq-eqb, false, false_from_ne_true, false≢true, get_elem?}
@@ -45,7 +46,7 @@ module _ {X B : Type 0} (stored : B → Stored) (keeps : Start → Kept X → Ty
   owner-inside f =
       let same : v.start.pages ≡ start.pages = ap (λ (o : Origin). o.pages) (r.heard id v there live).same_start in
       let inside : (p : ℕ) → (core_shown stored start s).owners f ≡ p + 1 → p < start.pages =
-      λ p e. stands-inside p f (r.inv.owners.named f p e) in
+      λ p e. stands-inside p f (alone-named (core_shown stored start s) (λ _. refl) r.inv.owners f p e) in
       grind (arith, same, inside ((core_shown stored start s).owners f - 1))
 
   -- where a view says so only of a page that it holds exclusively, and some view says it of this page after a step of

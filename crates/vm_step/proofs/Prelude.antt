@@ -102,9 +102,9 @@ pub use Rattle.vm_rule.proofs.Splitting.{parts-cut, same-field, split-resettles,
 pub use Rattle.vm_rule.proofs.WordFacts.{bare-state, bare-version, finds-hit, finds-miss, less-state, less-version}
 pub use Rattle.vm_rule.proofs.WordFacts.{mapping-clean, mapping-dirty, mapping-none, version-within, word-state}
 pub use Rattle.vm_rule.proofs.WordFacts.{word-version}
+pub use Rattle.vm_rule.proofs.Alone.{lost-locks, lost-lockw, lost-lockx, lost-mark, lost-unmark, lost-upgrade}
 pub use Rattle.vm_rule.proofs.Worlds.{core-still, downgrade-step, draft-is, last-is, last-same, load-step, locks-step}
-pub use Rattle.vm_rule.proofs.Worlds.{lockw-step, lockx-step, look-step, lost-locks, lost-lockw, lost-lockx}
-pub use Rattle.vm_rule.proofs.Worlds.{lost-mark, lost-unmark, lost-upgrade, mark-step, release-else, release-here}
+pub use Rattle.vm_rule.proofs.Worlds.{lockw-step, lockx-step, look-step, mark-step, release-else, release-here}
 pub use Rattle.vm_rule.proofs.Worlds.{release-step, release_of, releasee-step, stands-one, store-core, store-step}
 pub use Rattle.vm_rule.proofs.Worlds.{tload-step, unlocks-step, unmark-step, upgrade-step, world-still, wrote}
 pub use Rattle.vm_rule_laws.specs.Known.{HasStepped, kept_by, KnowsTable}

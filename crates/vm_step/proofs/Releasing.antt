@@ -1,7 +1,9 @@
 -- The ways to release a page that a pass holds exclusively: the table, the versions and the group before and after,
 -- and what the pass knows of the page.
 use Rattle.vm_event.specs.declared.event.Event.TheVariants.{Release}
+use Rattle.vm_event.specs.declared.event.PageAct.TheVariants as acts
 use Rattle.vm_event.specs.declared.event.Seen.TheVariants as sights
+use Rattle.vm_event.proofs.Alone.{act-alone, acted-alone, leave-alone}
 use Rattle.std.specs.Prelude.{◌&&◌, ◌==◌, if◌then◌else◌, map}
 use Rattle.vm_event.specs.Step.{keeps_number, number_left, standing_words}
 use Rattle.vm_rule.specs.from_vm_numbers.Hands.{all_zero}
@@ -137,26 +139,33 @@ abbrev pub numbers_shown : Way → State → ℕ → ℕ → ℕ → ℕ → Boo
 numbers_shown Evicts c a p = c.numbers
 numbers_shown _ c a p = number_left c a p
 
-pub left-core : (way : Way) (w : World) (a p : ℕ)
+pub left-core : (way : Way) (w : World) (a p : ℕ) → ((q : ℕ) → w.core.head q ≡ q)
     → (world_after w (event_left way a p)).core
     ≡ record (on_page w.core p (page_left way (w.core.pages p) a)) { numbers = numbers_shown way w.core a p }
-left-core Evicts w a p = refl
-left-core Unlocks w a p = refl
-left-core Shares w a p = refl
+left-core Evicts w a p own = acted-alone w.core a p acts.ReleaseE own
+left-core Unlocks w a p own =
+    ap (λ (c : State). record c { numbers = number_left w.core a p }) (acted-alone w.core a p acts.Release own)
+left-core Shares w a p own =
+    ap (λ (c : State). record c { numbers = number_left w.core a p }) (acted-alone w.core a p acts.Downgrade own)
 
-pub left-legal : (way : Way) (c : State) (a p : ℕ) → a < c.shape.actors → p < c.shape.pages
+pub left-legal : (way : Way) (c : State) (a p : ℕ) → ((q : ℕ) → c.head q ≡ q) → a < c.shape.actors → p < c.shape.pages
     → ((c.pages p).seats a).exclusive ≡ true → StandsFor way (c.pages p).trans → (c.pages p).fault ≡ (c.pages p).count
     → (word : ℕ) → IsOwned c p word → OwnedFor way p word → Legal c (event_left way a p)
-left-legal Evicts c a p actor page owns stands told word is owned =
+left-legal Evicts c a p own actor page owns stands told word is owned =
+    act-alone c a p acts.ReleaseE own
     (record { actor = actor; page = page }, record { owns = owns; empty = stands; told = told })
-left-legal _ c a p actor page owns stands told word is owned = (
-  record {
-    actor = actor;
-    page = page;
-  },
-  record { owns = owns; resident = stands; told = told },
-  subst (IsOwned c p) owned is,
-)
+left-legal Unlocks c a p own actor page owns stands told word is owned =
+    leave-alone c a p acts.Release own (
+      record { actor = actor; page = page },
+      record { owns = owns; resident = stands; told = told },
+      subst (IsOwned c p) owned is,
+    )
+left-legal Shares c a p own actor page owns stands told word is owned =
+    leave-alone c a p acts.Downgrade own (
+      record { actor = actor; page = page },
+      record { owns = owns; resident = stands; told = told },
+      subst (IsOwned c p) owned is,
+    )
 
 -- the page numbers that the pass holds after it, and those of the pages that it freed
 abbrev pub numbers_after : {X : Type 0} → Way → ℕ → View X → List ℕ
@@ -422,7 +431,7 @@ module _ {X B : Type 0} {stored : B → Stored} {keeps : Start → Kept X → Ty
       released-state released-version
 
   core-is : core_shown stored start new ≡ record (on_page old.core rel.p page) { numbers = numbers_shown rel.way old.core rel.id rel.p }
-  core-is = ap (λ (y : World). y.core) world-is ∙ left-core rel.way old rel.id rel.p
+  core-is = ap (λ (y : World). y.core) world-is ∙ left-core rel.way old rel.id rel.p (λ _. refl)
 
   pub next-is : (core_shown stored start new).next ≡ old.core.next
   next-is = ap (λ (c : State). c.next) core-is
@@ -465,7 +474,7 @@ module _ {X B : Type 0} {stored : B → Stored} {keeps : Start → Kept X → Ty
 
   pub release-legal : Legal old.core event
   release-legal =
-      left-legal rel.way old.core rel.id rel.p (at-bound rel.s.views rel.id rel.v rel.there) rel.inside
+      left-legal rel.way old.core rel.id rel.p (λ _. refl) (at-bound rel.s.views rel.id rel.v rel.there) rel.inside
       (ap (λ (y : Seat). y.exclusive) (seat-here stored start rel.s rel.id rel.p rel.v rel.inside rel.there) ∙ rel.owns)
       (subst (StandsFor rel.way) ((mine.knows rel.p).calls calls-p).0 rel.stands)
       (sym ((mine.knows rel.p).calls calls-p).1 ∙ rel.told ∙ ((mine.knows rel.p).calls calls-p).3)

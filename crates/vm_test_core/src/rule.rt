@@ -46,6 +46,7 @@ fn a_replay_sees_each_event_and_names_the_illegal_one(rt: HostRuntime) -> Result
             actors: 1,
             next: 1,
         },
+        &[],
     )?;
     let seen = replay_kept(alloc, &mut core, &LOST)?;
     assert_eq!(rt; seen.as_slice(), SEEN.as_slice());

@@ -15,8 +15,8 @@ fn refuses_large_event_lists(rt: HostRuntime) -> Result<(), Fail> {
     for _ in 1..MOST_EVENT_LINES {
         bytes.extend_from_slice(b"hand 0\n")?;
     }
-    let (_, lines) = read_events(alloc, bytes.as_slice())?;
-    assert_eq!(rt; lines.len(), 99_999);
+    let list = read_events(alloc, bytes.as_slice())?;
+    assert_eq!(rt; list.lines.len(), 99_999);
     bytes.extend_from_slice(b"hand 0\n")?;
     let fault = read_events(alloc, bytes.as_slice()).err();
     assert_eq!(rt; fault, Some(EventsFault::Line(MOST_EVENT_LINES + 1)));

@@ -1,9 +1,10 @@
 //! The events on free-number words: page numbers go to an actor and become free; and the hold of a number that ends.
 
 ghost use Rattle.std.specs.Prelude.{◌*◌, ◌<◌, ◌↔◌, ◌≡◌, false, IsTrue, true, ℕ};
-ghost use Rattle.vm_event.specs.Prelude.{in_mask, upd};
+ghost use Rattle.vm_event.specs.Prelude.{in_mask, NamesActorAndPage, upd};
 ghost use Rattle.vm_core.specs.Prelude.{core_of, Steps};
-ghost use Rattle.vm_event.specs.Step.{keeps_number, MayGiveNumbers, MayTakeNumbers, NamesSpares, numbers_given, numbers_taken};
+ghost use Rattle.vm_event.specs.Step.{keeps_number, MayGiveNumbers, MayTakeNumbers, NamesSpares, number_left};
+ghost use Rattle.vm_event.specs.Step.{numbers_given, numbers_taken};
 
 use crate::frames::frame_words;
 use crate::machine::Core;
@@ -130,7 +131,7 @@ impl Core {
     }
 
     /// Whether who leaves the page keeps its number: the page's words are all 0.
-    pub(super) fn keeps_number(&self, p: u32) -> bool
+    fn keeps_number(&self, p: u32) -> bool
         requires { p < (core_of self.now).shape.pages }
         ensures { result ≡ keeps_number (core_of self.now) p }
     {
@@ -141,12 +142,23 @@ impl Core {
     }
 
     /// The actor holds the number of the page no more.
-    pub(super) fn end_hold(&mut self, a: u32, p: u32)
-        requires actor { a < (core_of self.old).shape.actors }
-        requires page { p < (core_of self.old).shape.pages }
+    fn end_hold(&mut self, a: u32, p: u32)
+        requires { NamesActorAndPage (core_of self.old) a p }
         ensures { core_of self.new ≡ record (core_of self.old) { numbers = upd (core_of self.old).numbers a (upd ((core_of self.old).numbers a) p false) } }
     {
         let row = &mut self.numbers[a as usize];
         row.remove(p);
+    }
+
+    /// The actor holds the number of no page under the head but of those that it keeps.
+    pub(super) fn end_holds(&mut self, a: u32, h: u32)
+        requires { NamesActorAndPage (core_of self.old) a h }
+        ensures { core_of self.new ≡ record (core_of self.old) { numbers = number_left (core_of self.old) a h } }
+    {
+        for q in h..self.group_end(h) {
+            if self.head(q) == h && !self.keeps_number(q) {
+                self.end_hold(a, q);
+            }
+        }
     }
 }

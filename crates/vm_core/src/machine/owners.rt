@@ -1,7 +1,8 @@
-//! The events on owner words: who holds a page exclusively writes into the word of the page's frame whether the frame is the page's, and
-//! anyone loads such a word, to find the page of a frame. A page that is given up in its frame is named by it.
+//! The events on owner words: who holds a page exclusively writes the page's head into the word of the page's frame, or
+//! that the frame is no page's, and anyone loads such a word, to find the head of the page in a frame. A page that is
+//! given up in its frame has its head named by it.
 
-ghost use Rattle.std.specs.Prelude.{◌<◌, ◌↔◌, ◌≡◌, IsTrue};
+ghost use Rattle.std.specs.Prelude.{◌+◌, ◌<◌, ◌↔◌, ◌≡◌, IsTrue, ℕ};
 ghost use Rattle.vm_event.specs.Prelude.{IsOwned, NamesActorAndPage, upd};
 ghost use Rattle.vm_core.specs.Prelude.{core_of, Steps};
 ghost use Rattle.vm_core.specs.CoreOf.{LeaveSteps, OwnedFrame};
@@ -40,19 +41,29 @@ impl Core {
         }
     }
 
-    /// An event on one page alone that gives it up and leaves it in its frame, whose owner word names it.
-    pub(super) fn leave(&mut self, a: u32, p: u32, act: PageAct) -> Result<Seen, Illegal>
-        ensures { LeaveSteps self.old a p act result self.new }
+    /// Whether the owner word of the frame of each page under the head names the head.
+    fn are_owned(&self, h: u32) -> bool
+        requires { h < (core_of self.now).shape.pages }
+        ensures { IsTrue result ↔ ((q : ℕ) → (core_of self.now).head q ≡ h → IsOwned (core_of self.now) q (h + 1)) }
     {
-        if !self.names(a, p) || !self.is_owned(p, u64::from(p) + 1) {
+        for q in h..self.group_end(h) {
+            if self.head(q) == h && !self.is_owned(q, u64::from(h) + 1) {
+                return false;
+            }
+        }
+        true
+    }
+
+    /// An event on a state word that gives up the pages under it and leaves each in its frame, whose owner word names
+    /// the head.
+    pub(super) fn leave(&mut self, a: u32, h: u32, act: PageAct) -> Result<Seen, Illegal>
+        ensures { LeaveSteps self.old a h act result self.new }
+    {
+        if !self.may_over(a, h, act) || !self.are_owned(h) {
             return Err(Illegal);
         }
-        let keeps = self.keeps_number(p);
-        let seen = self.on_page(a, p, act)?;
-        if !keeps {
-            self.end_hold(a, p);
-        }
-        Ok(seen)
+        self.end_holds(a, h);
+        Ok(self.act_over(a, h, act))
     }
 
     /// The owner word of a frame is written.
@@ -63,14 +74,14 @@ impl Core {
         self.owners[f as usize] = w;
     }
 
-    /// The frame of a page is the page's, where the actor may say so.
+    /// The frame of a page is named as its head's, where the actor may say so.
     pub(super) fn own(&mut self, a: u32, p: u32) -> Result<Seen, Illegal>
         ensures { Steps self.old (Event.Own a p) result self.new }
     {
         let Some(f) = self.owned_frame(a, p) else {
             return Err(Illegal);
         };
-        self.put_owner(f, u64::from(p) + 1);
+        self.put_owner(f, u64::from(self.head(p)) + 1);
         Ok(Seen::Done)
     }
 

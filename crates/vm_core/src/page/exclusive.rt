@@ -1,35 +1,31 @@
 //! The exclusive lock of a page: taken, upgraded from a write-back, and given up at the next version.
 
-ghost use Rattle.std.specs.Prelude.{[], ◌<◌, ◌↔◌, ◌≡◌, ◌⊎◌, IsTrue, length};
-ghost use Rattle.vm_event.specs.Prelude.{EVICTED, locked, MARKED, MayEmpty, MayReleaseLock, MayUpgrade, state_of, UNLOCKED};
-ghost use Rattle.vm_core.specs.Prelude.{page_of, PageSteps};
-ghost use Rattle.vm_event.specs.Prelude.{upgraded, version_of};
+ghost use Rattle.std.specs.Prelude.{◌<◌, ◌↔◌, ◌≡◌, ◌⊎◌, if◌then◌else◌, IsTrue, length};
+ghost use Rattle.vm_event.specs.Prelude.{EVICTED, finds, locked, MARKED, MayEmpty, MayLock, MayReleaseLock, MayUpgrade};
+ghost use Rattle.vm_core.specs.Prelude.{page_of};
+ghost use Rattle.vm_event.specs.Prelude.{state_of, UNLOCKED, upgraded, version_of};
+ghost use Rattle.vm_event.specs.PageStep.{exchange_seen};
 ghost use Rattle.vm_event.specs.StateActs.{downgraded, emptied, released};
 
 use crate::page::PageCell;
-use vm_event::{Illegal, MAX_VERSION, PageAct, Seat, Seen, StateWord};
+use vm_event::{MAX_VERSION, Seat, Seen, StateWord};
 
 #[tactic(auto, using(vm_event::proofs::At::at_set, vm_event::proofs::At::seat_here))]
 impl PageCell {
     /// The exclusive lock, where the word is the expected one.
-    pub(super) fn try_lock_exclusive(&mut self, a: usize, expects: u64) -> Result<Seen, Illegal>
-        requires { a < length self.old.seats }
-        ensures step { PageSteps [] self.old a (PageAct.LockX expects) result self.new }
+    pub(super) fn exchange_lock(&mut self, a: usize, expects: u64) -> Seen
+        requires seat { a < length self.old.seats }
+        requires may { MayLock expects }
+        ensures page { page_of self.new
+            ≡ (if finds (page_of self.old) expects then locked (page_of self.old) a else page_of self.old) }
+        ensures sight { result ≡ exchange_seen (page_of self.old) expects }
         ensures seats { length self.new.seats ≡ length self.old.seats }
     {
-        let state = StateWord::state(expects);
-        if (state != StateWord::UNLOCKED
-            && state != StateWord::MARKED
-            && state != StateWord::EVICTED)
-            || StateWord::version(expects) >= MAX_VERSION
-        {
-            return Err(Illegal);
-        }
         if !self.finds(expects) {
-            return Ok(Seen::Lost(self.word()));
+            return Seen::Lost(self.word());
         }
         self.lock_exclusive(a);
-        Ok(Seen::Taken)
+        Seen::Taken
     }
 
     /// The exclusive lock is taken. It closes the open read of the actor.
@@ -47,7 +43,7 @@ impl PageCell {
     }
 
     /// Whether the actor writes the page back under its one share, and expects just that share below the last version.
-    fn may_upgrade(&self, a: usize, expects: u64) -> bool
+    pub(super) fn may_upgrade(&self, a: usize, expects: u64) -> bool
         requires { a < length self.now.seats }
         ensures { IsTrue result ↔ MayUpgrade (page_of self.now) a expects }
     {
@@ -59,19 +55,19 @@ impl PageCell {
     }
 
     /// The share of a write-back becomes the exclusive lock, where the word is the expected one.
-    pub(super) fn try_upgrade(&mut self, a: usize, expects: u64) -> Result<Seen, Illegal>
-        requires { a < length self.old.seats }
-        ensures step { PageSteps [] self.old a (PageAct.Upgrade expects) result self.new }
+    pub(super) fn exchange_upgrade(&mut self, a: usize, expects: u64) -> Seen
+        requires seat { a < length self.old.seats }
+        requires may { MayUpgrade (page_of self.old) a expects }
+        ensures page { page_of self.new
+            ≡ (if finds (page_of self.old) expects then upgraded (page_of self.old) a else page_of self.old) }
+        ensures sight { result ≡ exchange_seen (page_of self.old) expects }
         ensures seats { length self.new.seats ≡ length self.old.seats }
     {
-        if !self.may_upgrade(a, expects) {
-            return Err(Illegal);
-        }
         if !self.finds(expects) {
-            return Ok(Seen::Lost(self.word()));
+            return Seen::Lost(self.word());
         }
         self.upgrade(a, expects);
-        Ok(Seen::Taken)
+        Seen::Taken
     }
 
     /// A write-back becomes an exclusive lock: the share, the write-back and an open read of the actor end.
@@ -93,81 +89,55 @@ impl PageCell {
     }
 
     /// Whether the actor holds the page exclusively, it is resident, and the faults of its block are told.
-    fn may_release(&self, a: usize) -> bool
+    pub(super) fn may_release(&self, a: usize) -> bool
         requires { a < length self.now.seats }
         ensures { IsTrue result ↔ MayReleaseLock (page_of self.now) a }
     {
         self.seats[a].exclusive && self.trans.is_some() && self.fault == self.count
     }
 
-    /// The exclusive lock of a resident page is given up, once the faults of its block are told.
-    pub(super) fn try_release(&mut self, a: usize) -> Result<Seen, Illegal>
-        requires { a < length self.old.seats }
-        ensures step { PageSteps [] self.old a PageAct.Release result self.new }
-        ensures seats { length self.new.seats ≡ length self.old.seats }
-    {
-        if !self.may_release(a) {
-            return Err(Illegal);
-        }
-        self.release(a);
-        Ok(Seen::Done)
-    }
-
-    /// The release of the exclusive lock, at the next version.
-    fn release(&mut self, a: usize)
+    /// The exclusive lock of a resident page is given up, at the next version, once the faults of its block are told.
+    pub(super) fn release(&mut self, a: usize) -> Seen
         requires seat { a < length self.old.seats }
         requires may { MayReleaseLock (page_of self.old) a }
         ensures page { page_of self.new ≡ released (page_of self.old) a }
+        ensures sight { result ≡ Seen.Done }
         ensures seats { length self.new.seats ≡ length self.old.seats }
     {
         self.state = StateWord::UNLOCKED;
         self.version += 1;
         self.seats[a].exclusive = false;
+        Seen::Done
     }
 
-    /// The exclusive lock of a page without a frame is given up, once the faults of its block are told.
-    pub(super) fn try_release_evicted(&mut self, a: usize) -> Result<Seen, Illegal>
-        requires { a < length self.old.seats }
-        ensures step { PageSteps [] self.old a PageAct.ReleaseE result self.new }
-        ensures seats { length self.new.seats ≡ length self.old.seats }
+    /// Whether the actor holds the page exclusively, it has no frame, and the faults of its block are told.
+    pub(super) fn may_empty(&self, a: usize) -> bool
+        requires { a < length self.now.seats }
+        ensures { IsTrue result ↔ MayEmpty (page_of self.now) a }
     {
-        if !self.seats[a].exclusive || self.trans.is_some() || self.fault != self.count {
-            return Err(Illegal);
-        }
-        self.release_evicted(a);
-        Ok(Seen::Done)
+        self.seats[a].exclusive && self.trans.is_none() && self.fault == self.count
     }
 
-    /// The page is evicted, at the next version.
-    fn release_evicted(&mut self, a: usize)
+    /// The exclusive lock of a page without a frame is given up: the page is evicted, at the next version.
+    pub(super) fn release_evicted(&mut self, a: usize) -> Seen
         requires seat { a < length self.old.seats }
         requires may { MayEmpty (page_of self.old) a }
         ensures page { page_of self.new ≡ emptied (page_of self.old) a }
+        ensures sight { result ≡ Seen.Done }
         ensures seats { length self.new.seats ≡ length self.old.seats }
     {
         self.state = StateWord::EVICTED;
         self.version += 1;
         self.seats[a].exclusive = false;
+        Seen::Done
     }
 
-    /// The exclusive lock of a resident page becomes a share, once the faults of its block are told.
-    pub(super) fn try_downgrade(&mut self, a: usize) -> Result<Seen, Illegal>
-        requires { a < length self.old.seats }
-        ensures step { PageSteps [] self.old a PageAct.Downgrade result self.new }
-        ensures seats { length self.new.seats ≡ length self.old.seats }
-    {
-        if !self.may_release(a) {
-            return Err(Illegal);
-        }
-        self.downgrade(a);
-        Ok(Seen::Done)
-    }
-
-    /// The exclusive lock becomes a share, at the next version.
-    fn downgrade(&mut self, a: usize)
+    /// The exclusive lock of a resident page becomes a share, at the next version.
+    pub(super) fn downgrade(&mut self, a: usize) -> Seen
         requires seat { a < length self.old.seats }
         requires may { MayReleaseLock (page_of self.old) a }
         ensures page { page_of self.new ≡ downgraded (page_of self.old) a }
+        ensures sight { result ≡ Seen.Done }
         ensures seats { length self.new.seats ≡ length self.old.seats }
     {
         self.state = 1;
@@ -175,5 +145,15 @@ impl PageCell {
         let seat = &mut self.seats[a];
         seat.shares = 1;
         seat.exclusive = false;
+        Seen::Done
     }
+}
+
+/// Whether the exclusive lock may expect this state word: unlocked, marked or evicted, below the last version.
+pub(super) fn may_lock(expects: u64) -> bool
+    ensures { IsTrue result ↔ MayLock expects }
+{
+    let state = StateWord::state(expects);
+    (state == StateWord::UNLOCKED || state == StateWord::MARKED || state == StateWord::EVICTED)
+        && StateWord::version(expects) < MAX_VERSION
 }

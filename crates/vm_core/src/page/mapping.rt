@@ -1,14 +1,14 @@
 //! The frame under a page: put there, taken away, made dirty and clean.
 
-ghost use Rattle.std.specs.Prelude.{[], ◌<◌, ◌↔◌, ◌≡◌, IsTrue, length, true};
+ghost use Rattle.std.specs.Prelude.{◌<◌, ◌↔◌, ◌≡◌, IsTrue, length, true};
 ghost use Rattle.vm_event.specs.Prelude.{cleared, HoldsAt, installed, MayClean, MayDirty, MayInstall};
-ghost use Rattle.vm_core.specs.Prelude.{ClearFrame, HeldFrame, page_of, PageSteps};
+ghost use Rattle.vm_core.specs.Prelude.{ClearFrame, HeldFrame, page_of};
 ghost use Rattle.vm_event.specs.Prelude.{with_dirty};
 ghost use Rattle.vm_core.specs.Prelude.{words_of_frames};
 
 use crate::frames::frame_words;
 use crate::page::PageCell;
-use vm_event::{Illegal, Mapping, PageAct, Seen};
+use vm_event::{Mapping, Seen};
 use vm_page::WORDS;
 
 #[tactic(auto, using(vm_event::proofs::At::at_set, vm_event::proofs::At::seat_here))]
@@ -91,21 +91,19 @@ impl PageCell {
         self.seats[a].exclusive && self.trans.is_some()
     }
 
-    /// The page is made dirty.
-    pub(super) fn try_dirty(&mut self, a: usize) -> Result<Seen, Illegal>
-        requires { a < length self.old.seats }
-        ensures step { PageSteps [] self.old a PageAct.Dirty result self.new }
+    /// The translation is made dirty or clean.
+    pub(super) fn set_dirty(&mut self, dirty: bool) -> Seen
+        ensures page { page_of self.new
+            ≡ record (page_of self.old) { trans = with_dirty dirty (page_of self.old).trans } }
+        ensures sight { result ≡ Seen.Done }
         ensures seats { length self.new.seats ≡ length self.old.seats }
     {
-        if !self.may_dirty(a) {
-            return Err(Illegal);
-        }
-        self.trans = with_dirty(true, self.trans);
-        Ok(Seen::Done)
+        self.trans = with_dirty(dirty, self.trans);
+        Seen::Done
     }
 
     /// Whether the actor writes the page back, and the block has the words of its frame.
-    fn may_clean(&self, a: usize, frames: &[[u64; WORDS]]) -> bool
+    pub(super) fn may_clean(&self, a: usize, frames: &[[u64; WORDS]]) -> bool
         requires { a < length self.now.seats }
         ensures { IsTrue result ↔ MayClean true (words_of_frames frames.now) (page_of self.now) a }
     {
@@ -119,19 +117,6 @@ impl PageCell {
                 self.block.as_slice() == words.as_slice()
             }
         }
-    }
-
-    /// The page is made clean.
-    pub(super) fn try_clean(&mut self, a: usize, frames: &[[u64; WORDS]]) -> Result<Seen, Illegal>
-        requires { a < length self.old.seats }
-        ensures step { PageSteps frames.now self.old a PageAct.Clean result self.new }
-        ensures seats { length self.new.seats ≡ length self.old.seats }
-    {
-        if !self.may_clean(a, frames) {
-            return Err(Illegal);
-        }
-        self.trans = with_dirty(false, self.trans);
-        Ok(Seen::Done)
     }
 }
 

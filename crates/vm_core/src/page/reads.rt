@@ -1,36 +1,42 @@
 //! Optimistic reads of a page: looks, the frame of an open read, and what a load reads.
 
 ghost use Rattle.std.specs.Prelude.{◌&&◌, ◌<◌, ◌==◌, ◌||◌, ◌≡◌, if◌then◌else◌, is_some, length, nat_lt};
-ghost use Rattle.vm_event.specs.Prelude.{frame_of, frame_read, framed, left_of, left_open, load_frame, looked, open_after, open_frame};
+ghost use Rattle.vm_event.specs.Prelude.{frame_of, frame_read, framed, left_open, load_frame, looked, open_after};
+ghost use Rattle.vm_event.specs.Prelude.{open_frame, trans_word};
 ghost use Rattle.vm_core.specs.Prelude.{page_of};
+ghost use Rattle.vm_event.specs.PageStep.{page_seen};
 ghost use Rattle.vm_event.specs.declared.event.ReadIs.TheVariants.{Closed};
 
-use crate::page::PageCell;
-use vm_event::{Mapping, Open, ReadIs, Seat, StateWord};
+use crate::page::{PageCell, trans_word};
+use vm_event::{Mapping, Open, PageAct, ReadIs, Seat, Seen, StateWord};
 
 #[tactic(auto, using(vm_event::proofs::At::at_set, vm_event::proofs::At::seat_here))]
 impl PageCell {
-    /// A look, and what it leaves of the actor's open read.
-    pub(super) fn look(&mut self, a: usize) -> ReadIs
+    /// A look, which sees the state word and what it leaves of the actor's open read.
+    pub(super) fn look(&mut self, a: usize) -> Seen
         requires { a < length self.old.seats }
         ensures page { page_of self.new ≡ looked (page_of self.old) a }
-        ensures seen { result ≡ left_of (page_of self.old) ((page_of self.old).seats a).reading }
+        ensures sight { result ≡ page_seen (page_of self.old) a PageAct.Look }
         ensures seats { length self.new.seats ≡ length self.old.seats }
     {
+        let word = self.word();
         let reading = self.seats[a].reading;
         let left = left_read(self.state, self.version, reading);
         self.seats[a].reading = reading_after(left, reading, self.version);
-        left
+        Seen::Look { word, left }
     }
 
-    /// An open read without a frame gets the page's.
-    pub(super) fn set_read_frame(&mut self, a: usize)
+    /// A load of the translation word: an open read without a frame gets the page's.
+    pub(super) fn load_translation(&mut self, a: usize) -> Seen
         requires { a < length self.old.seats }
         ensures page { page_of self.new ≡ frame_read (page_of self.old) a }
+        ensures sight { result ≡ Seen.Word (trans_word self.old.trans) }
         ensures seats { length self.new.seats ≡ length self.old.seats }
     {
+        let word = trans_word(self.trans);
         let reading = framed(self.seats[a].reading, self.trans);
         self.seats[a].reading = reading;
+        Seen::Word(word)
     }
 
     /// The frame that a load of the actor reads: the page's under a lock of the actor, else that of its open read.

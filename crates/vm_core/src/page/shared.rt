@@ -1,30 +1,30 @@
 //! The shares of a page, its clock mark, and the lock for write-back.
 
-ghost use Rattle.std.specs.Prelude.{[], ◌<◌, ◌≡◌, ◌≤◌, ◌⊎◌, length};
-ghost use Rattle.vm_event.specs.Prelude.{MARKED, marked, MayUnlock, one_share_more, shared, UNLOCKED, unlocked, unmarked};
-ghost use Rattle.vm_core.specs.Prelude.{page_of, PageSteps};
-ghost use Rattle.vm_event.specs.Prelude.{unshared, write_locked};
+ghost use Rattle.std.specs.Prelude.{◌<◌, ◌↔◌, ◌≡◌, ◌≤◌, ◌⊎◌, if◌then◌else◌, IsTrue, length};
+ghost use Rattle.vm_event.specs.Prelude.{finds, MARKED, marked, MayShare, MayUnlock, one_share_more, page_word, shared};
+ghost use Rattle.vm_core.specs.Prelude.{page_of};
+ghost use Rattle.vm_event.specs.Prelude.{state_of, UNLOCKED, unlocked, unmarked, unshared, write_locked};
+ghost use Rattle.vm_event.specs.PageStep.{exchange_seen};
 
 use crate::page::PageCell;
-use vm_event::{Illegal, PageAct, Seat, Seen, StateWord};
+use vm_event::{Seat, Seen, StateWord};
 
 #[tactic(auto, using(vm_event::proofs::At::at_set, vm_event::proofs::At::seat_here))]
 impl PageCell {
-    /// One share more, where the word is the expected one. A page has at most 252 shares.
-    pub(super) fn try_lock_shared(&mut self, a: usize, expects: u64) -> Result<Seen, Illegal>
-        requires { a < length self.old.seats }
-        ensures step { PageSteps [] self.old a (PageAct.LockS expects) result self.new }
+    /// One share more, where the word is the expected one.
+    pub(super) fn exchange_share(&mut self, a: usize, expects: u64) -> Seen
+        requires seat { a < length self.old.seats }
+        requires may { MayShare expects }
+        ensures page { page_of self.new
+            ≡ (if finds (page_of self.old) expects then shared (page_of self.old) a else page_of self.old) }
+        ensures sight { result ≡ exchange_seen (page_of self.old) expects }
         ensures seats { length self.new.seats ≡ length self.old.seats }
     {
-        let state = StateWord::state(expects);
-        if state >= StateWord::MAX_SHARES && state != StateWord::MARKED {
-            return Err(Illegal);
-        }
         if !self.finds(expects) {
-            return Ok(Seen::Lost(self.word()));
+            return Seen::Lost(self.word());
         }
         self.lock_shared(a);
-        Ok(Seen::Taken)
+        Seen::Taken
     }
 
     /// One share more. It closes the open read of the actor.
@@ -40,46 +40,43 @@ impl PageCell {
         seat.reading = None;
     }
 
-    /// A share is given up; the last one of a write-back only once the faults of the block are told.
-    pub(super) fn try_unlock(&mut self, a: usize) -> Result<Seen, Illegal>
-        requires { a < length self.old.seats }
-        ensures step { PageSteps [] self.old a PageAct.UnlockS result self.new }
-        ensures seats { length self.new.seats ≡ length self.old.seats }
+    /// Whether the actor has a share; the last one of a write-back is given up only once the faults of the block are
+    /// told.
+    pub(super) fn may_unlock(&self, a: usize) -> bool
+        requires { a < length self.now.seats }
+        ensures { IsTrue result ↔ MayUnlock (page_of self.now) a }
     {
         let seat = self.seats[a];
-        if seat.shares == 0 || (seat.writing && seat.shares == 1 && self.fault != self.count) {
-            return Err(Illegal);
-        }
-        let word = self.word();
-        self.unlock(a);
-        Ok(Seen::Word(word))
+        seat.shares > 0 && (!seat.writing || seat.shares != 1 || self.fault == self.count)
     }
 
     /// A share is given up. A write-back ends with the last one.
-    fn unlock(&mut self, a: usize)
+    pub(super) fn unlock(&mut self, a: usize) -> Seen
         requires seat { a < length self.old.seats }
         requires may { MayUnlock (page_of self.old) a }
         ensures page { page_of self.new ≡ unlocked (page_of self.old) a }
+        ensures sight { result ≡ Seen.Word (page_word (page_of self.old)) }
         ensures seats { length self.new.seats ≡ length self.old.seats }
     {
+        let word = self.word();
         self.state -= 1;
         self.seats[a] = unshared(self.seats[a]);
+        Seen::Word(word)
     }
 
     /// The mark of the clock, where the word is the expected one.
-    pub(super) fn try_mark(&mut self, a: usize, expects: u64) -> Result<Seen, Illegal>
-        requires { a < length self.old.seats }
-        ensures step { PageSteps [] self.old a (PageAct.Mark expects) result self.new }
+    pub(super) fn exchange_mark(&mut self, expects: u64) -> Seen
+        requires { state_of expects ≡ UNLOCKED }
+        ensures page { page_of self.new
+            ≡ (if finds (page_of self.old) expects then marked (page_of self.old) else page_of self.old) }
+        ensures sight { result ≡ exchange_seen (page_of self.old) expects }
         ensures seats { length self.new.seats ≡ length self.old.seats }
     {
-        if StateWord::state(expects) != StateWord::UNLOCKED {
-            return Err(Illegal);
-        }
         if !self.finds(expects) {
-            return Ok(Seen::Lost(self.word()));
+            return Seen::Lost(self.word());
         }
         self.mark();
-        Ok(Seen::Taken)
+        Seen::Taken
     }
 
     /// The mark is set.
@@ -92,19 +89,18 @@ impl PageCell {
     }
 
     /// The mark is taken away, where the word is the expected one.
-    pub(super) fn try_unmark(&mut self, a: usize, expects: u64) -> Result<Seen, Illegal>
-        requires { a < length self.old.seats }
-        ensures step { PageSteps [] self.old a (PageAct.Unmark expects) result self.new }
+    pub(super) fn exchange_unmark(&mut self, expects: u64) -> Seen
+        requires { state_of expects ≡ MARKED }
+        ensures page { page_of self.new
+            ≡ (if finds (page_of self.old) expects then unmarked (page_of self.old) else page_of self.old) }
+        ensures sight { result ≡ exchange_seen (page_of self.old) expects }
         ensures seats { length self.new.seats ≡ length self.old.seats }
     {
-        if StateWord::state(expects) != StateWord::MARKED {
-            return Err(Illegal);
-        }
         if !self.finds(expects) {
-            return Ok(Seen::Lost(self.word()));
+            return Seen::Lost(self.word());
         }
         self.unmark();
-        Ok(Seen::Taken)
+        Seen::Taken
     }
 
     /// The mark is taken away.
@@ -117,19 +113,19 @@ impl PageCell {
     }
 
     /// The lock for write-back, where the word is the expected one.
-    pub(super) fn try_write_lock(&mut self, a: usize, expects: u64) -> Result<Seen, Illegal>
-        requires { a < length self.old.seats }
-        ensures step { PageSteps [] self.old a (PageAct.LockW expects) result self.new }
+    pub(super) fn exchange_write_lock(&mut self, a: usize, expects: u64) -> Seen
+        requires seat { a < length self.old.seats }
+        requires may { state_of expects ≡ MARKED }
+        ensures page { page_of self.new
+            ≡ (if finds (page_of self.old) expects then write_locked (page_of self.old) a else page_of self.old) }
+        ensures sight { result ≡ exchange_seen (page_of self.old) expects }
         ensures seats { length self.new.seats ≡ length self.old.seats }
     {
-        if StateWord::state(expects) != StateWord::MARKED {
-            return Err(Illegal);
-        }
         if !self.finds(expects) {
-            return Ok(Seen::Lost(self.word()));
+            return Seen::Lost(self.word());
         }
         self.write_lock(a);
-        Ok(Seen::Taken)
+        Seen::Taken
     }
 
     /// A marked page gets one share, and its write-back begins. It closes the open read of the actor.
@@ -145,6 +141,14 @@ impl PageCell {
         seat.writing = true;
         seat.reading = None;
     }
+}
+
+/// Whether the state word has room for a share: at most 251 shares and no other lock, or the mark.
+pub(super) fn may_share(expects: u64) -> bool
+    ensures { IsTrue result ↔ MayShare expects }
+{
+    let state = StateWord::state(expects);
+    state < StateWord::MAX_SHARES || state == StateWord::MARKED
 }
 
 /// The state with one share more.

@@ -5,7 +5,9 @@
 -- What a look leaves: it speaks of the open read of one page, and says at most one entry. Under a lock of the page nothing changes.
 use Rattle.std.proofs.Common.{eq-eqb, ne_eqb}
 use Rattle.vm_event.specs.declared.event.ReadIs.TheVariants as read
+use Rattle.vm_event.specs.declared.event.PageAct.TheVariants as acts
 use Rattle.vm_event.specs.declared.event.Seen.TheVariants as sights
+use Rattle.vm_event.proofs.{Alone.act-alone, Alone.acted-alone, Upd.upd_over-keeps}
 use Rattle.vm_rule.specs.declared.view.WordPlace.TheVariants as places
 use Rattle.vm_step.proofs.{Asides.alone-silent, Asides.OnlyReads, Fit.fit, Keeping.kept-now, Keeping.shared-free}
 use Rattle.vm_step.proofs.{Quiet.event-shows, Standing.allows, Unclaimed.logical-zero, Written.word-loaded}
@@ -26,8 +28,8 @@ use Rattle.vm_step.proofs.Prelude.{mapping_of, MARKED, may_call, MayTell, mine-i
 use Rattle.vm_step.proofs.Prelude.{next-here, no_held, no_seat, None, Open, open_after, open_frame, Option, Origin}
 use Rattle.vm_step.proofs.Prelude.{Page, page-open, page_at, put_at, ReadIs, refl, Release, Ruled, Same, same-word}
 use Rattle.vm_step.proofs.Prelude.{Seat, seat-here, seat_of, set_here, Shows, TableShape, slice_index, slice_set}
-use Rattle.vm_step.proofs.Prelude.{Some, some, some-is, Stands, Start, state-here, state_of, steps, Stored, subst}
-use Rattle.vm_step.proofs.Prelude.{suc, sym, Table, Tie, tie_of, TieHolds, ties_below, told, told_of, Translation}
+use Rattle.vm_step.proofs.Prelude.{Some, some, some-is, Stands, Start, State, state-here, state_of, steps, Stored}
+use Rattle.vm_step.proofs.Prelude.{subst, suc, sym, Table, Tie, tie_of, TieHolds, ties_below, told, told_of, Translation}
 use Rattle.vm_step.proofs.Prelude.{TranslationHolds, true, UNLOCKED, upd-keeps, upd-other, upd-same, Version}
 use Rattle.vm_step.proofs.Prelude.{version-here, version_of, View, where_same, word-here, World, world_after}
 use Rattle.vm_step.proofs.Prelude.{world_of, zero, ℕ, ⊎_elim, ◌++◌, ◌+◌, ◌<◌, ◌∙◌, ◌∷◌, ◌≡◌, ◌≢◌, ◌≤◌, ◌⊎◌}
@@ -116,7 +118,8 @@ pub tie-looked : (tied : Start → ℕ → List ℕ → ℕ → List ℕ → Typ
     (pending : ℕ → Bool) (t : Tie) → TieHolds tied began w pending t → TieHolds tied began (world_after w (Look a p))
     pending t
 tie-looked tied began w a p pending t h =
-    let same = upd-keeps (λ y. y.version) w.core.pages p (looked (w.core.pages p) a) refl t.page in
+    let same = upd_over-keeps (λ (y : Page). y.version) w.core.head p w.core.pages (λ q. looked (w.core.pages q) a)
+    (λ _ _. refl) t.page in
     (h.0, subst (λ n. t.version ≤ n) (sym same) h.1, λ e. h.2 (e ∙ same))
 
 module _ {X B : Type 0} (stored : B → Stored) (keeps : Start → Kept X → Type 0)
@@ -313,7 +316,8 @@ module _ {X B : Type 0} (stored : B → Stored) (keeps : Start → Kept X → Ty
             event-shows stored keeps tied start tells s r id v s.words r.drafts look-entries look-did look-inner (Look id p) there live
             (record {
               word = word-loaded start s.words (places.State p) r.wide.0 r.spelled l;
-              legal = (record { actor = at-bound s.views id v there; page = l }, tt);
+              legal = act-alone old.core id p acts.Look (λ _. refl)
+                  (record { actor = at-bound s.views id v there; page = l }, tt);
               leads = record {
                 world = look-step stored start s r.releases r.drafts id v look-after p page l there refl refl
                     (sym (state-here stored start s p l)) (sym (version-here stored start s p l)) refl refl;
@@ -328,10 +332,13 @@ module _ {X B : Type 0} (stored : B → Stored) (keeps : Start → Kept X → Ty
               same = (refl, refl, refl, refl, refl, refl, refl);
               calls = λ o x. seat-keeps may_call refl o.page ∙ (r.blocks.away id v o there x).1;
               holds = λ q x. seat-keeps (λ y. y.exclusive) refl q ∙ x;
-              knows = each-upd2 (λ j seat y. KnowsPage seat (put_at no_held v.held j) y) (put_at no_seat v.seats)
+              knows = subst (λ (c : State).
+                  (j : ℕ) → KnowsPage (seat_of look-inner j) (put_at no_held v.held j) (c.pages j))
+                  (sym (acted-alone old.core id p acts.Look (λ _. refl)))
+                  (each-upd2 (λ j seat y. KnowsPage seat (put_at no_held v.held j) y) (put_at no_seat v.seats)
                   old.core.pages p _ (looked (old.core.pages p) id)
                   (record { calls = (k.knows p).calls; shares = (k.knows p).shares })
-                  (λ j _. k.knows j);
+                  (λ j _. k.knows j));
               owners = λ q m x. k.owners q m (sym (seat-keeps may_call refl q) ∙ x);
               contents = k.contents;
               drafted = λ q x. k.drafts q (sym (seat-keeps (λ y. y.exclusive) refl q) ∙ x) ∙ draft-is start r.releases r.drafts q;
@@ -417,7 +424,8 @@ module _ {X B : Type 0} (stored : B → Stored) (keeps : Start → Kept X → Ty
       let view = told.brings.view in
       let state : state_of found ≡ page.state = ap state_of finds.1 ∙ sym (state-here stored start s p finds.0) in
       let version : version_of found ≡ page.version = ap version_of finds.1 ∙ sym (version-here stored start s p finds.0) in
-      is-event (record { actor = at-bound s.views id v pass.there; page = finds.0 }, tt)
+      is-event (act-alone (core_shown stored start s) id p acts.Look (λ _. refl)
+      (record { actor = at-bound s.views id v pass.there; page = finds.0 }, tt))
       (look-step stored start s [] (λ _. []) id v w p (record page {
         state = state_of found;
         version = version_of found;

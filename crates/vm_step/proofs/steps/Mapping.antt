@@ -7,6 +7,7 @@
 -- What a page leaves that is put into a frame of the pass, or taken out of its frame: the steps work on that page,
 -- which is locked meanwhile.
 use Rattle.vm_event.specs.declared.event.Seen.TheVariants as sights
+use Rattle.vm_event.proofs.Alone.{alone-named}
 use Rattle.vm_rule.specs.declared.view.WordPlace.TheVariants as places
 use Rattle.vm_rule.proofs.Facts.{has-left}
 use Rattle.vm_step.proofs.{Fit.fit, Here.frame-inside, Leaves.works-one, Mine.owner-known, Mine.stands-called}
@@ -156,7 +157,8 @@ module _ {X B : Type 0} (stored : B → Stored) (keeps : Start → Kept X → Ty
       unowned : core.owners f ≡ 0
       unowned =
           ⊎_elim (λ e. e)
-          (λ ne. absurd (true≢false (sym (r.inv.owners.named f (core.owners f - 1) (omega (arith, ne)))
+          (λ ne. absurd (true≢false
+          (sym (alone-named core (λ _. refl) r.inv.owners f (core.owners f - 1) (omega (arith, ne)))
           ∙ stands-nowhere old f id (core.owners f - 1) r.inv
           (held-here stored start s id f v there ∙ may.holds))))
           (cases_eq (core.owners f) 0)

@@ -3,6 +3,7 @@
 use Rattle.vm_event.specs.FrameActs.{frame_of, trans_word}
 use Rattle.vm_event.specs.declared.event.Seen.TheVariants as sights
 use Rattle.vm_rule.specs.declared.view.WordPlace.TheVariants as places
+use Rattle.vm_rule.proofs.Alone.{after-own}
 use Rattle.vm_step.proofs.{Fit.fit, Here.frame-inside, Mine.stands-called, Quiet.held-shows, Standing.allows}
 use Rattle.vm_step.proofs.{Standing.allows-load, Written.word-left}
 use Rattle.vm_event.proofs.OwnerWords.{word-elsewhere, word-written}
@@ -52,7 +53,8 @@ module _ {X B : Type 0} (stored : B → Stored) (keeps : Start → Kept X → Ty
       → ((start : Origin) (s : Table (Option B) (View X)) (r : Ruled stored keeps tied start tells s)
       → MayOwn (core_shown stored start s) id p → Legal (core_shown stored start s) (event id p))
       → actor_of (event id p) ≡ id
-      → ((old : World) → world_after old (event id p) ≡ record old { core = owned old.core p word })
+      → ((old : World) → ((q : ℕ) → old.core.head q ≡ q)
+      → world_after old (event id p) ≡ record old { core = owned old.core p word })
       → v.live ≡ true → 0 < length v.used → f < shape.frames → StandsIn v p f → IsPlacedAt shape (places.Owner f) i
       → AllowsStep (Stands stored keeps tied shape tells) slots id v i (λ _. word) (told_of shape tells (λ _. OwnerTold p f word))
   owner-allows shape event slots id v i p f word legal actor is live number lf stands at =
@@ -67,7 +69,7 @@ module _ {X B : Type 0} (stored : B → Stored) (keeps : Start → Kept X → Ty
       let words : List ℕ = slice_set s.words (index_of start (places.Owner f)) word in
       let inner : View X = owned_view p word v in
       -- nothing is another but the word
-      let led = is (world_of stored start r.releases r.drafts s) in
+      let led = is (world_of stored start r.releases r.drafts s) (λ _. refl) in
       let k = steps stored keeps tied start tells s r id v words r.drafts [] [] did inner (event id p) there live number actor refl
       (held-shows stored keeps tied start tells s r id v words did inner.held v.frames v.contents (event id p) there
       live (word-left start s.words did word r.wide.0 r.spelled inside refl tt refl)
@@ -96,12 +98,14 @@ module _ {X B : Type 0} (stored : B → Stored) (keeps : Start → Kept X → Ty
   pub own-allows : (shape : TableShape) (slots id : ℕ) (v : View X) (i p f : ℕ) → v.live ≡ true → 0 < length v.used
       → f < shape.frames → StandsIn v p f → IsPlacedAt shape (places.Owner f) i
       → AllowsStep (Stands stored keeps tied shape tells) slots id v i (λ _. p + 1) (told_of shape tells (λ _. OwnerTold p f (p + 1)))
-  own-allows shape slots id v i p f = owner-allows shape Own slots id v i p f (p + 1) (λ start s r may. may) refl (λ old. refl)
+  own-allows shape slots id v i p f =
+      owner-allows shape Own slots id v i p f (p + 1) (λ start s r may. may) refl (λ old own. after-own old own id p)
 
   pub disown-allows : (shape : TableShape) (slots id : ℕ) (v : View X) (i p f : ℕ) → v.live ≡ true → 0 < length v.used
       → f < shape.frames → StandsIn v p f → IsPlacedAt shape (places.Owner f) i
       → AllowsStep (Stands stored keeps tied shape tells) slots id v i (λ _. 0) (told_of shape tells (λ _. OwnerTold p f 0))
-  disown-allows shape slots id v i p f = owner-allows shape Disown slots id v i p f 0 (λ start s r may. may) refl (λ old. refl)
+  disown-allows shape slots id v i p f =
+      owner-allows shape Disown slots id v i p f 0 (λ start s r may. may) refl (λ old own. refl)
 
   pub oload-allows : (shape : TableShape) (slots id : ℕ) (v : View X) (i f : ℕ) → v.live ≡ true → 0 < length v.used
       → f < shape.frames → IsPlacedAt shape (places.Owner f) i
@@ -126,7 +130,8 @@ module _ {X B : Type 0} (stored : B → Stored) (keeps : Start → Kept X → Ty
   -- each is its event
   owner-event : (word : ℕ → ℕ) (event : ℕ → ℕ → Event)
       → ((c : State) (id p : ℕ) → MayOwn c id p → Legal c (event id p))
-      → ((old : World) (id p : ℕ) → world_after old (event id p) ≡ record old { core = owned old.core p (word p) })
+      → ((old : World) (id p : ℕ) → ((q : ℕ) → old.core.head q ≡ q)
+      → world_after old (event id p) ≡ record old { core = owned old.core p (word p) })
       → ((c : State) (id p : ℕ) → seen c (event id p) ≡ sights.Done)
       → IsOwnerEvent stored keeps tied tells word event
   owner-event word event legal is sees start s id p f v w pass stands told =
@@ -141,14 +146,14 @@ module _ {X B : Type 0} (stored : B → Stored) (keeps : Start → Kept X → Ty
       (ap (λ (y : View X). y.out) view) (ap (λ (y : View X). holdings y) view) (ap (λ (y : View X). y.seats) view)
       (ap (λ (y : View X). y.loads) view)
       (ap frame_of (standing stored keeps tied start tells s pass.rule id v pass.there pass.live p f stands).1))
-      ∙ sym (is (world_of stored start [] (λ _. []) s) id p))
+      ∙ sym (is (world_of stored start [] (λ _. []) s) id p (λ _. refl)))
       (sees (core_shown stored start s) id p)
 
   pub own-event : OwnIsItsEvent stored keeps tied tells
-  own-event = owner-event (λ p. p + 1) Own (λ c id p may. may) (λ old id p. refl) (λ c id p. refl)
+  own-event = owner-event (λ p. p + 1) Own (λ c id p may. may) (λ old id p own. after-own old own id p) (λ c id p. refl)
 
   pub disown-event : DisownIsItsEvent stored keeps tied tells
-  disown-event = owner-event (λ p. 0) Disown (λ c id p may. may) (λ old id p. refl) (λ c id p. refl)
+  disown-event = owner-event (λ p. 0) Disown (λ c id p may. may) (λ old id p own. refl) (λ c id p. refl)
 
   pub oload-event : OloadIsItsEvent stored keeps tied tells
   oload-event start s id f found v w pass at told =

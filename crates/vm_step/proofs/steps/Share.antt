@@ -4,7 +4,9 @@
 --
 -- What a share leaves that was taken, or given up: it speaks of one page, of whose shares the pass has one more, or one less.
 use Rattle.std.proofs.Common.{eq-eqb}
+use Rattle.vm_event.specs.declared.event.PageAct.TheVariants as acts
 use Rattle.vm_event.specs.declared.event.Seen.TheVariants as sights
+use Rattle.vm_event.proofs.Alone.{act-alone, acted-alone}
 use Rattle.vm_owner.specs.Kept.{PagesHave, IsTurn, told}
 use Rattle.vm_rule.specs.Prelude.{entries_where, mine_with}
 use Rattle.vm_rule.specs.declared.view.WordPlace.TheVariants as places
@@ -404,7 +406,7 @@ module _ {X B : Type 0} (stored : B → Stored) (keeps : Start → Kept X → Ty
       (unshared (seat_of v p)) v.loads v.held v.drafts
       (record {
         word = word-left start s.words did less r.wide.0 r.spelled l refl refl refl;
-        legal = (
+        legal = act-alone (core_shown stored start s) id p acts.UnlockS (λ _. refl) (
           names stored keeps tied start tells s r id v there p l,
           may-unlock stored keeps tied start tells s r
               id v there live p l may,
@@ -413,7 +415,7 @@ module _ {X B : Type 0} (stored : B → Stored) (keeps : Start → Kept X → Ty
             unlocks-step stored start s r.releases r.drafts id v _ p less r.wide.0 l there refl refl refl refl
             (less-state found shared ∙ ap (λ n. n - 1) (sym (state-here stored start s p l)))
             (less-version found shared ∙ sym (version-here stored start s p l));
-        core = refl;
+        core = acted-alone (core_shown stored start s) id p acts.UnlockS (λ _. refl);
       })
       (λ o x e m. absurd (may.home o x e)) (λ x. x) (λ q ne. refl)
       (record {
@@ -442,11 +444,11 @@ module _ {X B : Type 0} (stored : B → Stored) (keeps : Start → Kept X → Ty
   unlock_shared-event start s id p found v w pass at may told =
       let r = pass.rule in
       let view = told.brings.view in
-      is-event (
+      is-event (act-alone (core_shown stored start s) id p acts.UnlockS (λ _. refl) (
         names stored keeps tied start tells s r id v pass.there p at.0,
         may-unlock stored keeps tied start
             tells s r id v pass.there pass.live p at.0 may,
-      )
+      ))
       (unlocks-step stored start s [] (λ _. []) id v w p (found - 2 ^ 56) r.wide.0 at.0 pass.there
       (ap (λ (k : View X). k.out) view)
       (ap (λ (k : View X). holdings k) view)

@@ -1,21 +1,11 @@
 //! Scripts of events, with what each sees.
 
-use super::{EVICTED, MARKED, SHARE, core};
+use super::{EVICTED, MARKED, Row, SHARE, core, plays, row};
 use std::alloc::Global;
 use std::process::Abort;
 use std::test::Fail;
 use vm_core::{Core, ReplayFault, replay};
 use vm_event::{Event, ReadIs, Seen};
-
-type Row = (Event, Seen);
-
-/// What is seen, and the event that sees it. A look sees a word and what it leaves of the open read.
-macro_rules! row {
-    (saw $word:expr, $left:ident; $name:ident, $($field:ident = $value:expr),*) => {
-        (Event::$name { $($field: $value),* }, Seen::Look { word: $word, left: ReadIs::$left })
-    };
-    ($seen:expr; $name:ident, $($field:ident = $value:expr),*) => { (Event::$name { $($field: $value),* }, $seen) };
-}
 
 /// Actor 0 locks page 0 and reads its block.
 const READS_PAGE_0: [Row; 3] = [
@@ -55,19 +45,6 @@ fn fill(rows: &mut Vec<Row>, p: u8) -> Result<(), Fail> {
         let w = 64 * u64::from(p) + u64::from(i);
         rows.push(row!(Seen::Done; Store, a = 0, f = 0, i = i, w = w))?;
     }
-    Ok(())
-}
-
-/// The events see what they are to see.
-fn plays(rt: &impl Abort, alloc: Global, core: &mut Core, rows: &[Row]) -> Result<(), Fail> {
-    let mut events = Vec::new(alloc);
-    let mut wanted = Vec::new(alloc);
-    for &(event, seen) in rows {
-        events.push(event)?;
-        wanted.push(seen)?;
-    }
-    let seen = replay(alloc, core, &events)?;
-    assert_eq!(rt; seen.as_slice(), wanted.as_slice());
     Ok(())
 }
 

@@ -5,9 +5,9 @@ use Rattle.vm_script.proofs.events.read_events.Given as goal
 
 abbrev pub invariant-lines : goal.invariant-lines
 invariant-lines l = record {
-  read : IsEventsRead l.bytes l.shape l.lines.items l.rest;
+  read : IsEventsRead l.bytes l.shape l.groups.items l.lines.items l.rest;
   short : length l.bytes ≤ most_bytes;
-  count : length l.lines.items + 1 ≡ l.number;
+  count : length l.groups.items + length l.lines.items + 1 ≡ l.number;
   few : l.number ≤ most_event_lines;
 }
 

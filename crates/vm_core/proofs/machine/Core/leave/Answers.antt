@@ -1,14 +1,19 @@
-use Rattle.std.proofs.Common.{◌+◌, ◌∙◌, ap, refl, sym, ℕ}
+use Rattle.std.proofs.Common.{◌∙◌, ap, refl}
+use Rattle.vm_event.specs.Prelude.{State}
+use Rattle.vm_event.specs.PageStep.{page_seen}
 use Rattle.vm_core.specs.Prelude.{core_of}
-use Rattle.vm_core.proofs.Leaving.{left-ends}
+use Rattle.vm_core.proofs.Over.{left-both, may-beside}
 use Rattle.vm_core.proofs.machine.Core.leave.Goals as goal
 
-pub returns-then-not-keeps : goal.returns-then-not-keeps
-returns-then-not-keeps c =
-    let steps = c.in_ok-seen.ensures in
-    let owned = c.if-not-is_owned.ensures.0 refl in (
-      (steps.0.0, steps.0.1, λ m there. owned m there ∙ ap (λ (w : ℕ). w + 1) c.from.ensures),
-      left-ends (core_of c.args.self.now) (core_of c.on_page.new.self) (core_of c.end_hold.new.self) c.args.a c.args.p
-          c.args.act steps.1 (sym c.if-not-keeps.ensures) c.end_hold.ensures,
-      steps.2,
-    )
+pub act_over-requires : goal.act_over-requires
+act_over-requires c =
+    may-beside (core_of c.args.self.now) (core_of c.end_holds.new.self) c.args.a c.args.h c.args.act _
+    c.end_holds.ensures (c.if-not-may_over.ensures.0 refl)
+
+pub returns : goal.returns
+returns c = (
+  record { may = c.if-not-may_over.ensures.0 refl; owned = c.if-not-are_owned.ensures.0 refl },
+  left-both (core_of c.args.self.now) (core_of c.end_holds.new.self) (core_of c.act_over.new.self) c.args.a c.args.h
+      c.args.act c.end_holds.ensures c.act_over.ensures.next,
+  c.act_over.ensures.sight ∙ ap (λ (x : State). page_seen (x.pages c.args.h) c.args.a c.args.act) c.end_holds.ensures,
+)

@@ -1,7 +1,7 @@
 use Rattle.std.proofs.Common.{◌<◌, length, refl, subst, sym}
 use Rattle.vm_core.specs.Prelude.{PageData}
 use Rattle.vm_event.proofs.{At.locks-write, Locks.locks-seat}
-use Rattle.vm_core.proofs.page.PageCell.set_read_frame.Goals as goal
+use Rattle.vm_core.proofs.page.PageCell.load_translation.Goals as goal
 
 pub invariant_of-self : goal.invariant_of-self
 invariant_of-self c =
