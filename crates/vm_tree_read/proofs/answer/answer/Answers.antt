@@ -1,4 +1,4 @@
-use Rattle.std.proofs.Common.{◌∙◌, sym, true≢false}
+use Rattle.std.proofs.Common.{◌∙◌, sym, true≢false, inl, refl}
 use Rattle.vm_tree_rule.specs.from_vm_step.Prelude.{view}
 use Rattle.vm_tree_rule.proofs.{Readings.valid-only, Surely.known-at, Surely.resident-same}
 use Rattle.vm_tree_rule.proofs.Whole.{tree-size}
@@ -27,3 +27,33 @@ returns-in-Err-clause-sure g c known = c.in-Err.ensures.sure known.resident.alon
 
 pub returns-in-Err-clause-known : goal.returns-in-Err-clause-known
 returns-in-Err-clause-known g c known = absurd (true≢false (sym (c.in-Err.ensures.sure known.resident.alone (known-at _ _ _ known))))
+
+pub validate-requires-clause-ready : goal.validate-requires-clause-ready
+validate-requires-clause-ready g c = c.requires.ready
+
+pub validate-requires-clause-reading : goal.validate-requires-clause-reading
+validate-requires-clause-reading g c = inl c.requires.reading
+
+pub returns-in-Ok-clause-goes : goal.returns-in-Ok-clause-goes
+returns-in-Ok-clause-goes g c = c.validate.ensures.goes
+
+pub returns-in-Ok-clause-err : goal.returns-in-Ok-clause-err
+returns-in-Ok-clause-err g c = tt
+
+pub returns-in-Ok-clause-sure : goal.returns-in-Ok-clause-sure
+returns-in-Ok-clause-sure g c known = refl
+
+pub returns-in-Ok-clause-words : goal.returns-in-Ok-clause-words
+returns-in-Ok-clause-words g c = c.validate.ensures.words
+
+pub returns-in-Err-clause-goes : goal.returns-in-Err-clause-goes
+returns-in-Err-clause-goes g c = c.validate.ensures.goes
+
+pub returns-in-Err-clause-ok : goal.returns-in-Err-clause-ok
+returns-in-Err-clause-ok g c = tt
+
+pub returns-in-Err-clause-err : goal.returns-in-Err-clause-err
+returns-in-Err-clause-err g c = c.in-Err.ensures.err
+
+pub returns-in-Err-clause-words : goal.returns-in-Err-clause-words
+returns-in-Err-clause-words g c = c.validate.ensures.words

@@ -1,3 +1,5 @@
+use Rattle.std.proofs.Common.{refl}
+use Rattle.vm_tree_rule.proofs.from_vm_step.Going.{goes-then}
 use Rattle.vm_tree_rule.specs.from_vm_step.Prelude.{view}
 use Rattle.vm_tree_rule.proofs.{Downward.awaits-later, Downward.node-later, Surely.known-same}
 use Rattle.vm_tree_rule.proofs.OnWay.{leaf-later, way-later}
@@ -67,3 +69,75 @@ returns-clause-sure g c tells k =
     (known-same _ _ _ _ reads f.loads.table (c.in-Ok.ensures.known tells k).0)
     (node-later _ _ _ _ _ _ _ reads c.in-Ok.ensures.leaf.awaits)
     (_, f.loads.loads) (none-between g.K.Kind.layout f.loaded _ _ (λ page with. (f.tells page with).1 c.if-is_leaf_in_place.false)))
+
+pub reach-requires-clause-ready : goal.reach-requires-clause-ready
+reach-requires-clause-ready g c = c.requires.ready
+
+pub reach-requires-clause-pages : goal.reach-requires-clause-pages
+reach-requires-clause-pages g c = c.requires.pages
+
+pub returns-in-Err-clause-goes : goal.returns-in-Err-clause-goes
+returns-in-Err-clause-goes g c = c.reach.ensures.goes
+
+pub returns-in-Err-clause-err : goal.returns-in-Err-clause-err
+returns-in-Err-clause-err g c = c.in-Err.ensures.err
+
+pub returns-in-Err-clause-reads : goal.returns-in-Err-clause-reads
+returns-in-Err-clause-reads g c = tt
+
+pub returns-in-Err-clause-leaf : goal.returns-in-Err-clause-leaf
+returns-in-Err-clause-leaf g c = tt
+
+pub returns-in-Err-clause-awaits : goal.returns-in-Err-clause-awaits
+returns-in-Err-clause-awaits g c = tt
+
+pub returns-in-Err-clause-reached : goal.returns-in-Err-clause-reached
+returns-in-Err-clause-reached g c = tt
+
+pub returns-in-Err-clause-above : goal.returns-in-Err-clause-above
+returns-in-Err-clause-above g c = tt
+
+pub returns-in-Err-clause-known : goal.returns-in-Err-clause-known
+returns-in-Err-clause-known g c tells k = tt
+
+pub is_leaf_in_place-requires-clause-ready : goal.is_leaf_in_place-requires-clause-ready
+is_leaf_in_place-requires-clause-ready g c = c.reach.ensures.goes.ready
+
+pub is_leaf_in_place-requires-clause-reading : goal.is_leaf_in_place-requires-clause-reading
+is_leaf_in_place-requires-clause-reading g c = c.in-Ok.ensures.reads.1.reading
+
+pub returns-then-is_leaf_in_place-clause-goes : goal.returns-then-is_leaf_in_place-clause-goes
+returns-then-is_leaf_in_place-clause-goes g c = goes-then c.reach.ensures.goes c.is_leaf_in_place.ensures.goes
+
+pub returns-then-is_leaf_in_place-clause-err : goal.returns-then-is_leaf_in_place-clause-err
+returns-then-is_leaf_in_place-clause-err g c = tt
+
+pub returns-then-is_leaf_in_place-clause-sure : goal.returns-then-is_leaf_in_place-clause-sure
+returns-then-is_leaf_in_place-clause-sure g c tells k = refl
+
+pub no_leaf-requires-clause-ready : goal.no_leaf-requires-clause-ready
+no_leaf-requires-clause-ready g c = c.is_leaf_in_place.ensures.goes.ready
+
+pub no_leaf-requires-clause-reading : goal.no_leaf-requires-clause-reading
+no_leaf-requires-clause-reading g c = c.is_leaf_in_place.ensures.found.loads.reads
+
+pub returns-clause-goes : goal.returns-clause-goes
+returns-clause-goes g c = goes-then c.reach.ensures.goes (goes-then c.is_leaf_in_place.ensures.goes c.no_leaf.ensures.goes)
+
+pub returns-clause-reads : goal.returns-clause-reads
+returns-clause-reads g c = tt
+
+pub returns-clause-leaf : goal.returns-clause-leaf
+returns-clause-leaf g c = tt
+
+pub returns-clause-awaits : goal.returns-clause-awaits
+returns-clause-awaits g c = tt
+
+pub returns-clause-reached : goal.returns-clause-reached
+returns-clause-reached g c = tt
+
+pub returns-clause-above : goal.returns-clause-above
+returns-clause-above g c = tt
+
+pub returns-clause-known : goal.returns-clause-known
+returns-clause-known g c tells k = tt

@@ -1,4 +1,4 @@
-use Rattle.std.proofs.Common.{◌∙◌, ap, sym, true≢false}
+use Rattle.std.proofs.Common.{◌∙◌, ap, sym, true≢false, inl}
 use Rattle.vm_pool.specs.from_vm_rule.Prelude.{last_of}
 use Rattle.vm_tree_rule.specs.from_vm_step.Prelude.{Origin, view}
 use Rattle.vm_tree_rule.specs.Turns.{WhyDamaged as why}
@@ -39,3 +39,21 @@ returns-in-Err-clause-turn g c u key low high loaded o awaits way has none =
 pub returns-in-Err-clause-sure : goal.returns-in-Err-clause-sure
 returns-in-Err-clause-sure g c shares low high loaded tells known awaits has none =
     true≢false (sym (c.in-Err.ensures.sure known.resident.alone (known-at _ _ _ known)))
+
+pub validate_silently-requires-clause-ready : goal.validate_silently-requires-clause-ready
+validate_silently-requires-clause-ready g c = c.requires.ready
+
+pub validate_silently-requires-clause-reading : goal.validate_silently-requires-clause-reading
+validate_silently-requires-clause-reading g c = inl c.requires.reading
+
+pub returns-in-Ok-clause-goes : goal.returns-in-Ok-clause-goes
+returns-in-Ok-clause-goes g c = c.validate_silently.ensures.goes
+
+pub returns-in-Ok-clause-words : goal.returns-in-Ok-clause-words
+returns-in-Ok-clause-words g c = c.validate_silently.ensures.words
+
+pub returns-in-Err-clause-goes : goal.returns-in-Err-clause-goes
+returns-in-Err-clause-goes g c = c.validate_silently.ensures.goes
+
+pub returns-in-Err-clause-words : goal.returns-in-Err-clause-words
+returns-in-Err-clause-words g c = c.validate_silently.ensures.words

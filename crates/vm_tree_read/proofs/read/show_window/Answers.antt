@@ -1,4 +1,5 @@
-use Rattle.std.proofs.Common.{◌*◌, ◌+◌, ◌++◌, arith, min, subst, sym, true≢false}
+use Rattle.std.proofs.Common.{◌*◌, ◌+◌, ◌++◌, arith, min, subst, sym, true≢false, refl}
+use Rattle.vm_tree_rule.proofs.from_vm_step.Going.{goes-then}
 use Rattle.vm_tree_rule.proofs.{Counting.within-wider, Onward.loaded-more, Surely.known-same}
 use Rattle.vm_tree_rule.proofs.Readings.{loads-reads, opened-loads, reads-then}
 use Rattle.vm_tree_read.proofs.Answering.{answered-as, answered-later, unproved, reply-told}
@@ -87,3 +88,51 @@ returns-in-Err-answer-clause-known g c tells k =
     (c.in-Err-answer.ensures.sure
     (known-same _ _ _ _ (loads-reads _ _ _ _ _ _ c.window_in_place-said.ensures.found.2.loads).0
     c.window_in_place-said.ensures.found.2.loads.table (c.in-Ok.ensures.known tells k)))))
+
+pub leaf_at-requires-clause-ready : goal.leaf_at-requires-clause-ready
+leaf_at-requires-clause-ready g c = c.requires.ready
+
+pub leaf_at-requires-clause-pages : goal.leaf_at-requires-clause-pages
+leaf_at-requires-clause-pages g c = c.requires.pages
+
+pub window_in_place-said-requires-clause-ready : goal.window_in_place-said-requires-clause-ready
+window_in_place-said-requires-clause-ready g c = c.leaf_at.ensures.goes.ready
+
+pub window_in_place-said-requires-clause-reading : goal.window_in_place-said-requires-clause-reading
+window_in_place-said-requires-clause-reading g c = c.in-Ok.ensures.reads.1.reading
+
+pub answer-requires-clause-ready : goal.answer-requires-clause-ready
+answer-requires-clause-ready g c = c.window_in_place-said.ensures.goes.ready
+
+pub returns-in-Err-clause-goes : goal.returns-in-Err-clause-goes
+returns-in-Err-clause-goes g c = c.leaf_at.ensures.goes
+
+pub returns-in-Err-clause-ok : goal.returns-in-Err-clause-ok
+returns-in-Err-clause-ok g c = tt
+
+pub returns-in-Err-clause-err : goal.returns-in-Err-clause-err
+returns-in-Err-clause-err g c = c.in-Err.ensures.err
+
+pub returns-in-Err-clause-sure : goal.returns-in-Err-clause-sure
+returns-in-Err-clause-sure g c tells k = c.in-Err.ensures.sure tells k
+
+pub returns-in-Err-clause-height : goal.returns-in-Err-clause-height
+returns-in-Err-clause-height g c = tt
+
+pub returns-in-Ok-answer-clause-goes : goal.returns-in-Ok-answer-clause-goes
+returns-in-Ok-answer-clause-goes g c = goes-then c.leaf_at.ensures.goes (goes-then c.window_in_place-said.ensures.goes c.answer.ensures.goes)
+
+pub returns-in-Ok-answer-clause-err : goal.returns-in-Ok-answer-clause-err
+returns-in-Ok-answer-clause-err g c = tt
+
+pub returns-in-Ok-answer-clause-sure : goal.returns-in-Ok-answer-clause-sure
+returns-in-Ok-answer-clause-sure g c tells k = refl
+
+pub returns-in-Err-answer-clause-goes : goal.returns-in-Err-answer-clause-goes
+returns-in-Err-answer-clause-goes g c = goes-then c.leaf_at.ensures.goes (goes-then c.window_in_place-said.ensures.goes c.answer.ensures.goes)
+
+pub returns-in-Err-answer-clause-ok : goal.returns-in-Err-answer-clause-ok
+returns-in-Err-answer-clause-ok g c = tt
+
+pub returns-in-Err-answer-clause-height : goal.returns-in-Err-answer-clause-height
+returns-in-Err-answer-clause-height g c = tt

@@ -27,3 +27,9 @@ returns-clause-told g c =
       none = none;
     })
     (λ fault named. names-fault _ _ _ _ _ _ _ _ _ _ fault c.bring-answer.ensures.answer named)
+
+pub returns-clause-goes : goal.returns-clause-goes
+returns-clause-goes g c = c.bring-answer.ensures.goes
+
+pub returns-clause-held : goal.returns-clause-held
+returns-clause-held g c = c.bring-answer.ensures.held

@@ -35,3 +35,33 @@ returns-in-Need-clause-told g c v key turned =
     let waits = waits-then _ _ _ (reads-wait _ _ needed.0) c.fetch.ensures.waits in
     told-as _ _ _ _ _ _ c.fetch.result c.fetch.ensures.told (λ t none. none) (λ k. (waits, round.needed _ _ needed.0 needed.1 k))
     (λ _ k. (waits, fault.unbrought _ _ needed.0 needed.1 k))
+
+pub returns-in-Again-clause-goes : goal.returns-in-Again-clause-goes
+returns-in-Again-clause-goes g c = record { same = (refl, refl); ready = c.requires.ready }
+
+pub returns-in-Again-clause-held : goal.returns-in-Again-clause-held
+returns-in-Again-clause-held g c = c.requires.frames
+
+pub returns-in-Again-clause-iface : goal.returns-in-Again-clause-iface
+returns-in-Again-clause-iface g c = (refl, refl)
+
+pub returns-in-Damaged-clause-goes : goal.returns-in-Damaged-clause-goes
+returns-in-Damaged-clause-goes g c = record { same = (refl, refl); ready = c.requires.ready }
+
+pub returns-in-Damaged-clause-held : goal.returns-in-Damaged-clause-held
+returns-in-Damaged-clause-held g c = c.requires.frames
+
+pub returns-in-Damaged-clause-iface : goal.returns-in-Damaged-clause-iface
+returns-in-Damaged-clause-iface g c = (refl, refl)
+
+pub returns-in-Need-clause-goes : goal.returns-in-Need-clause-goes
+returns-in-Need-clause-goes g c = c.fetch.ensures.goes
+
+pub returns-in-Need-clause-held : goal.returns-in-Need-clause-held
+returns-in-Need-clause-held g c = c.fetch.ensures.held
+
+pub returns-in-Need-clause-iface : goal.returns-in-Need-clause-iface
+returns-in-Need-clause-iface g c = c.fetch.ensures.iface
+
+pub returns-in-Need-clause-lost : goal.returns-in-Need-clause-lost
+returns-in-Need-clause-lost g c = c.fetch.ensures.lost

@@ -1,6 +1,8 @@
+use Rattle.std.proofs.Common.{◌∙◌, arith, refl}
+use Rattle.vm_tree_rule.proofs.from_vm_step.Going.{goes-then}
+use Rattle.vm_tree_read.proofs.Losing.{loses-then}
 use Rattle.vm_tree_rule.specs.from_vm_step.Prelude.{view}
 use Rattle.vm_pool.proofs.from_vm_exmap.Handing.{held-on}
-use Rattle.std.proofs.Common.{◌∙◌, arith}
 use Rattle.vm_tree_read.proofs.{Lasting.turned-reads, Losing.loses-same}
 use Rattle.vm_tree_read.proofs.Rounds.{told-as}
 use Rattle.vm_tree_read.proofs.round.window_round.Goals as goal
@@ -35,3 +37,35 @@ turned_round-requires g c =
 
 pub returns-in-Ok-clause-told : goal.returns-in-Ok-clause-told
 returns-in-Ok-clause-told g c = c.in-Ok.ensures.ok
+
+pub returns-in-Ok-clause-goes : goal.returns-in-Ok-clause-goes
+returns-in-Ok-clause-goes g c = c.show_window.ensures.goes
+
+pub returns-in-Ok-clause-iface : goal.returns-in-Ok-clause-iface
+returns-in-Ok-clause-iface g c = (refl, refl)
+
+pub returns-in-Err-clause-goes : goal.returns-in-Err-clause-goes
+returns-in-Err-clause-goes g c = goes-then c.show_window.ensures.goes c.turned_round.ensures.goes
+
+pub returns-in-Err-clause-held : goal.returns-in-Err-clause-held
+returns-in-Err-clause-held g c = c.turned_round.ensures.held
+
+pub returns-in-Err-clause-iface : goal.returns-in-Err-clause-iface
+returns-in-Err-clause-iface g c = c.turned_round.ensures.iface
+
+pub returns-in-Err-clause-lost : goal.returns-in-Err-clause-lost
+returns-in-Err-clause-lost g c =
+    let v = view c.args.pass.now in
+    let w = view c.show_window.new.pass in
+    let reads = turned-reads g.K.Kind.layout v (g.K.Kind.rank c.args.start.now) c.in-Err.turn w c.in-Err.ensures.err in
+    loses-then c.args.iface.now.frames c.args.iface.now.frames c.turned_round.new.iface.frames v w (view c.turned_round.new.pass)
+    (loses-same _ _ v w reads.0.frames.0 (λ f e. e)) c.turned_round.ensures.lost
+
+pub show_window-requires-clause-ready : goal.show_window-requires-clause-ready
+show_window-requires-clause-ready g c = c.requires.ready
+
+pub show_window-requires-clause-pages : goal.show_window-requires-clause-pages
+show_window-requires-clause-pages g c = c.requires.pages
+
+pub show_window-requires-clause-most : goal.show_window-requires-clause-most
+show_window-requires-clause-most g c = c.requires.most

@@ -1,4 +1,5 @@
 use Rattle.std.proofs.Common.{◌∙◌, rules}
+use Rattle.vm_tree_rule.proofs.from_vm_step.Going.{goes-then}
 use Rattle.vm_tree_rule.specs.from_vm_step.Prelude.{view}
 use Rattle.vm_tree_read.proofs.Lasting.{replied, waits-self, waits-then}
 use Rattle.vm_tree_read.proofs.Losing.{loses-then}
@@ -56,3 +57,29 @@ pub returns-in-Failed-clause-lost : goal.returns-in-Failed-clause-lost
 returns-in-Failed-clause-lost g c =
     loses-then c.args.iface.now.frames c.loop.iface.frames c.window_round.new.iface.frames (view c.args.pass.now)
     (view c.loop.pass) (view c.window_round.new.pass) c.loop.invariant.lost c.window_round.ensures.lost
+
+-- ---- what else a round leaves that ends the loop
+
+pub returns-in-Done-clause-goes : goal.returns-in-Done-clause-goes
+returns-in-Done-clause-goes g c = goes-then c.loop.invariant.goes c.window_round.ensures.goes
+
+pub returns-in-Done-clause-held : goal.returns-in-Done-clause-held
+returns-in-Done-clause-held g c = c.window_round.ensures.held
+
+pub returns-in-Done-clause-iface : goal.returns-in-Done-clause-iface
+returns-in-Done-clause-iface g c = (c.window_round.ensures.iface.0 ∙ c.loop.invariant.iface.0, c.window_round.ensures.iface.1 ∙ c.loop.invariant.iface.1)
+
+pub returns-in-Done-clause-err : goal.returns-in-Done-clause-err
+returns-in-Done-clause-err g c = tt
+
+pub returns-in-Failed-clause-goes : goal.returns-in-Failed-clause-goes
+returns-in-Failed-clause-goes g c = goes-then c.loop.invariant.goes c.window_round.ensures.goes
+
+pub returns-in-Failed-clause-held : goal.returns-in-Failed-clause-held
+returns-in-Failed-clause-held g c = c.window_round.ensures.held
+
+pub returns-in-Failed-clause-iface : goal.returns-in-Failed-clause-iface
+returns-in-Failed-clause-iface g c = (c.window_round.ensures.iface.0 ∙ c.loop.invariant.iface.0, c.window_round.ensures.iface.1 ∙ c.loop.invariant.iface.1)
+
+pub returns-in-Failed-clause-ok : goal.returns-in-Failed-clause-ok
+returns-in-Failed-clause-ok g c = tt
