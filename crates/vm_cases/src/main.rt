@@ -3,31 +3,29 @@
 //!
 //! Each line of the file `list` is a case: the line is printed, then what the command says, then its status. A page file's line may go on
 //! with triples of a page, a word of it, and what stands there. A line that begins with `words` has a command line over no files; one that begins
-//! with `over` has names of files, with commas between them, and then a command line, or two with ` ; ` between them, over one host with these.
+//! with `over` has names of files, with commas between them, and then a command line, or some with ` ; ` between them, over one host with these. Before
+//! `over` there may be `with` and what fails.
 #![tactic(auto)]
 
 mod case;
+mod files;
+mod scene;
+mod setting;
 
 use case::{Case, Unplayed};
+use files::{add_file, file_of};
+use scene::Scene;
+use setting::Setting;
 use std::alloc::Global;
 use std::process::ExitCode;
 use std::sync::Wait;
 use std::thread::Threads;
-use vm_cli::drive::NoGate;
-use vm_cli::ends::Ends;
-use vm_cli::run::run;
-use vm_device::MemDevices;
 use vm_io::host::Host;
-use vm_io::loops::{read_whole, say_all};
-use vm_io::memory::MemHost;
+use vm_io::loops::say_all;
 use vm_io::system::StdHost;
-use vm_page::WORDS;
 
 /// The empty page file, over which scripts are run.
 const EMPTY: &str = "empty.pages";
-
-/// The most bytes that a file of a case has, and that a case says.
-const MOST: usize = 1_000_000;
 
 fn main(rt: HostRuntime) -> ExitCode {
     let mut host = StdHost::new(&rt, rt.alloc());
@@ -50,13 +48,24 @@ fn play_list<R: Threads + Wait + Sync, H: Host>(
     for line in list.lines() {
         say(host, line.as_bytes())?;
         say(host, b"\n")?;
-        match line.split_once(' ') {
-            Some(("words", words)) => play_lines(rt, alloc, host, Vec::new(alloc), words)?,
-            Some(("over", rest)) => play_over(rt, alloc, host, rest)?,
-            _ => play(rt, alloc, host, &Case::of(alloc, line)?)?,
-        }
+        play_case(rt, alloc, host, line)?;
     }
     Ok(())
+}
+
+/// Plays the case of a line.
+fn play_case<R: Threads + Wait + Sync, H: Host>(
+    rt: &R,
+    alloc: Global,
+    host: &mut H,
+    line: &str,
+) -> Result<(), Unplayed> {
+    match line.split_once(' ') {
+        Some(("words", words)) => play_plain(rt, alloc, host, Vec::new(alloc), words),
+        Some(("over", rest)) => play_over(rt, alloc, host, rest, &Setting::plain(alloc)),
+        Some(("with", rest)) => play_with(rt, alloc, host, rest),
+        _ => play(rt, alloc, host, &Case::of(alloc, line)?),
+    }
 }
 
 /// Plays a case: its file is copied into a host of its own. A script is run by one worker over the empty page file.
@@ -79,113 +88,84 @@ fn play<R: Threads + Wait + Sync, H: Host>(
         format!(in alloc; "{command} {file}")
     };
     match line {
-        Ok(line) => play_lines(rt, alloc, host, files, line.as_str()),
+        Ok(line) => play_plain(rt, alloc, host, files, line.as_str()),
         Err(_) => Err(Unplayed),
     }
 }
 
-/// Plays command lines behind the names of their files.
-fn play_over<R: Threads + Wait + Sync, H: Host>(
+/// Plays command lines of whose host or devices some calls fail, behind the words that say which.
+fn play_with<R: Threads + Wait + Sync, H: Host>(
     rt: &R,
     alloc: Global,
     host: &mut H,
     rest: &str,
 ) -> Result<(), Unplayed> {
+    let Some((words, rest)) = rest.split_once("over ") else {
+        return Err(Unplayed);
+    };
+    play_over(rt, alloc, host, rest, &Setting::of(alloc, words)?)
+}
+
+/// Plays command lines behind the names of their files; of `NAME=FILE` the host has the file under that name.
+fn play_over<R: Threads + Wait + Sync, H: Host>(
+    rt: &R,
+    alloc: Global,
+    host: &mut H,
+    rest: &str,
+    setting: &Setting<'_>,
+) -> Result<(), Unplayed> {
     let Some((names, lines)) = rest.split_once(' ') else {
         return Err(Unplayed);
     };
     let mut files = Vec::new(alloc);
-    for name in names.split(',') {
-        let bytes = file_of(alloc, host, name)?;
+    for word in names.split(',') {
+        let (name, file) = match word.split_once('=') {
+            Some(parts) => parts,
+            None => (word, word),
+        };
+        let bytes = file_of(alloc, host, file)?;
         add_file(alloc, &mut files, name, bytes)?;
     }
-    play_lines(rt, alloc, host, files, lines)
+    play_lines(rt, alloc, host, files, lines, setting)
 }
 
-/// Performs a command line over these files, or two with ` ; ` between them, and prints what is said and then each status.
-fn play_lines<R: Threads + Wait + Sync, H: Host>(
+/// Plays lines with ` ; ` between them over these files, where nothing fails.
+fn play_plain<R: Threads + Wait + Sync, H: Host>(
     rt: &R,
     alloc: Global,
     host: &mut H,
     files: Vec<(String, Vec<u8>)>,
     lines: &str,
 ) -> Result<(), Unplayed> {
-    let Ok(mut own) = MemHost::new(alloc, files, MOST, &[]) else {
-        return Err(Unplayed);
-    };
-    let told = match lines.split_once(" ; ") {
-        Some((first, second)) => {
-            let first = perform(rt, alloc, &mut own, first)?;
-            let second = perform(rt, alloc, &mut own, second)?;
-            format!(in alloc; "status {first}\nstatus {second}\n")
-        }
-        None => {
-            let status = perform(rt, alloc, &mut own, lines)?;
-            format!(in alloc; "status {status}\n")
-        }
-    };
-    say(host, own.said())?;
-    match told {
-        Ok(told) => say(host, told.as_bytes()),
-        Err(_) => Err(Unplayed),
-    }
+    play_lines(rt, alloc, host, files, lines, &Setting::plain(alloc))
 }
 
-/// Performs a command line, and gives its status.
-fn perform<R: Threads + Wait + Sync>(
+/// Plays lines with ` ; ` between them over these files, and prints what is said and then what is told.
+fn play_lines<R: Threads + Wait + Sync, H: Host>(
     rt: &R,
     alloc: Global,
-    host: &mut MemHost,
-    line: &str,
-) -> Result<u8, Unplayed> {
-    let mut words = Vec::new(alloc);
-    for word in line.split_whitespace() {
-        if words.push(name_of(alloc, word)?).is_err() {
-            return Err(Unplayed);
-        }
-    }
-    let Ok(mut devices) = MemDevices::<WORDS>::new(alloc, Vec::new(alloc), &[], &[], &[]) else {
-        return Err(Unplayed);
-    };
-    let mut ends = Ends::Nothing;
-    Ok(run(
-        rt,
-        alloc,
-        words.as_slice(),
-        host,
-        &NoGate,
-        &mut ends,
-        &mut devices,
-    ))
-}
-
-/// Adds a file to those of a host.
-fn add_file(
-    alloc: Global,
-    files: &mut Vec<(String, Vec<u8>)>,
-    name: &str,
-    bytes: Vec<u8>,
+    host: &mut H,
+    files: Vec<(String, Vec<u8>)>,
+    lines: &str,
+    setting: &Setting<'_>,
 ) -> Result<(), Unplayed> {
-    match files.push((name_of(alloc, name)?, bytes)) {
-        Ok(()) => Ok(()),
-        Err(_) => Err(Unplayed),
-    }
+    let mut scene = Scene::new(alloc, host, files, setting)?;
+    play_on(rt, host, &mut scene, lines)
 }
 
-/// The word as a string of its own.
-fn name_of(alloc: Global, word: &str) -> Result<String, Unplayed> {
-    match String::from_str(alloc, word) {
-        Ok(name) => Ok(name),
-        Err(_) => Err(Unplayed),
+/// Plays lines with ` ; ` between them, and prints what is said and then what is told.
+fn play_on<R: Threads + Wait + Sync, H: Host>(
+    rt: &R,
+    host: &mut H,
+    scene: &mut Scene<'_>,
+    lines: &str,
+) -> Result<(), Unplayed> {
+    for line in lines.split(" ; ") {
+        scene.play(rt, host, line)?;
     }
-}
-
-/// All bytes of the file.
-fn file_of<H: Host>(alloc: Global, host: &mut H, name: &str) -> Result<Vec<u8>, Unplayed> {
-    match read_whole(alloc, host, name, MOST) {
-        Ok(bytes) => Ok(bytes),
-        Err(_) => Err(Unplayed),
-    }
+    let (said, told) = scene.said();
+    say(host, said)?;
+    say(host, told.as_bytes())
 }
 
 /// Prints the bytes.

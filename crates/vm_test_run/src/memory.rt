@@ -1,13 +1,9 @@
 //! Want of memory: it shows where one of the allocations is made to fail.
 
-use crate::expect::is_kept;
+use crate::perform::{OLD, host_with, is_kept, no_devices, perform, words};
 use std::test::Fail;
 use vm_cli::drive::NoGate;
 use vm_cli::ends::Ends;
-use vm_cli::run::run;
-use vm_device::MemDevices;
-use vm_page::WORDS;
-use vm_test_hosts::hosts::{OLD, host_with, words};
 
 /// Status 6 leaves the host and what is kept as they were, so that the same words over the same host are done then.
 #[test]
@@ -16,15 +12,15 @@ fn want_of_memory_changes_nothing(rt: HostRuntime) -> Result<(), Fail> {
     let mut host = host_with(alloc, "0 put 5 7\n")?;
     let mut ends = Ends::Nothing;
     let words = words(alloc, "run I0 S --workers 1 --frames 64 --keep K")?;
-    let mut devices = MemDevices::<WORDS>::new(alloc, Vec::new(alloc), &[], &[], &[])?;
+    let mut devices = no_devices(alloc)?;
     let devices = &mut devices;
     let words = words.as_slice();
-    let mut status = run(&rt, alloc, words, &mut host, &NoGate, &mut ends, devices);
+    let mut status = perform(&rt, alloc, words, &mut host, &NoGate, &mut ends, devices);
     if status == 6 {
         assert!(rt; host.said().is_empty());
         assert!(rt; host.file("K") == Some(OLD));
         assert!(rt; !is_kept(&ends));
-        status = run(&rt, alloc, words, &mut host, &NoGate, &mut ends, devices);
+        status = perform(&rt, alloc, words, &mut host, &NoGate, &mut ends, devices);
     }
     assert_eq!(rt; status, 0);
     assert!(rt; is_kept(&ends));

@@ -6,20 +6,20 @@ use vm_page::{PageBuf, WORDS};
 
 /// Devices in memory, as devices that tell nothing.
 #[derive(Drop)]
-pub struct Liar {
+pub(crate) struct Liar {
     inner: MemDevices<WORDS>,
 }
 
 /// A page that may have another word 2 at its second read.
 #[derive(Drop)]
-pub struct LiarPage {
+pub(crate) struct LiarPage {
     page: MemPage<WORDS>,
     lies: bool,
 }
 
 impl Liar {
     /// Devices that lie of page 1 of each file.
-    pub fn new(inner: MemDevices<WORDS>) -> Liar {
+    pub(crate) fn new(inner: MemDevices<WORDS>) -> Liar {
         Liar { inner }
     }
 }
