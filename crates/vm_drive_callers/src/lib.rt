@@ -4,5 +4,4 @@
 pub mod calls;
 pub mod drive;
 pub mod gates;
-pub mod serve;
 pub mod trees;

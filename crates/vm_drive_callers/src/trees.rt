@@ -17,12 +17,10 @@ use vm_serve::pool::{Pool, Shape};
 use vm_serve::tree_rule::Tree;
 
 /// The first word of a page file with pages of 64 words, and of one with pages of 512.
-pub const MAGIC: u64 = 0x564D_4341_4348_4531;
-
-pub const LARGE_MAGIC: u64 = 0x564D_4341_4348_4532;
+const MAGIC: u64 = 0x564D_4341_4348_4531;
 
 /// A page that begins with these words.
-pub fn page<const N: usize>(words: &[u64]) -> PageBuf<N>
+fn page<const N: usize>(words: &[u64]) -> PageBuf<N>
     requires sized { IsSize N }
     requires fits { length words.now ≤ N }
     ensures { length result ≡ N }

@@ -8,8 +8,8 @@ use std::test::Fail;
 use vm_block::{Block, MemBlock};
 use vm_kind::{OfSize, TreeOf, WordKeys};
 use vm_rule::words::Pass;
+pub use vm_tree_callers::calls::MAGIC;
 use vm_tree_callers::calls::{open_sized, put_page};
-pub use vm_tree_callers::calls::{LARGE_MAGIC, MAGIC};
 use vm_tree_range::pool::Pool;
 
 /// Leaf `k` of so many: its keys lie from 10 * k on and below 10 * (k + 1), and it has the one pair of 10 * k + 5 and k. Leaf 1 is empty.

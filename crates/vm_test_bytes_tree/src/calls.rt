@@ -7,8 +7,7 @@ use std::sync::Wait;
 use std::test::Fail;
 use vm_block::{Block, MemBlock};
 use vm_bytes_file::empty_image;
-use vm_bytes_laws::call::KeyReply;
-use vm_bytes_tree::{BytesTree, TreeFault, del, get, put, swap, window};
+use vm_bytes_tree::{BytesTree, TreeFault, get, put, swap};
 use vm_exmap::Interface;
 use vm_image::blocks_of;
 use vm_map::call::Reply;
@@ -82,25 +81,6 @@ pub fn put_at<R: Wait>(
     put(rt, pool, pass, iface, &key(bytes), value)
 }
 
-/// `del`.
-pub fn del_at<R: Wait>(
-    rt: &R,
-    pool: &Pool<BytesTree, MemBlock<512>, 512>,
-    pass: &mut Pass<BytesTree>,
-    iface: &mut Interface,
-    bytes: &[u8],
-) -> Result<Reply, TreeFault>
-    requires pages { 1 ≤ pool.now.words.table.shared.key.pages }
-    requires ready { IsReadyOn pool.now.words ⟦<MemBlock<512> as Block>⟧.tells pass.old }
-    requires home { (view pass.old).out ≡ None }
-    requires held { AreHeld iface.old.frames (view pass.old) }
-    ensures ready { IsReadyOn pool.now.words ⟦<MemBlock<512> as Block>⟧.tells pass.new }
-    ensures home { (view pass.new).out ≡ None }
-    ensures held { AreHeld iface.new.frames (view pass.new) }
-{
-    del(rt, pool, pass, iface, &key(bytes))
-}
-
 /// `swap`.
 pub fn swap_at<R: Wait>(
     rt: &R,
@@ -120,82 +100,4 @@ pub fn swap_at<R: Wait>(
     ensures held { AreHeld iface.new.frames (view pass.new) }
 {
     swap(rt, pool, pass, iface, &key(bytes), want, value)
-}
-
-/// `window`, of at most so many pairs.
-pub fn window_from<R: Wait>(
-    rt: &R,
-    pool: &Pool<BytesTree, MemBlock<512>, 512>,
-    pass: &mut Pass<BytesTree>,
-    iface: &mut Interface,
-    bytes: &[u8],
-    most: u32,
-) -> Result<KeyReply, TreeFault>
-    requires pages { 1 ≤ pool.now.words.table.shared.key.pages }
-    requires most { 1 ≤ most }
-    requires ready { IsReadyOn pool.now.words ⟦<MemBlock<512> as Block>⟧.tells pass.old }
-    requires home { (view pass.old).out ≡ None }
-    requires held { AreHeld iface.old.frames (view pass.old) }
-    ensures ready { IsReadyOn pool.now.words ⟦<MemBlock<512> as Block>⟧.tells pass.new }
-    ensures home { (view pass.new).out ≡ None }
-    ensures held { AreHeld iface.new.frames (view pass.new) }
-{
-    window(rt, pool, pass, iface, &key(bytes), most)
-}
-
-/// The key of 63 zero bytes and this one.
-pub fn long_key(last: u8) -> [u8; 64] {
-    let mut bytes = [0; 64];
-    bytes[63] = last;
-    bytes
-}
-
-/// The long keys whose last bytes are 1 to `upto`, none of which was there, get these numbers.
-pub fn put_long<R: Wait>(
-    rt: &R,
-    pool: &Pool<BytesTree, MemBlock<512>, 512>,
-    pass: &mut Pass<BytesTree>,
-    iface: &mut Interface,
-    upto: u8,
-) -> Result<(), Fail>
-    requires pages { 1 ≤ pool.now.words.table.shared.key.pages }
-    requires ready { IsReadyOn pool.now.words ⟦<MemBlock<512> as Block>⟧.tells pass.old }
-    requires home { (view pass.old).out ≡ None }
-    requires held { AreHeld iface.old.frames (view pass.old) }
-    ensures ready { IfOk result (λ _. IsReadyOn pool.now.words ⟦<MemBlock<512> as Block>⟧.tells pass.new) }
-    ensures home { IfOk result (λ _. (view pass.new).out ≡ None) }
-    ensures held { IfOk result (λ _. AreHeld iface.new.frames (view pass.new)) }
-{
-    for last in 0..upto {
-        let reply = put_at(rt, pool, pass, iface, &long_key(last + 1), last as u64 + 1);
-        if reply != Ok(Reply::Was(None)) {
-            return Err(Fail::from("a put"));
-        }
-    }
-    Ok(())
-}
-
-/// The long keys whose last bytes are 1 to `upto` have these numbers.
-pub fn get_long<R: Wait>(
-    rt: &R,
-    pool: &Pool<BytesTree, MemBlock<512>, 512>,
-    pass: &mut Pass<BytesTree>,
-    iface: &mut Interface,
-    upto: u8,
-) -> Result<(), Fail>
-    requires pages { 1 ≤ pool.now.words.table.shared.key.pages }
-    requires ready { IsReadyOn pool.now.words ⟦<MemBlock<512> as Block>⟧.tells pass.old }
-    requires home { (view pass.old).out ≡ None }
-    requires held { AreHeld iface.old.frames (view pass.old) }
-    ensures ready { IfOk result (λ _. IsReadyOn pool.now.words ⟦<MemBlock<512> as Block>⟧.tells pass.new) }
-    ensures home { IfOk result (λ _. (view pass.new).out ≡ None) }
-    ensures held { IfOk result (λ _. AreHeld iface.new.frames (view pass.new)) }
-{
-    for last in 0..upto {
-        let reply = got(rt, pool, pass, iface, &long_key(last + 1));
-        if reply != Ok(Reply::Got(Some(last as u64 + 1))) {
-            return Err(Fail::from("a get"));
-        }
-    }
-    Ok(())
 }

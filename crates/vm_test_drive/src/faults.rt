@@ -1,15 +1,13 @@
-//! Workers over devices that fail, pages at the last version, and an image that is full.
+//! Workers over devices that fail, and an image that is full.
 use std::alloc::Global;
 use std::process::Abort;
 use std::sync::Wait;
 use std::test::Fail;
 use std::thread::Threads;
-use vm_drive_callers::calls::{expect_fault, expect_lists, faults_in, shares, two_lists};
-use vm_drive_callers::drive::{NoGate, Short, drive};
+use vm_drive_callers::calls::{expect_fault, expect_lists, faults_in, shares};
+use vm_drive_callers::drive::{NoGate, drive};
 use vm_drive_callers::trees::{empty, open};
-use vm_event::MAX_VERSION;
 use vm_image::PlannedFault;
-use vm_map::call::Call;
 use vm_tree_rule::TreeFault;
 
 /// One call of a page's block fails, while two workers put 150 keys each with so few frames that pages are evicted and brought again: at most
@@ -65,26 +63,6 @@ fn a_failed_first_read_is_one_fault(rt: HostRuntime) -> Result<(), Fail> {
     assert_eq!(rt; faults_in(replies), 1);
     expect_fault(replies, TreeFault::Device { pid: 0, count: 1 })?;
     expect_lists(&rt, &pool, &mut pass, lists.as_slice(), replies)?;
-    Ok(())
-}
-
-/// The leaf comes to the last version as it is brought in: each worker reads it, and neither writes it.
-#[test]
-fn a_worn_leaf_is_read_by_all(rt: HostRuntime) -> Result<(), Fail> {
-    let alloc = rt.alloc();
-    let image = empty(alloc, 6)?;
-    let (pool, mut pass) = open(alloc, &image, &[], MAX_VERSION - 1, 64)?;
-    let calls = [Call::Get { key: 5 }, Call::Put { key: 5, value: 7 }];
-    let lists = two_lists(alloc, &calls, &calls)?;
-    let driven = drive(&rt, alloc, &pool, &mut pass, lists.as_slice(), &NoGate)?;
-    assert_eq!(rt; driven.kept.len(), 2);
-    for answers in driven.kept.as_slice() {
-        let [read, written] = answers.short.as_slice() else {
-            return Err(Fail::from("an answer to each call"));
-        };
-        assert_eq!(rt; *read, Short::Got(None));
-        assert_eq!(rt; *written, Short::Fault(TreeFault::Worn { pid: 1 }));
-    }
     Ok(())
 }
 

@@ -5,6 +5,4 @@
 #[cfg(test)]
 mod faults;
 #[cfg(test)]
-mod ranges;
-#[cfg(test)]
 mod rounds;
