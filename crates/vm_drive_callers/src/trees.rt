@@ -16,7 +16,7 @@ use vm_rule::words::Pass;
 use vm_serve::pool::{Pool, Shape};
 use vm_serve::tree_rule::Tree;
 
-/// The first word of a page file with pages of 64 words, and of one with pages of 512.
+/// The first word of a page file with pages of 64 words.
 const MAGIC: u64 = 0x564D_4341_4348_4531;
 
 /// A page that begins with these words.

@@ -1,4 +1,4 @@
-//! Scripts of calls with byte keys, and the lines of what such calls are answered, worked out by hand.
+//! Scripts of calls with byte keys, and the lines of what such calls are answered, worked out by hand. Lines that are refused are cases of `vm_cases`.
 
 use std::test::Fail;
 use vm_bytes_laws::call::{KeyCall, KeyReply};
@@ -72,46 +72,6 @@ fn reads_keys_of_64_bytes(rt: HostRuntime) -> Result<(), Fail> {
     script.extend_from_slice(b"5a")?;
     let fault = read_key_script(alloc, script.as_slice(), 1).err();
     assert_eq!(rt; fault, Some(ScriptFault::Line(1)));
-    Ok(())
-}
-
-#[test]
-fn refuses_lines_of_byte_keys(rt: HostRuntime) -> Result<(), Fail> {
-    let alloc = rt.alloc();
-    let lines: [&[u8]; 25] = [
-        b"0 get 0",
-        b"0 get 000",
-        b"0 get AB",
-        b"0 get 0A",
-        b"0 get 0g",
-        b"0 get ",
-        b"0 get",
-        b"0 get --",
-        b"0 get -00",
-        b"0 get 00 ",
-        b"0  get 00",
-        b"0 put 00",
-        b"0 put00 1",
-        b"0 put 00  1",
-        b"0 put 00 01",
-        b"0 put 00 18446744073709551616",
-        b"0 PUT 00 1",
-        b"0 scan 00 0",
-        b"0 scan 00 29",
-        b"0 swap 00 1 2",
-        b"0 range 00 01",
-        b"0 range - end",
-        b"2 get 00",
-        b"get 00",
-        b"\n0 get 00",
-    ];
-    for line in lines {
-        let mut script = Vec::new(alloc);
-        script.extend_from_slice(b"1 get -\n")?;
-        script.extend_from_slice(line)?;
-        let fault = read_key_script(alloc, script.as_slice(), 2).err();
-        assert_eq!(rt; fault, Some(ScriptFault::Line(2)));
-    }
     Ok(())
 }
 
