@@ -1,5 +1,6 @@
 -- A leaf is read and held behind those that are held; at the last one all of them prove the reply.
 use Rattle.std.proofs.Common.{rules, ◌<◌, ◌++◌, ◌∷◌, ◌∙◌, [], arith, inr, length-append, refl, subst, sym, true≢false}
+use Rattle.vm_step.proofs.Going.{goes-then}
 use Rattle.vm_event.specs.Prelude.{MayShare}
 use Rattle.vm_map.specs.History.{bound_of}
 use Rattle.vm_tree_read.specs.from_vm_guard.Guards.{IsUnshared}
@@ -334,3 +335,84 @@ returns-clause-steps t g c =
     (leaf-shares _ _ _ _ _ _ _ c.in-Ok.ensures.reads.0 c.gather_in_place-high.ensures.found.loads)
     (taken-shares (Tied t.K.Kind.layout) _ c.in-Ok-share_silently.shared.frame _ _ _ _ s.1) in
     shares-then _ _ _ (shares-then _ _ _ held c.hold_from-answer.ensures.steps) (given-shares _ _ _ c.drop_with.ensures.given_up)
+
+pub leaf_at-requires-clause-ready : goal.leaf_at-requires-clause-ready
+leaf_at-requires-clause-ready t g c = c.requires.ready
+
+pub leaf_at-requires-clause-pages : goal.leaf_at-requires-clause-pages
+leaf_at-requires-clause-pages t g c = c.requires.pages
+
+pub gather_in_place-high-requires-clause-ready : goal.gather_in_place-high-requires-clause-ready
+gather_in_place-high-requires-clause-ready t g c = c.leaf_at.ensures.goes.ready
+
+pub share_with_all-requires-clause-ready : goal.share_with_all-requires-clause-ready
+share_with_all-requires-clause-ready t g c = c.gather_in_place-high.ensures.goes.ready
+
+pub share_with_all-requires-clause-reading : goal.share_with_all-requires-clause-reading
+share_with_all-requires-clause-reading t g c = c.gather_in_place-high.ensures.found.loads.reads
+
+pub share_with_all-requires-clause-home : goal.share_with_all-requires-clause-home
+share_with_all-requires-clause-home t g c =
+    let f = c.gather_in_place-high.ensures.found in
+    (reads-on _ _ (reads-then _ _ _ c.in-Ok.ensures.reads.0 (loads-reads _ _ _ _ _ _ f.loads))).out ∙ c.requires.home
+
+pub share_last-requires-clause-ready : goal.share_last-requires-clause-ready
+share_last-requires-clause-ready t g c = c.gather_in_place-high.ensures.goes.ready
+
+pub share_last-requires-clause-reading : goal.share_last-requires-clause-reading
+share_last-requires-clause-reading t g c = c.gather_in_place-high.ensures.found.loads.reads
+
+pub share_last-requires-clause-home : goal.share_last-requires-clause-home
+share_last-requires-clause-home t g c =
+    let f = c.gather_in_place-high.ensures.found in
+    (reads-on _ _ (reads-then _ _ _ c.in-Ok.ensures.reads.0 (loads-reads _ _ _ _ _ _ f.loads))).out ∙ c.requires.home
+
+pub returns-in-Err-clause-goes : goal.returns-in-Err-clause-goes
+returns-in-Err-clause-goes t g c = c.leaf_at.ensures.goes
+
+pub returns-in-Err-clause-kept : goal.returns-in-Err-clause-kept
+returns-in-Err-clause-kept t g c = refl
+
+pub returns-in-Ok-share_with_all-clause-goes : goal.returns-in-Ok-share_with_all-clause-goes
+returns-in-Ok-share_with_all-clause-goes t g c = goes-then c.leaf_at.ensures.goes (goes-then c.gather_in_place-high.ensures.goes c.share_with_all.ensures.goes)
+
+pub returns-in-Err-share_with_all-clause-goes : goal.returns-in-Err-share_with_all-clause-goes
+returns-in-Err-share_with_all-clause-goes t g c = goes-then c.leaf_at.ensures.goes (goes-then c.gather_in_place-high.ensures.goes c.share_with_all.ensures.goes)
+
+pub returns-then-left-eq1-clause-goes : goal.returns-then-left-eq1-clause-goes
+returns-then-left-eq1-clause-goes t g c = goes-then c.leaf_at.ensures.goes (goes-then c.gather_in_place-high.ensures.goes c.share_last.ensures.goes)
+
+pub returns-then-left-eq1-clause-kept : goal.returns-then-left-eq1-clause-kept
+returns-then-left-eq1-clause-kept t g c = c.gather_in_place-high.ensures.kept
+
+pub returns-in-Err-share_last-clause-goes : goal.returns-in-Err-share_last-clause-goes
+returns-in-Err-share_last-clause-goes t g c = goes-then c.leaf_at.ensures.goes (goes-then c.gather_in_place-high.ensures.goes c.share_last.ensures.goes)
+
+pub returns-in-Err-share_last-clause-kept : goal.returns-in-Err-share_last-clause-kept
+returns-in-Err-share_last-clause-kept t g c = c.gather_in_place-high.ensures.kept
+
+pub returns-in-Err-share_silently-clause-goes : goal.returns-in-Err-share_silently-clause-goes
+returns-in-Err-share_silently-clause-goes t g c = goes-then c.leaf_at.ensures.goes (goes-then c.gather_in_place-high.ensures.goes c.share_silently.ensures.goes)
+
+pub returns-in-Err-share_silently-clause-kept : goal.returns-in-Err-share_silently-clause-kept
+returns-in-Err-share_silently-clause-kept t g c = c.gather_in_place-high.ensures.kept
+
+pub returns-in-Ok-share_with_all-clause-sure : goal.returns-in-Ok-share_with_all-clause-sure
+returns-in-Ok-share_with_all-clause-sure t g c shares tells few k = tt
+
+pub returns-then-left-eq1-clause-sure : goal.returns-then-left-eq1-clause-sure
+returns-then-left-eq1-clause-sure t g c shares tells few k = tt
+
+pub share_silently-requires-clause-ready : goal.share_silently-requires-clause-ready
+share_silently-requires-clause-ready t g c = c.gather_in_place-high.ensures.goes.ready
+
+pub drop_with-requires-clause-ready : goal.drop_with-requires-clause-ready
+drop_with-requires-clause-ready t g c = c.hold_from-answer.ensures.goes.ready
+
+pub returns-clause-goes : goal.returns-clause-goes
+returns-clause-goes t g c =
+    goes-then c.leaf_at.ensures.goes (goes-then c.gather_in_place-high.ensures.goes
+    (goes-then c.share_silently.ensures.goes (goes-then c.hold_from-answer.ensures.goes c.drop_with.ensures.goes)))
+
+pub returns-clause-kept : goal.returns-clause-kept
+returns-clause-kept t g c = c.hold_from-answer.ensures.kept ∙ c.gather_in_place-high.ensures.kept

@@ -1,5 +1,6 @@
 -- The leaf is held at the version that was read, with those that are held already; then it is given up.
-use Rattle.std.proofs.Common.{◌<◌, ◌∙◌, subst, sym, true≢false}
+use Rattle.std.proofs.Common.{◌<◌, ◌∙◌, subst, sym, true≢false, refl}
+use Rattle.vm_step.proofs.Going.{goes-then}
 use Rattle.vm_event.specs.Prelude.{MayShare}
 use Rattle.vm_tree_read.specs.from_vm_guard.Guards.{IsUnshared}
 use Rattle.vm_step.specs.Prelude.{view}
@@ -65,3 +66,27 @@ returns-in-Ok-clause-steps g c =
 
 pub returns-in-Err-clause-steps : goal.returns-in-Err-clause-steps
 returns-in-Err-clause-steps g c = denied-shares _ _ _ _ _ _ _ c.in-Err.ensures.denied
+
+pub share-requires-clause-ready : goal.share-requires-clause-ready
+share-requires-clause-ready g c = c.requires.ready
+
+pub drop_with-requires-clause-ready : goal.drop_with-requires-clause-ready
+drop_with-requires-clause-ready g c = c.share.ensures.goes.ready
+
+pub returns-in-Ok-clause-goes : goal.returns-in-Ok-clause-goes
+returns-in-Ok-clause-goes g c = goes-then c.share.ensures.goes c.drop_with.ensures.goes
+
+pub returns-in-Ok-clause-err : goal.returns-in-Ok-clause-err
+returns-in-Ok-clause-err g c = tt
+
+pub returns-in-Ok-clause-sure : goal.returns-in-Ok-clause-sure
+returns-in-Ok-clause-sure g c shares few k = refl
+
+pub returns-in-Err-clause-goes : goal.returns-in-Err-clause-goes
+returns-in-Err-clause-goes g c = c.share.ensures.goes
+
+pub returns-in-Err-clause-ok : goal.returns-in-Err-clause-ok
+returns-in-Err-clause-ok g c = tt
+
+pub returns-in-Err-clause-err : goal.returns-in-Err-clause-err
+returns-in-Err-clause-err g c = c.in-Err.ensures.denied

@@ -55,3 +55,18 @@ returns-clause-known g c shares few k = c.share_last-answer.ensures.known shares
 
 pub returns-clause-steps : goal.returns-clause-steps
 returns-clause-steps g c = c.share_last-answer.ensures.steps
+
+pub share_last-answer-requires-clause-ready : goal.share_last-answer-requires-clause-ready
+share_last-answer-requires-clause-ready g c = c.requires.ready
+
+pub share_last-answer-requires-clause-reading : goal.share_last-answer-requires-clause-reading
+share_last-answer-requires-clause-reading g c = c.requires.reading
+
+pub share_last-answer-requires-clause-home : goal.share_last-answer-requires-clause-home
+share_last-answer-requires-clause-home g c = c.requires.home
+
+pub returns-clause-goes : goal.returns-clause-goes
+returns-clause-goes g c = c.share_last-answer.ensures.goes
+
+pub returns-clause-err : goal.returns-clause-err
+returns-clause-err g c = c.share_last-answer.ensures.err

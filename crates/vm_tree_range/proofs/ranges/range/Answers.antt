@@ -1,4 +1,5 @@
 use Rattle.std.proofs.Common.{◌*◌, ◌≤◌, ◌∙◌, ap, refl, rules, subst, sym}
+use Rattle.vm_step.proofs.Going.{goes-then}
 use Rattle.vm_step.specs.Prelude.{view}
 use Rattle.vm_tree_read.proofs.Lasting.{waits-self, waits-then}
 use Rattle.vm_tree_read.proofs.Losing.{loses-then}
@@ -79,3 +80,35 @@ pub returns-in-Failed-clause-lost : goal.returns-in-Failed-clause-lost
 returns-in-Failed-clause-lost g c =
     loses-then c.args.iface.now.frames c.loop.iface.frames c.range_round.new.iface.frames (view c.args.pass.now)
     (view c.loop.pass) (view c.range_round.new.pass) c.loop.invariant.tried.lost c.range_round.ensures.lost
+
+-- ---- what else a round leaves that ends the loop
+
+pub returns-in-Done-clause-goes : goal.returns-in-Done-clause-goes
+returns-in-Done-clause-goes g c = goes-then c.loop.invariant.tried.goes c.range_round.ensures.goes
+
+pub returns-in-Done-clause-held : goal.returns-in-Done-clause-held
+returns-in-Done-clause-held g c = c.range_round.ensures.held
+
+pub returns-in-Done-clause-iface : goal.returns-in-Done-clause-iface
+returns-in-Done-clause-iface g c = (c.range_round.ensures.iface.0 ∙ c.loop.invariant.tried.iface.0, c.range_round.ensures.iface.1 ∙ c.loop.invariant.tried.iface.1)
+
+pub returns-in-Failed-clause-goes : goal.returns-in-Failed-clause-goes
+returns-in-Failed-clause-goes g c = goes-then c.loop.invariant.tried.goes c.range_round.ensures.goes
+
+pub returns-in-Failed-clause-held : goal.returns-in-Failed-clause-held
+returns-in-Failed-clause-held g c = c.range_round.ensures.held
+
+pub returns-in-Failed-clause-iface : goal.returns-in-Failed-clause-iface
+returns-in-Failed-clause-iface g c = (c.range_round.ensures.iface.0 ∙ c.loop.invariant.tried.iface.0, c.range_round.ensures.iface.1 ∙ c.loop.invariant.tried.iface.1)
+
+pub returns-in-Done-clause-kind : goal.returns-in-Done-clause-kind
+returns-in-Done-clause-kind g c = c.in-Done.ensures.told.1
+
+pub returns-in-Done-clause-err : goal.returns-in-Done-clause-err
+returns-in-Done-clause-err g c = tt
+
+pub returns-in-Failed-clause-ok : goal.returns-in-Failed-clause-ok
+returns-in-Failed-clause-ok g c = tt
+
+pub returns-in-Failed-clause-kind : goal.returns-in-Failed-clause-kind
+returns-in-Failed-clause-kind g c = tt

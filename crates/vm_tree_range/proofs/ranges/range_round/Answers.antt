@@ -1,4 +1,5 @@
 use Rattle.std.proofs.Common.{◌∙◌, arith, refl, rules, subst, sym}
+use Rattle.vm_step.proofs.Going.{goes-then}
 use Rattle.vm_map.specs.declared.call.Call.TheVariants.{Range}
 use Rattle.vm_map.specs.declared.call.Reply.TheVariants.{Many}
 use Rattle.vm_step.specs.Prelude.{view}
@@ -114,3 +115,60 @@ returns-in-Need-clause-told g c =
     let same = no-pairs c.in-Need.ensures.none in
     told-as _ _ _ _ _ _ c.fetch.result c.fetch.ensures.told (λ t none. absurd none) (λ k. (waits, round.needed _ _ t.0 t.1 k, same))
     (λ _ k. (waits, fault.unbrought _ _ t.0 t.1 k, same))
+
+pub try_range-requires-clause-ready : goal.try_range-requires-clause-ready
+try_range-requires-clause-ready g c = c.requires.ready
+
+pub try_range-requires-clause-pages : goal.try_range-requires-clause-pages
+try_range-requires-clause-pages g c = c.requires.pages
+
+pub try_range-requires-clause-home : goal.try_range-requires-clause-home
+try_range-requires-clause-home g c = c.requires.home
+
+pub try_range-requires-clause-empty : goal.try_range-requires-clause-empty
+try_range-requires-clause-empty g c = c.requires.empty
+
+pub try_range-requires-clause-room : goal.try_range-requires-clause-room
+try_range-requires-clause-room g c = c.requires.room
+
+pub returns-in-Done-clause-goes : goal.returns-in-Done-clause-goes
+returns-in-Done-clause-goes g c = c.try_range.ensures.goes
+
+pub returns-in-Done-clause-iface : goal.returns-in-Done-clause-iface
+returns-in-Done-clause-iface g c = (refl, refl)
+
+pub returns-in-TooWide-clause-goes : goal.returns-in-TooWide-clause-goes
+returns-in-TooWide-clause-goes g c = c.try_range.ensures.goes
+
+pub returns-in-TooWide-clause-iface : goal.returns-in-TooWide-clause-iface
+returns-in-TooWide-clause-iface g c = (refl, refl)
+
+pub returns-in-Again-clause-goes : goal.returns-in-Again-clause-goes
+returns-in-Again-clause-goes g c = c.try_range.ensures.goes
+
+pub returns-in-Again-clause-iface : goal.returns-in-Again-clause-iface
+returns-in-Again-clause-iface g c = (refl, refl)
+
+pub returns-in-Crowded-clause-goes : goal.returns-in-Crowded-clause-goes
+returns-in-Crowded-clause-goes g c = c.try_range.ensures.goes
+
+pub returns-in-Crowded-clause-iface : goal.returns-in-Crowded-clause-iface
+returns-in-Crowded-clause-iface g c = (refl, refl)
+
+pub returns-in-Damaged-clause-goes : goal.returns-in-Damaged-clause-goes
+returns-in-Damaged-clause-goes g c = c.try_range.ensures.goes
+
+pub returns-in-Damaged-clause-iface : goal.returns-in-Damaged-clause-iface
+returns-in-Damaged-clause-iface g c = (refl, refl)
+
+pub returns-in-TooWide-clause-told : goal.returns-in-TooWide-clause-told
+returns-in-TooWide-clause-told g c = (c.in-TooWide.ensures.tried, tt)
+
+pub returns-in-Need-clause-goes : goal.returns-in-Need-clause-goes
+returns-in-Need-clause-goes g c = goes-then c.try_range.ensures.goes c.fetch.ensures.goes
+
+pub returns-in-Need-clause-held : goal.returns-in-Need-clause-held
+returns-in-Need-clause-held g c = c.fetch.ensures.held
+
+pub returns-in-Need-clause-iface : goal.returns-in-Need-clause-iface
+returns-in-Need-clause-iface g c = c.fetch.ensures.iface

@@ -1,4 +1,6 @@
 use Rattle.std.proofs.Common.{◌*◌, ◌<◌, ◌≤◌, ◌∙◌, ap, arith, refl, rules, subst, sym}
+use Rattle.std.proofs.lemmas.Option.{none-some}
+use Rattle.vm_step.proofs.Going.{goes-then}
 use Rattle.vm_step.specs.Prelude.{view}
 use Rattle.vm_tree_read.proofs.Lasting.{waits-self, waits-then}
 use Rattle.vm_tree_read.proofs.Losing.{loses-then}
@@ -95,3 +97,62 @@ returns-clause-none g c _ =
           (view c.rounds.pass)) (omega (arith, c.rounds.auto._made-end, c.rounds-test.false)) left.1,
       c.rounds.invariant.same,
     )
+
+-- ---- what else a round leaves that ends the loop
+
+pub returns-in-Done-clause-goes : goal.returns-in-Done-clause-goes
+returns-in-Done-clause-goes g c = goes-then c.rounds.invariant.tried.goes c.range_round.ensures.goes
+
+pub returns-in-Done-clause-held : goal.returns-in-Done-clause-held
+returns-in-Done-clause-held g c = c.range_round.ensures.held
+
+pub returns-in-Done-clause-iface : goal.returns-in-Done-clause-iface
+returns-in-Done-clause-iface g c = (c.range_round.ensures.iface.0 ∙ c.rounds.invariant.tried.iface.0, c.range_round.ensures.iface.1 ∙ c.rounds.invariant.tried.iface.1)
+
+pub returns-in-Failed-clause-goes : goal.returns-in-Failed-clause-goes
+returns-in-Failed-clause-goes g c = goes-then c.rounds.invariant.tried.goes c.range_round.ensures.goes
+
+pub returns-in-Failed-clause-held : goal.returns-in-Failed-clause-held
+returns-in-Failed-clause-held g c = c.range_round.ensures.held
+
+pub returns-in-Failed-clause-iface : goal.returns-in-Failed-clause-iface
+returns-in-Failed-clause-iface g c = (c.range_round.ensures.iface.0 ∙ c.rounds.invariant.tried.iface.0, c.range_round.ensures.iface.1 ∙ c.rounds.invariant.tried.iface.1)
+
+pub returns-in-Done-clause-kind : goal.returns-in-Done-clause-kind
+returns-in-Done-clause-kind g c = c.in-Done.ensures.told.1
+
+pub returns-in-Done-clause-err : goal.returns-in-Done-clause-err
+returns-in-Done-clause-err g c = tt
+
+pub returns-in-Done-clause-none : goal.returns-in-Done-clause-none
+returns-in-Done-clause-none g c none = absurd (none-some _ (sym none))
+
+pub returns-in-Failed-clause-some : goal.returns-in-Failed-clause-some
+returns-in-Failed-clause-some g c = tt
+
+pub returns-in-Failed-clause-kind : goal.returns-in-Failed-clause-kind
+returns-in-Failed-clause-kind g c = tt
+
+pub returns-in-Failed-clause-none : goal.returns-in-Failed-clause-none
+returns-in-Failed-clause-none g c = tt
+
+pub returns-clause-goes : goal.returns-clause-goes
+returns-clause-goes g c = c.rounds.invariant.tried.goes
+
+pub returns-clause-held : goal.returns-clause-held
+returns-clause-held g c = c.rounds.invariant.tried.held
+
+pub returns-clause-iface : goal.returns-clause-iface
+returns-clause-iface g c = c.rounds.invariant.tried.iface
+
+pub returns-clause-lost : goal.returns-clause-lost
+returns-clause-lost g c = c.rounds.invariant.tried.lost
+
+pub returns-clause-some : goal.returns-clause-some
+returns-clause-some g c = tt
+
+pub returns-clause-err : goal.returns-clause-err
+returns-clause-err g c = tt
+
+pub returns-clause-kind : goal.returns-clause-kind
+returns-clause-kind g c = tt
