@@ -1,6 +1,6 @@
 -- One worker more is hired.
-use Rattle.std.proofs.Common.{[], ⊎_elim, ◌++◌, ◌+◌, ◌==◌, ◌∙◌, ◌∷◌, ◌≡◌, ◌≤◌, ap, arith, Bool, false, if◌then◌else◌}
-use Rattle.std.proofs.Common.{inr, length, List, refl, slice_index, subst, sym, true, true≢false, ℕ}
+use Rattle.std.proofs.Common.{[], ⊎_elim, ◌++◌, ◌+◌, ◌==◌, ◌∙◌, ◌∷◌, ◌≡◌, ◌≤◌, add-zero, ap, append-nil, arith, Bool, false, if◌then◌else◌}
+use Rattle.std.proofs.Common.{inl, inr, length, List, refl, slice_index, subst, sym, true, true≢false, zero-add, ℕ}
 use Rattle.std.proofs.lemmas.Bool.{cases_eq, eq-eqb, ne_eqb}
 use Rattle.std.proofs.lemmas.List.{length-append, map-append}
 use Rattle.vm_rule.specs.Prelude.{Each, entries_by, has, HoldsNoPage, HoldsNothing, IsWhole, other_parts, owns, TableId, times}
@@ -86,6 +86,31 @@ module _ {U X A M : Type 0} {owner : _} (shape : TableShape) (tells : Bool) (t :
         log = ap (λ (y : View X). y.log) is;
         frames = ap (λ (y : View X). y.frames) is;
       }
+
+  -- where no worker is hired yet, the pass is as it was
+  pub hired-none : (v : View X) → AreHired {U = U} {X = X} {A = A} {M = M} {owner = owner} shape tells t [] [] v [] v
+  hired-none v = record {
+    kept = record {
+      holds = λ q. record { shares = refl; exclusive = refl; writing = refl };
+      out = refl;
+      start = refl;
+      seen = ([], sym (append-nil v.seen));
+    };
+    mine = refl;
+    notes = refl;
+    log = ([], sym (append-nil v.log));
+    used = refl;
+    frames = refl;
+    count = sym (zero-add (length v.fresh));
+    parts = λ k. sym (add-zero (owns k v));
+    apart = tt;
+    foreign = tt;
+    unused = tt;
+    each = tt;
+    answers = refl;
+    memories = refl;
+    all = inl (refl, refl);
+  }
 
   pub hired-more : 1 ≤ shape.pages → (rooms : List A) (memories : List M) (v : View X)
       (ds : List (Worker U A M X owner)) (w x : View X) (d : Worker U A M X owner)

@@ -1,7 +1,9 @@
 use Rattle.std.specs.Vec.{vec_capacity}
-use Rattle.std.proofs.Common.{◌∙◌, ◌≡◌, ◌≤◌, ap, arith, length, List, rules, subst, sym}
+use Rattle.std.proofs.Common.{◌∙◌, ◌≡◌, ◌≤◌, ap, length, List, refl, subst, sym}
+use Rattle.std.proofs.lemmas.Bool.{ltb-true}
 use Rattle.vm_rule.specs.Prelude.{Each}
 use Rattle.vm_step.specs.Prelude.{view}
+use Rattle.vm_step.proofs.Going.{goes-then}
 use Rattle.vm_tree_model.specs.Fixed.{fixed}
 use Rattle.vm_tree_laws.specs.Plain.{KeepsPlain}
 use Rattle.vm_calls.specs.declared.worker.Worker.{Worker}
@@ -12,6 +14,33 @@ use Rattle.vm_drive.specs.{Drives.items_of, Lists.AreKept, Rooms.RoomFor, Rooms.
 use Rattle.vm_drive.proofs.Crews.{items-long, room-long, memories-long, whole-back, worked-long}
 use Rattle.vm_drive.proofs.Finishing.{all_kept, driven, hired-idle, hired-long, told_of, worked-back}
 use Rattle.vm_drive.proofs.driving.drive_into.Goals as goal
+
+pub returns-in-Err-clause-goes : goal.returns-in-Err-clause-goes
+returns-in-Err-clause-goes g c = record { same = (refl, refl); ready = c.requires.ready }
+
+pub returns-in-Err-clause-driven : goal.returns-in-Err-clause-driven
+returns-in-Err-clause-driven g c = tt
+
+pub returns-in-Err-clause-memory : goal.returns-in-Err-clause-memory
+returns-in-Err-clause-memory g c = refl
+
+pub returns-in-Err-spans_for-clause-goes : goal.returns-in-Err-spans_for-clause-goes
+returns-in-Err-spans_for-clause-goes g c = record { same = (refl, refl); ready = c.requires.ready }
+
+pub returns-in-Err-spans_for-clause-driven : goal.returns-in-Err-spans_for-clause-driven
+returns-in-Err-spans_for-clause-driven g c = tt
+
+pub returns-in-Err-spans_for-clause-memory : goal.returns-in-Err-spans_for-clause-memory
+returns-in-Err-spans_for-clause-memory g c = refl
+
+pub cap_for-cap-requires-clause-some : goal.cap_for-cap-requires-clause-some
+cap_for-cap-requires-clause-some g c = c.requires.lists.0
+
+pub cap_for-cap-requires-clause-few : goal.cap_for-cap-requires-clause-few
+cap_for-cap-requires-clause-few g c = c.requires.lists.1
+
+pub cap_for-cap-requires-clause-share : goal.cap_for-cap-requires-clause-share
+cap_for-cap-requires-clause-share g c = c.requires.frames
 
 pub hire-workers-requires : goal.hire-workers-requires
 hire-workers-requires g c =
@@ -26,7 +55,7 @@ hire-workers-requires g c =
     let memories : length c.in-Ok-spans_for.spans.items ≡ length c.args.rooms.items =
     memories-long (SpansFor g.row.N) _ _ c.in-Ok-spans_for.ensures
     ∙ sym (room-long g.A.Answers.keeps (RoomFor g.A.Answers.room) _ _ c.requires.rooms) in (
-      omega arith,
+      ltb-true _ _ refl,
       (
         c.requires.ready,
         (
@@ -50,7 +79,7 @@ work_all-requires-after_bounds g c κs within =
     c.hire-workers.result.items hired c.requires.rooms c.in-Ok-spans_for.ensures) in
     let homes = subst (λ (l : List (Worker _ _ _ _ _)). AreAtHome 0 (share_of c.args.pool.now.words.frames (length c.args.lists.now)) l) whole
     (subst (λ n. AreAtHome 0 n c.hire-workers.result.items) c.cap_for-cap.ensures.share c.hire-workers.ensures.homes) in
-    (omega arith, (omega arith, (c.requires.lists, (c.requires.askable, (idle, homes)))))
+    (ltb-true _ _ refl, (ltb-true _ _ refl, (c.requires.lists, (c.requires.askable, (idle, homes)))))
 
 pub gather-requires : goal.gather-requires
 gather-requires g c =
@@ -63,7 +92,7 @@ gather-requires g c =
     let news = c.work_all.new.workers in
     let worked : length news ≡ length olds = worked-long _ _ _ _ _ _ _ _ c.work_all.ensures
     ∙ ap (λ (l : List (Worker _ _ _ _ _)). length l) c.as_mut_slice.ensures.value in
-    let back = sym (whole-back news olds c.hire-workers.result.len worked (search rules)) in
+    let back = sym (whole-back news olds c.hire-workers.result.len worked c.hire-workers.result.ok.0) in
     let many : length olds ≡ length c.args.lists.now = hired-long g.A.Answers.keeps (RoomFor g.A.Answers.room) (SpansFor g.row.N) _ _ _ _ _
     _ _ _ _ hired c.requires.rooms ∙ items-long c.args.lists.now in
     let room = subst (λ (l : List (Worker _ _ _ _ _)). length l ≤ vec_capacity c.in-Ok.places.1) back
@@ -75,12 +104,18 @@ gather-requires g c =
     let are-back = subst (λ (l : List (Worker _ _ _ _ _)). Each (IsBack shape g.B.Block.tells t x) l) back
     (worked-back (word_calls g.row.N) (word_laws g.row.N) g.A.Answers.keeps shape g.B.Block.tells t lists (view c.args.pass.now) x olds news
     hired.kept.start all hired.each) in (
-      omega arith,
+      ltb-true _ _ refl,
       (
         c.hire-workers.ensures.goes.ready,
         (hired.kept.out ∙ c.requires.holds.out, ((c.in-Ok.ensures.kept.0, room), (some, are-back))),
       ),
     )
+
+pub returns-clause-goes : goal.returns-clause-goes
+returns-clause-goes g c = goes-then c.hire-workers.ensures.goes c.gather.ensures.goes
+
+pub returns-clause-memory : goal.returns-clause-memory
+returns-clause-memory g c = tt
 
 pub returns-clause-driven : goal.returns-clause-driven
 returns-clause-driven g c =
@@ -95,7 +130,7 @@ returns-clause-driven g c =
     let news = c.work_all.new.workers in
     let worked : length news ≡ length olds = worked-long _ _ _ _ _ _ _ _ c.work_all.ensures
     ∙ ap (λ (l : List (Worker _ _ _ _ _)). length l) c.as_mut_slice.ensures.value in
-    let back = whole-back news olds c.hire-workers.result.len worked (search rules) in
+    let back = whole-back news olds c.hire-workers.result.len worked c.hire-workers.result.ok.0 in
     let all : AllWorked (word_calls g.row.N) g.A.Answers.keeps shape g.B.Block.tells t lists olds news =
     subst (λ (l : List (Worker _ _ _ _ _)). AllWorked (word_calls g.row.N) g.A.Answers.keeps shape g.B.Block.tells t lists l
     news) c.as_mut_slice.ensures.value c.work_all.ensures in
@@ -113,3 +148,9 @@ returns-clause-driven g c =
           c.in-Ok-spans_for.spans.items v x w olds news c.requires.whole c.requires.holds some hired all
           (subst (λ (l : List (Worker _ _ _ _ _)). AreJoined (KeepsPlain as_said (fixed g.row.N)) g.B.Block.tells x l w) back c.gather.ensures.joined);
     }
+
+pub hire-workers-requires-room-U-Owner : goal.hire-workers-requires-room-U-Owner
+hire-workers-requires-room-U-Owner g c κs within = ltb-true _ _ refl
+
+pub gather-requires-room-U-Owner : goal.gather-requires-room-U-Owner
+gather-requires-room-U-Owner g c κs within = ltb-true _ _ refl

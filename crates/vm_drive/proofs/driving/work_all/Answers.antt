@@ -1,4 +1,5 @@
-use Rattle.std.proofs.Common.{◌<◌, ◌∙◌, ◌≡◌, arith, get_or, length, rules, subst, sym, ℕ}
+use Rattle.std.proofs.Common.{◌<◌, ◌∙◌, ◌≡◌, get_or, length, refl, subst, sym, ℕ}
+use Rattle.std.proofs.lemmas.Bool.{ltb-true}
 use Rattle.vm_calls.specs.declared.worker.Worker.{Worker}
 use Rattle.vm_calls.specs.TreeCalls.{word_calls}
 use Rattle.vm_drive.specs.{Crews.HasWorked, Drives.items_of, Holds.list_at}
@@ -10,7 +11,7 @@ for_each_mut-requires-clause-accepts g c κs within = λ i p l e.
     let long : length c.args.lists.now ≡ length c.args.workers.now = sym (items-long c.args.lists.now)
     ∙ idle-long _ _ _ _ _ _ _ _ c.requires.idle in
     let inside : i < length c.args.lists.now = subst (λ n. i < n) (sym long) l in
-    (omega arith, (omega arith, ((inside, c.requires.lists.1), (c.requires.askable, idle-at _ _ _ _ _ _ _ _ i p.now c.requires.idle l e))))
+    (ltb-true _ _ refl, (ltb-true _ _ refl, ((inside, c.requires.lists.1), (c.requires.askable, idle-at _ _ _ _ _ _ _ _ i p.now c.requires.idle l e))))
 
 pub returns : goal.returns
 returns g c =
@@ -18,7 +19,7 @@ returns g c =
     let t = c.args.pool.now.words.table.shared.table_id in
     let lists = items_of c.args.lists.now in
     worked-all (word_calls g.row.N) g.A.Answers.keeps shape g.B.Block.tells t lists c.args.workers.now c.for_each_mut.new.s
-    (idle-long _ _ _ _ _ _ _ _ c.requires.idle) (search rules)
+    (idle-long _ _ _ _ _ _ _ _ c.requires.idle) c.for_each_mut.auto.s
     (λ (i : ℕ) (d : Worker _ _ _ _ _) (l : i < length c.args.workers.now).
     let at = (c.for_each_mut.ensures i d l).1 in
     let left : HasWorked (word_calls g.row.N) g.A.Answers.keeps shape g.B.Block.tells t (list_at lists i) at.argument.now
