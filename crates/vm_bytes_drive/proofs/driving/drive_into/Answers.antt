@@ -1,7 +1,9 @@
 use Rattle.std.specs.Vec.{vec_capacity}
-use Rattle.std.proofs.Common.{◌∙◌, ◌≡◌, ◌≤◌, ap, arith, length, List, rules, subst, sym}
+use Rattle.std.proofs.Common.{◌∙◌, ◌≡◌, ◌≤◌, ap, length, List, refl, subst, sym}
+use Rattle.std.proofs.lemmas.Bool.{ltb-true}
 use Rattle.vm_rule.specs.Prelude.{Each}
 use Rattle.vm_step.specs.Prelude.{view}
+use Rattle.vm_step.proofs.Going.{goes-then}
 use Rattle.vm_tree_laws.specs.Plain.{KeepsPlain}
 use Rattle.vm_bytes_calls.specs.from_vm_calls.declared_worker_Worker.{Worker}
 use Rattle.vm_bytes_form.specs.Bytes.{bytes}
@@ -16,6 +18,33 @@ use Rattle.vm_bytes_drive.specs.Drives.{NeedsNone}
 use Rattle.vm_bytes_drive.proofs.Nothing.{no-memory}
 use Rattle.vm_bytes_drive.proofs.driving.drive_into.Goals as goal
 
+pub returns-in-Err-clause-goes : goal.returns-in-Err-clause-goes
+returns-in-Err-clause-goes g c = record { same = (refl, refl); ready = c.requires.ready }
+
+pub returns-in-Err-clause-driven : goal.returns-in-Err-clause-driven
+returns-in-Err-clause-driven g c = tt
+
+pub returns-in-Err-clause-memory : goal.returns-in-Err-clause-memory
+returns-in-Err-clause-memory g c = refl
+
+pub returns-in-Err-no_memory-clause-goes : goal.returns-in-Err-no_memory-clause-goes
+returns-in-Err-no_memory-clause-goes g c = record { same = (refl, refl); ready = c.requires.ready }
+
+pub returns-in-Err-no_memory-clause-driven : goal.returns-in-Err-no_memory-clause-driven
+returns-in-Err-no_memory-clause-driven g c = tt
+
+pub returns-in-Err-no_memory-clause-memory : goal.returns-in-Err-no_memory-clause-memory
+returns-in-Err-no_memory-clause-memory g c = refl
+
+pub cap_for-cap-requires-clause-some : goal.cap_for-cap-requires-clause-some
+cap_for-cap-requires-clause-some g c = c.requires.lists.0
+
+pub cap_for-cap-requires-clause-few : goal.cap_for-cap-requires-clause-few
+cap_for-cap-requires-clause-few g c = c.requires.lists.1
+
+pub cap_for-cap-requires-clause-share : goal.cap_for-cap-requires-clause-share
+cap_for-cap-requires-clause-share g c = c.requires.frames
+
 pub hire-workers-requires : goal.hire-workers-requires
 hire-workers-requires g c =
     let long : length c.args.rooms.items ≡ length c.args.lists.now = room-long KeepsKeyAnswers HasKeyRoom _ _
@@ -28,7 +57,7 @@ hire-workers-requires g c =
     subst (λ n. n ≤ vec_capacity c.in-Ok.places.0) (sym long) places.1 in
     let memories : length c.in-Ok-no_memory.memories.items ≡ length c.args.rooms.items =
     c.in-Ok-no_memory.ensures ∙ sym long in (
-      omega arith,
+      ltb-true _ _ refl,
       (
         c.requires.ready,
         (
@@ -37,6 +66,12 @@ hire-workers-requires g c =
         ),
       ),
     )
+
+pub work_all-requires-clause-lists : goal.work_all-requires-clause-lists
+work_all-requires-clause-lists g c κs within = c.requires.lists
+
+pub work_all-requires-clause-askable : goal.work_all-requires-clause-askable
+work_all-requires-clause-askable g c κs within = c.requires.askable
 
 pub work_all-requires-clause-idle : goal.work_all-requires-clause-idle
 work_all-requires-clause-idle g c κs within =
@@ -68,7 +103,7 @@ gather-requires g c =
     let news = c.work_all.new.workers in
     let worked : length news ≡ length olds = worked-long _ _ _ _ _ _ _ _ c.work_all.ensures
     ∙ ap (λ (l : List (Worker _ _ _ _ _)). length l) c.as_mut_slice.ensures.value in
-    let back = sym (whole-back news olds c.hire-workers.result.len worked (search rules)) in
+    let back = sym (whole-back news olds c.hire-workers.result.len worked c.hire-workers.result.ok.0) in
     let many : length olds ≡ length c.args.lists.now = hired-long KeepsKeyAnswers HasKeyRoom NeedsNone _ _ _ _ _
     _ _ _ _ hired c.requires.rooms ∙ items-long c.args.lists.now in
     let room = subst (λ (l : List (Worker _ _ _ _ _)). length l ≤ vec_capacity c.in-Ok.places.1) back
@@ -80,12 +115,18 @@ gather-requires g c =
     let are-back = subst (λ (l : List (Worker _ _ _ _ _)). Each (IsBack shape g.B.Block.tells t x) l) back
     (worked-back key_calls key_laws KeepsKeyAnswers shape g.B.Block.tells t lists (view c.args.pass.now) x olds news
     hired.kept.start all hired.each) in (
-      omega arith,
+      ltb-true _ _ refl,
       (
         c.hire-workers.ensures.goes.ready,
         (hired.kept.out ∙ c.requires.holds.out, ((c.in-Ok.ensures.kept.0, room), (some, are-back))),
       ),
     )
+
+pub returns-clause-goes : goal.returns-clause-goes
+returns-clause-goes g c = goes-then c.hire-workers.ensures.goes c.gather.ensures.goes
+
+pub returns-clause-memory : goal.returns-clause-memory
+returns-clause-memory g c = tt
 
 pub returns-clause-driven : goal.returns-clause-driven
 returns-clause-driven g c =
@@ -100,7 +141,7 @@ returns-clause-driven g c =
     let news = c.work_all.new.workers in
     let worked : length news ≡ length olds = worked-long _ _ _ _ _ _ _ _ c.work_all.ensures
     ∙ ap (λ (l : List (Worker _ _ _ _ _)). length l) c.as_mut_slice.ensures.value in
-    let back = whole-back news olds c.hire-workers.result.len worked (search rules) in
+    let back = whole-back news olds c.hire-workers.result.len worked c.hire-workers.result.ok.0 in
     let all : AllWorked key_calls KeepsKeyAnswers shape g.B.Block.tells t lists olds news =
     subst (λ (l : List (Worker _ _ _ _ _)). AllWorked key_calls KeepsKeyAnswers shape g.B.Block.tells t lists l
     news) c.as_mut_slice.ensures.value c.work_all.ensures in

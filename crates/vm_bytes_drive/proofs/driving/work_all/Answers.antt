@@ -1,4 +1,4 @@
-use Rattle.std.proofs.Common.{◌<◌, ◌∙◌, ◌≡◌, get_or, length, rules, subst, sym, ℕ}
+use Rattle.std.proofs.Common.{◌<◌, ◌∙◌, ◌≡◌, get_or, length, subst, sym, ℕ}
 use Rattle.vm_bytes_calls.specs.from_vm_calls.declared_worker_Worker.{Worker}
 use Rattle.vm_bytes_calls.specs.{KeyAnswers.KeepsKeyAnswers, KeyCalls.key_calls}
 use Rattle.vm_drive.specs.{Crews.HasWorked, Drives.items_of, Holds.list_at}
@@ -18,7 +18,7 @@ returns g c =
     let t = c.args.pool.now.words.table.shared.table_id in
     let lists = items_of c.args.lists.now in
     worked-all key_calls KeepsKeyAnswers shape g.B.Block.tells t lists c.args.workers.now c.for_each_mut.new.s
-    (idle-long _ _ _ _ _ _ _ _ c.requires.idle) (search rules)
+    (idle-long _ _ _ _ _ _ _ _ c.requires.idle) c.for_each_mut.auto.s
     (λ (i : ℕ) (d : Worker _ _ _ _ _) (l : i < length c.args.workers.now).
     let at = (c.for_each_mut.ensures i d l).1 in
     let left : HasWorked key_calls KeepsKeyAnswers shape g.B.Block.tells t (list_at lists i) at.argument.now
