@@ -96,6 +96,7 @@ fn a_group_has_one_state_word(rt: HostRuntime) -> Result<(), Fail> {
     rows.extend_from_slice(&EVICTS)?;
     let mut core = core_of_group(alloc, 4)?;
     plays(&rt, alloc, &mut core, &rows)?;
+    assert_eq!(rt; core.shape().pages, 4);
     assert_eq!(rt; core.block_word(2, 5), 133);
     assert_eq!(rt; core.block_word(3, 5), 77);
     Ok(())
