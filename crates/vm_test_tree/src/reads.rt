@@ -5,28 +5,25 @@ use vm_exmap::Interface;
 use vm_guard::ExclusiveGuard;
 use vm_image::PlannedFault;
 use vm_map::call::Reply;
-use vm_map::window::Bound;
 use vm_step::At;
 use vm_tree_pages::pool::Bring;
+use vm_tree_pages::steps::play;
 use vm_tree_pages::tree_callers::{
-    empty, get_beside, get_first, get_once, got, one_leaf, open, put_at, two_leaves, window_from,
-    window_once,
+    empty, get_beside, get_first, get_once, got, one_leaf, open, two_leaves,
 };
 use vm_tree_pages::tree_read::TryRead;
 
+/// Page 0 is evicted, and then the root.
 #[test]
 fn a_key_that_is_not_there_has_no_value(rt: HostRuntime) -> Result<(), Fail> {
-    let bytes = empty(rt.alloc(), 8)?;
-    let (pool, mut pass) = open(rt.alloc(), bytes.as_slice())?;
-    let mut iface = Interface::new(0, 16);
-    // Page 0 is evicted, and then the root.
-    let first = get_once(&pool, &mut pass, &iface, 5);
-    assert!(rt; matches!(&first, TryRead::Need(0)));
-    let reply = got(&rt, &pool, &mut pass, &mut iface, 5);
-    assert_eq!(rt; reply, Ok(Reply::Got(None)));
-    let again = get_once(&pool, &mut pass, &iface, 5);
-    assert!(rt; matches!(&again, TryRead::Done(Reply::Got(None))));
-    Ok(())
+    let alloc = rt.alloc();
+    let bytes = empty(alloc, 8)?;
+    let script = "
+try-get 5 = need 0
+get 5 = got none
+try-get 5 = got none
+";
+    play(&rt, alloc, bytes.as_slice(), &[], 0, script)
 }
 
 #[test]
@@ -47,48 +44,35 @@ fn a_get_right_from_the_start_is_answered(rt: HostRuntime) -> Result<(), Fail> {
 
 #[test]
 fn a_descent_reaches_each_leaf(rt: HostRuntime) -> Result<(), Fail> {
-    let bytes = two_leaves(rt.alloc())?;
-    let (pool, mut pass) = open(rt.alloc(), bytes.as_slice())?;
-    let mut iface = Interface::new(0, 16);
-    let reply = got(&rt, &pool, &mut pass, &mut iface, 5);
-    assert_eq!(rt; reply, Ok(Reply::Got(Some(50))));
-    let reply = got(&rt, &pool, &mut pass, &mut iface, 6);
-    assert_eq!(rt; reply, Ok(Reply::Got(None)));
-    let reply = got(&rt, &pool, &mut pass, &mut iface, 7);
-    assert_eq!(rt; reply, Ok(Reply::Got(Some(70))));
-    let reply = got(&rt, &pool, &mut pass, &mut iface, 99);
-    assert_eq!(rt; reply, Ok(Reply::Got(None)));
-    let reply = got(&rt, &pool, &mut pass, &mut iface, 100);
-    assert_eq!(rt; reply, Ok(Reply::Got(None)));
-    let reply = got(&rt, &pool, &mut pass, &mut iface, 150);
-    assert_eq!(rt; reply, Ok(Reply::Got(Some(15))));
-    let reply = got(&rt, &pool, &mut pass, &mut iface, u64::MAX);
-    assert_eq!(rt; reply, Ok(Reply::Got(None)));
-    let middle = window_from(&rt, &pool, &mut pass, &mut iface, 6, 28);
-    assert_eq!(rt; middle, Some((Bound::Key(100), 1)));
-    let first = window_once(&pool, &mut pass, &iface, 0, 1);
-    assert_eq!(rt; first, Some((Bound::Key(7), 1)));
-    let last = window_once(&pool, &mut pass, &iface, u64::MAX, 1);
-    assert_eq!(rt; last, Some((Bound::End, 0)));
-    Ok(())
+    let alloc = rt.alloc();
+    let bytes = two_leaves(alloc)?;
+    let script = "
+get 5 = got 50
+get 6 = got none
+get 7 = got 70
+get 99 = got none
+get 100 = got none
+get 150 = got 15
+get 18446744073709551615 = got none
+window 6 28 = 1 below 100
+try-window 0 1 = 1 below 7
+try-window 18446744073709551615 1 = 0 to the end
+";
+    play(&rt, alloc, bytes.as_slice(), &[], 0, script)
 }
 
 #[test]
 fn windows_reach_both_ends_of_the_keys(rt: HostRuntime) -> Result<(), Fail> {
-    let bytes = empty(rt.alloc(), 8)?;
-    let (pool, mut pass) = open(rt.alloc(), bytes.as_slice())?;
-    let mut iface = Interface::new(0, 16);
-    let reply = put_at(&rt, &pool, &mut pass, &mut iface, u64::MAX, 1);
-    assert_eq!(rt; reply, Ok(Reply::Was(None)));
-    let reply = put_at(&rt, &pool, &mut pass, &mut iface, 0, 2);
-    assert_eq!(rt; reply, Ok(Reply::Was(None)));
-    let last = window_from(&rt, &pool, &mut pass, &mut iface, u64::MAX, 1);
-    assert_eq!(rt; last, Some((Bound::End, 1)));
-    let first = window_from(&rt, &pool, &mut pass, &mut iface, 0, 1);
-    assert_eq!(rt; first, Some((Bound::Key(u64::MAX), 1)));
-    let all = window_from(&rt, &pool, &mut pass, &mut iface, 0, 28);
-    assert_eq!(rt; all, Some((Bound::End, 2)));
-    Ok(())
+    let alloc = rt.alloc();
+    let bytes = empty(alloc, 8)?;
+    let script = "
+put 18446744073709551615 1 = was none
+put 0 2 = was none
+window 18446744073709551615 1 = 1 to the end
+window 0 1 = 1 below 18446744073709551615
+window 0 28 = 2 to the end
+";
+    play(&rt, alloc, bytes.as_slice(), &[], 0, script)
 }
 
 #[test]

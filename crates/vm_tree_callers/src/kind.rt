@@ -1,3 +1,3 @@
 //! What the crates above name of `vm_kind` through this one.
 
-pub use vm_kind::{OfSize, TreeOf, WordKeys};
+pub use vm_kind::{OfSize, Sizes, TreeOf, WordKeys};

@@ -2,8 +2,10 @@
 #![tactic(auto)]
 
 pub mod keys;
+mod line;
 pub mod pages;
 pub mod pool;
+pub mod steps;
 pub mod tree_callers;
 pub mod tree_read;
 pub mod tree_write;
