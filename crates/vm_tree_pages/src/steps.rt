@@ -125,10 +125,7 @@ fn take<R: Wait>(
     ensures held { IfOk result (λ _. AreHeld iface.new.frames (view pass.new)) }
 {
     match &step.kind {
-        LineKind::Tries(tries) => {
-            let told = tried(alloc, pool, pass, iface, step, tries)?;
-            step.tells(told.as_str())
-        }
+        LineKind::Tries(tries) => tried(alloc, pool, pass, iface, step, tries),
         LineKind::States(versions) => looked(pool, pass, iface, step, versions),
         _ => take_any(rt, alloc, pool, pass, iface, step),
     }
@@ -261,7 +258,7 @@ fn seen<S: OfSize<N>, R: Wait, const N: usize>(
     }
 }
 
-/// What is told of a try of a call.
+/// A try of a call answers as it is to.
 fn tried(
     alloc: Global,
     pool: &Pool<Tree, MemBlock<WORDS>, WORDS>,
@@ -269,7 +266,7 @@ fn tried(
     iface: &mut Interface,
     step: &ScriptLine<'_>,
     tries: &SingleTries,
-) -> Result<String, Fail>
+) -> Result<(), Fail>
     requires pages { 1 ≤ pool.now.words.table.shared.key.pages }
     requires ready { IsReadyOn pool.now.words ⟦<MemBlock<WORDS> as Block>⟧.tells pass.old }
     requires home { (view pass.old).out ≡ None }
@@ -281,18 +278,17 @@ fn tried(
     let key = step.number(0);
     let second = step.number(1);
     let third = step.number(2);
-    match tries {
-        SingleTries::Get => read_told(alloc, &get_once(pool, pass, iface, key)),
-        SingleTries::Window => {
-            let window = window_once(pool, pass, iface, key, step.most());
-            window_told(alloc, window)
-        }
-        SingleTries::Del => write_told(alloc, &del_once(pool, pass, iface, key)),
-        SingleTries::Swap => {
-            write_told(alloc, &swap_once(pool, pass, iface, key, second, third))
-        }
-        SingleTries::Split => split_told(alloc, &split_once(pool, pass, iface, key)),
-    }
+    let told = match tries {
+        SingleTries::Get => read_told(alloc, &get_once(pool, pass, iface, key))?,
+        SingleTries::Window => window_told(
+            alloc,
+            window_once(pool, pass, iface, key, step.most()),
+        )?,
+        SingleTries::Del => write_told(alloc, &del_once(pool, pass, iface, key))?,
+        SingleTries::Swap => write_told(alloc, &swap_once(pool, pass, iface, key, second, third))?,
+        SingleTries::Split => split_told(alloc, &split_once(pool, pass, iface, key))?,
+    };
+    step.tells(told.as_str())
 }
 
 /// State words are as they are to be, or a page is locked and released.
