@@ -8,7 +8,7 @@ pub use Rattle.vm_page.specs.declared.buf.TheConstants.{WORDS}
 pub use Rattle.vm_page.specs.Pages.{page_at}
 pub use Rattle.vm_event.specs.DeviceActs.{block_after, MayCall, raised, written}
 unfoldable pub use Rattle.vm_event.specs.Fn.{at, sum_below, upd, upd_over}
-pub use Rattle.vm_event.specs.Groups.{GroupsFit, head_in, IsGroup}
+pub use Rattle.vm_event.specs.Groups.{GroupsFit, head_in, IsGroup, IsUngrouped}
 pub use Rattle.vm_event.specs.FrameActs.{cleared, frame_of, frame_read, framed, gains, HoldsAt, installed, load_frame}
 pub use Rattle.vm_event.specs.FrameActs.{mapping_at, mapping_of, MayClean, MayDirty, MayInstall, open_frame, stands_in}
 pub use Rattle.vm_event.specs.FrameActs.{trans_word, with_dirty}

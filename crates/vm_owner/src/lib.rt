@@ -18,10 +18,14 @@ pub trait Owner {
     ghost use Rattle.std.specs.Prelude.{Bool, true, ℕ, ◌<◌, List, length};
     ghost use Rattle.vm_page.specs.Pages.{page_at};
     ghost use Rattle.vm_owner.specs.declared.Entry.{Entry};
+    ghost use Rattle.vm_owner.specs.Grouped.{no_groups};
     ghost use Rattle.vm_owner.specs.Kept.{Start, Kept, Change, Fits, IsTurn, after_release, told, claimed, AreZero, PagesHave, MayMove, moved, NumberMove};
 
     // Of how many words each page may be, for this layer.
     ghost takes_size: { ℕ → Bool } = { λ _. true };
+
+    // Which groups of pages a table may have, for this layer.
+    ghost takes_groups: { List (ℕ × ℕ) → Bool } = { no_groups };
 
     // What holds of the start and of what stands now.
     ghost keeps: { Start → Kept Self.Said → Type 0 };
@@ -55,6 +59,13 @@ pub trait Owner {
     ghost ties: { (start : Start) (kept : Kept Self.Said) (r p : ℕ) → keeps start kept → r < length kept.pages → p < length kept.pages → tied start r (page_at kept.pages r) p (page_at kept.pages p) };
 }
 
+/// An owner whose tables have no groups: each page stands under a state word of its own.
+pub trait Ungrouped: Owner {
+    ghost use Rattle.std.specs.Prelude.{[], List, true, ℕ, ◌≡◌};
+
+    ghost ungrouped: { (groups : List (ℕ × ℕ)) → Self.takes_groups groups ≡ true → groups ≡ [] };
+}
+
 /// An owner that keeps nothing and adds no entry.
 #[derive(Drop)]
 pub struct Bare;
@@ -83,4 +94,10 @@ impl Owner for Bare {
     ghost numbers = { λ _ _ _ _ _. tt };
 
     ghost ties = { λ _ _ _ _ _ _ _. tt };
+}
+
+impl Ungrouped for Bare {
+    ghost use Rattle.vm_owner.specs.Grouped.{takes-none};
+
+    ghost ungrouped = { takes-none };
 }

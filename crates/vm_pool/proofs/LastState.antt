@@ -2,6 +2,7 @@
 -- blocks are those of the pass's snapshot. The blocks are taken out of their slots one after another.
 use mathlib.Core.Option as maybe
 use Rattle.vm_rule.specs.declared.view.WordPlace.TheVariants as places
+use Rattle.vm_rule.specs.Prelude.{spread}
 use Rattle.vm_pool.proofs.Prelude.{[], all-seen, ap, arith, at, at-any, at-bound, at-listed, at-map, at-there}
 use Rattle.vm_pool.proofs.Prelude.{at_home, at_index, began_of, begun-ruled, block_in, block_of, Bool, bounds_of}
 use Rattle.vm_pool.proofs.Prelude.{bundles_of, cases_eq, clean-of, common_steps, core_shown, EVICTED, false, Filled}
@@ -123,7 +124,8 @@ module _ {X B : Type 0} (stored : B → Stored) (keeps : Start → Kept X → Ty
 module _ {X B : Type 0} (stored : B → Stored) (keeps : Start → Kept X → Type 0)
     (tied : Start → ℕ → List ℕ → ℕ → List ℕ → Type 0) (shape : TableShape) (tells : Bool) (id : ℕ) (v : View X)
     (live : v.live ≡ true) (whole : IsWhole v) (current : v.current ≡ true) (holds : HoldsNoPage v)
-    (ws : List ℕ) (xs : List (Option B)) (last : Final (Seen (Stands stored keeps tied shape tells) id v) ws xs) where
+    (ws : List ℕ) (xs : List (Option B)) (last : Final (Seen (Stands stored keeps tied shape tells) id v) ws xs)
+    (alone : shape.began.origin.groups ≡ []) where
   abbrev s : Table (Option B) (View X)
   s = last.0
 
@@ -131,7 +133,9 @@ module _ {X B : Type 0} (stored : B → Stored) (keeps : Start → Kept X → Ty
   start = shape.began.origin
 
   is-ruled : HasShape shape start × Ruled stored keeps tied start tells s
-  is-ruled = begun-ruled stored keeps tied shape tells s last.1.0 id v last.1.1 live
+  is-ruled =
+      subst (λ (gs : List (ℕ × ℕ)). HasShape shape start × Ruled stored keeps tied start tells (record s { words = spread gs s.words }))
+      alone (begun-ruled stored keeps tied shape tells s last.1.0 id v last.1.1 live)
 
   abbrev rule : Ruled stored keeps tied start tells s
   rule = is-ruled.1

@@ -6,6 +6,7 @@ use Rattle.vm_rule.proofs.{Bringing.rested, Found.same-word, Sound.is-sound, Sta
 use Rattle.vm_rule.proofs.Prelude.{[], Allows, ap, arith, begin_play, begun, block_of, Bool, brought, Did, did_load}
 use Rattle.vm_rule.proofs.Prelude.{first_view, get_elem?, HasShape, inl, Kept, length, List, listed, Me, NLoad}
 use Rattle.vm_rule.proofs.Prelude.{Option, Origin, refl, Ruled, slice_index, slice_set, snapshot_of, some, Stands}
+use Rattle.vm_rule.specs.Spread.{spread, spread_table}
 use Rattle.vm_rule.proofs.Prelude.{TableShape, Start, step, Stored, subst, sym, Table, unborn, View, ℕ, ⊎_elim, ◌++◌}
 use Rattle.vm_rule.proofs.Prelude.{◌∙◌, ◌∷◌, ◌≡◌, ◌≤◌}
 use Rattle.vm_rule.proofs.Resettling.{HasSome, KnowsHistory, KnowsReleases}
@@ -57,31 +58,34 @@ module _ {X B : Type 0} (stored : B → Stored) (keeps : Start → Kept X → Ty
   begin-allows-as id slots me e page =
       subst (λ (y : Me (Option B) (View X)). Allows (Stands stored keeps tied shape tells) slots id y 0 (λ n. n)
       (begin_play (step slots 0 0 0 maybe.none) y)) (sym e)
-      (λ s h many there fits. ⊎_elim
+      (λ s h many there fits.
+      let s' : Table (Option B) (View X) = spread_table h.start s in
+      ⊎_elim
       -- a view that does not live is spent, and that of the first pass is not
       (λ r. absurd (let e : 1 ≡ 0 = ap (λ (y : View X). length y.used) (r.parts.spent id (unborn shape) there refl) in omega arith))
       (λ t.
       let here : id ≡ 0 = (only-one (unborn shape) id (unborn shape) (subst (λ l. get_elem? l id ≡ some (unborn shape)) t.0 there)).0 in
-      let w : View X = after h.start h.is_shape s t.1 t.2 t.0 page in
-      let ruled = begins-ruled h.start h.is_shape s t.1 t.2 t.0 page in (
+      let w : View X = after h.start h.is_shape s' t.1 t.2 t.0 page in
+      let ruled = begins-ruled h.start h.is_shape s' t.1 t.2 t.0 page in (
         w,
         stays,
         tt,
         record {
           start = h.start;
           is_shape = h.is_shape;
+          fit = h.fit;
           rule = inl (subst (Ruled stored keeps tied h.start tells)
               (λ i. record {
-                words = sym (same-word s.words 0) i;
+                words = spread h.start.groups (sym (same-word s.words 0) i);
                 homes = s.homes;
                 views = (sym (ap (λ l. slice_set l 0 w) t.0) ∙ ap (λ k. slice_set s.views k w) (sym here)) i;
               })
               ruled);
         },
         (
-          after-is h.start h.is_shape s t.1 t.2 t.0 page,
+          after-is h.start h.is_shape s' t.1 t.2 t.0 page,
           is-sound stored keeps tied h.start tells (record {
-            words = s.words;
+            words = spread h.start.groups s.words;
             homes = s.homes;
             views = w ∷ [];
           }) ruled 0 w refl refl,

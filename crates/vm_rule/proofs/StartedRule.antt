@@ -341,6 +341,7 @@ module _ (X : Type 0) {B : Type 0} (stored : B → Stored) (size : ℕ) (tells :
         record {
           start = start;
           is_shape = record { same = refl; size = refl; pages = refl; frames = refl; version = refl; next = refl };
+          fit = tt;
           rule = inr (refl, first-ruled, λ i. record { words = words; blocks = same i });
         }
 

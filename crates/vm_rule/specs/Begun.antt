@@ -6,7 +6,8 @@ use Rattle.vm_block.specs.declared.stored.Stored.{Stored}
 use Rattle.vm_owner.specs.Kept.{Kept, Start}
 use Rattle.vm_rule.specs.{Brought.brought, declared.view.Origin.Origin, declared.view.TableShape.TableShape}
 use Rattle.vm_rule.specs.{declared.view.View.View, Log.did_load, Rule.Ruled, Rule.snapshot_of, Sound.Sound}
-use Rattle.vm_rule.specs.{Views.first_view, Views.numbers, Views.view_from}
+use Rattle.vm_event.specs.Prelude.{GroupsFit}
+use Rattle.vm_rule.specs.{Spread.spread_table, Views.first_view, Views.numbers, Views.view_from}
 use Rattle.vm_rule.specs.declared.view.WordPlace.TheVariants as places
 
 -- the shape of a table without pages
@@ -19,7 +20,7 @@ no_shape =
       version = 0;
       next = 0;
       began = record {
-        origin = record { tells = false; size = 0; pages = 0; frames = 0; version = 0; next = 0; free = []; contents = []; bounds = [] };
+        origin = record { tells = false; size = 0; pages = 0; frames = 0; version = 0; next = 0; free = []; groups = []; contents = []; bounds = [] };
         snapshot = record { words = []; blocks = [] };
       };
     }
@@ -47,11 +48,14 @@ module _ {X : Type 0} where
   begin_play step m found m' = (m'.0 ≡ begun m.0) × Sound m'.0 × (m'.1 ≡ m.1)
 
   module _ {B : Type 0} (stored : B → Stored) (keeps : Start → Kept X → Type 0) (tied : Start → ℕ → List ℕ → ℕ → List ℕ → Type 0) where
-    -- the table meets the rule; or it has its first words and blocks, and would meet the rule with the first pass's view
+    -- the table, as its pages read it, meets the rule; or it has its first words and blocks, and would meet the rule with the first pass's
+    -- view
     pub record Stands (shape : TableShape) (tells : Bool) (s : Table (Option B) (View X)) : Type 0 where
       pub start : Origin
       pub is_shape : HasShape shape start
+      pub fit : GroupsFit start.pages start.groups
       pub rule :
-          Ruled stored keeps tied start tells s
-          ⊎ ((s.views ≡ unborn shape ∷ []) × Ruled stored keeps tied start tells (record s { views = first_view start ∷ [] })
-          × (snapshot_of stored start s ≡ shape.began.snapshot))
+          Ruled stored keeps tied start tells (spread_table start s)
+          ⊎ ((s.views ≡ unborn shape ∷ [])
+          × Ruled stored keeps tied start tells (record (spread_table start s) { views = first_view start ∷ [] })
+          × (snapshot_of stored start (spread_table start s) ≡ shape.began.snapshot))

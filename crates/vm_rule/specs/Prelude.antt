@@ -16,7 +16,7 @@ pub use Rattle.vm_rule.specs.{Hearing.hearer, Hearing.OnlyKnows, Hearing.TakesOv
 pub use Rattle.vm_rule.specs.{Loads.LoadTold, Loads.translation_of, Loads.TranslationTold, Log.did_change}
 pub use Rattle.vm_rule.specs.{Log.did_exchange, Log.did_load, Log.did_store, Nexts.claimed_view, Nexts.ClaimTold}
 pub use Rattle.vm_rule.specs.{Nexts.next_view, Nexts.NextTold, Puts.put, Puts.put_at, Sound.Sound, Stores.Drafts}
-pub use Rattle.vm_rule.specs.{Stores.FillTold, Stores.StoresTold, Stores.StoreTold}
+pub use Rattle.vm_rule.specs.{Spread.spread, Spread.spread_table, Stores.FillTold, Stores.StoresTold, Stores.StoreTold}
 pub use Rattle.vm_rule.specs.Brought.{Brings, BringsWith, brought, entries_of, entry_of, IsFoundAt, set_if}
 pub use Rattle.vm_rule.specs.Bundles.{BundleTold, frames_below, GiveTold, HandTold, TakeTold, with_contents}
 pub use Rattle.vm_rule.specs.Joins.{CaughtUp, first_part, giver, HoldsNoPage, joined, JoinTold, newcomer, other_parts}

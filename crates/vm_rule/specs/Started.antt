@@ -59,6 +59,7 @@ started_origin size tells version next free frames blocks =
       version = version;
       next = next;
       free = free;
+      groups = [];
       contents = contents_of size tells blocks;
       bounds = bounds_of blocks;
     }

@@ -132,6 +132,7 @@ module _ {X : Type 0} where
     version = 0;
     next = 0;
     free = [];
+    groups = [];
     contents = [];
     bounds = [];
   }) [] []

@@ -57,6 +57,7 @@ pub(crate) fn opened<U: Owner, B: Block + Drop>(
     requires frames { shape.now.frames ≤ 65536 }
     requires size { (1 ≤ shape.now.size) × (shape.now.size ≤ 512) }
     requires takes { U.takes_size shape.now.size ≡ true }
+    requires alone { shape.now.began.origin.groups ≡ [] }
     requires wide { (length words.now ≡ width_of shape.now.size shape.now.pages shape.now.frames) × (length slots.items ≡ shape.now.pages) }
     ensures key { IfOk result (λ made. made.0.table.shared.key ≡ shape.now) }
     ensures pass { IfOk result (λ made. made.1.badge.table_id ≡ made.0.table.shared.table_id) }

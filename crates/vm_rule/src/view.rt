@@ -45,6 +45,8 @@ pub struct Origin {
     pub next: u64,
     /// The pages below it whose numbers were free.
     pub free: LinkedList<u64>,
+    /// The groups of pages, each with its first page and its size.
+    pub groups: LinkedList<(u64, u64)>,
     /// The words of each page.
     pub contents: LinkedList<LinkedList<u64>>,
     /// The bound of each page's block.

@@ -43,6 +43,7 @@ pub struct Words<U: Owner, B: Block> {
     pub ghost sized: { (size.words ≡ table.shared.key.size) × (1 ≤ size.words) × (size.words ≤ 512) },
     pub ghost wide: { (table.shared.table_id.words ≡ width_of table.shared.key.size table.shared.key.pages table.shared.key.frames) ×
         (table.shared.table_id.slots ≡ table.shared.key.pages) },
+    pub ghost alone: { table.shared.key.began.origin.groups ≡ [] },
 }
 
 /// What a pass knew at some time, for proofs. It has no bytes.

@@ -4,7 +4,7 @@
 
 ghost use Rattle.std.specs.Prelude.{[], ◌<◌, ◌≡◌, ◌≢◌, false, Option, true, ℕ};
 ghost use Rattle.vm_rule.specs.from_vm_event.Prelude.{get_elem?, some};
-ghost use Rattle.vm_rule.specs.Prelude.{began_of, HasShape, index_of, Ruled, seat_of, Stands, Table, width, Within};
+ghost use Rattle.vm_rule.specs.Prelude.{began_of, HasShape, index_of, Ruled, seat_of, spread_table, Stands, Table, width, Within};
 ghost use Rattle.vm_rule.specs.{declared.view.Origin.Origin, declared.view.TableShape.TableShape, declared.view.View.View, declared.view.WordPlace.WordPlace};
 ghost use Rattle.vm_rule_laws.specs.{Alone.HasNothing, Noted.NotesStand, Standing.PageStands};
 ghost use Rattle.vm_rule_laws.specs.Known.{HasStepped, IsWholePass, kept_by, KnowsTable};
@@ -12,11 +12,11 @@ ghost use Rattle.vm_rule_laws.specs.Known.{HasStepped, IsWholePass, kept_by, Kno
 use vm_rule::block::Block;
 use vm_rule::owner::Owner;
 
-/// Where a pass of a table lives, the table meets the rule, from the start that its shape has for proofs: what a table keeps between steps
+/// Where a pass of a table lives, the table as its pages read it meets the rule, from the start that its shape has for proofs: what a table keeps between steps
 /// has one other case, that its first pass has not begun.
 pub fn a_live_pass_meets_the_rule<U: Owner, B: Block>()
     ensures { (shape : TableShape) (s : Table (Option B) (View U.Said)) → Stands B.stored U.keeps U.tied shape B.tells s → (id : ℕ) (v : View U.Said)
-        → get_elem? s.views id ≡ some v → v.live ≡ true → HasShape shape shape.began.origin × Ruled B.stored U.keeps U.tied shape.began.origin B.tells s }
+        → get_elem? s.views id ≡ some v → v.live ≡ true → HasShape shape shape.began.origin × Ruled B.stored U.keeps U.tied shape.began.origin B.tells (spread_table shape.began.origin s) }
 {}
 
 /// The releases and the history of a table are its own: two proofs that it meets the rule speak of the same two lists.

@@ -4,7 +4,7 @@ use Rattle.std.specs.List.{AllByRecursion, flat_map}
 use Rattle.std.proofs.Common.{[], ◌++◌, ◌+◌, ◌<◌, ◌^◌, ◌∙◌, ◌∷◌, ◌≡◌, ◌≢◌, ◌≤◌, ap, append_assoc, arith, codes, drop}
 use Rattle.std.proofs.Common.{length, List, lit<, map, refl, subst, sym, ℕ}
 use Rattle.std.proofs.lemmas.List.{length-map}
-use Rattle.vm_event.specs.Groups.{AreApart, GroupsFit, IsGroup}
+use Rattle.vm_event.specs.Groups.{ShareNoPage, GroupsFit, IsGroup}
 use Rattle.vm_event.specs.declared.event.CoreShape.{CoreShape}
 use Rattle.vm_script.specs.{Cuts.IsCut, Cuts.Lacks, declared.event_line.EventLine.EventLine}
 use Rattle.vm_script.specs.{declared.event_line.FieldKind.FieldKind, declared.event_line.FieldKind.TheVariants.Count}
@@ -72,19 +72,19 @@ each_front P (x ∷ xs) ys h = (h.0, each_front P xs ys h.1)
 
 fit_front : (pages : ℕ) (gs hs : List (ℕ × ℕ)) → GroupsFit pages (gs ++ hs) → GroupsFit pages gs
 fit_front pages [] hs fit = tt
-fit_front pages (g ∷ gs) hs fit = (fit.0, each_front (AreApart g) gs hs fit.1, fit_front pages gs hs fit.2)
+fit_front pages (g ∷ gs) hs fit = (fit.0, each_front (ShareNoPage g) gs hs fit.1, fit_front pages gs hs fit.2)
 
 -- one more, which is apart from each
 pub record IsBeside (pages : ℕ) (groups : List (ℕ × ℕ)) (group : ℕ × ℕ) : Type 0 where
   pub is : IsGroup pages group
-  pub apart : AllByRecursion (λ other. AreApart other group) groups
+  pub apart : AllByRecursion (λ other. ShareNoPage other group) groups
 
 pub fit_more : (pages : ℕ) (groups : List (ℕ × ℕ)) (group : ℕ × ℕ) → GroupsFit pages groups → IsBeside pages groups group
     → GroupsFit pages (groups ++ group ∷ [])
 fit_more pages [] group fit beside = (beside.is, tt, tt)
 fit_more pages (g ∷ gs) group fit beside = (
   fit.0,
-  each_append (AreApart g) gs (group ∷ []) fit.1 (beside.apart.0, tt),
+  each_append (ShareNoPage g) gs (group ∷ []) fit.1 (beside.apart.0, tt),
   fit_more pages gs group fit.2 (record { is = beside.is; apart = beside.apart.1 }),
 )
 
@@ -94,7 +94,7 @@ fit_last pages (g ∷ gs) group fit =
     let rest = fit_last pages gs group fit.2 in
     record { is = rest.is; apart = (last_of gs fit.1, rest.apart) }
   where
-    last_of : (xs : List (ℕ × ℕ)) → AllByRecursion (AreApart g) (xs ++ group ∷ []) → AreApart g group
+    last_of : (xs : List (ℕ × ℕ)) → AllByRecursion (ShareNoPage g) (xs ++ group ∷ []) → ShareNoPage g group
     last_of [] h = h.0
     last_of (x ∷ xs) h = last_of xs h.1
 

@@ -2,7 +2,7 @@
 
 ghost use Rattle.std.specs.List.{AllByRecursion};
 ghost use Rattle.std.specs.Prelude.{[], ◌++◌, ◌∷◌, ◌↔◌, IsTrue};
-ghost use Rattle.vm_event.specs.Groups.{AreApart, GroupsFit, IsGroup};
+ghost use Rattle.vm_event.specs.Groups.{ShareNoPage, GroupsFit, IsGroup};
 ghost use Rattle.vm_script.specs.{EventLines.group_text, EventLines.IsShape, EventWords.AreSmall, EventWords.ReadsAs};
 ghost use Rattle.vm_script.specs.ListLines.{IsNextLine, list_line_text};
 
@@ -48,7 +48,7 @@ fn is_group(pages: u32, group: (u32, u32)) -> bool
 
 // Whether two groups share no page.
 fn are_apart(one: (u32, u32), other: (u32, u32)) -> bool
-    ensures { IsTrue result ↔ AreApart one other }
+    ensures { IsTrue result ↔ ShareNoPage one other }
 {
     u64::from(one.0) + u64::from(one.1) <= u64::from(other.0)
         || u64::from(other.0) + u64::from(other.1) <= u64::from(one.0)
@@ -56,7 +56,7 @@ fn are_apart(one: (u32, u32), other: (u32, u32)) -> bool
 
 // Whether a group shares no page with one of the others.
 fn is_beside(groups: &[(u32, u32)], group: (u32, u32)) -> bool
-    ensures { IsTrue result ↔ AllByRecursion (λ other. AreApart other group) groups.now }
+    ensures { IsTrue result ↔ AllByRecursion (λ other. ShareNoPage other group) groups.now }
 {
     for other in groups {
         if !are_apart(*other, group) {

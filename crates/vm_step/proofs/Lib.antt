@@ -5,6 +5,7 @@ pub mod Here
 pub mod Fit
 pub mod Seated
 pub mod Standing
+pub mod Over
 pub mod Groups
 pub mod Written
 pub mod Mine

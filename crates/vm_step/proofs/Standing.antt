@@ -1,6 +1,9 @@
 -- A step of a pass that has begun: what it does to every table that meets the rule it does to every table that stands.
 use mathlib.Core.Option as maybe
-use Rattle.atomic_table.specs.Table.{keeps as nothing}
+use Rattle.atomic_table.specs.Table.{carried_after, keeps as nothing, stepped}
+use Rattle.vm_event.specs.Prelude.{GroupsFit, IsUngrouped}
+use Rattle.vm_rule.specs.Prelude.{at_state, spread_table}
+use Rattle.vm_rule.proofs.Spreading.{placed-ungrouped, spread-here, spread-set}
 use Rattle.vm_step.proofs.{Fit.fit, Here.is-of}
 use Rattle.vm_step.proofs.Prelude.{[], Allows, AllowsStep, ap, became, Bool, get_elem?, HasShape, index_of, inl}
 use Rattle.vm_step.proofs.Prelude.{IsFit, IsPlacedAt, Kept, List, Me, Option, Origin, refl, Ruled, same-word}
@@ -23,20 +26,30 @@ module _ {X B : Type 0} (stored : B → Stored) (keeps : Start → Kept X → Ty
     (tied : Start → ℕ → List ℕ → ℕ → List ℕ → Type 0) (shape : TableShape) (tells : Bool) where
   pub allows-any : (slots id : ℕ) (me : Me (Option B) (View X)) (i : ℕ) (f : ℕ → ℕ)
       (next : ℕ → Me (Option B) (View X) → Type 0) → me.0.live ≡ true
+      → ((start : Origin) → HasShape shape start → GroupsFit start.pages start.groups → IsUngrouped start.groups i)
       → ((start : Origin) → HasShape shape start → Allows (Ruled stored keeps tied start tells) slots id me i f next)
       → Allows (Stands stored keeps tied shape tells) slots id me i f next
-  allows-any slots id me i f next live allows s stands many there below =
+  allows-any slots id me i f next live none allows s stands many there below =
+      let start : Origin = stands.start in
+      let s' : Table (Option B) (View X) = spread_table start s in
+      let alone : IsUngrouped start.groups i = none start stands.is_shape stands.fit in
+      let here = spread-here start.pages start.groups stands.fit s.words i alone in
       ⊎_elim
-      (λ r. let k = allows stands.start stands.is_shape s r many there below in (
+      (λ r. let k = allows start stands.is_shape s' r many there (subst (λ n. n < 18446744073709551616) (sym here) below) in (
         k.0,
         k.1,
         k.2,
         record {
-          start = stands.start;
+          start = start;
           is_shape = stands.is_shape;
-          rule = inl k.3;
+          fit = stands.fit;
+          rule = inl (subst (λ words. Ruled stored keeps tied start tells (record (stepped s i (f (slice_index s.words i)) id me.1 k.0 k.1) {
+            words = words;
+          }))
+              (ap (λ n. slice_set s'.words i (f n)) here
+              ∙ sym (spread-set start.pages start.groups stands.fit s.words i alone (f (slice_index s.words i)))) k.3);
         },
-        k.4,
+        subst (λ n. next n (k.0, carried_after me.1 k.1)) here k.4,
       ))
       (λ u. absurd (born shape id me.0 (subst (λ views. get_elem? views id ≡ some me.0) u.0 there) live))
       stands.rule
@@ -44,7 +57,8 @@ module _ {X B : Type 0} (stored : B → Stored) (keeps : Start → Kept X → Ty
   -- so it is enough to say of every table that meets the rule which view the pass has after the step on a word, which
   -- becomes f of what it was
   module _ (slots id : ℕ) (v : View X) (i : ℕ) (at : WordPlace) (f g : ℕ → ℕ) (Told : ℕ → View X → View X → Type 0)
-      (live : v.live ≡ true) (is : IsPlacedAt shape at i) (same : (n : ℕ) → f n ≡ g n) where
+      (live : v.live ≡ true) (is : IsPlacedAt shape at i)
+      (none : (start : Origin) → HasShape shape start → at_state at (λ p. IsUngrouped start.groups p)) (same : (n : ℕ) → f n ≡ g n) where
     -- the table meets the rule afterwards, with some view of the pass of which this is told
     abbrev pub Plays : Origin → Table (Option B) (View X) → ℕ → (ℕ → ℕ) → Type 0
     Plays start s j h = (w : View X) × Ruled stored keeps tied start tells
@@ -58,6 +72,7 @@ module _ {X B : Type 0} (stored : B → Stored) (keeps : Start → Kept X → Ty
         → AllowsStep (Stands stored keeps tied shape tells) slots id v i f (told_of shape tells Told)
     allows fit plays =
         allows-any slots id (v, []) i f (λ n m. told_of shape tells Told n v m.0 × IsFit m.0 × (m.1 ≡ [])) live
+        (λ start has fit'. subst (IsUngrouped start.groups) (is start has) (placed-ungrouped start fit' at (none start has)))
         (λ start has s r many there below.
         let k = subst (λ j. slice_index s.words j < 18446744073709551616 → Plays start s j f) (is start has)
         (λ low. let m = plays start has s r there low in (
@@ -89,14 +104,16 @@ module _ {X B : Type 0} (stored : B → Stored) (keeps : Start → Kept X → Ty
 
   -- a load leaves all words
   pub allows-load : (slots id : ℕ) (v : View X) (i : ℕ) (at : WordPlace) (Told : ℕ → View X → View X → Type 0)
-      → v.live ≡ true → IsPlacedAt shape at i → ((n : ℕ) (w : View X) → Told n v w → IsFit w)
+      → v.live ≡ true → IsPlacedAt shape at i
+      → ((start : Origin) → HasShape shape start → at_state at (λ p. IsUngrouped start.groups p))
+      → ((n : ℕ) (w : View X) → Told n v w → IsFit w)
       → ((start : Origin) → HasShape shape start → (s : Table (Option B) (View X))
       → Ruled stored keeps tied start tells s → get_elem? s.views id ≡ some v
       → (w : View X) × Ruled stored keeps tied start tells (became stored keeps tied start tells s s.words id w)
       × Told (slice_index s.words (index_of start at)) v w)
       → AllowsStep (Stands stored keeps tied shape tells) slots id v i (λ n. n) (told_of shape tells Told)
-  allows-load slots id v i at Told live is fit loads =
-      allows slots id v i at (λ n. n) (λ n. n) Told live is (λ _. refl) fit
+  allows-load slots id v i at Told live is none fit loads =
+      allows slots id v i at (λ n. n) (λ n. n) Told live is none (λ _. refl) fit
       (λ start has s r there _.
       let k = loads start has s r there in (
         k.0,

@@ -12,6 +12,7 @@ pub mod Asides
 pub mod BlockMoves
 pub mod DeviceCalls
 pub mod Works
+pub mod Over
 pub mod Alone
 pub mod Tables
 pub mod Choices

@@ -211,7 +211,7 @@ module _ {X B : Type 0} (stored : B → Stored) (keeps : Start → Kept X → Ty
       → IsPlacedAt shape (places.Content f j) i
       → AllowsStep (Stands stored keeps tied shape tells) slots id v i (λ n. n) (told_of shape tells (LoadTold p f j))
   load-allows shape slots id v i p f j live number l' lf' lj' by is =
-      allows-load stored keeps tied shape tells slots id v i (places.Content f j) (LoadTold p f j) live is
+      allows-load stored keeps tied shape tells slots id v i (places.Content f j) (LoadTold p f j) live is (λ _ _. tt)
       (λ n w t. fit t.brings live number)
       (λ start has s r there.
       let l : p < start.pages = subst (λ n. p < n) (sym has.pages) l' in
@@ -282,7 +282,7 @@ module _ {X B : Type 0} (stored : B → Stored) (keeps : Start → Kept X → Ty
       → IsPlacedAt shape (places.Content f j) i
       → AllowsStep (Stands stored keeps tied shape tells) slots id v i (λ _. x) (told_of shape tells (λ _. StoresTold f j x))
   store-allows shape slots id v i f j x live number lf' lj' may is =
-      allows stored keeps tied shape tells slots id v i (places.Content f j) (λ _. x) (λ _. x) (λ _. StoresTold f j x) live is (λ _. refl)
+      allows stored keeps tied shape tells slots id v i (places.Content f j) (λ _. x) (λ _. x) (λ _. StoresTold f j x) live is (λ _ _. tt) (λ _. refl)
       (λ _ w t. ⊎_elim (λ owns. fit (t.own owns).brings live number) (λ d. fit (t.page d.0 d.1).brings live number) may)
       (λ start shaped s r there _.
       let lf : f < start.frames = subst (λ n. f < n) (sym shaped.frames) lf' in

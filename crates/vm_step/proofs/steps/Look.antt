@@ -8,6 +8,7 @@ use Rattle.vm_event.specs.declared.event.ReadIs.TheVariants as read
 use Rattle.vm_event.specs.declared.event.PageAct.TheVariants as acts
 use Rattle.vm_event.specs.declared.event.Seen.TheVariants as sights
 use Rattle.vm_event.proofs.{Alone.act-alone, Alone.acted-alone, Upd.upd_over-keeps}
+use Rattle.vm_event.specs.Groups.{IsUngrouped}
 use Rattle.vm_rule.specs.declared.view.WordPlace.TheVariants as places
 use Rattle.vm_step.proofs.{Asides.alone-silent, Asides.OnlyReads, Fit.fit, Keeping.kept-now, Keeping.shared-free}
 use Rattle.vm_step.proofs.{Quiet.event-shows, Standing.allows, Unclaimed.logical-zero, Written.word-loaded}
@@ -390,11 +391,11 @@ module _ {X B : Type 0} (stored : B → Stored) (keeps : Start → Kept X → Ty
     (ties : (start : Start) (kept : Kept X) (q p : ℕ) → keeps start kept → q < length kept.pages
     → p < length kept.pages → tied start q (page_at kept.pages q) p (page_at kept.pages p)) where
   pub look-allows : (shape : TableShape) (slots id : ℕ) (v : View X) (i : ℕ) (p : ℕ) (said : Option X) → v.live ≡ true
-      → 0 < length v.used → p < shape.pages → MayTell tied may_read p said v → IsPlacedAt shape (places.State p) i
+      → 0 < length v.used → p < shape.pages → MayTell tied may_read p said v → IsPlacedAt shape (places.State p) i → IsUngrouped shape.began.origin.groups p
       → AllowsStep (Stands stored keeps tied shape tells) slots id v i (λ n. n) (told_of shape tells (LookTells keeps tied tells p said))
-  look-allows shape slots id v i p said live number l may is =
+  look-allows shape slots id v i p said live number l may is none =
       allows stored keeps tied shape tells slots id v i (places.State p) (λ n. n) (λ n. n)
-      (LookTells keeps tied tells p said) live is (λ n. refl) (λ n w t. fit t.0.brings live number)
+      (LookTells keeps tied tells p said) live is (λ start has. subst (λ (o : Origin). IsUngrouped o.groups p) (sym has.same) none) (λ n. refl) (λ n w t. fit t.0.brings live number)
       (λ start has s r there _.
       let low : p < start.pages = subst (λ n. p < n) (sym has.pages) l in
       let w : View X = look-after stored keeps tied start tells s r id v p said in

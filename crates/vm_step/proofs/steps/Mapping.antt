@@ -363,7 +363,7 @@ module _ {X B : Type 0} (stored : B → Stored) (keeps : Start → Kept X → Ty
       → AllowsStep (Stands stored keeps tied shape tells) slots id v i (λ _. x) (told_of shape tells (λ _. Told))
   mapping-allows t event Told actor spells fits shows =
       allows stored keeps tied shape tells slots id v i (places.Translation p) (λ _. x) (λ _. trans_word t)
-      (λ _. Told) live is (λ _. spells) (λ _. fits)
+      (λ _. Told) live is (λ _ _. tt) (λ _. spells) (λ _. fits)
       (λ start has s r there _.
       let m = shows start has s r there in
       let k = steps stored keeps tied start tells s r id v (words_with stored keeps tied start tells s r id v p t)

@@ -1,4 +1,5 @@
 -- A mark that is set or taken away: it leaves all that the pass has and knows; that the table allows it, and that it is its event.
+use Rattle.vm_event.specs.Groups.{IsUngrouped}
 use Rattle.vm_rule.specs.declared.view.WordPlace.TheVariants as places
 use Rattle.vm_step.proofs.{Fit.fit, Here.world, Standing.allows}
 use Rattle.vm_step.proofs.Exchange.{draft-stays, exchange-event, exchange-settles, exchanged_at, IsExchange}
@@ -58,13 +59,13 @@ module _ {X B : Type 0} (stored : B → Stored) (keeps : Start → Kept X → Ty
   -- so it does of every table that stands: where the mark is set, and where it is taken away
   pub mark-allows : (shape : TableShape) (slots id : ℕ) (v : View X) (i : ℕ) (p expects x : ℕ) → v.live ≡ true
       → 0 < length v.used → p < shape.pages → state_of expects ≡ UNLOCKED → x ≡ (word_of MARKED (version_of expects))
-      → IsPlacedAt shape (places.State p) i
+      → IsPlacedAt shape (places.State p) i → IsUngrouped shape.began.origin.groups p
       → AllowsStep (Stands stored keeps tied shape tells) slots id v i (λ n. either (eqb n expects) x n)
       (told_of shape tells (λ n v w. MarkTold p expects n (word_of MARKED (version_of expects)) v w))
-  mark-allows shape slots id v i p expects x live number l may spells is =
+  mark-allows shape slots id v i p expects x live number l may spells is none =
       allows stored keeps tied shape tells slots id v i (places.State p) (λ n. either (eqb n expects) x n)
       (λ n. either (eqb n expects) (word_of MARKED (version_of expects)) n)
-      (λ n v w. MarkTold p expects n (word_of MARKED (version_of expects)) v w) live is
+      (λ n v w. MarkTold p expects n (word_of MARKED (version_of expects)) v w) live is (λ start has. subst (λ (o : Origin). IsUngrouped o.groups p) (sym has.same) none)
       (λ n. ap (λ z. either (eqb n expects) z n) spells) (λ n w t. fit t.brings live number)
       (λ start has s r there _.
       mark-tells stored keeps tied start tells s r id v there live number p expects
@@ -73,13 +74,13 @@ module _ {X B : Type 0} (stored : B → Stored) (keeps : Start → Kept X → Ty
 
   pub unmark-allows : (shape : TableShape) (slots id : ℕ) (v : View X) (i : ℕ) (p expects x : ℕ) → v.live ≡ true
       → 0 < length v.used → p < shape.pages → state_of expects ≡ MARKED → x ≡ (word_of UNLOCKED (version_of expects))
-      → IsPlacedAt shape (places.State p) i
+      → IsPlacedAt shape (places.State p) i → IsUngrouped shape.began.origin.groups p
       → AllowsStep (Stands stored keeps tied shape tells) slots id v i (λ n. either (eqb n expects) x n)
       (told_of shape tells (λ n v w. MarkTold p expects n (word_of UNLOCKED (version_of expects)) v w))
-  unmark-allows shape slots id v i p expects x live number l may spells is =
+  unmark-allows shape slots id v i p expects x live number l may spells is none =
       allows stored keeps tied shape tells slots id v i (places.State p) (λ n. either (eqb n expects) x n)
       (λ n. either (eqb n expects) (word_of UNLOCKED (version_of expects)) n)
-      (λ n v w. MarkTold p expects n (word_of UNLOCKED (version_of expects)) v w) live is
+      (λ n v w. MarkTold p expects n (word_of UNLOCKED (version_of expects)) v w) live is (λ start has. subst (λ (o : Origin). IsUngrouped o.groups p) (sym has.same) none)
       (λ n. ap (λ z. either (eqb n expects) z n) spells) (λ n w t. fit t.brings live number)
       (λ start has s r there _.
       mark-tells stored keeps tied start tells s r id v there live number p expects

@@ -330,7 +330,7 @@ module _ {X B : Type 0} (stored : B → Stored) (keeps : Start → Kept X → Ty
       → IsPlacedAt shape places.Next i
       → AllowsStep (Stands stored keeps tied shape tells) slots id v i (λ n. n) (told_of shape tells NextTold)
   nload-allows shape slots id v i live number is =
-      allows-load stored keeps tied shape tells slots id v i places.Next NextTold live is (λ n w t. fit t.brings live number)
+      allows-load stored keeps tied shape tells slots id v i places.Next NextTold live is (λ _ _. tt) (λ n w t. fit t.brings live number)
       (λ start has s r there.
       let k = steps stored keeps tied start tells s r id v s.words r.drafts [] [] _ (next_view _ v) (NLoad id) there
       live number refl refl (nload-shows stored keeps tied start tells s r id v there live) in
@@ -344,7 +344,7 @@ module _ {X B : Type 0} (stored : B → Stored) (keeps : Start → Kept X → Ty
       (told_of shape tells (ClaimTold x n))
   claim-allows law shape slots id v i x n live number may is =
       allows stored keeps tied shape tells slots id v i places.Next (λ k. either (eqb k x) (x + n) k)
-      (λ k. either (eqb k x) (x + n) k) (ClaimTold x n) live is (λ n. refl)
+      (λ k. either (eqb k x) (x + n) k) (ClaimTold x n) live is (λ _ _. tt) (λ n. refl)
       (λ n w t. fit t.brings (either-lives _ _ v live live) (either-has _ _ v number number))
       (λ start has s r there _.
       let k = exchange-tells stored keeps tied start tells s r id v there live number places.Next x (x + n) tt

@@ -45,7 +45,7 @@ module _ {X B : Type 0} (stored : B → Stored) (keeps : Start → Kept X → Ty
       → 0 < length v.used → g * 64 < shape.pages → IsPlacedAt shape (places.Spare g) i
       → AllowsStep (Stands stored keeps tied shape tells) slots id v i (λ n. n) (told_of shape tells (SpareTold g))
   pbload-allows shape slots id v i g live number l' is =
-      allows-load stored keeps tied shape tells slots id v i (places.Spare g) (SpareTold g) live is (λ n w t. fit t.brings live number)
+      allows-load stored keeps tied shape tells slots id v i (places.Spare g) (SpareTold g) live is (λ _ _. tt) (λ n w t. fit t.brings live number)
       (λ start has s r there.
       let l : g * 64 < start.pages = subst (λ n. g * 64 < n) (sym has.pages) l' in
       let k = rested stored keeps tied start tells s r id v
@@ -63,7 +63,7 @@ module _ {X B : Type 0} (stored : B → Stored) (keeps : Start → Kept X → Ty
   ptake-allows law shape slots id v i g expects mask live number l' may is =
       allows stored keeps tied shape tells slots id v i (places.Spare g)
       (λ n. either (eqb n expects) (bit_xor expects mask) n)
-      (λ n. either (eqb n expects) (bit_xor expects mask) n) (TakeNumbersTold g expects mask) live is (λ n. refl)
+      (λ n. either (eqb n expects) (bit_xor expects mask) n) (TakeNumbersTold g expects mask) live is (λ _ _. tt) (λ n. refl)
       (λ n w t. fit t.brings (either-lives _ _ v live live) (either-has _ _ v number number))
       (λ start shaped s r there _.
       let l : g * 64 < start.pages = subst (λ n. g * 64 < n) (sym shaped.pages) l' in
@@ -116,7 +116,7 @@ module _ {X B : Type 0} (stored : B → Stored) (keeps : Start → Kept X → Ty
       → AllowsStep (Stands stored keeps tied shape tells) slots id v i (λ n. bit_or n mask) (told_of shape tells (GiveNumbersTold g mask))
   pgive-allows law shape slots id v i g mask live number l' may small is =
       allows stored keeps tied shape tells slots id v i (places.Spare g) (λ n. bit_or n mask) (λ n. bit_or n mask)
-      (GiveNumbersTold g mask) live is (λ n. refl) (λ n w t. fit t.brings live number)
+      (GiveNumbersTold g mask) live is (λ _ _. tt) (λ n. refl) (λ n w t. fit t.brings live number)
       (λ start shaped s r there _.
       let l : g * 64 < start.pages = subst (λ n. g * 64 < n) (sym shaped.pages) l' in
       let at : Within start (places.Spare g) = spare-within start g l in

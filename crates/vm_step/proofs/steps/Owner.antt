@@ -59,7 +59,7 @@ module _ {X B : Type 0} (stored : B → Stored) (keeps : Start → Kept X → Ty
       → AllowsStep (Stands stored keeps tied shape tells) slots id v i (λ _. word) (told_of shape tells (λ _. OwnerTold p f word))
   owner-allows shape event slots id v i p f word legal actor is live number lf stands at =
       allows stored keeps tied shape tells slots id v i (places.Owner f) (λ _. word) (λ _. word)
-      (λ _. OwnerTold p f word) live at (λ n. refl) (λ n w t. fit t.brings live number)
+      (λ _. OwnerTold p f word) live at (λ _ _. tt) (λ n. refl) (λ n w t. fit t.brings live number)
       (λ start has s r there _.
       let inside : f < start.frames = subst (λ n. f < n) (sym has.frames) lf in
       let core : State = core_shown stored start s in
@@ -111,7 +111,7 @@ module _ {X B : Type 0} (stored : B → Stored) (keeps : Start → Kept X → Ty
       → f < shape.frames → IsPlacedAt shape (places.Owner f) i
       → AllowsStep (Stands stored keeps tied shape tells) slots id v i (λ n. n) (told_of shape tells (OwnerLoadTold f))
   oload-allows shape slots id v i f live number lf at =
-      allows-load stored keeps tied shape tells slots id v i (places.Owner f) (OwnerLoadTold f) live at (λ n w t. fit t.brings live number)
+      allows-load stored keeps tied shape tells slots id v i (places.Owner f) (OwnerLoadTold f) live at (λ _ _. tt) (λ n w t. fit t.brings live number)
       (λ start has s r there.
       let inside : f < start.frames = subst (λ n. f < n) (sym has.frames) lf in
       let k = rested stored keeps tied start tells s r id v _ (OLoad id f) there live number refl (record {

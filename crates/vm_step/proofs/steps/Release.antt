@@ -15,6 +15,7 @@ use Rattle.vm_owner.specs.Kept.NumberMove.{Ended}
 use Rattle.vm_rule.specs.Releases.{freed_by}
 use Rattle.vm_rule.specs.Rule.{hands_of}
 use Rattle.vm_rule.proofs.{NumberReleases.first-release-fits, NumberReleases.later-release-fits, Numbered.hands-there, Numbered.numbers-as}
+use Rattle.vm_event.specs.Groups.{IsUngrouped}
 use Rattle.vm_rule.specs.declared.view.WordPlace.TheVariants as places
 use Rattle.vm_step.proofs.{Asides.alone-release, Evidenced.next-stays, Fit.fit, Keeping.kept-now, Keeping.shared-free}
 use Rattle.vm_step.proofs.{OwedPages.owed_after-chosen, Releasing.Way.Evicts, Standing.allows, steps.Look.is-turn}
@@ -564,12 +565,12 @@ module _ {X B : Type 0} (stored : B → Stored) (keeps : Start → Kept X → Ty
   -- so it is of every table that stands
   pub release-allows : (shape : TableShape) (tells : Bool) (slots id : ℕ) (v : View X) (i : ℕ) (p version : ℕ)
       (rest : List ℕ) (said : Option X) → v.live ≡ true → 0 < length v.used → p < shape.pages → version < MAX_VERSION
-      → MayGiveUp may_release p version rest said v → IsPlacedAt shape (places.State p) i
+      → MayGiveUp may_release p version rest said v → IsPlacedAt shape (places.State p) i → IsUngrouped shape.began.origin.groups p
       → AllowsStep (Stands stored keeps tied shape tells) slots id v i (λ _. version + 1)
       (told_of shape tells (λ _. ReleaseTells keeps tells p (ReleaseTold p version rest said)))
-  release-allows shape tells slots id v i p version rest said live number l below g is =
+  release-allows shape tells slots id v i p version rest said live number l below g is none =
       allows stored keeps tied shape tells slots id v i (places.State p) (λ _. version + 1) (λ _. version + 1)
-      (λ _. ReleaseTells keeps tells p (ReleaseTold p version rest said)) live is (λ _. refl)
+      (λ _. ReleaseTells keeps tells p (ReleaseTold p version rest said)) live is (λ start has. subst (λ (o : Origin). IsUngrouped o.groups p) (sym has.same) none) (λ _. refl)
       (λ _ w t. fit t.0.brings live number)
       (λ start has s r there _.
       let low : p < start.pages = subst (λ n. p < n) (sym has.pages) l in
@@ -589,12 +590,12 @@ module _ {X B : Type 0} (stored : B → Stored) (keeps : Start → Kept X → Ty
   -- a page that is not resident becomes Evicted, with the words that it had
   pub release_evicted-allows : (shape : TableShape) (tells : Bool) (slots id : ℕ) (v : View X) (i : ℕ)
       (p version x : ℕ) → v.live ≡ true → 0 < length v.used → p < shape.pages → version < MAX_VERSION
-      → MayEvict v p version → x ≡ word_of EVICTED (version + 1) → IsPlacedAt shape (places.State p) i
+      → MayEvict v p version → x ≡ word_of EVICTED (version + 1) → IsPlacedAt shape (places.State p) i → IsUngrouped shape.began.origin.groups p
       → AllowsStep (Stands stored keeps tied shape tells) slots id v i (λ _. x)
       (told_of shape tells (λ _. ReleaseTells keeps tells p (EvictTold p version)))
-  release_evicted-allows shape tells slots id v i p version x live number l below g spells is =
+  release_evicted-allows shape tells slots id v i p version x live number l below g spells is none =
       allows stored keeps tied shape tells slots id v i (places.State p) (λ _. x) (λ _. word_of EVICTED (version + 1))
-      (λ _. ReleaseTells keeps tells p (EvictTold p version)) live is (λ _. spells)
+      (λ _. ReleaseTells keeps tells p (EvictTold p version)) live is (λ start has. subst (λ (o : Origin). IsUngrouped o.groups p) (sym has.same) none) (λ _. spells)
       (λ _ w t. fit t.0.brings live number)
       (λ start has s r there _.
       let low : p < start.pages = subst (λ n. p < n) (sym has.pages) l in
@@ -615,12 +616,12 @@ module _ {X B : Type 0} (stored : B → Stored) (keeps : Start → Kept X → Ty
   -- a page is released to a share of the pass
   pub downgrade-allows : (shape : TableShape) (tells : Bool) (slots id : ℕ) (v : View X) (i : ℕ) (p version x : ℕ)
       → v.live ≡ true → 0 < length v.used → p < shape.pages → version < MAX_VERSION
-      → MayDowngrade may_release v p version → x ≡ word_of 1 (version + 1) → IsPlacedAt shape (places.State p) i
+      → MayDowngrade may_release v p version → x ≡ word_of 1 (version + 1) → IsPlacedAt shape (places.State p) i → IsUngrouped shape.began.origin.groups p
       → AllowsStep (Stands stored keeps tied shape tells) slots id v i (λ _. x)
       (told_of shape tells (λ _. ReleaseTells keeps tells p (DowngradeTold p version)))
-  downgrade-allows shape tells slots id v i p version x live number l below g spells is =
+  downgrade-allows shape tells slots id v i p version x live number l below g spells is none =
       allows stored keeps tied shape tells slots id v i (places.State p) (λ _. x) (λ _. word_of 1 (version + 1))
-      (λ _. ReleaseTells keeps tells p (DowngradeTold p version)) live is (λ _. spells)
+      (λ _. ReleaseTells keeps tells p (DowngradeTold p version)) live is (λ start has. subst (λ (o : Origin). IsUngrouped o.groups p) (sym has.same) none) (λ _. spells)
       (λ _ w t. fit t.0.brings live number)
       (λ start has s r there _.
       let low : p < start.pages = subst (λ n. p < n) (sym has.pages) l in

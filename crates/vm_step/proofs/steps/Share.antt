@@ -9,6 +9,7 @@ use Rattle.vm_event.specs.declared.event.Seen.TheVariants as sights
 use Rattle.vm_event.proofs.Alone.{act-alone, acted-alone}
 use Rattle.vm_owner.specs.Kept.{PagesHave, IsTurn, told}
 use Rattle.vm_rule.specs.Prelude.{entries_where, mine_with}
+use Rattle.vm_event.specs.Groups.{IsUngrouped}
 use Rattle.vm_rule.specs.declared.view.WordPlace.TheVariants as places
 use Rattle.vm_step.specs.steps.Share.{HasShare, LockSharedTells, MayTellHeld, pages_known}
 use Rattle.vm_step.proofs.{Evidenced.taken-view, Fit.either-has, Fit.either-lives, Fit.fit, Keeping.kept-now}
@@ -299,13 +300,13 @@ module _ {X B : Type 0} (stored : B → Stored) (keeps : Start → Kept X → Ty
       → v.live ≡ true → 0 < length v.used → p < shape.pages → MayShare expects
       → MayTellHeld tied may_hold p (version_of expects) said v
       → x ≡ (word_of (one_share_more (state_of expects)) (version_of expects))
-      → IsPlacedAt shape (places.State p) i
+      → IsPlacedAt shape (places.State p) i → IsUngrouped shape.began.origin.groups p
       → AllowsStep (Stands stored keeps tied shape tells) slots id v i (λ n. either (eqb n expects) x n)
       (told_of shape tells (LockSharedTells keeps tied tells p expects said))
-  lock_shared-allows law may_hold says shape slots id v i p expects said x live number l' may tell spells is =
+  lock_shared-allows law may_hold says shape slots id v i p expects said x live number l' may tell spells is none =
       allows stored keeps tied shape tells slots id v i (places.State p) (λ n. either (eqb n expects) x n)
       (λ n. either (eqb n expects) (word_of (one_share_more (state_of expects)) (version_of expects)) n)
-      (LockSharedTells keeps tied tells p expects said) live is (λ n. ap (λ z. either (eqb n expects) z n) spells)
+      (LockSharedTells keeps tied tells p expects said) live is (λ start has. subst (λ (o : Origin). IsUngrouped o.groups p) (sym has.same) none) (λ n. ap (λ z. either (eqb n expects) z n) spells)
       (λ n w t. fit t.0.brings (either-lives _ _ v live live) (either-has _ _ v number number))
       (λ start has s r there _.
       let l : p < start.pages = subst (λ n. p < n) (sym has.pages) l' in
@@ -382,12 +383,12 @@ module _ {X B : Type 0} (stored : B → Stored) (keeps : Start → Kept X → Ty
 
   -- it keeps the rule of every table and tells what it is to tell
   pub unlock_shared-allows : (shape : TableShape) (slots id : ℕ) (v : View X) (i : ℕ) (p : ℕ) → v.live ≡ true
-      → 0 < length v.used → p < shape.pages → MayUnshare v p → IsPlacedAt shape (places.State p) i
+      → 0 < length v.used → p < shape.pages → MayUnshare v p → IsPlacedAt shape (places.State p) i → IsUngrouped shape.began.origin.groups p
       → AllowsStep (Stands stored keeps tied shape tells) slots id v i (λ n. (n + (2 ^ 64 - 2 ^ 56)) % 2 ^ 64)
       (told_of shape tells (UnshareTold p))
-  unlock_shared-allows shape slots id v i p live number l' may is =
+  unlock_shared-allows shape slots id v i p live number l' may is none =
       allows stored keeps tied shape tells slots id v i (places.State p) (λ n. (n + (2 ^ 64 - 2 ^ 56)) % 2 ^ 64)
-      (λ n. (n + (2 ^ 64 - 2 ^ 56)) % 2 ^ 64) (UnshareTold p) live is (λ n. refl)
+      (λ n. (n + (2 ^ 64 - 2 ^ 56)) % 2 ^ 64) (UnshareTold p) live is (λ start has. subst (λ (o : Origin). IsUngrouped o.groups p) (sym has.same) none) (λ n. refl)
       (λ n w t. fit t.brings live number)
       (λ start has s r there below.
       let l : p < start.pages = subst (λ n. p < n) (sym has.pages) l' in

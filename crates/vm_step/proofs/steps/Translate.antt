@@ -32,7 +32,7 @@ module _ {X B : Type 0} (stored : B → Stored) (keeps : Start → Kept X → Ty
       → 0 < length v.used → p < shape.pages → IsPlacedAt shape (places.Translation p) i
       → AllowsStep (Stands stored keeps tied shape tells) slots id v i (λ n. n) (told_of shape tells (TranslationTold p))
   tload-allows shape slots id v i p live number l' is =
-      allows-load stored keeps tied shape tells slots id v i (places.Translation p) (TranslationTold p) live is
+      allows-load stored keeps tied shape tells slots id v i (places.Translation p) (TranslationTold p) live is (λ _ _. tt)
       (λ n w t. fit t.brings live number)
       (λ start has s r there.
       let l : p < start.pages = subst (λ n. p < n) (sym has.pages) l' in

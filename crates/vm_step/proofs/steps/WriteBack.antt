@@ -3,6 +3,8 @@
 -- their events.
 --
 -- What a lock for write-back leaves that was taken, and one that became exclusive: both speak of one page, whose open read is closed.
+use Rattle.vm_event.specs.Groups.{IsUngrouped}
+use Rattle.vm_rule.specs.declared.view.Origin.{Origin}
 use Rattle.vm_rule.specs.declared.view.WordPlace.TheVariants as places
 use Rattle.vm_step.proofs.{Evidenced.taken-view, Fit.either-has, Fit.either-lives, Fit.fit, Here.last, Here.world, Standing.allows}
 use Rattle.vm_step.proofs.Exchange.{exchange-event, free-debt, free-member, free-unheld, held-at, known-held, lockw-exchange, opened}
@@ -25,12 +27,12 @@ module _ {X B : Type 0} (stored : B → Stored) (keeps : Start → Kept X → Ty
       → q < length kept.pages → p < length kept.pages → tied start q (page_at kept.pages q) p (page_at kept.pages p))
       (shape : TableShape) (slots id : ℕ) (v : View X) (i : ℕ) (p expects x : ℕ) → v.live ≡ true → 0 < length v.used
       → p < shape.pages → state_of expects ≡ MARKED → x ≡ (word_of 1 (version_of expects))
-      → IsPlacedAt shape (places.State p) i
+      → IsPlacedAt shape (places.State p) i → IsUngrouped shape.began.origin.groups p
       → AllowsStep (Stands stored keeps tied shape tells) slots id v i (λ n. either (eqb n expects) x n)
       (told_of shape tells (WriteLockTold tied p expects))
-  lock_write_back-allows law shape slots id v i p expects x live number l' may spells is =
+  lock_write_back-allows law shape slots id v i p expects x live number l' may spells is none =
       allows stored keeps tied shape tells slots id v i (places.State p) (λ n. either (eqb n expects) x n)
-      (λ n. either (eqb n expects) (word_of 1 (version_of expects)) n) (WriteLockTold tied p expects) live is
+      (λ n. either (eqb n expects) (word_of 1 (version_of expects)) n) (WriteLockTold tied p expects) live is (λ start has. subst (λ (o : Origin). IsUngrouped o.groups p) (sym has.same) none)
       (λ n. ap (λ z. either (eqb n expects) z n) spells)
       (λ n w t. fit t.brings (either-lives _ _ v live live) (either-has _ _ v number number))
       (λ start has s r there _.
@@ -74,12 +76,12 @@ module _ {X B : Type 0} (stored : B → Stored) (keeps : Start → Kept X → Ty
   pub upgrade-allows : (law : (start : Start) (kept : Kept X) (q p : ℕ) → keeps start kept → q < length kept.pages
       → p < length kept.pages → tied start q (page_at kept.pages q) p (page_at kept.pages p)) (shape : TableShape)
       (slots id : ℕ) (v : View X) (i : ℕ) (p expects x : ℕ) → v.live ≡ true → 0 < length v.used → p < shape.pages
-      → MayRaiseLock v p expects → x ≡ (word_of LOCKED (version_of expects)) → IsPlacedAt shape (places.State p) i
+      → MayRaiseLock v p expects → x ≡ (word_of LOCKED (version_of expects)) → IsPlacedAt shape (places.State p) i → IsUngrouped shape.began.origin.groups p
       → AllowsStep (Stands stored keeps tied shape tells) slots id v i (λ n. either (eqb n expects) x n)
       (told_of shape tells (UpgradeTold tied p expects))
-  upgrade-allows law shape slots id v i p expects x live number l' may spells is =
+  upgrade-allows law shape slots id v i p expects x live number l' may spells is none =
       allows stored keeps tied shape tells slots id v i (places.State p) (λ n. either (eqb n expects) x n)
-      (λ n. either (eqb n expects) (word_of LOCKED (version_of expects)) n) (UpgradeTold tied p expects) live is
+      (λ n. either (eqb n expects) (word_of LOCKED (version_of expects)) n) (UpgradeTold tied p expects) live is (λ start has. subst (λ (o : Origin). IsUngrouped o.groups p) (sym has.same) none)
       (λ n. ap (λ z. either (eqb n expects) z n) spells)
       (λ n w t. fit t.brings (either-lives _ _ v live live) (either-has _ _ v number number))
       (λ start has s r there _.

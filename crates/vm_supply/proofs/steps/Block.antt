@@ -6,6 +6,8 @@ use Rattle.atomic_table.specs.Table.{takes as picks}
 use Rattle.vm_event.specs.DeviceActs.{failed}
 use Rattle.vm_event.specs.declared.event.Seen.TheVariants as sights
 use Rattle.vm_step.specs.from_vm_rule.declared_view_WordPlace_TheVariants as places
+use Rattle.vm_event.specs.Groups.{IsUngrouped}
+use Rattle.vm_rule.proofs.Spreading.{placed-ungrouped}
 use Rattle.vm_step.proofs.{Here.is-of, Standing.allows-any}
 use Rattle.vm_supply.proofs.{steps.Raise.count-known, steps.Raise.raise-legal}
 use Rattle.vm_step.proofs.Prelude.{holdings, [], Allows, ap, arith, at-bound, at-there, block-here, block_of, Bool}
@@ -90,6 +92,7 @@ module _ {X B : Type 0} (stored : B → Stored) (keeps : Start → Kept X → Ty
       → Allows (Stands stored keeps tied shape tells) slots id me i (λ n. n) (play (step slots i 0 0 maybe.none))
   at-fault shape slots id me p i play live is ruled =
       allows-any stored keeps tied shape tells slots id me i (λ n. n) (play (step slots i 0 0 maybe.none)) live
+      (λ start has fit. subst (IsUngrouped start.groups) (is start has) (placed-ungrouped start fit (places.Fault p) tt))
       (λ start has. subst (λ n. Allows (Ruled stored keeps tied start tells) slots id me n (λ k. k)
       (play (step slots n 0 0 maybe.none))) (is start has) (ruled start has))
 

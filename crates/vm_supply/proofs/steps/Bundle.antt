@@ -58,7 +58,7 @@ module _ {X B : Type 0} (stored : B → Stored) (keeps : Start → Kept X → Ty
       → 0 < length v.used → g * 64 < shape.frames → IsPlacedAt shape (places.Bundle g) i
       → AllowsStep (Stands stored keeps tied shape tells) slots id v i (λ n. n) (told_of shape tells (BundleTold g))
   bload-allows shape slots id v i g live number l' is =
-      allows-load stored keeps tied shape tells slots id v i (places.Bundle g) (BundleTold g) live is (λ n w t. fit t.brings live number)
+      allows-load stored keeps tied shape tells slots id v i (places.Bundle g) (BundleTold g) live is (λ _ _. tt) (λ n w t. fit t.brings live number)
       (λ start has s r there.
       let l : g * 64 < start.frames = subst (λ n. g * 64 < n) (sym has.frames) l' in
       let k = rested stored keeps tied start tells s r id v
@@ -74,7 +74,7 @@ module _ {X B : Type 0} (stored : B → Stored) (keeps : Start → Kept X → Ty
   take-allows shape slots id v i g expects mask live number l' may is =
       allows stored keeps tied shape tells slots id v i (places.Bundle g)
       (λ n. either (eqb n expects) (bit_xor expects mask) n)
-      (λ n. either (eqb n expects) (bit_xor expects mask) n) (TakeTold g expects mask) live is (λ n. refl)
+      (λ n. either (eqb n expects) (bit_xor expects mask) n) (TakeTold g expects mask) live is (λ _ _. tt) (λ n. refl)
       (λ n w t. fit t.brings (either-lives _ _ v live live) (either-has _ _ v number number))
       (λ start shaped s r there _.
       let l : g * 64 < start.frames = subst (λ n. g * 64 < n) (sym shaped.frames) l' in
@@ -147,7 +147,7 @@ module _ {X B : Type 0} (stored : B → Stored) (keeps : Start → Kept X → Ty
       → AllowsStep (Stands stored keeps tied shape tells) slots id v i (λ n. bit_or n mask) (told_of shape tells (GiveTold g mask))
   give-allows shape slots id v i g mask live number l' may small is =
       allows stored keeps tied shape tells slots id v i (places.Bundle g) (λ n. bit_or n mask) (λ n. bit_or n mask)
-      (GiveTold g mask) live is (λ n. refl) (λ n w t. fit t.brings live number)
+      (GiveTold g mask) live is (λ _ _. tt) (λ n. refl) (λ n w t. fit t.brings live number)
       (λ start has s r there _.
       let l : g * 64 < start.frames = subst (λ n. g * 64 < n) (sym has.frames) l' in
       let at : Within start (places.Bundle g) = bundle-within start g l in
@@ -180,7 +180,7 @@ module _ {X B : Type 0} (stored : B → Stored) (keeps : Start → Kept X → Ty
       → AllowsStep (Stands stored keeps tied shape tells) slots id v i (λ n. (n + 64) % 18446744073709551616) (told_of shape tells HandTold)
   hand-allows shape slots id v i live number is =
       allows stored keeps tied shape tells slots id v i places.Hand (λ n. (n + 64) % 18446744073709551616) hand_more
-      HandTold live is hand-adds (λ n w t. fit t.brings live number)
+      HandTold live is (λ _ _. tt) hand-adds (λ n w t. fit t.brings live number)
       (λ start has s r there _.
       let found : ℕ = slice_index s.words (index_of start places.Hand) in
       let did : Did = did_change places.Hand found (hand_more found) in

@@ -82,7 +82,7 @@ module _ {X B : Type 0} (stored : B → Stored) (keeps : Start → Kept X → Ty
       → IsPlacedAt shape places.Next i
       → AllowsStep (Stands stored keeps tied shape tells) slots id v i (λ n. n) (told_of shape tells (λ n. CatchTold tells keeps))
   catch_up-allows shape slots id v i live number is =
-      allows-load stored keeps tied shape tells slots id v i places.Next (λ n. CatchTold tells keeps) live is
+      allows-load stored keeps tied shape tells slots id v i places.Next (λ n. CatchTold tells keeps) live is (λ _ _. tt)
       (λ n w t. fit t.caught.brings live number)
       (λ start has s r there.
       let found : ℕ = slice_index s.words (index_of start places.Next) in

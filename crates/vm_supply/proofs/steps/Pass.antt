@@ -19,6 +19,7 @@ use Rattle.vm_step.proofs.Prelude.{splits-ruled, Stands, Start, StartsWith, Stor
 use Rattle.vm_step.proofs.Prelude.{table_joined, table_split, table_words, taken_in, TakesOver, told_of, true, twice}
 use Rattle.vm_step.proofs.Prelude.{upd, upd-self, View, with_actor, World, world_of, ℕ, ⊎_elim, ◌++◌, ◌+◌, ◌<◌, ◌||◌}
 use Rattle.vm_step.proofs.Prelude.{◌∙◌, ◌≡◌, ◌≢◌}
+use Rattle.vm_rule.specs.Prelude.{spread_table}
 use Rattle.vm_step.proofs.Standing.{allows-load, born}
 use Rattle.vm_step.proofs.steps.Next.{load-event}
 
@@ -27,39 +28,45 @@ module _ {X B : Type 0} (stored : B → Stored) (keeps : Start → Kept X → Ty
   -- what a live pass does to every table that meets the rule it does to every table that stands
   by-rule : (id : ℕ) (v : View X) (s t : Table (Option B) (View X)) → v.live ≡ true
       → Stands stored keeps tied shape tells s → get_elem? s.views id ≡ some v
-      → ((start : Origin) → Ruled stored keeps tied start tells s → Ruled stored keeps tied start tells t)
+      → ((start : Origin) → Ruled stored keeps tied start tells (spread_table start s)
+      → Ruled stored keeps tied start tells (spread_table start t))
       → Stands stored keeps tied shape tells t
   by-rule id v s t live stands at moves =
       ⊎_elim
-      (λ r. record { start = stands.start; is_shape = stands.is_shape; rule = inl (moves stands.start r) })
+      (λ r. record {
+        start = stands.start;
+        is_shape = stands.is_shape;
+        fit = stands.fit;
+        rule = inl (moves stands.start r);
+      })
       (λ u. absurd (born shape id v (subst (λ views. get_elem? views id ≡ some v) u.0 at) live))
       stands.rule
 
   pub splits-any : (id : ℕ) (part : Bool) (v : View X) → v.live ≡ true → 0 < length v.used
       → Splits (Stands stored keeps tied shape tells) id v (giver part v) (newcomer part v)
   splits-any id part v live number s stands at =
-      by-rule id v s _ live stands at (λ start r. splits-ruled stored keeps tied start tells s r id part v at live
+      by-rule id v s _ live stands at (λ start r. splits-ruled stored keeps tied start tells (spread_table start s) r id part v at live
       number)
 
   pub joins-any : (id : ℕ) (v : View X) (other : ℕ) (w : View X) → v.live ≡ true → w.live ≡ true
       → (v.told_releases ≡ []) × (v.told ≡ []) → (w.told_releases ≡ []) × (w.told ≡ []) → HoldsNoPage w
       → Joins (Stands stored keeps tied shape tells) id v other w (joined v w) spent
   joins-any id v other w live live' here there nothing s stands at apart at' =
-      by-rule id v s _ live stands at (λ start r. joins-ruled stored keeps tied start tells s r id other v w at apart
+      by-rule id v s _ live stands at (λ start r. joins-ruled stored keeps tied start tells (spread_table start s) r id other v w at apart
       (sym (set_else s.views id other (joined v w) apart) ∙ at') live live' here there nothing)
 
   pub hears-any : (id : ℕ) (v : View X) (other : ℕ) (w : View X) → v.live ≡ true → w.live ≡ true
       → (v.told_releases ≡ []) × (v.told ≡ []) → (w.told_releases ≡ []) × (w.told ≡ []) → OnlyKnows w
       → Joins (Stands stored keeps tied shape tells) id v other w (hearer v w) spent
   hears-any id v other w live live' here there only s stands at apart at' =
-      by-rule id v s _ live stands at (λ start r. hears-ruled stored keeps tied start tells s r id other v w at apart
+      by-rule id v s _ live stands at (λ start r. hears-ruled stored keeps tied start tells (spread_table start s) r id other v w at apart
       (sym (set_else s.views id other (hearer v w) apart) ∙ at') live live' here there only)
 
   pub follow-allows : (slots id : ℕ) (v : View X) (i : ℕ) → v.live ≡ true → 0 < length v.used
       → StartsWith v.told_releases v.releases → StartsWith v.told v.seen → IsPlacedAt shape places.Next i
       → AllowsStep (Stands stored keeps tied shape tells) slots id v i (λ n. n) (told_of shape tells (λ n. TakesOver))
   follow-allows slots id v i live number on-releases on-seen is =
-      allows-load stored keeps tied shape tells slots id v i places.Next (λ n. TakesOver) live is
+      allows-load stored keeps tied shape tells slots id v i places.Next (λ n. TakesOver) live is (λ _ _. tt)
       (λ n w t. record {
         live = ap (λ y. y.live) t.view ∙ live;
         learned = (ap (λ y. y.told_releases) t.view, ap (λ y. y.told) t.view);

@@ -207,7 +207,7 @@ module _ {X B : Type 0} (stored : B → Stored) (keeps : Start → Kept X → Ty
       → AllowsStep (Stands stored keeps tied shape tells) slots id v i (λ _. count) (told_of shape tells (λ _. RaiseTold p count))
   raise-allows slots id v i p count live number l may is =
       allows stored keeps tied shape tells slots id v i (places.Fault p) (λ _. count) (λ _. count)
-      (λ _. RaiseTold p count) live is (λ n. refl) (λ n w t. fit t.brings live number)
+      (λ _. RaiseTold p count) live is (λ _ _. tt) (λ n. refl) (λ n w t. fit t.brings live number)
       (λ start has s r there _.
       let k = raise-keeps stored keeps tied start tells s r id v there live p count (subst (λ n. p < n) (sym has.pages) l) may number in
       (raise-view stored keeps tied start tells s r id v there live p count, k.0, k.1))

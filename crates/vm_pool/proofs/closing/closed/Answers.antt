@@ -7,7 +7,7 @@ next_of-next-requires-clause-small g c =
     next-small g.B.Block.stored g.U.Owner.keeps g.U.Owner.tied c.args.words.table.shared.key g.B.Block.tells
     c.args.pass.badge.id (view_of c.args.pass.badge.views) c.args.pass.live c.requires.whole c.requires.current
     c.requires.holds
-    (slots_items c.close_with-table.result.words) (slots_items c.close_with-table.result.slots) c.close_with-table.ensures.values.2
+    (slots_items c.close_with-table.result.words) (slots_items c.close_with-table.result.slots) c.close_with-table.ensures.values.2 c.args.words.alone
     c.args.words.size.words c.args.words.pages c.args.words.frames c.args.words.sized.0 c.args.words.shape.0
     c.args.words.shape.1 c.args.words.shape.2
 
@@ -16,14 +16,14 @@ blocks_of-blocks-requires-clause-home g c =
     slots-home g.B.Block.stored g.U.Owner.keeps g.U.Owner.tied c.args.words.table.shared.key g.B.Block.tells
     c.args.pass.badge.id (view_of c.args.pass.badge.views) c.args.pass.live c.requires.whole c.requires.current
     c.requires.holds
-    (slots_items c.close_with-table.result.words) (slots_items c.close_with-table.result.slots) c.close_with-table.ensures.values.2
+    (slots_items c.close_with-table.result.words) (slots_items c.close_with-table.result.slots) c.close_with-table.ensures.values.2 c.args.words.alone
 
 pub returns-clause-closed : goal.returns-clause-closed
 returns-clause-closed g c =
     closes g.B.Block.stored g.U.Owner.keeps g.U.Owner.tied c.args.words.table.shared.key g.B.Block.tells
     c.args.pass.badge.id (view_of c.args.pass.badge.views) c.args.pass.live c.requires.whole c.requires.current
     c.requires.holds
-    (slots_items c.close_with-table.result.words) (slots_items c.close_with-table.result.slots) c.close_with-table.ensures.values.2
+    (slots_items c.close_with-table.result.words) (slots_items c.close_with-table.result.slots) c.close_with-table.ensures.values.2 c.args.words.alone
     c.blocks_of-blocks.result.items c.blocks_of-blocks.ensures
     c.args.words.size.words c.args.words.pages c.args.words.frames c.next_of-next.result c.args.words.sized.0
     c.args.words.shape.0 c.args.words.shape.1 c.next_of-next.ensures
@@ -33,4 +33,4 @@ returns-clause-start g c =
     same-start g.B.Block.stored g.U.Owner.keeps g.U.Owner.tied c.args.words.table.shared.key g.B.Block.tells
     c.args.pass.badge.id (view_of c.args.pass.badge.views) c.args.pass.live c.requires.whole c.requires.current
     c.requires.holds
-    (slots_items c.close_with-table.result.words) (slots_items c.close_with-table.result.slots) c.close_with-table.ensures.values.2
+    (slots_items c.close_with-table.result.words) (slots_items c.close_with-table.result.slots) c.close_with-table.ensures.values.2 c.args.words.alone

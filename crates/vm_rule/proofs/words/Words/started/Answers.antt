@@ -28,6 +28,7 @@ opened-requires g c =
       pages = search rules;
       frames = search rules;
       size = (omega (arith, size, some), omega (arith, size, few));
+      alone = ap (λ (y : TableShape). y.began.origin.groups) c.shape_of-shape.ensures;
       takes = ap g.U.Owner.takes_size size ∙ c.requires.takes;
       wide = made.1;
     }
