@@ -1,4 +1,4 @@
-use Rattle.std.proofs.Common.{◌∙◌, arith, refl}
+use Rattle.std.proofs.Common.{refl}
 use Rattle.vm_tree_rule.proofs.from_vm_step.Going.{goes-then}
 use Rattle.vm_tree_read.proofs.Losing.{loses-then}
 use Rattle.vm_tree_rule.specs.from_vm_step.Prelude.{view}
@@ -21,19 +21,6 @@ returns-in-Ok-clause-lost g c =
 pub returns-in-Err-clause-told : goal.returns-in-Err-clause-told
 returns-in-Err-clause-told g c =
     told-as _ _ _ _ _ _ c.turned_round.result (c.turned_round.ensures.told _ _ c.in-Err.ensures.err) (λ t none. absurd none) (λ k. k) (λ _ k. k)
-
-pub turned_round-requires : goal.turned_round-requires
-turned_round-requires g c =
-    let v = view c.args.pass.now in
-    let w = view c.show_window.new.pass in
-    let key = g.K.Kind.rank c.args.start.now in
-    let reads = turned-reads g.K.Kind.layout v key c.in-Err.turn w c.in-Err.ensures.err in (
-      omega arith,
-      (
-        c.show_window.ensures.goes.ready,
-        (reads.0.out ∙ c.requires.home, (held-on _ v w c.requires.frames reads.0.start reads.0.frames.0, (v, key, c.in-Err.ensures.err))),
-      ),
-    )
 
 pub returns-in-Ok-clause-told : goal.returns-in-Ok-clause-told
 returns-in-Ok-clause-told g c = c.in-Ok.ensures.ok

@@ -1,4 +1,4 @@
-use Rattle.std.proofs.Common.{◌∙◌, rules}
+use Rattle.std.proofs.Common.{◌∙◌}
 use Rattle.vm_tree_rule.proofs.from_vm_step.Going.{goes-then}
 use Rattle.vm_tree_rule.specs.from_vm_step.Prelude.{view}
 use Rattle.vm_tree_read.proofs.Lasting.{replied, waits-self, waits-then}
@@ -9,11 +9,6 @@ use Rattle.vm_tree_read.proofs.waiting.get.Goals as goal
 
 pub loop-init : goal.loop-init
 loop-init g c = tried-none _ _ (waits-self _, rounds.none) c.requires.ready c.requires.frames
-
-pub get_round-requires : goal.get_round-requires
-get_round-requires g c =
-    let i = c.loop.invariant in
-    (search rules, (i.goes.ready, (c.requires.pages, (i.left.0.out ∙ c.requires.home, i.held))))
 
 pub loop-preserved-in-Soon : goal.loop-preserved-in-Soon
 loop-preserved-in-Soon g c =

@@ -1,4 +1,4 @@
-use Rattle.std.proofs.Common.{◌∙◌, ap, subst, sym, arith}
+use Rattle.std.proofs.Common.{◌∙◌, ap, subst, sym}
 use Rattle.vm_map.specs.declared.call.Reply.{Reply}
 use Rattle.vm_map.specs.declared.call.Said.{Said}
 use Rattle.vm_map.specs.declared.call.Call.TheVariants.{Window as ForWindow}
@@ -15,9 +15,6 @@ returns-in-Ok-clause-ok g c = subst (λ (reply : Reply). IsReplied g.K.Kind.plai
 pub returns-in-Ok-clause-kind : goal.returns-in-Ok-clause-kind
 returns-in-Ok-clause-kind g c = subst (IsOfKind (ForWindow (g.K.Kind.rank c.args.start.now) c.args.most))
     (sym (c.reply_of.ensures ∙ ap (λ (s : Said). s.reply) c.in-Ok.ensures.ok.1)) tt
-
-pub window_said-requires : goal.window_said-requires
-window_said-requires g c = (omega arith, (c.requires.ready, (c.requires.pages, (c.requires.most, (c.requires.home, c.requires.frames)))))
 
 pub returns-in-Ok-clause-goes : goal.returns-in-Ok-clause-goes
 returns-in-Ok-clause-goes g c = c.window_said.ensures.goes

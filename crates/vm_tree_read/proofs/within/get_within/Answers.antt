@@ -1,4 +1,4 @@
-use Rattle.std.proofs.Common.{◌∙◌, ◌<◌, arith, rules, subst, sym}
+use Rattle.std.proofs.Common.{◌∙◌, ◌<◌, arith, subst, sym}
 use Rattle.std.proofs.lemmas.Option.{none-some}
 use Rattle.vm_tree_rule.proofs.from_vm_step.Going.{goes-then}
 use Rattle.vm_tree_rule.specs.from_vm_step.Prelude.{NoneExpected, view}
@@ -10,11 +10,6 @@ use Rattle.vm_tree_read.proofs.within.get_within.Goals as goal
 
 pub rounds-init : goal.rounds-init
 rounds-init g c = tried-none _ _ (waits-self _, has-none _ _) c.requires.ready c.requires.frames
-
-pub get_round-requires : goal.get_round-requires
-get_round-requires g c =
-    let i = c.rounds.invariant in
-    (search rules, (i.goes.ready, (c.requires.pages, (i.left.0.out ∙ c.requires.home, i.held))))
 
 pub rounds-preserved-in-Soon : goal.rounds-preserved-in-Soon
 rounds-preserved-in-Soon g c =

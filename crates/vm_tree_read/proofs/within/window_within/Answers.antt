@@ -1,4 +1,4 @@
-use Rattle.std.proofs.Common.{◌∙◌, ◌≡◌, ◌<◌, ap, IfSome, Option, Some, subst, sym, arith}
+use Rattle.std.proofs.Common.{◌∙◌, ◌≡◌, ◌<◌, ap, IfSome, Option, Some, subst, sym}
 use Rattle.std.proofs.lemmas.Option.{none-some}
 use Rattle.vm_map.specs.declared.call.Reply.{Reply}
 use Rattle.vm_map.specs.declared.call.Said.{Said}
@@ -18,9 +18,6 @@ returns-in-Ok-Some-clause-some g c =
     (record { call = ForWindow (g.K.Kind.rank c.args.start.now) c.args.most; reply = reply })
     (view c.args.pass.now) (view c.window_said_within.new.pass)) × (rounds_in r.rounds < c.args.turns))
     (sym (c.reply_of.ensures ∙ ap (λ (s : Said). s.reply) k.1)) (k.2, k.3)
-
-pub window_said_within-requires : goal.window_said_within-requires
-window_said_within-requires g c = (omega arith, (c.requires.ready, (c.requires.pages, (c.requires.most, (c.requires.home, c.requires.frames)))))
 
 pub returns-in-Ok-Some-clause-goes : goal.returns-in-Ok-Some-clause-goes
 returns-in-Ok-Some-clause-goes g c = c.window_said_within.ensures.goes
