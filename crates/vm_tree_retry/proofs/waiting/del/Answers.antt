@@ -1,4 +1,3 @@
-use Rattle.std.proofs.Common.{◌∙◌, rules}
 use Rattle.vm_tree_round.specs.from_vm_step.Prelude.{view}
 use Rattle.vm_tree_round.specs.from_vm_tree_read.Waiting.{AreRounds as rounds}
 use Rattle.vm_tree_round.proofs.from_vm_tree_read.Losing.{loses-then}
@@ -9,18 +8,6 @@ use Rattle.vm_tree_retry.proofs.waiting.del.Goals as goal
 
 pub loop-init : goal.loop-init
 loop-init g c = tried-none _ _ (keeps-self _, rounds.none) c.requires.ready c.requires.frames
-
-pub del_round-requires : goal.del_round-requires
-del_round-requires g c =
-    let i = c.loop.invariant in (
-      search rules,
-      record {
-        ready = i.goes.ready;
-        pages = c.requires.pages;
-        home = i.left.0.out ∙ c.requires.home;
-        frames = i.held;
-      },
-    )
 
 pub loop-preserved-in-Soon : goal.loop-preserved-in-Soon
 loop-preserved-in-Soon g c =

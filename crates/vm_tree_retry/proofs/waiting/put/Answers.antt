@@ -1,4 +1,4 @@
-use Rattle.std.proofs.Common.{◌∙◌, inl, rules}
+use Rattle.std.proofs.Common.{inl}
 use Rattle.vm_tree_round.specs.from_vm_step.Prelude.{view}
 use Rattle.vm_tree_round.specs.from_vm_tree_read.Waiting.{AreRounds as rounds}
 use Rattle.vm_tree_round.proofs.from_vm_tree_read.Losing.{loses-then}
@@ -11,18 +11,6 @@ use Rattle.vm_tree_retry.proofs.waiting.put.Goals as goal
 
 pub loop-init : goal.loop-init
 loop-init g c = tried-none _ _ (keeps-self _, rounds.none) c.requires.ready c.requires.frames
-
-pub put_round-requires : goal.put_round-requires
-put_round-requires g c =
-    let i = c.loop.invariant in (
-      search rules,
-      record {
-        ready = i.goes.ready;
-        pages = c.requires.pages;
-        home = i.left.0.out ∙ c.requires.home;
-        frames = i.held;
-      },
-    )
 
 pub loop-preserved-in-Soon : goal.loop-preserved-in-Soon
 loop-preserved-in-Soon g c =

@@ -1,4 +1,4 @@
-use Rattle.std.proofs.Common.{◌∙◌, rules, subst, sym}
+use Rattle.std.proofs.Common.{subst, sym}
 use Rattle.vm_map.specs.declared.call.Call.TheVariants.{Swap}
 use Rattle.vm_map.specs.declared.call.Reply.TheVariants.{Swapped}
 use Rattle.vm_map.specs.declared.call.Swap.{Swap as Outcome}
@@ -14,18 +14,6 @@ use Rattle.vm_tree_retry.proofs.waiting.swap.Goals as goal
 
 pub loop-init : goal.loop-init
 loop-init g c = tried-none _ _ (waits-self _, rounds.none) c.requires.ready c.requires.frames
-
-pub swap_round-requires : goal.swap_round-requires
-swap_round-requires g c =
-    let i = c.loop.invariant in (
-      search rules,
-      record {
-        ready = i.goes.ready;
-        pages = c.requires.pages;
-        home = i.left.0.out ∙ c.requires.home;
-        frames = i.held;
-      },
-    )
 
 pub loop-preserved-in-Soon : goal.loop-preserved-in-Soon
 loop-preserved-in-Soon g c =

@@ -1,4 +1,4 @@
-use Rattle.std.proofs.Common.{◌<◌, ◌∙◌, arith, rules, subst, sym}
+use Rattle.std.proofs.Common.{◌<◌, arith, subst, sym}
 use Rattle.vm_tree_round.specs.from_vm_step.Prelude.{view}
 use Rattle.vm_tree_round.specs.from_vm_tree_read.Waiting.{HasRounds}
 use Rattle.vm_tree_round.proofs.from_vm_tree_read.Losing.{loses-then}
@@ -10,18 +10,6 @@ use Rattle.vm_tree_retry.proofs.within.del_within.Goals as goal
 
 pub rounds-init : goal.rounds-init
 rounds-init g c = tried-none _ _ (keeps-self _, has-none _ _) c.requires.ready c.requires.frames
-
-pub del_round-requires : goal.del_round-requires
-del_round-requires g c =
-    let i = c.rounds.invariant in (
-      search rules,
-      record {
-        ready = i.goes.ready;
-        pages = c.requires.pages;
-        home = i.left.0.out ∙ c.requires.home;
-        frames = i.held;
-      },
-    )
 
 pub rounds-preserved-in-Soon : goal.rounds-preserved-in-Soon
 rounds-preserved-in-Soon g c =

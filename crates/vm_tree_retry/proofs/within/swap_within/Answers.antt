@@ -1,4 +1,4 @@
-use Rattle.std.proofs.Common.{◌<◌, ◌∙◌, arith, rules, subst, sym}
+use Rattle.std.proofs.Common.{◌<◌, arith, subst, sym}
 use Rattle.vm_map.specs.declared.call.Call.TheVariants.{Swap}
 use Rattle.vm_map.specs.declared.call.Reply.TheVariants.{Swapped}
 use Rattle.vm_map.specs.declared.call.Swap.{Swap as Outcome}
@@ -14,18 +14,6 @@ use Rattle.vm_tree_retry.proofs.within.swap_within.Goals as goal
 
 pub rounds-init : goal.rounds-init
 rounds-init g c = tried-none _ _ (waits-self _, has-none _ _) c.requires.ready c.requires.frames
-
-pub swap_round-requires : goal.swap_round-requires
-swap_round-requires g c =
-    let i = c.rounds.invariant in (
-      search rules,
-      record {
-        ready = i.goes.ready;
-        pages = c.requires.pages;
-        home = i.left.0.out ∙ c.requires.home;
-        frames = i.held;
-      },
-    )
 
 pub rounds-preserved-in-Soon : goal.rounds-preserved-in-Soon
 rounds-preserved-in-Soon g c =
