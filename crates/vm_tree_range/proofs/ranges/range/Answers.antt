@@ -1,4 +1,4 @@
-use Rattle.std.proofs.Common.{◌*◌, ◌≤◌, ◌∙◌, ap, refl, rules, subst, sym}
+use Rattle.std.proofs.Common.{◌∙◌, refl}
 use Rattle.vm_step.proofs.Going.{goes-then}
 use Rattle.vm_step.specs.Prelude.{view}
 use Rattle.vm_tree_read.proofs.Lasting.{waits-self, waits-then}
@@ -10,28 +10,6 @@ use Rattle.vm_tree_range.proofs.ranges.range.Goals as goal
 
 pub loop-init : goal.loop-init
 loop-init g c = record { tried = tried-none _ _ (waits-self _, rounds.none) c.requires.ready c.requires.frames; same = refl }
-
-pub range_round-requires : goal.range_round-requires
-range_round-requires g c =
-    let i = c.loop.invariant.tried in (
-      search rules,
-      (
-        i.goes.ready,
-        (
-          c.requires.pages,
-          (
-            i.left.0.out ∙ c.requires.home,
-            (
-              i.held,
-              (
-                ap (λ s. s.0) c.loop.invariant.same ∙ c.requires.empty,
-                subst (λ s. g.K.Ranges.pairs_most * 16 ≤ s.1) (sym c.loop.invariant.same) c.requires.room,
-              ),
-            ),
-          ),
-        ),
-      ),
-    )
 
 pub loop-preserved-in-Soon : goal.loop-preserved-in-Soon
 loop-preserved-in-Soon g c =

@@ -1,4 +1,4 @@
-use Rattle.std.proofs.Common.{◌∙◌, arith, refl, rules, subst, sym}
+use Rattle.std.proofs.Common.{refl, subst, sym}
 use Rattle.vm_step.proofs.Going.{goes-then}
 use Rattle.vm_map.specs.declared.call.Call.TheVariants.{Range}
 use Rattle.vm_map.specs.declared.call.Reply.TheVariants.{Many}
@@ -7,7 +7,7 @@ use Rattle.vm_tree_read.proofs.from_vm_exmap.Handing.{held-on}
 use Rattle.vm_tree_read.proofs.Lasting.{waits-then}
 use Rattle.vm_tree_read.proofs.Losing.{loses-same, loses-then}
 use Rattle.vm_tree_read.proofs.Rounds.{told-as}
-use Rattle.vm_tree_range.proofs.RangeRounds.{needed-inside, no-pairs, silent-waits}
+use Rattle.vm_tree_range.proofs.RangeRounds.{no-pairs, silent-waits}
 use Rattle.vm_tree_range.specs.Ranges.{IsRangeDone, IsRangeFault as fault, IsRangeRound as round}
 use Rattle.vm_tree_range.proofs.ranges.range_round.Goals as goal
 
@@ -82,24 +82,6 @@ returns-in-Damaged-clause-told g c =
     let t = c.in-Damaged.ensures.tried in (silent-waits _ _ t.0, fault.damaged _ t.0 t.1 refl, no-pairs c.in-Damaged.ensures.none)
 
 -- ---- a page is needed
-
-pub fetch-requires : goal.fetch-requires
-fetch-requires g c =
-    let t = c.in-Need.ensures.tried in
-    let inside = needed-inside _ _ _ _ _ _ t.1 in
-    let pages = c.requires.ready.table.is_shape.pages in (
-      search rules,
-      (
-        c.try_range.ensures.goes.ready,
-        (
-          t.0.0.out ∙ c.requires.home,
-          (
-            held-on _ (view c.args.pass.now) (view c.try_range.new.pass) c.requires.frames t.0.0.start t.0.0.frames.0,
-            omega (arith, inside, pages),
-          ),
-        ),
-      ),
-    )
 
 pub returns-in-Need-clause-lost : goal.returns-in-Need-clause-lost
 returns-in-Need-clause-lost g c =

@@ -1,4 +1,4 @@
-use Rattle.std.proofs.Common.{◌*◌, ◌<◌, ◌≤◌, ◌∙◌, ap, arith, refl, rules, subst, sym}
+use Rattle.std.proofs.Common.{◌<◌, ◌∙◌, arith, refl, subst, sym}
 use Rattle.std.proofs.lemmas.Option.{none-some}
 use Rattle.vm_step.proofs.Going.{goes-then}
 use Rattle.vm_step.specs.Prelude.{view}
@@ -12,28 +12,6 @@ use Rattle.vm_tree_range.proofs.ranges.range_within.Goals as goal
 
 pub rounds-init : goal.rounds-init
 rounds-init g c = record { tried = tried-none _ _ (waits-self _, has-none _ _) c.requires.ready c.requires.frames; same = refl }
-
-pub range_round-requires : goal.range_round-requires
-range_round-requires g c =
-    let i = c.rounds.invariant.tried in (
-      search rules,
-      (
-        i.goes.ready,
-        (
-          c.requires.pages,
-          (
-            i.left.0.out ∙ c.requires.home,
-            (
-              i.held,
-              (
-                ap (λ s. s.0) c.rounds.invariant.same ∙ c.requires.empty,
-                subst (λ s. g.K.Ranges.pairs_most * 16 ≤ s.1) (sym c.rounds.invariant.same) c.requires.room,
-              ),
-            ),
-          ),
-        ),
-      ),
-    )
 
 pub rounds-preserved-in-Soon : goal.rounds-preserved-in-Soon
 rounds-preserved-in-Soon g c =
