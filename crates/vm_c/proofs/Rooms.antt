@@ -3,7 +3,8 @@ use Rattle.std.proofs.Common.{[], ◌&&◌, ◌*◌, ◌∙◌, ◌∷◌, ◌�
 use Rattle.std.proofs.Common.{arith, Err, length, length-append, length-take, List, min, nat_le, nat_lt}
 use Rattle.std.proofs.Common.{None, Ok, Option, Result, slice_index, Some, subst, sym, take, true, ℕ}
 use Rattle.std.proofs.lemmas.List.Sums.{count_by-le-length, length-filter}
-use Rattle.vm_map.specs.{declared.call.Reply.Reply, declared.call.Said.Said, History.between, History.bound_of, Map.Pairs}
+use Rattle.vm_map.specs.{declared.call.Reply.Reply, declared.call.Said.Said, History.between}
+use Rattle.vm_map.specs.{History.bound_of, Map.Pairs}
 use Rattle.vm_map.specs.declared.call.Call.TheVariants.{Range, Window}
 use Rattle.vm_map.specs.declared.call.Reply.TheVariants.{Gone, Got, Many, Swapped, Was, Wide, Win}
 use Rattle.vm_map.specs.declared.window.Bound.{Bound}

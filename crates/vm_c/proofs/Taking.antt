@@ -4,7 +4,8 @@ use Rattle.std.specs.Prelude.{IfSome}
 use Rattle.std.specs.Vec.{vec_capacity}
 use Rattle.vm_step.specs.Prelude.{view}
 use Rattle.vm_face.specs.{Homes.HasTakenIn, Homes.made_at, Homes.hand_at, Passes.IsStore}
-use Rattle.vm_c.specs.{Closed.Closes, Closed.ImageAndCounts, Closed.IsClosedInto, Closed.IsUnclosed, declared.closing.BlockCounts.BlockCounts}
+use Rattle.vm_c.specs.{Closed.Closes, Closed.ImageAndCounts, Closed.IsClosedInto}
+use Rattle.vm_c.specs.{Closed.IsUnclosed, declared.closing.BlockCounts.BlockCounts}
 use Rattle.vm_c.specs.declared.closing.Unclosed.{Unclosed}
 use Rattle.vm_face.specs.declared.store.NoHand.{NoHand}
 use Rattle.vm_face.specs.declared.store.NoHand.TheVariants as reasons

@@ -18,8 +18,9 @@ value_telling (Some value) = record { value = value; page = 0; had = 1 }
 abbrev pub page_telling : ℕ → CallTold
 page_telling page = record { value = 0; page = page; had = 0 }
 
--- 0 for a reply, and its value; 1 where the rounds were used up; 2 to 5 for a fault, and its page or how many pages there are; 6 where a swap
--- found another value, which is told, or none; 15 where a range has too many leaves, and the key up to which they reach
+-- 0 for a reply, and its value; 1 where the rounds were used up; 2 to 5 for a fault, and its page or how many pages
+-- there are; 6 where a swap found another value, which is told, or none; 15 where a range has too many leaves, and
+-- the key up to which they reach
 abbrev pub answer_for : Result (Option Reply) TreeFault → ℕ × CallTold
 answer_for (Ok (Some (Got value))) = (0, value_telling value)
 answer_for (Ok (Some (Was value))) = (0, value_telling value)
@@ -36,7 +37,8 @@ answer_for (Err (faults.Full pages)) = (3, page_telling pages)
 answer_for (Err (faults.Worn page)) = (4, page_telling page)
 answer_for (Err (faults.Damaged page)) = (5, page_telling page)
 
--- 7 to 10 for a reason why there is no store; of pages that are no tree, the page at fault and the number of the reason are told
+-- 7 to 10 for a reason why there is no store; of pages that are no tree, the page at fault and the number of the
+-- reason are told
 abbrev pub refusal_for : Opening → ℕ × CallTold
 refusal_for (openings.Length len) = (7, page_telling 0)
 refusal_for openings.Frames = (8, page_telling 0)

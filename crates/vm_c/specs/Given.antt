@@ -29,11 +29,13 @@ pub record IsOneMore (before : OpenStore) (hand : OpenHand) (after : OpenStore) 
   pub pool : (arc_value after.store.pool ≡ arc_value before.store.pool) × (arc_value hand.hand.pool ≡ arc_value before.store.pool)
   pub ever : after.store.ever ≡ before.store.ever + 1
 
--- For want of memory there is no hand: the store, which might have given one, is as it was, or it gave one, and that went back at once
+-- For want of memory there is no hand: the store, which might have given one, is as it was, or it gave one, and that
+-- went back at once
 abbrev pub IsGivenInVain : OpenStore → OpenStore → Type 0
 IsGivenInVain between after = (may_give between ≡ true) × ((after ≡ between) ⊎ ((hand : OpenHand) × IsOneMore between hand after))
 
--- The store took in the hands that were back. Then the number is 0, and there is a hand; or 11, as no hand more may be out; or 10
+-- The store took in the hands that were back. Then the number is 0, and there is a hand; or 11, as no hand more may
+-- be out; or 10
 abbrev pub GivesHand : OpenStore → OpenStore → Option OpenHand → (number : ℕ) → Type 0
 GivesHand before after (Some hand) number = (between : OpenStore) × TookIn before between × (number ≡ 0) × IsOneMore between hand after
 GivesHand before after None number =

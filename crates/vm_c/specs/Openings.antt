@@ -4,7 +4,8 @@ use Rattle.vm_image.specs.File.{pages_of_bytes}
 use Rattle.vm_tree_model.specs.{Fixed.fixed, Tree.IsTree}
 use Rattle.vm_step.specs.Prelude.{view}
 use Rattle.vm_face.specs.{Closed.IsStoreOpened, declared.image.Opening.Opening, Opened.IsNotOpened}
-use Rattle.vm_c.specs.{Answers.page_telling, Answers.refusal_for, declared.answers.CallTold.CallTold, declared.opened.OpenStore.OpenStore}
+use Rattle.vm_c.specs.{Answers.page_telling, Answers.refusal_for}
+use Rattle.vm_c.specs.{declared.answers.CallTold.CallTold, declared.opened.OpenStore.OpenStore}
 
 -- the bytes are those of a tree's pages, the store began with them, and no hand is out or ever was
 pub record IsOpenedOn (bytes : List ℕ) (s : OpenStore) : Type 0 where

@@ -1,5 +1,6 @@
 -- What a window or a range shows.
-use Rattle.std.specs.Prelude.{◌++◌, ◌<◌, ◌==◌, ◌≡◌, ◌≤◌, ◌⊎◌, drop, Err, if◌then◌else◌, IfSome, length, List, map, min, None, Ok}
+use Rattle.std.specs.Prelude.{◌++◌, ◌<◌, ◌==◌, ◌≡◌, ◌≤◌, ◌⊎◌, drop, Err}
+use Rattle.std.specs.Prelude.{if◌then◌else◌, IfSome, length, List, map, min, None, Ok}
 use Rattle.std.specs.Prelude.{Option, Result, Some, ℕ}
 use Rattle.vm_map.specs.{declared.call.Call.Call, declared.call.Reply.Reply, Map.Pairs}
 use Rattle.vm_map.specs.declared.call.Call.TheVariants.{Range, Window}

@@ -8,8 +8,8 @@ use Rattle.vm_face.specs.from_vm_tree_rule.declared_fault_TreeFault.{TreeFault}
 use Rattle.vm_face.specs.Calls.{IsHandCall}
 use Rattle.vm_c.specs.{Answers.answer_for, declared.answers.CallTold.CallTold, declared.opened.OpenHand.OpenHand}
 
--- The hand made this call, and the number and what is told are those of its answer: a reply that is an entry of the history, a fault with its
--- cause, or that the rounds were used up
+-- The hand made this call, and the number and what is told are those of its answer: a reply that is an entry of the
+-- history, a fault with its cause, or that the rounds were used up
 pub record HasAnswered (call : Call) (before after : OpenHand) (number : ℕ) (told : CallTold) : Type 0 where
   pub answer : Result (Option Reply) TreeFault
   pub is : (number, told) ≡ answer_for answer

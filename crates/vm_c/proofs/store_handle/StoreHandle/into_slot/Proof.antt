@@ -30,10 +30,12 @@ use Rattle.vm_c.proofs.store_handle.StoreHandle.into_slot.Code as code
 
 pub into_slot_spec : {M : Type 1} → statement M
 into_slot_spec 𝓤 𝓛 𝓜 𝓡 wired =
-    let H = 𝓛.H in let 𝓣 = tables 𝓤 H 𝓜 𝓡 𝓡.env in let c = clauses 𝓛 𝓜.mem 𝓡.returns in let fn = code.function in let In = plain (λ _. handle.the_row) in let To : RattleType = slot.the_row R in
+    let H = 𝓛.H in let 𝓣 = tables 𝓤 H 𝓜 𝓡 𝓡.env in let c = clauses 𝓛 𝓜.mem 𝓡.returns in let fn = code.function in
+    let In = plain (λ _. handle.the_row) in let To : RattleType = slot.the_row R in
     let hs : Stays ended.signature.params ended.kept = (stay_dropped In yes, tt) in
     proved_at 𝓛 ended hs c 𝓜 𝓡 (Goes-dropped 𝓛 0 In yes (λ κs x f. refl), tt) #self fn (code.unfolded 𝓤 H 𝓜 𝓡 wired) (λ z are.
-    let κs = z.0.0 in let qs = z.0.1 in let d = z.0.3.0 in let a = d.alloc in let Post : Val → SProp 𝓤 = (walk_of 𝓛 ended hs c).post z in
+    let κs = z.0.0 in let qs = z.0.1 in let d = z.0.3.0 in let a = d.alloc in
+    let Post : Val → SProp 𝓤 = (walk_of 𝓛 ended hs c).post z in
     let Run : List Val → SProp 𝓤 = λ ws. WpFn 𝓤 H 𝓣.C 𝓣.Λ fn ws Post in
     let made : To.Denot = record { at = d.at; alloc = a; value = d.value } in
     qed 𝓛 ((raw (alive 𝓛 ended.signature κs qs) ⊛ ‵ (owns (types_at ended.signature.params κs) z.0.3 z.0.4)) ∷ raw ((c κs z.0.3).requires z.1) ∷ []) ∵ split ! $ move ! (1 ∷ []) $ fsplit ! $
